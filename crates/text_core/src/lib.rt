@@ -1,0 +1,19 @@
+//! What every layer speaks of: places in a source, names, texts, codes of refusals, limits, and lists.
+#![tactic(auto)]
+
+mod fault;
+mod items;
+mod line;
+mod refusal;
+mod span;
+mod text;
+
+pub mod name;
+
+pub use fault::NoMemory;
+pub use items::Items;
+pub use line::line_of;
+pub use name::Name;
+pub use refusal::{Cause, Code, Kind, Limit, LimitKind, SourceError};
+pub use span::Span;
+pub use text::Text;
