@@ -1,0 +1,4 @@
+pub mod Ty
+pub mod TyCode
+pub mod TyFalls
+pub mod TyView

@@ -1,0 +1,10 @@
+//! Types, sorts and terms, what terms mean, substitution and the normal form.
+#![tactic(auto)]
+
+mod kinds;
+mod ty;
+
+pub use kinds::{
+    AdtId, ArithOp, BinaryOp, Ctor, FnKind, IntKind, Label, Label2, LogicFn, Region, TraitId,
+};
+pub use ty::{FnBound, Ty, TyNode, copy_types, same_types};
