@@ -2,9 +2,11 @@
 #![tactic(auto)]
 
 mod kinds;
+mod term;
 mod ty;
 
 pub use kinds::{
     AdtId, ArithOp, BinaryOp, Ctor, FnKind, IntKind, Label, Label2, LogicFn, Region, TraitId,
 };
+pub use term::{Sort, Term, TermNode};
 pub use ty::{FnBound, Ty, TyNode, copy_types, same_types};

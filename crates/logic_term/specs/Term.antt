@@ -1,0 +1,71 @@
+-- Terms and formulas, as contracts see them: a small core into which the variants of `TermNode` are viewed.
+use Rattle.std.specs.Prelude.{ℕ, ℤ, Bool}
+use Rattle.text_core.specs.declared.name.Name.{Name}
+use Rattle.logic_term.specs.declared.kinds.ArithOp.{ArithOp}
+use Rattle.logic_term.specs.Ty.{Ty}
+
+-- the operators, each with its number of arguments
+pub data Operator : Type 0 where
+  -- one
+  modeled : Operator
+  negated : Operator
+  denied : Operator
+  -- two
+  arith : ArithOp → Operator
+  less at_most equal : Operator
+  both either implied : Operator
+
+pub data Quantifier : Type 0 where
+  every some : Quantifier
+
+mutual
+  pub data Term : Type 0 where
+    var : Name → Term
+    lit : ℤ → Ty → Term
+    truth : Bool → Term
+    apply : Operator → Terms → Term
+    bind : Quantifier → Name → Ty → Term → Term
+
+  pub data Terms : Type 0 where
+    no_terms : Terms
+    and_term : Term → Terms → Terms
+
+-- the terms by their usual names
+abbrev pub one : Operator → Term → Term
+one op a = apply op (and_term a no_terms)
+
+abbrev pub two : Operator → Term → Term → Term
+two op a b = apply op (and_term a (and_term b no_terms))
+
+abbrev pub model : Term → Term
+model = one modeled
+
+abbrev pub negative : Term → Term
+negative = one negated
+
+abbrev pub not : Term → Term
+not = one denied
+
+abbrev pub calculate : ArithOp → Term → Term → Term
+calculate op = two (arith op)
+
+abbrev pub is_less : Term → Term → Term
+is_less = two less
+
+abbrev pub is_at_most : Term → Term → Term
+is_at_most = two at_most
+
+abbrev pub is_equal : Term → Term → Term
+is_equal = two equal
+
+abbrev pub and : Term → Term → Term
+and = two both
+
+abbrev pub or : Term → Term → Term
+or = two either
+
+abbrev pub implies : Term → Term → Term
+implies = two implied
+
+abbrev pub forall : Name → Ty → Term → Term
+forall = bind every
