@@ -1,3 +1,8 @@
+pub mod Meaning
+pub mod Normal
+pub mod Range
+pub mod Sort
+pub mod Subst
 pub mod Term
 pub mod TermCode
 pub mod TermFalls
@@ -6,3 +11,4 @@ pub mod Ty
 pub mod TyCode
 pub mod TyFalls
 pub mod TyView
+pub mod Value

@@ -1,0 +1,109 @@
+-- What a term means. There is no excluded middle in the logic, so the truth of a formula is that of its negative
+-- translation: it cannot fail to have the value true. Each term has at most one value, and cannot fail to have one.
+use Rattle.std.specs.Prelude.{◌≡◌, ℕ, zero, suc, ℤ, pos, neg_ℤ, ◌+ℤ◌, ◌-ℤ◌, ◌*ℤ◌, int_div, int_rem, int_le, int_lt, Bool, true, false, cond, ◌==◌}
+use Rattle.std.specs.Ordering.{int_eq}
+use Rattle.text_core.specs.declared.name.Name.{Name}
+use Rattle.logic_term.specs.declared.kinds.ArithOp.{ArithOp}
+use Rattle.logic_term.specs.declared.kinds.ArithOp.TheVariants.{Add, Sub, Mul, Div, Rem}
+use Rattle.logic_term.specs.Ty.{Ty, Tys}
+use Rattle.logic_term.specs.Term.{Operator, modeled, negated, denied, arith, less, at_most, equal, both, either, implied, Quantifier, every, some, Term, Terms, var, lit, truth, apply, bind, no_terms, and_term}
+use Rattle.logic_term.specs.Value.{Value, Number, Flag, nothing, integer_of}
+use Rattle.logic_term.specs.Sort.{Declarations, HasSort, instance}
+
+-- P cannot fail
+abbrev pub Sure : Type 0 → Type 0
+Sure P = (P → ⊥) → ⊥
+
+-- which values a term has
+abbrev pub Has : Type 1
+Has = Value → Type 0
+
+-- what terms are read at: the declared types, and the types for the type parameters
+pub record Structure : Type 0 where
+  pub declared : Declarations
+  pub types : Tys
+
+-- the values of variables
+abbrev pub Env : Type 0
+Env = Name → Value
+
+-- the environment with another value at one name
+abbrev pub with_value : Env → Name → Value → Env
+with_value ρ x v y = cond (y.0 == x.0) v (ρ y)
+
+-- ---- the values of operators, by the values of their arguments
+
+abbrev pub Of : (Value → Value) → Has → Has
+Of f A v = (x : Value) × A x × (v ≡ f x)
+
+abbrev pub OfTwo : (Value → Value → Value) → Has → Has → Has
+OfTwo f A B v = (x : Value) × (y : Value) × A x × B y × (v ≡ f x y)
+
+abbrev pub Decided : Bool → Type 0 → Type 0
+Decided true P = P
+Decided false P = P → ⊥
+
+-- v is the truth value of P
+abbrev pub Says : Type 0 → Has
+Says P v = (b : Bool) × (v ≡ Flag b) × Decided b P
+
+-- the formula is true
+abbrev pub Yes : Has → Type 0
+Yes A = Sure (A (Flag true))
+
+-- division truncates toward zero; in terms a / 0 is 0 and a % 0 is a
+abbrev pub calculated : ArithOp → ℤ → ℤ → ℤ
+calculated Add a b = a +ℤ b
+calculated Sub a b = a -ℤ b
+calculated Mul a b = a *ℤ b
+calculated Div a b = cond (int_eq b (pos 0)) (pos 0) (int_div a b)
+calculated Rem a b = cond (int_eq b (pos 0)) a (int_rem a b)
+
+abbrev pub on_integer : (ℤ → ℤ) → Value → Value
+on_integer f x = Number (f (integer_of x))
+
+abbrev pub on_integers : (ℤ → ℤ → ℤ) → Value → Value → Value
+on_integers f x y = Number (f (integer_of x) (integer_of y))
+
+abbrev pub compared : (ℤ → ℤ → Bool) → Value → Value → Value
+compared f x y = Flag (f (integer_of x) (integer_of y))
+
+-- A: the values of the arguments, by number from 0
+abbrev pub Applied : Operator → (ℕ → Has) → Has
+Applied modeled A = Of (on_integer (λ z. z)) (A 0)
+Applied negated A = Of (on_integer neg_ℤ) (A 0)
+Applied denied A = Says (Yes (A 0) → ⊥)
+Applied (arith op) A = OfTwo (on_integers (calculated op)) (A 0) (A 1)
+Applied less A = OfTwo (compared int_lt) (A 0) (A 1)
+Applied at_most A = OfTwo (compared int_le) (A 0) (A 1)
+Applied equal A = Says ((x y : Value) → A 0 x → A 1 y → Sure (x ≡ y))
+Applied both A = Says (Yes (A 0) × Yes (A 1))
+Applied either A = Says ((Yes (A 0) → ⊥) × (Yes (A 1) → ⊥) → ⊥)
+Applied implied A = Says (Yes (A 0) → Yes (A 1))
+
+-- S: the values of the variable's sort; A: the values of the body, by the variable's
+abbrev pub Quantified : Quantifier → (Value → Type 0) → (Value → Has) → Has
+Quantified every S A = Says ((w : Value) → S w → Yes (A w))
+Quantified some S A = Says (((w : Value) → S w → Yes (A w) → ⊥) → ⊥)
+
+abbrev pub Nothing : Has
+Nothing v = v ≡ nothing
+
+-- ---- the values of terms
+
+abbrev mutual
+  pub Means : Structure → Term → Env → Has
+  Means S (var x) ρ v = v ≡ ρ x
+  Means S (lit z t) ρ v = v ≡ Number z
+  Means S (truth b) ρ v = v ≡ Flag b
+  Means S (apply op ts) ρ v = Applied op (λ n. Argument S ts ρ n) v
+  Means S (bind q x t u) ρ v = Quantified q (λ w. HasSort S.declared w (instance S.types t)) (λ w. Means S u (with_value ρ x w)) v
+
+  pub Argument : Structure → Terms → Env → ℕ → Has
+  Argument S no_terms ρ n = Nothing
+  Argument S (and_term t ts) ρ zero = Means S t ρ
+  Argument S (and_term t ts) ρ (suc n) = Argument S ts ρ n
+
+-- the formula is true
+abbrev pub Holds : Structure → Term → Env → Type 0
+Holds S t ρ = Yes (Means S t ρ)
