@@ -1,0 +1,6 @@
+//! The program: `verify SOURCE --proofs FILE` prints which functions of a source are verified.
+#![tactic(auto)]
+
+mod rs_syntax;
+
+fn main() {}
