@@ -1,0 +1,6 @@
+pub mod Alike
+pub mod Coincide
+pub mod Reduction
+pub mod SubstLaw
+pub mod Truth
+pub mod Unique

@@ -1,0 +1,89 @@
+-- What the truth of a formula says, form by form.
+use Rattle.std.proofs.Common.{◌≡◌, ℕ, zero, suc, ℤ, pos, Bool, true, false, ◌↔◌, refl, sym, ◌∙◌, ap, ap₂, true≢false}
+use Rattle.std.specs.Prelude.{int_le, int_lt, neg_ℤ}
+use Rattle.std.specs.Ordering.{int_eq}
+use Rattle.text_core.specs.declared.name.Name.{Name}
+use Rattle.logic_term.specs.declared.kinds.ArithOp.{ArithOp}
+use Rattle.logic_term.specs.Ty.{Ty}
+use Rattle.logic_term.specs.Value.{Value, Number, Flag, flag_of, integer_of}
+use Rattle.logic_term.specs.Term.{Term, Terms, var, lit, truth, apply, bind, model, negative, not, calculate, is_less, is_at_most, is_equal, and, or, implies, forall}
+use Rattle.logic_term.specs.Meaning.{Sure, Has, Of, OfTwo, Decided, Says, Yes, calculated, on_integers, compared, Structure, Env, with_value, Means, Holds}
+use Rattle.logic_term.specs.Sort.{HasSort, instance}
+use Rattle.logic_term.proofs.Alike.{Alike, sure_map}
+use Rattle.logic_term.proofs.Unique.{single}
+
+pub stable_bool : (b c : Bool) → Sure (b ≡ c) → b ≡ c
+stable_bool true true s = refl
+stable_bool true false s = absurd (s true≢false)
+stable_bool false true s = absurd (s (λ e. true≢false (sym e)))
+stable_bool false false s = refl
+
+pub says_true : (P : Type 0) → Says P (Flag true) → P
+says_true P (true, e, p) = p
+says_true P (false, e, p) = absurd (true≢false (ap flag_of e))
+
+-- the truth of what says P is P, where P is stable
+pub says_what : (P : Type 0) → (Sure P → P) → Yes (Says P) ↔ P
+says_what P stable = ((λ h. stable (sure_map _ _ (says_true P) h)), (λ p n. n (true, refl, p)))
+
+-- exactly the value w
+abbrev pub Exactly : Has → Value → Type 0
+Exactly A w = Alike A (λ v. v ≡ w)
+
+pub of_exactly : (f : Value → Value) (A : Has) (x : Value) → Exactly A x → Exactly (Of f A) (f x)
+of_exactly f A x e v = ((λ p. p.2 ∙ ap f ((e p.0).0 p.1)), (λ p. (x, (e x).1 refl, p)))
+
+pub of_two_exactly : (f : Value → Value → Value) (A B : Has) (x y : Value) → Exactly A x → Exactly B y → Exactly (OfTwo f A B) (f x y)
+of_two_exactly f A B x y e g v = ((λ p. p.4 ∙ ap₂ f ((e p.0).0 p.2) ((g p.1).0 p.3)), (λ p. (x, y, (e x).1 refl, (g y).1 refl, p)))
+
+pub yes_flag : (A : Has) (b : Bool) → Exactly A (Flag b) → Yes A ↔ (b ≡ true)
+yes_flag A b e = ((λ y. stable_bool b true (sure_map _ _ (λ p. sym (ap flag_of ((e (Flag true)).0 p))) y)), (λ q n. n ((e (Flag true)).1 (ap Flag (sym q)))))
+
+module _ (S : Structure) where
+  -- the term has exactly this integer
+  abbrev pub Computes : Term → Env → ℤ → Type 0
+  Computes t ρ z = Exactly (Means S t ρ) (Number z)
+
+  pub computes_model : (t : Term) (ρ : Env) (v : Value) → Exactly (Means S t ρ) v → Computes (model t) ρ (integer_of v)
+  computes_model t ρ v e = of_exactly _ _ v e
+
+  pub computes_calculate : (op : ArithOp) (a b : Term) (ρ : Env) (y z : ℤ) → Computes a ρ y → Computes b ρ z → Computes (calculate op a b) ρ (calculated op y z)
+  computes_calculate op a b ρ y z e g = of_two_exactly (on_integers (calculated op)) _ _ (Number y) (Number z) e g
+
+  pub computes_negative : (t : Term) (ρ : Env) (z : ℤ) → Computes t ρ z → Computes (negative t) ρ (neg_ℤ z)
+  computes_negative t ρ z e = of_exactly _ _ (Number z) e
+
+  pub holds_less : (a b : Term) (ρ : Env) (x y : Value) → Exactly (Means S a ρ) x → Exactly (Means S b ρ) y → Holds S (is_less a b) ρ ↔ (int_lt (integer_of x) (integer_of y) ≡ true)
+  holds_less a b ρ x y e g = yes_flag _ _ (of_two_exactly (compared int_lt) _ _ x y e g)
+
+  pub holds_at_most : (a b : Term) (ρ : Env) (x y : Value) → Exactly (Means S a ρ) x → Exactly (Means S b ρ) y → Holds S (is_at_most a b) ρ ↔ (int_le (integer_of x) (integer_of y) ≡ true)
+  holds_at_most a b ρ x y e g = yes_flag _ _ (of_two_exactly (compared int_le) _ _ x y e g)
+
+  pub holds_truth : (ρ : Env) → Holds S (truth true) ρ
+  holds_truth ρ n = n refl
+
+  pub holds_false : (ρ : Env) → Holds S (truth false) ρ → ⊥
+  holds_false ρ h = h (λ e. true≢false (ap flag_of e))
+
+  pub holds_not : (t : Term) (ρ : Env) → Holds S (not t) ρ ↔ (Holds S t ρ → ⊥)
+  holds_not t ρ = says_what _ (λ f y. f (λ g. g y))
+
+  pub holds_and : (a b : Term) (ρ : Env) → Holds S (and a b) ρ ↔ (Holds S a ρ × Holds S b ρ)
+  holds_and a b ρ = says_what _ (λ f. ((λ n. f (λ p. p.0 n)), (λ n. f (λ p. p.1 n))))
+
+  pub holds_or : (a b : Term) (ρ : Env) → Holds S (or a b) ρ ↔ ((Holds S a ρ → ⊥) × (Holds S b ρ → ⊥) → ⊥)
+  holds_or a b ρ = says_what _ (λ f p. f (λ g. g p))
+
+  pub holds_implies : (a b : Term) (ρ : Env) → Holds S (implies a b) ρ ↔ (Holds S a ρ → Holds S b ρ)
+  holds_implies a b ρ = says_what _ (λ f p n. f (λ g. g p n))
+
+  pub holds_forall : (x : Name) (s : Ty) (t : Term) (ρ : Env) → Holds S (forall x s t) ρ ↔ ((w : Value) → HasSort S.declared w (instance S.types s) → Holds S t (with_value ρ x w))
+  holds_forall x s t ρ = says_what _ (λ f w h n. f (λ g. g w h n))
+
+  pub holds_equal : (a b : Term) (ρ : Env) → Holds S (is_equal a b) ρ ↔ ((x y : Value) → Means S a ρ x → Means S b ρ y → Sure (x ≡ y))
+  holds_equal a b ρ = says_what _ (λ f x y p q n. f (λ g. g x y p q n))
+
+  pub holds_equal_exactly : (a b : Term) (ρ : Env) (x y : Value) → Exactly (Means S a ρ) x → Exactly (Means S b ρ) y → Holds S (is_equal a b) ρ ↔ Sure (x ≡ y)
+  holds_equal_exactly a b ρ x y e g =
+      ((λ h. (holds_equal a b ρ).0 h x y ((e x).1 refl) ((g y).1 refl)),
+       (λ s. (holds_equal a b ρ).1 (λ u w p q. sure_map _ _ (λ r. (e u).0 p ∙ r ∙ sym ((g w).0 q)) s)))

@@ -1,0 +1,96 @@
+-- Each term has at most one value, and cannot fail to have one.
+use Rattle.std.proofs.Common.{◌≡◌, ℕ, zero, suc, Bool, true, false, ◌↔◌, refl, sym, ◌∙◌, ap, ap₂, true≢false}
+use Rattle.logic_term.specs.Value.{Value, Number, Flag, flag_of}
+use Rattle.logic_term.specs.Term.{Operator, modeled, negated, denied, arith, less, at_most, equal, both, either, implied, Quantifier, every, some, Term, Terms, var, lit, truth, apply, bind, no_terms, and_term}
+use Rattle.logic_term.specs.Meaning.{Sure, Has, Of, OfTwo, Decided, Says, Yes, Applied, Quantified, Structure, Env, with_value, Means, Argument}
+use Rattle.logic_term.specs.Sort.{HasSort, instance}
+use Rattle.logic_term.proofs.Alike.{sure_map}
+
+abbrev pub Single : Has → Type 0
+Single A = (x y : Value) → A x → A y → x ≡ y
+
+abbrev pub SomeValue : Has → Type 0
+SomeValue A = Sure ((v : Value) × A v)
+
+of_single : (f : Value → Value) (A : Has) → Single A → Single (Of f A)
+of_single f A s x y p q = p.2 ∙ ap f (s p.0 q.0 p.1 q.1) ∙ sym q.2
+
+of_two_single : (f : Value → Value → Value) (A B : Has) → Single A → Single B → Single (OfTwo f A B)
+of_two_single f A B s t x y p q = p.4 ∙ ap₂ f (s p.0 q.0 p.2 q.2) (t p.1 q.1 p.3 q.3) ∙ sym q.4
+
+same_decision : (P : Type 0) (b c : Bool) → Decided b P → Decided c P → b ≡ c
+same_decision P true true d e = refl
+same_decision P true false d e = absurd (e d)
+same_decision P false true d e = absurd (d e)
+same_decision P false false d e = refl
+
+pub says_single : (P : Type 0) → Single (Says P)
+says_single P x y p q = p.1 ∙ ap Flag (same_decision P p.0 q.0 p.2 q.2) ∙ sym q.1
+
+pub applied_single : (op : Operator) (A : ℕ → Has) → ((n : ℕ) → Single (A n)) → Single (Applied op A)
+applied_single modeled A s = of_single _ _ (s 0)
+applied_single negated A s = of_single _ _ (s 0)
+applied_single denied A s = says_single _
+applied_single (arith op) A s = of_two_single _ _ _ (s 0) (s 1)
+applied_single less A s = of_two_single _ _ _ (s 0) (s 1)
+applied_single at_most A s = of_two_single _ _ _ (s 0) (s 1)
+applied_single equal A s = says_single _
+applied_single both A s = says_single _
+applied_single either A s = says_single _
+applied_single implied A s = says_single _
+
+quantified_single : (q : Quantifier) (S : Value → Type 0) (A : Value → Has) → Single (Quantified q S A)
+quantified_single every S A = says_single _
+quantified_single some S A = says_single _
+
+of_some : (f : Value → Value) (A : Has) → SomeValue A → SomeValue (Of f A)
+of_some f A s = sure_map _ _ (λ (p : (v : Value) × A v). (f p.0, (p.0, p.1, refl))) s
+
+of_two_some : (f : Value → Value → Value) (A B : Has) → SomeValue A → SomeValue B → SomeValue (OfTwo f A B)
+of_two_some f A B s t n = s (λ p. t (λ q. n (f p.0 q.0, (p.0, q.0, p.1, q.1, refl))))
+
+says_some : (P : Type 0) → SomeValue (Says P)
+says_some P n = n (Flag false, (false, refl, λ p. n (Flag true, (true, refl, p))))
+
+applied_some : (op : Operator) (A : ℕ → Has) → ((n : ℕ) → SomeValue (A n)) → SomeValue (Applied op A)
+applied_some modeled A s = of_some _ _ (s 0)
+applied_some negated A s = of_some _ _ (s 0)
+applied_some denied A s = says_some _
+applied_some (arith op) A s = of_two_some _ _ _ (s 0) (s 1)
+applied_some less A s = of_two_some _ _ _ (s 0) (s 1)
+applied_some at_most A s = of_two_some _ _ _ (s 0) (s 1)
+applied_some equal A s = says_some _
+applied_some both A s = says_some _
+applied_some either A s = says_some _
+applied_some implied A s = says_some _
+
+quantified_some : (q : Quantifier) (S : Value → Type 0) (A : Value → Has) → SomeValue (Quantified q S A)
+quantified_some every S A = says_some _
+quantified_some some S A = says_some _
+
+module _ (S : Structure) where
+  mutual
+    pub single : (t : Term) (ρ : Env) → Single (Means S t ρ)
+    single (var x) ρ v w p q = p ∙ sym q
+    single (lit z s) ρ v w p q = p ∙ sym q
+    single (truth b) ρ v w p q = p ∙ sym q
+    single (apply op ts) ρ v w p q = applied_single op (λ n. Argument S ts ρ n) (λ n. singles ts ρ n) v w p q
+    single (bind q x s t) ρ v w p r = quantified_single q (λ u. HasSort S.declared u (instance S.types s)) (λ u. Means S t (with_value ρ x u)) v w p r
+
+    pub singles : (ts : Terms) (ρ : Env) (n : ℕ) → Single (Argument S ts ρ n)
+    singles no_terms ρ n v w p q = p ∙ sym q
+    singles (and_term t ts) ρ zero v w p q = single t ρ v w p q
+    singles (and_term t ts) ρ (suc n) v w p q = singles ts ρ n v w p q
+
+  mutual
+    pub has_value : (t : Term) (ρ : Env) → SomeValue (Means S t ρ)
+    has_value (var x) ρ n = n (ρ x, refl)
+    has_value (lit z s) ρ n = n (Number z, refl)
+    has_value (truth b) ρ n = n (Flag b, refl)
+    has_value (apply op ts) ρ n = applied_some op (λ k. Argument S ts ρ k) (λ k. have_values ts ρ k) n
+    has_value (bind q x s t) ρ n = quantified_some q (λ u. HasSort S.declared u (instance S.types s)) (λ u. Means S t (with_value ρ x u)) n
+
+    pub have_values : (ts : Terms) (ρ : Env) (k : ℕ) → SomeValue (Argument S ts ρ k)
+    have_values no_terms ρ k = λ n. n (Flag false, refl)
+    have_values (and_term t ts) ρ zero = has_value t ρ
+    have_values (and_term t ts) ρ (suc k) = have_values ts ρ k
