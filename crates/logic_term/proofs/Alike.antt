@@ -45,12 +45,14 @@ applied_alike less A B e = of_two_alike _ _ _ _ _ (e 0) (e 1)
 applied_alike at_most A B e = of_two_alike _ _ _ _ _ (e 0) (e 1)
 applied_alike equal A B e = says_alike _ _ ((λ s x y p q. s x y ((e 0 x).1 p) ((e 1 y).1 q)), (λ s x y p q. s x y ((e 0 x).0 p) ((e 1 y).0 q)))
 applied_alike both A B e = says_alike _ _ ((λ p. ((yes_alike _ _ (e 0)).0 p.0, (yes_alike _ _ (e 1)).0 p.1)), (λ p. ((yes_alike _ _ (e 0)).1 p.0, (yes_alike _ _ (e 1)).1 p.1)))
-applied_alike either A B e = says_alike _ _
-    ((λ d p. d ((λ y. p.0 ((yes_alike _ _ (e 0)).0 y)), (λ y. p.1 ((yes_alike _ _ (e 1)).0 y)))),
-     (λ d p. d ((λ y. p.0 ((yes_alike _ _ (e 0)).1 y)), (λ y. p.1 ((yes_alike _ _ (e 1)).1 y)))))
-applied_alike implied A B e = says_alike _ _
-    ((λ f y. (yes_alike _ _ (e 1)).0 (f ((yes_alike _ _ (e 0)).1 y))),
-     (λ f y. (yes_alike _ _ (e 1)).1 (f ((yes_alike _ _ (e 0)).0 y))))
+applied_alike either A B e = says_alike _ _ (
+  (λ d p. d ((λ y. p.0 ((yes_alike _ _ (e 0)).0 y)), (λ y. p.1 ((yes_alike _ _ (e 1)).0 y)))),
+  (λ d p. d ((λ y. p.0 ((yes_alike _ _ (e 0)).1 y)), (λ y. p.1 ((yes_alike _ _ (e 1)).1 y)))),
+)
+applied_alike implied A B e = says_alike _ _ (
+  (λ f y. (yes_alike _ _ (e 1)).0 (f ((yes_alike _ _ (e 0)).1 y))),
+  (λ f y. (yes_alike _ _ (e 1)).1 (f ((yes_alike _ _ (e 0)).0 y))),
+)
 
 pub quantified_alike : (q : Quantifier) (S : Value → Type 0) (A B : Value → Has) → ((w : Value) → Alike (A w) (B w)) → Alike (Quantified q S A) (Quantified q S B)
 quantified_alike every S A B e = says_alike _ _

@@ -84,6 +84,7 @@ module _ (S : Structure) where
   holds_equal a b ρ = says_what _ (λ f x y p q n. f (λ g. g x y p q n))
 
   pub holds_equal_exactly : (a b : Term) (ρ : Env) (x y : Value) → Exactly (Means S a ρ) x → Exactly (Means S b ρ) y → Holds S (is_equal a b) ρ ↔ Sure (x ≡ y)
-  holds_equal_exactly a b ρ x y e g =
-      ((λ h. (holds_equal a b ρ).0 h x y ((e x).1 refl) ((g y).1 refl)),
-       (λ s. (holds_equal a b ρ).1 (λ u w p q. sure_map _ _ (λ r. (e u).0 p ∙ r ∙ sym ((g w).0 q)) s)))
+  holds_equal_exactly a b ρ x y e g = (
+    (λ h. (holds_equal a b ρ).0 h x y ((e x).1 refl) ((g y).1 refl)),
+    (λ s. (holds_equal a b ρ).1 (λ u w p q. sure_map _ _ (λ r. (e u).0 p ∙ r ∙ sym ((g w).0 q)) s)),
+  )

@@ -77,7 +77,10 @@ impl Term {
             TermNode::Not(t) => TermNode::Not(t.copy_boxed(alloc)?),
             TermNode::And(a, b) => TermNode::And(a.copy_boxed(alloc)?, b.copy_boxed(alloc)?),
             TermNode::Or(a, b) => TermNode::Or(a.copy_boxed(alloc)?, b.copy_boxed(alloc)?),
-            TermNode::Implies(a, b) => TermNode::Implies(a.copy_boxed(alloc)?, b.copy_boxed(alloc)?),
+            TermNode::Implies(a, b) => TermNode::Implies(
+                a.copy_boxed(alloc)?,
+                b.copy_boxed(alloc)?,
+            ),
             TermNode::Forall(name, sort, t) => {
                 TermNode::Forall(*name, sort.copy(alloc)?, t.copy_boxed(alloc)?)
             }

@@ -99,7 +99,14 @@ impl Ty {
                 let params = copy_types(alloc, &bound.params)?;
                 let result = bound.result.copy(alloc)?;
                 let kind = bound.kind;
-                let bound = Box::new(alloc, FnBound { kind, params, result })?;
+                let bound = Box::new(
+                    alloc,
+                    FnBound {
+                        kind,
+                        params,
+                        result,
+                    },
+                )?;
                 TyNode::Closure(*number, types, captures, bound)
             }
             TyNode::View(t) => TyNode::View(Box::new(alloc, t.copy(alloc)?)?),

@@ -1,0 +1,201 @@
+ghost use Rattle.std.specs.Prelude.{◌≡◌, ◌∷◌, ◌++◌, [], ◌↔◌, IfOk, IsTrue, map, max};
+ghost use Rattle.logic_term.specs.Subst.{above, look, subst, renaming, replaced, SameUpToNames};
+
+use crate::term::{Term, TermNode};
+use std::alloc::Global;
+use text_core::{Name, NoMemory};
+
+/// A bound name, and the name that it gets.
+#[derive(Clone, Copy, Debug, PartialEq, Eq)]
+pub struct Renaming {
+    pub from: Name,
+    pub to: Name,
+}
+
+/// A term for a name.
+#[derive(Drop)]
+pub struct Replacement {
+    pub name: Name,
+    pub by: Term,
+}
+
+/// The renamings with one more, which hides an earlier one of its name.
+fn with_renaming(
+    alloc: Global,
+    first: Renaming,
+    rest: &[Renaming],
+) -> Result<Vec<Renaming>, NoMemory>
+    ensures { IfOk result (λ v. v.items ≡ first ∷ rest.now) }
+{
+    let mut all = Vec::with_capacity(alloc, 1)?;
+    all.push(first)?;
+    all.extend_from_slice(rest)?;
+    Ok(all)
+}
+
+/// The term that stands for the name: the first of its entries, or else the name itself.
+fn entry_for(alloc: Global, name: Name, sub: &[Replacement]) -> Result<Term, NoMemory>
+    ensures { IfOk result (λ t. t ≡ look sub.now name) }
+{
+    for i in 0..sub.len() {
+        if name.0 == sub[i].name.0 {
+            return sub[i].by.copy(alloc);
+        }
+    }
+    Ok(Term {
+        node: TermNode::Var(name),
+    })
+}
+
+/// The same, the renamings standing before the entries.
+fn looked_up(
+    alloc: Global,
+    name: Name,
+    renamings: &[Renaming],
+    sub: &[Replacement],
+) -> Result<Term, NoMemory>
+    ensures { IfOk result (λ t. t ≡ look (map renaming renamings.now ++ sub.now) name) }
+{
+    for i in 0..renamings.len() {
+        if name.0 == renamings[i].from.0 {
+            return Ok(Term {
+                node: TermNode::Var(renamings[i].to),
+            });
+        }
+    }
+    entry_for(alloc, name, sub)
+}
+
+impl Term {
+    /// One past the largest name in the term, bound names included.
+    #[cycle(above)]
+    pub fn above(&self) -> Result<u64, NoMemory>
+        ensures { IfOk result (λ n. n ≡ above self.now) }
+    {
+        match &self.node {
+            TermNode::Var(name) => name.0.checked_add(1).ok_or(NoMemory),
+            TermNode::Lit(_, _) => Ok(0),
+            TermNode::Truth(_) => Ok(0),
+            TermNode::Model(t) => t.above(),
+            TermNode::Arith(_, a, b) => above_both(a, b),
+            TermNode::Neg(t) => t.above(),
+            TermNode::Less(a, b) => above_both(a, b),
+            TermNode::AtMost(a, b) => above_both(a, b),
+            TermNode::Equal(a, b) => above_both(a, b),
+            TermNode::Not(t) => t.above(),
+            TermNode::And(a, b) => above_both(a, b),
+            TermNode::Or(a, b) => above_both(a, b),
+            TermNode::Implies(a, b) => above_both(a, b),
+            TermNode::Forall(name, _, t) => {
+                let outer = name.0.checked_add(1).ok_or(NoMemory)?;
+                let inner = t.above()?;
+                Ok(outer.max(inner))
+            }
+        }
+    }
+
+    /// The term with entries' terms for its free names, its bound names being numbered from `next` on. The renamings
+    /// stand before the entries. Want of memory is answered too where a number would pass 64 bits.
+    #[cycle(subst)]
+    pub fn subst(
+        &self,
+        alloc: Global,
+        next: u64,
+        renamings: &[Renaming],
+        sub: &[Replacement],
+    ) -> Result<Term, NoMemory>
+        ensures { IfOk result (λ t. t ≡ subst next (map renaming renamings.now ++ sub.now) self.now) }
+    {
+        let node = match &self.node {
+            TermNode::Var(name) => return looked_up(alloc, *name, renamings, sub),
+            TermNode::Lit(number, sort) => TermNode::Lit(*number, sort.copy(alloc)?),
+            TermNode::Truth(holds) => TermNode::Truth(*holds),
+            TermNode::Model(t) => TermNode::Model(t.subst_boxed(alloc, next, renamings, sub)?),
+            TermNode::Arith(op, a, b) => TermNode::Arith(
+                *op,
+                a.subst_boxed(alloc, next, renamings, sub)?,
+                b.subst_boxed(alloc, next, renamings, sub)?,
+            ),
+            TermNode::Neg(t) => TermNode::Neg(t.subst_boxed(alloc, next, renamings, sub)?),
+            TermNode::Less(a, b) => TermNode::Less(
+                a.subst_boxed(alloc, next, renamings, sub)?,
+                b.subst_boxed(alloc, next, renamings, sub)?,
+            ),
+            TermNode::AtMost(a, b) => TermNode::AtMost(
+                a.subst_boxed(alloc, next, renamings, sub)?,
+                b.subst_boxed(alloc, next, renamings, sub)?,
+            ),
+            TermNode::Equal(a, b) => TermNode::Equal(
+                a.subst_boxed(alloc, next, renamings, sub)?,
+                b.subst_boxed(alloc, next, renamings, sub)?,
+            ),
+            TermNode::Not(t) => TermNode::Not(t.subst_boxed(alloc, next, renamings, sub)?),
+            TermNode::And(a, b) => TermNode::And(
+                a.subst_boxed(alloc, next, renamings, sub)?,
+                b.subst_boxed(alloc, next, renamings, sub)?,
+            ),
+            TermNode::Or(a, b) => TermNode::Or(
+                a.subst_boxed(alloc, next, renamings, sub)?,
+                b.subst_boxed(alloc, next, renamings, sub)?,
+            ),
+            TermNode::Implies(a, b) => TermNode::Implies(
+                a.subst_boxed(alloc, next, renamings, sub)?,
+                b.subst_boxed(alloc, next, renamings, sub)?,
+            ),
+            TermNode::Forall(name, sort, t) => {
+                let to = Name(next);
+                let inner = with_renaming(alloc, Renaming { from: *name, to }, renamings)?;
+                let after = next.checked_add(1).ok_or(NoMemory)?;
+                TermNode::Forall(
+                    to,
+                    sort.copy(alloc)?,
+                    t.subst_boxed(alloc, after, inner.as_slice(), sub)?,
+                )
+            }
+        };
+        Ok(Term { node })
+    }
+
+    #[cycle(subst)]
+    fn subst_boxed(
+        &self,
+        alloc: Global,
+        next: u64,
+        renamings: &[Renaming],
+        sub: &[Replacement],
+    ) -> Result<Box<Term>, NoMemory>
+        ensures { IfOk result (λ t. t.value ≡ subst next (map renaming renamings.now ++ sub.now) self.now) }
+    {
+        Ok(Box::new(alloc, self.subst(alloc, next, renamings, sub)?)?)
+    }
+
+    /// The term with another for the name; no name is captured.
+    pub fn replaced(&self, alloc: Global, name: Name, by: &Term) -> Result<Term, NoMemory>
+        ensures { IfOk result (λ t. t ≡ replaced name by.now self.now) }
+    {
+        let next = above_both(self, by)?;
+        let by = by.copy(alloc)?;
+        let mut sub = Vec::with_capacity(alloc, 1)?;
+        sub.push(Replacement { name, by })?;
+        self.subst(alloc, next, &[], sub.as_slice())
+    }
+
+    /// Whether both are the same up to the names that they bind.
+    pub fn same_up_to_names(&self, alloc: Global, other: &Term) -> Result<bool, NoMemory>
+        ensures { IfOk result (λ b. IsTrue b ↔ SameUpToNames self.now other.now) }
+    {
+        let next = above_both(self, other)?;
+        let left = self.subst(alloc, next, &[], &[])?;
+        let right = other.subst(alloc, next, &[], &[])?;
+        Ok(left.same(&right))
+    }
+}
+
+#[cycle(above)]
+fn above_both(a: &Term, b: &Term) -> Result<u64, NoMemory>
+    ensures { IfOk result (λ n. n ≡ max (above a.now) (above b.now)) }
+{
+    let left = a.above()?;
+    let right = b.above()?;
+    Ok(left.max(right))
+}
