@@ -1,6 +1,7 @@
 //! Types, sorts and terms, what terms mean, substitution and the normal form.
 #![tactic(auto)]
 
+mod build;
 mod kinds;
 mod normal;
 mod obligation;
