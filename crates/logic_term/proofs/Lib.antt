@@ -1,5 +1,6 @@
 pub mod Alike
 pub mod Coincide
+pub mod FreeLaw
 pub mod Reduction
 pub mod SubstLaw
 pub mod Truth

@@ -1,3 +1,4 @@
+pub mod Free
 pub mod Meaning
 pub mod Normal
 pub mod Range

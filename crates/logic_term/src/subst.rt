@@ -1,4 +1,5 @@
 ghost use Rattle.std.specs.Prelude.{◌≡◌, ◌∷◌, ◌++◌, [], ◌↔◌, IfOk, IsTrue, map, max};
+ghost use Rattle.logic_term.specs.Free.{free};
 ghost use Rattle.logic_term.specs.Subst.{above, look, subst, renaming, replaced, SameUpToNames};
 
 use crate::term::{Term, TermNode};
@@ -67,6 +68,29 @@ fn looked_up(
 }
 
 impl Term {
+    /// Whether the name is free in the term.
+    #[cycle(free_in)]
+    pub fn free_in(&self, name: Name) -> bool
+        ensures { result ≡ free name self.now }
+    {
+        match &self.node {
+            TermNode::Var(other) => name.0 == other.0,
+            TermNode::Lit(_, _) => false,
+            TermNode::Truth(_) => false,
+            TermNode::Model(t) => t.free_in(name),
+            TermNode::Arith(_, a, b) => a.free_in(name) || b.free_in(name),
+            TermNode::Neg(t) => t.free_in(name),
+            TermNode::Less(a, b) => a.free_in(name) || b.free_in(name),
+            TermNode::AtMost(a, b) => a.free_in(name) || b.free_in(name),
+            TermNode::Equal(a, b) => a.free_in(name) || b.free_in(name),
+            TermNode::Not(t) => t.free_in(name),
+            TermNode::And(a, b) => a.free_in(name) || b.free_in(name),
+            TermNode::Or(a, b) => a.free_in(name) || b.free_in(name),
+            TermNode::Implies(a, b) => a.free_in(name) || b.free_in(name),
+            TermNode::Forall(other, _, t) => name.0 != other.0 && t.free_in(name),
+        }
+    }
+
     /// One past the largest name in the term, bound names included.
     #[cycle(above)]
     pub fn above(&self) -> Result<u64, NoMemory>

@@ -1,0 +1,36 @@
+-- The truth of sequents and of obligations.
+use Rattle.std.specs.Prelude.{List, [], ◌∷◌}
+use Rattle.text_core.specs.declared.name.Name.{Name}
+use Rattle.logic_term.specs.Ty.{Ty, Tys}
+use Rattle.logic_term.specs.Term.{Term}
+use Rattle.logic_term.specs.Sort.{Declarations, HasSort, instance}
+use Rattle.logic_term.specs.Meaning.{Structure, Env, Holds}
+use Rattle.logic_term.specs.declared.kinds.Label2.{Label2}
+use Rattle.logic_term.specs.declared.obligation.Obligation.{Obligation}
+use Rattle.proof_kernel.specs.declared.sequent.Sequent.{Sequent}
+
+-- each variable has a value of its sort
+abbrev pub InSorts : Structure → List (Name × Ty) → Env → Type 0
+InSorts S [] ρ = Unit {0}
+InSorts S (x ∷ xs) ρ = HasSort S.declared (ρ x.0) (instance S.types x.1) × InSorts S xs ρ
+
+-- all hypotheses are true
+abbrev pub AllHold : Structure → List (Label2 × Term) → Env → Type 0
+AllHold S [] ρ = Unit {0}
+AllHold S (h ∷ hs) ρ = Holds S h.1 ρ × AllHold S hs ρ
+
+-- at every environment that gives each variable a value of its sort: where all hypotheses are true, the goal is
+abbrev pub IsTrueAt : Structure → Sequent → Type 0
+IsTrueAt S q = (ρ : Env) → InSorts S q.vars ρ → AllHold S q.hyps ρ → Holds S q.goal ρ
+
+abbrev pub AllTrueAt : Structure → List Sequent → Type 0
+AllTrueAt S [] = Unit {0}
+AllTrueAt S (q ∷ qs) = IsTrueAt S q × AllTrueAt S qs
+
+-- the sequent with which the proof of an obligation begins
+abbrev pub sequent_of : Obligation → Sequent
+sequent_of o = record { vars = []; hyps = []; goal = o.goal }
+
+-- the goal is true at every instance and at every environment
+abbrev pub IsTrueObligation : Declarations → Obligation → Type 0
+IsTrueObligation Δ o = (θ : Tys) (ρ : Env) → Holds (record { declared = Δ; types = θ }) o.goal ρ
