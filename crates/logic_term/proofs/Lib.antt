@@ -2,6 +2,7 @@ pub mod Alike
 pub mod Coincide
 pub mod FreeLaw
 pub mod Reduction
+pub mod SameLaw
 pub mod SortLaw
 pub mod SubstLaw
 pub mod Truth

@@ -2,6 +2,7 @@ pub mod Free
 pub mod Meaning
 pub mod Normal
 pub mod Range
+pub mod Same
 pub mod Sort
 pub mod Subst
 pub mod Term
