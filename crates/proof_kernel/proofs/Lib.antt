@@ -1,0 +1,3 @@
+pub mod LinLemmas
+pub mod LinSound
+pub mod LinSteps

@@ -1,0 +1,2 @@
+pub mod LinArith
+pub mod LinColumns
