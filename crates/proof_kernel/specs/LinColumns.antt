@@ -1,5 +1,5 @@
 -- What the check of a certificate knows when it has looked at some of the columns.
-use Rattle.std.specs.Prelude.{◌≡◌, ℕ, ◌≤◌, ◌<◌, Bool, List, length, ℤ, pos, ◌<ℤ◌, All, Option, Result, MatchOption, MatchResult, MatchBool}
+use Rattle.std.specs.Prelude.{◌≡◌, ℕ, ◌≤◌, ◌<◌, Bool, List, length, ℤ, pos, ◌<ℤ◌, All, Option, Some, None, Result, Ok, Err, ◌&&◌, min, MatchOption, MatchResult, MatchBool}
 use Rattle.proof_kernel.specs.LinArith.{factor_of, products, combination, IsNarrowAt}
 use Rattle.proof_kernel.specs.declared.lin_arith.Row.{Row}
 use Rattle.proof_kernel.specs.declared.lin_arith.Column.{Column}
@@ -42,3 +42,16 @@ IsOutcome Seen rows mult outcome =
     (λ r. (r < length rows)
         × ((column : Column) → Seen column → IsNarrowBelow column rows mult r)
         × ((column : Column) × Seen column × ¬ (IsNarrowAt (products column rows mult) r)))
+
+-- the lesser of the two numbers, where both are there
+abbrev pub lesser_of : Option ℕ → Option ℕ → Option ℕ
+lesser_of (Some a) (Some b) = Some (min a b)
+lesser_of (Some a) None = Some a
+lesser_of None other = other
+
+-- the outcome of the columns of both: the lesser wide row, or whether both are as in a false constant row
+abbrev pub joined_of : Result Bool ℕ → Result Bool ℕ → Result Bool ℕ
+joined_of (Ok one) (Ok other) = Ok (one && other)
+joined_of (Ok one) (Err row) = Err row
+joined_of (Err row) (Ok other) = Err row
+joined_of (Err one) (Err other) = Err (min one other)

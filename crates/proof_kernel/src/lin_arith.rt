@@ -3,7 +3,7 @@
 ghost use Rattle.std.specs.Prelude.{◌≡◌, ◌↔◌, ℕ, ◌+◌, ◌*◌, ◌^◌, ◌<◌, ◌≤◌, length, ℤ, ◌+ℤ◌, ◌*ℤ◌, All, FitsSigned, SomeIff, IsTrue, MatchOption, MatchBool, MatchResult, pos, ◌≤ℤ◌};
 ghost use Rattle.std.specs.Int.{w128};
 ghost use Rattle.proof_kernel.specs.LinArith.{HasRisingAtoms, AllRowsHold, IsCertificate, IsNarrow, IsFirstWide, IsFirstNegative, FailsAt, factor_of, entry_of};
-ghost use Rattle.proof_kernel.specs.LinColumns.{IsNextAtom, IsColumnSum, IsFalseSum, IsOutcome};
+ghost use Rattle.proof_kernel.specs.LinColumns.{lesser_of, joined_of, IsNextAtom, IsColumnSum, IsFalseSum, IsOutcome};
 
 use text_core::Items;
 
@@ -91,7 +91,9 @@ fn columns_outcome(rows: &[Row], mult: &[i128]) -> Result<bool, u32>
 }
 
 /// The outcome of what the two outcomes speak of.
-fn joined(before: Result<bool, u32>, here: Result<bool, u32>) -> Result<bool, u32> {
+fn joined(before: Result<bool, u32>, here: Result<bool, u32>) -> Result<bool, u32>
+    ensures { result ≡ joined_of before here }
+{
     match (before, here) {
         (Ok(one), Ok(other)) => Ok(one && other),
         (Ok(_), Err(row)) | (Err(row), Ok(_)) => Err(row),
@@ -118,10 +120,10 @@ fn column_sum(rows: &[Row], mult: &[i128], column: Column) -> Result<i128, u32>
 {
     let mut sum: i128 = 0;
     for (at, row) in rows.iter().enumerate() {
-        let Some(next) = added_product(sum, row.entry(column), mult[at]) else {
-            return Err(at as u32);
-        };
-        sum = next;
+        match added_product(sum, row.entry(column), mult[at]) {
+            Some(next) => sum = next,
+            None => return Err(at as u32),
+        }
     }
     Ok(sum)
 }
@@ -147,7 +149,9 @@ fn next_atom(rows: &[Row], from: u64) -> Option<u32>
 }
 
 /// The lesser of the two atoms, where both are there.
-fn lesser(one: Option<u32>, other: Option<u32>) -> Option<u32> {
+fn lesser(one: Option<u32>, other: Option<u32>) -> Option<u32>
+    ensures { result ≡ lesser_of one other }
+{
     match (one, other) {
         (Some(a), Some(b)) => Some(a.min(b)),
         (Some(a), None) | (None, Some(a)) => Some(a),
