@@ -1,13 +1,11 @@
 -- Sums of integers, the factors of a row's atoms, and the columns of a combination.
-use Rattle.std.proofs.Common.{◌≡◌, ◌≢◌, ℕ, zero, suc, ◌+◌, ◌<◌, ◌≤◌, List, [], ◌∷◌, length, take, map, get_or, ℤ, pos, ◌+ℤ◌, ◌*ℤ◌, All, AllPairs, eq-eqb, ne_eqb, FitsSigned, lit<, inl, inr, refl, sym, ◌∙◌, ap, subst, arith, eqb, cond, true, false, Bool, add-one}
-use Rattle.std.specs.List.Sorted.{IsStrictlyIncreasing}
+use Rattle.std.proofs.Common.{◌≡◌, ◌≢◌, ℕ, zero, suc, ◌+◌, ◌<◌, ◌≤◌, List, [], ◌∷◌, length, take, map, get_or, ℤ, pos, ◌+ℤ◌, ◌*ℤ◌, All, AllPairs, eq-eqb, ne_eqb, FitsSigned, lit<, inl, inr, refl, sym, ◌∙◌, ap, subst, arith, add-one}
 use Rattle.std.specs.List.{AllWithin}
 use Rattle.std.specs.Int.{w128}
-use Rattle.std.proofs.lemmas.Int.{ints}
-use Rattle.std.proofs.lemmas.List.{get_or-map, get_or_default, length-map, take_all}
+use Rattle.std.proofs.lemmas.List.{get_or-map, get_or_default, length-map}
 use Rattle.std.proofs.lemmas.Bool.{cases_lt}
 use Rattle.std.proofs.lemmas.List.Kept.{AllPairs-from_increasing}
-use Rattle.std.proofs.Math.IntN.{zero-*ℤ, +ℤ_assoc, +ℤ_idl, +ℤ_idr, +ℤ_comm}
+use Rattle.std.proofs.Math.IntN.{zero-*ℤ, +ℤ_assoc, +ℤ_idl, +ℤ_idr}
 use Rattle.proof_kernel.specs.declared.lin_arith.Part.{Part}
 use Rattle.proof_kernel.specs.declared.lin_arith.Row.{Row}
 use Rattle.proof_kernel.specs.declared.lin_arith.Column.{Column}

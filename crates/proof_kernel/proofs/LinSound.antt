@@ -1,25 +1,78 @@
 -- Farkas' lemma, the half that a checker stands on: rows with a certificate have no common solution.
-use Rattle.std.proofs.Common.{◌≡◌, ◌≢◌, ℕ, zero, suc, ◌+◌, ◌<◌, ◌≤◌, max, List, [], ◌∷◌, length, get_or, ℤ, pos, negsuc, ◌+ℤ◌, ◌*ℤ◌, ◌≤ℤ◌, ◌<ℤ◌, All, ◌⊎◌, inl, inr, refl, sym, ◌∙◌, ap, subst, arith}
+use Rattle.std.proofs.Common.{◌≡◌, ℕ, zero, suc, ◌<◌, ◌≤◌, max, List, [], ◌∷◌, ℤ, pos, negsuc, ◌+ℤ◌, ◌*ℤ◌, ◌≤ℤ◌, ◌<ℤ◌, All, inl, inr, refl, sym, ◌∙◌, ap, subst, arith}
 use Rattle.std.proofs.lemmas.Bool.{cases_lt}
 use Rattle.std.proofs.lemmas.Int.{ints}
-use Rattle.std.proofs.Math.IntN.{+ℤ_idl, +ℤ_idr, zero-*ℤ}
+use Rattle.std.proofs.Math.IntN.{ℤ_ind, neg_ℤ, +ℤ_assoc, +ℤ_idl, +ℤ_idr, +ℤ_one, -ℤ_one, -ℤ-+ℤ_cancel, zero-*ℤ, *ℤ-zero, *ℤ_comm, suc_ℤ-*ℤ, pred_ℤ-*ℤ}
 use Rattle.proof_kernel.specs.declared.lin_arith.Part.{Part}
 use Rattle.proof_kernel.specs.declared.lin_arith.Row.{Row}
 use Rattle.proof_kernel.specs.declared.lin_arith.Column.{Column}
 use Rattle.proof_kernel.specs.declared.lin_arith.Column.TheVariants.{Factors, Constants}
-use Rattle.proof_kernel.specs.LinArith.{int_sum, factor_of, sum_at, AllRowsHold, entry_of, products, combination, IsCertificate}
+use Rattle.proof_kernel.specs.LinArith.{factor_of, sum_at, AllRowsHold, entry_of, combination, IsCertificate}
 use Rattle.proof_kernel.proofs.LinLemmas.{factor_of-same, factor_of-other}
 
 -- ---- the ring laws that are used
 
 plus_times : (a b c : ℤ) → (a +ℤ b) *ℤ c ≡ a *ℤ c +ℤ b *ℤ c
-plus_times a b c = omega (arith, ints)
+plus_times a b c = ℤ_ind (λ x. (a +ℤ x) *ℤ c ≡ a *ℤ c +ℤ x *ℤ c) none (λ n. up (pos n)) (λ n. down (neg_ℤ (pos n))) b
+  where
+    none : (a +ℤ pos 0) *ℤ c ≡ a *ℤ c +ℤ pos 0 *ℤ c
+    none = ap (λ t. t *ℤ c) (+ℤ_idr a) ∙ sym (+ℤ_idr (a *ℤ c)) ∙ ap (λ t. a *ℤ c +ℤ t) (sym (zero-*ℤ c))
+
+    up : (x : ℤ) → (a +ℤ x) *ℤ c ≡ a *ℤ c +ℤ x *ℤ c → (a +ℤ (x +ℤ pos 1)) *ℤ c ≡ a *ℤ c +ℤ (x +ℤ pos 1) *ℤ c
+    up x h =
+        ap (λ t. t *ℤ c) (sym (+ℤ_assoc a x (pos 1)) ∙ +ℤ_one (a +ℤ x))
+        ∙ suc_ℤ-*ℤ (a +ℤ x) c
+        ∙ ap (λ t. t +ℤ c) h
+        ∙ +ℤ_assoc (a *ℤ c) (x *ℤ c) c
+        ∙ ap (λ t. a *ℤ c +ℤ t) (sym (suc_ℤ-*ℤ x c) ∙ ap (λ t. t *ℤ c) (sym (+ℤ_one x)))
+
+    down : (x : ℤ) → (a +ℤ x) *ℤ c ≡ a *ℤ c +ℤ x *ℤ c → (a +ℤ (x +ℤ negsuc 0)) *ℤ c ≡ a *ℤ c +ℤ (x +ℤ negsuc 0) *ℤ c
+    down x h =
+        ap (λ t. t *ℤ c) (sym (+ℤ_assoc a x (negsuc 0)) ∙ -ℤ_one (a +ℤ x))
+        ∙ pred_ℤ-*ℤ (a +ℤ x) c
+        ∙ ap (λ t. t +ℤ neg_ℤ c) h
+        ∙ +ℤ_assoc (a *ℤ c) (x *ℤ c) (neg_ℤ c)
+        ∙ ap (λ t. a *ℤ c +ℤ t) (sym (pred_ℤ-*ℤ x c) ∙ ap (λ t. t *ℤ c) (sym (-ℤ_one x)))
+
+times_plus : (c a b : ℤ) → c *ℤ (a +ℤ b) ≡ c *ℤ a +ℤ c *ℤ b
+times_plus c a b =
+    *ℤ_comm c (a +ℤ b) ∙ plus_times a b c ∙ ap (λ t. t +ℤ b *ℤ c) (*ℤ_comm a c) ∙ ap (λ t. c *ℤ a +ℤ t) (*ℤ_comm b c)
+
+cancel : (x y z : ℤ) → x +ℤ z ≡ y +ℤ z → x ≡ y
+cancel x y z e = omega (arith, ints)
+
+-- the two factors beside may change places
+abbrev Swaps : ℤ → ℤ → ℤ → Type 0
+Swaps a c x = (a *ℤ x) *ℤ c ≡ (a *ℤ c) *ℤ x
+
+times_swap : (a b c : ℤ) → Swaps a c b
+times_swap a b c = ℤ_ind (Swaps a c) none (λ n h. both (pos n) (pos 1) h at_one) (λ n. down (neg_ℤ (pos n))) b
+  where
+    none : Swaps a c (pos 0)
+    none = ap (λ t. t *ℤ c) (*ℤ-zero a) ∙ zero-*ℤ c ∙ sym (*ℤ-zero (a *ℤ c))
+
+    by_one : (x : ℤ) → x *ℤ pos 1 ≡ x
+    by_one x = *ℤ_comm x (pos 1) ∙ suc_ℤ-*ℤ (pos 0) x ∙ ap (λ t. t +ℤ x) (zero-*ℤ x) ∙ +ℤ_idl x
+
+    at_one : Swaps a c (pos 1)
+    at_one = ap (λ t. t *ℤ c) (by_one a) ∙ sym (by_one (a *ℤ c))
+
+    split : (x y : ℤ) → (a *ℤ (x +ℤ y)) *ℤ c ≡ (a *ℤ x) *ℤ c +ℤ (a *ℤ y) *ℤ c
+    split x y = ap (λ t. t *ℤ c) (times_plus a x y) ∙ plus_times (a *ℤ x) (a *ℤ y) c
+
+    both : (x y : ℤ) → Swaps a c x → Swaps a c y → Swaps a c (x +ℤ y)
+    both x y h g = split x y ∙ ap (λ t. t +ℤ (a *ℤ y) *ℤ c) h ∙ ap (λ t. (a *ℤ c) *ℤ x +ℤ t) g ∙ sym (times_plus (a *ℤ c) x y)
+
+    less : (x y : ℤ) → Swaps a c (x +ℤ y) → Swaps a c y → Swaps a c x
+    less x y h g =
+        cancel ((a *ℤ x) *ℤ c) ((a *ℤ c) *ℤ x) ((a *ℤ y) *ℤ c)
+        (sym (split x y) ∙ h ∙ times_plus (a *ℤ c) x y ∙ ap (λ t. (a *ℤ c) *ℤ x +ℤ t) (sym g))
+
+    down : (x : ℤ) → Swaps a c x → Swaps a c (x +ℤ negsuc 0)
+    down x h = less (x +ℤ negsuc 0) (pos 1) (subst (Swaps a c) (sym (-ℤ-+ℤ_cancel x (pos 1))) h) at_one
 
 swap_middle : (a b c d : ℤ) → (a +ℤ b) +ℤ (c +ℤ d) ≡ (a +ℤ c) +ℤ (b +ℤ d)
 swap_middle a b c d = omega (arith, ints)
-
-times_swap : (a b c : ℤ) → (a *ℤ b) *ℤ c ≡ (a *ℤ c) *ℤ b
-times_swap a b c = omega (arith, ints)
 
 plus_swap : (a b c : ℤ) → a +ℤ (b +ℤ c) ≡ b +ℤ (a +ℤ c)
 plus_swap a b c = omega (arith, ints)
@@ -70,8 +123,8 @@ dot-not_negative f [] mult h g = omega (arith, ints)
 dot-not_negative f (row ∷ rows) [] h g = omega (arith, ints)
 dot-not_negative f (row ∷ rows) (m ∷ mult) h g =
     sum_not_negative (f row *ℤ m) (dot f rows mult)
-        (product_not_negative (f row) m (h 0 row (omega arith)) (g 0 m (omega arith)))
-        (dot-not_negative f rows mult (λ k d l. h (suc k) d (omega arith)) (λ k d l. g (suc k) d (omega arith)))
+    (product_not_negative (f row) m (h 0 row (omega arith)) (g 0 m (omega arith)))
+    (dot-not_negative f rows mult (λ k d l. h (suc k) d (omega arith)) (λ k d l. g (suc k) d (omega arith)))
 
 -- ---- a sum of parts, atom by atom
 
@@ -108,6 +161,7 @@ sum_below-cons (suc n) value part parts h =
   where
     regroup : (a b c : ℤ) → (a +ℤ b) +ℤ c ≡ a +ℤ (b +ℤ c)
     regroup a b c = omega (arith, ints)
+
     last : (s f g v : ℤ) → s +ℤ (f +ℤ g) *ℤ v ≡ f *ℤ v +ℤ (s +ℤ g *ℤ v)
     last s f g v = ap (λ t. s +ℤ t) (plus_times f g v) ∙ plus_swap s (f *ℤ v) (g *ℤ v)
 
@@ -149,11 +203,11 @@ no_common_solution rows mult cert value hold =
     let n = end_of_rows rows in
     let total = dot (λ row. sum_at value row.parts +ℤ row.constant) rows mult in
     let parts_vanish : dot (λ row. sum_at value row.parts) rows mult ≡ pos 0 =
-        dot-sum_at n value rows mult (omega arith) ∙ dot-sum_below n value rows mult cert.factors_vanish in
+    dot-sum_at n value rows mult (omega arith) ∙ dot-sum_below n value rows mult cert.factors_vanish in
     let splits : total ≡ dot (λ row. sum_at value row.parts) rows mult +ℤ dot (entry_of Constants) rows mult =
-        dot-plus (λ row. sum_at value row.parts) (entry_of Constants) rows mult in
+    dot-plus (λ row. sum_at value row.parts) (entry_of Constants) rows mult in
     let is_constant : total ≡ combination Constants rows mult =
-        splits ∙ ap (λ t. t +ℤ dot (entry_of Constants) rows mult) parts_vanish ∙ +ℤ_idl (dot (entry_of Constants) rows mult) ∙ sym (combination_is Constants rows mult) in
+    splits ∙ ap (λ t. t +ℤ dot (entry_of Constants) rows mult) parts_vanish ∙ +ℤ_idl (dot (entry_of Constants) rows mult) ∙ sym (combination_is Constants rows mult) in
     let not_negative : pos 0 ≤ℤ total = dot-not_negative (λ row. sum_at value row.parts +ℤ row.constant) rows mult hold cert.none_negative in
     clash total (combination Constants rows mult) is_constant not_negative cert.constant_negative
   where

@@ -1,5 +1,5 @@
 -- The steps of the loops over rows and columns, and how outcomes join.
-use Rattle.std.proofs.Common.{◌≡◌, ◌≢◌, ℕ, zero, suc, ◌+◌, ◌^◌, ◌<◌, ◌≤◌, min, Bool, true, false, ◌&&◌, List, [], ◌∷◌, length, take, get_or, ℤ, pos, ◌+ℤ◌, ◌*ℤ◌, FitsSigned, Option, Some, None, Result, Ok, Err, MatchOption, MatchBool, All, ◌⊎◌, inl, inr, refl, sym, ◌∙◌, ap, subst, arith, add-one}
+use Rattle.std.proofs.Common.{◌≡◌, ℕ, ◌+◌, ◌<◌, ◌≤◌, Bool, true, false, List, length, take, get_or, ℤ, pos, ◌+ℤ◌, FitsSigned, Option, Some, None, Result, Ok, Err, MatchOption, ◌⊎◌, inl, inr, refl, sym, ◌∙◌, ap, subst, arith}
 use Rattle.std.specs.Int.{w128}
 use Rattle.std.proofs.lemmas.Bool.{cases_lt}
 use Rattle.std.proofs.lemmas.List.{take_all}
@@ -18,6 +18,7 @@ next_more rows i row from next here within is_row before now = step next here be
   where
     more : (a : ℕ) → IsAbsent (take i rows) a → factor_of a row.parts ≡ pos 0 → IsAbsent (take (i + 1) rows) a
     more a h e = All-more (λ r. factor_of a r.parts ≡ pos 0) rows i row within h (subst (λ (r : Row). factor_of a r.parts ≡ pos 0) is_row e)
+
     step : (next here : Option ℕ) → IsNextAtom (take i rows) from next → MatchOption here ((a : ℕ) → from ≤ a → factor_of a row.parts ≡ pos 0) (λ n. (from ≤ n) × ((a : ℕ) → from ≤ a → a < n → factor_of a row.parts ≡ pos 0)) → IsNextAtom (take (i + 1) rows) from (lesser_of next here)
     step None None h g = λ a l. more a (h a l) (g a l)
     step None (Some n) h g = (g.0, λ a l m. more a (h a l) (g.1 a l m))
@@ -42,11 +43,13 @@ fits_from zs k s p e q narrow =
 
 pub column_more : (column : Column) (rows : List Row) (mult : List ℤ) (k : ℕ) (p s next : ℤ) → get_or (products column rows mult) k (pos 0) ≡ p → s ≡ int_sum (take k (products column rows mult)) → IsNarrowBelow column rows mult k → (FitsSigned w128 p × FitsSigned w128 (s +ℤ p)) × (next ≡ s +ℤ p) → (next ≡ int_sum (take (k + 1) (products column rows mult))) × IsNarrowBelow column rows mult (k + 1)
 column_more column rows mult k p s next is_p is_sum before now =
-    let zs = products column rows mult in
-    (now.1 ∙ sum_step zs k s p is_sum is_p, λ j l. elim (cases_lt j k) [
-      | inl b ↦ before j b
-      | inr b ↦ subst (IsNarrowAt zs) (omega arith) (narrow_from zs k s p is_sum is_p now.0)
-    ])
+    let zs = products column rows mult in (
+      now.1 ∙ sum_step zs k s p is_sum is_p,
+      λ j l. elim (cases_lt j k) [
+        | inl b ↦ before j b
+        | inr b ↦ subst (IsNarrowAt zs) (omega arith) (narrow_from zs k s p is_sum is_p now.0)
+      ],
+    )
 
 pub column_wide : (column : Column) (rows : List Row) (mult : List ℤ) (k : ℕ) (p s : ℤ) → get_or (products column rows mult) k (pos 0) ≡ p → s ≡ int_sum (take k (products column rows mult)) → ¬ (FitsSigned w128 p × FitsSigned w128 (s +ℤ p)) → ¬ (IsNarrowAt (products column rows mult) k)
 column_wide column rows mult k p s is_p is_sum now narrow = now (fits_from (products column rows mult) k s p is_sum is_p narrow)
@@ -95,10 +98,10 @@ module _ (rows : List Row) (mult : List ℤ) where
       elim (cases_lt m n) [
         | inl below ↦ subst (λ (r : ℕ). IsOutcome (λ c. S c ⊎ R c) rows mult (Err r)) (omega arith)
             (let at_m : IsOutcome (λ c. S c ⊎ R c) rows mult (Err m) =
-                (h.0, λ c q. elim q [ inl s ↦ h.1 c s | inr r ↦ (λ k l. g.1 c r k (omega arith)) ], (h.2.0, inl h.2.1, h.2.2)) in at_m)
+            (h.0, λ c q. elim q [ inl s ↦ h.1 c s | inr r ↦ (λ k l. g.1 c r k (omega arith)) ], (h.2.0, inl h.2.1, h.2.2)) in at_m)
         | inr above ↦ subst (λ (r : ℕ). IsOutcome (λ c. S c ⊎ R c) rows mult (Err r)) (omega arith)
             (let at_n : IsOutcome (λ c. S c ⊎ R c) rows mult (Err n) =
-                (g.0, λ c q. elim q [ inl s ↦ (λ k l. h.1 c s k (omega arith)) | inr r ↦ g.1 c r ], (g.2.0, inr g.2.1, g.2.2)) in at_n)
+            (g.0, λ c q. elim q [ inl s ↦ (λ k l. h.1 c s k (omega arith)) | inr r ↦ g.1 c r ], (g.2.0, inr g.2.1, g.2.2)) in at_n)
       ]
 
   pub outcome_first : (o : Result Bool ℕ) → IsOutcome (λ c. c ≡ Constants) rows mult o → IsOutcome (IsSeen 0) rows mult o
@@ -122,9 +125,11 @@ module _ (rows : List Row) (mult : List ℤ) where
             ]
           ]
       less Constants l = inl (inl tt)
+
       seen : (c : Column) → IsSeen from c → IsSeen (atom + 1) c
       seen (Factors a) l = let low : from ≤ atom = next.0 in omega arith
       seen Constants l = tt
+
       more : (c : Column) → IsSeen from c ⊎ (c ≡ Factors atom) → IsSeen (atom + 1) c
       more c q = elim q [ inl s ↦ seen c s | inr e ↦ subst (IsSeen (atom + 1)) (sym e) (omega arith) ]
 

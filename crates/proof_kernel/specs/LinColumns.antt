@@ -36,12 +36,12 @@ abbrev pub IsOutcome : (Column → Type 0) → List Row → List ℤ → Result 
 IsOutcome Seen rows mult outcome =
     MatchResult outcome
     (λ is_false. ((column : Column) → Seen column → IsNarrowBelow column rows mult (length rows))
-        × MatchBool is_false
-            ((column : Column) → Seen column → IsFalseSum column (combination column rows mult))
-            ((column : Column) × Seen column × ¬ (IsFalseSum column (combination column rows mult))))
+    × MatchBool is_false
+    ((column : Column) → Seen column → IsFalseSum column (combination column rows mult))
+    ((column : Column) × Seen column × ¬ (IsFalseSum column (combination column rows mult))))
     (λ r. (r < length rows)
-        × ((column : Column) → Seen column → IsNarrowBelow column rows mult r)
-        × ((column : Column) × Seen column × ¬ (IsNarrowAt (products column rows mult) r)))
+    × ((column : Column) → Seen column → IsNarrowBelow column rows mult r)
+    × ((column : Column) × Seen column × ¬ (IsNarrowAt (products column rows mult) r)))
 
 -- the lesser of the two numbers, where both are there
 abbrev pub lesser_of : Option ℕ → Option ℕ → Option ℕ

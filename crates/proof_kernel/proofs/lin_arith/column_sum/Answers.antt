@@ -1,7 +1,6 @@
-use Rattle.std.proofs.Common.{◌≡◌, ◌<◌, ◌*ℤ◌, length, get_or, pos, refl, sym, ◌∙◌, ap, arith, rules, SFits, to_z, of_z}
+use Rattle.std.proofs.Common.{get_or, pos, ◌∙◌, arith, rules, SFits, to_z, of_z}
 use Rattle.std.specs.Int.{w128}
 use Rattle.std.proofs.lemmas.Int.{to_z-of_z}
-use Rattle.proof_kernel.specs.LinArith.{products}
 use Rattle.proof_kernel.proofs.LinLemmas.{products_read}
 use Rattle.proof_kernel.proofs.LinSteps.{column_more, column_wide, column_all}
 use Rattle.proof_kernel.proofs.lin_arith.column_sum.Goals as goal
@@ -15,7 +14,7 @@ returns-in-None c =
     let fits_entry : SFits w128 c.entry.result = search rules in
     let fits_by : SFits w128 by = search rules in
     let is_product = products_read c.args.column rows mult k c.index-rows-at.result (to_z w128 (of_z w128 c.entry.result)) (to_z w128 (of_z w128 by)) c.requires.same_length c.loop-at-test.true c.index-rows-at.is
-        (to_z-of_z w128 c.entry.result fits_entry ∙ c.entry.ensures) (to_z-of_z w128 by fits_by) in
+    (to_z-of_z w128 c.entry.result fits_entry ∙ c.entry.ensures) (to_z-of_z w128 by fits_by) in
     (c.loop-at-test.true, c.loop-at.invariant.1, column_wide c.args.column rows mult k _ (to_z w128 c.loop-at.sum-bits) is_product c.loop-at.invariant.0 c.in-None.ensures)
 
 pub loop-at-preserved : goal.loop-at-preserved
@@ -28,12 +27,13 @@ loop-at-preserved c =
     let fits_by : SFits w128 by = search rules in
     let fits_next : SFits w128 c.in-Some.next = search rules in
     let is_product = products_read c.args.column rows mult k c.index-rows-at.result (to_z w128 (of_z w128 c.entry.result)) (to_z w128 (of_z w128 by)) c.requires.same_length c.loop-at-test.true c.index-rows-at.is
-        (to_z-of_z w128 c.entry.result fits_entry ∙ c.entry.ensures) (to_z-of_z w128 by fits_by) in
+    (to_z-of_z w128 c.entry.result fits_entry ∙ c.entry.ensures) (to_z-of_z w128 by fits_by) in
     column_more c.args.column rows mult k _ (to_z w128 c.loop-at.sum-bits) _ is_product c.loop-at.invariant.0 c.loop-at.invariant.1
-        (c.in-Some.ensures.0, to_z-of_z w128 c.in-Some.next fits_next ∙ c.in-Some.ensures.1)
+    (c.in-Some.ensures.0, to_z-of_z w128 c.in-Some.next fits_next ∙ c.in-Some.ensures.1)
 
 pub returns : goal.returns
 returns c =
-    let past = c.loop-at-test.false in
-    (λ k l. c.loop-at.invariant.1 k (omega arith),
-        c.loop-at.invariant.0 ∙ column_all c.args.column c.args.rows.now c.args.mult.now c.loop-at.at c.requires.same_length past)
+    let past = c.loop-at-test.false in (
+      λ k l. c.loop-at.invariant.1 k (omega arith),
+      c.loop-at.invariant.0 ∙ column_all c.args.column c.args.rows.now c.args.mult.now c.loop-at.at c.requires.same_length past,
+    )

@@ -1,6 +1,5 @@
-use Rattle.std.proofs.Common.{◌≡◌, ◌<◌, ◌+◌, ℕ, Result, Bool, length, get_or, pos, refl, sym, ◌∙◌, ap, subst, arith}
-use Rattle.proof_kernel.specs.LinColumns.{IsOutcome}
-use Rattle.proof_kernel.proofs.LinSteps.{IsSeen, outcome_first, outcome_more, outcome_all}
+use Rattle.std.proofs.Common.{◌≡◌, arith}
+use Rattle.proof_kernel.proofs.LinSteps.{outcome_first, outcome_more, outcome_all}
 use Rattle.proof_kernel.proofs.lin_arith.columns_outcome.Goals as goal
 
 pub loop-atom-init : goal.loop-atom-init

@@ -1,8 +1,8 @@
-use Rattle.std.proofs.Common.{◌≡◌, ◌<◌, length, get_or, pos, refl, sym, ◌∙◌, ap, subst, arith, rules, SFits, to_z, of_z}
+use Rattle.std.proofs.Common.{get_or, pos, sym, ◌∙◌, ap, rules, SFits}
 use Rattle.std.specs.Int.{w128}
 use Rattle.std.proofs.lemmas.Int.{to_z-of_z}
 use Rattle.proof_kernel.specs.LinArith.{factor_of}
-use Rattle.proof_kernel.proofs.LinLemmas.{rising, factor_of-absent, factor_of-found, factor_of-absent_below}
+use Rattle.proof_kernel.proofs.LinLemmas.{rising, factor_of-found, factor_of-absent_below}
 use Rattle.proof_kernel.proofs.lin_arith.Row.factor.Goals as goal
 
 pub returns-then-part-atom : goal.returns-then-part-atom

@@ -1,4 +1,4 @@
-use Rattle.std.proofs.Common.{◌≡◌, ◌<◌, ℕ, ◌≤◌, length, get_or, pos, refl, sym, ◌∙◌, ap, arith}
+use Rattle.std.proofs.Common.{sym, ◌∙◌, ap, arith}
 use Rattle.proof_kernel.specs.LinArith.{factor_of}
 use Rattle.proof_kernel.proofs.LinLemmas.{rising, factor_of-absent_below, factor_of-between}
 use Rattle.proof_kernel.proofs.lin_arith.Row.next_atom.Goals as goal
@@ -8,12 +8,14 @@ returns-then-from c =
     let parts = c.as_slice-part-items.result.now in
     let k = c.loop-part.part-index in
     let i = c.if-from.true in
-    let j = c.from.ensures in
-    (omega arith, λ a l m. ap (factor_of a) (sym c.as_slice-part-items.ensures)
-        ∙ factor_of-between c.args.from parts k _ (rw c.as_slice-part-items.ensures (rising c.args.self.now c.requires)) c.loop-part-test.true c.loop-part.invariant a l m)
+    let j = c.from.ensures in (
+      omega arith,
+      λ a l m. ap (factor_of a) (sym c.as_slice-part-items.ensures)
+          ∙ factor_of-between c.args.from parts k _ (rw c.as_slice-part-items.ensures (rising c.args.self.now c.requires)) c.loop-part-test.true c.loop-part.invariant a l m,
+    )
 
 pub returns : goal.returns
 returns c = λ a l.
     ap (factor_of a) (sym c.as_slice-part-items.ensures)
     ∙ factor_of-absent_below a c.as_slice-part-items.result.now c.loop-part.part-index c.loop-part-test.false
-        (λ k d low below same. let under = c.loop-part.invariant k d low below in omega arith)
+    (λ k d low below same. let under = c.loop-part.invariant k d low below in omega arith)
