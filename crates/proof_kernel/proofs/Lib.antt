@@ -1,1 +1,4 @@
+pub mod LinLemmas
+pub mod LinSound
+pub mod LinSteps
 pub mod Sound

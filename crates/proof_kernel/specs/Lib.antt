@@ -1,2 +1,6 @@
+pub mod Derivation
+pub mod LinArith
+pub mod LinColumns
+pub mod Linear
 pub mod Rules
 pub mod Sequent

@@ -89,12 +89,3 @@ upper_bound k x = is_at_most (model (var x)) (lit (highest k) math_int)
 
 abbrev pub ranged : ℕ → IntKind → Name → Sequent → Sequent
 ranged s k x q = record { vars = q.vars; hyps = q.hyps ++ (label s 1, lower_bound k x) ∷ (label s 2, upper_bound k x) ∷ []; goal = q.goal }
-
--- ---- steps
-
--- step number s makes these premises of the sequent
-pub data Gives (s : ℕ) (q : Sequent) : Step → List Sequent → Type 0 where
-  by_intro : {names : List Name} {r : Sequent} → TakesSome names q → Intros s 1 names q r → Gives s q (Intro names) (r ∷ [])
-  by_hyp : {l : Label2} {h : Term} → hypothesis l q.hyps ≡ Some h → SameUpToNames h q.goal → Gives s q (Hyp l) []
-  by_split : is_conjunction q.goal ≡ true → Gives s q Split (map (with_goal q) (conjuncts q.goal))
-  by_range : {x : Name} {k : IntKind} → sort_of x q.vars ≡ Some (int k) → Gives s q (Range x) (ranged s k x q ∷ [])
