@@ -16,7 +16,7 @@ pub use fault::NoMemory;
 pub use items::Items;
 pub use line::line_of;
 pub use name::Name;
-pub use names::{Names, fresh_has_no_text};
+pub use names::{Names, constants_have_words, fresh_has_no_text};
 pub use refusal::{Cause, Code, Kind, Limit, LimitKind, SourceError};
 pub use span::Span;
 pub use text::Text;

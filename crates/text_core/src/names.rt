@@ -4,7 +4,10 @@ ghost use Rattle.indexmap.specs.IndexSet.{index_set_len};
 ghost use Rattle.text_core.specs.Names.{words, texts, text_of};
 
 use crate::fault::NoMemory;
-use crate::name::{FIRST_FRESH, Name};
+use crate::name::{
+    BOOL, BOX, COPY, FIRST_FRESH, FN, FN_MUT, FN_ONCE, I8, I16, I32, I64, INT, ISIZE, MEM, NEW,
+    NONE, Name, OPTION, REPLACE, SOME, SWAP, U8, U16, U32, U64, USIZE, VIEW, VIEW_FN, VIEW_TY,
+};
 use indexmap::IndexSet;
 use std::alloc::Global;
 use std::marker::Model;
@@ -115,4 +118,11 @@ impl Names {
 /// What holds in every table of names: a fresh name has no text.
 pub fn fresh_has_no_text()
     ensures { (given : List (List ℕ)) (k : ℕ) → text_of given (record { 0 = 2 ^ 63 + k }) ≡ None }
+{}
+
+/// What holds in every table of names: the constants of `name` stand for the words, in order.
+pub fn constants_have_words()
+    ensures { (given : List (List ℕ)) → map (text_of given) (
+        I8 ∷ I16 ∷ I32 ∷ I64 ∷ ISIZE ∷ U8 ∷ U16 ∷ U32 ∷ U64 ∷ USIZE ∷ BOOL ∷ INT ∷ BOX ∷ NEW ∷ OPTION ∷ NONE ∷ SOME
+        ∷ COPY ∷ FN ∷ FN_MUT ∷ FN_ONCE ∷ VIEW ∷ VIEW_TY ∷ VIEW_FN ∷ MEM ∷ SWAP ∷ REPLACE ∷ []) ≡ map Some words }
 {}
