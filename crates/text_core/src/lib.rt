@@ -4,16 +4,19 @@
 mod fault;
 mod items;
 mod line;
+pub mod name;
+mod names;
 mod refusal;
 mod span;
+#[cfg(test)]
+mod tests;
 mod text;
-
-pub mod name;
 
 pub use fault::NoMemory;
 pub use items::Items;
 pub use line::line_of;
 pub use name::Name;
+pub use names::{Names, constants_have_words, fresh_has_no_text};
 pub use refusal::{Cause, Code, Kind, Limit, LimitKind, SourceError};
 pub use span::Span;
 pub use text::Text;
