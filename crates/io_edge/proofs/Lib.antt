@@ -1,0 +1,2 @@
+pub mod IoEdgeFaults
+pub mod IoEdgeWriting
