@@ -1,0 +1,14 @@
+pub mod Body
+pub mod Frame
+pub mod FrameCode
+pub mod Good
+pub mod Memory
+pub mod Reads
+pub mod Step
+pub mod Tree
+pub mod TreeCode
+pub mod TreeFalls
+pub mod TreeView
+pub mod Try
+pub mod Typed
+pub mod WellFormed

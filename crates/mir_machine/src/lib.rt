@@ -1,0 +1,15 @@
+//! The machine that runs bodies of MIR: trees, states, its steps, and what it means that a function is good.
+#![tactic(auto)]
+
+mod frame;
+mod mir_ir;
+mod spot;
+mod tree;
+
+pub use frame::{Frame, State};
+pub use mir_ir::{
+    Block, Bodies, Body, FnId, Lit, Operand, Place, Proj, Rvalue, Statement, StatementKind,
+    Terminator, TerminatorKind,
+};
+pub use spot::Spot;
+pub use tree::{Tree, TreeNode};
