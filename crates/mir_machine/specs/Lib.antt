@@ -1,7 +1,9 @@
 pub mod Body
 pub mod Frame
 pub mod FrameCode
+pub mod FrameStep
 pub mod Good
+pub mod Halt
 pub mod Memory
 pub mod Reads
 pub mod Step

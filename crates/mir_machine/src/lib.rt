@@ -1,7 +1,9 @@
 //! The machine that runs bodies of MIR: trees, states, its steps, and what it means that a function is good.
 #![tactic(auto)]
 
+mod arithmetic;
 mod frame;
+mod halt;
 mod mir_ir;
 mod spot;
 mod tree;

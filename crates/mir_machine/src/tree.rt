@@ -1,6 +1,10 @@
+ghost use Rattle.std.specs.Prelude.{◌≡◌, IfOk};
+
 use crate::spot::Spot;
 use logic_term::Ctor;
+use std::alloc::Global;
 use std::marker::Model;
+use text_core::NoMemory;
 
 /// A value of the machine. Contracts see the tree of specs/Tree.antt.
 #[cycle(tree)]
@@ -43,4 +47,35 @@ impl Model for Tree {
     ghost use Rattle.mir_machine.specs.TreeFalls.{falls};
 
     ghost size_decreases = { λ a h. falls a.node };
+}
+
+impl Tree {
+    #[cycle(copy_tree)]
+    #[tactic(auto, using(crate::specs::TreeFalls::each_smaller))]
+    pub fn copy(&self, alloc: Global) -> Result<Tree, NoMemory>
+        ensures { IfOk result (λ t. t ≡ self.now) }
+    {
+        let node = match &self.node {
+            TreeNode::Int(z) => TreeNode::Int(*z),
+            TreeNode::Bool(b) => TreeNode::Bool(*b),
+            TreeNode::Made(ctor, parts) => TreeNode::Made(*ctor, copy_trees(alloc, parts)?),
+            TreeNode::Boxed(t) => TreeNode::Boxed(Box::new(alloc, t.copy(alloc)?)?),
+            TreeNode::Shared(spot) => TreeNode::Shared(spot.copy(alloc)?),
+            TreeNode::Unique(spot) => TreeNode::Unique(spot.copy(alloc)?),
+            TreeNode::Gone => TreeNode::Gone,
+        };
+        Ok(Tree { node })
+    }
+}
+
+#[cycle(copy_tree)]
+#[tactic(auto, using(crate::specs::TreeFalls::each_smaller))]
+pub fn copy_trees(alloc: Global, trees: &[Tree]) -> Result<Vec<Tree>, NoMemory>
+    ensures { IfOk result (λ v. v.items ≡ trees.now) }
+{
+    let mut copies = Vec::with_capacity(alloc, trees.len())?;
+    for i in 0..trees.len() {
+        copies.push(trees[i].copy(alloc)?)?;
+    }
+    Ok(copies)
 }
