@@ -1,1 +1,2 @@
+pub mod GivenTypes
 pub mod Wholes

@@ -1,6 +1,6 @@
 -- A step of the running frame by itself, where all places are whole locals: the rows of Step.antt then read and write its
 -- locals alone.
-use Rattle.std.specs.Prelude.{◌≡◌, ℕ, ◌+◌, List, [], ◌∷◌, Option, Some, None, slice_get, slice_set}
+use Rattle.std.specs.Prelude.{◌≡◌, ℕ, ◌+◌, ℤ, List, [], ◌∷◌, Option, Some, None, slice_get, slice_set}
 use Rattle.text_core.specs.declared.span.Span.{Span}
 use Rattle.logic_term.specs.declared.kinds.IntKind.{IntKind}
 use Rattle.logic_term.specs.declared.kinds.Label.{Label}
@@ -19,7 +19,7 @@ use Rattle.mir_machine.specs.declared.mir_ir.Terminator.{Terminator}
 use Rattle.mir_machine.specs.declared.mir_ir.Block.{Block}
 use Rattle.mir_machine.specs.declared.mir_ir.Body.{Body}
 use Rattle.mir_machine.specs.Try.{Try, Yields, Panics, Sticks, ◌>>=◌, need}
-use Rattle.mir_machine.specs.Tree.{Tree, Gone}
+use Rattle.mir_machine.specs.Tree.{Tree, Int, Gone}
 use Rattle.mir_machine.specs.Frame.{Frame, State}
 use Rattle.mir_machine.specs.Body.{block_in, place_ty, kind_in}
 use Rattle.mir_machine.specs.Memory.{is_there}
@@ -68,6 +68,17 @@ evaluate ls kind span (Binary op a b) = do
   t ← binary kind span op x y
   Yields (ls₂, t)
 
+-- an operand that has to be an integer
+abbrev pub as_integer : {K : Type 0} → Tree K → Try ℤ
+as_integer (Int z) = Yields z
+as_integer _ = Sticks
+
+abbrev pub take_integer : {K : Type 0} → List (Tree K) → Operand → Try (List (Tree K) × ℤ)
+take_integer ls o = do
+  (ls₁, t) ← take_operand ls o
+  z ← as_integer t
+  Yields (ls₁, z)
+
 abbrev pub put_local : {K : Type 0} → List (Tree K) → ℕ → Tree K → Try (List (Tree K))
 put_local ls x t = need (slice_get ls x) >>= λ u. Yields (slice_set ls x t)
 
@@ -98,3 +109,8 @@ frame_step bodies f = do
 abbrev pub settled : {K : Type 0} → State K → FrameEnd K → Try (Outcome K)
 settled fs (Stays f) = Yields (Running (f ∷ fs))
 settled fs (Answers t) = come_back t fs
+
+-- the frame's end, by the code's answer
+abbrev pub end_of : Frame (Unit {0}) → Option (Tree (Unit {0})) → FrameEnd (Unit {0})
+end_of f None = Stays f
+end_of f (Some t) = Answers t

@@ -1,4 +1,4 @@
-ghost use Rattle.std.specs.Prelude.{◌≡◌, ℤ, FitsSigned, int_div, int_rem};
+ghost use Rattle.std.specs.Prelude.{◌≡◌, ◌≢◌, ℤ, FitsSigned, int_div, int_rem};
 ghost use Rattle.std.specs.Int.{w128};
 ghost use Rattle.std.specs.Option.{SomeIff};
 ghost use Rattle.logic_term.specs.Range.{lowest, highest, fits};
@@ -54,7 +54,8 @@ fn integer(z: i128) -> Tree
 
 /// `exact` is the exact integer, where 128 bits hold it.
 fn fit(kind: Option<IntKind>, span: Span, exact: Option<i128>) -> Result<Tree, Halt>
-    ensures { (z : ℤ) → SomeIff exact (FitsSigned w128 z) z → Comes result (arithmetic kind (λ k. fit k span z)) (λ t. t) }
+    ensures exact { (z : ℤ) → SomeIff exact (FitsSigned w128 z) z → Comes result (arithmetic kind (λ k. fit k span z)) (λ t. t) }
+    ensures memory { result ≢ Err Halt.NoMemory }
 {
     let kind = kind.ok_or(Halt::Stuck)?;
     match exact {
@@ -72,7 +73,8 @@ fn truth(b: bool) -> Tree
 }
 
 fn quotient(kind: Option<IntKind>, span: Span, a: i128, b: i128) -> Result<Tree, Halt>
-    ensures { Comes result (arithmetic kind (λ k. divide k span int_div a b)) (λ t. t) }
+    ensures exact { Comes result (arithmetic kind (λ k. divide k span int_div a b)) (λ t. t) }
+    ensures memory { result ≢ Err Halt.NoMemory }
 {
     let kind = kind.ok_or(Halt::Stuck)?;
     if b == 0 {
@@ -85,7 +87,8 @@ fn quotient(kind: Option<IntKind>, span: Span, a: i128, b: i128) -> Result<Tree,
 }
 
 fn remainder(kind: Option<IntKind>, span: Span, a: i128, b: i128) -> Result<Tree, Halt>
-    ensures { Comes result (arithmetic kind (λ k. divide k span int_rem a b)) (λ t. t) }
+    ensures exact { Comes result (arithmetic kind (λ k. divide k span int_rem a b)) (λ t. t) }
+    ensures memory { result ≢ Err Halt.NoMemory }
 {
     let kind = kind.ok_or(Halt::Stuck)?;
     if b == 0 {
@@ -105,7 +108,8 @@ pub fn operate(
     a: i128,
     b: i128,
 ) -> Result<Tree, Halt>
-    ensures { Comes result (of_integers kind span op a b) (λ t. t) }
+    ensures exact { Comes result (of_integers kind span op a b) (λ t. t) }
+    ensures memory { result ≢ Err Halt.NoMemory }
 {
     match op {
         BinaryOp::Add => fit(kind, span, a.checked_add(b)),

@@ -5,6 +5,7 @@ mod arithmetic;
 mod frame;
 mod halt;
 mod mir_ir;
+mod running;
 mod spot;
 mod tree;
 

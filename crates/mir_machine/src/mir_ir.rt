@@ -1,3 +1,6 @@
+ghost use Rattle.std.specs.Prelude.{◌≡◌};
+ghost use Rattle.std.specs.Option.{option_copied};
+
 use logic_term::{BinaryOp, IntKind, Label, Ty};
 use text_core::{Items, Name, Span, Text};
 
@@ -81,6 +84,22 @@ pub struct Body {
     /// The first block of a label counts.
     pub blocks: Items<(Label, Block)>,
     pub span: Span,
+}
+
+impl Body {
+    ghost use Rattle.mir_machine.specs.Body.{block_in};
+
+    /// The block of a label; `None` exactly where the body has none.
+    pub fn block(&self, label: Label) -> Option<&Block>
+        ensures { option_copied result ≡ block_in self.now.blocks label }
+    {
+        for entry in self.blocks.as_slice() {
+            if entry.0.0 == label.0 {
+                return Some(&entry.1);
+            }
+        }
+        None
+    }
 }
 
 /// A function that can be called.

@@ -6,8 +6,8 @@ use Rattle.mir_machine.specs.Tree.{Int}
 use Rattle.mir_machine.specs.Step.{divide, arithmetic}
 use Rattle.mir_machine.proofs.arithmetic.remainder.Goals as goal
 
-pub returns-in-Some : goal.returns-in-Some
-returns-in-Some c =
+pub returns-in-Some-clause-exact : goal.returns-in-Some-clause-exact
+returns-in-Some-clause-exact c =
     let exact : arithmetic {K = Unit {0}} c.args.kind (λ k. divide k c.args.span int_rem c.args.a c.args.b) ≡ Yields (Int (int_rem c.args.a c.args.b)) = search rules in
     let computed : c.integer.result ≡ Int (int_rem c.args.a c.args.b) = c.integer.ensures ∙ ap Int (rem_is w128 c.args.a c.args.b c.ranges.a c.ranges.b) in
     exact ∙ ap Yields (sym computed)

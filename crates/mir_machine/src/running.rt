@@ -1,0 +1,129 @@
+ghost use Rattle.std.specs.Prelude.{◌≡◌, ◌≢◌, ◌<◌, [], Err, OnOk, length, slice_get, slice_set};
+ghost use Rattle.logic_term.specs.Sort.{instance};
+ghost use Rattle.logic_term.specs.TyView.{tys_of};
+ghost use Rattle.mir_machine.specs.Body.{kind_of, kind_in, place_ty};
+ghost use Rattle.mir_machine.specs.Halt.{Comes};
+ghost use Rattle.mir_machine.specs.Step.{literal};
+ghost use Rattle.mir_machine.specs.Tree.{Gone};
+ghost use Rattle.mir_machine.specs.FrameStep.{IsWhole, ReadsWholes, NamesWholes, AllNameWholes, local_tree, as_integer, take_operand, take_integer, evaluate, put_local, assign_local, frame_step, end_of};
+
+use crate::arithmetic::operate;
+use crate::frame::Frame;
+use crate::halt::Halt;
+use crate::mir_ir::{Bodies, Body, Lit, Operand, Place, Rvalue, StatementKind, TerminatorKind};
+use crate::tree::{Tree, TreeNode};
+use logic_term::{IntKind, Ty, TyNode};
+use std::alloc::Global;
+use std::mem;
+use text_core::Span;
+
+fn kind_of_ground(ty: &Ty) -> Option<IntKind>
+    ensures { result ≡ kind_of ty.now }
+{
+    match &ty.node {
+        TyNode::Int(kind) => Some(*kind),
+        _ => None,
+    }
+}
+
+/// The integer kind of a type, at types for the type parameters.
+fn kind_of(ty: &Ty, types: &[Ty]) -> Option<IntKind>
+    ensures { result ≡ kind_of (instance (tys_of types.now) ty.now) }
+{
+    match &ty.node {
+        TyNode::Int(kind) => Some(*kind),
+        TyNode::Param(number) => match types.get(*number as usize) {
+            Some(given) => kind_of_ground(given),
+            None => None,
+        },
+        _ => None,
+    }
+}
+
+/// The kind of the integers of a whole local.
+fn kind_of_local(body: &Body, types: &[Ty], place: &Place) -> Option<IntKind>
+    requires { place.now.path ≡ [] }
+    ensures { result ≡ kind_in (place_ty body.now (tys_of types.now) place.now) }
+{
+    kind_of(body.locals.get(place.local as usize)?, types)
+}
+
+fn literal(lit: Lit) -> Tree
+    ensures { result ≡ literal lit }
+{
+    let node = match lit {
+        Lit::Int(z, _) => TreeNode::Int(z),
+        Lit::Bool(b) => TreeNode::Bool(b),
+    };
+    Tree { node }
+}
+
+/// The tree of a local that has one.
+fn local_tree(locals: &[Tree], x: u32) -> Result<&Tree, Halt>
+    ensures tree { Comes result (local_tree locals.now x) (λ t. t.now) }
+    ensures within { OnOk result (x < length locals.now) }
+    ensures memory { result ≢ Err Halt.NoMemory }
+{
+    let tree = locals.get(x as usize).ok_or(Halt::Stuck)?;
+    match &tree.node {
+        TreeNode::Gone => Err(Halt::Stuck),
+        _ => Ok(tree),
+    }
+}
+
+fn as_integer(tree: &Tree) -> Result<i128, Halt>
+    ensures integer { Comes result (as_integer tree.now) (λ z. z) }
+    ensures memory { result ≢ Err Halt.NoMemory }
+{
+    match &tree.node {
+        TreeNode::Int(z) => Ok(*z),
+        _ => Err(Halt::Stuck),
+    }
+}
+
+/// Takes a tree, of which a copy leaves the local and a move leaves nothing. For want of memory nothing changes.
+fn take(alloc: Global, locals: &mut Vec<Tree>, operand: &Operand) -> Result<Tree, Halt>
+    requires { IsWhole operand.now }
+    ensures takes { Comes result (take_operand locals.old.items operand.now) (λ t. (locals.new.items, t)) }
+    ensures unchanged { result ≡ Err Halt.NoMemory → locals.new.items ≡ locals.old.items }
+{
+    match operand {
+        Operand::Copy(place) => {
+            let tree = local_tree(locals, place.local)?;
+            Ok(tree.copy(alloc)?)
+        }
+        Operand::Move(place) => move_out(locals, place.local),
+        Operand::Const(lit) => Ok(literal(*lit)),
+    }
+}
+
+/// Moves the tree out of a local.
+fn move_out(locals: &mut Vec<Tree>, x: u32) -> Result<Tree, Halt>
+    ensures takes { Comes result (local_tree locals.old.items x) (λ t. t) }
+    ensures left { OnOk result (locals.new.items ≡ slice_set locals.old.items x Gone) }
+    ensures memory { result ≢ Err Halt.NoMemory }
+{
+    local_tree(locals, x)?;
+    let gone = Tree {
+        node: TreeNode::Gone,
+    };
+    let local = &mut locals[x as usize];
+    Ok(mem::replace(local, gone))
+}
+
+/// Takes an integer.
+fn take_integer(locals: &mut Vec<Tree>, operand: &Operand) -> Result<i128, Halt>
+    requires { IsWhole operand.now }
+    ensures takes { Comes result (take_integer locals.old.items operand.now) (λ z. (locals.new.items, z)) }
+    ensures memory { result ≢ Err Halt.NoMemory }
+{
+    match operand {
+        Operand::Copy(place) => as_integer(local_tree(locals, place.local)?),
+        Operand::Move(place) => {
+            let tree = move_out(locals, place.local)?;
+            as_integer(&tree)
+        }
+        Operand::Const(Lit::Int(z, _)) => Ok(*z),
+        Operand::Const(Lit::Bool(_)) => Err(Halt::Stuck),
+    }
+}
