@@ -1,2 +1,4 @@
+pub mod Coming
 pub mod GivenTypes
+pub mod Integers
 pub mod Wholes

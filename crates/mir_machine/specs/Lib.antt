@@ -6,6 +6,7 @@ pub mod Good
 pub mod Halt
 pub mod Memory
 pub mod Reads
+pub mod Run
 pub mod Step
 pub mod Tree
 pub mod TreeCode

@@ -12,7 +12,7 @@ pub struct Frame {
     /// Where it stands in its code: a block, and the number of a statement in it. One past the last statement it stands
     /// at the block's end.
     pub label: Label,
-    pub statement: u32,
+    pub statement: usize,
     /// A tree for each local.
     pub locals: Vec<Tree>,
 }
@@ -29,22 +29,25 @@ impl Model for Frame {
     ghost view = { λ f. record { function = f.function; types = tys_of f.types.items; label = f.label; statement = f.statement; locals = f.locals.items } };
 }
 
-/// The frames of a machine: the outside, then the calls from the first to the running one. Contracts see their list with
-/// the running frame first.
+/// The frames of a machine. Frame 0 is the outside, which holds trees and runs nothing. Contracts see the list of the
+/// frames, the running one first.
 #[derive(Drop)]
 pub struct State {
-    pub frames: Vec<Frame>,
+    /// The last call that has not returned; the outside, where each has.
+    pub running: Frame,
+    /// The frames behind it, frame 0 first.
+    pub behind: Vec<Frame>,
 }
 
 impl Model for State {
     ghost use Rattle.mir_machine.specs.Frame.{State as Frames};
     ghost use Rattle.mir_machine.specs.FrameCode.{coded_frame};
     ghost use Rattle.std.specs.Coded.{coded_list};
-    ghost use Rattle.std.specs.Prelude.{reverse};
+    ghost use Rattle.std.specs.Prelude.{◌∷◌, reverse};
 
     ghost Value = { Frames (Unit {0}) };
 
     ghost coded = { coded_list coded_frame };
 
-    ghost view = { λ s. reverse s.frames.items };
+    ghost view = { λ s. s.running ∷ reverse s.behind.items };
 }

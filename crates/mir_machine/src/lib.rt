@@ -5,6 +5,7 @@ mod arithmetic;
 mod frame;
 mod halt;
 mod mir_ir;
+mod outcome;
 mod running;
 mod spot;
 mod tree;
@@ -14,5 +15,6 @@ pub use mir_ir::{
     Block, Bodies, Body, FnId, Lit, Operand, Place, Proj, Rvalue, Statement, StatementKind,
     Terminator, TerminatorKind,
 };
+pub use outcome::Outcome;
 pub use spot::Spot;
 pub use tree::{Tree, TreeNode};

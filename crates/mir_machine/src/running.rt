@@ -10,7 +10,7 @@ ghost use Rattle.mir_machine.specs.FrameStep.{IsWhole, ReadsWholes, NamesWholes,
 use crate::arithmetic::operate;
 use crate::frame::Frame;
 use crate::halt::Halt;
-use crate::mir_ir::{Bodies, Body, Lit, Operand, Place, Rvalue, StatementKind, TerminatorKind};
+use crate::mir_ir::{Bodies, Body, Lit, Operand, Place, Rvalue, Statement, StatementKind, TerminatorKind};
 use crate::tree::{Tree, TreeNode};
 use logic_term::{IntKind, Ty, TyNode};
 use std::alloc::Global;
@@ -125,5 +125,78 @@ fn take_integer(locals: &mut Vec<Tree>, operand: &Operand) -> Result<i128, Halt>
         }
         Operand::Const(Lit::Int(z, _)) => Ok(*z),
         Operand::Const(Lit::Bool(_)) => Err(Halt::Stuck),
+    }
+}
+
+/// The value of a right side. For want of memory nothing changes.
+#[tactic(auto, using(crate::proofs::Integers::evaluate_integers))]
+fn evaluate(
+    alloc: Global,
+    locals: &mut Vec<Tree>,
+    kind: Option<IntKind>,
+    span: Span,
+    rvalue: &Rvalue,
+) -> Result<Tree, Halt>
+    requires { ReadsWholes rvalue.now }
+    ensures evaluates { Comes result (evaluate locals.old.items kind span rvalue.now) (λ t. (locals.new.items, t)) }
+    ensures unchanged { result ≡ Err Halt.NoMemory → locals.new.items ≡ locals.old.items }
+{
+    match rvalue {
+        Rvalue::Use(operand) => take(alloc, locals, operand),
+        Rvalue::Binary(op, a, b) => {
+            let x = take_integer(locals, a)?;
+            let y = take_integer(locals, b)?;
+            operate(kind, span, *op, x, y)
+        }
+    }
+}
+
+fn put(locals: &mut Vec<Tree>, x: u32, tree: Tree) -> Result<(), Halt>
+    ensures puts { Comes result (put_local locals.old.items x tree) (λ _. locals.new.items) }
+    ensures memory { result ≢ Err Halt.NoMemory }
+{
+    let at = x as usize;
+    if at >= locals.len() {
+        return Err(Halt::Stuck);
+    }
+    locals[at] = tree;
+    Ok(())
+}
+
+/// Runs an assignment. For want of memory nothing changes.
+fn assign(
+    alloc: Global,
+    body: &Body,
+    types: &[Ty],
+    locals: &mut Vec<Tree>,
+    statement: &Statement,
+) -> Result<(), Halt>
+    requires { NamesWholes statement.now.kind }
+    ensures assigns { Comes result (assign_local body.now (tys_of types.now) locals.old.items statement.now.span statement.now.kind) (λ _. locals.new.items) }
+    ensures unchanged { result ≡ Err Halt.NoMemory → locals.new.items ≡ locals.old.items }
+{
+    let StatementKind::Assign(place, rvalue) = &statement.kind;
+    let kind = kind_of_local(body, types, place);
+    let tree = evaluate(alloc, locals, kind, statement.span, rvalue)?;
+    put(locals, place.local, tree)
+}
+
+/// One step of the running frame; `Some` with its answer where the frame ends. For want of memory nothing changes.
+fn step_frame(alloc: Global, bodies: &Bodies, frame: &mut Frame) -> Result<Option<Tree>, Halt>
+    requires { AllNameWholes bodies.now.bodies }
+    ensures steps { Comes result (frame_step bodies.now.bodies frame.old) (end_of frame.new) }
+    ensures unchanged { result ≡ Err Halt.NoMemory → frame.new ≡ frame.old }
+{
+    let body = bodies.bodies.get(frame.function as usize).ok_or(Halt::Stuck)?;
+    let block = body.block(frame.label).ok_or(Halt::Stuck)?;
+    let statements = block.statements.as_slice();
+    if frame.statement < statements.len() {
+        let statement = &statements[frame.statement];
+        assign(alloc, body, &frame.types, &mut frame.locals, statement)?;
+        frame.statement += 1;
+        return Ok(None);
+    }
+    match block.end.kind {
+        TerminatorKind::Return => Ok(Some(move_out(&mut frame.locals, 0)?)),
     }
 }
