@@ -7,6 +7,8 @@ pub mod Halt
 pub mod Memory
 pub mod Reads
 pub mod Run
+pub mod RunCode
+pub mod RunView
 pub mod Step
 pub mod Tree
 pub mod TreeCode

@@ -55,6 +55,11 @@ StandsAt (Returned s t) r = r ≡ s
 StandsAt (Panicked cause span) r = Unit {0}
 StandsAt Stuck r = ⊥
 
+-- a step's outcome, by the code's answer
+abbrev pub outcome_of_step : State (Unit {0}) → Option (Tree (Unit {0})) → Outcome (Unit {0})
+outcome_of_step s None = Running s
+outcome_of_step s (Some t) = Returned s t
+
 -- no number of steps leads to a state where no row applies
 abbrev pub NeverStuck : List Body → Outcome (Unit {0}) → Type 0
 NeverStuck bodies o = (n : ℕ) → after_from bodies n o ≢ Stuck

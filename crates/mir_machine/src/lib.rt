@@ -4,6 +4,7 @@
 mod arithmetic;
 mod frame;
 mod halt;
+mod machine;
 mod mir_ir;
 mod outcome;
 mod running;
@@ -11,6 +12,7 @@ mod spot;
 mod tree;
 
 pub use frame::{Frame, State};
+pub use machine::{Machine, NoIntrinsics};
 pub use mir_ir::{
     Block, Bodies, Body, FnId, Lit, Operand, Place, Proj, Rvalue, Statement, StatementKind,
     Terminator, TerminatorKind,

@@ -3,12 +3,13 @@ ghost use Rattle.logic_term.specs.Sort.{instance};
 ghost use Rattle.logic_term.specs.TyView.{tys_of};
 ghost use Rattle.mir_machine.specs.Body.{kind_of, kind_in, place_ty};
 ghost use Rattle.mir_machine.specs.Halt.{Comes};
-ghost use Rattle.mir_machine.specs.Step.{literal};
+ghost use Rattle.mir_machine.specs.Run.{outcome_of_step};
+ghost use Rattle.mir_machine.specs.Step.{literal, try_step};
 ghost use Rattle.mir_machine.specs.Tree.{Gone};
 ghost use Rattle.mir_machine.specs.FrameStep.{IsWhole, ReadsWholes, NamesWholes, AllNameWholes, local_tree, as_integer, take_operand, take_integer, evaluate, put_local, assign_local, frame_step, end_of};
 
 use crate::arithmetic::operate;
-use crate::frame::Frame;
+use crate::frame::{Frame, State};
 use crate::halt::Halt;
 use crate::mir_ir::{Bodies, Body, Lit, Operand, Place, Rvalue, Statement, StatementKind, TerminatorKind};
 use crate::tree::{Tree, TreeNode};
@@ -198,5 +199,23 @@ fn step_frame(alloc: Global, bodies: &Bodies, frame: &mut Frame) -> Result<Optio
     }
     match block.end.kind {
         TerminatorKind::Return => Ok(Some(move_out(&mut frame.locals, 0)?)),
+    }
+}
+
+/// One step of a state; `Some` with the answer where the run returns. For want of memory nothing changes.
+pub fn step_state(alloc: Global, bodies: &Bodies, state: &mut State) -> Result<Option<Tree>, Halt>
+    requires { AllNameWholes bodies.now.bodies }
+    ensures steps { Comes result (try_step bodies.now.bodies state.old) (outcome_of_step state.new) }
+    ensures unchanged { result ≡ Err Halt.NoMemory → state.new ≡ state.old }
+{
+    let Some(tree) = step_frame(alloc, bodies, &mut state.running)? else {
+        return Ok(None);
+    };
+    match state.behind.pop() {
+        Some(outside) if state.behind.is_empty() => {
+            state.running = outside;
+            Ok(Some(tree))
+        }
+        _ => Err(Halt::Stuck),
     }
 }
