@@ -1,4 +1,5 @@
 pub mod Coming
 pub mod GivenTypes
 pub mod Integers
+pub mod Stepping
 pub mod Wholes
