@@ -5,6 +5,8 @@ use Rattle.mir_machine.specs.declared.mir_ir.FnId.{FnId}
 use Rattle.mir_machine.specs.declared.mir_ir.FnId.TheVariants as fn_id
 use Rattle.mir_machine.specs.declared.outcome.Outcome.{Outcome as Shown}
 use Rattle.mir_machine.specs.declared.outcome.Outcome.TheVariants as shown
+use Rattle.logic_term.specs.Ty.{Tys}
+use Rattle.mir_machine.specs.Good.{called}
 use Rattle.mir_machine.specs.Tree.{Tree}
 use Rattle.mir_machine.specs.Frame.{State}
 use Rattle.mir_machine.specs.Step.{Outcome, Running, Returned, Panicked, Stuck, next, after_from}
@@ -17,6 +19,10 @@ pub record Run : Type 0 where
 -- the body that is called
 abbrev pub body_number : FnId → ℕ
 body_number (fn_id.Body n) = n
+
+-- the run of a call, which has taken no step
+abbrev pub started : List Body → Body → ℕ → Tys → List (Tree (Unit {0})) → List (Tree (Unit {0})) → Run
+started bodies b f θ args held = record { bodies = bodies; outcome = Running (called b f θ args held) }
 
 -- the run k steps on
 abbrev pub ran : ℕ → Run → Run

@@ -1,13 +1,23 @@
-ghost use Rattle.std.specs.Prelude.{◌≡◌, OnOk, OnErr};
+ghost use Rattle.std.specs.Prelude.{◌≡◌, ℕ, ◌≤◌, List, Some, IfOk, IfErr, OnOk, OnErr, slice_get};
 ghost use Rattle.std.specs.Option.{option_copied};
-ghost use Rattle.mir_machine.specs.Run.{ran, ShownAs, answer, StandsAt};
+ghost use Rattle.logic_term.specs.Sort.{Declarations};
+ghost use Rattle.logic_term.specs.TyView.{tys_of};
+ghost use Rattle.mir_machine.specs.declared.mir_ir.Body.{Body};
+ghost use Rattle.mir_machine.specs.Good.{IsProper};
+ghost use Rattle.mir_machine.specs.Typed.{Met};
+ghost use Rattle.mir_machine.specs.WellFormed.{AreSound};
+ghost use Rattle.mir_machine.specs.Run.{body_number, started, ran, IsRan, ShownAs, answer, StandsAt};
 
+use crate::args::Args;
+use crate::entry::call;
 use crate::frame::State;
 use crate::halt::Halt;
-use crate::mir_ir::Bodies;
+use crate::mir_ir::{Bodies, FnId};
 use crate::outcome::Outcome;
+use crate::run_error::RunError;
 use crate::running::step_state;
 use crate::tree::Tree;
+use logic_term::{Instance, copy_types};
 use std::alloc::Global;
 use std::marker::Model;
 use text_core::{Cause, NoMemory, Span};
@@ -49,7 +59,49 @@ impl<'a, I> Model for Machine<'a, I> {
     ghost invariant = { λ m. IsSafe (record { bodies = m.bodies.now.bodies; outcome = outcome_at m.state m.status }) };
 }
 
-impl<'a, I> Machine<'a, I> {
+impl<'a, I: Drop> Machine<'a, I> {
+    /// A run of the call of `f` at `instance`, which has taken no step.
+    #[tactic(auto, using(crate::proofs::NeverStuck::safe_call))]
+    pub fn new(
+        alloc: Global,
+        bodies: &'a Bodies,
+        f: FnId,
+        instance: &Instance,
+        args: Args,
+        intrinsics: I,
+    ) -> Result<Machine<'a, I>, NoMemory>
+        requires sound { AreSound bodies.now.bodies }
+        requires proper { (Δ : Declarations) × (b : Body) × (met : List Met) × IsProper Δ bodies.now.bodies (body_number f) (tys_of instance.now.types) args.values args.outside b met }
+        ensures { IfOk result (λ m. (b : Body) → slice_get bodies.now.bodies (body_number f) ≡ Some b → m ≡ started bodies.now.bodies b (body_number f) (tys_of instance.now.types) args.values args.outside) }
+    {
+        let FnId::Body(number) = f;
+        let types = copy_types(alloc, instance.types.as_slice())?;
+        let state = call(alloc, bodies, number, types, args)?;
+        Ok(Machine {
+            alloc,
+            bodies,
+            state,
+            status: Status::Running,
+            intrinsics,
+        })
+    }
+
+    /// Takes up to `n` steps, fewer only where the run ends, and answers how many. For want of memory the machine stands
+    /// after some number of steps.
+    pub fn run(&mut self, n: u64) -> Result<u64, RunError>
+        ensures ok { IfOk result (λ k. IsRan self.old n k self.new) }
+        ensures err { OnErr result ((k : ℕ) × (k ≤ n) × (self.new ≡ ran k self.old)) }
+        ensures unlimited { IfErr result (λ e. e ≡ RunError.NoMemory) }
+    {
+        for taken in 0..n {
+            let Outcome::Running = self.outcome() else {
+                return Ok(taken);
+            };
+            self.step()?;
+        }
+        Ok(n)
+    }
+
     /// Does one step; a run that has ended stays as it is. For want of memory nothing changes.
     pub fn step(&mut self) -> Result<(), NoMemory>
         ensures ok { OnOk result (self.new ≡ ran 1 self.old) }

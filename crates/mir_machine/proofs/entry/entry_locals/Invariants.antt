@@ -1,0 +1,6 @@
+use Rattle.std.proofs.Common.{◌≡◌, ◌∷◌, ◌++◌, replicate}
+use Rattle.mir_machine.specs.Tree.{Gone}
+use Rattle.mir_machine.proofs.entry.entry_locals.Given as goal
+
+abbrev pub invariant-loop-arg : goal.invariant-loop-arg
+invariant-loop-arg l = l.locals.items ≡ Gone ∷ l.yielded
