@@ -1,0 +1,6 @@
+pub mod Coming
+pub mod GivenTypes
+pub mod Integers
+pub mod NeverStuck
+pub mod Stepping
+pub mod Wholes

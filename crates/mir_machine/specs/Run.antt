@@ -1,0 +1,75 @@
+-- What contracts see of a machine: the bodies that it runs, and what its run has come to.
+use Rattle.std.specs.Prelude.{◌≡◌, ◌≢◌, ℕ, ◌<◌, ◌≤◌, List, Option, Some, None}
+use Rattle.mir_machine.specs.declared.mir_ir.Body.{Body}
+use Rattle.mir_machine.specs.declared.mir_ir.FnId.{FnId}
+use Rattle.mir_machine.specs.declared.mir_ir.FnId.TheVariants as fn_id
+use Rattle.mir_machine.specs.declared.outcome.Outcome.{Outcome as Shown}
+use Rattle.mir_machine.specs.declared.outcome.Outcome.TheVariants as shown
+use Rattle.logic_term.specs.Ty.{Tys}
+use Rattle.mir_machine.specs.Good.{called}
+use Rattle.mir_machine.specs.Tree.{Tree}
+use Rattle.mir_machine.specs.Frame.{State}
+use Rattle.mir_machine.specs.Step.{Outcome, Running, Returned, Panicked, Stuck, next, after_from}
+use Rattle.mir_machine.specs.FrameStep.{AllNameWholes}
+
+pub record Run : Type 0 where
+  pub bodies : List Body
+  pub outcome : Outcome (Unit {0})
+
+-- the body that is called
+abbrev pub body_number : FnId → ℕ
+body_number (fn_id.Body n) = n
+
+-- the run of a call, which has taken no step
+abbrev pub started : List Body → Body → ℕ → Tys → List (Tree (Unit {0})) → List (Tree (Unit {0})) → Run
+started bodies b f θ args held = record { bodies = bodies; outcome = Running (called b f θ args held) }
+
+-- the run k steps on
+abbrev pub ran : ℕ → Run → Run
+ran k m = record m { outcome = after_from m.bodies k m.outcome }
+
+abbrev pub IsRunning : Outcome (Unit {0}) → Type 0
+IsRunning (Running s) = Unit {0}
+IsRunning (Returned s t) = ⊥
+IsRunning (Panicked cause span) = ⊥
+IsRunning Stuck = ⊥
+
+-- k is n, or the least number of steps after which the run has ended
+pub record IsRan (old : Run) (n : ℕ) (k : ℕ) (new : Run) : Type 0 where
+  pub now : new ≡ ran k old
+  pub at_most : k ≤ n
+  pub least : (j : ℕ) → j < k → IsRunning (after_from old.bodies j old.outcome)
+  pub ended : k < n → IsRunning new.outcome → ⊥
+
+-- what is shown of an outcome; nothing is shown of `Stuck`
+abbrev pub ShownAs : Outcome (Unit {0}) → Shown → Type 0
+ShownAs (Running s) r = r ≡ shown.Running
+ShownAs (Returned s t) r = r ≡ shown.Returned
+ShownAs (Panicked cause span) r = r ≡ shown.Panicked cause span
+ShownAs Stuck r = ⊥
+
+abbrev pub answer : Outcome (Unit {0}) → Option (Tree (Unit {0}))
+answer (Running s) = None
+answer (Returned s t) = Some t
+answer (Panicked cause span) = None
+answer Stuck = None
+
+-- the state of a run that runs or has returned
+abbrev pub StandsAt : Outcome (Unit {0}) → State (Unit {0}) → Type 0
+StandsAt (Running s) r = r ≡ s
+StandsAt (Returned s t) r = r ≡ s
+StandsAt (Panicked cause span) r = Unit {0}
+StandsAt Stuck r = ⊥
+
+-- a step's outcome, by the code's answer
+abbrev pub outcome_of_step : State (Unit {0}) → Option (Tree (Unit {0})) → Outcome (Unit {0})
+outcome_of_step s None = Running s
+outcome_of_step s (Some t) = Returned s t
+
+-- no number of steps leads to a state where no row applies
+abbrev pub NeverStuck : List Body → Outcome (Unit {0}) → Type 0
+NeverStuck bodies o = (n : ℕ) → after_from bodies n o ≢ Stuck
+
+-- what each machine keeps
+abbrev pub IsSafe : Run → Type 0
+IsSafe m = AllNameWholes m.bodies × NeverStuck m.bodies m.outcome

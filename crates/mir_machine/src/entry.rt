@@ -1,0 +1,69 @@
+ghost use Rattle.std.specs.Prelude.{◌≡◌, ◌-◌, ◌<◌, ◌∷◌, ◌++◌, Some, IfOk, length, replicate, slice_get};
+ghost use Rattle.logic_term.specs.TyView.{tys_of};
+ghost use Rattle.mir_machine.specs.declared.mir_ir.Body.{Body};
+ghost use Rattle.mir_machine.specs.Good.{called};
+ghost use Rattle.mir_machine.specs.Tree.{Gone};
+
+use crate::args::Args;
+use crate::frame::{Frame, State};
+use crate::mir_ir::Bodies;
+use crate::tree::{Tree, TreeNode};
+use logic_term::{Label, Ty};
+use std::alloc::Global;
+use text_core::NoMemory;
+
+fn gone() -> Tree
+    ensures { result ≡ Gone }
+{
+    Tree {
+        node: TreeNode::Gone,
+    }
+}
+
+/// The locals of a body with `count` locals as a call of it begins.
+fn entry_locals(alloc: Global, args: Vec<Tree>, count: usize) -> Result<Vec<Tree>, NoMemory>
+    ensures { IfOk result (λ locals. locals.items ≡ Gone ∷ (args.items ++ replicate (count - 1 - length args.items) Gone)) }
+{
+    let others = (count.saturating_sub(1)).saturating_sub(args.len());
+    let mut locals = Vec::with_capacity(alloc, count)?;
+    locals.push(gone())?;
+    for arg in args {
+        locals.push(arg)?;
+    }
+    for _ in 0..others {
+        locals.push(gone())?;
+    }
+    Ok(locals)
+}
+
+/// The state in which a call of a body begins.
+pub fn call(
+    alloc: Global,
+    bodies: &Bodies,
+    function: u32,
+    types: Vec<Ty>,
+    args: Args,
+) -> Result<State, NoMemory>
+    requires { function < length bodies.now.bodies }
+    ensures { IfOk result (λ state. (b : Body) → slice_get bodies.now.bodies function ≡ Some b → state ≡ called b function (tys_of types.items) args.values args.outside) }
+{
+    let body = &bodies.bodies.as_slice()[function as usize];
+    let Args { values, outside } = args;
+    let running = Frame {
+        function,
+        types,
+        label: body.entry,
+        statement: 0,
+        locals: entry_locals(alloc, values.into_vec(), body.locals.len())?,
+    };
+    let outside = Frame {
+        function: 0,
+        types: Vec::new(alloc),
+        label: Label(0),
+        statement: 0,
+        locals: outside.into_vec(),
+    };
+    let mut behind = Vec::with_capacity(alloc, 1)?;
+    behind.push(outside)?;
+    Ok(State { running, behind })
+}

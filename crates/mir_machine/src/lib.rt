@@ -1,0 +1,27 @@
+//! The machine that runs bodies of MIR: trees, states, its steps, and what it means that a function is good.
+#![tactic(auto)]
+
+mod args;
+mod arithmetic;
+mod entry;
+mod frame;
+mod halt;
+mod machine;
+mod mir_ir;
+mod outcome;
+mod run_error;
+mod running;
+mod spot;
+mod tree;
+
+pub use args::Args;
+pub use frame::{Frame, State};
+pub use machine::{Machine, NoIntrinsics};
+pub use mir_ir::{
+    Block, Bodies, Body, FnId, Lit, Operand, Place, Proj, Rvalue, Statement, StatementKind,
+    Terminator, TerminatorKind,
+};
+pub use outcome::Outcome;
+pub use run_error::RunError;
+pub use spot::Spot;
+pub use tree::{Tree, TreeNode};

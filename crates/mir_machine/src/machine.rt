@@ -1,0 +1,158 @@
+ghost use Rattle.std.specs.Prelude.{◌≡◌, ℕ, ◌≤◌, List, Some, IfOk, IfErr, OnOk, OnErr, slice_get};
+ghost use Rattle.std.specs.Option.{option_copied};
+ghost use Rattle.logic_term.specs.Sort.{Declarations};
+ghost use Rattle.logic_term.specs.TyView.{tys_of};
+ghost use Rattle.mir_machine.specs.declared.mir_ir.Body.{Body};
+ghost use Rattle.mir_machine.specs.Good.{IsProper};
+ghost use Rattle.mir_machine.specs.Typed.{Met};
+ghost use Rattle.mir_machine.specs.WellFormed.{AreSound};
+ghost use Rattle.mir_machine.specs.Run.{body_number, started, ran, IsRan, ShownAs, answer, StandsAt};
+
+use crate::args::Args;
+use crate::entry::call;
+use crate::frame::State;
+use crate::halt::Halt;
+use crate::mir_ir::{Bodies, FnId};
+use crate::outcome::Outcome;
+use crate::run_error::RunError;
+use crate::running::step_state;
+use crate::tree::Tree;
+use logic_term::{Instance, copy_types};
+use std::alloc::Global;
+use std::marker::Model;
+use text_core::{Cause, NoMemory, Span};
+
+/// Whether the run has ended.
+#[derive(Drop)]
+enum Status {
+    Running,
+    Returned(Tree),
+    Panicked(Cause, Span),
+}
+
+/// The type of intrinsics until there are some. It is never called.
+#[derive(Clone, Copy, Debug, PartialEq, Eq)]
+pub struct NoIntrinsics;
+
+/// A run of a call. Contracts see the bodies and what the run has come to, the record of specs/Run.antt.
+#[derive(Drop)]
+pub struct Machine<'a, I> {
+    alloc: Global,
+    bodies: &'a Bodies,
+    state: State,
+    status: Status,
+    intrinsics: I,
+}
+
+impl<'a, I> Model for Machine<'a, I> {
+    ghost use Rattle.mir_machine.specs.Run.{Run, IsSafe};
+    ghost use Rattle.mir_machine.specs.RunCode.{coded_run};
+
+    ghost Value = { Run };
+
+    ghost coded = { coded_run };
+
+    ghost use Rattle.mir_machine.specs.RunView.{outcome_at};
+
+    ghost view = { λ m. record { bodies = m.bodies.now.bodies; outcome = outcome_at m.state m.status } };
+
+    ghost invariant = { λ m. IsSafe (record { bodies = m.bodies.now.bodies; outcome = outcome_at m.state m.status }) };
+}
+
+impl<'a, I: Drop> Machine<'a, I> {
+    /// A run of the call of `f` at `instance`, which has taken no step.
+    #[tactic(auto, using(crate::proofs::NeverStuck::safe_call))]
+    pub fn new(
+        alloc: Global,
+        bodies: &'a Bodies,
+        f: FnId,
+        instance: &Instance,
+        args: Args,
+        intrinsics: I,
+    ) -> Result<Machine<'a, I>, NoMemory>
+        requires sound { AreSound bodies.now.bodies }
+        requires proper { (Δ : Declarations) × (b : Body) × (met : List Met) × IsProper Δ bodies.now.bodies (body_number f) (tys_of instance.now.types) args.values args.outside b met }
+        ensures { IfOk result (λ m. (b : Body) → slice_get bodies.now.bodies (body_number f) ≡ Some b → m ≡ started bodies.now.bodies b (body_number f) (tys_of instance.now.types) args.values args.outside) }
+    {
+        let FnId::Body(number) = f;
+        let types = copy_types(alloc, instance.types.as_slice())?;
+        let state = call(alloc, bodies, number, types, args)?;
+        Ok(Machine {
+            alloc,
+            bodies,
+            state,
+            status: Status::Running,
+            intrinsics,
+        })
+    }
+
+    /// Takes up to `n` steps, fewer only where the run ends, and answers how many. For want of memory the machine stands
+    /// after some number of steps.
+    pub fn run(&mut self, n: u64) -> Result<u64, RunError>
+        ensures ok { IfOk result (λ k. IsRan self.old n k self.new) }
+        ensures err { OnErr result ((k : ℕ) × (k ≤ n) × (self.new ≡ ran k self.old)) }
+        ensures unlimited { IfErr result (λ e. e ≡ RunError.NoMemory) }
+    {
+        for taken in 0..n {
+            let Outcome::Running = self.outcome() else {
+                return Ok(taken);
+            };
+            self.step()?;
+        }
+        Ok(n)
+    }
+
+    /// Does one step; a run that has ended stays as it is. For want of memory nothing changes.
+    pub fn step(&mut self) -> Result<(), NoMemory>
+        ensures ok { OnOk result (self.new ≡ ran 1 self.old) }
+        ensures err { OnErr result (self.new ≡ self.old) }
+    {
+        let Status::Running = self.status else {
+            return Ok(());
+        };
+        match step_state(self.alloc, self.bodies, &mut self.state) {
+            Ok(None) => Ok(()),
+            Ok(Some(answer)) => {
+                self.status = Status::Returned(answer);
+                Ok(())
+            }
+            Err(Halt::Panics(cause, span)) => {
+                self.status = Status::Panicked(cause, span);
+                Ok(())
+            }
+            Err(Halt::NoMemory) => Err(NoMemory),
+            Err(Halt::Stuck) => unreachable!(),
+        }
+    }
+
+    /// What the run has come to. Takes no memory.
+    pub fn outcome(&self) -> Outcome
+        ensures { ShownAs self.now.outcome result }
+    {
+        match &self.status {
+            Status::Running => Outcome::Running,
+            Status::Returned(_) => Outcome::Returned,
+            Status::Panicked(cause, span) => Outcome::Panicked {
+                cause: *cause,
+                span: *span,
+            },
+        }
+    }
+
+    /// The answer; `Some` exactly where the run has returned. Takes no memory.
+    pub fn result(&self) -> Option<&Tree>
+        ensures { option_copied result ≡ answer self.now.outcome }
+    {
+        match &self.status {
+            Status::Returned(tree) => Some(tree),
+            _ => None,
+        }
+    }
+
+    /// The state; after a panic, one in which the operands of the step that panicked may be gone. Takes no memory.
+    pub fn state(&self) -> &State
+        ensures { StandsAt self.now.outcome result.now }
+    {
+        &self.state
+    }
+}

@@ -1,0 +1,9 @@
+use text_core::{Cause, Span};
+
+/// What a run has come to.
+#[derive(Clone, Copy, Debug, PartialEq, Eq)]
+pub enum Outcome {
+    Running,
+    Returned,
+    Panicked { cause: Cause, span: Span },
+}

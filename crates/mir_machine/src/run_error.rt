@@ -1,0 +1,23 @@
+use text_core::{Limit, NoMemory};
+use thiserror::Error;
+
+/// Why a run stops before its end.
+#[derive(Clone, Copy, Debug, PartialEq, Eq, Error)]
+pub enum RunError {
+    /// A call would make too many frames. So far no statement calls, and this never comes.
+    #[error("{} frames of {}", .0.counted, .0.bound)]
+    Limit(Limit),
+    #[error("out of memory")]
+    NoMemory,
+}
+
+impl From<NoMemory> for RunError {
+    ghost use Rattle.std.specs.Prelude.{◌≡◌};
+    ghost use Rattle.mir_machine.specs.declared.run_error.RunError.TheVariants as run_error;
+
+    ghost from_gives = { λ _ e. e ≡ run_error.NoMemory };
+
+    fn from(_refused: NoMemory) -> RunError {
+        RunError::NoMemory
+    }
+}
