@@ -1,0 +1,2 @@
+pub mod MirBuild
+pub mod WpGen
