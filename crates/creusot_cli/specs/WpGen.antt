@@ -1,7 +1,7 @@
 -- The obligations of a body of one block with its contract (Creusot, Denis, Jourdan and Marché 2022; RustHorn). Each goal is
 -- a formula over the names of the locals, made from the end of the block backwards: a statement that sets a local puts a
 -- term for its name in all later goals, one whose value is new puts a quantifier and what is known of the value before them.
-use Rattle.std.specs.Prelude.{ℕ, ◌+◌, List, [], ◌∷◌, ◌++◌, length, map, drop, Option, Some, None, slice_get}
+use Rattle.std.specs.Prelude.{ℕ, ◌+◌, List, [], ◌∷◌, ◌++◌, length, map, drop, false, Option, Some, None, slice_get}
 use Rattle.text_core.specs.declared.name.Name.{Name}
 use Rattle.text_core.specs.declared.span.Span.{Span}
 use Rattle.text_core.specs.declared.refusal.Kind.{Kind}
@@ -26,7 +26,9 @@ use Rattle.mir_machine.specs.declared.mir_ir.Rvalue.TheVariants.{Use, Binary}
 use Rattle.mir_machine.specs.declared.mir_ir.StatementKind.{StatementKind}
 use Rattle.mir_machine.specs.declared.mir_ir.StatementKind.TheVariants.{Assign}
 use Rattle.mir_machine.specs.declared.mir_ir.Statement.{Statement}
+use Rattle.mir_machine.specs.declared.mir_ir.Block.{Block}
 use Rattle.mir_machine.specs.declared.mir_ir.Body.{Body}
+use Rattle.mir_machine.specs.Body.{block_in}
 use Rattle.creusot_cli.specs.MirBuild.{local_name}
 
 -- a formula to be shown at a point of a body
@@ -122,3 +124,11 @@ numbered owner n k c (g ∷ gs) = record {
 -- the obligations of a body whose locals have the type k and whose one block has these statements, from number 1 on
 abbrev pub obligations_of : IntKind → Body → Contract → List Statement → List Obligation
 obligations_of k b c sts = numbered b.owner 1 k c (goals_from k (length b.locals) (goals_at_return c.post (drop (length c.pre) c.spans)) sts)
+
+-- the statements of the block at which a body begins
+abbrev pub statements_in : Option Block → List Statement
+statements_in None = []
+statements_in (Some k) = k.statements
+
+abbrev pub entry_statements : Body → List Statement
+entry_statements b = statements_in (block_in b.blocks b.entry)
