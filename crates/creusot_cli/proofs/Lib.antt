@@ -1,3 +1,4 @@
 pub mod Entry
+pub mod GoodBody
 pub mod Simulation
 pub mod SimulationSteps
