@@ -1,5 +1,5 @@
 -- The body and the contract that a function of the form is lowered to. A local is named by its number.
-use Rattle.std.specs.Prelude.{ℕ, zero, suc, Bool, true, false, filter, ◌+◌, ◌*◌, ◌^◌, ℤ, List, [], ◌∷◌, ◌++◌, length, map, reverse, replicate}
+use Rattle.std.specs.Prelude.{ℕ, zero, suc, Bool, true, false, filter, ◌+◌, ◌*◌, ◌^◌, ◌<◌, ◌≡◌, ℤ, List, [], ◌∷◌, ◌++◌, length, map, reverse, replicate}
 use Rattle.text_core.specs.declared.name.Name.{Name}
 use Rattle.text_core.specs.declared.span.Span.{Span}
 use Rattle.logic_term.specs.declared.kinds.ArithOp.{ArithOp}
@@ -9,6 +9,7 @@ use Rattle.logic_term.specs.declared.kinds.BinaryOp.TheVariants as binary_op
 use Rattle.logic_term.specs.declared.kinds.IntKind.TheVariants.{I32}
 use Rattle.logic_term.specs.declared.kinds.Label.{Label}
 use Rattle.logic_term.specs.declared.obligation.Contract.{Contract}
+use Rattle.logic_term.specs.Range.{fits}
 use Rattle.logic_term.specs.Ty.{Ty, int, math_int}
 use Rattle.logic_term.specs.Term.{Term, var, lit, model, calculate, is_less, is_at_most, is_equal}
 use Rattle.mir_machine.specs.declared.mir_ir.Place.{Place}
@@ -149,3 +150,38 @@ body_of f = record {
   blocks = (record { 0 = 0 }, record { statements = statements_of f; end = record { span = f.span; kind = Return } }) ∷ [];
   span = f.span;
 }
+
+abbrev pub block_of : Function → Block
+block_of f = record { statements = statements_of f; end = record { span = f.span; kind = Return } }
+
+-- ---- functions whose parts are in bounds
+
+-- an `i32`, or one of so many parameters
+abbrev pub AtomFits : ℕ → AtomKind → Type 0
+AtomFits n (atom.Number z) = fits I32 z ≡ true
+AtomFits n (atom.Param i) = i < n
+
+abbrev pub ItemFits : ℕ → Item → Type 0
+ItemFits n (item.Number z) = Unit {0}
+ItemFits n (item.Param i) = i < n
+ItemFits n item.Answer = Unit {0}
+
+abbrev pub StepsFit : ℕ → List ChainStep → Type 0
+StepsFit n [] = Unit {0}
+StepsFit n (s ∷ ss) = AtomFits n s.atom.kind × StepsFit n ss
+
+abbrev pub SumStepsFit : ℕ → List SumStep → Type 0
+SumStepsFit n [] = Unit {0}
+SumStepsFit n (s ∷ ss) = ItemFits n s.item × SumStepsFit n ss
+
+abbrev pub SumFits : ℕ → Sum → Type 0
+SumFits n s = ItemFits n s.first × SumStepsFit n s.rest
+
+abbrev pub ClausesFit : ℕ → List Clause → Type 0
+ClausesFit n [] = Unit {0}
+ClausesFit n (c ∷ cs) = (SumFits n c.left × SumFits n c.right) × ClausesFit n cs
+
+pub record IsInBounds (f : Function) : Type 0 where
+  pub clauses : ClausesFit (length f.params) f.clauses
+  pub first : AtomFits (length f.params) f.body.first.kind
+  pub rest : StepsFit (length f.params) f.body.rest
