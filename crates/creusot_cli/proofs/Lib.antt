@@ -1,1 +1,3 @@
+pub mod DecimalLaws
+pub mod SpanLaws
 pub mod TokenLaws

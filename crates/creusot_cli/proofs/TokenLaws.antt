@@ -35,10 +35,10 @@ run_passes : (p : ℕ → Bool) (bytes : List ℕ) → list_all p (take (prefix_
 run_passes p [] = refl
 run_passes p (b ∷ bytes) =
     let by_first : (q : Bool) → p b ≡ q → list_all p (take (cond q (suc (prefix_len p bytes)) 0) (b ∷ bytes)) ≡ true =
-        λ q. elim q as (λ q. p b ≡ q → list_all p (take (cond q (suc (prefix_len p bytes)) 0) (b ∷ bytes)) ≡ true) [
-          | true ↦ λ e. rw e (run_passes p bytes)
-          | false ↦ λ e. refl
-        ] in
+    λ q. elim q as (λ q. p b ≡ q → list_all p (take (cond q (suc (prefix_len p bytes)) 0) (b ∷ bytes)) ≡ true) [
+      | true ↦ λ e. rw e (run_passes p bytes)
+      | false ↦ λ e. refl
+    ] in
     let e : cond (p b) (1 + prefix_len p bytes) 0 ≡ cond (p b) (suc (prefix_len p bytes)) 0 = ap (λ (n : ℕ). cond (p b) n 0) (omega arith) in
     ap (λ (n : ℕ). list_all p (take n (b ∷ bytes))) e ∙ by_first (p b) refl
 
@@ -200,7 +200,7 @@ lex zero at bytes = []
 lex (suc n) at [] = []
 lex (suc n) at (b ∷ rest) =
     cond (is_white b) (lex n (at + 1) rest)
-      (record { kind = (first_of b rest).0; span = record { start = at; end = at + (first_of b rest).1 } } ∷ lex n (at + (first_of b rest).1) (drop (first_of b rest).1 (b ∷ rest)))
+    (record { kind = (first_of b rest).0; span = record { start = at; end = at + (first_of b rest).1 } } ∷ lex n (at + (first_of b rest).1) (drop (first_of b rest).1 (b ∷ rest)))
 
 lex_token : (n at : ℕ) (k : TokenKind) (text rest : List ℕ) (ts : List Token) → length (text ++ rest) ≤ n → IsLongest k text rest → ((m : ℕ) → length rest ≤ m → lex m (at + length text) rest ≡ ts)
     → lex n at (text ++ rest) ≡ record { kind = k; span = record { start = at; end = at + length text } } ∷ ts
@@ -231,9 +231,9 @@ after_token at b rest ts h more =
     let n = (first_of b rest).1 in
     let len : length (take n (b ∷ rest)) ≡ n = length-take-le n (b ∷ rest) (first_within b rest).0 in
     let whole : AreTokens at (take n (b ∷ rest) ++ drop n (b ∷ rest)) (record { kind = (first_of b rest).0; span = record { start = at; end = at + length (take n (b ∷ rest)) } } ∷ ts) =
-        token (first_longest b rest h) (subst (λ (m : ℕ). AreTokens (at + m) (drop n (b ∷ rest)) ts) (sym len) more) in
+    token (first_longest b rest h) (subst (λ (m : ℕ). AreTokens (at + m) (drop n (b ∷ rest)) ts) (sym len) more) in
     subst (λ (bytes : List ℕ). AreTokens at bytes (record { kind = (first_of b rest).0; span = record { start = at; end = at + n } } ∷ ts)) (take-append-drop n (b ∷ rest))
-      (subst (λ (m : ℕ). AreTokens at (take n (b ∷ rest) ++ drop n (b ∷ rest)) (record { kind = (first_of b rest).0; span = record { start = at; end = at + m } } ∷ ts)) len whole)
+    (subst (λ (m : ℕ). AreTokens at (take n (b ∷ rest) ++ drop n (b ∷ rest)) (record { kind = (first_of b rest).0; span = record { start = at; end = at + m } } ∷ ts)) len whole)
 
 -- one byte more of white space
 pub step_white : (at : ℕ) (bytes : List ℕ) (b : ℕ) → at < length bytes → b ≡ get_or bytes at 0 → is_white b ≡ true → (ts : List Token) → AreTokens (at + 1) (drop (at + 1) bytes) ts → AreTokens at (drop at bytes) ts
@@ -250,7 +250,7 @@ step_token at bytes b rest within is rest_is black ts more =
     let whole : drop at bytes ≡ b ∷ rest = rw (drop-cons bytes at 0, rest_is, add-one) (ap (λ (x : ℕ). x ∷ drop (suc at) bytes) (sym is)) in
     let after : drop (at + n) bytes ≡ drop n (b ∷ rest) = sym (drop-drop n at bytes) ∙ ap (drop n) whole in
     subst (λ (bs : List ℕ). AreTokens at bs (record { kind = (first_of b rest).0; span = record { start = at; end = at + n } } ∷ ts)) (sym whole)
-      (after_token at b rest ts black (subst (λ (bs : List ℕ). AreTokens (at + n) bs ts) after more))
+    (after_token at b rest ts black (subst (λ (bs : List ℕ). AreTokens (at + n) bs ts) after more))
 
 -- what a slice from a place on is
 rest_of : (k : ℕ) (bytes : List ℕ) → take (length bytes - k) (drop k bytes) ≡ drop k bytes

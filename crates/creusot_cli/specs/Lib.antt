@@ -1,1 +1,3 @@
+pub mod SourceForm
+pub mod SourceFormReading
 pub mod SourceTokens

@@ -71,7 +71,7 @@ pub data AreTokens : ℕ → List ℕ → List Token → Type 0 where
   done : {at : ℕ} → AreTokens at [] []
   space : {at b : ℕ} {bytes : List ℕ} {ts : List Token} → IsTrue (is_white b) → AreTokens (at + 1) bytes ts → AreTokens at (b ∷ bytes) ts
   token : {at : ℕ} {k : TokenKind} {text rest : List ℕ} {ts : List Token} → IsLongest k text rest → AreTokens (at + length text) rest ts
-    → AreTokens at (text ++ rest) (record { kind = k; span = record { start = at; end = at + length text } } ∷ ts)
+      → AreTokens at (text ++ rest) (record { kind = k; span = record { start = at; end = at + length text } } ∷ ts)
 
 -- ---- the longest token
 

@@ -1,7 +1,11 @@
 //! The form of source that is built so far.
 
+mod contract;
+mod fault;
 mod form;
+mod words;
 
+pub use fault::PassError;
 pub use form::{
     Atom, AtomKind, Chain, ChainStep, Clause, ClauseKind, Comparison, Function, Item, Sign, Sum,
     SumStep,

@@ -34,7 +34,7 @@ loop-first-preserved c =
       within = fits.0;
       few = rw (c.in_ok-push.ensures.items, length-append) (omega arith);
       so_far = rw c.in_ok-push.ensures.items (found_token c.loop-first.at c.args.bytes.now c.in-Some.first.now c.first_token-kind.result found.3.0 c.first_token-kind.ensures
-        c.loop-first.found.items (found.3.1 0) (sym c.is_white.ensures ∙ c.if-is_white.false) c.loop-first.invariant.so_far);
+          c.loop-first.found.items (found.3.1 0) (sym c.is_white.ensures ∙ c.if-is_white.false) c.loop-first.invariant.so_far);
     }
 
 pub returns-clause-spelled : goal.returns-clause-spelled
