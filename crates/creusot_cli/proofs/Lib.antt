@@ -1,3 +1,6 @@
 pub mod DecimalLaws
 pub mod SpanLaws
 pub mod TokenLaws
+pub mod LoopLaws
+pub mod LeafLaws
+pub mod ReadLaws

@@ -253,8 +253,8 @@ step_token at bytes b rest within is rest_is black ts more =
     (after_token at b rest ts black (subst (λ (bs : List ℕ). AreTokens (at + n) bs ts) after more))
 
 -- what a slice from a place on is
-rest_of : (k : ℕ) (bytes : List ℕ) → take (length bytes - k) (drop k bytes) ≡ drop k bytes
-rest_of k bytes = ap (λ (n : ℕ). take n (drop k bytes)) (sym (length-drop k bytes)) ∙ take-length (drop k bytes)
+pub rest_of : {A : Type 0} (k : ℕ) (xs : List A) → take (length xs - k) (drop k xs) ≡ drop k xs
+rest_of k xs = ap (λ (n : ℕ). take n (drop k xs)) (sym (length-drop k xs)) ∙ take-length (drop k xs)
 
 module _ (at : ℕ) (bytes : List ℕ) (b : ℕ) (f : TokenKind × ℕ) (within : at < length bytes) (first : f ≡ first_of b (take (length bytes - (at + 1)) (drop (at + 1) bytes))) where
   -- the token stays within the bytes

@@ -1,8 +1,11 @@
 //! The form of source that is built so far.
 
+mod body;
 mod contract;
 mod fault;
 mod form;
+mod params;
+mod reader;
 mod words;
 
 pub use fault::PassError;

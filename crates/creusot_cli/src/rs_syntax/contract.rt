@@ -241,7 +241,8 @@ pub fn clauses<'a>(
     tokens: &'a [Token],
 ) -> Result<(Vec<Clause>, &'a [Token]), Stop>
     requires { ForSome names (λ params. length params.now < 2 ^ 31) }
-    ensures { Gives (λ x. (x.0.items, x.1.now)) result (clauses_at bytes.now (option_copied names.entry) (length tokens.now) [] tokens.now) }
+    ensures given { Gives (λ x. (x.0.items, x.1.now)) result (clauses_at bytes.now (option_copied names.entry) (length tokens.now) [] tokens.now) }
+    ensures within { IfOk result (λ x. length x.1.now ≤ length tokens.now) }
 {
     let mut clauses = Vec::new(alloc);
     let mut rest = tokens;
