@@ -4,3 +4,5 @@ pub mod TokenLaws
 pub mod LoopLaws
 pub mod LeafLaws
 pub mod ReadLaws
+pub mod AgainLaws
+pub mod FunctionLaws

@@ -1,6 +1,6 @@
 -- Reading tokens from left to right: what is read and the tokens after it, or how many tokens are left from the first
 -- on that cannot continue.
-use Rattle.std.specs.Prelude.{◌≡◌, ℕ, zero, suc, ◌-◌, ◌^◌, pos, Bool, false, ◌&&◌, not, nat_lt, ◌==◌, if◌then◌else◌, List, [], ◌∷◌, ◌++◌, length, take, drop, codes, Option, Some, None, is_some, Result, Ok, Err}
+use Rattle.std.specs.Prelude.{◌≡◌, ℕ, zero, suc, ◌-◌, ◌^◌, pos, Bool, false, ◌&&◌, not, nat_lt, ◌==◌, if◌then◌else◌, List, [], ◌∷◌, ◌++◌, length, take, drop, codes, slice_get, Option, Some, None, is_some, Result, Ok, Err}
 use Rattle.std.specs.Option.{option_map, option_map_or}
 use Rattle.std.specs.Str.{bytes_eq}
 use Rattle.text_core.specs.declared.span.Span.{Span}
@@ -257,3 +257,7 @@ function_at bytes ts = do
   contract ← clauses_at bytes (Some signature.0.1) (length ts) [] ts
   body ← body_at bytes signature.0.1 signature.1
   (if length body.1 == 0 then Ok (record { name = text_of bytes signature.0.0; span = signature.0.0.span; params = signature.0.1; clauses = contract.0; body = body.0 }) else Err (length body.1))
+
+-- where the refused token stands of which so many tokens are left; the end of the bytes where none is
+abbrev pub place_left : List ℕ → List Token → ℕ → Span
+place_left bytes ts left = option_map_or (λ t. t.span) (slice_get ts (length ts - left)) (record { start = length bytes; end = length bytes })

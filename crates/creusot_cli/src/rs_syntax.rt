@@ -13,3 +13,5 @@ pub use form::{
     Atom, AtomKind, Chain, ChainStep, Clause, ClauseKind, Comparison, Function, Item, Sign, Sum,
     SumStep,
 };
+
+pub use reader::read_function;
