@@ -297,14 +297,14 @@ made_function bytes name params clauses body = record { name = text_of bytes nam
 
 pub function_again : (bytes : List ℕ) (ts : List Token) (f : Function) → SpellsFunction bytes ts f → function_at bytes ts ≡ Ok f
 unfolding function_at
-function_again bytes _ _ (form.function {contract} {params} {body} {word} {name} {type} opening closing arrow brace end {f} clauses w is span o spelled fits c a t b chain e) =
+function_again bytes _ _ (form.function {contract} {params} {body} {word} {name} {type} opening closing arrow brace end {f} clauses w is span o spelled fits c a t b inside_spelled e) =
     let tail : List Token = arrow ∷ type ∷ brace ∷ (body ++ end ∷ []) in
     let back : List Token = word ∷ name ∷ opening ∷ (params ++ closing ∷ tail) in
     let stop : begins Hash back ≡ false = begins_not Hash Word word (name ∷ opening ∷ (params ++ closing ∷ tail)) w.kind refl in
     let shape = clauses_again bytes None f.params nothing fits (length (contract ++ back)) [] contract f.clauses back clauses stop (omega arith) in
     let signature = signature_again bytes params tail word name opening closing f.name f.params w is o spelled fits c in
     let named = clauses_again bytes (Some f.params) f.params everything fits (length (contract ++ back)) [] contract f.clauses back clauses stop (omega arith) in
-    let inside = body_again bytes f.params fits body [] arrow type brace end f.body a t b chain e in
+    let inside = body_again bytes f.params fits body [] arrow type brace end f.body a t b inside_spelled e in
     let same : record { name = text_of bytes name; span = name.span; params = f.params; clauses = seen_clauses (Some f.params) f.clauses; body = f.body } ≡ f =
         ap (λ (x : List ℕ). record { name = x; span = name.span; params = f.params; clauses = seen_clauses (Some f.params) f.clauses; body = f.body }) is.word.spelled
         ∙ ap (λ (s : Span). record { name = f.name; span = s; params = f.params; clauses = seen_clauses (Some f.params) f.clauses; body = f.body }) (sym span)

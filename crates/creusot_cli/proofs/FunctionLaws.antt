@@ -1,9 +1,15 @@
 -- A list of tokens spells the function that is read from it, and no other; so does a source.
 use Rattle.std.proofs.Common.{◌≡◌, ℕ, zero, suc, ◌+◌, ◌-◌, ◌<◌, ◌≤◌, Bool, true, false, cond, eqb, List, [], ◌∷◌, ◌++◌, length, drop, Option, Some, None, Result, Ok, Err, refl, sym, ap, subst, ◌∙◌, append_assoc, arith, inl, inr, ◌⊎◌}
 use Rattle.std.specs.Prelude.{codes, slice_get, ◌==◌}
+use Rattle.std.specs.Option.{option_map_or}
 use Rattle.std.proofs.lemmas.Bool.{eqb-true}
 use Rattle.std.proofs.lemmas.List.{length-append, nil_from_length}
 use Rattle.text_core.specs.declared.span.Span.{Span}
+use Rattle.text_core.specs.declared.refusal.SourceError.{SourceError}
+use Rattle.creusot_cli.specs.declared.rs_syntax.fault.PassError.{PassError}
+use Rattle.creusot_cli.specs.declared.rs_syntax.fault.PassError.TheVariants.{Source}
+use Rattle.creusot_cli.specs.declared.rs_syntax.fault.Stop.{Stop}
+use Rattle.creusot_cli.specs.declared.rs_syntax.fault.Stop.TheVariants as stops
 use Rattle.creusot_cli.specs.declared.rs_tokens.token.Token.{Token}
 use Rattle.creusot_cli.specs.declared.rs_tokens.token.TokenKind.TheVariants.{Hash, OpenParen, CloseParen, OpenBrace, CloseBrace, Arrow}
 use Rattle.creusot_cli.specs.declared.rs_syntax.form.Clause.{Clause}
@@ -12,7 +18,7 @@ use Rattle.creusot_cli.specs.declared.rs_syntax.form.Function.{Function}
 use Rattle.creusot_cli.specs.SourceTokens.{AreTokens, done, space, token}
 use Rattle.creusot_cli.specs.SourceForm.{text_of, IsWord, IsIdentifier, SpellsClauses, SpellsParams, AreParams, SpellsChain, SpellsFunction, Spells}
 use Rattle.creusot_cli.specs.SourceForm as form
-use Rattle.creusot_cli.specs.SourceFormReading.{◌>>=◌, mark_at, word_at, name_at, clauses_at, params_at, chain_at, signature_at, body_at, function_at}
+use Rattle.creusot_cli.specs.SourceFormReading.{◌>>=◌, mark_at, word_at, name_at, clauses_at, params_at, chain_at, signature_at, body_at, function_at, Fails, place_left}
 use Rattle.creusot_cli.proofs.LeafLaws.{bind_ok, read_as, ok_is, guard_ok, mark_took, word_took, name_took, no_params}
 use Rattle.creusot_cli.proofs.ReadLaws.{params_took, clauses_took, chain_took}
 use Rattle.creusot_cli.proofs.AgainLaws.{nothing, everything, seen_clauses, clauses_again, function_again}
@@ -162,3 +168,25 @@ tokens_within _ _ _ zero t (token {at} {k} {text} {rest} {ts} longest following)
 tokens_within _ _ _ (suc i) t (token {at} {k} {text} {rest} {ts} longest following) h =
     let within = tokens_within (at + length text) rest ts i t following h in
     (within.0, omega (arith, within.1, length-append text rest))
+
+place_by : (bytes : List ℕ) (ts : List Token) (k : ℕ) (o : Option Token) → slice_get ts k ≡ o → AreTokens 0 bytes ts
+    → (let place : Span = option_map_or (λ (t : Token). t.span) o (record { start = length bytes; end = length bytes }) in (place.start ≤ place.end) × (place.end ≤ length bytes))
+place_by bytes ts k None e tokens = (omega arith, omega arith)
+place_by bytes ts k (Some t) e tokens =
+    let within = tokens_within 0 bytes ts k t tokens e in
+    (within.0, omega (arith, within.1))
+
+-- the refused place is within the bytes
+pub place_within : (bytes : List ℕ) (ts : List Token) (left : ℕ) → AreTokens 0 bytes ts → ((place_left bytes ts left).start ≤ (place_left bytes ts left).end) × ((place_left bytes ts left).end ≤ length bytes)
+place_within bytes ts left tokens = place_by bytes ts (length ts - left) (slice_get ts (length ts - left)) refl tokens
+
+-- why a reading was refused
+pub refusal : (e : Stop) (left : ℕ) (read : Result Function ℕ) → e ≡ stops.Refused left → Fails e read → read ≡ Err left
+refusal e left read is failed = subst (λ (s : Stop). Fails s read) is failed
+
+-- an error of the source
+abbrev pub source_error : SourceError → Result Function PassError
+source_error e = Err (Source e)
+
+pub is_source : (d e : SourceError) → source_error d ≡ source_error e → d ≡ e
+is_source d e same = cc
