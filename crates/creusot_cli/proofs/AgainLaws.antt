@@ -126,7 +126,7 @@ module _ (bytes : List ℕ) (names : Option (List (List ℕ))) (params : List (L
       name_item kind name t view rest (seen names (items.Param k)) is at (ap (named names kind) is.word.spelled ∙ named_param names params kind name k knows fits there)
   item_again kind _ _ rest (form.answer {t} {view} is at ensures) =
       name_item kind (codes "result") t view rest (seen names items.Answer) is at
-        (ap (λ (k : ClauseKind). named names k (text_of bytes t)) ensures ∙ named_answer names params (text_of bytes t) knows is.word.spelled)
+      (ap (λ (k : ClauseKind). named names k (text_of bytes t)) ensures ∙ named_answer names params (text_of bytes t) knows is.word.spelled)
 
   steps_again : (kind : ClauseKind) (n : ℕ) (steps : List SumStep) (ts : List Token) (new : List SumStep) (rest : List Token) → SpellsSteps bytes params kind ts new → next_sign rest ≡ None → length new ≤ n
       → steps_at bytes names kind n steps (ts ++ rest) ≡ Ok (steps ++ seen_steps names new, rest)
@@ -137,15 +137,15 @@ module _ (bytes : List ℕ) (names : Option (List (List ℕ))) (params : List (L
   steps_again kind (suc n) steps _ _ rest (form.more {op} {item} {rest = others_text} {step} {steps = others} sign first following) stop few =
       let step' : SumStep = record { sign = step.sign; item = seen names step.item } in
       let read : item_at bytes names kind ((item ++ others_text) ++ rest) ≡ Ok (seen names step.item, others_text ++ rest) =
-          ap (item_at bytes names kind) (append_assoc item others_text rest) ∙ item_again kind item step.item (others_text ++ rest) first in
+      ap (item_at bytes names kind) (append_assoc item others_text rest) ∙ item_again kind item step.item (others_text ++ rest) first in
       rw (sign_again step.sign op ((item ++ others_text) ++ rest) sign, read)
-        (steps_again kind n (steps ++ step' ∷ []) others_text others rest following stop (omega arith) ∙ ap (λ (s : List SumStep). read_as (s, rest)) (append_assoc steps (step' ∷ []) (seen_steps names others)))
+      (steps_again kind n (steps ++ step' ∷ []) others_text others rest following stop (omega arith) ∙ ap (λ (s : List SumStep). read_as (s, rest)) (append_assoc steps (step' ∷ []) (seen_steps names others)))
 
   sum_again : (kind : ClauseKind) (ts : List Token) (s : Sum) (rest : List Token) → SpellsSum bytes params kind ts s → next_sign rest ≡ None → sum_at bytes names kind (ts ++ rest) ≡ Ok (seen_sum names s, rest)
   unfolding sum_at
   sum_again kind _ _ rest (form.sum {first} {rest = others} {s} item steps few) stop =
       let read : item_at bytes names kind ((first ++ others) ++ rest) ≡ Ok (seen names s.first, others ++ rest) =
-          ap (item_at bytes names kind) (append_assoc first others rest) ∙ item_again kind first s.first (others ++ rest) item in
+      ap (item_at bytes names kind) (append_assoc first others rest) ∙ item_again kind first s.first (others ++ rest) item in
       rw (read, steps_again kind 256 [] others s.rest rest steps stop few) refl
 
   -- ---- clauses
@@ -158,7 +158,7 @@ module _ (bytes : List ℕ) (names : Option (List (List ℕ))) (params : List (L
       let b = comparison_again c sign (right ++ after) is in
       let d = sum_again kind right r after second stop in
       let span : cover_until (left ++ sign ∷ (right ++ after)) after ≡ cover (left ++ sign ∷ right) =
-          ap (λ (ts : List Token). cover_until ts after) (sym (append_assoc left (sign ∷ right) after)) ∙ cover_front (left ++ sign ∷ right) after in
+      ap (λ (ts : List Token). cover_until ts after) (sym (append_assoc left (sign ∷ right) after)) ∙ cover_front (left ++ sign ∷ right) after in
       let made : Span → Result (Clause × List Token) ℕ = λ s. Ok (record { kind = kind; span = s; left = seen_sum names l; comparison = c; right = seen_sum names r }, after) in
       let read : term_at bytes names kind (left ++ sign ∷ (right ++ after)) ≡ made (cover_until (left ++ sign ∷ (right ++ after)) after) = rw (a, b, d) refl in
       read ∙ ap made span
@@ -168,7 +168,7 @@ module _ (bytes : List ℕ) (names : Option (List (List ℕ))) (params : List (L
   clause_kind_again Requires t ts h = rw (word_is bytes (codes "requires") t h) refl
   clause_kind_again Ensures t ts h =
       let other : is_word bytes (codes "requires") t ≡ false =
-          ap (λ (text : List ℕ). kind_eq t.kind Word && bytes_eq text (codes "requires")) h.spelled ∙ and_false (kind_eq t.kind Word) in
+      ap (λ (text : List ℕ). kind_eq t.kind Word && bytes_eq text (codes "requires")) h.spelled ∙ and_false (kind_eq t.kind Word) in
       rw (other, word_is bytes (codes "ensures") t h) refl
 
   head_again : (kind : ClauseKind) (hash opening word paren : Token) (ts : List Token) → hash.kind ≡ Hash → opening.kind ≡ OpenBracket → IsWord bytes (kind_word kind) word → paren.kind ≡ OpenParen
@@ -182,10 +182,10 @@ module _ (bytes : List ℕ) (names : Option (List (List ℕ))) (params : List (L
   clause_again _ _ rest (form.clause {hash} {opening} {word} {paren} {left} {right} sign closing end {c} h o w p l s r span cl en) =
       let inner : List Token = left ++ sign ∷ (right ++ closing ∷ end ∷ []) in
       let regroup : inner ++ rest ≡ left ++ sign ∷ (right ++ closing ∷ end ∷ rest) =
-          append_assoc left (sign ∷ (right ++ closing ∷ end ∷ [])) rest ∙ ap (λ (ts : List Token). left ++ sign ∷ ts) (append_assoc right (closing ∷ end ∷ []) rest) in
+      append_assoc left (sign ∷ (right ++ closing ∷ end ∷ [])) rest ∙ ap (λ (ts : List Token). left ++ sign ∷ ts) (append_assoc right (closing ∷ end ∷ []) rest) in
       let term : term_at bytes names c.kind (inner ++ rest) ≡ Ok (seen_clause names c, closing ∷ end ∷ rest) =
-          ap (term_at bytes names c.kind) regroup ∙ term_again c.kind left right (closing ∷ end ∷ rest) sign c.left c.right c.comparison l s r (no_sign CloseParen closing (end ∷ rest) cl refl)
-          ∙ ap (λ (place : Span). read_as {A = Clause × List Token} (record { kind = c.kind; span = place; left = seen_sum names c.left; comparison = c.comparison; right = seen_sum names c.right }, closing ∷ end ∷ rest)) (sym span) in
+      ap (term_at bytes names c.kind) regroup ∙ term_again c.kind left right (closing ∷ end ∷ rest) sign c.left c.right c.comparison l s r (no_sign CloseParen closing (end ∷ rest) cl refl)
+      ∙ ap (λ (place : Span). read_as {A = Clause × List Token} (record { kind = c.kind; span = place; left = seen_sum names c.left; comparison = c.comparison; right = seen_sum names c.right }, closing ∷ end ∷ rest)) (sym span) in
       rw (head_again c.kind hash opening word paren (inner ++ rest) h o w p, term, mark_again CloseParen closing (end ∷ rest) cl, mark_again CloseBracket end rest en) refl
 
   clause_begins : (ts : List Token) (c : Clause) (rest : List Token) → SpellsClause bytes params ts c → (begins Hash (ts ++ rest) ≡ true) × (1 ≤ length ts)
@@ -206,14 +206,14 @@ module _ (bytes : List ℕ) (names : Option (List (List ℕ))) (params : List (L
       let read : clause_at bytes names ((first ++ others_text) ++ rest) ≡ Ok (seen_clause names c, others_text ++ rest) = ap (clause_at bytes names) regroup ∙ clause_again first c (others_text ++ rest) spelled in
       let fewer : length (others_text ++ rest) ≤ n = omega (arith, begin.1, length-append (first ++ others_text) rest, length-append first others_text, length-append others_text rest) in
       rw (next, read) (clauses_again n (clauses ++ seen_clause names c ∷ []) others_text cs rest following stop fewer
-        ∙ ap (λ (s : List Clause). read_as (s, rest)) (append_assoc clauses (seen_clause names c ∷ []) (seen_clauses names cs)))
+      ∙ ap (λ (s : List Clause). read_as (s, rest)) (append_assoc clauses (seen_clause names c ∷ []) (seen_clauses names cs)))
 
 -- ---- parameters
 
 is_new_again : (params : List (List ℕ)) (name : List ℕ) → place_of name params ≡ None → (name ≡ codes "result" → ⊥) → is_new params name ≡ true
 is_new_again params name new free =
     both_true (not (bytes_eq name (codes "result"))) (not (is_some (place_of name params)))
-      (ap not (not_same (bytes_eq name (codes "result")) name (codes "result") refl free)) (ap (λ (o : Option ℕ). not (is_some o)) new)
+    (ap not (not_same (bytes_eq name (codes "result")) name (codes "result") refl free)) (ap (λ (o : Option ℕ). not (is_some o)) new)
 
 module _ (bytes : List ℕ) where
   param_again : (params : List (List ℕ)) (name : List ℕ) (t colon type : Token) (rest : List Token) → IsIdentifier bytes name t → colon.kind ≡ Colon → IsWord bytes (codes "i32") type → is_new params name ≡ true
@@ -239,7 +239,7 @@ module _ (bytes : List ℕ) where
       let read = param_again params name t colon type (comma ∷ (others ++ rest)) is at word (is_new_again params name new.0 new.1) in
       let regroup : params ++ name ∷ names ≡ (params ++ name ∷ []) ++ names = sym (append_assoc params (name ∷ []) names) in
       let again : params_at bytes n (params ++ name ∷ []) (others ++ rest) ≡ Ok (params ++ name ∷ names, rest) =
-          params_again n (params ++ name ∷ []) others names rest following stop no_comma (subst AreParams regroup fits) (omega arith) ∙ ap (λ (s : List (List ℕ)). read_as (s, rest)) (sym regroup) in
+      params_again n (params ++ name ∷ []) others names rest following stop no_comma (subst AreParams regroup fits) (omega arith) ∙ ap (λ (s : List (List ℕ)). read_as (s, rest)) (sym regroup) in
       rw (begins_again Word t (colon ∷ type ∷ comma ∷ (others ++ rest)) is.word.kind, read, begins_again Comma comma (others ++ rest) is_comma, is.word.spelled) again
 
   signature_again : (ts rest : List Token) (word name opening closing : Token) (text : List ℕ) (params : List (List ℕ)) → IsWord bytes (codes "fn") word → IsIdentifier bytes text name → opening.kind ≡ OpenParen
@@ -247,8 +247,13 @@ module _ (bytes : List ℕ) where
   unfolding signature_at
   signature_again ts rest word name opening closing text params w is o spelled fits c =
       let read = params_again (length (ts ++ closing ∷ rest)) [] ts params (closing ∷ rest) spelled (begins_not Word CloseParen closing rest c refl) (begins_not Comma CloseParen closing rest c refl) fits (omega arith) in
-      rw (word_again bytes (codes "fn") word (name ∷ opening ∷ (ts ++ closing ∷ rest)) w, name_again bytes text name (opening ∷ (ts ++ closing ∷ rest)) is, mark_again OpenParen opening (ts ++ closing ∷ rest) o, read,
-        mark_again CloseParen closing rest c) refl
+      rw (
+        word_again bytes (codes "fn") word (name ∷ opening ∷ (ts ++ closing ∷ rest)) w,
+        name_again bytes text name (opening ∷ (ts ++ closing ∷ rest)) is,
+        mark_again OpenParen opening (ts ++ closing ∷ rest) o,
+        read,
+        mark_again CloseParen closing rest c,
+      ) refl
 
 -- ---- bodies
 
@@ -275,8 +280,8 @@ module _ (bytes : List ℕ) (params : List (List ℕ)) (fits : AreParams params)
       let made : ChainStep = record { sign = step.sign; at = op.span; atom = step.atom } in
       let same : made ≡ step = ap (λ (s : Span). record { sign = step.sign; at = s; atom = step.atom }) (sym at) in
       rw (sign_again step.sign op (t ∷ (others_text ++ rest)) sign, atom_again t (others_text ++ rest) step.atom span atom)
-        (chain_steps_again n (steps ++ made ∷ []) others_text others rest following stop (omega arith)
-        ∙ ap (λ (s : List ChainStep). read_as (s, rest)) (append_assoc steps (made ∷ []) others ∙ ap (λ (s : ChainStep). steps ++ s ∷ others) same))
+      (chain_steps_again n (steps ++ made ∷ []) others_text others rest following stop (omega arith)
+      ∙ ap (λ (s : List ChainStep). read_as (s, rest)) (append_assoc steps (made ∷ []) others ∙ ap (λ (s : ChainStep). steps ++ s ∷ others) same))
 
   chain_again : (ts : List Token) (c : Chain) (rest : List Token) → SpellsChain bytes params ts c → next_sign rest ≡ None → chain_at bytes params (ts ++ rest) ≡ Ok (c, rest)
   unfolding chain_at
@@ -287,8 +292,13 @@ module _ (bytes : List ℕ) (params : List (List ℕ)) (fits : AreParams params)
       → body_at bytes params (arrow ∷ type ∷ brace ∷ (body ++ end ∷ rest)) ≡ Ok (c, rest)
   unfolding body_at
   body_again body rest arrow type brace end c a t b spelled e =
-      rw (mark_again Arrow arrow (type ∷ brace ∷ (body ++ end ∷ rest)) a, word_again bytes (codes "i32") type (brace ∷ (body ++ end ∷ rest)) t, mark_again OpenBrace brace (body ++ end ∷ rest) b,
-        chain_again body c (end ∷ rest) spelled (no_sign CloseBrace end rest e refl), mark_again CloseBrace end rest e) refl
+      rw (
+        mark_again Arrow arrow (type ∷ brace ∷ (body ++ end ∷ rest)) a,
+        word_again bytes (codes "i32") type (brace ∷ (body ++ end ∷ rest)) t,
+        mark_again OpenBrace brace (body ++ end ∷ rest) b,
+        chain_again body c (end ∷ rest) spelled (no_sign CloseBrace end rest e refl),
+        mark_again CloseBrace end rest e,
+      ) refl
 
 -- ---- functions
 
@@ -306,7 +316,7 @@ function_again bytes _ _ (form.function {contract} {params} {body} {word} {name}
     let named = clauses_again bytes (Some f.params) f.params everything fits (length (contract ++ back)) [] contract f.clauses back clauses stop (omega arith) in
     let inside = body_again bytes f.params fits body [] arrow type brace end f.body a t b inside_spelled e in
     let same : record { name = text_of bytes name; span = name.span; params = f.params; clauses = seen_clauses (Some f.params) f.clauses; body = f.body } ≡ f =
-        ap (λ (x : List ℕ). record { name = x; span = name.span; params = f.params; clauses = seen_clauses (Some f.params) f.clauses; body = f.body }) is.word.spelled
-        ∙ ap (λ (s : Span). record { name = f.name; span = s; params = f.params; clauses = seen_clauses (Some f.params) f.clauses; body = f.body }) (sym span)
-        ∙ ap (λ (cs : List Clause). record { name = f.name; span = f.span; params = f.params; clauses = cs; body = f.body }) (all_clauses f.params f.clauses) in
+    ap (λ (x : List ℕ). record { name = x; span = name.span; params = f.params; clauses = seen_clauses (Some f.params) f.clauses; body = f.body }) is.word.spelled
+    ∙ ap (λ (s : Span). record { name = f.name; span = s; params = f.params; clauses = seen_clauses (Some f.params) f.clauses; body = f.body }) (sym span)
+    ∙ ap (λ (cs : List Clause). record { name = f.name; span = f.span; params = f.params; clauses = cs; body = f.body }) (all_clauses f.params f.clauses) in
     rw (shape, signature, named, inside) (ap (λ (g : Function). read_as g) same)

@@ -13,6 +13,6 @@ pub past_limit : (digits : List ℕ) (i value limit : ℕ) → i < length digits
     → cond (nat_lt (decimal digits) limit) (Some (decimal digits)) None ≡ None
 past_limit digits i value limit within rest past =
     let here : fold (λ n digit. 10 * n + (digit - 48)) value (drop i digits) ≡ fold (λ n digit. 10 * n + (digit - 48)) (10 * value + (get_or digits i 0 - 48)) (drop (suc i) digits) =
-        ap (fold (λ n digit. 10 * n + (digit - 48)) value) (drop-cons digits i 0 within) in
+    ap (fold (λ n digit. 10 * n + (digit - 48)) value) (drop-cons digits i 0 within) in
     let large : limit ≤ decimal digits = omega (arith, fold_at_least (drop (suc i) digits) (10 * value + (get_or digits i 0 - 48))) in
     rw (le-ltb (decimal digits) limit large) refl

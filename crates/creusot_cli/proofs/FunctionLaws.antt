@@ -113,13 +113,13 @@ pub function_took : (bytes : List ℕ) (ts : List Token) (f : Function) → func
 unfolding function_at
 function_took bytes ts f e =
     let a = bind_ok (clauses_at bytes None (length ts) [] ts) (λ shape. signature_at bytes shape.1 >>= λ signature. clauses_at bytes (Some signature.0.1) (length ts) [] ts >>= λ contract. body_at bytes signature.0.1 signature.1 >>= λ body.
-      (cond (length body.1 == 0) (Ok (record { name = text_of bytes signature.0.0; span = signature.0.0.span; params = signature.0.1; clauses = contract.0; body = body.0 })) (Err (length body.1)))) f e in
+    (cond (length body.1 == 0) (Ok (record { name = text_of bytes signature.0.0; span = signature.0.0.span; params = signature.0.1; clauses = contract.0; body = body.0 })) (Err (length body.1)))) f e in
     let b = bind_ok (signature_at bytes a.0.1) (λ signature. clauses_at bytes (Some signature.0.1) (length ts) [] ts >>= λ contract. body_at bytes signature.0.1 signature.1 >>= λ body.
-      (cond (length body.1 == 0) (Ok (record { name = text_of bytes signature.0.0; span = signature.0.0.span; params = signature.0.1; clauses = contract.0; body = body.0 })) (Err (length body.1)))) f a.2 in
+    (cond (length body.1 == 0) (Ok (record { name = text_of bytes signature.0.0; span = signature.0.0.span; params = signature.0.1; clauses = contract.0; body = body.0 })) (Err (length body.1)))) f a.2 in
     let c = bind_ok (clauses_at bytes (Some b.0.0.1) (length ts) [] ts) (λ contract. body_at bytes b.0.0.1 b.0.1 >>= λ body.
-      (cond (length body.1 == 0) (Ok (record { name = text_of bytes b.0.0.0; span = b.0.0.0.span; params = b.0.0.1; clauses = contract.0; body = body.0 })) (Err (length body.1)))) f b.2 in
+    (cond (length body.1 == 0) (Ok (record { name = text_of bytes b.0.0.0; span = b.0.0.0.span; params = b.0.0.1; clauses = contract.0; body = body.0 })) (Err (length body.1)))) f b.2 in
     let d = bind_ok (body_at bytes b.0.0.1 b.0.1) (λ body.
-      (cond (length body.1 == 0) (Ok (record { name = text_of bytes b.0.0.0; span = b.0.0.0.span; params = b.0.0.1; clauses = c.0.0; body = body.0 })) (Err (length body.1)))) f c.2 in
+    (cond (length body.1 == 0) (Ok (record { name = text_of bytes b.0.0.0; span = b.0.0.0.span; params = b.0.0.1; clauses = c.0.0; body = body.0 })) (Err (length body.1)))) f c.2 in
     let made : Function = record { name = text_of bytes b.0.0.0; span = b.0.0.0.span; params = b.0.0.1; clauses = c.0.0; body = d.0.0 } in
     let g = guard_ok (length d.0.1 == 0) made f (length d.0.1) d.2 in
     let signature = signature_took bytes a.0.1 b.0 b.1 in
@@ -127,16 +127,16 @@ function_took bytes ts f e =
     let body = body_took bytes b.0.0.1 b.0.1 d.0 d.1 in
     let ended : d.0.1 ≡ [] = nil_from_length d.0.1 (eqb-true (length d.0.1) 0 g.0) in
     let shape : clauses_at bytes None (length ts) [] ts ≡ Ok (seen_clauses None contract.new, c.0.1) =
-        ap (clauses_at bytes None (length ts) []) contract.parts
-        ∙ clauses_again bytes None b.0.0.1 nothing signature.fits (length ts) [] contract.used contract.new c.0.1 contract.spelled contract.ended (omega (arith, ap length contract.parts)) in
+    ap (clauses_at bytes None (length ts) []) contract.parts
+    ∙ clauses_again bytes None b.0.0.1 nothing signature.fits (length ts) [] contract.used contract.new c.0.1 contract.spelled contract.ended (omega (arith, ap length contract.parts)) in
     let same_rest : a.0.1 ≡ c.0.1 = ap (λ (x : List Clause × List Token). x.1) (ok_is a.0 (seen_clauses None contract.new, c.0.1) (sym a.1 ∙ shape)) in
     let inner : b.0.1 ≡ body.arrow ∷ body.type ∷ body.brace ∷ (body.used ++ body.end ∷ []) = body.parts ∙ ap (λ (r : List Token). body.arrow ∷ body.type ∷ body.brace ∷ (body.used ++ body.end ∷ r)) ended in
     let whole : ts ≡ contract.used ++ signature.word ∷ b.0.0.0 ∷ signature.opening ∷ (signature.used ++ signature.closing ∷ body.arrow ∷ body.type ∷ body.brace ∷ (body.used ++ body.end ∷ [])) =
-        contract.parts ∙ ap (λ (r : List Token). contract.used ++ r)
-          (sym same_rest ∙ signature.parts ∙ ap (λ (r : List Token). signature.word ∷ b.0.0.0 ∷ signature.opening ∷ (signature.used ++ signature.closing ∷ r)) inner) in
+    contract.parts ∙ ap (λ (r : List Token). contract.used ++ r)
+    (sym same_rest ∙ signature.parts ∙ ap (λ (r : List Token). signature.word ∷ b.0.0.0 ∷ signature.opening ∷ (signature.used ++ signature.closing ∷ r)) inner) in
     let spelled : SpellsFunction bytes (contract.used ++ signature.word ∷ b.0.0.0 ∷ signature.opening ∷ (signature.used ++ signature.closing ∷ body.arrow ∷ body.type ∷ body.brace ∷ (body.used ++ body.end ∷ []))) made =
-        form.function signature.opening signature.closing body.arrow body.brace body.end {f = made} (subst (λ (cs : List Clause). SpellsClauses bytes b.0.0.1 contract.used cs) (sym contract.whole) contract.spelled)
-          signature.is_word signature.is_name refl signature.is_opening signature.spelled signature.fits signature.is_closing body.is_arrow body.is_type body.is_brace body.spelled body.is_end in
+    form.function signature.opening signature.closing body.arrow body.brace body.end {f = made} (subst (λ (cs : List Clause). SpellsClauses bytes b.0.0.1 contract.used cs) (sym contract.whole) contract.spelled)
+    signature.is_word signature.is_name refl signature.is_opening signature.spelled signature.fits signature.is_closing body.is_arrow body.is_type body.is_brace body.spelled body.is_end in
     subst (λ (h : Function). SpellsFunction bytes ts h) g.1 (subst (λ (us : List Token). SpellsFunction bytes us made) (sym whole) spelled)
 
 -- a text spells at most one function

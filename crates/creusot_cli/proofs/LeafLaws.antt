@@ -300,21 +300,21 @@ no_params = record { distinct = λ j k name h i. absurd cc; no_result = λ k h. 
 -- one parameter more
 pub one_more : (params : List (List ℕ)) (x : List ℕ) → AreParams params → place_of x params ≡ None → (x ≡ codes "result" → ⊥) → AreParams (params ++ x ∷ [])
 one_more params x fits new free = record {
-    distinct = λ j k name h i. elim (get_pushed params x j name h) [
-      | inl a ↦ elim (get_pushed params x k name i) [
-        | inl b ↦ fits.distinct j k name a b
-        | inr b ↦ absurd (place_none x params j new (a ∙ ap (λ (n : List ℕ). Some n) (sym b.1)))
-      ]
-      | inr a ↦ elim (get_pushed params x k name i) [
-        | inl b ↦ absurd (place_none x params k new (b ∙ ap (λ (n : List ℕ). Some n) (sym a.1)))
-        | inr b ↦ a.0 ∙ sym b.0
-      ]
-    ];
-    no_result = λ k h. elim (get_pushed params x k (codes "result") h) [
-      | inl a ↦ fits.no_result k a
-      | inr a ↦ free a.1
-    ];
-  }
+  distinct = λ j k name h i. elim (get_pushed params x j name h) [
+    | inl a ↦ elim (get_pushed params x k name i) [
+      | inl b ↦ fits.distinct j k name a b
+      | inr b ↦ absurd (place_none x params j new (a ∙ ap (λ (n : List ℕ). Some n) (sym b.1)))
+    ]
+    | inr a ↦ elim (get_pushed params x k name i) [
+      | inl b ↦ absurd (place_none x params k new (b ∙ ap (λ (n : List ℕ). Some n) (sym a.1)))
+      | inr b ↦ a.0 ∙ sym b.0
+    ]
+  ];
+  no_result = λ k h. elim (get_pushed params x k (codes "result") h) [
+    | inl a ↦ fits.no_result k a
+    | inr a ↦ free a.1
+  ];
+}
 
 new_by : (o : Option ℕ) (params others : List (List ℕ)) (x : List ℕ) → place_of x params ≡ o → AreParams (params ++ x ∷ others) → o ≡ None
 new_by None params others x e fits = refl

@@ -128,7 +128,7 @@ module _ (bytes : List ℕ) (names : Option (List (List ℕ))) (kind : ClauseKin
       let first = item_took next.2 item read in
       let step : SumStep = record { sign = next.0; item = item.0 } in
       let parts : ts ≡ (next.1 ∷ (first.used ++ more.used)) ++ x.1 =
-          sign.0 ∙ ap (λ (r : List Token). next.1 ∷ r) (first.parts ∙ ap (λ (r : List Token). first.used ++ r) more.parts ∙ sym (append_assoc first.used more.used x.1)) in
+      sign.0 ∙ ap (λ (r : List Token). next.1 ∷ r) (first.parts ∙ ap (λ (r : List Token). first.used ++ r) more.parts ∙ sym (append_assoc first.used more.used x.1)) in
       record {
         new = step ∷ more.new;
         whole = more.whole ∙ append_assoc steps (step ∷ []) more.new;
@@ -149,8 +149,8 @@ module _ (bytes : List ℕ) (names : Option (List (List ℕ))) (kind : ClauseKin
       elim (next_sign ts) as (λ o. next_sign ts ≡ o → option_map_or (λ next. item_at bytes names kind next.2 >>= λ item. steps_at bytes names kind n (steps ++ record { sign = next.0; item = item.0 } ∷ []) item.1) o (Ok (steps, ts)) ≡ Ok x → TookSteps (suc n) steps x.0 ts x.1) [
         | None ↦ λ o e. stopped (suc n) steps ts x (ok_is (steps, ts) x e)
         | Some next ↦ λ o e.
-          let a = bind_ok (item_at bytes names kind next.2) (λ item. steps_at bytes names kind n (steps ++ record { sign = next.0; item = item.0 } ∷ []) item.1) x e in
-          one_step n steps ts next a.0 x o a.1 (steps_took n (steps ++ record { sign = next.0; item = a.0.0 } ∷ []) a.0.1 x a.2)
+            let a = bind_ok (item_at bytes names kind next.2) (λ item. steps_at bytes names kind n (steps ++ record { sign = next.0; item = item.0 } ∷ []) item.1) x e in
+            one_step n steps ts next a.0 x o a.1 (steps_took n (steps ++ record { sign = next.0; item = a.0.0 } ∷ []) a.0.1 x a.2)
       ] refl e
 
   pub sum_took : (ts : List Token) (x : Sum × List Token) → sum_at bytes names kind ts ≡ Ok x → Took (λ params used. SpellsSum bytes params kind used x.0) names ts x.1
@@ -246,11 +246,11 @@ module _ (bytes : List ℕ) (names : Option (List (List ℕ))) where
   unfolding term_at
   term_took kind ts x e =
       let a = bind_ok (sum_at bytes names kind ts)
-        (λ left. comparison_at left.1 >>= λ sign. sum_at bytes names kind sign.1 >>= λ right. Ok (record { kind = kind; span = cover_until ts right.1; left = left.0; comparison = sign.0; right = right.0 }, right.1)) x e in
+      (λ left. comparison_at left.1 >>= λ sign. sum_at bytes names kind sign.1 >>= λ right. Ok (record { kind = kind; span = cover_until ts right.1; left = left.0; comparison = sign.0; right = right.0 }, right.1)) x e in
       let b = bind_ok (comparison_at a.0.1)
-        (λ sign. sum_at bytes names kind sign.1 >>= λ right. Ok (record { kind = kind; span = cover_until ts right.1; left = a.0.0; comparison = sign.0; right = right.0 }, right.1)) x a.2 in
+      (λ sign. sum_at bytes names kind sign.1 >>= λ right. Ok (record { kind = kind; span = cover_until ts right.1; left = a.0.0; comparison = sign.0; right = right.0 }, right.1)) x a.2 in
       let c = bind_ok (sum_at bytes names kind b.0.1)
-        (λ right. Ok (record { kind = kind; span = cover_until ts right.1; left = a.0.0; comparison = b.0.0; right = right.0 }, right.1)) x b.2 in
+      (λ right. Ok (record { kind = kind; span = cover_until ts right.1; left = a.0.0; comparison = b.0.0; right = right.0 }, right.1)) x b.2 in
       let left = sum_took bytes names kind ts a.0 a.1 in
       let sign = comparison_took a.0.1 b.0 b.1 in
       let right = sum_took bytes names kind b.0.1 c.0 c.1 in
@@ -283,16 +283,16 @@ module _ (bytes : List ℕ) (names : Option (List (List ℕ))) where
       let back : b.0.1 ≡ c.0.0 ∷ d.0.0 ∷ d.0.1 = closing.0 ∙ ap (λ (r : List Token). c.0.0 ∷ r) end.0 in
       let inner : List Token = term.left ++ term.sign ∷ (term.right ++ c.0.0 ∷ d.0.0 ∷ []) in
       let tail : a.0.1 ≡ inner ++ d.0.1 =
-          term.parts ∙ ap (λ (r : List Token). term.left ++ term.sign ∷ (term.right ++ r)) back
-          ∙ ap (λ (r : List Token). term.left ++ term.sign ∷ r) (sym (append_assoc term.right (c.0.0 ∷ d.0.0 ∷ []) d.0.1))
-          ∙ sym (append_assoc term.left (term.sign ∷ (term.right ++ c.0.0 ∷ d.0.0 ∷ [])) d.0.1) in
+      term.parts ∙ ap (λ (r : List Token). term.left ++ term.sign ∷ (term.right ++ r)) back
+      ∙ ap (λ (r : List Token). term.left ++ term.sign ∷ r) (sym (append_assoc term.right (c.0.0 ∷ d.0.0 ∷ []) d.0.1))
+      ∙ sym (append_assoc term.left (term.sign ∷ (term.right ++ c.0.0 ∷ d.0.0 ∷ [])) d.0.1) in
       let whole : ts ≡ (head.hash ∷ head.opening ∷ head.word ∷ head.paren ∷ inner) ++ d.0.1 = head.parts ∙ ap (λ (r : List Token). head.hash ∷ head.opening ∷ head.word ∷ head.paren ∷ r) tail in
       subst (λ (y : Clause × List Token). Took (λ params used. SpellsClause bytes params used y.0) names ts y.1) (ok_is (b.0.0, d.0.1) x d.2) (record {
         used = head.hash ∷ head.opening ∷ head.word ∷ head.paren ∷ inner;
         parts = whole;
         shorter = omega (arith, ap length whole, length-append inner d.0.1);
         spelled = λ params known. form.clause {left = term.left} {right = term.right} term.sign c.0.0 d.0.0 {c = b.0.0} head.is_hash head.is_opening (subst (λ (k : ClauseKind). IsWord bytes (kind_word k) head.word) term.same_kind head.is_word) head.is_paren
-          (term.spelled_left params known) term.is_sign (term.spelled_right params known) term.span closing.1 end.1;
+            (term.spelled_left params known) term.is_sign (term.spelled_right params known) term.span closing.1 end.1;
       })
 
 -- the clauses that were read after others
@@ -322,17 +322,17 @@ clauses_took bytes params (suc n) clauses ts x le e =
     elim (begins Hash ts) as (λ b. begins Hash ts ≡ b → cond b (clause_at bytes (Some params) ts >>= λ clause. clauses_at bytes (Some params) n (clauses ++ clause.0 ∷ []) clause.1) (Ok (clauses, ts)) ≡ Ok x → TookClauses bytes params clauses x.0 ts x.1) [
       | false ↦ λ h e. clauses_stopped bytes params clauses ts x h (ok_is (clauses, ts) x e)
       | true ↦ λ h e.
-        let a = bind_ok (clause_at bytes (Some params) ts) (λ clause. clauses_at bytes (Some params) n (clauses ++ clause.0 ∷ []) clause.1) x e in
-        let first = clause_took bytes (Some params) ts a.0 a.1 in
-        let rest = clauses_took bytes params n (clauses ++ a.0.0 ∷ []) a.0.1 x (omega (arith, first.shorter)) a.2 in
-        record {
-          new = a.0.0 ∷ rest.new;
-          whole = rest.whole ∙ append_assoc clauses (a.0.0 ∷ []) rest.new;
-          used = first.used ++ rest.used;
-          parts = first.parts ∙ ap (λ (r : List Token). first.used ++ r) rest.parts ∙ sym (append_assoc first.used rest.used x.1);
-          spelled = form.more (first.spelled params refl) rest.spelled;
-          ended = rest.ended;
-        }
+          let a = bind_ok (clause_at bytes (Some params) ts) (λ clause. clauses_at bytes (Some params) n (clauses ++ clause.0 ∷ []) clause.1) x e in
+          let first = clause_took bytes (Some params) ts a.0 a.1 in
+          let rest = clauses_took bytes params n (clauses ++ a.0.0 ∷ []) a.0.1 x (omega (arith, first.shorter)) a.2 in
+          record {
+            new = a.0.0 ∷ rest.new;
+            whole = rest.whole ∙ append_assoc clauses (a.0.0 ∷ []) rest.new;
+            used = first.used ++ rest.used;
+            parts = first.parts ∙ ap (λ (r : List Token). first.used ++ r) rest.parts ∙ sym (append_assoc first.used rest.used x.1);
+            spelled = form.more (first.spelled params refl) rest.spelled;
+            ended = rest.ended;
+          }
     ] refl e
 
 -- ---- parameters
@@ -406,31 +406,31 @@ params_took bytes (suc n) params ts x e =
     elim (begins Word ts) as (λ b. cond b (param_at bytes params ts >>= λ param. cond (begins Comma param.1) (params_at bytes n (params ++ text_of bytes param.0 ∷ []) (drop 1 param.1)) (Ok (params ++ text_of bytes param.0 ∷ [], param.1))) (Ok (params, ts)) ≡ Ok x → TookParams bytes params x.0 ts x.1) [
       | false ↦ λ e. params_stopped bytes params ts x (ok_is (params, ts) x e)
       | true ↦ λ e.
-        let a = bind_ok (param_at bytes params ts) (λ param. cond (begins Comma param.1) (params_at bytes n (params ++ text_of bytes param.0 ∷ []) (drop 1 param.1)) (Ok (params ++ text_of bytes param.0 ∷ [], param.1))) x e in
-        let p = param_took bytes params ts a.0 a.1 in
-        let name : List ℕ = text_of bytes a.0.0 in
-        elim (begins Comma a.0.1) as (λ b. begins Comma a.0.1 ≡ b → cond b (params_at bytes n (params ++ name ∷ []) (drop 1 a.0.1)) (Ok (params ++ name ∷ [], a.0.1)) ≡ Ok x → TookParams bytes params x.0 ts x.1) [
-          | true ↦ λ next e.
-            let comma = comma_took a.0.1 next in
-            let rest = params_took bytes n (params ++ name ∷ []) (drop 1 a.0.1) x e in
-            record {
-              new = name ∷ rest.new;
-              whole = rest.whole ∙ append_assoc params (name ∷ []) rest.new;
-              used = a.0.0 ∷ p.colon ∷ p.type ∷ comma.0 ∷ rest.used;
-              parts = p.parts ∙ ap (λ (r : List Token). a.0.0 ∷ p.colon ∷ p.type ∷ r) (comma.1 ∙ ap (λ (r : List Token). comma.0 ∷ r) rest.parts);
-              spelled = form.more p.is_name p.is_colon p.is_type comma.2 rest.spelled;
-              fits = λ fits. rest.fits (one_more params name fits p.no_place p.no_result);
-            }
-          | false ↦ λ next e.
-            subst (λ (y : List (List ℕ) × List Token). TookParams bytes params y.0 ts y.1) (ok_is (params ++ name ∷ [], a.0.1) x e) (record {
-              new = name ∷ [];
-              whole = refl;
-              used = a.0.0 ∷ p.colon ∷ p.type ∷ [];
-              parts = p.parts;
-              spelled = form.last p.is_name p.is_colon p.is_type;
-              fits = λ fits. one_more params name fits p.no_place p.no_result;
-            })
-        ] refl a.2
+          let a = bind_ok (param_at bytes params ts) (λ param. cond (begins Comma param.1) (params_at bytes n (params ++ text_of bytes param.0 ∷ []) (drop 1 param.1)) (Ok (params ++ text_of bytes param.0 ∷ [], param.1))) x e in
+          let p = param_took bytes params ts a.0 a.1 in
+          let name : List ℕ = text_of bytes a.0.0 in
+          elim (begins Comma a.0.1) as (λ b. begins Comma a.0.1 ≡ b → cond b (params_at bytes n (params ++ name ∷ []) (drop 1 a.0.1)) (Ok (params ++ name ∷ [], a.0.1)) ≡ Ok x → TookParams bytes params x.0 ts x.1) [
+            | true ↦ λ next e.
+                let comma = comma_took a.0.1 next in
+                let rest = params_took bytes n (params ++ name ∷ []) (drop 1 a.0.1) x e in
+                record {
+                  new = name ∷ rest.new;
+                  whole = rest.whole ∙ append_assoc params (name ∷ []) rest.new;
+                  used = a.0.0 ∷ p.colon ∷ p.type ∷ comma.0 ∷ rest.used;
+                  parts = p.parts ∙ ap (λ (r : List Token). a.0.0 ∷ p.colon ∷ p.type ∷ r) (comma.1 ∙ ap (λ (r : List Token). comma.0 ∷ r) rest.parts);
+                  spelled = form.more p.is_name p.is_colon p.is_type comma.2 rest.spelled;
+                  fits = λ fits. rest.fits (one_more params name fits p.no_place p.no_result);
+                }
+            | false ↦ λ next e.
+                subst (λ (y : List (List ℕ) × List Token). TookParams bytes params y.0 ts y.1) (ok_is (params ++ name ∷ [], a.0.1) x e) (record {
+                  new = name ∷ [];
+                  whole = refl;
+                  used = a.0.0 ∷ p.colon ∷ p.type ∷ [];
+                  parts = p.parts;
+                  spelled = form.last p.is_name p.is_colon p.is_type;
+                  fits = λ fits. one_more params name fits p.no_place p.no_result;
+                })
+          ] refl a.2
     ] e
 
 -- ---- bodies
@@ -483,19 +483,19 @@ module _ (bytes : List ℕ) (params : List (List ℕ)) where
       elim (next_sign ts) as (λ o. next_sign ts ≡ o → option_map_or (λ next. atom_at bytes params next.2 >>= λ atom. chain_steps_at bytes params n (steps ++ record { sign = next.0; at = next.1.span; atom = atom.0 } ∷ []) atom.1) o (Ok (steps, ts)) ≡ Ok x → TookChainSteps (suc n) steps x.0 ts x.1) [
         | None ↦ λ o e. chain_stopped (suc n) steps ts x (ok_is (steps, ts) x e)
         | Some next ↦ λ o e.
-          let a = bind_ok (atom_at bytes params next.2) (λ atom. chain_steps_at bytes params n (steps ++ record { sign = next.0; at = next.1.span; atom = atom.0 } ∷ []) atom.1) x e in
-          let sign = sign_took ts next o in
-          let atom = atom_took next.2 a.0 a.1 in
-          let step : ChainStep = record { sign = next.0; at = next.1.span; atom = a.0.0 } in
-          let rest = chain_steps_took n (steps ++ step ∷ []) a.0.1 x a.2 in
-          record {
-            new = step ∷ rest.new;
-            whole = rest.whole ∙ append_assoc steps (step ∷ []) rest.new;
-            used = next.1 ∷ atom.0 ∷ rest.used;
-            parts = sign.0 ∙ ap (λ (r : List Token). next.1 ∷ r) (atom.1 ∙ ap (λ (r : List Token). atom.0 ∷ r) rest.parts);
-            few = omega (arith, rest.few);
-            spelled = form.more {step = step} sign.1 refl atom.2 atom.3 rest.spelled;
-          }
+            let a = bind_ok (atom_at bytes params next.2) (λ atom. chain_steps_at bytes params n (steps ++ record { sign = next.0; at = next.1.span; atom = atom.0 } ∷ []) atom.1) x e in
+            let sign = sign_took ts next o in
+            let atom = atom_took next.2 a.0 a.1 in
+            let step : ChainStep = record { sign = next.0; at = next.1.span; atom = a.0.0 } in
+            let rest = chain_steps_took n (steps ++ step ∷ []) a.0.1 x a.2 in
+            record {
+              new = step ∷ rest.new;
+              whole = rest.whole ∙ append_assoc steps (step ∷ []) rest.new;
+              used = next.1 ∷ atom.0 ∷ rest.used;
+              parts = sign.0 ∙ ap (λ (r : List Token). next.1 ∷ r) (atom.1 ∙ ap (λ (r : List Token). atom.0 ∷ r) rest.parts);
+              few = omega (arith, rest.few);
+              spelled = form.more {step = step} sign.1 refl atom.2 atom.3 rest.spelled;
+            }
       ] refl e
 
   pub chain_took : (ts : List Token) (x : Chain × List Token) → chain_at bytes params ts ≡ Ok x → (used : List Token) × (ts ≡ used ++ x.1) × SpellsChain bytes params used x.0
@@ -508,7 +508,8 @@ module _ (bytes : List ℕ) (params : List (List ℕ)) where
       let made : Chain × List Token = (record { first = a.0.0; rest = b.0.0 }, b.0.1) in
       let whole : b.0.0 ≡ rest.new = rest.whole in
       let few : length b.0.0 ≤ 256 = rw whole rest.few in
-      subst (λ (y : Chain × List Token). (used : List Token) × (ts ≡ used ++ y.1) × SpellsChain bytes params used y.0) (ok_is made x b.2)
-        ( first.0 ∷ rest.used
-        , first.1 ∙ ap (λ (r : List Token). first.0 ∷ r) rest.parts
-        , form.chain {c = made.0} first.2 first.3 (subst (λ (s : List ChainStep). SpellsChainSteps bytes params rest.used s) (sym whole) rest.spelled) few)
+      subst (λ (y : Chain × List Token). (used : List Token) × (ts ≡ used ++ y.1) × SpellsChain bytes params used y.0) (ok_is made x b.2) (
+        first.0 ∷ rest.used,
+        first.1 ∙ ap (λ (r : List Token). first.0 ∷ r) rest.parts,
+        form.chain {c = made.0} first.2 first.3 (subst (λ (s : List ChainStep). SpellsChainSteps bytes params rest.used s) (sym whole) rest.spelled) few,
+      )

@@ -13,5 +13,7 @@ pub use form::{
     Atom, AtomKind, Chain, ChainStep, Clause, ClauseKind, Comparison, Function, Item, Sign, Sum,
     SumStep,
 };
-
 pub use reader::read_function;
+
+#[cfg(test)]
+mod tests;

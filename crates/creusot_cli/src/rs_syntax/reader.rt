@@ -63,15 +63,11 @@ pub fn read_function(alloc: Global, bytes: &[u8]) -> Result<Function, PassError>
     requires { length bytes.now < 2 ^ 31 }
     ensures ok { IfOk result (λ f. Spells bytes.now f) }
     ensures refused { (e : SourceError) → result ≡ Err (Source e) → (f : Function) → Spells bytes.now f → ⊥ }
-    ensures code {
-        (e : SourceError) → result ≡ Err (Source e)
-        → (e.code ≡ E20) × (e.other ≡ None) × (e.span.start ≤ e.span.end) × (e.span.end ≤ length bytes.now)
-    }
+    ensures code { (e : SourceError) → result ≡ Err (Source e)
+        → (e.code ≡ E20) × (e.other ≡ None) × (e.span.start ≤ e.span.end) × (e.span.end ≤ length bytes.now) }
     // Which token it is: the one at which reading stops.
-    ensures place {
-        (e : SourceError) (tokens : List Token) → result ≡ Err (Source e) → AreTokens 0 bytes.now tokens
-        → (left : ℕ) × (function_at bytes.now tokens ≡ Err left) × (e.span ≡ place_left bytes.now tokens left)
-    }
+    ensures place { (e : SourceError) (tokens : List Token) → result ≡ Err (Source e) → AreTokens 0 bytes.now tokens
+        → (left : ℕ) × (function_at bytes.now tokens ≡ Err left) × (e.span ≡ place_left bytes.now tokens left) }
 {
     let tokens = tokens(alloc, bytes)?;
     match function(alloc, bytes, &tokens) {

@@ -8,13 +8,13 @@ use Rattle.creusot_cli.proofs.rs_syntax.body.steps.Goals as goal
 pub returns-then-len-eq-MAX_SIGNS : goal.returns-then-len-eq-MAX_SIGNS
 returns-then-len-eq-MAX_SIGNS c =
     chain_full c.args.bytes.now c.args.params.now c.loop-sign.steps.items c.loop-sign.rest.now (chain_steps_at c.args.bytes.now c.args.params.now 256 [] c.args.tokens.now)
-      (c.in-Some.sign, c.in-Some.operator, c.in-Some.after.now) (omega arith) c.in-Some.ensures c.loop-sign.invariant.same
+    (c.in-Some.sign, c.in-Some.operator, c.in-Some.after.now) (omega arith) c.in-Some.ensures c.loop-sign.invariant.same
 
 pub returns-in_err-atom : goal.returns-in_err-atom
 returns-in_err-atom c =
     let p = err_from_is_err_and c.from_residual.result c.from_residual.ensures.1 in
     rw (p.1, p.2) (chain_fails c.args.bytes.now c.args.params.now c.loop-sign.steps.items c.loop-sign.rest.now (chain_steps_at c.args.bytes.now c.args.params.now 256 [] c.args.tokens.now)
-      c.in_err-atom.field-0.0 c.in-Some.sign c.in-Some.operator c.in-Some.after.now (omega arith) c.in-Some.ensures c.in_err-atom.ensures c.loop-sign.invariant.same)
+    c.in_err-atom.field-0.0 c.in-Some.sign c.in-Some.operator c.in-Some.after.now (omega arith) c.in-Some.ensures c.in_err-atom.ensures c.loop-sign.invariant.same)
 
 pub loop-sign-preserved : goal.loop-sign-preserved
 loop-sign-preserved c =
@@ -22,10 +22,10 @@ loop-sign-preserved c =
     record {
       few = rw (c.in_ok-push.ensures.items, length-append) (omega arith);
       same = rw (c.in_ok-push.ensures.items, length-append) (chain_goes_on c.args.bytes.now c.args.params.now c.loop-sign.steps.items c.loop-sign.rest.now (chain_steps_at c.args.bytes.now c.args.params.now 256 [] c.args.tokens.now)
-        c.in-Some.sign c.in-Some.operator c.in-Some.after.now c.in_ok-atom.atom c.in_ok-atom.after.now few c.in-Some.ensures c.in_ok-atom.ensures c.loop-sign.invariant.same);
+          c.in-Some.sign c.in-Some.operator c.in-Some.after.now c.in_ok-atom.atom c.in_ok-atom.after.now few c.in-Some.ensures c.in_ok-atom.ensures c.loop-sign.invariant.same);
     }
 
 pub returns : goal.returns
 returns c =
     chain_ends c.args.bytes.now c.args.params.now c.loop-sign.steps.items c.loop-sign.rest.now (chain_steps_at c.args.bytes.now c.args.params.now 256 [] c.args.tokens.now)
-      c.in_default.ensures c.loop-sign.invariant.same
+    c.in_default.ensures c.loop-sign.invariant.same

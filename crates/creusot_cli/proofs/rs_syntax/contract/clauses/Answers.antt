@@ -19,7 +19,7 @@ returns-in_err-clause-clause-given c =
     let next = sym c.begins.ensures ∙ c.loop-alloc-test.true in
     let same = c.loop-alloc.invariant.same in
     rw (p.1, p.2) (clauses_fail c.args.bytes.now (option_copied c.args.names) c.loop-alloc.clauses.items c.loop-alloc.rest.now (clauses_at c.args.bytes.now (option_copied c.args.names) (length c.args.tokens.now) [] c.args.tokens.now)
-      same.0 c.in_err-clause.field-0.0 next (begins_some Hash c.loop-alloc.rest.now next) same.1 c.in_err-clause.ensures same.2)
+    same.0 c.in_err-clause.field-0.0 next (begins_some Hash c.loop-alloc.rest.now next) same.1 c.in_err-clause.ensures same.2)
 
 pub loop-alloc-smaller : goal.loop-alloc-smaller
 loop-alloc-smaller c = (clause_took c.args.bytes.now (option_copied c.args.names) c.loop-alloc.rest.now (c.in_ok-clause.clause, c.in_ok-clause.after.now) c.in_ok-clause.ensures).shorter
@@ -31,11 +31,11 @@ loop-alloc-preserved c =
     record {
       within = omega arith;
       same = rw c.in_ok-push.ensures.items (clauses_go_on c.args.bytes.now (option_copied c.args.names) c.loop-alloc.clauses.items c.loop-alloc.rest.now (clauses_at c.args.bytes.now (option_copied c.args.names) (length c.args.tokens.now) [] c.args.tokens.now)
-        same.0 c.in_ok-clause.clause c.in_ok-clause.after.now (sym c.begins.ensures ∙ c.loop-alloc-test.true) c.in_ok-clause.ensures shorter same.1 same.2);
+          same.0 c.in_ok-clause.clause c.in_ok-clause.after.now (sym c.begins.ensures ∙ c.loop-alloc-test.true) c.in_ok-clause.ensures shorter same.1 same.2);
     }
 
 pub returns-clause-given : goal.returns-clause-given
 returns-clause-given c =
     let same = c.loop-alloc.invariant.same in
     clauses_end c.args.bytes.now (option_copied c.args.names) c.loop-alloc.clauses.items c.loop-alloc.rest.now (clauses_at c.args.bytes.now (option_copied c.args.names) (length c.args.tokens.now) [] c.args.tokens.now)
-      same.0 (sym c.begins.ensures ∙ c.loop-alloc-test.false) same.2
+    same.0 (sym c.begins.ensures ∙ c.loop-alloc-test.false) same.2

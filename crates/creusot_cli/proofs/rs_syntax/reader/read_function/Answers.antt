@@ -28,13 +28,14 @@ returns-in-Err-Refused-clause-code c = λ e is.
     let within = place_within c.args.bytes.now c.deref-in-Err-Refused.result.now c.in-Err-Refused.left tokens in
     let made : SourceError = record { code = E20; span = c.place_left.result; other = None } in
     subst (λ (d : SourceError). (d.code ≡ E20) × (d.other ≡ None) × (d.span.start ≤ d.span.end) × (d.span.end ≤ length c.args.bytes.now)) (is_source made e is)
-      (refl, refl, rw c.place_left.ensures within.0, rw c.place_left.ensures within.1)
+    (refl, refl, rw c.place_left.ensures within.0, rw c.place_left.ensures within.1)
 
 pub returns-in-Err-Refused-clause-place : goal.returns-in-Err-Refused-clause-place
 returns-in-Err-Refused-clause-place c = λ e tokens is lexed.
     let refused = refusal c.in-Err-Refused.field-0 c.in-Err-Refused.left (function_at c.args.bytes.now c.deref.result.now) c.in-Err-Refused.field-0-is c.in-Err-Refused.ensures in
     let same : c.in_ok-tokens.tokens.items ≡ tokens = one_list 0 c.args.bytes.now c.in_ok-tokens.tokens.items tokens c.in_ok-tokens.ensures.spelled lexed in
-    let made : SourceError = record { code = E20; span = c.place_left.result; other = None } in
-    ( c.in-Err-Refused.left
-    , ap (function_at c.args.bytes.now) (sym (c.deref.ensures.value ∙ same)) ∙ refused
-    , ap (λ (d : SourceError). d.span) (sym (is_source made e is)) ∙ c.place_left.ensures ∙ ap (λ (ts : List Token). place_left c.args.bytes.now ts c.in-Err-Refused.left) (c.deref-in-Err-Refused.ensures.value ∙ same) )
+    let made : SourceError = record { code = E20; span = c.place_left.result; other = None } in (
+      c.in-Err-Refused.left,
+      ap (function_at c.args.bytes.now) (sym (c.deref.ensures.value ∙ same)) ∙ refused,
+      ap (λ (d : SourceError). d.span) (sym (is_source made e is)) ∙ c.place_left.ensures ∙ ap (λ (ts : List Token). place_left c.args.bytes.now ts c.in-Err-Refused.left) (c.deref-in-Err-Refused.ensures.value ∙ same),
+    )
