@@ -4,3 +4,11 @@ pub mod LoweredBody
 pub mod LoweredForm
 pub mod Simulation
 pub mod SimulationSteps
+pub mod DecimalLaws
+pub mod SpanLaws
+pub mod TokenLaws
+pub mod LoopLaws
+pub mod LeafLaws
+pub mod ReadLaws
+pub mod AgainLaws
+pub mod FunctionLaws

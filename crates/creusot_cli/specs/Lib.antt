@@ -1,2 +1,5 @@
 pub mod MirBuild
 pub mod WpGen
+pub mod SourceForm
+pub mod SourceFormReading
+pub mod SourceTokens

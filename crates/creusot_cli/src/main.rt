@@ -2,5 +2,6 @@
 #![tactic(auto)]
 
 mod rs_syntax;
+mod rs_tokens;
 
 fn main() {}

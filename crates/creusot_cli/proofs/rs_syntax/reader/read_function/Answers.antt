@@ -1,0 +1,41 @@
+use Rattle.std.proofs.Common.{◌≡◌, ℕ, ◌≤◌, List, length, Err, refl, ap, sym, subst, ◌∙◌}
+use Rattle.text_core.specs.declared.refusal.Code.TheVariants.{E20}
+use Rattle.text_core.specs.declared.refusal.SourceError.{SourceError}
+use Rattle.std.specs.Prelude.{None}
+use Rattle.creusot_cli.specs.declared.rs_tokens.token.Token.{Token}
+use Rattle.creusot_cli.specs.SourceTokens.{AreTokens}
+use Rattle.creusot_cli.specs.SourceFormReading.{function_at, place_left}
+use Rattle.creusot_cli.proofs.TokenLaws.{one_list}
+use Rattle.creusot_cli.proofs.FunctionLaws.{function_took, refused_spells_nothing, refusal, place_within, is_source}
+use Rattle.creusot_cli.proofs.rs_syntax.reader.read_function.Goals as goal
+
+pub returns-in-Ok-clause-ok : goal.returns-in-Ok-clause-ok
+returns-in-Ok-clause-ok c = record {
+  tokens = c.deref.result.now;
+  lexed = subst (λ (ts : List Token). AreTokens 0 c.args.bytes.now ts) (sym c.deref.ensures.value) c.in_ok-tokens.ensures.spelled;
+  parsed = function_took c.args.bytes.now c.deref.result.now c.in-Ok.function c.in-Ok.ensures;
+}
+
+pub returns-in-Err-Refused-clause-refused : goal.returns-in-Err-Refused-clause-refused
+returns-in-Err-Refused-clause-refused c =
+    let tokens : AreTokens 0 c.args.bytes.now c.deref.result.now = subst (λ (ts : List Token). AreTokens 0 c.args.bytes.now ts) (sym c.deref.ensures.value) c.in_ok-tokens.ensures.spelled in
+    let refused = refusal c.in-Err-Refused.field-0 c.in-Err-Refused.left (function_at c.args.bytes.now c.deref.result.now) c.in-Err-Refused.field-0-is c.in-Err-Refused.ensures in
+    λ e is f spelled. refused_spells_nothing c.args.bytes.now c.deref.result.now c.in-Err-Refused.left f tokens refused spelled
+
+pub returns-in-Err-Refused-clause-code : goal.returns-in-Err-Refused-clause-code
+returns-in-Err-Refused-clause-code c = λ e is.
+    let tokens : AreTokens 0 c.args.bytes.now c.deref-in-Err-Refused.result.now = subst (λ (ts : List Token). AreTokens 0 c.args.bytes.now ts) (sym c.deref-in-Err-Refused.ensures.value) c.in_ok-tokens.ensures.spelled in
+    let within = place_within c.args.bytes.now c.deref-in-Err-Refused.result.now c.in-Err-Refused.left tokens in
+    let made : SourceError = record { code = E20; span = c.place_left.result; other = None } in
+    subst (λ (d : SourceError). (d.code ≡ E20) × (d.other ≡ None) × (d.span.start ≤ d.span.end) × (d.span.end ≤ length c.args.bytes.now)) (is_source made e is)
+    (refl, refl, rw c.place_left.ensures within.0, rw c.place_left.ensures within.1)
+
+pub returns-in-Err-Refused-clause-place : goal.returns-in-Err-Refused-clause-place
+returns-in-Err-Refused-clause-place c = λ e tokens is lexed.
+    let refused = refusal c.in-Err-Refused.field-0 c.in-Err-Refused.left (function_at c.args.bytes.now c.deref.result.now) c.in-Err-Refused.field-0-is c.in-Err-Refused.ensures in
+    let same : c.in_ok-tokens.tokens.items ≡ tokens = one_list 0 c.args.bytes.now c.in_ok-tokens.tokens.items tokens c.in_ok-tokens.ensures.spelled lexed in
+    let made : SourceError = record { code = E20; span = c.place_left.result; other = None } in (
+      c.in-Err-Refused.left,
+      ap (function_at c.args.bytes.now) (sym (c.deref.ensures.value ∙ same)) ∙ refused,
+      ap (λ (d : SourceError). d.span) (sym (is_source made e is)) ∙ c.place_left.ensures ∙ ap (λ (ts : List Token). place_left c.args.bytes.now ts c.in-Err-Refused.left) (c.deref-in-Err-Refused.ensures.value ∙ same),
+    )

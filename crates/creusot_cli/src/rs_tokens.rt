@@ -1,0 +1,7 @@
+//! The tokens of a source.
+
+mod lexer;
+mod token;
+
+pub use lexer::tokens;
+pub use token::{Token, TokenKind};
