@@ -1,4 +1,5 @@
 pub mod MirBuild
+pub mod Report
 pub mod WpGen
 pub mod SourceForm
 pub mod SourceFormReading

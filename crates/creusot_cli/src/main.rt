@@ -1,6 +1,7 @@
 //! The program: `verify SOURCE --proofs FILE` prints which functions of a source are verified.
 #![tactic(auto)]
 
+mod report_out;
 mod rs_syntax;
 mod rs_tokens;
 
