@@ -14,6 +14,10 @@ use Rattle.logic_term.specs.Normal.{reduced}
 abbrev pub SameValues : Structure → Term → Env → Term → Env → Type 0
 SameValues S t ρ u τ = (v : Value) → Means S t ρ v ↔ Means S u τ v
 
+-- the terms have the same values, whatever the values of names
+abbrev pub HasValuesOf : Term → Term → Type 0
+HasValuesOf t u = (S : Structure) (ρ : Env) → SameValues S t ρ u ρ
+
 -- the term has this value and no other
 abbrev pub HasExactly : Structure → Term → Env → Value → Type 0
 HasExactly S t ρ w = (v : Value) → Means S t ρ v ↔ (v ≡ w)
@@ -25,7 +29,7 @@ PutTermsCountAsValues = (S : Structure) (ρ : Env) (x : Name) (u t : Term) (w : 
 
 -- terms that are equal up to the names that they bind have the same values
 abbrev pub BoundNamesDoNotCount : Type 0
-BoundNamesDoNotCount = (S : Structure) (ρ : Env) (t u : Term) → SameUpToNames t u → SameValues S t ρ u ρ
+BoundNamesDoNotCount = (t u : Term) → SameUpToNames t u → HasValuesOf t u
 
 -- environments with the same values at the free names give the same values
 abbrev pub FreeNamesAloneCount : Type 0
@@ -45,7 +49,7 @@ abbrev pub ValuesAreSure : Type 0
 ValuesAreSure = (S : Structure) (ρ : Env) (t : Term) → Sure ((v : Value) × Means S t ρ v)
 
 abbrev pub NormalFormsKeepValues : Type 0
-NormalFormsKeepValues = (S : Structure) (ρ : Env) (t : Term) → SameValues S (reduced t) ρ t ρ
+NormalFormsKeepValues = (t : Term) → HasValuesOf (reduced t) t
 
 -- ---- when formulas are true
 
