@@ -1,2 +1,2 @@
-pub mod IoEdgeFaults
-pub mod IoEdgeWriting
+pub mod FaultLemmas
+pub mod PieceLemmas

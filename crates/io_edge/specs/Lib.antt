@@ -1,5 +1,5 @@
-pub mod IoEdgeCounts
-pub mod IoEdgeMemoryShelf
-pub mod IoEdgeMemorySink
-pub mod IoEdgeShelf
-pub mod IoEdgeSink
+pub mod Faults
+pub mod MemoryShelf
+pub mod MemorySink
+pub mod Shelf
+pub mod Sink

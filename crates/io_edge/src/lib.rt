@@ -7,10 +7,9 @@ mod memory_sink;
 mod shelf;
 mod sink;
 mod std_sink;
-mod write_all;
-
 #[cfg(test)]
 mod tests;
+mod writing;
 
 pub use file_shelf::FileShelf;
 pub use memory_shelf::MemoryShelf;
@@ -18,4 +17,4 @@ pub use memory_sink::MemorySink;
 pub use shelf::{Shelf, ShelfError};
 pub use sink::{Sink, SinkError};
 pub use std_sink::StdSink;
-pub use write_all::write_all;
+pub use writing::write_all;

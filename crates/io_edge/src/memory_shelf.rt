@@ -1,8 +1,9 @@
 ghost use Rattle.std.specs.Prelude.{◌≡◌, ◌≢◌, ◌⊎◌, ◌≤◌, ◌<◌, ℕ, List, length, Option, Some, Err, IfOk, IfErr, OnOk, OnErr};
 ghost use Rattle.std.specs.Option.{option_copied};
-ghost use Rattle.io_edge.specs.IoEdgeCounts.{HasCause, NoneFalls, RaisesOnly, one_more};
-ghost use Rattle.io_edge.specs.IoEdgeShelf.{Holds, HoldsLength, IfTooLong, KeepsOthers, WhereTold, WhileTold};
-ghost use Rattle.io_edge.specs.IoEdgeMemoryShelf.{call_number, failing_calls, file_in, held, read_fault_count, write_fault_count, times_named, FailsAt, ReadFailsAt, UnlessNoMemory};
+ghost use Rattle.text_core.specs.Counts.{HasCause};
+ghost use Rattle.io_edge.specs.Faults.{NoneFalls, RaisesOnly, one_more};
+ghost use Rattle.io_edge.specs.Shelf.{Holds, HoldsLength, IfTooLong, KeepsOthers, WhereTold, WhileTold};
+ghost use Rattle.io_edge.specs.MemoryShelf.{call_number, failing_calls, file_in, held, read_fault_count, write_fault_count, times_named, FailsAt, ReadFailsAt, UnlessNoMemory};
 
 use crate::shelf::{Shelf, ShelfError};
 use std::alloc::{AllocError, Global};

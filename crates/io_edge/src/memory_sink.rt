@@ -1,8 +1,9 @@
 ghost use Rattle.std.specs.Prelude.{◌≡◌, ◌≢◌, ◌≤◌, ◌↔◌, [], Some, None, Ok, Err, IfOk};
 ghost use Rattle.std.specs.Io.KnownBytes.{WriteAppends};
-ghost use Rattle.io_edge.specs.IoEdgeCounts.{HasCause, one_more};
-ghost use Rattle.io_edge.specs.IoEdgeSink.{TakesSome};
-ghost use Rattle.io_edge.specs.IoEdgeMemorySink.{bytes_of, call_number, failing_calls, fault_count, most_each_of, taken_count, FailsAt, HasSameSettings};
+ghost use Rattle.text_core.specs.Counts.{HasCause};
+ghost use Rattle.io_edge.specs.Faults.{one_more};
+ghost use Rattle.io_edge.specs.Sink.{TakesSome};
+ghost use Rattle.io_edge.specs.MemorySink.{bytes_of, call_number, failing_calls, fault_count, most_each_of, taken_count, FailsAt, HasSameSettings};
 
 use crate::sink::{Sink, SinkError};
 use std::alloc::Global;

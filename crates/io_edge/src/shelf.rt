@@ -1,6 +1,7 @@
 ghost use Rattle.std.specs.Prelude.{◌≡◌, ◌≢◌, ◌≤◌, ◌<◌, ℕ, List, length, Option, Err, IfOk, IfErr, OnOk};
-ghost use Rattle.io_edge.specs.IoEdgeCounts.{HasCause, NoneFalls};
-ghost use Rattle.io_edge.specs.IoEdgeShelf.{Holds, HoldsLength, IfTooLong, KeepsOthers, WhereTold, WhileTold};
+ghost use Rattle.text_core.specs.Counts.{HasCause};
+ghost use Rattle.io_edge.specs.Faults.{NoneFalls};
+ghost use Rattle.io_edge.specs.Shelf.{Holds, HoldsLength, IfTooLong, KeepsOthers, WhereTold, WhileTold};
 
 use std::alloc::{AllocError, AllocFailed, Global};
 use text_core::NoMemory;

@@ -1,7 +1,7 @@
 ghost use Rattle.std.specs.Prelude.{◌≡◌, ◌≤◌, ℕ, List, [], Option, None, Ok};
 ghost use Rattle.std.specs.Io.KnownBytes.{WriteAppends};
-ghost use Rattle.io_edge.specs.IoEdgeCounts.{HasCause};
-ghost use Rattle.io_edge.specs.IoEdgeSink.{TakesSome};
+ghost use Rattle.text_core.specs.Counts.{HasCause};
+ghost use Rattle.io_edge.specs.Sink.{TakesSome};
 
 use std::alloc::{AllocError, AllocFailed};
 use text_core::NoMemory;

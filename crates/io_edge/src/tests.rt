@@ -4,7 +4,7 @@ use super::memory_sink::MemorySink;
 use super::shelf::{Shelf, ShelfError};
 use super::sink::{Sink, SinkError};
 use super::std_sink::StdSink;
-use super::write_all::write_all;
+use super::writing::write_all;
 use std::alloc::Global;
 use std::collections::BTreeMap;
 use std::test::Fail;

@@ -1,10 +1,12 @@
 -- The normal form keeps the values.
-use Rattle.std.proofs.Common.{◌≡◌, ℕ, zero, suc, ◌↔◌, refl, sym, ◌∙◌, ap}
+use Rattle.std.proofs.Common.{◌≡◌, ℕ, zero, suc, ◌↔◌, refl, sym, ◌∙◌, ap, subst}
+use Rattle.std.specs.Prelude.{Result, Ok, Err, IfOk}
 use Rattle.logic_term.specs.Ty.{Ty, int, bool, math_int, tuple, adt, boxed, shared, unique, param, closure, viewed, snapshot}
 use Rattle.logic_term.specs.Value.{Value, Number, integer_of}
 use Rattle.logic_term.specs.Term.{Operator, modeled, negated, denied, arith, less, at_most, equal, both, either, implied, Term, Terms, var, lit, truth, apply, bind, no_terms, and_term}
 use Rattle.logic_term.specs.Meaning.{Structure, Env, with_value, Means, Argument, Applied}
 use Rattle.logic_term.specs.Normal.{simplified, reduced, all_reduced}
+use Rattle.logic_term.specs.Laws.{HasValuesOf}
 use Rattle.logic_term.proofs.Alike.{Alike, alike_same, alike_then, applied_alike, quantified_alike}
 
 module _ (S : Structure) where
@@ -24,3 +26,11 @@ module _ (S : Structure) where
     all_reduced_mean no_terms ρ k = alike_same _
     all_reduced_mean (and_term t ts) ρ zero = reduced_means t ρ
     all_reduced_mean (and_term t ts) ρ (suc k) = all_reduced_mean ts ρ k
+
+-- what is the normal form of a term has its values
+pub normal_form_has_values : (r t : Term) → r ≡ reduced t → HasValuesOf r t
+normal_form_has_values r t is = subst (λ u. HasValuesOf u t) (sym is) (λ S ρ. reduced_means S t ρ)
+
+pub if_normal_form : {E : Type 0} (r : Result Term E) (t : Term) → IfOk r (λ u. u ≡ reduced t) → IfOk r (λ u. HasValuesOf u t)
+if_normal_form (Ok u) t is = normal_form_has_values u t is
+if_normal_form (Err e) t is = is

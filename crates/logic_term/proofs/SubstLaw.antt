@@ -1,12 +1,13 @@
 -- The values of a substitution are those of the term where the names have the values of the terms put for them.
 use Rattle.std.proofs.Common.{◌≡◌, ℕ, zero, suc, ◌≤◌, ◌<◌, ◌==◌, max, Bool, true, false, cond, ◌↔◌, List, [], ◌∷◌, refl, sym, ◌∙◌, arith}
+use Rattle.std.proofs.Common.{subst as subst_path}
 use Rattle.std.proofs.lemmas.Bool.Decides.{nat_tests}
 use Rattle.text_core.specs.declared.name.Name.{Name}
 use Rattle.logic_term.specs.declared.subst.Replacement.{Replacement}
 use Rattle.logic_term.specs.Value.{Value}
 use Rattle.logic_term.specs.Term.{Term, Terms, var, lit, truth, apply, bind, no_terms, and_term}
 use Rattle.logic_term.specs.Meaning.{Has, Structure, Env, with_value, Means, Argument}
-use Rattle.logic_term.specs.Subst.{above, all_above, look, subst, substs, replaced}
+use Rattle.logic_term.specs.Subst.{above, all_above, look, subst, substs, replaced, SameUpToNames}
 use Rattle.logic_term.proofs.Alike.{Alike, alike_same, alike_back, alike_then, applied_alike, quantified_alike}
 use Rattle.logic_term.proofs.Coincide.{Agree, agree_new, coincide, with_same}
 
@@ -47,3 +48,9 @@ module _ (S : Structure) where
   -- new names for bound ones change nothing
   pub renamed_means : (n : ℕ) (t : Term) (ρ : Env) → above t ≤ n → Alike (Means S (subst n [] t) ρ) (Means S t ρ)
   renamed_means n t ρ l = subst_means n t n ρ ρ [] l (λ y k. (omega arith, alike_same _))
+
+  -- terms that are equal up to the names that they bind have the same values
+  pub same_up_to_names_means : (t u : Term) (ρ : Env) → SameUpToNames t u → Alike (Means S t ρ) (Means S u ρ)
+  same_up_to_names_means t u ρ same =
+      alike_then _ _ _ (alike_back _ _ (renamed_means (max (above t) (above u)) t ρ (omega arith)))
+      (subst_path (λ s. Alike (Means S s ρ) (Means S u ρ)) (sym same) (renamed_means (max (above t) (above u)) u ρ (omega arith)))

@@ -1,4 +1,5 @@
 pub mod Free
+pub mod Laws
 pub mod Meaning
 pub mod Normal
 pub mod Range

@@ -3,14 +3,22 @@
 
 mod build;
 mod kinds;
+mod laws;
 mod normal;
 mod obligation;
 mod subst;
 mod term;
+#[cfg(test)]
+mod tests;
 mod ty;
 
 pub use kinds::{
     AdtId, ArithOp, BinaryOp, Ctor, FnKind, IntKind, Label, Label2, LogicFn, Region, TraitId,
+};
+pub use laws::{
+    bound_names_do_not_count, free_names_alone_count, normal_forms_keep_values,
+    other_names_do_not_count, put_terms_count_as_values, truth_of_comparisons,
+    truth_of_connectives, truth_of_forall, values_are_single, values_are_sure,
 };
 pub use normal::reduce;
 pub use obligation::{Bounds, Contract, Instance, Obligation};

@@ -1,6 +1,7 @@
 ghost use Rattle.std.specs.Prelude.{◌≡◌, ◌↔◌, IfOk};
 ghost use Rattle.logic_term.specs.Term.{modeled, no_terms, and_term};
 ghost use Rattle.logic_term.specs.Normal.{simplified, reduced};
+ghost use Rattle.logic_term.specs.Laws.{HasValuesOf};
 
 use crate::term::{Term, TermNode};
 use crate::ty::{Ty, TyNode};
@@ -26,41 +27,65 @@ fn model_of(alloc: Global, t: Term) -> Result<Term, NoMemory>
     })
 }
 
-/// The normal form of the term.
-#[cycle(reduce)]
+/// The normal form of the term: `@` of a literal is the unbounded integer. It has the values of the term, whatever the
+/// values of names.
 pub fn reduce(alloc: Global, t: &Term) -> Result<Term, NoMemory>
+    ensures form { IfOk result (λ r. r ≡ reduced t.now) }
+    ensures values { IfOk result (λ r. HasValuesOf r t.now) }
+{
+    normal_form(alloc, t)
+}
+
+#[cycle(normal_form)]
+fn normal_form(alloc: Global, t: &Term) -> Result<Term, NoMemory>
     ensures { IfOk result (λ r. r ≡ reduced t.now) }
 {
     let node = match &t.node {
         TermNode::Var(name) => TermNode::Var(*name),
         TermNode::Lit(number, sort) => TermNode::Lit(*number, sort.copy(alloc)?),
         TermNode::Truth(holds) => TermNode::Truth(*holds),
-        TermNode::Model(a) => return model_of(alloc, reduce(alloc, a)?),
+        TermNode::Model(a) => return model_of(alloc, normal_form(alloc, a)?),
         TermNode::Arith(op, a, b) => {
-            TermNode::Arith(*op, reduce_boxed(alloc, a)?, reduce_boxed(alloc, b)?)
+            TermNode::Arith(
+                *op,
+                normal_form_boxed(alloc, a)?,
+                normal_form_boxed(alloc, b)?,
+            )
         }
-        TermNode::Neg(a) => TermNode::Neg(reduce_boxed(alloc, a)?),
-        TermNode::Less(a, b) => TermNode::Less(reduce_boxed(alloc, a)?, reduce_boxed(alloc, b)?),
+        TermNode::Neg(a) => TermNode::Neg(normal_form_boxed(alloc, a)?),
+        TermNode::Less(a, b) => TermNode::Less(
+            normal_form_boxed(alloc, a)?,
+            normal_form_boxed(alloc, b)?,
+        ),
         TermNode::AtMost(a, b) => {
-            TermNode::AtMost(reduce_boxed(alloc, a)?, reduce_boxed(alloc, b)?)
+            TermNode::AtMost(normal_form_boxed(alloc, a)?, normal_form_boxed(alloc, b)?)
         }
-        TermNode::Equal(a, b) => TermNode::Equal(reduce_boxed(alloc, a)?, reduce_boxed(alloc, b)?),
-        TermNode::Not(a) => TermNode::Not(reduce_boxed(alloc, a)?),
-        TermNode::And(a, b) => TermNode::And(reduce_boxed(alloc, a)?, reduce_boxed(alloc, b)?),
-        TermNode::Or(a, b) => TermNode::Or(reduce_boxed(alloc, a)?, reduce_boxed(alloc, b)?),
+        TermNode::Equal(a, b) => TermNode::Equal(
+            normal_form_boxed(alloc, a)?,
+            normal_form_boxed(alloc, b)?,
+        ),
+        TermNode::Not(a) => TermNode::Not(normal_form_boxed(alloc, a)?),
+        TermNode::And(a, b) => TermNode::And(
+            normal_form_boxed(alloc, a)?,
+            normal_form_boxed(alloc, b)?,
+        ),
+        TermNode::Or(a, b) => TermNode::Or(
+            normal_form_boxed(alloc, a)?,
+            normal_form_boxed(alloc, b)?,
+        ),
         TermNode::Implies(a, b) => {
-            TermNode::Implies(reduce_boxed(alloc, a)?, reduce_boxed(alloc, b)?)
+            TermNode::Implies(normal_form_boxed(alloc, a)?, normal_form_boxed(alloc, b)?)
         }
         TermNode::Forall(name, sort, a) => {
-            TermNode::Forall(*name, sort.copy(alloc)?, reduce_boxed(alloc, a)?)
+            TermNode::Forall(*name, sort.copy(alloc)?, normal_form_boxed(alloc, a)?)
         }
     };
     Ok(Term { node })
 }
 
-#[cycle(reduce)]
-fn reduce_boxed(alloc: Global, t: &Term) -> Result<Box<Term>, NoMemory>
+#[cycle(normal_form)]
+fn normal_form_boxed(alloc: Global, t: &Term) -> Result<Box<Term>, NoMemory>
     ensures { IfOk result (λ r. r.value ≡ reduced t.now) }
 {
-    Ok(Box::new(alloc, reduce(alloc, t)?)?)
+    Ok(Box::new(alloc, normal_form(alloc, t)?)?)
 }

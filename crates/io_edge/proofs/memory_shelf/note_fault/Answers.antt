@@ -1,4 +1,4 @@
-use Rattle.io_edge.proofs.IoEdgeFaults.{NoneFalls-raised, RaisesOnly-push}
+use Rattle.io_edge.proofs.FaultLemmas.{NoneFalls-raised, RaisesOnly-push}
 use Rattle.io_edge.proofs.memory_shelf.note_fault.Goals as goal
 
 pub returns-clause-ok : goal.returns-clause-ok

@@ -1,17 +1,9 @@
 -- Counts of faults, which are `u64` and stay at their last value.
-use Rattle.std.specs.Prelude.{◌≡◌, ◌≢◌, ℕ, ◌+◌, ◌-◌, ◌^◌, ◌≤◌, List, min, Result, Err}
+use Rattle.std.specs.Prelude.{◌≡◌, ◌≢◌, ℕ, ◌+◌, ◌-◌, ◌^◌, ◌≤◌, List, min}
 
 -- the count one more, or its last value
 abbrev pub one_more : ℕ → ℕ
 one_more count = min (count + 1) (2 ^ 64 - 1)
-
--- the count rose, or stands at its last value
-abbrev pub Rose : ℕ → ℕ → Type 0
-Rose before now = one_more before ≤ now
-
--- the error `failed` comes only where the count rose
-abbrev pub HasCause : {T E : Type 0} → E → ℕ → ℕ → Result T E → Type 0
-HasCause failed before now result = result ≡ Err failed → Rose before now
 
 -- no name's count falls
 abbrev pub NoneFalls : (List ℕ → ℕ) → (List ℕ → ℕ) → Type 0

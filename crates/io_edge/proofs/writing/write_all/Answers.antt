@@ -1,7 +1,7 @@
 use Rattle.std.proofs.Common.{arith, rules}
 use Rattle.std.proofs.lemmas.Grind.{common_steps}
-use Rattle.io_edge.proofs.IoEdgeWriting.{Appends-piece}
-use Rattle.io_edge.proofs.write_all.write_all.Goals as goal
+use Rattle.io_edge.proofs.PieceLemmas.{Appends-piece}
+use Rattle.io_edge.proofs.writing.write_all.Goals as goal
 
 pub loop-done-preserved : goal.loop-done-preserved
 loop-done-preserved g c = record {

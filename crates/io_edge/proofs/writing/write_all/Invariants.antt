@@ -1,6 +1,6 @@
 use Rattle.std.proofs.Common.{◌≡◌, ◌≤◌, ◌-◌, length, take, None}
 use Rattle.std.specs.Io.KnownBytes.{Appends}
-use Rattle.io_edge.proofs.write_all.write_all.Given as goal
+use Rattle.io_edge.proofs.writing.write_all.Given as goal
 
 abbrev pub invariant-loop-done : goal.invariant-loop-done
 invariant-loop-done g l = record {

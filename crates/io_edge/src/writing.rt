@@ -1,7 +1,7 @@
 ghost use Rattle.std.specs.Prelude.{◌≡◌, ◌≤◌, None, OnOk, OnErr};
 ghost use Rattle.std.specs.Io.KnownBytes.{Appends};
-ghost use Rattle.io_edge.specs.IoEdgeCounts.{HasCause};
-ghost use Rattle.io_edge.specs.IoEdgeSink.{AppendsPrefix};
+ghost use Rattle.text_core.specs.Counts.{HasCause};
+ghost use Rattle.io_edge.specs.Sink.{AppendsPrefix};
 
 use crate::sink::{Sink, SinkError};
 

@@ -5,8 +5,8 @@ use Rattle.std.proofs.lemmas.Bool.{false_from_ne_true}
 use Rattle.std.proofs.lemmas.Slice.Eq.{bytes_eq-Decides}
 use Rattle.std.specs.Global.{Global}
 use Rattle.std.specs.Str.{bytes_eq}
-use Rattle.io_edge.specs.IoEdgeCounts.{NoneFalls, RaisesOnly}
-use Rattle.io_edge.specs.IoEdgeMemoryShelf.{times_named}
+use Rattle.io_edge.specs.Faults.{NoneFalls, RaisesOnly}
+use Rattle.io_edge.specs.MemoryShelf.{times_named}
 
 -- the name at the end counts once
 named_last : (name : List ℕ) (text : String Global) → bytes_eq name (string_bytes text) ≡ true → times_named (text ∷ []) name ≡ 1

@@ -1,0 +1,87 @@
+-- Laws of the meaning of terms.
+use Rattle.std.specs.Prelude.{◌≡◌, int_le, int_lt, true, false, IsTrue, ◌↔◌}
+use Rattle.text_core.specs.declared.name.Name.{Name}
+use Rattle.logic_term.specs.Ty.{Ty}
+use Rattle.logic_term.specs.Value.{Value, integer_of}
+use Rattle.logic_term.specs.Term.{Term, truth, not, is_less, is_at_most, is_equal, and, or, implies, forall}
+use Rattle.logic_term.specs.Meaning.{Sure, Structure, Env, with_value, Means, Holds}
+use Rattle.logic_term.specs.Sort.{HasSort, instance}
+use Rattle.logic_term.specs.Free.{free}
+use Rattle.logic_term.specs.Subst.{replaced, SameUpToNames}
+use Rattle.logic_term.specs.Normal.{reduced}
+
+-- t has at ρ the values that u has at τ
+abbrev pub SameValues : Structure → Term → Env → Term → Env → Type 0
+SameValues S t ρ u τ = (v : Value) → Means S t ρ v ↔ Means S u τ v
+
+-- the terms have the same values, whatever the values of names
+abbrev pub HasValuesOf : Term → Term → Type 0
+HasValuesOf t u = (S : Structure) (ρ : Env) → SameValues S t ρ u ρ
+
+-- the term has this value and no other
+abbrev pub HasExactly : Structure → Term → Env → Value → Type 0
+HasExactly S t ρ w = (v : Value) → Means S t ρ v ↔ (v ≡ w)
+
+-- a term put for a name counts as its value
+abbrev pub PutTermsCountAsValues : Type 0
+PutTermsCountAsValues = (S : Structure) (ρ : Env) (x : Name) (u t : Term) (w : Value)
+    → HasExactly S u ρ w → SameValues S (replaced x u t) ρ t (with_value ρ x w)
+
+-- terms that are equal up to the names that they bind have the same values
+abbrev pub BoundNamesDoNotCount : Type 0
+BoundNamesDoNotCount = (t u : Term) → SameUpToNames t u → HasValuesOf t u
+
+-- environments with the same values at the free names give the same values
+abbrev pub FreeNamesAloneCount : Type 0
+FreeNamesAloneCount = (S : Structure) (ρ τ : Env) (t : Term)
+    → ((x : Name) → IsTrue (free x t) → ρ x ≡ τ x) → SameValues S t ρ t τ
+
+-- a name that is not free may have any value
+abbrev pub OtherNamesDoNotCount : Type 0
+OtherNamesDoNotCount = (S : Structure) (ρ : Env) (x : Name) (t : Term) (w : Value)
+    → free x t ≡ false → SameValues S t ρ t (with_value ρ x w)
+
+abbrev pub ValuesAreSingle : Type 0
+ValuesAreSingle = (S : Structure) (ρ : Env) (t : Term) (v w : Value) → Means S t ρ v → Means S t ρ w → v ≡ w
+
+-- no term can fail to have a value
+abbrev pub ValuesAreSure : Type 0
+ValuesAreSure = (S : Structure) (ρ : Env) (t : Term) → Sure ((v : Value) × Means S t ρ v)
+
+abbrev pub NormalFormsKeepValues : Type 0
+NormalFormsKeepValues = (t : Term) → HasValuesOf (reduced t) t
+
+-- ---- when formulas are true
+
+abbrev pub TruthOfConstants : Type 0
+TruthOfConstants = (S : Structure) (ρ : Env) → Holds S (truth true) ρ × ¬ Holds S (truth false) ρ
+
+abbrev pub TruthOfNot : Type 0
+TruthOfNot = (S : Structure) (ρ : Env) (t : Term) → Holds S (not t) ρ ↔ (¬ Holds S t ρ)
+
+abbrev pub TruthOfAnd : Type 0
+TruthOfAnd = (S : Structure) (ρ : Env) (t u : Term) → Holds S (and t u) ρ ↔ (Holds S t ρ × Holds S u ρ)
+
+-- not both are false
+abbrev pub TruthOfOr : Type 0
+TruthOfOr = (S : Structure) (ρ : Env) (t u : Term) → Holds S (or t u) ρ ↔ (¬ (¬ Holds S t ρ × ¬ Holds S u ρ))
+
+abbrev pub TruthOfImplies : Type 0
+TruthOfImplies = (S : Structure) (ρ : Env) (t u : Term) → Holds S (implies t u) ρ ↔ (Holds S t ρ → Holds S u ρ)
+
+-- the quantifier goes over all values of the sort
+abbrev pub TruthOfForall : Type 0
+TruthOfForall = (S : Structure) (ρ : Env) (x : Name) (s : Ty) (t : Term) → Holds S (forall x s t) ρ
+    ↔ ((w : Value) → HasSort S.declared w (instance S.types s) → Holds S t (with_value ρ x w))
+
+abbrev pub TruthOfLess : Type 0
+TruthOfLess = (S : Structure) (ρ : Env) (t u : Term) (v w : Value) → HasExactly S t ρ v → HasExactly S u ρ w
+    → Holds S (is_less t u) ρ ↔ IsTrue (int_lt (integer_of v) (integer_of w))
+
+abbrev pub TruthOfAtMost : Type 0
+TruthOfAtMost = (S : Structure) (ρ : Env) (t u : Term) (v w : Value) → HasExactly S t ρ v → HasExactly S u ρ w
+    → Holds S (is_at_most t u) ρ ↔ IsTrue (int_le (integer_of v) (integer_of w))
+
+abbrev pub TruthOfEqual : Type 0
+TruthOfEqual = (S : Structure) (ρ : Env) (t u : Term) (v w : Value) → HasExactly S t ρ v → HasExactly S u ρ w
+    → Holds S (is_equal t u) ρ ↔ Sure (v ≡ w)

@@ -1,0 +1,62 @@
+//! What holds of the meaning of every term. Nothing here computes: each clause is a law of the definitions in specs/,
+//! by which the contracts of this crate speak.
+
+ghost use Rattle.logic_term.specs.Laws.{PutTermsCountAsValues, BoundNamesDoNotCount, FreeNamesAloneCount, OtherNamesDoNotCount};
+ghost use Rattle.logic_term.specs.Laws.{ValuesAreSingle, ValuesAreSure, NormalFormsKeepValues};
+ghost use Rattle.logic_term.specs.Laws.{TruthOfConstants, TruthOfNot, TruthOfAnd, TruthOfOr, TruthOfImplies, TruthOfForall, TruthOfLess, TruthOfAtMost, TruthOfEqual};
+
+/// Substitution: a term with `u` for a name has the values that it has where the name stands for the value of `u`.
+pub fn put_terms_count_as_values()
+    ensures { PutTermsCountAsValues }
+{}
+
+/// Renaming: terms that are equal up to the names that they bind have the same values.
+pub fn bound_names_do_not_count()
+    ensures { BoundNamesDoNotCount }
+{}
+
+/// A term's values depend on the values of its free names alone.
+pub fn free_names_alone_count()
+    ensures { FreeNamesAloneCount }
+{}
+
+/// Another value at a name that is not free changes no value.
+pub fn other_names_do_not_count()
+    ensures { OtherNamesDoNotCount }
+{}
+
+/// No term has two values.
+pub fn values_are_single()
+    ensures { ValuesAreSingle }
+{}
+
+/// No term can fail to have a value.
+pub fn values_are_sure()
+    ensures { ValuesAreSure }
+{}
+
+/// The normal form of a term has the values of the term.
+pub fn normal_forms_keep_values()
+    ensures { NormalFormsKeepValues }
+{}
+
+/// When the constants, negations, conjunctions, disjunctions and implications are true.
+pub fn truth_of_connectives()
+    ensures constants { TruthOfConstants }
+    ensures negation { TruthOfNot }
+    ensures conjunction { TruthOfAnd }
+    ensures disjunction { TruthOfOr }
+    ensures implication { TruthOfImplies }
+{}
+
+/// A universal formula is true if its body is true at every value of the sort.
+pub fn truth_of_forall()
+    ensures { TruthOfForall }
+{}
+
+/// When comparisons are true of the values of their two sides.
+pub fn truth_of_comparisons()
+    ensures less { TruthOfLess }
+    ensures at_most { TruthOfAtMost }
+    ensures equality { TruthOfEqual }
+{}
