@@ -1,4 +1,5 @@
 pub mod LinLemmas
 pub mod LinSound
 pub mod LinSteps
+pub mod LinearSound
 pub mod Sound
