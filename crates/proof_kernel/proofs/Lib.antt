@@ -1,5 +1,9 @@
 pub mod LinLemmas
 pub mod LinSound
 pub mod LinSteps
+pub mod LinearFactor
+pub mod LinearParts
+pub mod LinearRefs
 pub mod LinearSound
+pub mod LinearTable
 pub mod Sound
