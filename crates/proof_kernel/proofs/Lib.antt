@@ -2,6 +2,8 @@ pub mod LinLemmas
 pub mod LinSound
 pub mod LinSteps
 pub mod LinearFactor
+pub mod LinearNarrow
+pub mod LinearOutcome
 pub mod LinearParts
 pub mod LinearRefs
 pub mod LinearSound

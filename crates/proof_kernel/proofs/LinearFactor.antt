@@ -1,5 +1,5 @@
 -- Where the factor of an atom passes 128 bits in a part of a term, it does in the term.
-use Rattle.std.proofs.Common.{◌≡◌, Option, None, ℤ, sym, subst, ap}
+use Rattle.std.proofs.Common.{◌≡◌, Option, None, ℤ, sym, subst}
 use Rattle.std.specs.Prelude.{SomeIff}
 use Rattle.logic_term.specs.declared.kinds.ArithOp.{ArithOp}
 use Rattle.logic_term.specs.declared.kinds.ArithOp.TheVariants.{Add, Sub}

@@ -1,14 +1,12 @@
 -- The parts of a row over the table.
-use Rattle.std.proofs.Common.{◌≡◌, ℕ, zero, suc, ◌+◌, ◌<◌, ◌≤◌, List, [], ◌∷◌, ◌++◌, length, take, map, get_or, All, ℤ, pos, ◌+ℤ◌, refl, sym, ◌∙◌, ap, ap₂, subst, arith, add-one}
-use Rattle.std.specs.Prelude.{◌^◌, Option, Some, None, Result, Ok, Err, OkIff}
+use Rattle.std.proofs.Common.{◌≡◌, ℕ, zero, suc, ◌+◌, ◌<◌, ◌≤◌, List, [], ◌∷◌, ◌++◌, length, take, map, get_or, All, pos, ◌+ℤ◌, refl, ◌∙◌, ap, ap₂, subst, arith, add-one}
+use Rattle.std.specs.Prelude.{◌^◌, Option, Some, Result, Ok, Err, OkIff}
 use Rattle.std.specs.Result.{result_ok}
 use Rattle.std.proofs.lemmas.List.{take_all}
 use Rattle.std.proofs.lemmas.List.Elements.{All-more}
 use Rattle.std.proofs.Math.IntN.{+ℤ_idr}
-use Rattle.std.specs.List.Sorted.{IsStrictlyIncreasing}
 use Rattle.logic_term.specs.Term.{Term}
 use Rattle.proof_kernel.specs.declared.lin_arith.Part.{Part}
-use Rattle.proof_kernel.specs.declared.lin_arith.Row.{Row}
 use Rattle.proof_kernel.specs.LinArith.{factor_of, HasRisingAtoms}
 use Rattle.proof_kernel.specs.Linear.{Difference, row_factor}
 use Rattle.proof_kernel.specs.LinearRows.{HasNarrowFactor, parts_from, row_over}

@@ -1,15 +1,13 @@
 -- The table of atoms: it has each atom of the terms, and what it has not has no factor in them.
-use Rattle.std.proofs.Common.{◌≡◌, ℕ, zero, suc, ◌+◌, ◌<◌, ◌≤◌, ◌||◌, Bool, true, false, cond, List, [], ◌∷◌, ◌++◌, length, take, map, get_or, All, ℤ, pos, ◌+ℤ◌, ◌-ℤ◌, refl, sym, ◌∙◌, ap, ap₂, subst, arith, add-one, true≢false}
+use Rattle.std.proofs.Common.{◌≡◌, ℕ, zero, suc, ◌+◌, ◌<◌, ◌||◌, Bool, true, false, cond, List, [], ◌∷◌, ◌++◌, length, take, map, get_or, pos, ◌+ℤ◌, ◌-ℤ◌, refl, sym, ◌∙◌, ap, ap₂, arith, add-one, true≢false}
 use Rattle.std.specs.Prelude.{neg_ℤ}
-use Rattle.std.proofs.lemmas.List.{take_all}
 use Rattle.logic_term.specs.declared.kinds.ArithOp.TheVariants.{Add, Sub}
-use Rattle.logic_term.specs.Term.{Operator, negated, arith as by_op, Term, Terms, var, lit, truth, apply, bind, no_terms, and_term}
+use Rattle.logic_term.specs.Term.{negated, arith as by_op, Term, lit, apply, no_terms, and_term}
 use Rattle.logic_term.specs.Same.{same_term}
 use Rattle.logic_term.proofs.SameLaw.{same_term_equal, equal_same_term}
 use Rattle.proof_kernel.specs.declared.linear.Sides.{Sides}
-use Rattle.proof_kernel.specs.LinArith.{int_sum}
 use Rattle.proof_kernel.specs.Linear.{factor, Difference}
-use Rattle.proof_kernel.specs.LinearRows.{difference, is_in, with_atom, with_atoms, with_all_atoms, IsNarrowFactor}
+use Rattle.proof_kernel.specs.LinearRows.{difference, is_in, with_atoms, with_all_atoms}
 
 -- the table has each atom of the term
 abbrev pub Covers : List Term → Term → Type 0
@@ -99,7 +97,7 @@ snoc : (ds : List Difference) (d : Difference) (table : List Term) → with_all_
 snoc [] d table = refl
 snoc (a ∷ ds) d table = snoc ds d (with_atoms (with_atoms table a.upper) a.lower)
 
-map-more : (ss : List Sides) (i : ℕ) (s : Sides) → i < length ss → s ≡ get_or ss i s → map difference (take (suc i) ss) ≡ map difference (take i ss) ++ difference s ∷ []
+pub map-more : (ss : List Sides) (i : ℕ) (s : Sides) → i < length ss → s ≡ get_or ss i s → map difference (take (suc i) ss) ≡ map difference (take i ss) ++ difference s ∷ []
 map-more [] i s l e = absurd (omega arith)
 map-more (a ∷ ss) zero s l e = ap (λ (x : Sides). difference x ∷ []) (sym e)
 map-more (a ∷ ss) (suc i) s l e = ap (λ ds. difference a ∷ ds) (map-more ss i s (omega arith) e)

@@ -1,12 +1,15 @@
 -- The rows of the step of linear arithmetic over a table of atoms.
-use Rattle.std.specs.Prelude.{◌≡◌, ℕ, suc, ◌||◌, Bool, true, false, List, [], ◌∷◌, ◌++◌, Option, Some, None, ℤ, ◌+ℤ◌, ◌-ℤ◌, neg_ℤ, if◌then◌else◌, All}
+use Rattle.std.specs.Prelude.{◌≡◌, ◌↔◌, ℕ, suc, ◌||◌, Bool, false, List, [], ◌∷◌, ◌++◌, ◌+ℤ◌, ◌-ℤ◌, neg_ℤ, if◌then◌else◌, All}
 use Rattle.logic_term.specs.declared.kinds.ArithOp.TheVariants.{Add, Sub}
-use Rattle.logic_term.specs.Term.{Operator, negated, arith, Term, Terms, var, lit, truth, apply, bind, no_terms, and_term}
+use Rattle.logic_term.specs.Term.{negated, arith, Term, lit, apply, no_terms, and_term}
 use Rattle.logic_term.specs.Same.{same_term}
 use Rattle.proof_kernel.specs.declared.lin_arith.Part.{Part}
 use Rattle.proof_kernel.specs.declared.lin_arith.Row.{Row}
+use Rattle.proof_kernel.specs.declared.linear.LinAnswer.{LinAnswer}
+use Rattle.proof_kernel.specs.declared.linear.LinAnswer.TheVariants.{Closes, TooWide}
 use Rattle.proof_kernel.specs.declared.linear.Sides.{Sides}
-use Rattle.proof_kernel.specs.Linear.{factor, constant, IsNarrowNumber, Difference, row_factor, row_constant}
+use Rattle.proof_kernel.specs.declared.step.Multiple.{Multiple}
+use Rattle.proof_kernel.specs.Linear.{factor, constant, IsNarrowNumber, Difference, row_factor, row_constant, AreNarrow, Refutes}
 
 -- the difference of two borrowed terms
 abbrev pub difference : Sides → Difference
@@ -70,3 +73,10 @@ parts_from k (t ∷ ts) d = record { atom = k; factor = row_factor t d } ∷ par
 
 abbrev pub row_over : List Term → Difference → Row
 row_over table d = record { parts = parts_from 0 table d; constant = row_constant d }
+
+-- ---- the answer
+
+-- the answer where these are the rows
+abbrev pub IsOutcomeOf : LinAnswer → List Difference → List Multiple → Type 0
+IsOutcomeOf answer ds ms =
+    ((answer ≡ Closes) ↔ (AreNarrow ds ms × Refutes ds ms)) × ((answer ≡ TooWide) ↔ (¬ AreNarrow ds ms))

@@ -7,6 +7,6 @@ mod sequent;
 mod step;
 
 pub use lin_arith::{CertAnswer, Part, Row, check_certificate};
-pub use linear::LinAnswer;
+pub use linear::{LinAnswer, certifies};
 pub use sequent::Sequent;
 pub use step::{Multiple, Reference, Step};

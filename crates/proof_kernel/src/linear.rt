@@ -3,7 +3,7 @@
 ghost use Rattle.std.specs.Prelude.{◌≡◌, ◌↔◌, ◌<◌, ◌^◌, List, [], ◌∷◌, ◌++◌, length, map, All, IfOk, OnOk, SomeIff, MatchOption, option_map, pos, if◌then◌else◌};
 ghost use Rattle.std.specs.Option.{option_copied};
 ghost use Rattle.proof_kernel.specs.Linear.{Difference, factor, constant, row_factor, row_constant, is_math_int_var, is_integer, row_of, row_back, row_of_goal, referred, AreRows, Certifies, PassesWidth, at_least, greater};
-ghost use Rattle.proof_kernel.specs.LinearRows.{difference, is_in, with_atom, with_atoms, with_all_atoms, IsNarrowFactor, IsNarrowConstant, HasNarrowFactor, HasNarrowConstant, IsNarrowOver, parts_from, row_over};
+ghost use Rattle.proof_kernel.specs.LinearRows.{difference, is_in, with_atom, with_atoms, with_all_atoms, IsNarrowFactor, IsNarrowConstant, HasNarrowFactor, HasNarrowConstant, IsNarrowOver, parts_from, row_over, IsOutcomeOf};
 ghost use Rattle.logic_term.specs.Same.{same_term};
 ghost use Rattle.proof_kernel.specs.Rules.{hypothesis, sort_of};
 
@@ -299,5 +299,61 @@ fn row(alloc: Global, table: &[Term], sides: Sides) -> Result<Option<Row>, NoMem
     match row_constant(sides) {
         Some(constant) => Ok(Some(Row { parts, constant })),
         None => Ok(None),
+    }
+}
+
+/// The rows over the table; `None` where a number of one passes 128 bits.
+fn rows(alloc: Global, table: &[Term], all: &[Sides]) -> Result<Option<Items<Row>>, NoMemory>
+    ensures { IfOk result (λ found. SomeIff found (All (IsNarrowOver table.now) (map difference all.now)) (map (row_over table.now) (map difference all.now))) }
+{
+    let mut rows = Items::new(alloc);
+    for sides in all {
+        match row(alloc, table, *sides)? {
+            Some(row) => rows.push(row)?,
+            None => return Ok(None),
+        }
+    }
+    Ok(Some(rows))
+}
+
+// ---- the step
+
+fn multipliers(alloc: Global, multiples: &[Multiple]) -> Result<Vec<i128>, NoMemory>
+    ensures { IfOk result (λ v. v.items ≡ map (λ m. m.by) multiples.now) }
+{
+    Ok(multiples.iter().map(|multiple| multiple.by).collect(alloc)?)
+}
+
+/// What the multiples make of the rows with these sides.
+fn outcome(alloc: Global, all: &[Sides], multiples: &[Multiple]) -> Result<LinAnswer, NoMemory>
+    requires same_length { length all.now ≡ length multiples.now }
+    requires few { length multiples.now < 2 ^ 32 }
+    ensures { IfOk result (λ answer. IsOutcomeOf answer (map difference all.now) multiples.now) }
+{
+    let table = atoms_of(alloc, all)?;
+    let Some(rows) = rows(alloc, table.as_slice(), all)? else {
+        return Ok(LinAnswer::TooWide);
+    };
+    let by = multipliers(alloc, multiples)?;
+    match check_certificate(rows.as_slice(), by.as_slice()) {
+        CertAnswer::Good => Ok(LinAnswer::Closes),
+        CertAnswer::TooWide(_) => Ok(LinAnswer::TooWide),
+        CertAnswer::Fails(_) => Ok(LinAnswer::Fails),
+    }
+}
+
+/// Whether the multiples close the sequent. A reference without a row is looked for first, then numbers past 128 bits.
+///
+/// # Errors
+///
+/// `NoMemory` where memory is refused, and where the terms have more than 2^32 atoms.
+pub fn certifies(alloc: Global, q: &Sequent, multiples: &[Multiple]) -> Result<LinAnswer, NoMemory>
+    requires { length multiples.now < 2 ^ 32 }
+    ensures closes { IfOk result (λ answer. (answer ≡ LinAnswer.Closes) ↔ Certifies q.now multiples.now) }
+    ensures wide { IfOk result (λ answer. (answer ≡ LinAnswer.TooWide) ↔ PassesWidth q.now multiples.now) }
+{
+    match sides_of(alloc, q, multiples)? {
+        Some(all) => outcome(alloc, all.as_slice(), multiples),
+        None => Ok(LinAnswer::Fails),
     }
 }

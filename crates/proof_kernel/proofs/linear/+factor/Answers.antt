@@ -1,7 +1,6 @@
-use Rattle.std.proofs.Common.{◌≡◌, rules, sym, ◌∙◌, ap}
+use Rattle.std.proofs.Common.{◌≡◌, rules}
 use Rattle.logic_term.specs.declared.kinds.ArithOp.TheVariants.{Add, Sub}
 use Rattle.logic_term.specs.Term.{calculate}
-use Rattle.logic_term.specs.TermView.{term_of}
 use Rattle.proof_kernel.proofs.LinearFactor.{wide_add, wide_sub}
 use Rattle.proof_kernel.proofs.linear.+factor.Goals as goal
 

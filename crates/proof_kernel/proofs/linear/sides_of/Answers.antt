@@ -1,5 +1,4 @@
-use Rattle.std.proofs.Common.{◌≡◌, pos}
-use Rattle.proof_kernel.specs.declared.step.Multiple.{Multiple}
+use Rattle.std.proofs.Common.{pos}
 use Rattle.proof_kernel.specs.declared.step.Reference.TheVariants.{Goal}
 use Rattle.proof_kernel.proofs.LinearRefs.{no_rows, rows_more}
 use Rattle.proof_kernel.proofs.linear.sides_of.Goals as goal
