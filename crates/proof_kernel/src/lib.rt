@@ -2,9 +2,11 @@
 #![tactic(auto)]
 
 mod lin_arith;
+mod linear;
 mod sequent;
 mod step;
 
 pub use lin_arith::{CertAnswer, Part, Row, check_certificate};
+pub use linear::{LinAnswer, certifies};
 pub use sequent::Sequent;
 pub use step::{Multiple, Reference, Step};
