@@ -1,3 +1,4 @@
+pub mod IntroLaw
 pub mod LinLemmas
 pub mod LinSound
 pub mod LinSteps

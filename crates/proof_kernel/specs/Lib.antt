@@ -1,4 +1,5 @@
 pub mod Derivation
+pub mod Leads
 pub mod LinArith
 pub mod LinColumns
 pub mod Linear

@@ -2,6 +2,7 @@
 #![tactic(auto)]
 
 mod lin_arith;
+mod rules;
 mod sequent;
 mod step;
 
