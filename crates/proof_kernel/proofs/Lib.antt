@@ -2,4 +2,5 @@ pub mod IntroLaw
 pub mod LinLemmas
 pub mod LinSound
 pub mod LinSteps
+pub mod LinearSound
 pub mod Sound
