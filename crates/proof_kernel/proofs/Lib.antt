@@ -1,6 +1,9 @@
+pub mod Derived
 pub mod IntroLaw
+pub mod KernelLaw
 pub mod LinLemmas
 pub mod LinSound
 pub mod LinSteps
 pub mod LinearSound
+pub mod Once
 pub mod Sound

@@ -1,5 +1,6 @@
 -- What the kernel makes of a step.
 use Rattle.std.specs.Prelude.{◌≡◌, ℕ, ◌+◌, ◌<◌, Bool, true, List, [], ◌∷◌, ◌++◌, Option, Some, None, ◌&&◌, nat_lt}
+use Rattle.std.specs.List.{list_all}
 use Rattle.logic_term.specs.declared.kinds.Label2.{Label2}
 use Rattle.proof_kernel.specs.declared.sequent.Sequent.{Sequent}
 use Rattle.proof_kernel.specs.declared.step.Multiple.{Multiple}
@@ -34,8 +35,7 @@ is_reference_above s (Of l) = is_above s l
 is_reference_above s (Back l) = is_above s l
 
 abbrev pub are_above : ℕ → List Multiple → Bool
-are_above s [] = true
-are_above s (m ∷ ms) = is_reference_above s m.of && are_above s ms
+are_above s ms = list_all (λ m. is_reference_above s m.of) ms
 
 -- each step that the step with this number cites is above it
 abbrev pub cites_above : ℕ → Step → Bool

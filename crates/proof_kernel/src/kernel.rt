@@ -1,19 +1,19 @@
-ghost use Rattle.std.specs.Prelude.{◌≡◌, ◌↔◌, ◌+◌, ◌<◌, ◌^◌, ◌∷◌, [], List, reverse, length, IfOk, OnOk, OnErr, IsTrue, IfSome, IsNone, IsErrOf, MatchOption, ◌⊎◌};
+ghost use Rattle.std.specs.Prelude.{◌≡◌, ◌↔◌, ℕ, ◌+◌, ◌<◌, ◌^◌, ◌∷◌, ◌++◌, [], true, false, reverse, IfOk, OnOk, OnErr, IsTrue, Err};
 ghost use Rattle.std.specs.Option.{option_copied};
-ghost use Rattle.proof_kernel.specs.declared.sequent.Sequent.{Sequent as Q};
+ghost use Rattle.proof_kernel.specs.declared.step.Step.TheVariants as kinds;
 ghost use Rattle.proof_kernel.specs.Sequent.{sequent_of};
-ghost use Rattle.proof_kernel.specs.Linear.{PassesWidth};
-ghost use Rattle.proof_kernel.specs.Derivation.{Gives};
-ghost use Rattle.proof_kernel.specs.Kernel.{Applies, CitesAbove, first_of};
+ghost use Rattle.proof_kernel.specs.Progress.{Progress};
+ghost use Rattle.proof_kernel.specs.Kernel.{Applies, IsWide, first_of, is_above, is_reference_above, are_above, cites_above};
+ghost use Rattle.proof_kernel.specs.Made.{IsMade, IsMadeFirst, others_of};
 
 use crate::linear::{LinAnswer, certifies};
 use crate::rules::{intro, is_hypothesis, range, split};
 use crate::sequent::Sequent;
-use crate::step::{Reference, Step};
+use crate::step::{Multiple, Reference, Step};
 use logic_term::{Label2, Obligation};
 use std::alloc::Global;
 use std::marker::Model;
-use text_core::{Items, NoMemory};
+use text_core::{Items, Name, NoMemory};
 use thiserror::Error;
 
 /// What proofs may cite besides hypotheses: nothing so far.
@@ -52,16 +52,20 @@ impl From<NoMemory> for StepError {
 pub struct Kernel {
     step: u32,
     /// The first sequent stands last.
-    open: Vec<Sequent>,
+    stack: Vec<Sequent>,
 }
 
 impl Model for Kernel {
-    ghost use Rattle.std.specs.Prelude.{List, ℕ, reverse};
+    ghost use Rattle.std.specs.Prelude.{reverse};
+    ghost use Rattle.std.specs.Coded.{codes};
     ghost use Rattle.proof_kernel.specs.Progress.{Progress};
+    ghost use Rattle.proof_kernel.specs.contracts.sequent.Sequent as sequents;
 
     ghost Value = { Progress };
 
-    ghost view = { λ k. record { step = k.step; left = reverse k.open.items } };
+    ghost coded = { Prim.hlevel (codes, sequents.the_row.coded) };
+
+    ghost view = { λ k. record { step = k.step; left = reverse k.stack.items } };
 }
 
 fn is_label_above(step: u32, label: Label2) -> bool
@@ -70,7 +74,7 @@ fn is_label_above(step: u32, label: Label2) -> bool
     0 < label.step && label.step < step
 }
 
-fn is_reference_in_order(step: u32, reference: Reference) -> bool
+fn is_in_order(step: u32, reference: Reference) -> bool
     ensures { result ≡ is_reference_above step reference }
 {
     match reference {
@@ -80,28 +84,31 @@ fn is_reference_in_order(step: u32, reference: Reference) -> bool
     }
 }
 
-fn are_multiples_in_order(step: u32, multiples: &[Multiple]) -> bool
+fn are_in_order(step: u32, multiples: &[Multiple]) -> bool
     ensures { result ≡ are_above step multiples.now }
 {
-    for i in 0..multiples.len() {
-        if !is_reference_in_order(step, multiples[i].of) {
-            return false;
-        }
-    }
-    true
+    multiples.iter().all(|m| is_in_order(step, m.of))
 }
 
-/// Whether each step that the step cites is above the one with this number.
-fn is_in_order(number: u32, step: &Step) -> bool
+/// Whether each step that the step with this number cites is above it.
+fn cites_in_order(number: u32, step: &Step) -> bool
     ensures { result ≡ cites_above number step.now }
 {
     match step {
-        Step::Intro(_) => true,
         Step::Hyp(label) => is_label_above(number, *label),
-        Step::Split => true,
-        Step::Range(_) => true,
-        Step::Lin(multiples) => are_multiples_in_order(number, multiples.as_slice()),
+        Step::Lin(multiples) => are_in_order(number, multiples.as_slice()),
+        Step::Intro(_) | Step::Split | Step::Range(_) => true,
     }
+}
+
+/// What a step makes of a sequent.
+#[derive(Drop)]
+enum Made {
+    Premises(Vec<Sequent>),
+    /// A number of the step's certificate passes 128 bits.
+    TooWide,
+    /// No case of the rules fits.
+    Nothing,
 }
 
 fn one_premise(alloc: Global, premise: Sequent) -> Result<Vec<Sequent>, NoMemory>
@@ -112,84 +119,162 @@ fn one_premise(alloc: Global, premise: Sequent) -> Result<Vec<Sequent>, NoMemory
     Ok(premises)
 }
 
-fn intro_premises(
+fn by_intro(
     alloc: Global,
     number: u32,
     names: &Items<Name>,
     q: &Sequent,
-) -> Result<Option<Vec<Sequent>>, NoMemory>
-    ensures { IfOk result (λ o. Makes number q.now (kinds.Intro names.now) o) }
+) -> Result<Made, NoMemory>
+    ensures { IfOk result (λ made. IsMade number q.now (kinds.Intro names.now) made) }
 {
     match intro(alloc, number, names.as_slice(), q)? {
-        None => Ok(None),
+        None => Ok(Made::Nothing),
         Some(premise) => {
             let premises = one_premise(alloc, premise)?;
-            Ok(Some(premises))
+            Ok(Made::Premises(premises))
         }
     }
 }
 
-fn hyp_premises(
-    alloc: Global,
-    number: u32,
-    label: Label2,
-    q: &Sequent,
-) -> Result<Option<Vec<Sequent>>, NoMemory>
-    ensures { IfOk result (λ o. Makes number q.now (kinds.Hyp label) o) }
+fn by_hyp(alloc: Global, number: u32, label: Label2, q: &Sequent) -> Result<Made, NoMemory>
+    ensures { IfOk result (λ made. IsMade number q.now (kinds.Hyp label) made) }
 {
     if is_hypothesis(alloc, label, q)? {
-        Ok(Some(Vec::new(alloc)))
+        Ok(Made::Premises(Vec::new(alloc)))
     } else {
-        Ok(None)
+        Ok(Made::Nothing)
     }
 }
 
-fn split_premises(
-    alloc: Global,
-    number: u32,
-    q: &Sequent,
-) -> Result<Option<Vec<Sequent>>, NoMemory>
-    ensures { IfOk result (λ o. Makes number q.now kinds.Split o) }
+fn by_split(alloc: Global, number: u32, q: &Sequent) -> Result<Made, NoMemory>
+    ensures { IfOk result (λ made. IsMade number q.now kinds.Split made) }
 {
-    split(alloc, q)
+    match split(alloc, q)? {
+        None => Ok(Made::Nothing),
+        Some(premises) => Ok(Made::Premises(premises)),
+    }
 }
 
-fn range_premises(
-    alloc: Global,
-    number: u32,
-    name: Name,
-    q: &Sequent,
-) -> Result<Option<Vec<Sequent>>, NoMemory>
-    ensures { IfOk result (λ o. Makes number q.now (kinds.Range name) o) }
+fn by_range(alloc: Global, number: u32, name: Name, q: &Sequent) -> Result<Made, NoMemory>
+    ensures { IfOk result (λ made. IsMade number q.now (kinds.Range name) made) }
 {
     match range(alloc, number, name, q)? {
-        None => Ok(None),
+        None => Ok(Made::Nothing),
         Some(premise) => {
             let premises = one_premise(alloc, premise)?;
-            Ok(Some(premises))
+            Ok(Made::Premises(premises))
         }
     }
 }
 
-/// What linear arithmetic makes of the sequent: no premises, or an error.
-fn lin_premises(
+fn by_lin(
     alloc: Global,
     number: u32,
     multiples: &Items<Multiple>,
     q: &Sequent,
-) -> Result<Vec<Sequent>, StepError>
-    ensures ok { IfOk result (λ v. Gives number q.now (kinds.Lin multiples.now) v.items) }
-    ensures wide { IsErrOf result (errors.TooWide number) → PassesWidth q.now multiples.now }
-    ensures fails { IsErrOf result (errors.RuleFails number) → NoneFits number q.now (kinds.Lin multiples.now) }
-    ensures narrow { IsErrOf result (errors.RuleFails number) → PassesWidth q.now multiples.now → ⊥ }
-    ensures known { (n : ℕ) → result ≡ Err (errors.UnknownStep n) → ⊥ }
+) -> Result<Made, NoMemory>
+    ensures { IfOk result (λ made. IsMade number q.now (kinds.Lin multiples.now) made) }
 {
     if multiples.len() > u32::MAX as usize {
-        return Err(StepError::NoMemory);
+        return Err(NoMemory);
     }
     match certifies(alloc, q, multiples.as_slice())? {
-        LinAnswer::Closes => Ok(Vec::new(alloc)),
-        LinAnswer::TooWide => Err(StepError::TooWide { step: number }),
-        LinAnswer::Fails => Err(StepError::RuleFails { step: number }),
+        LinAnswer::Closes => Ok(Made::Premises(Vec::new(alloc))),
+        LinAnswer::TooWide => Ok(Made::TooWide),
+        LinAnswer::Fails => Ok(Made::Nothing),
+    }
+}
+
+/// What the step with this number makes of the sequent.
+fn made_of(alloc: Global, number: u32, step: &Step, q: &Sequent) -> Result<Made, NoMemory>
+    ensures { IfOk result (λ made. IsMade number q.now step.now made) }
+{
+    match step {
+        Step::Intro(names) => by_intro(alloc, number, names, q),
+        Step::Hyp(label) => by_hyp(alloc, number, *label, q),
+        Step::Split => by_split(alloc, number, q),
+        Step::Range(name) => by_range(alloc, number, *name, q),
+        Step::Lin(multiples) => by_lin(alloc, number, multiples, q),
+    }
+}
+
+/// The same at the last sequent of the stack; nothing where it is empty.
+fn made_of_last(
+    alloc: Global,
+    number: u32,
+    step: &Step,
+    stack: &[Sequent],
+) -> Result<Made, NoMemory>
+    ensures { IfOk result (λ made. IsMadeFirst number (reverse stack.now) step.now made) }
+{
+    match stack.last() {
+        None => Ok(Made::Nothing),
+        Some(q) => made_of(alloc, number, step, q),
+    }
+}
+
+/// Puts the premises in the place of the last sequent, the first of them last. For want of memory nothing changes.
+fn replace_last(stack: &mut Vec<Sequent>, mut premises: Vec<Sequent>) -> Result<(), NoMemory>
+    ensures ok { OnOk result (reverse stack.new.items ≡ premises.items ++ others_of (reverse stack.old.items)) }
+    ensures err { OnErr result (stack.new.items ≡ stack.old.items) }
+{
+    premises.reverse();
+    stack.reserve(premises.len())?;
+    let _replaced = stack.pop();
+    stack.append(&mut premises)?;
+    Ok(())
+}
+
+impl Kernel {
+    /// The proof of an obligation under way: its goal alone, at step 1.
+    pub fn new(alloc: Global, goal: &Obligation, _tables: &Tables) -> Result<Kernel, NoMemory>
+        ensures { IfOk result (λ k. k ≡ record { step = 1; left = sequent_of goal.now ∷ [] }) }
+    {
+        let q = Sequent {
+            vars: Items::new(alloc),
+            hyps: Items::new(alloc),
+            goal: goal.goal.copy(alloc)?,
+        };
+        let stack = one_premise(alloc, q)?;
+        Ok(Kernel { step: 1, stack })
+    }
+
+    /// Does the step at the first sequent, whose place its premises take. A refused step changes nothing. `UnknownStep`
+    /// is looked at first, and `TooWide` before `RuleFails`.
+    pub fn apply(&mut self, alloc: Global, step: &Step) -> Result<(), StepError>
+        requires { self.old.step + 1 < 2 ^ 32 }
+        ensures ok { OnOk result (Applies self.old step.now self.new × (cites_above self.old.step step.now ≡ true)) }
+        ensures err { OnErr result (self.new ≡ self.old) }
+        ensures unknown { (n : ℕ) → (result ≡ Err (StepError.UnknownStep n)) ↔ ((n ≡ self.old.step) × (cites_above self.old.step step.now ≡ false)) }
+        ensures wide { (n : ℕ) → result ≡ Err (StepError.TooWide n) → (n ≡ self.old.step) × (cites_above self.old.step step.now ≡ true) × IsWide self.old step.now }
+        ensures fails { (n : ℕ) → result ≡ Err (StepError.RuleFails n) → (n ≡ self.old.step) × (cites_above self.old.step step.now ≡ true) × (IsWide self.old step.now → ⊥) × ((after : Progress) → Applies self.old step.now after → ⊥) }
+    {
+        let number = self.step;
+        if !cites_in_order(number, step) {
+            return Err(StepError::UnknownStep { step: number });
+        }
+        match made_of_last(alloc, number, step, self.stack.as_slice())? {
+            Made::Premises(premises) => {
+                replace_last(&mut self.stack, premises)?;
+                self.step = number + 1;
+                Ok(())
+            }
+            Made::TooWide => Err(StepError::TooWide { step: number }),
+            Made::Nothing => Err(StepError::RuleFails { step: number }),
+        }
+    }
+
+    /// Whether no sequent is left.
+    pub fn closed(&self) -> bool
+        ensures { IsTrue result ↔ (self.now.left ≡ []) }
+    {
+        self.stack.is_empty()
+    }
+
+    /// The sequent that the next step acts on; `None` exactly where the proof is closed.
+    pub fn first(&self) -> Option<&Sequent>
+        ensures { option_copied result ≡ first_of self.now.left }
+    {
+        self.stack.last()
     }
 }
