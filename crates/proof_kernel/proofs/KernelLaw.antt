@@ -33,77 +33,18 @@ wide_at q qs Split s p = absurd p
 wide_at q qs (Range x) s p = absurd p
 wide_at q qs (Lin ms) s p = record { first = q; others = qs; multiples = ms; was = refl; is_lin = refl; passes = p }
 
-pub is_wide : (left : List Sequent) (step : Step) (s : ℕ) → IsMadeFirst s left step TooWide → IsWide (at s left) step
+is_wide : (left : List Sequent) (step : Step) (s : ℕ) → IsMadeFirst s left step TooWide → IsWide (at s left) step
 is_wide [] step s m = absurd (cc)
 is_wide (q ∷ qs) step s m = wide_at q qs step s m
 
-nil_cons : (q : Sequent) (qs : List Sequent) → [] ≡ q ∷ qs → ⊥
-nil_cons q qs e = cc
+-- the certificate is too wide at the first of the sequents that stand in the stack, the first one last
+pub wide_found : (s : ℕ) (stack items : List Sequent) (step : Step) (found : Made) (before : Progress) → items ≡ stack → IsMadeFirst s (reverse items) step found → found ≡ TooWide → at s (reverse stack) ≡ before → IsWide before step
+wide_found s stack items step found before i m f e =
+    let made : IsMadeFirst s (reverse stack) step TooWide = subst (λ l. IsMadeFirst s (reverse l) step TooWide) i (subst (λ x. IsMadeFirst s (reverse items) step x) f m) in
+    subst (λ p. IsWide p step) e (is_wide (reverse stack) step s made)
 
-first_same : (q r : Sequent) (qs rs : List Sequent) → q ∷ qs ≡ r ∷ rs → r ≡ q
-first_same q r qs rs e = cc
-
-pub not_wide : (left : List Sequent) (step : Step) (s : ℕ) → IsMadeFirst s left step Nothing → IsWide (at s left) step → ⊥
-not_wide [] step s m w = nil_cons w.first w.others w.was
-not_wide (q ∷ qs) step s m w =
-    let passes : PassesWidthAt w.first step = subst (λ t. PassesWidthAt w.first t) (sym w.is_lin) w.passes in
-    m.1 (subst (λ r. PassesWidthAt r step) (first_same q w.first qs w.others w.was) passes)
-
-pub not_applied : (left : List Sequent) (step : Step) (s : ℕ) (after : Progress) → IsMadeFirst s left step Nothing → Applies (at s left) step after → ⊥
-not_applied [] step s after m a = nil_cons a.first a.others a.was
-not_applied (q ∷ qs) step s after m a = m.0 a.premises (subst (λ r. Gives s r step a.premises) (first_same q a.first qs a.others a.was) a.gives)
-
-pub applied : (left : List Sequent) (step : Step) (s : ℕ) (ps after : List Sequent) (found : Made) → IsMadeFirst s left step found → ((q : Sequent) → IsMade s q step found → Gives s q step ps) → (found ≡ Nothing → ⊥) → after ≡ ps ++ others_of left → Applies (at s left) step (at (s + 1) after)
-applied [] step s ps after found m f some e = absurd (some m)
-applied (q ∷ qs) step s ps after found m f some e = record { first = q; others = qs; premises = ps; was = refl; gives = f q m; is = ap (at (s + 1)) e }
-
--- ---- the stack
-
-others_turned : (rest old : List Sequent) (q : Sequent) → old ≡ rest ++ q ∷ [] → others_of (reverse old) ≡ reverse rest
-others_turned rest old q e = ap (λ l. others_of (reverse l)) e ∙ ap others_of (reverse-append rest (q ∷ []))
-
-none_last : (n m : ℕ) (old rest : List Sequent) → (n ≡ 0) × (m ≡ 0) → rest ≡ take (n - 1) old → rest ≡ []
-none_last n m old rest z t = t ∙ ap (λ k. take (k - 1) old) z.0
-
--- the premises were put in the place of the last sequent
-pub replaced_last : (n m : ℕ) (old rest new ps turned : List Sequent) (last : Option Sequent) → MatchOption last ((n ≡ 0) × (m ≡ 0)) (λ _. m + 1 ≡ n) → rest ≡ take (n - 1) old → old ≡ rest ++ option_to_list last → turned ≡ reverse ps → new ≡ rest ++ turned → reverse new ≡ ps ++ others_of (reverse old)
-replaced_last n m old rest new ps turned None h r e t a =
-    let none : rest ≡ [] = none_last n m old rest h r in
-    let new_is : new ≡ turned = a ∙ ap (λ l. l ++ turned) none in
-    let old_is : old ≡ [] = e ∙ ap (λ (l : List Sequent). l ++ []) none in
-    (ap reverse new_is ∙ (ap reverse t ∙ reverse-reverse ps)) ∙ (sym (append-nil ps) ∙ ap (λ (l : List Sequent). ps ++ others_of (reverse l)) (sym old_is))
-replaced_last n m old rest new ps turned (Some q) h r e t a =
-    let both : reverse new ≡ ps ++ reverse rest = ap reverse a ∙ (reverse-append rest turned ∙ ap (λ l. l ++ reverse rest) (ap reverse t ∙ reverse-reverse ps)) in
-    both ∙ ap (λ l. ps ++ l) (sym (others_turned rest old q e))
-
-first_is : (qs : List Sequent) (d : Sequent) → 0 < length qs → first_of qs ≡ Some (get_or qs 0 d)
-first_is [] d h = absurd (omega arith)
-first_is (q ∷ qs) d h = refl
-
--- the last of the stack is the first of the sequents
-pub last_is_first : (xs : List Sequent) → slice_get xs (length xs - 1) ≡ first_of (reverse xs)
-last_is_first [] = refl
-last_is_first (x ∷ xs) =
-    let some : 0 < length (x ∷ xs) = omega arith in
-    let turned : 0 < length (reverse (x ∷ xs)) = omega (arith, length-reverse (x ∷ xs)) in
-    let place : length (x ∷ xs) - 1 - 0 ≡ length (x ∷ xs) - 1 = omega arith in
-    let within : length (x ∷ xs) - 1 < length (x ∷ xs) = omega arith in
-    let here : get_or (reverse (x ∷ xs)) 0 x ≡ get_or (x ∷ xs) (length (x ∷ xs) - 1) x = get_or-reverse (x ∷ xs) 0 x some ∙ ap (λ k. get_or (x ∷ xs) k x) place in
-    slice_get-get_or (x ∷ xs) (length (x ∷ xs) - 1) x within ∙ (ap Some (sym here) ∙ sym (first_is (reverse (x ∷ xs)) x turned))
-
--- no sequent is left where the stack is empty
-pub none_left : (xs : List Sequent) → length xs ≡ 0 ↔ reverse xs ≡ []
-none_left [] = ((λ e. refl), (λ e. refl))
-none_left (x ∷ xs) = ((λ e. absurd (omega (arith, e))), (λ e. sym (length-reverse (x ∷ xs)) ∙ ap length e))
-
--- what the kernel finds at the first sequent
-pub made_first : (s : ℕ) (left : List Sequent) (q : Sequent) (step : Step) (found : Made) → first_of left ≡ Some q → IsMade s q step found → IsMadeFirst s left step found
-made_first s [] q step found e m = absurd (cc)
-made_first s (r ∷ rs) q step found e m = let same : q ≡ r = cc in subst (λ x. IsMade s x step found) same m
-
-pub made_none : (s : ℕ) (left : List Sequent) (step : Step) → first_of left ≡ None → IsMadeFirst s left step Nothing
-made_none s [] step e = refl
-made_none s (r ∷ rs) step e = absurd (cc)
+pub same_step : (s : ℕ) (left : List Sequent) (before : Progress) → at s left ≡ before → s ≡ before.step
+same_step s left before e = ap (λ p. p.step) e
 
 -- ---- what each rule gives
 
