@@ -8,11 +8,12 @@ use Rattle.logic_term.specs.Subst.{replaced, SameUpToNames}
 use Rattle.proof_kernel.specs.declared.sequent.Sequent.{Sequent}
 use Rattle.proof_kernel.specs.declared.step.Step.{Step}
 use Rattle.proof_kernel.specs.declared.step.Step.TheVariants.{Intro, Hyp, Split, Range, Lin}
-use Rattle.proof_kernel.specs.Linear.{Certifies}
+use Rattle.proof_kernel.specs.declared.step.Multiple.{Multiple}
+use Rattle.proof_kernel.specs.Linear.{Difference, referred, AreRows, AreNarrow, Certifies, PassesWidth}
 use Rattle.proof_kernel.specs.Rules.{label, hypothesis, sort_of, with_goal, assuming, declaring, is_conjunction, conjuncts, ranged, Intros, stop, by_premise, by_variable, TakesSome}
 use Rattle.proof_kernel.specs.Progress.{Progress}
 use Rattle.proof_kernel.specs.Derivation.{Gives, by_intro, by_hyp, by_split, by_range, by_lin}
-use Rattle.proof_kernel.specs.Kernel.{Applies}
+use Rattle.proof_kernel.specs.Kernel.{Applies, IsWide}
 use Rattle.proof_kernel.proofs.IntroLaw.{premise_step, variable_step, stop_step}
 
 -- what a step gives, by the kind of the step
@@ -64,3 +65,35 @@ applies_once before after other step a b =
     let left : a.premises ++ a.others ≡ b.premises ++ b.others = cc in
     let whole : List Sequent → Progress = λ qs. record { step = before.step + 1; left = qs } in
     a.is ∙ (ap whole left ∙ sym b.is)
+
+-- ---- a certificate that closes is not too wide
+
+same_row : (o : Option Difference) (d e : Difference) → o ≡ Some d → o ≡ Some e → e ≡ d
+same_row o d e p q = cc
+
+rows_once : (q : Sequent) (ms : List Multiple) (ds es : List Difference) → AreRows q ms ds → AreRows q ms es → es ≡ ds
+rows_once q [] [] [] a b = refl
+rows_once q [] [] (e ∷ es) a b = absurd b
+rows_once q [] (d ∷ ds) es a b = absurd a
+rows_once q (m ∷ ms) [] es a b = absurd a
+rows_once q (m ∷ ms) (d ∷ ds) [] a b = absurd b
+rows_once q (m ∷ ms) (d ∷ ds) (e ∷ es) a b =
+    let here : e ≡ d = same_row (referred q m.of) d e a.0 b.0 in
+    let rest : es ≡ ds = rows_once q ms ds es a.1 b.1 in
+    cc
+
+closed_is_narrow : (q : Sequent) (ms : List Multiple) → Certifies q ms → PassesWidth q ms → ⊥
+closed_is_narrow q ms c p = p.wide (subst (λ ds. AreNarrow ds ms) (sym (rows_once q ms c.rows p.rows c.are_rows p.are_rows)) c.narrow)
+
+given_is_narrow : (s : ℕ) (q : Sequent) (step : Step) (ps : List Sequent) (ms : List Multiple) → step ≡ Lin ms → Given s q step ps → PassesWidth q ms → ⊥
+given_is_narrow s q (Intro names) ps ms e g p = absurd (cc)
+given_is_narrow s q (Hyp l) ps ms e g p = absurd (cc)
+given_is_narrow s q Split ps ms e g p = absurd (cc)
+given_is_narrow s q (Range x) ps ms e g p = absurd (cc)
+given_is_narrow s q (Lin ns) ps ms e g p = let same : ns ≡ ms = cc in closed_is_narrow q ms (subst (λ l. Certifies q l) same g.1) p
+
+pub wide_is_not_done : (before after : Progress) (step : Step) → IsWide before step → Applies before step after → ⊥
+wide_is_not_done before after step w a =
+    let parts = same_first a.first w.first a.others w.others (sym a.was ∙ w.was) in
+    let gives : Gives before.step w.first step a.premises = subst (λ q. Gives before.step q step a.premises) parts.0 a.gives in
+    given_is_narrow before.step w.first step a.premises w.multiples w.is_lin (given before.step w.first step a.premises gives) w.passes

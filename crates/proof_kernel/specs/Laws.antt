@@ -8,7 +8,7 @@ use Rattle.proof_kernel.specs.declared.step.Step.{Step}
 use Rattle.proof_kernel.specs.Sequent.{IsTrueAt, AllTrueAt, IsTrueObligation}
 use Rattle.proof_kernel.specs.Derivation.{Gives, IsProof}
 use Rattle.proof_kernel.specs.Progress.{Progress}
-use Rattle.proof_kernel.specs.Kernel.{Applies}
+use Rattle.proof_kernel.specs.Kernel.{Applies, IsWide}
 
 -- the goal of an obligation that has a proof is true at all declarations
 abbrev pub DerivedIsTrue : Type 0
@@ -21,3 +21,7 @@ RulesAreSound = (S : Structure) (s : ℕ) (q : Sequent) (step : Step) (premises 
 -- where a step can be done, there is one result
 abbrev pub StepsGiveOneResult : Type 0
 StepsGiveOneResult = (before after other : Progress) (step : Step) → Applies before step after → Applies before step other → after ≡ other
+
+-- a step that is too wide cannot be done
+abbrev pub WideIsNotDone : Type 0
+WideIsNotDone = (before after : Progress) (step : Step) → IsWide before step → Applies before step after → ⊥

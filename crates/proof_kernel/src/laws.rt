@@ -1,5 +1,5 @@
 //! Laws of the definitions, which no code runs.
-ghost use Rattle.proof_kernel.specs.Laws.{DerivedIsTrue, RulesAreSound, StepsGiveOneResult};
+ghost use Rattle.proof_kernel.specs.Laws.{DerivedIsTrue, RulesAreSound, StepsGiveOneResult, WideIsNotDone};
 
 /// The goal of an obligation that has a proof is true.
 pub fn what_is_derived_is_true()
@@ -16,5 +16,11 @@ pub fn rules_are_sound()
 /// A step at a sequent has one list of premises at most.
 pub fn steps_give_one_result()
     ensures { StepsGiveOneResult }
+{
+}
+
+/// A step whose certificate passes 128 bits cannot be done.
+pub fn wide_is_not_done()
+    ensures { WideIsNotDone }
 {
 }
