@@ -4,6 +4,12 @@ pub mod KernelLaw
 pub mod LinLemmas
 pub mod LinSound
 pub mod LinSteps
+pub mod LinearFactor
+pub mod LinearNarrow
+pub mod LinearOutcome
+pub mod LinearParts
+pub mod LinearRefs
 pub mod LinearSound
+pub mod LinearTable
 pub mod Once
 pub mod Sound

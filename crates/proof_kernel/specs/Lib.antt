@@ -5,6 +5,7 @@ pub mod Leads
 pub mod LinArith
 pub mod LinColumns
 pub mod Linear
+pub mod LinearRows
 pub mod Made
 pub mod Progress
 pub mod Rules

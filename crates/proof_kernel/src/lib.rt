@@ -12,5 +12,6 @@ mod step;
 pub use kernel::{Kernel, StepError, Tables};
 pub use laws::{rules_are_sound, steps_give_one_result, what_is_derived_is_true, wide_is_not_done};
 pub use lin_arith::{CertAnswer, Part, Row, check_certificate};
+pub use linear::{LinAnswer, certifies};
 pub use sequent::Sequent;
 pub use step::{Multiple, Reference, Step};

@@ -1,0 +1,7 @@
+use Rattle.std.proofs.Common.{map, take}
+use Rattle.proof_kernel.specs.Linear.{AreRows}
+use Rattle.proof_kernel.specs.LinearRows.{difference}
+use Rattle.proof_kernel.proofs.linear.sides_of.Given as goal
+
+abbrev pub invariant-loop-multiple : goal.invariant-loop-multiple
+invariant-loop-multiple l = AreRows l.q (take l.multiple-index l.multiples) (map difference l.all.items)
