@@ -278,3 +278,6 @@ impl Kernel {
         self.stack.last()
     }
 }
+
+#[cfg(test)]
+mod tests;
