@@ -1,3 +1,6 @@
+pub mod Derived
+pub mod IntroLaw
+pub mod KernelLaw
 pub mod LinLemmas
 pub mod LinSound
 pub mod LinSteps
@@ -8,4 +11,5 @@ pub mod LinearParts
 pub mod LinearRefs
 pub mod LinearSound
 pub mod LinearTable
+pub mod Once
 pub mod Sound

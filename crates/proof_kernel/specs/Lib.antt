@@ -1,7 +1,12 @@
 pub mod Derivation
+pub mod Kernel
+pub mod Laws
+pub mod Leads
 pub mod LinArith
 pub mod LinColumns
 pub mod Linear
 pub mod LinearRows
+pub mod Made
+pub mod Progress
 pub mod Rules
 pub mod Sequent

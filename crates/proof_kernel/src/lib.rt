@@ -1,11 +1,16 @@
 //! The kernel: sequents, the steps of proofs, and what each step makes of a sequent.
 #![tactic(auto)]
 
+mod kernel;
+mod laws;
 mod lin_arith;
 mod linear;
+mod rules;
 mod sequent;
 mod step;
 
+pub use kernel::{Kernel, StepError, Tables};
+pub use laws::{rules_are_sound, steps_give_one_result, what_is_derived_is_true, wide_is_not_done};
 pub use lin_arith::{CertAnswer, Part, Row, check_certificate};
 pub use linear::{LinAnswer, certifies};
 pub use sequent::Sequent;

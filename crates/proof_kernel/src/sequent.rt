@@ -1,5 +1,10 @@
+ghost use Rattle.std.specs.Prelude.{◌≡◌, ◌↔◌, IfOk, IsTrue, map};
+ghost use Rattle.std.specs.Option.{option_copied};
+ghost use Rattle.proof_kernel.specs.Rules.{hypothesis, sort_of, free_in_hyps, with_goal, IsNew};
+
 use logic_term::{Label2, Sort, Term};
-use text_core::{Items, Name};
+use std::alloc::Global;
+use text_core::{Items, Name, NoMemory};
 
 /// Variables with their sorts, labelled hypotheses, and a goal.
 #[derive(Drop)]
@@ -7,4 +12,86 @@ pub struct Sequent {
     pub vars: Items<(Name, Sort)>,
     pub hyps: Items<(Label2, Term)>,
     pub goal: Term,
+}
+
+/// The hypothesis of the label; `None` exactly where there is none.
+pub(crate) fn hypothesis_of(label: Label2, hyps: &[(Label2, Term)]) -> Option<&Term>
+    ensures { option_copied result ≡ hypothesis label hyps.now }
+{
+    for i in 0..hyps.len() {
+        if label.step == hyps[i].0.step && label.part == hyps[i].0.part {
+            return Some(&hyps[i].1);
+        }
+    }
+    None
+}
+
+/// The sort of the variable; `None` exactly where it is not declared.
+pub(crate) fn sort_of_var(name: Name, vars: &[(Name, Sort)]) -> Option<&Sort>
+    ensures { option_copied result ≡ sort_of name vars.now }
+{
+    for i in 0..vars.len() {
+        if name.0 == vars[i].0.0 {
+            return Some(&vars[i].1);
+        }
+    }
+    None
+}
+
+fn is_free_in_hyps(name: Name, hyps: &[(Label2, Term)]) -> bool
+    ensures { result ≡ free_in_hyps name hyps.now }
+{
+    for i in 0..hyps.len() {
+        if hyps[i].1.free_in(name) {
+            return true;
+        }
+    }
+    false
+}
+
+fn copy_vars(alloc: Global, vars: &[(Name, Sort)]) -> Result<Vec<(Name, Sort)>, NoMemory>
+    ensures { IfOk result (λ v. v.items ≡ vars.now) }
+{
+    let mut copies = Vec::with_capacity(alloc, vars.len())?;
+    for i in 0..vars.len() {
+        copies.push((vars[i].0, vars[i].1.copy(alloc)?))?;
+    }
+    Ok(copies)
+}
+
+fn copy_hyps(alloc: Global, hyps: &[(Label2, Term)]) -> Result<Vec<(Label2, Term)>, NoMemory>
+    ensures { IfOk result (λ v. v.items ≡ hyps.now) }
+{
+    let mut copies = Vec::with_capacity(alloc, hyps.len())?;
+    for i in 0..hyps.len() {
+        copies.push((hyps[i].0, hyps[i].1.copy(alloc)?))?;
+    }
+    Ok(copies)
+}
+
+impl Sequent {
+    pub fn copy(&self, alloc: Global) -> Result<Sequent, NoMemory>
+        ensures { IfOk result (λ q. q ≡ self.now) }
+    {
+        let goal = self.goal.copy(alloc)?;
+        self.with_goal(alloc, goal)
+    }
+
+    /// The same variables and hypotheses with another goal.
+    pub(crate) fn with_goal(&self, alloc: Global, goal: Term) -> Result<Sequent, NoMemory>
+        ensures { IfOk result (λ q. q ≡ with_goal self.now goal) }
+    {
+        let vars = Items::from_vec(copy_vars(alloc, self.vars.as_slice())?);
+        let hyps = Items::from_vec(copy_hyps(alloc, self.hyps.as_slice())?);
+        Ok(Sequent { vars, hyps, goal })
+    }
+
+    /// Whether the name is no variable of the sequent, and free nowhere in it.
+    pub(crate) fn is_new(&self, name: Name) -> bool
+        ensures { IsTrue result ↔ IsNew name self.now }
+    {
+        sort_of_var(name, self.vars.as_slice()).is_none()
+            && !is_free_in_hyps(name, self.hyps.as_slice())
+            && !self.goal.free_in(name)
+    }
 }

@@ -1,0 +1,27 @@
+-- What leads a goal.
+use Rattle.std.specs.Prelude.{◌≡◌, Bool, true, false, ◌⊎◌}
+use Rattle.text_core.specs.declared.name.Name.{Name}
+use Rattle.logic_term.specs.Ty.{Ty}
+use Rattle.logic_term.specs.Term.{Quantifier, every, some, Term, apply, bind, var, implies, forall}
+use Rattle.logic_term.specs.Subst.{replaced}
+use Rattle.proof_kernel.specs.declared.sequent.Sequent.{Sequent}
+use Rattle.proof_kernel.specs.declared.rules.Lead.{Lead}
+use Rattle.proof_kernel.specs.declared.rules.Lead.TheVariants.{Premise, Variable, Nothing}
+use Rattle.proof_kernel.specs.Rules.{IsNew, declaring, is_implication}
+
+abbrev pub is_quantified : Term → Bool
+is_quantified (bind every x s t) = true
+is_quantified t = false
+
+abbrev pub IsLead : Term → Lead → Type 0
+IsLead goal (Premise a b) = goal ≡ implies a b
+IsLead goal (Variable x s t) = goal ≡ forall x s t
+IsLead goal (Nothing t) = (t ≡ goal) × (is_implication goal ≡ false) × (is_quantified goal ≡ false)
+
+-- the name is taken for the variable of the quantifier that leads the goal
+abbrev pub IsDeclared : Name → Sequent → Sequent → Type 0
+IsDeclared x q r = IsNew x q × ((y : Name) × (s : Ty) × (b : Term) × (q.goal ≡ forall y s b) × (r ≡ declaring q x s (replaced y (var x) b)))
+
+-- the name is not new, or no quantifier leads the goal
+abbrev pub IsStuck : Name → Sequent → Type 0
+IsStuck x q = (IsNew x q → ⊥) ⊎ (is_quantified q.goal ≡ false)

@@ -1,0 +1,9 @@
+-- A proof under way.
+use Rattle.std.specs.Prelude.{ℕ, List}
+use Rattle.proof_kernel.specs.declared.sequent.Sequent.{Sequent}
+
+pub record Progress : Type 0 where
+  -- the number of the next step, from 1
+  pub step : ℕ
+  -- the sequents that are left, in order
+  pub left : List Sequent

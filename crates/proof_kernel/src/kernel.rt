@@ -1,0 +1,283 @@
+ghost use Rattle.std.specs.Prelude.{◌≡◌, ◌↔◌, ℕ, ◌+◌, ◌<◌, ◌^◌, ◌∷◌, ◌++◌, [], true, false, reverse, IfOk, OnOk, OnErr, IsTrue, Err};
+ghost use Rattle.std.specs.Option.{option_copied};
+ghost use Rattle.proof_kernel.specs.declared.step.Step.TheVariants as kinds;
+ghost use Rattle.proof_kernel.specs.Sequent.{sequent_of};
+ghost use Rattle.proof_kernel.specs.Progress.{Progress};
+ghost use Rattle.proof_kernel.specs.Kernel.{Applies, IsWide, first_of, is_above, is_reference_above, are_above, cites_above};
+ghost use Rattle.proof_kernel.specs.Made.{IsMade, IsMadeFirst, others_of};
+
+use crate::linear::{LinAnswer, certifies};
+use crate::rules::{intro, is_hypothesis, range, split};
+use crate::sequent::Sequent;
+use crate::step::{Multiple, Reference, Step};
+use logic_term::{Label2, Obligation};
+use std::alloc::Global;
+use std::marker::Model;
+use text_core::{Items, Name, NoMemory};
+use thiserror::Error;
+
+/// What proofs may cite besides hypotheses: nothing so far.
+#[derive(Clone, Copy, Debug, PartialEq, Eq)]
+pub struct Tables;
+
+/// Why a step is refused. `step` is the number of the refused step.
+#[derive(Clone, Copy, Debug, PartialEq, Eq, Error)]
+pub enum StepError {
+    /// A cited step is not above this one.
+    #[error("step {step} cites a step that is not above it")]
+    UnknownStep { step: u32 },
+    /// A number of a certificate passes 128 bits signed.
+    #[error("a number of step {step} passes 128 bits")]
+    TooWide { step: u32 },
+    /// No case of the rules fits.
+    #[error("no rule fits step {step}")]
+    RuleFails { step: u32 },
+    #[error("out of memory")]
+    NoMemory,
+}
+
+impl From<NoMemory> for StepError {
+    ghost use Rattle.std.specs.Prelude.{◌≡◌};
+    ghost use Rattle.proof_kernel.specs.declared.kernel.StepError.TheVariants as errors;
+
+    ghost from_gives = { λ _ e. e ≡ errors.NoMemory };
+
+    fn from(_refused: NoMemory) -> StepError {
+        StepError::NoMemory
+    }
+}
+
+/// A proof under way: the number of the next step, from 1, and the sequents that are left, the first one first.
+#[derive(Drop)]
+pub struct Kernel {
+    step: u32,
+    /// The first sequent stands last.
+    stack: Vec<Sequent>,
+}
+
+impl Model for Kernel {
+    ghost use Rattle.std.specs.Prelude.{reverse};
+    ghost use Rattle.std.specs.Coded.{codes};
+    ghost use Rattle.proof_kernel.specs.Progress.{Progress};
+    ghost use Rattle.proof_kernel.specs.contracts.sequent.Sequent as sequents;
+
+    ghost Value = { Progress };
+
+    ghost coded = { Prim.hlevel (codes, sequents.the_row.coded) };
+
+    ghost view = { λ k. record { step = k.step; left = reverse k.stack.items } };
+}
+
+fn is_label_above(step: u32, label: Label2) -> bool
+    ensures { result ≡ is_above step label }
+{
+    0 < label.step && label.step < step
+}
+
+fn is_in_order(step: u32, reference: Reference) -> bool
+    ensures { result ≡ is_reference_above step reference }
+{
+    match reference {
+        Reference::Goal => true,
+        Reference::Hyp(label) => is_label_above(step, label),
+        Reference::Back(label) => is_label_above(step, label),
+    }
+}
+
+fn are_in_order(step: u32, multiples: &[Multiple]) -> bool
+    ensures { result ≡ are_above step multiples.now }
+{
+    multiples.iter().all(|m| is_in_order(step, m.of))
+}
+
+/// Whether each step that the step with this number cites is above it.
+fn cites_in_order(number: u32, step: &Step) -> bool
+    ensures { result ≡ cites_above number step.now }
+{
+    match step {
+        Step::Hyp(label) => is_label_above(number, *label),
+        Step::Lin(multiples) => are_in_order(number, multiples.as_slice()),
+        Step::Intro(_) | Step::Split | Step::Range(_) => true,
+    }
+}
+
+/// What a step makes of a sequent.
+#[derive(Drop)]
+enum Made {
+    Premises(Vec<Sequent>),
+    /// A number of the step's certificate passes 128 bits.
+    TooWide,
+    /// No case of the rules fits.
+    Nothing,
+}
+
+fn one_premise(alloc: Global, premise: Sequent) -> Result<Vec<Sequent>, NoMemory>
+    ensures { IfOk result (λ v. v.items ≡ premise ∷ []) }
+{
+    let mut premises = Vec::with_capacity(alloc, 1)?;
+    premises.push(premise)?;
+    Ok(premises)
+}
+
+fn by_intro(
+    alloc: Global,
+    number: u32,
+    names: &Items<Name>,
+    q: &Sequent,
+) -> Result<Made, NoMemory>
+    ensures { IfOk result (λ made. IsMade number q.now (kinds.Intro names.now) made) }
+{
+    match intro(alloc, number, names.as_slice(), q)? {
+        None => Ok(Made::Nothing),
+        Some(premise) => {
+            let premises = one_premise(alloc, premise)?;
+            Ok(Made::Premises(premises))
+        }
+    }
+}
+
+fn by_hyp(alloc: Global, number: u32, label: Label2, q: &Sequent) -> Result<Made, NoMemory>
+    ensures { IfOk result (λ made. IsMade number q.now (kinds.Hyp label) made) }
+{
+    if is_hypothesis(alloc, label, q)? {
+        Ok(Made::Premises(Vec::new(alloc)))
+    } else {
+        Ok(Made::Nothing)
+    }
+}
+
+fn by_split(alloc: Global, number: u32, q: &Sequent) -> Result<Made, NoMemory>
+    ensures { IfOk result (λ made. IsMade number q.now kinds.Split made) }
+{
+    match split(alloc, q)? {
+        None => Ok(Made::Nothing),
+        Some(premises) => Ok(Made::Premises(premises)),
+    }
+}
+
+fn by_range(alloc: Global, number: u32, name: Name, q: &Sequent) -> Result<Made, NoMemory>
+    ensures { IfOk result (λ made. IsMade number q.now (kinds.Range name) made) }
+{
+    match range(alloc, number, name, q)? {
+        None => Ok(Made::Nothing),
+        Some(premise) => {
+            let premises = one_premise(alloc, premise)?;
+            Ok(Made::Premises(premises))
+        }
+    }
+}
+
+fn by_lin(
+    alloc: Global,
+    number: u32,
+    multiples: &Items<Multiple>,
+    q: &Sequent,
+) -> Result<Made, NoMemory>
+    ensures { IfOk result (λ made. IsMade number q.now (kinds.Lin multiples.now) made) }
+{
+    if multiples.len() > u32::MAX as usize {
+        return Err(NoMemory);
+    }
+    match certifies(alloc, q, multiples.as_slice())? {
+        LinAnswer::Closes => Ok(Made::Premises(Vec::new(alloc))),
+        LinAnswer::TooWide => Ok(Made::TooWide),
+        LinAnswer::Fails => Ok(Made::Nothing),
+    }
+}
+
+/// What the step with this number makes of the sequent.
+fn made_of(alloc: Global, number: u32, step: &Step, q: &Sequent) -> Result<Made, NoMemory>
+    ensures { IfOk result (λ made. IsMade number q.now step.now made) }
+{
+    match step {
+        Step::Intro(names) => by_intro(alloc, number, names, q),
+        Step::Hyp(label) => by_hyp(alloc, number, *label, q),
+        Step::Split => by_split(alloc, number, q),
+        Step::Range(name) => by_range(alloc, number, *name, q),
+        Step::Lin(multiples) => by_lin(alloc, number, multiples, q),
+    }
+}
+
+/// The same at the last sequent of the stack; nothing where it is empty.
+fn made_of_last(
+    alloc: Global,
+    number: u32,
+    step: &Step,
+    stack: &[Sequent],
+) -> Result<Made, NoMemory>
+    ensures { IfOk result (λ made. IsMadeFirst number (reverse stack.now) step.now made) }
+{
+    match stack.last() {
+        None => Ok(Made::Nothing),
+        Some(q) => made_of(alloc, number, step, q),
+    }
+}
+
+/// Puts the premises in the place of the last sequent, the first of them last. For want of memory nothing changes.
+fn replace_last(stack: &mut Vec<Sequent>, mut premises: Vec<Sequent>) -> Result<(), NoMemory>
+    ensures ok { OnOk result (reverse stack.new.items ≡ premises.items ++ others_of (reverse stack.old.items)) }
+    ensures err { OnErr result (stack.new.items ≡ stack.old.items) }
+{
+    premises.reverse();
+    stack.reserve(premises.len())?;
+    let _replaced = stack.pop();
+    stack.append(&mut premises)?;
+    Ok(())
+}
+
+impl Kernel {
+    /// The proof of an obligation under way: its goal alone, at step 1.
+    pub fn new(alloc: Global, goal: &Obligation, _tables: &Tables) -> Result<Kernel, NoMemory>
+        ensures { IfOk result (λ k. k ≡ record { step = 1; left = sequent_of goal.now ∷ [] }) }
+    {
+        let q = Sequent {
+            vars: Items::new(alloc),
+            hyps: Items::new(alloc),
+            goal: goal.goal.copy(alloc)?,
+        };
+        let stack = one_premise(alloc, q)?;
+        Ok(Kernel { step: 1, stack })
+    }
+
+    /// Does the step at the first sequent, whose place its premises take. A refused step changes nothing. `UnknownStep`
+    /// is looked at first, and `TooWide` before `RuleFails`.
+    pub fn apply(&mut self, alloc: Global, step: &Step) -> Result<(), StepError>
+        requires { self.old.step + 1 < 2 ^ 32 }
+        ensures ok { OnOk result (Applies self.old step.now self.new × (cites_above self.old.step step.now ≡ true)) }
+        ensures err { OnErr result (self.new ≡ self.old) }
+        ensures unknown { (n : ℕ) → (result ≡ Err (StepError.UnknownStep n)) ↔ ((n ≡ self.old.step) × (cites_above self.old.step step.now ≡ false)) }
+        ensures wide { (n : ℕ) → result ≡ Err (StepError.TooWide n) → (n ≡ self.old.step) × (cites_above self.old.step step.now ≡ true) × IsWide self.old step.now }
+        ensures fails { (n : ℕ) → result ≡ Err (StepError.RuleFails n) → (n ≡ self.old.step) × (cites_above self.old.step step.now ≡ true) × (IsWide self.old step.now → ⊥) × ((after : Progress) → Applies self.old step.now after → ⊥) }
+    {
+        let number = self.step;
+        if !cites_in_order(number, step) {
+            return Err(StepError::UnknownStep { step: number });
+        }
+        match made_of_last(alloc, number, step, self.stack.as_slice())? {
+            Made::Premises(premises) => {
+                replace_last(&mut self.stack, premises)?;
+                self.step = number + 1;
+                Ok(())
+            }
+            Made::TooWide => Err(StepError::TooWide { step: number }),
+            Made::Nothing => Err(StepError::RuleFails { step: number }),
+        }
+    }
+
+    /// Whether no sequent is left.
+    pub fn closed(&self) -> bool
+        ensures { IsTrue result ↔ (self.now.left ≡ []) }
+    {
+        self.stack.is_empty()
+    }
+
+    /// The sequent that the next step acts on; `None` exactly where the proof is closed.
+    pub fn first(&self) -> Option<&Sequent>
+        ensures { option_copied result ≡ first_of self.now.left }
+    {
+        self.stack.last()
+    }
+}
+
+#[cfg(test)]
+mod tests;

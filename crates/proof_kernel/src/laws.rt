@@ -1,0 +1,26 @@
+//! Laws of the definitions, which no code runs.
+ghost use Rattle.proof_kernel.specs.Laws.{DerivedIsTrue, RulesAreSound, StepsGiveOneResult, WideIsNotDone};
+
+/// The goal of an obligation that has a proof is true.
+pub fn what_is_derived_is_true()
+    ensures { DerivedIsTrue }
+{
+}
+
+/// Where all premises of a step are true, the sequent is.
+pub fn rules_are_sound()
+    ensures { RulesAreSound }
+{
+}
+
+/// A step at a sequent has one list of premises at most.
+pub fn steps_give_one_result()
+    ensures { StepsGiveOneResult }
+{
+}
+
+/// A step whose certificate passes 128 bits cannot be done.
+pub fn wide_is_not_done()
+    ensures { WideIsNotDone }
+{
+}

@@ -1,0 +1,320 @@
+ghost use Rattle.std.specs.Prelude.{◌≡◌, ◌≢◌, ◌↔◌, ℕ, List, ◌∷◌, ◌++◌, ◌+◌, [], Some, IfOk, MatchOption, IsTrue, map, true, false};
+ghost use Rattle.logic_term.specs.Ty.{int};
+ghost use Rattle.logic_term.specs.declared.kinds.IntKind.{IntKind};
+ghost use Rattle.logic_term.specs.declared.kinds.Label2.{Label2};
+ghost use Rattle.logic_term.specs.Subst.{SameUpToNames};
+ghost use Rattle.logic_term.specs.Term.{Term as Tree};
+ghost use Rattle.text_core.specs.declared.name.Name.{Name};
+ghost use Rattle.proof_kernel.specs.declared.sequent.Sequent.{Sequent};
+ghost use Rattle.proof_kernel.specs.Leads.{IsLead, IsStuck, IsDeclared};
+ghost use Rattle.proof_kernel.specs.Rules.{hypothesis, sort_of, with_goal, is_implication, is_conjunction, conjuncts, lower_bound, upper_bound, ranged, Intros, TakesSome};
+
+use crate::sequent::{Sequent, hypothesis_of, sort_of_var};
+use logic_term::{IntKind, Label2, Sort, Term, TermNode, TyNode};
+use std::alloc::Global;
+use text_core::{Items, Name, NoMemory};
+
+/// Whether the hypothesis of the label is the goal, up to the names that both bind.
+pub fn is_hypothesis(alloc: Global, label: Label2, q: &Sequent) -> Result<bool, NoMemory>
+    ensures { IfOk result (λ b. IsTrue b ↔ ((h : Tree) × (hypothesis label q.now.hyps ≡ Some h) × SameUpToNames h q.now.goal)) }
+{
+    match hypothesis_of(label, q.hyps.as_slice()) {
+        None => Ok(false),
+        Some(h) => h.same_up_to_names(alloc, &q.goal),
+    }
+}
+
+fn one_term(alloc: Global, t: &Term) -> Result<Vec<Term>, NoMemory>
+    ensures { IfOk result (λ v. v.items ≡ t.now ∷ []) }
+{
+    let mut all = Vec::with_capacity(alloc, 1)?;
+    all.push(t.copy(alloc)?)?;
+    Ok(all)
+}
+
+/// The conjuncts of the term, at all levels.
+#[cycle(conjuncts)]
+fn conjuncts_of(alloc: Global, t: &Term) -> Result<Vec<Term>, NoMemory>
+    ensures { IfOk result (λ v. v.items ≡ conjuncts t.now) }
+{
+    match &t.node {
+        TermNode::And(a, b) => {
+            let mut left = conjuncts_of(alloc, a)?;
+            let mut right = conjuncts_of(alloc, b)?;
+            left.append(&mut right)?;
+            Ok(left)
+        }
+        TermNode::Var(_)
+        | TermNode::Lit(_, _)
+        | TermNode::Truth(_)
+        | TermNode::Model(_)
+        | TermNode::Arith(_, _, _)
+        | TermNode::Neg(_)
+        | TermNode::Less(_, _)
+        | TermNode::AtMost(_, _)
+        | TermNode::Equal(_, _)
+        | TermNode::Not(_)
+        | TermNode::Or(_, _)
+        | TermNode::Implies(_, _)
+        | TermNode::Forall(_, _, _) => one_term(alloc, t),
+    }
+}
+
+fn is_and(t: &Term) -> bool
+    ensures { result ≡ is_conjunction t.now }
+{
+    match &t.node {
+        TermNode::And(_, _) => true,
+        TermNode::Var(_)
+        | TermNode::Lit(_, _)
+        | TermNode::Truth(_)
+        | TermNode::Model(_)
+        | TermNode::Arith(_, _, _)
+        | TermNode::Neg(_)
+        | TermNode::Less(_, _)
+        | TermNode::AtMost(_, _)
+        | TermNode::Equal(_, _)
+        | TermNode::Not(_)
+        | TermNode::Or(_, _)
+        | TermNode::Implies(_, _)
+        | TermNode::Forall(_, _, _) => false,
+    }
+}
+
+fn is_implies(t: &Term) -> bool
+    ensures { result ≡ is_implication t.now }
+{
+    match &t.node {
+        TermNode::Implies(_, _) => true,
+        TermNode::Var(_)
+        | TermNode::Lit(_, _)
+        | TermNode::Truth(_)
+        | TermNode::Model(_)
+        | TermNode::Arith(_, _, _)
+        | TermNode::Neg(_)
+        | TermNode::Less(_, _)
+        | TermNode::AtMost(_, _)
+        | TermNode::Equal(_, _)
+        | TermNode::Not(_)
+        | TermNode::And(_, _)
+        | TermNode::Or(_, _)
+        | TermNode::Forall(_, _, _) => false,
+    }
+}
+
+fn with_each_goal(alloc: Global, q: &Sequent, goals: &[Term]) -> Result<Vec<Sequent>, NoMemory>
+    ensures { IfOk result (λ v. v.items ≡ map (with_goal q.now) goals.now) }
+{
+    let mut premises = Vec::with_capacity(alloc, goals.len())?;
+    for i in 0..goals.len() {
+        let goal = goals[i].copy(alloc)?;
+        premises.push(q.with_goal(alloc, goal)?)?;
+    }
+    Ok(premises)
+}
+
+/// A premise for each conjunct of the goal; `None` exactly where the goal is no conjunction.
+pub fn split(alloc: Global, q: &Sequent) -> Result<Option<Vec<Sequent>>, NoMemory>
+    ensures { IfOk result (λ o. MatchOption o
+        (is_conjunction q.now.goal ≡ false)
+        (λ premises. (is_conjunction q.now.goal ≡ true) × (premises.items ≡ map (with_goal q.now) (conjuncts q.now.goal)))) }
+{
+    if !is_and(&q.goal) {
+        return Ok(None);
+    }
+    let goals = conjuncts_of(alloc, &q.goal)?;
+    let premises = with_each_goal(alloc, q, goals.as_slice())?;
+    Ok(Some(premises))
+}
+
+fn lower_bound_of(alloc: Global, kind: IntKind, name: Name) -> Result<Term, NoMemory>
+    ensures { IfOk result (λ t. t ≡ lower_bound kind name) }
+{
+    let model = Term::model(alloc, Term::var(name))?;
+    Term::at_most(alloc, Term::integer(kind.lowest()), model)
+}
+
+fn upper_bound_of(alloc: Global, kind: IntKind, name: Name) -> Result<Term, NoMemory>
+    ensures { IfOk result (λ t. t ≡ upper_bound kind name) }
+{
+    let model = Term::model(alloc, Term::var(name))?;
+    Term::at_most(alloc, model, Term::integer(kind.highest()))
+}
+
+fn with_bounds(
+    alloc: Global,
+    step: u32,
+    kind: IntKind,
+    name: Name,
+    q: &Sequent,
+) -> Result<Sequent, NoMemory>
+    ensures { IfOk result (λ p. p ≡ ranged step kind name q.now) }
+{
+    let Sequent { vars, mut hyps, goal } = q.copy(alloc)?;
+    hyps.push((Label2 { step, part: 1 }, lower_bound_of(alloc, kind, name)?))?;
+    hyps.push((Label2 { step, part: 2 }, upper_bound_of(alloc, kind, name)?))?;
+    Ok(Sequent { vars, hyps, goal })
+}
+
+/// The sequent with the bounds of the variable; `None` exactly where it is no variable of a machine type.
+pub fn range(
+    alloc: Global,
+    step: u32,
+    name: Name,
+    q: &Sequent,
+) -> Result<Option<Sequent>, NoMemory>
+    ensures { IfOk result (λ o. MatchOption o
+        ((k : IntKind) → sort_of name q.now.vars ≢ Some (int k))
+        (λ p. (k : IntKind) × (sort_of name q.now.vars ≡ Some (int k)) × (p ≡ ranged step k name q.now))) }
+{
+    match sort_of_var(name, q.vars.as_slice()) {
+        None => Ok(None),
+        Some(sort) => match &sort.node {
+            TyNode::Int(kind) => {
+                let p = with_bounds(alloc, step, *kind, name, q)?;
+                Ok(Some(p))
+            }
+            TyNode::Bool
+            | TyNode::MathInt
+            | TyNode::Tuple(_)
+            | TyNode::Adt(_, _, _)
+            | TyNode::Boxed(_)
+            | TyNode::Shared(_, _)
+            | TyNode::Unique(_, _)
+            | TyNode::Param(_)
+            | TyNode::Closure(_, _, _, _)
+            | TyNode::View(_)
+            | TyNode::Snapshot(_) => Ok(None),
+        },
+    }
+}
+
+/// A sequent whose goal begins with no premise, and the number of the next hypothesis.
+#[derive(Drop)]
+struct Stripped {
+    q: Sequent,
+    part: u32,
+}
+
+/// The number after that of a hypothesis.
+fn next_part(part: u32) -> Result<u32, NoMemory>
+    ensures { IfOk result (λ next. next ≡ part + 1) }
+{
+    match part.checked_add(1) {
+        Some(next) => Ok(next),
+        None => Err(NoMemory),
+    }
+}
+
+/// A sequent with one more hypothesis, and with another goal.
+fn assume(
+    label: Label2,
+    vars: Items<(Name, Sort)>,
+    mut hyps: Items<(Label2, Term)>,
+    premise: Term,
+    goal: Term,
+) -> Result<Sequent, NoMemory>
+    ensures { IfOk result (λ q. q ≡ record { vars = vars; hyps = hyps ++ (label, premise) ∷ []; goal = goal }) }
+{
+    hyps.push((label, premise))?;
+    Ok(Sequent { vars, hyps, goal })
+}
+
+/// What leads a goal, and what is left.
+#[derive(Drop)]
+enum Lead {
+    Premise(Term, Term),
+    Variable(Name, Sort, Term),
+    Nothing(Term),
+}
+
+fn lead_of(goal: Term) -> Lead
+    ensures { IsLead goal result }
+{
+    let Term { node } = goal;
+    match node {
+        TermNode::Implies(a, b) => Lead::Premise(Box::into_inner(a), Box::into_inner(b)),
+        TermNode::Forall(name, sort, body) => Lead::Variable(name, sort, Box::into_inner(body)),
+        node => Lead::Nothing(Term { node }),
+    }
+}
+
+/// Takes off the premises that lead the goal.
+#[cycle(strip)]
+fn strip(alloc: Global, step: u32, part: u32, q: Sequent) -> Result<Stripped, NoMemory>
+    ensures rest { IfOk result (λ r. is_implication r.q.goal ≡ false) }
+    ensures same { IfOk result (λ r. (names : List Name) (p : Sequent) → Intros step part names q p ↔ Intros step r.part names r.q p) }
+{
+    if !is_implies(&q.goal) {
+        return Ok(Stripped { q, part });
+    }
+    let Sequent { vars, hyps, goal } = q;
+    match lead_of(goal) {
+        Lead::Premise(premise, goal) => {
+            let next = next_part(part)?;
+            let rest = assume(Label2 { step, part }, vars, hyps, premise, goal)?;
+            strip(alloc, step, next, rest)
+        }
+        Lead::Variable(_, _, _) => unreachable!(),
+        Lead::Nothing(_) => unreachable!(),
+    }
+}
+
+/// The sequent with the quantifier that leads its goal taken off; `None` where none leads it, or the name is not new.
+fn declare(alloc: Global, name: Name, q: Sequent) -> Result<Option<Sequent>, NoMemory>
+    ensures { IfOk result (λ o. MatchOption o (IsStuck name q) (λ r. IsDeclared name q r)) }
+{
+    if !q.is_new(name) {
+        return Ok(None);
+    }
+    let Sequent { mut vars, hyps, goal } = q;
+    match lead_of(goal) {
+        Lead::Variable(bound, sort, body) => {
+            let goal = body.replaced(alloc, bound, &Term::var(name))?;
+            vars.push((name, sort))?;
+            Ok(Some(Sequent { vars, hyps, goal }))
+        }
+        Lead::Premise(_, _) => Ok(None),
+        Lead::Nothing(_) => Ok(None),
+    }
+}
+
+/// Takes off what leads the goal, with these names for the quantifiers; `None` exactly where that is not to be done.
+fn introduced(
+    alloc: Global,
+    step: u32,
+    names: &[Name],
+    q: &Sequent,
+) -> Result<Option<Sequent>, NoMemory>
+    ensures { IfOk result (λ o. MatchOption o
+        ((p : Sequent) → Intros step 1 names.now q.now p → ⊥)
+        (λ r. Intros step 1 names.now q.now r)) }
+{
+    let mut current = strip(alloc, step, 1, q.copy(alloc)?)?;
+    for i in 0..names.len() {
+        let Stripped { q, part } = current;
+        match declare(alloc, names[i], q)? {
+            None => return Ok(None),
+            Some(next) => current = strip(alloc, step, part, next)?,
+        }
+    }
+    let Stripped { q, part: _ } = current;
+    Ok(Some(q))
+}
+
+/// The premise of a step that takes off what leads the goal; `None` exactly where no such step applies.
+pub fn intro(
+    alloc: Global,
+    step: u32,
+    names: &[Name],
+    q: &Sequent,
+) -> Result<Option<Sequent>, NoMemory>
+    ensures { IfOk result (λ o. MatchOption o
+        ((p : Sequent) → TakesSome names.now q.now → Intros step 1 names.now q.now p → ⊥)
+        (λ r. TakesSome names.now q.now × Intros step 1 names.now q.now r)) }
+{
+    if names.is_empty() && !is_implies(&q.goal) {
+        return Ok(None);
+    }
+    introduced(alloc, step, names, q)
+}
