@@ -1,5 +1,5 @@
 -- What the words of a proof file spell.
-use Rattle.std.specs.Prelude.{◌≡◌, ℕ, ℤ, pos, neg_ℤ, ◌+◌, ◌^◌, List, [], ◌∷◌, length, drop, codes, Bool, true, false, ◌&&◌, ◌||◌, not, Option, None, Some, slice_index, nat_lt, ◌==◌, if◌then◌else◌}
+use Rattle.std.specs.Prelude.{◌≡◌, ℕ, ℤ, pos, neg_ℤ, ◌+◌, ◌^◌, List, [], ◌∷◌, length, drop, codes, Bool, true, false, ◌&&◌, ◌||◌, Option, None, Some, slice_index, nat_lt, ◌==◌, if◌then◌else◌}
 use Rattle.std.specs.Char.{is_ascii_digit, is_ascii_alphanumeric}
 use Rattle.std.specs.List.{list_all, list_any, position_or_len, before_first, after_first}
 use Rattle.std.specs.Option.{option_map}
@@ -16,7 +16,7 @@ None >>= f = None
 (Some x) >>= f = f x
 
 -- `0`, or decimal digits of which the first is not `0`
-abbrev pub is_numeral : List ℕ → Bool
+unfoldable pub is_numeral : List ℕ → Bool
 is_numeral word = if slice_index word 0 == 48 then length word == 1 else nat_lt 0 (length word) && list_all is_ascii_digit word
 
 -- the value of a numeral, where it is below the bound
@@ -26,12 +26,20 @@ numeral_below bound word = if is_numeral word && nat_lt (digits_value 10 word) b
 abbrev pub number_of : List ℕ → Option ℕ
 number_of word = numeral_below (2 ^ 32) word
 
+-- what follows a `-`
+abbrev pub after_minus : List ℕ → Option (List ℕ)
+after_minus word = if slice_index word 0 == 45 then Some (drop 1 word) else None
+
+-- the first where there is one, or the second
+abbrev pub or_else : {A B C : Type 0} → (A → C) → (B → C) → Option A → B → C
+or_else f g (Some x) y = f x
+or_else f g None y = g y
+
 -- a number of 128 bits with a sign: a numeral, or `-` and a numeral
-abbrev pub multiplier_of : List ℕ → Option ℤ
+unfoldable pub multiplier_of : List ℕ → Option ℤ
 multiplier_of word =
-    if slice_index word 0 == 45
-    then option_map (λ n. neg_ℤ (pos n)) (numeral_below (2 ^ 127 + 1) (drop 1 word))
-    else option_map pos (numeral_below (2 ^ 127) word)
+    or_else (λ digits. option_map (λ n. neg_ℤ (pos n)) (numeral_below (2 ^ 127 + 1) digits))
+        (λ digits. option_map pos (numeral_below (2 ^ 127) digits)) (after_minus word) word
 
 -- what stands before and after the first such byte
 abbrev pub cut : ℕ → List ℕ → Option (List ℕ × List ℕ)
@@ -52,8 +60,7 @@ label_of word = do
 unfoldable pub reference_of : List ℕ → Option Reference
 reference_of word =
     if bytes_eq word (codes "goal") then Some Goal
-    else if slice_index word 0 == 45 then option_map Back (label_of (drop 1 word))
-    else option_map Hyp (label_of word)
+    else or_else (λ label. option_map Back (label_of label)) (λ label. option_map Hyp (label_of label)) (after_minus word) word
 
 -- `M:REF`: a multiplier and a reference with a colon between
 unfoldable pub multiple_of : List ℕ → Option Multiple
@@ -79,5 +86,6 @@ is_keyword word = list_any (λ k. bytes_eq word k) keywords
 -- letters, digits and `_`, of which the first is no digit; neither `_` alone nor a keyword
 unfoldable pub is_identifier : List ℕ → Bool
 is_identifier word =
-    nat_lt 0 (length word) && list_all (λ b. is_ascii_alphanumeric b || b == 95) word
-    && not (is_ascii_digit (slice_index word 0)) && not (bytes_eq word (codes "_")) && not (is_keyword word)
+    if length word == 0 || is_ascii_digit (slice_index word 0) || bytes_eq word (codes "_") || is_keyword word
+    then false
+    else list_all (λ b. is_ascii_alphanumeric b || b == 95) word

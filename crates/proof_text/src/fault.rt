@@ -71,3 +71,16 @@ impl<T: Drop> From<AllocFailed<T>> for Fault {
         Fault::NoMemory
     }
 }
+
+impl Fault {
+    /// The fault of a line, with its number.
+    pub(crate) fn at_line(self, line: u32) -> ProofTextError
+        ensures bad { self ≡ Fault.Bad → result ≡ ProofTextError.BadLine line }
+        ensures memory { self ≡ Fault.NoMemory → result ≡ ProofTextError.NoMemory }
+    {
+        match self {
+            Fault::Bad => ProofTextError::BadLine(line),
+            Fault::NoMemory => ProofTextError::NoMemory,
+        }
+    }
+}
