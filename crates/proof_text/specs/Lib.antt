@@ -1,0 +1,4 @@
+pub mod ProofTextFile
+pub mod ProofTextLines
+pub mod ProofTextReads
+pub mod ProofTextWords

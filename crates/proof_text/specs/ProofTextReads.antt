@@ -1,0 +1,46 @@
+-- What the functions that read answer, beside what the text spells.
+use Rattle.std.specs.Prelude.{◌≡◌, ℕ, List, Option, None, Some, Result, Ok, Err}
+use Rattle.text_core.specs.Names.{text_of}
+use Rattle.text_core.specs.declared.name.Name.{Name}
+use Rattle.proof_text.specs.declared.fault.Fault.{Fault}
+use Rattle.proof_text.specs.declared.fault.Fault.TheVariants.{Bad, NoMemory}
+use Rattle.proof_text.specs.declared.fault.ProofTextError.{ProofTextError}
+use Rattle.proof_text.specs.declared.fault.ProofTextError.TheVariants as errors
+use Rattle.proof_text.specs.declared.line.Line as code
+use Rattle.proof_text.specs.declared.line.Line.TheVariants as lines
+use Rattle.proof_text.specs.declared.reader.Stage.{Stage}
+use Rattle.proof_text.specs.declared.reader.Stage.TheVariants as stages
+use Rattle.proof_text.specs.ProofTextLines.{Says, Line, passed, heading, step, «end»}
+use Rattle.proof_text.specs.ProofTextFile.{State, start, between, within, Each, SaysStep, SaysProof}
+
+-- what was read is as it was said; a fault comes where nothing is said, unless memory ran out
+abbrev pub Reads : {X Y : Type 0} → (Y → X → Type 0) → Result X Fault → Option Y → Type 0
+Reads R (Ok x) None = ⊥
+Reads R (Ok x) (Some y) = R y x
+Reads R (Err Bad) said = said ≡ None
+Reads R (Err NoMemory) said = Unit {0}
+
+-- the same of several lines
+abbrev pub ReadsLines : {X Y : Type 0} → (Y → X → Type 0) → Result X ProofTextError → Result Y ℕ → Type 0
+ReadsLines R (Ok x) (Err n) = ⊥
+ReadsLines R (Ok x) (Ok y) = R y x
+ReadsLines R (Err (errors.BadLine n)) said = said ≡ Err n
+ReadsLines R (Err errors.NoMemory) said = Unit {0}
+
+-- each name keeps its text
+abbrev pub KeepsNames : List (List ℕ) → List (List ℕ) → Type 0
+KeepsNames old new = (name : Name) (text : List ℕ) → text_of old name ≡ Some text → text_of new name ≡ Some text
+
+abbrev pub SaysLine : List (List ℕ) → Line → code.Line → Type 0
+SaysLine table passed lines.Passed = Unit {0}
+SaysLine table (heading number owner) (lines.Heading m o) = (number ≡ m) × (owner ≡ o.now)
+SaysLine table (step said) (lines.Step s) = Says table said s
+SaysLine table «end» lines.End = Unit {0}
+SaysLine table _ _ = ⊥
+
+abbrev pub SaysState : List (List ℕ) → State → Stage → Type 0
+SaysState table start stages.Start = Unit {0}
+SaysState table (between proofs) (stages.Between done) = Each (SaysProof table) proofs done.items
+SaysState table (within proofs number owner steps) (stages.Within done opened) =
+    Each (SaysProof table) proofs done.items × (number ≡ opened.number) × (owner ≡ opened.owner.now) × Each (SaysStep table) steps opened.steps.items
+SaysState table _ _ = ⊥

@@ -1,0 +1,91 @@
+-- What the words of a proof file spell.
+use Rattle.std.specs.Prelude.{◌≡◌, ℕ, ℤ, pos, neg_ℤ, ◌+◌, ◌^◌, List, [], ◌∷◌, length, drop, codes, Bool, true, false, ◌&&◌, ◌||◌, Option, None, Some, slice_index, nat_lt, ◌==◌, if◌then◌else◌}
+use Rattle.std.specs.Char.{is_ascii_digit, is_ascii_alphanumeric}
+use Rattle.std.specs.List.{list_all, list_any, position_or_len, before_first, after_first}
+use Rattle.std.specs.Option.{option_map}
+use Rattle.std.specs.Str.{bytes_eq}
+use Rattle.std.specs.Str.Parse.{digits_value}
+use Rattle.logic_term.specs.declared.kinds.Label2.{Label2}
+use Rattle.proof_kernel.specs.declared.step.Multiple.{Multiple}
+use Rattle.proof_kernel.specs.declared.step.Reference.{Reference}
+use Rattle.proof_kernel.specs.declared.step.Reference.TheVariants.{Goal, Hyp, Back}
+
+infixl 10 ◌>>=◌
+abbrev pub ◌>>=◌ : {A B : Type 0} → Option A → (A → Option B) → Option B
+None >>= f = None
+(Some x) >>= f = f x
+
+-- `0`, or decimal digits of which the first is not `0`
+unfoldable pub is_numeral : List ℕ → Bool
+is_numeral word = if slice_index word 0 == 48 then length word == 1 else nat_lt 0 (length word) && list_all is_ascii_digit word
+
+-- the value of a numeral, where it is below the bound
+abbrev pub numeral_below : ℕ → List ℕ → Option ℕ
+numeral_below bound word = if is_numeral word && nat_lt (digits_value 10 word) bound then Some (digits_value 10 word) else None
+
+abbrev pub number_of : List ℕ → Option ℕ
+number_of word = numeral_below (2 ^ 32) word
+
+-- what follows a `-`
+abbrev pub after_minus : List ℕ → Option (List ℕ)
+after_minus word = if slice_index word 0 == 45 then Some (drop 1 word) else None
+
+-- the first where there is one, or the second
+abbrev pub or_else : {A B C : Type 0} → (A → C) → (B → C) → Option A → B → C
+or_else f g (Some x) y = f x
+or_else f g None y = g y
+
+-- a number of 128 bits with a sign: a numeral, or `-` and a numeral
+unfoldable pub multiplier_of : List ℕ → Option ℤ
+multiplier_of word =
+    or_else (λ digits. option_map (λ n. neg_ℤ (pos n)) (numeral_below (2 ^ 127 + 1) digits))
+        (λ digits. option_map pos (numeral_below (2 ^ 127) digits)) (after_minus word) word
+
+-- what stands before and after the first such byte
+abbrev pub cut : ℕ → List ℕ → Option (List ℕ × List ℕ)
+cut byte word =
+    if nat_lt (position_or_len (λ b. b == byte) word) (length word)
+    then Some (before_first (λ b. b == byte) word, after_first (λ b. b == byte) word)
+    else None
+
+-- `S.P`: two numbers with a point between
+unfoldable pub label_of : List ℕ → Option Label2
+label_of word = do
+  parts ← cut 46 word
+  step ← number_of parts.0
+  part ← number_of parts.1
+  Some (record { step = step; part = part })
+
+-- `goal`, a label, or `-` and a label
+unfoldable pub reference_of : List ℕ → Option Reference
+reference_of word =
+    if bytes_eq word (codes "goal") then Some Goal
+    else or_else (λ label. option_map Back (label_of label)) (λ label. option_map Hyp (label_of label)) (after_minus word) word
+
+-- `M:REF`: a multiplier and a reference with a colon between
+unfoldable pub multiple_of : List ℕ → Option Multiple
+multiple_of word = do
+  parts ← cut 58 word
+  by ← multiplier_of parts.0
+  of ← reference_of parts.1
+  Some (record { by = by; of = of })
+
+-- the strict keywords of Rust
+abbrev pub keywords : List (List ℕ)
+keywords =
+    codes "as" ∷ codes "break" ∷ codes "const" ∷ codes "continue" ∷ codes "crate" ∷ codes "else" ∷ codes "enum"
+    ∷ codes "extern" ∷ codes "false" ∷ codes "fn" ∷ codes "for" ∷ codes "if" ∷ codes "impl" ∷ codes "in" ∷ codes "let"
+    ∷ codes "loop" ∷ codes "match" ∷ codes "mod" ∷ codes "move" ∷ codes "mut" ∷ codes "pub" ∷ codes "ref"
+    ∷ codes "return" ∷ codes "self" ∷ codes "Self" ∷ codes "static" ∷ codes "struct" ∷ codes "super" ∷ codes "trait"
+    ∷ codes "true" ∷ codes "type" ∷ codes "unsafe" ∷ codes "use" ∷ codes "where" ∷ codes "while" ∷ codes "async"
+    ∷ codes "await" ∷ codes "dyn" ∷ []
+
+unfoldable pub is_keyword : List ℕ → Bool
+is_keyword word = list_any (λ k. bytes_eq word k) keywords
+
+-- letters, digits and `_`, of which the first is no digit; neither `_` alone nor a keyword
+unfoldable pub is_identifier : List ℕ → Bool
+is_identifier word =
+    if length word == 0 || is_ascii_digit (slice_index word 0) || bytes_eq word (codes "_") || is_keyword word
+    then false
+    else list_all (λ b. is_ascii_alphanumeric b || b == 95) word

@@ -1,0 +1,15 @@
+//! Proof files, version 1: the proofs of obligations, step by step, as text.
+#![tactic(auto)]
+
+mod fault;
+mod line;
+mod proof;
+mod reader;
+mod step;
+#[cfg(test)]
+mod tests;
+mod word;
+
+pub use fault::ProofTextError;
+pub use proof::{NumberedStep, Proof, ProofFile};
+pub use reader::read_proofs;

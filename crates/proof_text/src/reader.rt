@@ -1,0 +1,224 @@
+ghost use Rattle.std.specs.Prelude.{◌≡◌, ℕ, ◌+◌, ◌^◌, ◌<◌, ◌≤◌, ◌==◌, ◌&&◌, List, length, map, sum_by, IfOk, IsErrOf};
+ghost use Rattle.std.specs.List.{slice_split};
+ghost use Rattle.std.specs.Str.{bytes_eq};
+ghost use Rattle.proof_text.specs.ProofTextFile.{State, start, Each, SaysStep, SaysProof, SaidProof, is_proved, state_after, next_state, state_after_all, SpellsProofs, IsFirstBadLine};
+ghost use Rattle.proof_text.specs.ProofTextLines.{Said, Line as SaidLine, Says, heading, step as said_step, «end»};
+ghost use Rattle.proof_text.specs.ProofTextReads.{Reads, ReadsLines, KeepsNames, SaysLine, SaysState};
+
+use crate::fault::{Fault, ProofTextError};
+use crate::line::{Line, read_line};
+use crate::proof::{NumberedStep, Proof, ProofFile};
+use proof_kernel::Step;
+use std::alloc::Global;
+use text_core::{Items, Names, Text};
+
+/// The first line.
+const HEADER: &[u8] = b"creusot-proofs 1";
+
+/// A proof of which the `end` has not come.
+#[derive(Drop)]
+pub(crate) struct OpenProof<'a> {
+    number: u32,
+    owner: &'a str,
+    steps: Vec<NumberedStep>,
+}
+
+/// Where the file stands between two lines, with the proofs so far.
+#[derive(Drop)]
+pub(crate) enum Stage<'a> {
+    Start,
+    Between(Vec<Proof>),
+    Within(Vec<Proof>, OpenProof<'a>),
+}
+
+/// Whether this is a proof of this obligation.
+fn is_of(proof: &Proof, number: u32, owner: &str) -> bool
+    ensures { result ≡ (proof.now.number == number && bytes_eq proof.now.owner owner.now) }
+{
+    proof.number == number && proof.owner.bytes() == owner.as_bytes()
+}
+
+fn is_proved(number: u32, owner: &str, proofs: &[Proof]) -> bool
+    ensures { (table : List (List ℕ)) (said : List SaidProof) → Each (SaysProof table) said proofs.now → result ≡ is_proved number owner.now said }
+{
+    proofs.iter().any(|proof| is_of(proof, number, owner))
+}
+
+/// Where the file stands after the head of a proof.
+fn opened<'a>(
+    alloc: Global,
+    stage: Stage<'a>,
+    number: u32,
+    owner: &'a str,
+) -> Result<Stage<'a>, Fault>
+    ensures { (table : List (List ℕ)) (s : State) (n : ℕ) → SaysState table s stage.entry → Reads (SaysState table) result (state_after s n (heading number owner.now)) }
+{
+    match stage {
+        Stage::Between(proofs) => {
+            if is_proved(number, owner, &proofs) {
+                return Err(Fault::Bad);
+            }
+            let steps = Vec::new(alloc);
+            Ok(Stage::Within(
+                proofs,
+                OpenProof {
+                    number,
+                    owner,
+                    steps,
+                },
+            ))
+        }
+        Stage::Start => Err(Fault::Bad),
+        Stage::Within(_proofs, _opened) => Err(Fault::Bad),
+    }
+}
+
+/// Where the file stands after a step.
+fn with_step<'a>(stage: Stage<'a>, line: u32, step: Step) -> Result<Stage<'a>, Fault>
+    ensures { (table : List (List ℕ)) (s : State) (said : Said) → SaysState table s stage.entry → Says table said step → Reads (SaysState table) result (state_after s line (said_step said)) }
+{
+    match stage {
+        Stage::Within(proofs, opened) => {
+            let OpenProof {
+                number,
+                owner,
+                mut steps,
+            } = opened;
+            steps.push(NumberedStep { line, step })?;
+            Ok(Stage::Within(
+                proofs,
+                OpenProof {
+                    number,
+                    owner,
+                    steps,
+                },
+            ))
+        }
+        Stage::Start => Err(Fault::Bad),
+        Stage::Between(_proofs) => Err(Fault::Bad),
+    }
+}
+
+/// Where the file stands after the end of a proof.
+fn closed<'a>(alloc: Global, stage: Stage<'a>, line: u32) -> Result<Stage<'a>, Fault>
+    ensures { (table : List (List ℕ)) (s : State) → SaysState table s stage.entry → Reads (SaysState table) result (state_after s line «end») }
+{
+    match stage {
+        Stage::Within(mut proofs, opened) => {
+            let OpenProof {
+                number,
+                owner,
+                steps,
+            } = opened;
+            let owner = Text::from_bytes(alloc, owner.as_bytes())?;
+            let steps = Items::from_vec(steps);
+            proofs.push(Proof {
+                number,
+                owner,
+                steps,
+                end: line,
+            })?;
+            Ok(Stage::Between(proofs))
+        }
+        Stage::Start => Err(Fault::Bad),
+        Stage::Between(_proofs) => Err(Fault::Bad),
+    }
+}
+
+/// Where the file stands after a line.
+fn after<'a>(
+    alloc: Global,
+    stage: Stage<'a>,
+    number: u32,
+    line: Line<'a>,
+) -> Result<Stage<'a>, Fault>
+    ensures { (table : List (List ℕ)) (s : State) (said : SaidLine) → SaysState table s stage.entry → SaysLine table said line.entry → Reads (SaysState table) result (state_after s number said) }
+{
+    match line {
+        Line::Passed => Ok(stage),
+        Line::Heading(number, owner) => opened(alloc, stage, number, owner),
+        Line::Step(step) => with_step(stage, number, step),
+        Line::End => closed(alloc, stage, number),
+    }
+}
+
+/// Where the file stands after a line of this text.
+fn next<'a>(
+    alloc: Global,
+    stage: Stage<'a>,
+    number: u32,
+    text: &'a [u8],
+    names: &mut Names,
+) -> Result<Stage<'a>, Fault>
+    requires { length names.old + length text.now + 1 < 2 ^ 32 }
+    ensures said { (s : State) → SaysState names.old s stage.entry → Reads (SaysState names.new) result (next_state s number text.now) }
+    ensures kept { KeepsNames names.old names.new }
+    ensures grown { length names.new ≤ length names.old + length text.now }
+{
+    if let Stage::Start = stage {
+        return if text == HEADER {
+            Ok(Stage::Between(Vec::new(alloc)))
+        } else {
+            Err(Fault::Bad)
+        };
+    }
+    let line = read_line(alloc, text, names)?;
+    after(alloc, stage, number, line)
+}
+
+/// Where the file stands after these lines, which are its first.
+fn after_lines<'a>(
+    alloc: Global,
+    lines: &[&'a [u8]],
+    names: &mut Names,
+) -> Result<Stage<'a>, ProofTextError>
+    requires count { length lines.now < 2 ^ 32 }
+    requires room { length names.old + sum_by (λ line. length line.now) lines.now + 1 < 2 ^ 32 }
+    ensures said { ReadsLines (SaysState names.new) result (state_after_all (map (λ line. line.now) lines.now) start 1) }
+    ensures kept { KeepsNames names.old names.new }
+{
+    let mut stage = Stage::Start;
+    for (at, text) in lines.iter().enumerate() {
+        let number = at as u32 + 1;
+        stage = next(alloc, stage, number, *text, names).map_err(|fault| fault.at_line(number))?;
+    }
+    Ok(stage)
+}
+
+fn pieces(alloc: Global, bytes: &[u8]) -> Result<Vec<&[u8]>, ProofTextError>
+    ensures ok { IfOk result (λ pieces. map (λ piece. piece.now) pieces.items ≡ slice_split (λ b. b == 10) bytes.now) }
+    ensures bad { (n : ℕ) → IsErrOf result (ProofTextError.BadLine n) → ⊥ }
+{
+    Ok(bytes.split(|b| *b == b'\n').collect(alloc)?)
+}
+
+/// What the bytes spell: a file of proofs, version 1. `BadLine` is the first bad line. The names of the proofs are
+/// those of the table, which keeps the names that it gave before.
+pub fn read_proofs(
+    alloc: Global,
+    bytes: &[u8],
+    names: &mut Names,
+) -> Result<ProofFile, ProofTextError>
+    requires short { length bytes.now ≤ 2 ^ 26 }
+    requires room { length names.old + 2 ^ 26 + 1 < 2 ^ 32 }
+    ensures ok { IfOk result (λ file. SpellsProofs names.new bytes.now file) }
+    ensures bad { (n : ℕ) → IsErrOf result (ProofTextError.BadLine n) → IsFirstBadLine bytes.now n }
+    ensures kept { KeepsNames names.old names.new }
+{
+    let pieces = pieces(alloc, bytes)?;
+    let Some((rest, lines)) = pieces.split_last() else {
+        return Err(ProofTextError::BadLine(1));
+    };
+    let end = lines.len() as u32 + 1;
+    match after_lines(alloc, lines, names)? {
+        Stage::Between(proofs) => {
+            if !rest.is_empty() {
+                return Err(ProofTextError::BadLine(end));
+            }
+            let proofs = Items::from_vec(proofs);
+            Ok(ProofFile { proofs })
+        }
+        Stage::Start => Err(ProofTextError::BadLine(end)),
+        Stage::Within(_proofs, _opened) => Err(ProofTextError::BadLine(end)),
+    }
+}

@@ -1,0 +1,135 @@
+ghost use Rattle.std.specs.Prelude.{◌≡◌, ◌<◌, ◌||◌, ◌==◌, List, ℕ};
+ghost use Rattle.std.specs.Char.{is_ascii_digit, is_ascii_alphanumeric};
+ghost use Rattle.std.specs.List.{list_all};
+ghost use Rattle.std.specs.Option.{option_map, option_copied};
+ghost use Rattle.proof_text.specs.ProofTextWords.{is_numeral, number_of, multiplier_of, cut, after_minus, label_of, reference_of, multiple_of, is_keyword, is_identifier};
+
+use logic_term::Label2;
+use proof_kernel::{Multiple, Reference};
+
+/// The strict keywords of Rust.
+const KEYWORDS: [&str; 38] = [
+    "as", "break", "const", "continue", "crate", "else", "enum", "extern", "false", "fn", "for",
+    "if", "impl", "in", "let", "loop", "match", "mod", "move", "mut", "pub", "ref", "return",
+    "self", "Self", "static", "struct", "super", "trait", "true", "type", "unsafe", "use", "where",
+    "while", "async", "await", "dyn",
+];
+
+fn are_digits(bytes: &[u8]) -> bool
+    ensures { result ≡ list_all is_ascii_digit bytes.now }
+{
+    bytes.iter().all(|b| b.is_ascii_digit())
+}
+
+/// `0`, or decimal digits of which the first is not `0`.
+#[tactic(auto, unfolding(crate::specs::ProofTextWords::is_numeral))]
+fn is_numeral(word: &str) -> bool
+    ensures { result ≡ is_numeral word.now }
+{
+    let bytes = word.as_bytes();
+    if bytes.is_empty() {
+        false
+    } else if bytes[0] == b'0' {
+        bytes.len() == 1
+    } else {
+        are_digits(bytes)
+    }
+}
+
+/// A number below 2^32.
+pub(crate) fn number(word: &str) -> Option<u32>
+    ensures { result ≡ number_of word.now }
+{
+    if !is_numeral(word) {
+        return None;
+    }
+    word.parse::<u32>().ok()
+}
+
+/// What follows a `-`.
+fn after_minus(word: &str) -> Option<&str>
+    ensures { option_copied result ≡ after_minus word.now }
+{
+    word.strip_prefix('-')
+}
+
+/// A number of 128 bits with a sign.
+fn multiplier(word: &str) -> Option<i128>
+    ensures { result ≡ multiplier_of word.now }
+{
+    let digits = after_minus(word).unwrap_or(word);
+    if !is_numeral(digits) {
+        return None;
+    }
+    word.parse::<i128>().ok()
+}
+
+/// What stands before and after the first such character.
+fn cut(word: &str, at: char) -> Option<(&str, &str)>
+    requires { at < 128 }
+    ensures { option_map (λ parts. (parts.0.now, parts.1.now)) result ≡ cut at word.now }
+{
+    word.split_once(at)
+}
+
+/// `S.P`
+#[tactic(auto, unfolding(crate::specs::ProofTextWords::label_of))]
+pub(crate) fn label(word: &str) -> Option<Label2>
+    ensures { result ≡ label_of word.now }
+{
+    let (step, part) = cut(word, '.')?;
+    let step = number(step)?;
+    let part = number(part)?;
+    Some(Label2 { step, part })
+}
+
+/// `goal`, a label, or `-` and a label.
+#[tactic(auto, unfolding(crate::specs::ProofTextWords::reference_of))]
+fn reference(word: &str) -> Option<Reference>
+    ensures { result ≡ reference_of word.now }
+{
+    if word == "goal" {
+        return Some(Reference::Goal);
+    }
+    match after_minus(word) {
+        Some(rest) => Some(Reference::Back(label(rest)?)),
+        None => Some(Reference::Hyp(label(word)?)),
+    }
+}
+
+/// `M:REF`
+#[tactic(auto, unfolding(crate::specs::ProofTextWords::multiple_of))]
+pub(crate) fn multiple(word: &str) -> Option<Multiple>
+    ensures { result ≡ multiple_of word.now }
+{
+    let (by, of) = cut(word, ':')?;
+    let by = multiplier(by)?;
+    let of = reference(of)?;
+    Some(Multiple { by, of })
+}
+
+fn is_keyword(word: &str) -> bool
+    ensures { result ≡ is_keyword word.now }
+{
+    KEYWORDS.iter().any(|keyword| word == *keyword)
+}
+
+fn are_name_bytes(bytes: &[u8]) -> bool
+    ensures { result ≡ list_all (λ b. is_ascii_alphanumeric b || b == 95) bytes.now }
+{
+    bytes
+        .iter()
+        .all(|b| b.is_ascii_alphanumeric() || *b == b'_')
+}
+
+/// Letters, digits and `_`, of which the first is no digit; neither `_` alone nor a keyword.
+#[tactic(auto, unfolding(crate::specs::ProofTextWords::is_identifier))]
+pub(crate) fn is_identifier(word: &str) -> bool
+    ensures { result ≡ is_identifier word.now }
+{
+    let bytes = word.as_bytes();
+    if bytes.is_empty() || bytes[0].is_ascii_digit() || word == "_" || is_keyword(word) {
+        return false;
+    }
+    are_name_bytes(bytes)
+}
