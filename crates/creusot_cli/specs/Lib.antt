@@ -1,2 +1,3 @@
 pub mod MirBuild
+pub mod MirBuildBounds
 pub mod WpGen

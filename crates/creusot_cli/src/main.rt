@@ -1,6 +1,7 @@
 //! The program: `verify SOURCE --proofs FILE` prints which functions of a source are verified.
 #![tactic(auto)]
 
+mod mir_build;
 mod rs_syntax;
 
 fn main() {}
