@@ -1,5 +1,6 @@
 pub mod MirBuild
 pub mod Report
+pub mod MirBuildBounds
 pub mod WpGen
 pub mod SourceForm
 pub mod SourceFormReading

@@ -2,6 +2,7 @@
 #![tactic(auto)]
 
 mod report_out;
+mod mir_build;
 mod rs_syntax;
 mod rs_tokens;
 
