@@ -1,1 +1,2 @@
 pub mod MirBuildLemmas
+pub mod WpGenLemmas

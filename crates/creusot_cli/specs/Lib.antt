@@ -1,3 +1,4 @@
 pub mod MirBuild
 pub mod MirBuildBounds
 pub mod WpGen
+pub mod WpGenGoals

@@ -3,5 +3,6 @@
 
 mod mir_build;
 mod rs_syntax;
+mod wp_gen;
 
 fn main() {}
