@@ -13,3 +13,4 @@ pub mod ReadLaws
 pub mod AgainLaws
 pub mod FunctionLaws
 pub mod MirBuildLemmas
+pub mod WpGenLemmas

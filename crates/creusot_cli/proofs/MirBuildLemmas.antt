@@ -67,10 +67,10 @@ one_more_operator next count i a steps s old new adds below size read so_far =
     let next_is : next + suc (count - (i + 1)) ≡ next + (count - (i + 1)) + 1 = omega arith in
     let taken : take (i + 1) steps ≡ take i steps ++ s ∷ [] = take_more steps i s within ∙ ap (λ x. take i steps ++ x ∷ []) (sym read) in
     let old_is : old ≡ chain_into (next + n) (next + n + 1) a (reverse (take i steps)) =
-      so_far ∙ ap (λ k. chain_into (target next k) (next + k) a (reverse (take i steps))) before_is ∙ ap (λ k. chain_into (next + n) k a (reverse (take i steps))) next_is in
+    so_far ∙ ap (λ k. chain_into (target next k) (next + k) a (reverse (take i steps))) before_is ∙ ap (λ k. chain_into (next + n) k a (reverse (take i steps))) next_is in
     let new_is : new ≡ old ++ atom_into (next + n + 1 + 2 * i) s.atom ∷ operation_into (target next n) s (next + n) (next + n + 1 + 2 * i) ∷ [] =
-      adds.items ∙ ap (λ k. old ++ atom_into (next + count + i) s.atom ∷ operation_into (target next k) s (next + k) (next + count + i) ∷ []) after_is
-        ∙ ap (λ k. old ++ atom_into k s.atom ∷ operation_into (target next n) s (next + n) k ∷ []) right_is in
+    adds.items ∙ ap (λ k. old ++ atom_into (next + count + i) s.atom ∷ operation_into (target next k) s (next + k) (next + count + i) ∷ []) after_is
+    ∙ ap (λ k. old ++ atom_into k s.atom ∷ operation_into (target next n) s (next + n) k ∷ []) right_is in
     new_is ∙ ap (λ xs. xs ++ atom_into (next + n + 1 + 2 * i) s.atom ∷ operation_into (target next n) s (next + n) (next + n + 1 + 2 * i) ∷ []) old_is
-      ∙ sym (chain_into-append (target next n) (next + n) i a (take i steps) s (length-take-le i steps (omega arith)))
-      ∙ ap (λ xs. chain_into (target next n) (next + n) a (reverse xs)) (sym taken)
+    ∙ sym (chain_into-append (target next n) (next + n) i a (take i steps) s (length-take-le i steps (omega arith)))
+    ∙ ap (λ xs. chain_into (target next n) (next + n) a (reverse xs)) (sym taken)

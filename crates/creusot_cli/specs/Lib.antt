@@ -5,3 +5,4 @@ pub mod WpGen
 pub mod SourceForm
 pub mod SourceFormReading
 pub mod SourceTokens
+pub mod WpGenGoals

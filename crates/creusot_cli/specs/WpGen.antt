@@ -50,7 +50,6 @@ built Add = Some arith_op.Add
 built Sub = Some arith_op.Sub
 built _ = None
 
-
 -- the exact result
 abbrev pub exact : ArithOp → Operand → Operand → Term
 exact op a b = calculate op (model (operand_term a)) (model (operand_term b))

@@ -5,5 +5,6 @@ mod report_out;
 mod mir_build;
 mod rs_syntax;
 mod rs_tokens;
+mod wp_gen;
 
 fn main() {}

@@ -69,7 +69,12 @@ fn sum_from(alloc: Global, first: Term, steps: &[SumStep]) -> Result<Term, NoMem
 {
     let mut sum = first;
     for step in steps {
-        sum = Term::calculate(alloc, arith_of(step.sign), sum, item_term(alloc, step.item)?)?;
+        sum = Term::calculate(
+            alloc,
+            arith_of(step.sign),
+            sum,
+            item_term(alloc, step.item)?,
+        )?;
     }
     Ok(sum)
 }
@@ -242,7 +247,14 @@ fn chain_statements(alloc: Global, next: u32, chain: &Chain) -> Result<Vec<State
         let after = count - 1 - i as u32;
         let left = next + after;
         let right = next + count + i as u32;
-        push_operation(alloc, &mut statements, target(next, after), *step, left, right)?;
+        push_operation(
+            alloc,
+            &mut statements,
+            target(next, after),
+            *step,
+            left,
+            right,
+        )?;
     }
     Ok(statements)
 }
