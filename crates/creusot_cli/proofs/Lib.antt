@@ -12,3 +12,4 @@ pub mod LeafLaws
 pub mod ReadLaws
 pub mod AgainLaws
 pub mod FunctionLaws
+pub mod ReportLaws

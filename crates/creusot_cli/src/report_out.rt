@@ -324,3 +324,6 @@ pub fn proof_limit(alloc: Global, counted: u64) -> Result<Vec<u8>, NoMemory>
 {
     limit_line(alloc, b"limit proof-bytes ", counted, b" 67108864")
 }
+
+#[cfg(test)]
+mod tests;
