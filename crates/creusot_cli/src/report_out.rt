@@ -1,8 +1,8 @@
 //! The report of a verdict, and the lines that say why there is none.
 
-ghost use Rattle.std.specs.Prelude.{◌≡◌, ◌+◌, ◌^◌, ◌<◌, [], ◌++◌, codes, flat_map, length, filter, take, count_by, ◌==◌, IfOk, OnOk};
+ghost use Rattle.std.specs.Prelude.{◌≡◌, ◌+◌, ◌^◌, ◌<◌, ◌++◌, codes, flat_map, length, IfOk, OnOk};
 ghost use Rattle.std.specs.Fmt.{decimal};
-ghost use Rattle.creusot_cli.specs.Report.{line_feed, space, kind_text, reason_text, span_text, line_number, verified_line, function_line, open_line, verified_count, summary_line, report_of, source_error_line, proof_error_line, words_error_line, source_limit_line, proof_limit_line};
+ghost use Rattle.creusot_cli.specs.Report.{line_feed, space, kind_text, reason_text, span_text, line_number, function_line, open_line, verified_count, summary_line, report_of, source_error_line, proof_error_line, words_error_line, source_limit_line, proof_limit_line};
 
 use std::alloc::Global;
 use text_core::{Items, Kind, NoMemory, Span, Text, line_of};
@@ -100,12 +100,7 @@ fn push_span(alloc: Global, out: &mut Vec<u8>, span: Span) -> Result<(), NoMemor
 }
 
 /// The span, and the line where it starts.
-fn push_place(
-    alloc: Global,
-    out: &mut Vec<u8>,
-    span: Span,
-    source: &[u8],
-) -> Result<(), NoMemory>
+fn push_place(alloc: Global, out: &mut Vec<u8>, span: Span, source: &[u8]) -> Result<(), NoMemory>
     requires { length source.now + 1 < 2 ^ 32 }
     ensures { OnOk result (out.new.items ≡ out.old.items ++ (span_text span ++ codes " line " ++ decimal (line_number source.now span.start))) }
 {
@@ -209,11 +204,7 @@ fn push_two_counts(
     push_number(alloc, out, second)
 }
 
-fn push_function_counts(
-    alloc: Global,
-    out: &mut Vec<u8>,
-    v: &Verdict,
-) -> Result<(), NoMemory>
+fn push_function_counts(alloc: Global, out: &mut Vec<u8>, v: &Verdict) -> Result<(), NoMemory>
     ensures { OnOk result (out.new.items ≡ out.old.items ++ (codes "summary functions " ++ decimal (length v.now.functions) ++ codes " verified " ++ decimal (verified_count v.now))) }
 {
     let functions = v.functions.len() as u64;
@@ -228,11 +219,7 @@ fn push_function_counts(
     )
 }
 
-fn push_obligation_counts(
-    alloc: Global,
-    out: &mut Vec<u8>,
-    v: &Verdict,
-) -> Result<(), NoMemory>
+fn push_obligation_counts(alloc: Global, out: &mut Vec<u8>, v: &Verdict) -> Result<(), NoMemory>
     ensures { OnOk result (out.new.items ≡ out.old.items ++ (codes " obligations " ++ decimal v.now.obligations ++ codes " proved " ++ decimal v.now.proved)) }
 {
     let obligations = v.obligations as u64;
@@ -295,12 +282,7 @@ pub fn words_error(alloc: Global) -> Result<Vec<u8>, NoMemory>
 }
 
 /// The words, the number that was counted, and the limit that it is above.
-fn limit_line(
-    alloc: Global,
-    words: &[u8],
-    counted: u64,
-    limit: &[u8],
-) -> Result<Vec<u8>, NoMemory>
+fn limit_line(alloc: Global, words: &[u8], counted: u64, limit: &[u8]) -> Result<Vec<u8>, NoMemory>
     ensures { IfOk result (λ bytes. bytes.items ≡ words.now ++ decimal counted ++ limit.now ++ line_feed) }
 {
     let mut out = Vec::from_slice(alloc, words)?;

@@ -86,8 +86,14 @@ fn refusals_have_lines(rt: HostRuntime) -> Result<(), Fail> {
 fn limits_have_lines(rt: HostRuntime) -> Result<(), Fail> {
     let alloc = rt.alloc();
     let source = source_limit(alloc, 1048577)?;
-    assert_eq!(rt; source.as_slice(), b"limit source-bytes 1048577 1048576\n".as_slice());
+    assert_eq!(rt;
+        source.as_slice(),
+        b"limit source-bytes 1048577 1048576\n".as_slice()
+    );
     let proof = proof_limit(alloc, 67108865)?;
-    assert_eq!(rt; proof.as_slice(), b"limit proof-bytes 67108865 67108864\n".as_slice());
+    assert_eq!(rt;
+        proof.as_slice(),
+        b"limit proof-bytes 67108865 67108864\n".as_slice()
+    );
     Ok(())
 }

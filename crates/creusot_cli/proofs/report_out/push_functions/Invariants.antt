@@ -1,4 +1,4 @@
-use Rattle.std.proofs.Common.{rules, ◌≡◌, ◌+◌, ◌++◌, flat_map, length, take, ◌≤◌, ◌∷◌, [], List, ℕ, slice_index_or, OnOk}
+use Rattle.std.proofs.Common.{◌≡◌, ◌++◌, flat_map, take}
 use Rattle.creusot_cli.specs.Report.{function_line}
 use Rattle.creusot_cli.proofs.report_out.push_functions.Given as goal
 
