@@ -14,3 +14,4 @@ pub mod AgainLaws
 pub mod FunctionLaws
 pub mod MirBuildLemmas
 pub mod WpGenLemmas
+pub mod ReportLaws
