@@ -33,9 +33,10 @@ onward s k names q p a b e (by_variable {y = y} {t = t} {b = c} f new i) = absur
 
 pub premise_step : (s k : ℕ) (names : List Name) (q p : Sequent) (a b : Term) → q.goal ≡ implies a b → Intros s k names q p ↔ Intros s (k + 1) names (assuming q (label s k) a b) p
 premise_step s k names q p a b e =
-    let next : suc k ≡ k + 1 = sym (add-one k) in
-    ((λ i. subst (λ n. Intros s n names (assuming q (label s k) a b) p) next (onward s k names q p a b e i)),
-     (λ i. by_premise e (subst (λ n. Intros s n names (assuming q (label s k) a b) p) (sym next) i)))
+    let next : suc k ≡ k + 1 = sym (add-one k) in (
+      (λ i. subst (λ n. Intros s n names (assuming q (label s k) a b) p) next (onward s k names q p a b e i)),
+      (λ i. by_premise e (subst (λ n. Intros s n names (assuming q (label s k) a b) p) (sym next) i)),
+    )
 
 same_name_of : (y z : Name) (t u : Ty) (b c : Term) → forall y t b ≡ forall z u c → y ≡ z
 same_name_of y z t u b c e = cc
@@ -54,11 +55,12 @@ inside s k x names q p y t b e left l (by_variable {x = x'} {y = z} {names = nam
     let same_names : names' ≡ names = cc in
     let all = sym f ∙ e in
     let moved : Intros s k names' (declaring q x' t (replaced y (var x') b)) p =
-        subst (λ d. Intros s k names' (declaring q x' t (replaced y (var x') d)) p) (same_body_of z y u t c b all)
-        (subst (λ r. Intros s k names' (declaring q x' r (replaced y (var x') c)) p) (same_sort_of z y u t c b all)
-        (subst (λ w. Intros s k names' (declaring q x' u (replaced w (var x') c)) p) (same_name_of z y u t c b all) i)) in
-    (subst (λ w. IsNew w q) same_x new,
-     subst (λ ns. Intros s k ns (declaring q x t (replaced y (var x) b)) p) same_names (subst (λ w. Intros s k names' (declaring q w t (replaced y (var w) b)) p) same_x moved))
+    subst (λ d. Intros s k names' (declaring q x' t (replaced y (var x') d)) p) (same_body_of z y u t c b all)
+    (subst (λ r. Intros s k names' (declaring q x' r (replaced y (var x') c)) p) (same_sort_of z y u t c b all)
+    (subst (λ w. Intros s k names' (declaring q x' u (replaced w (var x') c)) p) (same_name_of z y u t c b all) i)) in (
+      subst (λ w. IsNew w q) same_x new,
+      subst (λ ns. Intros s k ns (declaring q x t (replaced y (var x) b)) p) same_names (subst (λ w. Intros s k names' (declaring q w t (replaced y (var w) b)) p) same_x moved),
+    )
 
 pub variable_step : (s k : ℕ) (x : Name) (names : List Name) (q p : Sequent) (y : Name) (t : Ty) (b : Term) → q.goal ≡ forall y t b → IsNew x q → Intros s k (x ∷ names) q p ↔ Intros s k names (declaring q x t (replaced y (var x) b)) p
 variable_step s k x names q p y t b e new = ((λ i. (inside s k x names q p y t b e (x ∷ names) refl i).1), (λ i. by_variable e new i))
@@ -106,7 +108,6 @@ declared_same s k x names q r p d =
 abbrev pub Left : ℕ → List Name → Sequent → ℕ → ℕ → Sequent → Type 0
 Left s names first i k q = (is_implication q.goal ≡ false) × ((p : Sequent) → Intros s 1 names first p ↔ Intros s k (drop i names) q p)
 
-
 next_name : (names : List Name) (i : ℕ) (d : Name) → i < length names → drop i names ≡ get_or names i d ∷ drop (i + 1) names
 next_name names i d h = rw (add-one, drop-cons names i d) refl
 
@@ -115,10 +116,12 @@ loop_stops s names first i k q d h left stuck p r =
     stuck_ends s k (get_or names i d) (drop (i + 1) names) q p left.0 stuck (subst (λ ns. Intros s k ns q p) (next_name names i d h) ((left.1 p).0 r))
 
 pub loop_goes_on : (s : ℕ) (names : List Name) (first : Sequent) (i k : ℕ) (q r : Sequent) (j : ℕ) (next : Sequent) (d : Name) → i < length names → Left s names first i k q → IsDeclared (get_or names i d) q r → is_implication next.goal ≡ false → ((ns : List Name) (p : Sequent) → Intros s k ns r p ↔ Intros s j ns next p) → Left s names first (i + 1) j next
-loop_goes_on s names first i k q r j next d h left declared plain same =
-    (plain, λ p. both_same (left.1 p)
+loop_goes_on s names first i k q r j next d h left declared plain same = (
+  plain,
+  λ p. both_same (left.1 p)
       (subst (λ ns. Intros s k ns q p ↔ Intros s j (drop (i + 1) names) next p) (sym (next_name names i d h))
-        (both_same (declared_same s k (get_or names i d) (drop (i + 1) names) q r p declared) (same (drop (i + 1) names) p))))
+      (both_same (declared_same s k (get_or names i d) (drop (i + 1) names) q r p declared) (same (drop (i + 1) names) p))),
+)
 
 pub loop_is_done : (s : ℕ) (names : List Name) (first : Sequent) (i k : ℕ) (q : Sequent) → length names ≤ i → Left s names first i k q → Intros s 1 names first q
 loop_is_done s names first i k q h left = (left.1 q).1 (subst (λ ns. Intros s k ns q q) (sym (drop_all i names h)) (stop left.0))

@@ -49,15 +49,17 @@ module _ (S : Structure) where
   pub held : (l : Label2) (hs : List (Label2 × Term)) (t : Term) (ρ : Env) → hypothesis l hs ≡ Some t → AllHold S hs ρ → Holds S t ρ
   held l [] t ρ e h = absurd (cc)
   held l (g ∷ hs) t ρ e h = elim (picked (same_label l g.0) g.1 t (hypothesis l hs) e) [
-        inl p ↦ subst (λ u. Holds S u ρ) p.1 h.0
-      | inr p ↦ held l hs t ρ p h.1 ]
+    | inl p ↦ subst (λ u. Holds S u ρ) p.1 h.0
+    | inr p ↦ held l hs t ρ p h.1
+  ]
 
   pub sorted : (x : Name) (vs : List (Name × Ty)) (t : Ty) (ρ : Env) → sort_of x vs ≡ Some t → InSorts S vs ρ → HasSort S.declared (ρ x) (instance S.types t)
   sorted x [] t ρ e h = absurd (cc)
   sorted x (v ∷ vs) t ρ e h = elim (picked (x.0 == v.0.0) v.1 t (sort_of x vs) e) [
-        inl p ↦ let same : v.0 ≡ x = sym (same_name x v.0 (same_test x.0 v.0.0 p.0)) in
-            subst (λ y. HasSort S.declared (ρ y) (instance S.types t)) same (subst (λ u. HasSort S.declared (ρ v.0) (instance S.types u)) p.1 h.0)
-      | inr p ↦ sorted x vs t ρ p h.1 ]
+    | inl p ↦ let same : v.0 ≡ x = sym (same_name x v.0 (same_test x.0 v.0.0 p.0)) in
+        subst (λ y. HasSort S.declared (ρ y) (instance S.types t)) same (subst (λ u. HasSort S.declared (ρ v.0) (instance S.types u)) p.1 h.0)
+    | inr p ↦ sorted x vs t ρ p h.1
+  ]
 
   kept : (b : Bool) (w u : Value) (P : Value → Type 0) → b ≡ false → P u → P (cond b w u)
   kept true w u P e p = absurd (true≢false e)
@@ -109,10 +111,10 @@ module _ (S : Structure) where
       subst (λ g. Holds S g ρ) (sym e) ((holds_implies S a b ρ).1 (λ p. intros_sound s (suc k) names (assuming q (label s k) a b) r i true_r ρ z (hyps_more q.hyps _ ρ h (p, tt))))
   intros_sound s k names q r (by_variable {x = x} {y = y} {names = rest} {t = t} {b = b} e new i) true_r = λ ρ z h.
       subst (λ g. Holds S g ρ) (sym e) ((holds_forall S y t b ρ).1 (λ w sort.
-        let ρ' : Env = with_value ρ x w in
-        let here : HasSort S.declared (ρ' x) (instance S.types t) = subst (λ u. HasSort S.declared u (instance S.types t)) (sym (with_same ρ x w)) sort in
-        renamed x y t b ρ w (ap (λ g. free x g) (sym e) ∙ new.in_goal)
-          (intros_sound s k rest (declaring q x t (replaced y (var x) b)) r i true_r ρ' (sorts_more q.vars (x, t) ρ' (sorts_new x q.vars ρ w new.in_vars z) here) (hyps_new x q.hyps ρ w new.in_hyps h))))
+      let ρ' : Env = with_value ρ x w in
+      let here : HasSort S.declared (ρ' x) (instance S.types t) = subst (λ u. HasSort S.declared u (instance S.types t)) (sym (with_same ρ x w)) sort in
+      renamed x y t b ρ w (ap (λ g. free x g) (sym e) ∙ new.in_goal)
+      (intros_sound s k rest (declaring q x t (replaced y (var x) b)) r i true_r ρ' (sorts_more q.vars (x, t) ρ' (sorts_new x q.vars ρ w new.in_vars z) here) (hyps_new x q.hyps ρ w new.in_hyps h))))
 
   -- ---- split
 

@@ -119,12 +119,7 @@ fn one_premise(alloc: Global, premise: Sequent) -> Result<Vec<Sequent>, NoMemory
     Ok(premises)
 }
 
-fn by_intro(
-    alloc: Global,
-    number: u32,
-    names: &Items<Name>,
-    q: &Sequent,
-) -> Result<Made, NoMemory>
+fn by_intro(alloc: Global, number: u32, names: &Items<Name>, q: &Sequent) -> Result<Made, NoMemory>
     ensures { IfOk result (λ made. IsMade number q.now (kinds.Intro names.now) made) }
 {
     match intro(alloc, number, names.as_slice(), q)? {

@@ -4,23 +4,19 @@ ghost use Rattle.proof_kernel.specs.Laws.{DerivedIsTrue, RulesAreSound, StepsGiv
 /// The goal of an obligation that has a proof is true.
 pub fn what_is_derived_is_true()
     ensures { DerivedIsTrue }
-{
-}
+{}
 
 /// Where all premises of a step are true, the sequent is.
 pub fn rules_are_sound()
     ensures { RulesAreSound }
-{
-}
+{}
 
 /// A step at a sequent has one list of premises at most.
 pub fn steps_give_one_result()
     ensures { StepsGiveOneResult }
-{
-}
+{}
 
 /// A step whose certificate passes 128 bits cannot be done.
 pub fn wide_is_not_done()
     ensures { WideIsNotDone }
-{
-}
+{}

@@ -150,19 +150,18 @@ fn with_bounds(
 ) -> Result<Sequent, NoMemory>
     ensures { IfOk result (λ p. p ≡ ranged step kind name q.now) }
 {
-    let Sequent { vars, mut hyps, goal } = q.copy(alloc)?;
+    let Sequent {
+        vars,
+        mut hyps,
+        goal,
+    } = q.copy(alloc)?;
     hyps.push((Label2 { step, part: 1 }, lower_bound_of(alloc, kind, name)?))?;
     hyps.push((Label2 { step, part: 2 }, upper_bound_of(alloc, kind, name)?))?;
     Ok(Sequent { vars, hyps, goal })
 }
 
 /// The sequent with the bounds of the variable; `None` exactly where it is no variable of a machine type.
-pub fn range(
-    alloc: Global,
-    step: u32,
-    name: Name,
-    q: &Sequent,
-) -> Result<Option<Sequent>, NoMemory>
+pub fn range(alloc: Global, step: u32, name: Name, q: &Sequent) -> Result<Option<Sequent>, NoMemory>
     ensures { IfOk result (λ o. MatchOption o
         ((k : IntKind) → sort_of name q.now.vars ≢ Some (int k))
         (λ p. (k : IntKind) × (sort_of name q.now.vars ≡ Some (int k)) × (p ≡ ranged step k name q.now))) }
@@ -267,7 +266,11 @@ fn declare(alloc: Global, name: Name, q: Sequent) -> Result<Option<Sequent>, NoM
     if !q.is_new(name) {
         return Ok(None);
     }
-    let Sequent { mut vars, hyps, goal } = q;
+    let Sequent {
+        mut vars,
+        hyps,
+        goal,
+    } = q;
     match lead_of(goal) {
         Lead::Variable(bound, sort, body) => {
             let goal = body.replaced(alloc, bound, &Term::var(name))?;

@@ -4,6 +4,7 @@ use std::test::Fail;
 use text_core::{Kind, Span, Text};
 
 const X: Name = Name(1000);
+
 const Y: Name = Name(1001);
 
 fn obligation(alloc: Global, goal: Term) -> Result<Obligation, NoMemory> {
@@ -99,14 +100,21 @@ fn closes(rt: HostRuntime) -> Result<(), Fail> {
     apply(&mut kernel, alloc, &high)?;
     assert!(rt; kernel.closed());
     assert!(rt; kernel.first().is_none());
-    assert_eq!(rt; apply(&mut kernel, alloc, &Step::Split), Err(StepError::RuleFails { step: 6 }));
+    assert_eq!(rt;
+        apply(&mut kernel, alloc, &Step::Split),
+        Err(StepError::RuleFails { step: 6 })
+    );
     Ok(())
 }
 
 #[test]
 fn hypothesis_closes(rt: HostRuntime) -> Result<(), Fail> {
     let alloc = rt.alloc();
-    let body = Term::implies(alloc, is_below_hundred(alloc, X)?, is_below_hundred(alloc, X)?)?;
+    let body = Term::implies(
+        alloc,
+        is_below_hundred(alloc, X)?,
+        is_below_hundred(alloc, X)?,
+    )?;
     let goal = obligation(alloc, for_each_i32(alloc, X, body)?)?;
     let mut kernel = Kernel::new(alloc, &goal, &Tables)?;
     let intro = intro_of(alloc, &[Y])?;
@@ -123,14 +131,26 @@ fn refuses_and_goes_on(rt: HostRuntime) -> Result<(), Fail> {
     split_bounds(&mut kernel, alloc)?;
     for step in [0, 4, 5] {
         let own = Step::Hyp(Label2 { step, part: 1 });
-        assert_eq!(rt; apply(&mut kernel, alloc, &own), Err(StepError::UnknownStep { step: 4 }));
+        assert_eq!(rt;
+            apply(&mut kernel, alloc, &own),
+            Err(StepError::UnknownStep { step: 4 })
+        );
     }
     let other = Step::Hyp(Label2 { step: 1, part: 1 });
-    assert_eq!(rt; apply(&mut kernel, alloc, &other), Err(StepError::RuleFails { step: 4 }));
+    assert_eq!(rt;
+        apply(&mut kernel, alloc, &other),
+        Err(StepError::RuleFails { step: 4 })
+    );
     let wide = lin(alloc, i128::MAX, hyp(2, 1))?;
-    assert_eq!(rt; apply(&mut kernel, alloc, &wide), Err(StepError::TooWide { step: 4 }));
+    assert_eq!(rt;
+        apply(&mut kernel, alloc, &wide),
+        Err(StepError::TooWide { step: 4 })
+    );
     let wrong = lin(alloc, 1, hyp(2, 2))?;
-    assert_eq!(rt; apply(&mut kernel, alloc, &wrong), Err(StepError::RuleFails { step: 4 }));
+    assert_eq!(rt;
+        apply(&mut kernel, alloc, &wrong),
+        Err(StepError::RuleFails { step: 4 })
+    );
     let low = lin(alloc, 1, hyp(2, 1))?;
     apply(&mut kernel, alloc, &low)?;
     let high = lin(alloc, 1, hyp(1, 1))?;
@@ -147,7 +167,10 @@ fn names_are_taken_once(rt: HostRuntime) -> Result<(), Fail> {
     let mut kernel = Kernel::new(alloc, &goal, &Tables)?;
     for names in [&[X, X], &[Y, Y]] {
         let twice = intro_of(alloc, names)?;
-        assert_eq!(rt; apply(&mut kernel, alloc, &twice), Err(StepError::RuleFails { step: 1 }));
+        assert_eq!(rt;
+            apply(&mut kernel, alloc, &twice),
+            Err(StepError::RuleFails { step: 1 })
+        );
     }
     let both = intro_of(alloc, &[Y, X])?;
     apply(&mut kernel, alloc, &both)?;
