@@ -14,6 +14,9 @@ mod running;
 mod spot;
 mod tree;
 
+#[cfg(test)]
+mod tests;
+
 pub use args::Args;
 pub use frame::{Frame, State};
 pub use machine::{Machine, NoIntrinsics};
