@@ -3,5 +3,7 @@ pub mod GivenTypes
 pub mod Integers
 pub mod NeverStuck
 pub mod SampleLemmas
+pub mod Shown
 pub mod Stepping
+pub mod Tried
 pub mod Wholes

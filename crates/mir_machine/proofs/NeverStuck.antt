@@ -42,6 +42,7 @@ use Rattle.mir_machine.specs.WellFormed.{PlaceHas, LitHas, OperandHas, operation
 use Rattle.mir_machine.specs.Typed.{Met, Typed, AreTyped, is_int, is_truth, is_tuple, is_adt, is_closure, is_boxed, is_shared, is_unique, none_typed, more_typed}
 use Rattle.mir_machine.specs.Good.{called, IsProper}
 use Rattle.mir_machine.specs.Run.{Run, IsSafe, NeverStuck}
+use Rattle.mir_machine.proofs.Tried.{Goes, goes_then}
 use Rattle.mir_machine.proofs.Wholes.{try_step-whole}
 
 -- ---- places are whole locals
@@ -60,19 +61,6 @@ statement_wholes b (Assign p r) (t, hp, hr) = (hp.0, rvalue_wholes b r t hr)
 
 pub sound_wholes : (bodies : List Body) → AreSound bodies → AllNameWholes bodies
 sound_wholes bodies sound f b is_body l k i st is_block is_statement = statement_wholes b st.kind ((sound f b is_body).0.statements l k i st is_block is_statement)
-
--- ---- what comes to no stuck state
-
--- the value that comes, if one comes, has P; and it does not stick
-abbrev pub Goes : {A : Type 0} → (A → Type 0) → Try A → Type 0
-Goes P (Yields a) = P a
-Goes P (Panics cause span) = Unit {0}
-Goes P Sticks = ⊥
-
-pub goes_then : {A B : Type 0} (P : A → Type 0) (Q : B → Type 0) (m : Try A) (k : A → Try B) → Goes P m → ((a : A) → P a → Goes Q (k a)) → Goes Q (m >>= k)
-goes_then P Q (Yields a) k h go = go a h
-goes_then P Q (Panics c s) k h go = tt
-goes_then P Q Sticks k h go = absurd h
 
 -- ---- shapes of trees
 
