@@ -10,11 +10,10 @@ use Rattle.text_core.specs.declared.span.Span.{Span}
 use Rattle.text_core.specs.declared.refusal.Cause.TheVariants.{Overflow, Division}
 use Rattle.logic_term.specs.declared.kinds.IntKind.{IntKind}
 use Rattle.logic_term.specs.declared.kinds.IntKind.TheVariants.{I8, I16, I32, I64, Isize, U8, U16, U32, U64, Usize}
-use Rattle.logic_term.specs.declared.kinds.Label.{Label}
 use Rattle.logic_term.specs.declared.kinds.BinaryOp.{BinaryOp}
 use Rattle.logic_term.specs.declared.kinds.BinaryOp.TheVariants.{Add, Sub, Mul, Div, Rem, Eq, Ne, Lt, Le, Gt, Ge}
 use Rattle.logic_term.specs.Range.{fits}
-use Rattle.logic_term.specs.Ty.{Ty, Tys, int, bool, no_tys, and_ty}
+use Rattle.logic_term.specs.Ty.{Ty, Tys, int}
 use Rattle.logic_term.specs.TyView.{tys_of}
 use Rattle.logic_term.specs.Sort.{Declarations, instance, instances}
 use Rattle.mir_machine.specs.declared.mir_ir.Lit.{Lit}
@@ -32,16 +31,16 @@ use Rattle.mir_machine.specs.declared.mir_ir.TerminatorKind.TheVariants.{Return}
 use Rattle.mir_machine.specs.declared.mir_ir.Block.{Block}
 use Rattle.mir_machine.specs.declared.mir_ir.Body.{Body}
 use Rattle.mir_machine.specs.Try.{Try, Yields, Panics, Sticks, ◌>>=◌, need}
-use Rattle.mir_machine.specs.Tree.{Tree, Trees, Int, Truth, Made, Boxed, Shared, Unique, Gone, no_trees, and_tree, trees_of}
+use Rattle.mir_machine.specs.Tree.{Tree, Int, Truth, Gone, trees_of}
 use Rattle.mir_machine.specs.Frame.{Frame, State}
 use Rattle.mir_machine.specs.Body.{block_in, whole, place_ty, kind_of, kind_in, param_tys}
 use Rattle.mir_machine.specs.Memory.{is_there}
-use Rattle.mir_machine.specs.Step.{fit, divide, arithmetic, of_integers, binary, literal, Outcome, Running, Returned, Panicked, Stuck, outcome_of, try_step, step, next, after_from, after, come_back, entered, outside}
+use Rattle.mir_machine.specs.Step.{fit, divide, of_integers, binary, literal, Outcome, Running, Returned, Panicked, Stuck, outcome_of, step, next, after_from, after, entered, outside}
 use Rattle.mir_machine.specs.FrameStep.{IsWhole, ReadsWholes, NamesWholes, AllNameWholes, Left, local_tree, take_operand, evaluate, put_local, assign_local, FrameEnd, Stays, Answers, frame_end, frame_row, frame_step, settled}
 use Rattle.mir_machine.specs.WellFormed.{PlaceHas, LitHas, OperandHas, operation_ty, RvalueHas, StatementIsTyped, IsTyped, Locals, without, with, CanTake, taken, CanEvaluate, evaluated, CanRun, run, CanEnd, Within, parameters, IsInitialised, AreSound}
-use Rattle.mir_machine.specs.Typed.{Met, Typed, AreTyped, is_int, is_truth, is_tuple, is_adt, is_closure, is_boxed, is_shared, is_unique, none_typed, more_typed}
+use Rattle.mir_machine.specs.Typed.{Met, Typed, AreTyped, is_int, is_truth, is_tuple, is_adt, is_closure, is_boxed, is_shared, is_unique, more_typed}
 use Rattle.mir_machine.specs.Good.{called, IsProper}
-use Rattle.mir_machine.specs.Run.{Run, IsSafe, NeverStuck}
+use Rattle.mir_machine.specs.Run.{IsSafe}
 use Rattle.mir_machine.proofs.Tried.{Goes, goes_then}
 use Rattle.mir_machine.proofs.Wholes.{try_step-whole}
 
@@ -128,24 +127,24 @@ fits_gone : {K : Type 0} (b : Body) (θ : Tys) (set : Locals) (ls : List (Tree K
 fits_gone {K} b θ set ls x h = record {
   slot = slot_set b ls x Gone h.slot;
   shaped = λ y ty t inside e at.
-    ⊎_elim
-    (λ same. false≢true (sym (ap (λ c. cond c false (set y)) (eq-eqb y x same)) ∙ inside))
-    (λ other. h.shaped y ty t (sym (ap (λ c. cond c false (set y)) (ne_eqb y x other)) ∙ inside) e (sym (get-set_other ls x Gone y other) ∙ at))
-    (apart x y);
+      ⊎_elim
+      (λ same. false≢true (sym (ap (λ c. cond c false (set y)) (eq-eqb y x same)) ∙ inside))
+      (λ other. h.shaped y ty t (sym (ap (λ c. cond c false (set y)) (ne_eqb y x other)) ∙ inside) e (sym (get-set_other ls x Gone y other) ∙ at))
+      (apart x y);
 }
 
 fits_set : {K : Type 0} (b : Body) (θ : Tys) (set : Locals) (ls : List (Tree K)) (x : ℕ) (ty : Ty) (u : Tree K) → slice_get b.locals x ≡ Some ty → Shape (instance θ ty) u → Fits b θ set ls → Fits b θ (with x set) (slice_set ls x u)
 fits_set {K} b θ set ls x ty u is_ty shape h = record {
   slot = slot_set b ls x u h.slot;
   shaped = λ y ty' t inside e at.
-    ⊎_elim
-    (λ same.
+      ⊎_elim
+      (λ same.
       let is_u : slice_get (slice_set ls x u) y ≡ Some u = subst (λ z. slice_get (slice_set ls x u) z ≡ Some u) (sym same) (get-set_same ls x u (h.slot x ty is_ty).0 (h.slot x ty is_ty).1) in
       let u_is : u ≡ t = some_same (sym is_u ∙ at) in
       let ty_is : ty ≡ ty' = some_same (sym is_ty ∙ subst (λ z. slice_get b.locals z ≡ Some ty') same e) in
       subst (λ w. Shape (instance θ ty') w) u_is (subst (λ q. Shape (instance θ q) u) ty_is shape))
-    (λ other. h.shaped y ty' t (sym (ap (λ c. cond c true (set y)) (ne_eqb y x other)) ∙ inside) e (sym (get-set_other ls x u y other) ∙ at))
-    (apart x y);
+      (λ other. h.shaped y ty' t (sym (ap (λ c. cond c true (set y)) (ne_eqb y x other)) ∙ inside) e (sym (get-set_other ls x u y other) ∙ at))
+      (apart x y);
 }
 
 fits_within : {K : Type 0} (b : Body) (θ : Tys) (small large : Locals) (ls : List (Tree K)) → Within small large → Fits b θ large ls → Fits b θ small ls
@@ -187,6 +186,7 @@ divide_goes K k span f x y fine = by_zero (int_eq y (pos 0)) refl
     by_fit : int_eq y (pos 0) ≡ false → (t : Bool) → fits k (int_div x y) ≡ t → Goes (Shape {K = K} (int k)) (cond t (Yields (Int (f x y))) (Panics Overflow span))
     by_fit n true e = (refl, (f x y, refl, fine n e))
     by_fit n false e = tt
+
     by_zero : (t : Bool) → int_eq y (pos 0) ≡ t → Goes (Shape {K = K} (int k)) (cond t (Panics Division span) (cond (fits k (int_div x y)) (Yields (Int (f x y))) (Panics Overflow span)))
     by_zero true e = tt
     by_zero false e = by_fit e (fits k (int_div x y)) refl
@@ -247,7 +247,7 @@ binary_goes : {K : Type 0} (θ : Tys) (k : IntKind) (span : Span) (op : BinaryOp
 binary_goes {K} θ k span op t u (there_t, (x, is_x, hx)) (there_u, (y, is_y, hy)) =
     subst (λ w. Goes (Shape {K = K} (instance θ (operation_ty op k))) (binary (kind_of (instance θ (operation_ty op k))) span op w u)) (sym is_x)
     (subst (λ w. Goes (Shape {K = K} (instance θ (operation_ty op k))) (binary (kind_of (instance θ (operation_ty op k))) span op (Int x) w)) (sym is_y)
-      (integers_go K θ k span op x y hx hy))
+    (integers_go K θ k span op x y hx hy))
 
 evaluate_goes : {K : Type 0} (b : Body) (θ : Tys) (set : Locals) (ls : List (Tree K)) (span : Span) (r : Rvalue) (ty : Ty) → Fits b θ set ls → RvalueHas b r ty → CanEvaluate set r → Goes (Keeps b θ (evaluated r set) ty) (evaluate ls (kind_of (instance θ ty)) span r)
 evaluate_goes b θ set ls span (Use o) ty h has can = take_goes b θ set ls o ty h has can
@@ -259,8 +259,8 @@ evaluate_goes {K} b θ set ls span (Binary op x y) ty h (k, has_x, has_y, is_ty)
     let first : Left K → Try (Left K) = λ l. take_operand l.0 y >>= second l.1 in
     subst (λ t. Goes (Keeps b θ end t) (evaluate ls (kind_of (instance θ t)) span (Binary op x y))) (sym is_ty)
     (goes_then (Keeps b θ (taken x set) (int k)) (Keeps b θ end q) (take_operand ls x) first (take_goes b θ set ls x (int k) h has_x can.0)
-      (λ l kept. goes_then (Keeps b θ end (int k)) (Keeps b θ end q) (take_operand l.0 y) (second l.1) (take_goes b θ (taken x set) l.0 y (int k) kept.0 has_y can.1)
-        (λ r kept'. goes_then (Shape (instance θ q)) (Keeps b θ end q) (binary kind span op l.1 r.1) (λ w. Yields (r.0, w)) (binary_goes θ k span op l.1 r.1 kept.1 kept'.1) (λ w shape. (kept'.0, shape)))))
+    (λ l kept. goes_then (Keeps b θ end (int k)) (Keeps b θ end q) (take_operand l.0 y) (second l.1) (take_goes b θ (taken x set) l.0 y (int k) kept.0 has_y can.1)
+    (λ r kept'. goes_then (Shape (instance θ q)) (Keeps b θ end q) (binary kind span op l.1 r.1) (λ w. Yields (r.0, w)) (binary_goes θ k span op l.1 r.1 kept.1 kept'.1) (λ w shape. (kept'.0, shape)))))
 
 -- ---- statements
 
@@ -277,7 +277,7 @@ assign_goes : {K : Type 0} (b : Body) (θ : Tys) (set : Locals) (ls : List (Tree
 assign_goes {K} b θ set ls span (Assign p r) h (ty, has, typed) can =
     subst (λ k. Goes (Fits b θ (with p.local (evaluated r set))) (evaluate ls k span r >>= λ l. put_local l.0 p.local l.1)) (sym (kind_of_place b θ p ty has))
     (goes_then (Keeps b θ (evaluated r set) ty) (Fits b θ (with p.local (evaluated r set))) (evaluate ls (kind_of (instance θ ty)) span r) (λ l. put_local l.0 p.local l.1) (evaluate_goes b θ set ls span r ty h typed can)
-      (λ l kept. put_goes b θ (evaluated r set) l.0 p.local ty l.1 has.1 kept.1 kept.0))
+    (λ l kept. put_goes b θ (evaluated r set) l.0 p.local ty l.1 has.1 kept.1 kept.0))
 
 -- ---- frames
 
@@ -323,8 +323,10 @@ row_goes {K} bodies sound f r None e = ends r.block.end.kind (both.1.ends f.labe
   where
     both : IsTyped r.body × IsInitialised r.body
     both = sound f.function r.body r.is_body
+
     at_end : f.statement ≡ length r.block.statements
     at_end = omega (arith, get_past r.block.statements f.statement e, r.within)
+
     ends : (kind : TerminatorKind) → CanEnd (both.1.at f.label (length r.block.statements)) kind → Goes (EndsWell bodies sound) (frame_end f kind)
     ends Return can =
         let answer = get_first r.body.locals 0 (omega (arith, both.0.answers)) in
@@ -358,7 +360,7 @@ pub alive_next : {K : Type 0} (bodies : List Body) (sound : AreSound bodies) (o 
 alive_next {K} bodies sound (Running s) (f, out, is, ready) =
     subst (λ w. Alive bodies sound (step bodies w)) (sym is)
     (subst (λ m. Alive bodies sound (outcome_of m)) (sym (try_step-whole bodies f (out ∷ []) (sound_wholes bodies sound)))
-      (settled_alive bodies sound out (frame_step bodies f) (frame_goes bodies sound f ready)))
+    (settled_alive bodies sound out (frame_step bodies f) (frame_goes bodies sound f ready)))
 alive_next bodies sound (Returned s t) h = tt
 alive_next bodies sound (Panicked c s) h = tt
 alive_next bodies sound Stuck h = absurd h
@@ -419,12 +421,16 @@ start_fits {K} Δ s b f θ args met typed has = record {
   where
     tys : List Ty
     tys = take b.params (drop 1 b.locals)
+
     of_args : (length args ≡ length (take b.params (drop 1 b.locals))) × AreShaped θ args (take b.params (drop 1 b.locals))
     of_args = typed_args Δ s θ args (take b.params (drop 1 b.locals)) met has
+
     count : length args ≡ b.params
     count = of_args.0 ∙ params_length b typed
+
     room : length (entered b f θ args).locals ≡ length b.locals
     room = start_length args (length b.locals) (omega (arith, count, typed.answers))
+
     shaped : (x : ℕ) (ty : Ty) (t : Tree K) → parameters b x ≡ true → slice_get b.locals x ≡ Some ty → slice_get (entered b f θ args).locals x ≡ Some t → Shape (instance θ ty) t
     shaped zero ty t inside is_ty is_t = false≢true inside
     shaped (suc n) ty t inside is_ty is_t =
@@ -434,16 +440,20 @@ start_fits {K} Δ s b f θ args met typed has = record {
 
 pub start_alive : {K : Type 0} (Δ : Declarations) (bodies : List Body) (sound : AreSound bodies) (f : ℕ) (θ : Tys) (args held : List (Tree K)) (b : Body) (met : List Met) → IsProper Δ bodies f θ args held b met → Alive bodies sound (Running (called b f θ args held))
 start_alive Δ bodies sound f θ args held b met proper =
-    let both = sound f b proper.of in
-    (entered b f θ args, outside held, refl, record {
-      body = b;
-      is_body = proper.of;
-      block = both.0.begins.0;
-      is_block = both.0.begins.1;
-      within = omega arith;
-      fitting = fits_within b θ (both.1.at b.entry 0) (parameters b) (entered b f θ args).locals both.1.entry
-          (start_fits Δ (called b f θ args held) b f θ args met both.0 proper.typed);
-    })
+    let both = sound f b proper.of in (
+      entered b f θ args,
+      outside held,
+      refl,
+      record {
+        body = b;
+        is_body = proper.of;
+        block = both.0.begins.0;
+        is_block = both.0.begins.1;
+        within = omega arith;
+        fitting = fits_within b θ (both.1.at b.entry 0) (parameters b) (entered b f θ args).locals both.1.entry
+            (start_fits Δ (called b f θ args held) b f θ args met both.0 proper.typed);
+      },
+    )
 
 alive_free : {K : Type 0} (bodies : List Body) (sound : AreSound bodies) (o : Outcome K) → Alive bodies sound o → o ≡ Stuck → ⊥
 alive_free bodies sound o h e = subst (Alive bodies sound) e h

@@ -2,7 +2,6 @@
 use Rattle.std.proofs.Common.{◌≡◌, refl, sym, subst, ℕ, zero, suc, ◌+◌, ◌==◌, ℤ, pos, negsuc, FitsSigned, Bool, true, false, cond, List, Some, None, [], ◌∷◌, length, slice_get, arith}
 use Rattle.std.specs.Int.{w32}
 use Rattle.logic_term.specs.declared.kinds.BinaryOp.{BinaryOp}
-use Rattle.logic_term.specs.declared.kinds.BinaryOp.TheVariants.{Add, Sub}
 use Rattle.logic_term.specs.declared.kinds.IntKind.TheVariants.{I32}
 use Rattle.logic_term.specs.declared.kinds.Label.{Label}
 use Rattle.logic_term.specs.Range.{fits}
@@ -15,8 +14,6 @@ use Rattle.mir_machine.specs.Tree.{Tree, Int}
 use Rattle.mir_machine.specs.Body.{block_in}
 use Rattle.mir_machine.specs.Typed.{Met, is_int, none_typed, more_typed}
 use Rattle.mir_machine.specs.Good.{IsProper}
-use Rattle.mir_machine.specs.Step.{after, Returned, outside}
-use Rattle.mir_machine.specs.Good.{called}
 use Rattle.mir_machine.specs.WellFormed.{operation_ty, StatementIsTyped, IsTyped, Locals, with, CanRun, run, CanEnd, Within, parameters, IsInitialised, AreSound}
 use Rattle.mir_machine.specs.Sample.{sample, sample_block, sample_statement}
 
@@ -58,14 +55,15 @@ sample_sound op n n_fits is_ty zero b e = subst (λ c. IsTyped c × IsInitialise
       statements = λ l k i st is_block is_statement. subst (λ s. StatementIsTyped (sample op n) s.kind) (in_sample op n l k i st is_block is_statement).1
           (int I32, (refl, refl), (I32, (refl, refl), (refl, n_fits), sym is_ty));
     }
+
     ready : IsInitialised (sample op n)
     ready = record {
       at = λ l i. initialised op n l i;
       entry = λ x inside. inside;
       statements = λ l k i st is_block is_statement.
-        let only = in_sample op n l k i st is_block is_statement in
-        subst (λ s. CanRun (initialised op n l i) s.kind × Within (initialised op n l (i + 1)) (run s.kind (initialised op n l i))) only.1
-        (subst (λ j. CanRun (initialised op n l j) (sample_statement op n).kind × Within (initialised op n l (j + 1)) (run (sample_statement op n).kind (initialised op n l j))) (sym only.0)
+          let only = in_sample op n l k i st is_block is_statement in
+          subst (λ s. CanRun (initialised op n l i) s.kind × Within (initialised op n l (i + 1)) (run s.kind (initialised op n l i))) only.1
+          (subst (λ j. CanRun (initialised op n l j) (sample_statement op n).kind × Within (initialised op n l (j + 1)) (run (sample_statement op n).kind (initialised op n l j))) (sym only.0)
           ((refl, tt), λ x inside. inside));
       ends = λ l k is_block. subst (λ b. CanEnd (initialised op n l (length b.statements)) b.end.kind) (only_block op n l k is_block) refl;
     }

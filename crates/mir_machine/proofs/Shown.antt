@@ -1,6 +1,5 @@
 -- The values that locals show: how the rows change them.
-use Rattle.std.proofs.Common.{◌≡◌, ◌∙◌, ◌⊎◌, inl, inr, ⊎_elim, refl, sym, ap, subst, ℕ, zero, suc, ◌+◌, ◌==◌, ℤ, pos, ◌+ℤ◌, ◌-ℤ◌, ◌*ℤ◌, int_div, int_rem, int_lt, int_le, Bool, true, false, not, cond, List, [], ◌∷◌, ◌++◌, replicate, Option, Some, None, slice_get, slice_set, eq-eqb, ne_eqb, arith}
-use Rattle.std.proofs.lemmas.Bool.{eqb-true}
+use Rattle.std.proofs.Common.{◌≡◌, ◌⊎◌, inl, inr, ⊎_elim, refl, sym, ap, subst, ℕ, zero, suc, ◌==◌, ℤ, pos, ◌+ℤ◌, ◌-ℤ◌, ◌*ℤ◌, int_div, int_rem, int_lt, int_le, Bool, true, false, not, cond, List, [], ◌∷◌, ◌++◌, replicate, Option, Some, None, slice_get, slice_set, eq-eqb, ne_eqb, arith}
 use Rattle.std.specs.Ordering.{int_eq}
 use Rattle.text_core.specs.declared.refusal.Cause.TheVariants.{Overflow, Division}
 use Rattle.text_core.specs.declared.span.Span.{Span}
@@ -20,14 +19,14 @@ use Rattle.mir_machine.specs.declared.mir_ir.Rvalue.TheVariants.{Use, Binary}
 use Rattle.mir_machine.specs.declared.mir_ir.StatementKind.TheVariants.{Assign}
 use Rattle.mir_machine.specs.declared.mir_ir.Place.{Place}
 use Rattle.mir_machine.specs.declared.mir_ir.Body.{Body}
-use Rattle.mir_machine.specs.Try.{Try, Yields, Panics, Sticks, ◌>>=◌, need}
+use Rattle.mir_machine.specs.Try.{Try, Yields, Panics, ◌>>=◌, need}
 use Rattle.mir_machine.specs.Tree.{Tree, Int, Truth, Made, Boxed, Shared, Unique, Gone}
 use Rattle.mir_machine.specs.Frame.{State}
 use Rattle.mir_machine.specs.Body.{kind_in, place_ty}
 use Rattle.mir_machine.specs.Memory.{is_there}
-use Rattle.mir_machine.specs.Step.{fit, divide, arithmetic, of_integers, binary, literal}
+use Rattle.mir_machine.specs.Step.{fit, divide, of_integers, binary, literal}
 use Rattle.mir_machine.specs.FrameStep.{Left, local_tree, take_operand, evaluate, put_local, assign_local}
-use Rattle.mir_machine.specs.Reads.{View, Reads, of_lent, of_gone, of_int, of_truth}
+use Rattle.mir_machine.specs.Reads.{View, Reads, of_lent, of_int, of_truth}
 use Rattle.mir_machine.specs.Good.{not_lent}
 use Rattle.mir_machine.proofs.Tried.{Quiet, quiet_then, quiet_need}
 
@@ -196,7 +195,7 @@ pub binary-shows : {K : Type 0} (kind : Option IntKind) (span : Span) (op : Bina
 binary-shows {K} kind span op (Int a) (Int b) v w is_a is_b h =
     subst (λ x. Quiet (λ r. Shows r (operation_value op x (integer_of w))) (of_integers {K = K} kind span op a b)) (sym (ap integer_of is_a))
     (subst (λ y. Quiet (λ r. Shows r (operation_value op a y)) (of_integers {K = K} kind span op a b)) (sym (ap integer_of is_b))
-      (integers-show K kind span op a b (subst (λ x. IsInRange kind op x b) (ap integer_of is_a) (subst (λ y. IsInRange kind op (integer_of v) y) (ap integer_of is_b) h))))
+    (integers-show K kind span op a b (subst (λ x. IsInRange kind op x b) (ap integer_of is_a) (subst (λ y. IsInRange kind op (integer_of v) y) (ap integer_of is_b) h))))
 binary-shows kind span op (Int a) (Truth b) v w is_a is_b h = tt
 binary-shows kind span op (Int a) (Made c ts) v w is_a is_b h = tt
 binary-shows kind span op (Int a) (Boxed t) v w is_a is_b h = tt
@@ -229,9 +228,9 @@ rvalue-shows {K} ls ρ kind span (Binary op a b) h in_range =
     let rest : Left K → Try (Left K) = λ l. take_operand l.0 b >>= last l.1 in
     quiet_then (Leaves ρ (operand_value ρ a)) (Leaves ρ v) (take_operand ls a) rest (operand-shows ls ρ a h)
     (λ l first. quiet_then (Leaves ρ (operand_value ρ b)) (Leaves ρ v) (take_operand l.0 b) (last l.1) (operand-shows l.0 ρ b first.0)
-      (λ r second. quiet_then (λ t. Shows t v) (Leaves ρ v) (binary kind span op l.1 r.1) (λ w. Yields (r.0, w))
-        (binary-shows kind span op l.1 r.1 (operand_value ρ a) (operand_value ρ b) first.1 second.1 in_range)
-        (λ w shows. (second.0, shows))))
+    (λ r second. quiet_then (λ t. Shows t v) (Leaves ρ v) (binary kind span op l.1 r.1) (λ w. Yields (r.0, w))
+    (binary-shows kind span op l.1 r.1 (operand_value ρ a) (operand_value ρ b) first.1 second.1 in_range)
+    (λ w shows. (second.0, shows))))
 
 pub assign-shows : {K : Type 0} (b : Body) (θ : Tys) (ls : List (Tree K)) (ρ : Store) (span : Span) (p : Place) (r : Rvalue) → Agrees ls ρ → RvalueIsInRange (kind_in (place_ty b θ p)) ρ r → Quiet (λ ls'. Agrees ls' (stored p.local (rvalue_value ρ r) ρ)) (assign_local b θ ls span (Assign p r))
 assign-shows {K} b θ ls ρ span p r h in_range =

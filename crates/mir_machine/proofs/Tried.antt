@@ -1,5 +1,5 @@
 -- What holds of each value that a part of a step may come to.
-use Rattle.std.proofs.Common.{◌≡◌, refl, sym, subst, Option, Some, None}
+use Rattle.std.proofs.Common.{◌≡◌, refl, Option, Some, None}
 use Rattle.mir_machine.specs.Try.{Try, Yields, Panics, Sticks, ◌>>=◌, need}
 
 -- the value that comes, if one comes, has P; and it does not stick

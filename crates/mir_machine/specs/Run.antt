@@ -9,7 +9,7 @@ use Rattle.logic_term.specs.Ty.{Tys}
 use Rattle.mir_machine.specs.Good.{called}
 use Rattle.mir_machine.specs.Tree.{Tree}
 use Rattle.mir_machine.specs.Frame.{State}
-use Rattle.mir_machine.specs.Step.{Outcome, Running, Returned, Panicked, Stuck, next, after_from}
+use Rattle.mir_machine.specs.Step.{Outcome, Running, Returned, Panicked, Stuck, after_from}
 use Rattle.mir_machine.specs.FrameStep.{AllNameWholes}
 
 pub record Run : Type 0 where

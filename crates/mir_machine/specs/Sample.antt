@@ -1,12 +1,9 @@
 -- A body that tests run: its argument `op` n, over i32.
-use Rattle.std.specs.Prelude.{◌≡◌, ℤ, List, [], ◌∷◌, codes}
-use Rattle.text_core.specs.declared.name.Name.{Name}
+use Rattle.std.specs.Prelude.{ℤ, [], ◌∷◌, codes}
 use Rattle.text_core.specs.declared.span.Span.{Span}
 use Rattle.logic_term.specs.declared.kinds.BinaryOp.{BinaryOp}
 use Rattle.logic_term.specs.declared.kinds.IntKind.TheVariants.{I32}
-use Rattle.logic_term.specs.declared.kinds.Label.{Label}
 use Rattle.logic_term.specs.Ty.{int}
-use Rattle.mir_machine.specs.declared.mir_ir.Place.{Place}
 use Rattle.mir_machine.specs.declared.mir_ir.Lit.TheVariants as lit
 use Rattle.mir_machine.specs.declared.mir_ir.Operand.TheVariants.{Copy, Const}
 use Rattle.mir_machine.specs.declared.mir_ir.Rvalue.TheVariants.{Binary}

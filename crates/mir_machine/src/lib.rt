@@ -12,10 +12,9 @@ mod outcome;
 mod run_error;
 mod running;
 mod spot;
-mod tree;
-
 #[cfg(test)]
 mod tests;
+mod tree;
 
 pub use args::Args;
 pub use frame::{Frame, State};

@@ -6,7 +6,7 @@ ghost use Rattle.mir_machine.specs.Sample.{sample};
 use crate::args::Args;
 use crate::machine::{Machine, NoIntrinsics};
 use crate::mir_ir::{
-    Bodies, Block, Body, FnId, Lit, Operand, Place, Rvalue, Statement, StatementKind, Terminator,
+    Block, Bodies, Body, FnId, Lit, Operand, Place, Rvalue, Statement, StatementKind, Terminator,
     TerminatorKind,
 };
 use crate::outcome::Outcome;
