@@ -1,13 +1,13 @@
 -- Integers and truth values: what they read as, in any state.
-use Rattle.std.proofs.Common.{◌≡◌, refl, sym, subst, ℕ, zero, suc, ◌+◌, false, true, List, [], ◌∷◌, Some, slice_get}
+use Rattle.std.proofs.Common.{◌≡◌, refl, sym, subst, ℕ, zero, suc, false, List, [], ◌∷◌, Some, slice_get}
 use Rattle.logic_term.specs.declared.kinds.IntKind.{IntKind}
-use Rattle.logic_term.specs.Ty.{Ty, int, bool}
+use Rattle.logic_term.specs.Ty.{int, bool}
 use Rattle.logic_term.specs.Sort.{Declarations, HasSort, of_int as sort_int, of_bool as sort_bool}
 use Rattle.logic_term.specs.Value.{Value, Values, Number, Flag, nothing, no_values, and_value}
 use Rattle.mir_machine.specs.declared.spot.Spot.{Spot}
 use Rattle.mir_machine.specs.Tree.{Tree, Int, Truth, Made, Boxed, Shared, Unique, Gone, trees_of}
 use Rattle.mir_machine.specs.Frame.{State}
-use Rattle.mir_machine.specs.Reads.{View, Reads, ReadsAll, of_lent, of_int, of_truth, of_none, of_more}
+use Rattle.mir_machine.specs.Reads.{View, Reads, ReadsAll, of_int, of_truth, of_none, of_more}
 use Rattle.mir_machine.specs.Good.{Each, not_lent}
 use Rattle.mir_machine.proofs.NeverStuck.{Shape}
 use Rattle.mir_machine.proofs.Shown.{Shows, reads-int, reads-truth}

@@ -175,7 +175,9 @@ fn assign(
     statement: &Statement,
 ) -> Result<(), Halt>
     requires { NamesWholes statement.now.kind }
-    ensures assigns { Comes result (assign_local body.now (tys_of types.now) locals.old.items statement.now.span statement.now.kind) (λ _. locals.new.items) }
+    ensures assigns { Comes result
+        (assign_local body.now (tys_of types.now) locals.old.items statement.now.span statement.now.kind)
+        (λ _. locals.new.items) }
     ensures unchanged { result ≡ Err Halt.NoMemory → locals.new.items ≡ locals.old.items }
 {
     let StatementKind::Assign(place, rvalue) = &statement.kind;
