@@ -2,7 +2,7 @@
 use Rattle.std.proofs.Common.{◌≡◌, ◌∙◌, ap, Result, Ok, Err}
 use Rattle.mir_machine.specs.declared.halt.Halt.{Halt}
 use Rattle.mir_machine.specs.declared.halt.Halt.TheVariants as halt
-use Rattle.mir_machine.specs.Try.{Try, Yields, Panics, Sticks, ◌>>=◌}
+use Rattle.mir_machine.specs.Try.{Try, Yields, ◌>>=◌}
 use Rattle.mir_machine.specs.Halt.{Stops, Comes}
 
 pub stops_then : {A B : Type 0} (h : Halt) (m : Try A) (k : A → Try B) → Stops h m → Stops h (m >>= k)

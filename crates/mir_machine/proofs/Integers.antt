@@ -106,6 +106,6 @@ pub operated : {K : Type 0} (ls : List (Tree K)) (kind : Option IntKind) (span :
 operated {K} ls kind span op a b l m r first second value =
     comes_along r (evaluate ls kind span (Binary op a b)) (on_integers kind span op l.1 m) (λ t. (m.0, t))
     (evaluate_integers ls kind span op a b
-      ∙ ap (λ (n : Try (List (Tree K) × ℤ)). n >>= then_integers kind span op b) first
-      ∙ ap (λ (n : Try (List (Tree K) × ℤ)). n >>= on_integers kind span op l.1) second)
+    ∙ ap (λ (n : Try (List (Tree K) × ℤ)). n >>= then_integers kind span op b) first
+    ∙ ap (λ (n : Try (List (Tree K) × ℤ)). n >>= on_integers kind span op l.1) second)
     (comes_then r (of_integers kind span op l.1 m.1) (λ t. t) (λ t. (m.0, t)) value)

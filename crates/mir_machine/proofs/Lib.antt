@@ -2,5 +2,9 @@ pub mod Coming
 pub mod GivenTypes
 pub mod Integers
 pub mod NeverStuck
+pub mod Plain
+pub mod SampleLemmas
+pub mod Shown
 pub mod Stepping
+pub mod Tried
 pub mod Wholes

@@ -10,13 +10,12 @@ use Rattle.text_core.specs.declared.span.Span.{Span}
 use Rattle.text_core.specs.declared.refusal.Cause.TheVariants.{Overflow, Division}
 use Rattle.logic_term.specs.declared.kinds.IntKind.{IntKind}
 use Rattle.logic_term.specs.declared.kinds.IntKind.TheVariants.{I8, I16, I32, I64, Isize, U8, U16, U32, U64, Usize}
-use Rattle.logic_term.specs.declared.kinds.Label.{Label}
 use Rattle.logic_term.specs.declared.kinds.BinaryOp.{BinaryOp}
 use Rattle.logic_term.specs.declared.kinds.BinaryOp.TheVariants.{Add, Sub, Mul, Div, Rem, Eq, Ne, Lt, Le, Gt, Ge}
 use Rattle.logic_term.specs.Range.{fits}
-use Rattle.logic_term.specs.Ty.{Ty, Tys, int, bool, no_tys, and_ty}
+use Rattle.logic_term.specs.Ty.{Ty, Tys, int, bool}
 use Rattle.logic_term.specs.TyView.{tys_of}
-use Rattle.logic_term.specs.Sort.{Declarations, instance, instances}
+use Rattle.logic_term.specs.Sort.{Declarations, instance, instances, nth_ty}
 use Rattle.mir_machine.specs.declared.mir_ir.Lit.{Lit}
 use Rattle.mir_machine.specs.declared.mir_ir.Lit.TheVariants as lit
 use Rattle.mir_machine.specs.declared.mir_ir.Place.{Place}
@@ -32,16 +31,17 @@ use Rattle.mir_machine.specs.declared.mir_ir.TerminatorKind.TheVariants.{Return}
 use Rattle.mir_machine.specs.declared.mir_ir.Block.{Block}
 use Rattle.mir_machine.specs.declared.mir_ir.Body.{Body}
 use Rattle.mir_machine.specs.Try.{Try, Yields, Panics, Sticks, ◌>>=◌, need}
-use Rattle.mir_machine.specs.Tree.{Tree, Trees, Int, Truth, Made, Boxed, Shared, Unique, Gone, no_trees, and_tree, trees_of}
+use Rattle.mir_machine.specs.Tree.{Tree, Int, Truth, Gone, trees_of}
 use Rattle.mir_machine.specs.Frame.{Frame, State}
-use Rattle.mir_machine.specs.Body.{block_in, whole, place_ty, kind_of, kind_in, param_tys}
+use Rattle.mir_machine.specs.Body.{block_in, whole, place_ty, kind_of, kind_in, param_tys, answer_ty}
 use Rattle.mir_machine.specs.Memory.{is_there}
-use Rattle.mir_machine.specs.Step.{fit, divide, arithmetic, of_integers, binary, literal, Outcome, Running, Returned, Panicked, Stuck, outcome_of, try_step, step, next, after_from, after, come_back, entered, outside}
+use Rattle.mir_machine.specs.Step.{fit, divide, of_integers, binary, literal, Outcome, Running, Returned, Panicked, Stuck, outcome_of, step, next, after_from, after, entered, outside}
 use Rattle.mir_machine.specs.FrameStep.{IsWhole, ReadsWholes, NamesWholes, AllNameWholes, Left, local_tree, take_operand, evaluate, put_local, assign_local, FrameEnd, Stays, Answers, frame_end, frame_row, frame_step, settled}
 use Rattle.mir_machine.specs.WellFormed.{PlaceHas, LitHas, OperandHas, operation_ty, RvalueHas, StatementIsTyped, IsTyped, Locals, without, with, CanTake, taken, CanEvaluate, evaluated, CanRun, run, CanEnd, Within, parameters, IsInitialised, AreSound}
-use Rattle.mir_machine.specs.Typed.{Met, Typed, AreTyped, is_int, is_truth, is_tuple, is_adt, is_closure, is_boxed, is_shared, is_unique, none_typed, more_typed}
+use Rattle.mir_machine.specs.Typed.{Met, Typed, AreTyped, is_int, is_truth, is_tuple, is_adt, is_closure, is_boxed, is_shared, is_unique, more_typed}
 use Rattle.mir_machine.specs.Good.{called, IsProper}
-use Rattle.mir_machine.specs.Run.{Run, IsSafe, NeverStuck}
+use Rattle.mir_machine.specs.Run.{IsSafe}
+use Rattle.mir_machine.proofs.Tried.{Goes, goes_then}
 use Rattle.mir_machine.proofs.Wholes.{try_step-whole}
 
 -- ---- places are whole locals
@@ -61,35 +61,29 @@ statement_wholes b (Assign p r) (t, hp, hr) = (hp.0, rvalue_wholes b r t hr)
 pub sound_wholes : (bodies : List Body) → AreSound bodies → AllNameWholes bodies
 sound_wholes bodies sound f b is_body l k i st is_block is_statement = statement_wholes b st.kind ((sound f b is_body).0.statements l k i st is_block is_statement)
 
--- ---- what comes to no stuck state
-
--- the value that comes, if one comes, has P; and it does not stick
-abbrev pub Goes : {A : Type 0} → (A → Type 0) → Try A → Type 0
-Goes P (Yields a) = P a
-Goes P (Panics cause span) = Unit {0}
-Goes P Sticks = ⊥
-
-pub goes_then : {A B : Type 0} (P : A → Type 0) (Q : B → Type 0) (m : Try A) (k : A → Try B) → Goes P m → ((a : A) → P a → Goes Q (k a)) → Goes Q (m >>= k)
-goes_then P Q (Yields a) k h go = go a h
-goes_then P Q (Panics c s) k h go = tt
-goes_then P Q Sticks k h go = absurd h
-
 -- ---- shapes of trees
 
 abbrev IsThere : {K : Type 0} → Tree K → Type 0
 IsThere t = is_there t ≡ Yields t
 
--- an integer of the kind, if the type has one
-abbrev IsOfKind : {K : Type 0} → Option IntKind → Tree K → Type 0
-IsOfKind None t = Unit {0}
-IsOfKind (Some k) t = (z : ℤ) × (t ≡ Int z) × (fits k z ≡ true)
+-- an integer of the type, or a truth value
+abbrev IsOf : {K : Type 0} → Ty → Tree K → Type 0
+IsOf (int k) t = (z : ℤ) × (t ≡ Int z) × (fits k z ≡ true)
+IsOf bool t = (b : Bool) × (t ≡ Truth b)
+IsOf _ t = Unit {0}
 
 abbrev pub Shape : {K : Type 0} → Ty → Tree K → Type 0
-Shape ty t = IsThere t × IsOfKind (kind_of ty) t
+Shape ty t = IsThere t × IsOf ty t
+
+pub int_typed : {K : Type 0} (Δ : Declarations) (s : State K) (t : Tree K) (k : IntKind) → Shape (int k) t → Typed Δ s t (int k) []
+int_typed Δ s t k (there, (z, is, e)) = subst (λ u. Typed Δ s u (int k) []) (sym is) (is_int e)
+
+pub bool_typed : {K : Type 0} (Δ : Declarations) (s : State K) (t : Tree K) → Shape bool t → Typed Δ s t bool []
+bool_typed Δ s t (there, (b, is)) = subst (λ u. Typed Δ s u bool []) (sym is) is_truth
 
 pub typed_shape : {K : Type 0} (Δ : Declarations) (s : State K) (t : Tree K) (ty : Ty) (met : List Met) → Typed Δ s t ty met → Shape ty t
 typed_shape Δ s t ty met (is_int {z} {k} e) = (refl, (z, refl, e))
-typed_shape Δ s t ty met is_truth = (refl, tt)
+typed_shape Δ s t ty met (is_truth {b}) = (refl, (b, refl))
 typed_shape Δ s t ty met (is_tuple h) = (refl, tt)
 typed_shape Δ s t ty met (is_adt e h) = (refl, tt)
 typed_shape Δ s t ty met (is_closure h) = (refl, tt)
@@ -140,24 +134,24 @@ fits_gone : {K : Type 0} (b : Body) (θ : Tys) (set : Locals) (ls : List (Tree K
 fits_gone {K} b θ set ls x h = record {
   slot = slot_set b ls x Gone h.slot;
   shaped = λ y ty t inside e at.
-    ⊎_elim
-    (λ same. false≢true (sym (ap (λ c. cond c false (set y)) (eq-eqb y x same)) ∙ inside))
-    (λ other. h.shaped y ty t (sym (ap (λ c. cond c false (set y)) (ne_eqb y x other)) ∙ inside) e (sym (get-set_other ls x Gone y other) ∙ at))
-    (apart x y);
+      ⊎_elim
+      (λ same. false≢true (sym (ap (λ c. cond c false (set y)) (eq-eqb y x same)) ∙ inside))
+      (λ other. h.shaped y ty t (sym (ap (λ c. cond c false (set y)) (ne_eqb y x other)) ∙ inside) e (sym (get-set_other ls x Gone y other) ∙ at))
+      (apart x y);
 }
 
 fits_set : {K : Type 0} (b : Body) (θ : Tys) (set : Locals) (ls : List (Tree K)) (x : ℕ) (ty : Ty) (u : Tree K) → slice_get b.locals x ≡ Some ty → Shape (instance θ ty) u → Fits b θ set ls → Fits b θ (with x set) (slice_set ls x u)
 fits_set {K} b θ set ls x ty u is_ty shape h = record {
   slot = slot_set b ls x u h.slot;
   shaped = λ y ty' t inside e at.
-    ⊎_elim
-    (λ same.
+      ⊎_elim
+      (λ same.
       let is_u : slice_get (slice_set ls x u) y ≡ Some u = subst (λ z. slice_get (slice_set ls x u) z ≡ Some u) (sym same) (get-set_same ls x u (h.slot x ty is_ty).0 (h.slot x ty is_ty).1) in
       let u_is : u ≡ t = some_same (sym is_u ∙ at) in
       let ty_is : ty ≡ ty' = some_same (sym is_ty ∙ subst (λ z. slice_get b.locals z ≡ Some ty') same e) in
       subst (λ w. Shape (instance θ ty') w) u_is (subst (λ q. Shape (instance θ q) u) ty_is shape))
-    (λ other. h.shaped y ty' t (sym (ap (λ c. cond c true (set y)) (ne_eqb y x other)) ∙ inside) e (sym (get-set_other ls x u y other) ∙ at))
-    (apart x y);
+      (λ other. h.shaped y ty' t (sym (ap (λ c. cond c true (set y)) (ne_eqb y x other)) ∙ inside) e (sym (get-set_other ls x u y other) ∙ at))
+      (apart x y);
 }
 
 fits_within : {K : Type 0} (b : Body) (θ : Tys) (small large : Locals) (ls : List (Tree K)) → Within small large → Fits b θ large ls → Fits b θ small ls
@@ -176,7 +170,7 @@ local_goes b θ set ls x ty h is_ty inside =
 
 literal_shape : {K : Type 0} (θ : Tys) (l : Lit) (ty : Ty) → LitHas l ty → Shape {K = K} (instance θ ty) (literal l)
 literal_shape {K} θ (lit.Int z k) ty (e, fit) = subst (λ t. Shape {K = K} (instance θ t) (Int z)) (sym e) (refl, (z, refl, fit))
-literal_shape {K} θ (lit.Bool x) ty e = subst (λ t. Shape {K = K} (instance θ t) (Truth x)) (sym e) (refl, tt)
+literal_shape {K} θ (lit.Bool x) ty e = subst (λ t. Shape {K = K} (instance θ t) (Truth x)) (sym e) (refl, (x, refl))
 
 take_goes : {K : Type 0} (b : Body) (θ : Tys) (set : Locals) (ls : List (Tree K)) (o : Operand) (ty : Ty) → Fits b θ set ls → OperandHas b o ty → CanTake set o → Goes (Keeps b θ (taken o set) ty) (take_operand ls o)
 take_goes b θ set ls (Copy p) ty h has can =
@@ -199,6 +193,7 @@ divide_goes K k span f x y fine = by_zero (int_eq y (pos 0)) refl
     by_fit : int_eq y (pos 0) ≡ false → (t : Bool) → fits k (int_div x y) ≡ t → Goes (Shape {K = K} (int k)) (cond t (Yields (Int (f x y))) (Panics Overflow span))
     by_fit n true e = (refl, (f x y, refl, fine n e))
     by_fit n false e = tt
+
     by_zero : (t : Bool) → int_eq y (pos 0) ≡ t → Goes (Shape {K = K} (int k)) (cond t (Panics Division span) (cond (fits k (int_div x y)) (Yields (Int (f x y))) (Panics Overflow span)))
     by_zero true e = tt
     by_zero false e = by_fit e (fits k (int_div x y)) refl
@@ -248,18 +243,18 @@ integers_go K θ k span Sub x y hx hy = fit_goes K k span (x -ℤ y)
 integers_go K θ k span Mul x y hx hy = fit_goes K k span (x *ℤ y)
 integers_go K θ k span Div x y hx hy = divide_goes K k span int_div x y (λ n e. e)
 integers_go K θ k span Rem x y hx hy = divide_goes K k span int_rem x y (λ n e. rem_fits k x y hx)
-integers_go K θ k span Eq x y hx hy = (refl, tt)
-integers_go K θ k span Ne x y hx hy = (refl, tt)
-integers_go K θ k span Lt x y hx hy = (refl, tt)
-integers_go K θ k span Le x y hx hy = (refl, tt)
-integers_go K θ k span Gt x y hx hy = (refl, tt)
-integers_go K θ k span Ge x y hx hy = (refl, tt)
+integers_go K θ k span Eq x y hx hy = (refl, (_, refl))
+integers_go K θ k span Ne x y hx hy = (refl, (_, refl))
+integers_go K θ k span Lt x y hx hy = (refl, (_, refl))
+integers_go K θ k span Le x y hx hy = (refl, (_, refl))
+integers_go K θ k span Gt x y hx hy = (refl, (_, refl))
+integers_go K θ k span Ge x y hx hy = (refl, (_, refl))
 
 binary_goes : {K : Type 0} (θ : Tys) (k : IntKind) (span : Span) (op : BinaryOp) (t u : Tree K) → Shape (int k) t → Shape (int k) u → Goes (Shape {K = K} (instance θ (operation_ty op k))) (binary (kind_of (instance θ (operation_ty op k))) span op t u)
 binary_goes {K} θ k span op t u (there_t, (x, is_x, hx)) (there_u, (y, is_y, hy)) =
     subst (λ w. Goes (Shape {K = K} (instance θ (operation_ty op k))) (binary (kind_of (instance θ (operation_ty op k))) span op w u)) (sym is_x)
     (subst (λ w. Goes (Shape {K = K} (instance θ (operation_ty op k))) (binary (kind_of (instance θ (operation_ty op k))) span op (Int x) w)) (sym is_y)
-      (integers_go K θ k span op x y hx hy))
+    (integers_go K θ k span op x y hx hy))
 
 evaluate_goes : {K : Type 0} (b : Body) (θ : Tys) (set : Locals) (ls : List (Tree K)) (span : Span) (r : Rvalue) (ty : Ty) → Fits b θ set ls → RvalueHas b r ty → CanEvaluate set r → Goes (Keeps b θ (evaluated r set) ty) (evaluate ls (kind_of (instance θ ty)) span r)
 evaluate_goes b θ set ls span (Use o) ty h has can = take_goes b θ set ls o ty h has can
@@ -271,8 +266,8 @@ evaluate_goes {K} b θ set ls span (Binary op x y) ty h (k, has_x, has_y, is_ty)
     let first : Left K → Try (Left K) = λ l. take_operand l.0 y >>= second l.1 in
     subst (λ t. Goes (Keeps b θ end t) (evaluate ls (kind_of (instance θ t)) span (Binary op x y))) (sym is_ty)
     (goes_then (Keeps b θ (taken x set) (int k)) (Keeps b θ end q) (take_operand ls x) first (take_goes b θ set ls x (int k) h has_x can.0)
-      (λ l kept. goes_then (Keeps b θ end (int k)) (Keeps b θ end q) (take_operand l.0 y) (second l.1) (take_goes b θ (taken x set) l.0 y (int k) kept.0 has_y can.1)
-        (λ r kept'. goes_then (Shape (instance θ q)) (Keeps b θ end q) (binary kind span op l.1 r.1) (λ w. Yields (r.0, w)) (binary_goes θ k span op l.1 r.1 kept.1 kept'.1) (λ w shape. (kept'.0, shape)))))
+    (λ l kept. goes_then (Keeps b θ end (int k)) (Keeps b θ end q) (take_operand l.0 y) (second l.1) (take_goes b θ (taken x set) l.0 y (int k) kept.0 has_y can.1)
+    (λ r kept'. goes_then (Shape (instance θ q)) (Keeps b θ end q) (binary kind span op l.1 r.1) (λ w. Yields (r.0, w)) (binary_goes θ k span op l.1 r.1 kept.1 kept'.1) (λ w shape. (kept'.0, shape)))))
 
 -- ---- statements
 
@@ -289,7 +284,7 @@ assign_goes : {K : Type 0} (b : Body) (θ : Tys) (set : Locals) (ls : List (Tree
 assign_goes {K} b θ set ls span (Assign p r) h (ty, has, typed) can =
     subst (λ k. Goes (Fits b θ (with p.local (evaluated r set))) (evaluate ls k span r >>= λ l. put_local l.0 p.local l.1)) (sym (kind_of_place b θ p ty has))
     (goes_then (Keeps b θ (evaluated r set) ty) (Fits b θ (with p.local (evaluated r set))) (evaluate ls (kind_of (instance θ ty)) span r) (λ l. put_local l.0 p.local l.1) (evaluate_goes b θ set ls span r ty h typed can)
-      (λ l kept. put_goes b θ (evaluated r set) l.0 p.local ty l.1 has.1 kept.1 kept.0))
+    (λ l kept. put_goes b θ (evaluated r set) l.0 p.local ty l.1 has.1 kept.1 kept.0))
 
 -- ---- frames
 
@@ -302,9 +297,10 @@ pub record Ready {K : Type 0} (bodies : List Body) (sound : AreSound bodies) (f 
   pub within : f.statement ≤ length block.statements
   pub fitting : Fits body f.types ((sound f.function body is_body).1.at f.label f.statement) f.locals
 
-abbrev pub EndsWell : {K : Type 0} (bodies : List Body) → AreSound bodies → FrameEnd K → Type 0
-EndsWell bodies sound (Stays f) = Ready bodies sound f
-EndsWell bodies sound (Answers t) = Unit {0}
+-- the frame is ready for its next step, with the same function and types; or the answer has the shape of its type
+abbrev pub EndsWell : {K : Type 0} (bodies : List Body) → AreSound bodies → ℕ → Tys → FrameEnd K → Type 0
+EndsWell bodies sound fn θ (Stays f) = Ready bodies sound f × (f.function ≡ fn) × (f.types ≡ θ)
+EndsWell bodies sound fn θ (Answers t) = (b : Body) × (slice_get bodies fn ≡ Some b) × Shape (answer_ty b θ) t
 
 get_past : {A : Type 0} (xs : List A) (i : ℕ) → slice_get xs i ≡ None → length xs ≤ i
 get_past [] i e = omega arith
@@ -316,68 +312,81 @@ get_first [] i h = absurd (omega arith)
 get_first (x ∷ xs) zero h = (x, refl)
 get_first (x ∷ xs) (suc i) h = get_first xs i (omega arith)
 
-row_goes : {K : Type 0} (bodies : List Body) (sound : AreSound bodies) (f : Frame K) (r : Ready bodies sound f) (o : Option Statement) → slice_get r.block.statements f.statement ≡ o → Goes (EndsWell bodies sound) (frame_row r.body f r.block.end o)
+answer_is : (ts : List Ty) (ty : Ty) → slice_get ts 0 ≡ Some ty → nth_ty (tys_of ts) 0 ≡ ty
+answer_is [] ty e = absurd (cc)
+answer_is (t ∷ ts) ty e = some_same e
+
+row_goes : {K : Type 0} (bodies : List Body) (sound : AreSound bodies) (f : Frame K) (r : Ready bodies sound f) (o : Option Statement) → slice_get r.block.statements f.statement ≡ o → Goes (EndsWell bodies sound f.function f.types) (frame_row r.body f r.block.end o)
 row_goes {K} bodies sound f r (Some st) e =
     let both = sound f.function r.body r.is_body in
     let set = both.1.at f.label f.statement in
     let rows = both.1.statements f.label r.block f.statement st r.is_block e in
-    goes_then (Fits r.body f.types (run st.kind set)) (EndsWell bodies sound) (assign_local r.body f.types f.locals st.span st.kind) (λ ls. Yields (Stays (record f { locals = ls; statement = f.statement + 1 })))
+    goes_then (Fits r.body f.types (run st.kind set)) (EndsWell bodies sound f.function f.types) (assign_local r.body f.types f.locals st.span st.kind) (λ ls. Yields (Stays (record f { locals = ls; statement = f.statement + 1 })))
     (assign_goes r.body f.types set f.locals st.span st.kind r.fitting (both.0.statements f.label r.block f.statement st r.is_block e) rows.0)
-    (λ ls h. record {
-      body = r.body;
-      is_body = r.is_body;
-      block = r.block;
-      is_block = r.is_block;
-      within = omega (arith, slice_get_within r.block.statements f.statement st e);
-      fitting = fits_within r.body f.types (both.1.at f.label (f.statement + 1)) (run st.kind set) ls rows.1 h;
-    })
+    (λ ls h. (
+      record {
+        body = r.body;
+        is_body = r.is_body;
+        block = r.block;
+        is_block = r.is_block;
+        within = omega (arith, slice_get_within r.block.statements f.statement st e);
+        fitting = fits_within r.body f.types (both.1.at f.label (f.statement + 1)) (run st.kind set) ls rows.1 h;
+      },
+      refl,
+      refl,
+    ))
 row_goes {K} bodies sound f r None e = ends r.block.end.kind (both.1.ends f.label r.block r.is_block)
   where
     both : IsTyped r.body × IsInitialised r.body
     both = sound f.function r.body r.is_body
+
     at_end : f.statement ≡ length r.block.statements
     at_end = omega (arith, get_past r.block.statements f.statement e, r.within)
-    ends : (kind : TerminatorKind) → CanEnd (both.1.at f.label (length r.block.statements)) kind → Goes (EndsWell bodies sound) (frame_end f kind)
+
+    ends : (kind : TerminatorKind) → CanEnd (both.1.at f.label (length r.block.statements)) kind → Goes (EndsWell bodies sound f.function f.types) (frame_end f kind)
     ends Return can =
         let answer = get_first r.body.locals 0 (omega (arith, both.0.answers)) in
-        goes_then (Shape (instance f.types answer.0)) (EndsWell bodies sound) (local_tree f.locals 0) (λ t. Yields (Answers t))
+        goes_then (Shape (instance f.types answer.0)) (EndsWell bodies sound f.function f.types) (local_tree f.locals 0) (λ t. Yields (Answers t))
         (local_goes r.body f.types (both.1.at f.label f.statement) f.locals 0 answer.0 r.fitting answer.1 (subst (λ i. both.1.at f.label i 0 ≡ true) (sym at_end) can))
-        (λ t shape. tt)
+        (λ t shape. (r.body, r.is_body, subst (λ ty. Shape (instance f.types ty) t) (sym (answer_is r.body.locals answer.0 answer.1)) shape))
 
-pub frame_goes : {K : Type 0} (bodies : List Body) (sound : AreSound bodies) (f : Frame K) → Ready bodies sound f → Goes (EndsWell bodies sound) (frame_step bodies f)
+pub frame_goes : {K : Type 0} (bodies : List Body) (sound : AreSound bodies) (f : Frame K) → Ready bodies sound f → Goes (EndsWell bodies sound f.function f.types) (frame_step bodies f)
 frame_goes {K} bodies sound f r =
     let at_block : Body → Block → Try (FrameEnd K) = λ b k. frame_row b f k.end (slice_get k.statements f.statement) in
-    subst (Goes (EndsWell bodies sound))
+    subst (Goes (EndsWell bodies sound f.function f.types))
     (sym (ap (λ o. need o >>= λ b. need (block_in b.blocks f.label) >>= at_block b) r.is_body ∙ ap (λ o. need o >>= at_block r.body) r.is_block))
     (row_goes bodies sound f r (slice_get r.block.statements f.statement) refl)
 
 -- ---- states
 
--- the call runs before the outside, or the run has ended well
-abbrev pub Alive : {K : Type 0} (bodies : List Body) → AreSound bodies → Outcome K → Type 0
-Alive {K} bodies sound (Running s) = (f : Frame K) × (out : Frame K) × (s ≡ f ∷ out ∷ []) × Ready bodies sound f
-Alive bodies sound (Returned s t) = Unit {0}
-Alive bodies sound (Panicked cause span) = Unit {0}
-Alive bodies sound Stuck = ⊥
+-- the call of this function at these types runs before the outside, or the run has ended well
+abbrev pub Alive : {K : Type 0} (bodies : List Body) → AreSound bodies → ℕ → Tys → Outcome K → Type 0
+Alive {K} bodies sound fn θ (Running s) = (f : Frame K) × (out : Frame K) × (s ≡ f ∷ out ∷ []) × EndsWell bodies sound fn θ (Stays f)
+Alive bodies sound fn θ (Returned s t) = EndsWell bodies sound fn θ (Answers t)
+Alive bodies sound fn θ (Panicked cause span) = Unit {0}
+Alive bodies sound fn θ Stuck = ⊥
 
-settled_alive : {K : Type 0} (bodies : List Body) (sound : AreSound bodies) (out : Frame K) (m : Try (FrameEnd K)) → Goes (EndsWell bodies sound) m → Alive bodies sound (outcome_of (m >>= settled (out ∷ [])))
-settled_alive bodies sound out (Yields (Stays g)) h = (g, out, refl, h)
-settled_alive bodies sound out (Yields (Answers t)) h = tt
-settled_alive bodies sound out (Panics c s) h = tt
-settled_alive bodies sound out Sticks h = absurd h
+settled_alive : {K : Type 0} (bodies : List Body) (sound : AreSound bodies) (fn : ℕ) (θ : Tys) (out : Frame K) (m : Try (FrameEnd K)) → Goes (EndsWell bodies sound fn θ) m → Alive bodies sound fn θ (outcome_of (m >>= settled (out ∷ [])))
+settled_alive bodies sound fn θ out (Yields (Stays g)) h = (g, out, refl, h)
+settled_alive bodies sound fn θ out (Yields (Answers t)) h = h
+settled_alive bodies sound fn θ out (Panics c s) h = tt
+settled_alive bodies sound fn θ out Sticks h = absurd h
 
-pub alive_next : {K : Type 0} (bodies : List Body) (sound : AreSound bodies) (o : Outcome K) → Alive bodies sound o → Alive bodies sound (next bodies o)
-alive_next {K} bodies sound (Running s) (f, out, is, ready) =
-    subst (λ w. Alive bodies sound (step bodies w)) (sym is)
-    (subst (λ m. Alive bodies sound (outcome_of m)) (sym (try_step-whole bodies f (out ∷ []) (sound_wholes bodies sound)))
-      (settled_alive bodies sound out (frame_step bodies f) (frame_goes bodies sound f ready)))
-alive_next bodies sound (Returned s t) h = tt
-alive_next bodies sound (Panicked c s) h = tt
-alive_next bodies sound Stuck h = absurd h
+pub alive_next : {K : Type 0} (bodies : List Body) (sound : AreSound bodies) (fn : ℕ) (θ : Tys) (o : Outcome K) → Alive bodies sound fn θ o → Alive bodies sound fn θ (next bodies o)
+alive_next {K} bodies sound fn θ (Running s) (f, out, is, ready) =
+    subst (λ w. Alive bodies sound fn θ (step bodies w)) (sym is)
+    (subst (λ m. Alive bodies sound fn θ (outcome_of m)) (sym (try_step-whole bodies f (out ∷ []) (sound_wholes bodies sound)))
+    (settled_alive bodies sound fn θ out (frame_step bodies f)
+    (subst (λ n. Goes (EndsWell bodies sound n θ) (frame_step bodies f)) ready.1
+    (subst (λ ts. Goes (EndsWell bodies sound f.function ts) (frame_step bodies f)) ready.2
+    (frame_goes bodies sound f ready.0)))))
+alive_next bodies sound fn θ (Returned s t) h = h
+alive_next bodies sound fn θ (Panicked c s) h = tt
+alive_next bodies sound fn θ Stuck h = absurd h
 
-pub alive_after : {K : Type 0} (bodies : List Body) (sound : AreSound bodies) (n : ℕ) (o : Outcome K) → Alive bodies sound o → Alive bodies sound (after_from bodies n o)
-alive_after bodies sound zero o h = h
-alive_after bodies sound (suc n) o h = alive_next bodies sound (after_from bodies n o) (alive_after bodies sound n o h)
+pub alive_after : {K : Type 0} (bodies : List Body) (sound : AreSound bodies) (fn : ℕ) (θ : Tys) (n : ℕ) (o : Outcome K) → Alive bodies sound fn θ o → Alive bodies sound fn θ (after_from bodies n o)
+alive_after bodies sound fn θ zero o h = h
+alive_after bodies sound fn θ (suc n) o h = alive_next bodies sound fn θ (after_from bodies n o) (alive_after bodies sound fn θ n o h)
 
 -- ---- the start
 
@@ -431,12 +440,16 @@ start_fits {K} Δ s b f θ args met typed has = record {
   where
     tys : List Ty
     tys = take b.params (drop 1 b.locals)
+
     of_args : (length args ≡ length (take b.params (drop 1 b.locals))) × AreShaped θ args (take b.params (drop 1 b.locals))
     of_args = typed_args Δ s θ args (take b.params (drop 1 b.locals)) met has
+
     count : length args ≡ b.params
     count = of_args.0 ∙ params_length b typed
+
     room : length (entered b f θ args).locals ≡ length b.locals
     room = start_length args (length b.locals) (omega (arith, count, typed.answers))
+
     shaped : (x : ℕ) (ty : Ty) (t : Tree K) → parameters b x ≡ true → slice_get b.locals x ≡ Some ty → slice_get (entered b f θ args).locals x ≡ Some t → Shape (instance θ ty) t
     shaped zero ty t inside is_ty is_t = false≢true inside
     shaped (suc n) ty t inside is_ty is_t =
@@ -444,27 +457,46 @@ start_fits {K} Δ s b f θ args met typed has = record {
         let found = of_args.1 n ty (get_take (drop 1 b.locals) b.params n below ∙ get_drop b.locals n ∙ is_ty) in
         subst (Shape (instance θ ty)) (some_same (sym (get_append args (replicate (length b.locals - 1 - length args) Gone) n found.0 found.1) ∙ is_t)) found.2
 
-pub start_alive : {K : Type 0} (Δ : Declarations) (bodies : List Body) (sound : AreSound bodies) (f : ℕ) (θ : Tys) (args held : List (Tree K)) (b : Body) (met : List Met) → IsProper Δ bodies f θ args held b met → Alive bodies sound (Running (called b f θ args held))
+pub start_alive : {K : Type 0} (Δ : Declarations) (bodies : List Body) (sound : AreSound bodies) (f : ℕ) (θ : Tys) (args held : List (Tree K)) (b : Body) (met : List Met) → IsProper Δ bodies f θ args held b met → Alive bodies sound f θ (Running (called b f θ args held))
 start_alive Δ bodies sound f θ args held b met proper =
-    let both = sound f b proper.of in
-    (entered b f θ args, outside held, refl, record {
-      body = b;
-      is_body = proper.of;
-      block = both.0.begins.0;
-      is_block = both.0.begins.1;
-      within = omega arith;
-      fitting = fits_within b θ (both.1.at b.entry 0) (parameters b) (entered b f θ args).locals both.1.entry
-          (start_fits Δ (called b f θ args held) b f θ args met both.0 proper.typed);
-    })
+    let both = sound f b proper.of in (
+      entered b f θ args,
+      outside held,
+      refl,
+      (
+        record {
+          body = b;
+          is_body = proper.of;
+          block = both.0.begins.0;
+          is_block = both.0.begins.1;
+          within = omega arith;
+          fitting = fits_within b θ (both.1.at b.entry 0) (parameters b) (entered b f θ args).locals both.1.entry
+              (start_fits Δ (called b f θ args held) b f θ args met both.0 proper.typed);
+        },
+        refl,
+        refl,
+      ),
+    )
 
-alive_free : {K : Type 0} (bodies : List Body) (sound : AreSound bodies) (o : Outcome K) → Alive bodies sound o → o ≡ Stuck → ⊥
-alive_free bodies sound o h e = subst (Alive bodies sound) e h
+-- what a proper call of typed, initialised bodies comes to
+pub call_alive : {K : Type 0} (Δ : Declarations) (bodies : List Body) (sound : AreSound bodies) (f : ℕ) (θ : Tys) (args held : List (Tree K)) (b : Body) (met : List Met) → IsProper Δ bodies f θ args held b met → (n : ℕ) → Alive bodies sound f θ (after bodies n (called b f θ args held))
+call_alive Δ bodies sound f θ args held b met proper n =
+    let start = Running (called b f θ args held) in
+    alive_after bodies sound f θ n start (start_alive Δ bodies sound f θ args held b met proper)
 
--- a proper call of typed, initialised bodies is never stuck
+alive_free : {K : Type 0} (bodies : List Body) (sound : AreSound bodies) (fn : ℕ) (θ : Tys) (o : Outcome K) → Alive bodies sound fn θ o → o ≡ Stuck → ⊥
+alive_free bodies sound fn θ o h e = subst (Alive bodies sound fn θ) e h
+
+-- it is never stuck
 pub never_stuck : {K : Type 0} (Δ : Declarations) (bodies : List Body) → AreSound bodies → (f : ℕ) (θ : Tys) (args held : List (Tree K)) (b : Body) (met : List Met) → IsProper Δ bodies f θ args held b met → (n : ℕ) → after bodies n (called b f θ args held) ≡ Stuck → ⊥
 never_stuck Δ bodies sound f θ args held b met proper n =
-    let start = Running (called b f θ args held) in
-    alive_free bodies sound (after_from bodies n start) (alive_after bodies sound n start (start_alive Δ bodies sound f θ args held b met proper))
+    alive_free bodies sound f θ (after bodies n (called b f θ args held)) (call_alive Δ bodies sound f θ args held b met proper n)
+
+-- its answer has the shape of the answer's type
+pub answer_shape : {K : Type 0} (Δ : Declarations) (bodies : List Body) → AreSound bodies → (f : ℕ) (θ : Tys) (args held : List (Tree K)) (b : Body) (met : List Met) → IsProper Δ bodies f θ args held b met → (n : ℕ) (s : State K) (t : Tree K) → after bodies n (called b f θ args held) ≡ Returned s t → Shape (answer_ty b θ) t
+answer_shape Δ bodies sound f θ args held b met proper n s t e =
+    let (c, is_c, shape) = subst (Alive bodies sound f θ) e (call_alive Δ bodies sound f θ args held b met proper n) in
+    subst (λ d. Shape (answer_ty d θ) t) (some_same (sym is_c ∙ proper.of)) shape
 
 pub safe_call : (Δ : Declarations) (bodies : List Body) → AreSound bodies → (f : ℕ) (θ : Tys) (args held : List (Tree (Unit {0}))) (b : Body) (met : List Met) → IsProper Δ bodies f θ args held b met → IsSafe (record { bodies = bodies; outcome = Running (called b f θ args held) })
 safe_call Δ bodies sound f θ args held b met proper = (sound_wholes bodies sound, never_stuck Δ bodies sound f θ args held b met proper)

@@ -1,15 +1,15 @@
 -- A step of a state, by the step of its running frame; and what each step of a machine keeps.
-use Rattle.std.proofs.Common.{◌≡◌, ◌∙◌, refl, sym, ap, subst, ℕ, zero, suc, List, [], ◌∷◌, length, reverse, Option, Some, None, arith}
+use Rattle.std.proofs.Common.{◌≡◌, ◌∙◌, refl, sym, ap, subst, ℕ, zero, suc, List, [], ◌∷◌, length, reverse, Option, Some, None}
 use Rattle.std.proofs.lemmas.List.{length-reverse}
 use Rattle.mir_machine.specs.declared.halt.Halt.{Halt}
 use Rattle.mir_machine.specs.declared.mir_ir.Body.{Body}
-use Rattle.mir_machine.specs.Try.{Try, Yields, Panics, Sticks, ◌>>=◌}
+use Rattle.mir_machine.specs.Try.{Try, Yields, Sticks, ◌>>=◌}
 use Rattle.mir_machine.specs.Tree.{Tree}
 use Rattle.mir_machine.specs.Frame.{Frame, State}
-use Rattle.mir_machine.specs.Halt.{Stops, Comes}
-use Rattle.mir_machine.specs.Step.{Outcome, Running, Returned, Panicked, Stuck, outcome_of, try_step, step, next, after_from, come_back}
+use Rattle.mir_machine.specs.Halt.{Stops}
+use Rattle.mir_machine.specs.Step.{Outcome, Running, outcome_of, try_step, next, after_from, come_back}
 use Rattle.mir_machine.specs.FrameStep.{AllNameWholes, FrameEnd, frame_step, end_of, settled}
-use Rattle.mir_machine.specs.Run.{Run, IsSafe, NeverStuck}
+use Rattle.mir_machine.specs.Run.{Run, IsSafe}
 use Rattle.mir_machine.proofs.Coming.{stops_then}
 use Rattle.mir_machine.proofs.Wholes.{try_step-whole}
 

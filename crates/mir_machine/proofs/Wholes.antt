@@ -1,5 +1,5 @@
 -- The rows act on the whole locals of the running frame as FrameStep.antt says.
-use Rattle.std.proofs.Common.{◌≡◌, ◌∙◌, refl, sym, ap, subst, ℕ, ◌+◌, cond, ◌==◌, List, [], ◌∷◌, length, Option, Some, None, slice_get, slice_set, eq-eqb}
+use Rattle.std.proofs.Common.{◌≡◌, ◌∙◌, refl, sym, ap, ℕ, ◌+◌, cond, List, [], ◌∷◌, length, Option, Some, None, slice_get, slice_set, eq-eqb}
 use Rattle.text_core.specs.declared.span.Span.{Span}
 use Rattle.logic_term.specs.declared.kinds.IntKind.{IntKind}
 use Rattle.logic_term.specs.Ty.{Tys}
@@ -21,7 +21,7 @@ use Rattle.mir_machine.specs.Tree.{Tree, Gone}
 use Rattle.mir_machine.specs.Frame.{Frame, State}
 use Rattle.mir_machine.specs.Body.{block_in, place_ty, kind_in}
 use Rattle.mir_machine.specs.Memory.{frame_at, set_frame, is_there, read, write}
-use Rattle.mir_machine.specs.Step.{operand, rvalue, binary, assign, statement_step, leave, end_step, row, try_step, Taken, Outcome, Running, come_back, past}
+use Rattle.mir_machine.specs.Step.{operand, rvalue, binary, assign, leave, end_step, row, try_step, Taken, Running, come_back, past}
 use Rattle.mir_machine.specs.FrameStep.{IsWhole, ReadsWholes, NamesWholes, AllNameWholes, Left, local_tree, take_operand, evaluate, put_local, assign_local, FrameEnd, Stays, Answers, frame_end, frame_row, frame_step, settled}
 
 -- ---- one part of a step after another
@@ -99,7 +99,7 @@ operand-whole {K} f fs (Move p) e =
     ap (λ q. read (f ∷ fs) q >>= λ t. write (f ∷ fs) q Gone >>= λ s. Yields (s, t)) (whole-path p e)
     ∙ ap (λ (m : Try (Tree K)). m >>= λ t. write (f ∷ fs) (whole p.local) Gone >>= λ s. Yields (s, t)) (read-whole f fs p.local)
     ∙ then_known (local_tree f.locals p.local) (λ t. write (f ∷ fs) (whole p.local) Gone >>= λ s. Yields (s, t)) (λ t. Yields (slice_set f.locals p.local Gone, t) >>= λ l. Yields (taken_state f fs l))
-      (λ t known. ap (λ (m : Try (State K)). m >>= λ s. Yields (s, t)) (write-whole f fs p.local Gone ∙ ap (λ (m : Try (List (Tree K))). m >>= λ ls. Yields (with_locals f fs ls)) (put-read f.locals p.local t Gone known)))
+    (λ t known. ap (λ (m : Try (State K)). m >>= λ s. Yields (s, t)) (write-whole f fs p.local Gone ∙ ap (λ (m : Try (List (Tree K))). m >>= λ ls. Yields (with_locals f fs ls)) (put-read f.locals p.local t Gone known)))
     ∙ sym (then_then (local_tree f.locals p.local) (λ t. Yields (slice_set f.locals p.local Gone, t)) (λ l. Yields (taken_state f fs l)))
 operand-whole f fs (Const l) e = refl
 
@@ -113,12 +113,12 @@ rvalue-whole {K} f fs kind span (Binary op a b) e =
     ap (λ (m : Try (Taken K)). m >>= rest) (operand-whole f fs a e.0)
     ∙ then_then (take_operand f.locals a) (λ l. Yields (taken_state f fs l)) rest
     ∙ then_same (take_operand f.locals a) (λ l. rest (taken_state f fs l)) (λ l. rest' l >>= λ l. Yields (taken_state f fs l))
-      (λ l.
-        ap (λ (m : Try (Taken K)). m >>= last l.1) (operand-whole (record f { locals = l.0 }) fs b e.1)
-        ∙ then_then (take_operand l.0 b) (λ r. Yields (taken_state f fs r)) (last l.1)
-        ∙ then_same (take_operand l.0 b) (λ r. last l.1 (taken_state f fs r)) (λ r. last' l.1 r >>= λ r. Yields (taken_state f fs r))
-          (λ r. sym (then_then (binary kind span op l.1 r.1) (λ t. Yields (r.0, t)) (λ r. Yields (taken_state f fs r))))
-        ∙ sym (then_then (take_operand l.0 b) (last' l.1) (λ r. Yields (taken_state f fs r))))
+    (λ l.
+    ap (λ (m : Try (Taken K)). m >>= last l.1) (operand-whole (record f { locals = l.0 }) fs b e.1)
+    ∙ then_then (take_operand l.0 b) (λ r. Yields (taken_state f fs r)) (last l.1)
+    ∙ then_same (take_operand l.0 b) (λ r. last l.1 (taken_state f fs r)) (λ r. last' l.1 r >>= λ r. Yields (taken_state f fs r))
+    (λ r. sym (then_then (binary kind span op l.1 r.1) (λ t. Yields (r.0, t)) (λ r. Yields (taken_state f fs r))))
+    ∙ sym (then_then (take_operand l.0 b) (last' l.1) (λ r. Yields (taken_state f fs r))))
     ∙ sym (then_then (take_operand f.locals a) rest' (λ l. Yields (taken_state f fs l)))
 
 -- ---- steps
@@ -135,10 +135,10 @@ statement_step-whole {K} b θ f fs span (Assign p r) e =
     ap (λ (m : Try (Taken K)). m >>= finish) (rvalue-whole f fs kind span r e.1)
     ∙ then_then (evaluate f.locals kind span r) (λ l. Yields (taken_state f fs l)) finish
     ∙ then_same (evaluate f.locals kind span r) (λ l. finish (taken_state f fs l)) (λ l. finish' l >>= λ ls. Yields (moved_on f ls ∷ fs))
-      (λ l.
-        ap (λ q. write (with_locals f fs l.0) q l.1 >>= past) (whole-path p e.0)
-        ∙ ap (λ (m : Try (State K)). m >>= past) (write-whole (record f { locals = l.0 }) fs p.local l.1)
-        ∙ then_then (put_local l.0 p.local l.1) (λ ls. Yields (with_locals f fs ls)) past)
+    (λ l.
+    ap (λ q. write (with_locals f fs l.0) q l.1 >>= past) (whole-path p e.0)
+    ∙ ap (λ (m : Try (State K)). m >>= past) (write-whole (record f { locals = l.0 }) fs p.local l.1)
+    ∙ then_then (put_local l.0 p.local l.1) (λ ls. Yields (with_locals f fs ls)) past)
     ∙ sym (then_then (evaluate f.locals kind span r) finish' (λ ls. Yields (moved_on f ls ∷ fs)))
 
 leave-alone : {K : Type 0} (f : Frame K) (fs : State K) → leave (f ∷ fs) ≡ (frame_end f Return >>= settled fs)
@@ -162,9 +162,9 @@ try_step-whole {K} bodies f fs whole =
     let at_body : Body → Try (FrameEnd K) = λ b. need (block_in b.blocks f.label) >>= at_block b in
     then_known (need (slice_get bodies f.function)) (λ b. need (block_in b.blocks f.label) >>= λ k. row b f.types (f ∷ fs) k.end (slice_get k.statements f.statement)) (λ b. at_body b >>= settled fs)
     (λ b is_body.
-      then_known (need (block_in b.blocks f.label)) (λ k. row b f.types (f ∷ fs) k.end (slice_get k.statements f.statement)) (λ k. at_block b k >>= settled fs)
-      (λ k is_block. row-whole b f fs k.end (slice_get k.statements f.statement) (λ st is_statement. whole f.function b (needed _ b is_body) f.label k f.statement st (needed _ k is_block) is_statement))
-      ∙ sym (then_then (need (block_in b.blocks f.label)) (at_block b) (settled fs)))
+    then_known (need (block_in b.blocks f.label)) (λ k. row b f.types (f ∷ fs) k.end (slice_get k.statements f.statement)) (λ k. at_block b k >>= settled fs)
+    (λ k is_block. row-whole b f fs k.end (slice_get k.statements f.statement) (λ st is_statement. whole f.function b (needed _ b is_body) f.label k f.statement st (needed _ k is_block) is_statement))
+    ∙ sym (then_then (need (block_in b.blocks f.label)) (at_block b) (settled fs)))
     ∙ sym (then_then (need (slice_get bodies f.function)) at_body (settled fs))
   where
     needed : {A : Type 0} (o : Option A) (a : A) → need o ≡ Yields a → o ≡ Some a

@@ -5,7 +5,6 @@ use Rattle.text_core.specs.declared.span.Span.{Span}
 use Rattle.logic_term.specs.declared.kinds.IntKind.{IntKind}
 use Rattle.logic_term.specs.declared.kinds.Label.{Label}
 use Rattle.logic_term.specs.Ty.{Tys}
-use Rattle.mir_machine.specs.declared.mir_ir.Place.{Place}
 use Rattle.mir_machine.specs.declared.mir_ir.Operand.{Operand}
 use Rattle.mir_machine.specs.declared.mir_ir.Operand.TheVariants.{Copy, Move, Const}
 use Rattle.mir_machine.specs.declared.mir_ir.Rvalue.{Rvalue}
@@ -18,7 +17,7 @@ use Rattle.mir_machine.specs.declared.mir_ir.TerminatorKind.TheVariants.{Return}
 use Rattle.mir_machine.specs.declared.mir_ir.Terminator.{Terminator}
 use Rattle.mir_machine.specs.declared.mir_ir.Block.{Block}
 use Rattle.mir_machine.specs.declared.mir_ir.Body.{Body}
-use Rattle.mir_machine.specs.Try.{Try, Yields, Panics, Sticks, ◌>>=◌, need}
+use Rattle.mir_machine.specs.Try.{Try, Yields, Sticks, ◌>>=◌, need}
 use Rattle.mir_machine.specs.Tree.{Tree, Int, Gone}
 use Rattle.mir_machine.specs.Frame.{Frame, State}
 use Rattle.mir_machine.specs.Body.{block_in, place_ty, kind_in}

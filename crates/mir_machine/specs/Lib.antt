@@ -9,6 +9,7 @@ pub mod Reads
 pub mod Run
 pub mod RunCode
 pub mod RunView
+pub mod Sample
 pub mod Step
 pub mod Tree
 pub mod TreeCode

@@ -1,15 +1,18 @@
 -- What contracts see of a machine: the bodies that it runs, and what its run has come to.
-use Rattle.std.specs.Prelude.{◌≡◌, ◌≢◌, ℕ, ◌<◌, ◌≤◌, List, Option, Some, None}
+use Rattle.std.specs.Prelude.{◌≡◌, ◌≢◌, ℕ, ◌<◌, ◌≤◌, List, Option, Some, None, slice_get}
 use Rattle.mir_machine.specs.declared.mir_ir.Body.{Body}
 use Rattle.mir_machine.specs.declared.mir_ir.FnId.{FnId}
 use Rattle.mir_machine.specs.declared.mir_ir.FnId.TheVariants as fn_id
 use Rattle.mir_machine.specs.declared.outcome.Outcome.{Outcome as Shown}
 use Rattle.mir_machine.specs.declared.outcome.Outcome.TheVariants as shown
-use Rattle.logic_term.specs.Ty.{Tys}
-use Rattle.mir_machine.specs.Good.{called}
+use Rattle.logic_term.specs.Sort.{Declarations}
+use Rattle.logic_term.specs.Ty.{Ty}
+use Rattle.logic_term.specs.TyView.{tys_of}
+use Rattle.mir_machine.specs.Good.{called, IsProper}
+use Rattle.mir_machine.specs.Typed.{Met}
 use Rattle.mir_machine.specs.Tree.{Tree}
 use Rattle.mir_machine.specs.Frame.{State}
-use Rattle.mir_machine.specs.Step.{Outcome, Running, Returned, Panicked, Stuck, next, after_from}
+use Rattle.mir_machine.specs.Step.{Outcome, Running, Returned, Panicked, Stuck, after_from}
 use Rattle.mir_machine.specs.FrameStep.{AllNameWholes}
 
 pub record Run : Type 0 where
@@ -20,9 +23,16 @@ pub record Run : Type 0 where
 abbrev pub body_number : FnId → ℕ
 body_number (fn_id.Body n) = n
 
--- the run of a call, which has taken no step
-abbrev pub started : List Body → Body → ℕ → Tys → List (Tree (Unit {0})) → List (Tree (Unit {0})) → Run
-started bodies b f θ args held = record { bodies = bodies; outcome = Running (called b f θ args held) }
+-- the call of f is proper, at some declarations of types
+abbrev pub CanCall : List Body → FnId → List Ty → List (Tree (Unit {0})) → List (Tree (Unit {0})) → Type 0
+CanCall bodies f types args held =
+    (Δ : Declarations) × (b : Body) × (met : List Met) × IsProper Δ bodies (body_number f) (tys_of types) args held b met
+
+-- the run stands where the call of f begins
+abbrev pub Starts : List Body → FnId → List Ty → List (Tree (Unit {0})) → List (Tree (Unit {0})) → Run → Type 0
+Starts bodies f types args held m =
+    (b : Body) → slice_get bodies (body_number f) ≡ Some b →
+    m ≡ record { bodies = bodies; outcome = Running (called b (body_number f) (tys_of types) args held) }
 
 -- the run k steps on
 abbrev pub ran : ℕ → Run → Run

@@ -54,7 +54,8 @@ fn integer(z: i128) -> Tree
 
 /// `exact` is the exact integer, where 128 bits hold it.
 fn fit(kind: Option<IntKind>, span: Span, exact: Option<i128>) -> Result<Tree, Halt>
-    ensures exact { (z : ℤ) → SomeIff exact (FitsSigned w128 z) z → Comes result (arithmetic kind (λ k. fit k span z)) (λ t. t) }
+    ensures exact { (z : ℤ) → SomeIff exact (FitsSigned w128 z) z →
+        Comes result (arithmetic kind (λ k. fit k span z)) (λ t. t) }
     ensures memory { result ≢ Err Halt.NoMemory }
 {
     let kind = kind.ok_or(Halt::Stuck)?;

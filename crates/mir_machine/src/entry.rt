@@ -22,7 +22,8 @@ fn gone() -> Tree
 
 /// The locals of a body with `count` locals as a call of it begins.
 fn entry_locals(alloc: Global, args: Vec<Tree>, count: usize) -> Result<Vec<Tree>, NoMemory>
-    ensures { IfOk result (λ locals. locals.items ≡ Gone ∷ (args.items ++ replicate (count - 1 - length args.items) Gone)) }
+    ensures { IfOk result
+        (λ locals. locals.items ≡ Gone ∷ (args.items ++ replicate (count - 1 - length args.items) Gone)) }
 {
     let others = (count.saturating_sub(1)).saturating_sub(args.len());
     let mut locals = Vec::with_capacity(alloc, count)?;
@@ -45,7 +46,9 @@ pub fn call(
     args: Args,
 ) -> Result<State, NoMemory>
     requires { function < length bodies.now.bodies }
-    ensures { IfOk result (λ state. (b : Body) → slice_get bodies.now.bodies function ≡ Some b → state ≡ called b function (tys_of types.items) args.values args.outside) }
+    ensures { IfOk result
+        (λ state. (b : Body) → slice_get bodies.now.bodies function ≡ Some b →
+        state ≡ called b function (tys_of types.items) args.values args.outside) }
 {
     let body = &bodies.bodies.as_slice()[function as usize];
     let Args { values, outside } = args;

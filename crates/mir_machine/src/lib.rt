@@ -12,6 +12,8 @@ mod outcome;
 mod run_error;
 mod running;
 mod spot;
+#[cfg(test)]
+mod tests;
 mod tree;
 
 pub use args::Args;

@@ -1,12 +1,7 @@
-ghost use Rattle.std.specs.Prelude.{◌≡◌, ℕ, ◌≤◌, List, Some, IfOk, IfErr, OnOk, OnErr, slice_get};
+ghost use Rattle.std.specs.Prelude.{◌≡◌, ℕ, ◌≤◌, IfOk, IfErr, OnOk, OnErr};
 ghost use Rattle.std.specs.Option.{option_copied};
-ghost use Rattle.logic_term.specs.Sort.{Declarations};
-ghost use Rattle.logic_term.specs.TyView.{tys_of};
-ghost use Rattle.mir_machine.specs.declared.mir_ir.Body.{Body};
-ghost use Rattle.mir_machine.specs.Good.{IsProper};
-ghost use Rattle.mir_machine.specs.Typed.{Met};
 ghost use Rattle.mir_machine.specs.WellFormed.{AreSound};
-ghost use Rattle.mir_machine.specs.Run.{body_number, started, ran, IsRan, ShownAs, answer, StandsAt};
+ghost use Rattle.mir_machine.specs.Run.{CanCall, Starts, ran, IsRan, ShownAs, answer, StandsAt};
 
 use crate::args::Args;
 use crate::entry::call;
@@ -71,8 +66,8 @@ impl<'a, I: Drop> Machine<'a, I> {
         intrinsics: I,
     ) -> Result<Machine<'a, I>, NoMemory>
         requires sound { AreSound bodies.now.bodies }
-        requires proper { (Δ : Declarations) × (b : Body) × (met : List Met) × IsProper Δ bodies.now.bodies (body_number f) (tys_of instance.now.types) args.values args.outside b met }
-        ensures { IfOk result (λ m. (b : Body) → slice_get bodies.now.bodies (body_number f) ≡ Some b → m ≡ started bodies.now.bodies b (body_number f) (tys_of instance.now.types) args.values args.outside) }
+        requires proper { CanCall bodies.now.bodies f instance.now.types args.values args.outside }
+        ensures { IfOk result (Starts bodies.now.bodies f instance.now.types args.values args.outside) }
     {
         let FnId::Body(number) = f;
         let types = copy_types(alloc, instance.types.as_slice())?;

@@ -11,7 +11,9 @@ ghost use Rattle.mir_machine.specs.FrameStep.{IsWhole, ReadsWholes, NamesWholes,
 use crate::arithmetic::operate;
 use crate::frame::{Frame, State};
 use crate::halt::Halt;
-use crate::mir_ir::{Bodies, Body, Lit, Operand, Place, Rvalue, Statement, StatementKind, TerminatorKind};
+use crate::mir_ir::{
+    Bodies, Body, Lit, Operand, Place, Rvalue, Statement, StatementKind, TerminatorKind,
+};
 use crate::tree::{Tree, TreeNode};
 use logic_term::{IntKind, Ty, TyNode};
 use std::alloc::Global;
@@ -173,7 +175,9 @@ fn assign(
     statement: &Statement,
 ) -> Result<(), Halt>
     requires { NamesWholes statement.now.kind }
-    ensures assigns { Comes result (assign_local body.now (tys_of types.now) locals.old.items statement.now.span statement.now.kind) (λ _. locals.new.items) }
+    ensures assigns { Comes result
+        (assign_local body.now (tys_of types.now) locals.old.items statement.now.span statement.now.kind)
+        (λ _. locals.new.items) }
     ensures unchanged { result ≡ Err Halt.NoMemory → locals.new.items ≡ locals.old.items }
 {
     let StatementKind::Assign(place, rvalue) = &statement.kind;
@@ -188,7 +192,10 @@ fn step_frame(alloc: Global, bodies: &Bodies, frame: &mut Frame) -> Result<Optio
     ensures steps { Comes result (frame_step bodies.now.bodies frame.old) (end_of frame.new) }
     ensures unchanged { result ≡ Err Halt.NoMemory → frame.new ≡ frame.old }
 {
-    let body = bodies.bodies.get(frame.function as usize).ok_or(Halt::Stuck)?;
+    let body = bodies
+        .bodies
+        .get(frame.function as usize)
+        .ok_or(Halt::Stuck)?;
     let block = body.block(frame.label).ok_or(Halt::Stuck)?;
     let statements = block.statements.as_slice();
     if frame.statement < statements.len() {

@@ -1,4 +1,4 @@
-use Rattle.std.proofs.Common.{◌≡◌, ◌∙◌, refl, ap, get_or}
+use Rattle.std.proofs.Common.{◌∙◌, refl, ap}
 use Rattle.std.proofs.lemmas.List.{get_or_past}
 use Rattle.logic_term.specs.Ty.{math_int}
 use Rattle.mir_machine.specs.Body.{kind_of}

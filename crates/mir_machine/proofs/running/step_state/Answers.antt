@@ -1,4 +1,4 @@
-use Rattle.std.proofs.Common.{◌≡◌, ◌∙◌, reverse, length, ap, arith}
+use Rattle.std.proofs.Common.{◌∙◌, reverse, arith}
 use Rattle.std.proofs.lemmas.Result.{err_from_is_err_and}
 use Rattle.mir_machine.proofs.Stepping.{stops_state, stays, answers, sticks_behind}
 use Rattle.mir_machine.proofs.running.step_state.Goals as goal
@@ -19,7 +19,8 @@ pub returns-in_default-pop-clause-steps : goal.returns-in_default-pop-clause-ste
 returns-in_default-pop-clause-steps c =
     rw (← c.state.view_is)
     (answers c.args.bodies.now.bodies c.state.inside.running c.step_frame.new.frame (reverse c.state.inside.behind.items) c.in_ok-tree.field-0 c.in-Some.tree c.requires c.in_ok-tree.ensures.steps c.in-Some.is
-      ∙ sticks_behind c.in-Some.tree c.state.inside.behind.items (λ e.
-          elim c.in_default-pop.branch [
-            in_default-pop-via-in-Some-pop+else-is_empty w ↦ (let some_left = w.if-is_empty.ensures in let fewer = w.in-Some-pop.ensures.cases in grind arith)
-            | in_default-pop-via-in_default-pop w ↦ (let none = w.in_default-pop.ensures.cases in omega arith) ]))
+    ∙ sticks_behind c.in-Some.tree c.state.inside.behind.items (λ e.
+    elim c.in_default-pop.branch [
+      | in_default-pop-via-in-Some-pop+else-is_empty w ↦ (let some_left = w.if-is_empty.ensures in let fewer = w.in-Some-pop.ensures.cases in grind arith)
+      | in_default-pop-via-in_default-pop w ↦ (let none = w.in_default-pop.ensures.cases in omega arith)
+    ]))

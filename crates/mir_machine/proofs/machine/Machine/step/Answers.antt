@@ -1,6 +1,4 @@
-use Rattle.mir_machine.specs.RunView.{outcome_at}
-use Rattle.mir_machine.specs.Run.{IsSafe}
-use Rattle.mir_machine.proofs.Stepping.{at, safe_step, never_sticks}
+use Rattle.mir_machine.proofs.Stepping.{safe_step, never_sticks}
 use Rattle.mir_machine.proofs.machine.Machine.step.Goals as goal
 
 pub invariant_of-self : goal.invariant_of-self

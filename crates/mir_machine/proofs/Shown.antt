@@ -1,0 +1,241 @@
+-- The values that locals show: how the rows change them.
+use Rattle.std.proofs.Common.{◌≡◌, ◌⊎◌, inl, inr, ⊎_elim, refl, sym, ap, subst, ℕ, zero, suc, ◌==◌, ℤ, pos, ◌+ℤ◌, ◌-ℤ◌, ◌*ℤ◌, int_div, int_rem, int_lt, int_le, Bool, true, false, not, cond, List, [], ◌∷◌, ◌++◌, replicate, Option, Some, None, slice_get, slice_set, eq-eqb, ne_eqb, arith}
+use Rattle.std.specs.Ordering.{int_eq}
+use Rattle.text_core.specs.declared.refusal.Cause.TheVariants.{Overflow, Division}
+use Rattle.text_core.specs.declared.span.Span.{Span}
+use Rattle.logic_term.specs.declared.kinds.IntKind.{IntKind}
+use Rattle.logic_term.specs.declared.kinds.BinaryOp.{BinaryOp}
+use Rattle.logic_term.specs.declared.kinds.BinaryOp.TheVariants.{Add, Sub, Mul, Div, Rem, Eq, Ne, Lt, Le, Gt, Ge}
+use Rattle.logic_term.specs.Range.{fits}
+use Rattle.logic_term.specs.Ty.{Tys}
+use Rattle.logic_term.specs.Value.{Value, Number, Flag, nothing, integer_of}
+use Rattle.mir_machine.specs.declared.spot.Spot.{Spot}
+use Rattle.mir_machine.specs.declared.mir_ir.Lit.{Lit}
+use Rattle.mir_machine.specs.declared.mir_ir.Lit.TheVariants as lit
+use Rattle.mir_machine.specs.declared.mir_ir.Operand.{Operand}
+use Rattle.mir_machine.specs.declared.mir_ir.Operand.TheVariants.{Copy, Move, Const}
+use Rattle.mir_machine.specs.declared.mir_ir.Rvalue.{Rvalue}
+use Rattle.mir_machine.specs.declared.mir_ir.Rvalue.TheVariants.{Use, Binary}
+use Rattle.mir_machine.specs.declared.mir_ir.StatementKind.TheVariants.{Assign}
+use Rattle.mir_machine.specs.declared.mir_ir.Place.{Place}
+use Rattle.mir_machine.specs.declared.mir_ir.Body.{Body}
+use Rattle.mir_machine.specs.Try.{Try, Yields, Panics, ◌>>=◌, need}
+use Rattle.mir_machine.specs.Tree.{Tree, Int, Truth, Made, Boxed, Shared, Unique, Gone}
+use Rattle.mir_machine.specs.Frame.{State}
+use Rattle.mir_machine.specs.Body.{kind_in, place_ty}
+use Rattle.mir_machine.specs.Memory.{is_there}
+use Rattle.mir_machine.specs.Step.{fit, divide, of_integers, binary, literal}
+use Rattle.mir_machine.specs.FrameStep.{Left, local_tree, take_operand, evaluate, put_local, assign_local}
+use Rattle.mir_machine.specs.Reads.{View, Reads, of_lent, of_int, of_truth}
+use Rattle.mir_machine.specs.Good.{not_lent}
+use Rattle.mir_machine.proofs.Tried.{Quiet, quiet_then, quiet_need}
+
+-- ---- trees and values
+
+-- an integer or a truth value shows that value; what is gone shows any
+abbrev pub Shows : {K : Type 0} → Tree K → Value → Type 0
+Shows (Int z) v = v ≡ Number z
+Shows (Truth b) v = v ≡ Flag b
+Shows Gone v = Unit {0}
+Shows _ v = ⊥
+
+-- what reads as a value shows it, if it is an integer
+pub reads-int : {K : Type 0} {s : State K} {final : K → Spot → Value} {w : View K} {at : Spot} {z : ℤ} {v : Value} → Reads false s final not_lent w at (Int z) v → v ≡ Number z
+reads-int (of_lent e) = absurd (cc)
+reads-int (of_int e) = refl
+
+pub reads-truth : {K : Type 0} {s : State K} {final : K → Spot → Value} {w : View K} {at : Spot} {b : Bool} {v : Value} → Reads false s final not_lent w at (Truth b) v → v ≡ Flag b
+reads-truth (of_lent e) = absurd (cc)
+reads-truth (of_truth e) = refl
+
+-- ---- locals
+
+-- a value for each local
+abbrev pub Store : Type 0
+Store = ℕ → Value
+
+abbrev pub stored : ℕ → Value → Store → Store
+stored x v ρ y = cond (y == x) v (ρ y)
+
+abbrev pub Agrees : {K : Type 0} → List (Tree K) → Store → Type 0
+Agrees {K} ls ρ = (x : ℕ) (t : Tree K) → slice_get ls x ≡ Some t → Shows t (ρ x)
+
+some_same : {A : Type 0} {a b : A} → Some a ≡ Some b → a ≡ b
+some_same e = cc
+
+get_set : {A : Type 0} (ls : List A) (x : ℕ) (u : A) (y : ℕ) (t : A) → slice_get (slice_set ls x u) y ≡ Some t → ((y ≡ x) × (u ≡ t)) ⊎ ((y ≡ x → ⊥) × (slice_get ls y ≡ Some t))
+get_set [] x u y t e = absurd (cc)
+get_set (l ∷ ls) zero u zero t e = inl (refl, some_same e)
+get_set (l ∷ ls) zero u (suc y) t e = inr ((λ q. absurd (omega arith)), e)
+get_set (l ∷ ls) (suc x) u zero t e = inr ((λ q. absurd (omega arith)), e)
+get_set (l ∷ ls) (suc x) u (suc y) t e = ⊎_elim (λ h. inl (ap suc h.0, h.1)) (λ h. inr ((λ q. h.0 (omega arith)), h.1)) (get_set ls x u y t e)
+
+pub agrees_set : {K : Type 0} (ls : List (Tree K)) (ρ : Store) (x : ℕ) (u : Tree K) (v : Value) → Agrees ls ρ → Shows u v → Agrees (slice_set ls x u) (stored x v ρ)
+agrees_set ls ρ x u v h shows y t e =
+    ⊎_elim
+    (λ q. subst (λ b. Shows t (cond b v (ρ y))) (sym (eq-eqb y x q.0)) (subst (λ w. Shows w v) q.1 shows))
+    (λ q. subst (λ b. Shows t (cond b v (ρ y))) (sym (ne_eqb y x q.0)) (h y t q.1))
+    (get_set ls x u y t e)
+
+pub agrees_gone : {K : Type 0} (ls : List (Tree K)) (ρ : Store) (x : ℕ) → Agrees ls ρ → Agrees (slice_set ls x Gone) ρ
+agrees_gone ls ρ x h y t e = ⊎_elim (λ q. subst (λ w. Shows w (ρ y)) q.1 tt) (λ q. h y t q.1) (get_set ls x Gone y t e)
+
+-- the values that a call begins with: `vs` for the parameters
+abbrev pub entry_store : (ℕ → Value) → Store
+entry_store vs zero = nothing
+entry_store vs (suc n) = vs n
+
+beyond : {K : Type 0} (n m : ℕ) (t : Tree K) (v : Value) → slice_get (replicate n Gone) m ≡ Some t → Shows t v
+beyond zero m t v e = absurd (cc)
+beyond (suc n) zero t v e = subst (λ w. Shows w v) (some_same e) tt
+beyond (suc n) (suc m) t v e = beyond n m t v e
+
+in_front : {K : Type 0} (xs : List (Tree K)) (k : ℕ) (vs : ℕ → Value) → ((n : ℕ) (t : Tree K) → slice_get xs n ≡ Some t → Shows t (vs n)) → (n : ℕ) (t : Tree K) → slice_get (xs ++ replicate k Gone) n ≡ Some t → Shows t (vs n)
+in_front [] k vs h n t e = beyond k n t (vs n) e
+in_front (x ∷ xs) k vs h zero t e = h zero t e
+in_front (x ∷ xs) k vs h (suc n) t e = in_front xs k (λ m. vs (suc m)) (λ m u q. h (suc m) u q) n t e
+
+pub agrees_entry : {K : Type 0} (args : List (Tree K)) (k : ℕ) (vs : ℕ → Value) → ((n : ℕ) (t : Tree K) → slice_get args n ≡ Some t → Shows t (vs n)) → Agrees (Gone ∷ (args ++ replicate k Gone)) (entry_store vs)
+agrees_entry args k vs h zero t e = subst (λ w. Shows w nothing) (some_same e) tt
+agrees_entry args k vs h (suc n) t e = in_front args k vs h n t e
+
+-- ---- operands
+
+abbrev pub literal_value : Lit → Value
+literal_value (lit.Int z k) = Number z
+literal_value (lit.Bool b) = Flag b
+
+abbrev pub operand_value : Store → Operand → Value
+operand_value ρ (Copy p) = ρ p.local
+operand_value ρ (Move p) = ρ p.local
+operand_value ρ (Const l) = literal_value l
+
+-- locals that agree, and a tree that shows the value
+abbrev pub Leaves : {K : Type 0} → Store → Value → Left K → Type 0
+Leaves ρ v l = Agrees l.0 ρ × Shows l.1 v
+
+there : {K : Type 0} (P : Tree K → Type 0) (t : Tree K) → P t → Quiet P (is_there t)
+there P (Int z) h = h
+there P (Truth b) h = h
+there P (Made c ts) h = h
+there P (Boxed u) h = h
+there P (Shared at) h = h
+there P (Unique k at) h = h
+there P Gone h = tt
+
+pub local-shows : {K : Type 0} (ls : List (Tree K)) (ρ : Store) (x : ℕ) → Agrees ls ρ → Quiet (λ t. Shows t (ρ x)) (local_tree ls x)
+local-shows ls ρ x h = quiet_need (λ t. Shows t (ρ x)) (slice_get ls x) is_there (λ t e. there (λ u. Shows u (ρ x)) t (h x t e))
+
+literal-shows : (K : Type 0) (l : Lit) → Shows {K = K} (literal l) (literal_value l)
+literal-shows K (lit.Int z k) = refl
+literal-shows K (lit.Bool b) = refl
+
+pub operand-shows : {K : Type 0} (ls : List (Tree K)) (ρ : Store) (o : Operand) → Agrees ls ρ → Quiet (Leaves ρ (operand_value ρ o)) (take_operand ls o)
+operand-shows ls ρ (Copy p) h =
+    quiet_then (λ t. Shows t (ρ p.local)) (Leaves ρ (ρ p.local)) (local_tree ls p.local) (λ t. Yields (ls, t)) (local-shows ls ρ p.local h) (λ t shows. (h, shows))
+operand-shows ls ρ (Move p) h =
+    quiet_then (λ t. Shows t (ρ p.local)) (Leaves ρ (ρ p.local)) (local_tree ls p.local) (λ t. Yields (slice_set ls p.local Gone, t)) (local-shows ls ρ p.local h) (λ t shows. (agrees_gone ls ρ p.local h, shows))
+operand-shows {K} ls ρ (Const l) h = (h, literal-shows K l)
+
+-- ---- operations
+
+abbrev pub operation_value : BinaryOp → ℤ → ℤ → Value
+operation_value Add a b = Number (a +ℤ b)
+operation_value Sub a b = Number (a -ℤ b)
+operation_value Mul a b = Number (a *ℤ b)
+operation_value Div a b = Number (int_div a b)
+operation_value Rem a b = Number (int_rem a b)
+operation_value Eq a b = Flag (int_eq a b)
+operation_value Ne a b = Flag (not (int_eq a b))
+operation_value Lt a b = Flag (int_lt a b)
+operation_value Le a b = Flag (int_le a b)
+operation_value Gt a b = Flag (int_lt b a)
+operation_value Ge a b = Flag (int_le b a)
+
+abbrev pub InKind : Option IntKind → (IntKind → Type 0) → Type 0
+InKind (Some k) P = P k
+InKind None P = Unit {0}
+
+-- the operation does not panic
+abbrev pub IsInRange : Option IntKind → BinaryOp → ℤ → ℤ → Type 0
+IsInRange kind Add a b = InKind kind (λ k. fits k (a +ℤ b) ≡ true)
+IsInRange kind Sub a b = InKind kind (λ k. fits k (a -ℤ b) ≡ true)
+IsInRange kind Mul a b = InKind kind (λ k. fits k (a *ℤ b) ≡ true)
+IsInRange kind Div a b = InKind kind (λ k. (int_eq b (pos 0) ≡ false) × (fits k (int_div a b) ≡ true))
+IsInRange kind Rem a b = InKind kind (λ k. (int_eq b (pos 0) ≡ false) × (fits k (int_div a b) ≡ true))
+IsInRange kind _ a b = Unit {0}
+
+in_kind : {A : Type 0} (P : IntKind → Type 0) (Q : A → Type 0) (kind : Option IntKind) (f : IntKind → Try A) → InKind kind P → ((k : IntKind) → P k → Quiet Q (f k)) → Quiet Q (need kind >>= f)
+in_kind P Q (Some k) f h go = go k h
+in_kind P Q None f h go = tt
+
+fit-shows : (K : Type 0) (k : IntKind) (span : Span) (z : ℤ) → fits k z ≡ true → Quiet (λ t. Shows {K = K} t (Number z)) (fit k span z)
+fit-shows K k span z e = subst (λ b. Quiet (λ t. Shows {K = K} t (Number z)) (cond b (Yields (Int z)) (Panics Overflow span))) (sym e) refl
+
+divide-shows : (K : Type 0) (k : IntKind) (span : Span) (f : ℤ → ℤ → ℤ) (a b : ℤ) → (int_eq b (pos 0) ≡ false) × (fits k (int_div a b) ≡ true) → Quiet (λ t. Shows {K = K} t (Number (f a b))) (divide k span f a b)
+divide-shows K k span f a b (n, e) =
+    subst (λ c. Quiet (λ t. Shows {K = K} t (Number (f a b))) (cond c (Panics Division span) (cond (fits k (int_div a b)) (Yields (Int (f a b))) (Panics Overflow span)))) (sym n)
+    (subst (λ c. Quiet (λ t. Shows {K = K} t (Number (f a b))) (cond c (Yields (Int (f a b))) (Panics Overflow span))) (sym e) refl)
+
+pub integers-show : (K : Type 0) (kind : Option IntKind) (span : Span) (op : BinaryOp) (a b : ℤ) → IsInRange kind op a b → Quiet (λ t. Shows {K = K} t (operation_value op a b)) (of_integers kind span op a b)
+integers-show K kind span Add a b h = in_kind (λ k. fits k (a +ℤ b) ≡ true) (λ t. Shows {K = K} t (Number (a +ℤ b))) kind (λ k. fit k span (a +ℤ b)) h (λ k e. fit-shows K k span (a +ℤ b) e)
+integers-show K kind span Sub a b h = in_kind (λ k. fits k (a -ℤ b) ≡ true) (λ t. Shows {K = K} t (Number (a -ℤ b))) kind (λ k. fit k span (a -ℤ b)) h (λ k e. fit-shows K k span (a -ℤ b) e)
+integers-show K kind span Mul a b h = in_kind (λ k. fits k (a *ℤ b) ≡ true) (λ t. Shows {K = K} t (Number (a *ℤ b))) kind (λ k. fit k span (a *ℤ b)) h (λ k e. fit-shows K k span (a *ℤ b) e)
+integers-show K kind span Div a b h = in_kind (λ k. (int_eq b (pos 0) ≡ false) × (fits k (int_div a b) ≡ true)) (λ t. Shows {K = K} t (Number (int_div a b))) kind (λ k. divide k span int_div a b) h (λ k e. divide-shows K k span int_div a b e)
+integers-show K kind span Rem a b h = in_kind (λ k. (int_eq b (pos 0) ≡ false) × (fits k (int_div a b) ≡ true)) (λ t. Shows {K = K} t (Number (int_rem a b))) kind (λ k. divide k span int_rem a b) h (λ k e. divide-shows K k span int_rem a b e)
+integers-show K kind span Eq a b h = refl
+integers-show K kind span Ne a b h = refl
+integers-show K kind span Lt a b h = refl
+integers-show K kind span Le a b h = refl
+integers-show K kind span Gt a b h = refl
+integers-show K kind span Ge a b h = refl
+
+-- the trees of the operands show these values
+pub binary-shows : {K : Type 0} (kind : Option IntKind) (span : Span) (op : BinaryOp) (t u : Tree K) (v w : Value) → Shows t v → Shows u w → IsInRange kind op (integer_of v) (integer_of w) → Quiet (λ r. Shows r (operation_value op (integer_of v) (integer_of w))) (binary kind span op t u)
+binary-shows {K} kind span op (Int a) (Int b) v w is_a is_b h =
+    subst (λ x. Quiet (λ r. Shows r (operation_value op x (integer_of w))) (of_integers {K = K} kind span op a b)) (sym (ap integer_of is_a))
+    (subst (λ y. Quiet (λ r. Shows r (operation_value op a y)) (of_integers {K = K} kind span op a b)) (sym (ap integer_of is_b))
+    (integers-show K kind span op a b (subst (λ x. IsInRange kind op x b) (ap integer_of is_a) (subst (λ y. IsInRange kind op (integer_of v) y) (ap integer_of is_b) h))))
+binary-shows kind span op (Int a) (Truth b) v w is_a is_b h = tt
+binary-shows kind span op (Int a) (Made c ts) v w is_a is_b h = tt
+binary-shows kind span op (Int a) (Boxed t) v w is_a is_b h = tt
+binary-shows kind span op (Int a) (Shared at) v w is_a is_b h = tt
+binary-shows kind span op (Int a) (Unique k at) v w is_a is_b h = tt
+binary-shows kind span op (Int a) Gone v w is_a is_b h = tt
+binary-shows kind span op (Truth b) u v w is_a is_b h = tt
+binary-shows kind span op (Made c ts) u v w is_a is_b h = tt
+binary-shows kind span op (Boxed t) u v w is_a is_b h = tt
+binary-shows kind span op (Shared at) u v w is_a is_b h = tt
+binary-shows kind span op (Unique k at) u v w is_a is_b h = tt
+binary-shows kind span op Gone u v w is_a is_b h = tt
+
+-- ---- right sides and assignments
+
+abbrev pub rvalue_value : Store → Rvalue → Value
+rvalue_value ρ (Use o) = operand_value ρ o
+rvalue_value ρ (Binary op a b) = operation_value op (integer_of (operand_value ρ a)) (integer_of (operand_value ρ b))
+
+-- the right side does not panic, where a place of this kind is written
+abbrev pub RvalueIsInRange : Option IntKind → Store → Rvalue → Type 0
+RvalueIsInRange kind ρ (Use o) = Unit {0}
+RvalueIsInRange kind ρ (Binary op a b) = IsInRange kind op (integer_of (operand_value ρ a)) (integer_of (operand_value ρ b))
+
+pub rvalue-shows : {K : Type 0} (ls : List (Tree K)) (ρ : Store) (kind : Option IntKind) (span : Span) (r : Rvalue) → Agrees ls ρ → RvalueIsInRange kind ρ r → Quiet (Leaves ρ (rvalue_value ρ r)) (evaluate ls kind span r)
+rvalue-shows ls ρ kind span (Use o) h in_range = operand-shows ls ρ o h
+rvalue-shows {K} ls ρ kind span (Binary op a b) h in_range =
+    let v = rvalue_value ρ (Binary op a b) in
+    let last : Tree K → Left K → Try (Left K) = λ t r. binary kind span op t r.1 >>= λ w. Yields (r.0, w) in
+    let rest : Left K → Try (Left K) = λ l. take_operand l.0 b >>= last l.1 in
+    quiet_then (Leaves ρ (operand_value ρ a)) (Leaves ρ v) (take_operand ls a) rest (operand-shows ls ρ a h)
+    (λ l first. quiet_then (Leaves ρ (operand_value ρ b)) (Leaves ρ v) (take_operand l.0 b) (last l.1) (operand-shows l.0 ρ b first.0)
+    (λ r second. quiet_then (λ t. Shows t v) (Leaves ρ v) (binary kind span op l.1 r.1) (λ w. Yields (r.0, w))
+    (binary-shows kind span op l.1 r.1 (operand_value ρ a) (operand_value ρ b) first.1 second.1 in_range)
+    (λ w shows. (second.0, shows))))
+
+pub assign-shows : {K : Type 0} (b : Body) (θ : Tys) (ls : List (Tree K)) (ρ : Store) (span : Span) (p : Place) (r : Rvalue) → Agrees ls ρ → RvalueIsInRange (kind_in (place_ty b θ p)) ρ r → Quiet (λ ls'. Agrees ls' (stored p.local (rvalue_value ρ r) ρ)) (assign_local b θ ls span (Assign p r))
+assign-shows {K} b θ ls ρ span p r h in_range =
+    let v = rvalue_value ρ r in
+    let kind = kind_in (place_ty b θ p) in
+    let after : List (Tree K) → Type 0 = λ ls'. Agrees ls' (stored p.local v ρ) in
+    quiet_then (Leaves ρ v) after (evaluate ls kind span r) (λ l. put_local l.0 p.local l.1) (rvalue-shows ls ρ kind span r h in_range)
+    (λ l leaves. quiet_need after (slice_get l.0 p.local) (λ u. Yields (slice_set l.0 p.local l.1)) (λ u e. agrees_set l.0 ρ p.local l.1 v leaves.0 leaves.1))
