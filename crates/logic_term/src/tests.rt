@@ -49,24 +49,41 @@ fn ranges(rt: HostRuntime) {
     }
 }
 
+/// Whether the trees of both types are the same.
+fn same_trees(alloc: Global, a: TyNode, b: TyNode) -> Result<bool, NoMemory> {
+    Ok(tree_of(alloc, a)?.same(&tree_of(alloc, b)?))
+}
+
+fn tree_is_copied(alloc: Global) -> Result<bool, NoMemory> {
+    let tree = tree_of(alloc, TyNode::Bool)?;
+    Ok(tree.copy(alloc)?.same(&tree))
+}
+
 #[test]
 fn types(rt: HostRuntime) -> Result<(), Fail> {
     let alloc = rt.alloc();
-    let tree = tree_of(alloc, TyNode::Bool)?;
-    assert!(rt; tree.copy(alloc)?.same(&tree));
-    assert!(rt; tree.same(&tree_of(alloc, TyNode::Bool)?));
-    assert!(rt; !tree.same(&tree_of(alloc, TyNode::MathInt)?));
-    assert!(rt; !tree.same(&tree_of(alloc, TyNode::Param(0))?));
+    assert!(rt; tree_is_copied(alloc)?);
+    assert!(rt; same_trees(alloc, TyNode::Bool, TyNode::Bool)?);
+    assert!(rt; !same_trees(alloc, TyNode::Bool, TyNode::MathInt)?);
     Ok(())
+}
+
+#[test]
+fn sorts_of_literals(rt: HostRuntime) {
+    let one = Term::lit(1, Ty::int(IntKind::I32));
+    assert!(rt; one.same(&Term::lit(1, Ty::int(IntKind::I32))));
+    assert!(rt; !one.same(&Term::integer(1)));
+}
+
+fn is_copied(alloc: Global, t: &Term) -> Result<bool, NoMemory> {
+    Ok(t.copy(alloc)?.same(t))
 }
 
 #[test]
 fn names_in_terms(rt: HostRuntime) -> Result<(), Fail> {
     let alloc = rt.alloc();
     let t = all_equal(alloc, X, Y)?;
-    assert!(rt; t.copy(alloc)?.same(&t));
-    assert!(rt; !t.same(&all_equal(alloc, Y, Y)?));
-    assert!(rt; !Term::lit(1, Ty::int(IntKind::I32)).same(&Term::integer(1)));
+    assert!(rt; is_copied(alloc, &t)?);
     assert_eq!(rt; t.above()?, 8);
     for (name, free) in [(X, true), (Y, false), (Name(8), false)] {
         assert_eq!(rt; t.free_in(name), free, "{name:?}");
@@ -74,40 +91,57 @@ fn names_in_terms(rt: HostRuntime) -> Result<(), Fail> {
     Ok(())
 }
 
+/// Whether `by` for the name makes `wanted` of the term.
+fn becomes(
+    alloc: Global,
+    t: &Term,
+    name: Name,
+    by: &Term,
+    wanted: &Term,
+) -> Result<bool, NoMemory> {
+    Ok(t.replaced(alloc, name, by)?.same(wanted))
+}
+
 #[test]
 fn no_name_is_captured(rt: HostRuntime) -> Result<(), Fail> {
     let alloc = rt.alloc();
     let t = all_equal(alloc, X, Y)?;
-    let replaced = t.replaced(alloc, X, &Term::var(Y))?;
-    assert!(rt; replaced.same(&all_equal(alloc, Y, Name(8))?));
-    assert!(rt; replaced.free_in(Y));
-    assert!(rt;
-        t.replaced(alloc, Y, &Term::truth(true))?
-            .same(&all_equal(alloc, X, Name(8))?)
-    );
+    let wanted = all_equal(alloc, Y, Name(8))?;
+    assert!(rt; becomes(alloc, &t, X, &Term::var(Y), &wanted)?);
     Ok(())
+}
+
+/// Whether `forall x. x@ <= 1` and `forall y. y@ <= most` are the same up to the names that they bind.
+fn same_bounds(alloc: Global, most: i128) -> Result<bool, NoMemory> {
+    let other = all_at_most(alloc, Y, most)?;
+    all_at_most(alloc, X, 1)?.same_up_to_names(alloc, &other)
 }
 
 #[test]
 fn bound_names(rt: HostRuntime) -> Result<(), Fail> {
     let alloc = rt.alloc();
-    let t = all_at_most(alloc, X, 1)?;
-    assert!(rt; t.same_up_to_names(alloc, &all_at_most(alloc, Y, 1)?)?);
-    assert!(rt; !t.same_up_to_names(alloc, &all_at_most(alloc, Y, 2)?)?);
-    assert!(rt; !all_equal(alloc, X, Y)?.same_up_to_names(alloc, &all_equal(alloc, Y, X)?)?);
+    assert!(rt; same_bounds(alloc, 1)?);
+    assert!(rt; !same_bounds(alloc, 2)?);
     Ok(())
 }
 
-/// `1i32@ + x@` is `1 + x@`.
+/// `left + x@`
+fn sum_of(alloc: Global, left: Term) -> Result<Term, NoMemory> {
+    let right = Term::model(alloc, Term::var(X))?;
+    Term::calculate(alloc, ArithOp::Add, left, right)
+}
+
+fn reduces(alloc: Global, t: &Term, wanted: &Term) -> Result<bool, NoMemory> {
+    Ok(reduce(alloc, t)?.same(wanted))
+}
+
+/// `1i32@ + x@` becomes `1 + x@`.
 #[test]
 fn normal_form(rt: HostRuntime) -> Result<(), Fail> {
     let alloc = rt.alloc();
     let one = Term::model(alloc, Term::lit(1, Ty::int(IntKind::I32)))?;
-    let x = Term::model(alloc, Term::var(X))?;
-    let t = Term::calculate(alloc, ArithOp::Add, one, x)?;
-    let x = Term::model(alloc, Term::var(X))?;
-    let wanted = Term::calculate(alloc, ArithOp::Add, Term::integer(1), x)?;
-    assert!(rt; reduce(alloc, &t)?.same(&wanted));
-    assert!(rt; reduce(alloc, &wanted)?.same(&wanted));
+    let sum = sum_of(alloc, one)?;
+    let wanted = sum_of(alloc, Term::integer(1))?;
+    assert!(rt; reduces(alloc, &sum, &wanted)?);
     Ok(())
 }
