@@ -15,3 +15,7 @@ pub mod FunctionLaws
 pub mod MirBuildLemmas
 pub mod WpGenLemmas
 pub mod ReportLaws
+pub mod Bounds
+pub mod RunLaws
+pub mod Verified
+pub mod CallLaws

@@ -6,3 +6,7 @@ pub mod SourceForm
 pub mod SourceFormReading
 pub mod SourceTokens
 pub mod WpGenGoals
+pub mod Call
+pub mod Verdict
+pub mod VerdictWords
+pub mod Words

@@ -1,10 +1,13 @@
 //! The program: `verify SOURCE --proofs FILE` prints which functions of a source are verified.
 #![tactic(auto)]
 
-mod report_out;
 mod mir_build;
+mod report_out;
 mod rs_syntax;
 mod rs_tokens;
+mod verify;
+mod verify_core;
+mod words;
 mod wp_gen;
 
 fn main() {}

@@ -1,0 +1,111 @@
+-- What a call answers, and that what it lists is good.
+use Rattle.std.proofs.Common.{◌≡◌, ◌≢◌, ◌∙◌, ◌⊎◌, inl, inr, refl, sym, ap, subst, ℕ, ◌+◌, ◌<◌, ◌==◌, List, [], ◌∷◌, ◌++◌, length, Option, None, Some, Err, arith}
+use Rattle.std.specs.Io.KnownBytes.{Appends}
+use Rattle.text_core.specs.declared.span.Span.{Span}
+use Rattle.io_edge.specs.Shelf.{Files}
+use Rattle.mir_machine.specs.Good.{Good}
+use Rattle.creusot_cli.specs.declared.report_out.LeftItem.{LeftItem}
+use Rattle.creusot_cli.specs.declared.report_out.FnLine.{FnLine}
+use Rattle.creusot_cli.specs.declared.report_out.Verdict.{Verdict}
+use Rattle.creusot_cli.specs.declared.rs_syntax.form.Function.{Function}
+use Rattle.creusot_cli.specs.declared.rs_tokens.token.Token.{Token}
+use Rattle.creusot_cli.specs.declared.verify.files.ReadFile.{ReadFile}
+use Rattle.creusot_cli.specs.declared.verify.files.ReadFile.TheVariants.{TooLong}
+use Rattle.creusot_cli.specs.Call.{HeldAs, HasFunction, IsRefused, Answers, AnswersWords, status_of, Lists, Reports, ReportsWords, IsRead}
+use Rattle.creusot_cli.specs.MirBuild.{body_of, contract_of}
+use Rattle.creusot_cli.specs.Report.{report_of, verified_line, function_line, open_line, summary_line, source_error_line, source_limit_line, proof_limit_line}
+use Rattle.creusot_cli.specs.SourceForm.{Spells}
+use Rattle.creusot_cli.specs.SourceFormReading.{function_at, place_left}
+use Rattle.creusot_cli.specs.SourceTokens.{AreTokens}
+use Rattle.creusot_cli.specs.Verdict.{no_types, IsVerdict, obligations_for}
+use Rattle.creusot_cli.specs.Words.{Asked}
+use Rattle.creusot_cli.proofs.Verified.{verified_is_good}
+use Rattle.std.specs.Prelude.{flat_map}
+
+-- ---- files that are too long, and sources that are refused
+
+pub long_source : (shelf : Option Files) (a : Asked) (r : ReadFile) (n : ℕ) (bytes : List ℕ) → IsRead shelf a.source 1048576 r → r ≡ TooLong n → bytes ≡ source_limit_line n → Answers shelf a 7 bytes
+long_source shelf a r n bytes read e b =
+    let at : IsRead shelf a.source 1048576 (TooLong n) = subst (λ (x : ReadFile). IsRead shelf a.source 1048576 x) e read in
+    subst (λ (bs : List ℕ). Answers shelf a 7 bs) (sym b) (Answers.source_long at.0 at.1)
+
+pub long_proofs : (shelf : Option Files) (name : List ℕ) (r : ReadFile) (n : ℕ) (bytes : List ℕ) → IsRead shelf name 67108864 r → r ≡ TooLong n → bytes ≡ proof_limit_line n →
+    (source : List ℕ) (f : Function) (source_name : List ℕ) → HasFunction shelf (record { source = source_name; proofs = Some name }) source f →
+    Answers shelf (record { source = source_name; proofs = Some name }) 7 bytes
+long_proofs shelf name r n bytes read e b source f source_name has =
+    let at : IsRead shelf name 67108864 (TooLong n) = subst (λ (x : ReadFile). IsRead shelf name 67108864 x) e read in
+    subst (λ (bs : List ℕ). Answers shelf (record { source = source_name; proofs = Some name }) 7 bs) (sym b) (Answers.proofs_long source name f has refl at.0 at.1)
+
+pub refused_source : (shelf : Option Files) (a : Asked) (source : List ℕ) (span : Span) (bytes : List ℕ) → HeldAs shelf a.source source → ((f : Function) → Spells source f → ⊥) →
+    ((tokens : List Token) → AreTokens 0 source tokens → (left : ℕ) × (function_at source tokens ≡ Err left) × (span ≡ place_left source tokens left)) →
+    bytes ≡ source_error_line source span → Answers shelf a 3 bytes
+refused_source shelf a source span bytes held none place b =
+    subst (λ (bs : List ℕ). Answers shelf a 3 bs) (sym b) (Answers.source_refused held (record { none = none; place = place }))
+
+-- ---- what is listed is good
+
+differs : (r s : ℕ) → (r ≡ 0) ⊎ (r ≡ 1) → 1 < s → r ≡ s → ⊥
+differs r s (inl z) l e = omega arith
+differs r s (inr o) l e = omega arith
+
+none_left : (left : List LeftItem) (s : ℕ) → s ≡ (if length left == 0 then 0 else 1) → s ≡ 0 → left ≡ []
+none_left [] s e z = refl
+none_left (x ∷ xs) s e z = absurd (omega arith)
+
+first : List ℕ → ℕ
+first [] = 0
+first (x ∷ xs) = x
+
+others : List ℕ → List ℕ
+others [] = []
+others (x ∷ xs) = xs
+
+same_rest : (xs ys zs : List ℕ) → xs ++ ys ≡ xs ++ zs → ys ≡ zs
+same_rest [] ys zs e = e
+same_rest (x ∷ xs) ys zs e = same_rest xs ys zs (ap others e)
+
+small_differs : 111 ≡ 118 → ⊥
+small_differs e = omega arith
+
+listed : (source name rest tail : List ℕ) (left : List LeftItem) →
+    flat_map function_line (record { name = name; verified = length left == 0 } ∷ []) ++ flat_map (open_line source) left ++ tail ≡ verified_line name ++ rest → left ≡ []
+listed source name rest tail [] e = refl
+listed source name rest tail (x ∷ xs) e = absurd (small_differs (ap first e))
+
+listed_left : (source name rest : List ℕ) (v : Verdict) → v.functions ≡ record { name = name; verified = length v.left == 0 } ∷ [] → report_of source v ≡ verified_line name ++ rest → v.left ≡ []
+listed_left source name rest v lines e =
+    listed source name rest (summary_line v) v.left
+    (ap (λ (fs : List FnLine). flat_map function_line fs ++ flat_map (open_line source) v.left ++ summary_line v) (sym lines) ∙ e)
+
+listing : (before after : Option (List ℕ)) (bytes name : List ℕ) → Appends before after bytes → Lists before after name → (rest : List ℕ) × (bytes ≡ verified_line name ++ rest)
+listing None after bytes name a l = absurd l
+listing (Some xs) None bytes name a l = absurd l
+listing (Some xs) (Some ys) bytes name a l = (l.0, same_rest xs bytes (verified_line name ++ l.0) (sym a ∙ l.1))
+
+report : (shelf : Option Files) (a : Asked) (result : ℕ) (before after : Option (List ℕ)) {status : ℕ} {bytes : List ℕ} →
+    Answers shelf a status bytes → result ≡ status → Appends before after bytes → (result ≡ 0) ⊎ (result ≡ 1) → Reports shelf a result before after
+report shelf a result before after (Answers.source_long long far) e added small = absurd (differs result 7 small (omega arith) e)
+report shelf a result before after (Answers.source_refused held refused) e added small = absurd (differs result 3 small (omega arith) e)
+report shelf a result before after (Answers.proofs_long source name f has named long far) e added small = absurd (differs result 7 small (omega arith) e)
+report shelf a result before after (Answers.proofs_refused source name bytes f has named held bad) e added small = absurd (differs result 4 small (omega arith) e)
+report shelf a result before after (Answers.reported {source = source} {v = v} f proofs has given verdict) e added small = record {
+    source = source;
+    f = f;
+    has = has;
+    good = λ shown. verified_is_good source f proofs v.left v.proved has.spelled (none shown) verdict.judged;
+  }
+  where
+    none : (result ≡ 0) ⊎ Lists before after f.name → v.left ≡ []
+    none (inl zero_is) = none_left v.left result e zero_is
+    none (inr lists) =
+        let told = listing before after (report_of source v) f.name added lists in
+        listed_left source f.name told.0 v verdict.lines told.1
+
+pub reports : (shelf : Option Files) (a : Option Asked) (status result : ℕ) (bytes : List ℕ) (before after : Option (List ℕ)) → AnswersWords shelf a status bytes →
+    (result ≢ 6 → result ≢ 8 → (result ≡ status) × Appends before after bytes) → (result ≡ 0) ⊎ (result ≡ 1) → ReportsWords shelf a result before after
+reports shelf None status result bytes before after answers printed small =
+    let told = printed (differs result 6 small (omega arith)) (differs result 8 small (omega arith)) in
+    absurd (differs result 2 small (omega arith) (told.0 ∙ answers.0))
+reports shelf (Some a) status result bytes before after answers printed small =
+    let told = printed (differs result 6 small (omega arith)) (differs result 8 small (omega arith)) in
+    report shelf a result before after answers told.0 told.1 small

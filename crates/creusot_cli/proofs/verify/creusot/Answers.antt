@@ -1,0 +1,9 @@
+use Rattle.std.proofs.Common.{map, string_bytes}
+use Rattle.creusot_cli.specs.Words.{asked_of}
+use Rattle.creusot_cli.proofs.CallLaws.{reports}
+use Rattle.creusot_cli.proofs.verify.creusot.Goals as goal
+
+pub returns-in-Ok-clause-verified : goal.returns-in-Ok-clause-verified
+returns-in-Ok-clause-verified g c =
+    reports (g.S.Shelf.holds c.args.shelf.now) (asked_of (map string_bytes c.args.words.now)) c.in-Ok.plan.status c.print.result c.in-Ok.plan.bytes.items
+    (g.K.Sink.written c.args.out.now) (g.K.Sink.written c.print.new.out) c.in-Ok.ensures.ok c.print.ensures.printed

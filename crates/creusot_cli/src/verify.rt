@@ -1,0 +1,80 @@
+//! The call of the program.
+ghost use Rattle.std.specs.Prelude.{◌≡◌, ◌≢◌, ◌⊎◌, ◌≤◌, ℕ, List, [], map, string_bytes, Err, Ok, IfOk, Some};
+ghost use Rattle.std.specs.Io.KnownBytes.{Appends};
+ghost use Rattle.text_core.specs.Counts.{Rose};
+ghost use Rattle.io_edge.specs.Faults.{NoneFalls};
+ghost use Rattle.io_edge.specs.Sink.{AppendsPrefix};
+ghost use Rattle.creusot_cli.specs.Call.{AnswersWords, ReportsWords, NamedRose};
+ghost use Rattle.creusot_cli.specs.Words.{asked_of};
+
+mod files;
+mod plan;
+
+use crate::report_out::words_error;
+use crate::verify::files::Stop;
+use crate::verify::plan::{Plan, plan_of};
+use crate::words::request_of;
+use io_edge::{Shelf, Sink, SinkError, write_all};
+use std::alloc::Global;
+
+/// The status for the words, and what is printed with it.
+fn plan_of_words<S: Shelf>(alloc: Global, words: &[String], shelf: &mut S) -> Result<Plan, Stop>
+    ensures ok { IfOk result (λ p. AnswersWords (S.holds shelf.old) (asked_of (map string_bytes words.now)) p.status p.bytes.items) }
+    ensures holds { S.holds shelf.new ≡ S.holds shelf.old }
+    ensures failed { result ≡ Err Stop.ShelfFailed → NamedRose (asked_of (map string_bytes words.now)) (S.read_faults shelf.old) (S.read_faults shelf.new) }
+    ensures none_falls { NoneFalls (S.read_faults shelf.old) (S.read_faults shelf.new) }
+    ensures no_write { S.write_faults shelf.new ≡ S.write_faults shelf.old }
+{
+    match request_of(words) {
+        None => {
+            let bytes = words_error(alloc)?;
+            Ok(Plan { status: 2, bytes })
+        }
+        Some(request) => plan_of(alloc, request, shelf),
+    }
+}
+
+/// Prints, and answers the status: the plan's, 6 where the output failed, or 8 where memory was refused.
+fn print<K: Sink>(plan: &Plan, out: &mut K) -> u8
+    ensures printed { result ≢ 6 → result ≢ 8 → (result ≡ plan.now.status) × Appends (K.written out.old) (K.written out.new) plan.now.bytes.items }
+    ensures part { AppendsPrefix (K.written out.old) (K.written out.new) plan.now.bytes.items }
+    ensures failed { plan.now.status ≢ 6 → result ≡ 6 → Rose (K.faults out.old) (K.faults out.new) }
+    ensures never_falls { K.faults out.old ≤ K.faults out.new }
+{
+    match write_all(out, plan.bytes.as_slice()) {
+        Ok(()) => plan.status,
+        Err(SinkError::Failed) => 6,
+        Err(SinkError::NoMemory) => 8,
+    }
+}
+
+/// Runs the program: answers its status, and prints on `out`.
+///
+/// The words are `verify SOURCE` and `verify SOURCE --proofs FILE`. 0: all obligations of the function of the source are
+/// proved. 1: some is not. 2: the words are no words of the program. 3: the source spells no function of the form. 4: the
+/// proof file has a bad line. 5: a file could not be read; nothing is printed. 6: the output failed. 7: a file is longer
+/// than its limit. 8: memory was refused. With 6 and 8 a prefix of what was to be printed is.
+pub fn creusot<S: Shelf, K: Sink>(
+    alloc: Global,
+    words: &[String],
+    shelf: &mut S,
+    out: &mut K,
+) -> u8
+    // The function of the source is good where all is proved, and where a line says that it is verified.
+    ensures verified { (result ≡ 0) ⊎ (result ≡ 1) → ReportsWords (S.holds shelf.old) (asked_of (map string_bytes words.now)) result (K.written out.old) (K.written out.new) }
+    ensures answers { result ≢ 5 → result ≢ 6 → result ≢ 8
+        → (bytes : List ℕ) × AnswersWords (S.holds shelf.old) (asked_of (map string_bytes words.now)) result bytes × Appends (K.written out.old) (K.written out.new) bytes }
+    ensures unread { result ≡ 5 → NamedRose (asked_of (map string_bytes words.now)) (S.read_faults shelf.old) (S.read_faults shelf.new) × (out.new ≡ out.old) }
+    ensures unwritten { result ≡ 6 → Rose (K.faults out.old) (K.faults out.new) }
+    ensures holds { S.holds shelf.new ≡ S.holds shelf.old }
+    ensures no_write { S.write_faults shelf.new ≡ S.write_faults shelf.old }
+    ensures none_falls { NoneFalls (S.read_faults shelf.old) (S.read_faults shelf.new) }
+    ensures never_falls { K.faults out.old ≤ K.faults out.new }
+    ensures number { result ≤ 8 }
+{
+    match plan_of_words(alloc, words, shelf) {
+        Ok(plan) => print(&plan, out),
+        Err(Stop::ShelfFailed) => 5,
+        Err(Stop::NoMemory) => 8,
+    }
+}
