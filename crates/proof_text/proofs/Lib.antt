@@ -1,1 +1,5 @@
+pub mod KeptNames
+pub mod LineLemmas
 pub mod NumeralLemmas
+pub mod StageLemmas
+pub mod StepLemmas

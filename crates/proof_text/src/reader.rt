@@ -1,9 +1,9 @@
-ghost use Rattle.std.specs.Prelude.{◌≡◌, ℕ, ◌+◌, ◌^◌, ◌<◌, ◌≤◌, ◌==◌, ◌&&◌, List, length, map, sum_by, IfOk, IsErrOf};
+ghost use Rattle.std.specs.Prelude.{◌≡◌, ℕ, ◌+◌, ◌^◌, ◌<◌, ◌≤◌, ◌==◌, ◌&&◌, List, [], ◌∷◌, ◌++◌, length, map, sum_by, IfOk, IsErrOf};
 ghost use Rattle.std.specs.List.{slice_split};
 ghost use Rattle.std.specs.Str.{bytes_eq};
 ghost use Rattle.proof_text.specs.ProofTextFile.{State, start, Each, SaysStep, SaysProof, SaidProof, is_proved, state_after, next_state, state_after_all, SpellsProofs, IsFirstBadLine};
 ghost use Rattle.proof_text.specs.ProofTextLines.{Said, Line as SaidLine, Says, heading, step as said_step, «end»};
-ghost use Rattle.proof_text.specs.ProofTextReads.{Reads, ReadsLines, KeepsNames, SaysLine, SaysState};
+ghost use Rattle.proof_text.specs.ProofTextReads.{Reads, ReadsLines, KeepsNames, SaysLine, SaysState, is_start};
 
 use crate::fault::{Fault, ProofTextError};
 use crate::line::{Line, read_line};
@@ -73,26 +73,45 @@ fn opened<'a>(
     }
 }
 
+/// The proof with one more step.
+fn with_more<'a>(opened: OpenProof<'a>, line: u32, step: Step) -> Result<OpenProof<'a>, Fault>
+    ensures same { IfOk result (λ more. (more.number ≡ opened.entry.number) × (more.owner.now ≡ opened.entry.owner.now)) }
+    ensures steps { IfOk result (λ more. more.steps.items ≡ opened.entry.steps.items ++ record { line = line; step = step } ∷ []) }
+    ensures good { IsErrOf result Fault.Bad → ⊥ }
+{
+    let mut opened = opened;
+    opened.steps.push(NumberedStep { line, step })?;
+    Ok(opened)
+}
+
+/// The whole proof.
+fn ended(alloc: Global, opened: OpenProof<'_>, end: u32) -> Result<Proof, Fault>
+    ensures same { IfOk result (λ proof. (proof.number ≡ opened.entry.number) × (proof.owner ≡ opened.entry.owner.now) × (proof.steps ≡ opened.entry.steps.items) × (proof.«end» ≡ end)) }
+    ensures good { IsErrOf result Fault.Bad → ⊥ }
+{
+    let owner = Text::from_bytes(alloc, opened.owner.as_bytes())?;
+    let OpenProof {
+        number,
+        owner: _owner,
+        steps,
+    } = opened;
+    let steps = Items::from_vec(steps);
+    Ok(Proof {
+        number,
+        owner,
+        steps,
+        end,
+    })
+}
+
 /// Where the file stands after a step.
 fn with_step<'a>(stage: Stage<'a>, line: u32, step: Step) -> Result<Stage<'a>, Fault>
     ensures { (table : List (List ℕ)) (s : State) (said : Said) → SaysState table s stage.entry → Says table said step → Reads (SaysState table) result (state_after s line (said_step said)) }
 {
     match stage {
         Stage::Within(proofs, opened) => {
-            let OpenProof {
-                number,
-                owner,
-                mut steps,
-            } = opened;
-            steps.push(NumberedStep { line, step })?;
-            Ok(Stage::Within(
-                proofs,
-                OpenProof {
-                    number,
-                    owner,
-                    steps,
-                },
-            ))
+            let opened = with_more(opened, line, step)?;
+            Ok(Stage::Within(proofs, opened))
         }
         Stage::Start => Err(Fault::Bad),
         Stage::Between(_proofs) => Err(Fault::Bad),
@@ -104,20 +123,9 @@ fn closed<'a>(alloc: Global, stage: Stage<'a>, line: u32) -> Result<Stage<'a>, F
     ensures { (table : List (List ℕ)) (s : State) → SaysState table s stage.entry → Reads (SaysState table) result (state_after s line «end») }
 {
     match stage {
-        Stage::Within(mut proofs, opened) => {
-            let OpenProof {
-                number,
-                owner,
-                steps,
-            } = opened;
-            let owner = Text::from_bytes(alloc, owner.as_bytes())?;
-            let steps = Items::from_vec(steps);
-            proofs.push(Proof {
-                number,
-                owner,
-                steps,
-                end: line,
-            })?;
+        Stage::Within(proofs, opened) => {
+            let mut proofs = proofs;
+            proofs.push(ended(alloc, opened, line)?)?;
             Ok(Stage::Between(proofs))
         }
         Stage::Start => Err(Fault::Bad),
@@ -142,6 +150,16 @@ fn after<'a>(
     }
 }
 
+fn is_start(stage: &Stage<'_>) -> bool
+    ensures { result ≡ is_start stage.now }
+{
+    match stage {
+        Stage::Start => true,
+        Stage::Between(_) => false,
+        Stage::Within(_, _) => false,
+    }
+}
+
 /// Where the file stands after a line of this text.
 fn next<'a>(
     alloc: Global,
@@ -155,12 +173,11 @@ fn next<'a>(
     ensures kept { KeepsNames names.old names.new }
     ensures grown { length names.new ≤ length names.old + length text.now }
 {
-    if let Stage::Start = stage {
-        return if text == HEADER {
-            Ok(Stage::Between(Vec::new(alloc)))
-        } else {
-            Err(Fault::Bad)
-        };
+    if is_start(&stage) {
+        if text != HEADER {
+            return Err(Fault::Bad);
+        }
+        return Ok(Stage::Between(Vec::new(alloc)));
     }
     let line = read_line(alloc, text, names)?;
     after(alloc, stage, number, line)
@@ -172,7 +189,7 @@ fn after_lines<'a>(
     lines: &[&'a [u8]],
     names: &mut Names,
 ) -> Result<Stage<'a>, ProofTextError>
-    requires count { length lines.now < 2 ^ 32 }
+    requires count { length lines.now + 1 < 2 ^ 32 }
     requires room { length names.old + sum_by (λ line. length line.now) lines.now + 1 < 2 ^ 32 }
     ensures said { ReadsLines (SaysState names.new) result (state_after_all (map (λ line. line.now) lines.now) start 1) }
     ensures kept { KeepsNames names.old names.new }
@@ -180,7 +197,10 @@ fn after_lines<'a>(
     let mut stage = Stage::Start;
     for (at, text) in lines.iter().enumerate() {
         let number = at as u32 + 1;
-        stage = next(alloc, stage, number, *text, names).map_err(|fault| fault.at_line(number))?;
+        match next(alloc, stage, number, *text, names) {
+            Ok(next) => stage = next,
+            Err(fault) => return Err(fault.at_line(number)),
+        }
     }
     Ok(stage)
 }
