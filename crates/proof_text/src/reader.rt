@@ -1,9 +1,9 @@
-ghost use Rattle.std.specs.Prelude.{◌≡◌, ℕ, ◌+◌, ◌^◌, ◌<◌, ◌≤◌, ◌==◌, ◌&&◌, List, [], ◌∷◌, ◌++◌, length, map, sum_by, IfOk, IsErrOf};
+ghost use Rattle.std.specs.Prelude.{◌≡◌, ℕ, ◌+◌, ◌^◌, ◌<◌, ◌≤◌, ◌==◌, ◌&&◌, List, [], ◌∷◌, ◌++◌, length, map, IfOk, IsErrOf};
 ghost use Rattle.std.specs.List.{slice_split};
 ghost use Rattle.std.specs.Str.{bytes_eq};
 ghost use Rattle.proof_text.specs.ProofTextFile.{State, start, Each, SaysStep, SaysProof, SaidProof, is_proved, state_after, next_state, state_after_all, SpellsProofs, IsFirstBadLine};
 ghost use Rattle.proof_text.specs.ProofTextLines.{Said, Line as SaidLine, Says, heading, step as said_step, «end»};
-ghost use Rattle.proof_text.specs.ProofTextReads.{Reads, ReadsLines, KeepsNames, SaysLine, SaysState, is_start};
+ghost use Rattle.proof_text.specs.ProofTextReads.{Reads, ReadsLines, KeepsNames, SaysLine, SaysState, is_start, total_length};
 
 use crate::fault::{Fault, ProofTextError};
 use crate::line::{Line, read_line};
@@ -190,7 +190,7 @@ fn after_lines<'a>(
     names: &mut Names,
 ) -> Result<Stage<'a>, ProofTextError>
     requires count { length lines.now + 1 < 2 ^ 32 }
-    requires room { length names.old + sum_by (λ line. length line.now) lines.now + 1 < 2 ^ 32 }
+    requires room { length names.old + total_length (map (λ line. line.now) lines.now) + 1 < 2 ^ 32 }
     ensures said { ReadsLines (SaysState names.new) result (state_after_all (map (λ line. line.now) lines.now) start 1) }
     ensures kept { KeepsNames names.old names.new }
 {
