@@ -1,3 +1,4 @@
+pub mod EndLemmas
 pub mod KeptNames
 pub mod LineLemmas
 pub mod NumeralLemmas

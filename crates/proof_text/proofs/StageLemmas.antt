@@ -74,18 +74,13 @@ total_first lines i d h =
     ∙ ap (λ j. length (now (get_or lines i d)) + total_length (map now (drop j lines))) (sym (add-one i))
 
 
--- the stage is that of the state, where there is one
-abbrev pub GoesOn : List (List ℕ) → Stage → Option State → Type 0
-GoesOn table stage None = ⊥
-GoesOn table stage (Some s) = SaysState table s stage
-
 -- new is old with one more step
 abbrev pub WithStep : NumberedStep → Stage → Stage → Type 0
 WithStep step (stages.Within done opened) (stages.Within same more) =
     (same.items ≡ done.items) × (more.number ≡ opened.number) × (more.owner.now ≡ opened.owner.now) × (more.steps.items ≡ opened.steps.items ++ step ∷ [])
 WithStep step _ _ = ⊥
 
-pub step_goes_on : (table : List (List ℕ)) (s : State) (old new : Stage) (n : ℕ) (said : Said) (step : NumberedStep) → WithStep step old new → SaysState table s old → n ≡ step.line → Says table said step.step → GoesOn table new (state_after s n (said_step said))
+pub step_goes_on : (table : List (List ℕ)) (s : State) (old new : Stage) (n : ℕ) (said : Said) (step : NumberedStep) → WithStep step old new → SaysState table s old → n ≡ step.line → Says table said step.step → Reads {X = Stage} (SaysState table) (Ok new) (state_after s n (said_step said))
 step_goes_on table (within ps k o ss) (stages.Within done opened) (stages.Within same more) n said step w h e r =
     (subst (Each (SaysProof table) ps) (sym w.0) h.0, h.1 ∙ sym w.1, h.2 ∙ sym w.2, step_said table ss opened.steps.items more.steps.items n said step h.3 e r w.3)
 step_goes_on table start (stages.Within done opened) (stages.Within same more) n said step w h e r = absurd h
@@ -101,7 +96,7 @@ WithProof proof (stages.Within done opened) (stages.Between more) =
     (proof.number ≡ opened.number) × (proof.owner ≡ opened.owner.now) × (proof.steps ≡ opened.steps.items) × (more.items ≡ done.items ++ proof ∷ [])
 WithProof proof _ _ = ⊥
 
-pub proof_goes_on : (table : List (List ℕ)) (s : State) (old new : Stage) (n : ℕ) (proof : Proof) → WithProof proof old new → SaysState table s old → proof.«end» ≡ n → GoesOn table new (state_after s n «end»)
+pub proof_goes_on : (table : List (List ℕ)) (s : State) (old new : Stage) (n : ℕ) (proof : Proof) → WithProof proof old new → SaysState table s old → proof.«end» ≡ n → Reads {X = Stage} (SaysState table) (Ok new) (state_after s n «end»)
 proof_goes_on table (within ps k o ss) (stages.Within done opened) (stages.Between more) n proof w h e =
     end_said table ps done.items more.items (record { number = k; owner = o; steps = ss; «end» = n }) proof h.0
         (h.1 ∙ sym w.0, h.2 ∙ sym w.1, sym e, subst (Each (SaysStep table) ss) (sym w.2) h.3) w.3
@@ -159,3 +154,10 @@ breaks_off table lines i d s all NoMemory p h reads r bad memory = rw (memory re
 
 pub all_read : (table : List (List ℕ)) (s : State) (stage : Stage) (all : Result State ℕ) → SaysState table s stage → Ok s ≡ all → ReadsLines {X = Stage} (SaysState table) (Ok stage) all
 all_read table s stage all h e = subst (ReadsLines {X = Stage} (SaysState table) (Ok stage)) e h
+
+-- the names that a line leaves room for
+pub room_after : (lines : List (Bor (List ℕ))) (i : ℕ) (d : Bor (List ℕ)) (new old bound : ℕ) → i < length lines → new ≤ old + length (now (get_or lines i d)) → old + total_length (map now (drop i lines)) ≤ bound → new + total_length (map now (drop (i + 1) lines)) ≤ bound
+room_after lines i d new old bound h grown room = omega (arith, total_first lines i d h)
+
+pub room_at : (lines : List (Bor (List ℕ))) (i : ℕ) (d : Bor (List ℕ)) (old bound : ℕ) → i < length lines → old + total_length (map now (drop i lines)) ≤ bound → old + length (now (get_or lines i d)) ≤ bound
+room_at lines i d old bound h room = omega (arith, total_first lines i d h)

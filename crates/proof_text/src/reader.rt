@@ -1,7 +1,7 @@
 ghost use Rattle.std.specs.Prelude.{◌≡◌, ℕ, ◌+◌, ◌^◌, ◌<◌, ◌≤◌, ◌==◌, ◌&&◌, List, [], ◌∷◌, ◌++◌, length, map, IfOk, IsErrOf};
 ghost use Rattle.std.specs.List.{slice_split};
 ghost use Rattle.std.specs.Str.{bytes_eq};
-ghost use Rattle.proof_text.specs.ProofTextFile.{State, start, Each, SaysStep, SaysProof, SaidProof, is_proved, state_after, next_state, state_after_all, SpellsProofs, IsFirstBadLine};
+ghost use Rattle.proof_text.specs.ProofTextFile.{State, start, Each, SaysStep, SaysProof, SaidProof, is_proved, state_after, next_state, state_after_all, proofs_at_end, proofs_of_pieces, SpellsProofs, IsFirstBadLine};
 ghost use Rattle.proof_text.specs.ProofTextLines.{Said, Line as SaidLine, Says, heading, step as said_step, «end»};
 ghost use Rattle.proof_text.specs.ProofTextReads.{Reads, ReadsLines, KeepsNames, SaysLine, SaysState, is_start, total_length};
 
@@ -10,7 +10,7 @@ use crate::line::{Line, read_line};
 use crate::proof::{NumberedStep, Proof, ProofFile};
 use proof_kernel::Step;
 use std::alloc::Global;
-use text_core::{Items, Names, Text};
+use text_core::{Items, Names, NoMemory, Text};
 
 /// The first line.
 const HEADER: &[u8] = b"creusot-proofs 1";
@@ -205,11 +205,46 @@ fn after_lines<'a>(
     Ok(stage)
 }
 
-fn pieces(alloc: Global, bytes: &[u8]) -> Result<Vec<&[u8]>, ProofTextError>
-    ensures ok { IfOk result (λ pieces. map (λ piece. piece.now) pieces.items ≡ slice_split (λ b. b == 10) bytes.now) }
-    ensures bad { (n : ℕ) → IsErrOf result (ProofTextError.BadLine n) → ⊥ }
+fn pieces(alloc: Global, bytes: &[u8]) -> Result<Vec<&[u8]>, NoMemory>
+    ensures { IfOk result (λ pieces. map (λ piece. piece.now) pieces.items ≡ slice_split (λ b. b == 10) bytes.now) }
 {
     Ok(bytes.split(|b| *b == b'\n').collect(alloc)?)
+}
+
+/// The file, where it may end so: nothing stands after the last line feed, and no proof is open.
+fn at_end(stage: Stage<'_>, rest: &[u8], end: u32) -> Result<ProofFile, ProofTextError>
+    ensures { (table : List (List ℕ)) (s : State) → SaysState table s stage.entry → ReadsLines (λ said file. Each (SaysProof table) said file.proofs) result (proofs_at_end end rest.now s) }
+{
+    match stage {
+        Stage::Between(proofs) => {
+            if !rest.is_empty() {
+                return Err(ProofTextError::BadLine(end));
+            }
+            let proofs = Items::from_vec(proofs);
+            Ok(ProofFile { proofs })
+        }
+        Stage::Start => Err(ProofTextError::BadLine(end)),
+        Stage::Within(_proofs, _opened) => Err(ProofTextError::BadLine(end)),
+    }
+}
+
+/// What the pieces between line feeds spell.
+fn read_pieces(
+    alloc: Global,
+    pieces: &[&[u8]],
+    names: &mut Names,
+) -> Result<ProofFile, ProofTextError>
+    requires count { length pieces.now < 2 ^ 31 }
+    requires room { length names.old + total_length (map (λ piece. piece.now) pieces.now) + 1 < 2 ^ 32 }
+    ensures read { ReadsLines (λ said file. Each (SaysProof names.new) said file.proofs) result (proofs_of_pieces (map (λ piece. piece.now) pieces.now)) }
+    ensures kept { KeepsNames names.old names.new }
+{
+    let Some((rest, lines)) = pieces.split_last() else {
+        return Err(ProofTextError::BadLine(1));
+    };
+    let stage = after_lines(alloc, lines, names)?;
+    let end = lines.len() as u32 + 1;
+    at_end(stage, *rest, end)
 }
 
 /// What the bytes spell: a file of proofs, version 1. `BadLine` is the first bad line. The names of the proofs are
@@ -226,19 +261,5 @@ pub fn read_proofs(
     ensures kept { KeepsNames names.old names.new }
 {
     let pieces = pieces(alloc, bytes)?;
-    let Some((rest, lines)) = pieces.split_last() else {
-        return Err(ProofTextError::BadLine(1));
-    };
-    let end = lines.len() as u32 + 1;
-    match after_lines(alloc, lines, names)? {
-        Stage::Between(proofs) => {
-            if !rest.is_empty() {
-                return Err(ProofTextError::BadLine(end));
-            }
-            let proofs = Items::from_vec(proofs);
-            Ok(ProofFile { proofs })
-        }
-        Stage::Start => Err(ProofTextError::BadLine(end)),
-        Stage::Within(_proofs, _opened) => Err(ProofTextError::BadLine(end)),
-    }
+    read_pieces(alloc, &pieces, names)
 }
