@@ -1,6 +1,7 @@
 -- How a file ends.
 use Rattle.std.proofs.Common.{◌≡◌, ℕ, ◌+◌, ◌-◌, ◌≤◌, ◌<◌, List, [], ◌∷◌, ◌++◌, length, map, take, drop, get_or, Bool, true, false, Result, Ok, Err, refl, sym, ◌∙◌, ap, arith, Bor, subst, length-append}
 use Rattle.std.specs.List.{slice_split}
+use Rattle.std.specs.Prelude.{IfOk}
 use Rattle.std.proofs.lemmas.List.{map-append, length-map}
 use Rattle.std.proofs.lemmas.List.Splits.{length-slice_split}
 use Rattle.std.proofs.lemmas.List.Sums.{count_by-le-length}
@@ -123,10 +124,19 @@ unfolding proofs_of
 spelled table bytes pieces file e h = by_result (proofs_of_pieces pieces) (ap proofs_of_pieces (sym e)) h
   where
     by_result : (r : Result (List SaidProof) ℕ) → proofs_of_pieces (slice_split (λ b. eqb b 10) bytes) ≡ r → ReadsLines {X = ProofFile} (SaysFile table) (Ok file) r → SpellsProofs table bytes file
-    unfolding proofs_of
     by_result (Ok said) is h = (said, is, h)
     by_result (Err n) is h = absurd h
 
 pub first_bad : (table : List (List ℕ)) (bytes : List ℕ) (pieces : List (List ℕ)) (n : ℕ) → pieces ≡ slice_split (λ b. eqb b 10) bytes → ReadsLines {X = ProofFile} (SaysFile table) (Err (errors.BadLine n)) (proofs_of_pieces pieces) → proofs_of bytes ≡ Err n
 unfolding proofs_of
 first_bad table bytes pieces n e h = ap proofs_of_pieces (sym e) ∙ h
+
+pub ok_from : (table : List (List ℕ)) (bytes : List ℕ) (pieces : List (List ℕ)) (r : Result ProofFile ProofTextError) → pieces ≡ slice_split (λ b. eqb b 10) bytes → ReadsLines (SaysFile table) r (proofs_of_pieces pieces) → IfOk r (λ file. SpellsProofs table bytes file)
+ok_from table bytes pieces (Ok file) e h = spelled table bytes pieces file e h
+ok_from table bytes pieces (Err p) e h = tt
+
+pub bad_from : (table : List (List ℕ)) (bytes : List ℕ) (pieces : List (List ℕ)) (r : Result ProofFile ProofTextError) (n : ℕ) → pieces ≡ slice_split (λ b. eqb b 10) bytes → ReadsLines (SaysFile table) r (proofs_of_pieces pieces) → r ≡ Err (errors.BadLine n) → proofs_of bytes ≡ Err n
+bad_from table bytes pieces r n e h is = first_bad table bytes pieces n e (subst (λ (q : Result ProofFile ProofTextError). ReadsLines (SaysFile table) q (proofs_of_pieces pieces)) is h)
+
+pub none_from : (table : List (List ℕ)) (bytes : List ℕ) (n : ℕ) (file : ProofFile) → proofs_of bytes ≡ Err n → SpellsProofs table bytes file → ⊥
+none_from table bytes n file bad spells = let said : proofs_of bytes ≡ Ok spells.0 = spells.1 in cc

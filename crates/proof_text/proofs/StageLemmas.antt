@@ -73,7 +73,6 @@ total_first lines i d h =
     ap (λ ls. total_length (map now ls)) (drop-cons lines i d h)
     ∙ ap (λ j. length (now (get_or lines i d)) + total_length (map now (drop j lines))) (sym (add-one i))
 
-
 -- new is old with one more step
 abbrev pub WithStep : NumberedStep → Stage → Stage → Type 0
 WithStep step (stages.Within done opened) (stages.Within same more) =
@@ -99,7 +98,7 @@ WithProof proof _ _ = ⊥
 pub proof_goes_on : (table : List (List ℕ)) (s : State) (old new : Stage) (n : ℕ) (proof : Proof) → WithProof proof old new → SaysState table s old → proof.«end» ≡ n → Reads {X = Stage} (SaysState table) (Ok new) (state_after s n «end»)
 proof_goes_on table (within ps k o ss) (stages.Within done opened) (stages.Between more) n proof w h e =
     end_said table ps done.items more.items (record { number = k; owner = o; steps = ss; «end» = n }) proof h.0
-        (h.1 ∙ sym w.0, h.2 ∙ sym w.1, sym e, subst (Each (SaysStep table) ss) (sym w.2) h.3) w.3
+    (h.1 ∙ sym w.0, h.2 ∙ sym w.1, sym e, subst (Each (SaysStep table) ss) (sym w.2) h.3) w.3
 proof_goes_on table start (stages.Within done opened) (stages.Between more) n proof w h e = absurd h
 proof_goes_on table (between ps) (stages.Within done opened) (stages.Between more) n proof w h e = absurd h
 proof_goes_on table s stages.Start new n proof w h e = absurd w

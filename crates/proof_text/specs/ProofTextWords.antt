@@ -39,7 +39,7 @@ or_else f g None y = g y
 unfoldable pub multiplier_of : List ℕ → Option ℤ
 multiplier_of word =
     or_else (λ digits. option_map (λ n. neg_ℤ (pos n)) (numeral_below (2 ^ 127 + 1) digits))
-        (λ digits. option_map pos (numeral_below (2 ^ 127) digits)) (after_minus word) word
+    (λ digits. option_map pos (numeral_below (2 ^ 127) digits)) (after_minus word) word
 
 -- what stands before and after the first such byte
 abbrev pub cut : ℕ → List ℕ → Option (List ℕ × List ℕ)

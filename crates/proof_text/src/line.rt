@@ -62,11 +62,7 @@ fn line_by_head<'a>(
     Ok(Line::Step(step(alloc, head, words, names)?))
 }
 
-fn line_of_words<'a>(
-    alloc: Global,
-    words: &[&'a str],
-    names: &mut Names,
-) -> Result<Line<'a>, Fault>
+fn line_of_words<'a>(alloc: Global, words: &[&'a str], names: &mut Names) -> Result<Line<'a>, Fault>
     requires { length names.old + length words.now < 2 ^ 32 }
     ensures said { Reads (SaysLine names.new) result (line_of_words (map (λ word. word.now) words.now)) }
     ensures kept { KeepsNames names.old names.new }
@@ -85,11 +81,7 @@ fn words_of(alloc: Global, text: &str) -> Result<Vec<&str>, NoMemory>
     Ok(text.split(' ').collect(alloc)?)
 }
 
-fn line_of_text<'a>(
-    alloc: Global,
-    text: &'a str,
-    names: &mut Names,
-) -> Result<Line<'a>, Fault>
+fn line_of_text<'a>(alloc: Global, text: &'a str, names: &mut Names) -> Result<Line<'a>, Fault>
     requires { length names.old + length text.now + 1 < 2 ^ 32 }
     ensures said { Reads (SaysLine names.new) result (line_of_text text.now) }
     ensures kept { KeepsNames names.old names.new }

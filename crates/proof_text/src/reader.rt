@@ -2,6 +2,7 @@ ghost use Rattle.std.specs.Prelude.{◌≡◌, ℕ, ◌+◌, ◌^◌, ◌<◌, �
 ghost use Rattle.std.specs.List.{slice_split};
 ghost use Rattle.std.specs.Str.{bytes_eq};
 ghost use Rattle.proof_text.specs.ProofTextFile.{State, start, Each, SaysStep, SaysProof, SaidProof, is_proved, state_after, next_state, state_after_all, proofs_at_end, proofs_of_pieces, SpellsProofs, IsFirstBadLine};
+ghost use Rattle.proof_text.specs.declared.proof.ProofFile.{ProofFile as File};
 ghost use Rattle.proof_text.specs.ProofTextLines.{Said, Line as SaidLine, Says, heading, step as said_step, «end»};
 ghost use Rattle.proof_text.specs.ProofTextReads.{Reads, ReadsLines, KeepsNames, SaysLine, SaysState, is_start, total_length};
 
@@ -258,6 +259,7 @@ pub fn read_proofs(
     requires room { length names.old + 2 ^ 26 + 1 < 2 ^ 32 }
     ensures ok { IfOk result (λ file. SpellsProofs names.new bytes.now file) }
     ensures bad { (n : ℕ) → IsErrOf result (ProofTextError.BadLine n) → IsFirstBadLine bytes.now n }
+    ensures none { (n : ℕ) → IsErrOf result (ProofTextError.BadLine n) → (table : List (List ℕ)) (file : File) → SpellsProofs table bytes.now file → ⊥ }
     ensures kept { KeepsNames names.old names.new }
 {
     let pieces = pieces(alloc, bytes)?;

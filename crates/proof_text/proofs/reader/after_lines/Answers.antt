@@ -7,7 +7,7 @@ returns-in-Err-clause-kept c = λ name text h. c.next.ensures.kept name text (c.
 
 pub loop-at-preserved : goal.loop-at-preserved
 loop-at-preserved c = record {
-    said = keeps_on c.next.new.names c.args.lines.now c.loop-at.at _ c.loop-at.invariant.said.0 c.in-Ok.next _ c.loop-at-test.true (c.in-Ok.ensures.said c.loop-at.invariant.said.0 c.loop-at.invariant.said.1) c.loop-at.invariant.said.2;
-    kept = λ name text h. c.next.ensures.kept name text (c.loop-at.invariant.kept name text h);
-    room = room_after c.args.lines.now c.loop-at.at _ _ _ _ c.loop-at-test.true c.next.ensures.grown c.loop-at.invariant.room;
-  }
+  said = keeps_on c.next.new.names c.args.lines.now c.loop-at.at _ c.loop-at.invariant.said.0 c.in-Ok.next _ c.loop-at-test.true (c.in-Ok.ensures.said c.loop-at.invariant.said.0 c.loop-at.invariant.said.1) c.loop-at.invariant.said.2;
+  kept = λ name text h. c.next.ensures.kept name text (c.loop-at.invariant.kept name text h);
+  room = room_after c.args.lines.now c.loop-at.at _ _ _ _ c.loop-at-test.true c.next.ensures.grown c.loop-at.invariant.room;
+}

@@ -15,7 +15,7 @@ returns-in_err-push-clause-kept c = λ name text h. c.intern.ensures.kept name t
 
 pub loop-text-preserved : goal.loop-text-preserved
 loop-text-preserved c = record {
-    named = ap (map (text_of c.intern.new.self)) c.in_ok-push.ensures.items ∙ one_more c.loop-text.names _ c.loop-text.given.items c.args.texts.now c.loop-text.text-index _ _ c.loop-text-test.true c.intern.ensures.kept c.loop-text.invariant.named c.in_ok-intern.ensures.named;
-    kept = λ name text h. c.intern.ensures.kept name text (c.loop-text.invariant.kept name text h);
-    grown = omega (arith, grew _ _ _ c.in_ok-intern.ensures.grown);
-  }
+  named = ap (map (text_of c.intern.new.self)) c.in_ok-push.ensures.items ∙ one_more c.loop-text.names _ c.loop-text.given.items c.args.texts.now c.loop-text.text-index _ _ c.loop-text-test.true c.intern.ensures.kept c.loop-text.invariant.named c.in_ok-intern.ensures.named;
+  kept = λ name text h. c.intern.ensures.kept name text (c.loop-text.invariant.kept name text h);
+  grown = omega (arith, grew _ _ _ c.in_ok-intern.ensures.grown);
+}
