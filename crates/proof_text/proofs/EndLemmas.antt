@@ -1,12 +1,11 @@
 -- How a file ends.
-use Rattle.std.proofs.Common.{◌≡◌, ℕ, ◌+◌, ◌-◌, ◌≤◌, ◌<◌, List, [], ◌∷◌, ◌++◌, length, map, take, drop, get_or, Bool, true, false, Result, Ok, Err, refl, sym, ◌∙◌, ap, arith, Bor, subst, length-append}
+use Rattle.std.proofs.Common.{◌≡◌, ℕ, ◌+◌, ◌-◌, ◌≤◌, ◌<◌, List, [], ◌∷◌, ◌++◌, length, map, take, get_or, Bool, true, false, Result, Ok, Err, refl, sym, ◌∙◌, ap, arith, Bor, subst, length-append}
 use Rattle.std.specs.List.{slice_split}
 use Rattle.std.specs.Prelude.{IfOk}
 use Rattle.std.proofs.lemmas.List.{map-append, length-map}
 use Rattle.std.proofs.lemmas.List.Splits.{length-slice_split}
 use Rattle.std.proofs.lemmas.List.Sums.{count_by-le-length}
 use Rattle.std.proofs.Math.Dec.{eqb}
-use Rattle.proof_text.specs.declared.proof.Proof.{Proof}
 use Rattle.proof_text.specs.declared.proof.ProofFile.{ProofFile}
 use Rattle.proof_text.specs.declared.reader.Stage.{Stage}
 use Rattle.proof_text.specs.declared.reader.Stage.TheVariants as stages

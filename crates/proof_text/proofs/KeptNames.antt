@@ -1,5 +1,5 @@
 -- What is said under a table of names is said under each that keeps those names.
-use Rattle.std.proofs.Common.{◌≡◌, ℕ, List, [], ◌∷◌, map, Some, refl, sym, ◌∙◌, ap}
+use Rattle.std.proofs.Common.{◌≡◌, ℕ, List, [], ◌∷◌, map, Some, refl}
 use Rattle.text_core.specs.Names.{text_of}
 use Rattle.text_core.specs.declared.name.Name.{Name}
 use Rattle.proof_kernel.specs.declared.step.Step.{Step}

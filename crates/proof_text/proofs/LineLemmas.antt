@@ -1,5 +1,5 @@
 -- Lines and their words.
-use Rattle.std.proofs.Common.{◌≡◌, ℕ, ◌+◌, ◌≤◌, codes, ◌<◌, List, [], ◌∷◌, length, map, Bool, true, false, ◌&&◌, Option, None, Some, Result, Ok, Err, refl, sym, ◌∙◌, ap, nat_eq, arith, Bor, subst}
+use Rattle.std.proofs.Common.{◌≡◌, ℕ, ◌+◌, ◌≤◌, codes, ◌<◌, List, [], ◌∷◌, length, map, Bool, true, false, ◌&&◌, None, Some, Result, Ok, Err, refl, sym, ◌∙◌, ap, nat_eq, arith, Bor}
 use Rattle.std.specs.Char.{is_ascii}
 use Rattle.std.specs.List.{list_all, slice_split}
 use Rattle.std.specs.Option.{option_copied}

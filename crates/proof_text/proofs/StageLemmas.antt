@@ -1,5 +1,5 @@
 -- How a file goes on from line to line.
-use Rattle.std.proofs.Common.{◌≡◌, ℕ, ◌+◌, ◌-◌, ◌≤◌, ◌<◌, List, [], ◌∷◌, ◌++◌, length, map, take, drop, get_or, Bool, true, false, ◌&&◌, ◌||◌, Option, None, Some, Result, Ok, Err, refl, sym, ◌∙◌, ap, nat_eq, codes, arith, add-one, drop-cons, subst, Bor, cond}
+use Rattle.std.proofs.Common.{◌≡◌, ℕ, ◌+◌, ◌≤◌, ◌<◌, List, [], ◌∷◌, ◌++◌, length, map, drop, get_or, Bool, true, false, ◌&&◌, ◌||◌, Option, None, Some, Result, Ok, Err, refl, sym, ◌∙◌, ap, nat_eq, codes, arith, add-one, drop-cons, subst, Bor, cond}
 use Rattle.std.specs.List.{list_any, slice_split, onto_first}
 use Rattle.std.specs.Str.{bytes_eq}
 use Rattle.proof_text.specs.declared.proof.NumberedStep.{NumberedStep}

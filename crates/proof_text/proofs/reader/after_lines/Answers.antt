@@ -1,4 +1,3 @@
-use Rattle.std.proofs.Common.{refl}
 use Rattle.proof_text.proofs.StageLemmas.{keeps_on, room_after}
 use Rattle.proof_text.proofs.reader.after_lines.Goals as goal
 

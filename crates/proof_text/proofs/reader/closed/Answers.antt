@@ -1,4 +1,4 @@
-use Rattle.std.proofs.Common.{refl, subst}
+use Rattle.std.proofs.Common.{subst}
 use Rattle.proof_text.specs.declared.reader.Stage.TheVariants as stages
 use Rattle.proof_text.specs.ProofTextReads.{SaysState}
 use Rattle.proof_text.proofs.StageLemmas.{proof_goes_on}
