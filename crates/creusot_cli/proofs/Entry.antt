@@ -129,8 +129,9 @@ all_gone (suc n) (suc j) u e = all_gone n j u e
 pub entry_agrees : (k : IntKind) (zs : List ℤ) (n : ℕ) → AllFit k zs → Agrees k (Gone ∷ (integers zs ++ replicate n Gone)) (named (names_from 1 (length zs)) (numbers zs))
 entry_agrees k zs n f zero t e = inl (cc)
 entry_agrees k zs n f (suc i) t e = elim (integer_at k zs (replicate n Gone) i t f (all_gone n) e) [
-        inl g ↦ inl g
-      | inr p ↦ inr (p.0, p.2, ap (λ j. named (names_from 1 (length zs)) (numbers zs) (local_name j)) (one_more i) ∙ named_at 1 zs i p.0 p.1, p.3) ]
+  | inl g ↦ inl g
+  | inr p ↦ inr (p.0, p.2, ap (λ j. named (names_from 1 (length zs)) (numbers zs) (local_name j)) (one_more i) ∙ named_at 1 zs i p.0 p.1, p.3)
+]
   where
     one_more : (i : ℕ) → suc i ≡ 1 + i
     one_more i = omega arith
@@ -138,11 +139,11 @@ entry_agrees k zs n f (suc i) t e = elim (integer_at k zs (replicate n Gone) i t
 -- ---- the formula at the entry
 
 module _ (S : Structure) where
-
   same_point : (ρ : Env) (x y : Name) → with_value ρ x (ρ x) y ≡ ρ y
   same_point ρ x y = elim (decide y.0 x.0) [
-          inl e ↦ let same : y ≡ x = same_name y x e in ap (λ z. with_value ρ x (ρ x) z) same ∙ with_same ρ x (ρ x) ∙ sym (ap ρ same)
-        | inr d ↦ with_other ρ x y (ρ x) d ]
+    | inl e ↦ let same : y ≡ x = same_name y x e in ap (λ z. with_value ρ x (ρ x) z) same ∙ with_same ρ x (ρ x) ∙ sym (ap ρ same)
+    | inr d ↦ with_other ρ x y (ρ x) d
+  ]
     where
       decide : (m n : ℕ) → (m ≡ n) ⊎ (m ≡ n → ⊥)
       decide m n = same_or_not m n

@@ -46,12 +46,14 @@ ints_are θ k (suc n) = ap (λ ts. and_ty (int k) ts) (ints_are θ k n)
 
 sorted_params : (S : Structure) (k : IntKind) (m : ℕ) (zs : List ℤ) (ρ : Env) → AllFit k zs → ((i : ℕ) (z : ℤ) → slice_get zs i ≡ Some z → ρ (local_name (m + i)) ≡ Number z) → AllSorted S k (names_from m (length zs)) ρ
 sorted_params S k m [] ρ f h = tt
-sorted_params S k m (z ∷ zs) ρ f h =
-    (subst (λ v. HasSort S.declared v (int k)) (sym (ap (λ n. ρ (local_name n)) here' ∙ h 0 z refl)) (of_int f.0),
-     sorted_params S k (m + 1) zs ρ f.1 (λ i y e. ap (λ n. ρ (local_name n)) (there i) ∙ h (suc i) y e))
+sorted_params S k m (z ∷ zs) ρ f h = (
+  subst (λ v. HasSort S.declared v (int k)) (sym (ap (λ n. ρ (local_name n)) here' ∙ h 0 z refl)) (of_int f.0),
+  sorted_params S k (m + 1) zs ρ f.1 (λ i y e. ap (λ n. ρ (local_name n)) (there i) ∙ h (suc i) y e),
+)
   where
     here' : m ≡ m + 0
     here' = omega arith
+
     there : (i : ℕ) → (m + 1) + i ≡ m + suc i
     there i = omega arith
 
@@ -149,9 +151,11 @@ module _ (Δ : Declarations) (bodies : List Body) (fn : ℕ) (b : Body) (bl : Bl
       Answering at_no bodies fn b bl no_tys k (length b.locals) one_block ends (entry_env zs) (outside held) t → IsFine Δ no_tys c (answer_ty b no_tys) s (integers zs) [] (Returned s' t)
   returned_fine s zs s' t held count a =
       let z = a.integer.0 in
-      let typed : Typed Δ s' t (int k) [] = subst (λ u. Typed Δ s' u (int k) []) (sym a.integer.1) (is_int a.integer.3) in
-      ([], subst (λ ty. Typed Δ s' t ty []) (sym (ap (λ ty. instance no_tys ty) form.answer_is)) typed,
-        λ fill sup. ensures_met s zs s' t z a.env fill count a.integer.1 a.integer.2 a.keeps a.goals)
+      let typed : Typed Δ s' t (int k) [] = subst (λ u. Typed Δ s' u (int k) []) (sym a.integer.1) (is_int a.integer.3) in (
+        [],
+        subst (λ ty. Typed Δ s' t ty []) (sym (ap (λ ty. instance no_tys ty) form.answer_is)) typed,
+        λ fill sup. ensures_met s zs s' t z a.env fill count a.integer.1 a.integer.2 a.keeps a.goals,
+      )
 
   outcome_fine : (s : State (Unit {0})) (zs : List ℤ) (held : List T) → length zs ≡ b.params → (o : Outcome (Unit {0})) → OutcomeFine at_no bodies fn b bl no_tys k (length b.locals) one_block ends (entry_env zs) (outside held) o → (o ≡ Stuck → ⊥) → IsFine Δ no_tys c (answer_ty b no_tys) s (integers zs) [] o
   outcome_fine s zs held count (Running r) h alive = tt
@@ -168,7 +172,8 @@ module _ (Δ : Declarations) (bodies : List Body) (fn : ℕ) (b : Body) (bl : Bl
       let pre : Each (λ t. Holds at_no t ρ) c.pre = subst (λ xs. Each (λ t. Holds at_no t (named xs (numbers zs))) c.pre) same_names (meets (λ at. nothing) (numbers zs) tt (reads_integers s (λ at. nothing) here 0 zs)) in
       let sorted : AllSorted at_no k c.params ρ = subst (λ xs. AllSorted at_no k xs ρ) (sym same_names) (sorted_params at_no k 1 zs ρ fit (λ i z e. named_at 1 zs i z e)) in
       let goals = goals_hold Δ no_tys b.owner 1 k c (goals_from k (length b.locals) ends bl.statements) ρ true_all sorted pre in
-      let start : OutcomeFine at_no bodies fn b bl no_tys k (length b.locals) one_block ends ρ (outside held) (Running s) = (record {
+      let start : OutcomeFine at_no bodies fn b bl no_tys k (length b.locals) one_block ends ρ (outside held) (Running s) = (
+        record {
           function = refl;
           label = refl;
           types = refl;
@@ -177,9 +182,11 @@ module _ (Δ : Declarations) (bodies : List Body) (fn : ℕ) (b : Body) (bl : Bl
           short = omega (arith, length-append (integers zs) (replicate (length b.locals - 1 - length (integers zs)) Gone), length_integers zs, length_gone (length b.locals - 1 - length (integers zs)), count, form.beyond);
           keeps = λ x l m. refl;
           goals = goals;
-        }, refl) in
+        },
+        refl,
+      ) in
       outcome_fine s zs held count (after bodies n s) (run_fine at_no bodies fn b bl no_tys k (length b.locals) one_block ends ρ (outside held) n (Running s) start)
-        (never_stuck Δ bodies form.sound fn no_tys (integers zs) held b [] proper n)
+      (never_stuck Δ bodies form.sound fn no_tys (integers zs) held b [] proper n)
 
   proper_fine : (θ : Tys) (args held : List T) (met : List Met) → IsProper Δ bodies fn θ args held b met → MeetsRequires Δ θ c (called b fn θ args held) args met → (n : ℕ) → IsFine Δ θ c (answer_ty b θ) (called b fn θ args held) args met (after bodies n (called b fn θ args held))
   proper_fine θ args held met proper meets n = at_types θ proper.ground args met proper meets
@@ -196,7 +203,7 @@ module _ (Δ : Declarations) (bodies : List Body) (fn : ℕ) (b : Body) (bl : Bl
               by_integers zs args met are none fit count =
                   subst (λ us. IsProper Δ bodies fn no_tys us held b met → MeetsRequires Δ no_tys c (called b fn no_tys us held) us met → IsFine Δ no_tys c (answer_ty b no_tys) (called b fn no_tys us held) us met (after bodies n (called b fn no_tys us held))) (sym are)
                   (subst (λ ms. IsProper Δ bodies fn no_tys (integers zs) held b ms → MeetsRequires Δ no_tys c (called b fn no_tys (integers zs) held) (integers zs) ms → IsFine Δ no_tys c (answer_ty b no_tys) (called b fn no_tys (integers zs) held) (integers zs) ms (after bodies n (called b fn no_tys (integers zs) held))) (sym none)
-                    (λ p m. call_fine zs held fit count p m n))
+                  (λ p m. call_fine zs held fit count p m n))
 
   some_body : (x y : Body) → Some x ≡ Some y → x ≡ y
   some_body x y e = cc

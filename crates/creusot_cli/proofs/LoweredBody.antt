@@ -119,6 +119,7 @@ module _ (f : Function) (bounds : IsInBounds f) where
       by_sign : (g : Sign) → int I32 ≡ operation_ty (binary_of g) I32
       by_sign Plus = refl
       by_sign Minus = refl
+
       built_sign : (g : Sign) → (q : ArithOp) × (built (binary_of g) ≡ Some q)
       built_sign Plus = (arith_op.Add, refl)
       built_sign Minus = (arith_op.Sub, refl)
@@ -128,8 +129,8 @@ module _ (f : Function) (bounds : IsInBounds f) where
   chain_fits d m a (s ∷ ss) free l r h k =
       let right : ℕ = m + 1 + 2 * length ss in
       each_append Fits (chain_into m (m + 1) a ss) (atom_into right s.atom ∷ operation_into d s m right ∷ [])
-        (chain_fits m (m + 1) a ss (omega arith, inr l) (omega arith) (omega arith) h k.1)
-        (atom_fits right s.atom (omega arith, inr (omega arith)) k.0, (operation_fits d s m right free (omega arith) (omega arith), tt))
+      (chain_fits m (m + 1) a ss (omega arith, inr l) (omega arith) (omega arith) h k.1)
+      (atom_fits right s.atom (omega arith, inr (omega arith)) k.0, (operation_fits d s m right free (omega arith) (omega arith), tt))
 
   -- ---- initialised locals
 
@@ -221,6 +222,7 @@ module _ (f : Function) (bounds : IsInBounds f) where
     where
       both_true : (c e : Bool) → c ≡ true → e ≡ true → (c && e) ≡ true
       both_true c e p q = ap (λ u. u && e) p ∙ q
+
       lt_true : (i j : ℕ) → i < j → nat_lt i j ≡ true
       lt_true i j l = grind (arith, nat_tests)
 
@@ -250,17 +252,21 @@ module _ (f : Function) (bounds : IsInBounds f) where
         begins = (block_of f, refl);
         statements = λ l k i st e g. (each_at Fits (statements_of f) i st all_fit (subst (λ (d : Block). slice_get d.statements i ≡ Some st) (the_block l k e) g)).typed;
       }
+
       in_block : (l : Label) (k : Block) (i : ℕ) (st : Statement) → block_in b.blocks l ≡ Some k → slice_get k.statements i ≡ Some st → slice_get (statements_of f) i ≡ Some st
       in_block l k i st e g = subst (λ (d : Block). slice_get d.statements i ≡ Some st) (the_block l k e) g
+
       at_end : (k : Block) → block_of f ≡ k → CanEnd (after_all (parameters b) (take (length k.statements) (statements_of f))) k.end.kind
       at_end k e = subst (λ (d : Block). CanEnd (after_all (parameters b) (take (length d.statements) (statements_of f))) d.end.kind) e (ap (λ sts. after_all (parameters b) sts 0) (take_all (statements_of f)) ∙ whole.sets)
+
       is_initialised : IsInitialised b
       is_initialised = record {
         at = λ l i. after_all (parameters b) (take i (statements_of f));
         entry = λ x h. h;
-        statements = λ l k i st e g.
-          (runs_at (parameters b) (statements_of f) i st whole.runs (in_block l k i st e g),
-           λ x h. ap (λ (t : Locals). t x) (sym (after_one (parameters b) (statements_of f) i st (in_block l k i st e g))) ∙ h);
+        statements = λ l k i st e g. (
+          runs_at (parameters b) (statements_of f) i st whole.runs (in_block l k i st e g),
+          λ x h. ap (λ (t : Locals). t x) (sym (after_one (parameters b) (statements_of f) i st (in_block l k i st e g))) ∙ h,
+        );
         ends = λ l k e. at_end k (sym (the_block l k e));
       }
   sound (suc i) c e = absurd (cc)

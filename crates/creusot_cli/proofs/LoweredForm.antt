@@ -31,8 +31,9 @@ either_true false b e = inr e
 
 over_two : (n : ℕ) (op : Operator) (a b : Term) → IsOver n a → IsOver n b → IsOver n (two op a b)
 over_two n op a b h k x e = elim (either_true (free x a) (free x b || false) e) [
-    inl p ↦ h x p
-  | inr q ↦ elim (either_true (free x b) false q) [ inl p ↦ k x p | inr r ↦ absurd (true≢false (sym r)) ] ]
+  | inl p ↦ h x p
+  | inr q ↦ elim (either_true (free x b) false q) [ inl p ↦ k x p | inr r ↦ absurd (true≢false (sym r)) ]
+]
 
 over_one : (n : ℕ) (op : Operator) (a : Term) → IsOver n a → IsOver n (one op a)
 over_one n op a h x e = elim (either_true (free x a) false e) [ inl p ↦ h x p | inr r ↦ absurd (true≢false (sym r)) ]

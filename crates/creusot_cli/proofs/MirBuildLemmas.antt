@@ -1,6 +1,5 @@
 -- What one more name, clause or operator adds to what a function is lowered to.
-use Rattle.std.proofs.Common.{◌≡◌, ◌∙◌, sym, ap, ℕ, zero, suc, ◌+◌, ◌-◌, ◌*◌, ◌<◌, Bool, cond, List, [], ◌∷◌, ◌++◌, length, get_or, take, map, reverse, replicate, refl, add-zero, add-one, arith}
-use Rattle.std.specs.Prelude.{filter}
+use Rattle.std.proofs.Common.{◌≡◌, ◌∙◌, sym, ap, ℕ, zero, suc, ◌+◌, ◌-◌, ◌*◌, ◌<◌, cond, List, [], ◌∷◌, ◌++◌, length, get_or, take, reverse, refl, add-zero, add-one, arith}
 use Rattle.std.proofs.lemmas.List.{reverse-append, append-nil, length-reverse, take_more, length-take-le}
 use Rattle.std.proofs.lemmas.List.Elements.{filter-append}
 use Rattle.creusot_cli.specs.declared.rs_syntax.form.ClauseKind.{ClauseKind}

@@ -103,17 +103,17 @@ module _ (S : Structure) where
         let two = goals_split st.env (goals_at k s.span s.kind) (map (goal_before k v s.kind) (goals_from k v ends (drop (f.statement + 1) bl.statements))) here in
         let kind : kind_in (place_ty b f.types (place_of S s.kind)) ≡ Some k = subst (λ u. kind_in (place_ty b u (place_of S s.kind)) ≡ Some k) (sym st.types) (one.kinds f.statement s e) in
         comes_then (Next S k v s.kind st.env) EndsFine (assign_local b f.types f.locals s.span s.kind) _
-          (statement_comes S b f.types k v s.span s.kind f.locals st.env (one.built f.statement s e) kind st.agrees st.short two.0)
-          (λ ls n. record {
-            function = st.function;
-            label = st.label;
-            types = st.types;
-            env = n.env;
-            agrees = n.agrees;
-            short = n.short;
-            keeps = λ x l m. n.kept x (one.outside f.statement s e x l m) (λ same. absurd (omega (arith, one.beyond))) ∙ st.keeps x l m;
-            goals = goals_after k v s.kind st.env ls n (goals_from k v ends (drop (f.statement + 1) bl.statements)) two.1;
-          })
+        (statement_comes S b f.types k v s.span s.kind f.locals st.env (one.built f.statement s e) kind st.agrees st.short two.0)
+        (λ ls n. record {
+          function = st.function;
+          label = st.label;
+          types = st.types;
+          env = n.env;
+          agrees = n.agrees;
+          short = n.short;
+          keeps = λ x l m. n.kept x (one.outside f.statement s e x l m) (λ same. absurd (omega (arith, one.beyond))) ∙ st.keeps x l m;
+          goals = goals_after k v s.kind st.env ls n (goals_from k v ends (drop (f.statement + 1) bl.statements)) two.1;
+        })
 
     frame_comes : (f : Frame (Unit {0})) → Standing f → Comes EndsFine (frame_step bodies f)
     frame_comes f st =
@@ -121,7 +121,7 @@ module _ (S : Structure) where
         let block : block_in b.blocks f.label ≡ Some bl = subst (λ l. block_in b.blocks l ≡ Some bl) (sym st.label) one.is_block in
         subst (λ (o : Option Body). Comes EndsFine (need o >>= λ c. need (block_in c.blocks f.label) >>= λ d. frame_row c f d.end (slice_get d.statements f.statement))) (sym found)
         (subst (λ (o : Option Block). Comes EndsFine (need o >>= λ d. frame_row b f d.end (slice_get d.statements f.statement))) (sym block)
-          (row_comes f st (slice_get bl.statements f.statement) refl))
+        (row_comes f st (slice_get bl.statements f.statement) refl))
 
     settled_fine : (e : FrameEnd (Unit {0})) → EndsFine e → Comes OutcomeFine (settled (out ∷ []) e)
     settled_fine (Stays f) st = (st, refl)

@@ -98,10 +98,11 @@ other_name x y d e = d (omega arith)
 
 pub agrees_set : (k : IntKind) (ls : List T) (ρ : Env) (x : ℕ) (t : T) (w : Value) → Agrees k ls ρ → Shows k t w → Agrees k (slice_set ls x t) (with_value ρ (local_name x) w)
 agrees_set k ls ρ x t w h s y u e = elim (same_or_not y x) [
-    inl p ↦ let here : slice_get (slice_set ls x t) x ≡ Some u = subst (λ n. slice_get (slice_set ls x t) n ≡ Some u) p e in
-            let is_w : with_value ρ (local_name x) w (local_name y) ≡ w = ap (λ n. with_value ρ (local_name x) w (local_name n)) p ∙ with_same ρ (local_name x) w in
-            subst (λ v. Shows k u v) (sym is_w) (subst (λ r. Shows k r w) (sym (get_set_here ls x t u here)) s)
-  | inr d ↦ subst (λ v. Shows k u v) (sym (with_other ρ (local_name x) (local_name y) w (other_name x y d))) (h y u (sym (get_set_apart ls x t y d) ∙ e)) ]
+  | inl p ↦ let here : slice_get (slice_set ls x t) x ≡ Some u = subst (λ n. slice_get (slice_set ls x t) n ≡ Some u) p e in
+      let is_w : with_value ρ (local_name x) w (local_name y) ≡ w = ap (λ n. with_value ρ (local_name x) w (local_name n)) p ∙ with_same ρ (local_name x) w in
+      subst (λ v. Shows k u v) (sym is_w) (subst (λ r. Shows k r w) (sym (get_set_here ls x t u here)) s)
+  | inr d ↦ subst (λ v. Shows k u v) (sym (with_other ρ (local_name x) (local_name y) w (other_name x y d))) (h y u (sym (get_set_apart ls x t y d) ∙ e))
+]
 
 -- a value at a name that is no local's
 pub agrees_beyond : (k : IntKind) (ls : List T) (ρ : Env) (v : ℕ) (w : Value) → length ls ≤ v → Agrees k ls ρ → Agrees k ls (with_value ρ (local_name v) w)
@@ -162,8 +163,9 @@ pub record Took (k : IntKind) (ρ : Env) (v : ℕ) (o : Operand) (l : Left (Unit
 
 agrees_gone : (k : IntKind) (ls : List T) (ρ : Env) (x : ℕ) → Agrees k ls ρ → Agrees k (slice_set ls x Gone) ρ
 agrees_gone k ls ρ x h y u e = elim (same_or_not y x) [
-    inl p ↦ inl (get_set_here ls x Gone u (subst (λ n. slice_get (slice_set ls x Gone) n ≡ Some u) p e))
-  | inr d ↦ h y u (sym (get_set_apart ls x Gone y d) ∙ e) ]
+  | inl p ↦ inl (get_set_here ls x Gone u (subst (λ n. slice_get (slice_set ls x Gone) n ≡ Some u) p e))
+  | inr d ↦ h y u (sym (get_set_apart ls x Gone y d) ∙ e)
+]
 
 pub operand_comes : (k : IntKind) (ls : List T) (ρ : Env) (v : ℕ) (o : Operand) → IsOperand k o → Agrees k ls ρ → length ls ≤ v → Comes (Took k ρ v o) (take_operand ls o)
 operand_comes k ls ρ v (Copy p) i h l = comes_then (IsLocal k ls ρ p.local) (Took k ρ v (Copy p)) (local_tree ls p.local) _ (local_comes k ls ρ p.local h)
@@ -214,8 +216,8 @@ module _ (S : Structure) where
   range_fits k t ρ z c h =
       let two = (holds_and S (is_at_most (lit (lowest k) math_int) t) (is_at_most t (lit (highest k) math_int)) ρ).0 h in
       both_true (int_le (lowest k) z) (int_le z (highest k))
-        ((holds_at_most S (lit (lowest k) math_int) t ρ (Number (lowest k)) (Number z) (alike_same _) c).0 two.0)
-        ((holds_at_most S t (lit (highest k) math_int) ρ (Number z) (Number (highest k)) c (alike_same _)).0 two.1)
+      ((holds_at_most S (lit (lowest k) math_int) t ρ (Number (lowest k)) (Number z) (alike_same _) c).0 two.0)
+      ((holds_at_most S t (lit (highest k) math_int) ρ (Number z) (Number (highest k)) c (alike_same _)).0 two.1)
 
   -- ---- statements
 
@@ -280,10 +282,10 @@ module _ (S : Structure) where
       let N = Next k v (Assign pl (Binary op a b)) ρ in
       subst (λ o. Comes N (evaluate ls o span (Binary op a b) >>= λ r. put_local r.0 pl.local r.1)) (sym kind)
       (comes_then (λ r. N (slice_set r.0 pl.local r.1)) N (evaluate ls (Some k) span (Binary op a b)) (λ r. put_local r.0 pl.local r.1)
-        (comes_then (Took k ρ v a) (λ r. N (slice_set r.0 pl.local r.1)) (take_operand ls a) _ (operand_comes k ls ρ v a ia h l)
-          (λ first one. comes_then (Took k ρ v b) (λ r. N (slice_set r.0 pl.local r.1)) (take_operand first.0 b) _ (operand_comes k first.0 ρ v b ib one.agrees one.short)
-            (λ second two. ends first one second two)))
-        (λ r n. put_comes N r.0 pl.local r.1 n (slice_get r.0 pl.local)))
+      (comes_then (Took k ρ v a) (λ r. N (slice_set r.0 pl.local r.1)) (take_operand ls a) _ (operand_comes k ls ρ v a ia h l)
+      (λ first one. comes_then (Took k ρ v b) (λ r. N (slice_set r.0 pl.local r.1)) (take_operand first.0 b) _ (operand_comes k first.0 ρ v b ib one.agrees one.short)
+      (λ second two. ends first one second two)))
+      (λ r n. put_comes N r.0 pl.local r.1 n (slice_get r.0 pl.local)))
     where
       N' : List T → Type 0
       N' = Next k v (Assign pl (Binary op a b)) ρ
@@ -295,16 +297,16 @@ module _ (S : Structure) where
           let w : Value = Number (calculated q y z) in
           let f : fits k (calculated q y z) ≡ true = overflow_fits k span op q a b ρ y z e one.integer.2 two.integer.2 goals in
           let bin : Comes (λ (t : T). t ≡ Int (calculated q y z)) (binary (Some k) span op first.1 second.1) =
-              subst (λ t. Comes (λ (u : T). u ≡ Int (calculated q y z)) (binary (Some k) span op t second.1)) (sym one.integer.1)
-              (subst (λ t. Comes (λ (u : T). u ≡ Int (calculated q y z)) (binary (Some k) span op (Int y) t)) (sym two.integer.1) (binary_comes k span op q y z e f)) in
+          subst (λ t. Comes (λ (u : T). u ≡ Int (calculated q y z)) (binary (Some k) span op t second.1)) (sym one.integer.1)
+          (subst (λ t. Comes (λ (u : T). u ≡ Int (calculated q y z)) (binary (Some k) span op (Int y) t)) (sym two.integer.1) (binary_comes k span op q y z e f)) in
           comes_then (λ (t : T). t ≡ Int (calculated q y z)) (λ (r : Left (Unit {0})). N' (slice_set r.0 pl.local r.1)) (binary (Some k) span op first.1 second.1) _ bin
-            (λ t is. record {
-              env = with_value (with_value ρ (local_name v) w) (local_name pl.local) w;
-              agrees = agrees_set k second.0 (with_value ρ (local_name v) w) pl.local t w (agrees_beyond k second.0 ρ v w two.short two.agrees) (inr (calculated q y z, is, refl, f));
-              short = omega (arith, length_set second.0 pl.local t, two.short);
-              kept = λ x d d'. with_other (with_value ρ (local_name v) w) (local_name pl.local) (local_name x) w (other_name pl.local x d) ∙ with_other ρ (local_name v) (local_name x) w (other_name v x d');
-              row = operation_row k v pl.local op q a b ρ y z e f (λ u. one.beyond u ∙ one.integer.2) (λ u. two.beyond u ∙ two.integer.2);
-            })
+          (λ t is. record {
+            env = with_value (with_value ρ (local_name v) w) (local_name pl.local) w;
+            agrees = agrees_set k second.0 (with_value ρ (local_name v) w) pl.local t w (agrees_beyond k second.0 ρ v w two.short two.agrees) (inr (calculated q y z, is, refl, f));
+            short = omega (arith, length_set second.0 pl.local t, two.short);
+            kept = λ x d d'. with_other (with_value ρ (local_name v) w) (local_name pl.local) (local_name x) w (other_name pl.local x d) ∙ with_other ρ (local_name v) (local_name x) w (other_name v x d');
+            row = operation_row k v pl.local op q a b ρ y z e f (λ u. one.beyond u ∙ one.integer.2) (λ u. two.beyond u ∙ two.integer.2);
+          })
 
   -- a statement, where its goals hold
   pub statement_comes : (b : Body) (θ : Tys) (k : IntKind) (v : ℕ) (span : Span) (st : StatementKind) (ls : List T) (ρ : Env) → IsBuilt k st → kind_in (place_ty b θ (place_of st)) ≡ Some k → Agrees k ls ρ → length ls ≤ v → GoalsHold ρ (goals_at k span st) → Comes (Next k v st ρ) (assign_local b θ ls span st)

@@ -1,5 +1,5 @@
 -- Numerals, what `parse` answers for them, and where a word is cut.
-use Rattle.std.proofs.Common.{◌≡◌, ℕ, ℤ, pos, ◌+◌, ◌-◌, ◌*◌, ◌^◌, ◌<◌, ◌≤◌, List, [], ◌∷◌, length, drop, Bool, true, false, ◌&&◌, Option, None, Some, Result, Ok, Err, cond, get_or, refl, sym, ◌∙◌, ap, arith, rules, tests, nat_eq, nat_lt, Bor, ◌≢◌, subst, lit<}
+use Rattle.std.proofs.Common.{◌≡◌, ℕ, ℤ, pos, ◌+◌, ◌^◌, ◌<◌, ◌≤◌, List, [], ◌∷◌, length, drop, Bool, true, false, ◌&&◌, Option, None, Some, Result, Ok, Err, cond, get_or, refl, sym, ◌∙◌, ap, arith, rules, nat_eq, nat_lt, Bor, ◌≢◌}
 use Rattle.std.specs.Prelude.{neg_ℤ, unwrap_or}
 use Rattle.std.specs.Int.{w128}
 use Rattle.std.specs.Char.{is_ascii_digit}
@@ -7,10 +7,10 @@ use Rattle.std.specs.List.{list_all, position_or_len, before_first, after_first}
 use Rattle.std.specs.Option.{option_map, option_copied, MatchOption}
 use Rattle.std.specs.Result.{OkIff, result_ok}
 use Rattle.std.specs.Str.Parse.{digits_value, ParsesUnsigned, ParsesSigned}
-use Rattle.std.proofs.lemmas.Bool.{lt-ltb, ltb-true, le-ltb, ltb-false}
+use Rattle.std.proofs.lemmas.Bool.{lt-ltb, ltb-true, le-ltb}
 use Rattle.std.proofs.lemmas.Bool.Decides.{nat_tests}
 use Rattle.std.proofs.lemmas.Str.Parse.{IsNumeralModel, IsDigitsTest, numerals_by_value, parse_digits, parse_signed_minus, parse_signed_plain, not_in_digits}
-use Rattle.proof_text.specs.ProofTextWords.{is_numeral, numeral_below, number_of, multiplier_of, after_minus, cut, or_else}
+use Rattle.proof_text.specs.ProofTextWords.{is_numeral, numeral_below, number_of, multiplier_of, after_minus, cut}
 
 abbrev pub AreDigits : List ℕ → Type 0
 AreDigits ds = list_all is_ascii_digit ds ≡ true

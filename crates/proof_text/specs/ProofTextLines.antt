@@ -1,5 +1,5 @@
 -- What the lines of a proof file spell.
-use Rattle.std.specs.Prelude.{◌≡◌, ℕ, List, [], ◌∷◌, length, map, codes, Bool, ◌||◌, Option, None, Some, slice_index, ◌==◌, if◌then◌else◌}
+use Rattle.std.specs.Prelude.{◌≡◌, ℕ, List, [], ◌∷◌, length, map, codes, ◌||◌, Option, None, Some, slice_index, ◌==◌, if◌then◌else◌}
 use Rattle.std.specs.Char.{is_ascii}
 use Rattle.std.specs.List.{list_all, slice_split}
 use Rattle.std.specs.Option.{option_map}
@@ -83,16 +83,23 @@ heading_of (number ∷ owner ∷ []) = do
   Some (heading n o)
 heading_of _ = None
 
-unfoldable pub line_of_words : List (List ℕ) → Option Line
-line_of_words [] = None
-line_of_words (head ∷ words) =
+unfoldable pub line_by_head : List ℕ → List (List ℕ) → Option Line
+line_by_head head words =
     if bytes_eq head (codes "proof") then heading_of words
     else if bytes_eq head (codes "end") then none_left words «end»
     else option_map step (step_of head words)
 
--- empty lines and those that begin with `#` are passed over; the words of the others stand between single spaces
+abbrev pub line_of_words : List (List ℕ) → Option Line
+line_of_words [] = None
+line_of_words (head ∷ words) = line_by_head head words
+
+abbrev pub ascii_of : List ℕ → Option (List ℕ)
+ascii_of text = if list_all is_ascii text then Some text else None
+
+-- the words stand between single spaces
+abbrev pub line_of_text : List ℕ → Option Line
+line_of_text text = line_of_words (slice_split (λ b. b == 32) text)
+
+-- empty lines and those that begin with `#` are passed over
 unfoldable pub line_of : List ℕ → Option Line
-line_of line =
-    if length line == 0 || slice_index line 0 == 35 then Some passed
-    else if list_all is_ascii line then line_of_words (slice_split (λ b. b == 32) line)
-    else None
+line_of line = if length line == 0 || slice_index line 0 == 35 then Some passed else (ascii_of line >>= line_of_text)

@@ -1,5 +1,5 @@
 -- What the functions that read answer, beside what the text spells.
-use Rattle.std.specs.Prelude.{◌≡◌, ℕ, List, Option, None, Some, Result, Ok, Err}
+use Rattle.std.specs.Prelude.{◌≡◌, ℕ, ◌+◌, List, [], ◌∷◌, length, Bool, true, false, Option, None, Some, Result, Ok, Err}
 use Rattle.text_core.specs.Names.{text_of}
 use Rattle.text_core.specs.declared.name.Name.{Name}
 use Rattle.proof_text.specs.declared.fault.Fault.{Fault}
@@ -44,3 +44,11 @@ SaysState table (between proofs) (stages.Between done) = Each (SaysProof table) 
 SaysState table (within proofs number owner steps) (stages.Within done opened) =
     Each (SaysProof table) proofs done.items × (number ≡ opened.number) × (owner ≡ opened.owner.now) × Each (SaysStep table) steps opened.steps.items
 SaysState table _ _ = ⊥
+
+abbrev pub is_start : Stage → Bool
+is_start stages.Start = true
+is_start _ = false
+
+abbrev pub total_length : List (List ℕ) → ℕ
+total_length [] = 0
+total_length (text ∷ texts) = length text + total_length texts

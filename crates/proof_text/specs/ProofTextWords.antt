@@ -1,5 +1,5 @@
 -- What the words of a proof file spell.
-use Rattle.std.specs.Prelude.{◌≡◌, ℕ, ℤ, pos, neg_ℤ, ◌+◌, ◌^◌, List, [], ◌∷◌, length, drop, codes, Bool, true, false, ◌&&◌, ◌||◌, Option, None, Some, slice_index, nat_lt, ◌==◌, if◌then◌else◌}
+use Rattle.std.specs.Prelude.{ℕ, ℤ, pos, neg_ℤ, ◌+◌, ◌^◌, List, [], ◌∷◌, length, drop, codes, Bool, false, ◌&&◌, ◌||◌, Option, None, Some, slice_index, nat_lt, ◌==◌, if◌then◌else◌}
 use Rattle.std.specs.Char.{is_ascii_digit, is_ascii_alphanumeric}
 use Rattle.std.specs.List.{list_all, list_any, position_or_len, before_first, after_first}
 use Rattle.std.specs.Option.{option_map}
@@ -39,7 +39,7 @@ or_else f g None y = g y
 unfoldable pub multiplier_of : List ℕ → Option ℤ
 multiplier_of word =
     or_else (λ digits. option_map (λ n. neg_ℤ (pos n)) (numeral_below (2 ^ 127 + 1) digits))
-        (λ digits. option_map pos (numeral_below (2 ^ 127) digits)) (after_minus word) word
+    (λ digits. option_map pos (numeral_below (2 ^ 127) digits)) (after_minus word) word
 
 -- what stands before and after the first such byte
 abbrev pub cut : ℕ → List ℕ → Option (List ℕ × List ℕ)

@@ -1,6 +1,8 @@
 ghost use Rattle.std.specs.Prelude.{◌≡◌, ℕ, ◌+◌, ◌^◌, ◌<◌, ◌≤◌, List, ◌-◌, ◌==◌, IfOk, length, map};
-ghost use Rattle.std.specs.List.{slice_split};
-ghost use Rattle.proof_text.specs.ProofTextLines.{heading_of, line_of_words, line_of};
+ghost use Rattle.std.specs.Char.{is_ascii};
+ghost use Rattle.std.specs.List.{list_all, slice_split};
+ghost use Rattle.std.specs.Option.{option_copied};
+ghost use Rattle.proof_text.specs.ProofTextLines.{heading_of, line_by_head, line_of_words, ascii_of, line_of_text, line_of};
 ghost use Rattle.proof_text.specs.ProofTextReads.{Reads, KeepsNames, SaysLine};
 
 use crate::fault::Fault;
@@ -8,7 +10,7 @@ use crate::step::step;
 use crate::word::{is_identifier, number};
 use proof_kernel::Step;
 use std::alloc::Global;
-use text_core::Names;
+use text_core::{Names, NoMemory};
 
 /// A line after the first.
 #[derive(Drop)]
@@ -36,34 +38,76 @@ fn heading<'a>(words: &[&'a str]) -> Result<Line<'a>, Fault>
     }
 }
 
-#[tactic(auto, unfolding(crate::specs::ProofTextLines::line_of_words))]
-fn line_of_words<'a>(
+#[tactic(auto, unfolding(crate::specs::ProofTextLines::line_by_head))]
+fn line_by_head<'a>(
     alloc: Global,
+    head: &str,
     words: &[&'a str],
     names: &mut Names,
 ) -> Result<Line<'a>, Fault>
+    requires { length names.old + length words.now < 2 ^ 32 }
+    ensures said { Reads (SaysLine names.new) result (line_by_head head.now (map (λ word. word.now) words.now)) }
+    ensures kept { KeepsNames names.old names.new }
+    ensures grown { length names.new ≤ length names.old + length words.now }
+{
+    if head == "proof" {
+        return heading(words);
+    }
+    if head == "end" {
+        if !words.is_empty() {
+            return Err(Fault::Bad);
+        }
+        return Ok(Line::End);
+    }
+    Ok(Line::Step(step(alloc, head, words, names)?))
+}
+
+fn line_of_words<'a>(alloc: Global, words: &[&'a str], names: &mut Names) -> Result<Line<'a>, Fault>
     requires { length names.old + length words.now < 2 ^ 32 }
     ensures said { Reads (SaysLine names.new) result (line_of_words (map (λ word. word.now) words.now)) }
     ensures kept { KeepsNames names.old names.new }
     ensures grown { length names.new ≤ length names.old + (length words.now - 1) }
 {
-    let Some((head, words)) = words.split_first() else {
-        return Err(Fault::Bad);
-    };
-    match *head {
-        "proof" => heading(words),
-        "end" if words.is_empty() => Ok(Line::End),
-        head => Ok(Line::Step(step(alloc, head, words, names)?)),
+    match words {
+        [] => Err(Fault::Bad),
+        [head, rest @ ..] => line_by_head(alloc, *head, rest, names),
     }
 }
 
-fn words_of(alloc: Global, text: &str) -> Result<Vec<&str>, Fault>
-    ensures { IfOk result (λ words. map (λ word. word.now) words.items ≡ slice_split (λ b. b == 32) text.now) }
+fn words_of(alloc: Global, text: &str) -> Result<Vec<&str>, NoMemory>
+    ensures words { IfOk result (λ words. map (λ word. word.now) words.items ≡ slice_split (λ b. b == 32) text.now) }
+    ensures count { IfOk result (λ words. length words.items ≤ length text.now + 1) }
 {
     Ok(text.split(' ').collect(alloc)?)
 }
 
+fn line_of_text<'a>(alloc: Global, text: &'a str, names: &mut Names) -> Result<Line<'a>, Fault>
+    requires { length names.old + length text.now + 1 < 2 ^ 32 }
+    ensures said { Reads (SaysLine names.new) result (line_of_text text.now) }
+    ensures kept { KeepsNames names.old names.new }
+    ensures grown { length names.new ≤ length names.old + length text.now }
+{
+    let words = words_of(alloc, text)?;
+    line_of_words(alloc, &words, names)
+}
+
+fn are_ascii(bytes: &[u8]) -> bool
+    ensures { result ≡ list_all is_ascii bytes.now }
+{
+    bytes.iter().all(|b| b.is_ascii())
+}
+
+fn ascii(bytes: &[u8]) -> Option<&str>
+    ensures { option_copied result ≡ ascii_of bytes.now }
+{
+    if !are_ascii(bytes) {
+        return None;
+    }
+    str::from_utf8(bytes).ok()
+}
+
 /// What the line spells.
+#[tactic(auto, unfolding(crate::specs::ProofTextLines::line_of))]
 pub(crate) fn read_line<'a>(
     alloc: Global,
     text: &'a [u8],
@@ -77,12 +121,8 @@ pub(crate) fn read_line<'a>(
     if text.is_empty() || text[0] == b'#' {
         return Ok(Line::Passed);
     }
-    if !text.iter().all(|b| b.is_ascii()) {
-        return Err(Fault::Bad);
+    match ascii(text) {
+        Some(text) => line_of_text(alloc, text, names),
+        None => Err(Fault::Bad),
     }
-    let Ok(text) = str::from_utf8(text) else {
-        return Err(Fault::Bad);
-    };
-    let words = words_of(alloc, text)?;
-    line_of_words(alloc, &words, names)
 }

@@ -1,16 +1,17 @@
-ghost use Rattle.std.specs.Prelude.{◌≡◌, ℕ, ◌+◌, ◌^◌, ◌<◌, ◌≤◌, ◌==◌, ◌&&◌, List, length, map, sum_by, IfOk, IsErrOf};
+ghost use Rattle.std.specs.Prelude.{◌≡◌, ℕ, ◌+◌, ◌^◌, ◌<◌, ◌≤◌, ◌==◌, ◌&&◌, List, [], ◌∷◌, ◌++◌, length, map, IfOk, IsErrOf};
 ghost use Rattle.std.specs.List.{slice_split};
 ghost use Rattle.std.specs.Str.{bytes_eq};
-ghost use Rattle.proof_text.specs.ProofTextFile.{State, start, Each, SaysStep, SaysProof, SaidProof, is_proved, state_after, next_state, state_after_all, SpellsProofs, IsFirstBadLine};
+ghost use Rattle.proof_text.specs.ProofTextFile.{State, start, Each, SaysStep, SaysProof, SaidProof, is_proved, state_after, next_state, state_after_all, proofs_at_end, proofs_of_pieces, SpellsProofs, IsFirstBadLine};
+ghost use Rattle.proof_text.specs.declared.proof.ProofFile.{ProofFile as File};
 ghost use Rattle.proof_text.specs.ProofTextLines.{Said, Line as SaidLine, Says, heading, step as said_step, «end»};
-ghost use Rattle.proof_text.specs.ProofTextReads.{Reads, ReadsLines, KeepsNames, SaysLine, SaysState};
+ghost use Rattle.proof_text.specs.ProofTextReads.{Reads, ReadsLines, KeepsNames, SaysLine, SaysState, is_start, total_length};
 
 use crate::fault::{Fault, ProofTextError};
 use crate::line::{Line, read_line};
 use crate::proof::{NumberedStep, Proof, ProofFile};
 use proof_kernel::Step;
 use std::alloc::Global;
-use text_core::{Items, Names, Text};
+use text_core::{Items, Names, NoMemory, Text};
 
 /// The first line.
 const HEADER: &[u8] = b"creusot-proofs 1";
@@ -73,26 +74,45 @@ fn opened<'a>(
     }
 }
 
+/// The proof with one more step.
+fn with_more<'a>(opened: OpenProof<'a>, line: u32, step: Step) -> Result<OpenProof<'a>, Fault>
+    ensures same { IfOk result (λ more. (more.number ≡ opened.entry.number) × (more.owner.now ≡ opened.entry.owner.now)) }
+    ensures steps { IfOk result (λ more. more.steps.items ≡ opened.entry.steps.items ++ record { line = line; step = step } ∷ []) }
+    ensures good { IsErrOf result Fault.Bad → ⊥ }
+{
+    let mut opened = opened;
+    opened.steps.push(NumberedStep { line, step })?;
+    Ok(opened)
+}
+
+/// The whole proof.
+fn ended(alloc: Global, opened: OpenProof<'_>, end: u32) -> Result<Proof, Fault>
+    ensures same { IfOk result (λ proof. (proof.number ≡ opened.entry.number) × (proof.owner ≡ opened.entry.owner.now) × (proof.steps ≡ opened.entry.steps.items) × (proof.«end» ≡ end)) }
+    ensures good { IsErrOf result Fault.Bad → ⊥ }
+{
+    let owner = Text::from_bytes(alloc, opened.owner.as_bytes())?;
+    let OpenProof {
+        number,
+        owner: _owner,
+        steps,
+    } = opened;
+    let steps = Items::from_vec(steps);
+    Ok(Proof {
+        number,
+        owner,
+        steps,
+        end,
+    })
+}
+
 /// Where the file stands after a step.
 fn with_step<'a>(stage: Stage<'a>, line: u32, step: Step) -> Result<Stage<'a>, Fault>
     ensures { (table : List (List ℕ)) (s : State) (said : Said) → SaysState table s stage.entry → Says table said step → Reads (SaysState table) result (state_after s line (said_step said)) }
 {
     match stage {
         Stage::Within(proofs, opened) => {
-            let OpenProof {
-                number,
-                owner,
-                mut steps,
-            } = opened;
-            steps.push(NumberedStep { line, step })?;
-            Ok(Stage::Within(
-                proofs,
-                OpenProof {
-                    number,
-                    owner,
-                    steps,
-                },
-            ))
+            let opened = with_more(opened, line, step)?;
+            Ok(Stage::Within(proofs, opened))
         }
         Stage::Start => Err(Fault::Bad),
         Stage::Between(_proofs) => Err(Fault::Bad),
@@ -104,20 +124,9 @@ fn closed<'a>(alloc: Global, stage: Stage<'a>, line: u32) -> Result<Stage<'a>, F
     ensures { (table : List (List ℕ)) (s : State) → SaysState table s stage.entry → Reads (SaysState table) result (state_after s line «end») }
 {
     match stage {
-        Stage::Within(mut proofs, opened) => {
-            let OpenProof {
-                number,
-                owner,
-                steps,
-            } = opened;
-            let owner = Text::from_bytes(alloc, owner.as_bytes())?;
-            let steps = Items::from_vec(steps);
-            proofs.push(Proof {
-                number,
-                owner,
-                steps,
-                end: line,
-            })?;
+        Stage::Within(proofs, opened) => {
+            let mut proofs = proofs;
+            proofs.push(ended(alloc, opened, line)?)?;
             Ok(Stage::Between(proofs))
         }
         Stage::Start => Err(Fault::Bad),
@@ -142,6 +151,16 @@ fn after<'a>(
     }
 }
 
+fn is_start(stage: &Stage<'_>) -> bool
+    ensures { result ≡ is_start stage.now }
+{
+    match stage {
+        Stage::Start => true,
+        Stage::Between(_) => false,
+        Stage::Within(_, _) => false,
+    }
+}
+
 /// Where the file stands after a line of this text.
 fn next<'a>(
     alloc: Global,
@@ -155,12 +174,11 @@ fn next<'a>(
     ensures kept { KeepsNames names.old names.new }
     ensures grown { length names.new ≤ length names.old + length text.now }
 {
-    if let Stage::Start = stage {
-        return if text == HEADER {
-            Ok(Stage::Between(Vec::new(alloc)))
-        } else {
-            Err(Fault::Bad)
-        };
+    if is_start(&stage) {
+        if text != HEADER {
+            return Err(Fault::Bad);
+        }
+        return Ok(Stage::Between(Vec::new(alloc)));
     }
     let line = read_line(alloc, text, names)?;
     after(alloc, stage, number, line)
@@ -172,24 +190,62 @@ fn after_lines<'a>(
     lines: &[&'a [u8]],
     names: &mut Names,
 ) -> Result<Stage<'a>, ProofTextError>
-    requires count { length lines.now < 2 ^ 32 }
-    requires room { length names.old + sum_by (λ line. length line.now) lines.now + 1 < 2 ^ 32 }
+    requires count { length lines.now + 1 < 2 ^ 32 }
+    requires room { length names.old + total_length (map (λ line. line.now) lines.now) + 1 < 2 ^ 32 }
     ensures said { ReadsLines (SaysState names.new) result (state_after_all (map (λ line. line.now) lines.now) start 1) }
     ensures kept { KeepsNames names.old names.new }
 {
     let mut stage = Stage::Start;
     for (at, text) in lines.iter().enumerate() {
         let number = at as u32 + 1;
-        stage = next(alloc, stage, number, *text, names).map_err(|fault| fault.at_line(number))?;
+        match next(alloc, stage, number, *text, names) {
+            Ok(next) => stage = next,
+            Err(fault) => return Err(fault.at_line(number)),
+        }
     }
     Ok(stage)
 }
 
-fn pieces(alloc: Global, bytes: &[u8]) -> Result<Vec<&[u8]>, ProofTextError>
-    ensures ok { IfOk result (λ pieces. map (λ piece. piece.now) pieces.items ≡ slice_split (λ b. b == 10) bytes.now) }
-    ensures bad { (n : ℕ) → IsErrOf result (ProofTextError.BadLine n) → ⊥ }
+fn pieces(alloc: Global, bytes: &[u8]) -> Result<Vec<&[u8]>, NoMemory>
+    ensures { IfOk result (λ pieces. map (λ piece. piece.now) pieces.items ≡ slice_split (λ b. b == 10) bytes.now) }
 {
     Ok(bytes.split(|b| *b == b'\n').collect(alloc)?)
+}
+
+/// The file, where it may end so: nothing stands after the last line feed, and no proof is open.
+fn at_end(stage: Stage<'_>, rest: &[u8], end: u32) -> Result<ProofFile, ProofTextError>
+    ensures { (table : List (List ℕ)) (s : State) → SaysState table s stage.entry → ReadsLines (λ said file. Each (SaysProof table) said file.proofs) result (proofs_at_end end rest.now s) }
+{
+    match stage {
+        Stage::Between(proofs) => {
+            if !rest.is_empty() {
+                return Err(ProofTextError::BadLine(end));
+            }
+            let proofs = Items::from_vec(proofs);
+            Ok(ProofFile { proofs })
+        }
+        Stage::Start => Err(ProofTextError::BadLine(end)),
+        Stage::Within(_proofs, _opened) => Err(ProofTextError::BadLine(end)),
+    }
+}
+
+/// What the pieces between line feeds spell.
+fn read_pieces(
+    alloc: Global,
+    pieces: &[&[u8]],
+    names: &mut Names,
+) -> Result<ProofFile, ProofTextError>
+    requires count { length pieces.now < 2 ^ 31 }
+    requires room { length names.old + total_length (map (λ piece. piece.now) pieces.now) + 1 < 2 ^ 32 }
+    ensures read { ReadsLines (λ said file. Each (SaysProof names.new) said file.proofs) result (proofs_of_pieces (map (λ piece. piece.now) pieces.now)) }
+    ensures kept { KeepsNames names.old names.new }
+{
+    let Some((rest, lines)) = pieces.split_last() else {
+        return Err(ProofTextError::BadLine(1));
+    };
+    let stage = after_lines(alloc, lines, names)?;
+    let end = lines.len() as u32 + 1;
+    at_end(stage, *rest, end)
 }
 
 /// What the bytes spell: a file of proofs, version 1. `BadLine` is the first bad line. The names of the proofs are
@@ -203,22 +259,9 @@ pub fn read_proofs(
     requires room { length names.old + 2 ^ 26 + 1 < 2 ^ 32 }
     ensures ok { IfOk result (λ file. SpellsProofs names.new bytes.now file) }
     ensures bad { (n : ℕ) → IsErrOf result (ProofTextError.BadLine n) → IsFirstBadLine bytes.now n }
+    ensures none { (n : ℕ) → IsErrOf result (ProofTextError.BadLine n) → (table : List (List ℕ)) (file : File) → SpellsProofs table bytes.now file → ⊥ }
     ensures kept { KeepsNames names.old names.new }
 {
     let pieces = pieces(alloc, bytes)?;
-    let Some((rest, lines)) = pieces.split_last() else {
-        return Err(ProofTextError::BadLine(1));
-    };
-    let end = lines.len() as u32 + 1;
-    match after_lines(alloc, lines, names)? {
-        Stage::Between(proofs) => {
-            if !rest.is_empty() {
-                return Err(ProofTextError::BadLine(end));
-            }
-            let proofs = Items::from_vec(proofs);
-            Ok(ProofFile { proofs })
-        }
-        Stage::Start => Err(ProofTextError::BadLine(end)),
-        Stage::Within(_proofs, _opened) => Err(ProofTextError::BadLine(end)),
-    }
+    read_pieces(alloc, &pieces, names)
 }

@@ -105,7 +105,12 @@ pub(crate) fn step(
             let word = only(words).ok_or(Fault::Bad)?;
             Ok(Step::Hyp(label(word).ok_or(Fault::Bad)?))
         }
-        "split" if words.is_empty() => Ok(Step::Split),
+        "split" => {
+            if !words.is_empty() {
+                return Err(Fault::Bad);
+            }
+            Ok(Step::Split)
+        }
         "range" => range(alloc, words, names),
         "lin" => Ok(Step::Lin(lin(alloc, words)?)),
         _ => Err(Fault::Bad),

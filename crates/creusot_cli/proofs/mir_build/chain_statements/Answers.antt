@@ -1,5 +1,4 @@
-use Rattle.std.proofs.Common.{rules, arith, refl, ◌∙◌, ap}
-use Rattle.creusot_cli.specs.MirBuildBounds.{AddsOperator}
+use Rattle.std.proofs.Common.{rules, arith, refl}
 use Rattle.creusot_cli.proofs.MirBuildLemmas.{one_more_operator}
 use Rattle.creusot_cli.proofs.mir_build.chain_statements.Goals as goal
 

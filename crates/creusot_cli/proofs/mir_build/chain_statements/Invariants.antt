@@ -1,4 +1,4 @@
-use Rattle.std.proofs.Common.{◌≡◌, ◌+◌, ◌-◌, length, take, reverse}
+use Rattle.std.proofs.Common.{◌≡◌, ◌+◌, ◌-◌, take, reverse}
 use Rattle.creusot_cli.specs.MirBuild.{chain_into}
 use Rattle.creusot_cli.specs.MirBuildBounds.{target}
 use Rattle.creusot_cli.proofs.mir_build.chain_statements.Given as goal

@@ -1,0 +1,7 @@
+use Rattle.std.proofs.Common.{◌∙◌, sym, map}
+use Rattle.proof_text.proofs.StageLemmas.{now}
+use Rattle.proof_text.proofs.LineLemmas.{heads_proof}
+use Rattle.proof_text.proofs.line.line_by_head.Goals as goal
+
+pub returns-then-eq-clause-said : goal.returns-then-eq-clause-said
+returns-then-eq-clause-said c = heads_proof c.args.names.now c.args.head.now (map now c.args.words.now) c.heading.result (sym c.eq.ensures ∙ c.if-eq.true) (c.heading.ensures c.args.names.now)
