@@ -1,9 +1,12 @@
 -- What a call answers, and that what it lists is good.
-use Rattle.std.proofs.Common.{◌≡◌, ◌≢◌, ◌∙◌, ◌⊎◌, inl, inr, refl, sym, ap, subst, ℕ, ◌+◌, ◌<◌, ◌==◌, List, [], ◌∷◌, ◌++◌, length, Option, None, Some, Err, arith}
+use Rattle.std.proofs.Common.{◌≡◌, ◌≢◌, ◌∙◌, ◌⊎◌, inl, inr, refl, sym, ap, subst, ℕ, ◌+◌, ◌<◌, ◌==◌, Bool, false, List, [], ◌∷◌, ◌++◌, length, Option, None, Some, Err, arith}
 use Rattle.std.specs.Io.KnownBytes.{Appends}
 use Rattle.text_core.specs.declared.span.Span.{Span}
 use Rattle.io_edge.specs.Shelf.{Files}
+use Rattle.logic_term.specs.declared.obligation.Obligation.{Obligation}
 use Rattle.mir_machine.specs.Good.{Good}
+use Rattle.proof_text.specs.declared.proof.Proof.{Proof}
+use Rattle.proof_text.specs.declared.proof.ProofFile.{ProofFile}
 use Rattle.creusot_cli.specs.declared.report_out.LeftItem.{LeftItem}
 use Rattle.creusot_cli.specs.declared.report_out.FnLine.{FnLine}
 use Rattle.creusot_cli.specs.declared.report_out.Verdict.{Verdict}
@@ -11,7 +14,10 @@ use Rattle.creusot_cli.specs.declared.rs_syntax.form.Function.{Function}
 use Rattle.creusot_cli.specs.declared.rs_tokens.token.Token.{Token}
 use Rattle.creusot_cli.specs.declared.verify.files.ReadFile.{ReadFile}
 use Rattle.creusot_cli.specs.declared.verify.files.ReadFile.TheVariants.{TooLong}
-use Rattle.creusot_cli.specs.Call.{HeldAs, HasFunction, IsRefused, Answers, AnswersWords, status_of, Lists, Reports, ReportsWords, IsRead}
+use Rattle.creusot_cli.specs.declared.verify.plan.Plan.{Plan}
+use Rattle.creusot_cli.specs.declared.verify.plan.Given.{Given}
+use Rattle.creusot_cli.specs.declared.verify.plan.Given.TheVariants.{Proofs, Refused}
+use Rattle.creusot_cli.specs.Call.{GivesProofs, AreProofs, HeldAs, HasFunction, IsRefused, Answers, AnswersWords, status_of, Lists, Reports, ReportsWords, IsRead}
 use Rattle.creusot_cli.specs.MirBuild.{body_of, contract_of}
 use Rattle.creusot_cli.specs.Report.{report_of, verified_line, function_line, open_line, summary_line, source_error_line, source_limit_line, proof_limit_line}
 use Rattle.creusot_cli.specs.SourceForm.{Spells}
@@ -20,7 +26,7 @@ use Rattle.creusot_cli.specs.SourceTokens.{AreTokens}
 use Rattle.creusot_cli.specs.Verdict.{no_types, IsVerdict, obligations_for}
 use Rattle.creusot_cli.specs.Words.{Asked}
 use Rattle.creusot_cli.proofs.Verified.{verified_is_good}
-use Rattle.std.specs.Prelude.{flat_map}
+use Rattle.std.specs.Prelude.{flat_map, if◌then◌else◌}
 
 -- ---- files that are too long, and sources that are refused
 
@@ -42,15 +48,41 @@ pub refused_source : (shelf : Option Files) (a : Asked) (source : List ℕ) (spa
 refused_source shelf a source span bytes held none place b =
     subst (λ (bs : List ℕ). Answers shelf a 3 bs) (sym b) (Answers.source_refused held (record { none = none; place = place }))
 
+-- ---- proofs that are given, and what is reported of them
+
+pub absent_proofs : (shelf : Option Files) (name : Option (List ℕ)) (ps : List Proof) → name ≡ None → ps ≡ [] → AreProofs shelf name ps
+absent_proofs shelf name ps e p = rw (e, p) AreProofs.absent
+
+pub refused_answers : (shelf : Option Files) (a : Asked) (source : List ℕ) (f : Function) (g : Given) (plan : Plan) → GivesProofs shelf a.proofs g → g ≡ Refused plan →
+    HasFunction shelf a source f → Answers shelf a plan.status plan.bytes.items
+refused_answers shelf a source f g plan gives e has = (subst (λ (x : Given). GivesProofs shelf a.proofs x) e gives) source f a.source has
+
+pub reported_answers : (shelf : Option Files) (a : Asked) (source : List ℕ) (f : Function) (g : Given) (file : ProofFile) (os : List Obligation) (ps : List Proof) (v : Verdict) (status : ℕ) (bytes : List ℕ) →
+    GivesProofs shelf a.proofs g → g ≡ Proofs file → os ≡ obligations_for f → ps ≡ file.proofs → IsVerdict f.name os ps v → status ≡ status_of v → bytes ≡ report_of source v →
+    HasFunction shelf a source f → Answers shelf a status bytes
+reported_answers shelf a source f g file os ps v status bytes gives is os_is ps_is verdict status_is bytes_is has =
+    let at : AreProofs shelf a.proofs file.proofs = subst (λ (x : Given). GivesProofs shelf a.proofs x) is gives in
+    let are : AreProofs shelf a.proofs ps = subst (λ (xs : List Proof). AreProofs shelf a.proofs xs) (sym ps_is) at in
+    let judged : IsVerdict f.name (obligations_for f) ps v = subst (λ (xs : List Obligation). IsVerdict f.name xs ps v) os_is verdict in
+    rw (status_is, bytes_is) (Answers.reported f ps has are judged)
+
 -- ---- what is listed is good
 
 differs : (r s : ℕ) → (r ≡ 0) ⊎ (r ≡ 1) → 1 < s → r ≡ s → ⊥
 differs r s (inl z) l e = omega arith
 differs r s (inr o) l e = omega arith
 
+not_zero : (n : ℕ) → 0 < n → (n == 0) ≡ false
+not_zero n l = grind arith
+
+some_left : (x : LeftItem) (xs : List LeftItem) → (length (x ∷ xs) == 0) ≡ false
+some_left x xs = not_zero (length (x ∷ xs)) (omega arith)
+
 none_left : (left : List LeftItem) (s : ℕ) → s ≡ (if length left == 0 then 0 else 1) → s ≡ 0 → left ≡ []
 none_left [] s e z = refl
-none_left (x ∷ xs) s e z = absurd (omega arith)
+none_left (x ∷ xs) s e z =
+    let one : s ≡ 1 = e ∙ ap (λ (b : Bool). if b then 0 else 1) (some_left x xs) in
+    absurd (omega arith)
 
 first : List ℕ → ℕ
 first [] = 0
@@ -61,16 +93,21 @@ others [] = []
 others (x ∷ xs) = xs
 
 same_rest : (xs ys zs : List ℕ) → xs ++ ys ≡ xs ++ zs → ys ≡ zs
+unfolding others
 same_rest [] ys zs e = e
 same_rest (x ∷ xs) ys zs e = same_rest xs ys zs (ap others e)
 
-small_differs : 111 ≡ 118 → ⊥
+small_differs : ◌≡◌ {A = ℕ} 111 118 → ⊥
 small_differs e = omega arith
 
 listed : (source name rest tail : List ℕ) (left : List LeftItem) →
     flat_map function_line (record { name = name; verified = length left == 0 } ∷ []) ++ flat_map (open_line source) left ++ tail ≡ verified_line name ++ rest → left ≡ []
+unfolding first
 listed source name rest tail [] e = refl
-listed source name rest tail (x ∷ xs) e = absurd (small_differs (ap first e))
+listed source name rest tail (x ∷ xs) e =
+    let shown : flat_map function_line (record { name = name; verified = false } ∷ []) ++ flat_map (open_line source) (x ∷ xs) ++ tail ≡ verified_line name ++ rest =
+        subst (λ (b : Bool). flat_map function_line (record { name = name; verified = b } ∷ []) ++ flat_map (open_line source) (x ∷ xs) ++ tail ≡ verified_line name ++ rest) (some_left x xs) e in
+    absurd (small_differs (ap first shown))
 
 listed_left : (source name rest : List ℕ) (v : Verdict) → v.functions ≡ record { name = name; verified = length v.left == 0 } ∷ [] → report_of source v ≡ verified_line name ++ rest → v.left ≡ []
 listed_left source name rest v lines e =
@@ -88,7 +125,7 @@ report shelf a result before after (Answers.source_long long far) e added small 
 report shelf a result before after (Answers.source_refused held refused) e added small = absurd (differs result 3 small (omega arith) e)
 report shelf a result before after (Answers.proofs_long source name f has named long far) e added small = absurd (differs result 7 small (omega arith) e)
 report shelf a result before after (Answers.proofs_refused source name bytes f has named held bad) e added small = absurd (differs result 4 small (omega arith) e)
-report shelf a result before after (Answers.reported {source = source} {v = v} f proofs has given verdict) e added small = record {
+report shelf a result before after (Answers.reported {source = source} {v = v} f proofs has are verdict) e added small = record {
     source = source;
     f = f;
     has = has;

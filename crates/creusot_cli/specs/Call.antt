@@ -71,7 +71,7 @@ AnswersWords shelf (Some a) status bytes = Answers shelf a status bytes
 
 -- the bytes told begin with the line that the function is verified
 abbrev pub Lists : Option (List ℕ) → Option (List ℕ) → List ℕ → Type 0
-Lists (Some before) (Some after) name = (rest : List ℕ) × (after ≡ before ++ verified_line name ++ rest)
+Lists (Some before) (Some after) name = (rest : List ℕ) × (after ≡ before ++ (verified_line name ++ rest))
 Lists _ _ name = ⊥
 
 -- the source spells a function, and it is good where all is proved, and where it is listed
