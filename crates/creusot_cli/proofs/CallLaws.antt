@@ -106,7 +106,7 @@ unfolding first
 listed source name rest tail [] e = refl
 listed source name rest tail (x ∷ xs) e =
     let shown : flat_map function_line (record { name = name; verified = false } ∷ []) ++ flat_map (open_line source) (x ∷ xs) ++ tail ≡ verified_line name ++ rest =
-        subst (λ (b : Bool). flat_map function_line (record { name = name; verified = b } ∷ []) ++ flat_map (open_line source) (x ∷ xs) ++ tail ≡ verified_line name ++ rest) (some_left x xs) e in
+    subst (λ (b : Bool). flat_map function_line (record { name = name; verified = b } ∷ []) ++ flat_map (open_line source) (x ∷ xs) ++ tail ≡ verified_line name ++ rest) (some_left x xs) e in
     absurd (small_differs (ap first shown))
 
 listed_left : (source name rest : List ℕ) (v : Verdict) → v.functions ≡ record { name = name; verified = length v.left == 0 } ∷ [] → report_of source v ≡ verified_line name ++ rest → v.left ≡ []
@@ -126,11 +126,11 @@ report shelf a result before after (Answers.source_refused held refused) e added
 report shelf a result before after (Answers.proofs_long source name f has named long far) e added small = absurd (differs result 7 small (omega arith) e)
 report shelf a result before after (Answers.proofs_refused source name bytes f has named held bad) e added small = absurd (differs result 4 small (omega arith) e)
 report shelf a result before after (Answers.reported {source = source} {v = v} f proofs has are verdict) e added small = record {
-    source = source;
-    f = f;
-    has = has;
-    good = λ shown. verified_is_good source f proofs v.left v.proved has.spelled (none shown) verdict.judged;
-  }
+  source = source;
+  f = f;
+  has = has;
+  good = λ shown. verified_is_good source f proofs v.left v.proved has.spelled (none shown) verdict.judged;
+}
   where
     none : (result ≡ 0) ⊎ Lists before after f.name → v.left ≡ []
     none (inl zero_is) = none_left v.left result e zero_is

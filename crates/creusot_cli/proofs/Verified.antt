@@ -28,9 +28,9 @@ derived {l = l} {ns = n ∷ ns} (Runs.more {k = k} {m = m} does rest) =
     let a = does.applies in
     let after : Derives m.step m.left (map (λ n. n.step) ns) l.left = derived rest in
     let moved : Derives (k.step + 1) (a.premises ++ a.others) (map (λ n. n.step) ns) l.left =
-        subst (λ (p : Progress). Derives p.step p.left (map (λ n. n.step) ns) l.left) a.is after in
+    subst (λ (p : Progress). Derives p.step p.left (map (λ n. n.step) ns) l.left) a.is after in
     let there : Derives (suc k.step) (a.premises ++ a.others) (map (λ n. n.step) ns) l.left =
-        subst (λ (s : ℕ). Derives s (a.premises ++ a.others) (map (λ n. n.step) ns) l.left) (plus_one k.step) moved in
+    subst (λ (s : ℕ). Derives s (a.premises ++ a.others) (map (λ n. n.step) ns) l.left) (plus_one k.step) moved in
     subst (λ (qs : List Sequent). Derives k.step qs (map (λ n. n.step) (n ∷ ns)) l.left) (sym a.was) (one_step a.gives there)
 
 accepted_is_proof : (o : Obligation) (steps : List NumberedStep) → IsAccepted o steps → IsProof o (map (λ n. n.step) steps)

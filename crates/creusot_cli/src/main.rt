@@ -10,4 +10,34 @@ mod verify_core;
 mod words;
 mod wp_gen;
 
-fn main() {}
+use io_edge::{FileShelf, StdSink};
+use std::process::ExitCode;
+use std::{env, io};
+use verify::creusot;
+
+/// The words of the call, without the program's name.
+fn call_words(rt: &HostRuntime) -> io::Result<Vec<String>> {
+    let alloc = rt.alloc();
+    let mut words = Vec::new(alloc);
+    for word in env::args(rt)?.skip(1) {
+        words.push(word)?;
+    }
+    Ok(words)
+}
+
+/// No words where they are not all texts.
+fn words_or_none(rt: &HostRuntime) -> Vec<String> {
+    match call_words(rt) {
+        Ok(words) => words,
+        Err(_) => Vec::new(rt.alloc()),
+    }
+}
+
+fn main(rt: HostRuntime) -> io::Result<ExitCode> {
+    let alloc = rt.alloc();
+    let words = words_or_none(&rt);
+    let mut shelf = FileShelf::new(rt.clone()?);
+    let mut out = StdSink::new(rt);
+    let status = creusot(alloc, words.as_slice(), &mut shelf, &mut out);
+    Ok(ExitCode::from(status))
+}

@@ -9,6 +9,8 @@ ghost use Rattle.creusot_cli.specs.Words.{asked_of};
 
 mod files;
 mod plan;
+#[cfg(test)]
+mod tests;
 
 use crate::report_out::words_error;
 use crate::verify::files::Stop;
@@ -54,12 +56,7 @@ fn print<K: Sink>(plan: &Plan, out: &mut K) -> u8
 /// proved. 1: some is not. 2: the words are no words of the program. 3: the source spells no function of the form. 4: the
 /// proof file has a bad line. 5: a file could not be read; nothing is printed. 6: the output failed. 7: a file is longer
 /// than its limit. 8: memory was refused. With 6 and 8 a prefix of what was to be printed is.
-pub fn creusot<S: Shelf, K: Sink>(
-    alloc: Global,
-    words: &[String],
-    shelf: &mut S,
-    out: &mut K,
-) -> u8
+pub fn creusot<S: Shelf, K: Sink>(alloc: Global, words: &[String], shelf: &mut S, out: &mut K) -> u8
     // The function of the source is good where all is proved, and where a line says that it is verified.
     ensures verified { (result ≡ 0) ⊎ (result ≡ 1) → ReportsWords (S.holds shelf.old) (asked_of (map string_bytes words.now)) result (K.written out.old) (K.written out.new) }
     ensures answers { result ≢ 5 → result ≢ 6 → result ≢ 8

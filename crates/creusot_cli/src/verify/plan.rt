@@ -25,6 +25,7 @@ use text_core::{Items, Names, NoMemory};
 
 /// The most bytes of a source, and of a file of proofs.
 const MAX_SOURCE: u64 = 1 << 20;
+
 const MAX_PROOFS: u64 = 1 << 26;
 
 /// The most parameters of a function that is lowered.
@@ -106,7 +107,13 @@ fn obligations_for(alloc: Global, f: &Function) -> Result<Vec<Obligation>, NoMem
 }
 
 /// The verdict on the function with these proofs, and its report.
-fn reported(alloc: Global, source: &[u8], f: &Function, obligations: &[Obligation], proofs: &[Proof]) -> Result<Plan, NoMemory>
+fn reported(
+    alloc: Global,
+    source: &[u8],
+    f: &Function,
+    obligations: &[Obligation],
+    proofs: &[Proof],
+) -> Result<Plan, NoMemory>
     requires { length source.now ≤ 2 ^ 20 }
     ensures { IfOk result (λ p. (v : Verdict) × IsVerdict f.now.name obligations.now proofs.now v × (p.status ≡ status_of v) × (p.bytes.items ≡ report_of source.now v)) }
 {

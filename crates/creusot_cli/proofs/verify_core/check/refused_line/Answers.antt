@@ -20,7 +20,7 @@ returns-then-not-branch c =
 pub loop-numbered-preserved : goal.loop-numbered-preserved
 loop-numbered-preserved c =
     let done : Does c.loop-numbered.kernel c.numbered-item.result.step c.take_step.new.kernel =
-        subst (λ (done : Bool). TakesStep c.loop-numbered.kernel c.numbered-item.result.step c.take_step.new.kernel done) c.if-not-branch.false c.in_ok-take_step.ensures in
+    subst (λ (done : Bool). TakesStep c.loop-numbered.kernel c.numbered-item.result.step c.take_step.new.kernel done) c.if-not-branch.false c.in_ok-take_step.ensures in
     record {
       runs = goes_on c.args.obligation.now c.args.steps.now c.loop-numbered.numbered-index c.numbered-item.result c.loop-numbered.kernel c.take_step.new.kernel
           c.loop-numbered-test.true c.numbered-item.is c.loop-numbered.invariant.runs done;
