@@ -10,35 +10,228 @@ const SOURCE: &[u8] =
 const PROOFS: &[u8] =
     b"creusot-proofs 1\nproof 1 inc\nintro x\nrange x\nsplit\nlin 1:goal 1:2.1\nlin 1:goal 1:1.1\nend\nproof 2 inc\nintro x t\nhyp 1.2\nend\n";
 
-/// A shelf with the source `s` and its proofs `p`.
-fn shelf_of_inc(alloc: Global) -> Result<MemoryShelf, ShelfError> {
-    let mut files = BTreeMap::new(alloc);
-    let source = String::from_str(alloc, "s")?;
-    files.insert(source, Vec::from_slice(alloc, SOURCE)?)?;
-    let proofs = String::from_str(alloc, "p")?;
-    files.insert(proofs, Vec::from_slice(alloc, PROOFS)?)?;
-    Ok(MemoryShelf::new(files, Vec::new(alloc)))
+const REPORT: &[u8] = b"verified inc\nsummary functions 1 verified 1 obligations 2 proved 2\n";
+
+/// The same function without its first line.
+const WITHOUT_BOUND: &[u8] = b"#[ensures(result@ == x@ + 1)]\nfn inc(x: i32) -> i32 { x + 1 }\n";
+
+/// A call: the files `s` and `p`, the words, and the calls of the shelf and of the sink that fail.
+#[derive(Clone, Copy, Drop)]
+struct Call<'a> {
+    source: &'a [u8],
+    proofs: &'a [u8],
+    words: &'a [&'a str],
+    failing_reads: &'a [u64],
+    most_each: u64,
+    failing_writes: &'a [u64],
 }
 
-fn words_of(alloc: Global, texts: &[&str]) -> Result<Vec<String>, ShelfError> {
-    let mut words = Vec::new(alloc);
-    for text in texts {
-        words.push(String::from_str(alloc, text)?)?;
+impl Call<'_> {
+    /// `verify s --proofs p` with nothing failing.
+    fn of<'a>(source: &'a [u8], proofs: &'a [u8]) -> Call<'a> {
+        Call {
+            source,
+            proofs,
+            words: &["verify", "s", "--proofs", "p"],
+            failing_reads: &[],
+            most_each: 1000,
+            failing_writes: &[],
+        }
     }
-    Ok(words)
+
+    fn shelf(&self, alloc: Global) -> Result<MemoryShelf, ShelfError> {
+        let mut files = BTreeMap::new(alloc);
+        let source = String::from_str(alloc, "s")?;
+        files.insert(source, Vec::from_slice(alloc, self.source)?)?;
+        let proofs = String::from_str(alloc, "p")?;
+        files.insert(proofs, Vec::from_slice(alloc, self.proofs)?)?;
+        let failing = Vec::from_slice(alloc, self.failing_reads)?;
+        Ok(MemoryShelf::new(files, failing))
+    }
+
+    fn words(&self, alloc: Global) -> Result<Vec<String>, ShelfError> {
+        let mut words = Vec::new(alloc);
+        for text in self.words {
+            words.push(String::from_str(alloc, text)?)?;
+        }
+        Ok(words)
+    }
+
+    /// The status, and the sink with what was printed.
+    fn run(&self, alloc: Global) -> Result<(u8, MemorySink), ShelfError> {
+        let mut shelf = self.shelf(alloc)?;
+        let words = self.words(alloc)?;
+        let failing = Vec::from_slice(alloc, self.failing_writes)?;
+        let mut out = MemorySink::new(alloc, self.most_each, failing);
+        let status = creusot(alloc, words.as_slice(), &mut shelf, &mut out);
+        Ok((status, out))
+    }
 }
 
 #[test]
-fn calls(rt: HostRuntime) -> Result<(), Fail> {
-    let alloc = rt.alloc();
-    let mut shelf = shelf_of_inc(alloc)?;
-    let mut out = MemorySink::new(alloc, 1000, Vec::new(alloc));
-    let words = words_of(alloc, &["verify", "s", "--proofs", "p"])?;
-    let status = creusot(alloc, words.as_slice(), &mut shelf, &mut out);
-    assert_eq!(rt; status, 0);
+fn reports_are_byte_for_byte(rt: HostRuntime) -> Result<(), Fail> {
+    let cases = [
+        (SOURCE, PROOFS, 0, REPORT),
+        (
+            WITHOUT_BOUND,
+            b"creusot-proofs 1\nproof 2 inc\nintro x t\nhyp 1.1\nend\n",
+            1,
+            b"open 1 overflow 56..57 line 2 missing inc\nsummary functions 1 verified 0 obligations 2 proved 1\n",
+        ),
+        (
+            SOURCE,
+            b"creusot-proofs 1\nproof 1 inc\nintro x\nrange x\nsplit\nlin 1:goal -1:2.2\nlin 1:goal 1:1.1\nend\nproof 2 inc\nintro x t\nhyp 1.2\nend\n",
+            1,
+            b"open 1 overflow 78..79 line 3 proof:6 inc\nsummary functions 1 verified 0 obligations 2 proved 1\n",
+        ),
+        (
+            SOURCE,
+            b"creusot-proofs 1\nproof 1 inc\nintro x\nrange x\nsplit\nlin 1 goal\nlin 1:goal 1:1.1\nend\nproof 2 inc\nintro x t\nhyp 1.2\nend\n",
+            4,
+            b"error proof 6\n",
+        ),
+        (
+            b"fn f(x: i64) -> i64 { x }",
+            b"",
+            3,
+            b"error E20 8..11 line 1\n",
+        ),
+    ];
+    for (source, proofs, want, printed) in cases {
+        let (status, out) = Call::of(source, proofs).run(rt.alloc())?;
+        assert_eq!(rt; status, want);
+        assert_eq!(rt; out.written(), printed);
+    }
+    Ok(())
+}
+
+#[test]
+fn devices_fail_at_each_call(rt: HostRuntime) -> Result<(), Fail> {
+    let inc = Call::of(SOURCE, PROOFS);
+    let cases = [
+        // A sink that takes one byte a call.
+        (
+            Call {
+                most_each: 1,
+                ..inc
+            },
+            0,
+            REPORT,
+        ),
+        // Each read fails, and each of the first writes.
+        (
+            Call {
+                failing_reads: &[1],
+                ..inc
+            },
+            5,
+            b"".as_slice(),
+        ),
+        (
+            Call {
+                failing_reads: &[2],
+                ..inc
+            },
+            5,
+            b"".as_slice(),
+        ),
+        (
+            Call {
+                failing_writes: &[1],
+                ..inc
+            },
+            6,
+            b"".as_slice(),
+        ),
+        (
+            Call {
+                most_each: 9,
+                failing_writes: &[2],
+                ..inc
+            },
+            6,
+            b"verified ".as_slice(),
+        ),
+        // A name that the shelf lacks, and words that are none.
+        (
+            Call {
+                words: &["verify", "t"],
+                ..inc
+            },
+            5,
+            b"".as_slice(),
+        ),
+        (
+            Call {
+                words: &["verify", "s", "--proofs", "q"],
+                ..inc
+            },
+            5,
+            b"".as_slice(),
+        ),
+        (Call { words: &[], ..inc }, 2, b"error words\n".as_slice()),
+        (
+            Call {
+                words: &["prove", "s"],
+                ..inc
+            },
+            2,
+            b"error words\n".as_slice(),
+        ),
+        (
+            Call {
+                words: &["verify", "s"],
+                ..inc
+            },
+            1,
+            b"open 1 overflow 78..79 line 3 missing inc\nopen 2 ensures 32..49 line 2 missing inc\nsummary functions 1 verified 0 obligations 2 proved 0\n".as_slice(),
+        ),
+    ];
+    for (call, want, printed) in cases {
+        let (status, out) = call.run(rt.alloc())?;
+        assert_eq!(rt; status, want);
+        assert_eq!(rt; out.written(), printed);
+    }
+    Ok(())
+}
+
+#[test]
+fn a_long_source_is_past_its_limit(rt: HostRuntime) -> Result<(), Fail> {
+    let spaces = vec![in rt.alloc(); b' '; 1_048_577]?;
+    let (status, out) = Call::of(spaces.as_slice(), PROOFS).run(rt.alloc())?;
+    assert_eq!(rt; status, 7);
     assert_eq!(rt;
         out.written(),
-        b"verified inc\nsummary functions 1 verified 1 obligations 2 proved 2\n".as_slice()
+        b"limit source-bytes 1048577 1048576\n".as_slice()
     );
+    Ok(())
+}
+
+/// What a call prints where the file of proofs ends before this byte.
+fn printed_at_cut(alloc: Global, at: usize) -> Result<String, ShelfError> {
+    // Behind the first line, and behind the `end` of the first proof.
+    if at == 17 {
+        return Ok(String::from_str(
+            alloc,
+            "open 1 overflow 78..79 line 3 missing inc\nopen 2 ensures 32..49 line 2 missing inc\nsummary functions 1 verified 0 obligations 2 proved 0\n",
+        )?);
+    }
+    if at == 89 {
+        return Ok(String::from_str(
+            alloc,
+            "open 2 ensures 32..49 line 2 missing inc\nsummary functions 1 verified 0 obligations 2 proved 1\n",
+        )?);
+    }
+    let feeds = PROOFS.iter().take(at).filter(|b| **b == b'\n').count();
+    Ok(format!(in alloc; "error proof {}\n", feeds.saturating_add(1))?)
+}
+
+#[test]
+fn cut_proof_files_are_refused(rt: HostRuntime) -> Result<(), Fail> {
+    for at in 0..PROOFS.len() {
+        let (_status, out) = Call::of(SOURCE, &PROOFS[..at]).run(rt.alloc())?;
+        let printed = printed_at_cut(rt.alloc(), at)?;
+        assert_eq!(rt; out.written(), printed.as_bytes(), "cut at {at}");
+    }
     Ok(())
 }
