@@ -1,10 +1,10 @@
 -- What a call answers, and that what it lists is good.
-use Rattle.std.proofs.Common.{◌≡◌, ◌≢◌, ◌∙◌, ◌⊎◌, inl, inr, refl, sym, ap, subst, ℕ, ◌+◌, ◌<◌, ◌==◌, Bool, false, List, [], ◌∷◌, ◌++◌, length, Option, None, Some, Err, arith}
+use Rattle.std.proofs.Common.{◌≡◌, ◌≢◌, ◌∙◌, ◌⊎◌, ◌↔◌, inl, inr, refl, sym, ap, subst, ℕ, ◌+◌, ◌<◌, ◌==◌, Bool, false, List, [], ◌∷◌, ◌++◌, length, Option, None, Some, Err, arith}
 use Rattle.std.specs.Io.KnownBytes.{Appends}
 use Rattle.text_core.specs.declared.span.Span.{Span}
 use Rattle.io_edge.specs.Shelf.{Files}
 use Rattle.logic_term.specs.declared.obligation.Obligation.{Obligation}
-use Rattle.mir_machine.specs.Good.{Good}
+use Rattle.mir_machine.specs.Good.{Each, Good}
 use Rattle.proof_text.specs.declared.proof.Proof.{Proof}
 use Rattle.proof_text.specs.declared.proof.ProofFile.{ProofFile}
 use Rattle.creusot_cli.specs.declared.report_out.LeftItem.{LeftItem}
@@ -17,7 +17,7 @@ use Rattle.creusot_cli.specs.declared.verify.files.ReadFile.TheVariants.{TooLong
 use Rattle.creusot_cli.specs.declared.verify.plan.Plan.{Plan}
 use Rattle.creusot_cli.specs.declared.verify.plan.Given.{Given}
 use Rattle.creusot_cli.specs.declared.verify.plan.Given.TheVariants.{Proofs, Refused}
-use Rattle.creusot_cli.specs.Call.{GivesProofs, AreProofs, HeldAs, HasFunction, IsRefused, Answers, AnswersWords, status_of, Lists, Reports, ReportsWords, IsRead}
+use Rattle.creusot_cli.specs.Call.{source_bound, HasDerivation, GivesProofs, AreProofs, HeldAs, HasFunction, IsRefused, Answers, AnswersWords, status_of, Lists, Reports, ReportsWords, IsRead}
 use Rattle.creusot_cli.specs.MirBuild.{body_of, contract_of}
 use Rattle.creusot_cli.specs.Report.{report_of, verified_line, function_line, open_line, summary_line, source_error_line, source_limit_line, proof_limit_line}
 use Rattle.creusot_cli.specs.SourceForm.{Spells}
@@ -25,6 +25,7 @@ use Rattle.creusot_cli.specs.SourceFormReading.{function_at, place_left}
 use Rattle.creusot_cli.specs.SourceTokens.{AreTokens}
 use Rattle.creusot_cli.specs.Verdict.{no_types, IsVerdict, obligations_for}
 use Rattle.creusot_cli.specs.Words.{Asked}
+use Rattle.creusot_cli.proofs.SettledLaws.{left_exactly}
 use Rattle.creusot_cli.proofs.Verified.{verified_is_good}
 use Rattle.std.specs.Prelude.{flat_map, if◌then◌else◌}
 
@@ -42,11 +43,11 @@ long_proofs shelf name r n bytes read e b source f source_name has =
     let at : IsRead shelf name 67108864 (TooLong n) = subst (λ (x : ReadFile). IsRead shelf name 67108864 x) e read in
     subst (λ (bs : List ℕ). Answers shelf (record { source = source_name; proofs = Some name }) 7 bs) (sym b) (Answers.proofs_long source name f has refl at.0 at.1)
 
-pub refused_source : (shelf : Option Files) (a : Asked) (source : List ℕ) (span : Span) (bytes : List ℕ) → HeldAs shelf a.source source → ((f : Function) → Spells source f → ⊥) →
+pub refused_source : (shelf : Option Files) (a : Asked) (source : List ℕ) (span : Span) (bytes : List ℕ) → HeldAs shelf a.source source → length source ≤ source_bound → ((f : Function) → Spells source f → ⊥) →
     ((tokens : List Token) → AreTokens 0 source tokens → (left : ℕ) × (function_at source tokens ≡ Err left) × (span ≡ place_left source tokens left)) →
     bytes ≡ source_error_line source span → Answers shelf a 3 bytes
-refused_source shelf a source span bytes held none place b =
-    subst (λ (bs : List ℕ). Answers shelf a 3 bs) (sym b) (Answers.source_refused held (record { none = none; place = place }))
+refused_source shelf a source span bytes held short none place b =
+    subst (λ (bs : List ℕ). Answers shelf a 3 bs) (sym b) (Answers.source_refused held short (record { none = none; place = place }))
 
 -- ---- proofs that are given, and what is reported of them
 
@@ -83,6 +84,10 @@ none_left [] s e z = refl
 none_left (x ∷ xs) s e z =
     let one : s ≡ 1 = e ∙ ap (λ (b : Bool). if b then 0 else 1) (some_left x xs) in
     absurd (omega arith)
+
+zero_at : (left : List LeftItem) → left ≡ [] → (if length left == 0 then 0 else 1) ≡ 0
+zero_at [] e = refl
+zero_at (x ∷ xs) e = absurd cc
 
 first : List ℕ → ℕ
 first [] = 0
@@ -122,16 +127,25 @@ listing (Some xs) (Some ys) bytes name a l = (l.0, same_rest xs bytes (verified_
 report : (shelf : Option Files) (a : Asked) (result : ℕ) (before after : Option (List ℕ)) {status : ℕ} {bytes : List ℕ} →
     Answers shelf a status bytes → result ≡ status → Appends before after bytes → (result ≡ 0) ⊎ (result ≡ 1) → Reports shelf a result before after
 report shelf a result before after (Answers.source_long long far) e added small = absurd (differs result 7 small (omega arith) e)
-report shelf a result before after (Answers.source_refused held refused) e added small = absurd (differs result 3 small (omega arith) e)
+report shelf a result before after (Answers.source_refused held short refused) e added small = absurd (differs result 3 small (omega arith) e)
 report shelf a result before after (Answers.proofs_long source name f has named long far) e added small = absurd (differs result 7 small (omega arith) e)
-report shelf a result before after (Answers.proofs_refused source name bytes f has named held bad) e added small = absurd (differs result 4 small (omega arith) e)
+report shelf a result before after (Answers.proofs_refused source name bytes f has named held short bad) e added small = absurd (differs result 4 small (omega arith) e)
 report shelf a result before after (Answers.reported {source = source} {v = v} f proofs has are verdict) e added small = record {
   source = source;
   f = f;
   has = has;
+  proofs = proofs;
+  are_proofs = are;
+  complete = complete;
   good = λ shown. verified_is_good source f proofs v.left v.proved has.spelled (none shown) verdict.judged;
 }
   where
+    exactly : (v.left ≡ []) ↔ Each (HasDerivation proofs) (obligations_for f)
+    exactly = left_exactly proofs (obligations_for f) v.left v.proved verdict.judged
+
+    complete : (result ≡ 0) ↔ Each (HasDerivation proofs) (obligations_for f)
+    complete = (λ zero_is. exactly.0 (none_left v.left result e zero_is), λ each. e ∙ zero_at v.left (exactly.1 each))
+
     none : (result ≡ 0) ⊎ Lists before after f.name → v.left ≡ []
     none (inl zero_is) = none_left v.left result e zero_is
     none (inr lists) =

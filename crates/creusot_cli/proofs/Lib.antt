@@ -19,3 +19,5 @@ pub mod Bounds
 pub mod RunLaws
 pub mod Verified
 pub mod CallLaws
+pub mod SettledLaws
+pub mod ExactLaws

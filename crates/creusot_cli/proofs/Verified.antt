@@ -33,7 +33,7 @@ derived {l = l} {ns = n ∷ ns} (Runs.more {k = k} {m = m} does rest) =
     subst (λ (s : ℕ). Derives s (a.premises ++ a.others) (map (λ n. n.step) ns) l.left) (plus_one k.step) moved in
     subst (λ (qs : List Sequent). Derives k.step qs (map (λ n. n.step) (n ∷ ns)) l.left) (sym a.was) (one_step a.gives there)
 
-accepted_is_proof : (o : Obligation) (steps : List NumberedStep) → IsAccepted o steps → IsProof o (map (λ n. n.step) steps)
+pub accepted_is_proof : (o : Obligation) (steps : List NumberedStep) → IsAccepted o steps → IsProof o (map (λ n. n.step) steps)
 accepted_is_proof o steps accepted = subst (λ (qs : List Sequent). Derives 1 (_) (map (λ n. n.step) steps) qs) accepted.closed (derived accepted.runs)
 
 settled_is_true : (ps : List Proof) (o : Obligation) → Settles ps o None → IsTrueObligation no_types o

@@ -4,7 +4,8 @@ ghost use Rattle.std.specs.Io.KnownBytes.{Appends};
 ghost use Rattle.text_core.specs.Counts.{Rose};
 ghost use Rattle.io_edge.specs.Faults.{NoneFalls};
 ghost use Rattle.io_edge.specs.Sink.{AppendsPrefix};
-ghost use Rattle.creusot_cli.specs.Call.{AnswersWords, ReportsWords, NamedRose};
+ghost use Rattle.io_edge.specs.Shelf.{Files};
+ghost use Rattle.creusot_cli.specs.Call.{AnswersWords, ReportsWords, PrintsPart, IsOfRow, NamedRose};
 ghost use Rattle.creusot_cli.specs.Words.{asked_of};
 
 mod files;
@@ -61,6 +62,10 @@ pub fn creusot<S: Shelf, K: Sink>(alloc: Global, words: &[String], shelf: &mut S
     ensures verified { (result ≡ 0) ⊎ (result ≡ 1) → ReportsWords (S.holds shelf.old) (asked_of (map string_bytes words.now)) result (K.written out.old) (K.written out.new) }
     ensures answers { result ≢ 5 → result ≢ 6 → result ≢ 8
         → (bytes : List ℕ) × AnswersWords (S.holds shelf.old) (asked_of (map string_bytes words.now)) result bytes × Appends (K.written out.old) (K.written out.new) bytes }
+    // Where the shelf tells its files, no status comes but that of the row that the files have, for faults and want of memory aside.
+    ensures exact { (files : Files) (status : ℕ) (bytes : List ℕ) → S.holds shelf.old ≡ Some files → AnswersWords (Some files) (asked_of (map string_bytes words.now)) status bytes → IsOfRow status result }
+    // At every status what was printed is a front of what the table says.
+    ensures part { PrintsPart (S.holds shelf.old) (asked_of (map string_bytes words.now)) (K.written out.old) (K.written out.new) }
     ensures unread { result ≡ 5 → NamedRose (asked_of (map string_bytes words.now)) (S.read_faults shelf.old) (S.read_faults shelf.new) × (out.new ≡ out.old) }
     ensures unwritten { result ≡ 6 → Rose (K.faults out.old) (K.faults out.new) }
     ensures holds { S.holds shelf.new ≡ S.holds shelf.old }
