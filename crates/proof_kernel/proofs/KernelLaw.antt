@@ -43,6 +43,18 @@ wide_found s stack items step found before i m f e =
     let made : IsMadeFirst s (reverse stack) step TooWide = subst (λ l. IsMadeFirst s (reverse l) step TooWide) i (subst (λ x. IsMadeFirst s (reverse items) step x) f m) in
     subst (λ p. IsWide p step) e (is_wide (reverse stack) step s made)
 
+applied_at : (s : ℕ) (left : List Sequent) (step : Step) (found : Made) → IsMadeFirst s left step found → (found ≡ TooWide → ⊥) → (found ≡ Nothing → ⊥) → (after : Progress) × Applies (at s left) step after
+applied_at s left step TooWide m t n = absurd (t refl)
+applied_at s left step Nothing m t n = absurd (n refl)
+applied_at s [] step (Premises found) m t n = absurd (cc)
+applied_at s (q ∷ qs) step (Premises found) m t n =
+    (at (s + 1) (found.items ++ qs), record { first = q; others = qs; premises = found.items; was = refl; gives = m; is = refl })
+
+-- so the step can be done there
+pub done_found : (s : ℕ) (stack items : List Sequent) (step : Step) (found : Made) (before : Progress) → items ≡ stack → IsMadeFirst s (reverse items) step found → (found ≡ TooWide → ⊥) → (found ≡ Nothing → ⊥) → at s (reverse stack) ≡ before → (after : Progress) × Applies before step after
+done_found s stack items step found before i m t n e =
+    subst (λ p. (after : Progress) × Applies p step after) e (applied_at s (reverse stack) step found (subst (λ l. IsMadeFirst s (reverse l) step found) i m) t n)
+
 pub same_step : (s : ℕ) (left : List Sequent) (before : Progress) → at s left ≡ before → s ≡ before.step
 same_step s left before e = ap (λ p. p.step) e
 
