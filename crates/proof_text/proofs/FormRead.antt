@@ -9,6 +9,7 @@ use Rattle.proof_text.specs.ProofTextWords.{◌>>=◌}
 use Rattle.proof_text.specs.ProofTextLines.{Said, Line, passed, heading, step, «end», line_by_head, line_of}
 use Rattle.proof_text.specs.ProofFileForm.{SaidStep, SaidProof, IsComment, StepLines, ProofLines, ProofsLines, IsOther, NoTwoAlike, HasForm, AreLines, BeginsFile}
 use Rattle.proof_text.specs.ProofTextFile.{State, start, between, within, is_proved, state_after, next_state, or_bad, and_then, state_after_all}
+use Rattle.proof_text.proofs.CommentLaw.{passed_comment}
 use Rattle.proof_text.proofs.FormRuns.{run_append, said_at, owner_same, header, headed_run, form_run}
 
 -- ---- what leads from a state to the end of a proof
@@ -61,7 +62,7 @@ from_between : (text : List ℕ) (texts : List (List ℕ)) (ps qs : List SaidPro
 from_between text texts ps qs n None lead is e = absurd (cc)
 from_between text texts ps qs n (Some passed) lead is e =
     let r : MoreProofs ps (n + 1) texts qs = lead (between ps) qs (n + 1) e in
-    record { proofs = r.proofs; lines = ProofsLines.comment is r.lines; whole = r.whole }
+    record { proofs = r.proofs; lines = ProofsLines.comment (passed_comment text is) r.lines; whole = r.whole }
 from_between text texts ps qs n (Some (heading k o)) lead is e = opened text texts ps qs n k o (is_proved k o ps) lead is e
 from_between text texts ps qs n (Some (step said)) lead is e = absurd (cc)
 from_between text texts ps qs n (Some «end») lead is e = absurd (cc)
@@ -109,7 +110,7 @@ from_within : (text : List ℕ) (texts : List (List ℕ)) (ps qs : List SaidProo
 from_within text texts ps qs k o done n None lead is e = absurd (cc)
 from_within text texts ps qs k o done n (Some passed) lead is e =
     let r : RestOfProof ps k o done (n + 1) texts qs = lead (within ps k o done) qs (n + 1) e in
-    one_more text texts ps qs k o done [] n (λ body steps lines. StepLines.comment is lines) (subst (λ d. RestOfProof ps k o d (n + 1) texts qs) (sym (append-nil done)) r)
+    one_more text texts ps qs k o done [] n (λ body steps lines. StepLines.comment (passed_comment text is) lines) (subst (λ d. RestOfProof ps k o d (n + 1) texts qs) (sym (append-nil done)) r)
 from_within text texts ps qs k o done n (Some (heading m w)) lead is e = absurd (cc)
 from_within text texts ps qs k o done n (Some (step said)) lead is e =
     one_more text texts ps qs k o done (record { line = n; step = said } ∷ []) n (λ body steps lines. StepLines.one_step is lines)

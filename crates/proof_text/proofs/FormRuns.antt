@@ -9,6 +9,7 @@ use Rattle.proof_text.specs.ProofTextWords.{◌>>=◌}
 use Rattle.proof_text.specs.ProofTextLines.{Said, Line, passed, heading, step, «end», line_of}
 use Rattle.proof_text.specs.ProofFileForm.{SaidStep, SaidProof, IsComment, StepLines, ProofLines, ProofsLines, IsOther, NoTwoAlike, HasForm, AreLines, BeginsFile}
 use Rattle.proof_text.specs.ProofTextFile.{State, start, between, within, is_proved, state_after, next_state, or_bad, and_then, state_after_all}
+use Rattle.proof_text.proofs.CommentLaw.{comment_passed}
 
 -- ---- lines after others
 
@@ -36,7 +37,7 @@ steps_run ps k o rest {n = n} done StepLines.no_step =
 steps_run ps k o rest {n = n} done (StepLines.comment {text = text} {texts = texts} {steps = steps} e lines) =
     let s : State = within ps k o done in
     let number : n + 1 + length texts ≡ n + suc (length texts) = omega arith in
-    ap (λ l. and_then (or_bad n (l >>= state_after s n)) (λ t. state_after_all (texts ++ rest) t (n + 1))) e
+    ap (λ l. and_then (or_bad n (l >>= state_after s n)) (λ t. state_after_all (texts ++ rest) t (n + 1))) (comment_passed text e)
     ∙ (steps_run ps k o rest done lines ∙ ap (state_after_all rest (within ps k o (done ++ steps))) number)
 steps_run ps k o rest {n = n} done (StepLines.one_step {text = text} {texts = texts} {said = said} {steps = steps} e lines) =
     let s : State = within ps k o done in
@@ -99,7 +100,7 @@ pub proofs_run : {n : ℕ} {texts : List (List ℕ)} {proofs : List SaidProof} (
     state_after_all texts (between ps) n ≡ Ok (between (ps ++ proofs))
 proofs_run ps ProofsLines.no_proof distinct = ap (λ l. Ok (between l)) (sym (append-nil ps))
 proofs_run {n = n} ps (ProofsLines.comment {text = text} {texts = texts} e lines) distinct =
-    ap (λ l. and_then (or_bad n (l >>= state_after (between ps) n)) (λ t. state_after_all texts t (n + 1))) e ∙ proofs_run ps lines distinct
+    ap (λ l. and_then (or_bad n (l >>= state_after (between ps) n)) (λ t. state_after_all texts t (n + 1))) (comment_passed text e) ∙ proofs_run ps lines distinct
 proofs_run {n = n} ps (ProofsLines.one_proof {own = own} {texts = texts} {proof = proof} {proofs = proofs} p lines) distinct =
     proof_run ps proofs n own texts proof p (is_new ps proofs proof distinct)
     ∙ (proofs_run (ps ++ proof ∷ []) lines (subst NoTwoAlike (sym (append_assoc ps (proof ∷ []) proofs)) distinct)

@@ -1,3 +1,4 @@
+pub mod CommentLaw
 pub mod EndLemmas
 pub mod FormBytes
 pub mod FormLaw

@@ -8,7 +8,7 @@ use Rattle.std.specs.List.{list_any}
 use Rattle.proof_text.specs.declared.proof.NumberedStep.{NumberedStep}
 use Rattle.proof_text.specs.declared.proof.Proof.{Proof}
 use Rattle.proof_text.specs.declared.proof.ProofFile.{ProofFile}
-use Rattle.proof_text.specs.ProofTextLines.{Said, Says, passed, heading, step, «end», line_of}
+use Rattle.proof_text.specs.ProofTextLines.{Said, Says, heading, step, «end», line_of}
 
 -- ---- what a file says
 
@@ -40,7 +40,8 @@ SaysProof table said proof =
 
 -- empty, or begins with `#`
 abbrev pub IsComment : List ℕ → Type 0
-IsComment text = line_of text ≡ Some passed
+IsComment [] = Unit {0}
+IsComment (b ∷ bs) = b ≡ 35
 
 -- the lines, of which the first has this number, are these steps
 pub data StepLines : ℕ → List (List ℕ) → List SaidStep → Type 0 where
