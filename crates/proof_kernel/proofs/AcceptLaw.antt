@@ -1,7 +1,5 @@
 -- The kernel accepts exactly the proofs, and refuses at one place.
-use Rattle.std.proofs.Common.{◌≡◌, ◌↔◌, ℕ, zero, suc, ◌+◌, ◌<◌, ◌≤◌, ◌==◌, ◌&&◌, Bool, true, false, cond, List, [], ◌∷◌, ◌++◌, length, map, Option, Some, None, ◌⊎◌, inl, inr, refl, sym, ◌∙◌, ap, subst, arith, add-one, true≢false}
-use Rattle.std.specs.Prelude.{nat_lt}
-use Rattle.std.specs.List.{list_all}
+use Rattle.std.proofs.Common.{◌≡◌, ◌↔◌, ℕ, suc, ◌+◌, ◌<◌, ◌==◌, ◌&&◌, Bool, true, false, cond, List, [], ◌∷◌, ◌++◌, map, Option, Some, None, ◌⊎◌, inl, inr, refl, sym, ap, subst, arith, add-one}
 use Rattle.std.proofs.lemmas.Bool.Decides.{nat_tests}
 use Rattle.text_core.specs.declared.name.Name.{Name}
 use Rattle.logic_term.specs.declared.kinds.Label2.{Label2}
@@ -13,12 +11,11 @@ use Rattle.proof_kernel.specs.declared.step.Multiple.{Multiple}
 use Rattle.proof_kernel.specs.declared.step.Reference.{Reference}
 use Rattle.proof_kernel.specs.declared.step.Reference.TheVariants.{Goal, Hyp as Of, Back}
 use Rattle.proof_kernel.specs.declared.step.Step.{Step}
-use Rattle.proof_kernel.specs.declared.step.Step.TheVariants.{Intro, Hyp, Split, Range, Lin}
-use Rattle.proof_kernel.specs.Rules.{label, same_label, hypothesis, with_goal, assuming, declaring, Intros, stop, by_premise, by_variable, lower_bound, upper_bound, ranged}
-use Rattle.proof_kernel.specs.Linear.{Difference, row_of, row_back, row_if_found, referred, AreRows, Certifies}
+use Rattle.proof_kernel.specs.Rules.{label, same_label, hypothesis, with_goal, assuming, declaring, Intros, stop, by_premise, by_variable, lower_bound, upper_bound}
+use Rattle.proof_kernel.specs.Linear.{Difference, row_of, row_back, row_if_found, referred, AreRows}
 use Rattle.proof_kernel.specs.Derivation.{Gives, by_intro, by_hyp, by_split, by_range, by_lin, Derives, no_step, one_step, IsProof}
 use Rattle.proof_kernel.specs.Progress.{Progress}
-use Rattle.proof_kernel.specs.Kernel.{Applies, is_above, is_reference_above, are_above, cites_above}
+use Rattle.proof_kernel.specs.Kernel.{is_above, is_reference_above, are_above, cites_above}
 use Rattle.proof_kernel.specs.Accepts.{Does, Runs, none, more, begun, Accepts, RefusesFrom, here, later, «open», Refuses}
 use Rattle.proof_kernel.proofs.Derived.{applied_derives, derives_then}
 use Rattle.proof_kernel.proofs.Once.{applies_once}

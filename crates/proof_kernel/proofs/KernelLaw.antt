@@ -1,9 +1,5 @@
 -- What the kernel finds and does, on lists.
-use Rattle.std.proofs.Common.{◌≡◌, ◌↔◌, ℕ, ◌<◌, List, [], ◌∷◌, ◌++◌, ◌+◌, ◌-◌, length, map, take, get_or, true, reverse, Option, Some, None, refl, sym, ◌∙◌, ap, subst, arith}
-use Rattle.std.specs.Prelude.{MatchOption, slice_get}
-use Rattle.std.specs.Option.{option_to_list}
-use Rattle.std.proofs.lemmas.List.{reverse-append, reverse-reverse, append-nil, length-reverse, get_or-reverse}
-use Rattle.std.proofs.lemmas.Option.{slice_get-get_or}
+use Rattle.std.proofs.Common.{◌≡◌, ℕ, List, [], ◌∷◌, ◌++◌, ◌+◌, map, true, reverse, Some, refl, sym, ◌∙◌, ap, subst}
 use Rattle.text_core.specs.declared.name.Name.{Name}
 use Rattle.logic_term.specs.declared.kinds.Label2.{Label2}
 use Rattle.logic_term.specs.declared.kinds.IntKind.{IntKind}
@@ -20,8 +16,8 @@ use Rattle.proof_kernel.specs.Progress.{Progress}
 use Rattle.proof_kernel.specs.Derivation.{Gives, by_intro, by_hyp, by_split, by_range, by_lin}
 use Rattle.proof_kernel.specs.Linear.{Certifies}
 use Rattle.proof_kernel.specs.Rules.{hypothesis, sort_of, with_goal, is_conjunction, conjuncts, ranged, Intros, TakesSome}
-use Rattle.proof_kernel.specs.Kernel.{Applies, IsWide, first_of}
-use Rattle.proof_kernel.specs.Made.{IsMade, IsMadeFirst, GivesNothing, PassesWidthAt, others_of}
+use Rattle.proof_kernel.specs.Kernel.{Applies, IsWide}
+use Rattle.proof_kernel.specs.Made.{IsMadeFirst, PassesWidthAt}
 
 abbrev pub at : ℕ → List Sequent → Progress
 at s left = record { step = s; left = left }

@@ -1,8 +1,6 @@
-use Rattle.std.proofs.Common.{◌≡◌, true, reverse, refl}
-use Rattle.proof_kernel.specs.declared.kernel.Made.{Made}
+use Rattle.std.proofs.Common.{◌≡◌, reverse}
 use Rattle.proof_kernel.specs.declared.kernel.Made.TheVariants.{Premises, TooWide, Nothing}
-use Rattle.proof_kernel.specs.Progress.{Progress}
-use Rattle.proof_kernel.specs.Kernel.{Applies, IsWide, cites_above}
+use Rattle.proof_kernel.specs.Kernel.{IsWide}
 use Rattle.proof_kernel.proofs.KernelLaw.{wide_found, done_found, same_step}
 use Rattle.proof_kernel.proofs.Once.{wide_is_not_done}
 use Rattle.proof_kernel.proofs.kernel.Kernel.apply.Goals as goal
