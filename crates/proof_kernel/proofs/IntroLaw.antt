@@ -1,11 +1,11 @@
 -- Taking off what leads a goal, one at a time.
-use Rattle.std.proofs.Common.{◌≡◌, ◌≢◌, ℕ, suc, ◌+◌, Bool, true, false, List, [], ◌∷◌, ◌++◌, ◌↔◌, refl, sym, ◌∙◌, ap, subst, add-one, true≢false, arith}
+use Rattle.std.proofs.Common.{◌≡◌, ◌≢◌, ℕ, suc, ◌+◌, true, false, List, [], ◌∷◌, ◌↔◌, refl, sym, ◌∙◌, ap, subst, add-one, true≢false}
 use Rattle.text_core.specs.declared.name.Name.{Name}
 use Rattle.logic_term.specs.Ty.{Ty}
-use Rattle.logic_term.specs.Term.{Operator, both, either, implied, Quantifier, every, Term, Terms, var, lit, truth, apply, bind, no_terms, and_term, implies, forall}
+use Rattle.logic_term.specs.Term.{Term, var, implies, forall}
 use Rattle.logic_term.specs.Subst.{replaced}
 use Rattle.proof_kernel.specs.declared.sequent.Sequent.{Sequent}
-use Rattle.std.specs.Prelude.{Result, Ok, Err, IfOk, Option, Some, None, MatchOption, ◌⊎◌}
+use Rattle.std.specs.Prelude.{Result, Ok, Err, IfOk}
 use Rattle.std.proofs.Common.{inl, inr, ◌<◌, ◌≤◌, length, get_or, drop, drop-cons}
 use Rattle.std.proofs.lemmas.List.{drop_all}
 use Rattle.proof_kernel.specs.Leads.{is_quantified, IsStuck, IsDeclared}

@@ -1,9 +1,5 @@
 -- What the kernel finds and does, on lists.
-use Rattle.std.proofs.Common.{◌≡◌, ◌↔◌, ℕ, ◌<◌, List, [], ◌∷◌, ◌++◌, ◌+◌, ◌-◌, length, map, take, get_or, true, reverse, Option, Some, None, refl, sym, ◌∙◌, ap, subst, arith}
-use Rattle.std.specs.Prelude.{MatchOption, slice_get}
-use Rattle.std.specs.Option.{option_to_list}
-use Rattle.std.proofs.lemmas.List.{reverse-append, reverse-reverse, append-nil, length-reverse, get_or-reverse}
-use Rattle.std.proofs.lemmas.Option.{slice_get-get_or}
+use Rattle.std.proofs.Common.{◌≡◌, ℕ, List, [], ◌∷◌, ◌++◌, ◌+◌, map, true, reverse, Some, refl, sym, ◌∙◌, ap, subst}
 use Rattle.text_core.specs.declared.name.Name.{Name}
 use Rattle.logic_term.specs.declared.kinds.Label2.{Label2}
 use Rattle.logic_term.specs.declared.kinds.IntKind.{IntKind}
@@ -20,8 +16,8 @@ use Rattle.proof_kernel.specs.Progress.{Progress}
 use Rattle.proof_kernel.specs.Derivation.{Gives, by_intro, by_hyp, by_split, by_range, by_lin}
 use Rattle.proof_kernel.specs.Linear.{Certifies}
 use Rattle.proof_kernel.specs.Rules.{hypothesis, sort_of, with_goal, is_conjunction, conjuncts, ranged, Intros, TakesSome}
-use Rattle.proof_kernel.specs.Kernel.{Applies, IsWide, first_of}
-use Rattle.proof_kernel.specs.Made.{IsMade, IsMadeFirst, GivesNothing, PassesWidthAt, others_of}
+use Rattle.proof_kernel.specs.Kernel.{Applies, IsWide}
+use Rattle.proof_kernel.specs.Made.{IsMadeFirst, PassesWidthAt}
 
 abbrev pub at : ℕ → List Sequent → Progress
 at s left = record { step = s; left = left }
@@ -42,6 +38,18 @@ pub wide_found : (s : ℕ) (stack items : List Sequent) (step : Step) (found : M
 wide_found s stack items step found before i m f e =
     let made : IsMadeFirst s (reverse stack) step TooWide = subst (λ l. IsMadeFirst s (reverse l) step TooWide) i (subst (λ x. IsMadeFirst s (reverse items) step x) f m) in
     subst (λ p. IsWide p step) e (is_wide (reverse stack) step s made)
+
+applied_at : (s : ℕ) (left : List Sequent) (step : Step) (found : Made) → IsMadeFirst s left step found → (found ≡ TooWide → ⊥) → (found ≡ Nothing → ⊥) → (after : Progress) × Applies (at s left) step after
+applied_at s left step TooWide m t n = absurd (t refl)
+applied_at s left step Nothing m t n = absurd (n refl)
+applied_at s [] step (Premises found) m t n = absurd (cc)
+applied_at s (q ∷ qs) step (Premises found) m t n =
+    (at (s + 1) (found.items ++ qs), record { first = q; others = qs; premises = found.items; was = refl; gives = m; is = refl })
+
+-- so the step can be done there
+pub done_found : (s : ℕ) (stack items : List Sequent) (step : Step) (found : Made) (before : Progress) → items ≡ stack → IsMadeFirst s (reverse items) step found → (found ≡ TooWide → ⊥) → (found ≡ Nothing → ⊥) → at s (reverse stack) ≡ before → (after : Progress) × Applies before step after
+done_found s stack items step found before i m t n e =
+    subst (λ p. (after : Progress) × Applies p step after) e (applied_at s (reverse stack) step found (subst (λ l. IsMadeFirst s (reverse l) step found) i m) t n)
 
 pub same_step : (s : ℕ) (left : List Sequent) (before : Progress) → at s left ≡ before → s ≡ before.step
 same_step s left before e = ap (λ p. p.step) e

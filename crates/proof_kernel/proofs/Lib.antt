@@ -1,3 +1,4 @@
+pub mod AcceptLaw
 pub mod Derived
 pub mod IntroLaw
 pub mod KernelLaw

@@ -95,6 +95,12 @@ outcome_fails ds ms table rows by m h g n =
 
 -- ---- the answer for the sequent
 
+-- the third answer, where neither of the others is due
+neither : (P Q : Type 0) (a : LinAnswer) → ((a ≡ Closes) ↔ P) → ((a ≡ TooWide) ↔ Q) → (a ≡ Fails) ↔ ((P → ⊥) × (Q → ⊥))
+neither P Q Closes p q = ((λ e. absurd (cc)), (λ n. absurd (n.0 (p.0 refl))))
+neither P Q TooWide p q = ((λ e. absurd (cc)), (λ n. absurd (n.1 (q.0 refl))))
+neither P Q Fails p q = ((λ e. ((λ x. let f : Fails ≡ Closes = p.1 x in absurd (cc)), (λ x. let f : Fails ≡ TooWide = q.1 x in absurd (cc)))), (λ n. refl))
+
 module _ (q : Sequent) (ms : List Multiple) (ss : List Sides) (are_rows : AreRows q ms (map difference ss)) where
   pub sides_length : length ss ≡ length ms
   sides_length = sym (length-map ss difference) ∙ rows_length q ms (map difference ss) are_rows
@@ -119,3 +125,7 @@ module _ (q : Sequent) (ms : List Multiple) (ss : List Sides) (are_rows : AreRow
   pub wide_of : {E : Type 0} (r : Result LinAnswer E) → IfOk r (λ a. IsOutcomeOf a (map difference ss) ms) → IfOk r (λ a. (a ≡ TooWide) ↔ PassesWidth q ms)
   wide_of (Ok a) h = ((λ e. wide_from (h.1.0 e)), (λ w. h.1.1 (from_wide w)))
   wide_of (Err e) h = tt
+
+  pub fails_of : {E : Type 0} (r : Result LinAnswer E) → IfOk r (λ a. IsOutcomeOf a (map difference ss) ms) → IfOk r (λ a. (a ≡ Fails) ↔ ((Certifies q ms → ⊥) × (PassesWidth q ms → ⊥)))
+  fails_of (Ok a) h = neither (Certifies q ms) (PassesWidth q ms) a ((λ e. certifies_from (h.0.0 e)), (λ c. h.0.1 (from_certifies c))) ((λ e. wide_from (h.1.0 e)), (λ w. h.1.1 (from_wide w)))
+  fails_of (Err e) h = tt

@@ -1,27 +1,27 @@
 -- Each rule is sound: where its premises are true, the sequent is.
 use Rattle.std.proofs.Common.{◌≡◌, ℕ, suc, ◌==◌, ◌||◌, ◌&&◌, not, Bool, true, false, cond, List, [], ◌∷◌, ◌++◌, map, Option, Some, None, ◌⊎◌, inl, inr, refl, sym, ◌∙◌, ap, subst, arith, true≢false}
-use Rattle.std.specs.Prelude.{ℤ, int_le}
+use Rattle.std.specs.Prelude.{int_le}
 use Rattle.std.proofs.lemmas.Bool.Decides.{nat_tests}
 use Rattle.text_core.specs.declared.name.Name.{Name}
 use Rattle.logic_term.specs.declared.kinds.Label2.{Label2}
 use Rattle.logic_term.specs.declared.kinds.IntKind.{IntKind}
 use Rattle.logic_term.specs.Ty.{Ty, int, math_int}
-use Rattle.logic_term.specs.Range.{lowest, highest, fits}
+use Rattle.logic_term.specs.Range.{lowest, highest}
 use Rattle.logic_term.specs.Value.{Value, Number, integer_of}
 use Rattle.logic_term.specs.Sort.{HasSort, instance}
-use Rattle.logic_term.specs.Term.{Operator, modeled, negated, denied, less, at_most, equal, both, either, implied, Term, Terms, var, lit, truth, apply, bind, no_terms, and_term, model, and, is_at_most, implies, forall}
-use Rattle.logic_term.specs.Meaning.{Structure, Env, with_value, Means, Holds}
+use Rattle.logic_term.specs.Term.{both, Term, var, lit, apply, no_terms, and_term, model, forall}
+use Rattle.logic_term.specs.Meaning.{Structure, Env, with_value, Holds}
 use Rattle.logic_term.specs.Free.{free}
 use Rattle.logic_term.specs.Subst.{replaced}
 use Rattle.logic_term.proofs.Alike.{alike_same, yes_alike}
 use Rattle.logic_term.proofs.Coincide.{with_same}
-use Rattle.logic_term.proofs.FreeLaw.{AgreeOn, coincide_free, unused_means, same_name, same_test}
+use Rattle.logic_term.proofs.FreeLaw.{coincide_free, unused_means, same_name, same_test}
 use Rattle.logic_term.proofs.SortLaw.{int_value}
 use Rattle.logic_term.proofs.SubstLaw.{replaced_means}
 use Rattle.logic_term.proofs.Truth.{holds_and, holds_implies, holds_forall, holds_at_most, computes_model}
 use Rattle.proof_kernel.specs.declared.sequent.Sequent.{Sequent}
 use Rattle.proof_kernel.specs.Sequent.{InSorts, AllHold, IsTrueAt, AllTrueAt}
-use Rattle.proof_kernel.specs.Rules.{label, same_label, hypothesis, sort_of, free_in_hyps, IsNew, with_goal, assuming, declaring, is_implication, Intros, stop, by_premise, by_variable, conjuncts, lower_bound, upper_bound, ranged}
+use Rattle.proof_kernel.specs.Rules.{label, same_label, hypothesis, sort_of, free_in_hyps, with_goal, assuming, declaring, Intros, stop, by_premise, by_variable, conjuncts, lower_bound, upper_bound, ranged}
 
 or_false : (a b : Bool) → (a || b) ≡ false → (a ≡ false) × (b ≡ false)
 or_false false b e = (refl, e)

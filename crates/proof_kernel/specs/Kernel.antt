@@ -1,5 +1,5 @@
 -- What the kernel makes of a step.
-use Rattle.std.specs.Prelude.{◌≡◌, ℕ, ◌+◌, ◌<◌, Bool, true, List, [], ◌∷◌, ◌++◌, Option, Some, None, ◌&&◌, nat_lt}
+use Rattle.std.specs.Prelude.{◌≡◌, ◌⊎◌, ℕ, ◌+◌, Bool, true, List, [], ◌∷◌, ◌++◌, Option, Some, None, Result, Err, ◌&&◌, nat_lt}
 use Rattle.std.specs.List.{list_all}
 use Rattle.logic_term.specs.declared.kinds.Label2.{Label2}
 use Rattle.proof_kernel.specs.declared.sequent.Sequent.{Sequent}
@@ -8,6 +8,8 @@ use Rattle.proof_kernel.specs.declared.step.Reference.{Reference}
 use Rattle.proof_kernel.specs.declared.step.Reference.TheVariants.{Goal, Hyp as Of, Back}
 use Rattle.proof_kernel.specs.declared.step.Step.{Step}
 use Rattle.proof_kernel.specs.declared.step.Step.TheVariants.{Intro, Hyp, Split, Range, Lin}
+use Rattle.proof_kernel.specs.declared.kernel.StepError.{StepError}
+use Rattle.proof_kernel.specs.declared.kernel.StepError.TheVariants.{NoMemory}
 use Rattle.proof_kernel.specs.Progress.{Progress}
 use Rattle.proof_kernel.specs.Derivation.{Gives}
 use Rattle.proof_kernel.specs.Linear.{PassesWidth}
@@ -53,3 +55,30 @@ pub record IsWide (before : Progress) (step : Step) : Type 0 where
   pub was : before.left ≡ first ∷ others
   pub is_lin : step ≡ Lin multiples
   pub passes : PassesWidth first multiples
+
+-- no case of the rules fits the step at the first sequent
+abbrev pub NothingApplies : Progress → Step → Type 0
+NothingApplies before step = (after : Progress) → Applies before step after → ⊥
+
+-- ---- which answer comes
+
+-- the step cites only steps above it, and can be done
+pub record CanBeDone (before : Progress) (step : Step) : Type 0 where
+  pub cites : cites_above before.step step ≡ true
+  pub after : Progress
+  pub applies : Applies before step after
+
+-- it cites only steps above it, and a number of its certificate passes 128 bits
+pub record IsTooWide (before : Progress) (step : Step) : Type 0 where
+  pub cites : cites_above before.step step ≡ true
+  pub wide : IsWide before step
+
+-- it cites only steps above it, no number passes 128 bits, and no case of the rules fits
+pub record FitsNoRule (before : Progress) (step : Step) : Type 0 where
+  pub cites : cites_above before.step step ≡ true
+  pub narrow : ¬ (IsWide before step)
+  pub fails : NothingApplies before step
+
+-- the result is this answer, or memory was refused
+abbrev pub UnlessNoMemory : Result (Unit {0}) StepError → Result (Unit {0}) StepError → Type 0
+UnlessNoMemory result answer = (result ≡ answer) ⊎ (result ≡ Err NoMemory)

@@ -1,5 +1,5 @@
 -- What is true of the definitions.
-use Rattle.std.specs.Prelude.{◌≡◌, ℕ, List}
+use Rattle.std.specs.Prelude.{◌≡◌, ◌↔◌, ℕ, List}
 use Rattle.logic_term.specs.Sort.{Declarations}
 use Rattle.logic_term.specs.Meaning.{Structure}
 use Rattle.logic_term.specs.declared.obligation.Obligation.{Obligation}
@@ -9,6 +9,7 @@ use Rattle.proof_kernel.specs.Sequent.{IsTrueAt, AllTrueAt, IsTrueObligation}
 use Rattle.proof_kernel.specs.Derivation.{Gives, IsProof}
 use Rattle.proof_kernel.specs.Progress.{Progress}
 use Rattle.proof_kernel.specs.Kernel.{Applies, IsWide}
+use Rattle.proof_kernel.specs.Accepts.{Accepts, Refuses}
 
 -- the goal of an obligation that has a proof is true at all declarations
 abbrev pub DerivedIsTrue : Type 0
@@ -25,3 +26,12 @@ StepsGiveOneResult = (before after other : Progress) (step : Step) → Applies b
 -- a step that is too wide cannot be done
 abbrev pub WideIsNotDone : Type 0
 WideIsNotDone = (before after : Progress) (step : Step) → IsWide before step → Applies before step after → ⊥
+
+-- what the kernel accepts is what is a proof
+abbrev pub AcceptsExactlyProofs : Type 0
+AcceptsExactlyProofs = (o : Obligation) (steps : List Step) → Accepts o steps ↔ IsProof o steps
+
+-- steps are refused at one place at most, and at none where they are accepted
+pub record RefusesOnce : Type 0 where
+  pub one_place : (o : Obligation) (steps : List Step) (m n : ℕ) → Refuses o steps m → Refuses o steps n → m ≡ n
+  pub not_accepted : (o : Obligation) (steps : List Step) (n : ℕ) → Accepts o steps → Refuses o steps n → ⊥

@@ -2,7 +2,7 @@
 use Rattle.std.specs.Prelude.{◌≡◌, Bool, true, false, ◌⊎◌}
 use Rattle.text_core.specs.declared.name.Name.{Name}
 use Rattle.logic_term.specs.Ty.{Ty}
-use Rattle.logic_term.specs.Term.{Quantifier, every, some, Term, apply, bind, var, implies, forall}
+use Rattle.logic_term.specs.Term.{every, Term, bind, var, implies, forall}
 use Rattle.logic_term.specs.Subst.{replaced}
 use Rattle.proof_kernel.specs.declared.sequent.Sequent.{Sequent}
 use Rattle.proof_kernel.specs.declared.rules.Lead.{Lead}

@@ -1,3 +1,4 @@
+pub mod Accepts
 pub mod Derivation
 pub mod Kernel
 pub mod Laws

@@ -3,10 +3,9 @@
 use Rattle.std.specs.Prelude.{◌≡◌, ℕ, ◌<◌, Bool, true, false, List, [], ◌∷◌, length, Option, Some, None, ℤ, pos, neg_ℤ, ◌+ℤ◌, ◌-ℤ◌, ◌*ℤ◌, ◌<ℤ◌, ◌≤ℤ◌, if◌then◌else◌, FitsSigned, All}
 use Rattle.std.specs.Int.{w128}
 use Rattle.text_core.specs.declared.name.Name.{Name}
-use Rattle.logic_term.specs.declared.kinds.Label2.{Label2}
 use Rattle.logic_term.specs.declared.kinds.ArithOp.TheVariants.{Add, Sub}
 use Rattle.logic_term.specs.Ty.{Ty, math_int}
-use Rattle.logic_term.specs.Term.{Operator, modeled, negated, denied, arith, less, at_most, equal, both, either, implied, Term, Terms, var, lit, truth, apply, bind, no_terms, and_term}
+use Rattle.logic_term.specs.Term.{modeled, negated, denied, arith, less, at_most, equal, Term, var, lit, apply, no_terms, and_term}
 use Rattle.logic_term.specs.Same.{same_term}
 use Rattle.proof_kernel.specs.declared.sequent.Sequent.{Sequent}
 use Rattle.proof_kernel.specs.declared.step.Multiple.{Multiple}

@@ -2,7 +2,7 @@
 use Rattle.std.specs.Prelude.{◌≡◌, ℕ, List, [], ◌∷◌}
 use Rattle.proof_kernel.specs.declared.sequent.Sequent.{Sequent}
 use Rattle.proof_kernel.specs.declared.step.Step.{Step}
-use Rattle.proof_kernel.specs.declared.step.Step.TheVariants.{Intro, Hyp, Split, Range, Lin}
+use Rattle.proof_kernel.specs.declared.step.Step.TheVariants.{Lin}
 use Rattle.proof_kernel.specs.declared.kernel.Made.{Made}
 use Rattle.proof_kernel.specs.declared.kernel.Made.TheVariants.{Premises, TooWide, Nothing}
 use Rattle.proof_kernel.specs.Linear.{PassesWidth}

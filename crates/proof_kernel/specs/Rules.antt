@@ -1,16 +1,14 @@
 -- What each step makes of the first sequent, one case a rule.
-use Rattle.std.specs.Prelude.{◌≡◌, ◌≢◌, ℕ, suc, ◌+◌, ◌==◌, ◌||◌, ◌&&◌, Bool, true, false, List, [], ◌∷◌, ◌++◌, map, Option, Some, None, if◌then◌else◌}
+use Rattle.std.specs.Prelude.{◌≡◌, ℕ, suc, ◌==◌, ◌||◌, ◌&&◌, Bool, true, false, List, [], ◌∷◌, ◌++◌, Option, Some, None, if◌then◌else◌}
 use Rattle.text_core.specs.declared.name.Name.{Name}
 use Rattle.logic_term.specs.declared.kinds.Label2.{Label2}
 use Rattle.logic_term.specs.declared.kinds.IntKind.{IntKind}
-use Rattle.logic_term.specs.Ty.{Ty, int, math_int}
+use Rattle.logic_term.specs.Ty.{Ty, math_int}
 use Rattle.logic_term.specs.Range.{lowest, highest}
-use Rattle.logic_term.specs.Term.{Operator, both, implied, Quantifier, Term, Terms, var, lit, truth, apply, bind, no_terms, and_term, model, is_at_most, implies, forall}
+use Rattle.logic_term.specs.Term.{both, implied, Term, var, lit, apply, no_terms, and_term, model, is_at_most, implies, forall}
 use Rattle.logic_term.specs.Free.{free}
-use Rattle.logic_term.specs.Subst.{replaced, SameUpToNames}
+use Rattle.logic_term.specs.Subst.{replaced}
 use Rattle.proof_kernel.specs.declared.sequent.Sequent.{Sequent}
-use Rattle.proof_kernel.specs.declared.step.Step.{Step}
-use Rattle.proof_kernel.specs.declared.step.Step.TheVariants.{Intro, Hyp, Split, Range, Lin}
 
 -- ---- labels, variables and hypotheses
 

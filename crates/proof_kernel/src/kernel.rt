@@ -1,9 +1,8 @@
-ghost use Rattle.std.specs.Prelude.{◌≡◌, ◌↔◌, ℕ, ◌+◌, ◌<◌, ◌^◌, ◌∷◌, ◌++◌, [], true, false, reverse, IfOk, OnOk, OnErr, IsTrue, Err};
+ghost use Rattle.std.specs.Prelude.{◌≡◌, ◌↔◌, ℕ, ◌+◌, ◌<◌, ◌^◌, ◌∷◌, ◌++◌, [], true, false, reverse, IfOk, OnOk, OnErr, IsTrue, Ok, Err};
 ghost use Rattle.std.specs.Option.{option_copied};
 ghost use Rattle.proof_kernel.specs.declared.step.Step.TheVariants as kinds;
 ghost use Rattle.proof_kernel.specs.Sequent.{sequent_of};
-ghost use Rattle.proof_kernel.specs.Progress.{Progress};
-ghost use Rattle.proof_kernel.specs.Kernel.{Applies, IsWide, first_of, is_above, is_reference_above, are_above, cites_above};
+ghost use Rattle.proof_kernel.specs.Kernel.{Applies, CanBeDone, FitsNoRule, IsTooWide, IsWide, NothingApplies, UnlessNoMemory, first_of, is_above, is_reference_above, are_above, cites_above};
 ghost use Rattle.proof_kernel.specs.Made.{IsMade, IsMadeFirst, others_of};
 
 use crate::linear::{LinAnswer, certifies};
@@ -236,13 +235,22 @@ impl Kernel {
 
     /// Does the step at the first sequent, whose place its premises take. A refused step changes nothing. `UnknownStep`
     /// is looked at first, and `TooWide` before `RuleFails`.
+    ///
+    /// # Errors
+    ///
+    /// `UnknownStep` where a cited step is not above this one, `TooWide` where else a number of the certificate passes
+    /// 128 bits, `RuleFails` where else no rule fits, each with the number of this step; and `NoMemory`.
     pub fn apply(&mut self, alloc: Global, step: &Step) -> Result<(), StepError>
         requires { self.old.step + 1 < 2 ^ 32 }
         ensures ok { OnOk result (Applies self.old step.now self.new × (cites_above self.old.step step.now ≡ true)) }
         ensures err { OnErr result (self.new ≡ self.old) }
         ensures unknown { (n : ℕ) → (result ≡ Err (StepError.UnknownStep n)) ↔ ((n ≡ self.old.step) × (cites_above self.old.step step.now ≡ false)) }
         ensures wide { (n : ℕ) → result ≡ Err (StepError.TooWide n) → (n ≡ self.old.step) × (cites_above self.old.step step.now ≡ true) × IsWide self.old step.now }
-        ensures fails { (n : ℕ) → result ≡ Err (StepError.RuleFails n) → (n ≡ self.old.step) × (cites_above self.old.step step.now ≡ true) × (IsWide self.old step.now → ⊥) × ((after : Progress) → Applies self.old step.now after → ⊥) }
+        ensures fails { (n : ℕ) → result ≡ Err (StepError.RuleFails n) → (n ≡ self.old.step) × (cites_above self.old.step step.now ≡ true) × (IsWide self.old step.now → ⊥) × NothingApplies self.old step.now }
+        // And each answer comes where it is due, or memory was refused.
+        ensures done_where_due { CanBeDone self.old step.now → UnlessNoMemory result (Ok tt) }
+        ensures wide_where_due { IsTooWide self.old step.now → UnlessNoMemory result (Err (StepError.TooWide self.old.step)) }
+        ensures fails_where_due { FitsNoRule self.old step.now → UnlessNoMemory result (Err (StepError.RuleFails self.old.step)) }
     {
         let number = self.step;
         if !cites_in_order(number, step) {

@@ -1,5 +1,5 @@
 //! Laws of the definitions, which no code runs.
-ghost use Rattle.proof_kernel.specs.Laws.{DerivedIsTrue, RulesAreSound, StepsGiveOneResult, WideIsNotDone};
+ghost use Rattle.proof_kernel.specs.Laws.{AcceptsExactlyProofs, DerivedIsTrue, RefusesOnce, RulesAreSound, StepsGiveOneResult, WideIsNotDone};
 
 /// The goal of an obligation that has a proof is true.
 pub fn what_is_derived_is_true()
@@ -19,4 +19,15 @@ pub fn steps_give_one_result()
 /// A step whose certificate passes 128 bits cannot be done.
 pub fn wide_is_not_done()
     ensures { WideIsNotDone }
+{}
+
+/// The kernel accepts the steps of an obligation exactly where they are a proof of it. So every step that a rule gives a
+/// result on the way from an obligation cites only steps above it.
+pub fn proofs_are_accepted()
+    ensures { AcceptsExactlyProofs }
+{}
+
+/// The steps of an obligation are refused at one place at most, and nowhere where they are accepted.
+pub fn steps_are_refused_once()
+    ensures { RefusesOnce }
 {}

@@ -354,6 +354,7 @@ pub fn certifies(alloc: Global, q: &Sequent, multiples: &[Multiple]) -> Result<L
     requires { length multiples.now < 2 ^ 32 }
     ensures closes { IfOk result (λ answer. (answer ≡ LinAnswer.Closes) ↔ Certifies q.now multiples.now) }
     ensures wide { IfOk result (λ answer. (answer ≡ LinAnswer.TooWide) ↔ PassesWidth q.now multiples.now) }
+    ensures fails { IfOk result (λ answer. (answer ≡ LinAnswer.Fails) ↔ (¬ Certifies q.now multiples.now × ¬ PassesWidth q.now multiples.now)) }
 {
     match sides_of(alloc, q, multiples)? {
         Some(all) => outcome(alloc, all.as_slice(), multiples),

@@ -11,7 +11,7 @@ use Rattle.proof_text.specs.declared.reader.Stage.{Stage}
 use Rattle.proof_text.specs.declared.reader.Stage.TheVariants as stages
 use Rattle.proof_text.specs.declared.fault.ProofTextError.{ProofTextError}
 use Rattle.proof_text.specs.declared.fault.ProofTextError.TheVariants as errors
-use Rattle.proof_text.specs.ProofTextFile.{SaidProof, Each, SaysProof, State, start, between, within, and_then, state_after_all, proofs_at_end, proofs_of_pieces, proofs_of, SpellsProofs}
+use Rattle.proof_text.specs.ProofTextFile.{SaidProof, Each, SaysProof, State, start, between, within, and_then, state_after_all, proofs_at_end, proofs_of_pieces, proofs_of}
 use Rattle.proof_text.specs.ProofTextReads.{ReadsLines, SaysState, total_length}
 use Rattle.proof_text.proofs.StageLemmas.{now, pieces_short}
 
@@ -32,7 +32,7 @@ by_count xs x count e =
     ∙ ap (λ ys. and_then (state_after_all ys start 1) (proofs_at_end (length xs + 1) (get_or (xs ++ x ∷ []) (length xs) []))) (all_but_last xs x)
     ∙ ap (λ y. and_then (state_after_all xs start 1) (proofs_at_end (length xs + 1) y)) (the_last xs x)
 
-last_apart : (xs : List (List ℕ)) (x : List ℕ) → proofs_of_pieces (xs ++ x ∷ []) ≡ and_then (state_after_all xs start 1) (proofs_at_end (length xs + 1) x)
+pub last_apart : (xs : List (List ℕ)) (x : List ℕ) → proofs_of_pieces (xs ++ x ∷ []) ≡ and_then (state_after_all xs start 1) (proofs_at_end (length xs + 1) x)
 last_apart xs x = by_count xs x (length (xs ++ x ∷ []) - 1) (omega (arith, length-append xs (x ∷ [])))
 
 pub pieces_are : (pieces lines : List (Bor (List ℕ))) (rest : Bor (List ℕ)) → pieces ≡ lines ++ rest ∷ [] → proofs_of_pieces (map now pieces) ≡ and_then (state_after_all (map now lines) start 1) (proofs_at_end (length lines + 1) (now rest))
@@ -117,12 +117,16 @@ pub lines_short : (pieces lines : List (Bor (List ℕ))) (rest : Bor (List ℕ))
 lines_short pieces lines rest h =
     omega (arith, ap (λ ps. total_length (map now ps)) h, ap total_length (map-append now lines (rest ∷ [])), total_append (map now lines) (now rest))
 
+-- the bytes read line by line are this file
+abbrev pub ReadsAs : List (List ℕ) → List ℕ → ProofFile → Type 0
+ReadsAs table bytes file = (said : List SaidProof) × (proofs_of bytes ≡ Ok said) × Each (SaysProof table) said file.proofs
+
 -- what the pieces say, the bytes do
-pub spelled : (table : List (List ℕ)) (bytes : List ℕ) (pieces : List (List ℕ)) (file : ProofFile) → pieces ≡ slice_split (λ b. eqb b 10) bytes → ReadsLines {X = ProofFile} (SaysFile table) (Ok file) (proofs_of_pieces pieces) → SpellsProofs table bytes file
+pub spelled : (table : List (List ℕ)) (bytes : List ℕ) (pieces : List (List ℕ)) (file : ProofFile) → pieces ≡ slice_split (λ b. eqb b 10) bytes → ReadsLines {X = ProofFile} (SaysFile table) (Ok file) (proofs_of_pieces pieces) → ReadsAs table bytes file
 unfolding proofs_of
 spelled table bytes pieces file e h = by_result (proofs_of_pieces pieces) (ap proofs_of_pieces (sym e)) h
   where
-    by_result : (r : Result (List SaidProof) ℕ) → proofs_of_pieces (slice_split (λ b. eqb b 10) bytes) ≡ r → ReadsLines {X = ProofFile} (SaysFile table) (Ok file) r → SpellsProofs table bytes file
+    by_result : (r : Result (List SaidProof) ℕ) → proofs_of_pieces (slice_split (λ b. eqb b 10) bytes) ≡ r → ReadsLines {X = ProofFile} (SaysFile table) (Ok file) r → ReadsAs table bytes file
     by_result (Ok said) is h = (said, is, h)
     by_result (Err n) is h = absurd h
 
@@ -130,12 +134,9 @@ pub first_bad : (table : List (List ℕ)) (bytes : List ℕ) (pieces : List (Lis
 unfolding proofs_of
 first_bad table bytes pieces n e h = ap proofs_of_pieces (sym e) ∙ h
 
-pub ok_from : (table : List (List ℕ)) (bytes : List ℕ) (pieces : List (List ℕ)) (r : Result ProofFile ProofTextError) → pieces ≡ slice_split (λ b. eqb b 10) bytes → ReadsLines (SaysFile table) r (proofs_of_pieces pieces) → IfOk r (λ file. SpellsProofs table bytes file)
+pub ok_from : (table : List (List ℕ)) (bytes : List ℕ) (pieces : List (List ℕ)) (r : Result ProofFile ProofTextError) → pieces ≡ slice_split (λ b. eqb b 10) bytes → ReadsLines (SaysFile table) r (proofs_of_pieces pieces) → IfOk r (λ file. ReadsAs table bytes file)
 ok_from table bytes pieces (Ok file) e h = spelled table bytes pieces file e h
 ok_from table bytes pieces (Err p) e h = tt
 
 pub bad_from : (table : List (List ℕ)) (bytes : List ℕ) (pieces : List (List ℕ)) (r : Result ProofFile ProofTextError) (n : ℕ) → pieces ≡ slice_split (λ b. eqb b 10) bytes → ReadsLines (SaysFile table) r (proofs_of_pieces pieces) → r ≡ Err (errors.BadLine n) → proofs_of bytes ≡ Err n
 bad_from table bytes pieces r n e h is = first_bad table bytes pieces n e (subst (λ (q : Result ProofFile ProofTextError). ReadsLines (SaysFile table) q (proofs_of_pieces pieces)) is h)
-
-pub none_from : (table : List (List ℕ)) (bytes : List ℕ) (n : ℕ) (file : ProofFile) → proofs_of bytes ≡ Err n → SpellsProofs table bytes file → ⊥
-none_from table bytes n file bad spells = let said : proofs_of bytes ≡ Ok spells.0 = spells.1 in cc

@@ -1,4 +1,9 @@
+pub mod CommentLaw
 pub mod EndLemmas
+pub mod FormBytes
+pub mod FormLaw
+pub mod FormRead
+pub mod FormRuns
 pub mod KeptNames
 pub mod LineLemmas
 pub mod NumeralLemmas

@@ -1,4 +1,6 @@
+pub mod ProofFileForm
 pub mod ProofTextFile
+pub mod ProofTextLaws
 pub mod ProofTextLines
 pub mod ProofTextReads
 pub mod ProofTextWords

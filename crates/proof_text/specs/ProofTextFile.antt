@@ -1,36 +1,10 @@
--- What a proof file spells, and its first bad line.
+-- A proof file read from line to line: what it spells, or the number of its first bad line. `ProofFileForm` has the format.
 use Rattle.std.specs.Prelude.{◌≡◌, ℕ, ◌+◌, ◌-◌, List, [], ◌∷◌, ◌++◌, length, take, slice_index_or, codes, Bool, ◌&&◌, Option, None, Some, Result, Ok, Err, ◌==◌, if◌then◌else◌}
 use Rattle.std.specs.List.{list_any, slice_split}
 use Rattle.std.specs.Str.{bytes_eq}
-use Rattle.proof_text.specs.declared.proof.NumberedStep.{NumberedStep}
-use Rattle.proof_text.specs.declared.proof.Proof.{Proof}
-use Rattle.proof_text.specs.declared.proof.ProofFile.{ProofFile}
 use Rattle.proof_text.specs.ProofTextWords.{◌>>=◌}
-use Rattle.proof_text.specs.ProofTextLines.{Said, Says, Line, passed, heading, step, «end», line_of}
-
--- a step with its line, and a proof, with their names as texts
-pub record SaidStep : Type 0 where
-  pub line : ℕ
-  pub step : Said
-
-pub record SaidProof : Type 0 where
-  pub number : ℕ
-  pub owner : List ℕ
-  pub steps : List SaidStep
-  pub «end» : ℕ
-
--- item by item
-abbrev pub Each : {A B : Type 0} → (A → B → Type 0) → List A → List B → Type 0
-Each R [] [] = Unit {0}
-Each R (x ∷ xs) (y ∷ ys) = R x y × Each R xs ys
-Each R _ _ = ⊥
-
-abbrev pub SaysStep : List (List ℕ) → SaidStep → NumberedStep → Type 0
-SaysStep table said numbered = (said.line ≡ numbered.line) × Says table said.step numbered.step
-
-abbrev pub SaysProof : List (List ℕ) → SaidProof → Proof → Type 0
-SaysProof table said proof =
-    (said.number ≡ proof.number) × (said.owner ≡ proof.owner) × (said.«end» ≡ proof.«end») × Each (SaysStep table) said.steps proof.steps
+use Rattle.proof_text.specs.ProofTextLines.{Line, passed, heading, step, «end», line_of}
+pub use Rattle.proof_text.specs.ProofFileForm.{SaidStep, SaidProof, Each, SaysStep, SaysProof, SpellsProofs, IsFirstBadLine}
 
 -- before the first line; between two proofs, after these proofs; or within a proof, after these of its steps
 pub data State : Type 0 where
@@ -82,11 +56,3 @@ proofs_of_pieces pieces =
 -- the proofs that the bytes spell, or the number of the first bad line
 unfoldable pub proofs_of : List ℕ → Result (List SaidProof) ℕ
 proofs_of bytes = proofs_of_pieces (slice_split (λ b. b == 10) bytes)
-
--- the bytes spell the file, under the table's names
-abbrev pub SpellsProofs : List (List ℕ) → List ℕ → ProofFile → Type 0
-SpellsProofs table bytes file = (said : List SaidProof) × (proofs_of bytes ≡ Ok said) × Each (SaysProof table) said file.proofs
-
--- line n is the first bad one
-abbrev pub IsFirstBadLine : List ℕ → ℕ → Type 0
-IsFirstBadLine bytes n = proofs_of bytes ≡ Err n

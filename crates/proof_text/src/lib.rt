@@ -2,6 +2,7 @@
 #![tactic(auto)]
 
 mod fault;
+mod laws;
 mod line;
 mod proof;
 mod reader;
@@ -11,5 +12,6 @@ mod tests;
 mod word;
 
 pub use fault::ProofTextError;
+pub use laws::texts_have_one_reading;
 pub use proof::{NumberedStep, Proof, ProofFile};
 pub use reader::read_proofs;

@@ -1,7 +1,8 @@
-ghost use Rattle.std.specs.Prelude.{◌≡◌, ℕ, ◌+◌, ◌^◌, ◌<◌, ◌≤◌, ◌==◌, ◌&&◌, List, [], ◌∷◌, ◌++◌, length, map, IfOk, IsErrOf};
+ghost use Rattle.std.specs.Prelude.{◌≡◌, ℕ, ◌+◌, ◌^◌, ◌<◌, ◌≤◌, ◌==◌, ◌&&◌, List, [], ◌∷◌, ◌++◌, length, map, IfOk, IsOk, IsErrOf, ◌⊎◌};
 ghost use Rattle.std.specs.List.{slice_split};
 ghost use Rattle.std.specs.Str.{bytes_eq};
-ghost use Rattle.proof_text.specs.ProofTextFile.{State, start, Each, SaysStep, SaysProof, SaidProof, is_proved, state_after, next_state, state_after_all, proofs_at_end, proofs_of_pieces, SpellsProofs, IsFirstBadLine};
+ghost use Rattle.proof_text.specs.ProofFileForm.{Each, SaysStep, SaysProof, SaidProof, IsFileOf, SpellsProofs, IsFirstBadLine};
+ghost use Rattle.proof_text.specs.ProofTextFile.{State, start, is_proved, state_after, next_state, state_after_all, proofs_at_end, proofs_of_pieces};
 ghost use Rattle.proof_text.specs.declared.proof.ProofFile.{ProofFile as File};
 ghost use Rattle.proof_text.specs.ProofTextLines.{Said, Line as SaidLine, Says, heading, step as said_step, «end»};
 ghost use Rattle.proof_text.specs.ProofTextReads.{Reads, ReadsLines, KeepsNames, SaysLine, SaysState, is_start, total_length};
@@ -261,6 +262,9 @@ pub fn read_proofs(
     ensures bad { (n : ℕ) → IsErrOf result (ProofTextError.BadLine n) → IsFirstBadLine bytes.now n }
     ensures none { (n : ℕ) → IsErrOf result (ProofTextError.BadLine n) → (table : List (List ℕ)) (file : File) → SpellsProofs table bytes.now file → ⊥ }
     ensures kept { KeepsNames names.old names.new }
+    // And each answer comes where it is due, or memory was refused.
+    ensures file_where_due { (said : List SaidProof) → IsFileOf bytes.now said → IsOk result ⊎ IsErrOf result ProofTextError.NoMemory }
+    ensures line_where_due { (n : ℕ) → IsFirstBadLine bytes.now n → IsErrOf result (ProofTextError.BadLine n) ⊎ IsErrOf result ProofTextError.NoMemory }
 {
     let pieces = pieces(alloc, bytes)?;
     read_pieces(alloc, &pieces, names)
