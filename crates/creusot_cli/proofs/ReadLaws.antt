@@ -78,7 +78,7 @@ means_spelled bytes params kind t view item name at means =
 
 module _ (bytes : List ℕ) (names : Option (List (List ℕ))) (kind : ClauseKind) where
   item_took_by : (q : Bool) (t : Token) (ts : List Token) (x : Item × List Token) → kind_eq t.kind Integer ≡ q
-      → cond q (found (number_item bytes t) (t ∷ ts) ts) (name_at bytes (t ∷ ts) >>= λ name. mark_at At name.1 >>= λ view. found (named names kind (text_of bytes name.0)) (t ∷ ts) view.1) ≡ Ok x
+      → cond q (found (number_item bytes t) (t ∷ ts) ts) (name_at bytes (t ∷ ts) >>= λ name. found (named names kind (text_of bytes name.0)) (t ∷ ts) name.1 >>= λ item. mark_at At item.1 >>= λ view. Ok (item.0, view.1)) ≡ Ok x
       → Took (λ params used. SpellsItem bytes params kind used x.0) names (t ∷ ts) x.1
   item_took_by true t ts x is e =
       let g = found_ok (number_item bytes t) (t ∷ ts) ts x e in
@@ -90,18 +90,19 @@ module _ (bytes : List ℕ) (names : Option (List (List ℕ))) (kind : ClauseKin
         spelled = λ params known. subst (λ (i : Item). SpellsItem bytes params kind (t ∷ []) i) n.1 (form.number (record { kind = kind_eq_true t.kind Integer is; spelled = refl }) n.0);
       }
   item_took_by false t ts x is e =
-      let a = bind_ok (name_at bytes (t ∷ ts)) (λ name. mark_at At name.1 >>= λ view. found (named names kind (text_of bytes name.0)) (t ∷ ts) view.1) x e in
-      let b = bind_ok (mark_at At a.0.1) (λ view. found (named names kind (text_of bytes a.0.0)) (t ∷ ts) view.1) x a.2 in
+      let a = bind_ok (name_at bytes (t ∷ ts)) (λ name. found (named names kind (text_of bytes name.0)) (t ∷ ts) name.1 >>= λ item. mark_at At item.1 >>= λ view. Ok (item.0, view.1)) x e in
+      let b = bind_ok (found (named names kind (text_of bytes a.0.0)) (t ∷ ts) a.0.1) (λ item. mark_at At item.1 >>= λ view. Ok (item.0, view.1)) x a.2 in
+      let d = bind_ok (mark_at At b.0.1) (λ view. Ok (b.0.0, view.1)) x b.2 in
       let name = name_took bytes (t ∷ ts) a.0 a.1 in
-      let view = mark_took At a.0.1 b.0 b.1 in
-      let g = found_ok (named names kind (text_of bytes a.0.0)) (t ∷ ts) b.0.1 x b.2 in
-      let whole : t ∷ ts ≡ a.0.0 ∷ b.0.0 ∷ x.1 = name.0 ∙ ap (λ (r : List Token). a.0.0 ∷ r) (view.0 ∙ ap (λ (r : List Token). b.0.0 ∷ r) g.1) in
-      record {
-        used = a.0.0 ∷ b.0.0 ∷ [];
+      let g = found_ok (named names kind (text_of bytes a.0.0)) (t ∷ ts) a.0.1 b.0 b.1 in
+      let view = mark_took At b.0.1 d.0 d.1 in
+      let whole : t ∷ ts ≡ a.0.0 ∷ d.0.0 ∷ d.0.1 = name.0 ∙ ap (λ (r : List Token). a.0.0 ∷ r) (g.1 ∙ view.0) in
+      subst (λ (y : Item × List Token). Took (λ params used. SpellsItem bytes params kind used y.0) names (t ∷ ts) y.1) (ok_is (b.0.0, d.0.1) x d.2) (record {
+        used = a.0.0 ∷ d.0.0 ∷ [];
         parts = whole;
         shorter = omega (arith, ap length whole);
-        spelled = λ params known. means_spelled bytes params kind a.0.0 b.0.0 x.0 name.1 view.1 (named_took params kind (text_of bytes a.0.0) x.0 (ap (λ (n : Option (List (List ℕ))). named n kind (text_of bytes a.0.0)) (sym known) ∙ g.0));
-      }
+        spelled = λ params known. means_spelled bytes params kind a.0.0 d.0.0 b.0.0 name.1 view.1 (named_took params kind (text_of bytes a.0.0) b.0.0 (ap (λ (n : Option (List (List ℕ))). named n kind (text_of bytes a.0.0)) (sym known) ∙ g.0));
+      })
 
   pub item_took : (ts : List Token) (x : Item × List Token) → item_at bytes names kind ts ≡ Ok x → Took (λ params used. SpellsItem bytes params kind used x.0) names ts x.1
   unfolding item_at
@@ -178,12 +179,12 @@ cover_front front back =
     ap cover (take_at front back (length (front ++ back) - length back) n)
 
 -- "#" "[" a word "("
-record TookHead (bytes : List ℕ) (kind : ClauseKind) (ts after : List Token) : Type 0 where
-  hash : Token
-  opening : Token
-  word : Token
-  paren : Token
-  parts : ts ≡ hash ∷ opening ∷ word ∷ paren ∷ after
+pub record TookHead (bytes : List ℕ) (kind : ClauseKind) (ts after : List Token) : Type 0 where
+  pub hash : Token
+  pub opening : Token
+  pub word : Token
+  pub paren : Token
+  pub parts : ts ≡ hash ∷ opening ∷ word ∷ paren ∷ after
   is_hash : hash.kind ≡ Hash
   is_opening : opening.kind ≡ OpenBracket
   is_word : IsWord bytes (kind_word kind) word
@@ -206,7 +207,7 @@ clause_kind_took bytes (t ∷ ts) x e =
     let g = clause_kind_by (is_word bytes (codes "requires") t) (is_word bytes (codes "ensures") t) bytes t ts x refl refl e in
     (t, ap (λ (r : List Token). t ∷ r) g.0, g.1)
 
-head_took : (bytes : List ℕ) (ts : List Token) (x : ClauseKind × List Token) → clause_head_at bytes ts ≡ Ok x → TookHead bytes x.0 ts x.1
+pub head_took : (bytes : List ℕ) (ts : List Token) (x : ClauseKind × List Token) → clause_head_at bytes ts ≡ Ok x → TookHead bytes x.0 ts x.1
 unfolding clause_head_at
 head_took bytes ts x e =
     let a = bind_ok (mark_at Hash ts) (λ hash. mark_at OpenBracket hash.1 >>= λ opening. clause_kind_at bytes opening.1 >>= λ kind. mark_at OpenParen kind.1 >>= λ paren. Ok (kind.0, paren.1)) x e in
@@ -310,7 +311,7 @@ no_clauses bytes params clauses ts h = record { new = []; whole = sym (append-ni
 clauses_stopped : (bytes : List ℕ) (params : List (List ℕ)) (clauses : List Clause) (ts : List Token) (x : List Clause × List Token) → begins Hash ts ≡ false → (clauses, ts) ≡ x → TookClauses bytes params clauses x.0 ts x.1
 clauses_stopped bytes params clauses ts x h e = subst (λ (y : List Clause × List Token). TookClauses bytes params clauses y.0 ts y.1) e (no_clauses bytes params clauses ts h)
 
-none_begins : (kind : TokenKind) (ts : List Token) → length ts ≤ 0 → begins kind ts ≡ false
+pub none_begins : (kind : TokenKind) (ts : List Token) → length ts ≤ 0 → begins kind ts ≡ false
 unfolding begins
 none_begins kind [] h = refl
 none_begins kind (t ∷ ts) h = absurd (omega arith)

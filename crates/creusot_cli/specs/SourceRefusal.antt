@@ -53,7 +53,7 @@ pub record Declares (bytes : List ℕ) (tokens : List Token) (params : List (Lis
 
 -- the place of token k; the end of the source where there is none
 abbrev pub place_of_token : List ℕ → List Token → ℕ → Span
-place_of_token bytes tokens k = option_map_or (λ t. t.span) (record { start = length bytes; end = length bytes }) (slice_get tokens k)
+place_of_token bytes tokens k = option_map_or (λ t. t.span) (slice_get tokens k) (record { start = length bytes; end = length bytes })
 
 pub data IsRefusedAt (bytes : List ℕ) (tokens : List Token) : Span → Type 0 where
   -- the first k tokens can be continued, also with the names of the parameters where these are known by then; one more cannot

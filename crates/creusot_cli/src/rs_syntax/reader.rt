@@ -8,6 +8,7 @@ ghost use Rattle.creusot_cli.specs.declared.rs_syntax.form.Function.{Function};
 ghost use Rattle.creusot_cli.specs.declared.rs_tokens.token.Token.{Token};
 ghost use Rattle.creusot_cli.specs.SourceTokens.{AreTokens};
 ghost use Rattle.creusot_cli.specs.SourceForm.{Spells};
+ghost use Rattle.creusot_cli.specs.SourceRefusal.{IsRefusedAt};
 ghost use Rattle.creusot_cli.specs.SourceFormReading.{Gives, function_at, place_left};
 
 use crate::rs_syntax::body::body;
@@ -65,9 +66,8 @@ pub fn read_function(alloc: Global, bytes: &[u8]) -> Result<Function, PassError>
     ensures refused { (e : SourceError) → result ≡ Err (Source e) → (f : Function) → Spells bytes.now f → ⊥ }
     ensures code { (e : SourceError) → result ≡ Err (Source e)
         → (e.code ≡ E20) × (e.other ≡ None) × (e.span.start ≤ e.span.end) × (e.span.end ≤ length bytes.now) }
-    // Which token it is: the one at which reading stops.
     ensures place { (e : SourceError) (tokens : List Token) → result ≡ Err (Source e) → AreTokens 0 bytes.now tokens
-        → (left : ℕ) × (function_at bytes.now tokens ≡ Err left) × (e.span ≡ place_left bytes.now tokens left) }
+        → IsRefusedAt bytes.now tokens e.span }
 {
     let tokens = tokens(alloc, bytes)?;
     match function(alloc, bytes, &tokens) {
