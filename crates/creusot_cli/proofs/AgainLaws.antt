@@ -1,16 +1,14 @@
 -- What is spelled is read.
-use Rattle.std.proofs.Common.{◌≡◌, ℕ, zero, suc, ◌+◌, ◌-◌, ◌<◌, ◌≤◌, ◌^◌, Bool, true, false, ◌&&◌, cond, List, [], ◌∷◌, ◌++◌, length, take, drop, Option, Some, None, Result, Ok, Err, refl, sym, ap, subst, ◌∙◌, append_assoc, arith, inl, inr, ◌⊎◌}
-use Rattle.std.specs.Prelude.{not, nat_lt, pos, codes, slice_get, is_some, ◌==◌}
-use Rattle.std.specs.Option.{option_map, option_map_or}
+use Rattle.std.proofs.Common.{◌≡◌, ℕ, zero, suc, ◌<◌, ◌≤◌, ◌^◌, Bool, true, false, ◌&&◌, cond, List, [], ◌∷◌, ◌++◌, length, Option, Some, None, Result, Ok, refl, sym, ap, subst, ◌∙◌, append_assoc, arith}
+use Rattle.std.specs.Prelude.{not, pos, codes, slice_get, is_some}
+use Rattle.std.specs.Option.{option_map}
 use Rattle.std.specs.Str.{bytes_eq}
 use Rattle.std.proofs.lemmas.Bool.{lt-ltb}
-use Rattle.std.proofs.lemmas.List.{append-nil, length-append, take_at, nil_from_length}
+use Rattle.std.proofs.lemmas.List.{append-nil, length-append}
 use Rattle.std.proofs.lemmas.Slice.Eq.{bytes_eq-Decides}
 use Rattle.text_core.specs.declared.span.Span.{Span}
 use Rattle.creusot_cli.specs.declared.rs_tokens.token.Token.{Token}
-use Rattle.creusot_cli.specs.declared.rs_tokens.token.TokenKind.{TokenKind}
 use Rattle.creusot_cli.specs.declared.rs_tokens.token.TokenKind.TheVariants.{Word, Integer, Hash, OpenBracket, CloseBracket, OpenParen, CloseParen, OpenBrace, CloseBrace, Colon, Comma, Arrow, At}
-use Rattle.creusot_cli.specs.declared.rs_syntax.form.Sign.{Sign}
 use Rattle.creusot_cli.specs.declared.rs_syntax.form.Comparison.{Comparison}
 use Rattle.creusot_cli.specs.declared.rs_syntax.form.Item.{Item}
 use Rattle.creusot_cli.specs.declared.rs_syntax.form.Item.TheVariants as items
@@ -20,7 +18,6 @@ use Rattle.creusot_cli.specs.declared.rs_syntax.form.ClauseKind.{ClauseKind}
 use Rattle.creusot_cli.specs.declared.rs_syntax.form.ClauseKind.TheVariants.{Requires, Ensures}
 use Rattle.creusot_cli.specs.declared.rs_syntax.form.Clause.{Clause}
 use Rattle.creusot_cli.specs.declared.rs_syntax.form.AtomKind.{AtomKind}
-use Rattle.creusot_cli.specs.declared.rs_syntax.form.AtomKind.TheVariants as atoms
 use Rattle.creusot_cli.specs.declared.rs_syntax.form.Atom.{Atom}
 use Rattle.creusot_cli.specs.declared.rs_syntax.form.ChainStep.{ChainStep}
 use Rattle.creusot_cli.specs.declared.rs_syntax.form.Chain.{Chain}
@@ -28,7 +25,7 @@ use Rattle.creusot_cli.specs.declared.rs_syntax.form.Function.{Function}
 use Rattle.creusot_cli.specs.SourceTokens.{kind_eq}
 use Rattle.creusot_cli.specs.SourceForm.{text_of, decimal, IsWord, IsIdentifier, IsInteger, sign_kind, comparison_kind, kind_word, cover, SpellsItem, SpellsSteps, SpellsSum, SpellsClause, SpellsClauses, SpellsParams, AreParams, SpellsAtom, SpellsChainSteps, SpellsChain, SpellsFunction}
 use Rattle.creusot_cli.specs.SourceForm as form
-use Rattle.creusot_cli.specs.SourceFormReading.{◌>>=◌, mark_at, word_at, name_at, is_word, is_name, begins, place_of, next_sign, comparison_at, named, number_item, found, item_at, steps_at, sum_at, clause_kind_at, clause_head_at, cover_until, term_at, clause_at, clauses_at, is_new, param_at, params_at, atom_of, atom_at, chain_steps_at, chain_at, signature_at, body_at, function_at}
+use Rattle.creusot_cli.specs.SourceFormReading.{is_word, begins, place_of, next_sign, named, number_item, item_at, steps_at, sum_at, clause_kind_at, clause_head_at, cover_until, term_at, clause_at, clauses_at, is_new, param_at, params_at, atom_of, atom_at, chain_steps_at, chain_at, signature_at, body_at, function_at}
 use Rattle.creusot_cli.proofs.LeafLaws.{read_as, both_true, kind_is, kind_not, mark_again, begins_again, begins_not, word_is, word_again, name_is, name_again, sign_again, no_sign, comparison_again, comparison_no_sign, place_is, is_new_one}
 use Rattle.creusot_cli.proofs.ReadLaws.{cover_front}
 

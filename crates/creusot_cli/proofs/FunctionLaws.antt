@@ -1,5 +1,5 @@
 -- A list of tokens spells the function that is read from it, and no other; so does a source.
-use Rattle.std.proofs.Common.{◌≡◌, ℕ, zero, suc, ◌+◌, ◌-◌, ◌<◌, ◌≤◌, Bool, true, false, cond, eqb, List, [], ◌∷◌, ◌++◌, length, drop, Option, Some, None, Result, Ok, Err, refl, sym, ap, subst, ◌∙◌, append_assoc, arith, inl, inr, ◌⊎◌}
+use Rattle.std.proofs.Common.{◌≡◌, ℕ, zero, suc, ◌+◌, ◌-◌, ◌≤◌, cond, List, [], ◌∷◌, ◌++◌, length, Option, Some, None, Result, Ok, Err, refl, sym, ap, subst, ◌∙◌, arith}
 use Rattle.std.specs.Prelude.{codes, slice_get, ◌==◌}
 use Rattle.std.specs.Option.{option_map_or}
 use Rattle.std.proofs.lemmas.Bool.{eqb-true}
@@ -11,7 +11,7 @@ use Rattle.creusot_cli.specs.declared.rs_syntax.fault.PassError.TheVariants.{Sou
 use Rattle.creusot_cli.specs.declared.rs_syntax.fault.Stop.{Stop}
 use Rattle.creusot_cli.specs.declared.rs_syntax.fault.Stop.TheVariants as stops
 use Rattle.creusot_cli.specs.declared.rs_tokens.token.Token.{Token}
-use Rattle.creusot_cli.specs.declared.rs_tokens.token.TokenKind.TheVariants.{Hash, OpenParen, CloseParen, OpenBrace, CloseBrace, Arrow}
+use Rattle.creusot_cli.specs.declared.rs_tokens.token.TokenKind.TheVariants.{OpenParen, CloseParen, OpenBrace, CloseBrace, Arrow}
 use Rattle.creusot_cli.specs.declared.rs_syntax.form.Clause.{Clause}
 use Rattle.creusot_cli.specs.declared.rs_syntax.form.Chain.{Chain}
 use Rattle.creusot_cli.specs.declared.rs_syntax.form.Function.{Function}
@@ -19,9 +19,9 @@ use Rattle.creusot_cli.specs.SourceTokens.{AreTokens, done, space, token}
 use Rattle.creusot_cli.specs.SourceForm.{text_of, IsWord, IsIdentifier, SpellsClauses, SpellsParams, AreParams, SpellsChain, SpellsFunction, Spells}
 use Rattle.creusot_cli.specs.SourceForm as form
 use Rattle.creusot_cli.specs.SourceFormReading.{◌>>=◌, mark_at, word_at, name_at, clauses_at, params_at, chain_at, signature_at, body_at, function_at, Fails, place_left}
-use Rattle.creusot_cli.proofs.LeafLaws.{bind_ok, read_as, ok_is, guard_ok, mark_took, word_took, name_took, no_params}
+use Rattle.creusot_cli.proofs.LeafLaws.{bind_ok, ok_is, guard_ok, mark_took, word_took, name_took, no_params}
 use Rattle.creusot_cli.proofs.ReadLaws.{params_took, clauses_took, chain_took}
-use Rattle.creusot_cli.proofs.AgainLaws.{nothing, everything, seen_clauses, clauses_again, function_again}
+use Rattle.creusot_cli.proofs.AgainLaws.{nothing, seen_clauses, clauses_again, function_again}
 use Rattle.creusot_cli.proofs.TokenLaws.{one_list}
 
 -- "fn" ident "(" list(ident ":" "i32") ")"

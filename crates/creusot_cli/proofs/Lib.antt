@@ -20,6 +20,7 @@ pub mod WalkFunction
 pub mod OpenLaws
 pub mod WrittenLaws
 pub mod RefusalLaws
+pub mod PlaceLaws
 pub mod MirBuildLemmas
 pub mod WpGenLemmas
 pub mod ReportLaws

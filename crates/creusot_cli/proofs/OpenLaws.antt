@@ -1,5 +1,5 @@
 -- A contract that is read with open names is read over any names that have its own among them.
-use Rattle.std.proofs.Common.{◌≡◌, ℕ, zero, suc, ◌≤◌, ◌^◌, Bool, true, false, cond, List, [], ◌∷◌, ◌++◌, length, map, Option, Some, None, Result, Ok, Err, refl, sym, ap, subst, ◌∙◌}
+use Rattle.std.proofs.Common.{◌≡◌, ℕ, zero, suc, Bool, true, false, cond, List, [], ◌∷◌, ◌++◌, length, map, Option, Some, None, Result, Ok, Err, refl, ap, subst}
 use Rattle.std.specs.Prelude.{is_some, codes}
 use Rattle.std.specs.Option.{option_map, option_map_or}
 use Rattle.std.specs.Str.{bytes_eq}
@@ -9,7 +9,6 @@ use Rattle.creusot_cli.specs.declared.rs_tokens.token.TokenKind.TheVariants.{Int
 use Rattle.creusot_cli.specs.declared.rs_syntax.form.Item.{Item}
 use Rattle.creusot_cli.specs.declared.rs_syntax.form.Item.TheVariants as items
 use Rattle.creusot_cli.specs.declared.rs_syntax.form.SumStep.{SumStep}
-use Rattle.creusot_cli.specs.declared.rs_syntax.form.Sum.{Sum}
 use Rattle.creusot_cli.specs.declared.rs_syntax.form.ClauseKind.{ClauseKind}
 use Rattle.creusot_cli.specs.declared.rs_syntax.form.ClauseKind.TheVariants.{Requires, Ensures}
 use Rattle.creusot_cli.specs.declared.rs_syntax.form.Clause.{Clause}
@@ -19,7 +18,7 @@ use Rattle.creusot_cli.specs.SourceRefusal.{said}
 use Rattle.creusot_cli.specs.SourceFormReading.{◌>>=◌, mark_at, name_at, is_name, begins, place_of, next_sign, comparison_at, named, number_item, found, item_at, steps_at, sum_at, clause_head_at, cover_until, term_at, clause_at, clauses_at}
 use Rattle.creusot_cli.proofs.LeafLaws.{read_as, ok_is, sign_took, comparison_took}
 use Rattle.creusot_cli.proofs.ReadLaws.{item_took, sum_took, head_took, clause_took}
-use Rattle.creusot_cli.proofs.Stages.{Said, Stage, start, hashed, opened, headed, at_item, at_view, behind_item, closed, at_name, behind_name, at_param, at_colon, at_type, behind_param, at_arrow, at_answer, at_brace, at_atom, behind_atom, done, known_said, item_step, step, run}
+use Rattle.creusot_cli.proofs.Stages.{Said, Stage, start, hashed, opened, headed, at_item, at_view, behind_item, closed, at_name, behind_name, at_param, at_colon, at_type, behind_param, at_arrow, at_answer, at_brace, at_atom, behind_atom, done, known_said, step, run}
 
 -- ---- names that stand in a list
 
@@ -186,8 +185,8 @@ module _ (names : List (List ℕ)) (bytes : List ℕ) where
             (λ item. steps_at bytes None kind n (steps ++ record { sign = next.0; item = item.0 } ∷ []) item.1) (λ item. steps_at bytes (Some names) kind n (others ++ record { sign = next.0; item = item.0 } ∷ []) item.1)
             (open_item kind next.2 after)
             (λ item other e.
-              let took = item_took bytes None kind next.2 item e in
-              open_steps kind n (steps ++ record { sign = next.0; item = item.0 } ∷ []) (others ++ record { sign = next.0; item = other } ∷ []) item.1 (listed_after bytes names next.2 took.used item.1 took.parts after))
+            let took = item_took bytes None kind next.2 item e in
+            open_steps kind n (steps ++ record { sign = next.0; item = item.0 } ∷ []) (others ++ record { sign = next.0; item = other } ∷ []) item.1 (listed_after bytes names next.2 took.used item.1 took.parts after))
       ] refl
 
   open_sum : (kind : ClauseKind) (ts : List Token) → AreListed names (map (said bytes) ts) → Widens (sum_at bytes None kind ts) (sum_at bytes (Some names) kind ts)
@@ -198,11 +197,11 @@ module _ (names : List (List ℕ)) (bytes : List ℕ) where
       (λ first. steps_at bytes (Some names) kind 256 [] first.1 >>= λ rest. Ok (record { first = first.0; rest = rest.0 }, rest.1))
       (open_item kind ts h)
       (λ first other e.
-        let took = item_took bytes None kind ts first e in
-        widens_bind (steps_at bytes None kind 256 [] first.1) (steps_at bytes (Some names) kind 256 [] first.1)
-        (λ rest. Ok (record { first = first.0; rest = rest.0 }, rest.1)) (λ rest. Ok (record { first = other; rest = rest.0 }, rest.1))
-        (open_steps kind 256 [] [] first.1 (listed_after bytes names ts took.used first.1 took.parts h))
-        (λ rest others e. widens_ok (record { first = first.0; rest = rest.0 }) (record { first = other; rest = others }) rest.1))
+      let took = item_took bytes None kind ts first e in
+      widens_bind (steps_at bytes None kind 256 [] first.1) (steps_at bytes (Some names) kind 256 [] first.1)
+      (λ rest. Ok (record { first = first.0; rest = rest.0 }, rest.1)) (λ rest. Ok (record { first = other; rest = rest.0 }, rest.1))
+      (open_steps kind 256 [] [] first.1 (listed_after bytes names ts took.used first.1 took.parts h))
+      (λ rest others e. widens_ok (record { first = first.0; rest = rest.0 }) (record { first = other; rest = others }) rest.1))
 
   open_term : (kind : ClauseKind) (ts : List Token) → AreListed names (map (said bytes) ts) → Widens (term_at bytes None kind ts) (term_at bytes (Some names) kind ts)
   unfolding term_at
@@ -212,18 +211,18 @@ module _ (names : List (List ℕ)) (bytes : List ℕ) where
       (λ left. comparison_at left.1 >>= λ sign. sum_at bytes (Some names) kind sign.1 >>= λ right. Ok (record { kind = kind; span = cover_until ts right.1; left = left.0; comparison = sign.0; right = right.0 }, right.1))
       (open_sum kind ts h)
       (λ left other e.
-        let took = sum_took bytes None kind ts left e in
-        let after : AreListed names (map (said bytes) left.1) = listed_after bytes names ts took.used left.1 took.parts h in
-        widens_with (comparison_at left.1)
-        (λ sign. sum_at bytes None kind sign.1 >>= λ right. Ok (record { kind = kind; span = cover_until ts right.1; left = left.0; comparison = sign.0; right = right.0 }, right.1))
-        (λ sign. sum_at bytes (Some names) kind sign.1 >>= λ right. Ok (record { kind = kind; span = cover_until ts right.1; left = other; comparison = sign.0; right = right.0 }, right.1))
-        (λ sign e.
-          let t = comparison_took left.1 sign e in
-          widens_bind (sum_at bytes None kind sign.1) (sum_at bytes (Some names) kind sign.1)
-          (λ right. Ok (record { kind = kind; span = cover_until ts right.1; left = left.0; comparison = sign.0; right = right.0 }, right.1))
-          (λ right. Ok (record { kind = kind; span = cover_until ts right.1; left = other; comparison = sign.0; right = right.0 }, right.1))
-          (open_sum kind sign.1 (listed_after bytes names left.1 (t.0 ∷ []) sign.1 t.1 after))
-          (λ right others e. widens_ok (record { kind = kind; span = cover_until ts right.1; left = left.0; comparison = sign.0; right = right.0 }) (record { kind = kind; span = cover_until ts right.1; left = other; comparison = sign.0; right = others }) right.1)))
+      let took = sum_took bytes None kind ts left e in
+      let after : AreListed names (map (said bytes) left.1) = listed_after bytes names ts took.used left.1 took.parts h in
+      widens_with (comparison_at left.1)
+      (λ sign. sum_at bytes None kind sign.1 >>= λ right. Ok (record { kind = kind; span = cover_until ts right.1; left = left.0; comparison = sign.0; right = right.0 }, right.1))
+      (λ sign. sum_at bytes (Some names) kind sign.1 >>= λ right. Ok (record { kind = kind; span = cover_until ts right.1; left = other; comparison = sign.0; right = right.0 }, right.1))
+      (λ sign e.
+      let t = comparison_took left.1 sign e in
+      widens_bind (sum_at bytes None kind sign.1) (sum_at bytes (Some names) kind sign.1)
+      (λ right. Ok (record { kind = kind; span = cover_until ts right.1; left = left.0; comparison = sign.0; right = right.0 }, right.1))
+      (λ right. Ok (record { kind = kind; span = cover_until ts right.1; left = other; comparison = sign.0; right = right.0 }, right.1))
+      (open_sum kind sign.1 (listed_after bytes names left.1 (t.0 ∷ []) sign.1 t.1 after))
+      (λ right others e. widens_ok (record { kind = kind; span = cover_until ts right.1; left = left.0; comparison = sign.0; right = right.0 }) (record { kind = kind; span = cover_until ts right.1; left = other; comparison = sign.0; right = others }) right.1)))
 
   open_clause : (ts : List Token) → AreListed names (map (said bytes) ts) → Widens (clause_at bytes None ts) (clause_at bytes (Some names) ts)
   unfolding clause_at
@@ -232,14 +231,14 @@ module _ (names : List (List ℕ)) (bytes : List ℕ) where
       (λ head. term_at bytes None head.0 head.1 >>= λ term. mark_at CloseParen term.1 >>= λ closing. mark_at CloseBracket closing.1 >>= λ end. Ok (term.0, end.1))
       (λ head. term_at bytes (Some names) head.0 head.1 >>= λ term. mark_at CloseParen term.1 >>= λ closing. mark_at CloseBracket closing.1 >>= λ end. Ok (term.0, end.1))
       (λ head e.
-        let front = head_took bytes ts head e in
-        widens_bind (term_at bytes None head.0 head.1) (term_at bytes (Some names) head.0 head.1)
-        (λ term. mark_at CloseParen term.1 >>= λ closing. mark_at CloseBracket closing.1 >>= λ end. Ok (term.0, end.1))
-        (λ term. mark_at CloseParen term.1 >>= λ closing. mark_at CloseBracket closing.1 >>= λ end. Ok (term.0, end.1))
-        (open_term head.0 head.1 (listed_after bytes names ts (front.hash ∷ front.opening ∷ front.word ∷ front.paren ∷ []) head.1 front.parts h))
-        (λ term other e.
-          widens_with (mark_at CloseParen term.1) (λ closing. mark_at CloseBracket closing.1 >>= λ end. Ok (term.0, end.1)) (λ closing. mark_at CloseBracket closing.1 >>= λ end. Ok (other, end.1))
-          (λ closing e. widens_with (mark_at CloseBracket closing.1) (λ end. Ok (term.0, end.1)) (λ end. Ok (other, end.1)) (λ end e. widens_ok term.0 other end.1))))
+      let front = head_took bytes ts head e in
+      widens_bind (term_at bytes None head.0 head.1) (term_at bytes (Some names) head.0 head.1)
+      (λ term. mark_at CloseParen term.1 >>= λ closing. mark_at CloseBracket closing.1 >>= λ end. Ok (term.0, end.1))
+      (λ term. mark_at CloseParen term.1 >>= λ closing. mark_at CloseBracket closing.1 >>= λ end. Ok (term.0, end.1))
+      (open_term head.0 head.1 (listed_after bytes names ts (front.hash ∷ front.opening ∷ front.word ∷ front.paren ∷ []) head.1 front.parts h))
+      (λ term other e.
+      widens_with (mark_at CloseParen term.1) (λ closing. mark_at CloseBracket closing.1 >>= λ end. Ok (term.0, end.1)) (λ closing. mark_at CloseBracket closing.1 >>= λ end. Ok (other, end.1))
+      (λ closing e. widens_with (mark_at CloseBracket closing.1) (λ end. Ok (term.0, end.1)) (λ end. Ok (other, end.1)) (λ end e. widens_ok term.0 other end.1))))
 
   pub open_clauses : (n : ℕ) (clauses others : List Clause) (ts : List Token) → AreListed names (map (said bytes) ts) → Widens (clauses_at bytes None n clauses ts) (clauses_at bytes (Some names) n others ts)
   unfolding clauses_at
@@ -254,6 +253,6 @@ module _ (names : List (List ℕ)) (bytes : List ℕ) where
             (λ clause. clauses_at bytes None n (clauses ++ clause.0 ∷ []) clause.1) (λ clause. clauses_at bytes (Some names) n (others ++ clause.0 ∷ []) clause.1)
             (open_clause ts h)
             (λ clause other e.
-              let took = clause_took bytes None ts clause e in
-              open_clauses n (clauses ++ clause.0 ∷ []) (others ++ other ∷ []) clause.1 (listed_after bytes names ts took.used clause.1 took.parts h))
+            let took = clause_took bytes None ts clause e in
+            open_clauses n (clauses ++ clause.0 ∷ []) (others ++ other ∷ []) clause.1 (listed_after bytes names ts took.used clause.1 took.parts h))
       ]

@@ -1,6 +1,6 @@
 -- A source is refused at one place.
-use Rattle.std.proofs.Common.{◌≡◌, ℕ, zero, suc, ◌+◌, ◌-◌, ◌<◌, ◌≤◌, List, [], ◌∷◌, ◌++◌, length, take, drop, map, Option, Some, None, Result, Ok, Err, refl, sym, ap, subst, ◌∙◌, append_assoc, arith}
-use Rattle.std.proofs.lemmas.List.{append-nil, length-append, length-take-le, take-map, take-take}
+use Rattle.std.proofs.Common.{◌≡◌, ℕ, suc, ◌+◌, ◌-◌, ◌≤◌, List, [], ◌∷◌, ◌++◌, length, take, map, Option, Some, None, Result, Ok, Err, sym, ap, subst, ◌∙◌, append_assoc, arith}
+use Rattle.std.proofs.lemmas.List.{append-nil, length-append, take-map, take-take}
 use Rattle.text_core.specs.declared.span.Span.{Span}
 use Rattle.creusot_cli.specs.declared.rs_tokens.token.Token.{Token}
 use Rattle.creusot_cli.specs.declared.rs_syntax.form.Clause.{Clause}
@@ -9,11 +9,11 @@ use Rattle.creusot_cli.specs.SourceRefusal.{said, CanContinue, Declares, place_o
 use Rattle.creusot_cli.specs.SourceFormReading.{clauses_at, signature_at}
 use Rattle.creusot_cli.proofs.LeafLaws.{ok_is}
 use Rattle.creusot_cli.proofs.Stages.{Said, Stage, start, run}
-use Rattle.creusot_cli.proofs.WalkLaws.{Walk, Reached, Tracks, joined, walk_within, run_front}
+use Rattle.creusot_cli.proofs.WalkLaws.{Walk, Reached, Tracks, joined, run_front}
 use Rattle.creusot_cli.proofs.WalkContract.{EndsClauses, clauses_tracks}
 use Rattle.creusot_cli.proofs.WalkFunction.{EndsSignature, signature_tracks}
 use Rattle.creusot_cli.proofs.OpenLaws.{texts, listed_texts, run_listed}
-use Rattle.creusot_cli.proofs.RefusalLaws.{ReadsParams, declared_read, can_continue}
+use Rattle.creusot_cli.proofs.RefusalLaws.{declared_read, can_continue}
 
 -- ---- fewer tokens
 
@@ -25,8 +25,8 @@ fewer names bytes ts j k le c = record {
     lexed = c.begins.lexed;
     enough = omega (arith, c.begins.enough);
     same =
-      ap (map (said c.other)) (sym (take-take j k c.others le)) ∙ sym (take-map (said c.other) j (take k c.others)) ∙ ap (take j) c.begins.same
-      ∙ take-map (said bytes) j (take k ts) ∙ ap (map (said bytes)) (take-take j k ts le);
+        ap (map (said c.other)) (sym (take-take j k c.others le)) ∙ sym (take-map (said c.other) j (take k c.others)) ∙ ap (take j) c.begins.same
+        ∙ take-map (said bytes) j (take k ts) ∙ ap (map (said bytes)) (take-take j k ts le);
   };
   f = c.f;
   spelled = c.spelled;
@@ -55,9 +55,9 @@ module _ (bytes : List ℕ) (ts : List Token) (tokens : AreTokens 0 bytes ts) wh
       let k : ℕ = length (declaring d) in
       let read = declared_read bytes ts ts [] params (sym (append-nil ts)) d in
       let first = read_reaches None bytes start (EndsClauses None bytes) ts (clauses_at bytes None (length ts) [] ts) (read.clauses, read.after) (clauses_tracks None bytes (length ts) [] ts (omega arith)) read.contract in
-      let second = read_reaches None bytes start (EndsSignature None bytes) read.after (signature_at bytes read.after) ((read.name, params), read.rest) (signature_tracks None bytes read.after first.exit.1) read.signature in
-      let walk : Walk None bytes start ts second.to read.rest = joined None bytes (subst (λ (s : Stage). Walk None bytes start ts s read.after) first.exit.0 first.walk) second.walk in
-      let count : length ts ≡ k + length read.rest = omega (arith, ap length (parted params d), length-append (declaring d) d.rest, ap length read.is_rest, length-append d.rest []) in
+      let second = read_reaches None bytes start (EndsSignature None bytes) read.after (signature_at bytes read.after) ((read.name, params), d.rest ++ []) (signature_tracks None bytes read.after first.exit.1) read.signature in
+      let walk : Walk None bytes start ts second.to (d.rest ++ []) = joined None bytes (subst (λ (s : Stage). Walk None bytes start ts s read.after) first.exit.0 first.walk) second.walk in
+      let count : length ts ≡ k + length (d.rest ++ []) = omega (arith, ap length (parted params d), length-append (declaring d) d.rest, length-append d.rest []) in
       let front : List Said = map (said bytes) (take k ts) in
       let runs : run (Some (texts front)) start front ≡ Some second.to = sym (run_listed (texts front) start front (listed_texts front)) ∙ run_front None bytes k walk count in
       (texts front, can_continue (texts front) bytes ts k second.to tokens (omega arith) runs)
@@ -68,7 +68,7 @@ module _ (bytes : List ℕ) (ts : List Token) (tokens : AreTokens 0 bytes ts) wh
       let b = declared_read bytes ts ts [] second (sym (append-nil ts)) e in
       let contract : (a.clauses, a.after) ≡ (b.clauses, b.after) = ok_is (a.clauses, a.after) (b.clauses, b.after) (sym a.contract ∙ b.contract) in
       let after : a.after ≡ b.after = ap (λ (x : List Clause × List Token). x.1) contract in
-      let signature : ((a.name, first), a.rest) ≡ ((b.name, second), b.rest) = ok_is ((a.name, first), a.rest) ((b.name, second), b.rest) (sym a.signature ∙ ap (signature_at bytes) after ∙ b.signature) in
+      let signature : ((a.name, first), d.rest ++ []) ≡ ((b.name, second), e.rest ++ []) = ok_is ((a.name, first), d.rest ++ []) ((b.name, second), e.rest ++ []) (sym a.signature ∙ ap (signature_at bytes) after ∙ b.signature) in
       ap (λ (x : (Token × List (List ℕ)) × List Token). x.0.1) signature
 
 take_front : (front rest : List Token) (m : ℕ) → take (length front + m) (front ++ rest) ≡ front ++ take m rest
@@ -90,9 +90,9 @@ declared_before bytes ts params d m whole = record {
   closing = d.closing;
   rest = take m d.rest;
   parts =
-    ap (take (length (declaring d) + m)) whole ∙ take_front (declaring d) d.rest m
-    ∙ append_assoc d.contract (d.word ∷ d.name ∷ d.opening ∷ (d.listed ++ d.closing ∷ [])) (take m d.rest)
-    ∙ ap (λ (us : List Token). d.contract ++ d.word ∷ d.name ∷ d.opening ∷ us) (append_assoc d.listed (d.closing ∷ []) (take m d.rest));
+      ap (take (length (declaring d) + m)) whole ∙ take_front (declaring d) d.rest m
+      ∙ append_assoc d.contract (d.word ∷ d.name ∷ d.opening ∷ (d.listed ++ d.closing ∷ [])) (take m d.rest)
+      ∙ ap (λ (us : List Token). d.contract ++ d.word ∷ d.name ∷ d.opening ∷ us) (append_assoc d.listed (d.closing ∷ []) (take m d.rest));
   is_contract = d.is_contract;
   is_word = d.is_word;
   is_name = d.is_name;

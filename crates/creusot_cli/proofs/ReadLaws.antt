@@ -1,17 +1,15 @@
 -- What is read is spelled so.
-use Rattle.std.proofs.Common.{◌≡◌, ℕ, zero, suc, ◌+◌, ◌-◌, ◌<◌, ◌≤◌, ◌^◌, Bool, true, false, ◌&&◌, cond, List, [], ◌∷◌, ◌++◌, length, take, drop, Option, Some, None, Result, Ok, Err, refl, sym, ap, subst, ◌∙◌, append_assoc, arith, inl, inr, ◌⊎◌}
-use Rattle.std.specs.Prelude.{not, nat_lt, pos, codes, slice_get, is_some, ◌==◌}
+use Rattle.std.proofs.Common.{◌≡◌, ℕ, zero, suc, ◌-◌, ◌<◌, ◌≤◌, ◌^◌, Bool, true, false, cond, List, [], ◌∷◌, ◌++◌, length, drop, Option, Some, None, Ok, Err, refl, sym, ap, subst, ◌∙◌, append_assoc, arith, inl, inr, ◌⊎◌}
+use Rattle.std.specs.Prelude.{not, nat_lt, pos, codes, slice_get, is_some}
 use Rattle.std.specs.Option.{option_map, option_map_or}
 use Rattle.std.specs.Str.{bytes_eq}
-use Rattle.std.proofs.lemmas.Bool.{eqb-true, ltb-true}
-use Rattle.std.proofs.lemmas.List.{append-nil, length-append, take_at, nil_from_length}
+use Rattle.std.proofs.lemmas.Bool.{ltb-true}
+use Rattle.std.proofs.lemmas.List.{append-nil, length-append, take_at}
 use Rattle.std.proofs.lemmas.Slice.Eq.{bytes_eq-Decides}
-use Rattle.text_core.specs.declared.span.Span.{Span}
 use Rattle.creusot_cli.specs.declared.rs_tokens.token.Token.{Token}
 use Rattle.creusot_cli.specs.declared.rs_tokens.token.TokenKind.{TokenKind}
-use Rattle.creusot_cli.specs.declared.rs_tokens.token.TokenKind.TheVariants.{Word, Integer, Hash, OpenBracket, CloseBracket, OpenParen, CloseParen, OpenBrace, CloseBrace, Colon, Comma, Arrow, At}
+use Rattle.creusot_cli.specs.declared.rs_tokens.token.TokenKind.TheVariants.{Word, Integer, Hash, OpenBracket, CloseBracket, OpenParen, CloseParen, Colon, Comma, At}
 use Rattle.creusot_cli.specs.declared.rs_syntax.form.Sign.{Sign}
-use Rattle.creusot_cli.specs.declared.rs_syntax.form.Comparison.{Comparison}
 use Rattle.creusot_cli.specs.declared.rs_syntax.form.Item.{Item}
 use Rattle.creusot_cli.specs.declared.rs_syntax.form.Item.TheVariants as items
 use Rattle.creusot_cli.specs.declared.rs_syntax.form.SumStep.{SumStep}
@@ -24,12 +22,11 @@ use Rattle.creusot_cli.specs.declared.rs_syntax.form.AtomKind.TheVariants as ato
 use Rattle.creusot_cli.specs.declared.rs_syntax.form.Atom.{Atom}
 use Rattle.creusot_cli.specs.declared.rs_syntax.form.ChainStep.{ChainStep}
 use Rattle.creusot_cli.specs.declared.rs_syntax.form.Chain.{Chain}
-use Rattle.creusot_cli.specs.declared.rs_syntax.form.Function.{Function}
 use Rattle.creusot_cli.specs.SourceTokens.{kind_eq}
 use Rattle.creusot_cli.specs.SourceForm.{text_of, decimal, IsWord, IsIdentifier, IsInteger, sign_kind, comparison_kind, kind_word, cover, SpellsItem, SpellsSteps, SpellsSum, SpellsClause, SpellsClauses, SpellsParams, AreParams, SpellsAtom, SpellsChainSteps, SpellsChain, SpellsFunction}
 use Rattle.creusot_cli.specs.SourceForm as form
-use Rattle.creusot_cli.specs.SourceFormReading.{◌>>=◌, mark_at, word_at, name_at, is_word, is_name, begins, place_of, next_sign, comparison_at, named, number_item, found, item_at, steps_at, sum_at, clause_kind_at, clause_head_at, cover_until, term_at, clause_at, clauses_at, is_new, param_at, params_at, atom_of, atom_at, chain_steps_at, chain_at, signature_at, body_at, function_at}
-use Rattle.creusot_cli.proofs.LeafLaws.{bind_ok, read_as, ok_is, some_is, guard_ok, guard_not, guard_some, found_ok, and_true, not_true, kind_eq_true, mark_took, word_true, word_took, name_true, name_took, sign_took, comparison_took, place_some, no_params, one_more}
+use Rattle.creusot_cli.specs.SourceFormReading.{◌>>=◌, mark_at, word_at, name_at, is_word, is_name, begins, place_of, next_sign, comparison_at, named, number_item, found, item_at, steps_at, sum_at, clause_kind_at, clause_head_at, cover_until, term_at, clause_at, clauses_at, is_new, param_at, params_at, atom_of, atom_at, chain_steps_at, chain_at}
+use Rattle.creusot_cli.proofs.LeafLaws.{bind_ok, read_as, ok_is, some_is, guard_ok, guard_not, guard_some, found_ok, and_true, not_true, kind_eq_true, mark_took, word_true, word_took, name_true, name_took, sign_took, comparison_took, place_some, one_more}
 
 -- The tokens that were taken from the front are the text of something, at every list of parameters that was given.
 pub record Took (P : List (List ℕ) → List Token → Type 0) (names : Option (List (List ℕ))) (ts after : List Token) : Type 0 where

@@ -1,22 +1,21 @@
 -- Reading stops at the token at which a source is refused.
-use Rattle.std.proofs.Common.{◌≡◌, ℕ, zero, suc, ◌+◌, ◌-◌, ◌<◌, ◌≤◌, Bool, true, false, cond, List, [], ◌∷◌, ◌++◌, length, take, drop, map, Option, Some, None, Result, Ok, Err, refl, sym, ap, subst, ◌∙◌, append_assoc, arith, inl, inr, ◌⊎◌}
-use Rattle.std.specs.Prelude.{codes, ◌==◌}
+use Rattle.std.proofs.Common.{◌≡◌, ℕ, zero, suc, ◌+◌, ◌-◌, ◌≤◌, Bool, true, false, cond, List, [], ◌∷◌, ◌++◌, length, take, drop, map, Option, Some, None, Result, Ok, Err, refl, sym, ap, subst, ◌∙◌, append_assoc, arith, inl, inr, ◌⊎◌}
+use Rattle.std.specs.Prelude.{◌==◌}
 use Rattle.std.specs.Option.{option_map_or}
 use Rattle.std.proofs.lemmas.List.{length-map, length-append, length-take, length-take-le, map-append, take-append-drop, take-map, take_at}
 use Rattle.creusot_cli.specs.declared.rs_tokens.token.Token.{Token}
 use Rattle.creusot_cli.specs.declared.rs_tokens.token.TokenKind.TheVariants.{Hash, Word}
 use Rattle.creusot_cli.specs.declared.rs_syntax.form.Clause.{Clause}
-use Rattle.creusot_cli.specs.declared.rs_syntax.form.Chain.{Chain}
 use Rattle.creusot_cli.specs.declared.rs_syntax.form.Function.{Function}
 use Rattle.creusot_cli.specs.SourceTokens.{AreTokens}
-use Rattle.creusot_cli.specs.SourceForm.{text_of, SpellsClauses, SpellsFunction}
-use Rattle.creusot_cli.specs.SourceRefusal.{said, BeginsWith, CanContinue, Declares, IsRefusedAt, at_token, at_name}
+use Rattle.creusot_cli.specs.SourceForm.{text_of}
+use Rattle.creusot_cli.specs.SourceRefusal.{said, CanContinue, Declares, IsRefusedAt, at_token, at_name}
 use Rattle.creusot_cli.specs.SourceFormReading.{◌>>=◌, begins, clauses_at, signature_at, body_at, function_at, place_left}
 use Rattle.creusot_cli.proofs.LeafLaws.{read_as, ok_is, some_is, begins_not}
 use Rattle.creusot_cli.proofs.ReadLaws.{clauses_took}
 use Rattle.creusot_cli.proofs.AgainLaws.{Knows, nothing, everything, clauses_again, signature_again, seen_clauses}
 use Rattle.creusot_cli.proofs.FunctionLaws.{signature_took}
-use Rattle.creusot_cli.proofs.Stages.{Said, Stage, start, done, step, run, is_done, to_end, reaches_end, AreProper, proper-append, proper_end}
+use Rattle.creusot_cli.proofs.Stages.{Said, Stage, start, done, run, is_done, to_end, reaches_end, AreProper, proper-append, proper_end}
 use Rattle.creusot_cli.proofs.WalkLaws.{Walk, Halts, Stuck, Tracks, walk_within, run_all, run_front, run_past, run_append}
 use Rattle.creusot_cli.proofs.WalkFunction.{Ends, over_tracks}
 use Rattle.creusot_cli.proofs.OverLaws.{over_at, over_took, over_again}
@@ -63,7 +62,7 @@ module _ (names : Option (List (List ℕ))) (bytes : List ℕ) where
 
 -- ---- the tokens before can be continued
 
-can_continue : (names : List (List ℕ)) (bytes : List ℕ) (ts : List Token) (k : ℕ) (s : Stage) → AreTokens 0 bytes ts → k ≤ length ts → run (Some names) start (map (said bytes) (take k ts)) ≡ Some s → CanContinue names bytes ts k
+pub can_continue : (names : List (List ℕ)) (bytes : List ℕ) (ts : List Token) (k : ℕ) (s : Stage) → AreTokens 0 bytes ts → k ≤ length ts → run (Some names) start (map (said bytes) (take k ts)) ≡ Some s → CanContinue names bytes ts k
 can_continue names bytes ts k s tokens within runs =
     let front : List Said = map (said bytes) (take k ts) in
     let says : List Said = front ++ to_end s in
@@ -117,32 +116,34 @@ module _ (names : Option (List (List ℕ))) (given : List (List ℕ)) (knows : K
 
 -- ---- parameters that are declared
 
--- what the reading with open names takes of a source that declares the parameters
-record ReadsParams (bytes : List ℕ) (ts : List Token) (params : List (List ℕ)) : Type 0 where
-  clauses : List Clause
-  after : List Token
-  name : Token
-  rest : List Token
-  contract : clauses_at bytes None (length ts) [] ts ≡ Ok (clauses, after)
-  signature : signature_at bytes after ≡ Ok ((name, params), rest)
+-- what the reading with open names takes of a source that declares the parameters, with these tokens behind them
+pub record ReadsParams (bytes : List ℕ) (ts : List Token) (params : List (List ℕ)) (behind : List Token) : Type 0 where
+  pub clauses : List Clause
+  pub after : List Token
+  pub name : Token
+  pub contract : clauses_at bytes None (length ts) [] ts ≡ Ok (clauses, after)
+  pub signature : signature_at bytes after ≡ Ok ((name, params), behind)
 
-declared_read : (bytes : List ℕ) (ts : List Token) (k : ℕ) (params : List (List ℕ)) → Declares bytes (take k ts) params → ReadsParams bytes ts params
-declared_read bytes ts k params d =
-    let tail : List Token = d.rest ++ drop k ts in
-    let back : List Token = d.word ∷ d.name ∷ d.opening ∷ (d.listed ++ d.closing ∷ tail) in
+pub declared_read : (bytes : List ℕ) (ts front tail : List Token) (params : List (List ℕ)) → ts ≡ front ++ tail → (d : Declares bytes front params) → ReadsParams bytes ts params (d.rest ++ tail)
+declared_read bytes ts front tail params split d =
+    let behind : List Token = d.rest ++ tail in
+    let back : List Token = d.word ∷ d.name ∷ d.opening ∷ (d.listed ++ d.closing ∷ behind) in
     let whole : ts ≡ d.contract ++ back =
-    sym (take-append-drop k ts) ∙ ap (λ (us : List Token). us ++ drop k ts) d.parts
-    ∙ append_assoc d.contract (d.word ∷ d.name ∷ d.opening ∷ (d.listed ++ d.closing ∷ d.rest)) (drop k ts)
-    ∙ ap (λ (us : List Token). d.contract ++ d.word ∷ d.name ∷ d.opening ∷ us) (append_assoc d.listed (d.closing ∷ d.rest) (drop k ts)) in
-    let stop : begins Hash back ≡ false = begins_not Hash Word d.word (d.name ∷ d.opening ∷ (d.listed ++ d.closing ∷ tail)) d.is_word.kind refl in
+    split ∙ ap (λ (us : List Token). us ++ tail) d.parts
+    ∙ append_assoc d.contract (d.word ∷ d.name ∷ d.opening ∷ (d.listed ++ d.closing ∷ d.rest)) tail
+    ∙ ap (λ (us : List Token). d.contract ++ d.word ∷ d.name ∷ d.opening ∷ us) (append_assoc d.listed (d.closing ∷ d.rest) tail) in
+    let stop : begins Hash back ≡ false = begins_not Hash Word d.word (d.name ∷ d.opening ∷ (d.listed ++ d.closing ∷ behind)) d.is_word.kind refl in
     record {
       clauses = seen_clauses None d.clauses;
       after = back;
       name = d.name;
-      rest = tail;
       contract = ap (clauses_at bytes None (length ts) []) whole ∙ clauses_again bytes None d.names nothing (length ts) [] d.contract d.clauses back d.is_contract stop (omega (arith, ap length whole));
-      signature = signature_again bytes d.listed tail d.word d.name d.opening d.closing (text_of bytes d.name) params d.is_word d.is_name d.opens d.are_listed d.are_params d.closes;
+      signature = signature_again bytes d.listed behind d.word d.name d.opening d.closing (text_of bytes d.name) params d.is_word d.is_name d.opens d.are_listed d.are_params d.closes;
     }
+
+-- the same of the first k tokens
+front_read : (bytes : List ℕ) (ts : List Token) (k : ℕ) (params : List (List ℕ)) → (d : Declares bytes (take k ts) params) → ReadsParams bytes ts params (d.rest ++ drop k ts)
+front_read bytes ts k params d = declared_read bytes ts (take k ts) (drop k ts) params (sym (take-append-drop k ts)) d
 
 -- ---- the refused token
 
@@ -179,10 +180,10 @@ module _ (bytes : List ℕ) (ts : List Token) (tokens : AreTokens 0 bytes ts) (l
   module _ (a : List Clause × List Token) (b : (Token × List (List ℕ)) × List Token) (shape : clauses_at bytes None (length ts) [] ts ≡ Ok a) (signature : signature_at bytes a.1 ≡ Ok b) where
     same_params : (params : List (List ℕ)) → Declares bytes (take (length ts - left) ts) params → params ≡ b.0.1
     same_params params d =
-        let read = declared_read bytes ts (length ts - left) params d in
+        let read = front_read bytes ts (length ts - left) params d in
         let first : (read.clauses, read.after) ≡ a = ok_is (read.clauses, read.after) a (sym read.contract ∙ shape) in
         let after : read.after ≡ a.1 = ap (λ (x : List Clause × List Token). x.1) first in
-        let second : ((read.name, params), read.rest) ≡ b = ok_is ((read.name, params), read.rest) b (sym read.signature ∙ ap (signature_at bytes) after ∙ signature) in
+        let second : ((read.name, params), d.rest ++ drop (length ts - left) ts) ≡ b = ok_is ((read.name, params), d.rest ++ drop (length ts - left) ts) b (sym read.signature ∙ ap (signature_at bytes) after ∙ signature) in
         ap (λ (x : (Token × List (List ℕ)) × List Token). x.0.1) second
 
     -- the source declares them
@@ -242,10 +243,10 @@ signature_refused bytes ts left tokens a shape signature =
     let refused : over_at bytes None ts ≡ Err left = rw (shape, signature) refl in
     open_refused bytes ts tokens left refused
     (λ params d.
-      let read = declared_read bytes ts (length ts - left) params d in
-      let first : (read.clauses, read.after) ≡ a = ok_is (read.clauses, read.after) a (sym read.contract ∙ shape) in
-      let second : Ok ((read.name, params), read.rest) ≡ Err left = sym read.signature ∙ ap (λ (x : List Clause × List Token). signature_at bytes x.1) first ∙ signature in
-      absurd cc)
+    let read = front_read bytes ts (length ts - left) params d in
+    let first : (read.clauses, read.after) ≡ a = ok_is (read.clauses, read.after) a (sym read.contract ∙ shape) in
+    let second : Ok ((read.name, params), d.rest ++ drop (length ts - left) ts) ≡ Err left = sym read.signature ∙ ap (λ (x : List Clause × List Token). signature_at bytes x.1) first ∙ signature in
+    absurd cc)
 
 -- the two readings of a contract leave the same tokens
 same_rest : (bytes : List ℕ) (ts : List Token) (params : List (List ℕ)) (a c : List Clause × List Token) → clauses_at bytes None (length ts) [] ts ≡ Ok a → clauses_at bytes (Some params) (length ts) [] ts ≡ Ok c → c.1 ≡ a.1
@@ -266,7 +267,7 @@ behind_refused bytes b first second left e =
     (λ body. cond (length body.1 == 0) (read_as {A = Function × List Token} (record { name = text_of bytes b.0.0; span = b.0.0.span; params = b.0.1; clauses = second; body = body.0 }, body.1)) (Err (length body.1)))
     left
     (λ body. guard_err (length body.1 == 0) (record { name = text_of bytes b.0.0; span = b.0.0.span; params = b.0.1; clauses = first; body = body.0 })
-      (record { name = text_of bytes b.0.0; span = b.0.0.span; params = b.0.1; clauses = second; body = body.0 }, body.1) (length body.1) left)
+    (record { name = text_of bytes b.0.0; span = b.0.0.span; params = b.0.1; clauses = second; body = body.0 }, body.1) (length body.1) left)
     e
 
 after_signature : (bytes : List ℕ) (ts : List Token) (left : ℕ) → AreTokens 0 bytes ts → (a : List Clause × List Token) (b : (Token × List (List ℕ)) × List Token)
@@ -277,7 +278,7 @@ after_signature : (bytes : List ℕ) (ts : List Token) (left : ℕ) → AreToken
 unfolding over_at
 after_signature bytes ts left tokens a b shape signature e =
     elim (bind_err (clauses_at bytes (Some b.0.1) (length ts) [] ts) (λ contract. body_at bytes b.0.1 b.1 >>= λ body.
-      (cond (length body.1 == 0) (read_as {A = Function} (record { name = text_of bytes b.0.0; span = b.0.0.span; params = b.0.1; clauses = contract.0; body = body.0 })) (Err (length body.1)))) left e) [
+    (cond (length body.1 == 0) (read_as {A = Function} (record { name = text_of bytes b.0.0; span = b.0.0.span; params = b.0.1; clauses = contract.0; body = body.0 })) (Err (length body.1)))) left e) [
       | inl contract ↦
           let refused : over_at bytes (Some b.0.1) ts ≡ Err left = ap (λ (r : Result (List Clause × List Token) ℕ). r >>= rest_of_function bytes) contract in
           name_refused bytes ts tokens left a b shape signature left refl refused
@@ -292,13 +293,13 @@ pub refused_at : (bytes : List ℕ) (ts : List Token) (left : ℕ) → AreTokens
 unfolding function_at over_at
 refused_at bytes ts left tokens e =
     elim (bind_err (clauses_at bytes None (length ts) [] ts) (λ shape. signature_at bytes shape.1 >>= λ signature. clauses_at bytes (Some signature.0.1) (length ts) [] ts >>= λ contract. body_at bytes signature.0.1 signature.1 >>= λ body.
-      (cond (length body.1 == 0) (Ok (record { name = text_of bytes signature.0.0; span = signature.0.0.span; params = signature.0.1; clauses = contract.0; body = body.0 })) (Err (length body.1)))) left e) [
+    (cond (length body.1 == 0) (Ok (record { name = text_of bytes signature.0.0; span = signature.0.0.span; params = signature.0.1; clauses = contract.0; body = body.0 })) (Err (length body.1)))) left e) [
       | inl shape ↦
           open_refused bytes ts tokens left (ap (λ (r : Result (List Clause × List Token) ℕ). r >>= rest_of_function bytes) shape)
-          (λ params d. let read = declared_read bytes ts (length ts - left) params d in let clash = sym shape ∙ read.contract in absurd cc)
+          (λ params d. let read = front_read bytes ts (length ts - left) params d in let clash = sym shape ∙ read.contract in absurd cc)
       | inr a ↦
           elim (bind_err (signature_at bytes a.0.1) (λ signature. clauses_at bytes (Some signature.0.1) (length ts) [] ts >>= λ contract. body_at bytes signature.0.1 signature.1 >>= λ body.
-            (cond (length body.1 == 0) (Ok (record { name = text_of bytes signature.0.0; span = signature.0.0.span; params = signature.0.1; clauses = contract.0; body = body.0 })) (Err (length body.1)))) left a.2) [
+          (cond (length body.1 == 0) (Ok (record { name = text_of bytes signature.0.0; span = signature.0.0.span; params = signature.0.1; clauses = contract.0; body = body.0 })) (Err (length body.1)))) left a.2) [
             | inl signature ↦ signature_refused bytes ts left tokens a.0 a.1 signature
             | inr b ↦ after_signature bytes ts left tokens a.0 b.0 a.1 b.1 b.2
           ]

@@ -1,9 +1,8 @@
 -- Reading as a walk through stages: which token may stand next at each, and one way from each to the end.
-use Rattle.std.proofs.Common.{◌≡◌, ℕ, zero, suc, ◌+◌, ◌^◌, Bool, true, false, ◌&&◌, cond, List, [], ◌∷◌, ◌++◌, Option, Some, None, refl}
+use Rattle.std.proofs.Common.{◌≡◌, ℕ, zero, suc, ◌^◌, Bool, true, false, ◌&&◌, cond, List, [], ◌∷◌, ◌++◌, Option, Some, None, refl}
 use Rattle.std.specs.Prelude.{not, nat_lt, codes, is_some}
 use Rattle.std.specs.Option.{option_map_or}
 use Rattle.std.specs.Str.{bytes_eq}
-use Rattle.creusot_cli.specs.declared.rs_tokens.token.Token.{Token}
 use Rattle.creusot_cli.specs.declared.rs_tokens.token.TokenKind.{TokenKind}
 use Rattle.creusot_cli.specs.declared.rs_tokens.token.TokenKind.TheVariants.{Word, Integer, Hash, OpenBracket, CloseBracket, OpenParen, CloseParen, OpenBrace, CloseBrace, Colon, Comma, Arrow, At}
 use Rattle.creusot_cli.specs.declared.rs_tokens.token.TokenKind.TheVariants as kinds

@@ -1,10 +1,9 @@
 -- The reading of a contract follows its stages.
-use Rattle.std.proofs.Common.{◌≡◌, ℕ, zero, suc, ◌+◌, ◌-◌, ◌<◌, ◌≤◌, ◌^◌, Bool, true, false, cond, List, [], ◌∷◌, ◌++◌, length, Option, Some, None, Result, Ok, Err, refl, sym, ap, subst, ◌∙◌, arith}
+use Rattle.std.proofs.Common.{◌≡◌, ℕ, zero, suc, ◌≤◌, ◌^◌, Bool, true, false, cond, List, [], ◌∷◌, ◌++◌, length, Option, Some, None, Result, Ok, Err, refl, sym, subst, ◌∙◌, arith}
 use Rattle.std.specs.Prelude.{is_some, nat_lt, pos, codes}
-use Rattle.std.specs.Option.{option_map, option_map_or}
+use Rattle.std.specs.Option.{option_map_or}
 use Rattle.creusot_cli.specs.declared.rs_tokens.token.Token.{Token}
 use Rattle.creusot_cli.specs.declared.rs_tokens.token.TokenKind.TheVariants.{Integer, Hash, OpenBracket, CloseBracket, OpenParen, CloseParen, At}
-use Rattle.creusot_cli.specs.declared.rs_syntax.form.Sign.{Sign}
 use Rattle.creusot_cli.specs.declared.rs_syntax.form.Item.{Item}
 use Rattle.creusot_cli.specs.declared.rs_syntax.form.Item.TheVariants as items
 use Rattle.creusot_cli.specs.declared.rs_syntax.form.SumStep.{SumStep}
@@ -18,8 +17,8 @@ use Rattle.creusot_cli.specs.SourceRefusal.{said}
 use Rattle.creusot_cli.specs.SourceFormReading.{◌>>=◌, mark_at, name_at, is_word, is_name, begins, sign_of, next_sign, comparison_of, comparison_at, named, number_item, found, item_at, steps_at, sum_at, clause_kind_at, clause_head_at, cover_until, term_at, clause_at, clauses_at}
 use Rattle.creusot_cli.proofs.LeafLaws.{read_as}
 use Rattle.creusot_cli.proofs.ReadLaws.{clause_took, none_begins}
-use Rattle.creusot_cli.proofs.Stages.{Side, left, right, Stage, start, hashed, opened, headed, at_item, at_view, behind_item, closed, want, word_said, name_said, number_said, known_said, behind_sum, step}
-use Rattle.creusot_cli.proofs.WalkLaws.{LeadsTo, Walk, go, here, Tracks, Awaits, prepended, tracks_bind, tracks_then, tracks_ok, stuck_end, stuck_here, next_by, tracks_found, always, mark_tracks}
+use Rattle.creusot_cli.proofs.Stages.{Side, left, right, Stage, start, hashed, opened, headed, at_item, at_view, behind_item, closed, want, name_said, number_said, known_said, behind_sum}
+use Rattle.creusot_cli.proofs.WalkLaws.{LeadsTo, go, here, Tracks, Awaits, prepended, tracks_bind, tracks_then, tracks_ok, stuck_end, stuck_here, next_by, tracks_found, always, mark_tracks}
 
 pub name_is_said : (bytes : List ℕ) (t : Token) → name_said (said bytes t) ≡ is_name bytes t
 unfolding name_said
@@ -55,7 +54,7 @@ module _ (names : Option (List (List ℕ))) (bytes : List ℕ) where
       tracks_then names bytes (at_view side kind n) (LeadsTo (behind_item side kind n)) (at_item side kind n) (t ∷ ts) (found (named names kind (text_of bytes t)) (t ∷ ts) ts)
       (λ item. mark_at At item.1 >>= λ view. Ok (item.0, view.1))
       (tracks_found names bytes (LeadsTo (at_view side kind n)) (named names kind (text_of bytes t)) (at_item side kind n) (at_view side kind n) t ts
-        (rw (integer, name_is_said bytes t ∙ name, name_known names bytes kind t) refl) (λ x. refl))
+      (rw (integer, name_is_said bytes t ∙ name, name_known names bytes kind t) refl) (λ x. refl))
       (λ item e. view_tracks side kind n item.0 item.1)
 
   item_tracks : (side : Side) (kind : ClauseKind) (n : ℕ) (ts : List Token) → Tracks names bytes (at_item side kind n) (LeadsTo {X = Item} (behind_item side kind n)) ts (item_at bytes names kind ts)
@@ -85,7 +84,7 @@ module _ (names : Option (List (List ℕ))) (bytes : List ℕ) where
             let f : Item × List Token → Result (List SumStep × List Token) ℕ = λ item. steps_at bytes names kind n (steps ++ record { sign = sign; item = item.0 } ∷ []) item.1 in
             prepended names bytes (EndsSum side kind) (behind_item side kind (suc n)) (at_item side kind n) (t ∷ ts) ts (item_at bytes names kind ts >>= f) (go (rw e refl) here)
             (tracks_then names bytes (behind_item side kind n) (EndsSum side kind) (at_item side kind n) ts (item_at bytes names kind ts) f (item_tracks side kind n ts)
-              (λ item read. steps_tracks side kind n (steps ++ record { sign = sign; item = item.0 } ∷ []) item.1))
+            (λ item read. steps_tracks side kind n (steps ++ record { sign = sign; item = item.0 } ∷ []) item.1))
       ] refl
 
   sum_tracks : (side : Side) (kind : ClauseKind) (ts : List Token) → Tracks names bytes (at_item side kind 256) (EndsSum {X = Sum} side kind) ts (sum_at bytes names kind ts)
@@ -94,8 +93,8 @@ module _ (names : Option (List (List ℕ))) (bytes : List ℕ) where
       tracks_then names bytes (behind_item side kind 256) (EndsSum side kind) (at_item side kind 256) ts (item_at bytes names kind ts)
       (λ first. steps_at bytes names kind 256 [] first.1 >>= λ rest. Ok (record { first = first.0; rest = rest.0 }, rest.1)) (item_tracks side kind 256 ts)
       (λ first e. tracks_bind names bytes (EndsSum side kind) (EndsSum side kind) (behind_item side kind 256) first.1 (steps_at bytes names kind 256 [] first.1)
-        (λ rest. Ok (record { first = first.0; rest = rest.0 }, rest.1)) (steps_tracks side kind 256 [] first.1)
-        (λ rest m read exit. tracks_ok names bytes (EndsSum side kind) m rest.1 (record { first = first.0; rest = rest.0 }) exit))
+      (λ rest. Ok (record { first = first.0; rest = rest.0 }, rest.1)) (steps_tracks side kind 256 [] first.1)
+      (λ rest m read exit. tracks_ok names bytes (EndsSum side kind) m rest.1 (record { first = first.0; rest = rest.0 }) exit))
 
   comparison_tracks : (kind : ClauseKind) (s : Stage) (ts : List Token) → Awaits names bytes s (behind_sum left kind) ts → Tracks names bytes s (LeadsTo (at_item right kind 256)) ts (comparison_at ts)
   unfolding comparison_at
@@ -109,12 +108,12 @@ module _ (names : Option (List (List ℕ))) (bytes : List ℕ) where
       (λ left. comparison_at left.1 >>= λ sign. sum_at bytes names kind sign.1 >>= λ right. Ok (record { kind = kind; span = cover_until ts right.1; left = left.0; comparison = sign.0; right = right.0 }, right.1))
       (sum_tracks left kind ts)
       (λ first m e exit. tracks_then names bytes (at_item right kind 256) (EndsSum right kind) m first.1 (comparison_at first.1)
-        (λ sign. sum_at bytes names kind sign.1 >>= λ right. Ok (record { kind = kind; span = cover_until ts right.1; left = first.0; comparison = sign.0; right = right.0 }, right.1))
-        (comparison_tracks kind m first.1 exit)
-        (λ sign e. tracks_bind names bytes (EndsSum right kind) (EndsSum right kind) (at_item right kind 256) sign.1 (sum_at bytes names kind sign.1)
-          (λ right. Ok (record { kind = kind; span = cover_until ts right.1; left = first.0; comparison = sign.0; right = right.0 }, right.1))
-          (sum_tracks right kind sign.1)
-          (λ second m e exit. tracks_ok names bytes (EndsSum right kind) m second.1 (record { kind = kind; span = cover_until ts second.1; left = first.0; comparison = sign.0; right = second.0 }) exit)))
+      (λ sign. sum_at bytes names kind sign.1 >>= λ right. Ok (record { kind = kind; span = cover_until ts right.1; left = first.0; comparison = sign.0; right = right.0 }, right.1))
+      (comparison_tracks kind m first.1 exit)
+      (λ sign e. tracks_bind names bytes (EndsSum right kind) (EndsSum right kind) (at_item right kind 256) sign.1 (sum_at bytes names kind sign.1)
+      (λ right. Ok (record { kind = kind; span = cover_until ts right.1; left = first.0; comparison = sign.0; right = right.0 }, right.1))
+      (sum_tracks right kind sign.1)
+      (λ second m e exit. tracks_ok names bytes (EndsSum right kind) m second.1 (record { kind = kind; span = cover_until ts second.1; left = first.0; comparison = sign.0; right = second.0 }) exit)))
 
   -- ---- clauses
 
@@ -143,13 +142,13 @@ module _ (names : Option (List (List ℕ))) (bytes : List ℕ) where
       tracks_then names bytes hashed ItemFirst start ts (mark_at Hash ts) (λ hash. mark_at OpenBracket hash.1 >>= λ opening. clause_kind_at bytes opening.1 >>= λ kind. mark_at OpenParen kind.1 >>= λ paren. Ok (kind.0, paren.1))
       (mark_tracks names bytes Hash start hashed ts (awaits_hash ts h))
       (λ hash e. tracks_then names bytes opened ItemFirst hashed hash.1 (mark_at OpenBracket hash.1) (λ opening. clause_kind_at bytes opening.1 >>= λ kind. mark_at OpenParen kind.1 >>= λ paren. Ok (kind.0, paren.1))
-        (mark_tracks names bytes OpenBracket hashed opened hash.1 (always names bytes hashed (want OpenBracket opened) hash.1 refl (λ a. refl)))
-        (λ opening e. tracks_bind names bytes (λ (x : ClauseKind) rest m. m ≡ headed x) ItemFirst opened opening.1 (clause_kind_at bytes opening.1) (λ kind. mark_at OpenParen kind.1 >>= λ paren. Ok (kind.0, paren.1))
-          (kind_tracks opening.1)
-          (λ kind m e exit. subst (λ (s : Stage). Tracks names bytes s ItemFirst kind.1 (mark_at OpenParen kind.1 >>= λ paren. Ok (kind.0, paren.1))) (sym exit)
-            (tracks_then names bytes (at_item left kind.0 256) ItemFirst (headed kind.0) kind.1 (mark_at OpenParen kind.1) (λ paren. Ok (kind.0, paren.1))
-              (mark_tracks names bytes OpenParen (headed kind.0) (at_item left kind.0 256) kind.1 (always names bytes (headed kind.0) (want OpenParen (at_item left kind.0 256)) kind.1 refl (λ a. refl)))
-              (λ paren e. tracks_ok names bytes ItemFirst (at_item left kind.0 256) paren.1 kind.0 refl)))))
+      (mark_tracks names bytes OpenBracket hashed opened hash.1 (always names bytes hashed (want OpenBracket opened) hash.1 refl (λ a. refl)))
+      (λ opening e. tracks_bind names bytes (λ (x : ClauseKind) rest m. m ≡ headed x) ItemFirst opened opening.1 (clause_kind_at bytes opening.1) (λ kind. mark_at OpenParen kind.1 >>= λ paren. Ok (kind.0, paren.1))
+      (kind_tracks opening.1)
+      (λ kind m e exit. subst (λ (s : Stage). Tracks names bytes s ItemFirst kind.1 (mark_at OpenParen kind.1 >>= λ paren. Ok (kind.0, paren.1))) (sym exit)
+      (tracks_then names bytes (at_item left kind.0 256) ItemFirst (headed kind.0) kind.1 (mark_at OpenParen kind.1) (λ paren. Ok (kind.0, paren.1))
+      (mark_tracks names bytes OpenParen (headed kind.0) (at_item left kind.0 256) kind.1 (always names bytes (headed kind.0) (want OpenParen (at_item left kind.0 256)) kind.1 refl (λ a. refl)))
+      (λ paren e. tracks_ok names bytes ItemFirst (at_item left kind.0 256) paren.1 kind.0 refl)))))
 
   clause_tracks : (ts : List Token) → begins Hash ts ≡ true → Tracks names bytes start (LeadsTo {X = Clause} start) ts (clause_at bytes names ts)
   unfolding clause_at
@@ -157,13 +156,13 @@ module _ (names : Option (List (List ℕ))) (bytes : List ℕ) where
       tracks_bind names bytes ItemFirst (LeadsTo start) start ts (clause_head_at bytes ts) (λ head. term_at bytes names head.0 head.1 >>= λ term. mark_at CloseParen term.1 >>= λ closing. mark_at CloseBracket closing.1 >>= λ end. Ok (term.0, end.1))
       (head_tracks ts h)
       (λ head m e exit. subst (λ (s : Stage). Tracks names bytes s (LeadsTo {X = Clause} start) head.1 (term_at bytes names head.0 head.1 >>= λ term. mark_at CloseParen term.1 >>= λ closing. mark_at CloseBracket closing.1 >>= λ end. Ok (term.0, end.1))) (sym exit)
-        (tracks_bind names bytes (EndsSum right head.0) (LeadsTo start) (at_item left head.0 256) head.1 (term_at bytes names head.0 head.1) (λ term. mark_at CloseParen term.1 >>= λ closing. mark_at CloseBracket closing.1 >>= λ end. Ok (term.0, end.1))
-          (term_tracks head.0 head.1)
-          (λ term m e exit. tracks_then names bytes closed (LeadsTo start) m term.1 (mark_at CloseParen term.1) (λ closing. mark_at CloseBracket closing.1 >>= λ end. Ok (term.0, end.1))
-            (mark_tracks names bytes CloseParen m closed term.1 exit)
-            (λ closing e. tracks_then names bytes start (LeadsTo start) closed closing.1 (mark_at CloseBracket closing.1) (λ end. Ok (term.0, end.1))
-              (mark_tracks names bytes CloseBracket closed start closing.1 (always names bytes closed (want CloseBracket start) closing.1 refl (λ a. refl)))
-              (λ end e. tracks_ok names bytes (LeadsTo start) start end.1 term.0 refl)))))
+      (tracks_bind names bytes (EndsSum right head.0) (LeadsTo start) (at_item left head.0 256) head.1 (term_at bytes names head.0 head.1) (λ term. mark_at CloseParen term.1 >>= λ closing. mark_at CloseBracket closing.1 >>= λ end. Ok (term.0, end.1))
+      (term_tracks head.0 head.1)
+      (λ term m e exit. tracks_then names bytes closed (LeadsTo start) m term.1 (mark_at CloseParen term.1) (λ closing. mark_at CloseBracket closing.1 >>= λ end. Ok (term.0, end.1))
+      (mark_tracks names bytes CloseParen m closed term.1 exit)
+      (λ closing e. tracks_then names bytes start (LeadsTo start) closed closing.1 (mark_at CloseBracket closing.1) (λ end. Ok (term.0, end.1))
+      (mark_tracks names bytes CloseBracket closed start closing.1 (always names bytes closed (want CloseBracket start) closing.1 refl (λ a. refl)))
+      (λ end e. tracks_ok names bytes (LeadsTo start) start end.1 term.0 refl)))))
 
   -- whole clauses, and no clause behind them
   abbrev pub EndsClauses : List Clause → List Token → Stage → Type 0

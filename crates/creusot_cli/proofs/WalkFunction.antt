@@ -1,12 +1,11 @@
 -- The reading of a function follows its stages.
-use Rattle.std.proofs.Common.{◌≡◌, ℕ, zero, suc, ◌+◌, ◌-◌, ◌<◌, ◌≤◌, ◌^◌, Bool, true, false, cond, List, [], ◌∷◌, ◌++◌, length, drop, length-drop, Option, Some, None, Result, Ok, Err, refl, sym, ap, subst, ◌∙◌, arith}
+use Rattle.std.proofs.Common.{◌≡◌, ℕ, zero, suc, ◌≤◌, ◌^◌, Bool, true, false, cond, List, [], ◌∷◌, ◌++◌, length, drop, length-drop, Option, Some, None, Result, Ok, Err, refl, sym, subst, ◌∙◌, arith}
 use Rattle.std.specs.Prelude.{is_some, nat_lt, pos, codes, ◌==◌}
 use Rattle.std.specs.Option.{option_map, option_map_or}
 use Rattle.std.proofs.lemmas.Bool.{eqb-true}
 use Rattle.std.proofs.lemmas.List.{nil_from_length}
 use Rattle.creusot_cli.specs.declared.rs_tokens.token.Token.{Token}
 use Rattle.creusot_cli.specs.declared.rs_tokens.token.TokenKind.TheVariants.{Word, Integer, Hash, OpenParen, CloseParen, OpenBrace, CloseBrace, Colon, Comma, Arrow}
-use Rattle.creusot_cli.specs.declared.rs_syntax.form.Sign.{Sign}
 use Rattle.creusot_cli.specs.declared.rs_syntax.form.AtomKind.{AtomKind}
 use Rattle.creusot_cli.specs.declared.rs_syntax.form.AtomKind.TheVariants as atoms
 use Rattle.creusot_cli.specs.declared.rs_syntax.form.Atom.{Atom}
@@ -19,7 +18,7 @@ use Rattle.creusot_cli.specs.SourceRefusal.{said}
 use Rattle.creusot_cli.specs.SourceFormReading.{◌>>=◌, mark_at, word_at, name_at, is_name, begins, place_of, sign_of, next_sign, is_new, param_at, params_at, atom_of, atom_at, chain_steps_at, chain_at, clauses_at, signature_at, body_at}
 use Rattle.creusot_cli.proofs.LeafLaws.{read_as}
 use Rattle.creusot_cli.proofs.ReadLaws.{param_took, none_begins}
-use Rattle.creusot_cli.proofs.Stages.{Said, Stage, start, at_name, behind_name, at_param, at_colon, at_type, behind_param, at_arrow, at_answer, at_brace, at_atom, behind_atom, done, want, want_word, name_said, number_said, new_said, placed_said, atom_step, step}
+use Rattle.creusot_cli.proofs.Stages.{Stage, start, at_name, behind_name, at_param, at_colon, at_type, behind_param, at_arrow, at_answer, at_brace, at_atom, behind_atom, done, want, want_word, name_said, number_said, new_said, placed_said, atom_step}
 use Rattle.creusot_cli.proofs.WalkLaws.{LeadsTo, Walk, go, here, Tracks, Awaits, prepended, tracks_bind, tracks_then, tracks_ok, stuck_end, stuck_here, next_by, tracks_token, tracks_found, always, mark_tracks, word_tracks}
 use Rattle.creusot_cli.proofs.OverLaws.{over_at}
 use Rattle.creusot_cli.proofs.WalkContract.{name_is_said, EndsClauses, clauses_tracks}
@@ -60,8 +59,8 @@ module _ (names : Option (List (List ℕ))) (bytes : List ℕ) where
       tracks_then names bytes (at_type more) (EndsParam params) (at_colon more) ts (mark_at Colon ts) (λ colon. word_at bytes (codes "i32") colon.1 >>= λ type. Ok (t, type.1))
       (mark_tracks names bytes Colon (at_colon more) (at_type more) ts (always names bytes (at_colon more) (want Colon (at_type more)) ts refl (λ a. refl)))
       (λ colon e. tracks_then names bytes (behind_param more) (EndsParam params) (at_type more) colon.1 (word_at bytes (codes "i32") colon.1) (λ type. Ok (t, type.1))
-        (word_tracks names bytes (codes "i32") (at_type more) (behind_param more) colon.1 (always names bytes (at_type more) (want_word (codes "i32") (behind_param more)) colon.1 refl (λ a. refl)))
-        (λ type e. tracks_ok names bytes (EndsParam params) (behind_param more) type.1 t refl))
+      (word_tracks names bytes (codes "i32") (at_type more) (behind_param more) colon.1 (always names bytes (at_type more) (want_word (codes "i32") (behind_param more)) colon.1 refl (λ a. refl)))
+      (λ type e. tracks_ok names bytes (EndsParam params) (behind_param more) type.1 t refl))
 
   param_tracks_by : (q r : Bool) (params : List (List ℕ)) (t : Token) (ts : List Token) → kind_eq t.kind Word ≡ true → is_name bytes t ≡ q → is_new params (text_of bytes t) ≡ r
       → Tracks names bytes (at_param params) (EndsParam params) (t ∷ ts)
@@ -115,14 +114,14 @@ module _ (names : Option (List (List ℕ))) (bytes : List ℕ) where
             (λ param. cond (begins Comma param.1) (params_at bytes n (params ++ text_of bytes param.0 ∷ []) (drop 1 param.1)) (Ok (params ++ text_of bytes param.0 ∷ [], param.1)))
             (param_tracks params ts h)
             (λ param m e exit.
-              let more : List (List ℕ) = params ++ text_of bytes param.0 ∷ [] in
-              let shorter = (param_took bytes params ts param e).shorter in
-              subst (λ (s : Stage). Tracks names bytes s EndsParams param.1 (cond (begins Comma param.1) (params_at bytes n more (drop 1 param.1)) (Ok (more, param.1)))) (sym exit)
-              (elim (begins Comma param.1) as (λ b. begins Comma param.1 ≡ b → Tracks names bytes (behind_param more) EndsParams param.1 (cond b (params_at bytes n more (drop 1 param.1)) (Ok (more, param.1)))) [
-                | true ↦ λ comma. prepended names bytes EndsParams (behind_param more) (at_param more) param.1 (drop 1 param.1) (params_at bytes n more (drop 1 param.1)) (comma_walk more param.1 comma)
-                    (params_tracks n more (drop 1 param.1) (omega (arith, length-drop 1 param.1)))
-                | false ↦ λ comma. tracks_ok names bytes EndsParams (behind_param more) param.1 more (comma_or_close more param.1 comma)
-              ] refl))
+            let more : List (List ℕ) = params ++ text_of bytes param.0 ∷ [] in
+            let shorter = (param_took bytes params ts param e).shorter in
+            subst (λ (s : Stage). Tracks names bytes s EndsParams param.1 (cond (begins Comma param.1) (params_at bytes n more (drop 1 param.1)) (Ok (more, param.1)))) (sym exit)
+            (elim (begins Comma param.1) as (λ b. begins Comma param.1 ≡ b → Tracks names bytes (behind_param more) EndsParams param.1 (cond b (params_at bytes n more (drop 1 param.1)) (Ok (more, param.1)))) [
+              | true ↦ λ comma. prepended names bytes EndsParams (behind_param more) (at_param more) param.1 (drop 1 param.1) (params_at bytes n more (drop 1 param.1)) (comma_walk more param.1 comma)
+                  (params_tracks n more (drop 1 param.1) (omega (arith, length-drop 1 param.1)))
+              | false ↦ λ comma. tracks_ok names bytes EndsParams (behind_param more) param.1 more (comma_or_close more param.1 comma)
+            ] refl))
       ] refl
 
   fn_awaited : (ts : List Token) → begins Hash ts ≡ false → Awaits names bytes start (want_word (codes "fn") at_name) ts
@@ -130,27 +129,27 @@ module _ (names : Option (List (List ℕ))) (bytes : List ℕ) where
   fn_awaited [] h = refl
   fn_awaited (t ∷ ts) h = rw h refl
 
-  abbrev EndsSignature : Token × List (List ℕ) → List Token → Stage → Type 0
+  abbrev pub EndsSignature : Token × List (List ℕ) → List Token → Stage → Type 0
   EndsSignature x rest m = m ≡ at_arrow x.1
 
-  signature_tracks : (ts : List Token) → begins Hash ts ≡ false → Tracks names bytes start EndsSignature ts (signature_at bytes ts)
+  pub signature_tracks : (ts : List Token) → begins Hash ts ≡ false → Tracks names bytes start EndsSignature ts (signature_at bytes ts)
   unfolding signature_at
   signature_tracks ts h =
       tracks_then names bytes at_name EndsSignature start ts (word_at bytes (codes "fn") ts)
       (λ word. name_at bytes word.1 >>= λ name. mark_at OpenParen name.1 >>= λ opening. params_at bytes (length opening.1) [] opening.1 >>= λ params. mark_at CloseParen params.1 >>= λ closing. Ok ((name.0, params.0), closing.1))
       (word_tracks names bytes (codes "fn") start at_name ts (fn_awaited ts h))
       (λ word e. tracks_then names bytes behind_name EndsSignature at_name word.1 (name_at bytes word.1)
-        (λ name. mark_at OpenParen name.1 >>= λ opening. params_at bytes (length opening.1) [] opening.1 >>= λ params. mark_at CloseParen params.1 >>= λ closing. Ok ((name.0, params.0), closing.1))
-        (name_tracks word.1)
-        (λ name e. tracks_then names bytes (at_param []) EndsSignature behind_name name.1 (mark_at OpenParen name.1)
-          (λ opening. params_at bytes (length opening.1) [] opening.1 >>= λ params. mark_at CloseParen params.1 >>= λ closing. Ok ((name.0, params.0), closing.1))
-          (mark_tracks names bytes OpenParen behind_name (at_param []) name.1 (always names bytes behind_name (want OpenParen (at_param [])) name.1 refl (λ a. refl)))
-          (λ opening e. tracks_bind names bytes EndsParams EndsSignature (at_param []) opening.1 (params_at bytes (length opening.1) [] opening.1)
-            (λ params. mark_at CloseParen params.1 >>= λ closing. Ok ((name.0, params.0), closing.1))
-            (params_tracks (length opening.1) [] opening.1 (omega arith))
-            (λ params m e exit. tracks_then names bytes (at_arrow params.0) EndsSignature m params.1 (mark_at CloseParen params.1) (λ closing. Ok ((name.0, params.0), closing.1))
-              (mark_tracks names bytes CloseParen m (at_arrow params.0) params.1 exit)
-              (λ closing e. tracks_ok names bytes EndsSignature (at_arrow params.0) closing.1 (name.0, params.0) refl)))))
+      (λ name. mark_at OpenParen name.1 >>= λ opening. params_at bytes (length opening.1) [] opening.1 >>= λ params. mark_at CloseParen params.1 >>= λ closing. Ok ((name.0, params.0), closing.1))
+      (name_tracks word.1)
+      (λ name e. tracks_then names bytes (at_param []) EndsSignature behind_name name.1 (mark_at OpenParen name.1)
+      (λ opening. params_at bytes (length opening.1) [] opening.1 >>= λ params. mark_at CloseParen params.1 >>= λ closing. Ok ((name.0, params.0), closing.1))
+      (mark_tracks names bytes OpenParen behind_name (at_param []) name.1 (always names bytes behind_name (want OpenParen (at_param [])) name.1 refl (λ a. refl)))
+      (λ opening e. tracks_bind names bytes EndsParams EndsSignature (at_param []) opening.1 (params_at bytes (length opening.1) [] opening.1)
+      (λ params. mark_at CloseParen params.1 >>= λ closing. Ok ((name.0, params.0), closing.1))
+      (params_tracks (length opening.1) [] opening.1 (omega arith))
+      (λ params m e exit. tracks_then names bytes (at_arrow params.0) EndsSignature m params.1 (mark_at CloseParen params.1) (λ closing. Ok ((name.0, params.0), closing.1))
+      (mark_tracks names bytes CloseParen m (at_arrow params.0) params.1 exit)
+      (λ closing e. tracks_ok names bytes EndsSignature (at_arrow params.0) closing.1 (name.0, params.0) refl)))))
 
   -- ---- bodies
 
@@ -182,7 +181,7 @@ module _ (names : Option (List (List ℕ))) (bytes : List ℕ) where
             let f : Atom × List Token → Result (List ChainStep × List Token) ℕ = λ atom. chain_steps_at bytes params n (steps ++ record { sign = sign; at = t.span; atom = atom.0 } ∷ []) atom.1 in
             prepended names bytes EndsBody (behind_atom params (suc n)) (at_atom params n) (t ∷ ts) ts (atom_at bytes params ts >>= f) (go (rw e refl) here)
             (tracks_then names bytes (behind_atom params n) EndsBody (at_atom params n) ts (atom_at bytes params ts) f (atom_tracks params n ts)
-              (λ atom read. chain_tracks params n (steps ++ record { sign = sign; at = t.span; atom = atom.0 } ∷ []) atom.1))
+            (λ atom read. chain_tracks params n (steps ++ record { sign = sign; at = t.span; atom = atom.0 } ∷ []) atom.1))
       ] refl
 
   all_tracks : (params : List (List ℕ)) (ts : List Token) → Tracks names bytes (at_atom params 256) (EndsBody {X = Chain}) ts (chain_at bytes params ts)
@@ -191,8 +190,8 @@ module _ (names : Option (List (List ℕ))) (bytes : List ℕ) where
       tracks_then names bytes (behind_atom params 256) EndsBody (at_atom params 256) ts (atom_at bytes params ts)
       (λ first. chain_steps_at bytes params 256 [] first.1 >>= λ rest. Ok (record { first = first.0; rest = rest.0 }, rest.1)) (atom_tracks params 256 ts)
       (λ first e. tracks_bind names bytes EndsBody EndsBody (behind_atom params 256) first.1 (chain_steps_at bytes params 256 [] first.1)
-        (λ rest. Ok (record { first = first.0; rest = rest.0 }, rest.1)) (chain_tracks params 256 [] first.1)
-        (λ rest m read exit. tracks_ok names bytes EndsBody m rest.1 (record { first = first.0; rest = rest.0 }) exit))
+      (λ rest. Ok (record { first = first.0; rest = rest.0 }, rest.1)) (chain_tracks params 256 [] first.1)
+      (λ rest m read exit. tracks_ok names bytes EndsBody m rest.1 (record { first = first.0; rest = rest.0 }) exit))
 
   body_tracks : (params : List (List ℕ)) (ts : List Token) → Tracks names bytes (at_arrow params) (LeadsTo {X = Chain} done) ts (body_at bytes params ts)
   unfolding body_at
@@ -201,16 +200,16 @@ module _ (names : Option (List (List ℕ))) (bytes : List ℕ) where
       (λ arrow. word_at bytes (codes "i32") arrow.1 >>= λ type. mark_at OpenBrace type.1 >>= λ brace. chain_at bytes params brace.1 >>= λ body. mark_at CloseBrace body.1 >>= λ end. Ok (body.0, end.1))
       (mark_tracks names bytes Arrow (at_arrow params) (at_answer params) ts (always names bytes (at_arrow params) (want Arrow (at_answer params)) ts refl (λ a. refl)))
       (λ arrow e. tracks_then names bytes (at_brace params) (LeadsTo done) (at_answer params) arrow.1 (word_at bytes (codes "i32") arrow.1)
-        (λ type. mark_at OpenBrace type.1 >>= λ brace. chain_at bytes params brace.1 >>= λ body. mark_at CloseBrace body.1 >>= λ end. Ok (body.0, end.1))
-        (word_tracks names bytes (codes "i32") (at_answer params) (at_brace params) arrow.1 (always names bytes (at_answer params) (want_word (codes "i32") (at_brace params)) arrow.1 refl (λ a. refl)))
-        (λ type e. tracks_then names bytes (at_atom params 256) (LeadsTo done) (at_brace params) type.1 (mark_at OpenBrace type.1)
-          (λ brace. chain_at bytes params brace.1 >>= λ body. mark_at CloseBrace body.1 >>= λ end. Ok (body.0, end.1))
-          (mark_tracks names bytes OpenBrace (at_brace params) (at_atom params 256) type.1 (always names bytes (at_brace params) (want OpenBrace (at_atom params 256)) type.1 refl (λ a. refl)))
-          (λ brace e. tracks_bind names bytes EndsBody (LeadsTo done) (at_atom params 256) brace.1 (chain_at bytes params brace.1) (λ body. mark_at CloseBrace body.1 >>= λ end. Ok (body.0, end.1))
-            (all_tracks params brace.1)
-            (λ body m e exit. tracks_then names bytes done (LeadsTo done) m body.1 (mark_at CloseBrace body.1) (λ end. Ok (body.0, end.1))
-              (mark_tracks names bytes CloseBrace m done body.1 exit)
-              (λ end e. tracks_ok names bytes (LeadsTo done) done end.1 body.0 refl)))))
+      (λ type. mark_at OpenBrace type.1 >>= λ brace. chain_at bytes params brace.1 >>= λ body. mark_at CloseBrace body.1 >>= λ end. Ok (body.0, end.1))
+      (word_tracks names bytes (codes "i32") (at_answer params) (at_brace params) arrow.1 (always names bytes (at_answer params) (want_word (codes "i32") (at_brace params)) arrow.1 refl (λ a. refl)))
+      (λ type e. tracks_then names bytes (at_atom params 256) (LeadsTo done) (at_brace params) type.1 (mark_at OpenBrace type.1)
+      (λ brace. chain_at bytes params brace.1 >>= λ body. mark_at CloseBrace body.1 >>= λ end. Ok (body.0, end.1))
+      (mark_tracks names bytes OpenBrace (at_brace params) (at_atom params 256) type.1 (always names bytes (at_brace params) (want OpenBrace (at_atom params 256)) type.1 refl (λ a. refl)))
+      (λ brace e. tracks_bind names bytes EndsBody (LeadsTo done) (at_atom params 256) brace.1 (chain_at bytes params brace.1) (λ body. mark_at CloseBrace body.1 >>= λ end. Ok (body.0, end.1))
+      (all_tracks params brace.1)
+      (λ body m e exit. tracks_then names bytes done (LeadsTo done) m body.1 (mark_at CloseBrace body.1) (λ end. Ok (body.0, end.1))
+      (mark_tracks names bytes CloseBrace m done body.1 exit)
+      (λ end e. tracks_ok names bytes (LeadsTo done) done end.1 body.0 refl)))))
 
 -- ---- functions
 
@@ -235,14 +234,14 @@ module _ (names : Option (List (List ℕ))) (bytes : List ℕ) where
       cond (length body.1 == 0) (Ok (record { name = text_of bytes signature.0.0; span = signature.0.0.span; params = signature.0.1; clauses = contract.0; body = body.0 }, body.1)) (Err (length body.1)))
       (clauses_tracks names bytes (length ts) [] ts (omega arith))
       (λ contract m e exit. subst (λ (s : Stage). Tracks names bytes s Ends contract.1 (signature_at bytes contract.1 >>= λ signature. body_at bytes signature.0.1 signature.1 >>= λ body.
-        cond (length body.1 == 0) (Ok (record { name = text_of bytes signature.0.0; span = signature.0.0.span; params = signature.0.1; clauses = contract.0; body = body.0 }, body.1)) (Err (length body.1)))) (sym exit.0)
-        (tracks_bind names bytes (EndsSignature names bytes) Ends start contract.1 (signature_at bytes contract.1)
-          (λ signature. body_at bytes signature.0.1 signature.1 >>= λ body.
-          cond (length body.1 == 0) (Ok (record { name = text_of bytes signature.0.0; span = signature.0.0.span; params = signature.0.1; clauses = contract.0; body = body.0 }, body.1)) (Err (length body.1)))
-          (signature_tracks names bytes contract.1 exit.1)
-          (λ signature m e exit. subst (λ (s : Stage). Tracks names bytes s Ends signature.1 (body_at bytes signature.0.1 signature.1 >>= λ body.
-            cond (length body.1 == 0) (Ok (record { name = text_of bytes signature.0.0; span = signature.0.0.span; params = signature.0.1; clauses = contract.0; body = body.0 }, body.1)) (Err (length body.1)))) (sym exit)
-            (tracks_then names bytes done Ends (at_arrow signature.0.1) signature.1 (body_at bytes signature.0.1 signature.1)
-              (λ body. cond (length body.1 == 0) (Ok (record { name = text_of bytes signature.0.0; span = signature.0.0.span; params = signature.0.1; clauses = contract.0; body = body.0 }, body.1)) (Err (length body.1)))
-              (body_tracks names bytes signature.0.1 signature.1)
-              (λ body e. ends_tracks (record { name = text_of bytes signature.0.0; span = signature.0.0.span; params = signature.0.1; clauses = contract.0; body = body.0 }) body.1)))))
+      cond (length body.1 == 0) (Ok (record { name = text_of bytes signature.0.0; span = signature.0.0.span; params = signature.0.1; clauses = contract.0; body = body.0 }, body.1)) (Err (length body.1)))) (sym exit.0)
+      (tracks_bind names bytes (EndsSignature names bytes) Ends start contract.1 (signature_at bytes contract.1)
+      (λ signature. body_at bytes signature.0.1 signature.1 >>= λ body.
+      cond (length body.1 == 0) (Ok (record { name = text_of bytes signature.0.0; span = signature.0.0.span; params = signature.0.1; clauses = contract.0; body = body.0 }, body.1)) (Err (length body.1)))
+      (signature_tracks names bytes contract.1 exit.1)
+      (λ signature m e exit. subst (λ (s : Stage). Tracks names bytes s Ends signature.1 (body_at bytes signature.0.1 signature.1 >>= λ body.
+      cond (length body.1 == 0) (Ok (record { name = text_of bytes signature.0.0; span = signature.0.0.span; params = signature.0.1; clauses = contract.0; body = body.0 }, body.1)) (Err (length body.1)))) (sym exit)
+      (tracks_then names bytes done Ends (at_arrow signature.0.1) signature.1 (body_at bytes signature.0.1 signature.1)
+      (λ body. cond (length body.1 == 0) (Ok (record { name = text_of bytes signature.0.0; span = signature.0.0.span; params = signature.0.1; clauses = contract.0; body = body.0 }, body.1)) (Err (length body.1)))
+      (body_tracks names bytes signature.0.1 signature.1)
+      (λ body e. ends_tracks (record { name = text_of bytes signature.0.0; span = signature.0.0.span; params = signature.0.1; clauses = contract.0; body = body.0 }) body.1)))))

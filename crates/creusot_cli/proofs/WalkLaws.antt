@@ -1,17 +1,13 @@
 -- Walks from stage to stage along tokens, and where one can go no further.
-use Rattle.std.proofs.Common.{◌≡◌, ℕ, zero, suc, ◌+◌, ◌-◌, ◌≤◌, Bool, true, false, cond, List, [], ◌∷◌, ◌++◌, length, take, drop, map, Option, Some, None, Result, Ok, Err, refl, sym, ap, subst, ◌∙◌, arith}
+use Rattle.std.proofs.Common.{◌≡◌, ℕ, zero, suc, ◌+◌, ◌≤◌, Bool, true, false, cond, List, [], ◌∷◌, ◌++◌, length, take, map, Option, Some, None, Result, Ok, Err, refl, sym, subst, arith}
 use Rattle.std.specs.Prelude.{is_some}
 use Rattle.std.specs.Option.{option_map, option_map_or}
-use Rattle.std.proofs.lemmas.List.{length-map, length-append, length-take-le, map-append, take-append-drop, take_all}
 use Rattle.creusot_cli.specs.declared.rs_tokens.token.Token.{Token}
 use Rattle.creusot_cli.specs.declared.rs_tokens.token.TokenKind.{TokenKind}
 use Rattle.creusot_cli.specs.declared.rs_syntax.form.Sign.{Sign}
-use Rattle.creusot_cli.specs.SourceForm.{text_of}
 use Rattle.creusot_cli.specs.SourceRefusal.{said}
 use Rattle.creusot_cli.specs.SourceFormReading.{◌>>=◌, mark_at, word_at, is_word, found}
-use Rattle.creusot_cli.proofs.LeafLaws.{read_as}
-use Rattle.creusot_cli.proofs.Stages.{Said, Stage, start, done, want, want_word, step, run, is_done}
-use Rattle.std.specs.Prelude.{codes}
+use Rattle.creusot_cli.proofs.Stages.{Said, Stage, want, want_word, step, run, is_done}
 use Rattle.creusot_cli.specs.SourceTokens.{kind_eq}
 
 -- the sign of a token, and where it stands
@@ -57,7 +53,7 @@ module _ (names : Option (List (List ℕ))) (bytes : List ℕ) where
   Awaits s g (t ∷ ts) = step names s (said bytes t) ≡ g (said bytes t)
 
 module _ (names : Option (List (List ℕ))) (bytes : List ℕ) where
-  joined : {s m to : Stage} {ts us rest : List Token} → Walk names bytes s ts m us → Walk names bytes m us to rest → Walk names bytes s ts to rest
+  pub joined : {s m to : Stage} {ts us rest : List Token} → Walk names bytes s ts m us → Walk names bytes m us to rest → Walk names bytes s ts to rest
   joined here second = second
   joined (go e first) second = go e (joined first second)
 

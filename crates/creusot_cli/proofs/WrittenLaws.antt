@@ -1,13 +1,12 @@
 -- Texts that are tokens, written with a space behind each, are the tokens of those bytes.
-use Rattle.std.proofs.Common.{◌≡◌, ℕ, zero, suc, ◌+◌, ◌-◌, ◌<◌, ◌≤◌, Bool, true, false, ◌&&◌, cond, List, [], ◌∷◌, ◌++◌, length, take, drop, map, Option, Some, None, refl, sym, ap, subst, ◌∙◌, append_assoc, arith}
-use Rattle.std.specs.Prelude.{IsSome, is_some, slice_range, ◌==◌}
+use Rattle.std.proofs.Common.{◌≡◌, ℕ, zero, suc, ◌+◌, ◌-◌, ◌≤◌, Bool, true, false, ◌&&◌, cond, List, [], ◌∷◌, ◌++◌, length, take, map, Some, None, refl, sym, ap, subst, ◌∙◌, append_assoc, arith}
+use Rattle.std.specs.Prelude.{is_some, slice_range, ◌==◌}
 use Rattle.std.specs.List.{prefix_len}
 use Rattle.std.proofs.lemmas.List.{length-append, take_at, drop_at}
 use Rattle.creusot_cli.specs.declared.rs_tokens.token.Token.{Token}
 use Rattle.creusot_cli.specs.declared.rs_tokens.token.TokenKind.{TokenKind}
 use Rattle.creusot_cli.specs.declared.rs_tokens.token.TokenKind.TheVariants.{Word, Integer}
 use Rattle.creusot_cli.specs.SourceTokens.{is_digit, is_word_byte, mark, pair, kind_of, IsLongest, AreTokens, done, space, token, first_mark, first_of}
-use Rattle.creusot_cli.specs.SourceForm.{text_of}
 use Rattle.creusot_cli.specs.SourceRefusal.{said}
 use Rattle.creusot_cli.proofs.TokenLaws.{at_least, choice_short}
 use Rattle.creusot_cli.proofs.Stages.{Said, AreProper, none, more}

@@ -1,5 +1,5 @@
 -- What a call of the program answers, and what it prints.
-use Rattle.std.specs.Prelude.{◌≡◌, ◌⊎◌, ℕ, ◌<◌, ◌≤◌, ◌==◌, List, [], ◌∷◌, ◌++◌, length, Option, None, Some, Err, if◌then◌else◌}
+use Rattle.std.specs.Prelude.{◌≡◌, ◌⊎◌, ℕ, ◌<◌, ◌≤◌, ◌==◌, List, [], ◌∷◌, ◌++◌, length, Option, None, Some, if◌then◌else◌}
 use Rattle.text_core.specs.declared.span.Span.{Span}
 use Rattle.text_core.specs.Counts.{Rose}
 use Rattle.io_edge.specs.Shelf.{Files, WhereTold, Holds, HoldsLength}

@@ -20,7 +20,6 @@ use Rattle.creusot_cli.specs.declared.rs_syntax.form.ClauseKind.TheVariants.{Req
 use Rattle.creusot_cli.specs.declared.rs_syntax.form.Clause.{Clause}
 use Rattle.creusot_cli.specs.declared.rs_syntax.form.AtomKind.{AtomKind}
 use Rattle.creusot_cli.specs.declared.rs_syntax.form.AtomKind.TheVariants as atoms
-use Rattle.creusot_cli.specs.declared.rs_syntax.form.Atom.{Atom}
 use Rattle.creusot_cli.specs.declared.rs_syntax.form.ChainStep.{ChainStep}
 use Rattle.creusot_cli.specs.declared.rs_syntax.form.Chain.{Chain}
 use Rattle.creusot_cli.specs.declared.rs_syntax.form.Function.{Function}

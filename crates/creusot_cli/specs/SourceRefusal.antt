@@ -2,7 +2,7 @@
 -- Reference has no rule for this; it is the rule of predictive parsing: the viable prefix, Aho, Sethi and Ullman 1986, 4.7).
 -- The names of a contract stand before the parameters that they name. Until the parameters are read they are open: they may
 -- be any names. When the `)` of the parameters is read they have to be parameters, and the first that is none is refused.
-use Rattle.std.specs.Prelude.{◌≡◌, ℕ, ◌+◌, ◌≤◌, ◌<◌, List, [], ◌∷◌, ◌++◌, length, map, take, codes, slice_get}
+use Rattle.std.specs.Prelude.{◌≡◌, ℕ, ◌+◌, ◌≤◌, ◌<◌, List, ◌∷◌, ◌++◌, length, map, take, codes, slice_get}
 use Rattle.std.specs.Option.{option_map_or}
 use Rattle.text_core.specs.declared.span.Span.{Span}
 use Rattle.creusot_cli.specs.declared.rs_tokens.token.Token.{Token}

@@ -3,6 +3,7 @@
 ghost use Rattle.std.specs.Prelude.{◌≡◌, ℕ, List, ◌<◌, ◌≤◌, ◌^◌, length, None, Err, IfOk};
 ghost use Rattle.text_core.specs.declared.refusal.SourceError.{SourceError};
 ghost use Rattle.text_core.specs.declared.refusal.Code.TheVariants.{E20};
+ghost use Rattle.text_core.specs.declared.span.Span.{Span};
 ghost use Rattle.creusot_cli.specs.declared.rs_syntax.fault.PassError.TheVariants.{Source};
 ghost use Rattle.creusot_cli.specs.declared.rs_syntax.form.Function.{Function};
 ghost use Rattle.creusot_cli.specs.declared.rs_tokens.token.Token.{Token};
@@ -68,6 +69,9 @@ pub fn read_function(alloc: Global, bytes: &[u8]) -> Result<Function, PassError>
         → (e.code ≡ E20) × (e.other ≡ None) × (e.span.start ≤ e.span.end) × (e.span.end ≤ length bytes.now) }
     ensures place { (e : SourceError) (tokens : List Token) → result ≡ Err (Source e) → AreTokens 0 bytes.now tokens
         → IsRefusedAt bytes.now tokens e.span }
+    // There is no other such place.
+    ensures only { (e : SourceError) (tokens : List Token) (span : Span) → result ≡ Err (Source e) → AreTokens 0 bytes.now tokens
+        → IsRefusedAt bytes.now tokens span → span ≡ e.span }
 {
     let tokens = tokens(alloc, bytes)?;
     match function(alloc, bytes, &tokens) {

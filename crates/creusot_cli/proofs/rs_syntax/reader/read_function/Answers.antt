@@ -1,4 +1,4 @@
-use Rattle.std.proofs.Common.{◌≡◌, ℕ, ◌≤◌, List, length, Err, refl, ap, sym, subst, ◌∙◌}
+use Rattle.std.proofs.Common.{◌≡◌, ◌≤◌, List, length, refl, ap, sym, subst, ◌∙◌}
 use Rattle.text_core.specs.declared.refusal.Code.TheVariants.{E20}
 use Rattle.text_core.specs.declared.refusal.SourceError.{SourceError}
 use Rattle.text_core.specs.declared.span.Span.{Span}
@@ -10,6 +10,7 @@ use Rattle.creusot_cli.specs.SourceFormReading.{function_at, place_left}
 use Rattle.creusot_cli.proofs.TokenLaws.{one_list}
 use Rattle.creusot_cli.proofs.FunctionLaws.{function_took, refused_spells_nothing, refusal, place_within, is_source}
 use Rattle.creusot_cli.proofs.RefusalLaws.{refused_at}
+use Rattle.creusot_cli.proofs.PlaceLaws.{one_place}
 use Rattle.creusot_cli.proofs.rs_syntax.reader.read_function.Goals as goal
 
 pub returns-in-Ok-clause-ok : goal.returns-in-Ok-clause-ok
@@ -41,3 +42,6 @@ returns-in-Err-Refused-clause-place c = λ e tokens is lexed.
     let span : place_left c.args.bytes.now tokens c.in-Err-Refused.left ≡ e.span =
     sym (ap (λ (d : SourceError). d.span) (sym (is_source made e is)) ∙ c.place_left.ensures ∙ ap (λ (ts : List Token). place_left c.args.bytes.now ts c.in-Err-Refused.left) (c.deref-in-Err-Refused.ensures.value ∙ same)) in
     subst (λ (s : Span). IsRefusedAt c.args.bytes.now tokens s) span (refused_at c.args.bytes.now tokens c.in-Err-Refused.left lexed (ap (function_at c.args.bytes.now) (sym (c.deref.ensures.value ∙ same)) ∙ refused))
+
+pub returns-in-Err-Refused-clause-only : goal.returns-in-Err-Refused-clause-only
+returns-in-Err-Refused-clause-only c = λ e tokens span is lexed there. one_place c.args.bytes.now tokens lexed span e.span there (returns-in-Err-Refused-clause-place c e tokens is lexed)
