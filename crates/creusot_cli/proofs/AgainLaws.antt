@@ -1,16 +1,14 @@
 -- What is spelled is read.
-use Rattle.std.proofs.Common.{◌≡◌, ℕ, zero, suc, ◌+◌, ◌-◌, ◌<◌, ◌≤◌, ◌^◌, Bool, true, false, ◌&&◌, cond, List, [], ◌∷◌, ◌++◌, length, take, drop, Option, Some, None, Result, Ok, Err, refl, sym, ap, subst, ◌∙◌, append_assoc, arith, inl, inr, ◌⊎◌}
-use Rattle.std.specs.Prelude.{not, nat_lt, pos, codes, slice_get, is_some, ◌==◌}
-use Rattle.std.specs.Option.{option_map, option_map_or}
+use Rattle.std.proofs.Common.{◌≡◌, ℕ, zero, suc, ◌<◌, ◌≤◌, ◌^◌, Bool, true, false, ◌&&◌, cond, List, [], ◌∷◌, ◌++◌, length, Option, Some, None, Result, Ok, refl, sym, ap, subst, ◌∙◌, append_assoc, arith}
+use Rattle.std.specs.Prelude.{not, pos, codes, slice_get, is_some}
+use Rattle.std.specs.Option.{option_map}
 use Rattle.std.specs.Str.{bytes_eq}
 use Rattle.std.proofs.lemmas.Bool.{lt-ltb}
-use Rattle.std.proofs.lemmas.List.{append-nil, length-append, take_at, nil_from_length}
+use Rattle.std.proofs.lemmas.List.{append-nil, length-append}
 use Rattle.std.proofs.lemmas.Slice.Eq.{bytes_eq-Decides}
 use Rattle.text_core.specs.declared.span.Span.{Span}
 use Rattle.creusot_cli.specs.declared.rs_tokens.token.Token.{Token}
-use Rattle.creusot_cli.specs.declared.rs_tokens.token.TokenKind.{TokenKind}
 use Rattle.creusot_cli.specs.declared.rs_tokens.token.TokenKind.TheVariants.{Word, Integer, Hash, OpenBracket, CloseBracket, OpenParen, CloseParen, OpenBrace, CloseBrace, Colon, Comma, Arrow, At}
-use Rattle.creusot_cli.specs.declared.rs_syntax.form.Sign.{Sign}
 use Rattle.creusot_cli.specs.declared.rs_syntax.form.Comparison.{Comparison}
 use Rattle.creusot_cli.specs.declared.rs_syntax.form.Item.{Item}
 use Rattle.creusot_cli.specs.declared.rs_syntax.form.Item.TheVariants as items
@@ -20,7 +18,6 @@ use Rattle.creusot_cli.specs.declared.rs_syntax.form.ClauseKind.{ClauseKind}
 use Rattle.creusot_cli.specs.declared.rs_syntax.form.ClauseKind.TheVariants.{Requires, Ensures}
 use Rattle.creusot_cli.specs.declared.rs_syntax.form.Clause.{Clause}
 use Rattle.creusot_cli.specs.declared.rs_syntax.form.AtomKind.{AtomKind}
-use Rattle.creusot_cli.specs.declared.rs_syntax.form.AtomKind.TheVariants as atoms
 use Rattle.creusot_cli.specs.declared.rs_syntax.form.Atom.{Atom}
 use Rattle.creusot_cli.specs.declared.rs_syntax.form.ChainStep.{ChainStep}
 use Rattle.creusot_cli.specs.declared.rs_syntax.form.Chain.{Chain}
@@ -28,14 +25,14 @@ use Rattle.creusot_cli.specs.declared.rs_syntax.form.Function.{Function}
 use Rattle.creusot_cli.specs.SourceTokens.{kind_eq}
 use Rattle.creusot_cli.specs.SourceForm.{text_of, decimal, IsWord, IsIdentifier, IsInteger, sign_kind, comparison_kind, kind_word, cover, SpellsItem, SpellsSteps, SpellsSum, SpellsClause, SpellsClauses, SpellsParams, AreParams, SpellsAtom, SpellsChainSteps, SpellsChain, SpellsFunction}
 use Rattle.creusot_cli.specs.SourceForm as form
-use Rattle.creusot_cli.specs.SourceFormReading.{◌>>=◌, mark_at, word_at, name_at, is_word, is_name, begins, place_of, next_sign, comparison_at, named, number_item, found, item_at, steps_at, sum_at, clause_kind_at, clause_head_at, cover_until, term_at, clause_at, clauses_at, is_new, param_at, params_at, atom_of, atom_at, chain_steps_at, chain_at, signature_at, body_at, function_at}
+use Rattle.creusot_cli.specs.SourceFormReading.{is_word, begins, place_of, next_sign, named, number_item, item_at, steps_at, sum_at, clause_kind_at, clause_head_at, cover_until, term_at, clause_at, clauses_at, is_new, param_at, params_at, atom_of, atom_at, chain_steps_at, chain_at, signature_at, body_at, function_at}
 use Rattle.creusot_cli.proofs.LeafLaws.{read_as, both_true, kind_is, kind_not, mark_again, begins_again, begins_not, word_is, word_again, name_is, name_again, sign_again, no_sign, comparison_again, comparison_no_sign, place_is, is_new_one}
 use Rattle.creusot_cli.proofs.ReadLaws.{cover_front}
 
 -- The parameters that a reading knows: none yet, or all.
 pub data Knows : Option (List (List ℕ)) → List (List ℕ) → Type 0 where
   nothing : {params : List (List ℕ)} → Knows None params
-  everything : {params : List (List ℕ)} → Knows (Some params) params
+  everything : {params : List (List ℕ)} → AreParams params → Knows (Some params) params
 
 -- what is read in place of an item; while no parameter is known, each name stands for the answer
 abbrev pub seen : Option (List (List ℕ)) → Item → Item
@@ -92,27 +89,27 @@ number_again : (bytes : List ℕ) (t : Token) (n : ℕ) → IsInteger bytes n t 
 unfolding number_item
 number_again bytes t n is lt = rw (is.spelled, lt-ltb n (2 ^ 127) lt) refl
 
-named_param : (names : Option (List (List ℕ))) (params : List (List ℕ)) (kind : ClauseKind) (name : List ℕ) (k : ℕ) → Knows names params → AreParams params → slice_get params k ≡ Some name
+named_param : (names : Option (List (List ℕ))) (params : List (List ℕ)) (kind : ClauseKind) (name : List ℕ) (k : ℕ) → Knows names params → slice_get params k ≡ Some name
     → named names kind name ≡ Some (seen names (items.Param k))
 unfolding named
-named_param _ params kind name k nothing fits h = refl
-named_param _ params Requires name k everything fits h = ap (option_map items.Param) (place_is params k name fits h)
-named_param _ params Ensures name k everything fits h =
+named_param _ params kind name k nothing h = refl
+named_param _ params Requires name k (everything fits) h = ap (option_map items.Param) (place_is params k name fits h)
+named_param _ params Ensures name k (everything fits) h =
     let other : bytes_eq name (codes "result") ≡ false = not_same (bytes_eq name (codes "result")) name (codes "result") refl (λ e. fits.no_result k (h ∙ ap (λ (n : List ℕ). Some n) e)) in
     ap (λ (b : Bool). cond b (Some items.Answer) (option_map items.Param (place_of name params))) other ∙ ap (option_map items.Param) (place_is params k name fits h)
 
 named_answer : (names : Option (List (List ℕ))) (params : List (List ℕ)) (name : List ℕ) → Knows names params → name ≡ codes "result" → named names Ensures name ≡ Some (seen names items.Answer)
 unfolding named
 named_answer _ params name nothing e = refl
-named_answer _ params name everything e = ap (λ (b : Bool). cond b (Some items.Answer) (option_map items.Param (place_of name params))) ((bytes_eq-Decides name (codes "result")).1 e)
+named_answer _ params name (everything fits) e = ap (λ (b : Bool). cond b (Some items.Answer) (option_map items.Param (place_of name params))) ((bytes_eq-Decides name (codes "result")).1 e)
 
-module _ (bytes : List ℕ) (names : Option (List (List ℕ))) (params : List (List ℕ)) (knows : Knows names params) (fits : AreParams params) where
+module _ (bytes : List ℕ) (names : Option (List (List ℕ))) (params : List (List ℕ)) (knows : Knows names params) where
   name_item : (kind : ClauseKind) (name : List ℕ) (t view : Token) (rest : List Token) (item : Item) → IsIdentifier bytes name t → view.kind ≡ At → named names kind (text_of bytes t) ≡ Some item
       → item_at bytes names kind (t ∷ view ∷ rest) ≡ Ok (item, rest)
   unfolding item_at
   name_item kind name t view rest item is at means =
       let word : kind_eq t.kind Integer ≡ false = kind_not t.kind Word Integer is.word.kind refl in
-      rw (word, name_again bytes name t (view ∷ rest) is, mark_again At view rest at, means) refl
+      rw (word, name_again bytes name t (view ∷ rest) is, means, mark_again At view rest at) refl
 
   number_item_again : (kind : ClauseKind) (n : ℕ) (t : Token) (rest : List Token) → IsInteger bytes n t → n < 2 ^ 127 → item_at bytes names kind (t ∷ rest) ≡ Ok (items.Number (pos n), rest)
   unfolding item_at
@@ -123,7 +120,7 @@ module _ (bytes : List ℕ) (names : Option (List (List ℕ))) (params : List (L
   item_again : (kind : ClauseKind) (ts : List Token) (item : Item) (rest : List Token) → SpellsItem bytes params kind ts item → item_at bytes names kind (ts ++ rest) ≡ Ok (seen names item, rest)
   item_again kind _ _ rest (form.number {t} {n} is lt) = number_item_again kind n t rest is lt ∙ ap (λ (i : Item). read_as (i, rest)) (sym (seen_number names n))
   item_again kind _ _ rest (form.param {t} {view} {name} {k} is at there) =
-      name_item kind name t view rest (seen names (items.Param k)) is at (ap (named names kind) is.word.spelled ∙ named_param names params kind name k knows fits there)
+      name_item kind name t view rest (seen names (items.Param k)) is at (ap (named names kind) is.word.spelled ∙ named_param names params kind name k knows there)
   item_again kind _ _ rest (form.answer {t} {view} is at ensures) =
       name_item kind (codes "result") t view rest (seen names items.Answer) is at
       (ap (λ (k : ClauseKind). named names k (text_of bytes t)) ensures ∙ named_answer names params (text_of bytes t) knows is.word.spelled)
@@ -242,7 +239,7 @@ module _ (bytes : List ℕ) where
       params_again n (params ++ name ∷ []) others names rest following stop no_comma (subst AreParams regroup fits) (omega arith) ∙ ap (λ (s : List (List ℕ)). read_as (s, rest)) (sym regroup) in
       rw (begins_again Word t (colon ∷ type ∷ comma ∷ (others ++ rest)) is.word.kind, read, begins_again Comma comma (others ++ rest) is_comma, is.word.spelled) again
 
-  signature_again : (ts rest : List Token) (word name opening closing : Token) (text : List ℕ) (params : List (List ℕ)) → IsWord bytes (codes "fn") word → IsIdentifier bytes text name → opening.kind ≡ OpenParen
+  pub signature_again : (ts rest : List Token) (word name opening closing : Token) (text : List ℕ) (params : List (List ℕ)) → IsWord bytes (codes "fn") word → IsIdentifier bytes text name → opening.kind ≡ OpenParen
       → SpellsParams bytes ts params → AreParams params → closing.kind ≡ CloseParen → signature_at bytes (word ∷ name ∷ opening ∷ (ts ++ closing ∷ rest)) ≡ Ok ((name, params), rest)
   unfolding signature_at
   signature_again ts rest word name opening closing text params w is o spelled fits c =
@@ -288,7 +285,7 @@ module _ (bytes : List ℕ) (params : List (List ℕ)) (fits : AreParams params)
   chain_again _ _ rest (form.chain {t} {rest = others} {c} span atom steps few) stop =
       rw (atom_again t (others ++ rest) c.first span atom, chain_steps_again 256 [] others c.rest rest steps stop few) refl
 
-  body_again : (body rest : List Token) (arrow type brace end : Token) (c : Chain) → arrow.kind ≡ Arrow → IsWord bytes (codes "i32") type → brace.kind ≡ OpenBrace → SpellsChain bytes params body c → end.kind ≡ CloseBrace
+  pub body_again : (body rest : List Token) (arrow type brace end : Token) (c : Chain) → arrow.kind ≡ Arrow → IsWord bytes (codes "i32") type → brace.kind ≡ OpenBrace → SpellsChain bytes params body c → end.kind ≡ CloseBrace
       → body_at bytes params (arrow ∷ type ∷ brace ∷ (body ++ end ∷ rest)) ≡ Ok (c, rest)
   unfolding body_at
   body_again body rest arrow type brace end c a t b spelled e =
@@ -305,18 +302,22 @@ module _ (bytes : List ℕ) (params : List (List ℕ)) (fits : AreParams params)
 made_function : List ℕ → Token → List (List ℕ) → List Clause → Chain → Function
 made_function bytes name params clauses body = record { name = text_of bytes name; span = name.span; params = params; clauses = clauses; body = body }
 
-pub function_again : (bytes : List ℕ) (ts : List Token) (f : Function) → SpellsFunction bytes ts f → function_at bytes ts ≡ Ok f
+function_again_over : (names : List (List ℕ)) (bytes : List ℕ) (ts : List Token) (f : Function) → SpellsFunction names bytes ts f → names ≡ f.params → function_at bytes ts ≡ Ok f
 unfolding function_at
-function_again bytes _ _ (form.function {contract} {params} {body} {word} {name} {type} opening closing arrow brace end {f} clauses w is span o spelled fits c a t b inside_spelled e) =
+function_again_over names bytes _ _ (form.function {contract} {params} {body} {word} {name} {type} opening closing arrow brace end {f} over_names w is span o spelled fits c a t b inside_spelled e) own =
+    let clauses : SpellsClauses bytes f.params contract f.clauses = subst (λ (ns : List (List ℕ)). SpellsClauses bytes ns contract f.clauses) own over_names in
     let tail : List Token = arrow ∷ type ∷ brace ∷ (body ++ end ∷ []) in
     let back : List Token = word ∷ name ∷ opening ∷ (params ++ closing ∷ tail) in
     let stop : begins Hash back ≡ false = begins_not Hash Word word (name ∷ opening ∷ (params ++ closing ∷ tail)) w.kind refl in
-    let shape = clauses_again bytes None f.params nothing fits (length (contract ++ back)) [] contract f.clauses back clauses stop (omega arith) in
+    let shape = clauses_again bytes None f.params nothing (length (contract ++ back)) [] contract f.clauses back clauses stop (omega arith) in
     let signature = signature_again bytes params tail word name opening closing f.name f.params w is o spelled fits c in
-    let named = clauses_again bytes (Some f.params) f.params everything fits (length (contract ++ back)) [] contract f.clauses back clauses stop (omega arith) in
+    let named = clauses_again bytes (Some f.params) f.params (everything fits) (length (contract ++ back)) [] contract f.clauses back clauses stop (omega arith) in
     let inside = body_again bytes f.params fits body [] arrow type brace end f.body a t b inside_spelled e in
     let same : record { name = text_of bytes name; span = name.span; params = f.params; clauses = seen_clauses (Some f.params) f.clauses; body = f.body } ≡ f =
     ap (λ (x : List ℕ). record { name = x; span = name.span; params = f.params; clauses = seen_clauses (Some f.params) f.clauses; body = f.body }) is.word.spelled
     ∙ ap (λ (s : Span). record { name = f.name; span = s; params = f.params; clauses = seen_clauses (Some f.params) f.clauses; body = f.body }) (sym span)
     ∙ ap (λ (cs : List Clause). record { name = f.name; span = f.span; params = f.params; clauses = cs; body = f.body }) (all_clauses f.params f.clauses) in
     rw (shape, signature, named, inside) (ap (λ (g : Function). read_as g) same)
+
+pub function_again : (bytes : List ℕ) (ts : List Token) (f : Function) → SpellsFunction f.params bytes ts f → function_at bytes ts ≡ Ok f
+function_again bytes ts f spelled = function_again_over f.params bytes ts f spelled refl

@@ -1,5 +1,5 @@
 -- What a source spells is in bounds.
-use Rattle.std.proofs.Common.{◌≡◌, refl, ℕ, ◌+◌, ◌<◌, ◌≤◌, ◌^◌, ℤ, pos, true, List, [], ◌∷◌, length, Some, slice_get, arith}
+use Rattle.std.proofs.Common.{◌≡◌, refl, subst, ℕ, ◌+◌, ◌<◌, ◌≤◌, ◌^◌, ℤ, pos, true, List, [], ◌∷◌, length, Some, slice_get, arith}
 use Rattle.std.proofs.lemmas.Option.{slice_get_within}
 use Rattle.logic_term.specs.declared.kinds.IntKind.TheVariants.{I32}
 use Rattle.logic_term.specs.Range.{fits}
@@ -53,12 +53,12 @@ module _ (bytes : List ℕ) (params : List (List ℕ)) where
   rest_fits : {ts : List Token} {c : Chain} → SpellsChain bytes params ts c → StepsFit (length params) c.rest
   rest_fits (SpellsChain.chain span first rest few) = steps_fit rest
 
-function_in_bounds : (bytes : List ℕ) {ts : List Token} (f : Function) → SpellsFunction bytes ts f → IsInBounds f
-function_in_bounds bytes f (SpellsFunction.function opening closing arrow brace end clauses word name span op params are cl ar ty br body en) = record {
-  clauses = clauses_fit bytes f.params clauses;
+function_in_bounds : (names : List (List ℕ)) (bytes : List ℕ) {ts : List Token} (f : Function) → SpellsFunction names bytes ts f → names ≡ f.params → IsInBounds f
+function_in_bounds names bytes f (SpellsFunction.function {contract} opening closing arrow brace end clauses word name span op params are cl ar ty br body en) own = record {
+  clauses = clauses_fit bytes f.params (subst (λ (ns : List (List ℕ)). SpellsClauses bytes ns contract f.clauses) own clauses);
   first = first_fits bytes f.params body;
   rest = rest_fits bytes f.params body;
 }
 
 pub in_bounds : (bytes : List ℕ) (f : Function) → Spells bytes f → IsInBounds f
-in_bounds bytes f spelled = function_in_bounds bytes f spelled.parsed
+in_bounds bytes f spelled = function_in_bounds f.params bytes f spelled.parsed refl

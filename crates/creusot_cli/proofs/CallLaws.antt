@@ -21,7 +21,7 @@ use Rattle.creusot_cli.specs.Call.{source_bound, HasDerivation, GivesProofs, Are
 use Rattle.creusot_cli.specs.MirBuild.{body_of, contract_of}
 use Rattle.creusot_cli.specs.Report.{report_of, verified_line, function_line, open_line, summary_line, source_error_line, source_limit_line, proof_limit_line}
 use Rattle.creusot_cli.specs.SourceForm.{Spells}
-use Rattle.creusot_cli.specs.SourceFormReading.{function_at, place_left}
+use Rattle.creusot_cli.specs.SourceRefusal.{IsRefusedAt}
 use Rattle.creusot_cli.specs.SourceTokens.{AreTokens}
 use Rattle.creusot_cli.specs.Verdict.{no_types, IsVerdict, obligations_for}
 use Rattle.creusot_cli.specs.Words.{Asked}
@@ -44,7 +44,7 @@ long_proofs shelf name r n bytes read e b source f source_name has =
     subst (λ (bs : List ℕ). Answers shelf (record { source = source_name; proofs = Some name }) 7 bs) (sym b) (Answers.proofs_long source name f has refl at.0 at.1)
 
 pub refused_source : (shelf : Option Files) (a : Asked) (source : List ℕ) (span : Span) (bytes : List ℕ) → HeldAs shelf a.source source → length source ≤ source_bound → ((f : Function) → Spells source f → ⊥) →
-    ((tokens : List Token) → AreTokens 0 source tokens → (left : ℕ) × (function_at source tokens ≡ Err left) × (span ≡ place_left source tokens left)) →
+    ((tokens : List Token) → AreTokens 0 source tokens → IsRefusedAt source tokens span) →
     bytes ≡ source_error_line source span → Answers shelf a 3 bytes
 refused_source shelf a source span bytes held short none place b =
     subst (λ (bs : List ℕ). Answers shelf a 3 bs) (sym b) (Answers.source_refused held short (record { none = none; place = place }))

@@ -1,5 +1,5 @@
 -- A list of tokens spells the function that is read from it, and no other; so does a source.
-use Rattle.std.proofs.Common.{◌≡◌, ℕ, zero, suc, ◌+◌, ◌-◌, ◌<◌, ◌≤◌, Bool, true, false, cond, eqb, List, [], ◌∷◌, ◌++◌, length, drop, Option, Some, None, Result, Ok, Err, refl, sym, ap, subst, ◌∙◌, append_assoc, arith, inl, inr, ◌⊎◌}
+use Rattle.std.proofs.Common.{◌≡◌, ℕ, zero, suc, ◌+◌, ◌-◌, ◌≤◌, cond, List, [], ◌∷◌, ◌++◌, length, Option, Some, None, Result, Ok, Err, refl, sym, ap, subst, ◌∙◌, arith}
 use Rattle.std.specs.Prelude.{codes, slice_get, ◌==◌}
 use Rattle.std.specs.Option.{option_map_or}
 use Rattle.std.proofs.lemmas.Bool.{eqb-true}
@@ -11,7 +11,7 @@ use Rattle.creusot_cli.specs.declared.rs_syntax.fault.PassError.TheVariants.{Sou
 use Rattle.creusot_cli.specs.declared.rs_syntax.fault.Stop.{Stop}
 use Rattle.creusot_cli.specs.declared.rs_syntax.fault.Stop.TheVariants as stops
 use Rattle.creusot_cli.specs.declared.rs_tokens.token.Token.{Token}
-use Rattle.creusot_cli.specs.declared.rs_tokens.token.TokenKind.TheVariants.{Hash, OpenParen, CloseParen, OpenBrace, CloseBrace, Arrow}
+use Rattle.creusot_cli.specs.declared.rs_tokens.token.TokenKind.TheVariants.{OpenParen, CloseParen, OpenBrace, CloseBrace, Arrow}
 use Rattle.creusot_cli.specs.declared.rs_syntax.form.Clause.{Clause}
 use Rattle.creusot_cli.specs.declared.rs_syntax.form.Chain.{Chain}
 use Rattle.creusot_cli.specs.declared.rs_syntax.form.Function.{Function}
@@ -19,26 +19,26 @@ use Rattle.creusot_cli.specs.SourceTokens.{AreTokens, done, space, token}
 use Rattle.creusot_cli.specs.SourceForm.{text_of, IsWord, IsIdentifier, SpellsClauses, SpellsParams, AreParams, SpellsChain, SpellsFunction, Spells}
 use Rattle.creusot_cli.specs.SourceForm as form
 use Rattle.creusot_cli.specs.SourceFormReading.{◌>>=◌, mark_at, word_at, name_at, clauses_at, params_at, chain_at, signature_at, body_at, function_at, Fails, place_left}
-use Rattle.creusot_cli.proofs.LeafLaws.{bind_ok, read_as, ok_is, guard_ok, mark_took, word_took, name_took, no_params}
+use Rattle.creusot_cli.proofs.LeafLaws.{bind_ok, ok_is, guard_ok, mark_took, word_took, name_took, no_params}
 use Rattle.creusot_cli.proofs.ReadLaws.{params_took, clauses_took, chain_took}
-use Rattle.creusot_cli.proofs.AgainLaws.{nothing, everything, seen_clauses, clauses_again, function_again}
+use Rattle.creusot_cli.proofs.AgainLaws.{nothing, seen_clauses, clauses_again, function_again}
 use Rattle.creusot_cli.proofs.TokenLaws.{one_list}
 
 -- "fn" ident "(" list(ident ":" "i32") ")"
-record TookSignature (bytes : List ℕ) (name : Token) (params : List (List ℕ)) (ts after : List Token) : Type 0 where
-  word : Token
-  opening : Token
-  used : List Token
-  closing : Token
-  parts : ts ≡ word ∷ name ∷ opening ∷ (used ++ closing ∷ after)
-  is_word : IsWord bytes (codes "fn") word
-  is_name : IsIdentifier bytes (text_of bytes name) name
-  is_opening : opening.kind ≡ OpenParen
-  spelled : SpellsParams bytes used params
-  fits : AreParams params
-  is_closing : closing.kind ≡ CloseParen
+pub record TookSignature (bytes : List ℕ) (name : Token) (params : List (List ℕ)) (ts after : List Token) : Type 0 where
+  pub word : Token
+  pub opening : Token
+  pub used : List Token
+  pub closing : Token
+  pub parts : ts ≡ word ∷ name ∷ opening ∷ (used ++ closing ∷ after)
+  pub is_word : IsWord bytes (codes "fn") word
+  pub is_name : IsIdentifier bytes (text_of bytes name) name
+  pub is_opening : opening.kind ≡ OpenParen
+  pub spelled : SpellsParams bytes used params
+  pub fits : AreParams params
+  pub is_closing : closing.kind ≡ CloseParen
 
-signature_took : (bytes : List ℕ) (ts : List Token) (x : (Token × List (List ℕ)) × List Token) → signature_at bytes ts ≡ Ok x → TookSignature bytes x.0.0 x.0.1 ts x.1
+pub signature_took : (bytes : List ℕ) (ts : List Token) (x : (Token × List (List ℕ)) × List Token) → signature_at bytes ts ≡ Ok x → TookSignature bytes x.0.0 x.0.1 ts x.1
 unfolding signature_at
 signature_took bytes ts x e =
     let a = bind_ok (word_at bytes (codes "fn") ts) (λ word. name_at bytes word.1 >>= λ name. mark_at OpenParen name.1 >>= λ opening. params_at bytes (length opening.1) [] opening.1 >>= λ params. mark_at CloseParen params.1 >>= λ closing. Ok ((name.0, params.0), closing.1)) x e in
@@ -68,20 +68,20 @@ signature_took bytes ts x e =
     })
 
 -- "->" "i32" "{" body "}"
-record TookBody (bytes : List ℕ) (params : List (List ℕ)) (c : Chain) (ts after : List Token) : Type 0 where
-  arrow : Token
-  type : Token
-  brace : Token
-  used : List Token
-  end : Token
-  parts : ts ≡ arrow ∷ type ∷ brace ∷ (used ++ end ∷ after)
-  is_arrow : arrow.kind ≡ Arrow
-  is_type : IsWord bytes (codes "i32") type
-  is_brace : brace.kind ≡ OpenBrace
-  spelled : SpellsChain bytes params used c
-  is_end : end.kind ≡ CloseBrace
+pub record TookBody (bytes : List ℕ) (params : List (List ℕ)) (c : Chain) (ts after : List Token) : Type 0 where
+  pub arrow : Token
+  pub type : Token
+  pub brace : Token
+  pub used : List Token
+  pub end : Token
+  pub parts : ts ≡ arrow ∷ type ∷ brace ∷ (used ++ end ∷ after)
+  pub is_arrow : arrow.kind ≡ Arrow
+  pub is_type : IsWord bytes (codes "i32") type
+  pub is_brace : brace.kind ≡ OpenBrace
+  pub spelled : SpellsChain bytes params used c
+  pub is_end : end.kind ≡ CloseBrace
 
-body_took : (bytes : List ℕ) (params : List (List ℕ)) (ts : List Token) (x : Chain × List Token) → body_at bytes params ts ≡ Ok x → TookBody bytes params x.0 ts x.1
+pub body_took : (bytes : List ℕ) (params : List (List ℕ)) (ts : List Token) (x : Chain × List Token) → body_at bytes params ts ≡ Ok x → TookBody bytes params x.0 ts x.1
 unfolding body_at
 body_took bytes params ts x e =
     let a = bind_ok (mark_at Arrow ts) (λ arrow. word_at bytes (codes "i32") arrow.1 >>= λ type. mark_at OpenBrace type.1 >>= λ brace. chain_at bytes params brace.1 >>= λ body. mark_at CloseBrace body.1 >>= λ end. Ok (body.0, end.1)) x e in
@@ -109,7 +109,7 @@ body_took bytes params ts x e =
       is_end = end.1;
     })
 
-pub function_took : (bytes : List ℕ) (ts : List Token) (f : Function) → function_at bytes ts ≡ Ok f → SpellsFunction bytes ts f
+pub function_took : (bytes : List ℕ) (ts : List Token) (f : Function) → function_at bytes ts ≡ Ok f → SpellsFunction f.params bytes ts f
 unfolding function_at
 function_took bytes ts f e =
     let a = bind_ok (clauses_at bytes None (length ts) [] ts) (λ shape. signature_at bytes shape.1 >>= λ signature. clauses_at bytes (Some signature.0.1) (length ts) [] ts >>= λ contract. body_at bytes signature.0.1 signature.1 >>= λ body.
@@ -128,16 +128,16 @@ function_took bytes ts f e =
     let ended : d.0.1 ≡ [] = nil_from_length d.0.1 (eqb-true (length d.0.1) 0 g.0) in
     let shape : clauses_at bytes None (length ts) [] ts ≡ Ok (seen_clauses None contract.new, c.0.1) =
     ap (clauses_at bytes None (length ts) []) contract.parts
-    ∙ clauses_again bytes None b.0.0.1 nothing signature.fits (length ts) [] contract.used contract.new c.0.1 contract.spelled contract.ended (omega (arith, ap length contract.parts)) in
+    ∙ clauses_again bytes None b.0.0.1 nothing (length ts) [] contract.used contract.new c.0.1 contract.spelled contract.ended (omega (arith, ap length contract.parts)) in
     let same_rest : a.0.1 ≡ c.0.1 = ap (λ (x : List Clause × List Token). x.1) (ok_is a.0 (seen_clauses None contract.new, c.0.1) (sym a.1 ∙ shape)) in
     let inner : b.0.1 ≡ body.arrow ∷ body.type ∷ body.brace ∷ (body.used ++ body.end ∷ []) = body.parts ∙ ap (λ (r : List Token). body.arrow ∷ body.type ∷ body.brace ∷ (body.used ++ body.end ∷ r)) ended in
     let whole : ts ≡ contract.used ++ signature.word ∷ b.0.0.0 ∷ signature.opening ∷ (signature.used ++ signature.closing ∷ body.arrow ∷ body.type ∷ body.brace ∷ (body.used ++ body.end ∷ [])) =
     contract.parts ∙ ap (λ (r : List Token). contract.used ++ r)
     (sym same_rest ∙ signature.parts ∙ ap (λ (r : List Token). signature.word ∷ b.0.0.0 ∷ signature.opening ∷ (signature.used ++ signature.closing ∷ r)) inner) in
-    let spelled : SpellsFunction bytes (contract.used ++ signature.word ∷ b.0.0.0 ∷ signature.opening ∷ (signature.used ++ signature.closing ∷ body.arrow ∷ body.type ∷ body.brace ∷ (body.used ++ body.end ∷ []))) made =
+    let spelled : SpellsFunction b.0.0.1 bytes (contract.used ++ signature.word ∷ b.0.0.0 ∷ signature.opening ∷ (signature.used ++ signature.closing ∷ body.arrow ∷ body.type ∷ body.brace ∷ (body.used ++ body.end ∷ []))) made =
     form.function signature.opening signature.closing body.arrow body.brace body.end {f = made} (subst (λ (cs : List Clause). SpellsClauses bytes b.0.0.1 contract.used cs) (sym contract.whole) contract.spelled)
     signature.is_word signature.is_name refl signature.is_opening signature.spelled signature.fits signature.is_closing body.is_arrow body.is_type body.is_brace body.spelled body.is_end in
-    subst (λ (h : Function). SpellsFunction bytes ts h) g.1 (subst (λ (us : List Token). SpellsFunction bytes us made) (sym whole) spelled)
+    subst (λ (h : Function). SpellsFunction h.params bytes ts h) g.1 (subst (λ (us : List Token). SpellsFunction b.0.0.1 bytes us made) (sym whole) spelled)
 
 -- a text spells at most one function
 pub one_function : (bytes : List ℕ) (f g : Function) → Spells bytes f → Spells bytes g → f ≡ g

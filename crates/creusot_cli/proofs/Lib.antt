@@ -12,6 +12,15 @@ pub mod LeafLaws
 pub mod ReadLaws
 pub mod AgainLaws
 pub mod FunctionLaws
+pub mod OverLaws
+pub mod Stages
+pub mod WalkLaws
+pub mod WalkContract
+pub mod WalkFunction
+pub mod OpenLaws
+pub mod WrittenLaws
+pub mod RefusalLaws
+pub mod PlaceLaws
 pub mod MirBuildLemmas
 pub mod WpGenLemmas
 pub mod ReportLaws

@@ -1,17 +1,15 @@
 -- What is read is spelled so.
-use Rattle.std.proofs.Common.{◌≡◌, ℕ, zero, suc, ◌+◌, ◌-◌, ◌<◌, ◌≤◌, ◌^◌, Bool, true, false, ◌&&◌, cond, List, [], ◌∷◌, ◌++◌, length, take, drop, Option, Some, None, Result, Ok, Err, refl, sym, ap, subst, ◌∙◌, append_assoc, arith, inl, inr, ◌⊎◌}
-use Rattle.std.specs.Prelude.{not, nat_lt, pos, codes, slice_get, is_some, ◌==◌}
+use Rattle.std.proofs.Common.{◌≡◌, ℕ, zero, suc, ◌-◌, ◌<◌, ◌≤◌, ◌^◌, Bool, true, false, cond, List, [], ◌∷◌, ◌++◌, length, drop, Option, Some, None, Ok, Err, refl, sym, ap, subst, ◌∙◌, append_assoc, arith, inl, inr, ◌⊎◌}
+use Rattle.std.specs.Prelude.{not, nat_lt, pos, codes, slice_get, is_some}
 use Rattle.std.specs.Option.{option_map, option_map_or}
 use Rattle.std.specs.Str.{bytes_eq}
-use Rattle.std.proofs.lemmas.Bool.{eqb-true, ltb-true}
-use Rattle.std.proofs.lemmas.List.{append-nil, length-append, take_at, nil_from_length}
+use Rattle.std.proofs.lemmas.Bool.{ltb-true}
+use Rattle.std.proofs.lemmas.List.{append-nil, length-append, take_at}
 use Rattle.std.proofs.lemmas.Slice.Eq.{bytes_eq-Decides}
-use Rattle.text_core.specs.declared.span.Span.{Span}
 use Rattle.creusot_cli.specs.declared.rs_tokens.token.Token.{Token}
 use Rattle.creusot_cli.specs.declared.rs_tokens.token.TokenKind.{TokenKind}
-use Rattle.creusot_cli.specs.declared.rs_tokens.token.TokenKind.TheVariants.{Word, Integer, Hash, OpenBracket, CloseBracket, OpenParen, CloseParen, OpenBrace, CloseBrace, Colon, Comma, Arrow, At}
+use Rattle.creusot_cli.specs.declared.rs_tokens.token.TokenKind.TheVariants.{Word, Integer, Hash, OpenBracket, CloseBracket, OpenParen, CloseParen, Colon, Comma, At}
 use Rattle.creusot_cli.specs.declared.rs_syntax.form.Sign.{Sign}
-use Rattle.creusot_cli.specs.declared.rs_syntax.form.Comparison.{Comparison}
 use Rattle.creusot_cli.specs.declared.rs_syntax.form.Item.{Item}
 use Rattle.creusot_cli.specs.declared.rs_syntax.form.Item.TheVariants as items
 use Rattle.creusot_cli.specs.declared.rs_syntax.form.SumStep.{SumStep}
@@ -24,12 +22,11 @@ use Rattle.creusot_cli.specs.declared.rs_syntax.form.AtomKind.TheVariants as ato
 use Rattle.creusot_cli.specs.declared.rs_syntax.form.Atom.{Atom}
 use Rattle.creusot_cli.specs.declared.rs_syntax.form.ChainStep.{ChainStep}
 use Rattle.creusot_cli.specs.declared.rs_syntax.form.Chain.{Chain}
-use Rattle.creusot_cli.specs.declared.rs_syntax.form.Function.{Function}
 use Rattle.creusot_cli.specs.SourceTokens.{kind_eq}
 use Rattle.creusot_cli.specs.SourceForm.{text_of, decimal, IsWord, IsIdentifier, IsInteger, sign_kind, comparison_kind, kind_word, cover, SpellsItem, SpellsSteps, SpellsSum, SpellsClause, SpellsClauses, SpellsParams, AreParams, SpellsAtom, SpellsChainSteps, SpellsChain, SpellsFunction}
 use Rattle.creusot_cli.specs.SourceForm as form
-use Rattle.creusot_cli.specs.SourceFormReading.{◌>>=◌, mark_at, word_at, name_at, is_word, is_name, begins, place_of, next_sign, comparison_at, named, number_item, found, item_at, steps_at, sum_at, clause_kind_at, clause_head_at, cover_until, term_at, clause_at, clauses_at, is_new, param_at, params_at, atom_of, atom_at, chain_steps_at, chain_at, signature_at, body_at, function_at}
-use Rattle.creusot_cli.proofs.LeafLaws.{bind_ok, read_as, ok_is, some_is, guard_ok, guard_not, guard_some, found_ok, and_true, not_true, kind_eq_true, mark_took, word_true, word_took, name_true, name_took, sign_took, comparison_took, place_some, no_params, one_more}
+use Rattle.creusot_cli.specs.SourceFormReading.{◌>>=◌, mark_at, word_at, name_at, is_word, is_name, begins, place_of, next_sign, comparison_at, named, number_item, found, item_at, steps_at, sum_at, clause_kind_at, clause_head_at, cover_until, term_at, clause_at, clauses_at, is_new, param_at, params_at, atom_of, atom_at, chain_steps_at, chain_at}
+use Rattle.creusot_cli.proofs.LeafLaws.{bind_ok, read_as, ok_is, some_is, guard_ok, guard_not, guard_some, found_ok, and_true, not_true, kind_eq_true, mark_took, word_true, word_took, name_true, name_took, sign_took, comparison_took, place_some, one_more}
 
 -- The tokens that were taken from the front are the text of something, at every list of parameters that was given.
 pub record Took (P : List (List ℕ) → List Token → Type 0) (names : Option (List (List ℕ))) (ts after : List Token) : Type 0 where
@@ -78,7 +75,7 @@ means_spelled bytes params kind t view item name at means =
 
 module _ (bytes : List ℕ) (names : Option (List (List ℕ))) (kind : ClauseKind) where
   item_took_by : (q : Bool) (t : Token) (ts : List Token) (x : Item × List Token) → kind_eq t.kind Integer ≡ q
-      → cond q (found (number_item bytes t) (t ∷ ts) ts) (name_at bytes (t ∷ ts) >>= λ name. mark_at At name.1 >>= λ view. found (named names kind (text_of bytes name.0)) (t ∷ ts) view.1) ≡ Ok x
+      → cond q (found (number_item bytes t) (t ∷ ts) ts) (name_at bytes (t ∷ ts) >>= λ name. found (named names kind (text_of bytes name.0)) (t ∷ ts) name.1 >>= λ item. mark_at At item.1 >>= λ view. Ok (item.0, view.1)) ≡ Ok x
       → Took (λ params used. SpellsItem bytes params kind used x.0) names (t ∷ ts) x.1
   item_took_by true t ts x is e =
       let g = found_ok (number_item bytes t) (t ∷ ts) ts x e in
@@ -90,18 +87,19 @@ module _ (bytes : List ℕ) (names : Option (List (List ℕ))) (kind : ClauseKin
         spelled = λ params known. subst (λ (i : Item). SpellsItem bytes params kind (t ∷ []) i) n.1 (form.number (record { kind = kind_eq_true t.kind Integer is; spelled = refl }) n.0);
       }
   item_took_by false t ts x is e =
-      let a = bind_ok (name_at bytes (t ∷ ts)) (λ name. mark_at At name.1 >>= λ view. found (named names kind (text_of bytes name.0)) (t ∷ ts) view.1) x e in
-      let b = bind_ok (mark_at At a.0.1) (λ view. found (named names kind (text_of bytes a.0.0)) (t ∷ ts) view.1) x a.2 in
+      let a = bind_ok (name_at bytes (t ∷ ts)) (λ name. found (named names kind (text_of bytes name.0)) (t ∷ ts) name.1 >>= λ item. mark_at At item.1 >>= λ view. Ok (item.0, view.1)) x e in
+      let b = bind_ok (found (named names kind (text_of bytes a.0.0)) (t ∷ ts) a.0.1) (λ item. mark_at At item.1 >>= λ view. Ok (item.0, view.1)) x a.2 in
+      let d = bind_ok (mark_at At b.0.1) (λ view. Ok (b.0.0, view.1)) x b.2 in
       let name = name_took bytes (t ∷ ts) a.0 a.1 in
-      let view = mark_took At a.0.1 b.0 b.1 in
-      let g = found_ok (named names kind (text_of bytes a.0.0)) (t ∷ ts) b.0.1 x b.2 in
-      let whole : t ∷ ts ≡ a.0.0 ∷ b.0.0 ∷ x.1 = name.0 ∙ ap (λ (r : List Token). a.0.0 ∷ r) (view.0 ∙ ap (λ (r : List Token). b.0.0 ∷ r) g.1) in
-      record {
-        used = a.0.0 ∷ b.0.0 ∷ [];
+      let g = found_ok (named names kind (text_of bytes a.0.0)) (t ∷ ts) a.0.1 b.0 b.1 in
+      let view = mark_took At b.0.1 d.0 d.1 in
+      let whole : t ∷ ts ≡ a.0.0 ∷ d.0.0 ∷ d.0.1 = name.0 ∙ ap (λ (r : List Token). a.0.0 ∷ r) (g.1 ∙ view.0) in
+      subst (λ (y : Item × List Token). Took (λ params used. SpellsItem bytes params kind used y.0) names (t ∷ ts) y.1) (ok_is (b.0.0, d.0.1) x d.2) (record {
+        used = a.0.0 ∷ d.0.0 ∷ [];
         parts = whole;
         shorter = omega (arith, ap length whole);
-        spelled = λ params known. means_spelled bytes params kind a.0.0 b.0.0 x.0 name.1 view.1 (named_took params kind (text_of bytes a.0.0) x.0 (ap (λ (n : Option (List (List ℕ))). named n kind (text_of bytes a.0.0)) (sym known) ∙ g.0));
-      }
+        spelled = λ params known. means_spelled bytes params kind a.0.0 d.0.0 b.0.0 name.1 view.1 (named_took params kind (text_of bytes a.0.0) b.0.0 (ap (λ (n : Option (List (List ℕ))). named n kind (text_of bytes a.0.0)) (sym known) ∙ g.0));
+      })
 
   pub item_took : (ts : List Token) (x : Item × List Token) → item_at bytes names kind ts ≡ Ok x → Took (λ params used. SpellsItem bytes params kind used x.0) names ts x.1
   unfolding item_at
@@ -178,12 +176,12 @@ cover_front front back =
     ap cover (take_at front back (length (front ++ back) - length back) n)
 
 -- "#" "[" a word "("
-record TookHead (bytes : List ℕ) (kind : ClauseKind) (ts after : List Token) : Type 0 where
-  hash : Token
-  opening : Token
-  word : Token
-  paren : Token
-  parts : ts ≡ hash ∷ opening ∷ word ∷ paren ∷ after
+pub record TookHead (bytes : List ℕ) (kind : ClauseKind) (ts after : List Token) : Type 0 where
+  pub hash : Token
+  pub opening : Token
+  pub word : Token
+  pub paren : Token
+  pub parts : ts ≡ hash ∷ opening ∷ word ∷ paren ∷ after
   is_hash : hash.kind ≡ Hash
   is_opening : opening.kind ≡ OpenBracket
   is_word : IsWord bytes (kind_word kind) word
@@ -206,7 +204,7 @@ clause_kind_took bytes (t ∷ ts) x e =
     let g = clause_kind_by (is_word bytes (codes "requires") t) (is_word bytes (codes "ensures") t) bytes t ts x refl refl e in
     (t, ap (λ (r : List Token). t ∷ r) g.0, g.1)
 
-head_took : (bytes : List ℕ) (ts : List Token) (x : ClauseKind × List Token) → clause_head_at bytes ts ≡ Ok x → TookHead bytes x.0 ts x.1
+pub head_took : (bytes : List ℕ) (ts : List Token) (x : ClauseKind × List Token) → clause_head_at bytes ts ≡ Ok x → TookHead bytes x.0 ts x.1
 unfolding clause_head_at
 head_took bytes ts x e =
     let a = bind_ok (mark_at Hash ts) (λ hash. mark_at OpenBracket hash.1 >>= λ opening. clause_kind_at bytes opening.1 >>= λ kind. mark_at OpenParen kind.1 >>= λ paren. Ok (kind.0, paren.1)) x e in
@@ -310,7 +308,7 @@ no_clauses bytes params clauses ts h = record { new = []; whole = sym (append-ni
 clauses_stopped : (bytes : List ℕ) (params : List (List ℕ)) (clauses : List Clause) (ts : List Token) (x : List Clause × List Token) → begins Hash ts ≡ false → (clauses, ts) ≡ x → TookClauses bytes params clauses x.0 ts x.1
 clauses_stopped bytes params clauses ts x h e = subst (λ (y : List Clause × List Token). TookClauses bytes params clauses y.0 ts y.1) e (no_clauses bytes params clauses ts h)
 
-none_begins : (kind : TokenKind) (ts : List Token) → length ts ≤ 0 → begins kind ts ≡ false
+pub none_begins : (kind : TokenKind) (ts : List Token) → length ts ≤ 0 → begins kind ts ≡ false
 unfolding begins
 none_begins kind [] h = refl
 none_begins kind (t ∷ ts) h = absurd (omega arith)

@@ -60,7 +60,7 @@ choice_long : (o : Option TokenKind) (k : TokenKind) → is_some o ≡ true → 
 choice_long (Some j) k h = omega arith
 choice_long None k h = absurd cc
 
-choice_short : (o : Option TokenKind) (k : TokenKind) → (longer k o).1 ≤ 2
+pub choice_short : (o : Option TokenKind) (k : TokenKind) → (longer k o).1 ≤ 2
 choice_short (Some j) k = omega arith
 choice_short None k = omega arith
 
@@ -93,7 +93,7 @@ within_by false true b rest = (omega (arith, run_within is_word_byte rest), omeg
 within_by false false b rest = mark_within b rest
 
 -- no token at the front is longer than the first one
-at_least : (b : ℕ) (front back : List ℕ) → is_some (kind_of (b ∷ front)) ≡ true → suc (length front) ≤ (first_of b (front ++ back)).1
+pub at_least : (b : ℕ) (front back : List ℕ) → is_some (kind_of (b ∷ front)) ≡ true → suc (length front) ≤ (first_of b (front ++ back)).1
 at_least b front back h = at_least_by (is_digit b) (is_word_byte b) b front back h
 
 -- the first token is some of the bytes

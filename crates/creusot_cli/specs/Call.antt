@@ -1,5 +1,5 @@
 -- What a call of the program answers, and what it prints.
-use Rattle.std.specs.Prelude.{◌≡◌, ◌⊎◌, ◌↔◌, ℕ, ◌<◌, ◌≤◌, ◌==◌, List, [], ◌∷◌, ◌++◌, length, map, Option, None, Some, Err, if◌then◌else◌}
+use Rattle.std.specs.Prelude.{◌≡◌, ◌⊎◌, ◌↔◌, ℕ, ◌<◌, ◌≤◌, ◌==◌, List, [], ◌∷◌, ◌++◌, length, map, Option, None, Some, if◌then◌else◌}
 use Rattle.std.specs.List.{find}
 use Rattle.text_core.specs.declared.span.Span.{Span}
 use Rattle.text_core.specs.Counts.{Rose}
@@ -21,7 +21,7 @@ use Rattle.creusot_cli.specs.declared.verify.plan.Given.TheVariants.{Proofs, Ref
 use Rattle.creusot_cli.specs.MirBuild.{body_of, contract_of}
 use Rattle.creusot_cli.specs.Report.{report_of, verified_line, source_error_line, proof_error_line, words_error_line, source_limit_line, proof_limit_line}
 use Rattle.creusot_cli.specs.SourceForm.{Spells}
-use Rattle.creusot_cli.specs.SourceFormReading.{function_at, place_left}
+use Rattle.creusot_cli.specs.SourceRefusal.{IsRefusedAt}
 use Rattle.creusot_cli.specs.SourceTokens.{AreTokens}
 use Rattle.creusot_cli.specs.Verdict.{no_types, is_for, IsVerdict, obligations_for}
 use Rattle.creusot_cli.specs.Words.{Asked}
@@ -49,10 +49,10 @@ pub data AreProofs (shelf : Option Files) : Option (List ℕ) → List Proof →
 
 -- ---- refusals
 
--- no function is spelled; the span is that of the token at which reading stops
+-- no function is spelled; the span is that of the token that is refused
 pub record IsRefused (source : List ℕ) (span : Span) : Type 0 where
   pub none : (f : Function) → Spells source f → ⊥
-  pub place : (tokens : List Token) → AreTokens 0 source tokens → (left : ℕ) × (function_at source tokens ≡ Err left) × (span ≡ place_left source tokens left)
+  pub place : (tokens : List Token) → AreTokens 0 source tokens → IsRefusedAt source tokens span
 
 -- ---- answers
 

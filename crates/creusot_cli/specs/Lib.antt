@@ -3,6 +3,7 @@ pub mod Report
 pub mod MirBuildBounds
 pub mod WpGen
 pub mod SourceForm
+pub mod SourceRefusal
 pub mod SourceFormReading
 pub mod SourceTokens
 pub mod WpGenGoals

@@ -20,7 +20,6 @@ use Rattle.creusot_cli.specs.declared.rs_syntax.form.ClauseKind.TheVariants.{Req
 use Rattle.creusot_cli.specs.declared.rs_syntax.form.Clause.{Clause}
 use Rattle.creusot_cli.specs.declared.rs_syntax.form.AtomKind.{AtomKind}
 use Rattle.creusot_cli.specs.declared.rs_syntax.form.AtomKind.TheVariants as atoms
-use Rattle.creusot_cli.specs.declared.rs_syntax.form.Atom.{Atom}
 use Rattle.creusot_cli.specs.declared.rs_syntax.form.ChainStep.{ChainStep}
 use Rattle.creusot_cli.specs.declared.rs_syntax.form.Chain.{Chain}
 use Rattle.creusot_cli.specs.declared.rs_syntax.form.Function.{Function}
@@ -161,17 +160,17 @@ pub data SpellsChain (bytes : List ℕ) (params : List (List ℕ)) : List Token 
 
 -- ---- functions
 
--- a contract, and then "fn" ident "(" list(ident ":" "i32") ")" "->" "i32" "{" body "}"
-pub data SpellsFunction (bytes : List ℕ) : List Token → Function → Type 0 where
+-- a contract over the names, and then "fn" ident "(" list(ident ":" "i32") ")" "->" "i32" "{" body "}"
+pub data SpellsFunction (names : List (List ℕ)) (bytes : List ℕ) : List Token → Function → Type 0 where
   function : {contract params body : List Token} {word name type : Token} (opening closing arrow brace end : Token) {f : Function}
-      → SpellsClauses bytes f.params contract f.clauses
+      → SpellsClauses bytes names contract f.clauses
       → IsWord bytes (codes "fn") word → IsIdentifier bytes f.name name → f.span ≡ name.span
       → opening.kind ≡ OpenParen → SpellsParams bytes params f.params → AreParams f.params → closing.kind ≡ CloseParen
       → arrow.kind ≡ Arrow → IsWord bytes (codes "i32") type → brace.kind ≡ OpenBrace → SpellsChain bytes f.params body f.body → end.kind ≡ CloseBrace
-      → SpellsFunction bytes (contract ++ word ∷ name ∷ opening ∷ (params ++ closing ∷ arrow ∷ type ∷ brace ∷ (body ++ end ∷ []))) f
+      → SpellsFunction names bytes (contract ++ word ∷ name ∷ opening ∷ (params ++ closing ∷ arrow ∷ type ∷ brace ∷ (body ++ end ∷ []))) f
 
--- the source spells the function
+-- the source spells the function, whose contract is over its parameters
 pub record Spells (bytes : List ℕ) (f : Function) : Type 0 where
   pub tokens : List Token
   pub lexed : AreTokens 0 bytes tokens
-  pub parsed : SpellsFunction bytes tokens f
+  pub parsed : SpellsFunction f.params bytes tokens f

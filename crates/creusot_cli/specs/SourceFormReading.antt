@@ -117,7 +117,7 @@ unfoldable pub item_at : List ℕ → Option (List (List ℕ)) → ClauseKind �
 item_at bytes names kind [] = Err 0
 item_at bytes names kind (t ∷ ts) =
     if kind_eq t.kind Integer then found (number_item bytes t) (t ∷ ts) ts
-    else name_at bytes (t ∷ ts) >>= λ name. mark_at At name.1 >>= λ view. found (named names kind (text_of bytes name.0)) (t ∷ ts) view.1
+    else name_at bytes (t ∷ ts) >>= λ name. found (named names kind (text_of bytes name.0)) (t ∷ ts) name.1 >>= λ item. mark_at At item.1 >>= λ view. Ok (item.0, view.1)
 
 -- the steps so far and those that follow, of which there may be so many
 unfoldable pub steps_at : List ℕ → Option (List (List ℕ)) → ClauseKind → ℕ → List SumStep → List Token → Result (List SumStep × List Token) ℕ

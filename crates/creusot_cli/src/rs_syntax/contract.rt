@@ -90,11 +90,11 @@ fn item<'a>(
         };
     }
     let (word, rest) = name(bytes, tokens)?;
+    let Some(item) = named(names, kind, text_of(bytes, word)) else {
+        return Err(Stop::Refused(tokens.len()));
+    };
     let (_view, rest) = mark(TokenKind::At, rest)?;
-    match named(names, kind, text_of(bytes, word)) {
-        Some(item) => Ok((item, rest)),
-        None => Err(Stop::Refused(tokens.len())),
-    }
+    Ok((item, rest))
 }
 
 fn steps<'a>(

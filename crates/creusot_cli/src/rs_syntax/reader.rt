@@ -3,11 +3,13 @@
 ghost use Rattle.std.specs.Prelude.{◌≡◌, ℕ, List, ◌<◌, ◌≤◌, ◌^◌, length, None, Err, IfOk};
 ghost use Rattle.text_core.specs.declared.refusal.SourceError.{SourceError};
 ghost use Rattle.text_core.specs.declared.refusal.Code.TheVariants.{E20};
+ghost use Rattle.text_core.specs.declared.span.Span.{Span};
 ghost use Rattle.creusot_cli.specs.declared.rs_syntax.fault.PassError.TheVariants.{Source};
 ghost use Rattle.creusot_cli.specs.declared.rs_syntax.form.Function.{Function};
 ghost use Rattle.creusot_cli.specs.declared.rs_tokens.token.Token.{Token};
 ghost use Rattle.creusot_cli.specs.SourceTokens.{AreTokens};
 ghost use Rattle.creusot_cli.specs.SourceForm.{Spells};
+ghost use Rattle.creusot_cli.specs.SourceRefusal.{IsRefusedAt};
 ghost use Rattle.creusot_cli.specs.SourceFormReading.{Gives, function_at, place_left};
 
 use crate::rs_syntax::body::body;
@@ -65,9 +67,11 @@ pub fn read_function(alloc: Global, bytes: &[u8]) -> Result<Function, PassError>
     ensures refused { (e : SourceError) → result ≡ Err (Source e) → (f : Function) → Spells bytes.now f → ⊥ }
     ensures code { (e : SourceError) → result ≡ Err (Source e)
         → (e.code ≡ E20) × (e.other ≡ None) × (e.span.start ≤ e.span.end) × (e.span.end ≤ length bytes.now) }
-    // Which token it is: the one at which reading stops.
     ensures place { (e : SourceError) (tokens : List Token) → result ≡ Err (Source e) → AreTokens 0 bytes.now tokens
-        → (left : ℕ) × (function_at bytes.now tokens ≡ Err left) × (e.span ≡ place_left bytes.now tokens left) }
+        → IsRefusedAt bytes.now tokens e.span }
+    // There is no other such place.
+    ensures only { (e : SourceError) (tokens : List Token) (span : Span) → result ≡ Err (Source e) → AreTokens 0 bytes.now tokens
+        → IsRefusedAt bytes.now tokens span → span ≡ e.span }
 {
     let tokens = tokens(alloc, bytes)?;
     match function(alloc, bytes, &tokens) {

@@ -1,12 +1,16 @@
-use Rattle.std.proofs.Common.{◌≡◌, ℕ, ◌≤◌, List, length, Err, refl, ap, sym, subst, ◌∙◌}
+use Rattle.std.proofs.Common.{◌≡◌, ◌≤◌, List, length, refl, ap, sym, subst, ◌∙◌}
 use Rattle.text_core.specs.declared.refusal.Code.TheVariants.{E20}
 use Rattle.text_core.specs.declared.refusal.SourceError.{SourceError}
+use Rattle.text_core.specs.declared.span.Span.{Span}
 use Rattle.std.specs.Prelude.{None}
 use Rattle.creusot_cli.specs.declared.rs_tokens.token.Token.{Token}
 use Rattle.creusot_cli.specs.SourceTokens.{AreTokens}
+use Rattle.creusot_cli.specs.SourceRefusal.{IsRefusedAt}
 use Rattle.creusot_cli.specs.SourceFormReading.{function_at, place_left}
 use Rattle.creusot_cli.proofs.TokenLaws.{one_list}
 use Rattle.creusot_cli.proofs.FunctionLaws.{function_took, refused_spells_nothing, refusal, place_within, is_source}
+use Rattle.creusot_cli.proofs.RefusalLaws.{refused_at}
+use Rattle.creusot_cli.proofs.PlaceLaws.{one_place}
 use Rattle.creusot_cli.proofs.rs_syntax.reader.read_function.Goals as goal
 
 pub returns-in-Ok-clause-ok : goal.returns-in-Ok-clause-ok
@@ -34,8 +38,10 @@ pub returns-in-Err-Refused-clause-place : goal.returns-in-Err-Refused-clause-pla
 returns-in-Err-Refused-clause-place c = λ e tokens is lexed.
     let refused = refusal c.in-Err-Refused.field-0 c.in-Err-Refused.left (function_at c.args.bytes.now c.deref.result.now) c.in-Err-Refused.field-0-is c.in-Err-Refused.ensures in
     let same : c.in_ok-tokens.tokens.items ≡ tokens = one_list 0 c.args.bytes.now c.in_ok-tokens.tokens.items tokens c.in_ok-tokens.ensures.spelled lexed in
-    let made : SourceError = record { code = E20; span = c.place_left.result; other = None } in (
-      c.in-Err-Refused.left,
-      ap (function_at c.args.bytes.now) (sym (c.deref.ensures.value ∙ same)) ∙ refused,
-      ap (λ (d : SourceError). d.span) (sym (is_source made e is)) ∙ c.place_left.ensures ∙ ap (λ (ts : List Token). place_left c.args.bytes.now ts c.in-Err-Refused.left) (c.deref-in-Err-Refused.ensures.value ∙ same),
-    )
+    let made : SourceError = record { code = E20; span = c.place_left.result; other = None } in
+    let span : place_left c.args.bytes.now tokens c.in-Err-Refused.left ≡ e.span =
+    sym (ap (λ (d : SourceError). d.span) (sym (is_source made e is)) ∙ c.place_left.ensures ∙ ap (λ (ts : List Token). place_left c.args.bytes.now ts c.in-Err-Refused.left) (c.deref-in-Err-Refused.ensures.value ∙ same)) in
+    subst (λ (s : Span). IsRefusedAt c.args.bytes.now tokens s) span (refused_at c.args.bytes.now tokens c.in-Err-Refused.left lexed (ap (function_at c.args.bytes.now) (sym (c.deref.ensures.value ∙ same)) ∙ refused))
+
+pub returns-in-Err-Refused-clause-only : goal.returns-in-Err-Refused-clause-only
+returns-in-Err-Refused-clause-only c = λ e tokens span is lexed there. one_place c.args.bytes.now tokens lexed span e.span there (returns-in-Err-Refused-clause-place c e tokens is lexed)
