@@ -11,12 +11,12 @@ use Rattle.logic_term.specs.declared.kinds.Label.{Label}
 use Rattle.logic_term.specs.Ty.{Ty, Tys, int, no_tys}
 use Rattle.logic_term.specs.Sort.{instance}
 use Rattle.logic_term.specs.Meaning.{Structure}
-use Rattle.mir_machine.specs.declared.mir_ir.Statement.{Statement}
-use Rattle.mir_machine.specs.declared.mir_ir.StatementKind.{StatementKind}
-use Rattle.mir_machine.specs.declared.mir_ir.Block.{Block}
-use Rattle.mir_machine.specs.declared.mir_ir.Body.{Body}
-use Rattle.mir_machine.specs.Body.{block_in, place_ty, kind_in}
-use Rattle.mir_machine.specs.WellFormed.{IsTyped, IsInitialised, AreSound, StatementIsTyped, OperandHas, operation_ty, Locals, taken, with, run, CanRun, CanTake, CanEnd, Within, parameters}
+use Rattle.mir_ir.specs.declared.statement.Statement.{Statement}
+use Rattle.mir_ir.specs.declared.statement.StatementKind.{StatementKind}
+use Rattle.mir_ir.specs.declared.body.Block.{Block}
+use Rattle.mir_ir.specs.declared.body.Body.{Body}
+use Rattle.mir_ir.specs.Body.{block_in, place_ty, kind_in}
+use Rattle.mir_ir.specs.WellFormed.{IsTyped, IsInitialised, AreSound, StatementIsTyped, OperandHas, operation_ty, Locals, taken, with, run, CanRun, CanTake, CanEnd, Within, parameters}
 use Rattle.mir_machine.specs.Good.{Each}
 use Rattle.creusot_cli.specs.declared.rs_syntax.form.Sign.{Sign}
 use Rattle.creusot_cli.specs.declared.rs_syntax.form.Sign.TheVariants.{Plus, Minus}

@@ -3,9 +3,9 @@ use Rattle.std.proofs.Common.{◌≡◌, ◌∙◌, refl, ap, Result, ℕ, ℤ, 
 use Rattle.text_core.specs.declared.span.Span.{Span}
 use Rattle.logic_term.specs.declared.kinds.IntKind.{IntKind}
 use Rattle.logic_term.specs.declared.kinds.BinaryOp.{BinaryOp}
-use Rattle.mir_machine.specs.declared.mir_ir.Operand.{Operand}
-use Rattle.mir_machine.specs.declared.mir_ir.Operand.TheVariants.{Copy, Move, Const}
-use Rattle.mir_machine.specs.declared.mir_ir.Rvalue.TheVariants.{Binary}
+use Rattle.mir_ir.specs.declared.place.Operand.{Operand}
+use Rattle.mir_ir.specs.declared.place.Operand.TheVariants.{Copy, Move, Const}
+use Rattle.mir_ir.specs.declared.statement.Rvalue.TheVariants.{Binary}
 use Rattle.mir_machine.specs.Try.{Try, Yields, Panics, Sticks, ◌>>=◌, need}
 use Rattle.mir_machine.specs.Tree.{Tree, Int, Truth, Made, Boxed, Shared, Unique, Gone}
 use Rattle.mir_machine.specs.Memory.{is_there}

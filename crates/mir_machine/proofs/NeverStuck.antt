@@ -16,28 +16,28 @@ use Rattle.logic_term.specs.Range.{fits}
 use Rattle.logic_term.specs.Ty.{Ty, Tys, int, bool}
 use Rattle.logic_term.specs.TyView.{tys_of}
 use Rattle.logic_term.specs.Sort.{Declarations, instance, instances, nth_ty}
-use Rattle.mir_machine.specs.declared.mir_ir.Lit.{Lit}
-use Rattle.mir_machine.specs.declared.mir_ir.Lit.TheVariants as lit
-use Rattle.mir_machine.specs.declared.mir_ir.Place.{Place}
-use Rattle.mir_machine.specs.declared.mir_ir.Operand.{Operand}
-use Rattle.mir_machine.specs.declared.mir_ir.Operand.TheVariants.{Copy, Move, Const}
-use Rattle.mir_machine.specs.declared.mir_ir.Rvalue.{Rvalue}
-use Rattle.mir_machine.specs.declared.mir_ir.Rvalue.TheVariants.{Use, Binary}
-use Rattle.mir_machine.specs.declared.mir_ir.StatementKind.{StatementKind}
-use Rattle.mir_machine.specs.declared.mir_ir.StatementKind.TheVariants.{Assign}
-use Rattle.mir_machine.specs.declared.mir_ir.Statement.{Statement}
-use Rattle.mir_machine.specs.declared.mir_ir.TerminatorKind.{TerminatorKind}
-use Rattle.mir_machine.specs.declared.mir_ir.TerminatorKind.TheVariants.{Return}
-use Rattle.mir_machine.specs.declared.mir_ir.Block.{Block}
-use Rattle.mir_machine.specs.declared.mir_ir.Body.{Body}
+use Rattle.mir_ir.specs.declared.place.Lit.{Lit}
+use Rattle.mir_ir.specs.declared.place.Lit.TheVariants as lit
+use Rattle.mir_ir.specs.declared.place.Place.{Place}
+use Rattle.mir_ir.specs.declared.place.Operand.{Operand}
+use Rattle.mir_ir.specs.declared.place.Operand.TheVariants.{Copy, Move, Const}
+use Rattle.mir_ir.specs.declared.statement.Rvalue.{Rvalue}
+use Rattle.mir_ir.specs.declared.statement.Rvalue.TheVariants.{Use, Binary}
+use Rattle.mir_ir.specs.declared.statement.StatementKind.{StatementKind}
+use Rattle.mir_ir.specs.declared.statement.StatementKind.TheVariants.{Assign}
+use Rattle.mir_ir.specs.declared.statement.Statement.{Statement}
+use Rattle.mir_ir.specs.declared.terminator.TerminatorKind.{TerminatorKind}
+use Rattle.mir_ir.specs.declared.terminator.TerminatorKind.TheVariants.{Return}
+use Rattle.mir_ir.specs.declared.body.Block.{Block}
+use Rattle.mir_ir.specs.declared.body.Body.{Body}
 use Rattle.mir_machine.specs.Try.{Try, Yields, Panics, Sticks, ◌>>=◌, need}
 use Rattle.mir_machine.specs.Tree.{Tree, Int, Truth, Gone, trees_of}
 use Rattle.mir_machine.specs.Frame.{Frame, State}
-use Rattle.mir_machine.specs.Body.{block_in, whole, place_ty, kind_of, kind_in, param_tys, answer_ty}
+use Rattle.mir_ir.specs.Body.{block_in, whole, place_ty, kind_of, kind_in, param_tys, answer_ty}
 use Rattle.mir_machine.specs.Memory.{is_there}
 use Rattle.mir_machine.specs.Step.{fit, divide, of_integers, binary, literal, Outcome, Running, Returned, Panicked, Stuck, outcome_of, step, next, after_from, after, entered, outside}
 use Rattle.mir_machine.specs.FrameStep.{IsWhole, ReadsWholes, NamesWholes, AllNameWholes, Left, local_tree, take_operand, evaluate, put_local, assign_local, FrameEnd, Stays, Answers, frame_end, frame_row, frame_step, settled}
-use Rattle.mir_machine.specs.WellFormed.{PlaceHas, LitHas, OperandHas, operation_ty, RvalueHas, StatementIsTyped, IsTyped, Locals, without, with, CanTake, taken, CanEvaluate, evaluated, CanRun, run, CanEnd, Within, parameters, IsInitialised, AreSound}
+use Rattle.mir_ir.specs.WellFormed.{PlaceHas, LitHas, OperandHas, operation_ty, RvalueHas, StatementIsTyped, IsTyped, Locals, without, with, CanTake, taken, CanEvaluate, evaluated, CanRun, run, CanEnd, Within, parameters, IsInitialised, AreSound}
 use Rattle.mir_machine.specs.Typed.{Met, Typed, AreTyped, is_int, is_truth, is_tuple, is_adt, is_closure, is_boxed, is_shared, is_unique, more_typed}
 use Rattle.mir_machine.specs.Good.{called, IsProper}
 use Rattle.mir_machine.specs.Run.{IsSafe}

@@ -7,14 +7,14 @@ use Rattle.logic_term.specs.declared.kinds.Label.{Label}
 use Rattle.logic_term.specs.Range.{fits}
 use Rattle.logic_term.specs.Sort.{Declarations}
 use Rattle.logic_term.specs.Ty.{Tys, int, no_tys}
-use Rattle.mir_machine.specs.declared.mir_ir.Block.{Block}
-use Rattle.mir_machine.specs.declared.mir_ir.Body.{Body}
-use Rattle.mir_machine.specs.declared.mir_ir.Statement.{Statement}
+use Rattle.mir_ir.specs.declared.body.Block.{Block}
+use Rattle.mir_ir.specs.declared.body.Body.{Body}
+use Rattle.mir_ir.specs.declared.statement.Statement.{Statement}
 use Rattle.mir_machine.specs.Tree.{Tree, Int}
-use Rattle.mir_machine.specs.Body.{block_in}
+use Rattle.mir_ir.specs.Body.{block_in}
 use Rattle.mir_machine.specs.Typed.{Met, is_int, none_typed, more_typed}
 use Rattle.mir_machine.specs.Good.{IsProper}
-use Rattle.mir_machine.specs.WellFormed.{operation_ty, StatementIsTyped, IsTyped, Locals, with, CanRun, run, CanEnd, Within, parameters, IsInitialised, AreSound}
+use Rattle.mir_ir.specs.WellFormed.{operation_ty, StatementIsTyped, IsTyped, Locals, with, CanRun, run, CanEnd, Within, parameters, IsInitialised, AreSound}
 use Rattle.mir_machine.specs.Sample.{sample, sample_block, sample_statement}
 
 pub fits_i32 : (z : ℤ) → FitsSigned w32 z → fits I32 z ≡ true

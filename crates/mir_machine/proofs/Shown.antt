@@ -10,19 +10,19 @@ use Rattle.logic_term.specs.Range.{fits}
 use Rattle.logic_term.specs.Ty.{Tys}
 use Rattle.logic_term.specs.Value.{Value, Number, Flag, nothing, integer_of}
 use Rattle.mir_machine.specs.declared.spot.Spot.{Spot}
-use Rattle.mir_machine.specs.declared.mir_ir.Lit.{Lit}
-use Rattle.mir_machine.specs.declared.mir_ir.Lit.TheVariants as lit
-use Rattle.mir_machine.specs.declared.mir_ir.Operand.{Operand}
-use Rattle.mir_machine.specs.declared.mir_ir.Operand.TheVariants.{Copy, Move, Const}
-use Rattle.mir_machine.specs.declared.mir_ir.Rvalue.{Rvalue}
-use Rattle.mir_machine.specs.declared.mir_ir.Rvalue.TheVariants.{Use, Binary}
-use Rattle.mir_machine.specs.declared.mir_ir.StatementKind.TheVariants.{Assign}
-use Rattle.mir_machine.specs.declared.mir_ir.Place.{Place}
-use Rattle.mir_machine.specs.declared.mir_ir.Body.{Body}
+use Rattle.mir_ir.specs.declared.place.Lit.{Lit}
+use Rattle.mir_ir.specs.declared.place.Lit.TheVariants as lit
+use Rattle.mir_ir.specs.declared.place.Operand.{Operand}
+use Rattle.mir_ir.specs.declared.place.Operand.TheVariants.{Copy, Move, Const}
+use Rattle.mir_ir.specs.declared.statement.Rvalue.{Rvalue}
+use Rattle.mir_ir.specs.declared.statement.Rvalue.TheVariants.{Use, Binary}
+use Rattle.mir_ir.specs.declared.statement.StatementKind.TheVariants.{Assign}
+use Rattle.mir_ir.specs.declared.place.Place.{Place}
+use Rattle.mir_ir.specs.declared.body.Body.{Body}
 use Rattle.mir_machine.specs.Try.{Try, Yields, Panics, ◌>>=◌, need}
 use Rattle.mir_machine.specs.Tree.{Tree, Int, Truth, Made, Boxed, Shared, Unique, Gone}
 use Rattle.mir_machine.specs.Frame.{State}
-use Rattle.mir_machine.specs.Body.{kind_in, place_ty}
+use Rattle.mir_ir.specs.Body.{kind_in, place_ty}
 use Rattle.mir_machine.specs.Memory.{is_there}
 use Rattle.mir_machine.specs.Step.{fit, divide, of_integers, binary, literal}
 use Rattle.mir_machine.specs.FrameStep.{Left, local_tree, take_operand, evaluate, put_local, assign_local}

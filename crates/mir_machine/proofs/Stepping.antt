@@ -2,7 +2,7 @@
 use Rattle.std.proofs.Common.{◌≡◌, ◌∙◌, refl, sym, ap, subst, ℕ, zero, suc, List, [], ◌∷◌, length, reverse, Option, Some, None}
 use Rattle.std.proofs.lemmas.List.{length-reverse}
 use Rattle.mir_machine.specs.declared.halt.Halt.{Halt}
-use Rattle.mir_machine.specs.declared.mir_ir.Body.{Body}
+use Rattle.mir_ir.specs.declared.body.Body.{Body}
 use Rattle.mir_machine.specs.Try.{Try, Yields, Sticks, ◌>>=◌}
 use Rattle.mir_machine.specs.Tree.{Tree}
 use Rattle.mir_machine.specs.Frame.{Frame, State}

@@ -1,4 +1,3 @@
-pub mod Body
 pub mod Frame
 pub mod FrameCode
 pub mod FrameStep
@@ -17,4 +16,3 @@ pub mod TreeFalls
 pub mod TreeView
 pub mod Try
 pub mod Typed
-pub mod WellFormed

@@ -1,8 +1,8 @@
 -- What contracts see of a machine: the bodies that it runs, and what its run has come to.
 use Rattle.std.specs.Prelude.{◌≡◌, ◌≢◌, ℕ, ◌<◌, ◌≤◌, List, Option, Some, None, slice_get}
-use Rattle.mir_machine.specs.declared.mir_ir.Body.{Body}
-use Rattle.mir_machine.specs.declared.mir_ir.FnId.{FnId}
-use Rattle.mir_machine.specs.declared.mir_ir.FnId.TheVariants as fn_id
+use Rattle.mir_ir.specs.declared.body.Body.{Body}
+use Rattle.mir_ir.specs.declared.terminator.FnId.{FnId}
+use Rattle.mir_ir.specs.declared.terminator.FnId.TheVariants as fn_id
 use Rattle.mir_machine.specs.declared.outcome.Outcome.{Outcome as Shown}
 use Rattle.mir_machine.specs.declared.outcome.Outcome.TheVariants as shown
 use Rattle.logic_term.specs.Sort.{Declarations}

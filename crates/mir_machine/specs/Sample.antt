@@ -1,17 +1,17 @@
 -- A body that tests run: its argument `op` n, over i32.
-use Rattle.std.specs.Prelude.{ℤ, [], ◌∷◌, codes}
+use Rattle.std.specs.Prelude.{ℤ, [], ◌∷◌, None, codes}
 use Rattle.text_core.specs.declared.span.Span.{Span}
 use Rattle.logic_term.specs.declared.kinds.BinaryOp.{BinaryOp}
 use Rattle.logic_term.specs.declared.kinds.IntKind.TheVariants.{I32}
 use Rattle.logic_term.specs.Ty.{int}
-use Rattle.mir_machine.specs.declared.mir_ir.Lit.TheVariants as lit
-use Rattle.mir_machine.specs.declared.mir_ir.Operand.TheVariants.{Copy, Const}
-use Rattle.mir_machine.specs.declared.mir_ir.Rvalue.TheVariants.{Binary}
-use Rattle.mir_machine.specs.declared.mir_ir.StatementKind.TheVariants.{Assign}
-use Rattle.mir_machine.specs.declared.mir_ir.Statement.{Statement}
-use Rattle.mir_machine.specs.declared.mir_ir.TerminatorKind.TheVariants.{Return}
-use Rattle.mir_machine.specs.declared.mir_ir.Block.{Block}
-use Rattle.mir_machine.specs.declared.mir_ir.Body.{Body}
+use Rattle.mir_ir.specs.declared.place.Lit.TheVariants as lit
+use Rattle.mir_ir.specs.declared.place.Operand.TheVariants.{Copy, Const}
+use Rattle.mir_ir.specs.declared.statement.Rvalue.TheVariants.{Binary}
+use Rattle.mir_ir.specs.declared.statement.StatementKind.TheVariants.{Assign}
+use Rattle.mir_ir.specs.declared.statement.Statement.{Statement}
+use Rattle.mir_ir.specs.declared.terminator.TerminatorKind.TheVariants.{Return}
+use Rattle.mir_ir.specs.declared.body.Block.{Block}
+use Rattle.mir_ir.specs.declared.body.Body.{Body}
 
 abbrev pub operation_span : Span
 operation_span = record { start = 24; end = 29 }
@@ -24,6 +24,8 @@ sample_statement op n = record {
 
 abbrev pub sample_block : BinaryOp → ℤ → Block
 sample_block op n = record {
+  head = None;
+  nest = [];
   statements = sample_statement op n ∷ [];
   end = record { span = operation_span; kind = Return };
 }

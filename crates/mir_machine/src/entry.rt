@@ -1,12 +1,12 @@
 ghost use Rattle.std.specs.Prelude.{◌≡◌, ◌-◌, ◌<◌, ◌∷◌, ◌++◌, Some, IfOk, length, replicate, slice_get};
 ghost use Rattle.logic_term.specs.TyView.{tys_of};
-ghost use Rattle.mir_machine.specs.declared.mir_ir.Body.{Body};
+ghost use Rattle.mir_ir.specs.declared.body.Body.{Body};
 ghost use Rattle.mir_machine.specs.Good.{called};
 ghost use Rattle.mir_machine.specs.Tree.{Gone};
 
 use crate::args::Args;
 use crate::frame::{Frame, State};
-use crate::mir_ir::Bodies;
+use mir_ir::Bodies;
 use crate::tree::{Tree, TreeNode};
 use logic_term::{Label, Ty};
 use std::alloc::Global;

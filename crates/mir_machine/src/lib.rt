@@ -7,7 +7,6 @@ mod entry;
 mod frame;
 mod halt;
 mod machine;
-mod mir_ir;
 mod outcome;
 mod run_error;
 mod running;
@@ -20,8 +19,8 @@ pub use args::Args;
 pub use frame::{Frame, State};
 pub use machine::{Machine, NoIntrinsics};
 pub use mir_ir::{
-    Block, Bodies, Body, FnId, Lit, Operand, Place, Proj, Rvalue, Statement, StatementKind,
-    Terminator, TerminatorKind,
+    Block, Bodies, Body, FnId, Head, Lit, Operand, Place, Point, Proj, Rvalue, Statement,
+    StatementKind, Terminator, TerminatorKind,
 };
 pub use outcome::Outcome;
 pub use run_error::RunError;

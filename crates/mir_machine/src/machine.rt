@@ -1,13 +1,13 @@
 ghost use Rattle.std.specs.Prelude.{◌≡◌, ℕ, ◌≤◌, IfOk, IfErr, OnOk, OnErr};
 ghost use Rattle.std.specs.Option.{option_copied};
-ghost use Rattle.mir_machine.specs.WellFormed.{AreSound};
+ghost use Rattle.mir_ir.specs.WellFormed.{AreSound};
 ghost use Rattle.mir_machine.specs.Run.{CanCall, Starts, ran, IsRan, ShownAs, answer, StandsAt};
 
 use crate::args::Args;
 use crate::entry::call;
 use crate::frame::State;
 use crate::halt::Halt;
-use crate::mir_ir::{Bodies, FnId};
+use mir_ir::{Bodies, FnId};
 use crate::outcome::Outcome;
 use crate::run_error::RunError;
 use crate::running::step_state;

@@ -1,7 +1,7 @@
 ghost use Rattle.std.specs.Prelude.{◌≡◌, ◌≢◌, ◌<◌, [], Err, OnOk, length, slice_get, slice_set};
 ghost use Rattle.logic_term.specs.Sort.{instance};
 ghost use Rattle.logic_term.specs.TyView.{tys_of};
-ghost use Rattle.mir_machine.specs.Body.{kind_of, kind_in, place_ty};
+ghost use Rattle.mir_ir.specs.Body.{kind_of, kind_in, place_ty};
 ghost use Rattle.mir_machine.specs.Halt.{Comes};
 ghost use Rattle.mir_machine.specs.Run.{outcome_of_step};
 ghost use Rattle.mir_machine.specs.Step.{literal, try_step};
@@ -11,7 +11,7 @@ ghost use Rattle.mir_machine.specs.FrameStep.{IsWhole, ReadsWholes, NamesWholes,
 use crate::arithmetic::operate;
 use crate::frame::{Frame, State};
 use crate::halt::Halt;
-use crate::mir_ir::{
+use mir_ir::{
     Bodies, Body, Lit, Operand, Place, Rvalue, Statement, StatementKind, TerminatorKind,
 };
 use crate::tree::{Tree, TreeNode};

@@ -1,11 +1,11 @@
 ghost use Rattle.std.specs.Prelude.{◌≡◌, [], ◌∷◌, IfOk};
 ghost use Rattle.logic_term.specs.Ty.{int};
-ghost use Rattle.mir_machine.specs.WellFormed.{operation_ty};
+ghost use Rattle.mir_ir.specs.WellFormed.{operation_ty};
 ghost use Rattle.mir_machine.specs.Sample.{sample};
 
 use crate::args::Args;
 use crate::machine::{Machine, NoIntrinsics};
-use crate::mir_ir::{
+use mir_ir::{
     Block, Bodies, Body, FnId, Lit, Operand, Place, Rvalue, Statement, StatementKind, Terminator,
     TerminatorKind,
 };
@@ -44,7 +44,13 @@ fn sample(alloc: Global, op: BinaryOp, n: i32) -> Result<Bodies, NoMemory>
         kind: TerminatorKind::Return,
     };
     let mut blocks = Items::new(alloc);
-    blocks.push((Label(0), Block { statements, end }))?;
+    let block = Block {
+        head: None,
+        nest: Items::new(alloc),
+        statements,
+        end,
+    };
+    blocks.push((Label(0), block))?;
     let mut locals = Items::new(alloc);
     locals.push(Ty::int(IntKind::I32))?;
     locals.push(Ty::int(IntKind::I32))?;
