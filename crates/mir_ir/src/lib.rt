@@ -11,4 +11,4 @@ mod tests;
 pub use body::{Block, Bodies, Body, Head, Point};
 pub use place::{Lit, Operand, Place, Proj};
 pub use statement::{Rvalue, Statement, StatementKind};
-pub use terminator::{FnId, Terminator, TerminatorKind};
+pub use terminator::{Callee, FnId, Terminator, TerminatorKind};

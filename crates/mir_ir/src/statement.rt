@@ -7,11 +7,17 @@ use text_core::Span;
 pub enum Rvalue {
     Use(Operand),
     Binary(BinaryOp, Operand, Operand),
+    /// `-x` of a signed integer.
+    Neg(Operand),
+    /// `!x` of a truth value.
+    Not(Operand),
 }
 
 #[derive(Drop)]
 pub enum StatementKind {
     Assign(Place, Rvalue),
+    /// The local, by its number, holds nothing from here on.
+    Dead(u32),
 }
 
 #[derive(Drop)]

@@ -7,9 +7,12 @@ mod entry;
 mod frame;
 mod halt;
 mod machine;
+mod next;
+mod operands;
 mod outcome;
 mod run_error;
 mod running;
+mod scalar;
 mod spot;
 #[cfg(test)]
 mod tests;
@@ -19,7 +22,7 @@ pub use args::Args;
 pub use frame::{Frame, State};
 pub use machine::{Machine, NoIntrinsics};
 pub use mir_ir::{
-    Block, Bodies, Body, FnId, Head, Lit, Operand, Place, Point, Proj, Rvalue, Statement,
+    Block, Bodies, Body, Callee, FnId, Head, Lit, Operand, Place, Point, Proj, Rvalue, Statement,
     StatementKind, Terminator, TerminatorKind,
 };
 pub use outcome::Outcome;
