@@ -1,12 +1,10 @@
-ghost use Rattle.std.specs.Prelude.{◌≡◌, ◌≤ℤ◌, [], ◌∷◌, Some, None, IfOk, IsTrue, ◌↔◌, true};
+ghost use Rattle.std.specs.Prelude.{◌≡◌, ◌<◌, [], ◌∷◌, IfOk};
 ghost use Rattle.logic_term.specs.Range.{fits};
-ghost use Rattle.logic_term.specs.Ty.{int, bool};
 ghost use Rattle.mir_ir.specs.WellFormed.{operation_ty, IsSigned, AreSound};
-ghost use Rattle.mir_ir.specs.declared.place.Operand.TheVariants.{Copy, Const as OfLiteral};
-ghost use Rattle.mir_ir.specs.declared.place.Lit.TheVariants.{Int as IntegerLiteral};
-ghost use Rattle.mir_ir.specs.declared.statement.Rvalue.TheVariants as rvalue;
+ghost use Rattle.mir_ir.specs.declared.place.Operand.TheVariants.{Copy};
+ghost use Rattle.mir_machine.specs.Tree.{Int};
 ghost use Rattle.mir_machine.specs.Step.{whole};
-ghost use Rattle.mir_machine.specs.Sample.{assigned, block_of, label, sample, absolute, calling, program, TakesOne};
+ghost use Rattle.mir_machine.specs.Sample.{assigned, block_of, sample, absolute, calling, program, TakesOne};
 
 use crate::args::Args;
 use crate::machine::{Machine, NoIntrinsics};
@@ -115,7 +113,9 @@ fn sample(alloc: Global, answer: Ty, param: Ty, value: Rvalue) -> Result<Bodies,
     })
 }
 
-fn integer(z: i128) -> Tree {
+fn integer(z: i128) -> Tree
+    ensures { result ≡ Int z }
+{
     Tree {
         node: TreeNode::Int(z),
     }
@@ -235,7 +235,7 @@ enum Came {
     Nowhere,
 }
 
-fn came(machine: &Machine<NoIntrinsics>) -> Came {
+fn answer_of(machine: &Machine<NoIntrinsics>) -> Came {
     if let Outcome::Panicked { cause, .. } = machine.outcome() {
         return Came::Panic(cause);
     }
@@ -271,7 +271,7 @@ fn operation(
     let bodies = sample(alloc, operation_ty(op, kind), Ty::int(kind), value)?;
     let mut machine = start(alloc, &bodies, 0, integer(x))?;
     machine.run(7)?;
-    Ok(came(&machine))
+    Ok(answer_of(&machine))
 }
 
 /// `-x` over a signed integer type.
@@ -285,7 +285,7 @@ fn negation(alloc: Global, kind: IntKind, x: i128) -> Result<Came, Fail>
     let bodies = sample(alloc, Ty::int(kind), Ty::int(kind), value)?;
     let mut machine = start(alloc, &bodies, 0, integer(x))?;
     machine.run(7)?;
-    Ok(came(&machine))
+    Ok(answer_of(&machine))
 }
 
 /// The absolute value of x, by body f of the program.
@@ -295,7 +295,7 @@ fn absolute_of(alloc: Global, f: u32, x: i32) -> Result<Came, Fail>
     let bodies = program(alloc)?;
     let mut machine = start(alloc, &bodies, f, integer(x as i128))?;
     machine.run(99)?;
-    Ok(came(&machine))
+    Ok(answer_of(&machine))
 }
 
 // ---- tests
@@ -313,7 +313,7 @@ fn calls_step_by_step(rt: HostRuntime) -> Result<(), Fail> {
     assert_eq!(rt; machine.state().running.label, Label(1));
     assert!(rt; machine.result().is_none());
     machine.run(99)?;
-    assert_eq!(rt; came(&machine), Came::Integer(41));
+    assert_eq!(rt; answer_of(&machine), Came::Integer(41));
     assert_eq!(rt; machine.state().behind.len(), 0);
     assert_eq!(rt; machine.run(7)?, 0);
     Ok(())
@@ -363,6 +363,6 @@ fn inverts_a_truth(rt: HostRuntime) -> Result<(), Fail> {
     };
     let mut machine = start(rt.alloc(), &bodies, 0, truth)?;
     machine.run(7)?;
-    assert_eq!(rt; came(&machine), Came::Truth(false));
+    assert_eq!(rt; answer_of(&machine), Came::Truth(false));
     Ok(())
 }
