@@ -17,17 +17,18 @@ use Rattle.logic_term.proofs.Alike.{yes_alike}
 use Rattle.logic_term.proofs.Coincide.{with_same, with_other}
 use Rattle.logic_term.proofs.FreeLaw.{coincide_free}
 use Rattle.logic_term.proofs.Reduction.{reduced_means}
-use Rattle.mir_machine.specs.declared.mir_ir.Statement.{Statement}
-use Rattle.mir_machine.specs.declared.mir_ir.Block.{Block}
-use Rattle.mir_machine.specs.declared.mir_ir.Body.{Body}
+use Rattle.mir_ir.specs.declared.statement.Statement.{Statement}
+use Rattle.mir_ir.specs.declared.terminator.TerminatorKind.TheVariants.{Return}
+use Rattle.mir_ir.specs.declared.body.Block.{Block}
+use Rattle.mir_ir.specs.declared.body.Body.{Body}
 use Rattle.mir_machine.specs.Tree.{Tree, Int, Gone, trees_of}
 use Rattle.mir_machine.specs.Frame.{Frame, State}
-use Rattle.mir_machine.specs.Body.{param_tys, answer_ty, block_in, place_ty, kind_in}
+use Rattle.mir_ir.specs.Body.{param_tys, answer_ty, block_in, place_ty, kind_in}
 use Rattle.mir_machine.specs.Step.{Outcome, Running, Returned, Panicked, Stuck, after, entered, outside}
 use Rattle.mir_machine.specs.Typed.{Met, Typed, AreTyped, is_int}
 use Rattle.mir_machine.specs.Reads.{Plain, Reads, ReadsAll, of_int as reads_int}
 use Rattle.mir_machine.specs.Good.{Each, IsProper, IsFine, Good, MeetsRequires, MeetsEnsures, Supply, Supplies, named, called, here, not_lent}
-use Rattle.mir_machine.specs.WellFormed.{AreSound}
+use Rattle.mir_ir.specs.WellFormed.{AreSound}
 use Rattle.mir_machine.proofs.NeverStuck.{never_stuck, sound_wholes}
 use Rattle.proof_kernel.specs.Sequent.{IsTrueObligation}
 use Rattle.creusot_cli.specs.MirBuild.{local_name, names_from}
@@ -82,6 +83,7 @@ pub record IsForm (bodies : List Body) (fn : ℕ) (b : Body) (bl : Block) (k : I
   pub sound : AreSound bodies
   pub is_body : slice_get bodies fn ≡ Some b
   pub is_block : block_in b.blocks b.entry ≡ Some bl
+  pub returns : bl.end.kind ≡ Return
   pub built : (S : Structure) (i : ℕ) (st : Statement) → slice_get bl.statements i ≡ Some st → IsBuilt S k st.kind
   pub kinds : (S : Structure) (i : ℕ) (st : Statement) → slice_get bl.statements i ≡ Some st → kind_in (place_ty b no_tys (place_of S st.kind)) ≡ Some k
   pub outside : (S : Structure) (i : ℕ) (st : Statement) → slice_get bl.statements i ≡ Some st → (x : ℕ) → 0 < x → x ≤ b.params → x ≡ target S st.kind → ⊥
@@ -112,6 +114,7 @@ module _ (Δ : Declarations) (bodies : List Body) (fn : ℕ) (b : Body) (bl : Bl
   one_block = record {
     is_body = form.is_body;
     is_block = form.is_block;
+    returns = form.returns;
     wholes = sound_wholes bodies form.sound;
     built = form.built at_no;
     kinds = form.kinds at_no;

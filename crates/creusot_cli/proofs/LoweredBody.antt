@@ -11,12 +11,12 @@ use Rattle.logic_term.specs.declared.kinds.Label.{Label}
 use Rattle.logic_term.specs.Ty.{Ty, Tys, int, no_tys}
 use Rattle.logic_term.specs.Sort.{instance}
 use Rattle.logic_term.specs.Meaning.{Structure}
-use Rattle.mir_machine.specs.declared.mir_ir.Statement.{Statement}
-use Rattle.mir_machine.specs.declared.mir_ir.StatementKind.{StatementKind}
-use Rattle.mir_machine.specs.declared.mir_ir.Block.{Block}
-use Rattle.mir_machine.specs.declared.mir_ir.Body.{Body}
-use Rattle.mir_machine.specs.Body.{block_in, place_ty, kind_in}
-use Rattle.mir_machine.specs.WellFormed.{IsTyped, IsInitialised, AreSound, StatementIsTyped, OperandHas, operation_ty, Locals, taken, with, run, CanRun, CanTake, CanEnd, Within, parameters}
+use Rattle.mir_ir.specs.declared.statement.Statement.{Statement}
+use Rattle.mir_ir.specs.declared.statement.StatementKind.{StatementKind}
+use Rattle.mir_ir.specs.declared.body.Block.{Block}
+use Rattle.mir_ir.specs.declared.body.Body.{Body}
+use Rattle.mir_ir.specs.Body.{block_in, place_ty, kind_in}
+use Rattle.mir_ir.specs.WellFormed.{IsTyped, IsInitialised, AreSound, StatementIsTyped, OperandHas, operation_ty, Locals, taken, with, run, CanRun, CanTake, CanEnd, Carries, EndIsTyped, Within, parameters}
 use Rattle.mir_machine.specs.Good.{Each}
 use Rattle.creusot_cli.specs.declared.rs_syntax.form.Sign.{Sign}
 use Rattle.creusot_cli.specs.declared.rs_syntax.form.Sign.TheVariants.{Plus, Minus}
@@ -110,7 +110,7 @@ module _ (f : Function) (bounds : IsInBounds f) where
 
   operation_fits : (d : ℕ) (s : ChainStep) (t u : ℕ) → IsFree d → t < total → u < total → Fits (operation_into d s t u)
   operation_fits d s t u free lt lu = record {
-    typed = (int I32, (refl, is_i32 d free.0), (I32, (refl, is_i32 t lt), (refl, is_i32 u lu), by_sign s.sign));
+    typed = (int I32, (refl, is_i32 d free.0), (int I32, (refl, is_i32 t lt), (refl, is_i32 u lu), by_sign s.sign));
     built = λ S. (built_sign s.sign, tt, tt);
     kind = λ S. kind_at d free.0;
     outside = λ S x p q r. free_outside d x free p q r;
@@ -243,14 +243,15 @@ module _ (f : Function) (bounds : IsInBounds f) where
       by_label false q = absurd (cc)
 
   pub sound : AreSound (b ∷ [])
-  sound zero c e = let same : b ≡ c = cc in subst (λ d. IsTyped d × IsInitialised d) same (is_typed, is_initialised)
+  sound zero c e = let same : b ≡ c = cc in subst (λ d. IsTyped (b ∷ []) d × IsInitialised d) same (is_typed, is_initialised)
     where
-      is_typed : IsTyped b
+      is_typed : IsTyped (b ∷ []) b
       is_typed = record {
         named = length_names 0 total ∙ sym (length_same total (int I32));
         answers = omega (arith, length_same total (int I32));
         begins = (block_of f, refl);
         statements = λ l k i st e g. (each_at Fits (statements_of f) i st all_fit (subst (λ (d : Block). slice_get d.statements i ≡ Some st) (the_block l k e) g)).typed;
+        ends = λ l k e. subst (λ (d : Block). EndIsTyped (b ∷ []) b d.end.kind) (sym (the_block l k e)) tt;
       }
 
       in_block : (l : Label) (k : Block) (i : ℕ) (st : Statement) → block_in b.blocks l ≡ Some k → slice_get k.statements i ≡ Some st → slice_get (statements_of f) i ≡ Some st
@@ -268,6 +269,7 @@ module _ (f : Function) (bounds : IsInBounds f) where
           λ x h. ap (λ (t : Locals). t x) (sym (after_one (parameters b) (statements_of f) i st (in_block l k i st e g))) ∙ h,
         );
         ends = λ l k e. at_end k (sym (the_block l k e));
+        edges = λ l k e. subst (λ (d : Block). Carries (λ l'. after_all (parameters b) (take 0 (statements_of f))) (after_all (parameters b) (take (length d.statements) (statements_of f))) d.end.kind) (sym (the_block l k e)) tt;
       }
   sound (suc i) c e = absurd (cc)
 

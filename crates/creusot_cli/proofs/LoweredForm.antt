@@ -107,6 +107,7 @@ module _ (f : Function) (bounds : IsInBounds f) where
     sound = sound f bounds;
     is_body = refl;
     is_block = refl;
+    returns = refl;
     built = built_at f bounds;
     kinds = kind_of_target f bounds;
     outside = outside_params f bounds;

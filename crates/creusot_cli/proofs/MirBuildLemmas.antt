@@ -7,7 +7,7 @@ use Rattle.creusot_cli.specs.declared.rs_syntax.form.ClauseKind.TheVariants.{Req
 use Rattle.creusot_cli.specs.declared.rs_syntax.form.Clause.{Clause}
 use Rattle.creusot_cli.specs.declared.rs_syntax.form.Atom.{Atom}
 use Rattle.creusot_cli.specs.declared.rs_syntax.form.ChainStep.{ChainStep}
-use Rattle.mir_machine.specs.declared.mir_ir.Statement.{Statement}
+use Rattle.mir_ir.specs.declared.statement.Statement.{Statement}
 use Rattle.creusot_cli.specs.MirBuild.{local_name, names_from, is_requires, is_ensures, atom_into, operation_into, chain_into}
 use Rattle.creusot_cli.specs.MirBuildBounds.{clauses_of, target, AddsOperator}
 

@@ -6,18 +6,17 @@ use Rattle.logic_term.specs.Ty.{Tys}
 use Rattle.logic_term.specs.Value.{Value}
 use Rattle.logic_term.specs.Term.{Term}
 use Rattle.logic_term.specs.Meaning.{Structure, Env, Holds}
-use Rattle.mir_machine.specs.declared.mir_ir.Statement.{Statement}
-use Rattle.mir_machine.specs.declared.mir_ir.StatementKind.{StatementKind}
-use Rattle.mir_machine.specs.declared.mir_ir.TerminatorKind.{TerminatorKind}
-use Rattle.mir_machine.specs.declared.mir_ir.TerminatorKind.TheVariants.{Return}
-use Rattle.mir_machine.specs.declared.mir_ir.Terminator.{Terminator}
-use Rattle.mir_machine.specs.declared.mir_ir.Block.{Block}
-use Rattle.mir_machine.specs.declared.mir_ir.Body.{Body}
+use Rattle.mir_ir.specs.declared.statement.Statement.{Statement}
+use Rattle.mir_ir.specs.declared.statement.StatementKind.{StatementKind}
+use Rattle.mir_ir.specs.declared.terminator.TerminatorKind.TheVariants.{Return}
+use Rattle.mir_ir.specs.declared.terminator.Terminator.{Terminator}
+use Rattle.mir_ir.specs.declared.body.Block.{Block}
+use Rattle.mir_ir.specs.declared.body.Body.{Body}
 use Rattle.mir_machine.specs.Try.{Try, Yields, Panics, Sticks, ◌>>=◌, need}
 use Rattle.mir_machine.specs.Frame.{Frame, State}
-use Rattle.mir_machine.specs.Body.{block_in, place_ty, kind_in}
+use Rattle.mir_ir.specs.Body.{block_in, place_ty, kind_in}
 use Rattle.mir_machine.specs.Step.{Outcome, Running, Returned, Panicked, Stuck, outcome_of, try_step, step, next, after_from}
-use Rattle.mir_machine.specs.FrameStep.{AllNameWholes, FrameEnd, Stays, Answers, local_tree, assign_local, frame_end, frame_row, frame_step, settled}
+use Rattle.mir_machine.specs.FrameStep.{AllNameWholes, FrameEnd, Stays, Calls, Answers, local_tree, run_local, frame_end, frame_row, frame_step, settled}
 use Rattle.mir_machine.proofs.Wholes.{try_step-whole}
 use Rattle.creusot_cli.specs.MirBuild.{local_name}
 use Rattle.creusot_cli.specs.WpGen.{Goal, goals_at, goal_before, goals_from}
@@ -50,6 +49,7 @@ module _ (S : Structure) where
   pub record OneBlock (bodies : List Body) (fn : ℕ) (b : Body) (bl : Block) (θ : Tys) (k : IntKind) (v : ℕ) : Type 0 where
     pub is_body : slice_get bodies fn ≡ Some b
     pub is_block : block_in b.blocks b.entry ≡ Some bl
+    pub returns : bl.end.kind ≡ Return
     pub wholes : AllNameWholes bodies
     pub built : (i : ℕ) (st : Statement) → slice_get bl.statements i ≡ Some st → IsBuilt S k st.kind
     pub kinds : (i : ℕ) (st : Statement) → slice_get bl.statements i ≡ Some st → kind_in (place_ty b θ (place_of S st.kind)) ≡ Some k
@@ -80,6 +80,7 @@ module _ (S : Structure) where
 
     abbrev pub EndsFine : FrameEnd (Unit {0}) → Type 0
     EndsFine (Stays f) = Standing f
+    EndsFine (Calls f g) = ⊥
     EndsFine (Answers t) = Answering t
 
     abbrev pub StateFine : State (Unit {0}) → Type 0
@@ -92,17 +93,17 @@ module _ (S : Structure) where
     OutcomeFine (Panicked cause span) = ⊥
     OutcomeFine Stuck = Unit {0}
 
-    end_comes : (f : Frame (Unit {0})) → Standing f → drop f.statement bl.statements ≡ [] → (kind : TerminatorKind) → Comes EndsFine (frame_end f kind)
-    end_comes f st e Return = comes_then (IsLocal k f.locals st.env 0) EndsFine (local_tree f.locals 0) _ (local_comes k f.locals st.env 0 st.agrees)
+    end_comes : (f : Frame (Unit {0})) → Standing f → drop f.statement bl.statements ≡ [] → Comes EndsFine (frame_end bodies f Return)
+    end_comes f st e = comes_then (IsLocal k f.locals st.env 0) EndsFine (local_tree f.locals 0) _ (local_comes k f.locals st.env 0 st.agrees)
         (λ t n. record { env = st.env; integer = n.0; keeps = st.keeps; goals = subst (λ sts. GoalsHold S st.env (goals_from k v ends sts)) e st.goals })
 
-    row_comes : (f : Frame (Unit {0})) → Standing f → (o : Option Statement) → slice_get bl.statements f.statement ≡ o → Comes EndsFine (frame_row b f bl.end o)
-    row_comes f st None e = end_comes f st (drop_none bl.statements f.statement e) bl.end.kind
+    row_comes : (f : Frame (Unit {0})) → Standing f → (o : Option Statement) → slice_get bl.statements f.statement ≡ o → Comes EndsFine (frame_row bodies b f bl.end o)
+    row_comes f st None e = subst (λ kind. Comes EndsFine (frame_end bodies f kind)) (sym one.returns) (end_comes f st (drop_none bl.statements f.statement e))
     row_comes f st (Some s) e =
         let here : GoalsHold S st.env (goals_from k v ends (s ∷ drop (f.statement + 1) bl.statements)) = subst (λ sts. GoalsHold S st.env (goals_from k v ends sts)) (drop_get bl.statements f.statement s e) st.goals in
         let two = goals_split st.env (goals_at k s.span s.kind) (map (goal_before k v s.kind) (goals_from k v ends (drop (f.statement + 1) bl.statements))) here in
         let kind : kind_in (place_ty b f.types (place_of S s.kind)) ≡ Some k = subst (λ u. kind_in (place_ty b u (place_of S s.kind)) ≡ Some k) (sym st.types) (one.kinds f.statement s e) in
-        comes_then (Next S k v s.kind st.env) EndsFine (assign_local b f.types f.locals s.span s.kind) _
+        comes_then (Next S k v s.kind st.env) EndsFine (run_local b f.types f.locals s.span s.kind) _
         (statement_comes S b f.types k v s.span s.kind f.locals st.env (one.built f.statement s e) kind st.agrees st.short two.0)
         (λ ls n. record {
           function = st.function;
@@ -119,12 +120,13 @@ module _ (S : Structure) where
     frame_comes f st =
         let found : slice_get bodies f.function ≡ Some b = subst (λ n. slice_get bodies n ≡ Some b) (sym st.function) one.is_body in
         let block : block_in b.blocks f.label ≡ Some bl = subst (λ l. block_in b.blocks l ≡ Some bl) (sym st.label) one.is_block in
-        subst (λ (o : Option Body). Comes EndsFine (need o >>= λ c. need (block_in c.blocks f.label) >>= λ d. frame_row c f d.end (slice_get d.statements f.statement))) (sym found)
-        (subst (λ (o : Option Block). Comes EndsFine (need o >>= λ d. frame_row b f d.end (slice_get d.statements f.statement))) (sym block)
+        subst (λ (o : Option Body). Comes EndsFine (need o >>= λ c. need (block_in c.blocks f.label) >>= λ d. frame_row bodies c f d.end (slice_get d.statements f.statement))) (sym found)
+        (subst (λ (o : Option Block). Comes EndsFine (need o >>= λ d. frame_row bodies b f d.end (slice_get d.statements f.statement))) (sym block)
         (row_comes f st (slice_get bl.statements f.statement) refl))
 
-    settled_fine : (e : FrameEnd (Unit {0})) → EndsFine e → Comes OutcomeFine (settled (out ∷ []) e)
+    settled_fine : (e : FrameEnd (Unit {0})) → EndsFine e → Comes OutcomeFine (settled bodies (out ∷ []) e)
     settled_fine (Stays f) st = (st, refl)
+    settled_fine (Calls f g) h = absurd h
     settled_fine (Answers t) a = (refl, a)
 
     of_try : (m : Try (Outcome (Unit {0}))) → Comes OutcomeFine m → OutcomeFine (outcome_of m)
@@ -135,8 +137,8 @@ module _ (S : Structure) where
     step_fine : (s : State (Unit {0})) → StateFine s → OutcomeFine (step bodies s)
     step_fine [] h = absurd h
     step_fine (f ∷ fs) h =
-        let moved : Comes OutcomeFine (frame_step bodies f >>= settled (out ∷ [])) = comes_then EndsFine OutcomeFine (frame_step bodies f) (settled (out ∷ [])) (frame_comes f h.0) settled_fine in
-        of_try (try_step bodies (f ∷ fs)) (subst (λ m. Comes OutcomeFine m) (sym (try_step-whole bodies f fs one.wholes)) (subst (λ gs. Comes OutcomeFine (frame_step bodies f >>= settled gs)) (sym h.1) moved))
+        let moved : Comes OutcomeFine (frame_step bodies f >>= settled bodies (out ∷ [])) = comes_then EndsFine OutcomeFine (frame_step bodies f) (settled bodies (out ∷ [])) (frame_comes f h.0) settled_fine in
+        of_try (try_step bodies (f ∷ fs)) (subst (λ m. Comes OutcomeFine m) (sym (try_step-whole bodies f fs one.wholes)) (subst (λ gs. Comes OutcomeFine (frame_step bodies f >>= settled bodies gs)) (sym h.1) moved))
 
     next_fine : (o : Outcome (Unit {0})) → OutcomeFine o → OutcomeFine (next bodies o)
     next_fine (Running s) h = step_fine s h

@@ -22,20 +22,20 @@ use Rattle.logic_term.proofs.Coincide.{with_same, with_other}
 use Rattle.logic_term.proofs.FreeLaw.{same_test}
 use Rattle.logic_term.proofs.SubstLaw.{replaced_means}
 use Rattle.logic_term.proofs.Truth.{Exactly, Computes, computes_model, computes_calculate, holds_and, holds_at_most, holds_implies, holds_forall, holds_equal_exactly, holds_false}
-use Rattle.mir_machine.specs.declared.mir_ir.Place.{Place}
-use Rattle.mir_machine.specs.declared.mir_ir.Lit.TheVariants as literal
-use Rattle.mir_machine.specs.declared.mir_ir.Operand.{Operand}
-use Rattle.mir_machine.specs.declared.mir_ir.Operand.TheVariants.{Copy, Move, Const}
-use Rattle.mir_machine.specs.declared.mir_ir.Rvalue.TheVariants.{Use, Binary}
-use Rattle.mir_machine.specs.declared.mir_ir.StatementKind.{StatementKind}
-use Rattle.mir_machine.specs.declared.mir_ir.StatementKind.TheVariants.{Assign}
-use Rattle.mir_machine.specs.declared.mir_ir.Body.{Body}
+use Rattle.mir_ir.specs.declared.place.Place.{Place}
+use Rattle.mir_ir.specs.declared.place.Lit.TheVariants as literal
+use Rattle.mir_ir.specs.declared.place.Operand.{Operand}
+use Rattle.mir_ir.specs.declared.place.Operand.TheVariants.{Copy, Move, Const}
+use Rattle.mir_ir.specs.declared.statement.Rvalue.TheVariants.{Use, Binary, Neg, Not}
+use Rattle.mir_ir.specs.declared.statement.StatementKind.{StatementKind}
+use Rattle.mir_ir.specs.declared.statement.StatementKind.TheVariants.{Assign, Dead}
+use Rattle.mir_ir.specs.declared.body.Body.{Body}
 use Rattle.mir_machine.specs.Try.{Try, Yields, Panics, Sticks, ◌>>=◌, need}
 use Rattle.mir_machine.specs.Tree.{Tree, Int, Truth, Made, Boxed, Shared, Unique, Gone}
-use Rattle.mir_machine.specs.Body.{place_ty, kind_in}
+use Rattle.mir_ir.specs.Body.{place_ty, kind_in}
 use Rattle.mir_machine.specs.Memory.{is_there}
 use Rattle.mir_machine.specs.Step.{binary}
-use Rattle.mir_machine.specs.FrameStep.{Left, local_tree, take_operand, evaluate, put_local, assign_local}
+use Rattle.mir_machine.specs.FrameStep.{Left, local_tree, take_operand, evaluate, put_local, run_local}
 use Rattle.creusot_cli.specs.MirBuild.{local_name}
 use Rattle.creusot_cli.specs.WpGen.{Goal, operand_term, built, exact, in_range, goals_of_operation, goals_at, before_operation, before}
 
@@ -229,12 +229,17 @@ module _ (S : Structure) where
   abbrev pub IsBuilt : IntKind → StatementKind → Type 0
   IsBuilt k (Assign p (Use o)) = IsOperand k o
   IsBuilt k (Assign p (Binary op a b)) = ((q : ArithOp) × (built op ≡ Some q)) × IsOperand k a × IsOperand k b
+  IsBuilt k (Assign p (Neg o)) = ⊥
+  IsBuilt k (Assign p (Not o)) = ⊥
+  IsBuilt k (Dead x) = ⊥
 
   abbrev pub target : StatementKind → ℕ
   target (Assign p r) = p.local
+  target (Dead x) = x
 
   abbrev pub place_of : StatementKind → Place
   place_of (Assign p r) = p
+  place_of (Dead x) = record { local = x; path = [] }
 
   -- an environment for the locals after a statement: what was true before its row is true of it
   pub record Next (k : IntKind) (v : ℕ) (st : StatementKind) (ρ : Env) (ls : List T) : Type 0 where
@@ -248,7 +253,7 @@ module _ (S : Structure) where
   put_comes P ls x t p None = tt
   put_comes P ls x t p (Some u) = p
 
-  use_comes : (b : Body) (θ : Tys) (k : IntKind) (v : ℕ) (span : Span) (p : Place) (o : Operand) (ls : List T) (ρ : Env) → IsOperand k o → Agrees k ls ρ → length ls ≤ v → Comes (Next k v (Assign p (Use o)) ρ) (assign_local b θ ls span (Assign p (Use o)))
+  use_comes : (b : Body) (θ : Tys) (k : IntKind) (v : ℕ) (span : Span) (p : Place) (o : Operand) (ls : List T) (ρ : Env) → IsOperand k o → Agrees k ls ρ → length ls ≤ v → Comes (Next k v (Assign p (Use o)) ρ) (run_local b θ ls span (Assign p (Use o)))
   use_comes b θ k v span p o ls ρ i h l = comes_then (Took k ρ v o) (Next k v (Assign p (Use o)) ρ) (take_operand ls o) _ (operand_comes k ls ρ v o i h l)
       (λ taken took. put_comes (Next k v (Assign p (Use o)) ρ) taken.0 p.local taken.1 (record {
         env = with_value ρ (local_name p.local) (valued ρ o);
@@ -277,7 +282,7 @@ module _ (S : Structure) where
   overflow_fits : (k : IntKind) (span : Span) (op : BinaryOp) (p : ArithOp) (a b : Operand) (ρ : Env) (y z : ℤ) → built op ≡ Some p → valued ρ a ≡ Number y → valued ρ b ≡ Number z → GoalsHold ρ (goals_of_operation k span (built op) a b) → fits k (calculated p y z) ≡ true
   overflow_fits k span op p a b ρ y z e ea eb h = range_fits k (exact p a b) ρ (calculated p y z) (exact_computes p a b ρ y z ea eb) (subst (λ o. GoalsHold ρ (goals_of_operation k span o a b)) e h).0
 
-  binary_statement_comes : (body : Body) (θ : Tys) (k : IntKind) (v : ℕ) (span : Span) (pl : Place) (op : BinaryOp) (q : ArithOp) (a b : Operand) (ls : List T) (ρ : Env) → kind_in (place_ty body θ pl) ≡ Some k → built op ≡ Some q → IsOperand k a → IsOperand k b → Agrees k ls ρ → length ls ≤ v → GoalsHold ρ (goals_of_operation k span (built op) a b) → Comes (Next k v (Assign pl (Binary op a b)) ρ) (assign_local body θ ls span (Assign pl (Binary op a b)))
+  binary_statement_comes : (body : Body) (θ : Tys) (k : IntKind) (v : ℕ) (span : Span) (pl : Place) (op : BinaryOp) (q : ArithOp) (a b : Operand) (ls : List T) (ρ : Env) → kind_in (place_ty body θ pl) ≡ Some k → built op ≡ Some q → IsOperand k a → IsOperand k b → Agrees k ls ρ → length ls ≤ v → GoalsHold ρ (goals_of_operation k span (built op) a b) → Comes (Next k v (Assign pl (Binary op a b)) ρ) (run_local body θ ls span (Assign pl (Binary op a b)))
   binary_statement_comes body θ k v span pl op q a b ls ρ kind e ia ib h l goals =
       let N = Next k v (Assign pl (Binary op a b)) ρ in
       subst (λ o. Comes N (evaluate ls o span (Binary op a b) >>= λ r. put_local r.0 pl.local r.1)) (sym kind)
@@ -309,6 +314,9 @@ module _ (S : Structure) where
           })
 
   -- a statement, where its goals hold
-  pub statement_comes : (b : Body) (θ : Tys) (k : IntKind) (v : ℕ) (span : Span) (st : StatementKind) (ls : List T) (ρ : Env) → IsBuilt k st → kind_in (place_ty b θ (place_of st)) ≡ Some k → Agrees k ls ρ → length ls ≤ v → GoalsHold ρ (goals_at k span st) → Comes (Next k v st ρ) (assign_local b θ ls span st)
+  pub statement_comes : (b : Body) (θ : Tys) (k : IntKind) (v : ℕ) (span : Span) (st : StatementKind) (ls : List T) (ρ : Env) → IsBuilt k st → kind_in (place_ty b θ (place_of st)) ≡ Some k → Agrees k ls ρ → length ls ≤ v → GoalsHold ρ (goals_at k span st) → Comes (Next k v st ρ) (run_local b θ ls span st)
   statement_comes b θ k v span (Assign p (Use o)) ls ρ i kind h l goals = use_comes b θ k v span p o ls ρ i h l
   statement_comes b θ k v span (Assign p (Binary op x y)) ls ρ i kind h l goals = binary_statement_comes b θ k v span p op i.0.0 x y ls ρ kind i.0.1 i.1 i.2 h l goals
+  statement_comes b θ k v span (Assign p (Neg o)) ls ρ i kind h l goals = absurd i
+  statement_comes b θ k v span (Assign p (Not o)) ls ρ i kind h l goals = absurd i
+  statement_comes b θ k v span (Dead x) ls ρ i kind h l goals = absurd i

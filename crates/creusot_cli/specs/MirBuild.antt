@@ -1,5 +1,5 @@
 -- The body and the contract that a function of the form is lowered to. A local is named by its number.
-use Rattle.std.specs.Prelude.{ℕ, zero, suc, Bool, true, false, filter, ◌+◌, ◌*◌, ◌^◌, ◌<◌, ◌≡◌, ℤ, List, [], ◌∷◌, ◌++◌, length, map, reverse, replicate}
+use Rattle.std.specs.Prelude.{ℕ, zero, suc, Bool, true, false, filter, ◌+◌, ◌*◌, ◌^◌, ◌<◌, ◌≡◌, ℤ, List, [], ◌∷◌, ◌++◌, None, length, map, reverse, replicate}
 use Rattle.text_core.specs.declared.name.Name.{Name}
 use Rattle.text_core.specs.declared.span.Span.{Span}
 use Rattle.logic_term.specs.declared.kinds.ArithOp.{ArithOp}
@@ -12,16 +12,16 @@ use Rattle.logic_term.specs.declared.obligation.Contract.{Contract}
 use Rattle.logic_term.specs.Range.{fits}
 use Rattle.logic_term.specs.Ty.{Ty, int, math_int}
 use Rattle.logic_term.specs.Term.{Term, var, lit, model, calculate, is_less, is_at_most, is_equal}
-use Rattle.mir_machine.specs.declared.mir_ir.Place.{Place}
-use Rattle.mir_machine.specs.declared.mir_ir.Lit.TheVariants as literal
-use Rattle.mir_machine.specs.declared.mir_ir.Operand.{Operand}
-use Rattle.mir_machine.specs.declared.mir_ir.Operand.TheVariants.{Copy, Const}
-use Rattle.mir_machine.specs.declared.mir_ir.Rvalue.TheVariants.{Use, Binary}
-use Rattle.mir_machine.specs.declared.mir_ir.StatementKind.TheVariants.{Assign}
-use Rattle.mir_machine.specs.declared.mir_ir.Statement.{Statement}
-use Rattle.mir_machine.specs.declared.mir_ir.TerminatorKind.TheVariants.{Return}
-use Rattle.mir_machine.specs.declared.mir_ir.Block.{Block}
-use Rattle.mir_machine.specs.declared.mir_ir.Body.{Body}
+use Rattle.mir_ir.specs.declared.place.Place.{Place}
+use Rattle.mir_ir.specs.declared.place.Lit.TheVariants as literal
+use Rattle.mir_ir.specs.declared.place.Operand.{Operand}
+use Rattle.mir_ir.specs.declared.place.Operand.TheVariants.{Copy, Const}
+use Rattle.mir_ir.specs.declared.statement.Rvalue.TheVariants.{Use, Binary}
+use Rattle.mir_ir.specs.declared.statement.StatementKind.TheVariants.{Assign}
+use Rattle.mir_ir.specs.declared.statement.Statement.{Statement}
+use Rattle.mir_ir.specs.declared.terminator.TerminatorKind.TheVariants.{Return}
+use Rattle.mir_ir.specs.declared.body.Block.{Block}
+use Rattle.mir_ir.specs.declared.body.Body.{Body}
 use Rattle.creusot_cli.specs.declared.rs_syntax.form.Sign.{Sign}
 use Rattle.creusot_cli.specs.declared.rs_syntax.form.Sign.TheVariants.{Plus, Minus}
 use Rattle.creusot_cli.specs.declared.rs_syntax.form.Comparison.{Comparison}
@@ -147,12 +147,12 @@ body_of f = record {
   locals = replicate (local_count f) (int I32);
   names = names_from 0 (local_count f);
   entry = record { 0 = 0 };
-  blocks = (record { 0 = 0 }, record { statements = statements_of f; end = record { span = f.span; kind = Return } }) ∷ [];
+  blocks = (record { 0 = 0 }, record { head = None; nest = []; statements = statements_of f; end = record { span = f.span; kind = Return } }) ∷ [];
   span = f.span;
 }
 
 abbrev pub block_of : Function → Block
-block_of f = record { statements = statements_of f; end = record { span = f.span; kind = Return } }
+block_of f = record { head = None; nest = []; statements = statements_of f; end = record { span = f.span; kind = Return } }
 
 -- ---- functions whose parts are in bounds
 

@@ -4,7 +4,7 @@ use Rattle.creusot_cli.specs.declared.rs_syntax.form.ClauseKind.{ClauseKind}
 use Rattle.creusot_cli.specs.declared.rs_syntax.form.ClauseKind.TheVariants.{Requires, Ensures}
 use Rattle.creusot_cli.specs.declared.rs_syntax.form.Clause.{Clause}
 use Rattle.creusot_cli.specs.declared.rs_syntax.form.ChainStep.{ChainStep}
-use Rattle.mir_machine.specs.declared.mir_ir.Statement.{Statement}
+use Rattle.mir_ir.specs.declared.statement.Statement.{Statement}
 use Rattle.creusot_cli.specs.MirBuild.{requires_of, ensures_of, atom_into, operation_into}
 
 abbrev pub clauses_of : ClauseKind → List Clause → List Clause

@@ -18,17 +18,17 @@ use Rattle.logic_term.specs.Range.{lowest, highest}
 use Rattle.logic_term.specs.Subst.{replaced}
 use Rattle.logic_term.specs.Ty.{Ty, int, math_int}
 use Rattle.logic_term.specs.Term.{Term, var, lit, truth, model, calculate, is_at_most, is_equal, and, implies, forall}
-use Rattle.mir_machine.specs.declared.mir_ir.Lit.TheVariants as literal
-use Rattle.mir_machine.specs.declared.mir_ir.Operand.{Operand}
-use Rattle.mir_machine.specs.declared.mir_ir.Operand.TheVariants.{Copy, Move, Const}
-use Rattle.mir_machine.specs.declared.mir_ir.Rvalue.{Rvalue}
-use Rattle.mir_machine.specs.declared.mir_ir.Rvalue.TheVariants.{Use, Binary}
-use Rattle.mir_machine.specs.declared.mir_ir.StatementKind.{StatementKind}
-use Rattle.mir_machine.specs.declared.mir_ir.StatementKind.TheVariants.{Assign}
-use Rattle.mir_machine.specs.declared.mir_ir.Statement.{Statement}
-use Rattle.mir_machine.specs.declared.mir_ir.Block.{Block}
-use Rattle.mir_machine.specs.declared.mir_ir.Body.{Body}
-use Rattle.mir_machine.specs.Body.{block_in}
+use Rattle.mir_ir.specs.declared.place.Lit.TheVariants as literal
+use Rattle.mir_ir.specs.declared.place.Operand.{Operand}
+use Rattle.mir_ir.specs.declared.place.Operand.TheVariants.{Copy, Move, Const}
+use Rattle.mir_ir.specs.declared.statement.Rvalue.{Rvalue}
+use Rattle.mir_ir.specs.declared.statement.Rvalue.TheVariants.{Use, Binary, Neg, Not}
+use Rattle.mir_ir.specs.declared.statement.StatementKind.{StatementKind}
+use Rattle.mir_ir.specs.declared.statement.StatementKind.TheVariants.{Assign, Dead}
+use Rattle.mir_ir.specs.declared.statement.Statement.{Statement}
+use Rattle.mir_ir.specs.declared.body.Block.{Block}
+use Rattle.mir_ir.specs.declared.body.Body.{Body}
+use Rattle.mir_ir.specs.Body.{block_in}
 use Rattle.creusot_cli.specs.MirBuild.{local_name}
 
 -- a formula to be shown at a point of a body
@@ -59,13 +59,20 @@ in_range k t = and (is_at_most (lit (lowest k) math_int) t) (is_at_most t (lit (
 
 -- ---- goals at a statement, and what the statement makes of later ones. k: the type of the locals
 
+-- a form that is not built
+abbrev pub not_built : Span → List Goal
+not_built at = record { kind = Unreachable; span = at; formula = truth false } ∷ []
+
 abbrev pub goals_of_operation : IntKind → Span → Option ArithOp → Operand → Operand → List Goal
-goals_of_operation k at None a b = record { kind = Unreachable; span = at; formula = truth false } ∷ []
+goals_of_operation k at None a b = not_built at
 goals_of_operation k at (Some op) a b = record { kind = Overflow; span = at; formula = in_range k (exact op a b) } ∷ []
 
 abbrev pub goals_at : IntKind → Span → StatementKind → List Goal
 goals_at k at (Assign p (Use o)) = []
 goals_at k at (Assign p (Binary op a b)) = goals_of_operation k at (built op) a b
+goals_at k at (Assign p (Neg o)) = not_built at
+goals_at k at (Assign p (Not o)) = not_built at
+goals_at k at (Dead x) = not_built at
 
 -- a new value v of the type, of which it is known that it is the exact result, is put in local x
 abbrev pub before_operation : IntKind → ℕ → ℕ → Option ArithOp → Operand → Operand → Term → Term
@@ -77,6 +84,9 @@ before_operation k v x (Some op) a b φ =
 abbrev pub before : IntKind → ℕ → StatementKind → Term → Term
 before k v (Assign p (Use o)) φ = replaced (local_name p.local) (operand_term o) φ
 before k v (Assign p (Binary op a b)) φ = before_operation k v p.local (built op) a b φ
+before k v (Assign p (Neg o)) φ = φ
+before k v (Assign p (Not o)) φ = φ
+before k v (Dead x) φ = φ
 
 abbrev pub goal_before : IntKind → ℕ → StatementKind → Goal → Goal
 goal_before k v st g = record { kind = g.kind; span = g.span; formula = before k v st g.formula }

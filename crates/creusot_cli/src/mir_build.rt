@@ -277,6 +277,8 @@ fn body_of(alloc: Global, f: &Function) -> Result<Body, NoMemory>
     let params = f.params.len() as u32;
     let count = params + 1 + 2 * f.body.rest.len() as u32;
     let block = Block {
+        head: None,
+        nest: Items::new(alloc),
         statements: Items::from_vec(chain_statements(alloc, params + 1, &f.body)?),
         end: Terminator {
             span: f.span,

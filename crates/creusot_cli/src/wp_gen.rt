@@ -1,6 +1,6 @@
 //! The obligations of a body with its contract, made from the end of the body backwards.
 ghost use Rattle.std.specs.Prelude.{◌≡◌, ◌+◌, [], ◌∷◌, ◌++◌, length, map, drop, IfOk, OnOk};
-ghost use Rattle.creusot_cli.specs.WpGen.{operand_term, built, exact, in_range, goals_of_operation, goals_at, before_operation, before, goal_before, goals_from, goals_at_return, assuming, for_all, at_entry, numbered, obligations_of, entry_statements};
+ghost use Rattle.creusot_cli.specs.WpGen.{operand_term, built, exact, in_range, not_built, goals_of_operation, goals_at, before_operation, before, goal_before, goals_from, goals_at_return, assuming, for_all, at_entry, numbered, obligations_of, entry_statements};
 ghost use Rattle.creusot_cli.specs.WpGenGoals.{goal_of, AddsEnsures};
 
 use crate::mir_build::local_name;
@@ -65,6 +65,17 @@ fn in_i32(alloc: Global, number: &Term) -> Result<Term, NoMemory>
 
 // ---- goals at a statement, and what the statement makes of later ones
 
+/// The goal of a form that is not built.
+fn not_built(span: Span) -> Goal
+    ensures { goal_of result ∷ [] ≡ not_built span }
+{
+    Goal {
+        kind: Kind::Unreachable,
+        span,
+        formula: Term::truth(false),
+    }
+}
+
 fn goal_of_operation(
     alloc: Global,
     span: Span,
@@ -75,11 +86,7 @@ fn goal_of_operation(
     ensures { IfOk result (λ g. goal_of g ∷ [] ≡ goals_of_operation IntKind.I32 span (built op) a.now b.now) }
 {
     let Some(op) = built(op) else {
-        return Ok(Goal {
-            kind: Kind::Unreachable,
-            span,
-            formula: Term::truth(false),
-        });
+        return Ok(not_built(span));
     };
     Ok(Goal {
         kind: Kind::Overflow,
@@ -96,6 +103,11 @@ fn goals_at(alloc: Global, statement: &Statement) -> Result<Vec<Goal>, NoMemory>
         StatementKind::Assign(_, Rvalue::Binary(op, a, b)) => {
             let mut goals = Vec::new(alloc);
             goals.push(goal_of_operation(alloc, statement.span, *op, a, b)?)?;
+            Ok(goals)
+        }
+        StatementKind::Assign(_, Rvalue::Neg(_) | Rvalue::Not(_)) | StatementKind::Dead(_) => {
+            let mut goals = Vec::new(alloc);
+            goals.push(not_built(statement.span))?;
             Ok(goals)
         }
     }
@@ -143,6 +155,9 @@ fn before(
         }
         StatementKind::Assign(place, Rvalue::Binary(op, a, b)) => {
             before_operation(alloc, fresh, place.local, *op, a, b, formula)
+        }
+        StatementKind::Assign(_, Rvalue::Neg(_) | Rvalue::Not(_)) | StatementKind::Dead(_) => {
+            formula.copy(alloc)
         }
     }
 }

@@ -1,10 +1,12 @@
 pub mod Coming
+pub mod Depths
 pub mod GivenTypes
-pub mod Integers
 pub mod NeverStuck
 pub mod Plain
 pub mod SampleLemmas
+pub mod Scalars
 pub mod Shown
 pub mod Stepping
+pub mod TakenOperands
 pub mod Tried
 pub mod Wholes

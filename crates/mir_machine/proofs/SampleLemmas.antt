@@ -1,89 +1,258 @@
--- The sample is typed and initialised, and a call of it is proper.
-use Rattle.std.proofs.Common.{◌≡◌, refl, sym, subst, ℕ, zero, suc, ◌+◌, ◌==◌, ℤ, pos, negsuc, FitsSigned, Bool, true, false, cond, List, Some, None, [], ◌∷◌, length, slice_get, arith}
-use Rattle.std.specs.Int.{w32}
+-- The samples are typed and initialised, and calls of them are proper.
+use Rattle.std.proofs.Common.{◌≡◌, ◌∙◌, ◌⊎◌, refl, sym, ap, subst, ℕ, zero, suc, ◌+◌, ◌≤◌, ◌==◌, ℤ, pos, Bool, true, false, cond, List, Some, None, [], ◌∷◌, length, slice_get, arith}
+use Rattle.std.proofs.lemmas.Bool.{eqb-true}
 use Rattle.logic_term.specs.declared.kinds.BinaryOp.{BinaryOp}
+use Rattle.logic_term.specs.declared.kinds.IntKind.{IntKind}
 use Rattle.logic_term.specs.declared.kinds.IntKind.TheVariants.{I32}
 use Rattle.logic_term.specs.declared.kinds.Label.{Label}
 use Rattle.logic_term.specs.Range.{fits}
 use Rattle.logic_term.specs.Sort.{Declarations}
-use Rattle.logic_term.specs.Ty.{Tys, int, no_tys}
-use Rattle.mir_machine.specs.declared.mir_ir.Block.{Block}
-use Rattle.mir_machine.specs.declared.mir_ir.Body.{Body}
-use Rattle.mir_machine.specs.declared.mir_ir.Statement.{Statement}
-use Rattle.mir_machine.specs.Tree.{Tree, Int}
-use Rattle.mir_machine.specs.Body.{block_in}
-use Rattle.mir_machine.specs.Typed.{Met, is_int, none_typed, more_typed}
-use Rattle.mir_machine.specs.Good.{IsProper}
-use Rattle.mir_machine.specs.WellFormed.{operation_ty, StatementIsTyped, IsTyped, Locals, with, CanRun, run, CanEnd, Within, parameters, IsInitialised, AreSound}
-use Rattle.mir_machine.specs.Sample.{sample, sample_block, sample_statement}
-
-pub fits_i32 : (z : ℤ) → FitsSigned w32 z → fits I32 z ≡ true
-fits_i32 (pos n) h = grind arith
-fits_i32 (negsuc n) h = grind arith
+use Rattle.logic_term.specs.Ty.{Ty, Tys, int, bool, no_tys, and_ty}
+use Rattle.mir_ir.specs.declared.place.Lit.TheVariants as lit
+use Rattle.mir_ir.specs.declared.place.Operand.TheVariants.{Copy, Const}
+use Rattle.mir_ir.specs.declared.statement.Rvalue.{Rvalue}
+use Rattle.mir_ir.specs.declared.statement.Rvalue.TheVariants.{Binary, Neg, Not}
+use Rattle.mir_ir.specs.declared.statement.Statement.{Statement}
+use Rattle.mir_ir.specs.declared.body.Block.{Block}
+use Rattle.mir_ir.specs.declared.body.Body.{Body}
+use Rattle.mir_ir.specs.Body.{block_in, param_tys}
+use Rattle.mir_ir.specs.WellFormed.{HasBlock, operation_ty, IsSigned, RvalueHas, StatementIsTyped, EndIsTyped, IsTyped, Locals, without, with, CanEvaluate, evaluated, CanRun, run, CanEnd, Carries, Within, parameters, IsInitialised, AreSound}
+use Rattle.mir_machine.specs.Tree.{Tree, Int, Truth, trees_of}
+use Rattle.mir_machine.specs.Frame.{State}
+use Rattle.mir_machine.specs.Step.{whole}
+use Rattle.mir_machine.specs.Typed.{Met, Typed, AreTyped, is_int, is_truth, none_typed, more_typed}
+use Rattle.mir_machine.specs.Good.{IsProper, called}
+use Rattle.mir_machine.specs.Sample.{sample, absolute, calling, program, IsScalarOf, TakesOne}
 
 some_same : {A : Type 0} {a b : A} → Some a ≡ Some b → a ≡ b
 some_same e = cc
 
-only_block : (op : BinaryOp) (n : ℤ) (l : Label) (k : Block) → block_in (sample op n).blocks l ≡ Some k → sample_block op n ≡ k
-only_block op n l k = by_test (0 == l.0)
+-- ---- bodies, block by block
+
+abbrev EachBlock : (Label → Block → Type 0) → List (Label × Block) → Type 0
+EachBlock P [] = Unit {0}
+EachBlock P (b ∷ bs) = P b.0 b.1 × EachBlock P bs
+
+block_found : (P : Label → Block → Type 0) (bs : List (Label × Block)) (l : Label) (k : Block) → EachBlock P bs → block_in bs l ≡ Some k → P l k
+block_found P [] l k h e = absurd (cc)
+block_found P (b ∷ bs) l k h e = by_test (block_found P bs l k h.1) (b.0.0 == l.0) refl e
   where
-    by_test : (t : Bool) → cond t (Some (sample_block op n)) None ≡ Some k → sample_block op n ≡ k
-    by_test true e = some_same e
-    by_test false e = absurd (cc)
+    by_test : (block_in bs l ≡ Some k → P l k) → (t : Bool) → (b.0.0 == l.0) ≡ t → cond t (Some b.1) (block_in bs l) ≡ Some k → P l k
+    by_test rest true same q = subst (P l) (some_same q) (subst (λ (m : Label). P m b.1) (λ i. record { 0 = eqb-true b.0.0 l.0 same i }) h.0)
+    by_test rest false other q = rest q
 
-only_statement : (op : BinaryOp) (n : ℤ) (i : ℕ) (st : Statement) → slice_get (sample_block op n).statements i ≡ Some st → (i ≡ 0) × (sample_statement op n ≡ st)
-only_statement op n zero st e = (refl, some_same e)
-only_statement op n (suc i) st e = absurd (cc)
+-- the statements from number i on
+abbrev EachStatement : (ℕ → Statement → Type 0) → ℕ → List Statement → Type 0
+EachStatement P i [] = Unit {0}
+EachStatement P i (st ∷ sts) = P i st × EachStatement P (i + 1) sts
 
-in_sample : (op : BinaryOp) (n : ℤ) (l : Label) (k : Block) (i : ℕ) (st : Statement) → block_in (sample op n).blocks l ≡ Some k → slice_get k.statements i ≡ Some st → (i ≡ 0) × (sample_statement op n ≡ st)
-in_sample op n l k i st is_block e = only_statement op n i st (subst (λ b. slice_get b.statements i ≡ Some st) (sym (only_block op n l k is_block)) e)
-
--- the argument before the statement, and the answer too after it
-abbrev initialised : BinaryOp → ℤ → Label → ℕ → Locals
-initialised op n l zero = parameters (sample op n)
-initialised op n l (suc i) = with 0 (parameters (sample op n))
-
-pub sample_sound : (op : BinaryOp) (n : ℤ) → fits I32 n ≡ true → operation_ty op I32 ≡ int I32 → AreSound (sample op n ∷ [])
-sample_sound op n n_fits is_ty (suc f) b e = absurd (cc)
-sample_sound op n n_fits is_ty zero b e = subst (λ c. IsTyped c × IsInitialised c) (some_same e) (typed, ready)
+statement_found : (P : ℕ → Statement → Type 0) (i : ℕ) (sts : List Statement) (j : ℕ) (st : Statement) → EachStatement P i sts → slice_get sts j ≡ Some st → P (i + j) st
+statement_found P i [] j st h e = absurd (cc)
+statement_found P i (s ∷ sts) zero st h e = subst (P (i + 0)) (some_same e) (subst (λ n. P n s) (here i) h.0)
   where
-    typed : IsTyped (sample op n)
-    typed = record {
+    here : (i : ℕ) → i ≡ i + 0
+    here i = omega arith
+statement_found P i (s ∷ sts) (suc j) st h e = subst (λ n. P n st) (there i j) (statement_found P (i + 1) sts j st h.1 e)
+  where
+    there : (i j : ℕ) → (i + 1) + j ≡ i + suc j
+    there i j = omega arith
+
+-- ---- a body with its sets of initialised locals
+
+-- sets: by the number of the label and of the statement
+abbrev Sets : Type 0
+Sets = ℕ → ℕ → Locals
+
+abbrev StatementIsSound : Body → Sets → Label → ℕ → Statement → Type 0
+StatementIsSound b sets l i st = StatementIsTyped b st.kind × CanRun (sets l.0 i) st.kind × Within (sets l.0 (i + 1)) (run st.kind (sets l.0 i))
+
+record BlockIsSound (bodies : List Body) (b : Body) (sets : Sets) (l : Label) (k : Block) : Type 0 where
+  statements : EachStatement (StatementIsSound b sets l) 0 k.statements
+  typed : EndIsTyped bodies b k.end.kind
+  can_end : CanEnd (sets l.0 (length k.statements)) k.end.kind
+  carries : Carries (λ l'. sets l'.0 0) (sets l.0 (length k.statements)) k.end.kind
+
+record BodyIsSound (bodies : List Body) (b : Body) (sets : Sets) : Type 0 where
+  named : length b.names ≡ length b.locals
+  answers : b.params + 1 ≤ length b.locals
+  begins : HasBlock b b.entry
+  entry : Within (sets b.entry.0 0) (parameters b)
+  blocks : EachBlock (BlockIsSound bodies b sets) b.blocks
+
+body_sound : (bodies : List Body) (b : Body) (sets : Sets) → BodyIsSound bodies b sets → IsTyped bodies b × IsInitialised b
+body_sound bodies b sets h = (
+  record {
+    named = h.named;
+    answers = h.answers;
+    begins = h.begins;
+    statements = λ l k i st is_block is_statement. (at l k i st is_block is_statement).0;
+    ends = λ l k is_block. (found l k is_block).typed;
+  },
+  record {
+    at = λ l i. sets l.0 i;
+    entry = h.entry;
+    statements = λ l k i st is_block is_statement. ((at l k i st is_block is_statement).1, (at l k i st is_block is_statement).2);
+    ends = λ l k is_block. (found l k is_block).can_end;
+    edges = λ l k is_block. (found l k is_block).carries;
+  },
+)
+  where
+    found : (l : Label) (k : Block) → block_in b.blocks l ≡ Some k → BlockIsSound bodies b sets l k
+    found l k is_block = block_found (BlockIsSound bodies b sets) b.blocks l k h.blocks is_block
+
+    at : (l : Label) (k : Block) (i : ℕ) (st : Statement) → block_in b.blocks l ≡ Some k → slice_get k.statements i ≡ Some st → StatementIsSound b sets l i st
+    at l k i st is_block is_statement =
+        subst (λ n. StatementIsSound b sets l n st) (from_zero i)
+        (statement_found (StatementIsSound b sets l) 0 k.statements i st (block_found (BlockIsSound bodies b sets) b.blocks l k h.blocks is_block).statements is_statement)
+      where
+        from_zero : (i : ℕ) → 0 + i ≡ i
+        from_zero i = omega arith
+
+-- ---- one statement
+
+abbrev one_sets : Body → Rvalue → Sets
+one_sets b r l zero = parameters b
+one_sets b r l (suc i) = with 0 (evaluated r (parameters b))
+
+pub sample_sound : (answer takes : Ty) (r : Rvalue) → RvalueHas (sample answer takes r) r answer → CanEvaluate (parameters (sample answer takes r)) r → AreSound (sample answer takes r ∷ [])
+sample_sound answer takes r has can (suc f) b e = absurd (cc)
+sample_sound answer takes r has can zero b e =
+    let s = sample answer takes r in
+    subst (λ c. IsTyped (s ∷ []) c × IsInitialised c) (some_same e)
+    (body_sound (s ∷ []) s (one_sets s r) (record {
       named = refl;
       answers = omega arith;
-      begins = (sample_block op n, refl);
-      statements = λ l k i st is_block is_statement. subst (λ s. StatementIsTyped (sample op n) s.kind) (in_sample op n l k i st is_block is_statement).1
-          (int I32, (refl, refl), (I32, (refl, refl), (refl, n_fits), sym is_ty));
-    }
+      begins = (_, refl);
+      entry = λ x h. h;
+      blocks = (record {
+        statements = (((answer, (refl, refl), has), can, λ x h. h), tt);
+        typed = tt;
+        can_end = refl;
+        carries = tt;
+      }, tt);
+    }))
 
-    ready : IsInitialised (sample op n)
-    ready = record {
-      at = λ l i. initialised op n l i;
-      entry = λ x inside. inside;
-      statements = λ l k i st is_block is_statement.
-          let only = in_sample op n l k i st is_block is_statement in
-          subst (λ s. CanRun (initialised op n l i) s.kind × Within (initialised op n l (i + 1)) (run s.kind (initialised op n l i))) only.1
-          (subst (λ j. CanRun (initialised op n l j) (sample_statement op n).kind × Within (initialised op n l (j + 1)) (run (sample_statement op n).kind (initialised op n l j))) (sym only.0)
-          ((refl, tt), λ x inside. inside));
-      ends = λ l k is_block. subst (λ b. CanEnd (initialised op n l (length b.statements)) b.end.kind) (only_block op n l k is_block) refl;
-    }
+pub binary_sound : (k : IntKind) (op : BinaryOp) (n : ℤ) → fits k n ≡ true → AreSound (sample (operation_ty op k) (int k) (Binary op (Copy (whole 1)) (Const (lit.Int n k))) ∷ [])
+binary_sound k op n n_fits =
+    sample_sound (operation_ty op k) (int k) (Binary op (Copy (whole 1)) (Const (lit.Int n k))) (int k, (refl, refl), (refl, n_fits), refl) (refl, tt)
+
+pub neg_sound : (k : IntKind) → IsSigned k → AreSound (sample (int k) (int k) (Neg (Copy (whole 1))) ∷ [])
+neg_sound k signed = sample_sound (int k) (int k) (Neg (Copy (whole 1))) (k, signed, (refl, refl), refl) refl
+
+pub not_sound : AreSound (sample bool bool (Not (Copy (whole 1))) ∷ [])
+not_sound = sample_sound bool bool (Not (Copy (whole 1))) ((refl, refl), refl) refl
+
+-- ---- the absolute value, and a call of it
+
+abbrev none : Locals
+none x = false
+
+-- the answer alone
+abbrev answer_set : Locals
+answer_set = with 0 none
+
+abbrev tested : Locals
+tested = with 2 (parameters absolute)
+
+abbrev branched : Locals
+branched = without 2 tested
+
+abbrev absolute_sets : Sets
+absolute_sets zero zero = parameters absolute
+absolute_sets zero (suc i) = tested
+absolute_sets (suc zero) zero = branched
+absolute_sets (suc zero) (suc zero) = with 0 branched
+absolute_sets (suc zero) (suc (suc i)) = without 1 (with 0 branched)
+absolute_sets (suc (suc zero)) zero = branched
+absolute_sets (suc (suc zero)) (suc i) = with 0 (without 1 branched)
+absolute_sets (suc (suc (suc l))) i = answer_set
+
+only_answer : (set : Locals) → set 0 ≡ true → Within answer_set set
+only_answer set h x inside = by_test (x == 0) refl inside
+  where
+    by_test : (t : Bool) → (x == 0) ≡ t → cond t true false ≡ true → set x ≡ true
+    by_test true e q = subst (λ y. set y ≡ true) (sym (eqb-true x 0 e)) h
+    by_test false e q = absurd (cc)
+
+absolute_sound : BodyIsSound program absolute absolute_sets
+absolute_sound = record {
+  named = refl;
+  answers = omega arith;
+  begins = (_, refl);
+  entry = λ x h. h;
+  blocks = (
+    record {
+      statements = (((bool, (refl, refl), (int I32, (refl, refl), (refl, refl), refl)), (refl, tt), λ x h. h), tt);
+      typed = ((refl, refl), (_, refl), (_, refl));
+      can_end = refl;
+      carries = (λ x h. h, λ x h. h);
+    },
+    (
+      record {
+        statements = (((int I32, (refl, refl), (I32, tt, (refl, refl), refl)), refl, λ x h. h), (((int I32, refl), tt, λ x h. h), tt));
+        typed = (_, refl);
+        can_end = tt;
+        carries = only_answer (without 1 (with 0 branched)) refl;
+      },
+      (
+        record {
+          statements = (((int I32, (refl, refl), (refl, refl)), refl, λ x h. h), tt);
+          typed = (_, refl);
+          can_end = tt;
+          carries = only_answer (with 0 (without 1 branched)) refl;
+        },
+        (record { statements = tt; typed = tt; can_end = refl; carries = tt }, tt),
+      ),
+    ),
+  );
+}
+
+abbrev calling_sets : Sets
+calling_sets zero i = parameters calling
+calling_sets (suc l) i = with 0 (parameters calling)
+
+calling_sound : BodyIsSound program calling calling_sets
+calling_sound = record {
+  named = refl;
+  answers = omega arith;
+  begins = (_, refl);
+  entry = λ x h. h;
+  blocks = (
+    record {
+      statements = tt;
+      typed = ((absolute, int I32, refl, ((refl, refl), tt), refl, (refl, refl)), (_, refl));
+      can_end = (refl, tt);
+      carries = λ x h. h;
+    },
+    (record { statements = tt; typed = tt; can_end = refl; carries = tt }, tt),
+  );
+}
+
+pub program_sound : AreSound program
+program_sound zero b e = subst (λ c. IsTyped program c × IsInitialised c) (some_same e) (body_sound program absolute absolute_sets absolute_sound)
+program_sound (suc zero) b e = subst (λ c. IsTyped program c × IsInitialised c) (some_same e) (body_sound program calling calling_sets calling_sound)
+program_sound (suc (suc f)) b e = absurd (cc)
+
+-- ---- calls
 
 -- no declared types
 abbrev pub no_types : Declarations
 no_types d k = None
 
-pub sample_proper : (op : BinaryOp) (n x : ℤ) → fits I32 x ≡ true → IsProper {K = Unit {0}} no_types (sample op n ∷ []) 0 no_tys (Int x ∷ []) [] (sample op n) []
-sample_proper op n x x_fits = record {
-  of = refl;
-  ground = refl;
-  outside_typed = tt;
-  typed = more_typed (is_int x_fits) none_typed;
-  outer = tt;
-  apart = λ i j r q e f mutable over. absurd (cc);
-}
+scalar_typed : (s : State (Unit {0})) (ty : Ty) (t : Tree (Unit {0})) → IsScalarOf ty t → Typed no_types s t ty []
+scalar_typed s (int k) (Int z) h = is_int h
+scalar_typed s bool (Truth b) h = is_truth
+scalar_typed s _ _ h = absurd h
 
--- the call of the sample at x, with no trees outside
-pub sample_call : (bodies : List Body) (θ : Tys) (args held : List (Tree (Unit {0}))) (op : BinaryOp) (n x : ℤ) → bodies ≡ sample op n ∷ [] → θ ≡ no_tys → args ≡ Int x ∷ [] → held ≡ [] → fits I32 x ≡ true →
-    (Δ : Declarations) × (b : Body) × (met : List Met) × IsProper Δ bodies 0 θ args held b met
-sample_call bodies θ args held op n x is_sample is_ground is_x is_empty x_fits =
-    (no_types, sample op n, [], rw (is_sample, is_ground, is_x, is_empty) (sample_proper op n x x_fits))
+-- a call at one argument, with no trees outside
+pub one_call : (bodies : List Body) (f : ℕ) (θ : Tys) (args held : List (Tree (Unit {0}))) (t : Tree (Unit {0})) → θ ≡ no_tys → args ≡ t ∷ [] → held ≡ [] → TakesOne bodies f t →
+    (Δ : Declarations) × (b : Body) × (met : List Met) × IsProper Δ bodies f θ args held b met
+one_call bodies f θ args held t is_ground is_t is_empty (b, ty, is_body, params, scalar) =
+    (no_types, b, [], rw (is_ground, is_t, is_empty) (record {
+      of = is_body;
+      ground = refl;
+      outside_typed = tt;
+      typed = subst (λ tys. AreTyped no_types (called b f no_tys (t ∷ []) []) (trees_of (t ∷ [])) tys []) (sym params) (more_typed (scalar_typed (called b f no_tys (t ∷ []) []) ty t scalar) none_typed);
+      outer = tt;
+      apart = λ i j r q e g mutable over. absurd (cc);
+    }))

@@ -1,5 +1,5 @@
 -- The values that locals show: how the rows change them.
-use Rattle.std.proofs.Common.{◌≡◌, ◌⊎◌, inl, inr, ⊎_elim, refl, sym, ap, subst, ℕ, zero, suc, ◌==◌, ℤ, pos, ◌+ℤ◌, ◌-ℤ◌, ◌*ℤ◌, int_div, int_rem, int_lt, int_le, Bool, true, false, not, cond, List, [], ◌∷◌, ◌++◌, replicate, Option, Some, None, slice_get, slice_set, eq-eqb, ne_eqb, arith}
+use Rattle.std.proofs.Common.{◌≡◌, ◌⊎◌, inl, inr, ⊎_elim, refl, sym, ap, subst, ℕ, zero, suc, ◌==◌, ℤ, pos, neg_ℤ, ◌+ℤ◌, ◌-ℤ◌, ◌*ℤ◌, int_div, int_rem, int_lt, int_le, Bool, true, false, not, cond, List, [], ◌∷◌, ◌++◌, replicate, Option, Some, None, slice_get, slice_set, eq-eqb, ne_eqb, arith}
 use Rattle.std.specs.Ordering.{int_eq}
 use Rattle.text_core.specs.declared.refusal.Cause.TheVariants.{Overflow, Division}
 use Rattle.text_core.specs.declared.span.Span.{Span}
@@ -8,24 +8,24 @@ use Rattle.logic_term.specs.declared.kinds.BinaryOp.{BinaryOp}
 use Rattle.logic_term.specs.declared.kinds.BinaryOp.TheVariants.{Add, Sub, Mul, Div, Rem, Eq, Ne, Lt, Le, Gt, Ge}
 use Rattle.logic_term.specs.Range.{fits}
 use Rattle.logic_term.specs.Ty.{Tys}
-use Rattle.logic_term.specs.Value.{Value, Number, Flag, nothing, integer_of}
+use Rattle.logic_term.specs.Value.{Value, Number, Flag, nothing, integer_of, flag_of}
 use Rattle.mir_machine.specs.declared.spot.Spot.{Spot}
-use Rattle.mir_machine.specs.declared.mir_ir.Lit.{Lit}
-use Rattle.mir_machine.specs.declared.mir_ir.Lit.TheVariants as lit
-use Rattle.mir_machine.specs.declared.mir_ir.Operand.{Operand}
-use Rattle.mir_machine.specs.declared.mir_ir.Operand.TheVariants.{Copy, Move, Const}
-use Rattle.mir_machine.specs.declared.mir_ir.Rvalue.{Rvalue}
-use Rattle.mir_machine.specs.declared.mir_ir.Rvalue.TheVariants.{Use, Binary}
-use Rattle.mir_machine.specs.declared.mir_ir.StatementKind.TheVariants.{Assign}
-use Rattle.mir_machine.specs.declared.mir_ir.Place.{Place}
-use Rattle.mir_machine.specs.declared.mir_ir.Body.{Body}
+use Rattle.mir_ir.specs.declared.place.Lit.{Lit}
+use Rattle.mir_ir.specs.declared.place.Lit.TheVariants as lit
+use Rattle.mir_ir.specs.declared.place.Operand.{Operand}
+use Rattle.mir_ir.specs.declared.place.Operand.TheVariants.{Copy, Move, Const}
+use Rattle.mir_ir.specs.declared.statement.Rvalue.{Rvalue}
+use Rattle.mir_ir.specs.declared.statement.Rvalue.TheVariants.{Use, Binary, Neg, Not}
+use Rattle.mir_ir.specs.declared.statement.StatementKind.TheVariants.{Assign, Dead}
+use Rattle.mir_ir.specs.declared.place.Place.{Place}
+use Rattle.mir_ir.specs.declared.body.Body.{Body}
 use Rattle.mir_machine.specs.Try.{Try, Yields, Panics, ◌>>=◌, need}
 use Rattle.mir_machine.specs.Tree.{Tree, Int, Truth, Made, Boxed, Shared, Unique, Gone}
 use Rattle.mir_machine.specs.Frame.{State}
-use Rattle.mir_machine.specs.Body.{kind_in, place_ty}
+use Rattle.mir_ir.specs.Body.{kind_in, place_ty}
 use Rattle.mir_machine.specs.Memory.{is_there}
-use Rattle.mir_machine.specs.Step.{fit, divide, of_integers, binary, literal}
-use Rattle.mir_machine.specs.FrameStep.{Left, local_tree, take_operand, evaluate, put_local, assign_local}
+use Rattle.mir_machine.specs.Step.{fit, divide, of_integers, same_truth, of_truths, binary, negated, inverted, literal}
+use Rattle.mir_machine.specs.FrameStep.{Left, local_tree, take_operand, evaluate, put_local, run_local}
 use Rattle.mir_machine.specs.Reads.{View, Reads, of_lent, of_int, of_truth}
 use Rattle.mir_machine.specs.Good.{not_lent}
 use Rattle.mir_machine.proofs.Tried.{Quiet, quiet_then, quiet_need}
@@ -152,6 +152,17 @@ operation_value Le a b = Flag (int_le a b)
 operation_value Gt a b = Flag (int_lt b a)
 operation_value Ge a b = Flag (int_le b a)
 
+abbrev pub truths_value : BinaryOp → Bool → Bool → Value
+truths_value Eq a b = Flag (same_truth a b)
+truths_value Ne a b = Flag (not (same_truth a b))
+truths_value _ a b = nothing
+
+-- of two integers, or of two truth values
+abbrev pub applied : BinaryOp → Value → Value → Value
+applied op (Number a) (Number b) = operation_value op a b
+applied op (Flag a) (Flag b) = truths_value op a b
+applied op _ _ = nothing
+
 abbrev pub InKind : Option IntKind → (IntKind → Type 0) → Type 0
 InKind (Some k) P = P k
 InKind None P = Unit {0}
@@ -190,35 +201,90 @@ integers-show K kind span Le a b h = refl
 integers-show K kind span Gt a b h = refl
 integers-show K kind span Ge a b h = refl
 
+pub truths-show : (K : Type 0) (op : BinaryOp) (a b : Bool) → Quiet (λ t. Shows {K = K} t (truths_value op a b)) (of_truths op a b)
+truths-show K Add a b = tt
+truths-show K Sub a b = tt
+truths-show K Mul a b = tt
+truths-show K Div a b = tt
+truths-show K Rem a b = tt
+truths-show K Eq a b = refl
+truths-show K Ne a b = refl
+truths-show K Lt a b = tt
+truths-show K Le a b = tt
+truths-show K Gt a b = tt
+truths-show K Ge a b = tt
+
 -- the trees of the operands show these values
-pub binary-shows : {K : Type 0} (kind : Option IntKind) (span : Span) (op : BinaryOp) (t u : Tree K) (v w : Value) → Shows t v → Shows u w → IsInRange kind op (integer_of v) (integer_of w) → Quiet (λ r. Shows r (operation_value op (integer_of v) (integer_of w))) (binary kind span op t u)
+pub binary-shows : {K : Type 0} (kind : Option IntKind) (span : Span) (op : BinaryOp) (t u : Tree K) (v w : Value) → Shows t v → Shows u w → IsInRange kind op (integer_of v) (integer_of w) → Quiet (λ r. Shows r (applied op v w)) (binary kind span op t u)
 binary-shows {K} kind span op (Int a) (Int b) v w is_a is_b h =
-    subst (λ x. Quiet (λ r. Shows r (operation_value op x (integer_of w))) (of_integers {K = K} kind span op a b)) (sym (ap integer_of is_a))
-    (subst (λ y. Quiet (λ r. Shows r (operation_value op a y)) (of_integers {K = K} kind span op a b)) (sym (ap integer_of is_b))
+    subst (λ x. Quiet (λ r. Shows r (applied op x w)) (of_integers {K = K} kind span op a b)) (sym is_a)
+    (subst (λ y. Quiet (λ r. Shows r (applied op (Number a) y)) (of_integers {K = K} kind span op a b)) (sym is_b)
     (integers-show K kind span op a b (subst (λ x. IsInRange kind op x b) (ap integer_of is_a) (subst (λ y. IsInRange kind op (integer_of v) y) (ap integer_of is_b) h))))
+binary-shows {K} kind span op (Truth a) (Truth b) v w is_a is_b h =
+    subst (λ x. Quiet (λ r. Shows r (applied op x w)) (of_truths {K = K} op a b)) (sym is_a)
+    (subst (λ y. Quiet (λ r. Shows r (applied op (Flag a) y)) (of_truths {K = K} op a b)) (sym is_b) (truths-show K op a b))
 binary-shows kind span op (Int a) (Truth b) v w is_a is_b h = tt
 binary-shows kind span op (Int a) (Made c ts) v w is_a is_b h = tt
 binary-shows kind span op (Int a) (Boxed t) v w is_a is_b h = tt
 binary-shows kind span op (Int a) (Shared at) v w is_a is_b h = tt
 binary-shows kind span op (Int a) (Unique k at) v w is_a is_b h = tt
 binary-shows kind span op (Int a) Gone v w is_a is_b h = tt
-binary-shows kind span op (Truth b) u v w is_a is_b h = tt
+binary-shows kind span op (Truth a) (Int b) v w is_a is_b h = tt
+binary-shows kind span op (Truth a) (Made c ts) v w is_a is_b h = tt
+binary-shows kind span op (Truth a) (Boxed t) v w is_a is_b h = tt
+binary-shows kind span op (Truth a) (Shared at) v w is_a is_b h = tt
+binary-shows kind span op (Truth a) (Unique k at) v w is_a is_b h = tt
+binary-shows kind span op (Truth a) Gone v w is_a is_b h = tt
 binary-shows kind span op (Made c ts) u v w is_a is_b h = tt
 binary-shows kind span op (Boxed t) u v w is_a is_b h = tt
 binary-shows kind span op (Shared at) u v w is_a is_b h = tt
 binary-shows kind span op (Unique k at) u v w is_a is_b h = tt
 binary-shows kind span op Gone u v w is_a is_b h = tt
 
--- ---- right sides and assignments
+-- the exact integer, where the operand is an integer
+abbrev pub opposite : Value → ℤ
+opposite v = neg_ℤ (integer_of v)
+
+pub negated-shows : {K : Type 0} (kind : Option IntKind) (span : Span) (t : Tree K) (v : Value) → Shows t v → InKind kind (λ k. fits k (opposite v) ≡ true) → Quiet (λ r. Shows r (Number (opposite v))) (negated kind span t)
+negated-shows {K} kind span (Int a) v is h =
+    subst (λ x. Quiet (λ r. Shows r (Number (neg_ℤ x))) (negated {K = K} kind span (Int a))) (sym (ap integer_of is))
+    (in_kind (λ k. fits k (neg_ℤ a) ≡ true) (λ t. Shows {K = K} t (Number (neg_ℤ a))) kind (λ k. fit k span (neg_ℤ a)) (subst (λ x. InKind kind (λ k. fits k (neg_ℤ x) ≡ true)) (ap integer_of is) h) (λ k e. fit-shows K k span (neg_ℤ a) e))
+negated-shows kind span (Truth b) v is h = tt
+negated-shows kind span (Made c ts) v is h = tt
+negated-shows kind span (Boxed t) v is h = tt
+negated-shows kind span (Shared at) v is h = tt
+negated-shows kind span (Unique k at) v is h = tt
+negated-shows kind span Gone v is h = tt
+
+pub inverted-shows : {K : Type 0} (t : Tree K) (v : Value) → Shows t v → Quiet (λ r. Shows r (Flag (not (flag_of v)))) (inverted t)
+inverted-shows {K} (Truth b) v is = subst (λ x. Quiet (λ r. Shows r (Flag (not x))) (inverted {K = K} (Truth b))) (sym (ap flag_of is)) refl
+inverted-shows (Int z) v is = tt
+inverted-shows (Made c ts) v is = tt
+inverted-shows (Boxed t) v is = tt
+inverted-shows (Shared at) v is = tt
+inverted-shows (Unique k at) v is = tt
+inverted-shows Gone v is = tt
+
+-- ---- right sides and statements
 
 abbrev pub rvalue_value : Store → Rvalue → Value
 rvalue_value ρ (Use o) = operand_value ρ o
-rvalue_value ρ (Binary op a b) = operation_value op (integer_of (operand_value ρ a)) (integer_of (operand_value ρ b))
+rvalue_value ρ (Binary op a b) = applied op (operand_value ρ a) (operand_value ρ b)
+rvalue_value ρ (Neg o) = Number (opposite (operand_value ρ o))
+rvalue_value ρ (Not o) = Flag (not (flag_of (operand_value ρ o)))
 
 -- the right side does not panic, where a place of this kind is written
 abbrev pub RvalueIsInRange : Option IntKind → Store → Rvalue → Type 0
 RvalueIsInRange kind ρ (Use o) = Unit {0}
 RvalueIsInRange kind ρ (Binary op a b) = IsInRange kind op (integer_of (operand_value ρ a)) (integer_of (operand_value ρ b))
+RvalueIsInRange kind ρ (Neg o) = InKind kind (λ k. fits k (opposite (operand_value ρ o)) ≡ true)
+RvalueIsInRange kind ρ (Not o) = Unit {0}
+
+-- one operand, and what is made of its tree
+unary-shows : {K : Type 0} (ls : List (Tree K)) (ρ : Store) (o : Operand) (v : Value) (make : Tree K → Try (Tree K)) → Agrees ls ρ → ((t : Tree K) → Shows t (operand_value ρ o) → Quiet (λ r. Shows r v) (make t)) → Quiet (Leaves ρ v) (take_operand ls o >>= λ l. make l.1 >>= λ t. Yields (l.0, t))
+unary-shows {K} ls ρ o v make h go =
+    quiet_then (Leaves ρ (operand_value ρ o)) (Leaves ρ v) (take_operand ls o) (λ l. make l.1 >>= λ t. Yields (l.0, t)) (operand-shows ls ρ o h)
+    (λ l leaves. quiet_then (λ t. Shows t v) (Leaves ρ v) (make l.1) (λ t. Yields (l.0, t)) (go l.1 leaves.1) (λ t shows. (leaves.0, shows)))
 
 pub rvalue-shows : {K : Type 0} (ls : List (Tree K)) (ρ : Store) (kind : Option IntKind) (span : Span) (r : Rvalue) → Agrees ls ρ → RvalueIsInRange kind ρ r → Quiet (Leaves ρ (rvalue_value ρ r)) (evaluate ls kind span r)
 rvalue-shows ls ρ kind span (Use o) h in_range = operand-shows ls ρ o h
@@ -231,11 +297,20 @@ rvalue-shows {K} ls ρ kind span (Binary op a b) h in_range =
     (λ r second. quiet_then (λ t. Shows t v) (Leaves ρ v) (binary kind span op l.1 r.1) (λ w. Yields (r.0, w))
     (binary-shows kind span op l.1 r.1 (operand_value ρ a) (operand_value ρ b) first.1 second.1 in_range)
     (λ w shows. (second.0, shows))))
+rvalue-shows ls ρ kind span (Neg o) h in_range =
+    unary-shows ls ρ o (Number (opposite (operand_value ρ o))) (negated kind span) h (λ t shows. negated-shows kind span t (operand_value ρ o) shows in_range)
+rvalue-shows ls ρ kind span (Not o) h in_range =
+    unary-shows ls ρ o (Flag (not (flag_of (operand_value ρ o)))) inverted h (λ t shows. inverted-shows t (operand_value ρ o) shows)
 
-pub assign-shows : {K : Type 0} (b : Body) (θ : Tys) (ls : List (Tree K)) (ρ : Store) (span : Span) (p : Place) (r : Rvalue) → Agrees ls ρ → RvalueIsInRange (kind_in (place_ty b θ p)) ρ r → Quiet (λ ls'. Agrees ls' (stored p.local (rvalue_value ρ r) ρ)) (assign_local b θ ls span (Assign p r))
+pub assign-shows : {K : Type 0} (b : Body) (θ : Tys) (ls : List (Tree K)) (ρ : Store) (span : Span) (p : Place) (r : Rvalue) → Agrees ls ρ → RvalueIsInRange (kind_in (place_ty b θ p)) ρ r → Quiet (λ ls'. Agrees ls' (stored p.local (rvalue_value ρ r) ρ)) (run_local b θ ls span (Assign p r))
 assign-shows {K} b θ ls ρ span p r h in_range =
     let v = rvalue_value ρ r in
     let kind = kind_in (place_ty b θ p) in
     let after : List (Tree K) → Type 0 = λ ls'. Agrees ls' (stored p.local v ρ) in
     quiet_then (Leaves ρ v) after (evaluate ls kind span r) (λ l. put_local l.0 p.local l.1) (rvalue-shows ls ρ kind span r h in_range)
     (λ l leaves. quiet_need after (slice_get l.0 p.local) (λ u. Yields (slice_set l.0 p.local l.1)) (λ u e. agrees_set l.0 ρ p.local l.1 v leaves.0 leaves.1))
+
+-- a local that is dead shows any value
+pub dead-shows : {K : Type 0} (b : Body) (θ : Tys) (ls : List (Tree K)) (ρ : Store) (span : Span) (x : ℕ) → Agrees ls ρ → Quiet (λ ls'. Agrees ls' ρ) (run_local b θ ls span (Dead x))
+dead-shows {K} b θ ls ρ span x h =
+    quiet_need (λ (ls' : List (Tree K)). Agrees ls' ρ) (slice_get ls x) (λ u. Yields (slice_set ls x Gone)) (λ u e. agrees_gone ls ρ x h)

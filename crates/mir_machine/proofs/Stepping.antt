@@ -1,41 +1,120 @@
 -- A step of a state, by the step of its running frame; and what each step of a machine keeps.
-use Rattle.std.proofs.Common.{◌≡◌, ◌∙◌, refl, sym, ap, subst, ℕ, zero, suc, List, [], ◌∷◌, length, reverse, Option, Some, None}
-use Rattle.std.proofs.lemmas.List.{length-reverse}
+use Rattle.std.proofs.Common.{◌≡◌, ◌∙◌, refl, sym, ap, subst, Result, ℕ, zero, suc, ◌+◌, ◌-◌, ◌≤◌, List, [], ◌∷◌, ◌++◌, length, reverse, get_or, slice_set, Some, None, slice_get, arith}
+use Rattle.std.proofs.lemmas.List.{length-append, length-reverse, reverse-append}
+use Rattle.std.specs.Global.{Vec}
 use Rattle.mir_machine.specs.declared.halt.Halt.{Halt}
-use Rattle.mir_machine.specs.declared.mir_ir.Body.{Body}
-use Rattle.mir_machine.specs.Try.{Try, Yields, Sticks, ◌>>=◌}
+use Rattle.mir_ir.specs.declared.statement.Statement.{Statement}
+use Rattle.mir_ir.specs.declared.body.Block.{Block}
+use Rattle.mir_ir.specs.declared.body.Body.{Body}
+use Rattle.mir_ir.specs.Body.{block_in}
+use Rattle.mir_machine.specs.Try.{Try, Yields, Sticks, ◌>>=◌, need}
 use Rattle.mir_machine.specs.Tree.{Tree}
 use Rattle.mir_machine.specs.Frame.{Frame, State}
-use Rattle.mir_machine.specs.Halt.{Stops}
+use Rattle.mir_machine.specs.Halt.{Stops, Comes}
 use Rattle.mir_machine.specs.Step.{Outcome, Running, outcome_of, try_step, next, after_from, come_back}
-use Rattle.mir_machine.specs.FrameStep.{AllNameWholes, FrameEnd, frame_step, end_of, settled}
-use Rattle.mir_machine.specs.Run.{Run, IsSafe}
-use Rattle.mir_machine.proofs.Coming.{stops_then}
-use Rattle.mir_machine.proofs.Wholes.{try_step-whole}
+use Rattle.mir_machine.specs.FrameStep.{AllNameWholes, run_local, FrameEnd, Stays, frame_end, frame_row, frame_step, settled, resumed}
+use Rattle.mir_machine.specs.NextView.{end_of}
+use Rattle.mir_machine.specs.declared.next.Next.{Next}
+use Rattle.mir_machine.specs.declared.next.Next.TheVariants as made
+use Rattle.mir_machine.specs.Run.{Run, IsSafe, with_callee}
+use Rattle.mir_machine.proofs.Coming.{stops_then, comes_along}
+use Rattle.mir_machine.proofs.Wholes.{try_step-whole, come_back-whole}
+
+abbrev T : Type 0
+T = Tree (Unit {0})
 
 abbrev Frames : Type 0
 Frames = State (Unit {0})
 
+-- ---- the running frame
+
+pub frame_step-at : {K : Type 0} (bodies : List Body) (f : Frame K) (b : Body) (k : Block) → slice_get bodies f.function ≡ Some b → block_in b.blocks f.label ≡ Some k → frame_step bodies f ≡ frame_row bodies b f k.end (slice_get k.statements f.statement)
+frame_step-at {K} bodies f b k is_body is_block =
+    let at_block : Body → Block → Try (FrameEnd K) = λ c d. frame_row bodies c f d.end (slice_get d.statements f.statement) in
+    ap (λ o. need o >>= λ c. need (block_in c.blocks f.label) >>= at_block c) is_body ∙ ap (λ o. need o >>= at_block b) is_block
+
+frame_step-statement : {K : Type 0} (bodies : List Body) (f : Frame K) (b : Body) (k : Block) (st : Statement) → slice_get bodies f.function ≡ Some b → block_in b.blocks f.label ≡ Some k → slice_get k.statements f.statement ≡ Some st → frame_step bodies f ≡ frame_row bodies b f k.end (Some st)
+frame_step-statement bodies f b k st is_body is_block is_statement = frame_step-at bodies f b k is_body is_block ∙ ap (frame_row bodies b f k.end) is_statement
+
+none_past : {A : Type 0} (xs : List A) (i : ℕ) → length xs ≤ i → slice_get xs i ≡ None
+none_past [] i h = refl
+none_past (x ∷ xs) zero h = absurd (omega arith)
+none_past (x ∷ xs) (suc i) h = none_past xs i (omega arith)
+
+-- a frame at a block's end
+pub frame_step-end : {K : Type 0} (bodies : List Body) (f : Frame K) (b : Body) (k : Block) → slice_get bodies f.function ≡ Some b → block_in b.blocks f.label ≡ Some k → length k.statements ≤ f.statement → frame_step bodies f ≡ frame_end bodies f k.end.kind
+frame_step-end bodies f b k is_body is_block past = frame_step-at bodies f b k is_body is_block ∙ ap (frame_row bodies b f k.end) (none_past k.statements f.statement past)
+
+pub statement_stops : (h : Halt) (bodies : List Body) (f : Frame (Unit {0})) (b : Body) (k : Block) (st : Statement) → slice_get bodies f.function ≡ Some b → block_in b.blocks f.label ≡ Some k → slice_get k.statements f.statement ≡ Some st →
+    Stops h (run_local b f.types f.locals st.span st.kind) → Stops h (frame_step bodies f)
+statement_stops h bodies f b k st is_body is_block is_statement e =
+    subst (Stops h) (sym (frame_step-statement bodies f b k st is_body is_block is_statement))
+    (stops_then h (run_local b f.types f.locals st.span st.kind) (λ ls. Yields (Stays (record f { locals = ls; statement = f.statement + 1 }))) e)
+
+pub statement_runs : (bodies : List Body) (f : Frame (Unit {0})) (b : Body) (k : Block) (st : Statement) (ls : List T) → slice_get bodies f.function ≡ Some b → block_in b.blocks f.label ≡ Some k → slice_get k.statements f.statement ≡ Some st →
+    run_local b f.types f.locals st.span st.kind ≡ Yields ls → frame_step bodies f ≡ Yields (Stays (record f { locals = ls; statement = f.statement + 1 }))
+statement_runs bodies f b k st ls is_body is_block is_statement e =
+    frame_step-statement bodies f b k st is_body is_block is_statement
+    ∙ ap (λ (m : Try (List T)). m >>= λ us. Yields (Stays (record f { locals = us; statement = f.statement + 1 }))) e
+
+pub end_comes : {A : Type 0} (r : Result A Halt) (value : A → FrameEnd (Unit {0})) (bodies : List Body) (f : Frame (Unit {0})) (b : Body) (k : Block) → slice_get bodies f.function ≡ Some b → block_in b.blocks f.label ≡ Some k → length k.statements ≤ f.statement →
+    Comes r (frame_end bodies f k.end.kind) value → Comes r (frame_step bodies f) value
+end_comes r value bodies f b k is_body is_block past h = comes_along r (frame_step bodies f) (frame_end bodies f k.end.kind) value (frame_step-end bodies f b k is_body is_block past) h
+
+-- ---- states
+
 pub stops_state : (h : Halt) (bodies : List Body) (f : Frame (Unit {0})) (fs : Frames) → AllNameWholes bodies → Stops h (frame_step bodies f) → Stops h (try_step bodies (f ∷ fs))
-stops_state h bodies f fs whole e = subst (Stops h) (sym (try_step-whole bodies f fs whole)) (stops_then h (frame_step bodies f) (settled fs) e)
+stops_state h bodies f fs whole e = subst (Stops h) (sym (try_step-whole bodies f fs whole)) (stops_then h (frame_step bodies f) (settled bodies fs) e)
 
-ended : (bodies : List Body) (f : Frame (Unit {0})) (fs : Frames) (end : FrameEnd (Unit {0})) → AllNameWholes bodies → frame_step bodies f ≡ Yields end → try_step bodies (f ∷ fs) ≡ settled fs end
-ended bodies f fs end whole e = try_step-whole bodies f fs whole ∙ ap (λ m. m >>= settled fs) e
+ended : (bodies : List Body) (f : Frame (Unit {0})) (fs : Frames) (end : FrameEnd (Unit {0})) → AllNameWholes bodies → frame_step bodies f ≡ Yields end → try_step bodies (f ∷ fs) ≡ settled bodies fs end
+ended bodies f fs end whole e = try_step-whole bodies f fs whole ∙ ap (λ m. m >>= settled bodies fs) e
 
-pub stays : (bodies : List Body) (f g : Frame (Unit {0})) (fs : Frames) (o : Option (Tree (Unit {0}))) → AllNameWholes bodies → frame_step bodies f ≡ Yields (end_of g o) → o ≡ None → try_step bodies (f ∷ fs) ≡ Yields (Running (g ∷ fs))
-stays bodies f g fs o whole e is = ended bodies f fs (end_of g o) whole e ∙ ap (λ p. settled fs (end_of g p)) is
+pub stays : (bodies : List Body) (f g : Frame (Unit {0})) (fs : Frames) (n : Next) → AllNameWholes bodies → frame_step bodies f ≡ Yields (end_of g n) → n ≡ made.Same → try_step bodies (f ∷ fs) ≡ Yields (Running (g ∷ fs))
+stays bodies f g fs n whole e is = ended bodies f fs (end_of g n) whole e ∙ ap (λ p. settled bodies fs (end_of g p)) is
 
-pub answers : (bodies : List Body) (f g : Frame (Unit {0})) (fs : Frames) (o : Option (Tree (Unit {0}))) (t : Tree (Unit {0})) → AllNameWholes bodies → frame_step bodies f ≡ Yields (end_of g o) → o ≡ Some t → try_step bodies (f ∷ fs) ≡ come_back t fs
-answers bodies f g fs o t whole e is = ended bodies f fs (end_of g o) whole e ∙ ap (λ p. settled fs (end_of g p)) is
+pub calls : (bodies : List Body) (f g h : Frame (Unit {0})) (ls : Vec T) (fs : Frames) (n : Next) → AllNameWholes bodies → frame_step bodies f ≡ Yields (end_of g n) → n ≡ made.Callee h ls → try_step bodies (f ∷ fs) ≡ Yields (Running (with_callee (g ∷ fs) h ls.items))
+calls bodies f g h ls fs n whole e is = ended bodies f fs (end_of g n) whole e ∙ ap (λ p. settled bodies fs (end_of g p)) is
 
--- the run returns to the outside alone
-back : (t : Tree (Unit {0})) (fs : Frames) → (length fs ≡ 1 → ⊥) → come_back t fs ≡ Sticks
-back t [] h = refl
-back t (f ∷ []) h = absurd (h refl)
-back t (f ∷ g ∷ fs) h = refl
+pub answers : (bodies : List Body) (f g : Frame (Unit {0})) (fs : Frames) (n : Next) (t : T) → AllNameWholes bodies → frame_step bodies f ≡ Yields (end_of g n) → n ≡ made.Answer t → try_step bodies (f ∷ fs) ≡ come_back bodies t fs
+answers bodies f g fs n t whole e is = ended bodies f fs (end_of g n) whole e ∙ ap (λ p. settled bodies fs (end_of g p)) is
 
-pub sticks_behind : (t : Tree (Unit {0})) (fs : Frames) → (length fs ≡ 1 → ⊥) → come_back t (reverse fs) ≡ Sticks
-sticks_behind t fs h = back t (reverse fs) (λ e. h (sym (length-reverse fs) ∙ e))
+-- ---- calls and returns in the code's list of frames, in which the last stands first behind the running one
+
+get_last : {A : Type 0} (xs : List A) (g r : A) → get_or (xs ++ g ∷ []) (length xs) r ≡ g
+get_last [] g r = refl
+get_last (x ∷ xs) g r = get_last xs g r
+
+set_last : {A : Type 0} (xs : List A) (g y : A) → slice_set (xs ++ g ∷ []) (length xs) y ≡ xs ++ y ∷ []
+set_last [] g y = refl
+set_last (x ∷ xs) g y = ap (λ zs. x ∷ zs) (set_last xs g y)
+
+-- g was put at the end, and exchanged with the running frame y
+pub exchanged : {A : Type 0} (xs ys : List A) (g r x y h : A) (n : ℕ) → ys ≡ xs ++ g ∷ [] → n ≡ length ys → r ≡ get_or ys (n - 1) r → x ≡ r → y ≡ h → x ∷ reverse (slice_set ys (n - 1) y) ≡ g ∷ h ∷ reverse xs
+exchanged {A} xs ys g r x y h n is_ys is_n is_r is_x is_y =
+    let at : n - 1 ≡ length xs = omega (arith, ap length is_ys, length-append xs (g ∷ [])) in
+    let first : x ≡ g = is_x ∙ is_r ∙ ap (λ i. get_or ys i r) at ∙ ap (λ zs. get_or zs (length xs) r) is_ys ∙ get_last xs g r in
+    let rest : slice_set ys (n - 1) y ≡ xs ++ h ∷ [] = ap (λ i. slice_set ys i y) at ∙ ap (λ zs. slice_set zs (length xs) y) is_ys ∙ set_last xs g y ∙ ap (λ z. xs ++ z ∷ []) is_y in
+    ap (λ z. z ∷ reverse (slice_set ys (n - 1) y)) first ∙ ap (λ zs. g ∷ reverse zs) rest ∙ ap (λ zs. g ∷ zs) (reverse-append xs (h ∷ []))
+
+-- the frame that was taken off the end stood first behind the running one
+pub last_first : {A : Type 0} (xs ys : List A) (f : A) → xs ≡ ys ++ f ∷ [] → reverse xs ≡ f ∷ reverse ys
+last_first xs ys f is = ap reverse is ∙ reverse-append ys (f ∷ [])
+
+-- the frame that called goes on before those behind it, of which there is one at least
+behind_first : (bodies : List Body) (t : T) (f : Frame (Unit {0})) (fs : Frames) → AllNameWholes bodies → (length fs ≡ 0 → ⊥) → come_back bodies t (f ∷ fs) ≡ (resumed bodies t f >>= λ g. Yields (Running (g ∷ fs)))
+behind_first bodies t f [] whole some = absurd (some refl)
+behind_first bodies t f (g ∷ fs) whole some = come_back-whole bodies t f g fs whole
+
+returns_to : (bodies : List Body) (t : T) (f : Frame (Unit {0})) (xs ys : Frames) → AllNameWholes bodies → xs ≡ ys ++ f ∷ [] → (length ys ≡ 0 → ⊥) → come_back bodies t (reverse xs) ≡ (resumed bodies t f >>= λ g. Yields (Running (g ∷ reverse ys)))
+returns_to bodies t f xs ys whole is some =
+    ap (come_back bodies t) (last_first xs ys f is) ∙ behind_first bodies t f (reverse ys) whole (λ e. some (sym (length-reverse ys) ∙ e))
+
+pub return_stops : (h : Halt) (bodies : List Body) (t : T) (f : Frame (Unit {0})) (xs ys : Frames) → AllNameWholes bodies → xs ≡ ys ++ f ∷ [] → (length ys ≡ 0 → ⊥) → Stops h (resumed bodies t f) → Stops h (come_back bodies t (reverse xs))
+return_stops h bodies t f xs ys whole is some e =
+    subst (Stops h) (sym (returns_to bodies t f xs ys whole is some)) (stops_then h (resumed bodies t f) (λ g. Yields (Running (g ∷ reverse ys))) e)
+
+pub return_goes : (bodies : List Body) (t : T) (f g : Frame (Unit {0})) (xs ys : Frames) → AllNameWholes bodies → xs ≡ ys ++ f ∷ [] → (length ys ≡ 0 → ⊥) → resumed bodies t f ≡ Yields g → come_back bodies t (reverse xs) ≡ Yields (Running (g ∷ reverse ys))
+return_goes bodies t f g xs ys whole is some e = returns_to bodies t f xs ys whole is some ∙ ap (λ (m : Try (Frame (Unit {0}))). m >>= λ h. Yields (Running (h ∷ reverse ys))) e
 
 -- ---- safety
 

@@ -1,28 +1,31 @@
 -- The rows act on the whole locals of the running frame as FrameStep.antt says.
 use Rattle.std.proofs.Common.{◌≡◌, ◌∙◌, refl, sym, ap, ℕ, ◌+◌, cond, List, [], ◌∷◌, length, Option, Some, None, slice_get, slice_set, eq-eqb}
+use Rattle.std.specs.Prelude.{option_and_then}
 use Rattle.text_core.specs.declared.span.Span.{Span}
 use Rattle.logic_term.specs.declared.kinds.IntKind.{IntKind}
+use Rattle.logic_term.specs.declared.kinds.Label.{Label}
 use Rattle.logic_term.specs.Ty.{Tys}
-use Rattle.mir_machine.specs.declared.mir_ir.Place.{Place}
-use Rattle.mir_machine.specs.declared.mir_ir.Operand.{Operand}
-use Rattle.mir_machine.specs.declared.mir_ir.Operand.TheVariants.{Copy, Move, Const}
-use Rattle.mir_machine.specs.declared.mir_ir.Rvalue.{Rvalue}
-use Rattle.mir_machine.specs.declared.mir_ir.Rvalue.TheVariants.{Use, Binary}
-use Rattle.mir_machine.specs.declared.mir_ir.StatementKind.{StatementKind}
-use Rattle.mir_machine.specs.declared.mir_ir.StatementKind.TheVariants.{Assign}
-use Rattle.mir_machine.specs.declared.mir_ir.Statement.{Statement}
-use Rattle.mir_machine.specs.declared.mir_ir.TerminatorKind.{TerminatorKind}
-use Rattle.mir_machine.specs.declared.mir_ir.TerminatorKind.TheVariants.{Return}
-use Rattle.mir_machine.specs.declared.mir_ir.Terminator.{Terminator}
-use Rattle.mir_machine.specs.declared.mir_ir.Block.{Block}
-use Rattle.mir_machine.specs.declared.mir_ir.Body.{Body}
+use Rattle.mir_ir.specs.declared.place.Place.{Place}
+use Rattle.mir_ir.specs.declared.place.Operand.{Operand}
+use Rattle.mir_ir.specs.declared.place.Operand.TheVariants.{Copy, Move, Const}
+use Rattle.mir_ir.specs.declared.statement.Rvalue.{Rvalue}
+use Rattle.mir_ir.specs.declared.statement.Rvalue.TheVariants.{Use, Binary, Neg, Not}
+use Rattle.mir_ir.specs.declared.statement.StatementKind.{StatementKind}
+use Rattle.mir_ir.specs.declared.statement.StatementKind.TheVariants.{Assign, Dead}
+use Rattle.mir_ir.specs.declared.statement.Statement.{Statement}
+use Rattle.mir_ir.specs.declared.terminator.Callee.{Callee}
+use Rattle.mir_ir.specs.declared.terminator.TerminatorKind.{TerminatorKind}
+use Rattle.mir_ir.specs.declared.terminator.TerminatorKind.TheVariants.{Goto, If, Call, Return}
+use Rattle.mir_ir.specs.declared.terminator.Terminator.{Terminator}
+use Rattle.mir_ir.specs.declared.body.Block.{Block}
+use Rattle.mir_ir.specs.declared.body.Body.{Body}
 use Rattle.mir_machine.specs.Try.{Try, Yields, Panics, Sticks, ◌>>=◌, need}
 use Rattle.mir_machine.specs.Tree.{Tree, Gone}
 use Rattle.mir_machine.specs.Frame.{Frame, State}
-use Rattle.mir_machine.specs.Body.{block_in, place_ty, kind_in}
+use Rattle.mir_ir.specs.Body.{block_in, place_ty, kind_in}
 use Rattle.mir_machine.specs.Memory.{frame_at, set_frame, is_there, read, write}
-use Rattle.mir_machine.specs.Step.{operand, rvalue, binary, assign, leave, end_step, row, try_step, Taken, Running, come_back, past}
-use Rattle.mir_machine.specs.FrameStep.{IsWhole, ReadsWholes, NamesWholes, AllNameWholes, Left, local_tree, take_operand, evaluate, put_local, assign_local, FrameEnd, Stays, Answers, frame_end, frame_row, frame_step, settled}
+use Rattle.mir_machine.specs.Step.{operand, operands, rvalue, binary, negated, inverted, truth_of, whole, statement_step, callee_frame, answered, leave, end_step, row, try_step, Taken, Outcome, Running, come_back, past, at_label}
+use Rattle.mir_machine.specs.FrameStep.{IsWhole, AreWhole, ReadsWholes, NamesWholes, EndNamesWholes, AllNameWholes, Left, local_tree, take_operand, take_operands, evaluate, put_local, run_local, FrameEnd, Stays, Calls, Answers, starting, call_end, frame_end, frame_row, frame_step, settled, frame_block, resumed_at, resumed}
 
 -- ---- one part of a step after another
 
@@ -43,10 +46,6 @@ then_known (Panics c s) k l h = refl
 then_known Sticks k l h = refl
 
 -- ---- places
-
--- the place of a local
-abbrev pub whole : ℕ → Place
-whole x = record { local = x; path = [] }
 
 pub whole-path : (p : Place) → p.path ≡ [] → p ≡ whole p.local
 whole-path p e = λ i. record { local = p.local; path = e i }
@@ -103,6 +102,39 @@ operand-whole {K} f fs (Move p) e =
     ∙ sym (then_then (local_tree f.locals p.local) (λ t. Yields (slice_set f.locals p.local Gone, t)) (λ l. Yields (taken_state f fs l)))
 operand-whole f fs (Const l) e = refl
 
+-- operands from the left
+abbrev Several : Type 0 → Type 0
+Several K = List (Tree K) × List (Tree K)
+
+pub operands-whole : {K : Type 0} (f : Frame K) (fs : State K) (os : List Operand) → AreWhole os → operands (f ∷ fs) os ≡ (take_operands f.locals os >>= λ r. Yields (with_locals f fs r.0, r.1))
+operands-whole f fs [] e = refl
+operands-whole {K} f fs (o ∷ os) e =
+    let more : Tree K → State K × List (Tree K) → Try (State K × List (Tree K)) = λ t r. Yields (r.0, t ∷ r.1) in
+    let more' : Tree K → Several K → Try (Several K) = λ t r. Yields (r.0, t ∷ r.1) in
+    let rest : Taken K → Try (State K × List (Tree K)) = λ r. operands r.0 os >>= more r.1 in
+    let rest' : Left K → Try (Several K) = λ l. take_operands l.0 os >>= more' l.1 in
+    let shown : Several K → Try (State K × List (Tree K)) = λ r. Yields (with_locals f fs r.0, r.1) in
+    ap (λ (m : Try (Taken K)). m >>= rest) (operand-whole f fs o e.0)
+    ∙ then_then (take_operand f.locals o) (λ l. Yields (taken_state f fs l)) rest
+    ∙ then_same (take_operand f.locals o) (λ l. rest (taken_state f fs l)) (λ l. rest' l >>= shown)
+    (λ l.
+    ap (λ (m : Try (State K × List (Tree K))). m >>= more l.1) (operands-whole (record f { locals = l.0 }) fs os e.1)
+    ∙ then_then (take_operands l.0 os) shown (more l.1)
+    ∙ sym (then_then (take_operands l.0 os) (more' l.1) shown))
+    ∙ sym (then_then (take_operand f.locals o) rest' shown)
+
+-- one operand, and what is made of its tree
+unary-whole : {K : Type 0} (f : Frame K) (fs : State K) (o : Operand) (make : Tree K → Try (Tree K)) → IsWhole o →
+    (operand (f ∷ fs) o >>= λ r. make r.1 >>= λ t. Yields (r.0, t)) ≡ ((take_operand f.locals o >>= λ l. make l.1 >>= λ t. Yields (l.0, t)) >>= λ l. Yields (taken_state f fs l))
+unary-whole {K} f fs o make e =
+    let last : Taken K → Try (Taken K) = λ r. make r.1 >>= λ t. Yields (r.0, t) in
+    let last' : Left K → Try (Left K) = λ l. make l.1 >>= λ t. Yields (l.0, t) in
+    ap (λ (m : Try (Taken K)). m >>= last) (operand-whole f fs o e)
+    ∙ then_then (take_operand f.locals o) (λ l. Yields (taken_state f fs l)) last
+    ∙ then_same (take_operand f.locals o) (λ l. last (taken_state f fs l)) (λ l. last' l >>= λ r. Yields (taken_state f fs r))
+    (λ l. sym (then_then (make l.1) (λ t. Yields (l.0, t)) (λ r. Yields (taken_state f fs r))))
+    ∙ sym (then_then (take_operand f.locals o) last' (λ r. Yields (taken_state f fs r)))
+
 pub rvalue-whole : {K : Type 0} (f : Frame K) (fs : State K) (kind : Option IntKind) (span : Span) (r : Rvalue) → ReadsWholes r → rvalue (f ∷ fs) kind span r ≡ (evaluate f.locals kind span r >>= λ l. Yields (taken_state f fs l))
 rvalue-whole f fs kind span (Use o) e = operand-whole f fs o e
 rvalue-whole {K} f fs kind span (Binary op a b) e =
@@ -121,13 +153,16 @@ rvalue-whole {K} f fs kind span (Binary op a b) e =
     ∙ sym (then_then (take_operand l.0 b) (last' l.1) (λ r. Yields (taken_state f fs r))))
     ∙ sym (then_then (take_operand f.locals a) rest' (λ l. Yields (taken_state f fs l)))
 
+rvalue-whole f fs kind span (Neg o) e = unary-whole f fs o (negated kind span) e
+rvalue-whole f fs kind span (Not o) e = unary-whole f fs o inverted e
+
 -- ---- steps
 
 -- the running frame at its next statement with other locals
 abbrev pub moved_on : {K : Type 0} → Frame K → List (Tree K) → Frame K
 moved_on f ls = record f { locals = ls; statement = f.statement + 1 }
 
-pub statement_step-whole : {K : Type 0} (b : Body) (θ : Tys) (f : Frame K) (fs : State K) (span : Span) (kind : StatementKind) → NamesWholes kind → assign b θ (f ∷ fs) span kind ≡ (assign_local b θ f.locals span kind >>= λ ls. Yields (moved_on f ls ∷ fs))
+pub statement_step-whole : {K : Type 0} (b : Body) (θ : Tys) (f : Frame K) (fs : State K) (span : Span) (kind : StatementKind) → NamesWholes kind → statement_step b θ (f ∷ fs) span kind ≡ (run_local b θ f.locals span kind >>= λ ls. Yields (moved_on f ls ∷ fs))
 statement_step-whole {K} b θ f fs span (Assign p r) e =
     let kind : Option IntKind = kind_in (place_ty b θ p) in
     let finish : Taken K → Try (State K) = λ r. write r.0 p r.1 >>= past in
@@ -140,33 +175,104 @@ statement_step-whole {K} b θ f fs span (Assign p r) e =
     ∙ ap (λ (m : Try (State K)). m >>= past) (write-whole (record f { locals = l.0 }) fs p.local l.1)
     ∙ then_then (put_local l.0 p.local l.1) (λ ls. Yields (with_locals f fs ls)) past)
     ∙ sym (then_then (evaluate f.locals kind span r) finish' (λ ls. Yields (moved_on f ls ∷ fs)))
+statement_step-whole {K} b θ f fs span (Dead x) e =
+    ap (λ (m : Try (State K)). m >>= past) (write-whole f fs x Gone)
+    ∙ then_then (put_local f.locals x Gone) (λ ls. Yields (with_locals f fs ls)) past
 
-leave-alone : {K : Type 0} (f : Frame K) (fs : State K) → leave (f ∷ fs) ≡ (frame_end f Return >>= settled fs)
-leave-alone {K} f fs =
-    sym (then_then (need (slice_get f.locals 0)) is_there (λ t. come_back t fs))
-    ∙ sym (then_then (local_tree f.locals 0) (λ t. Yields (Answers t)) (settled fs))
+-- ---- returns
 
-row-whole : {K : Type 0} (b : Body) (f : Frame K) (fs : State K) (end : Terminator) (o : Option Statement) → ((st : Statement) → o ≡ Some st → NamesWholes st.kind) → row b f.types (f ∷ fs) end o ≡ (frame_row b f end o >>= settled fs)
-row-whole {K} b f fs end (Some st) whole =
-    ap (λ (m : Try (State K)). m >>= λ s. Yields (Running s)) (statement_step-whole b f.types f fs st.span st.kind (whole st refl))
-    ∙ then_then (assign_local b f.types f.locals st.span st.kind) (λ ls. Yields (moved_on f ls ∷ fs)) (λ s. Yields (Running s))
-    ∙ sym (then_then (assign_local b f.types f.locals st.span st.kind) (λ ls. Yields (Stays (moved_on f ls))) (settled fs))
-row-whole b f fs end None whole = ends end.kind
-  where
-    ends : (kind : TerminatorKind) → end_step (f ∷ fs) kind ≡ (frame_end f kind >>= settled fs)
-    ends Return = leave-alone f fs
+needed : {A : Type 0} (o : Option A) (a : A) → need o ≡ Yields a → o ≡ Some a
+needed (Some c) a e = cc
+needed None a e = absurd (cc)
 
-pub try_step-whole : {K : Type 0} (bodies : List Body) (f : Frame K) (fs : State K) → AllNameWholes bodies → try_step bodies (f ∷ fs) ≡ (frame_step bodies f >>= settled fs)
-try_step-whole {K} bodies f fs whole =
-    let at_block : Body → Block → Try (FrameEnd K) = λ b k. frame_row b f k.end (slice_get k.statements f.statement) in
-    let at_body : Body → Try (FrameEnd K) = λ b. need (block_in b.blocks f.label) >>= at_block b in
-    then_known (need (slice_get bodies f.function)) (λ b. need (block_in b.blocks f.label) >>= λ k. row b f.types (f ∷ fs) k.end (slice_get k.statements f.statement)) (λ b. at_body b >>= settled fs)
+abbrev go_on : {K : Type 0} → State K → Try (Outcome K)
+go_on s = Yields (Running s)
+
+abbrev before : {K : Type 0} → State K → Frame K → Try (Outcome K)
+before fs h = Yields (Running (h ∷ fs))
+
+placed : {K : Type 0} (f : Frame K) (fs : State K) (l : Label) (m : Try (List (Tree K))) →
+    (((m >>= λ ls. Yields (with_locals f fs ls)) >>= at_label l) >>= go_on) ≡ ((m >>= λ ls. Yields (starting f ls l)) >>= before fs)
+placed f fs l (Yields ls) = refl
+placed f fs l (Panics c s) = refl
+placed f fs l Sticks = refl
+
+answered-whole : {K : Type 0} (t : Tree K) (f : Frame K) (fs : State K) (end : TerminatorKind) → EndNamesWholes end → (answered t (f ∷ fs) end >>= go_on) ≡ (resumed_at t f end >>= before fs)
+answered-whole t f fs (Goto l) e = refl
+answered-whole t f fs (If o on_true on_false) e = refl
+answered-whole {K} t f fs (Call p callee os l) e =
+    ap (λ q. (write (f ∷ fs) q t >>= at_label l) >>= go_on) (whole-path p e.0)
+    ∙ ap (λ (m : Try (State K)). (m >>= at_label l) >>= go_on) (write-whole f fs p.local t)
+    ∙ placed f fs l (put_local f.locals p.local t)
+answered-whole t f fs Return e = refl
+
+-- two look-ups, one after the other
+pub two-needs : {A B C : Type 0} (o : Option A) (g : A → Option B) (k : B → Try C) → (need (option_and_then g o) >>= k) ≡ (need o >>= λ a. need (g a) >>= k)
+two-needs (Some a) g k = refl
+two-needs None g k = refl
+
+-- the frame that waits, by itself
+pub come_back-whole : {K : Type 0} (bodies : List Body) (t : Tree K) (f g : Frame K) (fs : State K) → AllNameWholes bodies → come_back bodies t (f ∷ g ∷ fs) ≡ (resumed bodies t f >>= before (g ∷ fs))
+come_back-whole {K} bodies t f g fs whole =
+    let at_end : Block → Try (Frame K) = λ k. resumed_at t f k.end.kind in
+    let at_body : Body → Try (Frame K) = λ b. need (block_in b.blocks f.label) >>= at_end in
+    then_known (need (slice_get bodies f.function)) (λ b. need (block_in b.blocks f.label) >>= λ k. answered t (f ∷ g ∷ fs) k.end.kind >>= go_on) (λ b. at_body b >>= before (g ∷ fs))
     (λ b is_body.
-    then_known (need (block_in b.blocks f.label)) (λ k. row b f.types (f ∷ fs) k.end (slice_get k.statements f.statement)) (λ k. at_block b k >>= settled fs)
-    (λ k is_block. row-whole b f fs k.end (slice_get k.statements f.statement) (λ st is_statement. whole f.function b (needed _ b is_body) f.label k f.statement st (needed _ k is_block) is_statement))
-    ∙ sym (then_then (need (block_in b.blocks f.label)) (at_block b) (settled fs)))
-    ∙ sym (then_then (need (slice_get bodies f.function)) at_body (settled fs))
-  where
-    needed : {A : Type 0} (o : Option A) (a : A) → need o ≡ Yields a → o ≡ Some a
-    needed (Some c) a e = cc
-    needed None a e = absurd (cc)
+    then_known (need (block_in b.blocks f.label)) (λ k. answered t (f ∷ g ∷ fs) k.end.kind >>= go_on) (λ k. at_end k >>= before (g ∷ fs))
+    (λ k is_block. answered-whole t f (g ∷ fs) k.end.kind ((whole f.function b (needed _ b is_body)).ends f.label k (needed _ k is_block)))
+    ∙ sym (then_then (need (block_in b.blocks f.label)) at_end (before (g ∷ fs))))
+    ∙ sym (then_then (need (slice_get bodies f.function)) at_body (before (g ∷ fs)))
+    ∙ ap (λ (m : Try (Frame K)). m >>= before (g ∷ fs)) (sym (two-needs (slice_get bodies f.function) (λ b. block_in b.blocks f.label) at_end))
+
+-- ---- ends of blocks
+
+leave-whole : {K : Type 0} (bodies : List Body) (f : Frame K) (fs : State K) → leave bodies (f ∷ fs) ≡ (frame_end bodies f Return >>= settled bodies fs)
+leave-whole {K} bodies f fs =
+    sym (then_then (need (slice_get f.locals 0)) is_there (λ t. come_back bodies t fs))
+    ∙ sym (then_then (local_tree f.locals 0) (λ t. Yields (Answers t)) (settled bodies fs))
+
+if-whole : {K : Type 0} (bodies : List Body) (f : Frame K) (fs : State K) (o : Operand) (on_true on_false : Label) → IsWhole o → end_step bodies (f ∷ fs) (If o on_true on_false) ≡ (frame_end bodies f (If o on_true on_false) >>= settled bodies fs)
+if-whole {K} bodies f fs o on_true on_false e =
+    let last : Taken K → Try (Outcome K) = λ r. truth_of r.1 >>= λ b. at_label (cond b on_true on_false) r.0 >>= go_on in
+    let last' : Left K → Try (FrameEnd K) = λ l. truth_of l.1 >>= λ b. Yields (Stays (starting f l.0 (cond b on_true on_false))) in
+    ap (λ (m : Try (Taken K)). m >>= last) (operand-whole f fs o e)
+    ∙ then_then (take_operand f.locals o) (λ l. Yields (taken_state f fs l)) last
+    ∙ then_same (take_operand f.locals o) (λ l. last (taken_state f fs l)) (λ l. last' l >>= settled bodies fs)
+    (λ l. sym (then_then (truth_of l.1) (λ b. Yields (Stays (starting f l.0 (cond b on_true on_false)))) (settled bodies fs)))
+    ∙ sym (then_then (take_operand f.locals o) last' (settled bodies fs))
+
+call-whole : {K : Type 0} (bodies : List Body) (f : Frame K) (fs : State K) (p : Place) (callee : Callee) (os : List Operand) (l : Label) → AreWhole os → end_step bodies (f ∷ fs) (Call p callee os l) ≡ (call_end bodies f callee os >>= settled bodies fs)
+call-whole {K} bodies f fs p callee os l e =
+    let last : State K × List (Tree K) → Try (Outcome K) = λ r. callee_frame bodies callee r.1 >>= λ g. Yields (Running (g ∷ r.0)) in
+    let last' : Several K → Try (FrameEnd K) = λ r. callee_frame bodies callee r.1 >>= λ g. Yields (Calls (record f { locals = r.0 }) g) in
+    ap (λ (m : Try (State K × List (Tree K))). m >>= last) (operands-whole f fs os e)
+    ∙ then_then (take_operands f.locals os) (λ r. Yields (with_locals f fs r.0, r.1)) last
+    ∙ then_same (take_operands f.locals os) (λ r. last (with_locals f fs r.0, r.1)) (λ r. last' r >>= settled bodies fs)
+    (λ r. sym (then_then (callee_frame bodies callee r.1) (λ g. Yields (Calls (record f { locals = r.0 }) g)) (settled bodies fs)))
+    ∙ sym (then_then (take_operands f.locals os) last' (settled bodies fs))
+
+end-whole : {K : Type 0} (bodies : List Body) (f : Frame K) (fs : State K) (end : TerminatorKind) → EndNamesWholes end → end_step bodies (f ∷ fs) end ≡ (frame_end bodies f end >>= settled bodies fs)
+end-whole bodies f fs (Goto l) e = refl
+end-whole bodies f fs (If o on_true on_false) e = if-whole bodies f fs o on_true on_false e
+end-whole bodies f fs (Call p callee os l) e = call-whole bodies f fs p callee os l e.1
+end-whole bodies f fs Return e = leave-whole bodies f fs
+
+row-whole : {K : Type 0} (bodies : List Body) (b : Body) (f : Frame K) (fs : State K) (end : Terminator) (o : Option Statement) → ((st : Statement) → o ≡ Some st → NamesWholes st.kind) → EndNamesWholes end.kind → row bodies b f.types (f ∷ fs) end o ≡ (frame_row bodies b f end o >>= settled bodies fs)
+row-whole {K} bodies b f fs end (Some st) whole ends =
+    ap (λ (m : Try (State K)). m >>= go_on) (statement_step-whole b f.types f fs st.span st.kind (whole st refl))
+    ∙ then_then (run_local b f.types f.locals st.span st.kind) (λ ls. Yields (moved_on f ls ∷ fs)) go_on
+    ∙ sym (then_then (run_local b f.types f.locals st.span st.kind) (λ ls. Yields (Stays (moved_on f ls))) (settled bodies fs))
+row-whole bodies b f fs end None whole ends = end-whole bodies f fs end.kind ends
+
+pub try_step-whole : {K : Type 0} (bodies : List Body) (f : Frame K) (fs : State K) → AllNameWholes bodies → try_step bodies (f ∷ fs) ≡ (frame_step bodies f >>= settled bodies fs)
+try_step-whole {K} bodies f fs whole =
+    let at_block : Body → Block → Try (FrameEnd K) = λ b k. frame_row bodies b f k.end (slice_get k.statements f.statement) in
+    let at_body : Body → Try (FrameEnd K) = λ b. need (block_in b.blocks f.label) >>= at_block b in
+    then_known (need (slice_get bodies f.function)) (λ b. need (block_in b.blocks f.label) >>= λ k. row bodies b f.types (f ∷ fs) k.end (slice_get k.statements f.statement)) (λ b. at_body b >>= settled bodies fs)
+    (λ b is_body.
+    then_known (need (block_in b.blocks f.label)) (λ k. row bodies b f.types (f ∷ fs) k.end (slice_get k.statements f.statement)) (λ k. at_block b k >>= settled bodies fs)
+    (λ k is_block.
+    let names = whole f.function b (needed _ b is_body) in
+    row-whole bodies b f fs k.end (slice_get k.statements f.statement) (λ st is_statement. names.statements f.label k f.statement st (needed _ k is_block) is_statement) (names.ends f.label k (needed _ k is_block)))
+    ∙ sym (then_then (need (block_in b.blocks f.label)) (at_block b) (settled bodies fs)))
+    ∙ sym (then_then (need (slice_get bodies f.function)) at_body (settled bodies fs))

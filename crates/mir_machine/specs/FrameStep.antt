@@ -1,28 +1,29 @@
 -- A step of the running frame by itself, where all places are whole locals: the rows of Step.antt then read and write its
--- locals alone.
-use Rattle.std.specs.Prelude.{◌≡◌, ℕ, ◌+◌, ℤ, List, [], ◌∷◌, Option, Some, None, slice_get, slice_set}
+-- locals alone, and a return those of the frame that called it.
+use Rattle.std.specs.Prelude.{◌≡◌, ℕ, ◌+◌, Bool, cond, List, [], ◌∷◌, Option, Some, None, option_and_then, slice_get, slice_set}
 use Rattle.text_core.specs.declared.span.Span.{Span}
 use Rattle.logic_term.specs.declared.kinds.IntKind.{IntKind}
 use Rattle.logic_term.specs.declared.kinds.Label.{Label}
 use Rattle.logic_term.specs.Ty.{Tys}
-use Rattle.mir_machine.specs.declared.mir_ir.Operand.{Operand}
-use Rattle.mir_machine.specs.declared.mir_ir.Operand.TheVariants.{Copy, Move, Const}
-use Rattle.mir_machine.specs.declared.mir_ir.Rvalue.{Rvalue}
-use Rattle.mir_machine.specs.declared.mir_ir.Rvalue.TheVariants.{Use, Binary}
-use Rattle.mir_machine.specs.declared.mir_ir.StatementKind.{StatementKind}
-use Rattle.mir_machine.specs.declared.mir_ir.StatementKind.TheVariants.{Assign}
-use Rattle.mir_machine.specs.declared.mir_ir.Statement.{Statement}
-use Rattle.mir_machine.specs.declared.mir_ir.TerminatorKind.{TerminatorKind}
-use Rattle.mir_machine.specs.declared.mir_ir.TerminatorKind.TheVariants.{Return}
-use Rattle.mir_machine.specs.declared.mir_ir.Terminator.{Terminator}
-use Rattle.mir_machine.specs.declared.mir_ir.Block.{Block}
-use Rattle.mir_machine.specs.declared.mir_ir.Body.{Body}
+use Rattle.mir_ir.specs.declared.place.Operand.{Operand}
+use Rattle.mir_ir.specs.declared.place.Operand.TheVariants.{Copy, Move, Const}
+use Rattle.mir_ir.specs.declared.statement.Rvalue.{Rvalue}
+use Rattle.mir_ir.specs.declared.statement.Rvalue.TheVariants.{Use, Binary, Neg, Not}
+use Rattle.mir_ir.specs.declared.statement.StatementKind.{StatementKind}
+use Rattle.mir_ir.specs.declared.statement.StatementKind.TheVariants.{Assign, Dead}
+use Rattle.mir_ir.specs.declared.statement.Statement.{Statement}
+use Rattle.mir_ir.specs.declared.terminator.Callee.{Callee}
+use Rattle.mir_ir.specs.declared.terminator.TerminatorKind.{TerminatorKind}
+use Rattle.mir_ir.specs.declared.terminator.TerminatorKind.TheVariants.{Goto, If, Call, Return}
+use Rattle.mir_ir.specs.declared.terminator.Terminator.{Terminator}
+use Rattle.mir_ir.specs.declared.body.Block.{Block}
+use Rattle.mir_ir.specs.declared.body.Body.{Body}
 use Rattle.mir_machine.specs.Try.{Try, Yields, Sticks, ◌>>=◌, need}
-use Rattle.mir_machine.specs.Tree.{Tree, Int, Gone}
+use Rattle.mir_machine.specs.Tree.{Tree, Int, Truth, Gone}
 use Rattle.mir_machine.specs.Frame.{Frame, State}
-use Rattle.mir_machine.specs.Body.{block_in, place_ty, kind_in}
+use Rattle.mir_ir.specs.Body.{block_in, place_ty, kind_in}
 use Rattle.mir_machine.specs.Memory.{is_there}
-use Rattle.mir_machine.specs.Step.{literal, binary, Outcome, Running, come_back}
+use Rattle.mir_machine.specs.Step.{literal, binary, negated, inverted, truth_of, callee_frame, Outcome, Running, come_back}
 
 -- ---- whole locals
 
@@ -34,13 +35,27 @@ IsWhole (Const l) = Unit {0}
 abbrev pub ReadsWholes : Rvalue → Type 0
 ReadsWholes (Use o) = IsWhole o
 ReadsWholes (Binary op a b) = IsWhole a × IsWhole b
+ReadsWholes (Neg o) = IsWhole o
+ReadsWholes (Not o) = IsWhole o
 
 abbrev pub NamesWholes : StatementKind → Type 0
 NamesWholes (Assign p r) = (p.path ≡ []) × ReadsWholes r
+NamesWholes (Dead x) = Unit {0}
+
+abbrev pub AreWhole : List Operand → Type 0
+AreWhole [] = Unit {0}
+AreWhole (o ∷ os) = IsWhole o × AreWhole os
+
+abbrev pub EndNamesWholes : TerminatorKind → Type 0
+EndNamesWholes (Goto l) = Unit {0}
+EndNamesWholes (If o on_true on_false) = IsWhole o
+EndNamesWholes (Call p callee os l) = (p.path ≡ []) × AreWhole os
+EndNamesWholes Return = Unit {0}
 
 -- each place that a body names is a whole local
-abbrev pub BodyNamesWholes : Body → Type 0
-BodyNamesWholes b = (l : Label) (k : Block) (i : ℕ) (st : Statement) → block_in b.blocks l ≡ Some k → slice_get k.statements i ≡ Some st → NamesWholes st.kind
+pub record BodyNamesWholes (b : Body) : Type 0 where
+  pub statements : (l : Label) (k : Block) (i : ℕ) (st : Statement) → block_in b.blocks l ≡ Some k → slice_get k.statements i ≡ Some st → NamesWholes st.kind
+  pub ends : (l : Label) (k : Block) → block_in b.blocks l ≡ Some k → EndNamesWholes k.end.kind
 
 abbrev pub AllNameWholes : List Body → Type 0
 AllNameWholes bodies = (f : ℕ) (b : Body) → slice_get bodies f ≡ Some b → BodyNamesWholes b
@@ -59,6 +74,14 @@ take_operand ls (Copy p) = local_tree ls p.local >>= λ t. Yields (ls, t)
 take_operand ls (Move p) = local_tree ls p.local >>= λ t. Yields (slice_set ls p.local Gone, t)
 take_operand ls (Const l) = Yields (ls, literal l)
 
+-- operands from the left
+abbrev pub take_operands : {K : Type 0} → List (Tree K) → List Operand → Try (List (Tree K) × List (Tree K))
+take_operands ls [] = Yields (ls, [])
+take_operands ls (o ∷ os) = do
+  (ls₁, t) ← take_operand ls o
+  (ls₂, ts) ← take_operands ls₁ os
+  Yields (ls₂, t ∷ ts)
+
 abbrev pub evaluate : {K : Type 0} → List (Tree K) → Option IntKind → Span → Rvalue → Try (Left K)
 evaluate ls kind span (Use o) = take_operand ls o
 evaluate ls kind span (Binary op a b) = do
@@ -66,50 +89,94 @@ evaluate ls kind span (Binary op a b) = do
   (ls₂, y) ← take_operand ls₁ b
   t ← binary kind span op x y
   Yields (ls₂, t)
+evaluate ls kind span (Neg o) = do
+  (ls₁, x) ← take_operand ls o
+  t ← negated kind span x
+  Yields (ls₁, t)
+evaluate ls kind span (Not o) = do
+  (ls₁, x) ← take_operand ls o
+  t ← inverted x
+  Yields (ls₁, t)
 
--- an operand that has to be an integer
-abbrev pub as_integer : {K : Type 0} → Tree K → Try ℤ
-as_integer (Int z) = Yields z
-as_integer _ = Sticks
+-- an integer or a truth value
+abbrev pub scalar : {K : Type 0} → Tree K → Try (Tree K)
+scalar (Int z) = Yields (Int z)
+scalar (Truth b) = Yields (Truth b)
+scalar _ = Sticks
 
-abbrev pub take_integer : {K : Type 0} → List (Tree K) → Operand → Try (List (Tree K) × ℤ)
-take_integer ls o = do
+abbrev pub take_scalar : {K : Type 0} → List (Tree K) → Operand → Try (Left K)
+take_scalar ls o = do
   (ls₁, t) ← take_operand ls o
-  z ← as_integer t
-  Yields (ls₁, z)
+  u ← scalar t
+  Yields (ls₁, u)
+
+abbrev pub take_truth : {K : Type 0} → List (Tree K) → Operand → Try (List (Tree K) × Bool)
+take_truth ls o = do
+  (ls₁, t) ← take_scalar ls o
+  b ← truth_of t
+  Yields (ls₁, b)
 
 abbrev pub put_local : {K : Type 0} → List (Tree K) → ℕ → Tree K → Try (List (Tree K))
 put_local ls x t = need (slice_get ls x) >>= λ u. Yields (slice_set ls x t)
 
-abbrev pub assign_local : {K : Type 0} → Body → Tys → List (Tree K) → Span → StatementKind → Try (List (Tree K))
-assign_local b θ ls span (Assign p r) = do
+-- the locals after a statement
+abbrev pub run_local : {K : Type 0} → Body → Tys → List (Tree K) → Span → StatementKind → Try (List (Tree K))
+run_local b θ ls span (Assign p r) = do
   (ls₁, t) ← evaluate ls (kind_in (place_ty b θ p)) span r
   put_local ls₁ p.local t
+run_local b θ ls span (Dead x) = put_local ls x Gone
 
--- the frame stands at its next statement, or gives its answer
+-- what a frame's step comes to
 pub data FrameEnd (K : Type 0) : Type 0 where
+  -- the frame goes on
   Stays : Frame K → FrameEnd K
+  -- the frame waits, and the second one runs before it
+  Calls : Frame K → Frame K → FrameEnd K
   Answers : Tree K → FrameEnd K
 
-abbrev pub frame_end : {K : Type 0} → Frame K → TerminatorKind → Try (FrameEnd K)
-frame_end f Return = local_tree f.locals 0 >>= λ t. Yields (Answers t)
+abbrev pub starting : {K : Type 0} → Frame K → List (Tree K) → Label → Frame K
+starting f ls l = record f { label = l; statement = 0; locals = ls }
 
-abbrev pub frame_row : {K : Type 0} → Body → Frame K → Terminator → Option Statement → Try (FrameEnd K)
-frame_row b f end (Some st) = assign_local b f.types f.locals st.span st.kind >>= λ ls. Yields (Stays (record f { locals = ls; statement = f.statement + 1 }))
-frame_row b f end None = frame_end f end.kind
+abbrev pub call_end : {K : Type 0} → List Body → Frame K → Callee → List Operand → Try (FrameEnd K)
+call_end bodies f callee os = do
+  (ls, args) ← take_operands f.locals os
+  g ← callee_frame bodies callee args
+  Yields (Calls (record f { locals = ls }) g)
+
+abbrev pub frame_end : {K : Type 0} → List Body → Frame K → TerminatorKind → Try (FrameEnd K)
+frame_end bodies f (Goto l) = Yields (Stays (starting f f.locals l))
+frame_end bodies f (If o on_true on_false) = do
+  (ls, t) ← take_operand f.locals o
+  b ← truth_of t
+  Yields (Stays (starting f ls (cond b on_true on_false)))
+frame_end bodies f (Call p callee os l) = call_end bodies f callee os
+frame_end bodies f Return = local_tree f.locals 0 >>= λ t. Yields (Answers t)
+
+abbrev pub frame_row : {K : Type 0} → List Body → Body → Frame K → Terminator → Option Statement → Try (FrameEnd K)
+frame_row bodies b f end (Some st) = run_local b f.types f.locals st.span st.kind >>= λ ls. Yields (Stays (record f { locals = ls; statement = f.statement + 1 }))
+frame_row bodies b f end None = frame_end bodies f end.kind
 
 abbrev pub frame_step : {K : Type 0} → List Body → Frame K → Try (FrameEnd K)
 frame_step bodies f = do
   b ← need (slice_get bodies f.function)
   k ← need (block_in b.blocks f.label)
-  frame_row b f k.end (slice_get k.statements f.statement)
+  frame_row bodies b f k.end (slice_get k.statements f.statement)
 
 -- what the frame's step makes of the state with these frames behind it
-abbrev pub settled : {K : Type 0} → State K → FrameEnd K → Try (Outcome K)
-settled fs (Stays f) = Yields (Running (f ∷ fs))
-settled fs (Answers t) = come_back t fs
+abbrev pub settled : {K : Type 0} → List Body → State K → FrameEnd K → Try (Outcome K)
+settled bodies fs (Stays f) = Yields (Running (f ∷ fs))
+settled bodies fs (Calls f g) = Yields (Running (g ∷ f ∷ fs))
+settled bodies fs (Answers t) = come_back bodies t fs
 
--- the frame's end, by the code's answer
-abbrev pub end_of : Frame (Unit {0}) → Option (Tree (Unit {0})) → FrameEnd (Unit {0})
-end_of f None = Stays f
-end_of f (Some t) = Answers t
+-- ---- the frame that waits for an answer
+
+-- the block in which a frame stands
+abbrev pub frame_block : {K : Type 0} → List Body → Frame K → Option Block
+frame_block bodies f = option_and_then (λ b. block_in b.blocks f.label) (slice_get bodies f.function)
+
+abbrev pub resumed_at : {K : Type 0} → Tree K → Frame K → TerminatorKind → Try (Frame K)
+resumed_at t f (Call p callee os l) = put_local f.locals p.local t >>= λ ls. Yields (starting f ls l)
+resumed_at t f _ = Sticks
+
+abbrev pub resumed : {K : Type 0} → List Body → Tree K → Frame K → Try (Frame K)
+resumed bodies t f = need (frame_block bodies f) >>= λ k. resumed_at t f k.end.kind

@@ -8,12 +8,12 @@ use Rattle.logic_term.specs.Sort.{Declarations, HasSort}
 use Rattle.logic_term.specs.Term.{Term}
 use Rattle.logic_term.specs.Ty.{Ty, Tys, no_tys}
 use Rattle.logic_term.specs.Value.{Value, Values, nothing, no_values, and_value}
-use Rattle.mir_machine.specs.declared.mir_ir.Body.{Body}
+use Rattle.mir_ir.specs.declared.body.Body.{Body}
 use Rattle.mir_machine.specs.declared.spot.Spot.{Spot}
 use Rattle.mir_machine.specs.Try.{Yields}
 use Rattle.mir_machine.specs.Tree.{Tree, trees_of}
 use Rattle.mir_machine.specs.Frame.{State}
-use Rattle.mir_machine.specs.Body.{param_tys, answer_ty}
+use Rattle.mir_ir.specs.Body.{param_tys, answer_ty}
 use Rattle.mir_machine.specs.Memory.{tree_at}
 use Rattle.mir_machine.specs.Step.{Outcome, Running, Returned, Panicked, Stuck, after, entered, outside}
 use Rattle.mir_machine.specs.Typed.{Met, Typed, AreTyped}

@@ -1,15 +1,17 @@
-pub mod Body
+pub mod Depth
 pub mod Frame
 pub mod FrameCode
 pub mod FrameStep
 pub mod Good
 pub mod Halt
 pub mod Memory
+pub mod NextView
 pub mod Reads
 pub mod Run
 pub mod RunCode
 pub mod RunView
 pub mod Sample
+pub mod ScalarView
 pub mod Step
 pub mod Tree
 pub mod TreeCode
@@ -17,4 +19,3 @@ pub mod TreeFalls
 pub mod TreeView
 pub mod Try
 pub mod Typed
-pub mod WellFormed

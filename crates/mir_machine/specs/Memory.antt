@@ -2,9 +2,9 @@
 use Rattle.std.specs.Prelude.{ℕ, zero, ◌==◌, cond, List, [], ◌∷◌, ◌++◌, length, slice_get, slice_set}
 use Rattle.logic_term.specs.declared.kinds.Ctor.TheVariants.{Variant as OfVariant}
 use Rattle.mir_machine.specs.declared.spot.Spot.{Spot}
-use Rattle.mir_machine.specs.declared.mir_ir.Proj.{Proj}
-use Rattle.mir_machine.specs.declared.mir_ir.Proj.TheVariants.{Field, Variant, Deref}
-use Rattle.mir_machine.specs.declared.mir_ir.Place.{Place}
+use Rattle.mir_ir.specs.declared.place.Proj.{Proj}
+use Rattle.mir_ir.specs.declared.place.Proj.TheVariants.{Field, Variant, Deref}
+use Rattle.mir_ir.specs.declared.place.Place.{Place}
 use Rattle.mir_machine.specs.Try.{Try, Yields, Sticks, ◌>>=◌, need}
 use Rattle.mir_machine.specs.Tree.{Tree, Made, Boxed, Shared, Unique, Gone, nth_tree, set_nth}
 use Rattle.mir_machine.specs.Frame.{Frame, State}

@@ -6,8 +6,8 @@ use Rattle.text_core.specs.declared.refusal.Cause.{Cause}
 use Rattle.text_core.specs.declared.span.Span.{Span}
 use Rattle.text_core.specs.contracts.refusal.Cause as cause
 use Rattle.text_core.specs.contracts.span.Span as span
-use Rattle.mir_machine.specs.contracts.mir_ir.Body as body
-use Rattle.mir_machine.specs.declared.mir_ir.Body.{Body}
+use Rattle.mir_ir.specs.contracts.body.Body as body
+use Rattle.mir_ir.specs.declared.body.Body.{Body}
 use Rattle.mir_machine.specs.Tree.{Tree}
 use Rattle.mir_machine.specs.TreeCode.{coded_tree}
 use Rattle.mir_machine.specs.Frame.{State}

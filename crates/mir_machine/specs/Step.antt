@@ -1,32 +1,38 @@
--- One step of the machine, and many. Operands, the right sides of assignments and the panics of arithmetic are those of the
--- Rust Reference: "Operator expressions" (overflow, and what panics at `/` and `%`), "Expressions" (operands from the left).
-use Rattle.std.specs.Prelude.{ℕ, zero, suc, ◌+◌, ◌-◌, ℤ, pos, ◌+ℤ◌, ◌-ℤ◌, ◌*ℤ◌, int_div, int_rem, int_lt, int_le, not, cond, List, [], ◌∷◌, ◌++◌, length, replicate, Option, Some, None, slice_get}
+-- One step of the machine, and many. The rows are those of the Rust Reference: "Operator expressions" (overflow, and what
+-- panics at `/`, `%` and `-x`), "Expressions" (operands from the left), "if expressions", and "Call expressions" (the operands
+-- are evaluated from the left before the call). Definitions bound no number of frames.
+use Rattle.std.specs.Prelude.{ℕ, zero, suc, ◌+◌, ◌-◌, ℤ, pos, neg_ℤ, ◌+ℤ◌, ◌-ℤ◌, ◌*ℤ◌, int_div, int_rem, int_lt, int_le, Bool, true, false, not, cond, List, [], ◌∷◌, ◌++◌, length, replicate, Option, Some, None, slice_get}
 use Rattle.std.specs.Ordering.{int_eq}
 use Rattle.text_core.specs.declared.refusal.Cause.{Cause}
 use Rattle.text_core.specs.declared.refusal.Cause.TheVariants.{Overflow, Division}
 use Rattle.text_core.specs.declared.span.Span.{Span}
 use Rattle.logic_term.specs.declared.kinds.IntKind.{IntKind}
+use Rattle.logic_term.specs.declared.kinds.Label.{Label}
 use Rattle.logic_term.specs.declared.kinds.BinaryOp.{BinaryOp}
 use Rattle.logic_term.specs.declared.kinds.BinaryOp.TheVariants.{Add, Sub, Mul, Div, Rem, Eq, Ne, Lt, Le, Gt, Ge}
 use Rattle.logic_term.specs.Range.{fits}
 use Rattle.logic_term.specs.Ty.{Tys, no_tys}
-use Rattle.mir_machine.specs.declared.mir_ir.Lit.{Lit}
-use Rattle.mir_machine.specs.declared.mir_ir.Lit.TheVariants as lit
-use Rattle.mir_machine.specs.declared.mir_ir.Operand.{Operand}
-use Rattle.mir_machine.specs.declared.mir_ir.Operand.TheVariants.{Copy, Move, Const}
-use Rattle.mir_machine.specs.declared.mir_ir.Rvalue.{Rvalue}
-use Rattle.mir_machine.specs.declared.mir_ir.Rvalue.TheVariants.{Use, Binary}
-use Rattle.mir_machine.specs.declared.mir_ir.StatementKind.{StatementKind}
-use Rattle.mir_machine.specs.declared.mir_ir.StatementKind.TheVariants.{Assign}
-use Rattle.mir_machine.specs.declared.mir_ir.Statement.{Statement}
-use Rattle.mir_machine.specs.declared.mir_ir.TerminatorKind.{TerminatorKind}
-use Rattle.mir_machine.specs.declared.mir_ir.TerminatorKind.TheVariants.{Return}
-use Rattle.mir_machine.specs.declared.mir_ir.Terminator.{Terminator}
-use Rattle.mir_machine.specs.declared.mir_ir.Body.{Body}
+use Rattle.mir_ir.specs.declared.place.Place.{Place}
+use Rattle.mir_ir.specs.declared.place.Lit.{Lit}
+use Rattle.mir_ir.specs.declared.place.Lit.TheVariants as lit
+use Rattle.mir_ir.specs.declared.place.Operand.{Operand}
+use Rattle.mir_ir.specs.declared.place.Operand.TheVariants.{Copy, Move, Const}
+use Rattle.mir_ir.specs.declared.statement.Rvalue.{Rvalue}
+use Rattle.mir_ir.specs.declared.statement.Rvalue.TheVariants.{Use, Binary, Neg, Not}
+use Rattle.mir_ir.specs.declared.statement.StatementKind.{StatementKind}
+use Rattle.mir_ir.specs.declared.statement.StatementKind.TheVariants.{Assign, Dead}
+use Rattle.mir_ir.specs.declared.statement.Statement.{Statement}
+use Rattle.mir_ir.specs.declared.terminator.FnId.TheVariants as fn_id
+use Rattle.mir_ir.specs.declared.terminator.Callee.{Callee}
+use Rattle.mir_ir.specs.declared.terminator.Callee.TheVariants.{Function}
+use Rattle.mir_ir.specs.declared.terminator.TerminatorKind.{TerminatorKind}
+use Rattle.mir_ir.specs.declared.terminator.TerminatorKind.TheVariants.{Goto, If, Call, Return}
+use Rattle.mir_ir.specs.declared.terminator.Terminator.{Terminator}
+use Rattle.mir_ir.specs.declared.body.Body.{Body}
 use Rattle.mir_machine.specs.Try.{Try, Yields, Panics, Sticks, ◌>>=◌, need}
 use Rattle.mir_machine.specs.Tree.{Tree, Int, Truth, Gone}
 use Rattle.mir_machine.specs.Frame.{Frame, State}
-use Rattle.mir_machine.specs.Body.{block_in, place_ty, kind_in}
+use Rattle.mir_ir.specs.Body.{block_in, place_ty, kind_in}
 use Rattle.mir_machine.specs.Memory.{is_there, read, write}
 
 -- ---- right sides
@@ -56,9 +62,31 @@ of_integers kind span Le a b = Yields (Truth (int_le a b))
 of_integers kind span Gt a b = Yields (Truth (int_lt b a))
 of_integers kind span Ge a b = Yields (Truth (int_le b a))
 
+abbrev pub same_truth : Bool → Bool → Bool
+same_truth true b = b
+same_truth false b = not b
+
+abbrev pub of_truths : {K : Type 0} → BinaryOp → Bool → Bool → Try (Tree K)
+of_truths Eq a b = Yields (Truth (same_truth a b))
+of_truths Ne a b = Yields (Truth (not (same_truth a b)))
+of_truths _ a b = Sticks
+
 abbrev pub binary : {K : Type 0} → Option IntKind → Span → BinaryOp → Tree K → Tree K → Try (Tree K)
 binary kind span op (Int a) (Int b) = of_integers kind span op a b
+binary kind span op (Truth a) (Truth b) = of_truths op a b
 binary kind span op _ _ = Sticks
+
+abbrev pub negated : {K : Type 0} → Option IntKind → Span → Tree K → Try (Tree K)
+negated kind span (Int z) = arithmetic kind (λ k. fit k span (neg_ℤ z))
+negated kind span _ = Sticks
+
+-- a tree that has to be a truth value
+abbrev pub truth_of : {K : Type 0} → Tree K → Try Bool
+truth_of (Truth b) = Yields b
+truth_of _ = Sticks
+
+abbrev pub inverted : {K : Type 0} → Tree K → Try (Tree K)
+inverted t = truth_of t >>= λ b. Yields (Truth (not b))
 
 abbrev pub literal : {K : Type 0} → Lit → Tree K
 literal (lit.Int z k) = Int z
@@ -76,6 +104,14 @@ operand s (Move p) = do
   Yields (s', t)
 operand s (Const l) = Yields (s, literal l)
 
+-- operands from the left
+abbrev pub operands : {K : Type 0} → State K → List Operand → Try (State K × List (Tree K))
+operands s [] = Yields (s, [])
+operands s (o ∷ os) = do
+  (s₁, t) ← operand s o
+  (s₂, ts) ← operands s₁ os
+  Yields (s₂, t ∷ ts)
+
 abbrev pub rvalue : {K : Type 0} → State K → Option IntKind → Span → Rvalue → Try (Taken K)
 rvalue s kind span (Use o) = operand s o
 rvalue s kind span (Binary op a b) = do
@@ -83,6 +119,14 @@ rvalue s kind span (Binary op a b) = do
   (s₂, y) ← operand s₁ b
   t ← binary kind span op x y
   Yields (s₂, t)
+rvalue s kind span (Neg o) = do
+  (s₁, x) ← operand s o
+  t ← negated kind span x
+  Yields (s₁, t)
+rvalue s kind span (Not o) = do
+  (s₁, x) ← operand s o
+  t ← inverted x
+  Yields (s₁, t)
 
 -- ---- steps
 
@@ -104,58 +148,23 @@ abbrev pub past : {K : Type 0} → State K → Try (State K)
 past [] = Sticks
 past (f ∷ fs) = Yields (record f { statement = f.statement + 1 } ∷ fs)
 
-abbrev pub assign : {K : Type 0} → Body → Tys → State K → Span → StatementKind → Try (State K)
-assign b θ s span (Assign p r) = do
+-- the running frame at the start of a block
+abbrev pub at_label : {K : Type 0} → Label → State K → Try (State K)
+at_label l [] = Sticks
+at_label l (f ∷ fs) = Yields (record f { label = l; statement = 0 } ∷ fs)
+
+-- the place of a local
+abbrev pub whole : ℕ → Place
+whole x = record { local = x; path = [] }
+
+abbrev pub statement_step : {K : Type 0} → Body → Tys → State K → Span → StatementKind → Try (State K)
+statement_step b θ s span (Assign p r) = do
   (s₁, t) ← rvalue s (kind_in (place_ty b θ p)) span r
   s₂ ← write s₁ p t
   past s₂
-
-abbrev pub statement_step : {K : Type 0} → Body → Tys → State K → Statement → Try (State K)
-statement_step b θ s st = assign b θ s st.span st.kind
-
--- so far no frame but the first call's runs: behind it is the outside
-abbrev pub come_back : {K : Type 0} → Tree K → State K → Try (Outcome K)
-come_back t (out ∷ []) = Yields (Returned (out ∷ []) t)
-come_back t _ = Sticks
-
--- the running frame ends, with local 0 as its answer
-abbrev pub leave : {K : Type 0} → State K → Try (Outcome K)
-leave [] = Sticks
-leave (f ∷ fs) = do
-  t ← need (slice_get f.locals 0)
-  t' ← is_there t
-  come_back t' fs
-
-abbrev pub end_step : {K : Type 0} → State K → TerminatorKind → Try (Outcome K)
-end_step s Return = leave s
-
--- a block's end comes after its last statement
-abbrev pub row : {K : Type 0} → Body → Tys → State K → Terminator → Option Statement → Try (Outcome K)
-row b θ s end (Some st) = statement_step b θ s st >>= λ s'. Yields (Running s')
-row b θ s end None = end_step s end.kind
-
-abbrev pub try_step : {K : Type 0} → List Body → State K → Try (Outcome K)
-try_step bodies [] = Sticks
-try_step bodies (f ∷ fs) = do
-  b ← need (slice_get bodies f.function)
-  k ← need (block_in b.blocks f.label)
-  row b f.types (f ∷ fs) k.end (slice_get k.statements f.statement)
-
-abbrev pub step : {K : Type 0} → List Body → State K → Outcome K
-step bodies s = outcome_of (try_step bodies s)
-
--- a run that has ended stays as it is
-abbrev pub next : {K : Type 0} → List Body → Outcome K → Outcome K
-next bodies (Running s) = step bodies s
-next bodies o = o
-
--- n steps on
-abbrev pub after_from : {K : Type 0} → List Body → ℕ → Outcome K → Outcome K
-after_from bodies zero o = o
-after_from bodies (suc n) o = next bodies (after_from bodies n o)
-
-abbrev pub after : {K : Type 0} → List Body → ℕ → State K → Outcome K
-after bodies n s = after_from bodies n (Running s)
+statement_step b θ s span (Dead x) = do
+  s₁ ← write s (whole x) Gone
+  past s₁
 
 -- ---- calls
 
@@ -172,3 +181,75 @@ entered b f θ args = record {
 -- frame 0, which holds these trees
 abbrev pub outside : {K : Type 0} → List (Tree K) → Frame K
 outside held = record { function = 0; types = no_tys; label = record { 0 = 0 }; statement = 0; locals = held }
+
+-- the new frame of a call; so far bodies have no type parameters
+abbrev pub callee_frame : {K : Type 0} → List Body → Callee → List (Tree K) → Try (Frame K)
+callee_frame bodies (Function (fn_id.Body n)) args = need (slice_get bodies n) >>= λ b. Yields (entered b n no_tys args)
+
+-- the answer of a call goes to the caller's place, and the caller goes on at its label
+abbrev pub answered : {K : Type 0} → Tree K → State K → TerminatorKind → Try (State K)
+answered t s (Call p callee os l) = do
+  s₁ ← write s p t
+  at_label l s₁
+answered t s _ = Sticks
+
+-- the outside runs nothing: where it alone is left the run has returned
+abbrev pub come_back : {K : Type 0} → List Body → Tree K → State K → Try (Outcome K)
+come_back bodies t [] = Sticks
+come_back bodies t (out ∷ []) = Yields (Returned (out ∷ []) t)
+come_back bodies t (f ∷ g ∷ fs) = do
+  b ← need (slice_get bodies f.function)
+  k ← need (block_in b.blocks f.label)
+  s ← answered t (f ∷ g ∷ fs) k.end.kind
+  Yields (Running s)
+
+-- the running frame ends, with local 0 as its answer
+abbrev pub leave : {K : Type 0} → List Body → State K → Try (Outcome K)
+leave bodies [] = Sticks
+leave bodies (f ∷ fs) = do
+  t ← need (slice_get f.locals 0)
+  t' ← is_there t
+  come_back bodies t' fs
+
+-- ---- ends of blocks
+
+abbrev pub end_step : {K : Type 0} → List Body → State K → TerminatorKind → Try (Outcome K)
+end_step bodies s (Goto l) = at_label l s >>= λ s'. Yields (Running s')
+end_step bodies s (If o on_true on_false) = do
+  (s₁, t) ← operand s o
+  b ← truth_of t
+  s₂ ← at_label (cond b on_true on_false) s₁
+  Yields (Running s₂)
+end_step bodies s (Call p callee os l) = do
+  (s₁, args) ← operands s os
+  f ← callee_frame bodies callee args
+  Yields (Running (f ∷ s₁))
+end_step bodies s Return = leave bodies s
+
+-- a block's end comes after its last statement
+abbrev pub row : {K : Type 0} → List Body → Body → Tys → State K → Terminator → Option Statement → Try (Outcome K)
+row bodies b θ s end (Some st) = statement_step b θ s st.span st.kind >>= λ s'. Yields (Running s')
+row bodies b θ s end None = end_step bodies s end.kind
+
+abbrev pub try_step : {K : Type 0} → List Body → State K → Try (Outcome K)
+try_step bodies [] = Sticks
+try_step bodies (f ∷ fs) = do
+  b ← need (slice_get bodies f.function)
+  k ← need (block_in b.blocks f.label)
+  row bodies b f.types (f ∷ fs) k.end (slice_get k.statements f.statement)
+
+abbrev pub step : {K : Type 0} → List Body → State K → Outcome K
+step bodies s = outcome_of (try_step bodies s)
+
+-- a run that has ended stays as it is
+abbrev pub next : {K : Type 0} → List Body → Outcome K → Outcome K
+next bodies (Running s) = step bodies s
+next bodies o = o
+
+-- n steps on
+abbrev pub after_from : {K : Type 0} → List Body → ℕ → Outcome K → Outcome K
+after_from bodies zero o = o
+after_from bodies (suc n) o = next bodies (after_from bodies n o)
+
+abbrev pub after : {K : Type 0} → List Body → ℕ → State K → Outcome K
+after bodies n s = after_from bodies n (Running s)

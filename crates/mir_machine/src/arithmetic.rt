@@ -1,47 +1,22 @@
-ghost use Rattle.std.specs.Prelude.{◌≡◌, ◌≢◌, ℤ, FitsSigned, int_div, int_rem};
+ghost use Rattle.std.specs.Prelude.{◌≡◌, ◌≢◌, ℤ, neg_ℤ, FitsSigned, not, int_div, int_rem};
 ghost use Rattle.std.specs.Int.{w128};
 ghost use Rattle.std.specs.Option.{SomeIff};
-ghost use Rattle.logic_term.specs.Range.{lowest, highest, fits};
+ghost use Rattle.logic_term.specs.Range.{fits};
 ghost use Rattle.mir_machine.specs.Tree.{Int, Truth};
 ghost use Rattle.mir_machine.specs.Halt.{Comes};
-ghost use Rattle.mir_machine.specs.Step.{fit, divide, arithmetic, of_integers};
+ghost use Rattle.mir_machine.specs.Step.{fit, divide, arithmetic, of_integers, same_truth, of_truths, binary, negated, inverted, truth_of};
+ghost use Rattle.mir_machine.specs.ScalarView.{scalar_tree};
 
 use crate::halt::Halt;
+use crate::scalar::Scalar;
 use crate::tree::{Tree, TreeNode};
 use logic_term::{BinaryOp, IntKind};
 use text_core::{Cause, Span};
 
-fn lowest(kind: IntKind) -> i128
-    ensures { result ≡ lowest kind }
-{
-    match kind {
-        IntKind::I8 => i8::MIN as i128,
-        IntKind::I16 => i16::MIN as i128,
-        IntKind::I32 => i32::MIN as i128,
-        IntKind::I64 | IntKind::Isize => i64::MIN as i128,
-        IntKind::U8 | IntKind::U16 | IntKind::U32 | IntKind::U64 | IntKind::Usize => 0,
-    }
-}
-
-fn highest(kind: IntKind) -> i128
-    ensures { result ≡ highest kind }
-{
-    match kind {
-        IntKind::I8 => i8::MAX as i128,
-        IntKind::I16 => i16::MAX as i128,
-        IntKind::I32 => i32::MAX as i128,
-        IntKind::I64 | IntKind::Isize => i64::MAX as i128,
-        IntKind::U8 => u8::MAX as i128,
-        IntKind::U16 => u16::MAX as i128,
-        IntKind::U32 => u32::MAX as i128,
-        IntKind::U64 | IntKind::Usize => u64::MAX as i128,
-    }
-}
-
 fn fits(kind: IntKind, z: i128) -> bool
     ensures { result ≡ fits kind z }
 {
-    lowest(kind) <= z && z <= highest(kind)
+    kind.lowest() <= z && z <= kind.highest()
 }
 
 fn integer(z: i128) -> Tree
@@ -102,7 +77,7 @@ fn remainder(kind: Option<IntKind>, span: Span, a: i128, b: i128) -> Result<Tree
 }
 
 /// The integer or the truth value of an operation on two integers, where a place of this kind is written.
-pub fn operate(
+fn of_integers(
     kind: Option<IntKind>,
     span: Span,
     op: BinaryOp,
@@ -125,4 +100,69 @@ pub fn operate(
         BinaryOp::Gt => Ok(truth(a > b)),
         BinaryOp::Ge => Ok(truth(a >= b)),
     }
+}
+
+fn same_truth(a: bool, b: bool) -> bool
+    ensures { result ≡ same_truth a b }
+{
+    if a { b } else { !b }
+}
+
+fn of_truths(op: BinaryOp, a: bool, b: bool) -> Result<Tree, Halt>
+    ensures exact { Comes result (of_truths op a b) (λ t. t) }
+    ensures memory { result ≢ Err Halt.NoMemory }
+{
+    match op {
+        BinaryOp::Eq => Ok(truth(same_truth(a, b))),
+        BinaryOp::Ne => Ok(truth(!same_truth(a, b))),
+        _ => Err(Halt::Stuck),
+    }
+}
+
+/// The value of an operation, where a place of this kind is written.
+pub fn operate(
+    kind: Option<IntKind>,
+    span: Span,
+    op: BinaryOp,
+    a: Scalar,
+    b: Scalar,
+) -> Result<Tree, Halt>
+    ensures exact { Comes result (binary kind span op (scalar_tree a) (scalar_tree b)) (λ t. t) }
+    ensures memory { result ≢ Err Halt.NoMemory }
+{
+    match (a, b) {
+        (Scalar::Int(a), Scalar::Int(b)) => of_integers(kind, span, op, a, b),
+        (Scalar::Truth(a), Scalar::Truth(b)) => of_truths(op, a, b),
+        _ => Err(Halt::Stuck),
+    }
+}
+
+/// The value of `-a`, where a place of this kind is written.
+pub fn negate(kind: Option<IntKind>, span: Span, a: Scalar) -> Result<Tree, Halt>
+    ensures exact { Comes result (negated kind span (scalar_tree a)) (λ t. t) }
+    ensures memory { result ≢ Err Halt.NoMemory }
+{
+    match a {
+        Scalar::Int(a) => fit(kind, span, a.checked_neg()),
+        Scalar::Truth(_) => Err(Halt::Stuck),
+    }
+}
+
+/// A truth value.
+pub fn truth_of(a: Scalar) -> Result<bool, Halt>
+    ensures exact { Comes result (truth_of {K = Unit {0}} (scalar_tree a)) (λ b. b) }
+    ensures memory { result ≢ Err Halt.NoMemory }
+{
+    match a {
+        Scalar::Int(_) => Err(Halt::Stuck),
+        Scalar::Truth(b) => Ok(b),
+    }
+}
+
+/// The value of `!a`.
+pub fn invert(a: Scalar) -> Result<Tree, Halt>
+    ensures exact { Comes result (inverted (scalar_tree a)) (λ t. t) }
+    ensures memory { result ≢ Err Halt.NoMemory }
+{
+    Ok(truth(!truth_of(a)?))
 }

@@ -1,12 +1,13 @@
 ghost use Rattle.std.specs.Prelude.{◌≡◌, ◌-◌, ◌<◌, ◌∷◌, ◌++◌, Some, IfOk, length, replicate, slice_get};
 ghost use Rattle.logic_term.specs.TyView.{tys_of};
-ghost use Rattle.mir_machine.specs.declared.mir_ir.Body.{Body};
+ghost use Rattle.mir_ir.specs.declared.body.Body.{Body as TheBody};
 ghost use Rattle.mir_machine.specs.Good.{called};
+ghost use Rattle.mir_machine.specs.Step.{entered};
 ghost use Rattle.mir_machine.specs.Tree.{Gone};
 
 use crate::args::Args;
 use crate::frame::{Frame, State};
-use crate::mir_ir::Bodies;
+use mir_ir::{Bodies, Body};
 use crate::tree::{Tree, TreeNode};
 use logic_term::{Label, Ty};
 use std::alloc::Global;
@@ -37,6 +38,25 @@ fn entry_locals(alloc: Global, args: Vec<Tree>, count: usize) -> Result<Vec<Tree
     Ok(locals)
 }
 
+/// The frame of a call of the body as it begins.
+pub fn entered(
+    alloc: Global,
+    body: &Body,
+    function: u32,
+    types: Vec<Ty>,
+    args: Vec<Tree>,
+) -> Result<Frame, NoMemory>
+    ensures { IfOk result (λ f. f ≡ entered body.now function (tys_of types.items) args.items) }
+{
+    Ok(Frame {
+        function,
+        types,
+        label: body.entry,
+        statement: 0,
+        locals: entry_locals(alloc, args, body.locals.len())?,
+    })
+}
+
 /// The state in which a call of a body begins.
 pub fn call(
     alloc: Global,
@@ -47,18 +67,12 @@ pub fn call(
 ) -> Result<State, NoMemory>
     requires { function < length bodies.now.bodies }
     ensures { IfOk result
-        (λ state. (b : Body) → slice_get bodies.now.bodies function ≡ Some b →
+        (λ state. (b : TheBody) → slice_get bodies.now.bodies function ≡ Some b →
         state ≡ called b function (tys_of types.items) args.values args.outside) }
 {
     let body = &bodies.bodies.as_slice()[function as usize];
     let Args { values, outside } = args;
-    let running = Frame {
-        function,
-        types,
-        label: body.entry,
-        statement: 0,
-        locals: entry_locals(alloc, values.into_vec(), body.locals.len())?,
-    };
+    let running = entered(alloc, body, function, types, values.into_vec())?;
     let outside = Frame {
         function: 0,
         types: Vec::new(alloc),

@@ -7,10 +7,12 @@ mod entry;
 mod frame;
 mod halt;
 mod machine;
-mod mir_ir;
+mod next;
+mod operands;
 mod outcome;
 mod run_error;
 mod running;
+mod scalar;
 mod spot;
 #[cfg(test)]
 mod tests;
@@ -20,8 +22,8 @@ pub use args::Args;
 pub use frame::{Frame, State};
 pub use machine::{Machine, NoIntrinsics};
 pub use mir_ir::{
-    Block, Bodies, Body, FnId, Lit, Operand, Place, Proj, Rvalue, Statement, StatementKind,
-    Terminator, TerminatorKind,
+    Block, Bodies, Body, Callee, FnId, Head, Lit, Operand, Place, Point, Proj, Rvalue, Statement,
+    StatementKind, Terminator, TerminatorKind,
 };
 pub use outcome::Outcome;
 pub use run_error::RunError;

@@ -1,21 +1,22 @@
 ghost use Rattle.std.specs.Prelude.{◌≡◌, ℕ, ◌≤◌, IfOk, IfErr, OnOk, OnErr};
 ghost use Rattle.std.specs.Option.{option_copied};
-ghost use Rattle.mir_machine.specs.WellFormed.{AreSound};
-ghost use Rattle.mir_machine.specs.Run.{CanCall, Starts, ran, IsRan, ShownAs, answer, StandsAt};
+ghost use Rattle.mir_ir.specs.WellFormed.{AreSound};
+ghost use Rattle.mir_machine.specs.Depth.{CallsTooDeep, StaysInDepth, Halts, IsCause};
+ghost use Rattle.mir_machine.specs.Run.{CanCall, Starts, ran, IsRan, IsRunning, ShownAs, answer, StandsAt};
 
 use crate::args::Args;
 use crate::entry::call;
 use crate::frame::State;
 use crate::halt::Halt;
-use crate::mir_ir::{Bodies, FnId};
+use mir_ir::{Bodies, FnId};
 use crate::outcome::Outcome;
 use crate::run_error::RunError;
-use crate::running::step_state;
+use crate::running::{FRAMES, frame_count, is_full, step_state};
 use crate::tree::Tree;
 use logic_term::{Instance, copy_types};
 use std::alloc::Global;
 use std::marker::Model;
-use text_core::{Cause, NoMemory, Span};
+use text_core::{Cause, Limit, LimitKind, NoMemory, Span};
 
 /// Whether the run has ended.
 #[derive(Drop)]
@@ -81,20 +82,39 @@ impl<'a, I: Drop> Machine<'a, I> {
         })
     }
 
-    /// Takes up to `n` steps, fewer only where the run ends, and answers how many. For want of memory the machine stands
-    /// after some number of steps.
+    /// Takes up to `n` steps, fewer only where the run ends, and answers how many. A call that would make more than 10,000
+    /// frames is not made, frame 0 not being counted: `Limit` says how many there would be, and the machine stands before
+    /// the call. For want of memory too the machine stands after some number of steps.
     pub fn run(&mut self, n: u64) -> Result<u64, RunError>
         ensures ok { IfOk result (λ k. IsRan self.old n k self.new) }
-        ensures err { OnErr result ((k : ℕ) × (k ≤ n) × (self.new ≡ ran k self.old)) }
-        ensures unlimited { IfErr result (λ e. e ≡ RunError.NoMemory) }
+        ensures in_depth { IfOk result (λ k. StaysInDepth self.old k) }
+        ensures err { OnErr result (Halts self.old n self.new) }
+        ensures cause { IfErr result (IsCause self.new) }
     {
         for taken in 0..n {
             let Outcome::Running = self.outcome() else {
                 return Ok(taken);
             };
+            self.has_room()?;
             self.step()?;
         }
         Ok(n)
+    }
+
+    /// Refuses where the next step is a call that makes more frames than a run may have.
+    fn has_room(&self) -> Result<(), RunError>
+        requires { IsRunning self.now.outcome }
+        ensures ok { OnOk result (CallsTooDeep self.now → ⊥) }
+        ensures limit { IfErr result (λ e. IsCause self.now e) }
+    {
+        if !is_full(self.bodies, &self.state) {
+            return Ok(());
+        }
+        Err(RunError::Limit(Limit {
+            kind: LimitKind::Frames,
+            counted: frame_count(&self.state) + 1,
+            bound: FRAMES,
+        }))
     }
 
     /// Does one step; a run that has ended stays as it is. For want of memory nothing changes.

@@ -4,7 +4,7 @@ use thiserror::Error;
 /// Why a run stops before its end.
 #[derive(Clone, Copy, Debug, PartialEq, Eq, Error)]
 pub enum RunError {
-    /// A call would make too many frames. So far no statement calls, and this never comes.
+    /// A call would make more frames than a run may have.
     #[error("{} frames of {}", .0.counted, .0.bound)]
     Limit(Limit),
     #[error("out of memory")]

@@ -1,24 +1,33 @@
-ghost use Rattle.std.specs.Prelude.{◌≡◌, ◌≢◌, ◌<◌, [], Err, OnOk, length, slice_get, slice_set};
+ghost use Rattle.std.specs.Prelude.{◌≡◌, ◌≢◌, ◌<◌, ◌^◌, [], Err, IsTrue, ◌↔◌, IfOk, OnOk, OnErr};
 ghost use Rattle.logic_term.specs.Sort.{instance};
 ghost use Rattle.logic_term.specs.TyView.{tys_of};
-ghost use Rattle.mir_machine.specs.Body.{kind_of, kind_in, place_ty};
+ghost use Rattle.mir_ir.specs.Body.{kind_of, kind_in, place_ty};
+ghost use Rattle.mir_machine.specs.Depth.{StandsAtCall, IsFull, frames_behind};
+ghost use Rattle.mir_machine.specs.FrameStep.{ReadsWholes, NamesWholes, EndNamesWholes, AreWhole, AllNameWholes, evaluate, run_local, call_end, frame_end, frame_step, frame_block, starting, resumed};
 ghost use Rattle.mir_machine.specs.Halt.{Comes};
-ghost use Rattle.mir_machine.specs.Run.{outcome_of_step};
-ghost use Rattle.mir_machine.specs.Step.{literal, try_step};
-ghost use Rattle.mir_machine.specs.Tree.{Gone};
-ghost use Rattle.mir_machine.specs.FrameStep.{IsWhole, ReadsWholes, NamesWholes, AllNameWholes, local_tree, as_integer, take_operand, take_integer, evaluate, put_local, assign_local, frame_step, end_of};
+ghost use Rattle.mir_machine.specs.NextView.{end_of, IsCallee};
+ghost use Rattle.mir_machine.specs.Run.{outcome_of_step, behind, with_callee};
+ghost use Rattle.std.specs.Option.{option_copied};
+ghost use Rattle.mir_machine.specs.Step.{callee_frame, come_back, try_step};
 
-use crate::arithmetic::operate;
+use crate::arithmetic::{invert, negate, operate};
+use crate::entry::entered;
 use crate::frame::{Frame, State};
 use crate::halt::Halt;
-use crate::mir_ir::{
-    Bodies, Body, Lit, Operand, Place, Rvalue, Statement, StatementKind, TerminatorKind,
+use crate::next::Next;
+use crate::operands::{move_out, put, take, take_all, take_scalar, take_truth};
+use crate::tree::{Tree, TreeNode, copy_trees};
+use logic_term::{IntKind, Label, Ty, TyNode};
+use mir_ir::{
+    Block, Bodies, Body, Callee, FnId, Operand, Place, Rvalue, Statement, StatementKind,
+    TerminatorKind,
 };
-use crate::tree::{Tree, TreeNode};
-use logic_term::{IntKind, Ty, TyNode};
 use std::alloc::Global;
 use std::mem;
-use text_core::Span;
+use text_core::{Items, NoMemory, Span};
+
+/// The most frames that a run may have; frame 0 is not counted.
+pub const FRAMES: u64 = 10_000;
 
 fn kind_of_ground(ty: &Ty) -> Option<IntKind>
     ensures { result ≡ kind_of ty.now }
@@ -51,88 +60,10 @@ fn kind_of_local(body: &Body, types: &[Ty], place: &Place) -> Option<IntKind>
     kind_of(body.locals.get(place.local as usize)?, types)
 }
 
-fn literal(lit: Lit) -> Tree
-    ensures { result ≡ literal lit }
-{
-    let node = match lit {
-        Lit::Int(z, _) => TreeNode::Int(z),
-        Lit::Bool(b) => TreeNode::Bool(b),
-    };
-    Tree { node }
-}
-
-/// The tree of a local that has one.
-fn local_tree(locals: &[Tree], x: u32) -> Result<&Tree, Halt>
-    ensures tree { Comes result (local_tree locals.now x) (λ t. t.now) }
-    ensures within { OnOk result (x < length locals.now) }
-    ensures memory { result ≢ Err Halt.NoMemory }
-{
-    let tree = locals.get(x as usize).ok_or(Halt::Stuck)?;
-    match &tree.node {
-        TreeNode::Gone => Err(Halt::Stuck),
-        _ => Ok(tree),
-    }
-}
-
-fn as_integer(tree: &Tree) -> Result<i128, Halt>
-    ensures integer { Comes result (as_integer tree.now) (λ z. z) }
-    ensures memory { result ≢ Err Halt.NoMemory }
-{
-    match &tree.node {
-        TreeNode::Int(z) => Ok(*z),
-        _ => Err(Halt::Stuck),
-    }
-}
-
-/// Takes a tree, of which a copy leaves the local and a move leaves nothing. For want of memory nothing changes.
-fn take(alloc: Global, locals: &mut Vec<Tree>, operand: &Operand) -> Result<Tree, Halt>
-    requires { IsWhole operand.now }
-    ensures takes { Comes result (take_operand locals.old.items operand.now) (λ t. (locals.new.items, t)) }
-    ensures unchanged { result ≡ Err Halt.NoMemory → locals.new.items ≡ locals.old.items }
-{
-    match operand {
-        Operand::Copy(place) => {
-            let tree = local_tree(locals, place.local)?;
-            Ok(tree.copy(alloc)?)
-        }
-        Operand::Move(place) => move_out(locals, place.local),
-        Operand::Const(lit) => Ok(literal(*lit)),
-    }
-}
-
-/// Moves the tree out of a local.
-fn move_out(locals: &mut Vec<Tree>, x: u32) -> Result<Tree, Halt>
-    ensures takes { Comes result (local_tree locals.old.items x) (λ t. t) }
-    ensures left { OnOk result (locals.new.items ≡ slice_set locals.old.items x Gone) }
-    ensures memory { result ≢ Err Halt.NoMemory }
-{
-    local_tree(locals, x)?;
-    let gone = Tree {
-        node: TreeNode::Gone,
-    };
-    let local = &mut locals[x as usize];
-    Ok(mem::replace(local, gone))
-}
-
-/// Takes an integer.
-fn take_integer(locals: &mut Vec<Tree>, operand: &Operand) -> Result<i128, Halt>
-    requires { IsWhole operand.now }
-    ensures takes { Comes result (take_integer locals.old.items operand.now) (λ z. (locals.new.items, z)) }
-    ensures memory { result ≢ Err Halt.NoMemory }
-{
-    match operand {
-        Operand::Copy(place) => as_integer(local_tree(locals, place.local)?),
-        Operand::Move(place) => {
-            let tree = move_out(locals, place.local)?;
-            as_integer(&tree)
-        }
-        Operand::Const(Lit::Int(z, _)) => Ok(*z),
-        Operand::Const(Lit::Bool(_)) => Err(Halt::Stuck),
-    }
-}
+// ---- statements
 
 /// The value of a right side. For want of memory nothing changes.
-#[tactic(auto, using(crate::proofs::Integers::evaluate_integers))]
+#[tactic(auto, using(crate::proofs::Scalars::evaluate_scalars))]
 fn evaluate(
     alloc: Global,
     locals: &mut Vec<Tree>,
@@ -147,27 +78,23 @@ fn evaluate(
     match rvalue {
         Rvalue::Use(operand) => take(alloc, locals, operand),
         Rvalue::Binary(op, a, b) => {
-            let x = take_integer(locals, a)?;
-            let y = take_integer(locals, b)?;
+            let x = take_scalar(locals, a)?;
+            let y = take_scalar(locals, b)?;
             operate(kind, span, *op, x, y)
+        }
+        Rvalue::Neg(a) => {
+            let z = take_scalar(locals, a)?;
+            negate(kind, span, z)
+        }
+        Rvalue::Not(a) => {
+            let t = take_scalar(locals, a)?;
+            invert(t)
         }
     }
 }
 
-fn put(locals: &mut Vec<Tree>, x: u32, tree: Tree) -> Result<(), Halt>
-    ensures puts { Comes result (put_local locals.old.items x tree) (λ _. locals.new.items) }
-    ensures memory { result ≢ Err Halt.NoMemory }
-{
-    let at = x as usize;
-    if at >= locals.len() {
-        return Err(Halt::Stuck);
-    }
-    locals[at] = tree;
-    Ok(())
-}
-
-/// Runs an assignment. For want of memory nothing changes.
-fn assign(
+/// Runs a statement. For want of memory nothing changes.
+fn run_statement(
     alloc: Global,
     body: &Body,
     types: &[Ty],
@@ -175,22 +102,105 @@ fn assign(
     statement: &Statement,
 ) -> Result<(), Halt>
     requires { NamesWholes statement.now.kind }
-    ensures assigns { Comes result
-        (assign_local body.now (tys_of types.now) locals.old.items statement.now.span statement.now.kind)
+    ensures runs { Comes result
+        (run_local body.now (tys_of types.now) locals.old.items statement.now.span statement.now.kind)
         (λ _. locals.new.items) }
     ensures unchanged { result ≡ Err Halt.NoMemory → locals.new.items ≡ locals.old.items }
 {
-    let StatementKind::Assign(place, rvalue) = &statement.kind;
-    let kind = kind_of_local(body, types, place);
-    let tree = evaluate(alloc, locals, kind, statement.span, rvalue)?;
-    put(locals, place.local, tree)
+    match &statement.kind {
+        StatementKind::Assign(place, rvalue) => {
+            let kind = kind_of_local(body, types, place);
+            let tree = evaluate(alloc, locals, kind, statement.span, rvalue)?;
+            put(locals, place.local, tree)
+        }
+        StatementKind::Dead(x) => {
+            let gone = Tree {
+                node: TreeNode::Gone,
+            };
+            put(locals, *x, gone)
+        }
+    }
 }
 
-/// One step of the running frame; `Some` with its answer where the frame ends. For want of memory nothing changes.
-fn step_frame(alloc: Global, bodies: &Bodies, frame: &mut Frame) -> Result<Option<Tree>, Halt>
+// ---- ends of blocks
+
+/// The frame of a call with these arguments.
+fn callee_frame(
+    alloc: Global,
+    bodies: &Bodies,
+    callee: Callee,
+    args: Items<Tree>,
+) -> Result<Frame, Halt>
+    ensures { Comes result (callee_frame bodies.now.bodies callee args) (λ f. f) }
+{
+    let Callee::Function(FnId::Body(number)) = callee;
+    let body = bodies.bodies.get(number as usize).ok_or(Halt::Stuck)?;
+    let types = Vec::new(alloc);
+    Ok(entered(alloc, body, number, types, args.into_vec())?)
+}
+
+/// A call from the frame. The operands are taken from a copy of its locals, so that the frame stays as it is.
+fn call(
+    alloc: Global,
+    bodies: &Bodies,
+    caller: &Frame,
+    callee: Callee,
+    operands: &[Operand],
+) -> Result<Next, Halt>
+    requires { AreWhole operands.now }
+    ensures { Comes result (call_end bodies.now.bodies caller.now callee operands.now) (end_of caller.now) }
+{
+    let mut locals = copy_trees(alloc, &caller.locals)?;
+    let args = take_all(alloc, &mut locals, operands)?;
+    let frame = callee_frame(alloc, bodies, callee, args)?;
+    Ok(Next::Callee { frame, locals })
+}
+
+/// The frame goes on at the start of the block.
+fn go_to(frame: &mut Frame, label: Label)
+    ensures { frame.new ≡ starting frame.old frame.old.locals label }
+{
+    frame.label = label;
+    frame.statement = 0;
+}
+
+/// The end of a block. For want of memory, and at a call, the frame stays as it is.
+fn end_block(
+    alloc: Global,
+    bodies: &Bodies,
+    frame: &mut Frame,
+    end: &TerminatorKind,
+) -> Result<Next, Halt>
+    requires { EndNamesWholes end.now }
+    ensures ends { Comes result (frame_end bodies.now.bodies frame.old end.now) (end_of frame.new) }
+    ensures unchanged { result ≡ Err Halt.NoMemory → frame.new ≡ frame.old }
+    ensures waits { IfOk result (λ next. IsCallee next → frame.new ≡ frame.old) }
+{
+    match end {
+        TerminatorKind::Goto(label) => {
+            go_to(frame, *label);
+            Ok(Next::Same)
+        }
+        TerminatorKind::If(condition, yes, no) => {
+            let holds = take_truth(&mut frame.locals, condition)?;
+            go_to(frame, if holds { *yes } else { *no });
+            Ok(Next::Same)
+        }
+        TerminatorKind::Call(_, callee, operands, _) => {
+            call(alloc, bodies, frame, *callee, operands.as_slice())
+        }
+        TerminatorKind::Return => Ok(Next::Answer(move_out(&mut frame.locals, 0)?)),
+    }
+}
+
+// ---- steps
+
+/// One step of the running frame. For want of memory, and at a call, the frame stays as it is.
+fn step_frame(alloc: Global, bodies: &Bodies, frame: &mut Frame) -> Result<Next, Halt>
     requires { AllNameWholes bodies.now.bodies }
     ensures steps { Comes result (frame_step bodies.now.bodies frame.old) (end_of frame.new) }
     ensures unchanged { result ≡ Err Halt.NoMemory → frame.new ≡ frame.old }
+    ensures waits { IfOk result (λ next. IsCallee next → frame.new ≡ frame.old) }
 {
     let body = bodies
         .bodies
@@ -200,12 +210,92 @@ fn step_frame(alloc: Global, bodies: &Bodies, frame: &mut Frame) -> Result<Optio
     let statements = block.statements.as_slice();
     if frame.statement < statements.len() {
         let statement = &statements[frame.statement];
-        assign(alloc, body, &frame.types, &mut frame.locals, statement)?;
+        run_statement(alloc, body, &frame.types, &mut frame.locals, statement)?;
         frame.statement += 1;
-        return Ok(None);
+        return Ok(Next::Same);
     }
-    match block.end.kind {
-        TerminatorKind::Return => Ok(Some(move_out(&mut frame.locals, 0)?)),
+    end_block(alloc, bodies, frame, &block.end.kind)
+}
+
+/// The block in which the frame stands.
+fn block_of<'a>(bodies: &'a Bodies, frame: &Frame) -> Option<&'a Block>
+    ensures { option_copied result ≡ frame_block bodies.now.bodies frame.now }
+{
+    bodies
+        .bodies
+        .get(frame.function as usize)?
+        .block(frame.label)
+}
+
+/// Whether the frame stands at a call.
+fn stands_at_call(bodies: &Bodies, frame: &Frame) -> bool
+    ensures { IsTrue result ↔ StandsAtCall bodies.now.bodies frame.now }
+{
+    let Some(block) = block_of(bodies, frame) else {
+        return false;
+    };
+    frame.statement >= block.statements.len()
+        && matches!(&block.end.kind, TerminatorKind::Call(..))
+}
+
+/// How many frames there are, frame 0 not counted.
+pub fn frame_count(state: &State) -> u64
+    ensures count { result ≡ frames_behind state.now }
+    ensures bounded { result < 2 ^ 63 }
+{
+    state.behind.len() as u64
+}
+
+/// Whether the next step is a call that makes more frames than a run may have.
+pub fn is_full(bodies: &Bodies, state: &State) -> bool
+    ensures { IsTrue result ↔ IsFull bodies.now.bodies state.now }
+{
+    frame_count(state) >= FRAMES && stands_at_call(bodies, &state.running)
+}
+
+/// The answer goes to the place of the call at which the frame waits, and the frame goes on at the call's label.
+fn resume(bodies: &Bodies, frame: &mut Frame, answer: Tree) -> Result<(), Halt>
+    ensures resumes { Comes result (resumed bodies.now.bodies answer frame.old) (λ _. frame.new) }
+    ensures memory { result ≢ Err Halt.NoMemory }
+{
+    let block = block_of(bodies, frame).ok_or(Halt::Stuck)?;
+    let TerminatorKind::Call(place, _, _, next) = &block.end.kind else {
+        return Err(Halt::Stuck);
+    };
+    put(&mut frame.locals, place.local, answer)?;
+    go_to(frame, *next);
+    Ok(())
+}
+
+/// The new frame runs before the one that ran, which waits with these locals. For want of memory nothing changes.
+fn enter(state: &mut State, frame: Frame, locals: Vec<Tree>) -> Result<(), NoMemory>
+    ensures ok { OnOk result (state.new ≡ with_callee state.old frame locals.items) }
+    ensures err { OnErr result (state.new ≡ state.old) }
+{
+    state.behind.push(frame)?;
+    state.running.locals = locals;
+    let last = state.behind.len() - 1;
+    mem::swap(&mut state.running, &mut state.behind[last]);
+    Ok(())
+}
+
+/// The running frame has ended with the answer; `Some` with it where the run returns.
+fn leave(bodies: &Bodies, state: &mut State, answer: Tree) -> Result<Option<Tree>, Halt>
+    requires { AllNameWholes bodies.now.bodies }
+    ensures leaves { Comes result (come_back bodies.now.bodies answer (behind state.old)) (outcome_of_step state.new) }
+    ensures memory { result ≢ Err Halt.NoMemory }
+{
+    match state.behind.pop() {
+        Some(outside) if state.behind.is_empty() => {
+            state.running = outside;
+            Ok(Some(answer))
+        }
+        Some(mut caller) => {
+            resume(bodies, &mut caller, answer)?;
+            state.running = caller;
+            Ok(None)
+        }
+        None => Err(Halt::Stuck),
     }
 }
 
@@ -215,14 +305,12 @@ pub fn step_state(alloc: Global, bodies: &Bodies, state: &mut State) -> Result<O
     ensures steps { Comes result (try_step bodies.now.bodies state.old) (outcome_of_step state.new) }
     ensures unchanged { result ≡ Err Halt.NoMemory → state.new ≡ state.old }
 {
-    let Some(tree) = step_frame(alloc, bodies, &mut state.running)? else {
-        return Ok(None);
-    };
-    match state.behind.pop() {
-        Some(outside) if state.behind.is_empty() => {
-            state.running = outside;
-            Ok(Some(tree))
+    match step_frame(alloc, bodies, &mut state.running)? {
+        Next::Same => Ok(None),
+        Next::Callee { frame, locals } => {
+            enter(state, frame, locals)?;
+            Ok(None)
         }
-        _ => Err(Halt::Stuck),
+        Next::Answer(answer) => leave(bodies, state, answer),
     }
 }

@@ -1,7 +1,7 @@
 use Rattle.std.proofs.Common.{◌∙◌, refl, ap}
 use Rattle.std.proofs.lemmas.List.{get_or_past}
 use Rattle.logic_term.specs.Ty.{math_int}
-use Rattle.mir_machine.specs.Body.{kind_of}
+use Rattle.mir_ir.specs.Body.{kind_of}
 use Rattle.mir_machine.proofs.GivenTypes.{nth_ty-tys_of}
 use Rattle.mir_machine.proofs.running.kind_of.Goals as goal
 

@@ -1,0 +1,203 @@
+-- Which bodies are typed, and in which each local that is read is initialised. The rules are those of the Rust Reference:
+-- "Variables" and "Move and copy types" (what is initialised), "Operator expressions" (which operands an operator takes), "if
+-- expressions" (the condition is a bool) and "Call expressions" (the callee's parameters and answer).
+use Rattle.std.specs.Prelude.{◌≡◌, ℕ, ◌+◌, ◌≤◌, ◌==◌, nat_lt, Bool, true, false, ◌&&◌, cond, List, [], ◌∷◌, length, take, drop, Some, slice_get}
+use Rattle.logic_term.specs.declared.kinds.Label.{Label}
+use Rattle.logic_term.specs.declared.kinds.IntKind.{IntKind}
+use Rattle.logic_term.specs.declared.kinds.IntKind.TheVariants.{I8, I16, I32, I64, Isize, U8, U16, U32, U64, Usize}
+use Rattle.logic_term.specs.declared.kinds.BinaryOp.{BinaryOp}
+use Rattle.logic_term.specs.declared.kinds.BinaryOp.TheVariants.{Add, Sub, Mul, Div, Rem, Eq, Ne, Lt, Le, Gt, Ge}
+use Rattle.logic_term.specs.Range.{fits}
+use Rattle.logic_term.specs.Ty.{Ty, int, bool}
+use Rattle.mir_ir.specs.declared.place.Place.{Place}
+use Rattle.mir_ir.specs.declared.place.Lit.{Lit}
+use Rattle.mir_ir.specs.declared.place.Lit.TheVariants as lit
+use Rattle.mir_ir.specs.declared.place.Operand.{Operand}
+use Rattle.mir_ir.specs.declared.place.Operand.TheVariants.{Copy, Move, Const}
+use Rattle.mir_ir.specs.declared.statement.Rvalue.{Rvalue}
+use Rattle.mir_ir.specs.declared.statement.Rvalue.TheVariants.{Use, Binary, Neg, Not}
+use Rattle.mir_ir.specs.declared.statement.StatementKind.{StatementKind}
+use Rattle.mir_ir.specs.declared.statement.StatementKind.TheVariants.{Assign, Dead}
+use Rattle.mir_ir.specs.declared.statement.Statement.{Statement}
+use Rattle.mir_ir.specs.declared.terminator.FnId.TheVariants as fn_id
+use Rattle.mir_ir.specs.declared.terminator.Callee.{Callee}
+use Rattle.mir_ir.specs.declared.terminator.Callee.TheVariants.{Function}
+use Rattle.mir_ir.specs.declared.terminator.TerminatorKind.{TerminatorKind}
+use Rattle.mir_ir.specs.declared.terminator.TerminatorKind.TheVariants.{Goto, If, Call, Return}
+use Rattle.mir_ir.specs.declared.body.Block.{Block}
+use Rattle.mir_ir.specs.declared.body.Body.{Body}
+use Rattle.mir_ir.specs.Body.{block_in}
+
+-- ---- types
+
+-- so far places are whole locals
+abbrev pub PlaceHas : Body → Place → Ty → Type 0
+PlaceHas b p t = (p.path ≡ []) × (slice_get b.locals p.local ≡ Some t)
+
+abbrev pub LitHas : Lit → Ty → Type 0
+LitHas (lit.Int z k) t = (t ≡ int k) × (fits k z ≡ true)
+LitHas (lit.Bool x) t = t ≡ bool
+
+abbrev pub OperandHas : Body → Operand → Ty → Type 0
+OperandHas b (Copy p) t = PlaceHas b p t
+OperandHas b (Move p) t = PlaceHas b p t
+OperandHas b (Const l) t = LitHas l t
+
+-- one operand for each type
+abbrev pub OperandsHave : Body → List Operand → List Ty → Type 0
+OperandsHave b [] [] = Unit {0}
+OperandsHave b (o ∷ os) (t ∷ ts) = OperandHas b o t × OperandsHave b os ts
+OperandsHave b _ _ = ⊥
+
+-- the type of an operation on two integers of the kind
+abbrev pub operation_ty : BinaryOp → IntKind → Ty
+operation_ty Add k = int k
+operation_ty Sub k = int k
+operation_ty Mul k = int k
+operation_ty Div k = int k
+operation_ty Rem k = int k
+operation_ty Eq k = bool
+operation_ty Ne k = bool
+operation_ty Lt k = bool
+operation_ty Le k = bool
+operation_ty Gt k = bool
+operation_ty Ge k = bool
+
+abbrev pub IsEquality : BinaryOp → Type 0
+IsEquality Eq = Unit {0}
+IsEquality Ne = Unit {0}
+IsEquality _ = ⊥
+
+-- on two operands of the first type the operator gives the second: each takes two integers of one kind, and `==` and `!=` two
+-- truth values as well
+abbrev pub OperationHas : BinaryOp → Ty → Ty → Type 0
+OperationHas op (int k) t = t ≡ operation_ty op k
+OperationHas op bool t = IsEquality op × (t ≡ bool)
+OperationHas op _ t = ⊥
+
+abbrev pub IsSigned : IntKind → Type 0
+IsSigned I8 = Unit {0}
+IsSigned I16 = Unit {0}
+IsSigned I32 = Unit {0}
+IsSigned I64 = Unit {0}
+IsSigned Isize = Unit {0}
+IsSigned _ = ⊥
+
+abbrev pub RvalueHas : Body → Rvalue → Ty → Type 0
+RvalueHas b (Use o) t = OperandHas b o t
+RvalueHas b (Binary op x y) t = (s : Ty) × OperandHas b x s × OperandHas b y s × OperationHas op s t
+RvalueHas b (Neg o) t = (k : IntKind) × IsSigned k × OperandHas b o (int k) × (t ≡ int k)
+RvalueHas b (Not o) t = OperandHas b o bool × (t ≡ bool)
+
+abbrev pub StatementIsTyped : Body → StatementKind → Type 0
+StatementIsTyped b (Assign p r) = (t : Ty) × PlaceHas b p t × RvalueHas b r t
+StatementIsTyped b (Dead x) = (t : Ty) × (slice_get b.locals x ≡ Some t)
+
+abbrev pub HasBlock : Body → Label → Type 0
+HasBlock b l = (k : Block) × (block_in b.blocks l ≡ Some k)
+
+-- the callee is a body of the list, with one operand for each parameter, and the place has the type of its answer
+abbrev pub CallIsTyped : List Body → Body → Place → Callee → List Operand → Type 0
+CallIsTyped bodies b p (Function (fn_id.Body n)) os =
+    (c : Body) × (t : Ty) × (slice_get bodies n ≡ Some c) × OperandsHave b os (take c.params (drop 1 c.locals)) × (slice_get c.locals 0 ≡ Some t) × PlaceHas b p t
+
+-- each label that is named has a block
+abbrev pub EndIsTyped : List Body → Body → TerminatorKind → Type 0
+EndIsTyped bodies b (Goto l) = HasBlock b l
+EndIsTyped bodies b (If o on_true on_false) = OperandHas b o bool × HasBlock b on_true × HasBlock b on_false
+EndIsTyped bodies b (Call p callee os l) = CallIsTyped bodies b p callee os × HasBlock b l
+EndIsTyped bodies b Return = Unit {0}
+
+-- b is typed among these bodies
+pub record IsTyped (bodies : List Body) (b : Body) : Type 0 where
+  pub named : length b.names ≡ length b.locals
+  -- the answer and the parameters are locals
+  pub answers : b.params + 1 ≤ length b.locals
+  pub begins : HasBlock b b.entry
+  pub statements : (l : Label) (k : Block) (i : ℕ) (st : Statement) → block_in b.blocks l ≡ Some k → slice_get k.statements i ≡ Some st → StatementIsTyped b st.kind
+  pub ends : (l : Label) (k : Block) → block_in b.blocks l ≡ Some k → EndIsTyped bodies b k.end.kind
+
+-- ---- initialised locals
+
+-- a set of locals
+abbrev pub Locals : Type 0
+Locals = ℕ → Bool
+
+abbrev pub without : ℕ → Locals → Locals
+without x set y = cond (y == x) false (set y)
+
+abbrev pub with : ℕ → Locals → Locals
+with x set y = cond (y == x) true (set y)
+
+-- the locals that the operand reads are in the set
+abbrev pub CanTake : Locals → Operand → Type 0
+CanTake set (Copy p) = set p.local ≡ true
+CanTake set (Move p) = set p.local ≡ true
+CanTake set (Const l) = Unit {0}
+
+abbrev pub taken : Operand → Locals → Locals
+taken (Copy p) set = set
+taken (Move p) set = without p.local set
+taken (Const l) set = set
+
+-- the operands one after another, from the left
+abbrev pub CanTakeAll : Locals → List Operand → Type 0
+CanTakeAll set [] = Unit {0}
+CanTakeAll set (o ∷ os) = CanTake set o × CanTakeAll (taken o set) os
+
+abbrev pub all_taken : List Operand → Locals → Locals
+all_taken [] set = set
+all_taken (o ∷ os) set = all_taken os (taken o set)
+
+abbrev pub CanEvaluate : Locals → Rvalue → Type 0
+CanEvaluate set (Use o) = CanTake set o
+CanEvaluate set (Binary op x y) = CanTake set x × CanTake (taken x set) y
+CanEvaluate set (Neg o) = CanTake set o
+CanEvaluate set (Not o) = CanTake set o
+
+abbrev pub evaluated : Rvalue → Locals → Locals
+evaluated (Use o) set = taken o set
+evaluated (Binary op x y) set = taken y (taken x set)
+evaluated (Neg o) set = taken o set
+evaluated (Not o) set = taken o set
+
+abbrev pub CanRun : Locals → StatementKind → Type 0
+CanRun set (Assign p r) = CanEvaluate set r
+CanRun set (Dead x) = Unit {0}
+
+abbrev pub run : StatementKind → Locals → Locals
+run (Assign p r) set = with p.local (evaluated r set)
+run (Dead x) set = without x set
+
+abbrev pub CanEnd : Locals → TerminatorKind → Type 0
+CanEnd set (Goto l) = Unit {0}
+CanEnd set (If o on_true on_false) = CanTake set o
+CanEnd set (Call p callee os l) = CanTakeAll set os
+CanEnd set Return = set 0 ≡ true
+
+abbrev pub Within : Locals → Locals → Type 0
+Within small large = (x : ℕ) → small x ≡ true → large x ≡ true
+
+-- along each edge from a block's end: what is initialised where the next block starts is so at the end; after a call its place
+-- is initialised too
+abbrev pub Carries : (Label → Locals) → Locals → TerminatorKind → Type 0
+Carries starts set (Goto l) = Within (starts l) set
+Carries starts set (If o on_true on_false) = Within (starts on_true) (taken o set) × Within (starts on_false) (taken o set)
+Carries starts set (Call p callee os l) = Within (starts l) (with p.local (all_taken os set))
+Carries starts set Return = Unit {0}
+
+-- at entry exactly the parameters are initialised
+abbrev pub parameters : Body → Locals
+parameters b x = nat_lt 0 x && nat_lt x (b.params + 1)
+
+-- some sets, one before each statement and each block's end, have only locals that are surely initialised there
+pub record IsInitialised (b : Body) : Type 0 where
+  pub at : Label → ℕ → Locals
+  pub entry : Within (at b.entry 0) (parameters b)
+  pub statements : (l : Label) (k : Block) (i : ℕ) (st : Statement) → block_in b.blocks l ≡ Some k → slice_get k.statements i ≡ Some st → CanRun (at l i) st.kind × Within (at l (i + 1)) (run st.kind (at l i))
+  pub ends : (l : Label) (k : Block) → block_in b.blocks l ≡ Some k → CanEnd (at l (length k.statements)) k.end.kind
+  pub edges : (l : Label) (k : Block) → block_in b.blocks l ≡ Some k → Carries (λ l'. at l' 0) (at l (length k.statements)) k.end.kind
+
+-- each body is both
+abbrev pub AreSound : List Body → Type 0
+AreSound bodies = (f : ℕ) (b : Body) → slice_get bodies f ≡ Some b → IsTyped bodies b × IsInitialised b

@@ -1,0 +1,68 @@
+use crate::statement::Statement;
+use crate::terminator::Terminator;
+use logic_term::{Label, Term, Ty};
+use text_core::{Items, Name, Span, Text};
+
+/// The head of a loop: the loop's invariants, over the names of the locals, and the span of each.
+#[derive(Drop)]
+pub struct Head {
+    pub invariants: Items<Term>,
+    pub spans: Items<Span>,
+}
+
+#[derive(Drop)]
+pub struct Block {
+    /// `Some` exactly where the block is the head of a loop.
+    pub head: Option<Head>,
+    /// The heads of the loops around the block, the outermost first. Where the block is a head, its own label is the last.
+    pub nest: Items<Label>,
+    pub statements: Items<Statement>,
+    pub end: Terminator,
+}
+
+/// A place in the code of a body: a block, and the number of a statement in it, from 0. One past the last statement is the
+/// block's end.
+#[derive(Clone, Copy, Debug, PartialEq, Eq)]
+pub struct Point {
+    pub label: Label,
+    pub statement: u32,
+}
+
+/// The code of a function. Local 0 is the answer; then come the parameters, then all others. There is one name for each
+/// local.
+#[derive(Drop)]
+pub struct Body {
+    /// The function, as the report spells it.
+    pub owner: Text,
+    pub params: u32,
+    pub locals: Items<Ty>,
+    pub names: Items<Name>,
+    pub entry: Label,
+    /// The first block of a label counts.
+    pub blocks: Items<(Label, Block)>,
+    pub span: Span,
+}
+
+impl Body {
+    ghost use Rattle.std.specs.Prelude.{◌≡◌};
+    ghost use Rattle.std.specs.Option.{option_copied};
+    ghost use Rattle.mir_ir.specs.Body.{block_in};
+
+    /// The block of a label; `None` exactly where the body has none.
+    pub fn block(&self, label: Label) -> Option<&Block>
+        ensures { option_copied result ≡ block_in self.now.blocks label }
+    {
+        for entry in self.blocks.as_slice() {
+            if entry.0.0 == label.0 {
+                return Some(&entry.1);
+            }
+        }
+        None
+    }
+}
+
+/// The bodies of a program.
+#[derive(Drop)]
+pub struct Bodies {
+    pub bodies: Items<Body>,
+}

@@ -1,0 +1,14 @@
+//! The code of functions as the machine runs it: places, statements, blocks and bodies.
+#![tactic(auto)]
+
+mod body;
+mod place;
+mod statement;
+mod terminator;
+#[cfg(test)]
+mod tests;
+
+pub use body::{Block, Bodies, Body, Head, Point};
+pub use place::{Lit, Operand, Place, Proj};
+pub use statement::{Rvalue, Statement, StatementKind};
+pub use terminator::{Callee, FnId, Terminator, TerminatorKind};

@@ -1,0 +1,27 @@
+use crate::place::{Operand, Place};
+use logic_term::BinaryOp;
+use text_core::Span;
+
+/// The right side of an assignment.
+#[derive(Drop)]
+pub enum Rvalue {
+    Use(Operand),
+    Binary(BinaryOp, Operand, Operand),
+    /// `-x` of a signed integer.
+    Neg(Operand),
+    /// `!x` of a truth value.
+    Not(Operand),
+}
+
+#[derive(Drop)]
+pub enum StatementKind {
+    Assign(Place, Rvalue),
+    /// The local, by its number, holds nothing from here on.
+    Dead(u32),
+}
+
+#[derive(Drop)]
+pub struct Statement {
+    pub span: Span,
+    pub kind: StatementKind,
+}

@@ -1,0 +1,33 @@
+use crate::place::{Operand, Place};
+use logic_term::Label;
+use text_core::{Items, Span};
+
+/// A function that can be called.
+#[derive(Clone, Copy, Debug, PartialEq, Eq)]
+pub enum FnId {
+    /// A place in the list of bodies, from 0.
+    Body(u32),
+}
+
+/// What a call names.
+#[derive(Clone, Copy, Debug, PartialEq, Eq)]
+pub enum Callee {
+    Function(FnId),
+}
+
+#[derive(Drop)]
+pub enum TerminatorKind {
+    Goto(Label),
+    /// To the first label where the operand is true, else to the second.
+    If(Operand, Label, Label),
+    /// A call with these arguments. Its answer goes to the place, and the body goes on at the label.
+    Call(Place, Callee, Items<Operand>, Label),
+    Return,
+}
+
+/// How a block ends.
+#[derive(Drop)]
+pub struct Terminator {
+    pub span: Span,
+    pub kind: TerminatorKind,
+}
