@@ -6,6 +6,8 @@ use Rattle.io_edge.specs.Shelf.{Files}
 use Rattle.proof_text.specs.declared.proof.Proof.{Proof}
 use Rattle.proof_text.specs.declared.proof.ProofFile.{ProofFile}
 use Rattle.proof_text.specs.ProofTextFile.{SpellsProofs, IsFirstBadLine}
+use Rattle.proof_text.proofs.FormBytes.{read_bad}
+use Rattle.proof_text.proofs.FormLaw.{none_form}
 use Rattle.creusot_cli.specs.declared.rs_syntax.form.Function.{Function}
 use Rattle.creusot_cli.specs.declared.report_out.Verdict.{Verdict}
 use Rattle.creusot_cli.specs.Call.{source_bound, proofs_bound, AreProofs, HeldAs, IsLong, HasFunction, IsRefused, Answers, AnswersWords, status_of, row, IsOfRow}
@@ -42,7 +44,7 @@ named_proofs shelf o ps name (AreProofs.given {name = other} {file = file} bytes
     record { file = file; bytes = bytes; table = table; held = subst (λ n. HeldAs shelf n bytes) same held; short = short; spelled = spelled }
 
 spelled_is_not_bad : (table : List (List ℕ)) (bytes : List ℕ) (file : ProofFile) (line : ℕ) → SpellsProofs table bytes file → IsFirstBadLine bytes line → ⊥
-spelled_is_not_bad table bytes file line spelled bad = absurd (let e : Ok spelled.0 ≡ Err line = sym spelled.1 ∙ bad in cc)
+spelled_is_not_bad table bytes file line spelled bad = none_form table bytes line file (read_bad bytes line bad) spelled
 
 -- ---- the rows
 

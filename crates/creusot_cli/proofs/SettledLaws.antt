@@ -7,6 +7,8 @@ use Rattle.mir_machine.specs.Good.{Each}
 use Rattle.proof_kernel.specs.declared.step.Step.{Step}
 use Rattle.proof_kernel.specs.Derivation.{IsProof}
 use Rattle.proof_kernel.specs.Progress.{Progress}
+use Rattle.proof_kernel.specs.Accepts as accepts
+use Rattle.proof_kernel.proofs.AcceptLaw.{accepts_proofs}
 use Rattle.proof_kernel.proofs.Once.{applies_once}
 use Rattle.proof_text.specs.declared.proof.NumberedStep.{NumberedStep}
 use Rattle.proof_text.specs.declared.proof.Proof.{Proof}
@@ -55,8 +57,23 @@ refused_is_no_proof o steps «end» line (IsRefusedAt.at_step {n = n} {k = k} do
 refused_is_no_proof o steps «end» line (IsRefusedAt.at_end {k = k} runs left) accepted =
     left (ap (λ (p : Progress). p.left) (runs_once steps (begun o) k accepted.last runs accepted.runs) ∙ accepted.closed)
 
+-- steps that are numbered by their lines do what the steps do
+with_lines : (ns : List NumberedStep) (k l : Progress) → accepts.Runs k (map (λ n. n.step) ns) l → Runs k ns l
+with_lines [] k l r = subst (λ p. Runs k [] p) (sym (ends k l r)) Runs.none
+  where
+    ends : (k l : Progress) → accepts.Runs k [] l → l ≡ k
+    ends k l accepts.none = refl
+with_lines (n ∷ ns) k l r =
+    let f = starts k l n.step (map (λ n. n.step) ns) r in
+    Runs.more f.1 (with_lines ns f.0 l f.2)
+  where
+    starts : (k l : Progress) (step : Step) (steps : List Step) → accepts.Runs k (step ∷ steps) l → (m : Progress) × Does k step m × accepts.Runs m steps l
+    starts k l step steps (accepts.more {m = m} does rest) = (m, does, rest)
+
 proof_is_accepted : (o : Obligation) (steps : List NumberedStep) → IsProof o (map (λ n. n.step) steps) → IsAccepted o steps
-proof_is_accepted o steps proof = ?
+proof_is_accepted o steps proof =
+    let a = (accepts_proofs o (map (λ n. n.step) steps)).1 proof in
+    record { last = a.last; runs = with_lines steps (begun o) a.last a.runs; closed = a.closed }
 
 -- ---- obligations
 

@@ -6,9 +6,8 @@ use Rattle.logic_term.specs.declared.kinds.IntKind.TheVariants.{I32}
 use Rattle.logic_term.specs.declared.obligation.Obligation.{Obligation}
 use Rattle.logic_term.specs.Sort.{Declarations}
 use Rattle.proof_kernel.specs.declared.step.Step.{Step}
-use Rattle.proof_kernel.specs.Kernel.{Applies, cites_above}
+pub use Rattle.proof_kernel.specs.Accepts.{Does, begun}
 use Rattle.proof_kernel.specs.Progress.{Progress}
-use Rattle.proof_kernel.specs.Sequent.{sequent_of}
 use Rattle.proof_text.specs.declared.proof.NumberedStep.{NumberedStep}
 use Rattle.proof_text.specs.declared.proof.Proof.{Proof}
 use Rattle.creusot_cli.specs.declared.report_out.Reason.{Reason}
@@ -25,19 +24,10 @@ no_types = λ d n. None
 
 -- ---- one proof
 
--- the step may stand there, and makes this of the proof under way
-pub record Does (before : Progress) (step : Step) (after : Progress) : Type 0 where
-  pub applies : Applies before step after
-  pub cites : cites_above before.step step ≡ true
-
 -- the steps lead from the first to the second
 pub data Runs : Progress → List NumberedStep → Progress → Type 0 where
   none : {k : Progress} → Runs k [] k
   more : {k m l : Progress} {n : NumberedStep} {ns : List NumberedStep} → Does k n.step m → Runs m ns l → Runs k (n ∷ ns) l
-
--- the proof of the obligation before its first step
-abbrev pub begun : Obligation → Progress
-begun o = record { step = 1; left = sequent_of o ∷ [] }
 
 -- the kernel accepts the steps, and no sequent is left
 pub record IsAccepted (o : Obligation) (steps : List NumberedStep) : Type 0 where
