@@ -1,11 +1,11 @@
 -- A line is passed over exactly where it is empty or begins with `#`.
-use Rattle.std.proofs.Common.{◌≡◌, ℕ, ◌==◌, ◌||◌, Bool, true, false, cond, List, [], ◌∷◌, length, Option, Some, None, ◌⊎◌, inl, inr, refl, sym, ◌∙◌, ap, arith, codes}
+use Rattle.std.proofs.Common.{◌≡◌, ℕ, ◌==◌, ◌||◌, Bool, true, false, cond, List, [], ◌∷◌, length, Option, Some, None, refl, ap, arith, codes}
 use Rattle.std.specs.List.{slice_split}
 use Rattle.std.specs.Option.{option_map}
 use Rattle.std.specs.Str.{bytes_eq}
 use Rattle.std.proofs.lemmas.Bool.Decides.{nat_tests}
 use Rattle.proof_text.specs.ProofTextWords.{◌>>=◌, number_of}
-use Rattle.proof_text.specs.ProofTextLines.{Said, Line, passed, heading, step, «end», none_left, identifier_of, heading_of, step_of, line_by_head, line_of_words, ascii_of, line_of_text, line_of}
+use Rattle.proof_text.specs.ProofTextLines.{Said, passed, heading, step, «end», none_left, identifier_of, heading_of, step_of, line_by_head, line_of_words, ascii_of, line_of_text, line_of}
 use Rattle.proof_text.specs.ProofFileForm.{IsComment}
 
 or_right : (a b : Bool) → b ≡ true → (a || b) ≡ true

@@ -1,9 +1,9 @@
 -- The format and the first bad line of a text, read line by line.
-use Rattle.std.proofs.Common.{◌≡◌, ◌↔◌, ℕ, zero, suc, ◌+◌, ◌<◌, ◌≤◌, ◌==◌, ◌||◌, Bool, true, false, cond, List, [], ◌∷◌, ◌++◌, length, Option, Some, None, Result, Ok, Err, ◌⊎◌, inl, inr, refl, sym, ◌∙◌, ap, subst, arith, add_comm, append_assoc, true≢false}
+use Rattle.std.proofs.Common.{◌≡◌, ℕ, suc, ◌+◌, ◌==◌, ◌||◌, Bool, true, false, cond, List, [], ◌∷◌, ◌++◌, length, Option, Some, None, Result, Ok, Err, refl, sym, ◌∙◌, ap, subst, arith, add_comm, append_assoc, true≢false}
 use Rattle.std.specs.List.{list_any, slice_split, onto_first}
 use Rattle.std.proofs.lemmas.List.{append-nil}
 use Rattle.std.proofs.lemmas.Bool.Decides.{nat_tests}
-use Rattle.proof_text.specs.ProofFileForm.{SaidProof, HasForm, HasNoFeed, AreLines, ended, IsFileOf, BeginsFile, IsFirstBadLine}
+use Rattle.proof_text.specs.ProofFileForm.{SaidProof, HasNoFeed, AreLines, ended, IsFileOf, BeginsFile, IsFirstBadLine}
 use Rattle.proof_text.specs.ProofTextFile.{State, start, between, within, next_state, or_bad, and_then, state_after_all, proofs_at_end, proofs_of_pieces, proofs_of}
 use Rattle.proof_text.proofs.EndLemmas.{last_apart}
 use Rattle.proof_text.proofs.FormRuns.{run_append, form_run}

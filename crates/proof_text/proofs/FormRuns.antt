@@ -1,13 +1,11 @@
 -- The lines of the format, read one by one.
-use Rattle.std.proofs.Common.{◌≡◌, ℕ, zero, suc, ◌+◌, ◌<◌, ◌≤◌, ◌==◌, ◌||◌, ◌&&◌, Bool, true, false, cond, List, [], ◌∷◌, ◌++◌, length, codes, Option, Some, None, Result, Ok, Err, ◌⊎◌, inl, inr, refl, sym, ◌∙◌, ap, subst, arith, add-one, add-zero, add_assoc, append_assoc, true≢false}
-use Rattle.std.specs.List.{list_any}
+use Rattle.std.proofs.Common.{◌≡◌, ℕ, suc, ◌+◌, ◌==◌, ◌||◌, ◌&&◌, Bool, true, false, cond, List, [], ◌∷◌, ◌++◌, length, codes, Option, Some, None, Ok, refl, sym, ◌∙◌, ap, subst, arith, add-zero, append_assoc}
 use Rattle.std.specs.Str.{bytes_eq}
 use Rattle.std.proofs.lemmas.List.{append-nil}
 use Rattle.std.proofs.lemmas.Bool.Decides.{nat_tests}
 use Rattle.std.proofs.lemmas.Slice.Eq.{bytes_eq-Decides}
 use Rattle.proof_text.specs.ProofTextWords.{◌>>=◌}
-use Rattle.proof_text.specs.ProofTextLines.{Said, Line, passed, heading, step, «end», line_of}
-use Rattle.proof_text.specs.ProofFileForm.{SaidStep, SaidProof, IsComment, StepLines, ProofLines, ProofsLines, IsOther, NoTwoAlike, HasForm, AreLines, BeginsFile}
+use Rattle.proof_text.specs.ProofFileForm.{SaidStep, SaidProof, StepLines, ProofLines, ProofsLines, IsOther, NoTwoAlike, HasForm}
 use Rattle.proof_text.specs.ProofTextFile.{State, start, between, within, is_proved, state_after, next_state, or_bad, and_then, state_after_all}
 use Rattle.proof_text.proofs.CommentLaw.{comment_passed}
 
