@@ -1,5 +1,5 @@
 -- What a source spells is in bounds.
-use Rattle.std.proofs.Common.{◌≡◌, refl, subst, ℕ, ◌+◌, ◌<◌, ◌≤◌, ◌^◌, ℤ, pos, true, List, [], ◌∷◌, length, Some, slice_get, arith}
+use Rattle.std.proofs.Common.{◌≡◌, refl, subst, ℕ, ◌<◌, ◌^◌, pos, true, List, length, arith}
 use Rattle.std.proofs.lemmas.Option.{slice_get_within}
 use Rattle.logic_term.specs.declared.kinds.IntKind.TheVariants.{I32}
 use Rattle.logic_term.specs.Range.{fits}
@@ -14,7 +14,7 @@ use Rattle.creusot_cli.specs.declared.rs_syntax.form.ChainStep.{ChainStep}
 use Rattle.creusot_cli.specs.declared.rs_syntax.form.Chain.{Chain}
 use Rattle.creusot_cli.specs.declared.rs_syntax.form.Function.{Function}
 use Rattle.creusot_cli.specs.MirBuild.{AtomFits, ItemFits, StepsFit, SumStepsFit, SumFits, ClausesFit, IsInBounds}
-use Rattle.creusot_cli.specs.SourceForm.{SpellsItem, number, param, answer, SpellsSteps, SpellsSum, sum, SpellsClause, clause, SpellsClauses, none, more, SpellsAtom, SpellsChainSteps, SpellsChain, chain, SpellsFunction, function, Spells}
+use Rattle.creusot_cli.specs.SourceForm.{SpellsItem, SpellsSteps, SpellsSum, SpellsClause, SpellsClauses, SpellsAtom, SpellsChainSteps, SpellsChain, SpellsFunction, Spells}
 
 module _ (bytes : List ℕ) (params : List (List ℕ)) where
   item_fits : {kind : ClauseKind} {ts : List Token} {i : Item} → SpellsItem bytes params kind ts i → ItemFits (length params) i

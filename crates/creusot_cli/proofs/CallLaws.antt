@@ -1,10 +1,10 @@
 -- What a call answers, and that what it lists is good.
-use Rattle.std.proofs.Common.{◌≡◌, ◌≢◌, ◌∙◌, ◌⊎◌, ◌↔◌, inl, inr, refl, sym, ap, subst, ℕ, ◌+◌, ◌<◌, ◌==◌, Bool, false, List, [], ◌∷◌, ◌++◌, length, Option, None, Some, Err, arith}
+use Rattle.std.proofs.Common.{◌≡◌, ◌≢◌, ◌∙◌, ◌⊎◌, ◌↔◌, inl, inr, refl, sym, ap, subst, ℕ, ◌<◌, ◌≤◌, ◌==◌, Bool, false, List, [], ◌∷◌, ◌++◌, length, Option, None, Some, arith}
 use Rattle.std.specs.Io.KnownBytes.{Appends}
 use Rattle.text_core.specs.declared.span.Span.{Span}
 use Rattle.io_edge.specs.Shelf.{Files}
 use Rattle.logic_term.specs.declared.obligation.Obligation.{Obligation}
-use Rattle.mir_machine.specs.Good.{Each, Good}
+use Rattle.mir_machine.specs.Good.{Each}
 use Rattle.proof_text.specs.declared.proof.Proof.{Proof}
 use Rattle.proof_text.specs.declared.proof.ProofFile.{ProofFile}
 use Rattle.creusot_cli.specs.declared.report_out.LeftItem.{LeftItem}
@@ -17,13 +17,12 @@ use Rattle.creusot_cli.specs.declared.verify.files.ReadFile.TheVariants.{TooLong
 use Rattle.creusot_cli.specs.declared.verify.plan.Plan.{Plan}
 use Rattle.creusot_cli.specs.declared.verify.plan.Given.{Given}
 use Rattle.creusot_cli.specs.declared.verify.plan.Given.TheVariants.{Proofs, Refused}
-use Rattle.creusot_cli.specs.Call.{source_bound, HasDerivation, GivesProofs, AreProofs, HeldAs, HasFunction, IsRefused, Answers, AnswersWords, status_of, Lists, Reports, ReportsWords, IsRead}
-use Rattle.creusot_cli.specs.MirBuild.{body_of, contract_of}
+use Rattle.creusot_cli.specs.Call.{source_bound, HasDerivation, GivesProofs, AreProofs, HeldAs, HasFunction, Answers, AnswersWords, status_of, Lists, Reports, ReportsWords, IsRead}
 use Rattle.creusot_cli.specs.Report.{report_of, verified_line, function_line, open_line, summary_line, source_error_line, source_limit_line, proof_limit_line}
 use Rattle.creusot_cli.specs.SourceForm.{Spells}
 use Rattle.creusot_cli.specs.SourceRefusal.{IsRefusedAt}
 use Rattle.creusot_cli.specs.SourceTokens.{AreTokens}
-use Rattle.creusot_cli.specs.Verdict.{no_types, IsVerdict, obligations_for}
+use Rattle.creusot_cli.specs.Verdict.{IsVerdict, obligations_for}
 use Rattle.creusot_cli.specs.Words.{Asked}
 use Rattle.creusot_cli.proofs.SettledLaws.{left_exactly}
 use Rattle.creusot_cli.proofs.Verified.{verified_is_good}
@@ -85,7 +84,7 @@ none_left (x ∷ xs) s e z =
     let one : s ≡ 1 = e ∙ ap (λ (b : Bool). if b then 0 else 1) (some_left x xs) in
     absurd (omega arith)
 
-zero_at : (left : List LeftItem) → left ≡ [] → (if length left == 0 then 0 else 1) ≡ 0
+zero_at : (left : List LeftItem) → left ≡ [] → ◌≡◌ {A = ℕ} (if length left == 0 then 0 else 1) 0
 zero_at [] e = refl
 zero_at (x ∷ xs) e = absurd cc
 

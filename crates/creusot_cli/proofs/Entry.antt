@@ -1,27 +1,26 @@
 -- The arguments of a proper call of a function of integers, and the environment at its entry.
-use Rattle.std.proofs.Common.{◌≡◌, ◌≢◌, ◌∙◌, ◌⊎◌, inl, inr, refl, sym, ap, ap₂, subst, ℕ, zero, suc, ◌+◌, ◌-◌, ◌^◌, ◌<◌, ◌≤◌, ℤ, Bool, true, false, List, [], ◌∷◌, ◌++◌, map, length, replicate, Option, Some, None, slice_get, arith, add-one}
+use Rattle.std.proofs.Common.{◌≡◌, ◌∙◌, ◌⊎◌, inl, inr, refl, sym, ap, ap₂, ℕ, zero, suc, ◌+◌, ℤ, true, false, List, [], ◌∷◌, ◌++◌, map, length, replicate, Some, slice_get, arith}
 use Rattle.text_core.specs.declared.name.Name.{Name}
 use Rattle.logic_term.specs.declared.kinds.IntKind.{IntKind}
 use Rattle.logic_term.specs.Range.{fits}
-use Rattle.logic_term.specs.Sort.{Declarations, HasSort, instance, instances, of_int}
-use Rattle.logic_term.specs.Ty.{Ty, Tys, int, bool, tuple, adt, boxed, shared, unique, closure, no_tys, and_ty}
-use Rattle.logic_term.specs.TyView.{tys_of}
-use Rattle.logic_term.specs.Value.{Value, Values, Number, no_values, and_value, nothing}
-use Rattle.logic_term.specs.Term.{Term, forall, implies}
+use Rattle.logic_term.specs.Sort.{Declarations, HasSort}
+use Rattle.logic_term.specs.Ty.{Ty, Tys, int, no_tys, and_ty}
+use Rattle.logic_term.specs.Value.{Values, Number, no_values, and_value}
+use Rattle.logic_term.specs.Term.{Term}
 use Rattle.logic_term.specs.Meaning.{Structure, Env, with_value, Holds}
 use Rattle.logic_term.proofs.Alike.{yes_alike}
 use Rattle.logic_term.proofs.Coincide.{with_same, with_other}
-use Rattle.logic_term.proofs.FreeLaw.{coincide_free, same_name, same_test}
+use Rattle.logic_term.proofs.FreeLaw.{coincide_free, same_name}
 use Rattle.logic_term.proofs.Truth.{holds_forall, holds_implies}
 use Rattle.mir_machine.specs.declared.spot.Spot.{Spot}
-use Rattle.mir_machine.specs.Tree.{Tree, Trees, Int, Gone, no_trees, and_tree, trees_of}
+use Rattle.mir_machine.specs.Tree.{Trees, Int, Gone, and_tree, trees_of}
 use Rattle.mir_machine.specs.Frame.{State}
 use Rattle.mir_machine.specs.Typed.{Met, Typed, AreTyped, is_int, is_truth, is_tuple, is_adt, is_closure, is_boxed, is_shared, is_unique, none_typed, more_typed}
-use Rattle.mir_machine.specs.Reads.{View, Plain, Reads, ReadsAll, of_int as reads_int, of_none, of_more}
-use Rattle.mir_machine.specs.Good.{Each, AllHold, named, Supply, not_lent}
+use Rattle.mir_machine.specs.Reads.{Plain, ReadsAll, of_int as reads_int, of_none, of_more}
+use Rattle.mir_machine.specs.Good.{Each, named, Supply, not_lent}
 use Rattle.creusot_cli.specs.MirBuild.{local_name, names_from}
 use Rattle.creusot_cli.specs.WpGen.{assuming, for_all}
-use Rattle.creusot_cli.proofs.SimulationSteps.{T, Shows, Agrees, same_or_not}
+use Rattle.creusot_cli.proofs.SimulationSteps.{T, Agrees, same_or_not}
 
 -- ---- arguments that are integers
 

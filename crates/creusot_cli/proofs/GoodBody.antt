@@ -1,13 +1,11 @@
 -- Where all obligations of a body of one block over integers are true, its function is good.
-use Rattle.std.proofs.Common.{◌≡◌, ◌∙◌, ◌⊎◌, inl, inr, refl, sym, ap, subst, ℕ, zero, suc, ◌+◌, ◌-◌, ◌<◌, ◌≤◌, ℤ, true, false, List, [], ◌∷◌, ◌++◌, map, length, take, drop, replicate, Option, Some, None, slice_get, arith, length-append}
+use Rattle.std.proofs.Common.{◌≡◌, ◌∙◌, refl, sym, ap, subst, ℕ, zero, suc, ◌+◌, ◌-◌, ◌<◌, ◌≤◌, ℤ, true, false, List, [], ◌∷◌, length, take, drop, replicate, Some, slice_get, arith, length-append}
 use Rattle.text_core.specs.declared.name.Name.{Name}
 use Rattle.text_core.specs.declared.span.Span.{Span}
 use Rattle.logic_term.specs.declared.kinds.IntKind.{IntKind}
 use Rattle.logic_term.specs.declared.obligation.Contract.{Contract}
-use Rattle.logic_term.specs.declared.obligation.Obligation.{Obligation}
-use Rattle.logic_term.specs.Range.{fits}
 use Rattle.logic_term.specs.Sort.{Declarations, HasSort, instance, instances, nth_ty, of_int}
-use Rattle.logic_term.specs.Ty.{Ty, Tys, int, no_tys, and_ty}
+use Rattle.logic_term.specs.Ty.{Tys, int, no_tys, and_ty}
 use Rattle.logic_term.specs.TyView.{tys_of}
 use Rattle.logic_term.specs.Value.{Value, Number, nothing}
 use Rattle.logic_term.specs.Term.{Term}
@@ -21,20 +19,20 @@ use Rattle.mir_ir.specs.declared.statement.Statement.{Statement}
 use Rattle.mir_ir.specs.declared.terminator.TerminatorKind.TheVariants.{Return}
 use Rattle.mir_ir.specs.declared.body.Block.{Block}
 use Rattle.mir_ir.specs.declared.body.Body.{Body}
-use Rattle.mir_machine.specs.Tree.{Tree, Int, Gone, trees_of}
-use Rattle.mir_machine.specs.Frame.{Frame, State}
+use Rattle.mir_machine.specs.Tree.{Int, Gone, trees_of}
+use Rattle.mir_machine.specs.Frame.{State}
 use Rattle.mir_ir.specs.Body.{param_tys, answer_ty, block_in, place_ty, kind_in}
-use Rattle.mir_machine.specs.Step.{Outcome, Running, Returned, Panicked, Stuck, after, entered, outside}
-use Rattle.mir_machine.specs.Typed.{Met, Typed, AreTyped, is_int}
-use Rattle.mir_machine.specs.Reads.{Plain, Reads, ReadsAll, of_int as reads_int}
-use Rattle.mir_machine.specs.Good.{Each, IsProper, IsFine, Good, MeetsRequires, MeetsEnsures, Supply, Supplies, named, called, here, not_lent}
+use Rattle.mir_machine.specs.Step.{Outcome, Running, Returned, Panicked, Stuck, after, outside}
+use Rattle.mir_machine.specs.Typed.{Met, Typed, is_int}
+use Rattle.mir_machine.specs.Reads.{Plain, Reads, of_int as reads_int}
+use Rattle.mir_machine.specs.Good.{Each, IsProper, IsFine, Good, MeetsRequires, MeetsEnsures, Supply, named, called, here, not_lent}
 use Rattle.mir_ir.specs.WellFormed.{AreSound}
 use Rattle.mir_machine.proofs.NeverStuck.{never_stuck, sound_wholes}
 use Rattle.proof_kernel.specs.Sequent.{IsTrueObligation}
 use Rattle.creusot_cli.specs.MirBuild.{local_name, names_from}
-use Rattle.creusot_cli.specs.WpGen.{Goal, goals_from, goals_at_return, assuming, for_all, at_entry, numbered, obligations_of}
+use Rattle.creusot_cli.specs.WpGen.{Goal, goals_from, goals_at_return, assuming, at_entry, numbered, obligations_of}
 use Rattle.creusot_cli.proofs.Entry.{AllFit, integers, numbers, ints, Integers, typed_integers, reads_integers, named_at, entry_agrees, AllSorted, for_all_holds, assuming_holds}
-use Rattle.creusot_cli.proofs.SimulationSteps.{T, IsInteger, GoalsHold, IsBuilt, target, place_of}
+use Rattle.creusot_cli.proofs.SimulationSteps.{T, GoalsHold, IsBuilt, target, place_of}
 use Rattle.creusot_cli.proofs.Simulation.{OneBlock, OutcomeFine, Answering, run_fine}
 
 -- the names that are free in the term are those of the answer and of so many parameters

@@ -1,5 +1,5 @@
 -- Reading one clause, one step or one parameter after the other, as loops do.
-use Rattle.std.proofs.Common.{◌≡◌, ℕ, zero, suc, ◌-◌, ◌+◌, ◌<◌, ◌≤◌, Bool, true, false, cond, List, [], ◌∷◌, ◌++◌, length, drop, length-drop, Option, Some, None, Result, Ok, Err, refl, sym, ap, subst, ◌∙◌, arith}
+use Rattle.std.proofs.Common.{◌≡◌, ℕ, zero, suc, ◌-◌, ◌+◌, ◌<◌, ◌≤◌, true, false, List, [], ◌∷◌, ◌++◌, length, drop, length-drop, Option, Some, None, Result, Ok, Err, refl, sym, ◌∙◌, arith}
 use Rattle.creusot_cli.specs.declared.rs_tokens.token.Token.{Token}
 use Rattle.creusot_cli.specs.declared.rs_tokens.token.TokenKind.{TokenKind}
 use Rattle.creusot_cli.specs.declared.rs_tokens.token.TokenKind.TheVariants.{Hash, Word, Comma}
@@ -13,7 +13,7 @@ use Rattle.creusot_cli.specs.declared.rs_syntax.form.Clause.{Clause}
 use Rattle.creusot_cli.specs.declared.rs_syntax.form.Atom.{Atom}
 use Rattle.creusot_cli.specs.declared.rs_syntax.form.ChainStep.{ChainStep}
 use Rattle.creusot_cli.specs.SourceForm.{text_of}
-use Rattle.creusot_cli.specs.SourceFormReading.{◌>>=◌, Fails, begins, next_sign, item_at, steps_at, clause_at, clauses_at, param_at, params_at, atom_at, chain_steps_at}
+use Rattle.creusot_cli.specs.SourceFormReading.{Fails, begins, next_sign, item_at, steps_at, clause_at, clauses_at, param_at, params_at, atom_at, chain_steps_at}
 
 -- ---- the steps of a sum
 

@@ -1,5 +1,5 @@
 -- The body that a function is lowered to is typed and initialised, and its statements are of the forms that are built.
-use Rattle.std.proofs.Common.{◌≡◌, ◌∙◌, ◌⊎◌, inl, inr, refl, sym, ap, subst, ℕ, zero, suc, ◌+◌, ◌*◌, ◌-◌, ◌<◌, ◌≤◌, ◌==◌, nat_lt, ◌&&◌, Bool, true, false, cond, List, [], ◌∷◌, ◌++◌, length, take, replicate, reverse, Option, Some, None, slice_get, arith, true≢false}
+use Rattle.std.proofs.Common.{◌≡◌, ◌∙◌, ◌⊎◌, inl, inr, refl, sym, ap, subst, ℕ, zero, suc, ◌+◌, ◌*◌, ◌<◌, ◌≤◌, ◌==◌, nat_lt, ◌&&◌, Bool, true, false, cond, List, [], ◌∷◌, ◌++◌, length, take, replicate, reverse, Some, None, slice_get, arith}
 use Rattle.std.specs.Option.{option_map}
 use Rattle.std.proofs.lemmas.Bool.Decides.{nat_tests}
 use Rattle.std.proofs.lemmas.List.{length-reverse}
@@ -8,15 +8,14 @@ use Rattle.logic_term.specs.declared.kinds.ArithOp.{ArithOp}
 use Rattle.logic_term.specs.declared.kinds.ArithOp.TheVariants as arith_op
 use Rattle.logic_term.specs.declared.kinds.IntKind.TheVariants.{I32}
 use Rattle.logic_term.specs.declared.kinds.Label.{Label}
-use Rattle.logic_term.specs.Ty.{Ty, Tys, int, no_tys}
+use Rattle.logic_term.specs.Ty.{int, no_tys}
 use Rattle.logic_term.specs.Sort.{instance}
 use Rattle.logic_term.specs.Meaning.{Structure}
 use Rattle.mir_ir.specs.declared.statement.Statement.{Statement}
-use Rattle.mir_ir.specs.declared.statement.StatementKind.{StatementKind}
 use Rattle.mir_ir.specs.declared.body.Block.{Block}
 use Rattle.mir_ir.specs.declared.body.Body.{Body}
 use Rattle.mir_ir.specs.Body.{block_in, place_ty, kind_in}
-use Rattle.mir_ir.specs.WellFormed.{IsTyped, IsInitialised, AreSound, StatementIsTyped, OperandHas, operation_ty, Locals, taken, with, run, CanRun, CanTake, CanEnd, Carries, EndIsTyped, Within, parameters}
+use Rattle.mir_ir.specs.WellFormed.{IsTyped, IsInitialised, AreSound, StatementIsTyped, OperandHas, operation_ty, Locals, taken, with, run, CanRun, CanTake, CanEnd, Carries, EndIsTyped, parameters}
 use Rattle.mir_machine.specs.Good.{Each}
 use Rattle.creusot_cli.specs.declared.rs_syntax.form.Sign.{Sign}
 use Rattle.creusot_cli.specs.declared.rs_syntax.form.Sign.TheVariants.{Plus, Minus}

@@ -1,13 +1,11 @@
 -- A function in bounds is good for its contract where all its obligations are true.
-use Rattle.std.proofs.Common.{◌≡◌, ◌∙◌, ◌⊎◌, inl, inr, refl, sym, ap, subst, ℕ, zero, suc, ◌+◌, ◌*◌, ◌-◌, ◌<◌, ◌≤◌, ◌==◌, ◌||◌, Bool, true, false, cond, List, [], ◌∷◌, ◌++◌, map, filter, length, take, drop, replicate, arith, true≢false, length-append, length-drop}
-use Rattle.text_core.specs.declared.name.Name.{Name}
+use Rattle.std.proofs.Common.{◌≡◌, ◌∙◌, ◌⊎◌, inl, inr, refl, sym, ap, ℕ, zero, suc, ◌+◌, ◌-◌, ◌<◌, ◌≤◌, ◌||◌, Bool, true, false, cond, List, [], ◌∷◌, ◌++◌, map, filter, length, take, drop, replicate, arith, true≢false, length-append, length-drop}
 use Rattle.text_core.specs.declared.span.Span.{Span}
-use Rattle.logic_term.specs.declared.kinds.ArithOp.{ArithOp}
 use Rattle.logic_term.specs.declared.kinds.IntKind.TheVariants.{I32}
 use Rattle.logic_term.specs.Sort.{Declarations, nth_ty}
 use Rattle.logic_term.specs.Ty.{Ty, int}
 use Rattle.logic_term.specs.TyView.{tys_of}
-use Rattle.logic_term.specs.Term.{Operator, modeled, less, at_most, equal, Term, two, one, calculate, lit, model, var}
+use Rattle.logic_term.specs.Term.{Operator, modeled, less, at_most, equal, Term, two, one, calculate, var}
 use Rattle.logic_term.specs.Term.{arith as arithmetic}
 use Rattle.logic_term.specs.Free.{free}
 use Rattle.logic_term.proofs.FreeLaw.{same_name, same_test}

@@ -1,5 +1,5 @@
 -- One more step, and one more obligation.
-use Rattle.std.proofs.Common.{◌≡◌, ◌∙◌, refl, sym, ap, subst, ℕ, zero, suc, ◌+◌, ◌<◌, ◌≤◌, List, [], ◌∷◌, ◌++◌, length, take, get_or, Option, None, Some, add-one, arith}
+use Rattle.std.proofs.Common.{◌≡◌, ◌∙◌, sym, ap, subst, ℕ, zero, suc, ◌+◌, ◌<◌, ◌≤◌, List, [], ◌∷◌, ◌++◌, length, take, get_or, Option, None, Some, add-one, arith}
 use Rattle.std.specs.List.{find}
 use Rattle.std.proofs.lemmas.List.{take_more, take_all}
 use Rattle.logic_term.specs.declared.obligation.Obligation.{Obligation}
@@ -8,7 +8,7 @@ use Rattle.proof_kernel.specs.Progress.{Progress}
 use Rattle.proof_text.specs.declared.proof.NumberedStep.{NumberedStep}
 use Rattle.proof_text.specs.declared.proof.Proof.{Proof}
 use Rattle.creusot_cli.specs.declared.report_out.Reason.{Reason}
-use Rattle.creusot_cli.specs.declared.report_out.Reason.TheVariants.{Missing, Proof as Refused}
+use Rattle.creusot_cli.specs.declared.report_out.Reason.TheVariants.{Proof as Refused}
 use Rattle.creusot_cli.specs.declared.report_out.LeftItem.{LeftItem}
 use Rattle.creusot_cli.specs.Verdict.{Does, Runs, begun, IsAccepted, IsRefusedAt, is_for, Settles, Judges, left_item}
 use Rattle.creusot_cli.specs.VerdictWords.{Checks, Tallies}

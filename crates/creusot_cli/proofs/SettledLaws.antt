@@ -1,6 +1,5 @@
 -- An obligation is left exactly where the file has no derivation of it.
-use Rattle.std.proofs.Common.{◌≡◌, ◌∙◌, refl, sym, ap, subst, ℕ, suc, List, [], ◌∷◌, ◌++◌, length, map, Option, None, Some, arith}
-use Rattle.std.specs.List.{find}
+use Rattle.std.proofs.Common.{◌≡◌, ◌∙◌, refl, sym, ap, subst, ℕ, List, [], ◌∷◌, ◌++◌, map, None, Some}
 use Rattle.std.specs.Prelude.{◌↔◌}
 use Rattle.logic_term.specs.declared.obligation.Obligation.{Obligation}
 use Rattle.mir_machine.specs.Good.{Each}
@@ -15,7 +14,7 @@ use Rattle.proof_text.specs.declared.proof.Proof.{Proof}
 use Rattle.creusot_cli.specs.declared.report_out.LeftItem.{LeftItem}
 use Rattle.creusot_cli.specs.declared.report_out.Reason.{Reason}
 use Rattle.creusot_cli.specs.Call.{HasDerivation}
-use Rattle.creusot_cli.specs.Verdict.{Does, Runs, IsAccepted, IsRefusedAt, begun, is_for, Settles, Judges}
+use Rattle.creusot_cli.specs.Verdict.{Does, Runs, IsAccepted, IsRefusedAt, begun, Settles, Judges}
 use Rattle.creusot_cli.proofs.Verified.{accepted_is_proof}
 
 -- ---- the steps of a proof lead to one result

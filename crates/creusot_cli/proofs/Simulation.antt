@@ -1,15 +1,11 @@
 -- Runs of a body of one block: where its goals hold at the entry, no run panics, and at a return the goals there hold.
-use Rattle.std.proofs.Common.{◌≡◌, ◌∙◌, ◌⊎◌, inl, inr, refl, sym, ap, subst, ℕ, zero, suc, ◌+◌, ◌<◌, ◌≤◌, List, [], ◌∷◌, ◌++◌, map, length, drop, Option, Some, None, slice_get, arith}
-use Rattle.text_core.specs.declared.span.Span.{Span}
+use Rattle.std.proofs.Common.{◌≡◌, ◌∙◌, refl, sym, ap, subst, ℕ, zero, suc, ◌+◌, ◌<◌, ◌≤◌, List, [], ◌∷◌, ◌++◌, map, length, drop, Option, Some, None, slice_get, arith}
 use Rattle.logic_term.specs.declared.kinds.IntKind.{IntKind}
 use Rattle.logic_term.specs.Ty.{Tys}
-use Rattle.logic_term.specs.Value.{Value}
-use Rattle.logic_term.specs.Term.{Term}
-use Rattle.logic_term.specs.Meaning.{Structure, Env, Holds}
+use Rattle.logic_term.specs.Meaning.{Structure, Env}
 use Rattle.mir_ir.specs.declared.statement.Statement.{Statement}
 use Rattle.mir_ir.specs.declared.statement.StatementKind.{StatementKind}
 use Rattle.mir_ir.specs.declared.terminator.TerminatorKind.TheVariants.{Return}
-use Rattle.mir_ir.specs.declared.terminator.Terminator.{Terminator}
 use Rattle.mir_ir.specs.declared.body.Block.{Block}
 use Rattle.mir_ir.specs.declared.body.Body.{Body}
 use Rattle.mir_machine.specs.Try.{Try, Yields, Panics, Sticks, ◌>>=◌, need}
@@ -20,7 +16,7 @@ use Rattle.mir_machine.specs.FrameStep.{AllNameWholes, FrameEnd, Stays, Calls, A
 use Rattle.mir_machine.proofs.Wholes.{try_step-whole}
 use Rattle.creusot_cli.specs.MirBuild.{local_name}
 use Rattle.creusot_cli.specs.WpGen.{Goal, goals_at, goal_before, goals_from}
-use Rattle.creusot_cli.proofs.SimulationSteps.{T, Agrees, IsInteger, IsLocal, Comes, comes_then, comes_map, local_comes, GoalsHold, IsBuilt, target, place_of, Next, statement_comes}
+use Rattle.creusot_cli.proofs.SimulationSteps.{T, Agrees, IsInteger, IsLocal, Comes, comes_then, local_comes, GoalsHold, IsBuilt, target, place_of, Next, statement_comes}
 
 drop_get : {A : Type 0} (xs : List A) (i : ℕ) (x : A) → slice_get xs i ≡ Some x → drop i xs ≡ x ∷ drop (i + 1) xs
 drop_get [] i x e = absurd (cc)

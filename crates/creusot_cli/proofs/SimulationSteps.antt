@@ -1,8 +1,7 @@
 -- One statement of the machine against one row of the obligations.
-use Rattle.std.proofs.Common.{◌≡◌, ◌≢◌, ◌∙◌, ◌⊎◌, inl, inr, refl, sym, ap, subst, ℕ, zero, suc, ◌+◌, ◌^◌, ◌<◌, ◌≤◌, ◌==◌, ◌&&◌, ℤ, ◌+ℤ◌, ◌-ℤ◌, Bool, true, false, cond, ◌↔◌, List, [], ◌∷◌, ◌++◌, map, length, Option, Some, None, slice_get, slice_set, eq-eqb, true≢false, arith}
+use Rattle.std.proofs.Common.{◌≡◌, ◌∙◌, ◌⊎◌, inl, inr, refl, sym, ap, subst, ℕ, zero, suc, ◌<◌, ◌≤◌, ◌==◌, ◌&&◌, ℤ, ◌+ℤ◌, ◌-ℤ◌, Bool, true, false, cond, List, [], ◌∷◌, length, Option, Some, None, slice_get, slice_set, eq-eqb, true≢false, arith}
 use Rattle.std.specs.Prelude.{int_le}
 use Rattle.std.proofs.lemmas.Option.{slice_get_within}
-use Rattle.text_core.specs.declared.name.Name.{Name}
 use Rattle.text_core.specs.declared.refusal.Cause.{Cause}
 use Rattle.text_core.specs.declared.span.Span.{Span}
 use Rattle.logic_term.specs.declared.kinds.ArithOp.{ArithOp}
@@ -11,17 +10,17 @@ use Rattle.logic_term.specs.declared.kinds.BinaryOp.{BinaryOp}
 use Rattle.logic_term.specs.declared.kinds.BinaryOp.TheVariants.{Add, Sub, Mul, Div, Rem, Eq, Ne, Lt, Le, Gt, Ge}
 use Rattle.logic_term.specs.declared.kinds.IntKind.{IntKind}
 use Rattle.logic_term.specs.Range.{lowest, highest, fits}
-use Rattle.logic_term.specs.Ty.{Ty, Tys, int, math_int}
+use Rattle.logic_term.specs.Ty.{Tys, int, math_int}
 use Rattle.logic_term.specs.Value.{Value, Number, Flag, integer_of}
-use Rattle.logic_term.specs.Sort.{HasSort, instance, of_int}
-use Rattle.logic_term.specs.Term.{Term, var, lit, truth, model, calculate, is_at_most, is_equal, implies}
+use Rattle.logic_term.specs.Sort.{of_int}
+use Rattle.logic_term.specs.Term.{Term, var, lit, model, is_at_most, is_equal, implies}
 use Rattle.logic_term.specs.Meaning.{Structure, Env, with_value, Means, Holds, calculated}
 use Rattle.logic_term.specs.Subst.{replaced}
 use Rattle.logic_term.proofs.Alike.{alike_same, yes_alike}
 use Rattle.logic_term.proofs.Coincide.{with_same, with_other}
 use Rattle.logic_term.proofs.FreeLaw.{same_test}
 use Rattle.logic_term.proofs.SubstLaw.{replaced_means}
-use Rattle.logic_term.proofs.Truth.{Exactly, Computes, computes_model, computes_calculate, holds_and, holds_at_most, holds_implies, holds_forall, holds_equal_exactly, holds_false}
+use Rattle.logic_term.proofs.Truth.{Exactly, Computes, computes_model, computes_calculate, holds_and, holds_at_most, holds_implies, holds_forall, holds_equal_exactly}
 use Rattle.mir_ir.specs.declared.place.Place.{Place}
 use Rattle.mir_ir.specs.declared.place.Lit.TheVariants as literal
 use Rattle.mir_ir.specs.declared.place.Operand.{Operand}

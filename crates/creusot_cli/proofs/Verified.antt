@@ -1,11 +1,9 @@
 -- A function on which the verdict is that it is verified is good.
-use Rattle.std.proofs.Common.{◌≡◌, ◌∙◌, refl, sym, ap, subst, ℕ, suc, ◌+◌, ◌==◌, true, List, [], ◌∷◌, ◌++◌, length, map, Option, None, Some, arith}
+use Rattle.std.proofs.Common.{◌≡◌, sym, ap, subst, ℕ, suc, ◌+◌, List, [], ◌∷◌, ◌++◌, length, map, None, arith}
 use Rattle.logic_term.specs.declared.obligation.Obligation.{Obligation}
-use Rattle.logic_term.specs.Sort.{Declarations}
 use Rattle.mir_machine.specs.Good.{Each, Good}
 use Rattle.proof_kernel.specs.declared.sequent.Sequent.{Sequent}
 use Rattle.proof_kernel.specs.Derivation.{Derives, no_step, one_step, IsProof}
-use Rattle.proof_kernel.specs.Kernel.{Applies}
 use Rattle.proof_kernel.specs.Progress.{Progress}
 use Rattle.proof_kernel.specs.Sequent.{IsTrueObligation}
 use Rattle.proof_kernel.proofs.Derived.{proof_is_sound}
@@ -15,7 +13,7 @@ use Rattle.creusot_cli.specs.declared.report_out.LeftItem.{LeftItem}
 use Rattle.creusot_cli.specs.declared.rs_syntax.form.Function.{Function}
 use Rattle.creusot_cli.specs.MirBuild.{body_of, contract_of}
 use Rattle.creusot_cli.specs.SourceForm.{Spells}
-use Rattle.creusot_cli.specs.Verdict.{no_types, Does, Runs, IsAccepted, Settles, Judges, obligations_for}
+use Rattle.creusot_cli.specs.Verdict.{no_types, Runs, IsAccepted, Settles, Judges, obligations_for}
 use Rattle.creusot_cli.proofs.Bounds.{in_bounds}
 use Rattle.creusot_cli.proofs.LoweredForm.{function_is_good}
 

@@ -1,16 +1,14 @@
 -- The body and the contract that a function of the form is lowered to. A local is named by its number.
-use Rattle.std.specs.Prelude.{ℕ, zero, suc, Bool, true, false, filter, ◌+◌, ◌*◌, ◌^◌, ◌<◌, ◌≡◌, ℤ, List, [], ◌∷◌, ◌++◌, None, length, map, reverse, replicate}
+use Rattle.std.specs.Prelude.{ℕ, zero, suc, Bool, true, false, filter, ◌+◌, ◌*◌, ◌^◌, ◌<◌, ◌≡◌, List, [], ◌∷◌, ◌++◌, None, length, map, reverse, replicate}
 use Rattle.text_core.specs.declared.name.Name.{Name}
-use Rattle.text_core.specs.declared.span.Span.{Span}
 use Rattle.logic_term.specs.declared.kinds.ArithOp.{ArithOp}
 use Rattle.logic_term.specs.declared.kinds.ArithOp.TheVariants as arith_op
 use Rattle.logic_term.specs.declared.kinds.BinaryOp.{BinaryOp}
 use Rattle.logic_term.specs.declared.kinds.BinaryOp.TheVariants as binary_op
 use Rattle.logic_term.specs.declared.kinds.IntKind.TheVariants.{I32}
-use Rattle.logic_term.specs.declared.kinds.Label.{Label}
 use Rattle.logic_term.specs.declared.obligation.Contract.{Contract}
 use Rattle.logic_term.specs.Range.{fits}
-use Rattle.logic_term.specs.Ty.{Ty, int, math_int}
+use Rattle.logic_term.specs.Ty.{int, math_int}
 use Rattle.logic_term.specs.Term.{Term, var, lit, model, calculate, is_less, is_at_most, is_equal}
 use Rattle.mir_ir.specs.declared.place.Place.{Place}
 use Rattle.mir_ir.specs.declared.place.Lit.TheVariants as literal

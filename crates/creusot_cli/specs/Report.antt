@@ -1,5 +1,5 @@
 -- What is printed.
-use Rattle.std.specs.Prelude.{ℕ, ◌+◌, ◌==◌, Bool, true, false, List, [], ◌∷◌, ◌++◌, codes, count_by, filter, flat_map, length, take, if◌then◌else◌}
+use Rattle.std.specs.Prelude.{ℕ, ◌+◌, ◌==◌, List, [], ◌∷◌, ◌++◌, codes, count_by, filter, flat_map, length, take, if◌then◌else◌}
 use Rattle.std.specs.Fmt.{decimal}
 use Rattle.text_core.specs.declared.refusal.Kind.{Kind}
 use Rattle.text_core.specs.declared.refusal.Kind.TheVariants.{Requires, Assert, Overflow, Division, Unreachable, InvEntry, InvKept, Ensures, RefineRequires, RefineEnsures, Law, Lemma}

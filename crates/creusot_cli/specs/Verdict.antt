@@ -1,11 +1,10 @@
 -- What the kernel makes of the proofs of a file, and the verdict on a function.
-use Rattle.std.specs.Prelude.{◌≡◌, ℕ, suc, ◌==◌, ◌&&◌, true, Bool, List, [], ◌∷◌, ◌++◌, length, map, Option, None, Some}
+use Rattle.std.specs.Prelude.{◌≡◌, ℕ, suc, ◌==◌, ◌&&◌, Bool, List, [], ◌∷◌, ◌++◌, length, Option, None, Some}
 use Rattle.std.specs.List.{find}
 use Rattle.std.specs.Str.{bytes_eq}
 use Rattle.logic_term.specs.declared.kinds.IntKind.TheVariants.{I32}
 use Rattle.logic_term.specs.declared.obligation.Obligation.{Obligation}
 use Rattle.logic_term.specs.Sort.{Declarations}
-use Rattle.proof_kernel.specs.declared.step.Step.{Step}
 pub use Rattle.proof_kernel.specs.Accepts.{Does, begun}
 use Rattle.proof_kernel.specs.Progress.{Progress}
 use Rattle.proof_text.specs.declared.proof.NumberedStep.{NumberedStep}

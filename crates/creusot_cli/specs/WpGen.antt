@@ -1,7 +1,7 @@
 -- The obligations of a body of one block with its contract (Creusot, Denis, Jourdan and Marché 2022; RustHorn). Each goal is
 -- a formula over the names of the locals, made from the end of the block backwards: a statement that sets a local puts a
 -- term for its name in all later goals, one whose value is new puts a quantifier and what is known of the value before them.
-use Rattle.std.specs.Prelude.{ℕ, ◌+◌, List, [], ◌∷◌, ◌++◌, length, map, drop, false, Option, Some, None, slice_get}
+use Rattle.std.specs.Prelude.{ℕ, ◌+◌, List, [], ◌∷◌, ◌++◌, length, map, drop, false, Option, Some, None}
 use Rattle.text_core.specs.declared.name.Name.{Name}
 use Rattle.text_core.specs.declared.span.Span.{Span}
 use Rattle.text_core.specs.declared.refusal.Kind.{Kind}
@@ -9,19 +9,18 @@ use Rattle.text_core.specs.declared.refusal.Kind.TheVariants.{Overflow, Ensures,
 use Rattle.logic_term.specs.declared.kinds.ArithOp.{ArithOp}
 use Rattle.logic_term.specs.declared.kinds.ArithOp.TheVariants as arith_op
 use Rattle.logic_term.specs.declared.kinds.BinaryOp.{BinaryOp}
-use Rattle.logic_term.specs.declared.kinds.BinaryOp.TheVariants.{Add, Sub, Mul, Div, Rem, Eq, Ne, Lt, Le, Gt, Ge}
+use Rattle.logic_term.specs.declared.kinds.BinaryOp.TheVariants.{Add, Sub}
 use Rattle.logic_term.specs.declared.kinds.IntKind.{IntKind}
 use Rattle.logic_term.specs.declared.obligation.Contract.{Contract}
 use Rattle.logic_term.specs.declared.obligation.Obligation.{Obligation}
 use Rattle.logic_term.specs.Normal.{reduced}
 use Rattle.logic_term.specs.Range.{lowest, highest}
 use Rattle.logic_term.specs.Subst.{replaced}
-use Rattle.logic_term.specs.Ty.{Ty, int, math_int}
+use Rattle.logic_term.specs.Ty.{int, math_int}
 use Rattle.logic_term.specs.Term.{Term, var, lit, truth, model, calculate, is_at_most, is_equal, and, implies, forall}
 use Rattle.mir_ir.specs.declared.place.Lit.TheVariants as literal
 use Rattle.mir_ir.specs.declared.place.Operand.{Operand}
 use Rattle.mir_ir.specs.declared.place.Operand.TheVariants.{Copy, Move, Const}
-use Rattle.mir_ir.specs.declared.statement.Rvalue.{Rvalue}
 use Rattle.mir_ir.specs.declared.statement.Rvalue.TheVariants.{Use, Binary, Neg, Not}
 use Rattle.mir_ir.specs.declared.statement.StatementKind.{StatementKind}
 use Rattle.mir_ir.specs.declared.statement.StatementKind.TheVariants.{Assign, Dead}

@@ -1,4 +1,4 @@
-use Rattle.std.proofs.Common.{map, string_bytes, inl, inr, refl}
+use Rattle.std.proofs.Common.{map, string_bytes, inr}
 use Rattle.std.specs.Io.KnownBytes.{Appends}
 use Rattle.creusot_cli.specs.Words.{asked_of}
 use Rattle.creusot_cli.proofs.CallLaws.{reports}

@@ -1,4 +1,4 @@
-use Rattle.std.proofs.Common.{◌≡◌, ◌≤◌, ◌-◌, ◌+◌, [], length}
+use Rattle.std.proofs.Common.{◌≡◌, ◌≤◌, ◌-◌, [], length}
 use Rattle.creusot_cli.specs.SourceFormReading.{chain_steps_at}
 use Rattle.creusot_cli.proofs.rs_syntax.body.steps.Given as goal
 

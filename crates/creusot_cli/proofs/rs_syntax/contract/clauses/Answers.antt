@@ -1,4 +1,4 @@
-use Rattle.std.proofs.Common.{◌≡◌, ◌+◌, ◌<◌, ◌≤◌, [], length, arith, refl, ap, sym, ◌∙◌}
+use Rattle.std.proofs.Common.{[], length, arith, ap, sym, ◌∙◌}
 use Rattle.std.specs.Option.{option_copied}
 use Rattle.std.proofs.lemmas.Result.{err_from_is_err_and}
 use Rattle.creusot_cli.specs.declared.rs_tokens.token.TokenKind.TheVariants.{Hash}

@@ -1,4 +1,4 @@
-use Rattle.std.proofs.Common.{◌≡◌, ◌≤◌, ◌-◌, ◌+◌, [], length}
+use Rattle.std.proofs.Common.{◌≡◌, ◌≤◌, ◌-◌, [], length}
 use Rattle.std.specs.Option.{option_copied}
 use Rattle.creusot_cli.specs.SourceFormReading.{steps_at}
 use Rattle.creusot_cli.proofs.rs_syntax.contract.steps.Given as goal

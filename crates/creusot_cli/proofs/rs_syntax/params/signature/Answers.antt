@@ -1,4 +1,4 @@
-use Rattle.std.proofs.Common.{◌≡◌, ◌+◌, ◌<◌, ◌≤◌, length, arith, ap}
+use Rattle.std.proofs.Common.{length, arith, ap}
 use Rattle.std.specs.Prelude.{codes}
 use Rattle.creusot_cli.specs.declared.rs_tokens.token.TokenKind.TheVariants.{OpenParen}
 use Rattle.creusot_cli.proofs.LeafLaws.{mark_took, word_took, name_took}

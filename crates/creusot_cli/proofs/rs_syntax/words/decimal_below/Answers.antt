@@ -1,4 +1,4 @@
-use Rattle.std.proofs.Common.{◌≡◌, ◌+◌, ◌<◌, ◌≤◌, arith, sym, ◌∙◌}
+use Rattle.std.proofs.Common.{arith, sym, ◌∙◌}
 use Rattle.creusot_cli.proofs.DecimalLaws.{past_limit}
 use Rattle.creusot_cli.proofs.rs_syntax.words.decimal_below.Goals as goal
 

@@ -1,4 +1,4 @@
-use Rattle.std.proofs.Common.{◌≡◌, ◌+◌, drop, Option}
+use Rattle.std.proofs.Common.{◌≡◌, ◌+◌, drop}
 use Rattle.std.specs.Option.{option_map}
 use Rattle.creusot_cli.specs.SourceFormReading.{place_of}
 use Rattle.creusot_cli.proofs.rs_syntax.words.place_of.Given as goal

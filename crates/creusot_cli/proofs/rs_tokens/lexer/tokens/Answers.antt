@@ -1,7 +1,5 @@
-use Rattle.std.proofs.Common.{◌≡◌, ◌+◌, ◌<◌, ◌≤◌, length, arith, sym, ◌∙◌}
+use Rattle.std.proofs.Common.{arith, sym, ◌∙◌}
 use Rattle.std.proofs.lemmas.List.{length-append}
-use Rattle.creusot_cli.specs.SourceTokens.{is_white}
-use Rattle.creusot_cli.specs.declared.rs_tokens.token.Token.{Token}
 use Rattle.creusot_cli.proofs.TokenLaws.{step_white, token_within, found_token, no_tokens}
 use Rattle.creusot_cli.proofs.rs_tokens.lexer.tokens.Goals as goal
 

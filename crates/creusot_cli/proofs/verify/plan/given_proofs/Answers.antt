@@ -1,5 +1,5 @@
 use Rattle.std.specs.Option.{option_copied}
-use Rattle.std.proofs.Common.{◌≡◌, ap}
+use Rattle.std.proofs.Common.{ap}
 use Rattle.creusot_cli.proofs.CallLaws.{absent_proofs}
 use Rattle.creusot_cli.proofs.verify.plan.given_proofs.Goals as goal
 

@@ -1,4 +1,4 @@
-use Rattle.std.proofs.Common.{◌≡◌, ◌∙◌}
+use Rattle.std.proofs.Common.{◌∙◌}
 use Rattle.creusot_cli.specs.Words.{asked}
 use Rattle.creusot_cli.proofs.CallLaws.{refused_answers, reported_answers}
 use Rattle.creusot_cli.proofs.verify.plan.plan_of_function.Goals as goal

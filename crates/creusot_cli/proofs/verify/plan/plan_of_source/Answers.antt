@@ -1,4 +1,4 @@
-use Rattle.std.proofs.Common.{◌≡◌, ap, Err}
+use Rattle.std.proofs.Common.{ap, Err}
 use Rattle.creusot_cli.specs.declared.rs_syntax.fault.PassError.{PassError}
 use Rattle.creusot_cli.specs.Words.{asked}
 use Rattle.creusot_cli.proofs.CallLaws.{refused_source}

@@ -1,4 +1,4 @@
-use Rattle.std.proofs.Common.{◌≡◌, List, ℕ, refl, sym, ap, subst, Some, Err}
+use Rattle.std.proofs.Common.{List, ℕ, refl, sym, ap, subst, Some, Err}
 use Rattle.proof_text.specs.declared.fault.ProofTextError.{ProofTextError}
 use Rattle.creusot_cli.specs.Call.{AreProofs, Answers}
 use Rattle.creusot_cli.proofs.verify.plan.proofs_in.Goals as goal

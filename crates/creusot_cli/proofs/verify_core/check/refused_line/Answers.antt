@@ -1,8 +1,8 @@
-use Rattle.std.proofs.Common.{◌≡◌, ◌∙◌, ℕ, ◌+◌, Bool, true, false, sym, ap, subst, refl, arith, true≢false}
+use Rattle.std.proofs.Common.{◌∙◌, ℕ, ◌+◌, Bool, sym, ap, subst, arith, true≢false}
 use Rattle.proof_kernel.specs.Progress.{Progress}
 use Rattle.creusot_cli.specs.Verdict.{Does}
 use Rattle.creusot_cli.specs.VerdictWords.{TakesStep}
-use Rattle.creusot_cli.proofs.RunLaws.{begins, goes_on, refused_there, accepted, left_open, done_number}
+use Rattle.creusot_cli.proofs.RunLaws.{begins, goes_on, refused_there, left_open, done_number}
 use Rattle.creusot_cli.proofs.verify_core.check.refused_line.Goals as goal
 
 pub loop-numbered-init : goal.loop-numbered-init

@@ -1,4 +1,4 @@
-use Rattle.std.proofs.Common.{◌≡◌, ◌∙◌, sym, ap, Err, true≢false}
+use Rattle.std.proofs.Common.{◌∙◌, sym, ap, Err, true≢false}
 use Rattle.proof_kernel.specs.declared.kernel.StepError.{StepError}
 use Rattle.proof_kernel.proofs.Once.{wide_is_not_done}
 use Rattle.creusot_cli.proofs.verify_core.check.take_step.Goals as goal

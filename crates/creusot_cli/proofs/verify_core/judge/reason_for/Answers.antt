@@ -1,4 +1,4 @@
-use Rattle.std.proofs.Common.{◌≡◌, ◌∙◌, sym}
+use Rattle.std.proofs.Common.{sym}
 use Rattle.creusot_cli.specs.Verdict.{Settles}
 use Rattle.creusot_cli.proofs.RunLaws.{proof_accepted, proof_refused}
 use Rattle.creusot_cli.proofs.verify_core.judge.reason_for.Goals as goal

@@ -1,4 +1,4 @@
-use Rattle.creusot_cli.proofs.RunLaws.{judges_none, judges_more, judges_all}
+use Rattle.creusot_cli.proofs.RunLaws.{judges_none, judges_more}
 use Rattle.creusot_cli.proofs.verify_core.judge.settle_all.Goals as goal
 
 pub loop-obligation-init : goal.loop-obligation-init
