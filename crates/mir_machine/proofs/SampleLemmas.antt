@@ -1,5 +1,5 @@
 -- The samples are typed and initialised, and calls of them are proper.
-use Rattle.std.proofs.Common.{◌≡◌, ◌∙◌, ◌⊎◌, refl, sym, ap, subst, ℕ, zero, suc, ◌+◌, ◌<◌, ◌≤◌, ◌==◌, ℤ, pos, negsuc, FitsSigned, Bool, true, false, cond, List, Some, None, [], ◌∷◌, length, slice_get, arith}
+use Rattle.std.proofs.Common.{◌≡◌, ◌∙◌, refl, sym, ap, subst, ℕ, zero, suc, ◌+◌, ◌<◌, ◌≤◌, ◌==◌, ℤ, pos, negsuc, FitsSigned, Bool, true, false, cond, List, Some, None, [], ◌∷◌, length, slice_get, arith}
 use Rattle.std.proofs.lemmas.Bool.{eqb-true}
 use Rattle.std.specs.Int.{w32}
 use Rattle.logic_term.specs.declared.kinds.BinaryOp.{BinaryOp}
@@ -17,7 +17,7 @@ use Rattle.mir_ir.specs.declared.statement.Rvalue.TheVariants.{Binary, Neg, Not}
 use Rattle.mir_ir.specs.declared.statement.Statement.{Statement}
 use Rattle.mir_ir.specs.declared.body.Block.{Block}
 use Rattle.mir_ir.specs.declared.body.Body.{Body}
-use Rattle.mir_ir.specs.Body.{block_in, param_tys}
+use Rattle.mir_ir.specs.Body.{block_in}
 use Rattle.mir_ir.specs.WellFormed.{HasBlock, operation_ty, IsSigned, RvalueHas, StatementIsTyped, EndIsTyped, IsTyped, Locals, without, with, CanEvaluate, evaluated, CanRun, run, CanEnd, Carries, Within, parameters, IsInitialised, AreSound}
 use Rattle.mir_machine.specs.Tree.{Tree, Int, Truth, trees_of}
 use Rattle.mir_machine.specs.Frame.{State}
@@ -126,12 +126,15 @@ sample_sound answer takes r has can zero b e =
       answers = omega arith;
       begins = (_, refl);
       entry = λ x h. h;
-      blocks = (record {
-        statements = (((answer, (refl, refl), has), can, λ x h. h), tt);
-        typed = tt;
-        can_end = refl;
-        carries = tt;
-      }, tt);
+      blocks = (
+        record {
+          statements = (((answer, (refl, refl), has), can, λ x h. h), tt);
+          typed = tt;
+          can_end = refl;
+          carries = tt;
+        },
+        tt,
+      );
     }))
 
 pub binary_sound : (k : IntKind) (op : BinaryOp) (n : ℤ) → fits k n ≡ true → AreSound (sample (operation_ty op k) (int k) (Binary op (Copy (whole 1)) (Const (lit.Int n k))) ∷ [])
@@ -249,15 +252,19 @@ scalar_typed s _ _ h = absurd h
 -- a call at one argument, with no trees outside
 pub one_call : (bodies : List Body) (f : ℕ) (θ : Tys) (args held : List (Tree (Unit {0}))) (t : Tree (Unit {0})) → θ ≡ no_tys → args ≡ t ∷ [] → held ≡ [] → TakesOne bodies f t →
     (Δ : Declarations) × (b : Body) × (met : List Met) × IsProper Δ bodies f θ args held b met
-one_call bodies f θ args held t is_ground is_t is_empty (b, ty, is_body, params, scalar) =
-    (no_types, b, [], rw (is_ground, is_t, is_empty) (record {
-      of = is_body;
-      ground = refl;
-      outside_typed = tt;
-      typed = subst (λ tys. AreTyped no_types (called b f no_tys (t ∷ []) []) (trees_of (t ∷ [])) tys []) (sym params) (more_typed (scalar_typed (called b f no_tys (t ∷ []) []) ty t scalar) none_typed);
-      outer = tt;
-      apart = λ i j r q e g mutable over. absurd (cc);
-    }))
+one_call bodies f θ args held t is_ground is_t is_empty (b, ty, is_body, params, scalar) = (
+  no_types,
+  b,
+  [],
+  rw (is_ground, is_t, is_empty) (record {
+    of = is_body;
+    ground = refl;
+    outside_typed = tt;
+    typed = subst (λ tys. AreTyped no_types (called b f no_tys (t ∷ []) []) (trees_of (t ∷ [])) tys []) (sym params) (more_typed (scalar_typed (called b f no_tys (t ∷ []) []) ty t scalar) none_typed);
+    outer = tt;
+    apart = λ i j r q e g mutable over. absurd (cc);
+  }),
+)
 
 -- ---- what tests make
 
