@@ -4,7 +4,7 @@
 use Rattle.std.specs.Prelude.{◌≡◌, ℕ, ◌+◌, ◌≤◌, ◌==◌, nat_lt, Bool, true, false, ◌&&◌, cond, List, [], ◌∷◌, length, take, drop, Some, slice_get}
 use Rattle.logic_term.specs.declared.kinds.Label.{Label}
 use Rattle.logic_term.specs.declared.kinds.IntKind.{IntKind}
-use Rattle.logic_term.specs.declared.kinds.IntKind.TheVariants.{I8, I16, I32, I64, Isize, U8, U16, U32, U64, Usize}
+use Rattle.logic_term.specs.declared.kinds.IntKind.TheVariants.{I8, I16, I32, I64, Isize}
 use Rattle.logic_term.specs.declared.kinds.BinaryOp.{BinaryOp}
 use Rattle.logic_term.specs.declared.kinds.BinaryOp.TheVariants.{Add, Sub, Mul, Div, Rem, Eq, Ne, Lt, Le, Gt, Ge}
 use Rattle.logic_term.specs.Range.{fits}

@@ -37,11 +37,11 @@ use Rattle.mir_ir.specs.declared.body.Body.{Body}
 use Rattle.mir_machine.specs.Try.{Try, Yields, Panics, Sticks, ◌>>=◌, need}
 use Rattle.mir_machine.specs.Tree.{Tree, Int, Truth, Gone, trees_of}
 use Rattle.mir_machine.specs.Frame.{Frame, State}
-use Rattle.mir_ir.specs.Body.{block_in, whole, place_ty, kind_of, kind_in, param_tys, answer_ty}
+use Rattle.mir_ir.specs.Body.{block_in, whole, place_ty, kind_of, kind_in, answer_ty}
 use Rattle.mir_machine.specs.Memory.{is_there}
-use Rattle.mir_machine.specs.Step.{try_step, fit, divide, of_integers, same_truth, of_truths, binary, negated, inverted, truth_of, literal, callee_frame, Outcome, Running, Returned, Panicked, Stuck, outcome_of, step, next, after_from, after, entered, outside, come_back}
-use Rattle.mir_machine.specs.FrameStep.{IsWhole, ReadsWholes, NamesWholes, AreWhole, EndNamesWholes, BodyNamesWholes, AllNameWholes, Left, local_tree, take_operand, take_operands, evaluate, put_local, run_local, FrameEnd, Stays, Calls, Answers, starting, frame_end, frame_row, frame_step, settled, frame_block, resumed_at, resumed}
-use Rattle.mir_ir.specs.WellFormed.{PlaceHas, LitHas, OperandHas, OperandsHave, operation_ty, IsEquality, OperationHas, RvalueHas, StatementIsTyped, EndIsTyped, IsTyped, Locals, without, with, CanTake, taken, CanTakeAll, all_taken, CanEvaluate, evaluated, CanRun, run, CanEnd, Carries, Within, parameters, IsInitialised, AreSound}
+use Rattle.mir_machine.specs.Step.{try_step, fit, divide, of_integers, of_truths, binary, negated, inverted, truth_of, literal, callee_frame, Outcome, Running, Returned, Panicked, Stuck, outcome_of, step, next, after_from, after, entered, come_back}
+use Rattle.mir_machine.specs.FrameStep.{IsWhole, ReadsWholes, NamesWholes, AreWhole, EndNamesWholes, AllNameWholes, Left, local_tree, take_operand, take_operands, evaluate, put_local, run_local, FrameEnd, Stays, Calls, Answers, starting, frame_end, frame_row, frame_step, settled, frame_block, resumed_at, resumed}
+use Rattle.mir_ir.specs.WellFormed.{PlaceHas, LitHas, OperandHas, OperandsHave, operation_ty, IsEquality, OperationHas, RvalueHas, StatementIsTyped, EndIsTyped, IsTyped, Locals, without, with, CanTake, taken, CanTakeAll, all_taken, CanEvaluate, evaluated, CanRun, run, CanEnd, Carries, Within, parameters, AreSound}
 use Rattle.mir_machine.specs.Typed.{Met, Typed, AreTyped, is_int, is_truth, is_tuple, is_adt, is_closure, is_boxed, is_shared, is_unique, more_typed}
 use Rattle.mir_machine.specs.Good.{called, IsInstance, IsProper}
 use Rattle.mir_machine.specs.Run.{IsSafe}
@@ -63,7 +63,6 @@ rvalue_wholes b (Not o) t (h, e) = operand_whole b o bool h
 
 statement_wholes : (b : Body) (st : StatementKind) → StatementIsTyped b st → NamesWholes st
 statement_wholes b (Assign p r) (t, hp, hr) = (hp.0, rvalue_wholes b r t hr)
-
 statement_wholes b (Dead x) h = tt
 
 operands_whole : (b : Body) (os : List Operand) (ts : List Ty) → OperandsHave b os ts → AreWhole os

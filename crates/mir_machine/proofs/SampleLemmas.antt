@@ -1,21 +1,23 @@
 -- The samples are typed and initialised, and calls of them are proper.
-use Rattle.std.proofs.Common.{◌≡◌, ◌∙◌, ◌⊎◌, refl, sym, ap, subst, ℕ, zero, suc, ◌+◌, ◌≤◌, ◌==◌, ℤ, pos, Bool, true, false, cond, List, Some, None, [], ◌∷◌, length, slice_get, arith}
+use Rattle.std.proofs.Common.{◌≡◌, ◌∙◌, refl, sym, ap, subst, ℕ, zero, suc, ◌+◌, ◌<◌, ◌≤◌, ◌==◌, ℤ, pos, negsuc, FitsSigned, Bool, true, false, cond, List, Some, None, [], ◌∷◌, length, slice_get, arith}
 use Rattle.std.proofs.lemmas.Bool.{eqb-true}
+use Rattle.std.specs.Int.{w32}
 use Rattle.logic_term.specs.declared.kinds.BinaryOp.{BinaryOp}
 use Rattle.logic_term.specs.declared.kinds.IntKind.{IntKind}
 use Rattle.logic_term.specs.declared.kinds.IntKind.TheVariants.{I32}
 use Rattle.logic_term.specs.declared.kinds.Label.{Label}
 use Rattle.logic_term.specs.Range.{fits}
-use Rattle.logic_term.specs.Sort.{Declarations}
+use Rattle.logic_term.specs.Sort.{Declarations, instance}
 use Rattle.logic_term.specs.Ty.{Ty, Tys, int, bool, no_tys, and_ty}
 use Rattle.mir_ir.specs.declared.place.Lit.TheVariants as lit
+use Rattle.mir_ir.specs.declared.place.Operand.{Operand}
 use Rattle.mir_ir.specs.declared.place.Operand.TheVariants.{Copy, Const}
 use Rattle.mir_ir.specs.declared.statement.Rvalue.{Rvalue}
 use Rattle.mir_ir.specs.declared.statement.Rvalue.TheVariants.{Binary, Neg, Not}
 use Rattle.mir_ir.specs.declared.statement.Statement.{Statement}
 use Rattle.mir_ir.specs.declared.body.Block.{Block}
 use Rattle.mir_ir.specs.declared.body.Body.{Body}
-use Rattle.mir_ir.specs.Body.{block_in, param_tys}
+use Rattle.mir_ir.specs.Body.{block_in}
 use Rattle.mir_ir.specs.WellFormed.{HasBlock, operation_ty, IsSigned, RvalueHas, StatementIsTyped, EndIsTyped, IsTyped, Locals, without, with, CanEvaluate, evaluated, CanRun, run, CanEnd, Carries, Within, parameters, IsInitialised, AreSound}
 use Rattle.mir_machine.specs.Tree.{Tree, Int, Truth, trees_of}
 use Rattle.mir_machine.specs.Frame.{State}
@@ -124,12 +126,15 @@ sample_sound answer takes r has can zero b e =
       answers = omega arith;
       begins = (_, refl);
       entry = λ x h. h;
-      blocks = (record {
-        statements = (((answer, (refl, refl), has), can, λ x h. h), tt);
-        typed = tt;
-        can_end = refl;
-        carries = tt;
-      }, tt);
+      blocks = (
+        record {
+          statements = (((answer, (refl, refl), has), can, λ x h. h), tt);
+          typed = tt;
+          can_end = refl;
+          carries = tt;
+        },
+        tt,
+      );
     }))
 
 pub binary_sound : (k : IntKind) (op : BinaryOp) (n : ℤ) → fits k n ≡ true → AreSound (sample (operation_ty op k) (int k) (Binary op (Copy (whole 1)) (Const (lit.Int n k))) ∷ [])
@@ -247,12 +252,51 @@ scalar_typed s _ _ h = absurd h
 -- a call at one argument, with no trees outside
 pub one_call : (bodies : List Body) (f : ℕ) (θ : Tys) (args held : List (Tree (Unit {0}))) (t : Tree (Unit {0})) → θ ≡ no_tys → args ≡ t ∷ [] → held ≡ [] → TakesOne bodies f t →
     (Δ : Declarations) × (b : Body) × (met : List Met) × IsProper Δ bodies f θ args held b met
-one_call bodies f θ args held t is_ground is_t is_empty (b, ty, is_body, params, scalar) =
-    (no_types, b, [], rw (is_ground, is_t, is_empty) (record {
-      of = is_body;
-      ground = refl;
-      outside_typed = tt;
-      typed = subst (λ tys. AreTyped no_types (called b f no_tys (t ∷ []) []) (trees_of (t ∷ [])) tys []) (sym params) (more_typed (scalar_typed (called b f no_tys (t ∷ []) []) ty t scalar) none_typed);
-      outer = tt;
-      apart = λ i j r q e g mutable over. absurd (cc);
-    }))
+one_call bodies f θ args held t is_ground is_t is_empty (b, ty, is_body, params, scalar) = (
+  no_types,
+  b,
+  [],
+  rw (is_ground, is_t, is_empty) (record {
+    of = is_body;
+    ground = refl;
+    outside_typed = tt;
+    typed = subst (λ tys. AreTyped no_types (called b f no_tys (t ∷ []) []) (trees_of (t ∷ [])) tys []) (sym params) (more_typed (scalar_typed (called b f no_tys (t ∷ []) []) ty t scalar) none_typed);
+    outer = tt;
+    apart = λ i j r q e g mutable over. absurd (cc);
+  }),
+)
+
+-- ---- what tests make
+
+pub binary_samples : (bodies : List Body) (answer takes : Ty) (first : Operand) (k : IntKind) (op : BinaryOp) (n : ℤ) → bodies ≡ sample answer takes (Binary op first (Const (lit.Int n k))) ∷ [] → answer ≡ operation_ty op k → takes ≡ int k → first ≡ Copy (whole 1) → fits k n ≡ true → AreSound bodies
+binary_samples bodies answer takes first k op n are is_answer is_takes is_first n_fits =
+    subst AreSound
+    (sym (are ∙ ap (λ ty. sample ty takes (Binary op first (Const (lit.Int n k))) ∷ []) is_answer
+    ∙ ap (λ ty. sample (operation_ty op k) ty (Binary op first (Const (lit.Int n k))) ∷ []) is_takes
+    ∙ ap (λ o. sample (operation_ty op k) (int k) (Binary op o (Const (lit.Int n k))) ∷ []) is_first))
+    (binary_sound k op n n_fits)
+
+pub neg_samples : (bodies : List Body) (answer takes : Ty) (first : Operand) (k : IntKind) → bodies ≡ sample answer takes (Neg first) ∷ [] → answer ≡ int k → takes ≡ int k → first ≡ Copy (whole 1) → IsSigned k → AreSound bodies
+neg_samples bodies answer takes first k are is_answer is_takes is_first signed =
+    subst AreSound
+    (sym (are ∙ ap (λ ty. sample ty takes (Neg first) ∷ []) is_answer ∙ ap (λ ty. sample (int k) ty (Neg first) ∷ []) is_takes ∙ ap (λ o. sample (int k) (int k) (Neg o) ∷ []) is_first))
+    (neg_sound k signed)
+
+pub not_samples : (bodies : List Body) (first : Operand) → bodies ≡ sample bool bool (Not first) ∷ [] → first ≡ Copy (whole 1) → AreSound bodies
+not_samples bodies first are is_first = subst AreSound (sym (are ∙ ap (λ o. sample bool bool (Not o) ∷ []) is_first)) not_sound
+
+pub sample_takes : (bodies : List Body) (answer takes : Ty) (r : Rvalue) (t : Tree (Unit {0})) (k : IntKind) (x : ℤ) → bodies ≡ sample answer takes r ∷ [] → takes ≡ int k → t ≡ Int x → fits k x ≡ true → TakesOne bodies 0 t
+sample_takes bodies answer takes r t k x are is_takes is_x x_fits =
+    (sample answer takes r, int k, ap (λ bs. slice_get bs 0) are, ap (λ ty. and_ty (instance no_tys ty) no_tys) is_takes, subst (IsScalarOf (int k)) (sym is_x) x_fits)
+
+pub truth_takes : (bodies : List Body) (r : Rvalue) (b : Bool) → bodies ≡ sample bool bool r ∷ [] → TakesOne bodies 0 (Truth b)
+truth_takes bodies r b are = (sample bool bool r, bool, ap (λ bs. slice_get bs 0) are, refl, tt)
+
+pub program_takes : (bodies : List Body) (f : ℕ) (t : Tree (Unit {0})) (x : ℤ) → bodies ≡ program → f < 2 → t ≡ Int x → fits I32 x ≡ true → TakesOne bodies f t
+program_takes bodies zero t x are below is_x x_fits = (absolute, int I32, ap (λ bs. slice_get bs 0) are, refl, subst (IsScalarOf (int I32)) (sym is_x) x_fits)
+program_takes bodies (suc zero) t x are below is_x x_fits = (calling, int I32, ap (λ bs. slice_get bs 1) are, refl, subst (IsScalarOf (int I32)) (sym is_x) x_fits)
+program_takes bodies (suc (suc f)) t x are below is_x x_fits = absurd (omega arith)
+
+pub fits_i32 : (z : ℤ) → FitsSigned w32 z → fits I32 z ≡ true
+fits_i32 (pos n) h = grind arith
+fits_i32 (negsuc n) h = grind arith

@@ -25,7 +25,7 @@ use Rattle.mir_machine.specs.Frame.{Frame, State}
 use Rattle.mir_ir.specs.Body.{block_in, place_ty, kind_in}
 use Rattle.mir_machine.specs.Memory.{frame_at, set_frame, is_there, read, write}
 use Rattle.mir_machine.specs.Step.{operand, operands, rvalue, binary, negated, inverted, truth_of, whole, statement_step, callee_frame, answered, leave, end_step, row, try_step, Taken, Outcome, Running, come_back, past, at_label}
-use Rattle.mir_machine.specs.FrameStep.{IsWhole, AreWhole, ReadsWholes, NamesWholes, EndNamesWholes, AllNameWholes, Left, local_tree, take_operand, take_operands, evaluate, put_local, run_local, FrameEnd, Stays, Calls, Answers, starting, call_end, frame_end, frame_row, frame_step, settled, frame_block, resumed_at, resumed}
+use Rattle.mir_machine.specs.FrameStep.{IsWhole, AreWhole, ReadsWholes, NamesWholes, EndNamesWholes, AllNameWholes, Left, local_tree, take_operand, take_operands, evaluate, put_local, run_local, FrameEnd, Stays, Calls, Answers, starting, call_end, frame_end, frame_row, frame_step, settled, resumed_at, resumed}
 
 -- ---- one part of a step after another
 
@@ -152,7 +152,6 @@ rvalue-whole {K} f fs kind span (Binary op a b) e =
     (λ r. sym (then_then (binary kind span op l.1 r.1) (λ t. Yields (r.0, t)) (λ r. Yields (taken_state f fs r))))
     ∙ sym (then_then (take_operand l.0 b) (last' l.1) (λ r. Yields (taken_state f fs r))))
     ∙ sym (then_then (take_operand f.locals a) rest' (λ l. Yields (taken_state f fs l)))
-
 rvalue-whole f fs kind span (Neg o) e = unary-whole f fs o (negated kind span) e
 rvalue-whole f fs kind span (Not o) e = unary-whole f fs o inverted e
 

@@ -1,6 +1,5 @@
 -- How many frames a run has. The machine's definition bounds no number of them; a machine that runs many steps does.
 use Rattle.std.specs.Prelude.{◌≡◌, ℕ, ◌<◌, ◌≤◌, List, [], ◌∷◌, Some, length}
-use Rattle.text_core.specs.declared.refusal.Limit.{Limit}
 use Rattle.text_core.specs.declared.refusal.LimitKind.TheVariants.{Frames}
 use Rattle.mir_ir.specs.declared.terminator.TerminatorKind.{TerminatorKind}
 use Rattle.mir_ir.specs.declared.terminator.TerminatorKind.TheVariants.{Goto, If, Call, Return}
@@ -8,7 +7,6 @@ use Rattle.mir_ir.specs.declared.body.Block.{Block}
 use Rattle.mir_ir.specs.declared.body.Body.{Body}
 use Rattle.mir_machine.specs.declared.run_error.RunError.{RunError}
 use Rattle.mir_machine.specs.declared.run_error.RunError.TheVariants as run_error
-use Rattle.mir_machine.specs.Tree.{Tree}
 use Rattle.mir_machine.specs.Frame.{Frame, State}
 use Rattle.mir_machine.specs.FrameStep.{frame_block}
 use Rattle.mir_machine.specs.Step.{Outcome, Running, Returned, Panicked, Stuck, next}

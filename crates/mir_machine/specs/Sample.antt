@@ -8,11 +8,9 @@ use Rattle.logic_term.specs.declared.kinds.Label.{Label}
 use Rattle.logic_term.specs.Range.{fits}
 use Rattle.logic_term.specs.Ty.{Ty, int, bool, no_tys, and_ty}
 use Rattle.mir_ir.specs.declared.place.Lit.TheVariants as lit
-use Rattle.mir_ir.specs.declared.place.Operand.{Operand}
 use Rattle.mir_ir.specs.declared.place.Operand.TheVariants.{Copy, Move, Const}
 use Rattle.mir_ir.specs.declared.statement.Rvalue.{Rvalue}
 use Rattle.mir_ir.specs.declared.statement.Rvalue.TheVariants.{Use, Binary, Neg}
-use Rattle.mir_ir.specs.declared.statement.StatementKind.{StatementKind}
 use Rattle.mir_ir.specs.declared.statement.StatementKind.TheVariants.{Assign, Dead}
 use Rattle.mir_ir.specs.declared.statement.Statement.{Statement}
 use Rattle.mir_ir.specs.declared.terminator.FnId.TheVariants as fn_id
@@ -53,20 +51,20 @@ sample answer takes r = body_of (answer ∷ takes ∷ []) (name 100 ∷ name 101
 abbrev pub absolute : Body
 absolute =
     body_of (int I32 ∷ int I32 ∷ bool ∷ []) (name 100 ∷ name 101 ∷ name 102 ∷ []) (
-      (label 0, block_of (assigned 2 (Binary Lt (Copy (whole 1)) (Const (lit.Int (pos 0) I32))) ∷ []) (If (Move (whole 2)) (label 1) (label 2)))
-      ∷ (label 1, block_of (assigned 0 (Neg (Copy (whole 1))) ∷ record { span = sample_span; kind = Dead 1 } ∷ []) (Goto (label 3)))
-      ∷ (label 2, block_of (assigned 0 (Use (Move (whole 1))) ∷ []) (Goto (label 3)))
-      ∷ (label 3, block_of [] Return)
-      ∷ []
+    (label 0, block_of (assigned 2 (Binary Lt (Copy (whole 1)) (Const (lit.Int (pos 0) I32))) ∷ []) (If (Move (whole 2)) (label 1) (label 2)))
+    ∷ (label 1, block_of (assigned 0 (Neg (Copy (whole 1))) ∷ record { span = sample_span; kind = Dead 1 } ∷ []) (Goto (label 3)))
+    ∷ (label 2, block_of (assigned 0 (Use (Move (whole 1))) ∷ []) (Goto (label 3)))
+    ∷ (label 3, block_of [] Return)
+    ∷ []
     )
 
 -- what body 0 answers of the argument
 abbrev pub calling : Body
 calling =
     body_of (int I32 ∷ int I32 ∷ []) (name 100 ∷ name 101 ∷ []) (
-      (label 0, block_of [] (Call (whole 0) (Function (fn_id.Body 0)) (Copy (whole 1) ∷ []) (label 1)))
-      ∷ (label 1, block_of [] Return)
-      ∷ []
+    (label 0, block_of [] (Call (whole 0) (Function (fn_id.Body 0)) (Copy (whole 1) ∷ []) (label 1)))
+    ∷ (label 1, block_of [] Return)
+    ∷ []
     )
 
 abbrev pub program : List Body

@@ -7,9 +7,9 @@ ghost use Rattle.mir_machine.specs.Tree.{Gone};
 
 use crate::args::Args;
 use crate::frame::{Frame, State};
-use mir_ir::{Bodies, Body};
 use crate::tree::{Tree, TreeNode};
 use logic_term::{Label, Ty};
+use mir_ir::{Bodies, Body};
 use std::alloc::Global;
 use text_core::NoMemory;
 

@@ -234,8 +234,7 @@ fn stands_at_call(bodies: &Bodies, frame: &Frame) -> bool
     let Some(block) = block_of(bodies, frame) else {
         return false;
     };
-    frame.statement >= block.statements.len()
-        && matches!(&block.end.kind, TerminatorKind::Call(..))
+    frame.statement >= block.statements.len() && matches!(&block.end.kind, TerminatorKind::Call(..))
 }
 
 /// How many frames there are, frame 0 not counted.

@@ -84,9 +84,7 @@ fn operation_ty(op: BinaryOp, kind: IntKind) -> Ty
         BinaryOp::Add | BinaryOp::Sub | BinaryOp::Mul | BinaryOp::Div | BinaryOp::Rem => {
             Ty::int(kind)
         }
-        _ => Ty {
-            node: TyNode::Bool,
-        },
+        _ => Ty { node: TyNode::Bool },
     }
 }
 
@@ -175,9 +173,7 @@ fn absolute(alloc: Global) -> Result<Body, NoMemory>
     let mut locals = Items::new(alloc);
     locals.push(Ty::int(IntKind::I32))?;
     locals.push(Ty::int(IntKind::I32))?;
-    locals.push(Ty {
-        node: TyNode::Bool,
-    })?;
+    locals.push(Ty { node: TyNode::Bool })?;
     Ok(Body {
         owner: Text::from_bytes(alloc, b"f")?,
         params: 1,
@@ -256,13 +252,7 @@ fn is_of(kind: IntKind, z: i128) -> bool
 }
 
 /// `x op n` over the integer type.
-fn operation(
-    alloc: Global,
-    kind: IntKind,
-    op: BinaryOp,
-    x: i128,
-    n: i128,
-) -> Result<Came, Fail> {
+fn operation(alloc: Global, kind: IntKind, op: BinaryOp, x: i128, n: i128) -> Result<Came, Fail> {
     if !is_of(kind, x) || !is_of(kind, n) {
         return Ok(Came::Nowhere);
     }
@@ -326,9 +316,21 @@ fn operators_at_the_ends_of_types(rt: HostRuntime) -> Result<(), Fail> {
     let least = i32::MIN as i128;
     for (kind, op, x, n, want) in [
         (IntKind::I8, BinaryOp::Add, 127, 1, overflow),
-        (IntKind::U64, BinaryOp::Add, 18446744073709551614, 1, Came::Integer(18446744073709551615)),
+        (
+            IntKind::U64,
+            BinaryOp::Add,
+            18446744073709551614,
+            1,
+            Came::Integer(18446744073709551615),
+        ),
         (IntKind::U8, BinaryOp::Sub, 0, 1, overflow),
-        (IntKind::I64, BinaryOp::Mul, -9223372036854775808, -1, overflow),
+        (
+            IntKind::I64,
+            BinaryOp::Mul,
+            -9223372036854775808,
+            -1,
+            overflow,
+        ),
         (IntKind::I32, BinaryOp::Div, least, -1, overflow),
         (IntKind::I32, BinaryOp::Rem, least, -1, overflow),
         (IntKind::I16, BinaryOp::Div, 5, 0, division),
@@ -336,12 +338,25 @@ fn operators_at_the_ends_of_types(rt: HostRuntime) -> Result<(), Fail> {
         (IntKind::I32, BinaryOp::Div, -7, 2, Came::Integer(-3)),
         (IntKind::I32, BinaryOp::Rem, -7, 2, Came::Integer(-1)),
         (IntKind::Isize, BinaryOp::Lt, -1, 1, Came::Truth(true)),
-        (IntKind::U32, BinaryOp::Ne, 4294967295, 4294967295, Came::Truth(false)),
+        (
+            IntKind::U32,
+            BinaryOp::Ne,
+            4294967295,
+            4294967295,
+            Came::Truth(false),
+        ),
     ] {
-        assert_eq!(rt; operation(rt.alloc(), kind, op, x, n)?, want, "{kind:?} {op:?} {x} {n}");
+        assert_eq!(rt;
+            operation(rt.alloc(), kind, op, x, n)?,
+            want,
+            "{kind:?} {op:?} {x} {n}"
+        );
     }
     assert_eq!(rt; negation(rt.alloc(), IntKind::I8, -128)?, overflow);
-    assert_eq!(rt; negation(rt.alloc(), IntKind::I8, 127)?, Came::Integer(-127));
+    assert_eq!(rt;
+        negation(rt.alloc(), IntKind::I8, 127)?,
+        Came::Integer(-127)
+    );
     Ok(())
 }
 
@@ -349,7 +364,10 @@ fn operators_at_the_ends_of_types(rt: HostRuntime) -> Result<(), Fail> {
 fn branches_and_calls(rt: HostRuntime) -> Result<(), Fail> {
     assert_eq!(rt; absolute_of(rt.alloc(), 0, -7)?, Came::Integer(7));
     assert_eq!(rt; absolute_of(rt.alloc(), 1, 7)?, Came::Integer(7));
-    assert_eq!(rt; absolute_of(rt.alloc(), 1, i32::MIN)?, Came::Panic(Cause::Overflow));
+    assert_eq!(rt;
+        absolute_of(rt.alloc(), 1, i32::MIN)?,
+        Came::Panic(Cause::Overflow)
+    );
     Ok(())
 }
 

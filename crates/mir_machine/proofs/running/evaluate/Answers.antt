@@ -1,5 +1,4 @@
-use Rattle.std.proofs.Common.{rules}
-use Rattle.mir_machine.proofs.Scalars.{operated, negated_once, inverted_once}
+use Rattle.mir_machine.proofs.Scalars.{operated}
 use Rattle.mir_machine.proofs.running.evaluate.Goals as goal
 
 pub returns-in_ok-y-in-Binary-clause-evaluates : goal.returns-in_ok-y-in-Binary-clause-evaluates
