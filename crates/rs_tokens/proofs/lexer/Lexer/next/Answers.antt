@@ -1,0 +1,29 @@
+use Rattle.std.proofs.Common.{ap, sym, subst, ◌∙◌, length, arith, List, ℕ, drop}
+use Rattle.rs_tokens.specs.Blanks.{Settles}
+use Rattle.rs_tokens.proofs.ReadingLaws.{refused_within, settled_boundary, here_len}
+use Rattle.rs_tokens.proofs.lexer.Lexer.next.Goals as goal
+
+pub range_from-rest-requires : goal.range_from-rest-requires
+range_from-rest-requires c _ =
+    settled_boundary c.as_bytes.result.now c.self.inside.rest.now c.blanks_len-skipped.result c.as_bytes.ensures.value c.as_bytes.ensures.utf8
+    c.blanks_len-skipped.ensures.within c.blanks_len-skipped.ensures.settles
+
+pub overflow_add-span : goal.overflow_add-span
+overflow_add-span c =
+    omega (
+      arith,
+      c.self.invariant.few,
+      refused_within c.range_from-rest.result.now c.in-Err.len c.in-Err.ensures.token,
+      here_len c.self.inside.bytes.now c.self.inside.rest.now c.range_from-rest.result.now c.self.inside.at c.blanks_len-skipped.result c.self.invariant.within
+          (c.self.invariant.left c.in_default.is) (omega (arith, c.blanks_len-skipped.ensures.within, ap length c.as_bytes.ensures.value)) c.range_from-rest.ensures.value,
+    )
+
+pub overflow_cast-span-in-Err-2 : goal.overflow_cast-span-in-Err-2
+overflow_cast-span-in-Err-2 c =
+    omega (
+      arith,
+      c.self.invariant.few,
+      refused_within c.range_from-rest.result.now c.in-Err.len c.in-Err.ensures.token,
+      here_len c.self.inside.bytes.now c.self.inside.rest.now c.range_from-rest.result.now c.self.inside.at c.blanks_len-skipped.result c.self.invariant.within
+          (c.self.invariant.left c.in_default.is) (omega (arith, c.blanks_len-skipped.ensures.within, ap length c.as_bytes.ensures.value)) c.range_from-rest.ensures.value,
+    )
