@@ -3,6 +3,7 @@ pub mod CommentLaws
 pub mod IntegerLaws
 pub mod ListLaws
 pub mod MarkLaws
+pub mod OneReading
 pub mod ReadingLaws
 pub mod StringLaws
 pub mod TokenLaws

@@ -4,6 +4,7 @@
 mod blanks;
 mod fronts;
 mod integers;
+mod laws;
 mod lexer;
 mod marks;
 mod strings;
@@ -11,5 +12,9 @@ mod tables;
 mod token;
 mod words;
 
+pub use laws::{
+    a_next_token_is_the_only_answer, a_refusal_is_the_only_answer, a_text_has_one_list_of_tokens,
+    a_token_has_one_kind,
+};
 pub use lexer::Lexer;
 pub use token::{Token, TokenKind};
