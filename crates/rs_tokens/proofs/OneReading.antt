@@ -1,15 +1,16 @@
 -- A text has one list of tokens.
-use Rattle.std.proofs.Common.{◌≡◌, ◌≢◌, ℕ, zero, suc, ◌+◌, ◌-◌, ◌<◌, ◌≤◌, Bool, true, false, cond, List, [], ◌∷◌, ◌++◌, length, take, drop, get_or, Option, Some, None, refl, sym, ap, subst, ◌∙◌, arith}
+use Rattle.std.proofs.Common.{◌≡◌, ◌≢◌, ℕ, zero, suc, ◌+◌, ◌-◌, ◌<◌, ◌≤◌, Bool, true, false, cond, List, [], ◌∷◌, ◌++◌, length, take, drop, get_or, Option, Some, None, refl, sym, ap, subst, ◌∙◌, append_assoc, arith}
 use Rattle.std.specs.Prelude.{encode_utf8}
 use Rattle.std.proofs.lemmas.Bool.{false≢true}
-use Rattle.std.proofs.lemmas.List.{length-append, length-take-le, length-drop, take-append-drop}
+use Rattle.std.proofs.lemmas.List.{length-append, length-take-le, length-drop, take-append-drop, append-nil}
 use Rattle.std.proofs.lemmas.Str.{encode_same, char_from_byte}
 use Rattle.text_core.specs.declared.span.Span.{Span}
 use Rattle.rs_tokens.specs.declared.token.Token.{Token}
 use Rattle.rs_tokens.specs.declared.token.TokenKind.{TokenKind}
 use Rattle.rs_tokens.specs.Tokens.{IsToken, IsLongestToken, HasNoToken, refused_of}
 use Rattle.rs_tokens.specs.Blanks.{is_white, line_end, opens_comment, CommentEnds, BlankEnds, white, line, block, Skips, none, more, Settles}
-use Rattle.rs_tokens.specs.Reading.{IsRefused, comment, string, character, token, Gives, Refuses, HasEnded, HasTokens, ended, refused}
+use Rattle.rs_tokens.specs.Reading.{IsRefused, comment, string, character, token, Gives, Refuses, HasEnded, HasTokens, ended, refused, HasGiven, nothing, one_more, AreTokens}
+use Rattle.std.specs.Str.{IsUtf8}
 use Rattle.rs_tokens.proofs.ListLaws.{same_head, same_tail, same_second, no_cons, begins_true}
 use Rattle.rs_tokens.proofs.CommentLaws.{one_end}
 use Rattle.rs_tokens.proofs.TokenLaws.{one_kind, token_some}
@@ -178,3 +179,18 @@ one_list bytes at ts us a b (token {first} {others} g rest) (token {first = othe
     let same = one_token bytes at other first h g in
     let both = one_list bytes first.span.end others later a b rest (subst (λ (t : Token). HasTokens bytes t.span.end later b) same tail) in
     (ap (λ (t : Token). t ∷ others) (sym same) ∙ ap (λ (x : List Token). other ∷ x) both.0, both.1)
+
+-- ---- what a lexer has given
+
+pub given_begins : (bytes : List ℕ) (given later : List Token) (at : ℕ) (end : Option Span) → HasGiven bytes given at → HasTokens bytes at later end → HasTokens bytes 0 (given ++ later) end
+given_begins bytes given later at end nothing h = h
+given_begins bytes _ later at end (one_more {given = before} {at = from} {next} so_far g) h =
+    subst (λ (x : List Token). HasTokens bytes 0 x end) (sym (append_assoc before (next ∷ []) later)) (given_begins bytes before (next ∷ later) from end so_far (token g h))
+
+pub given_whole : (bytes : List ℕ) (given : List Token) (at : ℕ) → IsUtf8 bytes → HasGiven bytes given at → HasEnded bytes at → AreTokens bytes given
+given_whole bytes given at utf8 so_far h =
+    record { text = utf8; tokens_of = subst (λ (x : List Token). HasTokens bytes 0 x None) (append-nil given) (given_begins bytes given [] at None so_far (ended h)) }
+
+pub given_refused : (bytes : List ℕ) (given : List Token) (at : ℕ) (span : Span) → HasGiven bytes given at → Refuses bytes at span → HasTokens bytes 0 given (Some span)
+given_refused bytes given at span so_far r =
+    subst (λ (x : List Token). HasTokens bytes 0 x (Some span)) (append-nil given) (given_begins bytes given [] at (Some span) so_far (refused r))

@@ -51,6 +51,11 @@ pub data HasTokens (bytes : List ℕ) : ℕ → List Token → Option Span → T
   token : {at : ℕ} {first : Token} {others : List Token} {end : Option Span} → Gives bytes at first → HasTokens bytes first.span.end others end
       → HasTokens bytes at (first ∷ others) end
 
+-- A lexer that began at the start of the bytes has given these tokens, and stands behind the last of them.
+pub data HasGiven (bytes : List ℕ) : List Token → ℕ → Type 0 where
+  nothing : HasGiven bytes [] 0
+  one_more : {given : List Token} {at : ℕ} {next : Token} → HasGiven bytes given at → Gives bytes at next → HasGiven bytes (given ++ next ∷ []) next.span.end
+
 -- the bytes are the tokens, with blanks between
 pub record AreTokens (bytes : List ℕ) (tokens : List Token) : Type 0 where
   pub text : IsUtf8 bytes

@@ -1,6 +1,7 @@
 //! The lexer.
 ghost use Rattle.std.specs.Prelude.{◌≡◌, ◌<◌, ◌≤◌, ◌^◌, length, Option, None, Some, Ok, Err, IfOk, IfErr, IfSome, IfNone, OnOk, OnErr, MatchOption};
 ghost use Rattle.std.specs.Str.{IsUtf8};
+ghost use Rattle.text_core.specs.declared.refusal.Code.TheVariants.{E01, E02};
 
 use crate::blanks::blanks_len;
 use crate::fronts::front;
@@ -8,8 +9,30 @@ use crate::token::Token;
 use std::marker::Model;
 use text_core::{Code, SourceError, Span};
 
+/// The refusal of bytes that are no UTF-8 from the offset on.
+fn no_text(at: u32) -> SourceError
+    ensures { result ≡ record { code = E01; span = record { start = at; end = at }; other = None } }
+{
+    SourceError {
+        code: Code::E01,
+        span: Span { start: at, end: at },
+        other: None,
+    }
+}
+
+/// The refusal of a part where no token stands.
+fn bad_token(span: Span) -> SourceError
+    ensures { result ≡ record { code = E02; span = span; other = None } }
+{
+    SourceError {
+        code: Code::E02,
+        span,
+        other: None,
+    }
+}
+
 /// Gives the tokens of a text one by one. It takes no memory.
-#[derive(Drop)]
+#[derive(Debug, Drop)]
 pub struct Lexer<'a> {
     bytes: &'a [u8],
     /// What is left behind the token that was given last.
@@ -49,22 +72,12 @@ impl<'a> Lexer<'a> {
                 at: 0,
                 refusal: None,
             },
-            Err(error) => {
-                let bad = error.valid_up_to() as u32;
-                Lexer {
-                    bytes,
-                    rest: "",
-                    at: 0,
-                    refusal: Some(SourceError {
-                        code: Code::E01,
-                        span: Span {
-                            start: bad,
-                            end: bad,
-                        },
-                        other: None,
-                    }),
-                }
-            }
+            Err(error) => Lexer {
+                bytes,
+                rest: "",
+                at: 0,
+                refusal: Some(no_text(error.valid_up_to() as u32)),
+            },
         }
     }
 
@@ -117,15 +130,10 @@ impl<'a> Lexer<'a> {
                 }))
             }
             Err(len) => {
-                let span = Span {
+                let error = bad_token(Span {
                     start: start as u32,
                     end: (start + len) as u32,
-                };
-                let error = SourceError {
-                    code: Code::E02,
-                    span,
-                    other: None,
-                };
+                });
                 self.refusal = Some(error);
                 Err(error)
             }

@@ -8,8 +8,8 @@ range_from-rest-requires c _ =
     settled_boundary c.as_bytes.result.now c.self.inside.rest.now c.blanks_len-skipped.result c.as_bytes.ensures.value c.as_bytes.ensures.utf8
     c.blanks_len-skipped.ensures.within c.blanks_len-skipped.ensures.settles
 
-pub overflow_add-span : goal.overflow_add-span
-overflow_add-span c =
+pub overflow_add-start-in-Err : goal.overflow_add-start-in-Err
+overflow_add-start-in-Err c =
     omega (
       arith,
       c.self.invariant.few,
@@ -18,8 +18,8 @@ overflow_add-span c =
           (c.self.invariant.left c.in_default.is) (omega (arith, c.blanks_len-skipped.ensures.within, ap length c.as_bytes.ensures.value)) c.range_from-rest.ensures.value,
     )
 
-pub overflow_cast-span-in-Err-2 : goal.overflow_cast-span-in-Err-2
-overflow_cast-span-in-Err-2 c =
+pub overflow_cast-start-in-Err : goal.overflow_cast-start-in-Err
+overflow_cast-start-in-Err c =
     omega (
       arith,
       c.self.invariant.few,
