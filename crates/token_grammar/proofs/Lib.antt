@@ -1,0 +1,7 @@
+pub mod Exact
+pub mod Once
+pub mod Local
+pub mod Viable
+pub mod Checked
+pub mod Facts
+pub mod Embed
