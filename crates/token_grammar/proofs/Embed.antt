@@ -1,7 +1,7 @@
 -- What the part reads, the whole reads.
-use Rattle.std.specs.Prelude.{◌≡◌, ℕ, Bool, true, false, List, [], ◌∷◌, map}
+use Rattle.std.specs.Prelude.{◌≡◌, ℕ, List, [], ◌∷◌, map}
 use Rattle.std.proofs.Common.{Option, Some, None, refl, sym, ◌∙◌, ap, subst}
-use Rattle.token_grammar.specs.Grammar.{Grammar, Symbol, terminal, nonterminal, next_kind}
+use Rattle.token_grammar.specs.Grammar.{Grammar, Symbol, next_kind}
 use Rattle.token_grammar.specs.Embeds.{Embeds, on_outcome, on_option, symbol_to}
 use Rattle.token_grammar.specs.Reads.{Outcome, ok, stop, Reads, ReadsParts, ReadsTail, refuse, finish, pass, fail, step}
 use Rattle.token_grammar.specs.Reads.ReadsParts.{nil, miss, token_ok, token_stop, phrase_stop, phrase_ok, phrase_then}

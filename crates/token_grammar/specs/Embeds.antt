@@ -1,5 +1,5 @@
 -- One grammar as a part of another, as that of terms is of that of sources.
-use Rattle.std.specs.Prelude.{◌≡◌, ℕ, Bool, List, [], ◌∷◌, map}
+use Rattle.std.specs.Prelude.{◌≡◌, ℕ, List, map}
 use Rattle.std.proofs.Common.{Option, Some, None}
 use Rattle.token_grammar.specs.Reads.{Outcome, ok, stop}
 use Rattle.token_grammar.specs.Grammar.{Grammar, Symbol, terminal, nonterminal}

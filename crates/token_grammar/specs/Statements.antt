@@ -1,5 +1,5 @@
 -- What holds of every grammar whose tables meet their conditions.
-use Rattle.std.specs.Prelude.{◌≡◌, ℕ, Bool, true, false, List, [], ◌∷◌, ◌++◌, map}
+use Rattle.std.specs.Prelude.{◌≡◌, ℕ, true, false, List, [], ◌∷◌, ◌++◌, map}
 use Rattle.token_grammar.specs.Grammar.{Grammar, Spells, next_kind}
 use Rattle.token_grammar.specs.Reads.{Outcome, ok, stop, Reads}
 use Rattle.token_grammar.specs.Tables.{IsRefusal, IsLimit}
