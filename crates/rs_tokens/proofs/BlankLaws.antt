@@ -1,5 +1,5 @@
 -- Blanks at the front of a text.
-use Rattle.std.proofs.Common.{◌≡◌, ◌≢◌, ℕ, ◌+◌, ◌-◌, ◌<◌, ◌≤◌, Bool, true, false, ◌||◌, ◌==◌, not, List, [], ◌∷◌, ◌++◌, length, take, drop, get_or, refl, sym, ap, subst, ◌∙◌, append_assoc, arith, inl, inr, ◌⊎◌}
+use Rattle.std.proofs.Common.{◌≡◌, ℕ, ◌+◌, ◌-◌, ◌<◌, ◌≤◌, Bool, true, false, ◌||◌, ◌==◌, not, List, [], ◌∷◌, ◌++◌, length, take, drop, get_or, refl, sym, ap, subst, ◌∙◌, append_assoc, arith, inl, inr}
 use Rattle.std.proofs.lemmas.Bool.{false≢true, cases_lt, eqb-true}
 use Rattle.std.specs.Str.{IsUtf8, IsCharBoundary}
 use Rattle.std.proofs.lemmas.Str.{IsUtf8-drop, IsUtf8-nil, IsCharBoundary-before_ascii, IsCharBoundary-after_ascii, IsCharBoundary-from_drop}
@@ -9,7 +9,7 @@ use Rattle.std.proofs.lemmas.List.{drop-drop, drop_all, length-append}
 use Rattle.std.specs.List.{prefix_len}
 use Rattle.rs_tokens.specs.Blanks.{begins, is_white, is_no_line_feed, line_end, opens_comment, CommentEnds, BlankEnds, white, line, block, Skips, none, more}
 use Rattle.rs_tokens.proofs.CommentLaws.{comment_last}
-use Rattle.rs_tokens.proofs.ListLaws.{or_true, get_or_seam, begins_true, rest_of, same_head, same_tail, same_second, no_cons}
+use Rattle.rs_tokens.proofs.ListLaws.{or_true, get_or_seam, begins_true, rest_of, same_head, no_cons}
 
 -- ---- a blank in the code's terms
 

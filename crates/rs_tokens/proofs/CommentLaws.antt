@@ -1,7 +1,7 @@
 -- Where a comment ends.
-use Rattle.std.proofs.Common.{◌≡◌, ℕ, zero, suc, ◌+◌, ◌<◌, ◌≤◌, Bool, true, false, List, [], ◌∷◌, ◌++◌, length, drop, get_or, refl, sym, ap, subst, ◌∙◌, append_assoc, arith}
+use Rattle.std.proofs.Common.{◌≡◌, ℕ, zero, suc, ◌≤◌, true, false, List, [], ◌∷◌, ◌++◌, refl, sym, ap, subst, ◌∙◌, append_assoc, arith}
 use Rattle.std.proofs.lemmas.Bool.{false≢true}
-use Rattle.rs_tokens.specs.Blanks.{begins, opens_comment, closes_comment, CommentEnds, close, nested, other}
+use Rattle.rs_tokens.specs.Blanks.{opens_comment, closes_comment, CommentEnds, close, nested, other}
 use Rattle.rs_tokens.proofs.ListLaws.{same_head, same_tail, same_second, no_cons}
 
 -- ---- by what stands first

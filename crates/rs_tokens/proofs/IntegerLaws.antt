@@ -1,5 +1,5 @@
 -- Integers: their values, and the longest at the front of a text.
-use Rattle.std.proofs.Common.{◌≡◌, ◌≢◌, ℕ, zero, suc, ◌+◌, ◌-◌, ◌*◌, ◌<◌, ◌≤◌, Bool, true, false, ◌&&◌, ◌||◌, ◌==◌, not, cond, List, [], ◌∷◌, ◌++◌, length, take, drop, get_or, map, min, Option, Some, None, refl, sym, ap, subst, ◌∙◌, append_assoc, arith, inl, inr, ◌⊎◌}
+use Rattle.std.proofs.Common.{◌≡◌, ◌≢◌, ℕ, zero, suc, ◌+◌, ◌-◌, ◌*◌, ◌<◌, ◌≤◌, Bool, true, false, ◌&&◌, ◌||◌, ◌==◌, not, cond, List, [], ◌∷◌, ◌++◌, length, take, drop, get_or, map, min, Some, None, refl, sym, ap, subst, ◌∙◌, append_assoc, arith, inl, inr, ◌⊎◌}
 use Rattle.std.specs.Prelude.{filter, nat_lt}
 use Rattle.std.specs.Char.{digit_value}
 use Rattle.std.specs.List.{list_all, list_any, prefix_len}
@@ -10,12 +10,12 @@ use Rattle.std.proofs.Math.Seq.{take-add, drop-append_seam}
 use Rattle.std.specs.Int.Digits.{number_from_digits}
 use Rattle.std.specs.Str.Parse.{digits_value}
 use Rattle.std.proofs.lemmas.Bool.{false≢true, cases_lt, eqb-true, ltb-true, lt-ltb, le-ltb}
-use Rattle.std.proofs.lemmas.List.{length-append, take-append-drop, map-append, take_more, append-nil, length-drop, length-take-le}
+use Rattle.std.proofs.lemmas.List.{length-append, take-append-drop, map-append, append-nil, length-drop}
 use Rattle.std.proofs.lemmas.List.Elements.{filter-append, filter_more}
 use Rattle.std.proofs.lemmas.Int.Digits.{digits_value_is, digits_value_push, number_after_append, number_after_ge}
 use Rattle.std.proofs.lemmas.List.Sums.{prefix_len-le-length}
 use Rattle.rs_tokens.specs.Tokens.{is_digit, continues_digits, base_named, base_of, base_at, after_base, suffixes, is_suffix, IsInteger, HasLongest}
-use Rattle.rs_tokens.proofs.ListLaws.{eqb_unlike, same_head, same_tail, same_second, no_cons, rest_of, and_true, or_true, front_take, front_le, run_at_least, run_passes}
+use Rattle.rs_tokens.proofs.ListLaws.{eqb_unlike, same_head, same_tail, same_second, no_cons, rest_of, and_true, or_true, run_at_least, run_passes}
 
 -- ---- values
 

@@ -1,5 +1,5 @@
 -- Lists at a place.
-use Rattle.std.proofs.Common.{◌≡◌, ℕ, zero, suc, ◌+◌, ◌<◌, ◌≤◌, Bool, true, false, ◌&&◌, cond, eqb, ◌-◌, Some, slice_get, List, [], ◌∷◌, ◌++◌, length, take, drop, get_or, refl, sym, ap, subst, ◌∙◌, add-one, drop-cons, arith, inl, inr, ◌⊎◌, ◌||◌}
+use Rattle.std.proofs.Common.{◌≡◌, ℕ, suc, ◌+◌, ◌<◌, ◌≤◌, Bool, true, false, ◌&&◌, cond, eqb, ◌-◌, Some, slice_get, List, [], ◌∷◌, ◌++◌, length, take, drop, get_or, refl, sym, ap, ◌∙◌, add-one, drop-cons, arith, inl, inr, ◌⊎◌, ◌||◌}
 use Rattle.std.proofs.lemmas.List.{length-append, length-drop, drop-drop}
 use Rattle.std.proofs.Math.Seq.{take-append_seam, take-length}
 use Rattle.std.specs.List.{list_all, prefix_len}

@@ -1,5 +1,5 @@
 -- A text has one list of tokens.
-use Rattle.std.proofs.Common.{◌≡◌, ◌≢◌, ℕ, zero, suc, ◌+◌, ◌-◌, ◌<◌, ◌≤◌, Bool, true, false, cond, List, [], ◌∷◌, ◌++◌, length, take, drop, get_or, Option, Some, None, refl, sym, ap, subst, ◌∙◌, append_assoc, arith}
+use Rattle.std.proofs.Common.{◌≡◌, ℕ, ◌≤◌, true, false, List, [], ◌∷◌, ◌++◌, length, take, drop, get_or, Option, Some, None, refl, sym, ap, subst, ◌∙◌, append_assoc, arith}
 use Rattle.std.specs.Prelude.{encode_utf8}
 use Rattle.std.proofs.lemmas.Bool.{false≢true}
 use Rattle.std.proofs.lemmas.List.{length-append, length-take-le, length-drop, take-append-drop, append-nil}
@@ -11,7 +11,7 @@ use Rattle.rs_tokens.specs.Tokens.{IsToken, IsLongestToken, HasNoToken, refused_
 use Rattle.rs_tokens.specs.Blanks.{is_white, line_end, opens_comment, CommentEnds, BlankEnds, white, line, block, Skips, none, more, Settles}
 use Rattle.rs_tokens.specs.Reading.{IsRefused, comment, string, character, token, Gives, Refuses, HasEnded, HasTokens, ended, refused, HasGiven, nothing, one_more, AreTokens}
 use Rattle.std.specs.Str.{IsUtf8}
-use Rattle.rs_tokens.proofs.ListLaws.{same_head, same_tail, same_second, no_cons, begins_true}
+use Rattle.rs_tokens.proofs.ListLaws.{same_head, same_tail, same_second, begins_true}
 use Rattle.rs_tokens.proofs.CommentLaws.{one_end}
 use Rattle.rs_tokens.proofs.TokenLaws.{one_kind, token_some}
 use Rattle.rs_tokens.proofs.WordLaws.{encode_some}

@@ -1,12 +1,12 @@
 -- The longest token at the front of a text.
-use Rattle.std.proofs.Common.{◌≡◌, ◌≢◌, ℕ, zero, suc, ◌+◌, ◌-◌, ◌<◌, ◌≤◌, Bool, true, false, ◌&&◌, ◌||◌, ◌==◌, not, cond, eqb, List, [], ◌∷◌, ◌++◌, length, take, drop, get_or, slice_get, Option, Some, None, refl, sym, ap, subst, ◌∙◌, append_assoc, arith, inl, inr, ◌⊎◌}
+use Rattle.std.proofs.Common.{◌≡◌, ◌≢◌, ℕ, zero, suc, ◌+◌, ◌-◌, ◌<◌, ◌≤◌, Bool, true, false, ◌&&◌, ◌||◌, ◌==◌, cond, List, [], ◌∷◌, ◌++◌, length, take, drop, get_or, slice_get, Option, Some, None, refl, sym, ap, subst, ◌∙◌, arith, inl, inr}
 use Rattle.std.specs.Prelude.{IsSome, is_some, nat_lt, nat_le, encode_utf8_all, MatchOption}
-use Rattle.std.specs.Char.{digit_value, is_ascii_alphabetic}
+use Rattle.std.specs.Char.{is_ascii_alphabetic}
 use Rattle.std.specs.List.{list_all}
-use Rattle.std.specs.Str.{IsUtf8, IsCharBoundary, IsAscii}
-use Rattle.std.proofs.lemmas.Bool.{false≢true, cases_lt, eqb-true, ltb-true, lt-ltb, le-ltb, le-leb, leb-true}
-use Rattle.std.proofs.lemmas.Bool.Decides.{nat_tests, eqb_tells}
-use Rattle.std.proofs.lemmas.List.{length-append, length-drop, length-take-le, take-append-drop}
+use Rattle.std.specs.Str.{IsUtf8, IsCharBoundary}
+use Rattle.std.proofs.lemmas.Bool.{false≢true, cases_lt, eqb-true, ltb-true, le-leb, leb-true}
+use Rattle.std.proofs.lemmas.Bool.Decides.{nat_tests}
+use Rattle.std.proofs.lemmas.List.{length-append, take-append-drop}
 use Rattle.std.proofs.lemmas.Str.{char_from_byte, IsUtf8-from_ascii, IsCharBoundary-from_take, IsCharBoundary-after_ascii}
 use Rattle.unicode_ident.specs.Ident.{is_xid_start}
 use Rattle.unicode_ident.proofs.IdentLemmas.{is_xid_start-ascii}
@@ -14,8 +14,8 @@ use Rattle.rs_tokens.specs.declared.token.Front.{Front}
 use Rattle.rs_tokens.specs.declared.token.TokenKind.{TokenKind}
 use Rattle.rs_tokens.specs.declared.token.TokenKind.TheVariants.{Int, Str, Lifetime}
 use Rattle.rs_tokens.specs.Tables.{Row, marks, kind_in}
-use Rattle.rs_tokens.specs.Tokens.{is_digit, begins_word, IsWord, word_kind, IsInteger, IsString, IsQuotedWord, StringEnds, quote, escape, plain, HasLongest, HasNone, IsToken, word, integer, string, lifetime, mark, IsLongestToken, HasNoToken}
-use Rattle.rs_tokens.proofs.ListLaws.{and_true, or_true, same_head, same_tail, no_cons, eqb_unlike, head_of, rest_of}
+use Rattle.rs_tokens.specs.Tokens.{is_digit, IsWord, word_kind, IsInteger, IsString, IsQuotedWord, StringEnds, HasLongest, HasNone, IsToken, word, integer, string, lifetime, mark, IsLongestToken, HasNoToken}
+use Rattle.rs_tokens.proofs.ListLaws.{and_true, or_true, same_head, eqb_unlike, head_of, rest_of}
 use Rattle.rs_tokens.proofs.MarkLaws.{row_passes, mark_len}
 use Rattle.rs_tokens.proofs.IntegerLaws.{integer_head, integer_ascii}
 use Rattle.rs_tokens.proofs.StringLaws.{string_last, string_longest, no_string_form}

@@ -1,5 +1,5 @@
 -- What stands between tokens.
-use Rattle.std.specs.Prelude.{◌≡◌, ℕ, Bool, true, false, ◌==◌, ◌&&◌, ◌||◌, not, List, [], ◌∷◌, drop, IsTrue}
+use Rattle.std.specs.Prelude.{◌≡◌, ℕ, Bool, false, ◌==◌, ◌&&◌, ◌||◌, not, List, [], ◌∷◌, drop, IsTrue}
 use Rattle.std.specs.List.{prefix_len}
 
 -- ---- white space and line comments (Rust Reference, "Whitespace" and "Comments")
@@ -50,7 +50,7 @@ pub data Skips : List ℕ → List ℕ → Type 0 where
   none : {text rest : List ℕ} → text ≡ rest → Skips text rest
   more : {text after rest : List ℕ} → BlankEnds text after → Skips after rest → Skips text rest
 
--- the rest stands behind all blanks at the front of the text
+-- The rest stands behind all blanks at the front of the text. A comment that is not closed is no blank.
 pub record Settles (text rest : List ℕ) : Type 0 where
   pub skips : Skips text rest
   pub stops : (after : List ℕ) → BlankEnds rest after → ⊥

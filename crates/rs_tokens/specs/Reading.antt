@@ -1,5 +1,5 @@
 -- The tokens of a whole text, and where it is refused.
-use Rattle.std.specs.Prelude.{◌≡◌, ◌≢◌, ℕ, ◌+◌, ◌≤◌, Bool, true, false, List, [], ◌∷◌, ◌++◌, length, take, drop, encode_utf8, Option, None, Some}
+use Rattle.std.specs.Prelude.{◌≡◌, ◌≢◌, ℕ, ◌+◌, ◌≤◌, true, false, List, [], ◌∷◌, ◌++◌, length, take, drop, encode_utf8, Option, None, Some}
 use Rattle.std.specs.Str.{IsUtf8, IsValidUpTo}
 use Rattle.text_core.specs.declared.span.Span.{Span}
 use Rattle.text_core.specs.declared.refusal.SourceError.{SourceError}
@@ -7,7 +7,7 @@ use Rattle.text_core.specs.declared.refusal.Code.TheVariants.{E01, E02}
 use Rattle.rs_tokens.specs.declared.token.Token.{Token}
 use Rattle.rs_tokens.specs.declared.token.TokenKind.{TokenKind}
 use Rattle.rs_tokens.specs.Tokens.{IsLongestToken, HasNoToken, refused_of}
-use Rattle.rs_tokens.specs.Blanks.{opens_comment, Skips, Settles}
+use Rattle.rs_tokens.specs.Blanks.{opens_comment, Settles}
 
 -- The text, which begins with no blank, is refused, and so many bytes of it are shown.
 pub data IsRefused : List ℕ → ℕ → Type 0 where
@@ -22,7 +22,7 @@ pub data IsRefused : List ℕ → ℕ → Type 0 where
   token : {text : List ℕ} {kind : TokenKind} {size len : ℕ} → opens_comment text ≡ false → IsLongestToken kind text size
       → refused_of kind (take size text) ≡ Some len → IsRefused text len
 
--- From the offset on the next token is this one: the longest that stands behind all blanks.
+-- From the offset on the next token is this one: the longest that stands behind all blanks, where no open comment does, and within its bound.
 pub record Gives (bytes : List ℕ) (at : ℕ) (token : Token) : Type 0 where
   pub len : ℕ
   pub ends : token.span.end ≡ token.span.start + len

@@ -1,6 +1,6 @@
 -- The words and marks that have kinds of their own, by their texts.
 -- Source: Rust Reference, "Keywords" (strict keywords, edition 2021) and "Tokens" (punctuation); `==>` is the implication of terms.
-use Rattle.std.specs.Prelude.{◌≡◌, ℕ, List, [], ◌∷◌, codes, Option, None, Some, if◌then◌else◌}
+use Rattle.std.specs.Prelude.{ℕ, List, [], ◌∷◌, codes, Option, None, Some, if◌then◌else◌}
 use Rattle.std.specs.Borrow.{Bor}
 use Rattle.std.specs.Str.{bytes_eq}
 use Rattle.rs_tokens.specs.declared.token.TokenKind.{TokenKind}

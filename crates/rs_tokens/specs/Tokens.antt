@@ -1,5 +1,5 @@
 -- What a token is, by its text.
-use Rattle.std.specs.Prelude.{◌≡◌, ◌≢◌, ℕ, ◌+◌, ◌-◌, ◌^◌, ◌<◌, ◌≤◌, Bool, true, false, ◌==◌, nat_lt, ◌||◌, ◌&&◌, not, if◌then◌else◌, List, [], ◌∷◌, ◌++◌, length, take, drop, codes, filter, take_while, encode_utf8_all, Option, None, Some, unwrap_or, IsTrue}
+use Rattle.std.specs.Prelude.{◌≡◌, ◌≢◌, ℕ, ◌+◌, ◌-◌, ◌^◌, ◌≤◌, Bool, true, false, ◌==◌, nat_lt, ◌||◌, ◌&&◌, not, if◌then◌else◌, List, [], ◌∷◌, ◌++◌, length, take, drop, codes, filter, take_while, encode_utf8_all, Option, None, Some, unwrap_or, IsTrue}
 use Rattle.std.specs.Char.{digit_value}
 use Rattle.std.specs.List.{list_all, list_any}
 use Rattle.std.specs.Str.{bytes_eq}
@@ -81,7 +81,7 @@ pub record IsInteger (text : List ℕ) : Type 0 where
   pub digits : IsTrue (list_all (continues_digits (base_of text)) others)
   pub ends : IsTrue (is_suffix suffix)
 
--- the base that is named at the front of a text with a digit behind it, and else ten
+-- the base of the longest integer at the front of a text: it is named there with a digit behind, and else it is ten
 abbrev pub base_at : List ℕ → ℕ
 base_at [] = 10
 base_at (a ∷ []) = 10
@@ -98,7 +98,8 @@ integer_value text = digits_value (base_of text) (digits_of text)
 
 -- ---- strings (Rust Reference, "String literals")
 
--- Behind the opening `"`, the text runs to the closing one, and the rest follows it: a `\` stands before any character.
+-- Behind the opening `"`, the text runs to the closing one, and the rest follows it: a `\` stands before any character. That is said by bytes,
+-- since in UTF-8 no byte of another character is `"` or `\`.
 pub data StringEnds : List ℕ → List ℕ → Type 0 where
   quote : {text rest : List ℕ} → text ≡ 34 ∷ rest → StringEnds text rest
   escape : {text rest more : List ℕ} {b : ℕ} → text ≡ 92 ∷ (b ∷ more) → StringEnds more rest → StringEnds text rest

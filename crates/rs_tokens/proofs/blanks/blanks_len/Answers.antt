@@ -1,4 +1,4 @@
-use Rattle.std.proofs.Common.{ℕ, List, ◌≡◌, ◌+◌, ◌-◌, ◌≤◌, length, take, drop, sym, ap, subst, ◌∙◌, refl, arith}
+use Rattle.std.proofs.Common.{ℕ, List, length, drop, sym, ap, subst, refl, arith}
 use Rattle.rs_tokens.specs.Blanks.{BlankEnds, none, more}
 use Rattle.rs_tokens.proofs.ListLaws.{rest_of}
 use Rattle.rs_tokens.proofs.BlankLaws.{blank_at}

@@ -1,6 +1,6 @@
-use Rattle.std.proofs.Common.{drop, ◌+◌, ◌-◌, ◌≡◌, length, take, refl, sym, ap, ◌∙◌, arith, subst}
+use Rattle.std.proofs.Common.{drop, ◌+◌, ◌-◌, refl, sym, ap, ◌∙◌, arith}
 use Rattle.std.proofs.lemmas.List.{drop_all}
-use Rattle.rs_tokens.specs.Blanks.{begins, opens_comment, closes_comment}
+use Rattle.rs_tokens.specs.Blanks.{opens_comment, closes_comment}
 use Rattle.rs_tokens.proofs.ListLaws.{begins_at, two_within, drop_byte, rest_of}
 use Rattle.rs_tokens.proofs.CommentLaws.{close_step, open_step, other_step, none_left}
 use Rattle.rs_tokens.proofs.blanks.comment_len.Goals as goal

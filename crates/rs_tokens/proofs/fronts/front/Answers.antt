@@ -1,5 +1,4 @@
-use Rattle.std.proofs.Common.{ℕ, List, ap, sym, subst, ◌∙◌, ◌≡◌, ◌≤◌, length, take, refl, arith}
-use Rattle.std.proofs.lemmas.List.{length-take-le}
+use Rattle.std.proofs.Common.{ℕ, List, ap, sym, ◌∙◌, length, take, refl, arith}
 use Rattle.rs_tokens.specs.Blanks.{opens_comment}
 use Rattle.rs_tokens.specs.Tokens.{refused_of}
 use Rattle.rs_tokens.specs.Reading.{comment, token}

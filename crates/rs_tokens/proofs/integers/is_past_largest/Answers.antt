@@ -1,4 +1,4 @@
-use Rattle.std.proofs.Common.{◌≢◌, ◌≡◌, get_or, sym, ◌∙◌, arith}
+use Rattle.std.proofs.Common.{sym, ◌∙◌, arith}
 use Rattle.rs_tokens.specs.Tokens.{largest_integer}
 use Rattle.rs_tokens.proofs.IntegerLaws.{past, next_digit, next_low}
 use Rattle.rs_tokens.proofs.integers.is_past_largest.Goals as goal

@@ -1,4 +1,4 @@
-use Rattle.std.proofs.Common.{ℕ, sym, subst, ◌∙◌, ap, take, length, min}
+use Rattle.std.proofs.Common.{ℕ, sym, ◌∙◌, ap, take}
 use Rattle.rs_tokens.specs.Tables.{marks, kind_in}
 use Rattle.rs_tokens.proofs.MarkLaws.{three_longest, two_longest, one_longest, none_longest}
 use Rattle.rs_tokens.proofs.marks.longest_mark.Goals as goal

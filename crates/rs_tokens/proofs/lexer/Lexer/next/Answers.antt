@@ -1,5 +1,4 @@
-use Rattle.std.proofs.Common.{ap, sym, subst, ◌∙◌, length, arith, List, ℕ, drop}
-use Rattle.rs_tokens.specs.Blanks.{Settles}
+use Rattle.std.proofs.Common.{ap, length, arith}
 use Rattle.rs_tokens.proofs.ReadingLaws.{refused_within, settled_boundary, here_len}
 use Rattle.rs_tokens.proofs.lexer.Lexer.next.Goals as goal
 
