@@ -2,25 +2,17 @@
 use Rattle.std.specs.Prelude.{◌≡◌, ℕ, List, [], ◌∷◌, ◌++◌}
 use Rattle.std.proofs.Common.{Option, refl, sym, ◌∙◌, ap, subst, append_assoc}
 use Rattle.token_grammar.specs.Grammar.{Grammar, Symbol, next_kind}
-use Rattle.token_grammar.specs.Reads.{Outcome, ok, stop, Reads, ReadsParts, ReadsTail, refuse, finish, pass, fail, step}
+use Rattle.token_grammar.specs.Reads.{Outcome, ok, stop, rest, with_rest, Reads, ReadsParts, ReadsTail, refuse, finish, pass, fail, step}
 use Rattle.token_grammar.specs.Reads.ReadsParts.{nil, miss, token_ok, token_stop, phrase_stop, phrase_ok, phrase_then}
 use Rattle.token_grammar.specs.Reads.ReadsTail.{done, more}
-
-abbrev pub rest : {V T : Type 0} → Outcome V T → List T
-rest (ok v ys) = ys
-rest (stop b ys) = ys
-
-abbrev pub move : {V T : Type 0} → List T → Outcome V T → Outcome V T
-move zs (ok v ys) = ok v zs
-move zs (stop b ys) = stop b zs
 
 pub record Local (G : Grammar) {V : Type 0} (R : List G.Token → Outcome V G.Token → Type 0) (xs : List G.Token) (o : Outcome V G.Token) : Type 0 where
   pub pre : List G.Token
   pub split : xs ≡ pre ++ rest o
-  pub again : (zs : List G.Token) → next_kind G zs ≡ next_kind G (rest o) → R (pre ++ zs) (move zs o)
+  pub again : (zs : List G.Token) → next_kind G zs ≡ next_kind G (rest o) → R (pre ++ zs) (with_rest zs o)
 
 abbrev local_by : {G : Grammar} {V : Type 0} {R : List G.Token → Outcome V G.Token → Type 0} {xs : List G.Token} {o : Outcome V G.Token}
-    (pre : List G.Token) → xs ≡ pre ++ rest o → ((zs : List G.Token) → next_kind G zs ≡ next_kind G (rest o) → R (pre ++ zs) (move zs o)) → Local G R xs o
+    (pre : List G.Token) → xs ≡ pre ++ rest o → ((zs : List G.Token) → next_kind G zs ≡ next_kind G (rest o) → R (pre ++ zs) (with_rest zs o)) → Local G R xs o
 local_by pre e f = record { pre = pre; split = e; again = f }
 
 module _ (G : Grammar) where
@@ -37,7 +29,7 @@ module _ (G : Grammar) where
   two : {U V W : Type 0} {R : List G.Token → Outcome U G.Token → Type 0} {S : List G.Token → Outcome V G.Token → Type 0} {u : U}
       {xs ys : List G.Token} {o : Outcome V G.Token} (Q : List G.Token → Outcome W G.Token → Type 0) (q : Outcome W G.Token) → rest q ≡ rest o →
       (p : Local G R xs (ok u ys)) (p₂ : Local G S ys o) →
-      ((pre us zs : List G.Token) → xs ≡ pre ++ ys → next_kind G us ≡ next_kind G ys → R (pre ++ us) (ok u us) → S us (move zs o) → Q (pre ++ us) (move zs q)) →
+      ((pre us zs : List G.Token) → xs ≡ pre ++ ys → next_kind G us ≡ next_kind G ys → R (pre ++ us) (ok u us) → S us (with_rest zs o) → Q (pre ++ us) (with_rest zs q)) →
       Local G Q xs q
   two {xs = xs} {ys = ys} {o = o} Q q same p p₂ both =
       let pre = p.pre in let pre₂ = p₂.pre in let f = p.split in let f₂ = p₂.split in
@@ -45,7 +37,7 @@ module _ (G : Grammar) where
       local_by (pre ++ pre₂) (f₃ ∙ sym (append_assoc pre pre₂ (rest o)) ∙ ap (λ (us : List G.Token). (pre ++ pre₂) ++ us) (sym same))
       (λ zs k. let k₁ : next_kind G zs ≡ next_kind G (rest o) = k ∙ ap (next_kind G) same in
       let k₂ : next_kind G (pre₂ ++ zs) ≡ next_kind G ys = same_peek pre₂ zs (rest o) k₁ ∙ sym (ap (next_kind G) f₂) in
-      subst (λ (us : List G.Token). Q us (move zs q)) (sym (append_assoc pre pre₂ zs))
+      subst (λ (us : List G.Token). Q us (with_rest zs q)) (sym (append_assoc pre pre₂ zs))
       (both pre (pre₂ ++ zs) zs f k₂ (p.again (pre₂ ++ zs) k₂) (p₂.again zs k₁)))
 
   mutual

@@ -7,7 +7,7 @@ use Rattle.token_grammar.specs.Grammar.Tail.{done as t_done, more as t_more}
 use Rattle.token_grammar.specs.Reads.{ok, stop, Reads, ReadsParts, ReadsTail, refuse, finish, pass, fail, step}
 use Rattle.token_grammar.specs.Reads.ReadsParts.{nil, miss, token_ok, token_stop, phrase_stop, phrase_ok, phrase_then}
 use Rattle.token_grammar.specs.Reads.ReadsTail.{done, more}
-use Rattle.token_grammar.specs.Tables.{IsExact, Plan, Planned, CanBegin, short_seq, not_taken, fits, each, ranked, by_token, without_limits}
+use Rattle.token_grammar.specs.Tables.{IsExact, Plan, Planned, CanBegin, short_text, not_taken, fits, each, ranked, by_token, without_limits}
 
 and_left : (a b : Bool) → (a && b) ≡ true → a ≡ true
 and_left true b h = refl
@@ -50,21 +50,21 @@ module _ (G : Grammar) (s : IsExact G) (p : Plan G) (h : Planned G p) where
   Filled n = (d c : ℕ) (a : G.Value) (us : List G.Token) → IsClearOf (p.class n) us → (w : G.Value) × Spells (without_limits G) n d c a (p.short n ++ us) w us
 
   filled_tail : (t : Option G.Nonterminal) (q : ℕ) → ((m : G.Nonterminal) → t ≡ Some m → Filled m) → fits G p [] t q ≡ true → (d c : ℕ) (a : G.Value)
-      (us : List G.Token) → IsClearOf q us → (w : G.Value) × Tail (without_limits G) t d c a (short_seq G p [] t ++ us) w us
+      (us : List G.Token) → IsClearOf q us → (w : G.Value) × Tail (without_limits G) t d c a (short_text G p [] t ++ us) w us
   unfolding Filled
   filled_tail None q f e d c a us k = (a, t_done)
   filled_tail (Some m) q f e d c a us k = let (w, x) = f m refl d c a us (clear_in (p.class m) [] q us e k) in (w, t_more x)
 
   filled_parts : (may : G.Nonterminal → Bool) → ((m : G.Nonterminal) → may m ≡ true → Filled m) → (ss : List (Symbol G.Kind G.Nonterminal)) (t : Option G.Nonterminal) (q : ℕ) →
       each G may ss t ≡ true → fits G p ss t q ≡ true → (d : ℕ) (us : List G.Token) → IsClearOf q us →
-      (vs : List G.Value) × Parts (without_limits G) ss d (short_seq G p ss t ++ us) vs (short_seq G p [] t ++ us)
+      (vs : List G.Value) × Parts (without_limits G) ss d (short_text G p ss t ++ us) vs (short_text G p [] t ++ us)
   unfolding Filled
   filled_parts may g [] t q e f d us k = ([], p_nil)
   filled_parts may g (terminal j ∷ ss) t q e f d us k = let (vs, x) = filled_parts may g ss t q e f d us k in
       (G.leaf (p.sample j) ∷ vs, p_token (h.sampled j) x)
-  filled_parts may g (nonterminal m ∷ ss) t q e f d us k = let (vs, x) = filled_parts may g ss t q (and_right (may m) (each G may ss t) e) (and_right (not_taken G p (p.class m) (short_seq G p ss t) q) (fits G p ss t q) f) d us k in
-      let (w, y) = g m (and_left (may m) (each G may ss t) e) d 0 G.nothing (short_seq G p ss t ++ us)
-      (clear_in (p.class m) (short_seq G p ss t) q us (and_left (not_taken G p (p.class m) (short_seq G p ss t) q) (fits G p ss t q) f) k) in
+  filled_parts may g (nonterminal m ∷ ss) t q e f d us k = let (vs, x) = filled_parts may g ss t q (and_right (may m) (each G may ss t) e) (and_right (not_taken G p (p.class m) (short_text G p ss t) q) (fits G p ss t q) f) d us k in
+      let (w, y) = g m (and_left (may m) (each G may ss t) e) d 0 G.nothing (short_text G p ss t ++ us)
+      (clear_in (p.class m) (short_text G p ss t) q us (and_left (not_taken G p (p.class m) (short_text G p ss t) q) (fits G p ss t q) f) k) in
       (w ∷ vs, rw append_assoc (p_phrase y x))
 
   each_tail : (may : G.Nonterminal → Bool) (ss : List (Symbol G.Kind G.Nonterminal)) (t : Option G.Nonterminal) → each G may ss t ≡ true → (m : G.Nonterminal) → t ≡ Some m → may m ≡ true
@@ -76,12 +76,12 @@ module _ (G : Grammar) (s : IsExact G) (p : Plan G) (h : Planned G p) where
   fits_tail : (ss : List (Symbol G.Kind G.Nonterminal)) (t : Option G.Nonterminal) (q : ℕ) → fits G p ss t q ≡ true → fits G p [] t q ≡ true
   fits_tail [] t q f = f
   fits_tail (terminal k ∷ ss) t q f = fits_tail ss t q f
-  fits_tail (nonterminal m ∷ ss) t q f = fits_tail ss t q (and_right (not_taken G p (p.class m) (short_seq G p ss t) q) (fits G p ss t q) f)
+  fits_tail (nonterminal m ∷ ss) t q f = fits_tail ss t q (and_right (not_taken G p (p.class m) (short_text G p ss t) q) (fits G p ss t q) f)
 
   -- a rule's parts, and its tail, from anywhere in the rule
   filled_rule : (may : G.Nonterminal → Bool) → ((m : G.Nonterminal) → may m ≡ true → Filled m) → (r : G.Rule) → each G may (G.parts r) (G.tail r) ≡ true →
       (d c : ℕ) (a : G.Value) (us : List G.Token) → IsClearOf (p.class (G.left r)) us →
-      (w : G.Value) × Spells (without_limits G) (G.left r) d c a (short_seq G p (G.parts r) (G.tail r) ++ us) w us
+      (w : G.Value) × Spells (without_limits G) (G.left r) d c a (short_text G p (G.parts r) (G.tail r) ++ us) w us
   filled_rule may g r e d c a us k =
       let q = p.class (G.left r) in let f = h.fitted r in
       let (vs, x) = filled_parts may g (G.parts r) (G.tail r) q e f (G.levels r d) us k in
@@ -96,12 +96,12 @@ module _ (G : Grammar) (s : IsExact G) (p : Plan G) (h : Planned G p) where
       by : ((m : G.Nonterminal) → ltb (p.rank m) (p.rank n) ≡ true → Filled m) → (b : Bool) → G.may_end n ≡ b → (w : G.Value) × Spells (without_limits G) n d c a (p.short n ++ us) w us
       by g true e = let e₂ : p.short n ≡ [] = rw e at (h.shortly n) in
           (G.close n a, rw e₂ (finished e (at_clear n us e k)))
-      by g false e = let e₂ : p.short n ≡ short_seq G p (G.parts (p.plan n)) (G.tail (p.plan n)) = rw e at (h.shortly n) in
+      by g false e = let e₂ : p.short n ≡ short_text G p (G.parts (p.plan n)) (G.tail (p.plan n)) = rw e at (h.shortly n) in
           let e₃ : ranked G p (p.rank n) (G.parts (p.plan n)) (G.tail (p.plan n)) ≡ true = rw e at (h.falls n) in
           let e₄ : G.left (p.plan n) ≡ n = h.planned n e in
           let k₂ : IsClearOf (p.class (G.left (p.plan n))) us = rw e₄ k in
           let z = filled_rule (λ m. ltb (p.rank m) (p.rank n)) g (p.plan n) e₃ d c a us k₂ in
-          (z.0, rw e₂ (subst (λ (m : G.Nonterminal). Spells (without_limits G) m d c a (short_seq G p (G.parts (p.plan n)) (G.tail (p.plan n)) ++ us) z.0 us) e₄ z.1))
+          (z.0, rw e₂ (subst (λ (m : G.Nonterminal). Spells (without_limits G) m d c a (short_text G p (G.parts (p.plan n)) (G.tail (p.plan n)) ++ us) z.0 us) e₄ z.1))
 
       smaller : (m : G.Nonterminal) → ltb (p.rank m) (p.rank n) ≡ true → p.rank m < f
       smaller m j = let j₂ : p.rank m < p.rank n = lt_of (p.rank m) (p.rank n) j in omega arith
@@ -159,14 +159,14 @@ module _ (G : Grammar) (s : IsExact G) (p : Plan G) (h : Planned G p) where
   pub record AgainParts (ss : List (Symbol G.Kind G.Nonterminal)) (t : Option G.Nonterminal) (q d : ℕ) (vs : List G.Value) (xs ys : List G.Token) : Type 0 where
     pub pre : List G.Token
     pub split : xs ≡ pre ++ ys
-    pub short : pre ≡ [] → short_seq G p ss t ≡ short_seq G p [] t
+    pub short : pre ≡ [] → short_text G p ss t ≡ short_text G p [] t
     pub none : pre ≡ [] → (k : G.Kind) → next_kind G xs ≡ Some k → CanBegin G k ss → ⊥
-    pub again : (us : List G.Token) → Ahead_of (short_seq G p [] t) q ys us → Parts (without_limits G) ss d (pre ++ us) vs us
+    pub again : (us : List G.Token) → Ahead_of (short_text G p [] t) q ys us → Parts (without_limits G) ss d (pre ++ us) vs us
 
   pub record AgainTail (t : Option G.Nonterminal) (q d c : ℕ) (a w : G.Value) (xs ys : List G.Token) : Type 0 where
     pub pre : List G.Token
     pub split : xs ≡ pre ++ ys
-    pub short : pre ≡ [] → short_seq G p [] t ≡ []
+    pub short : pre ≡ [] → short_text G p [] t ≡ []
     pub again : (us : List G.Token) → Ahead q ys us → Tail (without_limits G) t d c a (pre ++ us) w us
 
   short_ended : (n : G.Nonterminal) → G.may_end n ≡ true → p.short n ≡ []
@@ -206,7 +206,7 @@ module _ (G : Grammar) (s : IsExact G) (p : Plan G) (h : Planned G p) where
           may_end = λ i. absurd (bot i);
           none = λ i. absurd (bot i);
           again = λ us k. let k₂ : Ahead q ys us = rw o k in
-              let x = P.again (T.pre ++ us) (over_tail T.pre ys mid us (short_seq G p [] (G.tail r)) q T.split T.short k₂) in
+              let x = P.again (T.pre ++ us) (over_tail T.pre ys mid us (short_text G p [] (G.tail r)) q T.split T.short k₂) in
               subst (λ (m : G.Nonterminal). Spells (without_limits G) m d c a ((P.pre ++ T.pre) ++ us) w us) o
               (rw (append_assoc P.pre T.pre us) (expand r refl x (T.again us k₂)));
         }
@@ -223,15 +223,15 @@ module _ (G : Grammar) (s : IsExact G) (p : Plan G) (h : Planned G p) where
           again = λ us k. p_token e (P.again us k);
         }
     again_parts (phrase_ok {ss} {n = m} {xs = xs} {ys = mid} {zs = ys} r ps) t q f =
-        let A = again r in let P = again_parts ps t q (and_right (not_taken G p (p.class m) (short_seq G p ss t) q) (fits G p ss t q) f) in
+        let A = again r in let P = again_parts ps t q (and_right (not_taken G p (p.class m) (short_text G p ss t) q) (fits G p ss t q) f) in
         record {
           pre = A.pre ++ P.pre;
           split = A.split ∙ ap (λ (us : List G.Token). A.pre ++ us) P.split ∙ sym (append_assoc A.pre P.pre ys);
-          short = λ i. ap (λ (us : List G.Token). us ++ short_seq G p ss t) (short_ended m (A.may_end (empty_left A.pre P.pre i))) ∙ P.short (empty_right A.pre P.pre i);
+          short = λ i. ap (λ (us : List G.Token). us ++ short_text G p ss t) (short_ended m (A.may_end (empty_left A.pre P.pre i))) ∙ P.short (empty_right A.pre P.pre i);
           none = λ i k g j. (let g₂ : None ≡ Some j.0 = sym (A.none (empty_left A.pre P.pre i)) ∙ ap (G.choose m) g ∙ j.1 in cc);
           again = λ us k. rw (append_assoc A.pre P.pre us) (p_phrase
-              (A.again (P.pre ++ us) (over_parts P.pre ys mid us (short_seq G p ss t) (short_seq G p [] t) (p.class m) q P.split P.short
-              (and_left (not_taken G p (p.class m) (short_seq G p ss t) q) (fits G p ss t q) f) k))
+              (A.again (P.pre ++ us) (over_parts P.pre ys mid us (short_text G p ss t) (short_text G p [] t) (p.class m) q P.split P.short
+              (and_left (not_taken G p (p.class m) (short_text G p ss t) q) (fits G p ss t q) f) k))
               (P.again us k));
         }
 
@@ -258,9 +258,9 @@ module _ (G : Grammar) (s : IsExact G) (p : Plan G) (h : Planned G p) where
     pub pre : List G.Token
     pub on : List G.Token
     pub split : xs ≡ pre ++ ys
-    pub at : pre ≡ [] → ((on ≡ short_seq G p ss t) × ((k : G.Kind) → next_kind G xs ≡ Some k → CanBegin G k ss → ⊥)) ⊎ Same on ys
+    pub at : pre ≡ [] → ((on ≡ short_text G p ss t) × ((k : G.Kind) → next_kind G xs ≡ Some k → CanBegin G k ss → ⊥)) ⊎ Same on ys
     pub taken : b ≡ true → Same on ys
-    pub done : (us : List G.Token) → IsClear q us → (vs : List G.Value) × Parts (without_limits G) ss d (pre ++ (on ++ us)) vs (short_seq G p [] t ++ us)
+    pub done : (us : List G.Token) → IsClear q us → (vs : List G.Value) × Parts (without_limits G) ss d (pre ++ (on ++ us)) vs (short_text G p [] t ++ us)
 
   same_more : {xs ys : List G.Token} (zs : List G.Token) → Same xs ys → Same (xs ++ zs) ys
   same_more zs m = record { first = m.first; more₁ = m.more₁ ++ zs; more₂ = m.more₂; is₁ = ap (λ us. us ++ zs) m.is₁; is₂ = m.is₂ }
@@ -275,30 +275,30 @@ module _ (G : Grammar) (s : IsExact G) (p : Plan G) (h : Planned G p) where
   all_each (nonterminal m ∷ ss) t = all_each ss t
 
   all_parts : (ss : List (Symbol G.Kind G.Nonterminal)) (t : Option G.Nonterminal) (q : ℕ) → fits G p ss t q ≡ true → (d : ℕ) (us : List G.Token) → IsClear q us →
-      (vs : List G.Value) × Parts (without_limits G) ss d (short_seq G p ss t ++ us) vs (short_seq G p [] t ++ us)
+      (vs : List G.Value) × Parts (without_limits G) ss d (short_text G p ss t ++ us) vs (short_text G p [] t ++ us)
   all_parts ss t q f d us j = filled_parts G s p h (λ m. true) (λ m i. filled G s p h m) ss t q (all_each ss t) f d us j
 
   -- the parts of a rule whose first token passes a limit
   passed : (x : G.Token) (ss : List (Symbol G.Kind G.Nonterminal)) (t : Option G.Nonterminal) (q d : ℕ) → by_token G ss ≡ true → fits G p ss t q ≡ true → CanBegin G (G.kind_of x) ss →
-      (zs : List G.Token) × ((us : List G.Token) → IsClear q us → (vs : List G.Value) × Parts (without_limits G) ss d (x ∷ (zs ++ us)) vs (short_seq G p [] t ++ us))
+      (zs : List G.Token) × ((us : List G.Token) → IsClear q us → (vs : List G.Value) × Parts (without_limits G) ss d (x ∷ (zs ++ us)) vs (short_text G p [] t ++ us))
   unfolding CanBegin
   passed x [] t q d b f k = absurd k
   passed x (nonterminal m ∷ ss) t q d b f k = absurd (true≢false (sym b))
   passed x (terminal k ∷ ss) t q d b f i = (
-    short_seq G p ss t,
+    short_text G p ss t,
     λ us j.
         let z = all_parts ss t q f d us j in (G.leaf x ∷ z.0, p_token i z.1),
   )
 
   fit_here : (m : G.Nonterminal) (ss : List (Symbol G.Kind G.Nonterminal)) (t : Option G.Nonterminal) (q : ℕ) → fits G p (nonterminal m ∷ ss) t q ≡ true →
-      not_taken G p (p.class m) (short_seq G p ss t) q ≡ true
-  fit_here m ss t q f = and_left (not_taken G p (p.class m) (short_seq G p ss t) q) (fits G p ss t q) f
+      not_taken G p (p.class m) (short_text G p ss t) q ≡ true
+  fit_here m ss t q f = and_left (not_taken G p (p.class m) (short_text G p ss t) q) (fits G p ss t q) f
 
   fit_rest : (m : G.Nonterminal) (ss : List (Symbol G.Kind G.Nonterminal)) (t : Option G.Nonterminal) (q : ℕ) → fits G p (nonterminal m ∷ ss) t q ≡ true → fits G p ss t q ≡ true
-  fit_rest m ss t q f = and_right (not_taken G p (p.class m) (short_seq G p ss t) q) (fits G p ss t q) f
+  fit_rest m ss t q f = and_right (not_taken G p (p.class m) (short_text G p ss t) q) (fits G p ss t q) f
 
   rule_tail : (r : G.Rule) (d c : ℕ) (a : G.Value) (us : List G.Token) → IsClear (p.class (G.left r)) us →
-      (w : G.Value) × Tail (without_limits G) (G.tail r) d c a (short_seq G p [] (G.tail r) ++ us) w us
+      (w : G.Value) × Tail (without_limits G) (G.tail r) d c a (short_text G p [] (G.tail r) ++ us) w us
   rule_tail r d c a us k = filled_tail G s p h (G.tail r) (p.class (G.left r)) (λ m i. filled G s p h m)
       (fits_tail G s p h (G.parts r) (G.tail r) (p.class (G.left r)) (h.fitted r)) d c a us k
 
@@ -312,7 +312,7 @@ module _ (G : Grammar) (s : IsExact G) (p : Plan G) (h : Planned G p) where
     pub pre : List G.Token
     pub on : List G.Token
     pub split : xs ≡ pre ++ ys
-    pub at : pre ≡ [] → (on ≡ short_seq G p [] t) ⊎ Same on ys
+    pub at : pre ≡ [] → (on ≡ short_text G p [] t) ⊎ Same on ys
     pub taken : b ≡ true → Same on ys
     pub done : (us : List G.Token) → IsClear q us → (w : G.Value) × Tail (without_limits G) t d c a (pre ++ (on ++ us)) w us
 
@@ -385,7 +385,7 @@ module _ (G : Grammar) (s : IsExact G) (p : Plan G) (h : Planned G p) where
           at = λ i. absurd (chosen n xs r e (P.none (empty_left P.pre T.pre i)));
           taken = T.taken;
           done = λ us k. let k₂ : IsClear q us = rw o k in
-              let x = P.again (T.pre ++ (T.on ++ us)) (stuck T.pre ys mid T.on us (short_seq G p [] (G.tail r)) q T.split T.at k₂) in
+              let x = P.again (T.pre ++ (T.on ++ us)) (stuck T.pre ys mid T.on us (short_text G p [] (G.tail r)) q T.split T.at k₂) in
               let y = T.done us k₂ in
               (y.0, rw (append_assoc P.pre T.pre (T.on ++ us)) (rule r o x y.1));
         }
@@ -394,7 +394,7 @@ module _ (G : Grammar) (s : IsExact G) (p : Plan G) (h : Planned G p) where
         (t : Option G.Nonterminal) (q : ℕ) → fits G p ss t q ≡ true → ViableParts ss t b q d xs ys
     viable_parts (miss {ss} {d} {k} {xs} g) t q f = record {
       pre = [];
-      on = short_seq G p (terminal k ∷ ss) t;
+      on = short_text G p (terminal k ∷ ss) t;
       split = refl;
       at = λ i. inl (refl, λ j e i₂. g (e ∙ ap Some i₂));
       taken = λ i. absurd (true≢false (sym i));
@@ -412,27 +412,27 @@ module _ (G : Grammar) (s : IsExact G) (p : Plan G) (h : Planned G p) where
     viable_parts {d = d} (phrase_stop {ss} {n = m} r) t q f = let A = viable r in
         record {
           pre = A.pre;
-          on = A.on ++ short_seq G p ss t;
+          on = A.on ++ short_text G p ss t;
           split = A.split;
           at = λ i. elim (A.at i) [
-            | inl k ↦ inl (ap (λ (us : List G.Token). us ++ short_seq G p ss t) k.0, λ j g v. (let g₂ : None ≡ Some v.0 = sym k.1 ∙ ap (G.choose m) g ∙ v.1 in cc))
-            | inr k ↦ inr (same_more (short_seq G p ss t) k)
+            | inl k ↦ inl (ap (λ (us : List G.Token). us ++ short_text G p ss t) k.0, λ j g v. (let g₂ : None ≡ Some v.0 = sym k.1 ∙ ap (G.choose m) g ∙ v.1 in cc))
+            | inr k ↦ inr (same_more (short_text G p ss t) k)
           ];
-          taken = λ i. same_more (short_seq G p ss t) (A.taken i);
-          done = λ us k. let y = A.done (short_seq G p ss t ++ us) (clear_in G s p h (p.class m) (short_seq G p ss t) q us (fit_here m ss t q f) k) in
+          taken = λ i. same_more (short_text G p ss t) (A.taken i);
+          done = λ us k. let y = A.done (short_text G p ss t ++ us) (clear_in G s p h (p.class m) (short_text G p ss t) q us (fit_here m ss t q f) k) in
               let z = all_parts ss t q (fit_rest m ss t q f) d us k in
-              (y.0 ∷ z.0, rw (append_assoc A.on (short_seq G p ss t) us) (p_phrase y.1 z.1));
+              (y.0 ∷ z.0, rw (append_assoc A.on (short_text G p ss t) us) (p_phrase y.1 z.1));
         }
     viable_parts {d = d} {ys = ys} (phrase_then {ss} {n = m} {v = v} {ys = mid} r ps) t q f = let A = again r in
         let P = viable_parts ps t q (fit_rest m ss t q f) in
-        let at_once : P.pre ≡ [] → (P.on ≡ short_seq G p ss t) ⊎ Same P.on ys = λ i. elim (P.at i) [ inl k ↦ inl k.0 | inr k ↦ inr k ] in
+        let at_once : P.pre ≡ [] → (P.on ≡ short_text G p ss t) ⊎ Same P.on ys = λ i. elim (P.at i) [ inl k ↦ inl k.0 | inr k ↦ inr k ] in
         record {
           pre = A.pre ++ P.pre;
           on = P.on;
           split = A.split ∙ ap (λ (us : List G.Token). A.pre ++ us) P.split ∙ sym (append_assoc A.pre P.pre ys);
           at = λ i. elim (at_once (empty_right A.pre P.pre i)) [
             | inl k ↦ inl (
-              k ∙ ap (λ (us : List G.Token). us ++ short_seq G p ss t) (sym (short_ended m (A.may_end (empty_left A.pre P.pre i)))),
+              k ∙ ap (λ (us : List G.Token). us ++ short_text G p ss t) (sym (short_ended m (A.may_end (empty_left A.pre P.pre i)))),
               λ j g u. (let g₂ : None ≡ Some u.0 = sym (A.none (empty_left A.pre P.pre i)) ∙ ap (G.choose m) g ∙ u.1 in cc),
             )
             | inr k ↦ inr k
@@ -441,7 +441,7 @@ module _ (G : Grammar) (s : IsExact G) (p : Plan G) (h : Planned G p) where
           done = λ us k. let z = P.done us k in (
             v ∷ z.0,
             rw (append_assoc A.pre P.pre (P.on ++ us)) (p_phrase
-                (A.again (P.pre ++ (P.on ++ us)) (stuck_parts P.pre ys mid P.on us (short_seq G p ss t) (p.class m) q P.split at_once (fit_here m ss t q f) k)) z.1),
+                (A.again (P.pre ++ (P.on ++ us)) (stuck_parts P.pre ys mid P.on us (short_text G p ss t) (p.class m) q P.split at_once (fit_here m ss t q f) k)) z.1),
           );
         }
 

@@ -2,7 +2,7 @@
 use Rattle.std.specs.Prelude.{◌≡◌, ℕ, zero, suc, Bool, true, false, not, cond, List, [], ◌∷◌, ◌++◌, map, ◌&&◌, ◌||◌}
 use Rattle.std.proofs.Common.{Option, Some, None}
 use Rattle.token_grammar.specs.Grammar.{Grammar, Symbol, terminal, nonterminal}
-use Rattle.token_grammar.specs.Tables.{Plan, short_seq, fits, ranked, by_token}
+use Rattle.token_grammar.specs.Tables.{Plan, short_text, fits, ranked, by_token}
 
 -- the element at a place
 abbrev pub nth : {A : Type 0} → ℕ → List A → Option A
@@ -47,7 +47,7 @@ abbrev pub start_of : (G : Grammar) → G.Kind → Option G.Rule → Option G.Ki
 start_of G k None = Some k
 start_of G k (Some r) = start_in G k (G.parts r)
 
--- each token chooses the rule that it begins
+-- each token chooses the rule that it begins, and no other; the fields are those of `IsExact`, and `starts` of `Planned`
 pub record HeadsCompute (G : Grammar) (L : Listed G.Kind) : Type 0 where
   pub at_end : (n : G.Nonterminal) → G.choose n None ≡ None
   pub own : (n : G.Nonterminal) → map (λ k. left_or G n (G.choose n (Some k))) L.kinds ≡ map (λ k. n) L.kinds
@@ -60,23 +60,23 @@ passes_all f [] = true
 passes_all f (a ∷ others) = f a && passes_all f others
 
 -- a shortest text, made by the planned rules to a depth
-abbrev pub fill_seq : (G : Grammar) → (G.Kind → G.Token) → (G.Nonterminal → List G.Token) → List (Symbol G.Kind G.Nonterminal) → Option G.Nonterminal → List G.Token
-fill_seq G s f [] None = []
-fill_seq G s f [] (Some m) = f m
-fill_seq G s f (terminal k ∷ ss) t = s k ∷ fill_seq G s f ss t
-fill_seq G s f (nonterminal m ∷ ss) t = f m ++ fill_seq G s f ss t
+abbrev pub fill_text : (G : Grammar) → (G.Kind → G.Token) → (G.Nonterminal → List G.Token) → List (Symbol G.Kind G.Nonterminal) → Option G.Nonterminal → List G.Token
+fill_text G s f [] None = []
+fill_text G s f [] (Some m) = f m
+fill_text G s f (terminal k ∷ ss) t = s k ∷ fill_text G s f ss t
+fill_text G s f (nonterminal m ∷ ss) t = f m ++ fill_text G s f ss t
 
 abbrev pub fill : (G : Grammar) → (G.Kind → G.Token) → (G.Nonterminal → G.Rule) → ℕ → G.Nonterminal → List G.Token
 fill G s p zero n = []
-fill G s p (suc f) n = cond (G.may_end n) [] (fill_seq G s (λ m. fill G s p f m) (G.parts (p n)) (G.tail (p n)))
+fill G s p (suc f) n = cond (G.may_end n) [] (fill_text G s (λ m. fill G s p f m) (G.parts (p n)) (G.tail (p n)))
 
--- the plan fits the grammar
+-- the plan fits the grammar; the fields are those of `Planned`
 pub record PlanComputes (G : Grammar) (L : Listed G.Kind) (p : Plan G) : Type 0 where
   pub limited : (r : G.Rule) (d c : ℕ) → G.allowed r d c ≡ false → by_token G (G.parts r) ≡ true
   pub sampled : (k : G.Kind) → G.kind_of (p.sample k) ≡ k
   pub ended : (n : G.Nonterminal) → map (λ k. cond (G.may_end n && not (p.goes (p.class n) k)) (G.choose n (Some k)) None) L.kinds ≡ map (λ k. None) L.kinds
   pub included : (q c : ℕ) → p.included q c ≡ passes_all (λ k. not (p.goes q k) || p.goes c k) L.kinds
   pub planned : (n : G.Nonterminal) → cond (G.may_end n) n (G.left (p.plan n)) ≡ n
-  pub shortly : (n : G.Nonterminal) → p.short n ≡ cond (G.may_end n) [] (short_seq G p (G.parts (p.plan n)) (G.tail (p.plan n)))
+  pub shortly : (n : G.Nonterminal) → p.short n ≡ cond (G.may_end n) [] (short_text G p (G.parts (p.plan n)) (G.tail (p.plan n)))
   pub falls : (n : G.Nonterminal) → (G.may_end n || ranked G p (p.rank n) (G.parts (p.plan n)) (G.tail (p.plan n))) ≡ true
   pub fitted : (r : G.Rule) → fits G p (G.parts r) (G.tail r) (p.class (G.left r)) ≡ true

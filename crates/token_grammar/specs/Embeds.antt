@@ -1,17 +1,21 @@
 -- One grammar as a part of another, as that of terms is of that of sources.
+-- Source: homomorphisms of grammars with attributes; each field of the tables is kept.
 use Rattle.std.specs.Prelude.{◌≡◌, ℕ, List, map}
 use Rattle.std.proofs.Common.{Option, Some, None}
 use Rattle.token_grammar.specs.Reads.{Outcome, ok, stop}
 use Rattle.token_grammar.specs.Grammar.{Grammar, Symbol, terminal, nonterminal}
 
+-- the same of what there is
 abbrev pub on_option : {A B : Type 0} → (A → B) → Option A → Option B
 on_option f None = None
 on_option f (Some a) = Some (f a)
 
+-- the same symbol of the whole grammar
 abbrev pub symbol_to : {K N L M : Type 0} → (K → L) → (N → M) → Symbol K N → Symbol L M
 symbol_to f g (terminal k) = terminal (f k)
 symbol_to f g (nonterminal n) = nonterminal (g n)
 
+-- Each token, kind, nonterminal, rule and value of `G` has one in `H`, and the tables agree. Different kinds stay different.
 pub record Embeds (G H : Grammar) : Type 0 where
   pub token_to : G.Token → H.Token
   pub kind_to : G.Kind → H.Kind

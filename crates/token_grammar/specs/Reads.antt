@@ -10,6 +10,16 @@ pub data Outcome (V T : Type 0) : Type 0 where
   -- `true` where a limit is passed, `false` where nothing that is spelled goes on so
   stop : Bool → List T → Outcome V T
 
+-- the tokens behind the reading, or from the refused one on
+abbrev pub rest : {V T : Type 0} → Outcome V T → List T
+rest (ok v ys) = ys
+rest (stop b ys) = ys
+
+-- the same outcome with other tokens behind
+abbrev pub with_rest : {V T : Type 0} → List T → Outcome V T → Outcome V T
+with_rest zs (ok v ys) = ok v zs
+with_rest zs (stop b ys) = stop b zs
+
 -- `Reads G n d c a xs o`: to read an `n` from the tokens `xs` comes to `o`, with the level, the chain and the value of `Spells`.
 -- `refuse`, `finish`: the next token begins no rule of `n`. `pass`: the rule is past a limit. `fail`: a part stops. `step`: the parts are read.
 mutual

@@ -1,7 +1,7 @@
 -- What holds of every grammar whose tables meet their conditions.
 use Rattle.std.specs.Prelude.{◌≡◌, ℕ, true, false, List, [], ◌∷◌, ◌++◌, map}
 use Rattle.token_grammar.specs.Grammar.{Grammar, Spells, next_kind}
-use Rattle.token_grammar.specs.Reads.{Outcome, ok, stop, Reads}
+use Rattle.token_grammar.specs.Reads.{Outcome, ok, stop, rest, with_rest, Reads}
 use Rattle.token_grammar.specs.Tables.{IsRefusal, IsLimit}
 use Rattle.token_grammar.specs.Embeds.{Embeds, on_outcome}
 
@@ -23,10 +23,10 @@ abbrev pub SpellsOneValue : Grammar → Type 0
 SpellsOneValue G = (n : G.Nonterminal) (xs : List G.Token) (one other : G.Value) →
     Spells G n 0 0 G.nothing xs one [] → Spells G n 0 0 G.nothing xs other [] → one ≡ other
 
--- a reading looks at what it reads and at the kind of one more token
+-- a reading looks at what it reads and at the kind of one more token: behind the same tokens, any rest that begins alike has the same outcome
 abbrev pub LooksOneTokenAhead : Grammar → Type 0
-LooksOneTokenAhead G = (n : G.Nonterminal) (d c : ℕ) (a w : G.Value) (xs ys : List G.Token) → Reads G n d c a xs (ok w ys) →
-    (read : List G.Token) × (xs ≡ read ++ ys) × ((zs : List G.Token) → next_kind G zs ≡ next_kind G ys → Reads G n d c a (read ++ zs) (ok w zs))
+LooksOneTokenAhead G = (n : G.Nonterminal) (d c : ℕ) (a : G.Value) (xs : List G.Token) (o : Outcome G.Value G.Token) → Reads G n d c a xs o →
+    (read : List G.Token) × (xs ≡ read ++ rest o) × ((zs : List G.Token) → next_kind G zs ≡ next_kind G (rest o) → Reads G n d c a (read ++ zs) (with_rest zs o))
 
 -- where a reading stops but for a limit, something that is spelled goes on from the tokens before, and nothing with the refused token
 abbrev pub StopsAreRefusals : Grammar → Type 0

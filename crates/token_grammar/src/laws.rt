@@ -1,9 +1,10 @@
 //! What holds of every grammar whose tables meet their conditions.
-ghost use Rattle.std.specs.Prelude.{List};
-ghost use Rattle.token_grammar.specs.Grammar.{Tables, grammar};
+ghost use Rattle.std.specs.Prelude.{List, [], ◌∷◌};
+ghost use Rattle.token_grammar.specs.Grammar.{Tables, grammar, Spells};
 ghost use Rattle.token_grammar.specs.Tables.{IsExact, Plan, Planned};
 ghost use Rattle.token_grammar.specs.Checks.{Listed, HeadsCompute, PlanComputes};
 ghost use Rattle.token_grammar.specs.Embeds.{Embeds};
+ghost use Rattle.token_grammar.specs.Sums.{sums, signs, sum_plan, total, number, plus};
 ghost use Rattle.token_grammar.specs.Statements.{ReadsOnlySpelled, ReadsAllSpelled, ReadsInOneWay, SpellsOneValue, LooksOneTokenAhead, StopsAreRefusals, LimitsArePassed, LeftOversAreRefusals, ReadsInTheWhole};
 
 /// Where each token chooses the rule that it begins, a reading gives what is spelled, all of it and nothing else.
@@ -59,4 +60,11 @@ pub fn equations_show_the_conditions<Token, Kind, Nonterminal, Rule, Value>()
     ensures planned { (tables : Tables Token Kind Nonterminal Rule Value) (listed : Listed Kind) →
         HeadsCompute (grammar tables) listed → (plan : Plan (grammar tables)) →
         PlanComputes (grammar tables) listed plan → Planned (grammar tables) plan }
+{}
+
+/// There are grammars with all conditions: the tables of sums meet them, and they spell a sum of two numbers.
+pub fn sums_meet_the_conditions()
+    ensures heads { HeadsCompute (grammar sums) signs }
+    ensures plan { PlanComputes (grammar sums) signs sum_plan }
+    ensures spelled { Spells (grammar sums) total 0 0 0 (number ∷ plus ∷ number ∷ []) 3 [] }
 {}
