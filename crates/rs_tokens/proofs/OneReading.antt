@@ -62,7 +62,7 @@ longest_refused text j k n m a b =
 no_token_contra : (text : List ℕ) (k : TokenKind) (n : ℕ) → HasNoToken text → IsLongestToken k text n → ⊥
 no_token_contra text k n missing a = missing k (take n text) (drop n text) (take-append-drop n text) a.token
 
-longest_some : (text : List ℕ) (k : TokenKind) (n : ℕ) → IsLongestToken k text n → (1 ≤ n) × (1 ≤ length text)
+pub longest_some : (text : List ℕ) (k : TokenKind) (n : ℕ) → IsLongestToken k text n → (1 ≤ n) × (1 ≤ length text)
 longest_some text k n a = (omega (arith, token_some k (take n text) a.token, length-take-le n text a.within), omega (arith, token_some k (take n text) a.token, length-take-le n text a.within, a.within))
 
 -- ---- refusals

@@ -93,9 +93,13 @@ impl<'a> Lexer<'a> {
         ensures bytes { self.new.bytes ≡ self.old.bytes }
         ensures again { IfSome self.old.refusal (λ error. (result ≡ Err error) × (self.new ≡ self.old)) }
 
+        ensures unrefused { OnOk result (self.old.refusal ≡ None) }
+
         // The next token, which the lexer then stands behind.
         ensures token { IfOk result (λ answer. IfSome answer (λ token. Gives self.old.bytes self.old.at token)) }
         ensures behind { IfOk result (λ answer. IfSome answer (λ token. self.new.at ≡ token.span.end)) }
+        ensures forward { IfOk result (λ answer. IfSome answer (λ _. self.old.at < self.new.at)) }
+        ensures within { self.new.at ≤ length self.new.bytes }
         ensures accepted { OnOk result (self.new.refusal ≡ None) }
 
         // The end.

@@ -1,8 +1,11 @@
-ghost use Rattle.std.specs.Prelude.{◌<◌, ◌^◌, length};
+ghost use Rattle.std.specs.Prelude.{◌<◌, ◌^◌, length, IfOk};
+ghost use Rattle.rs_tokens.specs.Reading.{AreTokens};
 
 use crate::lexer::Lexer;
 use crate::token::{Token, TokenKind};
+use std::alloc::Global;
 use std::process::Abort;
+use std::test::Fail;
 use text_core::{Code, SourceError, Span};
 
 /// The lexer gives these tokens and then this answer, twice.
@@ -138,4 +141,24 @@ fn refusals_stand_where_they_should(rt: HostRuntime) {
         &[],
         refusal(Code::E02, 0, 43),
     );
+}
+
+/// All tokens of the bytes.
+fn all_tokens(alloc: Global, bytes: &[u8]) -> Result<Vec<Token>, Fail>
+    requires { length bytes.now < 2 ^ 32 }
+    ensures { IfOk result (λ tokens. AreTokens bytes.now tokens.items) }
+{
+    let mut lexer = Lexer::new(bytes);
+    let mut tokens = Vec::new(alloc);
+    while let Some(token) = lexer.next()? {
+        tokens.push(token)?;
+    }
+    Ok(tokens)
+}
+
+#[test]
+fn a_loop_collects_all_tokens(rt: HostRuntime) -> Result<(), Fail> {
+    let tokens = all_tokens(rt.alloc(), b"a + 1")?;
+    assert_eq!(rt; tokens.len(), 3);
+    Ok(())
 }

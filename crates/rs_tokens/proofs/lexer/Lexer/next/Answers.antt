@@ -1,5 +1,7 @@
 use Rattle.std.proofs.Common.{ap, length, arith}
 use Rattle.rs_tokens.proofs.ReadingLaws.{refused_within, settled_boundary, here_len}
+use Rattle.rs_tokens.specs.Place.{Place}
+use Rattle.rs_tokens.proofs.OneReading.{longest_some}
 use Rattle.rs_tokens.proofs.lexer.Lexer.next.Goals as goal
 
 pub range_from-rest-requires : goal.range_from-rest-requires
@@ -26,3 +28,7 @@ overflow_cast-start-in-Err c =
       here_len c.self.inside.bytes.now c.self.inside.rest.now c.range_from-rest.result.now c.self.inside.at c.blanks_len-skipped.result c.self.invariant.within
           (c.self.invariant.left c.in_default.is) (omega (arith, c.blanks_len-skipped.ensures.within, ap length c.as_bytes.ensures.value)) c.range_from-rest.ensures.value,
     )
+
+pub returns-in-Ok-clause-forward : goal.returns-in-Ok-clause-forward
+returns-in-Ok-clause-forward c =
+    omega (arith, (longest_some c.range_from-rest.result.now c.in-Ok.front.kind c.in-Ok.front.len c.in-Ok.ensures.token).0, ap (λ (place : Place). place.at) c.self.view_is)
