@@ -1,0 +1,10 @@
+pub mod BlankLaws
+pub mod CommentLaws
+pub mod IntegerLaws
+pub mod ListLaws
+pub mod MarkLaws
+pub mod OneReading
+pub mod ReadingLaws
+pub mod StringLaws
+pub mod TokenLaws
+pub mod WordLaws

@@ -1,0 +1,49 @@
+//! Words: identifiers, keywords and `_`.
+ghost use Rattle.std.specs.Prelude.{◌≡◌, ◌+◌, ◌≤◌, ◌||◌, ◌==◌, ◌++◌, List, ℕ, length, take, take_while, encode_utf8_all, MatchOption};
+ghost use Rattle.std.specs.Str.{chars, IsCharBoundary};
+ghost use Rattle.unicode_ident.specs.Ident.{is_xid_start, is_xid_continue};
+ghost use Rattle.rs_tokens.specs.Tokens.{begins_word, IsWord, HasLongest, HasNone, word_kind};
+
+use crate::tables::{RESERVED, kind_in};
+use crate::token::TokenKind;
+use unicode_ident::{is_xid_continue, is_xid_start};
+
+fn begins_word(character: char) -> bool
+    ensures { result ≡ begins_word character }
+{
+    is_xid_start(character) | (character == '_')
+}
+
+/// How many bytes the characters at the front have that may continue a word.
+fn continuing_len(text: &str) -> usize
+    ensures { result ≡ length (encode_utf8_all (take_while is_xid_continue (chars text.now))) }
+{
+    let mut len = 0;
+    for character in text.chars() {
+        if !is_xid_continue(character) {
+            return len;
+        }
+        len += character.len_utf8();
+    }
+    len
+}
+
+/// The length of the longest word at the front; `None` where none stands there.
+pub fn word_len(text: &str) -> Option<usize>
+    ensures longest { MatchOption result (HasNone IsWord text.now) (λ len. HasLongest IsWord text.now len) }
+    ensures boundary { MatchOption result (Unit {0}) (λ len. IsCharBoundary text.now len) }
+{
+    let first = text.chars().next()?;
+    if !begins_word(first) {
+        return None;
+    }
+    Some(continuing_len(text))
+}
+
+/// The kind of this word.
+#[tactic(auto, unfolding(crate::specs::Tables::reserved))]
+pub fn word_kind(word: &[u8]) -> TokenKind
+    ensures { result ≡ word_kind word.now }
+{
+    kind_in(&RESERVED, word).unwrap_or(TokenKind::Ident)
+}
