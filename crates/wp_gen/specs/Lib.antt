@@ -1,0 +1,4 @@
+pub mod Command
+pub mod Row
+pub mod Walk
+pub mod Walkable
