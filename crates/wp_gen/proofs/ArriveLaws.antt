@@ -88,11 +88,14 @@ plain_block w heads l k may is no_head = elim (either (among l heads)) [
   | inl passed ↦ let found = may.are_heads l passed in
       let same : found.0 ≡ k = some_is found.0 k (sym found.2 ∙ is) in
       absurd (let e : None ≡ Some found.1 = sym no_head ∙ ap (λ (j : Block). j.head) (sym same) ∙ found.3 in cc)
-  | inr not_passed ↦ (not_passed, record {
-    is_block = is;
-    passed = nest_passed (may.passed not_passed);
-    are_heads = may.are_heads;
-  })
+  | inr not_passed ↦ (
+    not_passed,
+    record {
+      is_block = is;
+      passed = nest_passed (may.passed not_passed);
+      are_heads = may.are_heads;
+    },
+  )
 ]
   where
     block_is : may.block ≡ k

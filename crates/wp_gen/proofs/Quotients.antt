@@ -94,7 +94,6 @@ not_least Usize a e d = grind arith
 halved : (a b : ℕ) → suc a / suc (suc b) ≤ a
 halved a b = omega (arith)
 
-
 nonneg_divisor : (k : IntKind) (a b : ℕ) → fits k (negsuc a) ≡ true → (negsuc a ≡ lowest k → negsuc b ≡ negsuc 0 → ⊥) → fits k (pos (suc a / suc b)) ≡ true
 nonneg_divisor k a zero e d = smaller k (suc a) (suc a / suc zero) (div-le_self (suc a) 1) (not_least k a e (λ p. d p refl))
 nonneg_divisor k a (suc b) e d = opposite k a (suc a / suc (suc b)) (halved a b) e

@@ -81,10 +81,12 @@ call_walks w heads end p f args args' l gs gs' new is (n, arrives) e same throug
 pub first_arrives : (w : Setting) (heads : List Label) (l : Label) (k : Block) (h : Head) (entered gs gs' new : List Goal) (cs cs' : List Command) (inner : List Label) → block_in w.body.blocks l ≡ Some k → k.head ≡ Some h → among l heads ≡ false →
     inner ≡ l ∷ heads → (n : ℕ) × Walks w inner k.statements k.end gs n → entered ≡ each_goal InvEntry h.invariants h.spans → cs ≡ head_commands w.body w.init l h → cs' ≡ cs → gs' ≡ gs → new ≡ entered ++ seen_before cs' gs' → SomeArrival w heads l new
 first_arrives w heads l k h entered gs gs' new cs cs' inner is is_head not_passed inner_is (n, walks) entered_is cs_is cs'_is gs'_is new_is =
-    let here : Walks w (l ∷ heads) k.statements k.end gs n = subst (λ hs. Walks w hs k.statements k.end gs n) inner_is walks in
-    (n, subst (λ xs. Arrives w heads l xs n)
-    (sym (new_is ∙ ap (λ xs. xs ++ seen_before cs' gs') entered_is ∙ ap (λ xs. each_goal InvEntry h.invariants h.spans ++ seen_before xs gs') (cs'_is ∙ cs_is) ∙ ap (λ xs. each_goal InvEntry h.invariants h.spans ++ seen_before (head_commands w.body w.init l h) xs) gs'_is))
-    (first k h is is_head not_passed here))
+    let here : Walks w (l ∷ heads) k.statements k.end gs n = subst (λ hs. Walks w hs k.statements k.end gs n) inner_is walks in (
+      n,
+      subst (λ xs. Arrives w heads l xs n)
+          (sym (new_is ∙ ap (λ xs. xs ++ seen_before cs' gs') entered_is ∙ ap (λ xs. each_goal InvEntry h.invariants h.spans ++ seen_before xs gs') (cs'_is ∙ cs_is) ∙ ap (λ xs. each_goal InvEntry h.invariants h.spans ++ seen_before (head_commands w.body w.init l h) xs) gs'_is))
+          (first k h is is_head not_passed here),
+    )
 
 pub return_walks : (w : Setting) (heads : List Label) (end : Terminator) (gs : List Goal) → end.kind ≡ Return → gs ≡ goals_at_return w.body w.contract → SomeWalk w heads end gs
 return_walks w heads end gs is e = (1, subst (λ xs. Walks w heads [] end xs 1) (sym e) (return is))

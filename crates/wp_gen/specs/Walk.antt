@@ -11,7 +11,7 @@ use Rattle.logic_term.specs.declared.kinds.Label.{Label}
 use Rattle.logic_term.specs.declared.obligation.Contract.{Contract}
 use Rattle.logic_term.specs.declared.subst.Replacement.{Replacement}
 use Rattle.logic_term.specs.Subst.{above, subst, replaced}
-use Rattle.logic_term.specs.Term.{Term, var} 
+use Rattle.logic_term.specs.Term.{Term, var}
 use Rattle.logic_term.specs.Term as terms
 use Rattle.logic_term.specs.Ty.{Ty, bool}
 use Rattle.mir_ir.specs.declared.place.Operand.{Operand}

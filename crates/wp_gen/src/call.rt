@@ -90,7 +90,12 @@ pub(crate) fn goals_of_call(
     ensures { IfOk result (λ v. v.items ≡ goals_of_call body.now callee.now span args.now) }
 {
     let terms = operand_terms(alloc, body, args)?;
-    let sub = with_entries(alloc, Vec::new(alloc), callee.params.as_slice(), terms.as_slice())?;
+    let sub = with_entries(
+        alloc,
+        Vec::new(alloc),
+        callee.params.as_slice(),
+        terms.as_slice(),
+    )?;
     let owed = each_with_terms(alloc, sub.as_slice(), callee.pre.as_slice())?;
     all_at(alloc, Kind::Requires, span, owed.as_slice())
 }

@@ -54,11 +54,7 @@ fn types_after_answer(types: &[Ty]) -> &[Ty]
 }
 
 /// The commands at the entry of a body: its parameters, and what its contract lets it know of them.
-fn entry_commands(
-    alloc: Global,
-    body: &Body,
-    contract: &Contract,
-) -> Result<Vec<Command>, NoMemory>
+fn entry_commands(alloc: Global, body: &Body, contract: &Contract) -> Result<Vec<Command>, NoMemory>
     ensures { IfOk result (λ v. v.items ≡ entry_commands body.now contract.now) }
 {
     let types = types_after_answer(body.locals.as_slice());
@@ -75,15 +71,15 @@ fn goals(alloc: Global, walk: &Walk<'_>) -> Result<Vec<Goal>, NoMemory>
 {
     let inner = goals_from_entry(alloc, walk)?;
     let commands = entry_commands(alloc, walk.body, walk.contract)?;
-    with_seen_before(alloc, Vec::new(alloc), commands.as_slice(), inner.as_slice())
+    with_seen_before(
+        alloc,
+        Vec::new(alloc),
+        commands.as_slice(),
+        inner.as_slice(),
+    )
 }
 
-fn obligation(
-    alloc: Global,
-    owner: &Text,
-    number: u32,
-    goal: &Goal,
-) -> Result<Obligation, NoMemory>
+fn obligation(alloc: Global, owner: &Text, number: u32, goal: &Goal) -> Result<Obligation, NoMemory>
     ensures { IfOk result (λ o. o ∷ [] ≡ numbered owner.now number (goal.now ∷ [])) }
 {
     Ok(Obligation {

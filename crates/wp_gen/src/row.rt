@@ -92,12 +92,7 @@ fn not_zero(alloc: Global, divisor: Term) -> Result<Term, NoMemory>
 }
 
 #[tactic(auto, unfolding(crate::specs::Row::not_least_by_minus_one))]
-fn not_least_by_minus_one(
-    alloc: Global,
-    kind: IntKind,
-    a: Term,
-    b: Term,
-) -> Result<Term, NoMemory>
+fn not_least_by_minus_one(alloc: Global, kind: IntKind, a: Term, b: Term) -> Result<Term, NoMemory>
     ensures { IfOk result (λ t. t ≡ not_least_by_minus_one kind a b) }
 {
     let least = Term::equal(alloc, a, Term::integer(kind.lowest()))?;

@@ -105,13 +105,7 @@ fn at_most(alloc: Global, a: Term, b: Term) -> Result<Term, NoMemory>
 }
 
 /// The truth value of a comparison.
-fn comparison(
-    alloc: Global,
-    of: Compared,
-    op: BinaryOp,
-    a: Term,
-    b: Term,
-) -> Result<Term, NoMemory>
+fn comparison(alloc: Global, of: Compared, op: BinaryOp, a: Term, b: Term) -> Result<Term, NoMemory>
     ensures { IfOk result (λ t. t ≡ comparison of op a b) }
 {
     match op {
@@ -184,12 +178,7 @@ fn of_operation(
     }
 }
 
-fn of_negation(
-    alloc: Global,
-    body: &Body,
-    x: u32,
-    a: &Operand,
-) -> Result<Vec<Command>, NoMemory>
+fn of_negation(alloc: Global, body: &Body, x: u32, a: &Operand) -> Result<Vec<Command>, NoMemory>
     ensures { IfOk result (λ v. v.items ≡ of_negation body.now (kind_in (slice_get body.now.locals x)) x a.now) }
 {
     let Some(kind) = kind_of_local(body, x) else {
@@ -199,12 +188,7 @@ fn of_negation(
     new_integer(alloc, body, kind, x, exact)
 }
 
-fn of_rvalue(
-    alloc: Global,
-    body: &Body,
-    x: u32,
-    rvalue: &Rvalue,
-) -> Result<Vec<Command>, NoMemory>
+fn of_rvalue(alloc: Global, body: &Body, x: u32, rvalue: &Rvalue) -> Result<Vec<Command>, NoMemory>
     ensures { IfOk result (λ v. v.items ≡ of_rvalue body.now (kind_in (slice_get body.now.locals x)) x rvalue.now) }
 {
     match rvalue {
