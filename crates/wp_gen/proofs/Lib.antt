@@ -4,3 +4,4 @@ pub mod Operations
 pub mod GoalLists
 pub mod WalkLaws
 pub mod ArriveLaws
+pub mod SampleLemmas

@@ -9,6 +9,8 @@ mod oblige;
 mod row;
 mod seen;
 mod step;
+#[cfg(test)]
+mod tests;
 mod walk;
 
 pub use command::Command;
