@@ -1,6 +1,6 @@
 ghost use Rattle.std.specs.Prelude.{◌≡◌, IfOk};
 ghost use Rattle.logic_term.specs.Ty.{math_int};
-ghost use Rattle.logic_term.specs.Term.{var, lit, truth, model, calculate, is_less, is_at_most, is_equal, and, implies, forall};
+ghost use Rattle.logic_term.specs.Term.{var, lit, truth, model, negative, not, calculate, is_less, is_at_most, is_equal, and, implies, forall};
 
 use crate::kinds::ArithOp;
 use crate::term::{Sort, Term, TermNode};
@@ -48,6 +48,20 @@ impl Term {
         ensures { IfOk result (λ m. m ≡ model t) }
     {
         let node = TermNode::Model(Box::new(alloc, t)?);
+        Ok(Term { node })
+    }
+
+    pub fn negative(alloc: Global, t: Term) -> Result<Term, NoMemory>
+        ensures { IfOk result (λ m. m ≡ negative t) }
+    {
+        let node = TermNode::Neg(Box::new(alloc, t)?);
+        Ok(Term { node })
+    }
+
+    pub fn not(alloc: Global, t: Term) -> Result<Term, NoMemory>
+        ensures { IfOk result (λ m. m ≡ not t) }
+    {
+        let node = TermNode::Not(Box::new(alloc, t)?);
         Ok(Term { node })
     }
 

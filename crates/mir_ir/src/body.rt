@@ -1,3 +1,4 @@
+use crate::place::Place;
 use crate::statement::Statement;
 use crate::terminator::Terminator;
 use logic_term::{Label, Term, Ty};
@@ -65,4 +66,10 @@ impl Body {
 #[derive(Drop)]
 pub struct Bodies {
     pub bodies: Items<Body>,
+}
+
+/// For points of a body, the places that may be gone there: those that were moved or never written on some way to the point.
+#[derive(Drop)]
+pub struct Initialised {
+    pub gone: Items<(Point, Items<Place>)>,
 }

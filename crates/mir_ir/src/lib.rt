@@ -8,7 +8,7 @@ mod terminator;
 #[cfg(test)]
 mod tests;
 
-pub use body::{Block, Bodies, Body, Head, Point};
+pub use body::{Block, Bodies, Body, Head, Initialised, Point};
 pub use place::{Lit, Operand, Place, Proj};
 pub use statement::{Rvalue, Statement, StatementKind};
 pub use terminator::{Callee, FnId, Terminator, TerminatorKind};

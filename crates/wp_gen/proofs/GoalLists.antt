@@ -1,0 +1,77 @@
+-- Lists of goals.
+use Rattle.std.proofs.Common.{◌≡◌, ◌∙◌, sym, ap, ℕ, zero, suc, ◌+◌, ◌<◌, ◌≤◌, List, [], ◌∷◌, ◌++◌, length, min, get_or, take, drop, refl, add-zero, arith, ◌⊎◌, inl, inr}
+use Rattle.std.proofs.lemmas.Bool.{cases_lt}
+use Rattle.std.proofs.lemmas.List.{take_more, drop_all, append-nil, length-take-le}
+use Rattle.text_core.specs.declared.refusal.Kind.{Kind}
+use Rattle.text_core.specs.declared.span.Span.{Span}
+use Rattle.logic_term.specs.Term.{Term}
+use Rattle.wp_gen.specs.declared.goal.Goal.{Goal}
+use Rattle.text_core.specs.declared.name.Name.{Name}
+use Rattle.logic_term.specs.declared.subst.Replacement.{Replacement}
+use Rattle.logic_term.specs.declared.obligation.Obligation.{Obligation}
+use Rattle.logic_term.specs.Ty.{Ty}
+use Rattle.wp_gen.specs.declared.command.Command.{Command}
+use Rattle.wp_gen.specs.Walk.{each_goal, entries, parameters, numbered}
+
+no_spans : (k : Kind) (ts : List Term) → each_goal k ts [] ≡ []
+no_spans k [] = refl
+no_spans k (t ∷ ts) = refl
+
+past_either : (k : Kind) (ts : List Term) (spans : List Span) (i : ℕ) → (length ts ≤ i) ⊎ (length spans ≤ i) → each_goal k (drop i ts) (drop i spans) ≡ []
+past_either k ts spans i (inl h) = ap (λ us. each_goal k us (drop i spans)) (drop_all i ts h)
+past_either k ts spans i (inr h) = ap (each_goal k (drop i ts)) (drop_all i spans h) ∙ no_spans k (drop i ts)
+
+shorter : (m n i : ℕ) → min m n ≤ i → (m ≤ i) ⊎ (n ≤ i)
+shorter m n i h = elim (cases_lt i m) [ inl below ↦ inr (omega arith) | inr above ↦ inl above ]
+
+-- one goal for each formula that has a span
+pub no_more_goals : (k : Kind) (ts : List Term) (spans : List Span) (i : ℕ) (goals : List Goal) → min (length ts) (length spans) ≤ i →
+    each_goal k ts spans ≡ goals ++ each_goal k (drop i ts) (drop i spans) → goals ≡ each_goal k ts spans
+no_more_goals k ts spans i goals past so_far =
+    sym (so_far ∙ ap (λ gs. goals ++ gs) (past_either k ts spans i (shorter (length ts) (length spans) i past)) ∙ append-nil goals)
+
+no_terms : (xs : List Name) → entries xs [] ≡ []
+no_terms [] = refl
+no_terms (x ∷ xs) = refl
+
+past_entries : (xs : List Name) (ts : List Term) (i : ℕ) → (length xs ≤ i) ⊎ (length ts ≤ i) → entries (drop i xs) (drop i ts) ≡ []
+past_entries xs ts i (inl h) = ap (λ ys. entries ys (drop i ts)) (drop_all i xs h)
+past_entries xs ts i (inr h) = ap (entries (drop i xs)) (drop_all i ts h) ∙ no_terms (drop i xs)
+
+-- one entry for each name that has a term
+pub no_more_entries : (xs : List Name) (ts : List Term) (i : ℕ) (whole es : List Replacement) → min (length xs) (length ts) ≤ i →
+    whole ≡ es ++ entries (drop i xs) (drop i ts) → es ≡ whole
+no_more_entries xs ts i whole es past so_far =
+    sym (so_far ∙ ap (λ fs. es ++ fs) (past_entries xs ts i (shorter (length xs) (length ts) i past)) ∙ append-nil es)
+
+no_types : (xs : List Name) → parameters xs [] ≡ []
+no_types [] = refl
+no_types (x ∷ xs) = refl
+
+past_parameters : (xs : List Name) (ts : List Ty) (i : ℕ) → (length xs ≤ i) ⊎ (length ts ≤ i) → parameters (drop i xs) (drop i ts) ≡ []
+past_parameters xs ts i (inl h) = ap (λ ys. parameters ys (drop i ts)) (drop_all i xs h)
+past_parameters xs ts i (inr h) = ap (parameters (drop i xs)) (drop_all i ts h) ∙ no_types (drop i xs)
+
+-- one parameter for each name that has a type
+pub no_more_parameters : (xs : List Name) (ts : List Ty) (i : ℕ) (whole cs : List Command) → min (length xs) (length ts) ≤ i →
+    whole ≡ cs ++ parameters (drop i xs) (drop i ts) → cs ≡ whole
+no_more_parameters xs ts i whole cs past so_far =
+    sym (so_far ∙ ap (λ ds. cs ++ ds) (past_parameters xs ts i (shorter (length xs) (length ts) i past)) ∙ append-nil cs)
+
+-- one obligation more
+pub one_more_obligation : (owner : List ℕ) (n m : ℕ) (gs : List Goal) (g : Goal) → m ≡ n + length gs → numbered owner n (gs ++ g ∷ []) ≡ numbered owner n gs ++ numbered owner m (g ∷ [])
+one_more_obligation owner n m [] g e = ap (λ i. numbered owner i (g ∷ [])) (sym (add-zero n) ∙ sym e)
+one_more_obligation owner n m (h ∷ gs) g e =
+    let moved : m ≡ n + 1 + length gs = omega arith in
+    ap (λ os. numbered owner n (h ∷ []) ++ os) (one_more_obligation owner (n + 1) m gs g moved)
+
+pub one_more_goal : (owner : List ℕ) (first : ℕ) (goals : List Goal) (i number : ℕ) (g : Goal) (old new : List Obligation) (o : Obligation) →
+    i < length goals → g ≡ get_or goals i g → number ≡ first + i →
+    old ≡ numbered owner first (take i goals) → o ∷ [] ≡ numbered owner number (g ∷ []) → new ≡ old ++ o ∷ [] →
+    new ≡ numbered owner first (take (i + 1) goals)
+one_more_goal owner first goals i number g old new o within read number_is so_far made pushed =
+    let taken : take (i + 1) goals ≡ take i goals ++ g ∷ [] = take_more goals i g within ∙ ap (λ x. take i goals ++ x ∷ []) (sym read) in
+    let size : length (take i goals) ≡ i = length-take-le i goals (omega arith) in
+    let number_after : number ≡ first + length (take i goals) = omega (arith, size, number_is) in
+    pushed ∙ ap (λ os. os ++ o ∷ []) so_far ∙ ap (λ os. numbered owner first (take i goals) ++ os) made
+    ∙ sym (one_more_obligation owner first number (take i goals) g number_after) ∙ ap (numbered owner first) (sym taken)

@@ -1,0 +1,7 @@
+pub mod Commands
+pub mod Quotients
+pub mod Operations
+pub mod GoalLists
+pub mod WalkLaws
+pub mod ArriveLaws
+pub mod SampleLemmas

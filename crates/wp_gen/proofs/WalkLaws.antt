@@ -1,0 +1,106 @@
+-- One statement more of a walk.
+use Rattle.std.proofs.Common.{◌≡◌, ◌∙◌, refl, sym, ap, subst, ℕ, suc, ◌+◌, ◌-◌, ◌*◌, ◌<◌, ◌≤◌, Some, None, true, false, cond, List, [], ◌∷◌, ◌++◌, length, get_or, drop, arith}
+use Rattle.std.proofs.Math.Seq.{drop-cons}
+use Rattle.logic_term.specs.declared.kinds.Label.{Label}
+use Rattle.mir_ir.specs.declared.statement.Statement.{Statement}
+use Rattle.mir_ir.specs.declared.terminator.Terminator.{Terminator}
+use Rattle.wp_gen.specs.declared.goal.Goal.{Goal}
+use Rattle.wp_gen.specs.Row.{goals_of, commands_of}
+use Rattle.text_core.specs.declared.span.Span.{Span}
+use Rattle.logic_term.specs.declared.obligation.Contract.{Contract}
+use Rattle.logic_term.specs.Ty.{Ty}
+use Rattle.mir_ir.specs.declared.place.Operand.{Operand}
+use Rattle.mir_ir.specs.declared.place.Place.{Place}
+use Rattle.wp_gen.specs.declared.command.Command.{Command}
+use Rattle.text_core.specs.declared.refusal.Kind.TheVariants.{InvEntry, InvKept}
+use Rattle.mir_ir.specs.declared.terminator.TerminatorKind.TheVariants.{If, Call, Return}
+use Rattle.mir_ir.specs.declared.terminator.TerminatorKind.{TerminatorKind}
+use Rattle.mir_ir.specs.declared.terminator.Callee.{Callee}
+use Rattle.mir_ir.specs.declared.terminator.Callee.TheVariants.{Function}
+use Rattle.mir_ir.specs.declared.terminator.FnId.TheVariants.{Body as OfBody}
+use Rattle.mir_ir.specs.declared.body.Block.{Block}
+use Rattle.mir_ir.specs.declared.body.Head.{Head}
+use Rattle.mir_ir.specs.Body.{block_in}
+use Rattle.mir_ir.specs.Layout.{among}
+use Rattle.wp_gen.specs.Walk.{seen_before, each_goal, goals_at_return, where_true, where_false, head_commands, goals_of_call, call_commands, Setting, Walks, Arrives, statement, branch, call, return, plain, first, again}
+use Rattle.logic_term.specs.Term.{Term}
+use Rattle.wp_gen.specs.Walkable.{IsKnown, GoesThroughCall, MayArrive, MayWalk}
+use Rattle.wp_gen.proofs.ArriveLaws.{read_there, room, arrival_measure, plain_block}
+
+split_at : (sts : List Statement) (i : ℕ) (st : Statement) → 0 < i → i ≤ length sts → st ≡ get_or sts (i - 1) st → drop (i - 1) sts ≡ st ∷ drop i sts
+split_at sts i st above within read =
+    let next : suc (i - 1) ≡ i = omega arith in
+    drop-cons sts (i - 1) st (omega arith) ∙ ap (λ x. x ∷ drop (suc (i - 1)) sts) (sym read) ∙ ap (λ n. st ∷ drop n sts) next
+
+-- the goals from a statement on, of those after it
+pub one_statement : (w : Setting) (heads : List Label) (end : Terminator) (n : ℕ) (sts : List Statement) (i : ℕ) (st : Statement) (old given new : List Goal) →
+    0 < i → i ≤ length sts → st ≡ get_or sts (i - 1) st → given ≡ old → new ≡ goals_of w.body st.span st.kind ++ seen_before (commands_of w.body st.kind) given →
+    Walks w heads (drop i sts) end old n → Walks w heads (drop (i - 1) sts) end new n
+one_statement w heads end n sts i st old given new above within read same made walks =
+    let after : Walks w heads (st ∷ drop i sts) end (goals_of w.body st.span st.kind ++ seen_before (commands_of w.body st.kind) old) n = statement walks in
+    let is : goals_of w.body st.span st.kind ++ seen_before (commands_of w.body st.kind) old ≡ new = sym (made ∙ ap (λ gs. goals_of w.body st.span st.kind ++ seen_before (commands_of w.body st.kind) gs) same) in
+    subst (λ xs. Walks w heads xs end new n) (sym (split_at sts i st above within read)) (subst (λ gs. Walks w heads (st ∷ drop i sts) end gs n) is after)
+
+pub through_a_call : (w : Setting) (at : Span) (p : Place) (f : ℕ) (args : List Operand) (after new owed : List Goal) (cs given : List Command) (r : Contract) (t : Ty) (locals : List Ty) →
+    IsKnown w f p → locals ≡ w.body.locals → t ≡ get_or locals p.local t →
+    owed ≡ goals_of_call w.body (get_or w.contracts f r) at args → cs ≡ call_commands w.body (get_or w.contracts f r) p.local t args → given ≡ cs → new ≡ owed ++ seen_before given after →
+    GoesThroughCall w at p f args after new
+through_a_call w at p f args after new owed cs given r t locals known same read owed_is cs_is given_is new_is = record {
+  callee = get_or w.contracts f r;
+  is_callee = read_there w.contracts f known.callee.0 r known.callee.1;
+  answer = t;
+  is_answer = read_there w.body.locals p.local known.answer.0 t known.answer.1 ∙ ap Some (sym (subst (λ ts. t ≡ get_or ts p.local t) same read));
+  goals = new_is ∙ ap (λ gs. gs ++ seen_before given after) owed_is ∙ ap (λ ds. goals_of_call w.body (get_or w.contracts f r) at args ++ seen_before ds after)
+      (given_is ∙ cs_is);
+}
+
+-- ---- blocks' ends
+
+-- the goals that some walk meets
+abbrev pub SomeWalk : Setting → List Label → Terminator → List Goal → Type 0
+SomeWalk w heads end gs = (n : ℕ) × Walks w heads [] end gs n
+
+abbrev pub SomeArrival : Setting → List Label → Label → List Goal → Type 0
+SomeArrival w heads l gs = (n : ℕ) × Arrives w heads l gs n
+
+pub branch_walks : (w : Setting) (heads : List Label) (end : Terminator) (o : Operand) (l l' : Label) (gs hs gs' hs' new : List Goal) → end.kind ≡ If o l l' →
+    SomeArrival w heads l gs → SomeArrival w heads l' hs → gs' ≡ gs → hs' ≡ hs → new ≡ seen_before (where_true w.body o) gs' ++ seen_before (where_false w.body o) hs' → SomeWalk w heads end new
+branch_walks w heads end o l l' gs hs gs' hs' new is (n, one) (m, two) e f g =
+    (n + m, subst (λ xs. Walks w heads [] end xs (n + m)) (sym (g ∙ ap (λ xs. seen_before (where_true w.body o) xs ++ seen_before (where_false w.body o) hs') e ∙ ap (λ xs. seen_before (where_true w.body o) gs ++ seen_before (where_false w.body o) xs) f)) (branch o l l' is one two))
+
+pub called : (kind : TerminatorKind) (p : Place) (c : Callee) (args : List Operand) (l : Label) (f : ℕ) → kind ≡ Call p c args l → c ≡ Function (OfBody f) → kind ≡ Call p (Function (OfBody f)) args l
+called kind p c args l f is e = is ∙ ap (λ d. Call p d args l) e
+
+pub call_walks : (w : Setting) (heads : List Label) (end : Terminator) (p : Place) (f : ℕ) (args args' : List Operand) (l : Label) (gs gs' new : List Goal) → end.kind ≡ Call p (Function (OfBody f)) args l →
+    SomeArrival w heads l gs → gs' ≡ gs → args' ≡ args → GoesThroughCall w end.span p f args' gs' new → SomeWalk w heads end new
+call_walks w heads end p f args args' l gs gs' new is (n, arrives) e same through =
+    let at_args : GoesThroughCall w end.span p f args gs' new = subst (λ xs. GoesThroughCall w end.span p f xs gs' new) same through in
+    let goals = at_args.goals ∙ ap (λ xs. goals_of_call w.body at_args.callee end.span args ++ seen_before (call_commands w.body at_args.callee p.local at_args.answer args) xs) e in
+    (n, subst (λ xs. Walks w heads [] end xs n) (sym goals) (call p f args l at_args.callee at_args.answer is at_args.is_callee at_args.is_answer arrives))
+
+pub first_arrives : (w : Setting) (heads : List Label) (l : Label) (k : Block) (h : Head) (entered gs gs' new : List Goal) (cs cs' : List Command) (inner : List Label) → block_in w.body.blocks l ≡ Some k → k.head ≡ Some h → among l heads ≡ false →
+    inner ≡ l ∷ heads → (n : ℕ) × Walks w inner k.statements k.end gs n → entered ≡ each_goal InvEntry h.invariants h.spans → cs ≡ head_commands w.body w.init l h → cs' ≡ cs → gs' ≡ gs → new ≡ entered ++ seen_before cs' gs' → SomeArrival w heads l new
+first_arrives w heads l k h entered gs gs' new cs cs' inner is is_head not_passed inner_is (n, walks) entered_is cs_is cs'_is gs'_is new_is =
+    let here : Walks w (l ∷ heads) k.statements k.end gs n = subst (λ hs. Walks w hs k.statements k.end gs n) inner_is walks in (
+      n,
+      subst (λ xs. Arrives w heads l xs n)
+          (sym (new_is ∙ ap (λ xs. xs ++ seen_before cs' gs') entered_is ∙ ap (λ xs. each_goal InvEntry h.invariants h.spans ++ seen_before xs gs') (cs'_is ∙ cs_is) ∙ ap (λ xs. each_goal InvEntry h.invariants h.spans ++ seen_before (head_commands w.body w.init l h) xs) gs'_is))
+          (first k h is is_head not_passed here),
+    )
+
+pub return_walks : (w : Setting) (heads : List Label) (end : Terminator) (gs : List Goal) → end.kind ≡ Return → gs ≡ goals_at_return w.body w.contract → SomeWalk w heads end gs
+return_walks w heads end gs is e = (1, subst (λ xs. Walks w heads [] end xs 1) (sym e) (return is))
+
+pub again_arrives : (w : Setting) (heads : List Label) (l : Label) (k : Block) (h : Head) (gs : List Goal) (ts : List Term) (spans : List Span) → block_in w.body.blocks l ≡ Some k → k.head ≡ Some h → among l heads ≡ true →
+    ts ≡ h.invariants → spans ≡ h.spans → gs ≡ each_goal InvKept ts spans → SomeArrival w heads l gs
+again_arrives w heads l k h gs ts spans is is_head passed ts_is spans_is e =
+    (1, subst (λ xs. Arrives w heads l xs 1) (sym (e ∙ ap (λ us. each_goal InvKept us spans) ts_is ∙ ap (each_goal InvKept h.invariants) spans_is)) (again k h is is_head passed))
+
+pub plain_arrives : (w : Setting) (heads : List Label) (l : Label) (k : Block) (gs : List Goal) → Some k ≡ block_in w.body.blocks l → k.head ≡ None → (n : ℕ) × Walks w heads k.statements k.end gs n → SomeArrival w heads l gs
+plain_arrives w heads l k gs is no_head (n, walks) = (n, plain k (sym is) no_head walks)
+
+-- the walk within a block
+pub enter_plain : (w : Setting) (heads : List Label) (l : Label) (k : Block) → MayArrive w heads l → Some k ≡ block_in w.body.blocks l → k.head ≡ None → (arrival_measure w.body.blocks heads l ≡ 4 * room w.body.blocks l + 3) × MayWalk w heads l k
+enter_plain w heads l k may is no_head =
+    let h = plain_block w heads l k may (sym is) no_head in
+    (ap (λ b. cond b 0 (4 * room w.body.blocks l + 3)) h.0, h.1)

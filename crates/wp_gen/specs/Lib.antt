@@ -1,0 +1,5 @@
+pub mod Command
+pub mod Row
+pub mod Sample
+pub mod Walk
+pub mod Walkable

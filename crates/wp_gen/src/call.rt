@@ -1,0 +1,144 @@
+//! Calls: the callee's contract at the arguments.
+ghost use Rattle.std.specs.Prelude.{◌≡◌, ◌∷◌, [], ◌++◌, map, IfOk};
+ghost use Rattle.wp_gen.specs.Row.{operand_term};
+ghost use Rattle.wp_gen.specs.Walk.{entries, all_of, with_terms, at_arguments, at_arguments_and_answer, goals_of_call, call_commands, assumed};
+
+use crate::command::Command;
+use crate::goal::Goal;
+use crate::row::{name_of, operand_term, value_name};
+use crate::seen::all_at;
+use logic_term::{Contract, Replacement, Term, Ty};
+use mir_ir::{Body, Operand};
+use std::alloc::Global;
+use text_core::{Kind, Name, NoMemory, Span};
+
+fn operand_terms(alloc: Global, body: &Body, args: &[Operand]) -> Result<Vec<Term>, NoMemory>
+    ensures { IfOk result (λ v. v.items ≡ map (operand_term body.now) args.now) }
+{
+    let mut terms = Vec::with_capacity(alloc, args.len())?;
+    for arg in args {
+        terms.push(operand_term(body, arg))?;
+    }
+    Ok(terms)
+}
+
+fn entry(alloc: Global, name: Name, by: &Term) -> Result<Replacement, NoMemory>
+    ensures { IfOk result (λ e. e ≡ record { name = name; by = by.now }) }
+{
+    let by = by.copy(alloc)?;
+    Ok(Replacement { name, by })
+}
+
+/// The terms for the names, behind others.
+fn with_entries(
+    alloc: Global,
+    first: Vec<Replacement>,
+    names: &[Name],
+    terms: &[Term],
+) -> Result<Vec<Replacement>, NoMemory>
+    ensures { IfOk result (λ v. v.items ≡ first.items ++ entries names.now terms.now) }
+{
+    let mut all = first;
+    for i in 0..names.len().min(terms.len()) {
+        all.push(entry(alloc, names[i], &terms[i])?)?;
+    }
+    Ok(all)
+}
+
+/// One past the largest name in the terms.
+fn all_of(sub: &[Replacement]) -> Result<u64, NoMemory>
+    ensures { IfOk result (λ n. n ≡ all_of sub.now) }
+{
+    let mut most: u64 = 0;
+    for i in (0..sub.len()).rev() {
+        let here = sub[i].by.above()?;
+        most = here.max(most);
+    }
+    Ok(most)
+}
+
+fn with_terms(alloc: Global, sub: &[Replacement], term: &Term) -> Result<Term, NoMemory>
+    ensures { IfOk result (λ t. t ≡ with_terms sub.now term.now) }
+{
+    let own = term.above()?;
+    let others = all_of(sub)?;
+    term.subst(alloc, own.max(others), &[], sub)
+}
+
+fn each_with_terms(
+    alloc: Global,
+    sub: &[Replacement],
+    terms: &[Term],
+) -> Result<Vec<Term>, NoMemory>
+    ensures { IfOk result (λ v. v.items ≡ map (with_terms sub.now) terms.now) }
+{
+    let mut all = Vec::with_capacity(alloc, terms.len())?;
+    for term in terms {
+        all.push(with_terms(alloc, sub, term)?)?;
+    }
+    Ok(all)
+}
+
+/// The goals of a call of a function with this contract.
+pub(crate) fn goals_of_call(
+    alloc: Global,
+    body: &Body,
+    callee: &Contract,
+    span: Span,
+    args: &[Operand],
+) -> Result<Vec<Goal>, NoMemory>
+    ensures { IfOk result (λ v. v.items ≡ goals_of_call body.now callee.now span args.now) }
+{
+    let terms = operand_terms(alloc, body, args)?;
+    let sub = with_entries(
+        alloc,
+        Vec::new(alloc),
+        callee.params.as_slice(),
+        terms.as_slice(),
+    )?;
+    let owed = each_with_terms(alloc, sub.as_slice(), callee.pre.as_slice())?;
+    all_at(alloc, Kind::Requires, span, owed.as_slice())
+}
+
+/// Each formula known, behind other commands.
+pub(crate) fn with_assumed(
+    alloc: Global,
+    first: Vec<Command>,
+    terms: &[Term],
+) -> Result<Vec<Command>, NoMemory>
+    ensures { IfOk result (λ v. v.items ≡ first.items ++ assumed terms.now) }
+{
+    let mut all = first;
+    for term in terms {
+        all.push(Command::Assume(term.copy(alloc)?))?;
+    }
+    Ok(all)
+}
+
+/// The commands of a call whose answer comes to local `x`, which has the type.
+pub(crate) fn call_commands(
+    alloc: Global,
+    body: &Body,
+    callee: &Contract,
+    x: u32,
+    ty: &Ty,
+    args: &[Operand],
+) -> Result<Vec<Command>, NoMemory>
+    ensures { IfOk result (λ v. v.items ≡ call_commands body.now callee.now x ty.now args.now) }
+{
+    let value = value_name();
+    let terms = operand_terms(alloc, body, args)?;
+    let mut sub = Vec::new(alloc);
+    let by = Term::var(value);
+    sub.push(Replacement {
+        name: callee.answer,
+        by,
+    })?;
+    let sub = with_entries(alloc, sub, callee.params.as_slice(), terms.as_slice())?;
+    let known = each_with_terms(alloc, sub.as_slice(), callee.post.as_slice())?;
+    let mut commands = Vec::new(alloc);
+    commands.push(Command::Fresh(value, ty.copy(alloc)?))?;
+    let mut commands = with_assumed(alloc, commands, known.as_slice())?;
+    commands.push(Command::Set(name_of(body, x), Term::var(value)))?;
+    Ok(commands)
+}

@@ -1,0 +1,139 @@
+//! Loop heads: what a loop writes has new values there.
+ghost use Rattle.std.specs.Prelude.{◌≡◌, ◌∷◌, [], ◌++◌, ◌==◌, ◌||◌, ◌&&◌, map, length, IfOk};
+ghost use Rattle.std.specs.List.{list_any};
+ghost use Rattle.mir_ir.specs.Layout.{among};
+ghost use Rattle.wp_gen.specs.Walk.{is_in_loop, writes, end_writes, block_writes, loop_writes, is_whole, is_gone, is_renewed, picked, renewed, assumed, head_commands};
+
+use crate::call::with_assumed;
+use crate::command::Command;
+use crate::row::name_of;
+use logic_term::{Label, Ty};
+use mir_ir::{
+    Block, Body, Head, Initialised, Place, Point, Statement, StatementKind, TerminatorKind,
+};
+use std::alloc::Global;
+use text_core::{Items, NoMemory};
+
+/// Whether the label is one of these.
+pub(crate) fn among(label: Label, labels: &[Label]) -> bool
+    ensures { result ≡ among label labels.now }
+{
+    labels.iter().any(|other| other.0 == label.0)
+}
+
+fn is_in_loop(head: Label, block: &Block) -> bool
+    ensures { result ≡ is_in_loop head block.now }
+{
+    among(head, block.nest.as_slice())
+}
+
+fn writes(x: u32, statement: &Statement) -> bool
+    ensures { result ≡ writes x statement.now.kind }
+{
+    match &statement.kind {
+        StatementKind::Assign(place, _) => place.local == x,
+        StatementKind::Dead(_) => false,
+    }
+}
+
+fn end_writes(x: u32, end: &TerminatorKind) -> bool
+    ensures { result ≡ end_writes x end.now }
+{
+    match end {
+        TerminatorKind::Call(place, _, _, _) => place.local == x,
+        TerminatorKind::Goto(_) => false,
+        TerminatorKind::If(_, _, _) => false,
+        TerminatorKind::Return => false,
+    }
+}
+
+fn any_writes(x: u32, statements: &[Statement]) -> bool
+    ensures { result ≡ list_any (λ st. writes x st.kind) statements.now }
+{
+    statements.iter().any(|statement| writes(x, statement))
+}
+
+fn block_writes(x: u32, block: &Block) -> bool
+    ensures { result ≡ block_writes x block.now }
+{
+    let by_statement = any_writes(x, block.statements.as_slice());
+    by_statement || end_writes(x, &block.end.kind)
+}
+
+fn is_written_in(head: Label, x: u32, block: &Block) -> bool
+    ensures { result ≡ (is_in_loop head block.now && block_writes x block.now) }
+{
+    is_in_loop(head, block) && block_writes(x, block)
+}
+
+/// Whether some block of the loop of the head writes the local.
+fn loop_writes(body: &Body, head: Label, x: u32) -> bool
+    ensures { result ≡ loop_writes body.now head x }
+{
+    body.blocks
+        .as_slice()
+        .iter()
+        .any(|entry| is_written_in(head, x, &entry.1))
+}
+
+fn is_whole(x: u32, place: &Place) -> bool
+    ensures { result ≡ is_whole x place.now }
+{
+    place.local == x && place.path.len() == 0
+}
+
+fn any_whole(x: u32, places: &[Place]) -> bool
+    ensures { result ≡ list_any (is_whole x) places.now }
+{
+    places.iter().any(|place| is_whole(x, place))
+}
+
+fn is_point(label: Label, point: Point) -> bool
+    ensures { result ≡ (point.label.0 == label.0 && point.statement == 0) }
+{
+    point.label.0 == label.0 && point.statement == 0
+}
+
+fn is_gone_at(label: Label, x: u32, point: Point, places: &Items<Place>) -> bool
+    ensures { result ≡ ((point.label.0 == label.0 && point.statement == 0) && list_any (is_whole x) places.now) }
+{
+    let is_here = is_point(label, point);
+    is_here && any_whole(x, places.as_slice())
+}
+
+/// Whether the local may be wholly gone where the block of the label begins.
+fn is_gone(init: &Initialised, label: Label, x: u32) -> bool
+    ensures { result ≡ is_gone init.now label x }
+{
+    init.gone
+        .as_slice()
+        .iter()
+        .any(|entry| is_gone_at(label, x, entry.0, &entry.1))
+}
+
+fn is_renewed(body: &Body, init: &Initialised, head: Label, x: u32) -> bool
+    ensures { result ≡ is_renewed body.now init.now head x }
+{
+    loop_writes(body, head, x) && !is_gone(init, head, x)
+}
+
+/// The commands at a loop head.
+pub(crate) fn head_commands(
+    alloc: Global,
+    body: &Body,
+    init: &Initialised,
+    label: Label,
+    head: &Head,
+) -> Result<Vec<Command>, NoMemory>
+    ensures { IfOk result (λ v. v.items ≡ head_commands body.now init.now label head.now) }
+{
+    let mut commands = Vec::new(alloc);
+    let mut x: u32 = 0;
+    for ty in body.locals.as_slice() {
+        if is_renewed(body, init, label, x) {
+            commands.push(Command::Fresh(name_of(body, x), ty.copy(alloc)?))?;
+        }
+        x = x.checked_add(1).ok_or(NoMemory)?;
+    }
+    with_assumed(alloc, commands, head.invariants.as_slice())
+}

@@ -1,0 +1,121 @@
+//! The obligations of a body.
+ghost use Rattle.std.specs.Prelude.{◌≡◌, ◌∷◌, [], ◌++◌, ℕ, IfOk, drop};
+ghost use Rattle.wp_gen.specs.Walk.{parameters, stored, entry_commands, numbered, AreGoals, AreObligations};
+ghost use Rattle.wp_gen.specs.Walkable.{setting, CanWalk};
+
+use crate::call::with_assumed;
+use crate::command::Command;
+use crate::goal::Goal;
+use crate::row::name_of;
+use crate::seen::with_seen_before;
+use crate::walk::{Walk, goals_from_entry};
+use logic_term::{Contract, Obligation, Term, Ty, reduce};
+use mir_ir::Body;
+use std::alloc::Global;
+use text_core::{Items, Name, NoMemory, Text};
+
+/// Each parameter has some value of its type.
+fn parameters(alloc: Global, names: &[Name], types: &[Ty]) -> Result<Vec<Command>, NoMemory>
+    ensures { IfOk result (λ v. v.items ≡ parameters names.now types.now) }
+{
+    let mut commands = Vec::new(alloc);
+    for i in 0..names.len().min(types.len()) {
+        commands.push(Command::Fresh(names[i], types[i].copy(alloc)?))?;
+    }
+    Ok(commands)
+}
+
+/// The locals from number 1 on have the values of the names, behind other commands.
+fn with_stored(
+    alloc: Global,
+    first: Vec<Command>,
+    body: &Body,
+    names: &[Name],
+) -> Result<Vec<Command>, NoMemory>
+    ensures { IfOk result (λ v. v.items ≡ first.items ++ stored body.now 1 names.now) }
+{
+    let mut all = first;
+    let mut local: u32 = 1;
+    for name in names {
+        all.push(Command::Set(name_of(body, local), Term::var(*name)))?;
+        local = local.checked_add(1).ok_or(NoMemory)?;
+    }
+    Ok(all)
+}
+
+/// The types of the locals after the answer.
+fn types_after_answer(types: &[Ty]) -> &[Ty]
+    ensures { result.now ≡ drop 1 types.now }
+{
+    match types {
+        [_, rest @ ..] => rest,
+        [] => types,
+    }
+}
+
+/// The commands at the entry of a body: its parameters, and what its contract lets it know of them.
+fn entry_commands(alloc: Global, body: &Body, contract: &Contract) -> Result<Vec<Command>, NoMemory>
+    ensures { IfOk result (λ v. v.items ≡ entry_commands body.now contract.now) }
+{
+    let types = types_after_answer(body.locals.as_slice());
+    let names = contract.params.as_slice();
+    let commands = parameters(alloc, names, types)?;
+    let commands = with_assumed(alloc, commands, contract.pre.as_slice())?;
+    with_stored(alloc, commands, body, names)
+}
+
+/// The goals of a body with its contract, closed at its entry.
+fn goals(alloc: Global, walk: &Walk<'_>) -> Result<Vec<Goal>, NoMemory>
+    requires { CanWalk (setting walk.now) }
+    ensures { IfOk result (λ v. (n : ℕ) × AreGoals (setting walk.now) v.items n) }
+{
+    let inner = goals_from_entry(alloc, walk)?;
+    let commands = entry_commands(alloc, walk.body, walk.contract)?;
+    with_seen_before(
+        alloc,
+        Vec::new(alloc),
+        commands.as_slice(),
+        inner.as_slice(),
+    )
+}
+
+fn obligation(alloc: Global, owner: &Text, number: u32, goal: &Goal) -> Result<Obligation, NoMemory>
+    ensures { IfOk result (λ o. o ∷ [] ≡ numbered owner.now number (goal.now ∷ [])) }
+{
+    Ok(Obligation {
+        owner: owner.copy(alloc)?,
+        number,
+        kind: goal.kind,
+        span: goal.span,
+        from: None,
+        params: Items::new(alloc),
+        goal: reduce(alloc, &goal.formula)?,
+    })
+}
+
+fn numbered(
+    alloc: Global,
+    owner: &Text,
+    first: u32,
+    goals: &[Goal],
+) -> Result<Vec<Obligation>, NoMemory>
+    ensures { IfOk result (λ v. v.items ≡ numbered owner.now first goals.now) }
+{
+    let mut obligations = Vec::new(alloc);
+    let mut number = first;
+    for goal in goals {
+        obligations.push(obligation(alloc, owner, number, goal)?)?;
+        number = number.checked_add(1).ok_or(NoMemory)?;
+    }
+    Ok(obligations)
+}
+
+/// The obligations of a body with its contract, numbered from `first` on, in the order of the walk of its paths. Want of
+/// memory is answered too where the number of a local or of an obligation would pass 32 bits.
+pub fn obligations(alloc: Global, walk: &Walk<'_>, first: u32) -> Result<Vec<Obligation>, NoMemory>
+    requires { CanWalk (setting walk.now) }
+    ensures { IfOk result (λ v. (n : ℕ) × AreObligations (setting walk.now) first v.items n) }
+{
+    let goals = goals(alloc, walk)?;
+    numbered(alloc, &walk.body.owner, first, goals.as_slice())
+}

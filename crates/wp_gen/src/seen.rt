@@ -1,0 +1,107 @@
+//! Formulas and goals, seen from before commands; and goals from formulas.
+ghost use Rattle.std.specs.Prelude.{◌≡◌, ◌∷◌, [], ◌++◌, map, IfOk};
+ghost use Rattle.wp_gen.specs.Command.{before, before_all};
+ghost use Rattle.wp_gen.specs.Walk.{goal_before, seen_before, each_goal, all_at};
+
+use crate::command::Command;
+use crate::goal::Goal;
+use logic_term::Term;
+use std::alloc::Global;
+use text_core::{Kind, NoMemory, Span};
+
+/// The formula after the command, seen from before it.
+fn before(alloc: Global, command: &Command, formula: Term) -> Result<Term, NoMemory>
+    ensures { IfOk result (λ t. t ≡ before command.now formula) }
+{
+    match command {
+        Command::Set(name, by) => formula.replaced(alloc, *name, by),
+        Command::Fresh(name, sort) => {
+            let sort = sort.copy(alloc)?;
+            Term::forall(alloc, *name, sort, formula)
+        }
+        Command::Assume(known) => {
+            let known = known.copy(alloc)?;
+            Term::implies(alloc, known, formula)
+        }
+    }
+}
+
+fn before_all(alloc: Global, commands: &[Command], formula: &Term) -> Result<Term, NoMemory>
+    ensures { IfOk result (λ t. t ≡ before_all commands.now formula.now) }
+{
+    let mut seen = formula.copy(alloc)?;
+    for i in (0..commands.len()).rev() {
+        seen = before(alloc, &commands[i], seen)?;
+    }
+    Ok(seen)
+}
+
+fn goal_before(alloc: Global, commands: &[Command], goal: &Goal) -> Result<Goal, NoMemory>
+    ensures { IfOk result (λ g. g ≡ goal_before commands.now goal.now) }
+{
+    let formula = before_all(alloc, commands, &goal.formula)?;
+    Ok(Goal {
+        kind: goal.kind,
+        span: goal.span,
+        formula,
+    })
+}
+
+/// The goals after the commands, put behind others.
+pub(crate) fn with_seen_before(
+    alloc: Global,
+    first: Vec<Goal>,
+    commands: &[Command],
+    goals: &[Goal],
+) -> Result<Vec<Goal>, NoMemory>
+    ensures { IfOk result (λ v. v.items ≡ first.items ++ seen_before commands.now goals.now) }
+{
+    let mut all = first;
+    for goal in goals {
+        all.push(goal_before(alloc, commands, goal)?)?;
+    }
+    Ok(all)
+}
+
+fn goal_of(alloc: Global, kind: Kind, span: Span, term: &Term) -> Result<Goal, NoMemory>
+    ensures { IfOk result (λ g. g ≡ record { kind = kind; span = span; formula = term.now }) }
+{
+    let formula = term.copy(alloc)?;
+    Ok(Goal {
+        kind,
+        span,
+        formula,
+    })
+}
+
+/// One goal for each formula with its span.
+pub(crate) fn each_goal(
+    alloc: Global,
+    kind: Kind,
+    terms: &[Term],
+    spans: &[Span],
+) -> Result<Vec<Goal>, NoMemory>
+    ensures { IfOk result (λ v. v.items ≡ each_goal kind terms.now spans.now) }
+{
+    let mut goals = Vec::new(alloc);
+    for i in 0..terms.len().min(spans.len()) {
+        goals.push(goal_of(alloc, kind, spans[i], &terms[i])?)?;
+    }
+    Ok(goals)
+}
+
+/// One goal for each formula, all at one span.
+pub(crate) fn all_at(
+    alloc: Global,
+    kind: Kind,
+    span: Span,
+    terms: &[Term],
+) -> Result<Vec<Goal>, NoMemory>
+    ensures { IfOk result (λ v. v.items ≡ all_at kind span terms.now) }
+{
+    let mut goals = Vec::new(alloc);
+    for term in terms {
+        goals.push(goal_of(alloc, kind, span, term)?)?;
+    }
+    Ok(goals)
+}
