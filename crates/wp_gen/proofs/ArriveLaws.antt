@@ -1,5 +1,5 @@
 -- Where the walk goes on, and why it ends.
-use Rattle.std.proofs.Common.{◌≡◌, ◌∙◌, ◌⊎◌, inl, inr, refl, sym, ap, subst, ℕ, zero, suc, ◌+◌, ◌-◌, ◌*◌, ◌<◌, ◌≤◌, ◌==◌, ◌||◌, Bool, true, false, cond, true≢false, List, [], ◌∷◌, ◌++◌, length, get_or, Option, Some, None, eq-eqb, arith}
+use Rattle.std.proofs.Common.{◌≡◌, ◌∙◌, ◌⊎◌, inl, inr, refl, sym, ap, subst, ℕ, zero, suc, ◌+◌, ◌-◌, ◌*◌, ◌<◌, ◌==◌, ◌||◌, Bool, true, false, cond, true≢false, List, [], ◌∷◌, ◌++◌, length, get_or, Option, Some, None, eq-eqb, arith}
 use Rattle.std.proofs.lemmas.Bool.{eqb-true}
 use Rattle.std.specs.Prelude.{slice_get}
 use Rattle.logic_term.specs.declared.kinds.Label.{Label}
@@ -11,7 +11,7 @@ use Rattle.mir_ir.specs.declared.place.Place.{Place}
 use Rattle.mir_ir.specs.declared.body.Block.{Block}
 use Rattle.mir_ir.specs.declared.body.Head.{Head}
 use Rattle.mir_ir.specs.Body.{block_in}
-use Rattle.mir_ir.specs.Layout.{among, targets, place_of, around_of, around, Enters, Leads, on, back}
+use Rattle.mir_ir.specs.Layout.{among, targets, place_of, around_of, around, Leads, on, back}
 use Rattle.wp_gen.specs.Walk.{Setting}
 use Rattle.wp_gen.specs.Walkable.{CanWalk, AllAmong, AreHeads, MayArrive, MayWalk}
 

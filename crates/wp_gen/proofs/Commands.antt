@@ -1,19 +1,14 @@
 -- What is true before commands is true after them.
-use Rattle.std.proofs.Common.{◌≡◌, refl, List, [], ◌∷◌, ◌++◌, map}
-use Rattle.text_core.specs.declared.name.Name.{Name}
-use Rattle.logic_term.specs.Meaning.{Structure, Env, with_value, Means, Holds}
-use Rattle.logic_term.specs.Sort.{HasSort, instance}
-use Rattle.logic_term.specs.Term.{Term, implies}
-use Rattle.logic_term.specs.Ty.{Ty}
-use Rattle.logic_term.specs.Value.{Value}
+use Rattle.std.proofs.Common.{List, [], ◌∷◌, ◌++◌}
+use Rattle.logic_term.specs.Meaning.{Structure, Env, Holds}
+use Rattle.logic_term.specs.Term.{Term}
 use Rattle.logic_term.proofs.Alike.{yes_alike}
 use Rattle.logic_term.proofs.SubstLaw.{replaced_means}
 use Rattle.logic_term.proofs.Truth.{holds_implies, holds_forall}
 use Rattle.wp_gen.specs.declared.command.Command.{Command}
-use Rattle.wp_gen.specs.declared.command.Command.TheVariants.{Set, Fresh, Assume}
 use Rattle.wp_gen.specs.declared.goal.Goal.{Goal}
 use Rattle.wp_gen.specs.Command.{before, before_all, Moves, by_set, by_fresh, by_assume, MovesAll, none, more}
-use Rattle.wp_gen.specs.Walk.{goal_before, seen_before}
+use Rattle.wp_gen.specs.Walk.{seen_before}
 
 module _ (S : Structure) where
   -- a formula that is true before a command is true where the command leads

@@ -1,25 +1,20 @@
 -- The commands of an operation lead where its operands' values say, if its goals hold.
-use Rattle.std.proofs.Common.{◌≡◌, ◌≢◌, ◌∙◌, ◌⊎◌, ◌↔◌, inl, inr, refl, sym, ap, subst, ℕ, zero, suc, ℤ, pos, negsuc, neg_ℤ, int_div, Bool, true, false, cond, List, [], ◌∷◌, ◌++◌, Option, Some, None, true≢false, arith}
-use Rattle.std.specs.Prelude.{int_le, int_lt, int_rem, ◌&&◌}
+use Rattle.std.proofs.Common.{◌≡◌, ◌∙◌, ◌↔◌, refl, sym, ap, subst, ℤ, pos, negsuc, Bool, true, false, [], ◌∷◌, true≢false}
+use Rattle.std.specs.Prelude.{int_le, ◌&&◌}
 use Rattle.std.specs.Prelude.{not as flip}
-use Rattle.std.specs.Ordering.{int_eq}
 use Rattle.text_core.specs.declared.name.Name.{Name}
-use Rattle.text_core.specs.declared.span.Span.{Span}
-use Rattle.logic_term.specs.declared.kinds.ArithOp.{ArithOp}
 use Rattle.logic_term.specs.declared.kinds.IntKind.{IntKind}
 use Rattle.logic_term.specs.Range.{lowest, highest, fits}
-use Rattle.logic_term.specs.Ty.{Ty, int, math_int}
-use Rattle.logic_term.specs.Value.{Value, Number, Flag, integer_of}
-use Rattle.logic_term.specs.Sort.{HasSort, of_int}
-use Rattle.logic_term.specs.Term.{Term, var, lit, model, negative, not, calculate, is_less, is_at_most, is_equal, and}
-use Rattle.logic_term.specs.Meaning.{Sure, Has, Says, Decided, Structure, Env, with_value, Means, Holds, Yes, calculated}
-use Rattle.logic_term.proofs.Alike.{Alike, alike_same, alike_then, sure_map}
-use Rattle.logic_term.proofs.Coincide.{with_same, with_other}
-use Rattle.logic_term.proofs.Truth.{Exactly, Computes, computes_model, holds_and, holds_not, holds_at_most, holds_equal_exactly, yes_flag, of_two_exactly}
-use Rattle.wp_gen.specs.declared.command.Command.{Command}
+use Rattle.logic_term.specs.Ty.{int, math_int}
+use Rattle.logic_term.specs.Value.{Value, Number, Flag}
+use Rattle.logic_term.specs.Sort.{of_int}
+use Rattle.logic_term.specs.Term.{Term, var, lit, model, not, is_at_most, is_equal, and}
+use Rattle.logic_term.specs.Meaning.{Says, Decided, Structure, Env, with_value, Means, Holds, Yes}
+use Rattle.logic_term.proofs.Alike.{alike_same}
+use Rattle.logic_term.proofs.Coincide.{with_same}
+use Rattle.logic_term.proofs.Truth.{Exactly, Computes, computes_model, holds_and, holds_not, holds_at_most, holds_equal_exactly, yes_flag}
 use Rattle.wp_gen.specs.declared.command.Command.TheVariants.{Set, Fresh, Assume}
-use Rattle.wp_gen.specs.declared.goal.Goal.{Goal}
-use Rattle.wp_gen.specs.Command.{Moves, by_set, by_fresh, by_assume, MovesAll, none, more}
+use Rattle.wp_gen.specs.Command.{by_set, by_fresh, by_assume, MovesAll, none, more}
 use Rattle.wp_gen.specs.Row.{value_name, in_range, not_zero, not_least_by_minus_one}
 
 -- ---- what says a decided fact

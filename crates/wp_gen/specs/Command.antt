@@ -1,6 +1,6 @@
 -- The rows of the translation, reduced to three commands (RustHorn, Matsushita, Tsukada and Kobayashi 2020; Creusot, Denis, Jourdan
 -- and Marché 2022). A formula after a command is seen from before it, as in Dijkstra's weakest preconditions.
-use Rattle.std.specs.Prelude.{◌≡◌, List, [], ◌∷◌}
+use Rattle.std.specs.Prelude.{List, [], ◌∷◌}
 use Rattle.text_core.specs.declared.name.Name.{Name}
 use Rattle.logic_term.specs.Meaning.{Structure, Env, with_value, Holds}
 use Rattle.logic_term.specs.Laws.{HasExactly}

@@ -1,9 +1,8 @@
 -- One row for each statement and each end of a block: the goals that are met there, and the commands to what comes after.
 -- Arithmetic is that of the Rust Reference ("Operator expressions": overflow, division by zero, the least integer divided by -1).
-use Rattle.std.specs.Prelude.{ℕ, ◌+◌, ◌^◌, pos, negsuc, Bool, true, false, List, [], ◌∷◌, ◌++◌, map, Option, Some, None, slice_get, if◌then◌else◌}
+use Rattle.std.specs.Prelude.{ℕ, ◌+◌, ◌^◌, pos, negsuc, Bool, true, false, List, [], ◌∷◌, Option, Some, None, slice_get, if◌then◌else◌}
 use Rattle.text_core.specs.declared.name.Name.{Name}
 use Rattle.text_core.specs.declared.span.Span.{Span}
-use Rattle.text_core.specs.declared.refusal.Kind.{Kind}
 use Rattle.text_core.specs.declared.refusal.Kind.TheVariants.{Overflow, Division}
 use Rattle.logic_term.specs.declared.kinds.ArithOp.{ArithOp}
 use Rattle.logic_term.specs.declared.kinds.ArithOp.TheVariants as arith
@@ -14,7 +13,6 @@ use Rattle.logic_term.specs.declared.kinds.IntKind.TheVariants.{I8, I16, I32, I6
 use Rattle.logic_term.specs.Range.{lowest, highest}
 use Rattle.logic_term.specs.Term.{Term, var, lit, truth, model, negative, not, calculate, is_less, is_at_most, is_equal, and}
 use Rattle.logic_term.specs.Ty.{Ty, int, bool, math_int}
-use Rattle.mir_ir.specs.declared.place.Place.{Place}
 use Rattle.mir_ir.specs.declared.place.Lit.{Lit}
 use Rattle.mir_ir.specs.declared.place.Lit.TheVariants as literal
 use Rattle.mir_ir.specs.declared.place.Operand.{Operand}

@@ -1,7 +1,7 @@
 -- The walk of a body's paths from its entry, depth first, where it is true before where it is false, and the goals that are met, in
 -- order. Each goal's formula is made from the goal backwards to the point at which the walk begins. A loop head is passed once:
 -- at a second arrival on a path its invariants are goals and the path ends (Floyd 1967; Creusot).
-use Rattle.std.specs.Prelude.{◌≡◌, ℕ, ◌+◌, ◌==◌, ◌||◌, ◌&&◌, not, max, Bool, true, false, List, [], ◌∷◌, ◌++◌, length, map, drop, filter, Option, Some, None, slice_get, if◌then◌else◌}
+use Rattle.std.specs.Prelude.{◌≡◌, ℕ, ◌+◌, ◌==◌, ◌||◌, ◌&&◌, not, max, Bool, true, false, List, [], ◌∷◌, ◌++◌, length, map, drop, Some, None, slice_get, if◌then◌else◌}
 use Rattle.std.specs.List.{list_any}
 use Rattle.text_core.specs.declared.name.Name.{Name}
 use Rattle.text_core.specs.declared.span.Span.{Span}
@@ -13,7 +13,7 @@ use Rattle.logic_term.specs.declared.subst.Replacement.{Replacement}
 use Rattle.logic_term.specs.Subst.{above, subst, replaced}
 use Rattle.logic_term.specs.Term.{Term, var}
 use Rattle.logic_term.specs.Term as terms
-use Rattle.logic_term.specs.Ty.{Ty, bool}
+use Rattle.logic_term.specs.Ty.{Ty}
 use Rattle.mir_ir.specs.declared.place.Operand.{Operand}
 use Rattle.mir_ir.specs.declared.place.Place.{Place}
 use Rattle.mir_ir.specs.declared.terminator.FnId.TheVariants.{Body as OfBody}

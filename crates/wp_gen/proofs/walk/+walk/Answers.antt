@@ -1,10 +1,10 @@
 use Rattle.text_core.specs.declared.refusal.Kind.TheVariants.{InvEntry}
 use Rattle.wp_gen.specs.Walk.{each_goal}
-use Rattle.std.proofs.Common.{◌≡◌, ◌∙◌, ◌<◌, ◌+◌, ◌*◌, ap, sym, subst, arith, refl}
+use Rattle.std.proofs.Common.{◌∙◌, ap, sym, arith}
 use Rattle.std.proofs.lemmas.Result.{IfOk-weaker}
-use Rattle.wp_gen.specs.Walk.{goto, return, plain, again}
+use Rattle.wp_gen.specs.Walk.{goto}
 use Rattle.wp_gen.specs.Walkable.{setting}
-use Rattle.wp_gen.proofs.ArriveLaws.{room, arrival_measure, plain_block, head_block, next_arrival, goto_names, if_names_yes, if_names_no, call_names}
+use Rattle.wp_gen.proofs.ArriveLaws.{next_arrival, goto_names, if_names_yes, if_names_no, call_names}
 use Rattle.wp_gen.proofs.WalkLaws.{branch_walks, called, call_walks, first_arrives, return_walks, again_arrives, plain_arrives, enter_plain}
 use Rattle.wp_gen.proofs.walk.+walk.Goals as goal
 

@@ -1,4 +1,4 @@
-use Rattle.std.proofs.Common.{◌<◌, ◌≤◌, length, arith}
+use Rattle.std.proofs.Common.{arith}
 use Rattle.wp_gen.specs.Walkable.{setting}
 use Rattle.wp_gen.proofs.WalkLaws.{one_statement}
 use Rattle.wp_gen.proofs.walk.through.Goals as goal

@@ -1,4 +1,4 @@
-use Rattle.std.proofs.Common.{◌≡◌, ℕ, List, [], drop}
+use Rattle.std.proofs.Common.{ℕ, List, [], drop}
 use Rattle.logic_term.specs.declared.kinds.Label.{Label}
 use Rattle.mir_ir.specs.declared.terminator.Terminator.{Terminator}
 use Rattle.wp_gen.specs.Walk.{Walks}
