@@ -84,11 +84,11 @@ sound_wholes bodies sound f b is_body = record {
 
 -- ---- shapes of trees
 
-abbrev IsThere : {K : Type 0} → Tree K → Type 0
+abbrev pub IsThere : {K : Type 0} → Tree K → Type 0
 IsThere t = is_there t ≡ Yields t
 
 -- an integer of the type, or a truth value
-abbrev IsOf : {K : Type 0} → Ty → Tree K → Type 0
+abbrev pub IsOf : {K : Type 0} → Ty → Tree K → Type 0
 IsOf (int k) t = (z : ℤ) × (t ≡ Int z) × (fits k z ≡ true)
 IsOf bool t = (b : Bool) × (t ≡ Truth b)
 IsOf _ t = Unit {0}
@@ -175,15 +175,15 @@ fits_set {K} b θ set ls x ty u is_ty shape h = record {
       (apart x y);
 }
 
-fits_within : {K : Type 0} (b : Body) (θ : Tys) (small large : Locals) (ls : List (Tree K)) → Within small large → Fits b θ large ls → Fits b θ small ls
+pub fits_within : {K : Type 0} (b : Body) (θ : Tys) (small large : Locals) (ls : List (Tree K)) → Within small large → Fits b θ large ls → Fits b θ small ls
 fits_within b θ small large ls w h = record { slot = h.slot; shaped = λ x ty t inside. h.shaped x ty t (w x inside) }
 
 -- ---- operands and right sides
 
-abbrev Keeps : {K : Type 0} → Body → Tys → Locals → Ty → Left K → Type 0
+abbrev pub Keeps : {K : Type 0} → Body → Tys → Locals → Ty → Left K → Type 0
 Keeps b θ set ty l = Fits b θ set l.0 × Shape (instance θ ty) l.1
 
-local_goes : {K : Type 0} (b : Body) (θ : Tys) (set : Locals) (ls : List (Tree K)) (x : ℕ) (ty : Ty) → Fits b θ set ls → slice_get b.locals x ≡ Some ty → set x ≡ true → Goes (Shape (instance θ ty)) (local_tree ls x)
+pub local_goes : {K : Type 0} (b : Body) (θ : Tys) (set : Locals) (ls : List (Tree K)) (x : ℕ) (ty : Ty) → Fits b θ set ls → slice_get b.locals x ≡ Some ty → set x ≡ true → Goes (Shape (instance θ ty)) (local_tree ls x)
 local_goes b θ set ls x ty h is_ty inside =
     let u = h.slot x ty is_ty in
     let shape = h.shaped x ty u.0 inside is_ty u.1 in
@@ -193,7 +193,7 @@ literal_shape : {K : Type 0} (θ : Tys) (l : Lit) (ty : Ty) → LitHas l ty → 
 literal_shape {K} θ (lit.Int z k) ty (e, fit) = subst (λ t. Shape {K = K} (instance θ t) (Int z)) (sym e) (refl, (z, refl, fit))
 literal_shape {K} θ (lit.Bool x) ty e = subst (λ t. Shape {K = K} (instance θ t) (Truth x)) (sym e) (refl, (x, refl))
 
-take_goes : {K : Type 0} (b : Body) (θ : Tys) (set : Locals) (ls : List (Tree K)) (o : Operand) (ty : Ty) → Fits b θ set ls → OperandHas b o ty → CanTake set o → Goes (Keeps b θ (taken o set) ty) (take_operand ls o)
+pub take_goes : {K : Type 0} (b : Body) (θ : Tys) (set : Locals) (ls : List (Tree K)) (o : Operand) (ty : Ty) → Fits b θ set ls → OperandHas b o ty → CanTake set o → Goes (Keeps b θ (taken o set) ty) (take_operand ls o)
 take_goes b θ set ls (Copy p) ty h has can =
     goes_then (Shape (instance θ ty)) (Keeps b θ set ty) (local_tree ls p.local) (λ t. Yields (ls, t)) (local_goes b θ set ls p.local ty h has.1 can) (λ t shape. (h, shape))
 take_goes b θ set ls (Move p) ty h has can =
@@ -341,7 +341,7 @@ gone_goes {K} b θ set ls x ty is_ty h =
     let u = h.slot x ty is_ty in
     subst (λ (o : Option (Tree K)). Goes (Fits b θ (without x set)) (need o >>= λ w. Yields (slice_set ls x Gone))) (sym u.1) (fits_gone b θ set ls x h)
 
-run_goes : {K : Type 0} (b : Body) (θ : Tys) (set : Locals) (ls : List (Tree K)) (span : Span) (kind : StatementKind) → Fits b θ set ls → StatementIsTyped b kind → CanRun set kind → Goes (Fits b θ (run kind set)) (run_local b θ ls span kind)
+pub run_goes : {K : Type 0} (b : Body) (θ : Tys) (set : Locals) (ls : List (Tree K)) (span : Span) (kind : StatementKind) → Fits b θ set ls → StatementIsTyped b kind → CanRun set kind → Goes (Fits b θ (run kind set)) (run_local b θ ls span kind)
 run_goes {K} b θ set ls span (Assign p r) h (ty, has, typed) can =
     subst (λ k. Goes (Fits b θ (with p.local (evaluated r set))) (evaluate ls k span r >>= λ l. put_local l.0 p.local l.1)) (sym (kind_of_place b θ p ty has))
     (goes_then (Keeps b θ (evaluated r set) ty) (Fits b θ (with p.local (evaluated r set))) (evaluate ls (kind_of (instance θ ty)) span r) (λ l. put_local l.0 p.local l.1) (evaluate_goes b θ set ls span r ty h typed can)
@@ -350,7 +350,7 @@ run_goes b θ set ls span (Dead x) h (ty, is_ty) can = gone_goes b θ set ls x t
 
 -- ---- lists
 
-get_past : {A : Type 0} (xs : List A) (i : ℕ) → slice_get xs i ≡ None → length xs ≤ i
+pub get_past : {A : Type 0} (xs : List A) (i : ℕ) → slice_get xs i ≡ None → length xs ≤ i
 get_past [] i e = omega arith
 get_past (x ∷ xs) zero e = absurd (cc)
 get_past (x ∷ xs) (suc i) e = omega (arith, get_past xs i e)
@@ -367,14 +367,14 @@ answer_is (t ∷ ts) ty e = some_same e
 -- ---- arguments
 
 -- each argument has the shape of its type
-abbrev AreShaped : {K : Type 0} → Tys → List (Tree K) → List Ty → Type 0
+abbrev pub AreShaped : {K : Type 0} → Tys → List (Tree K) → List Ty → Type 0
 AreShaped {K} θ args tys = (n : ℕ) (ty : Ty) → slice_get tys n ≡ Some ty → (t : Tree K) × (slice_get args n ≡ Some t) × Shape (instance θ ty) t
 
 shaped_more : {K : Type 0} (θ : Tys) (t : Tree K) (ty : Ty) (args : List (Tree K)) (tys : List Ty) → Shape (instance θ ty) t → AreShaped θ args tys → AreShaped θ (t ∷ args) (ty ∷ tys)
 shaped_more θ t ty args tys h hs zero q e = (t, refl, subst (λ w. Shape (instance θ w) t) (some_same e) h)
 shaped_more θ t ty args tys h hs (suc n) q e = hs n q e
 
-typed_args : {K : Type 0} (Δ : Declarations) (s : State K) (θ : Tys) (args : List (Tree K)) (tys : List Ty) (met : List Met) → AreTyped Δ s (trees_of args) (instances θ (tys_of tys)) met → (length args ≡ length tys) × AreShaped θ args tys
+pub typed_args : {K : Type 0} (Δ : Declarations) (s : State K) (θ : Tys) (args : List (Tree K)) (tys : List Ty) (met : List Met) → AreTyped Δ s (trees_of args) (instances θ (tys_of tys)) met → (length args ≡ length tys) × AreShaped θ args tys
 typed_args Δ s θ [] [] met h = (refl, λ n ty e. absurd (cc))
 typed_args Δ s θ [] (ty ∷ tys) met h = elim h [ ]
 typed_args Δ s θ (t ∷ args) [] met h = elim h [ ]
@@ -423,7 +423,7 @@ operands_go {K} b θ set ls (o ∷ os) (ty ∷ tys) h have can =
     (λ l kept. goes_then (AreArguments b θ end tys) (AreArguments b θ end (ty ∷ tys)) (take_operands l.0 os) (more l.1) (operands_go b θ (taken o set) l.0 os tys kept.0 have.1 can.1)
     (λ r args. (args.0, (ap suc args.1.0, shaped_more θ l.1 ty r.1 tys kept.1 args.1.1))))
 
-entered_fits : {K : Type 0} (bodies : List Body) (b : Body) (f : ℕ) (θ : Tys) (args : List (Tree K)) → IsTyped bodies b → (length args ≡ length (take b.params (drop 1 b.locals))) × AreShaped θ args (take b.params (drop 1 b.locals)) → Fits b θ (parameters b) (entered b f θ args).locals
+pub entered_fits : {K : Type 0} (bodies : List Body) (b : Body) (f : ℕ) (θ : Tys) (args : List (Tree K)) → IsTyped bodies b → (length args ≡ length (take b.params (drop 1 b.locals))) × AreShaped θ args (take b.params (drop 1 b.locals)) → Fits b θ (parameters b) (entered b f θ args).locals
 entered_fits {K} bodies b f θ args typed of_args = record {
   slot = λ x ty e. get_first (entered b f θ args).locals x (omega (arith, room, slice_get_within b.locals x ty e));
   shaped = shaped;

@@ -1,6 +1,6 @@
 -- Quotients stay in their type, but for the least integer divided by -1.
-use Rattle.std.proofs.Common.{◌≡◌, refl, ap, ℕ, zero, suc, ◌/◌, ◌≤◌, ℤ, pos, negsuc, neg_ℤ, int_div, true, arith}
-use Rattle.std.proofs.Math.Nat.{div-le_self}
+use Rattle.std.proofs.Common.{◌≡◌, refl, ap, ℕ, zero, suc, ◌/◌, ◌%◌, ◌≤◌, ℤ, pos, negsuc, neg_ℤ, unsigned_abs, int_div, int_rem, true, arith}
+use Rattle.std.proofs.Math.Nat.{div-le_self, mod-le}
 use Rattle.logic_term.specs.declared.kinds.IntKind.{IntKind}
 use Rattle.logic_term.specs.declared.kinds.IntKind.TheVariants.{I8, I16, I32, I64, Isize, U8, U16, U32, U64, Usize}
 use Rattle.logic_term.specs.Range.{lowest, fits}
@@ -102,3 +102,8 @@ quotient_fits k (pos a) (pos b) e f d = smaller k a (a / b) (div-le_self a b) e
 quotient_fits k (pos a) (negsuc b) e f d = negative_of_smaller k a b (a / suc b) (div-le_self a (suc b)) e f
 quotient_fits k (negsuc a) (pos b) e f d = nearer k a (suc a / b) (div-le_self (suc a) b) e
 quotient_fits k (negsuc a) (negsuc b) e f d = nonneg_divisor k a b e d
+
+-- the remainder is no further from 0 than the integer that is divided
+pub remainder_fits : (k : IntKind) (x y : ℤ) → fits k x ≡ true → fits k (int_rem x y) ≡ true
+remainder_fits k (pos a) y e = smaller k a (a % unsigned_abs y) (mod-le a (unsigned_abs y)) e
+remainder_fits k (negsuc a) y e = nearer k a (suc a % unsigned_abs y) (mod-le (suc a) (unsigned_abs y)) e

@@ -1,0 +1,134 @@
+-- One step of the machine in a body of branches, against the walk.
+use Rattle.std.proofs.Common.{◌≡◌, ◌∙◌, ◌⊎◌, inl, inr, refl, sym, ap, subst, ℕ, ◌==◌, Bool, true, false, cond, List, Some, slice_get, eq-eqb, ne_eqb, true≢false}
+use Rattle.std.proofs.lemmas.Bool.{eqb-true}
+use Rattle.text_core.specs.declared.name.Name.{Name}
+use Rattle.text_core.specs.declared.span.Span.{Span}
+use Rattle.logic_term.specs.Meaning.{Structure, Env}
+use Rattle.logic_term.specs.Sort.{Declarations}
+use Rattle.logic_term.specs.Ty.{Ty, no_tys}
+use Rattle.logic_term.specs.Value.{Value}
+use Rattle.mir_ir.specs.declared.place.Place.{Place}
+use Rattle.mir_ir.specs.declared.place.Operand.{Operand}
+use Rattle.mir_ir.specs.declared.place.Operand.TheVariants.{Copy, Move, Const}
+use Rattle.mir_ir.specs.declared.statement.Rvalue.{Rvalue}
+use Rattle.mir_ir.specs.declared.statement.Rvalue.TheVariants.{Use, Binary, Neg, Not}
+use Rattle.mir_ir.specs.declared.statement.StatementKind.{StatementKind}
+use Rattle.mir_ir.specs.declared.statement.StatementKind.TheVariants.{Assign, Dead}
+use Rattle.mir_ir.specs.declared.body.Body.{Body}
+use Rattle.mir_ir.specs.WellFormed.{PlaceHas, StatementIsTyped, IsTyped, Locals, without, taken, evaluated, CanRun, run}
+use Rattle.mir_machine.specs.Try.{Try, Yields, Panics, Sticks}
+use Rattle.mir_machine.specs.FrameStep.{run_local}
+use Rattle.mir_machine.proofs.NeverStuck.{Fits, run_goes}
+use Rattle.mir_machine.proofs.Shown.{Store, Agrees, stored, rvalue_value, assign-shows, dead-shows}
+use Rattle.mir_machine.proofs.Tried.{Goes, Quiet, quiet_weaker}
+use Rattle.wp_gen.specs.Command.{MovesAll, none}
+use Rattle.wp_gen.specs.Row.{value_name, name_of, goals_of, commands_of}
+use Rattle.wp_gen.proofs.Commands.{GoalsHold}
+use Rattle.prophecy_sim.specs.Branching.{AreNamesOfLocals}
+use Rattle.prophecy_sim.proofs.Values.{T, Matches, local_named, named_as}
+use Rattle.prophecy_sim.proofs.Assigns.{Assigned, assigned}
+
+pub quiet_both : {A : Type 0} (P Q : A → Type 0) (m : Try A) → Goes P m → Quiet Q m → Quiet (λ a. P a × Q a) m
+quiet_both P Q (Yields a) g q = (g, q)
+quiet_both P Q (Panics c s) g q = q
+quiet_both P Q Sticks g q = absurd g
+
+pub decide : (m n : ℕ) → (m ≡ n) ⊎ (m ≡ n → ⊥)
+decide m n = by_test (m == n) refl
+  where
+    by_test : (t : Bool) → (m == n) ≡ t → (m ≡ n) ⊎ (m ≡ n → ⊥)
+    by_test true e = inl (eqb-true m n e)
+    by_test false e = inr (λ q. true≢false (sym (eq-eqb m n q) ∙ e))
+
+-- ---- what is initialised after a right side was so before
+
+pub taken_before : (o : Operand) (set : Locals) (y : ℕ) → taken o set y ≡ true → set y ≡ true
+taken_before (Copy p) set y e = e
+taken_before (Const l) set y e = e
+taken_before (Move p) set y e = by_test (y == p.local) e
+  where
+    by_test : (t : Bool) → cond t false (set y) ≡ true → set y ≡ true
+    by_test true e = absurd (cc)
+    by_test false e = e
+
+evaluated_before : (r : Rvalue) (set : Locals) (y : ℕ) → evaluated r set y ≡ true → set y ≡ true
+evaluated_before (Use o) set y e = taken_before o set y e
+evaluated_before (Binary op a b) set y e = taken_before a set y (taken_before b (taken a set) y e)
+evaluated_before (Neg o) set y e = taken_before o set y e
+evaluated_before (Not o) set y e = taken_before o set y e
+
+-- ---- statements
+
+module _ (Δ : Declarations) (b : Body) where
+  abbrev pub at_no : Structure
+  at_no = record { declared = Δ; types = no_tys }
+
+  -- the name is of no local, and not that of new values
+  abbrev pub IsOutside : Name → Type 0
+  IsOutside n = ((x : ℕ) (m : Name) → slice_get b.names x ≡ Some m → n.0 ≡ m.0 → ⊥) × (n.0 ≡ value_name.0 → ⊥)
+
+  -- what stands after a statement
+  pub record After (kind : StatementKind) (set : Locals) (ρ : Env) (ls : List T) : Type 0 where
+    pub fitting : Fits b no_tys (run kind set) ls
+    pub store : Store
+    pub agrees : Agrees ls store
+    pub env : Env
+    pub matches : Matches b (run kind set) store env
+    pub moves : MovesAll at_no (commands_of b kind) ρ env
+    pub elsewhere : (n : Name) → IsOutside n → env n ≡ ρ n
+
+  module _ (bodies : List Body) (typed : IsTyped bodies b) (named : AreNamesOfLocals b) where
+    same_as : (t u : Value) (c : Bool) → c ≡ true → cond c t u ≡ t
+    same_as t u c e = ap (λ d. cond d t u) e
+
+    other_than : (t u : Value) (c : Bool) → c ≡ false → cond c t u ≡ u
+    other_than t u c e = ap (λ d. cond d t u) e
+
+    assign_matches : (set : Locals) (σ : Store) (ρ : Env) (p : Place) (r : Rvalue) (ty : Ty) → PlaceHas b p ty → Matches b set σ ρ → (l : Assigned Δ bodies b typed named σ ρ p r) → Matches b (run (Assign p r) set) (stored p.local (rvalue_value σ r) σ) l.env
+    assign_matches set σ ρ p r ty has m l y n inside e = by_place (decide y p.local)
+      where
+        at_place : (n' : Name) × (slice_get b.names p.local ≡ Some n')
+        at_place = local_named bodies b typed p.local ty has.1
+
+        by_place : (y ≡ p.local) ⊎ (y ≡ p.local → ⊥) → l.env n ≡ stored p.local (rvalue_value σ r) σ y
+        by_place (inl q) =
+            let here : name_of b p.local ≡ n = named_as b p.local n (subst (λ x. slice_get b.names x ≡ Some n) q e) in
+            ap l.env (sym here) ∙ l.here ∙ sym (same_as (rvalue_value σ r) (σ y) (y == p.local) (eq-eqb y p.local q))
+        by_place (inr d) =
+            let was : set y ≡ true = evaluated_before r set y (sym (ap (λ c. cond c true (evaluated r set y)) (ne_eqb y p.local d)) ∙ inside) in
+            let apart : n.0 ≡ (name_of b p.local).0 → ⊥ = λ q. d (named.apart y p.local n at_place.0 e at_place.1 (q ∙ ap (λ (z : Name). z.0) (named_as b p.local at_place.0 at_place.1))) in
+            l.elsewhere n apart (named.none_is_new y n e) ∙ m y n was e ∙ sym (other_than (rvalue_value σ r) (σ y) (y == p.local) (ne_eqb y p.local d))
+
+    dead_matches : (set : Locals) (σ : Store) (ρ : Env) (x : ℕ) → Matches b set σ ρ → Matches b (without x set) σ ρ
+    dead_matches set σ ρ x m y n inside e = m y n (by_test (y == x) inside) e
+      where
+        by_test : (t : Bool) → cond t false (set y) ≡ true → set y ≡ true
+        by_test true q = absurd (cc)
+        by_test false q = q
+
+    pub statement_quiet : (kind : StatementKind) (set : Locals) (ls : List T) (σ : Store) (ρ : Env) (span : Span) → StatementIsTyped b kind → CanRun set kind → Fits b no_tys set ls → Agrees ls σ → Matches b set σ ρ →
+        GoalsHold at_no ρ (goals_of b span kind) → Quiet (After kind set ρ) (run_local b no_tys ls span kind)
+    statement_quiet (Assign p r) set ls σ ρ span (ty, has, rhas) can fitting agrees m goals =
+        let l = assigned Δ bodies b typed named set ls σ ρ span p r ty has rhas can fitting agrees m goals in
+        let at_place = local_named bodies b typed p.local ty has.1 in
+        let σ' : Store = stored p.local (rvalue_value σ r) σ in
+        let set' : Locals = run (Assign p r) set in
+        quiet_weaker (λ ls'. Fits b no_tys set' ls' × Agrees ls' σ') (After (Assign p r) set ρ) (run_local b no_tys ls span (Assign p r))
+        (quiet_both (Fits b no_tys set') (λ ls'. Agrees ls' σ') (run_local b no_tys ls span (Assign p r))
+        (run_goes b no_tys set ls span (Assign p r) fitting (ty, has, rhas) can)
+        (assign-shows b no_tys ls σ span p r agrees l.in_range))
+        (λ ls' h. record {
+          fitting = h.0;
+          store = σ';
+          agrees = h.1;
+          env = l.env;
+          matches = assign_matches set σ ρ p r ty has m l;
+          moves = l.moves;
+          elsewhere = λ n out. l.elsewhere n (λ q. out.0 p.local at_place.0 at_place.1 (q ∙ ap (λ (z : Name). z.0) (named_as b p.local at_place.0 at_place.1))) out.1;
+        })
+    statement_quiet (Dead x) set ls σ ρ span (ty, is_ty) can fitting agrees m goals =
+        quiet_weaker (λ ls'. Fits b no_tys (without x set) ls' × Agrees ls' σ) (After (Dead x) set ρ) (run_local b no_tys ls span (Dead x))
+        (quiet_both (Fits b no_tys (without x set)) (λ ls'. Agrees ls' σ) (run_local b no_tys ls span (Dead x))
+        (run_goes b no_tys set ls span (Dead x) fitting (ty, is_ty) can)
+        (dead-shows b no_tys ls σ span x agrees))
+        (λ ls' h. record { fitting = h.0; store = σ; agrees = h.1; env = ρ; matches = dead_matches set σ ρ x m; moves = none; elsewhere = λ n out. refl })
