@@ -1,11 +1,9 @@
--- Where all obligations of a body of branches are true, its function is good.
+-- Where all obligations of a body without calls are true, its function is good.
 use Rattle.std.proofs.Common.{◌≡◌, ◌∙◌, ◌⊎◌, inl, inr, refl, sym, ap, ap₂, subst, ℕ, zero, suc, ◌+◌, ◌-◌, ◌<◌, ◌≤◌, nat_lt, ◌&&◌, Bool, true, false, List, [], ◌∷◌, ◌++◌, length, map, take, drop, Some, slice_get, arith}
 use Rattle.std.proofs.lemmas.Bool.{ltb-true}
 use Rattle.std.proofs.lemmas.List.{length-take, length-drop}
 use Rattle.std.proofs.lemmas.Option.{slice_get_within}
 use Rattle.text_core.specs.declared.name.Name.{Name}
-use Rattle.text_core.specs.declared.span.Span.{Span}
-use Rattle.text_core.specs.declared.refusal.Kind.{Kind}
 use Rattle.text_core.specs.declared.refusal.Kind.TheVariants.{Ensures}
 use Rattle.logic_term.specs.declared.kinds.IntKind.{IntKind}
 use Rattle.logic_term.specs.declared.obligation.Contract.{Contract}
@@ -36,14 +34,16 @@ use Rattle.mir_machine.proofs.Shown.{entry_store, agrees_entry}
 use Rattle.wp_gen.specs.declared.goal.Goal.{Goal}
 use Rattle.wp_gen.specs.Command.{MovesAll}
 use Rattle.wp_gen.specs.Row.{name_of}
-use Rattle.wp_gen.specs.Walk.{Setting, each_goal, at_answer, entry_commands, parameters, numbered, AreObligations}
+use Rattle.wp_gen.specs.Walk.{Setting, at_answer, entry_commands, parameters, numbered, AreObligations}
 use Rattle.wp_gen.proofs.Commands.{GoalsHold, goals_moved, then_moves}
-use Rattle.prophecy_sim.specs.Branching.{IsScalar, IsBranching, IsOneOf, SpeaksOf, IsTrueGoal}
+use Rattle.prophecy_sim.specs.CallFree.{IsScalar, IsOneOf, SpeaksOf, IsTrueGoal, IsCallFree, HeadsSpeakOf}
+use Rattle.prophecy_sim.specs.CallFree.{IsCallFree, HeadsSpeakOf}
 use Rattle.prophecy_sim.proofs.Values.{T, named_as}
 use Rattle.prophecy_sim.proofs.Steps.{decide, at_no, IsOutside}
 use Rattle.prophecy_sim.proofs.Arguments.{value_of, IsPlain, plain_one, shaped_plain, plain_reads, values_of, AllPlain, all_read, argument_value, arguments_show, named_value, shaped_all, sorted_argument, typed_answer}
 use Rattle.prophecy_sim.proofs.Entries.{AreSorted, parameters_move, assumed_move, Stored, stored_move}
-use Rattle.prophecy_sim.proofs.Runs.{Answering, Coming, arrived, OutcomeFine, run_fine}
+use Rattle.prophecy_sim.proofs.Runs.{each_holds, Answering, Coming, arrived, OutcomeFine, run_fine}
+use Rattle.prophecy_sim.proofs.Memories.{Reached, onward, none_around}
 
 -- ---- lists
 
@@ -115,12 +115,6 @@ none_met_all Δ s (sc ∷ tys) (more_typed {t = t} {ty = ty} {tys = vs} {first =
     (none_met_all Δ s tys hs (others_are ty (instance no_tys sc) vs (instances no_tys (tys_of tys)) e) (λ i u q. scalars (suc i) u q))
 
 module _ (S : Structure) where
-  -- one formula for each goal
-  each_holds : (kind : Kind) (ts : List Term) (spans : List Span) (ρ : Env) → length ts ≤ length spans → GoalsHold S ρ (each_goal kind ts spans) → Each (λ t. Holds S t ρ) ts
-  each_holds kind [] spans ρ l h = tt
-  each_holds kind (t ∷ ts) [] ρ l h = absurd (omega arith)
-  each_holds kind (t ∷ ts) (s ∷ spans) ρ l h = (h.0, each_holds kind ts spans ρ (omega arith) h.1)
-
   length_map : {A B : Type 0} (f : A → B) (xs : List A) → length (map f xs) ≡ length xs
   length_map f [] = refl
   length_map f (x ∷ xs) = ap suc (length_map f xs)
@@ -135,7 +129,7 @@ module _ (S : Structure) where
       let all = h (numbered owner m (g ∷ gs)) refl in
       ((yes_alike _ _ (reduced_means S g.formula ρ)).0 (all.0 S.types ρ), goals_hold owner (m + 1) gs ρ (λ o e. subst (Each (IsTrueGoal S.declared)) (sym e) all.1))
 
-module _ (Δ : Declarations) (bodies : List Body) (sound : AreSound bodies) (fn : ℕ) (w : Setting) (is_body : slice_get bodies fn ≡ Some w.body) (branching : IsBranching w.body) (speaks : SpeaksOf w.body w.contract)
+module _ (Δ : Declarations) (bodies : List Body) (sound : AreSound bodies) (fn : ℕ) (w : Setting) (is_body : slice_get bodies fn ≡ Some w.body) (simple : IsCallFree w.body) (speaks : SpeaksOf w.body w.contract) (heads_speak : HeadsSpeakOf w.body w.contract w.init (sound fn w.body is_body).1)
     (m : ℕ) (os : List Obligation) (paths : ℕ) (are : AreObligations w m os paths) (all_true : Each (IsTrueGoal Δ) os) where
   abbrev b : Body
   b = w.body
@@ -156,7 +150,7 @@ module _ (Δ : Declarations) (bodies : List Body) (sound : AreSound bodies) (fn 
   param_list = take b.params (drop 1 b.locals)
 
   scalars : (i : ℕ) (ty : Ty) → slice_get param_list i ≡ Some ty → IsScalar ty
-  scalars i ty e = branching.scalars (suc i) ty (get_behind b.locals i ty (get_taken (drop 1 b.locals) b.params i ty e))
+  scalars i ty e = simple.scalars (suc i) ty (get_behind b.locals i ty (get_taken (drop 1 b.locals) b.params i ty e))
 
   -- ---- names
 
@@ -176,7 +170,7 @@ module _ (Δ : Declarations) (bodies : List Body) (sound : AreSound bodies) (fn 
   locals_apart i j l k q =
       let n = local_name (1 + i) (room i l) in
       let o = local_name (1 + j) (room j k) in
-      less (branching.names.apart (1 + i) (1 + j) n.0 o.0 n.1 o.1 (sym (name_at (1 + i) n.0 n.1) ∙ q ∙ name_at (1 + j) o.0 o.1))
+      less (simple.names.apart (1 + i) (1 + j) n.0 o.0 n.1 o.1 (sym (name_at (1 + i) n.0 n.1) ∙ q ∙ name_at (1 + j) o.0 o.1))
     where
       less : {i j : ℕ} → 1 + i ≡ 1 + j → i ≡ j
       less p = omega arith
@@ -250,7 +244,7 @@ module _ (Δ : Declarations) (bodies : List Body) (sound : AreSound bodies) (fn 
         params_length : length param_list ≡ b.params
         params_length = grind (arith, length-take, length-drop, typed.answers)
 
-    comes : Coming Δ bodies sound fn w is_body branching ρ₀ (outside held) at_entry b.entry at_entry.locals
+    comes : Coming Δ bodies sound fn w is_body simple heads_speak param_is_outside ρ₀ (outside held) at_entry b.entry at_entry.locals
     comes = record {
       fitting = fits_within b no_tys (initialised.at b.entry 0) (formed.parameters b) at_entry.locals initialised.entry (entered_fits bodies b fn no_tys args typed shaped);
       store = entry_store (argument_value args);
@@ -260,12 +254,16 @@ module _ (Δ : Declarations) (bodies : List Body) (sound : AreSound bodies) (fn 
       keeps = λ n out. set.kept n (λ j l q. let x = local_name (1 + j) (room j l) in out.0 (1 + j) x.0 x.1 (q ∙ name_at (1 + j) x.0 x.1)) ∙ given.2 n;
     }
 
+    way : Reached Δ w initialised ρ₀ comes.store [] b.entry
+    unfolding comes
+    way = onward simple.laid_out.entry [] simple.laid_out.is_entry simple.laid_out.at_entry none_around (λ h a. a) (λ h a. absurd (cc)) (λ a. absurd (cc))
+
     abbrev Fine : Outcome (Unit {0}) → Type 0
-    Fine = OutcomeFine Δ bodies sound fn w is_body branching ρ₀ (outside held)
+    Fine = OutcomeFine Δ bodies sound fn w is_body simple heads_speak param_is_outside ρ₀ (outside held)
 
     starts : Fine (Running start)
     unfolding comes
-    starts = (arrived Δ bodies sound fn w is_body branching ρ₀ (outside held) are.are_goals.arrives at_entry at_entry.locals refl refl comes goals_there, refl)
+    starts = (arrived Δ bodies sound fn w is_body simple heads_speak param_is_outside ρ₀ (outside held) are.are_goals.arrives at_entry at_entry.locals refl refl comes way goals_there, refl)
 
     -- ---- the return
 
@@ -285,7 +283,7 @@ module _ (Δ : Declarations) (bodies : List Body) (sound : AreSound bodies) (fn 
             ap (λ y. with_value env c.answer (env (name_of b 0)) y) is ∙ with_same env c.answer (env (name_of b 0)) ∙ e ∙ sym (with_same σ c.answer v) ∙ sym (ap (λ y. with_value σ c.answer v y) is)
         at_name x f (inr d) = with_other env c.answer x (env (name_of b 0)) d ∙ same x d (over.0 x f d) ∙ sym (with_other σ c.answer x v d)
 
-    ensures_met : (s' : State (Unit {0})) (t : T) (fill : Supply) → IsPlain t → Answering Δ bodies sound fn w is_body branching ρ₀ (outside held) t → MeetsEnsures Δ no_tys c start args [] s' t [] fill
+    ensures_met : (s' : State (Unit {0})) (t : T) (fill : Supply) → IsPlain t → Answering Δ bodies sound fn w is_body simple heads_speak param_is_outside ρ₀ (outside held) t → MeetsEnsures Δ no_tys c start args [] s' t [] fill
     ensures_met s' t fill is_plain a =
         let name = local_name 0 (omega (arith, typed.answers)) in
         let is_value : a.env (name_of b 0) ≡ value_of t = ap a.env (named_as b 0 name.0 name.1) ∙ a.matches name.0 name.1 ∙ plain_one t (a.store 0) is_plain a.shows in
@@ -307,13 +305,13 @@ module _ (Δ : Declarations) (bodies : List Body) (sound : AreSound bodies) (fn 
     fine_of (Returned s' t) h alive shape =
         let ty : Ty = answer.0 in
         let is : answer_ty b no_tys ≡ instance no_tys ty = ap (instance no_tys) (first_ty b.locals ty answer.1) in
-        let scalar : IsScalar ty = branching.scalars 0 ty answer.1 in
+        let scalar : IsScalar ty = simple.scalars 0 ty answer.1 in
         let shaped_as : Shape (instance no_tys ty) t = subst (λ u. Shape u t) is (shape s' t refl) in
         ([], subst (λ u. Typed Δ s' t u []) (sym is) (typed_answer Δ s' ty t scalar shaped_as), λ fill sup. ensures_met s' t fill (shaped_plain ty t scalar shaped_as) h.1)
 
     call_fine : (n : ℕ) → IsFine Δ no_tys c (answer_ty b no_tys) start args [] (after bodies n start)
     call_fine n =
-        fine_of (after bodies n start) (run_fine Δ bodies sound fn w is_body branching ρ₀ (outside held) n (Running start) starts)
+        fine_of (after bodies n start) (run_fine Δ bodies sound fn w is_body simple heads_speak param_is_outside ρ₀ (outside held) n (Running start) starts)
         (never_stuck Δ bodies sound fn no_tys args held b [] proper n)
         (λ s' t e. answer_shape Δ bodies sound fn no_tys args held b [] proper n s' t e)
 

@@ -1,7 +1,9 @@
-pub mod Values
-pub mod Steps
-pub mod Runs
 pub mod Arguments
-pub mod Entries
 pub mod Assigns
+pub mod Entries
 pub mod GoodBody
+pub mod Heads
+pub mod Memories
+pub mod Runs
+pub mod Steps
+pub mod Values

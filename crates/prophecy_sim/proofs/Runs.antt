@@ -1,13 +1,24 @@
--- Runs of a body of branches: where the goals of its walk hold, no run panics, and at a return the goals there hold.
-use Rattle.std.proofs.Common.{◌≡◌, ◌∙◌, refl, sym, ap, subst, ℕ, zero, suc, ◌+◌, ◌≤◌, Bool, true, false, cond, List, [], ◌∷◌, ◌++◌, length, drop, Option, Some, None, slice_get, arith}
+-- Runs of a body without calls: where the goals of its walk hold, no run panics, and at a return the goals there hold.
+use Rattle.std.proofs.Common.{◌≡◌, ◌∙◌, ◌⊎◌, inl, inr, refl, sym, ap, subst, ℕ, zero, suc, ◌+◌, ◌≤◌, ◌&&◌, pos, Bool, true, false, cond, List, [], ◌∷◌, ◌++◌, length, drop, Option, Some, None, slice_get, true≢false, arith}
+use Rattle.std.specs.Prelude.{not as flip}
 use Rattle.std.proofs.lemmas.Option.{slice_get_within}
 use Rattle.text_core.specs.declared.name.Name.{Name}
+use Rattle.text_core.specs.declared.refusal.Kind.{Kind}
+use Rattle.text_core.specs.declared.refusal.Kind.TheVariants.{InvEntry, InvKept}
+use Rattle.text_core.specs.declared.span.Span.{Span}
 use Rattle.logic_term.specs.declared.kinds.Label.{Label}
+use Rattle.logic_term.specs.declared.kinds.IntKind.{IntKind}
+use Rattle.logic_term.specs.declared.kinds.IntKind.TheVariants.{I8, I16, I32, I64, Isize, U8, U16, U32, U64, Usize}
+use Rattle.logic_term.specs.Range.{fits}
+use Rattle.logic_term.specs.Free.{free}
+use Rattle.logic_term.specs.Term.{Term}
+use Rattle.logic_term.proofs.Alike.{yes_alike}
+use Rattle.logic_term.proofs.FreeLaw.{coincide_free}
 use Rattle.logic_term.specs.Meaning.{Structure, Env, Means, Holds}
-use Rattle.logic_term.specs.Sort.{Declarations}
+use Rattle.logic_term.specs.Sort.{Declarations, HasSort, instance, of_int, of_bool}
 use Rattle.logic_term.specs.Term as terms
-use Rattle.logic_term.specs.Ty.{bool, no_tys}
-use Rattle.logic_term.specs.Value.{Value, Flag}
+use Rattle.logic_term.specs.Ty.{Ty, int, bool, no_tys}
+use Rattle.logic_term.specs.Value.{Value, Number, Flag, nothing}
 use Rattle.logic_term.proofs.Truth.{Exactly, yes_flag, holds_not}
 use Rattle.mir_ir.specs.declared.place.Operand.{Operand}
 use Rattle.mir_ir.specs.declared.statement.Statement.{Statement}
@@ -30,10 +41,17 @@ use Rattle.mir_machine.proofs.Wholes.{try_step-whole}
 use Rattle.wp_gen.specs.declared.goal.Goal.{Goal}
 use Rattle.wp_gen.specs.Command.{by_assume, none, more}
 use Rattle.wp_gen.specs.Row.{operand_term, goals_of, commands_of}
-use Rattle.wp_gen.specs.Walk.{Setting, seen_before, goals_at_return, where_true, where_false, Walks, statement, goto, branch, call, return, Arrives, plain, first, again}
-use Rattle.wp_gen.proofs.Commands.{GoalsHold, goals_moved, goals_first, goals_rest}
-use Rattle.prophecy_sim.specs.Branching.{IsBranching, IsLocal}
-use Rattle.prophecy_sim.proofs.Values.{T, Matches, operand_means}
+use Rattle.mir_ir.specs.Layout.{among, targets, around, around_of, place_of}
+use Rattle.mir_machine.specs.Good.{Each}
+use Rattle.wp_gen.specs.Walkable.{AllAmong}
+use Rattle.wp_gen.specs.Walk.{Setting, writes, loop_writes, is_gone, is_renewed, head_commands, each_goal, seen_before, goals_at_return, where_true, where_false, Walks, statement, goto, branch, call, return, Arrives, plain, first, again}
+use Rattle.wp_gen.proofs.Commands.{GoalsHold, goals_moved, goals_first, goals_rest, then_moves}
+use Rattle.prophecy_sim.specs.CallFree.{IsScalar, IsLocal, IsOneOf, IsCallFree, IsNameIn, HeadsSpeakOf}
+use Rattle.prophecy_sim.specs.CallFree.{IsCallFree, IsNameIn, HeadsSpeakOf}
+use Rattle.prophecy_sim.proofs.Values.{T, ValueHas, Matches, operand_means, local_has}
+use Rattle.prophecy_sim.proofs.Entries.{assumed_move}
+use Rattle.prophecy_sim.proofs.Heads.{Renewed, renewed_move, loop_writes_statement}
+use Rattle.prophecy_sim.proofs.Memories.{among_first, among_second, among_more, among_head, among_either, KeepsParams, AreBehind, Passed, Memories, one_more, memories_kept, Reached, onward, backward, reached}
 use Rattle.prophecy_sim.proofs.Steps.{quiet_both, taken_before, at_no, IsOutside, After, statement_quiet}
 
 drop_get : {A : Type 0} (xs : List A) (i : ℕ) (x : A) → slice_get xs i ≡ Some x → drop i xs ≡ x ∷ drop (i + 1) xs
@@ -59,6 +77,12 @@ same_rest e = cc
 some_same : {A : Type 0} {a b : A} → Some a ≡ Some b → a ≡ b
 some_same e = cc
 
+-- one formula for each goal
+pub each_holds : (S : Structure) (kind : Kind) (ts : List Term) (spans : List Span) (ρ : Env) → length ts ≤ length spans → GoalsHold S ρ (each_goal kind ts spans) → Each (λ t. Holds S t ρ) ts
+each_holds S kind [] spans ρ l h = tt
+each_holds S kind (t ∷ ts) [] ρ l h = absurd (omega arith)
+each_holds S kind (t ∷ ts) (s ∷ spans) ρ l h = (h.0, each_holds S kind ts spans ρ (omega arith) h.1)
+
 -- the walk of a statement and of what comes after it
 walk_statement : {w : Setting} {heads : List Label} {xs : List Statement} {end : Terminator} {gs : List Goal} {n : ℕ} → Walks w heads xs end gs n → (st : Statement) (sts : List Statement) → xs ≡ st ∷ sts →
     (hs : List Goal) × (gs ≡ goals_of w.body st.span st.kind ++ seen_before (commands_of w.body st.kind) hs) × Walks w heads sts end hs n
@@ -72,7 +96,8 @@ walk_statement (branch o l m e a c) st sts q = absurd (cc)
 walk_statement (call p f args l d t e fd ft a) st sts q = absurd (cc)
 walk_statement (return e) st sts q = absurd (cc)
 
-module _ (Δ : Declarations) (bodies : List Body) (sound : AreSound bodies) (fn : ℕ) (w : Setting) (is_body : slice_get bodies fn ≡ Some w.body) (branching : IsBranching w.body) (ρ₀ : Env) (out : Frame (Unit {0})) where
+module _ (Δ : Declarations) (bodies : List Body) (sound : AreSound bodies) (fn : ℕ) (w : Setting) (is_body : slice_get bodies fn ≡ Some w.body) (simple : IsCallFree w.body) (heads_speak : HeadsSpeakOf w.body w.contract w.init (sound fn w.body is_body).1)
+    (params_outside : (x : Name) → IsOneOf x w.contract.params → IsOutside Δ w.body x) (ρ₀ : Env) (out : Frame (Unit {0})) where
   abbrev b : Body
   b = w.body
 
@@ -87,7 +112,16 @@ module _ (Δ : Declarations) (bodies : List Body) (sound : AreSound bodies) (fn 
 
   -- the names outside of the body have the values that they had at the entry
   abbrev pub KeepsOutside : Env → Type 0
-  KeepsOutside ρ = (n : Name) → IsOutside Δ b n → ρ n ≡ ρ₀ n
+  KeepsOutside = KeepsParams Δ w initialised ρ₀
+
+  abbrev Remembers : Store → List Label → Type 0
+  Remembers = Memories Δ w initialised ρ₀
+
+  abbrev Head_of : Label → List Label → Store → Type 0
+  Head_of = Passed Δ w initialised ρ₀
+
+  abbrev Comes_to : Store → List Label → Label → Type 0
+  Comes_to = Reached Δ w initialised ρ₀
 
   pub record Standing (f : Frame (Unit {0})) : Type 0 where
     pub function : f.function ≡ fn
@@ -106,6 +140,10 @@ module _ (Δ : Declarations) (bodies : List Body) (sound : AreSound bodies) (fn 
     pub paths : ℕ
     pub walks : Walks w heads (drop f.statement block.statements) block.end goals paths
     pub hold : GoalsHold S env goals
+    -- what is remembered of the loops around
+    pub nested : Remembers store block.nest
+    pub enclosing : AllAmong block.nest heads
+    pub behind : AreBehind Δ w initialised ρ₀ heads f.label
 
   -- the answer is local 0, and the goals at the return hold
   pub record Answering (t : T) : Type 0 where
@@ -132,30 +170,206 @@ module _ (Δ : Declarations) (bodies : List Body) (sound : AreSound bodies) (fn 
     pub matches : Matches b (initialised.at l 0) store env
     pub keeps : KeepsOutside env
 
-  no_head : (h : Head) (k : Block) (l : Label) → block_in b.blocks l ≡ Some k → k.head ≡ Some h → ⊥
-  no_head h k l is_block e = let none_there : k.head ≡ None = branching.no_heads l k is_block in let clash : Some h ≡ None = sym e ∙ none_there in cc
+  some_same_block : (k to : Block) (l : Label) → block_in b.blocks l ≡ Some k → block_in b.blocks l ≡ Some to → to ≡ k
+  some_same_block k to l e f = some_same (sym f ∙ e)
 
-  pub arrived : {heads : List Label} {l : Label} {gs : List Goal} {n : ℕ} → Arrives w heads l gs n → (f : Frame (Unit {0})) (ls : List T) → f.function ≡ fn → f.types ≡ no_tys → (c : Coming f l ls) → GoalsHold S c.env gs → Standing (starting f ls l)
-  arrived {heads} {l} {gs} {n} (plain k is_block none_there walks) f ls function types c hold = record {
-    function = function;
-    types = types;
-    block = k;
-    is_block = is_block;
-    within = omega arith;
-    fitting = c.fitting;
-    store = c.store;
-    agrees = c.agrees;
-    env = c.env;
-    matches = c.matches;
-    keeps = c.keeps;
-    heads = heads;
-    goals = gs;
-    paths = n;
-    walks = walks;
-    hold = hold;
-  }
-  arrived (first k h is_block e fresh walks) f ls function types c hold = absurd (no_head h k _ is_block e)
-  arrived (again k h is_block e passed) f ls function types c hold = absurd (no_head h k _ is_block e)
+  -- ---- at the head of a loop
+
+  default_of : Ty → Value
+  default_of (int k) = Number (pos 0)
+  default_of bool = Flag false
+  default_of _ = nothing
+
+  ty_or : Option Ty → Ty
+  ty_or (Some ty) = ty
+  ty_or None = bool
+
+  zero_fits : (k : IntKind) → fits k (pos 0) ≡ true
+  zero_fits I8 = refl
+  zero_fits I16 = refl
+  zero_fits I32 = refl
+  zero_fits I64 = refl
+  zero_fits Isize = refl
+  zero_fits U8 = refl
+  zero_fits U16 = refl
+  zero_fits U32 = refl
+  zero_fits U64 = refl
+  zero_fits Usize = refl
+
+  default_sort : (ty : Ty) → IsScalar ty → HasSort Δ (default_of ty) (instance no_tys ty)
+  unfolding default_of
+  default_sort (int k) scalar = of_int (zero_fits k)
+  default_sort bool scalar = of_bool
+  default_sort _ scalar = absurd scalar
+
+  value_sort : (ty : Ty) (v : Value) → IsScalar ty → ValueHas ty v → HasSort Δ v (instance no_tys ty)
+  value_sort (int k) v scalar (z, is, f) = subst (λ u. HasSort Δ u (int k)) (sym is) (of_int f)
+  value_sort bool v scalar (c, is) = subst (λ u. HasSort Δ u bool) (sym is) of_bool
+  value_sort _ v scalar h = absurd scalar
+
+  not_both : (p q : Bool) → q ≡ false → (p && flip q) ≡ false → p ≡ false
+  not_both true true e f = e
+  not_both true false e f = f
+  not_both false q e f = refl
+
+  module _ (f : Frame (Unit {0})) (l : Label) (ls : List T) (c : Coming f l ls) (outer : List Label) (p : Head_of l outer c.store) where
+    set : Locals
+    set = initialised.at l 0
+
+    -- the local has the value that the run has, or any
+    new_value : ℕ → Value
+    new_value x = cond (initialised.at l 0 x) (c.store x) (default_of (ty_or (slice_get b.locals x)))
+
+    test : ℕ → Bool
+    test = is_renewed b w.init l
+
+    there_value : (x : ℕ) → initialised.at l 0 x ≡ true → new_value x ≡ c.store x
+    unfolding new_value
+    there_value x e = ap (λ t. cond t (c.store x) (default_of (ty_or (slice_get b.locals x)))) e
+
+    gone_value : (x : ℕ) → initialised.at l 0 x ≡ false → new_value x ≡ default_of (ty_or (slice_get b.locals x))
+    unfolding new_value
+    gone_value x e = ap (λ t. cond t (c.store x) (default_of (ty_or (slice_get b.locals x)))) e
+
+    ty_is : (x : ℕ) (ty : Ty) → slice_get b.locals x ≡ Some ty → ty_or (slice_get b.locals x) ≡ ty
+    unfolding ty_or
+    ty_is x ty e = ap ty_or e
+
+    new_sort : (x : ℕ) (ty : Ty) → slice_get b.locals x ≡ Some ty → HasSort Δ (new_value x) (instance no_tys ty)
+    new_sort x ty is_ty = by_test (initialised.at l 0 x) refl
+      where
+        by_test : (t : Bool) → initialised.at l 0 x ≡ t → HasSort Δ (new_value x) (instance no_tys ty)
+        by_test true e = subst (λ v. HasSort Δ v (instance no_tys ty)) (sym (there_value x e)) (value_sort ty (c.store x) (simple.scalars x ty is_ty) (local_has b (initialised.at l 0) ls c.store x ty c.fitting c.agrees is_ty e))
+        by_test false e = subst (λ v. HasSort Δ v (instance no_tys ty)) (sym (gone_value x e ∙ ap default_of (ty_is x ty is_ty))) (default_sort ty (simple.scalars x ty is_ty))
+
+    abbrev again_env : Renewed S b simple.names typed.named (is_renewed b w.init l) new_value p.env
+    again_env = renewed_move S b simple.names typed.named (is_renewed b w.init l) new_value p.env (λ x ty t is_ty. new_sort x ty is_ty)
+
+    head_matches : Matches b (initialised.at l 0) c.store again_env.env
+    head_matches y n inside e = by_test (is_renewed b w.init l y) refl
+      where
+        by_test : (t : Bool) → is_renewed b w.init l y ≡ t → again_env.env n ≡ c.store y
+        by_test true q = again_env.there y n q e ∙ there_value y inside
+        by_test false q =
+            let unwritten : loop_writes b l y ≡ false = not_both (loop_writes b l y) (is_gone w.init l y) (heads_speak.there l y inside) q in
+            again_env.others n (λ x m renewed is_m same. true≢false (sym renewed ∙ ap (is_renewed b w.init l) (simple.names.apart x y m n is_m e (sym same)) ∙ q))
+            ∙ p.matches y n inside e ∙ sym (p.unchanged y unwritten inside)
+
+    head_keeps : KeepsOutside again_env.env
+    head_keeps n out = again_env.others n (λ x m renewed is_m same. out.0 x m is_m same) ∙ p.keeps n out
+
+    invariants_there : (ts : List Term) → Each (λ (t : Term). (x : Name) → free x t ≡ true → IsOneOf x w.contract.params ⊎ IsNameIn b (initialised.at l 0) x) ts → Each (λ t. Holds S t c.env) ts → Each (λ t. Holds S t again_env.env) ts
+    invariants_there [] over h = tt
+    invariants_there (t ∷ ts) over h = ((yes_alike _ _ (coincide_free S t c.env again_env.env (λ x f. at_name x (over.0 x f)))).0 h.0, invariants_there ts over.1 h.1)
+      where
+        at_name : (x : Name) → IsOneOf x w.contract.params ⊎ IsNameIn b (initialised.at l 0) x → c.env x ≡ again_env.env x
+        at_name x (inl one) = c.keeps x (params_outside x one) ∙ sym (head_keeps x (params_outside x one))
+        at_name x (inr (y, inside, e)) = c.matches y x inside e ∙ sym (head_matches y x inside e)
+
+    pub at_head : f.function ≡ fn → f.types ≡ no_tys → Remembers c.store outer → Each (λ t. Holds S t c.env) p.head.invariants → Standing (starting f ls l)
+    at_head function types ms invariants = record {
+      function = function;
+      types = types;
+      block = p.block;
+      is_block = p.is_block;
+      within = omega arith;
+      fitting = c.fitting;
+      store = c.store;
+      agrees = c.agrees;
+      env = again_env.env;
+      matches = head_matches;
+      keeps = head_keeps;
+      heads = p.heads;
+      goals = p.goals;
+      paths = p.paths;
+      walks = p.walks;
+      hold = goals_moved S p.goals (then_moves S again_env.moves (assumed_move S p.head.invariants again_env.env (invariants_there p.head.invariants (heads_speak.over l p.block p.head p.is_block p.is_head) invariants))) p.hold;
+      nested = subst (Remembers c.store) (sym p.nest) (one_more ms p);
+      enclosing = p.within;
+      behind = p.behind;
+    }
+
+  plain_nest : (k : Block) (l : Label) (outer : List Label) → around l k outer → k.head ≡ None → k.nest ≡ outer
+  plain_nest k l outer a e = subst (λ o. around_of o k.nest l outer) e a
+
+  head_nest : (k : Block) (l : Label) (outer : List Label) (h : Head) → around l k outer → k.head ≡ Some h → k.nest ≡ outer ++ l ∷ []
+  head_nest k l outer h a e = subst (λ o. around_of o k.nest l outer) e a
+
+  none_some : (k : Block) (h : Head) → k.head ≡ None → k.head ≡ Some h → ⊥
+  none_some k h e f = let clash : None ≡ Some h = sym e ∙ f in cc
+
+  false_true : (t : Bool) → t ≡ false → t ≡ true → ⊥
+  false_true t e f = true≢false (sym f ∙ e)
+
+  still : (l : Label) (heads outer : List Label) → AllAmong outer heads → AllAmong (outer ++ l ∷ []) (l ∷ heads)
+  still l heads outer h m e = elim (among_either m l outer e) [
+    | inl a ↦ among_more m l heads (h m a)
+    | inr q ↦ subst (λ k. among k (l ∷ heads) ≡ true) q (among_first l heads)
+  ]
+
+  still_behind : (l : Label) (heads : List Label) → AreBehind Δ w initialised ρ₀ heads l → AreBehind Δ w initialised ρ₀ (l ∷ heads) l
+  still_behind l heads h m e = elim (among_head m l heads e) [
+    | inl q ↦ subst (λ k. place_of b.blocks k ≤ place_of b.blocks l) q (omega arith)
+    | inr a ↦ h m a
+  ]
+
+  pub arrived : {heads : List Label} {l : Label} {gs : List Goal} {n : ℕ} → Arrives w heads l gs n → (f : Frame (Unit {0})) (ls : List T) → f.function ≡ fn → f.types ≡ no_tys → (c : Coming f l ls) → Comes_to c.store heads l → GoalsHold S c.env gs → Standing (starting f ls l)
+  arrived {heads} {l} {gs} {n} (plain k is_block none_there walks) f ls function types c (onward to outer is_to is_around ms sub behind fresh) hold =
+      let same : to ≡ k = some_same_block k to l is_block is_to in
+      let nest : k.nest ≡ outer = plain_nest k l outer (subst (λ x. around l x outer) same is_around) none_there in
+      record {
+        function = function;
+        types = types;
+        block = k;
+        is_block = is_block;
+        within = omega arith;
+        fitting = c.fitting;
+        store = c.store;
+        agrees = c.agrees;
+        env = c.env;
+        matches = c.matches;
+        keeps = c.keeps;
+        heads = heads;
+        goals = gs;
+        paths = n;
+        walks = walks;
+        hold = hold;
+        nested = subst (Remembers c.store) (sym nest) ms;
+        enclosing = subst (λ xs. AllAmong xs heads) (sym nest) sub;
+        behind = behind;
+      }
+  arrived {l = l} (plain k is_block none_there walks) f ls function types c (backward to h outer is_to is_head a ms p) hold =
+      absurd (none_some k h none_there (subst (λ (x : Block). x.head ≡ Some h) (some_same_block k to l is_block is_to) is_head))
+  arrived {heads} {l} (first {gs = gs} {n = n} k h is_block e fresh_l walks) f ls function types c (onward to outer is_to is_around ms sub behind fresh) hold =
+      let same : to ≡ k = some_same_block k to l is_block is_to in
+      let nest : k.nest ≡ outer ++ l ∷ [] = head_nest k l outer h (subst (λ x. around l x outer) same is_around) e in
+      let invariants : List Goal = each_goal InvEntry h.invariants h.spans in
+      let p : Head_of l outer c.store = record {
+        block = k;
+        is_block = is_block;
+        head = h;
+        is_head = e;
+        nest = nest;
+        env = c.env;
+        store = c.store;
+        matches = c.matches;
+        keeps = c.keeps;
+        heads = l ∷ heads;
+        within = subst (λ xs. AllAmong xs (l ∷ heads)) (sym nest) (still l heads outer sub);
+        behind = still_behind l heads behind;
+        goals = gs;
+        paths = n;
+        walks = walks;
+        hold = goals_rest S c.env invariants (seen_before (head_commands b w.init l h) gs) hold;
+        unchanged = λ x q i. refl;
+      } in
+      at_head f l ls c outer p function types ms (each_holds S InvEntry h.invariants h.spans c.env (heads_speak.spans l k h is_block e) (goals_first S c.env invariants (seen_before (head_commands b w.init l h) gs) hold))
+  arrived {heads} {l} (first k h is_block e fresh_l walks) f ls function types c (backward to h' outer is_to is_head a ms p) hold = absurd (false_true (among l heads) fresh_l a)
+  arrived (again k h is_block e passed) f ls function types c (onward to outer is_to is_around ms sub behind fresh) hold = absurd (fresh passed)
+  arrived {l = l} (again k h is_block e passed) f ls function types c (backward to h' outer is_to is_head a ms p) hold =
+      let same : p.block ≡ k = some_same_block k p.block l is_block p.is_block in
+      let head : h ≡ p.head = some_same (sym e ∙ subst (λ (x : Block). x.head ≡ Some p.head) same p.is_head) in
+      at_head f l ls c outer p function types ms (subst (λ (x : Head). Each (λ t. Holds S t c.env) x.invariants) head (each_holds S InvKept h.invariants h.spans c.env (heads_speak.spans l k h is_block e) hold))
 
   -- ---- ends of blocks
 
@@ -176,30 +390,30 @@ module _ (Δ : Declarations) (bodies : List Body) (sound : AreSound bodies) (fn 
       keeps = st.keeps;
     }
 
-    goto_comes : {heads : List Label} {gs : List Goal} {n : ℕ} (l : Label) → Arrives w heads l gs n → GoalsHold S st.env gs → Fits b no_tys end_set f.locals → Matches b end_set st.store st.env → Within (initialised.at l 0) end_set →
+    goto_comes : {heads : List Label} {gs : List Goal} {n : ℕ} (l : Label) → Arrives w heads l gs n → GoalsHold S st.env gs → Fits b no_tys end_set f.locals → Matches b end_set st.store st.env → Within (initialised.at l 0) end_set → Comes_to st.store heads l →
         Quiet EndsFine (frame_end bodies f (Goto l))
-    goto_comes l arrives hold fitting m i = arrived arrives f f.locals st.function st.types (to_block l i fitting m) hold
+    goto_comes l arrives hold fitting m i way = arrived arrives f f.locals st.function st.types (to_block l i fitting m) way hold
 
     true_comes : {heads : List Label} {gs : List Goal} {n : ℕ} (o : Operand) (l : Label) (ls : List T) → Exactly (Means S (operand_term b o) st.env) (Flag true) → Arrives w heads l gs n → GoalsHold S st.env (seen_before (where_true b o) gs) →
-        Fits b no_tys (initialised.at l 0) ls → Agrees ls st.store → Matches b (initialised.at l 0) st.store st.env → Standing (starting f ls l)
-    true_comes {gs = gs} o l ls exactly arrives hold fitting agrees m =
+        Fits b no_tys (initialised.at l 0) ls → Agrees ls st.store → Matches b (initialised.at l 0) st.store st.env → Comes_to st.store heads l → Standing (starting f ls l)
+    true_comes {gs = gs} o l ls exactly arrives hold fitting agrees m way =
         let known : Holds S (operand_term b o) st.env = (yes_flag (Means S (operand_term b o) st.env) true exactly).1 refl in
-        arrived arrives f ls st.function st.types (record { fitting = fitting; store = st.store; agrees = agrees; env = st.env; matches = m; keeps = st.keeps }) (goals_moved S gs (more (by_assume known) none) hold)
+        arrived arrives f ls st.function st.types (record { fitting = fitting; store = st.store; agrees = agrees; env = st.env; matches = m; keeps = st.keeps }) way (goals_moved S gs (more (by_assume known) none) hold)
 
     false_comes : {heads : List Label} {gs : List Goal} {n : ℕ} (o : Operand) (l : Label) (ls : List T) → Exactly (Means S (operand_term b o) st.env) (Flag false) → Arrives w heads l gs n → GoalsHold S st.env (seen_before (where_false b o) gs) →
-        Fits b no_tys (initialised.at l 0) ls → Agrees ls st.store → Matches b (initialised.at l 0) st.store st.env → Standing (starting f ls l)
-    false_comes {gs = gs} o l ls exactly arrives hold fitting agrees m =
+        Fits b no_tys (initialised.at l 0) ls → Agrees ls st.store → Matches b (initialised.at l 0) st.store st.env → Comes_to st.store heads l → Standing (starting f ls l)
+    false_comes {gs = gs} o l ls exactly arrives hold fitting agrees m way =
         let denied : Holds S (operand_term b o) st.env → ⊥ = λ h. not_true ((yes_flag (Means S (operand_term b o) st.env) false exactly).0 h) in
         let known : Holds S (terms.not (operand_term b o)) st.env = (holds_not S (operand_term b o) st.env).1 denied in
-        arrived arrives f ls st.function st.types (record { fitting = fitting; store = st.store; agrees = agrees; env = st.env; matches = m; keeps = st.keeps }) (goals_moved S gs (more (by_assume known) none) hold)
+        arrived arrives f ls st.function st.types (record { fitting = fitting; store = st.store; agrees = agrees; env = st.env; matches = m; keeps = st.keeps }) way (goals_moved S gs (more (by_assume known) none) hold)
       where
         not_true : false ≡ true → ⊥
         not_true e = cc
 
     branch_comes : {heads : List Label} {gs hs : List Goal} {n m : ℕ} (o : Operand) (l r : Label) → Arrives w heads l gs n → Arrives w heads r hs m → GoalsHold S st.env (seen_before (where_true b o) gs ++ seen_before (where_false b o) hs) →
         Fits b no_tys end_set f.locals → Matches b end_set st.store st.env → OperandHas b o bool → CanTake end_set o → Within (initialised.at l 0) (taken o end_set) → Within (initialised.at r 0) (taken o end_set) →
-        Quiet EndsFine (frame_end bodies f (If o l r))
-    branch_comes {gs = gs} {hs = hs} o l r to_l to_r hold fitting m has can within_l within_r =
+        Comes_to st.store heads l → Comes_to st.store heads r → Quiet EndsFine (frame_end bodies f (If o l r))
+    branch_comes {gs = gs} {hs = hs} o l r to_l to_r hold fitting m has can within_l within_r way_l way_r =
         quiet_then (λ (x : Left (Unit {0})). Keeps b no_tys (taken o end_set) bool x × Leaves st.store (operand_value st.store o) x) EndsFine (take_operand f.locals o) (λ x. truth_of x.1 >>= λ c. Yields (Stays (starting f x.0 (cond c l r))))
         (quiet_both (Keeps b no_tys (taken o end_set) bool) (Leaves st.store (operand_value st.store o)) (take_operand f.locals o) (take_goes b no_tys end_set f.locals o bool fitting has can) (operand-shows f.locals st.store o st.agrees))
         (λ x kept. by_truth x.0 x.1 kept.0.0 kept.1.0 kept.0.1.1.0 kept.0.1.1.1 kept.1.1)
@@ -208,7 +422,7 @@ module _ (Δ : Declarations) (bodies : List Body) (sound : AreSound bodies) (fn 
         value = operand_value st.store o
 
         exactly : Exactly (Means S (operand_term b o) st.env) value
-        exactly = operand_means Δ bodies b typed branching.names end_set st.store st.env o bool has can m
+        exactly = operand_means Δ bodies b typed simple.names end_set st.store st.env o bool has can m
 
         taken_matches : Matches b (taken o end_set) st.store st.env
         taken_matches x n inside e = m x n (taken_before o end_set x inside) e
@@ -221,9 +435,9 @@ module _ (Δ : Declarations) (bodies : List Body) (sound : AreSound bodies) (fn 
 
         of_truth : (ls : List T) (c : Bool) → Fits b no_tys (taken o end_set) ls → Agrees ls st.store → value ≡ Flag c → Standing (starting f ls (cond c l r))
         of_truth ls true fitted agrees is =
-            true_comes o l ls (subst (λ v. Exactly (Means S (operand_term b o) st.env) v) is exactly) to_l first_goals (fits_within b no_tys (initialised.at l 0) (taken o end_set) ls within_l fitted) agrees (matches_within (initialised.at l 0) (taken o end_set) st.store st.env within_l taken_matches)
+            true_comes o l ls (subst (λ v. Exactly (Means S (operand_term b o) st.env) v) is exactly) to_l first_goals (fits_within b no_tys (initialised.at l 0) (taken o end_set) ls within_l fitted) agrees (matches_within (initialised.at l 0) (taken o end_set) st.store st.env within_l taken_matches) way_l
         of_truth ls false fitted agrees is =
-            false_comes o r ls (subst (λ v. Exactly (Means S (operand_term b o) st.env) v) is exactly) to_r rest_goals (fits_within b no_tys (initialised.at r 0) (taken o end_set) ls within_r fitted) agrees (matches_within (initialised.at r 0) (taken o end_set) st.store st.env within_r taken_matches)
+            false_comes o r ls (subst (λ v. Exactly (Means S (operand_term b o) st.env) v) is exactly) to_r rest_goals (fits_within b no_tys (initialised.at r 0) (taken o end_set) ls within_r fitted) agrees (matches_within (initialised.at r 0) (taken o end_set) st.store st.env within_r taken_matches) way_r
 
         by_truth : (ls : List T) (t : T) → Fits b no_tys (taken o end_set) ls → Agrees ls st.store → (c : Bool) → t ≡ Truth c → Shows t value → Quiet EndsFine (truth_of t >>= λ d. Yields (Stays (starting f ls (cond d l r))))
         by_truth ls t fitted agrees c is shows =
@@ -237,22 +451,24 @@ module _ (Δ : Declarations) (bodies : List Body) (sound : AreSound bodies) (fn 
 
     -- the end of a block, where its statements are done
     end_comes : {heads : List Label} {xs : List Statement} {end : Terminator} {gs : List Goal} {n : ℕ} → Walks w heads xs end gs n → xs ≡ [] → end ≡ st.block.end → GoalsHold S st.env gs →
-        Fits b no_tys end_set f.locals → Matches b end_set st.store st.env → Quiet EndsFine (frame_end bodies f end.kind)
-    end_comes (statement rest) e is hold fitting m = absurd (cc)
-    end_comes {end = end} (goto l q arrives) e is hold fitting m =
+        Fits b no_tys end_set f.locals → Matches b end_set st.store st.env → ((k : Label) → among k (targets st.block.end.kind) ≡ true → Comes_to st.store heads k) → Quiet EndsFine (frame_end bodies f end.kind)
+    end_comes (statement rest) e is hold fitting m way = absurd (cc)
+    end_comes {end = end} (goto l q arrives) e is hold fitting m way =
         let kind : st.block.end.kind ≡ Goto l = ap (λ (x : Terminator). x.kind) (sym is) ∙ q in
         let carries : Within (initialised.at l 0) end_set = subst (Carries (λ l'. initialised.at l' 0) end_set) kind (initialised.edges f.label st.block st.is_block) in
-        subst (λ k. Quiet EndsFine (frame_end bodies f k)) (sym q) (goto_comes l arrives hold fitting m carries)
-    end_comes {end = end} (branch o l r q to_l to_r) e is hold fitting m =
+        subst (λ k. Quiet EndsFine (frame_end bodies f k)) (sym q) (goto_comes l arrives hold fitting m carries (way l (subst (λ x. among l (targets x) ≡ true) (sym kind) (among_first l []))))
+    end_comes {end = end} (branch o l r q to_l to_r) e is hold fitting m way =
         let kind : st.block.end.kind ≡ If o l r = ap (λ (x : Terminator). x.kind) (sym is) ∙ q in
         let carries = subst (Carries (λ l'. initialised.at l' 0) end_set) kind (initialised.edges f.label st.block st.is_block) in
         let has = subst (EndIsTyped bodies b) kind (typed.ends f.label st.block st.is_block) in
         let can = subst (CanEnd end_set) kind (initialised.ends f.label st.block st.is_block) in
-        subst (λ k. Quiet EndsFine (frame_end bodies f k)) (sym q) (branch_comes o l r to_l to_r hold fitting m has.0 can carries.0 carries.1)
-    end_comes {end = end} (call p g args l d t q fd ft arrives) e is hold fitting m =
+        subst (λ k. Quiet EndsFine (frame_end bodies f k)) (sym q) (branch_comes o l r to_l to_r hold fitting m has.0 can carries.0 carries.1
+        (way l (subst (λ x. among l (targets x) ≡ true) (sym kind) (among_first l (r ∷ []))))
+        (way r (subst (λ x. among r (targets x) ≡ true) (sym kind) (among_second l r))))
+    end_comes {end = end} (call p g args l d t q fd ft arrives) e is hold fitting m way =
         let kind = ap (λ (x : Terminator). x.kind) (sym is) ∙ q in
-        absurd (subst IsLocal kind (branching.no_calls f.label st.block st.is_block))
-    end_comes {end = end} (return q) e is hold fitting m =
+        absurd (subst IsLocal kind (simple.no_calls f.label st.block st.is_block))
+    end_comes {end = end} (return q) e is hold fitting m way =
         let kind : st.block.end.kind ≡ Return = ap (λ (x : Terminator). x.kind) (sym is) ∙ q in
         let can : end_set 0 ≡ true = subst (CanEnd end_set) kind (initialised.ends f.label st.block st.is_block) in
         subst (λ k. Quiet EndsFine (frame_end bodies f k)) (sym q) (return_comes hold m can)
@@ -266,8 +482,8 @@ module _ (Δ : Declarations) (bodies : List Body) (sound : AreSound bodies) (fn 
         let rows = initialised.statements f.label st.block f.statement s st.is_block e in
         let set = initialised.at f.label f.statement in
         subst (λ θ. Quiet EndsFine (run_local b θ f.locals s.span s.kind >>= λ ls. Yields (Stays (record f { locals = ls; statement = f.statement + 1 })))) (sym st.types)
-        (quiet_then (After Δ b s.kind set st.env) EndsFine (run_local b no_tys f.locals s.span s.kind) (λ ls. Yields (Stays (record f { locals = ls; statement = f.statement + 1 })))
-        (statement_quiet Δ b bodies typed branching.names s.kind set f.locals st.store st.env s.span (typed.statements f.label st.block f.statement s st.is_block e) rows.0 st.fitting st.agrees st.matches
+        (quiet_then (After Δ b s.kind set st.store st.env) EndsFine (run_local b no_tys f.locals s.span s.kind) (λ ls. Yields (Stays (record f { locals = ls; statement = f.statement + 1 })))
+        (statement_quiet Δ b bodies typed simple.names s.kind set f.locals st.store st.env s.span (typed.statements f.label st.block f.statement s st.is_block e) rows.0 st.fitting st.agrees st.matches
         (goals_first S st.env (goals_of b s.span s.kind) (seen_before (commands_of b s.kind) split.0) hold))
         (λ ls a. record {
           function = st.function;
@@ -286,7 +502,17 @@ module _ (Δ : Declarations) (bodies : List Body) (sound : AreSound bodies) (fn 
           paths = st.paths;
           walks = split.2;
           hold = goals_moved S split.0 a.moves (goals_rest S st.env (goals_of b s.span s.kind) (seen_before (commands_of b s.kind) split.0) hold);
+          nested = memories_kept Δ w initialised ρ₀ st.nested (λ h x inside unwritten. a.others x (not_written h x s e inside unwritten));
+          enclosing = st.enclosing;
+          behind = st.behind;
         }))
+      where
+        by_test : (h : Label) (x : ℕ) (s : Statement) → slice_get st.block.statements f.statement ≡ Some s → among h st.block.nest ≡ true → loop_writes b h x ≡ false → (t : Bool) → writes x s.kind ≡ t → writes x s.kind ≡ false
+        by_test h x s e inside unwritten true q = absurd (true≢false (sym (loop_writes_statement b h f.label st.block f.statement s x st.is_block inside e q) ∙ unwritten))
+        by_test h x s e inside unwritten false q = q
+
+        not_written : (h : Label) (x : ℕ) (s : Statement) → slice_get st.block.statements f.statement ≡ Some s → among h st.block.nest ≡ true → loop_writes b h x ≡ false → writes x s.kind ≡ false
+        not_written h x s e inside unwritten = by_test h x s e inside unwritten (writes x s.kind) refl
 
     at_end : slice_get st.block.statements f.statement ≡ None → Quiet EndsFine (frame_row bodies b f st.block.end None)
     at_end e =
@@ -294,6 +520,7 @@ module _ (Δ : Declarations) (bodies : List Body) (sound : AreSound bodies) (fn 
         end_comes st.walks (drop_none st.block.statements f.statement e) refl st.hold
         (subst (λ i. Fits b no_tys (initialised.at f.label i) f.locals) here st.fitting)
         (subst (λ i. Matches b (initialised.at f.label i) st.store st.env) here st.matches)
+        (λ k a. reached Δ w initialised ρ₀ st.store st.heads f.label k st.block st.nested st.enclosing st.behind (simple.laid_out.edges f.label k st.block st.is_block a))
 
     row_comes : (o : Option Statement) → slice_get st.block.statements f.statement ≡ o → Quiet EndsFine (frame_row bodies b f st.block.end o)
     row_comes (Some s) e = at_statement s e

@@ -23,8 +23,9 @@ use Rattle.mir_machine.proofs.Shown.{Store, Agrees, stored, rvalue_value, assign
 use Rattle.mir_machine.proofs.Tried.{Goes, Quiet, quiet_weaker}
 use Rattle.wp_gen.specs.Command.{MovesAll, none}
 use Rattle.wp_gen.specs.Row.{value_name, name_of, goals_of, commands_of}
+use Rattle.wp_gen.specs.Walk.{writes}
 use Rattle.wp_gen.proofs.Commands.{GoalsHold}
-use Rattle.prophecy_sim.specs.Branching.{AreNamesOfLocals}
+use Rattle.prophecy_sim.specs.CallFree.{AreNamesOfLocals}
 use Rattle.prophecy_sim.proofs.Values.{T, Matches, local_named, named_as}
 use Rattle.prophecy_sim.proofs.Assigns.{Assigned, assigned}
 
@@ -68,7 +69,7 @@ module _ (Δ : Declarations) (b : Body) where
   IsOutside n = ((x : ℕ) (m : Name) → slice_get b.names x ≡ Some m → n.0 ≡ m.0 → ⊥) × (n.0 ≡ value_name.0 → ⊥)
 
   -- what stands after a statement
-  pub record After (kind : StatementKind) (set : Locals) (ρ : Env) (ls : List T) : Type 0 where
+  pub record After (kind : StatementKind) (set : Locals) (σ : Store) (ρ : Env) (ls : List T) : Type 0 where
     pub fitting : Fits b no_tys (run kind set) ls
     pub store : Store
     pub agrees : Agrees ls store
@@ -76,6 +77,7 @@ module _ (Δ : Declarations) (b : Body) where
     pub matches : Matches b (run kind set) store env
     pub moves : MovesAll at_no (commands_of b kind) ρ env
     pub elsewhere : (n : Name) → IsOutside n → env n ≡ ρ n
+    pub others : (x : ℕ) → writes x kind ≡ false → store x ≡ σ x
 
   module _ (bodies : List Body) (typed : IsTyped bodies b) (named : AreNamesOfLocals b) where
     same_as : (t u : Value) (c : Bool) → c ≡ true → cond c t u ≡ t
@@ -99,6 +101,12 @@ module _ (Δ : Declarations) (b : Body) where
             let apart : n.0 ≡ (name_of b p.local).0 → ⊥ = λ q. d (named.apart y p.local n at_place.0 e at_place.1 (q ∙ ap (λ (z : Name). z.0) (named_as b p.local at_place.0 at_place.1))) in
             l.elsewhere n apart (named.none_is_new y n e) ∙ m y n was e ∙ sym (other_than (rvalue_value σ r) (σ y) (y == p.local) (ne_eqb y p.local d))
 
+    not_written : (σ : Store) (y x : ℕ) (v : Value) → (y == x) ≡ false → stored y v σ x ≡ σ x
+    not_written σ y x v e = elim (decide x y) [
+      | inl q ↦ absurd (true≢false (sym (eq-eqb y x (sym q)) ∙ e))
+      | inr d ↦ other_than v (σ x) (x == y) (ne_eqb x y d)
+    ]
+
     dead_matches : (set : Locals) (σ : Store) (ρ : Env) (x : ℕ) → Matches b set σ ρ → Matches b (without x set) σ ρ
     dead_matches set σ ρ x m y n inside e = m y n (by_test (y == x) inside) e
       where
@@ -107,13 +115,13 @@ module _ (Δ : Declarations) (b : Body) where
         by_test false q = q
 
     pub statement_quiet : (kind : StatementKind) (set : Locals) (ls : List T) (σ : Store) (ρ : Env) (span : Span) → StatementIsTyped b kind → CanRun set kind → Fits b no_tys set ls → Agrees ls σ → Matches b set σ ρ →
-        GoalsHold at_no ρ (goals_of b span kind) → Quiet (After kind set ρ) (run_local b no_tys ls span kind)
+        GoalsHold at_no ρ (goals_of b span kind) → Quiet (After kind set σ ρ) (run_local b no_tys ls span kind)
     statement_quiet (Assign p r) set ls σ ρ span (ty, has, rhas) can fitting agrees m goals =
         let l = assigned Δ bodies b typed named set ls σ ρ span p r ty has rhas can fitting agrees m goals in
         let at_place = local_named bodies b typed p.local ty has.1 in
         let σ' : Store = stored p.local (rvalue_value σ r) σ in
         let set' : Locals = run (Assign p r) set in
-        quiet_weaker (λ ls'. Fits b no_tys set' ls' × Agrees ls' σ') (After (Assign p r) set ρ) (run_local b no_tys ls span (Assign p r))
+        quiet_weaker (λ ls'. Fits b no_tys set' ls' × Agrees ls' σ') (After (Assign p r) set σ ρ) (run_local b no_tys ls span (Assign p r))
         (quiet_both (Fits b no_tys set') (λ ls'. Agrees ls' σ') (run_local b no_tys ls span (Assign p r))
         (run_goes b no_tys set ls span (Assign p r) fitting (ty, has, rhas) can)
         (assign-shows b no_tys ls σ span p r agrees l.in_range))
@@ -125,10 +133,11 @@ module _ (Δ : Declarations) (b : Body) where
           matches = assign_matches set σ ρ p r ty has m l;
           moves = l.moves;
           elsewhere = λ n out. l.elsewhere n (λ q. out.0 p.local at_place.0 at_place.1 (q ∙ ap (λ (z : Name). z.0) (named_as b p.local at_place.0 at_place.1))) out.1;
+          others = λ x e. not_written σ p.local x (rvalue_value σ r) e;
         })
     statement_quiet (Dead x) set ls σ ρ span (ty, is_ty) can fitting agrees m goals =
-        quiet_weaker (λ ls'. Fits b no_tys (without x set) ls' × Agrees ls' σ) (After (Dead x) set ρ) (run_local b no_tys ls span (Dead x))
+        quiet_weaker (λ ls'. Fits b no_tys (without x set) ls' × Agrees ls' σ) (After (Dead x) set σ ρ) (run_local b no_tys ls span (Dead x))
         (quiet_both (Fits b no_tys (without x set)) (λ ls'. Agrees ls' σ) (run_local b no_tys ls span (Dead x))
         (run_goes b no_tys set ls span (Dead x) fitting (ty, is_ty) can)
         (dead-shows b no_tys ls σ span x agrees))
-        (λ ls' h. record { fitting = h.0; store = σ; agrees = h.1; env = ρ; matches = dead_matches set σ ρ x m; moves = none; elsewhere = λ n out. refl })
+        (λ ls' h. record { fitting = h.0; store = σ; agrees = h.1; env = ρ; matches = dead_matches set σ ρ x m; moves = none; elsewhere = λ n out. refl; others = λ y e. refl })

@@ -1,8 +1,8 @@
 //! What true obligations are worth.
-ghost use Rattle.prophecy_sim.specs.Branching.{TrueObligationsMakeGood};
+ghost use Rattle.prophecy_sim.specs.CallFree.{TrueObligationsMakeGood};
 
-/// Where all obligations of a body of straight code and branches are true, its function is good for its contract: no proper
-/// call that meets the `requires` panics, overflows or gets stuck, and where it has returned the `ensures` are true.
-pub fn branching_bodies_are_good()
+/// Where all obligations of a body without calls are true, its function is good for its contract: no proper call that meets
+/// the `requires` panics, overflows or gets stuck, however many steps it runs, and where it has returned the `ensures` are true.
+pub fn true_obligations_make_good()
     ensures { TrueObligationsMakeGood }
 {}

@@ -3,4 +3,4 @@
 
 mod laws;
 
-pub use laws::branching_bodies_are_good;
+pub use laws::true_obligations_make_good;

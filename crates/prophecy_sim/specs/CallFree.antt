@@ -1,5 +1,5 @@
--- Bodies of straight code and branches over integers and truth values, and the contracts that are walked with them.
-use Rattle.std.specs.Prelude.{◌≡◌, ℕ, ◌≤◌, true, List, length, drop, Some, None, slice_get}
+-- Bodies without calls, over integers and truth values, the contracts that are walked with them, and what true obligations are worth.
+use Rattle.std.specs.Prelude.{◌≡◌, ℕ, ◌≤◌, true, List, length, drop, Some, slice_get, ◌⊎◌, false}
 use Rattle.text_core.specs.declared.name.Name.{Name}
 use Rattle.logic_term.specs.declared.kinds.Label.{Label}
 use Rattle.logic_term.specs.declared.obligation.Contract.{Contract}
@@ -14,10 +14,13 @@ use Rattle.mir_ir.specs.declared.terminator.TerminatorKind.TheVariants.{Call}
 use Rattle.mir_ir.specs.declared.body.Block.{Block}
 use Rattle.mir_ir.specs.declared.body.Body.{Body}
 use Rattle.mir_ir.specs.Body.{block_in}
-use Rattle.mir_ir.specs.WellFormed.{AreSound}
+use Rattle.mir_ir.specs.WellFormed.{AreSound, Locals, IsInitialised}
 use Rattle.mir_machine.specs.Good.{Each, Good}
 use Rattle.wp_gen.specs.Row.{value_name}
-use Rattle.wp_gen.specs.Walk.{Setting, AreObligations}
+use Rattle.wp_gen.specs.Walk.{Setting, AreObligations, is_gone}
+use Rattle.mir_ir.specs.declared.body.Head.{Head}
+use Rattle.mir_ir.specs.declared.body.Initialised.{Initialised}
+use Rattle.mir_ir.specs.Layout.{IsLaidOut}
 
 abbrev pub IsScalar : Ty → Type 0
 IsScalar (int k) = Unit {0}
@@ -33,13 +36,6 @@ IsLocal _ = Unit {0}
 pub record AreNamesOfLocals (b : Body) : Type 0 where
   pub apart : (x y : ℕ) (n m : Name) → slice_get b.names x ≡ Some n → slice_get b.names y ≡ Some m → n.0 ≡ m.0 → x ≡ y
   pub none_is_new : (x : ℕ) (n : Name) → slice_get b.names x ≡ Some n → n.0 ≡ value_name.0 → ⊥
-
--- every local is an integer or a truth value, no block is the head of a loop, and none ends with a call
-pub record IsBranching (b : Body) : Type 0 where
-  pub names : AreNamesOfLocals b
-  pub scalars : (x : ℕ) (ty : Ty) → slice_get b.locals x ≡ Some ty → IsScalar ty
-  pub no_heads : (l : Label) (k : Block) → block_in b.blocks l ≡ Some k → k.head ≡ None
-  pub no_calls : (l : Label) (k : Block) → block_in b.blocks l ≡ Some k → IsLocal k.end.kind
 
 -- one of these names
 abbrev pub IsOneOf : Name → List Name → Type 0
@@ -59,7 +55,24 @@ pub record SpeaksOf (b : Body) (c : Contract) : Type 0 where
 abbrev pub IsTrueGoal : Declarations → Obligation → Type 0
 IsTrueGoal Δ o = (θ : Tys) (ρ : Env) → Holds (record { declared = Δ; types = θ }) o.goal ρ
 
+-- every local is an integer or a truth value, loops are entered at their heads, and no block ends with a call
+pub record IsCallFree (b : Body) : Type 0 where
+  pub names : AreNamesOfLocals b
+  pub scalars : (x : ℕ) (ty : Ty) → slice_get b.locals x ≡ Some ty → IsScalar ty
+  pub laid_out : IsLaidOut b
+  pub no_calls : (l : Label) (k : Block) → block_in b.blocks l ≡ Some k → IsLocal k.end.kind
+
+-- the name of a local of the set
+abbrev pub IsNameIn : Body → Locals → Name → Type 0
+IsNameIn b set x = (y : ℕ) × (set y ≡ true) × (slice_get b.names y ≡ Some x)
+
+-- an invariant speaks of parameters, and of locals that are initialised at its head; what is initialised there is not gone
+pub record HeadsSpeakOf (b : Body) (c : Contract) (gone : Initialised) (i : IsInitialised b) : Type 0 where
+  pub over : (l : Label) (k : Block) (h : Head) → block_in b.blocks l ≡ Some k → k.head ≡ Some h → Each (λ (t : Term). (x : Name) → free x t ≡ true → IsOneOf x c.params ⊎ IsNameIn b (i.at l 0) x) h.invariants
+  pub spans : (l : Label) (k : Block) (h : Head) → block_in b.blocks l ≡ Some k → k.head ≡ Some h → length h.invariants ≤ length h.spans
+  pub there : (l : Label) (x : ℕ) → i.at l 0 x ≡ true → is_gone gone l x ≡ false
+
 -- what the obligations of a walk are worth, whatever the declared types are
 abbrev pub TrueObligationsMakeGood : Type 0
-TrueObligationsMakeGood = (Δ : Declarations) (bodies : List Body) (f : ℕ) (w : Setting) → AreSound bodies → slice_get bodies f ≡ Some w.body → IsBranching w.body → SpeaksOf w.body w.contract
-    → (m : ℕ) (os : List Obligation) (paths : ℕ) → AreObligations w m os paths → Each (IsTrueGoal Δ) os → Good Δ bodies f w.contract
+TrueObligationsMakeGood = (Δ : Declarations) (bodies : List Body) (f : ℕ) (w : Setting) (sound : AreSound bodies) (is_body : slice_get bodies f ≡ Some w.body) → IsCallFree w.body → SpeaksOf w.body w.contract
+    → HeadsSpeakOf w.body w.contract w.init (sound f w.body is_body).1 → (m : ℕ) (os : List Obligation) (paths : ℕ) → AreObligations w m os paths → Each (IsTrueGoal Δ) os → Good Δ bodies f w.contract

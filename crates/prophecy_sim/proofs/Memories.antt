@@ -1,0 +1,206 @@
+-- What is remembered of the heads of the loops around a block.
+use Rattle.std.proofs.Common.{◌≡◌, ◌∙◌, ◌⊎◌, inl, inr, refl, sym, ap, subst, ℕ, ◌<◌, ◌≤◌, ◌==◌, ◌||◌, Bool, true, false, List, [], ◌∷◌, ◌++◌, Some, arith}
+use Rattle.std.proofs.lemmas.Bool.{eqb-true}
+use Rattle.logic_term.specs.declared.kinds.Label.{Label}
+use Rattle.logic_term.specs.Meaning.{Env}
+use Rattle.logic_term.specs.Sort.{Declarations}
+use Rattle.text_core.specs.declared.name.Name.{Name}
+use Rattle.mir_ir.specs.declared.body.Block.{Block}
+use Rattle.mir_ir.specs.declared.body.Head.{Head}
+use Rattle.mir_ir.specs.Body.{block_in}
+use Rattle.mir_ir.specs.Layout.{among, around, place_of, Leads, on, back}
+use Rattle.mir_ir.specs.WellFormed.{IsInitialised}
+use Rattle.mir_machine.proofs.Shown.{Store}
+use Rattle.wp_gen.specs.declared.goal.Goal.{Goal}
+use Rattle.wp_gen.specs.Walk.{Setting, seen_before, loop_writes, head_commands, Walks}
+use Rattle.wp_gen.specs.Walkable.{AllAmong}
+use Rattle.wp_gen.proofs.Commands.{GoalsHold}
+use Rattle.prophecy_sim.proofs.Values.{Matches}
+use Rattle.prophecy_sim.proofs.Steps.{at_no, IsOutside}
+
+-- ---- lists of labels
+
+some_same : {A : Type 0} {a c : A} → Some a ≡ Some c → a ≡ c
+some_same e = cc
+
+same_label : (l m : Label) → l.0 ≡ m.0 → l ≡ m
+same_label l m e = let f : ℕ → Label = λ n. record { 0 = n } in ap f e
+
+or_left : (p q : Bool) → p ≡ true → (p || q) ≡ true
+or_left p q e = grind arith
+
+or_right : (p q : Bool) → q ≡ true → (p || q) ≡ true
+or_right p q e = grind arith
+
+either_of : (p q : Bool) → (p || q) ≡ true → (p ≡ true) ⊎ (q ≡ true)
+either_of true q e = inl refl
+either_of false q e = inr e
+
+self : (l : Label) → (l.0 == l.0) ≡ true
+self l = grind arith
+
+pub among_first : (l : Label) (ms : List Label) → among l (l ∷ ms) ≡ true
+among_first l ms = or_left (l.0 == l.0) (among l ms) (self l)
+
+pub among_second : (l m : Label) → among m (l ∷ m ∷ []) ≡ true
+among_second l m = or_right (l.0 == m.0) (among m (m ∷ [])) (among_first m [])
+
+pub among_more : (m l : Label) (ms : List Label) → among m ms ≡ true → among m (l ∷ ms) ≡ true
+among_more m l ms e = or_right (l.0 == m.0) (among m ms) e
+
+pub among_head : (m l : Label) (ms : List Label) → among m (l ∷ ms) ≡ true → (l ≡ m) ⊎ (among m ms ≡ true)
+among_head m l ms e = elim (either_of (l.0 == m.0) (among m ms) e) [
+  | inl p ↦ inl (same_label l m (eqb-true l.0 m.0 p))
+  | inr p ↦ inr p
+]
+
+pub among_front : (l : Label) (xs ys : List Label) → among l xs ≡ true → among l (xs ++ ys) ≡ true
+among_front l [] ys e = absurd (cc)
+among_front l (x ∷ xs) ys e = elim (either_of (x.0 == l.0) (among l xs) e) [
+  | inl p ↦ or_left (x.0 == l.0) (among l (xs ++ ys)) p
+  | inr p ↦ or_right (x.0 == l.0) (among l (xs ++ ys)) (among_front l xs ys p)
+]
+
+pub among_last : (l : Label) (xs : List Label) → among l (xs ++ l ∷ []) ≡ true
+among_last l [] = or_left (l.0 == l.0) false (self l)
+among_last l (x ∷ xs) = or_right (x.0 == l.0) (among l (xs ++ l ∷ [])) (among_last l xs)
+
+pub among_either : (l m : Label) (xs : List Label) → among l (xs ++ m ∷ []) ≡ true → (among l xs ≡ true) ⊎ (m ≡ l)
+among_either l m [] e = elim (either_of (m.0 == l.0) false e) [
+  | inl p ↦ inr (same_label m l (eqb-true m.0 l.0 p))
+  | inr p ↦ absurd (cc)
+]
+among_either l m (x ∷ xs) e = elim (either_of (x.0 == l.0) (among l (xs ++ m ∷ [])) e) [
+  | inl p ↦ inl (or_left (x.0 == l.0) (among l xs) p)
+  | inr p ↦ elim (among_either l m xs p) [
+    | inl q ↦ inl (or_right (x.0 == l.0) (among l xs) q)
+    | inr q ↦ inr q
+  ]
+]
+
+last_of : (x : Label) (xs : List Label) → (ys : List Label) × (y : Label) × (x ∷ xs ≡ ys ++ y ∷ [])
+last_of x [] = ([], x, refl)
+last_of x (z ∷ xs) = let r = last_of z xs in (x ∷ r.0, r.1, ap (λ ws. x ∷ ws) r.2)
+
+snoc_same : (xs ys : List Label) (x y : Label) → xs ++ x ∷ [] ≡ ys ++ y ∷ [] → xs ≡ ys
+snoc_same [] [] x y e = refl
+snoc_same [] (w ∷ []) x y e = absurd (cc)
+snoc_same [] (w ∷ v ∷ ys) x y e = absurd (cc)
+snoc_same (w ∷ []) [] x y e = absurd (cc)
+snoc_same (w ∷ v ∷ xs) [] x y e = absurd (cc)
+snoc_same (w ∷ xs) (v ∷ ys) x y e =
+    let first : w ≡ v = first_same w v (xs ++ x ∷ []) (ys ++ y ∷ []) e in
+    subst (λ u. w ∷ xs ≡ u ∷ ys) first (ap (λ ws. w ∷ ws) (snoc_same xs ys x y (rest_same w v (xs ++ x ∷ []) (ys ++ y ∷ []) e)))
+  where
+    first_same : (a c : Label) (us vs : List Label) → a ∷ us ≡ c ∷ vs → a ≡ c
+    first_same a c us vs q = cc
+
+    rest_same : (a c : Label) (us vs : List Label) → a ∷ us ≡ c ∷ vs → us ≡ vs
+    rest_same a c us vs q = cc
+
+append_assoc : (xs ys zs : List Label) → (xs ++ ys) ++ zs ≡ xs ++ (ys ++ zs)
+append_assoc [] ys zs = refl
+append_assoc (x ∷ xs) ys zs = ap (λ ws. x ∷ ws) (append_assoc xs ys zs)
+
+append_none : (xs : List Label) → xs ++ [] ≡ xs
+append_none [] = refl
+append_none (x ∷ xs) = ap (λ ws. x ∷ ws) (append_none xs)
+
+both_empty : (xs ys : List Label) → [] ≡ xs ++ ys → xs ≡ []
+both_empty [] ys e = refl
+both_empty (x ∷ xs) ys e = absurd (cc)
+
+-- ---- heads
+
+module _ (Δ : Declarations) (w : Setting) (i : IsInitialised w.body) (ρ₀ : Env) where
+  abbrev pub KeepsParams : Env → Type 0
+  KeepsParams ρ = (n : Name) → IsOutside Δ w.body n → ρ n ≡ ρ₀ n
+
+  -- none of the heads comes behind the block of the label
+  abbrev pub AreBehind : List Label → Label → Type 0
+  AreBehind heads l = (h : Label) → among h heads ≡ true → place_of w.body.blocks h ≤ place_of w.body.blocks l
+
+  -- the head of a loop that the run is in: what stood when it was first come to on this path, and what the loop has left since then
+  pub record Passed (l : Label) (outer : List Label) (σ : Store) : Type 0 where
+    pub block : Block
+    pub is_block : block_in w.body.blocks l ≡ Some block
+    pub head : Head
+    pub is_head : block.head ≡ Some head
+    pub nest : block.nest ≡ outer ++ l ∷ []
+    pub env : Env
+    pub store : Store
+    pub matches : Matches w.body (i.at l 0) store env
+    pub keeps : KeepsParams env
+    pub heads : List Label
+    pub within : AllAmong block.nest heads
+    pub behind : AreBehind heads l
+    pub goals : List Goal
+    pub paths : ℕ
+    pub walks : Walks w heads block.statements block.end goals paths
+    pub hold : GoalsHold (at_no Δ w.body) env (seen_before (head_commands w.body w.init l head) goals)
+    pub unchanged : (x : ℕ) → loop_writes w.body l x ≡ false → i.at l 0 x ≡ true → σ x ≡ store x
+
+  pub data Memories (σ : Store) : List Label → Type 0 where
+    none_around : Memories σ []
+    one_more : {outer : List Label} {l : Label} → Memories σ outer → Passed l outer σ → Memories σ (outer ++ l ∷ [])
+
+  -- no loop around writes where the stores differ
+  passed_kept : (l : Label) (outer : List Label) (σ τ : Store) → ((x : ℕ) → loop_writes w.body l x ≡ false → τ x ≡ σ x) → Passed l outer σ → Passed l outer τ
+  passed_kept l outer σ τ same p = record {
+    block = p.block;
+    is_block = p.is_block;
+    head = p.head;
+    is_head = p.is_head;
+    nest = p.nest;
+    env = p.env;
+    store = p.store;
+    matches = p.matches;
+    keeps = p.keeps;
+    heads = p.heads;
+    within = p.within;
+    behind = p.behind;
+    goals = p.goals;
+    paths = p.paths;
+    walks = p.walks;
+    hold = p.hold;
+    unchanged = λ x e inside. same x e ∙ p.unchanged x e inside;
+  }
+
+  pub memories_kept : {σ τ : Store} {nest : List Label} → Memories σ nest → ((l : Label) (x : ℕ) → among l nest ≡ true → loop_writes w.body l x ≡ false → τ x ≡ σ x) → Memories τ nest
+  memories_kept none_around same = none_around
+  memories_kept {σ} {τ} (one_more {outer = outer} {l = l} m p) same =
+      one_more (memories_kept m (λ k x a e. same k x (among_front k outer (l ∷ []) a) e)) (passed_kept l outer σ τ (λ x e. same l x (among_last l outer) e) p)
+
+  pub memories_front : {σ : Store} {nest : List Label} → Memories σ nest → (outer inner : List Label) → nest ≡ outer ++ inner → Memories σ outer
+  memories_front {σ} none_around outer inner e = subst (Memories σ) (sym (both_empty outer inner e)) none_around
+  memories_front {σ} (one_more {outer = o} {l = l} m p) outer [] e = subst (Memories σ) (e ∙ append_none outer) (one_more m p)
+  memories_front {σ} (one_more {outer = o} {l = l} m p) outer (x ∷ inner) e =
+      let last = last_of x inner in
+      memories_front m outer last.0 (snoc_same o (outer ++ last.0) l last.1 (e ∙ ap (λ xs. outer ++ xs) last.2 ∙ sym (append_assoc outer last.0 (last.1 ∷ []))))
+
+  pub memories_find : {σ : Store} {nest : List Label} → Memories σ nest → (l : Label) → among l nest ≡ true → (outer : List Label) × Memories σ outer × Passed l outer σ
+  memories_find none_around l e = absurd (cc)
+  memories_find {σ} (one_more {outer = o} {l = m} ms p) l e = elim (among_either l m o e) [
+    | inl a ↦ memories_find ms l a
+    | inr q ↦ (o, ms, subst (λ k. Passed k o σ) q p)
+  ]
+
+  -- ---- edges
+
+  -- how the run has come to a block, where these heads were passed
+  pub data Reached (σ : Store) (heads : List Label) (l : Label) : Type 0 where
+    onward : (to : Block) (outer : List Label) → block_in w.body.blocks l ≡ Some to → around l to outer → Memories σ outer → AllAmong outer heads → AreBehind heads l → (among l heads ≡ true → ⊥) → Reached σ heads l
+    backward : (to : Block) (h : Head) (outer : List Label) → block_in w.body.blocks l ≡ Some to → to.head ≡ Some h → among l heads ≡ true → Memories σ outer → Passed l outer σ → Reached σ heads l
+
+  too_far : (m n : ℕ) → m ≤ n → n < m → ⊥
+  too_far m n h g = absurd (omega arith)
+
+  pub reached : (σ : Store) (heads : List Label) (l m : Label) (k : Block) → Memories σ k.nest → AllAmong k.nest heads → AreBehind heads l → Leads w.body l k m → Reached σ heads m
+  reached σ heads l m k ms within behind (on to is_to further enters) =
+      onward to enters.outer is_to enters.is_around (memories_front ms enters.outer enters.inner enters.within)
+      (λ h a. within h (subst (λ xs. among h xs ≡ true) (sym enters.within) (among_front h enters.outer enters.inner a)))
+      (λ h a. omega (arith, behind h a, further))
+      (λ a. too_far (place_of w.body.blocks m) (place_of w.body.blocks l) (behind m a) further)
+  reached σ heads l m k ms within behind (back to h is_to is_head a) =
+      let found = memories_find ms m a in
+      backward to h found.0 is_to is_head (within m a) found.1 found.2
