@@ -331,7 +331,7 @@ kind_of_place : (b : Body) (θ : Tys) (p : Place) (ty : Ty) → PlaceHas b p ty 
 kind_of_place b θ p ty h =
     ap (λ ps. kind_in (whole ps (option_map (instance θ) (slice_get b.locals p.local)))) h.0 ∙ ap (λ o. kind_in (option_map (instance θ) o)) h.1
 
-put_goes : {K : Type 0} (b : Body) (θ : Tys) (set : Locals) (ls : List (Tree K)) (x : ℕ) (ty : Ty) (t : Tree K) → slice_get b.locals x ≡ Some ty → Shape (instance θ ty) t → Fits b θ set ls → Goes (Fits b θ (with x set)) (put_local ls x t)
+pub put_goes : {K : Type 0} (b : Body) (θ : Tys) (set : Locals) (ls : List (Tree K)) (x : ℕ) (ty : Ty) (t : Tree K) → slice_get b.locals x ≡ Some ty → Shape (instance θ ty) t → Fits b θ set ls → Goes (Fits b θ (with x set)) (put_local ls x t)
 put_goes {K} b θ set ls x ty t is_ty shape h =
     let u = h.slot x ty is_ty in
     subst (λ (o : Option (Tree K)). Goes (Fits b θ (with x set)) (need o >>= λ w. Yields (slice_set ls x t))) (sym u.1) (fits_set b θ set ls x ty t is_ty shape h)
@@ -409,10 +409,10 @@ and_right true b e = e
 and_right false b e = false≢true e
 
 -- the operands of a call leave the set without what is moved, and their trees have the shapes of the types
-abbrev AreArguments : {K : Type 0} → Body → Tys → Locals → List Ty → List (Tree K) × List (Tree K) → Type 0
+abbrev pub AreArguments : {K : Type 0} → Body → Tys → Locals → List Ty → List (Tree K) × List (Tree K) → Type 0
 AreArguments b θ set tys r = Fits b θ set r.0 × ((length r.1 ≡ length tys) × AreShaped θ r.1 tys)
 
-operands_go : {K : Type 0} (b : Body) (θ : Tys) (set : Locals) (ls : List (Tree K)) (os : List Operand) (tys : List Ty) → Fits b θ set ls → OperandsHave b os tys → CanTakeAll set os → Goes (AreArguments b θ (all_taken os set) tys) (take_operands ls os)
+pub operands_go : {K : Type 0} (b : Body) (θ : Tys) (set : Locals) (ls : List (Tree K)) (os : List Operand) (tys : List Ty) → Fits b θ set ls → OperandsHave b os tys → CanTakeAll set os → Goes (AreArguments b θ (all_taken os set) tys) (take_operands ls os)
 operands_go b θ set ls [] [] h have can = (h, (refl, λ n ty e. absurd (cc)))
 operands_go b θ set ls [] (ty ∷ tys) h have can = absurd have
 operands_go b θ set ls (o ∷ os) [] h have can = absurd have

@@ -14,7 +14,7 @@ use Rattle.mir_machine.specs.Typed.{Typed, is_int, is_truth}
 use Rattle.mir_machine.specs.Good.{named, Supply, not_lent}
 use Rattle.mir_machine.proofs.NeverStuck.{Shape, AreShaped}
 use Rattle.mir_machine.proofs.Shown.{Shows}
-use Rattle.prophecy_sim.specs.CallFree.{IsScalar}
+use Rattle.prophecy_sim.specs.Programs.{IsScalar}
 use Rattle.prophecy_sim.proofs.Values.{T}
 
 -- ---- the value of an integer or of a truth value

@@ -41,7 +41,7 @@ use Rattle.wp_gen.specs.Row.{value_name, name_of, operand_term, operand_ty, inte
 use Rattle.wp_gen.proofs.Commands.{GoalsHold}
 use Rattle.wp_gen.proofs.Operations.{says_exactly, not_exactly, new_moves, range_fits, divisor_not_zero, not_least_there}
 use Rattle.wp_gen.proofs.Quotients.{quotient_fits, remainder_fits}
-use Rattle.prophecy_sim.specs.CallFree.{AreNamesOfLocals}
+use Rattle.prophecy_sim.specs.Programs.{AreNamesOfLocals}
 use Rattle.prophecy_sim.proofs.Values.{T, ValueHas, Matches, S, operand_means, operand_has, matches_new, can_before}
 
 -- ---- kinds

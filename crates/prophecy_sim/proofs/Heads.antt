@@ -17,7 +17,7 @@ use Rattle.mir_ir.specs.Layout.{among}
 use Rattle.wp_gen.specs.Command.{by_fresh, MovesAll, none, more}
 use Rattle.wp_gen.specs.Row.{name_of}
 use Rattle.wp_gen.specs.Walk.{is_in_loop, writes, end_writes, block_writes, loop_writes, picked, renewed}
-use Rattle.prophecy_sim.specs.CallFree.{AreNamesOfLocals}
+use Rattle.prophecy_sim.specs.Programs.{AreNamesOfLocals}
 use Rattle.prophecy_sim.proofs.Values.{named_as}
 use Rattle.prophecy_sim.proofs.Steps.{decide}
 
@@ -55,6 +55,13 @@ loop_writes_statement b h l k i st x is_k inside is_st w =
     (and_both (is_in_loop h k) (block_writes x k) inside
     (or_first (list_any (λ (s : Statement). writes x s.kind) k.statements) (end_writes x k.end.kind)
     (any_at (λ (s : Statement). writes x s.kind) k.statements i st is_st w)))
+
+-- and what its end writes
+pub loop_writes_end : (b : Body) (h l : Label) (k : Block) (x : ℕ) → block_in b.blocks l ≡ Some k → among h k.nest ≡ true → end_writes x k.end.kind ≡ true → loop_writes b h x ≡ true
+loop_writes_end b h l k x is_k within w =
+    any_block (λ c. is_in_loop h c && block_writes x c) b.blocks l k is_k
+    (and_both (is_in_loop h k) (block_writes x k) within
+    (or_second (list_any (λ (s : Statement). writes x s.kind) k.statements) (end_writes x k.end.kind) w))
 
 -- ---- new values
 

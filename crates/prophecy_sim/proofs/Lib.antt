@@ -1,9 +1,12 @@
 pub mod Arguments
 pub mod Assigns
+pub mod Begins
+pub mod Calls
 pub mod Entries
 pub mod GoodBody
 pub mod Heads
 pub mod Memories
 pub mod Runs
+pub mod States
 pub mod Steps
 pub mod Values

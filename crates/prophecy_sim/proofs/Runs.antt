@@ -1,21 +1,31 @@
--- Runs of a body without calls: where the goals of its walk hold, no run panics, and at a return the goals there hold.
-use Rattle.std.proofs.Common.{◌≡◌, ◌∙◌, ◌⊎◌, inl, inr, refl, sym, ap, subst, ℕ, zero, suc, ◌+◌, ◌≤◌, ◌&&◌, pos, Bool, true, false, cond, List, [], ◌∷◌, ◌++◌, length, drop, Option, Some, None, slice_get, true≢false, arith}
-use Rattle.std.specs.Prelude.{not as flip}
+-- One frame: where the goals of its walk hold, its next step does not panic, and the goals of what is left hold after it.
+use Rattle.prophecy_sim.proofs.Calls.{AllShow, operands_show, all_taken_before, overlay, overlay_named, AreExactly, with_terms_mean, all_hold, all_exactly}
+use Rattle.prophecy_sim.proofs.Arguments.{value_of, IsPlain, plain_one, plain_shows, shaped_plain, shaped_sort, values_of, AllPlain, shaped_all}
+use Rattle.mir_ir.specs.declared.terminator.FnId.TheVariants.{Body as OfBody}
+use Rattle.mir_ir.specs.declared.terminator.Callee.TheVariants.{Function}
+use Rattle.mir_ir.specs.declared.place.Place.{Place}
+use Rattle.logic_term.proofs.SubstLaw.{replaced_means}
+use Rattle.logic_term.proofs.Coincide.{with_same, with_other}
+use Rattle.logic_term.specs.TyView.{tys_of}
+use Rattle.logic_term.specs.declared.obligation.Contract.{Contract}
+use Rattle.std.proofs.lemmas.List.{length-take, length-drop}
+use Rattle.std.proofs.Common.{◌≡◌, ◌∙◌, ◌⊎◌, inl, inr, refl, sym, ap, subst, ℕ, zero, suc, ◌+◌, ◌≤◌, ◌&&◌, pos, Bool, true, false, cond, List, [], ◌∷◌, ◌++◌, length, drop, Option, Some, None, slice_get, true≢false, arith, map, take, slice_set, ◌<◌, ◌==◌}
+use Rattle.std.specs.Prelude.{not as flip, option_and_then}
 use Rattle.std.proofs.lemmas.Option.{slice_get_within}
 use Rattle.text_core.specs.declared.name.Name.{Name}
 use Rattle.text_core.specs.declared.refusal.Kind.{Kind}
-use Rattle.text_core.specs.declared.refusal.Kind.TheVariants.{InvEntry, InvKept}
+use Rattle.text_core.specs.declared.refusal.Kind.TheVariants.{InvEntry, InvKept, Ensures, Requires}
 use Rattle.text_core.specs.declared.span.Span.{Span}
 use Rattle.logic_term.specs.declared.kinds.Label.{Label}
 use Rattle.logic_term.specs.declared.kinds.IntKind.{IntKind}
 use Rattle.logic_term.specs.declared.kinds.IntKind.TheVariants.{I8, I16, I32, I64, Isize, U8, U16, U32, U64, Usize}
 use Rattle.logic_term.specs.Range.{fits}
 use Rattle.logic_term.specs.Free.{free}
-use Rattle.logic_term.specs.Term.{Term}
-use Rattle.logic_term.proofs.Alike.{yes_alike}
-use Rattle.logic_term.proofs.FreeLaw.{coincide_free}
-use Rattle.logic_term.specs.Meaning.{Structure, Env, Means, Holds}
-use Rattle.logic_term.specs.Sort.{Declarations, HasSort, instance, of_int, of_bool}
+use Rattle.logic_term.specs.Term.{Term, var}
+use Rattle.logic_term.proofs.Alike.{yes_alike, alike_same}
+use Rattle.logic_term.proofs.FreeLaw.{coincide_free, same_name}
+use Rattle.logic_term.specs.Meaning.{Structure, Env, Means, Holds, with_value}
+use Rattle.logic_term.specs.Sort.{Declarations, HasSort, instance, of_int, of_bool, nth_ty}
 use Rattle.logic_term.specs.Term as terms
 use Rattle.logic_term.specs.Ty.{Ty, int, bool, no_tys}
 use Rattle.logic_term.specs.Value.{Value, Number, Flag, nothing}
@@ -23,36 +33,34 @@ use Rattle.logic_term.proofs.Truth.{Exactly, yes_flag, holds_not}
 use Rattle.mir_ir.specs.declared.place.Operand.{Operand}
 use Rattle.mir_ir.specs.declared.statement.Statement.{Statement}
 use Rattle.mir_ir.specs.declared.terminator.Terminator.{Terminator}
-use Rattle.mir_ir.specs.declared.terminator.TerminatorKind.TheVariants.{Goto, If, Return}
+use Rattle.mir_ir.specs.declared.terminator.TerminatorKind.TheVariants.{Goto, If, Return, Call}
 use Rattle.mir_ir.specs.declared.body.Block.{Block}
 use Rattle.mir_ir.specs.declared.body.Body.{Body}
 use Rattle.mir_ir.specs.declared.body.Head.{Head}
-use Rattle.mir_ir.specs.Body.{block_in}
-use Rattle.mir_ir.specs.WellFormed.{OperandHas, EndIsTyped, IsTyped, IsInitialised, Locals, Within, taken, CanTake, CanEnd, Carries, AreSound, run}
-use Rattle.mir_machine.specs.Try.{Try, Yields, Panics, Sticks, ◌>>=◌, need}
+use Rattle.mir_ir.specs.Body.{block_in, answer_ty}
+use Rattle.mir_ir.specs.WellFormed.{OperandHas, EndIsTyped, IsTyped, IsInitialised, Locals, Within, taken, CanTake, CanEnd, Carries, AreSound, run, OperandsHave, PlaceHas, CanTakeAll, all_taken, with}
+use Rattle.mir_machine.specs.Try.{Yields, ◌>>=◌, need}
 use Rattle.mir_machine.specs.Tree.{Truth}
-use Rattle.mir_machine.specs.Frame.{Frame, State}
-use Rattle.mir_machine.specs.Step.{truth_of, Outcome, Running, Returned, Panicked, Stuck, outcome_of, try_step, step, next, after_from}
-use Rattle.mir_machine.specs.FrameStep.{Left, local_tree, take_operand, run_local, FrameEnd, Stays, Calls, Answers, starting, frame_end, frame_row, frame_step, settled}
-use Rattle.mir_machine.proofs.NeverStuck.{Fits, Keeps, fits_within, take_goes, get_past, sound_wholes}
-use Rattle.mir_machine.proofs.Shown.{Shows, Store, Agrees, Leaves, operand_value, operand-shows, local-shows}
-use Rattle.mir_machine.proofs.Tried.{Quiet, quiet_then}
-use Rattle.mir_machine.proofs.Wholes.{try_step-whole}
+use Rattle.mir_machine.specs.Frame.{Frame}
+use Rattle.mir_machine.specs.Step.{truth_of, callee_frame, entered}
+use Rattle.mir_machine.specs.FrameStep.{Left, local_tree, take_operand, run_local, FrameEnd, Stays, Calls, Answers, starting, frame_end, frame_row, frame_step, take_operands, put_local, frame_block, resumed_at, resumed}
+use Rattle.mir_machine.proofs.NeverStuck.{Fits, Keeps, fits_within, take_goes, get_past, AreShaped, AreArguments, operands_go, put_goes, local_goes, Shape}
+use Rattle.mir_machine.proofs.Shown.{Shows, Store, Agrees, Leaves, operand_value, operand-shows, local-shows, stored, agrees_set}
+use Rattle.mir_machine.proofs.Tried.{Quiet, quiet_then, quiet_need}
 use Rattle.wp_gen.specs.declared.goal.Goal.{Goal}
-use Rattle.wp_gen.specs.Command.{by_assume, none, more}
-use Rattle.wp_gen.specs.Row.{operand_term, goals_of, commands_of}
+use Rattle.wp_gen.specs.Command.{by_assume, none, more, by_fresh, by_set, MovesAll}
+use Rattle.wp_gen.specs.Row.{operand_term, goals_of, commands_of, value_name, name_of}
 use Rattle.mir_ir.specs.Layout.{among, targets, around, around_of, place_of}
-use Rattle.mir_machine.specs.Good.{Each}
+use Rattle.mir_machine.specs.Good.{Each, named}
 use Rattle.wp_gen.specs.Walkable.{AllAmong}
-use Rattle.wp_gen.specs.Walk.{Setting, writes, loop_writes, is_gone, is_renewed, head_commands, each_goal, seen_before, goals_at_return, where_true, where_false, Walks, statement, goto, branch, call, return, Arrives, plain, first, again}
+use Rattle.wp_gen.specs.Walk.{Setting, writes, loop_writes, is_gone, is_renewed, head_commands, each_goal, seen_before, goals_at_return, where_true, where_false, Walks, statement, goto, branch, call, return, Arrives, plain, first, again, at_answer, at_arguments, at_arguments_and_answer, goals_of_call, call_commands, end_writes}
 use Rattle.wp_gen.proofs.Commands.{GoalsHold, goals_moved, goals_first, goals_rest, then_moves}
-use Rattle.prophecy_sim.specs.CallFree.{IsScalar, IsLocal, IsOneOf, IsCallFree, IsNameIn, HeadsSpeakOf}
-use Rattle.prophecy_sim.specs.CallFree.{IsCallFree, IsNameIn, HeadsSpeakOf}
-use Rattle.prophecy_sim.proofs.Values.{T, ValueHas, Matches, operand_means, local_has}
+use Rattle.prophecy_sim.specs.Programs.{IsScalar, IsOneOf, IsNameIn, IsSimple, SpeaksOf, HeadsSpeakOf, Program, setting, IsFunction, AreFunctions}
+use Rattle.prophecy_sim.proofs.Values.{T, ValueHas, Matches, operand_means, local_has, local_named, named_as, matches_new}
 use Rattle.prophecy_sim.proofs.Entries.{assumed_move}
-use Rattle.prophecy_sim.proofs.Heads.{Renewed, renewed_move, loop_writes_statement}
+use Rattle.prophecy_sim.proofs.Heads.{Renewed, renewed_move, loop_writes_statement, loop_writes_end}
 use Rattle.prophecy_sim.proofs.Memories.{among_first, among_second, among_more, among_head, among_either, KeepsParams, AreBehind, Passed, Memories, one_more, memories_kept, Reached, onward, backward, reached}
-use Rattle.prophecy_sim.proofs.Steps.{quiet_both, taken_before, at_no, IsOutside, After, statement_quiet}
+use Rattle.prophecy_sim.proofs.Steps.{quiet_both, taken_before, at_no, IsOutside, After, statement_quiet, decide, put_matches, not_written}
 
 drop_get : {A : Type 0} (xs : List A) (i : ℕ) (x : A) → slice_get xs i ≡ Some x → drop i xs ≡ x ∷ drop (i + 1) xs
 drop_get [] i x e = absurd (cc)
@@ -77,6 +85,33 @@ same_rest e = cc
 some_same : {A : Type 0} {a b : A} → Some a ≡ Some b → a ≡ b
 some_same e = cc
 
+get_first : {A : Type 0} (xs : List A) (i : ℕ) → i < length xs → (x : A) × (slice_get xs i ≡ Some x)
+get_first [] i h = absurd (omega arith)
+get_first (x ∷ xs) zero h = (x, refl)
+get_first (x ∷ xs) (suc i) h = get_first xs i (omega arith)
+
+pub get_taken : {A : Type 0} (xs : List A) (p n : ℕ) (x : A) → slice_get (take p xs) n ≡ Some x → slice_get xs n ≡ Some x
+get_taken [] zero n x e = absurd (cc)
+get_taken [] (suc p) n x e = absurd (cc)
+get_taken (y ∷ xs) zero n x e = absurd (cc)
+get_taken (y ∷ xs) (suc p) zero x e = e
+get_taken (y ∷ xs) (suc p) (suc n) x e = get_taken xs p n x e
+
+pub get_behind : {A : Type 0} (xs : List A) (n : ℕ) (x : A) → slice_get (drop 1 xs) n ≡ Some x → slice_get xs (suc n) ≡ Some x
+get_behind [] n x e = absurd (cc)
+get_behind (y ∷ xs) n x e = e
+
+pub first_ty : (ts : List Ty) (ty : Ty) → slice_get ts 0 ≡ Some ty → nth_ty (tys_of ts) 0 ≡ ty
+first_ty [] ty e = absurd (cc)
+first_ty (t ∷ ts) ty e = some_same e
+
+pub params_length : (c : Body) → c.params + 1 ≤ length c.locals → length (take c.params (drop 1 c.locals)) ≡ c.params
+params_length c l = grind (arith, length-take, length-drop, l)
+
+length_map : {A B : Type 0} (f : A → B) (xs : List A) → length (map f xs) ≡ length xs
+length_map f [] = refl
+length_map f (x ∷ xs) = ap suc (length_map f xs)
+
 -- one formula for each goal
 pub each_holds : (S : Structure) (kind : Kind) (ts : List Term) (spans : List Span) (ρ : Env) → length ts ≤ length spans → GoalsHold S ρ (each_goal kind ts spans) → Each (λ t. Holds S t ρ) ts
 each_holds S kind [] spans ρ l h = tt
@@ -96,13 +131,49 @@ walk_statement (branch o l m e a c) st sts q = absurd (cc)
 walk_statement (call p f args l d t e fd ft a) st sts q = absurd (cc)
 walk_statement (return e) st sts q = absurd (cc)
 
-module _ (Δ : Declarations) (bodies : List Body) (sound : AreSound bodies) (fn : ℕ) (w : Setting) (is_body : slice_get bodies fn ≡ Some w.body) (simple : IsCallFree w.body) (heads_speak : HeadsSpeakOf w.body w.contract w.init (sound fn w.body is_body).1)
-    (params_outside : (x : Name) → IsOneOf x w.contract.params → IsOutside Δ w.body x) (ρ₀ : Env) (out : Frame (Unit {0})) where
-  abbrev b : Body
-  b = w.body
+-- ---- calls and answers
+
+-- the answer of a function with the contract, which was called in the environment: its type is right, and each `ensures` is true
+pub record IsAnswer (Δ : Declarations) (bodies : List Body) (n : ℕ) (c : Contract) (ρ : Env) (t : T) : Type 0 where
+  pub body : Body
+  pub is_body : slice_get bodies n ≡ Some body
+  pub shape : Shape (answer_ty body no_tys) t
+  pub plain : IsPlain t
+  pub posts : Each (λ (p : Term). Holds (record { declared = Δ; types = no_tys }) p (with_value ρ c.answer (value_of t))) c.post
+
+-- the frame begins a call of a function whose `requires` are true of the arguments
+pub record Entered (Δ : Declarations) (p : Program) (g : Frame (Unit {0})) : Type 0 where
+  pub function : ℕ
+  pub body : Body
+  pub contract : Contract
+  pub is_body : slice_get p.bodies function ≡ Some body
+  pub is_contract : slice_get p.contracts function ≡ Some contract
+  pub args : List T
+  pub is_frame : g ≡ entered body function no_tys args
+  pub shaped : (length args ≡ length (take body.params (drop 1 body.locals))) × AreShaped no_tys args (take body.params (drop 1 body.locals))
+  pub pre : Each (λ (t : Term). Holds (record { declared = Δ; types = no_tys }) t (named contract.params (values_of args))) contract.pre
+
+module _ (Δ : Declarations) (program : Program) (sound : AreSound program.bodies) (functions : AreFunctions program sound) (fn : ℕ) (b : Body) (is_body : slice_get program.bodies fn ≡ Some b) (ρ₀ : Env) where
+  abbrev bodies : List Body
+  bodies = program.bodies
+
+  abbrev own : IsFunction program sound fn b is_body
+  own = functions fn b is_body
+
+  abbrev simple : IsSimple b
+  simple = own.simple
+
+  abbrev heads_speak : HeadsSpeakOf b own.contract (program.gone fn) (sound fn b is_body).1
+  heads_speak = own.heads
+
+  abbrev w : Setting
+  w = setting program fn b own.contract
 
   abbrev S : Structure
   S = at_no Δ b
+
+  params_outside : (x : Name) → IsOneOf x own.contract.params → IsOutside Δ b x
+  params_outside x one = ((λ y n e q. own.speaks.no_local one.0 y x n one.1 e q), own.speaks.none_is_new one.0 x one.1)
 
   abbrev typed : IsTyped bodies b
   typed = (sound fn b is_body).0
@@ -145,19 +216,14 @@ module _ (Δ : Declarations) (bodies : List Body) (sound : AreSound bodies) (fn 
     pub enclosing : AllAmong block.nest heads
     pub behind : AreBehind Δ w initialised ρ₀ heads f.label
 
-  -- the answer is local 0, and the goals at the return hold
-  pub record Answering (t : T) : Type 0 where
-    pub store : Store
-    pub env : Env
-    pub matches : (n : Name) → slice_get b.names 0 ≡ Some n → env n ≡ store 0
-    pub shows : Shows t (store 0)
-    pub keeps : KeepsOutside env
-    pub hold : GoalsHold S env (goals_at_return b w.contract)
+  -- after the call, with any answer that meets the callee's contract, the frame goes on
+  abbrev pub GoesOn : Frame (Unit {0}) → ℕ → Contract → Env → Type 0
+  GoesOn f n c ρ = (t : T) → IsAnswer Δ bodies n c ρ t → Quiet Standing (resumed bodies t f)
 
   abbrev pub EndsFine : FrameEnd (Unit {0}) → Type 0
   EndsFine (Stays f) = Standing f
-  EndsFine (Calls f g) = ⊥
-  EndsFine (Answers t) = Answering t
+  EndsFine (Calls f g) = (e : Entered Δ program g) × (f.function ≡ fn) × GoesOn f e.function e.contract (named e.contract.params (values_of e.args))
+  EndsFine (Answers t) = IsAnswer Δ bodies fn own.contract ρ₀ t
 
   -- ---- arrivals
 
@@ -258,11 +324,11 @@ module _ (Δ : Declarations) (bodies : List Body) (sound : AreSound bodies) (fn 
     head_keeps : KeepsOutside again_env.env
     head_keeps n out = again_env.others n (λ x m renewed is_m same. out.0 x m is_m same) ∙ p.keeps n out
 
-    invariants_there : (ts : List Term) → Each (λ (t : Term). (x : Name) → free x t ≡ true → IsOneOf x w.contract.params ⊎ IsNameIn b (initialised.at l 0) x) ts → Each (λ t. Holds S t c.env) ts → Each (λ t. Holds S t again_env.env) ts
+    invariants_there : (ts : List Term) → Each (λ (t : Term). (x : Name) → free x t ≡ true → IsOneOf x own.contract.params ⊎ IsNameIn b (initialised.at l 0) x) ts → Each (λ t. Holds S t c.env) ts → Each (λ t. Holds S t again_env.env) ts
     invariants_there [] over h = tt
     invariants_there (t ∷ ts) over h = ((yes_alike _ _ (coincide_free S t c.env again_env.env (λ x f. at_name x (over.0 x f)))).0 h.0, invariants_there ts over.1 h.1)
       where
-        at_name : (x : Name) → IsOneOf x w.contract.params ⊎ IsNameIn b (initialised.at l 0) x → c.env x ≡ again_env.env x
+        at_name : (x : Name) → IsOneOf x own.contract.params ⊎ IsNameIn b (initialised.at l 0) x → c.env x ≡ again_env.env x
         at_name x (inl one) = c.keeps x (params_outside x one) ∙ sym (head_keeps x (params_outside x one))
         at_name x (inr (y, inside, e)) = c.matches y x inside e ∙ sym (head_matches y x inside e)
 
@@ -444,34 +510,222 @@ module _ (Δ : Declarations) (bodies : List Body) (sound : AreSound bodies) (fn 
             subst (λ (u : T). Quiet EndsFine (truth_of u >>= λ d. Yields (Stays (starting f ls (cond d l r))))) (sym is)
             (of_truth ls c fitted agrees (subst (λ (u : T). Shows u value) is shows))
 
-    return_comes : GoalsHold S st.env (goals_at_return b w.contract) → Matches b end_set st.store st.env → end_set 0 ≡ true → Quiet EndsFine (frame_end bodies f Return)
-    return_comes hold m inside =
-        quiet_then (λ t. Shows t (st.store 0)) EndsFine (local_tree f.locals 0) (λ t. Yields (Answers t)) (local-shows f.locals st.store 0 st.agrees)
-        (λ t shows. record { store = st.store; env = st.env; matches = λ n e. m 0 n inside e; shows = shows; keeps = st.keeps; hold = hold })
+    answer : (ty : Ty) × (slice_get b.locals 0 ≡ Some ty)
+    answer = get_first b.locals 0 (omega (arith, typed.answers))
+
+    posts_hold : (ts : List Term) (v : Value) → Each (λ (t : Term). (x : Name) → free x t ≡ true → (x.0 ≡ own.contract.answer.0 → ⊥) → IsOneOf x own.contract.params) ts → st.env (name_of b 0) ≡ v →
+        Each (λ t. Holds S t st.env) (map (at_answer b own.contract) ts) → Each (λ t. Holds S t (with_value ρ₀ own.contract.answer v)) ts
+    posts_hold [] v over e h = tt
+    posts_hold (t ∷ ts) v over e h =
+        let at_env : Env = with_value st.env own.contract.answer (st.env (name_of b 0)) in
+        let there : Holds S t at_env = (yes_alike _ _ (replaced_means S own.contract.answer (var (name_of b 0)) t st.env (st.env (name_of b 0)) (alike_same _))).0 h.0 in
+        ((yes_alike _ _ (coincide_free S t at_env (with_value ρ₀ own.contract.answer v) (λ x f. at_name x f (decide x.0 own.contract.answer.0)))).0 there, posts_hold ts v over.1 e h.1)
+      where
+        at_name : (x : Name) → free x t ≡ true → (x.0 ≡ own.contract.answer.0) ⊎ (x.0 ≡ own.contract.answer.0 → ⊥) → with_value st.env own.contract.answer (st.env (name_of b 0)) x ≡ with_value ρ₀ own.contract.answer v x
+        at_name x f (inl q) =
+            let is : x ≡ own.contract.answer = same_name x own.contract.answer q in
+            ap (λ y. with_value st.env own.contract.answer (st.env (name_of b 0)) y) is ∙ with_same st.env own.contract.answer (st.env (name_of b 0)) ∙ e ∙ sym (with_same ρ₀ own.contract.answer v) ∙ sym (ap (λ y. with_value ρ₀ own.contract.answer v y) is)
+        at_name x f (inr d) =
+            with_other st.env own.contract.answer x (st.env (name_of b 0)) d ∙ st.keeps x (params_outside x (over.0 x f d)) ∙ sym (with_other ρ₀ own.contract.answer x v d)
+
+    return_comes : GoalsHold S st.env (goals_at_return b own.contract) → Fits b no_tys end_set f.locals → Matches b end_set st.store st.env → end_set 0 ≡ true → Quiet EndsFine (frame_end bodies f Return)
+    return_comes hold fitting m initialised_0 =
+        quiet_then (λ t. Shape (instance no_tys answer.0) t × Shows t (st.store 0)) EndsFine (local_tree f.locals 0) (λ t. Yields (Answers t))
+        (quiet_both (Shape (instance no_tys answer.0)) (λ t. Shows t (st.store 0)) (local_tree f.locals 0) (local_goes b no_tys end_set f.locals 0 answer.0 fitting answer.1 initialised_0) (local-shows f.locals st.store 0 st.agrees))
+        (λ t h.
+        let plain : IsPlain t = shaped_plain answer.0 t (simple.scalars 0 answer.0 answer.1) h.0 in
+        let name = local_named bodies b typed 0 answer.0 answer.1 in
+        record {
+          body = b;
+          is_body = is_body;
+          shape = subst (λ ty. Shape (instance no_tys ty) t) (sym (first_ty b.locals answer.0 answer.1)) h.0;
+          plain = plain;
+          posts = posts_hold own.contract.post (value_of t) own.speaks.over (ap st.env (named_as b 0 name.0 name.1) ∙ m 0 name.0 initialised_0 name.1 ∙ plain_one t (st.store 0) plain h.1)
+              (each_holds S Ensures (map (at_answer b own.contract) own.contract.post) (drop (length own.contract.pre) own.contract.spans) st.env (subst (λ n. n ≤ length (drop (length own.contract.pre) own.contract.spans)) (sym (length_map (at_answer b own.contract) own.contract.post)) own.speaks.spans) hold);
+        })
+
+    -- the ways on from the block, with any values in what the loops around write
+    abbrev Ways : List Label → Type 0
+    Ways heads = (τ : Store) → ((h : Label) (x : ℕ) → among h st.block.nest ≡ true → loop_writes b h x ≡ false → τ x ≡ st.store x) → (k : Label) → among k (targets st.block.end.kind) ≡ true → Comes_to τ heads k
+
+    module _ {heads : List Label} {gs : List Goal} {paths : ℕ} (p : Place) (n : ℕ) (os : List Operand) (l : Label) (d : Contract) (t : Ty) (at : Span) (kind : st.block.end.kind ≡ Call p (Function (OfBody n)) os l) (is_d : slice_get program.contracts n ≡ Some d) (is_t : slice_get b.locals p.local ≡ Some t)
+        (arrives : Arrives w heads l gs paths) (hold : GoalsHold S st.env (goals_of_call b d at os ++ seen_before (call_commands b d p.local t os) gs)) (m : Matches b end_set st.store st.env) (c : Body) (u : Ty) (is_c : slice_get bodies n ≡ Some c)
+        (have : OperandsHave b os (take c.params (drop 1 c.locals))) (first_local : slice_get c.locals 0 ≡ Some u) (place : PlaceHas b p u) (can : CanTakeAll end_set os) (within : Within (initialised.at l 0) (with p.local (all_taken os end_set))) (way : Ways heads)
+        (ls args : List T) (fitted : Fits b no_tys (all_taken os end_set) ls) (shaped : (length args ≡ length (take c.params (drop 1 c.locals))) × AreShaped no_tys args (take c.params (drop 1 c.locals))) (agrees : Agrees ls st.store) (shows : AllShow st.store args os) where
+      abbrev callee : IsFunction program sound n c is_c
+      callee = functions n c is_c
+
+      abbrev operand_terms : List Term
+      operand_terms = map (operand_term b) os
+
+      abbrev argument_values : List Value
+      argument_values = map value_of args
+
+      -- the environment in which the callee is called
+      abbrev called_in : Env
+      called_in = named d.params (values_of args)
+
+      -- the frame without what the call has taken
+      abbrev waiting : Frame (Unit {0})
+      waiting = record f { locals = ls }
+
+      speaks : SpeaksOf c d
+      speaks = subst (SpeaksOf c) (some_same (sym callee.is_contract ∙ is_d)) callee.speaks
+
+      args_plain : AllPlain args
+      args_plain = shaped_all args (take c.params (drop 1 c.locals)) shaped.0 shaped.1 (λ i ty e. callee.simple.scalars (suc i) ty (get_behind c.locals i ty (get_taken (drop 1 c.locals) c.params i ty e)))
+
+      exactly : AreExactly S operand_terms argument_values st.env
+      exactly = all_exactly Δ bodies b typed simple.names end_set st.store st.env args os (take c.params (drop 1 c.locals)) have can m shows args_plain
+
+      count : length d.params ≡ length args
+      count = speaks.count ∙ sym (params_length c ((sound n c is_c).0.answers)) ∙ sym shaped.0
+
+      pre_hold : (ts : List Term) → Each (λ (q : Term). (x : Name) → free x q ≡ true → IsOneOf x d.params) ts → Each (λ q. Holds S q st.env) (map (at_arguments b d os) ts) → Each (λ q. Holds S q called_in) ts
+      pre_hold [] over h = tt
+      pre_hold (q ∷ ts) over h =
+          let there : Holds S q (overlay d.params argument_values st.env) = (yes_alike _ _ (with_terms_mean S d.params operand_terms argument_values st.env q exactly)).0 h.0 in (
+            (yes_alike _ _ (coincide_free S q (overlay d.params argument_values st.env) called_in (λ x e. let one = over.0 x e in overlay_named d.params args st.env one.0 x one.1 (omega (arith, slice_get_within d.params one.0 x one.1, count))))).0 there,
+            pre_hold ts over.1 h.1,
+          )
+
+      entering : Entered Δ program (entered c n no_tys args)
+      entering = record {
+        function = n;
+        body = c;
+        contract = d;
+        is_body = is_c;
+        is_contract = is_d;
+        args = args;
+        is_frame = refl;
+        shaped = shaped;
+        pre = pre_hold d.pre speaks.before (all_hold S Requires at (map (at_arguments b d os) d.pre) st.env (goals_first S st.env (goals_of_call b d at os) (seen_before (call_commands b d p.local t os) gs) hold));
+      }
+
+      module _ (t' : T) (a : IsAnswer Δ bodies n d called_in t') where
+        abbrev v : Value
+        v = value_of t'
+
+        abbrev with_new : Env
+        with_new = with_value st.env value_name v
+
+        abbrev with_place : Env
+        with_place = with_value with_new (name_of b p.local) v
+
+        abbrev with_answer : Store
+        with_answer = stored p.local v st.store
+
+        new_exactly : Exactly (Means S (var value_name) with_new) v
+        new_exactly = subst (λ x. Exactly (Means S (var value_name) with_new) x) (with_same st.env value_name v) (alike_same _)
+
+        all_new : AreExactly S (var value_name ∷ operand_terms) (v ∷ argument_values) with_new
+        all_new = (new_exactly, all_exactly Δ bodies b typed simple.names end_set st.store with_new args os (take c.params (drop 1 c.locals)) have can (matches_new Δ bodies b typed simple.names end_set st.store st.env v m) shows args_plain)
+
+        posts_there : (ts : List Term) → Each (λ (q : Term). (x : Name) → free x q ≡ true → (x.0 ≡ d.answer.0 → ⊥) → IsOneOf x d.params) ts → Each (λ q. Holds S q (with_value called_in d.answer v)) ts → Each (λ q. Holds S q with_new) (map (at_arguments_and_answer b d os) ts)
+        posts_there [] over h = tt
+        posts_there (q ∷ ts) over h =
+            let before : Holds S q (overlay (d.answer ∷ d.params) (v ∷ argument_values) with_new) = (yes_alike _ _ (coincide_free S q (with_value called_in d.answer v) (overlay (d.answer ∷ d.params) (v ∷ argument_values) with_new) (λ x e. at_name x e (decide x.0 d.answer.0)))).0 h.0 in
+            ((yes_alike _ _ (with_terms_mean S (d.answer ∷ d.params) (var value_name ∷ operand_terms) (v ∷ argument_values) with_new q all_new)).1 before, posts_there ts over.1 h.1)
+          where
+            at_name : (x : Name) → free x q ≡ true → (x.0 ≡ d.answer.0) ⊎ (x.0 ≡ d.answer.0 → ⊥) → with_value called_in d.answer v x ≡ with_value (overlay d.params argument_values with_new) d.answer v x
+            at_name x e (inl r) =
+                let is : x ≡ d.answer = same_name x d.answer r in
+                ap (λ y. with_value called_in d.answer v y) is ∙ with_same called_in d.answer v ∙ sym (with_same (overlay d.params argument_values with_new) d.answer v) ∙ sym (ap (λ y. with_value (overlay d.params argument_values with_new) d.answer v y) is)
+            at_name x e (inr r) =
+                let one = over.0 x e r in
+                with_other called_in d.answer x v r ∙ sym (overlay_named d.params args with_new one.0 x one.1 (omega (arith, slice_get_within d.params one.0 x one.1, count))) ∙ sym (with_other (overlay d.params argument_values with_new) d.answer x v r)
+
+        shape : Shape (instance no_tys u) t'
+        shape = subst (λ ty. Shape ty t') (ap (instance no_tys) (first_ty c.locals u first_local)) (subst (λ (x : Body). Shape (answer_ty x no_tys) t') (some_same (sym a.is_body ∙ is_c)) a.shape)
+
+        sort : HasSort Δ v (instance no_tys t)
+        sort = subst (λ ty. HasSort Δ v (instance no_tys ty)) (some_same (sym place.1 ∙ is_t)) (shaped_sort Δ u t' (simple.scalars p.local u place.1) shape)
+
+        moves : MovesAll S (call_commands b d p.local t os) st.env with_place
+        moves = more (by_fresh v sort) (then_moves S (assumed_move S (map (at_arguments_and_answer b d os) d.post) with_new (posts_there d.post speaks.over a.posts)) (more (by_set v new_exactly) none))
+
+        place_name : (n' : Name) × (slice_get b.names p.local ≡ Some n')
+        place_name = local_named bodies b typed p.local u place.1
+
+        still_matches : Matches b (all_taken os end_set) st.store st.env
+        still_matches x n' initialised_x e = m x n' (all_taken_before os end_set x initialised_x) e
+
+        unwritten : (h : Label) (x : ℕ) → among h st.block.nest ≡ true → loop_writes b h x ≡ false → with_answer x ≡ st.store x
+        unwritten h x inside_h not_there = by_test (p.local == x) refl
+          where
+            by_test : (c : Bool) → (p.local == x) ≡ c → with_answer x ≡ st.store x
+            by_test true e = absurd (true≢false (sym (loop_writes_end b h f.label st.block x st.is_block inside_h (ap (end_writes x) kind ∙ e)) ∙ not_there))
+            by_test false e = not_written Δ b bodies typed simple.names st.store p.local x v e
+
+        after : (ls' : List T) → Fits b no_tys (with p.local (all_taken os end_set)) ls' → Agrees ls' with_answer → Standing (starting waiting ls' l)
+        after ls' fits' agrees' =
+            arrived arrives waiting ls' st.function st.types
+            (record {
+              fitting = fits_within b no_tys (initialised.at l 0) (with p.local (all_taken os end_set)) ls' within fits';
+              store = with_answer;
+              agrees = agrees';
+              env = with_place;
+              matches = matches_within (initialised.at l 0) (with p.local (all_taken os end_set)) with_answer with_place within
+                  (put_matches Δ b bodies typed simple.names (all_taken os end_set) st.store st.env with_place p.local u v place.1 still_matches (with_same with_new (name_of b p.local) v)
+                  (λ n' not_place not_new. with_other with_new (name_of b p.local) n' v not_place ∙ with_other st.env value_name n' v not_new));
+              keeps = λ n' out. with_other with_new (name_of b p.local) n' v (λ q. out.0 p.local place_name.0 place_name.1 (q ∙ ap (λ (z : Name). z.0) (named_as b p.local place_name.0 place_name.1)))
+                  ∙ with_other st.env value_name n' v out.1 ∙ st.keeps n' out;
+            })
+            (way with_answer unwritten l (subst (λ x. among l (targets x) ≡ true) (sym kind) (among_first l [])))
+            (goals_moved S gs moves (goals_rest S st.env (goals_of_call b d at os) (seen_before (call_commands b d p.local t os) gs) hold))
+
+        resumes : Quiet Standing (resumed bodies t' waiting)
+        resumes =
+            let found : frame_block bodies waiting ≡ Some st.block = ap (option_and_then (λ x. block_in x.blocks f.label)) (subst (λ k. slice_get bodies k ≡ Some b) (sym st.function) is_body) ∙ st.is_block in
+            subst (λ (o : Option Block). Quiet Standing (need o >>= λ k. resumed_at t' waiting k.end.kind)) (sym found)
+            (subst (λ k. Quiet Standing (resumed_at t' waiting k)) (sym kind)
+            (quiet_then (λ ls'. Fits b no_tys (with p.local (all_taken os end_set)) ls' × Agrees ls' with_answer) Standing (put_local ls p.local t') (λ ls'. Yields (starting waiting ls' l))
+            (quiet_both (Fits b no_tys (with p.local (all_taken os end_set))) (λ ls'. Agrees ls' with_answer) (put_local ls p.local t')
+            (put_goes b no_tys (all_taken os end_set) ls p.local u t' place.1 shape fitted)
+            (quiet_need (λ (ls' : List T). Agrees ls' with_answer) (slice_get ls p.local) (λ x. Yields (slice_set ls p.local t')) (λ x e. agrees_set ls st.store p.local t' v agrees (plain_shows t' a.plain))))
+            (λ ls' h. after ls' h.0 h.1)))
+
+      called_fine : EndsFine (Calls waiting (entered c n no_tys args))
+      unfolding entering
+      called_fine = (entering, st.function, λ t' a. resumes t' a)
+
+    call_comes : {heads : List Label} {gs : List Goal} {paths : ℕ} (p : Place) (n : ℕ) (os : List Operand) (l : Label) (d : Contract) (t : Ty) (at : Span) → st.block.end.kind ≡ Call p (Function (OfBody n)) os l → slice_get program.contracts n ≡ Some d → slice_get b.locals p.local ≡ Some t →
+        Arrives w heads l gs paths → GoalsHold S st.env (goals_of_call b d at os ++ seen_before (call_commands b d p.local t os) gs) → Fits b no_tys end_set f.locals → Matches b end_set st.store st.env → (c : Body) (u : Ty) → slice_get bodies n ≡ Some c →
+        OperandsHave b os (take c.params (drop 1 c.locals)) → slice_get c.locals 0 ≡ Some u → PlaceHas b p u → CanTakeAll end_set os → Within (initialised.at l 0) (with p.local (all_taken os end_set)) → Ways heads → Quiet EndsFine (frame_end bodies f (Call p (Function (OfBody n)) os l))
+    call_comes p n os l d t at kind is_d is_t arrives hold fitting m c u is_c have first_local place can within way =
+        quiet_then (λ (a : List T × List T). AreArguments b no_tys (all_taken os end_set) (take c.params (drop 1 c.locals)) a × (Agrees a.0 st.store × AllShow st.store a.1 os)) EndsFine (take_operands f.locals os) (λ a. callee_frame bodies (Function (OfBody n)) a.1 >>= λ g. Yields (Calls (record f { locals = a.0 }) g))
+        (quiet_both (AreArguments b no_tys (all_taken os end_set) (take c.params (drop 1 c.locals))) (λ (a : List T × List T). Agrees a.0 st.store × AllShow st.store a.1 os) (take_operands f.locals os)
+        (operands_go b no_tys end_set f.locals os (take c.params (drop 1 c.locals)) fitting have can)
+        (operands_show f.locals st.store os st.agrees))
+        (λ a h. subst (λ (o : Option Body). Quiet EndsFine ((need o >>= λ x. Yields (entered x n no_tys a.1)) >>= λ g. Yields (Calls (record f { locals = a.0 }) g))) (sym is_c)
+        (called_fine p n os l d t at kind is_d is_t arrives hold m c u is_c have first_local place can within way a.0 a.1 h.0.0 h.0.1 h.1.0 h.1.1))
 
     -- the end of a block, where its statements are done
     end_comes : {heads : List Label} {xs : List Statement} {end : Terminator} {gs : List Goal} {n : ℕ} → Walks w heads xs end gs n → xs ≡ [] → end ≡ st.block.end → GoalsHold S st.env gs →
-        Fits b no_tys end_set f.locals → Matches b end_set st.store st.env → ((k : Label) → among k (targets st.block.end.kind) ≡ true → Comes_to st.store heads k) → Quiet EndsFine (frame_end bodies f end.kind)
+        Fits b no_tys end_set f.locals → Matches b end_set st.store st.env → Ways heads → Quiet EndsFine (frame_end bodies f end.kind)
     end_comes (statement rest) e is hold fitting m way = absurd (cc)
     end_comes {end = end} (goto l q arrives) e is hold fitting m way =
         let kind : st.block.end.kind ≡ Goto l = ap (λ (x : Terminator). x.kind) (sym is) ∙ q in
         let carries : Within (initialised.at l 0) end_set = subst (Carries (λ l'. initialised.at l' 0) end_set) kind (initialised.edges f.label st.block st.is_block) in
-        subst (λ k. Quiet EndsFine (frame_end bodies f k)) (sym q) (goto_comes l arrives hold fitting m carries (way l (subst (λ x. among l (targets x) ≡ true) (sym kind) (among_first l []))))
+        subst (λ k. Quiet EndsFine (frame_end bodies f k)) (sym q) (goto_comes l arrives hold fitting m carries (way st.store (λ h x i u. refl) l (subst (λ x. among l (targets x) ≡ true) (sym kind) (among_first l []))))
     end_comes {end = end} (branch o l r q to_l to_r) e is hold fitting m way =
         let kind : st.block.end.kind ≡ If o l r = ap (λ (x : Terminator). x.kind) (sym is) ∙ q in
         let carries = subst (Carries (λ l'. initialised.at l' 0) end_set) kind (initialised.edges f.label st.block st.is_block) in
         let has = subst (EndIsTyped bodies b) kind (typed.ends f.label st.block st.is_block) in
         let can = subst (CanEnd end_set) kind (initialised.ends f.label st.block st.is_block) in
         subst (λ k. Quiet EndsFine (frame_end bodies f k)) (sym q) (branch_comes o l r to_l to_r hold fitting m has.0 can carries.0 carries.1
-        (way l (subst (λ x. among l (targets x) ≡ true) (sym kind) (among_first l (r ∷ []))))
-        (way r (subst (λ x. among r (targets x) ≡ true) (sym kind) (among_second l r))))
-    end_comes {end = end} (call p g args l d t q fd ft arrives) e is hold fitting m way =
-        let kind = ap (λ (x : Terminator). x.kind) (sym is) ∙ q in
-        absurd (subst IsLocal kind (simple.no_calls f.label st.block st.is_block))
+        (way st.store (λ h x i u. refl) l (subst (λ x. among l (targets x) ≡ true) (sym kind) (among_first l (r ∷ []))))
+        (way st.store (λ h x i u. refl) r (subst (λ x. among r (targets x) ≡ true) (sym kind) (among_second l r))))
+    end_comes {end = end} (call p g args l d t q is_d is_t arrives) e is hold fitting m way =
+        let kind : st.block.end.kind ≡ Call p (Function (OfBody g)) args l = ap (λ (x : Terminator). x.kind) (sym is) ∙ q in
+        let has = subst (EndIsTyped bodies b) kind (typed.ends f.label st.block st.is_block) in
+        let can = subst (CanEnd end_set) kind (initialised.ends f.label st.block st.is_block) in
+        let carries = subst (Carries (λ l'. initialised.at l' 0) end_set) kind (initialised.edges f.label st.block st.is_block) in
+        subst (λ k. Quiet EndsFine (frame_end bodies f k)) (sym q) (call_comes p g args l d t end.span kind is_d is_t arrives hold fitting m has.0.0 has.0.1 has.0.2 has.0.3 has.0.4 has.0.5 can carries way)
     end_comes {end = end} (return q) e is hold fitting m way =
         let kind : st.block.end.kind ≡ Return = ap (λ (x : Terminator). x.kind) (sym is) ∙ q in
         let can : end_set 0 ≡ true = subst (CanEnd end_set) kind (initialised.ends f.label st.block st.is_block) in
-        subst (λ k. Quiet EndsFine (frame_end bodies f k)) (sym q) (return_comes hold m can)
+        subst (λ k. Quiet EndsFine (frame_end bodies f k)) (sym q) (return_comes hold fitting m can)
 
     -- ---- rows
 
@@ -520,53 +774,15 @@ module _ (Δ : Declarations) (bodies : List Body) (sound : AreSound bodies) (fn 
         end_comes st.walks (drop_none st.block.statements f.statement e) refl st.hold
         (subst (λ i. Fits b no_tys (initialised.at f.label i) f.locals) here st.fitting)
         (subst (λ i. Matches b (initialised.at f.label i) st.store st.env) here st.matches)
-        (λ k a. reached Δ w initialised ρ₀ st.store st.heads f.label k st.block st.nested st.enclosing st.behind (simple.laid_out.edges f.label k st.block st.is_block a))
+        (λ τ same k a. reached Δ w initialised ρ₀ τ st.heads f.label k st.block (memories_kept Δ w initialised ρ₀ st.nested same) st.enclosing st.behind (simple.laid_out.edges f.label k st.block st.is_block a))
 
     row_comes : (o : Option Statement) → slice_get st.block.statements f.statement ≡ o → Quiet EndsFine (frame_row bodies b f st.block.end o)
     row_comes (Some s) e = at_statement s e
     row_comes None e = at_end e
 
-    frame_comes : Quiet EndsFine (frame_step bodies f)
+    pub frame_comes : Quiet EndsFine (frame_step bodies f)
     frame_comes =
         let found : slice_get bodies f.function ≡ Some b = subst (λ n. slice_get bodies n ≡ Some b) (sym st.function) is_body in
         subst (λ (o : Option Body). Quiet EndsFine (need o >>= λ c. need (block_in c.blocks f.label) >>= λ d. frame_row bodies c f d.end (slice_get d.statements f.statement))) (sym found)
         (subst (λ (o : Option Block). Quiet EndsFine (need o >>= λ d. frame_row bodies b f d.end (slice_get d.statements f.statement))) (sym st.is_block)
         (row_comes (slice_get st.block.statements f.statement) refl))
-
-  -- ---- runs
-
-  abbrev pub StateFine : State (Unit {0}) → Type 0
-  StateFine [] = ⊥
-  StateFine (f ∷ fs) = Standing f × (fs ≡ out ∷ [])
-
-  abbrev pub OutcomeFine : Outcome (Unit {0}) → Type 0
-  OutcomeFine (Running s) = StateFine s
-  OutcomeFine (Returned s t) = (s ≡ out ∷ []) × Answering t
-  OutcomeFine (Panicked cause span) = ⊥
-  OutcomeFine Stuck = Unit {0}
-
-  settled_fine : (e : FrameEnd (Unit {0})) → EndsFine e → Quiet OutcomeFine (settled bodies (out ∷ []) e)
-  settled_fine (Stays f) st = (st, refl)
-  settled_fine (Calls f g) h = absurd h
-  settled_fine (Answers t) a = (refl, a)
-
-  of_try : (m : Try (Outcome (Unit {0}))) → Quiet OutcomeFine m → OutcomeFine (outcome_of m)
-  of_try (Yields o) h = h
-  of_try (Panics cause span) h = absurd h
-  of_try Sticks h = tt
-
-  step_fine : (s : State (Unit {0})) → StateFine s → OutcomeFine (step bodies s)
-  step_fine [] h = absurd h
-  step_fine (f ∷ fs) h =
-      let moved : Quiet OutcomeFine (frame_step bodies f >>= settled bodies (out ∷ [])) = quiet_then EndsFine OutcomeFine (frame_step bodies f) (settled bodies (out ∷ [])) (frame_comes f h.0) settled_fine in
-      of_try (try_step bodies (f ∷ fs)) (subst (λ m. Quiet OutcomeFine m) (sym (try_step-whole bodies f fs (sound_wholes bodies sound))) (subst (λ gs. Quiet OutcomeFine (frame_step bodies f >>= settled bodies gs)) (sym h.1) moved))
-
-  next_fine : (o : Outcome (Unit {0})) → OutcomeFine o → OutcomeFine (next bodies o)
-  next_fine (Running s) h = step_fine s h
-  next_fine (Returned s t) h = h
-  next_fine (Panicked cause span) h = h
-  next_fine Stuck h = h
-
-  pub run_fine : (n : ℕ) (o : Outcome (Unit {0})) → OutcomeFine o → OutcomeFine (after_from bodies n o)
-  run_fine zero o h = h
-  run_fine (suc n) o h = next_fine (after_from bodies n o) (run_fine n o h)

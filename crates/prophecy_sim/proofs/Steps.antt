@@ -7,7 +7,6 @@ use Rattle.logic_term.specs.Meaning.{Structure, Env}
 use Rattle.logic_term.specs.Sort.{Declarations}
 use Rattle.logic_term.specs.Ty.{Ty, no_tys}
 use Rattle.logic_term.specs.Value.{Value}
-use Rattle.mir_ir.specs.declared.place.Place.{Place}
 use Rattle.mir_ir.specs.declared.place.Operand.{Operand}
 use Rattle.mir_ir.specs.declared.place.Operand.TheVariants.{Copy, Move, Const}
 use Rattle.mir_ir.specs.declared.statement.Rvalue.{Rvalue}
@@ -15,7 +14,7 @@ use Rattle.mir_ir.specs.declared.statement.Rvalue.TheVariants.{Use, Binary, Neg,
 use Rattle.mir_ir.specs.declared.statement.StatementKind.{StatementKind}
 use Rattle.mir_ir.specs.declared.statement.StatementKind.TheVariants.{Assign, Dead}
 use Rattle.mir_ir.specs.declared.body.Body.{Body}
-use Rattle.mir_ir.specs.WellFormed.{PlaceHas, StatementIsTyped, IsTyped, Locals, without, taken, evaluated, CanRun, run}
+use Rattle.mir_ir.specs.WellFormed.{with, StatementIsTyped, IsTyped, Locals, without, taken, evaluated, CanRun, run}
 use Rattle.mir_machine.specs.Try.{Try, Yields, Panics, Sticks}
 use Rattle.mir_machine.specs.FrameStep.{run_local}
 use Rattle.mir_machine.proofs.NeverStuck.{Fits, run_goes}
@@ -25,9 +24,9 @@ use Rattle.wp_gen.specs.Command.{MovesAll, none}
 use Rattle.wp_gen.specs.Row.{value_name, name_of, goals_of, commands_of}
 use Rattle.wp_gen.specs.Walk.{writes}
 use Rattle.wp_gen.proofs.Commands.{GoalsHold}
-use Rattle.prophecy_sim.specs.CallFree.{AreNamesOfLocals}
+use Rattle.prophecy_sim.specs.Programs.{AreNamesOfLocals}
 use Rattle.prophecy_sim.proofs.Values.{T, Matches, local_named, named_as}
-use Rattle.prophecy_sim.proofs.Assigns.{Assigned, assigned}
+use Rattle.prophecy_sim.proofs.Assigns.{assigned}
 
 pub quiet_both : {A : Type 0} (P Q : A → Type 0) (m : Try A) → Goes P m → Quiet Q m → Quiet (λ a. P a × Q a) m
 quiet_both P Q (Yields a) g q = (g, q)
@@ -86,22 +85,27 @@ module _ (Δ : Declarations) (b : Body) where
     other_than : (t u : Value) (c : Bool) → c ≡ false → cond c t u ≡ u
     other_than t u c e = ap (λ d. cond d t u) e
 
-    assign_matches : (set : Locals) (σ : Store) (ρ : Env) (p : Place) (r : Rvalue) (ty : Ty) → PlaceHas b p ty → Matches b set σ ρ → (l : Assigned Δ bodies b typed named σ ρ p r) → Matches b (run (Assign p r) set) (stored p.local (rvalue_value σ r) σ) l.env
-    assign_matches set σ ρ p r ty has m l y n inside e = by_place (decide y p.local)
+    -- local x has the value v
+    pub put_matches : (set : Locals) (σ : Store) (ρ ρ' : Env) (x : ℕ) (ty : Ty) (v : Value) → slice_get b.locals x ≡ Some ty → Matches b set σ ρ → ρ' (name_of b x) ≡ v → ((n : Name) → (n.0 ≡ (name_of b x).0 → ⊥) → (n.0 ≡ value_name.0 → ⊥) → ρ' n ≡ ρ n) →
+        Matches b (with x set) (stored x v σ) ρ'
+    put_matches set σ ρ ρ' x ty v is_ty m here elsewhere y n inside e = by_place (decide y x)
       where
-        at_place : (n' : Name) × (slice_get b.names p.local ≡ Some n')
-        at_place = local_named bodies b typed p.local ty has.1
+        at_place : (n' : Name) × (slice_get b.names x ≡ Some n')
+        at_place = local_named bodies b typed x ty is_ty
 
-        by_place : (y ≡ p.local) ⊎ (y ≡ p.local → ⊥) → l.env n ≡ stored p.local (rvalue_value σ r) σ y
+        by_place : (y ≡ x) ⊎ (y ≡ x → ⊥) → ρ' n ≡ stored x v σ y
         by_place (inl q) =
-            let here : name_of b p.local ≡ n = named_as b p.local n (subst (λ x. slice_get b.names x ≡ Some n) q e) in
-            ap l.env (sym here) ∙ l.here ∙ sym (same_as (rvalue_value σ r) (σ y) (y == p.local) (eq-eqb y p.local q))
+            let is_n : name_of b x ≡ n = named_as b x n (subst (λ z. slice_get b.names z ≡ Some n) q e) in
+            ap ρ' (sym is_n) ∙ here ∙ sym (same_as v (σ y) (y == x) (eq-eqb y x q))
         by_place (inr d) =
-            let was : set y ≡ true = evaluated_before r set y (sym (ap (λ c. cond c true (evaluated r set y)) (ne_eqb y p.local d)) ∙ inside) in
-            let apart : n.0 ≡ (name_of b p.local).0 → ⊥ = λ q. d (named.apart y p.local n at_place.0 e at_place.1 (q ∙ ap (λ (z : Name). z.0) (named_as b p.local at_place.0 at_place.1))) in
-            l.elsewhere n apart (named.none_is_new y n e) ∙ m y n was e ∙ sym (other_than (rvalue_value σ r) (σ y) (y == p.local) (ne_eqb y p.local d))
+            let was : set y ≡ true = sym (ap (λ c. cond c true (set y)) (ne_eqb y x d)) ∙ inside in
+            let apart : n.0 ≡ (name_of b x).0 → ⊥ = λ q. d (named.apart y x n at_place.0 e at_place.1 (q ∙ ap (λ (z : Name). z.0) (named_as b x at_place.0 at_place.1))) in
+            elsewhere n apart (named.none_is_new y n e) ∙ m y n was e ∙ sym (other_than v (σ y) (y == x) (ne_eqb y x d))
 
-    not_written : (σ : Store) (y x : ℕ) (v : Value) → (y == x) ≡ false → stored y v σ x ≡ σ x
+    evaluated_matches : (r : Rvalue) (set : Locals) (σ : Store) (ρ : Env) → Matches b set σ ρ → Matches b (evaluated r set) σ ρ
+    evaluated_matches r set σ ρ m x n inside e = m x n (evaluated_before r set x inside) e
+
+    pub not_written : (σ : Store) (y x : ℕ) (v : Value) → (y == x) ≡ false → stored y v σ x ≡ σ x
     not_written σ y x v e = elim (decide x y) [
       | inl q ↦ absurd (true≢false (sym (eq-eqb y x (sym q)) ∙ e))
       | inr d ↦ other_than v (σ x) (x == y) (ne_eqb x y d)
@@ -130,7 +134,7 @@ module _ (Δ : Declarations) (b : Body) where
           store = σ';
           agrees = h.1;
           env = l.env;
-          matches = assign_matches set σ ρ p r ty has m l;
+          matches = put_matches (evaluated r set) σ ρ l.env p.local ty (rvalue_value σ r) has.1 (evaluated_matches r set σ ρ m) l.here l.elsewhere;
           moves = l.moves;
           elsewhere = λ n out. l.elsewhere n (λ q. out.0 p.local at_place.0 at_place.1 (q ∙ ap (λ (z : Name). z.0) (named_as b p.local at_place.0 at_place.1))) out.1;
           others = λ x e. not_written σ p.local x (rvalue_value σ r) e;

@@ -20,7 +20,7 @@ use Rattle.mir_machine.specs.Tree.{Tree}
 use Rattle.mir_machine.proofs.NeverStuck.{Shape, Fits}
 use Rattle.mir_machine.proofs.Shown.{Shows, Store, Agrees, operand_value}
 use Rattle.wp_gen.specs.Row.{value_name, or_value_name, name_of, operand_term}
-use Rattle.prophecy_sim.specs.CallFree.{AreNamesOfLocals}
+use Rattle.prophecy_sim.specs.Programs.{AreNamesOfLocals}
 
 -- a tree of the machine
 abbrev pub T : Type 0

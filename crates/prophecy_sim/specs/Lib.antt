@@ -1,1 +1,1 @@
-pub mod CallFree
+pub mod Programs

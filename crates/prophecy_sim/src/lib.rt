@@ -1,4 +1,4 @@
-//! Bodies whose obligations are true are good on the machine.
+//! Programs whose obligations are true are good on the machine.
 #![tactic(auto)]
 
 mod laws;

@@ -1,4 +1,4 @@
--- Bodies without calls, over integers and truth values, the contracts that are walked with them, and what true obligations are worth.
+-- Programs of functions over integers and truth values, and what true obligations are worth.
 use Rattle.std.specs.Prelude.{◌≡◌, ℕ, ◌≤◌, true, List, length, drop, Some, slice_get, ◌⊎◌, false}
 use Rattle.text_core.specs.declared.name.Name.{Name}
 use Rattle.logic_term.specs.declared.kinds.Label.{Label}
@@ -9,8 +9,6 @@ use Rattle.logic_term.specs.Meaning.{Env, Holds}
 use Rattle.logic_term.specs.Sort.{Declarations}
 use Rattle.logic_term.specs.Term.{Term}
 use Rattle.logic_term.specs.Ty.{Ty, Tys, int, bool}
-use Rattle.mir_ir.specs.declared.terminator.TerminatorKind.{TerminatorKind}
-use Rattle.mir_ir.specs.declared.terminator.TerminatorKind.TheVariants.{Call}
 use Rattle.mir_ir.specs.declared.body.Block.{Block}
 use Rattle.mir_ir.specs.declared.body.Body.{Body}
 use Rattle.mir_ir.specs.Body.{block_in}
@@ -26,11 +24,6 @@ abbrev pub IsScalar : Ty → Type 0
 IsScalar (int k) = Unit {0}
 IsScalar bool = Unit {0}
 IsScalar _ = ⊥
-
--- no call
-abbrev pub IsLocal : TerminatorKind → Type 0
-IsLocal (Call p callee args l) = ⊥
-IsLocal _ = Unit {0}
 
 -- no two locals have one name, and none has that of new values
 pub record AreNamesOfLocals (b : Body) : Type 0 where
@@ -48,6 +41,7 @@ pub record SpeaksOf (b : Body) (c : Contract) : Type 0 where
   pub apart : (i j : ℕ) (x y : Name) → slice_get c.params i ≡ Some x → slice_get c.params j ≡ Some y → x.0 ≡ y.0 → i ≡ j
   pub no_local : (i x : ℕ) (n m : Name) → slice_get c.params i ≡ Some n → slice_get b.names x ≡ Some m → n.0 ≡ m.0 → ⊥
   pub none_is_new : (i : ℕ) (n : Name) → slice_get c.params i ≡ Some n → n.0 ≡ value_name.0 → ⊥
+  pub before : Each (λ (t : Term). (x : Name) → free x t ≡ true → IsOneOf x c.params) c.pre
   pub over : Each (λ (t : Term). (x : Name) → free x t ≡ true → (x.0 ≡ c.answer.0 → ⊥) → IsOneOf x c.params) c.post
   pub spans : length c.post ≤ length (drop (length c.pre) c.spans)
 
@@ -55,12 +49,11 @@ pub record SpeaksOf (b : Body) (c : Contract) : Type 0 where
 abbrev pub IsTrueGoal : Declarations → Obligation → Type 0
 IsTrueGoal Δ o = (θ : Tys) (ρ : Env) → Holds (record { declared = Δ; types = θ }) o.goal ρ
 
--- every local is an integer or a truth value, loops are entered at their heads, and no block ends with a call
-pub record IsCallFree (b : Body) : Type 0 where
+-- every local is an integer or a truth value, and loops are entered at their heads
+pub record IsSimple (b : Body) : Type 0 where
   pub names : AreNamesOfLocals b
   pub scalars : (x : ℕ) (ty : Ty) → slice_get b.locals x ≡ Some ty → IsScalar ty
   pub laid_out : IsLaidOut b
-  pub no_calls : (l : Label) (k : Block) → block_in b.blocks l ≡ Some k → IsLocal k.end.kind
 
 -- the name of a local of the set
 abbrev pub IsNameIn : Body → Locals → Name → Type 0
@@ -72,7 +65,38 @@ pub record HeadsSpeakOf (b : Body) (c : Contract) (gone : Initialised) (i : IsIn
   pub spans : (l : Label) (k : Block) (h : Head) → block_in b.blocks l ≡ Some k → k.head ≡ Some h → length h.invariants ≤ length h.spans
   pub there : (l : Label) (x : ℕ) → i.at l 0 x ≡ true → is_gone gone l x ≡ false
 
--- what the obligations of a walk are worth, whatever the declared types are
+-- ---- programs
+
+-- bodies with a contract for each, and what may be gone where in each
+pub record Program : Type 0 where
+  pub bodies : List Body
+  pub contracts : List Contract
+  pub gone : ℕ → Initialised
+
+-- what the walk of function n looks up
+abbrev pub setting : Program → ℕ → Body → Contract → Setting
+setting p n b c = record { body = b; contracts = p.contracts; contract = c; init = p.gone n }
+
+pub record IsFunction (p : Program) (sound : AreSound p.bodies) (n : ℕ) (b : Body) (is_body : slice_get p.bodies n ≡ Some b) : Type 0 where
+  pub contract : Contract
+  pub is_contract : slice_get p.contracts n ≡ Some contract
+  pub simple : IsSimple b
+  pub speaks : SpeaksOf b contract
+  pub heads : HeadsSpeakOf b contract (p.gone n) (sound n b is_body).1
+
+abbrev pub AreFunctions : (p : Program) → AreSound p.bodies → Type 0
+AreFunctions p sound = (n : ℕ) (b : Body) (is_body : slice_get p.bodies n ≡ Some b) → IsFunction p sound n b is_body
+
+-- the obligations of the body with the contract are true
+pub record HasTrueObligations (Δ : Declarations) (w : Setting) : Type 0 where
+  pub first : ℕ
+  pub obligations : List Obligation
+  pub paths : ℕ
+  pub are : AreObligations w first obligations paths
+  pub all_true : Each (IsTrueGoal Δ) obligations
+
+-- where all obligations of all functions are true, each function is good, whatever the declared types are
 abbrev pub TrueObligationsMakeGood : Type 0
-TrueObligationsMakeGood = (Δ : Declarations) (bodies : List Body) (f : ℕ) (w : Setting) (sound : AreSound bodies) (is_body : slice_get bodies f ≡ Some w.body) → IsCallFree w.body → SpeaksOf w.body w.contract
-    → HeadsSpeakOf w.body w.contract w.init (sound f w.body is_body).1 → (m : ℕ) (os : List Obligation) (paths : ℕ) → AreObligations w m os paths → Each (IsTrueGoal Δ) os → Good Δ bodies f w.contract
+TrueObligationsMakeGood = (Δ : Declarations) (p : Program) (sound : AreSound p.bodies) → AreFunctions p sound
+    → ((n : ℕ) (b : Body) (c : Contract) → slice_get p.bodies n ≡ Some b → slice_get p.contracts n ≡ Some c → HasTrueObligations Δ (setting p n b c))
+    → (f : ℕ) (c : Contract) → slice_get p.contracts f ≡ Some c → Good Δ p.bodies f c
