@@ -5,5 +5,6 @@ pub mod GoodBody
 pub mod Heads
 pub mod Memories
 pub mod Runs
+pub mod SampleLaws
 pub mod Steps
 pub mod Values
