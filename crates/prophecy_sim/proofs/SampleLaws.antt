@@ -1,0 +1,337 @@
+-- A program with a loop meets the conditions of the law, and its obligations are true.
+use Rattle.std.proofs.Common.{◌≡◌, ◌∙◌, inl, inr, refl, sym, ap, subst, ℕ, zero, suc, ◌+◌, ◌<◌, ◌≤◌, ◌==◌, ◌⊎◌, ◌||◌, ◌&&◌, Bool, true, false, cond, true≢false, List, Some, [], ◌∷◌, length, slice_get, arith}
+use Rattle.std.proofs.lemmas.Bool.{eqb-true}
+use Rattle.std.proofs.lemmas.Bool.Decides.{nat_tests}
+use Rattle.text_core.specs.declared.name.Name.{Name}
+use Rattle.logic_term.specs.declared.kinds.Label.{Label}
+use Rattle.logic_term.specs.Free.{free}
+use Rattle.logic_term.specs.Meaning.{Sure, Says, Yes}
+use Rattle.logic_term.specs.Sort.{Declarations}
+use Rattle.logic_term.specs.Term.{Term}
+use Rattle.logic_term.specs.Ty.{Ty, bool}
+use Rattle.logic_term.specs.Value.{Flag, flag_of}
+use Rattle.logic_term.proofs.FreeLaw.{same_name}
+use Rattle.mir_ir.specs.declared.place.Operand.TheVariants.{Copy}
+use Rattle.mir_ir.specs.declared.statement.Statement.{Statement}
+use Rattle.mir_ir.specs.declared.body.Block.{Block}
+use Rattle.mir_ir.specs.declared.body.Body.{Body}
+use Rattle.mir_ir.specs.declared.body.Head.{Head}
+use Rattle.mir_ir.specs.Body.{block_in}
+use Rattle.mir_ir.specs.Layout.{among, targets, Leads, on, back}
+use Rattle.mir_ir.specs.WellFormed.{StatementIsTyped, EndIsTyped, IsTyped, Locals, with, CanRun, run, CanEnd, Carries, Within, parameters, IsInitialised, AreSound}
+use Rattle.mir_machine.specs.Good.{Each}
+use Rattle.wp_gen.specs.Row.{value_name}
+use Rattle.wp_gen.specs.Sample.{label, whole}
+use Rattle.wp_gen.specs.Walk.{is_gone, statement, goto, branch, return, plain, first, again}
+use Rattle.prophecy_sim.specs.Programs.{IsScalar, IsOneOf, IsNameIn, SpeaksOf, IsSimple, HeadsSpeakOf, AreFunctions, HasTrueObligations, setting}
+use Rattle.prophecy_sim.specs.Sample.{name, head, cleared, is_false, program, SampleIsSound, SampleIsTrue, SampleIsGood}
+use Rattle.prophecy_sim.proofs.GoodBody.{good}
+
+some_same : {A : Type 0} {a b : A} → Some a ≡ Some b → a ≡ b
+some_same e = cc
+
+same_label : (l m : Label) → (l.0 == m.0) ≡ true → l ≡ m
+same_label l m e = ap (λ n. let r : Label = record { 0 = n } in r) (eqb-true l.0 m.0 e)
+
+-- ---- a fact of each block, of each label and of each statement
+
+abbrev EachBlock : (Label → Block → Type 0) → List (Label × Block) → Type 0
+EachBlock P [] = Unit {0}
+EachBlock P (b ∷ bs) = P b.0 b.1 × EachBlock P bs
+
+block_found : (P : Label → Block → Type 0) (bs : List (Label × Block)) (l : Label) (k : Block) → EachBlock P bs → block_in bs l ≡ Some k → P l k
+block_found P [] l k h e = absurd (cc)
+block_found P (b ∷ bs) l k h e = by_test (block_found P bs l k h.1) (b.0.0 == l.0) refl e
+  where
+    by_test : (block_in bs l ≡ Some k → P l k) → (t : Bool) → (b.0.0 == l.0) ≡ t → cond t (Some b.1) (block_in bs l) ≡ Some k → P l k
+    by_test rest true same q = subst (P l) (some_same q) (subst (λ (m : Label). P m b.1) (same_label b.0 l same) h.0)
+    by_test rest false other q = rest q
+
+abbrev EachLabel : (Label → Type 0) → List Label → Type 0
+EachLabel P [] = Unit {0}
+EachLabel P (l ∷ ls) = P l × EachLabel P ls
+
+label_found : (P : Label → Type 0) (ls : List Label) (m : Label) → EachLabel P ls → among m ls ≡ true → P m
+label_found P [] m h e = absurd (true≢false (sym e))
+label_found P (l ∷ ls) m h e = by_test (label_found P ls m h.1) (l.0 == m.0) refl e
+  where
+    by_test : (among m ls ≡ true → P m) → (t : Bool) → (l.0 == m.0) ≡ t → (t || among m ls) ≡ true → P m
+    by_test rest true same q = subst P (same_label l m same) h.0
+    by_test rest false other q = rest q
+
+-- the statements from number i on
+abbrev EachStatement : (ℕ → Statement → Type 0) → ℕ → List Statement → Type 0
+EachStatement P i [] = Unit {0}
+EachStatement P i (st ∷ sts) = P i st × EachStatement P (i + 1) sts
+
+statement_found : (P : ℕ → Statement → Type 0) (i : ℕ) (sts : List Statement) (j : ℕ) (st : Statement) → EachStatement P i sts → slice_get sts j ≡ Some st → P (i + j) st
+statement_found P i [] j st h e = absurd (cc)
+statement_found P i (s ∷ sts) zero st h e = subst (P (i + 0)) (some_same e) (subst (λ n. P n s) (here i) h.0)
+  where
+    here : (i : ℕ) → i ≡ i + 0
+    here i = omega arith
+statement_found P i (s ∷ sts) (suc j) st h e = subst (λ n. P n st) (there i j) (statement_found P (i + 1) sts j st h.1 e)
+  where
+    there : (i j : ℕ) → (i + 1) + j ≡ i + suc j
+    there i j = omega arith
+
+-- ---- types and what is initialised
+
+-- both locals
+abbrev both : Locals
+both = with 0 (parameters cleared)
+
+abbrev sets : ℕ → ℕ → Locals
+sets zero zero = parameters cleared
+sets zero (suc i) = both
+sets (suc (suc zero)) (suc i) = with 0 both
+sets _ _ = both
+
+more : (set : Locals) → Within set (with 0 set)
+more set x inside = by_test (x == 0)
+  where
+    by_test : (t : Bool) → cond t true (set x) ≡ true
+    by_test true = refl
+    by_test false = inside
+
+abbrev IsSoundAt : Label → ℕ → Statement → Type 0
+IsSoundAt l i st = StatementIsTyped cleared st.kind × CanRun (sets l.0 i) st.kind × Within (sets l.0 (i + 1)) (run st.kind (sets l.0 i))
+
+record BlockIsSound (l : Label) (k : Block) : Type 0 where
+  statements : EachStatement (IsSoundAt l) 0 k.statements
+  typed : EndIsTyped program.bodies cleared k.end.kind
+  can_end : CanEnd (sets l.0 (length k.statements)) k.end.kind
+  carries : Carries (λ l'. sets l'.0 0) (sets l.0 (length k.statements)) k.end.kind
+
+blocks_sound : EachBlock BlockIsSound cleared.blocks
+blocks_sound = (
+  record { statements = (((bool, (refl, refl), (refl, refl)), refl, λ x h. h), tt); typed = (_, refl); can_end = tt; carries = λ x h. h },
+  (
+    record { statements = tt; typed = ((refl, refl), (_, refl), (_, refl)); can_end = refl; carries = (λ x h. h, λ x h. h) },
+    (
+      record { statements = (((bool, (refl, refl), refl), tt, λ x h. h), tt); typed = (_, refl); can_end = tt; carries = more both },
+      (record { statements = tt; typed = tt; can_end = refl; carries = tt }, tt),
+    ),
+  ),
+)
+
+sound_at : (l : Label) (k : Block) → block_in cleared.blocks l ≡ Some k → BlockIsSound l k
+sound_at l k is = block_found BlockIsSound cleared.blocks l k blocks_sound is
+
+statement_sound : (l : Label) (k : Block) (i : ℕ) (st : Statement) → block_in cleared.blocks l ≡ Some k → slice_get k.statements i ≡ Some st → IsSoundAt l i st
+statement_sound l k i st is at = subst (λ n. IsSoundAt l n st) (from_zero i) (statement_found (IsSoundAt l) 0 k.statements i st (sound_at l k is).statements at)
+  where
+    from_zero : (i : ℕ) → 0 + i ≡ i
+    from_zero i = omega arith
+
+typed : IsTyped program.bodies cleared
+typed = record {
+  named = refl;
+  answers = omega arith;
+  begins = (_, refl);
+  statements = λ l k i st is at. (statement_sound l k i st is at).0;
+  ends = λ l k is. (sound_at l k is).typed;
+}
+
+abbrev initialised : IsInitialised cleared
+initialised = record {
+  at = λ l i. sets l.0 i;
+  entry = λ x h. h;
+  statements = λ l k i st is at. ((statement_sound l k i st is at).1, (statement_sound l k i st is at).2);
+  ends = λ l k is. (sound_at l k is).can_end;
+  edges = λ l k is. (sound_at l k is).carries;
+}
+
+-- ---- names
+
+local_number : (x : ℕ) (n : Name) → slice_get cleared.names x ≡ Some n → (n.0 ≡ 100 + x) × (x < 2)
+local_number zero n e = (ap (λ (m : Name). m.0) (sym (some_same e)), omega arith)
+local_number (suc zero) n e = (ap (λ (m : Name). m.0) (sym (some_same e)), omega arith)
+local_number (suc (suc x)) n e = absurd (cc)
+
+param_number : (i : ℕ) (n : Name) → slice_get is_false.params i ≡ Some n → (n.0 ≡ 10) × (i ≡ 0)
+param_number zero n e = (ap (λ (m : Name). m.0) (sym (some_same e)), refl)
+param_number (suc i) n e = absurd (cc)
+
+not_new : (n : Name) → n.0 < 200 → n.0 ≡ value_name.0 → ⊥
+unfolding value_name
+not_new n l q = absurd (omega arith)
+
+below : (m n : ℕ) → m ≡ 100 + n → n < 2 → m < 200
+below m n e l = omega arith
+
+abbrev LeadsOn : Label → Block → Type 0
+LeadsOn l k = EachLabel (Leads cleared l k) (targets k.end.kind)
+
+leads_on : EachBlock LeadsOn cleared.blocks
+leads_on = (
+  (on _ refl (omega arith) (record { outer = []; inner = []; is_around = refl; within = refl }), tt),
+  (
+    (
+      on _ refl (omega arith) (record { outer = label 1 ∷ []; inner = []; is_around = refl; within = refl }),
+      (on _ refl (omega arith) (record { outer = []; inner = label 1 ∷ []; is_around = refl; within = refl }), tt),
+    ),
+    ((back _ head refl refl refl, tt), (tt, tt)),
+  ),
+)
+
+simple : IsSimple cleared
+simple = record {
+  names = record {
+    apart = λ x y n m e f q. apart x y n m (local_number x n e).0 (local_number y m f).0 q;
+    none_is_new = λ x n e q. not_new n (below n.0 x (local_number x n e).0 (local_number x n e).1) q;
+  };
+  scalars = scalar;
+  laid_out = record {
+    entry = _;
+    is_entry = refl;
+    at_entry = refl;
+    edges = λ l m k is named. label_found (Leads cleared l k) (targets k.end.kind) m (block_found LeadsOn cleared.blocks l k leads_on is) named;
+  };
+}
+  where
+    apart : (x y : ℕ) (n m : Name) → n.0 ≡ 100 + x → m.0 ≡ 100 + y → n.0 ≡ m.0 → x ≡ y
+    apart x y n m e f q = omega arith
+
+    scalar : (x : ℕ) (ty : Ty) → slice_get cleared.locals x ≡ Some ty → IsScalar ty
+    scalar zero ty e = subst IsScalar (some_same e) tt
+    scalar (suc zero) ty e = subst IsScalar (some_same e) tt
+    scalar (suc (suc x)) ty e = absurd (cc)
+
+-- ---- the contract and the head
+
+speaks : SpeaksOf cleared is_false
+speaks = record {
+  count = refl;
+  apart = λ i j x y e f q. same i j (param_number i x e).1 (param_number j y f).1;
+  no_local = λ i x n m e f q. no_local x n m (param_number i n e).0 (local_number x m f).0 q;
+  none_is_new = λ i n e q. not_new n (is_below n.0 (param_number i n e).0) q;
+  before = tt;
+  over = (λ x f d. absurd (d (at_answer x f)), tt);
+  spans = omega arith;
+}
+  where
+    same : (i j : ℕ) → i ≡ 0 → j ≡ 0 → i ≡ j
+    same i j e f = omega arith
+
+    no_local : (x : ℕ) (n m : Name) → n.0 ≡ 10 → m.0 ≡ 100 + x → n.0 ≡ m.0 → ⊥
+    no_local x n m e f q = absurd (omega arith)
+
+    is_below : (m : ℕ) → m ≡ 10 → m < 200
+    is_below m e = omega arith
+
+    at_answer : (x : Name) → ((x.0 == 11) || false) ≡ true → x.0 ≡ 11
+    at_answer x f = eqb-true x.0 11 (first_of (x.0 == 11) f)
+      where
+        first_of : (t : Bool) → (t || false) ≡ true → t ≡ true
+        first_of true e = refl
+        first_of false e = e
+
+abbrev SpeaksThere : IsInitialised cleared → Label → Block → Type 0
+SpeaksThere i l k = (h : Head) → k.head ≡ Some h → Each (λ (t : Term). (x : Name) → free x t ≡ true → IsOneOf x is_false.params ⊎ IsNameIn cleared (i.at l 0) x) h.invariants
+
+abbrev HasSpans : Label → Block → Type 0
+HasSpans l k = (h : Head) → k.head ≡ Some h → length h.invariants ≤ length h.spans
+
+zero_apart : (n : ℕ) → (0 == suc n) ≡ false
+zero_apart n = grind (arith, nat_tests)
+
+-- the sets before the blocks are those of the body
+abbrev HasSets : {b : Body} → IsInitialised b → Type 0
+HasSets i = (l : Label) (x : ℕ) → i.at l 0 x ≡ sets l.0 0 x
+
+heads_speak : (i : IsInitialised cleared) → HasSets i → HeadsSpeakOf cleared is_false (program.gone 0) i
+heads_speak i has = record {
+  over = λ l k h is is_head. block_found (SpeaksThere i) cleared.blocks l k ((λ h e. absurd (cc)), (speaks_there, ((λ h e. absurd (cc)), ((λ h e. absurd (cc)), tt)))) is h is_head;
+  spans = λ l k h is is_head. block_found HasSpans cleared.blocks l k ((λ h e. absurd (cc)), (has_spans, ((λ h e. absurd (cc)), ((λ h e. absurd (cc)), tt)))) is h is_head;
+  there = λ l x inside. not_gone l.0 x (sym (has l x) ∙ inside);
+}
+  where
+    one_of : (x : Name) (s t : Bool) → (x.0 == 100) ≡ s → (x.0 == 10) ≡ t → (s || (t || false)) ≡ true → IsOneOf x is_false.params ⊎ IsNameIn cleared (i.at (label 1) 0) x
+    one_of x true t e f q = inr (0, has (label 1) 0, ap Some (sym (same_name x (name 100) (eqb-true x.0 100 e))))
+    one_of x false true e f q = inl (0, ap Some (sym (same_name x (name 10) (eqb-true x.0 10 f))))
+    one_of x false false e f q = absurd (true≢false (sym q))
+
+    speaks_there : (h : Head) → Some head ≡ Some h → Each (λ (t : Term). (x : Name) → free x t ≡ true → IsOneOf x is_false.params ⊎ IsNameIn cleared (i.at (label 1) 0) x) h.invariants
+    speaks_there h e = subst (λ (g : Head). Each (λ (t : Term). (x : Name) → free x t ≡ true → IsOneOf x is_false.params ⊎ IsNameIn cleared (i.at (label 1) 0) x) g.invariants) (some_same e) ((λ x f. one_of x (x.0 == 100) (x.0 == 10) refl refl f), tt)
+
+    has_spans : (h : Head) → Some head ≡ Some h → length h.invariants ≤ length h.spans
+    has_spans h e = subst (λ (g : Head). length g.invariants ≤ length g.spans) (some_same e) (omega arith)
+
+    not_gone : (n x : ℕ) → sets n 0 x ≡ true → is_gone (program.gone 0) (label n) x ≡ false
+    not_gone zero zero inside = absurd (true≢false (sym inside))
+    not_gone zero (suc x) inside = ap (λ t. (t && true || false) || false) (zero_apart x)
+    not_gone (suc n) x inside = ap (λ t. (t && true) && ((0 == x) && true || false) || false) (zero_apart n)
+
+abbrev moved : (b : Body) → cleared ≡ b → (i : IsInitialised b) × HasSets i
+moved b same = subst (λ c. (i : IsInitialised c) × HasSets i) same (initialised, λ l x. refl)
+
+no_more : (f : ℕ) (b : Body) → slice_get program.bodies (suc f) ≡ Some b → ⊥
+no_more f b e = absurd (cc)
+
+abbrev sound : AreSound program.bodies
+sound zero b e = (subst (IsTyped program.bodies) (some_same e) typed, (moved b (some_same e)).0)
+sound (suc f) b e = absurd (no_more f b e)
+
+heads_of : (b : Body) → cleared ≡ b → (i : IsInitialised b) → HasSets i → HeadsSpeakOf b is_false (program.gone 0) i
+heads_of b same = subst (λ d. (i : IsInitialised d) → HasSets i → HeadsSpeakOf d is_false (program.gone 0) i) same heads_speak
+
+functions : AreFunctions program sound
+functions zero b e = record {
+  contract = is_false;
+  is_contract = refl;
+  simple = subst IsSimple (some_same e) simple;
+  speaks = subst (λ d. SpeaksOf d is_false) (some_same e) speaks;
+  heads = heads_of b (some_same e) (moved b (some_same e)).0 (moved b (some_same e)).1;
+}
+functions (suc n) b e = absurd (no_more n b e)
+
+pub sample_sound : SampleIsSound
+sample_sound = (sound, functions)
+
+-- ---- the obligations
+
+none_is_both : Sure (Flag true ≡ Flag false) → ⊥
+none_is_both h = h (λ e. true≢false (ap flag_of e))
+
+-- a formula that says what is so is true
+is_true : (P : Type 0) → P → Yes (Says P)
+is_true P p n = n (true, refl, p)
+
+true_obligations : (Δ : Declarations) → HasTrueObligations Δ (setting program 0 cleared is_false)
+true_obligations Δ = record {
+  first = 1;
+  obligations = _;
+  paths = _;
+  are = record {
+    goals = _;
+    are_goals = record {
+      inner = _;
+      arrives = plain _ refl refl (statement (goto (label 1) refl (
+          first _ head refl refl refl (
+          branch (Copy (whole 0)) (label 2) (label 3) refl
+          (plain _ refl refl (statement (goto (label 1) refl (again _ head refl refl refl))))
+          (plain _ refl refl (return refl))
+          )
+          )));
+      closed = refl;
+    };
+    are_numbered = refl;
+  };
+  all_true = (
+    λ θ ρ. is_true _ (λ w sort. is_true _ (λ same. same)),
+    (
+      λ θ ρ. is_true _ (λ w sort. is_true _ (λ v fits. is_true _ (λ known. is_true _ (λ taken. is_true _ (λ no. absurd (none_is_both no)))))),
+      (λ θ ρ. is_true _ (λ w sort. is_true _ (λ v fits. is_true _ (λ known. is_true _ (λ left. left)))), tt),
+    ),
+  );
+}
+
+pub sample_true : SampleIsTrue
+sample_true Δ zero b c e f = subst (λ d. HasTrueObligations Δ (setting program 0 b d)) (some_same f) (subst (λ d. HasTrueObligations Δ (setting program 0 d is_false)) (some_same e) (true_obligations Δ))
+sample_true Δ (suc n) b c e f = absurd (no_more n b e)
+
+-- ---- the law of these conditions
+
+pub sample_good : SampleIsGood
+sample_good Δ = good Δ program sound functions (sample_true Δ) 0 is_false refl
