@@ -1,4 +1,5 @@
--- A program of one function with a loop and a branch, whose contract is that its answer is false, and the conditions of the law at it.
+-- A program of two functions, one with a loop and a branch and one that calls it, whose contracts are that the answer is false, and
+-- the conditions of the law at it.
 use Rattle.std.specs.Prelude.{ℕ, false, [], ◌∷◌, Some, None, slice_get, ◌≡◌, codes}
 use Rattle.text_core.specs.declared.name.Name.{Name}
 use Rattle.logic_term.specs.declared.obligation.Contract.{Contract}
@@ -11,7 +12,9 @@ use Rattle.mir_ir.specs.declared.place.Operand.TheVariants.{Copy, Const}
 use Rattle.mir_ir.specs.declared.statement.Rvalue.TheVariants.{Use}
 use Rattle.mir_ir.specs.declared.statement.StatementKind.TheVariants.{Assign}
 use Rattle.mir_ir.specs.declared.statement.Statement.{Statement}
-use Rattle.mir_ir.specs.declared.terminator.TerminatorKind.TheVariants.{Goto, If, Return}
+use Rattle.mir_ir.specs.declared.terminator.FnId.TheVariants.{Body as OfBody}
+use Rattle.mir_ir.specs.declared.terminator.Callee.TheVariants.{Function}
+use Rattle.mir_ir.specs.declared.terminator.TerminatorKind.TheVariants.{Goto, If, Call, Return}
 use Rattle.mir_ir.specs.declared.body.Body.{Body}
 use Rattle.mir_ir.specs.declared.body.Head.{Head}
 use Rattle.mir_ir.specs.WellFormed.{AreSound}
@@ -46,19 +49,33 @@ cleared = record {
   span = end_span;
 }
 
+-- the answer is that of the first function at the parameter
+abbrev pub caller : Body
+caller = record {
+  owner = codes "g";
+  params = 1;
+  locals = bool ∷ bool ∷ [];
+  names = name 100 ∷ name 101 ∷ [];
+  entry = label 0;
+  blocks = (label 0, block_of None [] [] (Call (whole 0) (Function (OfBody 0)) (Copy (whole 1) ∷ []) (label 1)))
+      ∷ (label 1, block_of None [] [] Return)
+      ∷ [];
+  span = end_span;
+}
+
 -- the answer is false
 abbrev pub is_false : Contract
 is_false = record { params = name 10 ∷ []; answer = name 11; pre = []; post = not (var (name 11)) ∷ []; variants = []; spans = end_span ∷ [] }
 
--- the one function with its contract; where its body begins its answer holds nothing
+-- the two functions with one contract for both; where their bodies begin the answer holds nothing
 abbrev pub program : Program
 program = record {
-  bodies = cleared ∷ [];
-  contracts = is_false ∷ [];
+  bodies = cleared ∷ caller ∷ [];
+  contracts = is_false ∷ is_false ∷ [];
   gone = λ n. record { gone = (record { label = label 0; statement = 0 }, whole 0 ∷ []) ∷ [] };
 }
 
--- it is typed and initialised, and it meets the conditions on a function
+-- both are typed and initialised, and they meet the conditions on functions
 abbrev pub SampleIsSound : Type 0
 SampleIsSound = (sound : AreSound program.bodies) × AreFunctions program sound
 
@@ -66,6 +83,6 @@ SampleIsSound = (sound : AreSound program.bodies) × AreFunctions program sound
 abbrev pub SampleIsTrue : Type 0
 SampleIsTrue = (Δ : Declarations) (n : ℕ) (b : Body) (c : Contract) → slice_get program.bodies n ≡ Some b → slice_get program.contracts n ≡ Some c → HasTrueObligations Δ (setting program n b c)
 
--- so its function is good, by the law
+-- so both functions are good, by the law
 abbrev pub SampleIsGood : Type 0
-SampleIsGood = (Δ : Declarations) → Good Δ program.bodies 0 is_false
+SampleIsGood = (Δ : Declarations) → Good Δ program.bodies 0 is_false × Good Δ program.bodies 1 is_false

@@ -8,9 +8,9 @@ pub fn true_obligations_make_good()
     ensures { TrueObligationsMakeGood }
 {}
 
-/// There are programs with all conditions of the law: one of a function with a loop and a branch meets them, for the
-/// contract that the answer is false, and so the function is good.
-pub fn a_loop_meets_the_conditions()
+/// There are programs with all conditions of the law: one of a function with a loop and a branch and of a function that calls it
+/// meets them, for the contract that the answer is false, and so both functions are good.
+pub fn a_loop_and_a_call_meet_the_conditions()
     ensures sound { SampleIsSound }
     ensures proved { SampleIsTrue }
     ensures good { SampleIsGood }
