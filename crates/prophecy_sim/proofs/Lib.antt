@@ -7,6 +7,7 @@ pub mod GoodBody
 pub mod Heads
 pub mod Memories
 pub mod Runs
+pub mod SampleLaws
 pub mod States
 pub mod Steps
 pub mod Values

@@ -3,4 +3,4 @@
 
 mod laws;
 
-pub use laws::true_obligations_make_good;
+pub use laws::{a_loop_and_a_call_meet_the_conditions, true_obligations_make_good};
