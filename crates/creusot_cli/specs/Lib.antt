@@ -1,13 +1,2 @@
-pub mod MirBuild
-pub mod Report
-pub mod MirBuildBounds
-pub mod WpGen
-pub mod SourceForm
-pub mod SourceRefusal
-pub mod SourceFormReading
-pub mod SourceTokens
-pub mod WpGenGoals
 pub mod Call
-pub mod Verdict
-pub mod VerdictWords
 pub mod Words

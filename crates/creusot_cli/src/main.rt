@@ -1,14 +1,8 @@
 //! The program: `verify SOURCE --proofs FILE` prints which functions of a source are verified.
 #![tactic(auto)]
 
-mod mir_build;
-mod report_out;
-mod rs_syntax;
-mod rs_tokens;
 mod verify;
-mod verify_core;
 mod words;
-mod wp_gen;
 
 use io_edge::{FileShelf, StdSink};
 use std::process::ExitCode;

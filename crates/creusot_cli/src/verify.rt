@@ -4,8 +4,7 @@ ghost use Rattle.std.specs.Io.KnownBytes.{Appends};
 ghost use Rattle.text_core.specs.Counts.{Rose};
 ghost use Rattle.io_edge.specs.Faults.{NoneFalls};
 ghost use Rattle.io_edge.specs.Sink.{AppendsPrefix};
-ghost use Rattle.io_edge.specs.Shelf.{Files};
-ghost use Rattle.creusot_cli.specs.Call.{AnswersWords, ReportsWords, PrintsPart, IsOfRow, NamedRose};
+ghost use Rattle.creusot_cli.specs.Call.{AnswersWords, ReportsWords, PrintsPart, NamedRose};
 ghost use Rattle.creusot_cli.specs.Words.{asked_of};
 
 mod files;
@@ -13,11 +12,11 @@ mod plan;
 #[cfg(test)]
 mod tests;
 
-use crate::report_out::words_error;
 use crate::verify::files::Stop;
 use crate::verify::plan::{Plan, plan_of};
 use crate::words::request_of;
 use io_edge::{Shelf, Sink, SinkError, write_all};
+use report_out::words_error;
 use std::alloc::Global;
 
 /// The status for the words, and what is printed with it.
@@ -53,17 +52,15 @@ fn print<K: Sink>(plan: &Plan, out: &mut K) -> u8
 
 /// Runs the program: answers its status, and prints on `out`.
 ///
-/// The words are `verify SOURCE` and `verify SOURCE --proofs FILE`. 0: all obligations of the function of the source are
-/// proved. 1: some is not. 2: the words are no words of the program. 3: the source spells no function of the form. 4: the
-/// proof file has a bad line. 5: a file could not be read; nothing is printed. 6: the output failed. 7: a file is longer
-/// than its limit. 8: memory was refused. With 6 and 8 a prefix of what was to be printed is.
+/// The words are `verify SOURCE` and `verify SOURCE --proofs FILE`. 0: all obligations of the source are proved. 1: some is
+/// not. 2: the words are no words of the program. 3: the source is refused, by its code and place. 4: the proof file has a
+/// bad line. 5: a file could not be read; nothing is printed. 6: the output failed. 7: a quantity is past its bound. 8:
+/// memory was refused. With 6 and 8 a prefix of what was to be printed is.
 pub fn creusot<S: Shelf, K: Sink>(alloc: Global, words: &[String], shelf: &mut S, out: &mut K) -> u8
-    // The function of the source is good where all is proved, and where a line says that it is verified.
+    // Each function that is listed as verified is good.
     ensures verified { (result ≡ 0) ⊎ (result ≡ 1) → ReportsWords (S.holds shelf.old) (asked_of (map string_bytes words.now)) result (K.written out.old) (K.written out.new) }
     ensures answers { result ≢ 5 → result ≢ 6 → result ≢ 8
         → (bytes : List ℕ) × AnswersWords (S.holds shelf.old) (asked_of (map string_bytes words.now)) result bytes × Appends (K.written out.old) (K.written out.new) bytes }
-    // Where the shelf tells its files, no status comes but that of the row that the files have, for faults and want of memory aside.
-    ensures exact { (files : Files) (status : ℕ) (bytes : List ℕ) → S.holds shelf.old ≡ Some files → AnswersWords (Some files) (asked_of (map string_bytes words.now)) status bytes → IsOfRow status result }
     // At every status what was printed is a front of what the table says.
     ensures part { PrintsPart (S.holds shelf.old) (asked_of (map string_bytes words.now)) (K.written out.old) (K.written out.new) }
     ensures unread { result ≡ 5 → NamedRose (asked_of (map string_bytes words.now)) (S.read_faults shelf.old) (S.read_faults shelf.new) × (out.new ≡ out.old) }

@@ -1,10 +1,10 @@
 -- A term's values depend on the variables in it alone.
-use Rattle.std.proofs.Common.{◌≡◌, ℕ, zero, suc, ◌≤◌, ◌<◌, ◌==◌, Bool, true, false, cond, ◌↔◌, refl, sym, ◌∙◌, arith}
+use Rattle.std.proofs.Common.{◌≡◌, ℕ, zero, suc, ◌≤◌, ◌<◌, ◌==◌, Bool, true, false, cond, refl, sym, ◌∙◌, arith}
 use Rattle.std.proofs.lemmas.Bool.Decides.{nat_tests}
 use Rattle.text_core.specs.declared.name.Name.{Name}
 use Rattle.logic_term.specs.Value.{Value}
 use Rattle.logic_term.specs.Term.{Term, Terms, var, lit, truth, apply, bind, no_terms, and_term}
-use Rattle.logic_term.specs.Meaning.{Has, Structure, Env, with_value, Means, Argument}
+use Rattle.logic_term.specs.Meaning.{Structure, Env, with_value, Means, Argument}
 use Rattle.logic_term.specs.Subst.{above, all_above}
 use Rattle.logic_term.proofs.Alike.{Alike, alike_same, applied_alike, quantified_alike}
 
@@ -35,7 +35,7 @@ module _ (S : Structure) where
     coincide n (var x) ρ σ b h v = let e : ρ x ≡ σ x = h x (omega arith) in ((λ p. p ∙ e), (λ p. p ∙ sym e))
     coincide n (lit z s) ρ σ b h v = ((λ p. p), (λ p. p))
     coincide n (truth c) ρ σ b h v = ((λ p. p), (λ p. p))
-    coincide n (apply op ts) ρ σ b h v = applied_alike op _ _ (λ k. coincides n ts ρ σ b h k) v
+    coincide n (apply op ts) ρ σ b h v = applied_alike op _ _ _ (λ k. coincides n ts ρ σ b h k) v
     coincide n (bind q x s t) ρ σ b h v = quantified_alike q _ _ _ (λ w. coincide n t (with_value ρ x w) (with_value σ x w) (omega arith) (agree_with n ρ σ x w h)) v
 
     pub coincides : (n : ℕ) (ts : Terms) (ρ σ : Env) → all_above ts ≤ n → Agree n ρ σ → (k : ℕ) → Alike (Argument S ts ρ k) (Argument S ts σ k)

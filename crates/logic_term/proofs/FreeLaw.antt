@@ -1,10 +1,10 @@
 -- A term's values depend on its free variables alone.
-use Rattle.std.proofs.Common.{◌≡◌, ℕ, zero, suc, ◌==◌, ◌||◌, ◌&&◌, not, Bool, true, false, cond, ◌↔◌, refl, sym, ◌∙◌, ap, true≢false, arith}
+use Rattle.std.proofs.Common.{◌≡◌, ℕ, zero, suc, ◌==◌, ◌||◌, ◌&&◌, not, Bool, true, false, cond, refl, sym, ◌∙◌, ap, true≢false, arith}
 use Rattle.std.proofs.lemmas.Bool.Decides.{nat_tests}
 use Rattle.text_core.specs.declared.name.Name.{Name}
 use Rattle.logic_term.specs.Value.{Value}
 use Rattle.logic_term.specs.Term.{Term, Terms, var, lit, truth, apply, bind, no_terms, and_term}
-use Rattle.logic_term.specs.Meaning.{Has, Structure, Env, with_value, Means, Argument}
+use Rattle.logic_term.specs.Meaning.{Structure, Env, with_value, Means, Argument}
 use Rattle.logic_term.specs.Free.{free, free_in_some}
 use Rattle.logic_term.proofs.Alike.{Alike, alike_same, applied_alike, quantified_alike}
 
@@ -38,7 +38,7 @@ module _ (S : Structure) where
     coincide_free (var x) ρ σ h v = let e : ρ x ≡ σ x = h x (grind (arith, nat_tests)) in ((λ p. p ∙ e), (λ p. p ∙ sym e))
     coincide_free (lit z s) ρ σ h v = ((λ p. p), (λ p. p))
     coincide_free (truth b) ρ σ h v = ((λ p. p), (λ p. p))
-    coincide_free (apply op ts) ρ σ h v = applied_alike op _ _ (λ k. coincide_all_free ts ρ σ h k) v
+    coincide_free (apply op ts) ρ σ h v = applied_alike op _ _ _ (λ k. coincide_all_free ts ρ σ h k) v
     coincide_free (bind q x s t) ρ σ h v = quantified_alike q _ _ _ (λ w. coincide_free t (with_value ρ x w) (with_value σ x w) (λ y e. under (y.0 == x.0) (free y t) w (ρ y) (σ y) (h y) e)) v
 
     pub coincide_all_free : (ts : Terms) (ρ σ : Env) → AgreeOn (λ x. free_in_some x ts) ρ σ → (k : ℕ) → Alike (Argument S ts ρ k) (Argument S ts σ k)

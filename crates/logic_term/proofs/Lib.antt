@@ -1,6 +1,8 @@
 pub mod Alike
 pub mod Coincide
 pub mod FreeLaw
+pub mod Lists
+pub mod Made
 pub mod Reduction
 pub mod SameLaw
 pub mod SortLaw

@@ -1,13 +1,17 @@
 -- The normal form keeps the values.
-use Rattle.std.proofs.Common.{◌≡◌, ℕ, zero, suc, ◌↔◌, refl, sym, ◌∙◌, ap, subst}
+use Rattle.std.proofs.Common.{◌≡◌, ℕ, zero, suc, refl, sym, ◌∙◌, ap, subst}
 use Rattle.std.specs.Prelude.{Result, Ok, Err, IfOk}
-use Rattle.logic_term.specs.Ty.{Ty, int, bool, math_int, tuple, adt, boxed, shared, unique, param, closure, viewed, snapshot}
-use Rattle.logic_term.specs.Value.{Value, Number, integer_of}
-use Rattle.logic_term.specs.Term.{Operator, modeled, negated, denied, arith, less, at_most, equal, both, either, implied, Term, Terms, var, lit, truth, apply, bind, no_terms, and_term}
-use Rattle.logic_term.specs.Meaning.{Structure, Env, with_value, Means, Argument, Applied}
+use Rattle.logic_term.specs.Ty.{int}
+use Rattle.logic_term.specs.Value.{Number, integer_of}
+use Rattle.logic_term.specs.Term.{Operator, modeled, Term, Terms, var, lit, truth, apply, bind, no_terms, and_term, count}
+use Rattle.logic_term.specs.Meaning.{Structure, Env, with_value, Means, Argument}
 use Rattle.logic_term.specs.Normal.{simplified, reduced, all_reduced}
 use Rattle.logic_term.specs.Laws.{HasValuesOf}
-use Rattle.logic_term.proofs.Alike.{Alike, alike_same, alike_then, applied_alike, quantified_alike}
+use Rattle.logic_term.proofs.Alike.{Alike, alike_same, alike_then, applied_alike_at, quantified_alike}
+
+count_all_reduced : (ts : Terms) → count (all_reduced ts) ≡ count ts
+count_all_reduced no_terms = refl
+count_all_reduced (and_term t ts) = ap suc (count_all_reduced ts)
 
 module _ (S : Structure) where
   simplified_means : (op : Operator) (ts : Terms) (ρ : Env) → Alike (Means S (simplified op ts) ρ) (Means S (apply op ts) ρ)
@@ -19,7 +23,7 @@ module _ (S : Structure) where
     reduced_means (var x) ρ v = ((λ p. p), (λ p. p))
     reduced_means (lit z s) ρ v = ((λ p. p), (λ p. p))
     reduced_means (truth b) ρ v = ((λ p. p), (λ p. p))
-    reduced_means (apply op ts) ρ v = alike_then _ _ _ (simplified_means op (all_reduced ts) ρ) (applied_alike op _ _ (λ k. all_reduced_mean ts ρ k)) v
+    reduced_means (apply op ts) ρ v = alike_then _ _ _ (simplified_means op (all_reduced ts) ρ) (applied_alike_at op _ _ _ _ (count_all_reduced ts) (λ k. all_reduced_mean ts ρ k)) v
     reduced_means (bind q x s t) ρ v = quantified_alike q _ _ _ (λ w. reduced_means t (with_value ρ x w)) v
 
     pub all_reduced_mean : (ts : Terms) (ρ : Env) (k : ℕ) → Alike (Argument S (all_reduced ts) ρ k) (Argument S ts ρ k)

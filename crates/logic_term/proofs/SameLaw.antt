@@ -1,5 +1,5 @@
 -- The test of equality of terms is exact.
-use Rattle.std.proofs.Common.{◌≡◌, ◌==◌, ◌&&◌, Bool, true, false, ◌↔◌, refl, ap, ap₂, sym, ◌∙◌, arith, rules, true≢false}
+use Rattle.std.proofs.Common.{◌≡◌, ◌&&◌, Bool, true, false, ◌↔◌, refl, ap, ap₂, sym, ◌∙◌, rules, true≢false}
 use Rattle.std.specs.Prelude.{IsTrue}
 use base.Stored.{Gv, gnil, gnum, gcons}
 use Rattle.logic_term.specs.Term.{Term}

@@ -1,7 +1,7 @@
 -- What the values of a sort are.
-use Rattle.std.proofs.Common.{◌≡◌, ℤ, Bool, true, refl, sym, ap, ◌∙◌}
+use Rattle.std.proofs.Common.{◌≡◌, ℤ, true, refl, sym, ap, ◌∙◌}
 use Rattle.logic_term.specs.declared.kinds.IntKind.{IntKind}
-use Rattle.logic_term.specs.Ty.{Ty, Tys, int, bool, math_int, tuple, adt, boxed, shared, unique, param, closure, viewed, snapshot}
+use Rattle.logic_term.specs.Ty.{Ty, int}
 use Rattle.logic_term.specs.Range.{fits}
 use Rattle.logic_term.specs.Value.{Value, Number}
 use Rattle.logic_term.specs.Sort.{Declarations, HasSort, of_int, of_math_int, of_bool, of_tuple, of_adt, of_closure, of_boxed, of_shared, of_snapshot, of_unique}

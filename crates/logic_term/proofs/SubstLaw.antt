@@ -1,15 +1,18 @@
 -- The values of a substitution are those of the term where the names have the values of the terms put for them.
-use Rattle.std.proofs.Common.{◌≡◌, ℕ, zero, suc, ◌≤◌, ◌<◌, ◌==◌, max, Bool, true, false, cond, ◌↔◌, List, [], ◌∷◌, refl, sym, ◌∙◌, arith}
+use Rattle.std.proofs.Common.{◌≡◌, ℕ, zero, suc, ◌≤◌, ◌<◌, ◌==◌, max, Bool, true, false, cond, List, [], ◌∷◌, refl, sym, ◌∙◌, ap, arith}
 use Rattle.std.proofs.Common.{subst as subst_path}
-use Rattle.std.proofs.lemmas.Bool.Decides.{nat_tests}
 use Rattle.text_core.specs.declared.name.Name.{Name}
 use Rattle.logic_term.specs.declared.subst.Replacement.{Replacement}
 use Rattle.logic_term.specs.Value.{Value}
-use Rattle.logic_term.specs.Term.{Term, Terms, var, lit, truth, apply, bind, no_terms, and_term}
-use Rattle.logic_term.specs.Meaning.{Has, Structure, Env, with_value, Means, Argument}
+use Rattle.logic_term.specs.Term.{Term, Terms, var, lit, truth, apply, bind, no_terms, and_term, count}
+use Rattle.logic_term.specs.Meaning.{Structure, Env, with_value, Means, Argument}
 use Rattle.logic_term.specs.Subst.{above, all_above, look, subst, substs, replaced, SameUpToNames}
-use Rattle.logic_term.proofs.Alike.{Alike, alike_same, alike_back, alike_then, applied_alike, quantified_alike}
-use Rattle.logic_term.proofs.Coincide.{Agree, agree_new, coincide, with_same}
+use Rattle.logic_term.proofs.Alike.{Alike, alike_same, alike_back, alike_then, applied_alike_at, quantified_alike}
+use Rattle.logic_term.proofs.Coincide.{agree_new, coincide, with_same}
+
+count_substs : (n : ℕ) (σ : List Replacement) (ts : Terms) → count (substs n σ ts) ≡ count ts
+count_substs n σ no_terms = refl
+count_substs n σ (and_term t ts) = ap suc (count_substs n σ ts)
 
 module _ (S : Structure) where
   -- for each name below m, σ's term is below n and has, at ρ, the value that τ gives the name
@@ -28,7 +31,7 @@ module _ (S : Structure) where
     subst_means m (var x) n ρ τ σ b h v = (h x (omega arith)).1 v
     subst_means m (lit z s) n ρ τ σ b h v = ((λ p. p), (λ p. p))
     subst_means m (truth c) n ρ τ σ b h v = ((λ p. p), (λ p. p))
-    subst_means m (apply op ts) n ρ τ σ b h v = applied_alike op _ _ (λ k. substs_mean m ts n ρ τ σ b h k) v
+    subst_means m (apply op ts) n ρ τ σ b h v = applied_alike_at op _ _ _ _ (count_substs n σ ts) (λ k. substs_mean m ts n ρ τ σ b h k) v
     subst_means m (bind q x s t) n ρ τ σ b h v = quantified_alike q _ _ _ (λ w. subst_means m t (suc n) (with_value ρ (record { 0 = n }) w) (with_value τ x w) (record { name = x; by = var (record { 0 = n }) } ∷ σ) (omega arith) (stands_under m n ρ τ σ x w h)) v
 
     pub substs_mean : (m : ℕ) (ts : Terms) (n : ℕ) (ρ τ : Env) (σ : List Replacement) → all_above ts ≤ m → Stands m n ρ σ τ → (k : ℕ) → Alike (Argument S (substs n σ ts) ρ k) (Argument S ts τ k)

@@ -1,16 +1,14 @@
 -- What the truth of a formula says, form by form.
-use Rattle.std.proofs.Common.{◌≡◌, ℕ, zero, suc, ℤ, pos, Bool, true, false, ◌↔◌, refl, sym, ◌∙◌, ap, ap₂, true≢false}
+use Rattle.std.proofs.Common.{◌≡◌, ℤ, Bool, true, false, ◌↔◌, refl, sym, ◌∙◌, ap, ap₂, true≢false}
 use Rattle.std.specs.Prelude.{int_le, int_lt, neg_ℤ}
-use Rattle.std.specs.Ordering.{int_eq}
 use Rattle.text_core.specs.declared.name.Name.{Name}
 use Rattle.logic_term.specs.declared.kinds.ArithOp.{ArithOp}
 use Rattle.logic_term.specs.Ty.{Ty}
 use Rattle.logic_term.specs.Value.{Value, Number, Flag, flag_of, integer_of}
-use Rattle.logic_term.specs.Term.{Term, Terms, var, lit, truth, apply, bind, model, negative, not, calculate, is_less, is_at_most, is_equal, and, or, implies, forall}
-use Rattle.logic_term.specs.Meaning.{Sure, Has, Of, OfTwo, Decided, Says, Yes, calculated, on_integers, compared, Structure, Env, with_value, Means, Holds}
+use Rattle.logic_term.specs.Term.{Term, truth, model, negative, not, calculate, is_less, is_at_most, is_equal, and, or, implies, forall}
+use Rattle.logic_term.specs.Meaning.{Sure, Has, Of, OfTwo, Says, Yes, calculated, on_integers, compared, Structure, Env, with_value, Means, Holds}
 use Rattle.logic_term.specs.Sort.{HasSort, instance}
 use Rattle.logic_term.proofs.Alike.{Alike, sure_map}
-use Rattle.logic_term.proofs.Unique.{single}
 
 pub stable_bool : (b c : Bool) → Sure (b ≡ c) → b ≡ c
 stable_bool true true s = refl

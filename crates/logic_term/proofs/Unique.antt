@@ -1,8 +1,9 @@
 -- Each term has at most one value, and cannot fail to have one.
-use Rattle.std.proofs.Common.{◌≡◌, ℕ, zero, suc, Bool, true, false, ◌↔◌, refl, sym, ◌∙◌, ap, ap₂, true≢false}
-use Rattle.logic_term.specs.Value.{Value, Number, Flag, flag_of}
-use Rattle.logic_term.specs.Term.{Operator, modeled, negated, denied, arith, less, at_most, equal, both, either, implied, Quantifier, every, some, Term, Terms, var, lit, truth, apply, bind, no_terms, and_term}
-use Rattle.logic_term.specs.Meaning.{Sure, Has, Of, OfTwo, Decided, Says, Yes, Applied, Quantified, Structure, Env, with_value, Means, Argument}
+use Rattle.std.proofs.Common.{◌≡◌, ℕ, zero, suc, Bool, true, false, refl, sym, ◌∙◌, ap, ap₂}
+use Rattle.logic_term.specs.declared.kinds.Ctor.{Ctor}
+use Rattle.logic_term.specs.Value.{Value, Values, Number, Flag, Made, no_values, and_value}
+use Rattle.logic_term.specs.Term.{Operator, modeled, negated, denied, arith, less, at_most, equal, both, either, implied, made, Quantifier, every, some, Term, Terms, var, lit, truth, apply, bind, no_terms, and_term, count}
+use Rattle.logic_term.specs.Meaning.{Sure, Has, Of, OfTwo, Decided, Says, Each, MadeOf, Applied, Quantified, Structure, Env, with_value, Means, Argument}
 use Rattle.logic_term.specs.Sort.{HasSort, instance}
 use Rattle.logic_term.proofs.Alike.{sure_map}
 
@@ -27,17 +28,25 @@ same_decision P false false d e = refl
 pub says_single : (P : Type 0) → Single (Says P)
 says_single P x y p q = p.1 ∙ ap Flag (same_decision P p.0 q.0 p.2 q.2) ∙ sym q.1
 
-pub applied_single : (op : Operator) (A : ℕ → Has) → ((n : ℕ) → Single (A n)) → Single (Applied op A)
-applied_single modeled A s = of_single _ _ (s 0)
-applied_single negated A s = of_single _ _ (s 0)
-applied_single denied A s = says_single _
-applied_single (arith op) A s = of_two_single _ _ _ (s 0) (s 1)
-applied_single less A s = of_two_single _ _ _ (s 0) (s 1)
-applied_single at_most A s = of_two_single _ _ _ (s 0) (s 1)
-applied_single equal A s = says_single _
-applied_single both A s = says_single _
-applied_single either A s = says_single _
-applied_single implied A s = says_single _
+each_single : (n : ℕ) (A : ℕ → Has) → ((k : ℕ) → Single (A k)) → (us vs : Values) → Each n A us → Each n A vs → us ≡ vs
+each_single zero A s us vs p q = p ∙ sym q
+each_single (suc n) A s us vs p q = p.4 ∙ ap₂ and_value (s 0 p.0 q.0 p.2 q.2) (each_single n (λ k. A (suc k)) (λ k. s (suc k)) p.1 q.1 p.3 q.3) ∙ sym q.4
+
+made_single : (c : Ctor) (P : Values → Type 0) → ((us vs : Values) → P us → P vs → us ≡ vs) → Single (MadeOf c P)
+made_single c P s x y p q = p.2 ∙ ap (λ vs. Made c vs) (s p.0 q.0 p.1 q.1) ∙ sym q.2
+
+pub applied_single : (op : Operator) (n : ℕ) (A : ℕ → Has) → ((k : ℕ) → Single (A k)) → Single (Applied op n A)
+applied_single modeled n A s = of_single _ _ (s 0)
+applied_single negated n A s = of_single _ _ (s 0)
+applied_single denied n A s = says_single _
+applied_single (arith op) n A s = of_two_single _ _ _ (s 0) (s 1)
+applied_single less n A s = of_two_single _ _ _ (s 0) (s 1)
+applied_single at_most n A s = of_two_single _ _ _ (s 0) (s 1)
+applied_single equal n A s = says_single _
+applied_single both n A s = says_single _
+applied_single either n A s = says_single _
+applied_single implied n A s = says_single _
+applied_single (made c) n A s = made_single c (Each n A) (each_single n A s)
 
 quantified_single : (q : Quantifier) (S : Value → Type 0) (A : Value → Has) → Single (Quantified q S A)
 quantified_single every S A = says_single _
@@ -52,17 +61,25 @@ of_two_some f A B s t n = s (λ p. t (λ q. n (f p.0 q.0, (p.0, q.0, p.1, q.1, r
 says_some : (P : Type 0) → SomeValue (Says P)
 says_some P n = n (Flag false, (false, refl, λ p. n (Flag true, (true, refl, p))))
 
-applied_some : (op : Operator) (A : ℕ → Has) → ((n : ℕ) → SomeValue (A n)) → SomeValue (Applied op A)
-applied_some modeled A s = of_some _ _ (s 0)
-applied_some negated A s = of_some _ _ (s 0)
-applied_some denied A s = says_some _
-applied_some (arith op) A s = of_two_some _ _ _ (s 0) (s 1)
-applied_some less A s = of_two_some _ _ _ (s 0) (s 1)
-applied_some at_most A s = of_two_some _ _ _ (s 0) (s 1)
-applied_some equal A s = says_some _
-applied_some both A s = says_some _
-applied_some either A s = says_some _
-applied_some implied A s = says_some _
+each_some : (n : ℕ) (A : ℕ → Has) → ((k : ℕ) → SomeValue (A k)) → Sure ((vs : Values) × Each n A vs)
+each_some zero A s m = m (no_values, refl)
+each_some (suc n) A s m = s 0 (λ p. each_some n (λ k. A (suc k)) (λ k. s (suc k)) (λ q. m (and_value p.0 q.0, (p.0, q.0, p.1, q.1, refl))))
+
+made_some : (c : Ctor) (P : Values → Type 0) → Sure ((vs : Values) × P vs) → SomeValue (MadeOf c P)
+made_some c P s m = s (λ p. m (Made c p.0, (p.0, p.1, refl)))
+
+applied_some : (op : Operator) (n : ℕ) (A : ℕ → Has) → ((k : ℕ) → SomeValue (A k)) → SomeValue (Applied op n A)
+applied_some modeled n A s = of_some _ _ (s 0)
+applied_some negated n A s = of_some _ _ (s 0)
+applied_some denied n A s = says_some _
+applied_some (arith op) n A s = of_two_some _ _ _ (s 0) (s 1)
+applied_some less n A s = of_two_some _ _ _ (s 0) (s 1)
+applied_some at_most n A s = of_two_some _ _ _ (s 0) (s 1)
+applied_some equal n A s = says_some _
+applied_some both n A s = says_some _
+applied_some either n A s = says_some _
+applied_some implied n A s = says_some _
+applied_some (made c) n A s = made_some c (Each n A) (each_some n A s)
 
 quantified_some : (q : Quantifier) (S : Value → Type 0) (A : Value → Has) → SomeValue (Quantified q S A)
 quantified_some every S A = says_some _
@@ -74,7 +91,7 @@ module _ (S : Structure) where
     single (var x) ρ v w p q = p ∙ sym q
     single (lit z s) ρ v w p q = p ∙ sym q
     single (truth b) ρ v w p q = p ∙ sym q
-    single (apply op ts) ρ v w p q = applied_single op (λ n. Argument S ts ρ n) (λ n. singles ts ρ n) v w p q
+    single (apply op ts) ρ v w p q = applied_single op (count ts) (λ n. Argument S ts ρ n) (λ n. singles ts ρ n) v w p q
     single (bind q x s t) ρ v w p r = quantified_single q (λ u. HasSort S.declared u (instance S.types s)) (λ u. Means S t (with_value ρ x u)) v w p r
 
     pub singles : (ts : Terms) (ρ : Env) (n : ℕ) → Single (Argument S ts ρ n)
@@ -87,7 +104,7 @@ module _ (S : Structure) where
     has_value (var x) ρ n = n (ρ x, refl)
     has_value (lit z s) ρ n = n (Number z, refl)
     has_value (truth b) ρ n = n (Flag b, refl)
-    has_value (apply op ts) ρ n = applied_some op (λ k. Argument S ts ρ k) (λ k. have_values ts ρ k) n
+    has_value (apply op ts) ρ n = applied_some op (count ts) (λ k. Argument S ts ρ k) (λ k. have_values ts ρ k) n
     has_value (bind q x s t) ρ n = quantified_some q (λ u. HasSort S.declared u (instance S.types s)) (λ u. Means S t (with_value ρ x u)) n
 
     pub have_values : (ts : Terms) (ρ : Env) (k : ℕ) → SomeValue (Argument S ts ρ k)

@@ -2,8 +2,10 @@
 use Rattle.std.specs.Prelude.{◌≡◌, int_le, int_lt, true, false, IsTrue, ◌↔◌}
 use Rattle.text_core.specs.declared.name.Name.{Name}
 use Rattle.logic_term.specs.Ty.{Ty}
-use Rattle.logic_term.specs.Value.{Value, integer_of}
-use Rattle.logic_term.specs.Term.{Term, truth, not, is_less, is_at_most, is_equal, and, or, implies, forall}
+use Rattle.logic_term.specs.declared.kinds.Ctor.{Ctor}
+use Rattle.logic_term.specs.declared.kinds.Ctor.TheVariants.{Tuple}
+use Rattle.logic_term.specs.Value.{Value, Values, Made, no_values, and_value, integer_of}
+use Rattle.logic_term.specs.Term.{made, Term, Terms, truth, apply, no_terms, and_term, unit, not, is_less, is_at_most, is_equal, and, or, implies, forall}
 use Rattle.logic_term.specs.Meaning.{Sure, Structure, Env, with_value, Means, Holds}
 use Rattle.logic_term.specs.Sort.{HasSort, instance}
 use Rattle.logic_term.specs.Free.{free}
@@ -50,6 +52,21 @@ ValuesAreSure = (S : Structure) (ρ : Env) (t : Term) → Sure ((v : Value) × M
 
 abbrev pub NormalFormsKeepValues : Type 0
 NormalFormsKeepValues = (t : Term) → HasValuesOf (reduced t) t
+
+-- the terms have exactly these values, one for each
+abbrev pub HaveExactly : Structure → Terms → Env → Values → Type 0
+HaveExactly S no_terms ρ no_values = Unit {0}
+HaveExactly S no_terms ρ (and_value v vs) = ⊥
+HaveExactly S (and_term t ts) ρ no_values = ⊥
+HaveExactly S (and_term t ts) ρ (and_value v vs) = HasExactly S t ρ v × HaveExactly S ts ρ vs
+
+-- what is made of parts is the value made of their values
+abbrev pub ValuesOfMade : Type 0
+ValuesOfMade = (S : Structure) (ρ : Env) (c : Ctor) (ts : Terms) (vs : Values)
+    → HaveExactly S ts ρ vs → HasExactly S (apply (made c) ts) ρ (Made c vs)
+
+abbrev pub ValueOfUnit : Type 0
+ValueOfUnit = (S : Structure) (ρ : Env) → HasExactly S unit ρ (Made Tuple no_values)
 
 -- ---- when formulas are true
 

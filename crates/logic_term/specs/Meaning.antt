@@ -5,9 +5,10 @@ use Rattle.std.specs.Ordering.{int_eq}
 use Rattle.text_core.specs.declared.name.Name.{Name}
 use Rattle.logic_term.specs.declared.kinds.ArithOp.{ArithOp}
 use Rattle.logic_term.specs.declared.kinds.ArithOp.TheVariants.{Add, Sub, Mul, Div, Rem}
-use Rattle.logic_term.specs.Ty.{Ty, Tys}
-use Rattle.logic_term.specs.Term.{Operator, modeled, negated, denied, arith, less, at_most, equal, both, either, implied, Quantifier, every, some, Term, Terms, var, lit, truth, apply, bind, no_terms, and_term}
-use Rattle.logic_term.specs.Value.{Value, Number, Flag, nothing, integer_of}
+use Rattle.logic_term.specs.Ty.{Tys}
+use Rattle.logic_term.specs.Term.{Operator, modeled, negated, denied, arith, less, at_most, equal, both, either, implied, made, Quantifier, every, some, Term, Terms, var, lit, truth, apply, bind, no_terms, and_term, count}
+use Rattle.logic_term.specs.declared.kinds.Ctor.{Ctor}
+use Rattle.logic_term.specs.Value.{Value, Values, Number, Flag, Made, no_values, and_value, nothing, integer_of}
 use Rattle.logic_term.specs.Sort.{Declarations, HasSort, instance}
 
 -- P cannot fail
@@ -68,18 +69,27 @@ on_integers f x y = Number (f (integer_of x) (integer_of y))
 abbrev pub compared : (ℤ → ℤ → Bool) → Value → Value → Value
 compared f x y = Flag (f (integer_of x) (integer_of y))
 
--- A: the values of the arguments, by number from 0
-abbrev pub Applied : Operator → (ℕ → Has) → Has
-Applied modeled A = Of (on_integer (λ z. z)) (A 0)
-Applied negated A = Of (on_integer neg_ℤ) (A 0)
-Applied denied A = Says (Yes (A 0) → ⊥)
-Applied (arith op) A = OfTwo (on_integers (calculated op)) (A 0) (A 1)
-Applied less A = OfTwo (compared int_lt) (A 0) (A 1)
-Applied at_most A = OfTwo (compared int_le) (A 0) (A 1)
-Applied equal A = Says ((x y : Value) → A 0 x → A 1 y → Sure (x ≡ y))
-Applied both A = Says (Yes (A 0) × Yes (A 1))
-Applied either A = Says ((Yes (A 0) → ⊥) × (Yes (A 1) → ⊥) → ⊥)
-Applied implied A = Says (Yes (A 0) → Yes (A 1))
+-- values of the first n, one for each
+abbrev pub Each : ℕ → (ℕ → Has) → Values → Type 0
+Each zero A vs = vs ≡ no_values
+Each (suc n) A vs = (x : Value) × (xs : Values) × A 0 x × Each n (λ k. A (suc k)) xs × (vs ≡ and_value x xs)
+
+abbrev pub MadeOf : Ctor → (Values → Type 0) → Has
+MadeOf c P v = (vs : Values) × P vs × (v ≡ Made c vs)
+
+-- n: how many arguments there are; A: their values, by number from 0
+abbrev pub Applied : Operator → ℕ → (ℕ → Has) → Has
+Applied modeled n A = Of (on_integer (λ z. z)) (A 0)
+Applied negated n A = Of (on_integer neg_ℤ) (A 0)
+Applied denied n A = Says (Yes (A 0) → ⊥)
+Applied (arith op) n A = OfTwo (on_integers (calculated op)) (A 0) (A 1)
+Applied less n A = OfTwo (compared int_lt) (A 0) (A 1)
+Applied at_most n A = OfTwo (compared int_le) (A 0) (A 1)
+Applied equal n A = Says ((x y : Value) → A 0 x → A 1 y → Sure (x ≡ y))
+Applied both n A = Says (Yes (A 0) × Yes (A 1))
+Applied either n A = Says ((Yes (A 0) → ⊥) × (Yes (A 1) → ⊥) → ⊥)
+Applied implied n A = Says (Yes (A 0) → Yes (A 1))
+Applied (made c) n A = MadeOf c (Each n A)
 
 -- S: the values of the variable's sort; A: the values of the body, by the variable's
 abbrev pub Quantified : Quantifier → (Value → Type 0) → (Value → Has) → Has
@@ -96,7 +106,7 @@ abbrev mutual
   Means S (var x) ρ v = v ≡ ρ x
   Means S (lit z t) ρ v = v ≡ Number z
   Means S (truth b) ρ v = v ≡ Flag b
-  Means S (apply op ts) ρ v = Applied op (λ n. Argument S ts ρ n) v
+  Means S (apply op ts) ρ v = Applied op (count ts) (λ n. Argument S ts ρ n) v
   Means S (bind q x t u) ρ v = Quantified q (λ w. HasSort S.declared w (instance S.types t)) (λ w. Means S u (with_value ρ x w)) v
 
   pub Argument : Structure → Terms → Env → ℕ → Has

@@ -1,5 +1,5 @@
 -- Substitution. It is simultaneous and gives every bound name a new number, so that it never captures.
-use Rattle.std.specs.Prelude.{◌≡◌, ℕ, suc, ◌+◌, ◌==◌, max, List, [], ◌∷◌, cond}
+use Rattle.std.specs.Prelude.{◌≡◌, ℕ, suc, ◌==◌, max, List, [], ◌∷◌, cond}
 use Rattle.text_core.specs.declared.name.Name.{Name}
 use Rattle.logic_term.specs.declared.subst.Renaming.{Renaming}
 use Rattle.logic_term.specs.declared.subst.Replacement.{Replacement}
@@ -39,6 +39,10 @@ abbrev mutual
   pub substs : ℕ → List Replacement → Terms → Terms
   substs n σ no_terms = no_terms
   substs n σ (and_term t ts) = and_term (subst n σ t) (substs n σ ts)
+
+-- the body of a quantifier over x, which gets the number n
+abbrev pub subst_body : ℕ → Name → List Replacement → Term → Term
+subst_body n x σ t = subst (suc n) (record { name = x; by = var (record { 0 = n }) } ∷ σ) t
 
 -- t with u for x
 abbrev pub replaced : Name → Term → Term → Term

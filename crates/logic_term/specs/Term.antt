@@ -1,7 +1,9 @@
 -- Terms and formulas, as contracts see them: a small core into which the variants of `TermNode` are viewed.
-use Rattle.std.specs.Prelude.{ℕ, ℤ, Bool}
+use Rattle.std.specs.Prelude.{ℕ, suc, ℤ, Bool}
 use Rattle.text_core.specs.declared.name.Name.{Name}
 use Rattle.logic_term.specs.declared.kinds.ArithOp.{ArithOp}
+use Rattle.logic_term.specs.declared.kinds.Ctor.{Ctor}
+use Rattle.logic_term.specs.declared.kinds.Ctor.TheVariants.{Tuple}
 use Rattle.logic_term.specs.Ty.{Ty}
 
 -- the operators, each with its number of arguments
@@ -14,6 +16,8 @@ pub data Operator : Type 0 where
   arith : ArithOp → Operator
   less at_most equal : Operator
   both either implied : Operator
+  -- any number
+  made : Ctor → Operator
 
 pub data Quantifier : Type 0 where
   every some : Quantifier
@@ -29,6 +33,11 @@ mutual
   pub data Terms : Type 0 where
     no_terms : Terms
     and_term : Term → Terms → Terms
+
+-- how many terms
+abbrev pub count : Terms → ℕ
+count no_terms = 0
+count (and_term t ts) = suc (count ts)
 
 -- the terms by their usual names
 abbrev pub one : Operator → Term → Term
@@ -69,3 +78,7 @@ implies = two implied
 
 abbrev pub forall : Name → Ty → Term → Term
 forall = bind every
+
+-- `()`, the tuple of no parts
+abbrev pub unit : Term
+unit = apply (made Tuple) no_terms

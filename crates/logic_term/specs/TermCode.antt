@@ -1,13 +1,14 @@
 -- A code for terms, by which the logic tells them apart.
-use Rattle.std.specs.Prelude.{◌≡◌, ℕ, List}
+use Rattle.std.specs.Prelude.{◌≡◌}
 use Rattle.std.proofs.Common.{refl, ap}
 use Rattle.std.proofs.Common.{arith as sums}
 use Rattle.std.specs.Coded.{Coded, coded_ℤ, coded_bool}
 use base.Stored.{Gv, gnil, gnum, gcons, num}
 use Rattle.text_core.specs.contracts.name.Name as name
 use Rattle.logic_term.specs.TyCode.{head, tail, tag, coded_ty}
-use Rattle.logic_term.specs.Term.{Operator, modeled, negated, denied, arith, less, at_most, equal, both, either, implied, Quantifier, every, some, Term, Terms, var, lit, truth, apply, bind, no_terms, and_term}
+use Rattle.logic_term.specs.Term.{Operator, modeled, negated, denied, arith, less, at_most, equal, both, either, implied, made, Quantifier, every, some, Term, Terms, var, lit, truth, apply, bind, no_terms, and_term}
 use Rattle.logic_term.specs.contracts.kinds.ArithOp as arith_op
+use Rattle.logic_term.specs.contracts.kinds.Ctor as ctor
 
 abbrev pub operator_code : Operator → Gv
 operator_code modeled = gcons (gnum 0) gnil
@@ -20,6 +21,7 @@ operator_code equal = gcons (gnum 6) gnil
 operator_code both = gcons (gnum 7) gnil
 operator_code either = gcons (gnum 8) gnil
 operator_code implied = gcons (gnum 9) gnil
+operator_code (made c) = gcons (gnum 10) (ctor.the_row.coded.code c)
 
 pub operator_injective : (x y : Operator) → operator_code x ≡ operator_code y → x ≡ y
 operator_injective modeled modeled p = refl
@@ -32,6 +34,7 @@ operator_injective equal equal p = refl
 operator_injective both both p = refl
 operator_injective either either p = refl
 operator_injective implied implied p = refl
+operator_injective (made a) (made b) p = λ i. made (ctor.the_row.coded.inj a b (ap tail p) i)
 operator_injective x y p = absurd (omega (sums, ap tag p))
 
 abbrev pub quantifier_code : Quantifier → Gv

@@ -1,13 +1,18 @@
 -- The terms that nodes stand for, and how deep terms are.
-use Rattle.std.specs.Prelude.{ℕ, suc, max}
-use Rattle.logic_term.specs.Term.{Term, Terms, var, lit, truth, apply, bind, no_terms, and_term, model, negative, not, calculate, is_less, is_at_most, is_equal, and, or, implies, forall}
+use Rattle.std.specs.Prelude.{ℕ, suc, max, List, [], ◌∷◌}
+use Rattle.logic_term.specs.Term.{made, Term, Terms, var, lit, truth, apply, bind, no_terms, and_term, model, negative, not, calculate, is_less, is_at_most, is_equal, and, or, implies, forall}
 use Rattle.logic_term.specs.declared.term.TermNode.{TermNode}
 use Rattle.logic_term.specs.declared.term.TermNode.TheVariants as node
+
+abbrev pub terms_of : List Term → Terms
+terms_of [] = no_terms
+terms_of (t ∷ ts) = and_term t (terms_of ts)
 
 abbrev pub term_of : TermNode → Term
 term_of (node.Var x) = var x
 term_of (node.Lit z s) = lit z s
 term_of (node.Truth b) = truth b
+term_of (node.Make c ts) = apply (made c) (terms_of ts.items)
 term_of (node.Model a) = model a.value
 term_of (node.Arith op a b) = calculate op a.value b.value
 term_of (node.Neg a) = negative a.value

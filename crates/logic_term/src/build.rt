@@ -1,10 +1,11 @@
 ghost use Rattle.std.specs.Prelude.{◌≡◌, IfOk};
 ghost use Rattle.logic_term.specs.Ty.{math_int};
-ghost use Rattle.logic_term.specs.Term.{var, lit, truth, model, negative, not, calculate, is_less, is_at_most, is_equal, and, implies, forall};
+ghost use Rattle.logic_term.specs.TermView.{terms_of};
+ghost use Rattle.logic_term.specs.Term.{apply, made, var, lit, truth, unit, model, negative, not, calculate, is_less, is_at_most, is_equal, and, or, implies, forall};
 
-use crate::kinds::ArithOp;
+use crate::kinds::{ArithOp, Ctor};
 use crate::term::{Sort, Term, TermNode};
-use crate::ty::{Ty, TyNode};
+use crate::ty::Ty;
 use std::alloc::Global;
 use text_core::{Name, NoMemory};
 
@@ -30,10 +31,7 @@ impl Term {
     pub fn integer(number: i128) -> Term
         ensures { result ≡ lit number math_int }
     {
-        let sort = Ty {
-            node: TyNode::MathInt,
-        };
-        Term::lit(number, sort)
+        Term::lit(number, Ty::math_int())
     }
 
     pub fn truth(holds: bool) -> Term
@@ -42,6 +40,22 @@ impl Term {
         Term {
             node: TermNode::Truth(holds),
         }
+    }
+
+    /// A value made of parts.
+    pub fn made(ctor: Ctor, parts: Vec<Term>) -> Term
+        ensures { result ≡ apply (made ctor) (terms_of parts.items) }
+    {
+        Term {
+            node: TermNode::Make(ctor, parts),
+        }
+    }
+
+    /// `()`, the tuple of no parts.
+    pub fn unit(alloc: Global) -> Term
+        ensures { result ≡ unit }
+    {
+        Term::made(Ctor::Tuple, Vec::new(alloc))
     }
 
     pub fn model(alloc: Global, t: Term) -> Result<Term, NoMemory>
@@ -97,6 +111,13 @@ impl Term {
         ensures { IfOk result (λ t. t ≡ and a b) }
     {
         let node = TermNode::And(Box::new(alloc, a)?, Box::new(alloc, b)?);
+        Ok(Term { node })
+    }
+
+    pub fn or(alloc: Global, a: Term, b: Term) -> Result<Term, NoMemory>
+        ensures { IfOk result (λ t. t ≡ or a b) }
+    {
+        let node = TermNode::Or(Box::new(alloc, a)?, Box::new(alloc, b)?);
         Ok(Term { node })
     }
 

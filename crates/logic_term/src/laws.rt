@@ -2,7 +2,7 @@
 //! by which the contracts of this crate speak.
 
 ghost use Rattle.logic_term.specs.Laws.{PutTermsCountAsValues, BoundNamesDoNotCount, FreeNamesAloneCount, OtherNamesDoNotCount};
-ghost use Rattle.logic_term.specs.Laws.{ValuesAreSingle, ValuesAreSure, NormalFormsKeepValues};
+ghost use Rattle.logic_term.specs.Laws.{ValuesAreSingle, ValuesAreSure, ValuesOfMade, ValueOfUnit, NormalFormsKeepValues};
 ghost use Rattle.logic_term.specs.Laws.{TruthOfConstants, TruthOfNot, TruthOfAnd, TruthOfOr, TruthOfImplies, TruthOfForall, TruthOfLess, TruthOfAtMost, TruthOfEqual};
 
 /// Substitution: a term with `u` for a name has the values that it has where the name stands for the value of `u`.
@@ -33,6 +33,12 @@ pub fn values_are_single()
 /// No term can fail to have a value.
 pub fn values_are_sure()
     ensures { ValuesAreSure }
+{}
+
+/// What is made of parts is the value made of the parts' values; `()` is the tuple of none.
+pub fn values_of_made()
+    ensures parts { ValuesOfMade }
+    ensures unit { ValueOfUnit }
 {}
 
 /// The normal form of a term has the values of the term.

@@ -1,10 +1,11 @@
 ghost use Rattle.std.specs.Prelude.{◌≡◌, ◌↔◌, IfOk};
 ghost use Rattle.logic_term.specs.Term.{modeled, no_terms, and_term};
-ghost use Rattle.logic_term.specs.Normal.{simplified, reduced};
+ghost use Rattle.logic_term.specs.TermView.{terms_of};
+ghost use Rattle.logic_term.specs.Normal.{simplified, reduced, all_reduced};
 ghost use Rattle.logic_term.specs.Laws.{HasValuesOf};
 
 use crate::term::{Term, TermNode};
-use crate::ty::{Ty, TyNode};
+use crate::ty::TyNode;
 use std::alloc::Global;
 use text_core::NoMemory;
 
@@ -15,12 +16,7 @@ fn model_of(alloc: Global, t: Term) -> Result<Term, NoMemory>
     if let TermNode::Lit(number, sort) = &t.node
         && let TyNode::Int(_) = &sort.node
     {
-        let sort = Ty {
-            node: TyNode::MathInt,
-        };
-        return Ok(Term {
-            node: TermNode::Lit(*number, sort),
-        });
+        return Ok(Term::integer(*number));
     }
     Ok(Term {
         node: TermNode::Model(Box::new(alloc, t)?),
@@ -44,6 +40,7 @@ fn normal_form(alloc: Global, t: &Term) -> Result<Term, NoMemory>
         TermNode::Var(name) => TermNode::Var(*name),
         TermNode::Lit(number, sort) => TermNode::Lit(*number, sort.copy(alloc)?),
         TermNode::Truth(holds) => TermNode::Truth(*holds),
+        TermNode::Make(ctor, parts) => TermNode::Make(*ctor, normal_forms(alloc, parts)?),
         TermNode::Model(a) => return model_of(alloc, normal_form(alloc, a)?),
         TermNode::Arith(op, a, b) => {
             TermNode::Arith(
@@ -88,4 +85,16 @@ fn normal_form_boxed(alloc: Global, t: &Term) -> Result<Box<Term>, NoMemory>
     ensures { IfOk result (λ r. r.value ≡ reduced t.now) }
 {
     Ok(Box::new(alloc, normal_form(alloc, t)?)?)
+}
+
+#[cycle(normal_form)]
+#[tactic(auto, using(crate::specs::TermFalls::each_smaller))]
+fn normal_forms(alloc: Global, terms: &[Term]) -> Result<Vec<Term>, NoMemory>
+    ensures { IfOk result (λ v. terms_of v.items ≡ all_reduced (terms_of terms.now)) }
+{
+    let mut forms = Vec::with_capacity(alloc, terms.len())?;
+    for i in 0..terms.len() {
+        forms.push(normal_form(alloc, &terms[i])?)?;
+    }
+    Ok(forms)
 }

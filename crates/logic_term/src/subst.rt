@@ -1,6 +1,7 @@
 ghost use Rattle.std.specs.Prelude.{◌≡◌, ◌∷◌, ◌++◌, [], ◌↔◌, IfOk, IsTrue, map, max};
-ghost use Rattle.logic_term.specs.Free.{free};
-ghost use Rattle.logic_term.specs.Subst.{above, look, subst, renaming, replaced, SameUpToNames};
+ghost use Rattle.logic_term.specs.Free.{free, free_in_some};
+ghost use Rattle.logic_term.specs.TermView.{terms_of};
+ghost use Rattle.logic_term.specs.Subst.{above, all_above, look, subst, substs, subst_body, renaming, replaced, SameUpToNames};
 
 use crate::term::{Term, TermNode};
 use std::alloc::Global;
@@ -77,6 +78,7 @@ impl Term {
             TermNode::Var(other) => name.0 == other.0,
             TermNode::Lit(_, _) => false,
             TermNode::Truth(_) => false,
+            TermNode::Make(_, parts) => free_in_any(name, parts),
             TermNode::Model(t) => t.free_in(name),
             TermNode::Arith(_, a, b) => a.free_in(name) || b.free_in(name),
             TermNode::Neg(t) => t.free_in(name),
@@ -100,6 +102,7 @@ impl Term {
             TermNode::Var(name) => name.0.checked_add(1).ok_or(NoMemory),
             TermNode::Lit(_, _) => Ok(0),
             TermNode::Truth(_) => Ok(0),
+            TermNode::Make(_, parts) => above_all(parts),
             TermNode::Model(t) => t.above(),
             TermNode::Arith(_, a, b) => above_both(a, b),
             TermNode::Neg(t) => t.above(),
@@ -134,6 +137,10 @@ impl Term {
             TermNode::Var(name) => return looked_up(alloc, *name, renamings, sub),
             TermNode::Lit(number, sort) => TermNode::Lit(*number, sort.copy(alloc)?),
             TermNode::Truth(holds) => TermNode::Truth(*holds),
+            TermNode::Make(ctor, parts) => {
+                let parts = subst_all(alloc, parts, next, renamings, sub)?;
+                return Ok(Term::made(*ctor, parts));
+            }
             TermNode::Model(t) => TermNode::Model(t.subst_boxed(alloc, next, renamings, sub)?),
             TermNode::Arith(op, a, b) => TermNode::Arith(
                 *op,
@@ -167,14 +174,9 @@ impl Term {
                 b.subst_boxed(alloc, next, renamings, sub)?,
             ),
             TermNode::Forall(name, sort, t) => {
-                let to = Name(next);
-                let inner = with_renaming(alloc, Renaming { from: *name, to }, renamings)?;
-                let after = next.checked_add(1).ok_or(NoMemory)?;
-                TermNode::Forall(
-                    to,
-                    sort.copy(alloc)?,
-                    t.subst_boxed(alloc, after, inner.as_slice(), sub)?,
-                )
+                let sort = sort.copy(alloc)?;
+                let body = t.subst_under(alloc, *name, next, renamings, sub)?;
+                TermNode::Forall(Name(next), sort, body)
             }
         };
         Ok(Term { node })
@@ -191,6 +193,24 @@ impl Term {
         ensures { IfOk result (λ t. t.value ≡ subst next (map renaming renamings.now ++ sub.now) self.now) }
     {
         Ok(Box::new(alloc, self.subst(alloc, next, renamings, sub)?)?)
+    }
+
+    /// The body of a quantifier over the name, which gets the number `next`.
+    #[cycle(subst)]
+    fn subst_under(
+        &self,
+        alloc: Global,
+        from: Name,
+        next: u64,
+        renamings: &[Renaming],
+        sub: &[Replacement],
+    ) -> Result<Box<Term>, NoMemory>
+        ensures { IfOk result (λ t. t.value ≡ subst_body next from (map renaming renamings.now ++ sub.now) self.now) }
+    {
+        let to = Name(next);
+        let inner = with_renaming(alloc, Renaming { from, to }, renamings)?;
+        let after = next.checked_add(1).ok_or(NoMemory)?;
+        self.subst_boxed(alloc, after, inner.as_slice(), sub)
     }
 
     /// The term with another for the name; no name is captured.
@@ -222,4 +242,47 @@ fn above_both(a: &Term, b: &Term) -> Result<u64, NoMemory>
     let left = a.above()?;
     let right = b.above()?;
     Ok(left.max(right))
+}
+
+#[cycle(above)]
+#[tactic(auto, using(crate::specs::TermFalls::each_smaller))]
+fn above_all(terms: &[Term]) -> Result<u64, NoMemory>
+    ensures { IfOk result (λ n. n ≡ all_above (terms_of terms.now)) }
+{
+    let mut largest = 0u64;
+    for i in 0..terms.len() {
+        largest = largest.max(terms[i].above()?);
+    }
+    Ok(largest)
+}
+
+#[cycle(free_in)]
+#[tactic(auto, using(crate::specs::TermFalls::each_smaller))]
+fn free_in_any(name: Name, terms: &[Term]) -> bool
+    ensures { result ≡ free_in_some name (terms_of terms.now) }
+{
+    for i in 0..terms.len() {
+        if terms[i].free_in(name) {
+            return true;
+        }
+    }
+    false
+}
+
+#[cycle(subst)]
+#[tactic(auto, using(crate::specs::TermFalls::each_smaller))]
+fn subst_all(
+    alloc: Global,
+    terms: &[Term],
+    next: u64,
+    renamings: &[Renaming],
+    sub: &[Replacement],
+) -> Result<Vec<Term>, NoMemory>
+    ensures { IfOk result (λ v. terms_of v.items ≡ substs next (map renaming renamings.now ++ sub.now) (terms_of terms.now)) }
+{
+    let mut all = Vec::with_capacity(alloc, terms.len())?;
+    for i in 0..terms.len() {
+        all.push(terms[i].subst(alloc, next, renamings, sub)?)?;
+    }
+    Ok(all)
 }

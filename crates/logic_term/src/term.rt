@@ -1,6 +1,6 @@
 ghost use Rattle.std.specs.Prelude.{◌≡◌, ◌↔◌, IfOk, IsTrue};
 
-use crate::kinds::ArithOp;
+use crate::kinds::{ArithOp, Ctor};
 use crate::ty::Ty;
 use std::alloc::Global;
 use std::marker::Model;
@@ -24,6 +24,8 @@ pub enum TermNode {
     /// An integer of a machine type, or of the unbounded integers.
     Lit(i128, Sort),
     Truth(bool),
+    /// A value made of parts.
+    Make(Ctor, Vec<Term>),
     /// The unbounded integer of a machine integer, written `t@`.
     Model(Box<Term>),
     Arith(ArithOp, Box<Term>, Box<Term>),
@@ -59,6 +61,7 @@ impl Model for Term {
 
 impl Term {
     #[cycle(copy)]
+    #[tactic(auto, using(crate::specs::TermFalls::each_smaller))]
     pub fn copy(&self, alloc: Global) -> Result<Term, NoMemory>
         ensures { IfOk result (λ t. t ≡ self.now) }
     {
@@ -66,6 +69,7 @@ impl Term {
             TermNode::Var(name) => TermNode::Var(*name),
             TermNode::Lit(number, sort) => TermNode::Lit(*number, sort.copy(alloc)?),
             TermNode::Truth(holds) => TermNode::Truth(*holds),
+            TermNode::Make(ctor, parts) => TermNode::Make(*ctor, copy_terms(alloc, parts)?),
             TermNode::Model(t) => TermNode::Model(t.copy_boxed(alloc)?),
             TermNode::Arith(op, a, b) => {
                 TermNode::Arith(*op, a.copy_boxed(alloc)?, b.copy_boxed(alloc)?)
@@ -96,6 +100,8 @@ impl Term {
     }
 
     /// Whether both are the same term, bound names and sorts included.
+    #[cycle(same)]
+    #[tactic(auto, using(crate::specs::TermFalls::each_smaller, crate::specs::TermFalls::terms_of_injective))]
     pub fn same(&self, other: &Term) -> bool
         ensures { IsTrue result ↔ (self.now ≡ other.now) }
     {
@@ -103,6 +109,7 @@ impl Term {
             (TermNode::Var(x), TermNode::Var(y)) => x.0 == y.0,
             (TermNode::Lit(m, s), TermNode::Lit(n, q)) => m == n && s.same(q),
             (TermNode::Truth(a), TermNode::Truth(b)) => a == b,
+            (TermNode::Make(c, ts), TermNode::Make(d, us)) => c == d && same_terms(ts, us),
             (TermNode::Model(a), TermNode::Model(b)) => a.same(b),
             (TermNode::Arith(o, a, b), TermNode::Arith(p, c, d)) => {
                 o == p && a.same(c) && b.same(d)
@@ -121,4 +128,32 @@ impl Term {
             _ => false,
         }
     }
+}
+
+#[cycle(copy)]
+#[tactic(auto, using(crate::specs::TermFalls::each_smaller))]
+fn copy_terms(alloc: Global, terms: &[Term]) -> Result<Vec<Term>, NoMemory>
+    ensures { IfOk result (λ v. v.items ≡ terms.now) }
+{
+    let mut copies = Vec::with_capacity(alloc, terms.len())?;
+    for i in 0..terms.len() {
+        copies.push(terms[i].copy(alloc)?)?;
+    }
+    Ok(copies)
+}
+
+#[cycle(same)]
+#[tactic(auto, using(crate::specs::TermFalls::each_smaller))]
+fn same_terms(a: &[Term], b: &[Term]) -> bool
+    ensures { IsTrue result ↔ (a.now ≡ b.now) }
+{
+    if a.len() != b.len() {
+        return false;
+    }
+    for i in 0..a.len() {
+        if !a[i].same(&b[i]) {
+            return false;
+        }
+    }
+    true
 }

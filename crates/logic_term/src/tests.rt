@@ -1,4 +1,4 @@
-use super::{AdtId, ArithOp, IntKind, Region, Term, Ty, TyNode, reduce};
+use super::{AdtId, ArithOp, Ctor, IntKind, Region, Term, Ty, TyNode, reduce};
 use std::alloc::Global;
 use std::test::Fail;
 use text_core::{Name, NoMemory};
@@ -143,5 +143,27 @@ fn normal_form(rt: HostRuntime) -> Result<(), Fail> {
     let sum = sum_of(alloc, one)?;
     let wanted = sum_of(alloc, Term::integer(1))?;
     assert!(rt; reduces(alloc, &sum, &wanted)?);
+    Ok(())
+}
+
+/// `(x, last)`
+fn pair_of(alloc: Global, last: Term) -> Result<Term, NoMemory> {
+    let mut parts = Vec::with_capacity(alloc, 2)?;
+    parts.push(Term::var(X))?;
+    parts.push(last)?;
+    Ok(Term::made(Ctor::Tuple, parts))
+}
+
+#[test]
+fn made_of_parts(rt: HostRuntime) -> Result<(), Fail> {
+    let alloc = rt.alloc();
+    let t = pair_of(alloc, Term::var(Y))?;
+    assert!(rt; is_copied(alloc, &t)?);
+    assert!(rt; t.free_in(Y));
+    assert_eq!(rt; t.above()?, 8);
+    let wanted = pair_of(alloc, Term::unit(alloc))?;
+    assert!(rt; becomes(alloc, &t, Y, &Term::unit(alloc), &wanted)?);
+    assert!(rt; !t.same(&wanted));
+    assert!(rt; reduces(alloc, &wanted, &wanted)?);
     Ok(())
 }

@@ -1,5 +1,5 @@
 ghost use Rattle.std.specs.Prelude.{◌≡◌, ◌↔◌, IfOk, IsTrue};
-ghost use Rattle.logic_term.specs.Ty.{int};
+ghost use Rattle.logic_term.specs.Ty.{int, bool, math_int, unit_ty};
 
 use crate::kinds::{AdtId, FnKind, IntKind, Region};
 use std::alloc::Global;
@@ -72,6 +72,30 @@ impl Ty {
     {
         Ty {
             node: TyNode::Int(kind),
+        }
+    }
+
+    pub fn bool() -> Ty
+        ensures { result ≡ bool }
+    {
+        Ty { node: TyNode::Bool }
+    }
+
+    /// The unbounded integers of terms.
+    pub fn math_int() -> Ty
+        ensures { result ≡ math_int }
+    {
+        Ty {
+            node: TyNode::MathInt,
+        }
+    }
+
+    /// The type of `()`, the tuple of no parts.
+    pub fn unit(alloc: Global) -> Ty
+        ensures { result ≡ unit_ty }
+    {
+        Ty {
+            node: TyNode::Tuple(Vec::new(alloc)),
         }
     }
 

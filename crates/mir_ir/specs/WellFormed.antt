@@ -1,21 +1,22 @@
 -- Which bodies are typed, and in which each local that is read is initialised. The rules are those of the Rust Reference:
--- "Variables" and "Move and copy types" (what is initialised), "Operator expressions" (which operands an operator takes), "if
--- expressions" (the condition is a bool) and "Call expressions" (the callee's parameters and answer).
+-- "Variables" and "Move and copy types" (what is initialised), "Operator expressions" (which operands an operator takes), "Tuple
+-- expressions" (`()`), "if expressions" (the condition is a bool) and "Call expressions" (the callee's parameters and answer).
 use Rattle.std.specs.Prelude.{◌≡◌, ℕ, ◌+◌, ◌≤◌, ◌==◌, nat_lt, Bool, true, false, ◌&&◌, cond, List, [], ◌∷◌, length, take, drop, Some, slice_get}
 use Rattle.logic_term.specs.declared.kinds.Label.{Label}
 use Rattle.logic_term.specs.declared.kinds.IntKind.{IntKind}
 use Rattle.logic_term.specs.declared.kinds.IntKind.TheVariants.{I8, I16, I32, I64, Isize}
 use Rattle.logic_term.specs.declared.kinds.BinaryOp.{BinaryOp}
 use Rattle.logic_term.specs.declared.kinds.BinaryOp.TheVariants.{Add, Sub, Mul, Div, Rem, Eq, Ne, Lt, Le, Gt, Ge}
+use Rattle.logic_term.specs.declared.kinds.Ctor.TheVariants.{Tuple}
 use Rattle.logic_term.specs.Range.{fits}
-use Rattle.logic_term.specs.Ty.{Ty, int, bool}
+use Rattle.logic_term.specs.Ty.{Ty, int, bool, unit_ty}
 use Rattle.mir_ir.specs.declared.place.Place.{Place}
 use Rattle.mir_ir.specs.declared.place.Lit.{Lit}
 use Rattle.mir_ir.specs.declared.place.Lit.TheVariants as lit
 use Rattle.mir_ir.specs.declared.place.Operand.{Operand}
 use Rattle.mir_ir.specs.declared.place.Operand.TheVariants.{Copy, Move, Const}
 use Rattle.mir_ir.specs.declared.statement.Rvalue.{Rvalue}
-use Rattle.mir_ir.specs.declared.statement.Rvalue.TheVariants.{Use, Binary, Neg, Not}
+use Rattle.mir_ir.specs.declared.statement.Rvalue.TheVariants.{Use, Binary, Neg, Not, Make}
 use Rattle.mir_ir.specs.declared.statement.StatementKind.{StatementKind}
 use Rattle.mir_ir.specs.declared.statement.StatementKind.TheVariants.{Assign, Dead}
 use Rattle.mir_ir.specs.declared.statement.Statement.{Statement}
@@ -88,6 +89,8 @@ RvalueHas b (Use o) t = OperandHas b o t
 RvalueHas b (Binary op x y) t = (s : Ty) × OperandHas b x s × OperandHas b y s × OperationHas op s t
 RvalueHas b (Neg o) t = (k : IntKind) × IsSigned k × OperandHas b o (int k) × (t ≡ int k)
 RvalueHas b (Not o) t = OperandHas b o bool × (t ≡ bool)
+-- so far `()` alone is made
+RvalueHas b (Make c os) t = (c ≡ Tuple) × (os ≡ []) × (t ≡ unit_ty)
 
 abbrev pub StatementIsTyped : Body → StatementKind → Type 0
 StatementIsTyped b (Assign p r) = (t : Ty) × PlaceHas b p t × RvalueHas b r t
@@ -154,12 +157,14 @@ CanEvaluate set (Use o) = CanTake set o
 CanEvaluate set (Binary op x y) = CanTake set x × CanTake (taken x set) y
 CanEvaluate set (Neg o) = CanTake set o
 CanEvaluate set (Not o) = CanTake set o
+CanEvaluate set (Make c os) = CanTakeAll set os
 
 abbrev pub evaluated : Rvalue → Locals → Locals
 evaluated (Use o) set = taken o set
 evaluated (Binary op x y) set = taken y (taken x set)
 evaluated (Neg o) set = taken o set
 evaluated (Not o) set = taken o set
+evaluated (Make c os) set = all_taken os set
 
 abbrev pub CanRun : Locals → StatementKind → Type 0
 CanRun set (Assign p r) = CanEvaluate set r

@@ -1,6 +1,6 @@
 use crate::place::{Operand, Place};
-use logic_term::BinaryOp;
-use text_core::Span;
+use logic_term::{BinaryOp, Ctor};
+use text_core::{Items, Span};
 
 /// The right side of an assignment.
 #[derive(Drop)]
@@ -11,6 +11,8 @@ pub enum Rvalue {
     Neg(Operand),
     /// `!x` of a truth value.
     Not(Operand),
+    /// A value made of the operands' values, in order.
+    Make(Ctor, Items<Operand>),
 }
 
 #[derive(Drop)]

@@ -14,8 +14,9 @@ use Rattle.logic_term.specs.declared.kinds.Label.{Label}
 use Rattle.logic_term.specs.declared.kinds.IntKind.TheVariants.{I8, I16, I32, I64, Isize, U8, U16, U32, U64, Usize}
 use Rattle.logic_term.specs.declared.kinds.BinaryOp.{BinaryOp}
 use Rattle.logic_term.specs.declared.kinds.BinaryOp.TheVariants.{Add, Sub, Mul, Div, Rem, Eq, Ne, Lt, Le, Gt, Ge}
+use Rattle.logic_term.specs.declared.kinds.Ctor.TheVariants.{Tuple}
 use Rattle.logic_term.specs.Range.{fits}
-use Rattle.logic_term.specs.Ty.{Ty, Tys, int, bool, no_tys}
+use Rattle.logic_term.specs.Ty.{Ty, Tys, int, bool, tuple, no_tys, and_ty, unit_ty}
 use Rattle.logic_term.specs.TyView.{tys_of}
 use Rattle.logic_term.specs.Sort.{Declarations, instance, instances, nth_ty}
 use Rattle.mir_ir.specs.declared.place.Lit.{Lit}
@@ -24,7 +25,7 @@ use Rattle.mir_ir.specs.declared.place.Place.{Place}
 use Rattle.mir_ir.specs.declared.place.Operand.{Operand}
 use Rattle.mir_ir.specs.declared.place.Operand.TheVariants.{Copy, Move, Const}
 use Rattle.mir_ir.specs.declared.statement.Rvalue.{Rvalue}
-use Rattle.mir_ir.specs.declared.statement.Rvalue.TheVariants.{Use, Binary, Neg, Not}
+use Rattle.mir_ir.specs.declared.statement.Rvalue.TheVariants.{Use, Binary, Neg, Not, Make}
 use Rattle.mir_ir.specs.declared.statement.StatementKind.{StatementKind}
 use Rattle.mir_ir.specs.declared.statement.StatementKind.TheVariants.{Assign, Dead}
 use Rattle.mir_ir.specs.declared.statement.Statement.{Statement}
@@ -35,14 +36,14 @@ use Rattle.mir_ir.specs.declared.terminator.TerminatorKind.TheVariants.{Goto, If
 use Rattle.mir_ir.specs.declared.body.Block.{Block}
 use Rattle.mir_ir.specs.declared.body.Body.{Body}
 use Rattle.mir_machine.specs.Try.{Try, Yields, Panics, Sticks, ◌>>=◌, need}
-use Rattle.mir_machine.specs.Tree.{Tree, Int, Truth, Gone, trees_of}
+use Rattle.mir_machine.specs.Tree.{Tree, Trees, Int, Truth, Made, Gone, no_trees, trees_of}
 use Rattle.mir_machine.specs.Frame.{Frame, State}
 use Rattle.mir_ir.specs.Body.{block_in, whole, place_ty, kind_of, kind_in, answer_ty}
 use Rattle.mir_machine.specs.Memory.{is_there}
 use Rattle.mir_machine.specs.Step.{try_step, fit, divide, of_integers, of_truths, binary, negated, inverted, truth_of, literal, callee_frame, Outcome, Running, Returned, Panicked, Stuck, outcome_of, step, next, after_from, after, entered, come_back}
 use Rattle.mir_machine.specs.FrameStep.{IsWhole, ReadsWholes, NamesWholes, AreWhole, EndNamesWholes, AllNameWholes, Left, local_tree, take_operand, take_operands, evaluate, put_local, run_local, FrameEnd, Stays, Calls, Answers, starting, frame_end, frame_row, frame_step, settled, frame_block, resumed_at, resumed}
 use Rattle.mir_ir.specs.WellFormed.{PlaceHas, LitHas, OperandHas, OperandsHave, operation_ty, IsEquality, OperationHas, RvalueHas, StatementIsTyped, EndIsTyped, IsTyped, Locals, without, with, CanTake, taken, CanTakeAll, all_taken, CanEvaluate, evaluated, CanRun, run, CanEnd, Carries, Within, parameters, AreSound}
-use Rattle.mir_machine.specs.Typed.{Met, Typed, AreTyped, is_int, is_truth, is_tuple, is_adt, is_closure, is_boxed, is_shared, is_unique, more_typed}
+use Rattle.mir_machine.specs.Typed.{Met, Typed, AreTyped, is_int, is_truth, is_tuple, is_adt, is_closure, is_boxed, is_shared, is_unique, none_typed, more_typed}
 use Rattle.mir_machine.specs.Good.{called, IsInstance, IsProper}
 use Rattle.mir_machine.specs.Run.{IsSafe}
 use Rattle.mir_machine.proofs.Tried.{Goes, goes_then}
@@ -60,6 +61,7 @@ rvalue_wholes b (Use o) t h = operand_whole b o t h
 rvalue_wholes b (Binary op x y) t (s, hx, hy, e) = (operand_whole b x s hx, operand_whole b y s hy)
 rvalue_wholes b (Neg o) t (k, signed, h, e) = operand_whole b o (int k) h
 rvalue_wholes b (Not o) t (h, e) = operand_whole b o bool h
+rvalue_wholes b (Make c os) t (is_c, none, e) = subst AreWhole (sym none) tt
 
 statement_wholes : (b : Body) (st : StatementKind) → StatementIsTyped b st → NamesWholes st
 statement_wholes b (Assign p r) (t, hp, hr) = (hp.0, rvalue_wholes b r t hr)
@@ -87,10 +89,11 @@ sound_wholes bodies sound f b is_body = record {
 abbrev pub IsThere : {K : Type 0} → Tree K → Type 0
 IsThere t = is_there t ≡ Yields t
 
--- an integer of the type, or a truth value
+-- an integer of the type, a truth value, or `()`
 abbrev pub IsOf : {K : Type 0} → Ty → Tree K → Type 0
 IsOf (int k) t = (z : ℤ) × (t ≡ Int z) × (fits k z ≡ true)
 IsOf bool t = (b : Bool) × (t ≡ Truth b)
+IsOf (tuple no_tys) t = t ≡ Made Tuple no_trees
 IsOf _ t = Unit {0}
 
 abbrev pub Shape : {K : Type 0} → Ty → Tree K → Type 0
@@ -102,10 +105,20 @@ int_typed Δ s t k (there, (z, is, e)) = subst (λ u. Typed Δ s u (int k) []) (
 pub bool_typed : {K : Type 0} (Δ : Declarations) (s : State K) (t : Tree K) → Shape bool t → Typed Δ s t bool []
 bool_typed Δ s t (there, (b, is)) = subst (λ u. Typed Δ s u bool []) (sym is) is_truth
 
+pub unit_typed : {K : Type 0} (Δ : Declarations) (s : State K) (t : Tree K) → Shape unit_ty t → Typed Δ s t unit_ty []
+unit_typed Δ s t (there, is) = subst (λ u. Typed Δ s u unit_ty []) (sym is) (is_tuple none_typed)
+
+no_parts : {K : Type 0} (Δ : Declarations) (s : State K) (ts : Trees K) (met : List Met) → AreTyped Δ s ts no_tys met → ts ≡ no_trees
+no_parts Δ s ts met none_typed = refl
+
+tuple_shape : {K : Type 0} (Δ : Declarations) (s : State K) (ts : Trees K) (tys : Tys) (met : List Met) → AreTyped Δ s ts tys met → IsOf (tuple tys) (Made Tuple ts)
+tuple_shape Δ s ts no_tys met h = ap (λ us. Made Tuple us) (no_parts Δ s ts met h)
+tuple_shape Δ s ts (and_ty ty tys) met h = tt
+
 pub typed_shape : {K : Type 0} (Δ : Declarations) (s : State K) (t : Tree K) (ty : Ty) (met : List Met) → Typed Δ s t ty met → Shape ty t
 typed_shape Δ s t ty met (is_int {z} {k} e) = (refl, (z, refl, e))
 typed_shape Δ s t ty met (is_truth {b}) = (refl, (b, refl))
-typed_shape Δ s t ty met (is_tuple h) = (refl, tt)
+typed_shape Δ s t ty met (is_tuple {ts} {tys} h) = (refl, tuple_shape Δ s ts tys met h)
 typed_shape Δ s t ty met (is_adt e h) = (refl, tt)
 typed_shape Δ s t ty met (is_closure h) = (refl, tt)
 typed_shape Δ s t ty met (is_boxed h) = (refl, tt)
@@ -324,6 +337,10 @@ evaluate_goes {K} b θ set ls span (Neg o) ty h (k, signed, has, is_ty) can =
 evaluate_goes {K} b θ set ls span (Not o) ty h (has, is_ty) can =
     subst (λ q. Goes (Keeps b θ (taken o set) q) (evaluate ls (kind_of (instance θ q)) span (Not o))) (sym is_ty)
     (unary_goes b θ set ls o bool bool inverted h has can inverted_goes)
+evaluate_goes {K} b θ set ls span (Make c os) ty h (is_c, none, is_ty) can =
+    subst (λ q. Goes (Keeps b θ (all_taken os set) q) (evaluate ls (kind_of (instance θ q)) span (Make c os))) (sym is_ty)
+    (subst (λ qs. Goes (Keeps b θ (all_taken qs set) unit_ty) (evaluate ls None span (Make c qs))) (sym none)
+    (subst (λ d. Goes (Keeps b θ set unit_ty) (evaluate ls None span (Make d []))) (sym is_c) (h, (refl, refl))))
 
 -- ---- statements
 

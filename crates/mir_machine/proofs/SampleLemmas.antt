@@ -4,16 +4,17 @@ use Rattle.std.proofs.lemmas.Bool.{eqb-true}
 use Rattle.std.specs.Int.{w32}
 use Rattle.logic_term.specs.declared.kinds.BinaryOp.{BinaryOp}
 use Rattle.logic_term.specs.declared.kinds.IntKind.{IntKind}
+use Rattle.logic_term.specs.declared.kinds.Ctor.TheVariants.{Tuple}
 use Rattle.logic_term.specs.declared.kinds.IntKind.TheVariants.{I32}
 use Rattle.logic_term.specs.declared.kinds.Label.{Label}
 use Rattle.logic_term.specs.Range.{fits}
 use Rattle.logic_term.specs.Sort.{Declarations, instance}
-use Rattle.logic_term.specs.Ty.{Ty, Tys, int, bool, no_tys, and_ty}
+use Rattle.logic_term.specs.Ty.{Ty, Tys, int, bool, no_tys, and_ty, unit_ty}
 use Rattle.mir_ir.specs.declared.place.Lit.TheVariants as lit
 use Rattle.mir_ir.specs.declared.place.Operand.{Operand}
 use Rattle.mir_ir.specs.declared.place.Operand.TheVariants.{Copy, Const}
 use Rattle.mir_ir.specs.declared.statement.Rvalue.{Rvalue}
-use Rattle.mir_ir.specs.declared.statement.Rvalue.TheVariants.{Binary, Neg, Not}
+use Rattle.mir_ir.specs.declared.statement.Rvalue.TheVariants.{Binary, Neg, Not, Make}
 use Rattle.mir_ir.specs.declared.statement.Statement.{Statement}
 use Rattle.mir_ir.specs.declared.body.Block.{Block}
 use Rattle.mir_ir.specs.declared.body.Body.{Body}
@@ -146,6 +147,9 @@ neg_sound k signed = sample_sound (int k) (int k) (Neg (Copy (whole 1))) (k, sig
 
 pub not_sound : AreSound (sample bool bool (Not (Copy (whole 1))) ∷ [])
 not_sound = sample_sound bool bool (Not (Copy (whole 1))) ((refl, refl), refl) refl
+
+pub unit_sound : AreSound (sample unit_ty (int I32) (Make Tuple []) ∷ [])
+unit_sound = sample_sound unit_ty (int I32) (Make Tuple []) (refl, refl, refl) tt
 
 -- ---- the absolute value, and a call of it
 
@@ -284,6 +288,12 @@ neg_samples bodies answer takes first k are is_answer is_takes is_first signed =
 
 pub not_samples : (bodies : List Body) (first : Operand) → bodies ≡ sample bool bool (Not first) ∷ [] → first ≡ Copy (whole 1) → AreSound bodies
 not_samples bodies first are is_first = subst AreSound (sym (are ∙ ap (λ o. sample bool bool (Not o) ∷ []) is_first)) not_sound
+
+pub unit_samples : (bodies : List Body) (answer takes : Ty) (os : List Operand) → bodies ≡ sample answer takes (Make Tuple os) ∷ [] → answer ≡ unit_ty → takes ≡ int I32 → os ≡ [] → AreSound bodies
+unit_samples bodies answer takes os are is_answer is_takes none =
+    subst AreSound
+    (sym (are ∙ ap (λ ty. sample ty takes (Make Tuple os) ∷ []) is_answer ∙ ap (λ ty. sample unit_ty ty (Make Tuple os) ∷ []) is_takes ∙ ap (λ qs. sample unit_ty (int I32) (Make Tuple qs) ∷ []) none))
+    unit_sound
 
 pub sample_takes : (bodies : List Body) (answer takes : Ty) (r : Rvalue) (t : Tree (Unit {0})) (k : IntKind) (x : ℤ) → bodies ≡ sample answer takes r ∷ [] → takes ≡ int k → t ≡ Int x → fits k x ≡ true → TakesOne bodies 0 t
 sample_takes bodies answer takes r t k x are is_takes is_x x_fits =

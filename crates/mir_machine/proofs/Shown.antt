@@ -3,41 +3,51 @@ use Rattle.std.proofs.Common.{◌≡◌, ◌⊎◌, inl, inr, ⊎_elim, refl, sy
 use Rattle.std.specs.Ordering.{int_eq}
 use Rattle.text_core.specs.declared.refusal.Cause.TheVariants.{Overflow, Division}
 use Rattle.text_core.specs.declared.span.Span.{Span}
+use Rattle.logic_term.specs.declared.kinds.Ctor.{Ctor}
 use Rattle.logic_term.specs.declared.kinds.IntKind.{IntKind}
 use Rattle.logic_term.specs.declared.kinds.BinaryOp.{BinaryOp}
 use Rattle.logic_term.specs.declared.kinds.BinaryOp.TheVariants.{Add, Sub, Mul, Div, Rem, Eq, Ne, Lt, Le, Gt, Ge}
 use Rattle.logic_term.specs.Range.{fits}
 use Rattle.logic_term.specs.Ty.{Tys}
-use Rattle.logic_term.specs.Value.{Value, Number, Flag, nothing, integer_of, flag_of}
+use Rattle.logic_term.specs.Value.{Value, Values, Number, Flag, no_values, and_value, nothing, integer_of, flag_of}
+use Rattle.logic_term.specs.Value as value
 use Rattle.mir_machine.specs.declared.spot.Spot.{Spot}
 use Rattle.mir_ir.specs.declared.place.Lit.{Lit}
 use Rattle.mir_ir.specs.declared.place.Lit.TheVariants as lit
 use Rattle.mir_ir.specs.declared.place.Operand.{Operand}
 use Rattle.mir_ir.specs.declared.place.Operand.TheVariants.{Copy, Move, Const}
 use Rattle.mir_ir.specs.declared.statement.Rvalue.{Rvalue}
-use Rattle.mir_ir.specs.declared.statement.Rvalue.TheVariants.{Use, Binary, Neg, Not}
+use Rattle.mir_ir.specs.declared.statement.Rvalue.TheVariants.{Use, Binary, Neg, Not, Make}
 use Rattle.mir_ir.specs.declared.statement.StatementKind.TheVariants.{Assign, Dead}
 use Rattle.mir_ir.specs.declared.place.Place.{Place}
 use Rattle.mir_ir.specs.declared.body.Body.{Body}
 use Rattle.mir_machine.specs.Try.{Try, Yields, Panics, ◌>>=◌, need}
-use Rattle.mir_machine.specs.Tree.{Tree, Int, Truth, Made, Boxed, Shared, Unique, Gone}
+use Rattle.mir_machine.specs.Tree.{Tree, Trees, Int, Truth, Made, Boxed, Shared, Unique, Gone, no_trees, and_tree, trees_of}
 use Rattle.mir_machine.specs.Frame.{State}
 use Rattle.mir_ir.specs.Body.{kind_in, place_ty}
 use Rattle.mir_machine.specs.Memory.{is_there}
 use Rattle.mir_machine.specs.Step.{fit, divide, of_integers, same_truth, of_truths, binary, negated, inverted, literal}
-use Rattle.mir_machine.specs.FrameStep.{Left, local_tree, take_operand, evaluate, put_local, run_local}
-use Rattle.mir_machine.specs.Reads.{View, Reads, of_lent, of_int, of_truth}
+use Rattle.mir_machine.specs.FrameStep.{Left, local_tree, take_operand, take_operands, evaluate, put_local, run_local}
+use Rattle.mir_machine.specs.Reads.{View, Reads, ReadsAll, of_lent, of_int, of_truth, of_made, of_none}
 use Rattle.mir_machine.specs.Good.{not_lent}
 use Rattle.mir_machine.proofs.Tried.{Quiet, quiet_then, quiet_need}
 
 -- ---- trees and values
 
--- an integer or a truth value shows that value; what is gone shows any
-abbrev pub Shows : {K : Type 0} → Tree K → Value → Type 0
-Shows (Int z) v = v ≡ Number z
-Shows (Truth b) v = v ≡ Flag b
-Shows Gone v = Unit {0}
-Shows _ v = ⊥
+-- an integer, a truth value, and what is made of parts show that value; what is gone shows any
+abbrev mutual
+  pub Shows : {K : Type 0} → Tree K → Value → Type 0
+  Shows (Int z) v = v ≡ Number z
+  Shows (Truth b) v = v ≡ Flag b
+  Shows (Made c ts) v = (vs : Values) × ShowAll ts vs × (v ≡ value.Made c vs)
+  Shows Gone v = Unit {0}
+  Shows (Boxed t) v = ⊥
+  Shows (Shared at) v = ⊥
+  Shows (Unique k at) v = ⊥
+
+  pub ShowAll : {K : Type 0} → Trees K → Values → Type 0
+  ShowAll no_trees vs = vs ≡ no_values
+  ShowAll (and_tree t ts) vs = (w : Value) × (ws : Values) × Shows t w × ShowAll ts ws × (vs ≡ and_value w ws)
 
 -- what reads as a value shows it, if it is an integer
 pub reads-int : {K : Type 0} {s : State K} {final : K → Spot → Value} {w : View K} {at : Spot} {z : ℤ} {v : Value} → Reads false s final not_lent w at (Int z) v → v ≡ Number z
@@ -47,6 +57,13 @@ reads-int (of_int e) = refl
 pub reads-truth : {K : Type 0} {s : State K} {final : K → Spot → Value} {w : View K} {at : Spot} {b : Bool} {v : Value} → Reads false s final not_lent w at (Truth b) v → v ≡ Flag b
 reads-truth (of_lent e) = absurd (cc)
 reads-truth (of_truth e) = refl
+
+no_parts : {K : Type 0} {s : State K} {final : K → Spot → Value} {w : View K} {at : Spot} {n : ℕ} {vs : Values} → ReadsAll false s final not_lent w at n no_trees vs → vs ≡ no_values
+no_parts of_none = refl
+
+pub reads-empty : {K : Type 0} {s : State K} {final : K → Spot → Value} {w : View K} {at : Spot} {c : Ctor} {v : Value} → Reads false s final not_lent w at (Made c no_trees) v → v ≡ value.Made c no_values
+reads-empty (of_lent e) = absurd (cc)
+reads-empty (of_made {c = c} e parts) = ap (λ vs. value.Made c vs) (no_parts parts)
 
 -- ---- locals
 
@@ -136,6 +153,24 @@ operand-shows ls ρ (Copy p) h =
 operand-shows ls ρ (Move p) h =
     quiet_then (λ t. Shows t (ρ p.local)) (Leaves ρ (ρ p.local)) (local_tree ls p.local) (λ t. Yields (slice_set ls p.local Gone, t)) (local-shows ls ρ p.local h) (λ t shows. (agrees_gone ls ρ p.local h, shows))
 operand-shows {K} ls ρ (Const l) h = (h, literal-shows K l)
+
+abbrev pub operand_values : Store → List Operand → Values
+operand_values ρ [] = no_values
+operand_values ρ (o ∷ os) = and_value (operand_value ρ o) (operand_values ρ os)
+
+-- locals that agree, and trees that show the values
+abbrev pub LeavesAll : {K : Type 0} → Store → Values → List (Tree K) × List (Tree K) → Type 0
+LeavesAll ρ vs r = Agrees r.0 ρ × ShowAll (trees_of r.1) vs
+
+pub operands-show : {K : Type 0} (ls : List (Tree K)) (ρ : Store) (os : List Operand) → Agrees ls ρ → Quiet (LeavesAll ρ (operand_values ρ os)) (take_operands ls os)
+operands-show ls ρ [] h = (h, refl)
+operands-show {K} ls ρ (o ∷ os) h =
+    let v = operand_value ρ o in
+    let vs = operand_values ρ os in
+    let more : Tree K → List (Tree K) × List (Tree K) → Try (List (Tree K) × List (Tree K)) = λ t r. Yields (r.0, t ∷ r.1) in
+    quiet_then (Leaves ρ v) (LeavesAll ρ (and_value v vs)) (take_operand ls o) (λ l. take_operands l.0 os >>= more l.1) (operand-shows ls ρ o h)
+    (λ l first. quiet_then (LeavesAll ρ vs) (LeavesAll ρ (and_value v vs)) (take_operands l.0 os) (more l.1) (operands-show l.0 ρ os first.0)
+    (λ r rest. (rest.0, (v, vs, first.1, rest.1, refl))))
 
 -- ---- operations
 
@@ -272,6 +307,7 @@ rvalue_value ρ (Use o) = operand_value ρ o
 rvalue_value ρ (Binary op a b) = applied op (operand_value ρ a) (operand_value ρ b)
 rvalue_value ρ (Neg o) = Number (opposite (operand_value ρ o))
 rvalue_value ρ (Not o) = Flag (not (flag_of (operand_value ρ o)))
+rvalue_value ρ (Make c os) = value.Made c (operand_values ρ os)
 
 -- the right side does not panic, where a place of this kind is written
 abbrev pub RvalueIsInRange : Option IntKind → Store → Rvalue → Type 0
@@ -279,6 +315,7 @@ RvalueIsInRange kind ρ (Use o) = Unit {0}
 RvalueIsInRange kind ρ (Binary op a b) = IsInRange kind op (integer_of (operand_value ρ a)) (integer_of (operand_value ρ b))
 RvalueIsInRange kind ρ (Neg o) = InKind kind (λ k. fits k (opposite (operand_value ρ o)) ≡ true)
 RvalueIsInRange kind ρ (Not o) = Unit {0}
+RvalueIsInRange kind ρ (Make c os) = Unit {0}
 
 -- one operand, and what is made of its tree
 unary-shows : {K : Type 0} (ls : List (Tree K)) (ρ : Store) (o : Operand) (v : Value) (make : Tree K → Try (Tree K)) → Agrees ls ρ → ((t : Tree K) → Shows t (operand_value ρ o) → Quiet (λ r. Shows r v) (make t)) → Quiet (Leaves ρ v) (take_operand ls o >>= λ l. make l.1 >>= λ t. Yields (l.0, t))
@@ -301,6 +338,10 @@ rvalue-shows ls ρ kind span (Neg o) h in_range =
     unary-shows ls ρ o (Number (opposite (operand_value ρ o))) (negated kind span) h (λ t shows. negated-shows kind span t (operand_value ρ o) shows in_range)
 rvalue-shows ls ρ kind span (Not o) h in_range =
     unary-shows ls ρ o (Flag (not (flag_of (operand_value ρ o)))) inverted h (λ t shows. inverted-shows t (operand_value ρ o) shows)
+rvalue-shows {K} ls ρ kind span (Make c os) h in_range =
+    let vs = operand_values ρ os in
+    quiet_then (LeavesAll ρ vs) (Leaves ρ (value.Made c vs)) (take_operands ls os) (λ r. Yields (r.0, Made c (trees_of r.1))) (operands-show ls ρ os h)
+    (λ r leaves. (leaves.0, (vs, leaves.1, refl)))
 
 pub assign-shows : {K : Type 0} (b : Body) (θ : Tys) (ls : List (Tree K)) (ρ : Store) (span : Span) (p : Place) (r : Rvalue) → Agrees ls ρ → RvalueIsInRange (kind_in (place_ty b θ p)) ρ r → Quiet (λ ls'. Agrees ls' (stored p.local (rvalue_value ρ r) ρ)) (run_local b θ ls span (Assign p r))
 assign-shows {K} b θ ls ρ span p r h in_range =

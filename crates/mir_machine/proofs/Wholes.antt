@@ -9,7 +9,7 @@ use Rattle.mir_ir.specs.declared.place.Place.{Place}
 use Rattle.mir_ir.specs.declared.place.Operand.{Operand}
 use Rattle.mir_ir.specs.declared.place.Operand.TheVariants.{Copy, Move, Const}
 use Rattle.mir_ir.specs.declared.statement.Rvalue.{Rvalue}
-use Rattle.mir_ir.specs.declared.statement.Rvalue.TheVariants.{Use, Binary, Neg, Not}
+use Rattle.mir_ir.specs.declared.statement.Rvalue.TheVariants.{Use, Binary, Neg, Not, Make}
 use Rattle.mir_ir.specs.declared.statement.StatementKind.{StatementKind}
 use Rattle.mir_ir.specs.declared.statement.StatementKind.TheVariants.{Assign, Dead}
 use Rattle.mir_ir.specs.declared.statement.Statement.{Statement}
@@ -20,7 +20,7 @@ use Rattle.mir_ir.specs.declared.terminator.Terminator.{Terminator}
 use Rattle.mir_ir.specs.declared.body.Block.{Block}
 use Rattle.mir_ir.specs.declared.body.Body.{Body}
 use Rattle.mir_machine.specs.Try.{Try, Yields, Panics, Sticks, ◌>>=◌, need}
-use Rattle.mir_machine.specs.Tree.{Tree, Gone}
+use Rattle.mir_machine.specs.Tree.{Tree, Gone, Made, trees_of}
 use Rattle.mir_machine.specs.Frame.{Frame, State}
 use Rattle.mir_ir.specs.Body.{block_in, place_ty, kind_in}
 use Rattle.mir_machine.specs.Memory.{frame_at, set_frame, is_there, read, write}
@@ -154,6 +154,12 @@ rvalue-whole {K} f fs kind span (Binary op a b) e =
     ∙ sym (then_then (take_operand f.locals a) rest' (λ l. Yields (taken_state f fs l)))
 rvalue-whole f fs kind span (Neg o) e = unary-whole f fs o (negated kind span) e
 rvalue-whole f fs kind span (Not o) e = unary-whole f fs o inverted e
+rvalue-whole {K} f fs kind span (Make c os) e =
+    let last : State K × List (Tree K) → Try (Taken K) = λ r. Yields (r.0, Made c (trees_of r.1)) in
+    let last' : Several K → Try (Left K) = λ r. Yields (r.0, Made c (trees_of r.1)) in
+    ap (λ (m : Try (State K × List (Tree K))). m >>= last) (operands-whole f fs os e)
+    ∙ then_then (take_operands f.locals os) (λ r. Yields (with_locals f fs r.0, r.1)) last
+    ∙ sym (then_then (take_operands f.locals os) last' (λ l. Yields (taken_state f fs l)))
 
 -- ---- steps
 

@@ -2,13 +2,14 @@
 -- locals alone, and a return those of the frame that called it.
 use Rattle.std.specs.Prelude.{◌≡◌, ℕ, ◌+◌, Bool, cond, List, [], ◌∷◌, Option, Some, None, option_and_then, slice_get, slice_set}
 use Rattle.text_core.specs.declared.span.Span.{Span}
+use Rattle.logic_term.specs.declared.kinds.Ctor.{Ctor}
 use Rattle.logic_term.specs.declared.kinds.IntKind.{IntKind}
 use Rattle.logic_term.specs.declared.kinds.Label.{Label}
 use Rattle.logic_term.specs.Ty.{Tys}
 use Rattle.mir_ir.specs.declared.place.Operand.{Operand}
 use Rattle.mir_ir.specs.declared.place.Operand.TheVariants.{Copy, Move, Const}
 use Rattle.mir_ir.specs.declared.statement.Rvalue.{Rvalue}
-use Rattle.mir_ir.specs.declared.statement.Rvalue.TheVariants.{Use, Binary, Neg, Not}
+use Rattle.mir_ir.specs.declared.statement.Rvalue.TheVariants.{Use, Binary, Neg, Not, Make}
 use Rattle.mir_ir.specs.declared.statement.StatementKind.{StatementKind}
 use Rattle.mir_ir.specs.declared.statement.StatementKind.TheVariants.{Assign, Dead}
 use Rattle.mir_ir.specs.declared.statement.Statement.{Statement}
@@ -19,7 +20,7 @@ use Rattle.mir_ir.specs.declared.terminator.Terminator.{Terminator}
 use Rattle.mir_ir.specs.declared.body.Block.{Block}
 use Rattle.mir_ir.specs.declared.body.Body.{Body}
 use Rattle.mir_machine.specs.Try.{Try, Yields, Sticks, ◌>>=◌, need}
-use Rattle.mir_machine.specs.Tree.{Tree, Int, Truth, Gone}
+use Rattle.mir_machine.specs.Tree.{Tree, Int, Truth, Made, Gone, trees_of}
 use Rattle.mir_machine.specs.Frame.{Frame, State}
 use Rattle.mir_ir.specs.Body.{block_in, place_ty, kind_in}
 use Rattle.mir_machine.specs.Memory.{is_there}
@@ -32,19 +33,20 @@ IsWhole (Copy p) = p.path ≡ []
 IsWhole (Move p) = p.path ≡ []
 IsWhole (Const l) = Unit {0}
 
+abbrev pub AreWhole : List Operand → Type 0
+AreWhole [] = Unit {0}
+AreWhole (o ∷ os) = IsWhole o × AreWhole os
+
 abbrev pub ReadsWholes : Rvalue → Type 0
 ReadsWholes (Use o) = IsWhole o
 ReadsWholes (Binary op a b) = IsWhole a × IsWhole b
 ReadsWholes (Neg o) = IsWhole o
 ReadsWholes (Not o) = IsWhole o
+ReadsWholes (Make c os) = AreWhole os
 
 abbrev pub NamesWholes : StatementKind → Type 0
 NamesWholes (Assign p r) = (p.path ≡ []) × ReadsWholes r
 NamesWholes (Dead x) = Unit {0}
-
-abbrev pub AreWhole : List Operand → Type 0
-AreWhole [] = Unit {0}
-AreWhole (o ∷ os) = IsWhole o × AreWhole os
 
 abbrev pub EndNamesWholes : TerminatorKind → Type 0
 EndNamesWholes (Goto l) = Unit {0}
@@ -82,6 +84,10 @@ take_operands ls (o ∷ os) = do
   (ls₂, ts) ← take_operands ls₁ os
   Yields (ls₂, t ∷ ts)
 
+-- a value made of the operands' trees
+abbrev pub make_tree : {K : Type 0} → List (Tree K) → Ctor → List Operand → Try (Left K)
+make_tree ls c os = take_operands ls os >>= λ r. Yields (r.0, Made c (trees_of r.1))
+
 abbrev pub evaluate : {K : Type 0} → List (Tree K) → Option IntKind → Span → Rvalue → Try (Left K)
 evaluate ls kind span (Use o) = take_operand ls o
 evaluate ls kind span (Binary op a b) = do
@@ -97,6 +103,7 @@ evaluate ls kind span (Not o) = do
   (ls₁, x) ← take_operand ls o
   t ← inverted x
   Yields (ls₁, t)
+evaluate ls kind span (Make c os) = make_tree ls c os
 
 -- an integer or a truth value
 abbrev pub scalar : {K : Type 0} → Tree K → Try (Tree K)

@@ -18,7 +18,7 @@ use Rattle.mir_ir.specs.declared.place.Lit.TheVariants as lit
 use Rattle.mir_ir.specs.declared.place.Operand.{Operand}
 use Rattle.mir_ir.specs.declared.place.Operand.TheVariants.{Copy, Move, Const}
 use Rattle.mir_ir.specs.declared.statement.Rvalue.{Rvalue}
-use Rattle.mir_ir.specs.declared.statement.Rvalue.TheVariants.{Use, Binary, Neg, Not}
+use Rattle.mir_ir.specs.declared.statement.Rvalue.TheVariants.{Use, Binary, Neg, Not, Make}
 use Rattle.mir_ir.specs.declared.statement.StatementKind.{StatementKind}
 use Rattle.mir_ir.specs.declared.statement.StatementKind.TheVariants.{Assign, Dead}
 use Rattle.mir_ir.specs.declared.statement.Statement.{Statement}
@@ -30,7 +30,7 @@ use Rattle.mir_ir.specs.declared.terminator.TerminatorKind.TheVariants.{Goto, If
 use Rattle.mir_ir.specs.declared.terminator.Terminator.{Terminator}
 use Rattle.mir_ir.specs.declared.body.Body.{Body}
 use Rattle.mir_machine.specs.Try.{Try, Yields, Panics, Sticks, ◌>>=◌, need}
-use Rattle.mir_machine.specs.Tree.{Tree, Int, Truth, Gone}
+use Rattle.mir_machine.specs.Tree.{Tree, Int, Truth, Gone, Made, trees_of}
 use Rattle.mir_machine.specs.Frame.{Frame, State}
 use Rattle.mir_ir.specs.Body.{block_in, place_ty, kind_in}
 use Rattle.mir_machine.specs.Memory.{is_there, read, write}
@@ -127,6 +127,9 @@ rvalue s kind span (Not o) = do
   (s₁, x) ← operand s o
   t ← inverted x
   Yields (s₁, t)
+rvalue s kind span (Make c os) = do
+  (s₁, ts) ← operands s os
+  Yields (s₁, Made c (trees_of ts))
 
 -- ---- steps
 

@@ -3,7 +3,7 @@ ghost use Rattle.logic_term.specs.Sort.{instance};
 ghost use Rattle.logic_term.specs.TyView.{tys_of};
 ghost use Rattle.mir_ir.specs.Body.{kind_of, kind_in, place_ty};
 ghost use Rattle.mir_machine.specs.Depth.{StandsAtCall, IsFull, frames_behind};
-ghost use Rattle.mir_machine.specs.FrameStep.{ReadsWholes, NamesWholes, EndNamesWholes, AreWhole, AllNameWholes, evaluate, run_local, call_end, frame_end, frame_step, frame_block, starting, resumed};
+ghost use Rattle.mir_machine.specs.FrameStep.{ReadsWholes, NamesWholes, EndNamesWholes, AreWhole, AllNameWholes, make_tree, evaluate, run_local, call_end, frame_end, frame_step, frame_block, starting, resumed};
 ghost use Rattle.mir_machine.specs.Halt.{Comes};
 ghost use Rattle.mir_machine.specs.NextView.{end_of, IsCallee};
 ghost use Rattle.mir_machine.specs.Run.{outcome_of_step, behind, with_callee};
@@ -17,7 +17,7 @@ use crate::halt::Halt;
 use crate::next::Next;
 use crate::operands::{move_out, put, take, take_all, take_scalar, take_truth};
 use crate::tree::{Tree, TreeNode, copy_trees};
-use logic_term::{IntKind, Label, Ty, TyNode};
+use logic_term::{Ctor, IntKind, Label, Ty, TyNode};
 use mir_ir::{
     Block, Bodies, Body, Callee, FnId, Operand, Place, Rvalue, Statement, StatementKind,
     TerminatorKind,
@@ -62,6 +62,25 @@ fn kind_of_local(body: &Body, types: &[Ty], place: &Place) -> Option<IntKind>
 
 // ---- statements
 
+/// A value made of the operands' trees. They are taken from a copy of the locals, so that for want of memory nothing changes.
+fn make(
+    alloc: Global,
+    locals: &mut Vec<Tree>,
+    ctor: Ctor,
+    operands: &[Operand],
+) -> Result<Tree, Halt>
+    requires { AreWhole operands.now }
+    ensures makes { Comes result (make_tree locals.old.items ctor operands.now) (λ t. (locals.new.items, t)) }
+    ensures unchanged { result ≡ Err Halt.NoMemory → locals.new.items ≡ locals.old.items }
+{
+    let mut left = copy_trees(alloc, locals)?;
+    let trees = take_all(alloc, &mut left, operands)?;
+    *locals = left;
+    Ok(Tree {
+        node: TreeNode::Made(ctor, trees.into_vec()),
+    })
+}
+
 /// The value of a right side. For want of memory nothing changes.
 #[tactic(auto, using(crate::proofs::Scalars::evaluate_scalars))]
 fn evaluate(
@@ -90,6 +109,7 @@ fn evaluate(
             let t = take_scalar(locals, a)?;
             invert(t)
         }
+        Rvalue::Make(ctor, parts) => make(alloc, locals, *ctor, parts.as_slice()),
     }
 }
 

@@ -10,7 +10,7 @@ use crate::args::Args;
 use crate::machine::{Machine, NoIntrinsics};
 use crate::outcome::Outcome;
 use crate::tree::{Tree, TreeNode};
-use logic_term::{BinaryOp, Instance, IntKind, Label, Ty, TyNode};
+use logic_term::{BinaryOp, Ctor, Instance, IntKind, Label, Ty, TyNode};
 use mir_ir::{
     Block, Bodies, Body, Callee, FnId, Lit, Operand, Place, Rvalue, Statement, StatementKind,
     Terminator, TerminatorKind,
@@ -227,6 +227,7 @@ fn program(alloc: Global) -> Result<Bodies, NoMemory>
 enum Came {
     Integer(i128),
     Truth(bool),
+    Unit,
     Panic(Cause),
     Nowhere,
 }
@@ -241,6 +242,7 @@ fn answer_of(machine: &Machine<NoIntrinsics>) -> Came {
     match &tree.node {
         TreeNode::Int(z) => Came::Integer(*z),
         TreeNode::Bool(b) => Came::Truth(*b),
+        TreeNode::Made(Ctor::Tuple, parts) if parts.is_empty() => Came::Unit,
         _ => Came::Nowhere,
     }
 }
@@ -382,5 +384,16 @@ fn inverts_a_truth(rt: HostRuntime) -> Result<(), Fail> {
     let mut machine = start(rt.alloc(), &bodies, 0, truth)?;
     machine.run(7)?;
     assert_eq!(rt; answer_of(&machine), Came::Truth(false));
+    Ok(())
+}
+
+#[test]
+fn makes_the_unit(rt: HostRuntime) -> Result<(), Fail> {
+    let answer = Ty::unit(rt.alloc());
+    let value = Rvalue::Make(Ctor::Tuple, Items::new(rt.alloc()));
+    let bodies = sample(rt.alloc(), answer, Ty::int(IntKind::I32), value)?;
+    let mut machine = start(rt.alloc(), &bodies, 0, integer(5))?;
+    machine.run(7)?;
+    assert_eq!(rt; answer_of(&machine), Came::Unit);
     Ok(())
 }

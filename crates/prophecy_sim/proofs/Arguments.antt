@@ -1,38 +1,42 @@
--- The arguments of a proper call of a function of integers and truth values, and what they read as.
+-- The arguments of a proper call of a function of integers, truth values and `()`, and what they read as.
 use Rattle.std.proofs.Common.{◌≡◌, ◌∙◌, refl, sym, ap, subst, ℕ, zero, suc, ◌<◌, false, List, [], ◌∷◌, length, Some, slice_get, arith}
 use Rattle.text_core.specs.declared.name.Name.{Name}
 use Rattle.logic_term.specs.Meaning.{with_value}
-use Rattle.logic_term.specs.Sort.{Declarations, HasSort, instance, of_int, of_bool}
-use Rattle.logic_term.specs.Ty.{Ty, int, bool, no_tys}
+use Rattle.logic_term.specs.Sort.{Declarations, HasSort, instance, of_int, of_bool, of_tuple, of_none as sort_none}
+use Rattle.logic_term.specs.Ty.{Ty, int, bool, tuple, no_tys, unit_ty}
 use Rattle.logic_term.specs.Value.{Value, Values, Number, Flag, nothing, no_values, and_value}
+use Rattle.logic_term.specs.Value as value
 use Rattle.logic_term.proofs.Coincide.{with_same, with_other}
 use Rattle.mir_machine.specs.declared.spot.Spot.{Spot}
-use Rattle.mir_machine.specs.Tree.{Int, Truth, Made, Boxed, Shared, Unique, Gone, trees_of}
+use Rattle.mir_machine.specs.Tree.{Int, Truth, Made, Boxed, Shared, Unique, Gone, no_trees, and_tree, trees_of}
 use Rattle.mir_machine.specs.Frame.{State}
-use Rattle.mir_machine.specs.Reads.{Plain, Reads, ReadsAll, of_int as reads_int, of_truth as reads_truth, of_none, of_more}
-use Rattle.mir_machine.specs.Typed.{Typed, is_int, is_truth}
+use Rattle.mir_machine.specs.Reads.{Plain, Reads, ReadsAll, of_int as reads_int, of_truth as reads_truth, of_made as reads_made, of_none, of_more}
+use Rattle.mir_machine.specs.Typed.{Typed, is_int, is_truth, is_tuple, none_typed}
 use Rattle.mir_machine.specs.Good.{named, Supply, not_lent}
 use Rattle.mir_machine.proofs.NeverStuck.{Shape, AreShaped}
 use Rattle.mir_machine.proofs.Shown.{Shows}
 use Rattle.prophecy_sim.specs.Programs.{IsScalar}
 use Rattle.prophecy_sim.proofs.Values.{T}
 
--- ---- the value of an integer or of a truth value
+-- ---- the value of an integer, of a truth value, and of what has no parts
 
 abbrev pub value_of : T → Value
 value_of (Int z) = Number z
 value_of (Truth c) = Flag c
+value_of (Made c no_trees) = value.Made c no_values
 value_of _ = nothing
 
 abbrev pub IsPlain : T → Type 0
 IsPlain (Int z) = Unit {0}
 IsPlain (Truth c) = Unit {0}
+IsPlain (Made c no_trees) = Unit {0}
 IsPlain _ = ⊥
 
 pub plain_shows : (t : T) → IsPlain t → Shows t (value_of t)
 plain_shows (Int z) h = refl
 plain_shows (Truth c) h = refl
-plain_shows (Made c ts) h = absurd h
+plain_shows (Made c no_trees) h = (no_values, refl, refl)
+plain_shows (Made c (and_tree t ts)) h = absurd h
 plain_shows (Boxed t) h = absurd h
 plain_shows (Shared at) h = absurd h
 plain_shows (Unique k at) h = absurd h
@@ -42,7 +46,8 @@ plain_shows Gone h = absurd h
 pub plain_one : (t : T) (v : Value) → IsPlain t → Shows t v → v ≡ value_of t
 plain_one (Int z) v h e = e
 plain_one (Truth c) v h e = e
-plain_one (Made c ts) v h e = absurd h
+plain_one (Made c no_trees) v h (vs, none, is) = is ∙ ap (λ us. value.Made c us) none
+plain_one (Made c (and_tree t ts)) v h e = absurd h
 plain_one (Boxed t) v h e = absurd h
 plain_one (Shared at) v h e = absurd h
 plain_one (Unique k at) v h e = absurd h
@@ -51,17 +56,20 @@ plain_one Gone v h e = absurd h
 pub shaped_plain : (ty : Ty) (t : T) → IsScalar ty → Shape (instance no_tys ty) t → IsPlain t
 shaped_plain (int k) t scalar (there, (z, is, f)) = subst IsPlain (sym is) tt
 shaped_plain bool t scalar (there, (c, is)) = subst IsPlain (sym is) tt
+shaped_plain (tuple no_tys) t scalar (there, is) = subst IsPlain (sym is) tt
 shaped_plain _ t scalar shape = absurd scalar
 
 pub shaped_sort : (Δ : Declarations) (ty : Ty) (t : T) → IsScalar ty → Shape (instance no_tys ty) t → HasSort Δ (value_of t) (instance no_tys ty)
 shaped_sort Δ (int k) t scalar (there, (z, is, f)) = subst (λ (u : T). HasSort Δ (value_of u) (int k)) (sym is) (of_int f)
 shaped_sort Δ bool t scalar (there, (c, is)) = subst (λ (u : T). HasSort Δ (value_of u) bool) (sym is) of_bool
+shaped_sort Δ (tuple no_tys) t scalar (there, is) = subst (λ (u : T). HasSort Δ (value_of u) unit_ty) (sym is) (of_tuple sort_none)
 shaped_sort Δ _ t scalar shape = absurd scalar
 
 pub plain_reads : (s : State (Unit {0})) (final : Unit {0} → Supply) (at : Spot) (t : T) → IsPlain t → Reads {K = Unit {0}} false s final not_lent Plain at t (value_of t)
 plain_reads s final at (Int z) h = reads_int refl
 plain_reads s final at (Truth c) h = reads_truth refl
-plain_reads s final at (Made c ts) h = absurd h
+plain_reads s final at (Made c no_trees) h = reads_made refl of_none
+plain_reads s final at (Made c (and_tree t ts)) h = absurd h
 plain_reads s final at (Boxed t) h = absurd h
 plain_reads s final at (Shared to) h = absurd h
 plain_reads s final at (Unique k to) h = absurd h
@@ -153,4 +161,5 @@ sorted_argument Δ ts tys shaped i ty e scalar =
 pub typed_answer : (Δ : Declarations) (s : State (Unit {0})) (ty : Ty) (t : T) → IsScalar ty → Shape (instance no_tys ty) t → Typed Δ s t (instance no_tys ty) []
 typed_answer Δ s (int k) t scalar (there, (z, is, f)) = subst (λ (u : T). Typed Δ s u (int k) []) (sym is) (is_int f)
 typed_answer Δ s bool t scalar (there, (c, is)) = subst (λ (u : T). Typed Δ s u bool []) (sym is) is_truth
+typed_answer Δ s (tuple no_tys) t scalar (there, is) = subst (λ (u : T). Typed Δ s u unit_ty []) (sym is) (is_tuple none_typed)
 typed_answer Δ s _ t scalar shape = absurd scalar

@@ -9,23 +9,25 @@ use Rattle.logic_term.specs.declared.kinds.ArithOp.{ArithOp}
 use Rattle.logic_term.specs.declared.kinds.ArithOp.TheVariants as arith_op
 use Rattle.logic_term.specs.declared.kinds.BinaryOp.{BinaryOp}
 use Rattle.logic_term.specs.declared.kinds.BinaryOp.TheVariants.{Add, Sub, Mul, Div, Rem, Eq, Ne, Lt, Le, Gt, Ge}
+use Rattle.logic_term.specs.declared.kinds.Ctor.{Ctor}
 use Rattle.logic_term.specs.declared.kinds.IntKind.{IntKind}
 use Rattle.logic_term.specs.declared.kinds.IntKind.TheVariants.{I8, I16, I32, I64, Isize, U8, U16, U32, U64, Usize}
 use Rattle.logic_term.specs.Range.{lowest, fits}
 use Rattle.logic_term.specs.Sort.{Declarations, instance}
 use Rattle.logic_term.specs.Ty.{Ty, int, bool, no_tys}
-use Rattle.logic_term.specs.Value.{Value, Number, Flag, integer_of, flag_of}
-use Rattle.logic_term.specs.Term.{Term, negative, calculate, is_equal}
+use Rattle.logic_term.specs.Value.{Value, Number, Flag, no_values, integer_of, flag_of}
+use Rattle.logic_term.specs.Term.{made, Term, apply, no_terms, negative, calculate, is_equal}
 use Rattle.logic_term.specs.Term.{not as not_term}
 use Rattle.logic_term.specs.Meaning.{Sure, Decided, Structure, Env, with_value, Means, calculated, compared}
 use Rattle.logic_term.proofs.Coincide.{with_same, with_other}
+use Rattle.logic_term.proofs.Made.{made_exactly}
 use Rattle.logic_term.proofs.Truth.{Exactly, Computes, computes_model, computes_calculate, computes_negative, of_two_exactly}
 use Rattle.mir_ir.specs.declared.place.Place.{Place}
 use Rattle.mir_ir.specs.declared.place.Lit.TheVariants as lit
 use Rattle.mir_ir.specs.declared.place.Operand.{Operand}
 use Rattle.mir_ir.specs.declared.place.Operand.TheVariants.{Copy, Move, Const}
 use Rattle.mir_ir.specs.declared.statement.Rvalue.{Rvalue}
-use Rattle.mir_ir.specs.declared.statement.Rvalue.TheVariants.{Use, Binary, Neg, Not}
+use Rattle.mir_ir.specs.declared.statement.Rvalue.TheVariants.{Use, Binary, Neg, Not, Make}
 use Rattle.mir_ir.specs.declared.statement.StatementKind.TheVariants.{Assign}
 use Rattle.mir_ir.specs.declared.body.Body.{Body}
 use Rattle.mir_ir.specs.Body.{whole, place_ty, kind_of, kind_in}
@@ -161,6 +163,12 @@ module _ (Δ : Declarations) (bodies : List Body) (b : Body) (typed : IsTyped bo
 
   use_assigned : (set : Locals) (σ : Store) (ρ : Env) (p : Place) (o : Operand) (ty : Ty) → OperandHas b o ty → CanTake set o → Matches b set σ ρ → Assigned σ ρ p (Use o)
   use_assigned set σ ρ p o ty has can m = set_assigned σ ρ p (Use o) (operand_term b o) tt refl (operand_means Δ bodies b typed named set σ ρ o ty has can m)
+
+  -- what has no parts
+  make_assigned : (σ : Store) (ρ : Env) (p : Place) (c : Ctor) (os : List Operand) → os ≡ [] → Assigned σ ρ p (Make c os)
+  make_assigned σ ρ p c os no_parts =
+      subst (λ qs. Assigned σ ρ p (Make c qs)) (sym no_parts)
+      (set_assigned σ ρ p (Make c []) (apply (made c) no_terms) tt refl (made_exactly W c no_terms ρ no_values (tt {0})))
 
   not_assigned : (set : Locals) (ls : List T) (σ : Store) (ρ : Env) (p : Place) (o : Operand) → OperandHas b o bool → CanTake set o → Fits b no_tys set ls → Agrees ls σ → Matches b set σ ρ → Assigned σ ρ p (Not o)
   not_assigned set ls σ ρ p o has can fit agrees m =
@@ -394,3 +402,4 @@ module _ (Δ : Declarations) (bodies : List Body) (b : Body) (typed : IsTyped bo
   assigned set ls σ ρ span p (Binary op o q) ty place has can fit agrees m goals = binary_assigned set ls σ ρ span p op o q ty has.0 place has.1 has.2 has.3 can.0 (can_before set o q can.1) fit agrees m goals
   assigned set ls σ ρ span p (Neg o) ty place has can fit agrees m goals = neg_assigned set ls σ ρ span p o ty has.0 place has.3 has.2 can fit agrees m goals
   assigned set ls σ ρ span p (Not o) ty place has can fit agrees m goals = not_assigned set ls σ ρ p o has.0 can fit agrees m
+  assigned set ls σ ρ span p (Make c os) ty place has can fit agrees m goals = make_assigned σ ρ p c os has.1

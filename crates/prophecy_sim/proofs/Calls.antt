@@ -21,7 +21,7 @@ use Rattle.mir_machine.proofs.Shown.{Shows, Store, Agrees, Leaves, operand_value
 use Rattle.mir_machine.proofs.Tried.{Quiet, quiet_then}
 use Rattle.wp_gen.specs.Walk.{entries, all_of, with_terms, all_at}
 use Rattle.wp_gen.proofs.Commands.{GoalsHold}
-use Rattle.mir_ir.specs.WellFormed.{OperandsHave, Locals, taken, CanTakeAll, all_taken, IsTyped}
+use Rattle.mir_ir.specs.WellFormed.{OperandsHave, Locals, taken, CanTakeAll, IsTyped}
 use Rattle.mir_machine.specs.Good.{named}
 use Rattle.logic_term.proofs.Coincide.{with_same}
 use Rattle.logic_term.specs.Sort.{Declarations}
@@ -46,10 +46,6 @@ operands_show ls σ (o ∷ os) agrees =
     quiet_then (Leaves σ (operand_value σ o)) (λ (r : List T × List T). Agrees r.0 σ × AllShow σ r.1 (o ∷ os)) (take_operand ls o) (λ l. take_operands l.0 os >>= last l.1) (operand-shows ls σ o agrees)
     (λ l leaves. quiet_then (λ (r : List T × List T). Agrees r.0 σ × AllShow σ r.1 os) (λ (r : List T × List T). Agrees r.0 σ × AllShow σ r.1 (o ∷ os)) (take_operands l.0 os) (last l.1) (operands_show l.0 σ os leaves.0)
     (λ r rest. (rest.0, (leaves.1, rest.1))))
-
-pub all_taken_before : (os : List Operand) (set : Locals) (y : ℕ) → all_taken os set y ≡ true → set y ≡ true
-all_taken_before [] set y e = e
-all_taken_before (o ∷ os) set y e = taken_before o set y (all_taken_before os (taken o set) y e)
 
 -- ---- terms for names, all at once
 

@@ -1,10 +1,10 @@
--- Where all obligations of all functions of a program are true, each function is good.
+-- A function is good where all obligations of the functions that it may reach are true.
 use Rattle.std.proofs.Common.{◌≡◌, ◌∙◌, refl, sym, ap, ap₂, subst, ℕ, zero, suc, ◌<◌, List, [], ◌∷◌, ◌++◌, length, take, drop, Some, slice_get, arith}
 use Rattle.logic_term.specs.declared.kinds.IntKind.{IntKind}
 use Rattle.logic_term.specs.declared.obligation.Contract.{Contract}
 use Rattle.logic_term.specs.Meaning.{Env, Holds}
 use Rattle.logic_term.specs.Sort.{Declarations, instance, instances}
-use Rattle.logic_term.specs.Ty.{Ty, Tys, int, bool, no_tys, and_ty}
+use Rattle.logic_term.specs.Ty.{Ty, Tys, int, bool, tuple, no_tys, and_ty, unit_ty}
 use Rattle.logic_term.specs.TyView.{tys_of}
 use Rattle.logic_term.specs.Value.{nothing}
 use Rattle.mir_ir.specs.declared.body.Body.{Body}
@@ -16,7 +16,7 @@ use Rattle.mir_machine.specs.Step.{Outcome, Running, Returned, Panicked, Stuck, 
 use Rattle.mir_machine.specs.Typed.{Met, Typed, AreTyped, is_int, is_truth, is_tuple, is_adt, is_closure, is_boxed, is_shared, is_unique, none_typed, more_typed}
 use Rattle.mir_machine.specs.Good.{Each, IsProper, IsFine, Good, MeetsRequires, MeetsEnsures, Supply, named, called, here}
 use Rattle.mir_machine.proofs.NeverStuck.{Shape, AreShaped, typed_args, never_stuck, answer_shape}
-use Rattle.prophecy_sim.specs.Programs.{IsScalar, IsSimple, Program, setting, IsFunction, AreFunctions, HasTrueObligations, TrueObligationsMakeGood}
+use Rattle.prophecy_sim.specs.Programs.{IsScalar, IsSimple, Program, IsFunction, AreFunctions, itself, AreProvedFrom, TrueObligationsMakeGood}
 use Rattle.prophecy_sim.proofs.Values.{T}
 use Rattle.prophecy_sim.proofs.Arguments.{value_of, plain_reads, values_of, AllPlain, all_read, shaped_all, typed_answer}
 use Rattle.prophecy_sim.proofs.Runs.{get_taken, get_behind, IsAnswer, first_ty}
@@ -31,7 +31,7 @@ get_first (x ∷ xs) (suc i) h = get_first xs i (omega arith)
 some_same : {A : Type 0} {a b : A} → Some a ≡ Some b → a ≡ b
 some_same e = cc
 
--- ---- no references are met from integers and truth values
+-- ---- no references are met from integers, truth values and `()`
 
 int_meets_none : (Δ : Declarations) (s : State (Unit {0})) (t : T) (ty : Ty) (met : List Met) (k : IntKind) → Typed Δ s t ty met → ty ≡ int k → met ≡ []
 int_meets_none Δ s t ty met k (is_int f) e = refl
@@ -53,9 +53,27 @@ truth_meets_none Δ s t ty met (is_boxed h) e = absurd (cc)
 truth_meets_none Δ s t ty met (is_shared a h) e = absurd (cc)
 truth_meets_none Δ s t ty met (is_unique a h) e = absurd (cc)
 
+no_parts_meet_none : (Δ : Declarations) (s : State (Unit {0})) (tys : Tys) {ts : Trees (Unit {0})} {met : List Met} → AreTyped Δ s ts tys met → tys ≡ no_tys → met ≡ []
+no_parts_meet_none Δ s tys none_typed e = refl
+no_parts_meet_none Δ s tys (more_typed h hs) e = absurd (cc)
+
+same_parts : (tys us : Tys) → tuple tys ≡ tuple us → tys ≡ us
+same_parts tys us e = cc
+
+unit_meets_none : (Δ : Declarations) (s : State (Unit {0})) (t : T) (ty : Ty) (met : List Met) → Typed Δ s t ty met → ty ≡ unit_ty → met ≡ []
+unit_meets_none Δ s t ty met (is_int f) e = refl
+unit_meets_none Δ s t ty met (is_truth) e = refl
+unit_meets_none Δ s t ty met (is_tuple {tys = tys} h) e = no_parts_meet_none Δ s tys h (same_parts tys no_tys e)
+unit_meets_none Δ s t ty met (is_adt d h) e = absurd (cc)
+unit_meets_none Δ s t ty met (is_closure h) e = absurd (cc)
+unit_meets_none Δ s t ty met (is_boxed h) e = absurd (cc)
+unit_meets_none Δ s t ty met (is_shared a h) e = absurd (cc)
+unit_meets_none Δ s t ty met (is_unique a h) e = absurd (cc)
+
 none_met : (Δ : Declarations) (s : State (Unit {0})) (t : T) (ty : Ty) (met : List Met) → Typed Δ s t ty met → (sc : Ty) → ty ≡ instance no_tys sc → IsScalar sc → met ≡ []
 none_met Δ s t ty met h (int k) e scalar = int_meets_none Δ s t ty met k h e
 none_met Δ s t ty met h bool e scalar = truth_meets_none Δ s t ty met h e
+none_met Δ s t ty met h (tuple no_tys) e scalar = unit_meets_none Δ s t ty met h e
 none_met Δ s t ty met h _ e scalar = absurd scalar
 
 first_is : (t u : Ty) (ts us : Tys) → and_ty t ts ≡ and_ty u us → t ≡ u
@@ -72,7 +90,7 @@ none_met_all Δ s (sc ∷ tys) (more_typed {t = t} {ty = ty} {tys = vs} {first =
     (none_met_all Δ s tys hs (others_are ty (instance no_tys sc) vs (instances no_tys (tys_of tys)) e) (λ i u q. scalars (suc i) u q))
 
 module _ (Δ : Declarations) (program : Program) (sound : AreSound program.bodies) (functions : AreFunctions program sound)
-    (proved : (n : ℕ) (b : Body) (c : Contract) → slice_get program.bodies n ≡ Some b → slice_get program.contracts n ≡ Some c → HasTrueObligations Δ (setting program n b c)) (fn : ℕ) (b : Body) (is_body : slice_get program.bodies fn ≡ Some b) where
+    (fn : ℕ) (proved : AreProvedFrom Δ program fn) (b : Body) (is_body : slice_get program.bodies fn ≡ Some b) where
   abbrev bodies : List Body
   bodies = program.bodies
 
@@ -108,11 +126,11 @@ module _ (Δ : Declarations) (program : Program) (sound : AreSound program.bodie
     pre = meets (λ at. nothing) (values_of args) tt (all_read start (λ k at. nothing) here 0 args plain)
 
     abbrev Fine : Outcome (Unit {0}) → Type 0
-    Fine = OutcomeFine Δ program sound functions proved fn c ρ₀ (outside held)
+    Fine = OutcomeFine Δ program sound functions fn proved c ρ₀ (outside held)
 
     starts : Fine (Running start)
     starts = (
-      record { function = fn; body = b; is_body = is_body; env = ρ₀; standing = begins Δ program sound functions fn b is_body (proved fn b c is_body own.is_contract) args shaped pre },
+      record { function = fn; reached = itself; body = b; is_body = is_body; env = ρ₀; standing = begins Δ program sound functions fn b is_body (proved fn b c itself is_body own.is_contract) args shaped pre },
       (refl, λ t a. a),
     )
 
@@ -142,7 +160,7 @@ module _ (Δ : Declarations) (program : Program) (sound : AreSound program.bodie
 
     call_fine : (n : ℕ) → IsFine Δ no_tys c (answer_ty b no_tys) start args [] (after bodies n start)
     call_fine n =
-        fine_of (after bodies n start) (run_fine Δ program sound functions proved fn c ρ₀ (outside held) n (Running start) starts)
+        fine_of (after bodies n start) (run_fine Δ program sound functions fn proved c ρ₀ (outside held) n (Running start) starts)
         (never_stuck Δ bodies sound fn no_tys args held b [] proper n)
         (λ s' t e. answer_shape Δ bodies sound fn no_tys args held b [] proper n s' t e)
 
@@ -167,7 +185,7 @@ module _ (Δ : Declarations) (program : Program) (sound : AreSound program.bodie
 
 -- with the contract of the function
 pub good : TrueObligationsMakeGood
-good Δ program sound functions proved fn c is_contract θ args held b met proper meets n =
+good Δ program sound functions fn c is_contract proved θ args held b met proper meets n =
     let own = functions fn b proper.of in
     let same : own.contract ≡ c = some_same (sym own.is_contract ∙ is_contract) in
-    (subst (Good Δ program.bodies fn) same (good_own Δ program sound functions proved fn b proper.of)) θ args held b met proper meets n
+    (subst (Good Δ program.bodies fn) same (good_own Δ program sound functions fn proved b proper.of)) θ args held b met proper meets n

@@ -1,5 +1,5 @@
 -- One frame: where the goals of its walk hold, its next step does not panic, and the goals of what is left hold after it.
-use Rattle.prophecy_sim.proofs.Calls.{AllShow, operands_show, all_taken_before, overlay, overlay_named, AreExactly, with_terms_mean, all_hold, all_exactly}
+use Rattle.prophecy_sim.proofs.Calls.{AllShow, operands_show, overlay, overlay_named, AreExactly, with_terms_mean, all_hold, all_exactly}
 use Rattle.prophecy_sim.proofs.Arguments.{value_of, IsPlain, plain_one, plain_shows, shaped_plain, shaped_sort, values_of, AllPlain, shaped_all}
 use Rattle.mir_ir.specs.declared.terminator.FnId.TheVariants.{Body as OfBody}
 use Rattle.mir_ir.specs.declared.terminator.Callee.TheVariants.{Function}
@@ -25,10 +25,11 @@ use Rattle.logic_term.specs.Term.{Term, var}
 use Rattle.logic_term.proofs.Alike.{yes_alike, alike_same}
 use Rattle.logic_term.proofs.FreeLaw.{coincide_free, same_name}
 use Rattle.logic_term.specs.Meaning.{Structure, Env, Means, Holds, with_value}
-use Rattle.logic_term.specs.Sort.{Declarations, HasSort, instance, of_int, of_bool, nth_ty}
+use Rattle.logic_term.specs.Sort.{Declarations, HasSort, instance, of_int, of_bool, of_tuple, of_none, nth_ty}
 use Rattle.logic_term.specs.Term as terms
-use Rattle.logic_term.specs.Ty.{Ty, int, bool, no_tys}
-use Rattle.logic_term.specs.Value.{Value, Number, Flag, nothing}
+use Rattle.logic_term.specs.Ty.{Ty, int, bool, tuple, no_tys, unit_ty}
+use Rattle.logic_term.specs.Value.{Value, Number, Flag, Made, no_values, nothing}
+use Rattle.logic_term.specs.declared.kinds.Ctor.TheVariants.{Tuple}
 use Rattle.logic_term.proofs.Truth.{Exactly, yes_flag, holds_not}
 use Rattle.mir_ir.specs.declared.place.Operand.{Operand}
 use Rattle.mir_ir.specs.declared.statement.Statement.{Statement}
@@ -55,12 +56,12 @@ use Rattle.mir_machine.specs.Good.{Each, named}
 use Rattle.wp_gen.specs.Walkable.{AllAmong}
 use Rattle.wp_gen.specs.Walk.{Setting, writes, loop_writes, is_gone, is_renewed, head_commands, each_goal, seen_before, goals_at_return, where_true, where_false, Walks, statement, goto, branch, call, return, Arrives, plain, first, again, at_answer, at_arguments, at_arguments_and_answer, goals_of_call, call_commands, end_writes}
 use Rattle.wp_gen.proofs.Commands.{GoalsHold, goals_moved, goals_first, goals_rest, then_moves}
-use Rattle.prophecy_sim.specs.Programs.{IsScalar, IsOneOf, IsNameIn, IsSimple, SpeaksOf, HeadsSpeakOf, Program, setting, IsFunction, AreFunctions}
+use Rattle.prophecy_sim.specs.Programs.{IsScalar, IsOneOf, IsNameIn, IsSimple, SpeaksOf, HeadsSpeakOf, Program, setting, IsFunction, AreFunctions, Calls as CallsBody}
 use Rattle.prophecy_sim.proofs.Values.{T, ValueHas, Matches, operand_means, local_has, local_named, named_as, matches_new}
 use Rattle.prophecy_sim.proofs.Entries.{assumed_move}
 use Rattle.prophecy_sim.proofs.Heads.{Renewed, renewed_move, loop_writes_statement, loop_writes_end}
 use Rattle.prophecy_sim.proofs.Memories.{among_first, among_second, among_more, among_head, among_either, KeepsParams, AreBehind, Passed, Memories, one_more, memories_kept, Reached, onward, backward, reached}
-use Rattle.prophecy_sim.proofs.Steps.{quiet_both, taken_before, at_no, IsOutside, After, statement_quiet, decide, put_matches, not_written}
+use Rattle.prophecy_sim.proofs.Steps.{quiet_both, taken_before, all_taken_before, at_no, IsOutside, After, statement_quiet, decide, put_matches, not_written}
 
 drop_get : {A : Type 0} (xs : List A) (i : ℕ) (x : A) → slice_get xs i ≡ Some x → drop i xs ≡ x ∷ drop (i + 1) xs
 drop_get [] i x e = absurd (cc)
@@ -222,7 +223,7 @@ module _ (Δ : Declarations) (program : Program) (sound : AreSound program.bodie
 
   abbrev pub EndsFine : FrameEnd (Unit {0}) → Type 0
   EndsFine (Stays f) = Standing f
-  EndsFine (Calls f g) = (e : Entered Δ program g) × (f.function ≡ fn) × GoesOn f e.function e.contract (named e.contract.params (values_of e.args))
+  EndsFine (Calls f g) = (e : Entered Δ program g) × (f.function ≡ fn) × CallsBody bodies fn e.function × GoesOn f e.function e.contract (named e.contract.params (values_of e.args))
   EndsFine (Answers t) = IsAnswer Δ bodies fn own.contract ρ₀ t
 
   -- ---- arrivals
@@ -244,6 +245,7 @@ module _ (Δ : Declarations) (program : Program) (sound : AreSound program.bodie
   default_of : Ty → Value
   default_of (int k) = Number (pos 0)
   default_of bool = Flag false
+  default_of (tuple no_tys) = Made Tuple no_values
   default_of _ = nothing
 
   ty_or : Option Ty → Ty
@@ -266,11 +268,13 @@ module _ (Δ : Declarations) (program : Program) (sound : AreSound program.bodie
   unfolding default_of
   default_sort (int k) scalar = of_int (zero_fits k)
   default_sort bool scalar = of_bool
+  default_sort (tuple no_tys) scalar = of_tuple of_none
   default_sort _ scalar = absurd scalar
 
   value_sort : (ty : Ty) (v : Value) → IsScalar ty → ValueHas ty v → HasSort Δ v (instance no_tys ty)
   value_sort (int k) v scalar (z, is, f) = subst (λ u. HasSort Δ u (int k)) (sym is) (of_int f)
   value_sort bool v scalar (c, is) = subst (λ u. HasSort Δ u bool) (sym is) of_bool
+  value_sort (tuple no_tys) v scalar is = subst (λ u. HasSort Δ u unit_ty) (sym is) (of_tuple of_none)
   value_sort _ v scalar h = absurd scalar
 
   not_both : (p q : Bool) → q ≡ false → (p && flip q) ≡ false → p ≡ false
@@ -687,7 +691,22 @@ module _ (Δ : Declarations) (program : Program) (sound : AreSound program.bodie
 
       called_fine : EndsFine (Calls waiting (entered c n no_tys args))
       unfolding entering
-      called_fine = (entering, st.function, λ t' a. resumes t' a)
+      called_fine = (
+        entering,
+        st.function,
+        record {
+          body = b;
+          is_body = is_body;
+          label = f.label;
+          block = st.block;
+          is_block = st.is_block;
+          place = p;
+          operands = os;
+          next = l;
+          is_call = kind;
+        },
+        λ t' a. resumes t' a,
+      )
 
     call_comes : {heads : List Label} {gs : List Goal} {paths : ℕ} (p : Place) (n : ℕ) (os : List Operand) (l : Label) (d : Contract) (t : Ty) (at : Span) → st.block.end.kind ≡ Call p (Function (OfBody n)) os l → slice_get program.contracts n ≡ Some d → slice_get b.locals p.local ≡ Some t →
         Arrives w heads l gs paths → GoalsHold S st.env (goals_of_call b d at os ++ seen_before (call_commands b d p.local t os) gs) → Fits b no_tys end_set f.locals → Matches b end_set st.store st.env → (c : Body) (u : Ty) → slice_get bodies n ≡ Some c →

@@ -428,4 +428,7 @@ sample_true Δ (suc (suc n)) b c e f = absurd (no_more n b e)
 -- ---- the law of these conditions
 
 pub sample_good : SampleIsGood
-sample_good Δ = (good Δ program sound functions (sample_true Δ) 0 is_false refl, good Δ program sound functions (sample_true Δ) 1 is_false refl)
+sample_good Δ = (
+  good Δ program sound functions 0 is_false refl (λ n b c reached e f. sample_true Δ n b c e f),
+  good Δ program sound functions 1 is_false refl (λ n b c reached e f. sample_true Δ n b c e f),
+)

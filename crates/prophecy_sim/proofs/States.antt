@@ -11,7 +11,7 @@ use Rattle.mir_machine.specs.Frame.{Frame, State}
 use Rattle.mir_machine.specs.Step.{Outcome, Running, Returned, Panicked, Stuck, outcome_of, try_step, step, next, after_from, come_back}
 use Rattle.mir_machine.specs.Good.{Each, named}
 use Rattle.mir_machine.proofs.NeverStuck.{sound_wholes}
-use Rattle.prophecy_sim.specs.Programs.{Program, setting, AreFunctions, HasTrueObligations}
+use Rattle.prophecy_sim.specs.Programs.{Program, AreFunctions, Reaches, by_call, AreProvedFrom}
 use Rattle.prophecy_sim.proofs.Values.{T}
 use Rattle.prophecy_sim.proofs.Arguments.{values_of}
 use Rattle.mir_machine.specs.Try.{Try, Yields, Panics, Sticks}
@@ -25,8 +25,7 @@ some_same : {A : Type 0} {a c : A} → Some a ≡ Some c → a ≡ c
 some_same e = cc
 
 module _ (Δ : Declarations) (program : Program) (sound : AreSound program.bodies) (functions : AreFunctions program sound)
-    (proved : (n : ℕ) (b : Body) (c : Contract) → slice_get program.bodies n ≡ Some b → slice_get program.contracts n ≡ Some c → HasTrueObligations Δ (setting program n b c))
-    (top : ℕ) (top_contract : Contract) (top_env : Env) (out : Frame (Unit {0})) where
+    (top : ℕ) (proved : AreProvedFrom Δ program top) (top_contract : Contract) (top_env : Env) (out : Frame (Unit {0})) where
   abbrev bodies : List Body
   bodies = program.bodies
 
@@ -40,6 +39,7 @@ module _ (Δ : Declarations) (program : Program) (sound : AreSound program.bodie
   -- the frame stands in a call of a function that began in the environment
   pub record Standing_in (f : Frame (Unit {0})) : Type 0 where
     pub function : ℕ
+    pub reached : Reaches program.bodies top function
     pub body : Body
     pub is_body : slice_get program.bodies function ≡ Some body
     pub env : Env
@@ -48,6 +48,7 @@ module _ (Δ : Declarations) (program : Program) (sound : AreSound program.bodie
   -- the frame goes on with each answer of the function that it called
   pub record Waiting (f : Frame (Unit {0})) (n : ℕ) (c : Contract) (ρ : Env) : Type 0 where
     pub function : ℕ
+    pub reached : Reaches program.bodies top function
     pub body : Body
     pub is_body : slice_get program.bodies function ≡ Some body
     pub env : Env
@@ -79,27 +80,29 @@ module _ (Δ : Declarations) (program : Program) (sound : AreSound program.bodie
   back_fine n c ρ t (f ∷ g ∷ fs) a (w, h) =
       subst (Quiet OutcomeFine) (sym (come_back-whole bodies t f g fs (sound_wholes bodies sound)))
       (quiet_then (Standing Δ program sound functions w.function w.body w.is_body w.env) OutcomeFine (resumed bodies t f) (λ k. Yields (Running (k ∷ g ∷ fs))) (w.goes_on t a)
-      (λ k standing. (record { function = w.function; body = w.body; is_body = w.is_body; env = w.env; standing = standing }, h)))
+      (λ k standing. (record { function = w.function; reached = w.reached; body = w.body; is_body = w.is_body; env = w.env; standing = standing }, h)))
 
-  settled_fine : (n : ℕ) (b : Body) (is_body : slice_get program.bodies n ≡ Some b) (ρ : Env) (fs : State (Unit {0})) → Stacked n (contract_of n b is_body) ρ fs → (e : FrameEnd (Unit {0})) → EndsFine Δ program sound functions n b is_body ρ e → Quiet OutcomeFine (settled bodies fs e)
-  settled_fine n b is_body ρ fs h (Stays f) standing = (record { function = n; body = b; is_body = is_body; env = ρ; standing = standing }, h)
-  settled_fine n b is_body ρ fs h (Calls f g) (e, of_f, goes_on) =
+  settled_fine : (n : ℕ) → Reaches program.bodies top n → (b : Body) (is_body : slice_get program.bodies n ≡ Some b) (ρ : Env) (fs : State (Unit {0})) → Stacked n (contract_of n b is_body) ρ fs → (e : FrameEnd (Unit {0})) → EndsFine Δ program sound functions n b is_body ρ e → Quiet OutcomeFine (settled bodies fs e)
+  settled_fine n reached b is_body ρ fs h (Stays f) standing = (record { function = n; reached = reached; body = b; is_body = is_body; env = ρ; standing = standing }, h)
+  settled_fine n reached b is_body ρ fs h (Calls f g) (e, of_f, calls, goes_on) =
+      let reached' : Reaches program.bodies top e.function = by_call reached calls in
       let own = functions e.function e.body e.is_body in
       let same : e.contract ≡ own.contract = some_same (sym e.is_contract ∙ own.is_contract) in
       let pre = subst (λ (d : Contract). Each (λ (t : Term). Holds (record { declared = Δ; types = no_tys }) t (named d.params (values_of e.args))) d.pre) same e.pre in
-      let start = begins Δ program sound functions e.function e.body e.is_body (proved e.function e.body own.contract e.is_body own.is_contract) e.args e.shaped pre in
+      let start = begins Δ program sound functions e.function e.body e.is_body (proved e.function e.body own.contract reached' e.is_body own.is_contract) e.args e.shaped pre in
       let ρ' : Env = named own.contract.params (values_of e.args) in
       let waiting : Waiting f e.function own.contract ρ' = record {
         function = n;
+        reached = reached;
         body = b;
         is_body = is_body;
         env = ρ;
         goes_on = subst (λ (d : Contract). GoesOn Δ program sound functions n b is_body ρ f e.function d (named d.params (values_of e.args))) same goes_on;
       } in (
-        record { function = e.function; body = e.body; is_body = e.is_body; env = ρ'; standing = subst (Standing Δ program sound functions e.function e.body e.is_body ρ') (sym e.is_frame) start },
+        record { function = e.function; reached = reached'; body = e.body; is_body = e.is_body; env = ρ'; standing = subst (Standing Δ program sound functions e.function e.body e.is_body ρ') (sym e.is_frame) start },
         deeper e.function own.contract ρ' f fs waiting h,
       )
-  settled_fine n b is_body ρ fs h (Answers t) a = back_fine n (contract_of n b is_body) ρ t fs a h
+  settled_fine n reached b is_body ρ fs h (Answers t) a = back_fine n (contract_of n b is_body) ρ t fs a h
 
   of_try : (m : Try (Outcome (Unit {0}))) → Quiet OutcomeFine m → OutcomeFine (outcome_of m)
   of_try (Yields o) h = h
@@ -113,7 +116,7 @@ module _ (Δ : Declarations) (program : Program) (sound : AreSound program.bodie
       (subst (Quiet OutcomeFine) (sym (try_step-whole bodies f fs (sound_wholes bodies sound)))
       (quiet_then (EndsFine Δ program sound functions r.function r.body r.is_body r.env) OutcomeFine (frame_step bodies f) (settled bodies fs)
       (frame_comes Δ program sound functions r.function r.body r.is_body r.env f r.standing)
-      (settled_fine r.function r.body r.is_body r.env fs h)))
+      (settled_fine r.function r.reached r.body r.is_body r.env fs h)))
 
   next_fine : (o : Outcome (Unit {0})) → OutcomeFine o → OutcomeFine (next bodies o)
   next_fine (Running s) h = step_fine s h

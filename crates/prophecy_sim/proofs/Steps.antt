@@ -1,5 +1,5 @@
 -- One step of the machine in a body of branches, against the walk.
-use Rattle.std.proofs.Common.{◌≡◌, ◌∙◌, ◌⊎◌, inl, inr, refl, sym, ap, subst, ℕ, ◌==◌, Bool, true, false, cond, List, Some, slice_get, eq-eqb, ne_eqb, true≢false}
+use Rattle.std.proofs.Common.{◌≡◌, ◌∙◌, ◌⊎◌, inl, inr, refl, sym, ap, subst, ℕ, ◌==◌, Bool, true, false, cond, List, [], ◌∷◌, Some, slice_get, eq-eqb, ne_eqb, true≢false}
 use Rattle.std.proofs.lemmas.Bool.{eqb-true}
 use Rattle.text_core.specs.declared.name.Name.{Name}
 use Rattle.text_core.specs.declared.span.Span.{Span}
@@ -10,11 +10,11 @@ use Rattle.logic_term.specs.Value.{Value}
 use Rattle.mir_ir.specs.declared.place.Operand.{Operand}
 use Rattle.mir_ir.specs.declared.place.Operand.TheVariants.{Copy, Move, Const}
 use Rattle.mir_ir.specs.declared.statement.Rvalue.{Rvalue}
-use Rattle.mir_ir.specs.declared.statement.Rvalue.TheVariants.{Use, Binary, Neg, Not}
+use Rattle.mir_ir.specs.declared.statement.Rvalue.TheVariants.{Use, Binary, Neg, Not, Make}
 use Rattle.mir_ir.specs.declared.statement.StatementKind.{StatementKind}
 use Rattle.mir_ir.specs.declared.statement.StatementKind.TheVariants.{Assign, Dead}
 use Rattle.mir_ir.specs.declared.body.Body.{Body}
-use Rattle.mir_ir.specs.WellFormed.{with, StatementIsTyped, IsTyped, Locals, without, taken, evaluated, CanRun, run}
+use Rattle.mir_ir.specs.WellFormed.{with, StatementIsTyped, IsTyped, Locals, without, taken, all_taken, evaluated, CanRun, run}
 use Rattle.mir_machine.specs.Try.{Try, Yields, Panics, Sticks}
 use Rattle.mir_machine.specs.FrameStep.{run_local}
 use Rattle.mir_machine.proofs.NeverStuck.{Fits, run_goes}
@@ -51,11 +51,16 @@ taken_before (Move p) set y e = by_test (y == p.local) e
     by_test true e = absurd (cc)
     by_test false e = e
 
+pub all_taken_before : (os : List Operand) (set : Locals) (y : ℕ) → all_taken os set y ≡ true → set y ≡ true
+all_taken_before [] set y e = e
+all_taken_before (o ∷ os) set y e = taken_before o set y (all_taken_before os (taken o set) y e)
+
 evaluated_before : (r : Rvalue) (set : Locals) (y : ℕ) → evaluated r set y ≡ true → set y ≡ true
 evaluated_before (Use o) set y e = taken_before o set y e
 evaluated_before (Binary op a b) set y e = taken_before a set y (taken_before b (taken a set) y e)
 evaluated_before (Neg o) set y e = taken_before o set y e
 evaluated_before (Not o) set y e = taken_before o set y e
+evaluated_before (Make c os) set y e = all_taken_before os set y e
 
 -- ---- statements
 

@@ -3,10 +3,11 @@ use Rattle.std.proofs.Common.{◌≡◌, ◌∙◌, refl, sym, ap, subst, ℕ, z
 use Rattle.std.proofs.lemmas.Option.{slice_get_within}
 use Rattle.text_core.specs.declared.name.Name.{Name}
 use Rattle.logic_term.specs.declared.kinds.IntKind.{IntKind}
+use Rattle.logic_term.specs.declared.kinds.Ctor.TheVariants.{Tuple}
 use Rattle.logic_term.specs.Range.{fits}
 use Rattle.logic_term.specs.Sort.{Declarations}
-use Rattle.logic_term.specs.Ty.{Ty, int, bool, no_tys}
-use Rattle.logic_term.specs.Value.{Value, Number, Flag}
+use Rattle.logic_term.specs.Ty.{Ty, int, bool, tuple, no_tys, unit_ty}
+use Rattle.logic_term.specs.Value.{Value, Number, Flag, Made, no_values}
 use Rattle.logic_term.specs.Meaning.{Structure, Env, with_value, Means}
 use Rattle.logic_term.proofs.Alike.{alike_same}
 use Rattle.logic_term.proofs.Coincide.{with_other}
@@ -28,10 +29,11 @@ T = Tree (Unit {0})
 
 -- ---- values of types
 
--- an integer of the type, or a truth value
+-- an integer of the type, a truth value, or `()`
 abbrev pub ValueHas : Ty → Value → Type 0
 ValueHas (int k) v = (z : ℤ) × (v ≡ Number z) × (fits k z ≡ true)
 ValueHas bool v = (c : Bool) × (v ≡ Flag c)
+ValueHas (tuple no_tys) v = v ≡ Made Tuple no_values
 ValueHas _ v = Unit {0}
 
 -- the name of each local of the set has the value of the local
@@ -103,6 +105,9 @@ shown_int k t v (there, (z, is, f)) shows = (z, subst (λ (u : T). Shows u v) is
 shown_bool : (t : T) (v : Value) → Shape bool t → Shows t v → ValueHas bool v
 shown_bool t v (there, (c, is)) shows = (c, subst (λ (u : T). Shows u v) is shows)
 
+shown_unit : (t : T) (v : Value) → Shape unit_ty t → Shows t v → ValueHas unit_ty v
+shown_unit t v (there, is) shows = let (vs, none, made) = subst (λ (u : T). Shows u v) is shows in made ∙ ap (λ us. Made Tuple us) none
+
 -- what a local of the set has is of its type
 pub local_has : (b : Body) (set : Locals) (ls : List T) (σ : Store) (x : ℕ) (ty : Ty) → Fits b no_tys set ls → Agrees ls σ → slice_get b.locals x ≡ Some ty → set x ≡ true → ValueHas ty (σ x)
 local_has b set ls σ x (int k) fits agrees is_ty inside =
@@ -111,6 +116,9 @@ local_has b set ls σ x (int k) fits agrees is_ty inside =
 local_has b set ls σ x bool fits agrees is_ty inside =
     let u = fits.slot x bool is_ty in
     shown_bool u.0 (σ x) (fits.shaped x bool u.0 inside is_ty u.1) (agrees x u.0 u.1)
+local_has b set ls σ x (tuple no_tys) fits agrees is_ty inside =
+    let u = fits.slot x unit_ty is_ty in
+    shown_unit u.0 (σ x) (fits.shaped x unit_ty u.0 inside is_ty u.1) (agrees x u.0 u.1)
 local_has b set ls σ x _ fits agrees is_ty inside = tt
 
 pub operand_has : (b : Body) (set : Locals) (ls : List T) (σ : Store) (o : Operand) (ty : Ty) → Fits b no_tys set ls → Agrees ls σ → OperandHas b o ty → CanTake set o → ValueHas ty (operand_value σ o)

@@ -1,4 +1,4 @@
--- Programs of functions over integers and truth values, and what true obligations are worth.
+-- Programs of functions over integers, truth values and `()`, and what true obligations are worth.
 use Rattle.std.specs.Prelude.{◌≡◌, ℕ, ◌≤◌, true, List, length, drop, Some, slice_get, ◌⊎◌, false}
 use Rattle.text_core.specs.declared.name.Name.{Name}
 use Rattle.logic_term.specs.declared.kinds.Label.{Label}
@@ -8,7 +8,12 @@ use Rattle.logic_term.specs.Free.{free}
 use Rattle.logic_term.specs.Meaning.{Env, Holds}
 use Rattle.logic_term.specs.Sort.{Declarations}
 use Rattle.logic_term.specs.Term.{Term}
-use Rattle.logic_term.specs.Ty.{Ty, Tys, int, bool}
+use Rattle.logic_term.specs.Ty.{Ty, Tys, int, bool, tuple, no_tys}
+use Rattle.mir_ir.specs.declared.place.Operand.{Operand}
+use Rattle.mir_ir.specs.declared.place.Place.{Place}
+use Rattle.mir_ir.specs.declared.terminator.FnId.TheVariants as fn_id
+use Rattle.mir_ir.specs.declared.terminator.Callee.TheVariants.{Function}
+use Rattle.mir_ir.specs.declared.terminator.TerminatorKind.TheVariants.{Call}
 use Rattle.mir_ir.specs.declared.body.Block.{Block}
 use Rattle.mir_ir.specs.declared.body.Body.{Body}
 use Rattle.mir_ir.specs.Body.{block_in}
@@ -20,9 +25,11 @@ use Rattle.mir_ir.specs.declared.body.Head.{Head}
 use Rattle.mir_ir.specs.declared.body.Initialised.{Initialised}
 use Rattle.mir_ir.specs.Layout.{IsLaidOut}
 
+-- an integer type, `bool`, or the type of `()`
 abbrev pub IsScalar : Ty → Type 0
 IsScalar (int k) = Unit {0}
 IsScalar bool = Unit {0}
+IsScalar (tuple no_tys) = Unit {0}
 IsScalar _ = ⊥
 
 -- no two locals have one name, and none has that of new values
@@ -49,7 +56,7 @@ pub record SpeaksOf (b : Body) (c : Contract) : Type 0 where
 abbrev pub IsTrueGoal : Declarations → Obligation → Type 0
 IsTrueGoal Δ o = (θ : Tys) (ρ : Env) → Holds (record { declared = Δ; types = θ }) o.goal ρ
 
--- every local is an integer or a truth value, and loops are entered at their heads
+-- every local is an integer, a truth value or `()`, and loops are entered at their heads
 pub record IsSimple (b : Body) : Type 0 where
   pub names : AreNamesOfLocals b
   pub scalars : (x : ℕ) (ty : Ty) → slice_get b.locals x ≡ Some ty → IsScalar ty
@@ -95,8 +102,31 @@ pub record HasTrueObligations (Δ : Declarations) (w : Setting) : Type 0 where
   pub are : AreObligations w first obligations paths
   pub all_true : Each (IsTrueGoal Δ) obligations
 
--- where all obligations of all functions are true, each function is good, whatever the declared types are
+-- ---- what a function may reach
+
+-- some block of body n ends with a call of function m
+pub record Calls (bodies : List Body) (n m : ℕ) : Type 0 where
+  pub body : Body
+  pub is_body : slice_get bodies n ≡ Some body
+  pub label : Label
+  pub block : Block
+  pub is_block : block_in body.blocks label ≡ Some block
+  pub place : Place
+  pub operands : List Operand
+  pub next : Label
+  pub is_call : block.end.kind ≡ Call place (Function (fn_id.Body m)) operands next
+
+-- what function f may reach by calls: the least set with f that is closed under them
+pub data Reaches (bodies : List Body) (f : ℕ) : ℕ → Type 0 where
+  itself : Reaches bodies f f
+  by_call : {n m : ℕ} → Reaches bodies f n → Calls bodies n m → Reaches bodies f m
+
+-- the obligations of each function that f may reach are true
+abbrev pub AreProvedFrom : Declarations → Program → ℕ → Type 0
+AreProvedFrom Δ p f = (n : ℕ) (b : Body) (d : Contract) → Reaches p.bodies f n → slice_get p.bodies n ≡ Some b → slice_get p.contracts n ≡ Some d
+    → HasTrueObligations Δ (setting p n b d)
+
+-- a function is good where all obligations of the functions that it may reach are true, whatever the declared types are
 abbrev pub TrueObligationsMakeGood : Type 0
 TrueObligationsMakeGood = (Δ : Declarations) (p : Program) (sound : AreSound p.bodies) → AreFunctions p sound
-    → ((n : ℕ) (b : Body) (c : Contract) → slice_get p.bodies n ≡ Some b → slice_get p.contracts n ≡ Some c → HasTrueObligations Δ (setting p n b c))
-    → (f : ℕ) (c : Contract) → slice_get p.contracts f ≡ Some c → Good Δ p.bodies f c
+    → (f : ℕ) (c : Contract) → slice_get p.contracts f ≡ Some c → AreProvedFrom Δ p f → Good Δ p.bodies f c

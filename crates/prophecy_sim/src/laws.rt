@@ -2,8 +2,9 @@
 ghost use Rattle.prophecy_sim.specs.Programs.{TrueObligationsMakeGood};
 ghost use Rattle.prophecy_sim.specs.Sample.{SampleIsSound, SampleIsTrue, SampleIsGood};
 
-/// Where all obligations of all functions of a program are true, each function is good for its contract: no proper call that meets
-/// the `requires` panics, overflows or gets stuck, however many steps it runs, and where it has returned the `ensures` are true.
+/// Where all obligations of a function and of those that it may reach by calls are true, the function is good for its contract: no
+/// proper call that meets the `requires` panics, overflows or gets stuck, however many steps it runs, and where it has returned the
+/// `ensures` are true.
 pub fn true_obligations_make_good()
     ensures { TrueObligationsMakeGood }
 {}

@@ -26,11 +26,11 @@ read_there (y ∷ xs) (suc i) d r f = read_there xs i d r f
 some_is : {A : Type 0} (x y : A) → Some x ≡ Some y → x ≡ y
 some_is x y e = cc
 
-or_true : (a b : Bool) → (a || b) ≡ true → (a ≡ true) ⊎ (b ≡ true)
+pub or_true : (a b : Bool) → (a || b) ≡ true → (a ≡ true) ⊎ (b ≡ true)
 or_true true b e = inl refl
 or_true false b e = inr e
 
-among_append : (x : Label) (ls ms : List Label) → among x (ls ++ ms) ≡ true → (among x ls ≡ true) ⊎ (among x ms ≡ true)
+pub among_append : (x : Label) (ls ms : List Label) → among x (ls ++ ms) ≡ true → (among x ls ≡ true) ⊎ (among x ms ≡ true)
 among_append x [] ms e = inr e
 among_append x (l ∷ ls) ms e = elim (or_true (l.0 == x.0) (among x (ls ++ ms)) e) [
   | inl here ↦ inl (ap (λ b. b || among x ls) here)
@@ -44,7 +44,7 @@ among_append x (l ∷ ls) ms e = elim (or_true (l.0 == x.0) (among x (ls ++ ms))
     or_right true = refl
     or_right false = refl
 
-among_front : (x : Label) (ls ms : List Label) → among x ls ≡ true → among x (ls ++ ms) ≡ true
+pub among_front : (x : Label) (ls ms : List Label) → among x ls ≡ true → among x (ls ++ ms) ≡ true
 among_front x [] ms e = absurd (true≢false (sym e))
 among_front x (l ∷ ls) ms e = elim (or_true (l.0 == x.0) (among x ls) e) [
   | inl here ↦ ap (λ b. b || among x (ls ++ ms)) here
@@ -55,7 +55,7 @@ among_front x (l ∷ ls) ms e = elim (or_true (l.0 == x.0) (among x ls) e) [
     or_right true = refl
     or_right false = refl
 
-same_label : (l m : Label) → (l.0 == m.0) ≡ true → l ≡ m
+pub same_label : (l m : Label) → (l.0 == m.0) ≡ true → l ≡ m
 same_label l m e = ap (λ n. let r : Label = record { 0 = n } in r) (eqb-true l.0 m.0 e)
 
 pub either : (b : Bool) → (b ≡ true) ⊎ (b ≡ false)
@@ -68,7 +68,7 @@ found_at : (t : Bool) (b : Label × Block) (bs : List (Label × Block)) (l : Lab
 found_at true b bs l k later e = omega arith
 found_at false b bs l k later e = let h = later e in omega arith
 
-found_place : (bs : List (Label × Block)) (l : Label) (k : Block) → block_in bs l ≡ Some k → place_of bs l < length bs
+pub found_place : (bs : List (Label × Block)) (l : Label) (k : Block) → block_in bs l ≡ Some k → place_of bs l < length bs
 found_place [] l k e = absurd cc
 found_place (b ∷ bs) l k e = found_at (b.0.0 == l.0) b bs l k (λ f. found_place bs l k f) e
 

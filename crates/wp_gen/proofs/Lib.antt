@@ -1,4 +1,5 @@
 pub mod Commands
+pub mod PathLaws
 pub mod Quotients
 pub mod Operations
 pub mod GoalLists

@@ -1,4 +1,5 @@
 pub mod Command
+pub mod Paths
 pub mod Row
 pub mod Sample
 pub mod Walk

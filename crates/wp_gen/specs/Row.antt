@@ -1,6 +1,6 @@
 -- One row for each statement and each end of a block: the goals that are met there, and the commands to what comes after.
 -- Arithmetic is that of the Rust Reference ("Operator expressions": overflow, division by zero, the least integer divided by -1).
-use Rattle.std.specs.Prelude.{ℕ, ◌+◌, ◌^◌, pos, negsuc, Bool, true, false, List, [], ◌∷◌, Option, Some, None, slice_get, if◌then◌else◌}
+use Rattle.std.specs.Prelude.{ℕ, ◌+◌, ◌^◌, pos, negsuc, Bool, true, false, List, [], ◌∷◌, map, Option, Some, None, slice_get, if◌then◌else◌}
 use Rattle.text_core.specs.declared.name.Name.{Name}
 use Rattle.text_core.specs.declared.span.Span.{Span}
 use Rattle.text_core.specs.declared.refusal.Kind.TheVariants.{Overflow, Division}
@@ -11,14 +11,15 @@ use Rattle.logic_term.specs.declared.kinds.BinaryOp.TheVariants.{Add, Sub, Mul, 
 use Rattle.logic_term.specs.declared.kinds.IntKind.{IntKind}
 use Rattle.logic_term.specs.declared.kinds.IntKind.TheVariants.{I8, I16, I32, I64, Isize, U8, U16, U32, U64, Usize}
 use Rattle.logic_term.specs.Range.{lowest, highest}
-use Rattle.logic_term.specs.Term.{Term, var, lit, truth, model, negative, not, calculate, is_less, is_at_most, is_equal, and}
+use Rattle.logic_term.specs.Term.{made, Term, var, lit, truth, apply, model, negative, not, calculate, is_less, is_at_most, is_equal, and}
+use Rattle.logic_term.specs.TermView.{terms_of}
 use Rattle.logic_term.specs.Ty.{Ty, int, bool, math_int}
 use Rattle.mir_ir.specs.declared.place.Lit.{Lit}
 use Rattle.mir_ir.specs.declared.place.Lit.TheVariants as literal
 use Rattle.mir_ir.specs.declared.place.Operand.{Operand}
 use Rattle.mir_ir.specs.declared.place.Operand.TheVariants.{Copy, Move, Const}
 use Rattle.mir_ir.specs.declared.statement.Rvalue.{Rvalue}
-use Rattle.mir_ir.specs.declared.statement.Rvalue.TheVariants.{Use, Binary, Neg, Not}
+use Rattle.mir_ir.specs.declared.statement.Rvalue.TheVariants.{Use, Binary, Neg, Not, Make}
 use Rattle.mir_ir.specs.declared.statement.StatementKind.{StatementKind}
 use Rattle.mir_ir.specs.declared.statement.StatementKind.TheVariants.{Assign, Dead}
 use Rattle.mir_ir.specs.declared.body.Body.{Body}
@@ -177,6 +178,7 @@ of_rvalue b k x (Use o) = Set (name_of b x) (operand_term b o) ∷ []
 of_rvalue b k x (Binary op o q) = of_operation b k x op o q (operation op)
 of_rvalue b k x (Neg o) = of_negation b k x o
 of_rvalue b k x (Not o) = Set (name_of b x) (not (operand_term b o)) ∷ []
+of_rvalue b k x (Make c os) = Set (name_of b x) (apply (made c) (terms_of (map (operand_term b) os))) ∷ []
 
 abbrev pub commands_of : Body → StatementKind → List Command
 commands_of b (Assign p r) = of_rvalue b (kind_in (slice_get b.locals p.local)) p.local r

@@ -5,22 +5,12 @@ ghost use Rattle.wp_gen.specs.Walk.{entries, all_of, with_terms, at_arguments, a
 
 use crate::command::Command;
 use crate::goal::Goal;
-use crate::row::{name_of, operand_term, value_name};
+use crate::row::{name_of, operand_terms, value_name};
 use crate::seen::all_at;
 use logic_term::{Contract, Replacement, Term, Ty};
 use mir_ir::{Body, Operand};
 use std::alloc::Global;
 use text_core::{Kind, Name, NoMemory, Span};
-
-fn operand_terms(alloc: Global, body: &Body, args: &[Operand]) -> Result<Vec<Term>, NoMemory>
-    ensures { IfOk result (λ v. v.items ≡ map (operand_term body.now) args.now) }
-{
-    let mut terms = Vec::with_capacity(alloc, args.len())?;
-    for arg in args {
-        terms.push(operand_term(body, arg))?;
-    }
-    Ok(terms)
-}
 
 fn entry(alloc: Global, name: Name, by: &Term) -> Result<Replacement, NoMemory>
     ensures { IfOk result (λ e. e ≡ record { name = name; by = by.now }) }

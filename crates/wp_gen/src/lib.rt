@@ -5,7 +5,9 @@ mod call;
 mod command;
 mod goal;
 mod head;
+mod laws;
 mod oblige;
+mod paths;
 mod row;
 mod seen;
 mod step;
@@ -15,6 +17,8 @@ mod walk;
 
 pub use command::Command;
 pub use goal::{Goal, Operation};
+pub use laws::paths_are_counted;
 pub use oblige::obligations;
+pub use paths::{PATHS, check_paths};
 pub use step::Compared;
 pub use walk::Walk;

@@ -39,6 +39,20 @@ pub(crate) fn operand_term(body: &Body, operand: &Operand) -> Term
     }
 }
 
+pub(crate) fn operand_terms(
+    alloc: Global,
+    body: &Body,
+    args: &[Operand],
+) -> Result<Vec<Term>, NoMemory>
+    ensures { IfOk result (λ v. v.items ≡ map (operand_term body.now) args.now) }
+{
+    let mut terms = Vec::with_capacity(alloc, args.len())?;
+    for arg in args {
+        terms.push(operand_term(body, arg))?;
+    }
+    Ok(terms)
+}
+
 /// The unbounded integer that the operand is.
 pub(crate) fn integer_term(alloc: Global, body: &Body, operand: &Operand) -> Result<Term, NoMemory>
     ensures { IfOk result (λ t. t ≡ integer_term body.now operand.now) }
@@ -218,6 +232,7 @@ fn goals_of_kind(
         }
         Rvalue::Use(_) => Ok(Vec::new(alloc)),
         Rvalue::Not(_) => Ok(Vec::new(alloc)),
+        Rvalue::Make(_, _) => Ok(Vec::new(alloc)),
     }
 }
 

@@ -6,7 +6,9 @@ ghost use Rattle.wp_gen.specs.Row.{name_of, operand_term, operand_ty, integer_te
 
 use crate::command::Command;
 use crate::goal::Operation;
-use crate::row::{integer_term, kind_of_local, name_of, operand_term, operation, value_name};
+use crate::row::{
+    integer_term, kind_of_local, name_of, operand_term, operand_terms, operation, value_name,
+};
 use logic_term::{ArithOp, BinaryOp, IntKind, Term, Ty, TyNode};
 use mir_ir::{Body, Lit, Operand, Rvalue, StatementKind};
 use std::alloc::Global;
@@ -201,6 +203,10 @@ fn of_rvalue(alloc: Global, body: &Body, x: u32, rvalue: &Rvalue) -> Result<Vec<
         Rvalue::Not(a) => {
             let opposite = Term::not(alloc, operand_term(body, a))?;
             one_command(alloc, Command::Set(name_of(body, x), opposite))
+        }
+        Rvalue::Make(ctor, parts) => {
+            let value = Term::made(*ctor, operand_terms(alloc, body, parts.as_slice())?);
+            one_command(alloc, Command::Set(name_of(body, x), value))
         }
     }
 }

@@ -1,35 +1,28 @@
-ghost use Rattle.std.specs.Prelude.{◌≡◌, ◌≤◌, ◌+◌, ◌^◌, ◌<◌, ℕ, List, [], length, Err, IfOk, Option, None, Some};
-ghost use Rattle.std.specs.Option.{option_copied, option_map};
+ghost use Rattle.std.specs.Prelude.{◌≡◌, ◌≢◌, ◌≤◌, ◌+◌, ◌^◌, ◌<◌, ℕ, List, [], length, Err, IfOk, Option, None, Some};
+ghost use Rattle.std.specs.Option.{option_copied};
 ghost use Rattle.text_core.specs.Counts.{Rose};
 ghost use Rattle.io_edge.specs.Faults.{NoneFalls};
 ghost use Rattle.io_edge.specs.Shelf.{Files};
-ghost use Rattle.creusot_cli.specs.Call.{HeldAs, IsRefused, HasFunction, Answers, GivesProofs, NamedRose, status_of};
-ghost use Rattle.creusot_cli.specs.MirBuild.{body_of, contract_of};
-ghost use Rattle.creusot_cli.specs.Report.{report_of};
-ghost use Rattle.creusot_cli.specs.SourceForm.{Spells};
-ghost use Rattle.creusot_cli.specs.Verdict.{obligations_for, IsVerdict};
-ghost use Rattle.creusot_cli.specs.Words.{asked};
+ghost use Rattle.report_out.specs.Report.{report_of};
+ghost use Rattle.report_out.specs.declared.verdict.Verdict.{Verdict as VerdictValue};
+ghost use Rattle.verify_core.specs.Prepared.{RefusesSource};
+ghost use Rattle.verify_core.specs.Verdict.{IsVerdict};
+ghost use Rattle.creusot_cli.specs.Call.{HeldAs, HasProgram, Answers, GivesProofs, NamedRose, status_of};
+ghost use Rattle.creusot_cli.specs.Words.{Asked, asked};
 
-use crate::mir_build::{Lowered, lower};
-use crate::report_out::{Verdict, proof_error, proof_limit, report, source_error, source_limit};
-use crate::rs_syntax::{Function, PassError, read_function};
 use crate::verify::files::{ReadFile, Stop, read_file};
-use crate::verify_core::verdict_on;
 use crate::words::Request;
-use crate::wp_gen::obligations;
 use io_edge::Shelf;
-use logic_term::Obligation;
 use proof_text::{Proof, ProofFile, ProofTextError, read_proofs};
+use report_out::{limit_error, proof_error, report, source_error};
 use std::alloc::Global;
-use text_core::{Items, Names, NoMemory};
+use text_core::{Items, Limit, LimitKind, Names, NoMemory};
+use verify_core::{Program, Refusal, prepare, verdict_on};
 
 /// The most bytes of a source, and of a file of proofs.
 const MAX_SOURCE: u64 = 1 << 20;
 
 const MAX_PROOFS: u64 = 1 << 26;
-
-/// The most parameters of a function that is lowered.
-const MAX_PARAMS: usize = 1 << 20;
 
 /// A status, and what is printed with it.
 #[derive(Debug, Drop)]
@@ -72,7 +65,12 @@ fn named_proofs<S: Shelf>(alloc: Global, shelf: &mut S, name: &str) -> Result<Gi
     match read_file(alloc, shelf, name, MAX_PROOFS)? {
         ReadFile::Whole(bytes) => Ok(proofs_in(alloc, bytes.as_slice())?),
         ReadFile::TooLong(length) => {
-            let bytes = proof_limit(alloc, length)?;
+            let limit = Limit {
+                kind: LimitKind::ProofBytes,
+                counted: length,
+                bound: MAX_PROOFS,
+            };
+            let bytes = limit_error(alloc, limit)?;
             Ok(Given::Refused(Plan { status: 7, bytes }))
         }
     }
@@ -95,56 +93,64 @@ fn given_proofs<S: Shelf>(alloc: Global, shelf: &mut S, name: Option<&str>) -> R
     }
 }
 
-/// The obligations of a function. Want of memory is answered too where it has more parameters than a source has bytes.
-fn obligations_for(alloc: Global, f: &Function) -> Result<Vec<Obligation>, NoMemory>
-    ensures { IfOk result (λ os. os.items ≡ obligations_for f.now) }
-{
-    if f.params.len() > MAX_PARAMS || f.body.rest.len() > MAX_PARAMS {
-        return Err(NoMemory);
-    }
-    let Lowered { body, contract } = lower(alloc, f)?;
-    obligations(alloc, &body, &contract)
-}
-
-/// The verdict on the function with these proofs, and its report.
+/// The verdict on the program with these proofs, and its report.
 fn reported(
     alloc: Global,
     source: &[u8],
-    f: &Function,
-    obligations: &[Obligation],
+    program: &Program,
     proofs: &[Proof],
 ) -> Result<Plan, NoMemory>
-    requires { length source.now ≤ 2 ^ 20 }
-    ensures { IfOk result (λ p. (v : Verdict) × IsVerdict f.now.name obligations.now proofs.now v × (p.status ≡ status_of v) × (p.bytes.items ≡ report_of source.now v)) }
+    requires short { length source.now ≤ 2 ^ 20 }
+    requires as_many { length program.now.functions ≡ length program.now.bodies.bodies }
+    ensures { IfOk result (λ p. (v : VerdictValue) × IsVerdict proofs.now program.now.bodies.bodies program.now.functions v × (p.status ≡ status_of v) × (p.bytes.items ≡ report_of source.now v)) }
 {
-    let verdict = verdict_on(alloc, &f.name, obligations, proofs)?;
+    let functions = program.functions.as_slice();
+    let bodies = program.bodies.bodies.as_slice();
+    let verdict = verdict_on(alloc, functions, bodies, proofs)?;
     let status = if verdict.left.is_empty() { 0 } else { 1 };
     let bytes = report(alloc, &verdict, source)?;
     Ok(Plan { status, bytes })
 }
 
-/// What is printed of the function that a source spells.
-fn plan_of_function<S: Shelf>(
+/// What is printed of a source that is accepted.
+fn plan_of_program<S: Shelf>(
     alloc: Global,
     request: Request<'_>,
     source: &[u8],
-    f: &Function,
+    program: &Program,
     shelf: &mut S,
 ) -> Result<Plan, Stop>
     requires short { length source.now ≤ 2 ^ 20 }
-    ensures ok { HasFunction (S.holds shelf.old) (asked request.entry) source.now f.now → IfOk result (λ p. Answers (S.holds shelf.old) (asked request.entry) p.status p.bytes.items) }
+    requires as_many { length program.now.functions ≡ length program.now.bodies.bodies }
+    ensures ok { HasProgram (S.holds shelf.old) (asked request.entry) source.now program.now → IfOk result (λ p. Answers (S.holds shelf.old) (asked request.entry) p.status p.bytes.items) }
     ensures holds { S.holds shelf.new ≡ S.holds shelf.old }
     ensures failed { result ≡ Err Stop.ShelfFailed → NamedRose (Some (asked request.entry)) (S.read_faults shelf.old) (S.read_faults shelf.new) }
     ensures none_falls { NoneFalls (S.read_faults shelf.old) (S.read_faults shelf.new) }
     ensures no_write { S.write_faults shelf.new ≡ S.write_faults shelf.old }
 {
-    let obligations = obligations_for(alloc, f)?;
     match given_proofs(alloc, shelf, request.proofs)? {
         Given::Refused(plan) => Ok(plan),
-        Given::Proofs(file) => {
-            let proofs = file.proofs.as_slice();
-            Ok(reported(alloc, source, f, obligations.as_slice(), proofs)?)
+        Given::Proofs(file) => Ok(reported(alloc, source, program, file.proofs.as_slice())?),
+    }
+}
+
+/// What is printed of a source that is refused for this reason.
+fn plan_of_refusal(alloc: Global, refusal: Refusal, source: &[u8]) -> Result<Plan, Stop>
+    requires short { length source.now ≤ 2 ^ 20 }
+    ensures ok { RefusesSource source.now refusal → (shelf : Option Files) (a : Asked) → HeldAs shelf a.source source.now → IfOk result (λ p. Answers shelf a p.status p.bytes.items) }
+    ensures failed { result ≢ Err Stop.ShelfFailed }
+{
+    match refusal {
+        Refusal::Source(error) => {
+            let bytes = source_error(alloc, error, source)?;
+            Ok(Plan { status: 3, bytes })
         }
+        Refusal::Limit(limit) => {
+            let bytes = limit_error(alloc, limit)?;
+            Ok(Plan { status: 7, bytes })
+        }
+        Refusal::Proof(_) => Err(Stop::NoMemory),
+        Refusal::NoMemory => Err(Stop::NoMemory),
     }
 }
 
@@ -162,13 +168,9 @@ fn plan_of_source<S: Shelf>(
     ensures none_falls { NoneFalls (S.read_faults shelf.old) (S.read_faults shelf.new) }
     ensures no_write { S.write_faults shelf.new ≡ S.write_faults shelf.old }
 {
-    match read_function(alloc, source) {
-        Ok(f) => plan_of_function(alloc, request, source, &f, shelf),
-        Err(PassError::Source(e)) => {
-            let bytes = source_error(alloc, e.span, source)?;
-            Ok(Plan { status: 3, bytes })
-        }
-        Err(PassError::NoMemory) => Err(Stop::NoMemory),
+    match prepare(alloc, source) {
+        Ok(program) => plan_of_program(alloc, request, source, &program, shelf),
+        Err(refusal) => plan_of_refusal(alloc, refusal, source),
     }
 }
 
@@ -187,7 +189,12 @@ pub(crate) fn plan_of<S: Shelf>(
     match read_file(alloc, shelf, request.source, MAX_SOURCE)? {
         ReadFile::Whole(source) => plan_of_source(alloc, request, source.as_slice(), shelf),
         ReadFile::TooLong(length) => {
-            let bytes = source_limit(alloc, length)?;
+            let limit = Limit {
+                kind: LimitKind::SourceBytes,
+                counted: length,
+                bound: MAX_SOURCE,
+            };
+            let bytes = limit_error(alloc, limit)?;
             Ok(Plan { status: 7, bytes })
         }
     }

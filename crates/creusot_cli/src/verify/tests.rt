@@ -91,10 +91,22 @@ fn reports_are_byte_for_byte(rt: HostRuntime) -> Result<(), Fail> {
             b"error proof 6\n",
         ),
         (
-            b"fn f(x: i64) -> i64 { x }",
             b"",
-            3,
-            b"error E20 8..11 line 1\n",
+            b"creusot-proofs 1\n",
+            0,
+            b"summary functions 0 verified 0 obligations 0 proved 0\n",
+        ),
+        (
+            b"#[requires(y@ != 0)]\nfn quo(x: i32, y: i32) -> i32 { x / y }\n",
+            b"creusot-proofs 1\nproof 1 quo\nintro x y\nhyp 1.1\nend\n",
+            1,
+            b"open 2 overflow 55..56 line 2 missing quo\nsummary functions 1 verified 0 obligations 2 proved 1\n",
+        ),
+        (
+            b"#[requires(n@ >= 0)]\n#[ensures(result@ >= n@)]\nfn up(n: i32) -> i32 { let mut i: i32 = 0; #[invariant(i@ <= n@)] while i < n { i += 1; } i }\n",
+            b"creusot-proofs 1\nproof 1 up\nintro n\nhyp 1.1\nend\nproof 2 up\nintro n i\nrange i\nrange n\nsplit\nlin 1:goal 1:2.1\nlin 1:goal 1:1.3 1:3.2\nend\nproof 3 up\nintro n i v\nlin 1:goal 1:1.3 1:1.4\nend\nproof 4 up\nintro n i\nlin 1:goal 1:1.3\nend\n",
+            0,
+            b"verified up\nsummary functions 1 verified 1 obligations 4 proved 4\n",
         ),
     ];
     for (source, proofs, want, printed) in cases {
@@ -102,6 +114,50 @@ fn reports_are_byte_for_byte(rt: HostRuntime) -> Result<(), Fail> {
         assert_eq!(rt; status, want);
         assert_eq!(rt; out.written(), printed);
     }
+    Ok(())
+}
+
+#[test]
+fn sources_are_refused_where_they_fail(rt: HostRuntime) -> Result<(), Fail> {
+    let cases = [
+        // The words in their order, and tokens.
+        (b"fn f(x: f64) -> i64 { x }".as_slice(), b"error E20 8..11 line 1\n".as_slice()),
+        (b"fn f(a: i32) -> bool {\n a < 1 < 2 }", b"error E20 30..31 line 2\n"),
+        (b"fn f() {", b"error E20 8..8 line 1\n"),
+        (b"fn f() {} /* a /* b */", b"error E02 10..22 line 1\n"),
+        // Names.
+        (b"fn f() {} fn g() {} fn f() {}", b"error E06 23..24 line 1\n"),
+        (b"fn f(x: i32, x: i32) {}", b"error E06 13..14 line 1\n"),
+        (b"fn f() -> i32 { x }", b"error E05 16..17 line 1\n"),
+        (b"fn f() { g() }", b"error E05 9..10 line 1\n"),
+        // Types.
+        (b"fn f(x: i32) -> bool { x }", b"error E07 23..24 line 1\n"),
+        (b"fn f() -> u8 { 256 }", b"error E07 15..18 line 1\n"),
+        (b"fn f(x: u8) -> u8 { -x }", b"error E07 21..22 line 1\n"),
+        (b"fn f(x: i32) { x = 1; }", b"error E22 15..16 line 1\n"),
+        // Formulas, behind the types of all functions.
+        (b"#[requires(y@ > 0)] fn f(x: i32) {} fn g() -> i32 { true }", b"error E07 52..56 line 1\n"),
+        (b"#[requires(y@ > 0)] fn f(x: i32) {}", b"error E05 11..12 line 1\n"),
+        (b"#[ensures(x > 0)] fn f(x: i32) {}", b"error E07 14..15 line 1\n"),
+    ];
+    for (source, printed) in cases {
+        let (status, out) = Call::of(source, b"").run(rt.alloc())?;
+        assert_eq!(rt; status, 3);
+        assert_eq!(rt; out.written(), printed);
+    }
+    Ok(())
+}
+
+#[test]
+fn callers_of_open_functions_are_not_verified(rt: HostRuntime) -> Result<(), Fail> {
+    // g and h call one another, h calls the open k; l calls none of them.
+    let source = b"fn g() { h() }\nfn h() { g(); k() }\n#[ensures(false)]\nfn k() {}\nfn l() {}\n";
+    let (status, out) = Call::of(source, b"creusot-proofs 1\n").run(rt.alloc())?;
+    assert_eq!(rt; status, 1);
+    assert_eq!(rt;
+        out.written(),
+        b"verified l\nopen 1 ensures 45..50 line 3 missing k\nsummary functions 4 verified 1 obligations 1 proved 0\n".as_slice()
+    );
     Ok(())
 }
 

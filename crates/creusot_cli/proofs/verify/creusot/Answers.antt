@@ -1,19 +1,12 @@
 use Rattle.std.proofs.Common.{map, string_bytes, inr}
-use Rattle.std.specs.Io.KnownBytes.{Appends}
 use Rattle.creusot_cli.specs.Words.{asked_of}
 use Rattle.creusot_cli.proofs.CallLaws.{reports}
-use Rattle.creusot_cli.proofs.ExactLaws.{exact}
 use Rattle.creusot_cli.proofs.verify.creusot.Goals as goal
 
 pub returns-in-Ok-clause-verified : goal.returns-in-Ok-clause-verified
 returns-in-Ok-clause-verified g c =
     reports (g.S.Shelf.holds c.args.shelf.now) (asked_of (map string_bytes c.args.words.now)) c.in-Ok.plan.status c.print.result c.in-Ok.plan.bytes.items
     (g.K.Sink.written c.args.out.now) (g.K.Sink.written c.print.new.out) c.in-Ok.ensures.ok c.print.ensures.printed
-
-pub returns-in-Ok-clause-exact : goal.returns-in-Ok-clause-exact
-returns-in-Ok-clause-exact g c =
-    exact (g.S.Shelf.holds c.args.shelf.now) (asked_of (map string_bytes c.args.words.now)) c.in-Ok.plan.status c.print.result c.in-Ok.plan.bytes.items
-    (Appends (g.K.Sink.written c.args.out.now) (g.K.Sink.written c.print.new.out) c.in-Ok.plan.bytes.items) c.in-Ok.ensures.ok c.print.ensures.printed
 
 pub returns-in-Ok-clause-part : goal.returns-in-Ok-clause-part
 returns-in-Ok-clause-part g c = inr (c.in-Ok.plan.status, c.in-Ok.plan.bytes.items, c.in-Ok.ensures.ok, c.print.ensures.part)

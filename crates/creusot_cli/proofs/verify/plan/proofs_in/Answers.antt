@@ -7,6 +7,6 @@ pub returns-in-Ok : goal.returns-in-Ok
 returns-in-Ok c = λ shelf name held. AreProofs.given c.args.bytes.now _ held c.requires c.in-Ok.ensures.ok
 
 pub returns-in-Err-BadLine : goal.returns-in-Err-BadLine
-returns-in-Err-BadLine c = λ shelf name held source f source_name has.
+returns-in-Err-BadLine c = λ shelf name held source p source_name has.
     subst (λ (bs : List ℕ). Answers shelf (record { source = source_name; proofs = Some name }) 4 bs) (sym c.in_ok-bytes-in-Err-BadLine.ensures)
-    (Answers.proofs_refused source name c.args.bytes.now f has refl held c.requires (c.in-Err-BadLine.ensures.bad c.in-Err-BadLine.line (ap (λ (e : ProofTextError). Err e) c.in-Err-BadLine.field-0-is)))
+    (Answers.proofs_refused source name c.args.bytes.now p has refl held c.requires (c.in-Err-BadLine.ensures.bad c.in-Err-BadLine.line (ap (λ (e : ProofTextError). Err e) c.in-Err-BadLine.field-0-is)))

@@ -1,0 +1,13 @@
+#!/usr/bin/env bash
+# Seconds and peak memory of `verify` on sources of 64, 512 and 4,096 functions. Its argument is the built program.
+set -eu
+program=$1
+here=$(cd "$(dirname "$0")" && pwd)
+folder=$(mktemp -d)
+trap 'rm -rf "$folder"' EXIT
+for kind in sums loops; do
+  for count in 64 512 4096; do
+    python3 "$here/sources.py" "$kind" "$count" "$folder/s" "$folder/p"
+    python3 "$here/measure.py" "$kind $count" "$program" "$folder/s" "$folder/p"
+  done
+done

@@ -1,0 +1,47 @@
+"""Writes a source of many functions, and their proofs: sums with bounds, or loops and calls."""
+import sys
+
+
+def sum_function(k):
+    name = f"f{k}"
+    source = f"#[requires(x@ < 100)]\n#[ensures(result@ == x@ + {k})]\nfn {name}(x: i32) -> i32 {{ x + {k} }}\n"
+    proofs = (
+        f"proof 1 {name}\nintro x\nrange x\nsplit\nlin 1:goal 1:2.1\nlin 1:goal 1:1.1\nend\n"
+        f"proof 2 {name}\nintro x t\nhyp 1.2\nend\n"
+    )
+    return source, proofs
+
+
+def loop_function(k):
+    """Counts up to n, and calls the function before it."""
+    name = f"f{k}"
+    call = "" if k == 1 else f" f{k - 1}(n);"
+    source = (
+        f"#[requires(n@ >= 0)]\n#[ensures(result@ >= n@)]\n"
+        f"fn {name}(n: i32) -> i32 {{{call} let mut i: i32 = 0; #[invariant(i@ <= n@)] while i < n {{ i += 1; }} i }}\n"
+    )
+    first = 1 if k == 1 else 2
+    answer = "" if k == 1 else " r"
+    shift = 0 if k == 1 else 1
+    entry = "" if k == 1 else f"proof 1 {name}\nintro n\nhyp 1.1\nend\n"
+    proofs = (
+        f"{entry}proof {first} {name}\nintro n{answer}\nhyp 1.1\nend\n"
+        f"proof {first + 1} {name}\nintro n{answer} i\nrange i\nrange n\nsplit\nlin 1:goal 1:2.1\nlin 1:goal 1:1.{3 + shift} 1:3.2\nend\n"
+        f"proof {first + 2} {name}\nintro n{answer} i v\nlin 1:goal 1:1.{3 + shift} 1:1.{4 + shift}\nend\n"
+        f"proof {first + 3} {name}\nintro n{answer} i\nlin 1:goal 1:1.{3 + shift}\nend\n"
+    )
+    return source, proofs
+
+
+def main():
+    kind, count, source_name, proofs_name = sys.argv[1], int(sys.argv[2]), sys.argv[3], sys.argv[4]
+    function = {"sums": sum_function, "loops": loop_function}[kind]
+    texts = [function(k) for k in range(1, count + 1)]
+    with open(source_name, "w", encoding="utf-8") as out:
+        out.writelines(source for source, _ in texts)
+    with open(proofs_name, "w", encoding="utf-8") as out:
+        out.write("creusot-proofs 1\n")
+        out.writelines(proofs for _, proofs in texts)
+
+
+main()

@@ -1,7 +1,0 @@
-//! The tokens of a source.
-
-mod lexer;
-mod token;
-
-pub use lexer::tokens;
-pub use token::{Token, TokenKind};

@@ -1,0 +1,66 @@
+-- The blocks of a typed text are typed.
+use Rattle.std.proofs.Common.{◌≡◌, refl, ap, sym, ◌∙◌, subst, ℕ, zero, suc, ◌==◌, ◌||◌, Bool, true, false, List, [], ◌∷◌, ◌++◌, Option, Some, None, slice_get}
+use Rattle.std.proofs.lemmas.Bool.{eq-eqb}
+use Rattle.text_core.specs.declared.span.Span.{Span}
+use Rattle.logic_term.specs.declared.kinds.Label.{Label}
+use Rattle.mir_ir.specs.declared.body.Block.{Block}
+use Rattle.mir_ir.specs.declared.body.Body.{Body}
+use Rattle.mir_ir.specs.declared.statement.Statement.{Statement}
+use Rattle.mir_ir.specs.declared.terminator.TerminatorKind.{TerminatorKind}
+use Rattle.mir_ir.specs.declared.terminator.TerminatorKind.TheVariants.{Goto, If, Call, Return}
+use Rattle.mir_ir.specs.Layout.{among, targets, Leads, on, back}
+use Rattle.mir_ir.specs.WellFormed.{StatementIsTyped, EndIsTyped, HasBlock}
+use Rattle.mir_build.specs.Text.{Line, Puts, Makes, Turns, Owns, Open, fresh, longer}
+use Rattle.mir_build.specs.Lowering.{ends}
+use Rattle.mir_build.proofs.LawNames.{HeadFits}
+use Rattle.mir_build.proofs.LawTyped.{EndFits, is_local, AreTyped}
+use Rattle.mir_build.proofs.LawLayout.{blocks_of}
+use Rattle.mir_build.proofs.LawInit.{EachBlock}
+
+abbrev pub AllTyped : Body → List Statement → Type 0
+AllTyped b [] = Unit {0}
+AllTyped b (s ∷ sts) = StatementIsTyped b s.kind × AllTyped b sts
+
+all_typed_more : (b : Body) (sts : List Statement) (s : Statement) → AllTyped b sts → StatementIsTyped b s.kind → AllTyped b (sts ++ s ∷ [])
+all_typed_more b [] s h g = (g, tt)
+all_typed_more b (u ∷ sts) s h g = (h.0, all_typed_more b sts s h.1 g)
+
+some_same : {A : Type 0} {a b : A} → Some a ≡ Some b → a ≡ b
+some_same e = cc
+
+pub typed_at : (b : Body) (sts : List Statement) (i : ℕ) (s : Statement) → AllTyped b sts → slice_get sts i ≡ Some s → StatementIsTyped b s.kind
+typed_at b [] i s h e = absurd (cc)
+typed_at b (u ∷ sts) zero s h e = subst (λ (z : Statement). StatementIsTyped b z.kind) (some_same e) h.0
+typed_at b (u ∷ sts) (suc i) s h e = typed_at b sts i s h.1 e
+
+pub record BlockTyped (bodies : List Body) (b : Body) (e : Label × Block) : Type 0 where
+  pub statements : AllTyped b e.1.statements
+  pub end : EndFits bodies b e.1.end.kind
+  pub head : HeadFits (is_local b) e.1.head
+
+pub typed_blocks : (bodies : List Body) (b : Body) (s : Span) (xs : List Line) (o : Open) → AreTyped bodies b xs → AllTyped b o.statements → HeadFits (is_local b) o.title.head → EachBlock (BlockTyped bodies b) (blocks_of o xs (ends s Return))
+typed_blocks bodies b s [] o p h g = (record { statements = h; end = tt; head = g }, tt)
+typed_blocks bodies b s (Puts st ∷ xs) o p h g = typed_blocks bodies b s xs (longer o st) p.1 (all_typed_more b o.statements st h p.0) g
+typed_blocks bodies b s (Makes x t ∷ xs) o p h g = typed_blocks bodies b s xs o p.1 h g
+typed_blocks bodies b s (Turns t k ∷ xs) o p h g = (record { statements = h; end = p.0; head = g }, typed_blocks bodies b s xs (fresh k) p.2 tt p.1)
+typed_blocks bodies b s (Owns l ys ∷ xs) o p h g = typed_blocks bodies b s xs o p h g
+
+pub has_block : (b : Body) (l : Label) (k : Block) (m : Label) → Leads b l k m → HasBlock b m
+has_block b l k m (on to e p n) = (to, e)
+has_block b l k m (back to h e q a) = (to, e)
+
+first_among : (l : Label) (ls : List Label) → among l (l ∷ ls) ≡ true
+first_among l ls = ap (λ t. t || among l ls) (eq-eqb l.0 l.0 refl)
+
+second_among : (l m : Label) → among m (l ∷ m ∷ []) ≡ true
+second_among l m = by_test (l.0 == m.0) (first_among m [])
+  where
+    by_test : (t : Bool) → among m (m ∷ []) ≡ true → (t || among m (m ∷ [])) ≡ true
+    by_test true e = refl
+    by_test false e = e
+
+pub end_typed : (bodies : List Body) (b : Body) (k : TerminatorKind) → EndFits bodies b k → ((m : Label) → among m (targets k) ≡ true → HasBlock b m) → EndIsTyped bodies b k
+end_typed bodies b (Goto l) h g = g l (first_among l [])
+end_typed bodies b (If o l m) h g = (h, g l (first_among l (m ∷ [])), g m (second_among l m))
+end_typed bodies b (Call p f os l) h g = (h, g l (first_among l []))
+end_typed bodies b Return h g = tt

@@ -1,0 +1,157 @@
+-- Along each lowered text the locals in scope are initialised, and where it ends its own local is too.
+use Rattle.std.proofs.Common.{◌≡◌, ◌⊎◌, inl, inr, refl, ap, sym, ◌∙◌, subst, ℕ, zero, suc, ◌+◌, ◌<◌, ◌≤◌, ◌==◌, Bool, true, false, cond, List, [], ◌∷◌, ◌++◌, map, length, Option, Some, None, slice_get, arith, true≢false, length-append}
+use Rattle.logic_term.specs.declared.kinds.Label.{Label}
+use Rattle.logic_term.specs.Ty.{Ty}
+use Rattle.text_core.specs.declared.span.Span.{Span}
+use Rattle.mir_ir.specs.declared.body.Head.{Head}
+use Rattle.mir_ir.specs.declared.place.Operand.{Operand}
+use Rattle.mir_ir.specs.declared.terminator.FnId.TheVariants as fn_id
+use Rattle.mir_ir.specs.declared.terminator.Callee.TheVariants.{Function}
+use Rattle.mir_ir.specs.declared.terminator.TerminatorKind.TheVariants.{Goto, If, Call, Return}
+use Rattle.mir_ir.specs.WellFormed.{Locals, with, without, CanTakeAll, all_taken, Within}
+use Rattle.rs_syntax.specs.declared.operator.LazyOp.{LazyOp}
+use Rattle.rs_syntax.specs.declared.operator.LazyOp.TheVariants as lazy_op
+use Rattle.type_check.specs.declared.program.Signature.{Signature}
+use Rattle.type_check.specs.TypedExpr.{TypedExpr, TypedStmts, TypedExprs}
+use Rattle.type_check.specs.WellTyped.{IsWellTyped, StatementsFit, ArgumentsFit}
+use Rattle.mir_build.specs.Text.{Title, Line, Puts, Makes, Turns, Owns, made}
+use Rattle.mir_build.specs.Lowering.{count, numbers, labels_begun, Around, looping, binds, at, at_head, head_of, ends, copied, whole, put_unit, dies_in, where_true, where_false, Into, of_integer, of_truth, of_variable, of_negative, of_denied, of_binary, of_lazy, of_assign, of_assign_value, of_update, of_update_value, of_call, of_block, of_branch, of_choice, of_repeat, Rest, of_done, of_last, of_bind, of_run, Args, of_none, of_more}
+use Rattle.mir_build.proofs.LawLists.{Has, here, there, has_get, makings-append, count-append, count_self}
+use Rattle.mir_build.proofs.LawNames.{HoldsAll, HeadFits, head_fits}
+use Rattle.mir_build.proofs.LawRuns.{with_self, with_more, with_within, kept, within_trans, HasNone, Runs, stops, puts, makes, turns, owns, runs-append, Agree, agree_left, agree_right, labels_in, Laid, labels_in-append, labels_begun-append, laid_stops, laid_puts, laid_makes, laid-append}
+
+-- ---- what is not in a set
+
+abbrev pub weight : Bool → ℕ
+weight t = cond t 1 0
+
+-- none of the locals is in the set, and none is there twice
+pub record Apart (set : Locals) (ys : List ℕ) : Type 0 where
+  pub once : (x : ℕ) → weight (set x) + count x ys ≤ 1
+
+pub weight_with : (x t : ℕ) (set : Locals) → weight (with t set x) ≤ cond (x == t) 1 0 + weight (set x)
+weight_with x t set = by_test (x == t) (set x)
+  where
+    by_test : (c d : Bool) → weight (cond c true d) ≤ cond c 1 0 + weight d
+    by_test true d = omega arith
+    by_test false d = omega arith
+
+pub weight_before : (x t : ℕ) (set : Locals) → weight (set x) ≤ weight (with t set x)
+weight_before x t set = by_test (x == t) (set x)
+  where
+    by_test : (c d : Bool) → weight d ≤ weight (cond c true d)
+    by_test true true = omega arith
+    by_test true false = omega arith
+    by_test false d = omega arith
+
+pub none : (set : Locals) (ys : List ℕ) → Apart set ys → HasNone set ys
+none set ys h x g = by_test (set x) refl
+  where
+    by_test : (t : Bool) → set x ≡ t → set x ≡ false
+    by_test true e = let k : weight true + count x ys ≤ 1 = subst (λ t. weight t + count x ys ≤ 1) e (h.once x) in absurd (omega arith)
+    by_test false e = e
+
+pub before : (t : ℕ) (set : Locals) (ys : List ℕ) → Apart (with t set) ys → Apart set ys
+before t set ys h = record { once = λ x. omega (arith, weight_before x t set, h.once x) }
+
+-- for the first part of a text, which writes t
+pub first : (d t : ℕ) (set : Locals) (us rest : List Line) → Apart set (d ∷ t ∷ numbers (made (us ++ rest))) → Apart set (t ∷ numbers (made us))
+first d t set us rest h = record { once = λ x. omega (arith, makings-append x us rest, h.once x) }
+
+-- and for the rest behind it
+pub second : (d t : ℕ) (set : Locals) (us rest : List Line) → Apart set (d ∷ t ∷ numbers (made (us ++ rest))) → Apart (with t set) (d ∷ numbers (made rest))
+second d t set us rest h = record { once = λ x. omega (arith, makings-append x us rest, weight_with x t set, h.once x) }
+
+pub left : (d : ℕ) (set : Locals) (us rest : List Line) → Apart set (d ∷ numbers (made (us ++ rest))) → Apart set (d ∷ numbers (made us))
+left d set us rest h = record { once = λ x. omega (arith, makings-append x us rest, h.once x) }
+
+pub right : (d : ℕ) (set : Locals) (us rest : List Line) → Apart set (d ∷ numbers (made (us ++ rest))) → Apart set (d ∷ numbers (made rest))
+right d set us rest h = record { once = λ x. omega (arith, makings-append x us rest, h.once x) }
+
+-- the local behind the first
+pub fresh_second : (d t : ℕ) (set : Locals) (ys : List ℕ) → Apart set (d ∷ t ∷ ys) → set t ≡ false
+fresh_second d t set ys h = none set (d ∷ t ∷ ys) h t (omega (arith, count_self t ys))
+
+-- ---- turns
+
+at_most : (l : Label) (at : Label → Locals) (set now : Locals) → at l ≡ set → Within set now → Within (at l) now
+at_most l at set now e w x h = w x (subst (λ (s : Locals). s x ≡ true) e h)
+
+from_start : (l : Label) (at : Label → Locals) (set to : Locals) (xs : List Line) → at l ≡ set → Runs at set xs to → Runs at (at l) xs to
+from_start l at set to xs e p = subst (λ s. Runs at s xs to) (sym e) p
+
+joined : (as' bs : List (Label × Locals)) (xs ys : List Line) → labels_in as' ≡ labels_begun xs → labels_in bs ≡ labels_begun ys → labels_in (as' ++ bs) ≡ labels_begun (xs ++ ys)
+joined as' bs xs ys p q = labels_in-append as' bs ∙ ap (λ ls. ls ++ labels_in bs) p ∙ ap (λ ls. labels_begun xs ++ ls) q ∙ sym (labels_begun-append xs ys)
+
+pub same_set : (set : Locals) → Within set set
+same_set set x h = h
+
+-- two branches that come together
+pub forked : (c : Around) (s : Span) (t : ℕ) (yes' no' after : Label) (set now to : Locals) (ys zs : List Line) → now t ≡ true → Within set now → Laid set ys to → Laid set zs to
+    → Laid now (Turns (ends s (If (copied t) yes' no')) (at c yes') ∷ (ys ++ Turns (ends s (Goto after)) (at c no') ∷ (zs ++ Turns (ends s (Goto after)) (at c after) ∷ []))) to
+forked c s t yes' no' after set now to ys zs h w p q = record {
+  starts = (yes', set) ∷ (p.starts ++ (no', set) ∷ (q.starts ++ (after, to) ∷ []));
+  are = ap (λ ls. yes'.0 ∷ ls) (joined p.starts ((no', set) ∷ (q.starts ++ (after, to) ∷ [])) ys _ p.are (ap (λ ls. no'.0 ∷ ls) (joined q.starts ((after, to) ∷ []) zs _ q.are refl)));
+  runs = λ at' g.
+      let r = agree_right at' p.starts _ g.1 in
+      let a = agree_right at' q.starts _ r.1 in
+      turns h (at_most yes' at' set now g.0 w, at_most no' at' set now r.0 w) tt
+      (from_start yes' at' set to _ g.0 (runs-append at' to to _
+      (turns tt (at_most after at' to to a.0 (same_set to)) tt
+      (from_start no' at' set to _ r.0 (runs-append at' to to _
+      (turns tt (at_most after at' to to a.0 (same_set to)) tt (from_start after at' to to [] a.0 (stops (same_set to))))
+      set zs (q.runs at' (agree_left at' q.starts _ r.1)))))
+      set ys (p.runs at' (agree_left at' p.starts _ g.1))));
+}
+
+-- a loop
+pub looped : (c k : Around) (s : Span) (d t u : ℕ) (T U : Ty) (head body after : Label) (hd : Head) (own : List ℕ) (set : Locals) (us vs : List Line) → HeadFits set (Some hd) → HasNone set own → Laid set us (with t set) → Laid set vs (with u set)
+    → Laid set (Turns (ends s (Goto head)) (at_head k head hd) ∷ Makes t T ∷ (us ++ Turns (ends s (If (copied t) body after)) (at k body) ∷ Makes u U ∷ (vs ++ Turns (ends s (Goto head)) (at c after) ∷ Owns head own ∷ put_unit s d ∷ []))) (with d set)
+looped c k s d t u T U head body after hd own set us vs fits n p q = record {
+  starts = (head, set) ∷ (p.starts ++ (body, set) ∷ (q.starts ++ (after, set) ∷ []));
+  are = ap (λ ls. head.0 ∷ ls) (joined p.starts ((body, set) ∷ (q.starts ++ (after, set) ∷ [])) us _ p.are (ap (λ ls. body.0 ∷ ls) (joined q.starts ((after, set) ∷ []) vs _ q.are refl)));
+  runs = λ at' g.
+      let r = agree_right at' p.starts _ g.1 in
+      let a = agree_right at' q.starts _ r.1 in
+      turns tt (at_most head at' set set g.0 (same_set set)) (subst (λ m. HeadFits m (Some hd)) (sym g.0) fits)
+      (from_start head at' set (with d set) _ g.0 (makes (runs-append at' (with t set) (with d set) _
+      (turns (with_self t set) (at_most body at' set (with t set) r.0 (with_more t set), at_most after at' set (with t set) a.0 (with_more t set)) tt
+      (from_start body at' set (with d set) _ r.0 (makes (runs-append at' (with u set) (with d set) _
+      (turns tt (at_most head at' set (with u set) g.0 (with_more u set)) tt
+      (from_start after at' set (with d set) _ a.0 (owns (subst (λ m. HasNone m own) (sym g.0) n) (puts tt (stops (same_set (with d set)))))))
+      set vs (q.runs at' (agree_left at' q.starts _ r.1))))))
+      set us (p.runs at' (agree_left at' p.starts _ g.1)))));
+}
+
+-- ---- calls
+
+abbrev pub with_all : List ℕ → Locals → Locals
+with_all [] set = set
+with_all (t ∷ ts) set = with_all ts (with t set)
+
+pub with_all_more : (ts : List ℕ) (set : Locals) → Within set (with_all ts set)
+with_all_more [] set x h = h
+with_all_more (t ∷ ts) set x h = with_all_more ts (with t set) x (with_more t set x h)
+
+pub with_all_has : (ts : List ℕ) (set : Locals) (x : ℕ) → Has x ts → with_all ts set x ≡ true
+with_all_has [] set x h = elim h [ ]
+with_all_has (t ∷ ts) set x here = with_all_more ts (with x set) x (with_self x set)
+with_all_has (t ∷ ts) set x (there h) = with_all_has ts (with t set) x h
+
+can_take_copies : (ts : List ℕ) (set : Locals) → HoldsAll set ts → CanTakeAll set (map copied ts)
+can_take_copies [] set h = tt
+can_take_copies (t ∷ ts) set h = (h t here, can_take_copies ts set (λ x g. h x (there g)))
+
+copies_taken : (ts : List ℕ) (set : Locals) → all_taken (map copied ts) set ≡ set
+copies_taken [] set = refl
+copies_taken (t ∷ ts) set = copies_taken ts set
+
+pub called : (c : Around) (s : Span) (f d : ℕ) (ts : List ℕ) (after : Label) (set now : Locals) → HoldsAll now ts → Within set now → Laid now (Turns (ends s (Call (whole d) (Function (fn_id.Body f)) (map copied ts) after)) (at c after) ∷ []) (with d set)
+called c s f d ts after set now h w = record {
+  starts = (after, with d set) ∷ [];
+  are = refl;
+  runs = λ at' g.
+      turns (can_take_copies ts now h)
+      (at_most after at' (with d set) (with d (all_taken (map copied ts) now)) g.0 (subst (λ u. Within (with d set) (with d u)) (sym (copies_taken ts now)) (with_within d set now w)))
+      tt (from_start after at' (with d set) (with d set) [] g.0 (stops (same_set (with d set))));
+}

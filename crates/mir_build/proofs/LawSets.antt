@@ -1,0 +1,184 @@
+-- By induction on the rows: along each lowered text the locals in scope are initialised, and where it ends its own local is too.
+use Rattle.std.proofs.Common.{◌≡◌, ◌⊎◌, inl, inr, refl, ap, sym, ◌∙◌, subst, ℕ, zero, suc, ◌+◌, ◌<◌, ◌≤◌, ◌==◌, Bool, true, false, cond, List, [], ◌∷◌, ◌++◌, map, length, Option, Some, None, slice_get, arith, true≢false, length-append, append-nil}
+use Rattle.logic_term.specs.declared.kinds.Label.{Label}
+use Rattle.logic_term.specs.Ty.{Ty}
+use Rattle.text_core.specs.declared.span.Span.{Span}
+use Rattle.mir_ir.specs.declared.terminator.Terminator.{Terminator}
+use Rattle.mir_ir.specs.WellFormed.{Locals, with, without, Within}
+use Rattle.rs_syntax.specs.declared.operator.LazyOp.{LazyOp}
+use Rattle.rs_syntax.specs.declared.operator.LazyOp.TheVariants as lazy_op
+use Rattle.type_check.specs.declared.program.Signature.{Signature}
+use Rattle.type_check.specs.TypedExpr.{TypedExpr, TypedStmts, TypedExprs}
+use Rattle.type_check.specs.WellTyped.{IsWellTyped, StatementsFit, ArgumentsFit}
+use Rattle.mir_build.specs.Text.{Title, Line, Puts, Makes, Turns, Owns, made}
+use Rattle.mir_build.specs.Lowering.{count, numbers, Around, looping, binds, at, head_of, dies_in, where_true, where_false, Into, of_integer, of_truth, of_variable, of_negative, of_denied, of_binary, of_lazy, of_assign, of_assign_value, of_update, of_update_value, of_call, of_block, of_branch, of_choice, of_repeat, Rest, of_done, of_last, of_bind, of_run, Args, of_none, of_more}
+use Rattle.mir_build.proofs.LawLists.{Has, here, there, has_get, makings-append, count-append, count_self}
+use Rattle.mir_build.proofs.LawNames.{HoldsAll, head_fits}
+use Rattle.mir_build.proofs.LawRuns.{with_self, with_more, with_within, kept, within_trans, Runs, stops, runs-append, Laid, laid_stops, laid_puts, laid_makes, laid-append}
+use Rattle.mir_build.proofs.LawLaid.{weight, Apart, none, before, first, second, left, right, fresh_second, same_set, forked, looped, with_all, with_all_more, with_all_has, called, weight_with}
+
+-- the set has the locals in scope, one for each variable
+pub record Scoped (c : Around) (Γ : List Ty) (set : Locals) : Type 0 where
+  pub count : length Γ ≡ length c.scope
+  pub holds : HoldsAll set c.scope
+
+more_scoped : (c : Around) (Γ : List Ty) (set : Locals) (t : ℕ) → Scoped c Γ set → Scoped c Γ (with t set)
+more_scoped c Γ set t sc = record { count = sc.count; holds = λ x h. with_more t set x (sc.holds x h) }
+
+has_last : (xs : List ℕ) (t x : ℕ) → Has x (xs ++ t ∷ []) → Has x xs ⊎ (x ≡ t)
+has_last [] t x here = inr refl
+has_last [] t x (there h) = elim h [ ]
+has_last (y ∷ xs) t x here = inl here
+has_last (y ∷ xs) t x (there h) = by_case (has_last xs t x h)
+  where
+    by_case : Has x xs ⊎ (x ≡ t) → Has x (y ∷ xs) ⊎ (x ≡ t)
+    by_case (inl g) = inl (there g)
+    by_case (inr e) = inr e
+
+bound_scoped : (c : Around) (Γ : List Ty) (T : Ty) (set : Locals) (t : ℕ) → Scoped c Γ set → Scoped (binds c t) (Γ ++ T ∷ []) (with t set)
+bound_scoped c Γ T set t sc = record {
+  count = length-append Γ (T ∷ []) ∙ ap (λ n. n + 1) sc.count ∙ sym (length-append c.scope (t ∷ []));
+  holds = λ x h. by_case x (has_last c.scope t x h);
+}
+  where
+    by_case : (x : ℕ) → Has x c.scope ⊎ (x ≡ t) → with t set x ≡ true
+    by_case x (inl g) = with_more t set x (sc.holds x g)
+    by_case x (inr e) = subst (λ y. with t set y ≡ true) (sym e) (with_self t set)
+
+in_loop : (c : Around) (Γ : List Ty) (set : Locals) (head : Label) → Scoped c Γ set → Scoped (looping c head) Γ set
+in_loop c Γ set head sc = record { count = sc.count; holds = sc.holds }
+
+-- ---- what a row puts at its end
+
+-- a value of t alone, or of t and u
+ends_with : (d t : ℕ) (set : Locals) → Within (with d set) (with d (with t set))
+ends_with d t set = with_within d set (with t set) (with_more t set)
+
+-- to a local x, from a temporary that is given up, and then the unit
+assigned : (d x t : ℕ) (set now : Locals) → set t ≡ false → Within set now → Within (with d set) (with d (with x (without t now)))
+assigned d x t set now n w = with_within d set (with x (without t now)) (λ y h. with_more x (without t now) y (kept t set now n w y h))
+
+two_more : (t u : ℕ) (set : Locals) → Within set (with u (with t set))
+two_more t u set y h = with_more u (with t set) y (with_more t set y h)
+
+-- the first of two temporaries
+first_of_two : (t u : ℕ) (set : Locals) → with u (with t set) t ≡ true
+first_of_two t u set = with_more u (with t set) t (with_self t set)
+
+laid_where_true : (op : LazyOp) (s : Span) (d : ℕ) (ys : List Line) (set : Locals) → (Apart set (d ∷ numbers (made ys)) → Laid set ys (with d set)) → Apart set (d ∷ numbers (made (where_true op s d ys))) → Laid set (where_true op s d ys) (with d set)
+laid_where_true lazy_op.And s d ys set p a = p a
+laid_where_true lazy_op.Or s d ys set p a = laid_puts _ _ _ _ tt (laid_stops _ _ (same_set (with d set)))
+
+laid_where_false : (op : LazyOp) (s : Span) (d : ℕ) (ys : List Line) (set : Locals) → (Apart set (d ∷ numbers (made ys)) → Laid set ys (with d set)) → Apart set (d ∷ numbers (made (where_false op s d ys))) → Laid set (where_false op s d ys) (with d set)
+laid_where_false lazy_op.And s d ys set p a = laid_puts _ _ _ _ tt (laid_stops _ _ (same_set (with d set)))
+laid_where_false lazy_op.Or s d ys set p a = p a
+
+laid_dies : (outer : Bool) (s : Span) (d t : ℕ) (set : Locals) → (with d set) t ≡ false → Laid (with d (with t set)) (dies_in outer s t) (with d set)
+laid_dies true s d t set n = laid_stops _ _ (ends_with d t set)
+laid_dies false s d t set n = laid_puts _ _ _ _ tt (laid_stops _ _ (kept t (with d set) (with d (with t set)) n (ends_with d t set)))
+
+-- a binding of the row is in no set around, and is not the row's own local
+bound_apart : (d t : ℕ) (set : Locals) (ys : List ℕ) → Apart set (d ∷ t ∷ ys) → (with d set) t ≡ false
+bound_apart d t set ys h = none (with d set) (t ∷ ys) (record { once = λ x. omega (arith, weight_with x d set, h.once x) }) t (count_self t ys)
+
+-- arguments
+only_made : (d : ℕ) (set : Locals) (us rest : List Line) → Apart set (d ∷ numbers (made (us ++ rest))) → Apart set (numbers (made us))
+only_made d set us rest h = record { once = λ x. omega (arith, makings-append x us rest, h.once x) }
+
+first_argument : (t : ℕ) (set : Locals) (us vs : List Line) → Apart set (t ∷ numbers (made (us ++ vs))) → Apart set (t ∷ numbers (made us))
+first_argument t set us vs h = record { once = λ x. omega (arith, makings-append x us vs, h.once x) }
+
+later_arguments : (t : ℕ) (set : Locals) (us vs : List Line) → Apart set (t ∷ numbers (made (us ++ vs))) → Apart (with t set) (numbers (made vs))
+later_arguments t set us vs h = record { once = λ x. omega (arith, makings-append x us vs, weight_with x t set, h.once x) }
+
+-- the own locals of a loop
+own_apart : (d t u : ℕ) (set : Locals) (us vs rest : List Line) (k : Terminator) (b : Title) (U : Ty) → Apart set (d ∷ t ∷ numbers (made (us ++ Turns k b ∷ Makes u U ∷ (vs ++ rest)))) → Apart set (t ∷ (numbers (made us) ++ u ∷ numbers (made vs)))
+own_apart d t u set us vs rest k b U h = record {
+  once = λ x. omega (arith, makings-append x us (Turns k b ∷ Makes u U ∷ (vs ++ rest)), makings-append x vs rest, count-append x (numbers (made us)) (u ∷ numbers (made vs)), h.once x);
+}
+
+-- less is surely initialised
+fewer : (set mid to : Locals) (xs : List Line) → Laid set xs mid → Within to mid → Laid set xs to
+fewer set mid to xs p w = record { starts = p.starts; are = p.are; runs = λ at g. subst (λ ys. Runs at set ys to) (append-nil xs) (runs-append at mid to [] (stops w) set xs (p.runs at g)) }
+
+module _ (σ : List Signature) where
+  mutual
+    pub laid : (c : Around) (e : TypedExpr) (d : ℕ) (xs : List Line) → Into c e d xs → (Γ : List Ty) (set : Locals) → Scoped c Γ set → IsWellTyped σ Γ e → Apart set (d ∷ numbers (made xs)) → Laid set xs (with d set)
+    laid c e d xs of_integer Γ set sc h a = laid_puts _ _ _ _ tt (laid_stops _ _ (same_set (with d set)))
+    laid c e d xs of_truth Γ set sc h a = laid_puts _ _ _ _ tt (laid_stops _ _ (same_set (with d set)))
+    laid c e d xs (of_variable {v = v} x q) Γ set sc h a = laid_puts _ _ _ _ (sc.holds x (has_get c.scope v x q)) (laid_stops _ _ (same_set (with d set)))
+    laid c e d xs (of_negative {t = t} {xs = us} p) Γ set sc h a =
+        laid_makes _ _ _ _ _ (laid-append set (with t set) (with d set) us _ (laid c _ t us p Γ set sc h.4 (first d t set us _ a))
+        (laid_puts _ _ _ _ (with_self t set) (laid_stops _ _ (ends_with d t set))))
+    laid c e d xs (of_denied {t = t} {xs = us} p) Γ set sc h a =
+        laid_makes _ _ _ _ _ (laid-append set (with t set) (with d set) us _ (laid c _ t us p Γ set sc h.2 (first d t set us _ a))
+        (laid_puts _ _ _ _ (with_self t set) (laid_stops _ _ (ends_with d t set))))
+    laid c e d xs (of_binary {t = t} {u = u} {xs = us} {ys = vs} p q) Γ set sc h a =
+        laid_makes _ _ _ _ _ (laid-append set (with t set) (with d set) us _ (laid c _ t us p Γ set sc h.2 (first d t set us _ a))
+        (laid_makes _ _ _ _ _ (laid-append (with t set) (with u (with t set)) (with d set) vs _ (laid c _ u vs q Γ (with t set) (more_scoped c Γ set t sc) h.3 (first d u (with t set) vs _ (second d t set us _ a)))
+        (laid_puts _ _ _ _ (first_of_two t u set, with_self u (with t set)) (laid_stops _ _ (with_within d set (with u (with t set)) (two_more t u set)))))))
+    laid c e d xs (of_lazy {s = s} {op = op} {t = t} yes' no' after {xs = us} {ys = vs} p q) Γ set sc h a =
+        let r = before t set _ (second d t set us _ a) in
+        laid_makes _ _ _ _ _ (laid-append set (with t set) (with d set) us _ (laid c _ t us p Γ set sc h.3 (first d t set us _ a))
+        (forked c s t yes' no' after set (with t set) (with d set) (where_true op s d vs) (where_false op s d vs) (with_self t set) (with_more t set)
+        (laid_where_true op s d vs set (laid c _ d vs q Γ set sc h.4) (left d set (where_true op s d vs) _ r))
+        (laid_where_false op s d vs set (laid c _ d vs q Γ set sc h.4) (left d set (where_false op s d vs) _ (right d set (where_true op s d vs) _ r)))))
+    laid c e d xs (of_assign {t = t} x {xs = us} r p) Γ set sc h a =
+        laid_makes _ _ _ _ _ (laid-append set (with t set) (with d set) us _ (laid c _ t us p Γ set sc h.2 (first d t set us _ a))
+        (laid_puts _ _ _ _ (with_self t set) (laid_puts _ _ _ _ tt (laid_stops _ _ (assigned d x t set (with t set) (fresh_second d t set _ a) (with_more t set))))))
+    laid c e d xs (of_assign_value {t = t} {u = u} {xs = us} {ys = vs} p q) Γ set sc h a =
+        laid_makes _ _ _ _ _ (laid-append set (with t set) (with d set) us _ (laid c _ t us p Γ set sc h.3 (first d t set us _ a))
+        (laid_makes _ _ _ _ _ (laid-append (with t set) (with u (with t set)) (with d set) vs _ (laid c _ u vs q Γ (with t set) (more_scoped c Γ set t sc) h.2 (first d u (with t set) vs _ (second d t set us _ a)))
+        (laid_puts _ _ _ _ (first_of_two t u set) (laid_puts _ _ _ _ tt (laid_stops _ _ (assigned d u t set (with u (with t set)) (fresh_second d t set _ a) (two_more t u set))))))))
+    laid c e d xs (of_update {v = v} {t = t} x u {xs = us} r p) Γ set sc h a =
+        let b : Apart set (d ∷ u ∷ []) = before t set _ (second d t set us _ a) in
+        laid_makes _ _ _ _ _ (laid-append set (with t set) (with d set) us _ (laid c _ t us p Γ set sc h.3 (first d t set us _ a))
+        (laid_makes _ _ _ _ _ (laid_puts _ _ _ _ (with_more t set x (sc.holds x (has_get c.scope v x r)), with_self t set)
+        (laid_puts _ _ _ _ (with_self u (with t set)) (laid_puts _ _ _ _ tt (laid_stops _ _ (assigned d x u set (with u (with t set)) (fresh_second d u set [] b) (two_more t u set))))))))
+    laid c e d xs (of_update_value {t = t} {p = w} u {xs = us} {ys = vs} p q) Γ set sc h a =
+        let b = second d t set us _ a in
+        let b' : Apart (with w (with t set)) (d ∷ u ∷ []) = second d w (with t set) vs _ b in
+        let n : set u ≡ false = fresh_second d u set [] (before t set _ (before w (with t set) _ b')) in
+        laid_makes _ _ _ _ _ (laid-append set (with t set) (with d set) us _ (laid c _ t us p Γ set sc h.4 (first d t set us _ a))
+        (laid_makes _ _ _ _ _ (laid-append (with t set) (with w (with t set)) (with d set) vs _ (laid c _ w vs q Γ (with t set) (more_scoped c Γ set t sc) h.3 (first d w (with t set) vs _ b))
+        (laid_makes _ _ _ _ _ (laid_puts _ _ _ _ (with_self w (with t set), first_of_two t w set)
+        (laid_puts _ _ _ _ (with_self u (with w (with t set))) (laid_puts _ _ _ _ tt (laid_stops _ _
+        (assigned d w u set (with u (with w (with t set))) n (λ y g. with_more u (with w (with t set)) y (two_more t w set y g)))))))))))
+    laid c e d xs (of_call {s = s} {f = f} {ts = ts} after {xs = us} p) Γ set sc h a =
+        laid-append set (with_all ts set) (with d set) us _ (laid_args c _ ts us p Γ set sc h.0.params h.3 (only_made d set us _ a))
+        (called c s f d ts after set (with_all ts set) (with_all_has ts set) (with_all_more ts set))
+    laid c e d xs (of_block r) Γ set sc h a = laid_rest c _ _ _ d xs r Γ set _ sc h a
+    laid c e d xs (of_branch {s = s} {t = t} yes' no' after {xs = us} {ys = vs} p q) Γ set sc h a =
+        let r = before t set _ (second d t set us _ a) in
+        laid_makes _ _ _ _ _ (laid-append set (with t set) (with d set) us _ (laid c _ t us p Γ set sc h.3 (first d t set us _ a))
+        (forked c s t yes' no' after set (with t set) (with d set) vs _ (with_self t set) (with_more t set) (laid c _ d vs q Γ set sc h.4 (left d set vs _ r))
+        (laid_puts _ _ _ _ tt (laid_stops _ _ (same_set (with d set))))))
+    laid c e d xs (of_choice {s = s} {t = t} yes' no' after {xs = us} {ys = vs} {zs = ws} p q r) Γ set sc h a =
+        let b = before t set _ (second d t set us _ a) in
+        laid_makes _ _ _ _ _ (laid-append set (with t set) (with d set) us _ (laid c _ t us p Γ set sc h.3 (first d t set us _ a))
+        (forked c s t yes' no' after set (with t set) (with d set) vs ws (with_self t set) (with_more t set) (laid c _ d vs q Γ set sc h.4 (left d set vs _ b))
+        (laid c _ d ws r Γ set sc h.5 (left d set ws _ (right d set vs _ b)))))
+    laid c e d xs (of_repeat {s = s} {is = is} {t = t} {u = u} head body after {xs = us} {ys = vs} p q) Γ set sc h a =
+        let k = looping c head in
+        let b = before t set _ (second d t set us _ a) in
+        looped c k s d t u _ _ head body after (head_of c is) _ set us vs (head_fits set c (length Γ) is sc.count sc.holds h.1) (none set _ (own_apart d t u set us vs _ _ _ _ a))
+        (laid k _ t us p Γ set (in_loop c Γ set head sc) h.4 (first d t set us _ a))
+        (laid k _ u vs q Γ set (in_loop c Γ set head sc) h.5 (first d u set vs _ b))
+
+    pub laid_rest : (c : Around) (outer : Bool) (s : Span) (ss : TypedStmts) (d : ℕ) (xs : List Line) → Rest c outer s ss d xs → (Γ : List Ty) (set : Locals) (T : Ty) → Scoped c Γ set → StatementsFit σ Γ T ss → Apart set (d ∷ numbers (made xs)) → Laid set xs (with d set)
+    laid_rest c outer s ss d xs of_done Γ set T sc h a = laid_puts _ _ _ _ tt (laid_stops _ _ (same_set (with d set)))
+    laid_rest c outer s ss d xs (of_last p) Γ set T sc h a = laid c _ d xs p Γ set sc h.1 a
+    laid_rest c outer s ss d xs (of_bind {t = t} {xs = us} {ys = vs} p q) Γ set T sc h a =
+        laid_makes _ _ _ _ _ (laid-append set (with t set) (with d set) us _ (laid c _ t us p Γ set sc h.0 (first d t set us _ a))
+        (laid-append (with t set) (with d (with t set)) (with d set) vs _ (laid_rest (binds c t) outer s _ d vs q _ (with t set) T (bound_scoped c Γ _ set t sc) h.1 (left d (with t set) vs _ (second d t set us _ a)))
+        (laid_dies outer s d t set (bound_apart d t set _ a))))
+    laid_rest c outer s ss d xs (of_run {t = t} {xs = us} {ys = vs} p q) Γ set T sc h a =
+        laid_makes _ _ _ _ _ (laid-append set (with t set) (with d set) us _ (laid c _ t us p Γ set sc h.0 (first d t set us _ a))
+        (fewer (with t set) (with d (with t set)) (with d set) vs (laid_rest c outer s _ d vs q Γ (with t set) T (more_scoped c Γ set t sc) h.1 (second d t set us vs a)) (ends_with d t set)))
+
+    laid_args : (c : Around) (es : TypedExprs) (ts : List ℕ) (xs : List Line) → Args c es ts xs → (Γ : List Ty) (set : Locals) → Scoped c Γ set → (Ts : List Ty) → ArgumentsFit σ Γ es Ts → Apart set (numbers (made xs)) → Laid set xs (with_all ts set)
+    laid_args c es ts xs of_none Γ set sc Ts h a = laid_stops _ _ (same_set set)
+    laid_args c es ts xs (of_more p q) Γ set sc [] h a = absurd h
+    laid_args c es ts xs (of_more {t = t} {ts = us'} {xs = us} {ys = vs} p q) Γ set sc (T ∷ Ts) h a =
+        laid_makes _ _ _ _ _ (laid-append set (with t set) (with_all us' (with t set)) us vs (laid c _ t us p Γ set sc h.1 (first_argument t set us vs a))
+        (laid_args c _ us' vs q Γ (with t set) (more_scoped c Γ set t sc) Ts h.2 (later_arguments t set us vs a)))

@@ -1,0 +1,190 @@
+-- Texts whose statements and ends are typed.
+use Rattle.std.proofs.Common.{◌≡◌, refl, ap, sym, ◌∙◌, subst, ℕ, zero, suc, ◌+◌, ◌<◌, ◌≤◌, ◌==◌, Bool, true, false, List, [], ◌∷◌, ◌++◌, map, take, drop, length, Option, Some, None, slice_get, arith, if◌then◌else◌, true≢false}
+use Rattle.std.specs.Option.{is_some}
+use Rattle.logic_term.specs.declared.kinds.BinaryOp.{BinaryOp}
+use Rattle.logic_term.specs.declared.kinds.BinaryOp.TheVariants.{Add, Sub, Mul, Div, Rem, Eq, Ne, Lt, Le, Gt, Ge}
+use Rattle.logic_term.specs.declared.kinds.IntKind.{IntKind}
+use Rattle.logic_term.specs.declared.kinds.IntKind.TheVariants.{I8, I16, I32, I64, Isize}
+use Rattle.logic_term.specs.declared.kinds.Ctor.TheVariants.{Tuple}
+use Rattle.logic_term.specs.Ty.{Ty, int, bool, tuple, no_tys}
+use Rattle.mir_ir.specs.declared.body.Body.{Body}
+use Rattle.mir_ir.specs.declared.terminator.TerminatorKind.{TerminatorKind}
+use Rattle.mir_ir.specs.declared.terminator.TerminatorKind.TheVariants.{Goto, If, Call, Return}
+use Rattle.mir_ir.specs.WellFormed.{IsSigned, OperandHas, OperationHas, StatementIsTyped, CallIsTyped, Locals}
+use Rattle.mir_ir.specs.WellFormed as mir
+use Rattle.type_check.specs.declared.program.Signature.{Signature}
+use Rattle.type_check.specs.TypedExpr.{TypedExpr, TypedStmts, TypedExprs, integer, truth, variable, negative, denied, binary, lazy, assign, assign_value, update, update_value, call, block, branch, choice, repeat, done, last, bind, run, none, more}
+use Rattle.type_check.specs.TypedExprView.{ty_of}
+use Rattle.type_check.specs.WellTyped.{IsBuilt, AllBuilt, IsWellTyped, StatementsFit, operation_ty, is_signed, unit}
+use Rattle.mir_build.specs.Text.{Title, Line, Puts, Makes, Turns, Owns, begun, made}
+use Rattle.mir_build.proofs.LawLists.{Has, here, there, has_left, has_right, made-append}
+use Rattle.mir_build.proofs.LawNames.{HoldsAll, HeadFits}
+
+-- ---- operators
+
+operation_on_ints : (op : BinaryOp) (k : IntKind) (t : Ty) → operation_ty op (int k) ≡ Some t → t ≡ mir.operation_ty op k
+operation_on_ints Add k t e = cc
+operation_on_ints Sub k t e = cc
+operation_on_ints Mul k t e = cc
+operation_on_ints Div k t e = cc
+operation_on_ints Rem k t e = cc
+operation_on_ints Eq k t e = cc
+operation_on_ints Ne k t e = cc
+operation_on_ints Lt k t e = cc
+operation_on_ints Le k t e = cc
+operation_on_ints Gt k t e = cc
+operation_on_ints Ge k t e = cc
+
+some_same : {A : Type 0} {a b : A} → Some a ≡ Some b → a ≡ b
+some_same e = cc
+
+operation_on_bools : (op : BinaryOp) (t : Ty) → operation_ty op bool ≡ Some t → mir.IsEquality op × (t ≡ bool)
+operation_on_bools Eq t e = (tt, sym (some_same e))
+operation_on_bools Ne t e = (tt, sym (some_same e))
+operation_on_bools Add t e = absurd (cc)
+operation_on_bools Sub t e = absurd (cc)
+operation_on_bools Mul t e = absurd (cc)
+operation_on_bools Div t e = absurd (cc)
+operation_on_bools Rem t e = absurd (cc)
+operation_on_bools Lt t e = absurd (cc)
+operation_on_bools Le t e = absurd (cc)
+operation_on_bools Gt t e = absurd (cc)
+operation_on_bools Ge t e = absurd (cc)
+
+pub operation_has : (op : BinaryOp) (s t : Ty) → operation_ty op s ≡ Some t → OperationHas op s t
+operation_has op (int k) t e = operation_on_ints op k t e
+operation_has op bool t e = operation_on_bools op t e
+operation_has op _ t e = absurd (cc)
+
+pub signed : (k : IntKind) → is_signed k ≡ true → IsSigned k
+signed I8 e = tt
+signed I16 e = tt
+signed I32 e = tt
+signed I64 e = tt
+signed Isize e = tt
+signed _ e = absurd (true≢false (sym e))
+
+-- the type of an operation is built
+pub operation_built : (op : BinaryOp) (s t : Ty) → operation_ty op s ≡ Some t → IsBuilt t
+operation_built op (int k) t e = by_test _ (some_same e)
+  where
+    by_test : (c : Bool) → (if c then int k else bool) ≡ t → IsBuilt t
+    by_test true q = subst IsBuilt q tt
+    by_test false q = subst IsBuilt q tt
+operation_built op bool t e = subst IsBuilt (sym (operation_on_bools op t e).1) tt
+operation_built op _ t e = absurd (cc)
+
+-- ---- built types
+
+pub built_more : (ts : List Ty) (t : Ty) → AllBuilt ts → IsBuilt t → AllBuilt (ts ++ t ∷ [])
+built_more [] t h g = (g, tt)
+built_more (u ∷ ts) t h g = (h.0, built_more ts t h.1 g)
+
+pub built_at : (ts : List Ty) (i : ℕ) (t : Ty) → AllBuilt ts → slice_get ts i ≡ Some t → IsBuilt t
+built_at [] i t h e = absurd (cc)
+built_at (u ∷ ts) zero t h e = subst IsBuilt (some_same e) h.0
+built_at (u ∷ ts) (suc i) t h e = built_at ts i t h.1 e
+
+module _ (σ : List Signature) (answers : (n : ℕ) (g : Signature) → slice_get σ n ≡ Some g → IsBuilt g.answer) where
+  mutual
+    pub built : (e : TypedExpr) (Γ : List Ty) → AllBuilt Γ → IsWellTyped σ Γ e → IsBuilt (ty_of e)
+    built (integer t s z k) Γ b h = subst IsBuilt (sym h.0) tt
+    built (truth t s z) Γ b h = subst IsBuilt (sym h) tt
+    built (variable t s x) Γ b h = built_at Γ x t b h
+    built (negative t s e) Γ b h = subst IsBuilt (sym h.2) tt
+    built (denied t s e) Γ b h = subst IsBuilt (sym h.0) tt
+    built (binary t s op x y) Γ b h = operation_built op (ty_of x) t h.0
+    built (lazy t s op x y) Γ b h = subst IsBuilt (sym h.0) tt
+    built (assign t s x e) Γ b h = subst IsBuilt (sym h.0) tt
+    built (assign_value t s a e) Γ b h = subst IsBuilt (sym h.0) tt
+    built (update t s op x e) Γ b h = subst IsBuilt (sym h.0) tt
+    built (update_value t s op a e) Γ b h = subst IsBuilt (sym h.0) tt
+    built (call t s f es) Γ b h = subst IsBuilt (sym h.2) (answers f h.0 h.1)
+    built (block t s ss) Γ b h = built_rest ss Γ b t h
+    built (branch t s x a) Γ b h = subst IsBuilt (sym h.0) tt
+    built (choice t s x a c) Γ b h = subst IsBuilt h.1 (built a Γ b h.4)
+    built (repeat t s is x a) Γ b h = subst IsBuilt (sym h.0) tt
+
+    built_rest : (ss : TypedStmts) (Γ : List Ty) → AllBuilt Γ → (t : Ty) → StatementsFit σ Γ t ss → IsBuilt t
+    built_rest done Γ b t h = subst IsBuilt (sym h) tt
+    built_rest (last e) Γ b t h = subst IsBuilt h.0 (built e Γ b h.1)
+    built_rest (bind e ss) Γ b t h = built_rest ss (Γ ++ ty_of e ∷ []) (built_more Γ (ty_of e) b (built e Γ b h.0)) t h.1
+    built_rest (run e ss) Γ b t h = built_rest ss Γ b t h.1
+
+-- ---- what is typed
+
+-- what a block's end owes besides that its labels have blocks
+abbrev pub EndFits : List Body → Body → TerminatorKind → Type 0
+EndFits bodies b (Goto l) = Unit {0}
+EndFits bodies b (If o l m) = OperandHas b o bool
+EndFits bodies b (Call p f os l) = CallIsTyped bodies b p f os
+EndFits bodies b Return = Unit {0}
+
+-- the locals of the body
+abbrev pub is_local : Body → Locals
+is_local b x = is_some (slice_get b.locals x)
+
+-- the statements and ends of the text are typed, and what it makes is of a built type
+abbrev pub AreTyped : List Body → Body → List Line → Type 0
+AreTyped bodies b [] = Unit {0}
+AreTyped bodies b (Puts s ∷ xs) = StatementIsTyped b s.kind × AreTyped bodies b xs
+AreTyped bodies b (Makes x t ∷ xs) = IsBuilt t × AreTyped bodies b xs
+AreTyped bodies b (Turns t k ∷ xs) = EndFits bodies b t.kind × HeadFits (is_local b) k.head × AreTyped bodies b xs
+AreTyped bodies b (Owns l ys ∷ xs) = AreTyped bodies b xs
+
+pub typed-append : (bodies : List Body) (b : Body) (xs ys : List Line) → AreTyped bodies b xs → AreTyped bodies b ys → AreTyped bodies b (xs ++ ys)
+typed-append bodies b [] ys p q = q
+typed-append bodies b (Puts s ∷ xs) ys p q = (p.0, typed-append bodies b xs ys p.1 q)
+typed-append bodies b (Makes x t ∷ xs) ys p q = (p.0, typed-append bodies b xs ys p.1 q)
+typed-append bodies b (Turns t k ∷ xs) ys p q = (p.0, p.1, typed-append bodies b xs ys p.2 q)
+typed-append bodies b (Owns l zs ∷ xs) ys p q = typed-append bodies b xs ys p q
+
+-- locals with their types
+pub record MadeFits (b : Body) (ms : List (ℕ × Ty)) : Type 0 where
+  pub fits : (x : ℕ) (t : Ty) → Has (x, t) ms → slice_get b.locals x ≡ Some t
+
+pub made_first : (b : Body) (x : ℕ) (t : Ty) (ms : List (ℕ × Ty)) → MadeFits b ((x, t) ∷ ms) → slice_get b.locals x ≡ Some t
+made_first b x t ms m = m.fits x t here
+
+pub made_rest : (b : Body) (x : ℕ) (t : Ty) (ms : List (ℕ × Ty)) → MadeFits b ((x, t) ∷ ms) → MadeFits b ms
+made_rest b x t ms m = record { fits = λ y u h. m.fits y u (there h) }
+
+pub made_left : (b : Body) (xs ys : List Line) → MadeFits b (made (xs ++ ys)) → MadeFits b (made xs)
+made_left b xs ys m = record { fits = λ y u h. m.fits y u (subst (λ ms. Has (y, u) ms) (sym (made-append xs ys)) (has_left (made xs) (made ys) h)) }
+
+pub made_right : (b : Body) (xs ys : List Line) → MadeFits b (made (xs ++ ys)) → MadeFits b (made ys)
+made_right b xs ys m = record { fits = λ y u h. m.fits y u (subst (λ ms. Has (y, u) ms) (sym (made-append xs ys)) (has_right (made xs) (made ys) h)) }
+
+-- ---- scopes
+
+-- the locals have the types of the variables, one for each
+abbrev pub ScopeFits : Body → List ℕ → List Ty → Type 0
+ScopeFits b [] [] = Unit {0}
+ScopeFits b (x ∷ xs) (t ∷ ts) = (slice_get b.locals x ≡ Some t) × ScopeFits b xs ts
+ScopeFits b _ _ = ⊥
+
+pub scope_at : (b : Body) (xs : List ℕ) (ts : List Ty) (v x : ℕ) (t : Ty) → ScopeFits b xs ts → slice_get xs v ≡ Some x → slice_get ts v ≡ Some t → slice_get b.locals x ≡ Some t
+scope_at b [] [] v x t h e f = absurd (cc)
+scope_at b [] (u ∷ ts) v x t h e f = absurd h
+scope_at b (y ∷ xs) [] v x t h e f = absurd h
+scope_at b (y ∷ xs) (u ∷ ts) zero x t h e f = ap (slice_get b.locals) (sym (some_same e)) ∙ h.0 ∙ f
+scope_at b (y ∷ xs) (u ∷ ts) (suc v) x t h e f = scope_at b xs ts v x t h.1 e f
+
+pub scope_more : (b : Body) (xs : List ℕ) (ts : List Ty) (x : ℕ) (t : Ty) → ScopeFits b xs ts → slice_get b.locals x ≡ Some t → ScopeFits b (xs ++ x ∷ []) (ts ++ t ∷ [])
+scope_more b [] [] x t h e = (e, tt)
+scope_more b [] (u ∷ ts) x t h e = absurd h
+scope_more b (y ∷ xs) [] x t h e = absurd h
+scope_more b (y ∷ xs) (u ∷ ts) x t h e = (h.0, scope_more b xs ts x t h.1 e)
+
+pub scope_length : (b : Body) (xs : List ℕ) (ts : List Ty) → ScopeFits b xs ts → length ts ≡ length xs
+scope_length b [] [] h = refl
+scope_length b [] (u ∷ ts) h = absurd h
+scope_length b (y ∷ xs) [] h = absurd h
+scope_length b (y ∷ xs) (u ∷ ts) h = ap suc (scope_length b xs ts h.1)
+
+pub scope_holds : (b : Body) (xs : List ℕ) (ts : List Ty) → ScopeFits b xs ts → HoldsAll (is_local b) xs
+scope_holds b [] [] h x g = elim g [ ]
+scope_holds b [] (u ∷ ts) h x g = absurd h
+scope_holds b (y ∷ xs) [] h x g = absurd h
+scope_holds b (y ∷ xs) (u ∷ ts) h x here = ap is_some h.0
+scope_holds b (y ∷ xs) (u ∷ ts) h x (there g) = scope_holds b xs ts h.1 x g

@@ -1,0 +1,154 @@
+-- The laws of programs that lower and fit.
+use Rattle.std.proofs.Common.{◌≡◌, refl, ap, sym, ◌∙◌, subst, ℕ, zero, suc, ◌+◌, List, [], ◌∷◌, map, take, drop, length, Option, Some, None, slice_get, arith}
+use Rattle.std.specs.Option.{option_map}
+use Rattle.std.proofs.lemmas.Option.{slice_get-map}
+use Rattle.logic_term.specs.declared.obligation.Contract.{Contract}
+use Rattle.logic_term.specs.Ty.{Ty}
+use Rattle.mir_ir.specs.declared.body.Body.{Body}
+use Rattle.mir_ir.specs.declared.body.Initialised.{Initialised}
+use Rattle.mir_ir.specs.WellFormed.{AreSound, IsTyped, IsInitialised}
+use Rattle.type_check.specs.declared.program.Signature.{Signature}
+use Rattle.type_check.specs.declared.program.TypedFunction.{TypedFunction}
+use Rattle.type_check.specs.WellTyped.{IsBuilt, FunctionFits, EachFits, signatures}
+use Rattle.mir_build.specs.Laws.{Lowers, HeadsSpeak, ContractSpeaks, BodiesAreSound, BodiesAreLaidOut, LocalsHaveNames, LocalsHaveBuiltTypes, HeadsSpeakOfWhatIsThere, ContractsSpeakOfParameters}
+use Rattle.mir_build.specs.Lowering.{counted, contract_of, LowersTo, LowerTo, no_functions, and_function}
+use Rattle.mir_build.proofs.LawTyped.{ScopeFits}
+use Rattle.mir_build.proofs.LawTypes.{Callee}
+use Rattle.mir_build.proofs.LawFunction.{answer_fits, scope_fits, body_typed, body_laid_out}
+use Rattle.mir_build.proofs.LawLocals.{locals_are_named, types_built}
+use Rattle.mir_build.proofs.LawContracts.{contract_speaks}
+use Rattle.mir_build.proofs.LawHeads.{labelled, heads_speak}
+
+some_same : {A : Type 0} {a b : A} → Some a ≡ Some b → a ≡ b
+some_same e = cc
+
+-- the function of a place, and its body
+pub record FunctionAt (fs : List TypedFunction) (bs : List Body) (cs : List Contract) (gones : List Initialised) (n : ℕ) (f : TypedFunction) (b : Body) : Type 0 where
+  pub owner : List ℕ
+  pub gone : Initialised
+  pub is_function : slice_get fs n ≡ Some f
+  pub is_body : slice_get bs n ≡ Some b
+  pub is_contract : slice_get cs n ≡ Some (contract_of f)
+  pub is_gone : slice_get gones n ≡ Some gone
+  pub lowers : LowersTo owner f b gone
+
+further : (f : TypedFunction) (fs : List TypedFunction) (b : Body) (bs : List Body) (c : Contract) (cs : List Contract) (g : Initialised) (gs : List Initialised) (n : ℕ) (h : TypedFunction) (k : Body) → FunctionAt fs bs cs gs n h k → FunctionAt (f ∷ fs) (b ∷ bs) (c ∷ cs) (g ∷ gs) (suc n) h k
+further f fs b bs c cs g gs n h k w = record { owner = w.owner; gone = w.gone; is_function = w.is_function; is_body = w.is_body; is_contract = w.is_contract; is_gone = w.is_gone; lowers = w.lowers }
+
+pub of_body : (table : List (List ℕ)) (fs : List TypedFunction) (bs : List Body) (cs : List Contract) (gones : List Initialised) → LowerTo table fs bs cs gones → (n : ℕ) (b : Body) → slice_get bs n ≡ Some b → (f : TypedFunction) × FunctionAt fs bs cs gones n f b
+of_body table fs bs cs gones no_functions n b e = absurd (cc)
+of_body table fs bs cs gones (and_function {f = f} {b = k} {gone = gone} owner t l r) zero b e =
+    (f, record { owner = owner; gone = gone; is_function = refl; is_body = e; is_contract = refl; is_gone = refl; lowers = subst (λ m. LowersTo owner f m gone) (some_same e) l })
+of_body table fs bs cs gones (and_function {f = f} {fs = fs'} {b = k} {bs = bs'} {cs = cs'} {gone = gone} {gones = gs'} owner t l r) (suc n) b e =
+    let w = of_body table fs' bs' cs' gs' r n b e in
+    (w.0, further f fs' k bs' (contract_of f) cs' gone gs' n w.0 b w.1)
+
+pub of_function : (table : List (List ℕ)) (fs : List TypedFunction) (bs : List Body) (cs : List Contract) (gones : List Initialised) → LowerTo table fs bs cs gones → (n : ℕ) (f : TypedFunction) → slice_get fs n ≡ Some f → (b : Body) × FunctionAt fs bs cs gones n f b
+of_function table fs bs cs gones no_functions n f e = absurd (cc)
+of_function table fs bs cs gones (and_function {f = g} {b = k} {gone = gone} owner t l r) zero f e =
+    (k, record { owner = owner; gone = gone; is_function = e; is_body = refl; is_contract = ap Some (ap contract_of (some_same e)); is_gone = refl; lowers = subst (λ m. LowersTo owner m k gone) (some_same e) l })
+of_function table fs bs cs gones (and_function {f = g} {fs = fs'} {b = k} {bs = bs'} {cs = cs'} {gone = gone} {gones = gs'} owner t l r) (suc n) f e =
+    let w = of_function table fs' bs' cs' gs' r n f e in
+    (w.0, further g fs' k bs' (contract_of g) cs' gone gs' n f w.0 w.1)
+
+pub fits_at : (σ : List Signature) (fs : List TypedFunction) → EachFits σ fs → (n : ℕ) (f : TypedFunction) → slice_get fs n ≡ Some f → FunctionFits σ f
+fits_at σ [] h n f e = absurd (cc)
+fits_at σ (g ∷ fs) h zero f e = subst (FunctionFits σ) (some_same e) h.0
+fits_at σ (g ∷ fs) h (suc n) f e = fits_at σ fs h.1 n f e
+
+signature_at : (fs : List TypedFunction) (n : ℕ) (g : Signature) → slice_get (signatures fs) n ≡ Some g → (f : TypedFunction) × (slice_get fs n ≡ Some f) × (f.signature ≡ g)
+signature_at [] n g e = absurd (cc)
+signature_at (f ∷ fs) zero g e = (f, refl, some_same e)
+signature_at (f ∷ fs) (suc n) g e = signature_at fs n g e
+
+-- ---- callees
+
+shift : (n i : ℕ) → (n + 1) + i ≡ n + suc i
+shift n i = omega arith
+
+no_shift : (n : ℕ) → n + 0 ≡ n
+no_shift n = omega arith
+
+-- where these types are the locals from number n on, they begin with those of the scope
+starts_with : (b : Body) (ts rest : List Ty) (n : ℕ) → ((i : ℕ) → slice_get b.locals (n + i) ≡ slice_get rest i) → ScopeFits b (counted n ts) ts → take (length ts) rest ≡ ts
+starts_with b [] rest n h s = refl
+starts_with b (t ∷ ts) [] n h s = let e : Some t ≡ None = sym s.0 ∙ ap (slice_get b.locals) (sym (no_shift n)) ∙ h 0 in absurd (cc)
+starts_with b (t ∷ ts) (r ∷ rs) n h s =
+    let e : r ≡ t = some_same (sym (h 0) ∙ ap (slice_get b.locals) (no_shift n) ∙ s.0) in
+    ap (λ x. x ∷ take (length ts) rs) e ∙ ap (λ xs. t ∷ xs) (starts_with b ts rs (n + 1) (λ i. ap (slice_get b.locals) (shift n i) ∙ h (suc i)) s.1)
+
+drop_one : (xs : List Ty) (i k : ℕ) → k ≡ suc i → slice_get xs k ≡ slice_get (drop 1 xs) i
+drop_one [] i k e = refl
+drop_one (x ∷ xs) i k e = ap (slice_get (x ∷ xs)) e
+
+one_on : (i : ℕ) → 1 + i ≡ suc i
+one_on i = omega arith
+
+module _ (table : List (List ℕ)) (fs : List TypedFunction) (bs : List Body) (cs : List Contract) (gones : List Initialised) (l : Lowers table fs bs cs gones) where
+  callee : (n : ℕ) (g : Signature) → slice_get (signatures fs) n ≡ Some g → Callee bs n g
+  callee n g e =
+      let w = signature_at fs n g e in
+      let v = of_function table fs bs cs gones l.lowers n w.0 w.1 in
+      let u = v.1.lowers in
+      record {
+        body = v.0;
+        is_body = v.1.is_body;
+        params = ap (λ p. take p (drop 1 v.0.locals)) u.params
+            ∙ starts_with v.0 w.0.signature.params (drop 1 v.0.locals) 1 (λ i. drop_one v.0.locals i (1 + i) (one_on i)) (scope_fits v.1.owner w.0 v.0 v.1.gone u)
+            ∙ ap (λ (s : Signature). s.params) w.2;
+        answer = answer_fits v.1.owner w.0 v.0 v.1.gone u ∙ ap (λ (s : Signature). Some s.answer) w.2;
+      }
+
+  answer_built : (n : ℕ) (g : Signature) → slice_get (signatures fs) n ≡ Some g → IsBuilt g.answer
+  answer_built n g e =
+      let w = signature_at fs n g e in
+      subst (λ (s : Signature). IsBuilt s.answer) w.2 (fits_at (signatures fs) fs l.fits n w.0 w.1).answer
+
+  module _ (n : ℕ) (b : Body) (is_body : slice_get bs n ≡ Some b) where
+    found : (f : TypedFunction) × FunctionAt fs bs cs gones n f b
+    found = of_body table fs bs cs gones l.lowers n b is_body
+
+    fit : FunctionFits (signatures fs) found.0
+    fit = fits_at (signatures fs) fs l.fits n found.0 found.1.is_function
+
+    typed : IsTyped bs b
+    typed = body_typed found.1.owner found.0 b found.1.gone found.1.lowers (signatures fs) bs fit callee answer_built
+
+    initialised : (i : IsInitialised b) × HeadsSpeak b found.1.gone i
+    initialised = (
+      (labelled found.1.owner found.0 b found.1.gone found.1.lowers (signatures fs) bs fit callee answer_built).initialised,
+      heads_speak found.1.owner found.0 b found.1.gone found.1.lowers (signatures fs) bs fit callee answer_built,
+    )
+
+-- ---- the laws
+
+pub bodies_are_sound : BodiesAreSound
+bodies_are_sound table fs bs cs gones l n b e = (typed table fs bs cs gones l n b e, (initialised table fs bs cs gones l n b e).0)
+
+pub bodies_are_laid_out : BodiesAreLaidOut
+bodies_are_laid_out table fs bs cs gones l n b e =
+    let w = found table fs bs cs gones l n b e in
+    body_laid_out w.1.owner w.0 b w.1.gone w.1.lowers
+
+pub locals_have_names : LocalsHaveNames
+locals_have_names table fs bs cs gones l n b e =
+    let w = found table fs bs cs gones l n b e in
+    locals_are_named w.1.owner w.0 b w.1.gone w.1.lowers
+
+pub locals_have_built_types : LocalsHaveBuiltTypes
+locals_have_built_types table fs bs cs gones l n b e x t h =
+    let w = found table fs bs cs gones l n b e in
+    types_built w.1.owner w.0 b w.1.gone w.1.lowers (signatures fs) bs (fit table fs bs cs gones l n b e) (callee table fs bs cs gones l) (answer_built table fs bs cs gones l) x t h
+
+pub heads_speak_of_what_is_there : HeadsSpeakOfWhatIsThere
+heads_speak_of_what_is_there table fs bs cs gones l = (
+  λ n b e. (typed table fs bs cs gones l n b e, (initialised table fs bs cs gones l n b e).0),
+  λ n b gone e g.
+      let w = found table fs bs cs gones l n b e in
+      subst (λ (gg : Initialised). HeadsSpeak b gg (initialised table fs bs cs gones l n b e).0) (some_same (sym w.1.is_gone ∙ g)) (initialised table fs bs cs gones l n b e).1,
+)
+
+pub contracts_speak_of_parameters : ContractsSpeakOfParameters
+contracts_speak_of_parameters table fs bs cs gones l n b e =
+    let w = found table fs bs cs gones l n b e in
+    (contract_of w.0, w.1.gone, w.1.is_contract, w.1.is_gone, contract_speaks w.1.owner w.0 b w.1.gone w.1.lowers (signatures fs) (fit table fs bs cs gones l n b e))

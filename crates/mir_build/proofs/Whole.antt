@@ -1,0 +1,192 @@
+-- What the builder has written is a lowered body.
+use Rattle.std.proofs.Common.{◌≡◌, refl, ap, sym, ◌∙◌, ℕ, zero, suc, ◌+◌, ◌^◌, ◌<◌, ◌≤◌, List, [], ◌∷◌, ◌++◌, map, get_or, length, length-append, Option, Some, None, append_assoc, append-nil, arith}
+use Rattle.std.specs.List.{slice_get}
+use Rattle.std.proofs.lemmas.Option.{slice_get_read}
+use Rattle.text_core.specs.Names.{text_of}
+use Rattle.logic_term.specs.declared.kinds.Label.{Label}
+use Rattle.logic_term.specs.declared.obligation.Contract.{Contract}
+use Rattle.logic_term.specs.Ty.{Ty}
+use Rattle.rs_syntax.specs.declared.fault.PassError.{PassError}
+use Rattle.rs_syntax.specs.declared.fault.PassError.TheVariants as errors
+use Rattle.mir_ir.specs.declared.body.Block.{Block}
+use Rattle.mir_ir.specs.declared.body.Body.{Body}
+use Rattle.mir_ir.specs.declared.body.Initialised.{Initialised}
+use Rattle.mir_ir.specs.declared.body.Point.{Point}
+use Rattle.mir_ir.specs.declared.place.Place.{Place}
+use Rattle.mir_ir.specs.declared.terminator.TerminatorKind.TheVariants.{Return}
+use Rattle.type_check.specs.declared.program.Signature.{Signature}
+use Rattle.type_check.specs.declared.program.TypedFunction.{TypedFunction}
+use Rattle.type_check.specs.TypedExprView.{span_of}
+use Rattle.type_check.specs.declared.program.TypedProgram.{TypedProgram}
+use Rattle.type_check.specs.WellTyped.{FunctionFits, EachFits, ProgramFits, signatures}
+use Rattle.mir_build.specs.declared.builder.BodyText.{BodyText}
+use Rattle.mir_build.specs.declared.builder.OpenBlock.{OpenBlock}
+use Rattle.mir_build.specs.Text.{Line, Puts, Makes, Turns, Owns, Open, fresh, longer, close, closed, left_open, made, owned}
+use Rattle.mir_build.specs.Lowering.{numbers, count, counted, entry_title, paired, all_locals, gone_at, around_body, LowersTo, LowerTo, no_functions, and_function, contract_of, HasMoreBlocks, ends, blocks_in}
+use Rattle.mir_build.specs.Numbered.{labels, label}
+use Rattle.mir_build.specs.Built.{written, ended}
+use Rattle.mir_build.specs.Whole.{text_of_body, built, body_of, FailsFor}
+use Rattle.mir_build.proofs.Numbers.{within, within_zero, within_split, within_one, within_once, count_begun, turns}
+use Rattle.mir_build.proofs.Order.{InOrder}
+use Rattle.mir_build.proofs.Rows.{lowers_body}
+use Rattle.mir_build.proofs.BodyTexts.{body_once, body_turned, body_in_order}
+
+-- ---- the parts of what is written
+
+abbrev as_open : Open → OpenBlock
+as_open o = record { label = o.title.label; nest = o.title.nest; head = o.title.head; statements = o.statements }
+
+-- a text whose open block is this one
+abbrev text_at : List (Label × Block) → Open → List Ty → List (Point × List Place) → BodyText
+text_at bs o ts gs = record { blocks = bs; open_block = as_open o; locals = ts; gone = gs }
+
+abbrev types : List Line → List Ty
+types xs = map (λ (x : ℕ × Ty). x.1) (made xs)
+
+written_parts : (xs : List Line) (bs : List (Label × Block)) (o : Open) (ts : List Ty) (gs : List (Point × List Place))
+    → written xs (text_at bs o ts gs) ≡ text_at (bs ++ closed o xs) (left_open o xs) (ts ++ types xs) (gs ++ map gone_at (owned xs))
+written_parts [] bs o ts gs = λ i. text_at (sym (append-nil bs) i) o (sym (append-nil ts) i) (sym (append-nil gs) i)
+written_parts (Puts s ∷ xs) bs o ts gs = written_parts xs bs (longer o s) ts gs
+written_parts (Makes n t ∷ xs) bs o ts gs = written_parts xs bs o (ts ++ t ∷ []) gs ∙ ap (λ us. text_at (bs ++ closed o xs) (left_open o xs) us (gs ++ map gone_at (owned xs))) (append_assoc ts (t ∷ []) (types xs))
+written_parts (Turns e b ∷ xs) bs o ts gs = written_parts xs (bs ++ close o e ∷ []) (fresh b) ts gs ∙ ap (λ cs. text_at cs (left_open (fresh b) xs) (ts ++ types xs) (gs ++ map gone_at (owned xs))) (append_assoc bs (close o e ∷ []) (closed (fresh b) xs))
+written_parts (Owns l ys ∷ xs) bs o ts gs = written_parts xs bs o ts (gs ++ gone_at (l, ys) ∷ []) ∙ ap (λ hs. text_at (bs ++ closed o xs) (left_open o xs) (ts ++ types xs) hs) (append_assoc gs (gone_at (l, ys) ∷ []) (map gone_at (owned xs)))
+
+-- ---- locals
+
+made_paired : (n : ℕ) (xs : List Line) → InOrder n xs → made xs ≡ paired n (types xs)
+made_paired n [] h = refl
+made_paired n (Puts s ∷ xs) h = made_paired n xs h
+made_paired n (Makes x t ∷ xs) h = ap (λ y. (y, t) ∷ made xs) h.0 ∙ ap (λ ys. (n, t) ∷ ys) (made_paired (n + 1) xs h.1)
+made_paired n (Turns e b ∷ xs) h = made_paired n xs h
+made_paired n (Owns l ys ∷ xs) h = made_paired n xs h
+
+paired-append : (n m : ℕ) (ss ts : List Ty) → m ≡ n + length ss → paired n (ss ++ ts) ≡ paired n ss ++ paired m ts
+paired-append n m [] ts q = let e : n ≡ m = omega (arith, q) in ap (λ k. paired k ts) e
+paired-append n m (s ∷ ss) ts q = ap (λ xs. (n, s) ∷ xs) (paired-append (n + 1) m ss ts (omega (arith, q)))
+
+-- all locals of a body by number
+locals_paired : (f : TypedFunction) (xs : List Line) → InOrder (1 + length f.signature.params) xs → all_locals f xs ≡ paired 0 (f.signature.answer ∷ (f.signature.params ++ types xs))
+locals_paired f xs h = ap (λ ys. (0, f.signature.answer) ∷ ys) (ap (λ ys. paired 1 f.signature.params ++ ys) (made_paired _ xs h) ∙ sym (paired-append 1 (1 + length f.signature.params) f.signature.params (types xs) refl))
+
+length-paired : (n : ℕ) (ts : List Ty) → length (paired n ts) ≡ length ts
+length-paired n [] = refl
+length-paired n (t ∷ ts) = ap suc (length-paired (n + 1) ts)
+
+abbrev value_or : {A : Type 0} → A → Option A → A
+value_or d None = d
+value_or d (Some x) = x
+
+none_is_none : {A : Type 0} {x : A} → None ≡ Some x → ⊥
+none_is_none h = cc
+
+get_paired : (n : ℕ) (ts : List Ty) (i x : ℕ) (t : Ty) → slice_get (paired n ts) i ≡ Some (x, t) → (x ≡ n + i) × (slice_get ts i ≡ Some t)
+get_paired n [] i x t h = absurd (none_is_none h)
+get_paired n (s ∷ ts) zero x t h = let e : (n, s) ≡ (x, t) = ap (λ o. value_or (n, s) o) h in (omega (arith, ap (λ (p : ℕ × Ty). p.0) e), ap (λ (p : ℕ × Ty). Some p.1) e)
+get_paired n (s ∷ ts) (suc i) x t h = let r = get_paired (n + 1) ts i x t h in (omega (arith, r.0), r.1)
+
+get_at : (ts : List Ty) (i x : ℕ) (t : Ty) → slice_get (paired 0 ts) i ≡ Some (x, t) → slice_get ts x ≡ Some t
+get_at ts i x t h = let r = get_paired 0 ts i x t h in let e : x ≡ i = omega (arith, r.0) in rw e r.1
+
+count_paired : (x n : ℕ) (ts : List Ty) → count x (numbers (paired n ts)) ≡ within n (length ts) x
+count_paired x n [] = within_zero n x
+count_paired x n (t ∷ ts) =
+    let e : suc (length ts) ≡ 1 + length ts = omega arith in
+    let q : count x (numbers (paired n (t ∷ ts))) ≡ within n (1 + length ts) x = omega (arith, count_paired x (n + 1) ts, within_split n 1 (length ts) (n + 1) x refl, within_one n x) in
+    q ∙ ap (λ k. within n k x) (sym e)
+
+-- ---- a whole body
+
+length-counted : {A : Type 0} (n : ℕ) (xs : List A) → length (counted n xs) ≡ length xs
+length-counted n [] = refl
+length-counted n (x ∷ xs) = ap suc (length-counted (n + 1) xs)
+
+is_for : (f : TypedFunction) → length f.signature.params ≡ length (around_body f).scope
+is_for f = sym (length-counted 1 f.signature.params)
+
+built_parts : (f : TypedFunction) → built f ≡ text_at (closed (fresh (entry_title (label 0))) (text_of_body f)) (left_open (fresh (entry_title (label 0))) (text_of_body f)) (f.signature.answer ∷ (f.signature.params ++ types (text_of_body f))) (map gone_at (owned (text_of_body f)))
+built_parts f = written_parts (text_of_body f) [] (fresh (entry_title (label 0))) (f.signature.answer ∷ f.signature.params) []
+
+pub lowered : (σ : List Signature) (owner : List ℕ) (f : TypedFunction) → FunctionFits σ f → length (built f).locals < 2 ^ 32 → LowersTo owner f (body_of owner f (built f)) (record { gone = (built f).gone })
+lowered σ owner f w few =
+    let text = text_of_body f in
+    let parts = built_parts f in
+    let order = body_in_order f.body (around_body f) 1 (1 + length f.signature.params) in
+    let all = locals_paired f text order in
+    let ts : List Ty = f.signature.answer ∷ (f.signature.params ++ types text) in
+    let same : (built f).locals ≡ ts = ap (λ (x : BodyText). x.locals) parts in
+    record {
+      text = text;
+      into = lowers_body σ f.signature.params f.body (around_body f) 1 (1 + length f.signature.params) (is_for f) w.body;
+      blocks = ap (λ (x : BodyText). x.blocks ++ ended x.open_block (ends (span_of f.body) Return) ∷ []) parts;
+      labels_once = λ l. omega (arith, count_begun l text, body_once f.body (around_body f) 1 (1 + length f.signature.params) l, within_split 0 1 (labels f.body) 1 l refl, within_one 0 l, within_once 0 (1 + labels f.body) l);
+      locals_once = λ x. omega (arith, ap (λ ys. count x (numbers ys)) all, count_paired x 0 ts, within_once 0 (length ts) x);
+      locals = λ i x t h. ap (λ us. slice_get us x) same ∙ get_at ts i x t (sym (ap (λ ys. slice_get ys i) all) ∙ h);
+      all = ap length same ∙ (sym (length-paired 0 ts) ∙ sym (ap length all));
+      few = omega (arith, few);
+      owner_is = refl;
+      params = refl;
+      names = refl;
+      span = refl;
+      holds_nothing = ap (λ (x : BodyText). x.gone) parts;
+    }
+
+-- ---- how many blocks
+
+closed_turns : (xs : List Line) (o : Open) → length (closed o xs) ≡ turns xs
+closed_turns [] o = refl
+closed_turns (Puts s ∷ xs) o = closed_turns xs (longer o s)
+closed_turns (Makes n t ∷ xs) o = closed_turns xs o
+closed_turns (Turns e b ∷ xs) o = ap suc (closed_turns xs (fresh b))
+closed_turns (Owns l ys ∷ xs) o = closed_turns xs o
+
+pub blocks_of : (owner : List ℕ) (f : TypedFunction) → length (body_of owner f (built f)).blocks ≡ 1 + labels f.body
+blocks_of owner f =
+    let text = text_of_body f in
+    let e = ap (λ (x : BodyText). length x.blocks) (built_parts f) in
+    omega (arith, e, closed_turns text (fresh (entry_title (label 0))), body_turned f.body (around_body f) 1 (1 + length f.signature.params), length-append (built f).blocks (ended (built f).open_block (ends (span_of f.body) Return) ∷ []))
+
+pub more_blocks : (f : TypedFunction) → 4096 < 1 + labels f.body → 4096 < blocks_in (text_of_body f)
+more_blocks f h = omega (arith, h, body_turned f.body (around_body f) 1 (1 + length f.signature.params))
+
+-- ---- programs
+
+-- the function at the place fits
+pub fits_at : (σ : List Signature) (fs : List TypedFunction) (i : ℕ) (f : TypedFunction) → EachFits σ fs → f ≡ get_or fs i f → i < length fs → FunctionFits σ f
+fits_at σ [] i f w q h = absurd (omega arith)
+fits_at σ (g ∷ fs) zero f w q h = rw q w.0
+fits_at σ (g ∷ fs) (suc i) f w q h = fits_at σ fs i f w.1 q (omega arith)
+
+-- one function more
+pub then_lower : (table : List (List ℕ)) (fs : List TypedFunction) (bs : List Body) (cs : List Contract) (gs : List Initialised) (f : TypedFunction) (b : Body) (g : Initialised) (owner : List ℕ)
+    → LowerTo table fs bs cs gs → text_of table f.name ≡ Some owner → LowersTo owner f b g → LowerTo table (fs ++ f ∷ []) (bs ++ b ∷ []) (cs ++ contract_of f ∷ []) (gs ++ g ∷ [])
+then_lower table fs bs cs gs f b g owner no_functions q w = and_function owner q w no_functions
+then_lower table (h ∷ fs) bs cs gs f b g owner (and_function other p v rest) q w = and_function other p v (then_lower table fs _ _ _ f b g owner rest q w)
+
+-- the function at the place has too many blocks
+pub too_many : (p : TypedProgram) (i : ℕ) (f : TypedFunction) → f ≡ get_or p.functions i f → i < length p.functions → 4096 < 1 + labels f.body → ProgramFits p → HasMoreBlocks p 4096
+too_many p i f q h more w =
+    let σ = signatures p.functions in
+    let fits = fits_at σ p.functions i f w q h in
+    record {
+      function = f;
+      place = i;
+      is_function = slice_get_read p.functions (length p.functions) i f refl h q;
+      text = text_of_body f;
+      into = lowers_body σ f.signature.params f.body (around_body f) 1 (1 + length f.signature.params) (is_for f) fits.body;
+      more = more_blocks f more;
+    }
+
+pub fails_for : (P Q : Type 0) (e : PassError) → (P → Q) → FailsFor P e → FailsFor Q e
+fails_for P Q errors.NoMemory f h = tt
+fails_for P Q (errors.Limit l) f h = (h.0, f h.1)
+fails_for P Q (errors.Source e) f h = h
+
+-- ---- what is answered
+
+pub answered : (σ : List Signature) (owner : List ℕ) (f : TypedFunction) (x : BodyText) (b : Body) (g : Initialised) → x ≡ built f → b ≡ body_of owner f x → g ≡ record { gone = x.gone } → length x.locals < 2 ^ 32 → FunctionFits σ f → LowersTo b.owner f b g
+answered σ owner f x b g p q r few w =
+    let small : length (built f).locals < 2 ^ 32 = omega (arith, few, ap (λ (y : BodyText). length y.locals) p) in
+    rw (q, r, p) (lowered σ owner f w small)
+
+pub few_blocks : (owner : List ℕ) (f : TypedFunction) (x : BodyText) (b : Body) → x ≡ built f → b ≡ body_of owner f x → 1 + labels f.body ≤ 4096 → length b.blocks ≤ 4096
+few_blocks owner f x b p q few = rw (q, p) (omega (arith, few, blocks_of owner f))

@@ -1,0 +1,6 @@
+use Rattle.std.proofs.Common.{◌≡◌, take, map}
+use Rattle.mir_build.specs.Lowering.{formula_span}
+use Rattle.mir_build.proofs.around.formula_spans.Given as goal
+
+abbrev pub invariant-loop-assertion : goal.invariant-loop-assertion
+invariant-loop-assertion l = l.all ≡ map formula_span (take l.assertion-index l.assertions)

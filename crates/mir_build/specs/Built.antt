@@ -1,0 +1,46 @@
+-- What lines do to the text that is built so far.
+use Rattle.std.specs.Prelude.{List, [], ◌∷◌, ◌++◌, ◌-◌, take, length, Option, Some, None}
+use Rattle.logic_term.specs.declared.kinds.Label.{Label}
+use Rattle.logic_term.specs.Ty.{Ty}
+use Rattle.mir_ir.specs.declared.statement.Statement.{Statement}
+use Rattle.mir_ir.specs.declared.terminator.Terminator.{Terminator}
+use Rattle.mir_ir.specs.declared.body.Block.{Block}
+use Rattle.type_check.specs.TypedExpr.{TypedExpr, TypedStmts, done, last}
+use Rattle.mir_build.specs.declared.around.Around.{Around as RustAround}
+use Rattle.mir_build.specs.declared.builder.BodyText.{BodyText}
+use Rattle.mir_build.specs.declared.builder.OpenBlock.{OpenBlock}
+use Rattle.mir_build.specs.Text.{Title, Line, Puts, Makes, Turns, Owns}
+use Rattle.mir_build.specs.Lowering.{Around, gone_at}
+
+abbrev pub opened : Title → OpenBlock
+opened b = record { label = b.label; nest = b.nest; head = b.head; statements = [] }
+
+abbrev pub grown : OpenBlock → Statement → OpenBlock
+grown o s = record { label = o.label; nest = o.nest; head = o.head; statements = o.statements ++ s ∷ [] }
+
+abbrev pub ended : OpenBlock → Terminator → Label × Block
+ended o e = (o.label, record { head = o.head; nest = o.nest; statements = o.statements; end = e })
+
+-- the text with these lines behind it
+abbrev pub written : List Line → BodyText → BodyText
+written [] x = x
+written (Puts s ∷ xs) x = written xs (record { blocks = x.blocks; open_block = grown x.open_block s; locals = x.locals; gone = x.gone })
+written (Makes n t ∷ xs) x = written xs (record { blocks = x.blocks; open_block = x.open_block; locals = x.locals ++ t ∷ []; gone = x.gone })
+written (Turns e b ∷ xs) x = written xs (record { blocks = x.blocks ++ ended x.open_block e ∷ []; open_block = opened b; locals = x.locals; gone = x.gone })
+written (Owns l ys ∷ xs) x = written xs (record { blocks = x.blocks; open_block = x.open_block; locals = x.locals; gone = x.gone ++ gone_at (l, ys) ∷ [] })
+
+-- a block of the title, in which nothing stands yet, and these locals
+abbrev pub started : Title → List Ty → BodyText
+started b ts = record { blocks = []; open_block = opened b; locals = ts; gone = [] }
+
+abbrev pub around : RustAround → Around
+around c = record { scope = c.scope.items; loops = c.loops.items }
+
+-- around the innermost loop
+abbrev pub outside : Around → Around
+outside c = record { scope = c.scope; loops = take (length c.loops - 1) c.loops }
+
+-- the end of a block's statements
+abbrev pub end_of : Option TypedExpr → TypedStmts
+end_of None = done
+end_of (Some e) = last e

@@ -1,0 +1,6 @@
+pub mod Laws
+pub mod Built
+pub mod Lowering
+pub mod Numbered
+pub mod Text
+pub mod Whole

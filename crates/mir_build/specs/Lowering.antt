@@ -1,0 +1,299 @@
+-- Lowering: a row for each form of expression. Labels and temporaries are any numbers; in the text of a body each label begins one block and
+-- each local is made once. The order of evaluation is that of the Rust Reference: operands from the left, the right side of an assignment
+-- before its place, `&&` and `||` lazily.
+use Rattle.std.specs.Prelude.{◌≡◌, ℕ, ℤ, ◌+◌, ◌^◌, ◌<◌, ◌≤◌, ◌==◌, cond, max, Bool, true, false, List, [], ◌∷◌, ◌++◌, length, map, Some, None, slice_get}
+use Rattle.text_core.specs.declared.name.Name.{Name}
+use Rattle.text_core.specs.declared.span.Span.{Span}
+use Rattle.text_core.specs.Names.{text_of}
+use Rattle.logic_term.specs.declared.kinds.BinaryOp.{BinaryOp}
+use Rattle.logic_term.specs.declared.kinds.Ctor.TheVariants.{Tuple}
+use Rattle.logic_term.specs.declared.kinds.IntKind.{IntKind}
+use Rattle.logic_term.specs.declared.kinds.Label.{Label}
+use Rattle.logic_term.specs.declared.obligation.Contract.{Contract}
+use Rattle.logic_term.specs.declared.subst.Replacement.{Replacement}
+use Rattle.logic_term.specs.Subst.{above, subst}
+use Rattle.logic_term.specs.Term.{Term, var, truth}
+use Rattle.logic_term.specs.Ty.{Ty}
+use Rattle.rs_syntax.specs.declared.operator.LazyOp.{LazyOp}
+use Rattle.rs_syntax.specs.declared.operator.LazyOp.TheVariants as lazy_op
+use Rattle.rs_syntax.specs.declared.function.ClauseKind.{ClauseKind}
+use Rattle.rs_syntax.specs.declared.function.ClauseKind.TheVariants.{Requires, Ensures}
+use Rattle.mir_ir.specs.declared.place.Lit.{Lit}
+use Rattle.mir_ir.specs.declared.place.Lit.TheVariants as lit
+use Rattle.mir_ir.specs.declared.place.Operand.{Operand}
+use Rattle.mir_ir.specs.declared.place.Operand.TheVariants.{Copy, Move, Const}
+use Rattle.mir_ir.specs.declared.place.Place.{Place}
+use Rattle.mir_ir.specs.declared.statement.Rvalue.{Rvalue}
+use Rattle.mir_ir.specs.declared.statement.Rvalue.TheVariants.{Use, Binary, Neg, Not, Make}
+use Rattle.mir_ir.specs.declared.statement.StatementKind.TheVariants.{Assign, Dead}
+use Rattle.mir_ir.specs.declared.terminator.FnId.TheVariants as fn_id
+use Rattle.mir_ir.specs.declared.terminator.Callee.TheVariants.{Function}
+use Rattle.mir_ir.specs.declared.terminator.Terminator.{Terminator}
+use Rattle.mir_ir.specs.declared.terminator.TerminatorKind.{TerminatorKind}
+use Rattle.mir_ir.specs.declared.terminator.TerminatorKind.TheVariants.{Goto, If, Call, Return}
+use Rattle.mir_ir.specs.declared.body.Body.{Body}
+use Rattle.mir_ir.specs.declared.body.Head.{Head}
+use Rattle.mir_ir.specs.declared.body.Initialised.{Initialised}
+use Rattle.mir_ir.specs.declared.body.Point.{Point}
+use Rattle.type_check.specs.declared.assertion.Assertion.{Assertion}
+use Rattle.type_check.specs.declared.assertion.Assertion.TheVariants.{Good, Bad}
+use Rattle.type_check.specs.declared.program.TypedClause.{TypedClause}
+use Rattle.type_check.specs.declared.program.TypedFunction.{TypedFunction}
+use Rattle.type_check.specs.declared.program.TypedProgram.{TypedProgram}
+use Rattle.mir_build.specs.declared.lowered.Lowered.{Lowered}
+use Rattle.type_check.specs.TypedExpr.{TypedExpr, TypedStmts, TypedExprs, integer, variable, negative, denied, binary, lazy, assign, assign_value, update, update_value, call, block, branch, choice, repeat, done, last, bind, run, none, more}
+use Rattle.type_check.specs.TypedExpr as typed
+use Rattle.type_check.specs.TypedExprView.{ty_of, span_of}
+use Rattle.type_check.specs.VariableNames.{variable_name, answer_name}
+use Rattle.mir_build.specs.Text.{Title, Line, Puts, Makes, Turns, Owns, fresh, close, closed, left_open, begun, made, owned}
+
+-- ---- what stands around an expression
+
+-- the local of each variable in scope, and the heads of the loops around, both the outermost first
+pub record Around : Type 0 where
+  pub scope : List ℕ
+  pub loops : List Label
+
+abbrev pub binds : Around → ℕ → Around
+binds c x = record { scope = c.scope ++ x ∷ []; loops = c.loops }
+
+abbrev pub looping : Around → Label → Around
+looping c head = record { scope = c.scope; loops = c.loops ++ head ∷ [] }
+
+abbrev pub at : Around → Label → Title
+at c l = record { label = l; nest = c.loops; head = None }
+
+abbrev pub at_head : Around → Label → Head → Title
+at_head c l h = record { label = l; nest = c.loops; head = Some h }
+
+-- ---- formulas
+
+-- the name of a local; no table of names gives it
+unfoldable pub local_name : ℕ → Name
+local_name x = record { 0 = 2 ^ 63 + x }
+
+abbrev pub formula : Assertion → Term
+formula (Good s t) = t
+formula (Bad e) = truth false
+
+abbrev pub formula_span : Assertion → Span
+formula_span (Good s t) = s
+formula_span (Bad e) = e.span
+
+-- the names of the locals for those of the variables, of which k are before them
+abbrev pub locals_for : ℕ → List ℕ → List Replacement
+locals_for k [] = []
+locals_for k (x ∷ xs) = record { name = variable_name k; by = var (local_name x) } ∷ locals_for (k + 1) xs
+
+abbrev pub above_all : List Replacement → ℕ
+above_all [] = 0
+above_all (e ∷ σ) = max (above e.by) (above_all σ)
+
+abbrev pub with_terms : List Replacement → Term → Term
+with_terms σ t = subst (max (above t) (above_all σ)) σ t
+
+-- the formula over the names of the locals
+abbrev pub at_locals : List ℕ → Term → Term
+at_locals scope t = with_terms (locals_for 0 scope) t
+
+abbrev pub head_of : Around → List Assertion → Head
+head_of c is = record { invariants = map (λ a. at_locals c.scope (formula a)) is; spans = map formula_span is }
+
+-- ---- lines
+
+abbrev pub whole : ℕ → Place
+whole x = record { local = x; path = [] }
+
+abbrev pub puts : Span → ℕ → Rvalue → Line
+puts s d r = Puts (record { span = s; kind = Assign (whole d) r })
+
+abbrev pub constant : Span → ℕ → Lit → Line
+constant s d v = puts s d (Use (Const v))
+
+-- d = ()
+abbrev pub put_unit : Span → ℕ → Line
+put_unit s d = puts s d (Make Tuple [])
+
+abbrev pub copied : ℕ → Operand
+copied x = Copy (whole x)
+
+abbrev pub moved : ℕ → Operand
+moved x = Move (whole x)
+
+abbrev pub ends : Span → TerminatorKind → Terminator
+ends s k = record { span = s; kind = k }
+
+abbrev pub dies : Span → ℕ → Line
+dies s x = Puts (record { span = s; kind = Dead x })
+
+-- a binding ends with its block, but for the outermost block of a body
+abbrev pub dies_in : Bool → Span → ℕ → List Line
+dies_in true s x = []
+dies_in false s x = dies s x ∷ []
+
+abbrev pub numbers : List (ℕ × Ty) → List ℕ
+numbers xs = map (λ x. x.0) xs
+
+-- what `&&` and `||` do where the first operand is true, and where it is false
+abbrev pub where_true : LazyOp → Span → ℕ → List Line → List Line
+where_true lazy_op.And s d ys = ys
+where_true lazy_op.Or s d ys = constant s d (lit.Bool true) ∷ []
+
+abbrev pub where_false : LazyOp → Span → ℕ → List Line → List Line
+where_false lazy_op.And s d ys = constant s d (lit.Bool false) ∷ []
+where_false lazy_op.Or s d ys = ys
+
+-- ---- rows
+
+mutual
+  -- the text that writes the value of an expression to a local
+  pub data Into : Around → TypedExpr → ℕ → List Line → Type 0 where
+    of_integer : {c : Around} {ty : Ty} {s : Span} {z : ℤ} {k : IntKind} {d : ℕ} → Into c (integer ty s z k) d (constant s d (lit.Int z k) ∷ [])
+    of_truth : {c : Around} {ty : Ty} {s : Span} {b : Bool} {d : ℕ} → Into c (typed.truth ty s b) d (constant s d (lit.Bool b) ∷ [])
+    of_variable : {c : Around} {ty : Ty} {s : Span} {v d : ℕ} (x : ℕ) → slice_get c.scope v ≡ Some x → Into c (variable ty s v) d (puts s d (Use (copied x)) ∷ [])
+    of_negative : {c : Around} {ty : Ty} {s : Span} {e : TypedExpr} {d t : ℕ} {xs : List Line} → Into c e t xs → Into c (negative ty s e) d (Makes t (ty_of e) ∷ (xs ++ puts s d (Neg (copied t)) ∷ []))
+    of_denied : {c : Around} {ty : Ty} {s : Span} {e : TypedExpr} {d t : ℕ} {xs : List Line} → Into c e t xs → Into c (denied ty s e) d (Makes t (ty_of e) ∷ (xs ++ puts s d (Not (copied t)) ∷ []))
+    of_binary : {c : Around} {ty : Ty} {s : Span} {op : BinaryOp} {a b : TypedExpr} {d t u : ℕ} {xs ys : List Line} → Into c a t xs → Into c b u ys
+        → Into c (binary ty s op a b) d (Makes t (ty_of a) ∷ (xs ++ Makes u (ty_of b) ∷ (ys ++ puts s d (Binary op (copied t) (copied u)) ∷ [])))
+    of_lazy : {c : Around} {ty : Ty} {s : Span} {op : LazyOp} {a b : TypedExpr} {d t : ℕ} (yes' no' after : Label) {xs ys : List Line} → Into c a t xs → Into c b d ys
+        → Into c (lazy ty s op a b) d (Makes t (ty_of a) ∷ (xs ++ Turns (ends s (If (copied t) yes' no')) (at c yes') ∷ (where_true op s d ys
+        ++ Turns (ends s (Goto after)) (at c no') ∷ (where_false op s d ys ++ Turns (ends s (Goto after)) (at c after) ∷ []))))
+    of_assign : {c : Around} {ty : Ty} {s : Span} {v : ℕ} {e : TypedExpr} {d t : ℕ} (x : ℕ) {xs : List Line} → slice_get c.scope v ≡ Some x → Into c e t xs
+        → Into c (assign ty s v e) d (Makes t (ty_of e) ∷ (xs ++ puts s x (Use (moved t)) ∷ put_unit s d ∷ []))
+    of_assign_value : {c : Around} {ty : Ty} {s : Span} {a e : TypedExpr} {d t u : ℕ} {xs ys : List Line} → Into c e t xs → Into c a u ys
+        → Into c (assign_value ty s a e) d (Makes t (ty_of e) ∷ (xs ++ Makes u (ty_of a) ∷ (ys ++ puts s u (Use (moved t)) ∷ put_unit s d ∷ [])))
+    of_update : {c : Around} {ty : Ty} {s : Span} {op : BinaryOp} {v : ℕ} {e : TypedExpr} {d t : ℕ} (x u : ℕ) {xs : List Line} → slice_get c.scope v ≡ Some x → Into c e t xs
+        → Into c (update ty s op v e) d (Makes t (ty_of e) ∷ (xs ++ Makes u (ty_of e) ∷ puts s u (Binary op (copied x) (copied t)) ∷ puts s x (Use (moved u)) ∷ put_unit s d ∷ []))
+    of_update_value : {c : Around} {ty : Ty} {s : Span} {op : BinaryOp} {a e : TypedExpr} {d t p : ℕ} (u : ℕ) {xs ys : List Line} → Into c e t xs → Into c a p ys
+        → Into c (update_value ty s op a e) d (Makes t (ty_of e) ∷ (xs ++ Makes p (ty_of a) ∷ (ys ++ Makes u (ty_of e) ∷ puts s u (Binary op (copied p) (copied t)) ∷ puts s p (Use (moved u)) ∷ put_unit s d ∷ [])))
+    of_call : {c : Around} {ty : Ty} {s : Span} {f : ℕ} {es : TypedExprs} {d : ℕ} {ts : List ℕ} (after : Label) {xs : List Line} → Args c es ts xs
+        → Into c (call ty s f es) d (xs ++ Turns (ends s (Call (whole d) (Function (fn_id.Body f)) (map copied ts) after)) (at c after) ∷ [])
+    of_block : {c : Around} {ty : Ty} {s : Span} {ss : TypedStmts} {d : ℕ} {xs : List Line} → Rest c false s ss d xs → Into c (block ty s ss) d xs
+    of_branch : {c : Around} {ty : Ty} {s : Span} {e a : TypedExpr} {d t : ℕ} (yes' no' after : Label) {xs ys : List Line} → Into c e t xs → Into c a d ys
+        → Into c (branch ty s e a) d (Makes t (ty_of e) ∷ (xs ++ Turns (ends s (If (copied t) yes' no')) (at c yes') ∷ (ys ++ Turns (ends s (Goto after)) (at c no') ∷ put_unit s d ∷ Turns (ends s (Goto after)) (at c after) ∷ [])))
+    of_choice : {c : Around} {ty : Ty} {s : Span} {e a b : TypedExpr} {d t : ℕ} (yes' no' after : Label) {xs ys zs : List Line} → Into c e t xs → Into c a d ys → Into c b d zs
+        → Into c (choice ty s e a b) d (Makes t (ty_of e) ∷ (xs ++ Turns (ends s (If (copied t) yes' no')) (at c yes') ∷ (ys ++ Turns (ends s (Goto after)) (at c no') ∷ (zs ++ Turns (ends s (Goto after)) (at c after) ∷ []))))
+    of_repeat : {c : Around} {ty : Ty} {s : Span} {is : List Assertion} {e b : TypedExpr} {d t u : ℕ} (head body after : Label) {xs ys : List Line} → Into (looping c head) e t xs → Into (looping c head) b u ys
+        → Into c (repeat ty s is e b) d (Turns (ends s (Goto head)) (at_head (looping c head) head (head_of c is)) ∷ Makes t (ty_of e) ∷ (xs ++ Turns (ends s (If (copied t) body after)) (at (looping c head) body) ∷ Makes u (ty_of b)
+        ∷ (ys ++ Turns (ends s (Goto head)) (at c after) ∷ Owns head (t ∷ (numbers (made xs) ++ u ∷ numbers (made ys))) ∷ put_unit s d ∷ [])))
+
+  -- the text of a block's statements and of its last expression; whether it is the outermost block of a body
+  pub data Rest : Around → Bool → Span → TypedStmts → ℕ → List Line → Type 0 where
+    of_done : {c : Around} {outer : Bool} {s : Span} {d : ℕ} → Rest c outer s done d (put_unit s d ∷ [])
+    of_last : {c : Around} {outer : Bool} {s : Span} {e : TypedExpr} {d : ℕ} {xs : List Line} → Into c e d xs → Rest c outer s (last e) d xs
+    of_bind : {c : Around} {outer : Bool} {s : Span} {e : TypedExpr} {ss : TypedStmts} {d t : ℕ} {xs ys : List Line} → Into c e t xs → Rest (binds c t) outer s ss d ys
+        → Rest c outer s (bind e ss) d (Makes t (ty_of e) ∷ (xs ++ (ys ++ dies_in outer s t)))
+    of_run : {c : Around} {outer : Bool} {s : Span} {e : TypedExpr} {ss : TypedStmts} {d t : ℕ} {xs ys : List Line} → Into c e t xs → Rest c outer s ss d ys → Rest c outer s (run e ss) d (Makes t (ty_of e) ∷ (xs ++ ys))
+
+  -- the text that writes each argument to a temporary
+  pub data Args : Around → TypedExprs → List ℕ → List Line → Type 0 where
+    of_none : {c : Around} → Args c none [] []
+    of_more : {c : Around} {e : TypedExpr} {es : TypedExprs} {t : ℕ} {ts : List ℕ} {xs ys : List Line} → Into c e t xs → Args c es ts ys → Args c (more e es) (t ∷ ts) (Makes t (ty_of e) ∷ (xs ++ ys))
+
+abbrev pub is_block : TypedExpr → Bool
+is_block (block ty s ss) = true
+is_block _ = false
+
+-- the text of a body: that of its outermost block, or of an expression that is no block
+pub data IntoBody : Around → TypedExpr → List Line → Type 0 where
+  of_outermost : {c : Around} {ty : Ty} {s : Span} {ss : TypedStmts} {xs : List Line} → Rest c true s ss 0 xs → IntoBody c (block ty s ss) xs
+  of_other : {c : Around} {e : TypedExpr} {xs : List Line} → is_block e ≡ false → Into c e 0 xs → IntoBody c e xs
+
+-- ---- functions
+
+-- n, n + 1 and so on, so many
+abbrev pub counted : {A : Type 0} → ℕ → List A → List ℕ
+counted n [] = []
+counted n (x ∷ xs) = n ∷ counted (n + 1) xs
+
+-- the formula is taken where the kinds are the same
+abbrev pub picked : ClauseKind → ClauseKind → Assertion → List Assertion → List Assertion
+picked Requires Requires a rest = a ∷ rest
+picked Requires Ensures a rest = rest
+picked Ensures Requires a rest = rest
+picked Ensures Ensures a rest = a ∷ rest
+
+abbrev pub formulas_of : ClauseKind → List TypedClause → List Assertion
+formulas_of k [] = []
+formulas_of k (c ∷ cs) = picked k c.kind c.formula (formulas_of k cs)
+
+-- the contract is over the names of the variables that the parameters are
+abbrev pub contract_of : TypedFunction → Contract
+contract_of f = record {
+  params = map variable_name (counted 0 f.signature.params);
+  answer = answer_name;
+  pre = map formula (formulas_of Requires f.clauses);
+  post = map formula (formulas_of Ensures f.clauses);
+  variants = [];
+  spans = map formula_span (formulas_of Requires f.clauses) ++ map formula_span (formulas_of Ensures f.clauses);
+}
+
+-- how often x stands in the list
+abbrev pub count : ℕ → List ℕ → ℕ
+count x [] = 0
+count x (y ∷ ys) = cond (x == y) 1 0 + count x ys
+
+abbrev pub labels_begun : List Line → List ℕ
+labels_begun xs = map (λ (b : Title). b.label.0) (begun xs)
+
+abbrev pub entry_title : Label → Title
+entry_title l = record { label = l; nest = []; head = None }
+
+-- the types with the numbers from n on
+abbrev pub paired : ℕ → List Ty → List (ℕ × Ty)
+paired n [] = []
+paired n (t ∷ ts) = (n, t) ∷ paired (n + 1) ts
+
+-- the locals of a body by number: the answer, the parameters, and those that the text makes
+abbrev pub all_locals : TypedFunction → List Line → List (ℕ × Ty)
+all_locals f xs = (0, f.signature.answer) ∷ (paired 1 f.signature.params ++ made xs)
+
+-- at the head of a loop its own locals hold nothing
+abbrev pub gone_at : Label × List ℕ → Point × List Place
+gone_at g = (record { label = g.0; statement = 0 }, map whole g.1)
+
+-- around the outermost block the parameters are in scope, which are locals from 1 on
+abbrev pub around_body : TypedFunction → Around
+around_body f = record { scope = counted 1 f.signature.params; loops = [] }
+
+-- the body of a function, and what may be gone where in it: local 0 is the answer, then come the parameters
+pub record LowersTo (owner : List ℕ) (f : TypedFunction) (b : Body) (gone : Initialised) : Type 0 where
+  pub text : List Line
+  pub into : IntoBody (around_body f) f.body text
+  pub blocks : b.blocks ≡ closed (fresh (entry_title b.entry)) text ++ close (left_open (fresh (entry_title b.entry)) text) (ends (span_of f.body) Return) ∷ []
+  -- each label begins one block, and each local is made once
+  pub labels_once : (l : ℕ) → count l (b.entry.0 ∷ labels_begun text) ≤ 1
+  pub locals_once : (x : ℕ) → count x (numbers (all_locals f text)) ≤ 1
+  pub locals : (i x : ℕ) (t : Ty) → slice_get (all_locals f text) i ≡ Some (x, t) → slice_get b.locals x ≡ Some t
+  pub all : length b.locals ≡ length (all_locals f text)
+  -- locals have numbers of 32 bits
+  pub few : length b.locals ≤ 2 ^ 32
+  pub owner_is : b.owner ≡ owner
+  pub params : b.params ≡ length f.signature.params
+  pub names : b.names ≡ map local_name (counted 0 b.locals)
+  pub span : b.span ≡ f.span
+  pub holds_nothing : gone.gone ≡ map gone_at (owned text)
+
+-- the functions from number n on, each with its text, lower to these bodies, contracts and gone places, one for each
+pub data LowerTo (table : List (List ℕ)) : List TypedFunction → List Body → List Contract → List Initialised → Type 0 where
+  no_functions : LowerTo table [] [] [] []
+  and_function : {f : TypedFunction} {fs : List TypedFunction} {b : Body} {bs : List Body} {cs : List Contract} {gone : Initialised} {gones : List Initialised} (owner : List ℕ)
+      → text_of table f.name ≡ Some owner → LowersTo owner f b gone → LowerTo table fs bs cs gones
+      → LowerTo table (f ∷ fs) (b ∷ bs) (contract_of f ∷ cs) (gone ∷ gones)
+
+-- the program lowers to these, by this table of names
+abbrev pub IsLowered : List (List ℕ) → TypedProgram → Lowered → Type 0
+IsLowered table p l = LowerTo table p.functions l.bodies.bodies l.contracts l.gone
+
+-- the blocks of a text, the first one included
+abbrev pub blocks_in : List Line → ℕ
+blocks_in xs = 1 + length (begun xs)
+
+-- the text of some function has more blocks than the bound
+pub record HasMoreBlocks (p : TypedProgram) (bound : ℕ) : Type 0 where
+  pub function : TypedFunction
+  pub place : ℕ
+  pub is_function : slice_get p.functions place ≡ Some function
+  pub text : List Line
+  pub into : IntoBody (around_body function) function.body text
+  pub more : bound < blocks_in text

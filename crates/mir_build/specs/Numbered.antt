@@ -1,0 +1,163 @@
+-- The text of the rows with the numbers that the code gives: labels from l on, locals from t on. A variable that is not in scope stands
+-- for local 0. Contracts of the code alone speak of it.
+use Rattle.std.specs.Prelude.{ℕ, ◌+◌, ◌-◌, Bool, true, false, List, [], ◌∷◌, ◌++◌, map, slice_index}
+use Rattle.std.specs.List.{range_with_len}
+use Rattle.text_core.specs.declared.span.Span.{Span}
+use Rattle.logic_term.specs.declared.kinds.Label.{Label}
+use Rattle.mir_ir.specs.declared.place.Lit.TheVariants as lit
+use Rattle.mir_ir.specs.declared.statement.Rvalue.TheVariants.{Use, Binary, Neg, Not}
+use Rattle.mir_ir.specs.declared.terminator.FnId.TheVariants as fn_id
+use Rattle.mir_ir.specs.declared.terminator.Callee.TheVariants.{Function}
+use Rattle.mir_ir.specs.declared.terminator.TerminatorKind.TheVariants.{Goto, If, Call}
+use Rattle.type_check.specs.TypedExpr.{TypedExpr, TypedStmts, TypedExprs, integer, truth, variable, negative, denied, binary, lazy, assign, assign_value, update, update_value, call, block, branch, choice, repeat, done, last, bind, run, none, more}
+use Rattle.type_check.specs.TypedExprView.{ty_of}
+use Rattle.mir_build.specs.Text.{Line, Makes, Turns, Owns}
+use Rattle.mir_build.specs.Lowering.{Around, binds, looping, at, at_head, head_of, whole, puts, constant, put_unit, copied, moved, ends, dies_in, where_true, where_false}
+
+abbrev pub label : ℕ → Label
+label l = record { 0 = l }
+
+abbrev pub local_of : List ℕ → ℕ → ℕ
+local_of scope v = slice_index scope v
+
+-- the numbers from the first up to the last, which is none of them
+abbrev pub between : ℕ → ℕ → List ℕ
+between m n = range_with_len m (n - m)
+
+-- ---- how many blocks the text begins
+
+abbrev mutual
+  pub labels : TypedExpr → ℕ
+  labels (integer ty s z k) = 0
+  labels (truth ty s b) = 0
+  labels (variable ty s v) = 0
+  labels (negative ty s e) = labels e
+  labels (denied ty s e) = labels e
+  labels (binary ty s op a b) = labels a + labels b
+  labels (lazy ty s op a b) = labels a + 3 + labels b
+  labels (assign ty s v e) = labels e
+  labels (assign_value ty s a e) = labels e + labels a
+  labels (update ty s op v e) = labels e
+  labels (update_value ty s op a e) = labels e + labels a
+  labels (call ty s f es) = labels_in es + 1
+  labels (block ty s ss) = labels_of ss
+  labels (branch ty s e a) = labels e + 3 + labels a
+  labels (choice ty s e a b) = labels e + 3 + labels a + labels b
+  labels (repeat ty s is e b) = 3 + labels e + labels b
+
+  pub labels_of : TypedStmts → ℕ
+  labels_of done = 0
+  labels_of (last e) = labels e
+  labels_of (bind e ss) = labels e + labels_of ss
+  labels_of (run e ss) = labels e + labels_of ss
+
+  pub labels_in : TypedExprs → ℕ
+  labels_in none = 0
+  labels_in (more e es) = labels e + labels_in es
+
+-- ---- how many locals it makes
+
+abbrev mutual
+  pub locals : TypedExpr → ℕ
+  locals (integer ty s z k) = 0
+  locals (truth ty s b) = 0
+  locals (variable ty s v) = 0
+  locals (negative ty s e) = 1 + locals e
+  locals (denied ty s e) = 1 + locals e
+  locals (binary ty s op a b) = 1 + locals a + 1 + locals b
+  locals (lazy ty s op a b) = 1 + locals a + locals b
+  locals (assign ty s v e) = 1 + locals e
+  locals (assign_value ty s a e) = 1 + locals e + 1 + locals a
+  locals (update ty s op v e) = 1 + locals e + 1
+  locals (update_value ty s op a e) = 1 + locals e + 1 + locals a + 1
+  locals (call ty s f es) = locals_in es
+  locals (block ty s ss) = locals_of ss
+  locals (branch ty s e a) = 1 + locals e + locals a
+  locals (choice ty s e a b) = 1 + locals e + locals a + locals b
+  locals (repeat ty s is e b) = 1 + locals e + 1 + locals b
+
+  pub locals_of : TypedStmts → ℕ
+  locals_of done = 0
+  locals_of (last e) = locals e
+  locals_of (bind e ss) = 1 + locals e + locals_of ss
+  locals_of (run e ss) = 1 + locals e + locals_of ss
+
+  pub locals_in : TypedExprs → ℕ
+  locals_in none = 0
+  locals_in (more e es) = 1 + locals e + locals_in es
+
+-- the temporaries of arguments
+abbrev pub temporaries : TypedExprs → ℕ → List ℕ
+temporaries none t = []
+temporaries (more e es) t = t ∷ temporaries es (t + 1 + locals e)
+
+-- ---- the text
+
+abbrev mutual
+  pub into : TypedExpr → Around → ℕ → ℕ → ℕ → List Line
+  into (integer ty s z k) c l t d = constant s d (lit.Int z k) ∷ []
+  into (truth ty s b) c l t d = constant s d (lit.Bool b) ∷ []
+  into (variable ty s v) c l t d = puts s d (Use (copied (local_of c.scope v))) ∷ []
+  into (negative ty s e) c l t d = Makes t (ty_of e) ∷ (into e c l (t + 1) t ++ puts s d (Neg (copied t)) ∷ [])
+  into (denied ty s e) c l t d = Makes t (ty_of e) ∷ (into e c l (t + 1) t ++ puts s d (Not (copied t)) ∷ [])
+  into (binary ty s op a b) c l t d =
+      let u = t + 1 + locals a in
+      Makes t (ty_of a) ∷ (into a c l (t + 1) t ++ Makes u (ty_of b) ∷ (into b c (l + labels a) (u + 1) u ++ puts s d (Binary op (copied t) (copied u)) ∷ []))
+  into (lazy ty s op a b) c l t d =
+      let m = l + labels a in
+      let ys = into b c (m + 3) (t + 1 + locals a) d in
+      Makes t (ty_of a) ∷ (into a c l (t + 1) t ++ Turns (ends s (If (copied t) (label m) (label (m + 1)))) (at c (label m)) ∷ (where_true op s d ys
+      ++ Turns (ends s (Goto (label (m + 2)))) (at c (label (m + 1))) ∷ (where_false op s d ys ++ Turns (ends s (Goto (label (m + 2)))) (at c (label (m + 2))) ∷ [])))
+  into (assign ty s v e) c l t d = Makes t (ty_of e) ∷ (into e c l (t + 1) t ++ puts s (local_of c.scope v) (Use (moved t)) ∷ put_unit s d ∷ [])
+  into (assign_value ty s a e) c l t d =
+      let u = t + 1 + locals e in
+      Makes t (ty_of e) ∷ (into e c l (t + 1) t ++ Makes u (ty_of a) ∷ (into a c (l + labels e) (u + 1) u ++ puts s u (Use (moved t)) ∷ put_unit s d ∷ []))
+  into (update ty s op v e) c l t d =
+      let x = local_of c.scope v in
+      let u = t + 1 + locals e in
+      Makes t (ty_of e) ∷ (into e c l (t + 1) t ++ Makes u (ty_of e) ∷ puts s u (Binary op (copied x) (copied t)) ∷ puts s x (Use (moved u)) ∷ put_unit s d ∷ [])
+  into (update_value ty s op a e) c l t d =
+      let p = t + 1 + locals e in
+      let u = p + 1 + locals a in
+      Makes t (ty_of e) ∷ (into e c l (t + 1) t ++ Makes p (ty_of a) ∷ (into a c (l + labels e) (p + 1) p
+      ++ Makes u (ty_of e) ∷ puts s u (Binary op (copied p) (copied t)) ∷ puts s p (Use (moved u)) ∷ put_unit s d ∷ []))
+  into (call ty s f es) c l t d =
+      let m = l + labels_in es in
+      args es c l t ++ Turns (ends s (Call (whole d) (Function (fn_id.Body f)) (map copied (temporaries es t)) (label m))) (at c (label m)) ∷ []
+  into (block ty s ss) c l t d = rest ss false s c l t d
+  into (branch ty s e a) c l t d =
+      let m = l + labels e in
+      Makes t (ty_of e) ∷ (into e c l (t + 1) t ++ Turns (ends s (If (copied t) (label m) (label (m + 1)))) (at c (label m)) ∷ (into a c (m + 3) (t + 1 + locals e) d
+      ++ Turns (ends s (Goto (label (m + 2)))) (at c (label (m + 1))) ∷ put_unit s d ∷ Turns (ends s (Goto (label (m + 2)))) (at c (label (m + 2))) ∷ []))
+  into (choice ty s e a b) c l t d =
+      let m = l + labels e in
+      let u = t + 1 + locals e in
+      Makes t (ty_of e) ∷ (into e c l (t + 1) t ++ Turns (ends s (If (copied t) (label m) (label (m + 1)))) (at c (label m)) ∷ (into a c (m + 3) u d
+      ++ Turns (ends s (Goto (label (m + 2)))) (at c (label (m + 1))) ∷ (into b c (m + 3 + labels a) (u + locals a) d ++ Turns (ends s (Goto (label (m + 2)))) (at c (label (m + 2))) ∷ [])))
+  into (repeat ty s is e b) c l t d =
+      let inside = looping c (label l) in
+      let u = t + 1 + locals e in
+      Turns (ends s (Goto (label l))) (at_head inside (label l) (head_of c is)) ∷ Makes t (ty_of e) ∷ (into e inside (l + 3) (t + 1) t
+      ++ Turns (ends s (If (copied t) (label (l + 1)) (label (l + 2)))) (at inside (label (l + 1))) ∷ Makes u (ty_of b)
+      ∷ (into b inside (l + 3 + labels e) (u + 1) u ++ Turns (ends s (Goto (label l))) (at c (label (l + 2))) ∷ Owns (label l) (between t (u + 1 + locals b)) ∷ put_unit s d ∷ []))
+
+  pub rest : TypedStmts → Bool → Span → Around → ℕ → ℕ → ℕ → List Line
+  rest done outer s c l t d = put_unit s d ∷ []
+  rest (last e) outer s c l t d = into e c l t d
+  rest (bind e ss) outer s c l t d = Makes t (ty_of e) ∷ (into e c l (t + 1) t ++ (rest ss outer s (binds c t) (l + labels e) (t + 1 + locals e) d ++ dies_in outer s t))
+  rest (run e ss) outer s c l t d = Makes t (ty_of e) ∷ (into e c l (t + 1) t ++ rest ss outer s c (l + labels e) (t + 1 + locals e) d)
+
+  pub args : TypedExprs → Around → ℕ → ℕ → List Line
+  args none c l t = []
+  args (more e es) c l t = Makes t (ty_of e) ∷ (into e c l (t + 1) t ++ args es c (l + labels e) (t + 1 + locals e))
+
+-- the text of a loop with the head from its condition to the end of its body
+abbrev pub loop_text : TypedExpr → TypedExpr → Span → Around → ℕ → ℕ → ℕ → List Line
+loop_text e b s c head l t =
+    let u = t + 1 + locals e in
+    Makes t (ty_of e) ∷ (into e c l (t + 1) t ++ Turns (ends s (If (copied t) (label (head + 1)) (label (head + 2)))) (at c (label (head + 1))) ∷ Makes u (ty_of b) ∷ into b c (l + labels e) (u + 1) u)
+
+-- the text of a body, whose outermost block ends no binding
+abbrev pub body_text : TypedExpr → Around → ℕ → ℕ → List Line
+body_text (block ty s ss) c l t = rest ss true s c l t 0
+body_text e c l t = into e c l t 0

@@ -1,0 +1,47 @@
+-- What is built of a whole function, and how a pass over a program fails.
+use Rattle.std.specs.Prelude.{◌≡◌, ℕ, ◌+◌, ◌≤◌, List, [], ◌∷◌, ◌++◌, length, map}
+use Rattle.std.specs.List.{All}
+use Rattle.text_core.specs.declared.refusal.Limit.{Limit}
+use Rattle.text_core.specs.declared.refusal.LimitKind.TheVariants.{Blocks}
+use Rattle.rs_syntax.specs.declared.fault.PassError.{PassError}
+use Rattle.rs_syntax.specs.declared.fault.PassError.TheVariants as errors
+use Rattle.mir_ir.specs.declared.body.Body.{Body}
+use Rattle.mir_ir.specs.declared.terminator.TerminatorKind.TheVariants.{Return}
+use Rattle.type_check.specs.declared.program.TypedFunction.{TypedFunction}
+use Rattle.type_check.specs.TypedExprView.{span_of}
+use Rattle.mir_build.specs.declared.builder.BodyText.{BodyText}
+use Rattle.mir_build.specs.Text.{Line}
+use Rattle.mir_build.specs.Lowering.{around_body, entry_title, counted, local_name, ends}
+use Rattle.mir_build.specs.Numbered.{body_text, label}
+use Rattle.mir_build.specs.Built.{written, started, ended}
+
+-- the text of a function's body
+abbrev pub text_of_body : TypedFunction → List Line
+text_of_body f = body_text f.body (around_body f) 1 (1 + length f.signature.params)
+
+abbrev pub built : TypedFunction → BodyText
+built f = written (text_of_body f) (started (entry_title (label 0)) (f.signature.answer ∷ f.signature.params))
+
+-- the body of what is built
+abbrev pub body_of : List ℕ → TypedFunction → BodyText → Body
+body_of owner f x = record {
+  owner = owner;
+  params = length f.signature.params;
+  locals = x.locals;
+  names = map local_name (counted 0 x.locals);
+  entry = label 0;
+  blocks = x.blocks ++ ended x.open_block (ends (span_of f.body) Return) ∷ [];
+  span = f.span;
+}
+
+abbrev pub HaveFewBlocks : List Body → Type 0
+HaveFewBlocks bs = All (λ (b : Body). length b.blocks ≤ 4096) bs
+
+abbrev pub too_many_blocks : Limit
+too_many_blocks = record { kind = Blocks; counted = 4097; bound = 4096 }
+
+-- memory is wanting, or there are too many blocks, for this reason; the source is not refused
+abbrev pub FailsFor : Type 0 → PassError → Type 0
+FailsFor reason errors.NoMemory = Unit {0}
+FailsFor reason (errors.Limit l) = (l ≡ too_many_blocks) × reason
+FailsFor reason (errors.Source e) = ⊥

@@ -1,0 +1,166 @@
+//! What stands around an expression, and the invariants of a loop there.
+ghost use Rattle.std.specs.Prelude.{◌≡◌, map, max, IfOk};
+ghost use Rattle.mir_build.specs.Built.{around};
+ghost use Rattle.mir_build.specs.Numbered.{local_of};
+ghost use Rattle.mir_build.specs.Lowering.{local_name, formula, formula_span, locals_for, above_all, with_terms, head_of};
+ghost use Rattle.type_check.specs.VariableNames.{variable_name, answer_name};
+
+use logic_term::{Label, Replacement, Term};
+use mir_ir::Head;
+use std::alloc::Global;
+use text_core::{Items, Name, NoMemory, Span};
+use type_check::Assertion;
+
+/// The local of each variable in scope, and the heads of the loops around, both the outermost first.
+#[derive(Drop)]
+pub(crate) struct Around {
+    pub(crate) scope: Vec<u32>,
+    pub(crate) loops: Vec<Label>,
+}
+
+/// The local of a variable; 0 for one that is not in scope.
+pub(crate) fn local_of(scope: &[u32], variable: u32) -> u32
+    ensures { result ≡ local_of scope.now variable }
+{
+    match scope.get(variable as usize) {
+        Some(local) => *local,
+        None => 0,
+    }
+}
+
+/// The heads around, as a block has them.
+pub(crate) fn nest(alloc: Global, c: &Around) -> Result<Items<Label>, NoMemory>
+    ensures { IfOk result (λ it. it ≡ (around c.now).loops) }
+{
+    Items::from_slice(alloc, c.loops.as_slice())
+}
+
+// ---- names
+
+/// The first of the fresh names that stand for variables.
+const FIRST_VARIABLE: u64 = 1 << 61;
+
+/// The fresh name that stands for the answer.
+const ANSWER: u64 = (1 << 61) + (1 << 60);
+
+#[tactic(auto, unfolding(crate::specs::Lowering::local_name))]
+pub(crate) fn local_name(x: u32) -> Name
+    ensures { result ≡ local_name x }
+{
+    Name::fresh(x as u64)
+}
+
+#[tactic(auto, unfolding(type_check::specs::VariableNames::variable_name))]
+pub(crate) fn variable_name(k: u32) -> Name
+    ensures { result ≡ variable_name k }
+{
+    Name::fresh(FIRST_VARIABLE + k as u64)
+}
+
+#[tactic(auto, unfolding(type_check::specs::VariableNames::answer_name))]
+pub(crate) fn answer_name() -> Name
+    ensures { result ≡ answer_name }
+{
+    Name::fresh(ANSWER)
+}
+
+// ---- formulas
+
+pub(crate) fn formula(alloc: Global, assertion: &Assertion) -> Result<Term, NoMemory>
+    ensures { IfOk result (λ t. t ≡ formula assertion.now) }
+{
+    match assertion {
+        Assertion::Good(_, term) => term.copy(alloc),
+        Assertion::Bad(_) => Ok(Term::truth(false)),
+    }
+}
+
+pub(crate) fn formula_span(assertion: &Assertion) -> Span
+    ensures { result ≡ formula_span assertion.now }
+{
+    match assertion {
+        Assertion::Good(span, _) => *span,
+        Assertion::Bad(error) => error.span,
+    }
+}
+
+/// The names of the locals for those of the variables.
+fn locals_for(alloc: Global, scope: &[u32]) -> Result<Vec<Replacement>, NoMemory>
+    ensures { IfOk result (λ v. v.items ≡ locals_for 0 scope.now) }
+{
+    let mut all = Vec::new(alloc);
+    let mut variable: u32 = 0;
+    for x in scope {
+        all.push(Replacement {
+            name: variable_name(variable),
+            by: Term::var(local_name(*x)),
+        })?;
+        variable = variable.checked_add(1).ok_or(NoMemory)?;
+    }
+    Ok(all)
+}
+
+/// One past the largest name in the terms.
+fn above_all(sub: &[Replacement]) -> Result<u64, NoMemory>
+    ensures { IfOk result (λ n. n ≡ above_all sub.now) }
+{
+    let mut most: u64 = 0;
+    for i in (0..sub.len()).rev() {
+        let here = sub[i].by.above()?;
+        most = here.max(most);
+    }
+    Ok(most)
+}
+
+fn with_terms(alloc: Global, sub: &[Replacement], term: &Term) -> Result<Term, NoMemory>
+    ensures { IfOk result (λ t. t ≡ with_terms sub.now term.now) }
+{
+    let own = term.above()?;
+    let others = above_all(sub)?;
+    term.subst(alloc, own.max(others), &[], sub)
+}
+
+fn formula_with_terms(
+    alloc: Global,
+    sub: &[Replacement],
+    assertion: &Assertion,
+) -> Result<Term, NoMemory>
+    ensures { IfOk result (λ t. t ≡ with_terms sub.now (formula assertion.now)) }
+{
+    let term = formula(alloc, assertion)?;
+    with_terms(alloc, sub, &term)
+}
+
+fn formulas_with_terms(
+    alloc: Global,
+    sub: &[Replacement],
+    assertions: &[Assertion],
+) -> Result<Items<Term>, NoMemory>
+    ensures { IfOk result (λ v. v ≡ map (λ a. with_terms sub.now (formula a)) assertions.now) }
+{
+    let mut all = Items::new(alloc);
+    for assertion in assertions {
+        all.push(formula_with_terms(alloc, sub, assertion)?)?;
+    }
+    Ok(all)
+}
+
+fn formula_spans(alloc: Global, assertions: &[Assertion]) -> Result<Items<Span>, NoMemory>
+    ensures { IfOk result (λ v. v ≡ map formula_span assertions.now) }
+{
+    let mut all = Items::new(alloc);
+    for assertion in assertions {
+        all.push(formula_span(assertion))?;
+    }
+    Ok(all)
+}
+
+/// The head of a loop with these invariants, which speak of the variables in scope.
+pub(crate) fn head_of(alloc: Global, c: &Around, assertions: &[Assertion]) -> Result<Head, NoMemory>
+    ensures { IfOk result (λ h. h ≡ head_of (around c.now) assertions.now) }
+{
+    let sub = locals_for(alloc, c.scope.as_slice())?;
+    let invariants = formulas_with_terms(alloc, sub.as_slice(), assertions)?;
+    let spans = formula_spans(alloc, assertions)?;
+    Ok(Head { invariants, spans })
+}

@@ -1,0 +1,528 @@
+//! Lowering of expressions: what they add to the text of their body.
+ghost use Rattle.std.specs.Prelude.{◌≡◌, ◌+◌, ◌^◌, ◌≤◌, ◌<◌, ◌∷◌, ◌++◌, [], length, map, OnOk, IfOk, IfErr};
+ghost use Rattle.std.specs.Option.{option_copied};
+ghost use Rattle.type_check.specs.TypedExpr.{lazy, assign, assign_value, update, update_value, branch, choice, repeat, call};
+ghost use Rattle.type_check.specs.TypedExprView.{ty_of, span_of, stmts_of, exprs_of};
+ghost use Rattle.type_check.specs.WellTyped.{unit};
+ghost use Rattle.mir_ir.specs.declared.statement.Rvalue.TheVariants.{Use, Binary};
+ghost use Rattle.mir_ir.specs.declared.terminator.TerminatorKind.TheVariants.{Goto};
+ghost use Rattle.mir_build.specs.Text.{Makes, Turns, Owns};
+ghost use Rattle.mir_build.specs.Lowering.{copied, moved, puts, put_unit, ends, at, at_head, looping, head_of};
+ghost use Rattle.mir_build.specs.Numbered.{into, rest, args, loop_text, between, temporaries, label, labels, labels_of, labels_in, locals, locals_of, locals_in};
+ghost use Rattle.mir_build.specs.Built.{written, around, outside, end_of};
+ghost use Rattle.mir_build.specs.declared.stop.Stop.TheVariants.{Blocks};
+
+use crate::around::{Around, head_of, local_of, nest};
+use crate::builder::{Builder, copied, moved, whole};
+use crate::stop::Stop;
+use logic_term::{BinaryOp, Label, Ty};
+use mir_ir::{Callee, FnId, Lit, Operand, Rvalue, Terminator, TerminatorKind};
+use rs_syntax::LazyOp;
+use std::alloc::Global;
+use text_core::{Items, NoMemory, Span};
+use type_check::{Assertion, TypedExpr, TypedNode, TypedStmt};
+
+#[tactic(auto, using(crate::proofs::Parts::ty_of_node))]
+pub(crate) fn type_of(e: &TypedExpr) -> &Ty
+    ensures { result.now ≡ ty_of e.now }
+{
+    &e.ty
+}
+
+#[tactic(auto, using(crate::proofs::Parts::span_of_node))]
+pub(crate) fn value_span(e: &TypedExpr) -> Span
+    ensures { result ≡ span_of e.now }
+{
+    e.span
+}
+
+/// A new local that holds the value.
+#[cycle(lower)]
+#[tactic(auto, using(crate::proofs::Runs::running))]
+fn lower_new(alloc: Global, b: &mut Builder, c: &mut Around, e: &TypedExpr) -> Result<u32, Stop>
+    ensures number { IfOk result (λ t. t ≡ length b.old.text.locals) }
+    ensures text { IfOk result (λ t. b.new.text ≡ written (Makes t (ty_of e.now) ∷ into e.now (around c.old) b.old.labels (t + 1) t) b.old.text) }
+    ensures labels { OnOk result (b.new.labels ≡ b.old.labels + labels e.now) }
+    ensures locals { OnOk result (length b.new.text.locals ≡ length b.old.text.locals + 1 + locals e.now) }
+    ensures limit { IfErr result (λ stop. stop ≡ Blocks → 4096 < b.old.labels + labels e.now) }
+    ensures most { OnOk result (b.old.labels ≤ 4096 → b.new.labels ≤ 4096) }
+    ensures around { OnOk result (around c.new ≡ around c.old) }
+{
+    let t = b.make(alloc, type_of(e))?;
+    lower_into(alloc, b, c, e, t)?;
+    Ok(t)
+}
+
+/// Writes the value to local `d`.
+#[cycle(lower)]
+#[tactic(auto, using(crate::proofs::Runs::running))]
+pub(crate) fn lower_into(
+    alloc: Global,
+    b: &mut Builder,
+    c: &mut Around,
+    e: &TypedExpr,
+    d: u32,
+) -> Result<(), Stop>
+    ensures text { OnOk result (b.new.text ≡ written (into e.now (around c.old) b.old.labels (length b.old.text.locals) d) b.old.text) }
+    ensures labels { OnOk result (b.new.labels ≡ b.old.labels + labels e.now) }
+    ensures locals { OnOk result (length b.new.text.locals ≡ length b.old.text.locals + locals e.now) }
+    ensures limit { IfErr result (λ stop. stop ≡ Blocks → 4096 < b.old.labels + labels e.now) }
+    ensures most { OnOk result (b.old.labels ≤ 4096 → b.new.labels ≤ 4096) }
+    ensures around { OnOk result (around c.new ≡ around c.old) }
+{
+    let span = e.span;
+    match &e.node {
+        TypedNode::Int(z, k) => Ok(b.put_constant(alloc, span, d, Lit::Int(*z, *k))?),
+        TypedNode::Truth(v) => Ok(b.put_constant(alloc, span, d, Lit::Bool(*v))?),
+        TypedNode::Variable(v) => {
+            let x = local_of(c.scope.as_slice(), *v);
+            Ok(b.put(alloc, span, d, Rvalue::Use(copied(alloc, x)))?)
+        }
+        TypedNode::Neg(x) => {
+            let t = lower_new(alloc, b, c, x)?;
+            Ok(b.put(alloc, span, d, Rvalue::Neg(copied(alloc, t)))?)
+        }
+        TypedNode::Not(x) => {
+            let t = lower_new(alloc, b, c, x)?;
+            Ok(b.put(alloc, span, d, Rvalue::Not(copied(alloc, t)))?)
+        }
+        TypedNode::Binary(op, x, y) => {
+            let t = lower_new(alloc, b, c, x)?;
+            let u = lower_new(alloc, b, c, y)?;
+            let value = Rvalue::Binary(*op, copied(alloc, t), copied(alloc, u));
+            Ok(b.put(alloc, span, d, value)?)
+        }
+        TypedNode::Lazy(op, x, y) => lower_lazy(alloc, b, c, span, *op, x, y, d),
+        TypedNode::Assign(v, x) => lower_assign(alloc, b, c, span, *v, x, d),
+        TypedNode::AssignValue(to, x) => lower_assign_value(alloc, b, c, span, to, x, d),
+        TypedNode::Update(op, v, x) => lower_update(alloc, b, c, span, *op, *v, x, d),
+        TypedNode::UpdateValue(op, to, x) => lower_update_value(alloc, b, c, span, *op, to, x, d),
+        TypedNode::Call(f, es) => lower_call(alloc, b, c, span, *f, es, d),
+        TypedNode::Block(ss) => lower_rest(alloc, b, c, false, span, ss, None, d),
+        TypedNode::BlockWith(ss, last) => lower_rest(alloc, b, c, false, span, ss, Some(last), d),
+        TypedNode::If(x, y) => lower_branch(alloc, b, c, span, x, y, d),
+        TypedNode::IfElse(x, y, z) => lower_choice(alloc, b, c, span, x, y, z, d),
+        TypedNode::While(is, x, y) => lower_repeat(alloc, b, c, span, is, x, y, d),
+    }
+}
+
+/// `v = value`: the right side first.
+#[cycle(lower)]
+#[tactic(auto, using(crate::proofs::Runs::running))]
+fn lower_assign(
+    alloc: Global,
+    b: &mut Builder,
+    c: &mut Around,
+    span: Span,
+    v: u32,
+    x: &TypedExpr,
+    d: u32,
+) -> Result<(), Stop>
+    ensures text { OnOk result (b.new.text ≡ written (into (assign unit span v x.now) (around c.old) b.old.labels (length b.old.text.locals) d) b.old.text) }
+    ensures labels { OnOk result (b.new.labels ≡ b.old.labels + labels (assign unit span v x.now)) }
+    ensures locals { OnOk result (length b.new.text.locals ≡ length b.old.text.locals + locals (assign unit span v x.now)) }
+    ensures limit { IfErr result (λ stop. stop ≡ Blocks → 4096 < b.old.labels + labels (assign unit span v x.now)) }
+    ensures most { OnOk result (b.old.labels ≤ 4096 → b.new.labels ≤ 4096) }
+    ensures around { OnOk result (around c.new ≡ around c.old) }
+{
+    let t = lower_new(alloc, b, c, x)?;
+    let to = local_of(c.scope.as_slice(), v);
+    b.put(alloc, span, to, Rvalue::Use(moved(alloc, t)))?;
+    Ok(b.put_unit(alloc, span, d)?)
+}
+
+/// An assignment to a value that is no variable's.
+#[cycle(lower)]
+#[tactic(auto, using(crate::proofs::Runs::running))]
+fn lower_assign_value(
+    alloc: Global,
+    b: &mut Builder,
+    c: &mut Around,
+    span: Span,
+    to: &TypedExpr,
+    x: &TypedExpr,
+    d: u32,
+) -> Result<(), Stop>
+    ensures text { OnOk result (b.new.text ≡ written (into (assign_value unit span to.now x.now) (around c.old) b.old.labels (length b.old.text.locals) d) b.old.text) }
+    ensures labels { OnOk result (b.new.labels ≡ b.old.labels + labels (assign_value unit span to.now x.now)) }
+    ensures locals { OnOk result (length b.new.text.locals ≡ length b.old.text.locals + locals (assign_value unit span to.now x.now)) }
+    ensures limit { IfErr result (λ stop. stop ≡ Blocks → 4096 < b.old.labels + labels (assign_value unit span to.now x.now)) }
+    ensures most { OnOk result (b.old.labels ≤ 4096 → b.new.labels ≤ 4096) }
+    ensures around { OnOk result (around c.new ≡ around c.old) }
+{
+    let t = lower_new(alloc, b, c, x)?;
+    let u = lower_new(alloc, b, c, to)?;
+    b.put(alloc, span, u, Rvalue::Use(moved(alloc, t)))?;
+    Ok(b.put_unit(alloc, span, d)?)
+}
+
+/// `v op= value`: the value first.
+#[cycle(lower)]
+#[tactic(auto, using(crate::proofs::Runs::running))]
+fn lower_update(
+    alloc: Global,
+    b: &mut Builder,
+    c: &mut Around,
+    span: Span,
+    op: BinaryOp,
+    v: u32,
+    x: &TypedExpr,
+    d: u32,
+) -> Result<(), Stop>
+    ensures text { OnOk result (b.new.text ≡ written (into (update unit span op v x.now) (around c.old) b.old.labels (length b.old.text.locals) d) b.old.text) }
+    ensures labels { OnOk result (b.new.labels ≡ b.old.labels + labels (update unit span op v x.now)) }
+    ensures locals { OnOk result (length b.new.text.locals ≡ length b.old.text.locals + locals (update unit span op v x.now)) }
+    ensures limit { IfErr result (λ stop. stop ≡ Blocks → 4096 < b.old.labels + labels (update unit span op v x.now)) }
+    ensures most { OnOk result (b.old.labels ≤ 4096 → b.new.labels ≤ 4096) }
+    ensures around { OnOk result (around c.new ≡ around c.old) }
+{
+    let t = lower_new(alloc, b, c, x)?;
+    let to = local_of(c.scope.as_slice(), v);
+    put_update(alloc, b, span, op, to, type_of(x), t, d)
+}
+
+/// The same of a value that is no variable's.
+#[cycle(lower)]
+#[tactic(auto, using(crate::proofs::Runs::running))]
+fn lower_update_value(
+    alloc: Global,
+    b: &mut Builder,
+    c: &mut Around,
+    span: Span,
+    op: BinaryOp,
+    to: &TypedExpr,
+    x: &TypedExpr,
+    d: u32,
+) -> Result<(), Stop>
+    ensures text { OnOk result (b.new.text ≡ written (into (update_value unit span op to.now x.now) (around c.old) b.old.labels (length b.old.text.locals) d) b.old.text) }
+    ensures labels { OnOk result (b.new.labels ≡ b.old.labels + labels (update_value unit span op to.now x.now)) }
+    ensures locals { OnOk result (length b.new.text.locals ≡ length b.old.text.locals + locals (update_value unit span op to.now x.now)) }
+    ensures limit { IfErr result (λ stop. stop ≡ Blocks → 4096 < b.old.labels + labels (update_value unit span op to.now x.now)) }
+    ensures most { OnOk result (b.old.labels ≤ 4096 → b.new.labels ≤ 4096) }
+    ensures around { OnOk result (around c.new ≡ around c.old) }
+{
+    let t = lower_new(alloc, b, c, x)?;
+    let p = lower_new(alloc, b, c, to)?;
+    put_update(alloc, b, span, op, p, type_of(x), t, d)
+}
+
+/// `to op= value`: the value is in local `t`, and `d` gets the unit.
+#[tactic(auto, using(crate::proofs::Runs::running))]
+fn put_update(
+    alloc: Global,
+    b: &mut Builder,
+    span: Span,
+    op: BinaryOp,
+    to: u32,
+    ty: &Ty,
+    t: u32,
+    d: u32,
+) -> Result<(), Stop>
+    ensures text { OnOk result (b.new.text ≡ written (let u = length b.old.text.locals in Makes u ty.now ∷ puts span u (Binary op (copied to) (copied t)) ∷ puts span to (Use (moved u)) ∷ put_unit span d ∷ []) b.old.text) }
+    ensures labels { OnOk result (b.new.labels ≡ b.old.labels) }
+    ensures locals { OnOk result (length b.new.text.locals ≡ length b.old.text.locals + 1) }
+    ensures limit { IfErr result (λ stop. stop ≡ Blocks → ⊥) }
+{
+    let u = b.make(alloc, ty)?;
+    let value = Rvalue::Binary(op, copied(alloc, to), copied(alloc, t));
+    b.put(alloc, span, u, value)?;
+    b.put(alloc, span, to, Rvalue::Use(moved(alloc, u)))?;
+    b.put_unit(alloc, span, d)?;
+    Ok(())
+}
+
+#[cycle(lower)]
+#[tactic(auto, using(crate::proofs::Runs::running))]
+fn lower_lazy(
+    alloc: Global,
+    b: &mut Builder,
+    c: &mut Around,
+    span: Span,
+    op: LazyOp,
+    x: &TypedExpr,
+    y: &TypedExpr,
+    d: u32,
+) -> Result<(), Stop>
+    ensures text { OnOk result (b.new.text ≡ written (into (lazy unit span op x.now y.now) (around c.old) b.old.labels (length b.old.text.locals) d) b.old.text) }
+    ensures labels { OnOk result (b.new.labels ≡ b.old.labels + labels (lazy unit span op x.now y.now)) }
+    ensures locals { OnOk result (length b.new.text.locals ≡ length b.old.text.locals + locals (lazy unit span op x.now y.now)) }
+    ensures limit { IfErr result (λ stop. stop ≡ Blocks → 4096 < b.old.labels + labels (lazy unit span op x.now y.now)) }
+    ensures most { OnOk result (b.old.labels ≤ 4096 → b.new.labels ≤ 4096) }
+    ensures around { OnOk result (around c.new ≡ around c.old) }
+{
+    let t = lower_new(alloc, b, c, x)?;
+    let yes = b.take_labels(3)?;
+    let no = yes + 1;
+    let after = yes + 2;
+    let test = TerminatorKind::If(copied(alloc, t), Label(yes), Label(no));
+    b.turn(alloc, c, span, test, yes)?;
+    match op {
+        LazyOp::And => {
+            lower_into(alloc, b, c, y, d)?;
+            b.go(alloc, c, span, after, no)?;
+            b.put_constant(alloc, span, d, Lit::Bool(false))?;
+            b.go(alloc, c, span, after, after)?;
+            Ok(())
+        }
+        LazyOp::Or => {
+            b.put_constant(alloc, span, d, Lit::Bool(true))?;
+            b.go(alloc, c, span, after, no)?;
+            lower_into(alloc, b, c, y, d)?;
+            b.go(alloc, c, span, after, after)?;
+            Ok(())
+        }
+    }
+}
+
+#[cycle(lower)]
+#[tactic(auto, using(crate::proofs::Runs::running))]
+fn lower_branch(
+    alloc: Global,
+    b: &mut Builder,
+    c: &mut Around,
+    span: Span,
+    x: &TypedExpr,
+    y: &TypedExpr,
+    d: u32,
+) -> Result<(), Stop>
+    ensures text { OnOk result (b.new.text ≡ written (into (branch unit span x.now y.now) (around c.old) b.old.labels (length b.old.text.locals) d) b.old.text) }
+    ensures labels { OnOk result (b.new.labels ≡ b.old.labels + labels (branch unit span x.now y.now)) }
+    ensures locals { OnOk result (length b.new.text.locals ≡ length b.old.text.locals + locals (branch unit span x.now y.now)) }
+    ensures limit { IfErr result (λ stop. stop ≡ Blocks → 4096 < b.old.labels + labels (branch unit span x.now y.now)) }
+    ensures most { OnOk result (b.old.labels ≤ 4096 → b.new.labels ≤ 4096) }
+    ensures around { OnOk result (around c.new ≡ around c.old) }
+{
+    let t = lower_new(alloc, b, c, x)?;
+    let yes = b.take_labels(3)?;
+    let no = yes + 1;
+    let after = yes + 2;
+    let test = TerminatorKind::If(copied(alloc, t), Label(yes), Label(no));
+    b.turn(alloc, c, span, test, yes)?;
+    lower_into(alloc, b, c, y, d)?;
+    b.go(alloc, c, span, after, no)?;
+    b.put_unit(alloc, span, d)?;
+    b.go(alloc, c, span, after, after)?;
+    Ok(())
+}
+
+#[cycle(lower)]
+#[tactic(auto, using(crate::proofs::Runs::running))]
+fn lower_choice(
+    alloc: Global,
+    b: &mut Builder,
+    c: &mut Around,
+    span: Span,
+    x: &TypedExpr,
+    y: &TypedExpr,
+    z: &TypedExpr,
+    d: u32,
+) -> Result<(), Stop>
+    ensures text { OnOk result (b.new.text ≡ written (into (choice unit span x.now y.now z.now) (around c.old) b.old.labels (length b.old.text.locals) d) b.old.text) }
+    ensures labels { OnOk result (b.new.labels ≡ b.old.labels + labels (choice unit span x.now y.now z.now)) }
+    ensures locals { OnOk result (length b.new.text.locals ≡ length b.old.text.locals + locals (choice unit span x.now y.now z.now)) }
+    ensures limit { IfErr result (λ stop. stop ≡ Blocks → 4096 < b.old.labels + labels (choice unit span x.now y.now z.now)) }
+    ensures most { OnOk result (b.old.labels ≤ 4096 → b.new.labels ≤ 4096) }
+    ensures around { OnOk result (around c.new ≡ around c.old) }
+{
+    let t = lower_new(alloc, b, c, x)?;
+    let yes = b.take_labels(3)?;
+    let no = yes + 1;
+    let after = yes + 2;
+    let test = TerminatorKind::If(copied(alloc, t), Label(yes), Label(no));
+    b.turn(alloc, c, span, test, yes)?;
+    lower_into(alloc, b, c, y, d)?;
+    b.go(alloc, c, span, after, no)?;
+    lower_into(alloc, b, c, z, d)?;
+    b.go(alloc, c, span, after, after)?;
+    Ok(())
+}
+
+/// Opens the head of a loop, and goes into the loop.
+fn enter_loop(
+    alloc: Global,
+    b: &mut Builder,
+    c: &mut Around,
+    span: Span,
+    invariants: &[Assertion],
+    head: u32,
+) -> Result<(), NoMemory>
+    ensures text { OnOk result (b.new.text ≡ written (Turns (ends span (Goto (label head))) (at_head (looping (around c.old) (label head)) (label head) (head_of (around c.old) invariants.now)) ∷ []) b.old.text) }
+    ensures locals { OnOk result (length b.new.text.locals ≡ length b.old.text.locals) }
+    ensures labels { b.new.labels ≡ b.old.labels }
+    ensures around { OnOk result (around c.new ≡ looping (around c.old) (label head)) }
+{
+    let at_head = head_of(alloc, c, invariants)?;
+    c.loops.push(Label(head))?;
+    let nest = nest(alloc, c)?;
+    let kind = TerminatorKind::Goto(Label(head));
+    let end = Terminator { span, kind };
+    b.text.turn(alloc, end, Label(head), nest, Some(at_head))
+}
+
+/// Goes back to the head, leaves the loop, which is the innermost one, and writes the unit to local `d`. The locals from
+/// the first on are the loop's own.
+#[tactic(auto, using(crate::proofs::Runs::running))]
+fn leave_loop(
+    alloc: Global,
+    b: &mut Builder,
+    c: &mut Around,
+    span: Span,
+    head: u32,
+    after: u32,
+    first: u32,
+    d: u32,
+) -> Result<(), NoMemory>
+    ensures text { OnOk result (b.new.text ≡ written (Turns (ends span (Goto (label head))) (at (outside (around c.old)) (label after)) ∷ Owns (label head) (between first (length b.old.text.locals)) ∷ put_unit span d ∷ []) b.old.text) }
+    ensures locals { OnOk result (length b.new.text.locals ≡ length b.old.text.locals) }
+    ensures labels { b.new.labels ≡ b.old.labels }
+    ensures around { around c.new ≡ outside (around c.old) }
+{
+    c.loops.pop();
+    b.go(alloc, c, span, head, after)?;
+    b.own(alloc, head, first)?;
+    b.put_unit(alloc, span, d)
+}
+
+/// The condition and the body of a loop. Answers the first local of the loop's own.
+#[cycle(lower)]
+#[tactic(auto, using(crate::proofs::Runs::running))]
+fn lower_loop(
+    alloc: Global,
+    b: &mut Builder,
+    c: &mut Around,
+    span: Span,
+    head: u32,
+    x: &TypedExpr,
+    y: &TypedExpr,
+) -> Result<u32, Stop>
+    requires { head + 2 < 2 ^ 32 }
+    ensures first { IfOk result (λ t. t ≡ length b.old.text.locals) }
+    ensures text { OnOk result (b.new.text ≡ written (loop_text x.now y.now span (around c.old) head b.old.labels (length b.old.text.locals)) b.old.text) }
+    ensures labels { OnOk result (b.new.labels ≡ b.old.labels + labels x.now + labels y.now) }
+    ensures locals { OnOk result (length b.new.text.locals ≡ length b.old.text.locals + 1 + locals x.now + 1 + locals y.now) }
+    ensures limit { IfErr result (λ stop. stop ≡ Blocks → 4096 < b.old.labels + labels x.now + labels y.now) }
+    ensures most { OnOk result (b.old.labels ≤ 4096 → b.new.labels ≤ 4096) }
+    ensures around { OnOk result (around c.new ≡ around c.old) }
+{
+    let t = lower_new(alloc, b, c, x)?;
+    let test = TerminatorKind::If(copied(alloc, t), Label(head + 1), Label(head + 2));
+    b.turn(alloc, c, span, test, head + 1)?;
+    lower_new(alloc, b, c, y)?;
+    Ok(t)
+}
+
+#[cycle(lower)]
+#[tactic(auto, using(crate::proofs::Runs::running))]
+fn lower_repeat(
+    alloc: Global,
+    b: &mut Builder,
+    c: &mut Around,
+    span: Span,
+    invariants: &[Assertion],
+    x: &TypedExpr,
+    y: &TypedExpr,
+    d: u32,
+) -> Result<(), Stop>
+    ensures text { OnOk result (b.new.text ≡ written (into (repeat unit span invariants.now x.now y.now) (around c.old) b.old.labels (length b.old.text.locals) d) b.old.text) }
+    ensures labels { OnOk result (b.new.labels ≡ b.old.labels + labels (repeat unit span invariants.now x.now y.now)) }
+    ensures locals { OnOk result (length b.new.text.locals ≡ length b.old.text.locals + locals (repeat unit span invariants.now x.now y.now)) }
+    ensures limit { IfErr result (λ stop. stop ≡ Blocks → 4096 < b.old.labels + labels (repeat unit span invariants.now x.now y.now)) }
+    ensures most { OnOk result (b.old.labels ≤ 4096 → b.new.labels ≤ 4096) }
+    ensures around { OnOk result (around c.new ≡ around c.old) }
+{
+    let head = b.take_labels(3)?;
+    enter_loop(alloc, b, c, span, invariants, head)?;
+    let t = lower_loop(alloc, b, c, span, head, x, y)?;
+    leave_loop(alloc, b, c, span, head, head + 2, t, d)?;
+    Ok(())
+}
+
+#[cycle(lower)]
+#[tactic(auto, using(crate::proofs::Runs::running))]
+fn lower_call(
+    alloc: Global,
+    b: &mut Builder,
+    c: &mut Around,
+    span: Span,
+    f: u32,
+    es: &[TypedExpr],
+    d: u32,
+) -> Result<(), Stop>
+    ensures text { OnOk result (b.new.text ≡ written (into (call unit span f (exprs_of es.now)) (around c.old) b.old.labels (length b.old.text.locals) d) b.old.text) }
+    ensures labels { OnOk result (b.new.labels ≡ b.old.labels + labels (call unit span f (exprs_of es.now))) }
+    ensures locals { OnOk result (length b.new.text.locals ≡ length b.old.text.locals + locals (call unit span f (exprs_of es.now))) }
+    ensures limit { IfErr result (λ stop. stop ≡ Blocks → 4096 < b.old.labels + labels (call unit span f (exprs_of es.now))) }
+    ensures most { OnOk result (b.old.labels ≤ 4096 → b.new.labels ≤ 4096) }
+    ensures around { OnOk result (around c.new ≡ around c.old) }
+{
+    let operands = lower_args(alloc, b, c, es)?;
+    let after = b.take_labels(1)?;
+    let function = Callee::Function(FnId::Body(f));
+    let call = TerminatorKind::Call(whole(alloc, d), function, operands, Label(after));
+    b.turn(alloc, c, span, call, after)?;
+    Ok(())
+}
+
+/// The values of the arguments, each in a local of its own.
+#[cycle(lower)]
+#[tactic(auto, using(crate::proofs::Runs::running))]
+fn lower_args(
+    alloc: Global,
+    b: &mut Builder,
+    c: &mut Around,
+    es: &[TypedExpr],
+) -> Result<Items<Operand>, Stop>
+    ensures text { OnOk result (b.new.text ≡ written (args (exprs_of es.now) (around c.old) b.old.labels (length b.old.text.locals)) b.old.text) }
+    ensures labels { OnOk result (b.new.labels ≡ b.old.labels + labels_in (exprs_of es.now)) }
+    ensures locals { OnOk result (length b.new.text.locals ≡ length b.old.text.locals + locals_in (exprs_of es.now)) }
+    ensures limit { IfErr result (λ stop. stop ≡ Blocks → 4096 < b.old.labels + labels_in (exprs_of es.now)) }
+    ensures most { OnOk result (b.old.labels ≤ 4096 → b.new.labels ≤ 4096) }
+    ensures around { OnOk result (around c.new ≡ around c.old) }
+    ensures operands { IfOk result (λ v. v ≡ map copied (temporaries (exprs_of es.now) (length b.old.text.locals))) }
+{
+    let mut all = Items::new(alloc);
+    for e in es {
+        let t = lower_new(alloc, b, c, e)?;
+        all.push(copied(alloc, t))?;
+    }
+    Ok(all)
+}
+
+/// The statements of a block and its last expression. Bindings end with the block, but for the outermost block of a body.
+#[cycle(lower)]
+#[tactic(auto, using(crate::proofs::Runs::running))]
+pub(crate) fn lower_rest(
+    alloc: Global,
+    b: &mut Builder,
+    c: &mut Around,
+    outer: bool,
+    span: Span,
+    statements: &[TypedStmt],
+    last: Option<&TypedExpr>,
+    d: u32,
+) -> Result<(), Stop>
+    ensures text { OnOk result (b.new.text ≡ written (rest (stmts_of statements.now (end_of (option_copied last.entry))) outer span (around c.old) b.old.labels (length b.old.text.locals) d) b.old.text) }
+    ensures labels { OnOk result (b.new.labels ≡ b.old.labels + labels_of (stmts_of statements.now (end_of (option_copied last.entry)))) }
+    ensures locals { OnOk result (length b.new.text.locals ≡ length b.old.text.locals + locals_of (stmts_of statements.now (end_of (option_copied last.entry)))) }
+    ensures limit { IfErr result (λ stop. stop ≡ Blocks → 4096 < b.old.labels + labels_of (stmts_of statements.now (end_of (option_copied last.entry)))) }
+    ensures most { OnOk result (b.old.labels ≤ 4096 → b.new.labels ≤ 4096) }
+    ensures around { OnOk result (around c.new ≡ around c.old) }
+{
+    let Some((first, others)) = statements.split_first() else {
+        return match last {
+            None => Ok(b.put_unit(alloc, span, d)?),
+            Some(value) => lower_into(alloc, b, c, value, d),
+        };
+    };
+    let t = lower_new(alloc, b, c, &first.value)?;
+    if !first.binds {
+        return lower_rest(alloc, b, c, outer, span, others, last, d);
+    }
+    c.scope.push(t)?;
+    lower_rest(alloc, b, c, outer, span, others, last, d)?;
+    c.scope.pop();
+    if !outer {
+        b.kill(span, t)?;
+    }
+    Ok(())
+}

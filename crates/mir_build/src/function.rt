@@ -1,0 +1,172 @@
+//! Lowering of functions.
+ghost use Rattle.std.specs.Prelude.{◌≡◌, ℕ, ◌+◌, ◌≤◌, ◌<◌, ◌^◌, ◌∷◌, [], List, length, map, OnOk, IfOk, IfErr};
+ghost use Rattle.text_core.specs.Names.{text_of};
+ghost use Rattle.type_check.specs.WellTyped.{FunctionFits};
+ghost use Rattle.type_check.specs.declared.program.Signature.{Signature};
+ghost use Rattle.mir_build.specs.Lowering.{counted, local_name, LowersTo};
+ghost use Rattle.mir_build.specs.Numbered.{body_text, labels};
+ghost use Rattle.mir_build.specs.Built.{written, around};
+ghost use Rattle.mir_build.specs.Whole.{built, body_of, FailsFor};
+ghost use Rattle.mir_build.specs.declared.stop.Stop.TheVariants.{Blocks};
+
+use crate::around::{Around, local_name};
+use crate::builder::{BodyText, Builder, MOST_BLOCKS};
+use crate::expression::{lower_into, lower_rest, value_span};
+use crate::stop::Stop;
+use logic_term::{Label, Ty};
+use mir_ir::{Body, Initialised, Terminator, TerminatorKind};
+use rs_syntax::PassError;
+use std::alloc::Global;
+use text_core::{Items, Limit, LimitKind, Name, Names, NoMemory, Text};
+use type_check::{Signature, TypedExpr, TypedFunction, TypedNode};
+
+/// The locals that the parameters are. Want of memory is answered too where a number would pass 32 bits.
+fn parameter_locals(alloc: Global, params: &[Ty]) -> Result<Vec<u32>, NoMemory>
+    ensures { IfOk result (λ v. v.items ≡ counted 1 params.now) }
+{
+    let mut all = Vec::new(alloc);
+    let mut local: u32 = 1;
+    for _ty in params {
+        all.push(local)?;
+        local = local.checked_add(1).ok_or(NoMemory)?;
+    }
+    Ok(all)
+}
+
+/// The names of so many locals. Want of memory is answered too where a number would pass 32 bits.
+fn local_names(alloc: Global, locals: &[Ty]) -> Result<Items<Name>, NoMemory>
+    ensures named { IfOk result (λ v. v ≡ map local_name (counted 0 locals.now)) }
+    ensures few { OnOk result (length locals.now < 2 ^ 32) }
+{
+    let mut all = Items::new(alloc);
+    let mut local: u32 = 0;
+    for _ty in locals {
+        all.push(local_name(local))?;
+        local = local.checked_add(1).ok_or(NoMemory)?;
+    }
+    Ok(all)
+}
+
+/// The types of the answer and the parameters.
+fn first_locals(alloc: Global, signature: &Signature) -> Result<Items<Ty>, NoMemory>
+    ensures { IfOk result (λ v. v ≡ signature.now.answer ∷ signature.now.params) }
+{
+    let mut all = Items::new(alloc);
+    all.push(signature.answer.copy(alloc)?)?;
+    for ty in signature.params.as_slice() {
+        all.push(ty.copy(alloc)?)?;
+    }
+    Ok(all)
+}
+
+/// Writes the value of a body to local 0. Its outermost block ends no binding.
+fn lower_outermost(
+    alloc: Global,
+    b: &mut Builder,
+    c: &mut Around,
+    e: &TypedExpr,
+) -> Result<(), Stop>
+    ensures text { OnOk result (b.new.text ≡ written (body_text e.now (around c.old) b.old.labels (length b.old.text.locals)) b.old.text) }
+    ensures labels { OnOk result (b.new.labels ≡ b.old.labels + labels e.now) }
+    ensures limit { IfErr result (λ stop. stop ≡ Blocks → 4096 < b.old.labels + labels e.now) }
+    ensures most { OnOk result (b.old.labels ≤ 4096 → b.new.labels ≤ 4096) }
+{
+    match &e.node {
+        TypedNode::Block(ss) => lower_rest(alloc, b, c, true, e.span, ss, None, 0),
+        TypedNode::BlockWith(ss, last) => lower_rest(alloc, b, c, true, e.span, ss, Some(last), 0),
+        _ => lower_into(alloc, b, c, e, 0),
+    }
+}
+
+/// The text of a function's body.
+fn lower_text(alloc: Global, f: &TypedFunction) -> Result<BodyText, Stop>
+    ensures text { IfOk result (λ x. x ≡ built f.now) }
+    ensures few { OnOk result (1 + labels f.now.body ≤ 4096) }
+    ensures limit { IfErr result (λ stop. stop ≡ Blocks → 4096 < 1 + labels f.now.body) }
+{
+    let locals = first_locals(alloc, &f.signature)?;
+    let scope = parameter_locals(alloc, f.signature.params.as_slice())?;
+    let mut c = Around {
+        scope,
+        loops: Vec::new(alloc),
+    };
+    let mut b = Builder {
+        text: BodyText::start(alloc, Label(0), locals),
+        labels: 1,
+    };
+    lower_outermost(alloc, &mut b, &mut c, &f.body)?;
+    let Builder { text, labels: _ } = b;
+    Ok(text)
+}
+
+/// The body of what is built, and what may be gone in it. Want of memory is answered too where a number would pass 32 bits.
+fn finish(
+    alloc: Global,
+    owner: Text,
+    f: &TypedFunction,
+    text: BodyText,
+) -> Result<(Body, Initialised), NoMemory>
+    ensures body { IfOk result (λ r. r.0 ≡ body_of owner f.now text) }
+    ensures gone { IfOk result (λ r. r.1 ≡ record { gone = text.gone }) }
+    ensures few { OnOk result (length text.locals < 2 ^ 32) }
+{
+    let BodyText {
+        mut blocks,
+        open_block,
+        locals,
+        gone,
+    } = text;
+    let end = Terminator {
+        span: value_span(&f.body),
+        kind: TerminatorKind::Return,
+    };
+    blocks.push(open_block.close(end))?;
+    let Ok(params) = u32::try_from(f.signature.params.len()) else {
+        return Err(NoMemory);
+    };
+    let names = local_names(alloc, locals.as_slice())?;
+    let body = Body {
+        owner,
+        params,
+        locals,
+        names,
+        entry: Label(0),
+        blocks,
+        span: f.span,
+    };
+    Ok((body, Initialised { gone }))
+}
+
+fn refused(stop: Stop) -> PassError
+    ensures { FailsFor (stop ≡ Blocks) result }
+{
+    match stop {
+        Stop::NoMemory => PassError::NoMemory,
+        Stop::Blocks => PassError::Limit(Limit {
+            kind: LimitKind::Blocks,
+            counted: MOST_BLOCKS as u64 + 1,
+            bound: MOST_BLOCKS as u64,
+        }),
+    }
+}
+
+/// The body of a function, and what may be gone in it. Want of memory is answered too where the function's name has no text.
+pub(crate) fn lower_function(
+    alloc: Global,
+    names: &Names,
+    f: &TypedFunction,
+) -> Result<(Body, Initialised), PassError>
+    ensures named { IfOk result (λ r. text_of names.now f.now.name ≡ Some r.0.owner) }
+    ensures lowered { IfOk result (λ r. (σ : List Signature) → FunctionFits σ f.now → LowersTo r.0.owner f.now r.0 r.1) }
+    ensures few { IfOk result (λ r. length r.0.blocks ≤ 4096) }
+    ensures limit { IfErr result (FailsFor (4096 < 1 + labels f.now.body)) }
+{
+    let Some(owner) = names.text(f.name) else {
+        return Err(PassError::NoMemory);
+    };
+    let owner = Text::from_bytes(alloc, owner.as_bytes())?;
+    match lower_text(alloc, f) {
+        Err(stop) => Err(refused(stop)),
+        Ok(text) => Ok(finish(alloc, owner, f, text)?),
+    }
+}

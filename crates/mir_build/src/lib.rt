@@ -1,0 +1,21 @@
+//! Lowering: typed functions become bodies of basic blocks.
+#![tactic(auto)]
+
+mod around;
+mod builder;
+mod contract;
+mod expression;
+mod function;
+mod laws;
+mod lowered;
+mod program;
+mod stop;
+#[cfg(test)]
+mod tests;
+
+pub use laws::{
+    lowered_bodies_are_laid_out, lowered_bodies_are_sound, lowered_contracts_speak_of_parameters,
+    lowered_heads_speak_of_what_is_there,
+};
+pub use lowered::Lowered;
+pub use program::lower;

@@ -1,0 +1,43 @@
+//! Lowering of programs.
+ghost use Rattle.std.specs.Prelude.{IfOk, IfErr};
+ghost use Rattle.type_check.specs.WellTyped.{ProgramFits};
+ghost use Rattle.mir_build.specs.Lowering.{IsLowered, HasMoreBlocks};
+ghost use Rattle.mir_build.specs.Whole.{HaveFewBlocks, FailsFor};
+
+use crate::contract::contract_of;
+use crate::function::lower_function;
+use crate::lowered::Lowered;
+use mir_ir::Bodies;
+use rs_syntax::PassError;
+use std::alloc::Global;
+use text_core::{Items, Names};
+use type_check::TypedProgram;
+
+/// One body for each function, in order, with its contract and what may be gone in it. A program whose names or types do
+/// not fit has some answer too, of which only the number of blocks is promised.
+///
+/// # Errors
+///
+/// `Limit` where the body of a function would have more than 4,096 blocks. `NoMemory` where memory is refused, where a
+/// number of a local or of a parameter would pass 32 bits, and where a function's name has no text in the table. The source
+/// is never refused.
+pub fn lower(alloc: Global, program: &TypedProgram, names: &Names) -> Result<Lowered, PassError>
+    ensures lowered { ProgramFits program.now → IfOk result (λ l. IsLowered names.now program.now l) }
+    ensures few { IfOk result (λ l. HaveFewBlocks l.bodies.bodies) }
+    ensures limit { IfErr result (FailsFor (ProgramFits program.now → HasMoreBlocks program.now 4096)) }
+{
+    let mut bodies = Items::new(alloc);
+    let mut contracts = Items::new(alloc);
+    let mut gone = Items::new(alloc);
+    for f in program.functions.as_slice() {
+        let (body, own) = lower_function(alloc, names, f)?;
+        bodies.push(body)?;
+        contracts.push(contract_of(alloc, f)?)?;
+        gone.push(own)?;
+    }
+    Ok(Lowered {
+        bodies: Bodies { bodies },
+        contracts,
+        gone,
+    })
+}

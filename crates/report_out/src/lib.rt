@@ -1,0 +1,13 @@
+//! What is printed: the report of a verdict, and the lines that say why there is none.
+#![tactic(auto)]
+
+mod line;
+mod printing;
+mod refusal;
+#[cfg(test)]
+mod tests;
+mod verdict;
+
+pub use printing::report;
+pub use refusal::{limit_error, proof_error, source_error, words_error};
+pub use verdict::{FnLine, LeftItem, Reason, Verdict};

@@ -1,0 +1,107 @@
+use crate::printing::report;
+use crate::refusal::{limit_error, proof_error, source_error, words_error};
+use crate::verdict::{FnLine, LeftItem, Reason, Verdict};
+use std::alloc::Global;
+use std::test::Fail;
+use text_core::{Code, Items, Kind, Limit, LimitKind, NoMemory, SourceError, Span, Text};
+
+const SOURCE: &[u8] = b"#[ensures(result@ == x@ + 1)]\nfn inc(x: i32) -> i32 { x + 1 }\n";
+
+/// A verdict on one function of two obligations.
+fn verdict(
+    alloc: Global,
+    verified: bool,
+    left: Items<LeftItem>,
+    proved: u32,
+) -> Result<Verdict, NoMemory> {
+    let name = Text::from_bytes(alloc, b"inc")?;
+    let mut functions = Items::new(alloc);
+    functions.push(FnLine { name, verified })?;
+    Ok(Verdict {
+        functions,
+        left,
+        obligations: 2,
+        proved,
+    })
+}
+
+/// A verdict on `SOURCE` with its sum left for this reason.
+fn left_for(alloc: Global, reason: Reason) -> Result<Verdict, NoMemory> {
+    let item = LeftItem {
+        number: 1,
+        kind: Kind::Overflow,
+        span: Span { start: 56, end: 57 },
+        reason,
+        owner: Text::from_bytes(alloc, b"inc")?,
+    };
+    let mut left = Items::new(alloc);
+    left.push(item)?;
+    verdict(alloc, false, left, 1)
+}
+
+#[test]
+fn reports_a_verified_function(rt: HostRuntime) -> Result<(), Fail> {
+    let alloc = rt.alloc();
+    let all_proved = verdict(alloc, true, Items::new(alloc), 2)?;
+    let bytes = report(alloc, &all_proved, SOURCE)?;
+    assert_eq!(rt;
+        bytes.as_slice(),
+        b"verified inc\nsummary functions 1 verified 1 obligations 2 proved 2\n".as_slice()
+    );
+    Ok(())
+}
+
+#[test]
+fn reports_a_missing_proof(rt: HostRuntime) -> Result<(), Fail> {
+    let alloc = rt.alloc();
+    let bytes = report(alloc, &left_for(alloc, Reason::Missing)?, SOURCE)?;
+    assert_eq!(rt;
+        bytes.as_slice(),
+        b"open 1 overflow 56..57 line 2 missing inc\nsummary functions 1 verified 0 obligations 2 proved 1\n".as_slice()
+    );
+    Ok(())
+}
+
+#[test]
+fn reports_a_refused_proof(rt: HostRuntime) -> Result<(), Fail> {
+    let alloc = rt.alloc();
+    let bytes = report(alloc, &left_for(alloc, Reason::Proof(6))?, SOURCE)?;
+    assert_eq!(rt;
+        bytes.as_slice(),
+        b"open 1 overflow 56..57 line 2 proof:6 inc\nsummary functions 1 verified 0 obligations 2 proved 1\n".as_slice()
+    );
+    Ok(())
+}
+
+#[test]
+fn refusals_have_lines(rt: HostRuntime) -> Result<(), Fail> {
+    let alloc = rt.alloc();
+    let error = SourceError {
+        code: Code::E17,
+        span: Span { start: 8, end: 11 },
+        other: Some(Span { start: 2, end: 3 }),
+    };
+    let source = source_error(alloc, error, b"fn main(x, x) {}\n")?;
+    assert_eq!(rt;
+        source.as_slice(),
+        b"error E17 8..11 2..3 line 1\n".as_slice()
+    );
+    let proof = proof_error(alloc, 6)?;
+    assert_eq!(rt; proof.as_slice(), b"error proof 6\n".as_slice());
+    let words = words_error(alloc)?;
+    assert_eq!(rt; words.as_slice(), b"error words\n".as_slice());
+    Ok(())
+}
+
+#[test]
+fn limits_have_lines(rt: HostRuntime) -> Result<(), Fail> {
+    let alloc = rt.alloc();
+    let limit = Limit {
+        kind: LimitKind::Paths,
+        counted: 1025,
+        bound: 1024,
+    };
+    let line = limit_error(alloc, limit)?;
+    assert_eq!(rt; line.as_slice(), b"limit paths 1025 1024\n".as_slice());
+    Ok(())
+}

@@ -1,0 +1,17 @@
+pub mod Answer
+pub mod Begins
+pub mod Choices
+pub mod Expr
+pub mod ExprCode
+pub mod ExprFalls
+pub mod ExprView
+pub mod Make
+pub mod Parsed
+pub mod Pterm
+pub mod PtermCode
+pub mod PtermFalls
+pub mod PtermView
+pub mod Rules
+pub mod Sources
+pub mod Values
+pub mod Words

@@ -1,0 +1,410 @@
+-- The rules: what each reads, what goes on with its value, and which limits it counts for.
+use Rattle.std.specs.Prelude.{ℕ, zero, suc, Bool, true, false, List, [], ◌∷◌}
+use Rattle.std.proofs.Common.{Option, Some, None}
+use Rattle.token_grammar.specs.Grammar.{Symbol as GrammarSymbol, terminal, nonterminal}
+use Rattle.rs_syntax.specs.declared.word.WordKind.{WordKind}
+use Rattle.rs_syntax.specs.declared.word.WordKind.TheVariants as K
+use Rattle.rs_syntax.specs.declared.grammar.Mode.{Mode}
+use Rattle.rs_syntax.specs.declared.grammar.Mode.TheVariants.{Any, Start}
+use Rattle.rs_syntax.specs.declared.grammar.Nonterminal.{Nonterminal}
+use Rattle.rs_syntax.specs.declared.grammar.Nonterminal.TheVariants as N
+use Rattle.rs_syntax.specs.declared.grammar.Rule.{Rule}
+use Rattle.rs_syntax.specs.declared.grammar.Rule.TheVariants as R
+use Rattle.rs_syntax.specs.declared.grammar.Symbol.{Symbol}
+use Rattle.rs_syntax.specs.declared.grammar.Symbol.TheVariants.{Word, Of}
+
+-- whether the nonterminal may end where the next word begins no rule of it
+abbrev pub may_end : Nonterminal → Bool
+may_end N.Source = true
+may_end N.Params = true
+may_end N.ParamsNext = true
+may_end N.Answer = true
+may_end N.Statements = true
+may_end N.Mutability = true
+may_end N.LetType = true
+may_end N.Semi = true
+may_end N.AfterExpr = true
+may_end N.Else = true
+may_end N.Assigned = true
+may_end N.OrRest = true
+may_end N.AndRest = true
+may_end N.Compared = true
+may_end N.SumRest = true
+may_end N.ProductRest = true
+may_end N.CallArguments = true
+may_end N.Arguments = true
+may_end N.ArgumentsNext = true
+may_end N.Implied = true
+may_end N.TermOrRest = true
+may_end N.TermAndRest = true
+may_end N.TermCompared = true
+may_end N.TermSumRest = true
+may_end N.TermProductRest = true
+may_end N.ViewRest = true
+may_end _ = false
+
+-- the nonterminal whose rule it is
+abbrev pub left_of : Rule → Nonterminal
+left_of R.OneFunction = N.Source
+left_of R.ClauseOfFunction = N.Function
+left_of R.FunctionItem = N.Function
+left_of R.ClauseMark = N.Clause
+left_of R.ClauseInBrackets = N.ClauseBrackets
+left_of R.RequiresClause = N.ClauseBody
+left_of R.EnsuresClause = N.ClauseBody
+left_of R.TermParens = N.TermInParens
+left_of R.ParamsInParens = N.ParamList
+left_of R.MutableParam = N.Params
+left_of R.PlainParam = N.Params
+left_of R.ParamComma = N.ParamsNext
+left_of R.AnswerType = N.Answer
+left_of R.TypeI8 = N.Type
+left_of R.TypeI16 = N.Type
+left_of R.TypeI32 = N.Type
+left_of R.TypeI64 = N.Type
+left_of R.TypeIsize = N.Type
+left_of R.TypeU8 = N.Type
+left_of R.TypeU16 = N.Type
+left_of R.TypeU32 = N.Type
+left_of R.TypeU64 = N.Type
+left_of R.TypeUsize = N.Type
+left_of R.TypeBool = N.Type
+left_of R.NameIdent = N.Name
+left_of R.NameRequires = N.Name
+left_of R.NameEnsures = N.Name
+left_of R.NameInvariant = N.Name
+left_of R.NameI8 = N.Name
+left_of R.NameI16 = N.Name
+left_of R.NameI32 = N.Name
+left_of R.NameI64 = N.Name
+left_of R.NameIsize = N.Name
+left_of R.NameU8 = N.Name
+left_of R.NameU16 = N.Name
+left_of R.NameU32 = N.Name
+left_of R.NameU64 = N.Name
+left_of R.NameUsize = N.Name
+left_of R.NameBool = N.Name
+left_of R.StatementsInBraces = N.Block
+left_of R.LetStatement = N.Statements
+left_of R.BlocklikeStatement = N.Statements
+left_of R.ExprStatement = N.Statements
+left_of R.MutMark = N.Mutability
+left_of R.LetTyped = N.LetType
+left_of R.LetEquals = N.LetValue
+left_of R.EmptyStatement = N.Semi
+left_of R.SemiAfterExpr = N.AfterExpr
+left_of R.BlocklikeBlock = N.Blocklike
+left_of R.BlocklikeIf = N.Blocklike
+left_of R.BlocklikeWhile = N.Blocklike
+left_of R.WholeIf = N.If
+left_of R.IfCondition = N.IfHead
+left_of R.ElseBranch = N.Else
+left_of R.ElseBlock = N.ElseBody
+left_of R.ElseIf = N.ElseBody
+left_of R.InvariantOfWhile = N.While
+left_of R.WholeWhile = N.While
+left_of R.InvariantMark = N.Invariant
+left_of R.InvariantInBrackets = N.InvariantBrackets
+left_of R.WhileCondition = N.WhileHead
+left_of (R.FirstOr m) = N.Expr m
+left_of R.AssignValue = N.Assigned
+left_of R.AddAssign = N.Assigned
+left_of R.SubAssign = N.Assigned
+left_of R.MulAssign = N.Assigned
+left_of R.DivAssign = N.Assigned
+left_of R.RemAssign = N.Assigned
+left_of (R.FirstAnd m) = N.Or m
+left_of R.OrOperand = N.OrRest
+left_of (R.FirstComparison m) = N.And m
+left_of R.AndOperand = N.AndRest
+left_of (R.FirstSum m) = N.Comparison m
+left_of R.EqualTo = N.Compared
+left_of R.UnequalTo = N.Compared
+left_of R.LessThan = N.Compared
+left_of R.AtMost = N.Compared
+left_of R.GreaterThan = N.Compared
+left_of R.AtLeast = N.Compared
+left_of (R.FirstProduct m) = N.Sum m
+left_of R.PlusProduct = N.SumRest
+left_of R.MinusProduct = N.SumRest
+left_of (R.FirstUnary m) = N.Product m
+left_of R.TimesUnary = N.ProductRest
+left_of R.DividedByUnary = N.ProductRest
+left_of R.RemainderByUnary = N.ProductRest
+left_of (R.Negated m) = N.Unary m
+left_of (R.Denied m) = N.Unary m
+left_of (R.Operand m) = N.Unary m
+left_of (R.IntOperand m) = N.Primary m
+left_of (R.TrueOperand m) = N.Primary m
+left_of (R.FalseOperand m) = N.Primary m
+left_of (R.NamedOperand m) = N.Primary m
+left_of (R.ParenOperand m) = N.Primary m
+left_of R.BlocklikeOperand = N.Primary Any
+left_of R.ArgumentsInParens = N.CallArguments
+left_of R.OneArgument = N.Arguments
+left_of R.ArgumentComma = N.ArgumentsNext
+left_of R.FirstTermOr = N.Term
+left_of R.Implication = N.Implied
+left_of R.FirstTermAnd = N.TermOr
+left_of R.OrTerm = N.TermOrRest
+left_of R.FirstTermComparison = N.TermAnd
+left_of R.AndTerm = N.TermAndRest
+left_of R.FirstTermSum = N.TermComparison
+left_of R.TermEqualTo = N.TermCompared
+left_of R.TermUnequalTo = N.TermCompared
+left_of R.TermLessThan = N.TermCompared
+left_of R.TermAtMost = N.TermCompared
+left_of R.TermGreaterThan = N.TermCompared
+left_of R.TermAtLeast = N.TermCompared
+left_of R.FirstTermProduct = N.TermSum
+left_of R.PlusTerm = N.TermSumRest
+left_of R.MinusTerm = N.TermSumRest
+left_of R.FirstTermUnary = N.TermProduct
+left_of R.TimesTerm = N.TermProductRest
+left_of R.DividedByTerm = N.TermProductRest
+left_of R.RemainderByTerm = N.TermProductRest
+left_of R.NegatedTerm = N.TermUnary
+left_of R.DeniedTerm = N.TermUnary
+left_of R.TermOperand = N.TermUnary
+left_of R.FirstTermPrimary = N.TermView
+left_of R.ViewMark = N.ViewRest
+left_of R.IntTerm = N.TermPrimary
+left_of R.TrueTerm = N.TermPrimary
+left_of R.FalseTerm = N.TermPrimary
+left_of R.NamedTerm = N.TermPrimary
+left_of R.TermInsideParens = N.TermPrimary
+
+-- what the rule reads, in order
+abbrev pub parts_of : Rule → List (GrammarSymbol WordKind Nonterminal)
+parts_of R.OneFunction = nonterminal N.Function ∷ []
+parts_of R.ClauseOfFunction = nonterminal N.Clause ∷ []
+parts_of R.FunctionItem = terminal K.Fn ∷ nonterminal N.Name ∷ nonterminal N.ParamList ∷ nonterminal N.Answer ∷ nonterminal N.Block ∷ []
+parts_of R.ClauseMark = terminal K.Pound ∷ nonterminal N.ClauseBrackets ∷ []
+parts_of R.ClauseInBrackets = terminal K.OpenBracket ∷ nonterminal N.ClauseBody ∷ terminal K.CloseBracket ∷ []
+parts_of R.RequiresClause = terminal K.Requires ∷ nonterminal N.TermInParens ∷ []
+parts_of R.EnsuresClause = terminal K.Ensures ∷ nonterminal N.TermInParens ∷ []
+parts_of R.TermParens = terminal K.OpenParen ∷ nonterminal N.Term ∷ terminal K.CloseParen ∷ []
+parts_of R.ParamsInParens = terminal K.OpenParen ∷ nonterminal N.Params ∷ terminal K.CloseParen ∷ []
+parts_of R.MutableParam = terminal K.Mut ∷ nonterminal N.Name ∷ terminal K.Colon ∷ nonterminal N.Type ∷ []
+parts_of R.PlainParam = nonterminal N.Name ∷ terminal K.Colon ∷ nonterminal N.Type ∷ []
+parts_of R.ParamComma = terminal K.Comma ∷ []
+parts_of R.AnswerType = terminal K.Arrow ∷ nonterminal N.Type ∷ []
+parts_of R.TypeI8 = terminal K.I8 ∷ []
+parts_of R.TypeI16 = terminal K.I16 ∷ []
+parts_of R.TypeI32 = terminal K.I32 ∷ []
+parts_of R.TypeI64 = terminal K.I64 ∷ []
+parts_of R.TypeIsize = terminal K.Isize ∷ []
+parts_of R.TypeU8 = terminal K.U8 ∷ []
+parts_of R.TypeU16 = terminal K.U16 ∷ []
+parts_of R.TypeU32 = terminal K.U32 ∷ []
+parts_of R.TypeU64 = terminal K.U64 ∷ []
+parts_of R.TypeUsize = terminal K.Usize ∷ []
+parts_of R.TypeBool = terminal K.Bool ∷ []
+parts_of R.NameIdent = terminal K.Ident ∷ []
+parts_of R.NameRequires = terminal K.Requires ∷ []
+parts_of R.NameEnsures = terminal K.Ensures ∷ []
+parts_of R.NameInvariant = terminal K.Invariant ∷ []
+parts_of R.NameI8 = terminal K.I8 ∷ []
+parts_of R.NameI16 = terminal K.I16 ∷ []
+parts_of R.NameI32 = terminal K.I32 ∷ []
+parts_of R.NameI64 = terminal K.I64 ∷ []
+parts_of R.NameIsize = terminal K.Isize ∷ []
+parts_of R.NameU8 = terminal K.U8 ∷ []
+parts_of R.NameU16 = terminal K.U16 ∷ []
+parts_of R.NameU32 = terminal K.U32 ∷ []
+parts_of R.NameU64 = terminal K.U64 ∷ []
+parts_of R.NameUsize = terminal K.Usize ∷ []
+parts_of R.NameBool = terminal K.Bool ∷ []
+parts_of R.StatementsInBraces = terminal K.OpenBrace ∷ nonterminal N.Statements ∷ terminal K.CloseBrace ∷ []
+parts_of R.LetStatement = terminal K.Let ∷ nonterminal N.Mutability ∷ nonterminal N.Name ∷ nonterminal N.LetType ∷ nonterminal N.LetValue ∷ terminal K.Semicolon ∷ []
+parts_of R.BlocklikeStatement = nonterminal N.Blocklike ∷ nonterminal N.Semi ∷ []
+parts_of R.ExprStatement = nonterminal (N.Expr Start) ∷ []
+parts_of R.MutMark = terminal K.Mut ∷ []
+parts_of R.LetTyped = terminal K.Colon ∷ nonterminal N.Type ∷ []
+parts_of R.LetEquals = terminal K.Equal ∷ nonterminal (N.Expr Any) ∷ []
+parts_of R.EmptyStatement = terminal K.Semicolon ∷ []
+parts_of R.SemiAfterExpr = terminal K.Semicolon ∷ []
+parts_of R.BlocklikeBlock = nonterminal N.Block ∷ []
+parts_of R.BlocklikeIf = nonterminal N.If ∷ []
+parts_of R.BlocklikeWhile = nonterminal N.While ∷ []
+parts_of R.WholeIf = nonterminal N.IfHead ∷ nonterminal N.Block ∷ nonterminal N.Else ∷ []
+parts_of R.IfCondition = terminal K.If ∷ nonterminal (N.Expr Any) ∷ []
+parts_of R.ElseBranch = terminal K.Else ∷ nonterminal N.ElseBody ∷ []
+parts_of R.ElseBlock = nonterminal N.Block ∷ []
+parts_of R.ElseIf = nonterminal N.If ∷ []
+parts_of R.InvariantOfWhile = nonterminal N.Invariant ∷ []
+parts_of R.WholeWhile = nonterminal N.WhileHead ∷ nonterminal N.Block ∷ []
+parts_of R.InvariantMark = terminal K.Pound ∷ nonterminal N.InvariantBrackets ∷ []
+parts_of R.InvariantInBrackets = terminal K.OpenBracket ∷ terminal K.Invariant ∷ nonterminal N.TermInParens ∷ terminal K.CloseBracket ∷ []
+parts_of R.WhileCondition = terminal K.While ∷ nonterminal (N.Expr Any) ∷ []
+parts_of (R.FirstOr m) = nonterminal (N.Or m) ∷ []
+parts_of R.AssignValue = terminal K.Equal ∷ nonterminal (N.Expr Any) ∷ []
+parts_of R.AddAssign = terminal K.PlusEqual ∷ nonterminal (N.Expr Any) ∷ []
+parts_of R.SubAssign = terminal K.MinusEqual ∷ nonterminal (N.Expr Any) ∷ []
+parts_of R.MulAssign = terminal K.StarEqual ∷ nonterminal (N.Expr Any) ∷ []
+parts_of R.DivAssign = terminal K.SlashEqual ∷ nonterminal (N.Expr Any) ∷ []
+parts_of R.RemAssign = terminal K.PercentEqual ∷ nonterminal (N.Expr Any) ∷ []
+parts_of (R.FirstAnd m) = nonterminal (N.And m) ∷ []
+parts_of R.OrOperand = terminal K.OrOr ∷ nonterminal (N.And Any) ∷ []
+parts_of (R.FirstComparison m) = nonterminal (N.Comparison m) ∷ []
+parts_of R.AndOperand = terminal K.AndAnd ∷ nonterminal (N.Comparison Any) ∷ []
+parts_of (R.FirstSum m) = nonterminal (N.Sum m) ∷ []
+parts_of R.EqualTo = terminal K.EqualEqual ∷ nonterminal (N.Sum Any) ∷ []
+parts_of R.UnequalTo = terminal K.NotEqual ∷ nonterminal (N.Sum Any) ∷ []
+parts_of R.LessThan = terminal K.Less ∷ nonterminal (N.Sum Any) ∷ []
+parts_of R.AtMost = terminal K.AtMost ∷ nonterminal (N.Sum Any) ∷ []
+parts_of R.GreaterThan = terminal K.Greater ∷ nonterminal (N.Sum Any) ∷ []
+parts_of R.AtLeast = terminal K.AtLeast ∷ nonterminal (N.Sum Any) ∷ []
+parts_of (R.FirstProduct m) = nonterminal (N.Product m) ∷ []
+parts_of R.PlusProduct = terminal K.Plus ∷ nonterminal (N.Product Any) ∷ []
+parts_of R.MinusProduct = terminal K.Minus ∷ nonterminal (N.Product Any) ∷ []
+parts_of (R.FirstUnary m) = nonterminal (N.Unary m) ∷ []
+parts_of R.TimesUnary = terminal K.Star ∷ nonterminal (N.Unary Any) ∷ []
+parts_of R.DividedByUnary = terminal K.Slash ∷ nonterminal (N.Unary Any) ∷ []
+parts_of R.RemainderByUnary = terminal K.Percent ∷ nonterminal (N.Unary Any) ∷ []
+parts_of (R.Negated m) = terminal K.Minus ∷ nonterminal (N.Unary Any) ∷ []
+parts_of (R.Denied m) = terminal K.Not ∷ nonterminal (N.Unary Any) ∷ []
+parts_of (R.Operand m) = nonterminal (N.Primary m) ∷ []
+parts_of (R.IntOperand m) = terminal K.Int ∷ []
+parts_of (R.TrueOperand m) = terminal K.True ∷ []
+parts_of (R.FalseOperand m) = terminal K.False ∷ []
+parts_of (R.NamedOperand m) = nonterminal N.Name ∷ nonterminal N.CallArguments ∷ []
+parts_of (R.ParenOperand m) = terminal K.OpenParen ∷ nonterminal (N.Expr Any) ∷ terminal K.CloseParen ∷ []
+parts_of R.BlocklikeOperand = nonterminal N.Blocklike ∷ []
+parts_of R.ArgumentsInParens = terminal K.OpenParen ∷ nonterminal N.Arguments ∷ terminal K.CloseParen ∷ []
+parts_of R.OneArgument = nonterminal (N.Expr Any) ∷ []
+parts_of R.ArgumentComma = terminal K.Comma ∷ []
+parts_of R.FirstTermOr = nonterminal N.TermOr ∷ []
+parts_of R.Implication = terminal K.Implies ∷ nonterminal N.Term ∷ []
+parts_of R.FirstTermAnd = nonterminal N.TermAnd ∷ []
+parts_of R.OrTerm = terminal K.OrOr ∷ nonterminal N.TermAnd ∷ []
+parts_of R.FirstTermComparison = nonterminal N.TermComparison ∷ []
+parts_of R.AndTerm = terminal K.AndAnd ∷ nonterminal N.TermComparison ∷ []
+parts_of R.FirstTermSum = nonterminal N.TermSum ∷ []
+parts_of R.TermEqualTo = terminal K.EqualEqual ∷ nonterminal N.TermSum ∷ []
+parts_of R.TermUnequalTo = terminal K.NotEqual ∷ nonterminal N.TermSum ∷ []
+parts_of R.TermLessThan = terminal K.Less ∷ nonterminal N.TermSum ∷ []
+parts_of R.TermAtMost = terminal K.AtMost ∷ nonterminal N.TermSum ∷ []
+parts_of R.TermGreaterThan = terminal K.Greater ∷ nonterminal N.TermSum ∷ []
+parts_of R.TermAtLeast = terminal K.AtLeast ∷ nonterminal N.TermSum ∷ []
+parts_of R.FirstTermProduct = nonterminal N.TermProduct ∷ []
+parts_of R.PlusTerm = terminal K.Plus ∷ nonterminal N.TermProduct ∷ []
+parts_of R.MinusTerm = terminal K.Minus ∷ nonterminal N.TermProduct ∷ []
+parts_of R.FirstTermUnary = nonterminal N.TermUnary ∷ []
+parts_of R.TimesTerm = terminal K.Star ∷ nonterminal N.TermUnary ∷ []
+parts_of R.DividedByTerm = terminal K.Slash ∷ nonterminal N.TermUnary ∷ []
+parts_of R.RemainderByTerm = terminal K.Percent ∷ nonterminal N.TermUnary ∷ []
+parts_of R.NegatedTerm = terminal K.Minus ∷ nonterminal N.TermUnary ∷ []
+parts_of R.DeniedTerm = terminal K.Not ∷ nonterminal N.TermUnary ∷ []
+parts_of R.TermOperand = nonterminal N.TermView ∷ []
+parts_of R.FirstTermPrimary = nonterminal N.TermPrimary ∷ []
+parts_of R.ViewMark = terminal K.At ∷ []
+parts_of R.IntTerm = terminal K.Int ∷ []
+parts_of R.TrueTerm = terminal K.True ∷ []
+parts_of R.FalseTerm = terminal K.False ∷ []
+parts_of R.NamedTerm = nonterminal N.Name ∷ []
+parts_of R.TermInsideParens = nonterminal N.TermInParens ∷ []
+
+-- the nonterminal that goes on with the value, if one does
+abbrev pub tail_of : Rule → Option Nonterminal
+tail_of R.OneFunction = Some N.Source
+tail_of R.ClauseOfFunction = Some N.Function
+tail_of R.MutableParam = Some N.ParamsNext
+tail_of R.PlainParam = Some N.ParamsNext
+tail_of R.ParamComma = Some N.Params
+tail_of R.LetStatement = Some N.Statements
+tail_of R.BlocklikeStatement = Some N.Statements
+tail_of R.ExprStatement = Some N.AfterExpr
+tail_of R.SemiAfterExpr = Some N.Statements
+tail_of R.InvariantOfWhile = Some N.While
+tail_of (R.FirstOr m) = Some N.Assigned
+tail_of (R.FirstAnd m) = Some N.OrRest
+tail_of R.OrOperand = Some N.OrRest
+tail_of (R.FirstComparison m) = Some N.AndRest
+tail_of R.AndOperand = Some N.AndRest
+tail_of (R.FirstSum m) = Some N.Compared
+tail_of (R.FirstProduct m) = Some N.SumRest
+tail_of R.PlusProduct = Some N.SumRest
+tail_of R.MinusProduct = Some N.SumRest
+tail_of (R.FirstUnary m) = Some N.ProductRest
+tail_of R.TimesUnary = Some N.ProductRest
+tail_of R.DividedByUnary = Some N.ProductRest
+tail_of R.RemainderByUnary = Some N.ProductRest
+tail_of R.OneArgument = Some N.ArgumentsNext
+tail_of R.ArgumentComma = Some N.Arguments
+tail_of R.FirstTermOr = Some N.Implied
+tail_of R.FirstTermAnd = Some N.TermOrRest
+tail_of R.OrTerm = Some N.TermOrRest
+tail_of R.FirstTermComparison = Some N.TermAndRest
+tail_of R.AndTerm = Some N.TermAndRest
+tail_of R.FirstTermSum = Some N.TermCompared
+tail_of R.FirstTermProduct = Some N.TermSumRest
+tail_of R.PlusTerm = Some N.TermSumRest
+tail_of R.MinusTerm = Some N.TermSumRest
+tail_of R.FirstTermUnary = Some N.TermProductRest
+tail_of R.TimesTerm = Some N.TermProductRest
+tail_of R.DividedByTerm = Some N.TermProductRest
+tail_of R.RemainderByTerm = Some N.TermProductRest
+tail_of R.FirstTermPrimary = Some N.ViewRest
+tail_of R.ViewMark = Some N.ViewRest
+tail_of _ = None
+
+-- the parts of the rule stand a level deeper
+abbrev pub opens_level : Rule → Bool
+opens_level R.ClauseInBrackets = true
+opens_level R.TermParens = true
+opens_level R.ParamsInParens = true
+opens_level R.StatementsInBraces = true
+opens_level R.LetEquals = true
+opens_level R.IfCondition = true
+opens_level R.ElseBranch = true
+opens_level R.InvariantInBrackets = true
+opens_level R.WhileCondition = true
+opens_level R.AssignValue = true
+opens_level R.AddAssign = true
+opens_level R.SubAssign = true
+opens_level R.MulAssign = true
+opens_level R.DivAssign = true
+opens_level R.RemAssign = true
+opens_level (R.Negated m) = true
+opens_level (R.Denied m) = true
+opens_level (R.ParenOperand m) = true
+opens_level R.ArgumentsInParens = true
+opens_level R.Implication = true
+opens_level R.NegatedTerm = true
+opens_level R.DeniedTerm = true
+opens_level _ = false
+
+-- the rule is one more operator of its chain
+abbrev pub goes_on : Rule → Bool
+goes_on R.OrOperand = true
+goes_on R.AndOperand = true
+goes_on R.PlusProduct = true
+goes_on R.MinusProduct = true
+goes_on R.TimesUnary = true
+goes_on R.DividedByUnary = true
+goes_on R.RemainderByUnary = true
+goes_on R.OrTerm = true
+goes_on R.AndTerm = true
+goes_on R.PlusTerm = true
+goes_on R.MinusTerm = true
+goes_on R.TimesTerm = true
+goes_on R.DividedByTerm = true
+goes_on R.RemainderByTerm = true
+goes_on R.ViewMark = true
+goes_on _ = false
+
+-- a symbol of the code
+abbrev pub symbol : Option (GrammarSymbol WordKind Nonterminal) → Option Symbol
+symbol None = None
+symbol (Some (terminal k)) = Some (Word k)
+symbol (Some (nonterminal n)) = Some (Of n)
+
+abbrev pub at : List (GrammarSymbol WordKind Nonterminal) → ℕ → Option (GrammarSymbol WordKind Nonterminal)
+at [] i = None
+at (s ∷ ss) zero = Some s
+at (s ∷ ss) (suc i) = at ss i
+
+-- the symbol of a number in the rule, from 0
+abbrev pub part_of : Rule → ℕ → Option Symbol
+part_of r i = symbol (at (parts_of r) i)

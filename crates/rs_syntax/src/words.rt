@@ -1,0 +1,299 @@
+//! The words of a source.
+ghost use Rattle.std.specs.Prelude.{◌≡◌, ℕ, ◌+◌, ◌*◌, ◌≤◌, ◌<◌, ◌^◌, ◌==◌, ◌||◌, pos, not, ◌++◌, ◌∷◌, [], ◌⊎◌, List, Some, None, length, map, filter, IfOk, IfErr};
+ghost use Rattle.std.specs.Char.{digit_value};
+ghost use Rattle.std.specs.List.{prefix_len};
+ghost use Rattle.std.specs.Str.{IsUtf8};
+ghost use Rattle.std.specs.Str.Parse.{digits_value};
+ghost use Rattle.text_core.specs.Names.{text_of};
+ghost use Rattle.text_core.specs.declared.name.Name.{Name};
+ghost use Rattle.rs_tokens.specs.declared.token.TokenKind.TheVariants as T;
+ghost use Rattle.rs_tokens.specs.Tokens.{continues_digits, base_named, base_of, integer_value, largest_integer};
+ghost use Rattle.rs_syntax.specs.declared.word.Word.{Word};
+ghost use Rattle.rs_syntax.specs.Words.{found_in, row_of, kind_by, value_by, suffix_of, suffix_by, text_in, HasName, IsLexeme, IsWordOf, AreWords, IsWordError, Keeps, NamesOnlyNew};
+
+use crate::fault::PassError;
+use crate::word::{Word, WordKind};
+use logic_term::IntKind;
+use rs_tokens::{Lexer, Token, TokenKind};
+use std::alloc::Global;
+use text_core::{Items, Name, Names, NoMemory};
+
+/// The quoted words and the type words.
+const QUOTED: [(&str, WordKind); 14] = [
+    ("requires", WordKind::Requires),
+    ("ensures", WordKind::Ensures),
+    ("invariant", WordKind::Invariant),
+    ("i8", WordKind::I8),
+    ("i16", WordKind::I16),
+    ("i32", WordKind::I32),
+    ("i64", WordKind::I64),
+    ("isize", WordKind::Isize),
+    ("u8", WordKind::U8),
+    ("u16", WordKind::U16),
+    ("u32", WordKind::U32),
+    ("u64", WordKind::U64),
+    ("usize", WordKind::Usize),
+    ("bool", WordKind::Bool),
+];
+
+/// The types at the end of integers.
+const INT_KINDS: [(&str, IntKind); 10] = [
+    ("i8", IntKind::I8),
+    ("i16", IntKind::I16),
+    ("i32", IntKind::I32),
+    ("i64", IntKind::I64),
+    ("isize", IntKind::Isize),
+    ("u8", IntKind::U8),
+    ("u16", IntKind::U16),
+    ("u32", IntKind::U32),
+    ("u64", IntKind::U64),
+    ("usize", IntKind::Usize),
+];
+
+/// The kind beside the first row with this text.
+fn quoted_in(table: &[(&str, WordKind)], text: &[u8]) -> Option<WordKind>
+    ensures { result ≡ found_in (map row_of table.now) text.now }
+{
+    for (row, kind) in table {
+        if row.as_bytes() == text {
+            return Some(*kind);
+        }
+    }
+    None
+}
+
+/// The type beside the first row with this text.
+fn int_kind_in(table: &[(&str, IntKind)], text: &[u8]) -> Option<IntKind>
+    ensures { result ≡ found_in (map row_of table.now) text.now }
+{
+    for (row, kind) in table {
+        if row.as_bytes() == text {
+            return Some(*kind);
+        }
+    }
+    None
+}
+
+/// The kind of the word that a token of this kind and text is.
+#[tactic(auto, unfolding(crate::specs::Words::quoted))]
+fn kind_by(kind: TokenKind, text: &[u8]) -> WordKind
+    ensures { result ≡ kind_by kind text.now }
+{
+    match kind {
+        TokenKind::Ident => quoted_in(&QUOTED, text).unwrap_or(WordKind::Ident),
+        TokenKind::OpenParen => WordKind::OpenParen,
+        TokenKind::CloseParen => WordKind::CloseParen,
+        TokenKind::OpenBracket => WordKind::OpenBracket,
+        TokenKind::CloseBracket => WordKind::CloseBracket,
+        TokenKind::OpenBrace => WordKind::OpenBrace,
+        TokenKind::CloseBrace => WordKind::CloseBrace,
+        TokenKind::Pound => WordKind::Pound,
+        TokenKind::Comma => WordKind::Comma,
+        TokenKind::Semicolon => WordKind::Semicolon,
+        TokenKind::Colon => WordKind::Colon,
+        TokenKind::Arrow => WordKind::Arrow,
+        TokenKind::Equal => WordKind::Equal,
+        TokenKind::PlusEqual => WordKind::PlusEqual,
+        TokenKind::MinusEqual => WordKind::MinusEqual,
+        TokenKind::StarEqual => WordKind::StarEqual,
+        TokenKind::SlashEqual => WordKind::SlashEqual,
+        TokenKind::PercentEqual => WordKind::PercentEqual,
+        TokenKind::OrOr => WordKind::OrOr,
+        TokenKind::AndAnd => WordKind::AndAnd,
+        TokenKind::EqualEqual => WordKind::EqualEqual,
+        TokenKind::NotEqual => WordKind::NotEqual,
+        TokenKind::Less => WordKind::Less,
+        TokenKind::AtMost => WordKind::AtMost,
+        TokenKind::Greater => WordKind::Greater,
+        TokenKind::AtLeast => WordKind::AtLeast,
+        TokenKind::Plus => WordKind::Plus,
+        TokenKind::Minus => WordKind::Minus,
+        TokenKind::Star => WordKind::Star,
+        TokenKind::Slash => WordKind::Slash,
+        TokenKind::Percent => WordKind::Percent,
+        TokenKind::Not => WordKind::Not,
+        TokenKind::Implies => WordKind::Implies,
+        TokenKind::At => WordKind::At,
+        TokenKind::KwFn => WordKind::Fn,
+        TokenKind::KwLet => WordKind::Let,
+        TokenKind::KwMut => WordKind::Mut,
+        TokenKind::KwIf => WordKind::If,
+        TokenKind::KwElse => WordKind::Else,
+        TokenKind::KwWhile => WordKind::While,
+        TokenKind::KwTrue => WordKind::True,
+        TokenKind::KwFalse => WordKind::False,
+        TokenKind::Int => WordKind::Int,
+        _ => WordKind::Other,
+    }
+}
+
+/// The digit that this byte is, in bases up to 36; 36 where it is none.
+fn digit_value(byte: u8) -> u8
+    ensures { result ≡ digit_value byte }
+{
+    match byte {
+        b'0'..=b'9' => byte - b'0',
+        b'A'..=b'Z' => byte - b'A' + 10,
+        b'a'..=b'z' => byte - b'a' + 10,
+        _ => 36,
+    }
+}
+
+fn continues_digits(base: u8, byte: u8) -> bool
+    ensures { result ≡ continues_digits base byte }
+{
+    digit_value(byte) < base || byte == b'_'
+}
+
+fn base_named(byte: u8) -> u8
+    ensures { result ≡ base_named byte }
+{
+    match byte {
+        b'x' => 16,
+        b'o' => 8,
+        b'b' => 2,
+        _ => 10,
+    }
+}
+
+/// The base of this integer.
+fn base_of(text: &[u8]) -> u8
+    ensures value { result ≡ base_of text.now }
+    ensures some { 0 < result }
+{
+    match text {
+        [b'0', name, ..] => base_named(*name),
+        _ => 10,
+    }
+}
+
+/// How many digits and `_` stand at the front.
+fn digits_len(base: u8, text: &[u8]) -> usize
+    ensures count { result ≡ prefix_len (continues_digits base) text.now }
+    ensures within { result ≤ length text.now }
+{
+    text.iter()
+        .take_while(|byte| continues_digits(base, **byte))
+        .count()
+}
+
+/// The number that the digits stand for; `_` among them stands for nothing.
+fn digits_value(base: u8, digits: &[u8]) -> u128
+    requires base { 0 < base }
+    requires fits { digits_value base (filter (λ b. not (b == 95)) digits.now) ≤ largest_integer }
+    ensures { result ≡ digits_value base (filter (λ b. not (b == 95)) digits.now) }
+{
+    let mut value: u128 = 0;
+    for byte in digits {
+        if *byte != b'_' {
+            value = value * u128::from(base) + u128::from(digit_value(*byte));
+        }
+    }
+    value
+}
+
+/// The number that this integer stands for, and the type at its end.
+#[tactic(auto, unfolding(crate::specs::Words::int_kinds))]
+fn integer(text: &[u8]) -> (i128, Option<IntKind>)
+    requires { integer_value text.now ≤ largest_integer }
+    ensures value { result.0 ≡ pos (integer_value text.now) }
+    ensures suffix { result.1 ≡ suffix_of text.now }
+{
+    let base = base_of(text);
+    let named = if base == 10 { 0 } else { text.len().min(2) };
+    let body = &text[named..];
+    let digits = digits_len(base, body);
+    let value = digits_value(base, &body[..digits]);
+    (value as i128, int_kind_in(&INT_KINDS, &body[digits..]))
+}
+
+/// The name of this text.
+fn name_of(alloc: Global, text: &[u8], names: &mut Names) -> Result<Name, NoMemory>
+    requires text { IsUtf8 text.now }
+    requires room { length names.old < 2 ^ 32 }
+    ensures named { IfOk result (λ name. text_of names.new name ≡ Some text.now) }
+    ensures one { IfOk result (λ name. (other : Name) → text_of names.new other ≡ Some text.now → other ≡ name) }
+    ensures kept { Keeps names.old names.new }
+    ensures grown { (names.new ≡ names.old) ⊎ (names.new ≡ names.old ++ text.now ∷ []) }
+    ensures new { NamesOnlyNew names.old names.new }
+{
+    match std::str::from_utf8(text) {
+        Ok(text) => names.intern(alloc, text),
+        Err(_) => unreachable!(),
+    }
+}
+
+/// The name of an identifier; the name 0 of other tokens.
+fn name_by(alloc: Global, kind: TokenKind, text: &[u8], names: &mut Names) -> Result<Name, NoMemory>
+    requires text { kind ≡ T.Ident → IsUtf8 text.now }
+    requires room { length names.old < 2 ^ 32 }
+    ensures named { IfOk result (λ name. HasName names.new kind text.now name) }
+    ensures one { IfOk result (λ name. (other : Name) → HasName names.new kind text.now other → other ≡ name) }
+    ensures kept { Keeps names.old names.new }
+    ensures few { length names.new ≤ length names.old + 1 }
+    ensures new { NamesOnlyNew names.old names.new }
+{
+    match kind {
+        TokenKind::Ident => name_of(alloc, text, names),
+        _ => Ok(Name(0)),
+    }
+}
+
+/// The number and the type of an integer; 0 and `None` of other tokens.
+fn number_by(kind: TokenKind, text: &[u8]) -> (i128, Option<IntKind>)
+    requires { kind ≡ T.Int → integer_value text.now ≤ largest_integer }
+    ensures value { result.0 ≡ value_by kind text.now }
+    ensures suffix { result.1 ≡ suffix_by kind text.now }
+{
+    match kind {
+        TokenKind::Int => integer(text),
+        _ => (0, None),
+    }
+}
+
+/// The word that the token is.
+fn word_of(alloc: Global, bytes: &[u8], token: Token, names: &mut Names) -> Result<Word, NoMemory>
+    requires lexeme { IsLexeme bytes.now token }
+    requires room { length names.old < 2 ^ 32 }
+    ensures ok { IfOk result (λ word. IsWordOf names.new bytes.now token word) }
+    ensures only { IfOk result (λ word. (other : Word) → IsWordOf names.new bytes.now token other → other ≡ word) }
+    ensures kept { Keeps names.old names.new }
+    ensures few { length names.new ≤ length names.old + 1 }
+    ensures new { NamesOnlyNew names.old names.new }
+{
+    let text = &bytes[token.span.start as usize..token.span.end as usize];
+    let name = name_by(alloc, token.kind, text, names)?;
+    let (value, suffix) = number_by(token.kind, text);
+    Ok(Word {
+        kind: kind_by(token.kind, text),
+        span: token.span,
+        name,
+        value,
+        suffix,
+    })
+}
+
+/// All tokens as words, in order. Names grow only.
+///
+/// Errors: `Source` where the bytes are no text (E01) or a part of them is no token (E02); `NoMemory`.
+pub fn words_of(alloc: Global, bytes: &[u8], names: &mut Names) -> Result<Items<Word>, PassError>
+    requires few { length bytes.now ≤ 2 ^ 20 }
+    requires room { length names.old + 2 ^ 20 < 2 ^ 32 }
+    ensures ok { IfOk result (λ words. AreWords names.new bytes.now words) }
+    ensures only { IfOk result (λ words. (other : List Word) → AreWords names.new bytes.now other → other ≡ words) }
+    ensures refused { IfErr result (λ error. IsWordError bytes.now error) }
+    ensures kept { Keeps names.old names.new }
+{
+    let mut lexer = Lexer::new(bytes);
+    let mut words = Items::new(alloc);
+    loop {
+        match lexer.next() {
+            Err(error) => return Err(PassError::Source(error)),
+            Ok(None) => return Ok(words),
+            Ok(Some(token)) => {
+                let word = word_of(alloc, bytes, token, names)?;
+                words.push(word)?;
+            }
+        }
+    }
+}

@@ -1,0 +1,339 @@
+-- What typing gives fits: each part has the type that its place asks for.
+use Rattle.std.proofs.Common.{◌≡◌, ◌∙◌, ℕ, suc, ◌==◌, Bool, true, false, List, [], ◌∷◌, ◌++◌, length, map, Option, Some, None, Ok, refl, ap, sym, subst, arith}
+use Rattle.std.specs.Prelude.{ℤ, slice_get}
+use Rattle.logic_term.proofs.FreeLaw.{same_test}
+use Rattle.text_core.specs.declared.name.Name.{Name}
+use Rattle.text_core.specs.declared.span.Span.{Span}
+use Rattle.logic_term.specs.declared.kinds.BinaryOp.{BinaryOp}
+use Rattle.logic_term.specs.declared.kinds.IntKind.{IntKind}
+use Rattle.logic_term.specs.Range.{fits}
+use Rattle.logic_term.specs.Ty.{Ty, int, bool}
+use Rattle.rs_syntax.specs.Expr.{Expr, Stmts, Exprs, integer, truth, named, negative, denied, binary, lazy, assign, update, call, block, branch, choice, repeat, done, last, bind, run, blocklike, none, more}
+use Rattle.rs_syntax.specs.ExprView.{span_of}
+use Rattle.rs_syntax.specs.Pterm.{Pterm}
+use Rattle.type_check.specs.declared.heading.Callee.{Callee}
+use Rattle.type_check.specs.declared.heading.Heading.{Heading}
+use Rattle.type_check.specs.declared.operands.Operands.{Operands}
+use Rattle.type_check.specs.declared.operands.Order.{Order}
+use Rattle.type_check.specs.declared.operands.Order.TheVariants as order
+use Rattle.type_check.specs.declared.operands.Target.{Target}
+use Rattle.type_check.specs.declared.operands.Target.TheVariants as target
+use Rattle.type_check.specs.declared.scope.Found.{Found}
+use Rattle.type_check.specs.declared.scope.Variable.{Variable}
+use Rattle.type_check.specs.Answers.{◌>>=◌, mismatch, not_mutable}
+use Rattle.type_check.specs.Functions.{callee}
+use Rattle.type_check.specs.Scope.{found}
+use Rattle.type_check.specs.Terms.{assertion}
+use Rattle.type_check.specs.TypedExpr.{TypedExpr, TypedStmts, TypedExprs}
+use Rattle.type_check.specs.TypedExpr as tree
+use Rattle.type_check.specs.TypedExprView.{ty_of}
+use Rattle.type_check.specs.Types.{same_ty, is_signed_ty}
+use Rattle.type_check.specs.Typing.{Typed, fit, literal_kind, literal_of, literal, variable_of, variable, negated, is_bare, order_without, order_of, operands_of, operands, operation, operated, as_name, target_variable, target_value, target_of, target_ty, if_mutable, assigned, is_updated, update_of, updated, known, how_many, first_of, rest_of, called, block_ty, declared, closed, typed, typed_rest, typed_args}
+use Rattle.type_check.specs.WellTyped.{unit, is_arithmetic, operation_ty, is_signed, IsOf, SpeaksOf, EachSpeaks, IsWellTyped, StatementsFit, ArgumentsFit}
+use Rattle.type_check.proofs.Bound.{bound, held, yes, same_ok}
+use Rattle.type_check.proofs.Lookups.{types, signatures_at, found_type, callee_signature}
+use Rattle.type_check.proofs.SameTypes.{equal_types}
+use Rattle.type_check.proofs.Speaking.{assertion_speaks}
+
+abbrev pub Meets : Option Ty → TypedExpr → Type 0
+Meets None e = Unit {0}
+Meets (Some t) e = ty_of e ≡ t
+
+pub record Sound (σ : List Heading) (Γ : List Variable) (t : Option Ty) (e : TypedExpr) : Type 0 where
+  pub well : IsWellTyped (signatures_at σ) (types Γ) e
+  pub meets : Meets t e
+
+fit_same : (t : Option Ty) (s : Span) (e r : TypedExpr) → fit t s e ≡ Ok r → (e ≡ r) × Meets t e
+unfolding fit
+fit_same None s e r p = (same_ok _ _ p, tt)
+fit_same (Some t) s e r p =
+    let c = held (same_ty (ty_of e) t) (Ok e) (mismatch s) r p in
+    (same_ok _ _ c.1, equal_types (ty_of e) t c.0)
+
+fit_sound : (σ : List Heading) (Γ : List Variable) (t : Option Ty) (s : Span) (e r : TypedExpr) → IsWellTyped (signatures_at σ) (types Γ) e → fit t s e ≡ Ok r → Sound σ Γ t r
+fit_sound σ Γ t s e r w p =
+    let c = fit_same t s e r p in
+    subst (Sound σ Γ t) c.0 (record { well = w; meets = c.1 })
+
+-- ---- literals and names
+
+literal_at : (σ : List Heading) (Γ : List Variable) (t : Option Ty) (s : Span) (z : ℤ) (k : Option IntKind) (r : TypedExpr) → literal_of t s z k ≡ Ok r → Sound σ Γ t r
+literal_at σ Γ t s z None r p = absurd (cc)
+literal_at σ Γ t s z (Some k) r p =
+    let c = held (fits k z) (fit t s (tree.integer (int k) s z k)) (mismatch s) r p in
+    fit_sound σ Γ t s (tree.integer (int k) s z k) r (refl, c.0) c.1
+
+literal_sound : (σ : List Heading) (Γ : List Variable) (t : Option Ty) (s : Span) (z : ℤ) (k : Option IntKind) (r : TypedExpr) → literal t s z k ≡ Ok r → Sound σ Γ t r
+unfolding literal
+literal_sound σ Γ t s z k r p = literal_at σ Γ t s z (literal_kind k t) r p
+
+variable_at : (σ : List Heading) (Γ : List Variable) (t : Option Ty) (s : Span) (o : Option Found) (r : TypedExpr) → ((w : Found) → o ≡ Some w → slice_get (types Γ) w.place ≡ Some w.ty) → variable_of t s o ≡ Ok r → Sound σ Γ t r
+variable_at σ Γ t s None r h p = absurd (cc)
+variable_at σ Γ t s (Some v) r h p = fit_sound σ Γ t s (tree.variable v.ty s v.place) r (h v refl) p
+
+variable_sound : (σ : List Heading) (Γ : List Variable) (t : Option Ty) (s : Span) (x : Name) (r : TypedExpr) → variable Γ t s x ≡ Ok r → Sound σ Γ t r
+unfolding variable
+variable_sound σ Γ t s x r p = variable_at σ Γ t s (found x Γ) r (found_type Γ x) p
+
+-- ---- operators
+
+signed_int : (u : Ty) → is_signed_ty u ≡ true → (k : IntKind) × (is_signed k ≡ true) × (u ≡ int k)
+signed_int (int k) p = (k, p, refl)
+signed_int u p = absurd (cc)
+
+negated_sound : (σ : List Heading) (Γ : List Variable) (t : Option Ty) (s o r : Span) (a e : TypedExpr) → IsWellTyped (signatures_at σ) (types Γ) a → negated t s o r a ≡ Ok e → Sound σ Γ t e
+unfolding negated
+negated_sound σ Γ t s o r a e w p =
+    let c = held (is_signed_ty (ty_of a)) (fit t s (tree.negative (ty_of a) o a)) (mismatch r) e p in
+    let k = signed_int (ty_of a) c.0 in
+    fit_sound σ Γ t s (tree.negative (ty_of a) o a) e (k.0, k.1, k.2, k.2, w) c.1
+
+pub record BothSound (σ : List Heading) (Γ : List Variable) (p : Operands) : Type 0 where
+  pub left : IsWellTyped (signatures_at σ) (types Γ) p.left
+  pub right : IsWellTyped (signatures_at σ) (types Γ) p.right
+  pub same : IsOf (ty_of p.left) p.right
+
+-- where both operands are checked against one type, this is there
+abbrev pub IsDecided : Order → Type 0
+IsDecided (order.Against None) = ⊥
+IsDecided _ = Unit {0}
+
+decided_without : (first second : Bool) → IsDecided (order_without first second)
+decided_without true true = tt
+decided_without true false = tt
+decided_without false second = tt
+
+order_decided : (b : Bool) (t : Option Ty) (first second : Bool) → IsDecided (order_of b t first second)
+order_decided true (Some t) first second = tt
+order_decided true None first second = decided_without first second
+order_decided false t first second = decided_without first second
+
+operation_sound : (σ : List Heading) (Γ : List Variable) (u t : Option Ty) (s o r : Span) (op : BinaryOp) (p : Operands) (e : TypedExpr) → operation_ty op (ty_of p.left) ≡ u → BothSound σ Γ p → operation u t s o r op p ≡ Ok e → Sound σ Γ t e
+operation_sound σ Γ None t s o r op p e q b h = absurd (cc)
+operation_sound σ Γ (Some u) t s o r op p e q b h = fit_sound σ Γ t s (tree.binary u o op p.left p.right) e (q, b.same, b.left, b.right) h
+
+operated_sound : (σ : List Heading) (Γ : List Variable) (t : Option Ty) (s o r : Span) (op : BinaryOp) (p : Operands) (e : TypedExpr) → BothSound σ Γ p → operated t s o r op p ≡ Ok e → Sound σ Γ t e
+unfolding operated
+operated_sound σ Γ t s o r op p e b h = operation_sound σ Γ (operation_ty op (ty_of p.left)) t s o r op p e refl b h
+
+-- ---- assignments
+
+abbrev pub TargetSound : List Heading → List Variable → Target → Type 0
+TargetSound σ Γ (target.Variable v) = slice_get (types Γ) v.place ≡ Some v.ty
+TargetSound σ Γ (target.Value a) = IsWellTyped (signatures_at σ) (types Γ) a
+
+mutable_sound : (σ : List Heading) (Γ : List Variable) (t : Option Ty) (s l : Span) (b : Bool) (e r : TypedExpr) → IsWellTyped (signatures_at σ) (types Γ) e → (fit t s e >>= if_mutable b l) ≡ Ok r → Sound σ Γ t r
+mutable_sound σ Γ t s l b e r w p =
+    let c = bound (fit t s e) (if_mutable b l) r p in
+    let d = held b (Ok c.0) (not_mutable l) r c.2 in
+    fit_sound σ Γ t s e r w (c.1 ∙ d.1)
+
+-- the value has the type of what is assigned to
+variable_takes : (Γ : List Variable) (v : Found) (e : TypedExpr) → slice_get (types Γ) v.place ≡ Some v.ty → ty_of e ≡ v.ty → slice_get (types Γ) v.place ≡ Some (ty_of e)
+variable_takes Γ v e h q = h ∙ ap Some (sym q)
+
+assigned_sound : (σ : List Heading) (Γ : List Variable) (t : Option Ty) (s l : Span) (a : Target) (e r : TypedExpr) → TargetSound σ Γ a → IsWellTyped (signatures_at σ) (types Γ) e → ty_of e ≡ target_ty a → assigned t s l a e ≡ Ok r → Sound σ Γ t r
+unfolding assigned
+assigned_sound σ Γ t s l (target.Variable v) e r h w q p = mutable_sound σ Γ t s l v.mutable (tree.assign unit s v.place e) r (refl, variable_takes Γ v e h q, w) p
+assigned_sound σ Γ t s l (target.Value a) e r h w q p = fit_sound σ Γ t s (tree.assign_value unit s a e) r (refl, q, h, w) p
+
+arithmetic_ty : (op : BinaryOp) (u : Ty) → is_updated op u ≡ true → operation_ty op u ≡ Some u
+arithmetic_ty op (int k) p = let q : is_arithmetic op ≡ true = p in rw q refl
+arithmetic_ty op u p = absurd (cc)
+
+update_sound : (σ : List Heading) (Γ : List Variable) (t : Option Ty) (s o l : Span) (op : BinaryOp) (a : Target) (e r : TypedExpr) → TargetSound σ Γ a → IsWellTyped (signatures_at σ) (types Γ) e → ty_of e ≡ target_ty a → is_updated op (target_ty a) ≡ true → update_of t s o l op a e ≡ Ok r → Sound σ Γ t r
+update_sound σ Γ t s o l op (target.Variable v) e r h w q u p =
+    let g : operation_ty op (ty_of e) ≡ Some (ty_of e) = subst (λ z. operation_ty op z ≡ Some z) (sym q) (arithmetic_ty op v.ty u) in
+    mutable_sound σ Γ t s l v.mutable (tree.update unit o op v.place e) r (refl, variable_takes Γ v e h q, g, w) p
+update_sound σ Γ t s o l op (target.Value a) e r h w q u p =
+    let g : operation_ty op (ty_of e) ≡ Some (ty_of e) = subst (λ z. operation_ty op z ≡ Some z) (sym q) (arithmetic_ty op (ty_of a) u) in
+    fit_sound σ Γ t s (tree.update_value unit o op a e) r (refl, q, g, h, w) p
+
+updated_sound : (σ : List Heading) (Γ : List Variable) (t : Option Ty) (s o l : Span) (op : BinaryOp) (a : Target) (e r : TypedExpr) → TargetSound σ Γ a → IsWellTyped (signatures_at σ) (types Γ) e → ty_of e ≡ target_ty a → updated t s o l op a e ≡ Ok r → Sound σ Γ t r
+unfolding updated
+updated_sound σ Γ t s o l op a e r h w q p =
+    let c = held (is_updated op (target_ty a)) (update_of t s o l op a e) (mismatch l) r p in
+    update_sound σ Γ t s o l op a e r h w q c.0 c.1
+
+-- ---- calls
+
+known_callee : (s : Span) (o : Option Callee) (f : Callee) → known s o ≡ Ok f → o ≡ Some f
+known_callee s None f p = absurd (cc)
+known_callee s (Some g) f p = ap Some (same_ok _ _ p)
+
+abbrev pub AllSound : List Heading → List Variable → TypedExprs → List Ty → Type 0
+AllSound σ Γ es ts = how_many es ≡ length ts → ArgumentsFit (signatures_at σ) (types Γ) es ts
+
+same_number : (m n : ℕ) → (m == n) ≡ true → m ≡ n
+same_number m n p = same_test m n p
+
+called_sound : (σ : List Heading) (Γ : List Variable) (t : Option Ty) (s : Span) (f : Callee) (es : TypedExprs) (r : TypedExpr) → slice_get (signatures_at σ) f.place ≡ Some f.signature → AllSound σ Γ es f.signature.params → called t s f es ≡ Ok r → Sound σ Γ t r
+unfolding called
+called_sound σ Γ t s f es r g h p =
+    let c = held (how_many es == length f.signature.params) (fit t s (tree.call f.signature.answer s f.place es)) (mismatch s) r p in
+    fit_sound σ Γ t s (tree.call f.signature.answer s f.place es) r (f.signature, g, refl, h (same_number (how_many es) (length f.signature.params) c.0)) c.1
+
+no_args : (σ : List Heading) (Γ : List Variable) (ts : List Ty) → AllSound σ Γ tree.none ts
+no_args σ Γ [] = λ h. tt
+no_args σ Γ (t ∷ ts) = λ h. absurd (omega arith)
+
+more_args : (σ : List Heading) (Γ : List Variable) (ts : List Ty) (e : TypedExpr) (es : TypedExprs) → Sound σ Γ (first_of ts) e → AllSound σ Γ es (rest_of ts) → AllSound σ Γ (tree.more e es) ts
+more_args σ Γ [] e es a b = λ h. absurd (omega arith)
+more_args σ Γ (t ∷ ts) e es a b = λ h. (a.meets, a.well, b (omega arith))
+
+-- ---- blocks and loops
+
+closed_sound : (σ : List Heading) (Γ : List Variable) (t : Option Ty) (s : Span) (ss : TypedStmts) (r : TypedExpr) → StatementsFit (signatures_at σ) (types Γ) (block_ty ss) ss → closed t s ss ≡ Ok r → Sound σ Γ t r
+unfolding closed
+closed_sound σ Γ t s ss r h p = fit_sound σ Γ t s (tree.block (block_ty ss) s ss) r h p
+
+types-append : (Γ : List Variable) (v : Variable) → types (Γ ++ v ∷ []) ≡ types Γ ++ v.ty ∷ []
+types-append [] v = refl
+types-append (u ∷ Γ) v = ap (λ ts. u.ty ∷ ts) (types-append Γ v)
+
+length-types : (Γ : List Variable) → length (types Γ) ≡ length Γ
+length-types [] = refl
+length-types (v ∷ Γ) = ap suc (length-types Γ)
+
+invariants_speak : (Γ : List Variable) (ts : List Pterm) → EachSpeaks (length (types Γ)) (map (assertion None Γ) ts)
+invariants_speak Γ [] = tt
+invariants_speak Γ (t ∷ ts) = (subst (λ n. SpeaksOf n (assertion None Γ t)) (sym (length-types Γ)) (assertion_speaks Γ t), invariants_speak Γ ts)
+
+-- ---- expressions
+
+-- what typing gives at each expected type is sound
+abbrev pub EachSound : List Heading → List Variable → (Option Ty → Typed) → Type 0
+EachSound σ Γ f = (t : Option Ty) (r : TypedExpr) → f t ≡ Ok r → Sound σ Γ t r
+
+both_sound : (σ : List Heading) (Γ : List Variable) (a b : TypedExpr) (p : Operands) → IsWellTyped (signatures_at σ) (types Γ) a → IsWellTyped (signatures_at σ) (types Γ) b → ty_of b ≡ ty_of a → yes (operands_of a b) ≡ Ok p → BothSound σ Γ p
+both_sound σ Γ a b p wa wb q h = subst (BothSound σ Γ) (same_ok _ _ h) (record { left = wa; right = wb; same = q })
+
+operands_sound : (σ : List Heading) (Γ : List Variable) (o : Order) (f g : Option Ty → Typed) (p : Operands) → IsDecided o → EachSound σ Γ f → EachSound σ Γ g → operands o f g ≡ Ok p → BothSound σ Γ p
+operands_sound σ Γ (order.Against (Some t)) f g p d hf hg h =
+    let a = bound (f (Some t)) _ p h in
+    let b = bound (g (Some t)) _ p a.2 in
+    let sa = hf (Some t) a.0 a.1 in
+    let sb = hg (Some t) b.0 b.1 in
+    both_sound σ Γ a.0 b.0 p sa.well sb.well (sb.meets ∙ sym sa.meets) b.2
+operands_sound σ Γ (order.Against None) f g p d hf hg h = absurd d
+operands_sound σ Γ order.SecondGives f g p d hf hg h =
+    let b = bound (g None) _ p h in
+    let a = bound (f (Some (ty_of b.0))) _ p b.2 in
+    let sa = hf (Some (ty_of b.0)) a.0 a.1 in
+    both_sound σ Γ a.0 b.0 p sa.well (hg None b.0 b.1).well (sym sa.meets) a.2
+operands_sound σ Γ order.FirstGives f g p d hf hg h =
+    let a = bound (f None) _ p h in
+    let b = bound (g (Some (ty_of a.0))) _ p a.2 in
+    let sb = hg (Some (ty_of a.0)) b.0 b.1 in
+    both_sound σ Γ a.0 b.0 p (hf None a.0 a.1).well sb.well sb.meets b.2
+
+target_variable_sound : (σ : List Heading) (Γ : List Variable) (s : Span) (o : Option Found) (a : Target) → ((w : Found) → o ≡ Some w → slice_get (types Γ) w.place ≡ Some w.ty) → target_variable s o ≡ Ok a → TargetSound σ Γ a
+target_variable_sound σ Γ s None a h p = absurd (cc)
+target_variable_sound σ Γ s (Some v) a h p = subst (TargetSound σ Γ) (same_ok _ _ p) (h v refl)
+
+target_sound : (σ : List Heading) (Γ : List Variable) (s : Span) (x : Option Name) (f : Option Ty → Typed) (a : Target) → EachSound σ Γ f → target_of Γ s x f ≡ Ok a → TargetSound σ Γ a
+target_sound σ Γ s (Some x) f a h p = target_variable_sound σ Γ s (found x Γ) a (found_type Γ x) p
+target_sound σ Γ s None f a h p =
+    let e = bound (f None) target_value a p in
+    subst (TargetSound σ Γ) (same_ok _ _ e.2) (h None e.0 e.1).well
+
+mutual
+  pub typed_sound : (σ : List Heading) (Γ : List Variable) (e : Expr) (t : Option Ty) (r : TypedExpr) → typed σ Γ e t ≡ Ok r → Sound σ Γ t r
+  typed_sound σ Γ (integer s z k) t r p = literal_sound σ Γ t s z k r p
+  typed_sound σ Γ (truth s b) t r p = fit_sound σ Γ t s (tree.truth bool s b) r refl p
+  typed_sound σ Γ (named s x) t r p = variable_sound σ Γ t s x r p
+  typed_sound σ Γ (negative s o e) t r p =
+      let a = bound (typed σ Γ e t) _ r p in
+      negated_sound σ Γ t s o (span_of e) a.0 r (typed_sound σ Γ e t a.0 a.1).well a.2
+  typed_sound σ Γ (denied s e) t r p =
+      let a = bound (typed σ Γ e (Some bool)) _ r p in
+      let sa = typed_sound σ Γ e (Some bool) a.0 a.1 in
+      fit_sound σ Γ t s (tree.denied bool s a.0) r (refl, sa.meets, sa.well) a.2
+  typed_sound σ Γ (binary s op o a b) t r p =
+      let q = bound (operands (order_of (is_arithmetic op) t (is_bare a) (is_bare b)) (typed σ Γ a) (typed σ Γ b)) _ r p in
+      operated_sound σ Γ t s o (span_of a) op q.0 r
+      (operands_sound σ Γ (order_of (is_arithmetic op) t (is_bare a) (is_bare b)) (typed σ Γ a) (typed σ Γ b) q.0
+      (order_decided (is_arithmetic op) t (is_bare a) (is_bare b))
+      (λ u v h. typed_sound σ Γ a u v h) (λ u v h. typed_sound σ Γ b u v h) q.1)
+      q.2
+  typed_sound σ Γ (lazy s op a b) t r p =
+      let x = bound (typed σ Γ a (Some bool)) _ r p in
+      let y = bound (typed σ Γ b (Some bool)) _ r x.2 in
+      let sx = typed_sound σ Γ a (Some bool) x.0 x.1 in
+      let sy = typed_sound σ Γ b (Some bool) y.0 y.1 in
+      fit_sound σ Γ t s (tree.lazy bool s op x.0 y.0) r (refl, sx.meets, sy.meets, sx.well, sy.well) y.2
+  typed_sound σ Γ (assign s l e) t r p =
+      let a = bound (target_of Γ (span_of l) (as_name l) (typed σ Γ l)) _ r p in
+      let b = bound (typed σ Γ e (Some (target_ty a.0))) _ r a.2 in
+      let sb = typed_sound σ Γ e (Some (target_ty a.0)) b.0 b.1 in
+      assigned_sound σ Γ t s (span_of l) a.0 b.0 r
+      (target_sound σ Γ (span_of l) (as_name l) (typed σ Γ l) a.0 (λ u v h. typed_sound σ Γ l u v h) a.1)
+      sb.well sb.meets b.2
+  typed_sound σ Γ (update s op o l e) t r p =
+      let a = bound (target_of Γ (span_of l) (as_name l) (typed σ Γ l)) _ r p in
+      let b = bound (typed σ Γ e (Some (target_ty a.0))) _ r a.2 in
+      let sb = typed_sound σ Γ e (Some (target_ty a.0)) b.0 b.1 in
+      updated_sound σ Γ t s o (span_of l) op a.0 b.0 r
+      (target_sound σ Γ (span_of l) (as_name l) (typed σ Γ l) a.0 (λ u v h. typed_sound σ Γ l u v h) a.1)
+      sb.well sb.meets b.2
+  typed_sound σ Γ (call s x v es) t r p =
+      let f = bound (known v (callee σ Γ x)) _ r p in
+      let as' = bound (typed_args σ Γ es f.0.signature.params) _ r f.2 in
+      called_sound σ Γ t s f.0 as'.0 r (callee_signature σ Γ x f.0 (known_callee v (callee σ Γ x) f.0 f.1))
+      (args_sound σ Γ es f.0.signature.params as'.0 as'.1) as'.2
+  typed_sound σ Γ (block s ss) t r p =
+      let a = bound (typed_rest σ Γ ss t) _ r p in
+      closed_sound σ Γ t s a.0 r (rest_sound σ Γ ss t a.0 a.1) a.2
+  typed_sound σ Γ (branch s c a) t r p =
+      let x = bound (typed σ Γ c (Some bool)) _ r p in
+      let y = bound (typed σ Γ a (Some unit)) _ r x.2 in
+      let sx = typed_sound σ Γ c (Some bool) x.0 x.1 in
+      let sy = typed_sound σ Γ a (Some unit) y.0 y.1 in
+      fit_sound σ Γ t s (tree.branch unit s x.0 y.0) r (refl, sx.meets, sy.meets, sx.well, sy.well) y.2
+  typed_sound σ Γ (choice s c a b) t r p =
+      let x = bound (typed σ Γ c (Some bool)) _ r p in
+      let y = bound (typed σ Γ a t) _ r x.2 in
+      let z = bound (typed σ Γ b (Some (ty_of y.0))) _ r y.2 in
+      let sx = typed_sound σ Γ c (Some bool) x.0 x.1 in
+      let sy = typed_sound σ Γ a t y.0 y.1 in
+      let sz = typed_sound σ Γ b (Some (ty_of y.0)) z.0 z.1 in
+      fit_sound σ Γ t s (tree.choice (ty_of y.0) s x.0 y.0 z.0) r (sx.meets, refl, sz.meets, sx.well, sy.well, sz.well) z.2
+  typed_sound σ Γ (repeat s is c b) t r p =
+      let x = bound (typed σ Γ c (Some bool)) _ r p in
+      let y = bound (typed σ Γ b (Some unit)) _ r x.2 in
+      let sx = typed_sound σ Γ c (Some bool) x.0 x.1 in
+      let sy = typed_sound σ Γ b (Some unit) y.0 y.1 in
+      fit_sound σ Γ t s (tree.repeat unit s (map (assertion None Γ) is) x.0 y.0) r
+      (refl, invariants_speak Γ is, sx.meets, sy.meets, sx.well, sy.well) y.2
+
+  rest_sound : (σ : List Heading) (Γ : List Variable) (ss : Stmts) (t : Option Ty) (r : TypedStmts) → typed_rest σ Γ ss t ≡ Ok r → StatementsFit (signatures_at σ) (types Γ) (block_ty r) r
+  rest_sound σ Γ done t r p = subst (λ (r : TypedStmts). StatementsFit (signatures_at σ) (types Γ) (block_ty r) r) (same_ok _ _ p) refl
+  rest_sound σ Γ (last e) t r p =
+      let a = bound (typed σ Γ e t) _ r p in
+      subst (λ (r : TypedStmts). StatementsFit (signatures_at σ) (types Γ) (block_ty r) r) (same_ok _ _ a.2) (refl, (typed_sound σ Γ e t a.0 a.1).well)
+  rest_sound σ Γ (bind b e ss) t r p =
+      let a = bound (typed σ Γ e b.ty) _ r p in
+      let c = bound (typed_rest σ (declared Γ b a.0) ss t) _ r a.2 in
+      let h = rest_sound σ (declared Γ b a.0) ss t c.0 c.1 in
+      subst (λ (r : TypedStmts). StatementsFit (signatures_at σ) (types Γ) (block_ty r) r) (same_ok _ _ c.2) (
+        (typed_sound σ Γ e b.ty a.0 a.1).well,
+        subst (λ ts. StatementsFit (signatures_at σ) ts (block_ty c.0) c.0) (types-append Γ (record { name = b.name; ty = ty_of a.0; mutable = b.mutable })) h,
+      )
+  rest_sound σ Γ (run e ss) t r p =
+      let a = bound (typed σ Γ e None) _ r p in
+      let c = bound (typed_rest σ Γ ss t) _ r a.2 in
+      subst (λ (r : TypedStmts). StatementsFit (signatures_at σ) (types Γ) (block_ty r) r) (same_ok _ _ c.2)
+      ((typed_sound σ Γ e None a.0 a.1).well, rest_sound σ Γ ss t c.0 c.1)
+  rest_sound σ Γ (blocklike e ss) t r p =
+      let a = bound (typed σ Γ e (Some unit)) _ r p in
+      let c = bound (typed_rest σ Γ ss t) _ r a.2 in
+      subst (λ (r : TypedStmts). StatementsFit (signatures_at σ) (types Γ) (block_ty r) r) (same_ok _ _ c.2)
+      ((typed_sound σ Γ e (Some unit) a.0 a.1).well, rest_sound σ Γ ss t c.0 c.1)
+
+  args_sound : (σ : List Heading) (Γ : List Variable) (es : Exprs) (ts : List Ty) (r : TypedExprs) → typed_args σ Γ es ts ≡ Ok r → AllSound σ Γ r ts
+  args_sound σ Γ none ts r p = subst (λ (r : TypedExprs). AllSound σ Γ r ts) (same_ok _ _ p) (no_args σ Γ ts)
+  args_sound σ Γ (more e es) ts r p =
+      let a = bound (typed σ Γ e (first_of ts)) _ r p in
+      let c = bound (typed_args σ Γ es (rest_of ts)) _ r a.2 in
+      subst (λ (r : TypedExprs). AllSound σ Γ r ts) (same_ok _ _ c.2)
+      (more_args σ Γ ts a.0 c.0 (typed_sound σ Γ e (first_of ts) a.0 a.1) (args_sound σ Γ es (rest_of ts) c.0 c.1))

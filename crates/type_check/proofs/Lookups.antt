@@ -1,0 +1,83 @@
+-- What is found in a scope and among functions stands there.
+use Rattle.std.proofs.Common.{◌≡◌, ℕ, zero, suc, ◌+◌, ◌<◌, ◌==◌, Bool, true, false, List, [], ◌∷◌, length, map, Option, Some, None, refl, ap, subst, arith}
+use Rattle.std.specs.Prelude.{slice_get, if◌then◌else◌}
+use Rattle.std.proofs.lemmas.Option.{slice_get_within}
+use Rattle.text_core.specs.declared.name.Name.{Name}
+use Rattle.logic_term.specs.Ty.{Ty}
+use Rattle.type_check.specs.declared.heading.Callee.{Callee}
+use Rattle.type_check.specs.declared.heading.Heading.{Heading}
+use Rattle.type_check.specs.declared.program.Signature.{Signature}
+use Rattle.type_check.specs.declared.scope.Found.{Found}
+use Rattle.type_check.specs.declared.scope.Variable.{Variable}
+use Rattle.type_check.specs.Functions.{callee, callee_at, function_from, unless_variable}
+use Rattle.type_check.specs.Scope.{at_place, found, found_from}
+
+abbrev pub type_of : Variable → Ty
+type_of v = v.ty
+
+-- the types of the variables in scope
+abbrev pub types : List Variable → List Ty
+types Γ = map type_of Γ
+
+abbrev pub signature_at : Heading → Signature
+signature_at h = h.signature
+
+abbrev pub signatures_at : List Heading → List Signature
+signatures_at σ = map signature_at σ
+
+better : (P : Found → Type 0) (b : Bool) (f : Found) (best : Option Found) → P f → ((w : Found) → best ≡ Some w → P w) → (w : Found) → (if b then Some f else best) ≡ Some w → P w
+better P true f best here before w p = let q : f ≡ w = cc in subst P q here
+better P false f best here before w p = before w p
+
+-- what holds of each variable of the scope holds of the one that is found
+found_holds : (P : Found → Type 0) (best : Option Found) (k : ℕ) (x : Name) (Γ : List Variable) → ((w : Found) → best ≡ Some w → P w) → ((j : ℕ) (v : Variable) → slice_get Γ j ≡ Some v → P (at_place (k + j) v)) → (w : Found) → found_from best k x Γ ≡ Some w → P w
+found_holds P best k x [] before each w p = before w p
+found_holds P best k x (v ∷ Γ) before each w p =
+    let here : P (at_place k v) = (let e : k + 0 ≡ k = omega arith in subst (λ n. P (at_place n v)) e (each 0 v refl)) in
+    found_holds P (if x.0 == v.name.0 then Some (at_place k v) else best) (k + 1) x Γ
+    (better P (x.0 == v.name.0) (at_place k v) best here before)
+    (λ j u q. let e : k + suc j ≡ k + 1 + j = omega arith in subst (λ n. P (at_place n u)) e (each (suc j) u q))
+    w p
+
+get_type : (Γ : List Variable) (j : ℕ) (v : Variable) → slice_get Γ j ≡ Some v → slice_get (types Γ) j ≡ Some v.ty
+get_type [] j v p = absurd (cc)
+get_type (u ∷ Γ) zero v p = let q : u ≡ v = cc in ap (λ (w : Variable). Some w.ty) q
+get_type (u ∷ Γ) (suc j) v p = get_type Γ j v p
+
+pub found_type : (Γ : List Variable) (x : Name) (w : Found) → found x Γ ≡ Some w → slice_get (types Γ) w.place ≡ Some w.ty
+found_type Γ x w p =
+    found_holds (λ w. slice_get (types Γ) w.place ≡ Some w.ty) None 0 x Γ (λ w q. absurd (cc))
+    (λ j v q. let e : j ≡ 0 + j = omega arith in subst (λ n. slice_get (types Γ) n ≡ Some v.ty) e (get_type Γ j v q)) w p
+
+pub found_within : (Γ : List Variable) (x : Name) (w : Found) → found x Γ ≡ Some w → w.place < length Γ
+found_within Γ x w p =
+    found_holds (λ w. w.place < length Γ) None 0 x Γ (λ w q. absurd (cc))
+    (λ j v q. let h : j < length Γ = slice_get_within Γ j v q in omega arith) w p
+
+get_signature : (σ : List Heading) (j : ℕ) (h : Heading) → slice_get σ j ≡ Some h → slice_get (signatures_at σ) j ≡ Some h.signature
+get_signature [] j h p = absurd (cc)
+get_signature (g ∷ σ) zero h p = let q : g ≡ h = cc in ap (λ (w : Heading). Some w.signature) q
+get_signature (g ∷ σ) (suc j) h p = get_signature σ j h p
+
+chosen : (P : Callee → Type 0) (b : Bool) (k : ℕ) (x : Name) (f : Callee) (σ : List Heading) → P f → ((w : Callee) → function_from k x σ ≡ Some w → P w) → (w : Callee) → (if b then Some f else function_from k x σ) ≡ Some w → P w
+chosen P true k x f σ here after w p = let q : f ≡ w = cc in subst P q here
+chosen P false k x f σ here after w p = after w p
+
+function_holds : (P : Callee → Type 0) (k : ℕ) (x : Name) (σ : List Heading) → ((j : ℕ) (h : Heading) → slice_get σ j ≡ Some h → P (callee_at (k + j) h)) → (w : Callee) → function_from k x σ ≡ Some w → P w
+function_holds P k x [] each w p = absurd (cc)
+function_holds P k x (h ∷ σ) each w p =
+    let here : P (callee_at k h) = (let e : k + 0 ≡ k = omega arith in subst (λ n. P (callee_at n h)) e (each 0 h refl)) in
+    chosen P (x.0 == h.name.0) (k + 1) x (callee_at k h) σ here
+    (function_holds P (k + 1) x σ (λ j g q. let e : k + suc j ≡ k + 1 + j = omega arith in subst (λ n. P (callee_at n g)) e (each (suc j) g q)))
+    w p
+
+no_variable : (v : Option Found) (f : Option Callee) (w : Callee) → unless_variable v f ≡ Some w → f ≡ Some w
+no_variable None f w p = p
+no_variable (Some v) f w p = absurd (cc)
+
+pub callee_signature : (σ : List Heading) (Γ : List Variable) (x : Name) (w : Callee) → callee σ Γ x ≡ Some w → slice_get (signatures_at σ) w.place ≡ Some w.signature
+unfolding callee
+callee_signature σ Γ x w p =
+    function_holds (λ w. slice_get (signatures_at σ) w.place ≡ Some w.signature) 0 x σ
+    (λ j h q. let e : j ≡ 0 + j = omega arith in subst (λ n. slice_get (signatures_at σ) n ≡ Some h.signature) e (get_signature σ j h q))
+    w (no_variable (found x Γ) (function_from 0 x σ) w p)

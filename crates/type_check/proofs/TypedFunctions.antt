@@ -1,0 +1,62 @@
+-- The functions of a source, one after another.
+use Rattle.std.proofs.Common.{◌≡◌, ◌∙◌, ℕ, suc, ◌+◌, ◌<◌, List, [], ◌∷◌, ◌++◌, length, get_or, drop, drop-cons, add-one, append_assoc, refl, ap, sym, Result, Ok, Err}
+use Rattle.std.proofs.lemmas.List.{append-nil}
+use Rattle.text_core.specs.declared.name.Name.{Name}
+use Rattle.text_core.specs.declared.refusal.SourceError.{SourceError}
+use Rattle.rs_syntax.specs.declared.fault.PassError.{PassError}
+use Rattle.rs_syntax.specs.declared.function.Function.{Function}
+use Rattle.type_check.specs.declared.heading.Heading.{Heading}
+use Rattle.type_check.specs.declared.program.TypedFunction.{TypedFunction}
+use Rattle.type_check.specs.Answers.{◌>>=◌, Refuses}
+use Rattle.type_check.specs.Checked.{typed_function, typed_functions}
+use Rattle.type_check.proofs.Arguments.{refuses_then, along}
+
+abbrev pub and_functions : List TypedFunction → List TypedFunction → Result (List TypedFunction) SourceError
+and_functions gs end = Ok (gs ++ end)
+
+-- what is left, after these functions
+abbrev pub continued : List Heading → Name → List Function → List TypedFunction → Result (List TypedFunction) SourceError
+continued σ x fs gs = typed_functions σ x fs >>= and_functions gs
+
+nothing_yet : (m : Result (List TypedFunction) SourceError) → m ≡ (m >>= and_functions [])
+nothing_yet (Ok r) = refl
+nothing_yet (Err e) = refl
+
+pub functions_start : (σ : List Heading) (x : Name) (fs : List Function) (gs : List TypedFunction) → gs ≡ [] → typed_functions σ x fs ≡ continued σ x (drop 0 fs) gs
+functions_start σ x fs gs q = rw q (nothing_yet (typed_functions σ x fs))
+
+abbrev one : TypedFunction → List TypedFunction → Result (List TypedFunction) SourceError
+one g r = Ok (g ∷ r)
+
+one_more : (gs : List TypedFunction) (g : TypedFunction) (m : Result (List TypedFunction) SourceError) → ((m >>= one g) >>= and_functions gs) ≡ (m >>= and_functions (gs ++ g ∷ []))
+one_more gs g (Ok r) = ap Ok (sym (append_assoc gs (g ∷ []) r))
+one_more gs g (Err e) = refl
+
+abbrev then_functions : List Heading → Name → List Function → TypedFunction → Result (List TypedFunction) SourceError
+then_functions σ x fs g = typed_functions σ x fs >>= one g
+
+next : (σ : List Heading) (x : Name) (fs : List Function) (i : ℕ) (f : Function) → f ≡ get_or fs i f → i < length fs → typed_functions σ x (drop i fs) ≡ (typed_function σ x f >>= then_functions σ x (drop (suc i) fs))
+next σ x fs i f q h =
+    ap (typed_functions σ x) (drop-cons fs i f h)
+    ∙ ap (λ g. typed_function σ x g >>= then_functions σ x (drop (suc i) fs)) (sym q)
+
+pub functions_more : (σ : List Heading) (x : Name) (fs : List Function) (i : ℕ) (f : Function) (gs : List TypedFunction) (g : TypedFunction) → f ≡ get_or fs i f → i < length fs → typed_function σ x f ≡ Ok g → continued σ x (drop i fs) gs ≡ continued σ x (drop (i + 1) fs) (gs ++ g ∷ [])
+functions_more σ x fs i f gs g q h p =
+    rw add-one
+    (ap (λ m. m >>= and_functions gs) (next σ x fs i f q h)
+    ∙ ap (λ (m : Result TypedFunction SourceError). (m >>= then_functions σ x (drop (suc i) fs)) >>= and_functions gs) p
+    ∙ one_more gs g (typed_functions σ x (drop (suc i) fs)))
+
+pub functions_stop : (h : PassError) (σ : List Heading) (x : Name) (fs : List Function) (i : ℕ) (f : Function) (gs : List TypedFunction) → f ≡ get_or fs i f → i < length fs → typed_functions σ x fs ≡ continued σ x (drop i fs) gs → Refuses h (typed_function σ x f) → Refuses h (typed_functions σ x fs)
+functions_stop h σ x fs i f gs q l r p =
+    along h _ _ r
+    (refuses_then h _ (and_functions gs)
+    (along h _ _ (next σ x fs i f q l)
+    (refuses_then h (typed_function σ x f) (then_functions σ x (drop (suc i) fs)) p)))
+
+drop_all : (fs : List Function) (n : ℕ) → n ≡ length fs → drop n fs ≡ []
+drop_all [] n q = rw q refl
+drop_all (f ∷ fs) n q = rw q (drop_all fs (length fs) refl)
+
+pub functions_end : (σ : List Heading) (x : Name) (fs : List Function) (n : ℕ) (gs : List TypedFunction) → n ≡ length fs → continued σ x (drop n fs) gs ≡ Ok gs
+functions_end σ x fs n gs q = rw (drop_all fs n q) (ap Ok (append-nil gs))

@@ -1,0 +1,20 @@
+use Rattle.std.proofs.Common.{◌≡◌, drop}
+use Rattle.type_check.specs.FirstBad.{bad_in_exprs, bad_in_stmts}
+use Rattle.type_check.specs.TypedExpr.{done}
+use Rattle.type_check.specs.TypedExprView.{typed_size, exprs_size, stmts_size, exprs_of, stmts_of}
+use Rattle.type_check.proofs.logic.+bad_in.Given as goal
+
+abbrev pub decreases-bad_in : goal.decreases-bad_in
+decreases-bad_in l = typed_size l.e.now
+
+abbrev pub decreases-bad_in_exprs : goal.decreases-bad_in_exprs
+decreases-bad_in_exprs l = exprs_size (exprs_of l.es.now)
+
+abbrev pub decreases-bad_in_stmts : goal.decreases-bad_in_stmts
+decreases-bad_in_stmts l = stmts_size (stmts_of l.stmts.now done)
+
+abbrev pub invariant-bad_in_exprs-loop-i : goal.invariant-bad_in_exprs-loop-i
+invariant-bad_in_exprs-loop-i l = bad_in_exprs (exprs_of (drop l.i l.es)) ≡ bad_in_exprs (exprs_of l.es)
+
+abbrev pub invariant-bad_in_stmts-loop-i : goal.invariant-bad_in_stmts-loop-i
+invariant-bad_in_stmts-loop-i l = bad_in_stmts (stmts_of (drop l.i l.stmts) done) ≡ bad_in_stmts (stmts_of l.stmts done)

@@ -1,0 +1,57 @@
+-- The first formula that is refused: in a function its clauses stand before its body, and an expression's parts before it.
+use Rattle.std.specs.Prelude.{List, [], ◌∷◌, Option, Some, None}
+use Rattle.text_core.specs.declared.refusal.SourceError.{SourceError}
+use Rattle.type_check.specs.declared.assertion.Assertion.{Assertion}
+use Rattle.type_check.specs.declared.assertion.Assertion.TheVariants.{Good, Bad}
+use Rattle.type_check.specs.declared.program.TypedClause.{TypedClause}
+use Rattle.type_check.specs.declared.program.TypedFunction.{TypedFunction}
+use Rattle.type_check.specs.Names.{or_else}
+use Rattle.type_check.specs.TypedExpr.{TypedExpr, TypedStmts, TypedExprs, integer, truth, variable, negative, denied, binary, lazy, assign, assign_value, update, update_value, call, block, branch, choice, repeat, done, last, bind, run, none, more}
+
+abbrev pub bad_of : Assertion → Option SourceError
+bad_of (Good s t) = None
+bad_of (Bad e) = Some e
+
+abbrev pub bad_among : List Assertion → Option SourceError
+bad_among [] = None
+bad_among (a ∷ as') = or_else (bad_of a) (bad_among as')
+
+abbrev mutual
+  pub bad_in : TypedExpr → Option SourceError
+  bad_in (integer t s z k) = None
+  bad_in (truth t s b) = None
+  bad_in (variable t s x) = None
+  bad_in (negative t s e) = bad_in e
+  bad_in (denied t s e) = bad_in e
+  bad_in (binary t s op a b) = or_else (bad_in a) (bad_in b)
+  bad_in (lazy t s op a b) = or_else (bad_in a) (bad_in b)
+  bad_in (assign t s x e) = bad_in e
+  bad_in (assign_value t s a e) = or_else (bad_in a) (bad_in e)
+  bad_in (update t s op x e) = bad_in e
+  bad_in (update_value t s op a e) = or_else (bad_in a) (bad_in e)
+  bad_in (call t s f es) = bad_in_exprs es
+  bad_in (block t s ss) = bad_in_stmts ss
+  bad_in (branch t s c a) = or_else (bad_in c) (bad_in a)
+  bad_in (choice t s c a b) = or_else (bad_in c) (or_else (bad_in a) (bad_in b))
+  bad_in (repeat t s is c b) = or_else (bad_among is) (or_else (bad_in c) (bad_in b))
+
+  pub bad_in_stmts : TypedStmts → Option SourceError
+  bad_in_stmts done = None
+  bad_in_stmts (last e) = bad_in e
+  bad_in_stmts (bind e ss) = or_else (bad_in e) (bad_in_stmts ss)
+  bad_in_stmts (run e ss) = or_else (bad_in e) (bad_in_stmts ss)
+
+  pub bad_in_exprs : TypedExprs → Option SourceError
+  bad_in_exprs none = None
+  bad_in_exprs (more e es) = or_else (bad_in e) (bad_in_exprs es)
+
+abbrev pub bad_clause : List TypedClause → Option SourceError
+bad_clause [] = None
+bad_clause (c ∷ cs) = or_else (bad_of c.formula) (bad_clause cs)
+
+abbrev pub bad_in_function : TypedFunction → Option SourceError
+bad_in_function f = or_else (bad_clause f.clauses) (bad_in f.body)
+
+abbrev pub first_bad : List TypedFunction → Option SourceError
+first_bad [] = None
+first_bad (f ∷ fs) = or_else (bad_in_function f) (first_bad fs)

@@ -1,0 +1,137 @@
+-- The terms that the terms of contracts become, with their sorts (Pearlite, Creusot). Literals without suffix and all
+-- arithmetic are of the unbounded integers.
+use Rattle.std.specs.Prelude.{ℤ, Bool, true, false, List, Option, Some, None, Result, Ok, Err, ◌==◌, if◌then◌else◌}
+use Rattle.text_core.specs.declared.name.Name.{Name}
+use Rattle.text_core.specs.declared.refusal.SourceError.{SourceError}
+use Rattle.text_core.specs.declared.span.Span.{Span}
+use Rattle.logic_term.specs.declared.kinds.IntKind.{IntKind}
+use Rattle.logic_term.specs.Range.{fits}
+use Rattle.logic_term.specs.Term.{Term, var, lit, truth as truth_term, model, negative as negative_term, not as not_term, calculate, is_less, is_at_most, is_equal, and as and_term, or as or_term, implies as implies_term}
+use Rattle.logic_term.specs.Ty.{Ty, int, bool, math_int}
+use Rattle.rs_syntax.specs.declared.operator.Comparison.{Comparison}
+use Rattle.rs_syntax.specs.declared.operator.Comparison.TheVariants.{Eq, Ne, Lt, Le, Gt, Ge}
+use Rattle.rs_syntax.specs.Pterm.{Pterm, integer, truth, named, viewed, negative, denied, calculated, compare, both, either, implied}
+use Rattle.rs_syntax.specs.PtermView.{span_of}
+use Rattle.type_check.specs.declared.assertion.Assertion.{Assertion}
+use Rattle.type_check.specs.declared.assertion.Assertion.TheVariants.{Good, Bad}
+use Rattle.type_check.specs.declared.scope.Answer.{Answer}
+use Rattle.type_check.specs.declared.scope.Found.{Found}
+use Rattle.type_check.specs.declared.scope.Variable.{Variable}
+use Rattle.type_check.specs.declared.sorted.SortedTerm.{SortedTerm}
+use Rattle.type_check.specs.Answers.{◌>>=◌, unknown_name, mismatch, wanted}
+use Rattle.type_check.specs.Scope.{found}
+use Rattle.type_check.specs.Types.{same_ty, is_math_int, is_bool}
+use Rattle.type_check.specs.VariableNames.{variable_name, answer_name}
+
+abbrev pub sorted : Ty → Term → SortedTerm
+sorted s t = record { sort = s; term = t }
+
+unfoldable pub literal : Span → ℤ → Option IntKind → Result SortedTerm SourceError
+literal s z None = Ok (sorted math_int (lit z math_int))
+literal s z (Some k) = wanted (fits k z) s (sorted (int k) (lit z (int k)))
+
+abbrev pub variable_term : Span → Option Found → Result SortedTerm SourceError
+variable_term s None = Err (unknown_name s)
+variable_term s (Some v) = Ok (sorted v.ty (var (variable_name v.place)))
+
+-- the name of the answer hides a variable
+unfoldable pub name_term : Option Answer → List Variable → Span → Name → Result SortedTerm SourceError
+name_term None Γ s x = variable_term s (found x Γ)
+name_term (Some a) Γ s x = if x.0 == a.name.0 then Ok (sorted a.ty (var answer_name)) else variable_term s (found x Γ)
+
+-- the unbounded integer of a machine integer
+abbrev pub model_of_sort : Ty → Span → Term → Result SortedTerm SourceError
+model_of_sort (int k) s t = Ok (sorted math_int (model t))
+model_of_sort _ s t = Err (mismatch s)
+
+unfoldable pub model_of : Span → SortedTerm → Result SortedTerm SourceError
+model_of s a = model_of_sort a.sort s a.term
+
+-- a term that has to be a formula, of an unbounded integer
+unfoldable pub formula : Span → SortedTerm → Result Term SourceError
+formula s a = wanted (is_bool a.sort) s a.term
+
+unfoldable pub number : Span → SortedTerm → Result Term SourceError
+number s a = wanted (is_math_int a.sort) s a.term
+
+abbrev pub ordered : Comparison → Term → Term → Term
+ordered Lt t u = is_less t u
+ordered Le t u = is_at_most t u
+ordered Gt t u = is_less u t
+ordered Ge t u = is_at_most u t
+ordered Eq t u = is_equal t u
+ordered Ne t u = not_term (is_equal t u)
+
+abbrev pub is_ordering : Comparison → Bool
+is_ordering Eq = false
+is_ordering Ne = false
+is_ordering _ = true
+
+-- integers of one sort, by their unbounded integers
+abbrev pub ordered_at : Ty → Comparison → Span → Term → Term → Result SortedTerm SourceError
+ordered_at math_int op s t u = Ok (sorted bool (ordered op t u))
+ordered_at (int k) op s t u = Ok (sorted bool (ordered op (model t) (model u)))
+ordered_at _ op s t u = Err (mismatch s)
+
+-- the spans are those of the two terms
+unfoldable pub compared : Comparison → Span → Span → SortedTerm → SortedTerm → Result SortedTerm SourceError
+compared op s r a b =
+    if same_ty b.sort a.sort then
+    (if is_ordering op then ordered_at a.sort op s a.term b.term else Ok (sorted bool (ordered op a.term b.term)))
+    else Err (mismatch r)
+
+-- the term over the variables, and the answer where there is one
+abbrev pub elaborated : Option Answer → List Variable → Pterm → Result SortedTerm SourceError
+elaborated A Γ (integer s z k) = literal s z k
+elaborated A Γ (truth s b) = Ok (sorted bool (truth_term b))
+elaborated A Γ (named s x) = name_term A Γ s x
+elaborated A Γ (viewed s t) = do
+  a ← elaborated A Γ t
+  model_of (span_of t) a
+elaborated A Γ (negative s t) = do
+  a ← elaborated A Γ t
+  x ← number (span_of t) a
+  Ok (sorted math_int (negative_term x))
+elaborated A Γ (denied s t) = do
+  a ← elaborated A Γ t
+  p ← formula (span_of t) a
+  Ok (sorted bool (not_term p))
+elaborated A Γ (calculated s op t u) = do
+  a ← elaborated A Γ t
+  b ← elaborated A Γ u
+  x ← number (span_of t) a
+  y ← number (span_of u) b
+  Ok (sorted math_int (calculate op x y))
+elaborated A Γ (compare s op t u) = do
+  a ← elaborated A Γ t
+  b ← elaborated A Γ u
+  compared op (span_of t) (span_of u) a b
+elaborated A Γ (both s t u) = do
+  a ← elaborated A Γ t
+  p ← formula (span_of t) a
+  b ← elaborated A Γ u
+  q ← formula (span_of u) b
+  Ok (sorted bool (and_term p q))
+elaborated A Γ (either s t u) = do
+  a ← elaborated A Γ t
+  p ← formula (span_of t) a
+  b ← elaborated A Γ u
+  q ← formula (span_of u) b
+  Ok (sorted bool (or_term p q))
+elaborated A Γ (implied s t u) = do
+  a ← elaborated A Γ t
+  p ← formula (span_of t) a
+  b ← elaborated A Γ u
+  q ← formula (span_of u) b
+  Ok (sorted bool (implies_term p q))
+
+-- a clause or an invariant, which is a formula
+abbrev pub asserted : Option Answer → List Variable → Pterm → Result Term SourceError
+asserted A Γ t = elaborated A Γ t >>= formula (span_of t)
+
+abbrev pub kept : Span → Result Term SourceError → Assertion
+kept s (Ok t) = Good s t
+kept s (Err e) = Bad e
+
+abbrev pub assertion : Option Answer → List Variable → Pterm → Assertion
+assertion A Γ t = kept (span_of t) (asserted A Γ t)

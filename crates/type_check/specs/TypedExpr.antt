@@ -1,0 +1,42 @@
+-- Expressions with types and resolved names: one constructor for each variant of `TypedNode`, after its type and its span.
+use Rattle.std.specs.Prelude.{ℕ, ℤ, Bool, List}
+use Rattle.text_core.specs.declared.span.Span.{Span}
+use Rattle.logic_term.specs.declared.kinds.BinaryOp.{BinaryOp}
+use Rattle.logic_term.specs.declared.kinds.IntKind.{IntKind}
+use Rattle.logic_term.specs.Ty.{Ty}
+use Rattle.rs_syntax.specs.declared.operator.LazyOp.{LazyOp}
+use Rattle.type_check.specs.declared.assertion.Assertion.{Assertion}
+
+mutual
+  pub data TypedExpr : Type 0 where
+    integer : Ty → Span → ℤ → IntKind → TypedExpr
+    truth : Ty → Span → Bool → TypedExpr
+    -- a variable is how many are in scope around its declaration
+    variable : Ty → Span → ℕ → TypedExpr
+    negative : Ty → Span → TypedExpr → TypedExpr
+    denied : Ty → Span → TypedExpr → TypedExpr
+    binary : Ty → Span → BinaryOp → TypedExpr → TypedExpr → TypedExpr
+    lazy : Ty → Span → LazyOp → TypedExpr → TypedExpr → TypedExpr
+    assign : Ty → Span → ℕ → TypedExpr → TypedExpr
+    -- to a value that is no variable's
+    assign_value : Ty → Span → TypedExpr → TypedExpr → TypedExpr
+    update : Ty → Span → BinaryOp → ℕ → TypedExpr → TypedExpr
+    update_value : Ty → Span → BinaryOp → TypedExpr → TypedExpr → TypedExpr
+    -- a function of the program, by its place
+    call : Ty → Span → ℕ → TypedExprs → TypedExpr
+    block : Ty → Span → TypedStmts → TypedExpr
+    -- `if` without `else`
+    branch : Ty → Span → TypedExpr → TypedExpr → TypedExpr
+    choice : Ty → Span → TypedExpr → TypedExpr → TypedExpr → TypedExpr
+    repeat : Ty → Span → List Assertion → TypedExpr → TypedExpr → TypedExpr
+
+  pub data TypedStmts : Type 0 where
+    done : TypedStmts
+    last : TypedExpr → TypedStmts
+    -- declares the next variable
+    bind : TypedExpr → TypedStmts → TypedStmts
+    run : TypedExpr → TypedStmts → TypedStmts
+
+  pub data TypedExprs : Type 0 where
+    none : TypedExprs
+    more : TypedExpr → TypedExprs → TypedExprs

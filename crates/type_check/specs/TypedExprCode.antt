@@ -1,0 +1,89 @@
+-- A code for typed expressions, by which the logic tells them apart.
+use Rattle.std.specs.Prelude.{◌≡◌, ℕ}
+use Rattle.std.proofs.Common.{refl, ap, arith}
+use Rattle.std.specs.Coded.{Coded, coded_ℕ, coded_ℤ, coded_bool, coded_list}
+use Rattle.text_core.specs.contracts.span.Span as span
+use Rattle.logic_term.specs.contracts.kinds.BinaryOp as binary_op
+use Rattle.logic_term.specs.contracts.kinds.IntKind as int_kind
+use Rattle.logic_term.specs.TyCode.{coded_ty}
+use Rattle.rs_syntax.specs.contracts.operator.LazyOp as lazy_op
+use Rattle.type_check.specs.contracts.assertion.Assertion as assertion
+use base.Stored.{Gv, gnil, gnum, gcons, num}
+use Rattle.type_check.specs.TypedExpr.{TypedExpr, integer, truth, variable, negative, denied, binary, lazy, assign, assign_value, update, update_value, call, block, branch, choice, repeat, TypedStmts, done, last, bind, run, TypedExprs, none, more}
+
+abbrev pub head : Gv → Gv
+head gnil = gnil
+head (gnum n) = gnil
+head (gcons a b) = a
+
+abbrev pub tail : Gv → Gv
+tail gnil = gnil
+tail (gnum n) = gnil
+tail (gcons a b) = b
+
+abbrev pub tag : Gv → ℕ
+tag g = num (head g)
+
+abbrev mutual
+  pub typed_code : TypedExpr → Gv
+  typed_code (integer a0 a1 a2 a3) = gcons (gnum 0) (gcons (coded_ty.code a0) (gcons (span.the_row.coded.code a1) (gcons (coded_ℤ.code a2) (int_kind.the_row.coded.code a3))))
+  typed_code (truth a0 a1 a2) = gcons (gnum 1) (gcons (coded_ty.code a0) (gcons (span.the_row.coded.code a1) (coded_bool.code a2)))
+  typed_code (variable a0 a1 a2) = gcons (gnum 2) (gcons (coded_ty.code a0) (gcons (span.the_row.coded.code a1) (coded_ℕ.code a2)))
+  typed_code (negative a0 a1 a2) = gcons (gnum 3) (gcons (coded_ty.code a0) (gcons (span.the_row.coded.code a1) (typed_code a2)))
+  typed_code (denied a0 a1 a2) = gcons (gnum 4) (gcons (coded_ty.code a0) (gcons (span.the_row.coded.code a1) (typed_code a2)))
+  typed_code (binary a0 a1 a2 a3 a4) = gcons (gnum 5) (gcons (coded_ty.code a0) (gcons (span.the_row.coded.code a1) (gcons (binary_op.the_row.coded.code a2) (gcons (typed_code a3) (typed_code a4)))))
+  typed_code (lazy a0 a1 a2 a3 a4) = gcons (gnum 6) (gcons (coded_ty.code a0) (gcons (span.the_row.coded.code a1) (gcons (lazy_op.the_row.coded.code a2) (gcons (typed_code a3) (typed_code a4)))))
+  typed_code (assign a0 a1 a2 a3) = gcons (gnum 7) (gcons (coded_ty.code a0) (gcons (span.the_row.coded.code a1) (gcons (coded_ℕ.code a2) (typed_code a3))))
+  typed_code (assign_value a0 a1 a2 a3) = gcons (gnum 8) (gcons (coded_ty.code a0) (gcons (span.the_row.coded.code a1) (gcons (typed_code a2) (typed_code a3))))
+  typed_code (update a0 a1 a2 a3 a4) = gcons (gnum 9) (gcons (coded_ty.code a0) (gcons (span.the_row.coded.code a1) (gcons (binary_op.the_row.coded.code a2) (gcons (coded_ℕ.code a3) (typed_code a4)))))
+  typed_code (update_value a0 a1 a2 a3 a4) = gcons (gnum 10) (gcons (coded_ty.code a0) (gcons (span.the_row.coded.code a1) (gcons (binary_op.the_row.coded.code a2) (gcons (typed_code a3) (typed_code a4)))))
+  typed_code (call a0 a1 a2 a3) = gcons (gnum 11) (gcons (coded_ty.code a0) (gcons (span.the_row.coded.code a1) (gcons (coded_ℕ.code a2) (exprs_code a3))))
+  typed_code (block a0 a1 a2) = gcons (gnum 12) (gcons (coded_ty.code a0) (gcons (span.the_row.coded.code a1) (stmts_code a2)))
+  typed_code (branch a0 a1 a2 a3) = gcons (gnum 13) (gcons (coded_ty.code a0) (gcons (span.the_row.coded.code a1) (gcons (typed_code a2) (typed_code a3))))
+  typed_code (choice a0 a1 a2 a3 a4) = gcons (gnum 14) (gcons (coded_ty.code a0) (gcons (span.the_row.coded.code a1) (gcons (typed_code a2) (gcons (typed_code a3) (typed_code a4)))))
+  typed_code (repeat a0 a1 a2 a3 a4) = gcons (gnum 15) (gcons (coded_ty.code a0) (gcons (span.the_row.coded.code a1) (gcons ((coded_list assertion.the_row.coded).code a2) (gcons (typed_code a3) (typed_code a4)))))
+
+  pub stmts_code : TypedStmts → Gv
+  stmts_code done = gcons (gnum 0) gnil
+  stmts_code (last a0) = gcons (gnum 1) (typed_code a0)
+  stmts_code (bind a0 a1) = gcons (gnum 2) (gcons (typed_code a0) (stmts_code a1))
+  stmts_code (run a0 a1) = gcons (gnum 3) (gcons (typed_code a0) (stmts_code a1))
+
+  pub exprs_code : TypedExprs → Gv
+  exprs_code none = gcons (gnum 0) gnil
+  exprs_code (more a0 a1) = gcons (gnum 1) (gcons (typed_code a0) (exprs_code a1))
+
+mutual
+  pub typed_injective : (x y : TypedExpr) → typed_code x ≡ typed_code y → x ≡ y
+  typed_injective (integer a0 a1 a2 a3) (integer b0 b1 b2 b3) p = λ i. integer (coded_ty.inj a0 b0 (ap (λ g. head (tail g)) p) i) (span.the_row.coded.inj a1 b1 (ap (λ g. head (tail (tail g))) p) i) (coded_ℤ.inj a2 b2 (ap (λ g. head (tail (tail (tail g)))) p) i) (int_kind.the_row.coded.inj a3 b3 (ap (λ g. tail (tail (tail (tail g)))) p) i)
+  typed_injective (truth a0 a1 a2) (truth b0 b1 b2) p = λ i. truth (coded_ty.inj a0 b0 (ap (λ g. head (tail g)) p) i) (span.the_row.coded.inj a1 b1 (ap (λ g. head (tail (tail g))) p) i) (coded_bool.inj a2 b2 (ap (λ g. tail (tail (tail g))) p) i)
+  typed_injective (variable a0 a1 a2) (variable b0 b1 b2) p = λ i. variable (coded_ty.inj a0 b0 (ap (λ g. head (tail g)) p) i) (span.the_row.coded.inj a1 b1 (ap (λ g. head (tail (tail g))) p) i) (coded_ℕ.inj a2 b2 (ap (λ g. tail (tail (tail g))) p) i)
+  typed_injective (negative a0 a1 a2) (negative b0 b1 b2) p = λ i. negative (coded_ty.inj a0 b0 (ap (λ g. head (tail g)) p) i) (span.the_row.coded.inj a1 b1 (ap (λ g. head (tail (tail g))) p) i) (typed_injective a2 b2 (ap (λ g. tail (tail (tail g))) p) i)
+  typed_injective (denied a0 a1 a2) (denied b0 b1 b2) p = λ i. denied (coded_ty.inj a0 b0 (ap (λ g. head (tail g)) p) i) (span.the_row.coded.inj a1 b1 (ap (λ g. head (tail (tail g))) p) i) (typed_injective a2 b2 (ap (λ g. tail (tail (tail g))) p) i)
+  typed_injective (binary a0 a1 a2 a3 a4) (binary b0 b1 b2 b3 b4) p = λ i. binary (coded_ty.inj a0 b0 (ap (λ g. head (tail g)) p) i) (span.the_row.coded.inj a1 b1 (ap (λ g. head (tail (tail g))) p) i) (binary_op.the_row.coded.inj a2 b2 (ap (λ g. head (tail (tail (tail g)))) p) i) (typed_injective a3 b3 (ap (λ g. head (tail (tail (tail (tail g))))) p) i) (typed_injective a4 b4 (ap (λ g. tail (tail (tail (tail (tail g))))) p) i)
+  typed_injective (lazy a0 a1 a2 a3 a4) (lazy b0 b1 b2 b3 b4) p = λ i. lazy (coded_ty.inj a0 b0 (ap (λ g. head (tail g)) p) i) (span.the_row.coded.inj a1 b1 (ap (λ g. head (tail (tail g))) p) i) (lazy_op.the_row.coded.inj a2 b2 (ap (λ g. head (tail (tail (tail g)))) p) i) (typed_injective a3 b3 (ap (λ g. head (tail (tail (tail (tail g))))) p) i) (typed_injective a4 b4 (ap (λ g. tail (tail (tail (tail (tail g))))) p) i)
+  typed_injective (assign a0 a1 a2 a3) (assign b0 b1 b2 b3) p = λ i. assign (coded_ty.inj a0 b0 (ap (λ g. head (tail g)) p) i) (span.the_row.coded.inj a1 b1 (ap (λ g. head (tail (tail g))) p) i) (coded_ℕ.inj a2 b2 (ap (λ g. head (tail (tail (tail g)))) p) i) (typed_injective a3 b3 (ap (λ g. tail (tail (tail (tail g)))) p) i)
+  typed_injective (assign_value a0 a1 a2 a3) (assign_value b0 b1 b2 b3) p = λ i. assign_value (coded_ty.inj a0 b0 (ap (λ g. head (tail g)) p) i) (span.the_row.coded.inj a1 b1 (ap (λ g. head (tail (tail g))) p) i) (typed_injective a2 b2 (ap (λ g. head (tail (tail (tail g)))) p) i) (typed_injective a3 b3 (ap (λ g. tail (tail (tail (tail g)))) p) i)
+  typed_injective (update a0 a1 a2 a3 a4) (update b0 b1 b2 b3 b4) p = λ i. update (coded_ty.inj a0 b0 (ap (λ g. head (tail g)) p) i) (span.the_row.coded.inj a1 b1 (ap (λ g. head (tail (tail g))) p) i) (binary_op.the_row.coded.inj a2 b2 (ap (λ g. head (tail (tail (tail g)))) p) i) (coded_ℕ.inj a3 b3 (ap (λ g. head (tail (tail (tail (tail g))))) p) i) (typed_injective a4 b4 (ap (λ g. tail (tail (tail (tail (tail g))))) p) i)
+  typed_injective (update_value a0 a1 a2 a3 a4) (update_value b0 b1 b2 b3 b4) p = λ i. update_value (coded_ty.inj a0 b0 (ap (λ g. head (tail g)) p) i) (span.the_row.coded.inj a1 b1 (ap (λ g. head (tail (tail g))) p) i) (binary_op.the_row.coded.inj a2 b2 (ap (λ g. head (tail (tail (tail g)))) p) i) (typed_injective a3 b3 (ap (λ g. head (tail (tail (tail (tail g))))) p) i) (typed_injective a4 b4 (ap (λ g. tail (tail (tail (tail (tail g))))) p) i)
+  typed_injective (call a0 a1 a2 a3) (call b0 b1 b2 b3) p = λ i. call (coded_ty.inj a0 b0 (ap (λ g. head (tail g)) p) i) (span.the_row.coded.inj a1 b1 (ap (λ g. head (tail (tail g))) p) i) (coded_ℕ.inj a2 b2 (ap (λ g. head (tail (tail (tail g)))) p) i) (exprs_injective a3 b3 (ap (λ g. tail (tail (tail (tail g)))) p) i)
+  typed_injective (block a0 a1 a2) (block b0 b1 b2) p = λ i. block (coded_ty.inj a0 b0 (ap (λ g. head (tail g)) p) i) (span.the_row.coded.inj a1 b1 (ap (λ g. head (tail (tail g))) p) i) (stmts_injective a2 b2 (ap (λ g. tail (tail (tail g))) p) i)
+  typed_injective (branch a0 a1 a2 a3) (branch b0 b1 b2 b3) p = λ i. branch (coded_ty.inj a0 b0 (ap (λ g. head (tail g)) p) i) (span.the_row.coded.inj a1 b1 (ap (λ g. head (tail (tail g))) p) i) (typed_injective a2 b2 (ap (λ g. head (tail (tail (tail g)))) p) i) (typed_injective a3 b3 (ap (λ g. tail (tail (tail (tail g)))) p) i)
+  typed_injective (choice a0 a1 a2 a3 a4) (choice b0 b1 b2 b3 b4) p = λ i. choice (coded_ty.inj a0 b0 (ap (λ g. head (tail g)) p) i) (span.the_row.coded.inj a1 b1 (ap (λ g. head (tail (tail g))) p) i) (typed_injective a2 b2 (ap (λ g. head (tail (tail (tail g)))) p) i) (typed_injective a3 b3 (ap (λ g. head (tail (tail (tail (tail g))))) p) i) (typed_injective a4 b4 (ap (λ g. tail (tail (tail (tail (tail g))))) p) i)
+  typed_injective (repeat a0 a1 a2 a3 a4) (repeat b0 b1 b2 b3 b4) p = λ i. repeat (coded_ty.inj a0 b0 (ap (λ g. head (tail g)) p) i) (span.the_row.coded.inj a1 b1 (ap (λ g. head (tail (tail g))) p) i) ((coded_list assertion.the_row.coded).inj a2 b2 (ap (λ g. head (tail (tail (tail g)))) p) i) (typed_injective a3 b3 (ap (λ g. head (tail (tail (tail (tail g))))) p) i) (typed_injective a4 b4 (ap (λ g. tail (tail (tail (tail (tail g))))) p) i)
+  typed_injective x y p = absurd (omega (arith, ap tag p))
+
+  pub stmts_injective : (x y : TypedStmts) → stmts_code x ≡ stmts_code y → x ≡ y
+  stmts_injective done done p = refl
+  stmts_injective (last a0) (last b0) p = λ i. last (typed_injective a0 b0 (ap (λ g. tail g) p) i)
+  stmts_injective (bind a0 a1) (bind b0 b1) p = λ i. bind (typed_injective a0 b0 (ap (λ g. head (tail g)) p) i) (stmts_injective a1 b1 (ap (λ g. tail (tail g)) p) i)
+  stmts_injective (run a0 a1) (run b0 b1) p = λ i. run (typed_injective a0 b0 (ap (λ g. head (tail g)) p) i) (stmts_injective a1 b1 (ap (λ g. tail (tail g)) p) i)
+  stmts_injective x y p = absurd (omega (arith, ap tag p))
+
+  pub exprs_injective : (x y : TypedExprs) → exprs_code x ≡ exprs_code y → x ≡ y
+  exprs_injective none none p = refl
+  exprs_injective (more a0 a1) (more b0 b1) p = λ i. more (typed_injective a0 b0 (ap (λ g. head (tail g)) p) i) (exprs_injective a1 b1 (ap (λ g. tail (tail g)) p) i)
+  exprs_injective x y p = absurd (omega (arith, ap tag p))
+
+abbrev pub coded_typed : Coded TypedExpr
+coded_typed = record { code = typed_code; inj = typed_injective }

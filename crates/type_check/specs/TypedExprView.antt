@@ -1,0 +1,105 @@
+-- The expressions that nodes stand for, how deep expressions are, and their types and spans.
+use Rattle.std.specs.Prelude.{ℕ, suc, max, Bool, true, false, List, [], ◌∷◌}
+use Rattle.text_core.specs.declared.span.Span.{Span}
+use Rattle.logic_term.specs.Ty.{Ty}
+use Rattle.type_check.specs.TypedExpr.{TypedExpr, integer, truth, variable, negative, denied, binary, lazy, assign, assign_value, update, update_value, call, block, branch, choice, repeat, TypedStmts, done, last, bind, run, TypedExprs, none, more}
+use Rattle.type_check.specs.declared.typed.TypedStmt.{TypedStmt}
+use Rattle.type_check.specs.declared.typed.TypedNode.{TypedNode}
+use Rattle.type_check.specs.declared.typed.TypedNode.TheVariants as node
+
+abbrev pub stmt_of : Bool → TypedExpr → TypedStmts → TypedStmts
+stmt_of true e ss = bind e ss
+stmt_of false e ss = run e ss
+
+-- these statements, and then the end
+abbrev pub stmts_of : List TypedStmt → TypedStmts → TypedStmts
+stmts_of [] end = end
+stmts_of (s ∷ ss) end = stmt_of s.binds s.value (stmts_of ss end)
+
+abbrev pub exprs_of : List TypedExpr → TypedExprs
+exprs_of [] = none
+exprs_of (e ∷ es) = more e (exprs_of es)
+
+abbrev pub typed_of : Ty → Span → TypedNode → TypedExpr
+typed_of t s (node.Int a0 a1) = integer t s a0 a1
+typed_of t s (node.Truth a0) = truth t s a0
+typed_of t s (node.Variable a0) = variable t s a0
+typed_of t s (node.Neg a0) = negative t s a0.value
+typed_of t s (node.Not a0) = denied t s a0.value
+typed_of t s (node.Binary a0 a1 a2) = binary t s a0 a1.value a2.value
+typed_of t s (node.Lazy a0 a1 a2) = lazy t s a0 a1.value a2.value
+typed_of t s (node.Assign a0 a1) = assign t s a0 a1.value
+typed_of t s (node.AssignValue a0 a1) = assign_value t s a0.value a1.value
+typed_of t s (node.Update a0 a1 a2) = update t s a0 a1 a2.value
+typed_of t s (node.UpdateValue a0 a1 a2) = update_value t s a0 a1.value a2.value
+typed_of t s (node.Call a0 a1) = call t s a0 (exprs_of a1.items)
+typed_of t s (node.Block ss) = block t s (stmts_of ss.items done)
+typed_of t s (node.BlockWith ss e) = block t s (stmts_of ss.items (last e.value))
+typed_of t s (node.If a0 a1) = branch t s a0.value a1.value
+typed_of t s (node.IfElse a0 a1 a2) = choice t s a0.value a1.value a2.value
+typed_of t s (node.While a0 a1 a2) = repeat t s a0.items a1.value a2.value
+
+abbrev mutual
+  pub typed_size : TypedExpr → ℕ
+  typed_size (integer a0 a1 a2 a3) = 1
+  typed_size (truth a0 a1 a2) = 1
+  typed_size (variable a0 a1 a2) = 1
+  typed_size (negative a0 a1 a2) = suc (typed_size a2)
+  typed_size (denied a0 a1 a2) = suc (typed_size a2)
+  typed_size (binary a0 a1 a2 a3 a4) = suc (max (typed_size a3) (typed_size a4))
+  typed_size (lazy a0 a1 a2 a3 a4) = suc (max (typed_size a3) (typed_size a4))
+  typed_size (assign a0 a1 a2 a3) = suc (typed_size a3)
+  typed_size (assign_value a0 a1 a2 a3) = suc (max (typed_size a2) (typed_size a3))
+  typed_size (update a0 a1 a2 a3 a4) = suc (typed_size a4)
+  typed_size (update_value a0 a1 a2 a3 a4) = suc (max (typed_size a3) (typed_size a4))
+  typed_size (call a0 a1 a2 a3) = suc (exprs_size a3)
+  typed_size (block a0 a1 a2) = suc (stmts_size a2)
+  typed_size (branch a0 a1 a2 a3) = suc (max (typed_size a2) (typed_size a3))
+  typed_size (choice a0 a1 a2 a3 a4) = suc (max (typed_size a2) (max (typed_size a3) (typed_size a4)))
+  typed_size (repeat a0 a1 a2 a3 a4) = suc (max (typed_size a3) (typed_size a4))
+
+  pub stmts_size : TypedStmts → ℕ
+  stmts_size done = 1
+  stmts_size (last a0) = suc (typed_size a0)
+  stmts_size (bind a0 a1) = suc (max (typed_size a0) (stmts_size a1))
+  stmts_size (run a0 a1) = suc (max (typed_size a0) (stmts_size a1))
+
+  pub exprs_size : TypedExprs → ℕ
+  exprs_size none = 1
+  exprs_size (more a0 a1) = suc (max (typed_size a0) (exprs_size a1))
+
+abbrev pub ty_of : TypedExpr → Ty
+ty_of (integer t s a0 a1) = t
+ty_of (truth t s a0) = t
+ty_of (variable t s a0) = t
+ty_of (negative t s a0) = t
+ty_of (denied t s a0) = t
+ty_of (binary t s a0 a1 a2) = t
+ty_of (lazy t s a0 a1 a2) = t
+ty_of (assign t s a0 a1) = t
+ty_of (assign_value t s a0 a1) = t
+ty_of (update t s a0 a1 a2) = t
+ty_of (update_value t s a0 a1 a2) = t
+ty_of (call t s a0 a1) = t
+ty_of (block t s a0) = t
+ty_of (branch t s a0 a1) = t
+ty_of (choice t s a0 a1 a2) = t
+ty_of (repeat t s a0 a1 a2) = t
+
+abbrev pub span_of : TypedExpr → Span
+span_of (integer t s a0 a1) = s
+span_of (truth t s a0) = s
+span_of (variable t s a0) = s
+span_of (negative t s a0) = s
+span_of (denied t s a0) = s
+span_of (binary t s a0 a1 a2) = s
+span_of (lazy t s a0 a1 a2) = s
+span_of (assign t s a0 a1) = s
+span_of (assign_value t s a0 a1) = s
+span_of (update t s a0 a1 a2) = s
+span_of (update_value t s a0 a1 a2) = s
+span_of (call t s a0 a1) = s
+span_of (block t s a0) = s
+span_of (branch t s a0 a1) = s
+span_of (choice t s a0 a1 a2) = s
+span_of (repeat t s a0 a1 a2) = s

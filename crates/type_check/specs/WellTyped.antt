@@ -1,0 +1,149 @@
+-- Typed expressions whose parts fit (Rust Reference, "Operator expressions", "Call expressions", "Block expressions", "if expressions",
+-- "Predicate loops"). The variables in scope are a list of their types, the outermost first.
+use Rattle.std.specs.Prelude.{◌≡◌, ◌⊎◌, ℕ, ◌<◌, Bool, true, false, List, [], ◌∷◌, ◌++◌, length, map, Option, Some, None, slice_get, if◌then◌else◌}
+use Rattle.text_core.specs.declared.name.Name.{Name}
+use Rattle.logic_term.specs.declared.kinds.BinaryOp.{BinaryOp}
+use Rattle.logic_term.specs.declared.kinds.BinaryOp.TheVariants.{Add, Sub, Mul, Div, Rem, Eq, Ne}
+use Rattle.logic_term.specs.declared.kinds.IntKind.{IntKind}
+use Rattle.logic_term.specs.declared.kinds.IntKind.TheVariants.{I8, I16, I32, I64, Isize}
+use Rattle.logic_term.specs.Free.{free}
+use Rattle.logic_term.specs.Range.{fits}
+use Rattle.logic_term.specs.Ty.{Ty, int, bool, tuple, no_tys}
+use Rattle.rs_syntax.specs.declared.function.ClauseKind.{ClauseKind}
+use Rattle.rs_syntax.specs.declared.function.ClauseKind.TheVariants.{Requires, Ensures}
+use Rattle.type_check.specs.declared.assertion.Assertion.{Assertion}
+use Rattle.type_check.specs.declared.assertion.Assertion.TheVariants.{Good, Bad}
+use Rattle.type_check.specs.declared.program.Signature.{Signature}
+use Rattle.type_check.specs.declared.program.TypedClause.{TypedClause}
+use Rattle.type_check.specs.declared.program.TypedFunction.{TypedFunction}
+use Rattle.type_check.specs.declared.program.TypedProgram.{TypedProgram}
+use Rattle.type_check.specs.TypedExpr.{TypedExpr, TypedStmts, TypedExprs, integer, truth, variable, negative, denied, binary, lazy, assign, assign_value, update, update_value, call, block, branch, choice, repeat, done, last, bind, run, none, more}
+use Rattle.type_check.specs.TypedExprView.{ty_of}
+use Rattle.type_check.specs.VariableNames.{variable_name, answer_name}
+
+abbrev pub unit : Ty
+unit = tuple no_tys
+
+-- the types that are built: the machine integers, the truth values and unit
+abbrev pub IsBuilt : Ty → Type 0
+IsBuilt (int k) = Unit {0}
+IsBuilt bool = Unit {0}
+IsBuilt (tuple no_tys) = Unit {0}
+IsBuilt _ = ⊥
+
+-- ---- operators
+
+abbrev pub is_arithmetic : BinaryOp → Bool
+is_arithmetic Add = true
+is_arithmetic Sub = true
+is_arithmetic Mul = true
+is_arithmetic Div = true
+is_arithmetic Rem = true
+is_arithmetic _ = false
+
+abbrev pub is_equality : BinaryOp → Bool
+is_equality Eq = true
+is_equality Ne = true
+is_equality _ = false
+
+-- the type of an operation on two operands of the type, where the operator takes them
+abbrev pub operation_ty : BinaryOp → Ty → Option Ty
+operation_ty op (int k) = Some (if is_arithmetic op then int k else bool)
+operation_ty op bool = if is_equality op then Some bool else None
+operation_ty op _ = None
+
+abbrev pub is_signed : IntKind → Bool
+is_signed I8 = true
+is_signed I16 = true
+is_signed I32 = true
+is_signed I64 = true
+is_signed Isize = true
+is_signed _ = false
+
+-- ---- formulas
+
+-- one of the first n variables
+abbrev pub IsVariable : ℕ → Name → Type 0
+IsVariable n x = (k : ℕ) × (k < n) × (x ≡ variable_name k)
+
+-- the formula speaks of the first n variables alone
+abbrev pub SpeaksOf : ℕ → Assertion → Type 0
+SpeaksOf n (Good s t) = (x : Name) → free x t ≡ true → IsVariable n x
+SpeaksOf n (Bad e) = Unit {0}
+
+-- or of the answer as well
+abbrev pub SpeaksOfAnswer : ℕ → Assertion → Type 0
+SpeaksOfAnswer n (Good s t) = (x : Name) → free x t ≡ true → IsVariable n x ⊎ (x ≡ answer_name)
+SpeaksOfAnswer n (Bad e) = Unit {0}
+
+abbrev pub ClauseSpeaksOf : ℕ → ClauseKind → Assertion → Type 0
+ClauseSpeaksOf n Requires a = SpeaksOf n a
+ClauseSpeaksOf n Ensures a = SpeaksOfAnswer n a
+
+abbrev pub EachSpeaks : ℕ → List Assertion → Type 0
+EachSpeaks n [] = Unit {0}
+EachSpeaks n (a ∷ as') = SpeaksOf n a × EachSpeaks n as'
+
+-- ---- expressions
+
+abbrev pub IsOf : Ty → TypedExpr → Type 0
+IsOf t e = ty_of e ≡ t
+
+abbrev mutual
+  pub IsWellTyped : List Signature → List Ty → TypedExpr → Type 0
+  IsWellTyped σ Γ (integer t s z k) = (t ≡ int k) × (fits k z ≡ true)
+  IsWellTyped σ Γ (truth t s b) = t ≡ bool
+  IsWellTyped σ Γ (variable t s x) = slice_get Γ x ≡ Some t
+  IsWellTyped σ Γ (negative t s e) = (k : IntKind) × (is_signed k ≡ true) × (t ≡ int k) × IsOf (int k) e × IsWellTyped σ Γ e
+  IsWellTyped σ Γ (denied t s e) = (t ≡ bool) × IsOf bool e × IsWellTyped σ Γ e
+  IsWellTyped σ Γ (binary t s op a b) = (operation_ty op (ty_of a) ≡ Some t) × IsOf (ty_of a) b × IsWellTyped σ Γ a × IsWellTyped σ Γ b
+  IsWellTyped σ Γ (lazy t s op a b) = (t ≡ bool) × IsOf bool a × IsOf bool b × IsWellTyped σ Γ a × IsWellTyped σ Γ b
+  IsWellTyped σ Γ (assign t s x e) = (t ≡ unit) × (slice_get Γ x ≡ Some (ty_of e)) × IsWellTyped σ Γ e
+  IsWellTyped σ Γ (assign_value t s a e) = (t ≡ unit) × IsOf (ty_of a) e × IsWellTyped σ Γ a × IsWellTyped σ Γ e
+  IsWellTyped σ Γ (update t s op x e) = (t ≡ unit) × (slice_get Γ x ≡ Some (ty_of e)) × (operation_ty op (ty_of e) ≡ Some (ty_of e)) × IsWellTyped σ Γ e
+  IsWellTyped σ Γ (update_value t s op a e) = (t ≡ unit) × IsOf (ty_of a) e × (operation_ty op (ty_of e) ≡ Some (ty_of e)) × IsWellTyped σ Γ a × IsWellTyped σ Γ e
+  IsWellTyped σ Γ (call t s f es) = (g : Signature) × (slice_get σ f ≡ Some g) × (t ≡ g.answer) × ArgumentsFit σ Γ es g.params
+  IsWellTyped σ Γ (block t s ss) = StatementsFit σ Γ t ss
+  IsWellTyped σ Γ (branch t s c a) = (t ≡ unit) × IsOf bool c × IsOf unit a × IsWellTyped σ Γ c × IsWellTyped σ Γ a
+  IsWellTyped σ Γ (choice t s c a b) = IsOf bool c × IsOf t a × IsOf t b × IsWellTyped σ Γ c × IsWellTyped σ Γ a × IsWellTyped σ Γ b
+  IsWellTyped σ Γ (repeat t s is c b) = (t ≡ unit) × EachSpeaks (length Γ) is × IsOf bool c × IsOf unit b × IsWellTyped σ Γ c × IsWellTyped σ Γ b
+
+  -- the statements of a block of the type, and its last expression
+  pub StatementsFit : List Signature → List Ty → Ty → TypedStmts → Type 0
+  StatementsFit σ Γ t done = t ≡ unit
+  StatementsFit σ Γ t (last e) = IsOf t e × IsWellTyped σ Γ e
+  StatementsFit σ Γ t (bind e ss) = IsWellTyped σ Γ e × StatementsFit σ (Γ ++ ty_of e ∷ []) t ss
+  StatementsFit σ Γ t (run e ss) = IsWellTyped σ Γ e × StatementsFit σ Γ t ss
+
+  -- one argument for each parameter
+  pub ArgumentsFit : List Signature → List Ty → TypedExprs → List Ty → Type 0
+  ArgumentsFit σ Γ none [] = Unit {0}
+  ArgumentsFit σ Γ (more e es) (t ∷ ts) = IsOf t e × IsWellTyped σ Γ e × ArgumentsFit σ Γ es ts
+  ArgumentsFit σ Γ _ _ = ⊥
+
+-- ---- functions
+
+abbrev pub AllBuilt : List Ty → Type 0
+AllBuilt [] = Unit {0}
+AllBuilt (t ∷ ts) = IsBuilt t × AllBuilt ts
+
+abbrev pub ClausesSpeak : ℕ → List TypedClause → Type 0
+ClausesSpeak n [] = Unit {0}
+ClausesSpeak n (c ∷ cs) = ClauseSpeaksOf n c.kind c.formula × ClausesSpeak n cs
+
+pub record FunctionFits (σ : List Signature) (f : TypedFunction) : Type 0 where
+  pub params : AllBuilt f.signature.params
+  pub answer : IsBuilt f.signature.answer
+  pub clauses : ClausesSpeak (length f.signature.params) f.clauses
+  pub body : IsWellTyped σ f.signature.params f.body
+  pub of_answer : IsOf f.signature.answer f.body
+
+abbrev pub signatures : List TypedFunction → List Signature
+signatures fs = map (λ (f : TypedFunction). f.signature) fs
+
+abbrev pub EachFits : List Signature → List TypedFunction → Type 0
+EachFits σ [] = Unit {0}
+EachFits σ (f ∷ fs) = FunctionFits σ f × EachFits σ fs
+
+abbrev pub ProgramFits : TypedProgram → Type 0
+ProgramFits p = EachFits (signatures p.functions) p.functions

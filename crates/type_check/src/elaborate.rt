@@ -1,0 +1,297 @@
+ghost use Rattle.std.specs.Prelude.{◌≡◌, IfOk, None, map};
+ghost use Rattle.logic_term.specs.Term.{or};
+ghost use Rattle.logic_term.specs.Ty.{bool, math_int};
+ghost use Rattle.rs_syntax.specs.PtermView.{span_of};
+ghost use Rattle.type_check.specs.Answers.{Answers};
+ghost use Rattle.type_check.specs.Terms.{sorted, literal, name_term, model_of, formula, number, ordered, is_ordering, ordered_at, compared, elaborated, asserted, assertion};
+ghost use Rattle.type_check.specs.VariableNames.{variable_name, answer_name};
+
+use crate::assertion::Assertion;
+use crate::refusal::{mismatch, unknown_name};
+use crate::scope::{Answer, Variable, find_variable};
+use crate::sorted::SortedTerm;
+use crate::types::{bool_ty, fits, is_bool, is_math_int, math_int_ty, same_ty};
+use logic_term::{IntKind, Term, TermNode, Ty, TyNode};
+use rs_syntax::{Comparison, PassError, Pterm, PtermNode};
+use std::alloc::Global;
+use text_core::{Name, NoMemory, Span};
+
+/// The name by which formulas speak of the variable of this place.
+#[tactic(auto, unfolding(crate::specs::VariableNames::variable_name))]
+pub fn variable_name(place: u32) -> Name
+    ensures { result ≡ variable_name place }
+{
+    Name::fresh((1 << 61) + place as u64)
+}
+
+/// The name by which formulas speak of the answer.
+#[tactic(auto, unfolding(crate::specs::VariableNames::answer_name))]
+pub fn answer_name() -> Name
+    ensures { result ≡ answer_name }
+{
+    Name::fresh((1 << 61) + (1 << 60))
+}
+
+/// From the term's first token to its last.
+fn span_of(t: &Pterm) -> Span
+    ensures { result ≡ span_of t.now }
+{
+    t.span
+}
+
+fn formula_of_sort(term: Term) -> SortedTerm
+    ensures { result ≡ sorted bool term }
+{
+    SortedTerm {
+        sort: bool_ty(),
+        term,
+    }
+}
+
+fn number_of_sort(term: Term) -> SortedTerm
+    ensures { result ≡ sorted math_int term }
+{
+    SortedTerm {
+        sort: math_int_ty(),
+        term,
+    }
+}
+
+#[tactic(auto, unfolding(crate::specs::Terms::literal))]
+fn literal(number: i128, kind: Option<IntKind>, span: Span) -> Result<SortedTerm, PassError>
+    ensures { Answers result (literal span number kind) }
+{
+    match kind {
+        None => Ok(number_of_sort(Term::integer(number))),
+        Some(kind) if fits(kind, number) => Ok(SortedTerm {
+            sort: Ty::int(kind),
+            term: Term::lit(number, Ty::int(kind)),
+        }),
+        Some(_) => Err(mismatch(span)),
+    }
+}
+
+#[tactic(auto, unfolding(crate::specs::Terms::name_term))]
+fn name_term(
+    alloc: Global,
+    answer: &Option<Answer>,
+    scope: &[Variable],
+    span: Span,
+    name: Name,
+) -> Result<SortedTerm, PassError>
+    ensures { Answers result (name_term answer.now scope.now span name) }
+{
+    if let Some(answer) = answer
+        && name.0 == answer.name.0
+    {
+        return Ok(SortedTerm {
+            sort: answer.ty.copy(alloc)?,
+            term: Term::var(answer_name()),
+        });
+    }
+    match find_variable(alloc, name, scope)? {
+        Some(variable) => Ok(SortedTerm {
+            sort: variable.ty,
+            term: Term::var(variable_name(variable.place)),
+        }),
+        None => Err(unknown_name(span)),
+    }
+}
+
+/// `t@`
+#[tactic(auto, unfolding(crate::specs::Terms::model_of))]
+fn model_of(alloc: Global, span: Span, t: SortedTerm) -> Result<SortedTerm, PassError>
+    ensures { Answers result (model_of span t) }
+{
+    let SortedTerm { sort, term } = t;
+    match &sort.node {
+        TyNode::Int(_) => Ok(number_of_sort(Term::model(alloc, term)?)),
+        _ => Err(mismatch(span)),
+    }
+}
+
+#[tactic(auto, unfolding(crate::specs::Terms::formula))]
+fn formula(span: Span, t: SortedTerm) -> Result<Term, PassError>
+    ensures { Answers result (formula span t) }
+{
+    if is_bool(&t.sort) {
+        Ok(t.term)
+    } else {
+        Err(mismatch(span))
+    }
+}
+
+#[tactic(auto, unfolding(crate::specs::Terms::number))]
+fn number(span: Span, t: SortedTerm) -> Result<Term, PassError>
+    ensures { Answers result (number span t) }
+{
+    if is_math_int(&t.sort) {
+        Ok(t.term)
+    } else {
+        Err(mismatch(span))
+    }
+}
+
+fn ordered(alloc: Global, op: Comparison, a: Term, b: Term) -> Result<Term, NoMemory>
+    ensures { IfOk result (λ t. t ≡ ordered op a b) }
+{
+    match op {
+        Comparison::Lt => Term::less(alloc, a, b),
+        Comparison::Le => Term::at_most(alloc, a, b),
+        Comparison::Gt => Term::less(alloc, b, a),
+        Comparison::Ge => Term::at_most(alloc, b, a),
+        Comparison::Eq => Term::equal(alloc, a, b),
+        Comparison::Ne => Term::not(alloc, Term::equal(alloc, a, b)?),
+    }
+}
+
+fn is_ordering(op: Comparison) -> bool
+    ensures { result ≡ is_ordering op }
+{
+    !matches!(op, Comparison::Eq | Comparison::Ne)
+}
+
+fn ordered_at(
+    alloc: Global,
+    sort: &Ty,
+    op: Comparison,
+    span: Span,
+    a: Term,
+    b: Term,
+) -> Result<SortedTerm, PassError>
+    ensures { Answers result (ordered_at sort.now op span a b) }
+{
+    match &sort.node {
+        TyNode::MathInt => Ok(formula_of_sort(ordered(alloc, op, a, b)?)),
+        TyNode::Int(_) => {
+            let a = Term::model(alloc, a)?;
+            let b = Term::model(alloc, b)?;
+            Ok(formula_of_sort(ordered(alloc, op, a, b)?))
+        }
+        _ => Err(mismatch(span)),
+    }
+}
+
+#[tactic(auto, unfolding(crate::specs::Terms::compared))]
+fn compared(
+    alloc: Global,
+    op: Comparison,
+    spans: (Span, Span),
+    a: SortedTerm,
+    b: SortedTerm,
+) -> Result<SortedTerm, PassError>
+    ensures { Answers result (compared op spans.0 spans.1 a b) }
+{
+    if !same_ty(&b.sort, &a.sort) {
+        return Err(mismatch(spans.1));
+    }
+    let SortedTerm { sort, term } = a;
+    if is_ordering(op) {
+        return ordered_at(alloc, &sort, op, spans.0, term, b.term);
+    }
+    Ok(formula_of_sort(ordered(alloc, op, term, b.term)?))
+}
+
+fn or(alloc: Global, a: Term, b: Term) -> Result<Term, NoMemory>
+    ensures { IfOk result (λ t. t ≡ or a b) }
+{
+    let node = TermNode::Or(Box::new(alloc, a)?, Box::new(alloc, b)?);
+    Ok(Term { node })
+}
+
+/// The term that a term of a contract becomes, with its sort.
+#[cycle(elaborate)]
+fn elaborate(
+    alloc: Global,
+    answer: &Option<Answer>,
+    scope: &[Variable],
+    t: &Pterm,
+) -> Result<SortedTerm, PassError>
+    ensures { Answers result (elaborated answer.now scope.now t.now) }
+{
+    match &t.node {
+        PtermNode::Int(number, kind) => literal(*number, *kind, t.span),
+        PtermNode::Truth(holds) => Ok(formula_of_sort(Term::truth(*holds))),
+        PtermNode::Name(name) => name_term(alloc, answer, scope, t.span, *name),
+        PtermNode::View(t) => model_of(alloc, span_of(t), elaborate(alloc, answer, scope, t)?),
+        PtermNode::Neg(t) => {
+            let t = number(span_of(t), elaborate(alloc, answer, scope, t)?)?;
+            Ok(number_of_sort(Term::negative(alloc, t)?))
+        }
+        PtermNode::Not(t) => {
+            let t = elaborate_formula(alloc, answer, scope, t)?;
+            Ok(formula_of_sort(Term::not(alloc, t)?))
+        }
+        PtermNode::Arith(op, t, u) => {
+            let a = elaborate(alloc, answer, scope, t)?;
+            let b = elaborate(alloc, answer, scope, u)?;
+            let a = number(span_of(t), a)?;
+            let b = number(span_of(u), b)?;
+            Ok(number_of_sort(Term::calculate(alloc, *op, a, b)?))
+        }
+        PtermNode::Compare(op, t, u) => {
+            let a = elaborate(alloc, answer, scope, t)?;
+            let b = elaborate(alloc, answer, scope, u)?;
+            compared(alloc, *op, (span_of(t), span_of(u)), a, b)
+        }
+        PtermNode::And(t, u) => {
+            let a = elaborate_formula(alloc, answer, scope, t)?;
+            let b = elaborate_formula(alloc, answer, scope, u)?;
+            Ok(formula_of_sort(Term::and(alloc, a, b)?))
+        }
+        PtermNode::Or(t, u) => {
+            let a = elaborate_formula(alloc, answer, scope, t)?;
+            let b = elaborate_formula(alloc, answer, scope, u)?;
+            Ok(formula_of_sort(or(alloc, a, b)?))
+        }
+        PtermNode::Implies(t, u) => {
+            let a = elaborate_formula(alloc, answer, scope, t)?;
+            let b = elaborate_formula(alloc, answer, scope, u)?;
+            Ok(formula_of_sort(Term::implies(alloc, a, b)?))
+        }
+    }
+}
+
+/// The formula that a term of a contract becomes.
+#[cycle(elaborate)]
+fn elaborate_formula(
+    alloc: Global,
+    answer: &Option<Answer>,
+    scope: &[Variable],
+    t: &Pterm,
+) -> Result<Term, PassError>
+    ensures { Answers result (asserted answer.now scope.now t.now) }
+{
+    formula(span_of(t), elaborate(alloc, answer, scope, t)?)
+}
+
+/// The formula of a clause or of an invariant.
+pub(crate) fn assertion(
+    alloc: Global,
+    answer: &Option<Answer>,
+    scope: &[Variable],
+    t: &Pterm,
+) -> Result<Assertion, NoMemory>
+    ensures { IfOk result (λ a. a ≡ assertion answer.now scope.now t.now) }
+{
+    match elaborate_formula(alloc, answer, scope, t) {
+        Ok(formula) => Ok(Assertion::Good(span_of(t), formula)),
+        Err(PassError::Source(error)) => Ok(Assertion::Bad(error)),
+        Err(_) => Err(NoMemory),
+    }
+}
+
+/// The formulas of invariants.
+pub(crate) fn assertions(
+    alloc: Global,
+    scope: &[Variable],
+    terms: &[Pterm],
+) -> Result<Vec<Assertion>, NoMemory>
+    ensures { IfOk result (λ v. v.items ≡ map (assertion None scope.now) terms.now) }
+{
+    let mut all = Vec::with_capacity(alloc, terms.len())?;
+    for t in terms {
+        all.push(assertion(alloc, &None, scope, t)?)?;
+    }
+    Ok(all)
+}

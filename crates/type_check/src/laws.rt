@@ -1,0 +1,17 @@
+//! What holds of every source. Nothing here computes: each clause is a law of the definitions in specs/, by which the
+//! contract of `check` speaks.
+
+ghost use Rattle.type_check.specs.Causes.{RefusalsHaveCauses};
+ghost use Rattle.type_check.specs.Laws.{CheckedProgramsFit, CheckedProgramsAreGood};
+
+/// The program that a source comes to fits, and no clause and no invariant of it is refused.
+pub fn checked_programs_fit()
+    ensures fits { CheckedProgramsFit }
+    ensures good { CheckedProgramsAreGood }
+{}
+
+/// A refusal of program code has a cause at the expression or at a part of it: E05 at a name that means no variable or no
+/// function there, E22 at the name of a variable that is written and is not mutable, or E07.
+pub fn refusals_have_causes()
+    ensures { RefusalsHaveCauses }
+{}

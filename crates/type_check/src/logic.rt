@@ -1,0 +1,128 @@
+ghost use Rattle.std.specs.Prelude.{◌≡◌};
+ghost use Rattle.type_check.specs.FirstBad.{bad_of, bad_among, bad_in, bad_in_stmts, bad_in_exprs, bad_clause, bad_in_function, first_bad};
+ghost use Rattle.type_check.specs.Names.{or_else};
+ghost use Rattle.type_check.specs.TypedExpr.{done};
+ghost use Rattle.type_check.specs.TypedExprView.{exprs_of, stmts_of};
+
+use crate::assertion::Assertion;
+use crate::program::{TypedClause, TypedFunction};
+use crate::typed::{TypedExpr, TypedNode, TypedStmt};
+use text_core::SourceError;
+
+fn earlier(first: Option<SourceError>, second: Option<SourceError>) -> Option<SourceError>
+    ensures { result ≡ or_else first second }
+{
+    if first.is_some() { first } else { second }
+}
+
+fn bad_of(assertion: &Assertion) -> Option<SourceError>
+    ensures { result ≡ bad_of assertion.now }
+{
+    match assertion {
+        Assertion::Good(_, _) => None,
+        Assertion::Bad(error) => Some(*error),
+    }
+}
+
+fn bad_among(assertions: &[Assertion]) -> Option<SourceError>
+    ensures { result ≡ bad_among assertions.now }
+{
+    for assertion in assertions {
+        let bad = bad_of(assertion);
+        if bad.is_some() {
+            return bad;
+        }
+    }
+    None
+}
+
+/// The first refusal among the invariants in the expression.
+#[cycle(bad_in)]
+#[tactic(auto, using(crate::proofs::TypedParts::typed_parts))]
+fn bad_in(e: &TypedExpr) -> Option<SourceError>
+    ensures { result ≡ bad_in e.now }
+{
+    match &e.node {
+        TypedNode::Int(_, _) => None,
+        TypedNode::Truth(_) => None,
+        TypedNode::Variable(_) => None,
+        TypedNode::Neg(a) => bad_in(a),
+        TypedNode::Not(a) => bad_in(a),
+        TypedNode::Binary(_, a, b) => earlier(bad_in(a), bad_in(b)),
+        TypedNode::Lazy(_, a, b) => earlier(bad_in(a), bad_in(b)),
+        TypedNode::Assign(_, a) => bad_in(a),
+        TypedNode::AssignValue(a, b) => earlier(bad_in(a), bad_in(b)),
+        TypedNode::Update(_, _, a) => bad_in(a),
+        TypedNode::UpdateValue(_, a, b) => earlier(bad_in(a), bad_in(b)),
+        TypedNode::Call(_, args) => bad_in_exprs(args),
+        TypedNode::Block(stmts) => bad_in_stmts(stmts),
+        TypedNode::BlockWith(stmts, last) => earlier(bad_in_stmts(stmts), bad_in(last)),
+        TypedNode::If(c, a) => earlier(bad_in(c), bad_in(a)),
+        TypedNode::IfElse(c, a, b) => earlier(bad_in(c), earlier(bad_in(a), bad_in(b))),
+        TypedNode::While(invariants, c, b) => {
+            earlier(bad_among(invariants), earlier(bad_in(c), bad_in(b)))
+        }
+    }
+}
+
+#[cycle(bad_in)]
+#[tactic(auto, using(crate::proofs::TypedParts::typed_parts))]
+fn bad_in_exprs(es: &[TypedExpr]) -> Option<SourceError>
+    ensures { result ≡ bad_in_exprs (exprs_of es.now) }
+{
+    for i in 0..es.len() {
+        let bad = bad_in(&es[i]);
+        if bad.is_some() {
+            return bad;
+        }
+    }
+    None
+}
+
+#[cycle(bad_in)]
+#[tactic(auto, using(crate::proofs::TypedParts::typed_parts))]
+fn bad_in_stmts(stmts: &[TypedStmt]) -> Option<SourceError>
+    ensures { result ≡ bad_in_stmts (stmts_of stmts.now done) }
+{
+    for i in 0..stmts.len() {
+        let bad = bad_in(&stmts[i].value);
+        if bad.is_some() {
+            return bad;
+        }
+    }
+    None
+}
+
+fn bad_clause(clauses: &[TypedClause]) -> Option<SourceError>
+    ensures { result ≡ bad_clause clauses.now }
+{
+    for clause in clauses {
+        let bad = bad_of(&clause.formula);
+        if bad.is_some() {
+            return bad;
+        }
+    }
+    None
+}
+
+fn bad_in_function(function: &TypedFunction) -> Option<SourceError>
+    ensures { result ≡ bad_in_function function.now }
+{
+    earlier(
+        bad_clause(function.clauses.as_slice()),
+        bad_in(&function.body),
+    )
+}
+
+/// The first refusal of a clause or an invariant, in source order.
+pub(crate) fn first_bad(functions: &[TypedFunction]) -> Option<SourceError>
+    ensures { result ≡ first_bad functions.now }
+{
+    for function in functions {
+        let bad = bad_in_function(function);
+        if bad.is_some() {
+            return bad;
+        }
+    }
+    None
+}

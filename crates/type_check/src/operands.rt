@@ -1,0 +1,29 @@
+use crate::scope::Found;
+use crate::typed::TypedExpr;
+use logic_term::Ty;
+
+/// The operands of an operation.
+#[derive(Drop)]
+pub(crate) struct Operands {
+    pub(crate) left: TypedExpr,
+    pub(crate) right: TypedExpr,
+}
+
+/// What is assigned to.
+#[derive(Drop)]
+pub(crate) enum Target {
+    Variable(Found),
+    /// A value that is no variable's.
+    Value(TypedExpr),
+}
+
+/// How the operands of an operation get their types.
+#[derive(Drop)]
+pub(crate) enum Order {
+    /// Both are checked against this one.
+    Against(Option<Ty>),
+    /// The first is checked against the type that the second gives.
+    SecondGives,
+    /// The second is checked against the type that the first gives.
+    FirstGives,
+}

@@ -1,0 +1,38 @@
+use crate::assertion::Assertion;
+use crate::typed::TypedExpr;
+use logic_term::Ty;
+use rs_syntax::ClauseKind;
+use text_core::{Items, Name, Span};
+
+/// A clause of a contract, over the parameters, and in `ensures` the answer.
+#[derive(Drop)]
+pub struct TypedClause {
+    pub kind: ClauseKind,
+    pub formula: Assertion,
+}
+
+/// The types of a function's parameters and of its answer.
+#[derive(Drop)]
+pub struct Signature {
+    pub params: Items<Ty>,
+    pub answer: Ty,
+}
+
+/// A function whose names are resolved and whose expressions have types.
+#[derive(Drop)]
+pub struct TypedFunction {
+    pub name: Name,
+    /// That of the name.
+    pub span: Span,
+    pub signature: Signature,
+    /// In source order.
+    pub clauses: Items<TypedClause>,
+    /// The parameters are variables 0, 1 and so on.
+    pub body: TypedExpr,
+}
+
+/// The functions of a source, in source order. A call names a function by its place here.
+#[derive(Drop)]
+pub struct TypedProgram {
+    pub functions: Items<TypedFunction>,
+}

@@ -1,0 +1,44 @@
+ghost use Rattle.std.specs.Prelude.{◌≡◌, None};
+ghost use Rattle.rs_syntax.specs.declared.fault.PassError.TheVariants as fault;
+ghost use Rattle.type_check.specs.Answers.{unknown_name, double_name, mismatch, not_mutable};
+
+use rs_syntax::PassError;
+use text_core::{Code, SourceError, Span};
+
+fn refusal(code: Code, span: Span) -> PassError
+    ensures { result ≡ fault.Source (record { code = code; span = span; other = None }) }
+{
+    PassError::Source(SourceError {
+        code,
+        span,
+        other: None,
+    })
+}
+
+/// A name that is not declared.
+pub(crate) fn unknown_name(span: Span) -> PassError
+    ensures { result ≡ fault.Source (unknown_name span) }
+{
+    refusal(Code::E05, span)
+}
+
+/// A name that is declared before.
+pub(crate) fn double_name(span: Span) -> PassError
+    ensures { result ≡ fault.Source (double_name span) }
+{
+    refusal(Code::E06, span)
+}
+
+/// A type that is not the one wanted.
+pub(crate) fn mismatch(span: Span) -> PassError
+    ensures { result ≡ fault.Source (mismatch span) }
+{
+    refusal(Code::E07, span)
+}
+
+/// A write to a variable that is not `mut`.
+pub(crate) fn not_mutable(span: Span) -> PassError
+    ensures { result ≡ fault.Source (not_mutable span) }
+{
+    refusal(Code::E22, span)
+}

@@ -1,0 +1,397 @@
+ghost use Rattle.std.specs.Prelude.{◌≡◌, Some, IfOk, slice_get};
+ghost use Rattle.logic_term.specs.Ty.{bool};
+ghost use Rattle.rs_syntax.specs.ExprView.{span_of};
+ghost use Rattle.type_check.specs.Answers.{Answers};
+ghost use Rattle.type_check.specs.TypedExpr as tree;
+ghost use Rattle.type_check.specs.TypedExprView.{ty_of, exprs_of};
+ghost use Rattle.type_check.specs.Typing.{fit, order_of, literal_kind, literal, variable, negated, is_bare, operated, as_name, target_ty, assigned, updated, called, is_updated};
+ghost use Rattle.type_check.specs.WellTyped.{unit};
+
+use crate::assertion::Assertion;
+use crate::heading::Callee;
+use crate::operands::{Operands, Order, Target};
+use crate::refusal::{mismatch, not_mutable, unknown_name};
+use crate::scope::{Found, Variable, find_variable};
+use crate::typed::{TypedExpr, TypedNode};
+use crate::types::{bool_ty, fits, is_signed_ty, is_updated, operation_ty, same_ty, unit_ty};
+use logic_term::{BinaryOp, IntKind, Ty, TyNode};
+use rs_syntax::{Expr, ExprNode, LazyOp, PassError};
+use std::alloc::Global;
+use text_core::{Name, NoMemory, Span};
+
+/// From the expression's first token to its last.
+pub(crate) fn span_of(e: &Expr) -> Span
+    ensures { result ≡ span_of e.now }
+{
+    e.span
+}
+
+pub(crate) fn ty_of(e: &TypedExpr) -> &Ty
+    ensures { result.now ≡ ty_of e.now }
+{
+    &e.ty
+}
+
+/// The type of the expression, as one that another is checked against.
+pub(crate) fn given_ty(alloc: Global, e: &TypedExpr) -> Result<Option<Ty>, NoMemory>
+    ensures { IfOk result (λ t. t ≡ Some (ty_of e.now)) }
+{
+    Ok(Some(ty_of(e).copy(alloc)?))
+}
+
+/// The expression, where its type is the expected one, if there is one. `span` is that of the expression.
+#[tactic(auto, unfolding(crate::specs::Typing::fit))]
+pub(crate) fn fit(expected: &Option<Ty>, span: Span, e: TypedExpr) -> Result<TypedExpr, PassError>
+    ensures { Answers result (fit expected.now span e) }
+{
+    match expected {
+        None => Ok(e),
+        Some(ty) if same_ty(ty_of(&e), ty) => Ok(e),
+        Some(_) => Err(mismatch(span)),
+    }
+}
+
+fn literal_kind(kind: Option<IntKind>, expected: &Option<Ty>) -> Option<IntKind>
+    ensures { result ≡ literal_kind kind expected.now }
+{
+    if kind.is_some() {
+        return kind;
+    }
+    match expected {
+        None => Some(IntKind::I32),
+        Some(ty) => match &ty.node {
+            TyNode::Int(kind) => Some(*kind),
+            _ => None,
+        },
+    }
+}
+
+#[tactic(auto, unfolding(crate::specs::Typing::literal))]
+pub(crate) fn literal(
+    expected: &Option<Ty>,
+    span: Span,
+    number: i128,
+    kind: Option<IntKind>,
+) -> Result<TypedExpr, PassError>
+    ensures { Answers result (literal expected.now span number kind) }
+{
+    match literal_kind(kind, expected) {
+        Some(kind) if fits(kind, number) => {
+            let node = TypedNode::Int(number, kind);
+            let ty = Ty::int(kind);
+            fit(expected, span, TypedExpr { ty, span, node })
+        }
+        _ => Err(mismatch(span)),
+    }
+}
+
+#[tactic(auto, unfolding(crate::specs::Typing::variable))]
+pub(crate) fn variable(
+    alloc: Global,
+    scope: &[Variable],
+    expected: &Option<Ty>,
+    span: Span,
+    name: Name,
+) -> Result<TypedExpr, PassError>
+    ensures { Answers result (variable scope.now expected.now span name) }
+{
+    match find_variable(alloc, name, scope)? {
+        Some(found) => {
+            let Found { place, ty, .. } = found;
+            let node = TypedNode::Variable(place);
+            fit(expected, span, TypedExpr { ty, span, node })
+        }
+        None => Err(unknown_name(span)),
+    }
+}
+
+/// The spans of an expression with an operator: its own, the operator's and the first operand's.
+#[derive(Clone, Copy)]
+pub(crate) struct Spans {
+    pub(crate) whole: Span,
+    pub(crate) operator: Span,
+    pub(crate) first: Span,
+}
+
+#[tactic(auto, unfolding(crate::specs::Typing::negated))]
+pub(crate) fn negated(
+    alloc: Global,
+    expected: &Option<Ty>,
+    spans: Spans,
+    operand: TypedExpr,
+) -> Result<TypedExpr, PassError>
+    ensures { Answers result (negated expected.now spans.whole spans.operator spans.first operand) }
+{
+    if !is_signed_ty(ty_of(&operand)) {
+        return Err(mismatch(spans.first));
+    }
+    let ty = ty_of(&operand).copy(alloc)?;
+    let node = TypedNode::Neg(Box::new(alloc, operand)?);
+    let span = spans.operator;
+    fit(expected, spans.whole, TypedExpr { ty, span, node })
+}
+
+/// Whether the expression is an integer without a type at its end.
+pub(crate) fn is_bare(e: &Expr) -> bool
+    ensures { result ≡ is_bare e.now }
+{
+    matches!(&e.node, ExprNode::Int(_, None))
+}
+
+#[tactic(auto, unfolding(crate::specs::Typing::operated))]
+pub(crate) fn operated(
+    alloc: Global,
+    expected: &Option<Ty>,
+    spans: Spans,
+    op: BinaryOp,
+    operands: Operands,
+) -> Result<TypedExpr, PassError>
+    ensures { Answers result (operated expected.now spans.whole spans.operator spans.first op operands) }
+{
+    let Operands { left, right } = operands;
+    let Some(ty) = operation_ty(op, ty_of(&left)) else {
+        return Err(mismatch(spans.first));
+    };
+    let left = Box::new(alloc, left)?;
+    let right = Box::new(alloc, right)?;
+    let node = TypedNode::Binary(op, left, right);
+    let span = spans.operator;
+    fit(expected, spans.whole, TypedExpr { ty, span, node })
+}
+
+/// The name that the expression is, if it is one.
+pub(crate) fn as_name(e: &Expr) -> Option<Name>
+    ensures { result ≡ as_name e.now }
+{
+    match &e.node {
+        ExprNode::Name(name) => Some(*name),
+        _ => None,
+    }
+}
+
+/// The type of what is assigned to, as one that the right side is checked against.
+pub(crate) fn target_ty(alloc: Global, target: &Target) -> Result<Option<Ty>, NoMemory>
+    ensures { IfOk result (λ t. t ≡ Some (target_ty target.now)) }
+{
+    match target {
+        Target::Variable(found) => Ok(Some(found.ty.copy(alloc)?)),
+        Target::Value(e) => given_ty(alloc, e),
+    }
+}
+
+#[tactic(auto, unfolding(crate::specs::Typing::assigned))]
+pub(crate) fn assigned(
+    alloc: Global,
+    expected: &Option<Ty>,
+    span: Span,
+    left: Span,
+    target: Target,
+    value: TypedExpr,
+) -> Result<TypedExpr, PassError>
+    ensures { Answers result (assigned expected.now span left target value) }
+{
+    let ty = unit_ty(alloc);
+    let value = Box::new(alloc, value)?;
+    match target {
+        Target::Variable(found) => {
+            let node = TypedNode::Assign(found.place, value);
+            let e = fit(expected, span, TypedExpr { ty, span, node })?;
+            if found.mutable {
+                Ok(e)
+            } else {
+                Err(not_mutable(left))
+            }
+        }
+        Target::Value(lost) => {
+            let node = TypedNode::AssignValue(Box::new(alloc, lost)?, value);
+            fit(expected, span, TypedExpr { ty, span, node })
+        }
+    }
+}
+
+fn is_target_updated(op: BinaryOp, target: &Target) -> bool
+    ensures { result ≡ is_updated op (target_ty target.now) }
+{
+    match target {
+        Target::Variable(found) => is_updated(op, &found.ty),
+        Target::Value(e) => is_updated(op, ty_of(e)),
+    }
+}
+
+#[tactic(auto, unfolding(crate::specs::Typing::updated))]
+pub(crate) fn updated(
+    alloc: Global,
+    expected: &Option<Ty>,
+    spans: Spans,
+    op: BinaryOp,
+    target: Target,
+    value: TypedExpr,
+) -> Result<TypedExpr, PassError>
+    ensures { Answers result (updated expected.now spans.whole spans.operator spans.first op target value) }
+{
+    if !is_target_updated(op, &target) {
+        return Err(mismatch(spans.first));
+    }
+    let ty = unit_ty(alloc);
+    let span = spans.operator;
+    let value = Box::new(alloc, value)?;
+    match target {
+        Target::Variable(found) => {
+            let node = TypedNode::Update(op, found.place, value);
+            let e = fit(expected, spans.whole, TypedExpr { ty, span, node })?;
+            if found.mutable {
+                Ok(e)
+            } else {
+                Err(not_mutable(spans.first))
+            }
+        }
+        Target::Value(lost) => {
+            let node = TypedNode::UpdateValue(op, Box::new(alloc, lost)?, value);
+            fit(expected, spans.whole, TypedExpr { ty, span, node })
+        }
+    }
+}
+
+#[tactic(auto, unfolding(crate::specs::Typing::called), using(crate::proofs::Arguments::how_many_are))]
+pub(crate) fn called(
+    expected: &Option<Ty>,
+    span: Span,
+    callee: Callee,
+    args: Vec<TypedExpr>,
+) -> Result<TypedExpr, PassError>
+    ensures { Answers result (called expected.now span callee (exprs_of args.items)) }
+{
+    if args.len() != callee.signature.params.len() {
+        return Err(mismatch(span));
+    }
+    let node = TypedNode::Call(callee.place, args);
+    let ty = callee.signature.answer;
+    fit(expected, span, TypedExpr { ty, span, node })
+}
+
+pub(crate) fn truth(expected: &Option<Ty>, span: Span, holds: bool) -> Result<TypedExpr, PassError>
+    ensures { Answers result (fit expected.now span (tree.truth bool span holds)) }
+{
+    let node = TypedNode::Truth(holds);
+    let ty = bool_ty();
+    fit(expected, span, TypedExpr { ty, span, node })
+}
+
+pub(crate) fn denied(
+    alloc: Global,
+    expected: &Option<Ty>,
+    span: Span,
+    operand: TypedExpr,
+) -> Result<TypedExpr, PassError>
+    ensures { Answers result (fit expected.now span (tree.denied bool span operand)) }
+{
+    let node = TypedNode::Not(Box::new(alloc, operand)?);
+    let ty = bool_ty();
+    fit(expected, span, TypedExpr { ty, span, node })
+}
+
+pub(crate) fn lazy(
+    alloc: Global,
+    expected: &Option<Ty>,
+    span: Span,
+    op: LazyOp,
+    left: TypedExpr,
+    right: TypedExpr,
+) -> Result<TypedExpr, PassError>
+    ensures { Answers result (fit expected.now span (tree.lazy bool span op left right)) }
+{
+    let node = TypedNode::Lazy(op, Box::new(alloc, left)?, Box::new(alloc, right)?);
+    let ty = bool_ty();
+    fit(expected, span, TypedExpr { ty, span, node })
+}
+
+/// `if` without `else`.
+pub(crate) fn branch(
+    alloc: Global,
+    expected: &Option<Ty>,
+    span: Span,
+    condition: TypedExpr,
+    body: TypedExpr,
+) -> Result<TypedExpr, PassError>
+    ensures { Answers result (fit expected.now span (tree.branch unit span condition body)) }
+{
+    let node = TypedNode::If(Box::new(alloc, condition)?, Box::new(alloc, body)?);
+    let ty = unit_ty(alloc);
+    fit(expected, span, TypedExpr { ty, span, node })
+}
+
+pub(crate) fn choice(
+    alloc: Global,
+    expected: &Option<Ty>,
+    span: Span,
+    condition: TypedExpr,
+    yes: TypedExpr,
+    no: TypedExpr,
+) -> Result<TypedExpr, PassError>
+    ensures { Answers result (fit expected.now span (tree.choice (ty_of yes) span condition yes no)) }
+{
+    let ty = ty_of(&yes).copy(alloc)?;
+    let condition = Box::new(alloc, condition)?;
+    let node = TypedNode::IfElse(condition, Box::new(alloc, yes)?, Box::new(alloc, no)?);
+    fit(expected, span, TypedExpr { ty, span, node })
+}
+
+pub(crate) fn repeat(
+    alloc: Global,
+    expected: &Option<Ty>,
+    span: Span,
+    invariants: Vec<Assertion>,
+    condition: TypedExpr,
+    body: TypedExpr,
+) -> Result<TypedExpr, PassError>
+    ensures { Answers result (fit expected.now span (tree.repeat unit span invariants.items condition body)) }
+{
+    let condition = Box::new(alloc, condition)?;
+    let node = TypedNode::While(invariants, condition, Box::new(alloc, body)?);
+    let ty = unit_ty(alloc);
+    fit(expected, span, TypedExpr { ty, span, node })
+}
+
+/// How the operands of an operation get their types, where a type is expected of it and each operand may be an integer
+/// without a type at its end.
+pub(crate) fn order_of(
+    alloc: Global,
+    arithmetic: bool,
+    expected: &Option<Ty>,
+    first: bool,
+    second: bool,
+) -> Result<Order, NoMemory>
+    ensures { IfOk result (λ order. order ≡ order_of arithmetic expected.now first second) }
+{
+    if let Some(ty) = expected
+        && arithmetic
+    {
+        return Ok(Order::Against(Some(ty.copy(alloc)?)));
+    }
+    Ok(match (first, second) {
+        (true, true) => Order::Against(Some(Ty::int(IntKind::I32))),
+        (true, false) => Order::SecondGives,
+        (false, _) => Order::FirstGives,
+    })
+}
+
+/// The type of the parameter of this place, if there is one.
+pub(crate) fn param_ty(alloc: Global, params: &[Ty], at: usize) -> Result<Option<Ty>, NoMemory>
+    ensures { IfOk result (λ t. t ≡ slice_get params.now at) }
+{
+    match params.get(at) {
+        None => Ok(None),
+        Some(ty) => Ok(Some(ty.copy(alloc)?)),
+    }
+}
+
+/// The spans of an expression with an operator before or after this operand.
+pub(crate) fn spans_at(whole: Span, operator: Span, operand: &Expr) -> Spans
+    ensures { result ≡ record { whole = whole; operator = operator; first = span_of operand.now } }
+{
+    Spans {
+        whole,
+        operator,
+        first: span_of(operand),
+    }
+}

@@ -1,0 +1,177 @@
+-- Flags that are unset as long as a function calls one whose flag is not set say which functions reach none that is not proved.
+use Rattle.std.proofs.Common.{◌≡◌, ◌∙◌, refl, sym, ap, subst, ℕ, zero, suc, ◌+◌, ◌<◌, ◌⊎◌, inl, inr, Bool, true, false, ◌||◌, List, [], ◌∷◌, length, Option, Some, None, true≢false, arith}
+use Rattle.std.specs.Prelude.{slice_get, slice_set}
+use Rattle.std.specs.List.{list_any}
+use Rattle.logic_term.specs.declared.kinds.Label.{Label}
+use Rattle.mir_ir.specs.declared.body.Block.{Block}
+use Rattle.mir_ir.specs.declared.body.Body.{Body}
+use Rattle.mir_ir.specs.declared.place.Operand.{Operand}
+use Rattle.mir_ir.specs.declared.place.Place.{Place}
+use Rattle.mir_ir.specs.declared.terminator.FnId.TheVariants.{Body as OfBody}
+use Rattle.mir_ir.specs.declared.terminator.Callee.TheVariants.{Function}
+use Rattle.mir_ir.specs.declared.terminator.TerminatorKind.{TerminatorKind}
+use Rattle.mir_ir.specs.declared.terminator.TerminatorKind.TheVariants.{Goto, If, Call, Return}
+use Rattle.verify_core.specs.Flags.{is_unset, end_calls_unset, calls_unset, ReachesOpen, AreJustified, AreSettled, Unsets, set_count}
+use Rattle.verify_core.specs.Reach.{Calls, Reaches}
+
+-- ---- lists
+
+some_same : {A : Type 0} {a b : A} → Some a ≡ Some b → a ≡ b
+some_same e = cc
+
+none_is_not : {A : Type 0} {a : A} → None ≡ Some a → ⊥
+none_is_not e = absurd cc
+
+pub same_or_other : (i j : ℕ) → (i ≡ j) ⊎ (i ≡ j → ⊥)
+same_or_other zero zero = inl refl
+same_or_other zero (suc j) = inr (λ e. absurd (omega arith))
+same_or_other (suc i) zero = inr (λ e. absurd (omega arith))
+same_or_other (suc i) (suc j) = elim (same_or_other i j) [ inl e ↦ inl (ap suc e) | inr other ↦ inr (λ e. other (omega arith)) ]
+
+get_other : (xs : List Bool) (i j : ℕ) (b : Bool) → (i ≡ j → ⊥) → slice_get (slice_set xs i b) j ≡ slice_get xs j
+get_other [] i j b other = refl
+get_other (x ∷ xs) zero zero b other = absurd (other refl)
+get_other (x ∷ xs) zero (suc j) b other = refl
+get_other (x ∷ xs) (suc i) zero b other = refl
+get_other (x ∷ xs) (suc i) (suc j) b other = get_other xs i j b (λ e. other (ap suc e))
+
+get_same : (xs : List Bool) (i : ℕ) (b x : Bool) → slice_get xs i ≡ Some x → slice_get (slice_set xs i b) i ≡ Some b
+get_same [] i b x e = absurd (none_is_not e)
+get_same (y ∷ xs) zero b x e = refl
+get_same (y ∷ xs) (suc i) b x e = get_same xs i b x e
+
+length_same : (xs : List Bool) (i : ℕ) (b : Bool) → length (slice_set xs i b) ≡ length xs
+length_same [] i b = refl
+length_same (x ∷ xs) zero b = refl
+length_same (x ∷ xs) (suc i) b = ap suc (length_same xs i b)
+
+pub within : {A : Type 0} (xs : List A) (i : ℕ) (x : A) → slice_get xs i ≡ Some x → i < length xs
+within [] i x e = absurd (none_is_not e)
+within (y ∷ xs) zero x e = omega arith
+within (y ∷ xs) (suc i) x e = omega (arith, within xs i x e)
+
+pub got : {A : Type 0} (xs : List A) (i : ℕ) → i < length xs → (x : A) × (slice_get xs i ≡ Some x)
+got [] i h = absurd (omega arith)
+got (x ∷ xs) zero h = (x, refl)
+got (x ∷ xs) (suc i) h = got xs i (omega arith)
+
+any_at : {A : Type 0} (p : A → Bool) (xs : List A) (i : ℕ) (x : A) → slice_get xs i ≡ Some x → p x ≡ true → list_any p xs ≡ true
+any_at p [] i x e h = absurd (none_is_not e)
+any_at p (y ∷ xs) zero x e h = rw (some_same e, h) refl
+any_at p (y ∷ xs) (suc i) x e h = either (p y) (any_at p xs i x e h)
+  where
+    either : (b : Bool) {c : Bool} → c ≡ true → (b || c) ≡ true
+    either true h = refl
+    either false h = h
+
+-- an element that passes the test, where one does
+pub any_found : {A : Type 0} (p : A → Bool) (xs : List A) → list_any p xs ≡ true → (i : ℕ) × (x : A) × (slice_get xs i ≡ Some x) × (p x ≡ true)
+any_found p [] h = absurd (true≢false (sym h))
+any_found {A} p (x ∷ xs) h = here (p x) refl h (λ rest. any_found p xs rest)
+  where
+    Found : List A → Type 0
+    Found ys = (i : ℕ) × (y : A) × (slice_get ys i ≡ Some y) × (p y ≡ true)
+    later : Found xs → Found (x ∷ xs)
+    later f = (suc f.0, f.1, f.2, f.3)
+    here : (b : Bool) → p x ≡ b → (b || list_any p xs) ≡ true → (list_any p xs ≡ true → Found xs) → Found (x ∷ xs)
+    here true is h rest = (0, x, refl, is)
+    here false is h rest = later (rest h)
+
+-- ---- counts of flags
+
+fewer : (flags : List Bool) (f : ℕ) → slice_get flags f ≡ Some true → set_count (slice_set flags f false) < set_count flags
+fewer [] f e = absurd (none_is_not e)
+fewer (true ∷ flags) zero e = omega arith
+fewer (false ∷ flags) zero e = absurd (true≢false (sym (some_same e)))
+fewer (true ∷ flags) (suc f) e = omega (arith, fewer flags f e)
+fewer (false ∷ flags) (suc f) e = fewer flags f e
+
+-- ---- calls
+
+unset_is : (o : Option Bool) → is_unset o ≡ true → o ≡ Some false
+unset_is None h = absurd (true≢false (sym h))
+unset_is (Some true) h = absurd (true≢false (sym h))
+unset_is (Some false) h = refl
+
+record CallsUnset (flags : List Bool) (k : TerminatorKind) : Type 0 where
+  callee : ℕ
+  place : Place
+  args : List Operand
+  next : Label
+  is : k ≡ Call place (Function (OfBody callee)) args next
+  unset : slice_get flags callee ≡ Some false
+
+call_found : (flags : List Bool) (k : TerminatorKind) → end_calls_unset flags k ≡ true → CallsUnset flags k
+call_found flags (Goto l) h = absurd (true≢false (sym h))
+call_found flags (If o l m) h = absurd (true≢false (sym h))
+call_found flags Return h = absurd (true≢false (sym h))
+call_found flags (Call p (Function (OfBody m)) args l) h = record { callee = m; place = p; args = args; next = l; is = refl; unset = unset_is (slice_get flags m) h }
+
+-- a call first, and then what the callee reaches
+reaches_by : (bodies : List Body) (f g m : ℕ) → Calls bodies f g → Reaches bodies g m → Reaches bodies f m
+reaches_by bodies f g m calls Reaches.itself = Reaches.by_call Reaches.itself calls
+reaches_by bodies f g m calls (Reaches.by_call {n = n} reaches last) = Reaches.by_call (reaches_by bodies f g n calls reaches) last
+
+-- ---- one flag is unset
+
+module _ (bodies : List Body) (proved flags : List Bool) (justified : AreJustified bodies proved flags) (f : ℕ) (b : Body)
+    (is_body : slice_get bodies f ≡ Some b) (set : slice_get flags f ≡ Some true) (calls : calls_unset flags b ≡ true) where
+  opens : ReachesOpen bodies proved f
+  opens =
+      let found = any_found (λ (e : Label × Block). end_calls_unset flags e.1.end.kind) b.blocks calls in
+      let call = call_found flags found.1.1.end.kind found.3 in
+      let beyond = justified.unset call.callee call.unset in
+      let step : Calls bodies f call.callee = record { body = b; is_body = is_body; at = found.0; label = found.1.0; block = found.1.1; is_block = found.2; place = call.place; args = call.args; next = call.next; ends = call.is } in
+      record { open_one = beyond.open_one; reaches = reaches_by bodies f call.callee beyond.open_one step beyond.reaches; is_open = beyond.is_open }
+
+  abbrev after : List Bool
+  after = slice_set flags f false
+
+  unset_at : (g : ℕ) (flag : Bool) → slice_get after g ≡ Some flag → ((f ≡ g) × (flag ≡ false)) ⊎ (slice_get flags g ≡ Some flag)
+  unset_at g flag e = elim (same_or_other f g) [
+    inl same ↦ inl (same, some_same (sym e ∙ subst (λ (i : ℕ). slice_get after i ≡ Some false) same (get_same flags f false true set)))
+    | inr other ↦ inr (sym (get_other flags f g false other) ∙ e)
+  ]
+
+  pub stays_justified : AreJustified bodies proved after
+  stays_justified = record {
+    as_many = length_same flags f false ∙ justified.as_many;
+    set = λ g e. elim (unset_at g true e) [ inl both ↦ absurd (true≢false both.1) | inr before ↦ justified.set g before ];
+    unset = λ g e. elim (unset_at g false e) [ inl both ↦ subst (ReachesOpen bodies proved) both.0 opens | inr before ↦ justified.unset g before ];
+  }
+
+pub unsets_justified : (bodies : List Body) (proved old new : List Bool) (f : ℕ) (b : Body) (changed : Bool) → slice_get bodies f ≡ Some b → Unsets old new f b changed → AreJustified bodies proved old → AreJustified bodies proved new
+unsets_justified bodies proved old new f b true is_body (set, calls, is) justified = subst (AreJustified bodies proved) (sym is) (stays_justified bodies proved old justified f b is_body set calls)
+unsets_justified bodies proved old new f b false is_body (same, settled) justified = subst (AreJustified bodies proved) (sym same) justified
+
+pub unsets_fewer : (old new : List Bool) (f : ℕ) (b : Body) → Unsets old new f b true → set_count new < set_count old
+unsets_fewer old new f b (set, calls, is) = rw is (fewer old f set)
+
+pub unsets_as_many : (old new : List Bool) (f : ℕ) (b : Body) (changed : Bool) → Unsets old new f b changed → length new ≡ length old
+unsets_as_many old new f b true (set, calls, is) = ap length is ∙ length_same old f false
+unsets_as_many old new f b false (same, settled) = ap length same
+
+-- ---- settled flags
+
+module _ (bodies : List Body) (flags : List Bool) (as_many : length flags ≡ length bodies) (settled : AreSettled bodies flags) where
+  set_or_not : (n : ℕ) → n < length flags → (slice_get flags n ≡ Some true) ⊎ (slice_get flags n ≡ Some false)
+  set_or_not n h = which (got flags n h).0 (got flags n h).1
+    where
+      which : (b : Bool) → slice_get flags n ≡ Some b → (slice_get flags n ≡ Some true) ⊎ (slice_get flags n ≡ Some false)
+      which true e = inl e
+      which false e = inr e
+
+  call_settled : (n m : ℕ) → Calls bodies n m → slice_get flags n ≡ Some true → slice_get flags m ≡ Some false → ⊥
+  call_settled n m c set unset =
+      let at : end_calls_unset flags c.block.end.kind ≡ true = rw (c.ends, unset) refl in
+      true≢false (sym (any_at (λ (e : Label × Block). end_calls_unset flags e.1.end.kind) c.body.blocks c.at (c.label, c.block) c.is_block at) ∙ settled n c.body c.is_body set)
+
+  pub none_unset : (f m : ℕ) → Reaches bodies f m → slice_get flags f ≡ Some true → slice_get flags m ≡ Some false → ⊥
+  none_unset f m Reaches.itself set unset = true≢false (some_same (sym set ∙ unset))
+  none_unset f m (Reaches.by_call {n = n} reaches c) set unset = elim (set_or_not n (subst (λ (k : ℕ). n < k) (sym as_many) (within bodies n c.body c.is_body))) [
+    inl there ↦ call_settled n m c there unset
+    | inr there ↦ none_unset f n reaches set there
+  ]
+
+  pub reached_set : (f m : ℕ) → Reaches bodies f m → slice_get flags f ≡ Some true → m < length flags → slice_get flags m ≡ Some true
+  reached_set f m reaches set h = elim (set_or_not m h) [ inl there ↦ there | inr there ↦ absurd (none_unset f m reaches set there) ]

@@ -1,0 +1,107 @@
+-- An obligation is left exactly where the file has no derivation of it.
+use Rattle.std.proofs.Common.{◌≡◌, ◌∙◌, refl, sym, ap, subst, ℕ, List, [], ◌∷◌, ◌++◌, map, None, Some}
+use Rattle.std.specs.Prelude.{◌↔◌}
+use Rattle.logic_term.specs.declared.obligation.Obligation.{Obligation}
+use Rattle.mir_machine.specs.Good.{Each}
+use Rattle.proof_kernel.specs.declared.step.Step.{Step}
+use Rattle.proof_kernel.specs.Derivation.{IsProof}
+use Rattle.proof_kernel.specs.Progress.{Progress}
+use Rattle.proof_kernel.specs.Accepts as accepts
+use Rattle.proof_kernel.proofs.AcceptLaw.{accepts_proofs}
+use Rattle.proof_kernel.proofs.Once.{applies_once}
+use Rattle.proof_text.specs.declared.proof.NumberedStep.{NumberedStep}
+use Rattle.proof_text.specs.declared.proof.Proof.{Proof}
+use Rattle.report_out.specs.declared.verdict.LeftItem.{LeftItem}
+use Rattle.report_out.specs.declared.verdict.Reason.{Reason}
+use Rattle.verify_core.specs.Verdict.{HasDerivation}
+use Rattle.verify_core.specs.Verdict.{Does, Runs, IsAccepted, IsRefusedAt, begun, Settles, Judges}
+use Rattle.verify_core.proofs.Verified.{accepted_is_proof}
+
+-- ---- the steps of a proof lead to one result
+
+does_once : (k m l : Progress) (step : Step) → Does k step m → Does k step l → m ≡ l
+does_once k m l step d e = applies_once k m l step d.applies e.applies
+
+no_steps : (k l : Progress) → Runs k [] l → l ≡ k
+no_steps k l Runs.none = refl
+
+first_step : (k l : Progress) (n : NumberedStep) (ns : List NumberedStep) → Runs k (n ∷ ns) l → (m : Progress) × Does k n.step m × Runs m ns l
+first_step k l n ns (Runs.more {m = m} does rest) = (m, does, rest)
+
+runs_once : (ns : List NumberedStep) (k m l : Progress) → Runs k ns m → Runs k ns l → m ≡ l
+runs_once [] k m l r s = no_steps k m r ∙ sym (no_steps k l s)
+runs_once (n ∷ ns) k m l r s =
+    let a = first_step k m n ns r in
+    let b = first_step k l n ns s in
+    let same : b.0 ≡ a.0 = does_once k b.0 a.0 n.step b.1 a.1 in
+    runs_once ns a.0 m l a.2 (subst (λ p. Runs p ns l) same b.2)
+
+runs_split : (done more : List NumberedStep) (k l : Progress) → Runs k (done ++ more) l → (m : Progress) × Runs k done m × Runs m more l
+runs_split [] more k l r = (k, Runs.none, r)
+runs_split (n ∷ done) more k l r =
+    let a = first_step k l n (done ++ more) r in
+    let b = runs_split done more a.0 l a.2 in
+    (b.0, Runs.more a.1 b.1, b.2)
+
+-- ---- refused steps are no proof
+
+refused_step : (o : Obligation) (steps done rest : List NumberedStep) (n : NumberedStep) (k : Progress) → steps ≡ done ++ n ∷ rest → Runs (begun o) done k → ((after : Progress) → Does k n.step after → ⊥) → IsAccepted o steps → ⊥
+refused_step o steps done rest n k e runs none accepted =
+    let split = runs_split done (n ∷ rest) (begun o) accepted.last (subst (λ ss. Runs (begun o) ss accepted.last) e accepted.runs) in
+    let next = first_step split.0 accepted.last n rest split.2 in
+    none next.0 (subst (λ p. Does p n.step next.0) (runs_once done (begun o) split.0 k split.1 runs) next.1)
+
+refused_is_no_proof : (o : Obligation) (steps : List NumberedStep) («end» line : ℕ) → IsRefusedAt o steps «end» line → IsAccepted o steps → ⊥
+refused_is_no_proof o steps «end» line (IsRefusedAt.at_step {n = n} {k = k} done rest e runs none) accepted = refused_step o steps done rest n k e runs none accepted
+refused_is_no_proof o steps «end» line (IsRefusedAt.at_end {k = k} runs left) accepted =
+    left (ap (λ (p : Progress). p.left) (runs_once steps (begun o) k accepted.last runs accepted.runs) ∙ accepted.closed)
+
+-- steps that are numbered by their lines do what the steps do
+with_lines : (ns : List NumberedStep) (k l : Progress) → accepts.Runs k (map (λ n. n.step) ns) l → Runs k ns l
+with_lines [] k l r = subst (λ p. Runs k [] p) (sym (ends k l r)) Runs.none
+  where
+    ends : (k l : Progress) → accepts.Runs k [] l → l ≡ k
+    ends k l accepts.none = refl
+with_lines (n ∷ ns) k l r =
+    let f = starts k l n.step (map (λ n. n.step) ns) r in
+    Runs.more f.1 (with_lines ns f.0 l f.2)
+  where
+    starts : (k l : Progress) (step : Step) (steps : List Step) → accepts.Runs k (step ∷ steps) l → (m : Progress) × Does k step m × accepts.Runs m steps l
+    starts k l step steps (accepts.more {m = m} does rest) = (m, does, rest)
+
+proof_is_accepted : (o : Obligation) (steps : List NumberedStep) → IsProof o (map (λ n. n.step) steps) → IsAccepted o steps
+proof_is_accepted o steps proof =
+    let a = (accepts_proofs o (map (λ n. n.step) steps)).1 proof in
+    record { last = a.last; runs = with_lines steps (begun o) a.last a.runs; closed = a.closed }
+
+-- ---- obligations
+
+settled_derives : (ps : List Proof) (o : Obligation) → Settles ps o None → HasDerivation ps o
+settled_derives ps o (Settles.proved {p = p} found accepted) = record { proof = p; is_for_it = found; derives = accepted_is_proof o p.steps accepted }
+
+some_proof : (p q : Proof) → Some p ≡ Some q → p ≡ q
+some_proof p q e = cc
+
+left_underived : (ps : List Proof) (o : Obligation) (r : Reason) → Settles ps o (Some r) → HasDerivation ps o → ⊥
+left_underived ps o r (Settles.missing none) has = absurd (let e : None ≡ Some has.proof = sym none ∙ has.is_for_it in cc)
+left_underived ps o r (Settles.refused {p = p} {line = line} found refused) has =
+    let same : has.proof ≡ p = some_proof has.proof p (sym has.is_for_it ∙ found) in
+    let accepted : IsAccepted o has.proof.steps = proof_is_accepted o has.proof.steps has.derives in
+    refused_is_no_proof o p.steps p.«end» line refused (subst (λ (q : Proof). IsAccepted o q.steps) same accepted)
+
+not_empty : (x : LeftItem) (xs : List LeftItem) → (x ∷ xs) ≡ [] → ⊥
+not_empty x xs e = absurd cc
+
+pub all_derived : (ps : List Proof) (os : List Obligation) (left : List LeftItem) (n : ℕ) → Judges ps os left n → left ≡ [] → Each (HasDerivation ps) os
+all_derived ps [] left n judged e = tt
+all_derived ps (o ∷ os) left n (Judges.proved settled rest) e = (settled_derives ps o settled, all_derived ps os left _ rest e)
+all_derived ps (o ∷ os) (i ∷ left) n (Judges.left settled rest) e = absurd (not_empty i left e)
+
+pub none_left_over : (ps : List Proof) (os : List Obligation) (left : List LeftItem) (n : ℕ) → Judges ps os left n → Each (HasDerivation ps) os → left ≡ []
+none_left_over ps [] left n Judges.none each = refl
+none_left_over ps (o ∷ os) left n (Judges.proved settled rest) each = none_left_over ps os left _ rest each.1
+none_left_over ps (o ∷ os) left n (Judges.left {r = r} settled rest) each = absurd (left_underived ps o r settled each.0)
+
+-- nothing is left exactly where each obligation has a derivation
+pub left_exactly : (ps : List Proof) (os : List Obligation) (left : List LeftItem) (n : ℕ) → Judges ps os left n → (left ≡ []) ↔ Each (HasDerivation ps) os
+left_exactly ps os left n judged = (all_derived ps os left n judged, none_left_over ps os left n judged)

@@ -1,0 +1,115 @@
+-- What is proved by a file is derived, and so it is true; and each function that is verified is good.
+use Rattle.std.proofs.Common.{◌≡◌, refl, sym, ap, subst, ℕ, zero, suc, ◌+◌, ◌<◌, ◌==◌, Bool, true, false, cond, List, [], ◌∷◌, ◌++◌, length, map, Option, None, Some, slice_get, ◌∙◌, true≢false, arith}
+use Rattle.logic_term.specs.declared.kinds.Label.{Label}
+use Rattle.logic_term.specs.declared.obligation.Contract.{Contract}
+use Rattle.logic_term.specs.declared.obligation.Obligation.{Obligation}
+use Rattle.mir_ir.specs.declared.body.Block.{Block}
+use Rattle.mir_ir.specs.declared.body.Body.{Body}
+use Rattle.mir_ir.specs.declared.body.Initialised.{Initialised}
+use Rattle.mir_ir.specs.Body.{block_in}
+use Rattle.mir_machine.specs.Good.{Each, Good}
+use Rattle.mir_build.specs.Laws.{Lowers}
+use Rattle.prophecy_sim.specs.Programs as sim
+use Rattle.prophecy_sim.proofs.GoodBody.{good as true_makes_good}
+use Rattle.proof_kernel.specs.declared.sequent.Sequent.{Sequent}
+use Rattle.proof_kernel.specs.Derivation.{Derives, no_step, one_step, IsProof}
+use Rattle.proof_kernel.specs.Progress.{Progress}
+use Rattle.proof_kernel.specs.Sequent.{IsTrueObligation}
+use Rattle.proof_kernel.proofs.Derived.{proof_is_sound}
+use Rattle.proof_text.specs.declared.proof.NumberedStep.{NumberedStep}
+use Rattle.proof_text.specs.declared.proof.Proof.{Proof}
+use Rattle.report_out.specs.declared.verdict.FnLine.{FnLine}
+use Rattle.report_out.specs.declared.verdict.Verdict.{Verdict}
+use Rattle.rs_syntax.specs.declared.function.Function.{Function}
+use Rattle.text_core.specs.declared.name.Name.{Name}
+use Rattle.type_check.specs.declared.program.TypedProgram.{TypedProgram}
+use Rattle.type_check.specs.Checked.{checked}
+use Rattle.type_check.specs.WellTyped.{ProgramFits}
+use Rattle.type_check.proofs.Whole.{answered_fits}
+use Rattle.std.specs.Prelude.{Ok}
+use Rattle.verify_core.specs.declared.goals.FunctionGoals.{FunctionGoals}
+use Rattle.verify_core.specs.declared.program.Program.{Program}
+use Rattle.verify_core.specs.Prepared.{IsPrepared, AreGoalsOf, HaveGoals, gone_of, program_of}
+use Rattle.verify_core.specs.Reach.{Calls, Reaches}
+use Rattle.verify_core.specs.Verdict.{no_types, Runs, IsAccepted, Settles, HasDerivation, Tells, IsVerified, IsVerdict}
+use Rattle.verify_core.proofs.Assembly.{sound, functions}
+use Rattle.verify_core.proofs.ReachLaws.{within, got}
+
+some_same : {A : Type 0} {a b : A} → Some a ≡ Some b → a ≡ b
+some_same e = cc
+
+-- what passes the types fits
+pub typed_program_fits : (x : Name) (fs : List Function) (p : TypedProgram) → checked x fs ≡ Ok p → ProgramFits p
+typed_program_fits x fs p e = answered_fits x fs (Ok p) e
+
+plus_one : (n : ℕ) → n + 1 ≡ suc n
+plus_one n = omega arith
+
+derived : {k l : Progress} {ns : List NumberedStep} → Runs k ns l → Derives k.step k.left (map (λ n. n.step) ns) l.left
+derived Runs.none = no_step
+derived {l = l} {ns = n ∷ ns} (Runs.more {k = k} {m = m} does rest) =
+    let a = does.applies in
+    let after : Derives m.step m.left (map (λ n. n.step) ns) l.left = derived rest in
+    let moved : Derives (k.step + 1) (a.premises ++ a.others) (map (λ n. n.step) ns) l.left =
+    subst (λ (p : Progress). Derives p.step p.left (map (λ n. n.step) ns) l.left) a.is after in
+    let there : Derives (suc k.step) (a.premises ++ a.others) (map (λ n. n.step) ns) l.left =
+    subst (λ (s : ℕ). Derives s (a.premises ++ a.others) (map (λ n. n.step) ns) l.left) (plus_one k.step) moved in
+    subst (λ (qs : List Sequent). Derives k.step qs (map (λ n. n.step) (n ∷ ns)) l.left) (sym a.was) (one_step a.gives there)
+
+pub accepted_is_proof : (o : Obligation) (steps : List NumberedStep) → IsAccepted o steps → IsProof o (map (λ n. n.step) steps)
+accepted_is_proof o steps accepted = subst (λ (qs : List Sequent). Derives 1 (_) (map (λ n. n.step) steps) qs) accepted.closed (derived accepted.runs)
+
+pub settled_is_true : (ps : List Proof) (o : Obligation) → Settles ps o None → IsTrueObligation no_types o
+settled_is_true ps o (Settles.proved {p = p} found accepted) = proof_is_sound no_types o (map (λ n. n.step) p.steps) (accepted_is_proof o p.steps accepted)
+
+-- ---- what true obligations are worth
+
+found_block : (bs : List (Label × Block)) (l : Label) (k : Block) → block_in bs l ≡ Some k → (i : ℕ) × (m : Label) × (slice_get bs i ≡ Some (m, k))
+found_block [] l k e = absurd (let n : None ≡ Some k = e in cc)
+found_block (b ∷ bs) l k e = here (b.0.0 == l.0) e (found_block bs l k)
+  where
+    Found : List (Label × Block) → Type 0
+    Found xs = (i : ℕ) × (m : Label) × (slice_get xs i ≡ Some (m, k))
+    here : (same : Bool) → cond same (Some b.1) (block_in bs l) ≡ Some k → (block_in bs l ≡ Some k → Found bs) → Found (b ∷ bs)
+    here true e rest = (0, b.0, ap (λ (x : Block). Some (b.0, x)) (some_same e))
+    here false e rest = let f = rest e in (suc f.0, f.1, f.2)
+
+call_of : (bodies : List Body) (n m : ℕ) → sim.Calls bodies n m → Calls bodies n m
+call_of bodies n m c =
+    let b = found_block c.body.blocks c.label c.block c.is_block in
+    record { body = c.body; is_body = c.is_body; at = b.0; label = b.1; block = c.block; is_block = b.2; place = c.place; args = c.operands; next = c.next; ends = c.is_call }
+
+reached : (bodies : List Body) (f n : ℕ) → sim.Reaches bodies f n → Reaches bodies f n
+reached bodies f n sim.itself = Reaches.itself
+reached bodies f n (sim.by_call {n = m} r c) = Reaches.by_call (reached bodies f m r) (call_of bodies m n c)
+
+-- the goals of function n, which its obligations are
+goals_at : (bs : List Body) (cs : List Contract) (gones : List Initialised) (gs : List FunctionGoals) → HaveGoals bs cs gones gs → length gs ≡ length bs → (n : ℕ) (b : Body) (c : Contract)
+    → slice_get bs n ≡ Some b → slice_get cs n ≡ Some c → (g : FunctionGoals) × (slice_get gs n ≡ Some g) × AreGoalsOf cs b c (gone_of gones n) g
+goals_at bs cs gones gs have as_many n b c is_b is_c =
+    let found = got gs n (subst (λ (k : ℕ). n < k) (sym as_many) (within bs n b is_b)) in
+    let h = have n found.0 found.1 in
+    let same_body : h.body ≡ b = some_same (sym h.is_body ∙ is_b) in
+    let same_contract : h.contract ≡ c = some_same (sym h.is_contract ∙ is_c) in
+    (found.0, found.1, subst (λ (d : Contract). AreGoalsOf cs b d (gone_of gones n) found.0) same_contract (subst (λ (a : Body). AreGoalsOf cs a h.contract (gone_of gones n) found.0) same_body h.goals))
+
+true_goals : (ps : List Proof) (os : List Obligation) → Each (HasDerivation ps) os → Each (sim.IsTrueGoal no_types) os
+true_goals ps [] each = tt
+true_goals ps (o ∷ os) (has, each) = (proof_is_sound no_types o (map (λ n. n.step) has.proof.steps) has.derives, true_goals ps os each)
+
+verified_at : (ps : List Proof) (bodies : List Body) (goals : List FunctionGoals) (f : ℕ) (flag : Bool) → Tells flag (IsVerified ps bodies goals f) → flag ≡ true → IsVerified ps bodies goals f
+verified_at ps bodies goals f true tells e = tells
+verified_at ps bodies goals f false tells e = absurd (true≢false (sym e))
+
+-- each function that the verdict lists as verified is good for its contract
+pub verified_is_good : (source : List ℕ) (p : Program) (ps : List Proof) (v : Verdict) → IsPrepared source p → IsVerdict ps p.bodies.bodies p.functions v
+    → (f : ℕ) (line : FnLine) (c : Contract) → slice_get v.functions f ≡ Some line → line.verified ≡ true → slice_get p.contracts f ≡ Some c → Good no_types p.bodies.bodies f c
+verified_is_good source p ps v prepared verdict f line c is_line verified is_contract =
+    let bodies : List Body = p.bodies.bodies in
+    let lowers : Lowers p.names prepared.typed.functions bodies p.contracts prepared.gones = record { lowers = prepared.lowers; fits = typed_program_fits prepared.is_typed.result prepared.is_typed.functions prepared.typed prepared.is_typed.is_typed } in
+    let all : IsVerified ps bodies p.functions f = verified_at ps bodies p.functions f line.verified (verdict.lines.told f line is_line) verified in
+    true_makes_good no_types (program_of bodies p.contracts prepared.gones) (sound p.names prepared.typed.functions bodies p.contracts prepared.gones lowers)
+        (functions p.names prepared.typed.functions bodies p.contracts prepared.gones lowers) f c is_contract
+        (λ n b d reaches is_body is_d.
+            let g = goals_at bodies p.contracts prepared.gones p.functions prepared.goals prepared.as_many n b d is_body is_d in
+            record { first = 1; obligations = g.0.obligations; paths = g.2.paths; are = g.2.are; all_true = true_goals ps g.0.obligations (all n g.0 (reached bodies f n reaches) g.1) })

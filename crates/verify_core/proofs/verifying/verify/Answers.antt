@@ -1,0 +1,31 @@
+use Rattle.std.proofs.lemmas.Result.{err_from_is_err_and}
+use Rattle.verify_core.specs.Verdict.{IsVerdict}
+use Rattle.verify_core.proofs.PassLaws.{source_refused, proofs_refused}
+use Rattle.verify_core.proofs.Verified.{verified_is_good}
+use Rattle.verify_core.proofs.verifying.verify.Goals as goal
+
+pub returns-in_err-program-clause-refused : goal.returns-in_err-program-clause-refused
+returns-in_err-program-clause-refused c =
+    let p = err_from_is_err_and c.from_residual.result c.from_residual.ensures.1 in
+    rw (p.1, p.2) (source_refused c.args.source.now c.args.proofs.now c.in_err-program.field-0.0 c.in_err-program.ensures.refused)
+
+pub returns-in_err-file-clause-refused : goal.returns-in_err-file-clause-refused
+returns-in_err-file-clause-refused c =
+    let p = err_from_is_err_and c.from_residual-in_err-file.result c.from_residual-in_err-file.ensures.1 in
+    rw (p.1, p.2) (proofs_refused c.args.source.now c.args.proofs.now c.in_err-file.field-0.0 c.in_err-file.ensures.refused)
+
+pub returns-clause-ok : goal.returns-clause-ok
+returns-clause-ok c =
+    let program = c.in_ok-program.program in
+    let file = c.in_ok-file.file in
+    let verdict = c.in_ok-verdict.verdict in
+    let is : IsVerdict file.proofs program.bodies.bodies program.functions verdict = rw (c.as_slice.ensures, c.as_slice-bodies.ensures, c.as_slice-functions.ensures) at c.in_ok-verdict.ensures in
+    record {
+      program = program;
+      prepared = c.in_ok-program.ensures.ok;
+      table = c.in_ok-file.ensures.ok.0;
+      file = file;
+      spelled = c.in_ok-file.ensures.ok.1;
+      is_verdict = is;
+      good = λ f line d is_line verified is_contract. verified_is_good c.args.source.now program file.proofs verdict c.in_ok-program.ensures.ok is f line d is_line verified is_contract;
+    }

@@ -1,0 +1,50 @@
+-- What the passes over lowered functions need and answer.
+use Rattle.std.specs.Prelude.{◌≡◌, ℕ, ◌+◌, ◌<◌, ◌≤◌, length, List, Some, slice_get}
+use Rattle.text_core.specs.declared.refusal.LimitKind.TheVariants.{Obligations, Paths}
+use Rattle.text_core.specs.declared.refusal.Limit.{Limit}
+use Rattle.logic_term.specs.declared.obligation.Contract.{Contract}
+use Rattle.mir_ir.specs.declared.body.Body.{Body}
+use Rattle.mir_ir.specs.Layout.{IsLaidOut}
+use Rattle.mir_build.specs.declared.lowered.Lowered.{Lowered}
+use Rattle.wp_gen.specs.Walkable.{CanWalk}
+use Rattle.verify_core.specs.declared.fault.Refusal.{Refusal}
+use Rattle.verify_core.specs.declared.fault.Refusal.TheVariants as refusals
+use Rattle.verify_core.specs.declared.goals.FunctionGoals.{FunctionGoals}
+use Rattle.verify_core.specs.Prepared.{gone_of, HaveGoals, HasManyPaths, most_paths, most_obligations}
+use Rattle.verify_core.specs.Verdict.{obligations_in}
+
+-- the body of this place can be walked, if there is one
+abbrev pub CanWalkAt : Lowered → ℕ → Type 0
+CanWalkAt l n = (b : Body) (c : Contract) → slice_get l.bodies.bodies n ≡ Some b → slice_get l.contracts n ≡ Some c → CanWalk (record { body = b; contracts = l.contracts; contract = c; init = gone_of l.gone n })
+
+-- there are as many contracts and gone places as bodies, and each body can be walked
+pub record CanWalkAll (l : Lowered) : Type 0 where
+  pub contracts : length l.contracts ≡ length l.bodies.bodies
+  pub gone : length l.gone ≡ length l.bodies.bodies
+  pub walk : (n : ℕ) → CanWalkAt l n
+
+pub record AreAllGoals (l : Lowered) (gs : List FunctionGoals) : Type 0 where
+  pub goals : HaveGoals l.bodies.bodies l.contracts l.gone gs
+  pub as_many : length gs ≡ length l.bodies.bodies
+  pub few : length (obligations_in gs) ≤ most_obligations
+
+-- some of the functions have too many obligations
+pub record AreTooMany (l : Lowered) : Type 0 where
+  pub functions : List FunctionGoals
+  pub goals : HaveGoals l.bodies.bodies l.contracts l.gone functions
+  pub many : most_obligations < length (obligations_in functions)
+
+abbrev pub RefusesGoals : Lowered → Refusal → Type 0
+RefusesGoals l (refusals.Source e) = ⊥
+RefusesGoals l (refusals.Proof n) = ⊥
+RefusesGoals l (refusals.Limit limit) = AreTooMany l × (limit ≡ record { kind = Obligations; counted = most_obligations + 1; bound = most_obligations })
+RefusesGoals l refusals.NoMemory = Unit {0}
+
+abbrev pub IsBoundError : ℕ → Refusal → Type 0
+IsBoundError many r = (most_obligations < many) × (r ≡ refusals.Limit (record { kind = Obligations; counted = most_obligations + 1; bound = most_obligations }))
+
+abbrev pub AreLaidOut : List Body → Type 0
+AreLaidOut bs = (n : ℕ) (b : Body) → slice_get bs n ≡ Some b → IsLaidOut b
+
+abbrev pub IsPathsError : List Body → Limit → Type 0
+IsPathsError bs l = HasManyPaths bs × (l ≡ record { kind = Paths; counted = most_paths + 1; bound = most_paths })

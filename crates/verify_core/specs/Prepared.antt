@@ -1,0 +1,132 @@
+-- The program of a source, and why a source has none.
+use Rattle.std.specs.Prelude.{◌≡◌, ◌≢◌, ℕ, ◌+◌, ◌<◌, ◌≤◌, zero, suc, List, [], ◌∷◌, length, codes, Some, slice_get, Result, Ok, Err}
+use Rattle.text_core.specs.declared.name.Name.{Name}
+use Rattle.text_core.specs.declared.refusal.Limit.{Limit}
+use Rattle.text_core.specs.declared.refusal.LimitKind.TheVariants.{SourceBytes, Blocks, Paths, Obligations}
+use Rattle.text_core.specs.declared.refusal.SourceError.{SourceError}
+use Rattle.text_core.specs.Names.{text_of}
+use Rattle.logic_term.specs.declared.obligation.Contract.{Contract}
+use Rattle.mir_ir.specs.declared.body.Body.{Body}
+use Rattle.mir_ir.specs.declared.body.Initialised.{Initialised}
+use Rattle.wp_gen.specs.Paths.{HasPaths, HasMorePaths}
+use Rattle.wp_gen.specs.Walk.{AreObligations}
+use Rattle.prophecy_sim.specs.Programs as sim
+use Rattle.rs_syntax.specs.declared.function.Function.{Function}
+use Rattle.rs_syntax.specs.declared.fault.PassError.TheVariants as errors
+use Rattle.rs_syntax.specs.Parsed.{SpellsSource, IsParseError, HasFunctionsError}
+use Rattle.type_check.specs.declared.program.TypedProgram.{TypedProgram}
+use Rattle.type_check.specs.Checked.{checked}
+use Rattle.mir_build.specs.Lowering.{LowerTo, HasMoreBlocks}
+use Rattle.verify_core.specs.declared.fault.Refusal.{Refusal}
+use Rattle.verify_core.specs.declared.fault.Refusal.TheVariants as refusals
+use Rattle.verify_core.specs.declared.goals.FunctionGoals.{FunctionGoals}
+use Rattle.verify_core.specs.declared.program.Program.{Program}
+use Rattle.verify_core.specs.Verdict.{obligations_in}
+
+-- ---- bounds
+
+abbrev pub most_bytes : ℕ
+most_bytes = 1048576
+
+abbrev pub most_blocks : ℕ
+most_blocks = 4096
+
+abbrev pub most_paths : ℕ
+most_paths = 1024
+
+abbrev pub most_obligations : ℕ
+most_obligations = 1000000
+
+-- ---- the passes
+
+-- the source spells these functions with names of the table, in which `result` has this name
+pub record HasFunctions (source : List ℕ) (table : List (List ℕ)) (functions : List Function) (result : Name) : Type 0 where
+  pub spelled : SpellsSource table source functions
+  pub is_result : text_of table result ≡ Some (codes "result")
+
+-- the functions of the source have these names and types
+pub record IsTypedAs (source : List ℕ) (table : List (List ℕ)) (typed : TypedProgram) : Type 0 where
+  pub functions : List Function
+  pub result : Name
+  pub has : HasFunctions source table functions result
+  pub is_typed : checked result functions ≡ Ok typed
+
+-- ---- goals
+
+-- what may be gone in function n; nothing past the end
+abbrev pub gone_of : List Initialised → ℕ → Initialised
+gone_of [] n = record { gone = [] }
+gone_of (g ∷ gones) zero = g
+gone_of (g ∷ gones) (suc n) = gone_of gones n
+
+abbrev pub program_of : List Body → List Contract → List Initialised → sim.Program
+program_of bs cs gones = record { bodies = bs; contracts = cs; gone = gone_of gones }
+
+-- the obligations of a body with its contract
+pub record AreGoalsOf (all : List Contract) (b : Body) (c : Contract) (gone : Initialised) (g : FunctionGoals) : Type 0 where
+  pub name : g.name ≡ b.owner
+  pub paths : ℕ
+  pub are : AreObligations (record { body = b; contracts = all; contract = c; init = gone }) 1 g.obligations paths
+
+-- function n has these goals
+pub record HasGoals (bs : List Body) (cs : List Contract) (gones : List Initialised) (n : ℕ) (g : FunctionGoals) : Type 0 where
+  pub body : Body
+  pub is_body : slice_get bs n ≡ Some body
+  pub contract : Contract
+  pub is_contract : slice_get cs n ≡ Some contract
+  pub goals : AreGoalsOf cs body contract (gone_of gones n) g
+
+-- the first functions have these goals, in order
+abbrev pub HaveGoals : List Body → List Contract → List Initialised → List FunctionGoals → Type 0
+HaveGoals bs cs gones gs = (n : ℕ) (g : FunctionGoals) → slice_get gs n ≡ Some g → HasGoals bs cs gones n g
+
+-- ---- paths
+
+-- each body has at most so many paths
+abbrev pub HaveFewPaths : List Body → Type 0
+HaveFewPaths bs = (n : ℕ) (b : Body) → slice_get bs n ≡ Some b → (m : ℕ) × HasPaths b [] b.entry m × (m ≤ most_paths)
+
+-- some body has more
+pub record HasManyPaths (bs : List Body) : Type 0 where
+  pub place : ℕ
+  pub body : Body
+  pub is_body : slice_get bs place ≡ Some body
+  pub more : HasMorePaths body [] body.entry (most_paths + 1)
+
+-- ---- accepted sources
+
+-- the source is accepted, and this is its program
+pub record IsPrepared (source : List ℕ) (p : Program) : Type 0 where
+  pub typed : TypedProgram
+  pub is_typed : IsTypedAs source p.names typed
+  pub gones : List Initialised
+  pub lowers : LowerTo p.names typed.functions p.bodies.bodies p.contracts gones
+  pub paths : HaveFewPaths p.bodies.bodies
+  pub goals : HaveGoals p.bodies.bodies p.contracts gones p.functions
+  pub as_many : length p.functions ≡ length p.bodies.bodies
+  pub few : length (obligations_in p.functions) ≤ most_obligations
+
+-- ---- refused sources
+
+-- the source is refused for this reason, by its tokens and their order, or by names and types
+pub data IsRefused (source : List ℕ) (error : SourceError) : Type 0 where
+  by_syntax : {table : List (List ℕ)} → IsParseError table source (errors.Source error) → ((functions : List Function) → SpellsSource table source functions → ⊥) → IsRefused source error
+  by_types : {table : List (List ℕ)} {functions : List Function} {result : Name} → HasFunctions source table functions result → checked result functions ≡ Err error → IsRefused source error
+
+-- a quantity of the source is past its bound
+pub data IsPastLimit (source : List ℕ) : Limit → Type 0 where
+  bytes : most_bytes < length source → IsPastLimit source (record { kind = SourceBytes; counted = length source; bound = most_bytes })
+  functions : {table : List (List ℕ)} {limit : Limit} → HasFunctionsError table source (errors.Limit limit) → IsPastLimit source limit
+  blocks : {table : List (List ℕ)} {typed : TypedProgram} → IsTypedAs source table typed → HasMoreBlocks typed most_blocks → IsPastLimit source (record { kind = Blocks; counted = most_blocks + 1; bound = most_blocks })
+
+  paths : {table : List (List ℕ)} {typed : TypedProgram} {bs : List Body} {cs : List Contract} {gones : List Initialised} → IsTypedAs source table typed → LowerTo table typed.functions bs cs gones → HasManyPaths bs
+      → IsPastLimit source (record { kind = Paths; counted = most_paths + 1; bound = most_paths })
+  obligations : {table : List (List ℕ)} {typed : TypedProgram} {bs : List Body} {cs : List Contract} {gones : List Initialised} (gs : List FunctionGoals) → IsTypedAs source table typed → LowerTo table typed.functions bs cs gones
+      → HaveGoals bs cs gones gs → most_obligations < length (obligations_in gs) → IsPastLimit source (record { kind = Obligations; counted = most_obligations + 1; bound = most_obligations })
+
+-- why a source has no program
+abbrev pub RefusesSource : List ℕ → Refusal → Type 0
+RefusesSource source (refusals.Source error) = IsRefused source error
+RefusesSource source (refusals.Limit limit) = IsPastLimit source limit
+RefusesSource source (refusals.Proof line) = ⊥
+RefusesSource source refusals.NoMemory = Unit {0}

@@ -1,0 +1,19 @@
+//! The verdict on a source: which obligations its proofs prove, and which functions are verified.
+#![tactic(auto)]
+
+mod check;
+mod fault;
+mod goals;
+mod judge;
+mod preparing;
+mod program;
+mod reach;
+mod verdict;
+mod verifying;
+
+pub use fault::Refusal;
+pub use goals::FunctionGoals;
+pub use preparing::prepare;
+pub use program::Program;
+pub use verdict::verdict_on;
+pub use verifying::verify;

@@ -1,0 +1,51 @@
+//! The verdict on a source with its proofs.
+ghost use Rattle.std.specs.Prelude.{ℕ, List, IfOk, IfErr};
+ghost use Rattle.proof_text.specs.ProofTextFile.{SpellsProofs};
+ghost use Rattle.verify_core.specs.OnSource.{IsVerdictOn, RefusesProofs, Refuses};
+
+use crate::fault::Refusal;
+use crate::preparing::prepare;
+use crate::verdict::verdict_on;
+use proof_text::{ProofFile, ProofTextError, read_proofs};
+use report_out::Verdict;
+use std::alloc::Global;
+use text_core::{Limit, LimitKind, Names};
+
+/// The most bytes of a file of proofs.
+const MOST_PROOF_BYTES: usize = 1 << 26;
+
+/// The proofs that the bytes of a file spell.
+fn proofs_of(alloc: Global, bytes: &[u8]) -> Result<ProofFile, Refusal>
+    ensures ok { IfOk result (λ file. (table : List (List ℕ)) × SpellsProofs table bytes.now file) }
+    ensures refused { IfErr result (RefusesProofs bytes.now) }
+{
+    if bytes.len() > MOST_PROOF_BYTES {
+        return Err(Refusal::Limit(Limit {
+            kind: LimitKind::ProofBytes,
+            counted: bytes.len() as u64,
+            bound: 67_108_864,
+        }));
+    }
+    let mut names = Names::new(alloc);
+    match read_proofs(alloc, bytes, &mut names) {
+        Ok(file) => Ok(file),
+        Err(ProofTextError::BadLine(line)) => Err(Refusal::Proof(line)),
+        Err(ProofTextError::NoMemory) => Err(Refusal::NoMemory),
+    }
+}
+
+/// The verdict on the source with the proofs of a file: which functions are verified, and which obligations are left.
+///
+/// Errors: those of `prepare`; `Proof` with the first bad line of the file; `Limit` where the file has more than 67,108,864
+/// bytes; `NoMemory`.
+pub fn verify(alloc: Global, source: &[u8], proofs: &[u8]) -> Result<Verdict, Refusal>
+    ensures ok { IfOk result (IsVerdictOn source.now proofs.now) }
+    ensures refused { IfErr result (Refuses source.now proofs.now) }
+{
+    let program = prepare(alloc, source)?;
+    let file = proofs_of(alloc, proofs)?;
+    let functions = program.functions.as_slice();
+    let bodies = program.bodies.bodies.as_slice();
+    let verdict = verdict_on(alloc, functions, bodies, file.proofs.as_slice())?;
+    Ok(verdict)
+}

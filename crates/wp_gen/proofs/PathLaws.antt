@@ -1,0 +1,249 @@
+-- Laws of the paths of bodies, and the counting of them.
+use Rattle.std.proofs.Common.{◌≡◌, ◌∙◌, inl, inr, refl, sym, ap, subst, ℕ, ◌+◌, ◌-◌, ◌*◌, ◌≤◌, ◌<◌, ◌==◌, ◌||◌, Bool, true, false, true≢false, List, [], ◌∷◌, ◌++◌, Option, Some, None, arith}
+use Rattle.logic_term.specs.declared.kinds.Label.{Label}
+use Rattle.mir_ir.specs.declared.place.Operand.{Operand}
+use Rattle.mir_ir.specs.declared.place.Place.{Place}
+use Rattle.mir_ir.specs.declared.statement.Statement.{Statement}
+use Rattle.mir_ir.specs.declared.terminator.Callee.{Callee}
+use Rattle.mir_ir.specs.declared.terminator.Terminator.{Terminator}
+use Rattle.mir_ir.specs.declared.terminator.TerminatorKind.{TerminatorKind}
+use Rattle.mir_ir.specs.declared.terminator.TerminatorKind.TheVariants.{Goto, If, Call, Return}
+use Rattle.mir_ir.specs.declared.body.Block.{Block}
+use Rattle.mir_ir.specs.declared.body.Body.{Body}
+use Rattle.mir_ir.specs.declared.body.Head.{Head}
+use Rattle.mir_ir.specs.Body.{block_in}
+use Rattle.mir_ir.specs.Layout.{among, targets, place_of, around_of, Leads, on, back, IsLaidOut}
+use Rattle.wp_gen.specs.declared.goal.Goal.{Goal}
+use Rattle.wp_gen.specs.Walk.{Setting, Walks, Arrives, AreObligations}
+use Rattle.wp_gen.specs.Walk as walk
+use Rattle.wp_gen.specs.Walkable.{AllAmong}
+use Rattle.wp_gen.specs.Paths.{IsEntered, passed, Paths, stopped, again, return, goto, call, branch, CountsAgree, WalksAreCounted, MayStand, CountsAlong, EndPaths, CountsFrom, IsCount}
+use Rattle.wp_gen.proofs.ArriveLaws.{either, or_true, among_append, among_front, same_label, room, found_place}
+
+some_same : {A : Type 0} {a b : A} → Some a ≡ Some b → a ≡ b
+some_same e = cc
+
+-- a count that is exact may also have stopped
+pub may_stop : {b : Body} {heads : List Label} {l : Label} {n : ℕ} → Paths false b heads l n → Paths true b heads l n
+may_stop (stopped e) = absurd (true≢false (sym e))
+may_stop (again k h is is_head there) = again k h is is_head there
+may_stop (return k is entered e) = return k is entered e
+may_stop (goto k m is entered e p) = goto k m is entered e (may_stop p)
+may_stop (call k q c args m is entered e p) = call k q c args m is entered e (may_stop p)
+may_stop (branch k o on_true on_false is entered e p q) = branch k o on_true on_false is entered e (may_stop p) (may_stop q)
+
+-- a block that is entered, by its end
+pub enters : (early : Bool) (b : Body) (heads : List Label) (l : Label) (k : Block) (n : ℕ) → block_in b.blocks l ≡ Some k → IsEntered k.head l heads → EndPaths early b (passed k.head l heads) k.end.kind n → Paths early b heads l n
+enters early b heads l k n is entered p = by_kind k.end.kind refl p
+  where
+    by_kind : (kind : TerminatorKind) → k.end.kind ≡ kind → EndPaths early b (passed k.head l heads) kind n → Paths early b heads l n
+    by_kind (Goto m) e q = goto k m is entered e q
+    by_kind (If o on_true on_false) e (i, j, q, r, s) = subst (Paths early b heads l) (sym s) (branch k o on_true on_false is entered e q r)
+    by_kind (Call pl c args m) e q = call k pl c args m is entered e q
+    by_kind Return e q = subst (Paths early b heads l) (sym q) (return k is entered e)
+
+-- ---- counts agree
+
+not_both : (k k' : Block) (h : Head) (l : Label) (heads : List Label) (bs : Option Block) → bs ≡ Some k → bs ≡ Some k' → k.head ≡ Some h → among l heads ≡ true → IsEntered k'.head l heads → ⊥
+not_both k k' h l heads bs is is' is_head there entered =
+    let head_is : k'.head ≡ Some h = ap (λ (j : Block). j.head) (some_same (sym is' ∙ is)) ∙ is_head in
+    true≢false (sym there ∙ subst (λ o. IsEntered o l heads) head_is entered)
+
+passed_once : {b : Body} {heads : List Label} {l : Label} {n : ℕ} → Paths false b heads l n → (k : Block) (h : Head) → block_in b.blocks l ≡ Some k → k.head ≡ Some h → among l heads ≡ true → n ≡ 1
+passed_once (stopped e) k h is is_head there = absurd (true≢false (sym e))
+passed_once (again k' h' is' is_head' there') k h is is_head there = refl
+passed_once {heads = heads} {l = l} (return k' is' entered e) k h is is_head there = absurd (not_both k k' h l heads _ is is' is_head there entered)
+passed_once {heads = heads} {l = l} (goto k' m is' entered e p) k h is is_head there = absurd (not_both k k' h l heads _ is is' is_head there entered)
+passed_once {heads = heads} {l = l} (call k' q c args m is' entered e p) k h is is_head there = absurd (not_both k k' h l heads _ is is' is_head there entered)
+passed_once {heads = heads} {l = l} (branch k' o on_true on_false is' entered e p q) k h is is_head there = absurd (not_both k k' h l heads _ is is' is_head there entered)
+
+-- what follows in a block that is entered
+ends_of : (b : Body) (heads : List Label) (l : Label) (k k' : Block) (n : ℕ) → block_in b.blocks l ≡ Some k → block_in b.blocks l ≡ Some k' → EndPaths false b (passed k'.head l heads) k'.end.kind n → EndPaths false b (passed k.head l heads) k.end.kind n
+ends_of b heads l k k' n is is' p = subst (λ (j : Block). EndPaths false b (passed j.head l heads) j.end.kind n) (some_same (sym is' ∙ is)) p
+
+follows : {b : Body} {heads : List Label} {l : Label} {n : ℕ} → Paths false b heads l n → (k : Block) → block_in b.blocks l ≡ Some k → IsEntered k.head l heads → EndPaths false b (passed k.head l heads) k.end.kind n
+follows (stopped e) k is entered = absurd (true≢false (sym e))
+follows {heads = heads} {l = l} (again k' h is' is_head there) k is entered = absurd (not_both k' k h l heads _ is' is is_head there entered)
+follows {b} {heads} {l} (return k' is' entered' e) k is entered =
+    ends_of b heads l k k' 1 is is' (subst (λ kind. EndPaths false b (passed k'.head l heads) kind 1) (sym e) refl)
+follows {b} {heads} {l} {n} (goto k' m is' entered' e p) k is entered =
+    ends_of b heads l k k' n is is' (subst (λ kind. EndPaths false b (passed k'.head l heads) kind n) (sym e) p)
+follows {b} {heads} {l} {n} (call k' q c args m is' entered' e p) k is entered =
+    ends_of b heads l k k' n is is' (subst (λ kind. EndPaths false b (passed k'.head l heads) kind n) (sym e) p)
+follows {b} {heads} {l} (branch {n = i} {n' = j} k' o on_true on_false is' entered' e p q) k is entered =
+    ends_of b heads l k k' (i + j) is is' (subst (λ kind. EndPaths false b (passed k'.head l heads) kind (i + j)) (sym e) (i, j, p, q, refl))
+
+sums : (i j m n n' : ℕ) → i ≤ n → j ≤ n' → m ≡ n + n' → i + j ≤ m
+sums i j m n n' p q e = omega arith
+
+at_most : {b : Body} {heads : List Label} {l : Label} {m n : ℕ} → Paths true b heads l n → Paths false b heads l m → n ≤ m
+at_most (stopped e) q = omega arith
+at_most (again k h is is_head there) q = omega (arith, passed_once q k h is is_head there)
+at_most {b} {heads} {l} {m} (return k is entered e) q = omega (arith, subst (λ kind. EndPaths false b (passed k.head l heads) kind m) e (follows q k is entered))
+at_most {b} {heads} {l} {m} (goto k t is entered e p) q = at_most p (subst (λ kind. EndPaths false b (passed k.head l heads) kind m) e (follows q k is entered))
+at_most {b} {heads} {l} {m} (call k pl c args t is entered e p) q = at_most p (subst (λ kind. EndPaths false b (passed k.head l heads) kind m) e (follows q k is entered))
+at_most {b} {heads} {l} {m} (branch {n = i} {n' = j} k o on_true on_false is entered e p p') q =
+    let f = subst (λ kind. EndPaths false b (passed k.head l heads) kind m) e (follows q k is entered) in
+    sums i j m f.0 f.1 (at_most p f.2) (at_most p' f.3) f.4
+
+pub counts_agree : CountsAgree
+counts_agree b heads l m n exact more = at_most more exact
+
+-- ---- the walk's paths
+
+mutual
+  walk_counted : {w : Setting} {heads : List Label} {sts : List Statement} {end : Terminator} {gs : List Goal} {n : ℕ} → Walks w heads sts end gs n → EndPaths false w.body heads end.kind n
+  walk_counted (walk.statement rest) = walk_counted rest
+  walk_counted {w} {heads} {n = n} (walk.goto l e arrives) = subst (λ kind. EndPaths false w.body heads kind n) (sym e) (arrival_counted arrives)
+  walk_counted {w} {heads} (walk.branch {n = i} {m = j} o on_true on_false e one other) = subst (λ kind. EndPaths false w.body heads kind (i + j)) (sym e) (i, j, arrival_counted one, arrival_counted other, refl)
+  walk_counted {w} {heads} {n = n} (walk.call p f args l d t e is_d is_t arrives) = subst (λ kind. EndPaths false w.body heads kind n) (sym e) (arrival_counted arrives)
+  walk_counted {w} {heads} (walk.return e) = subst (λ kind. EndPaths false w.body heads kind 1) (sym e) refl
+
+  arrival_counted : {w : Setting} {heads : List Label} {l : Label} {gs : List Goal} {n : ℕ} → Arrives w heads l gs n → Paths false w.body heads l n
+  arrival_counted {w} {heads} {l} {n = n} (walk.plain k is no_head walks) =
+      enters false w.body heads l k n is (subst (λ o. IsEntered o l heads) (sym no_head) tt) (subst (λ o. EndPaths false w.body (passed o l heads) k.end.kind n) (sym no_head) (walk_counted walks))
+  arrival_counted {w} {heads} {l} {n = n} (walk.first k h is is_head not_passed walks) =
+      enters false w.body heads l k n is (subst (λ o. IsEntered o l heads) (sym is_head) not_passed) (subst (λ o. EndPaths false w.body (passed o l heads) k.end.kind n) (sym is_head) (walk_counted walks))
+  arrival_counted (walk.again k h is is_head there) = again k h is is_head there
+
+pub walks_are_counted : WalksAreCounted
+walks_are_counted w m n os are = arrival_counted are.are_goals.arrives
+
+-- ---- along an edge
+
+pub count_map : {P Q : Bool → ℕ → Type 0} (room : ℕ) (o : Option ℕ) → ((early : Bool) (n : ℕ) → P early n → Q early n) → IsCount P room o → IsCount Q room o
+count_map room (Some n) f h = (h.0, f false n h.1)
+count_map room None f h = f true (room + 1) h
+
+-- back to a head that was passed
+pub back_counts : (b : Body) (l m : Label) (k : Block) → IsLaidOut b → block_in b.blocks l ≡ Some k → among m (targets k.end.kind) ≡ true → among m k.nest ≡ true → (early : Bool) (n : ℕ) → n ≡ 1 → CountsAlong b l m early n
+back_counts b l m k laid is named in_nest early n one heads k' may = by_edge (laid.edges l m k is named)
+  where
+    same : k' ≡ k
+    same = some_same (sym may.is_block ∙ is)
+
+    was_passed : among m heads ≡ true
+    was_passed = may.nest m (subst (λ (j : Block). among m j.nest ≡ true) (sym same) in_nest)
+
+    by_edge : Leads b l k m → Paths early b heads m n
+    by_edge (on to is_to further enters) = absurd (omega (arith, may.not_later m was_passed))
+    by_edge (back to h is_to is_head there) = subst (Paths early b heads m) (sym one) (again to h is_to is_head was_passed)
+
+-- on to a block that is later
+pub on_counts : (b : Body) (l m : Label) (k : Block) → IsLaidOut b → block_in b.blocks l ≡ Some k → among m (targets k.end.kind) ≡ true → among m k.nest ≡ false → (early : Bool) (n : ℕ) → CountsFrom b m early n → CountsAlong b l m early n
+on_counts b l m k laid is named not_in early n counts heads k' may = by_edge (laid.edges l m k is named)
+  where
+    same : k' ≡ k
+    same = some_same (sym may.is_block ∙ is)
+
+    not_passed : place_of b.blocks l < place_of b.blocks m → among m heads ≡ false
+    not_passed further = elim (either (among m heads)) [
+      | inl there ↦ absurd (omega (arith, may.not_later m there))
+      | inr not_there ↦ not_there
+    ]
+
+    is_entered : (h : Option Head) → among m heads ≡ false → IsEntered h m heads
+    is_entered None not_there = tt
+    is_entered (Some h) not_there = not_there
+
+    or_right : (a c : Bool) → c ≡ true → (a || c) ≡ true
+    or_right true c e = refl
+    or_right false c e = e
+
+    nest_passed : (h : Option Head) (nest outer : List Label) → around_of h nest m outer → AllAmong outer heads → AllAmong nest (passed h m heads)
+    nest_passed None nest outer is_around all = subst (λ ls. AllAmong ls heads) (sym is_around) all
+    nest_passed (Some h) nest outer is_around all = subst (λ ls. AllAmong ls (m ∷ heads)) (sym is_around) both
+      where
+        both : AllAmong (outer ++ m ∷ []) (m ∷ heads)
+        both x e = elim (among_append x outer (m ∷ []) e) [
+          | inl first ↦ or_right (m.0 == x.0) (among x heads) (all x first)
+          | inr second ↦ elim (or_true (m.0 == x.0) false second) [
+            | inl here ↦ ap (λ t. t || among x heads) here
+            | inr none ↦ absurd (true≢false (sym none))
+          ]
+        ]
+
+    not_later : (h : Option Head) → place_of b.blocks l < place_of b.blocks m → (x : Label) → among x (passed h m heads) ≡ true → place_of b.blocks x ≤ place_of b.blocks m
+    not_later None further x there = omega (arith, may.not_later x there)
+    not_later (Some h) further x there = elim (or_true (m.0 == x.0) (among x heads) there) [
+      | inl here ↦ subst (λ y. place_of b.blocks y ≤ place_of b.blocks m) (same_label m x here) (omega arith)
+      | inr before ↦ omega (arith, may.not_later x before)
+    ]
+
+    by_edge : Leads b l k m → Paths early b heads m n
+    by_edge (on to is_to further enters_m) =
+        enters early b heads m to n is_to (is_entered to.head (not_passed further))
+        (counts (passed to.head m heads) to (record {
+          is_block = is_to;
+          nest = nest_passed to.head to.nest enters_m.outer enters_m.is_around
+              (λ x e. may.nest x (subst (λ (j : Block). among x j.nest ≡ true) (sym same) (subst (λ ls. among x ls ≡ true) (sym enters_m.within) (among_front x enters_m.outer enters_m.inner e))));
+          not_later = not_later to.head further;
+        }))
+    by_edge (back to h is_to is_head there) = absurd (true≢false (sym there ∙ not_in))
+
+-- ---- from a block on
+
+-- by the block's end
+pub ends_count : (b : Body) (l : Label) (k : Block) (kind : TerminatorKind) (early : Bool) (n : ℕ) → block_in b.blocks l ≡ Some k → k.end.kind ≡ kind → ((heads : List Label) → MayStand b heads l k → EndPaths early b heads kind n) → CountsFrom b l early n
+ends_count b l k kind early n is is_kind p heads k' may =
+    let same : k ≡ k' = some_same (sym is ∙ may.is_block) in
+    subst (λ (j : Block). EndPaths early b heads j.end.kind n) same (subst (λ q. EndPaths early b heads q n) (sym is_kind) (p heads (subst (λ (j : Block). MayStand b heads l j) (sym same) may)))
+
+pub goto_counts : (b : Body) (l : Label) (k : Block) (m : Label) → block_in b.blocks l ≡ Some k → k.end.kind ≡ Goto m → (early : Bool) (n : ℕ) → CountsAlong b l m early n → CountsFrom b l early n
+goto_counts b l k m is is_kind early n counts = ends_count b l k (Goto m) early n is is_kind (λ heads may. counts heads k may)
+
+pub call_counts : (b : Body) (l : Label) (k : Block) (p : Place) (c : Callee) (args : List Operand) (m : Label) → block_in b.blocks l ≡ Some k → k.end.kind ≡ Call p c args m → (early : Bool) (n : ℕ) → CountsAlong b l m early n → CountsFrom b l early n
+call_counts b l k p c args m is is_kind early n counts = ends_count b l k (Call p c args m) early n is is_kind (λ heads may. counts heads k may)
+
+pub return_counts : (b : Body) (l : Label) (k : Block) → block_in b.blocks l ≡ Some k → k.end.kind ≡ Return → (early : Bool) (n : ℕ) → n ≡ 1 → CountsFrom b l early n
+return_counts b l k is is_kind early n one = ends_count b l k Return early n is is_kind (λ heads may. one)
+
+pub both_count : (b : Body) (l : Label) (k : Block) (o : Operand) (on_true on_false : Label) → block_in b.blocks l ≡ Some k → k.end.kind ≡ If o on_true on_false → (early : Bool) (i j n : ℕ) → n ≡ i + j → CountsAlong b l on_true early i → CountsAlong b l on_false early j → CountsFrom b l early n
+both_count b l k o on_true on_false is is_kind early i j n sum first second = ends_count b l k (If o on_true on_false) early n is is_kind (λ heads may. (i, j, first heads k may, second heads k may, sum))
+
+-- the first side has more than there is room for
+pub first_is_many : (b : Body) (l : Label) (k : Block) (o : Operand) (on_true on_false : Label) (room : ℕ) → block_in b.blocks l ≡ Some k → k.end.kind ≡ If o on_true on_false → CountsAlong b l on_true true (room + 1) → CountsFrom b l true (room + 1)
+first_is_many b l k o on_true on_false room is is_kind first = both_count b l k o on_true on_false is is_kind true (room + 1) 0 (room + 1) (omega arith) first (λ heads j may. stopped refl)
+
+-- the second side has more than is left
+pub second_is_many : (b : Body) (l : Label) (k : Block) (o : Operand) (on_true on_false : Label) (room i : ℕ) → block_in b.blocks l ≡ Some k → k.end.kind ≡ If o on_true on_false → i ≤ room → CountsAlong b l on_true false i → CountsAlong b l on_false true (room - i + 1) → CountsFrom b l true (room + 1)
+second_is_many b l k o on_true on_false room i is is_kind within first second =
+    both_count b l k o on_true on_false is is_kind true i (room - i + 1) (room + 1) (omega arith) (λ heads j may. may_stop (first heads j may)) second
+
+-- ---- from the entry on
+
+pub entry_counts : (b : Body) (early : Bool) (n : ℕ) → IsLaidOut b → CountsFrom b b.entry early n → Paths early b [] b.entry n
+entry_counts b early n laid counts =
+    enters early b [] b.entry laid.entry n laid.is_entry (is_entered laid.entry.head)
+    (counts (passed laid.entry.head b.entry []) laid.entry (record {
+      is_block = laid.is_entry;
+      nest = nest_passed laid.entry.head laid.entry.nest laid.at_entry;
+      not_later = not_later laid.entry.head;
+    }))
+  where
+    is_entered : (h : Option Head) → IsEntered h b.entry []
+    is_entered None = tt
+    is_entered (Some h) = refl
+
+    nest_passed : (h : Option Head) (nest : List Label) → around_of h nest b.entry [] → AllAmong nest (passed h b.entry [])
+    nest_passed None nest is_around = subst (λ ls. AllAmong ls []) (sym is_around) (λ x e. e)
+    nest_passed (Some h) nest is_around = subst (λ ls. AllAmong ls (b.entry ∷ [])) (sym is_around) (λ x e. e)
+
+    not_later : (h : Option Head) (x : Label) → among x (passed h b.entry []) ≡ true → place_of b.blocks x ≤ place_of b.blocks b.entry
+    not_later None x there = absurd (true≢false (sym there))
+    not_later (Some h) x there = elim (or_true (b.entry.0 == x.0) false there) [
+      | inl here ↦ subst (λ y. place_of b.blocks y ≤ place_of b.blocks b.entry) (same_label b.entry x here) (omega arith)
+      | inr none ↦ absurd (true≢false (sym none))
+    ]
+
+-- ---- why the count ends
+
+pub next_block : (b : Body) (l m : Label) (k : Block) → IsLaidOut b → block_in b.blocks l ≡ Some k → among m (targets k.end.kind) ≡ true → among m k.nest ≡ false → ((to : Block) × (block_in b.blocks m ≡ Some to)) × (2 * room b.blocks m < 2 * room b.blocks l - 1)
+next_block b l m k laid is named not_in = by_edge (laid.edges l m k is named)
+  where
+    by_edge : Leads b l k m → ((to : Block) × (block_in b.blocks m ≡ Some to)) × (2 * room b.blocks m < 2 * room b.blocks l - 1)
+    by_edge (on to is_to further enters_m) = ((to, is_to), omega (arith, further, found_place b.blocks l k is, found_place b.blocks m to is_to))
+    by_edge (back to h is_to is_head there) = absurd (true≢false (sym there ∙ not_in))
+
+pub has_room : (b : Body) (l : Label) (k : Block) → block_in b.blocks l ≡ Some k → 2 * room b.blocks l - 1 < 2 * room b.blocks l
+has_room b l k is = omega (arith, found_place b.blocks l k is)

@@ -1,6 +1,0 @@
-use Rattle.std.proofs.Common.{◌≡◌, take, map}
-use Rattle.wp_gen.specs.Row.{operand_term}
-use Rattle.wp_gen.proofs.call.operand_terms.Given as goal
-
-abbrev pub invariant-loop-arg : goal.invariant-loop-arg
-invariant-loop-arg l = l.terms.items ≡ map (operand_term l.body) (take l.arg-index l.args)

@@ -1,0 +1,84 @@
+-- The complete paths of a body, as the walk takes them: each ends at a return, or at a second arrival at a head.
+use Rattle.std.specs.Prelude.{◌≡◌, ℕ, ◌+◌, ◌≤◌, Bool, true, false, List, [], ◌∷◌, Option, Some, None}
+use Rattle.logic_term.specs.declared.kinds.Label.{Label}
+use Rattle.logic_term.specs.declared.obligation.Obligation.{Obligation}
+use Rattle.mir_ir.specs.declared.place.Operand.{Operand}
+use Rattle.mir_ir.specs.declared.place.Place.{Place}
+use Rattle.mir_ir.specs.declared.terminator.Callee.{Callee}
+use Rattle.mir_ir.specs.declared.terminator.TerminatorKind.{TerminatorKind}
+use Rattle.mir_ir.specs.declared.terminator.TerminatorKind.TheVariants.{Goto, If, Call, Return}
+use Rattle.mir_ir.specs.declared.body.Block.{Block}
+use Rattle.mir_ir.specs.declared.body.Body.{Body}
+use Rattle.mir_ir.specs.declared.body.Head.{Head}
+use Rattle.mir_ir.specs.Body.{block_in}
+use Rattle.mir_ir.specs.Layout.{among, place_of}
+use Rattle.wp_gen.specs.Walk.{Setting, AreObligations}
+use Rattle.wp_gen.specs.Walkable.{AllAmong}
+
+-- the block is no head that was passed
+abbrev pub IsEntered : Option Head → Label → List Label → Type 0
+IsEntered None l heads = Unit {0}
+IsEntered (Some h) l heads = among l heads ≡ false
+
+-- the heads that were passed, once it is entered
+abbrev pub passed : Option Head → Label → List Label → List Label
+passed None l heads = heads
+passed (Some h) l heads = l ∷ heads
+
+-- n paths from the arrival at the block of the label on, where these heads were passed. early: whether the count may stop short
+-- of a path's end, so that there may be more paths
+pub data Paths (early : Bool) (b : Body) : List Label → Label → ℕ → Type 0 where
+  stopped : {heads : List Label} {l : Label} → early ≡ true → Paths early b heads l 0
+  again : {heads : List Label} {l : Label} (k : Block) (h : Head) → block_in b.blocks l ≡ Some k → k.head ≡ Some h → among l heads ≡ true → Paths early b heads l 1
+  return : {heads : List Label} {l : Label} (k : Block) → block_in b.blocks l ≡ Some k → IsEntered k.head l heads → k.end.kind ≡ Return → Paths early b heads l 1
+  goto : {heads : List Label} {l : Label} {n : ℕ} (k : Block) (m : Label) → block_in b.blocks l ≡ Some k → IsEntered k.head l heads → k.end.kind ≡ Goto m → Paths early b (passed k.head l heads) m n → Paths early b heads l n
+  call : {heads : List Label} {l : Label} {n : ℕ} (k : Block) (p : Place) (callee : Callee) (args : List Operand) (m : Label) → block_in b.blocks l ≡ Some k → IsEntered k.head l heads → k.end.kind ≡ Call p callee args m
+      → Paths early b (passed k.head l heads) m n → Paths early b heads l n
+  branch : {heads : List Label} {l : Label} {n n' : ℕ} (k : Block) (o : Operand) (on_true on_false : Label) → block_in b.blocks l ≡ Some k → IsEntered k.head l heads → k.end.kind ≡ If o on_true on_false
+      → Paths early b (passed k.head l heads) on_true n → Paths early b (passed k.head l heads) on_false n' → Paths early b heads l (n + n')
+
+-- exactly n paths
+abbrev pub HasPaths : Body → List Label → Label → ℕ → Type 0
+HasPaths = Paths false
+
+-- at least n paths
+abbrev pub HasMorePaths : Body → List Label → Label → ℕ → Type 0
+HasMorePaths = Paths true
+
+-- no count is both, so that an answer that is either is exact
+abbrev pub CountsAgree : Type 0
+CountsAgree = (b : Body) (heads : List Label) (l : Label) (m n : ℕ) → HasPaths b heads l m → HasMorePaths b heads l n → n ≤ m
+
+-- the number of paths of the walk that makes the obligations is the count
+abbrev pub WalksAreCounted : Type 0
+WalksAreCounted = (w : Setting) (m n : ℕ) (os : List Obligation) → AreObligations w m os n → HasPaths w.body [] w.body.entry n
+
+-- ---- counting from a block on, along whatever way it was reached
+
+-- a walk may stand in the block of the label, where these heads were passed: those of the loops around it, and no later block
+pub record MayStand (b : Body) (heads : List Label) (l : Label) (k : Block) : Type 0 where
+  pub is_block : block_in b.blocks l ≡ Some k
+  pub nest : AllAmong k.nest heads
+  pub not_later : (m : Label) → among m heads ≡ true → place_of b.blocks m ≤ place_of b.blocks l
+
+-- n paths along the edge from the block of l to m
+abbrev pub CountsAlong : Body → Label → Label → Bool → ℕ → Type 0
+CountsAlong b l m early n = (heads : List Label) (k : Block) → MayStand b heads l k → Paths early b heads m n
+
+-- n paths from the end of a block on
+abbrev pub EndPaths : Bool → Body → List Label → TerminatorKind → ℕ → Type 0
+EndPaths early b heads (Goto m) n = Paths early b heads m n
+EndPaths early b heads (If o on_true on_false) n = (i : ℕ) × (j : ℕ) × Paths early b heads on_true i × Paths early b heads on_false j × (n ≡ i + j)
+EndPaths early b heads (Call p callee args m) n = Paths early b heads m n
+EndPaths early b heads Return n = n ≡ 1
+
+abbrev pub CountsFrom : Body → Label → Bool → ℕ → Type 0
+CountsFrom b l early n = (heads : List Label) (k : Block) → MayStand b heads l k → EndPaths early b heads k.end.kind n
+
+abbrev pub IsOne : Bool → ℕ → Type 0
+IsOne early n = n ≡ 1
+
+-- the count, or none where there are more than `room`
+abbrev pub IsCount : (Bool → ℕ → Type 0) → ℕ → Option ℕ → Type 0
+IsCount P room (Some n) = (n ≤ room) × P false n
+IsCount P room None = P true (room + 1)
