@@ -122,9 +122,9 @@ at_end (z ∷ xs) x y (suc n) e = elim (at_end xs x y n e) [ inl there ↦ inl t
 
 pub one_more_goals : (bs : List Body) (cs : List Contract) (gones : List Initialised) (gs : List FunctionGoals) (place : ℕ) (g : FunctionGoals) → length gs ≡ place → HaveGoals bs cs gones gs → HasGoals bs cs gones place g → HaveGoals bs cs gones (gs ++ g ∷ [])
 one_more_goals bs cs gones gs place g so_many have has n h e = elim (at_end gs g h n e) [
-    inl there ↦ have n h there
+  | inl there ↦ have n h there
   | inr (last, is) ↦ subst (λ (x : FunctionGoals). HasGoals bs cs gones n x) is (subst (λ (m : ℕ). HasGoals bs cs gones m g) (sym (last ∙ so_many)) has)
-  ]
+]
 
 pub length_one_more : {A : Type 0} (xs : List A) (x : A) (n : ℕ) → length xs ≡ n → length (xs ++ x ∷ []) ≡ n + 1
 length_one_more xs x n e = length-append xs (x ∷ []) ∙ ap (λ (k : ℕ). k + 1) e
@@ -167,6 +167,7 @@ few_more bs i b is few before n c is_c inside = either (cases_lt n i)
   where
     Few : Type 0
     Few = (m : ℕ) × HasPaths c [] c.entry m × (m ≤ most_paths)
+
     either : (n < i) ⊎ (i ≤ n) → Few
     either (inl below) = before n c is_c below
     either (inr above) =

@@ -71,8 +71,10 @@ any_found {A} p (x ∷ xs) h = here (p x) refl h (λ rest. any_found p xs rest)
   where
     Found : List A → Type 0
     Found ys = (i : ℕ) × (y : A) × (slice_get ys i ≡ Some y) × (p y ≡ true)
+
     later : Found xs → Found (x ∷ xs)
     later f = (suc f.0, f.1, f.2, f.3)
+
     here : (b : Bool) → p x ≡ b → (b || list_any p xs) ≡ true → (list_any p xs ≡ true → Found xs) → Found (x ∷ xs)
     here true is h rest = (0, x, refl, is)
     here false is h rest = later (rest h)
@@ -129,7 +131,7 @@ module _ (bodies : List Body) (proved flags : List Bool) (justified : AreJustifi
 
   unset_at : (g : ℕ) (flag : Bool) → slice_get after g ≡ Some flag → ((f ≡ g) × (flag ≡ false)) ⊎ (slice_get flags g ≡ Some flag)
   unset_at g flag e = elim (same_or_other f g) [
-    inl same ↦ inl (same, some_same (sym e ∙ subst (λ (i : ℕ). slice_get after i ≡ Some false) same (get_same flags f false true set)))
+    | inl same ↦ inl (same, some_same (sym e ∙ subst (λ (i : ℕ). slice_get after i ≡ Some false) same (get_same flags f false true set)))
     | inr other ↦ inr (sym (get_other flags f g false other) ∙ e)
   ]
 
@@ -169,7 +171,7 @@ module _ (bodies : List Body) (flags : List Bool) (as_many : length flags ≡ le
   pub none_unset : (f m : ℕ) → Reaches bodies f m → slice_get flags f ≡ Some true → slice_get flags m ≡ Some false → ⊥
   none_unset f m Reaches.itself set unset = true≢false (some_same (sym set ∙ unset))
   none_unset f m (Reaches.by_call {n = n} reaches c) set unset = elim (set_or_not n (subst (λ (k : ℕ). n < k) (sym as_many) (within bodies n c.body c.is_body))) [
-    inl there ↦ call_settled n m c there unset
+    | inl there ↦ call_settled n m c there unset
     | inr there ↦ none_unset f n reaches set there
   ]
 

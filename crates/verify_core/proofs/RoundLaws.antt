@@ -60,10 +60,10 @@ none_unset_there bodies start i flags new changed b inside is r (same, settled) 
   fewer = r.fewer;
   at_most = r.at_most;
   settled = λ e f c h at set. elim (which f i h) [
-    before a ↦ r.settled e f c a at set
+    | before a ↦ r.settled e f c a at set
     | here q ↦
-      let same_body : b ≡ c = some_same (sym (get_of bodies i b inside is) ∙ subst (λ (k : ℕ). slice_get bodies k ≡ Some c) q at) in
-      subst (λ (x : Body). calls_unset flags x ≡ false) same_body (settled (subst (λ (k : ℕ). slice_get flags k ≡ Some true) q set))
+        let same_body : b ≡ c = some_same (sym (get_of bodies i b inside is) ∙ subst (λ (k : ℕ). slice_get bodies k ≡ Some c) q at) in
+        subst (λ (x : Body). calls_unset flags x ≡ false) same_body (settled (subst (λ (k : ℕ). slice_get flags k ≡ Some true) q set))
   ];
 })
 

@@ -70,6 +70,7 @@ found_block (b ∷ bs) l k e = here (b.0.0 == l.0) e (found_block bs l k)
   where
     Found : List (Label × Block) → Type 0
     Found xs = (i : ℕ) × (m : Label) × (slice_get xs i ≡ Some (m, k))
+
     here : (same : Bool) → cond same (Some b.1) (block_in bs l) ≡ Some k → (block_in bs l ≡ Some k → Found bs) → Found (b ∷ bs)
     here true e rest = (0, b.0, ap (λ (x : Block). Some (b.0, x)) (some_same e))
     here false e rest = let f = rest e in (suc f.0, f.1, f.2)
@@ -109,7 +110,7 @@ verified_is_good source p ps v prepared verdict f line c is_line verified is_con
     let lowers : Lowers p.names prepared.typed.functions bodies p.contracts prepared.gones = record { lowers = prepared.lowers; fits = typed_program_fits prepared.is_typed.result prepared.is_typed.functions prepared.typed prepared.is_typed.is_typed } in
     let all : IsVerified ps bodies p.functions f = verified_at ps bodies p.functions f line.verified (verdict.lines.told f line is_line) verified in
     true_makes_good no_types (program_of bodies p.contracts prepared.gones) (sound p.names prepared.typed.functions bodies p.contracts prepared.gones lowers)
-        (functions p.names prepared.typed.functions bodies p.contracts prepared.gones lowers) f c is_contract
-        (λ n b d reaches is_body is_d.
-            let g = goals_at bodies p.contracts prepared.gones p.functions prepared.goals prepared.as_many n b d is_body is_d in
-            record { first = 1; obligations = g.0.obligations; paths = g.2.paths; are = g.2.are; all_true = true_goals ps g.0.obligations (all n g.0 (reached bodies f n reaches) g.1) })
+    (functions p.names prepared.typed.functions bodies p.contracts prepared.gones lowers) f c is_contract
+    (λ n b d reaches is_body is_d.
+    let g = goals_at bodies p.contracts prepared.gones p.functions prepared.goals prepared.as_many n b d is_body is_d in
+    record { first = 1; obligations = g.0.obligations; paths = g.2.paths; are = g.2.are; all_true = true_goals ps g.0.obligations (all n g.0 (reached bodies f n reaches) g.1) })

@@ -118,7 +118,6 @@ pub data IsPastLimit (source : List ℕ) : Limit → Type 0 where
   bytes : most_bytes < length source → IsPastLimit source (record { kind = SourceBytes; counted = length source; bound = most_bytes })
   functions : {table : List (List ℕ)} {limit : Limit} → HasFunctionsError table source (errors.Limit limit) → IsPastLimit source limit
   blocks : {table : List (List ℕ)} {typed : TypedProgram} → IsTypedAs source table typed → HasMoreBlocks typed most_blocks → IsPastLimit source (record { kind = Blocks; counted = most_blocks + 1; bound = most_blocks })
-
   paths : {table : List (List ℕ)} {typed : TypedProgram} {bs : List Body} {cs : List Contract} {gones : List Initialised} → IsTypedAs source table typed → LowerTo table typed.functions bs cs gones → HasManyPaths bs
       → IsPastLimit source (record { kind = Paths; counted = most_paths + 1; bound = most_paths })
   obligations : {table : List (List ℕ)} {typed : TypedProgram} {bs : List Body} {cs : List Contract} {gones : List Initialised} (gs : List FunctionGoals) → IsTypedAs source table typed → LowerTo table typed.functions bs cs gones

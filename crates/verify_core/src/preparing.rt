@@ -23,11 +23,7 @@ const MOST_BYTES: usize = 1 << 20;
 const MOST_OBLIGATIONS: usize = 1_000_000;
 
 /// The functions of a source, their names resolved and their expressions typed.
-fn typed_source(
-    alloc: Global,
-    source: &[u8],
-    names: &mut Names,
-) -> Result<TypedProgram, Refusal>
+fn typed_source(alloc: Global, source: &[u8], names: &mut Names) -> Result<TypedProgram, Refusal>
     requires short { length source.now ≤ 2 ^ 20 }
     requires empty { names.old ≡ [] }
     ensures ok { IfOk result (IsTypedAs source.now names.new) }
@@ -133,7 +129,9 @@ pub fn prepare(alloc: Global, source: &[u8]) -> Result<Program, Refusal>
     check_all_paths(lowered.bodies.bodies.as_slice())?;
     let functions = all_goals(alloc, &lowered)?;
     let Lowered {
-        bodies, contracts, ..
+        bodies,
+        contracts,
+        ..
     } = lowered;
     Ok(Program {
         names,

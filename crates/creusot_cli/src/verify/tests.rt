@@ -121,12 +121,21 @@ fn reports_are_byte_for_byte(rt: HostRuntime) -> Result<(), Fail> {
 fn sources_are_refused_where_they_fail(rt: HostRuntime) -> Result<(), Fail> {
     let cases = [
         // The words in their order, and tokens.
-        (b"fn f(x: f64) -> i64 { x }".as_slice(), b"error E20 8..11 line 1\n".as_slice()),
-        (b"fn f(a: i32) -> bool {\n a < 1 < 2 }", b"error E20 30..31 line 2\n"),
+        (
+            b"fn f(x: f64) -> i64 { x }".as_slice(),
+            b"error E20 8..11 line 1\n".as_slice(),
+        ),
+        (
+            b"fn f(a: i32) -> bool {\n a < 1 < 2 }",
+            b"error E20 30..31 line 2\n",
+        ),
         (b"fn f() {", b"error E20 8..8 line 1\n"),
         (b"fn f() {} /* a /* b */", b"error E02 10..22 line 1\n"),
         // Names.
-        (b"fn f() {} fn g() {} fn f() {}", b"error E06 23..24 line 1\n"),
+        (
+            b"fn f() {} fn g() {} fn f() {}",
+            b"error E06 23..24 line 1\n",
+        ),
         (b"fn f(x: i32, x: i32) {}", b"error E06 13..14 line 1\n"),
         (b"fn f() -> i32 { x }", b"error E05 16..17 line 1\n"),
         (b"fn f() { g() }", b"error E05 9..10 line 1\n"),
@@ -136,9 +145,18 @@ fn sources_are_refused_where_they_fail(rt: HostRuntime) -> Result<(), Fail> {
         (b"fn f(x: u8) -> u8 { -x }", b"error E07 21..22 line 1\n"),
         (b"fn f(x: i32) { x = 1; }", b"error E22 15..16 line 1\n"),
         // Formulas, behind the types of all functions.
-        (b"#[requires(y@ > 0)] fn f(x: i32) {} fn g() -> i32 { true }", b"error E07 52..56 line 1\n"),
-        (b"#[requires(y@ > 0)] fn f(x: i32) {}", b"error E05 11..12 line 1\n"),
-        (b"#[ensures(x > 0)] fn f(x: i32) {}", b"error E07 14..15 line 1\n"),
+        (
+            b"#[requires(y@ > 0)] fn f(x: i32) {} fn g() -> i32 { true }",
+            b"error E07 52..56 line 1\n",
+        ),
+        (
+            b"#[requires(y@ > 0)] fn f(x: i32) {}",
+            b"error E05 11..12 line 1\n",
+        ),
+        (
+            b"#[ensures(x > 0)] fn f(x: i32) {}",
+            b"error E07 14..15 line 1\n",
+        ),
     ];
     for (source, printed) in cases {
         let (status, out) = Call::of(source, b"").run(rt.alloc())?;
@@ -289,5 +307,44 @@ fn cut_proof_files_are_refused(rt: HostRuntime) -> Result<(), Fail> {
         let printed = printed_at_cut(rt.alloc(), at)?;
         assert_eq!(rt; out.written(), printed.as_bytes(), "cut at {at}");
     }
+    Ok(())
+}
+
+/// The programs of `data/`, with their proofs.
+#[test]
+fn small_programs_are_verified(rt: HostRuntime) -> Result<(), Fail> {
+    let cases = [
+        (
+            b"// A counter that stays at 100.\n#[requires(c@ <= 100)]\n#[ensures(result@ <= 100)]\n#[ensures(result@ >= c@)]\nfn next(c: u8) -> u8 {\n    if c < 100 { c + 1 } else { c }\n}\n\n#[ensures(result@ <= 100)]\nfn twice() -> u8 {\n    let a = next(0);\n    next(a)\n}\n".as_slice(),
+            b"creusot-proofs 1\nproof 1 next\nintro c\nrange c\nsplit\nlin 1:goal 1:2.1\nlin 1:goal 1:1.2\nend\nproof 2 next\nintro c v\nlin 1:goal 1:1.3 1:1.2\nend\nproof 3 next\nintro c v\nlin 1:goal 1:-1.3\nend\nproof 4 next\nintro c\nhyp 1.1\nend\nproof 5 next\nintro c\nlin 1:goal\nend\nproof 1 twice\nlin 1:goal\nend\nproof 2 twice\nintro r\nhyp 1.1\nend\nproof 3 twice\nintro r s\nhyp 1.3\nend\n".as_slice(),
+            b"verified next\nverified twice\nsummary functions 2 verified 2 obligations 8 proved 8\n".as_slice(),
+        ),
+        (
+            b"// The greatest common divisor by subtraction; that both numbers stay positive is what is claimed.\n#[requires(a@ > 0)]\n#[requires(b@ > 0)]\n#[ensures(result@ > 0)]\nfn gcd(a: u32, b: u32) -> u32 {\n    let mut x = a;\n    let mut y = b;\n    #[invariant(x@ > 0)]\n    #[invariant(y@ > 0)]\n    while x != y {\n        if x < y {\n            y -= x;\n        } else if y < x {\n            x -= y;\n        }\n    }\n    x\n}\n",
+            b"creusot-proofs 1\nproof 1 gcd\nintro a b\nhyp 1.1\nend\nproof 2 gcd\nintro a b\nhyp 1.2\nend\n# y -= x\nproof 3 gcd\nintro a b x y\nrange x\nrange y\nsplit\nlin 1:goal 1:1.6\nlin 1:goal 1:3.2 1:2.1\nend\nproof 4 gcd\nintro a b x y v\nhyp 1.3\nend\nproof 5 gcd\nintro a b x y v\nlin 1:goal 1:-1.7 1:1.6\nend\n# x -= y\nproof 6 gcd\nintro a b x y\nrange x\nrange y\nsplit\nlin 1:goal 1:1.7\nlin 1:goal 1:2.2 1:3.1\nend\nproof 7 gcd\nintro a b x y v\nlin 1:goal 1:-1.8 1:1.7\nend\nproof 8 gcd\nintro a b x y v\nhyp 1.4\nend\n# Neither is less.\nproof 9 gcd\nintro a b x y\nhyp 1.3\nend\nproof 10 gcd\nintro a b x y\nhyp 1.4\nend\nproof 11 gcd\nintro a b x y\nhyp 1.3\nend\n",
+            b"verified gcd\nsummary functions 1 verified 1 obligations 11 proved 11\n",
+        ),
+        (
+            b"// The integer square root: takes the odd numbers away one after another.\n#[ensures(result@ <= n@)]\nfn isqrt(n: u32) -> u32 {\n    let mut r: u32 = 0;\n    let mut rest: u32 = n;\n    let mut odd: u32 = 1;\n    #[invariant(1 <= odd@)]\n    #[invariant(odd@ <= r@ + r@ + 1)]\n    #[invariant(rest@ + r@ <= n@)]\n    while odd <= rest {\n        rest -= odd;\n        odd += 2;\n        r += 1;\n    }\n    r\n}\n",
+            b"creusot-proofs 1\n# The invariants where the loop begins.\nproof 1 isqrt\nintro n\nlin 1:goal\nend\nproof 2 isqrt\nintro n\nlin 1:goal\nend\nproof 3 isqrt\nintro n\nlin 1:goal\nend\n# rest -= odd\nproof 4 isqrt\nintro n r s o\nrange s\nsplit\nlin 1:goal 1:1.4\nlin 1:goal 1:2.2 1:1.1\nend\n# odd += 2\nproof 5 isqrt\nintro n r s o v\nrange n\nsplit\nlin 1:goal 1:1.1\nlin 3:goal 1:1.2 2:1.3 2:1.4 2:2.2\nend\n# r += 1\nproof 6 isqrt\nintro n r s o v w\nrange r\nrange n\nsplit\nlin 1:goal 1:2.1\nlin 1:goal 1:1.3 1:3.2 1:1.4 1:1.1\nend\n# The invariants after a turn.\nproof 7 isqrt\nintro n r s o v w z\nlin 1:goal 1:-1.6 1:1.1\nend\nproof 8 isqrt\nintro n r s o v w z\nlin 1:goal 1:1.6 2:-1.7 1:1.2\nend\nproof 9 isqrt\nintro n r s o v w z\nlin 1:goal 1:1.5 1:1.7 1:1.3 1:1.1\nend\nproof 10 isqrt\nintro n r s o\nrange s\nlin 1:goal 1:1.3 1:2.1\nend\n",
+            b"verified isqrt\nsummary functions 1 verified 1 obligations 10 proved 10\n",
+        ),
+    ];
+    for (source, proofs, printed) in cases {
+        let (status, out) = Call::of(source, proofs).run(rt.alloc())?;
+        assert_eq!(rt; status, 0);
+        assert_eq!(rt; out.written(), printed);
+    }
+    Ok(())
+}
+
+#[test]
+fn a_body_of_many_paths_is_past_its_limit(rt: HostRuntime) -> Result<(), Fail> {
+    // Eleven branches one after another make 2,048 paths.
+    let source =
+        b"fn f(a: bool) { if a {} if a {} if a {} if a {} if a {} if a {} if a {} if a {} if a {} if a {} if a {} }";
+    let (status, out) = Call::of(source, b"").run(rt.alloc())?;
+    assert_eq!(rt; status, 7);
+    assert_eq!(rt; out.written(), b"limit paths 1025 1024\n".as_slice());
     Ok(())
 }

@@ -14,5 +14,5 @@ returns c =
     (c.in_ok-judged-2.ensures ∙ ap (λ n. c.args.judged.now.obligations + n) (c.in_ok-count.ensures ∙ ap length c.as_slice-obligations.ensures))
     c.in_ok-push.ensures.items
     (flag_tells c.args.proofs.now c.args.goals.now c.args.judged.now.left.items c.settle_all.new.left.items c.in_ok-proved.proved c.are_so_many-all_proved.result own
-        (λ e. (c.are_so_many-all_proved.ensures).0 e ∙ c.how_many-before.ensures)
-        (λ e same. true≢false (sym ((c.are_so_many-all_proved.ensures).1 (same ∙ sym c.how_many-before.ensures)) ∙ e)))
+    (λ e. (c.are_so_many-all_proved.ensures).0 e ∙ c.how_many-before.ensures)
+    (λ e same. true≢false (sym ((c.are_so_many-all_proved.ensures).1 (same ∙ sym c.how_many-before.ensures)) ∙ e)))

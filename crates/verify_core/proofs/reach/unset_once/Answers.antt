@@ -9,7 +9,7 @@ loop-function-init c = begins c.args.bodies.now c.args.flags.now.items
 
 pub loop-function-preserved : goal.loop-function-preserved
 loop-function-preserved c = elim c.if-unset_one.branch [
-  then-unset_one w ↦ subst (Round c.args.bodies.now c.args.flags.now.items (_) c.unset_one.new.flags.items) (sym w.changed-is)
+  | then-unset_one w ↦ subst (Round c.args.bodies.now c.args.flags.now.items (_) c.unset_one.new.flags.items) (sym w.changed-is)
       (one_unset c.args.bodies.now c.args.flags.now.items c.loop-function.function c.loop-function.flags.items c.unset_one.new.flags.items c.loop-function.changed c.index-bodies-function.result
       c.loop-function-test.true c.index-bodies-function.is c.loop-function.invariant
       (subst (λ (did : Bool). Unsets c.loop-function.flags.items c.unset_one.new.flags.items c.loop-function.function c.index-bodies-function.result did) w.if-unset_one.true c.unset_one.ensures))
