@@ -19,7 +19,8 @@ use Rattle.mir_machine.proofs.NeverStuck.{Shape, AreShaped, typed_args, never_st
 use Rattle.prophecy_sim.specs.Programs.{IsScalar, IsSimple, Program, IsFunction, AreFunctions, itself, AreProvedFrom, TrueObligationsMakeGood}
 use Rattle.prophecy_sim.proofs.Values.{T}
 use Rattle.prophecy_sim.proofs.Arguments.{value_of, plain_reads, values_of, AllPlain, all_read, shaped_all, typed_answer}
-use Rattle.prophecy_sim.proofs.Runs.{get_taken, get_behind, IsAnswer, first_ty}
+use Rattle.prophecy_sim.proofs.Lists.{get_taken, get_behind}
+use Rattle.prophecy_sim.proofs.Runs.{IsAnswer, first_ty}
 use Rattle.prophecy_sim.proofs.Begins.{begins}
 use Rattle.prophecy_sim.proofs.States.{OutcomeFine, run_fine}
 

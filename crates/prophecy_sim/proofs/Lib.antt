@@ -5,6 +5,7 @@ pub mod Calls
 pub mod Entries
 pub mod GoodBody
 pub mod Heads
+pub mod Lists
 pub mod Memories
 pub mod Runs
 pub mod SampleLaws

@@ -1,4 +1,5 @@
 -- One frame: where the goals of its walk hold, its next step does not panic, and the goals of what is left hold after it.
+use Rattle.prophecy_sim.proofs.Lists.{drop_get, drop_none, same_head, same_rest, some_same, get_first, get_taken, get_behind, length_map}
 use Rattle.prophecy_sim.proofs.Calls.{AllShow, operands_show, overlay, overlay_named, AreExactly, with_terms_mean, all_hold, all_exactly}
 use Rattle.prophecy_sim.proofs.Arguments.{value_of, IsPlain, plain_one, plain_shows, shaped_plain, shaped_sort, values_of, AllPlain, shaped_all}
 use Rattle.mir_ir.specs.declared.terminator.FnId.TheVariants.{Body as OfBody}
@@ -63,55 +64,12 @@ use Rattle.prophecy_sim.proofs.Heads.{Renewed, renewed_move, loop_writes_stateme
 use Rattle.prophecy_sim.proofs.Memories.{among_first, among_second, among_more, among_head, among_either, KeepsParams, AreBehind, Passed, Memories, one_more, memories_kept, Reached, onward, backward, reached}
 use Rattle.prophecy_sim.proofs.Steps.{quiet_both, taken_before, all_taken_before, at_no, IsOutside, After, statement_quiet, decide, put_matches, not_written}
 
-drop_get : {A : Type 0} (xs : List A) (i : ℕ) (x : A) → slice_get xs i ≡ Some x → drop i xs ≡ x ∷ drop (i + 1) xs
-drop_get [] i x e = absurd (cc)
-drop_get (y ∷ xs) zero x e = let same : y ≡ x = cc in ap (λ z. z ∷ xs) same
-drop_get (y ∷ xs) (suc i) x e = subst (λ n. drop (suc i) (y ∷ xs) ≡ x ∷ drop n (y ∷ xs)) (next_suc i) (drop_get xs i x e)
-  where
-    next_suc : (i : ℕ) → suc (i + 1) ≡ suc i + 1
-    next_suc i = omega arith
-
-drop_none : {A : Type 0} (xs : List A) (i : ℕ) → slice_get xs i ≡ None → drop i xs ≡ []
-drop_none [] zero e = refl
-drop_none [] (suc i) e = refl
-drop_none (y ∷ xs) zero e = absurd (cc)
-drop_none (y ∷ xs) (suc i) e = drop_none xs i e
-
-same_head : {A : Type 0} {x y : A} {xs ys : List A} → x ∷ xs ≡ y ∷ ys → x ≡ y
-same_head e = cc
-
-same_rest : {A : Type 0} {x y : A} {xs ys : List A} → x ∷ xs ≡ y ∷ ys → xs ≡ ys
-same_rest e = cc
-
-some_same : {A : Type 0} {a b : A} → Some a ≡ Some b → a ≡ b
-some_same e = cc
-
-get_first : {A : Type 0} (xs : List A) (i : ℕ) → i < length xs → (x : A) × (slice_get xs i ≡ Some x)
-get_first [] i h = absurd (omega arith)
-get_first (x ∷ xs) zero h = (x, refl)
-get_first (x ∷ xs) (suc i) h = get_first xs i (omega arith)
-
-pub get_taken : {A : Type 0} (xs : List A) (p n : ℕ) (x : A) → slice_get (take p xs) n ≡ Some x → slice_get xs n ≡ Some x
-get_taken [] zero n x e = absurd (cc)
-get_taken [] (suc p) n x e = absurd (cc)
-get_taken (y ∷ xs) zero n x e = absurd (cc)
-get_taken (y ∷ xs) (suc p) zero x e = e
-get_taken (y ∷ xs) (suc p) (suc n) x e = get_taken xs p n x e
-
-pub get_behind : {A : Type 0} (xs : List A) (n : ℕ) (x : A) → slice_get (drop 1 xs) n ≡ Some x → slice_get xs (suc n) ≡ Some x
-get_behind [] n x e = absurd (cc)
-get_behind (y ∷ xs) n x e = e
-
 pub first_ty : (ts : List Ty) (ty : Ty) → slice_get ts 0 ≡ Some ty → nth_ty (tys_of ts) 0 ≡ ty
 first_ty [] ty e = absurd (cc)
 first_ty (t ∷ ts) ty e = some_same e
 
 pub params_length : (c : Body) → c.params + 1 ≤ length c.locals → length (take c.params (drop 1 c.locals)) ≡ c.params
 params_length c l = grind (arith, length-take, length-drop, l)
-
-length_map : {A B : Type 0} (f : A → B) (xs : List A) → length (map f xs) ≡ length xs
-length_map f [] = refl
-length_map f (x ∷ xs) = ap suc (length_map f xs)
 
 -- one formula for each goal
 pub each_holds : (S : Structure) (kind : Kind) (ts : List Term) (spans : List Span) (ρ : Env) → length ts ≤ length spans → GoalsHold S ρ (each_goal kind ts spans) → Each (λ t. Holds S t ρ) ts

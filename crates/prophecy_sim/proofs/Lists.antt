@@ -1,0 +1,46 @@
+-- Elements of lists, and of their fronts and rests.
+use Rattle.std.proofs.Common.{◌≡◌, refl, ap, subst, ℕ, zero, suc, ◌+◌, ◌<◌, List, [], ◌∷◌, length, map, take, drop, Some, None, arith}
+use Rattle.std.specs.Prelude.{slice_get}
+
+pub drop_get : {A : Type 0} (xs : List A) (i : ℕ) (x : A) → slice_get xs i ≡ Some x → drop i xs ≡ x ∷ drop (i + 1) xs
+drop_get [] i x e = absurd (cc)
+drop_get (y ∷ xs) zero x e = let same : y ≡ x = cc in ap (λ z. z ∷ xs) same
+drop_get (y ∷ xs) (suc i) x e = subst (λ n. drop (suc i) (y ∷ xs) ≡ x ∷ drop n (y ∷ xs)) (next_suc i) (drop_get xs i x e)
+  where
+    next_suc : (i : ℕ) → suc (i + 1) ≡ suc i + 1
+    next_suc i = omega arith
+
+pub drop_none : {A : Type 0} (xs : List A) (i : ℕ) → slice_get xs i ≡ None → drop i xs ≡ []
+drop_none [] zero e = refl
+drop_none [] (suc i) e = refl
+drop_none (y ∷ xs) zero e = absurd (cc)
+drop_none (y ∷ xs) (suc i) e = drop_none xs i e
+
+pub same_head : {A : Type 0} {x y : A} {xs ys : List A} → x ∷ xs ≡ y ∷ ys → x ≡ y
+same_head e = cc
+
+pub same_rest : {A : Type 0} {x y : A} {xs ys : List A} → x ∷ xs ≡ y ∷ ys → xs ≡ ys
+same_rest e = cc
+
+pub some_same : {A : Type 0} {a b : A} → Some a ≡ Some b → a ≡ b
+some_same e = cc
+
+pub get_first : {A : Type 0} (xs : List A) (i : ℕ) → i < length xs → (x : A) × (slice_get xs i ≡ Some x)
+get_first [] i h = absurd (omega arith)
+get_first (x ∷ xs) zero h = (x, refl)
+get_first (x ∷ xs) (suc i) h = get_first xs i (omega arith)
+
+pub get_taken : {A : Type 0} (xs : List A) (p n : ℕ) (x : A) → slice_get (take p xs) n ≡ Some x → slice_get xs n ≡ Some x
+get_taken [] zero n x e = absurd (cc)
+get_taken [] (suc p) n x e = absurd (cc)
+get_taken (y ∷ xs) zero n x e = absurd (cc)
+get_taken (y ∷ xs) (suc p) zero x e = e
+get_taken (y ∷ xs) (suc p) (suc n) x e = get_taken xs p n x e
+
+pub get_behind : {A : Type 0} (xs : List A) (n : ℕ) (x : A) → slice_get (drop 1 xs) n ≡ Some x → slice_get xs (suc n) ≡ Some x
+get_behind [] n x e = absurd (cc)
+get_behind (y ∷ xs) n x e = e
+
+pub length_map : {A B : Type 0} (f : A → B) (xs : List A) → length (map f xs) ≡ length xs
+length_map f [] = refl
+length_map f (x ∷ xs) = ap suc (length_map f xs)
