@@ -43,7 +43,8 @@ use Rattle.verify_core.specs.declared.fault.Refusal.TheVariants as refusals
 use Rattle.verify_core.specs.declared.goals.FunctionGoals.{FunctionGoals}
 use Rattle.verify_core.specs.OnSource.{IsPastSomeLimit, RefusesProofs, Refuses}
 use Rattle.verify_core.specs.Passes.{CanWalkAt, CanWalkAll, AreLaidOut, RefusesGoals, IsBoundError, IsPathsError}
-use Rattle.verify_core.specs.Prepared.{HasFunctions, IsTypedAs, gone_of, HasGoals, HaveGoals, HasManyPaths, HaveFewPaths, IsPastLimit, IsRefused, RefusesSource, most_paths, most_obligations}
+use Rattle.verify_core.specs.declared.program.Program.{Program}
+use Rattle.verify_core.specs.Prepared.{HasFunctions, IsPrepared, IsTypedAs, gone_of, HasGoals, HaveGoals, HasManyPaths, HaveFewPaths, IsPastLimit, IsRefused, RefusesSource, most_paths, most_obligations}
 use Rattle.verify_core.specs.Refusals.{refusal_of}
 use Rattle.verify_core.specs.Verdict.{obligations_in}
 use Rattle.verify_core.proofs.Assembly.{sound, gone_at}
@@ -192,11 +193,11 @@ source_refused source proofs (refusals.Proof n) is = absurd is
 source_refused source proofs (refusals.Limit l) is = IsPastSomeLimit.of_source is
 source_refused source proofs refusals.NoMemory is = tt
 
-pub proofs_refused : (source proofs : List ℕ) (r : Refusal) → RefusesProofs proofs r → Refuses source proofs r
-proofs_refused source proofs (refusals.Source e) is = absurd is
-proofs_refused source proofs (refusals.Proof n) is = is
-proofs_refused source proofs (refusals.Limit l) (many, is) = subst (λ (m : Limit). IsPastSomeLimit source proofs m) (sym is) (IsPastSomeLimit.of_proofs many)
-proofs_refused source proofs refusals.NoMemory is = tt
+pub proofs_refused : (source proofs : List ℕ) (p : Program) (r : Refusal) → IsPrepared source p → RefusesProofs proofs r → Refuses source proofs r
+proofs_refused source proofs p (refusals.Source e) prepared is = absurd is
+proofs_refused source proofs p (refusals.Proof n) prepared is = ((p, prepared), is)
+proofs_refused source proofs p (refusals.Limit l) prepared (many, is) = subst (λ (m : Limit). IsPastSomeLimit source proofs m) (sym is) (IsPastSomeLimit.of_proofs p prepared many)
+proofs_refused source proofs p refusals.NoMemory prepared is = tt
 
 -- ---- one function more, and too many obligations
 

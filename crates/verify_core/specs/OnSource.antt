@@ -34,7 +34,7 @@ pub record IsVerdictOn (source proofs : List ℕ) (v : Verdict) : Type 0 where
 
 pub data IsPastSomeLimit (source proofs : List ℕ) : Limit → Type 0 where
   of_source : {limit : Limit} → IsPastLimit source limit → IsPastSomeLimit source proofs limit
-  of_proofs : most_proof_bytes < length proofs → IsPastSomeLimit source proofs (record { kind = ProofBytes; counted = length proofs; bound = most_proof_bytes })
+  of_proofs : (p : Program) → IsPrepared source p → most_proof_bytes < length proofs → IsPastSomeLimit source proofs (record { kind = ProofBytes; counted = length proofs; bound = most_proof_bytes })
 
 abbrev pub RefusesProofs : List ℕ → Refusal → Type 0
 RefusesProofs proofs (refusals.Source error) = ⊥
@@ -42,9 +42,9 @@ RefusesProofs proofs (refusals.Proof line) = IsFirstBadLine proofs line
 RefusesProofs proofs (refusals.Limit limit) = (most_proof_bytes < length proofs) × (limit ≡ record { kind = ProofBytes; counted = length proofs; bound = most_proof_bytes })
 RefusesProofs proofs refusals.NoMemory = Unit {0}
 
--- a source is looked at before its proofs
+-- a source is looked at before its proofs, which are refused where it is accepted
 abbrev pub Refuses : List ℕ → List ℕ → Refusal → Type 0
 Refuses source proofs (refusals.Source error) = IsRefused source error
-Refuses source proofs (refusals.Proof line) = IsFirstBadLine proofs line
+Refuses source proofs (refusals.Proof line) = ((p : Program) × IsPrepared source p) × IsFirstBadLine proofs line
 Refuses source proofs (refusals.Limit limit) = IsPastSomeLimit source proofs limit
 Refuses source proofs refusals.NoMemory = Unit {0}

@@ -12,7 +12,7 @@ returns-in_err-program-clause-refused c =
 pub returns-in_err-file-clause-refused : goal.returns-in_err-file-clause-refused
 returns-in_err-file-clause-refused c =
     let p = err_from_is_err_and c.from_residual-in_err-file.result c.from_residual-in_err-file.ensures.1 in
-    rw (p.1, p.2) (proofs_refused c.args.source.now c.args.proofs.now c.in_err-file.field-0.0 c.in_err-file.ensures.refused)
+    rw (p.1, p.2) (proofs_refused c.args.source.now c.args.proofs.now c.in_ok-program.program c.in_err-file.field-0.0 c.in_ok-program.ensures.ok c.in_err-file.ensures.refused)
 
 pub returns-clause-ok : goal.returns-clause-ok
 returns-clause-ok c =
