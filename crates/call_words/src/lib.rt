@@ -1,0 +1,11 @@
+//! The words of a call of the program: which command they are, and what they ask for.
+#![tactic(auto)]
+
+mod grammar;
+mod laws;
+mod request;
+#[cfg(test)]
+mod tests;
+
+pub use laws::words_read_as_the_table;
+pub use request::{Request, Verb, request_of};
