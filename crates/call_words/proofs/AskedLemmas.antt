@@ -1,5 +1,5 @@
 -- What is asked for, by what a parse of the words gives.
-use Rattle.std.proofs.Common.{◌≡◌, ◌∙◌, ap, refl, sym, Bool, true, false, Option, Some, None, ℕ, List, [], ◌∷◌, ◌&&◌}
+use Rattle.std.proofs.Common.{◌≡◌, ap, refl, Bool, true, false, None, ℕ, List, [], ◌∷◌, ◌&&◌}
 use Rattle.std.specs.Prelude.{if◌then◌else◌}
 use Rattle.std.specs.List.{list_all}
 use Rattle.clap.specs.Words.{IsAmong, Kinds, Row, fault_of, is_simple, is_simple_and_free, matches_of}

@@ -1,15 +1,15 @@
 -- What the methods of the matches give, as what the rows hold.
-use Rattle.std.proofs.Common.{◌≡◌, ◌∙◌, ap, refl, sym, Bool, true, false, Option, Some, None, ℕ, List, codes}
+use Rattle.std.proofs.Common.{◌≡◌, ◌∙◌, ap, refl, sym, true, false, Option, Some, None, ℕ, List, codes}
 use Rattle.std.specs.Prelude.{find, option_and_then, option_map}
 use Rattle.std.specs.Str.{bytes_eq}
-use Rattle.clap.specs.Words.{Row, first_of, first_value, matched_of, rows_of}
+use Rattle.clap.specs.Words.{Row, first_value, matched_of, rows_of}
 use Rattle.clap.specs.Walk.{row_of}
 use Rattle.clap.specs.Facts.{Entry}
 use Rattle.clap.specs.declared.parser.matches.Found.{Found}
 use Rattle.clap.specs.declared.parser.matches.MatchedArg.{MatchedArg}
 use Rattle.clap.specs.declared.parser.matches.ValueSource.{ValueSource}
 use Rattle.clap.proofs.WalkLemmas.{find_row, first_value-rows}
-use Rattle.call_words.specs.Asked.{Asked, asked_by, asked_in, has_option_to_come, is_from_words, is_given}
+use Rattle.call_words.specs.Asked.{asked_by, asked_in, has_option_to_come, is_from_words, is_given}
 
 -- `value_source`
 source-rows : (f : Found) (id : List ℕ) → option_and_then (λ a. a.source) (matched_of f id)

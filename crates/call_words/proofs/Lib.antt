@@ -1,2 +1,4 @@
 pub mod AskedLemmas
 pub mod FoundLemmas
+pub mod PlainCalls
+pub mod PlainWords

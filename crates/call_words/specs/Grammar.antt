@@ -23,14 +23,14 @@ bare = on_top (λ s. record s { no_binary_name = true }) (new_app (codes "olives
 -- VERB SOURCE, with the options of all verbs
 unfoldable pub command : App
 command = fold with_rule bare (
-  positional_rule (codes "verb")
-  ∷ positional_rule (codes "source")
-  ∷ option_rule (codes "proofs")
-  ∷ option_rule (codes "script")
-  ∷ option_rule (codes "out")
-  ∷ option_rule (codes "fn")
-  ∷ option_rule (codes "args")
-  ∷ option_rule (codes "steps")
-  ∷ flag_rule (codes "json")
-  ∷ []
-)
+    positional_rule (codes "verb")
+    ∷ positional_rule (codes "source")
+    ∷ option_rule (codes "proofs")
+    ∷ option_rule (codes "script")
+    ∷ option_rule (codes "out")
+    ∷ option_rule (codes "fn")
+    ∷ option_rule (codes "args")
+    ∷ option_rule (codes "steps")
+    ∷ flag_rule (codes "json")
+    ∷ []
+    )

@@ -1,6 +1,7 @@
--- What the definition by `clap` comes to on words that are written out.
-use Rattle.std.specs.Prelude.{◌≡◌, ℕ, List, [], ◌∷◌, Option, None, Some, codes}
-use Rattle.call_words.specs.Asked.{Asked, asked_of}
+-- What the definition by `clap` comes to, in the words' own terms.
+use Rattle.std.specs.Prelude.{◌≡◌, ◌==◌, ℕ, Bool, true, false, List, [], ◌∷◌, codes}
+use Rattle.std.specs.Prelude.{Option, None, Some, option_and_then}
+use Rattle.call_words.specs.Asked.{Asked, asked_of, asked_with, is_word, verb_of}
 use Rattle.call_words.specs.declared.request.Verb.{Verb}
 use Rattle.call_words.specs.declared.request.Verb.TheVariants as verb
 
@@ -36,3 +37,21 @@ pub record ReadsTheTable : Type 0 where
   pub json : asked_of (verify_s (codes "--json" ∷ [])) ≡ None
   pub unknown : asked_of (verify_s (codes "--wrong" ∷ [])) ≡ None
   pub help : asked_of (codes "--help" ∷ []) ≡ None
+
+-- the first byte is a hyphen (45)
+abbrev pub begins_with_hyphen : List ℕ → Bool
+begins_with_hyphen [] = false
+begins_with_hyphen (x ∷ xs) = x == 45
+
+-- a word that is no option, and is not too long
+pub record IsPlain (word : List ℕ) : Type 0 where
+  pub short : is_word word ≡ true
+  pub front : begins_with_hyphen word ≡ false
+
+-- two plain words are a verb and a source, and one after `--proofs` is the file of the proofs
+pub record ReadsPlainWords : Type 0 where
+  pub two : (word source : List ℕ) → IsPlain word → IsPlain source
+      → asked_of (word ∷ source ∷ []) ≡ option_and_then (λ v. asked_with v source None) (verb_of word)
+  pub with_proofs : (word source proofs : List ℕ) → IsPlain word → IsPlain source → IsPlain proofs
+      → asked_of (word ∷ source ∷ codes "--proofs" ∷ proofs ∷ [])
+      ≡ option_and_then (λ v. asked_with v source (Some proofs)) (verb_of word)

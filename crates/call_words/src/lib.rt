@@ -7,5 +7,5 @@ mod request;
 #[cfg(test)]
 mod tests;
 
-pub use laws::words_read_as_the_table;
+pub use laws::{plain_words_ask, words_read_as_the_table};
 pub use request::{Request, Verb, request_of};

@@ -16,7 +16,9 @@ use text_core::NoMemory;
 /// What is to be done with the source.
 #[derive(Clone, Copy, Debug, PartialEq, Eq)]
 pub enum Verb {
+    /// The functions are to be verified.
     Verify,
+    /// What is to be proved is to be listed.
     List,
 }
 
@@ -34,8 +36,11 @@ impl Verb {
 /// What the words of a call ask for.
 #[derive(Clone, Copy, Debug, PartialEq, Eq)]
 pub struct Request<'a> {
+    /// What is to be done.
     pub verb: Verb,
+    /// The name of the source.
     pub source: &'a str,
+    /// The name of the file of its proofs.
     pub proofs: Option<&'a str>,
 }
 
@@ -99,7 +104,8 @@ fn request_by<'a>(
     proofs: Option<&'a str>,
 ) -> Option<Request<'a>>
     ensures { option_map asked result
-        ≡ asked_by (option_copied verb.entry) (option_copied source.entry) (option_copied proofs.entry) }
+        ≡ asked_by (option_copied verb.entry) (option_copied source.entry)
+        (option_copied proofs.entry) }
 {
     let verb = verb_of(verb?)?;
     let source = source?;
@@ -128,10 +134,7 @@ fn request_in<'a>(matches: &ArgMatches<'a>) -> Option<Request<'a>>
 
 /// What the words ask for; `None` exactly where they ask for nothing that the program does. The
 /// words hold no name of the program.
-pub fn request_of<'a>(
-    alloc: Global,
-    words: &'a [String],
-) -> Result<Option<Request<'a>>, NoMemory>
+pub fn request_of<'a>(alloc: Global, words: &'a [String]) -> Result<Option<Request<'a>>, NoMemory>
     ensures { IfOk result (λ r. option_map asked r ≡ asked_of (map string_bytes words.entry.now)) }
 {
     if !are_words(words) {

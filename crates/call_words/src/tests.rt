@@ -15,11 +15,13 @@ fn asks(
         owned.push(String::from_str(alloc, word)?)?;
     }
     Ok(match request_of(alloc, owned.as_slice())? {
-        Some(Request {
-            verb,
-            source,
-            proofs,
-        }) => expected == Some((verb, source, proofs)),
+        Some(
+            Request {
+                verb,
+                source,
+                proofs,
+            },
+        ) => expected == Some((verb, source, proofs)),
         None => expected.is_none(),
     })
 }
@@ -52,7 +54,13 @@ fn asks_for_nothing(rt: HostRuntime) -> Result<(), Fail> {
     assert!(rt; asks(alloc, &["list", "s", "--proofs", "p"], None)?);
     assert!(rt; asks(alloc, &["verify", "s", "--json"], None)?);
     assert!(rt; asks(alloc, &["verify", "s", "--steps", "5"], None)?);
-    assert!(rt; asks(alloc, &["verify", "s", "--proofs", "p", "--proofs", "q"], None)?);
+    assert!(rt;
+        asks(
+            alloc,
+            &["verify", "s", "--proofs", "p", "--proofs", "q"],
+            None
+        )?
+    );
     assert!(rt; asks(alloc, &["verify", "s", "--proofs"], None)?);
     assert!(rt; asks(alloc, &["verify", "s", "--wrong"], None)?);
     assert!(rt; asks(alloc, &["--help"], None)?);
@@ -66,7 +74,13 @@ fn refuses_a_long_word(rt: HostRuntime) -> Result<(), Fail> {
     for _ in 0..1_048_576 {
         long.push('a')?;
     }
-    assert!(rt; asks(alloc, &["list", long.as_str()], Some((Verb::List, long.as_str(), None)))?);
+    assert!(rt;
+        asks(
+            alloc,
+            &["list", long.as_str()],
+            Some((Verb::List, long.as_str(), None))
+        )?
+    );
     long.push('a')?;
     assert!(rt; asks(alloc, &["list", long.as_str()], None)?);
     Ok(())

@@ -1,5 +1,5 @@
-use Rattle.std.proofs.Common.{rules, ap₂, ◌≡◌, ◌∙◌}
-use Rattle.clap.specs.Words.{app_of, with_rule}
+use Rattle.std.proofs.Common.{rules, ap₂, ◌∙◌}
+use Rattle.clap.specs.Words.{with_rule}
 use Rattle.call_words.specs.Grammar.{command}
 use Rattle.call_words.proofs.grammar.command.Goals as goal
 

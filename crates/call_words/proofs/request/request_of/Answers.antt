@@ -1,10 +1,8 @@
-use Rattle.std.proofs.Common.{◌≡◌, ◌∙◌, List, Option, [], true, false, ℕ, inl, inr, subst, sym}
+use Rattle.std.proofs.Common.{◌≡◌, ◌∙◌, [], true, inl, inr, subst, sym}
 use Rattle.std.specs.Prelude.{map, string_bytes}
-use Rattle.std.specs.List.{list_all}
 use Rattle.std.proofs.lemmas.List.Folds.{list_all-map}
-use Rattle.clap.specs.Words.{App, HasKind, HasMatchesOf, app_of, fault_of, found_of, is_simple_and_free, matches_of, rows_of}
+use Rattle.clap.specs.Words.{App, HasKind, HasMatchesOf, fault_of, found_of, is_simple_and_free, rows_of}
 use Rattle.call_words.specs.Asked.{is_word}
-use Rattle.call_words.specs.Grammar.{command}
 use Rattle.call_words.proofs.AskedLemmas.{asked_of-refused, asked_of-taken, asked_of-too_long, command_is_simple, command_is_simple_and_free}
 use Rattle.call_words.proofs.request.request_of.Goals as goal
 
