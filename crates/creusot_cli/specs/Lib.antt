@@ -1,2 +1,1 @@
 pub mod Call
-pub mod Words

@@ -1,8 +1,7 @@
-//! The program: `verify SOURCE --proofs FILE` prints which functions of a source are verified.
+//! The program: `verify SOURCE --proofs FILE` prints which functions of a source are verified, and `list SOURCE` what is to be proved.
 #![tactic(auto)]
 
 mod verify;
-mod words;
 
 use io_edge::{FileShelf, StdSink};
 use std::process::ExitCode;

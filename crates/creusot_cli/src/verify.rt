@@ -5,7 +5,7 @@ ghost use Rattle.text_core.specs.Counts.{Rose};
 ghost use Rattle.io_edge.specs.Faults.{NoneFalls};
 ghost use Rattle.io_edge.specs.Sink.{AppendsPrefix};
 ghost use Rattle.creusot_cli.specs.Call.{AnswersWords, ReportsWords, PrintsPart, NamedRose};
-ghost use Rattle.creusot_cli.specs.Words.{asked_of};
+ghost use Rattle.call_words.specs.Asked.{asked_of};
 
 mod files;
 mod plan;
@@ -14,7 +14,7 @@ mod tests;
 
 use crate::verify::files::Stop;
 use crate::verify::plan::{Plan, plan_of};
-use crate::words::request_of;
+use call_words::request_of;
 use io_edge::{Shelf, Sink, SinkError, write_all};
 use report_out::words_error;
 use std::alloc::Global;
@@ -27,7 +27,7 @@ fn plan_of_words<S: Shelf>(alloc: Global, words: &[String], shelf: &mut S) -> Re
     ensures none_falls { NoneFalls (S.read_faults shelf.old) (S.read_faults shelf.new) }
     ensures no_write { S.write_faults shelf.new ≡ S.write_faults shelf.old }
 {
-    match request_of(words) {
+    match request_of(alloc, words)? {
         None => {
             let bytes = words_error(alloc)?;
             Ok(Plan { status: 2, bytes })
@@ -52,12 +52,12 @@ fn print<K: Sink>(plan: &Plan, out: &mut K) -> u8
 
 /// Runs the program: answers its status, and prints on `out`.
 ///
-/// The words are `verify SOURCE` and `verify SOURCE --proofs FILE`. 0: all obligations of the source are proved. 1: some is
-/// not. 2: the words are no words of the program. 3: the source is refused, by its code and place. 4: the proof file has a
+/// The words are `verify SOURCE`, with `--proofs FILE` or without, and `list SOURCE`, as `call_words` reads them. 0: all obligations of
+/// the source are proved, or they are listed. 1: some is not. 2: the words are no words of the program. 3: the source is refused, by its code and place. 4: the proof file has a
 /// bad line. 5: a file could not be read; nothing is printed. 6: the output failed. 7: a quantity is past its bound. 8:
 /// memory was refused. With 6 and 8 a prefix of what was to be printed is.
 pub fn creusot<S: Shelf, K: Sink>(alloc: Global, words: &[String], shelf: &mut S, out: &mut K) -> u8
-    // Each function that is listed as verified is good.
+    // By `verify`, each function that is listed as verified is good; by `list`, all obligations are listed.
     ensures verified { (result ≡ 0) ⊎ (result ≡ 1) → ReportsWords (S.holds shelf.old) (asked_of (map string_bytes words.now)) result (K.written out.old) (K.written out.new) }
     ensures answers { result ≢ 5 → result ≢ 6 → result ≢ 8
         → (bytes : List ℕ) × AnswersWords (S.holds shelf.old) (asked_of (map string_bytes words.now)) result bytes × Appends (K.written out.old) (K.written out.new) bytes }

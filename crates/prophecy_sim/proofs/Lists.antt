@@ -1,6 +1,9 @@
 -- Elements of lists, and of their fronts and rests.
-use Rattle.std.proofs.Common.{◌≡◌, refl, ap, subst, ℕ, zero, suc, ◌+◌, ◌<◌, List, [], ◌∷◌, length, map, take, drop, Some, None, arith}
+use Rattle.std.proofs.Common.{◌≡◌, refl, ap, subst, ℕ, zero, suc, ◌+◌, ◌<◌, ◌==◌, Bool, true, false, cond, List, [], ◌∷◌, length, map, take, drop, Some, None, arith}
 use Rattle.std.specs.Prelude.{slice_get}
+use Rattle.logic_term.specs.declared.kinds.Label.{Label}
+use Rattle.mir_ir.specs.declared.body.Block.{Block}
+use Rattle.mir_ir.specs.Body.{block_in}
 
 pub drop_get : {A : Type 0} (xs : List A) (i : ℕ) (x : A) → slice_get xs i ≡ Some x → drop i xs ≡ x ∷ drop (i + 1) xs
 drop_get [] i x e = absurd (cc)
@@ -44,3 +47,15 @@ get_behind (y ∷ xs) n x e = e
 pub length_map : {A B : Type 0} (f : A → B) (xs : List A) → length (map f xs) ≡ length xs
 length_map f [] = refl
 length_map f (x ∷ xs) = ap suc (length_map f xs)
+
+-- the block of a label stands somewhere
+pub found_block : (bs : List (Label × Block)) (l : Label) (k : Block) → block_in bs l ≡ Some k → (i : ℕ) × (m : Label) × (slice_get bs i ≡ Some (m, k))
+found_block [] l k e = absurd (let n : None ≡ Some k = e in cc)
+found_block (b ∷ bs) l k e = here (b.0.0 == l.0) e (found_block bs l k)
+  where
+    Found : List (Label × Block) → Type 0
+    Found xs = (i : ℕ) × (m : Label) × (slice_get xs i ≡ Some (m, k))
+
+    here : (same : Bool) → cond same (Some b.1) (block_in bs l) ≡ Some k → (block_in bs l ≡ Some k → Found bs) → Found (b ∷ bs)
+    here true e rest = (0, b.0, ap (λ (x : Block). Some (b.0, x)) (some_same e))
+    here false e rest = let f = rest e in (suc f.0, f.1, f.2)

@@ -1,5 +1,5 @@
 -- One frame: where the goals of its walk hold, its next step does not panic, and the goals of what is left hold after it.
-use Rattle.prophecy_sim.proofs.Lists.{drop_get, drop_none, same_head, same_rest, some_same, get_first, get_taken, get_behind, length_map}
+use Rattle.prophecy_sim.proofs.Lists.{drop_get, drop_none, found_block, same_head, same_rest, some_same, get_first, get_taken, get_behind, length_map}
 use Rattle.prophecy_sim.proofs.Calls.{AllShow, operands_show, overlay, overlay_named, AreExactly, with_terms_mean, all_hold, all_exactly}
 use Rattle.prophecy_sim.proofs.Arguments.{value_of, IsPlain, plain_one, plain_shows, shaped_plain, shaped_sort, values_of, AllPlain, shaped_all}
 use Rattle.mir_ir.specs.declared.terminator.FnId.TheVariants.{Body as OfBody}
@@ -647,6 +647,9 @@ module _ (Δ : Declarations) (program : Program) (sound : AreSound program.bodie
             (quiet_need (λ (ls' : List T). Agrees ls' with_answer) (slice_get ls p.local) (λ x. Yields (slice_set ls p.local t')) (λ x e. agrees_set ls st.store p.local t' v agrees (plain_shows t' a.plain))))
             (λ ls' h. after ls' h.0 h.1)))
 
+      here : (i : ℕ) × (m : Label) × (slice_get b.blocks i ≡ Some (m, st.block))
+      here = found_block b.blocks f.label st.block st.is_block
+
       called_fine : EndsFine (Calls waiting (entered c n no_tys args))
       unfolding entering
       called_fine = (
@@ -655,9 +658,10 @@ module _ (Δ : Declarations) (program : Program) (sound : AreSound program.bodie
         record {
           body = b;
           is_body = is_body;
-          label = f.label;
+          at = here.0;
+          label = here.1;
           block = st.block;
-          is_block = st.is_block;
+          is_block = here.2;
           place = p;
           operands = os;
           next = l;

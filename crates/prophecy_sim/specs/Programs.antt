@@ -108,9 +108,10 @@ pub record HasTrueObligations (Δ : Declarations) (w : Setting) : Type 0 where
 pub record Calls (bodies : List Body) (n m : ℕ) : Type 0 where
   pub body : Body
   pub is_body : slice_get bodies n ≡ Some body
+  pub at : ℕ
   pub label : Label
   pub block : Block
-  pub is_block : block_in body.blocks label ≡ Some block
+  pub is_block : slice_get body.blocks at ≡ Some (label, block)
   pub place : Place
   pub operands : List Operand
   pub next : Label

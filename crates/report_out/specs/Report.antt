@@ -15,6 +15,7 @@ use Rattle.report_out.specs.declared.verdict.Reason.TheVariants.{Missing, Proof}
 use Rattle.report_out.specs.declared.verdict.FnLine.{FnLine}
 use Rattle.report_out.specs.declared.verdict.LeftItem.{LeftItem}
 use Rattle.report_out.specs.declared.verdict.Verdict.{Verdict}
+use Rattle.report_out.specs.declared.listed.ListedItem.{ListedItem}
 
 abbrev pub line_feed : List ℕ
 line_feed = 10 ∷ []
@@ -130,3 +131,14 @@ words_error_line = codes "error words" ++ line_feed
 -- limit KIND COUNTED BOUND
 abbrev pub limit_line : Limit → List ℕ
 limit_line l = codes "limit " ++ limit_text l.kind ++ space ++ decimal l.counted ++ space ++ decimal l.bound ++ line_feed
+
+-- ---- the list
+
+-- obligation NUMBER KIND A..B line L OWNER, and the goal on a line of its own
+unfoldable pub listed_line : List ℕ → ListedItem → List ℕ
+listed_line source o =
+    codes "obligation " ++ decimal o.number ++ space ++ kind_text o.kind ++ space ++ span_text o.span
+    ++ codes " line " ++ decimal (line_number source o.span.start) ++ space ++ o.owner ++ line_feed ++ o.goal ++ line_feed
+
+abbrev pub list_of : List ℕ → List ListedItem → List ℕ
+list_of source items = flat_map (listed_line source) items

@@ -2,12 +2,14 @@
 #![tactic(auto)]
 
 mod line;
+mod listed;
 mod printing;
 mod refusal;
 #[cfg(test)]
 mod tests;
 mod verdict;
 
+pub use listed::{ListedItem, listing};
 pub use printing::report;
 pub use refusal::{limit_error, proof_error, source_error, words_error};
 pub use verdict::{FnLine, LeftItem, Reason, Verdict};

@@ -1,3 +1,4 @@
+use crate::listed::{ListedItem, listing};
 use crate::printing::report;
 use crate::refusal::{limit_error, proof_error, source_error, words_error};
 use crate::verdict::{FnLine, LeftItem, Reason, Verdict};
@@ -103,5 +104,23 @@ fn limits_have_lines(rt: HostRuntime) -> Result<(), Fail> {
     };
     let line = limit_error(alloc, limit)?;
     assert_eq!(rt; line.as_slice(), b"limit paths 1025 1024\n".as_slice());
+    Ok(())
+}
+
+#[test]
+fn lists_an_obligation_with_its_goal(rt: HostRuntime) -> Result<(), Fail> {
+    let alloc = rt.alloc();
+    let item = ListedItem {
+        number: 2,
+        kind: Kind::InvKept,
+        span: Span { start: 10, end: 27 },
+        owner: Text::from_bytes(alloc, b"inc")?,
+        goal: Text::from_bytes(alloc, b"(forall<v1: bool> v1)")?,
+    };
+    let bytes = listing(alloc, &[item], SOURCE)?;
+    assert_eq!(rt;
+        bytes.as_slice(),
+        b"obligation 2 inv-kept 10..27 line 1 inc\n(forall<v1: bool> v1)\n".as_slice()
+    );
     Ok(())
 }

@@ -1,5 +1,5 @@
 -- A program whose functions fit meets the conditions under which true obligations make functions good.
-use Rattle.std.proofs.Common.{◌≡◌, ◌∙◌, refl, sym, ap, subst, ℕ, zero, suc, ◌+◌, ◌^◌, ◌<◌, ◌≤◌, ◌==◌, ◌&&◌, ◌⊎◌, inl, inr, Bool, true, false, List, [], ◌∷◌, length, drop, Option, Some, None, slice_get, true≢false, arith}
+use Rattle.std.proofs.Common.{◌≡◌, ◌∙◌, refl, sym, ap, subst, ℕ, zero, suc, ◌+◌, ◌^◌, ◌==◌, ◌&&◌, ◌⊎◌, inr, Bool, true, false, List, [], ◌∷◌, length, Some, slice_get, true≢false, arith}
 use Rattle.std.specs.List.{list_any}
 use Rattle.std.proofs.lemmas.Bool.{eqb-true}
 use Rattle.text_core.specs.declared.name.Name.{Name}
@@ -8,13 +8,10 @@ use Rattle.logic_term.specs.declared.obligation.Contract.{Contract}
 use Rattle.logic_term.specs.Free.{free}
 use Rattle.logic_term.specs.Term.{Term}
 use Rattle.logic_term.specs.Ty.{Ty, int, bool, tuple, no_tys}
-use Rattle.mir_ir.specs.declared.body.Block.{Block}
 use Rattle.mir_ir.specs.declared.body.Body.{Body}
-use Rattle.mir_ir.specs.declared.body.Head.{Head}
 use Rattle.mir_ir.specs.declared.body.Initialised.{Initialised}
 use Rattle.mir_ir.specs.declared.body.Point.{Point}
 use Rattle.mir_ir.specs.declared.place.Place.{Place}
-use Rattle.mir_ir.specs.Body.{block_in}
 use Rattle.mir_ir.specs.WellFormed.{AreSound, IsInitialised}
 use Rattle.mir_machine.specs.Good.{Each}
 use Rattle.wp_gen.specs.Row.{value_name}

@@ -1,18 +1,17 @@
 -- One more obligation, and the obligations of one more function.
-use Rattle.std.proofs.Common.{◌≡◌, ◌∙◌, refl, sym, ap, subst, ℕ, zero, suc, ◌+◌, ◌<◌, ◌≤◌, Bool, true, false, List, [], ◌∷◌, ◌++◌, length, take, get_or, Option, None, Some, append_assoc, add-one, arith, true≢false}
-use Rattle.std.specs.Prelude.{flat_map, slice_get}
+use Rattle.std.proofs.Common.{◌≡◌, ◌∙◌, refl, sym, ap, subst, ℕ, zero, suc, ◌+◌, ◌<◌, ◌≤◌, Bool, true, false, List, [], ◌∷◌, ◌++◌, length, take, get_or, Option, None, Some, append_assoc, add-one, arith}
+use Rattle.std.specs.Prelude.{slice_get}
 use Rattle.std.proofs.lemmas.List.{take_more, take_all, append-nil, length-append}
 use Rattle.logic_term.specs.declared.obligation.Obligation.{Obligation}
-use Rattle.mir_machine.specs.Good.{Each}
 use Rattle.proof_text.specs.declared.proof.Proof.{Proof}
 use Rattle.report_out.specs.declared.verdict.LeftItem.{LeftItem}
 use Rattle.report_out.specs.declared.verdict.Reason.{Reason}
 use Rattle.verify_core.specs.declared.goals.FunctionGoals.{FunctionGoals}
 use Rattle.verify_core.specs.declared.judge.Judged.{Judged}
 use Rattle.verify_core.specs.Judging.{JudgesMore, JudgesFunction, FlagsTell, HasJudged}
-use Rattle.verify_core.specs.Verdict.{Settles, Judges, IsProved, HasDerivation, Tells, left_item, obligations_in}
+use Rattle.verify_core.specs.Verdict.{Settles, Judges, IsProved, Tells, left_item, obligations_in}
 use Rattle.verify_core.specs.VerdictWords.{Tallies}
-use Rattle.verify_core.proofs.ReachLaws.{within, got}
+use Rattle.verify_core.proofs.ReachLaws.{within}
 use Rattle.verify_core.proofs.RunLaws.{one_more_proved, one_more_left}
 use Rattle.verify_core.proofs.SettledLaws.{all_derived, none_left_over}
 

@@ -1,16 +1,14 @@
 -- What each pass needs, it is given; and where a pass refuses, the source is refused for a cause.
-use Rattle.std.proofs.Common.{◌≡◌, ◌∙◌, refl, sym, ap, subst, ℕ, zero, suc, ◌+◌, ◌<◌, ◌≤◌, ◌⊎◌, inl, inr, List, [], ◌∷◌, ◌++◌, length, get_or, take, Option, Some, None, slice_get, Ok, Err, arith}
+use Rattle.std.proofs.Common.{◌≡◌, ◌∙◌, refl, sym, ap, subst, ℕ, zero, suc, ◌+◌, ◌<◌, ◌≤◌, ◌⊎◌, inl, inr, List, [], ◌∷◌, ◌++◌, length, get_or, Some, None, slice_get, arith}
 use Rattle.std.proofs.lemmas.Bool.{cases_lt}
 use Rattle.std.proofs.lemmas.List.{length-append}
 use Rattle.std.proofs.lemmas.Option.{slice_get_read}
 use Rattle.text_core.specs.declared.name.Name.{Name}
 use Rattle.text_core.specs.declared.refusal.Limit.{Limit}
-use Rattle.text_core.specs.declared.refusal.SourceError.{SourceError}
 use Rattle.logic_term.specs.declared.kinds.Label.{Label}
 use Rattle.logic_term.specs.declared.obligation.Contract.{Contract}
 use Rattle.logic_term.specs.declared.obligation.Obligation.{Obligation}
 use Rattle.logic_term.specs.Ty.{Ty}
-use Rattle.mir_ir.specs.declared.body.Block.{Block}
 use Rattle.mir_ir.specs.declared.body.Body.{Body}
 use Rattle.mir_ir.specs.declared.body.Initialised.{Initialised}
 use Rattle.mir_ir.specs.declared.place.Operand.{Operand}
@@ -19,8 +17,7 @@ use Rattle.mir_ir.specs.declared.terminator.FnId.TheVariants.{Body as OfBody}
 use Rattle.mir_ir.specs.declared.terminator.Callee.TheVariants.{Function}
 use Rattle.mir_ir.specs.declared.terminator.TerminatorKind.{TerminatorKind}
 use Rattle.mir_ir.specs.declared.terminator.TerminatorKind.TheVariants.{Call}
-use Rattle.mir_ir.specs.Body.{block_in}
-use Rattle.mir_ir.specs.WellFormed.{AreSound, EndIsTyped}
+use Rattle.mir_ir.specs.WellFormed.{EndIsTyped}
 use Rattle.rs_syntax.specs.declared.fault.PassError.{PassError}
 use Rattle.rs_syntax.specs.declared.fault.PassError.TheVariants as errors
 use Rattle.rs_syntax.specs.declared.function.Function.{Function as SourceFunction}
@@ -36,13 +33,15 @@ use Rattle.mir_build.specs.Lowering.{LowerTo, IsLowered, HasMoreBlocks, no_funct
 use Rattle.mir_build.specs.Whole.{FailsFor}
 use Rattle.mir_build.proofs.LawsOfPrograms.{bodies_are_laid_out}
 use Rattle.wp_gen.specs.Paths.{HasPaths, HasMorePaths}
-use Rattle.wp_gen.specs.Walk.{AreObligations}
+use Rattle.wp_gen.specs.Count.{LeavesRoom, AreSomeObligations}
+use Rattle.wp_gen.specs.Walk.{Setting, AreObligations}
+use Rattle.wp_gen.proofs.ExistLaws.{have_obligations}
 use Rattle.wp_gen.specs.Walkable.{CanWalk}
 use Rattle.verify_core.specs.declared.fault.Refusal.{Refusal}
 use Rattle.verify_core.specs.declared.fault.Refusal.TheVariants as refusals
 use Rattle.verify_core.specs.declared.goals.FunctionGoals.{FunctionGoals}
 use Rattle.verify_core.specs.OnSource.{IsPastSomeLimit, RefusesProofs, Refuses}
-use Rattle.verify_core.specs.Passes.{CanWalkAt, CanWalkAll, AreLaidOut, RefusesGoals, IsBoundError, IsPathsError}
+use Rattle.verify_core.specs.Passes.{CanWalkAt, CanWalkAll, AreLaidOut, HaveFewGoals, IsSettingAt, AreTooMany, IsGoalsError, IsPathsError}
 use Rattle.verify_core.specs.declared.program.Program.{Program}
 use Rattle.verify_core.specs.Prepared.{HasFunctions, IsPrepared, IsTypedAs, gone_of, HasGoals, HaveGoals, HasManyPaths, HaveFewPaths, IsPastLimit, IsRefused, RefusesSource, most_paths, most_obligations}
 use Rattle.verify_core.specs.Refusals.{refusal_of}
@@ -75,11 +74,8 @@ lowering_refused source table typed (errors.Source e) t fails = absurd fails
 lowering_refused source table typed (errors.Limit l) t (is, more) = subst (λ (m : Limit). IsPastLimit source m) (sym is) (IsPastLimit.blocks t (more (fits_of source table typed t)))
 lowering_refused source table typed errors.NoMemory t fails = tt
 
-pub goals_refused : (source : List ℕ) (table : List (List ℕ)) (typed : TypedProgram) (l : Lowered) (r : Refusal) → IsTypedAs source table typed → IsLowered table typed l → RefusesGoals l r → RefusesSource source r
-goals_refused source table typed l (refusals.Source e) t lowered is = absurd is
-goals_refused source table typed l (refusals.Proof n) t lowered is = absurd is
-goals_refused source table typed l (refusals.Limit limit) t lowered (many, is) = subst (λ (m : Limit). IsPastLimit source m) (sym is) (IsPastLimit.obligations many.functions t lowered many.goals many.many)
-goals_refused source table typed l refusals.NoMemory t lowered is = tt
+pub obligations_refused : (source : List ℕ) (table : List (List ℕ)) (typed : TypedProgram) (l : Lowered) (limit : Limit) → IsTypedAs source table typed → IsLowered table typed l → IsGoalsError l limit → IsPastLimit source limit
+obligations_refused source table typed l limit t lowered (many, is) = subst (λ (m : Limit). IsPastLimit source m) (sym is) (IsPastLimit.obligations many.functions t lowered many.goals many.many)
 
 -- ---- bodies that can be walked
 
@@ -138,18 +134,43 @@ many_more gs g many e = ap (λ (k : ℕ). k + length g.obligations) e ∙ sym (l
 pub read_at : {A : Type 0} (ys xs : List A) (n : ℕ) (x : A) → ys ≡ xs → x ≡ get_or ys n x → n < length xs → slice_get xs n ≡ Some x
 read_at {A} ys xs n x e is inside = slice_get_read xs (length xs) n x refl inside (subst (λ (zs : List A). x ≡ get_or zs n x) e is)
 
-pub walk_at : (l : Lowered) (n : ℕ) (b : Body) (cs : List Contract) (c : Contract) (g : Initialised) → CanWalkAt l n → slice_get l.bodies.bodies n ≡ Some b → cs ≡ l.contracts → slice_get l.contracts n ≡ Some c → slice_get l.gone n ≡ Some g
-    → CanWalk (record { body = b; contracts = cs; contract = c; init = g })
-walk_at l n b cs c g can is_body same is_contract is_gone =
-    subst (λ (x : Initialised). CanWalk (record { body = b; contracts = cs; contract = c; init = x })) (gone_at l.gone n g is_gone)
-    (subst (λ (xs : List Contract). CanWalk (record { body = b; contracts = xs; contract = c; init = gone_of l.gone n })) (sym same) (can b c is_body is_contract))
+pub setting_at : (l : Lowered) (n : ℕ) (b : Body) (cs : List Contract) (c : Contract) (g : Initialised) → slice_get l.bodies.bodies n ≡ Some b → cs ≡ l.contracts → slice_get l.contracts n ≡ Some c → slice_get l.gone n ≡ Some g
+    → IsSettingAt l n (record { body = b; contracts = cs; contract = c; init = g })
+setting_at l n b cs c g is_body same is_contract is_gone = record {
+  body = is_body;
+  contract = is_contract;
+  contracts = same;
+  gone = sym (gone_at l.gone n g is_gone);
+}
 
-pub obligations_at : (l : Lowered) (n : ℕ) (b : Body) (cs : List Contract) (c : Contract) (g : Initialised) (os made : List Obligation) (paths : ℕ) → cs ≡ l.contracts → slice_get l.gone n ≡ Some g
-    → AreObligations (record { body = b; contracts = cs; contract = c; init = g }) 1 os paths → made ≡ os → AreObligations (record { body = b; contracts = l.contracts; contract = c; init = gone_of l.gone n }) 1 made paths
-obligations_at l n b cs c g os made paths same is_gone are is =
-    subst (λ (xs : List Obligation). AreObligations (record { body = b; contracts = l.contracts; contract = c; init = gone_of l.gone n }) 1 xs paths) (sym is)
-    (subst (λ (x : Initialised). AreObligations (record { body = b; contracts = l.contracts; contract = c; init = x }) 1 os paths) (sym (gone_at l.gone n g is_gone))
-    (subst (λ (xs : List Contract). AreObligations (record { body = b; contracts = xs; contract = c; init = g }) 1 os paths) same are))
+pub walk_at : (l : Lowered) (n : ℕ) (w : Setting) → CanWalkAt l n → IsSettingAt l n w → CanWalk w
+walk_at l n w can at =
+    subst (λ (x : Initialised). CanWalk (record { body = w.body; contracts = w.contracts; contract = w.contract; init = x })) (sym at.gone)
+    (subst (λ (xs : List Contract). CanWalk (record { body = w.body; contracts = xs; contract = w.contract; init = gone_of l.gone n })) (sym at.contracts) (can w.body w.contract at.body at.contract))
+
+-- obligations of the walk are those of the function, and the other way round
+of_function : (l : Lowered) (n : ℕ) (w : Setting) → IsSettingAt l n w → (os : List Obligation) (paths : ℕ) → AreObligations w 1 os paths → AreObligations (record { body = w.body; contracts = l.contracts; contract = w.contract; init = gone_of l.gone n }) 1 os paths
+of_function l n w at os paths are =
+    subst (λ (x : Initialised). AreObligations (record { body = w.body; contracts = l.contracts; contract = w.contract; init = x }) 1 os paths) at.gone
+    (subst (λ (xs : List Contract). AreObligations (record { body = w.body; contracts = xs; contract = w.contract; init = w.init }) 1 os paths) at.contracts are)
+
+of_walk : (l : Lowered) (n : ℕ) (w : Setting) → IsSettingAt l n w → (os : List Obligation) (paths : ℕ) → AreObligations (record { body = w.body; contracts = l.contracts; contract = w.contract; init = gone_of l.gone n }) 1 os paths → AreObligations w 1 os paths
+of_walk l n w at os paths are =
+    subst (λ (x : Initialised). AreObligations (record { body = w.body; contracts = w.contracts; contract = w.contract; init = x }) 1 os paths) (sym at.gone)
+    (subst (λ (xs : List Contract). AreObligations (record { body = w.body; contracts = xs; contract = w.contract; init = gone_of l.gone n }) 1 os paths) (sym at.contracts) are)
+
+pub has_goals : (l : Lowered) (n : ℕ) (w : Setting) (g : FunctionGoals) (os : List Obligation) (paths : ℕ) → IsSettingAt l n w → g.name ≡ w.body.owner → g.obligations ≡ os → AreObligations w 1 os paths → HasGoals l.bodies.bodies l.contracts l.gone n g
+has_goals l n w g os paths at name is are = record {
+  body = w.body;
+  is_body = at.body;
+  contract = w.contract;
+  is_contract = at.contract;
+  goals = record {
+    name = name;
+    paths = paths;
+    are = subst (λ (xs : List Obligation). AreObligations (record { body = w.body; contracts = l.contracts; contract = w.contract; init = gone_of l.gone n }) 1 xs paths) (sym is) (of_function l n w at os paths are);
+  };
+}
 
 pub no_goals : (bs : List Body) (cs : List Contract) (gones : List Initialised) (gs : List FunctionGoals) → gs ≡ [] → HaveGoals bs cs gones gs
 no_goals bs cs gones [] is n g e = absurd (let none : None ≡ Some g = e in cc)
@@ -199,15 +220,84 @@ proofs_refused source proofs p (refusals.Proof n) prepared is = ((p, prepared), 
 proofs_refused source proofs p (refusals.Limit l) prepared (many, is) = subst (λ (m : Limit). IsPastSomeLimit source proofs m) (sym is) (IsPastSomeLimit.of_proofs p prepared many)
 proofs_refused source proofs p refusals.NoMemory prepared is = tt
 
--- ---- one function more, and too many obligations
+-- ---- one function more
 
 pub next_goals : (l : Lowered) (gs after : List FunctionGoals) (place : ℕ) (g : FunctionGoals) → after ≡ gs ++ g ∷ [] → length gs ≡ place → HaveGoals l.bodies.bodies l.contracts l.gone gs → HasGoals l.bodies.bodies l.contracts l.gone place g
     → HaveGoals l.bodies.bodies l.contracts l.gone after
 next_goals l gs after place g is so_many have has = subst (λ (xs : List FunctionGoals). HaveGoals l.bodies.bodies l.contracts l.gone xs) (sym is) (one_more_goals l.bodies.bodies l.contracts l.gone gs place g so_many have has)
 
-pub next_many : (gs after : List FunctionGoals) (g : FunctionGoals) (many more next : ℕ) → after ≡ gs ++ g ∷ [] → many ≡ length (obligations_in gs) → more ≡ length g.obligations → next ≡ many + more → next ≡ length (obligations_in after)
-next_many gs after g many more next is so_far here sum =
-    sum ∙ ap (λ (k : ℕ). many + k) here ∙ many_more gs g many so_far ∙ ap (λ (xs : List FunctionGoals). length (obligations_in xs)) (sym is)
+-- ---- the room for obligations
 
-pub too_many : (l : Lowered) (gs : List FunctionGoals) (many : ℕ) (r : Refusal) → HaveGoals l.bodies.bodies l.contracts l.gone gs → many ≡ length (obligations_in gs) → IsBoundError many r → RefusesGoals l r
-too_many l gs many r have is (past, error) = subst (λ (x : Refusal). RefusesGoals l x) (sym error) (record { functions = gs; goals = have; many = subst (λ (n : ℕ). most_obligations < n) is past }, refl)
+-- what is left after whatever obligations the first functions have
+abbrev pub RoomBefore : Lowered → ℕ → ℕ → Type 0
+RoomBefore l n left = (gs : List FunctionGoals) → HaveGoals l.bodies.bodies l.contracts l.gone gs → length gs ≡ n → left + length (obligations_in gs) ≡ most_obligations
+
+pub all_room : (l : Lowered) → RoomBefore l 0 most_obligations
+all_room l [] have none = omega arith
+all_room l (g ∷ gs) have none = absurd (omega (arith, none))
+
+-- the last of one more
+split_last : {A : Type 0} (xs : List A) (n : ℕ) → length xs ≡ n + 1 → (front : List A) × (x : A) × (xs ≡ front ++ x ∷ []) × (length front ≡ n)
+split_last [] n e = absurd (omega (arith, e))
+split_last (x ∷ []) n e = ([], x, refl, omega (arith, e))
+split_last (x ∷ y ∷ xs) zero e = absurd (omega (arith, e))
+split_last (x ∷ y ∷ xs) (suc n) e =
+    let r = split_last (y ∷ xs) n (omega (arith, e)) in
+    (x ∷ r.0, r.1, ap (λ ys. x ∷ ys) r.2, omega (arith, r.3))
+
+before_last : {A : Type 0} (front : List A) (x : A) (n : ℕ) (y : A) → slice_get front n ≡ Some y → slice_get (front ++ x ∷ []) n ≡ Some y
+before_last [] x n y e = absurd cc
+before_last (z ∷ front) x zero y e = e
+before_last (z ∷ front) x (suc n) y e = before_last front x n y e
+
+at_last : {A : Type 0} (front : List A) (x : A) → slice_get (front ++ x ∷ []) (length front) ≡ Some x
+at_last [] x = refl
+at_last (z ∷ front) x = at_last front x
+
+-- the obligations of function n are those of its walk
+of_walk_at : (l : Lowered) (n : ℕ) (w : Setting) (g : FunctionGoals) → IsSettingAt l n w → HasGoals l.bodies.bodies l.contracts l.gone n g → AreSomeObligations w g.obligations
+of_walk_at l n w g at has =
+    let own : AreObligations (record { body = has.body; contracts = l.contracts; contract = has.contract; init = gone_of l.gone n }) 1 g.obligations has.goals.paths = has.goals.are in
+    let with_body = subst (λ (b : Body). AreObligations (record { body = b; contracts = l.contracts; contract = has.contract; init = gone_of l.gone n }) 1 g.obligations has.goals.paths) (some_same (sym has.is_body ∙ at.body)) own in
+    let with_contract = subst (λ (c : Contract). AreObligations (record { body = w.body; contracts = l.contracts; contract = c; init = gone_of l.gone n }) 1 g.obligations has.goals.paths) (some_same (sym has.is_contract ∙ at.contract)) with_body in
+    (1, has.goals.paths, of_walk l n w at g.obligations has.goals.paths with_contract)
+
+more_in : (gs front : List FunctionGoals) (g : FunctionGoals) → gs ≡ front ++ g ∷ [] → length (obligations_in gs) ≡ length (obligations_in front) + length g.obligations
+more_in gs front g is = ap (λ (xs : List FunctionGoals). length (obligations_in xs)) is ∙ sym (many_more front g (length (obligations_in front)) refl)
+
+pub room_before_next : (l : Lowered) (n : ℕ) (w : Setting) (left rest : ℕ) → IsSettingAt l n w → RoomBefore l n left → LeavesRoom (AreSomeObligations w) left (Some rest) → RoomBefore l (n + 1) rest
+room_before_next l n w left rest at before leaves gs have so_many =
+    let s = split_last gs n so_many in
+    let front_have : HaveGoals l.bodies.bodies l.contracts l.gone s.0 = λ i g e. have i g (subst (λ (xs : List FunctionGoals). slice_get xs i ≡ Some g) (sym s.2) (before_last s.0 s.1 i g e)) in
+    let last_has : HasGoals l.bodies.bodies l.contracts l.gone n s.1 =
+    have n s.1 (subst (λ (xs : List FunctionGoals). slice_get xs n ≡ Some s.1) (sym s.2) (subst (λ (i : ℕ). slice_get (s.0 ++ s.1 ∷ []) i ≡ Some s.1) s.3 (at_last s.0 s.1))) in
+    omega (arith, more_in gs s.0 s.1 s.2, before s.0 front_have s.3, leaves s.1.obligations (of_walk_at l n w s.1 at last_has))
+
+-- the first functions have some goals
+pub goals_exist : (l : Lowered) (n : ℕ) → CanWalkAll l → n ≤ length l.bodies.bodies → (gs : List FunctionGoals) × HaveGoals l.bodies.bodies l.contracts l.gone gs × (length gs ≡ n)
+goals_exist l zero can within = ([], λ i g e. absurd (let none : None ≡ Some g = e in cc), refl)
+goals_exist l (suc n) can inside =
+    let r = goals_exist l n can (omega (arith, inside)) in
+    let b = got l.bodies.bodies n (omega (arith, inside)) in
+    let c = got l.contracts n (omega (arith, inside, can.contracts)) in
+    let w : Setting = record { body = b.0; contracts = l.contracts; contract = c.0; init = gone_of l.gone n } in
+    let at : IsSettingAt l n w = record { body = b.1; contract = c.1; contracts = refl; gone = refl } in
+    let o = have_obligations w 1 (walk_at l n w (can.walk n) at) in
+    let g : FunctionGoals = record { name = w.body.owner; obligations = o.0 } in
+    let has : HasGoals l.bodies.bodies l.contracts l.gone n g = has_goals l n w g o.0 o.1 at refl refl o.2 in
+    (r.0 ++ g ∷ [], one_more_goals l.bodies.bodies l.contracts l.gone r.0 n g r.2 r.1 has, length_one_more r.0 g n r.2 ∙ omega arith)
+
+pub too_many : (l : Lowered) (n : ℕ) (w : Setting) (left : ℕ) → CanWalkAll l → n < length l.bodies.bodies → IsSettingAt l n w → RoomBefore l n left → LeavesRoom (AreSomeObligations w) left None → AreTooMany l
+too_many l n w left can inside at before leaves =
+    let r = goals_exist l n can (omega (arith, inside)) in
+    let o = have_obligations w 1 (walk_at l n w (can.walk n) at) in
+    let g : FunctionGoals = record { name = w.body.owner; obligations = o.0 } in
+    let has : HasGoals l.bodies.bodies l.contracts l.gone n g = has_goals l n w g o.0 o.1 at refl refl o.2 in
+    record {
+      functions = r.0 ++ g ∷ [];
+      goals = one_more_goals l.bodies.bodies l.contracts l.gone r.0 n g r.2 r.1 has;
+      many = omega (arith, more_in (r.0 ++ g ∷ []) r.0 g refl, before r.0 r.1 r.2, leaves o.0 (1, o.1, o.2));
+    }
+
+pub few_goals : (l : Lowered) (n left : ℕ) → length l.bodies.bodies ≤ n → n ≤ length l.bodies.bodies → RoomBefore l n left → HaveFewGoals l
+few_goals l n left past within_all before gs are = omega (arith, before gs are.goals (omega (arith, are.as_many, past, within_all)))

@@ -1,5 +1,5 @@
 -- Flags that are unset as long as a function calls one whose flag is not set say which functions reach none that is not proved.
-use Rattle.std.proofs.Common.{◌≡◌, ◌∙◌, refl, sym, ap, subst, ℕ, zero, suc, ◌+◌, ◌<◌, ◌⊎◌, inl, inr, Bool, true, false, ◌||◌, List, [], ◌∷◌, length, Option, Some, None, true≢false, arith}
+use Rattle.std.proofs.Common.{◌≡◌, ◌∙◌, refl, sym, ap, subst, ℕ, zero, suc, ◌<◌, ◌⊎◌, inl, inr, Bool, true, false, ◌||◌, List, [], ◌∷◌, length, Option, Some, None, true≢false, arith}
 use Rattle.std.specs.Prelude.{slice_get, slice_set}
 use Rattle.std.specs.List.{list_any}
 use Rattle.logic_term.specs.declared.kinds.Label.{Label}
@@ -12,7 +12,7 @@ use Rattle.mir_ir.specs.declared.terminator.Callee.TheVariants.{Function}
 use Rattle.mir_ir.specs.declared.terminator.TerminatorKind.{TerminatorKind}
 use Rattle.mir_ir.specs.declared.terminator.TerminatorKind.TheVariants.{Goto, If, Call, Return}
 use Rattle.verify_core.specs.Flags.{is_unset, end_calls_unset, calls_unset, ReachesOpen, AreJustified, AreSettled, Unsets, set_count}
-use Rattle.verify_core.specs.Reach.{Calls, Reaches}
+use Rattle.prophecy_sim.specs.Programs.{Calls, Reaches}
 
 -- ---- lists
 
@@ -123,7 +123,7 @@ module _ (bodies : List Body) (proved flags : List Bool) (justified : AreJustifi
       let found = any_found (λ (e : Label × Block). end_calls_unset flags e.1.end.kind) b.blocks calls in
       let call = call_found flags found.1.1.end.kind found.3 in
       let beyond = justified.unset call.callee call.unset in
-      let step : Calls bodies f call.callee = record { body = b; is_body = is_body; at = found.0; label = found.1.0; block = found.1.1; is_block = found.2; place = call.place; args = call.args; next = call.next; ends = call.is } in
+      let step : Calls bodies f call.callee = record { body = b; is_body = is_body; at = found.0; label = found.1.0; block = found.1.1; is_block = found.2; place = call.place; operands = call.args; next = call.next; is_call = call.is } in
       record { open_one = beyond.open_one; reaches = reaches_by bodies f call.callee beyond.open_one step beyond.reaches; is_open = beyond.is_open }
 
   abbrev after : List Bool
@@ -165,7 +165,7 @@ module _ (bodies : List Body) (flags : List Bool) (as_many : length flags ≡ le
 
   call_settled : (n m : ℕ) → Calls bodies n m → slice_get flags n ≡ Some true → slice_get flags m ≡ Some false → ⊥
   call_settled n m c set unset =
-      let at : end_calls_unset flags c.block.end.kind ≡ true = rw (c.ends, unset) refl in
+      let at : end_calls_unset flags c.block.end.kind ≡ true = rw (c.is_call, unset) refl in
       true≢false (sym (any_at (λ (e : Label × Block). end_calls_unset flags e.1.end.kind) c.body.blocks c.at (c.label, c.block) c.is_block at) ∙ settled n c.body c.is_body set)
 
   pub none_unset : (f m : ℕ) → Reaches bodies f m → slice_get flags f ≡ Some true → slice_get flags m ≡ Some false → ⊥

@@ -1,5 +1,5 @@
 -- One round over the functions: what holds after some of them.
-use Rattle.std.proofs.Common.{◌≡◌, ◌∙◌, refl, sym, ap, subst, ℕ, zero, suc, ◌+◌, ◌<◌, ◌≤◌, Bool, true, false, List, [], ◌∷◌, length, get_or, Some, None, slice_get, true≢false, arith}
+use Rattle.std.proofs.Common.{◌≡◌, ◌∙◌, refl, sym, ap, subst, ℕ, zero, suc, ◌+◌, ◌<◌, ◌≤◌, Bool, true, false, List, [], ◌∷◌, length, get_or, Some, slice_get, true≢false, arith}
 use Rattle.mir_ir.specs.declared.body.Body.{Body}
 use Rattle.verify_core.specs.Flags.{AreJustified, AreSettled, Unsets, calls_unset, set_count}
 use Rattle.verify_core.proofs.ReachLaws.{unsets_justified, unsets_fewer, unsets_as_many, within}

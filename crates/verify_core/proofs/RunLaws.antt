@@ -1,5 +1,5 @@
 -- One more step, and one more obligation.
-use Rattle.std.proofs.Common.{◌≡◌, ◌∙◌, sym, ap, subst, ℕ, zero, suc, ◌+◌, ◌<◌, ◌≤◌, List, [], ◌∷◌, ◌++◌, length, take, get_or, Option, None, Some, add-one, arith}
+use Rattle.std.proofs.Common.{◌≡◌, ◌∙◌, sym, ap, subst, ℕ, zero, suc, ◌+◌, ◌<◌, ◌≤◌, List, [], ◌∷◌, ◌++◌, length, take, get_or, Option, None, Some, arith}
 use Rattle.std.specs.List.{find}
 use Rattle.std.proofs.lemmas.List.{take_more, take_all}
 use Rattle.logic_term.specs.declared.obligation.Obligation.{Obligation}
@@ -11,7 +11,7 @@ use Rattle.report_out.specs.declared.verdict.Reason.{Reason}
 use Rattle.report_out.specs.declared.verdict.Reason.TheVariants.{Proof as Refused}
 use Rattle.report_out.specs.declared.verdict.LeftItem.{LeftItem}
 use Rattle.verify_core.specs.Verdict.{Does, Runs, begun, IsAccepted, IsRefusedAt, is_for, Settles, Judges, left_item}
-use Rattle.verify_core.specs.VerdictWords.{Checks, Tallies}
+use Rattle.verify_core.specs.VerdictWords.{Checks}
 
 -- ---- the steps of a proof
 

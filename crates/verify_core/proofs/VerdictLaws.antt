@@ -1,14 +1,14 @@
 -- The lines of a verdict tell which functions are verified.
-use Rattle.std.proofs.Common.{◌≡◌, ◌∙◌, refl, sym, ap, subst, ℕ, zero, suc, ◌+◌, ◌<◌, ◌≤◌, Bool, true, false, List, [], ◌∷◌, ◌++◌, length, map, take, get_or, Some, None, slice_get, arith, true≢false}
-use Rattle.std.proofs.lemmas.List.{take_more, take_all, length-append}
+use Rattle.std.proofs.Common.{◌≡◌, ◌∙◌, refl, sym, ap, subst, ℕ, zero, suc, ◌+◌, ◌<◌, Bool, true, false, List, [], ◌∷◌, ◌++◌, length, map, take, get_or, Some, slice_get}
+use Rattle.std.proofs.lemmas.List.{take_more}
 use Rattle.mir_ir.specs.declared.body.Body.{Body}
 use Rattle.proof_text.specs.declared.proof.Proof.{Proof}
 use Rattle.report_out.specs.declared.verdict.FnLine.{FnLine}
 use Rattle.verify_core.specs.declared.goals.FunctionGoals.{FunctionGoals}
-use Rattle.verify_core.specs.Flags.{AreJustified, AreSettled, ReachesOpen}
+use Rattle.verify_core.specs.Flags.{AreJustified, AreSettled}
 use Rattle.verify_core.specs.Judging.{FlagsTell, AreLinesOf}
-use Rattle.verify_core.specs.Reach.{itself}
-use Rattle.verify_core.specs.Verdict.{Tells, IsProved, IsVerified, AreLines}
+use Rattle.prophecy_sim.specs.Programs.{itself}
+use Rattle.verify_core.specs.Verdict.{Tells, IsVerified, AreLines}
 use Rattle.verify_core.proofs.ReachLaws.{within, got, reached_set}
 
 some_same : {A : Type 0} {a b : A} → Some a ≡ Some b → a ≡ b

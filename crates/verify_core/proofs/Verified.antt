@@ -1,12 +1,9 @@
 -- What is proved by a file is derived, and so it is true; and each function that is verified is good.
-use Rattle.std.proofs.Common.{◌≡◌, refl, sym, ap, subst, ℕ, zero, suc, ◌+◌, ◌<◌, ◌==◌, Bool, true, false, cond, List, [], ◌∷◌, ◌++◌, length, map, Option, None, Some, slice_get, ◌∙◌, true≢false, arith}
-use Rattle.logic_term.specs.declared.kinds.Label.{Label}
+use Rattle.std.proofs.Common.{◌≡◌, sym, subst, ℕ, suc, ◌+◌, ◌<◌, Bool, true, false, List, [], ◌∷◌, ◌++◌, length, map, None, Some, slice_get, ◌∙◌, true≢false, arith}
 use Rattle.logic_term.specs.declared.obligation.Contract.{Contract}
 use Rattle.logic_term.specs.declared.obligation.Obligation.{Obligation}
-use Rattle.mir_ir.specs.declared.body.Block.{Block}
 use Rattle.mir_ir.specs.declared.body.Body.{Body}
 use Rattle.mir_ir.specs.declared.body.Initialised.{Initialised}
-use Rattle.mir_ir.specs.Body.{block_in}
 use Rattle.mir_machine.specs.Good.{Each, Good}
 use Rattle.mir_build.specs.Laws.{Lowers}
 use Rattle.prophecy_sim.specs.Programs as sim
@@ -30,7 +27,6 @@ use Rattle.std.specs.Prelude.{Ok}
 use Rattle.verify_core.specs.declared.goals.FunctionGoals.{FunctionGoals}
 use Rattle.verify_core.specs.declared.program.Program.{Program}
 use Rattle.verify_core.specs.Prepared.{IsPrepared, AreGoalsOf, HaveGoals, gone_of, program_of}
-use Rattle.verify_core.specs.Reach.{Calls, Reaches}
 use Rattle.verify_core.specs.Verdict.{no_types, Runs, IsAccepted, Settles, HasDerivation, Tells, IsVerified, IsVerdict}
 use Rattle.verify_core.proofs.Assembly.{sound, functions}
 use Rattle.verify_core.proofs.ReachLaws.{within, got}
@@ -64,26 +60,6 @@ settled_is_true ps o (Settles.proved {p = p} found accepted) = proof_is_sound no
 
 -- ---- what true obligations are worth
 
-found_block : (bs : List (Label × Block)) (l : Label) (k : Block) → block_in bs l ≡ Some k → (i : ℕ) × (m : Label) × (slice_get bs i ≡ Some (m, k))
-found_block [] l k e = absurd (let n : None ≡ Some k = e in cc)
-found_block (b ∷ bs) l k e = here (b.0.0 == l.0) e (found_block bs l k)
-  where
-    Found : List (Label × Block) → Type 0
-    Found xs = (i : ℕ) × (m : Label) × (slice_get xs i ≡ Some (m, k))
-
-    here : (same : Bool) → cond same (Some b.1) (block_in bs l) ≡ Some k → (block_in bs l ≡ Some k → Found bs) → Found (b ∷ bs)
-    here true e rest = (0, b.0, ap (λ (x : Block). Some (b.0, x)) (some_same e))
-    here false e rest = let f = rest e in (suc f.0, f.1, f.2)
-
-call_of : (bodies : List Body) (n m : ℕ) → sim.Calls bodies n m → Calls bodies n m
-call_of bodies n m c =
-    let b = found_block c.body.blocks c.label c.block c.is_block in
-    record { body = c.body; is_body = c.is_body; at = b.0; label = b.1; block = c.block; is_block = b.2; place = c.place; args = c.operands; next = c.next; ends = c.is_call }
-
-reached : (bodies : List Body) (f n : ℕ) → sim.Reaches bodies f n → Reaches bodies f n
-reached bodies f n sim.itself = Reaches.itself
-reached bodies f n (sim.by_call {n = m} r c) = Reaches.by_call (reached bodies f m r) (call_of bodies m n c)
-
 -- the goals of function n, which its obligations are
 goals_at : (bs : List Body) (cs : List Contract) (gones : List Initialised) (gs : List FunctionGoals) → HaveGoals bs cs gones gs → length gs ≡ length bs → (n : ℕ) (b : Body) (c : Contract)
     → slice_get bs n ≡ Some b → slice_get cs n ≡ Some c → (g : FunctionGoals) × (slice_get gs n ≡ Some g) × AreGoalsOf cs b c (gone_of gones n) g
@@ -113,4 +89,4 @@ verified_is_good source p ps v prepared verdict f line c is_line verified is_con
     (functions p.names prepared.typed.functions bodies p.contracts prepared.gones lowers) f c is_contract
     (λ n b d reaches is_body is_d.
     let g = goals_at bodies p.contracts prepared.gones p.functions prepared.goals prepared.as_many n b d is_body is_d in
-    record { first = 1; obligations = g.0.obligations; paths = g.2.paths; are = g.2.are; all_true = true_goals ps g.0.obligations (all n g.0 (reached bodies f n reaches) g.1) })
+    record { first = 1; obligations = g.0.obligations; paths = g.2.paths; are = g.2.are; all_true = true_goals ps g.0.obligations (all n g.0 reaches g.1) })

@@ -1,13 +1,13 @@
 -- A flag for each function: whether it is still taken to be verified.
-use Rattle.std.specs.Prelude.{◌≡◌, ℕ, suc, Bool, true, false, List, [], ◌∷◌, length, Option, Some, None, slice_get, slice_set}
+use Rattle.std.specs.Prelude.{◌≡◌, ℕ, suc, Bool, true, false, List, [], ◌∷◌, length, Option, Some, slice_get, slice_set}
 use Rattle.std.specs.List.{list_any}
 use Rattle.mir_ir.specs.declared.body.Body.{Body}
 use Rattle.mir_ir.specs.declared.terminator.Callee.{Callee}
 use Rattle.mir_ir.specs.declared.terminator.Callee.TheVariants.{Function}
 use Rattle.mir_ir.specs.declared.terminator.FnId.TheVariants.{Body as OfBody}
 use Rattle.mir_ir.specs.declared.terminator.TerminatorKind.{TerminatorKind}
-use Rattle.mir_ir.specs.declared.terminator.TerminatorKind.TheVariants.{Goto, If, Call, Return}
-use Rattle.verify_core.specs.Reach.{Reaches}
+use Rattle.mir_ir.specs.declared.terminator.TerminatorKind.TheVariants.{Call}
+use Rattle.prophecy_sim.specs.Programs.{Reaches}
 
 abbrev pub is_unset : Option Bool → Bool
 is_unset (Some false) = true

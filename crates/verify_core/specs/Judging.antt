@@ -1,5 +1,5 @@
 -- What the calls that judge obligations add.
-use Rattle.std.specs.Prelude.{◌≡◌, ℕ, ◌+◌, Bool, List, [], ◌∷◌, ◌++◌, length, map, Some, slice_get}
+use Rattle.std.specs.Prelude.{◌≡◌, ℕ, Bool, List, [], ◌∷◌, ◌++◌, length, map, Some, slice_get}
 use Rattle.proof_text.specs.declared.proof.Proof.{Proof}
 use Rattle.logic_term.specs.declared.obligation.Obligation.{Obligation}
 use Rattle.report_out.specs.declared.verdict.FnLine.{FnLine}

@@ -1,9 +1,9 @@
 pub mod Flags
 pub mod Judging
+pub mod Listing
 pub mod OnSource
 pub mod Passes
 pub mod Prepared
-pub mod Reach
 pub mod Refusals
 pub mod Verdict
 pub mod VerdictWords

@@ -1,5 +1,5 @@
 -- The verdict on a source with the proofs of a file, and what it is worth.
-use Rattle.std.specs.Prelude.{◌≡◌, ℕ, ◌<◌, ◌≤◌, true, List, length, Some, slice_get}
+use Rattle.std.specs.Prelude.{◌≡◌, ℕ, ◌<◌, true, List, length, Some, slice_get}
 use Rattle.text_core.specs.declared.refusal.LimitKind.TheVariants.{ProofBytes}
 use Rattle.text_core.specs.declared.refusal.Limit.{Limit}
 use Rattle.logic_term.specs.declared.obligation.Contract.{Contract}

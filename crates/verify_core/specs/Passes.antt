@@ -6,9 +6,8 @@ use Rattle.logic_term.specs.declared.obligation.Contract.{Contract}
 use Rattle.mir_ir.specs.declared.body.Body.{Body}
 use Rattle.mir_ir.specs.Layout.{IsLaidOut}
 use Rattle.mir_build.specs.declared.lowered.Lowered.{Lowered}
+use Rattle.wp_gen.specs.Walk.{Setting}
 use Rattle.wp_gen.specs.Walkable.{CanWalk}
-use Rattle.verify_core.specs.declared.fault.Refusal.{Refusal}
-use Rattle.verify_core.specs.declared.fault.Refusal.TheVariants as refusals
 use Rattle.verify_core.specs.declared.goals.FunctionGoals.{FunctionGoals}
 use Rattle.verify_core.specs.Prepared.{gone_of, HaveGoals, HasManyPaths, most_paths, most_obligations}
 use Rattle.verify_core.specs.Verdict.{obligations_in}
@@ -23,25 +22,29 @@ pub record CanWalkAll (l : Lowered) : Type 0 where
   pub gone : length l.gone ≡ length l.bodies.bodies
   pub walk : (n : ℕ) → CanWalkAt l n
 
+-- what the walk of the function of this place looks up
+pub record IsSettingAt (l : Lowered) (n : ℕ) (w : Setting) : Type 0 where
+  pub body : slice_get l.bodies.bodies n ≡ Some w.body
+  pub contract : slice_get l.contracts n ≡ Some w.contract
+  pub contracts : w.contracts ≡ l.contracts
+  pub gone : w.init ≡ gone_of l.gone n
+
 pub record AreAllGoals (l : Lowered) (gs : List FunctionGoals) : Type 0 where
   pub goals : HaveGoals l.bodies.bodies l.contracts l.gone gs
   pub as_many : length gs ≡ length l.bodies.bodies
-  pub few : length (obligations_in gs) ≤ most_obligations
 
--- some of the functions have too many obligations
+-- whatever obligations all functions have, they are few enough
+abbrev pub HaveFewGoals : Lowered → Type 0
+HaveFewGoals l = (gs : List FunctionGoals) → AreAllGoals l gs → length (obligations_in gs) ≤ most_obligations
+
+-- the first functions have too many obligations
 pub record AreTooMany (l : Lowered) : Type 0 where
   pub functions : List FunctionGoals
   pub goals : HaveGoals l.bodies.bodies l.contracts l.gone functions
   pub many : most_obligations < length (obligations_in functions)
 
-abbrev pub RefusesGoals : Lowered → Refusal → Type 0
-RefusesGoals l (refusals.Source e) = ⊥
-RefusesGoals l (refusals.Proof n) = ⊥
-RefusesGoals l (refusals.Limit limit) = AreTooMany l × (limit ≡ record { kind = Obligations; counted = most_obligations + 1; bound = most_obligations })
-RefusesGoals l refusals.NoMemory = Unit {0}
-
-abbrev pub IsBoundError : ℕ → Refusal → Type 0
-IsBoundError many r = (most_obligations < many) × (r ≡ refusals.Limit (record { kind = Obligations; counted = most_obligations + 1; bound = most_obligations }))
+abbrev pub IsGoalsError : Lowered → Limit → Type 0
+IsGoalsError l limit = AreTooMany l × (limit ≡ record { kind = Obligations; counted = most_obligations + 1; bound = most_obligations })
 
 abbrev pub AreLaidOut : List Body → Type 0
 AreLaidOut bs = (n : ℕ) (b : Body) → slice_get bs n ≡ Some b → IsLaidOut b

@@ -17,7 +17,7 @@ use Rattle.mir_ir.specs.declared.body.Body.{Body}
 use Rattle.mir_machine.specs.Good.{Each}
 use Rattle.proof_kernel.specs.Derivation.{IsProof}
 use Rattle.verify_core.specs.declared.goals.FunctionGoals.{FunctionGoals}
-use Rattle.verify_core.specs.Reach.{Reaches}
+use Rattle.prophecy_sim.specs.Programs.{Reaches}
 
 -- no types are declared
 abbrev pub no_types : Declarations

@@ -5,6 +5,7 @@ mod check;
 mod fault;
 mod goals;
 mod judge;
+mod listing;
 mod preparing;
 mod program;
 mod reach;
@@ -13,7 +14,8 @@ mod verifying;
 
 pub use fault::Refusal;
 pub use goals::FunctionGoals;
-pub use preparing::prepare;
+pub use listing::list;
+pub use preparing::{SOURCE_BYTES, prepare};
 pub use program::Program;
 pub use verdict::verdict_on;
-pub use verifying::verify;
+pub use verifying::{PROOF_BYTES, proofs_of, verify};

@@ -4,7 +4,8 @@ ghost use Rattle.type_check.specs.WellTyped.{ProgramFits};
 ghost use Rattle.mir_build.specs.Lowering.{IsLowered};
 ghost use Rattle.mir_build.specs.Laws.{Lowers};
 ghost use Rattle.verify_core.specs.Prepared.{IsTypedAs, IsPrepared, HasGoals, HaveFewPaths, RefusesSource};
-ghost use Rattle.verify_core.specs.Passes.{CanWalkAt, CanWalkAll, AreAllGoals, AreLaidOut, RefusesGoals, IsBoundError, IsPathsError};
+ghost use Rattle.wp_gen.specs.Walkable.{setting};
+ghost use Rattle.verify_core.specs.Passes.{CanWalkAt, CanWalkAll, AreAllGoals, AreLaidOut, HaveFewGoals, IsSettingAt, IsGoalsError, IsPathsError};
 
 use crate::fault::Refusal;
 use crate::goals::FunctionGoals;
@@ -15,12 +16,10 @@ use rs_syntax::parse;
 use std::alloc::Global;
 use text_core::{Items, Limit, LimitKind, Names, NoMemory};
 use type_check::{TypedProgram, check};
-use wp_gen::{Walk, check_paths, obligations};
+use wp_gen::{OBLIGATIONS, Walk, check_paths, obligations, room_after};
 
-/// The most bytes of a source, and the most obligations.
-const MOST_BYTES: usize = 1 << 20;
-
-const MOST_OBLIGATIONS: usize = 1_000_000;
+/// The most bytes of a source.
+pub const SOURCE_BYTES: usize = 1 << 20;
 
 /// The functions of a source, their names resolved and their expressions typed.
 fn typed_source(alloc: Global, source: &[u8], names: &mut Names) -> Result<TypedProgram, Refusal>
@@ -47,6 +46,42 @@ fn check_all_paths(bodies: &[Body]) -> Result<(), Limit>
     Ok(())
 }
 
+/// What the walk of the function of this place looks up.
+fn walk_of(lowered: &Lowered, place: usize) -> Walk<'_>
+    requires bodies { place < length lowered.now.bodies.bodies }
+    requires contracts { place < length lowered.now.contracts }
+    requires gone { place < length lowered.now.gone }
+    ensures { IsSettingAt lowered.now place (setting result) }
+{
+    Walk {
+        body: &lowered.bodies.bodies.as_slice()[place],
+        contracts: lowered.contracts.as_slice(),
+        contract: &lowered.contracts.as_slice()[place],
+        init: &lowered.gone.as_slice()[place],
+    }
+}
+
+/// That the functions have at most 1,000,000 obligations together, found before one is made.
+fn check_obligations(lowered: &Lowered) -> Result<(), Limit>
+    requires { CanWalkAll lowered.now }
+    ensures ok { OnOk result (HaveFewGoals lowered.now) }
+    ensures err { IfErr result (IsGoalsError lowered.now) }
+{
+    let mut left = OBLIGATIONS;
+    for place in 0..lowered.bodies.bodies.len() {
+        let walk = walk_of(lowered, place);
+        let Some(rest) = room_after(&walk, left) else {
+            return Err(Limit {
+                kind: LimitKind::Obligations,
+                counted: OBLIGATIONS as u64 + 1,
+                bound: OBLIGATIONS as u64,
+            });
+        };
+        left = rest;
+    }
+    Ok(())
+}
+
 /// The obligations of the function of this place.
 fn function_goals(alloc: Global, lowered: &Lowered, place: usize) -> Result<FunctionGoals, NoMemory>
     requires bodies { place < length lowered.now.bodies.bodies }
@@ -55,54 +90,22 @@ fn function_goals(alloc: Global, lowered: &Lowered, place: usize) -> Result<Func
     requires walk { CanWalkAt lowered.now place }
     ensures { IfOk result (HasGoals lowered.now.bodies.bodies lowered.now.contracts lowered.now.gone place) }
 {
-    let body = &lowered.bodies.bodies.as_slice()[place];
-    let walk = Walk {
-        body,
-        contracts: lowered.contracts.as_slice(),
-        contract: &lowered.contracts.as_slice()[place],
-        init: &lowered.gone.as_slice()[place],
-    };
+    let walk = walk_of(lowered, place);
     let obligations = obligations(alloc, &walk, 1)?;
     Ok(FunctionGoals {
-        name: body.owner.copy(alloc)?,
+        name: walk.body.owner.copy(alloc)?,
         obligations: Items::from_vec(obligations),
     })
 }
 
-fn sum(a: usize, b: usize) -> Result<usize, NoMemory>
-    ensures { IfOk result (λ n. n ≡ a + b) }
-{
-    a.checked_add(b).ok_or(NoMemory)
-}
-
-/// The number of obligations, where there are not too many.
-fn within_bound(many: usize) -> Result<(), Refusal>
-    ensures ok { OnOk result (many ≤ 1000000) }
-    ensures err { IfErr result (IsBoundError many) }
-{
-    if many > MOST_OBLIGATIONS {
-        return Err(Refusal::Limit(Limit {
-            kind: LimitKind::Obligations,
-            counted: 1_000_001,
-            bound: 1_000_000,
-        }));
-    }
-    Ok(())
-}
-
-/// The obligations of all functions, which are at most 1,000,000.
-fn all_goals(alloc: Global, lowered: &Lowered) -> Result<Items<FunctionGoals>, Refusal>
+/// The obligations of all functions.
+fn all_goals(alloc: Global, lowered: &Lowered) -> Result<Items<FunctionGoals>, NoMemory>
     requires { CanWalkAll lowered.now }
-    ensures ok { IfOk result (AreAllGoals lowered.now) }
-    ensures refused { IfErr result (RefusesGoals lowered.now) }
+    ensures { IfOk result (AreAllGoals lowered.now) }
 {
     let mut goals = Items::new(alloc);
-    let mut many: usize = 0;
     for place in 0..lowered.bodies.bodies.len() {
-        let next = function_goals(alloc, lowered, place)?;
-        many = sum(many, next.obligations.len())?;
-        goals.push(next)?;
-        within_bound(many)?;
+        goals.push(function_goals(alloc, lowered, place)?)?;
     }
     Ok(goals)
 }
@@ -116,17 +119,18 @@ pub fn prepare(alloc: Global, source: &[u8]) -> Result<Program, Refusal>
     ensures ok { IfOk result (IsPrepared source.now) }
     ensures refused { IfErr result (RefusesSource source.now) }
 {
-    if source.len() > MOST_BYTES {
+    if source.len() > SOURCE_BYTES {
         return Err(Refusal::Limit(Limit {
             kind: LimitKind::SourceBytes,
             counted: source.len() as u64,
-            bound: 1_048_576,
+            bound: SOURCE_BYTES as u64,
         }));
     }
     let mut names = Names::new(alloc);
     let typed = typed_source(alloc, source, &mut names)?;
     let lowered = lower(alloc, &typed, &names)?;
     check_all_paths(lowered.bodies.bodies.as_slice())?;
+    check_obligations(&lowered)?;
     let functions = all_goals(alloc, &lowered)?;
     let Lowered {
         bodies,

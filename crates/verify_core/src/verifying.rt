@@ -12,18 +12,20 @@ use std::alloc::Global;
 use text_core::{Limit, LimitKind, Names};
 
 /// The most bytes of a file of proofs.
-const MOST_PROOF_BYTES: usize = 1 << 26;
+pub const PROOF_BYTES: usize = 1 << 26;
 
 /// The proofs that the bytes of a file spell.
-fn proofs_of(alloc: Global, bytes: &[u8]) -> Result<ProofFile, Refusal>
+///
+/// Errors: `Proof` with the first bad line, 1-based; `Limit` where there are more than 67,108,864 bytes; `NoMemory`; never `Source`.
+pub fn proofs_of(alloc: Global, bytes: &[u8]) -> Result<ProofFile, Refusal>
     ensures ok { IfOk result (λ file. (table : List (List ℕ)) × SpellsProofs table bytes.now file) }
     ensures refused { IfErr result (RefusesProofs bytes.now) }
 {
-    if bytes.len() > MOST_PROOF_BYTES {
+    if bytes.len() > PROOF_BYTES {
         return Err(Refusal::Limit(Limit {
             kind: LimitKind::ProofBytes,
             counted: bytes.len() as u64,
-            bound: 67_108_864,
+            bound: PROOF_BYTES as u64,
         }));
     }
     let mut names = Names::new(alloc);

@@ -6,3 +6,5 @@ pub mod GoalLists
 pub mod WalkLaws
 pub mod ArriveLaws
 pub mod SampleLemmas
+pub mod CountLaws
+pub mod ExistLaws

@@ -129,13 +129,36 @@ back_counts b l m k laid is named in_nest early n one heads k' may = by_edge (la
     by_edge (on to is_to further enters) = absurd (omega (arith, may.not_later m was_passed))
     by_edge (back to h is_to is_head there) = subst (Paths early b heads m) (sym one) (again to h is_to is_head was_passed)
 
--- on to a block that is later
-pub on_counts : (b : Body) (l m : Label) (k : Block) → IsLaidOut b → block_in b.blocks l ≡ Some k → among m (targets k.end.kind) ≡ true → among m k.nest ≡ false → (early : Bool) (n : ℕ) → CountsFrom b m early n → CountsAlong b l m early n
-on_counts b l m k laid is named not_in early n counts heads k' may = by_edge (laid.edges l m k is named)
+-- the nest of a block that is entered is among the heads that were passed
+nest_passed : (h : Option Head) (nest outer heads : List Label) (m : Label) → around_of h nest m outer → AllAmong outer heads → AllAmong nest (passed h m heads)
+nest_passed None nest outer heads m is_around all = subst (λ ls. AllAmong ls heads) (sym is_around) all
+nest_passed (Some h) nest outer heads m is_around all = subst (λ ls. AllAmong ls (m ∷ heads)) (sym is_around) both
   where
-    same : k' ≡ k
-    same = some_same (sym may.is_block ∙ is)
+    or_right : (a c : Bool) → c ≡ true → (a || c) ≡ true
+    or_right true c e = refl
+    or_right false c e = e
 
+    both : AllAmong (outer ++ m ∷ []) (m ∷ heads)
+    both x e = elim (among_append x outer (m ∷ []) e) [
+      | inl first ↦ or_right (m.0 == x.0) (among x heads) (all x first)
+      | inr second ↦ elim (or_true (m.0 == x.0) false second) [
+        | inl here ↦ ap (λ t. t || among x heads) here
+        | inr none ↦ absurd (true≢false (sym none))
+      ]
+    ]
+
+-- the walk enters a block that is no head that was passed, and stands in it
+pub record IsEnteredAt (b : Body) (heads : List Label) (m : Label) : Type 0 where
+  pub block : Block
+  pub is_block : block_in b.blocks m ≡ Some block
+  pub is_entered : IsEntered block.head m heads
+  pub not_passed : among m heads ≡ false
+  pub stands : MayStand b (passed block.head m heads) m block
+
+-- on to a block that is later
+pub enters_later : (b : Body) (l m : Label) (k : Block) (heads : List Label) → IsLaidOut b → among m (targets k.end.kind) ≡ true → among m k.nest ≡ false → MayStand b heads l k → IsEnteredAt b heads m
+enters_later b l m k heads laid named not_in may = by_edge (laid.edges l m k may.is_block named)
+  where
     not_passed : place_of b.blocks l < place_of b.blocks m → among m heads ≡ false
     not_passed further = elim (either (among m heads)) [
       | inl there ↦ absurd (omega (arith, may.not_later m there))
@@ -146,23 +169,6 @@ on_counts b l m k laid is named not_in early n counts heads k' may = by_edge (la
     is_entered None not_there = tt
     is_entered (Some h) not_there = not_there
 
-    or_right : (a c : Bool) → c ≡ true → (a || c) ≡ true
-    or_right true c e = refl
-    or_right false c e = e
-
-    nest_passed : (h : Option Head) (nest outer : List Label) → around_of h nest m outer → AllAmong outer heads → AllAmong nest (passed h m heads)
-    nest_passed None nest outer is_around all = subst (λ ls. AllAmong ls heads) (sym is_around) all
-    nest_passed (Some h) nest outer is_around all = subst (λ ls. AllAmong ls (m ∷ heads)) (sym is_around) both
-      where
-        both : AllAmong (outer ++ m ∷ []) (m ∷ heads)
-        both x e = elim (among_append x outer (m ∷ []) e) [
-          | inl first ↦ or_right (m.0 == x.0) (among x heads) (all x first)
-          | inr second ↦ elim (or_true (m.0 == x.0) false second) [
-            | inl here ↦ ap (λ t. t || among x heads) here
-            | inr none ↦ absurd (true≢false (sym none))
-          ]
-        ]
-
     not_later : (h : Option Head) → place_of b.blocks l < place_of b.blocks m → (x : Label) → among x (passed h m heads) ≡ true → place_of b.blocks x ≤ place_of b.blocks m
     not_later None further x there = omega (arith, may.not_later x there)
     not_later (Some h) further x there = elim (or_true (m.0 == x.0) (among x heads) there) [
@@ -170,16 +176,51 @@ on_counts b l m k laid is named not_in early n counts heads k' may = by_edge (la
       | inr before ↦ omega (arith, may.not_later x before)
     ]
 
-    by_edge : Leads b l k m → Paths early b heads m n
-    by_edge (on to is_to further enters_m) =
-        enters early b heads m to n is_to (is_entered to.head (not_passed further))
-        (counts (passed to.head m heads) to (record {
-          is_block = is_to;
-          nest = nest_passed to.head to.nest enters_m.outer enters_m.is_around
-              (λ x e. may.nest x (subst (λ (j : Block). among x j.nest ≡ true) (sym same) (subst (λ ls. among x ls ≡ true) (sym enters_m.within) (among_front x enters_m.outer enters_m.inner e))));
-          not_later = not_later to.head further;
-        }))
+    by_edge : Leads b l k m → IsEnteredAt b heads m
+    by_edge (on to is_to further enters_m) = record {
+      block = to;
+      is_block = is_to;
+      is_entered = is_entered to.head (not_passed further);
+      not_passed = not_passed further;
+      stands = record {
+        is_block = is_to;
+        nest = nest_passed to.head to.nest enters_m.outer heads m enters_m.is_around
+            (λ x e. may.nest x (subst (λ ls. among x ls ≡ true) (sym enters_m.within) (among_front x enters_m.outer enters_m.inner e)));
+        not_later = not_later to.head further;
+      };
+    }
     by_edge (back to h is_to is_head there) = absurd (true≢false (sym there ∙ not_in))
+
+-- at the entry
+pub enters_entry : (b : Body) → IsLaidOut b → IsEnteredAt b [] b.entry
+enters_entry b laid = record {
+  block = laid.entry;
+  is_block = laid.is_entry;
+  is_entered = is_entered laid.entry.head;
+  not_passed = refl;
+  stands = record {
+    is_block = laid.is_entry;
+    nest = nest_passed laid.entry.head laid.entry.nest [] [] b.entry laid.at_entry (λ x e. e);
+    not_later = not_later laid.entry.head;
+  };
+}
+  where
+    is_entered : (h : Option Head) → IsEntered h b.entry []
+    is_entered None = tt
+    is_entered (Some h) = refl
+
+    not_later : (h : Option Head) (x : Label) → among x (passed h b.entry []) ≡ true → place_of b.blocks x ≤ place_of b.blocks b.entry
+    not_later None x there = absurd (true≢false (sym there))
+    not_later (Some h) x there = elim (or_true (b.entry.0 == x.0) false there) [
+      | inl here ↦ subst (λ y. place_of b.blocks y ≤ place_of b.blocks b.entry) (same_label b.entry x here) (omega arith)
+      | inr none ↦ absurd (true≢false (sym none))
+    ]
+
+pub on_counts : (b : Body) (l m : Label) (k : Block) → IsLaidOut b → block_in b.blocks l ≡ Some k → among m (targets k.end.kind) ≡ true → among m k.nest ≡ false → (early : Bool) (n : ℕ) → CountsFrom b m early n → CountsAlong b l m early n
+on_counts b l m k laid is named not_in early n counts heads k' may =
+    let same : k' ≡ k = some_same (sym may.is_block ∙ is) in
+    let e = enters_later b l m k heads laid named not_in (subst (λ (j : Block). MayStand b heads l j) same may) in
+    enters early b heads m e.block n e.is_block e.is_entered (counts (passed e.block.head m heads) e.block e.stands)
 
 -- ---- from a block on
 
@@ -214,27 +255,8 @@ second_is_many b l k o on_true on_false room i is is_kind within first second =
 
 pub entry_counts : (b : Body) (early : Bool) (n : ℕ) → IsLaidOut b → CountsFrom b b.entry early n → Paths early b [] b.entry n
 entry_counts b early n laid counts =
-    enters early b [] b.entry laid.entry n laid.is_entry (is_entered laid.entry.head)
-    (counts (passed laid.entry.head b.entry []) laid.entry (record {
-      is_block = laid.is_entry;
-      nest = nest_passed laid.entry.head laid.entry.nest laid.at_entry;
-      not_later = not_later laid.entry.head;
-    }))
-  where
-    is_entered : (h : Option Head) → IsEntered h b.entry []
-    is_entered None = tt
-    is_entered (Some h) = refl
-
-    nest_passed : (h : Option Head) (nest : List Label) → around_of h nest b.entry [] → AllAmong nest (passed h b.entry [])
-    nest_passed None nest is_around = subst (λ ls. AllAmong ls []) (sym is_around) (λ x e. e)
-    nest_passed (Some h) nest is_around = subst (λ ls. AllAmong ls (b.entry ∷ [])) (sym is_around) (λ x e. e)
-
-    not_later : (h : Option Head) (x : Label) → among x (passed h b.entry []) ≡ true → place_of b.blocks x ≤ place_of b.blocks b.entry
-    not_later None x there = absurd (true≢false (sym there))
-    not_later (Some h) x there = elim (or_true (b.entry.0 == x.0) false there) [
-      | inl here ↦ subst (λ y. place_of b.blocks y ≤ place_of b.blocks b.entry) (same_label b.entry x here) (omega arith)
-      | inr none ↦ absurd (true≢false (sym none))
-    ]
+    let e = enters_entry b laid in
+    enters early b [] b.entry e.block n e.is_block e.is_entered (counts (passed e.block.head b.entry []) e.block e.stands)
 
 -- ---- why the count ends
 

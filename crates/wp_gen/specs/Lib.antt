@@ -1,4 +1,5 @@
 pub mod Command
+pub mod Count
 pub mod Paths
 pub mod Row
 pub mod Sample

@@ -3,6 +3,7 @@
 
 mod call;
 mod command;
+mod count;
 mod goal;
 mod head;
 mod laws;
@@ -16,8 +17,9 @@ mod tests;
 mod walk;
 
 pub use command::Command;
+pub use count::{OBLIGATIONS, room_after};
 pub use goal::{Goal, Operation};
-pub use laws::paths_are_counted;
+pub use laws::{obligations_exist, paths_are_counted};
 pub use oblige::obligations;
 pub use paths::{PATHS, check_paths};
 pub use step::Compared;

@@ -88,7 +88,7 @@ fn in_range(alloc: Global, kind: IntKind, number: &Term) -> Result<Term, NoMemor
 }
 
 #[tactic(auto, unfolding(crate::specs::Row::is_signed))]
-fn is_signed(kind: IntKind) -> bool
+pub(crate) fn is_signed(kind: IntKind) -> bool
     ensures { result ≡ is_signed kind }
 {
     match kind {

@@ -144,7 +144,7 @@ fn with_label(alloc: Global, first: Label, rest: &[Label]) -> Result<Vec<Label>,
 }
 
 /// The number of the body that is called.
-fn body_number(callee: Callee) -> u32
+pub(crate) fn body_number(callee: Callee) -> u32
     ensures { callee ≡ Callee.Function (FnId.Body result) }
 {
     let Callee::Function(FnId::Body(number)) = callee;

@@ -7,22 +7,20 @@ ghost use Rattle.report_out.specs.Report.{report_of};
 ghost use Rattle.report_out.specs.declared.verdict.Verdict.{Verdict as VerdictValue};
 ghost use Rattle.verify_core.specs.Prepared.{RefusesSource};
 ghost use Rattle.verify_core.specs.Verdict.{IsVerdict};
-ghost use Rattle.creusot_cli.specs.Call.{HeldAs, HasProgram, Answers, GivesProofs, NamedRose, status_of};
-ghost use Rattle.creusot_cli.specs.Words.{Asked, asked};
+ghost use Rattle.call_words.specs.Asked.{Asked, asked};
+ghost use Rattle.verify_core.specs.Listing.{list_text};
+ghost use Rattle.creusot_cli.specs.Call.{HeldAs, HasProgram, Answers, GivesProofs, PlansRefusedProofs, NamedRose, status_of};
 
 use crate::verify::files::{ReadFile, Stop, read_file};
-use crate::words::Request;
+use call_words::{Request, Verb};
 use io_edge::Shelf;
-use proof_text::{Proof, ProofFile, ProofTextError, read_proofs};
+use proof_text::{Proof, ProofFile};
 use report_out::{limit_error, proof_error, report, source_error};
 use std::alloc::Global;
-use text_core::{Items, Limit, LimitKind, Names, NoMemory};
-use verify_core::{Program, Refusal, prepare, verdict_on};
-
-/// The most bytes of a source, and of a file of proofs.
-const MAX_SOURCE: u64 = 1 << 20;
-
-const MAX_PROOFS: u64 = 1 << 26;
+use text_core::{Items, Limit, LimitKind, NoMemory};
+use verify_core::{
+    PROOF_BYTES, Program, Refusal, SOURCE_BYTES, list, prepare, proofs_of, verdict_on,
+};
 
 /// A status, and what is printed with it.
 #[derive(Debug, Drop)]
@@ -38,19 +36,32 @@ pub(crate) enum Given {
     Refused(Plan),
 }
 
+/// What is printed where the proofs are refused for this reason.
+fn plan_of_proofs(alloc: Global, refusal: Refusal) -> Result<Plan, NoMemory>
+    ensures { IfOk result (PlansRefusedProofs refusal) }
+{
+    match refusal {
+        Refusal::Proof(line) => {
+            let bytes = proof_error(alloc, line)?;
+            Ok(Plan { status: 4, bytes })
+        }
+        Refusal::Limit(limit) => {
+            let bytes = limit_error(alloc, limit)?;
+            Ok(Plan { status: 7, bytes })
+        }
+        Refusal::Source(_) => Err(NoMemory),
+        Refusal::NoMemory => Err(NoMemory),
+    }
+}
+
 /// What the bytes of a file of proofs give.
 fn proofs_in(alloc: Global, bytes: &[u8]) -> Result<Given, NoMemory>
     requires { length bytes.now ≤ 2 ^ 26 }
     ensures { (shelf : Option Files) (name : List ℕ) → HeldAs shelf name bytes.now → IfOk result (GivesProofs shelf (Some name)) }
 {
-    let mut names = Names::new(alloc);
-    match read_proofs(alloc, bytes, &mut names) {
+    match proofs_of(alloc, bytes) {
         Ok(file) => Ok(Given::Proofs(file)),
-        Err(ProofTextError::BadLine(line)) => {
-            let bytes = proof_error(alloc, line)?;
-            Ok(Given::Refused(Plan { status: 4, bytes }))
-        }
-        Err(ProofTextError::NoMemory) => Err(NoMemory),
+        Err(refusal) => Ok(Given::Refused(plan_of_proofs(alloc, refusal)?)),
     }
 }
 
@@ -62,13 +73,13 @@ fn named_proofs<S: Shelf>(alloc: Global, shelf: &mut S, name: &str) -> Result<Gi
     ensures none_falls { NoneFalls (S.read_faults shelf.old) (S.read_faults shelf.new) }
     ensures no_write { S.write_faults shelf.new ≡ S.write_faults shelf.old }
 {
-    match read_file(alloc, shelf, name, MAX_PROOFS)? {
+    match read_file(alloc, shelf, name, PROOF_BYTES as u64)? {
         ReadFile::Whole(bytes) => Ok(proofs_in(alloc, bytes.as_slice())?),
         ReadFile::TooLong(length) => {
             let limit = Limit {
                 kind: LimitKind::ProofBytes,
                 counted: length,
-                bound: MAX_PROOFS,
+                bound: PROOF_BYTES as u64,
             };
             let bytes = limit_error(alloc, limit)?;
             Ok(Given::Refused(Plan { status: 7, bytes }))
@@ -112,6 +123,38 @@ fn reported(
     Ok(Plan { status, bytes })
 }
 
+/// The list of the obligations of the program.
+fn listed(alloc: Global, source: &[u8], program: &Program) -> Result<Plan, NoMemory>
+    requires { length source.now ≤ 2 ^ 20 }
+    ensures { IfOk result (λ p. (p.status ≡ 0) × (p.bytes.items ≡ list_text source.now program.now.functions)) }
+{
+    let bytes = list(alloc, program, source)?;
+    Ok(Plan { status: 0, bytes })
+}
+
+/// What is printed by `verify` of a source that is accepted.
+fn verified<S: Shelf>(
+    alloc: Global,
+    request: Request<'_>,
+    source: &[u8],
+    program: &Program,
+    shelf: &mut S,
+) -> Result<Plan, Stop>
+    requires short { length source.now ≤ 2 ^ 20 }
+    requires as_many { length program.now.functions ≡ length program.now.bodies.bodies }
+    requires verb { request.verb ≡ Verb.Verify }
+    ensures ok { HasProgram (S.holds shelf.old) (asked request.entry) source.now program.now → IfOk result (λ p. Answers (S.holds shelf.old) (asked request.entry) p.status p.bytes.items) }
+    ensures holds { S.holds shelf.new ≡ S.holds shelf.old }
+    ensures failed { result ≡ Err Stop.ShelfFailed → NamedRose (Some (asked request.entry)) (S.read_faults shelf.old) (S.read_faults shelf.new) }
+    ensures none_falls { NoneFalls (S.read_faults shelf.old) (S.read_faults shelf.new) }
+    ensures no_write { S.write_faults shelf.new ≡ S.write_faults shelf.old }
+{
+    match given_proofs(alloc, shelf, request.proofs)? {
+        Given::Refused(plan) => Ok(plan),
+        Given::Proofs(file) => Ok(reported(alloc, source, program, file.proofs.as_slice())?),
+    }
+}
+
 /// What is printed of a source that is accepted.
 fn plan_of_program<S: Shelf>(
     alloc: Global,
@@ -128,9 +171,9 @@ fn plan_of_program<S: Shelf>(
     ensures none_falls { NoneFalls (S.read_faults shelf.old) (S.read_faults shelf.new) }
     ensures no_write { S.write_faults shelf.new ≡ S.write_faults shelf.old }
 {
-    match given_proofs(alloc, shelf, request.proofs)? {
-        Given::Refused(plan) => Ok(plan),
-        Given::Proofs(file) => Ok(reported(alloc, source, program, file.proofs.as_slice())?),
+    match request.verb {
+        Verb::Verify => verified(alloc, request, source, program, shelf),
+        Verb::List => Ok(listed(alloc, source, program)?),
     }
 }
 
@@ -186,13 +229,13 @@ pub(crate) fn plan_of<S: Shelf>(
     ensures none_falls { NoneFalls (S.read_faults shelf.old) (S.read_faults shelf.new) }
     ensures no_write { S.write_faults shelf.new ≡ S.write_faults shelf.old }
 {
-    match read_file(alloc, shelf, request.source, MAX_SOURCE)? {
+    match read_file(alloc, shelf, request.source, SOURCE_BYTES as u64)? {
         ReadFile::Whole(source) => plan_of_source(alloc, request, source.as_slice(), shelf),
         ReadFile::TooLong(length) => {
             let limit = Limit {
                 kind: LimitKind::SourceBytes,
                 counted: length,
-                bound: MAX_SOURCE,
+                bound: SOURCE_BYTES as u64,
             };
             let bytes = limit_error(alloc, limit)?;
             Ok(Plan { status: 7, bytes })

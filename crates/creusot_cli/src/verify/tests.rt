@@ -246,11 +246,19 @@ fn devices_fail_at_each_call(rt: HostRuntime) -> Result<(), Fail> {
         (Call { words: &[], ..inc }, 2, b"error words\n".as_slice()),
         (
             Call {
-                words: &["prove", "s"],
+                words: &["list", "s", "--proofs", "p"],
                 ..inc
             },
             2,
             b"error words\n".as_slice(),
+        ),
+        (
+            Call {
+                words: &["--proofs=p", "verify", "s"],
+                ..inc
+            },
+            0,
+            REPORT,
         ),
         (
             Call {
@@ -338,13 +346,76 @@ fn small_programs_are_verified(rt: HostRuntime) -> Result<(), Fail> {
     Ok(())
 }
 
+/// A text so many times, between two others.
+fn repeated(
+    alloc: Global,
+    before: &[u8],
+    text: &[u8],
+    count: usize,
+    after: &[u8],
+) -> Result<Vec<u8>, ShelfError> {
+    let mut bytes = Vec::from_slice(alloc, before)?;
+    for _turn in 0..count {
+        bytes.extend_from_slice(text)?;
+    }
+    bytes.extend_from_slice(after)?;
+    Ok(bytes)
+}
+
 #[test]
-fn a_body_of_many_paths_is_past_its_limit(rt: HostRuntime) -> Result<(), Fail> {
+fn quantities_are_past_their_limits(rt: HostRuntime) -> Result<(), Fail> {
+    let functions = repeated(rt.alloc(), b"", b"fn f() {} ", 4_097, b"")?;
+    // One block, and three for each branch.
+    let blocks = repeated(rt.alloc(), b"fn f(a: bool) {", b" if a {}", 1_366, b" }")?;
     // Eleven branches one after another make 2,048 paths.
-    let source =
-        b"fn f(a: bool) { if a {} if a {} if a {} if a {} if a {} if a {} if a {} if a {} if a {} if a {} if a {} }";
-    let (status, out) = Call::of(source, b"").run(rt.alloc())?;
-    assert_eq!(rt; status, 7);
-    assert_eq!(rt; out.written(), b"limit paths 1025 1024\n".as_slice());
+    let paths = repeated(rt.alloc(), b"fn f(a: bool) {", b" if a {}", 11, b" }")?;
+    // 1,024 paths with 977 quotients each.
+    let branches = repeated(rt.alloc(), b"fn f(a: bool, x: u8) {", b" if a {}", 10, b"")?;
+    let obligations = repeated(rt.alloc(), branches.as_slice(), b" 1 / x;", 977, b" }")?;
+    let cases = [
+        (
+            functions.as_slice(),
+            b"limit functions 4097 4096\n".as_slice(),
+        ),
+        (blocks.as_slice(), b"limit blocks 4097 4096\n".as_slice()),
+        (paths.as_slice(), b"limit paths 1025 1024\n".as_slice()),
+        (
+            obligations.as_slice(),
+            b"limit obligations 1000001 1000000\n".as_slice(),
+        ),
+    ];
+    for (source, printed) in cases {
+        let (status, out) = Call::of(source, b"").run(rt.alloc())?;
+        assert_eq!(rt; status, 7);
+        assert_eq!(rt; out.written(), printed);
+    }
+    Ok(())
+}
+
+#[test]
+fn obligations_are_listed(rt: HostRuntime) -> Result<(), Fail> {
+    let cases = [
+        (
+            WITHOUT_BOUND,
+            0,
+            b"obligation 1 overflow 56..57 line 2 inc\n(forall<v1: i32> (((-2147483648) <= (v1@ + 1)) && ((v1@ + 1) <= 2147483647)))\nobligation 2 ensures 10..27 line 1 inc\n(forall<v1: i32> (forall<v2: i32> ((v2@ == (v1@ + 1)) ==> (v2@ == (v1@ + 1)))))\n".as_slice(),
+        ),
+        (
+            b"#[requires(y@ != 0)]\nfn quo(x: i32, y: i32) -> i32 { x / y }\n",
+            0,
+            b"obligation 1 division 55..56 line 2 quo\n(forall<v1: i32> (forall<v2: i32> ((!(v2@ == 0)) ==> (!(v2@ == 0)))))\nobligation 2 overflow 55..56 line 2 quo\n(forall<v1: i32> (forall<v2: i32> ((!(v2@ == 0)) ==> (!((v1@ == (-2147483648)) && (v2@ == (-1)))))))\n".as_slice(),
+        ),
+        (b"", 0, b"".as_slice()),
+        (b"fn f() {", 3, b"error E20 8..8 line 1\n".as_slice()),
+    ];
+    for (source, want, printed) in cases {
+        let call = Call {
+            words: &["list", "s"],
+            ..Call::of(source, b"")
+        };
+        let (status, out) = call.run(rt.alloc())?;
+        assert_eq!(rt; status, want);
+        assert_eq!(rt; out.written(), printed);
+    }
     Ok(())
 }

@@ -1,5 +1,5 @@
 use Rattle.std.proofs.Common.{map, string_bytes, inr}
-use Rattle.creusot_cli.specs.Words.{asked_of}
+use Rattle.call_words.specs.Asked.{asked_of}
 use Rattle.creusot_cli.proofs.CallLaws.{reports}
 use Rattle.creusot_cli.proofs.verify.creusot.Goals as goal
 

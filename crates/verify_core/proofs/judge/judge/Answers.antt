@@ -1,5 +1,5 @@
 use Rattle.std.proofs.Common.{refl}
-use Rattle.verify_core.proofs.JudgeLaws.{none_judged, one_more_judged, all_judged}
+use Rattle.verify_core.proofs.JudgeLaws.{none_judged}
 use Rattle.verify_core.proofs.judge.judge.Goals as goal
 
 pub loop-goals-init : goal.loop-goals-init

@@ -1,11 +1,11 @@
 use Rattle.std.proofs.Common.{arith}
 use Rattle.std.proofs.lemmas.Result.{err_from_is_err_and}
 use Rattle.verify_core.specs.Prepared.{IsPastLimit}
-use Rattle.verify_core.proofs.PassLaws.{lowering_refused, goals_refused, paths_refused, walkable, laid_out}
+use Rattle.verify_core.proofs.PassLaws.{lowering_refused, obligations_refused, paths_refused, walkable, laid_out}
 use Rattle.verify_core.proofs.preparing.prepare.Goals as goal
 
-pub returns-then-source-gt-MOST_BYTES-clause-refused : goal.returns-then-source-gt-MOST_BYTES-clause-refused
-returns-then-source-gt-MOST_BYTES-clause-refused c = IsPastLimit.bytes (omega (arith, c.if-source-gt-MOST_BYTES.true))
+pub returns-then-source-gt-SOURCE_BYTES-clause-refused : goal.returns-then-source-gt-SOURCE_BYTES-clause-refused
+returns-then-source-gt-SOURCE_BYTES-clause-refused c = IsPastLimit.bytes (omega (arith, c.if-source-gt-SOURCE_BYTES.true))
 
 pub returns-in_err-lowered-clause-refused : goal.returns-in_err-lowered-clause-refused
 returns-in_err-lowered-clause-refused c =
@@ -22,14 +22,16 @@ returns-in_err-check_all_paths-clause-refused c =
     rw (p.1, p.2) (paths_refused c.args.source.now c.typed_source.new.names c.in_ok-typed.typed c.in_ok-lowered.lowered _ c.in_ok-typed.ensures.ok (c.in_ok-lowered.ensures.lowered c.in_ok-typed.ensures.fits)
     (rw c.as_slice.ensures at c.in_err-check_all_paths.ensures.err))
 
+pub check_obligations-requires : goal.check_obligations-requires
+check_obligations-requires c = walkable c.typed_source.new.names c.in_ok-typed.typed c.in_ok-lowered.lowered (c.in_ok-lowered.ensures.lowered c.in_ok-typed.ensures.fits) c.in_ok-typed.ensures.fits
+
+pub returns-in_err-check_obligations-clause-refused : goal.returns-in_err-check_obligations-clause-refused
+returns-in_err-check_obligations-clause-refused c =
+    let p = err_from_is_err_and c.from_residual-in_err-check_obligations.result c.from_residual-in_err-check_obligations.ensures.1 in
+    rw (p.1, p.2) (obligations_refused c.args.source.now c.typed_source.new.names c.in_ok-typed.typed c.in_ok-lowered.lowered _ c.in_ok-typed.ensures.ok (c.in_ok-lowered.ensures.lowered c.in_ok-typed.ensures.fits) c.in_err-check_obligations.ensures.err)
+
 pub all_goals-requires : goal.all_goals-requires
 all_goals-requires c = walkable c.typed_source.new.names c.in_ok-typed.typed c.in_ok-lowered.lowered (c.in_ok-lowered.ensures.lowered c.in_ok-typed.ensures.fits) c.in_ok-typed.ensures.fits
-
-pub returns-in_err-functions-clause-refused : goal.returns-in_err-functions-clause-refused
-returns-in_err-functions-clause-refused c =
-    let p = err_from_is_err_and c.from_residual-in_err-functions.result c.from_residual-in_err-functions.ensures.1 in
-    rw (p.1, p.2) (goals_refused c.args.source.now c.typed_source.new.names c.in_ok-typed.typed c.in_ok-lowered.lowered c.in_err-functions.field-0.0 c.in_ok-typed.ensures.ok
-    (c.in_ok-lowered.ensures.lowered c.in_ok-typed.ensures.fits) c.in_err-functions.ensures.refused)
 
 pub returns-clause-ok : goal.returns-clause-ok
 returns-clause-ok c = record {
@@ -38,7 +40,7 @@ returns-clause-ok c = record {
   gones = c.in_ok-lowered.lowered.gone;
   lowers = c.in_ok-lowered.ensures.lowered c.in_ok-typed.ensures.fits;
   paths = rw c.as_slice.ensures at c.in_ok-check_all_paths.ensures.ok;
-  goals = c.in_ok-functions.ensures.ok.goals;
-  as_many = c.in_ok-functions.ensures.ok.as_many;
-  few = c.in_ok-functions.ensures.ok.few;
+  goals = c.in_ok-functions.ensures.goals;
+  as_many = c.in_ok-functions.ensures.as_many;
+  few = c.in_ok-check_obligations.ensures.ok c.in_ok-functions.functions c.in_ok-functions.ensures;
 }

@@ -1,4 +1,4 @@
-use Rattle.std.proofs.Common.{Bool, ap, sym, subst, arith}
+use Rattle.std.proofs.Common.{Bool, sym, subst, arith}
 use Rattle.verify_core.specs.Flags.{Unsets}
 use Rattle.verify_core.proofs.RoundLaws.{Round, begins, one_unset, none_unset_there, ends_settled}
 use Rattle.verify_core.proofs.reach.unset_once.Goals as goal

@@ -1,4 +1,4 @@
-use Rattle.creusot_cli.specs.Words.{asked}
+use Rattle.call_words.specs.Asked.{asked}
 use Rattle.creusot_cli.proofs.CallLaws.{long_source}
 use Rattle.creusot_cli.proofs.verify.plan.plan_of.Goals as goal
 

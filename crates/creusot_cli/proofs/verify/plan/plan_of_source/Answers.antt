@@ -1,4 +1,4 @@
-use Rattle.creusot_cli.specs.Words.{asked}
+use Rattle.call_words.specs.Asked.{asked}
 use Rattle.creusot_cli.proofs.verify.plan.plan_of_source.Goals as goal
 
 pub returns-in-Ok-clause-ok : goal.returns-in-Ok-clause-ok

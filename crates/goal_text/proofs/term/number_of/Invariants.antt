@@ -1,0 +1,6 @@
+use Rattle.std.proofs.Common.{◌≡◌, drop}
+use Rattle.goal_text.specs.GoalText.{number_in}
+use Rattle.goal_text.proofs.term.number_of.Given as goal
+
+abbrev pub invariant-loop-i : goal.invariant-loop-i
+invariant-loop-i l = number_in l.bound l.name ≡ number_in (drop l.i l.bound) l.name

@@ -1,0 +1,2 @@
+pub mod GoalText
+pub mod SortText

@@ -1,0 +1,61 @@
+-- How a sort is printed.
+use Rattle.std.specs.Prelude.{ℕ, ◌==◌, List, [], ◌∷◌, ◌++◌, codes, length, if◌then◌else◌}
+use Rattle.std.specs.Fmt.{decimal}
+use Rattle.std.specs.List.{join_by}
+use Rattle.logic_term.specs.declared.kinds.IntKind.{IntKind}
+use Rattle.logic_term.specs.declared.kinds.IntKind.TheVariants.{I8, I16, I32, I64, Isize, U8, U16, U32, U64, Usize}
+use Rattle.logic_term.specs.Ty.{Ty, Tys, int, bool, math_int, tuple, adt, boxed, shared, unique, param, closure, viewed, snapshot, no_tys, and_ty}
+
+-- A, B
+abbrev pub commas : List (List ℕ) → List ℕ
+commas parts = join_by (λ part. part) (codes ", ") parts
+
+-- the end of a tuple of so many parts: a lone part has a comma after it
+abbrev pub tuple_end : ℕ → List ℕ
+tuple_end parts = if parts == 1 then codes ",)" else codes ")"
+
+-- (), (A,) or (A, B)
+abbrev pub tuple_text : List (List ℕ) → List ℕ
+tuple_text parts = codes "(" ++ commas parts ++ tuple_end (length parts)
+
+-- a word with a number right after it
+abbrev pub numbered : List ℕ → ℕ → List ℕ
+numbered word number = word ++ decimal number
+
+abbrev pub kind_text : IntKind → List ℕ
+kind_text I8 = codes "i8"
+kind_text I16 = codes "i16"
+kind_text I32 = codes "i32"
+kind_text I64 = codes "i64"
+kind_text Isize = codes "isize"
+kind_text U8 = codes "u8"
+kind_text U16 = codes "u16"
+kind_text U32 = codes "u32"
+kind_text U64 = codes "u64"
+kind_text Usize = codes "usize"
+
+-- the sort, regions and signatures left out
+abbrev mutual
+  pub sort_text : Ty → List ℕ
+  sort_text (int kind) = kind_text kind
+  sort_text bool = codes "bool"
+  sort_text math_int = codes "Int"
+  sort_text (tuple parts) = tuple_text (sort_texts parts)
+  sort_text (adt declared regions types) = numbered (codes "declared") declared.0 ++ codes "<" ++ commas (sort_texts types) ++ codes ">"
+  sort_text (boxed t) = codes "Box<" ++ sort_text t ++ codes ">"
+  sort_text (shared region t) = codes "&" ++ sort_text t
+  sort_text (unique region t) = codes "&mut " ++ sort_text t
+  sort_text (param number) = numbered (codes "param") number
+  sort_text (closure number types captures kind params result) =
+      numbered (codes "closure") number ++ codes "<" ++ commas (sort_texts types) ++ codes ">(" ++ commas (sort_texts captures) ++ codes ")"
+  sort_text (viewed t) = codes "View<" ++ sort_text t ++ codes ">"
+  sort_text (snapshot t) = codes "Snapshot<" ++ sort_text t ++ codes ">"
+
+  pub sort_texts : Tys → List (List ℕ)
+  sort_texts no_tys = []
+  sort_texts (and_ty t ts) = sort_text t ∷ sort_texts ts
+
+-- what follows the digits of a literal of the sort
+abbrev pub suffix : Ty → List ℕ
+suffix (int kind) = kind_text kind
+suffix _ = []

@@ -1,0 +1,110 @@
+//! Sorts as text.
+ghost use Rattle.std.specs.Prelude.{◌≡◌, ◌++◌, codes, flat_map, OnOk};
+ghost use Rattle.logic_term.specs.TyView.{tys_of};
+ghost use Rattle.goal_text.specs.SortText.{commas, sort_text, sort_texts, suffix};
+
+use crate::piece::{kind_bytes, push_numbered, push_text, tuple_end_bytes};
+use logic_term::{Sort, Ty, TyNode};
+use std::alloc::Global;
+use text_core::NoMemory;
+
+/// What follows the digits of a literal of the sort.
+pub(crate) fn suffix_bytes(sort: &Sort) -> &'static [u8]
+    ensures { result.now ≡ suffix sort.now }
+{
+    match &sort.node {
+        TyNode::Int(kind) => kind_bytes(*kind),
+        _ => b"",
+    }
+}
+
+#[cycle(push_sort)]
+pub(crate) fn push_sort(alloc: Global, out: &mut Vec<u8>, sort: &Sort) -> Result<(), NoMemory>
+    ensures { OnOk result (out.new.items ≡ out.old.items ++ sort_text sort.now) }
+{
+    match &sort.node {
+        TyNode::Int(kind) => push_text(out, kind_bytes(*kind)),
+        TyNode::Bool => push_text(out, b"bool"),
+        TyNode::MathInt => push_text(out, b"Int"),
+        TyNode::Tuple(parts) => {
+            push_sorts(alloc, out, b"(", parts, tuple_end_bytes(parts.len()))
+        }
+        TyNode::Adt(adt, _, types) => {
+            push_numbered(alloc, out, b"declared", adt.0 as u64)?;
+            push_sorts(alloc, out, b"<", types, b">")
+        }
+        TyNode::Boxed(t) => push_argument(alloc, out, b"Box<", t),
+        TyNode::Shared(_, t) => {
+            push_text(out, b"&")?;
+            push_sort(alloc, out, t)
+        }
+        TyNode::Unique(_, t) => {
+            push_text(out, b"&mut ")?;
+            push_sort(alloc, out, t)
+        }
+        TyNode::Param(number) => push_numbered(alloc, out, b"param", *number as u64),
+        TyNode::Closure(number, types, captures, _) => {
+            push_numbered(alloc, out, b"closure", *number as u64)?;
+            push_sorts(alloc, out, b"<", types, b">")?;
+            push_sorts(alloc, out, b"(", captures, b")")
+        }
+        TyNode::View(t) => push_argument(alloc, out, b"View<", t),
+        TyNode::Snapshot(t) => push_argument(alloc, out, b"Snapshot<", t),
+    }
+}
+
+/// `Word<A>`, where the word has the bracket.
+#[cycle(push_sort)]
+fn push_argument(
+    alloc: Global,
+    out: &mut Vec<u8>,
+    word: &[u8],
+    argument: &Sort,
+) -> Result<(), NoMemory>
+    ensures { OnOk result (out.new.items ≡ out.old.items ++ (word.now ++ sort_text argument.now ++ codes ">")) }
+{
+    push_text(out, word)?;
+    push_sort(alloc, out, argument)?;
+    push_text(out, b">")
+}
+
+/// `A, B` between two words.
+#[cycle(push_sort)]
+fn push_sorts(
+    alloc: Global,
+    out: &mut Vec<u8>,
+    before: &[u8],
+    sorts: &[Ty],
+    after: &[u8],
+) -> Result<(), NoMemory>
+    ensures { OnOk result (out.new.items ≡ out.old.items ++ (before.now ++ commas (sort_texts (tys_of sorts.now)) ++ after.now)) }
+{
+    push_text(out, before)?;
+    push_listed_sorts(alloc, out, sorts)?;
+    push_text(out, after)
+}
+
+/// `A, B`
+#[cycle(push_sort)]
+fn push_listed_sorts(alloc: Global, out: &mut Vec<u8>, sorts: &[Ty]) -> Result<(), NoMemory>
+    ensures { OnOk result (out.new.items ≡ out.old.items ++ commas (sort_texts (tys_of sorts.now))) }
+{
+    let Some((first, others)) = sorts.split_first() else {
+        return Ok(());
+    };
+    push_sort(alloc, out, first)?;
+    push_other_sorts(alloc, out, others)
+}
+
+/// The sorts after the first, each after a comma.
+#[cycle(push_sort)]
+#[tactic(auto, using(logic_term::specs::TyFalls::each_smaller))]
+fn push_other_sorts(alloc: Global, out: &mut Vec<u8>, others: &[Ty]) -> Result<(), NoMemory>
+    ensures { OnOk result (out.new.items ≡ out.old.items ++ flat_map (λ t. codes ", " ++ sort_text t) others.now) }
+{
+    for i in 0..others.len() {
+        push_text(out, b", ")?;
+        push_sort(alloc, out, &others[i])?;
+    }
+    Ok(())
+}

@@ -1,0 +1,9 @@
+use Rattle.std.proofs.Common.{◌-◌, ◌*◌}
+use Rattle.wp_gen.proofs.ArriveLaws.{room}
+use Rattle.wp_gen.proofs.count.+count.Given as goal
+
+abbrev pub decreases-along : goal.decreases-along
+decreases-along l = 2 * room l.walk.now.body.now.blocks l.from - 1
+
+abbrev pub decreases-from_block : goal.decreases-from_block
+decreases-from_block l = 2 * room l.walk.now.body.now.blocks l.label

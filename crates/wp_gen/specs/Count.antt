@@ -1,0 +1,49 @@
+-- How many goals a body has, found before one is made, against a bound: what is left of the room for them.
+use Rattle.std.specs.Prelude.{◌≡◌, ℕ, ◌+◌, ◌<◌, List, [], ◌∷◌, length, Option, Some, None}
+use Rattle.text_core.specs.declared.refusal.Kind.TheVariants.{InvEntry}
+use Rattle.logic_term.specs.declared.kinds.Label.{Label}
+use Rattle.logic_term.specs.declared.obligation.Obligation.{Obligation}
+use Rattle.mir_ir.specs.declared.statement.Statement.{Statement}
+use Rattle.mir_ir.specs.declared.body.Block.{Block}
+use Rattle.mir_ir.specs.declared.body.Body.{Body}
+use Rattle.mir_ir.specs.declared.body.Head.{Head}
+use Rattle.wp_gen.specs.declared.goal.Goal.{Goal}
+use Rattle.wp_gen.specs.Paths.{MayStand}
+use Rattle.wp_gen.specs.Row.{goals_of}
+use Rattle.wp_gen.specs.Walk.{Setting, Walks, Arrives, AreObligations, each_goal}
+use Rattle.wp_gen.specs.Walkable.{CanWalk}
+
+-- so much is left of the room after so many; none where there are more
+abbrev pub IsRoomLeft : ℕ → ℕ → Option ℕ → Type 0
+IsRoomLeft room many (Some left) = left + many ≡ room
+IsRoomLeft room many None = room < many
+
+-- what is left after any such list
+abbrev pub LeavesRoom : {A : Type 0} → (List A → Type 0) → ℕ → Option ℕ → Type 0
+LeavesRoom Is room left = (xs : List _) → Is xs → IsRoomLeft room (length xs) left
+
+-- how many goals these statements have
+abbrev pub goals_within : Body → List Statement → ℕ
+goals_within b [] = 0
+goals_within b (st ∷ sts) = length (goals_of b st.span st.kind) + goals_within b sts
+
+-- how many goals an arrival at a head has, first or again; none at a block that is no head
+abbrev pub goals_of_head : Option Head → ℕ
+goals_of_head None = 0
+goals_of_head (Some h) = length (each_goal InvEntry h.invariants h.spans)
+
+-- the goals from a block's first statement on, along whatever way it was reached
+abbrev pub AreFrom : Setting → Label → List Goal → Type 0
+AreFrom w l gs = (heads : List Label) × (k : Block) × (n : ℕ) × MayStand w.body heads l k × Walks w heads k.statements k.end gs n
+
+-- the goals along the edge from the block of l to m
+abbrev pub AreAlong : Setting → Label → Label → List Goal → Type 0
+AreAlong w l m gs = (heads : List Label) × (k : Block) × (n : ℕ) × MayStand w.body heads l k × Arrives w heads m gs n
+
+-- the obligations of the body, from some number on
+abbrev pub AreSomeObligations : Setting → List Obligation → Type 0
+AreSomeObligations w os = (m : ℕ) × (n : ℕ) × AreObligations w m os n
+
+-- each body that can be walked has obligations
+abbrev pub HaveObligations : Type 0
+HaveObligations = (w : Setting) (m : ℕ) → CanWalk w → (os : List Obligation) × (n : ℕ) × AreObligations w m os n
