@@ -87,7 +87,7 @@ not_with_rest (between ps) n (b ∷ bs) h = refl
 not_with_rest (within ps k o ss) n (b ∷ bs) h = refl
 
 abbrev pub Holds : Stage → ProofFile → Type 0
-Holds (stages.Between done) file = file.proofs ≡ done.items
+Holds (stages.Between done) file = file.proofs ≡ done
 Holds _ file = ⊥
 
 pub ends_between : (table : List (List ℕ)) (s : State) (stage : Stage) (n : ℕ) (rest : List ℕ) (file : ProofFile) → Holds stage file → rest ≡ [] → SaysState table s stage → ReadsLines {X = ProofFile} (SaysFile table) (Ok file) (proofs_at_end n rest s)

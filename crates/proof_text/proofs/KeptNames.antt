@@ -42,9 +42,9 @@ kept_proof old new k x y h = (h.0, h.1, h.2, each_map (SaysStep old) (SaysStep n
 
 pub kept_state : (old new : List (List ℕ)) → KeepsNames old new → (s : State) (stage : Stage) → SaysState old s stage → SaysState new s stage
 kept_state old new k start stages.Start h = h
-kept_state old new k (between ps) (stages.Between done) h = each_map (SaysProof old) (SaysProof new) (kept_proof old new k) ps done.items h
+kept_state old new k (between ps) (stages.Between done) h = each_map (SaysProof old) (SaysProof new) (kept_proof old new k) ps done h
 kept_state old new k (within ps n o ss) (stages.Within done opened) h = (
-  each_map (SaysProof old) (SaysProof new) (kept_proof old new k) ps done.items h.0,
+  each_map (SaysProof old) (SaysProof new) (kept_proof old new k) ps done h.0,
   h.1,
   h.2,
   each_map (SaysStep old) (SaysStep new) (kept_step old new k) ss opened.steps.items h.3,

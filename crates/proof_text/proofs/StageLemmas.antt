@@ -76,7 +76,7 @@ total_first lines i d h =
 -- new is old with one more step
 abbrev pub WithStep : NumberedStep → Stage → Stage → Type 0
 WithStep step (stages.Within done opened) (stages.Within same more) =
-    (same.items ≡ done.items) × (more.number ≡ opened.number) × (more.owner.now ≡ opened.owner.now) × (more.steps.items ≡ opened.steps.items ++ step ∷ [])
+    (same ≡ done) × (more.number ≡ opened.number) × (more.owner.now ≡ opened.owner.now) × (more.steps.items ≡ opened.steps.items ++ step ∷ [])
 WithStep step _ _ = ⊥
 
 pub step_goes_on : (table : List (List ℕ)) (s : State) (old new : Stage) (n : ℕ) (said : Said) (step : NumberedStep) → WithStep step old new → SaysState table s old → n ≡ step.line → Says table said step.step → Reads {X = Stage} (SaysState table) (Ok new) (state_after s n (said_step said))
@@ -92,12 +92,12 @@ step_goes_on table s (stages.Within done opened) (stages.Between same) n said st
 -- new is old with its open proof ended
 abbrev pub WithProof : Proof → Stage → Stage → Type 0
 WithProof proof (stages.Within done opened) (stages.Between more) =
-    (proof.number ≡ opened.number) × (proof.owner ≡ opened.owner.now) × (proof.steps ≡ opened.steps.items) × (more.items ≡ done.items ++ proof ∷ [])
+    (proof.number ≡ opened.number) × (proof.owner ≡ opened.owner.now) × (proof.steps ≡ opened.steps.items) × (more ≡ done ++ proof ∷ [])
 WithProof proof _ _ = ⊥
 
 pub proof_goes_on : (table : List (List ℕ)) (s : State) (old new : Stage) (n : ℕ) (proof : Proof) → WithProof proof old new → SaysState table s old → proof.«end» ≡ n → Reads {X = Stage} (SaysState table) (Ok new) (state_after s n «end»)
 proof_goes_on table (within ps k o ss) (stages.Within done opened) (stages.Between more) n proof w h e =
-    end_said table ps done.items more.items (record { number = k; owner = o; steps = ss; «end» = n }) proof h.0
+    end_said table ps done more (record { number = k; owner = o; steps = ss; «end» = n }) proof h.0
     (h.1 ∙ sym w.0, h.2 ∙ sym w.1, sym e, subst (Each (SaysStep table) ss) (sym w.2) h.3) w.3
 proof_goes_on table start (stages.Within done opened) (stages.Between more) n proof w h e = absurd h
 proof_goes_on table (between ps) (stages.Within done opened) (stages.Between more) n proof w h e = absurd h

@@ -1,4 +1,5 @@
 pub mod ProofFileForm
+pub mod ProofKeys
 pub mod ProofTextFile
 pub mod ProofTextLaws
 pub mod ProofTextLines

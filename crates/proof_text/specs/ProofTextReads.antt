@@ -40,9 +40,9 @@ SaysLine table _ _ = ⊥
 
 abbrev pub SaysState : List (List ℕ) → State → Stage → Type 0
 SaysState table start stages.Start = Unit {0}
-SaysState table (between proofs) (stages.Between done) = Each (SaysProof table) proofs done.items
+SaysState table (between proofs) (stages.Between done) = Each (SaysProof table) proofs done
 SaysState table (within proofs number owner steps) (stages.Within done opened) =
-    Each (SaysProof table) proofs done.items × (number ≡ opened.number) × (owner ≡ opened.owner.now) × Each (SaysStep table) steps opened.steps.items
+    Each (SaysProof table) proofs done × (number ≡ opened.number) × (owner ≡ opened.owner.now) × Each (SaysStep table) steps opened.steps.items
 SaysState table _ _ = ⊥
 
 abbrev pub is_start : Stage → Bool

@@ -7,6 +7,7 @@ mod line;
 mod proof;
 mod reader;
 mod step;
+mod table;
 #[cfg(test)]
 mod tests;
 mod word;

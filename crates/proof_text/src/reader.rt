@@ -1,6 +1,5 @@
-ghost use Rattle.std.specs.Prelude.{◌≡◌, ℕ, ◌+◌, ◌^◌, ◌<◌, ◌≤◌, ◌==◌, ◌&&◌, List, [], ◌∷◌, ◌++◌, length, map, IfOk, IsOk, IsErrOf, ◌⊎◌};
+ghost use Rattle.std.specs.Prelude.{◌≡◌, ℕ, ◌+◌, ◌^◌, ◌<◌, ◌≤◌, ◌==◌, List, [], ◌∷◌, ◌++◌, length, map, IfOk, IsOk, IsErrOf, ◌⊎◌};
 ghost use Rattle.std.specs.List.{slice_split};
-ghost use Rattle.std.specs.Str.{bytes_eq};
 ghost use Rattle.proof_text.specs.ProofFileForm.{Each, SaysStep, SaysProof, SaidProof, IsFileOf, SpellsProofs, IsFirstBadLine};
 ghost use Rattle.proof_text.specs.ProofTextFile.{State, start, is_proved, state_after, next_state, state_after_all, proofs_at_end, proofs_of_pieces};
 ghost use Rattle.proof_text.specs.declared.proof.ProofFile.{ProofFile as File};
@@ -10,6 +9,7 @@ ghost use Rattle.proof_text.specs.ProofTextReads.{Reads, ReadsLines, KeepsNames,
 use crate::fault::{Fault, ProofTextError};
 use crate::line::{Line, read_line};
 use crate::proof::{NumberedStep, Proof, ProofFile};
+use crate::table::ProofTable;
 use proof_kernel::Step;
 use std::alloc::Global;
 use text_core::{Items, Names, NoMemory, Text};
@@ -29,21 +29,15 @@ pub(crate) struct OpenProof<'a> {
 #[derive(Drop)]
 pub(crate) enum Stage<'a> {
     Start,
-    Between(Vec<Proof>),
-    Within(Vec<Proof>, OpenProof<'a>),
+    Between(ProofTable<'a>),
+    Within(ProofTable<'a>, OpenProof<'a>),
 }
 
-/// Whether this is a proof of this obligation.
-fn is_of(proof: &Proof, number: u32, owner: &str) -> bool
-    ensures { result ≡ (proof.now.number == number && bytes_eq proof.now.owner owner.now) }
-{
-    proof.number == number && proof.owner.bytes() == owner.as_bytes()
-}
-
-fn is_proved(number: u32, owner: &str, proofs: &[Proof]) -> bool
+/// Whether there is a proof of this obligation.
+fn is_proved<'a>(number: u32, owner: &'a str, proofs: &ProofTable<'a>) -> bool
     ensures { (table : List (List ℕ)) (said : List SaidProof) → Each (SaysProof table) said proofs.now → result ≡ is_proved number owner.now said }
 {
-    proofs.iter().any(|proof| is_of(proof, number, owner))
+    proofs.has(number, owner)
 }
 
 /// Where the file stands after the head of a proof.
@@ -126,9 +120,10 @@ fn closed<'a>(alloc: Global, stage: Stage<'a>, line: u32) -> Result<Stage<'a>, F
 {
     match stage {
         Stage::Within(proofs, opened) => {
-            let mut proofs = proofs;
-            proofs.push(ended(alloc, opened, line)?)?;
-            Ok(Stage::Between(proofs))
+            let owner = opened.owner;
+            let proof = ended(alloc, opened, line)?;
+            let more = proofs.with(proof, owner)?;
+            Ok(Stage::Between(more))
         }
         Stage::Start => Err(Fault::Bad),
         Stage::Between(_proofs) => Err(Fault::Bad),
@@ -179,7 +174,7 @@ fn next<'a>(
         if text != HEADER {
             return Err(Fault::Bad);
         }
-        return Ok(Stage::Between(Vec::new(alloc)));
+        return Ok(Stage::Between(ProofTable::new(alloc)));
     }
     let line = read_line(alloc, text, names)?;
     after(alloc, stage, number, line)
@@ -222,7 +217,7 @@ fn at_end(stage: Stage<'_>, rest: &[u8], end: u32) -> Result<ProofFile, ProofTex
             if !rest.is_empty() {
                 return Err(ProofTextError::BadLine(end));
             }
-            let proofs = Items::from_vec(proofs);
+            let proofs = proofs.into_items();
             Ok(ProofFile { proofs })
         }
         Stage::Start => Err(ProofTextError::BadLine(end)),
