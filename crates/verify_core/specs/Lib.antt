@@ -1,3 +1,4 @@
+pub mod Firsts
 pub mod Flags
 pub mod Judging
 pub mod Listing

@@ -1,40 +1,25 @@
 ghost use Rattle.std.specs.Prelude.{◌≡◌, ◌+◌, ◌↔◌, length, IfOk, OnOk, IsTrue};
-ghost use Rattle.std.specs.List.{find};
-ghost use Rattle.std.specs.Option.{option_copied};
-ghost use Rattle.verify_core.specs.Verdict.{is_for, Settles, left_item};
+ghost use Rattle.verify_core.specs.Verdict.{Settles, left_item};
 ghost use Rattle.verify_core.specs.Judging.{JudgesMore, JudgesFunction, HasJudged};
 ghost use Rattle.verify_core.specs.VerdictWords.{Tallies};
 
 use crate::check::refused_line;
 use crate::goals::FunctionGoals;
+use crate::table::ProofTable;
 use logic_term::Obligation;
-use proof_text::Proof;
 use report_out::{LeftItem, Reason};
 use std::alloc::Global;
 use text_core::NoMemory;
-
-fn is_for(obligation: &Obligation, proof: &Proof) -> bool
-    ensures { result ≡ is_for obligation.now proof.now }
-{
-    proof.number == obligation.number && proof.owner.bytes() == obligation.owner.bytes()
-}
-
-/// The proof of the obligation, if there is one.
-fn proof_for<'a>(obligation: &Obligation, proofs: &'a [Proof]) -> Option<&'a Proof>
-    ensures { option_copied result ≡ find (is_for obligation.now) proofs.now }
-{
-    proofs.iter().find(|proof| is_for(obligation, *proof))
-}
 
 /// Why the obligation is left; `None` where it is proved.
 fn reason_for(
     alloc: Global,
     obligation: &Obligation,
-    proofs: &[Proof],
+    proofs: &ProofTable<'_>,
 ) -> Result<Option<Reason>, NoMemory>
     ensures { IfOk result (Settles proofs.now obligation.now) }
 {
-    let Some(proof) = proof_for(obligation, proofs) else {
+    let Some(proof) = proofs.proof_for(obligation) else {
         return Ok(Some(Reason::Missing));
     };
     match refused_line(alloc, obligation, proof.steps.as_slice(), proof.end)? {
@@ -79,7 +64,7 @@ fn settle_all(
     alloc: Global,
     left: &mut Vec<LeftItem>,
     obligations: &[Obligation],
-    proofs: &[Proof],
+    proofs: &ProofTable<'_>,
 ) -> Result<u32, NoMemory>
     ensures { IfOk result (JudgesMore proofs.now obligations.now left.old.items left.new.items) }
 {
@@ -133,7 +118,7 @@ fn judge_function(
     alloc: Global,
     judged: &mut Judged,
     goals: &FunctionGoals,
-    proofs: &[Proof],
+    proofs: &ProofTable<'_>,
 ) -> Result<(), NoMemory>
     ensures { OnOk result (JudgesFunction proofs.now goals.now judged.old judged.new) }
 {
@@ -151,7 +136,7 @@ fn judge_function(
 pub(crate) fn judge(
     alloc: Global,
     functions: &[FunctionGoals],
-    proofs: &[Proof],
+    proofs: &ProofTable<'_>,
 ) -> Result<Judged, NoMemory>
     ensures { IfOk result (HasJudged proofs.now functions.now) }
 {

@@ -9,6 +9,7 @@ mod listing;
 mod preparing;
 mod program;
 mod reach;
+mod table;
 mod verdict;
 mod verifying;
 

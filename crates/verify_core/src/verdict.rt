@@ -6,6 +6,7 @@ ghost use Rattle.verify_core.specs.Judging.{AreLinesOf};
 use crate::goals::FunctionGoals;
 use crate::judge::judge;
 use crate::reach::settled_flags;
+use crate::table::ProofTable;
 use mir_ir::Body;
 use proof_text::Proof;
 use report_out::{FnLine, Verdict};
@@ -42,7 +43,8 @@ pub fn verdict_on(
     requires { length functions.now ≡ length bodies.now }
     ensures { IfOk result (IsVerdict proofs.now bodies.now functions.now) }
 {
-    let judged = judge(alloc, functions, proofs)?;
+    let table = ProofTable::new(alloc, proofs)?;
+    let judged = judge(alloc, functions, &table)?;
     let flags = settled_flags(judged.flags, bodies);
     let functions = lines_of(alloc, functions, flags.as_slice())?;
     Ok(Verdict {
