@@ -1,0 +1,10 @@
+pub mod Blanks
+pub mod Heads
+pub mod Levels
+pub mod Listed
+pub mod PlanFits
+pub mod Planning
+pub mod Steps
+pub mod Symbols
+pub mod Tokens
+pub mod Whole

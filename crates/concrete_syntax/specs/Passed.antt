@@ -1,0 +1,54 @@
+-- What the verifier passes over: `use` lines, `pub`, and attributes that say nothing of what a program does. To it they are white space.
+use Rattle.std.specs.Prelude.{◌≡◌, ℕ, zero, suc, ◌-◌, Bool, true, false, ◌&&◌, nat_lt, nat_le, List, [], ◌∷◌, if◌then◌else◌}
+use Rattle.text_core.specs.declared.span.Span.{Span}
+use Rattle.concrete_syntax.specs.declared.event.Event.{Event}
+use Rattle.concrete_syntax.specs.declared.event.Event.TheVariants as V
+use Rattle.concrete_syntax.specs.declared.item_rule.ItemRule.TheVariants as RI
+use Rattle.concrete_syntax.specs.declared.rule.Rule.{Rule}
+use Rattle.concrete_syntax.specs.declared.rule.Rule.TheVariants as R
+use Rattle.concrete_syntax.specs.Parsed.{SpellsSource}
+
+abbrev pub is_passed : Rule → Bool
+is_passed (R.Item RI.InnerAttribute) = true
+is_passed (R.Item (RI.SkippedAttribute b)) = true
+is_passed (R.Item RI.ExprSkippedAttribute) = true
+is_passed (R.Item RI.PublicMark) = true
+is_passed (R.Item (RI.UseItem k)) = true
+is_passed (R.Item (RI.ExternCrate k)) = true
+is_passed _ = false
+
+-- how many phrases are open from one that is passed over on
+abbrev pub past_open : ℕ → Bool → ℕ
+past_open zero passed = if passed then 1 else 0
+past_open (suc n) passed = suc (suc n)
+
+-- the word, inside of a phrase that is passed over
+abbrev pub passed_word : ℕ → Span → List Span → List Span
+passed_word zero span spans = spans
+passed_word (suc n) span spans = span ∷ spans
+
+-- the words inside of phrases that are passed over
+abbrev pub passed_from : ℕ → List Event → List Span
+passed_from n [] = []
+passed_from n (V.Open r ∷ events) = passed_from (past_open n (is_passed r)) events
+passed_from n (V.Word w ∷ events) = passed_word n w.span (passed_from n events)
+passed_from n (V.Close ∷ events) = passed_from (n - 1) events
+
+abbrev pub covers : Span → ℕ → Bool
+covers span i = nat_le span.start i && nat_lt i span.end
+
+-- the bytes from offset i on, with spaces in the part
+abbrev pub blank_from : Span → ℕ → List ℕ → List ℕ
+blank_from span i [] = []
+blank_from span i (byte ∷ bytes) = (if covers span i then 32 else byte) ∷ blank_from span (suc i) bytes
+
+-- the bytes with spaces in all of the parts
+abbrev pub blank_all : List Span → List ℕ → List ℕ
+blank_all [] bytes = bytes
+blank_all (span ∷ spans) bytes = blank_all spans (blank_from span 0 bytes)
+
+-- the source, with spaces in the place of what is passed over
+pub record IsPlain (bytes plain : List ℕ) : Type 0 where
+  pub phrases : List Event
+  pub spelled : SpellsSource bytes phrases
+  pub blank : plain ≡ blank_all (passed_from 0 phrases) bytes

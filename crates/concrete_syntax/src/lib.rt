@@ -1,0 +1,64 @@
+//! The concrete syntax of sources: the whole grammar, and the parser that finds the phrases of a source.
+#![tactic(auto)]
+
+mod act;
+mod begins;
+mod choices;
+mod event;
+mod expr_choices;
+mod expr_rule;
+mod expr_tables;
+mod fault;
+mod item_choices;
+mod item_rule;
+mod item_tables;
+mod kinds;
+mod laws;
+mod numbers;
+mod parser;
+mod passed;
+mod phrases;
+mod plain;
+mod production;
+mod reading;
+mod refusal;
+mod rule;
+mod shape_choices;
+mod shape_rule;
+mod shape_tables;
+mod stmt_choices;
+mod stmt_rule;
+mod stmt_tables;
+mod tables;
+mod term_choices;
+mod term_rule;
+mod term_tables;
+#[cfg(test)]
+mod tests;
+mod word;
+mod word_choices;
+mod word_rule;
+mod word_tables;
+mod words;
+
+pub use event::Event;
+pub use expr_rule::ExprRule;
+pub use fault::ParseFault;
+pub use item_rule::ItemRule;
+pub use kinds::{Bracket, CommonWord, Keyword, LogicalWord, MacroWord, Mark, WordKind};
+pub use laws::{a_text_spells_one_list_of_phrases, the_tables_meet_their_conditions};
+pub use parser::parse;
+pub use passed::plain_source;
+pub use phrases::{
+    Bearer, BodyKind, ExprPhrase, ItemPhrase, Literals, Mode, Nonterminal, ShapePhrase, StmtPhrase,
+    TermPhrase, WordPhrase,
+};
+pub use production::{Parts, Production};
+pub use reading::{Stop, read};
+pub use rule::{Rule, Symbol};
+pub use shape_rule::ShapeRule;
+pub use stmt_rule::StmtRule;
+pub use term_rule::TermRule;
+pub use word::Word;
+pub use word_rule::WordRule;
+pub use words::words_of;

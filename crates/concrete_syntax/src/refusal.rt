@@ -1,0 +1,212 @@
+//! The codes of refused words.
+ghost use Rattle.std.specs.Prelude.{◌≡◌, ◌+◌, ◌<◌, ◌^◌, ◌≤◌, length, slice_get};
+ghost use Rattle.concrete_syntax.specs.Parsed.{is_left_out, is_name, is_square, is_hash, is_type, says, word_before, names_attribute, past_word, is_in_impl, defines_type, code_at};
+
+use crate::kinds::{Bracket, Keyword, MacroWord, Mark, WordKind};
+use crate::word::Word;
+use text_core::Code;
+
+/// Words that begin constructs of Rust that the language leaves out, wherever they are refused.
+fn is_left_out(kind: WordKind) -> bool
+    ensures { result ≡ is_left_out kind }
+{
+    match kind {
+        WordKind::Keyword(Keyword::Unsafe) => true,
+        WordKind::Keyword(Keyword::Async) => true,
+        WordKind::Keyword(Keyword::Await) => true,
+        WordKind::Keyword(Keyword::Dyn) => true,
+        WordKind::Keyword(Keyword::Const) => true,
+        WordKind::Keyword(Keyword::Static) => true,
+        WordKind::Keyword(Keyword::Mod) => true,
+        WordKind::Keyword(Keyword::For) => true,
+        WordKind::Keyword(Keyword::Ref) => true,
+        WordKind::Keyword(Keyword::OtherUse) => true,
+        WordKind::Mark(Mark::DotDot) => true,
+        WordKind::Mark(Mark::At) => true,
+        WordKind::Mark(Mark::Caret) => true,
+        WordKind::Mark(Mark::And) => true,
+        WordKind::Mark(Mark::Or) => true,
+        WordKind::Mark(Mark::Question) => true,
+        WordKind::Mark(Mark::StrayPathSep) => true,
+        WordKind::Open(Bracket::Square) => true,
+        WordKind::Macro(MacroWord::UnlistedMacro) => true,
+        WordKind::OddType => true,
+        WordKind::Str => true,
+        WordKind::StaticLifetime => true,
+        _ => false,
+    }
+}
+
+/// A name, quoted or not.
+fn is_name(kind: WordKind) -> bool
+    ensures { result ≡ is_name kind }
+{
+    match kind {
+        WordKind::Common(_) => true,
+        WordKind::Macro(_) => true,
+        WordKind::Logical(_) => true,
+        WordKind::Pearlite => true,
+        WordKind::CallTrait => true,
+        WordKind::OddType => true,
+        _ => false,
+    }
+}
+
+fn is_square(kind: WordKind) -> bool
+    ensures { result ≡ is_square kind }
+{
+    match kind {
+        WordKind::Open(Bracket::Square) => true,
+        _ => false,
+    }
+}
+
+fn is_hash(kind: WordKind) -> bool
+    ensures { result ≡ is_hash kind }
+{
+    match kind {
+        WordKind::Mark(Mark::Hash) => true,
+        _ => false,
+    }
+}
+
+fn is_type(kind: WordKind) -> bool
+    ensures { result ≡ is_type kind }
+{
+    match kind {
+        WordKind::Keyword(Keyword::TypeWord) => true,
+        _ => false,
+    }
+}
+
+fn is_left_out_at(words: &[Word], place: usize) -> bool
+    ensures { result ≡ says is_left_out (slice_get words.now place) }
+{
+    match words.get(place) {
+        None => false,
+        Some(word) => is_left_out(word.kind),
+    }
+}
+
+fn is_name_at(words: &[Word], place: usize) -> bool
+    ensures { result ≡ says is_name (slice_get words.now place) }
+{
+    match words.get(place) {
+        None => false,
+        Some(word) => is_name(word.kind),
+    }
+}
+
+fn is_square_at(words: &[Word], place: usize) -> bool
+    ensures { result ≡ says is_square (slice_get words.now place) }
+{
+    match words.get(place) {
+        None => false,
+        Some(word) => is_square(word.kind),
+    }
+}
+
+fn is_hash_at(words: &[Word], place: usize) -> bool
+    ensures { result ≡ says is_hash (slice_get words.now place) }
+{
+    match words.get(place) {
+        None => false,
+        Some(word) => is_hash(word.kind),
+    }
+}
+
+fn is_type_at(words: &[Word], place: usize) -> bool
+    ensures { result ≡ says is_type (slice_get words.now place) }
+{
+    match words.get(place) {
+        None => false,
+        Some(word) => is_type(word.kind),
+    }
+}
+
+/// The word before is `[`.
+fn is_square_before(words: &[Word], place: usize) -> bool
+    ensures { result ≡ says is_square (word_before 1 words.now place) }
+{
+    if place < 1 {
+        false
+    } else {
+        is_square_at(words, place - 1)
+    }
+}
+
+/// The word before that is `#`.
+fn is_hash_before(words: &[Word], place: usize) -> bool
+    ensures { result ≡ says is_hash (word_before 2 words.now place) }
+{
+    if place < 2 {
+        false
+    } else {
+        is_hash_at(words, place - 2)
+    }
+}
+
+/// Whether the word is the name of an attribute: it stands behind `#` and `[`.
+fn names_attribute(words: &[Word], place: usize) -> bool
+    ensures { result ≡ names_attribute words.now place }
+{
+    is_name_at(words, place) && is_square_before(words, place) && is_hash_before(words, place)
+}
+
+/// How many brackets are open behind the word, and whether an `impl` is.
+fn past_word(kind: WordKind, depth: usize, inside: bool) -> (usize, bool)
+    requires { depth < 2 ^ 63 }
+    ensures state { result ≡ past_word kind (depth, inside) }
+    ensures small { result.0 ≤ depth + 1 }
+{
+    match kind {
+        WordKind::Open(_) => (depth + 1, inside),
+        WordKind::Close(Bracket::Brace) => (depth.saturating_sub(1), inside && 1 < depth),
+        WordKind::Close(_) => (depth.saturating_sub(1), inside),
+        WordKind::Keyword(Keyword::Impl) => (depth, inside || depth < 1),
+        _ => (depth, inside),
+    }
+}
+
+/// Whether an `impl` stands open behind the words: its last brace has not come.
+fn is_in_impl(words: &[Word]) -> bool
+    requires { length words.now < 2 ^ 32 }
+    ensures { result ≡ is_in_impl words.now }
+{
+    let mut depth = 0;
+    let mut inside = false;
+    for word in words {
+        let (deeper, still) = past_word(word.kind, depth, inside);
+        depth = deeper;
+        inside = still;
+    }
+    inside
+}
+
+/// Whether the word is `type` outside an `impl`.
+fn defines_type(words: &[Word], place: usize) -> bool
+    requires place { place ≤ length words.now }
+    requires few { length words.now < 2 ^ 32 }
+    ensures { result ≡ defines_type words.now place }
+{
+    is_type_at(words, place) && !is_in_impl(&words[..place])
+}
+
+/// The code of the refusal at that word, or at the end: E04 where a limit is passed; else E20 where the word begins a
+/// construct of Rust that the language leaves out; else E03.
+pub fn code_at(limited: bool, words: &[Word], place: usize) -> Code
+    requires place { place ≤ length words.now }
+    requires few { length words.now < 2 ^ 32 }
+    ensures { result ≡ code_at limited words.now place }
+{
+    if limited {
+        Code::E04
+    } else if is_left_out_at(words, place)
+        || names_attribute(words, place)
+        || defines_type(words, place)
+    {
+        Code::E20
+    } else {
+        Code::E03
+    }
+}
