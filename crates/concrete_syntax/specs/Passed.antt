@@ -1,12 +1,14 @@
 -- What the verifier passes over: `use` lines, `pub`, and attributes that say nothing of what a program does. To it they are white space.
-use Rattle.std.specs.Prelude.{◌≡◌, ℕ, zero, suc, ◌-◌, Bool, true, false, ◌&&◌, nat_lt, nat_le, List, [], ◌∷◌, if◌then◌else◌}
+use Rattle.std.specs.Prelude.{◌≡◌, ℕ, zero, suc, ◌-◌, ◌==◌, Bool, true, false, ◌&&◌, nat_lt, nat_le, List, [], ◌∷◌, Option, None, Some, if◌then◌else◌}
 use Rattle.text_core.specs.declared.span.Span.{Span}
 use Rattle.concrete_syntax.specs.declared.event.Event.{Event}
 use Rattle.concrete_syntax.specs.declared.event.Event.TheVariants as V
 use Rattle.concrete_syntax.specs.declared.item_rule.ItemRule.TheVariants as RI
 use Rattle.concrete_syntax.specs.declared.rule.Rule.{Rule}
 use Rattle.concrete_syntax.specs.declared.rule.Rule.TheVariants as R
-use Rattle.concrete_syntax.specs.Parsed.{SpellsSource}
+use Rattle.concrete_syntax.specs.declared.word.Word.{Word}
+use Rattle.concrete_syntax.specs.Begins.{begins_attribute}
+use Rattle.concrete_syntax.specs.Parsed.{SpellsSource, is_name, is_square}
 
 abbrev pub is_passed : Rule → Bool
 is_passed (R.Item RI.InnerAttribute) = true
@@ -52,3 +54,19 @@ pub record IsPlain (bytes plain : List ℕ) : Type 0 where
   pub phrases : List Event
   pub spelled : SpellsSource bytes phrases
   pub blank : plain ≡ blank_all (passed_from 0 phrases) bytes
+
+-- ---- attributes
+
+-- the `#` of the attribute that begins here, where its name begins at this offset
+abbrev pub attribute_here : List Word → ℕ → Option Span
+attribute_here (hash ∷ square ∷ name ∷ words) start = if begins_attribute hash.kind && is_square square.kind && is_name name.kind && (name.span.start == start) then Some hash.span else None
+attribute_here _ start = None
+
+abbrev pub first_of : Option Span → Option Span → Option Span
+first_of (Some span) other = Some span
+first_of None other = other
+
+-- the `#` of the first attribute whose name begins at this offset
+abbrev pub attribute_at : List Word → ℕ → Option Span
+attribute_at [] start = None
+attribute_at (word ∷ words) start = first_of (attribute_here (word ∷ words) start) (attribute_at words start)

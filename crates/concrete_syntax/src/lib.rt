@@ -2,6 +2,7 @@
 #![tactic(auto)]
 
 mod act;
+mod attribute;
 mod begins;
 mod choices;
 mod event;
@@ -41,6 +42,7 @@ mod word_rule;
 mod word_tables;
 mod words;
 
+pub use attribute::attribute_at;
 pub use event::Event;
 pub use expr_rule::ExprRule;
 pub use fault::ParseFault;

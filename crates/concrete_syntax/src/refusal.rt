@@ -38,7 +38,7 @@ fn is_left_out(kind: WordKind) -> bool
 }
 
 /// A name, quoted or not.
-fn is_name(kind: WordKind) -> bool
+pub fn is_name(kind: WordKind) -> bool
     ensures { result ≡ is_name kind }
 {
     match kind {
@@ -52,7 +52,7 @@ fn is_name(kind: WordKind) -> bool
     }
 }
 
-fn is_square(kind: WordKind) -> bool
+pub fn is_square(kind: WordKind) -> bool
     ensures { result ≡ is_square kind }
 {
     match kind {

@@ -28,21 +28,57 @@ fn texts_are_spelled_or_refused_where_they_cannot_continue(rt: HostRuntime) {
     let cases = [
         (b"".as_slice(), None),
         (b"fn f() {}".as_slice(), None),
-        (b"#![allow(x)]\n#![feature(a)]\nuse creusot_contracts::*;\nuse std::mem;\npub fn f() {}".as_slice(), None),
-        (b"fn f(a: i32, b: i32, c: i32) -> bool { a < b < c }".as_slice(), Some((Code::E03, 45, 46))),
-        (b"fn f() -> i32 { ((((((((((((((((((((((((((((((((((((((((((((((((((((((((((((((((".as_slice(), Some((Code::E04, 79, 80))),
-        (b"pub(crate) struct S { pub a: u32, b: Box<T> } struct T(pub u32, (u8,)); struct U;".as_slice(), None),
-        (b"enum List<'a, T: Copy + View> { Nil, Cons(&'a mut T, Box<List<'a, T>>), R { x: u32 } }".as_slice(), None),
-        (b"trait Rank { #[logic] fn rank(self) -> Int; #[law] #[ensures(a@ >= 0)] fn l(a: u32); fn g(&self) -> u32; }".as_slice(), None),
-        (b"impl Rank for S { type ViewTy = Int; #[logic] fn rank(self) -> Int { pearlite! { self.a@ + 1 } } pub fn g(&self) -> u32 { self.a } }".as_slice(), None),
-        (b"#[logic] #[ensures(result >= 0)] fn len(l: List) -> Int { match l { List::Nil => 0, List::Cons(v, t) => 1 + len(*t) } }".as_slice(), None),
-        (b"#[requires((*x)@ + n@ <= 4294967295)] fn add(x: &mut u32, n: u32) { let old = snapshot!(*x); let mut i: u32 = 0; #[invariant(i@ <= n@ && (*x)@ == (*old)@ + i@)] while i < n { *x += 1; i += 1; } }".as_slice(), None),
-        (b"fn f() { let g = #[requires(x@ < 3)] |x: u32| -> u32 { x + 1 }; g(2); let h = move || 3; match x { A => 1, B(y) => { 2 } C { z, .. } => if a { 1 } else { 2 }, _ => return, } }".as_slice(), None),
-        (b"fn f() { if S { a: 1 } == s {} }".as_slice(), Some((Code::E03, 17, 18))),
+        (
+            b"#![allow(x)]\n#![feature(a)]\nuse creusot_contracts::*;\nuse std::mem;\npub fn f() {}".as_slice(),
+            None,
+        ),
+        (
+            b"fn f(a: i32, b: i32, c: i32) -> bool { a < b < c }".as_slice(),
+            Some((Code::E03, 45, 46)),
+        ),
+        (
+            b"fn f() -> i32 { ((((((((((((((((((((((((((((((((((((((((((((((((((((((((((((((((".as_slice(),
+            Some((Code::E04, 79, 80)),
+        ),
+        (
+            b"pub(crate) struct S { pub a: u32, b: Box<T> } struct T(pub u32, (u8,)); struct U;".as_slice(),
+            None,
+        ),
+        (
+            b"enum List<'a, T: Copy + View> { Nil, Cons(&'a mut T, Box<List<'a, T>>), R { x: u32 } }".as_slice(),
+            None,
+        ),
+        (
+            b"trait Rank { #[logic] fn rank(self) -> Int; #[law] #[ensures(a@ >= 0)] fn l(a: u32); fn g(&self) -> u32; }".as_slice(),
+            None,
+        ),
+        (
+            b"impl Rank for S { type ViewTy = Int; #[logic] fn rank(self) -> Int { pearlite! { self.a@ + 1 } } pub fn g(&self) -> u32 { self.a } }".as_slice(),
+            None,
+        ),
+        (
+            b"#[logic] #[ensures(result >= 0)] fn len(l: List) -> Int { match l { List::Nil => 0, List::Cons(v, t) => 1 + len(*t) } }".as_slice(),
+            None,
+        ),
+        (
+            b"#[requires((*x)@ + n@ <= 4294967295)] fn add(x: &mut u32, n: u32) { let old = snapshot!(*x); let mut i: u32 = 0; #[invariant(i@ <= n@ && (*x)@ == (*old)@ + i@)] while i < n { *x += 1; i += 1; } }".as_slice(),
+            None,
+        ),
+        (
+            b"fn f() { let g = #[requires(x@ < 3)] |x: u32| -> u32 { x + 1 }; g(2); let h = move || 3; match x { A => 1, B(y) => { 2 } C { z, .. } => if a { 1 } else { 2 }, _ => return, } }".as_slice(),
+            None,
+        ),
+        (
+            b"fn f() { if S { a: 1 } == s {} }".as_slice(),
+            Some((Code::E03, 17, 18)),
+        ),
         (b"fn f() { if (S { a: 1 }) == s {} }".as_slice(), None),
         (b"fn f() { S { a: 1 }; }".as_slice(), None),
         (b"fn f() { let x = 1 as u8 < 2; }".as_slice(), None),
-        (b"fn f() { x::<u32>::new(); Vec::<T>::new(3); a::b::c::<T>(x); <T as Tr>::f(x); x.m::<T>(1).0.y(2)(3); }".as_slice(), None),
+        (
+            b"fn f() { x::<u32>::new(); Vec::<T>::new(3); a::b::c::<T>(x); <T as Tr>::f(x); x.m::<T>(1).0.y(2)(3); }".as_slice(),
+            None,
+        ),
         (b"fn f() { let x; }".as_slice(), Some((Code::E03, 14, 15))),
         (b"fn f() { unsafe {} }".as_slice(), Some((Code::E20, 9, 15))),
         (b"fn f() { vec!(1) }".as_slice(), Some((Code::E20, 9, 12))),
@@ -54,7 +90,10 @@ fn texts_are_spelled_or_refused_where_they_cannot_continue(rt: HostRuntime) {
         (b"mod m {}".as_slice(), Some((Code::E20, 0, 3))),
         (b"use foo::bar;".as_slice(), Some((Code::E20, 0, 3))),
         (b"use;".as_slice(), Some((Code::E03, 3, 4))),
-        (b"fn f() { for i in 0..3 {} }".as_slice(), Some((Code::E20, 9, 12))),
+        (
+            b"fn f() { for i in 0..3 {} }".as_slice(),
+            Some((Code::E20, 9, 12)),
+        ),
         (b"fn f() { x? }".as_slice(), Some((Code::E20, 10, 11))),
         (b"fn f() { |x| x }".as_slice(), Some((Code::E20, 11, 12))),
         (b"fn f() { &&x }".as_slice(), Some((Code::E03, 9, 11))),
@@ -63,35 +102,86 @@ fn texts_are_spelled_or_refused_where_they_cannot_continue(rt: HostRuntime) {
         (b"fn f() { ; }".as_slice(), Some((Code::E03, 9, 10))),
         (b"fn f() { {}; }".as_slice(), None),
         (b"fn f() { {};; }".as_slice(), Some((Code::E03, 12, 13))),
-        (b"#[requires(forall<i: Int> 0 <= i ==> i < n@ ==> exists<j: u32> j@ == i)] fn f(n: u32) {}".as_slice(), None),
-        (b"#[ensures(result == x && MutRef(a, b) == c)] fn f() {}".as_slice(), None),
-        (b"#[ensures(result(3))] fn f() {}".as_slice(), Some((Code::E03, 16, 17))),
-        (b"#[ensures(x as u8)] fn f() {}".as_slice(), Some((Code::E03, 12, 14))),
-        (b"fn f() { match x { a if b => 1 } }".as_slice(), Some((Code::E03, 21, 23))),
-        (b"fn f<F: Fn(u32) -> bool + Copy>(g: F) where F: FnOnce(u8), 'a: 'b {}".as_slice(), None),
-        (b"fn f() { if let Some(p) = a && b {} while let x = y {} }".as_slice(), None),
-        (b"fn f() { if a && let x = y {} }".as_slice(), Some((Code::E03, 17, 20))),
-        (b"fn f() { x = y = z; x += 1; a.b += c; *p = 3; }".as_slice(), None),
+        (
+            b"#[requires(forall<i: Int> 0 <= i ==> i < n@ ==> exists<j: u32> j@ == i)] fn f(n: u32) {}".as_slice(),
+            None,
+        ),
+        (
+            b"#[ensures(result == x && MutRef(a, b) == c)] fn f() {}".as_slice(),
+            None,
+        ),
+        (
+            b"#[ensures(result(3))] fn f() {}".as_slice(),
+            Some((Code::E03, 16, 17)),
+        ),
+        (
+            b"#[ensures(x as u8)] fn f() {}".as_slice(),
+            Some((Code::E03, 12, 14)),
+        ),
+        (
+            b"fn f() { match x { a if b => 1 } }".as_slice(),
+            Some((Code::E03, 21, 23)),
+        ),
+        (
+            b"fn f<F: Fn(u32) -> bool + Copy>(g: F) where F: FnOnce(u8), 'a: 'b {}".as_slice(),
+            None,
+        ),
+        (
+            b"fn f() { if let Some(p) = a && b {} while let x = y {} }".as_slice(),
+            None,
+        ),
+        (
+            b"fn f() { if a && let x = y {} }".as_slice(),
+            Some((Code::E03, 17, 20)),
+        ),
+        (
+            b"fn f() { x = y = z; x += 1; a.b += c; *p = 3; }".as_slice(),
+            None,
+        ),
         (b"fn f() -> u32 { return 3; }".as_slice(), None),
         (b"fn f() { let f = |x: u32| x + 1; }".as_slice(), None),
         (b"fn f() { #[invariant(a)] while x {} 1 }".as_slice(), None),
-        (b"fn f() { #[requires(a)] |x: u32| -> u32 { x } (3); }".as_slice(), None),
-        (b"fn f() { panic!(\"a\"); unreachable!(); proof_assert!(x == y); }".as_slice(), None),
+        (
+            b"fn f() { #[requires(a)] |x: u32| -> u32 { x } (3); }".as_slice(),
+            None,
+        ),
+        (
+            b"fn f() { panic!(\"a\"); unreachable!(); proof_assert!(x == y); }".as_slice(),
+            None,
+        ),
         (b"fn f() { break; continue }".as_slice(), None),
         (b"impl f32 {}".as_slice(), Some((Code::E20, 5, 8))),
         (b"impl<T> S<T> where T: A { }".as_slice(), None),
         (b"impl Tr for &S {}".as_slice(), None),
         (b"fn f(x: Self::ViewTy, y: Self) {}".as_slice(), None),
-        (b"fn f(x: Self::Foo) {}".as_slice(), Some((Code::E20, 12, 14))),
+        (
+            b"fn f(x: Self::Foo) {}".as_slice(),
+            Some((Code::E20, 12, 14)),
+        ),
         (b"fn f();".as_slice(), Some((Code::E03, 6, 7))),
         (b"#[law] fn f();".as_slice(), None),
-        (b"fn pearlite(result: u32) -> u32 { let forall = result; panic }".as_slice(), Some((Code::E03, 61, 62))),
-        (b"#[logic] fn f() -> Int { pearlite }".as_slice(), Some((Code::E03, 34, 35))),
+        (
+            b"fn pearlite(result: u32) -> u32 { let forall = result; panic }".as_slice(),
+            Some((Code::E03, 61, 62)),
+        ),
+        (
+            b"#[logic] fn f() -> Int { pearlite }".as_slice(),
+            Some((Code::E03, 34, 35)),
+        ),
         (b"#[logic] fn f() -> Int { x + pearlite }".as_slice(), None),
-        (b"fn f() { let S { a .. } = s; let (a, (b,)) = t; let -1 = x; }".as_slice(), None),
+        (
+            b"fn f() { let S { a .. } = s; let (a, (b,)) = t; let -1 = x; }".as_slice(),
+            None,
+        ),
         (b"fn f() { a..b }".as_slice(), Some((Code::E20, 10, 12))),
-        (b"fn f(x: &'static u8) {}".as_slice(), Some((Code::E20, 9, 16))),
-        (b"fn f() { 'a: loop {} }".as_slice(), Some((Code::E03, 9, 11))),
+        (
+            b"fn f(x: &'static u8) {}".as_slice(),
+            Some((Code::E20, 9, 16)),
+        ),
+        (
+            b"fn f() { 'a: loop {} }".as_slice(),
+            Some((Code::E03, 9, 11)),
+        ),
     ];
     for (text, refusal) in cases {
         assert!(rt; is_answered(rt.alloc(), text, refusal));
@@ -127,7 +217,8 @@ fn chains_have_at_most_256_operators(rt: HostRuntime) -> Result<(), Fail> {
 fn what_is_passed_over_is_blank(rt: HostRuntime) {
     let text = b"#![allow(a)]\nuse std::mem; pub fn f() { #[inline] loop {} }";
     let plain = match plain_source(rt.alloc(), text) {
-        Ok(plain) => plain.as_slice() == b"            \n                  fn f() {           loop {} }",
+        Ok(plain) => plain.as_slice()
+            == b"            \n                  fn f() {           loop {} }".as_slice(),
         Err(_) => false,
     };
     assert!(rt; plain);
