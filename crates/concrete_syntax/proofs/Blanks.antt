@@ -1,7 +1,6 @@
 -- Spaces in a part of the bytes, one byte more at a time.
-use Rattle.std.proofs.Common.{◌≡◌, ℕ, zero, suc, ◌+◌, ◌<◌, ◌≤◌, Bool, true, false, ◌&&◌, nat_le, nat_lt, min, max, List, [], ◌∷◌, ◌++◌, length, drop, get_or, refl, sym, ap, subst, ◌∙◌, if◌then◌else◌, slice_set, append_assoc, drop-cons, add-one, arith}
+use Rattle.std.proofs.Common.{◌≡◌, ℕ, zero, suc, ◌+◌, ◌<◌, ◌≤◌, true, false, ◌&&◌, nat_le, nat_lt, min, max, List, [], ◌∷◌, length, refl, sym, ap, subst, ◌∙◌, if◌then◌else◌, slice_set, add-one, arith}
 use Rattle.text_core.specs.declared.span.Span.{Span}
-use Rattle.concrete_syntax.specs.declared.event.Event.{Event}
 use Rattle.concrete_syntax.specs.Passed.{covers, blank_from, blank_all}
 
 abbrev pub part : ℕ → ℕ → Span

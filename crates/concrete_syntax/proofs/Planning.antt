@@ -1,5 +1,5 @@
 -- How each nonterminal is brought to an end, and which words go on with it.
-use Rattle.std.specs.Prelude.{ℕ, zero, suc, Bool, true, false, not, ◌||◌, List, [], ◌∷◌, map, None}
+use Rattle.std.specs.Prelude.{ℕ, zero, suc, Bool, true, false, not, ◌||◌, List, [], ◌∷◌, map}
 use Rattle.token_grammar.specs.Checks.{passes_all}
 use Rattle.token_grammar.specs.Tables.{Plan}
 use Rattle.concrete_syntax.specs.declared.word.Word.{Word}

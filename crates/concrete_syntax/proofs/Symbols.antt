@@ -1,5 +1,5 @@
 -- The symbols of a rule by number.
-use Rattle.std.proofs.Common.{◌≡◌, ℕ, zero, suc, ◌<◌, ◌≤◌, List, [], ◌∷◌, length, Some, None, refl, arith}
+use Rattle.std.proofs.Common.{◌≡◌, ℕ, zero, suc, ◌≤◌, List, [], ◌∷◌, length, Some, None, refl, arith}
 use Rattle.token_grammar.specs.Grammar.{Symbol as GrammarSymbol, terminal, nonterminal}
 use Rattle.concrete_syntax.specs.declared.kinds.WordKind.{WordKind}
 use Rattle.concrete_syntax.specs.declared.phrases.Nonterminal.{Nonterminal}

@@ -1,11 +1,10 @@
 -- The tokens of the lexer as words.
-use Rattle.std.proofs.Common.{◌≡◌, ℕ, suc, zero, ◌+◌, ◌<◌, ◌≤◌, List, [], ◌∷◌, ◌++◌, length, take, drop, get_or, Option, Some, None, Result, Ok, Err, refl, sym, ap, subst, ◌∙◌, MatchOption, append_assoc, drop-cons, add-one, arith}
+use Rattle.std.proofs.Common.{◌≡◌, ℕ, suc, zero, ◌+◌, ◌<◌, List, [], ◌∷◌, ◌++◌, length, drop, get_or, Option, Some, None, Result, Err, refl, sym, ap, subst, ◌∙◌, MatchOption, append_assoc, drop-cons, add-one, arith}
 use Rattle.std.specs.Prelude.{slice_get, IfSome}
 use Rattle.std.specs.Str.{IsUtf8}
-use Rattle.text_core.specs.declared.span.Span.{Span}
 use Rattle.text_core.specs.declared.refusal.SourceError.{SourceError}
 use Rattle.rs_tokens.specs.declared.token.Token.{Token}
-use Rattle.rs_tokens.specs.Reading.{Gives, HasGiven, HasEnded, HasTokens, AreTokens, IsNoText, IsBadToken}
+use Rattle.rs_tokens.specs.Reading.{Gives, HasGiven, HasEnded, AreTokens, IsNoText, IsBadToken}
 use Rattle.rs_tokens.proofs.OneReading.{one_list, given_whole, given_refused}
 use Rattle.concrete_syntax.specs.declared.kinds.WordKind.{WordKind}
 use Rattle.concrete_syntax.specs.declared.word.Word.{Word}

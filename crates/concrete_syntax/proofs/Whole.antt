@@ -1,7 +1,6 @@
 -- From one reading to what the parser promises.
-use Rattle.std.specs.Prelude.{◌≡◌, ℕ, suc, Bool, true, false, List, [], ◌∷◌, ◌++◌, ◌⊎◌, ◌≤◌, ◌<◌, length, drop, None, IfOk, IfErr}
-use Rattle.std.proofs.Common.{refl, sym, ◌∙◌, ap, subst, arith, inl, inr, drop-cons, drop_of_length-le, Result, Ok, Err, get_or}
-use Rattle.text_core.specs.declared.refusal.SourceError.{SourceError}
+use Rattle.std.specs.Prelude.{◌≡◌, ℕ, suc, Bool, true, false, List, [], ◌∷◌, ◌≤◌, ◌<◌, length, drop, IfOk, IfErr}
+use Rattle.std.proofs.Common.{refl, sym, ◌∙◌, subst, arith, inl, inr, drop-cons, drop_of_length-le, Result, Ok, Err, get_or}
 use Rattle.token_grammar.specs.Reads.{ok, Reads}
 use Rattle.token_grammar.proofs.Facts.{refused, limited, left_over}
 use Rattle.token_grammar.proofs.Exact.{sound, complete}
@@ -13,11 +12,10 @@ use Rattle.concrete_syntax.specs.declared.kinds.WordKind.TheVariants as K
 use Rattle.concrete_syntax.specs.declared.phrases.Nonterminal.{Nonterminal}
 use Rattle.concrete_syntax.specs.declared.phrases.Nonterminal.TheVariants as N
 use Rattle.concrete_syntax.specs.declared.phrases.ItemPhrase.TheVariants as NI
-use Rattle.concrete_syntax.specs.declared.reading.Stop.{Stop}
-use Rattle.concrete_syntax.specs.declared.reading.Stop.TheVariants.{Refused, NoMemory}
+use Rattle.concrete_syntax.specs.declared.reading.Stop.TheVariants.{Refused}
 use Rattle.concrete_syntax.specs.declared.word.Word.{Word}
 use Rattle.concrete_syntax.specs.Answer.{Answer}
-use Rattle.concrete_syntax.specs.Parsed.{SpellsPhrases, SpellsSource, refusal_at, Offends, IsSyntaxError, IsPhraseError, SpellNone, HasPhraseError, IsParseError, SpellsNone}
+use Rattle.concrete_syntax.specs.Parsed.{SpellsPhrases, SpellsSource, refusal_at, IsSyntaxError, IsPhraseError, SpellNone, IsParseError, SpellsNone}
 use Rattle.concrete_syntax.specs.Sources.{sources}
 use Rattle.concrete_syntax.specs.Words.{AreWords, IsWordError}
 use Rattle.concrete_syntax.proofs.Heads.{is_exact}

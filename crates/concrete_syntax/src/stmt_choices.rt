@@ -35,15 +35,13 @@ pub fn choose_statements(kind: WordKind) -> Option<Rule>
         Some(rule) => Some(rule),
         None => if begins_blocklike(kind) {
             Some(Rule::Stmt(StmtRule::BlocklikeStatement))
+        } else if begins_attribute(kind) {
+            Some(Rule::Stmt(StmtRule::AttributedStatement))
         } else {
-            if begins_attribute(kind) {
-                Some(Rule::Stmt(StmtRule::AttributedStatement))
-            } else {
-                when(
-                    begins_operand(Mode::Start, kind),
-                    Rule::Stmt(StmtRule::ExprStatement),
-                )
-            }
+            when(
+                begins_operand(Mode::Start, kind),
+                Rule::Stmt(StmtRule::ExprStatement),
+            )
         },
     }
 }
@@ -247,15 +245,13 @@ pub fn choose_arm_body(kind: WordKind) -> Option<Rule>
 {
     if begins_blocklike(kind) {
         Some(Rule::Stmt(StmtRule::BlocklikeArm))
+    } else if begins_attribute(kind) {
+        Some(Rule::Stmt(StmtRule::AttributedArm))
     } else {
-        if begins_attribute(kind) {
-            Some(Rule::Stmt(StmtRule::AttributedArm))
-        } else {
-            when(
-                begins_operand(Mode::Start, kind),
-                Rule::Stmt(StmtRule::ExprArm),
-            )
-        }
+        when(
+            begins_operand(Mode::Start, kind),
+            Rule::Stmt(StmtRule::ExprArm),
+        )
     }
 }
 

@@ -1,4 +1,4 @@
-use Rattle.std.proofs.Common.{◌≡◌, ℕ, nat_eq, IsTrue, arith, refl, sym, ap, ◌∙◌}
+use Rattle.std.proofs.Common.{◌≡◌, ℕ, nat_eq, IsTrue, arith, sym, ap, ◌∙◌}
 use Rattle.concrete_syntax.specs.Listing.{number_of}
 use Rattle.concrete_syntax.proofs.Listed.{one_kind}
 use Rattle.concrete_syntax.proofs.numbers.is_kind.Goals as goal

@@ -1,4 +1,4 @@
-use Rattle.std.proofs.Common.{◌≡◌, min, max, length, refl, sym, ◌∙◌, arith}
+use Rattle.std.proofs.Common.{sym, ◌∙◌, arith}
 use Rattle.concrete_syntax.proofs.Blanks.{empty_part, one_more_space, whole_part}
 use Rattle.concrete_syntax.proofs.passed.blank.Goals as goal
 

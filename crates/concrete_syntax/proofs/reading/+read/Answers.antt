@@ -1,4 +1,4 @@
-use Rattle.std.proofs.Common.{◌≡◌, true, false, true≢false, length, drop, ℕ, ◌+◌, ◌-◌, ◌*◌, ◌<◌, [], ◌∷◌, ◌++◌, Some, None, refl, sym, ap, ◌∙◌, inl, inr, arith, add-one, pos}
+use Rattle.std.proofs.Common.{◌≡◌, true, false, true≢false, length, drop, ℕ, ◌+◌, ◌-◌, ◌*◌, ◌<◌, [], ◌∷◌, ◌++◌, Some, None, refl, sym, ap, ◌∙◌, inl, inr, arith, add-one}
 use Rattle.token_grammar.specs.Grammar.{next_kind}
 use Rattle.token_grammar.specs.Reads.{refuse, finish, pass}
 use Rattle.concrete_syntax.specs.declared.rule.Symbol.TheVariants as S

@@ -1,5 +1,4 @@
 use Rattle.concrete_syntax.proofs.Tokens.{one_more_word}
-use Rattle.std.proofs.Common.{arith}
 use Rattle.concrete_syntax.proofs.words.words_from.Goals as goal
 
 pub loop-at-preserved : goal.loop-at-preserved
