@@ -11,6 +11,12 @@ use Rattle.mir_ir.specs.declared.body.Initialised.{Initialised}
 use Rattle.wp_gen.specs.Paths.{HasPaths, HasMorePaths}
 use Rattle.wp_gen.specs.Walk.{AreObligations}
 use Rattle.prophecy_sim.specs.Programs as sim
+use Rattle.concrete_syntax.specs.declared.event.Event.{Event}
+use Rattle.concrete_syntax.specs.declared.fault.ParseFault.TheVariants as whole_errors
+use Rattle.concrete_syntax.specs.Parsed as whole
+use Rattle.concrete_syntax.specs.declared.word.Word.{Word}
+use Rattle.concrete_syntax.specs.Passed.{IsPlain}
+use Rattle.concrete_syntax.specs.Words.{AreWords}
 use Rattle.rs_syntax.specs.declared.function.Function.{Function}
 use Rattle.rs_syntax.specs.declared.fault.PassError.TheVariants as errors
 use Rattle.rs_syntax.specs.Parsed.{SpellsSource, IsParseError, HasFunctionsError}
@@ -21,6 +27,7 @@ use Rattle.verify_core.specs.declared.fault.Refusal.{Refusal}
 use Rattle.verify_core.specs.declared.fault.Refusal.TheVariants as refusals
 use Rattle.verify_core.specs.declared.goals.FunctionGoals.{FunctionGoals}
 use Rattle.verify_core.specs.declared.program.Program.{Program}
+use Rattle.verify_core.specs.Refusals.{form_error}
 use Rattle.verify_core.specs.Verdict.{obligations_in}
 
 -- ---- bounds
@@ -39,9 +46,12 @@ most_obligations = 1000000
 
 -- ---- the passes
 
--- the source spells these functions with names of the table, in which `result` has this name
+-- The source is one of the language, and spells these functions with names of the table, in which `result` has this name. What is passed
+-- over stands for white space.
 pub record HasFunctions (source : List ℕ) (table : List (List ℕ)) (functions : List Function) (result : Name) : Type 0 where
-  pub spelled : SpellsSource table source functions
+  pub plain : List ℕ
+  pub is_plain : IsPlain source plain
+  pub spelled : SpellsSource table plain functions
   pub is_result : text_of table result ≡ Some (codes "result")
 
 -- the functions of the source have these names and types
@@ -108,15 +118,18 @@ pub record IsPrepared (source : List ℕ) (p : Program) : Type 0 where
 
 -- ---- refused sources
 
--- the source is refused for this reason, by its tokens and their order, or by names and types
+-- The source is refused for this reason: it is none of the language, by its tokens and their order; or it has a form that is not built, at
+-- the first word that cannot continue a source of the built forms, or at the `#` of the attribute that it names; or by names and types.
 pub data IsRefused (source : List ℕ) (error : SourceError) : Type 0 where
-  by_syntax : {table : List (List ℕ)} → IsParseError table source (errors.Source error) → ((functions : List Function) → SpellsSource table source functions → ⊥) → IsRefused source error
+  by_grammar : whole.IsParseError source (whole_errors.Source error) → ((phrases : List Event) → whole.SpellsSource source phrases → ⊥) → IsRefused source error
+  by_form : {table : List (List ℕ)} {first : SourceError} (plain : List ℕ) (words : List Word) → IsPlain source plain → IsParseError table plain (errors.Source first) → ((functions : List Function) → SpellsSource table plain functions → ⊥)
+      → AreWords source words → error ≡ form_error words first → IsRefused source error
   by_types : {table : List (List ℕ)} {functions : List Function} {result : Name} → HasFunctions source table functions result → checked result functions ≡ Err error → IsRefused source error
 
 -- a quantity of the source is past its bound
 pub data IsPastLimit (source : List ℕ) : Limit → Type 0 where
   bytes : most_bytes < length source → IsPastLimit source (record { kind = SourceBytes; counted = length source; bound = most_bytes })
-  functions : {table : List (List ℕ)} {limit : Limit} → HasFunctionsError table source (errors.Limit limit) → IsPastLimit source limit
+  functions : {table : List (List ℕ)} {limit : Limit} (plain : List ℕ) → IsPlain source plain → HasFunctionsError table plain (errors.Limit limit) → IsPastLimit source limit
   blocks : {table : List (List ℕ)} {typed : TypedProgram} → IsTypedAs source table typed → HasMoreBlocks typed most_blocks → IsPastLimit source (record { kind = Blocks; counted = most_blocks + 1; bound = most_blocks })
   paths : {table : List (List ℕ)} {typed : TypedProgram} {bs : List Body} {cs : List Contract} {gones : List Initialised} → IsTypedAs source table typed → LowerTo table typed.functions bs cs gones → HasManyPaths bs
       → IsPastLimit source (record { kind = Paths; counted = most_paths + 1; bound = most_paths })

@@ -126,10 +126,15 @@ fn sources_are_refused_where_they_fail(rt: HostRuntime) -> Result<(), Fail> {
             b"error E20 8..11 line 1\n".as_slice(),
         ),
         (
-            b"fn f(a: i32) -> bool {\n a < 1 < 2 }",
-            b"error E20 30..31 line 2\n",
+            b"fn f(a: i32, b: i32, c: i32) -> bool { a < b < c }",
+            b"error E03 45..46 line 1\n",
         ),
-        (b"fn f() {", b"error E20 8..8 line 1\n"),
+        (
+            b"fn f() -> i32 { ((((((((((((((((((((((((((((((((((((((((((((((((((((((((((((((((",
+            b"error E04 79..80 line 1\n",
+        ),
+        (b"fn f() {", b"error E03 8..8 line 1\n"),
+        (b"\n#[foo] fn f() {}", b"error E20 3..6 line 2\n"),
         (b"fn f() {} /* a /* b */", b"error E02 10..22 line 1\n"),
         // Names.
         (
@@ -162,6 +167,58 @@ fn sources_are_refused_where_they_fail(rt: HostRuntime) -> Result<(), Fail> {
         let (status, out) = Call::of(source, b"").run(rt.alloc())?;
         assert_eq!(rt; status, 3);
         assert_eq!(rt; out.written(), printed);
+    }
+    Ok(())
+}
+
+#[test]
+fn forms_that_are_not_built_are_refused(rt: HostRuntime) -> Result<(), Fail> {
+    let cases = [
+        (
+            b"struct S;".as_slice(),
+            b"error E20 0..6 line 1\n".as_slice(),
+        ),
+        (b"fn f<T>() {}", b"error E20 4..5 line 1\n"),
+        (b"fn f(x: &u32) {}", b"error E20 8..9 line 1\n"),
+        (b"fn f(x: u32) { match x {} }", b"error E20 15..20 line 1\n"),
+        (b"fn f() { loop {} }", b"error E20 9..13 line 1\n"),
+        (b"fn f(x: u32) { x.y; }", b"error E20 16..17 line 1\n"),
+        (b"fn f() { let (a, b) = 1; }", b"error E20 13..14 line 1\n"),
+        (
+            b"fn f(x: i32) -> u8 { x as u8 }",
+            b"error E20 23..25 line 1\n",
+        ),
+        (b"fn f() { return }", b"error E20 9..15 line 1\n"),
+        // Behind what is passed over, and attributes at their `#`.
+        (b"use std::mem; pub enum E {}", b"error E20 18..22 line 1\n"),
+        (b"#[invariant(true)] fn f() {}", b"error E20 0..1 line 1\n"),
+        (b"#[logic] fn f() -> Int { 1 }", b"error E20 0..1 line 1\n"),
+        (
+            b"fn f() { #[requires(true)] while true {} }",
+            b"error E20 9..10 line 1\n",
+        ),
+        // The whole grammar first.
+        (b"struct S; fn f() { 1 + }", b"error E03 23..24 line 1\n"),
+    ];
+    for (source, printed) in cases {
+        let (status, out) = Call::of(source, b"").run(rt.alloc())?;
+        assert_eq!(rt; status, 3);
+        assert_eq!(rt; out.written(), printed);
+    }
+    Ok(())
+}
+
+#[test]
+fn sources_are_read_in_any_spelling(rt: HostRuntime) -> Result<(), Fail> {
+    let cases = [
+        b"#![allow(unused)]\nuse creusot_contracts::*;\nuse std::mem;\n\n#[requires(x@ < 100)]\n#[inline]\n#[ensures(result@ == x@ + 1)]\npub fn inc(x: i32) -> i32 {\n    x + 1\n}\n".as_slice(),
+        b"/* a /* b */ */ extern crate creusot_contracts; #[doc = \"c\"]\n#[requires(x@<0x64)]#[ensures(result@==x@+1)]pub(crate)fn/**/inc(x:i32,)->i32{(x+1_i32)}// d",
+        b"#[must_use]#[ensures((result@) == (x@ + 1))]\n#[requires(x@ < 100)]\nfn inc(x: i32) -> i32 { ((x) + 1) }",
+    ];
+    for source in cases {
+        let (status, out) = Call::of(source, PROOFS).run(rt.alloc())?;
+        assert_eq!(rt; status, 0);
+        assert_eq!(rt; out.written(), REPORT);
     }
     Ok(())
 }
@@ -405,8 +462,13 @@ fn obligations_are_listed(rt: HostRuntime) -> Result<(), Fail> {
             0,
             b"obligation 1 division 55..56 line 2 quo\n(forall<v1: i32> (forall<v2: i32> ((!(v2@ == 0)) ==> (!(v2@ == 0)))))\nobligation 2 overflow 55..56 line 2 quo\n(forall<v1: i32> (forall<v2: i32> ((!(v2@ == 0)) ==> (!((v1@ == (-2147483648)) && (v2@ == (-1)))))))\n".as_slice(),
         ),
+        (
+            SOURCE,
+            0,
+            b"obligation 1 overflow 78..79 line 3 inc\n(forall<v1: i32> ((v1@ < 100) ==> (((-2147483648) <= (v1@ + 1)) && ((v1@ + 1) <= 2147483647))))\nobligation 2 ensures 32..49 line 2 inc\n(forall<v1: i32> ((v1@ < 100) ==> (forall<v2: i32> ((v2@ == (v1@ + 1)) ==> (v2@ == (v1@ + 1))))))\n",
+        ),
         (b"", 0, b"".as_slice()),
-        (b"fn f() {", 3, b"error E20 8..8 line 1\n".as_slice()),
+        (b"fn f() {", 3, b"error E03 8..8 line 1\n".as_slice()),
     ];
     for (source, want, printed) in cases {
         let call = Call {
