@@ -1,5 +1,5 @@
 -- What the verifier passes over: `use` lines, `pub`, and attributes that say nothing of what a program does. To it they are white space.
-use Rattle.std.specs.Prelude.{◌≡◌, ℕ, zero, suc, ◌-◌, ◌==◌, Bool, true, false, ◌&&◌, nat_lt, nat_le, List, [], ◌∷◌, Option, None, Some, if◌then◌else◌}
+use Rattle.std.specs.Prelude.{◌≡◌, ℕ, zero, suc, ◌-◌, ◌==◌, Bool, true, false, not, ◌&&◌, nat_lt, nat_le, List, [], ◌∷◌, Option, None, Some, if◌then◌else◌}
 use Rattle.text_core.specs.declared.span.Span.{Span}
 use Rattle.concrete_syntax.specs.declared.event.Event.{Event}
 use Rattle.concrete_syntax.specs.declared.event.Event.TheVariants as V
@@ -10,14 +10,24 @@ use Rattle.concrete_syntax.specs.declared.word.Word.{Word}
 use Rattle.concrete_syntax.specs.Begins.{begins_attribute}
 use Rattle.concrete_syntax.specs.Parsed.{SpellsSource, is_name, is_square}
 
-abbrev pub is_passed : Rule → Bool
-is_passed (R.Item RI.InnerAttribute) = true
-is_passed (R.Item (RI.SkippedAttribute b)) = true
-is_passed (R.Item RI.ExprSkippedAttribute) = true
-is_passed (R.Item RI.PublicMark) = true
-is_passed (R.Item (RI.UseItem k)) = true
-is_passed (R.Item (RI.ExternCrate k)) = true
-is_passed _ = false
+-- whether an attribute that is a promise stands before the rest of the item
+abbrev pub promises : Bool → Rule → Bool
+promises promised (R.Item RI.FirstItem) = false
+promises promised (R.Item RI.NextItem) = false
+promises promised (R.Item (RI.Attribute b)) = true
+promises promised (R.Item (RI.LogicMark b)) = true
+promises promised (R.Item (RI.LawMark b)) = true
+promises promised _ = promised
+
+-- a `use` line is passed over where no promise stands before it, which would then belong to the next item
+abbrev pub is_passed : Bool → Rule → Bool
+is_passed promised (R.Item RI.InnerAttribute) = true
+is_passed promised (R.Item (RI.SkippedAttribute b)) = true
+is_passed promised (R.Item RI.ExprSkippedAttribute) = true
+is_passed promised (R.Item RI.PublicMark) = true
+is_passed promised (R.Item (RI.UseItem k)) = not promised
+is_passed promised (R.Item (RI.ExternCrate k)) = not promised
+is_passed promised _ = false
 
 -- how many phrases are open from one that is passed over on
 abbrev pub past_open : ℕ → Bool → ℕ
@@ -30,11 +40,11 @@ passed_word zero span spans = spans
 passed_word (suc n) span spans = span ∷ spans
 
 -- the words inside of phrases that are passed over
-abbrev pub passed_from : ℕ → List Event → List Span
-passed_from n [] = []
-passed_from n (V.Open r ∷ events) = passed_from (past_open n (is_passed r)) events
-passed_from n (V.Word w ∷ events) = passed_word n w.span (passed_from n events)
-passed_from n (V.Close ∷ events) = passed_from (n - 1) events
+abbrev pub passed_from : ℕ → Bool → List Event → List Span
+passed_from n promised [] = []
+passed_from n promised (V.Open r ∷ events) = passed_from (past_open n (is_passed promised r)) (promises promised r) events
+passed_from n promised (V.Word w ∷ events) = passed_word n w.span (passed_from n promised events)
+passed_from n promised (V.Close ∷ events) = passed_from (n - 1) promised events
 
 abbrev pub covers : Span → ℕ → Bool
 covers span i = nat_le span.start i && nat_lt i span.end
@@ -53,7 +63,7 @@ blank_all (span ∷ spans) bytes = blank_all spans (blank_from span 0 bytes)
 pub record IsPlain (bytes plain : List ℕ) : Type 0 where
   pub phrases : List Event
   pub spelled : SpellsSource bytes phrases
-  pub blank : plain ≡ blank_all (passed_from 0 phrases) bytes
+  pub blank : plain ≡ blank_all (passed_from 0 false phrases) bytes
 
 -- ---- attributes
 

@@ -1,7 +1,7 @@
 //! What the verifier passes over: `use` lines, `pub`, and attributes that say nothing of what a program does.
-ghost use Rattle.std.specs.Prelude.{◌≡◌, ◌+◌, ◌≤◌, ◌<◌, ◌^◌, length, IfOk, IfErr};
+ghost use Rattle.std.specs.Prelude.{◌≡◌, false, ◌+◌, ◌≤◌, ◌<◌, ◌^◌, length, IfOk, IfErr};
 ghost use Rattle.concrete_syntax.specs.Parsed.{IsParseError, SpellsNone};
-ghost use Rattle.concrete_syntax.specs.Passed.{is_passed, past_open, passed_from, blank_from, blank_all, IsPlain};
+ghost use Rattle.concrete_syntax.specs.Passed.{promises, is_passed, past_open, passed_from, blank_from, blank_all, IsPlain};
 
 use crate::event::Event;
 use crate::fault::ParseFault;
@@ -11,16 +11,31 @@ use crate::rule::Rule;
 use std::alloc::Global;
 use text_core::{Items, NoMemory, Span};
 
-fn is_passed(rule: Rule) -> bool
-    ensures { result ≡ is_passed rule }
+/// Whether an attribute that is a promise stands before the rest of the item, behind the start of this phrase.
+fn promises(promised: bool, rule: Rule) -> bool
+    ensures { result ≡ promises promised rule }
+{
+    match rule {
+        Rule::Item(ItemRule::FirstItem) => false,
+        Rule::Item(ItemRule::NextItem) => false,
+        Rule::Item(ItemRule::Attribute(_)) => true,
+        Rule::Item(ItemRule::LogicMark(_)) => true,
+        Rule::Item(ItemRule::LawMark(_)) => true,
+        _ => promised,
+    }
+}
+
+/// A `use` line is passed over where no promise stands before it, which would then belong to the next item.
+fn is_passed(promised: bool, rule: Rule) -> bool
+    ensures { result ≡ is_passed promised rule }
 {
     match rule {
         Rule::Item(ItemRule::InnerAttribute) => true,
         Rule::Item(ItemRule::SkippedAttribute(_)) => true,
         Rule::Item(ItemRule::ExprSkippedAttribute) => true,
         Rule::Item(ItemRule::PublicMark) => true,
-        Rule::Item(ItemRule::UseItem(_)) => true,
-        Rule::Item(ItemRule::ExternCrate(_)) => true,
+        Rule::Item(ItemRule::UseItem(_)) => !promised,
+        Rule::Item(ItemRule::ExternCrate(_)) => !promised,
         _ => false,
     }
 }
@@ -42,13 +57,17 @@ fn past_open(opened: usize, passed: bool) -> usize
 
 /// The words inside of phrases that are passed over.
 fn passed_words(alloc: Global, phrases: &[Event]) -> Result<Items<Span>, NoMemory>
-    ensures { IfOk result (λ spans. spans ≡ passed_from 0 phrases.now) }
+    ensures { IfOk result (λ spans. spans ≡ passed_from 0 false phrases.now) }
 {
     let mut spans = Items::new(alloc);
     let mut open = 0;
+    let mut promised = false;
     for event in phrases {
         match event {
-            Event::Open(rule) => open = past_open(open, is_passed(*rule)),
+            Event::Open(rule) => {
+                open = past_open(open, is_passed(promised, *rule));
+                promised = promises(promised, *rule);
+            }
             Event::Word(word) => {
                 if open > 0 {
                     spans.push(word.span)?;
@@ -81,8 +100,8 @@ fn blank_all(alloc: Global, bytes: &[u8], spans: &[Span]) -> Result<Items<u8>, N
     Ok(Items::from_vec(plain))
 }
 
-/// The source with spaces in the place of what is passed over: `use` lines, `pub`, inner attributes, and the attributes `allow`,
-/// `inline`, `must_use` and `doc`. It has as many bytes as the source, so offsets are the same.
+/// The source with spaces in the place of what is passed over: `use` lines before which no promise stands, `pub`, inner attributes,
+/// and the attributes `allow`, `inline`, `must_use` and `doc`. It has as many bytes as the source, so offsets are the same.
 ///
 /// Errors: those of `parse`.
 pub fn plain_source(alloc: Global, bytes: &[u8]) -> Result<Items<u8>, ParseFault>

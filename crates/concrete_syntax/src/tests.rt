@@ -222,4 +222,10 @@ fn what_is_passed_over_is_blank(rt: HostRuntime) {
         Err(_) => false,
     };
     assert!(rt; plain);
+    // A promise before a `use` line does not go on to what stands behind.
+    let kept = match plain_source(rt.alloc(), b"#[requires(a)] pub use std::mem; fn f() {}") {
+        Ok(plain) => plain.as_slice() == b"#[requires(a)]     use std::mem; fn f() {}".as_slice(),
+        Err(_) => false,
+    };
+    assert!(rt; kept);
 }

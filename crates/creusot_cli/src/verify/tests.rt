@@ -197,6 +197,11 @@ fn forms_that_are_not_built_are_refused(rt: HostRuntime) -> Result<(), Fail> {
             b"fn f() { #[requires(true)] while true {} }",
             b"error E20 9..10 line 1\n",
         ),
+        // A promise before a `use` line is none of the function behind it.
+        (
+            b"#[requires(false)] use std::mem; fn f() {}",
+            b"error E20 19..22 line 1\n",
+        ),
         // The whole grammar first.
         (b"struct S; fn f() { 1 + }", b"error E03 23..24 line 1\n"),
     ];
