@@ -1,5 +1,5 @@
 -- The plan fits the grammar: the equations of the tables.
-use Rattle.std.specs.Prelude.{◌≡◌, Bool, true, false, not, cond, [], ◌&&◌, ◌||◌, nat_lt, map}
+use Rattle.std.specs.Prelude.{◌≡◌, ℕ, Bool, true, false, not, cond, List, [], ◌∷◌, ◌&&◌, ◌||◌, nat_lt, map}
 use Rattle.std.proofs.Common.{Some, None, refl, true≢false}
 use Rattle.token_grammar.specs.Tables.{Planned, by_token, short_text, ranked, fits}
 use Rattle.token_grammar.specs.Checks.{PlanComputes}

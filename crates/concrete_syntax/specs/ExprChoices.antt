@@ -162,6 +162,10 @@ choose_operand_bearer l (K.Mark M.Or) = Some (R.Expr (RE.ClosureOperand l))
 choose_operand_bearer l (K.Keyword W.Move) = Some (R.Expr (RE.ClosureOperand l))
 choose_operand_bearer l _ = None
 
+abbrev pub choose_panic_arguments : WordKind → Option Rule
+choose_panic_arguments (K.Open B.Paren) = Some (R.Expr RE.PanicParens)
+choose_panic_arguments _ = None
+
 abbrev pub choose_panic_text : WordKind → Option Rule
 choose_panic_text K.Str = Some (R.Expr RE.PanicString)
 choose_panic_text _ = None
@@ -237,6 +241,7 @@ expr_chosen NE.ExprsNext k = choose_exprs_next k
 expr_chosen (NE.Primary m) k = choose_primary m k
 expr_chosen NE.Returned k = choose_returned k
 expr_chosen (NE.OperandBearer l) k = choose_operand_bearer l k
+expr_chosen NE.PanicArguments k = choose_panic_arguments k
 expr_chosen NE.PanicText k = choose_panic_text k
 expr_chosen (NE.LiteralFields l) k = choose_literal_fields l k
 expr_chosen NE.FieldValues k = choose_field_values k

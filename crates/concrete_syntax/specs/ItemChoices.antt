@@ -74,6 +74,26 @@ choose_expr_attribute (K.Mark M.HashSkip) = Some (R.Item RI.ExprSkippedAttribute
 choose_expr_attribute (K.Mark M.Hash) = Some (R.Item RI.ExprPlainAttribute)
 choose_expr_attribute _ = None
 
+abbrev pub choose_logic_squares : WordKind → Option Rule
+choose_logic_squares (K.Open B.Square) = Some (R.Item RI.LogicInSquares)
+choose_logic_squares _ = None
+
+abbrev pub choose_law_squares : WordKind → Option Rule
+choose_law_squares (K.Open B.Square) = Some (R.Item RI.LawInSquares)
+choose_law_squares _ = None
+
+abbrev pub choose_skipped_squares : WordKind → Option Rule
+choose_skipped_squares (K.Open B.Square) = Some (R.Item RI.SkippedInSquares)
+choose_skipped_squares _ = None
+
+abbrev pub choose_tokens_in_squares : WordKind → Option Rule
+choose_tokens_in_squares (K.Open B.Square) = Some (R.Item RI.AnyInSquares)
+choose_tokens_in_squares _ = None
+
+abbrev pub choose_attribute_squares : WordKind → Option Rule
+choose_attribute_squares (K.Open B.Square) = Some (R.Item RI.AttributeInSquares)
+choose_attribute_squares _ = None
+
 abbrev pub choose_attribute_body : WordKind → Option Rule
 choose_attribute_body (K.Common C.FunctionClause) = Some (R.Item RI.FunctionClause)
 choose_attribute_body (K.Common C.Invariant) = Some (R.Item RI.InvariantClause)
@@ -84,6 +104,10 @@ choose_attribute_body _ = None
 abbrev pub choose_term_in_parens : WordKind → Option Rule
 choose_term_in_parens (K.Open B.Paren) = Some (R.Item RI.TermParens)
 choose_term_in_parens _ = None
+
+abbrev pub choose_names_in_parens : WordKind → Option Rule
+choose_names_in_parens (K.Open B.Paren) = Some (R.Item RI.NameParens)
+choose_names_in_parens _ = None
 
 abbrev pub choose_names : WordKind → Option Rule
 choose_names k = when (begins_name k) (R.Item RI.OneName)
@@ -172,6 +196,10 @@ choose_bound_mark _ = None
 
 abbrev pub choose_bound : WordKind → Option Rule
 choose_bound k = or_else (choose_bound_mark k) (when (begins_bound_name k) (R.Item RI.TraitBound))
+
+abbrev pub choose_bound_types : WordKind → Option Rule
+choose_bound_types (K.Open B.Paren) = Some (R.Item RI.BoundTypesInParens)
+choose_bound_types _ = None
 
 abbrev pub choose_where : WordKind → Option Rule
 choose_where (K.Keyword W.Where) = Some (R.Item RI.WhereConditions)
@@ -325,8 +353,14 @@ item_chosen NI.Source k = choose_source k
 item_chosen NI.Items k = choose_items k
 item_chosen (NI.Bearing b) k = choose_bearing b k
 item_chosen NI.ExprAttribute k = choose_expr_attribute k
+item_chosen NI.LogicSquares k = choose_logic_squares k
+item_chosen NI.LawSquares k = choose_law_squares k
+item_chosen NI.SkippedSquares k = choose_skipped_squares k
+item_chosen NI.TokensInSquares k = choose_tokens_in_squares k
+item_chosen NI.AttributeSquares k = choose_attribute_squares k
 item_chosen NI.AttributeBody k = choose_attribute_body k
 item_chosen NI.TermInParens k = choose_term_in_parens k
+item_chosen NI.NamesInParens k = choose_names_in_parens k
 item_chosen NI.Names k = choose_names k
 item_chosen NI.NamesNext k = choose_names_next k
 item_chosen NI.Visibility k = choose_visibility k
@@ -345,6 +379,7 @@ item_chosen NI.TypeBound k = choose_type_bound k
 item_chosen NI.Bounds k = choose_bounds k
 item_chosen NI.BoundsNext k = choose_bounds_next k
 item_chosen NI.Bound k = choose_bound k
+item_chosen NI.BoundTypes k = choose_bound_types k
 item_chosen NI.Where k = choose_where k
 item_chosen NI.Conditions k = choose_conditions k
 item_chosen NI.ConditionsNext k = choose_conditions_next k

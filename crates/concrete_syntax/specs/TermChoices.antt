@@ -118,6 +118,14 @@ choose_term_primary_mark m _ = None
 abbrev pub choose_term_primary : Mode → WordKind → Option Rule
 choose_term_primary m k = or_else (choose_term_primary_mark m k) (when (begins_term_name m k) (R.Term (RT.PathTerm m)))
 
+abbrev pub choose_term_pair : WordKind → Option Rule
+choose_term_pair (K.Open B.Paren) = Some (R.Term RT.PairInParens)
+choose_term_pair _ = None
+
+abbrev pub choose_predicate_terms : WordKind → Option Rule
+choose_predicate_terms (K.Open B.Paren) = Some (R.Term RT.PredicateInParens)
+choose_predicate_terms _ = None
+
 abbrev pub choose_term_parts : Literals → WordKind → Option Rule
 choose_term_parts l (K.Open B.Paren) = Some (R.Term (RT.TermPathArguments l))
 choose_term_parts L.Allowed (K.Open B.Brace) = Some (R.Term RT.FieldsOfTerm)
@@ -185,6 +193,8 @@ term_chosen NT.TermMemberArguments k = choose_term_member_arguments k
 term_chosen NT.Terms k = choose_terms k
 term_chosen NT.TermsNext k = choose_terms_next k
 term_chosen (NT.TermPrimary m) k = choose_term_primary m k
+term_chosen NT.TermPair k = choose_term_pair k
+term_chosen NT.PredicateTerms k = choose_predicate_terms k
 term_chosen (NT.TermParts l) k = choose_term_parts l k
 term_chosen NT.TermFields k = choose_term_fields k
 term_chosen NT.TermFieldsNext k = choose_term_fields_next k

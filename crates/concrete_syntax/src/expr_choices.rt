@@ -1,6 +1,6 @@
 //! Which rule of a nonterminal the next word begins: expressions.
 ghost use Rattle.std.specs.Prelude.{◌≡◌};
-ghost use Rattle.concrete_syntax.specs.ExprChoices.{choose_expr, choose_assigned, choose_or, choose_or_rest, choose_and, choose_and_rest, choose_comparison, choose_compared, choose_sum, choose_sum_rest, choose_product, choose_product_rest, choose_cast, choose_cast_rest, choose_unary, choose_unary_mark, choose_postfix_rest, choose_member_name, choose_member_name_mark, choose_member_types, choose_member_type_list, choose_member_arguments, choose_exprs, choose_exprs_next, choose_primary, choose_primary_at, choose_primary_mark, choose_returned, choose_operand_bearer, choose_panic_text, choose_literal_fields, choose_field_values, choose_field_values_next, choose_field_expr, choose_closure, choose_bars, choose_closing_bar, choose_closure_params, choose_closure_params_next, choose_closure_body, choose_closure_body_mark, expr_chosen};
+ghost use Rattle.concrete_syntax.specs.ExprChoices.{choose_expr, choose_assigned, choose_or, choose_or_rest, choose_and, choose_and_rest, choose_comparison, choose_compared, choose_sum, choose_sum_rest, choose_product, choose_product_rest, choose_cast, choose_cast_rest, choose_unary, choose_unary_mark, choose_postfix_rest, choose_member_name, choose_member_name_mark, choose_member_types, choose_member_type_list, choose_member_arguments, choose_exprs, choose_exprs_next, choose_primary, choose_primary_at, choose_primary_mark, choose_returned, choose_operand_bearer, choose_panic_arguments, choose_panic_text, choose_literal_fields, choose_field_values, choose_field_values_next, choose_field_expr, choose_closure, choose_bars, choose_closing_bar, choose_closure_params, choose_closure_params_next, choose_closure_body, choose_closure_body_mark, expr_chosen};
 
 use crate::begins::{
     begins_attribute, begins_blocklike, begins_name, begins_operand, begins_operand_name,
@@ -353,6 +353,16 @@ pub fn choose_operand_bearer(literals: Literals, kind: WordKind) -> Option<Rule>
     }
 }
 
+/// The text of a panic in parentheses.
+pub fn choose_panic_arguments(kind: WordKind) -> Option<Rule>
+    ensures { result ≡ choose_panic_arguments kind }
+{
+    match kind {
+        WordKind::Open(Bracket::Paren) => Some(Rule::Expr(ExprRule::PanicParens)),
+        _ => None,
+    }
+}
+
 /// The text of a panic, if it is written.
 pub fn choose_panic_text(kind: WordKind) -> Option<Rule>
     ensures { result ≡ choose_panic_text kind }
@@ -505,6 +515,7 @@ pub fn expr_chosen(goal: ExprPhrase, kind: WordKind) -> Option<Rule>
         ExprPhrase::Primary(mode) => choose_primary(mode, kind),
         ExprPhrase::Returned => choose_returned(kind),
         ExprPhrase::OperandBearer(literals) => choose_operand_bearer(literals, kind),
+        ExprPhrase::PanicArguments => choose_panic_arguments(kind),
         ExprPhrase::PanicText => choose_panic_text(kind),
         ExprPhrase::LiteralFields(literals) => choose_literal_fields(literals, kind),
         ExprPhrase::FieldValues => choose_field_values(kind),

@@ -116,7 +116,7 @@ pub enum ExprRule {
     BreakValue(Mode),
     /// Primary: `continue`
     ContinueValue(Mode),
-    /// Primary: `panic` or `unreachable` `!` `(` PanicText `)`
+    /// Primary: `panic` or `unreachable` `!` PanicArguments
     PanicValue(Mode),
     /// Primary: `proof_assert` or `snapshot` `!` TermInParens
     GhostValue(Mode),
@@ -128,6 +128,8 @@ pub enum ExprRule {
     LoopOperand(Literals),
     /// OperandBearer: Closure
     ClosureOperand(Literals),
+    /// PanicArguments: `(` PanicText `)`
+    PanicParens,
     /// PanicText: a string
     PanicString,
     /// LiteralFields: `{` FieldValues `}`

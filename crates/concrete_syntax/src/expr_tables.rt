@@ -8,9 +8,7 @@ use crate::kinds::{Bracket, Keyword, MacroWord, Mark, WordKind};
 use crate::phrases::{
     ExprPhrase, ItemPhrase, Literals, Mode, Nonterminal, ShapePhrase, StmtPhrase, WordPhrase, inner,
 };
-use crate::production::{
-    Production, chained, five, one, opening, opening_chained, plain, three, two,
-};
+use crate::production::{Production, chained, one, opening, opening_chained, plain, three, two};
 use crate::rule::Symbol;
 
 /// Whether the nonterminal may end where the next word begins no rule of it.
@@ -376,13 +374,11 @@ pub fn expr_production(rule: ExprRule) -> Production
             one(Symbol::Word(WordKind::Keyword(Keyword::Continue))),
             None,
         ),
-        ExprRule::PanicValue(_) => opening(
-            five(
+        ExprRule::PanicValue(_) => plain(
+            three(
                 Symbol::Word(WordKind::Macro(MacroWord::PanicMacro)),
                 Symbol::Word(WordKind::Mark(Mark::Not)),
-                Symbol::Word(WordKind::Open(Bracket::Paren)),
-                Symbol::Of(Nonterminal::Expr(ExprPhrase::PanicText)),
-                Symbol::Word(WordKind::Close(Bracket::Paren)),
+                Symbol::Of(Nonterminal::Expr(ExprPhrase::PanicArguments)),
             ),
             None,
         ),
@@ -408,6 +404,14 @@ pub fn expr_production(rule: ExprRule) -> Production
         ),
         ExprRule::ClosureOperand(literals) => plain(
             one(Symbol::Of(Nonterminal::Expr(ExprPhrase::Closure(literals)))),
+            None,
+        ),
+        ExprRule::PanicParens => opening(
+            three(
+                Symbol::Word(WordKind::Open(Bracket::Paren)),
+                Symbol::Of(Nonterminal::Expr(ExprPhrase::PanicText)),
+                Symbol::Word(WordKind::Close(Bracket::Paren)),
+            ),
             None,
         ),
         ExprRule::PanicString => plain(one(Symbol::Word(WordKind::Str)), None),

@@ -1,6 +1,6 @@
 //! Which rule of a nonterminal the next word begins: items, their parts and attributes.
 ghost use Rattle.std.specs.Prelude.{◌≡◌};
-ghost use Rattle.concrete_syntax.specs.ItemChoices.{choose_source, choose_items, choose_bearing, choose_expr_attribute, choose_attribute_body, choose_term_in_parens, choose_names, choose_names_next, choose_visibility, choose_visibility_scope, choose_item, choose_use_path, choose_function, choose_function_body, choose_logic_term, choose_logic_term_mark, choose_term_in_braces, choose_generics, choose_generic_params, choose_generic_params_mark, choose_generic_params_next, choose_lifetime_bound, choose_type_bound, choose_bounds, choose_bounds_next, choose_bound, choose_bound_mark, choose_where, choose_conditions, choose_conditions_mark, choose_conditions_next, choose_param_list, choose_params, choose_params_mark, choose_params_next, choose_mutable_param_rest, choose_mutable_param_rest_mark, choose_answer, choose_mutability, choose_struct_body, choose_types_in_parens, choose_fields, choose_fields_mark, choose_fields_next, choose_field_types, choose_field_types_mark, choose_field_types_next, choose_variants_in_braces, choose_variants, choose_variants_next, choose_variant_fields, choose_variant_field_list, choose_variant_field_list_next, choose_trait_body, choose_trait_functions, choose_impl_head, choose_impl_head_mark, choose_impl_head_next, choose_impl_body, choose_impl_items, choose_view_type_value, item_chosen};
+ghost use Rattle.concrete_syntax.specs.ItemChoices.{choose_source, choose_items, choose_bearing, choose_expr_attribute, choose_logic_squares, choose_law_squares, choose_skipped_squares, choose_tokens_in_squares, choose_attribute_squares, choose_attribute_body, choose_term_in_parens, choose_names_in_parens, choose_names, choose_names_next, choose_visibility, choose_visibility_scope, choose_item, choose_use_path, choose_function, choose_function_body, choose_logic_term, choose_logic_term_mark, choose_term_in_braces, choose_generics, choose_generic_params, choose_generic_params_mark, choose_generic_params_next, choose_lifetime_bound, choose_type_bound, choose_bounds, choose_bounds_next, choose_bound, choose_bound_mark, choose_bound_types, choose_where, choose_conditions, choose_conditions_mark, choose_conditions_next, choose_param_list, choose_params, choose_params_mark, choose_params_next, choose_mutable_param_rest, choose_mutable_param_rest_mark, choose_answer, choose_mutability, choose_struct_body, choose_types_in_parens, choose_fields, choose_fields_mark, choose_fields_next, choose_field_types, choose_field_types_mark, choose_field_types_next, choose_variants_in_braces, choose_variants, choose_variants_next, choose_variant_fields, choose_variant_field_list, choose_variant_field_list_next, choose_trait_body, choose_trait_functions, choose_impl_head, choose_impl_head_mark, choose_impl_head_next, choose_impl_body, choose_impl_items, choose_view_type_value, item_chosen};
 
 use crate::begins::{
     begins_bound_name, begins_name, begins_term, begins_type, begins_type_name, when,
@@ -113,6 +113,56 @@ pub fn choose_expr_attribute(kind: WordKind) -> Option<Rule>
     }
 }
 
+/// `logic` in brackets.
+pub fn choose_logic_squares(kind: WordKind) -> Option<Rule>
+    ensures { result ≡ choose_logic_squares kind }
+{
+    match kind {
+        WordKind::Open(Bracket::Square) => Some(Rule::Item(ItemRule::LogicInSquares)),
+        _ => None,
+    }
+}
+
+/// `law` in brackets.
+pub fn choose_law_squares(kind: WordKind) -> Option<Rule>
+    ensures { result ≡ choose_law_squares kind }
+{
+    match kind {
+        WordKind::Open(Bracket::Square) => Some(Rule::Item(ItemRule::LawInSquares)),
+        _ => None,
+    }
+}
+
+/// An attribute that is passed over, in brackets.
+pub fn choose_skipped_squares(kind: WordKind) -> Option<Rule>
+    ensures { result ≡ choose_skipped_squares kind }
+{
+    match kind {
+        WordKind::Open(Bracket::Square) => Some(Rule::Item(ItemRule::SkippedInSquares)),
+        _ => None,
+    }
+}
+
+/// Any words in brackets.
+pub fn choose_tokens_in_squares(kind: WordKind) -> Option<Rule>
+    ensures { result ≡ choose_tokens_in_squares kind }
+{
+    match kind {
+        WordKind::Open(Bracket::Square) => Some(Rule::Item(ItemRule::AnyInSquares)),
+        _ => None,
+    }
+}
+
+/// Any other attribute in brackets.
+pub fn choose_attribute_squares(kind: WordKind) -> Option<Rule>
+    ensures { result ≡ choose_attribute_squares kind }
+{
+    match kind {
+        WordKind::Open(Bracket::Square) => Some(Rule::Item(ItemRule::AttributeInSquares)),
+        _ => None,
+    }
+}
+
 /// What stands in the brackets of an attribute.
 pub fn choose_attribute_body(kind: WordKind) -> Option<Rule>
     ensures { result ≡ choose_attribute_body kind }
@@ -132,6 +182,16 @@ pub fn choose_term_in_parens(kind: WordKind) -> Option<Rule>
 {
     match kind {
         WordKind::Open(Bracket::Paren) => Some(Rule::Item(ItemRule::TermParens)),
+        _ => None,
+    }
+}
+
+/// Names in parentheses.
+pub fn choose_names_in_parens(kind: WordKind) -> Option<Rule>
+    ensures { result ≡ choose_names_in_parens kind }
+{
+    match kind {
+        WordKind::Open(Bracket::Paren) => Some(Rule::Item(ItemRule::NameParens)),
         _ => None,
     }
 }
@@ -352,6 +412,16 @@ pub fn choose_bound(kind: WordKind) -> Option<Rule>
     match choose_bound_mark(kind) {
         Some(rule) => Some(rule),
         None => when(begins_bound_name(kind), Rule::Item(ItemRule::TraitBound)),
+    }
+}
+
+/// The types that a closure takes, in parentheses.
+pub fn choose_bound_types(kind: WordKind) -> Option<Rule>
+    ensures { result ≡ choose_bound_types kind }
+{
+    match kind {
+        WordKind::Open(Bracket::Paren) => Some(Rule::Item(ItemRule::BoundTypesInParens)),
+        _ => None,
     }
 }
 
@@ -710,8 +780,14 @@ pub fn item_chosen(goal: ItemPhrase, kind: WordKind) -> Option<Rule>
         ItemPhrase::Items => choose_items(kind),
         ItemPhrase::Bearing(bearer) => choose_bearing(bearer, kind),
         ItemPhrase::ExprAttribute => choose_expr_attribute(kind),
+        ItemPhrase::LogicSquares => choose_logic_squares(kind),
+        ItemPhrase::LawSquares => choose_law_squares(kind),
+        ItemPhrase::SkippedSquares => choose_skipped_squares(kind),
+        ItemPhrase::TokensInSquares => choose_tokens_in_squares(kind),
+        ItemPhrase::AttributeSquares => choose_attribute_squares(kind),
         ItemPhrase::AttributeBody => choose_attribute_body(kind),
         ItemPhrase::TermInParens => choose_term_in_parens(kind),
+        ItemPhrase::NamesInParens => choose_names_in_parens(kind),
         ItemPhrase::Names => choose_names(kind),
         ItemPhrase::NamesNext => choose_names_next(kind),
         ItemPhrase::Visibility => choose_visibility(kind),
@@ -730,6 +806,7 @@ pub fn item_chosen(goal: ItemPhrase, kind: WordKind) -> Option<Rule>
         ItemPhrase::Bounds => choose_bounds(kind),
         ItemPhrase::BoundsNext => choose_bounds_next(kind),
         ItemPhrase::Bound => choose_bound(kind),
+        ItemPhrase::BoundTypes => choose_bound_types(kind),
         ItemPhrase::Where => choose_where(kind),
         ItemPhrase::Conditions => choose_conditions(kind),
         ItemPhrase::ConditionsNext => choose_conditions_next(kind),

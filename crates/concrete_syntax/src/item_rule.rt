@@ -4,19 +4,19 @@ use crate::phrases::{Bearer, BodyKind};
 /// The rules of these nonterminals, in their order: what each reads, and the nonterminal that goes on with its value.
 #[derive(Clone, Copy)]
 pub enum ItemRule {
-    /// Source: `#` `!` `[` Tokens `]` .. Source
+    /// Source: `#` `!` TokensInSquares .. Source
     InnerAttribute,
     /// Source: Bearing .. Items
     FirstItem,
     /// Items: Bearing .. Items
     NextItem,
-    /// Bearing: `#` `[` `logic` `]` .. Bearing
+    /// Bearing: `#` LogicSquares .. Bearing
     LogicMark(Bearer),
-    /// Bearing: `#` `[` `law` `]` .. Bearing
+    /// Bearing: `#` LawSquares .. Bearing
     LawMark(Bearer),
-    /// Bearing: `#` `[` `allow`, `inline`, `must_use` or `doc` Tokens `]` .. Bearing
+    /// Bearing: `#` SkippedSquares .. Bearing
     SkippedAttribute(Bearer),
-    /// Bearing: `#` `[` AttributeBody `]` .. Bearing
+    /// Bearing: `#` AttributeSquares .. Bearing
     Attribute(Bearer),
     /// Bearing: Visibility Item
     PublicItem(BodyKind),
@@ -28,24 +28,36 @@ pub enum ItemRule {
     PrivateMethod(BodyKind),
     /// Bearing: Function
     TraitFunction,
-    /// ExprAttribute: `#` `[` `logic` `]`
+    /// ExprAttribute: `#` LogicSquares
     ExprLogicMark,
-    /// ExprAttribute: `#` `[` `law` `]`
+    /// ExprAttribute: `#` LawSquares
     ExprLawMark,
-    /// ExprAttribute: `#` `[` `allow`, `inline`, `must_use` or `doc` Tokens `]`
+    /// ExprAttribute: `#` SkippedSquares
     ExprSkippedAttribute,
-    /// ExprAttribute: `#` `[` AttributeBody `]`
+    /// ExprAttribute: `#` AttributeSquares
     ExprPlainAttribute,
+    /// LogicSquares: `[` `logic` `]`
+    LogicInSquares,
+    /// LawSquares: `[` `law` `]`
+    LawInSquares,
+    /// SkippedSquares: `[` `allow`, `inline`, `must_use` or `doc` Tokens `]`
+    SkippedInSquares,
+    /// TokensInSquares: `[` Tokens `]`
+    AnyInSquares,
+    /// AttributeSquares: `[` AttributeBody `]`
+    AttributeInSquares,
     /// AttributeBody: `requires` or `ensures` TermInParens
     FunctionClause,
     /// AttributeBody: `invariant` TermInParens
     InvariantClause,
     /// AttributeBody: `variant` TermInParens
     VariantClause,
-    /// AttributeBody: `derive` `(` Names `)`
+    /// AttributeBody: `derive` NamesInParens
     DeriveList,
     /// TermInParens: `(` Term `)`
     TermParens,
+    /// NamesInParens: `(` Names `)`
+    NameParens,
     /// Names: Name .. NamesNext
     OneName,
     /// NamesNext: `,` .. Names
@@ -104,8 +116,10 @@ pub enum ItemRule {
     NextBound,
     /// Bound: BoundName
     TraitBound,
-    /// Bound: `Fn`, `FnMut` or `FnOnce` `(` Types `)` Answer
+    /// Bound: `Fn`, `FnMut` or `FnOnce` BoundTypes Answer
     CallBound,
+    /// BoundTypes: `(` Types `)`
+    BoundTypesInParens,
     /// Where: `where` Conditions
     WhereConditions,
     /// Conditions: a lifetime `:` a lifetime .. ConditionsNext

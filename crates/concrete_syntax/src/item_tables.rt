@@ -57,12 +57,10 @@ pub fn item_production(rule: ItemRule) -> Production
 {
     match rule {
         ItemRule::InnerAttribute => plain(
-            five(
+            three(
                 Symbol::Word(WordKind::Mark(Mark::HashBang)),
                 Symbol::Word(WordKind::Mark(Mark::Not)),
-                Symbol::Word(WordKind::Open(Bracket::Square)),
-                Symbol::Of(Nonterminal::Word(WordPhrase::Tokens)),
-                Symbol::Word(WordKind::Close(Bracket::Square)),
+                Symbol::Of(Nonterminal::Item(ItemPhrase::TokensInSquares)),
             ),
             Some(Nonterminal::Item(ItemPhrase::Source)),
         ),
@@ -79,39 +77,30 @@ pub fn item_production(rule: ItemRule) -> Production
             Some(Nonterminal::Item(ItemPhrase::Items)),
         ),
         ItemRule::LogicMark(bearer) => plain(
-            four(
+            two(
                 Symbol::Word(WordKind::Mark(Mark::HashLogic)),
-                Symbol::Word(WordKind::Open(Bracket::Square)),
-                Symbol::Word(WordKind::Common(CommonWord::Logic)),
-                Symbol::Word(WordKind::Close(Bracket::Square)),
+                Symbol::Of(Nonterminal::Item(ItemPhrase::LogicSquares)),
             ),
             Some(Nonterminal::Item(ItemPhrase::Bearing(with_logic(bearer)))),
         ),
         ItemRule::LawMark(bearer) => plain(
-            four(
+            two(
                 Symbol::Word(WordKind::Mark(Mark::HashLaw)),
-                Symbol::Word(WordKind::Open(Bracket::Square)),
-                Symbol::Word(WordKind::Common(CommonWord::Law)),
-                Symbol::Word(WordKind::Close(Bracket::Square)),
+                Symbol::Of(Nonterminal::Item(ItemPhrase::LawSquares)),
             ),
             Some(Nonterminal::Item(ItemPhrase::Bearing(with_law(bearer)))),
         ),
         ItemRule::SkippedAttribute(bearer) => plain(
-            five(
+            two(
                 Symbol::Word(WordKind::Mark(Mark::HashSkip)),
-                Symbol::Word(WordKind::Open(Bracket::Square)),
-                Symbol::Word(WordKind::Common(CommonWord::Skip)),
-                Symbol::Of(Nonterminal::Word(WordPhrase::Tokens)),
-                Symbol::Word(WordKind::Close(Bracket::Square)),
+                Symbol::Of(Nonterminal::Item(ItemPhrase::SkippedSquares)),
             ),
             Some(Nonterminal::Item(ItemPhrase::Bearing(bearer))),
         ),
         ItemRule::Attribute(bearer) => plain(
-            four(
+            two(
                 Symbol::Word(WordKind::Mark(Mark::Hash)),
-                Symbol::Word(WordKind::Open(Bracket::Square)),
-                Symbol::Of(Nonterminal::Item(ItemPhrase::AttributeBody)),
-                Symbol::Word(WordKind::Close(Bracket::Square)),
+                Symbol::Of(Nonterminal::Item(ItemPhrase::AttributeSquares)),
             ),
             Some(Nonterminal::Item(ItemPhrase::Bearing(bearer))),
         ),
@@ -142,26 +131,51 @@ pub fn item_production(rule: ItemRule) -> Production
             None,
         ),
         ItemRule::ExprLogicMark => plain(
-            four(
+            two(
                 Symbol::Word(WordKind::Mark(Mark::HashLogic)),
+                Symbol::Of(Nonterminal::Item(ItemPhrase::LogicSquares)),
+            ),
+            None,
+        ),
+        ItemRule::ExprLawMark => plain(
+            two(
+                Symbol::Word(WordKind::Mark(Mark::HashLaw)),
+                Symbol::Of(Nonterminal::Item(ItemPhrase::LawSquares)),
+            ),
+            None,
+        ),
+        ItemRule::ExprSkippedAttribute => plain(
+            two(
+                Symbol::Word(WordKind::Mark(Mark::HashSkip)),
+                Symbol::Of(Nonterminal::Item(ItemPhrase::SkippedSquares)),
+            ),
+            None,
+        ),
+        ItemRule::ExprPlainAttribute => plain(
+            two(
+                Symbol::Word(WordKind::Mark(Mark::Hash)),
+                Symbol::Of(Nonterminal::Item(ItemPhrase::AttributeSquares)),
+            ),
+            None,
+        ),
+        ItemRule::LogicInSquares => opening(
+            three(
                 Symbol::Word(WordKind::Open(Bracket::Square)),
                 Symbol::Word(WordKind::Common(CommonWord::Logic)),
                 Symbol::Word(WordKind::Close(Bracket::Square)),
             ),
             None,
         ),
-        ItemRule::ExprLawMark => plain(
-            four(
-                Symbol::Word(WordKind::Mark(Mark::HashLaw)),
+        ItemRule::LawInSquares => opening(
+            three(
                 Symbol::Word(WordKind::Open(Bracket::Square)),
                 Symbol::Word(WordKind::Common(CommonWord::Law)),
                 Symbol::Word(WordKind::Close(Bracket::Square)),
             ),
             None,
         ),
-        ItemRule::ExprSkippedAttribute => plain(
-            five(
-                Symbol::Word(WordKind::Mark(Mark::HashSkip)),
+        ItemRule::SkippedInSquares => opening(
+            four(
                 Symbol::Word(WordKind::Open(Bracket::Square)),
                 Symbol::Word(WordKind::Common(CommonWord::Skip)),
                 Symbol::Of(Nonterminal::Word(WordPhrase::Tokens)),
@@ -169,9 +183,16 @@ pub fn item_production(rule: ItemRule) -> Production
             ),
             None,
         ),
-        ItemRule::ExprPlainAttribute => plain(
-            four(
-                Symbol::Word(WordKind::Mark(Mark::Hash)),
+        ItemRule::AnyInSquares => opening(
+            three(
+                Symbol::Word(WordKind::Open(Bracket::Square)),
+                Symbol::Of(Nonterminal::Word(WordPhrase::Tokens)),
+                Symbol::Word(WordKind::Close(Bracket::Square)),
+            ),
+            None,
+        ),
+        ItemRule::AttributeInSquares => opening(
+            three(
                 Symbol::Word(WordKind::Open(Bracket::Square)),
                 Symbol::Of(Nonterminal::Item(ItemPhrase::AttributeBody)),
                 Symbol::Word(WordKind::Close(Bracket::Square)),
@@ -199,12 +220,10 @@ pub fn item_production(rule: ItemRule) -> Production
             ),
             None,
         ),
-        ItemRule::DeriveList => opening(
-            four(
+        ItemRule::DeriveList => plain(
+            two(
                 Symbol::Word(WordKind::Common(CommonWord::Derive)),
-                Symbol::Word(WordKind::Open(Bracket::Paren)),
-                Symbol::Of(Nonterminal::Item(ItemPhrase::Names)),
-                Symbol::Word(WordKind::Close(Bracket::Paren)),
+                Symbol::Of(Nonterminal::Item(ItemPhrase::NamesInParens)),
             ),
             None,
         ),
@@ -212,6 +231,14 @@ pub fn item_production(rule: ItemRule) -> Production
             three(
                 Symbol::Word(WordKind::Open(Bracket::Paren)),
                 Symbol::Of(Nonterminal::Term(TermPhrase::Term(Mode::Inside(Literals::Allowed)))),
+                Symbol::Word(WordKind::Close(Bracket::Paren)),
+            ),
+            None,
+        ),
+        ItemRule::NameParens => opening(
+            three(
+                Symbol::Word(WordKind::Open(Bracket::Paren)),
+                Symbol::Of(Nonterminal::Item(ItemPhrase::Names)),
                 Symbol::Word(WordKind::Close(Bracket::Paren)),
             ),
             None,
@@ -231,7 +258,7 @@ pub fn item_production(rule: ItemRule) -> Production
             ),
             None,
         ),
-        ItemRule::CrateScope => plain(
+        ItemRule::CrateScope => opening(
             three(
                 Symbol::Word(WordKind::Open(Bracket::Paren)),
                 Symbol::Word(WordKind::Keyword(Keyword::Crate)),
@@ -399,13 +426,19 @@ pub fn item_production(rule: ItemRule) -> Production
             one(Symbol::Of(Nonterminal::Word(WordPhrase::BoundName))),
             None,
         ),
-        ItemRule::CallBound => opening(
-            five(
+        ItemRule::CallBound => plain(
+            three(
                 Symbol::Word(WordKind::CallTrait),
+                Symbol::Of(Nonterminal::Item(ItemPhrase::BoundTypes)),
+                Symbol::Of(Nonterminal::Item(ItemPhrase::Answer)),
+            ),
+            None,
+        ),
+        ItemRule::BoundTypesInParens => opening(
+            three(
                 Symbol::Word(WordKind::Open(Bracket::Paren)),
                 Symbol::Of(Nonterminal::Shape(ShapePhrase::Types)),
                 Symbol::Word(WordKind::Close(Bracket::Paren)),
-                Symbol::Of(Nonterminal::Item(ItemPhrase::Answer)),
             ),
             None,
         ),

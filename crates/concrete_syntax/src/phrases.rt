@@ -92,10 +92,22 @@ pub enum ItemPhrase {
     Bearing(Bearer),
     /// An attribute before a loop or a closure.
     ExprAttribute,
+    /// `logic` in brackets.
+    LogicSquares,
+    /// `law` in brackets.
+    LawSquares,
+    /// An attribute that is passed over, in brackets.
+    SkippedSquares,
+    /// Any words in brackets.
+    TokensInSquares,
+    /// Any other attribute in brackets.
+    AttributeSquares,
     /// What stands in the brackets of an attribute.
     AttributeBody,
     /// A term in parentheses.
     TermInParens,
+    /// Names in parentheses.
+    NamesInParens,
     /// Names, or the end of them.
     Names,
     /// What may stand behind a name of a list.
@@ -132,6 +144,8 @@ pub enum ItemPhrase {
     BoundsNext,
     /// A trait, or a closure's signature.
     Bound,
+    /// The types that a closure takes, in parentheses.
+    BoundTypes,
     /// The conditions of a declaration, if they are written.
     Where,
     /// Conditions, or the end of them.
@@ -345,6 +359,8 @@ pub enum ExprPhrase {
     Returned,
     /// The loop or closure behind an attribute at an operand's start.
     OperandBearer(Literals),
+    /// The text of a panic in parentheses.
+    PanicArguments,
     /// The text of a panic, if it is written.
     PanicText,
     /// The fields of a struct literal, where one may stand.
@@ -410,6 +426,10 @@ pub enum TermPhrase {
     TermsNext,
     /// An operand in terms.
     TermPrimary(Mode),
+    /// Two terms in parentheses.
+    TermPair,
+    /// What a predicate is said of.
+    PredicateTerms,
     /// The arguments or fields behind a path in terms.
     TermParts(Literals),
     /// Fields of a struct literal in terms, or the end of them.

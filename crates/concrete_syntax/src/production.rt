@@ -114,30 +114,6 @@ pub fn five(first: Symbol, second: Symbol, third: Symbol, fourth: Symbol, fifth:
 }
 
 /// So many symbols.
-pub fn six(
-    first: Symbol,
-    second: Symbol,
-    third: Symbol,
-    fourth: Symbol,
-    fifth: Symbol,
-    sixth: Symbol,
-) -> Parts
-    ensures { result ≡ record { first = first; second = Some second; third = Some third; fourth = Some fourth; fifth = Some fifth; sixth = Some sixth; seventh = None; eighth = None; ninth = None } }
-{
-    Parts {
-        first,
-        second: Some(second),
-        third: Some(third),
-        fourth: Some(fourth),
-        fifth: Some(fifth),
-        sixth: Some(sixth),
-        seventh: None,
-        eighth: None,
-        ninth: None,
-    }
-}
-
-/// So many symbols.
 pub fn seven(
     first: Symbol,
     second: Symbol,

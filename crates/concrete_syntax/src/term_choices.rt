@@ -1,6 +1,6 @@
 //! Which rule of a nonterminal the next word begins: terms of contracts.
 ghost use Rattle.std.specs.Prelude.{◌≡◌};
-ghost use Rattle.concrete_syntax.specs.TermChoices.{choose_term, choose_implied, choose_term_or, choose_term_or_rest, choose_term_and, choose_term_and_rest, choose_term_comparison, choose_term_compared, choose_term_sum, choose_term_sum_rest, choose_term_product, choose_term_product_rest, choose_term_unary, choose_term_unary_mark, choose_term_postfix_rest, choose_term_member_name, choose_term_member_name_mark, choose_term_member_arguments, choose_terms, choose_terms_next, choose_term_primary, choose_term_primary_mark, choose_term_parts, choose_term_fields, choose_term_fields_next, choose_term_if_head, choose_term_else, choose_term_match_head, choose_term_match_body, choose_term_arms, choose_term_arms_next, choose_binders, choose_binders_next, choose_quantified_body, term_chosen};
+ghost use Rattle.concrete_syntax.specs.TermChoices.{choose_term, choose_implied, choose_term_or, choose_term_or_rest, choose_term_and, choose_term_and_rest, choose_term_comparison, choose_term_compared, choose_term_sum, choose_term_sum_rest, choose_term_product, choose_term_product_rest, choose_term_unary, choose_term_unary_mark, choose_term_postfix_rest, choose_term_member_name, choose_term_member_name_mark, choose_term_member_arguments, choose_terms, choose_terms_next, choose_term_primary, choose_term_primary_mark, choose_term_pair, choose_predicate_terms, choose_term_parts, choose_term_fields, choose_term_fields_next, choose_term_if_head, choose_term_else, choose_term_match_head, choose_term_match_body, choose_term_arms, choose_term_arms_next, choose_binders, choose_binders_next, choose_quantified_body, term_chosen};
 
 use crate::begins::{
     begins_name, begins_pattern, begins_term, begins_term_name, begins_term_primary, when,
@@ -260,6 +260,26 @@ pub fn choose_term_primary(mode: Mode, kind: WordKind) -> Option<Rule>
     }
 }
 
+/// Two terms in parentheses.
+pub fn choose_term_pair(kind: WordKind) -> Option<Rule>
+    ensures { result ≡ choose_term_pair kind }
+{
+    match kind {
+        WordKind::Open(Bracket::Paren) => Some(Rule::Term(TermRule::PairInParens)),
+        _ => None,
+    }
+}
+
+/// What a predicate is said of.
+pub fn choose_predicate_terms(kind: WordKind) -> Option<Rule>
+    ensures { result ≡ choose_predicate_terms kind }
+{
+    match kind {
+        WordKind::Open(Bracket::Paren) => Some(Rule::Term(TermRule::PredicateInParens)),
+        _ => None,
+    }
+}
+
 /// The arguments or fields behind a path in terms.
 pub fn choose_term_parts(literals: Literals, kind: WordKind) -> Option<Rule>
     ensures { result ≡ choose_term_parts literals kind }
@@ -399,6 +419,8 @@ pub fn term_chosen(goal: TermPhrase, kind: WordKind) -> Option<Rule>
         TermPhrase::Terms => choose_terms(kind),
         TermPhrase::TermsNext => choose_terms_next(kind),
         TermPhrase::TermPrimary(mode) => choose_term_primary(mode, kind),
+        TermPhrase::TermPair => choose_term_pair(kind),
+        TermPhrase::PredicateTerms => choose_predicate_terms(kind),
         TermPhrase::TermParts(literals) => choose_term_parts(literals, kind),
         TermPhrase::TermFields => choose_term_fields(kind),
         TermPhrase::TermFieldsNext => choose_term_fields_next(kind),

@@ -90,10 +90,14 @@ pub enum TermRule {
     MatchTerm(Mode),
     /// TermPrimary: `forall` or `exists` `<` Binders QuantifiedBody
     QuantifiedTerm(Mode),
-    /// TermPrimary: `MutRef` `(` Term `,` Term `)`
+    /// TermPrimary: `MutRef` TermPair
     MutRefTerm(Mode),
-    /// TermPrimary: a predicate of closures `(` Terms `)`
+    /// TermPrimary: a predicate of closures PredicateTerms
     PredicateTerm(Mode),
+    /// TermPair: `(` Term `,` Term `)`
+    PairInParens,
+    /// PredicateTerms: `(` Terms `)`
+    PredicateInParens,
     /// TermParts: `(` Terms `)`
     TermPathArguments(Literals),
     /// TermParts: `{` TermFields `}`

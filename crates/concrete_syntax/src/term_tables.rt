@@ -7,7 +7,7 @@ use crate::kinds::{Bracket, Keyword, LogicalWord, Mark, WordKind};
 use crate::phrases::{
     ItemPhrase, Literals, Mode, Nonterminal, ShapePhrase, TermPhrase, WordPhrase, inner,
 };
-use crate::production::{Production, chained, four, one, opening, plain, six, three, two};
+use crate::production::{Production, chained, five, four, one, opening, plain, three, two};
 use crate::rule::Symbol;
 use crate::term_rule::TermRule;
 
@@ -285,9 +285,22 @@ pub fn term_production(rule: TermRule) -> Production
             ),
             None,
         ),
-        TermRule::MutRefTerm(_) => opening(
-            six(
+        TermRule::MutRefTerm(_) => plain(
+            two(
                 Symbol::Word(WordKind::Logical(LogicalWord::MutRef)),
+                Symbol::Of(Nonterminal::Term(TermPhrase::TermPair)),
+            ),
+            None,
+        ),
+        TermRule::PredicateTerm(_) => plain(
+            two(
+                Symbol::Word(WordKind::Logical(LogicalWord::Predicate)),
+                Symbol::Of(Nonterminal::Term(TermPhrase::PredicateTerms)),
+            ),
+            None,
+        ),
+        TermRule::PairInParens => opening(
+            five(
                 Symbol::Word(WordKind::Open(Bracket::Paren)),
                 Symbol::Of(Nonterminal::Term(TermPhrase::Term(Mode::Inside(Literals::Allowed)))),
                 Symbol::Word(WordKind::Mark(Mark::Comma)),
@@ -296,9 +309,8 @@ pub fn term_production(rule: TermRule) -> Production
             ),
             None,
         ),
-        TermRule::PredicateTerm(_) => opening(
-            four(
-                Symbol::Word(WordKind::Logical(LogicalWord::Predicate)),
+        TermRule::PredicateInParens => opening(
+            three(
                 Symbol::Word(WordKind::Open(Bracket::Paren)),
                 Symbol::Of(Nonterminal::Term(TermPhrase::Terms)),
                 Symbol::Word(WordKind::Close(Bracket::Paren)),
