@@ -1,6 +1,6 @@
 -- A word chooses the one rule that it begins: the equations of the tables.
-use Rattle.std.specs.Prelude.{◌≡◌, ℕ, true, false, List, [], ◌∷◌, map}
-use Rattle.std.proofs.Common.{Some, None, refl}
+use Rattle.std.specs.Prelude.{◌≡◌, map}
+use Rattle.std.proofs.Common.{Some, refl}
 use Rattle.token_grammar.specs.Tables.{IsExact}
 use Rattle.token_grammar.specs.Checks.{HeadsCompute, left_or, heads_found, heads_wanted, start_of}
 use Rattle.token_grammar.proofs.Checked.{sorted}

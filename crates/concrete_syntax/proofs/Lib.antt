@@ -1,4 +1,5 @@
 pub mod Blanks
+pub mod Following
 pub mod Heads
 pub mod Levels
 pub mod Listed
@@ -6,5 +7,6 @@ pub mod PlanFits
 pub mod Planning
 pub mod Steps
 pub mod Symbols
+pub mod Telling
 pub mod Tokens
 pub mod Whole

@@ -1,5 +1,5 @@
 -- The plan fits the grammar: the equations of the tables.
-use Rattle.std.specs.Prelude.{◌≡◌, ℕ, Bool, true, false, not, cond, List, [], ◌∷◌, ◌&&◌, ◌||◌, nat_lt, map}
+use Rattle.std.specs.Prelude.{◌≡◌, Bool, true, false, not, cond, [], ◌&&◌, ◌||◌, nat_lt, map}
 use Rattle.std.proofs.Common.{Some, None, refl, true≢false}
 use Rattle.token_grammar.specs.Tables.{Planned, by_token, short_text, ranked, fits}
 use Rattle.token_grammar.specs.Checks.{PlanComputes}
@@ -33,7 +33,8 @@ use Rattle.concrete_syntax.specs.Rules.{opens_level, goes_on}
 use Rattle.concrete_syntax.specs.Sources.{sources, deepest, longest}
 use Rattle.concrete_syntax.specs.Listing.{kinds}
 use Rattle.concrete_syntax.proofs.Listed.{listed}
-use Rattle.concrete_syntax.proofs.Planning.{plan, rank, class, goes, the_plan}
+use Rattle.concrete_syntax.proofs.Following.{class, goes}
+use Rattle.concrete_syntax.proofs.Planning.{plan, rank, the_plan}
 use Rattle.concrete_syntax.proofs.Heads.{heads_compute}
 
 ended : (n : Nonterminal) → map (λ k. cond (sources.may_end n && not (goes (class n) k)) (sources.choose n (Some k)) None) kinds ≡ map (λ k. None) kinds

@@ -1,10 +1,17 @@
 -- From one reading to what the parser promises.
 use Rattle.std.specs.Prelude.{◌≡◌, ℕ, suc, Bool, true, false, List, [], ◌∷◌, ◌≤◌, ◌<◌, length, drop, IfOk, IfErr}
-use Rattle.std.proofs.Common.{refl, sym, ◌∙◌, subst, arith, inl, inr, drop-cons, drop_of_length-le, Result, Ok, Err, get_or}
-use Rattle.token_grammar.specs.Reads.{ok, Reads}
+use Rattle.std.proofs.Common.{refl, sym, ◌∙◌, ap, subst, arith, inl, inr, drop-cons, drop_of_length-le, length-drop, Option, Some, None, Result, Ok, Err, get_or}
+use Rattle.std.specs.Str.{IsValidUpTo}
+use Rattle.std.proofs.lemmas.Bool.{cases_order}
+use Rattle.text_core.specs.declared.refusal.Code.{Code}
+use Rattle.text_core.specs.declared.refusal.Code.TheVariants.{E01, E02}
+use Rattle.text_core.specs.declared.refusal.SourceError.{SourceError}
+use Rattle.text_core.specs.declared.span.Span.{Span}
+use Rattle.token_grammar.specs.Reads.{ok, stop, rest, Reads}
 use Rattle.token_grammar.proofs.Facts.{refused, limited, left_over}
 use Rattle.token_grammar.proofs.Exact.{sound, complete}
-use Rattle.token_grammar.proofs.Once.{same, value_same, rest_same, differ}
+use Rattle.token_grammar.proofs.Once.{same, value_same, rest_same, differ, some_same}
+use Rattle.rs_tokens.proofs.OneReading.{one_list}
 use Rattle.concrete_syntax.specs.declared.event.Event.{Event}
 use Rattle.concrete_syntax.specs.declared.fault.ParseFault.{ParseFault}
 use Rattle.concrete_syntax.specs.declared.fault.ParseFault.TheVariants as P
@@ -15,9 +22,10 @@ use Rattle.concrete_syntax.specs.declared.phrases.ItemPhrase.TheVariants as NI
 use Rattle.concrete_syntax.specs.declared.reading.Stop.TheVariants.{Refused}
 use Rattle.concrete_syntax.specs.declared.word.Word.{Word}
 use Rattle.concrete_syntax.specs.Answer.{Answer}
-use Rattle.concrete_syntax.specs.Parsed.{SpellsPhrases, SpellsSource, refusal_at, IsSyntaxError, IsPhraseError, SpellNone, IsParseError, SpellsNone}
+use Rattle.concrete_syntax.specs.LeftOut.{IsCode, passes, ComesTo}
+use Rattle.concrete_syntax.specs.Parsed.{SpellsPhrases, SpellsSource, StandsAt, IsErrorAt, IsSyntaxError, IsPhraseError, SpellNone, IsParseError, SpellsNone}
 use Rattle.concrete_syntax.specs.Sources.{sources}
-use Rattle.concrete_syntax.specs.Words.{AreWords, IsWordError}
+use Rattle.concrete_syntax.specs.Words.{AreWords, IsBadText, no_text, bad_token, IsWordError}
 use Rattle.concrete_syntax.proofs.Heads.{is_exact}
 use Rattle.concrete_syntax.proofs.Planning.{the_plan}
 use Rattle.concrete_syntax.proofs.PlanFits.{is_planned}
@@ -37,27 +45,62 @@ whole ws v k h q = (let e : drop k ws ≡ [] = drop_of_length-le ws h in sound s
 pub alone : (ws : List Word) (v : List Event) (k : ℕ) → length ws ≤ k → Reads sources source 0 0 [] ws (ok v (drop k ws)) → (other : List Event) → SpellsPhrases ws other → other ≡ v
 alone ws v k h q other s = value_same (same sources (complete sources is_exact s) (ok v (drop k ws)) q)
 
-pub stopped : (ws : List Word) (end k : ℕ) (b : Bool) → Answer ws source 0 0 (Err (Refused k b)) → IsSyntaxError ws end (refusal_at b ws k end)
-stopped ws end k false q = record { place = k; within = q.0; limited = false; offends = refused sources is_exact the_plan is_planned source ws (drop k ws) q.1; is = refl }
-stopped ws end k true q = record { place = k; within = q.0; limited = true; offends = limited sources is_exact the_plan is_planned source ws (drop k ws) q.1; is = refl }
+abbrev pub comes_refused : (ws : List Word) (k : ℕ) (b : Bool) → Answer ws source 0 0 (Err (Refused k b)) → ComesTo ws k
+comes_refused ws k b q = record { outcome = stop b (drop k ws); reads = q.1; at = refl }
 
-pub none : (ws : List Word) (k : ℕ) (b : Bool) → Answer ws source 0 0 (Err (Refused k b)) → (phrases : List Event) → SpellsPhrases ws phrases → ⊥
-none ws k b q phrases s = differ (same sources q.1 (ok phrases []) (complete sources is_exact s))
+abbrev pub comes_left : (ws : List Word) (v : List Event) (k : ℕ) → Reads sources source 0 0 [] ws (ok v (drop k ws)) → ComesTo ws k
+comes_left ws v k q = record { outcome = ok v (drop k ws); reads = q; at = refl }
 
-pub left : (ws : List Word) (v : List Event) (end k : ℕ) → k < length ws → Reads sources source 0 0 [] ws (ok v (drop k ws)) → IsSyntaxError ws end (refusal_at false ws k end)
-left ws v end k h q = (let e = drop-cons ws k no_word h in
+pub stopped : (ws : List Word) (end k : ℕ) (b : Bool) (error : ParseFault) → Answer ws source 0 0 (Err (Refused k b)) → IsErrorAt b ws k end error → IsPhraseError ws end error
+stopped ws end k b P.NoMemory q h = tt
+stopped ws end k false (P.Source error) q h = record { place = k; within = q.0; comes = comes_refused ws k false q; offends = refused sources is_exact the_plan is_planned source ws (drop k ws) q.1; stands = h }
+stopped ws end k true (P.Source error) q h = record { place = k; within = q.0; comes = comes_refused ws k true q; offends = limited sources is_exact the_plan is_planned source ws (drop k ws) q.1; stands = h }
+
+pub none : (ws : List Word) (k : ℕ) (b : Bool) (error : ParseFault) → Answer ws source 0 0 (Err (Refused k b)) → SpellNone ws error
+none ws k b P.NoMemory q = tt
+none ws k b (P.Source error) q = λ phrases s. differ (same sources q.1 (ok phrases []) (complete sources is_exact s))
+
+pub left : (ws : List Word) (v : List Event) (end k : ℕ) (error : ParseFault) → k < length ws → Reads sources source 0 0 [] ws (ok v (drop k ws)) → IsErrorAt false ws k end error → IsPhraseError ws end error
+left ws v end k P.NoMemory inside q h = tt
+left ws v end k (P.Source error) inside q h = (let e = drop-cons ws k no_word inside in
     record {
       place = k;
-      within = omega (arith, h);
-      limited = false;
+      within = omega (arith, inside);
+      comes = comes_left ws v k q;
       offends = rw e (left_over sources is_exact the_plan is_planned source ws v (get_or ws k no_word) (drop (suc k) ws) (rw e at q));
-      is = refl;
+      stands = h;
     })
 
-pub left_none : (ws : List Word) (v : List Event) (k : ℕ) → k < length ws → Reads sources source 0 0 [] ws (ok v (drop k ws)) → (phrases : List Event) → SpellsPhrases ws phrases → ⊥
-left_none ws v k h q phrases s = (let e = rest_same (same sources q (ok phrases []) (complete sources is_exact s)) in
+pub left_none : (ws : List Word) (v : List Event) (k : ℕ) (error : ParseFault) → k < length ws → Reads sources source 0 0 [] ws (ok v (drop k ws)) → SpellNone ws error
+left_none ws v k P.NoMemory h q = tt
+left_none ws v k (P.Source error) h q = λ phrases s. (let e = rest_same (same sources q (ok phrases []) (complete sources is_exact s)) in
     let f : drop k ws ≡ get_or ws k no_word ∷ drop (suc k) ws = drop-cons ws k no_word h in
     let g : get_or ws k no_word ∷ drop (suc k) ws ≡ [] = sym f ∙ e in cc)
+
+-- ---- one refusal
+
+-- words are refused in one way
+same_place : (ws : List Word) (i k : ℕ) → i ≤ length ws → k ≤ length ws → drop i ws ≡ drop k ws → i ≡ k
+same_place ws i k inside within e = omega (arith, inside, within, sym (length-drop i ws) ∙ ap length e ∙ length-drop k ws)
+
+same_code : (b : Bool) (ws : List Word) (k : ℕ) (one other : Code) → IsCode b ws k one → IsCode b ws k other → one ≡ other
+same_code true ws k one other h g = h ∙ sym g
+same_code false ws k one other (inl h) (inl g) = h.0 ∙ sym g.0
+same_code false ws k one other (inl h) (inr g) = absurd (g.1 h.1)
+same_code false ws k one other (inr h) (inl g) = absurd (h.1 g.1)
+same_code false ws k one other (inr h) (inr g) = h.0 ∙ sym g.0
+
+pub one_refusal : (ws : List Word) (end : ℕ) (one other : SourceError) → IsSyntaxError ws end one → IsSyntaxError ws end other → one ≡ other
+one_refusal ws end one other h g =
+    let o : h.comes.outcome ≡ g.comes.outcome = same sources h.comes.reads g.comes.outcome g.comes.reads in
+    let k : h.place ≡ g.place = same_place ws h.place g.place h.within g.within (sym h.comes.at ∙ ap rest o ∙ g.comes.at) in
+    let t : StandsAt (passes h.comes.outcome) ws h.place end other = rw (o, k) g.stands in
+    let c : one.code ≡ other.code = same_code (passes h.comes.outcome) ws h.place one.code other.code h.stands.code t.code in
+    let s : one.span ≡ other.span = h.stands.span ∙ sym t.span in
+    let a : one.other ≡ other.other = h.stands.alone ∙ sym t.alone in
+    ap (λ (e : Code). record { code = e; span = one.span; other = one.other }) c ∙
+    ap (λ (e : Span). record { code = other.code; span = e; other = one.other }) s ∙
+    ap (λ (e : Option Span). record { code = other.code; span = other.span; other = e }) a
 
 -- ---- bytes
 
@@ -81,6 +124,34 @@ pub one_source : (bytes : List ℕ) (one other : List Event) → SpellsSource by
 one_source bytes one other a b =
     let e = same_words bytes a.words b.words a.are_words b.are_words in
     value_same (same sources (complete sources is_exact (subst (λ (x : List Word). SpellsPhrases x one) e a.spelled)) (ok other []) (complete sources is_exact b.spelled))
+
+-- ---- one refusal of bytes
+
+same_valid : (bytes : List ℕ) (one other : ℕ) → IsValidUpTo bytes one → IsValidUpTo bytes other → one ≡ other
+same_valid bytes one other h g = elim (cases_order one other) [
+  | inl e ↦ e
+  | inr k ↦ elim k [
+    | inl low ↦ absurd (h.longest other low g.front)
+    | inr high ↦ absurd (g.longest one high h.front)
+  ]
+]
+
+one_bad_text : (bytes : List ℕ) (one other : SourceError) → IsBadText bytes one → IsBadText bytes other → one ≡ other
+one_bad_text bytes one other (no_text n) (no_text m) =
+    n.is ∙ ap (λ (k : ℕ). record { code = E01; span = record { start = k; end = k }; other = None }) (same_valid bytes one.span.start other.span.start n.valid_up_to m.valid_up_to) ∙ sym m.is
+one_bad_text bytes one other (no_text n) (bad_token tokens utf8 has is) = absurd (n.no_text utf8)
+one_bad_text bytes one other (bad_token tokens utf8 has is) (no_text n) = absurd (n.no_text utf8)
+one_bad_text bytes one other (bad_token tokens utf8 has is) (bad_token others utf8₂ has₂ is₂) =
+    let e : Some one.span ≡ Some other.span = (one_list bytes 0 tokens others (Some one.span) (Some other.span) has has₂).1 in
+    is ∙ ap (λ (k : Span). record { code = E02; span = k; other = None }) (some_same e) ∙ sym is₂
+
+pub one_error : (bytes : List ℕ) (one other : SourceError) → IsParseError bytes (P.Source one) → IsParseError bytes (P.Source other) → one ≡ other
+one_error bytes one other (inl h) (inl g) = one_bad_text bytes one other h g
+one_error bytes one other (inl h) (inr g) = absurd (no_words bytes one g.words h g.are_words)
+one_error bytes one other (inr h) (inl g) = absurd (no_words bytes other h.words g h.are_words)
+one_error bytes one other (inr h) (inr g) =
+    let e : g.words ≡ h.words = same_words bytes g.words h.words g.are_words h.are_words in
+    one_refusal h.words (length bytes) one other h.error_of (subst (λ (ws : List Word). IsSyntaxError ws (length bytes) other) e g.error_of)
 
 -- ---- from the words to the bytes, for each answer
 

@@ -5,6 +5,7 @@ pub mod ExprChoices
 pub mod ExprRules
 pub mod ItemChoices
 pub mod ItemRules
+pub mod LeftOut
 pub mod Listing
 pub mod Make
 pub mod Parsed

@@ -8,7 +8,8 @@ use Rattle.concrete_syntax.specs.declared.rule.Rule.{Rule}
 use Rattle.concrete_syntax.specs.declared.rule.Rule.TheVariants as R
 use Rattle.concrete_syntax.specs.declared.word.Word.{Word}
 use Rattle.concrete_syntax.specs.Begins.{begins_attribute}
-use Rattle.concrete_syntax.specs.Parsed.{SpellsSource, is_name, is_square}
+use Rattle.concrete_syntax.specs.LeftOut.{is_name, is_square}
+use Rattle.concrete_syntax.specs.Parsed.{SpellsSource}
 
 -- whether an attribute that is a promise stands before the rest of the item
 abbrev pub promises : Bool → Rule → Bool

@@ -1,13 +1,20 @@
 //! What holds of every source.
 ghost use Rattle.std.specs.Prelude.{◌≡◌, ℕ, List};
 ghost use Rattle.token_grammar.specs.Tables.{IsExact, Plan, Planned};
+ghost use Rattle.text_core.specs.declared.refusal.SourceError.{SourceError};
 ghost use Rattle.concrete_syntax.specs.declared.event.Event.{Event};
-ghost use Rattle.concrete_syntax.specs.Parsed.{SpellsSource};
+ghost use Rattle.concrete_syntax.specs.declared.fault.ParseFault.TheVariants as P;
+ghost use Rattle.concrete_syntax.specs.Parsed.{SpellsSource, IsParseError};
 ghost use Rattle.concrete_syntax.specs.Sources.{sources};
 
 /// A text spells at most one list of phrases, with all spans.
 pub fn a_text_spells_one_list_of_phrases()
     ensures { (bytes : List ℕ) (one other : List Event) → SpellsSource bytes one → SpellsSource bytes other → one ≡ other }
+{}
+
+/// A text is refused with at most one code and span.
+pub fn a_source_is_refused_in_one_way()
+    ensures { (bytes : List ℕ) (one other : SourceError) → IsParseError bytes (P.Source one) → IsParseError bytes (P.Source other) → one ≡ other }
 {}
 
 /// In the grammar of sources a word chooses the one rule that it begins, and each nonterminal can be brought to an end.

@@ -10,12 +10,14 @@ mod expr_choices;
 mod expr_rule;
 mod expr_tables;
 mod fault;
+mod generic_choices;
 mod item_choices;
 mod item_rule;
 mod item_tables;
 mod kinds;
 mod laws;
 mod numbers;
+mod omitted;
 mod parser;
 mod passed;
 mod phrases;
@@ -27,6 +29,7 @@ mod rule;
 mod shape_choices;
 mod shape_rule;
 mod shape_tables;
+mod standing;
 mod stmt_choices;
 mod stmt_rule;
 mod stmt_tables;
@@ -48,7 +51,11 @@ pub use expr_rule::ExprRule;
 pub use fault::ParseFault;
 pub use item_rule::ItemRule;
 pub use kinds::{Bracket, CommonWord, Keyword, LogicalWord, MacroWord, Mark, WordKind};
-pub use laws::{a_text_spells_one_list_of_phrases, the_tables_meet_their_conditions};
+pub use laws::{
+    a_source_is_refused_in_one_way, a_text_spells_one_list_of_phrases,
+    the_tables_meet_their_conditions,
+};
+pub use omitted::Construct;
 pub use parser::parse;
 pub use passed::plain_source;
 pub use phrases::{

@@ -2,7 +2,8 @@
 ghost use Rattle.std.specs.Prelude.{◌≡◌, ℕ, ◌≤◌, ◌<◌, ◌^◌, List, length, drop, IfOk, IfErr};
 ghost use Rattle.concrete_syntax.specs.declared.event.Event.{Event};
 ghost use Rattle.concrete_syntax.specs.declared.fault.ParseFault.TheVariants as P;
-ghost use Rattle.concrete_syntax.specs.Parsed.{SpellsPhrases, SpellsSource, refusal_at, error_of, IsPhraseError, SpellNone, IsParseError, SpellsNone};
+ghost use Rattle.concrete_syntax.specs.LeftOut.{ComesTo};
+ghost use Rattle.concrete_syntax.specs.Parsed.{SpellsPhrases, SpellsSource, IsErrorAt, IsPhraseError, SpellNone, IsParseError, SpellsNone};
 
 use crate::event::Event;
 use crate::fault::ParseFault;
@@ -15,21 +16,25 @@ use std::alloc::Global;
 use text_core::{Items, SourceError, Span};
 
 /// The refusal of the word of this number, or of the end behind the last word.
-fn syntax_error(words: &[Word], place: usize, limited: bool, end: u32) -> ParseFault
+fn syntax_error(alloc: Global, words: &[Word], place: usize, limited: bool, end: u32) -> ParseFault
     requires place { place ≤ length words.now }
     requires few { length words.now < 2 ^ 32 }
-    ensures { result ≡ P.Source (refusal_at limited words.now place end) }
+    requires comes { ComesTo words.now place }
+    ensures { IsErrorAt limited words.now place end result }
 {
     let span = if place < words.len() {
         words[place].span
     } else {
         Span { start: end, end }
     };
-    ParseFault::Source(SourceError {
-        code: code_at(limited, words, place),
-        span,
-        other: None,
-    })
+    match code_at(alloc, limited, words, place) {
+        Err(_) => ParseFault::NoMemory,
+        Ok(code) => ParseFault::Source(SourceError {
+            code,
+            span,
+            other: None,
+        }),
+    }
 }
 
 /// The phrases that the words of a source spell, which has so many bytes.
@@ -42,10 +47,10 @@ fn phrases_of(alloc: Global, words: &[Word], end: u32) -> Result<Items<Event>, P
 {
     match read(alloc, words, 0, Nonterminal::Item(ItemPhrase::Source), 0) {
         Err(Stop::NoMemory) => Err(ParseFault::NoMemory),
-        Err(Stop::Refused(place, limited)) => Err(syntax_error(words, place, limited, end)),
+        Err(Stop::Refused(place, limited)) => Err(syntax_error(alloc, words, place, limited, end)),
         Ok((phrases, after)) => {
             if after < words.len() {
-                return Err(syntax_error(words, after, false, end));
+                return Err(syntax_error(alloc, words, after, false, end));
             }
             Ok(phrases)
         }

@@ -1,10 +1,13 @@
 //! The codes of refused words.
-ghost use Rattle.std.specs.Prelude.{◌≡◌, ◌+◌, ◌<◌, ◌^◌, ◌≤◌, length, slice_get};
-ghost use Rattle.concrete_syntax.specs.Parsed.{is_left_out, is_name, is_square, is_hash, is_type, says, word_before, names_attribute, past_word, is_in_impl, defines_type, code_at};
+ghost use Rattle.std.specs.Prelude.{◌≡◌, ◌+◌, ◌<◌, ◌^◌, ◌≤◌, length, slice_get, IfOk, Decides};
+ghost use Rattle.concrete_syntax.specs.LeftOut.{is_left_out, is_name, is_square, is_hash, is_type, says, word_before, names_attribute, past_word, is_in_impl, defines_type, begins_left_out, construct_of, construct_at, IsLeftOut, IsCode, ComesTo};
 
 use crate::kinds::{Bracket, Keyword, MacroWord, Mark, WordKind};
+use crate::omitted::Construct;
+use crate::standing::stands_there;
 use crate::word::Word;
-use text_core::Code;
+use std::alloc::Global;
+use text_core::{Code, NoMemory};
 
 /// Words that begin constructs of Rust that the language leaves out, wherever they are refused.
 fn is_left_out(kind: WordKind) -> bool
@@ -146,6 +149,17 @@ fn is_hash_before(words: &[Word], place: usize) -> bool
     }
 }
 
+/// The word before that is `type`.
+pub fn is_type_before(words: &[Word], place: usize) -> bool
+    ensures { result ≡ says is_type (word_before 2 words.now place) }
+{
+    if place < 2 {
+        false
+    } else {
+        is_type_at(words, place - 2)
+    }
+}
+
 /// Whether the word is the name of an attribute: it stands behind `#` and `[`.
 fn names_attribute(words: &[Word], place: usize) -> bool
     ensures { result ≡ names_attribute words.now place }
@@ -192,21 +206,71 @@ fn defines_type(words: &[Word], place: usize) -> bool
     is_type_at(words, place) && !is_in_impl(&words[..place])
 }
 
-/// The code of the refusal at that word, or at the end: E04 where a limit is passed; else E20 where the word begins a
-/// construct of Rust that the language leaves out; else E03.
-pub fn code_at(limited: bool, words: &[Word], place: usize) -> Code
+/// Whether the word begins a construct that is left out wherever it is refused.
+fn begins_left_out(words: &[Word], place: usize) -> bool
     requires place { place ≤ length words.now }
     requires few { length words.now < 2 ^ 32 }
-    ensures { result ≡ code_at limited words.now place }
+    ensures { result ≡ begins_left_out words.now place }
+{
+    is_left_out_at(words, place) || names_attribute(words, place) || defines_type(words, place)
+}
+
+/// The construct that the word begins where that could stand.
+fn construct_of(kind: WordKind) -> Option<Construct>
+    ensures { result ≡ construct_of kind }
+{
+    match kind {
+        WordKind::Keyword(Keyword::As) => Some(Construct::Cast),
+        WordKind::Keyword(Keyword::If) => Some(Construct::Guard),
+        WordKind::Keyword(Keyword::Else) => Some(Construct::LetElse),
+        WordKind::Lifetime => Some(Construct::Label),
+        WordKind::Mark(Mark::Less) => Some(Construct::BoundType),
+        WordKind::Open(Bracket::Paren) => Some(Construct::BoundType),
+        WordKind::Semicolon => Some(Construct::LetAlone),
+        _ => None,
+    }
+}
+
+fn construct_at(words: &[Word], place: usize) -> Option<Construct>
+    ensures { result ≡ construct_at words.now place }
+{
+    match words.get(place) {
+        None => None,
+        Some(word) => construct_of(word.kind),
+    }
+}
+
+/// Whether the word at the place, to which the reading of the words comes, begins a construct that is left out.
+fn is_left_out_there(alloc: Global, words: &[Word], place: usize) -> Result<bool, NoMemory>
+    requires place { place ≤ length words.now }
+    requires few { length words.now < 2 ^ 32 }
+    requires comes { ComesTo words.now place }
+    ensures { IfOk result (λ yes. Decides yes (IsLeftOut words.now place)) }
+{
+    if begins_left_out(words, place) {
+        return Ok(true);
+    }
+    match construct_at(words, place) {
+        None => Ok(false),
+        Some(construct) => stands_there(alloc, construct, words, place),
+    }
+}
+
+/// The code of the refusal at that word, or at the end, where the reading of the words comes to: E04 where a limit is
+/// passed; else E20 where the word begins a construct of Rust that the language leaves out; else E03. Err only for want of
+/// memory.
+pub fn code_at(alloc: Global, limited: bool, words: &[Word], place: usize) -> Result<Code, NoMemory>
+    requires place { place ≤ length words.now }
+    requires few { length words.now < 2 ^ 32 }
+    requires comes { ComesTo words.now place }
+    ensures { IfOk result (λ code. IsCode limited words.now place code) }
 {
     if limited {
-        Code::E04
-    } else if is_left_out_at(words, place)
-        || names_attribute(words, place)
-        || defines_type(words, place)
-    {
-        Code::E20
+        return Ok(Code::E04);
+    }
+    if is_left_out_there(alloc, words, place)? {
+        Ok(Code::E20)
     } else {
-        Code::E03
+        Ok(Code::E03)
     }
 }

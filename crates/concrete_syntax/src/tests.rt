@@ -79,7 +79,7 @@ fn texts_are_spelled_or_refused_where_they_cannot_continue(rt: HostRuntime) {
             b"fn f() { x::<u32>::new(); Vec::<T>::new(3); a::b::c::<T>(x); <T as Tr>::f(x); x.m::<T>(1).0.y(2)(3); }".as_slice(),
             None,
         ),
-        (b"fn f() { let x; }".as_slice(), Some((Code::E03, 14, 15))),
+        (b"fn f() { let x; }".as_slice(), Some((Code::E20, 14, 15))),
         (b"fn f() { unsafe {} }".as_slice(), Some((Code::E20, 9, 15))),
         (b"fn f() { vec!(1) }".as_slice(), Some((Code::E20, 9, 12))),
         (b"fn f(x: f64) {}".as_slice(), Some((Code::E20, 8, 11))),
@@ -116,11 +116,11 @@ fn texts_are_spelled_or_refused_where_they_cannot_continue(rt: HostRuntime) {
         ),
         (
             b"#[ensures(x as u8)] fn f() {}".as_slice(),
-            Some((Code::E03, 12, 14)),
+            Some((Code::E20, 12, 14)),
         ),
         (
             b"fn f() { match x { a if b => 1 } }".as_slice(),
-            Some((Code::E03, 21, 23)),
+            Some((Code::E20, 21, 23)),
         ),
         (
             b"fn f<F: Fn(u32) -> bool + Copy>(g: F) where F: FnOnce(u8), 'a: 'b {}".as_slice(),
@@ -180,8 +180,64 @@ fn texts_are_spelled_or_refused_where_they_cannot_continue(rt: HostRuntime) {
         ),
         (
             b"fn f() { 'a: loop {} }".as_slice(),
-            Some((Code::E03, 9, 11)),
+            Some((Code::E20, 9, 11)),
         ),
+        (
+            b"#[ensures(1 + as)] fn f() {}".as_slice(),
+            Some((Code::E20, 14, 16)),
+        ),
+        (
+            b"fn f() { proof_assert!(x as u8 == y); }".as_slice(),
+            Some((Code::E20, 25, 27)),
+        ),
+        (b"fn f() { 1 + as }".as_slice(), Some((Code::E03, 13, 15))),
+        (
+            b"fn f() { match x { S { a } | b => 1 } }".as_slice(),
+            Some((Code::E20, 27, 28)),
+        ),
+        (
+            b"fn f() { match x { A => 1 if b } }".as_slice(),
+            Some((Code::E03, 26, 28)),
+        ),
+        (
+            b"fn f() { x 'a: loop {} }".as_slice(),
+            Some((Code::E03, 11, 13)),
+        ),
+        (
+            b"fn f() { let x: u8; }".as_slice(),
+            Some((Code::E20, 18, 19)),
+        ),
+        (b"fn f() { x = ; }".as_slice(), Some((Code::E03, 13, 14))),
+        (b"fn f() { (x; }".as_slice(), Some((Code::E03, 11, 12))),
+        (
+            b"impl S { type ViewTy; }".as_slice(),
+            Some((Code::E03, 20, 21)),
+        ),
+        (
+            b"fn f() { let x = a.b else { return }; }".as_slice(),
+            Some((Code::E20, 21, 25)),
+        ),
+        (
+            b"fn f() { let x = if a { b } else { c } else { d }; }".as_slice(),
+            Some((Code::E20, 39, 43)),
+        ),
+        (
+            b"fn f() { a else {} }".as_slice(),
+            Some((Code::E03, 11, 15)),
+        ),
+        (
+            b"fn f<T>() where <T as A>: B {}".as_slice(),
+            Some((Code::E20, 16, 17)),
+        ),
+        (
+            b"fn f() where T: A, (u8): B {}".as_slice(),
+            Some((Code::E20, 19, 20)),
+        ),
+        (
+            b"fn f() where &T: B {}".as_slice(),
+            Some((Code::E20, 13, 14)),
+        ),
+        (b"fn f<(>() {}".as_slice(), Some((Code::E03, 5, 6))),
     ];
     for (text, refusal) in cases {
         assert!(rt; is_answered(rt.alloc(), text, refusal));

@@ -1,5 +1,5 @@
 use Rattle.std.proofs.Common.{◌≡◌, ◌≤◌, drop, false}
-use Rattle.concrete_syntax.specs.Parsed.{past_words}
+use Rattle.concrete_syntax.specs.LeftOut.{past_words}
 use Rattle.concrete_syntax.proofs.refusal.is_in_impl.Given as goal
 
 abbrev pub invariant-loop-word : goal.invariant-loop-word
