@@ -13,6 +13,7 @@ use Rattle.concrete_syntax.specs.declared.kinds.WordKind.{WordKind}
 use Rattle.concrete_syntax.specs.declared.kinds.WordKind.TheVariants as K
 use Rattle.concrete_syntax.specs.declared.kinds.Mark.TheVariants as M
 use Rattle.concrete_syntax.specs.declared.kinds.Keyword.TheVariants as W
+use Rattle.concrete_syntax.specs.declared.kinds.CommonWord.TheVariants as O
 use Rattle.concrete_syntax.specs.declared.kinds.MacroWord.TheVariants as X
 use Rattle.concrete_syntax.specs.declared.kinds.Bracket.TheVariants as B
 use Rattle.concrete_syntax.specs.declared.omitted.Construct.{Construct}
@@ -42,6 +43,7 @@ is_left_out (K.Mark M.Or) = true
 is_left_out (K.Mark M.Question) = true
 is_left_out (K.Mark M.StrayPathSep) = true
 is_left_out (K.Open B.Square) = true
+is_left_out (K.Common O.Reserved) = true
 is_left_out (K.Macro X.UnlistedMacro) = true
 is_left_out K.OddType = true
 is_left_out K.Str = true

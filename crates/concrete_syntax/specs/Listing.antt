@@ -17,7 +17,7 @@ use Rattle.concrete_syntax.specs.declared.kinds.Bracket.TheVariants as B
 
 -- every kind of word, each at its number
 abbrev pub kinds : List WordKind
-kinds = (K.Mark M.Implies) ∷ (K.Mark M.EqualEqual) ∷ (K.Mark M.FatArrow) ∷ (K.Mark M.Arrow) ∷ (K.Mark M.NotEqual) ∷ (K.Mark M.AtMost) ∷ (K.Mark M.AtLeast) ∷ (K.Mark M.AndAnd) ∷ (K.Mark M.OrOr) ∷ (K.Mark M.PlusEqual) ∷ (K.Mark M.MinusEqual) ∷ (K.Mark M.StarEqual) ∷ (K.Mark M.SlashEqual) ∷ (K.Mark M.PercentEqual) ∷ (K.Mark M.PathSep) ∷ (K.Mark M.StrayPathSep) ∷ (K.Mark M.DotDot) ∷ (K.Mark M.Less) ∷ (K.Mark M.Greater) ∷ (K.Mark M.Equal) ∷ (K.Mark M.Plus) ∷ (K.Mark M.Minus) ∷ (K.Mark M.Star) ∷ (K.Mark M.Slash) ∷ (K.Mark M.Percent) ∷ (K.Mark M.Not) ∷ (K.Mark M.And) ∷ (K.Mark M.Or) ∷ (K.Mark M.Caret) ∷ (K.Mark M.At) ∷ (K.Mark M.Hash) ∷ (K.Mark M.HashBang) ∷ (K.Mark M.HashLogic) ∷ (K.Mark M.HashLaw) ∷ (K.Mark M.HashSkip) ∷ (K.Mark M.Comma) ∷ (K.Mark M.Colon) ∷ (K.Mark M.Dot) ∷ (K.Mark M.Question) ∷ (K.Mark M.Underscore) ∷ (K.Keyword W.As) ∷ (K.Keyword W.Break) ∷ (K.Keyword W.Const) ∷ (K.Keyword W.Continue) ∷ (K.Keyword W.Crate) ∷ (K.Keyword W.Else) ∷ (K.Keyword W.Enum) ∷ (K.Keyword W.Extern) ∷ (K.Keyword W.False) ∷ (K.Keyword W.Fn) ∷ (K.Keyword W.For) ∷ (K.Keyword W.If) ∷ (K.Keyword W.Impl) ∷ (K.Keyword W.In) ∷ (K.Keyword W.Let) ∷ (K.Keyword W.Loop) ∷ (K.Keyword W.Match) ∷ (K.Keyword W.Mod) ∷ (K.Keyword W.Move) ∷ (K.Keyword W.Mut) ∷ (K.Keyword W.Pub) ∷ (K.Keyword W.Ref) ∷ (K.Keyword W.Return) ∷ (K.Keyword W.SelfValue) ∷ (K.Keyword W.SelfType) ∷ (K.Keyword W.Static) ∷ (K.Keyword W.Struct) ∷ (K.Keyword W.Super) ∷ (K.Keyword W.Trait) ∷ (K.Keyword W.True) ∷ (K.Keyword W.TypeWord) ∷ (K.Keyword W.Unsafe) ∷ (K.Keyword W.Use) ∷ (K.Keyword W.OtherUse) ∷ (K.Keyword W.Where) ∷ (K.Keyword W.While) ∷ (K.Keyword W.Async) ∷ (K.Keyword W.Await) ∷ (K.Keyword W.Dyn) ∷ (K.Common C.Ident) ∷ (K.Common C.FunctionClause) ∷ (K.Common C.Invariant) ∷ (K.Common C.Variant) ∷ (K.Common C.Logic) ∷ (K.Common C.Law) ∷ (K.Common C.Derive) ∷ (K.Common C.Skip) ∷ (K.Common C.CreusotContracts) ∷ (K.Common C.Std) ∷ (K.Common C.ViewTy) ∷ (K.Macro X.UnlistedMacro) ∷ (K.Macro X.PanicMacro) ∷ (K.Macro X.GhostMacro) ∷ (K.Logical G.Result) ∷ (K.Logical G.Quantifier) ∷ (K.Logical G.MutRef) ∷ (K.Logical G.Predicate) ∷ (K.Open B.Paren) ∷ (K.Open B.Square) ∷ (K.Open B.Brace) ∷ (K.Close B.Paren) ∷ (K.Close B.Square) ∷ (K.Close B.Brace) ∷ K.Pearlite ∷ K.CallTrait ∷ K.OddType ∷ K.Semicolon ∷ K.Int ∷ K.Str ∷ K.Lifetime ∷ K.StaticLifetime ∷ []
+kinds = (K.Mark M.Implies) ∷ (K.Mark M.EqualEqual) ∷ (K.Mark M.FatArrow) ∷ (K.Mark M.Arrow) ∷ (K.Mark M.NotEqual) ∷ (K.Mark M.AtMost) ∷ (K.Mark M.AtLeast) ∷ (K.Mark M.AndAnd) ∷ (K.Mark M.OrOr) ∷ (K.Mark M.PlusEqual) ∷ (K.Mark M.MinusEqual) ∷ (K.Mark M.StarEqual) ∷ (K.Mark M.SlashEqual) ∷ (K.Mark M.PercentEqual) ∷ (K.Mark M.PathSep) ∷ (K.Mark M.StrayPathSep) ∷ (K.Mark M.DotDot) ∷ (K.Mark M.Less) ∷ (K.Mark M.Greater) ∷ (K.Mark M.Equal) ∷ (K.Mark M.Plus) ∷ (K.Mark M.Minus) ∷ (K.Mark M.Star) ∷ (K.Mark M.Slash) ∷ (K.Mark M.Percent) ∷ (K.Mark M.Not) ∷ (K.Mark M.And) ∷ (K.Mark M.Or) ∷ (K.Mark M.Caret) ∷ (K.Mark M.At) ∷ (K.Mark M.Hash) ∷ (K.Mark M.HashBang) ∷ (K.Mark M.HashLogic) ∷ (K.Mark M.HashLaw) ∷ (K.Mark M.HashSkip) ∷ (K.Mark M.Comma) ∷ (K.Mark M.Colon) ∷ (K.Mark M.Dot) ∷ (K.Mark M.Question) ∷ (K.Mark M.Underscore) ∷ (K.Keyword W.As) ∷ (K.Keyword W.Break) ∷ (K.Keyword W.Const) ∷ (K.Keyword W.Continue) ∷ (K.Keyword W.Crate) ∷ (K.Keyword W.Else) ∷ (K.Keyword W.Enum) ∷ (K.Keyword W.Extern) ∷ (K.Keyword W.False) ∷ (K.Keyword W.Fn) ∷ (K.Keyword W.For) ∷ (K.Keyword W.If) ∷ (K.Keyword W.Impl) ∷ (K.Keyword W.In) ∷ (K.Keyword W.Let) ∷ (K.Keyword W.Loop) ∷ (K.Keyword W.Match) ∷ (K.Keyword W.Mod) ∷ (K.Keyword W.Move) ∷ (K.Keyword W.Mut) ∷ (K.Keyword W.Pub) ∷ (K.Keyword W.Ref) ∷ (K.Keyword W.Return) ∷ (K.Keyword W.SelfValue) ∷ (K.Keyword W.SelfType) ∷ (K.Keyword W.Static) ∷ (K.Keyword W.Struct) ∷ (K.Keyword W.Super) ∷ (K.Keyword W.Trait) ∷ (K.Keyword W.True) ∷ (K.Keyword W.TypeWord) ∷ (K.Keyword W.Unsafe) ∷ (K.Keyword W.Use) ∷ (K.Keyword W.OtherUse) ∷ (K.Keyword W.Where) ∷ (K.Keyword W.While) ∷ (K.Keyword W.Async) ∷ (K.Keyword W.Await) ∷ (K.Keyword W.Dyn) ∷ (K.Common C.Ident) ∷ (K.Common C.FunctionClause) ∷ (K.Common C.Invariant) ∷ (K.Common C.Variant) ∷ (K.Common C.Logic) ∷ (K.Common C.Law) ∷ (K.Common C.Derive) ∷ (K.Common C.Skip) ∷ (K.Common C.CreusotContracts) ∷ (K.Common C.Std) ∷ (K.Common C.ViewTy) ∷ (K.Common C.Reserved) ∷ (K.Macro X.UnlistedMacro) ∷ (K.Macro X.PanicMacro) ∷ (K.Macro X.GhostMacro) ∷ (K.Logical G.Result) ∷ (K.Logical G.Quantifier) ∷ (K.Logical G.MutRef) ∷ (K.Logical G.Predicate) ∷ (K.Open B.Paren) ∷ (K.Open B.Square) ∷ (K.Open B.Brace) ∷ (K.Close B.Paren) ∷ (K.Close B.Square) ∷ (K.Close B.Brace) ∷ K.Pearlite ∷ K.CallTrait ∷ K.OddType ∷ K.Semicolon ∷ K.Int ∷ K.Str ∷ K.Lifetime ∷ K.StaticLifetime ∷ []
 
 abbrev pub mark_number : Mark → ℕ
 mark_number M.Implies = 0
@@ -114,6 +114,7 @@ common_number C.Skip = 7
 common_number C.CreusotContracts = 8
 common_number C.Std = 9
 common_number C.ViewTy = 10
+common_number C.Reserved = 11
 
 abbrev pub macro_number : MacroWord → ℕ
 macro_number X.UnlistedMacro = 0
@@ -135,15 +136,15 @@ abbrev pub number_of : WordKind → ℕ
 number_of (K.Mark w) = mark_number w
 number_of (K.Keyword w) = 40 + keyword_number w
 number_of (K.Common w) = 79 + common_number w
-number_of (K.Macro w) = 90 + macro_number w
-number_of (K.Logical w) = 93 + logical_number w
-number_of (K.Open w) = 97 + bracket_number w
-number_of (K.Close w) = 100 + bracket_number w
-number_of K.Pearlite = 103
-number_of K.CallTrait = 104
-number_of K.OddType = 105
-number_of K.Semicolon = 106
-number_of K.Int = 107
-number_of K.Str = 108
-number_of K.Lifetime = 109
-number_of K.StaticLifetime = 110
+number_of (K.Macro w) = 91 + macro_number w
+number_of (K.Logical w) = 94 + logical_number w
+number_of (K.Open w) = 98 + bracket_number w
+number_of (K.Close w) = 101 + bracket_number w
+number_of K.Pearlite = 104
+number_of K.CallTrait = 105
+number_of K.OddType = 106
+number_of K.Semicolon = 107
+number_of K.Int = 108
+number_of K.Str = 109
+number_of K.Lifetime = 110
+number_of K.StaticLifetime = 111

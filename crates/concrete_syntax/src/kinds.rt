@@ -193,6 +193,8 @@ pub enum CommonWord {
     Std,
     /// `ViewTy`
     ViewTy,
+    /// `union`, `box` or `yield`
+    Reserved,
 }
 
 /// Identifiers that are names of macros in expressions.

@@ -115,6 +115,7 @@ fn common_number(word: CommonWord) -> u8
         CommonWord::CreusotContracts => 8,
         CommonWord::Std => 9,
         CommonWord::ViewTy => 10,
+        CommonWord::Reserved => 11,
     }
 }
 
@@ -160,18 +161,18 @@ fn number_of(kind: WordKind) -> u8
         WordKind::Mark(word) => mark_number(word),
         WordKind::Keyword(word) => 40 + keyword_number(word),
         WordKind::Common(word) => 79 + common_number(word),
-        WordKind::Macro(word) => 90 + macro_number(word),
-        WordKind::Logical(word) => 93 + logical_number(word),
-        WordKind::Open(word) => 97 + bracket_number(word),
-        WordKind::Close(word) => 100 + bracket_number(word),
-        WordKind::Pearlite => 103,
-        WordKind::CallTrait => 104,
-        WordKind::OddType => 105,
-        WordKind::Semicolon => 106,
-        WordKind::Int => 107,
-        WordKind::Str => 108,
-        WordKind::Lifetime => 109,
-        WordKind::StaticLifetime => 110,
+        WordKind::Macro(word) => 91 + macro_number(word),
+        WordKind::Logical(word) => 94 + logical_number(word),
+        WordKind::Open(word) => 98 + bracket_number(word),
+        WordKind::Close(word) => 101 + bracket_number(word),
+        WordKind::Pearlite => 104,
+        WordKind::CallTrait => 105,
+        WordKind::OddType => 106,
+        WordKind::Semicolon => 107,
+        WordKind::Int => 108,
+        WordKind::Str => 109,
+        WordKind::Lifetime => 110,
+        WordKind::StaticLifetime => 111,
     }
 }
 

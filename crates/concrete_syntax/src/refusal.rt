@@ -2,7 +2,7 @@
 ghost use Rattle.std.specs.Prelude.{◌≡◌, ◌+◌, ◌<◌, ◌^◌, ◌≤◌, length, slice_get, IfOk, Decides};
 ghost use Rattle.concrete_syntax.specs.LeftOut.{is_left_out, is_name, is_square, is_hash, is_type, says, word_before, names_attribute, past_word, is_in_impl, defines_type, begins_left_out, construct_of, construct_at, IsLeftOut, IsCode, ComesTo};
 
-use crate::kinds::{Bracket, Keyword, MacroWord, Mark, WordKind};
+use crate::kinds::{Bracket, CommonWord, Keyword, MacroWord, Mark, WordKind};
 use crate::omitted::Construct;
 use crate::standing::stands_there;
 use crate::word::Word;
@@ -32,6 +32,7 @@ fn is_left_out(kind: WordKind) -> bool
         WordKind::Mark(Mark::Question) => true,
         WordKind::Mark(Mark::StrayPathSep) => true,
         WordKind::Open(Bracket::Square) => true,
+        WordKind::Common(CommonWord::Reserved) => true,
         WordKind::Macro(MacroWord::UnlistedMacro) => true,
         WordKind::OddType => true,
         WordKind::Str => true,

@@ -238,6 +238,12 @@ fn texts_are_spelled_or_refused_where_they_cannot_continue(rt: HostRuntime) {
             Some((Code::E20, 13, 14)),
         ),
         (b"fn f<(>() {}".as_slice(), Some((Code::E03, 5, 6))),
+        (b"union U { a: u8 }".as_slice(), Some((Code::E20, 0, 5))),
+        (b"fn f() { x box }".as_slice(), Some((Code::E20, 11, 14))),
+        (
+            b"fn union(box: u8) { let yield = box; S { union } }".as_slice(),
+            None,
+        ),
     ];
     for (text, refusal) in cases {
         assert!(rt; is_answered(rt.alloc(), text, refusal));

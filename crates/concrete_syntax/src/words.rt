@@ -15,7 +15,7 @@ use text_core::{Items, NoMemory, Span};
 const STATIC: &str = "'static";
 
 /// The quoted words: identifiers that the grammar tells from others.
-const QUOTED: [(&str, WordKind); 36] = [
+const QUOTED: [(&str, WordKind); 39] = [
     ("requires", WordKind::Common(CommonWord::FunctionClause)),
     ("ensures", WordKind::Common(CommonWord::FunctionClause)),
     ("invariant", WordKind::Common(CommonWord::Invariant)),
@@ -33,6 +33,9 @@ const QUOTED: [(&str, WordKind); 36] = [
     ),
     ("std", WordKind::Common(CommonWord::Std)),
     ("ViewTy", WordKind::Common(CommonWord::ViewTy)),
+    ("union", WordKind::Common(CommonWord::Reserved)),
+    ("box", WordKind::Common(CommonWord::Reserved)),
+    ("yield", WordKind::Common(CommonWord::Reserved)),
     ("panic", WordKind::Macro(MacroWord::PanicMacro)),
     ("unreachable", WordKind::Macro(MacroWord::PanicMacro)),
     ("proof_assert", WordKind::Macro(MacroWord::GhostMacro)),
