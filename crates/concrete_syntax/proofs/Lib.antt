@@ -1,3 +1,4 @@
+pub mod Along
 pub mod Blanks
 pub mod Following
 pub mod Heads
@@ -5,6 +6,7 @@ pub mod Levels
 pub mod Listed
 pub mod PlanFits
 pub mod Planning
+pub mod Revalued
 pub mod Steps
 pub mod Symbols
 pub mod Telling

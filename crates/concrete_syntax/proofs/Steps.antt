@@ -1,47 +1,19 @@
--- One more part of a rule, and one more rule.
-use Rattle.std.specs.Prelude.{◌≡◌, ℕ, zero, suc, Bool, true, false, List, [], ◌∷◌, ◌++◌, drop, length, ◌<◌, ◌≤◌, ◌+◌, ◌*◌, ◌-◌, ◌⊎◌}
-use Rattle.std.proofs.Common.{Some, None, refl, sym, ◌∙◌, ap, subst, append_assoc, append-nil, arith, inl, inr, get_or, true≢false, Result, Ok, Err, MatchResult, drop-cons, add-one, eq-or-lt_of_le, drop_of_length-le, not}
-use Rattle.token_grammar.specs.Grammar.{Symbol as GrammarSymbol, terminal, nonterminal, next_kind}
-use Rattle.token_grammar.specs.Reads.{Outcome, ok, stop, Reads, ReadsParts, step, fail}
-use Rattle.token_grammar.specs.Reads.ReadsParts.{nil, miss, token_ok, token_stop, phrase_stop, phrase_ok, phrase_then}
-use Rattle.token_grammar.specs.Reads.ReadsTail.{done, more}
+-- How far a reading goes: measures that fall.
+use Rattle.std.specs.Prelude.{◌≡◌, ℕ, zero, suc, Bool, true, false, List, [], ◌∷◌, drop, length, ◌<◌, ◌≤◌, ◌+◌, ◌*◌, ◌-◌, ◌⊎◌}
+use Rattle.std.proofs.Common.{Some, None, refl, sym, ◌∙◌, ap, arith, inl, inr, true≢false, not}
+use Rattle.token_grammar.specs.Grammar.{Symbol as GrammarSymbol, terminal, nonterminal}
 use Rattle.token_grammar.specs.Tables.{IsHeaded}
-use Rattle.concrete_syntax.specs.declared.word.Word.{Word}
 use Rattle.concrete_syntax.specs.declared.kinds.WordKind.{WordKind}
 use Rattle.concrete_syntax.specs.declared.rule.Rule.{Rule}
 use Rattle.concrete_syntax.specs.declared.phrases.Nonterminal.{Nonterminal}
 use Rattle.concrete_syntax.specs.declared.rule.Symbol.{Symbol}
 use Rattle.concrete_syntax.specs.declared.rule.Symbol.TheVariants as S
-use Rattle.concrete_syntax.specs.declared.reading.Stop.{Stop}
-use Rattle.concrete_syntax.specs.declared.reading.Stop.TheVariants.{Refused, NoMemory}
-use Rattle.concrete_syntax.specs.declared.event.Event.{Event}
-use Rattle.concrete_syntax.specs.declared.event.Event.TheVariants as V
-use Rattle.concrete_syntax.specs.Answer.{symbol_of, takes, Answer, PartsStopped, PartRead, PartStopped}
-use Rattle.concrete_syntax.specs.Choices.{choose}
-use Rattle.concrete_syntax.specs.Make.{make}
+use Rattle.concrete_syntax.specs.Answer.{symbol_of, takes}
 use Rattle.concrete_syntax.specs.Productions.{at, symbol}
-use Rattle.concrete_syntax.specs.Rules.{parts_of, left_of, may_end, part_of, tail_of}
-use Rattle.concrete_syntax.specs.Sources.{sources, within, level_in, chain_behind}
+use Rattle.concrete_syntax.specs.Rules.{parts_of, left_of, may_end, part_of}
+use Rattle.concrete_syntax.specs.Sources.{sources}
 use Rattle.concrete_syntax.proofs.Levels.{level, is_lower, first_is_lower, is_low, few_parts}
 use Rattle.concrete_syntax.proofs.Heads.{is_exact}
-
-unfoldable pub put : List (List Event) → Outcome (List (List Event)) Word → Outcome (List (List Event)) Word
-put vs (ok ws ys) = ok (vs ++ ws) ys
-put vs (stop b ys) = stop b ys
-
-unfoldable pub with : List Event → Outcome (List (List Event)) Word → Outcome (List (List Event)) Word
-with v (ok vs ys) = ok (v ∷ vs) ys
-with v (stop b ys) = stop b ys
-
-put_with : (vs : List (List Event)) (v : List Event) (o : Outcome (List (List Event)) Word) → put vs (with v o) ≡ put (vs ++ (v ∷ [])) o
-unfolding put with
-put_with vs v (ok ws ys) = ap (λ us. ok us ys) (sym (append_assoc vs (v ∷ []) ws))
-put_with vs v (stop b ys) = refl
-
-pub put_none : (o : Outcome (List (List Event)) Word) → put [] o ≡ o
-unfolding put
-put_none (ok ws ys) = refl
-put_none (stop b ys) = refl
 
 -- the symbol of a number stands at the head of what is left
 pub left_one : (ss : List (GrammarSymbol WordKind Nonterminal)) (i : ℕ) (s : Symbol) → symbol (at ss i) ≡ Some s → drop i ss ≡ symbol_of s ∷ drop (suc i) ss
@@ -56,45 +28,6 @@ left_none [] (suc i) e = refl
 left_none (terminal j ∷ ss) zero e = absurd cc
 left_none (nonterminal m ∷ ss) zero e = absurd cc
 left_none (s ∷ ss) (suc i) e = left_none ss i e
-
--- what is read from the place on, given what is read from here on
-unfoldable pub Along : Rule → ℕ → List Word → List (List Event) → ℕ → List Word → Type 0
-Along r d xs vs i ys = (o : Outcome (List (List Event)) Word) → ReadsParts sources (drop i (parts_of r)) d ys o → ReadsParts sources (parts_of r) d xs (put vs o)
-
-pub along_start : (r : Rule) (d : ℕ) (xs : List Word) → Along r d xs [] 0 xs
-unfolding Along
-along_start r d xs o p = rw (put_none o) p
-
-one_more : (ss : List (GrammarSymbol WordKind Nonterminal)) (s : GrammarSymbol WordKind Nonterminal) (d : ℕ) (v : List Event) (ys zs : List Word) (o : Outcome (List (List Event)) Word) →
-    ReadsParts sources (s ∷ []) d ys (ok (v ∷ []) zs) → ReadsParts sources ss d zs o → ReadsParts sources (s ∷ ss) d ys (with v o)
-unfolding with
-one_more ss (terminal k) d v ys zs (ok ws us) (token_ok e nil) p = token_ok e p
-one_more ss (terminal k) d v ys zs (stop b us) (token_ok e nil) p = token_stop e p
-one_more ss (nonterminal n) d v ys zs (ok ws us) (phrase_ok q nil) p = phrase_ok q p
-one_more ss (nonterminal n) d v ys zs (stop b us) (phrase_ok q nil) p = phrase_then q p
-
-one_stop : (ss : List (GrammarSymbol WordKind Nonterminal)) (s : GrammarSymbol WordKind Nonterminal) (d : ℕ) (b : Bool) (ys zs : List Word) →
-    ReadsParts sources (s ∷ []) d ys (stop b zs) → ReadsParts sources (s ∷ ss) d ys (stop b zs)
-one_stop ss (terminal k) d b ys zs (miss e) = miss e
-one_stop ss (terminal k) d b ys zs (token_stop e p) = elim p [ ]
-one_stop ss (nonterminal n) d b ys zs (phrase_then q p) = elim p [ ]
-one_stop ss (nonterminal n) d b ys zs (phrase_stop q) = phrase_stop q
-
-pub along_one : (r : Rule) (d : ℕ) (xs : List Word) (vs : List (List Event)) (i : ℕ) (s : Symbol) (v : List Event) (ys zs : List Word) →
-    part_of r i ≡ Some s → ReadsParts sources (symbol_of s ∷ []) d ys (ok (v ∷ []) zs) → Along r d xs vs i ys → Along r d xs (vs ++ (v ∷ [])) (suc i) zs
-unfolding Along
-along_one r d xs vs i s v ys zs e f g o p = subst (λ (q : Outcome (List (List Event)) Word). ReadsParts sources (parts_of r) d xs q) (put_with vs v o)
-    (g (with v o) (rw (left_one (parts_of r) i s e) (one_more (drop (suc i) (parts_of r)) (symbol_of s) d v ys zs o f p)))
-
-pub along_stop : (r : Rule) (d : ℕ) (xs : List Word) (vs : List (List Event)) (i : ℕ) (s : Symbol) (b : Bool) (ys zs : List Word) →
-    part_of r i ≡ Some s → ReadsParts sources (symbol_of s ∷ []) d ys (stop b zs) → Along r d xs vs i ys → ReadsParts sources (parts_of r) d xs (stop b zs)
-unfolding Along put
-along_stop r d xs vs i s b ys zs e f g = g (stop b zs) (rw (left_one (parts_of r) i s e) (one_stop (drop (suc i) (parts_of r)) (symbol_of s) d b ys zs f))
-
-pub along_end : (r : Rule) (d : ℕ) (xs : List Word) (vs : List (List Event)) (i : ℕ) (ys : List Word) →
-    part_of r i ≡ None → Along r d xs vs i ys → ReadsParts sources (parts_of r) d xs (ok vs ys)
-unfolding Along put
-along_end r d xs vs i ys e g = subst (λ us. ReadsParts sources (parts_of r) d xs (ok us ys)) (append-nil vs) (g (ok [] ys) (rw (left_none (parts_of r) i e) nil))
 
 -- how far a symbol goes before it takes a token
 unfoldable pub depth_of : Symbol → ℕ
@@ -134,31 +67,6 @@ few r i e = grind (arith, bound (parts_of r) i e, few_parts r)
 pub low : (n : Nonterminal) → level n < 30
 low n = grind (arith, is_low n)
 
--- what the whole nonterminal reads, given what is read from here on
-unfoldable pub Onward : Nonterminal → ℕ → List Word → Nonterminal → ℕ → List Event → List Word → Type 0
-Onward n d xs m c a ys = (o : Outcome (List Event) Word) → Reads sources m d c a ys o → Reads sources n d 0 [] xs o
-
-pub onward_start : (n : Nonterminal) (d : ℕ) (xs : List Word) → Onward n d xs n 0 [] xs
-unfolding Onward
-onward_start n d xs o p = p
-
-pub onward_next : (n : Nonterminal) (d : ℕ) (xs : List Word) (m : Nonterminal) (c : ℕ) (a : List Event) (ys : List Word) (r : Rule) (vs : List (List Event)) (zs : List Word) (q : Nonterminal) →
-    choose m (next_kind sources ys) ≡ Some r → within r d c ≡ true → ReadsParts sources (parts_of r) (level_in r d) ys (ok vs zs) → tail_of r ≡ Some q →
-    Onward n d xs m c a ys → Onward n d xs q (chain_behind r c) (make r a vs) zs
-unfolding Onward
-onward_next n d xs m c a ys r vs zs q e f ps t g o p = g o (step r e f ps (rw t (more p)))
-
-pub onward_last : (n : Nonterminal) (d : ℕ) (xs : List Word) (m : Nonterminal) (c : ℕ) (a : List Event) (ys : List Word) (r : Rule) (vs : List (List Event)) (zs : List Word) →
-    choose m (next_kind sources ys) ≡ Some r → within r d c ≡ true → ReadsParts sources (parts_of r) (level_in r d) ys (ok vs zs) → tail_of r ≡ None →
-    Onward n d xs m c a ys → Reads sources n d 0 [] xs (ok (make r a vs) zs)
-unfolding Onward
-onward_last n d xs m c a ys r vs zs e f ps t g = g (ok (make r a vs) zs) (step r e f ps (rw t done))
-
-pub onward : (n : Nonterminal) (d : ℕ) (xs : List Word) (m : Nonterminal) (c : ℕ) (a : List Event) (ys : List Word) (o : Outcome (List Event) Word) →
-    Onward n d xs m c a ys → Reads sources m d c a ys o → Reads sources n d 0 [] xs o
-unfolding Onward
-onward n d xs m c a ys o g p = g o p
-
 pub depth_low : (s : Symbol) → depth_of s < 94
 unfolding depth_of
 depth_low (S.Word k) = omega arith
@@ -190,46 +98,9 @@ gone i j k r (inr e) o = e
 pub on_past : (i j k : ℕ) → ((j ≡ j) × (j ≡ i)) ⊎ (i < j) → i ≤ j → j < k → i < k
 on_past i j k e f g = omega arith
 
-pub stopped : (ts : List Word) (n : Nonterminal) (d i : ℕ) (m : Nonterminal) (c : ℕ) (a : List Event) (j : ℕ) (r : Rule) (e : ℕ) (w : Stop) →
-    choose m (next_kind sources (drop j ts)) ≡ Some r → within r d c ≡ true → e ≡ level_in r d → Onward n d (drop i ts) m c a (drop j ts) →
-    PartsStopped ts r e j w → Answer ts n d i (Err w)
-unfolding Onward
-stopped ts n d i m c a j r e (Refused k b) f g h o q = (q.0, o (stop b (drop k ts)) (fail r f g (rw h at q.1)))
-stopped ts n d i m c a j r e NoMemory f g h o q = tt
-
-pub part_stopped : (ts : List Word) (r : Rule) (d i : ℕ) (vs : List (List Event)) (k : ℕ) (s : Symbol) (j : ℕ) (w : Stop) →
-    part_of r k ≡ Some s → Along r d (drop i ts) vs k (drop j ts) → PartStopped ts s d j w → PartsStopped ts r d i w
-part_stopped ts r d i vs k s j (Refused l b) e o q = (q.0, along_stop r d (drop i ts) vs k s b (drop j ts) (drop l ts) e q.1 o)
-part_stopped ts r d i vs k s j NoMemory e o q = tt
-
-pub one_token : (ts : List Word) (d i : ℕ) (k : WordKind) (t₀ : Word) → i < length ts → (get_or ts i t₀).kind ≡ k →
-    PartRead ts (S.Word k) d i (V.Word (get_or ts i t₀) ∷ []) (i + 1)
-one_token ts d i k t₀ h e = (
-  omega arith,
-  omega arith,
-  λ f. omega arith,
-  rw (add-one, drop-cons ts i t₀ h) (token_ok e nil),
-)
-
-pub no_token : (ts : List Word) (d i : ℕ) (k : WordKind) (t₀ : Word) → (i < length ts → (get_or ts i t₀).kind ≡ k → ⊥) → i ≤ length ts →
-    ReadsParts sources (terminal k ∷ []) d (drop i ts) (stop false (drop i ts))
-no_token ts d i k t₀ f h = miss (λ e. other (eq-or-lt_of_le h) e)
-  where
-    other : (i ≡ length ts) ⊎ (i < length ts) → next_kind sources (drop i ts) ≡ Some k → ⊥
-    other (inl g) e = (let d₂ : drop i ts ≡ [] = drop_of_length-le ts (omega (arith, g)) in
-        let e₂ : None ≡ Some k = sym (ap (next_kind sources) d₂) ∙ e in cc)
-    other (inr g) e = (let e₂ : Some ((get_or ts i t₀).kind) ≡ Some k = sym (ap (next_kind sources) (drop-cons ts i t₀ g)) ∙ e in
-        let e₃ : (get_or ts i t₀).kind ≡ k = cc in f g e₃)
-
-turn : (b : Bool) → not b ≡ true → b ≡ false
+pub turn : (b : Bool) → not b ≡ true → b ≡ false
 turn true e = sym e
 turn false e = refl
-
-pub of_part : (ts : List Word) (n : Nonterminal) (d i : ℕ) (w : Result (List Event × ℕ) Stop) → Answer ts n d i w →
-    MatchResult w (λ p. PartRead ts (S.Of n) d i p.0 p.1) (λ e. PartStopped ts (S.Of n) d i e)
-of_part ts n d i (Ok p) q = (q.0, q.1, λ e. q.2 (turn (may_end n) e), phrase_ok q.3 nil)
-of_part ts n d i (Err (Refused k b)) q = (q.0, phrase_stop q.1)
-of_part ts n d i (Err NoMemory) q = tt
 
 pub depth_of_nonterminal : (n : Nonterminal) → depth_of (S.Of n) ≡ 3 * level n + 3
 unfolding depth_of

@@ -23,7 +23,7 @@ use Rattle.concrete_syntax.specs.Answer.{Answer}
 use Rattle.text_core.specs.declared.fault.NoMemory.{NoMemory}
 use Rattle.concrete_syntax.specs.declared.omitted.Construct.{Construct}
 use Rattle.concrete_syntax.specs.LeftOut.{CouldStand, ComesTo, StandsThere, BeginsConstruct, begins_left_out, construct_at, IsLeftOut}
-use Rattle.concrete_syntax.specs.Sources.{sources}
+use Rattle.concrete_syntax.specs.Sources.{phrases, sources}
 use Rattle.concrete_syntax.proofs.Heads.{is_exact}
 use Rattle.concrete_syntax.proofs.Planning.{the_plan}
 use Rattle.concrete_syntax.proofs.PlanFits.{is_planned}
@@ -159,7 +159,7 @@ not_so b e x = (λ f. absurd (true≢false (sym f ∙ e)), λ y. absurd (x y))
 
 -- a reading that is refused behind the other word or past a limit tells that it could stand there, and at it that it could not
 pub refused_tells : (ws : List Word) (place : ℕ) (kind : WordKind) (k : ℕ) (b : Bool) → place ≤ length ws → ComesTo ws place →
-    Answer (take place ws ++ (word_of kind ∷ [])) source 0 0 (Err (Refused k b)) → Decides (b || nat_lt place k) (CouldStand ws place kind)
+    Answer phrases (take place ws ++ (word_of kind ∷ [])) source 0 0 (Err (Refused k b)) → Decides (b || nat_lt place k) (CouldStand ws place kind)
 refused_tells ws place kind k b inside comes q = elim (cases_lt k place) [
   | inl low ↦ absurd (not_before ws place k (word_of kind) (stop b (drop k us)) inside comes low q.1 refl)
   | inr high ↦ elim (cases_lt place k) [
@@ -192,7 +192,7 @@ refused_tells ws place kind k b inside comes q = elim (cases_lt k place) [
 
 -- a reading that has read a source tells it by whether it took the other word
 pub read_tells : (ws : List Word) (place : ℕ) (kind : WordKind) (v : List Event) (k : ℕ) → place ≤ length ws → ComesTo ws place →
-    Answer (take place ws ++ (word_of kind ∷ [])) source 0 0 (Ok (v, k)) → Decides (nat_lt place k) (CouldStand ws place kind)
+    Answer phrases (take place ws ++ (word_of kind ∷ [])) source 0 0 (Ok (v, k)) → Decides (nat_lt place k) (CouldStand ws place kind)
 read_tells ws place kind v k inside comes q = elim (cases_lt k place) [
   | inl low ↦ absurd (not_before ws place k (word_of kind) (ok v (drop k us)) inside comes low q.3 refl)
   | inr high ↦ elim (cases_lt place k) [

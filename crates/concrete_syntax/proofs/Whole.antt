@@ -23,10 +23,13 @@ use Rattle.concrete_syntax.specs.declared.reading.Stop.TheVariants.{Refused}
 use Rattle.concrete_syntax.specs.declared.word.Word.{Word}
 use Rattle.concrete_syntax.specs.Answer.{Answer}
 use Rattle.concrete_syntax.specs.LeftOut.{IsCode, passes, ComesTo}
-use Rattle.concrete_syntax.specs.Parsed.{SpellsPhrases, SpellsSource, StandsAt, IsErrorAt, IsSyntaxError, IsPhraseError, SpellNone, IsParseError, SpellsNone}
-use Rattle.concrete_syntax.specs.Sources.{sources}
+use Rattle.concrete_syntax.specs.Parsed.{SpellsWords, SpellsPhrases, SpellsAs, StandsAt, IsErrorAt, IsSyntaxError, IsPhraseError, SpellNone, IsParseError, SpellsNone}
+use Rattle.concrete_syntax.specs.Making.{Making}
+use Rattle.concrete_syntax.specs.Sources.{phrases, sources, sources_of}
 use Rattle.concrete_syntax.specs.Words.{AreWords, IsBadText, no_text, bad_token, IsWordError}
+use Rattle.token_grammar.specs.Tables.{IsExact, IsHeaded, IsRefusal}
 use Rattle.concrete_syntax.proofs.Heads.{is_exact}
+use Rattle.concrete_syntax.proofs.Revalued.{stops, ends}
 use Rattle.concrete_syntax.proofs.Planning.{the_plan}
 use Rattle.concrete_syntax.proofs.PlanFits.{is_planned}
 use Rattle.concrete_syntax.proofs.Tokens.{no_words, same_words}
@@ -39,43 +42,60 @@ no_word = record { kind = K.Int; span = record { start = 0; end = 0 } }
 
 -- ---- words
 
-pub whole : (ws : List Word) (v : List Event) (k : ℕ) → length ws ≤ k → Reads sources source 0 0 [] ws (ok v (drop k ws)) → SpellsPhrases ws v
-whole ws v k h q = (let e : drop k ws ≡ [] = drop_of_length-le ws h in sound sources is_exact (rw e at q))
+refused_left : (ws : List Word) (es : List Event) (k : ℕ) → k < length ws → Reads sources source 0 0 [] ws (ok es (drop k ws)) → IsRefusal sources source ws (drop k ws)
+refused_left ws es k inside q =
+    let e = drop-cons ws k no_word inside in
+    rw e (left_over sources is_exact the_plan is_planned source ws es (get_or ws k no_word) (drop (suc k) ws) (rw e at q))
 
-pub alone : (ws : List Word) (v : List Event) (k : ℕ) → length ws ≤ k → Reads sources source 0 0 [] ws (ok v (drop k ws)) → (other : List Event) → SpellsPhrases ws other → other ≡ v
-alone ws v k h q other s = value_same (same sources (complete sources is_exact s) (ok v (drop k ws)) q)
+module _ {Value : Type 0} (making : Making Value) where
+  exact : IsExact (sources_of making)
+  unfolding IsHeaded
+  exact = record { own = is_exact.own; at_end = is_exact.at_end; heads = is_exact.heads }
 
-abbrev pub comes_refused : (ws : List Word) (k : ℕ) (b : Bool) → Answer ws source 0 0 (Err (Refused k b)) → ComesTo ws k
-comes_refused ws k b q = record { outcome = stop b (drop k ws); reads = q.1; at = refl }
+  pub whole : (ws : List Word) (v : Value) (k : ℕ) → length ws ≤ k → Reads (sources_of making) source 0 0 making.nothing ws (ok v (drop k ws)) → SpellsWords making ws v
+  whole ws v k h q = (let e : drop k ws ≡ [] = drop_of_length-le ws h in sound (sources_of making) exact (rw e at q))
 
-abbrev pub comes_left : (ws : List Word) (v : List Event) (k : ℕ) → Reads sources source 0 0 [] ws (ok v (drop k ws)) → ComesTo ws k
-comes_left ws v k q = record { outcome = ok v (drop k ws); reads = q; at = refl }
+  pub alone : (ws : List Word) (v : Value) (k : ℕ) → length ws ≤ k → Reads (sources_of making) source 0 0 making.nothing ws (ok v (drop k ws)) → (other : Value) → SpellsWords making ws other → other ≡ v
+  alone ws v k h q other s = value_same (same (sources_of making) (complete (sources_of making) exact s) (ok v (drop k ws)) q)
 
-pub stopped : (ws : List Word) (end k : ℕ) (b : Bool) (error : ParseFault) → Answer ws source 0 0 (Err (Refused k b)) → IsErrorAt b ws k end error → IsPhraseError ws end error
-stopped ws end k b P.NoMemory q h = tt
-stopped ws end k false (P.Source error) q h = record { place = k; within = q.0; comes = comes_refused ws k false q; offends = refused sources is_exact the_plan is_planned source ws (drop k ws) q.1; stands = h }
-stopped ws end k true (P.Source error) q h = record { place = k; within = q.0; comes = comes_refused ws k true q; offends = limited sources is_exact the_plan is_planned source ws (drop k ws) q.1; stands = h }
+  -- the same stop, and the same end, of a reading that makes phrases
+  abbrev phrases_stop : (ws : List Word) (k : ℕ) (b : Bool) → Answer making ws source 0 0 (Err (Refused k b)) → Reads sources source 0 0 [] ws (stop b (drop k ws))
+  phrases_stop ws k b q = stops making phrases source 0 0 making.nothing [] ws (drop k ws) b q.1
 
-pub none : (ws : List Word) (k : ℕ) (b : Bool) (error : ParseFault) → Answer ws source 0 0 (Err (Refused k b)) → SpellNone ws error
-none ws k b P.NoMemory q = tt
-none ws k b (P.Source error) q = λ phrases s. differ (same sources q.1 (ok phrases []) (complete sources is_exact s))
+  abbrev phrases_end : (ws : List Word) (v : Value) (k : ℕ) → Reads (sources_of making) source 0 0 making.nothing ws (ok v (drop k ws)) → (es : List Event) × Reads sources source 0 0 [] ws (ok es (drop k ws))
+  phrases_end ws v k q = ends making phrases source 0 0 making.nothing [] ws (drop k ws) v q
 
-pub left : (ws : List Word) (v : List Event) (end k : ℕ) (error : ParseFault) → k < length ws → Reads sources source 0 0 [] ws (ok v (drop k ws)) → IsErrorAt false ws k end error → IsPhraseError ws end error
-left ws v end k P.NoMemory inside q h = tt
-left ws v end k (P.Source error) inside q h = (let e = drop-cons ws k no_word inside in
-    record {
-      place = k;
-      within = omega (arith, inside);
-      comes = comes_left ws v k q;
-      offends = rw e (left_over sources is_exact the_plan is_planned source ws v (get_or ws k no_word) (drop (suc k) ws) (rw e at q));
-      stands = h;
-    })
+  abbrev pub comes_refused : (ws : List Word) (k : ℕ) (b : Bool) → Answer making ws source 0 0 (Err (Refused k b)) → ComesTo ws k
+  comes_refused ws k b q = record { outcome = stop b (drop k ws); reads = phrases_stop ws k b q; at = refl }
 
-pub left_none : (ws : List Word) (v : List Event) (k : ℕ) (error : ParseFault) → k < length ws → Reads sources source 0 0 [] ws (ok v (drop k ws)) → SpellNone ws error
-left_none ws v k P.NoMemory h q = tt
-left_none ws v k (P.Source error) h q = λ phrases s. (let e = rest_same (same sources q (ok phrases []) (complete sources is_exact s)) in
-    let f : drop k ws ≡ get_or ws k no_word ∷ drop (suc k) ws = drop-cons ws k no_word h in
-    let g : get_or ws k no_word ∷ drop (suc k) ws ≡ [] = sym f ∙ e in cc)
+  abbrev pub comes_left : (ws : List Word) (v : Value) (k : ℕ) → Reads (sources_of making) source 0 0 making.nothing ws (ok v (drop k ws)) → ComesTo ws k
+  comes_left ws v k q = (let p = phrases_end ws v k q in record { outcome = ok p.0 (drop k ws); reads = p.1; at = refl })
+
+  pub stopped : (ws : List Word) (end k : ℕ) (b : Bool) (error : ParseFault) → Answer making ws source 0 0 (Err (Refused k b)) → IsErrorAt b ws k end error → IsPhraseError ws end error
+  stopped ws end k b P.NoMemory q h = tt
+  stopped ws end k false (P.Source error) q h = record { place = k; within = q.0; comes = comes_refused ws k false q; offends = refused sources is_exact the_plan is_planned source ws (drop k ws) (phrases_stop ws k false q); stands = h }
+  stopped ws end k true (P.Source error) q h = record { place = k; within = q.0; comes = comes_refused ws k true q; offends = limited sources is_exact the_plan is_planned source ws (drop k ws) (phrases_stop ws k true q); stands = h }
+
+  pub none : (ws : List Word) (k : ℕ) (b : Bool) (error : ParseFault) → Answer making ws source 0 0 (Err (Refused k b)) → SpellNone ws error
+  none ws k b P.NoMemory q = tt
+  none ws k b (P.Source error) q = λ es s. differ (same sources (phrases_stop ws k b q) (ok es []) (complete sources is_exact s))
+
+  pub left : (ws : List Word) (v : Value) (end k : ℕ) (error : ParseFault) → k < length ws → Reads (sources_of making) source 0 0 making.nothing ws (ok v (drop k ws)) → IsErrorAt false ws k end error → IsPhraseError ws end error
+  left ws v end k P.NoMemory inside q h = tt
+  left ws v end k (P.Source error) inside q h = (let p = phrases_end ws v k q in
+      record {
+        place = k;
+        within = omega (arith, inside);
+        comes = comes_left ws v k q;
+        offends = refused_left ws p.0 k inside p.1;
+        stands = h;
+      })
+
+  pub left_none : (ws : List Word) (v : Value) (k : ℕ) (error : ParseFault) → k < length ws → Reads (sources_of making) source 0 0 making.nothing ws (ok v (drop k ws)) → SpellNone ws error
+  left_none ws v k P.NoMemory h q = tt
+  left_none ws v k (P.Source error) h q = λ es s. (let p = phrases_end ws v k q in let e = rest_same (same sources p.1 (ok es []) (complete sources is_exact s)) in
+      let f : drop k ws ≡ get_or ws k no_word ∷ drop (suc k) ws = drop-cons ws k no_word h in
+      let g : get_or ws k no_word ∷ drop (suc k) ws ≡ [] = sym f ∙ e in cc)
 
 -- ---- one refusal
 
@@ -109,7 +129,7 @@ error_of_words bytes (P.Source error) h = inl h
 error_of_words bytes P.NoMemory h = tt
 
 pub none_of_words : (bytes : List ℕ) (error : ParseFault) → IsWordError bytes error → SpellsNone bytes error
-none_of_words bytes (P.Source error) h = λ phrases s. no_words bytes error s.words h s.are_words
+none_of_words bytes (P.Source error) h = λ es s. no_words bytes error s.words h s.are_words
 none_of_words bytes P.NoMemory h = tt
 
 error_of_phrases : (bytes : List ℕ) (ws : List Word) (error : ParseFault) → AreWords bytes ws → IsPhraseError ws (length bytes) error → IsParseError bytes error
@@ -117,13 +137,13 @@ error_of_phrases bytes ws (P.Source error) are h = inr (record { words = ws; are
 error_of_phrases bytes ws P.NoMemory are h = tt
 
 none_of_phrases : (bytes : List ℕ) (ws : List Word) (error : ParseFault) → AreWords bytes ws → SpellNone ws error → SpellsNone bytes error
-none_of_phrases bytes ws (P.Source error) are h = λ phrases s. h phrases (subst (λ (x : List Word). SpellsPhrases x phrases) (same_words bytes s.words ws s.are_words are) s.spelled)
+none_of_phrases bytes ws (P.Source error) are h = λ es s. h es (subst (λ (x : List Word). SpellsPhrases x es) (same_words bytes s.words ws s.are_words are) s.spelled)
 none_of_phrases bytes ws P.NoMemory are h = tt
 
-pub one_source : (bytes : List ℕ) (one other : List Event) → SpellsSource bytes one → SpellsSource bytes other → one ≡ other
-one_source bytes one other a b =
+pub one_source : {Value : Type 0} (making : Making Value) (bytes : List ℕ) (one other : Value) → SpellsAs making bytes one → SpellsAs making bytes other → one ≡ other
+one_source making bytes one other a b =
     let e = same_words bytes a.words b.words a.are_words b.are_words in
-    value_same (same sources (complete sources is_exact (subst (λ (x : List Word). SpellsPhrases x one) e a.spelled)) (ok other []) (complete sources is_exact b.spelled))
+    value_same (same (sources_of making) (complete (sources_of making) (exact making) (subst (λ (x : List Word). SpellsWords making x one) e a.spelled)) (ok other []) (complete (sources_of making) (exact making) b.spelled))
 
 -- ---- one refusal of bytes
 
@@ -155,18 +175,19 @@ one_error bytes one other (inr h) (inr g) =
 
 -- ---- from the words to the bytes, for each answer
 
-pub ok_of_bytes : (bytes : List ℕ) (ws : List Word) (r : Result (List Event) ParseFault) → AreWords bytes ws → IfOk r (λ es. SpellsPhrases ws es) → IfOk r (λ es. SpellsSource bytes es)
-ok_of_bytes bytes ws (Ok es) are h = record { words = ws; are_words = are; spelled = h }
-ok_of_bytes bytes ws (Err x) are h = h
+module _ {Value : Type 0} (making : Making Value) where
+  pub ok_of_bytes : (bytes : List ℕ) (ws : List Word) (r : Result Value ParseFault) → AreWords bytes ws → IfOk r (λ v. SpellsWords making ws v) → IfOk r (λ v. SpellsAs making bytes v)
+  ok_of_bytes bytes ws (Ok v) are h = record { words = ws; are_words = are; spelled = h }
+  ok_of_bytes bytes ws (Err x) are h = h
 
-pub alone_of_bytes : (bytes : List ℕ) (ws : List Word) (r : Result (List Event) ParseFault) → AreWords bytes ws → IfOk r (λ es. SpellsPhrases ws es) → IfOk r (λ es. (other : List Event) → SpellsSource bytes other → other ≡ es)
-alone_of_bytes bytes ws (Ok es) are h = λ other s. one_source bytes other es s (record { words = ws; are_words = are; spelled = h })
-alone_of_bytes bytes ws (Err x) are h = h
+  pub alone_of_bytes : (bytes : List ℕ) (ws : List Word) (r : Result Value ParseFault) → AreWords bytes ws → IfOk r (λ v. SpellsWords making ws v) → IfOk r (λ v. (other : Value) → SpellsAs making bytes other → other ≡ v)
+  alone_of_bytes bytes ws (Ok v) are h = λ other s. one_source making bytes other v s (record { words = ws; are_words = are; spelled = h })
+  alone_of_bytes bytes ws (Err x) are h = h
 
-pub refused_of_bytes : (bytes : List ℕ) (ws : List Word) (end : ℕ) (r : Result (List Event) ParseFault) → end ≡ length bytes → AreWords bytes ws → IfErr r (λ x. IsPhraseError ws end x) → IfErr r (λ x. IsParseError bytes x)
-refused_of_bytes bytes ws end (Ok es) e are h = h
-refused_of_bytes bytes ws end (Err x) e are h = error_of_phrases bytes ws x are (subst (λ (n : ℕ). IsPhraseError ws n x) e h)
+  pub refused_of_bytes : (bytes : List ℕ) (ws : List Word) (end : ℕ) (r : Result Value ParseFault) → end ≡ length bytes → AreWords bytes ws → IfErr r (λ x. IsPhraseError ws end x) → IfErr r (λ x. IsParseError bytes x)
+  refused_of_bytes bytes ws end (Ok v) e are h = h
+  refused_of_bytes bytes ws end (Err x) e are h = error_of_phrases bytes ws x are (subst (λ (n : ℕ). IsPhraseError ws n x) e h)
 
-pub rightly_of_bytes : (bytes : List ℕ) (ws : List Word) (r : Result (List Event) ParseFault) → AreWords bytes ws → IfErr r (λ x. SpellNone ws x) → IfErr r (λ x. SpellsNone bytes x)
-rightly_of_bytes bytes ws (Ok es) are h = h
-rightly_of_bytes bytes ws (Err x) are h = none_of_phrases bytes ws x are h
+  pub rightly_of_bytes : (bytes : List ℕ) (ws : List Word) (r : Result Value ParseFault) → AreWords bytes ws → IfErr r (λ x. SpellNone ws x) → IfErr r (λ x. SpellsNone bytes x)
+  rightly_of_bytes bytes ws (Ok v) are h = h
+  rightly_of_bytes bytes ws (Err x) are h = none_of_phrases bytes ws x are h

@@ -11,23 +11,24 @@ use Rattle.concrete_syntax.specs.declared.rule.Symbol.{Symbol}
 use Rattle.concrete_syntax.specs.declared.rule.Symbol.TheVariants as S
 use Rattle.concrete_syntax.specs.declared.reading.Stop.{Stop}
 use Rattle.concrete_syntax.specs.declared.reading.Stop.TheVariants.{Refused, NoMemory}
-use Rattle.concrete_syntax.specs.declared.event.Event.{Event}
 use Rattle.concrete_syntax.specs.Rules.{may_end, parts_of}
-use Rattle.concrete_syntax.specs.Sources.{sources}
+use Rattle.concrete_syntax.specs.Making.{Making}
+use Rattle.concrete_syntax.specs.Sources.{sources_of}
 
--- a nonterminal from the place `i` on, at a level: the value and the place after it, or the place where it stops
-abbrev pub Answer : List Word → Nonterminal → ℕ → ℕ → Result (List Event × ℕ) Stop → Type 0
-Answer ws n d i (Ok p) = (i ≤ p.1) × (p.1 ≤ length ws) × (may_end n ≡ false → i < p.1) × Reads sources n d 0 [] (drop i ws) (ok p.0 (drop p.1 ws))
-Answer ws n d i (Err (Refused k b)) = (k ≤ length ws) × Reads sources n d 0 [] (drop i ws) (stop b (drop k ws))
-Answer ws n d i (Err NoMemory) = Unit {0}
+module _ {Value : Type 0} (making : Making Value) where
+  -- a nonterminal from the place `i` on, at a level: the value and the place after it, or the place where it stops
+  abbrev pub Answer : List Word → Nonterminal → ℕ → ℕ → Result (Value × ℕ) Stop → Type 0
+  Answer ws n d i (Ok p) = (i ≤ p.1) × (p.1 ≤ length ws) × (may_end n ≡ false → i < p.1) × Reads (sources_of making) n d 0 making.nothing (drop i ws) (ok p.0 (drop p.1 ws))
+  Answer ws n d i (Err (Refused k b)) = (k ≤ length ws) × Reads (sources_of making) n d 0 making.nothing (drop i ws) (stop b (drop k ws))
+  Answer ws n d i (Err NoMemory) = Unit {0}
 
--- the parts of a rule, of which the first takes a word
-abbrev pub PartsRead : List Word → Rule → ℕ → ℕ → List (List Event) → ℕ → Type 0
-PartsRead ws r d i vs k = (i < k) × (k ≤ length ws) × ReadsParts sources (parts_of r) d (drop i ws) (ok vs (drop k ws))
+  -- the parts of a rule, of which the first takes a word
+  abbrev pub PartsRead : List Word → Rule → ℕ → ℕ → List Value → ℕ → Type 0
+  PartsRead ws r d i vs k = (i < k) × (k ≤ length ws) × ReadsParts (sources_of making) (parts_of r) d (drop i ws) (ok vs (drop k ws))
 
-abbrev pub PartsStopped : List Word → Rule → ℕ → ℕ → Stop → Type 0
-PartsStopped ws r d i (Refused k b) = (k ≤ length ws) × ReadsParts sources (parts_of r) d (drop i ws) (stop b (drop k ws))
-PartsStopped ws r d i NoMemory = Unit {0}
+  abbrev pub PartsStopped : List Word → Rule → ℕ → ℕ → Stop → Type 0
+  PartsStopped ws r d i (Refused k b) = (k ≤ length ws) × ReadsParts (sources_of making) (parts_of r) d (drop i ws) (stop b (drop k ws))
+  PartsStopped ws r d i NoMemory = Unit {0}
 
 -- a symbol of the code, as the grammar has it
 abbrev pub symbol_of : Symbol → GrammarSymbol WordKind Nonterminal
@@ -39,9 +40,10 @@ abbrev pub takes : Symbol → Bool
 takes (S.Word k) = true
 takes (S.Of n) = not (may_end n)
 
-abbrev pub PartRead : List Word → Symbol → ℕ → ℕ → List Event → ℕ → Type 0
-PartRead ws s d i v k = (i ≤ k) × (k ≤ length ws) × (takes s ≡ true → i < k) × ReadsParts sources (symbol_of s ∷ []) d (drop i ws) (ok (v ∷ []) (drop k ws))
+module _ {Value : Type 0} (making : Making Value) where
+  abbrev pub PartRead : List Word → Symbol → ℕ → ℕ → Value → ℕ → Type 0
+  PartRead ws s d i v k = (i ≤ k) × (k ≤ length ws) × (takes s ≡ true → i < k) × ReadsParts (sources_of making) (symbol_of s ∷ []) d (drop i ws) (ok (v ∷ []) (drop k ws))
 
-abbrev pub PartStopped : List Word → Symbol → ℕ → ℕ → Stop → Type 0
-PartStopped ws s d i (Refused k b) = (k ≤ length ws) × ReadsParts sources (symbol_of s ∷ []) d (drop i ws) (stop b (drop k ws))
-PartStopped ws s d i NoMemory = Unit {0}
+  abbrev pub PartStopped : List Word → Symbol → ℕ → ℕ → Stop → Type 0
+  PartStopped ws s d i (Refused k b) = (k ≤ length ws) × ReadsParts (sources_of making) (symbol_of s ∷ []) d (drop i ws) (stop b (drop k ws))
+  PartStopped ws s d i NoMemory = Unit {0}

@@ -8,6 +8,7 @@ pub mod ItemRules
 pub mod LeftOut
 pub mod Listing
 pub mod Make
+pub mod Making
 pub mod Parsed
 pub mod Passed
 pub mod Phrases

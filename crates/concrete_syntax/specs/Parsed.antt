@@ -11,18 +11,27 @@ use Rattle.concrete_syntax.specs.declared.phrases.Nonterminal.TheVariants as N
 use Rattle.concrete_syntax.specs.declared.phrases.ItemPhrase.TheVariants as NI
 use Rattle.concrete_syntax.specs.declared.word.Word.{Word}
 use Rattle.concrete_syntax.specs.LeftOut.{IsCode, passes, ComesTo}
-use Rattle.concrete_syntax.specs.Sources.{sources}
+use Rattle.concrete_syntax.specs.Making.{Making}
+use Rattle.concrete_syntax.specs.Sources.{phrases, sources, sources_of}
 use Rattle.concrete_syntax.specs.Words.{AreWords, IsBadText}
 
--- the words spell these phrases, within the limits of levels and chains
-abbrev pub SpellsPhrases : List Word → List Event → Type 0
-SpellsPhrases words phrases = Spells sources (N.Item NI.Source) 0 0 [] words phrases []
+-- the words spell this, of which each part is what the rules make, within the limits of levels and chains
+abbrev pub SpellsWords : {Value : Type 0} → Making Value → List Word → Value → Type 0
+SpellsWords making words value = Spells (sources_of making) (N.Item NI.Source) 0 0 making.nothing words value []
 
--- the bytes spell these phrases
-pub record SpellsSource (bytes : List ℕ) (phrases : List Event) : Type 0 where
+-- the bytes spell this
+pub record SpellsAs {Value : Type 0} (making : Making Value) (bytes : List ℕ) (value : Value) : Type 0 where
   pub words : List Word
   pub are_words : AreWords bytes words
-  pub spelled : SpellsPhrases words phrases
+  pub spelled : SpellsWords making words value
+
+-- the words spell these phrases
+abbrev pub SpellsPhrases : List Word → List Event → Type 0
+SpellsPhrases words es = SpellsWords phrases words es
+
+-- the bytes spell these phrases
+abbrev pub SpellsSource : List ℕ → List Event → Type 0
+SpellsSource bytes es = SpellsAs phrases bytes es
 
 -- ---- refusals
 
@@ -63,7 +72,7 @@ IsErrorAt limited words place end P.NoMemory = Unit {0}
 
 -- where the words are refused they spell nothing
 abbrev pub SpellNone : List Word → ParseFault → Type 0
-SpellNone words (P.Source error) = (phrases : List Event) → SpellsPhrases words phrases → ⊥
+SpellNone words (P.Source error) = (es : List Event) → SpellsPhrases words es → ⊥
 SpellNone words P.NoMemory = Unit {0}
 
 -- the same of the bytes: their words, and an error of these
@@ -79,5 +88,5 @@ IsParseError bytes P.NoMemory = Unit {0}
 
 -- where a source is refused it spells nothing
 abbrev pub SpellsNone : List ℕ → ParseFault → Type 0
-SpellsNone bytes (P.Source error) = (phrases : List Event) → SpellsSource bytes phrases → ⊥
+SpellsNone bytes (P.Source error) = (es : List Event) → SpellsSource bytes es → ⊥
 SpellsNone bytes P.NoMemory = Unit {0}

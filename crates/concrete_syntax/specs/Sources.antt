@@ -10,6 +10,7 @@ use Rattle.concrete_syntax.specs.declared.rule.Rule.{Rule}
 use Rattle.concrete_syntax.specs.Choices.{choose}
 use Rattle.concrete_syntax.specs.Rules.{may_end, left_of, parts_of, tail_of, opens_level, goes_on}
 use Rattle.concrete_syntax.specs.Make.{make}
+use Rattle.concrete_syntax.specs.Making.{Making}
 
 -- the most levels that are open at a word
 abbrev pub deepest : ℕ
@@ -35,8 +36,9 @@ level_in rule level = cond (opens_level rule) (suc level) level
 abbrev pub chain_behind : Rule → ℕ → ℕ
 chain_behind rule chain = cond (goes_on rule) (suc chain) chain
 
-abbrev pub tables : Tables Word WordKind Nonterminal Rule (List Event)
-tables = record {
+-- the tables, with what their words and rules make
+abbrev pub tables : {Value : Type 0} → Making Value → Tables Word WordKind Nonterminal Rule Value
+tables making = record {
   kind_of = λ word. word.kind;
   choose = choose;
   may_end = may_end;
@@ -46,11 +48,18 @@ tables = record {
   allowed = within;
   levels = level_in;
   chain = chain_behind;
-  leaf = λ word. V.Word word ∷ [];
-  nothing = [];
-  make = make;
+  leaf = making.leaf;
+  nothing = making.nothing;
+  make = making.make;
   close = λ goal so_far. so_far;
 }
 
+abbrev pub sources_of : {Value : Type 0} → Making Value → Grammar
+sources_of making = grammar (tables making)
+
+-- the grammar that makes lists of phrases
+abbrev pub phrases : Making (List Event)
+phrases = record { leaf = λ word. V.Word word ∷ []; nothing = []; make = make }
+
 abbrev pub sources : Grammar
-sources = grammar tables
+sources = sources_of phrases

@@ -1,11 +1,15 @@
 //! What each rule makes.
-ghost use Rattle.std.specs.Prelude.{◌≡◌, ◌++◌, IfOk};
+ghost use Rattle.std.specs.Prelude.{◌≡◌, ◌++◌, [], ◌∷◌, IfOk};
+ghost use Rattle.concrete_syntax.specs.declared.event.Event.TheVariants as V;
 ghost use Rattle.concrete_syntax.specs.Make.{is_shown, joined, make};
+ghost use Rattle.concrete_syntax.specs.Sources.{phrases};
 
 use crate::event::Event;
 use crate::expr_rule::ExprRule;
 use crate::rule::Rule;
 use crate::term_rule::TermRule;
+use crate::tree::Tree;
+use crate::word::Word;
 use std::alloc::Global;
 use std::collections::VecDeque;
 use text_core::{Items, NoMemory};
@@ -70,7 +74,7 @@ fn joined_all(before: Items<Event>, parts: VecDeque<Items<Event>>) -> Result<Ite
 
 /// What the rule makes of the value before it and those of its parts. Err only for want of memory.
 #[tactic(auto, unfolding(crate::specs::Make::make))]
-pub fn act(
+fn act(
     rule: Rule,
     before: Items<Event>,
     parts: VecDeque<Items<Event>>,
@@ -85,4 +89,37 @@ pub fn act(
     let mut made = joined_all(made, parts)?;
     made.push(Event::Close)?;
     Ok(made)
+}
+
+/// The word alone.
+fn word_alone(alloc: Global, word: Word) -> Result<Items<Event>, NoMemory>
+    ensures { IfOk result (λ v. v ≡ V.Word word ∷ []) }
+{
+    let mut value = Items::new(alloc);
+    value.push(Event::Word(word))?;
+    Ok(value)
+}
+
+/// Lists of phrases.
+impl Tree for Items<Event> {
+    ghost making = { phrases };
+
+    fn leaf(alloc: Global, word: Word) -> Result<Items<Event>, NoMemory> {
+        word_alone(alloc, word)
+    }
+
+    fn nothing(alloc: Global) -> Items<Event> {
+        Items::new(alloc)
+    }
+
+    fn make(
+        _alloc: Global,
+        rule: Rule,
+        before: Items<Event>,
+        parts: VecDeque<Items<Event>>,
+    ) -> Result<Items<Event>, NoMemory>
+        ensures { IfOk result (λ v. v ≡ make rule before parts.items) }
+    {
+        act(rule, before, parts)
+    }
 }

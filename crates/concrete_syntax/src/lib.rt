@@ -19,6 +19,7 @@ mod laws;
 mod numbers;
 mod omitted;
 mod parser;
+mod passage;
 mod passed;
 mod phrases;
 mod plain;
@@ -39,6 +40,7 @@ mod term_rule;
 mod term_tables;
 #[cfg(test)]
 mod tests;
+mod tree;
 mod word;
 mod word_choices;
 mod word_rule;
@@ -57,7 +59,8 @@ pub use laws::{
 };
 pub use omitted::Construct;
 pub use parser::parse;
-pub use passed::plain_source;
+pub use passage::{ItemForm, Passage};
+pub use passed::{PlainSource, plain_source};
 pub use phrases::{
     Bearer, BodyKind, ExprPhrase, ItemPhrase, Literals, Mode, Nonterminal, ShapePhrase, StmtPhrase,
     TermPhrase, WordPhrase,
@@ -68,6 +71,7 @@ pub use rule::{Rule, Symbol};
 pub use shape_rule::ShapeRule;
 pub use stmt_rule::StmtRule;
 pub use term_rule::TermRule;
+pub use tree::Tree;
 pub use word::Word;
 pub use word_rule::WordRule;
 pub use words::words_of;

@@ -1,19 +1,17 @@
 //! The parser of sources.
-ghost use Rattle.std.specs.Prelude.{◌≡◌, ℕ, ◌≤◌, ◌<◌, ◌^◌, List, length, drop, IfOk, IfErr};
-ghost use Rattle.concrete_syntax.specs.declared.event.Event.{Event};
-ghost use Rattle.concrete_syntax.specs.declared.fault.ParseFault.TheVariants as P;
+ghost use Rattle.std.specs.Prelude.{◌≡◌, ◌≤◌, ◌<◌, ◌^◌, length, IfOk, IfErr};
 ghost use Rattle.concrete_syntax.specs.LeftOut.{ComesTo};
-ghost use Rattle.concrete_syntax.specs.Parsed.{SpellsPhrases, SpellsSource, IsErrorAt, IsPhraseError, SpellNone, IsParseError, SpellsNone};
+ghost use Rattle.concrete_syntax.specs.Parsed.{SpellsWords, SpellsAs, IsErrorAt, IsPhraseError, SpellNone, IsParseError, SpellsNone};
 
-use crate::event::Event;
 use crate::fault::ParseFault;
 use crate::phrases::{ItemPhrase, Nonterminal};
 use crate::reading::{Stop, read};
 use crate::refusal::code_at;
+use crate::tree::Tree;
 use crate::word::Word;
 use crate::words::words_of;
 use std::alloc::Global;
-use text_core::{Items, SourceError, Span};
+use text_core::{SourceError, Span};
 
 /// The refusal of the word of this number, or of the end behind the last word.
 fn syntax_error(alloc: Global, words: &[Word], place: usize, limited: bool, end: u32) -> ParseFault
@@ -37,37 +35,39 @@ fn syntax_error(alloc: Global, words: &[Word], place: usize, limited: bool, end:
     }
 }
 
-/// The phrases that the words of a source spell, which has so many bytes.
-fn phrases_of(alloc: Global, words: &[Word], end: u32) -> Result<Items<Event>, ParseFault>
+/// What the words of a source spell, which has so many bytes.
+fn tree_of<T: Tree + Drop>(alloc: Global, words: &[Word], end: u32) -> Result<T, ParseFault>
     requires { length words.now < 2 ^ 32 }
-    ensures ok { IfOk result (λ es. SpellsPhrases words.now es) }
-    ensures alone { IfOk result (λ es. (other : List Event) → SpellsPhrases words.now other → other ≡ es) }
+    ensures ok { IfOk result (λ tree. SpellsWords T.making words.now tree) }
+    ensures alone { IfOk result (λ tree. (other : T) → SpellsWords T.making words.now other → other ≡ tree) }
     ensures refused { IfErr result (λ e. IsPhraseError words.now end e) }
     ensures rightly { IfErr result (λ e. SpellNone words.now e) }
 {
     match read(alloc, words, 0, Nonterminal::Item(ItemPhrase::Source), 0) {
         Err(Stop::NoMemory) => Err(ParseFault::NoMemory),
-        Err(Stop::Refused(place, limited)) => Err(syntax_error(alloc, words, place, limited, end)),
-        Ok((phrases, after)) => {
+        Err(Stop::Refused(place, limited)) => {
+            Err(syntax_error(alloc, words, place, limited, end))
+        }
+        Ok((tree, after)) => {
             if after < words.len() {
                 return Err(syntax_error(alloc, words, after, false, end));
             }
-            Ok(phrases)
+            Ok(tree)
         }
     }
 }
 
-/// The phrases of a source, by the whole grammar of the language (Rust Reference, "Items", "Statements", "Expressions",
-/// "Patterns", "Types", "Paths"; terms as in Creusot's Pearlite).
+/// What a source spells, by the whole grammar of the language (Rust Reference, "Items", "Statements", "Expressions",
+/// "Patterns", "Types", "Paths"; terms as in Creusot's Pearlite): its phrases as a list, or other trees.
 ///
 /// Errors: `Source` by E01 where the bytes are no UTF-8, by E02 where a part of them is no token, and at the first word that
 /// cannot continue, or empty at the end of a source that ends too early: by E04 where that word opens the 65th level or is
 /// the 257th operator of a chain, by E20 where it begins a construct of Rust that the language leaves out, by E03 else.
 /// `NoMemory`.
-pub fn parse(alloc: Global, bytes: &[u8]) -> Result<Items<Event>, ParseFault>
+pub fn parse<T: Tree + Drop>(alloc: Global, bytes: &[u8]) -> Result<T, ParseFault>
     requires few { length bytes.now ≤ 2 ^ 20 }
-    ensures ok { IfOk result (λ es. SpellsSource bytes.now es) }
-    ensures alone { IfOk result (λ es. (other : List Event) → SpellsSource bytes.now other → other ≡ es) }
+    ensures ok { IfOk result (λ tree. SpellsAs T.making bytes.now tree) }
+    ensures alone { IfOk result (λ tree. (other : T) → SpellsAs T.making bytes.now other → other ≡ tree) }
 
     // A refusal, and that nothing is refused that is a source.
     ensures refused { IfErr result (λ e. IsParseError bytes.now e) }
@@ -75,6 +75,6 @@ pub fn parse(alloc: Global, bytes: &[u8]) -> Result<Items<Event>, ParseFault>
 {
     match words_of(alloc, bytes) {
         Err(error) => Err(error),
-        Ok(words) => phrases_of(alloc, words.as_slice(), bytes.len() as u32),
+        Ok(words) => tree_of(alloc, words.as_slice(), bytes.len() as u32),
     }
 }

@@ -1,22 +1,20 @@
 //! The reader: a predictive parser over the tables.
 ghost use Rattle.std.specs.Prelude.{◌≡◌, ◌≤◌, true, false, [], ◌∷◌, MatchOption, length, drop, MatchResult, IfOk};
-ghost use Rattle.concrete_syntax.specs.declared.event.Event.TheVariants as V;
 ghost use Rattle.token_grammar.specs.Grammar.{next_kind};
 ghost use Rattle.concrete_syntax.specs.Sources.{sources, level_within, chain_within, within, level_in, chain_behind};
 ghost use Rattle.concrete_syntax.specs.Answer.{Answer, PartsRead, PartsStopped, PartRead, PartStopped};
 
-use crate::act::act;
 use crate::choices::choose;
-use crate::event::Event;
 use crate::kinds::WordKind;
 use crate::numbers::is_kind;
 use crate::phrases::Nonterminal;
 use crate::rule::{Rule, Symbol};
 use crate::tables::{goes_on, may_end, opens_level, part_of, tail_of};
+use crate::tree::Tree;
 use crate::word::Word;
 use std::alloc::Global;
 use std::collections::VecDeque;
-use text_core::{Items, NoMemory};
+use text_core::NoMemory;
 
 /// Why a reading stopped.
 #[derive(Clone, Copy)]
@@ -74,31 +72,22 @@ fn within_bounds(rule: Rule, level: u32, chain: u32) -> Option<(u32, u32)>
     Some((inside, behind))
 }
 
-/// The word alone.
-fn leaf(alloc: Global, word: Word) -> Result<Items<Event>, NoMemory>
-    ensures { IfOk result (λ v. v ≡ V.Word word ∷ []) }
-{
-    let mut value = Items::new(alloc);
-    value.push(Event::Word(word))?;
-    Ok(value)
-}
-
-/// Reads a nonterminal from the place on: its value and the place after it.
+/// Reads a nonterminal from the place on, at a level of at most 64: its value and the place after it.
 #[cycle(read)]
-pub fn read(
+pub fn read<T: Tree + Drop>(
     alloc: Global,
     words: &[Word],
     place: usize,
     goal: Nonterminal,
     level: u32,
-) -> Result<(Items<Event>, usize), Stop>
+) -> Result<(T, usize), Stop>
     requires inside { place ≤ length words.now }
     requires deep { level ≤ 64 }
-    ensures { Answer words.now goal level place result }
+    ensures { Answer T.making words.now goal level place result }
 {
     let mut at = place;
     let mut wanted = goal;
-    let mut value = Items::new(alloc);
+    let mut value = T::nothing(alloc);
     let mut chain = 0;
     loop {
         match choose(wanted, kind_at(words, at)) {
@@ -116,7 +105,7 @@ pub fn read(
                         Ok(read) => read,
                         Err(stop) => return Err(stop),
                     };
-                    value = match act(rule, value, parts) {
+                    value = match T::make(alloc, rule, value, parts) {
                         Ok(made) => made,
                         Err(_) => return Err(Stop::NoMemory),
                     };
@@ -134,16 +123,16 @@ pub fn read(
 
 /// Reads the parts of a rule from the place on: their values and the place after them.
 #[cycle(read)]
-fn read_parts(
+fn read_parts<T: Tree + Drop>(
     alloc: Global,
     words: &[Word],
     place: usize,
     rule: Rule,
     level: u32,
-) -> Result<(VecDeque<Items<Event>>, usize), Stop>
+) -> Result<(VecDeque<T>, usize), Stop>
     requires inside { place ≤ length words.now }
     requires deep { level ≤ 64 }
-    ensures { MatchResult result (λ p. PartsRead words.now rule level place p.0.items p.1) (λ e. PartsStopped words.now rule level place e) }
+    ensures { MatchResult result (λ p. PartsRead T.making words.now rule level place p.0.items p.1) (λ e. PartsStopped T.making words.now rule level place e) }
 {
     let mut parts = VecDeque::new(alloc);
     let mut at = place;
@@ -165,21 +154,21 @@ fn read_parts(
 
 /// Reads a symbol from the place on: its value and the place after it.
 #[cycle(read)]
-fn read_part(
+fn read_part<T: Tree + Drop>(
     alloc: Global,
     words: &[Word],
     place: usize,
     symbol: Symbol,
     level: u32,
-) -> Result<(Items<Event>, usize), Stop>
+) -> Result<(T, usize), Stop>
     requires inside { place ≤ length words.now }
     requires deep { level ≤ 64 }
-    ensures { MatchResult result (λ p. PartRead words.now symbol level place p.0 p.1) (λ e. PartStopped words.now symbol level place e) }
+    ensures { MatchResult result (λ p. PartRead T.making words.now symbol level place p.0 p.1) (λ e. PartStopped T.making words.now symbol level place e) }
 {
     match symbol {
         Symbol::Word(kind) => {
             if place < words.len() && is_kind(words[place].kind, kind) {
-                match leaf(alloc, words[place]) {
+                match T::leaf(alloc, words[place]) {
                     Ok(value) => Ok((value, place + 1)),
                     Err(_) => Err(Stop::NoMemory),
                 }

@@ -46,7 +46,7 @@ fn could_stand(
     ensures { IfOk result (λ yes. Decides yes (CouldStand words.now place kind)) }
 {
     let tried = with_word(alloc, &words[..place], sample(kind))?;
-    match read(
+    match read::<Items<Event>>(
         alloc,
         tried.as_slice(),
         0,

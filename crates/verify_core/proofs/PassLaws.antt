@@ -1,10 +1,11 @@
 -- What each pass needs, it is given; and where a pass refuses, the source is refused for a cause.
-use Rattle.std.proofs.Common.{◌≡◌, ◌∙◌, refl, sym, ap, subst, ℕ, zero, suc, ◌+◌, ◌<◌, ◌≤◌, ◌⊎◌, inl, inr, List, [], ◌∷◌, ◌++◌, length, get_or, Some, None, slice_get, arith}
+use Rattle.std.proofs.Common.{◌≡◌, ◌∙◌, refl, sym, ap, subst, ℕ, zero, suc, ◌+◌, ◌<◌, ◌≤◌, ◌⊎◌, inl, inr, List, [], ◌∷◌, ◌++◌, length, get_or, Option, Some, None, slice_get, arith}
 use Rattle.std.proofs.lemmas.Bool.{cases_lt}
 use Rattle.std.proofs.lemmas.List.{length-append}
 use Rattle.std.proofs.lemmas.Option.{slice_get_read}
 use Rattle.text_core.specs.declared.name.Name.{Name}
 use Rattle.text_core.specs.declared.refusal.Limit.{Limit}
+use Rattle.text_core.specs.declared.span.Span.{Span}
 use Rattle.logic_term.specs.declared.kinds.Label.{Label}
 use Rattle.logic_term.specs.declared.obligation.Contract.{Contract}
 use Rattle.logic_term.specs.declared.obligation.Obligation.{Obligation}
@@ -64,11 +65,11 @@ pub grammar_refused : (source : List ℕ) (e : ParseFault) → whole.IsParseErro
 grammar_refused source (faults.Source e) is none = IsRefused.by_grammar is none
 grammar_refused source faults.NoMemory is none = tt
 
-pub parse_refused : (source plain : List ℕ) (table : List (List ℕ)) (e : PassError) (r : Refusal) → IsPlain source plain → IsParseError table plain e → SpellsNone table plain e → IsFormRefusal source e r → RefusesSource source r
-parse_refused source plain table (errors.Source e) r is_plain is none (inl (words, are, same)) = subst (RefusesSource source) (sym same) (IsRefused.by_form plain words is_plain is none are refl)
-parse_refused source plain table (errors.Source e) r is_plain is none (inr same) = subst (RefusesSource source) (sym same) tt
-parse_refused source plain table (errors.Limit l) r is_plain is none same = subst (RefusesSource source) (sym same) (IsPastLimit.functions plain is_plain is)
-parse_refused source plain table errors.NoMemory r is_plain is none same = subst (RefusesSource source) (sym same) tt
+pub parse_refused : (source plain : List ℕ) (unbuilt : Option Span) (table : List (List ℕ)) (e : PassError) (r : Refusal) → IsPlain source plain unbuilt → IsParseError table plain e → SpellsNone table plain e → IsFormRefusal source unbuilt e r → RefusesSource source r
+parse_refused source plain unbuilt table (errors.Source e) r is_plain is none (inl (words, are, same)) = subst (RefusesSource source) (sym same) (IsRefused.by_form plain unbuilt words is_plain is none are refl)
+parse_refused source plain unbuilt table (errors.Source e) r is_plain is none (inr same) = subst (RefusesSource source) (sym same) tt
+parse_refused source plain unbuilt table (errors.Limit l) r is_plain is none same = subst (RefusesSource source) (sym same) (IsPastLimit.functions plain unbuilt is_plain is)
+parse_refused source plain unbuilt table errors.NoMemory r is_plain is none same = subst (RefusesSource source) (sym same) tt
 
 pub types_refused : (source : List ℕ) (table : List (List ℕ)) (fs : List SourceFunction) (result : Name) (e : PassError) → HasFunctions source table fs result → TypesRefuse e (checked result fs) → RefusesSource source (refusal_of e)
 types_refused source table fs result (errors.Source e) has is = IsRefused.by_types has is

@@ -1,6 +1,7 @@
 -- What a pass refuses, the source is refused for.
-use Rattle.std.specs.Prelude.{◌≡◌, ◌⊎◌, ℕ, List, unwrap_or}
+use Rattle.std.specs.Prelude.{◌≡◌, ◌⊎◌, ℕ, List, Option, None, Some, unwrap_or, nat_lt, if◌then◌else◌}
 use Rattle.text_core.specs.declared.refusal.SourceError.{SourceError}
+use Rattle.text_core.specs.declared.span.Span.{Span}
 use Rattle.concrete_syntax.specs.declared.word.Word.{Word}
 use Rattle.concrete_syntax.specs.Passed.{attribute_at}
 use Rattle.concrete_syntax.specs.Words.{AreWords}
@@ -23,11 +24,16 @@ refusal_of_fault faults.NoMemory = refusals.NoMemory
 
 -- ---- forms that are not built
 
--- an attribute is refused at its `#`
-abbrev pub form_error : List Word → SourceError → SourceError
-form_error words e = record { code = e.code; span = unwrap_or (attribute_at words e.span.start) e.span; other = e.other }
+-- the form, where it stands before the span
+abbrev pub earlier : Option Span → Span → Span
+earlier None span = span
+earlier (Some form) span = if nat_lt form.start span.start then form else span
 
-abbrev pub IsFormRefusal : List ℕ → PassError → Refusal → Type 0
-IsFormRefusal source (errors.Source e) r = ((words : List Word) × AreWords source words × (r ≡ refusals.Source (form_error words e))) ⊎ (r ≡ refusals.NoMemory)
-IsFormRefusal source (errors.Limit l) r = r ≡ refusals.Limit l
-IsFormRefusal source errors.NoMemory r = r ≡ refusals.NoMemory
+-- the first form that is not built, by its phrase or where no built form goes on; an attribute is refused at its `#`
+abbrev pub form_error : List Word → Option Span → SourceError → SourceError
+form_error words unbuilt e = record { code = e.code; span = earlier unbuilt (unwrap_or (attribute_at words e.span.start) e.span); other = e.other }
+
+abbrev pub IsFormRefusal : List ℕ → Option Span → PassError → Refusal → Type 0
+IsFormRefusal source unbuilt (errors.Source e) r = ((words : List Word) × AreWords source words × (r ≡ refusals.Source (form_error words unbuilt e))) ⊎ (r ≡ refusals.NoMemory)
+IsFormRefusal source unbuilt (errors.Limit l) r = r ≡ refusals.Limit l
+IsFormRefusal source unbuilt errors.NoMemory r = r ≡ refusals.NoMemory

@@ -5,7 +5,7 @@ ghost use Rattle.mir_build.specs.Lowering.{IsLowered};
 ghost use Rattle.mir_build.specs.Laws.{Lowers};
 ghost use Rattle.verify_core.specs.Prepared.{IsTypedAs, IsPrepared, HasGoals, HaveFewPaths, RefusesSource};
 ghost use Rattle.wp_gen.specs.Walkable.{setting};
-ghost use Rattle.verify_core.specs.Refusals.{IsFormRefusal};
+ghost use Rattle.verify_core.specs.Refusals.{earlier, IsFormRefusal};
 ghost use Rattle.verify_core.specs.Passes.{CanWalkAt, CanWalkAll, AreAllGoals, AreLaidOut, HaveFewGoals, IsSettingAt, IsGoalsError, IsPathsError};
 
 use crate::fault::Refusal;
@@ -16,17 +16,33 @@ use mir_build::{Lowered, lower};
 use mir_ir::Body;
 use rs_syntax::{PassError, parse};
 use std::alloc::Global;
-use text_core::{Items, Limit, LimitKind, Names, NoMemory, SourceError};
+use text_core::{Items, Limit, LimitKind, Names, NoMemory, SourceError, Span};
 use type_check::{TypedProgram, check};
 use wp_gen::{OBLIGATIONS, Walk, check_paths, obligations, room_after};
 
 /// The most bytes of a source.
 pub const SOURCE_BYTES: usize = 1 << 20;
 
-/// The refusal of a form that is not built: an attribute is refused at its `#`.
-fn form_refusal(alloc: Global, source: &[u8], error: PassError) -> Refusal
+/// The form that is not built by its phrase, where it stands before the span.
+fn earlier(unbuilt: Option<Span>, span: Span) -> Span
+    ensures { result ≡ earlier unbuilt span }
+{
+    match unbuilt {
+        None => span,
+        Some(first) => if first.start < span.start { first } else { span },
+    }
+}
+
+/// The refusal of a form that is not built, the first by its phrase or where no built form goes on: an attribute is refused
+/// at its `#`.
+fn form_refusal(
+    alloc: Global,
+    source: &[u8],
+    unbuilt: Option<Span>,
+    error: PassError,
+) -> Refusal
     requires { length source.now ≤ 2 ^ 20 }
-    ensures { IsFormRefusal source.now error result }
+    ensures { IsFormRefusal source.now unbuilt error result }
 {
     match error {
         PassError::Limit(limit) => Refusal::Limit(limit),
@@ -37,7 +53,7 @@ fn form_refusal(alloc: Global, source: &[u8], error: PassError) -> Refusal
                 let hash = attribute_at(words.as_slice(), error.span.start);
                 Refusal::Source(SourceError {
                     code: error.code,
-                    span: hash.unwrap_or(error.span),
+                    span: earlier(unbuilt, hash.unwrap_or(error.span)),
                     other: error.other,
                 })
             }
@@ -55,9 +71,9 @@ fn typed_source(alloc: Global, source: &[u8], names: &mut Names) -> Result<Typed
 {
     let plain = plain_source(alloc, source)?;
     let result = names.intern(alloc, "result")?;
-    let functions = match parse(alloc, plain.as_slice(), names) {
+    let functions = match parse(alloc, plain.text.as_slice(), names) {
         Ok(functions) => functions,
-        Err(error) => return Err(form_refusal(alloc, source, error)),
+        Err(error) => return Err(form_refusal(alloc, source, plain.unbuilt, error)),
     };
     Ok(check(alloc, result, functions.as_slice())?)
 }

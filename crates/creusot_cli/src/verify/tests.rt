@@ -192,15 +192,30 @@ fn forms_that_are_not_built_are_refused(rt: HostRuntime) -> Result<(), Fail> {
         // Behind what is passed over, and attributes at their `#`.
         (b"use std::mem; pub enum E {}", b"error E20 18..22 line 1\n"),
         (b"#[invariant(true)] fn f() {}", b"error E20 0..1 line 1\n"),
+        (b"#[requires(true)] struct S;", b"error E20 0..1 line 1\n"),
+        (
+            b"fn f() {}\n#[inline] #[ensures(true)] pub enum E { A }",
+            b"error E20 20..21 line 2\n",
+        ),
         (b"#[logic] fn f() -> Int { 1 }", b"error E20 0..1 line 1\n"),
         (
             b"fn f() { #[requires(true)] while true {} }",
             b"error E20 9..10 line 1\n",
         ),
+        // Forms whose first words a built form could begin with.
+        (b"fn f() { panic!(); }", b"error E20 9..14 line 1\n"),
+        (b"fn f(x: u32) { proof_assert!(x == 1); }", b"error E20 15..27 line 1\n"),
+        (b"#[requires(forall<i: u32> i == x)] fn f(x: u32) {}", b"error E20 11..17 line 1\n"),
+        (
+            b"#[requires(x == 1 && MutRef(x, x) == x)] fn f(x: u32) {}",
+            b"error E20 21..27 line 1\n",
+        ),
+        (b"fn f() { let x = (1, 2); }", b"error E20 17..18 line 1\n"),
+        (b"fn f() { (); }", b"error E20 9..10 line 1\n"),
         // A promise before a `use` line is none of the function behind it.
         (
             b"#[requires(false)] use std::mem; fn f() {}",
-            b"error E20 19..22 line 1\n",
+            b"error E20 0..1 line 1\n",
         ),
         // The whole grammar first.
         (b"struct S; fn f() { 1 + }", b"error E03 23..24 line 1\n"),

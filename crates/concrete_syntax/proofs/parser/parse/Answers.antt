@@ -3,19 +3,19 @@ use Rattle.concrete_syntax.proofs.Whole.{error_of_words, none_of_words, ok_of_by
 use Rattle.concrete_syntax.proofs.parser.parse.Goals as goal
 
 pub returns-in-Err-clause-refused : goal.returns-in-Err-clause-refused
-returns-in-Err-clause-refused c = error_of_words c.args.bytes.now c.in-Err.error c.in-Err.ensures.refused
+returns-in-Err-clause-refused g c = error_of_words c.args.bytes.now c.in-Err.error c.in-Err.ensures.refused
 
 pub returns-in-Err-clause-rightly : goal.returns-in-Err-clause-rightly
-returns-in-Err-clause-rightly c = none_of_words c.args.bytes.now c.in-Err.error c.in-Err.ensures.refused
+returns-in-Err-clause-rightly g c = none_of_words c.args.bytes.now c.in-Err.error c.in-Err.ensures.refused
 
 pub returns-in-Ok-clause-ok : goal.returns-in-Ok-clause-ok
-returns-in-Ok-clause-ok c = ok_of_bytes c.args.bytes.now c.in-Ok.words c.phrases_of.result c.in-Ok.ensures.ok (rw c.as_slice.ensures at c.phrases_of.ensures.ok)
+returns-in-Ok-clause-ok g c = ok_of_bytes g.T.Tree.making c.args.bytes.now c.in-Ok.words c.tree_of.result c.in-Ok.ensures.ok (rw c.as_slice.ensures at c.tree_of.ensures.ok)
 
 pub returns-in-Ok-clause-alone : goal.returns-in-Ok-clause-alone
-returns-in-Ok-clause-alone c = alone_of_bytes c.args.bytes.now c.in-Ok.words c.phrases_of.result c.in-Ok.ensures.ok (rw c.as_slice.ensures at c.phrases_of.ensures.ok)
+returns-in-Ok-clause-alone g c = alone_of_bytes g.T.Tree.making c.args.bytes.now c.in-Ok.words c.tree_of.result c.in-Ok.ensures.ok (rw c.as_slice.ensures at c.tree_of.ensures.ok)
 
 pub returns-in-Ok-clause-refused : goal.returns-in-Ok-clause-refused
-returns-in-Ok-clause-refused c = refused_of_bytes c.args.bytes.now c.in-Ok.words _ c.phrases_of.result refl c.in-Ok.ensures.ok (rw c.as_slice.ensures at c.phrases_of.ensures.refused)
+returns-in-Ok-clause-refused g c = refused_of_bytes g.T.Tree.making c.args.bytes.now c.in-Ok.words _ c.tree_of.result refl c.in-Ok.ensures.ok (rw c.as_slice.ensures at c.tree_of.ensures.refused)
 
 pub returns-in-Ok-clause-rightly : goal.returns-in-Ok-clause-rightly
-returns-in-Ok-clause-rightly c = rightly_of_bytes c.args.bytes.now c.in-Ok.words c.phrases_of.result c.in-Ok.ensures.ok (rw c.as_slice.ensures at c.phrases_of.ensures.rightly)
+returns-in-Ok-clause-rightly g c = rightly_of_bytes g.T.Tree.making c.args.bytes.now c.in-Ok.words c.tree_of.result c.in-Ok.ensures.ok (rw c.as_slice.ensures at c.tree_of.ensures.rightly)

@@ -10,7 +10,7 @@ returns-in_err-plain-clause-refused c =
 
 pub returns-in-Err-clause-refused : goal.returns-in-Err-clause-refused
 returns-in-Err-clause-refused c =
-    parse_refused c.args.source.now c.in_ok-plain.plain c.parse.new.names c.in-Err.error c.form_refusal.result c.in_ok-plain.ensures.ok
+    parse_refused c.args.source.now c.in_ok-plain.plain.text c.in_ok-plain.plain.unbuilt c.parse.new.names c.in-Err.error c.form_refusal.result c.in_ok-plain.ensures.ok
     (rw c.as_slice.ensures at c.in-Err.ensures.refused) (rw c.as_slice.ensures at c.in-Err.ensures.rightly) c.form_refusal.ensures
 
 pub returns-in_err-check-clause-refused : goal.returns-in_err-check-clause-refused
@@ -19,7 +19,8 @@ returns-in_err-check-clause-refused c =
     rw (p.1, p.2)
     (types_refused c.args.source.now c.parse.new.names c.in-Ok.functions c.in_ok-result.result c.in_err-check.field-0.0
     (record {
-      plain = c.in_ok-plain.plain;
+      plain = c.in_ok-plain.plain.text;
+      unbuilt = c.in_ok-plain.plain.unbuilt;
       is_plain = c.in_ok-plain.ensures.ok;
       spelled = rw c.as_slice.ensures at c.in-Ok.ensures.ok;
       is_result = c.in-Ok.ensures.kept c.in_ok-result.result (codes "result") c.in_ok-result.ensures.named;
@@ -31,7 +32,8 @@ returns-clause-ok c = record {
   functions = c.in-Ok.functions;
   result = c.in_ok-result.result;
   has = record {
-    plain = c.in_ok-plain.plain;
+    plain = c.in_ok-plain.plain.text;
+      unbuilt = c.in_ok-plain.plain.unbuilt;
     is_plain = c.in_ok-plain.ensures.ok;
     spelled = rw c.as_slice.ensures at c.in-Ok.ensures.ok;
     is_result = c.in-Ok.ensures.kept c.in_ok-result.result (codes "result") c.in_ok-result.ensures.named;
