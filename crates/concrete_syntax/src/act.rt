@@ -102,17 +102,20 @@ fn word_alone(alloc: Global, word: Word) -> Result<Items<Event>, NoMemory>
 
 /// Lists of phrases.
 impl Tree for Items<Event> {
-    ghost making = { phrases };
+    type Context = ();
 
-    fn leaf(alloc: Global, word: Word) -> Result<Items<Event>, NoMemory> {
+    ghost making = { λ context. phrases };
+
+    fn leaf(_context: &(), alloc: Global, word: Word) -> Result<Items<Event>, NoMemory> {
         word_alone(alloc, word)
     }
 
-    fn nothing(alloc: Global) -> Items<Event> {
+    fn nothing(_context: &(), alloc: Global) -> Items<Event> {
         Items::new(alloc)
     }
 
     fn make(
+        _context: &(),
         _alloc: Global,
         rule: Rule,
         before: Items<Event>,

@@ -36,14 +36,26 @@ fn syntax_error(alloc: Global, words: &[Word], place: usize, limited: bool, end:
 }
 
 /// What the words of a source spell, which has so many bytes.
-fn tree_of<T: Tree + Drop>(alloc: Global, words: &[Word], end: u32) -> Result<T, ParseFault>
+fn tree_of<T: Tree + Drop>(
+    context: &T::Context,
+    alloc: Global,
+    words: &[Word],
+    end: u32,
+) -> Result<T, ParseFault>
     requires { length words.now < 2 ^ 32 }
-    ensures ok { IfOk result (λ tree. SpellsWords T.making words.now tree) }
-    ensures alone { IfOk result (λ tree. (other : T) → SpellsWords T.making words.now other → other ≡ tree) }
+    ensures ok { IfOk result (λ tree. SpellsWords (T.making context.now) words.now tree) }
+    ensures alone { IfOk result (λ tree. (other : T) → SpellsWords (T.making context.now) words.now other → other ≡ tree) }
     ensures refused { IfErr result (λ e. IsPhraseError words.now end e) }
     ensures rightly { IfErr result (λ e. SpellNone words.now e) }
 {
-    match read(alloc, words, 0, Nonterminal::Item(ItemPhrase::Source), 0) {
+    match read(
+        context,
+        alloc,
+        words,
+        0,
+        Nonterminal::Item(ItemPhrase::Source),
+        0,
+    ) {
         Err(Stop::NoMemory) => Err(ParseFault::NoMemory),
         Err(Stop::Refused(place, limited)) => {
             Err(syntax_error(alloc, words, place, limited, end))
@@ -64,10 +76,14 @@ fn tree_of<T: Tree + Drop>(alloc: Global, words: &[Word], end: u32) -> Result<T,
 /// cannot continue, or empty at the end of a source that ends too early: by E04 where that word opens the 65th level or is
 /// the 257th operator of a chain, by E20 where it begins a construct of Rust that the language leaves out, by E03 else.
 /// `NoMemory`.
-pub fn parse<T: Tree + Drop>(alloc: Global, bytes: &[u8]) -> Result<T, ParseFault>
+pub fn parse<T: Tree + Drop>(
+    context: &T::Context,
+    alloc: Global,
+    bytes: &[u8],
+) -> Result<T, ParseFault>
     requires few { length bytes.now ≤ 2 ^ 20 }
-    ensures ok { IfOk result (λ tree. SpellsAs T.making bytes.now tree) }
-    ensures alone { IfOk result (λ tree. (other : T) → SpellsAs T.making bytes.now other → other ≡ tree) }
+    ensures ok { IfOk result (λ tree. SpellsAs (T.making context.now) bytes.now tree) }
+    ensures alone { IfOk result (λ tree. (other : T) → SpellsAs (T.making context.now) bytes.now other → other ≡ tree) }
 
     // A refusal, and that nothing is refused that is a source.
     ensures refused { IfErr result (λ e. IsParseError bytes.now e) }
@@ -75,6 +91,6 @@ pub fn parse<T: Tree + Drop>(alloc: Global, bytes: &[u8]) -> Result<T, ParseFaul
 {
     match words_of(alloc, bytes) {
         Err(error) => Err(error),
-        Ok(words) => tree_of(alloc, words.as_slice(), bytes.len() as u32),
+        Ok(words) => tree_of(context, alloc, words.as_slice(), bytes.len() as u32),
     }
 }

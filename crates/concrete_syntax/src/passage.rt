@@ -273,17 +273,20 @@ fn made(rule: Rule, before: Passage, inside: Passage) -> Result<Passage, NoMemor
 
 /// What the verifier passes over in each part.
 impl Tree for Passage {
-    ghost making = { passages };
+    type Context = ();
 
-    fn leaf(alloc: Global, word: Word) -> Result<Passage, NoMemory> {
+    ghost making = { λ context. passages };
+
+    fn leaf(_context: &(), alloc: Global, word: Word) -> Result<Passage, NoMemory> {
         leaf(alloc, word)
     }
 
-    fn nothing(alloc: Global) -> Passage {
+    fn nothing(_context: &(), alloc: Global) -> Passage {
         nothing(alloc)
     }
 
     fn make(
+        _context: &(),
         alloc: Global,
         rule: Rule,
         before: Passage,

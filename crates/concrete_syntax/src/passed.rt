@@ -54,7 +54,7 @@ pub fn plain_source(alloc: Global, bytes: &[u8]) -> Result<PlainSource, ParseFau
     ensures refused { IfErr result (λ e. IsParseError bytes.now e) }
     ensures rightly { IfErr result (λ e. SpellsNone bytes.now e) }
 {
-    let passage: Passage = parse(alloc, bytes)?;
+    let passage: Passage = parse(&(), alloc, bytes)?;
     let text = blank_all(alloc, bytes, passage.passed.as_slice())?;
     Ok(PlainSource {
         text,

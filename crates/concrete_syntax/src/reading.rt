@@ -75,6 +75,7 @@ fn within_bounds(rule: Rule, level: u32, chain: u32) -> Option<(u32, u32)>
 /// Reads a nonterminal from the place on, at a level of at most 64: its value and the place after it.
 #[cycle(read)]
 pub fn read<T: Tree + Drop>(
+    context: &T::Context,
     alloc: Global,
     words: &[Word],
     place: usize,
@@ -83,11 +84,11 @@ pub fn read<T: Tree + Drop>(
 ) -> Result<(T, usize), Stop>
     requires inside { place ≤ length words.now }
     requires deep { level ≤ 64 }
-    ensures { Answer T.making words.now goal level place result }
+    ensures { Answer (T.making context.now) words.now goal level place result }
 {
     let mut at = place;
     let mut wanted = goal;
-    let mut value = T::nothing(alloc);
+    let mut value = T::nothing(context, alloc);
     let mut chain = 0;
     loop {
         match choose(wanted, kind_at(words, at)) {
@@ -101,11 +102,11 @@ pub fn read<T: Tree + Drop>(
             Some(rule) => match within_bounds(rule, level, chain) {
                 None => return Err(Stop::Refused(at, true)),
                 Some((inside, longer)) => {
-                    let (parts, after) = match read_parts(alloc, words, at, rule, inside) {
+                    let (parts, after) = match read_parts(context, alloc, words, at, rule, inside) {
                         Ok(read) => read,
                         Err(stop) => return Err(stop),
                     };
-                    value = match T::make(alloc, rule, value, parts) {
+                    value = match T::make(context, alloc, rule, value, parts) {
                         Ok(made) => made,
                         Err(_) => return Err(Stop::NoMemory),
                     };
@@ -124,6 +125,7 @@ pub fn read<T: Tree + Drop>(
 /// Reads the parts of a rule from the place on: their values and the place after them.
 #[cycle(read)]
 fn read_parts<T: Tree + Drop>(
+    context: &T::Context,
     alloc: Global,
     words: &[Word],
     place: usize,
@@ -132,13 +134,13 @@ fn read_parts<T: Tree + Drop>(
 ) -> Result<(VecDeque<T>, usize), Stop>
     requires inside { place ≤ length words.now }
     requires deep { level ≤ 64 }
-    ensures { MatchResult result (λ p. PartsRead T.making words.now rule level place p.0.items p.1) (λ e. PartsStopped T.making words.now rule level place e) }
+    ensures { MatchResult result (λ p. PartsRead (T.making context.now) words.now rule level place p.0.items p.1) (λ e. PartsStopped (T.making context.now) words.now rule level place e) }
 {
     let mut parts = VecDeque::new(alloc);
     let mut at = place;
     let mut number = 0;
     while let Some(symbol) = part_of(rule, number) {
-        match read_part(alloc, words, at, symbol, level) {
+        match read_part(context, alloc, words, at, symbol, level) {
             Err(stop) => return Err(stop),
             Ok((value, after)) => {
                 if parts.push_back(value).is_err() {
@@ -155,6 +157,7 @@ fn read_parts<T: Tree + Drop>(
 /// Reads a symbol from the place on: its value and the place after it.
 #[cycle(read)]
 fn read_part<T: Tree + Drop>(
+    context: &T::Context,
     alloc: Global,
     words: &[Word],
     place: usize,
@@ -163,12 +166,12 @@ fn read_part<T: Tree + Drop>(
 ) -> Result<(T, usize), Stop>
     requires inside { place ≤ length words.now }
     requires deep { level ≤ 64 }
-    ensures { MatchResult result (λ p. PartRead T.making words.now symbol level place p.0 p.1) (λ e. PartStopped T.making words.now symbol level place e) }
+    ensures { MatchResult result (λ p. PartRead (T.making context.now) words.now symbol level place p.0 p.1) (λ e. PartStopped (T.making context.now) words.now symbol level place e) }
 {
     match symbol {
         Symbol::Word(kind) => {
             if place < words.len() && is_kind(words[place].kind, kind) {
-                match T::leaf(alloc, words[place]) {
+                match T::leaf(context, alloc, words[place]) {
                     Ok(value) => Ok((value, place + 1)),
                     Err(_) => Err(Stop::NoMemory),
                 }
@@ -176,6 +179,6 @@ fn read_part<T: Tree + Drop>(
                 Err(Stop::Refused(place, false))
             }
         }
-        Symbol::Of(goal) => read(alloc, words, place, goal, level),
+        Symbol::Of(goal) => read(context, alloc, words, place, goal, level),
     }
 }

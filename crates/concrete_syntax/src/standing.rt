@@ -47,6 +47,7 @@ fn could_stand(
 {
     let tried = with_word(alloc, &words[..place], sample(kind))?;
     match read::<Items<Event>>(
+        &(),
         alloc,
         tried.as_slice(),
         0,

@@ -14,7 +14,7 @@ fn is_answered(alloc: Global, text: &[u8], refusal: Option<(Code, u32, u32)>) ->
     if text.len() > 1 << 20 {
         return false;
     }
-    match parse::<Items<Event>>(alloc, text) {
+    match parse::<Items<Event>>(&(), alloc, text) {
         Ok(_) => refusal.is_none(),
         Err(ParseFault::NoMemory) => false,
         Err(ParseFault::Source(error)) => match refusal {
@@ -312,7 +312,7 @@ fn words_and_open(events: &[Event]) -> (u32, u32) {
 
 #[test]
 fn phrases_have_all_words_and_end(rt: HostRuntime) {
-    let found = match parse::<Items<Event>>(rt.alloc(), b"fn f() { a + b * c; }") {
+    let found = match parse::<Items<Event>>(&(), rt.alloc(), b"fn f() { a + b * c; }") {
         Ok(events) => words_and_open(events.as_slice()) == (12, 0),
         Err(_) => false,
     };

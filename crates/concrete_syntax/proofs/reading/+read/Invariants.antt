@@ -20,7 +20,7 @@ invariant-read-loop-value g l = record {
   from : l.place ≤ l.at;
   long : l.chain ≤ 256;
   begun : ((l.wanted ≡ l.fn.goal) × (l.at ≡ l.place)) ⊎ (l.place < l.at);
-  on : Onward g.T.Tree.making l.fn.goal l.level (drop l.place l.words) l.wanted l.chain l.value (drop l.at l.words);
+  on : Onward (g.T.Tree.making l.context) l.fn.goal l.level (drop l.place l.words) l.wanted l.chain l.value (drop l.at l.words);
 }
 
 abbrev pub decreases-read-loop-value : goal.decreases-read-loop-value
@@ -31,7 +31,7 @@ invariant-read_parts-loop-symbol g l = record {
   inside : l.at ≤ length l.words;
   from : l.place ≤ l.at;
   begun : ((l.number ≡ 0) × (l.at ≡ l.place)) ⊎ (l.place < l.at);
-  on : Along g.T.Tree.making l.rule l.level (drop l.place l.words) l.parts.items l.number (drop l.at l.words);
+  on : Along (g.T.Tree.making l.context) l.rule l.level (drop l.place l.words) l.parts.items l.number (drop l.at l.words);
 }
 
 abbrev pub decreases-read_parts-loop-symbol : goal.decreases-read_parts-loop-symbol
