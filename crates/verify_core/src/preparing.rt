@@ -29,18 +29,17 @@ fn earlier(unbuilt: Option<Span>, span: Span) -> Span
 {
     match unbuilt {
         None => span,
-        Some(first) => if first.start < span.start { first } else { span },
+        Some(first) => if first.start < span.start {
+            first
+        } else {
+            span
+        },
     }
 }
 
 /// The refusal of a form that is not built, the first by its phrase or where no built form goes on: an attribute is refused
 /// at its `#`.
-fn form_refusal(
-    alloc: Global,
-    source: &[u8],
-    unbuilt: Option<Span>,
-    error: PassError,
-) -> Refusal
+fn form_refusal(alloc: Global, source: &[u8], unbuilt: Option<Span>, error: PassError) -> Refusal
     requires { length source.now ≤ 2 ^ 20 }
     ensures { IsFormRefusal source.now unbuilt error result }
 {

@@ -204,8 +204,14 @@ fn forms_that_are_not_built_are_refused(rt: HostRuntime) -> Result<(), Fail> {
         ),
         // Forms whose first words a built form could begin with.
         (b"fn f() { panic!(); }", b"error E20 9..14 line 1\n"),
-        (b"fn f(x: u32) { proof_assert!(x == 1); }", b"error E20 15..27 line 1\n"),
-        (b"#[requires(forall<i: u32> i == x)] fn f(x: u32) {}", b"error E20 11..17 line 1\n"),
+        (
+            b"fn f(x: u32) { proof_assert!(x == 1); }",
+            b"error E20 15..27 line 1\n",
+        ),
+        (
+            b"#[requires(forall<i: u32> i == x)] fn f(x: u32) {}",
+            b"error E20 11..17 line 1\n",
+        ),
         (
             b"#[requires(x == 1 && MutRef(x, x) == x)] fn f(x: u32) {}",
             b"error E20 21..27 line 1\n",
