@@ -76,7 +76,7 @@ rest_with ws (stop b ys) = refl
 
 module _ (G : Grammar) where
   mutual
-    relaxed : {n : G.Nonterminal} {d c : ℕ} {a w : G.Value} {xs ys : List G.Token} → Spells G n d c a xs w ys → Spells (without_limits G) n d c a xs w ys
+    pub relaxed : {n : G.Nonterminal} {d c : ℕ} {a w : G.Value} {xs ys : List G.Token} → Spells G n d c a xs w ys → Spells (without_limits G) n d c a xs w ys
     relaxed (expand r h ps t) = expand r refl (relaxed_parts ps) (relaxed_tail t)
     relaxed (finished h e) = finished h e
 

@@ -23,13 +23,15 @@ use Rattle.concrete_syntax.specs.declared.reading.Stop.TheVariants.{Refused}
 use Rattle.concrete_syntax.specs.declared.word.Word.{Word}
 use Rattle.concrete_syntax.specs.Answer.{Answer}
 use Rattle.concrete_syntax.specs.LeftOut.{IsCode, passes, ComesTo}
-use Rattle.concrete_syntax.specs.Parsed.{SpellsWords, SpellsPhrases, SpellsAs, StandsAt, IsErrorAt, IsSyntaxError, IsPhraseError, SpellNone, IsParseError, SpellsNone}
+use Rattle.concrete_syntax.specs.Parsed.{SpellsWords, SpellsPhrases, SpellsAs, StandsAt, IsErrorAt, Offends, IsSyntaxError, IsPhraseError, SpellNone, IsParseError, SpellsNone}
 use Rattle.concrete_syntax.specs.Making.{Making}
 use Rattle.concrete_syntax.specs.Sources.{phrases, sources, sources_of}
 use Rattle.concrete_syntax.specs.Words.{AreWords, IsBadText, no_text, bad_token, IsWordError}
-use Rattle.token_grammar.specs.Tables.{IsExact, IsHeaded, IsRefusal}
+use Rattle.token_grammar.specs.Grammar.{Spells}
+use Rattle.token_grammar.specs.Tables.{IsExact, IsHeaded, IsRefusal, without_limits}
 use Rattle.concrete_syntax.proofs.Heads.{is_exact}
 use Rattle.concrete_syntax.proofs.Revalued.{stops, ends}
+use Rattle.concrete_syntax.proofs.Telling.{relaxed}
 use Rattle.concrete_syntax.proofs.Planning.{the_plan}
 use Rattle.concrete_syntax.proofs.PlanFits.{is_planned}
 use Rattle.concrete_syntax.proofs.Tokens.{no_words, same_words}
@@ -172,6 +174,25 @@ one_error bytes one other (inr h) (inl g) = absurd (no_words bytes other h.words
 one_error bytes one other (inr h) (inr g) =
     let e : g.words ≡ h.words = same_words bytes g.words h.words g.are_words h.are_words in
     one_refusal h.words (length bytes) one other h.error_of (subst (λ (ws : List Word). IsSyntaxError ws (length bytes) other) e g.error_of)
+
+-- ---- spelled or refused
+
+-- what is spelled is spelled whatever is made of it
+pub another_value : {Value Other : Type 0} (one : Making Value) (other : Making Other) (bytes : List ℕ) (v : Value) → SpellsAs one bytes v → (w : Other) × SpellsAs other bytes w
+another_value one other bytes v s =
+    let e = ends one other source 0 0 one.nothing other.nothing s.words [] v (complete (sources_of one) (exact one) s.spelled) in
+    (e.0, record { words = s.words; are_words = s.are_words; spelled = sound (sources_of other) (exact other) e.1 })
+
+refusal_spells_none : (ws : List Word) (place : ℕ) (limited : Bool) → Offends limited ws place → (es : List Event) → SpellsPhrases ws es → ⊥
+refusal_spells_none ws place true M es s = M.stuck (drop place ws) es refl (subst (λ (us : List Word). Spells sources source 0 0 [] us es []) M.split s)
+refusal_spells_none ws place false R es s = R.stuck (drop place ws) es refl (subst (λ (us : List Word). Spells (without_limits sources) source 0 0 [] us es []) R.split (relaxed sources s))
+
+-- what is spelled is not refused
+pub not_both : (bytes : List ℕ) (es : List Event) (error : SourceError) → SpellsAs phrases bytes es → IsParseError bytes (P.Source error) → ⊥
+not_both bytes es error s (inl h) = no_words bytes error s.words h s.are_words
+not_both bytes es error s (inr h) =
+    let e : s.words ≡ h.words = same_words bytes s.words h.words s.are_words h.are_words in
+    refusal_spells_none h.words h.error_of.place (passes h.error_of.comes.outcome) h.error_of.offends es (subst (λ (ws : List Word). SpellsPhrases ws es) e s.spelled)
 
 -- ---- from the words to the bytes, for each answer
 

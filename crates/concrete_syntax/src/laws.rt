@@ -4,7 +4,8 @@ ghost use Rattle.token_grammar.specs.Tables.{IsExact, Plan, Planned};
 ghost use Rattle.text_core.specs.declared.refusal.SourceError.{SourceError};
 ghost use Rattle.concrete_syntax.specs.declared.event.Event.{Event};
 ghost use Rattle.concrete_syntax.specs.declared.fault.ParseFault.TheVariants as P;
-ghost use Rattle.concrete_syntax.specs.Parsed.{SpellsSource, IsParseError};
+ghost use Rattle.concrete_syntax.specs.Making.{Making};
+ghost use Rattle.concrete_syntax.specs.Parsed.{SpellsAs, SpellsSource, IsParseError};
 ghost use Rattle.concrete_syntax.specs.Sources.{sources};
 
 /// A text spells at most one list of phrases, with all spans.
@@ -15,6 +16,16 @@ pub fn a_text_spells_one_list_of_phrases()
 /// A text is refused with at most one code and span.
 pub fn a_source_is_refused_in_one_way()
     ensures { (bytes : List ℕ) (one other : SourceError) → IsParseError bytes (P.Source one) → IsParseError bytes (P.Source other) → one ≡ other }
+{}
+
+/// What a text spells and whether it is refused do not depend on what words and rules make.
+pub fn a_source_is_spelled_whatever_is_made<Value, Other>()
+    ensures { (one : Making Value) (other : Making Other) (bytes : List ℕ) (v : Value) → SpellsAs one bytes v → (w : Other) × SpellsAs other bytes w }
+{}
+
+/// No text is both spelled and refused.
+pub fn a_source_is_not_spelled_and_refused()
+    ensures { (bytes : List ℕ) (es : List Event) (error : SourceError) → SpellsSource bytes es → IsParseError bytes (P.Source error) → ⊥ }
 {}
 
 /// In the grammar of sources a word chooses the one rule that it begins, and each nonterminal can be brought to an end.

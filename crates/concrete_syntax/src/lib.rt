@@ -54,7 +54,8 @@ pub use fault::ParseFault;
 pub use item_rule::ItemRule;
 pub use kinds::{Bracket, CommonWord, Keyword, LogicalWord, MacroWord, Mark, WordKind};
 pub use laws::{
-    a_source_is_refused_in_one_way, a_text_spells_one_list_of_phrases,
+    a_source_is_not_spelled_and_refused, a_source_is_refused_in_one_way,
+    a_source_is_spelled_whatever_is_made, a_text_spells_one_list_of_phrases,
     the_tables_meet_their_conditions,
 };
 pub use omitted::Construct;
