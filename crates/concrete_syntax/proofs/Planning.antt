@@ -32,7 +32,7 @@ use Rattle.concrete_syntax.specs.Listing.{kinds}
 use Rattle.concrete_syntax.proofs.Following.{class, goes}
 
 abbrev pub sample : WordKind → Word
-sample k = record { kind = k; span = record { start = 0; end = 0 } }
+sample k = record { kind = k; span = record { start = 0; end = 0 }; number = 0 }
 
 -- the rule of a short text
 abbrev pub plan : Nonterminal → Rule

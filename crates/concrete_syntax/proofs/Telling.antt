@@ -33,7 +33,7 @@ source = N.Item NI.Source
 
 -- a word of this kind
 abbrev pub word_of : WordKind → Word
-word_of kind = record { kind = kind; span = record { start = 0; end = 0 } }
+word_of kind = record { kind = kind; span = record { start = 0; end = 0 }; number = 0 }
 
 -- ---- lists
 

@@ -63,14 +63,16 @@ second_at (t ∷ tokens) (suc i) = second_at tokens i
 
 pub one_more_word : (bytes : List ℕ) (tokens : List Token) (i : ℕ) (before next behind : Option Token) (z : Token) (words new all : List Word) (kind : WordKind) → i < length tokens
     → kind ≡ word_kind bytes before (get_or tokens i z) next behind → next ≡ slice_get tokens (i + 1) → behind ≡ slice_get tokens (i + 2)
-    → words ++ words_from bytes before (drop i tokens) ≡ all → new ≡ words ++ record { kind = kind; span = (get_or tokens i z).span } ∷ [] → new ++ words_from bytes (Some (get_or tokens i z)) (drop (i + 1) tokens) ≡ all
+    → words ++ words_from bytes i before (drop i tokens) ≡ all → new ≡ words ++ record { kind = kind; span = (get_or tokens i z).span; number = i } ∷ []
+    → new ++ words_from bytes (i + 1) (Some (get_or tokens i z)) (drop (i + 1) tokens) ≡ all
 one_more_word bytes tokens i before next behind z words new all kind below is is_next is_behind e pushed =
-    ap (λ (x : List Word). x ++ words_from bytes (Some token) (drop (i + 1) tokens)) pushed
-    ∙ append_assoc words (record { kind = kind; span = token.span } ∷ []) (words_from bytes (Some token) (drop (i + 1) tokens))
-    ∙ ap (λ (x : List Word). words ++ x) (sym here) ∙ e
+    ap (λ (x : List Word). x ++ rest) pushed ∙ append_assoc words (record { kind = kind; span = token.span; number = i } ∷ []) rest ∙ ap (λ (x : List Word). words ++ x) (sym here) ∙ e
   where
     token : Token
     token = get_or tokens i z
+
+    rest : List Word
+    rest = words_from bytes (i + 1) (Some token) (drop (i + 1) tokens)
 
     at_front : drop i tokens ≡ token ∷ drop (i + 1) tokens
     at_front = rw add-one (drop-cons tokens i z below)
@@ -84,21 +86,35 @@ one_more_word bytes tokens i before next behind z words new all kind below is is
         two_more : (i : ℕ) → suc (i + 1) ≡ i + 2
         two_more i = omega arith
 
-    here : words_from bytes before (drop i tokens) ≡ record { kind = kind; span = token.span } ∷ words_from bytes (Some token) (drop (i + 1) tokens)
-    here = ap (words_from bytes before) at_front
-        ∙ ap (λ (x : Option Token). record { kind = word_kind bytes before token x (second_of (drop (i + 1) tokens)); span = token.span } ∷ words_from bytes (Some token) (drop (i + 1) tokens)) next_is
-        ∙ ap (λ (x : Option Token). record { kind = word_kind bytes before token next x; span = token.span } ∷ words_from bytes (Some token) (drop (i + 1) tokens)) behind_is
-        ∙ ap (λ (k : WordKind). record { kind = k; span = token.span } ∷ words_from bytes (Some token) (drop (i + 1) tokens)) (sym is)
+    here : words_from bytes i before (drop i tokens) ≡ record { kind = kind; span = token.span; number = i } ∷ rest
+    here = ap (words_from bytes i before) at_front
+        ∙ ap (λ (n : ℕ). record { kind = word_kind bytes before token (head_of (drop (i + 1) tokens)) (second_of (drop (i + 1) tokens)); span = token.span; number = i } ∷ words_from bytes n (Some token) (drop (i + 1) tokens)) (sym (add-one i))
+        ∙ ap (λ (x : Option Token). record { kind = word_kind bytes before token x (second_of (drop (i + 1) tokens)); span = token.span; number = i } ∷ rest) next_is
+        ∙ ap (λ (x : Option Token). record { kind = word_kind bytes before token next x; span = token.span; number = i } ∷ rest) behind_is
+        ∙ ap (λ (k : WordKind). record { kind = k; span = token.span; number = i } ∷ rest) (sym is)
 
-pub as_many : (bytes : List ℕ) (before : Option Token) (tokens : List Token) → length (words_from bytes before tokens) ≡ length tokens
-as_many bytes before [] = refl
-as_many bytes before (t ∷ tokens) = ap suc (as_many bytes (Some t) tokens)
+pub as_many : (bytes : List ℕ) (number : ℕ) (before : Option Token) (tokens : List Token) → length (words_from bytes number before tokens) ≡ length tokens
+as_many bytes number before [] = refl
+as_many bytes number before (t ∷ tokens) = ap suc (as_many bytes (suc number) (Some t) tokens)
+
+-- words have their numbers
+numbered_from : (bytes : List ℕ) (number : ℕ) (before : Option Token) (tokens : List Token) (i : ℕ) (word : Word) → slice_get (words_from bytes number before tokens) i ≡ Some word → word.number ≡ number + i
+numbered_from bytes number before [] i word e = absurd cc
+numbered_from bytes number before (t ∷ tokens) zero word e =
+    let first : record { kind = word_kind bytes before t (head_of tokens) (second_of tokens); span = t.span; number = number } ≡ word = cc in
+    let same : number ≡ word.number = ap (λ (w : Word). w.number) first in omega arith
+numbered_from bytes number before (t ∷ tokens) (suc i) word e =
+    let h : word.number ≡ suc number + i = numbered_from bytes (suc number) (Some t) tokens i word e in omega arith
+
+pub numbered : (bytes : List ℕ) (words : List Word) (i : ℕ) (word : Word) → AreWords bytes words → slice_get words i ≡ Some word → word.number ≡ i
+numbered bytes words i word are e =
+    let h : word.number ≡ 0 + i = numbered_from bytes 0 None are.tokens i word (subst (λ (ws : List Word). slice_get ws i ≡ Some word) are.are_words e) in omega arith
 
 -- bytes are one list of words
 pub same_words : (bytes : List ℕ) (one other : List Word) → AreWords bytes one → AreWords bytes other → one ≡ other
 same_words bytes one other a b =
     let same = (one_list bytes 0 a.tokens b.tokens None None a.are_tokens.tokens_of b.are_tokens.tokens_of).0 in
-    a.are_words ∙ ap (words_from bytes None) same ∙ sym b.are_words
+    a.are_words ∙ ap (words_from bytes 0 None) same ∙ sym b.are_words
 
 -- bytes that are refused have no words
 pub no_words : (bytes : List ℕ) (error : SourceError) (words : List Word) → IsBadText bytes error → AreWords bytes words → ⊥

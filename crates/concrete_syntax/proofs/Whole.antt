@@ -40,7 +40,7 @@ abbrev pub source : Nonterminal
 source = N.Item NI.Source
 
 abbrev pub no_word : Word
-no_word = record { kind = K.Int; span = record { start = 0; end = 0 } }
+no_word = record { kind = K.Int; span = record { start = 0; end = 0 }; number = 0 }
 
 -- ---- words
 

@@ -1,6 +1,6 @@
 -- The words of a source: its tokens, as the grammar tells them apart. Some are told apart by the tokens around them, so that one token of
 -- look-ahead is enough behind them.
-use Rattle.std.specs.Prelude.{◌≡◌, ℕ, Bool, true, false, not, ◌&&◌, List, [], ◌∷◌, codes, Option, None, Some, unwrap_or, if◌then◌else◌}
+use Rattle.std.specs.Prelude.{◌≡◌, ℕ, suc, Bool, true, false, not, ◌&&◌, List, [], ◌∷◌, codes, Option, None, Some, unwrap_or, if◌then◌else◌}
 use Rattle.std.specs.Borrow.{Bor}
 use Rattle.std.specs.List.{slice_range}
 use Rattle.std.specs.Str.{IsUtf8, bytes_eq}
@@ -263,16 +263,17 @@ abbrev pub second_of : List Token → Option Token
 second_of [] = None
 second_of (token ∷ tokens) = head_of tokens
 
--- the tokens as words, where this one stands before them
-abbrev pub words_from : List ℕ → Option Token → List Token → List Word
-words_from bytes before [] = []
-words_from bytes before (token ∷ tokens) = record { kind = word_kind bytes before token (head_of tokens) (second_of tokens); span = token.span } ∷ words_from bytes (Some token) tokens
+-- the tokens as words, numbered from this number on, where this token stands before them
+abbrev pub words_from : List ℕ → ℕ → Option Token → List Token → List Word
+words_from bytes number before [] = []
+words_from bytes number before (token ∷ tokens) =
+    record { kind = word_kind bytes before token (head_of tokens) (second_of tokens); span = token.span; number = number } ∷ words_from bytes (suc number) (Some token) tokens
 
 -- the bytes are these words
 pub record AreWords (bytes : List ℕ) (words : List Word) : Type 0 where
   pub tokens : List Token
   pub are_tokens : AreTokens bytes tokens
-  pub are_words : words ≡ words_from bytes None tokens
+  pub are_words : words ≡ words_from bytes 0 None tokens
 
 -- the bytes are no text, or a part of them is no token
 pub data IsBadText (bytes : List ℕ) (error : SourceError) : Type 0 where

@@ -1,12 +1,19 @@
 //! What holds of every source.
-ghost use Rattle.std.specs.Prelude.{◌≡◌, ℕ, List};
+ghost use Rattle.std.specs.Prelude.{◌≡◌, ℕ, List, Some, slice_get};
 ghost use Rattle.token_grammar.specs.Tables.{IsExact, Plan, Planned};
 ghost use Rattle.text_core.specs.declared.refusal.SourceError.{SourceError};
 ghost use Rattle.concrete_syntax.specs.declared.event.Event.{Event};
 ghost use Rattle.concrete_syntax.specs.declared.fault.ParseFault.TheVariants as P;
+ghost use Rattle.concrete_syntax.specs.declared.word.Word.{Word};
 ghost use Rattle.concrete_syntax.specs.Making.{Making};
 ghost use Rattle.concrete_syntax.specs.Parsed.{SpellsAs, SpellsSource, IsParseError};
 ghost use Rattle.concrete_syntax.specs.Sources.{sources};
+ghost use Rattle.concrete_syntax.specs.Words.{AreWords};
+
+/// The number of a word is its place among the words of its source.
+pub fn words_are_numbered()
+    ensures { (bytes : List ℕ) (words : List Word) (i : ℕ) (word : Word) → AreWords bytes words → slice_get words i ≡ Some word → word.number ≡ i }
+{}
 
 /// A text spells at most one list of phrases, with all spans.
 pub fn a_text_spells_one_list_of_phrases()

@@ -56,7 +56,7 @@ pub use kinds::{Bracket, CommonWord, Keyword, LogicalWord, MacroWord, Mark, Word
 pub use laws::{
     a_source_is_not_spelled_and_refused, a_source_is_refused_in_one_way,
     a_source_is_spelled_whatever_is_made, a_text_spells_one_list_of_phrases,
-    the_tables_meet_their_conditions,
+    the_tables_meet_their_conditions, words_are_numbered,
 };
 pub use omitted::Construct;
 pub use parser::parse;

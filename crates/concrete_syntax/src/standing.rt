@@ -14,11 +14,12 @@ use text_core::{Items, NoMemory, Span};
 
 /// A word of this kind.
 pub fn sample(kind: WordKind) -> Word
-    ensures { result ≡ record { kind = kind; span = record { start = 0; end = 0 } } }
+    ensures { result ≡ record { kind = kind; span = record { start = 0; end = 0 }; number = 0 } }
 {
     Word {
         kind,
         span: Span { start: 0, end: 0 },
+        number: 0,
     }
 }
 

@@ -7,4 +7,6 @@ use text_core::Span;
 pub struct Word {
     pub kind: WordKind,
     pub span: Span,
+    /// Its place among the words of its source, from 0.
+    pub number: u32,
 }

@@ -263,7 +263,7 @@ fn token_at(tokens: &[Token], at: usize) -> Option<Token>
 /// The words that the tokens are, in order.
 fn words_from(alloc: Global, bytes: &[u8], tokens: &[Token]) -> Result<Items<Word>, NoMemory>
     requires { length tokens.now < 2 ^ 32 }
-    ensures { IfOk result (λ words. words ≡ words_from bytes.now None tokens.now) }
+    ensures { IfOk result (λ words. words ≡ words_from bytes.now 0 None tokens.now) }
 {
     let mut words = Items::new(alloc);
     let mut before = None;
@@ -277,6 +277,7 @@ fn words_from(alloc: Global, bytes: &[u8], tokens: &[Token]) -> Result<Items<Wor
                 token_at(tokens, at + 2),
             ),
             span: token.span,
+            number: at as u32,
         })?;
         before = Some(*token);
     }

@@ -18,7 +18,7 @@ use Rattle.concrete_syntax.proofs.reading.+read.Goals.{read_part-else-place-word
 
 -- the word that a place past the end is read as
 abbrev zero_word : Word
-zero_word = record { kind = K.Mark M.Implies; span = record { start = 0; end = 0 } }
+zero_word = record { kind = K.Mark M.Implies; span = record { start = 0; end = 0 }; number = 0 }
 
 pub read-loop-value-init : goal.read-loop-value-init
 read-loop-value-init g t c = record { inside = c.requires.inside; from = omega arith; long = omega arith; begun = inl (refl, refl); on = rw c.nothing-value.ensures (onward_start (g.T.Tree.making c.args.context.now) c.args.goal c.args.level (drop c.args.place c.args.words.now)) }
