@@ -1,5 +1,4 @@
 pub mod Along
-pub mod Blanks
 pub mod Following
 pub mod Heads
 pub mod Levels

@@ -10,7 +10,6 @@ pub mod Listing
 pub mod Make
 pub mod Making
 pub mod Parsed
-pub mod Passed
 pub mod Phrases
 pub mod Productions
 pub mod Rules

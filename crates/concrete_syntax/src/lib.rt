@@ -2,7 +2,6 @@
 #![tactic(auto)]
 
 mod act;
-mod attribute;
 mod begins;
 mod choices;
 mod event;
@@ -19,8 +18,6 @@ mod laws;
 mod numbers;
 mod omitted;
 mod parser;
-mod passage;
-mod passed;
 mod phrases;
 mod plain;
 mod production;
@@ -47,7 +44,6 @@ mod word_rule;
 mod word_tables;
 mod words;
 
-pub use attribute::attribute_at;
 pub use event::Event;
 pub use expr_rule::ExprRule;
 pub use fault::ParseFault;
@@ -60,8 +56,6 @@ pub use laws::{
 };
 pub use omitted::Construct;
 pub use parser::parse;
-pub use passage::{ItemForm, Passage};
-pub use passed::{PlainSource, plain_source};
 pub use phrases::{
     Bearer, BodyKind, ExprPhrase, ItemPhrase, Literals, Mode, Nonterminal, ShapePhrase, StmtPhrase,
     TermPhrase, WordPhrase,

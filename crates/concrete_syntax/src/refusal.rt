@@ -42,7 +42,7 @@ fn is_left_out(kind: WordKind) -> bool
 }
 
 /// A name, quoted or not.
-pub fn is_name(kind: WordKind) -> bool
+fn is_name(kind: WordKind) -> bool
     ensures { result ≡ is_name kind }
 {
     match kind {
@@ -56,7 +56,7 @@ pub fn is_name(kind: WordKind) -> bool
     }
 }
 
-pub fn is_square(kind: WordKind) -> bool
+fn is_square(kind: WordKind) -> bool
     ensures { result ≡ is_square kind }
 {
     match kind {

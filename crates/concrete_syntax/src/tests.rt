@@ -1,9 +1,6 @@
-use crate::attribute::attribute_at;
 use crate::event::Event;
 use crate::fault::ParseFault;
 use crate::parser::parse;
-use crate::passed::plain_source;
-use crate::words::words_of;
 use std::alloc::Global;
 use std::process::Abort;
 use std::test::Fail;
@@ -278,24 +275,6 @@ fn chains_have_at_most_256_operators(rt: HostRuntime) -> Result<(), Fail> {
     Ok(())
 }
 
-#[test]
-fn what_is_passed_over_is_blank(rt: HostRuntime) {
-    let text = b"#![allow(a)]\nuse std::mem; pub fn f() { #[inline] loop {} }";
-    let plain = match plain_source(rt.alloc(), text) {
-        Ok(plain) => plain.text.as_slice()
-            == b"            \n                  fn f() {           loop {} }".as_slice(),
-        Err(_) => false,
-    };
-    assert!(rt; plain);
-    // A promise before a `use` line does not go on to what stands behind.
-    let kept = match plain_source(rt.alloc(), b"#[requires(a)] pub use std::mem; fn f() {}") {
-        Ok(plain) => plain.text.as_slice()
-            == b"#[requires(a)]     use std::mem; fn f() {}".as_slice(),
-        Err(_) => false,
-    };
-    assert!(rt; kept);
-}
-
 /// The words among the events, and the phrases that have not ended behind them.
 fn words_and_open(events: &[Event]) -> (u32, u32) {
     let mut words: u32 = 0;
@@ -314,18 +293,6 @@ fn words_and_open(events: &[Event]) -> (u32, u32) {
 fn phrases_have_all_words_and_end(rt: HostRuntime) {
     let found = match parse::<Items<Event>>(&(), rt.alloc(), b"fn f() { a + b * c; }") {
         Ok(events) => words_and_open(events.as_slice()) == (12, 0),
-        Err(_) => false,
-    };
-    assert!(rt; found);
-}
-
-#[test]
-fn attributes_are_found_by_their_names(rt: HostRuntime) {
-    let found = match words_of(rt.alloc(), b"#[inline] #[requires(a)] fn f() {}") {
-        Ok(words) => match attribute_at(words.as_slice(), 12) {
-            Some(span) => span.start == 10 && attribute_at(words.as_slice(), 0).is_none(),
-            None => false,
-        },
         Err(_) => false,
     };
     assert!(rt; found);

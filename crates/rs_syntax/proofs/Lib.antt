@@ -1,10 +1,4 @@
 pub mod Digits
-pub mod Heads
-pub mod Levels
-pub mod Listing
-pub mod PlanFits
-pub mod Planning
-pub mod Steps
 pub mod Whole
 pub mod WordLemmas
 pub mod WordLists

@@ -1,146 +1,100 @@
--- From one reading to what the parser promises.
-use Rattle.std.specs.Prelude.{◌≡◌, ℕ, suc, Bool, true, false, List, [], ◌∷◌, ◌++◌, ◌⊎◌, ◌≤◌, ◌<◌, length, drop, None, IfOk, IfErr}
-use Rattle.std.proofs.Common.{refl, sym, ◌∙◌, ap, subst, arith, inl, inr, drop-cons, drop_of_length-le, Result, Ok, Err, get_or}
+-- From what the whole grammar spells to what the parser promises.
+use Rattle.std.specs.Prelude.{◌≡◌, ℕ, List, ◌++◌, ◌≤◌, ◌<◌, length, None, Some, IfOk, IfErr}
+use Rattle.std.proofs.Common.{refl, sym, ◌∙◌, ap, subst, inl, inr, Result, Ok, Err}
+use Rattle.text_core.specs.declared.span.Span.{Span}
 use Rattle.text_core.specs.declared.refusal.SourceError.{SourceError}
 use Rattle.text_core.specs.declared.refusal.Code.TheVariants.{E20}
-use Rattle.text_core.specs.declared.refusal.Limit.{Limit}
 use Rattle.text_core.specs.declared.refusal.LimitKind.TheVariants.{Functions}
 use Rattle.text_core.specs.Names.{words, HaveOnePlace}
-use Rattle.token_grammar.specs.Reads.{ok, Reads}
-use Rattle.token_grammar.proofs.Facts.{refused, limited, left_over}
-use Rattle.token_grammar.proofs.Exact.{sound, complete}
-use Rattle.token_grammar.proofs.Once.{same, value_same, rest_same, differ}
+use Rattle.concrete_syntax.specs.declared.fault.ParseFault.{ParseFault}
+use Rattle.concrete_syntax.specs.declared.fault.ParseFault.TheVariants as whole
+use Rattle.concrete_syntax.specs.Parsed.{SpellsAs, IsParseError as IsGrammarError}
+use Rattle.concrete_syntax.specs.Sources.{phrases}
+use Rattle.concrete_syntax.proofs.Whole.{another_value, not_both, one_source as one_tree}
 use Rattle.rs_syntax.specs.declared.fault.PassError.{PassError}
 use Rattle.rs_syntax.specs.declared.fault.PassError.TheVariants as P
 use Rattle.rs_syntax.specs.declared.function.Function.{Function}
-use Rattle.rs_syntax.specs.declared.grammar.Nonterminal.TheVariants as N
-use Rattle.rs_syntax.specs.declared.reading.Stop.{Stop}
-use Rattle.rs_syntax.specs.declared.reading.Stop.TheVariants.{Refused, NoMemory}
 use Rattle.rs_syntax.specs.declared.value.Value.{Value}
-use Rattle.rs_syntax.specs.declared.value.Value.TheVariants.{Nothing}
 use Rattle.rs_syntax.specs.declared.word.Word.{Word}
-use Rattle.rs_syntax.specs.Answer.{Answer}
-use Rattle.rs_syntax.specs.Parsed.{SpellsFunctions, SpellsSource, front_span, error_of, most_functions, IsSyntaxError, AreTooMany, IsFunctionsError, SpellNone, HasFunctionsError, IsParseError, SpellsNone}
-use Rattle.rs_syntax.specs.Sources.{sources}
-use Rattle.rs_syntax.specs.Values.{functions_in, no_word}
+use Rattle.rs_syntax.specs.Faults.{error_of}
+use Rattle.rs_syntax.specs.Make.{trees}
+use Rattle.rs_syntax.specs.Parsed.{SpellsValue, SpellsSource, most_functions, IsParseError, SpellsNone}
+use Rattle.rs_syntax.specs.Values.{functions_in, unbuilt_in}
 use Rattle.rs_syntax.specs.Words.{AreWords, IsWordError}
-use Rattle.rs_syntax.proofs.Heads.{is_exact}
-use Rattle.rs_syntax.proofs.Planning.{the_plan}
-use Rattle.rs_syntax.proofs.PlanFits.{is_planned}
-use Rattle.rs_syntax.proofs.WordLists.{no_words, same_words}
+use Rattle.rs_syntax.proofs.WordLists.{same_words}
 
--- ---- words
+-- ---- refusals of the whole grammar
 
-pub whole : (ws : List Word) (v : Value) (k : ℕ) → length ws ≤ k → Reads sources N.Source 0 0 Nothing ws (ok v (drop k ws)) → SpellsFunctions ws (functions_in v)
-whole ws v k h q = (let e : drop k ws ≡ [] = drop_of_length-le ws h in
-    record { value = v; spelled = sound sources is_exact (rw e at q); is = refl })
-
-pub alone : (ws : List Word) (v : Value) (k : ℕ) → length ws ≤ k → Reads sources N.Source 0 0 Nothing ws (ok v (drop k ws)) →
-    (functions : List Function) → SpellsFunctions ws functions → functions ≡ functions_in v
-alone ws v k h q functions s = s.is ∙ ap functions_in (value_same (same sources (complete sources is_exact s.spelled) (ok v (drop k ws)) q))
-
--- the refusal at a place
-abbrev pub error_at : List Word → ℕ → ℕ → PassError
-error_at ws k end = P.Source (record { code = E20; span = front_span (drop k ws) end; other = None })
-
-pub stopped : (ws : List Word) (end k : ℕ) (b : Bool) → Answer ws N.Source 0 0 (Err (Refused k b)) → IsFunctionsError ws end (error_at ws k end)
-stopped ws end k false q = record { place = k; within = q.0; offends = inl (refused sources is_exact the_plan is_planned N.Source ws (drop k ws) q.1); is = refl }
-stopped ws end k true q = record { place = k; within = q.0; offends = inr (limited sources is_exact the_plan is_planned N.Source ws (drop k ws) q.1); is = refl }
-
-pub none : (ws : List Word) (end k : ℕ) (b : Bool) → Answer ws N.Source 0 0 (Err (Refused k b)) → SpellNone ws (error_at ws k end)
-none ws end k b q = λ functions s. differ (same sources q.1 (ok s.value []) (complete sources is_exact s.spelled))
-
-pub stopped_by : (ws : List Word) (end : ℕ) (stop : Stop) → Answer ws N.Source 0 0 (Err stop) → IsFunctionsError ws end (error_of ws end stop)
-stopped_by ws end (Refused k b) q = stopped ws end k b q
-stopped_by ws end NoMemory q = tt
-
-pub none_by : (ws : List Word) (end : ℕ) (stop : Stop) → Answer ws N.Source 0 0 (Err stop) → SpellNone ws (error_of ws end stop)
-none_by ws end (Refused k b) q = none ws end k b q
-none_by ws end NoMemory q = tt
-
-pub left : (ws : List Word) (v : Value) (end k : ℕ) → k < length ws → Reads sources N.Source 0 0 Nothing ws (ok v (drop k ws)) → IsFunctionsError ws end (error_at ws k end)
-left ws v end k h q = (let e = drop-cons ws k no_word h in
-    record {
-      place = k;
-      within = omega (arith, h);
-      offends = inl (rw e (left_over sources is_exact the_plan is_planned N.Source ws v (get_or ws k no_word) (drop (suc k) ws) (rw e at q)));
-      is = refl;
-    })
-
-pub left_none : (ws : List Word) (v : Value) (end k : ℕ) → k < length ws → Reads sources N.Source 0 0 Nothing ws (ok v (drop k ws)) → SpellNone ws (error_at ws k end)
-left_none ws v end k h q = λ functions s. (let e = rest_same (same sources q (ok s.value []) (complete sources is_exact s.spelled)) in
-    let f : drop k ws ≡ get_or ws k no_word ∷ drop (suc k) ws = drop-cons ws k no_word h in
-    let g : get_or ws k no_word ∷ drop (suc k) ws ≡ [] = sym f ∙ e in cc)
-
--- ---- bytes
+-- what the grammar refuses spells nothing
+none_of_source : (table : List (List ℕ)) (bytes : List ℕ) (error : SourceError) → IsGrammarError bytes (whole.Source error) → SpellsNone table bytes (P.Source error)
+none_of_source table bytes error h = λ functions s. (
+    let es = another_value (trees s.spelled.words) phrases bytes s.value s.spelled.spelled in
+    not_both bytes es.0 error es.1 h)
 
 pub error_of_words : (table : List (List ℕ)) (bytes : List ℕ) (error : PassError) → IsWordError bytes error → IsParseError table bytes error
-error_of_words table bytes (P.Source error) h = inl h
+error_of_words table bytes (P.Source error) h = inl (inl h)
 error_of_words table bytes (P.Limit limit) h = absurd h
 error_of_words table bytes P.NoMemory h = tt
 
 pub none_of_words : (table : List (List ℕ)) (bytes : List ℕ) (error : PassError) → IsWordError bytes error → SpellsNone table bytes error
-none_of_words table bytes (P.Source error) h = λ functions s. no_words table bytes error s.words h s.are_words
+none_of_words table bytes (P.Source error) h = none_of_source table bytes error (inl h)
 none_of_words table bytes (P.Limit limit) h = tt
 none_of_words table bytes P.NoMemory h = tt
 
-pub error_of_functions : (table : List (List ℕ)) (bytes : List ℕ) (ws : List Word) (error : PassError) → AreWords table bytes ws → IsFunctionsError ws (length bytes) error → IsParseError table bytes error
-error_of_functions table bytes ws (P.Source error) are h = inr (record { words = ws; are_words = are; error_of = h })
-error_of_functions table bytes ws (P.Limit limit) are h = record { words = ws; are_words = are; error_of = h }
-error_of_functions table bytes ws P.NoMemory are h = tt
+pub error_of_grammar : (table : List (List ℕ)) (bytes : List ℕ) (fault : ParseFault) → IsGrammarError bytes fault → IsParseError table bytes (error_of fault)
+error_of_grammar table bytes (whole.Source error) h = inl h
+error_of_grammar table bytes whole.NoMemory h = tt
 
-pub none_of_functions : (table : List (List ℕ)) (bytes : List ℕ) (ws : List Word) (error : PassError) → ((other : List Word) → AreWords table bytes other → other ≡ ws) → SpellNone ws error → SpellsNone table bytes error
-none_of_functions table bytes ws (P.Source error) only h = λ functions s. h functions (subst (λ (x : List Word). SpellsFunctions x functions) (only s.words s.are_words) s.spelled)
-none_of_functions table bytes ws (P.Limit limit) only h = tt
-none_of_functions table bytes ws P.NoMemory only h = tt
+pub none_of_grammar : (table : List (List ℕ)) (bytes : List ℕ) (fault : ParseFault) → IsGrammarError bytes fault → SpellsNone table bytes (error_of fault)
+none_of_grammar table bytes (whole.Source error) h = none_of_source table bytes error h
+none_of_grammar table bytes whole.NoMemory h = tt
 
-pub alone_of : (table : List (List ℕ)) (bytes : List ℕ) (ws : List Word) (functions : List Function) → ((other : List Word) → AreWords table bytes other → other ≡ ws)
-    → ((other : List Function) → SpellsFunctions ws other → other ≡ functions) → (other : List Function) → SpellsSource table bytes other → other ≡ functions
-alone_of table bytes ws functions only one other s = one other (subst (λ (x : List Word). SpellsFunctions x other) (only s.words s.are_words) s.spelled)
+-- ---- one value
 
-one_of_words : (ws : List Word) (one other : List Function) → SpellsFunctions ws one → SpellsFunctions ws other → one ≡ other
-one_of_words ws one other a b =
-    a.is ∙ ap functions_in (value_same (same sources (complete sources is_exact a.spelled) (ok b.value []) (complete sources is_exact b.spelled))) ∙ sym b.is
+pub value_alone : (table : List (List ℕ)) (bytes : List ℕ) (ws : List Word) (value : Value) → ((other : List Word) → AreWords table bytes other → other ≡ ws)
+    → ((other : Value) → SpellsAs (trees ws) bytes other → other ≡ value) → (other : Value) → SpellsValue table bytes other → other ≡ value
+value_alone table bytes ws value only one other s = one other (subst (λ (x : List Word). SpellsAs (trees x) bytes other) (only s.words s.are_words) s.spelled)
+
+one_value : (table : List (List ℕ)) (bytes : List ℕ) (one other : Value) → HaveOnePlace (words ++ table) → SpellsValue table bytes one → SpellsValue table bytes other → one ≡ other
+one_value table bytes one other place a b =
+    let e = same_words table bytes a.words b.words place a.are_words b.are_words in
+    one_tree (trees b.words) bytes one other (subst (λ (x : List Word). SpellsAs (trees x) bytes one) e a.spelled) b.spelled
 
 pub one_source : (table : List (List ℕ)) (bytes : List ℕ) (one other : List Function) → HaveOnePlace (words ++ table) → SpellsSource table bytes one → SpellsSource table bytes other → one ≡ other
-one_source table bytes one other place a b =
-    let e = same_words table bytes a.words b.words place a.are_words b.are_words in
-    one_of_words b.words one other (subst (λ (x : List Word). SpellsFunctions x one) e a.spelled) b.spelled
+one_source table bytes one other place a b = a.is ∙ ap functions_in (one_value table bytes a.value b.value place a.spelled b.spelled) ∙ sym b.is
 
--- ---- the bound on functions
+-- ---- forms that are not built
 
-pub bounded : (ws : List Word) (v : Value) (k : ℕ) (fs : List Function) (r : Result (List Function) PassError) → fs ≡ functions_in v → length ws ≤ k → Reads sources N.Source 0 0 Nothing ws (ok v (drop k ws))
-    → IfOk r (λ gs. (gs ≡ fs) × (length fs ≤ most_functions)) → IfOk r (λ gs. SpellsFunctions ws gs)
-bounded ws v k fs (Ok gs) e h q b = subst (λ (x : List Function). SpellsFunctions ws x) (sym (b.0 ∙ e)) (whole ws v k h q)
-bounded ws v k fs (Err x) e h q b = b
+some_none : {A : Type 0} (a : A) → Some a ≡ None → ⊥
+some_none a e = cc
 
-pub bounded_alone : (ws : List Word) (v : Value) (k : ℕ) (fs : List Function) (r : Result (List Function) PassError) → fs ≡ functions_in v → length ws ≤ k → Reads sources N.Source 0 0 Nothing ws (ok v (drop k ws))
-    → IfOk r (λ gs. (gs ≡ fs) × (length fs ≤ most_functions)) → IfOk r (λ gs. (other : List Function) → SpellsFunctions ws other → other ≡ gs)
-bounded_alone ws v k fs (Ok gs) e h q b = λ other s. alone ws v k h q other s ∙ sym (b.0 ∙ e)
-bounded_alone ws v k fs (Err x) e h q b = b
+module _ (table : List (List ℕ)) (bytes : List ℕ) (value : Value) (spelled : SpellsValue table bytes value) (alone : (other : Value) → SpellsValue table bytes other → other ≡ value) where
+  pub not_built : (span : Span) → unbuilt_in value ≡ Some span → IsParseError table bytes (P.Source (record { code = E20; span = span; other = None }))
+  not_built span is = inr (record { has = record { value = value; spelled = spelled; unbuilt = is }; is = refl })
 
-pub too_many : (ws : List Word) (v : Value) (k end : ℕ) (fs : List Function) (r : Result (List Function) PassError) → fs ≡ functions_in v → length ws ≤ k → Reads sources N.Source 0 0 Nothing ws (ok v (drop k ws))
-    → IfErr r (λ x. (most_functions < length fs) × (x ≡ P.Limit (record { kind = Functions; counted = 4097; bound = most_functions }))) → IfErr r (λ x. IsFunctionsError ws end x)
-too_many ws v k end fs (Ok gs) e h q b = b
-too_many ws v k end fs (Err x) e h q b =
-    subst (λ (y : PassError). IsFunctionsError ws end y) (sym b.1)
-    (record { functions = fs; spelled = subst (λ (y : List Function). SpellsFunctions ws y) (sym e) (whole ws v k h q); many = b.0 }, refl)
+  pub none_built : (span : Span) → unbuilt_in value ≡ Some span → SpellsNone table bytes (P.Source (record { code = E20; span = span; other = None }))
+  none_built span is = λ functions s. some_none span (sym is ∙ ap unbuilt_in (sym (alone s.value s.spelled)) ∙ s.built)
 
--- ---- from the words to the bytes, for each answer
+  -- ---- the bound on functions
 
-pub ok_of_bytes : (table : List (List ℕ)) (bytes : List ℕ) (ws : List Word) (r : Result (List Function) PassError) → AreWords table bytes ws → IfOk r (λ fs. SpellsFunctions ws fs) → IfOk r (λ fs. SpellsSource table bytes fs)
-ok_of_bytes table bytes ws (Ok fs) are h = record { words = ws; are_words = are; spelled = h }
-ok_of_bytes table bytes ws (Err x) are h = h
+  spells : (fs : List Function) → unbuilt_in value ≡ None → fs ≡ functions_in value → SpellsSource table bytes fs
+  spells fs built is = record { value = value; spelled = spelled; built = built; is = is }
 
-pub alone_of_bytes : (table : List (List ℕ)) (bytes : List ℕ) (ws : List Word) (r : Result (List Function) PassError) → ((other : List Word) → AreWords table bytes other → other ≡ ws)
-    → IfOk r (λ fs. (other : List Function) → SpellsFunctions ws other → other ≡ fs) → IfOk r (λ fs. (other : List Function) → SpellsSource table bytes other → other ≡ fs)
-alone_of_bytes table bytes ws (Ok fs) only h = alone_of table bytes ws fs only h
-alone_of_bytes table bytes ws (Err x) only h = h
+  pub bounded : (fs : List Function) (r : Result (List Function) PassError) → unbuilt_in value ≡ None → fs ≡ functions_in value → IfOk r (λ gs. (gs ≡ fs) × (length fs ≤ most_functions)) → IfOk r (λ gs. SpellsSource table bytes gs)
+  bounded fs (Ok gs) built e b = spells gs built (b.0 ∙ e)
+  bounded fs (Err x) built e b = b
 
-pub refused_of_bytes : (table : List (List ℕ)) (bytes : List ℕ) (ws : List Word) (end : ℕ) (r : Result (List Function) PassError) → end ≡ length bytes → AreWords table bytes ws → IfErr r (λ x. IsFunctionsError ws end x) → IfErr r (λ x. IsParseError table bytes x)
-refused_of_bytes table bytes ws end (Ok fs) e are h = h
-refused_of_bytes table bytes ws end (Err x) e are h = error_of_functions table bytes ws x are (subst (λ (n : ℕ). IsFunctionsError ws n x) e h)
+  pub bounded_alone : (fs : List Function) (r : Result (List Function) PassError) → fs ≡ functions_in value → IfOk r (λ gs. (gs ≡ fs) × (length fs ≤ most_functions))
+      → IfOk r (λ gs. (other : List Function) → SpellsSource table bytes other → other ≡ gs)
+  bounded_alone fs (Ok gs) e b = λ other s. s.is ∙ ap functions_in (alone s.value s.spelled) ∙ sym (b.0 ∙ e)
+  bounded_alone fs (Err x) e b = b
 
-pub rightly_of_bytes : (table : List (List ℕ)) (bytes : List ℕ) (ws : List Word) (r : Result (List Function) PassError) → ((other : List Word) → AreWords table bytes other → other ≡ ws) → IfErr r (λ x. SpellNone ws x) → IfErr r (λ x. SpellsNone table bytes x)
-rightly_of_bytes table bytes ws (Ok fs) only h = h
-rightly_of_bytes table bytes ws (Err x) only h = none_of_functions table bytes ws x only h
+  pub too_many : (fs : List Function) (r : Result (List Function) PassError) → unbuilt_in value ≡ None → fs ≡ functions_in value
+      → IfErr r (λ x. (most_functions < length fs) × (x ≡ P.Limit (record { kind = Functions; counted = 4097; bound = most_functions }))) → IfErr r (λ x. IsParseError table bytes x)
+  too_many fs (Ok gs) built e b = b
+  too_many fs (Err x) built e b = subst (λ (y : PassError). IsParseError table bytes y) (sym b.1) (record { functions = fs; spelled = spells fs built e; many = b.0; is = refl })
+
+  pub none_bounded : (fs : List Function) (r : Result (List Function) PassError)
+      → IfErr r (λ x. (most_functions < length fs) × (x ≡ P.Limit (record { kind = Functions; counted = 4097; bound = most_functions }))) → IfErr r (λ x. SpellsNone table bytes x)
+  none_bounded fs (Ok gs) b = b
+  none_bounded fs (Err x) b = subst (λ (y : PassError). SpellsNone table bytes y) (sym b.1) tt

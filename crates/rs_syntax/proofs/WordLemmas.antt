@@ -1,11 +1,11 @@
 -- What is known of the tokens of a text, and of names.
-use Rattle.std.proofs.Common.{◌≡◌, ◌≢◌, ℕ, zero, suc, ◌+◌, ◌-◌, ◌^◌, ◌/◌, ◌%◌, ◌<◌, ◌≤◌, Bool, true, false, cond, ◌&&◌, not, List, [], ◌∷◌, ◌++◌, length, take, drop, get_or, ◌⊎◌, inl, inr, Option, Some, None, Result, Ok, Err, refl, sym, ap, subst, ◌∙◌, append_assoc, true≢false, arith}
-use Rattle.std.specs.Prelude.{nat_lt, encode_utf8, encode_utf8_all, slice_get, slice_index, OnOk, OnErr, IfOk}
-use Rattle.std.specs.List.{list_all, slice_range}
+use Rattle.std.proofs.Common.{◌≡◌, ℕ, zero, suc, ◌+◌, ◌-◌, ◌^◌, ◌/◌, ◌%◌, ◌≤◌, Bool, true, false, cond, ◌&&◌, List, [], ◌∷◌, ◌++◌, length, take, drop, get_or, ◌⊎◌, inl, inr, Option, Some, None, Result, Ok, Err, refl, sym, ap, subst, ◌∙◌, append_assoc, true≢false, arith}
+use Rattle.std.specs.Prelude.{nat_lt, encode_utf8, encode_utf8_all, slice_get, OnOk, OnErr, IfOk}
+use Rattle.std.specs.List.{list_all}
 use Rattle.std.specs.Str.{chars, IsUtf8, IsCharBoundary, bytes_eq}
 use lib.Utf8.{encode, scalar, scalars}
 use Rattle.std.proofs.lemmas.Bool.{ltb-true, ltb-false}
-use Rattle.std.proofs.lemmas.List.{length-append, take-append-drop, append-nil, length-drop}
+use Rattle.std.proofs.lemmas.List.{take-append-drop}
 use Rattle.std.proofs.lemmas.Option.{slice_get_within}
 use Rattle.std.proofs.lemmas.Str.{encodes-chars, scalars-chars, IsUtf8-drop}
 use Rattle.text_core.specs.declared.name.Name.{Name}
@@ -19,7 +19,8 @@ use Rattle.rs_tokens.specs.Tables.{Row, marks, kind_in}
 use Rattle.rs_tokens.specs.Tokens.{IsWord, IsToken, word, integer, string, lifetime, mark, integer_value, largest_integer, refused_of}
 use Rattle.rs_tokens.specs.Reading.{Gives}
 use Rattle.rs_tokens.proofs.WordLaws.{chars_front}
-use Rattle.rs_syntax.specs.Words.{text_in, IsLexeme, Keeps, NamesOnlyNew}
+use Rattle.concrete_syntax.specs.Words.{text_in}
+use Rattle.rs_syntax.specs.Words.{IsLexeme, Keeps, NamesOnlyNew}
 
 and_true : (a b : Bool) → (a && b) ≡ true → (a ≡ true) × (b ≡ true)
 and_true true b h = (refl, h)

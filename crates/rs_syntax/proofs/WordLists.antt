@@ -1,18 +1,18 @@
 -- Lists of words: one more word, a table that grows, and that there is one list.
-use Rattle.std.proofs.Common.{◌≡◌, ℕ, List, [], ◌∷◌, ◌++◌, ◌⊎◌, inl, inr, Option, Some, None, Result, Err, refl, sym, ap, subst, ◌∙◌, MatchOption}
-use Rattle.std.specs.Prelude.{IfSome}
+use Rattle.std.proofs.Common.{◌≡◌, ℕ, List, [], ◌∷◌, ◌++◌, inl, inr, Option, Some, None, refl, sym, ap, subst, ◌∙◌, MatchOption}
 use Rattle.std.specs.Str.{IsUtf8}
 use Rattle.text_core.specs.declared.name.Name.{Name}
-use Rattle.text_core.specs.declared.span.Span.{Span}
 use Rattle.text_core.specs.declared.refusal.SourceError.{SourceError}
 use Rattle.text_core.specs.Names.{words, HaveOnePlace}
 use Rattle.rs_tokens.specs.declared.token.Token.{Token}
 use Rattle.rs_tokens.specs.declared.token.TokenKind.{TokenKind}
 use Rattle.rs_tokens.specs.declared.token.TokenKind.TheVariants as T
-use Rattle.rs_tokens.specs.Reading.{Gives, HasGiven, nothing as given_nothing, one_more as given_more, HasTokens, HasEnded, IsNoText, IsBadToken}
+use Rattle.rs_tokens.specs.Reading.{Gives, HasGiven, nothing as given_nothing, one_more as given_more, HasEnded, IsNoText, IsBadToken}
 use Rattle.rs_tokens.proofs.OneReading.{one_list, given_whole, given_refused}
 use Rattle.rs_syntax.specs.declared.word.Word.{Word}
-use Rattle.rs_syntax.specs.Words.{text_in, HasName, IsWordOf, AreWordsOf, none, one_more, AreWords, IsBadText, no_text, bad_token, Keeps, NamesOnlyNew}
+use Rattle.concrete_syntax.specs.Words.{text_in}
+use Rattle.rs_syntax.specs.Words.{HasName, IsWordOf, AreWordsOf, none, one_more, AreWords, Keeps, NamesOnlyNew}
+use Rattle.concrete_syntax.specs.Words.{IsBadText, no_text, bad_token}
 use Rattle.rs_syntax.proofs.WordLemmas.{same_name}
 
 -- ---- one word

@@ -1,15 +1,15 @@
 -- One token of the lexer as a word.
-use Rattle.std.proofs.Common.{◌≡◌, ℕ, ◌+◌, ◌<◌, ◌≤◌, List, ◌∷◌, ◌++◌, [], length, Option, Some, None, Result, Ok, Err, refl, sym, ap, subst, ◌∙◌, MatchOption, arith}
+use Rattle.std.proofs.Common.{◌≡◌, ℕ, List, Option, Some, None, Result, Err, sym, subst, MatchOption}
 use Rattle.std.specs.Prelude.{IfSome}
 use Rattle.std.specs.Str.{IsUtf8}
-use Rattle.text_core.specs.declared.name.Name.{Name}
 use Rattle.text_core.specs.declared.refusal.SourceError.{SourceError}
 use Rattle.rs_tokens.specs.declared.token.Token.{Token}
 use Rattle.rs_tokens.specs.Reading.{Gives, HasEnded, IsNoText, IsBadToken}
 use Rattle.rs_syntax.specs.declared.word.Word.{Word}
-use Rattle.rs_syntax.specs.Words.{IsLexeme, IsWordOf, AreWords, IsBadText, Keeps, NamesOnlyNew}
+use Rattle.rs_syntax.specs.Words.{IsLexeme, AreWords, Keeps}
+use Rattle.concrete_syntax.specs.Words.{IsBadText}
 use Rattle.rs_syntax.proofs.WordLemmas.{lexeme_of}
-use Rattle.rs_syntax.proofs.WordLists.{HasRead, read_more, all_read, only_read, bad_text}
+use Rattle.rs_syntax.proofs.WordLists.{HasRead, all_read, only_read, bad_text}
 
 -- what is known of the lexer before a call
 abbrev pub State : List ℕ → Option SourceError → Type 0

@@ -1,5 +1,5 @@
 -- A code for expressions, by which the logic tells them apart.
-use Rattle.std.specs.Prelude.{◌≡◌, ℕ, List}
+use Rattle.std.specs.Prelude.{◌≡◌, ℕ}
 use Rattle.std.proofs.Common.{refl, ap, arith}
 use Rattle.std.specs.Coded.{Coded, coded_ℤ, coded_bool, coded_option, coded_list}
 use Rattle.text_core.specs.contracts.name.Name as name

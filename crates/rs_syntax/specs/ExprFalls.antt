@@ -1,9 +1,9 @@
 -- The parts of an expression are smaller than it.
 use Rattle.std.specs.Prelude.{◌≡◌, ℕ, zero, suc, ◌+◌, ◌≤◌, ◌<◌, length, get_or, max, List, [], ◌∷◌}
-use Rattle.std.proofs.Common.{arith, refl, sym, ap, ◌∙◌}
+use Rattle.std.proofs.Common.{arith, refl}
 use denote.Param.Weighed.{most}
 use Rattle.text_core.specs.declared.span.Span.{Span}
-use Rattle.rs_syntax.specs.Expr.{Expr, Stmts, Exprs, done, last, none, more}
+use Rattle.rs_syntax.specs.Expr.{Expr, Stmts, done, last}
 use Rattle.rs_syntax.specs.ExprView.{expr_of, expr_size, stmts_size, exprs_size, stmt_of, stmts_of, exprs_of}
 use Rattle.rs_syntax.specs.declared.binding.StmtKind.{StmtKind}
 use Rattle.rs_syntax.specs.declared.binding.StmtKind.TheVariants as kind

@@ -1,86 +1,60 @@
 -- What the parser answers: the functions of a source, or where it is refused.
-use Rattle.std.specs.Prelude.{◌≡◌, ℕ, ◌<◌, ◌≤◌, ◌⊎◌, List, [], ◌∷◌, length, drop, None}
-use Rattle.token_grammar.specs.Grammar.{Spells}
-use Rattle.token_grammar.specs.Tables.{IsRefusal, IsLimit}
+use Rattle.std.specs.Prelude.{◌≡◌, ℕ, ◌<◌, ◌⊎◌, List, length, None, Some}
 use Rattle.text_core.specs.declared.span.Span.{Span}
+use Rattle.text_core.specs.declared.refusal.Limit.{Limit}
+use Rattle.text_core.specs.declared.refusal.LimitKind.TheVariants.{Functions}
 use Rattle.text_core.specs.declared.refusal.SourceError.{SourceError}
 use Rattle.text_core.specs.declared.refusal.Code.TheVariants.{E20}
-use Rattle.text_core.specs.declared.refusal.LimitKind.TheVariants.{Functions}
+use Rattle.concrete_syntax.specs.declared.fault.ParseFault.TheVariants as whole
+use Rattle.concrete_syntax.specs.Parsed.{SpellsAs, IsParseError as IsGrammarError}
 use Rattle.rs_syntax.specs.declared.fault.PassError.{PassError}
 use Rattle.rs_syntax.specs.declared.fault.PassError.TheVariants as P
 use Rattle.rs_syntax.specs.declared.function.Function.{Function}
-use Rattle.rs_syntax.specs.declared.grammar.Nonterminal.TheVariants as N
-use Rattle.rs_syntax.specs.declared.reading.Stop.{Stop}
-use Rattle.rs_syntax.specs.declared.reading.Stop.TheVariants.{Refused, NoMemory}
 use Rattle.rs_syntax.specs.declared.value.Value.{Value}
-use Rattle.rs_syntax.specs.declared.value.Value.TheVariants.{Nothing}
 use Rattle.rs_syntax.specs.declared.word.Word.{Word}
-use Rattle.rs_syntax.specs.Sources.{sources}
-use Rattle.rs_syntax.specs.Values.{functions_in}
-use Rattle.rs_syntax.specs.Words.{AreWords, IsBadText}
+use Rattle.rs_syntax.specs.Make.{trees}
+use Rattle.rs_syntax.specs.Values.{functions_in, unbuilt_in}
+use Rattle.rs_syntax.specs.Words.{AreWords}
 
--- the words spell these functions, within the limits of levels and chains
-pub record SpellsFunctions (words : List Word) (functions : List Function) : Type 0 where
-  pub value : Value
-  pub spelled : Spells sources N.Source 0 0 Nothing words value []
-  pub is : functions ≡ functions_in value
-
--- the bytes spell these functions, with names of the table
-pub record SpellsSource (table : List (List ℕ)) (bytes : List ℕ) (functions : List Function) : Type 0 where
+-- the bytes spell this by the whole grammar, with names of the table
+pub record SpellsValue (table : List (List ℕ)) (bytes : List ℕ) (value : Value) : Type 0 where
   pub words : List Word
   pub are_words : AreWords table bytes words
-  pub spelled : SpellsFunctions words functions
+  pub spelled : SpellsAs (trees words) bytes value
+
+-- the bytes spell these functions, with names of the table, and nothing that is not built
+pub record SpellsSource (table : List (List ℕ)) (bytes : List ℕ) (functions : List Function) : Type 0 where
+  pub value : Value
+  pub spelled : SpellsValue table bytes value
+  pub built : unbuilt_in value ≡ None
+  pub is : functions ≡ functions_in value
+
+-- the bytes spell a source in which this is the first word of the first form that is not built
+pub record HasUnbuilt (table : List (List ℕ)) (bytes : List ℕ) (span : Span) : Type 0 where
+  pub value : Value
+  pub spelled : SpellsValue table bytes value
+  pub unbuilt : unbuilt_in value ≡ Some span
+
+-- E20 there
+pub record IsNotBuilt (table : List (List ℕ)) (bytes : List ℕ) (error : SourceError) : Type 0 where
+  pub has : HasUnbuilt table bytes error.span
+  pub is : error ≡ record { code = E20; span = error.span; other = None }
 
 -- the most functions of a source
 abbrev pub most_functions : ℕ
 most_functions = 4096
 
--- the first word, or the empty part at the end
-abbrev pub front_span : List Word → ℕ → Span
-front_span [] end = record { start = end; end = end }
-front_span (word ∷ words) end = word.span
-
--- the error where a reading stops
-abbrev pub error_of : List Word → ℕ → Stop → PassError
-error_of words end (Refused place limited) = P.Source (record { code = E20; span = front_span (drop place words) end; other = None })
-error_of words end NoMemory = P.NoMemory
-
--- The word of some number, or the end, cannot continue: something that is spelled, limits aside, goes on from the words before it, and nothing that is
--- spelled within the limits goes on with it.
-pub record IsSyntaxError (words : List Word) (end : ℕ) (error : SourceError) : Type 0 where
-  pub place : ℕ
-  pub within : place ≤ length words
-  pub offends : IsRefusal sources N.Source words (drop place words) ⊎ IsLimit sources N.Source words (drop place words)
-  pub is : error ≡ record { code = E20; span = front_span (drop place words) end; other = None }
-
 -- more functions are spelled than a source may have
-pub record AreTooMany (words : List Word) : Type 0 where
+pub record AreTooMany (table : List (List ℕ)) (bytes : List ℕ) (limit : Limit) : Type 0 where
   pub functions : List Function
-  pub spelled : SpellsFunctions words functions
+  pub spelled : SpellsSource table bytes functions
   pub many : most_functions < length functions
+  pub is : limit ≡ record { kind = Functions; counted = 4097; bound = most_functions }
 
--- an error of words that end at this offset
-abbrev pub IsFunctionsError : List Word → ℕ → PassError → Type 0
-IsFunctionsError words end (P.Source error) = IsSyntaxError words end error
-IsFunctionsError words end (P.Limit limit) = AreTooMany words × (limit ≡ record { kind = Functions; counted = 4097; bound = most_functions })
-IsFunctionsError words end P.NoMemory = Unit {0}
-
--- where the words are refused they spell no functions
-abbrev pub SpellNone : List Word → PassError → Type 0
-SpellNone words (P.Source error) = (functions : List Function) → SpellsFunctions words functions → ⊥
-SpellNone words (P.Limit limit) = Unit {0}
-SpellNone words P.NoMemory = Unit {0}
-
--- the same of the bytes: their words, and an error of these
-pub record HasFunctionsError (table : List (List ℕ)) (bytes : List ℕ) (error : PassError) : Type 0 where
-  pub words : List Word
-  pub are_words : AreWords table bytes words
-  pub error_of : IsFunctionsError words (length bytes) error
-
--- An error of the parser: the bytes are no words, or their words are refused, or spell too many functions.
+-- An error of the parser: the bytes are none of the whole grammar, or a form in them is not built, or there are too many functions.
 abbrev pub IsParseError : List (List ℕ) → List ℕ → PassError → Type 0
-IsParseError table bytes (P.Source error) = IsBadText bytes error ⊎ HasFunctionsError table bytes (P.Source error)
-IsParseError table bytes (P.Limit limit) = HasFunctionsError table bytes (P.Limit limit)
+IsParseError table bytes (P.Source error) = IsGrammarError bytes (whole.Source error) ⊎ IsNotBuilt table bytes error
+IsParseError table bytes (P.Limit limit) = AreTooMany table bytes limit
 IsParseError table bytes P.NoMemory = Unit {0}
 
 -- where a source is refused it spells no functions

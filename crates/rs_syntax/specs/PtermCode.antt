@@ -1,6 +1,6 @@
 -- A code for terms, by which the logic tells them apart.
-use Rattle.std.specs.Prelude.{◌≡◌, ℕ, List}
-use Rattle.std.proofs.Common.{refl, ap, arith}
+use Rattle.std.specs.Prelude.{◌≡◌, ℕ}
+use Rattle.std.proofs.Common.{ap, arith}
 use Rattle.std.specs.Coded.{Coded, coded_ℤ, coded_bool, coded_option}
 use Rattle.text_core.specs.contracts.name.Name as name
 use Rattle.text_core.specs.contracts.span.Span as span

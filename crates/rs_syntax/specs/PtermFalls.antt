@@ -1,5 +1,5 @@
 -- The parts of a term are smaller than it.
-use Rattle.std.specs.Prelude.{ℕ, ◌≤◌, max}
+use Rattle.std.specs.Prelude.{◌≤◌, max}
 use Rattle.std.proofs.Common.{arith}
 use Rattle.text_core.specs.declared.span.Span.{Span}
 use Rattle.rs_syntax.specs.PtermView.{pterm_of, pterm_size}

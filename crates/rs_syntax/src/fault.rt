@@ -1,6 +1,8 @@
 ghost use Rattle.std.specs.Prelude.{◌≡◌};
 ghost use Rattle.rs_syntax.specs.declared.fault.PassError.TheVariants as errors;
+ghost use Rattle.rs_syntax.specs.Faults.{error_of};
 
+use concrete_syntax::ParseFault;
 use std::alloc::{AllocError, AllocFailed};
 use text_core::{Limit, NoMemory, SourceError};
 use thiserror::Error;
@@ -40,5 +42,16 @@ impl<T: Drop> From<AllocFailed<T>> for PassError {
 
     fn from(_refused: AllocFailed<T>) -> PassError {
         PassError::NoMemory
+    }
+}
+
+impl From<ParseFault> for PassError {
+    ghost from_gives = { λ fault e. e ≡ error_of fault };
+
+    fn from(fault: ParseFault) -> PassError {
+        match fault {
+            ParseFault::Source(error) => PassError::Source(error),
+            ParseFault::NoMemory => PassError::NoMemory,
+        }
     }
 }

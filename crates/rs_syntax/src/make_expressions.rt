@@ -1,29 +1,39 @@
 //! What the rules of expressions make.
-ghost use Rattle.std.specs.Prelude.{◌≡◌, pos, ◌≤ℤ◌, [], ◌∷◌, ◌++◌, IfOk, IfSome};
-ghost use Rattle.rs_syntax.specs.ExprView.{expr_of};
-ghost use Rattle.rs_syntax.specs.Values.{arguments_in, expr_in, across, nowhere, first, second, third};
-ghost use Rattle.rs_syntax.specs.Make.{assign_made, update_made, lazy_made, binary_made, magnitude, negated, negation_made, denial_made, integer_made, truth_made, named_made, parens_made};
-ghost use Rattle.rs_syntax.specs.declared.value.Value.TheVariants as V;
+ghost use Rattle.std.specs.Prelude.{◌≡◌, pos, ◌≤ℤ◌, IfOk, IfSome};
+ghost use Rattle.rs_syntax.specs.Values.{first};
+ghost use Rattle.rs_syntax.specs.Make.{here, assign_made, update_made, lazy_made, binary_made, magnitude, negation_made, denial_made, integer_made, truth_made, called_made, parens_made, one_expr_made, expr_comma_made};
 
 use crate::expr::{Expr, ExprNode};
 use crate::make_statements::plain;
 use crate::operator::LazyOp;
-use crate::value::{Value, across, arguments_in, call_in, expr_in, extent_in, next, word_in};
+use crate::value::{
+    Value, comma_in, discard, expr_in, exprs_in, first_of, next, next_extent, next_word, reach,
+    skip, unbuilt_in, whole_in,
+};
 use logic_term::{BinaryOp, IntKind};
 use std::alloc::Global;
 use std::collections::VecDeque;
-use text_core::{NoMemory, Span};
+use text_core::NoMemory;
+
+/// A form that is not built, from its first word on.
+#[tactic(auto, unfolding(crate::specs::Make::here))]
+pub fn here(mut parts: VecDeque<Value>) -> Value
+    ensures { result ≡ here parts.items }
+{
+    Value::Unbuilt(next_extent(&mut parts))
+}
 
 /// `=` and the other side.
 #[tactic(auto, unfolding(crate::specs::Make::assign_made))]
 pub fn assign(alloc: Global, left: Value, mut parts: VecDeque<Value>) -> Result<Value, NoMemory>
     ensures { IfOk result (λ v. v ≡ assign_made left parts.items) }
 {
-    next(&mut parts);
-    let right = next(&mut parts);
-    let span = across(&left, &right);
-    let left = Box::new(alloc, expr_in(left))?;
-    let right = Box::new(alloc, expr_in(right))?;
+    skip(&mut parts);
+    let (left, start) = whole_in(left);
+    let (right, end) = whole_in(next(&mut parts));
+    let span = reach(start, end);
+    let left = Box::new(alloc, left)?;
+    let right = Box::new(alloc, right)?;
     Ok(plain(span, ExprNode::Assign(left, right)))
 }
 
@@ -37,11 +47,12 @@ pub fn update(
 ) -> Result<Value, NoMemory>
     ensures { IfOk result (λ v. v ≡ update_made op left parts.items) }
 {
-    let operator = extent_in(&next(&mut parts));
-    let right = next(&mut parts);
-    let span = across(&left, &right);
-    let left = Box::new(alloc, expr_in(left))?;
-    let right = Box::new(alloc, expr_in(right))?;
+    let operator = next_extent(&mut parts);
+    let (left, start) = whole_in(left);
+    let (right, end) = whole_in(next(&mut parts));
+    let span = reach(start, end);
+    let left = Box::new(alloc, left)?;
+    let right = Box::new(alloc, right)?;
     Ok(plain(span, ExprNode::Update(op, operator, left, right)))
 }
 
@@ -55,11 +66,12 @@ pub fn lazy(
 ) -> Result<Value, NoMemory>
     ensures { IfOk result (λ v. v ≡ lazy_made op left parts.items) }
 {
-    next(&mut parts);
-    let right = next(&mut parts);
-    let span = across(&left, &right);
-    let left = Box::new(alloc, expr_in(left))?;
-    let right = Box::new(alloc, expr_in(right))?;
+    skip(&mut parts);
+    let (left, start) = whole_in(left);
+    let (right, end) = whole_in(next(&mut parts));
+    let span = reach(start, end);
+    let left = Box::new(alloc, left)?;
+    let right = Box::new(alloc, right)?;
     Ok(plain(span, ExprNode::Lazy(op, left, right)))
 }
 
@@ -73,11 +85,12 @@ pub fn binary(
 ) -> Result<Value, NoMemory>
     ensures { IfOk result (λ v. v ≡ binary_made op left parts.items) }
 {
-    let operator = extent_in(&next(&mut parts));
-    let right = next(&mut parts);
-    let span = across(&left, &right);
-    let left = Box::new(alloc, expr_in(left))?;
-    let right = Box::new(alloc, expr_in(right))?;
+    let operator = next_extent(&mut parts);
+    let (left, start) = whole_in(left);
+    let (right, end) = whole_in(next(&mut parts));
+    let span = reach(start, end);
+    let left = Box::new(alloc, left)?;
+    let right = Box::new(alloc, right)?;
     Ok(plain(span, ExprNode::Binary(op, operator, left, right)))
 }
 
@@ -98,15 +111,14 @@ fn magnitude(operand: &Expr) -> Option<(i128, Option<IntKind>)>
 pub fn negation(alloc: Global, mut parts: VecDeque<Value>) -> Result<Value, NoMemory>
     ensures { IfOk result (λ v. v ≡ negation_made parts.items) }
 {
-    let minus = next(&mut parts);
-    let operand = next(&mut parts);
-    let span = across(&minus, &operand);
-    let operand = expr_in(operand);
+    let minus = next_extent(&mut parts);
+    let (operand, end) = whole_in(next(&mut parts));
+    let span = reach(minus, end);
     match magnitude(&operand) {
         Some((value, suffix)) => Ok(plain(span, ExprNode::Int(-value, suffix))),
         None => {
             let operand = Box::new(alloc, operand)?;
-            Ok(plain(span, ExprNode::Neg(extent_in(&minus), operand)))
+            Ok(plain(span, ExprNode::Neg(minus, operand)))
         }
     }
 }
@@ -116,10 +128,10 @@ pub fn negation(alloc: Global, mut parts: VecDeque<Value>) -> Result<Value, NoMe
 pub fn denial(alloc: Global, mut parts: VecDeque<Value>) -> Result<Value, NoMemory>
     ensures { IfOk result (λ v. v ≡ denial_made parts.items) }
 {
-    let mark = next(&mut parts);
-    let operand = next(&mut parts);
-    let span = across(&mark, &operand);
-    let operand = Box::new(alloc, expr_in(operand))?;
+    let mark = next_extent(&mut parts);
+    let (operand, end) = whole_in(next(&mut parts));
+    let span = reach(mark, end);
+    let operand = Box::new(alloc, operand)?;
     Ok(plain(span, ExprNode::Not(operand)))
 }
 
@@ -127,7 +139,7 @@ pub fn denial(alloc: Global, mut parts: VecDeque<Value>) -> Result<Value, NoMemo
 pub fn integer(mut parts: VecDeque<Value>) -> Value
     ensures { result ≡ integer_made (first parts.items) }
 {
-    let word = word_in(&next(&mut parts));
+    let word = next_word(&mut parts);
     plain(word.span, ExprNode::Int(word.value, word.suffix))
 }
 
@@ -135,56 +147,68 @@ pub fn integer(mut parts: VecDeque<Value>) -> Value
 pub fn truth(truth: bool, mut parts: VecDeque<Value>) -> Value
     ensures { result ≡ truth_made truth (first parts.items) }
 {
-    plain(extent_in(&next(&mut parts)), ExprNode::Truth(truth))
+    plain(next_extent(&mut parts), ExprNode::Truth(truth))
 }
 
-/// The name, and arguments or nothing.
-#[tactic(auto, unfolding(crate::specs::Make::named_by))]
-pub fn named(mut parts: VecDeque<Value>) -> Value
-    ensures { result ≡ named_made (first parts.items) (second parts.items) }
+/// A name before `(`, the arguments, `)`; nothing else is called.
+#[tactic(auto, unfolding(crate::specs::Make::called_made))]
+pub fn called(alloc: Global, before: Value, mut parts: VecDeque<Value>) -> Value
+    ensures { result ≡ called_made before parts.items }
 {
-    let word = word_in(&next(&mut parts));
-    match call_in(next(&mut parts)) {
-        Some((exprs, extent)) => {
-            let span = Span {
-                start: word.span.start,
-                end: extent.end,
-            };
-            plain(span, ExprNode::Call(word.name, word.span, exprs.into_vec()))
+    let word = match before {
+        Value::Named(word) => word,
+        other => {
+            discard(other);
+            return here(parts);
         }
-        None => plain(word.span, ExprNode::Name(word.name)),
+    };
+    skip(&mut parts);
+    let exprs = exprs_in(alloc, next(&mut parts));
+    let span = reach(word.span, next_extent(&mut parts));
+    plain(span, ExprNode::Call(word.name, word.span, exprs.into_vec()))
+}
+
+/// `(`, the expressions, `)`.
+#[tactic(auto, unfolding(crate::specs::Make::parens_made, crate::specs::Make::parens_by, crate::specs::Make::here))]
+pub fn in_parens(alloc: Global, mut parts: VecDeque<Value>) -> Value
+    ensures { result ≡ parens_made parts.items }
+{
+    let open = next_extent(&mut parts);
+    let inside = next(&mut parts);
+    let close = next_extent(&mut parts);
+    let comma = comma_in(&inside);
+    let mut exprs = exprs_in(alloc, inside).into_vec();
+    if comma || exprs.len() != 1 {
+        return Value::Unbuilt(open);
+    }
+    match exprs.pop() {
+        Some(expr) => Value::Expr(expr, reach(open, close)),
+        None => Value::Unbuilt(open),
     }
 }
 
-/// `(`, the expression, `)`.
-#[tactic(auto, unfolding(crate::specs::Make::parens_made))]
-pub fn in_parens(mut parts: VecDeque<Value>) -> Value
-    ensures { result ≡ parens_made parts.items }
-{
-    let open = next(&mut parts);
-    let inside = expr_in(next(&mut parts));
-    let close = next(&mut parts);
-    Value::Expr(inside, across(&open, &close))
-}
-
-/// `(`, the arguments, `)`.
-pub fn arguments(alloc: Global, mut parts: VecDeque<Value>) -> Value
-    ensures { result ≡ V.Arguments (arguments_in (second parts.items)) (across (first parts.items) (third parts.items)) }
-{
-    let open = next(&mut parts);
-    let inside = arguments_in(alloc, next(&mut parts));
-    let close = next(&mut parts);
-    Value::Arguments(inside, across(&open, &close))
-}
-
-pub fn further_argument(
+/// The expressions between commas, with one more.
+#[tactic(auto, unfolding(crate::specs::Make::one_expr_made))]
+pub fn further_expr(
     alloc: Global,
-    before: Value,
+    so_far: Value,
     mut parts: VecDeque<Value>,
 ) -> Result<Value, NoMemory>
-    ensures { IfOk result (λ v. v ≡ V.Arguments (arguments_in before ++ expr_in (first parts.items) ∷ []) nowhere) }
+    ensures { IfOk result (λ v. v ≡ one_expr_made so_far (first parts.items)) }
 {
-    let mut exprs = arguments_in(alloc, before);
-    exprs.push(expr_in(next(&mut parts)))?;
-    Ok(Value::Arguments(exprs, Span { start: 0, end: 0 }))
+    let value = next(&mut parts);
+    let comma = comma_in(&so_far);
+    let unbuilt = first_of(unbuilt_in(&so_far), unbuilt_in(&value));
+    let mut exprs = exprs_in(alloc, so_far);
+    exprs.push(expr_in(value))?;
+    Ok(Value::Exprs(exprs, comma, unbuilt))
+}
+
+/// The expressions with a comma behind them.
+#[tactic(auto, unfolding(crate::specs::Make::expr_comma_made))]
+pub fn expr_comma(alloc: Global, so_far: Value) -> Value
+    ensures { result ≡ expr_comma_made so_far }
+{
+    let unbuilt = unbuilt_in(&so_far);
+    Value::Exprs(exprs_in(alloc, so_far), true, unbuilt)
 }

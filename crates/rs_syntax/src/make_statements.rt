@@ -1,16 +1,18 @@
 //! What the rules of blocks, statements, `if` and `while` make.
 ghost use Rattle.std.specs.Prelude.{◌≡◌, [], ◌∷◌, ◌++◌, IfOk, Some, None};
 ghost use Rattle.rs_syntax.specs.ExprView.{expr_of};
-ghost use Rattle.rs_syntax.specs.Values.{is_lexeme, expr_in, first, second, third};
-ghost use Rattle.rs_syntax.specs.Make.{block_made, settled, ran, settled_by, ran_by, let_made, blocklike_made, head_made, if_made, begun, invariant_made, while_made};
+ghost use Rattle.rs_syntax.specs.Values.{word_in, is_lexeme, is_mutable, expr_in, statements_in, invariants_in, extent_in, nowhere, first, second};
+ghost use Rattle.rs_syntax.specs.Make.{block_made, settled, ran, let_made, blocklike_made, head_made, if_made, else_made, waiting_with, loop_made, looped};
 ghost use Rattle.rs_syntax.specs.declared.value.Value.TheVariants as V;
 
 use crate::binding::{Binding, StmtKind};
 use crate::expr::{Expr, ExprNode, Stmt};
+use crate::pterm::Pterm;
 use crate::value::{
-    Value, across, body_in, expr_in, extent_in, invariants_in, is_lexeme, next, term_in, type_in,
-    whole_in, word_in,
+    NOWHERE, Value, body_in, discard, expr_in, extent_in, is_mutable, next, next_extent,
+    next_is_lexeme, reach, skip, type_in, waiting_in, whole_in, word_in,
 };
+use crate::word::Word;
 use std::alloc::Global;
 use std::collections::VecDeque;
 use text_core::{Items, NoMemory, Span};
@@ -27,10 +29,9 @@ pub fn plain(span: Span, node: ExprNode) -> Value
 pub fn block(alloc: Global, mut parts: VecDeque<Value>) -> Result<Value, NoMemory>
     ensures { IfOk result (λ v. v ≡ block_made parts.items) }
 {
-    let open = next(&mut parts);
+    let open = next_extent(&mut parts);
     let (statements, pending) = body_in(alloc, next(&mut parts));
-    let close = next(&mut parts);
-    let span = across(&open, &close);
+    let span = reach(open, next_extent(&mut parts));
     let statements = statements.into_vec();
     match pending {
         None => Ok(plain(span, ExprNode::Block(statements))),
@@ -77,7 +78,18 @@ pub fn ran(alloc: Global, so_far: Value) -> Result<Value, NoMemory>
     }
 }
 
-/// `let`, `mut` or nothing, the name, the type or nothing, the value, `;`.
+/// The name, and whether `mut` stands before it.
+fn pattern_in(value: Value) -> (Word, bool)
+    ensures word { result.0 ≡ word_in value }
+    ensures mutable { result.1 ≡ is_mutable value }
+{
+    let word = word_in(&value);
+    let mutable = is_mutable(&value);
+    discard(value);
+    (word, mutable)
+}
+
+/// `let`, the name with `mut` or without, the type or nothing, the value, `;`.
 #[tactic(auto, unfolding(crate::specs::Make::let_made))]
 pub fn let_statement(
     alloc: Global,
@@ -86,12 +98,11 @@ pub fn let_statement(
 ) -> Result<Value, NoMemory>
     ensures { IfOk result (λ v. v ≡ let_made before parts.items) }
 {
-    next(&mut parts);
-    let mutable = is_lexeme(&next(&mut parts));
-    let word = word_in(&next(&mut parts));
+    let mut statements = settled(alloc, before)?;
+    skip(&mut parts);
+    let (word, mutable) = pattern_in(next(&mut parts));
     let ty = type_in(next(&mut parts));
     let value = expr_in(next(&mut parts));
-    let mut statements = settled(alloc, before)?;
     statements.push(Stmt {
         kind: StmtKind::Let(Binding {
             mutable,
@@ -104,18 +115,13 @@ pub fn let_statement(
     Ok(Value::Body(statements, None))
 }
 
-/// A block, `if` or `while`, and `;` or nothing.
+/// The statements with a blocklike, behind which `;` stands or not.
 #[tactic(auto, unfolding(crate::specs::Make::blocklike_made))]
-pub fn blocklike_statement(
-    alloc: Global,
-    before: Value,
-    mut parts: VecDeque<Value>,
-) -> Result<Value, NoMemory>
-    ensures { IfOk result (λ v. v ≡ blocklike_made (is_lexeme (second parts.items)) (settled before) (expr_in (first parts.items))) }
+fn with_blocklike(statements: Items<Stmt>, value: Expr, ended: bool) -> Result<Value, NoMemory>
+    ensures { IfOk result (λ v. v ≡ blocklike_made ended statements value) }
 {
-    let value = expr_in(next(&mut parts));
-    let mut statements = settled(alloc, before)?;
-    if is_lexeme(&next(&mut parts)) {
+    let mut statements = statements;
+    if ended {
         statements.push(Stmt {
             kind: StmtKind::Blocklike,
             value,
@@ -123,6 +129,20 @@ pub fn blocklike_statement(
         return Ok(Value::Body(statements, None));
     }
     Ok(Value::Body(statements, Some(value)))
+}
+
+/// A block, `if` or `while`, and `;` or nothing.
+pub fn blocklike_statement(
+    alloc: Global,
+    before: Value,
+    mut parts: VecDeque<Value>,
+) -> Result<Value, NoMemory>
+    ensures { IfOk result (λ v. v ≡ blocklike_made (is_lexeme (second parts.items)) (settled before) (expr_in (first parts.items))) }
+{
+    let statements = settled(alloc, before)?;
+    let value = expr_in(next(&mut parts));
+    let ended = next_is_lexeme(&mut parts);
+    with_blocklike(statements, value, ended)
 }
 
 /// An expression that is the value of the block unless a `;` follows.
@@ -133,8 +153,8 @@ pub fn expr_statement(
 ) -> Result<Value, NoMemory>
     ensures { IfOk result (λ v. v ≡ V.Body (settled before) (Some (expr_in (first parts.items)))) }
 {
-    let value = expr_in(next(&mut parts));
     let statements = settled(alloc, before)?;
+    let value = expr_in(next(&mut parts));
     Ok(Value::Body(statements, Some(value)))
 }
 
@@ -143,84 +163,199 @@ pub fn expr_statement(
 pub fn head(mut parts: VecDeque<Value>) -> Value
     ensures { result ≡ head_made parts.items }
 {
-    let word = next(&mut parts);
-    let condition = next(&mut parts);
-    let span = across(&word, &condition);
-    Value::Expr(expr_in(condition), span)
+    let word = next_extent(&mut parts);
+    let (condition, extent) = whole_in(next(&mut parts));
+    Value::Expr(condition, reach(word, extent))
 }
 
-/// The condition, the block, and what stands behind `else` or nothing.
-#[tactic(auto, unfolding(crate::specs::Make::if_by))]
-pub fn whole_if(alloc: Global, mut parts: VecDeque<Value>) -> Result<Value, NoMemory>
-    ensures { IfOk result (λ v. v ≡ if_made (first parts.items) (second parts.items) (third parts.items)) }
+/// The condition and the block of an `if`.
+#[tactic(auto, unfolding(crate::specs::Make::if_made))]
+pub fn if_branch(alloc: Global, mut parts: VecDeque<Value>) -> Result<Value, NoMemory>
+    ensures { IfOk result (λ v. v ≡ if_made parts.items) }
 {
-    let head = next(&mut parts);
-    let body = next(&mut parts);
-    match whole_in(next(&mut parts)) {
-        Some((other, extent)) => {
-            let span = Span {
-                start: extent_in(&head).start,
-                end: extent.end,
-            };
-            let condition = Box::new(alloc, expr_in(head))?;
-            let body = Box::new(alloc, expr_in(body))?;
-            Ok(plain(
-                span,
-                ExprNode::IfElse(condition, body, Box::new(alloc, other)?),
-            ))
+    let (condition, start) = whole_in(next(&mut parts));
+    let (body, end) = whole_in(next(&mut parts));
+    let span = reach(start, end);
+    let condition = Box::new(alloc, condition)?;
+    let body = Box::new(alloc, body)?;
+    Ok(Value::If(
+        Expr {
+            span,
+            node: ExprNode::If(condition, body),
+        },
+        span,
+    ))
+}
+
+/// The `if`, and what stands behind its `else`.
+#[tactic(auto, unfolding(crate::specs::Make::else_made))]
+fn with_else(alloc: Global, before: Value, other: Expr, extent: Span) -> Result<Value, NoMemory>
+    ensures { (value : Value) → expr_in value ≡ other → extent_in value ≡ extent → IfOk result (λ v. v ≡ else_made before value) }
+{
+    match before {
+        Value::If(expr, start) => {
+            let Expr { span, node } = expr;
+            match node {
+                ExprNode::If(condition, body) => {
+                    let other = Box::new(alloc, other)?;
+                    Ok(plain(
+                        reach(start, extent),
+                        ExprNode::IfElse(condition, body, other),
+                    ))
+                }
+                node => Ok(Value::If(Expr { span, node }, start)),
+            }
         }
-        None => {
-            let span = across(&head, &body);
-            let condition = Box::new(alloc, expr_in(head))?;
-            let body = Box::new(alloc, expr_in(body))?;
-            Ok(plain(span, ExprNode::If(condition, body)))
-        }
+        before => Ok(before),
     }
 }
 
-/// What stands first: the invariants so far, or else this.
-#[tactic(auto, unfolding(crate::specs::Make::begun))]
-fn begun(so_far: &Value, next: &Value) -> Span
-    ensures { result ≡ begun so_far.now next.now }
-{
-    match so_far {
-        Value::Invariants(_, extent) => *extent,
-        _ => extent_in(next),
-    }
-}
-
-#[tactic(auto, unfolding(crate::specs::Make::invariant_made))]
-pub fn further_invariant(
+/// The `if` before, and what stands behind `else`.
+pub fn else_branch(
     alloc: Global,
     before: Value,
     mut parts: VecDeque<Value>,
 ) -> Result<Value, NoMemory>
-    ensures { IfOk result (λ v. v ≡ invariant_made before (first parts.items)) }
+    ensures { IfOk result (λ v. v ≡ else_made before (second parts.items)) }
 {
-    let invariant = next(&mut parts);
-    let span = begun(&before, &invariant);
-    let mut terms = invariants_in(alloc, before);
-    terms.push(term_in(invariant))?;
-    Ok(Value::Invariants(terms, span))
+    skip(&mut parts);
+    let (other, extent) = whole_in(next(&mut parts));
+    with_else(alloc, before, other, extent)
 }
 
-/// The condition and the body, behind the invariants.
-#[tactic(auto, unfolding(crate::specs::Make::while_made, crate::specs::Make::while_span))]
-pub fn whole_while(
+/// The statements and the invariants before a loop, with one more where the value is one.
+#[tactic(auto, unfolding(crate::specs::Make::waiting_with))]
+fn waiting_with(
+    statements: Items<Stmt>,
+    terms: Items<Pterm>,
+    start: Span,
+    value: Value,
+) -> Result<Value, NoMemory>
+    ensures { IfOk result (λ v. v ≡ waiting_with statements terms start value) }
+{
+    match value {
+        Value::Term(term, extent) => {
+            let start = if terms.is_empty() { extent } else { start };
+            let mut terms = terms;
+            terms.push(term)?;
+            Ok(Value::Waiting(statements, terms, start))
+        }
+        other => {
+            discard(other);
+            Ok(Value::Waiting(statements, terms, start))
+        }
+    }
+}
+
+/// The first attribute of a statement.
+pub fn attributed_statement(
     alloc: Global,
     before: Value,
     mut parts: VecDeque<Value>,
 ) -> Result<Value, NoMemory>
-    ensures { IfOk result (λ v. v ≡ while_made before parts.items) }
+    ensures { IfOk result (λ v. v ≡ waiting_with (settled before) [] nowhere (first parts.items)) }
 {
-    let head = next(&mut parts);
-    let body = next(&mut parts);
-    let span = Span {
-        start: begun(&before, &head).start,
-        end: extent_in(&body).end,
-    };
-    let terms = invariants_in(alloc, before).into_vec();
-    let condition = Box::new(alloc, expr_in(head))?;
-    let body = Box::new(alloc, expr_in(body))?;
-    Ok(plain(span, ExprNode::While(terms, condition, body)))
+    let statements = settled(alloc, before)?;
+    waiting_with(statements, Items::new(alloc), NOWHERE, next(&mut parts))
+}
+
+/// A further attribute of a statement.
+pub fn further_attribute(
+    alloc: Global,
+    before: Value,
+    mut parts: VecDeque<Value>,
+) -> Result<Value, NoMemory>
+    ensures { IfOk result (λ v. v ≡ waiting_with (statements_in before) (invariants_in before) (extent_in before) (first parts.items)) }
+{
+    let start = extent_in(&before);
+    let (statements, terms) = waiting_in(alloc, before);
+    waiting_with(statements, terms, start, next(&mut parts))
+}
+
+/// The first attribute of an operand.
+pub fn attributed_operand(alloc: Global, mut parts: VecDeque<Value>) -> Result<Value, NoMemory>
+    ensures { IfOk result (λ v. v ≡ waiting_with [] [] nowhere (first parts.items)) }
+{
+    let none = Items::new(alloc);
+    waiting_with(none, Items::new(alloc), NOWHERE, next(&mut parts))
+}
+
+/// A further attribute of an operand.
+pub fn further_operand_attribute(
+    alloc: Global,
+    before: Value,
+    mut parts: VecDeque<Value>,
+) -> Result<Value, NoMemory>
+    ensures { IfOk result (λ v. v ≡ waiting_with [] (invariants_in before) (extent_in before) (first parts.items)) }
+{
+    let start = extent_in(&before);
+    let (_, terms) = waiting_in(alloc, before);
+    waiting_with(Items::new(alloc), terms, start, next(&mut parts))
+}
+
+/// The condition and the block of a `while`.
+#[tactic(auto, unfolding(crate::specs::Make::loop_made))]
+pub fn while_loop(alloc: Global, mut parts: VecDeque<Value>) -> Result<Value, NoMemory>
+    ensures { IfOk result (λ v. v ≡ loop_made parts.items) }
+{
+    let (condition, start) = whole_in(next(&mut parts));
+    let (body, end) = whole_in(next(&mut parts));
+    let span = reach(start, end);
+    let condition = Box::new(alloc, condition)?;
+    let body = Box::new(alloc, body)?;
+    let terms = Items::new(alloc).into_vec();
+    Ok(Value::Loop(
+        Expr {
+            span,
+            node: ExprNode::While(terms, condition, body),
+        },
+        span,
+    ))
+}
+
+/// The loop with its invariants, of which the first begins here.
+#[tactic(auto, unfolding(crate::specs::Make::looped))]
+fn looped(terms: Items<Pterm>, start: Span, value: Value) -> Value
+    ensures { result ≡ looped terms start value }
+{
+    if terms.is_empty() {
+        return value;
+    }
+    match value {
+        Value::Loop(expr, extent) => {
+            let Expr { span, node } = expr;
+            match node {
+                ExprNode::While(_, condition, body) => plain(
+                    reach(start, extent),
+                    ExprNode::While(terms.into_vec(), condition, body),
+                ),
+                node => Value::Loop(Expr { span, node }, extent),
+            }
+        }
+        value => value,
+    }
+}
+
+/// A loop behind its attributes.
+pub fn attributed_loop(alloc: Global, before: Value, mut parts: VecDeque<Value>) -> Value
+    ensures { result ≡ looped (invariants_in before) (extent_in before) (first parts.items) }
+{
+    let start = extent_in(&before);
+    let (_, terms) = waiting_in(alloc, before);
+    looped(terms, start, next(&mut parts))
+}
+
+/// A loop behind its attributes, and `;` or nothing.
+pub fn loop_statement(
+    alloc: Global,
+    before: Value,
+    mut parts: VecDeque<Value>,
+) -> Result<Value, NoMemory>
+    ensures { IfOk result (λ v. v ≡ blocklike_made (is_lexeme (second parts.items)) (statements_in before) (expr_in (looped (invariants_in before) (extent_in before) (first parts.items)))) }
+{
+    let start = extent_in(&before);
+    let (statements, terms) = waiting_in(alloc, before);
+    let value = expr_in(looped(terms, start, next(&mut parts)));
+    let ended = next_is_lexeme(&mut parts);
+    with_blocklike(statements, value, ended)
 }

@@ -42,31 +42,127 @@ fn expect_refusal(rt: &impl Abort, alloc: Global, text: &[u8], code: Code, start
 }
 
 #[test]
-fn texts_are_refused_where_they_cannot_continue(rt: HostRuntime) {
+fn texts_outside_the_grammar_are_refused(rt: HostRuntime) {
     let alloc = rt.alloc();
-    expect_refusal(&rt, alloc, b"fn f(x: i64) -> i64 { x", Code::E20, 23, 23);
-    expect_refusal(&rt, alloc, b"fn f() { a < b < c }", Code::E20, 15, 16);
-    expect_refusal(&rt, alloc, b"fn f() { () }", Code::E20, 10, 11);
+    expect_refusal(&rt, alloc, b"fn f(x: i64) -> i64 { x", Code::E03, 23, 23);
+    expect_refusal(&rt, alloc, b"fn f() { a < b < c }", Code::E03, 15, 16);
+    expect_refusal(&rt, alloc, b"fn f() { if a {} + 1 }", Code::E03, 17, 18);
+    expect_refusal(&rt, alloc, b"fn f() {} /* ..", Code::E02, 10, 15);
+    expect_refusal(&rt, alloc, b"fn \xff", Code::E01, 3, 3);
+}
+
+#[test]
+fn tuples_and_calls_that_are_not_built_are_refused(rt: HostRuntime) {
+    let alloc = rt.alloc();
+    expect_refusal(&rt, alloc, b"fn f() { () }", Code::E20, 9, 10);
+    expect_refusal(&rt, alloc, b"fn f() { (a.b, 2) }", Code::E20, 9, 10);
+    expect_refusal(&rt, alloc, b"fn f() { (a.b) }", Code::E20, 11, 12);
+    expect_refusal(&rt, alloc, b"fn f() { g((1, 2), x.y) }", Code::E20, 11, 12);
+    expect_refusal(&rt, alloc, b"fn f() { f(x)(y) }", Code::E20, 13, 14);
+    expect_refusal(&rt, alloc, b"fn f() { (f)(y) }", Code::E20, 12, 13);
+    expect_refusal(&rt, alloc, b"fn f() { x as u8 }", Code::E20, 11, 13);
+    expect_refusal(&rt, alloc, b"fn f() { S { a: 1 } }", Code::E20, 11, 12);
+    expect_refusal(&rt, alloc, b"fn f() { a::b }", Code::E20, 10, 12);
+}
+
+#[test]
+fn statements_that_are_not_built_are_refused(rt: HostRuntime) {
+    let alloc = rt.alloc();
+    expect_refusal(&rt, alloc, b"fn f() { let _ = 1; }", Code::E20, 13, 14);
+    expect_refusal(&rt, alloc, b"fn f() { let (a, b) = c; }", Code::E20, 13, 14);
     expect_refusal(
         &rt,
         alloc,
         b"fn f() { #[variant(x)] while x {} }",
         Code::E20,
-        11,
-        18,
+        9,
+        10,
     );
-    expect_refusal(&rt, alloc, b"fn f() { return }", Code::E20, 9, 15);
-    expect_refusal(&rt, alloc, b"fn f() { if a {} + 1 }", Code::E20, 17, 18);
-    expect_refusal(&rt, alloc, b"fn f() {} /* ..", Code::E02, 10, 15);
-    expect_refusal(&rt, alloc, b"fn \xff", Code::E01, 3, 3);
-    // The block and 63 parentheses are 64 levels.
     expect_refusal(
         &rt,
         alloc,
-        b"fn f() { ((((((((((((((((((((((((((((((((((((((((((((((((((((((((((((((((",
+        b"fn f() { #[requires(x)] while x {} }",
         Code::E20,
-        72,
-        73,
+        9,
+        10,
+    );
+    expect_refusal(&rt, alloc, b"fn f() { loop {} }", Code::E20, 9, 13);
+    expect_refusal(&rt, alloc, b"fn f() { if let x = y {} }", Code::E20, 12, 15);
+    expect_refusal(
+        &rt,
+        alloc,
+        b"fn f() { match x { _ => 1 } }",
+        Code::E20,
+        9,
+        14,
+    );
+    expect_refusal(&rt, alloc, b"fn f() { |x: i32| 1 }", Code::E20, 9, 10);
+    expect_refusal(&rt, alloc, b"fn f() { return }", Code::E20, 9, 15);
+}
+
+#[test]
+fn types_and_items_that_are_not_built_are_refused(rt: HostRuntime) {
+    let alloc = rt.alloc();
+    expect_refusal(&rt, alloc, b"fn f(mut self) {}", Code::E20, 9, 13);
+    expect_refusal(&rt, alloc, b"fn f(x: &i32) {}", Code::E20, 8, 9);
+    expect_refusal(&rt, alloc, b"fn f(x: u7) {}", Code::E20, 8, 10);
+    expect_refusal(&rt, alloc, b"fn f(x: Vec<i32>) {}", Code::E20, 8, 11);
+    expect_refusal(&rt, alloc, b"fn f<T>(x: i8) {}", Code::E20, 4, 5);
+    expect_refusal(
+        &rt,
+        alloc,
+        b"fn f() {} #[allow(a)] pub enum E {}",
+        Code::E20,
+        26,
+        30,
+    );
+}
+
+#[test]
+fn promises_that_are_not_built_are_refused(rt: HostRuntime) {
+    let alloc = rt.alloc();
+    expect_refusal(
+        &rt,
+        alloc,
+        b"#[requires(forall<x: Int> x == x)] fn f() {}",
+        Code::E20,
+        11,
+        17,
+    );
+    expect_refusal(&rt, alloc, b"#[requires(true)] struct S;", Code::E20, 0, 1);
+    expect_refusal(
+        &rt,
+        alloc,
+        b"#[requires(forall<x: Int> x == x)] struct S;",
+        Code::E20,
+        0,
+        1,
+    );
+    expect_refusal(&rt, alloc, b"#[derive(Clone)] fn f() {}", Code::E20, 0, 1);
+    expect_refusal(&rt, alloc, b"#[invariant(^x)] fn f() {}", Code::E20, 0, 1);
+    expect_refusal(
+        &rt,
+        alloc,
+        b"#[ensures(^x == 1)] #[logic] fn f() { 1 }",
+        Code::E20,
+        10,
+        11,
+    );
+    expect_refusal(
+        &rt,
+        alloc,
+        b"#[ensures((1, a.b) == 1)] fn f() {}",
+        Code::E20,
+        10,
+        11,
+    );
+    expect_refusal(
+        &rt,
+        alloc,
+        b"#[ensures(result.0)] use std::x; fn f() {}",
+        Code::E20,
+        0,
+        1,
     );
 }
 
@@ -141,6 +237,17 @@ fn a_blocklike_ends_its_statement(rt: HostRuntime) {
         b"#[requires(x > 0 ==> x@ < 3)] fn f(x: i8) { \n#[invariant(x >= 0)] while x > 0 { x -= 1; } -1 - (2) }";
     let right = match function_of(rt.alloc(), text) {
         Some(function) => function.clauses.len() == 1 && loops_and_subtracts(&function.body),
+        None => false,
+    };
+    assert!(rt; right);
+}
+
+#[test]
+fn what_says_nothing_is_passed_over(rt: HostRuntime) {
+    let text =
+        b"#![allow(x)] use std::vec::Vec; #[doc(\"x\")] #[requires(true)] pub(crate) fn f() { #[inline] #[invariant(true)] while true {} }";
+    let right = match function_of(rt.alloc(), text) {
+        Some(function) => function.clauses.len() == 1 && function.params.is_empty(),
         None => false,
     };
     assert!(rt; right);

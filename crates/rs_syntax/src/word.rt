@@ -1,125 +1,19 @@
-//! Words: the tokens of a source as the grammar tells them apart.
+//! Words: the tokens of a source with their names and numbers.
 use logic_term::IntKind;
 use text_core::{Name, Span};
 
-/// What the grammar tells apart: marks and keywords that a form has, the quoted words and type words, and the rest.
+/// What a name says to the forms that are built.
 #[derive(Clone, Copy, Debug, PartialEq, Eq)]
 pub enum WordKind {
-    /// `(`
-    OpenParen,
-    /// `)`
-    CloseParen,
-    /// `[`
-    OpenBracket,
-    /// `]`
-    CloseBracket,
-    /// `{`
-    OpenBrace,
-    /// `}`
-    CloseBrace,
-    /// `#`
-    Pound,
-    /// `,`
-    Comma,
-    /// `;`
-    Semicolon,
-    /// `:`
-    Colon,
-    /// `->`
-    Arrow,
-    /// `=`
-    Equal,
-    /// `+=`
-    PlusEqual,
-    /// `-=`
-    MinusEqual,
-    /// `*=`
-    StarEqual,
-    /// `/=`
-    SlashEqual,
-    /// `%=`
-    PercentEqual,
-    /// `||`
-    OrOr,
-    /// `&&`
-    AndAnd,
-    /// `==`
-    EqualEqual,
-    /// `!=`
-    NotEqual,
-    /// `<`
-    Less,
-    /// `<=`
-    AtMost,
-    /// `>`
-    Greater,
-    /// `>=`
-    AtLeast,
-    /// `+`
-    Plus,
-    /// `-`
-    Minus,
-    /// `*`
-    Star,
-    /// `/`
-    Slash,
-    /// `%`
-    Percent,
-    /// `!`
-    Not,
-    /// `==>`
-    Implies,
-    /// `@`
-    At,
-    /// `fn`
-    Fn,
-    /// `let`
-    Let,
-    /// `mut`
-    Mut,
-    /// `if`
-    If,
-    /// `else`
-    Else,
-    /// `while`
-    While,
-    /// `true`
-    True,
-    /// `false`
-    False,
-    /// An identifier that is none of the following.
-    Ident,
     /// `requires`
     Requires,
     /// `ensures`
     Ensures,
-    /// `invariant`
-    Invariant,
-    /// `i8`
-    I8,
-    /// `i16`
-    I16,
-    /// `i32`
-    I32,
-    /// `i64`
-    I64,
-    /// `isize`
-    Isize,
-    /// `u8`
-    U8,
-    /// `u16`
-    U16,
-    /// `u32`
-    U32,
-    /// `u64`
-    U64,
-    /// `usize`
-    Usize,
+    /// The name of a type of integers.
+    Int(IntKind),
     /// `bool`
     Bool,
-    /// An integer.
-    Int,
-    /// A token that no form has.
+    /// Any other name, or no name.
     Other,
 }
 

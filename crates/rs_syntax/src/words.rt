@@ -9,7 +9,8 @@ ghost use Rattle.text_core.specs.declared.name.Name.{Name};
 ghost use Rattle.rs_tokens.specs.declared.token.TokenKind.TheVariants as T;
 ghost use Rattle.rs_tokens.specs.Tokens.{continues_digits, base_named, base_of, integer_value, largest_integer};
 ghost use Rattle.rs_syntax.specs.declared.word.Word.{Word};
-ghost use Rattle.rs_syntax.specs.Words.{found_in, row_of, kind_by, value_by, suffix_of, suffix_by, text_in, HasName, IsLexeme, IsWordOf, AreWords, IsWordError, Keeps, NamesOnlyNew};
+ghost use Rattle.concrete_syntax.specs.Words.{found_in, row_of, text_in};
+ghost use Rattle.rs_syntax.specs.Words.{kind_by, value_by, suffix_of, suffix_by, HasName, IsLexeme, IsWordOf, AreWords, IsWordError, Keeps, NamesOnlyNew};
 
 use crate::fault::PassError;
 use crate::word::{Word, WordKind};
@@ -18,21 +19,20 @@ use rs_tokens::{Lexer, Token, TokenKind};
 use std::alloc::Global;
 use text_core::{Items, Name, Names, NoMemory};
 
-/// The quoted words and the type words.
-const QUOTED: [(&str, WordKind); 14] = [
+/// The names that the built forms know by their texts.
+const QUOTED: [(&str, WordKind); 13] = [
     ("requires", WordKind::Requires),
     ("ensures", WordKind::Ensures),
-    ("invariant", WordKind::Invariant),
-    ("i8", WordKind::I8),
-    ("i16", WordKind::I16),
-    ("i32", WordKind::I32),
-    ("i64", WordKind::I64),
-    ("isize", WordKind::Isize),
-    ("u8", WordKind::U8),
-    ("u16", WordKind::U16),
-    ("u32", WordKind::U32),
-    ("u64", WordKind::U64),
-    ("usize", WordKind::Usize),
+    ("i8", WordKind::Int(IntKind::I8)),
+    ("i16", WordKind::Int(IntKind::I16)),
+    ("i32", WordKind::Int(IntKind::I32)),
+    ("i64", WordKind::Int(IntKind::I64)),
+    ("isize", WordKind::Int(IntKind::Isize)),
+    ("u8", WordKind::Int(IntKind::U8)),
+    ("u16", WordKind::Int(IntKind::U16)),
+    ("u32", WordKind::Int(IntKind::U32)),
+    ("u64", WordKind::Int(IntKind::U64)),
+    ("usize", WordKind::Int(IntKind::Usize)),
     ("bool", WordKind::Bool),
 ];
 
@@ -80,49 +80,7 @@ fn kind_by(kind: TokenKind, text: &[u8]) -> WordKind
     ensures { result ≡ kind_by kind text.now }
 {
     match kind {
-        TokenKind::Ident => quoted_in(&QUOTED, text).unwrap_or(WordKind::Ident),
-        TokenKind::OpenParen => WordKind::OpenParen,
-        TokenKind::CloseParen => WordKind::CloseParen,
-        TokenKind::OpenBracket => WordKind::OpenBracket,
-        TokenKind::CloseBracket => WordKind::CloseBracket,
-        TokenKind::OpenBrace => WordKind::OpenBrace,
-        TokenKind::CloseBrace => WordKind::CloseBrace,
-        TokenKind::Pound => WordKind::Pound,
-        TokenKind::Comma => WordKind::Comma,
-        TokenKind::Semicolon => WordKind::Semicolon,
-        TokenKind::Colon => WordKind::Colon,
-        TokenKind::Arrow => WordKind::Arrow,
-        TokenKind::Equal => WordKind::Equal,
-        TokenKind::PlusEqual => WordKind::PlusEqual,
-        TokenKind::MinusEqual => WordKind::MinusEqual,
-        TokenKind::StarEqual => WordKind::StarEqual,
-        TokenKind::SlashEqual => WordKind::SlashEqual,
-        TokenKind::PercentEqual => WordKind::PercentEqual,
-        TokenKind::OrOr => WordKind::OrOr,
-        TokenKind::AndAnd => WordKind::AndAnd,
-        TokenKind::EqualEqual => WordKind::EqualEqual,
-        TokenKind::NotEqual => WordKind::NotEqual,
-        TokenKind::Less => WordKind::Less,
-        TokenKind::AtMost => WordKind::AtMost,
-        TokenKind::Greater => WordKind::Greater,
-        TokenKind::AtLeast => WordKind::AtLeast,
-        TokenKind::Plus => WordKind::Plus,
-        TokenKind::Minus => WordKind::Minus,
-        TokenKind::Star => WordKind::Star,
-        TokenKind::Slash => WordKind::Slash,
-        TokenKind::Percent => WordKind::Percent,
-        TokenKind::Not => WordKind::Not,
-        TokenKind::Implies => WordKind::Implies,
-        TokenKind::At => WordKind::At,
-        TokenKind::KwFn => WordKind::Fn,
-        TokenKind::KwLet => WordKind::Let,
-        TokenKind::KwMut => WordKind::Mut,
-        TokenKind::KwIf => WordKind::If,
-        TokenKind::KwElse => WordKind::Else,
-        TokenKind::KwWhile => WordKind::While,
-        TokenKind::KwTrue => WordKind::True,
-        TokenKind::KwFalse => WordKind::False,
-        TokenKind::Int => WordKind::Int,
+        TokenKind::Ident => quoted_in(&QUOTED, text).unwrap_or(WordKind::Other),
         _ => WordKind::Other,
     }
 }

@@ -1,11 +1,10 @@
 -- What each pass needs, it is given; and where a pass refuses, the source is refused for a cause.
-use Rattle.std.proofs.Common.{◌≡◌, ◌∙◌, refl, sym, ap, subst, ℕ, zero, suc, ◌+◌, ◌<◌, ◌≤◌, ◌⊎◌, inl, inr, List, [], ◌∷◌, ◌++◌, length, get_or, Option, Some, None, slice_get, arith}
+use Rattle.std.proofs.Common.{◌≡◌, ◌∙◌, refl, sym, ap, subst, ℕ, zero, suc, ◌+◌, ◌<◌, ◌≤◌, ◌⊎◌, inl, inr, List, [], ◌∷◌, ◌++◌, length, get_or, Some, None, slice_get, arith}
 use Rattle.std.proofs.lemmas.Bool.{cases_lt}
 use Rattle.std.proofs.lemmas.List.{length-append}
 use Rattle.std.proofs.lemmas.Option.{slice_get_read}
 use Rattle.text_core.specs.declared.name.Name.{Name}
 use Rattle.text_core.specs.declared.refusal.Limit.{Limit}
-use Rattle.text_core.specs.declared.span.Span.{Span}
 use Rattle.logic_term.specs.declared.kinds.Label.{Label}
 use Rattle.logic_term.specs.declared.obligation.Contract.{Contract}
 use Rattle.logic_term.specs.declared.obligation.Obligation.{Obligation}
@@ -19,10 +18,6 @@ use Rattle.mir_ir.specs.declared.terminator.Callee.TheVariants.{Function}
 use Rattle.mir_ir.specs.declared.terminator.TerminatorKind.{TerminatorKind}
 use Rattle.mir_ir.specs.declared.terminator.TerminatorKind.TheVariants.{Call}
 use Rattle.mir_ir.specs.WellFormed.{EndIsTyped}
-use Rattle.concrete_syntax.specs.declared.fault.ParseFault.{ParseFault}
-use Rattle.concrete_syntax.specs.declared.fault.ParseFault.TheVariants as faults
-use Rattle.concrete_syntax.specs.Parsed as whole
-use Rattle.concrete_syntax.specs.Passed.{IsPlain}
 use Rattle.rs_syntax.specs.declared.fault.PassError.{PassError}
 use Rattle.rs_syntax.specs.declared.fault.PassError.TheVariants as errors
 use Rattle.rs_syntax.specs.declared.function.Function.{Function as SourceFunction}
@@ -49,7 +44,7 @@ use Rattle.verify_core.specs.OnSource.{IsPastSomeLimit, RefusesProofs, Refuses}
 use Rattle.verify_core.specs.Passes.{CanWalkAt, CanWalkAll, AreLaidOut, HaveFewGoals, IsSettingAt, AreTooMany, IsGoalsError, IsPathsError}
 use Rattle.verify_core.specs.declared.program.Program.{Program}
 use Rattle.verify_core.specs.Prepared.{HasFunctions, IsPrepared, IsTypedAs, gone_of, HasGoals, HaveGoals, HasManyPaths, HaveFewPaths, IsPastLimit, IsRefused, RefusesSource, most_paths, most_obligations}
-use Rattle.verify_core.specs.Refusals.{refusal_of, refusal_of_fault, IsFormRefusal}
+use Rattle.verify_core.specs.Refusals.{refusal_of}
 use Rattle.verify_core.specs.Verdict.{obligations_in}
 use Rattle.verify_core.proofs.Assembly.{sound, gone_at}
 use Rattle.verify_core.proofs.JudgeLaws.{in_one_more}
@@ -61,15 +56,10 @@ some_same e = cc
 
 -- ---- refusals
 
-pub grammar_refused : (source : List ℕ) (e : ParseFault) → whole.IsParseError source e → whole.SpellsNone source e → RefusesSource source (refusal_of_fault e)
-grammar_refused source (faults.Source e) is none = IsRefused.by_grammar is none
-grammar_refused source faults.NoMemory is none = tt
-
-pub parse_refused : (source plain : List ℕ) (unbuilt : Option Span) (table : List (List ℕ)) (e : PassError) (r : Refusal) → IsPlain source plain unbuilt → IsParseError table plain e → SpellsNone table plain e → IsFormRefusal source unbuilt e r → RefusesSource source r
-parse_refused source plain unbuilt table (errors.Source e) r is_plain is none (inl (words, are, same)) = subst (RefusesSource source) (sym same) (IsRefused.by_form plain unbuilt words is_plain is none are refl)
-parse_refused source plain unbuilt table (errors.Source e) r is_plain is none (inr same) = subst (RefusesSource source) (sym same) tt
-parse_refused source plain unbuilt table (errors.Limit l) r is_plain is none same = subst (RefusesSource source) (sym same) (IsPastLimit.functions plain unbuilt is_plain is)
-parse_refused source plain unbuilt table errors.NoMemory r is_plain is none same = subst (RefusesSource source) (sym same) tt
+pub parse_refused : (source : List ℕ) (table : List (List ℕ)) (e : PassError) → IsParseError table source e → SpellsNone table source e → RefusesSource source (refusal_of e)
+parse_refused source table (errors.Source e) is none = IsRefused.by_form table is none
+parse_refused source table (errors.Limit l) is none = IsPastLimit.functions is
+parse_refused source table errors.NoMemory is none = tt
 
 pub types_refused : (source : List ℕ) (table : List (List ℕ)) (fs : List SourceFunction) (result : Name) (e : PassError) → HasFunctions source table fs result → TypesRefuse e (checked result fs) → RefusesSource source (refusal_of e)
 types_refused source table fs result (errors.Source e) has is = IsRefused.by_types has is

@@ -1,10 +1,9 @@
 -- The program of a source, and why a source has none.
-use Rattle.std.specs.Prelude.{◌≡◌, ℕ, ◌+◌, ◌<◌, ◌≤◌, zero, suc, List, [], ◌∷◌, length, codes, Option, Some, slice_get, Ok, Err}
+use Rattle.std.specs.Prelude.{◌≡◌, ℕ, ◌+◌, ◌<◌, ◌≤◌, zero, suc, List, [], ◌∷◌, length, codes, Some, slice_get, Ok, Err}
 use Rattle.text_core.specs.declared.name.Name.{Name}
 use Rattle.text_core.specs.declared.refusal.Limit.{Limit}
 use Rattle.text_core.specs.declared.refusal.LimitKind.TheVariants.{SourceBytes, Blocks, Paths, Obligations}
 use Rattle.text_core.specs.declared.refusal.SourceError.{SourceError}
-use Rattle.text_core.specs.declared.span.Span.{Span}
 use Rattle.text_core.specs.Names.{text_of}
 use Rattle.logic_term.specs.declared.obligation.Contract.{Contract}
 use Rattle.mir_ir.specs.declared.body.Body.{Body}
@@ -12,15 +11,9 @@ use Rattle.mir_ir.specs.declared.body.Initialised.{Initialised}
 use Rattle.wp_gen.specs.Paths.{HasPaths, HasMorePaths}
 use Rattle.wp_gen.specs.Walk.{AreObligations}
 use Rattle.prophecy_sim.specs.Programs as sim
-use Rattle.concrete_syntax.specs.declared.event.Event.{Event}
-use Rattle.concrete_syntax.specs.declared.fault.ParseFault.TheVariants as whole_errors
-use Rattle.concrete_syntax.specs.Parsed as whole
-use Rattle.concrete_syntax.specs.declared.word.Word.{Word}
-use Rattle.concrete_syntax.specs.Passed.{IsPlain}
-use Rattle.concrete_syntax.specs.Words.{AreWords}
 use Rattle.rs_syntax.specs.declared.function.Function.{Function}
 use Rattle.rs_syntax.specs.declared.fault.PassError.TheVariants as errors
-use Rattle.rs_syntax.specs.Parsed.{SpellsSource, IsParseError, HasFunctionsError}
+use Rattle.rs_syntax.specs.Parsed.{SpellsSource, IsParseError}
 use Rattle.type_check.specs.declared.program.TypedProgram.{TypedProgram}
 use Rattle.type_check.specs.Checked.{checked}
 use Rattle.mir_build.specs.Lowering.{LowerTo, HasMoreBlocks}
@@ -28,7 +21,6 @@ use Rattle.verify_core.specs.declared.fault.Refusal.{Refusal}
 use Rattle.verify_core.specs.declared.fault.Refusal.TheVariants as refusals
 use Rattle.verify_core.specs.declared.goals.FunctionGoals.{FunctionGoals}
 use Rattle.verify_core.specs.declared.program.Program.{Program}
-use Rattle.verify_core.specs.Refusals.{form_error}
 use Rattle.verify_core.specs.Verdict.{obligations_in}
 
 -- ---- bounds
@@ -47,13 +39,9 @@ most_obligations = 1000000
 
 -- ---- the passes
 
--- The source is one of the language, and spells these functions with names of the table, in which `result` has this name. What is passed
--- over stands for white space.
+-- the source spells these functions with names of the table, in which `result` has this name
 pub record HasFunctions (source : List ℕ) (table : List (List ℕ)) (functions : List Function) (result : Name) : Type 0 where
-  pub plain : List ℕ
-  pub unbuilt : Option Span
-  pub is_plain : IsPlain source plain unbuilt
-  pub spelled : SpellsSource table plain functions
+  pub spelled : SpellsSource table source functions
   pub is_result : text_of table result ≡ Some (codes "result")
 
 -- the functions of the source have these names and types
@@ -120,19 +108,15 @@ pub record IsPrepared (source : List ℕ) (p : Program) : Type 0 where
 
 -- ---- refused sources
 
--- The source is refused for this reason: it is none of the language, by its tokens and their order; or it has a form that is not built, at
--- the first word that cannot continue a source of the built forms, or at the `#` of the attribute that it names, or at the
--- first word of a form before it which is not built by its phrase; or by names and types.
+-- the source is refused for this reason: it is none of the whole grammar, or has a form that is not built; or by names and types
 pub data IsRefused (source : List ℕ) (error : SourceError) : Type 0 where
-  by_grammar : whole.IsParseError source (whole_errors.Source error) → ((phrases : List Event) → whole.SpellsSource source phrases → ⊥) → IsRefused source error
-  by_form : {table : List (List ℕ)} {first : SourceError} (plain : List ℕ) (unbuilt : Option Span) (words : List Word) → IsPlain source plain unbuilt → IsParseError table plain (errors.Source first) → ((functions : List Function) → SpellsSource table plain functions → ⊥)
-      → AreWords source words → error ≡ form_error words unbuilt first → IsRefused source error
+  by_form : (table : List (List ℕ)) → IsParseError table source (errors.Source error) → ((functions : List Function) → SpellsSource table source functions → ⊥) → IsRefused source error
   by_types : {table : List (List ℕ)} {functions : List Function} {result : Name} → HasFunctions source table functions result → checked result functions ≡ Err error → IsRefused source error
 
 -- a quantity of the source is past its bound
 pub data IsPastLimit (source : List ℕ) : Limit → Type 0 where
   bytes : most_bytes < length source → IsPastLimit source (record { kind = SourceBytes; counted = length source; bound = most_bytes })
-  functions : {table : List (List ℕ)} {limit : Limit} (plain : List ℕ) (unbuilt : Option Span) → IsPlain source plain unbuilt → HasFunctionsError table plain (errors.Limit limit) → IsPastLimit source limit
+  functions : {table : List (List ℕ)} {limit : Limit} → IsParseError table source (errors.Limit limit) → IsPastLimit source limit
   blocks : {table : List (List ℕ)} {typed : TypedProgram} → IsTypedAs source table typed → HasMoreBlocks typed most_blocks → IsPastLimit source (record { kind = Blocks; counted = most_blocks + 1; bound = most_blocks })
   paths : {table : List (List ℕ)} {typed : TypedProgram} {bs : List Body} {cs : List Contract} {gones : List Initialised} → IsTypedAs source table typed → LowerTo table typed.functions bs cs gones → HasManyPaths bs
       → IsPastLimit source (record { kind = Paths; counted = most_paths + 1; bound = most_paths })

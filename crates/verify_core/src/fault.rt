@@ -1,8 +1,7 @@
 ghost use Rattle.std.specs.Prelude.{◌≡◌};
 ghost use Rattle.verify_core.specs.declared.fault.Refusal.TheVariants as refusals;
-ghost use Rattle.verify_core.specs.Refusals.{refusal_of, refusal_of_fault};
+ghost use Rattle.verify_core.specs.Refusals.{refusal_of};
 
-use concrete_syntax::ParseFault;
 use rs_syntax::PassError;
 use std::alloc::{AllocError, AllocFailed};
 use text_core::{Limit, NoMemory, SourceError};
@@ -41,17 +40,6 @@ impl From<PassError> for Refusal {
             PassError::Source(error) => Refusal::Source(error),
             PassError::Limit(limit) => Refusal::Limit(limit),
             PassError::NoMemory => Refusal::NoMemory,
-        }
-    }
-}
-
-impl From<ParseFault> for Refusal {
-    ghost from_gives = { λ e r. r ≡ refusal_of_fault e };
-
-    fn from(error: ParseFault) -> Refusal {
-        match error {
-            ParseFault::Source(error) => Refusal::Source(error),
-            ParseFault::NoMemory => Refusal::NoMemory,
         }
     }
 }

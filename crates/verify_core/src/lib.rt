@@ -10,6 +10,8 @@ mod preparing;
 mod program;
 mod reach;
 mod table;
+#[cfg(test)]
+mod tests;
 mod verdict;
 mod verifying;
 

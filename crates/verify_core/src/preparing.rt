@@ -5,60 +5,21 @@ ghost use Rattle.mir_build.specs.Lowering.{IsLowered};
 ghost use Rattle.mir_build.specs.Laws.{Lowers};
 ghost use Rattle.verify_core.specs.Prepared.{IsTypedAs, IsPrepared, HasGoals, HaveFewPaths, RefusesSource};
 ghost use Rattle.wp_gen.specs.Walkable.{setting};
-ghost use Rattle.verify_core.specs.Refusals.{earlier, IsFormRefusal};
 ghost use Rattle.verify_core.specs.Passes.{CanWalkAt, CanWalkAll, AreAllGoals, AreLaidOut, HaveFewGoals, IsSettingAt, IsGoalsError, IsPathsError};
 
 use crate::fault::Refusal;
 use crate::goals::FunctionGoals;
 use crate::program::Program;
-use concrete_syntax::{attribute_at, plain_source, words_of};
 use mir_build::{Lowered, lower};
 use mir_ir::Body;
-use rs_syntax::{PassError, parse};
+use rs_syntax::parse;
 use std::alloc::Global;
-use text_core::{Items, Limit, LimitKind, Names, NoMemory, SourceError, Span};
+use text_core::{Items, Limit, LimitKind, Names, NoMemory};
 use type_check::{TypedProgram, check};
 use wp_gen::{OBLIGATIONS, Walk, check_paths, obligations, room_after};
 
 /// The most bytes of a source.
 pub const SOURCE_BYTES: usize = 1 << 20;
-
-/// The form that is not built by its phrase, where it stands before the span.
-fn earlier(unbuilt: Option<Span>, span: Span) -> Span
-    ensures { result ≡ earlier unbuilt span }
-{
-    match unbuilt {
-        None => span,
-        Some(first) => if first.start < span.start {
-            first
-        } else {
-            span
-        },
-    }
-}
-
-/// The refusal of a form that is not built, the first by its phrase or where no built form goes on: an attribute is refused
-/// at its `#`.
-fn form_refusal(alloc: Global, source: &[u8], unbuilt: Option<Span>, error: PassError) -> Refusal
-    requires { length source.now ≤ 2 ^ 20 }
-    ensures { IsFormRefusal source.now unbuilt error result }
-{
-    match error {
-        PassError::Limit(limit) => Refusal::Limit(limit),
-        PassError::NoMemory => Refusal::NoMemory,
-        PassError::Source(error) => match words_of(alloc, source) {
-            Err(_) => Refusal::NoMemory,
-            Ok(words) => {
-                let hash = attribute_at(words.as_slice(), error.span.start);
-                Refusal::Source(SourceError {
-                    code: error.code,
-                    span: earlier(unbuilt, hash.unwrap_or(error.span)),
-                    other: error.other,
-                })
-            }
-        },
-    }
-}
 
 /// The functions of a source, their names resolved and their expressions typed.
 fn typed_source(alloc: Global, source: &[u8], names: &mut Names) -> Result<TypedProgram, Refusal>
@@ -68,12 +29,8 @@ fn typed_source(alloc: Global, source: &[u8], names: &mut Names) -> Result<Typed
     ensures fits { IfOk result ProgramFits }
     ensures refused { IfErr result (RefusesSource source.now) }
 {
-    let plain = plain_source(alloc, source)?;
     let result = names.intern(alloc, "result")?;
-    let functions = match parse(alloc, plain.text.as_slice(), names) {
-        Ok(functions) => functions,
-        Err(error) => return Err(form_refusal(alloc, source, plain.unbuilt, error)),
-    };
+    let functions = parse(alloc, source, names)?;
     Ok(check(alloc, result, functions.as_slice())?)
 }
 

@@ -420,6 +420,11 @@ fn small_programs_are_verified(rt: HostRuntime) -> Result<(), Fail> {
             b"creusot-proofs 1\n# The invariants where the loop begins.\nproof 1 isqrt\nintro n\nlin 1:goal\nend\nproof 2 isqrt\nintro n\nlin 1:goal\nend\nproof 3 isqrt\nintro n\nlin 1:goal\nend\n# rest -= odd\nproof 4 isqrt\nintro n r s o\nrange s\nsplit\nlin 1:goal 1:1.4\nlin 1:goal 1:2.2 1:1.1\nend\n# odd += 2\nproof 5 isqrt\nintro n r s o v\nrange n\nsplit\nlin 1:goal 1:1.1\nlin 3:goal 1:1.2 2:1.3 2:1.4 2:2.2\nend\n# r += 1\nproof 6 isqrt\nintro n r s o v w\nrange r\nrange n\nsplit\nlin 1:goal 1:2.1\nlin 1:goal 1:1.3 1:3.2 1:1.4 1:1.1\nend\n# The invariants after a turn.\nproof 7 isqrt\nintro n r s o v w z\nlin 1:goal 1:-1.6 1:1.1\nend\nproof 8 isqrt\nintro n r s o v w z\nlin 1:goal 1:1.6 2:-1.7 1:1.2\nend\nproof 9 isqrt\nintro n r s o v w z\nlin 1:goal 1:1.5 1:1.7 1:1.3 1:1.1\nend\nproof 10 isqrt\nintro n r s o\nrange s\nlin 1:goal 1:1.3 1:2.1\nend\n",
             b"verified isqrt\nsummary functions 1 verified 1 obligations 10 proved 10\n",
         ),
+        (
+            b"#[requires(-1000 <= x@)]\n#[requires(x@ <= 1000)]\n#[ensures(result@ == x@ + x@)]\nfn double(x: i32) -> i32 {\n    x + x\n}\n",
+            b"creusot-proofs 1\nproof 1 double\nintro x\nsplit\nlin 1:goal 2:1.1\nlin 1:goal 2:1.2\nend\nproof 2 double\nintro x sum\nhyp 1.3\nend\n",
+            b"verified double\nsummary functions 1 verified 1 obligations 2 proved 2\n",
+        ),
     ];
     for (source, proofs, printed) in cases {
         let (status, out) = Call::of(source, proofs).run(rt.alloc())?;

@@ -1,21 +1,27 @@
-use Rattle.std.proofs.Common.{refl}
-use Rattle.rs_syntax.proofs.Whole.{error_of_words, none_of_words, ok_of_bytes, alone_of_bytes, refused_of_bytes, rightly_of_bytes}
+use Rattle.std.proofs.Common.{◌∙◌, sym}
+use Rattle.rs_syntax.proofs.Whole.{not_built, none_built, bounded, bounded_alone, too_many, none_bounded}
 use Rattle.rs_syntax.proofs.parser.parse.Goals as goal
 
-pub returns-in-Err-clause-refused : goal.returns-in-Err-clause-refused
-returns-in-Err-clause-refused c = error_of_words _ c.args.bytes.now c.in-Err.error c.in-Err.ensures.refused
+pub returns-in-Some-clause-refused : goal.returns-in-Some-clause-refused
+returns-in-Some-clause-refused c =
+    not_built c.value_of.new.names c.args.bytes.now c.in_ok-value.value c.in_ok-value.ensures.ok c.in_ok-value.ensures.alone c.in-Some.span (sym c.unbuilt_in.ensures ∙ c.in-Some.is)
 
-pub returns-in-Err-clause-rightly : goal.returns-in-Err-clause-rightly
-returns-in-Err-clause-rightly c = none_of_words _ c.args.bytes.now c.in-Err.error c.in-Err.ensures.refused
+pub returns-in-Some-clause-rightly : goal.returns-in-Some-clause-rightly
+returns-in-Some-clause-rightly c =
+    none_built c.value_of.new.names c.args.bytes.now c.in_ok-value.value c.in_ok-value.ensures.ok c.in_ok-value.ensures.alone c.in-Some.span (sym c.unbuilt_in.ensures ∙ c.in-Some.is)
 
-pub returns-in-Ok-clause-ok : goal.returns-in-Ok-clause-ok
-returns-in-Ok-clause-ok c = ok_of_bytes _ c.args.bytes.now c.in-Ok.words c.functions_of.result c.in-Ok.ensures.ok (rw c.as_slice.ensures at c.functions_of.ensures.ok)
+pub returns-in-None-clause-ok : goal.returns-in-None-clause-ok
+returns-in-None-clause-ok c =
+    bounded c.value_of.new.names c.args.bytes.now c.in_ok-value.value c.in_ok-value.ensures.ok c.in_ok-value.ensures.alone c.functions_in.result c.within_bound.result (sym c.unbuilt_in.ensures ∙ c.in-None.is) c.functions_in.ensures c.within_bound.ensures.ok
 
-pub returns-in-Ok-clause-alone : goal.returns-in-Ok-clause-alone
-returns-in-Ok-clause-alone c = alone_of_bytes _ c.args.bytes.now c.in-Ok.words c.functions_of.result c.in-Ok.ensures.only (rw c.as_slice.ensures at c.functions_of.ensures.alone)
+pub returns-in-None-clause-alone : goal.returns-in-None-clause-alone
+returns-in-None-clause-alone c =
+    bounded_alone c.value_of.new.names c.args.bytes.now c.in_ok-value.value c.in_ok-value.ensures.ok c.in_ok-value.ensures.alone c.functions_in.result c.within_bound.result c.functions_in.ensures c.within_bound.ensures.ok
 
-pub returns-in-Ok-clause-refused : goal.returns-in-Ok-clause-refused
-returns-in-Ok-clause-refused c = refused_of_bytes _ c.args.bytes.now c.in-Ok.words _ c.functions_of.result refl c.in-Ok.ensures.ok (rw c.as_slice.ensures at c.functions_of.ensures.refused)
+pub returns-in-None-clause-refused : goal.returns-in-None-clause-refused
+returns-in-None-clause-refused c =
+    too_many c.value_of.new.names c.args.bytes.now c.in_ok-value.value c.in_ok-value.ensures.ok c.in_ok-value.ensures.alone c.functions_in.result c.within_bound.result (sym c.unbuilt_in.ensures ∙ c.in-None.is) c.functions_in.ensures c.within_bound.ensures.err
 
-pub returns-in-Ok-clause-rightly : goal.returns-in-Ok-clause-rightly
-returns-in-Ok-clause-rightly c = rightly_of_bytes _ c.args.bytes.now c.in-Ok.words c.functions_of.result c.in-Ok.ensures.only (rw c.as_slice.ensures at c.functions_of.ensures.rightly)
+pub returns-in-None-clause-rightly : goal.returns-in-None-clause-rightly
+returns-in-None-clause-rightly c =
+    none_bounded c.value_of.new.names c.args.bytes.now c.in_ok-value.value c.in_ok-value.ensures.ok c.in_ok-value.ensures.alone c.functions_in.result c.within_bound.result c.within_bound.ensures.err

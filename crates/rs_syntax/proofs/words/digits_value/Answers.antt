@@ -1,4 +1,4 @@
-use Rattle.std.proofs.Common.{◌≡◌, ◌+◌, ◌*◌, ap, sym, ◌∙◌, refl, get_or, arith}
+use Rattle.std.proofs.Common.{◌≡◌, ◌+◌, ◌*◌, ap, ◌∙◌, refl, get_or, arith}
 use Rattle.std.specs.Char.{digit_value}
 use Rattle.rs_tokens.proofs.IntegerLaws.{next_low}
 use Rattle.rs_syntax.proofs.Digits.{next_value}

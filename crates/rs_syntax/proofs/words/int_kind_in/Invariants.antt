@@ -1,5 +1,5 @@
 use Rattle.std.proofs.Common.{◌≡◌, map, drop}
-use Rattle.rs_syntax.specs.Words.{found_in, row_of}
+use Rattle.concrete_syntax.specs.Words.{found_in, row_of}
 use Rattle.rs_syntax.proofs.words.int_kind_in.Given as goal
 
 abbrev pub invariant-loop-row : goal.invariant-loop-row
