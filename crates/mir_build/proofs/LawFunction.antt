@@ -16,7 +16,8 @@ use Rattle.type_check.specs.TypedExpr.{TypedExpr}
 use Rattle.type_check.specs.TypedExprView.{ty_of, span_of}
 use Rattle.type_check.specs.WellTyped.{IsBuilt, AllBuilt, IsWellTyped, FunctionFits}
 use Rattle.mir_build.specs.Text.{Title, Line, Open, fresh, begun, made, owned}
-use Rattle.mir_build.specs.Lowering.{count, numbers, counted, paired, all_locals, labels_begun, local_name, entry_title, around_body, Around, IntoBody, of_outermost, of_other, LowersTo}
+use Rattle.mir_build.specs.Lowering.{numbers, counted, paired, all_locals, local_name, entry_title, around_body, Around, IntoBody, of_outermost, of_other, LowersTo}
+use Rattle.mir_build.proofs.Numbers.{count}
 use Rattle.mir_build.proofs.LawLists.{Has, here, there, has_left, has_right, has_count, count-append}
 use Rattle.mir_build.proofs.LawNames.{HoldsAll}
 use Rattle.mir_build.proofs.LawFlow.{Flows, In, flows, flows_rest}
@@ -27,6 +28,7 @@ use Rattle.mir_build.proofs.LawSets.{Scoped, laid, laid_rest}
 use Rattle.mir_build.proofs.LawTyped.{is_local, AreTyped, MadeFits, ScopeFits, scope_length}
 use Rattle.mir_build.proofs.LawTypes.{Callee, Known, typed, typed_rest}
 use Rattle.mir_build.proofs.LawInit.{set_of, agree, EachBlock, BlockFits, begun_fits, owned_not_there, block_at, Labelling, labelling}
+use Rattle.mir_build.proofs.OneBody.{labels_once, locals_once}
 use Rattle.mir_build.proofs.LawBlocks.{typed_at, BlockTyped, typed_blocks, has_block, end_typed}
 
 -- ---- numbers of parameters
@@ -118,7 +120,7 @@ module _ (owner : List ℕ) (f : TypedFunction) (b : Body) (gone : Initialised) 
   -- ---- layout
 
   pub body_once : Once (labels b.blocks)
-  body_once = subst Once (sym (ap labels l.blocks ∙ labels_of (fresh (entry_title b.entry)) l.text _)) l.labels_once
+  body_once = subst Once (sym (ap labels l.blocks ∙ labels_of (fresh (entry_title b.entry)) l.text _)) (labels_once owner f b gone l)
 
   body_titles : titles b.blocks ≡ entry_title b.entry ∷ begun l.text
   body_titles = ap titles l.blocks ∙ titles_of (fresh (entry_title b.entry)) l.text _
@@ -159,7 +161,7 @@ module _ (owner : List ℕ) (f : TypedFunction) (b : Body) (gone : Initialised) 
     once = λ x.
         let e : count x (numbers (paired 1 f.signature.params ++ made l.text)) ≡ count x (numbers (paired 1 f.signature.params)) + count x (numbers (made l.text)) =
         ap (count x) (numbers-append (paired 1 f.signature.params) (made l.text)) ∙ count-append x (numbers (paired 1 f.signature.params)) (numbers (made l.text)) in
-        omega (arith, e, weight_param x, l.locals_once x);
+        omega (arith, e, weight_param x, locals_once owner f b gone l x);
   }
 
   -- ---- the labelling
@@ -176,7 +178,7 @@ module _ (owner : List ℕ) (f : TypedFunction) (b : Body) (gone : Initialised) 
 
     starts_once : Once (labels_in starts)
     unfolding starts
-    starts_once = subst Once (sym (ap (λ ls. b.entry.0 ∷ ls) runs_from.are)) l.labels_once
+    starts_once = subst Once (sym (ap (λ ls. b.entry.0 ∷ ls) runs_from.are)) (labels_once owner f b gone l)
 
     agreed : Agree start starts
     unfolding start

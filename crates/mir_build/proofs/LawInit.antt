@@ -10,8 +10,9 @@ use Rattle.mir_ir.specs.declared.terminator.TerminatorKind.TheVariants.{Return}
 use Rattle.mir_ir.specs.Body.{block_in}
 use Rattle.mir_ir.specs.WellFormed.{Locals, CanRun, run, CanEnd, Carries, Within, parameters, IsInitialised}
 use Rattle.mir_build.specs.Text.{Title, Line, Puts, Makes, Turns, Owns, Open, fresh, longer, owned}
-use Rattle.mir_build.specs.Lowering.{count, ends}
+use Rattle.mir_build.specs.Lowering.{ends}
 use Rattle.text_core.specs.declared.span.Span.{Span}
+use Rattle.mir_build.proofs.Numbers.{count}
 use Rattle.mir_build.proofs.LawLists.{Has, here, there, differs, count_self}
 use Rattle.mir_build.proofs.LawNames.{HeadFits}
 use Rattle.mir_build.proofs.LawRuns.{HasNone, Runs, stops, puts, makes, turns, owns, Agree, labels_in}

@@ -9,7 +9,7 @@ use Rattle.mir_ir.specs.declared.terminator.Terminator.{Terminator}
 use Rattle.mir_ir.specs.Body.{block_in}
 use Rattle.mir_ir.specs.Layout.{among, targets, place_of, around_of, Enters, Leads, on, back, IsLaidOut}
 use Rattle.mir_build.specs.Text.{Title, Line, Puts, Makes, Turns, Owns, Open, fresh, longer, close, closed, left_open, begun}
-use Rattle.mir_build.specs.Lowering.{count}
+use Rattle.mir_build.proofs.Numbers.{count}
 use Rattle.mir_build.proofs.LawLists.{Has, here, there, differs, fewer, count_self}
 use Rattle.mir_build.proofs.LawFlow.{To, onward, back as backward, ToEach, Flows, at_end, puts, makes, turns, owns}
 

@@ -4,7 +4,8 @@ use Rattle.std.proofs.lemmas.Bool.{eqb-true, eq-eqb}
 use Rattle.std.proofs.lemmas.Bool.Decides.{nat_tests}
 use Rattle.logic_term.specs.Ty.{Ty}
 use Rattle.mir_build.specs.Text.{Title, Line, Puts, Makes, Turns, Owns, begun, made, owned}
-use Rattle.mir_build.specs.Lowering.{count, numbers, labels_begun}
+use Rattle.mir_build.specs.Lowering.{numbers}
+use Rattle.mir_build.proofs.Numbers.{count}
 
 pub data Has {A : Type 0} (x : A) : List A → Type 0 where
   here : {xs : List A} → Has x (x ∷ xs)

@@ -13,10 +13,12 @@ use Rattle.type_check.specs.VariableNames.{variable_name, answer_name}
 use Rattle.type_check.specs.WellTyped.{IsBuilt, AllBuilt, FunctionFits}
 use Rattle.mir_build.specs.Laws.{LocalsAreNamed}
 use Rattle.mir_build.specs.Text.{Line, Puts, Makes, Turns, Owns, made}
-use Rattle.mir_build.specs.Lowering.{count, numbers, counted, paired, all_locals, local_name, LowersTo}
+use Rattle.mir_build.specs.Lowering.{numbers, counted, paired, all_locals, local_name, LowersTo}
+use Rattle.mir_build.proofs.Numbers.{count}
 use Rattle.mir_build.proofs.LawLists.{Has, here, there}
 use Rattle.mir_build.proofs.LawTyped.{AreTyped, MadeFits}
 use Rattle.mir_build.proofs.LawTypes.{Callee}
+use Rattle.mir_build.proofs.OneBody.{locals_once}
 use Rattle.mir_build.proofs.LawFunction.{locals_fit, lines_typed}
 
 -- ---- names by number
@@ -209,7 +211,7 @@ module _ (owner : List ℕ) (f : TypedFunction) (b : Body) (gone : Initialised) 
 
     pub types_built : (x : ℕ) (t : Ty) → slice_get b.locals x ≡ Some t → IsBuilt t
     types_built x t e =
-        let n = each_counts (length b.locals) (numbers (all_locals f l.text)) (numbers_length (all_locals f l.text) ∙ sym l.all) below l.locals_once x (slice_get_within b.locals x t e) in
+        let n = each_counts (length b.locals) (numbers (all_locals f l.text)) (numbers_length (all_locals f l.text) ∙ sym l.all) below (locals_once owner f b gone l) x (slice_get_within b.locals x t e) in
         let w = counted_has x (all_locals f l.text) n in
         let q : w.0 ≡ t = some_same (sym ((locals_fit owner f b gone l).fits x w.0 w.1) ∙ e) in
         subst IsBuilt q (all_built.built x w.0 w.1)

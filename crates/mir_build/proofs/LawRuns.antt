@@ -15,7 +15,7 @@ use Rattle.mir_ir.specs.declared.terminator.TerminatorKind.{TerminatorKind}
 use Rattle.mir_ir.specs.declared.terminator.TerminatorKind.TheVariants.{Goto, If, Call, Return}
 use Rattle.mir_ir.specs.WellFormed.{Locals, with, without, taken, CanTake, CanTakeAll, all_taken, CanEvaluate, evaluated, CanRun, run, CanEnd, Carries, Within}
 use Rattle.mir_build.specs.Text.{Title, Line, Puts, Makes, Turns, Owns, begun}
-use Rattle.mir_build.specs.Lowering.{count, labels_begun}
+use Rattle.mir_build.proofs.Numbers.{count, labels_begun}
 use Rattle.mir_build.proofs.LawLists.{Has, here, there, begun-append, count_self}
 use Rattle.mir_build.proofs.LawNames.{HeadFits}
 

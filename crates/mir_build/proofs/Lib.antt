@@ -16,9 +16,13 @@ pub mod LawHeads
 pub mod LawsOfPrograms
 pub mod BodyTexts
 pub mod Clauses
+pub mod Following
 pub mod Numbers
+pub mod OneBody
+pub mod OneText
 pub mod Order
 pub mod Parts
 pub mod Rows
+pub mod Rowwise
 pub mod Runs
 pub mod Whole

@@ -1,14 +1,22 @@
 -- The numbered text begins each label from l on once, and makes the locals from t on in order.
-use Rattle.std.proofs.Common.{◌≡◌, refl, ap, ℕ, zero, suc, ◌+◌, ◌<◌, ◌≤◌, ◌==◌, Bool, true, false, cond, List, [], ◌∷◌, ◌++◌, length, eqb-true, add-zero, add-suc, arith}
+use Rattle.std.proofs.Common.{◌≡◌, refl, ap, ℕ, zero, suc, ◌+◌, ◌<◌, ◌≤◌, ◌==◌, Bool, true, false, cond, List, [], ◌∷◌, ◌++◌, map, length, eqb-true, add-zero, add-suc, arith}
 use Rattle.std.proofs.lemmas.Bool.Decides.{nat_tests}
 use Rattle.text_core.specs.declared.span.Span.{Span}
 use Rattle.rs_syntax.specs.declared.operator.LazyOp.TheVariants.{And, Or}
 use Rattle.type_check.specs.TypedExpr.{TypedExpr, TypedStmts, TypedExprs, integer, truth, variable, negative, denied, binary, lazy, assign, assign_value, update, update_value, call, block, branch, choice, repeat, done, last, bind, run, none, more}
-use Rattle.mir_build.specs.Text.{Line, Puts, Makes, Turns, Owns, begun, made}
-use Rattle.mir_build.specs.Lowering.{Around, binds, looping, dies_in, count, labels_begun}
+use Rattle.mir_build.specs.Text.{Title, Line, Puts, Makes, Turns, Owns, begun, made}
+use Rattle.mir_build.specs.Lowering.{Around, binds, looping, dies_in}
 use Rattle.mir_build.specs.Numbered.{into, rest, args, labels, labels_of, labels_in, locals, locals_of, locals_in, label}
 
 -- ---- labels
+
+-- how often x stands in the list
+abbrev pub count : ℕ → List ℕ → ℕ
+count x [] = 0
+count x (y ∷ ys) = cond (x == y) 1 0 + count x ys
+
+abbrev pub labels_begun : List Line → List ℕ
+labels_begun xs = map (λ (b : Title). b.label.0) (begun xs)
 
 -- 1 where x is y
 abbrev pub is : ℕ → ℕ → ℕ
@@ -116,14 +124,14 @@ count_begun l (Owns m ys ∷ xs) = count_begun l xs
 abbrev pub turns : List Line → ℕ
 turns xs = length (begun xs)
 
-turns-append : (xs ys : List Line) → turns (xs ++ ys) ≡ turns xs + turns ys
+pub turns-append : (xs ys : List Line) → turns (xs ++ ys) ≡ turns xs + turns ys
 turns-append [] ys = omega arith
 turns-append (Puts s ∷ xs) ys = turns-append xs ys
 turns-append (Makes y ty ∷ xs) ys = turns-append xs ys
 turns-append (Turns t b ∷ xs) ys = omega (arith, turns-append xs ys)
 turns-append (Owns l ns ∷ xs) ys = turns-append xs ys
 
-no_turns : (outer : Bool) (s : Span) (t : ℕ) → turns (dies_in outer s t) ≡ 0
+pub no_turns : (outer : Bool) (s : Span) (t : ℕ) → turns (dies_in outer s t) ≡ 0
 no_turns true s t = refl
 no_turns false s t = refl
 
@@ -199,6 +207,6 @@ mutual
   rest_making (bind e ss) outer s c l t d = simp makings-append (omega (arith, making e c l (t + 1) t, rest_making ss outer s (binds c t) (l + labels e) (t + 1 + locals e) d, none_made outer s t))
   rest_making (run e ss) outer s c l t d = simp makings-append (omega (arith, making e c l (t + 1) t, rest_making ss outer s c (l + labels e) (t + 1 + locals e) d))
 
-  args_making : (es : TypedExprs) (c : Around) (l t : ℕ) → makings (args es c l t) ≡ locals_in es
+  pub args_making : (es : TypedExprs) (c : Around) (l t : ℕ) → makings (args es c l t) ≡ locals_in es
   args_making none c l t = refl
   args_making (more e es) c l t = simp makings-append (omega (arith, making e c l (t + 1) t, args_making es c (l + labels e) (t + 1 + locals e)))

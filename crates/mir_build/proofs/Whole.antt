@@ -1,5 +1,5 @@
 -- What the builder has written is a lowered body.
-use Rattle.std.proofs.Common.{◌≡◌, refl, ap, sym, ◌∙◌, ℕ, zero, suc, ◌+◌, ◌^◌, ◌<◌, ◌≤◌, List, [], ◌∷◌, ◌++◌, map, get_or, length, length-append, Option, Some, None, append_assoc, append-nil, arith}
+use Rattle.std.proofs.Common.{◌≡◌, refl, ap, sym, ◌∙◌, ℕ, zero, suc, ◌+◌, ◌^◌, ◌<◌, ◌≤◌, List, [], ◌∷◌, ◌++◌, map, get_or, length, length-append, Option, Some, None, append_assoc, append-nil, subst, arith}
 use Rattle.std.specs.List.{slice_get}
 use Rattle.std.proofs.lemmas.Option.{slice_get_read}
 use Rattle.text_core.specs.Names.{text_of}
@@ -22,14 +22,15 @@ use Rattle.type_check.specs.WellTyped.{FunctionFits, EachFits, ProgramFits, sign
 use Rattle.mir_build.specs.declared.builder.BodyText.{BodyText}
 use Rattle.mir_build.specs.declared.builder.OpenBlock.{OpenBlock}
 use Rattle.mir_build.specs.Text.{Line, Puts, Makes, Turns, Owns, Open, fresh, longer, close, closed, left_open, made, owned}
-use Rattle.mir_build.specs.Lowering.{numbers, count, counted, entry_title, paired, all_locals, gone_at, around_body, LowersTo, LowerTo, no_functions, and_function, contract_of, HasMoreBlocks, ends, blocks_in}
+use Rattle.mir_build.specs.Lowering.{numbers, counted, named_body, entry_title, paired, all_locals, gone_at, around_body, LowersTo, LowerTo, no_functions, and_function, contract_of, HasMoreBlocks, ends, blocks_in}
 use Rattle.mir_build.specs.Numbered.{labels, label}
 use Rattle.mir_build.specs.Built.{written, ended}
 use Rattle.mir_build.specs.Whole.{text_of_body, built, body_of, FailsFor}
-use Rattle.mir_build.proofs.Numbers.{within, within_zero, within_split, within_one, within_once, count_begun, turns}
+use Rattle.mir_build.proofs.Numbers.{turns}
+use Rattle.mir_build.proofs.Following.{From, range_from, paired_from}
 use Rattle.mir_build.proofs.Order.{InOrder}
 use Rattle.mir_build.proofs.Rows.{lowers_body}
-use Rattle.mir_build.proofs.BodyTexts.{body_once, body_turned, body_in_order}
+use Rattle.mir_build.proofs.BodyTexts.{body_turned, body_in_order}
 
 -- ---- the parts of what is written
 
@@ -40,7 +41,7 @@ as_open o = record { label = o.title.label; nest = o.title.nest; head = o.title.
 abbrev text_at : List (Label × Block) → Open → List Ty → List (Point × List Place) → BodyText
 text_at bs o ts gs = record { blocks = bs; open_block = as_open o; locals = ts; gone = gs }
 
-abbrev types : List Line → List Ty
+abbrev pub types : List Line → List Ty
 types xs = map (λ (x : ℕ × Ty). x.1) (made xs)
 
 written_parts : (xs : List Line) (bs : List (Label × Block)) (o : Open) (ts : List Ty) (gs : List (Point × List Place))
@@ -65,10 +66,10 @@ paired-append n m [] ts q = let e : n ≡ m = omega (arith, q) in ap (λ k. pair
 paired-append n m (s ∷ ss) ts q = ap (λ xs. (n, s) ∷ xs) (paired-append (n + 1) m ss ts (omega (arith, q)))
 
 -- all locals of a body by number
-locals_paired : (f : TypedFunction) (xs : List Line) → InOrder (1 + length f.signature.params) xs → all_locals f xs ≡ paired 0 (f.signature.answer ∷ (f.signature.params ++ types xs))
+pub locals_paired : (f : TypedFunction) (xs : List Line) → InOrder (1 + length f.signature.params) xs → all_locals f xs ≡ paired 0 (f.signature.answer ∷ (f.signature.params ++ types xs))
 locals_paired f xs h = ap (λ ys. (0, f.signature.answer) ∷ ys) (ap (λ ys. paired 1 f.signature.params ++ ys) (made_paired _ xs h) ∙ sym (paired-append 1 (1 + length f.signature.params) f.signature.params (types xs) refl))
 
-length-paired : (n : ℕ) (ts : List Ty) → length (paired n ts) ≡ length ts
+pub length-paired : (n : ℕ) (ts : List Ty) → length (paired n ts) ≡ length ts
 length-paired n [] = refl
 length-paired n (t ∷ ts) = ap suc (length-paired (n + 1) ts)
 
@@ -87,13 +88,6 @@ get_paired n (s ∷ ts) (suc i) x t h = let r = get_paired (n + 1) ts i x t h in
 get_at : (ts : List Ty) (i x : ℕ) (t : Ty) → slice_get (paired 0 ts) i ≡ Some (x, t) → slice_get ts x ≡ Some t
 get_at ts i x t h = let r = get_paired 0 ts i x t h in let e : x ≡ i = omega (arith, r.0) in rw e r.1
 
-count_paired : (x n : ℕ) (ts : List Ty) → count x (numbers (paired n ts)) ≡ within n (length ts) x
-count_paired x n [] = within_zero n x
-count_paired x n (t ∷ ts) =
-    let e : suc (length ts) ≡ 1 + length ts = omega arith in
-    let q : count x (numbers (paired n (t ∷ ts))) ≡ within n (1 + length ts) x = omega (arith, count_paired x (n + 1) ts, within_split n 1 (length ts) (n + 1) x refl, within_one n x) in
-    q ∙ ap (λ k. within n k x) (sym e)
-
 -- ---- a whole body
 
 length-counted : {A : Type 0} (n : ℕ) (xs : List A) → length (counted n xs) ≡ length xs
@@ -111,15 +105,16 @@ lowered σ owner f w few =
     let text = text_of_body f in
     let parts = built_parts f in
     let order = body_in_order f.body (around_body f) 1 (1 + length f.signature.params) in
+    let row = lowers_body σ f.signature.params f.body (around_body f) 1 (1 + length f.signature.params) (is_for f) w.body in
     let all = locals_paired f text order in
     let ts : List Ty = f.signature.answer ∷ (f.signature.params ++ types text) in
     let same : (built f).locals ≡ ts = ap (λ (x : BodyText). x.locals) parts in
     record {
       text = text;
-      into = lowers_body σ f.signature.params f.body (around_body f) 1 (1 + length f.signature.params) (is_for f) w.body;
+      into = row.0;
       blocks = ap (λ (x : BodyText). x.blocks ++ ended x.open_block (ends (span_of f.body) Return) ∷ []) parts;
-      labels_once = λ l. omega (arith, count_begun l text, body_once f.body (around_body f) 1 (1 + length f.signature.params) l, within_split 0 1 (labels f.body) 1 l refl, within_one 0 l, within_once 0 (1 + labels f.body) l);
-      locals_once = λ x. omega (arith, ap (λ ys. count x (numbers ys)) all, count_paired x 0 ts, within_once 0 (length ts) x);
+      labels_in_order = range_from 0 (0 ∷ named_body row.0) (refl, row.1);
+      locals_in_order = range_from 0 (numbers (all_locals f text)) (subst (λ ms. From 0 (numbers ms)) (sym all) (paired_from 0 ts));
       locals = λ i x t h. ap (λ us. slice_get us x) same ∙ get_at ts i x t (sym (ap (λ ys. slice_get ys i) all) ∙ h);
       all = ap length same ∙ (sym (length-paired 0 ts) ∙ sym (ap length all));
       few = omega (arith, few);
@@ -132,7 +127,7 @@ lowered σ owner f w few =
 
 -- ---- how many blocks
 
-closed_turns : (xs : List Line) (o : Open) → length (closed o xs) ≡ turns xs
+pub closed_turns : (xs : List Line) (o : Open) → length (closed o xs) ≡ turns xs
 closed_turns [] o = refl
 closed_turns (Puts s ∷ xs) o = closed_turns xs (longer o s)
 closed_turns (Makes n t ∷ xs) o = closed_turns xs o
@@ -172,7 +167,7 @@ too_many p i f q h more w =
       place = i;
       is_function = slice_get_read p.functions (length p.functions) i f refl h q;
       text = text_of_body f;
-      into = lowers_body σ f.signature.params f.body (around_body f) 1 (1 + length f.signature.params) (is_for f) fits.body;
+      into = (lowers_body σ f.signature.params f.body (around_body f) 1 (1 + length f.signature.params) (is_for f) fits.body).0;
       more = more_blocks f more;
     }
 

@@ -1,5 +1,7 @@
--- What is true of each program that lowers, where it fits: the conditions under which true obligations make its bodies good.
-use Rattle.std.specs.Prelude.{◌≡◌, ℕ, ◌+◌, ◌^◌, true, false, List, length, drop, Some, slice_get}
+-- What is true of each program that lowers: it lowers in one way, and where it fits, the conditions hold under which true obligations
+-- make its bodies good.
+use Rattle.std.specs.Prelude.{◌≡◌, ℕ, ◌+◌, ◌^◌, ◌≤◌, true, false, List, length, drop, Some, slice_get}
+use Rattle.std.specs.List.{All}
 use Rattle.text_core.specs.declared.name.Name.{Name}
 use Rattle.logic_term.specs.declared.kinds.Label.{Label}
 use Rattle.logic_term.specs.declared.obligation.Contract.{Contract}
@@ -16,9 +18,10 @@ use Rattle.mir_ir.specs.Body.{block_in}
 use Rattle.mir_ir.specs.Layout.{IsLaidOut}
 use Rattle.mir_ir.specs.WellFormed.{AreSound, IsInitialised, Locals}
 use Rattle.type_check.specs.declared.program.TypedFunction.{TypedFunction}
+use Rattle.type_check.specs.declared.program.TypedProgram.{TypedProgram}
 use Rattle.type_check.specs.VariableNames.{variable_name, answer_name}
 use Rattle.type_check.specs.WellTyped.{IsBuilt, EachFits, signatures}
-use Rattle.mir_build.specs.Lowering.{LowerTo}
+use Rattle.mir_build.specs.Lowering.{LowerTo, HasMoreBlocks}
 
 -- no two locals have one name, and none has that of a variable, of the answer or of new values
 pub record LocalsAreNamed (b : Body) : Type 0 where
@@ -53,7 +56,18 @@ pub record ContractSpeaks (b : Body) (c : Contract) : Type 0 where
   pub over : (j : ℕ) (t : Term) → slice_get c.post j ≡ Some t → (x : Name) → free x t ≡ true → (x.0 ≡ c.answer.0 → ⊥) → IsOneOf x c.params
   pub spans : length (drop (length c.pre) c.spans) ≡ length c.post
 
--- ---- the laws
+-- ---- lowering determines what it gives
+
+abbrev pub ProgramsLowerInOneWay : Type 0
+ProgramsLowerInOneWay = (table : List (List ℕ)) (fs : List TypedFunction) (bs bs' : List Body) (cs cs' : List Contract) (gones gones' : List Initialised)
+    → LowerTo table fs bs cs gones → LowerTo table fs bs' cs' gones' → (bs ≡ bs') × (cs ≡ cs') × (gones ≡ gones')
+
+-- a program has more blocks than the bound only where some body that it lowers to has
+abbrev pub BlocksAreCounted : Type 0
+BlocksAreCounted = (table : List (List ℕ)) (p : TypedProgram) (bs : List Body) (cs : List Contract) (gones : List Initialised) (bound : ℕ)
+    → LowerTo table p.functions bs cs gones → All (λ (b : Body). length b.blocks ≤ bound) bs → HasMoreBlocks p bound → ⊥
+
+-- ---- the laws of programs that fit
 
 -- each function lowers to a body, a contract and gone places, and the functions fit
 pub record Lowers (table : List (List ℕ)) (fs : List TypedFunction) (bs : List Body) (cs : List Contract) (gones : List Initialised) : Type 0 where

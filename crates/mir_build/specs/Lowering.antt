@@ -1,7 +1,8 @@
--- Lowering: a row for each form of expression. Labels and temporaries are any numbers; in the text of a body each label begins one block and
--- each local is made once. The order of evaluation is that of the Rust Reference: operands from the left, the right side of an assignment
--- before its place, `&&` and `||` lazily.
-use Rattle.std.specs.Prelude.{◌≡◌, ℕ, ℤ, ◌+◌, ◌^◌, ◌<◌, ◌≤◌, ◌==◌, cond, max, Bool, true, false, List, [], ◌∷◌, ◌++◌, length, map, Some, None, slice_get}
+-- Lowering: a row for each form of expression, with any labels and temporaries, which a body has in the order of its rows: 0, 1 and so
+-- on. The order of evaluation is that of the Rust Reference: operands from the left, the right side of an assignment before its place,
+-- `&&` and `||` lazily.
+use Rattle.std.specs.Prelude.{◌≡◌, ℕ, ℤ, ◌+◌, ◌^◌, ◌<◌, ◌≤◌, max, Bool, true, false, List, [], ◌∷◌, ◌++◌, length, map, Some, None, slice_get}
+use Rattle.std.specs.List.{range_with_len}
 use Rattle.text_core.specs.declared.name.Name.{Name}
 use Rattle.text_core.specs.declared.span.Span.{Span}
 use Rattle.text_core.specs.Names.{text_of}
@@ -199,6 +200,47 @@ pub data IntoBody : Around → TypedExpr → List Line → Type 0 where
   of_outermost : {c : Around} {ty : Ty} {s : Span} {ss : TypedStmts} {xs : List Line} → Rest c true s ss 0 xs → IntoBody c (block ty s ss) xs
   of_other : {c : Around} {e : TypedExpr} {xs : List Line} → is_block e ≡ false → Into c e 0 xs → IntoBody c e xs
 
+-- ---- the order of labels
+
+-- the labels that the rows name, in the order of the rows: those of the operand that is evaluated first, those of the row itself, and
+-- those of its other parts; a loop's own labels come first
+abbrev mutual
+  pub named : {c : Around} {e : TypedExpr} {d : ℕ} {xs : List Line} → Into c e d xs → List ℕ
+  named of_integer = []
+  named of_truth = []
+  named (of_variable x q) = []
+  named (of_negative p) = named p
+  named (of_denied p) = named p
+  named (of_binary p q) = named p ++ named q
+  named (of_lazy yes' no' after p q) = named p ++ yes'.0 ∷ no'.0 ∷ after.0 ∷ named q
+  named (of_assign x q p) = named p
+  named (of_assign_value p q) = named p ++ named q
+  named (of_update x u q p) = named p
+  named (of_update_value u p q) = named p ++ named q
+  named (of_call after p) = named_args p ++ after.0 ∷ []
+  named (of_block p) = named_rest p
+  named (of_branch yes' no' after p q) = named p ++ yes'.0 ∷ no'.0 ∷ after.0 ∷ named q
+  named (of_choice yes' no' after p q r) = named p ++ yes'.0 ∷ no'.0 ∷ after.0 ∷ (named q ++ named r)
+  named (of_repeat head body after p q) = head.0 ∷ body.0 ∷ after.0 ∷ (named p ++ named q)
+
+  pub named_rest : {c : Around} {outer : Bool} {s : Span} {ss : TypedStmts} {d : ℕ} {xs : List Line} → Rest c outer s ss d xs → List ℕ
+  named_rest of_done = []
+  named_rest (of_last p) = named p
+  named_rest (of_bind p q) = named p ++ named_rest q
+  named_rest (of_run p q) = named p ++ named_rest q
+
+  pub named_args : {c : Around} {es : TypedExprs} {ts : List ℕ} {xs : List Line} → Args c es ts xs → List ℕ
+  named_args of_none = []
+  named_args (of_more p q) = named p ++ named_args q
+
+abbrev pub named_body : {c : Around} {e : TypedExpr} {xs : List Line} → IntoBody c e xs → List ℕ
+named_body (of_outermost p) = named_rest p
+named_body (of_other q p) = named p
+
+-- 0, 1 and so on
+abbrev pub AreInOrder : List ℕ → Type 0
+AreInOrder ns = ns ≡ range_with_len 0 (length ns)
+
 -- ---- functions
 
 -- n, n + 1 and so on, so many
@@ -228,14 +270,6 @@ contract_of f = record {
   spans = map formula_span (formulas_of Requires f.clauses) ++ map formula_span (formulas_of Ensures f.clauses);
 }
 
--- how often x stands in the list
-abbrev pub count : ℕ → List ℕ → ℕ
-count x [] = 0
-count x (y ∷ ys) = cond (x == y) 1 0 + count x ys
-
-abbrev pub labels_begun : List Line → List ℕ
-labels_begun xs = map (λ (b : Title). b.label.0) (begun xs)
-
 abbrev pub entry_title : Label → Title
 entry_title l = record { label = l; nest = []; head = None }
 
@@ -261,9 +295,10 @@ pub record LowersTo (owner : List ℕ) (f : TypedFunction) (b : Body) (gone : In
   pub text : List Line
   pub into : IntoBody (around_body f) f.body text
   pub blocks : b.blocks ≡ closed (fresh (entry_title b.entry)) text ++ close (left_open (fresh (entry_title b.entry)) text) (ends (span_of f.body) Return) ∷ []
-  -- each label begins one block, and each local is made once
-  pub labels_once : (l : ℕ) → count l (b.entry.0 ∷ labels_begun text) ≤ 1
-  pub locals_once : (x : ℕ) → count x (numbers (all_locals f text)) ≤ 1
+  -- the entry has label 0, and the rows name the labels 1, 2 and so on
+  pub labels_in_order : AreInOrder (b.entry.0 ∷ named_body into)
+  -- the answer is local 0, and the parameters and the locals that the text makes are the locals 1, 2 and so on
+  pub locals_in_order : AreInOrder (numbers (all_locals f text))
   pub locals : (i x : ℕ) (t : Ty) → slice_get (all_locals f text) i ≡ Some (x, t) → slice_get b.locals x ≡ Some t
   pub all : length b.locals ≡ length (all_locals f text)
   -- locals have numbers of 32 bits

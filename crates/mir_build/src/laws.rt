@@ -1,5 +1,15 @@
-//! What is true of each program that lowers, where it fits.
-ghost use Rattle.mir_build.specs.Laws.{BodiesAreLaidOut, BodiesAreSound, ContractsSpeakOfParameters, HeadsSpeakOfWhatIsThere, LocalsHaveBuiltTypes, LocalsHaveNames};
+//! What is true of each program that lowers, and of each one that fits too.
+ghost use Rattle.mir_build.specs.Laws.{BlocksAreCounted, BodiesAreLaidOut, BodiesAreSound, ContractsSpeakOfParameters, HeadsSpeakOfWhatIsThere, LocalsHaveBuiltTypes, LocalsHaveNames, ProgramsLowerInOneWay};
+
+/// Two lowerings of a program have the same bodies, contracts and gone places.
+pub fn programs_lower_in_one_way()
+    ensures { ProgramsLowerInOneWay }
+{}
+
+/// Where no body has more blocks than the bound, the text of no function has.
+pub fn blocks_are_counted()
+    ensures { BlocksAreCounted }
+{}
 
 /// The bodies are typed, and each local that is read is initialised.
 pub fn lowered_bodies_are_sound()

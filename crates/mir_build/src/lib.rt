@@ -14,8 +14,9 @@ mod stop;
 mod tests;
 
 pub use laws::{
-    lowered_bodies_are_laid_out, lowered_bodies_are_sound, lowered_contracts_speak_of_parameters,
-    lowered_heads_speak_of_what_is_there,
+    blocks_are_counted, lowered_bodies_are_laid_out, lowered_bodies_are_sound,
+    lowered_contracts_speak_of_parameters, lowered_heads_speak_of_what_is_there,
+    programs_lower_in_one_way,
 };
 pub use lowered::Lowered;
 pub use program::lower;

@@ -1,0 +1,139 @@
+-- By the rows: a text whose labels and locals are in order is the numbered one.
+use Rattle.std.proofs.Common.{◌≡◌, refl, ap, sym, ◌∙◌, ℕ, ◌+◌, Bool, true, false, List, [], ◌∷◌, ◌++◌, map, Some, slice_get, arith, true≢false}
+use Rattle.std.proofs.lemmas.Option.{get_or_from_slice_get}
+use Rattle.text_core.specs.declared.span.Span.{Span}
+use Rattle.mir_ir.specs.declared.statement.Rvalue.TheVariants.{Use, Binary, Neg, Not}
+use Rattle.mir_ir.specs.declared.terminator.FnId.TheVariants as fn_id
+use Rattle.mir_ir.specs.declared.terminator.Callee.TheVariants.{Function}
+use Rattle.mir_ir.specs.declared.terminator.TerminatorKind.TheVariants.{Goto, If, Call}
+use Rattle.type_check.specs.TypedExpr.{TypedExpr, TypedStmts, TypedExprs, block}
+use Rattle.type_check.specs.TypedExprView.{ty_of}
+use Rattle.mir_build.specs.Text.{Line, Makes, Turns, Owns, made}
+use Rattle.mir_build.specs.Lowering.{Around, binds, looping, at, at_head, head_of, whole, puts, put_unit, copied, moved, ends, dies_in, numbers, where_true, where_false, Into, of_integer, of_truth, of_variable, of_negative, of_denied, of_binary, of_lazy, of_assign, of_assign_value, of_update, of_update_value, of_call, of_block, of_branch, of_choice, of_repeat, Rest, of_done, of_last, of_bind, of_run, Args, of_none, of_more, IntoBody, of_outermost, of_other, is_block, named, named_rest, named_args, named_body}
+use Rattle.mir_build.specs.Numbered.{into, rest, args, body_text, labels, locals, locals_in, temporaries, label, local_of}
+use Rattle.mir_build.proofs.Numbers.{makings, making, args_making}
+use Rattle.mir_build.proofs.Order.{InOrder, numbers_of}
+use Rattle.mir_build.proofs.Rows.{own_locals}
+use Rattle.mir_build.proofs.Following.{From, from_left, three, order_left, order_right, order_lazy}
+use Rattle.mir_build.proofs.Rowwise.{labels_behind, labels_behind_args}
+
+-- the local of a variable in scope
+found : (scope : List ℕ) (v x : ℕ) → slice_get scope v ≡ Some x → x ≡ local_of scope v
+found scope v x q = sym (get_or_from_slice_get scope v x 0 q)
+
+-- the locals behind those of an expression's text
+behind : (e : TypedExpr) (c : Around) (l t d : ℕ) (xs ys : List Line) → xs ≡ into e c l t d → InOrder t (xs ++ ys) → InOrder (t + locals e) ys
+behind e c l t d xs ys q h = order_right t (t + locals e) xs ys (omega (arith, ap makings q, making e c l t d)) h
+
+behind_args : (es : TypedExprs) (c : Around) (l t : ℕ) (xs ys : List Line) → xs ≡ args es c l t → InOrder t (xs ++ ys) → InOrder (t + locals_in es) ys
+behind_args es c l t xs ys q h = order_right t (t + locals_in es) xs ys (omega (arith, ap makings q, args_making es c l t)) h
+
+mutual
+  one_text : (c : Around) (e : TypedExpr) (d : ℕ) (xs : List Line) (p : Into c e d xs) (l t : ℕ) → From l (named p) → InOrder t xs → xs ≡ into e c l t d
+  one_text c e d xs of_integer l t n o = refl
+  one_text c e d xs of_truth l t n o = refl
+  one_text c e d xs (of_variable {s = s} {v = v} x q) l t n o = λ i. puts s d (Use (copied (found c.scope v x q i))) ∷ []
+  one_text c e d xs (of_negative {s = s} {e = a} {t = t'} {xs = us} p) l t n o =
+      let x = one_text c a t' us p l (t + 1) n (order_left (t + 1) us _ o.1) ∙ ap (into a c l (t + 1)) o.0 in
+      λ i. Makes (o.0 i) (ty_of a) ∷ (x i ++ puts s d (Neg (copied (o.0 i))) ∷ [])
+  one_text c e d xs (of_denied {s = s} {e = a} {t = t'} {xs = us} p) l t n o =
+      let x = one_text c a t' us p l (t + 1) n (order_left (t + 1) us _ o.1) ∙ ap (into a c l (t + 1)) o.0 in
+      λ i. Makes (o.0 i) (ty_of a) ∷ (x i ++ puts s d (Not (copied (o.0 i))) ∷ [])
+  one_text c e d xs (of_binary {s = s} {op = op} {a = a} {b = b} {t = t'} {u = u'} {xs = us} {ys = vs} p q) l t n o =
+      let x = one_text c a t' us p l (t + 1) (from_left l (named p) (named q) n) (order_left (t + 1) us _ o.1) ∙ ap (into a c l (t + 1)) o.0 in
+      let r = behind a c l (t + 1) t us _ x o.1 in
+      let u = t + 1 + locals a in
+      let y = one_text c b u' vs q (l + labels a) (u + 1) (labels_behind p l (named q) n) (order_left (u + 1) vs _ r.1) ∙ ap (into b c (l + labels a) (u + 1)) r.0 in
+      λ i. Makes (o.0 i) (ty_of a) ∷ (x i ++ Makes (r.0 i) (ty_of b) ∷ (y i ++ puts s d (Binary op (copied (o.0 i)) (copied (r.0 i))) ∷ []))
+  one_text c e d xs (of_lazy {s = s} {op = op} {a = a} {b = b} {t = t'} yes' no' after {xs = us} {ys = vs} p q) l t n o =
+      let m = l + labels a in
+      let k = three m yes'.0 no'.0 after.0 (named q) (labels_behind p l (yes'.0 ∷ no'.0 ∷ after.0 ∷ named q) n) in
+      let x = one_text c a t' us p l (t + 1) (from_left l (named p) _ n) (order_left (t + 1) us _ o.1) ∙ ap (into a c l (t + 1)) o.0 in
+      let u = t + 1 + locals a in
+      let y = one_text c b d vs q (m + 3) u k.3 (order_lazy op s d u vs _ _ _ _ (behind a c l (t + 1) t us _ x o.1)) in
+      λ i. Makes (o.0 i) (ty_of a) ∷ (x i ++ Turns (ends s (If (copied (o.0 i)) (label (k.0 i)) (label (k.1 i)))) (at c (label (k.0 i))) ∷ (where_true op s d (y i)
+      ++ Turns (ends s (Goto (label (k.2 i)))) (at c (label (k.1 i))) ∷ (where_false op s d (y i) ++ Turns (ends s (Goto (label (k.2 i)))) (at c (label (k.2 i))) ∷ [])))
+  one_text c e d xs (of_assign {s = s} {v = v} {e = a} {t = t'} z {xs = us} q p) l t n o =
+      let x = one_text c a t' us p l (t + 1) n (order_left (t + 1) us _ o.1) ∙ ap (into a c l (t + 1)) o.0 in
+      λ i. Makes (o.0 i) (ty_of a) ∷ (x i ++ puts s (found c.scope v z q i) (Use (moved (o.0 i))) ∷ put_unit s d ∷ [])
+  one_text c e d xs (of_assign_value {s = s} {a = b} {e = a} {t = t'} {u = u'} {xs = us} {ys = vs} p q) l t n o =
+      let x = one_text c a t' us p l (t + 1) (from_left l (named p) (named q) n) (order_left (t + 1) us _ o.1) ∙ ap (into a c l (t + 1)) o.0 in
+      let r = behind a c l (t + 1) t us _ x o.1 in
+      let u = t + 1 + locals a in
+      let y = one_text c b u' vs q (l + labels a) (u + 1) (labels_behind p l (named q) n) (order_left (u + 1) vs _ r.1) ∙ ap (into b c (l + labels a) (u + 1)) r.0 in
+      λ i. Makes (o.0 i) (ty_of a) ∷ (x i ++ Makes (r.0 i) (ty_of b) ∷ (y i ++ puts s (r.0 i) (Use (moved (o.0 i))) ∷ put_unit s d ∷ []))
+  one_text c e d xs (of_update {s = s} {op = op} {v = v} {e = a} {t = t'} z u' {xs = us} q p) l t n o =
+      let x = one_text c a t' us p l (t + 1) n (order_left (t + 1) us _ o.1) ∙ ap (into a c l (t + 1)) o.0 in
+      let r = behind a c l (t + 1) t us _ x o.1 in
+      λ i. Makes (o.0 i) (ty_of a) ∷ (x i ++ Makes (r.0 i) (ty_of a) ∷ puts s (r.0 i) (Binary op (copied (found c.scope v z q i)) (copied (o.0 i))) ∷ puts s (found c.scope v z q i) (Use (moved (r.0 i))) ∷ put_unit s d ∷ [])
+  one_text c e d xs (of_update_value {s = s} {op = op} {a = b} {e = a} {t = t'} {p = w'} u' {xs = us} {ys = vs} p q) l t n o =
+      let x = one_text c a t' us p l (t + 1) (from_left l (named p) (named q) n) (order_left (t + 1) us _ o.1) ∙ ap (into a c l (t + 1)) o.0 in
+      let r = behind a c l (t + 1) t us _ x o.1 in
+      let w = t + 1 + locals a in
+      let y = one_text c b w' vs q (l + labels a) (w + 1) (labels_behind p l (named q) n) (order_left (w + 1) vs _ r.1) ∙ ap (into b c (l + labels a) (w + 1)) r.0 in
+      let k = behind b c (l + labels a) (w + 1) w vs _ y r.1 in
+      λ i. Makes (o.0 i) (ty_of a) ∷ (x i ++ Makes (r.0 i) (ty_of b) ∷ (y i ++ Makes (k.0 i) (ty_of a) ∷ puts s (k.0 i) (Binary op (copied (r.0 i)) (copied (o.0 i))) ∷ puts s (r.0 i) (Use (moved (k.0 i))) ∷ put_unit s d ∷ []))
+  one_text c e d xs (of_call {s = s} {f = f} {es = es} {ts = ts} after {xs = us} p) l t n o =
+      let w = one_args c es ts us p l t (from_left l (named_args p) _ n) (order_left t us _ o) in
+      let k = labels_behind_args p l (after.0 ∷ []) n in
+      λ i. w.1 i ++ Turns (ends s (Call (whole d) (Function (fn_id.Body f)) (map copied (w.0 i)) (label (k.0 i)))) (at c (label (k.0 i))) ∷ []
+  one_text c e d xs (of_block p) l t n o = one_rest c false _ _ d xs p l t n o
+  one_text c e d xs (of_branch {s = s} {e = a} {a = b} {t = t'} yes' no' after {xs = us} {ys = vs} p q) l t n o =
+      let m = l + labels a in
+      let k = three m yes'.0 no'.0 after.0 (named q) (labels_behind p l (yes'.0 ∷ no'.0 ∷ after.0 ∷ named q) n) in
+      let x = one_text c a t' us p l (t + 1) (from_left l (named p) _ n) (order_left (t + 1) us _ o.1) ∙ ap (into a c l (t + 1)) o.0 in
+      let u = t + 1 + locals a in
+      let y = one_text c b d vs q (m + 3) u k.3 (order_left u vs _ (behind a c l (t + 1) t us _ x o.1)) in
+      λ i. Makes (o.0 i) (ty_of a) ∷ (x i ++ Turns (ends s (If (copied (o.0 i)) (label (k.0 i)) (label (k.1 i)))) (at c (label (k.0 i))) ∷ (y i
+      ++ Turns (ends s (Goto (label (k.2 i)))) (at c (label (k.1 i))) ∷ put_unit s d ∷ Turns (ends s (Goto (label (k.2 i)))) (at c (label (k.2 i))) ∷ []))
+  one_text c e d xs (of_choice {s = s} {e = a} {a = b} {b = b'} {t = t'} yes' no' after {xs = us} {ys = vs} {zs = ws} p q r) l t n o =
+      let m = l + labels a in
+      let k = three m yes'.0 no'.0 after.0 (named q ++ named r) (labels_behind p l (yes'.0 ∷ no'.0 ∷ after.0 ∷ (named q ++ named r)) n) in
+      let x = one_text c a t' us p l (t + 1) (from_left l (named p) _ n) (order_left (t + 1) us _ o.1) ∙ ap (into a c l (t + 1)) o.0 in
+      let u = t + 1 + locals a in
+      let g = behind a c l (t + 1) t us _ x o.1 in
+      let y = one_text c b d vs q (m + 3) u (from_left (m + 3) (named q) (named r) k.3) (order_left u vs _ g) in
+      let z = one_text c b' d ws r (m + 3 + labels b) (u + locals b) (labels_behind q (m + 3) (named r) k.3) (order_left (u + locals b) ws _ (behind b c (m + 3) u d vs _ y g)) in
+      λ i. Makes (o.0 i) (ty_of a) ∷ (x i ++ Turns (ends s (If (copied (o.0 i)) (label (k.0 i)) (label (k.1 i)))) (at c (label (k.0 i))) ∷ (y i
+      ++ Turns (ends s (Goto (label (k.2 i)))) (at c (label (k.1 i))) ∷ (z i ++ Turns (ends s (Goto (label (k.2 i)))) (at c (label (k.2 i))) ∷ [])))
+  one_text c e d xs (of_repeat {s = s} {is = is} {e = a} {b = b} {t = t'} {u = u'} head body after {xs = us} {ys = vs} p q) l t n o =
+      let k = three l head.0 body.0 after.0 (named p ++ named q) n in
+      let inside = looping c (label l) in
+      let x = one_text (looping c head) a t' us p (l + 3) (t + 1) (from_left (l + 3) (named p) (named q) k.3) (order_left (t + 1) us _ o.1) ∙ (λ i. into a (looping c (label (k.0 i))) (l + 3) (t + 1) (o.0 i)) in
+      let r = behind a inside (l + 3) (t + 1) t us _ x o.1 in
+      let u = t + 1 + locals a in
+      let y = one_text (looping c head) b u' vs q (l + 3 + labels a) (u + 1) (labels_behind p (l + 3) (named q) k.3) (order_left (u + 1) vs _ r.1) ∙ (λ i. into b (looping c (label (k.0 i))) (l + 3 + labels a) (u + 1) (r.0 i)) in
+      let own = (λ i. o.0 i ∷ (numbers (made (x i)) ++ r.0 i ∷ numbers (made (y i)))) ∙ own_locals t (locals a) (locals b) _ _ (numbers_of a inside (l + 3) (t + 1) t) (numbers_of b inside (l + 3 + labels a) (u + 1) u) in
+      λ i. Turns (ends s (Goto (label (k.0 i)))) (at_head (looping c (label (k.0 i))) (label (k.0 i)) (head_of c is)) ∷ Makes (o.0 i) (ty_of a) ∷ (x i
+      ++ Turns (ends s (If (copied (o.0 i)) (label (k.1 i)) (label (k.2 i)))) (at (looping c (label (k.0 i))) (label (k.1 i))) ∷ Makes (r.0 i) (ty_of b)
+      ∷ (y i ++ Turns (ends s (Goto (label (k.0 i)))) (at c (label (k.2 i))) ∷ Owns (label (k.0 i)) (own i) ∷ put_unit s d ∷ []))
+
+  one_rest : (c : Around) (outer : Bool) (s : Span) (ss : TypedStmts) (d : ℕ) (xs : List Line) (p : Rest c outer s ss d xs) (l t : ℕ) → From l (named_rest p) → InOrder t xs → xs ≡ rest ss outer s c l t d
+  one_rest c outer s ss d xs of_done l t n o = refl
+  one_rest c outer s ss d xs (of_last p) l t n o = one_text c _ d xs p l t n o
+  one_rest c outer s ss d xs (of_bind {e = a} {ss = ss'} {t = t'} {xs = us} {ys = vs} p q) l t n o =
+      let x = one_text c a t' us p l (t + 1) (from_left l (named p) (named_rest q) n) (order_left (t + 1) us _ o.1) ∙ ap (into a c l (t + 1)) o.0 in
+      let u = t + 1 + locals a in
+      let y = one_rest (binds c t') outer s ss' d vs q (l + labels a) u (labels_behind p l (named_rest q) n) (order_left u vs _ (behind a c l (t + 1) t us _ x o.1)) ∙ (λ i. rest ss' outer s (binds c (o.0 i)) (l + labels a) u d) in
+      λ i. Makes (o.0 i) (ty_of a) ∷ (x i ++ (y i ++ dies_in outer s (o.0 i)))
+  one_rest c outer s ss d xs (of_run {e = a} {ss = ss'} {t = t'} {xs = us} {ys = vs} p q) l t n o =
+      let x = one_text c a t' us p l (t + 1) (from_left l (named p) (named_rest q) n) (order_left (t + 1) us _ o.1) ∙ ap (into a c l (t + 1)) o.0 in
+      let u = t + 1 + locals a in
+      let y = one_rest c outer s ss' d vs q (l + labels a) u (labels_behind p l (named_rest q) n) (behind a c l (t + 1) t us vs x o.1) in
+      λ i. Makes (o.0 i) (ty_of a) ∷ (x i ++ y i)
+
+  one_args : (c : Around) (es : TypedExprs) (ts : List ℕ) (xs : List Line) (p : Args c es ts xs) (l t : ℕ) → From l (named_args p) → InOrder t xs → (ts ≡ temporaries es t) × (xs ≡ args es c l t)
+  one_args c es ts xs of_none l t n o = (refl, refl)
+  one_args c es ts xs (of_more {e = a} {es = es'} {t = t'} {ts = ts'} {xs = us} {ys = vs} p q) l t n o =
+      let x = one_text c a t' us p l (t + 1) (from_left l (named p) (named_args q) n) (order_left (t + 1) us _ o.1) ∙ ap (into a c l (t + 1)) o.0 in
+      let w = one_args c es' ts' vs q (l + labels a) (t + 1 + locals a) (labels_behind p l (named_args q) n) (behind a c l (t + 1) t us vs x o.1) in
+      (λ i. o.0 i ∷ w.0 i, λ i. Makes (o.0 i) (ty_of a) ∷ (x i ++ w.1 i))
+
+-- of an expression that is no block
+not_block : (e : TypedExpr) (c : Around) (l t : ℕ) → is_block e ≡ false → into e c l t 0 ≡ body_text e c l t
+not_block (block ty s ss) c l t q = absurd (true≢false q)
+not_block e c l t q = refl
+
+pub one_body_text : (c : Around) (e : TypedExpr) (xs : List Line) (p : IntoBody c e xs) (l t : ℕ) → From l (named_body p) → InOrder t xs → xs ≡ body_text e c l t
+one_body_text c e xs (of_outermost p) l t n o = one_rest c true _ _ 0 xs p l t n o
+one_body_text c e xs (of_other q p) l t n o = one_text c e 0 xs p l t n o ∙ not_block e c l t q
