@@ -85,9 +85,9 @@ file_read bytes said f =
     ∙ (proofs_by f.lines [] f.are_lines refl ∙ ap (λ r. and_then r (proofs_at_end (length f.lines + 1) [])) (form_run f.lines said f.form))
 
 -- where the lines may end
-record Ends (state : Result State ℕ) (rest : List ℕ) (said : List SaidProof) : Type 0 where
-  none : rest ≡ []
-  last : state ≡ Ok (between said)
+pub record Ends (state : Result State ℕ) (rest : List ℕ) (said : List SaidProof) : Type 0 where
+  pub none : rest ≡ []
+  pub last : state ≡ Ok (between said)
 
 ends_at : (s : State) (n : ℕ) (rest : List ℕ) (said : List SaidProof) → proofs_at_end n rest s ≡ Ok said → Ends (Ok s) rest said
 ends_at (between ps) n [] said e = let same : ps ≡ said = cc in record { none = refl; last = ap (λ l. Ok (between l)) same }
@@ -97,7 +97,7 @@ ends_at start n (b ∷ bs) said e = absurd (cc)
 ends_at (between ps) n (b ∷ bs) said e = absurd (cc)
 ends_at (within ps k o done) n (b ∷ bs) said e = absurd (cc)
 
-ends_by : (r : Result State ℕ) (n : ℕ) (rest : List ℕ) (said : List SaidProof) → and_then r (proofs_at_end n rest) ≡ Ok said → Ends r rest said
+pub ends_by : (r : Result State ℕ) (n : ℕ) (rest : List ℕ) (said : List SaidProof) → and_then r (proofs_at_end n rest) ≡ Ok said → Ends r rest said
 ends_by (Ok s) n rest said e = ends_at s n rest said e
 ends_by (Err m) n rest said e = absurd (cc)
 

@@ -1,32 +1,39 @@
 -- A text has one reading.
-use Rattle.std.proofs.Common.{◌≡◌, ℕ, List, [], ◌∷◌, map, Some, Result, Ok, Err, ◌⊎◌, inl, inr, refl, sym, ◌∙◌, ap, subst}
-use Rattle.std.specs.Prelude.{IfOk, IsOk}
+use Rattle.std.proofs.Common.{◌≡◌, ℕ, List, [], ◌∷◌, ◌++◌, map, Some, Result, Ok, Err, ◌⊎◌, inl, inr, refl, sym, ◌∙◌, ap, subst}
+use Rattle.std.specs.Prelude.{IfOk, OnOk, IsOk}
 use Rattle.logic_term.specs.declared.kinds.Label2.{Label2}
 use Rattle.proof_kernel.specs.declared.step.Multiple.{Multiple}
 use Rattle.proof_kernel.specs.declared.step.Step.{Step}
 use Rattle.proof_kernel.specs.declared.step.Step.TheVariants.{Intro, Hyp, Split, Range, Lin}
-use Rattle.text_core.specs.Names.{text_of}
+use Rattle.text_core.specs.Names.{words, text_of, HaveOnePlace}
 use Rattle.text_core.specs.declared.name.Name.{Name}
+use Rattle.name_tables.specs.NameTables.{with_names}
+use Rattle.name_tables.proofs.Tables.{one_place_each, one_name}
 use Rattle.proof_text.specs.declared.fault.ProofTextError.{ProofTextError}
 use Rattle.proof_text.specs.declared.fault.ProofTextError.TheVariants as errors
 use Rattle.proof_text.specs.declared.proof.NumberedStep.{NumberedStep}
 use Rattle.proof_text.specs.declared.proof.Proof.{Proof}
 use Rattle.proof_text.specs.declared.proof.ProofFile.{ProofFile}
 use Rattle.proof_text.specs.ProofTextLines.{Said, intro, hyp, split, range, lin, Says}
-use Rattle.proof_text.specs.ProofFileForm.{SaidStep, SaidProof, Each, SaysStep, SaysProof, IsFileOf, SpellsProofs, IsFirstBadLine}
+use Rattle.proof_text.specs.ProofFileForm.{SaidStep, SaidProof, Each, SaysStep, SaysProof, texts_in, IsFileOf, SpellsProofs, HasNamesOf, IsFirstBadLine}
 use Rattle.proof_text.specs.ProofTextFile.{proofs_of}
-use Rattle.proof_text.specs.ProofTextLaws.{HasOneNameEach, HasOneReading}
+use Rattle.proof_text.specs.ProofTextLaws.{HasOneReading, IsSpelledOnce}
 use Rattle.proof_text.proofs.EndLemmas.{ReadsAs}
 use Rattle.proof_text.proofs.FormBytes.{file_read, read_file, bad_read, read_bad}
 
 -- ---- what is read has the format
 
-pub ok_form : (table : List (List ℕ)) (bytes : List ℕ) (r : Result ProofFile ProofTextError) → IfOk r (λ file. ReadsAs table bytes file) → IfOk r (λ file. SpellsProofs table bytes file)
-ok_form table bytes (Ok file) h = (h.0, read_file bytes h.0 h.1, h.2)
-ok_form table bytes (Err e) h = tt
+-- what was read from the old table to the new one, and the names that it was given
+pub ok_form : (old new : List (List ℕ)) (bytes : List ℕ) (r : Result ProofFile ProofTextError) → IfOk r (λ file. ReadsAs new bytes file) → ((said : List SaidProof) → proofs_of bytes ≡ Ok said → OnOk r (new ≡ with_names old (texts_in said))) → IfOk r (λ file. SpellsProofs old bytes file)
+ok_form old new bytes (Ok file) h named = (h.0, read_file bytes h.0 h.1, subst (λ (table : List (List ℕ)). Each (SaysProof table) h.0 file.proofs) (named h.0 h.1) h.2)
+ok_form old new bytes (Err e) h named = tt
 
-pub none_form : (table : List (List ℕ)) (bytes : List ℕ) (n : ℕ) (file : ProofFile) → proofs_of bytes ≡ Err n → SpellsProofs table bytes file → ⊥
-none_form table bytes n file bad spells = let said : proofs_of bytes ≡ Ok spells.0 = file_read bytes spells.0 spells.1 in cc
+pub named_form : (old new : List (List ℕ)) (bytes : List ℕ) (r : Result ProofFile ProofTextError) → ((said : List SaidProof) → proofs_of bytes ≡ Ok said → OnOk r (new ≡ with_names old (texts_in said))) → OnOk r (HasNamesOf old bytes new)
+named_form old new bytes (Ok file) named = λ said is. named said (file_read bytes said is)
+named_form old new bytes (Err e) named = tt
+
+pub none_form : (old : List (List ℕ)) (bytes : List ℕ) (n : ℕ) (file : ProofFile) → proofs_of bytes ≡ Err n → SpellsProofs old bytes file → ⊥
+none_form old bytes n file bad spells = let said : proofs_of bytes ≡ Ok spells.0 = file_read bytes spells.0 spells.1 in cc
 
 -- ---- one answer
 
@@ -42,6 +49,12 @@ one_line bytes m n a b =
     let second : proofs_of bytes ≡ Err n = read_bad bytes n b in
     cc
 
+one_said : (bytes : List ℕ) (said other : List SaidProof) → IsFileOf bytes said → IsFileOf bytes other → said ≡ other
+one_said bytes said other f g =
+    let first : proofs_of bytes ≡ Ok said = file_read bytes said f in
+    let second : proofs_of bytes ≡ Ok other = file_read bytes other g in
+    cc
+
 -- ---- which answer is due
 
 pub file_due : (bytes : List ℕ) (r : Result ProofFile ProofTextError) (said : List SaidProof) → ((n : ℕ) → r ≡ Err (errors.BadLine n) → IsFirstBadLine bytes n) → IsFileOf bytes said → IsOk r ⊎ (r ≡ Err errors.NoMemory)
@@ -49,14 +62,14 @@ file_due bytes (Ok file) said bad f = inl refl
 file_due bytes (Err (errors.BadLine n)) said bad f = absurd (not_both bytes said n f (bad n refl))
 file_due bytes (Err errors.NoMemory) said bad f = inr refl
 
-pub line_due : (table : List (List ℕ)) (bytes : List ℕ) (r : Result ProofFile ProofTextError) (n : ℕ) → IfOk r (λ file. SpellsProofs table bytes file) → ((m : ℕ) → r ≡ Err (errors.BadLine m) → IsFirstBadLine bytes m) → IsFirstBadLine bytes n → (r ≡ Err (errors.BadLine n)) ⊎ (r ≡ Err errors.NoMemory)
-line_due table bytes (Ok file) n ok bad b = absurd (not_both bytes ok.0 n ok.1 b)
+pub line_due : (table : List (List ℕ)) (bytes : List ℕ) (r : Result ProofFile ProofTextError) (n : ℕ) → IfOk r (λ file. ReadsAs table bytes file) → ((m : ℕ) → r ≡ Err (errors.BadLine m) → IsFirstBadLine bytes m) → IsFirstBadLine bytes n → (r ≡ Err (errors.BadLine n)) ⊎ (r ≡ Err errors.NoMemory)
+line_due table bytes (Ok file) n ok bad b = absurd (not_both bytes ok.0 n (read_file bytes ok.0 ok.1) b)
 line_due table bytes (Err (errors.BadLine m)) n ok bad b = inl (ap (λ k. Err (errors.BadLine k)) (one_line bytes m n (bad m refl) b))
 line_due table bytes (Err errors.NoMemory) n ok bad b = inr refl
 
 -- ---- one file
 
-module _ (table : List (List ℕ)) (one : HasOneNameEach table) where
+module _ (table : List (List ℕ)) (place : HaveOnePlace (words ++ table)) where
   names_once : (xs ys : List Name) (texts : List (List ℕ)) → map (text_of table) xs ≡ map Some texts → map (text_of table) ys ≡ map Some texts → xs ≡ ys
   names_once [] [] texts h k = refl
   names_once [] (y ∷ ys) [] h k = absurd (cc)
@@ -69,7 +82,7 @@ module _ (table : List (List ℕ)) (one : HasOneNameEach table) where
       let second : text_of table y ≡ Some t = cc in
       let rest_first : map (text_of table) xs ≡ map Some ts = cc in
       let rest_second : map (text_of table) ys ≡ map Some ts = cc in
-      let here : x ≡ y = one x y t first second in
+      let here : x ≡ y = one_name table x y t place first second in
       let rest : xs ≡ ys = names_once xs ys ts rest_first rest_second in
       cc
 
@@ -118,7 +131,7 @@ module _ (table : List (List ℕ)) (one : HasOneNameEach table) where
   step_once (range text) s t h k =
       let a = is_range text s h in
       let b = is_range text t k in
-      a.1 ∙ (ap Range (one a.0 b.0 text a.2 b.2) ∙ sym b.1)
+      a.1 ∙ (ap Range (one_name table a.0 b.0 text place a.2 b.2) ∙ sym b.1)
   step_once (lin ms) s t h k = is_lin ms s h ∙ sym (is_lin ms t k)
 
   numbered_once : (said : SaidStep) (s t : NumberedStep) → SaysStep table said s → SaysStep table said t → s ≡ t
@@ -160,13 +173,15 @@ module _ (table : List (List ℕ)) (one : HasOneNameEach table) where
       let rest : ps ≡ qs = proofs_once xs ps qs h.1 k.1 in
       cc
 
-  file_once : (bytes : List ℕ) (file other : ProofFile) → SpellsProofs table bytes file → SpellsProofs table bytes other → file ≡ other
-  file_once bytes file other a b =
-      let first : proofs_of bytes ≡ Ok a.0 = file_read bytes a.0 a.1 in
-      let second : proofs_of bytes ≡ Ok b.0 = file_read bytes b.0 b.1 in
-      let same : b.0 ≡ a.0 = cc in
-      let also : Each (SaysProof table) a.0 other.proofs = subst (λ said. Each (SaysProof table) said other.proofs) same b.2 in
-      ap (λ ps. record file { proofs = ps }) (proofs_once a.0 file.proofs other.proofs a.2 also)
+  file_once : (said : List SaidProof) (one other : ProofFile) → Each (SaysProof table) said one.proofs → Each (SaysProof table) said other.proofs → one ≡ other
+  file_once said one other a b = ap (λ ps. record one { proofs = ps }) (proofs_once said one.proofs other.proofs a b)
+
+pub spelled_once : IsSpelledOnce
+spelled_once old bytes one other place a b =
+    let same : b.0 ≡ a.0 = one_said bytes b.0 a.0 b.1 a.1 in
+    let table : List (List ℕ) = with_names old (texts_in a.0) in
+    let also : Each (SaysProof table) a.0 other.proofs = subst (λ (said : List SaidProof). Each (SaysProof (with_names old (texts_in said))) said other.proofs) same b.2 in
+    file_once table (one_place_each old (texts_in a.0) place) a.0 one other a.2 also
 
 -- ---- one reading
 
@@ -179,5 +194,5 @@ one_reading = record {
   either = λ bytes. reading bytes (proofs_of bytes) refl;
   not_both = not_both;
   one_line = one_line;
-  one_file = λ table bytes file other one a b. file_once table one bytes file other a b;
+  one_said = one_said;
 }

@@ -6,6 +6,7 @@ pub mod FormRead
 pub mod FormRuns
 pub mod KeptNames
 pub mod LineLemmas
+pub mod NameOrder
 pub mod NumeralLemmas
 pub mod StageLemmas
 pub mod StepLemmas

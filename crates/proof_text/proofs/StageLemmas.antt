@@ -140,11 +140,11 @@ pub header_bad : (table : List (List ℕ)) (s : State) (stage : Stage) (n : ℕ)
 header_bad table s stage n text b h e = rw (at_start table s stage b h) (rw e refl)
 
 -- the lines one by one
-keeps_by : (table : List (List ℕ)) (lines : List (Bor (List ℕ))) (i : ℕ) (d : Bor (List ℕ)) (s : State) (stage : Stage) (all : Result State ℕ) (o : Option State) → next_state s (i + 1) (now (get_or lines i d)) ≡ o → i < length lines → Reads {X = Stage} (SaysState table) (Ok stage) o → state_after_all (map now (drop i lines)) s (i + 1) ≡ all → (t : State) × SaysState table t stage × (state_after_all (map now (drop (i + 1) lines)) t (i + 1 + 1) ≡ all)
+keeps_by : (table : List (List ℕ)) (lines : List (Bor (List ℕ))) (i : ℕ) (d : Bor (List ℕ)) (s : State) (stage : Stage) (all : Result State ℕ) (o : Option State) → next_state s (i + 1) (now (get_or lines i d)) ≡ o → i < length lines → Reads {X = Stage} (SaysState table) (Ok stage) o → state_after_all (map now (drop i lines)) s (i + 1) ≡ all → (t : State) × SaysState table t stage × (state_after_all (map now (drop (i + 1) lines)) t (i + 1 + 1) ≡ all) × (o ≡ Some t)
 keeps_by table lines i d s stage all None e h reads r = absurd reads
-keeps_by table lines i d s stage all (Some t) e h reads r = (t, reads, sym (goes_on lines i d s t h e) ∙ r)
+keeps_by table lines i d s stage all (Some t) e h reads r = (t, reads, sym (goes_on lines i d s t h e) ∙ r, refl)
 
-pub keeps_on : (table : List (List ℕ)) (lines : List (Bor (List ℕ))) (i : ℕ) (d : Bor (List ℕ)) (s : State) (stage : Stage) (all : Result State ℕ) → i < length lines → Reads {X = Stage} (SaysState table) (Ok stage) (next_state s (i + 1) (now (get_or lines i d))) → state_after_all (map now (drop i lines)) s (i + 1) ≡ all → (t : State) × SaysState table t stage × (state_after_all (map now (drop (i + 1) lines)) t (i + 1 + 1) ≡ all)
+pub keeps_on : (table : List (List ℕ)) (lines : List (Bor (List ℕ))) (i : ℕ) (d : Bor (List ℕ)) (s : State) (stage : Stage) (all : Result State ℕ) → i < length lines → Reads {X = Stage} (SaysState table) (Ok stage) (next_state s (i + 1) (now (get_or lines i d))) → state_after_all (map now (drop i lines)) s (i + 1) ≡ all → (t : State) × SaysState table t stage × (state_after_all (map now (drop (i + 1) lines)) t (i + 1 + 1) ≡ all) × (next_state s (i + 1) (now (get_or lines i d)) ≡ Some t)
 keeps_on table lines i d s stage all h reads r = keeps_by table lines i d s stage all _ refl h reads r
 
 pub breaks_off : (table : List (List ℕ)) (lines : List (Bor (List ℕ))) (i : ℕ) (d : Bor (List ℕ)) (s : State) (all : Result State ℕ) (e : Fault) (p : ProofTextError) → i < length lines → Reads {X = Stage} (SaysState table) (Err e) (next_state s (i + 1) (now (get_or lines i d))) → state_after_all (map now (drop i lines)) s (i + 1) ≡ all → (e ≡ Bad → p ≡ errors.BadLine (i + 1)) → (e ≡ NoMemory → p ≡ errors.NoMemory) → ReadsLines {X = Stage} (SaysState table) (Err p) all

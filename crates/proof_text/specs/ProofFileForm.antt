@@ -5,10 +5,11 @@
 -- number and owner. Lines count from 1.
 use Rattle.std.specs.Prelude.{◌≡◌, ℕ, ◌+◌, List, [], ◌∷◌, ◌++◌, length, codes, false, Some, ◌==◌}
 use Rattle.std.specs.List.{list_any}
+use Rattle.name_tables.specs.NameTables.{with_names}
 use Rattle.proof_text.specs.declared.proof.NumberedStep.{NumberedStep}
 use Rattle.proof_text.specs.declared.proof.Proof.{Proof}
 use Rattle.proof_text.specs.declared.proof.ProofFile.{ProofFile}
-use Rattle.proof_text.specs.ProofTextLines.{Said, Says, heading, step, «end», line_of}
+use Rattle.proof_text.specs.ProofTextLines.{Said, Says, texts_said, heading, step, «end», line_of}
 
 -- ---- what a file says
 
@@ -35,6 +36,15 @@ SaysStep table said numbered = (said.line ≡ numbered.line) × Says table said.
 abbrev pub SaysProof : List (List ℕ) → SaidProof → Proof → Type 0
 SaysProof table said proof =
     (said.number ≡ proof.number) × (said.owner ≡ proof.owner) × (said.«end» ≡ proof.«end») × Each (SaysStep table) said.steps proof.steps
+
+-- the texts that steps name, and those that proofs do, in order
+abbrev pub texts_of_steps : List SaidStep → List (List ℕ)
+texts_of_steps [] = []
+texts_of_steps (first ∷ steps) = texts_said first.step ++ texts_of_steps steps
+
+abbrev pub texts_in : List SaidProof → List (List ℕ)
+texts_in [] = []
+texts_in (first ∷ proofs) = texts_of_steps first.steps ++ texts_in proofs
 
 -- ---- the lines of a file
 
@@ -105,9 +115,13 @@ pub record IsFileOf (bytes : List ℕ) (proofs : List SaidProof) : Type 0 where
   pub whole : bytes ≡ ended lines
   pub form : HasForm lines proofs
 
--- the bytes spell the file, under the table's names
+-- the bytes spell the file: a text has the name that the old table gave it, or else the next one, in order of first use
 abbrev pub SpellsProofs : List (List ℕ) → List ℕ → ProofFile → Type 0
-SpellsProofs table bytes file = (said : List SaidProof) × IsFileOf bytes said × Each (SaysProof table) said file.proofs
+SpellsProofs old bytes file = (said : List SaidProof) × IsFileOf bytes said × Each (SaysProof (with_names old (texts_in said))) said file.proofs
+
+-- the new table is the old one with names for the texts of the file that the bytes are
+abbrev pub HasNamesOf : List (List ℕ) → List ℕ → List (List ℕ) → Type 0
+HasNamesOf old bytes new = (said : List SaidProof) → IsFileOf bytes said → new ≡ with_names old (texts_in said)
 
 -- ---- the first bad line
 

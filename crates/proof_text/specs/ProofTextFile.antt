@@ -4,7 +4,7 @@ use Rattle.std.specs.List.{list_any, slice_split}
 use Rattle.std.specs.Str.{bytes_eq}
 use Rattle.proof_text.specs.ProofTextWords.{◌>>=◌}
 use Rattle.proof_text.specs.ProofTextLines.{Line, passed, heading, step, «end», line_of}
-pub use Rattle.proof_text.specs.ProofFileForm.{SaidStep, SaidProof, Each, SaysStep, SaysProof, SpellsProofs, IsFirstBadLine}
+pub use Rattle.proof_text.specs.ProofFileForm.{SaidStep, SaidProof, Each, SaysStep, SaysProof, texts_of_steps, texts_in, SpellsProofs, HasNamesOf, IsFirstBadLine}
 
 -- before the first line; between two proofs, after these proofs; or within a proof, after these of its steps
 pub data State : Type 0 where

@@ -28,6 +28,12 @@ Says table (range text) (Range name) = text_of table name ≡ Some text
 Says table (lin ms) (Lin multiples) = ms ≡ multiples
 Says table _ _ = ⊥
 
+-- the texts that a step names, in order
+abbrev pub texts_said : Said → List (List ℕ)
+texts_said (intro texts) = texts
+texts_said (range text) = text ∷ []
+texts_said _ = []
+
 -- the one word of the list
 abbrev pub only : List (List ℕ) → Option (List ℕ)
 only (word ∷ []) = Some word

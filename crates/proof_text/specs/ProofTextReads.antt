@@ -1,5 +1,5 @@
 -- What the functions that read answer, beside what the text spells.
-use Rattle.std.specs.Prelude.{◌≡◌, ℕ, ◌+◌, List, [], ◌∷◌, length, Bool, true, false, Option, None, Some, Result, Ok, Err}
+use Rattle.std.specs.Prelude.{◌≡◌, ℕ, ◌+◌, List, [], ◌∷◌, ◌++◌, length, Bool, true, false, Option, None, Some, Result, Ok, Err}
 use Rattle.text_core.specs.Names.{text_of}
 use Rattle.text_core.specs.declared.name.Name.{Name}
 use Rattle.proof_text.specs.declared.fault.Fault.{Fault}
@@ -10,8 +10,8 @@ use Rattle.proof_text.specs.declared.line.Line as code
 use Rattle.proof_text.specs.declared.line.Line.TheVariants as lines
 use Rattle.proof_text.specs.declared.reader.Stage.{Stage}
 use Rattle.proof_text.specs.declared.reader.Stage.TheVariants as stages
-use Rattle.proof_text.specs.ProofTextLines.{Says, Line, passed, heading, step, «end»}
-use Rattle.proof_text.specs.ProofTextFile.{State, start, between, within, Each, SaysStep, SaysProof}
+use Rattle.proof_text.specs.ProofTextLines.{Says, texts_said, Line, passed, heading, step, «end»}
+use Rattle.proof_text.specs.ProofTextFile.{State, start, between, within, Each, SaysStep, SaysProof, texts_of_steps, texts_in}
 
 -- what was read is as it was said; a fault comes where nothing is said, unless memory ran out
 abbrev pub Reads : {X Y : Type 0} → (Y → X → Type 0) → Result X Fault → Option Y → Type 0
@@ -44,6 +44,21 @@ SaysState table (between proofs) (stages.Between done) = Each (SaysProof table) 
 SaysState table (within proofs number owner steps) (stages.Within done opened) =
     Each (SaysProof table) proofs done × (number ≡ opened.number) × (owner ≡ opened.owner.now) × Each (SaysStep table) steps opened.steps.items
 SaysState table _ _ = ⊥
+
+-- the texts that a line names, and those that the lines before a state do
+abbrev pub line_texts : Line → List (List ℕ)
+line_texts (step said) = texts_said said
+line_texts _ = []
+
+abbrev pub state_texts : State → List (List ℕ)
+state_texts start = []
+state_texts (between proofs) = texts_in proofs
+state_texts (within proofs number owner steps) = texts_in proofs ++ texts_of_steps steps
+
+-- those of what is said, and none where nothing is
+abbrev pub texts_if : {Y : Type 0} → (Y → List (List ℕ)) → Option Y → List (List ℕ)
+texts_if texts None = []
+texts_if texts (Some said) = texts said
 
 abbrev pub is_start : Stage → Bool
 is_start stages.Start = true

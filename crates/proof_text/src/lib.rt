@@ -13,6 +13,6 @@ mod tests;
 mod word;
 
 pub use fault::ProofTextError;
-pub use laws::texts_have_one_reading;
+pub use laws::{a_file_is_spelled_once, texts_have_one_reading};
 pub use proof::{NumberedStep, Proof, ProofFile};
 pub use reader::read_proofs;

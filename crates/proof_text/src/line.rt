@@ -1,9 +1,10 @@
-ghost use Rattle.std.specs.Prelude.{◌≡◌, ℕ, ◌+◌, ◌^◌, ◌<◌, ◌≤◌, List, ◌-◌, ◌==◌, IfOk, length, map};
+ghost use Rattle.std.specs.Prelude.{◌≡◌, ℕ, ◌+◌, ◌^◌, ◌<◌, ◌≤◌, List, ◌-◌, ◌==◌, IfOk, OnOk, length, map};
 ghost use Rattle.std.specs.Char.{is_ascii};
 ghost use Rattle.std.specs.List.{list_all, slice_split};
 ghost use Rattle.std.specs.Option.{option_copied};
+ghost use Rattle.name_tables.specs.NameTables.{with_names};
 ghost use Rattle.proof_text.specs.ProofTextLines.{heading_of, line_by_head, line_of_words, ascii_of, line_of_text, line_of};
-ghost use Rattle.proof_text.specs.ProofTextReads.{Reads, KeepsNames, SaysLine};
+ghost use Rattle.proof_text.specs.ProofTextReads.{Reads, KeepsNames, SaysLine, line_texts, texts_if};
 
 use crate::fault::Fault;
 use crate::step::step;
@@ -47,6 +48,7 @@ fn line_by_head<'a>(
 ) -> Result<Line<'a>, Fault>
     requires { length names.old + length words.now < 2 ^ 32 }
     ensures said { Reads (SaysLine names.new) result (line_by_head head.now (map (λ word. word.now) words.now)) }
+    ensures table { OnOk result (names.new ≡ with_names names.old (texts_if line_texts (line_by_head head.now (map (λ word. word.now) words.now)))) }
     ensures kept { KeepsNames names.old names.new }
     ensures grown { length names.new ≤ length names.old + length words.now }
 {
@@ -65,6 +67,7 @@ fn line_by_head<'a>(
 fn line_of_words<'a>(alloc: Global, words: &[&'a str], names: &mut Names) -> Result<Line<'a>, Fault>
     requires { length names.old + length words.now < 2 ^ 32 }
     ensures said { Reads (SaysLine names.new) result (line_of_words (map (λ word. word.now) words.now)) }
+    ensures table { OnOk result (names.new ≡ with_names names.old (texts_if line_texts (line_of_words (map (λ word. word.now) words.now)))) }
     ensures kept { KeepsNames names.old names.new }
     ensures grown { length names.new ≤ length names.old + (length words.now - 1) }
 {
@@ -84,6 +87,7 @@ fn words_of(alloc: Global, text: &str) -> Result<Vec<&str>, NoMemory>
 fn line_of_text<'a>(alloc: Global, text: &'a str, names: &mut Names) -> Result<Line<'a>, Fault>
     requires { length names.old + length text.now + 1 < 2 ^ 32 }
     ensures said { Reads (SaysLine names.new) result (line_of_text text.now) }
+    ensures table { OnOk result (names.new ≡ with_names names.old (texts_if line_texts (line_of_text text.now))) }
     ensures kept { KeepsNames names.old names.new }
     ensures grown { length names.new ≤ length names.old + length text.now }
 {
@@ -115,6 +119,7 @@ pub(crate) fn read_line<'a>(
 ) -> Result<Line<'a>, Fault>
     requires { length names.old + length text.now + 1 < 2 ^ 32 }
     ensures said { Reads (SaysLine names.new) result (line_of text.now) }
+    ensures table { OnOk result (names.new ≡ with_names names.old (texts_if line_texts (line_of text.now))) }
     ensures kept { KeepsNames names.old names.new }
     ensures grown { length names.new ≤ length names.old + length text.now }
 {

@@ -1,10 +1,11 @@
-ghost use Rattle.std.specs.Prelude.{◌≡◌, ℕ, ◌+◌, ◌^◌, ◌<◌, ◌≤◌, ◌==◌, List, [], ◌∷◌, ◌++◌, length, map, IfOk, IsOk, IsErrOf, ◌⊎◌};
+ghost use Rattle.std.specs.Prelude.{◌≡◌, ℕ, ◌+◌, ◌^◌, ◌<◌, ◌≤◌, ◌==◌, List, [], ◌∷◌, ◌++◌, length, map, Some, Ok, IfOk, OnOk, IsOk, IsErrOf, ◌⊎◌};
 ghost use Rattle.std.specs.List.{slice_split};
-ghost use Rattle.proof_text.specs.ProofFileForm.{Each, SaysStep, SaysProof, SaidProof, IsFileOf, SpellsProofs, IsFirstBadLine};
+ghost use Rattle.name_tables.specs.NameTables.{with_names};
+ghost use Rattle.proof_text.specs.ProofFileForm.{Each, SaysStep, SaysProof, SaidProof, texts_in, IsFileOf, SpellsProofs, HasNamesOf, IsFirstBadLine};
 ghost use Rattle.proof_text.specs.ProofTextFile.{State, start, is_proved, state_after, next_state, state_after_all, proofs_at_end, proofs_of_pieces};
 ghost use Rattle.proof_text.specs.declared.proof.ProofFile.{ProofFile as File};
 ghost use Rattle.proof_text.specs.ProofTextLines.{Said, Line as SaidLine, Says, heading, step as said_step, «end»};
-ghost use Rattle.proof_text.specs.ProofTextReads.{Reads, ReadsLines, KeepsNames, SaysLine, SaysState, is_start, total_length};
+ghost use Rattle.proof_text.specs.ProofTextReads.{Reads, ReadsLines, KeepsNames, SaysLine, SaysState, state_texts, is_start, total_length};
 
 use crate::fault::{Fault, ProofTextError};
 use crate::line::{Line, read_line};
@@ -167,6 +168,7 @@ fn next<'a>(
 ) -> Result<Stage<'a>, Fault>
     requires { length names.old + length text.now + 1 < 2 ^ 32 }
     ensures said { (s : State) → SaysState names.old s stage.entry → Reads (SaysState names.new) result (next_state s number text.now) }
+    ensures table { (s t : State) (first : List (List ℕ)) → SaysState names.old s stage.entry → next_state s number text.now ≡ Some t → names.old ≡ with_names first (state_texts s) → OnOk result (names.new ≡ with_names first (state_texts t)) }
     ensures kept { KeepsNames names.old names.new }
     ensures grown { length names.new ≤ length names.old + length text.now }
 {
@@ -189,6 +191,7 @@ fn after_lines<'a>(
     requires count { length lines.now + 1 < 2 ^ 32 }
     requires room { length names.old + total_length (map (λ line. line.now) lines.now) + 1 < 2 ^ 32 }
     ensures said { ReadsLines (SaysState names.new) result (state_after_all (map (λ line. line.now) lines.now) start 1) }
+    ensures table { (s : State) → state_after_all (map (λ line. line.now) lines.now) start 1 ≡ Ok s → OnOk result (names.new ≡ with_names names.old (state_texts s)) }
     ensures kept { KeepsNames names.old names.new }
 {
     let mut stage = Stage::Start;
@@ -234,6 +237,7 @@ fn read_pieces(
     requires count { length pieces.now < 2 ^ 31 }
     requires room { length names.old + total_length (map (λ piece. piece.now) pieces.now) + 1 < 2 ^ 32 }
     ensures read { ReadsLines (λ said file. Each (SaysProof names.new) said file.proofs) result (proofs_of_pieces (map (λ piece. piece.now) pieces.now)) }
+    ensures table { (said : List SaidProof) → proofs_of_pieces (map (λ piece. piece.now) pieces.now) ≡ Ok said → OnOk result (names.new ≡ with_names names.old (texts_in said)) }
     ensures kept { KeepsNames names.old names.new }
 {
     let Some((rest, lines)) = pieces.split_last() else {
@@ -244,8 +248,8 @@ fn read_pieces(
     at_end(stage, *rest, end)
 }
 
-/// What the bytes spell: a file of proofs, version 1. `BadLine` is the first bad line. The names of the proofs are
-/// those of the table, which keeps the names that it gave before.
+/// What the bytes spell: a file of proofs, version 1. `BadLine` is the first bad line. The table keeps the names that
+/// it gave before, and gives the other texts of the file the next ones, in order of first use.
 pub fn read_proofs(
     alloc: Global,
     bytes: &[u8],
@@ -253,9 +257,10 @@ pub fn read_proofs(
 ) -> Result<ProofFile, ProofTextError>
     requires short { length bytes.now ≤ 2 ^ 26 }
     requires room { length names.old + 2 ^ 26 + 1 < 2 ^ 32 }
-    ensures ok { IfOk result (λ file. SpellsProofs names.new bytes.now file) }
+    ensures ok { IfOk result (λ file. SpellsProofs names.old bytes.now file) }
+    ensures named { OnOk result (HasNamesOf names.old bytes.now names.new) }
     ensures bad { (n : ℕ) → IsErrOf result (ProofTextError.BadLine n) → IsFirstBadLine bytes.now n }
-    ensures none { (n : ℕ) → IsErrOf result (ProofTextError.BadLine n) → (table : List (List ℕ)) (file : File) → SpellsProofs table bytes.now file → ⊥ }
+    ensures none { (n : ℕ) → IsErrOf result (ProofTextError.BadLine n) → (old : List (List ℕ)) (file : File) → SpellsProofs old bytes.now file → ⊥ }
     ensures kept { KeepsNames names.old names.new }
     // And each answer comes where it is due, or memory was refused.
     ensures file_where_due { (said : List SaidProof) → IsFileOf bytes.now said → IsOk result ⊎ IsErrOf result ProofTextError.NoMemory }

@@ -1,10 +1,11 @@
-ghost use Rattle.std.specs.Prelude.{◌≡◌, ℕ, ◌+◌, ◌^◌, ◌<◌, ◌≤◌, List, length, map, IfOk, Some};
+ghost use Rattle.std.specs.Prelude.{◌≡◌, ℕ, ◌+◌, ◌^◌, ◌<◌, ◌≤◌, List, length, map, IfOk, OnOk, Some};
 ghost use Rattle.std.specs.List.{list_all};
 ghost use Rattle.std.specs.Option.{option_copied};
 ghost use Rattle.text_core.specs.Names.{text_of};
+ghost use Rattle.name_tables.specs.NameTables.{with_names};
 ghost use Rattle.proof_text.specs.ProofTextWords.{is_identifier};
-ghost use Rattle.proof_text.specs.ProofTextLines.{Says, only, intro_of, range_of, multiples_of, some_multiples_of, step_of};
-ghost use Rattle.proof_text.specs.ProofTextReads.{Reads, KeepsNames};
+ghost use Rattle.proof_text.specs.ProofTextLines.{Says, texts_said, only, intro_of, range_of, multiples_of, some_multiples_of, step_of};
+ghost use Rattle.proof_text.specs.ProofTextReads.{Reads, KeepsNames, texts_if};
 
 use crate::fault::Fault;
 use crate::word::{is_identifier, label, multiple};
@@ -26,6 +27,7 @@ fn only<'a>(words: &[&'a str]) -> Option<&'a str>
 fn named(alloc: Global, texts: &[&str], names: &mut Names) -> Result<Items<Name>, NoMemory>
     requires { length names.old + length texts.now < 2 ^ 32 }
     ensures named { IfOk result (λ given. map (text_of names.new) given ≡ map Some (map (λ text. text.now) texts.now)) }
+    ensures table { OnOk result (names.new ≡ with_names names.old (map (λ text. text.now) texts.now)) }
     ensures kept { KeepsNames names.old names.new }
     ensures grown { length names.new ≤ length names.old + length texts.now }
 {
@@ -64,6 +66,7 @@ fn lin(alloc: Global, words: &[&str]) -> Result<Items<Multiple>, Fault>
 fn intro(alloc: Global, words: &[&str], names: &mut Names) -> Result<Step, Fault>
     requires { length names.old + length words.now < 2 ^ 32 }
     ensures said { Reads (Says names.new) result (intro_of (map (λ word. word.now) words.now)) }
+    ensures table { OnOk result (names.new ≡ with_names names.old (texts_if texts_said (intro_of (map (λ word. word.now) words.now)))) }
     ensures kept { KeepsNames names.old names.new }
     ensures grown { length names.new ≤ length names.old + length words.now }
 {
@@ -76,6 +79,7 @@ fn intro(alloc: Global, words: &[&str], names: &mut Names) -> Result<Step, Fault
 fn range(alloc: Global, words: &[&str], names: &mut Names) -> Result<Step, Fault>
     requires { length names.old + length words.now < 2 ^ 32 }
     ensures said { Reads (Says names.new) result (range_of (map (λ word. word.now) words.now)) }
+    ensures table { OnOk result (names.new ≡ with_names names.old (texts_if texts_said (range_of (map (λ word. word.now) words.now)))) }
     ensures kept { KeepsNames names.old names.new }
     ensures grown { length names.new ≤ length names.old + length words.now }
 {
@@ -96,6 +100,7 @@ pub(crate) fn step(
 ) -> Result<Step, Fault>
     requires { length names.old + length words.now < 2 ^ 32 }
     ensures said { Reads (Says names.new) result (step_of head.now (map (λ word. word.now) words.now)) }
+    ensures table { OnOk result (names.new ≡ with_names names.old (texts_if texts_said (step_of head.now (map (λ word. word.now) words.now)))) }
     ensures kept { KeepsNames names.old names.new }
     ensures grown { length names.new ≤ length names.old + length words.now }
 {

@@ -1,13 +1,14 @@
 use Rattle.std.proofs.Common.{◌≡◌, ◌+◌, ◌≤◌, length, map, drop}
+use Rattle.name_tables.specs.NameTables.{with_names}
 use Rattle.proof_text.specs.ProofTextFile.{State, start, state_after_all}
-use Rattle.proof_text.specs.ProofTextReads.{KeepsNames, SaysState, total_length}
+use Rattle.proof_text.specs.ProofTextReads.{KeepsNames, SaysState, state_texts, total_length}
 use Rattle.proof_text.proofs.StageLemmas.{now}
 use Rattle.proof_text.proofs.reader.after_lines.Given as goal
 
--- the stage is that of a state from which the other lines go on as all do from the start
+-- the stage is that of a state from which the other lines go on as all do from the start; what it says has names
 abbrev pub invariant-loop-at : goal.invariant-loop-at
 invariant-loop-at l = record {
-  said : (s : State) × SaysState l.names s l.stage × (state_after_all (map now (drop l.at l.lines)) s (l.at + 1) ≡ state_after_all (map now l.lines) start 1);
+  said : (s : State) × SaysState l.names s l.stage × (state_after_all (map now (drop l.at l.lines)) s (l.at + 1) ≡ state_after_all (map now l.lines) start 1) × (l.names ≡ with_names l.fn.names (state_texts s));
   kept : KeepsNames l.fn.names l.names;
   room : length l.names + total_length (map now (drop l.at l.lines)) ≤ length l.fn.names + total_length (map now l.lines);
 }

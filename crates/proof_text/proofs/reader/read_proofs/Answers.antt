@@ -3,7 +3,8 @@ use Rattle.proof_text.specs.ProofTextReads.{total_length}
 use Rattle.proof_text.proofs.StageLemmas.{now}
 use Rattle.proof_text.proofs.EndLemmas.{few_pieces, short_pieces, ok_from, bad_from}
 use Rattle.proof_text.proofs.FormBytes.{bad_read}
-use Rattle.proof_text.proofs.FormLaw.{ok_form, none_form, file_due, line_due}
+use Rattle.proof_text.proofs.FormLaw.{ok_form, named_form, none_form, file_due, line_due}
+use Rattle.proof_text.proofs.NameOrder.{named_from}
 use Rattle.proof_text.proofs.reader.read_proofs.Goals as goal
 
 pub read_pieces-requires-clause-count : goal.read_pieces-requires-clause-count
@@ -14,16 +15,24 @@ read_pieces-requires-clause-room c = omega (arith, short_pieces c.in_ok-pieces.p
 
 pub returns-clause-ok : goal.returns-clause-ok
 returns-clause-ok c =
-    ok_form c.read_pieces.new.names c.args.bytes.now c.read_pieces.result
-    (ok_from c.read_pieces.new.names c.args.bytes.now (map now c.deref.result.now) c.read_pieces.result (ap (map now) c.deref.ensures.value ∙ c.in_ok-pieces.ensures) c.read_pieces.ensures.read)
+    let are = ap (map now) c.deref.ensures.value ∙ c.in_ok-pieces.ensures in
+    ok_form c.args.names.now c.read_pieces.new.names c.args.bytes.now c.read_pieces.result
+    (ok_from c.read_pieces.new.names c.args.bytes.now (map now c.deref.result.now) c.read_pieces.result are c.read_pieces.ensures.read)
+    (named_from c.args.names.now c.read_pieces.new.names c.args.bytes.now (map now c.deref.result.now) c.read_pieces.result are c.read_pieces.ensures.table)
+
+pub returns-clause-named : goal.returns-clause-named
+returns-clause-named c =
+    let are = ap (map now) c.deref.ensures.value ∙ c.in_ok-pieces.ensures in
+    named_form c.args.names.now c.read_pieces.new.names c.args.bytes.now c.read_pieces.result
+    (named_from c.args.names.now c.read_pieces.new.names c.args.bytes.now (map now c.deref.result.now) c.read_pieces.result are c.read_pieces.ensures.table)
 
 pub returns-clause-bad : goal.returns-clause-bad
 returns-clause-bad c = λ n is.
     bad_read c.args.bytes.now n (bad_from c.read_pieces.new.names c.args.bytes.now (map now c.deref.result.now) c.read_pieces.result n (ap (map now) c.deref.ensures.value ∙ c.in_ok-pieces.ensures) c.read_pieces.ensures.read is)
 
 pub returns-clause-none : goal.returns-clause-none
-returns-clause-none c = λ n is table file.
-    none_form table c.args.bytes.now n file (bad_from c.read_pieces.new.names c.args.bytes.now (map now c.deref.result.now) c.read_pieces.result n (ap (map now) c.deref.ensures.value ∙ c.in_ok-pieces.ensures) c.read_pieces.ensures.read is)
+returns-clause-none c = λ n is old file.
+    none_form old c.args.bytes.now n file (bad_from c.read_pieces.new.names c.args.bytes.now (map now c.deref.result.now) c.read_pieces.result n (ap (map now) c.deref.ensures.value ∙ c.in_ok-pieces.ensures) c.read_pieces.ensures.read is)
 
 pub returns-clause-file_where_due : goal.returns-clause-file_where_due
 returns-clause-file_where_due c = λ said file.
@@ -34,7 +43,6 @@ returns-clause-file_where_due c = λ said file.
 pub returns-clause-line_where_due : goal.returns-clause-line_where_due
 returns-clause-line_where_due c = λ n line.
     line_due c.read_pieces.new.names c.args.bytes.now c.read_pieces.result n
-    (ok_form c.read_pieces.new.names c.args.bytes.now c.read_pieces.result
-    (ok_from c.read_pieces.new.names c.args.bytes.now (map now c.deref.result.now) c.read_pieces.result (ap (map now) c.deref.ensures.value ∙ c.in_ok-pieces.ensures) c.read_pieces.ensures.read))
+    (ok_from c.read_pieces.new.names c.args.bytes.now (map now c.deref.result.now) c.read_pieces.result (ap (map now) c.deref.ensures.value ∙ c.in_ok-pieces.ensures) c.read_pieces.ensures.read)
     (λ m is. bad_read c.args.bytes.now m (bad_from c.read_pieces.new.names c.args.bytes.now (map now c.deref.result.now) c.read_pieces.result m (ap (map now) c.deref.ensures.value ∙ c.in_ok-pieces.ensures) c.read_pieces.ensures.read is))
     line
