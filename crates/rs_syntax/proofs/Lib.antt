@@ -3,3 +3,4 @@ pub mod Whole
 pub mod WordLemmas
 pub mod WordLists
 pub mod WordSteps
+pub mod OneRefusal

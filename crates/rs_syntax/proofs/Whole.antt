@@ -20,8 +20,8 @@ use Rattle.rs_syntax.specs.Faults.{error_of}
 use Rattle.rs_syntax.specs.Make.{trees}
 use Rattle.rs_syntax.specs.Parsed.{SpellsValue, SpellsSource, most_functions, IsParseError, SpellsNone}
 use Rattle.rs_syntax.specs.Values.{functions_in, unbuilt_in}
-use Rattle.rs_syntax.specs.Words.{AreWords, IsWordError}
-use Rattle.rs_syntax.proofs.WordLists.{same_words}
+use Rattle.rs_syntax.specs.Words.{AreWords, IsWordError, GivesNames}
+use Rattle.rs_syntax.proofs.WordLists.{same_words, one_table, table_has_one_place}
 
 -- ---- refusals of the whole grammar
 
@@ -51,17 +51,21 @@ none_of_grammar table bytes whole.NoMemory h = tt
 
 -- ---- one value
 
-pub value_alone : (table : List (List ℕ)) (bytes : List ℕ) (ws : List Word) (value : Value) → ((other : List Word) → AreWords table bytes other → other ≡ ws)
-    → ((other : Value) → SpellsAs (trees ws) bytes other → other ≡ value) → (other : Value) → SpellsValue table bytes other → other ≡ value
-value_alone table bytes ws value only one other s = one other (subst (λ (x : List Word). SpellsAs (trees x) bytes other) (only s.words s.are_words) s.spelled)
+pub value_alone : (old new : List (List ℕ)) (bytes : List ℕ) (ws : List Word) (value : Value) → GivesNames old bytes new → ((other : List Word) → AreWords new bytes other → other ≡ ws)
+    → ((other : Value) → SpellsAs (trees ws) bytes other → other ≡ value) → (other : Value) → SpellsValue old bytes other → other ≡ value
+value_alone old new bytes ws value gives only one other s =
+    let table : s.table ≡ new = one_table old bytes s.table new s.gives gives in
+    let same : s.words ≡ ws = only s.words (subst (λ (t : List (List ℕ)). AreWords t bytes s.words) table s.are_words) in
+    one other (subst (λ (x : List Word). SpellsAs (trees x) bytes other) same s.spelled)
 
-one_value : (table : List (List ℕ)) (bytes : List ℕ) (one other : Value) → HaveOnePlace (words ++ table) → SpellsValue table bytes one → SpellsValue table bytes other → one ≡ other
-one_value table bytes one other place a b =
-    let e = same_words table bytes a.words b.words place a.are_words b.are_words in
+pub one_value : (old : List (List ℕ)) (bytes : List ℕ) (one other : Value) → HaveOnePlace (words ++ old) → SpellsValue old bytes one → SpellsValue old bytes other → one ≡ other
+one_value old bytes one other place a b =
+    let table : a.table ≡ b.table = one_table old bytes a.table b.table a.gives b.gives in
+    let e = same_words b.table bytes a.words b.words (table_has_one_place old bytes b.table b.gives place) (subst (λ (t : List (List ℕ)). AreWords t bytes a.words) table a.are_words) b.are_words in
     one_tree (trees b.words) bytes one other (subst (λ (x : List Word). SpellsAs (trees x) bytes one) e a.spelled) b.spelled
 
-pub one_source : (table : List (List ℕ)) (bytes : List ℕ) (one other : List Function) → HaveOnePlace (words ++ table) → SpellsSource table bytes one → SpellsSource table bytes other → one ≡ other
-one_source table bytes one other place a b = a.is ∙ ap functions_in (one_value table bytes a.value b.value place a.spelled b.spelled) ∙ sym b.is
+pub one_source : (old : List (List ℕ)) (bytes : List ℕ) (one other : List Function) → HaveOnePlace (words ++ old) → SpellsSource old bytes one → SpellsSource old bytes other → one ≡ other
+one_source old bytes one other place a b = a.is ∙ ap functions_in (one_value old bytes a.value b.value place a.spelled b.spelled) ∙ sym b.is
 
 -- ---- forms that are not built
 

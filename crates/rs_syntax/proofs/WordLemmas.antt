@@ -1,5 +1,5 @@
 -- What is known of the tokens of a text, and of names.
-use Rattle.std.proofs.Common.{◌≡◌, ℕ, zero, suc, ◌+◌, ◌-◌, ◌^◌, ◌/◌, ◌%◌, ◌≤◌, Bool, true, false, cond, ◌&&◌, List, [], ◌∷◌, ◌++◌, length, take, drop, get_or, ◌⊎◌, inl, inr, Option, Some, None, Result, Ok, Err, refl, sym, ap, subst, ◌∙◌, append_assoc, true≢false, arith}
+use Rattle.std.proofs.Common.{◌≡◌, ℕ, zero, suc, ◌+◌, ◌-◌, ◌^◌, ◌/◌, ◌%◌, ◌≤◌, ◌<◌, Bool, true, false, cond, ◌&&◌, List, [], ◌∷◌, ◌++◌, length, take, drop, get_or, ◌⊎◌, inl, inr, Option, Some, None, Result, Ok, Err, refl, sym, ap, subst, ◌∙◌, append_assoc, true≢false, arith}
 use Rattle.std.specs.Prelude.{nat_lt, encode_utf8, encode_utf8_all, slice_get, OnOk, OnErr, IfOk}
 use Rattle.std.specs.List.{list_all}
 use Rattle.std.specs.Str.{chars, IsUtf8, IsCharBoundary, bytes_eq}
@@ -12,6 +12,8 @@ use Rattle.text_core.specs.declared.name.Name.{Name}
 use Rattle.text_core.specs.declared.fault.NoMemory.{NoMemory}
 use Rattle.text_core.specs.Names.{words, text_of, HaveOnePlace}
 use Rattle.text_core.proofs.NamesLemmas.{slice_get-append_cases}
+use Rattle.name_tables.specs.NameTables.{with_name}
+use Rattle.name_tables.proofs.Tables.{interned}
 use Rattle.rs_tokens.specs.declared.token.Token.{Token}
 use Rattle.rs_tokens.specs.declared.token.TokenKind.{TokenKind}
 use Rattle.rs_tokens.specs.declared.token.TokenKind.TheVariants as T
@@ -173,3 +175,9 @@ grown_by old new text (Ok given) grown same = grown
 -- in a table in which no text stands at two places, two names of a text are one
 pub same_name : (table : List (List ℕ)) (one other : Name) (text : List ℕ) → HaveOnePlace (words ++ table) → text_of table one ≡ Some text → text_of table other ≡ Some text → one ≡ other
 same_name table one other text place a b = (let e = place one.0 other.0 text (place_of table one text a) (place_of table other text b) in λ i. record { 0 = e i })
+
+-- what a table becomes by a name for the text
+pub table_of : (old new : List (List ℕ)) (text : List ℕ) (r : Result Name NoMemory) → OnOk r ((new ≡ old) ⊎ (new ≡ old ++ text ∷ [])) → IfOk r (λ name. text_of new name ≡ Some text)
+    → IfOk r (λ name. (other : Name) → text_of new other ≡ Some text → other ≡ name) → length old < 2 ^ 32 → OnOk r (new ≡ with_name old text)
+table_of old new text (Err e) grown named one small = grown
+table_of old new text (Ok given) grown named one small = interned old new text given named one grown small

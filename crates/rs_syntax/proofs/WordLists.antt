@@ -11,7 +11,9 @@ use Rattle.rs_tokens.specs.Reading.{Gives, HasGiven, nothing as given_nothing, o
 use Rattle.rs_tokens.proofs.OneReading.{one_list, given_whole, given_refused}
 use Rattle.rs_syntax.specs.declared.word.Word.{Word}
 use Rattle.concrete_syntax.specs.Words.{text_in}
-use Rattle.rs_syntax.specs.Words.{HasName, IsWordOf, AreWordsOf, none, one_more, AreWords, Keeps, NamesOnlyNew}
+use Rattle.rs_syntax.specs.Words.{HasName, IsWordOf, AreWordsOf, none, one_more, AreWords, Keeps, NamesOnlyNew, with_identifier, identifiers_in, GivesNames}
+use Rattle.name_tables.specs.NameTables.{with_names}
+use Rattle.name_tables.proofs.Tables.{names_append, one_place_each}
 use Rattle.concrete_syntax.specs.Words.{IsBadText, no_text, bad_token}
 use Rattle.rs_syntax.proofs.WordLemmas.{same_name}
 
@@ -86,21 +88,35 @@ pushed table bytes (t ∷ ts) token _ (one_more {word} {words} w ws) =
 
 -- ---- what the lexer has given so far, as words
 
-pub record HasRead (table : List (List ℕ)) (bytes : List ℕ) (words : List Word) (at : ℕ) : Type 0 where
+-- first: the table at the start
+pub record HasRead (first table : List (List ℕ)) (bytes : List ℕ) (words : List Word) (at : ℕ) : Type 0 where
   pub tokens : List Token
   pub given : HasGiven bytes tokens at
   pub are : AreWordsOf table bytes tokens words
   pub only : (others : List Word) → AreWordsOf table bytes tokens others → others ≡ words
+  pub gives : table ≡ with_names first (identifiers_in bytes tokens)
 
-pub read_nothing : (table : List (List ℕ)) (bytes : List ℕ) → HasRead table bytes [] 0
-read_nothing table bytes = record { tokens = []; given = given_nothing; are = none; only = λ others h. empty others h }
+identifiers_append : (bytes : List ℕ) (tokens : List Token) (token : Token) → identifiers_in bytes (tokens ++ token ∷ []) ≡ identifiers_in bytes tokens ++ with_identifier token.kind (text_in bytes token.span) []
+identifiers_append bytes [] token = refl
+identifiers_append bytes (t ∷ ts) token = by t.kind (identifiers_append bytes ts token)
+  where
+    text : List ℕ
+    text = text_in bytes t.span
+
+    by : (kind : TokenKind) → identifiers_in bytes (ts ++ token ∷ []) ≡ identifiers_in bytes ts ++ with_identifier token.kind (text_in bytes token.span) []
+        → with_identifier kind text (identifiers_in bytes (ts ++ token ∷ [])) ≡ with_identifier kind text (identifiers_in bytes ts) ++ with_identifier token.kind (text_in bytes token.span) []
+    by T.Ident e = ap (λ (x : List (List ℕ)). text ∷ x) e
+    by _ e = e
+
+pub read_nothing : (table : List (List ℕ)) (bytes : List ℕ) → HasRead table table bytes [] 0
+read_nothing table bytes = record { tokens = []; given = given_nothing; are = none; only = λ others h. empty others h; gives = refl }
   where
     empty : (others : List Word) → AreWordsOf table bytes [] others → others ≡ []
     empty _ none = refl
 
-pub read_more : (old new : List (List ℕ)) (bytes : List ℕ) (words : List Word) (at : ℕ) (token : Token) (word : Word) → HasRead old bytes words at → Keeps old new → NamesOnlyNew old new → Gives bytes at token
-    → IsWordOf new bytes token word → ((other : Word) → IsWordOf new bytes token other → other ≡ word) → HasRead new bytes (words ++ word ∷ []) token.span.end
-read_more old new bytes words at token word r keeps fresh g w one = record {
+pub read_more : (first old new : List (List ℕ)) (bytes : List ℕ) (words : List Word) (at : ℕ) (token : Token) (word : Word) → HasRead first old bytes words at → Keeps old new → NamesOnlyNew old new → Gives bytes at token
+    → IsWordOf new bytes token word → ((other : Word) → IsWordOf new bytes token other → other ≡ word) → new ≡ with_names old (with_identifier token.kind (text_in bytes token.span) []) → HasRead first new bytes (words ++ word ∷ []) token.span.end
+read_more first old new bytes words at token word r keeps fresh g w one grown = record {
   tokens = r.tokens ++ token ∷ [];
   given = given_more r.given g;
   are = push_word new bytes r.tokens words token word (keep_words old new bytes keeps r.tokens words r.are) w;
@@ -108,13 +124,28 @@ read_more old new bytes words at token word r keeps fresh g w one = record {
       let p = pushed new bytes r.tokens token others h in
       let before : p.before ≡ words = r.only p.before (back_words old new bytes fresh r.tokens words p.before r.are p.are_before) in
       p.split ∙ ap (λ (x : List Word). x ++ p.last ∷ []) before ∙ ap (λ (x : Word). words ++ x ∷ []) (one p.last p.is_last));
+  gives = (
+      let here : List (List ℕ) = with_identifier token.kind (text_in bytes token.span) [] in
+      grown ∙ ap (λ (x : List (List ℕ)). with_names x here) r.gives ∙ sym (names_append first (identifiers_in bytes r.tokens) here) ∙ ap (with_names first) (sym (identifiers_append bytes r.tokens token)));
 }
 
-pub all_read : (table : List (List ℕ)) (bytes : List ℕ) (ws : List Word) (at : ℕ) → IsUtf8 bytes → HasRead table bytes ws at → HasEnded bytes at → AreWords table bytes ws
-all_read table bytes ws at utf8 r e = record { tokens = r.tokens; are_tokens = given_whole bytes r.tokens at utf8 r.given e; are_words = r.are }
+pub all_read : (first table : List (List ℕ)) (bytes : List ℕ) (ws : List Word) (at : ℕ) → IsUtf8 bytes → HasRead first table bytes ws at → HasEnded bytes at → AreWords table bytes ws
+all_read first table bytes ws at utf8 r e = record { tokens = r.tokens; are_tokens = given_whole bytes r.tokens at utf8 r.given e; are_words = r.are }
 
-pub only_read : (table : List (List ℕ)) (bytes : List ℕ) (ws : List Word) (at : ℕ) → IsUtf8 bytes → HasRead table bytes ws at → HasEnded bytes at → (others : List Word) → AreWords table bytes others → others ≡ ws
-only_read table bytes ws at utf8 r e others o =
+pub names_read : (first table : List (List ℕ)) (bytes : List ℕ) (ws : List Word) (at : ℕ) → IsUtf8 bytes → HasRead first table bytes ws at → HasEnded bytes at → GivesNames first bytes table
+names_read first table bytes ws at utf8 r e = record { tokens = r.tokens; are_tokens = given_whole bytes r.tokens at utf8 r.given e; is = r.gives }
+
+-- the bytes give one table
+pub one_table : (old : List (List ℕ)) (bytes : List ℕ) (one other : List (List ℕ)) → GivesNames old bytes one → GivesNames old bytes other → one ≡ other
+one_table old bytes one other a b =
+    a.is ∙ ap (λ (ts : List Token). with_names old (identifiers_in bytes ts)) (one_list bytes 0 a.tokens b.tokens None None a.are_tokens.tokens_of b.are_tokens.tokens_of).0 ∙ sym b.is
+
+-- in which no text stands twice, where none does in the old one
+pub table_has_one_place : (old : List (List ℕ)) (bytes : List ℕ) (new : List (List ℕ)) → GivesNames old bytes new → HaveOnePlace (words ++ old) → HaveOnePlace (words ++ new)
+table_has_one_place old bytes new g place = subst (λ (ts : List (List ℕ)). HaveOnePlace (words ++ ts)) (sym g.is) (one_place_each old (identifiers_in bytes g.tokens) place)
+
+pub only_read : (first table : List (List ℕ)) (bytes : List ℕ) (ws : List Word) (at : ℕ) → IsUtf8 bytes → HasRead first table bytes ws at → HasEnded bytes at → (others : List Word) → AreWords table bytes others → others ≡ ws
+only_read first table bytes ws at utf8 r e others o =
     let whole = given_whole bytes r.tokens at utf8 r.given e in
     let same = (one_list bytes 0 o.tokens r.tokens None None o.are_tokens.tokens_of whole.tokens_of).0 in
     r.only others (subst (λ (ts : List Token). AreWordsOf table bytes ts others) same o.are_words)

@@ -6,10 +6,10 @@ use Rattle.text_core.specs.declared.refusal.SourceError.{SourceError}
 use Rattle.rs_tokens.specs.declared.token.Token.{Token}
 use Rattle.rs_tokens.specs.Reading.{Gives, HasEnded, IsNoText, IsBadToken}
 use Rattle.rs_syntax.specs.declared.word.Word.{Word}
-use Rattle.rs_syntax.specs.Words.{IsLexeme, AreWords, Keeps}
+use Rattle.rs_syntax.specs.Words.{IsLexeme, AreWords, Keeps, GivesNames}
 use Rattle.concrete_syntax.specs.Words.{IsBadText}
 use Rattle.rs_syntax.proofs.WordLemmas.{lexeme_of}
-use Rattle.rs_syntax.proofs.WordLists.{HasRead, all_read, only_read, bad_text}
+use Rattle.rs_syntax.proofs.WordLists.{HasRead, all_read, names_read, only_read, bad_text}
 
 -- what is known of the lexer before a call
 abbrev pub State : List ℕ → Option SourceError → Type 0
@@ -29,14 +29,17 @@ module _ (bytes held : List ℕ) (at : ℕ) (refusal : Option SourceError) (same
   pub lexeme_here : (token : Token) → refusal ≡ None → Gives held at token → IsLexeme bytes token
   lexeme_here token e g = lexeme_of bytes at token (utf8_of bytes refusal state e) (gives_here token g)
 
-  pub all_here : (table : List (List ℕ)) (words : List Word) → refusal ≡ None → HasRead table bytes words at → HasEnded held at → AreWords table bytes words
-  all_here table words e r h = all_read table bytes words at (utf8_of bytes refusal state e) r (subst (λ (b : List ℕ). HasEnded b at) same h)
+  pub all_here : (first table : List (List ℕ)) (words : List Word) → refusal ≡ None → HasRead first table bytes words at → HasEnded held at → AreWords table bytes words
+  all_here first table words e r h = all_read first table bytes words at (utf8_of bytes refusal state e) r (subst (λ (b : List ℕ). HasEnded b at) same h)
 
-  pub only_here : (table : List (List ℕ)) (words : List Word) → refusal ≡ None → HasRead table bytes words at → HasEnded held at → (others : List Word) → AreWords table bytes others → others ≡ words
-  only_here table words e r h = only_read table bytes words at (utf8_of bytes refusal state e) r (subst (λ (b : List ℕ). HasEnded b at) same h)
+  pub names_here : (first table : List (List ℕ)) (words : List Word) → refusal ≡ None → HasRead first table bytes words at → HasEnded held at → GivesNames first bytes table
+  names_here first table words e r h = names_read first table bytes words at (utf8_of bytes refusal state e) r (subst (λ (b : List ℕ). HasEnded b at) same h)
 
-  pub bad_here : (table : List (List ℕ)) (words : List Word) (error : SourceError) → ((e : SourceError) → refusal ≡ Some e → error ≡ e) → (refusal ≡ None → IsBadToken held at error) → HasRead table bytes words at → IsBadText bytes error
-  bad_here table words error again refused r =
+  pub only_here : (first table : List (List ℕ)) (words : List Word) → refusal ≡ None → HasRead first table bytes words at → HasEnded held at → (others : List Word) → AreWords table bytes others → others ≡ words
+  only_here first table words e r h = only_read first table bytes words at (utf8_of bytes refusal state e) r (subst (λ (b : List ℕ). HasEnded b at) same h)
+
+  pub bad_here : (first table : List (List ℕ)) (words : List Word) (error : SourceError) → ((e : SourceError) → refusal ≡ Some e → error ≡ e) → (refusal ≡ None → IsBadToken held at error) → HasRead first table bytes words at → IsBadText bytes error
+  bad_here first table words error again refused r =
       bad_text bytes r.tokens at refusal error state again (λ e. subst (λ (b : List ℕ). IsBadToken b at error) same (refused e)) r.given
 
 pub keeps_on : (a b c : List (List ℕ)) → Keeps a b → Keeps b c → Keeps a c

@@ -14,30 +14,33 @@ use Rattle.rs_syntax.specs.declared.value.Value.{Value}
 use Rattle.rs_syntax.specs.declared.word.Word.{Word}
 use Rattle.rs_syntax.specs.Make.{trees}
 use Rattle.rs_syntax.specs.Values.{functions_in, unbuilt_in}
-use Rattle.rs_syntax.specs.Words.{AreWords}
+use Rattle.rs_syntax.specs.Words.{AreWords, GivesNames}
 
--- the bytes spell this by the whole grammar, with names of the table
-pub record SpellsValue (table : List (List ℕ)) (bytes : List ℕ) (value : Value) : Type 0 where
+-- the bytes spell this by the whole grammar; names are those of the old table, and of identifiers that have none there, in order
+-- of first use
+pub record SpellsValue (old : List (List ℕ)) (bytes : List ℕ) (value : Value) : Type 0 where
+  pub table : List (List ℕ)
+  pub gives : GivesNames old bytes table
   pub words : List Word
   pub are_words : AreWords table bytes words
   pub spelled : SpellsAs (trees words) bytes value
 
--- the bytes spell these functions, with names of the table, and nothing that is not built
-pub record SpellsSource (table : List (List ℕ)) (bytes : List ℕ) (functions : List Function) : Type 0 where
+-- the bytes spell these functions, and nothing that is not built
+pub record SpellsSource (old : List (List ℕ)) (bytes : List ℕ) (functions : List Function) : Type 0 where
   pub value : Value
-  pub spelled : SpellsValue table bytes value
+  pub spelled : SpellsValue old bytes value
   pub built : unbuilt_in value ≡ None
   pub is : functions ≡ functions_in value
 
 -- the bytes spell a source in which this is the first word of the first form that is not built
-pub record HasUnbuilt (table : List (List ℕ)) (bytes : List ℕ) (span : Span) : Type 0 where
+pub record HasUnbuilt (old : List (List ℕ)) (bytes : List ℕ) (span : Span) : Type 0 where
   pub value : Value
-  pub spelled : SpellsValue table bytes value
+  pub spelled : SpellsValue old bytes value
   pub unbuilt : unbuilt_in value ≡ Some span
 
 -- E20 there
-pub record IsNotBuilt (table : List (List ℕ)) (bytes : List ℕ) (error : SourceError) : Type 0 where
-  pub has : HasUnbuilt table bytes error.span
+pub record IsNotBuilt (old : List (List ℕ)) (bytes : List ℕ) (error : SourceError) : Type 0 where
+  pub has : HasUnbuilt old bytes error.span
   pub is : error ≡ record { code = E20; span = error.span; other = None }
 
 -- the most functions of a source
@@ -45,20 +48,20 @@ abbrev pub most_functions : ℕ
 most_functions = 4096
 
 -- more functions are spelled than a source may have
-pub record AreTooMany (table : List (List ℕ)) (bytes : List ℕ) (limit : Limit) : Type 0 where
+pub record AreTooMany (old : List (List ℕ)) (bytes : List ℕ) (limit : Limit) : Type 0 where
   pub functions : List Function
-  pub spelled : SpellsSource table bytes functions
+  pub spelled : SpellsSource old bytes functions
   pub many : most_functions < length functions
   pub is : limit ≡ record { kind = Functions; counted = 4097; bound = most_functions }
 
 -- An error of the parser: the bytes are none of the whole grammar, or a form in them is not built, or there are too many functions.
 abbrev pub IsParseError : List (List ℕ) → List ℕ → PassError → Type 0
-IsParseError table bytes (P.Source error) = IsGrammarError bytes (whole.Source error) ⊎ IsNotBuilt table bytes error
-IsParseError table bytes (P.Limit limit) = AreTooMany table bytes limit
-IsParseError table bytes P.NoMemory = Unit {0}
+IsParseError old bytes (P.Source error) = IsGrammarError bytes (whole.Source error) ⊎ IsNotBuilt old bytes error
+IsParseError old bytes (P.Limit limit) = AreTooMany old bytes limit
+IsParseError old bytes P.NoMemory = Unit {0}
 
 -- where a source is refused it spells no functions
 abbrev pub SpellsNone : List (List ℕ) → List ℕ → PassError → Type 0
-SpellsNone table bytes (P.Source error) = (functions : List Function) → SpellsSource table bytes functions → ⊥
-SpellsNone table bytes (P.Limit limit) = Unit {0}
-SpellsNone table bytes P.NoMemory = Unit {0}
+SpellsNone old bytes (P.Source error) = (functions : List Function) → SpellsSource old bytes functions → ⊥
+SpellsNone old bytes (P.Limit limit) = Unit {0}
+SpellsNone old bytes P.NoMemory = Unit {0}

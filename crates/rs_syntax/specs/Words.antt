@@ -12,6 +12,7 @@ use Rattle.rs_tokens.specs.Tokens.{base_of, after_base, continues_digits, intege
 use Rattle.rs_tokens.specs.Reading.{AreTokens}
 use Rattle.std.specs.Str.{IsUtf8}
 use Rattle.concrete_syntax.specs.Words.{text_in, found_in, IsBadText}
+use Rattle.name_tables.specs.NameTables.{with_names}
 use Rattle.rs_syntax.specs.declared.word.Word.{Word}
 use Rattle.rs_syntax.specs.declared.word.WordKind.{WordKind}
 use Rattle.rs_syntax.specs.declared.word.WordKind.TheVariants as K
@@ -105,6 +106,23 @@ pub record AreWords (table : List (List ℕ)) (bytes : List ℕ) (words : List W
   pub tokens : List Token
   pub are_tokens : AreTokens bytes tokens
   pub are_words : AreWordsOf table bytes tokens words
+
+-- ---- names
+
+abbrev pub with_identifier : TokenKind → List ℕ → List (List ℕ) → List (List ℕ)
+with_identifier T.Ident text texts = text ∷ texts
+with_identifier _ text texts = texts
+
+-- the identifiers among the tokens, in order
+abbrev pub identifiers_in : List ℕ → List Token → List (List ℕ)
+identifiers_in bytes [] = []
+identifiers_in bytes (token ∷ tokens) = with_identifier token.kind (text_in bytes token.span) (identifiers_in bytes tokens)
+
+-- the new table has the names of the old one, and of the identifiers in the bytes, in order of first use
+pub record GivesNames (old : List (List ℕ)) (bytes : List ℕ) (new : List (List ℕ)) : Type 0 where
+  pub tokens : List Token
+  pub are_tokens : AreTokens bytes tokens
+  pub is : new ≡ with_names old (identifiers_in bytes tokens)
 
 -- a refusal of the bytes as words
 abbrev pub IsWordError : List ℕ → PassError → Type 0

@@ -31,7 +31,10 @@ pub use binding::{Binding, StmtKind};
 pub use expr::{Expr, ExprNode, Stmt};
 pub use fault::PassError;
 pub use function::{Clause, ClauseKind, Function, Param};
-pub use laws::a_text_spells_one_list_of_functions;
+pub use laws::{
+    a_text_is_refused_in_one_way, a_text_of_functions_is_not_refused,
+    a_text_spells_one_list_of_functions,
+};
 pub use operator::{Comparison, LazyOp};
 pub use parser::parse;
 pub use pterm::{Pterm, PtermNode};

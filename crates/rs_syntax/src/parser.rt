@@ -1,9 +1,9 @@
 //! The parser of sources.
-ghost use Rattle.std.specs.Prelude.{◌≡◌, ℕ, ◌+◌, ◌<◌, ◌≤◌, ◌^◌, List, length, IfOk, IfErr};
+ghost use Rattle.std.specs.Prelude.{◌≡◌, ℕ, ◌+◌, ◌<◌, ◌≤◌, ◌^◌, List, length, IfOk, IfErr, OnOk};
 ghost use Rattle.rs_syntax.specs.declared.fault.PassError.TheVariants as P;
 ghost use Rattle.text_core.specs.declared.refusal.LimitKind.TheVariants.{Functions};
 ghost use Rattle.rs_syntax.specs.declared.function.Function.{Function};
-ghost use Rattle.rs_syntax.specs.Words.{Keeps};
+ghost use Rattle.rs_syntax.specs.Words.{Keeps, GivesNames};
 ghost use Rattle.rs_syntax.specs.Parsed.{SpellsValue, SpellsSource, most_functions, IsParseError, SpellsNone};
 
 use crate::fault::PassError;
@@ -35,10 +35,11 @@ fn within_bound(functions: Items<Function>) -> Result<Items<Function>, PassError
 fn value_of(alloc: Global, bytes: &[u8], names: &mut Names) -> Result<Value, PassError>
     requires few { length bytes.now ≤ 2 ^ 20 }
     requires room { length names.old + 2 ^ 20 < 2 ^ 32 }
-    ensures ok { IfOk result (λ v. SpellsValue names.new bytes.now v) }
-    ensures alone { IfOk result (λ v. (other : Value) → SpellsValue names.new bytes.now other → other ≡ v) }
-    ensures refused { IfErr result (λ e. IsParseError names.new bytes.now e) }
-    ensures rightly { IfErr result (λ e. SpellsNone names.new bytes.now e) }
+    ensures ok { IfOk result (λ v. SpellsValue names.old bytes.now v) }
+    ensures alone { IfOk result (λ v. (other : Value) → SpellsValue names.old bytes.now other → other ≡ v) }
+    ensures names { OnOk result (GivesNames names.old bytes.now names.new) }
+    ensures refused { IfErr result (λ e. IsParseError names.old bytes.now e) }
+    ensures rightly { IfErr result (λ e. SpellsNone names.old bytes.now e) }
     ensures kept { Keeps names.old names.new }
 {
     let words = words_of(alloc, bytes, names)?;
@@ -47,20 +48,21 @@ fn value_of(alloc: Global, bytes: &[u8], names: &mut Names) -> Result<Value, Pas
 }
 
 /// The functions of a source (Rust Reference, "Items", "Statements", "Expressions"; terms as in Creusot's Pearlite).
-/// Names grow only.
+/// Identifiers that have no name yet are given one, in order of first use.
 ///
 /// Errors: `Source` by E01 to E04 and E20 where the source is none of the whole grammar, as `concrete_syntax` refuses it, and by
 /// E20 at the first word of the first form that is not built. `Limit` where there are more than 4,096 functions. `NoMemory`.
 pub fn parse(alloc: Global, bytes: &[u8], names: &mut Names) -> Result<Items<Function>, PassError>
     requires few { length bytes.now ≤ 2 ^ 20 }
     requires room { length names.old + 2 ^ 20 < 2 ^ 32 }
-    ensures ok { IfOk result (λ fs. SpellsSource names.new bytes.now fs) }
+    ensures ok { IfOk result (λ fs. SpellsSource names.old bytes.now fs) }
     ensures few { IfOk result (λ fs. length fs ≤ most_functions) }
-    ensures alone { IfOk result (λ fs. (other : List Function) → SpellsSource names.new bytes.now other → other ≡ fs) }
+    ensures alone { IfOk result (λ fs. (other : List Function) → SpellsSource names.old bytes.now other → other ≡ fs) }
+    ensures names { OnOk result (GivesNames names.old bytes.now names.new) }
 
     // A refusal, and that nothing is refused that is a source.
-    ensures refused { IfErr result (λ e. IsParseError names.new bytes.now e) }
-    ensures rightly { IfErr result (λ e. SpellsNone names.new bytes.now e) }
+    ensures refused { IfErr result (λ e. IsParseError names.old bytes.now e) }
+    ensures rightly { IfErr result (λ e. SpellsNone names.old bytes.now e) }
 
     ensures kept { Keeps names.old names.new }
 {

@@ -1,16 +1,17 @@
 //! The words of a source.
-ghost use Rattle.std.specs.Prelude.{◌≡◌, ℕ, ◌+◌, ◌*◌, ◌≤◌, ◌<◌, ◌^◌, ◌==◌, ◌||◌, pos, not, ◌++◌, ◌∷◌, [], ◌⊎◌, List, Some, None, length, map, filter, IfOk, IfErr};
+ghost use Rattle.std.specs.Prelude.{◌≡◌, ℕ, ◌+◌, ◌*◌, ◌≤◌, ◌<◌, ◌^◌, ◌==◌, ◌||◌, pos, not, ◌++◌, ◌∷◌, [], ◌⊎◌, List, Some, None, length, map, filter, IfOk, IfErr, OnOk};
 ghost use Rattle.std.specs.Char.{digit_value};
 ghost use Rattle.std.specs.List.{prefix_len};
 ghost use Rattle.std.specs.Str.{IsUtf8};
 ghost use Rattle.std.specs.Str.Parse.{digits_value};
 ghost use Rattle.text_core.specs.Names.{text_of};
+ghost use Rattle.name_tables.specs.NameTables.{with_name, with_names};
 ghost use Rattle.text_core.specs.declared.name.Name.{Name};
 ghost use Rattle.rs_tokens.specs.declared.token.TokenKind.TheVariants as T;
 ghost use Rattle.rs_tokens.specs.Tokens.{continues_digits, base_named, base_of, integer_value, largest_integer};
 ghost use Rattle.rs_syntax.specs.declared.word.Word.{Word};
 ghost use Rattle.concrete_syntax.specs.Words.{found_in, row_of, text_in};
-ghost use Rattle.rs_syntax.specs.Words.{kind_by, value_by, suffix_of, suffix_by, HasName, IsLexeme, IsWordOf, AreWords, IsWordError, Keeps, NamesOnlyNew};
+ghost use Rattle.rs_syntax.specs.Words.{kind_by, value_by, suffix_of, suffix_by, HasName, IsLexeme, IsWordOf, AreWords, IsWordError, Keeps, NamesOnlyNew, with_identifier, GivesNames};
 
 use crate::fault::PassError;
 use crate::word::{Word, WordKind};
@@ -174,6 +175,7 @@ fn name_of(alloc: Global, text: &[u8], names: &mut Names) -> Result<Name, NoMemo
     ensures kept { Keeps names.old names.new }
     ensures grown { (names.new ≡ names.old) ⊎ (names.new ≡ names.old ++ text.now ∷ []) }
     ensures new { NamesOnlyNew names.old names.new }
+    ensures table { OnOk result (names.new ≡ with_name names.old text.now) }
 {
     match std::str::from_utf8(text) {
         Ok(text) => names.intern(alloc, text),
@@ -190,6 +192,7 @@ fn name_by(alloc: Global, kind: TokenKind, text: &[u8], names: &mut Names) -> Re
     ensures kept { Keeps names.old names.new }
     ensures few { length names.new ≤ length names.old + 1 }
     ensures new { NamesOnlyNew names.old names.new }
+    ensures table { OnOk result (names.new ≡ with_names names.old (with_identifier kind text.now [])) }
 {
     match kind {
         TokenKind::Ident => name_of(alloc, text, names),
@@ -218,6 +221,7 @@ fn word_of(alloc: Global, bytes: &[u8], token: Token, names: &mut Names) -> Resu
     ensures kept { Keeps names.old names.new }
     ensures few { length names.new ≤ length names.old + 1 }
     ensures new { NamesOnlyNew names.old names.new }
+    ensures table { OnOk result (names.new ≡ with_names names.old (with_identifier token.kind (text_in bytes.now token.span) [])) }
 {
     let text = &bytes[token.span.start as usize..token.span.end as usize];
     let name = name_by(alloc, token.kind, text, names)?;
@@ -231,7 +235,7 @@ fn word_of(alloc: Global, bytes: &[u8], token: Token, names: &mut Names) -> Resu
     })
 }
 
-/// All tokens as words, in order. Names grow only.
+/// All tokens as words, in order. Identifiers that have no name yet are given one, in order of first use.
 ///
 /// Errors: `Source` where the bytes are no text (E01) or a part of them is no token (E02); `NoMemory`.
 pub fn words_of(alloc: Global, bytes: &[u8], names: &mut Names) -> Result<Items<Word>, PassError>
@@ -239,6 +243,7 @@ pub fn words_of(alloc: Global, bytes: &[u8], names: &mut Names) -> Result<Items<
     requires room { length names.old + 2 ^ 20 < 2 ^ 32 }
     ensures ok { IfOk result (λ words. AreWords names.new bytes.now words) }
     ensures only { IfOk result (λ words. (other : List Word) → AreWords names.new bytes.now other → other ≡ words) }
+    ensures names { OnOk result (GivesNames names.old bytes.now names.new) }
     ensures refused { IfErr result (λ error. IsWordError bytes.now error) }
     ensures kept { Keeps names.old names.new }
 {

@@ -1,6 +1,6 @@
 use Rattle.std.proofs.Common.{◌≡◌, ◌<◌, ◌∙◌, arith}
 use Rattle.rs_syntax.proofs.WordLists.{read_nothing, read_more}
-use Rattle.rs_syntax.proofs.WordSteps.{utf8_of, state_of, gives_here, lexeme_here, all_here, only_here, bad_here, keeps_on, again_of}
+use Rattle.rs_syntax.proofs.WordSteps.{utf8_of, state_of, gives_here, lexeme_here, all_here, names_here, only_here, bad_here, keeps_on, again_of}
 use Rattle.rs_syntax.proofs.words.words_of.Goals as goal
 
 pub loop-error-init : goal.loop-error-init
@@ -16,19 +16,25 @@ loop-error-init c = record {
 pub returns-in-Err-clause-refused : goal.returns-in-Err-clause-refused
 returns-in-Err-clause-refused c =
     let i = c.loop-error.invariant in
-    bad_here c.args.bytes.now c.loop-error.lexer.bytes c.loop-error.lexer.at c.loop-error.lexer.refusal i.bytes i.state c.loop-error.names c.loop-error.words c.in-Err.error
+    bad_here c.args.bytes.now c.loop-error.lexer.bytes c.loop-error.lexer.at c.loop-error.lexer.refusal i.bytes i.state c.args.names.now c.loop-error.names c.loop-error.words c.in-Err.error
     (again_of c.loop-error.lexer.refusal c.in-Err.error _ c.in-Err.ensures.again) c.in-Err.ensures.refused i.read
 
 pub returns-in-Ok-None-clause-ok : goal.returns-in-Ok-None-clause-ok
 returns-in-Ok-None-clause-ok c =
     let i = c.loop-error.invariant in
-    all_here c.args.bytes.now c.loop-error.lexer.bytes c.loop-error.lexer.at c.loop-error.lexer.refusal i.bytes i.state c.loop-error.names c.loop-error.words c.in-Ok-None.ensures.unrefused i.read
+    all_here c.args.bytes.now c.loop-error.lexer.bytes c.loop-error.lexer.at c.loop-error.lexer.refusal i.bytes i.state c.args.names.now c.loop-error.names c.loop-error.words c.in-Ok-None.ensures.unrefused i.read
+    (rw c.in-Ok-None.field-0-is at c.in-Ok-None.ensures.end)
+
+pub returns-in-Ok-None-clause-names : goal.returns-in-Ok-None-clause-names
+returns-in-Ok-None-clause-names c =
+    let i = c.loop-error.invariant in
+    names_here c.args.bytes.now c.loop-error.lexer.bytes c.loop-error.lexer.at c.loop-error.lexer.refusal i.bytes i.state c.args.names.now c.loop-error.names c.loop-error.words c.in-Ok-None.ensures.unrefused i.read
     (rw c.in-Ok-None.field-0-is at c.in-Ok-None.ensures.end)
 
 pub returns-in-Ok-None-clause-only : goal.returns-in-Ok-None-clause-only
 returns-in-Ok-None-clause-only c =
     let i = c.loop-error.invariant in
-    only_here c.args.bytes.now c.loop-error.lexer.bytes c.loop-error.lexer.at c.loop-error.lexer.refusal i.bytes i.state c.loop-error.names c.loop-error.words c.in-Ok-None.ensures.unrefused i.read
+    only_here c.args.bytes.now c.loop-error.lexer.bytes c.loop-error.lexer.at c.loop-error.lexer.refusal i.bytes i.state c.args.names.now c.loop-error.names c.loop-error.words c.in-Ok-None.ensures.unrefused i.read
     (rw c.in-Ok-None.field-0-is at c.in-Ok-None.ensures.end)
 
 pub word_of-requires-clause-lexeme : goal.word_of-requires-clause-lexeme
@@ -53,8 +59,8 @@ loop-error-preserved c =
       bytes = c.next.ensures.bytes ∙ i.bytes;
       within = omega (arith, behind, given.within);
       state = state_of c.args.bytes.now c.next.new.self.refusal (utf8_of c.args.bytes.now c.loop-error.lexer.refusal i.state c.in-Ok-Some.ensures.unrefused) c.in-Ok-Some.ensures.accepted;
-      read = rw (c.in_ok-push-in-Ok-Some.ensures.ok, behind) (read_more c.loop-error.names c.word_of.new.names c.args.bytes.now c.loop-error.words c.loop-error.lexer.at c.in-Ok-Some.token c.in_ok-word-in-Ok-Some.word i.read
-          c.word_of.ensures.kept c.word_of.ensures.new given c.in_ok-word-in-Ok-Some.ensures.ok c.in_ok-word-in-Ok-Some.ensures.only);
+      read = rw (c.in_ok-push-in-Ok-Some.ensures.ok, behind) (read_more c.args.names.now c.loop-error.names c.word_of.new.names c.args.bytes.now c.loop-error.words c.loop-error.lexer.at c.in-Ok-Some.token c.in_ok-word-in-Ok-Some.word i.read
+          c.word_of.ensures.kept c.word_of.ensures.new given c.in_ok-word-in-Ok-Some.ensures.ok c.in_ok-word-in-Ok-Some.ensures.only c.in_ok-word-in-Ok-Some.ensures.table);
       kept = keeps_on c.args.names.now c.loop-error.names c.word_of.new.names i.kept c.word_of.ensures.kept;
       few = omega (arith, c.word_of.ensures.few, i.few, forward);
     }

@@ -10,7 +10,7 @@ invariant-loop-error l = record {
   bytes : l.lexer.bytes ≡ l.bytes;
   within : l.lexer.at ≤ length l.bytes;
   state : MatchOption l.lexer.refusal (IsUtf8 l.bytes) (λ error. IsNoText l.bytes error);
-  read : HasRead l.names l.bytes l.words l.lexer.at;
+  read : HasRead l.fn.names l.names l.bytes l.words l.lexer.at;
   kept : Keeps l.fn.names l.names;
   few : length l.names ≤ length l.fn.names + l.lexer.at;
 }
