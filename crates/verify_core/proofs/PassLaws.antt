@@ -1,9 +1,12 @@
 -- What each pass needs, it is given; and where a pass refuses, the source is refused for a cause.
-use Rattle.std.proofs.Common.{◌≡◌, ◌∙◌, refl, sym, ap, subst, ℕ, zero, suc, ◌+◌, ◌<◌, ◌≤◌, ◌⊎◌, inl, inr, List, [], ◌∷◌, ◌++◌, length, get_or, Some, None, slice_get, arith}
+use Rattle.std.proofs.Common.{◌≡◌, ◌∙◌, refl, sym, ap, subst, ℕ, zero, suc, ◌+◌, ◌^◌, ◌<◌, ◌≤◌, ◌⊎◌, inl, inr, List, [], ◌∷◌, ◌++◌, length, get_or, Some, None, Ok, codes, slice_get, arith}
 use Rattle.std.proofs.lemmas.Bool.{cases_lt}
 use Rattle.std.proofs.lemmas.List.{length-append}
 use Rattle.std.proofs.lemmas.Option.{slice_get_read}
 use Rattle.text_core.specs.declared.name.Name.{Name}
+use Rattle.text_core.specs.Names.{text_of}
+use Rattle.name_tables.specs.NameTables.{with_name}
+use Rattle.name_tables.proofs.Tables.{interned}
 use Rattle.text_core.specs.declared.refusal.Limit.{Limit}
 use Rattle.logic_term.specs.declared.kinds.Label.{Label}
 use Rattle.logic_term.specs.declared.obligation.Contract.{Contract}
@@ -21,7 +24,8 @@ use Rattle.mir_ir.specs.WellFormed.{EndIsTyped}
 use Rattle.rs_syntax.specs.declared.fault.PassError.{PassError}
 use Rattle.rs_syntax.specs.declared.fault.PassError.TheVariants as errors
 use Rattle.rs_syntax.specs.declared.function.Function.{Function as SourceFunction}
-use Rattle.rs_syntax.specs.Parsed.{IsParseError, SpellsNone}
+use Rattle.rs_syntax.specs.Parsed.{SpellsSource, IsParseError, most_functions}
+use Rattle.rs_syntax.specs.Words.{GivesNames}
 use Rattle.type_check.specs.declared.program.TypedFunction.{TypedFunction}
 use Rattle.type_check.specs.declared.program.TypedProgram.{TypedProgram}
 use Rattle.type_check.specs.Answers.{Refuses as TypesRefuse}
@@ -30,7 +34,7 @@ use Rattle.type_check.specs.WellTyped.{ProgramFits}
 use Rattle.mir_build.specs.declared.lowered.Lowered.{Lowered}
 use Rattle.mir_build.specs.Laws.{Lowers}
 use Rattle.mir_build.specs.Lowering.{LowerTo, IsLowered, HasMoreBlocks, no_functions, and_function}
-use Rattle.mir_build.specs.Whole.{FailsFor}
+use Rattle.mir_build.specs.Whole.{FailsFor, HaveFewBlocks}
 use Rattle.mir_build.proofs.LawsOfPrograms.{bodies_are_laid_out}
 use Rattle.wp_gen.specs.Paths.{HasPaths, HasMorePaths}
 use Rattle.wp_gen.specs.Count.{LeavesRoom, AreSomeObligations}
@@ -43,7 +47,7 @@ use Rattle.verify_core.specs.declared.goals.FunctionGoals.{FunctionGoals}
 use Rattle.verify_core.specs.OnSource.{IsPastSomeLimit, RefusesProofs, Refuses}
 use Rattle.verify_core.specs.Passes.{CanWalkAt, CanWalkAll, AreLaidOut, HaveFewGoals, IsSettingAt, AreTooMany, IsGoalsError, IsPathsError}
 use Rattle.verify_core.specs.declared.program.Program.{Program}
-use Rattle.verify_core.specs.Prepared.{HasFunctions, IsPrepared, IsTypedAs, gone_of, HasGoals, HaveGoals, HasManyPaths, HaveFewPaths, IsPastLimit, IsRefused, RefusesSource, most_paths, most_obligations}
+use Rattle.verify_core.specs.Prepared.{first_table, result_name, HasFunctions, IsPrepared, IsTypedAs, gone_of, HasGoals, HaveGoals, HasManyPaths, HaveFewPaths, IsPastLimit, IsRefused, RefusesSource, most_paths, most_obligations}
 use Rattle.verify_core.specs.Refusals.{refusal_of}
 use Rattle.verify_core.specs.Verdict.{obligations_in}
 use Rattle.verify_core.proofs.Assembly.{sound, gone_at}
@@ -56,26 +60,44 @@ some_same e = cc
 
 -- ---- refusals
 
-pub parse_refused : (source : List ℕ) (table : List (List ℕ)) (e : PassError) → IsParseError table source e → SpellsNone table source e → RefusesSource source (refusal_of e)
-parse_refused source table (errors.Source e) is none = IsRefused.by_form table is none
-parse_refused source table (errors.Limit l) is none = IsPastLimit.functions is
-parse_refused source table errors.NoMemory is none = tt
+pub parse_refused : (source : List ℕ) (table : List (List ℕ)) (e : PassError) → table ≡ first_table → IsParseError table source e → RefusesSource source (refusal_of e)
+parse_refused source table (errors.Source e) same is = IsRefused.by_form (subst (λ (t : List (List ℕ)). IsParseError t source (errors.Source e)) same is)
+parse_refused source table (errors.Limit l) same is = IsPastLimit.functions (subst (λ (t : List (List ℕ)). IsParseError t source (errors.Limit l)) same is)
+parse_refused source table errors.NoMemory same is = tt
 
-pub types_refused : (source : List ℕ) (table : List (List ℕ)) (fs : List SourceFunction) (result : Name) (e : PassError) → HasFunctions source table fs result → TypesRefuse e (checked result fs) → RefusesSource source (refusal_of e)
-types_refused source table fs result (errors.Source e) has is = IsRefused.by_types has is
-types_refused source table fs result (errors.Limit l) has is = absurd is
-types_refused source table fs result errors.NoMemory has is = tt
+-- the name that `result` has been given, and the table then
+pub first_names : (old table : List (List ℕ)) (result : Name) → old ≡ [] → text_of table result ≡ Some (codes "result") → ((other : Name) → text_of table other ≡ Some (codes "result") → other ≡ result)
+    → (table ≡ old) ⊎ (table ≡ old ++ codes "result" ∷ []) → (table ≡ first_table) × (result ≡ result_name)
+first_names old table result empty named one grown =
+    let small : length old < 2 ^ 32 = omega (arith, ap length empty) in
+    let same : table ≡ first_table = interned old table (codes "result") result named one grown small ∙ ap (λ (t : List (List ℕ)). with_name t (codes "result")) empty in
+    (same, sym (one result_name (ap (λ (t : List (List ℕ)). text_of t result_name) same)))
+
+pub has_functions : (source : List ℕ) (old table : List (List ℕ)) (fs : List SourceFunction) → old ≡ first_table → SpellsSource old source fs → length fs ≤ most_functions → GivesNames old source table → HasFunctions source table fs
+has_functions source old table fs same spelled few gives = record {
+  spelled = subst (λ (t : List (List ℕ)). SpellsSource t source fs) same spelled;
+  few = few;
+  gives = subst (λ (t : List (List ℕ)). GivesNames t source table) same gives;
+}
+
+pub types_refused : (source : List ℕ) (table : List (List ℕ)) (fs : List SourceFunction) (result : Name) (e : PassError) → HasFunctions source table fs → result ≡ result_name → TypesRefuse e (checked result fs) → RefusesSource source (refusal_of e)
+types_refused source table fs result (errors.Source e) has same is = IsRefused.by_types has (ap (λ (x : Name). checked x fs) (sym same) ∙ is)
+types_refused source table fs result (errors.Limit l) has same is = absurd is
+types_refused source table fs result errors.NoMemory has same is = tt
+
+pub typed_as : (source : List ℕ) (table : List (List ℕ)) (fs : List SourceFunction) (result : Name) (typed : TypedProgram) → HasFunctions source table fs → result ≡ result_name → checked result fs ≡ Ok typed → IsTypedAs source table typed
+typed_as source table fs result typed has same is = record { functions = fs; has = has; is_typed = ap (λ (x : Name). checked x fs) (sym same) ∙ is }
 
 pub fits_of : (source : List ℕ) (table : List (List ℕ)) (typed : TypedProgram) → IsTypedAs source table typed → ProgramFits typed
-fits_of source table typed t = typed_program_fits t.result t.functions typed t.is_typed
+fits_of source table typed t = typed_program_fits result_name t.functions typed t.is_typed
 
 pub lowering_refused : (source : List ℕ) (table : List (List ℕ)) (typed : TypedProgram) (e : PassError) → IsTypedAs source table typed → FailsFor (ProgramFits typed → HasMoreBlocks typed 4096) e → RefusesSource source (refusal_of e)
 lowering_refused source table typed (errors.Source e) t fails = absurd fails
 lowering_refused source table typed (errors.Limit l) t (is, more) = subst (λ (m : Limit). IsPastLimit source m) (sym is) (IsPastLimit.blocks t (more (fits_of source table typed t)))
 lowering_refused source table typed errors.NoMemory t fails = tt
 
-pub obligations_refused : (source : List ℕ) (table : List (List ℕ)) (typed : TypedProgram) (l : Lowered) (limit : Limit) → IsTypedAs source table typed → IsLowered table typed l → IsGoalsError l limit → IsPastLimit source limit
-obligations_refused source table typed l limit t lowered (many, is) = subst (λ (m : Limit). IsPastLimit source m) (sym is) (IsPastLimit.obligations many.functions t lowered many.goals many.many)
+pub obligations_refused : (source : List ℕ) (table : List (List ℕ)) (typed : TypedProgram) (l : Lowered) (limit : Limit) → IsTypedAs source table typed → IsLowered table typed l → HaveFewBlocks l.bodies.bodies → HaveFewPaths l.bodies.bodies → IsGoalsError l limit → IsPastLimit source limit
+obligations_refused source table typed l limit t lowered blocks paths (many, is) = subst (λ (m : Limit). IsPastLimit source m) (sym is) (IsPastLimit.obligations many.functions t lowered blocks paths many.goals many.many)
 
 -- ---- bodies that can be walked
 
@@ -203,8 +225,8 @@ few_in_all bs i past before n b is = before n b is (omega (arith, within bs n b 
 pub many_at : (bs : List Body) (i : ℕ) (b : Body) → slice_get bs i ≡ Some b → HasMorePaths b [] b.entry 1025 → HasManyPaths bs
 many_at bs i b is more = record { place = i; body = b; is_body = is; more = more }
 
-pub paths_refused : (source : List ℕ) (table : List (List ℕ)) (typed : TypedProgram) (l : Lowered) (limit : Limit) → IsTypedAs source table typed → IsLowered table typed l → IsPathsError l.bodies.bodies limit → IsPastLimit source limit
-paths_refused source table typed l limit t lowered (many, is) = subst (λ (m : Limit). IsPastLimit source m) (sym is) (IsPastLimit.paths t lowered many)
+pub paths_refused : (source : List ℕ) (table : List (List ℕ)) (typed : TypedProgram) (l : Lowered) (limit : Limit) → IsTypedAs source table typed → IsLowered table typed l → HaveFewBlocks l.bodies.bodies → IsPathsError l.bodies.bodies limit → IsPastLimit source limit
+paths_refused source table typed l limit t lowered blocks (many, is) = subst (λ (m : Limit). IsPastLimit source m) (sym is) (IsPastLimit.paths t lowered blocks many)
 
 -- ---- sources and proofs
 

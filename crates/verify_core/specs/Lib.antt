@@ -1,6 +1,7 @@
 pub mod Firsts
 pub mod Flags
 pub mod Judging
+pub mod Laws
 pub mod Listing
 pub mod OnSource
 pub mod Passes

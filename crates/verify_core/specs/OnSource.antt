@@ -1,5 +1,5 @@
 -- The verdict on a source with the proofs of a file, and what it is worth.
-use Rattle.std.specs.Prelude.{◌≡◌, ℕ, ◌<◌, true, List, length, Some, slice_get}
+use Rattle.std.specs.Prelude.{◌≡◌, ℕ, ◌<◌, true, List, [], length, Some, slice_get}
 use Rattle.text_core.specs.declared.refusal.LimitKind.TheVariants.{ProofBytes}
 use Rattle.text_core.specs.declared.refusal.Limit.{Limit}
 use Rattle.logic_term.specs.declared.obligation.Contract.{Contract}
@@ -26,9 +26,8 @@ AreGood p v = (f : ℕ) (line : FnLine) (c : Contract) → slice_get v.functions
 pub record IsVerdictOn (source proofs : List ℕ) (v : Verdict) : Type 0 where
   pub program : Program
   pub prepared : IsPrepared source program
-  pub table : List (List ℕ)
   pub file : ProofFile
-  pub spelled : SpellsProofs table proofs file
+  pub spelled : SpellsProofs [] proofs file
   pub is_verdict : IsVerdict file.proofs program.bodies.bodies program.functions v
   pub good : AreGood program v
 

@@ -4,7 +4,7 @@ use Rattle.text_core.specs.declared.name.Name.{Name}
 use Rattle.text_core.specs.declared.refusal.Limit.{Limit}
 use Rattle.text_core.specs.declared.refusal.LimitKind.TheVariants.{SourceBytes, Blocks, Paths, Obligations}
 use Rattle.text_core.specs.declared.refusal.SourceError.{SourceError}
-use Rattle.text_core.specs.Names.{text_of}
+use Rattle.text_core.specs.Names.{words}
 use Rattle.logic_term.specs.declared.obligation.Contract.{Contract}
 use Rattle.mir_ir.specs.declared.body.Body.{Body}
 use Rattle.mir_ir.specs.declared.body.Initialised.{Initialised}
@@ -13,10 +13,12 @@ use Rattle.wp_gen.specs.Walk.{AreObligations}
 use Rattle.prophecy_sim.specs.Programs as sim
 use Rattle.rs_syntax.specs.declared.function.Function.{Function}
 use Rattle.rs_syntax.specs.declared.fault.PassError.TheVariants as errors
-use Rattle.rs_syntax.specs.Parsed.{SpellsSource, IsParseError}
+use Rattle.rs_syntax.specs.Parsed.{SpellsSource, IsParseError, most_functions}
+use Rattle.rs_syntax.specs.Words.{GivesNames}
 use Rattle.type_check.specs.declared.program.TypedProgram.{TypedProgram}
 use Rattle.type_check.specs.Checked.{checked}
 use Rattle.mir_build.specs.Lowering.{LowerTo, HasMoreBlocks}
+use Rattle.mir_build.specs.Whole.{HaveFewBlocks}
 use Rattle.verify_core.specs.declared.fault.Refusal.{Refusal}
 use Rattle.verify_core.specs.declared.fault.Refusal.TheVariants as refusals
 use Rattle.verify_core.specs.declared.goals.FunctionGoals.{FunctionGoals}
@@ -39,17 +41,24 @@ most_obligations = 1000000
 
 -- ---- the passes
 
--- the source spells these functions with names of the table, in which `result` has this name
-pub record HasFunctions (source : List ℕ) (table : List (List ℕ)) (functions : List Function) (result : Name) : Type 0 where
-  pub spelled : SpellsSource table source functions
-  pub is_result : text_of table result ≡ Some (codes "result")
+-- the table of names before the source is read: `result` has a name, the first behind those of the words
+abbrev pub first_table : List (List ℕ)
+first_table = codes "result" ∷ []
+
+abbrev pub result_name : Name
+result_name = record { 0 = length words }
+
+-- the source spells these functions, and not too many; the table has the names that are in them
+pub record HasFunctions (source : List ℕ) (table : List (List ℕ)) (functions : List Function) : Type 0 where
+  pub spelled : SpellsSource first_table source functions
+  pub few : length functions ≤ most_functions
+  pub gives : GivesNames first_table source table
 
 -- the functions of the source have these names and types
 pub record IsTypedAs (source : List ℕ) (table : List (List ℕ)) (typed : TypedProgram) : Type 0 where
   pub functions : List Function
-  pub result : Name
-  pub has : HasFunctions source table functions result
-  pub is_typed : checked result functions ≡ Ok typed
+  pub has : HasFunctions source table functions
+  pub is_typed : checked result_name functions ≡ Ok typed
 
 -- ---- goals
 
@@ -101,6 +110,7 @@ pub record IsPrepared (source : List ℕ) (p : Program) : Type 0 where
   pub is_typed : IsTypedAs source p.names typed
   pub gones : List Initialised
   pub lowers : LowerTo p.names typed.functions p.bodies.bodies p.contracts gones
+  pub blocks : HaveFewBlocks p.bodies.bodies
   pub paths : HaveFewPaths p.bodies.bodies
   pub goals : HaveGoals p.bodies.bodies p.contracts gones p.functions
   pub as_many : length p.functions ≡ length p.bodies.bodies
@@ -110,18 +120,18 @@ pub record IsPrepared (source : List ℕ) (p : Program) : Type 0 where
 
 -- the source is refused for this reason: it is none of the whole grammar, or has a form that is not built; or by names and types
 pub data IsRefused (source : List ℕ) (error : SourceError) : Type 0 where
-  by_form : (table : List (List ℕ)) → IsParseError table source (errors.Source error) → ((functions : List Function) → SpellsSource table source functions → ⊥) → IsRefused source error
-  by_types : {table : List (List ℕ)} {functions : List Function} {result : Name} → HasFunctions source table functions result → checked result functions ≡ Err error → IsRefused source error
+  by_form : IsParseError first_table source (errors.Source error) → IsRefused source error
+  by_types : {table : List (List ℕ)} {functions : List Function} → HasFunctions source table functions → checked result_name functions ≡ Err error → IsRefused source error
 
--- a quantity of the source is past its bound
+-- a quantity of the source is past its bound, and those that are counted before it are not
 pub data IsPastLimit (source : List ℕ) : Limit → Type 0 where
   bytes : most_bytes < length source → IsPastLimit source (record { kind = SourceBytes; counted = length source; bound = most_bytes })
-  functions : {table : List (List ℕ)} {limit : Limit} → IsParseError table source (errors.Limit limit) → IsPastLimit source limit
+  functions : {limit : Limit} → IsParseError first_table source (errors.Limit limit) → IsPastLimit source limit
   blocks : {table : List (List ℕ)} {typed : TypedProgram} → IsTypedAs source table typed → HasMoreBlocks typed most_blocks → IsPastLimit source (record { kind = Blocks; counted = most_blocks + 1; bound = most_blocks })
-  paths : {table : List (List ℕ)} {typed : TypedProgram} {bs : List Body} {cs : List Contract} {gones : List Initialised} → IsTypedAs source table typed → LowerTo table typed.functions bs cs gones → HasManyPaths bs
+  paths : {table : List (List ℕ)} {typed : TypedProgram} {bs : List Body} {cs : List Contract} {gones : List Initialised} → IsTypedAs source table typed → LowerTo table typed.functions bs cs gones → HaveFewBlocks bs → HasManyPaths bs
       → IsPastLimit source (record { kind = Paths; counted = most_paths + 1; bound = most_paths })
   obligations : {table : List (List ℕ)} {typed : TypedProgram} {bs : List Body} {cs : List Contract} {gones : List Initialised} (gs : List FunctionGoals) → IsTypedAs source table typed → LowerTo table typed.functions bs cs gones
-      → HaveGoals bs cs gones gs → most_obligations < length (obligations_in gs) → IsPastLimit source (record { kind = Obligations; counted = most_obligations + 1; bound = most_obligations })
+      → HaveFewBlocks bs → HaveFewPaths bs → HaveGoals bs cs gones gs → most_obligations < length (obligations_in gs) → IsPastLimit source (record { kind = Obligations; counted = most_obligations + 1; bound = most_obligations })
 
 -- why a source has no program
 abbrev pub RefusesSource : List ℕ → Refusal → Type 0

@@ -1,5 +1,5 @@
 //! The verdict on a source with its proofs.
-ghost use Rattle.std.specs.Prelude.{ℕ, List, IfOk, IfErr};
+ghost use Rattle.std.specs.Prelude.{[], IfOk, IfErr};
 ghost use Rattle.proof_text.specs.ProofTextFile.{SpellsProofs};
 ghost use Rattle.verify_core.specs.OnSource.{IsVerdictOn, RefusesProofs, Refuses};
 
@@ -18,7 +18,7 @@ pub const PROOF_BYTES: usize = 1 << 26;
 ///
 /// Errors: `Proof` with the first bad line, 1-based; `Limit` where there are more than 67,108,864 bytes; `NoMemory`; never `Source`.
 pub fn proofs_of(alloc: Global, bytes: &[u8]) -> Result<ProofFile, Refusal>
-    ensures ok { IfOk result (λ file. (table : List (List ℕ)) × SpellsProofs table bytes.now file) }
+    ensures ok { IfOk result (λ file. SpellsProofs [] bytes.now file) }
     ensures refused { IfErr result (RefusesProofs bytes.now) }
 {
     if bytes.len() > PROOF_BYTES {

@@ -23,9 +23,8 @@ returns-clause-ok c =
     record {
       program = program;
       prepared = c.in_ok-program.ensures.ok;
-      table = c.in_ok-file.ensures.ok.0;
       file = file;
-      spelled = c.in_ok-file.ensures.ok.1;
+      spelled = c.in_ok-file.ensures.ok;
       is_verdict = is;
       good = λ f line d is_line verified is_contract. verified_is_good c.args.source.now program file.proofs verdict c.in_ok-program.ensures.ok is f line d is_line verified is_contract;
     }

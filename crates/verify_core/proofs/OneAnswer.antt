@@ -1,0 +1,158 @@
+-- A source within its length is accepted with one program, or refused with one code and place, or past one limit, and only one of these.
+use Rattle.std.proofs.Common.{◌≡◌, ◌∙◌, refl, sym, ap, subst, ℕ, ◌<◌, ◌≤◌, List, ◌++◌, length, Result, Ok, Err, arith}
+use Rattle.text_core.specs.Names.{words, HaveOnePlace}
+use Rattle.text_core.specs.declared.refusal.Limit.{Limit}
+use Rattle.text_core.specs.declared.refusal.SourceError.{SourceError}
+use Rattle.text_core.proofs.NamesLemmas.{HaveOnePlace-differ}
+use Rattle.logic_term.specs.declared.obligation.Contract.{Contract}
+use Rattle.mir_ir.specs.declared.body.Body.{Body}
+use Rattle.mir_ir.specs.declared.body.Initialised.{Initialised}
+use Rattle.rs_syntax.specs.declared.fault.PassError.TheVariants as errors
+use Rattle.rs_syntax.specs.declared.function.Function.{Function}
+use Rattle.rs_syntax.specs.Parsed.{IsParseError}
+use Rattle.rs_syntax.proofs.OneRefusal.{one_error, not_refused, not_few, not_many}
+use Rattle.rs_syntax.proofs.Whole.{one_source}
+use Rattle.rs_syntax.proofs.WordLists.{one_table}
+use Rattle.type_check.specs.declared.program.TypedProgram.{TypedProgram}
+use Rattle.type_check.specs.Checked.{checked}
+use Rattle.mir_build.specs.Lowering.{LowerTo, HasMoreBlocks}
+use Rattle.mir_build.specs.Whole.{HaveFewBlocks}
+use Rattle.mir_build.proofs.OneBody.{programs_lower_in_one_way, blocks_are_counted}
+use Rattle.verify_core.specs.declared.goals.FunctionGoals.{FunctionGoals}
+use Rattle.verify_core.specs.declared.program.Program.{Program}
+use Rattle.verify_core.specs.Prepared.{first_table, result_name, HasFunctions, IsTypedAs, HaveGoals, HaveFewPaths, HasManyPaths, IsPrepared, IsRefused, IsPastLimit, most_bytes, most_blocks, most_obligations}
+use Rattle.verify_core.specs.Verdict.{obligations_in}
+use Rattle.verify_core.proofs.OneCount.{goals_once, few_obligations_are_not_many, few_paths_are_not_many}
+
+pub first_has_one_place : HaveOnePlace (words ++ first_table)
+first_has_one_place = HaveOnePlace-differ (words ++ first_table) refl
+
+same_ok : {A B : Type 0} {a b : A} → ◌≡◌ {A = Result A B} (Ok a) (Ok b) → a ≡ b
+same_ok e = cc
+
+same_err : {A B : Type 0} {a b : B} → ◌≡◌ {A = Result A B} (Err a) (Err b) → a ≡ b
+same_err e = cc
+
+ok_err : {A B : Type 0} {a : A} {b : B} → ◌≡◌ {A = Result A B} (Ok a) (Err b) → ⊥
+ok_err e = cc
+
+module _ (source : List ℕ) where
+  same_functions : (t u : List (List ℕ)) (fs gs : List Function) → HasFunctions source t fs → HasFunctions source u gs → fs ≡ gs
+  same_functions t u fs gs h g = one_source first_table source fs gs first_has_one_place h.spelled g.spelled
+
+  same_table : (t u : List (List ℕ)) (fs gs : List Function) → HasFunctions source t fs → HasFunctions source u gs → t ≡ u
+  same_table t u fs gs h g = one_table first_table source t u h.gives g.gives
+
+  same_tables : (t u : List (List ℕ)) (p q : TypedProgram) → IsTypedAs source t p → IsTypedAs source u q → t ≡ u
+  same_tables t u p q a b = same_table t u a.functions b.functions a.has b.has
+
+  same_typed : (t u : List (List ℕ)) (p q : TypedProgram) → IsTypedAs source t p → IsTypedAs source u q → p ≡ q
+  same_typed t u p q a b = same_ok (sym a.is_typed ∙ ap (checked result_name) (same_functions t u a.functions b.functions a.has b.has) ∙ b.is_typed)
+
+  -- ---- refusals
+
+  typed_not_refused : (t : List (List ℕ)) (p : TypedProgram) (error : SourceError) → IsTypedAs source t p → IsRefused source error → ⊥
+  typed_not_refused t p error a (IsRefused.by_form is) = not_refused first_table source first_has_one_place a.functions error a.has.spelled is
+  typed_not_refused t p error a (IsRefused.by_types {table} {functions} has is) = ok_err (sym a.is_typed ∙ ap (checked result_name) (same_functions t table a.functions functions a.has has) ∙ is)
+
+  pub one_refusal : (one other : SourceError) → IsRefused source one → IsRefused source other → one ≡ other
+  one_refusal one other (IsRefused.by_form h) (IsRefused.by_form g) = one_error first_table source first_has_one_place one other h g
+  one_refusal one other (IsRefused.by_form h) (IsRefused.by_types {functions = fs} has is) = absurd (not_refused first_table source first_has_one_place fs one has.spelled h)
+  one_refusal one other (IsRefused.by_types {functions = fs} has is) (IsRefused.by_form g) = absurd (not_refused first_table source first_has_one_place fs other has.spelled g)
+  one_refusal one other (IsRefused.by_types {table = t} {functions = fs} has is) (IsRefused.by_types {table = u} {functions = gs} had was) =
+      same_err (sym is ∙ ap (checked result_name) (same_functions t u fs gs has had) ∙ was)
+
+  -- ---- two lowerings
+
+  module _ (t u : List (List ℕ)) (p q : TypedProgram) (bs ds : List Body) (cs es : List Contract) (gones others : List Initialised) (a : IsTypedAs source t p) (b : IsTypedAs source u q)
+      (l : LowerTo t p.functions bs cs gones) (m : LowerTo u q.functions ds es others) where
+    same_lowering : (bs ≡ ds) × (cs ≡ es) × (gones ≡ others)
+    same_lowering =
+        let tables : t ≡ u = same_tables t u p q a b in
+        let typed : p ≡ q = same_typed t u p q a b in
+        programs_lower_in_one_way u q.functions bs ds cs es gones others (subst (λ (r : TypedProgram). LowerTo u r.functions bs cs gones) typed (subst (λ (x : List (List ℕ)). LowerTo x p.functions bs cs gones) tables l)) m
+
+  -- a program that lowers to few blocks has no more
+  no_more : (t u : List (List ℕ)) (p q : TypedProgram) (bs : List Body) (cs : List Contract) (gones : List Initialised) → IsTypedAs source t p → IsTypedAs source u q → LowerTo t p.functions bs cs gones → HaveFewBlocks bs → HasMoreBlocks q most_blocks → ⊥
+  no_more t u p q bs cs gones a b l few more = blocks_are_counted t p bs cs gones most_blocks l few (subst (λ (r : TypedProgram). HasMoreBlocks r most_blocks) (sym (same_typed t u p q a b)) more)
+
+  -- ---- limits
+
+  module _ (short : length source ≤ most_bytes) where
+    pub refused_not_past : (error : SourceError) (limit : Limit) → IsRefused source error → IsPastLimit source limit → ⊥
+    refused_not_past error _ r (IsPastLimit.bytes long) = absurd (omega (arith, short, long))
+    refused_not_past error limit (IsRefused.by_form h) (IsPastLimit.functions is) = not_many first_table source first_has_one_place error limit h is
+    refused_not_past error limit (IsRefused.by_types {functions = fs} has is) (IsPastLimit.functions many) = not_few first_table source first_has_one_place fs limit has.spelled has.few many
+    refused_not_past error _ r (IsPastLimit.blocks {table} {typed} a more) = typed_not_refused table typed error a r
+    refused_not_past error _ r (IsPastLimit.paths {table} {typed} a l few many) = typed_not_refused table typed error a r
+    refused_not_past error _ r (IsPastLimit.obligations {table} {typed} gs a l few paths have many) = typed_not_refused table typed error a r
+
+    -- what is typed has not too many functions
+    typed_not_many : (t : List (List ℕ)) (p : TypedProgram) (limit : Limit) → IsTypedAs source t p → IsParseError first_table source (errors.Limit limit) → ⊥
+    typed_not_many t p limit a is = not_few first_table source first_has_one_place a.functions limit a.has.spelled a.has.few is
+
+    few_and_many : (t u : List (List ℕ)) (p q : TypedProgram) (bs ds : List Body) (cs es : List Contract) (gones others : List Initialised) → IsTypedAs source t p → IsTypedAs source u q → LowerTo t p.functions bs cs gones
+        → LowerTo u q.functions ds es others → HaveFewPaths bs → HasManyPaths ds → ⊥
+    few_and_many t u p q bs ds cs es gones others a b l m few many =
+        few_paths_are_not_many bs few (subst HasManyPaths (sym (same_lowering t u p q bs ds cs es gones others a b l m).0) many)
+
+    pub one_limit : (one other : Limit) → IsPastLimit source one → IsPastLimit source other → one ≡ other
+    one_limit _ other (IsPastLimit.bytes long) g = absurd (omega (arith, short, long))
+    one_limit one _ (IsPastLimit.functions h) (IsPastLimit.bytes long) = absurd (omega (arith, short, long))
+    one_limit one other (IsPastLimit.functions h) (IsPastLimit.functions g) = h.is ∙ sym g.is
+    one_limit one _ (IsPastLimit.functions h) (IsPastLimit.blocks {table} {typed} a more) = absurd (typed_not_many table typed one a h)
+    one_limit one _ (IsPastLimit.functions h) (IsPastLimit.paths {table} {typed} a l few many) = absurd (typed_not_many table typed one a h)
+    one_limit one _ (IsPastLimit.functions h) (IsPastLimit.obligations {table} {typed} gs a l few paths have many) = absurd (typed_not_many table typed one a h)
+    one_limit _ _ (IsPastLimit.blocks a more) (IsPastLimit.bytes long) = absurd (omega (arith, short, long))
+    one_limit _ other (IsPastLimit.blocks {table} {typed} a more) (IsPastLimit.functions g) = absurd (typed_not_many table typed other a g)
+    one_limit _ _ (IsPastLimit.blocks a more) (IsPastLimit.blocks b also) = refl
+    one_limit _ _ (IsPastLimit.blocks {table = t} {typed = p} a more) (IsPastLimit.paths {table = u} {typed = q} {bs} {cs} {gones} b l few many) = absurd (no_more u t q p bs cs gones b a l few more)
+    one_limit _ _ (IsPastLimit.blocks {table = t} {typed = p} a more) (IsPastLimit.obligations {table = u} {typed = q} {bs} {cs} {gones} gs b l few paths have many) = absurd (no_more u t q p bs cs gones b a l few more)
+    one_limit _ _ (IsPastLimit.paths a l few many) (IsPastLimit.bytes long) = absurd (omega (arith, short, long))
+    one_limit _ other (IsPastLimit.paths {table} {typed} a l few many) (IsPastLimit.functions g) = absurd (typed_not_many table typed other a g)
+    one_limit _ _ (IsPastLimit.paths {table = t} {typed = p} {bs} {cs} {gones} a l few many) (IsPastLimit.blocks {table = u} {typed = q} b more) = absurd (no_more t u p q bs cs gones a b l few more)
+    one_limit _ _ (IsPastLimit.paths a l few many) (IsPastLimit.paths b m less more) = refl
+    one_limit _ _ (IsPastLimit.paths {table = t} {typed = p} {bs} {cs} {gones} a l few many) (IsPastLimit.obligations {table = u} {typed = q} {bs = ds} {cs = es} {gones = others} gs b m less paths have more) =
+        absurd (few_and_many u t q p ds bs es cs others gones b a m l paths many)
+    one_limit _ _ (IsPastLimit.obligations gs a l few paths have many) (IsPastLimit.bytes long) = absurd (omega (arith, short, long))
+    one_limit _ other (IsPastLimit.obligations {table} {typed} gs a l few paths have many) (IsPastLimit.functions g) = absurd (typed_not_many table typed other a g)
+    one_limit _ _ (IsPastLimit.obligations {table = t} {typed = p} {bs} {cs} {gones} gs a l few paths have many) (IsPastLimit.blocks {table = u} {typed = q} b more) = absurd (no_more t u p q bs cs gones a b l few more)
+    one_limit _ _ (IsPastLimit.obligations {table = t} {typed = p} {bs} {cs} {gones} gs a l few paths have many) (IsPastLimit.paths {table = u} {typed = q} {bs = ds} {cs = es} {gones = others} b m less more) =
+        absurd (few_and_many t u p q bs ds cs es gones others a b l m paths more)
+    one_limit _ _ (IsPastLimit.obligations gs a l few paths have many) (IsPastLimit.obligations hs b m less ways had more) = refl
+
+    -- ---- accepted sources
+
+    prepared_not_many : (p : Program) (gs : List FunctionGoals) (t : List (List ℕ)) (q : TypedProgram) (bs : List Body) (cs : List Contract) (gones : List Initialised) → IsPrepared source p → IsTypedAs source t q → LowerTo t q.functions bs cs gones
+        → HaveGoals bs cs gones gs → most_obligations < length (obligations_in gs) → ⊥
+    prepared_not_many p gs t q bs cs gones h b l have many =
+        let same = same_lowering t p.names q h.typed bs p.bodies.bodies cs p.contracts gones h.gones b h.is_typed l h.lowers in
+        let moved : HaveGoals p.bodies.bodies p.contracts h.gones gs =
+        subst (λ (x : List Initialised). HaveGoals p.bodies.bodies p.contracts x gs) same.2
+        (subst (λ (x : List Contract). HaveGoals p.bodies.bodies x gones gs) same.1 (subst (λ (x : List Body). HaveGoals x cs gones gs) same.0 have)) in
+        few_obligations_are_not_many p.bodies.bodies p.contracts h.gones p.functions gs h.goals h.as_many h.few moved many
+
+    pub prepared_not_past : (p : Program) (limit : Limit) → IsPrepared source p → IsPastLimit source limit → ⊥
+    prepared_not_past p _ h (IsPastLimit.bytes long) = omega (arith, short, long)
+    prepared_not_past p limit h (IsPastLimit.functions g) = typed_not_many p.names h.typed limit h.is_typed g
+    prepared_not_past p _ h (IsPastLimit.blocks {table} {typed} b more) = no_more p.names table h.typed typed p.bodies.bodies p.contracts h.gones h.is_typed b h.lowers h.blocks more
+    prepared_not_past p _ h (IsPastLimit.paths {table} {typed} {bs} {cs} {gones} b l few many) = few_and_many p.names table h.typed typed p.bodies.bodies bs p.contracts cs h.gones gones h.is_typed b h.lowers l h.paths many
+    prepared_not_past p _ h (IsPastLimit.obligations {table} {typed} {bs} {cs} {gones} gs b l few paths have many) = prepared_not_many p gs table typed bs cs gones h b l have many
+
+  pub prepared_not_refused : (p : Program) (error : SourceError) → IsPrepared source p → IsRefused source error → ⊥
+  prepared_not_refused p error h r = typed_not_refused p.names h.typed error h.is_typed r
+
+  pub one_program : (one other : Program) → IsPrepared source one → IsPrepared source other → one ≡ other
+  one_program one other h g =
+      let same = same_lowering one.names other.names h.typed g.typed one.bodies.bodies other.bodies.bodies one.contracts other.contracts h.gones g.gones h.is_typed g.is_typed h.lowers g.lowers in
+      let moved : HaveGoals other.bodies.bodies other.contracts g.gones one.functions =
+      subst (λ (x : List Initialised). HaveGoals other.bodies.bodies other.contracts x one.functions) same.2
+      (subst (λ (x : List Contract). HaveGoals other.bodies.bodies x h.gones one.functions) same.1 (subst (λ (x : List Body). HaveGoals x one.contracts h.gones one.functions) same.0 h.goals)) in
+      let goals : one.functions ≡ other.functions = goals_once other.bodies.bodies other.contracts g.gones one.functions other.functions moved g.goals (h.as_many ∙ ap length same.0 ∙ sym g.as_many) in
+      let names : one.names ≡ other.names = same_tables one.names other.names h.typed g.typed h.is_typed g.is_typed in
+      λ i. record {
+        names = names i;
+        bodies = record { bodies = same.0 i };
+        contracts = same.1 i;
+        functions = goals i;
+      }

@@ -1,0 +1,139 @@
+-- There is one verdict, and steps are refused at one line.
+use Rattle.std.proofs.Common.{◌≡◌, ◌∙◌, ◌⊎◌, inl, inr, refl, sym, ap, subst, ℕ, zero, suc, Bool, true, false, List, [], ◌∷◌, ◌++◌, map, Option, None, Some, slice_get}
+use Rattle.std.specs.List.{find}
+use Rattle.logic_term.specs.declared.obligation.Obligation.{Obligation}
+use Rattle.mir_ir.specs.declared.body.Body.{Body}
+use Rattle.proof_kernel.specs.Progress.{Progress}
+use Rattle.proof_text.specs.declared.proof.NumberedStep.{NumberedStep}
+use Rattle.proof_text.specs.declared.proof.Proof.{Proof}
+use Rattle.report_out.specs.declared.verdict.FnLine.{FnLine}
+use Rattle.report_out.specs.declared.verdict.LeftItem.{LeftItem}
+use Rattle.report_out.specs.declared.verdict.Reason.{Reason}
+use Rattle.report_out.specs.declared.verdict.Reason.TheVariants.{Missing, Proof as Refused}
+use Rattle.verify_core.specs.declared.goals.FunctionGoals.{FunctionGoals}
+use Rattle.verify_core.specs.Laws.{RefusedAtOneLine, RefusedIsNotAccepted, VerdictIsOne}
+use Rattle.verify_core.specs.Verdict.{Does, Runs, IsAccepted, IsRefusedAt, begun, is_for, Settles, Judges, left_item, Tells, IsVerified, AreLines}
+use Rattle.verify_core.proofs.StepsOnce.{does_once, refused_is_no_proof}
+
+-- ---- the line at which steps are refused
+
+abbrev CannotDo : Progress → NumberedStep → Type 0
+CannotDo k n = (after : Progress) → Does k n.step after → ⊥
+
+-- from there on the steps are refused at this line: the first that cannot be done, or the end, where a sequent is left
+abbrev IsRefusedFrom : ℕ → Progress → List NumberedStep → ℕ → Type 0
+IsRefusedFrom «end» k [] line = (k.left ≡ [] → ⊥) × (line ≡ «end»)
+IsRefusedFrom «end» k (n ∷ ns) line = (CannotDo k n × (line ≡ n.line)) ⊎ ((m : Progress) × Does k n.step m × IsRefusedFrom «end» m ns line)
+
+from_step : {k m : Progress} {done : List NumberedStep} («end» : ℕ) (n : NumberedStep) (rest : List NumberedStep) → Runs k done m → CannotDo m n → IsRefusedFrom «end» k (done ++ n ∷ rest) n.line
+from_step «end» n rest Runs.none never = inl (never, refl)
+from_step «end» n rest (Runs.more {m = m} does runs) never = inr (m, does, from_step «end» n rest runs never)
+
+from_end : {k m : Progress} {steps : List NumberedStep} («end» : ℕ) → Runs k steps m → (m.left ≡ [] → ⊥) → IsRefusedFrom «end» k steps «end»
+from_end «end» Runs.none left = (left, refl)
+from_end «end» (Runs.more {m = m} does runs) left = inr (m, does, from_end «end» runs left)
+
+from_begun : (o : Obligation) (steps : List NumberedStep) («end» line : ℕ) → IsRefusedAt o steps «end» line → IsRefusedFrom «end» (begun o) steps line
+from_begun o steps «end» line (IsRefusedAt.at_step {n = n} {k = k} done rest e runs never) = subst (λ (ns : List NumberedStep). IsRefusedFrom «end» (begun o) ns n.line) (sym e) (from_step «end» n rest runs never)
+from_begun o steps «end» line (IsRefusedAt.at_end {k = k} runs left) = from_end «end» runs left
+
+line_once : («end» : ℕ) (steps : List NumberedStep) (k : Progress) (l m : ℕ) → IsRefusedFrom «end» k steps l → IsRefusedFrom «end» k steps m → l ≡ m
+line_once «end» [] k l m a b = a.1 ∙ sym b.1
+line_once «end» (n ∷ ns) k l m (inl a) (inl b) = a.1 ∙ sym b.1
+line_once «end» (n ∷ ns) k l m (inl a) (inr b) = absurd (a.0 b.0 b.1)
+line_once «end» (n ∷ ns) k l m (inr a) (inl b) = absurd (b.0 a.0 a.1)
+line_once «end» (n ∷ ns) k l m (inr a) (inr b) =
+    let same : b.0 ≡ a.0 = does_once k b.0 a.0 n.step b.1 a.1 in
+    line_once «end» ns a.0 l m a.2 (subst (λ (p : Progress). IsRefusedFrom «end» p ns m) same b.2)
+
+pub refused_at_one_line : RefusedAtOneLine
+refused_at_one_line o steps «end» line other a b = line_once «end» steps (begun o) line other (from_begun o steps «end» line a) (from_begun o steps «end» other b)
+
+pub refused_is_not_accepted : RefusedIsNotAccepted
+refused_is_not_accepted o steps «end» line accepted refused = refused_is_no_proof o steps «end» line refused accepted
+
+-- ---- one obligation
+
+-- what is made of an obligation that has this proof, or none
+abbrev SettledBy : Obligation → Option Proof → Option Reason → Type 0
+SettledBy o None r = r ≡ Some Missing
+SettledBy o (Some p) r = (IsAccepted o p.steps × (r ≡ None)) ⊎ ((line : ℕ) × IsRefusedAt o p.steps p.«end» line × (r ≡ Some (Refused line)))
+
+settled_by : (ps : List Proof) (o : Obligation) (r : Option Reason) → Settles ps o r → SettledBy o (find (is_for o) ps) r
+settled_by ps o r (Settles.proved {p = p} found accepted) = subst (λ (f : Option Proof). SettledBy o f None) (sym found) (inl (accepted, refl))
+settled_by ps o r (Settles.missing none) = subst (λ (f : Option Proof). SettledBy o f (Some Missing)) (sym none) refl
+settled_by ps o r (Settles.refused {p = p} {line = line} found refused) = subst (λ (f : Option Proof). SettledBy o f (Some (Refused line))) (sym found) (inr (line, refused, refl))
+
+by_one : (o : Obligation) (f : Option Proof) (r s : Option Reason) → SettledBy o f r → SettledBy o f s → r ≡ s
+by_one o None r s a b = a ∙ sym b
+by_one o (Some p) r s (inl a) (inl b) = a.1 ∙ sym b.1
+by_one o (Some p) r s (inl a) (inr b) = absurd (refused_is_no_proof o p.steps p.«end» b.0 b.1 a.0)
+by_one o (Some p) r s (inr a) (inl b) = absurd (refused_is_no_proof o p.steps p.«end» a.0 a.1 b.0)
+by_one o (Some p) r s (inr a) (inr b) = a.2 ∙ ap (λ (l : ℕ). Some (Refused l)) (refused_at_one_line o p.steps p.«end» a.0 b.0 a.1 b.1) ∙ sym b.2
+
+settles_once : (ps : List Proof) (o : Obligation) (r s : Option Reason) → Settles ps o r → Settles ps o s → r ≡ s
+settles_once ps o r s a b = by_one o (find (is_for o) ps) r s (settled_by ps o r a) (settled_by ps o s b)
+
+-- ---- all of them
+
+some_same : {A : Type 0} {a b : A} → Some a ≡ Some b → a ≡ b
+some_same e = cc
+
+none_is_not : {A : Type 0} {a : A} → None ≡ Some a → ⊥
+none_is_not e = absurd cc
+
+judges_once : {ps : List Proof} {os : List Obligation} {left others : List LeftItem} {n m : ℕ} → Judges ps os left n → Judges ps os others m → (left ≡ others) × (n ≡ m)
+judges_once Judges.none Judges.none = (refl, refl)
+judges_once (Judges.proved a rest) (Judges.proved b more) =
+    let r = judges_once rest more in
+    (r.0, ap suc r.1)
+judges_once {ps} (Judges.proved {o = o} a rest) (Judges.left {r = s} b more) = absurd (none_is_not (settles_once ps o None (Some s) a b))
+judges_once {ps} (Judges.left {o = o} {r = r} a rest) (Judges.proved b more) = absurd (none_is_not (settles_once ps o None (Some r) b a))
+judges_once {ps} (Judges.left {o = o} {left = left} {r = r} a rest) (Judges.left {left = others} {r = s} b more) =
+    let reason : r ≡ s = some_same (settles_once ps o (Some r) (Some s) a b) in
+    let rest_is = judges_once rest more in
+    (ap (λ (q : Reason). left_item o q ∷ left) reason ∙ ap (λ (xs : List LeftItem). left_item o s ∷ xs) rest_is.0, rest_is.1)
+
+-- ---- the lines
+
+tells_once : (P : Type 0) (a b : Bool) → Tells a P → Tells b P → a ≡ b
+tells_once P true true p q = refl
+tells_once P true false p q = absurd (q p)
+tells_once P false true p q = absurd (p q)
+tells_once P false false p q = refl
+
+same_line : (l k : FnLine) → l.name ≡ k.name → l.verified ≡ k.verified → l ≡ k
+same_line l k e f = λ i. record {
+  name = e i;
+  verified = f i;
+}
+
+same_cons : {A : Type 0} (x y : A) (xs ys : List A) → x ∷ xs ≡ y ∷ ys → (x ≡ y) × (xs ≡ ys)
+same_cons x y xs ys e = (cc, cc)
+
+-- lists of lines that have the same names, and the same flags at each place
+same_lines : (ls ks : List FnLine) → map (λ l. l.name) ls ≡ map (λ l. l.name) ks → ((f : ℕ) (l k : FnLine) → slice_get ls f ≡ Some l → slice_get ks f ≡ Some k → l.verified ≡ k.verified) → ls ≡ ks
+same_lines [] [] names flags = refl
+same_lines [] (k ∷ ks) names flags = absurd (cc)
+same_lines (l ∷ ls) [] names flags = absurd (cc)
+same_lines (l ∷ ls) (k ∷ ks) names flags =
+    let parts = same_cons l.name k.name (map (λ (x : FnLine). x.name) ls) (map (λ (x : FnLine). x.name) ks) names in
+    let here : l ≡ k = same_line l k parts.0 (flags zero l k refl refl) in
+    ap (λ (x : FnLine). x ∷ ls) here ∙ ap (λ (xs : List FnLine). k ∷ xs) (same_lines ls ks parts.1 (λ f x y. flags (suc f) x y))
+
+lines_once : (ps : List Proof) (bodies : List Body) (goals : List FunctionGoals) (ls ks : List FnLine) → AreLines ps bodies goals ls → AreLines ps bodies goals ks → ls ≡ ks
+lines_once ps bodies goals ls ks a b = same_lines ls ks (a.names ∙ sym b.names) (λ f l k is_l is_k. tells_once (IsVerified ps bodies goals f) l.verified k.verified (a.told f l is_l) (b.told f k is_k))
+
+-- ---- the verdict
+
+pub verdict_once : VerdictIsOne
+verdict_once ps bodies goals v other a b =
+    let judged = judges_once a.judged b.judged in
+    let functions : v.functions ≡ other.functions = lines_once ps bodies goals v.functions other.functions a.lines b.lines in
+    let obligations : v.obligations ≡ other.obligations = a.counted ∙ sym b.counted in
+    λ i. record {
+      functions = functions i;
+      left = judged.0 i;
+      obligations = obligations i;
+      proved = judged.1 i;
+    }

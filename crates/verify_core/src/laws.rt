@@ -1,0 +1,47 @@
+//! Laws of what there is one of. Nothing here computes.
+ghost use Rattle.verify_core.specs.Laws.{AcceptedIsNotRefused, AcceptedIsWithinLimits, FewerAreFront, FewerHaveFewer, FewObligationsAreNotMany, FewPathsAreNotMany, GoalsAreOfBodies, GoalsAreOne, LimitIsOne, ObligationsAreOne, ProgramIsOne, RefusalIsOne, RefusedAtOneLine, RefusedIsNotAccepted, RefusedIsWithinLimits, VerdictIsOne};
+
+/// A body with its contract has one list of obligations, and one number of paths.
+pub fn obligations_are_of_one_walk()
+    ensures { ObligationsAreOne }
+{}
+
+/// So many of the first functions of a program have one list of goals, which stands at the front of that of more functions.
+pub fn functions_have_one_list_of_goals()
+    ensures one { GoalsAreOne }
+    ensures front { FewerAreFront }
+    ensures fewer { FewerHaveFewer }
+    ensures of_bodies { GoalsAreOfBodies }
+{}
+
+/// A program whose functions all have few enough obligations is never past the limit on obligations.
+pub fn obligations_are_counted()
+    ensures { FewObligationsAreNotMany }
+{}
+
+/// A program whose bodies all have few enough paths is never past the limit on paths.
+pub fn paths_are_counted()
+    ensures { FewPathsAreNotMany }
+{}
+
+/// The steps of a proof are refused at one line at most, and at none where they are accepted.
+pub fn refusals_are_at_one_line()
+    ensures one_line { RefusedAtOneLine }
+    ensures not_accepted { RefusedIsNotAccepted }
+{}
+
+/// The functions of a program have one verdict by the proofs of a file.
+pub fn a_verdict_is_one()
+    ensures { VerdictIsOne }
+{}
+
+/// A source is accepted with one program, or refused with one code and place, or past one limit, and only one of these. Limits
+/// behind that on its length are asked of a source that is no longer.
+pub fn a_source_has_one_answer()
+    ensures program { ProgramIsOne }
+    ensures refusal { RefusalIsOne }
+    ensures limit { LimitIsOne }
+    ensures not_refused { AcceptedIsNotRefused }
+    ensures within_limits { AcceptedIsWithinLimits }
+    ensures refused_within_limits { RefusedIsWithinLimits }
+{}
