@@ -51,7 +51,7 @@ proofs_limit n = record { kind = ProofBytes; counted = n; bound = most_proof_byt
 -- no proofs where no file is named
 pub data AreProofs (shelf : Option Files) : Option (List ℕ) → List Proof → Type 0 where
   absent : AreProofs shelf None []
-  given : {name : List ℕ} {file : ProofFile} (bytes : List ℕ) (table : List (List ℕ)) → HeldAs shelf name bytes → length bytes ≤ most_proof_bytes → SpellsProofs table bytes file → AreProofs shelf (Some name) file.proofs
+  given : {name : List ℕ} {file : ProofFile} (bytes : List ℕ) → HeldAs shelf name bytes → length bytes ≤ most_proof_bytes → SpellsProofs [] bytes file → AreProofs shelf (Some name) file.proofs
 
 -- ---- answers
 

@@ -3,6 +3,7 @@ ghost use Rattle.std.specs.Prelude.{◌≡◌, ◌≢◌, ◌⊎◌, ◌≤◌, 
 ghost use Rattle.std.specs.Io.KnownBytes.{Appends};
 ghost use Rattle.text_core.specs.Counts.{Rose};
 ghost use Rattle.io_edge.specs.Faults.{NoneFalls};
+ghost use Rattle.io_edge.specs.Shelf.{Files};
 ghost use Rattle.io_edge.specs.Sink.{AppendsPrefix};
 ghost use Rattle.creusot_cli.specs.Call.{AnswersWords, ReportsWords, PrintsPart, NamedRose};
 ghost use Rattle.call_words.specs.Asked.{asked_of};
@@ -61,6 +62,9 @@ pub fn creusot<S: Shelf, K: Sink>(alloc: Global, words: &[String], shelf: &mut S
     ensures verified { (result ≡ 0) ⊎ (result ≡ 1) → ReportsWords (S.holds shelf.old) (asked_of (map string_bytes words.now)) result (K.written out.old) (K.written out.new) }
     ensures answers { result ≢ 5 → result ≢ 6 → result ≢ 8
         → (bytes : List ℕ) × AnswersWords (S.holds shelf.old) (asked_of (map string_bytes words.now)) result bytes × Appends (K.written out.old) (K.written out.new) bytes }
+    // Where the shelf tells its files, a row of the table that is so is the answer.
+    ensures exactly { (files : Files) → S.holds shelf.old ≡ Some files → (status : ℕ) (bytes : List ℕ) → AnswersWords (Some files) (asked_of (map string_bytes words.now)) status bytes
+        → result ≢ 5 → result ≢ 6 → result ≢ 8 → (result ≡ status) × Appends (K.written out.old) (K.written out.new) bytes }
     // At every status what was printed is a front of what the table says.
     ensures part { PrintsPart (S.holds shelf.old) (asked_of (map string_bytes words.now)) (K.written out.old) (K.written out.new) }
     ensures unread { result ≡ 5 → NamedRose (asked_of (map string_bytes words.now)) (S.read_faults shelf.old) (S.read_faults shelf.new) × (out.new ≡ out.old) }

@@ -1,6 +1,7 @@
 use Rattle.std.proofs.Common.{map, string_bytes, inr}
 use Rattle.call_words.specs.Asked.{asked_of}
 use Rattle.creusot_cli.proofs.CallLaws.{reports}
+use Rattle.creusot_cli.proofs.OneCall.{exactly}
 use Rattle.creusot_cli.proofs.verify.creusot.Goals as goal
 
 pub returns-in-Ok-clause-verified : goal.returns-in-Ok-clause-verified
@@ -10,3 +11,8 @@ returns-in-Ok-clause-verified g c =
 
 pub returns-in-Ok-clause-part : goal.returns-in-Ok-clause-part
 returns-in-Ok-clause-part g c = inr (c.in-Ok.plan.status, c.in-Ok.plan.bytes.items, c.in-Ok.ensures.ok, c.print.ensures.part)
+
+pub returns-in-Ok-clause-exactly : goal.returns-in-Ok-clause-exactly
+returns-in-Ok-clause-exactly g c =
+    exactly (g.S.Shelf.holds c.args.shelf.now) (asked_of (map string_bytes c.args.words.now)) c.in-Ok.plan.status c.print.result c.in-Ok.plan.bytes.items
+    (g.K.Sink.written c.args.out.now) (g.K.Sink.written c.print.new.out) c.in-Ok.ensures.ok c.print.ensures.printed

@@ -3,7 +3,7 @@ use Rattle.creusot_cli.proofs.CallLaws.{refused_proofs}
 use Rattle.creusot_cli.proofs.verify.plan.proofs_in.Goals as goal
 
 pub returns-in-Ok : goal.returns-in-Ok
-returns-in-Ok c = λ shelf name held. AreProofs.given c.args.bytes.now c.in-Ok.ensures.ok.0 held c.requires c.in-Ok.ensures.ok.1
+returns-in-Ok c = λ shelf name held. AreProofs.given c.args.bytes.now held c.requires c.in-Ok.ensures.ok
 
 pub returns-in_ok-plan_of_proofs-in-Err : goal.returns-in_ok-plan_of_proofs-in-Err
 returns-in_ok-plan_of_proofs-in-Err c = λ shelf name held source p a verb named has.
