@@ -1,0 +1,4 @@
+pub mod Digits
+pub mod WordLemmas
+pub mod WordLists
+pub mod WordSteps

@@ -1,0 +1,17 @@
+pub mod Actions
+pub mod Faults
+pub mod Make
+pub mod Pat
+pub mod PatCode
+pub mod PatFalls
+pub mod PatView
+pub mod Pterm
+pub mod PtermCode
+pub mod PtermFalls
+pub mod PtermView
+pub mod TypeTree
+pub mod TypeTreeCode
+pub mod TypeTreeFalls
+pub mod TypeTreeView
+pub mod Values
+pub mod Words

@@ -1,0 +1,49 @@
+-- Terms of contracts as they are written (Pearlite, Creusot): one constructor for each variant of `PtermNode`, after its span.
+use Rattle.std.specs.Prelude.{ℤ, Bool, Option, List}
+use Rattle.text_core.specs.declared.span.Span.{Span}
+use Rattle.logic_term.specs.declared.kinds.IntKind.{IntKind}
+use Rattle.pearlite.specs.declared.path.Path.{Path}
+use Rattle.pearlite.specs.declared.operator.UnaryTerm.{UnaryTerm}
+use Rattle.pearlite.specs.declared.operator.BinaryTerm.{BinaryTerm}
+use Rattle.pearlite.specs.declared.path.Segment.{Segment}
+use Rattle.pearlite.specs.declared.operator.Quantifier.{Quantifier}
+use Rattle.pearlite.specs.declared.binder.Binder.{Binder}
+use Rattle.pearlite.specs.declared.operator.Predicate.{Predicate}
+use Rattle.pearlite.specs.Pat.{Pat}
+
+mutual
+  pub data Pterm : Type 0 where
+    integer : Span → ℤ → Option IntKind → Pterm
+    truth : Span → Bool → Pterm
+    -- `result`
+    answer : Span → Pterm
+    -- `self`
+    receiver : Span → Pterm
+    path : Span → Path → Pterm
+    unary : Span → UnaryTerm → Pterm → Pterm
+    binary : Span → BinaryTerm → Pterm → Pterm → Pterm
+    field : Span → Pterm → Segment → Pterm
+    -- a field by its number
+    part : Span → Pterm → ℤ → Option IntKind → Pterm
+    method : Span → Pterm → Segment → Terms → Pterm
+    call : Span → Path → Terms → Pterm
+    -- a struct literal
+    literal : Span → Path → FieldTerms → Pterm
+    tuple : Span → Terms → Pterm
+    choice : Span → Pterm → Pterm → Pterm → Pterm
+    matching : Span → Pterm → Arms → Pterm
+    quantified : Span → Quantifier → List Binder → Pterm → Pterm
+    -- a predicate of closures
+    predicate : Span → Predicate → Terms → Pterm
+
+  pub data Terms : Type 0 where
+    none : Terms
+    more : Pterm → Terms → Terms
+
+  pub data FieldTerms : Type 0 where
+    no_fields : FieldTerms
+    with_field : Segment → Pterm → FieldTerms → FieldTerms
+
+  pub data Arms : Type 0 where
+    no_arms : Arms
+    with_arm : Pat → Pterm → Arms → Arms

@@ -1,0 +1,33 @@
+//! Terms of contracts as they are written: their words and trees, and what makes them.
+#![tactic(auto)]
+
+mod action;
+mod action_tables;
+mod binder;
+mod fault;
+mod make_patterns;
+mod make_terms;
+mod make_types;
+mod operator;
+mod path;
+mod pattern;
+mod pterm;
+#[cfg(test)]
+mod tests;
+mod trees;
+mod types;
+mod value;
+mod word;
+mod words;
+
+pub use action::Action;
+pub use binder::Binder;
+pub use fault::PassError;
+pub use operator::{BinaryTerm, Comparison, Predicate, Quantifier, UnaryTerm};
+pub use path::{Path, PathNode, Segment};
+pub use pattern::{FieldPat, Pat, PatNode};
+pub use pterm::{Arm, FieldTerm, Pterm, PtermNode};
+pub use types::{TypeNode, TypeTree};
+pub use value::{Piece, Value};
+pub use word::{Word, WordKind};
+pub use words::words_of;

@@ -1,0 +1,58 @@
+use logic_term::ArithOp;
+
+/// The comparisons of terms.
+#[derive(Clone, Copy, Debug, PartialEq, Eq)]
+pub enum Comparison {
+    Eq,
+    Ne,
+    Lt,
+    Le,
+    Gt,
+    Ge,
+}
+
+/// The operators with one operand.
+#[derive(Clone, Copy, Debug, PartialEq, Eq)]
+pub enum UnaryTerm {
+    /// `-t`
+    Neg,
+    /// `!t`
+    Not,
+    /// `*t`
+    Current,
+    /// `^t`
+    Final,
+    /// `t@`
+    View,
+}
+
+/// The operators with two operands.
+#[derive(Clone, Copy, Debug, PartialEq, Eq)]
+pub enum BinaryTerm {
+    /// `==>`
+    Implies,
+    /// `||`
+    Or,
+    /// `&&`
+    And,
+    Compare(Comparison),
+    Calculate(ArithOp),
+    /// `MutRef(t, u)`
+    MutRef,
+}
+
+/// The quantifiers.
+#[derive(Clone, Copy, Debug, PartialEq, Eq)]
+pub enum Quantifier {
+    Forall,
+    Exists,
+}
+
+/// The predicates of closures.
+#[derive(Clone, Copy, Debug, PartialEq, Eq)]
+pub enum Predicate {
+    Precondition,
+    Postcondition,
+    PostconditionMut,
+    PostconditionOnce,
+}

@@ -1,0 +1,28 @@
+use crate::types::TypeTree;
+use text_core::{Items, Name, Span};
+
+/// A name in its place.
+#[derive(Clone, Copy, Debug, PartialEq, Eq)]
+pub struct Segment {
+    pub name: Name,
+    pub span: Span,
+}
+
+/// A path as it is written.
+#[derive(Drop)]
+pub struct Path {
+    /// From its first word to its last.
+    pub span: Span,
+    pub node: PathNode,
+}
+
+/// The forms of paths.
+#[derive(Drop)]
+pub enum PathNode {
+    /// `a::b::<T>`: the first name, those behind it, and the types at the end, none where no `::<` stands.
+    Names(Segment, Items<Segment>, Items<TypeTree>),
+    /// `a::<T>::b`
+    Member(Segment, Items<TypeTree>, Segment),
+    /// `<T as A>::b`
+    Qualified(TypeTree, Segment, Segment),
+}

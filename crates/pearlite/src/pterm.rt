@@ -1,0 +1,84 @@
+use crate::binder::Binder;
+use crate::operator::{BinaryTerm, Predicate, Quantifier, UnaryTerm};
+use crate::path::{Path, Segment};
+use crate::pattern::Pat;
+use logic_term::IntKind;
+use std::marker::Model;
+use text_core::Span;
+
+/// A term of a contract as it is written. Contracts see the tree of specs/Pterm.antt.
+#[cycle(pterm)]
+#[derive(Drop)]
+pub struct Pterm {
+    /// From its first word to its last; that of `(X)` is that of `X`.
+    pub span: Span,
+    pub node: PtermNode,
+}
+
+/// What a term is at its top.
+#[cycle(pterm)]
+#[derive(Drop)]
+pub enum PtermNode {
+    /// An integer, with the type at its end if it has one. A `-` right before the integer belongs to it.
+    Int(i128, Option<IntKind>),
+    Truth(bool),
+    /// `result`
+    Answer,
+    /// `self`
+    Receiver,
+    Path(Path),
+    Unary(UnaryTerm, Box<Pterm>),
+    Binary(BinaryTerm, Box<Pterm>, Box<Pterm>),
+    /// `t.f`
+    Field(Box<Pterm>, Segment),
+    /// `t.0`, with the type at the end of the integer if it has one.
+    Part(Box<Pterm>, i128, Option<IntKind>),
+    /// `t.f(u, v)`
+    Method(Box<Pterm>, Segment, Vec<Pterm>),
+    /// `f(u, v)`
+    Call(Path, Vec<Pterm>),
+    /// `S { f: t }`
+    Literal(Path, Vec<FieldTerm>),
+    Tuple(Vec<Pterm>),
+    /// The condition and both branches.
+    If(Box<Pterm>, Box<Pterm>, Box<Pterm>),
+    Match(Box<Pterm>, Vec<Arm>),
+    /// The variables and the body.
+    Quantified(Quantifier, Vec<Binder>, Box<Pterm>),
+    Predicate(Predicate, Vec<Pterm>),
+}
+
+/// A field of a struct literal.
+#[cycle(pterm)]
+#[derive(Drop)]
+pub struct FieldTerm {
+    pub name: Segment,
+    pub value: Pterm,
+}
+
+/// An arm of a `match`.
+#[cycle(pterm)]
+#[derive(Drop)]
+pub struct Arm {
+    pub pattern: Pat,
+    pub body: Pterm,
+}
+
+impl Model for Pterm {
+    ghost use Rattle.pearlite.specs.Pterm.{Pterm as Tree};
+    ghost use Rattle.pearlite.specs.PtermCode.{coded_pterm};
+
+    ghost Value = { Tree };
+
+    ghost coded = { coded_pterm };
+
+    ghost use Rattle.pearlite.specs.PtermView.{pterm_of, pterm_size};
+
+    ghost view = { λ t. pterm_of t.span t.node };
+
+    ghost size = { pterm_size };
+
+    ghost use Rattle.pearlite.specs.PtermFalls.{falls};
+
+    ghost size_decreases = { λ a h. falls a.span a.node };
+}
