@@ -1,5 +1,6 @@
 pub mod Along
 pub mod Following
+pub mod Fronts
 pub mod Heads
 pub mod Levels
 pub mod Listed

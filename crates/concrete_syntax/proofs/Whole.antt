@@ -1,128 +1,79 @@
--- From one reading to what the parser promises.
-use Rattle.std.specs.Prelude.{◌≡◌, ℕ, suc, Bool, true, false, List, [], ◌∷◌, ◌≤◌, ◌<◌, length, drop, IfOk, IfErr}
-use Rattle.std.proofs.Common.{refl, sym, ◌∙◌, ap, subst, arith, inl, inr, drop-cons, drop_of_length-le, length-drop, Option, Some, None, Result, Ok, Err, get_or}
+-- From the front of the words of a source to what the parser promises.
+use Rattle.std.specs.Prelude.{◌≡◌, ℕ, Bool, true, false, List, [], ◌≤◌, ◌<◌, length, take, drop, IfOk, IfErr}
+use Rattle.std.proofs.Common.{refl, sym, ◌∙◌, ap, subst, arith, inl, inr, Some, None, Result, Ok, Err}
 use Rattle.std.specs.Str.{IsValidUpTo}
 use Rattle.std.proofs.lemmas.Bool.{cases_order}
-use Rattle.text_core.specs.declared.refusal.Code.{Code}
+use Rattle.std.proofs.lemmas.List.{take_all}
 use Rattle.text_core.specs.declared.refusal.Code.TheVariants.{E01, E02}
 use Rattle.text_core.specs.declared.refusal.SourceError.{SourceError}
 use Rattle.text_core.specs.declared.span.Span.{Span}
-use Rattle.token_grammar.specs.Reads.{ok, stop, rest, Reads}
-use Rattle.token_grammar.proofs.Facts.{refused, limited, left_over}
+use Rattle.token_grammar.specs.Grammar.{Spells}
+use Rattle.token_grammar.specs.Reads.{ok}
+use Rattle.token_grammar.specs.Tables.{passes, without_limits}
 use Rattle.token_grammar.proofs.Exact.{sound, complete}
-use Rattle.token_grammar.proofs.Once.{same, value_same, rest_same, differ, some_same}
+use Rattle.token_grammar.proofs.Once.{same, value_same, some_same}
 use Rattle.rs_tokens.proofs.OneReading.{one_list}
 use Rattle.concrete_syntax.specs.declared.event.Event.{Event}
 use Rattle.concrete_syntax.specs.declared.fault.ParseFault.{ParseFault}
 use Rattle.concrete_syntax.specs.declared.fault.ParseFault.TheVariants as P
-use Rattle.concrete_syntax.specs.declared.kinds.WordKind.TheVariants as K
 use Rattle.concrete_syntax.specs.declared.phrases.Nonterminal.{Nonterminal}
 use Rattle.concrete_syntax.specs.declared.phrases.Nonterminal.TheVariants as N
 use Rattle.concrete_syntax.specs.declared.phrases.ItemPhrase.TheVariants as NI
-use Rattle.concrete_syntax.specs.declared.reading.Stop.TheVariants.{Refused}
 use Rattle.concrete_syntax.specs.declared.word.Word.{Word}
-use Rattle.concrete_syntax.specs.Answer.{Answer}
-use Rattle.concrete_syntax.specs.LeftOut.{IsCode, passes, ComesTo}
-use Rattle.concrete_syntax.specs.Parsed.{SpellsWords, SpellsPhrases, SpellsAs, StandsAt, IsErrorAt, Offends, IsSyntaxError, IsPhraseError, SpellNone, IsParseError, SpellsNone}
+use Rattle.concrete_syntax.specs.Front.{SpellsFront, IsFrontRefusal}
+use Rattle.concrete_syntax.specs.LeftOut.{ComesTo}
+use Rattle.concrete_syntax.specs.Parsed.{SpellsWords, SpellsPhrases, SpellsAs, StandsAt, Offends, IsSyntaxError, IsPhraseError, SpellNone, IsParseError, SpellsNone}
 use Rattle.concrete_syntax.specs.Making.{Making}
 use Rattle.concrete_syntax.specs.Sources.{phrases, sources, sources_of}
 use Rattle.concrete_syntax.specs.Words.{AreWords, IsBadText, no_text, bad_token, IsWordError}
-use Rattle.token_grammar.specs.Grammar.{Spells}
-use Rattle.token_grammar.specs.Tables.{IsExact, IsHeaded, IsRefusal, without_limits}
-use Rattle.concrete_syntax.proofs.Heads.{is_exact}
-use Rattle.concrete_syntax.proofs.Revalued.{stops, ends}
+use Rattle.concrete_syntax.proofs.Fronts.{exact, some_left, as_phrases, one_front, whole_front, passes_none, not_refused, one_refused}
+use Rattle.concrete_syntax.proofs.Revalued.{ends}
 use Rattle.concrete_syntax.proofs.Telling.{relaxed}
-use Rattle.concrete_syntax.proofs.Planning.{the_plan}
-use Rattle.concrete_syntax.proofs.PlanFits.{is_planned}
 use Rattle.concrete_syntax.proofs.Tokens.{no_words, same_words}
 
 abbrev pub source : Nonterminal
 source = N.Item NI.Source
 
-abbrev pub no_word : Word
-no_word = record { kind = K.Int; span = record { start = 0; end = 0 }; number = 0 }
-
 -- ---- words
 
-refused_left : (ws : List Word) (es : List Event) (k : ℕ) → k < length ws → Reads sources source 0 0 [] ws (ok es (drop k ws)) → IsRefusal sources source ws (drop k ws)
-refused_left ws es k inside q =
-    let e = drop-cons ws k no_word inside in
-    rw e (left_over sources is_exact the_plan is_planned source ws es (get_or ws k no_word) (drop (suc k) ws) (rw e at q))
-
 module _ {Value : Type 0} (making : Making Value) where
-  exact : IsExact (sources_of making)
-  unfolding IsHeaded
-  exact = record { own = is_exact.own; at_end = is_exact.at_end; heads = is_exact.heads }
+  pub whole : (ws : List Word) (v : Value) (k : ℕ) → length ws ≤ k → SpellsFront making source 0 ws v k → SpellsWords making ws v
+  whole ws v k h F = subst (λ (us : List Word). SpellsWords making us v) (take_all k ws h) F.spelled
 
-  pub whole : (ws : List Word) (v : Value) (k : ℕ) → length ws ≤ k → Reads (sources_of making) source 0 0 making.nothing ws (ok v (drop k ws)) → SpellsWords making ws v
-  whole ws v k h q = (let e : drop k ws ≡ [] = drop_of_length-le ws h in sound (sources_of making) exact (rw e at q))
+  pub alone : (ws : List Word) (v : Value) (k : ℕ) → SpellsFront making source 0 ws v k → (other : Value) → SpellsWords making ws other → other ≡ v
+  alone ws v k F other s = (one_front source 0 making ws other v (length ws) k (whole_front source 0 making ws other s) F).0
 
-  pub alone : (ws : List Word) (v : Value) (k : ℕ) → length ws ≤ k → Reads (sources_of making) source 0 0 making.nothing ws (ok v (drop k ws)) → (other : Value) → SpellsWords making ws other → other ≡ v
-  alone ws v k h q other s = value_same (same (sources_of making) (complete (sources_of making) exact s) (ok v (drop k ws)) q)
-
-  -- the same stop, and the same end, of a reading that makes phrases
-  abbrev phrases_stop : (ws : List Word) (k : ℕ) (b : Bool) → Answer making ws source 0 0 (Err (Refused k b)) → Reads sources source 0 0 [] ws (stop b (drop k ws))
-  phrases_stop ws k b q = stops making phrases source 0 0 making.nothing [] ws (drop k ws) b q.1
-
-  abbrev phrases_end : (ws : List Word) (v : Value) (k : ℕ) → Reads (sources_of making) source 0 0 making.nothing ws (ok v (drop k ws)) → (es : List Event) × Reads sources source 0 0 [] ws (ok es (drop k ws))
-  phrases_end ws v k q = ends making phrases source 0 0 making.nothing [] ws (drop k ws) v q
-
-  abbrev pub comes_refused : (ws : List Word) (k : ℕ) (b : Bool) → Answer making ws source 0 0 (Err (Refused k b)) → ComesTo ws k
-  comes_refused ws k b q = record { outcome = stop b (drop k ws); reads = phrases_stop ws k b q; at = refl }
-
-  abbrev pub comes_left : (ws : List Word) (v : Value) (k : ℕ) → Reads (sources_of making) source 0 0 making.nothing ws (ok v (drop k ws)) → ComesTo ws k
-  comes_left ws v k q = (let p = phrases_end ws v k q in record { outcome = ok p.0 (drop k ws); reads = p.1; at = refl })
-
-  pub stopped : (ws : List Word) (end k : ℕ) (b : Bool) (error : ParseFault) → Answer making ws source 0 0 (Err (Refused k b)) → IsErrorAt b ws k end error → IsPhraseError ws end error
-  stopped ws end k b P.NoMemory q h = tt
-  stopped ws end k false (P.Source error) q h = record { place = k; within = q.0; comes = comes_refused ws k false q; offends = refused sources is_exact the_plan is_planned source ws (drop k ws) (phrases_stop ws k false q); stands = h }
-  stopped ws end k true (P.Source error) q h = record { place = k; within = q.0; comes = comes_refused ws k true q; offends = limited sources is_exact the_plan is_planned source ws (drop k ws) (phrases_stop ws k true q); stands = h }
-
-  pub none : (ws : List Word) (k : ℕ) (b : Bool) (error : ParseFault) → Answer making ws source 0 0 (Err (Refused k b)) → SpellNone ws error
-  none ws k b P.NoMemory q = tt
-  none ws k b (P.Source error) q = λ es s. differ (same sources (phrases_stop ws k b q) (ok es []) (complete sources is_exact s))
-
-  pub left : (ws : List Word) (v : Value) (end k : ℕ) (error : ParseFault) → k < length ws → Reads (sources_of making) source 0 0 making.nothing ws (ok v (drop k ws)) → IsErrorAt false ws k end error → IsPhraseError ws end error
-  left ws v end k P.NoMemory inside q h = tt
-  left ws v end k (P.Source error) inside q h = (let p = phrases_end ws v k q in
+  -- a word behind a front is refused
+  pub left : (ws : List Word) (v : Value) (end k : ℕ) (error : SourceError) → k < length ws → SpellsFront making source 0 ws v k → ComesTo source 0 ws k →
+      StandsAt false source 0 ws k end error → IsSyntaxError ws end error
+  left ws v end k error inside F comes h =
+      let p : passes comes.outcome ≡ false = passes_none source 0 making ws k comes.outcome F.within comes.reads comes.at v k F in
       record {
         place = k;
-        within = omega (arith, inside);
-        comes = comes_left ws v k q;
-        offends = refused_left ws p.0 k inside p.1;
-        stands = h;
-      })
+        refused = record {
+          within = F.within;
+          comes = comes;
+          offends = subst (λ (b : Bool). Offends b source 0 ws k) (sym p)
+              (elim F.ends [ inl e ↦ absurd (some_left ws k (length ws) inside (omega arith) e) | inr R ↦ R ]);
+          stands = subst (λ (b : Bool). StandsAt b source 0 ws k end error) (sym p) h;
+        };
+      }
 
-  pub left_none : (ws : List Word) (v : Value) (k : ℕ) (error : ParseFault) → k < length ws → Reads (sources_of making) source 0 0 making.nothing ws (ok v (drop k ws)) → SpellNone ws error
-  left_none ws v k P.NoMemory h q = tt
-  left_none ws v k (P.Source error) h q = λ es s. (let p = phrases_end ws v k q in let e = rest_same (same sources p.1 (ok es []) (complete sources is_exact s)) in
-      let f : drop k ws ≡ get_or ws k no_word ∷ drop (suc k) ws = drop-cons ws k no_word h in
-      let g : get_or ws k no_word ∷ drop (suc k) ws ≡ [] = sym f ∙ e in cc)
+  pub left_none : (ws : List Word) (v : Value) (k : ℕ) → k < length ws → SpellsFront making source 0 ws v k → (es : List Event) → SpellsPhrases ws es → ⊥
+  left_none ws v k inside F es s =
+      let e = as_phrases source 0 making (take k ws) [] v F.spelled in
+      let front : SpellsFront phrases source 0 ws e.0 k = record { within = F.within; spelled = e.1; ends = F.ends } in
+      let same = one_front source 0 phrases ws e.0 es k (length ws) front (whole_front source 0 phrases ws es s) in
+      omega (arith, inside, same.1)
 
--- ---- one refusal
+pub refused_words : (ws : List Word) (end place : ℕ) (error : SourceError) → IsFrontRefusal source 0 ws end place error → IsSyntaxError ws end error
+refused_words ws end place error h = record { place = place; refused = h.refused }
 
--- words are refused in one way
-same_place : (ws : List Word) (i k : ℕ) → i ≤ length ws → k ≤ length ws → drop i ws ≡ drop k ws → i ≡ k
-same_place ws i k inside within e = omega (arith, inside, within, sym (length-drop i ws) ∙ ap length e ∙ length-drop k ws)
-
-same_code : (b : Bool) (ws : List Word) (k : ℕ) (one other : Code) → IsCode b ws k one → IsCode b ws k other → one ≡ other
-same_code true ws k one other h g = h ∙ sym g
-same_code false ws k one other (inl h) (inl g) = h.0 ∙ sym g.0
-same_code false ws k one other (inl h) (inr g) = absurd (g.1 h.1)
-same_code false ws k one other (inr h) (inl g) = absurd (h.1 g.1)
-same_code false ws k one other (inr h) (inr g) = h.0 ∙ sym g.0
+pub refused_none : (ws : List Word) (end place : ℕ) (error : SourceError) → IsFrontRefusal source 0 ws end place error → (es : List Event) → SpellsPhrases ws es → ⊥
+refused_none ws end place error h es s = not_refused source 0 phrases ws end place error h es (length ws) (whole_front source 0 phrases ws es s)
 
 pub one_refusal : (ws : List Word) (end : ℕ) (one other : SourceError) → IsSyntaxError ws end one → IsSyntaxError ws end other → one ≡ other
-one_refusal ws end one other h g =
-    let o : h.comes.outcome ≡ g.comes.outcome = same sources h.comes.reads g.comes.outcome g.comes.reads in
-    let k : h.place ≡ g.place = same_place ws h.place g.place h.within g.within (sym h.comes.at ∙ ap rest o ∙ g.comes.at) in
-    let t : StandsAt (passes h.comes.outcome) ws h.place end other = rw (o, k) g.stands in
-    let c : one.code ≡ other.code = same_code (passes h.comes.outcome) ws h.place one.code other.code h.stands.code t.code in
-    let s : one.span ≡ other.span = h.stands.span ∙ sym t.span in
-    let a : one.other ≡ other.other = h.stands.alone ∙ sym t.alone in
-    ap (λ (e : Code). record { code = e; span = one.span; other = one.other }) c ∙
-    ap (λ (e : Span). record { code = other.code; span = e; other = one.other }) s ∙
-    ap (λ (e : Option Span). record { code = other.code; span = other.span; other = e }) a
+one_refusal ws end one other h g = (one_refused source 0 ws end h.place g.place one other h.refused g.refused).1
 
 -- ---- bytes
 
@@ -183,7 +134,7 @@ another_value one other bytes v s =
     let e = ends one other source 0 0 one.nothing other.nothing s.words [] v (complete (sources_of one) (exact one) s.spelled) in
     (e.0, record { words = s.words; are_words = s.are_words; spelled = sound (sources_of other) (exact other) e.1 })
 
-refusal_spells_none : (ws : List Word) (place : ℕ) (limited : Bool) → Offends limited ws place → (es : List Event) → SpellsPhrases ws es → ⊥
+refusal_spells_none : (ws : List Word) (place : ℕ) (limited : Bool) → Offends limited source 0 ws place → (es : List Event) → SpellsPhrases ws es → ⊥
 refusal_spells_none ws place true M es s = M.stuck (drop place ws) es refl (subst (λ (us : List Word). Spells sources source 0 0 [] us es []) M.split s)
 refusal_spells_none ws place false R es s = R.stuck (drop place ws) es refl (subst (λ (us : List Word). Spells (without_limits sources) source 0 0 [] us es []) R.split (relaxed sources s))
 
@@ -192,7 +143,7 @@ pub not_both : (bytes : List ℕ) (es : List Event) (error : SourceError) → Sp
 not_both bytes es error s (inl h) = no_words bytes error s.words h s.are_words
 not_both bytes es error s (inr h) =
     let e : s.words ≡ h.words = same_words bytes s.words h.words s.are_words h.are_words in
-    refusal_spells_none h.words h.error_of.place (passes h.error_of.comes.outcome) h.error_of.offends es (subst (λ (ws : List Word). SpellsPhrases ws es) e s.spelled)
+    refusal_spells_none h.words h.error_of.place (passes h.error_of.refused.comes.outcome) h.error_of.refused.offends es (subst (λ (ws : List Word). SpellsPhrases ws es) e s.spelled)
 
 -- ---- from the words to the bytes, for each answer
 

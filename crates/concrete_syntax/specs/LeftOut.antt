@@ -2,11 +2,12 @@
 -- Source: the language's own list of such words (docs/language.md).
 use Rattle.std.specs.Prelude.{◌≡◌, ℕ, ◌+◌, ◌-◌, ◌⊎◌, Bool, true, false, not, ◌&&◌, ◌||◌, nat_lt, List, [], ◌∷◌, ◌++◌, take, drop, slice_get, Option, None, Some, if◌then◌else◌}
 use Rattle.token_grammar.specs.Grammar.{Spells}
-use Rattle.token_grammar.specs.Reads.{Outcome, ok, stop, rest, Reads}
+use Rattle.token_grammar.specs.Reads.{Outcome, rest, Reads}
 use Rattle.token_grammar.specs.Tables.{without_limits}
 use Rattle.text_core.specs.declared.refusal.Code.{Code}
 use Rattle.text_core.specs.declared.refusal.Code.TheVariants.{E03, E04, E20}
 use Rattle.concrete_syntax.specs.declared.event.Event.{Event}
+use Rattle.concrete_syntax.specs.declared.phrases.Nonterminal.{Nonterminal}
 use Rattle.concrete_syntax.specs.declared.phrases.Nonterminal.TheVariants as N
 use Rattle.concrete_syntax.specs.declared.phrases.ItemPhrase.TheVariants as NI
 use Rattle.concrete_syntax.specs.declared.kinds.WordKind.{WordKind}
@@ -101,23 +102,29 @@ abbrev pub is_type : WordKind → Bool
 is_type (K.Keyword W.TypeWord) = true
 is_type _ = false
 
--- `type` outside an `impl`
-abbrev pub defines_type : List Word → ℕ → Bool
-defines_type words place = says is_type (slice_get words place) && not (is_in_impl (take place words))
+-- the goal is a whole source
+abbrev pub is_source : Nonterminal → Bool
+is_source (N.Item NI.Source) = true
+is_source _ = false
+
+-- `type` in a source, outside an `impl`
+abbrev pub defines_type : Nonterminal → List Word → ℕ → Bool
+defines_type goal words place = is_source goal && (says is_type (slice_get words place) && not (is_in_impl (take place words)))
 
 -- the word begins such a construct wherever it is refused
-abbrev pub begins_left_out : List Word → ℕ → Bool
-begins_left_out words place = says is_left_out (slice_get words place) || names_attribute words place || defines_type words place
+abbrev pub begins_left_out : Nonterminal → List Word → ℕ → Bool
+begins_left_out goal words place = says is_left_out (slice_get words place) || names_attribute words place || defines_type goal words place
 
 -- ---- by what could stand there
 
--- A word of this kind could stand at the place: something that is spelled, limits aside, goes on with it from the words before.
-pub record CouldStand (words : List Word) (place : ℕ) (kind : WordKind) : Type 0 where
+-- A word of this kind could stand at the place: something that is spelled as the goal at the level, limits aside, goes on with it from the
+-- words before.
+pub record CouldStand (goal : Nonterminal) (level : ℕ) (words : List Word) (place : ℕ) (kind : WordKind) : Type 0 where
   pub word : Word
   pub is : word.kind ≡ kind
   pub more : List Word
   pub phrases : List Event
-  pub spelled : Spells (without_limits sources) (N.Item NI.Source) 0 0 [] (take place words ++ (word ∷ more)) phrases []
+  pub spelled : Spells (without_limits sources) goal level 0 [] (take place words ++ (word ∷ more)) phrases []
 
 abbrev pub is_colon : WordKind → Bool
 is_colon (K.Mark M.Colon) = true
@@ -135,41 +142,41 @@ construct_of K.Semicolon = Some C.LetAlone
 construct_of _ = None
 
 -- in a term: it could go on by `@`, or an operand of it begin by `^`
-abbrev pub InTerm : List Word → ℕ → Type 0
-InTerm words place = CouldStand words place (K.Mark M.At) ⊎ CouldStand words place (K.Mark M.Caret)
+abbrev pub InTerm : Nonterminal → ℕ → List Word → ℕ → Type 0
+InTerm goal level words place = CouldStand goal level words place (K.Mark M.At) ⊎ CouldStand goal level words place (K.Mark M.Caret)
 
 -- behind the pattern of an arm: its arrow could stand
-abbrev pub BehindPattern : List Word → ℕ → Type 0
-BehindPattern words place = CouldStand words place (K.Mark M.FatArrow)
+abbrev pub BehindPattern : Nonterminal → ℕ → List Word → ℕ → Type 0
+BehindPattern goal level words place = CouldStand goal level words place (K.Mark M.FatArrow)
 
 -- before `:`, where a loop could stand
-abbrev pub BeforeLoop : List Word → ℕ → Type 0
-BeforeLoop words place = (says is_colon (slice_get words (place + 1)) ≡ true) × CouldStand words place (K.Keyword W.Loop)
+abbrev pub BeforeLoop : Nonterminal → ℕ → List Word → ℕ → Type 0
+BeforeLoop goal level words place = (says is_colon (slice_get words (place + 1)) ≡ true) × CouldStand goal level words place (K.Keyword W.Loop)
 
 -- at the left of a bound behind `where`: the bounds could go on by a lifetime, or end
-abbrev pub BeforeBound : List Word → ℕ → Type 0
-BeforeBound words place = CouldStand words place K.Lifetime × (CouldStand words place (K.Open B.Brace) ⊎ CouldStand words place K.Semicolon)
+abbrev pub BeforeBound : Nonterminal → ℕ → List Word → ℕ → Type 0
+BeforeBound goal level words place = CouldStand goal level words place K.Lifetime × (CouldStand goal level words place (K.Open B.Brace) ⊎ CouldStand goal level words place K.Semicolon)
 
 -- behind what a `let` declares: its `=` could stand, which is no assignment's, since no operator could, nor that of a view type
-abbrev pub BeforeValue : List Word → ℕ → Type 0
-BeforeValue words place = CouldStand words place (K.Mark M.Equal) × (CouldStand words place (K.Mark M.Minus) → ⊥) × (says is_type (word_before 2 words place) ≡ false)
+abbrev pub BeforeValue : Nonterminal → ℕ → List Word → ℕ → Type 0
+BeforeValue goal level words place = CouldStand goal level words place (K.Mark M.Equal) × (CouldStand goal level words place (K.Mark M.Minus) → ⊥) × (says is_type (word_before 2 words place) ≡ false)
 
 -- behind the value of a `let`: the statement could end there or the value go on, but not the block end
-abbrev pub BehindValue : List Word → ℕ → Type 0
-BehindValue words place = CouldStand words place K.Semicolon × CouldStand words place (K.Mark M.Minus) × (CouldStand words place (K.Close B.Brace) → ⊥)
+abbrev pub BehindValue : Nonterminal → ℕ → List Word → ℕ → Type 0
+BehindValue goal level words place = CouldStand goal level words place K.Semicolon × CouldStand goal level words place (K.Mark M.Minus) × (CouldStand goal level words place (K.Close B.Brace) → ⊥)
 
 -- the construct could stand there
-abbrev pub StandsThere : Construct → List Word → ℕ → Type 0
-StandsThere C.Cast words place = InTerm words place
-StandsThere C.Guard words place = BehindPattern words place
-StandsThere C.LetElse words place = BehindValue words place
-StandsThere C.Label words place = BeforeLoop words place
-StandsThere C.BoundType words place = BeforeBound words place
-StandsThere C.LetAlone words place = BeforeValue words place
+abbrev pub StandsThere : Construct → Nonterminal → ℕ → List Word → ℕ → Type 0
+StandsThere C.Cast goal level words place = InTerm goal level words place
+StandsThere C.Guard goal level words place = BehindPattern goal level words place
+StandsThere C.LetElse goal level words place = BehindValue goal level words place
+StandsThere C.Label goal level words place = BeforeLoop goal level words place
+StandsThere C.BoundType goal level words place = BeforeBound goal level words place
+StandsThere C.LetAlone goal level words place = BeforeValue goal level words place
 
-abbrev pub BeginsConstruct : Option Construct → List Word → ℕ → Type 0
-BeginsConstruct None words place = ⊥
-BeginsConstruct (Some construct) words place = StandsThere construct words place
+abbrev pub BeginsConstruct : Option Construct → Nonterminal → ℕ → List Word → ℕ → Type 0
+BeginsConstruct None goal level words place = ⊥
+BeginsConstruct (Some construct) goal level words place = StandsThere construct goal level words place
 
 abbrev pub construct_in : Option Word → Option Construct
 construct_in None = None
@@ -181,23 +188,18 @@ construct_at words place = construct_in (slice_get words place)
 -- ---- codes
 
 -- the word begins a construct of Rust that the language leaves out
-abbrev pub IsLeftOut : List Word → ℕ → Type 0
-IsLeftOut words place = (begins_left_out words place ≡ true) ⊎ BeginsConstruct (construct_at words place) words place
+abbrev pub IsLeftOut : Nonterminal → ℕ → List Word → ℕ → Type 0
+IsLeftOut goal level words place = (begins_left_out goal words place ≡ true) ⊎ BeginsConstruct (construct_at words place) goal level words place
 
 -- E04 where a limit is passed; else E20 where the word begins a construct that is left out; else E03
-abbrev pub IsCode : Bool → List Word → ℕ → Code → Type 0
-IsCode true words place code = code ≡ E04
-IsCode false words place code = ((code ≡ E20) × IsLeftOut words place) ⊎ ((code ≡ E03) × (IsLeftOut words place → ⊥))
+abbrev pub IsCode : Bool → Nonterminal → ℕ → List Word → ℕ → Code → Type 0
+IsCode true goal level words place code = code ≡ E04
+IsCode false goal level words place code = ((code ≡ E20) × IsLeftOut goal level words place) ⊎ ((code ≡ E03) × (IsLeftOut goal level words place → ⊥))
 
 -- ---- where the reading stops
 
--- the outcome is a limit that is passed
-abbrev pub passes : Outcome (List Event) Word → Bool
-passes (ok phrases words) = false
-passes (stop limited words) = limited
-
--- the reading of the words stops, or has read a source, at the place
-pub record ComesTo (words : List Word) (place : ℕ) : Type 0 where
+-- the reading of the words as the goal at the level stops, or has read one, at the place
+pub record ComesTo (goal : Nonterminal) (level : ℕ) (words : List Word) (place : ℕ) : Type 0 where
   pub outcome : Outcome (List Event) Word
-  pub reads : Reads sources (N.Item NI.Source) 0 0 [] words outcome
+  pub reads : Reads sources goal level 0 [] words outcome
   pub at : rest outcome ≡ drop place words

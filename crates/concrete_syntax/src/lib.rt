@@ -9,6 +9,7 @@ mod expr_choices;
 mod expr_rule;
 mod expr_tables;
 mod fault;
+mod front;
 mod generic_choices;
 mod item_choices;
 mod item_rule;
@@ -47,12 +48,14 @@ mod words;
 pub use event::Event;
 pub use expr_rule::ExprRule;
 pub use fault::ParseFault;
+pub use front::{FrontFault, parse_front};
 pub use item_rule::ItemRule;
 pub use kinds::{Bracket, CommonWord, Keyword, LogicalWord, MacroWord, Mark, WordKind};
 pub use laws::{
     a_source_is_not_spelled_and_refused, a_source_is_refused_in_one_way,
     a_source_is_spelled_whatever_is_made, a_text_spells_one_list_of_phrases,
-    the_tables_meet_their_conditions, words_are_numbered,
+    the_tables_meet_their_conditions, words_are_numbered, words_are_refused_in_one_way,
+    words_spell_one_front,
 };
 pub use omitted::Construct;
 pub use parser::parse;
@@ -69,4 +72,4 @@ pub use term_rule::TermRule;
 pub use tree::Tree;
 pub use word::Word;
 pub use word_rule::WordRule;
-pub use words::words_of;
+pub use words::{tokens_of, words_of};

@@ -1,39 +1,14 @@
 //! The parser of sources.
 ghost use Rattle.std.specs.Prelude.{◌≡◌, ◌≤◌, ◌<◌, ◌^◌, length, IfOk, IfErr};
-ghost use Rattle.concrete_syntax.specs.LeftOut.{ComesTo};
-ghost use Rattle.concrete_syntax.specs.Parsed.{SpellsWords, SpellsAs, IsErrorAt, IsPhraseError, SpellNone, IsParseError, SpellsNone};
+ghost use Rattle.concrete_syntax.specs.Parsed.{SpellsWords, SpellsAs, IsPhraseError, SpellNone, IsParseError, SpellsNone};
 
 use crate::fault::ParseFault;
+use crate::front::{FrontFault, parse_front, refusal_at};
 use crate::phrases::{ItemPhrase, Nonterminal};
-use crate::reading::{Stop, read};
-use crate::refusal::code_at;
 use crate::tree::Tree;
 use crate::word::Word;
 use crate::words::words_of;
 use std::alloc::Global;
-use text_core::{SourceError, Span};
-
-/// The refusal of the word of this number, or of the end behind the last word.
-fn syntax_error(alloc: Global, words: &[Word], place: usize, limited: bool, end: u32) -> ParseFault
-    requires place { place ≤ length words.now }
-    requires few { length words.now < 2 ^ 32 }
-    requires comes { ComesTo words.now place }
-    ensures { IsErrorAt limited words.now place end result }
-{
-    let span = if place < words.len() {
-        words[place].span
-    } else {
-        Span { start: end, end }
-    };
-    match code_at(alloc, limited, words, place) {
-        Err(_) => ParseFault::NoMemory,
-        Ok(code) => ParseFault::Source(SourceError {
-            code,
-            span,
-            other: None,
-        }),
-    }
-}
 
 /// What the words of a source spell, which has so many bytes.
 fn tree_of<T: Tree + Drop>(
@@ -48,21 +23,14 @@ fn tree_of<T: Tree + Drop>(
     ensures refused { IfErr result (λ e. IsPhraseError words.now end e) }
     ensures rightly { IfErr result (λ e. SpellNone words.now e) }
 {
-    match read(
-        context,
-        alloc,
-        words,
-        0,
-        Nonterminal::Item(ItemPhrase::Source),
-        0,
-    ) {
-        Err(Stop::NoMemory) => Err(ParseFault::NoMemory),
-        Err(Stop::Refused(place, limited)) => {
-            Err(syntax_error(alloc, words, place, limited, end))
-        }
+    let goal = Nonterminal::Item(ItemPhrase::Source);
+    match parse_front(context, alloc, words, goal, 0, end) {
+        Err(FrontFault::NoMemory) => Err(ParseFault::NoMemory),
+        Err(FrontFault::Refused(_, error)) => Err(ParseFault::Source(error)),
         Ok((tree, after)) => {
             if after < words.len() {
-                return Err(syntax_error(alloc, words, after, false, end));
+                let error = refusal_at(alloc, words, goal, 0, after, false, end)?;
+                return Err(ParseFault::Source(error));
             }
             Ok(tree)
         }

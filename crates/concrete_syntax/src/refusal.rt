@@ -1,9 +1,10 @@
 //! The codes of refused words.
 ghost use Rattle.std.specs.Prelude.{◌≡◌, ◌+◌, ◌<◌, ◌^◌, ◌≤◌, length, slice_get, IfOk, Decides};
-ghost use Rattle.concrete_syntax.specs.LeftOut.{is_left_out, is_name, is_square, is_hash, is_type, says, word_before, names_attribute, past_word, is_in_impl, defines_type, begins_left_out, construct_of, construct_at, IsLeftOut, IsCode, ComesTo};
+ghost use Rattle.concrete_syntax.specs.LeftOut.{is_left_out, is_name, is_square, is_hash, is_type, says, word_before, names_attribute, past_word, is_in_impl, is_source, defines_type, begins_left_out, construct_of, construct_at, IsLeftOut, IsCode, ComesTo};
 
 use crate::kinds::{Bracket, CommonWord, Keyword, MacroWord, Mark, WordKind};
 use crate::omitted::Construct;
+use crate::phrases::{ItemPhrase, Nonterminal};
 use crate::standing::stands_there;
 use crate::word::Word;
 use std::alloc::Global;
@@ -198,22 +199,34 @@ fn is_in_impl(words: &[Word]) -> bool
     inside
 }
 
-/// Whether the word is `type` outside an `impl`.
-fn defines_type(words: &[Word], place: usize) -> bool
+/// Whether the goal is a whole source.
+fn is_source(goal: Nonterminal) -> bool
+    ensures { result ≡ is_source goal }
+{
+    match goal {
+        Nonterminal::Item(ItemPhrase::Source) => true,
+        _ => false,
+    }
+}
+
+/// Whether the word is `type` in a source, outside an `impl`.
+fn defines_type(words: &[Word], goal: Nonterminal, place: usize) -> bool
     requires place { place ≤ length words.now }
     requires few { length words.now < 2 ^ 32 }
-    ensures { result ≡ defines_type words.now place }
+    ensures { result ≡ defines_type goal words.now place }
 {
-    is_type_at(words, place) && !is_in_impl(&words[..place])
+    is_source(goal) && is_type_at(words, place) && !is_in_impl(&words[..place])
 }
 
 /// Whether the word begins a construct that is left out wherever it is refused.
-fn begins_left_out(words: &[Word], place: usize) -> bool
+fn begins_left_out(words: &[Word], goal: Nonterminal, place: usize) -> bool
     requires place { place ≤ length words.now }
     requires few { length words.now < 2 ^ 32 }
-    ensures { result ≡ begins_left_out words.now place }
+    ensures { result ≡ begins_left_out goal words.now place }
 {
-    is_left_out_at(words, place) || names_attribute(words, place) || defines_type(words, place)
+    is_left_out_at(words, place)
+        || names_attribute(words, place)
+        || defines_type(words, goal, place)
 }
 
 /// The construct that the word begins where that could stand.
@@ -242,34 +255,49 @@ fn construct_at(words: &[Word], place: usize) -> Option<Construct>
 }
 
 /// Whether the word at the place, to which the reading of the words comes, begins a construct that is left out.
-fn is_left_out_there(alloc: Global, words: &[Word], place: usize) -> Result<bool, NoMemory>
+fn is_left_out_there(
+    alloc: Global,
+    words: &[Word],
+    goal: Nonterminal,
+    level: u32,
+    place: usize,
+) -> Result<bool, NoMemory>
     requires place { place ≤ length words.now }
     requires few { length words.now < 2 ^ 32 }
-    requires comes { ComesTo words.now place }
-    ensures { IfOk result (λ yes. Decides yes (IsLeftOut words.now place)) }
+    requires deep { level ≤ 64 }
+    requires comes { ComesTo goal level words.now place }
+    ensures { IfOk result (λ yes. Decides yes (IsLeftOut goal level words.now place)) }
 {
-    if begins_left_out(words, place) {
+    if begins_left_out(words, goal, place) {
         return Ok(true);
     }
     match construct_at(words, place) {
         None => Ok(false),
-        Some(construct) => stands_there(alloc, construct, words, place),
+        Some(construct) => stands_there(alloc, construct, words, goal, level, place),
     }
 }
 
 /// The code of the refusal at that word, or at the end, where the reading of the words comes to: E04 where a limit is
 /// passed; else E20 where the word begins a construct of Rust that the language leaves out; else E03. Err only for want of
 /// memory.
-pub fn code_at(alloc: Global, limited: bool, words: &[Word], place: usize) -> Result<Code, NoMemory>
+pub fn code_at(
+    alloc: Global,
+    limited: bool,
+    words: &[Word],
+    goal: Nonterminal,
+    level: u32,
+    place: usize,
+) -> Result<Code, NoMemory>
     requires place { place ≤ length words.now }
     requires few { length words.now < 2 ^ 32 }
-    requires comes { ComesTo words.now place }
-    ensures { IfOk result (λ code. IsCode limited words.now place code) }
+    requires deep { level ≤ 64 }
+    requires comes { ComesTo goal level words.now place }
+    ensures { IfOk result (λ code. IsCode limited goal level words.now place code) }
 {
     if limited {
         return Ok(Code::E04);
     }
-    if is_left_out_there(alloc, words, place)? {
+    if is_left_out_there(alloc, words, goal, level, place)? {
         Ok(Code::E20)
     } else {
         Ok(Code::E03)

@@ -5,7 +5,7 @@ ghost use Rattle.concrete_syntax.specs.LeftOut.{CouldStand, InTerm, BeforeLoop, 
 use crate::event::Event;
 use crate::kinds::{Bracket, Keyword, Mark, WordKind};
 use crate::omitted::Construct;
-use crate::phrases::{ItemPhrase, Nonterminal};
+use crate::phrases::Nonterminal;
 use crate::reading::{Stop, read};
 use crate::refusal::is_type_before;
 use crate::word::Word;
@@ -39,22 +39,18 @@ fn with_word(alloc: Global, words: &[Word], last: Word) -> Result<Items<Word>, N
 fn could_stand(
     alloc: Global,
     words: &[Word],
+    goal: Nonterminal,
+    level: u32,
     place: usize,
     kind: WordKind,
 ) -> Result<bool, NoMemory>
     requires place { place ≤ length words.now }
-    requires comes { ComesTo words.now place }
-    ensures { IfOk result (λ yes. Decides yes (CouldStand words.now place kind)) }
+    requires deep { level ≤ 64 }
+    requires comes { ComesTo goal level words.now place }
+    ensures { IfOk result (λ yes. Decides yes (CouldStand goal level words.now place kind)) }
 {
     let tried = with_word(alloc, &words[..place], sample(kind))?;
-    match read::<Items<Event>>(
-        &(),
-        alloc,
-        tried.as_slice(),
-        0,
-        Nonterminal::Item(ItemPhrase::Source),
-        0,
-    ) {
+    match read::<Items<Event>>(&(), alloc, tried.as_slice(), 0, goal, level) {
         Err(Stop::NoMemory) => Err(NoMemory),
         Err(Stop::Refused(at, limited)) => { if limited { Ok(true) } else { Ok(place < at) } }
         Ok((_, at)) => Ok(place < at),
@@ -62,15 +58,29 @@ fn could_stand(
 }
 
 /// Whether a term could go on there by `@`, or an operand of it begin by `^`.
-fn is_in_term(alloc: Global, words: &[Word], place: usize) -> Result<bool, NoMemory>
+fn is_in_term(
+    alloc: Global,
+    words: &[Word],
+    goal: Nonterminal,
+    level: u32,
+    place: usize,
+) -> Result<bool, NoMemory>
     requires place { place ≤ length words.now }
-    requires comes { ComesTo words.now place }
-    ensures { IfOk result (λ yes. Decides yes (InTerm words.now place)) }
+    requires deep { level ≤ 64 }
+    requires comes { ComesTo goal level words.now place }
+    ensures { IfOk result (λ yes. Decides yes (InTerm goal level words.now place)) }
 {
-    if could_stand(alloc, words, place, WordKind::Mark(Mark::At))? {
+    if could_stand(alloc, words, goal, level, place, WordKind::Mark(Mark::At))? {
         return Ok(true);
     }
-    could_stand(alloc, words, place, WordKind::Mark(Mark::Caret))
+    could_stand(
+        alloc,
+        words,
+        goal,
+        level,
+        place,
+        WordKind::Mark(Mark::Caret),
+    )
 }
 
 fn is_colon(kind: WordKind) -> bool
@@ -93,62 +103,132 @@ fn is_colon_at(words: &[Word], place: usize) -> bool
 }
 
 /// Whether a `:` follows, and a loop could stand there.
-fn is_before_loop(alloc: Global, words: &[Word], place: usize) -> Result<bool, NoMemory>
+fn is_before_loop(
+    alloc: Global,
+    words: &[Word],
+    goal: Nonterminal,
+    level: u32,
+    place: usize,
+) -> Result<bool, NoMemory>
     requires place { place ≤ length words.now }
     requires few { length words.now < 2 ^ 32 }
-    requires comes { ComesTo words.now place }
-    ensures { IfOk result (λ yes. Decides yes (BeforeLoop words.now place)) }
+    requires deep { level ≤ 64 }
+    requires comes { ComesTo goal level words.now place }
+    ensures { IfOk result (λ yes. Decides yes (BeforeLoop goal level words.now place)) }
 {
     if is_colon_at(words, place + 1) {
-        could_stand(alloc, words, place, WordKind::Keyword(Keyword::Loop))
+        could_stand(
+            alloc,
+            words,
+            goal,
+            level,
+            place,
+            WordKind::Keyword(Keyword::Loop),
+        )
     } else {
         Ok(false)
     }
 }
 
 /// Whether bounds behind `where` could go on by a lifetime there, or end.
-fn is_before_bound(alloc: Global, words: &[Word], place: usize) -> Result<bool, NoMemory>
+fn is_before_bound(
+    alloc: Global,
+    words: &[Word],
+    goal: Nonterminal,
+    level: u32,
+    place: usize,
+) -> Result<bool, NoMemory>
     requires place { place ≤ length words.now }
-    requires comes { ComesTo words.now place }
-    ensures { IfOk result (λ yes. Decides yes (BeforeBound words.now place)) }
+    requires deep { level ≤ 64 }
+    requires comes { ComesTo goal level words.now place }
+    ensures { IfOk result (λ yes. Decides yes (BeforeBound goal level words.now place)) }
 {
-    if !could_stand(alloc, words, place, WordKind::Lifetime)? {
+    if !could_stand(alloc, words, goal, level, place, WordKind::Lifetime)? {
         return Ok(false);
     }
-    if could_stand(alloc, words, place, WordKind::Open(Bracket::Brace))? {
+    if could_stand(
+        alloc,
+        words,
+        goal,
+        level,
+        place,
+        WordKind::Open(Bracket::Brace),
+    )? {
         return Ok(true);
     }
-    could_stand(alloc, words, place, WordKind::Semicolon)
+    could_stand(alloc, words, goal, level, place, WordKind::Semicolon)
 }
 
 /// Whether the `=` of a `let` could stand there.
-fn is_before_value(alloc: Global, words: &[Word], place: usize) -> Result<bool, NoMemory>
+fn is_before_value(
+    alloc: Global,
+    words: &[Word],
+    goal: Nonterminal,
+    level: u32,
+    place: usize,
+) -> Result<bool, NoMemory>
     requires place { place ≤ length words.now }
-    requires comes { ComesTo words.now place }
-    ensures { IfOk result (λ yes. Decides yes (BeforeValue words.now place)) }
+    requires deep { level ≤ 64 }
+    requires comes { ComesTo goal level words.now place }
+    ensures { IfOk result (λ yes. Decides yes (BeforeValue goal level words.now place)) }
 {
     if is_type_before(words, place) {
         return Ok(false);
     }
-    if !could_stand(alloc, words, place, WordKind::Mark(Mark::Equal))? {
+    if !could_stand(
+        alloc,
+        words,
+        goal,
+        level,
+        place,
+        WordKind::Mark(Mark::Equal),
+    )? {
         return Ok(false);
     }
-    Ok(!could_stand(alloc, words, place, WordKind::Mark(Mark::Minus))?)
+    Ok(!could_stand(
+        alloc,
+        words,
+        goal,
+        level,
+        place,
+        WordKind::Mark(Mark::Minus),
+    )?)
 }
 
 /// Whether the value of a `let` could end there or go on.
-fn is_behind_value(alloc: Global, words: &[Word], place: usize) -> Result<bool, NoMemory>
+fn is_behind_value(
+    alloc: Global,
+    words: &[Word],
+    goal: Nonterminal,
+    level: u32,
+    place: usize,
+) -> Result<bool, NoMemory>
     requires place { place ≤ length words.now }
-    requires comes { ComesTo words.now place }
-    ensures { IfOk result (λ yes. Decides yes (BehindValue words.now place)) }
+    requires deep { level ≤ 64 }
+    requires comes { ComesTo goal level words.now place }
+    ensures { IfOk result (λ yes. Decides yes (BehindValue goal level words.now place)) }
 {
-    if !could_stand(alloc, words, place, WordKind::Semicolon)? {
+    if !could_stand(alloc, words, goal, level, place, WordKind::Semicolon)? {
         return Ok(false);
     }
-    if !could_stand(alloc, words, place, WordKind::Mark(Mark::Minus))? {
+    if !could_stand(
+        alloc,
+        words,
+        goal,
+        level,
+        place,
+        WordKind::Mark(Mark::Minus),
+    )? {
         return Ok(false);
     }
-    Ok(!could_stand(alloc, words, place, WordKind::Close(Bracket::Brace))?)
+    Ok(!could_stand(
+        alloc,
+        words,
+        goal,
+        level,
+        place,
+        WordKind::Close(Bracket::Brace),
+    )?)
 }
 
 /// Whether the construct could stand at the place, to which the reading of the words comes. Err only for want of memory.
@@ -156,19 +236,29 @@ pub fn stands_there(
     alloc: Global,
     construct: Construct,
     words: &[Word],
+    goal: Nonterminal,
+    level: u32,
     place: usize,
 ) -> Result<bool, NoMemory>
     requires place { place ≤ length words.now }
     requires few { length words.now < 2 ^ 32 }
-    requires comes { ComesTo words.now place }
-    ensures { IfOk result (λ yes. Decides yes (StandsThere construct words.now place)) }
+    requires deep { level ≤ 64 }
+    requires comes { ComesTo goal level words.now place }
+    ensures { IfOk result (λ yes. Decides yes (StandsThere construct goal level words.now place)) }
 {
     match construct {
-        Construct::Cast => is_in_term(alloc, words, place),
-        Construct::Guard => could_stand(alloc, words, place, WordKind::Mark(Mark::FatArrow)),
-        Construct::Label => is_before_loop(alloc, words, place),
-        Construct::BoundType => is_before_bound(alloc, words, place),
-        Construct::LetAlone => is_before_value(alloc, words, place),
-        Construct::LetElse => is_behind_value(alloc, words, place),
+        Construct::Cast => is_in_term(alloc, words, goal, level, place),
+        Construct::Guard => could_stand(
+            alloc,
+            words,
+            goal,
+            level,
+            place,
+            WordKind::Mark(Mark::FatArrow),
+        ),
+        Construct::Label => is_before_loop(alloc, words, goal, level, place),
+        Construct::BoundType => is_before_bound(alloc, words, goal, level, place),
+        Construct::LetAlone => is_before_value(alloc, words, goal, level, place),
+        Construct::LetElse => is_behind_value(alloc, words, goal, level, place),
     }
 }

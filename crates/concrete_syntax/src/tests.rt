@@ -1,6 +1,9 @@
 use crate::event::Event;
 use crate::fault::ParseFault;
+use crate::front::{FrontFault, parse_front};
 use crate::parser::parse;
+use crate::phrases::{Literals, Mode, Nonterminal, TermPhrase};
+use crate::words::words_of;
 use std::alloc::Global;
 use std::process::Abort;
 use std::test::Fail;
@@ -296,4 +299,61 @@ fn phrases_have_all_words_and_end(rt: HostRuntime) {
         Err(_) => false,
     };
     assert!(rt; found);
+}
+
+/// A term at that level takes so many words of the front of the text, or the word of that number is refused with this
+/// code.
+fn is_front(alloc: Global, text: &[u8], level: u32, words: usize, refusal: Option<Code>) -> bool {
+    if text.len() > 1 << 20 || level > 64 {
+        return false;
+    }
+    let all = match words_of(alloc, text) {
+        Err(_) => return false,
+        Ok(all) => all,
+    };
+    let goal = Nonterminal::Term(TermPhrase::Term(Mode::Inside(Literals::Allowed)));
+    match parse_front::<Items<Event>>(&(), alloc, all.as_slice(), goal, level, text.len() as u32) {
+        Ok((_, after)) => refusal.is_none() && after == words,
+        Err(FrontFault::NoMemory) => false,
+        Err(FrontFault::Refused(place, error)) => match refusal {
+            None => false,
+            Some(code) => place == words && error.code == code,
+        },
+    }
+}
+
+#[test]
+fn a_front_ends_where_no_word_goes_on(rt: HostRuntime) {
+    let cases = [
+        (b"a + b ) c".as_slice(), 0, 3, None),
+        (b"a < b < c".as_slice(), 0, 3, None),
+        (b"a as u8".as_slice(), 0, 1, None),
+        (b"a".as_slice(), 64, 1, None),
+        (b"( a ) . b + ( c , d ) ;".as_slice(), 63, 11, None),
+        (b"a type".as_slice(), 0, 1, None),
+        (b"a + )".as_slice(), 0, 2, Some(Code::E03)),
+        (b"a +".as_slice(), 0, 2, Some(Code::E03)),
+        (b"".as_slice(), 0, 0, Some(Code::E03)),
+        (b"a + type".as_slice(), 0, 2, Some(Code::E03)),
+        (b"( a as u8".as_slice(), 0, 2, Some(Code::E20)),
+        (b"( a if".as_slice(), 0, 2, Some(Code::E03)),
+        (b"match x { y if".as_slice(), 0, 4, Some(Code::E20)),
+        (b"( ( a ) )".as_slice(), 63, 1, Some(Code::E04)),
+        (b"( a )".as_slice(), 64, 0, Some(Code::E04)),
+        (
+            b"(((((((((((((((((((((((((((((((((((((((((((((((((((((((((((((((((".as_slice(),
+            0,
+            64,
+            Some(Code::E04),
+        ),
+        (
+            b"((((((((((((((((((((((((((((((((((((((((((((((((((((((((((((((((".as_slice(),
+            0,
+            64,
+            Some(Code::E03),
+        ),
+    ];
+    for (text, level, words, refusal) in cases {
+        assert!(rt; is_front(rt.alloc(), text, level, words, refusal));
+    }
 }

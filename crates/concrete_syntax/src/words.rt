@@ -287,7 +287,7 @@ fn words_from(alloc: Global, bytes: &[u8], tokens: &[Token]) -> Result<Items<Wor
 /// All tokens, in order.
 ///
 /// Errors: `Source` where the bytes are no text (E01) or a part of them is no token (E02); `NoMemory`.
-fn tokens_of(alloc: Global, bytes: &[u8]) -> Result<Items<Token>, ParseFault>
+pub fn tokens_of(alloc: Global, bytes: &[u8]) -> Result<Items<Token>, ParseFault>
     requires few { length bytes.now ≤ 2 ^ 20 }
     ensures ok { IfOk result (λ tokens. AreTokens bytes.now tokens) }
     ensures short { IfOk result (λ tokens. length tokens ≤ 2 ^ 20) }

@@ -2,9 +2,9 @@ ghost use Rattle.std.specs.Prelude.{◌<◌};
 
 use crate::lowered::Lowered;
 use crate::program::lower;
+use built_syntax::PassError;
 use logic_term::{BinaryOp, IntKind, Label, Term, Ty, TyNode};
 use mir_ir::{Block, Body, Rvalue, Statement, StatementKind, TerminatorKind};
-use rs_syntax::PassError;
 use std::alloc::Global;
 use std::process::Abort;
 use std::test::Fail;

@@ -15,6 +15,9 @@ use Rattle.concrete_syntax.specs.Words.{text_in, found_in, IsBadText}
 use Rattle.name_tables.specs.NameTables.{with_names}
 use Rattle.pearlite.specs.declared.operator.Quantifier.TheVariants as Q
 use Rattle.pearlite.specs.declared.operator.Predicate.TheVariants as R
+use Rattle.pearlite.specs.declared.operator.CallTrait.TheVariants as C
+use Rattle.pearlite.specs.declared.operator.PanicMacro.TheVariants as P
+use Rattle.pearlite.specs.declared.operator.GhostMacro.TheVariants as G
 use Rattle.pearlite.specs.declared.word.Word.{Word}
 use Rattle.pearlite.specs.declared.word.WordKind.{WordKind}
 use Rattle.pearlite.specs.declared.word.WordKind.TheVariants as K
@@ -23,15 +26,35 @@ use Rattle.pearlite.specs.declared.fault.PassError.TheVariants.{Source, Limit, N
 
 -- ---- tables by text
 
--- the words of terms that are told apart by their texts
+-- the names that are told apart by their texts
 unfoldable pub quoted : List (List ℕ × WordKind)
 quoted =
-    (codes "forall", K.Quantifier Q.Forall)
+    (codes "requires", K.Requires)
+    ∷ (codes "ensures", K.Ensures)
+    ∷ (codes "forall", K.Quantifier Q.Forall)
     ∷ (codes "exists", K.Quantifier Q.Exists)
     ∷ (codes "precondition", K.Predicate R.Precondition)
     ∷ (codes "postcondition", K.Predicate R.Postcondition)
     ∷ (codes "postcondition_mut", K.Predicate R.PostconditionMut)
     ∷ (codes "postcondition_once", K.Predicate R.PostconditionOnce)
+    ∷ (codes "Fn", K.CallTrait C.Fn)
+    ∷ (codes "FnMut", K.CallTrait C.FnMut)
+    ∷ (codes "FnOnce", K.CallTrait C.FnOnce)
+    ∷ (codes "panic", K.Panic P.Panic)
+    ∷ (codes "unreachable", K.Panic P.Unreachable)
+    ∷ (codes "proof_assert", K.Ghost G.ProofAssert)
+    ∷ (codes "snapshot", K.Ghost G.Snapshot)
+    ∷ (codes "i8", K.Int I.I8)
+    ∷ (codes "i16", K.Int I.I16)
+    ∷ (codes "i32", K.Int I.I32)
+    ∷ (codes "i64", K.Int I.I64)
+    ∷ (codes "isize", K.Int I.Isize)
+    ∷ (codes "u8", K.Int I.U8)
+    ∷ (codes "u16", K.Int I.U16)
+    ∷ (codes "u32", K.Int I.U32)
+    ∷ (codes "u64", K.Int I.U64)
+    ∷ (codes "usize", K.Int I.Usize)
+    ∷ (codes "bool", K.Bool)
     ∷ []
 
 -- the types at the end of integers

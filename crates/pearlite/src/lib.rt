@@ -4,6 +4,9 @@
 mod action;
 mod action_tables;
 mod binder;
+mod cursor;
+#[cfg(test)]
+mod cursor_tests;
 mod fault;
 mod make_patterns;
 mod make_terms;
@@ -12,6 +15,7 @@ mod operator;
 mod path;
 mod pattern;
 mod pterm;
+mod reader;
 #[cfg(test)]
 mod tests;
 mod trees;
@@ -22,11 +26,15 @@ mod words;
 
 pub use action::Action;
 pub use binder::Binder;
+pub use cursor::Cursor;
 pub use fault::PassError;
-pub use operator::{BinaryTerm, Comparison, Predicate, Quantifier, UnaryTerm};
+pub use operator::{
+    BinaryTerm, CallTrait, Comparison, GhostMacro, PanicMacro, Predicate, Quantifier, UnaryTerm,
+};
 pub use path::{Path, PathNode, Segment};
 pub use pattern::{FieldPat, Pat, PatNode};
 pub use pterm::{Arm, FieldTerm, Pterm, PtermNode};
+pub use reader::parse_term;
 pub use types::{TypeNode, TypeTree};
 pub use value::{Piece, Value};
 pub use word::{Word, WordKind};

@@ -56,3 +56,29 @@ pub enum Predicate {
     PostconditionMut,
     PostconditionOnce,
 }
+
+/// The traits of closures.
+#[derive(Clone, Copy, Debug, PartialEq, Eq)]
+pub enum CallTrait {
+    Fn,
+    FnMut,
+    FnOnce,
+}
+
+/// The macros that a run is not to reach.
+#[derive(Clone, Copy, Debug, PartialEq, Eq)]
+pub enum PanicMacro {
+    /// `panic!`
+    Panic,
+    /// `unreachable!`
+    Unreachable,
+}
+
+/// The macros that hold a term among program code.
+#[derive(Clone, Copy, Debug, PartialEq, Eq)]
+pub enum GhostMacro {
+    /// `proof_assert!`
+    ProofAssert,
+    /// `snapshot!`
+    Snapshot,
+}

@@ -1,4 +1,6 @@
-use crate::operator::{BinaryTerm, Predicate, Quantifier, UnaryTerm};
+use crate::operator::{
+    BinaryTerm, CallTrait, GhostMacro, PanicMacro, Predicate, Quantifier, UnaryTerm,
+};
 use crate::pterm::{Pterm, PtermNode};
 use crate::value::{Value, term_in};
 use crate::word::{Word, WordKind};
@@ -116,6 +118,12 @@ fn word_of_number(alloc: Global, text: &[u8], number: usize) -> Option<Word> {
     }
 }
 
+/// The kind of the word of this number in the text.
+fn kind_of_number(alloc: Global, text: &[u8], number: usize) -> Option<WordKind> {
+    let word = word_of_number(alloc, text, number)?;
+    Some(word.kind)
+}
+
 /// The words of these numbers in the text have one name.
 fn have_one_name(alloc: Global, text: &[u8], one: usize, other: usize) -> bool {
     match (
@@ -224,23 +232,31 @@ fn words_have_kinds_and_numbers(rt: HostRuntime) {
             (0, None),
         ),
         (2, WordKind::Other, (7, 8), (0, None)),
+        (4, WordKind::Int(IntKind::U8), (10, 12), (0, None)),
         (8, WordKind::Other, (19, 26), (31, Some(IntKind::U8))),
     ];
     for (number, kind, span, value) in cases {
         assert!(rt; is_word(alloc, text, number, kind, span, value));
     }
     assert!(rt; word_of_number(alloc, text, 9).is_none());
-    let predicate = WordKind::Predicate(Predicate::PostconditionMut);
-    assert!(rt;
-        is_word(
-            alloc,
-            b"postcondition_mut",
-            0,
-            predicate,
-            (0, 17),
-            (0, None)
-        )
-    );
+}
+
+#[test]
+fn names_are_told_apart_by_their_texts(rt: HostRuntime) {
+    let alloc = rt.alloc();
+    let text = b"ensures postcondition_mut FnMut unreachable snapshot bool i128".as_slice();
+    let kinds = [
+        WordKind::Ensures,
+        WordKind::Predicate(Predicate::PostconditionMut),
+        WordKind::CallTrait(CallTrait::FnMut),
+        WordKind::Panic(PanicMacro::Unreachable),
+        WordKind::Ghost(GhostMacro::Snapshot),
+        WordKind::Bool,
+        WordKind::Other,
+    ];
+    for (number, kind) in kinds.into_iter().enumerate() {
+        assert!(rt; kind_of_number(alloc, text, number) == Some(kind));
+    }
 }
 
 #[test]

@@ -14,15 +14,17 @@ ghost use Rattle.concrete_syntax.specs.Words.{found_in, row_of, text_in};
 ghost use Rattle.pearlite.specs.Words.{kind_by, value_by, suffix_of, suffix_by, HasName, IsLexeme, IsWordOf, AreWords, IsWordError, Keeps, NamesOnlyNew, with_identifier, GivesNames};
 
 use crate::fault::PassError;
-use crate::operator::{Predicate, Quantifier};
+use crate::operator::{CallTrait, GhostMacro, PanicMacro, Predicate, Quantifier};
 use crate::word::{Word, WordKind};
 use logic_term::IntKind;
 use rs_tokens::{Lexer, Token, TokenKind};
 use std::alloc::Global;
 use text_core::{Items, Name, Names, NoMemory};
 
-/// The words of terms that are told apart by their texts.
-const QUOTED: [(&str, WordKind); 6] = [
+/// The names that are told apart by their texts.
+const QUOTED: [(&str, WordKind); 26] = [
+    ("requires", WordKind::Requires),
+    ("ensures", WordKind::Ensures),
     ("forall", WordKind::Quantifier(Quantifier::Forall)),
     ("exists", WordKind::Quantifier(Quantifier::Exists)),
     ("precondition", WordKind::Predicate(Predicate::Precondition)),
@@ -38,6 +40,24 @@ const QUOTED: [(&str, WordKind); 6] = [
         "postcondition_once",
         WordKind::Predicate(Predicate::PostconditionOnce),
     ),
+    ("Fn", WordKind::CallTrait(CallTrait::Fn)),
+    ("FnMut", WordKind::CallTrait(CallTrait::FnMut)),
+    ("FnOnce", WordKind::CallTrait(CallTrait::FnOnce)),
+    ("panic", WordKind::Panic(PanicMacro::Panic)),
+    ("unreachable", WordKind::Panic(PanicMacro::Unreachable)),
+    ("proof_assert", WordKind::Ghost(GhostMacro::ProofAssert)),
+    ("snapshot", WordKind::Ghost(GhostMacro::Snapshot)),
+    ("i8", WordKind::Int(IntKind::I8)),
+    ("i16", WordKind::Int(IntKind::I16)),
+    ("i32", WordKind::Int(IntKind::I32)),
+    ("i64", WordKind::Int(IntKind::I64)),
+    ("isize", WordKind::Int(IntKind::Isize)),
+    ("u8", WordKind::Int(IntKind::U8)),
+    ("u16", WordKind::Int(IntKind::U16)),
+    ("u32", WordKind::Int(IntKind::U32)),
+    ("u64", WordKind::Int(IntKind::U64)),
+    ("usize", WordKind::Int(IntKind::Usize)),
+    ("bool", WordKind::Bool),
 ];
 
 /// The types at the end of integers.
@@ -249,6 +269,7 @@ pub fn words_of(alloc: Global, bytes: &[u8], names: &mut Names) -> Result<Items<
     ensures names { OnOk result (GivesNames names.old bytes.now names.new) }
     ensures refused { IfErr result (λ error. IsWordError bytes.now error) }
     ensures kept { Keeps names.old names.new }
+    ensures grown { length names.new ≤ length names.old + length bytes.now }
 {
     let mut lexer = Lexer::new(bytes);
     let mut words = Items::new(alloc);

@@ -1,6 +1,2 @@
-pub mod Digits
+pub mod Folded
 pub mod Whole
-pub mod WordLemmas
-pub mod WordLists
-pub mod WordSteps
-pub mod OneRefusal

@@ -1,46 +1,84 @@
--- Expressions of program code as they are written (Rust Reference, "Expressions"): one constructor for each variant of `ExprNode`, after its span.
+-- Expressions as they are written (Rust Reference, "Expressions", "Statements"): one constructor for each variant of `ExprNode`, after its span.
 use Rattle.std.specs.Prelude.{ℤ, Bool, Option, List}
-use Rattle.text_core.specs.declared.name.Name.{Name}
 use Rattle.text_core.specs.declared.span.Span.{Span}
 use Rattle.logic_term.specs.declared.kinds.BinaryOp.{BinaryOp}
 use Rattle.logic_term.specs.declared.kinds.IntKind.{IntKind}
+use Rattle.pearlite.specs.declared.operator.PanicMacro.{PanicMacro}
+use Rattle.pearlite.specs.declared.operator.GhostMacro.{GhostMacro}
+use Rattle.pearlite.specs.declared.path.Segment.{Segment}
+use Rattle.pearlite.specs.declared.path.Path.{Path}
+use Rattle.pearlite.specs.TypeTree.{TypeTree}
+use Rattle.pearlite.specs.Pat.{Pat}
+use Rattle.pearlite.specs.Pterm.{Pterm}
+use Rattle.rs_syntax.specs.declared.attribute.Attribute.{Attribute}
+use Rattle.rs_syntax.specs.declared.param.Param.{Param}
+use Rattle.rs_syntax.specs.declared.statement.StmtKind.{StmtKind}
 use Rattle.rs_syntax.specs.declared.operator.LazyOp.{LazyOp}
-use Rattle.rs_syntax.specs.declared.binding.Binding.{Binding}
-use Rattle.rs_syntax.specs.Pterm.{Pterm}
+use Rattle.rs_syntax.specs.declared.operator.UnaryOp.{UnaryOp}
 
 mutual
   pub data Expr : Type 0 where
     integer : Span → ℤ → Option IntKind → Expr
     truth : Span → Bool → Expr
-    named : Span → Name → Expr
-    -- the span of the operator
-    negative : Span → Span → Expr → Expr
-    denied : Span → Expr → Expr
-    -- the span of the operator
-    binary : Span → BinaryOp → Span → Expr → Expr → Expr
-    lazy : Span → LazyOp → Expr → Expr → Expr
-    assign : Span → Expr → Expr → Expr
-    -- the span of the operator
-    update : Span → BinaryOp → Span → Expr → Expr → Expr
-    -- the span of the name
-    call : Span → Name → Span → Exprs → Expr
+    -- `self`
+    receiver : Span → Expr
+    path : Span → Path → Expr
+    literal : Span → Path → FieldExprs → Expr
+    tuple : Span → Exprs → Expr
+    -- without a last expression
     block : Span → Stmts → Expr
+    block_with : Span → Stmts → Expr → Expr
     -- `if` without `else`
     branch : Span → Expr → Expr → Expr
     choice : Span → Expr → Expr → Expr → Expr
-    repeat : Span → List Pterm → Expr → Expr → Expr
-
-  pub data Stmts : Type 0 where
-    -- a block without a last expression
-    done : Stmts
-    last : Expr → Stmts
-    -- `let`
-    bind : Binding → Expr → Stmts → Stmts
-    -- `e;`
-    run : Expr → Stmts → Stmts
-    -- a statement that begins with a block, `if` or `while` and ends with it
-    blocklike : Expr → Stmts → Stmts
+    matching : Span → Expr → Arms → Expr
+    -- the condition and the body
+    repeat : Span → Expr → Expr → Expr
+    endless : Span → Expr → Expr
+    -- a loop or a closure with the attributes before it
+    attributed : Span → List Attribute → Expr → Expr
+    -- whether `move` stands there, the parameters, the type of the answer, the body
+    closure : Span → Bool → List Param → Option TypeTree → Expr → Expr
+    bare_return : Span → Expr
+    return_with : Span → Expr → Expr
+    break_off : Span → Expr
+    go_on : Span → Expr
+    -- the span of its text
+    panic : Span → PanicMacro → Option Span → Expr
+    -- `proof_assert!` or `snapshot!`
+    logical : Span → GhostMacro → Pterm → Expr
+    -- `let`, which stands as a condition alone
+    tried : Span → Pat → Expr → Expr
+    assign : Span → Expr → Expr → Expr
+    -- the span of the operator
+    update : Span → BinaryOp → Span → Expr → Expr → Expr
+    lazy : Span → LazyOp → Expr → Expr → Expr
+    -- the span of the operator
+    binary : Span → BinaryOp → Span → Expr → Expr → Expr
+    cast : Span → Expr → TypeTree → Expr
+    -- the span of the operator
+    unary : Span → UnaryOp → Span → Expr → Expr
+    -- whether `mut` stands there
+    borrow : Span → Bool → Expr → Expr
+    -- the types behind `::`
+    field : Span → Expr → Segment → List TypeTree → Expr
+    part : Span → Expr → ℤ → Option IntKind → Expr
+    -- the types behind `::`, the arguments
+    method : Span → Expr → Segment → List TypeTree → Exprs → Expr
+    call : Span → Expr → Exprs → Expr
 
   pub data Exprs : Type 0 where
     none : Exprs
     more : Expr → Exprs → Exprs
+
+  pub data Stmts : Type 0 where
+    no_stmts : Stmts
+    with_stmt : Span → StmtKind → Expr → Stmts → Stmts
+
+  pub data Arms : Type 0 where
+    no_arms : Arms
+    with_arm : Span → Pat → Expr → Arms → Arms
+
+  pub data FieldExprs : Type 0 where
+    no_fields : FieldExprs
+    with_field : Span → Segment → Expr → FieldExprs → FieldExprs

@@ -1,12 +1,38 @@
-/// What an attribute says, as far as forms are built.
+use crate::boxed::Boxed;
+use pearlite::{Pterm, Segment};
+use text_core::{Items, Span};
+
+/// The clauses of contracts, loops and closures.
 #[derive(Clone, Copy, Debug, PartialEq, Eq)]
-pub enum AttributeKind {
-    /// `requires(..)`
+pub enum ClauseKind {
+    /// `requires(t)`
     Requires,
-    /// `ensures(..)`
+    /// `ensures(t)`
     Ensures,
-    /// `invariant(..)`
+    /// `invariant(t)`
     Invariant,
-    /// What is not built.
-    Other,
+    /// `variant(t)`
+    Variant,
+}
+
+/// What stands in the brackets of an attribute.
+#[derive(Drop)]
+pub enum AttributeNode {
+    Clause(ClauseKind, Boxed<Pterm>),
+    /// `logic`
+    Logic,
+    /// `law`
+    Law,
+    /// `derive(A, B)`
+    Derive(Items<Segment>),
+    /// `allow`, `inline`, `must_use` or `doc`, with any words.
+    Skipped,
+}
+
+/// An attribute before an item, a function, a loop or a closure.
+#[derive(Drop)]
+pub struct Attribute {
+    /// From its `#` to its `]`.
+    pub span: Span,
+    pub node: AttributeNode,
 }

@@ -1,15 +1,17 @@
-use crate::binding::StmtKind;
-use crate::operator::LazyOp;
-use crate::pterm::Pterm;
+use crate::attribute::Attribute;
+use crate::operator::{LazyOp, UnaryOp};
+use crate::param::Param;
+use crate::statement::StmtKind;
 use logic_term::{BinaryOp, IntKind};
+use pearlite::{GhostMacro, PanicMacro, Pat, Path, Pterm, Segment, TypeTree};
 use std::marker::Model;
-use text_core::{Name, Span};
+use text_core::{Items, Span};
 
 /// An expression of program code as it is written. Contracts see the tree of specs/Expr.antt.
 #[cycle(expr)]
 #[derive(Drop)]
 pub struct Expr {
-    /// From its first token to its last; that of `(X)` is that of `X`.
+    /// From its first word to its last; that of `(X)` is that of `X`.
     pub span: Span,
     pub node: ExprNode,
 }
@@ -21,36 +23,87 @@ pub enum ExprNode {
     /// An integer, with the type at its end if it has one. A `-` right before the integer belongs to it.
     Int(i128, Option<IntKind>),
     Truth(bool),
-    Name(Name),
-    /// `-x`, and the span of the `-`.
-    Neg(Span, Box<Expr>),
-    /// `!x`
-    Not(Box<Expr>),
-    /// `x + y` and the like, and the span of the operator.
-    Binary(BinaryOp, Span, Box<Expr>, Box<Expr>),
-    Lazy(LazyOp, Box<Expr>, Box<Expr>),
-    /// `x = y`
-    Assign(Box<Expr>, Box<Expr>),
-    /// `x += y` and the like, and the span of the operator.
-    Update(BinaryOp, Span, Box<Expr>, Box<Expr>),
-    /// `f(x, y)`, and the span of the name.
-    Call(Name, Span, Vec<Expr>),
+    /// `self`
+    Receiver,
+    Path(Path),
+    /// `S { f: e }`
+    Literal(Path, Vec<FieldExpr>),
+    Tuple(Vec<Expr>),
     /// A block without a last expression.
     Block(Vec<Stmt>),
     /// A block whose value is that of its last expression.
     BlockWith(Vec<Stmt>, Box<Expr>),
-    /// Without `else`.
+    /// The condition and the block, without `else`.
     If(Box<Expr>, Box<Expr>),
     IfElse(Box<Expr>, Box<Expr>, Box<Expr>),
-    /// The invariants, the condition and the body.
-    While(Vec<Pterm>, Box<Expr>, Box<Expr>),
+    Match(Box<Expr>, Vec<Arm>),
+    /// The condition and the body.
+    While(Box<Expr>, Box<Expr>),
+    Loop(Box<Expr>),
+    /// A loop or a closure with the attributes before it.
+    Attributed(Items<Attribute>, Box<Expr>),
+    /// Whether `move` stands there, the parameters, the type of the answer if one is written, and the body.
+    Closure(bool, Items<Param>, Option<TypeTree>, Box<Expr>),
+    /// `return` alone.
+    Return,
+    /// `return e`
+    ReturnWith(Box<Expr>),
+    Break,
+    Continue,
+    /// `panic!` or `unreachable!`, and the span of its text if it has one.
+    Panic(PanicMacro, Option<Span>),
+    /// `proof_assert!` or `snapshot!`
+    Ghost(GhostMacro, Box<Pterm>),
+    /// `let p = e`, which stands as a condition alone.
+    Let(Box<Pat>, Box<Expr>),
+    /// `d = e`
+    Assign(Box<Expr>, Box<Expr>),
+    /// `d += e` and the like, and the span of the operator.
+    Update(BinaryOp, Span, Box<Expr>, Box<Expr>),
+    Lazy(LazyOp, Box<Expr>, Box<Expr>),
+    /// `d + e` and the like, and the span of the operator.
+    Binary(BinaryOp, Span, Box<Expr>, Box<Expr>),
+    /// `e as T`
+    Cast(Box<Expr>, TypeTree),
+    /// The operator with its span, and the operand.
+    Unary(UnaryOp, Span, Box<Expr>),
+    /// `&e`, and whether `mut` stands there.
+    Borrow(bool, Box<Expr>),
+    /// `e.f`, with the types behind `::`, none where they are not written.
+    Field(Box<Expr>, Segment, Items<TypeTree>),
+    /// `e.0`, with the type at the end of the integer if it has one.
+    Part(Box<Expr>, i128, Option<IntKind>),
+    /// `e.f::<T>(d)`, with the types behind `::` and the arguments.
+    Method(Box<Expr>, Segment, Items<TypeTree>, Vec<Expr>),
+    /// `e(d)`
+    Call(Box<Expr>, Vec<Expr>),
 }
 
 /// A statement of a block.
 #[cycle(expr)]
 #[derive(Drop)]
 pub struct Stmt {
+    pub span: Span,
     pub kind: StmtKind,
+    pub value: Expr,
+}
+
+/// An arm of a `match`.
+#[cycle(expr)]
+#[derive(Drop)]
+pub struct Arm {
+    /// From its pattern to the end of its body.
+    pub span: Span,
+    pub pattern: Pat,
+    pub body: Expr,
+}
+
+/// A field of a struct literal. A name alone is its own value.
+#[cycle(expr)]
+#[derive(Drop)]
+pub struct FieldExpr {
+    pub span: Span,
+    pub name: Segment,
     pub value: Expr,
 }
 

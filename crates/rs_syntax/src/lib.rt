@@ -1,43 +1,42 @@
-//! The syntax of sources: the trees of functions, expressions and the terms of contracts, and the parser that makes them.
+//! The syntax of sources: the trees of items, statements and expressions in all forms, and the parser that makes them.
 #![tactic(auto)]
 
-mod action;
-mod action_tables;
 mod attribute;
-mod binding;
-mod built;
+mod boxed;
 mod expr;
-mod fault;
-mod function;
+mod generics;
+mod item;
 mod laws;
+mod make_attributes;
 mod make_expressions;
+mod make_generics;
 mod make_items;
+mod make_operators;
 mod make_statements;
-mod make_terms;
-mod make_types;
 mod operator;
+mod param;
 mod parser;
-mod pterm;
+mod pieces;
+mod shapes;
+mod statement;
 #[cfg(test)]
 mod tests;
 mod trees;
 mod value;
-mod word;
-mod words;
 
-pub use action::{Action, Form, Look};
-pub use attribute::AttributeKind;
-pub use binding::{Binding, StmtKind};
-pub use expr::{Expr, ExprNode, Stmt};
-pub use fault::PassError;
-pub use function::{Clause, ClauseKind, Function, Param};
-pub use laws::{
-    a_text_is_refused_in_one_way, a_text_of_functions_is_not_refused,
-    a_text_spells_one_list_of_functions,
+pub use attribute::{Attribute, AttributeNode, ClauseKind};
+pub use boxed::Boxed;
+pub use expr::{Arm, Expr, ExprNode, FieldExpr, Stmt};
+pub use generics::{Bound, BoundNode, Condition, ConditionNode, GenericNode, GenericParam};
+pub use item::{
+    Body, Enum, Field, Fields, Function, Impl, ImplItem, Item, ItemNode, Method, Struct, Trait,
+    Variant, VariantFields, Visibility,
 };
-pub use operator::{Comparison, LazyOp};
+pub use laws::{
+    a_source_has_one_refusal, a_text_of_items_is_not_refused, a_text_spells_one_list_of_items,
+};
+pub use operator::{LazyOp, UnaryOp};
+pub use param::{Param, ParamNode};
 pub use parser::parse;
-pub use pterm::{Pterm, PtermNode};
-pub use value::Value;
-pub use word::{Word, WordKind};
-pub use words::words_of;
+pub use statement::StmtKind;
+pub use value::{Piece, Suffix, SuffixNode, Value};

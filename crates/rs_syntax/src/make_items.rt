@@ -1,295 +1,483 @@
-//! What the rules of items, their parts and attributes make.
-ghost use Rattle.std.specs.Prelude.{◌≡◌, [], ◌∷◌, ◌++◌, IfOk, unwrap_or, true, false};
-ghost use Rattle.logic_term.specs.Ty.{bool};
-ghost use Rattle.rs_syntax.specs.Values.{type_in, clauses_in, params_in, functions_in, first, second, third};
-ghost use Rattle.rs_syntax.specs.Make.{unless, promise_kind, term_attribute, function_clause, other_attribute, promised, attribute_made, loop_attribute_made, function_made, function_item, with_clauses, item_made, parameter};
-ghost use Rattle.rs_syntax.specs.declared.value.Value.TheVariants as V;
+//! What the rules of items make.
+ghost use Rattle.std.specs.Prelude.{◌≡◌, IfOk};
+ghost use Rattle.rs_syntax.specs.declared.item.Body.TheVariants as D;
+ghost use Rattle.rs_syntax.specs.declared.item.Fields.TheVariants as F;
+ghost use Rattle.rs_syntax.specs.declared.item.VariantFields.TheVariants as VF;
+ghost use Rattle.rs_syntax.specs.declared.value.Piece.TheVariants as V;
+ghost use Rattle.pearlite.specs.Make.{stands};
+ghost use Rattle.rs_syntax.specs.Values.{first, second, visibility_in, types_in, fields_in, expr_in, term_in};
+ghost use Rattle.rs_syntax.specs.MakeItems.{item_with, method_with, item_behind, method_behind, impl_method_behind, view_type_behind, function_item, struct_made, enum_made, trait_made, impl_made, function_made, trait_head_made, named_head_made, public_field_behind, field_behind, field_type_behind, variant_behind, scoped};
 
-use crate::attribute::AttributeKind;
-use crate::function::{Clause, ClauseKind, Function, Param};
-use crate::pterm::{Pterm, PtermNode};
-use crate::value::{
-    NOWHERE, Value, clauses_in, discard, expr_in, first_of, functions_in, next, next_word,
-    params_in, promise_in, skip, term_in, type_in, unbuilt_in, unbuilt_promise_in,
+use crate::boxed::Boxed;
+use crate::item::{
+    Body, Enum, Field, Fields, Function, Impl, ImplItem, Item, ItemNode, Method, Struct, Trait,
+    Variant, VariantFields, Visibility,
 };
-use crate::word::WordKind;
-use logic_term::{Ty, TyNode};
+use crate::make_generics::stands;
+use crate::pieces::{
+    attributes_in, body_in, conditions_in, fields_in, generics_in, head_in, impl_items_in,
+    items_in, methods_in, next_expr, params_in, struct_fields_in, variant_fields_in, variants_in,
+    visibility_in,
+};
+use crate::shapes::{answer_in, next_segment, segment_in, term_in, type_in, types_in, word_in};
+use crate::value::{Piece, Value, discard, next_extent, next_piece, skip};
+use pearlite::{TypeNode, TypeTree};
 use std::alloc::Global;
 use std::collections::VecDeque;
-use text_core::{Items, NoMemory, Span};
+use text_core::{NoMemory, Span};
 
-/// The value, unless a form stands there that is not built.
-#[tactic(auto, unfolding(crate::specs::Make::unless))]
-pub fn unless(unbuilt: Option<Span>, value: Value) -> Value
-    ensures { result ≡ unless unbuilt value }
+/// `pub`, and the scope of it.
+pub fn visibility(parts: &mut VecDeque<Value>) -> Piece
+    ensures { result ≡ V.Visibility (scoped (stands (second parts.old.items).extent)) }
 {
-    match unbuilt {
-        None => value,
-        Some(span) => {
-            discard(value);
-            Value::Unbuilt(span)
-        }
+    skip(parts);
+    if stands(next_extent(parts)) {
+        Piece::Visibility(Visibility::Crate)
+    } else {
+        Piece::Visibility(Visibility::Public)
     }
 }
 
-/// `requires` or `ensures`.
-#[tactic(auto, unfolding(crate::specs::Make::promise_kind))]
-fn promise_kind(kind: WordKind) -> AttributeKind
-    ensures { result ≡ promise_kind kind }
+/// The item behind its attributes.
+#[tactic(auto, unfolding(crate::specs::MakeItems::item_with))]
+pub fn item_with(
+    alloc: Global,
+    span: Span,
+    so_far: Piece,
+    visibility: Visibility,
+    item: Piece,
+) -> Result<Piece, NoMemory>
+    ensures { IfOk result (λ p. p ≡ item_with span so_far visibility item) }
 {
-    match kind {
-        WordKind::Requires => AttributeKind::Requires,
-        _ => AttributeKind::Ensures,
+    let attributes = attributes_in(alloc, so_far);
+    match item {
+        Piece::ItemNode(node) => {
+            let node = node.into_inner();
+            let item = Item {
+                span,
+                attributes,
+                visibility,
+                node,
+            };
+            Ok(Piece::Item(Boxed::new(alloc, item)?))
+        }
+        other => Ok(other),
     }
 }
 
-/// An attribute with its term.
-#[tactic(auto, unfolding(crate::specs::Make::term_attribute))]
-pub fn term_attribute(kind: AttributeKind, term: Value) -> Value
-    ensures { result ≡ term_attribute kind term }
-{
-    let unbuilt = unbuilt_in(&term);
-    Value::Attribute(kind, term_in(term), unbuilt)
-}
-
-/// `requires` or `ensures`, and its term.
-#[tactic(auto, unfolding(crate::specs::Make::function_clause))]
-pub fn function_clause(mut parts: VecDeque<Value>) -> Value
-    ensures { result ≡ function_clause parts.items }
-{
-    let word = next_word(&mut parts);
-    term_attribute(promise_kind(word.kind), next(&mut parts))
-}
-
-/// An attribute that is not built.
-#[tactic(auto, unfolding(crate::specs::Make::other_attribute))]
-pub fn other_attribute() -> Value
-    ensures { result ≡ other_attribute }
-{
-    let term = Pterm {
-        span: NOWHERE,
-        node: PtermNode::Truth(false),
-    };
-    Value::Attribute(AttributeKind::Other, term, None)
-}
-
-/// The promises before an item with one more that has no clause, of which this is the `#`.
-#[tactic(auto, unfolding(crate::specs::Make::promised))]
-pub fn marked_promise(alloc: Global, so_far: Value, hash: Span, unbuilt: Option<Span>) -> Value
-    ensures { result ≡ promised so_far hash [] unbuilt }
-{
-    let first = promise_in(&so_far).unwrap_or(hash);
-    let unbuilt = first_of(unbuilt_promise_in(&so_far), unbuilt);
-    Value::Clauses(clauses_in(alloc, so_far), first, unbuilt)
-}
-
-/// The promises before an item with one more clause, of which this is the `#`.
-#[tactic(auto, unfolding(crate::specs::Make::promised))]
-fn promised_clause(
+/// `pub` and the item, behind its attributes.
+pub fn public_item(
     alloc: Global,
-    so_far: Value,
-    hash: Span,
-    clause: Clause,
-    unbuilt: Option<Span>,
-) -> Result<Value, NoMemory>
-    ensures { IfOk result (λ v. v ≡ promised so_far hash (clause ∷ []) unbuilt) }
+    span: Span,
+    so_far: Piece,
+    parts: &mut VecDeque<Value>,
+) -> Result<Piece, NoMemory>
+    ensures { IfOk result (λ p. p ≡ item_with span so_far (visibility_in (first parts.old.items).piece) (second parts.old.items).piece) }
 {
-    let first = promise_in(&so_far).unwrap_or(hash);
-    let unbuilt = first_of(unbuilt_promise_in(&so_far), unbuilt);
-    let mut clauses = clauses_in(alloc, so_far);
-    clauses.push(clause)?;
-    Ok(Value::Clauses(clauses, first, unbuilt))
+    let visibility = visibility_in(next_piece(parts));
+    item_with(alloc, span, so_far, visibility, next_piece(parts))
 }
 
-/// The promises before an item with this attribute: a clause of a function is built, and no other.
-#[tactic(auto, unfolding(crate::specs::Make::attribute_made))]
-pub fn attribute(
+/// The function of a trait or an impl behind its attributes.
+#[tactic(auto, unfolding(crate::specs::MakeItems::method_with))]
+pub fn method_with(
     alloc: Global,
-    so_far: Value,
-    hash: Span,
-    attribute: Value,
-) -> Result<Value, NoMemory>
-    ensures { IfOk result (λ v. v ≡ attribute_made so_far hash attribute) }
+    span: Span,
+    so_far: Piece,
+    visibility: Visibility,
+    function: Piece,
+) -> Result<Piece, NoMemory>
+    ensures { IfOk result (λ p. p ≡ method_with span so_far visibility function) }
 {
-    match attribute {
-        Value::Attribute(AttributeKind::Requires, term, unbuilt) => {
-            let kind = ClauseKind::Requires;
-            promised_clause(alloc, so_far, hash, Clause { kind, term }, unbuilt)
+    let attributes = attributes_in(alloc, so_far);
+    match function {
+        Piece::Function(function) => {
+            let function = function.into_inner();
+            let method = Method {
+                span,
+                attributes,
+                visibility,
+                function,
+            };
+            Ok(Piece::Method(Boxed::new(alloc, method)?))
         }
-        Value::Attribute(AttributeKind::Ensures, term, unbuilt) => {
-            let kind = ClauseKind::Ensures;
-            promised_clause(alloc, so_far, hash, Clause { kind, term }, unbuilt)
+        other => Ok(other),
+    }
+}
+
+/// `pub` and the function, behind its attributes.
+pub fn public_method(
+    alloc: Global,
+    span: Span,
+    so_far: Piece,
+    parts: &mut VecDeque<Value>,
+) -> Result<Piece, NoMemory>
+    ensures { IfOk result (λ p. p ≡ method_with span so_far (visibility_in (first parts.old.items).piece) (second parts.old.items).piece) }
+{
+    let visibility = visibility_in(next_piece(parts));
+    method_with(alloc, span, so_far, visibility, next_piece(parts))
+}
+
+/// The items with one more.
+#[tactic(auto, unfolding(crate::specs::MakeItems::item_behind))]
+pub fn item_behind(alloc: Global, so_far: Piece, item: Piece) -> Result<Piece, NoMemory>
+    ensures { IfOk result (λ p. p ≡ item_behind so_far item) }
+{
+    let mut items = items_in(alloc, so_far);
+    match item {
+        Piece::Item(item) => {
+            items.push(item.into_inner())?;
+            Ok(Piece::Source(items))
         }
         other => {
             discard(other);
-            Ok(marked_promise(alloc, so_far, hash, Some(hash)))
+            Ok(Piece::Source(items))
         }
     }
 }
 
-/// Before a loop an invariant is built, and no other attribute.
-#[tactic(auto, unfolding(crate::specs::Make::loop_attribute_made))]
-pub fn loop_attribute(hash: Span, attribute: Value) -> Value
-    ensures { result ≡ loop_attribute_made hash attribute }
+/// The functions of a trait with one more.
+#[tactic(auto, unfolding(crate::specs::MakeItems::method_behind))]
+pub fn method_behind(alloc: Global, so_far: Piece, method: Piece) -> Result<Piece, NoMemory>
+    ensures { IfOk result (λ p. p ≡ method_behind so_far method) }
 {
-    match attribute {
-        Value::Attribute(AttributeKind::Invariant, term, unbuilt) => {
-            unless(unbuilt, Value::Term(term, hash))
+    let mut methods = methods_in(alloc, so_far);
+    match method {
+        Piece::Method(method) => {
+            methods.push(method.into_inner())?;
+            Ok(Piece::Methods(methods))
         }
         other => {
             discard(other);
-            Value::Unbuilt(hash)
+            Ok(Piece::Methods(methods))
         }
     }
 }
 
-/// `fn`, the name, type parameters, the parameters, the type of the answer, conditions, the body.
-#[tactic(auto, unfolding(crate::specs::Make::function_made))]
-pub fn function(alloc: Global, mut parts: VecDeque<Value>) -> Result<Value, NoMemory>
-    ensures { IfOk result (λ v. v ≡ function_made parts.items) }
+/// The items of an impl with one more function.
+#[tactic(auto, unfolding(crate::specs::MakeItems::impl_method_behind))]
+pub fn impl_method_behind(alloc: Global, so_far: Piece, method: Piece) -> Result<Piece, NoMemory>
+    ensures { IfOk result (λ p. p ≡ impl_method_behind so_far method) }
 {
-    skip(&mut parts);
-    let name = next_word(&mut parts);
-    skip(&mut parts);
-    let params = params_in(alloc, next(&mut parts));
-    let answer = type_in(next(&mut parts));
-    skip(&mut parts);
-    let body = expr_in(next(&mut parts));
-    let mut functions = Items::new(alloc);
-    functions.push(Function {
-        clauses: Items::new(alloc),
-        name: name.name,
-        name_span: name.span,
+    let mut items = impl_items_in(alloc, so_far);
+    match method {
+        Piece::Method(method) => {
+            items.push(ImplItem::Method(method.into_inner()))?;
+            Ok(Piece::ImplItems(items))
+        }
+        other => {
+            discard(other);
+            Ok(Piece::ImplItems(items))
+        }
+    }
+}
+
+/// `type`, `ViewTy`, the type and `;`, behind the other items of an impl.
+#[tactic(auto, unfolding(crate::specs::MakeItems::view_type_behind))]
+pub fn view_type(
+    alloc: Global,
+    span: Span,
+    so_far: Piece,
+    parts: &mut VecDeque<Value>,
+) -> Result<Piece, NoMemory>
+    ensures { IfOk result (λ p. p ≡ view_type_behind span so_far parts.old.items) }
+{
+    let mut items = impl_items_in(alloc, so_far);
+    skip(parts);
+    skip(parts);
+    let ty = type_in(next_piece(parts));
+    items.push(ImplItem::ViewType(span, ty))?;
+    Ok(Piece::ImplItems(items))
+}
+
+/// A function as an item.
+#[tactic(auto, unfolding(crate::specs::MakeItems::function_item))]
+pub fn function_item(alloc: Global, function: Piece) -> Result<Piece, NoMemory>
+    ensures { IfOk result (λ p. p ≡ function_item function) }
+{
+    match function {
+        Piece::Function(function) => {
+            node_piece(alloc, ItemNode::Function(function.into_inner()))
+        }
+        other => Ok(other),
+    }
+}
+
+/// An item without attributes and visibility.
+pub fn node_piece(alloc: Global, node: ItemNode) -> Result<Piece, NoMemory>
+    ensures { IfOk result (λ p. p ≡ V.ItemNode node) }
+{
+    let node = Boxed::new(alloc, node)?;
+    Ok(Piece::ItemNode(node))
+}
+
+/// `struct`, the name, the parameters and the fields.
+#[tactic(auto, unfolding(crate::specs::MakeItems::struct_made))]
+pub fn struct_item(alloc: Global, parts: &mut VecDeque<Value>) -> Result<Piece, NoMemory>
+    ensures { IfOk result (λ p. p ≡ struct_made parts.old.items) }
+{
+    skip(parts);
+    let name = next_segment(parts);
+    let generics = generics_in(alloc, next_piece(parts));
+    let fields = struct_fields_in(next_piece(parts));
+    let node = ItemNode::Struct(Struct {
+        name,
+        generics,
+        fields,
+    });
+    node_piece(alloc, node)
+}
+
+/// `enum`, the name, the parameters and the variants.
+#[tactic(auto, unfolding(crate::specs::MakeItems::enum_made))]
+pub fn enum_item(alloc: Global, parts: &mut VecDeque<Value>) -> Result<Piece, NoMemory>
+    ensures { IfOk result (λ p. p ≡ enum_made parts.old.items) }
+{
+    skip(parts);
+    let name = next_segment(parts);
+    let generics = generics_in(alloc, next_piece(parts));
+    let variants = variants_in(alloc, next_piece(parts));
+    let node = ItemNode::Enum(Enum {
+        name,
+        generics,
+        variants,
+    });
+    node_piece(alloc, node)
+}
+
+/// `trait`, the name and the functions.
+#[tactic(auto, unfolding(crate::specs::MakeItems::trait_made))]
+pub fn trait_item(alloc: Global, parts: &mut VecDeque<Value>) -> Result<Piece, NoMemory>
+    ensures { IfOk result (λ p. p ≡ trait_made parts.old.items) }
+{
+    skip(parts);
+    let name = next_segment(parts);
+    let methods = methods_in(alloc, next_piece(parts));
+    node_piece(alloc, ItemNode::Trait(Trait { name, methods }))
+}
+
+/// `impl`, the parameters, the trait and the type, the conditions and the items.
+#[tactic(auto, unfolding(crate::specs::MakeItems::impl_made))]
+pub fn impl_item(alloc: Global, parts: &mut VecDeque<Value>) -> Result<Piece, NoMemory>
+    ensures { IfOk result (λ p. p ≡ impl_made parts.old.items) }
+{
+    skip(parts);
+    let generics = generics_in(alloc, next_piece(parts));
+    let (of, target) = head_in(alloc, next_piece(parts));
+    let conditions = conditions_in(alloc, next_piece(parts));
+    let items = impl_items_in(alloc, next_piece(parts));
+    let node = ItemNode::Impl(Impl {
+        generics,
+        of,
+        target,
+        conditions,
+        items,
+    });
+    node_piece(alloc, node)
+}
+
+/// `fn`, the name, the parameters of the declaration, those of the function, its answer, the conditions and the body.
+#[tactic(auto, unfolding(crate::specs::MakeItems::function_made))]
+pub fn function(alloc: Global, parts: &mut VecDeque<Value>) -> Result<Piece, NoMemory>
+    ensures { IfOk result (λ p. p ≡ function_made parts.old.items) }
+{
+    skip(parts);
+    let name = next_segment(parts);
+    let generics = generics_in(alloc, next_piece(parts));
+    let params = params_in(alloc, next_piece(parts));
+    let answer = answer_in(next_piece(parts));
+    let conditions = conditions_in(alloc, next_piece(parts));
+    let body = body_in(next_piece(parts));
+    let function = Function {
+        name,
+        generics,
         params,
         answer,
+        conditions,
         body,
-    })?;
-    Ok(Value::Functions(functions))
+    };
+    Ok(Piece::Function(Boxed::new(alloc, function)?))
 }
 
-/// A function in which a form is not built is told from other items.
-#[tactic(auto, unfolding(crate::specs::Make::function_item))]
-pub fn function_item(value: Value) -> Value
-    ensures { result ≡ function_item value }
+/// A block as the body of a function.
+pub fn program_body(alloc: Global, parts: &mut VecDeque<Value>) -> Result<Piece, NoMemory>
+    ensures { IfOk result (λ p. p ≡ V.Body (D.Block (expr_in (first parts.old.items).piece))) }
 {
-    match value {
-        Value::Unbuilt(span) => Value::UnbuiltFunction(span),
-        value => value,
-    }
+    let block = next_expr(alloc, parts)?;
+    Ok(Piece::Body(Body::Block(block)))
 }
 
-/// The function, which stands alone, with these clauses.
-#[tactic(auto, unfolding(crate::specs::Make::with_clauses))]
-fn with_clauses(clauses: Items<Clause>, functions: Items<Function>) -> Items<Function>
-    ensures { result ≡ with_clauses clauses functions }
+/// A term in braces as the body of a function.
+pub fn logic_body(alloc: Global, parts: &mut VecDeque<Value>) -> Result<Piece, NoMemory>
+    ensures { IfOk result (λ p. p ≡ V.Body (D.Term (term_in (second parts.old.items).piece))) }
 {
-    let mut functions = functions.into_vec();
-    if functions.len() > 0 {
-        functions[0].clauses = clauses;
-    }
-    Items::from_vec(functions)
+    skip(parts);
+    let term = Boxed::new(alloc, term_in(next_piece(parts)))?;
+    Ok(Piece::Body(Body::Term(term)))
 }
 
-/// The item behind its promises.
-#[tactic(auto, unfolding(crate::specs::Make::item_made))]
-pub fn item(alloc: Global, promises: Value, item: Value) -> Value
-    ensures { result ≡ item_made promises item }
-{
-    let promise = promise_in(&promises);
-    let unbuilt = unbuilt_promise_in(&promises);
-    let clauses = clauses_in(alloc, promises);
-    match item {
-        Value::Functions(functions) => {
-            unless(unbuilt, Value::Functions(with_clauses(clauses, functions)))
-        }
-        Value::UnbuiltFunction(span) => Value::Unbuilt(unbuilt.unwrap_or(span)),
-        Value::Unbuilt(span) => Value::Unbuilt(promise.unwrap_or(span)),
-        other => {
-            discard(other);
-            unless(promise, Value::Functions(Items::new(alloc)))
-        }
-    }
-}
-
-/// The functions with those of one more item.
-pub fn further_functions(
+/// `for` and the type, behind the name of a trait.
+#[tactic(auto, unfolding(crate::specs::MakeItems::trait_head_made))]
+pub fn trait_head(
     alloc: Global,
-    before: Value,
-    mut parts: VecDeque<Value>,
-) -> Result<Value, NoMemory>
-    ensures { IfOk result (λ v. v ≡ V.Functions (functions_in before ++ functions_in (first parts.items))) }
+    so_far: Piece,
+    parts: &mut VecDeque<Value>,
+) -> Result<Piece, NoMemory>
+    ensures { IfOk result (λ p. p ≡ trait_head_made so_far parts.old.items) }
 {
-    let mut functions = functions_in(alloc, before).into_vec();
-    let mut more = functions_in(alloc, next(&mut parts)).into_vec();
-    functions.append(&mut more)?;
-    Ok(Value::Functions(Items::from_vec(functions)))
+    let name = segment_in(&so_far);
+    discard(so_far);
+    skip(parts);
+    let ty = Boxed::new(alloc, type_in(next_piece(parts)))?;
+    Ok(Piece::Head(Some(name), ty))
 }
 
-/// The type, or `bool` where none is written.
-#[tactic(auto, unfolding(crate::specs::Values::type_in))]
-fn type_or_bool(value: Value) -> Ty
-    ensures { result ≡ unwrap_or (type_in value) bool }
+/// The arguments behind the name of a type.
+#[tactic(auto, unfolding(crate::specs::MakeItems::named_head_made))]
+pub fn named_head(
+    alloc: Global,
+    span: Span,
+    so_far: Piece,
+    parts: &mut VecDeque<Value>,
+) -> Result<Piece, NoMemory>
+    ensures { IfOk result (λ p. p ≡ named_head_made span so_far parts.old.items) }
 {
-    match value {
-        Value::Typed(ty) => ty,
-        other => {
-            discard(other);
-            Ty { node: TyNode::Bool }
-        }
-    }
+    let name = word_in(&so_far).name;
+    discard(so_far);
+    skip(parts);
+    let arguments = types_in(alloc, next_piece(parts)).into_vec();
+    let node = TypeNode::Named(name, arguments);
+    let ty = Boxed::new(alloc, TypeTree { span, node })?;
+    Ok(Piece::Head(None, ty))
 }
 
-/// The parameters with one more: the name, `:`, the type.
-#[tactic(auto, unfolding(crate::specs::Make::parameter))]
-fn with_parameter(
-    params: Items<Param>,
-    mutable: bool,
-    mut parts: VecDeque<Value>,
-) -> Result<Value, NoMemory>
-    ensures { IfOk result (λ v. v ≡ V.Params (params ++ parameter mutable (first parts.items) (third parts.items) ∷ [])) }
+/// `{`, the fields, `}`.
+pub fn named_fields(alloc: Global, parts: &mut VecDeque<Value>) -> Result<Piece, NoMemory>
+    ensures { IfOk result (λ p. p ≡ V.StructFields (F.Named (fields_in (second parts.old.items).piece))) }
 {
-    let word = next_word(&mut parts);
-    skip(&mut parts);
-    let ty = type_or_bool(next(&mut parts));
-    let mut params = params;
-    params.push(Param {
-        mutable,
-        name: word.name,
-        span: word.span,
+    skip(parts);
+    let fields = Fields::Named(fields_in(alloc, next_piece(parts)));
+    fields_piece(alloc, fields)
+}
+
+/// The fields of a struct.
+pub fn fields_piece(alloc: Global, fields: Fields) -> Result<Piece, NoMemory>
+    ensures { IfOk result (λ p. p ≡ V.StructFields fields) }
+{
+    let fields = Boxed::new(alloc, fields)?;
+    Ok(Piece::StructFields(fields))
+}
+
+/// The fields in parentheses, and `;`.
+pub fn tuple_fields(alloc: Global, parts: &mut VecDeque<Value>) -> Result<Piece, NoMemory>
+    ensures { IfOk result (λ p. p ≡ V.StructFields (F.Tuple (fields_in (first parts.old.items).piece))) }
+{
+    let fields = Fields::Tuple(fields_in(alloc, next_piece(parts)));
+    fields_piece(alloc, fields)
+}
+
+/// `pub`, the name, `:` and the type, behind the other fields.
+#[tactic(auto, unfolding(crate::specs::MakeItems::public_field_behind))]
+pub fn public_field(
+    alloc: Global,
+    span: Span,
+    so_far: Piece,
+    parts: &mut VecDeque<Value>,
+) -> Result<Piece, NoMemory>
+    ensures { IfOk result (λ p. p ≡ public_field_behind span so_far parts.old.items) }
+{
+    let mut fields = fields_in(alloc, so_far);
+    skip(parts);
+    let name = Some(next_segment(parts));
+    skip(parts);
+    let ty = type_in(next_piece(parts));
+    fields.push(Field {
+        span,
+        public: true,
+        name,
         ty,
     })?;
-    Ok(Value::Params(params))
+    Ok(Piece::Fields(fields))
 }
 
-/// The name, `:`, the type, behind the parameters.
-pub fn plain_parameter(
+/// The name, `:` and the type, behind the other fields.
+#[tactic(auto, unfolding(crate::specs::MakeItems::field_behind))]
+pub fn private_field(
     alloc: Global,
-    before: Value,
-    parts: VecDeque<Value>,
-) -> Result<Value, NoMemory>
-    ensures { IfOk result (λ v. v ≡ V.Params (params_in before ++ parameter false (first parts.items) (third parts.items) ∷ [])) }
+    span: Span,
+    so_far: Piece,
+    parts: &mut VecDeque<Value>,
+) -> Result<Piece, NoMemory>
+    ensures { IfOk result (λ p. p ≡ field_behind span so_far parts.old.items) }
 {
-    with_parameter(params_in(alloc, before), false, parts)
+    let mut fields = fields_in(alloc, so_far);
+    let name = Some(next_segment(parts));
+    skip(parts);
+    let ty = type_in(next_piece(parts));
+    fields.push(Field {
+        span,
+        public: false,
+        name,
+        ty,
+    })?;
+    Ok(Piece::Fields(fields))
 }
 
-/// The name, `:`, the type, behind `mut`.
-pub fn named_parameter(alloc: Global, parts: VecDeque<Value>) -> Result<Value, NoMemory>
-    ensures { IfOk result (λ v. v ≡ V.Params (parameter true (first parts.items) (third parts.items) ∷ [])) }
-{
-    with_parameter(Items::new(alloc), true, parts)
-}
-
-/// `mut` and the parameter that it belongs to, behind the others.
-pub fn mutable_parameter(
+/// The type of a field without a name, behind the other fields.
+#[tactic(auto, unfolding(crate::specs::MakeItems::field_type_behind))]
+pub fn field_type(
     alloc: Global,
-    before: Value,
-    mut parts: VecDeque<Value>,
-) -> Result<Value, NoMemory>
-    ensures { IfOk result (λ v. v ≡ V.Params (params_in before ++ params_in (second parts.items))) }
+    span: Span,
+    public: bool,
+    so_far: Piece,
+    value: Value,
+) -> Result<Piece, NoMemory>
+    ensures { IfOk result (λ p. p ≡ field_type_behind span public so_far value) }
 {
-    skip(&mut parts);
-    let mut params = params_in(alloc, before).into_vec();
-    let mut more = params_in(alloc, next(&mut parts)).into_vec();
-    params.append(&mut more)?;
-    Ok(Value::Params(Items::from_vec(params)))
+    let mut fields = fields_in(alloc, so_far);
+    let ty = type_in(value.piece);
+    fields.push(Field {
+        span,
+        public,
+        name: None,
+        ty,
+    })?;
+    Ok(Piece::Fields(fields))
+}
+
+/// The name and the fields of a variant, behind the other variants.
+#[tactic(auto, unfolding(crate::specs::MakeItems::variant_behind))]
+pub fn variant(
+    alloc: Global,
+    span: Span,
+    so_far: Piece,
+    parts: &mut VecDeque<Value>,
+) -> Result<Piece, NoMemory>
+    ensures { IfOk result (λ p. p ≡ variant_behind span so_far parts.old.items) }
+{
+    let mut variants = variants_in(alloc, so_far);
+    let name = next_segment(parts);
+    let fields = variant_fields_in(next_piece(parts));
+    variants.push(Variant { span, name, fields })?;
+    Ok(Piece::Variants(variants))
+}
+
+/// `(`, the types of a variant's fields, `)`.
+pub fn variant_types(alloc: Global, parts: &mut VecDeque<Value>) -> Result<Piece, NoMemory>
+    ensures { IfOk result (λ p. p ≡ V.VariantFields (VF.Tuple (types_in (second parts.old.items).piece))) }
+{
+    skip(parts);
+    let types = types_in(alloc, next_piece(parts));
+    let fields = Boxed::new(alloc, VariantFields::Tuple(types))?;
+    Ok(Piece::VariantFields(fields))
+}
+
+/// `{`, the fields of a variant, `}`.
+pub fn variant_named_fields(alloc: Global, parts: &mut VecDeque<Value>) -> Result<Piece, NoMemory>
+    ensures { IfOk result (λ p. p ≡ V.VariantFields (VF.Named (fields_in (second parts.old.items).piece))) }
+{
+    skip(parts);
+    let fields = fields_in(alloc, next_piece(parts));
+    let fields = Boxed::new(alloc, VariantFields::Named(fields))?;
+    Ok(Piece::VariantFields(fields))
 }

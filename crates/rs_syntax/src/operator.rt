@@ -1,3 +1,14 @@
+/// The operators of program code with one operand.
+#[derive(Clone, Copy, Debug, PartialEq, Eq)]
+pub enum UnaryOp {
+    /// `-e`
+    Neg,
+    /// `!e`
+    Not,
+    /// `*e`
+    Deref,
+}
+
 /// The lazy operators of program code.
 #[derive(Clone, Copy, Debug, PartialEq, Eq)]
 pub enum LazyOp {
@@ -5,15 +16,4 @@ pub enum LazyOp {
     And,
     /// `||`
     Or,
-}
-
-/// The comparisons of terms.
-#[derive(Clone, Copy, Debug, PartialEq, Eq)]
-pub enum Comparison {
-    Eq,
-    Ne,
-    Lt,
-    Le,
-    Gt,
-    Ge,
 }

@@ -1,15 +1,16 @@
 -- What the outcome of a reading says of texts.
-use Rattle.std.specs.Prelude.{◌≡◌, ℕ, Bool, true, false, List, [], ◌∷◌, ◌++◌, length, take, ◌+◌, ◌-◌}
-use Rattle.std.proofs.Common.{Option, Some, refl, sym, ◌∙◌, ap, subst, arith, true≢false, length-append, inr}
+use Rattle.std.specs.Prelude.{◌≡◌, ℕ, true, false, List, [], ◌∷◌, ◌++◌, length, take, ◌+◌, ◌-◌}
+use Rattle.std.proofs.Common.{Option, Some, refl, sym, ◌∙◌, ap, subst, arith, true≢false, length-append, append-nil, inr}
 use Rattle.token_grammar.specs.Grammar.{Grammar, Symbol, next_kind, Spells}
 use Rattle.token_grammar.specs.Reads.{Outcome, ok, stop, Reads, ReadsParts, ReadsTail, refuse, finish, pass, fail, step}
 use Rattle.token_grammar.specs.Reads.ReadsParts.{nil, miss, token_ok, token_stop, phrase_stop, phrase_ok, phrase_then}
 use Rattle.token_grammar.specs.Reads.ReadsTail.{done, more}
-use Rattle.token_grammar.specs.Tables.{IsExact, IsHeaded, Plan, Planned, without_limits, IsRefusal, IsLimit}
+use Rattle.token_grammar.specs.Tables.{IsExact, IsHeaded, Plan, Planned, without_limits, passes, IsRefusal, IsLimit}
 use Rattle.std.proofs.Math.Seq.{take-append_seam}
 use Rattle.token_grammar.proofs.Exact.{complete}
 use Rattle.token_grammar.proofs.Once.{same, rest_same, value_same, differ}
 use Rattle.token_grammar.proofs.Local.{local}
+use Rattle.token_grammar.proofs.Cut.{cut}
 use Rattle.token_grammar.proofs.Viable.{viable, again, IsClearOf}
 
 before : {T : Type 0} (pre pre₂ ys : List T) → pre ++ ys ≡ pre₂ ++ ys → pre ≡ pre₂
@@ -25,10 +26,6 @@ module _ (G : Grammar) (s : IsExact G) (p : Plan G) (h : Planned G p) where
   free_sound : IsExact (without_limits G)
   unfolding IsHeaded
   free_sound = record { own = s.own; at_end = s.at_end; heads = s.heads }
-
-  abbrev passes : {V : Type 0} → Outcome V G.Token → Bool
-  passes (ok v ys) = false
-  passes (stop b ys) = b
 
   mutual
     freed : {n : G.Nonterminal} {d c : ℕ} {a : G.Value} {xs : List G.Token} {o : Outcome G.Value G.Token} → Reads G n d c a xs o → passes o ≡ false →
@@ -58,22 +55,31 @@ module _ (G : Grammar) (s : IsExact G) (p : Plan G) (h : Planned G p) where
   unfolding IsClearOf
   none_clear c k e = absurd cc
 
-  pub unique : (n : G.Nonterminal) (xs : List G.Token) (w w₂ : G.Value) → Spells G n 0 0 G.nothing xs w [] → Spells G n 0 0 G.nothing xs w₂ [] → w ≡ w₂
-  unique n xs w w₂ x y = value_same (same G (complete G s x) (ok w₂ []) (complete G s y))
+  pub unique : (n : G.Nonterminal) (d : ℕ) (xs : List G.Token) (w w₂ : G.Value) → Spells G n d 0 G.nothing xs w [] → Spells G n d 0 G.nothing xs w₂ [] → w ≡ w₂
+  unique n d xs w w₂ x y = value_same (same G (complete G s x) (ok w₂ []) (complete G s y))
 
-  pub refused : (n : G.Nonterminal) (xs ys : List G.Token) → Reads G n 0 0 G.nothing xs (stop false ys) → IsRefusal G n xs ys
-  refused n xs ys q = let V = viable G s p h q in let z = V.done [] (none_clear (p.class n)) in
+  pub refused : (n : G.Nonterminal) (d : ℕ) (xs ys : List G.Token) → Reads G n d 0 G.nothing xs (stop false ys) → IsRefusal G n d xs ys
+  refused n d xs ys q = let V = viable G s p h q in let z = V.done [] (none_clear (p.class n)) in
       let L = local (without_limits G) (freed q refl) in
       let e : L.pre ≡ V.pre = before L.pre V.pre ys (sym L.split ∙ V.split) in
       record {
         pre = V.pre;
         split = V.split;
         goes_on = (V.on ++ [], z.0, z.1);
-        stuck = λ zs w k x. differ (same (without_limits G) (subst (λ (us : List G.Token). Reads (without_limits G) n 0 0 G.nothing (us ++ zs) (stop false zs)) e (L.again zs k)) (ok w []) (complete (without_limits G) free_sound x));
+        stuck = λ zs w k x. differ (same (without_limits G) (subst (λ (us : List G.Token). Reads (without_limits G) n d 0 G.nothing (us ++ zs) (stop false zs)) e (L.again zs k)) (ok w []) (complete (without_limits G) free_sound x));
       }
 
-  pub limited : (n : G.Nonterminal) (xs ys : List G.Token) → Reads G n 0 0 G.nothing xs (stop true ys) → IsLimit G n xs ys
-  limited n xs ys q = let V = viable G s p h q in let z = V.done [] (none_clear (p.class n)) in
+  -- what stands before the refused token spells nothing
+  pub spells_none : (n : G.Nonterminal) (d : ℕ) (pre ys : List G.Token) (w : G.Value) → Reads G n d 0 G.nothing (pre ++ ys) (stop false ys) →
+      Spells G n d 0 G.nothing pre w [] → ⊥
+  spells_none n d pre ys w q x = let C = cut G s h.starts q in
+      let e : C.pre ≡ pre = before C.pre pre ys (sym C.split) in
+      let y : Reads G n d 0 G.nothing pre (stop false []) =
+      subst (λ (us : List G.Token). Reads G n d 0 G.nothing us (stop false [])) (append-nil C.pre ∙ e) (C.again [] (inr (refl, refl))) in
+      differ (same G y (ok w []) (complete G s x))
+
+  pub limited : (n : G.Nonterminal) (d : ℕ) (xs ys : List G.Token) → Reads G n d 0 G.nothing xs (stop true ys) → IsLimit G n d xs ys
+  limited n d xs ys q = let V = viable G s p h q in let z = V.done [] (none_clear (p.class n)) in
       let L = local G q in let m = V.taken refl in
       let e : L.pre ≡ V.pre = before L.pre V.pre ys (sym L.split ∙ V.split) in
       record {
@@ -82,21 +88,21 @@ module _ (G : Grammar) (s : IsExact G) (p : Plan G) (h : Planned G p) where
         more = m.more₂;
         at = m.is₂;
         split = V.split;
-        goes_on = (m.more₁ ++ [], z.0, subst (λ (us : List G.Token). Spells (without_limits G) n 0 0 G.nothing (V.pre ++ (us ++ [])) z.0 []) m.is₁ z.1);
-        stuck = λ zs w k x. differ (same G (subst (λ (us : List G.Token). Reads G n 0 0 G.nothing (us ++ zs) (stop true zs)) e (L.again zs k)) (ok w []) (complete G s x));
+        goes_on = (m.more₁ ++ [], z.0, subst (λ (us : List G.Token). Spells (without_limits G) n d 0 G.nothing (V.pre ++ (us ++ [])) z.0 []) m.is₁ z.1);
+        stuck = λ zs w k x. differ (same G (subst (λ (us : List G.Token). Reads G n d 0 G.nothing (us ++ zs) (stop true zs)) e (L.again zs k)) (ok w []) (complete G s x));
       }
 
   -- a text that goes on where the nonterminal has ended
-  pub left_over : (n : G.Nonterminal) (xs : List G.Token) (w : G.Value) (y : G.Token) (ys : List G.Token) → Reads G n 0 0 G.nothing xs (ok w (y ∷ ys)) →
-      IsRefusal G n xs (y ∷ ys)
-  left_over n xs w y ys q = let A = again G s p h q in let x = A.again [] (inr (none_clear (p.class n))) in
+  pub left_over : (n : G.Nonterminal) (d : ℕ) (xs : List G.Token) (w : G.Value) (y : G.Token) (ys : List G.Token) → Reads G n d 0 G.nothing xs (ok w (y ∷ ys)) →
+      IsRefusal G n d xs (y ∷ ys)
+  left_over n d xs w y ys q = let A = again G s p h q in let x = A.again [] (inr (none_clear (p.class n))) in
       let L = local (without_limits G) (freed q refl) in
       let e : L.pre ≡ A.pre = before L.pre A.pre (y ∷ ys) (sym L.split ∙ A.split) in
       record {
         pre = A.pre;
         split = A.split;
         goes_on = ([], w, x);
-        stuck = λ zs w₂ k x₂. over zs k (rest_same (same (without_limits G) (subst (λ (us : List G.Token). Reads (without_limits G) n 0 0 G.nothing (us ++ zs) (ok w zs)) e (L.again zs k)) (ok w₂ []) (complete (without_limits G) free_sound x₂)));
+        stuck = λ zs w₂ k x₂. over zs k (rest_same (same (without_limits G) (subst (λ (us : List G.Token). Reads (without_limits G) n d 0 G.nothing (us ++ zs) (ok w zs)) e (L.again zs k)) (ok w₂ []) (complete (without_limits G) free_sound x₂)));
       }
     where
       over : (zs : List G.Token) → next_kind G zs ≡ Some (G.kind_of y) → zs ≡ [] → ⊥

@@ -1,6 +1,7 @@
 pub mod Exact
 pub mod Once
 pub mod Local
+pub mod Cut
 pub mod SumLaws
 pub mod Viable
 pub mod Checked

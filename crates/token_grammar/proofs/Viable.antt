@@ -109,7 +109,7 @@ module _ (G : Grammar) (s : IsExact G) (p : Plan G) (h : Planned G p) where
   pub filled : (n : G.Nonterminal) → Filled n
   filled n = filled_at (suc (p.rank n)) n (omega arith)
 
-empty_left : {T : Type 0} (xs ys : List T) → xs ++ ys ≡ [] → xs ≡ []
+pub empty_left : {T : Type 0} (xs ys : List T) → xs ++ ys ≡ [] → xs ≡ []
 empty_left [] ys e = refl
 empty_left (x ∷ xs) ys e = absurd cc
 

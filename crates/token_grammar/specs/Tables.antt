@@ -3,6 +3,7 @@
 use Rattle.std.specs.Prelude.{◌≡◌, ℕ, Bool, true, false, not, cond, List, [], ◌∷◌, ◌++◌, ltb, ◌&&◌, ◌||◌}
 use Rattle.std.proofs.Common.{Option, Some, None}
 use Rattle.token_grammar.specs.Grammar.{Grammar, Symbol, terminal, nonterminal, next_kind, Spells}
+use Rattle.token_grammar.specs.Reads.{Outcome, ok, stop}
 
 -- a rule begins with a token that chooses it, or with a nonterminal all of whose first tokens do
 unfoldable pub IsHeaded : (G : Grammar) → G.Rule → List (Symbol G.Kind G.Nonterminal) → Type 0
@@ -98,23 +99,28 @@ pub record Planned (G : Grammar) (p : Plan G) : Type 0 where
 abbrev pub without_limits : Grammar → Grammar
 without_limits G = record G { allowed = λ r d c. true }
 
--- The reading of `n` from `xs` is refused at the first token of `ys`, or at the end where `ys` is empty; `pre` stands before it.
-pub record IsRefusal (G : Grammar) (n : G.Nonterminal) (xs ys : List G.Token) : Type 0 where
+-- the outcome is a limit that is passed
+abbrev pub passes : {V T : Type 0} → Outcome V T → Bool
+passes (ok v ys) = false
+passes (stop b ys) = b
+
+-- The reading of `n` from `xs`, at the level `d`, is refused at the first token of `ys`, or at the end where `ys` is empty; `pre` stands before it.
+pub record IsRefusal (G : Grammar) (n : G.Nonterminal) (d : ℕ) (xs ys : List G.Token) : Type 0 where
   pub pre : List G.Token
   pub split : xs ≡ pre ++ ys
   -- something that is spelled goes on from what stands before
-  pub goes_on : (zs : List G.Token) × (w : G.Value) × Spells (without_limits G) n 0 0 G.nothing (pre ++ zs) w []
+  pub goes_on : (zs : List G.Token) × (w : G.Value) × Spells (without_limits G) n d 0 G.nothing (pre ++ zs) w []
   -- and nothing that is spelled goes on with the refused token
-  pub stuck : (zs : List G.Token) (w : G.Value) → next_kind G zs ≡ next_kind G ys → Spells (without_limits G) n 0 0 G.nothing (pre ++ zs) w [] → ⊥
+  pub stuck : (zs : List G.Token) (w : G.Value) → next_kind G zs ≡ next_kind G ys → Spells (without_limits G) n d 0 G.nothing (pre ++ zs) w [] → ⊥
 
--- The reading of `n` from `xs` passes a limit at the first token of `ys`; `pre` stands before it.
-pub record IsLimit (G : Grammar) (n : G.Nonterminal) (xs ys : List G.Token) : Type 0 where
+-- The reading of `n` from `xs`, at the level `d`, passes a limit at the first token of `ys`; `pre` stands before it.
+pub record IsLimit (G : Grammar) (n : G.Nonterminal) (d : ℕ) (xs ys : List G.Token) : Type 0 where
   pub pre : List G.Token
   pub token : G.Token
   pub more : List G.Token
   pub at : ys ≡ token ∷ more
   pub split : xs ≡ pre ++ ys
   -- something that is spelled, its limits aside, goes on with the refused token
-  pub goes_on : (zs : List G.Token) × (w : G.Value) × Spells (without_limits G) n 0 0 G.nothing (pre ++ (token ∷ zs)) w []
+  pub goes_on : (zs : List G.Token) × (w : G.Value) × Spells (without_limits G) n d 0 G.nothing (pre ++ (token ∷ zs)) w []
   -- and nothing that is spelled within them
-  pub stuck : (zs : List G.Token) (w : G.Value) → next_kind G zs ≡ next_kind G ys → Spells G n 0 0 G.nothing (pre ++ zs) w [] → ⊥
+  pub stuck : (zs : List G.Token) (w : G.Value) → next_kind G zs ≡ next_kind G ys → Spells G n d 0 G.nothing (pre ++ zs) w [] → ⊥

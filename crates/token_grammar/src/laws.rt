@@ -5,7 +5,7 @@ ghost use Rattle.token_grammar.specs.Tables.{IsExact, Plan, Planned};
 ghost use Rattle.token_grammar.specs.Checks.{Listed, HeadsCompute, PlanComputes};
 ghost use Rattle.token_grammar.specs.Embeds.{Embeds};
 ghost use Rattle.token_grammar.specs.Sums.{sums, signs, sum_plan, total, number, plus};
-ghost use Rattle.token_grammar.specs.Statements.{ReadsOnlySpelled, ReadsAllSpelled, ReadsInOneWay, SpellsOneValue, LooksOneTokenAhead, StopsAreRefusals, LimitsArePassed, LeftOversAreRefusals, ReadsInTheWhole};
+ghost use Rattle.token_grammar.specs.Statements.{ReadsOnlySpelled, ReadsAllSpelled, ReadsInOneWay, SpellsOneValue, LooksOneTokenAhead, EndsAlike, StopsAreRefusals, StopsBehindNothing, LimitsArePassed, LeftOversAreRefusals, ReadsInTheWhole};
 
 /// Where each token chooses the rule that it begins, a reading gives what is spelled, all of it and nothing else.
 pub fn a_reading_gives_what_is_spelled<Token, Kind, Nonterminal, Rule, Value>()
@@ -33,6 +33,15 @@ pub fn a_stop_is_at_the_first_offender<Token, Kind, Nonterminal, Rule, Value>()
         Planned (grammar tables) plan → LimitsArePassed (grammar tables) }
     ensures left_over { (tables : Tables Token Kind Nonterminal Rule Value) → IsExact (grammar tables) → (plan : Plan (grammar tables)) →
         Planned (grammar tables) plan → LeftOversAreRefusals (grammar tables) }
+{}
+
+/// Moreover a reading that passes no limit comes to the same where the text ends behind what it reads. So where it stops
+/// but for a limit, the tokens before the refused one spell nothing.
+pub fn a_reading_knows_the_end_of_the_text<Token, Kind, Nonterminal, Rule, Value>()
+    ensures alike { (tables : Tables Token Kind Nonterminal Rule Value) → IsExact (grammar tables) → (plan : Plan (grammar tables)) →
+        Planned (grammar tables) plan → EndsAlike (grammar tables) }
+    ensures nothing { (tables : Tables Token Kind Nonterminal Rule Value) → IsExact (grammar tables) → (plan : Plan (grammar tables)) →
+        Planned (grammar tables) plan → StopsBehindNothing (grammar tables) }
 {}
 
 /// What a grammar reads, a grammar reads in which it is embedded.

@@ -11,10 +11,10 @@ use Rattle.logic_term.proofs.FreeLaw.{same_test, same_name}
 use Rattle.logic_term.specs.Term as logic
 use Rattle.logic_term.specs.Term.{Term, Operator, var, lit, truth as truth_term, one, two, model, negative as negative_term, not as not_term, calculate, is_less, is_at_most, is_equal, and as and_term, or as or_term, implies as implies_term}
 use Rattle.logic_term.specs.Ty.{Ty, int, bool, math_int}
-use Rattle.rs_syntax.specs.declared.operator.Comparison.{Comparison}
-use Rattle.rs_syntax.specs.declared.operator.Comparison.TheVariants.{Eq, Ne, Lt, Le, Gt, Ge}
-use Rattle.rs_syntax.specs.Pterm.{Pterm, integer, truth, named, viewed as modeled, negative, denied, calculated, compare, both, either, implied}
-use Rattle.rs_syntax.specs.PtermView.{span_of}
+use Rattle.built_syntax.specs.declared.operator.Comparison.{Comparison}
+use Rattle.built_syntax.specs.declared.operator.Comparison.TheVariants.{Eq, Ne, Lt, Le, Gt, Ge}
+use Rattle.built_syntax.specs.Pterm.{Pterm, integer, truth, named, viewed as modeled, negative, denied, calculated, compare, both, either, implied}
+use Rattle.built_syntax.specs.PtermView.{span_of}
 use Rattle.type_check.specs.declared.scope.Answer.{Answer}
 use Rattle.type_check.specs.declared.scope.Found.{Found}
 use Rattle.type_check.specs.declared.scope.Variable.{Variable}

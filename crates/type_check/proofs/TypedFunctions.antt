@@ -3,8 +3,8 @@ use Rattle.std.proofs.Common.{◌≡◌, ◌∙◌, ℕ, suc, ◌+◌, ◌<◌, 
 use Rattle.std.proofs.lemmas.List.{append-nil}
 use Rattle.text_core.specs.declared.name.Name.{Name}
 use Rattle.text_core.specs.declared.refusal.SourceError.{SourceError}
-use Rattle.rs_syntax.specs.declared.fault.PassError.{PassError}
-use Rattle.rs_syntax.specs.declared.function.Function.{Function}
+use Rattle.built_syntax.specs.declared.PassError.{PassError}
+use Rattle.built_syntax.specs.declared.function.Function.{Function}
 use Rattle.type_check.specs.declared.heading.Heading.{Heading}
 use Rattle.type_check.specs.declared.program.TypedFunction.{TypedFunction}
 use Rattle.type_check.specs.Answers.{◌>>=◌, Refuses}

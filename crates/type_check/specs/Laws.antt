@@ -1,7 +1,7 @@
 -- What holds of every source.
 use Rattle.std.specs.Prelude.{◌≡◌, List, Ok}
 use Rattle.text_core.specs.declared.name.Name.{Name}
-use Rattle.rs_syntax.specs.declared.function.Function.{Function}
+use Rattle.built_syntax.specs.declared.function.Function.{Function}
 use Rattle.type_check.specs.declared.program.TypedProgram.{TypedProgram}
 use Rattle.type_check.specs.Checked.{AllGood, checked}
 use Rattle.type_check.specs.WellTyped.{ProgramFits}

@@ -13,8 +13,8 @@ use crate::program::{Signature, TypedClause, TypedFunction, TypedProgram};
 use crate::refusal::mismatch;
 use crate::scope::{Answer, Variable};
 use crate::types::unit_ty;
+use built_syntax::{Clause, ClauseKind, Function, Param, PassError};
 use logic_term::{Ty, TyNode};
-use rs_syntax::{Clause, ClauseKind, Function, Param, PassError};
 use std::alloc::Global;
 use text_core::{Items, Name, NoMemory, Span};
 

@@ -1,7 +1,7 @@
 ghost use Rattle.std.specs.Prelude.{◌≡◌, IfOk, None, map};
 ghost use Rattle.logic_term.specs.Term.{or};
 ghost use Rattle.logic_term.specs.Ty.{bool, math_int};
-ghost use Rattle.rs_syntax.specs.PtermView.{span_of};
+ghost use Rattle.built_syntax.specs.PtermView.{span_of};
 ghost use Rattle.type_check.specs.Answers.{Answers};
 ghost use Rattle.type_check.specs.Terms.{sorted, literal, name_term, model_of, formula, number, ordered, is_ordering, ordered_at, compared, elaborated, asserted, assertion};
 ghost use Rattle.type_check.specs.VariableNames.{variable_name, answer_name};
@@ -11,8 +11,8 @@ use crate::refusal::{mismatch, unknown_name};
 use crate::scope::{Answer, Variable, find_variable};
 use crate::sorted::SortedTerm;
 use crate::types::{bool_ty, fits, is_bool, is_math_int, math_int_ty, same_ty};
+use built_syntax::{Comparison, PassError, Pterm, PtermNode};
 use logic_term::{IntKind, Term, TermNode, Ty, TyNode};
-use rs_syntax::{Comparison, PassError, Pterm, PtermNode};
 use std::alloc::Global;
 use text_core::{Name, NoMemory, Span};
 

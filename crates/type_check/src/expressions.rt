@@ -1,4 +1,4 @@
-ghost use Rattle.rs_syntax.specs.ExprView.{exprs_of as written_exprs, span_of};
+ghost use Rattle.built_syntax.specs.ExprView.{exprs_of as written_exprs, span_of};
 ghost use Rattle.type_check.specs.Answers.{Answers};
 ghost use Rattle.type_check.specs.Opened.{AnswersAs, Opens};
 ghost use Rattle.type_check.specs.TypedExprView.{exprs_of};
@@ -17,8 +17,8 @@ use crate::typing::{
     as_name, assigned, branch, called, choice, denied, given_ty, is_bare, lazy, literal, negated,
     operated, order_of, param_ty, repeat, span_of, spans_at, target_ty, truth, updated, variable,
 };
+use built_syntax::{Expr, ExprNode, PassError, Stmt};
 use logic_term::Ty;
-use rs_syntax::{Expr, ExprNode, PassError, Stmt};
 use std::alloc::Global;
 
 /// The expression with its type: the expected one, where there is one.

@@ -1,7 +1,7 @@
 use crate::assertion::Assertion;
 use crate::typed::TypedExpr;
+use built_syntax::ClauseKind;
 use logic_term::Ty;
-use rs_syntax::ClauseKind;
 use text_core::{Items, Name, Span};
 
 /// A clause of a contract, over the parameters, and in `ensures` the answer.

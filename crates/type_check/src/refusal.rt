@@ -1,8 +1,8 @@
 ghost use Rattle.std.specs.Prelude.{◌≡◌, None};
-ghost use Rattle.rs_syntax.specs.declared.fault.PassError.TheVariants as fault;
+ghost use Rattle.built_syntax.specs.declared.PassError.TheVariants as fault;
 ghost use Rattle.type_check.specs.Answers.{unknown_name, double_name, mismatch, not_mutable};
 
-use rs_syntax::PassError;
+use built_syntax::PassError;
 use text_core::{Code, SourceError, Span};
 
 fn refusal(code: Code, span: Span) -> PassError

@@ -9,8 +9,8 @@ use crate::scope::Variable;
 use crate::typed::{TypedExpr, TypedNode, TypedStmt};
 use crate::types::unit_ty;
 use crate::typing::{fit, ty_of};
+use built_syntax::{PassError, StmtKind};
 use logic_term::Ty;
-use rs_syntax::{PassError, StmtKind};
 use std::alloc::Global;
 use text_core::{NoMemory, Span};
 

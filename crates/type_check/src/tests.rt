@@ -1,6 +1,6 @@
 use super::check;
+use built_syntax::{Expr, ExprNode, Function, Param, PassError, Stmt, StmtKind};
 use logic_term::{BinaryOp, IntKind, Ty};
-use rs_syntax::{Expr, ExprNode, Function, Param, PassError, Stmt, StmtKind};
 use std::alloc::Global;
 use std::test::Fail;
 use text_core::{Code, Items, Name, NoMemory, Span};

@@ -1,6 +1,6 @@
 use crate::assertion::Assertion;
+use built_syntax::LazyOp;
 use logic_term::{BinaryOp, IntKind, Ty};
-use rs_syntax::LazyOp;
 use std::marker::Model;
 use text_core::Span;
 

@@ -1,6 +1,6 @@
 ghost use Rattle.std.specs.Prelude.{◌≡◌, Some, IfOk, slice_get};
 ghost use Rattle.logic_term.specs.Ty.{bool};
-ghost use Rattle.rs_syntax.specs.ExprView.{span_of};
+ghost use Rattle.built_syntax.specs.ExprView.{span_of};
 ghost use Rattle.type_check.specs.Answers.{Answers};
 ghost use Rattle.type_check.specs.TypedExpr as tree;
 ghost use Rattle.type_check.specs.TypedExprView.{ty_of, exprs_of};
@@ -14,8 +14,8 @@ use crate::refusal::{mismatch, not_mutable, unknown_name};
 use crate::scope::{Found, Variable, find_variable};
 use crate::typed::{TypedExpr, TypedNode};
 use crate::types::{bool_ty, fits, is_signed_ty, is_updated, operation_ty, same_ty, unit_ty};
+use built_syntax::{Expr, ExprNode, LazyOp, PassError};
 use logic_term::{BinaryOp, IntKind, Ty, TyNode};
-use rs_syntax::{Expr, ExprNode, LazyOp, PassError};
 use std::alloc::Global;
 use text_core::{Name, NoMemory, Span};
 

@@ -7,12 +7,12 @@ use Rattle.text_core.proofs.NamesLemmas.{HaveOnePlace-differ}
 use Rattle.logic_term.specs.declared.obligation.Contract.{Contract}
 use Rattle.mir_ir.specs.declared.body.Body.{Body}
 use Rattle.mir_ir.specs.declared.body.Initialised.{Initialised}
-use Rattle.rs_syntax.specs.declared.fault.PassError.TheVariants as errors
-use Rattle.rs_syntax.specs.declared.function.Function.{Function}
-use Rattle.rs_syntax.specs.Parsed.{IsParseError}
-use Rattle.rs_syntax.proofs.OneRefusal.{one_error, not_refused, not_few, not_many}
-use Rattle.rs_syntax.proofs.Whole.{one_source}
-use Rattle.rs_syntax.proofs.WordLists.{one_table}
+use Rattle.built_syntax.specs.declared.PassError.TheVariants as errors
+use Rattle.built_syntax.specs.declared.function.Function.{Function}
+use Rattle.built_syntax.specs.Parsed.{IsParseError}
+use Rattle.built_syntax.proofs.OneRefusal.{one_error, not_refused, not_few, not_many}
+use Rattle.built_syntax.proofs.Whole.{one_source}
+use Rattle.built_syntax.proofs.WordLists.{one_table}
 use Rattle.type_check.specs.declared.program.TypedProgram.{TypedProgram}
 use Rattle.type_check.specs.Checked.{checked}
 use Rattle.mir_build.specs.Lowering.{LowerTo, HasMoreBlocks}

@@ -21,11 +21,11 @@ use Rattle.mir_ir.specs.declared.terminator.Callee.TheVariants.{Function}
 use Rattle.mir_ir.specs.declared.terminator.TerminatorKind.{TerminatorKind}
 use Rattle.mir_ir.specs.declared.terminator.TerminatorKind.TheVariants.{Call}
 use Rattle.mir_ir.specs.WellFormed.{EndIsTyped}
-use Rattle.rs_syntax.specs.declared.fault.PassError.{PassError}
-use Rattle.rs_syntax.specs.declared.fault.PassError.TheVariants as errors
-use Rattle.rs_syntax.specs.declared.function.Function.{Function as SourceFunction}
-use Rattle.rs_syntax.specs.Parsed.{SpellsSource, IsParseError, most_functions}
-use Rattle.rs_syntax.specs.Words.{GivesNames}
+use Rattle.built_syntax.specs.declared.PassError.{PassError}
+use Rattle.built_syntax.specs.declared.PassError.TheVariants as errors
+use Rattle.built_syntax.specs.declared.function.Function.{Function as SourceFunction}
+use Rattle.built_syntax.specs.Parsed.{SpellsSource, IsParseError, most_functions}
+use Rattle.built_syntax.specs.Words.{GivesNames}
 use Rattle.type_check.specs.declared.program.TypedFunction.{TypedFunction}
 use Rattle.type_check.specs.declared.program.TypedProgram.{TypedProgram}
 use Rattle.type_check.specs.Answers.{Refuses as TypesRefuse}

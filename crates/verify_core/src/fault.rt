@@ -2,7 +2,7 @@ ghost use Rattle.std.specs.Prelude.{◌≡◌};
 ghost use Rattle.verify_core.specs.declared.fault.Refusal.TheVariants as refusals;
 ghost use Rattle.verify_core.specs.Refusals.{refusal_of};
 
-use rs_syntax::PassError;
+use built_syntax::PassError;
 use std::alloc::{AllocError, AllocFailed};
 use text_core::{Limit, NoMemory, SourceError};
 use thiserror::Error;

@@ -10,9 +10,9 @@ ghost use Rattle.verify_core.specs.Passes.{CanWalkAt, CanWalkAll, AreAllGoals, A
 use crate::fault::Refusal;
 use crate::goals::FunctionGoals;
 use crate::program::Program;
+use built_syntax::parse;
 use mir_build::{Lowered, lower};
 use mir_ir::Body;
-use rs_syntax::parse;
 use std::alloc::Global;
 use text_core::{Items, Limit, LimitKind, Names, NoMemory};
 use type_check::{TypedProgram, check};

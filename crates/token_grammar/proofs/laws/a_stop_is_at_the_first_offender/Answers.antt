@@ -4,7 +4,7 @@ use Rattle.token_grammar.proofs.laws.a_stop_is_at_the_first_offender.Goals as go
 
 pub returns : goal.returns
 returns g c = record {
-  refusal = λ tables exact plan planned n xs ys r. refused (grammar tables) exact plan planned n xs ys r;
-  limit = λ tables exact plan planned n xs ys r. limited (grammar tables) exact plan planned n xs ys r;
-  left_over = λ tables exact plan planned n xs w y ys r. left_over (grammar tables) exact plan planned n xs w y ys r;
+  refusal = λ tables exact plan planned n d xs ys r. refused (grammar tables) exact plan planned n d xs ys r;
+  limit = λ tables exact plan planned n d xs ys r. limited (grammar tables) exact plan planned n d xs ys r;
+  left_over = λ tables exact plan planned n d xs w y ys r. left_over (grammar tables) exact plan planned n d xs w y ys r;
 }

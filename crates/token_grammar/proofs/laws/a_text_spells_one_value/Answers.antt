@@ -4,4 +4,4 @@ use Rattle.token_grammar.proofs.Exact.{complete}
 use Rattle.token_grammar.proofs.laws.a_text_spells_one_value.Goals as goal
 
 pub returns : goal.returns
-returns g c tables exact n xs one other x y = value_same (same (grammar tables) (complete (grammar tables) exact x) _ (complete (grammar tables) exact y))
+returns g c tables exact n d xs one other x y = value_same (same (grammar tables) (complete (grammar tables) exact x) _ (complete (grammar tables) exact y))

@@ -1,0 +1,3 @@
+pub mod Whole
+pub mod OneRefusal
+pub use Rattle.pearlite.proofs.WordLists

@@ -1,0 +1,13 @@
+pub mod Actions
+pub mod Expr
+pub mod ExprCode
+pub mod ExprFalls
+pub mod ExprView
+pub mod Make
+pub mod Parsed
+pub mod Pterm
+pub mod PtermCode
+pub mod PtermFalls
+pub mod PtermView
+pub mod Values
+pub use Rattle.pearlite.specs.Words

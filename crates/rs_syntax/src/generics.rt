@@ -1,0 +1,49 @@
+use pearlite::{CallTrait, Segment, TypeTree};
+use text_core::{Items, Span};
+
+/// What a type has to meet.
+#[derive(Drop)]
+pub enum BoundNode {
+    /// The name of a trait.
+    Trait(Segment),
+    /// `Fn(S) -> T` and the like: the types that are taken, and that of the answer if one is written.
+    Call(CallTrait, Items<TypeTree>, Option<TypeTree>),
+}
+
+#[derive(Drop)]
+pub struct Bound {
+    pub span: Span,
+    pub node: BoundNode,
+}
+
+/// The forms of parameters of declarations.
+#[derive(Drop)]
+pub enum GenericNode {
+    /// The place of a lifetime, and that of its bound if one is written.
+    Lifetime(Span, Option<Span>),
+    /// A type parameter and its bounds.
+    Type(Segment, Items<Bound>),
+}
+
+/// A parameter of a declaration.
+#[derive(Drop)]
+pub struct GenericParam {
+    pub span: Span,
+    pub node: GenericNode,
+}
+
+/// The forms of conditions behind `where`.
+#[derive(Drop)]
+pub enum ConditionNode {
+    /// `'a: 'b`, by their places.
+    Lifetime(Span, Span),
+    /// `T: A`
+    Type(Segment, Items<Bound>),
+}
+
+/// A condition behind `where`.
+#[derive(Drop)]
+pub struct Condition {
+    pub span: Span,
+    pub node: ConditionNode,
+}
