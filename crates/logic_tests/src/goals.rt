@@ -1,0 +1,313 @@
+use goal_text::goal_text;
+use logic_term::{AdtId, ArithOp, Ctor, FnBound, FnKind, IntKind, Region, Sort, Term, Ty, TyNode};
+use std::alloc::Global;
+use std::process::Abort;
+use std::test::Fail;
+use text_core::{Name, NoMemory};
+
+const X: Name = Name(70);
+
+const Y: Name = Name(50);
+
+/// The text of the goal is this one.
+fn expect(rt: &impl Abort, alloc: Global, goal: Term, wanted: &[u8]) -> Result<(), NoMemory> {
+    let text = goal_text(alloc, &goal)?;
+    assert!(rt; text.as_slice() == wanted);
+    Ok(())
+}
+
+fn i32_sort() -> Sort {
+    Ty::int(IntKind::I32)
+}
+
+/// `name@ + 1`
+fn successor(alloc: Global, name: Name) -> Result<Term, NoMemory> {
+    let value = Term::model(alloc, Term::var(name))?;
+    Term::calculate(alloc, ArithOp::Add, value, Term::integer(1))
+}
+
+/// The sum of `x` and 1 is an `i32`.
+fn sum_fits(alloc: Global) -> Result<Term, NoMemory> {
+    let least = Term::integer(-2147483648);
+    let above = Term::at_most(alloc, least, successor(alloc, X)?)?;
+    let greatest = Term::integer(2147483647);
+    let below = Term::at_most(alloc, successor(alloc, X)?, greatest)?;
+    let both = Term::and(alloc, above, below)?;
+    Term::forall(alloc, X, i32_sort(), both)
+}
+
+/// What is one more than `x` is one more than `x`.
+fn sum_is_sum(alloc: Global) -> Result<Term, NoMemory> {
+    let left = Term::model(alloc, Term::var(Y))?;
+    let given = Term::equal(alloc, left, successor(alloc, X)?)?;
+    let left = Term::model(alloc, Term::var(Y))?;
+    let wanted = Term::equal(alloc, left, successor(alloc, X)?)?;
+    let implied = Term::implies(alloc, given, wanted)?;
+    let inner = Term::forall(alloc, Y, i32_sort(), implied)?;
+    Term::forall(alloc, X, i32_sort(), inner)
+}
+
+#[test]
+fn goals_of_a_sum(rt: HostRuntime) -> Result<(), Fail> {
+    let alloc = rt.alloc();
+    assert_eq!(rt;
+        goal_text(alloc, &sum_fits(alloc)?)?.as_slice(),
+        b"(forall<v1: i32> (((-2147483648) <= (v1@ + 1)) && ((v1@ + 1) <= 2147483647)))".as_slice()
+    );
+    assert_eq!(rt;
+        goal_text(alloc, &sum_is_sum(alloc)?)?.as_slice(),
+        b"(forall<v1: i32> (forall<v2: i32> ((v2@ == (v1@ + 1)) ==> (v2@ == (v1@ + 1)))))".as_slice()
+    );
+    Ok(())
+}
+
+fn one() -> Term {
+    Term::integer(1)
+}
+
+fn minus_two() -> Term {
+    Term::integer(-2)
+}
+
+#[test]
+fn arithmetic(rt: HostRuntime) -> Result<(), Fail> {
+    let alloc = rt.alloc();
+    for (op, wanted) in [
+        (ArithOp::Add, b"(1 + (-2))"),
+        (ArithOp::Sub, b"(1 - (-2))"),
+        (ArithOp::Mul, b"(1 * (-2))"),
+        (ArithOp::Div, b"(1 / (-2))"),
+        (ArithOp::Rem, b"(1 % (-2))"),
+    ] {
+        let goal = Term::calculate(alloc, op, one(), minus_two())?;
+        assert_eq!(rt; goal_text(alloc, &goal)?.as_slice(), wanted.as_slice());
+    }
+    Ok(())
+}
+
+#[test]
+fn operators_of_numbers(rt: HostRuntime) -> Result<(), Fail> {
+    let alloc = rt.alloc();
+    expect(&rt, alloc, Term::negative(alloc, one())?, b"(-1)")?;
+    expect(
+        &rt,
+        alloc,
+        Term::less(alloc, one(), minus_two())?,
+        b"(1 < (-2))",
+    )?;
+    expect(
+        &rt,
+        alloc,
+        Term::at_most(alloc, one(), minus_two())?,
+        b"(1 <= (-2))",
+    )?;
+    expect(
+        &rt,
+        alloc,
+        Term::equal(alloc, one(), minus_two())?,
+        b"(1 == (-2))",
+    )?;
+    Ok(())
+}
+
+#[test]
+fn operators_of_truths(rt: HostRuntime) -> Result<(), Fail> {
+    let alloc = rt.alloc();
+    expect(&rt, alloc, Term::not(alloc, Term::truth(true))?, b"(!true)")?;
+    let both = Term::and(alloc, Term::truth(true), Term::truth(false))?;
+    expect(&rt, alloc, both, b"(true && false)")?;
+    let either = Term::or(alloc, Term::truth(true), Term::truth(false))?;
+    expect(&rt, alloc, either, b"(true || false)")?;
+    let implied = Term::implies(alloc, Term::truth(true), Term::truth(false))?;
+    expect(&rt, alloc, implied, b"(true ==> false)")?;
+    Ok(())
+}
+
+#[test]
+fn literals(rt: HostRuntime) -> Result<(), Fail> {
+    let alloc = rt.alloc();
+    for (number, kind, wanted) in [
+        (5, IntKind::I8, b"5i8".as_slice()),
+        (5, IntKind::I16, b"5i16".as_slice()),
+        (-5, IntKind::I32, b"(-5i32)".as_slice()),
+        (-5, IntKind::I64, b"(-5i64)".as_slice()),
+        (0, IntKind::Isize, b"0isize".as_slice()),
+        (5, IntKind::U8, b"5u8".as_slice()),
+        (5, IntKind::U16, b"5u16".as_slice()),
+        (5, IntKind::U32, b"5u32".as_slice()),
+        (
+            18446744073709551615,
+            IntKind::U64,
+            b"18446744073709551615u64".as_slice(),
+        ),
+        (0, IntKind::Usize, b"0usize".as_slice()),
+    ] {
+        let literal = Term::lit(number, Ty::int(kind));
+        assert_eq!(rt; goal_text(alloc, &literal)?.as_slice(), wanted);
+    }
+    Ok(())
+}
+
+/// Two binders of one name, with a name that is not bound within.
+#[test]
+fn inner_binder_counts(rt: HostRuntime) -> Result<(), Fail> {
+    let alloc = rt.alloc();
+    let equal = Term::equal(alloc, Term::var(X), Term::var(Y))?;
+    let inner = Term::forall(alloc, X, Ty::bool(), equal)?;
+    let goal = Term::forall(alloc, X, i32_sort(), inner)?;
+    assert_eq!(rt;
+        goal_text(alloc, &goal)?.as_slice(),
+        b"(forall<v1: i32> (forall<v2: bool> (v2 == v0)))".as_slice()
+    );
+    Ok(())
+}
+
+/// A value of so many parts.
+fn made_text(alloc: Global, ctor: Ctor, parts: usize) -> Result<Vec<u8>, NoMemory> {
+    let mut terms = Vec::new(alloc);
+    for i in 0..parts {
+        terms.push(Term::truth(i == 0))?;
+    }
+    goal_text(alloc, &Term::made(ctor, terms))
+}
+
+#[test]
+fn values(rt: HostRuntime) -> Result<(), Fail> {
+    let alloc = rt.alloc();
+    for (ctor, parts, wanted) in [
+        (Ctor::Tuple, 0, b"()".as_slice()),
+        (Ctor::Tuple, 1, b"(true,)".as_slice()),
+        (Ctor::Tuple, 3, b"(true, false, false)".as_slice()),
+        (Ctor::Closure(7), 0, b"closure()".as_slice()),
+        (Ctor::Closure(7), 2, b"closure(true, false)".as_slice()),
+        (
+            Ctor::Variant(AdtId(3), 1),
+            1,
+            b"declared3::1(true)".as_slice(),
+        ),
+    ] {
+        assert_eq!(rt; made_text(alloc, ctor, parts)?.as_slice(), wanted);
+    }
+    Ok(())
+}
+
+/// `true` for each value of the sort.
+fn sort_text(alloc: Global, node: TyNode) -> Result<Vec<u8>, NoMemory> {
+    goal_text(
+        alloc,
+        &Term::forall(alloc, X, Ty { node }, Term::truth(true))?,
+    )
+}
+
+/// So many sorts.
+fn sorts(alloc: Global, count: usize) -> Result<Vec<Ty>, NoMemory> {
+    let mut sorts = Vec::new(alloc);
+    for i in 0..count {
+        sorts.push(if i == 0 { Ty::math_int() } else { Ty::bool() })?;
+    }
+    Ok(sorts)
+}
+
+fn boxed(alloc: Global) -> Result<Box<Ty>, NoMemory> {
+    Ok(Box::new(alloc, Ty::bool())?)
+}
+
+#[test]
+fn tuple_sorts(rt: HostRuntime) -> Result<(), Fail> {
+    let alloc = rt.alloc();
+    for (parts, wanted) in [
+        (0, b"(forall<v1: ()> true)".as_slice()),
+        (1, b"(forall<v1: (Int,)> true)".as_slice()),
+        (2, b"(forall<v1: (Int, bool)> true)".as_slice()),
+    ] {
+        let node = TyNode::Tuple(sorts(alloc, parts)?);
+        assert_eq!(rt; sort_text(alloc, node)?.as_slice(), wanted);
+    }
+    Ok(())
+}
+
+/// `true` for each value of the sort is this text.
+fn expect_sort(
+    rt: &impl Abort,
+    alloc: Global,
+    node: TyNode,
+    wanted: &[u8],
+) -> Result<(), NoMemory> {
+    let text = sort_text(alloc, node)?;
+    assert!(rt; text.as_slice() == wanted);
+    Ok(())
+}
+
+#[test]
+fn sorts_around_a_sort(rt: HostRuntime) -> Result<(), Fail> {
+    let alloc = rt.alloc();
+    let region = Region(1);
+    expect_sort(
+        &rt,
+        alloc,
+        TyNode::Boxed(boxed(alloc)?),
+        b"(forall<v1: Box<bool>> true)",
+    )?;
+    expect_sort(
+        &rt,
+        alloc,
+        TyNode::Shared(region, boxed(alloc)?),
+        b"(forall<v1: &bool> true)",
+    )?;
+    expect_sort(
+        &rt,
+        alloc,
+        TyNode::Unique(region, boxed(alloc)?),
+        b"(forall<v1: &mut bool> true)",
+    )?;
+    expect_sort(
+        &rt,
+        alloc,
+        TyNode::View(boxed(alloc)?),
+        b"(forall<v1: View<bool>> true)",
+    )?;
+    expect_sort(
+        &rt,
+        alloc,
+        TyNode::Snapshot(boxed(alloc)?),
+        b"(forall<v1: Snapshot<bool>> true)",
+    )?;
+    Ok(())
+}
+
+#[test]
+fn numbered_sorts(rt: HostRuntime) -> Result<(), Fail> {
+    let alloc = rt.alloc();
+    let regions = Vec::from_slice(alloc, &[Region(1)])?;
+    let declared = TyNode::Adt(AdtId(3), regions, sorts(alloc, 2)?);
+    assert_eq!(rt;
+        sort_text(alloc, declared)?.as_slice(),
+        b"(forall<v1: declared3<Int, bool>> true)".as_slice()
+    );
+    assert_eq!(rt;
+        sort_text(alloc, TyNode::Param(2))?.as_slice(),
+        b"(forall<v1: param2> true)".as_slice()
+    );
+    Ok(())
+}
+
+#[test]
+fn sort_of_a_closure(rt: HostRuntime) -> Result<(), Fail> {
+    let alloc = rt.alloc();
+    let bound = FnBound {
+        kind: FnKind::Fn,
+        params: sorts(alloc, 1)?,
+        result: Ty::bool(),
+    };
+    let node = TyNode::Closure(
+        4,
+        sorts(alloc, 1)?,
+        sorts(alloc, 2)?,
+        Box::new(alloc, bound)?,
+    );
+    assert_eq!(rt;
+        sort_text(alloc, node)?.as_slice(),
+        b"(forall<v1: closure4<Int>(Int, bool)> true)".as_slice()
+    );
+    Ok(())
+}

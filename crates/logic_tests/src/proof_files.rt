@@ -1,0 +1,154 @@
+use logic_term::Label2;
+use proof_kernel::{Multiple, Reference, Step};
+use proof_text::{Proof, ProofFile, ProofTextError, read_proofs};
+use std::alloc::Global;
+use std::test::Fail;
+use text_core::{Name, Names};
+
+const TWO: &str = "creusot-proofs 1
+proof 1 inc
+intro x
+range x
+split
+lin 1:goal 1:2.1
+lin 1:goal 1:1.1
+end
+proof 2 inc
+intro x t
+hyp 1.2
+end
+";
+
+/// The first bad line; 0 where the text is read.
+fn bad_line(alloc: Global, text: &str) -> u32 {
+    if text.len() > 1000 {
+        return u32::MAX;
+    }
+    let mut names = Names::new(alloc);
+    match read_proofs(alloc, text.as_bytes(), &mut names) {
+        Ok(_file) => 0,
+        Err(ProofTextError::BadLine(line)) => line,
+        Err(ProofTextError::NoMemory) => u32::MAX,
+    }
+}
+
+fn lines_are(proof: &Proof, lines: &[u32]) -> bool {
+    proof
+        .steps
+        .as_slice()
+        .iter()
+        .map(|step| step.line)
+        .eq(lines.iter().copied())
+}
+
+fn multiples_are(step: Option<&Step>, want: &[Multiple]) -> bool {
+    match step {
+        Some(Step::Lin(multiples)) => multiples.as_slice() == want,
+        _ => false,
+    }
+}
+
+fn names_are(step: Option<&Step>, want: &[Name]) -> bool {
+    match step {
+        Some(Step::Intro(names)) => names.as_slice() == want,
+        _ => false,
+    }
+}
+
+fn step_of(file: &ProofFile, proof: usize, at: usize) -> Option<&Step> {
+    let proof = file.proofs.get(proof)?;
+    let step = proof.steps.get(at)?;
+    Some(&step.step)
+}
+
+fn is_hyp(step: Option<&Step>, label: Label2) -> bool {
+    match step {
+        Some(Step::Hyp(of)) => *of == label,
+        _ => false,
+    }
+}
+
+#[test]
+fn two_proofs(rt: HostRuntime) -> Result<(), Fail> {
+    let mut names = Names::new(rt.alloc());
+    let file = read_proofs(rt.alloc(), TWO.as_bytes(), &mut names)?;
+    assert_eq!(rt; file.proofs.len(), 2);
+    let first = file.proofs.get(0).ok_or("no proof")?;
+    let second = file.proofs.get(1).ok_or("one proof")?;
+    assert_eq!(rt; (first.number, first.end), (1, 8));
+    assert_eq!(rt; (second.number, second.end), (2, 12));
+    assert_eq!(rt; first.owner.bytes(), b"inc".as_slice());
+    assert_eq!(rt; second.owner.bytes(), b"inc".as_slice());
+    assert!(rt; lines_are(first, &[3, 4, 5, 6, 7]));
+    assert!(rt; lines_are(second, &[10, 11]));
+    assert!(rt; names_are(step_of(&file, 1, 0), &[Name(27), Name(28)]));
+    assert!(rt; is_hyp(step_of(&file, 1, 1), Label2 { step: 1, part: 2 }));
+    let of = Reference::Hyp(Label2 { step: 2, part: 1 });
+    let goal = Multiple {
+        by: 1,
+        of: Reference::Goal,
+    };
+    assert!(rt; multiples_are(step_of(&file, 0, 3), &[goal, Multiple { by: 1, of }]));
+    Ok(())
+}
+
+#[test]
+fn what_is_read(rt: HostRuntime) {
+    for text in [
+        TWO,
+        "creusot-proofs 1\n",
+        "creusot-proofs 1\n# one\n\nproof 0 _a\n# two \u{e9}\nintro\n\nend\n#\n",
+        "creusot-proofs 1\nproof 4294967295 x\nlin -0:goal 0:-0.0 -170141183460469231731687303715884105728:1.1 170141183460469231731687303715884105727:goal\nend\n",
+        "creusot-proofs 1\nproof 1 x\nend\nproof 1 y\nend\nproof 2 x\nend\n",
+    ] {
+        assert_eq!(rt; bad_line(rt.alloc(), text), 0, "{text}");
+    }
+}
+
+#[test]
+fn first_bad_lines(rt: HostRuntime) {
+    for (text, want) in [
+        ("", 1),
+        ("creusot-proofs 1", 1),
+        ("creusot-proofs 2\n", 1),
+        ("# no\ncreusot-proofs 1\n", 1),
+        ("\ncreusot-proofs 1\n", 1),
+        ("creusot-proofs 1\nproof 1 x\n", 3),
+        ("creusot-proofs 1\nproof 1 x\nend", 3),
+        ("creusot-proofs 1\n#", 2),
+        ("creusot-proofs 1\nproof 01 x\nend\n", 2),
+        ("creusot-proofs 1\nproof 4294967296 x\nend\n", 2),
+        ("creusot-proofs 1\nproof 1 fn\nend\n", 2),
+        ("creusot-proofs 1\nproof 1 1x\nend\n", 2),
+        ("creusot-proofs 1\nproof 1 _\nend\n", 2),
+        ("creusot-proofs 1\nproof 1  x\nend\n", 2),
+        ("creusot-proofs 1\nproof 1 x \nend\n", 2),
+        ("creusot-proofs 1\r\n", 1),
+        ("creusot-proofs 1\nproof 1 x\nend\nproof 1 x\nend\n", 4),
+        ("creusot-proofs 1\nproof 1 x\nproof 2 x\nend\n", 3),
+        ("creusot-proofs 1\nend\n", 2),
+        ("creusot-proofs 1\nsplit\n", 2),
+    ] {
+        assert_eq!(rt; bad_line(rt.alloc(), text), want, "{text}");
+    }
+}
+
+#[test]
+fn bad_steps(rt: HostRuntime) {
+    for text in [
+        "creusot-proofs 1\nproof 1 x\nrange x\nrange x\nsplit\nlin 1 goal\nend\n",
+        "creusot-proofs 1\nproof 1 x\nrange x\nrange x\nsplit\nlin 01:goal\nend\n",
+        "creusot-proofs 1\nproof 1 x\nrange x\nrange x\nsplit\nlin +1:goal\nend\n",
+        "creusot-proofs 1\nproof 1 x\nrange x\nrange x\nsplit\nlin -01:goal\nend\n",
+        "creusot-proofs 1\nproof 1 x\nrange x\nrange x\nsplit\nlin 170141183460469231731687303715884105728:goal\nend\n",
+        "creusot-proofs 1\nproof 1 x\nrange x\nrange x\nsplit\nlin\nend\n",
+        "creusot-proofs 1\nproof 1 x\nrange x\nrange x\nsplit\nlin 1:1.01\nend\n",
+        "creusot-proofs 1\nproof 1 x\nrange x\nrange x\nsplit\nhyp 1\nend\n",
+        "creusot-proofs 1\nproof 1 x\nrange x\nrange x\nsplit\nhyp 1.2 1.3\nend\n",
+        "creusot-proofs 1\nproof 1 x\nrange x\nrange x\nsplit\nsplit x\nend\n",
+        "creusot-proofs 1\nproof 1 x\nrange x\nrange x\nsplit\nsolve\nend\n",
+        "creusot-proofs 1\nproof 1 x\nrange x\nrange x\nsplit\nintro \u{e9}\nend\n",
+    ] {
+        assert_eq!(rt; bad_line(rt.alloc(), text), 6, "{text}");
+    }
+}

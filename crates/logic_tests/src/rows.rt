@@ -1,0 +1,208 @@
+use logic_term::{ArithOp, IntKind, Label2, Sort, Term, TermNode, Ty, TyNode};
+use proof_kernel::{LinAnswer, Multiple, Reference, Sequent, certifies};
+use std::alloc::Global;
+use std::test::Fail;
+use text_core::{Items, Name, NoMemory};
+
+const MAX: i128 = i128::MAX;
+
+const LOW: i128 = -2147483648;
+
+/// An `i32`.
+const X: Name = Name(0);
+/// An `Int`.
+const Y: Name = Name(1);
+
+/// `x@`.
+fn x(alloc: Global) -> Result<Term, NoMemory> {
+    Term::model(alloc, Term::var(X))
+}
+
+fn y() -> Term {
+    Term::var(Y)
+}
+
+fn sum(alloc: Global, a: Term, b: Term) -> Result<Term, NoMemory> {
+    Term::calculate(alloc, ArithOp::Add, a, b)
+}
+
+fn less(alloc: Global, one: i128, other: i128) -> Result<Term, NoMemory> {
+    Term::less(alloc, Term::integer(one), Term::integer(other))
+}
+
+fn label(part: u32) -> Label2 {
+    Label2 { step: 1, part }
+}
+
+fn sorts(alloc: Global) -> Result<Items<(Name, Sort)>, NoMemory> {
+    let mut vars = Items::new(alloc);
+    vars.push((X, Ty::int(IntKind::I32)))?;
+    let integers = Ty {
+        node: TyNode::MathInt,
+    };
+    vars.push((Y, integers))?;
+    Ok(vars)
+}
+
+/// The hypotheses have the labels 1.1 and 1.2.
+fn sequent(alloc: Global, one: Term, two: Term, goal: Term) -> Result<Sequent, NoMemory> {
+    let mut hyps = Items::new(alloc);
+    hyps.push((label(1), one))?;
+    hyps.push((label(2), two))?;
+    let vars = sorts(alloc)?;
+    Ok(Sequent { vars, hyps, goal })
+}
+
+fn multiple(by: i128, of: Reference) -> Multiple {
+    Multiple { by, of }
+}
+
+/// So many times the goal's row, that of the first hypothesis, and that of the second.
+fn times(by: [i128; 3]) -> [Multiple; 3] {
+    let [goal, one, two] = by;
+    [
+        multiple(goal, Reference::Goal),
+        multiple(one, Reference::Hyp(label(1))),
+        multiple(two, Reference::Hyp(label(2))),
+    ]
+}
+
+fn at_least_low(alloc: Global, t: Term) -> Result<Term, NoMemory> {
+    Term::at_most(alloc, Term::integer(LOW), t)
+}
+
+/// `x@ + 1`.
+fn successor(alloc: Global) -> Result<Term, NoMemory> {
+    let t = x(alloc)?;
+    sum(alloc, t, Term::integer(1))
+}
+
+/// From -2147483648 <= x@ and x@ < 100 that -2147483648 <= x@ + 1: x + 2147483648, 99 - x, and -x - 2147483650 for the goal.
+fn lower_bound(alloc: Global) -> Result<Sequent, NoMemory> {
+    let t = x(alloc)?;
+    let one = at_least_low(alloc, t)?;
+    let t = x(alloc)?;
+    let two = Term::less(alloc, t, Term::integer(100))?;
+    let t = successor(alloc)?;
+    let goal = at_least_low(alloc, t)?;
+    sequent(alloc, one, two, goal)
+}
+
+#[test]
+fn bounds(rt: HostRuntime) -> Result<(), Fail> {
+    let q = lower_bound(rt.alloc())?;
+    for (by, want) in [
+        ([1, 1, 0], LinAnswer::Closes),
+        ([1, 0, 1], LinAnswer::Fails),
+        ([-1, -1, 0], LinAnswer::Fails),
+        ([MAX, MAX, 0], LinAnswer::TooWide),
+    ] {
+        assert_eq!(rt; certifies(rt.alloc(), &q, &times(by))?, want, "at {by:?}");
+    }
+    Ok(())
+}
+
+/// From x = x, of machine integers, and a formula without a row, that 2 < 3.
+fn without_rows(alloc: Global) -> Result<Sequent, NoMemory> {
+    let one = Term::equal(alloc, Term::var(X), Term::var(X))?;
+    let goal = less(alloc, 2, 3)?;
+    sequent(alloc, one, Term::truth(true), goal)
+}
+
+/// What has no row closes nothing, whatever the multipliers.
+#[test]
+fn references_without_a_row(rt: HostRuntime) -> Result<(), Fail> {
+    let q = without_rows(rt.alloc())?;
+    let goal = multiple(1, Reference::Goal);
+    for of in [
+        Reference::Hyp(label(1)),
+        Reference::Back(label(1)),
+        Reference::Hyp(label(2)),
+        Reference::Hyp(label(3)),
+    ] {
+        let all = [goal, multiple(0, of)];
+        assert_eq!(rt;
+            certifies(rt.alloc(), &q, &all)?,
+            LinAnswer::Fails,
+            "at {of:?}"
+        );
+    }
+    Ok(())
+}
+
+/// x@ is not below y.
+fn not_below(alloc: Global) -> Result<Term, NoMemory> {
+    let t = x(alloc)?;
+    let below = Term::less(alloc, t, y())?;
+    let node = TermNode::Not(Box::new(alloc, below)?);
+    Ok(Term { node })
+}
+
+/// From y = 5, which is y - 5 or 5 - y, and x - y, that 4 < x@: 4 - x for the goal.
+fn equality(alloc: Global) -> Result<Sequent, NoMemory> {
+    let one = Term::equal(alloc, y(), Term::integer(5))?;
+    let two = not_below(alloc)?;
+    let t = x(alloc)?;
+    let goal = Term::less(alloc, Term::integer(4), t)?;
+    sequent(alloc, one, two, goal)
+}
+
+/// Equalities of integers both ways, and what is denied.
+#[test]
+fn both_ways(rt: HostRuntime) -> Result<(), Fail> {
+    let q = equality(rt.alloc())?;
+    for (of, want) in [
+        (Reference::Back(label(1)), LinAnswer::Closes),
+        (Reference::Hyp(label(1)), LinAnswer::Fails),
+        (Reference::Back(label(2)), LinAnswer::Fails),
+    ] {
+        let [goal, _, denied] = times([1, 0, 1]);
+        let all = [goal, denied, multiple(1, of)];
+        assert_eq!(rt; certifies(rt.alloc(), &q, &all)?, want, "at {of:?}");
+    }
+    Ok(())
+}
+
+/// -(y - (y + y)).
+fn turned(alloc: Global) -> Result<Term, NoMemory> {
+    let t = sum(alloc, y(), y())?;
+    let t = Term::calculate(alloc, ArithOp::Sub, y(), t)?;
+    let node = TermNode::Neg(Box::new(alloc, t)?);
+    Ok(Term { node })
+}
+
+/// MAX + 1 <= y.
+fn past_the_width(alloc: Global) -> Result<Term, NoMemory> {
+    let t = sum(alloc, Term::integer(MAX), Term::integer(1))?;
+    Term::at_most(alloc, t, y())
+}
+
+/// From y + y <= 4, which is 4 - 2y, that y, written in a long way, is below 3: y - 3 for the goal.
+fn repeated(alloc: Global) -> Result<Sequent, NoMemory> {
+    let t = sum(alloc, y(), y())?;
+    let one = Term::at_most(alloc, t, Term::integer(4))?;
+    let two = past_the_width(alloc)?;
+    let t = turned(alloc)?;
+    let goal = Term::less(alloc, t, Term::integer(3))?;
+    sequent(alloc, one, two, goal)
+}
+
+/// An atom that stands twice in a term.
+#[test]
+fn an_atom_stands_twice(rt: HostRuntime) -> Result<(), Fail> {
+    let q = repeated(rt.alloc())?;
+    let [goal, one, _] = times([2, 1, 0]);
+    assert_eq!(rt; certifies(rt.alloc(), &q, &[goal, one])?, LinAnswer::Closes);
+    Ok(())
+}
+
+/// A number that passes 128 bits within a term, of which no multiple is taken.
+#[test]
+fn a_term_is_too_wide(rt: HostRuntime) -> Result<(), Fail> {
+    let q = repeated(rt.alloc())?;
+    assert_eq!(rt;
+        certifies(rt.alloc(), &q, &times([2, 1, 0]))?,
+        LinAnswer::TooWide
+    );
+    Ok(())
+}

@@ -1,0 +1,135 @@
+ghost use Rattle.std.specs.Prelude.{◌≡◌, ◌+◌, ◌<◌, IfOk, OnOk};
+
+use logic_term::{IntKind, Label2, Obligation, Term, Ty};
+use proof_kernel::{Kernel, Multiple, Reference, Step, StepError, Tables};
+use std::alloc::Global;
+use std::test::Fail;
+use text_core::{Items, Kind, Name, NoMemory, Span, Text};
+
+/// An `i32`.
+const X: Name = Name(1000);
+
+const Y: Name = Name(1001);
+
+fn obligation(alloc: Global, goal: Term) -> Result<Obligation, NoMemory> {
+    Ok(Obligation {
+        owner: Text::from_bytes(alloc, b"next")?,
+        number: 1,
+        kind: Kind::Overflow,
+        span: Span { start: 0, end: 0 },
+        from: None,
+        params: Items::new(alloc),
+        goal,
+    })
+}
+
+/// `x@` is below this.
+fn is_below(alloc: Global, bound: i128) -> Result<Term, NoMemory> {
+    let value = Term::model(alloc, Term::var(X))?;
+    Term::less(alloc, value, Term::integer(bound))
+}
+
+/// For each `x` of `i32`: where `x@` is below 100, the goal.
+fn below_gives(alloc: Global, goal: Term) -> Result<Obligation, NoMemory> {
+    let body = Term::implies(alloc, is_below(alloc, 100)?, goal)?;
+    obligation(alloc, Term::forall(alloc, X, Ty::int(IntKind::I32), body)?)
+}
+
+/// Does a step, of which a test has few.
+fn apply(kernel: &mut Kernel, alloc: Global, step: &Step) -> Result<(), StepError>
+    requires { kernel.old.step < 100 }
+    ensures { OnOk result (kernel.new.step ≡ kernel.old.step + 1) }
+{
+    kernel.apply(alloc, step)
+}
+
+/// The proof under way when this has been its second step. Before it `x` is a variable, and the hypothesis 1.1 says that `x@` is
+/// below 100.
+fn second(alloc: Global, goal: Term, step: &Step) -> Result<Kernel, StepError>
+    ensures { IfOk result (λ kernel. kernel.step ≡ 3) }
+{
+    let mut kernel = Kernel::new(alloc, &below_gives(alloc, goal)?, &Tables)?;
+    let intro = Step::Intro(Items::from_slice(alloc, &[X])?);
+    apply(&mut kernel, alloc, &intro)?;
+    apply(&mut kernel, alloc, step)?;
+    Ok(kernel)
+}
+
+/// The negated goal and the hypothesis 1.1, each as often as this.
+fn lin(alloc: Global, by: i128) -> Result<Step, NoMemory> {
+    let goal = Multiple {
+        by,
+        of: Reference::Goal,
+    };
+    let hyp = Multiple {
+        by,
+        of: Reference::Hyp(Label2 { step: 1, part: 1 }),
+    };
+    Ok(Step::Lin(Items::from_slice(alloc, &[goal, hyp])?))
+}
+
+#[test]
+fn a_whole_proof(rt: HostRuntime) -> Result<(), Fail> {
+    let alloc = rt.alloc();
+    let obligation = below_gives(alloc, is_below(alloc, 100)?)?;
+    let mut kernel = Kernel::new(alloc, &obligation, &Tables)?;
+    let intro = Step::Intro(Items::from_slice(alloc, &[Y])?);
+    apply(&mut kernel, alloc, &intro)?;
+    apply(&mut kernel, alloc, &Step::Hyp(Label2 { step: 1, part: 1 }))?;
+    assert!(rt; kernel.closed());
+    Ok(())
+}
+
+#[test]
+fn split_leaves_two(rt: HostRuntime) -> Result<(), Fail> {
+    let alloc = rt.alloc();
+    let goal = Term::and(alloc, is_below(alloc, 100)?, is_below(alloc, 101)?)?;
+    let mut kernel = second(alloc, goal, &Step::Split)?;
+    apply(&mut kernel, alloc, &Step::Hyp(Label2 { step: 1, part: 1 }))?;
+    assert!(rt; !kernel.closed());
+    apply(&mut kernel, alloc, &lin(alloc, 1)?)?;
+    assert!(rt; kernel.closed());
+    Ok(())
+}
+
+#[test]
+fn range_adds_two_hypotheses(rt: HostRuntime) -> Result<(), Fail> {
+    let alloc = rt.alloc();
+    let kernel = second(alloc, is_below(alloc, 100)?, &Step::Range(X))?;
+    let q = kernel.first().ok_or("closed")?;
+    assert_eq!(rt; q.hyps.len(), 3);
+    Ok(())
+}
+
+#[test]
+fn lin_closes(rt: HostRuntime) -> Result<(), Fail> {
+    let alloc = rt.alloc();
+    let kernel = second(alloc, is_below(alloc, 101)?, &lin(alloc, 1)?)?;
+    assert!(rt; kernel.closed());
+    Ok(())
+}
+
+#[test]
+fn a_number_is_too_wide(rt: HostRuntime) -> Result<(), Fail> {
+    let alloc = rt.alloc();
+    let refused = second(alloc, is_below(alloc, 101)?, &lin(alloc, i128::MAX)?).err();
+    assert_eq!(rt; refused, Some(StepError::TooWide { step: 2 }));
+    Ok(())
+}
+
+#[test]
+fn no_rule_fits(rt: HostRuntime) -> Result<(), Fail> {
+    let alloc = rt.alloc();
+    let refused = second(alloc, is_below(alloc, 101)?, &Step::Split).err();
+    assert_eq!(rt; refused, Some(StepError::RuleFails { step: 2 }));
+    Ok(())
+}
+
+#[test]
+fn a_step_cites_itself(rt: HostRuntime) -> Result<(), Fail> {
+    let alloc = rt.alloc();
+    let own = Step::Hyp(Label2 { step: 2, part: 1 });
+    let refused = second(alloc, is_below(alloc, 100)?, &own).err();
+    assert_eq!(rt; refused, Some(StepError::UnknownStep { step: 2 }));
+    Ok(())
+}

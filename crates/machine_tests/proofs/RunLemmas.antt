@@ -1,0 +1,312 @@
+-- The samples are typed and initialised, and calls of them are proper.
+use Rattle.std.proofs.Common.{◌≡◌, ◌∙◌, refl, sym, ap, subst, ℕ, zero, suc, ◌+◌, ◌<◌, ◌≤◌, ◌==◌, ℤ, pos, negsuc, FitsSigned, Bool, true, false, cond, List, Some, None, [], ◌∷◌, length, slice_get, arith}
+use Rattle.std.proofs.lemmas.Bool.{eqb-true}
+use Rattle.std.specs.Int.{w32}
+use Rattle.logic_term.specs.declared.kinds.BinaryOp.{BinaryOp}
+use Rattle.logic_term.specs.declared.kinds.IntKind.{IntKind}
+use Rattle.logic_term.specs.declared.kinds.Ctor.TheVariants.{Tuple}
+use Rattle.logic_term.specs.declared.kinds.IntKind.TheVariants.{I32}
+use Rattle.logic_term.specs.declared.kinds.Label.{Label}
+use Rattle.logic_term.specs.Range.{fits}
+use Rattle.logic_term.specs.Sort.{Declarations, instance}
+use Rattle.logic_term.specs.Ty.{Ty, Tys, int, bool, no_tys, and_ty, unit_ty}
+use Rattle.mir_ir.specs.declared.place.Lit.TheVariants as lit
+use Rattle.mir_ir.specs.declared.place.Operand.{Operand}
+use Rattle.mir_ir.specs.declared.place.Operand.TheVariants.{Copy, Const}
+use Rattle.mir_ir.specs.declared.statement.Rvalue.{Rvalue}
+use Rattle.mir_ir.specs.declared.statement.Rvalue.TheVariants.{Binary, Neg, Not, Make}
+use Rattle.mir_ir.specs.declared.statement.Statement.{Statement}
+use Rattle.mir_ir.specs.declared.body.Block.{Block}
+use Rattle.mir_ir.specs.declared.body.Body.{Body}
+use Rattle.mir_ir.specs.Body.{block_in}
+use Rattle.mir_ir.specs.WellFormed.{HasBlock, operation_ty, IsSigned, RvalueHas, StatementIsTyped, EndIsTyped, IsTyped, Locals, without, with, CanEvaluate, evaluated, CanRun, run, CanEnd, Carries, Within, parameters, IsInitialised, AreSound}
+use Rattle.mir_machine.specs.Tree.{Tree, Int, Truth, trees_of}
+use Rattle.mir_machine.specs.Frame.{State}
+use Rattle.mir_machine.specs.Step.{whole}
+use Rattle.mir_machine.specs.Typed.{Met, Typed, AreTyped, is_int, is_truth, none_typed, more_typed}
+use Rattle.mir_machine.specs.Good.{IsProper, called}
+use Rattle.machine_tests.specs.Run.{sample, absolute, calling, program, IsScalarOf, TakesOne}
+
+some_same : {A : Type 0} {a b : A} → Some a ≡ Some b → a ≡ b
+some_same e = cc
+
+-- ---- bodies, block by block
+
+abbrev EachBlock : (Label → Block → Type 0) → List (Label × Block) → Type 0
+EachBlock P [] = Unit {0}
+EachBlock P (b ∷ bs) = P b.0 b.1 × EachBlock P bs
+
+block_found : (P : Label → Block → Type 0) (bs : List (Label × Block)) (l : Label) (k : Block) → EachBlock P bs → block_in bs l ≡ Some k → P l k
+block_found P [] l k h e = absurd (cc)
+block_found P (b ∷ bs) l k h e = by_test (block_found P bs l k h.1) (b.0.0 == l.0) refl e
+  where
+    by_test : (block_in bs l ≡ Some k → P l k) → (t : Bool) → (b.0.0 == l.0) ≡ t → cond t (Some b.1) (block_in bs l) ≡ Some k → P l k
+    by_test rest true same q = subst (P l) (some_same q) (subst (λ (m : Label). P m b.1) (λ i. record { 0 = eqb-true b.0.0 l.0 same i }) h.0)
+    by_test rest false other q = rest q
+
+-- the statements from number i on
+abbrev EachStatement : (ℕ → Statement → Type 0) → ℕ → List Statement → Type 0
+EachStatement P i [] = Unit {0}
+EachStatement P i (st ∷ sts) = P i st × EachStatement P (i + 1) sts
+
+statement_found : (P : ℕ → Statement → Type 0) (i : ℕ) (sts : List Statement) (j : ℕ) (st : Statement) → EachStatement P i sts → slice_get sts j ≡ Some st → P (i + j) st
+statement_found P i [] j st h e = absurd (cc)
+statement_found P i (s ∷ sts) zero st h e = subst (P (i + 0)) (some_same e) (subst (λ n. P n s) (here i) h.0)
+  where
+    here : (i : ℕ) → i ≡ i + 0
+    here i = omega arith
+statement_found P i (s ∷ sts) (suc j) st h e = subst (λ n. P n st) (there i j) (statement_found P (i + 1) sts j st h.1 e)
+  where
+    there : (i j : ℕ) → (i + 1) + j ≡ i + suc j
+    there i j = omega arith
+
+-- ---- a body with its sets of initialised locals
+
+-- sets: by the number of the label and of the statement
+abbrev Sets : Type 0
+Sets = ℕ → ℕ → Locals
+
+abbrev StatementIsSound : Body → Sets → Label → ℕ → Statement → Type 0
+StatementIsSound b sets l i st = StatementIsTyped b st.kind × CanRun (sets l.0 i) st.kind × Within (sets l.0 (i + 1)) (run st.kind (sets l.0 i))
+
+record BlockIsSound (bodies : List Body) (b : Body) (sets : Sets) (l : Label) (k : Block) : Type 0 where
+  statements : EachStatement (StatementIsSound b sets l) 0 k.statements
+  typed : EndIsTyped bodies b k.end.kind
+  can_end : CanEnd (sets l.0 (length k.statements)) k.end.kind
+  carries : Carries (λ l'. sets l'.0 0) (sets l.0 (length k.statements)) k.end.kind
+
+record BodyIsSound (bodies : List Body) (b : Body) (sets : Sets) : Type 0 where
+  named : length b.names ≡ length b.locals
+  answers : b.params + 1 ≤ length b.locals
+  begins : HasBlock b b.entry
+  entry : Within (sets b.entry.0 0) (parameters b)
+  blocks : EachBlock (BlockIsSound bodies b sets) b.blocks
+
+body_sound : (bodies : List Body) (b : Body) (sets : Sets) → BodyIsSound bodies b sets → IsTyped bodies b × IsInitialised b
+body_sound bodies b sets h = (
+  record {
+    named = h.named;
+    answers = h.answers;
+    begins = h.begins;
+    statements = λ l k i st is_block is_statement. (at l k i st is_block is_statement).0;
+    ends = λ l k is_block. (found l k is_block).typed;
+  },
+  record {
+    at = λ l i. sets l.0 i;
+    entry = h.entry;
+    statements = λ l k i st is_block is_statement. ((at l k i st is_block is_statement).1, (at l k i st is_block is_statement).2);
+    ends = λ l k is_block. (found l k is_block).can_end;
+    edges = λ l k is_block. (found l k is_block).carries;
+  },
+)
+  where
+    found : (l : Label) (k : Block) → block_in b.blocks l ≡ Some k → BlockIsSound bodies b sets l k
+    found l k is_block = block_found (BlockIsSound bodies b sets) b.blocks l k h.blocks is_block
+
+    at : (l : Label) (k : Block) (i : ℕ) (st : Statement) → block_in b.blocks l ≡ Some k → slice_get k.statements i ≡ Some st → StatementIsSound b sets l i st
+    at l k i st is_block is_statement =
+        subst (λ n. StatementIsSound b sets l n st) (from_zero i)
+        (statement_found (StatementIsSound b sets l) 0 k.statements i st (block_found (BlockIsSound bodies b sets) b.blocks l k h.blocks is_block).statements is_statement)
+      where
+        from_zero : (i : ℕ) → 0 + i ≡ i
+        from_zero i = omega arith
+
+-- ---- one statement
+
+abbrev one_sets : Body → Rvalue → Sets
+one_sets b r l zero = parameters b
+one_sets b r l (suc i) = with 0 (evaluated r (parameters b))
+
+pub sample_sound : (answer takes : Ty) (r : Rvalue) → RvalueHas (sample answer takes r) r answer → CanEvaluate (parameters (sample answer takes r)) r → AreSound (sample answer takes r ∷ [])
+sample_sound answer takes r has can (suc f) b e = absurd (cc)
+sample_sound answer takes r has can zero b e =
+    let s = sample answer takes r in
+    subst (λ c. IsTyped (s ∷ []) c × IsInitialised c) (some_same e)
+    (body_sound (s ∷ []) s (one_sets s r) (record {
+      named = refl;
+      answers = omega arith;
+      begins = (_, refl);
+      entry = λ x h. h;
+      blocks = (
+        record {
+          statements = (((answer, (refl, refl), has), can, λ x h. h), tt);
+          typed = tt;
+          can_end = refl;
+          carries = tt;
+        },
+        tt,
+      );
+    }))
+
+pub binary_sound : (k : IntKind) (op : BinaryOp) (n : ℤ) → fits k n ≡ true → AreSound (sample (operation_ty op k) (int k) (Binary op (Copy (whole 1)) (Const (lit.Int n k))) ∷ [])
+binary_sound k op n n_fits =
+    sample_sound (operation_ty op k) (int k) (Binary op (Copy (whole 1)) (Const (lit.Int n k))) (int k, (refl, refl), (refl, n_fits), refl) (refl, tt)
+
+pub neg_sound : (k : IntKind) → IsSigned k → AreSound (sample (int k) (int k) (Neg (Copy (whole 1))) ∷ [])
+neg_sound k signed = sample_sound (int k) (int k) (Neg (Copy (whole 1))) (k, signed, (refl, refl), refl) refl
+
+pub not_sound : AreSound (sample bool bool (Not (Copy (whole 1))) ∷ [])
+not_sound = sample_sound bool bool (Not (Copy (whole 1))) ((refl, refl), refl) refl
+
+pub unit_sound : AreSound (sample unit_ty (int I32) (Make Tuple []) ∷ [])
+unit_sound = sample_sound unit_ty (int I32) (Make Tuple []) (refl, refl, refl) tt
+
+-- ---- the absolute value, and a call of it
+
+abbrev none : Locals
+none x = false
+
+-- the answer alone
+abbrev answer_set : Locals
+answer_set = with 0 none
+
+abbrev tested : Locals
+tested = with 2 (parameters absolute)
+
+abbrev branched : Locals
+branched = without 2 tested
+
+abbrev absolute_sets : Sets
+absolute_sets zero zero = parameters absolute
+absolute_sets zero (suc i) = tested
+absolute_sets (suc zero) zero = branched
+absolute_sets (suc zero) (suc zero) = with 0 branched
+absolute_sets (suc zero) (suc (suc i)) = without 1 (with 0 branched)
+absolute_sets (suc (suc zero)) zero = branched
+absolute_sets (suc (suc zero)) (suc i) = with 0 (without 1 branched)
+absolute_sets (suc (suc (suc l))) i = answer_set
+
+only_answer : (set : Locals) → set 0 ≡ true → Within answer_set set
+only_answer set h x inside = by_test (x == 0) refl inside
+  where
+    by_test : (t : Bool) → (x == 0) ≡ t → cond t true false ≡ true → set x ≡ true
+    by_test true e q = subst (λ y. set y ≡ true) (sym (eqb-true x 0 e)) h
+    by_test false e q = absurd (cc)
+
+absolute_sound : BodyIsSound program absolute absolute_sets
+absolute_sound = record {
+  named = refl;
+  answers = omega arith;
+  begins = (_, refl);
+  entry = λ x h. h;
+  blocks = (
+    record {
+      statements = (((bool, (refl, refl), (int I32, (refl, refl), (refl, refl), refl)), (refl, tt), λ x h. h), tt);
+      typed = ((refl, refl), (_, refl), (_, refl));
+      can_end = refl;
+      carries = (λ x h. h, λ x h. h);
+    },
+    (
+      record {
+        statements = (((int I32, (refl, refl), (I32, tt, (refl, refl), refl)), refl, λ x h. h), (((int I32, refl), tt, λ x h. h), tt));
+        typed = (_, refl);
+        can_end = tt;
+        carries = only_answer (without 1 (with 0 branched)) refl;
+      },
+      (
+        record {
+          statements = (((int I32, (refl, refl), (refl, refl)), refl, λ x h. h), tt);
+          typed = (_, refl);
+          can_end = tt;
+          carries = only_answer (with 0 (without 1 branched)) refl;
+        },
+        (record { statements = tt; typed = tt; can_end = refl; carries = tt }, tt),
+      ),
+    ),
+  );
+}
+
+abbrev calling_sets : Sets
+calling_sets zero i = parameters calling
+calling_sets (suc l) i = with 0 (parameters calling)
+
+calling_sound : BodyIsSound program calling calling_sets
+calling_sound = record {
+  named = refl;
+  answers = omega arith;
+  begins = (_, refl);
+  entry = λ x h. h;
+  blocks = (
+    record {
+      statements = tt;
+      typed = ((absolute, int I32, refl, ((refl, refl), tt), refl, (refl, refl)), (_, refl));
+      can_end = (refl, tt);
+      carries = λ x h. h;
+    },
+    (record { statements = tt; typed = tt; can_end = refl; carries = tt }, tt),
+  );
+}
+
+pub program_sound : AreSound program
+program_sound zero b e = subst (λ c. IsTyped program c × IsInitialised c) (some_same e) (body_sound program absolute absolute_sets absolute_sound)
+program_sound (suc zero) b e = subst (λ c. IsTyped program c × IsInitialised c) (some_same e) (body_sound program calling calling_sets calling_sound)
+program_sound (suc (suc f)) b e = absurd (cc)
+
+-- ---- calls
+
+-- no declared types
+abbrev pub no_types : Declarations
+no_types d k = None
+
+scalar_typed : (s : State (Unit {0})) (ty : Ty) (t : Tree (Unit {0})) → IsScalarOf ty t → Typed no_types s t ty []
+scalar_typed s (int k) (Int z) h = is_int h
+scalar_typed s bool (Truth b) h = is_truth
+scalar_typed s _ _ h = absurd h
+
+-- a call at one argument, with no trees outside
+pub one_call : (bodies : List Body) (f : ℕ) (θ : Tys) (args held : List (Tree (Unit {0}))) (t : Tree (Unit {0})) → θ ≡ no_tys → args ≡ t ∷ [] → held ≡ [] → TakesOne bodies f t →
+    (Δ : Declarations) × (b : Body) × (met : List Met) × IsProper Δ bodies f θ args held b met
+one_call bodies f θ args held t is_ground is_t is_empty (b, ty, is_body, params, scalar) = (
+  no_types,
+  b,
+  [],
+  rw (is_ground, is_t, is_empty) (record {
+    of = is_body;
+    ground = refl;
+    outside_typed = tt;
+    typed = subst (λ tys. AreTyped no_types (called b f no_tys (t ∷ []) []) (trees_of (t ∷ [])) tys []) (sym params) (more_typed (scalar_typed (called b f no_tys (t ∷ []) []) ty t scalar) none_typed);
+    outer = tt;
+    apart = λ i j r q e g mutable over. absurd (cc);
+  }),
+)
+
+-- ---- what tests make
+
+pub binary_samples : (bodies : List Body) (answer takes : Ty) (first : Operand) (k : IntKind) (op : BinaryOp) (n : ℤ) → bodies ≡ sample answer takes (Binary op first (Const (lit.Int n k))) ∷ [] → answer ≡ operation_ty op k → takes ≡ int k → first ≡ Copy (whole 1) → fits k n ≡ true → AreSound bodies
+binary_samples bodies answer takes first k op n are is_answer is_takes is_first n_fits =
+    subst AreSound
+    (sym (are ∙ ap (λ ty. sample ty takes (Binary op first (Const (lit.Int n k))) ∷ []) is_answer
+    ∙ ap (λ ty. sample (operation_ty op k) ty (Binary op first (Const (lit.Int n k))) ∷ []) is_takes
+    ∙ ap (λ o. sample (operation_ty op k) (int k) (Binary op o (Const (lit.Int n k))) ∷ []) is_first))
+    (binary_sound k op n n_fits)
+
+pub neg_samples : (bodies : List Body) (answer takes : Ty) (first : Operand) (k : IntKind) → bodies ≡ sample answer takes (Neg first) ∷ [] → answer ≡ int k → takes ≡ int k → first ≡ Copy (whole 1) → IsSigned k → AreSound bodies
+neg_samples bodies answer takes first k are is_answer is_takes is_first signed =
+    subst AreSound
+    (sym (are ∙ ap (λ ty. sample ty takes (Neg first) ∷ []) is_answer ∙ ap (λ ty. sample (int k) ty (Neg first) ∷ []) is_takes ∙ ap (λ o. sample (int k) (int k) (Neg o) ∷ []) is_first))
+    (neg_sound k signed)
+
+pub not_samples : (bodies : List Body) (first : Operand) → bodies ≡ sample bool bool (Not first) ∷ [] → first ≡ Copy (whole 1) → AreSound bodies
+not_samples bodies first are is_first = subst AreSound (sym (are ∙ ap (λ o. sample bool bool (Not o) ∷ []) is_first)) not_sound
+
+pub unit_samples : (bodies : List Body) (answer takes : Ty) (os : List Operand) → bodies ≡ sample answer takes (Make Tuple os) ∷ [] → answer ≡ unit_ty → takes ≡ int I32 → os ≡ [] → AreSound bodies
+unit_samples bodies answer takes os are is_answer is_takes none =
+    subst AreSound
+    (sym (are ∙ ap (λ ty. sample ty takes (Make Tuple os) ∷ []) is_answer ∙ ap (λ ty. sample unit_ty ty (Make Tuple os) ∷ []) is_takes ∙ ap (λ qs. sample unit_ty (int I32) (Make Tuple qs) ∷ []) none))
+    unit_sound
+
+pub sample_takes : (bodies : List Body) (answer takes : Ty) (r : Rvalue) (t : Tree (Unit {0})) (k : IntKind) (x : ℤ) → bodies ≡ sample answer takes r ∷ [] → takes ≡ int k → t ≡ Int x → fits k x ≡ true → TakesOne bodies 0 t
+sample_takes bodies answer takes r t k x are is_takes is_x x_fits =
+    (sample answer takes r, int k, ap (λ bs. slice_get bs 0) are, ap (λ ty. and_ty (instance no_tys ty) no_tys) is_takes, subst (IsScalarOf (int k)) (sym is_x) x_fits)
+
+pub truth_takes : (bodies : List Body) (r : Rvalue) (b : Bool) → bodies ≡ sample bool bool r ∷ [] → TakesOne bodies 0 (Truth b)
+truth_takes bodies r b are = (sample bool bool r, bool, ap (λ bs. slice_get bs 0) are, refl, tt)
+
+pub program_takes : (bodies : List Body) (f : ℕ) (t : Tree (Unit {0})) (x : ℤ) → bodies ≡ program → f < 2 → t ≡ Int x → fits I32 x ≡ true → TakesOne bodies f t
+program_takes bodies zero t x are below is_x x_fits = (absolute, int I32, ap (λ bs. slice_get bs 0) are, refl, subst (IsScalarOf (int I32)) (sym is_x) x_fits)
+program_takes bodies (suc zero) t x are below is_x x_fits = (calling, int I32, ap (λ bs. slice_get bs 1) are, refl, subst (IsScalarOf (int I32)) (sym is_x) x_fits)
+program_takes bodies (suc (suc f)) t x are below is_x x_fits = absurd (omega arith)
+
+pub fits_i32 : (z : ℤ) → FitsSigned w32 z → fits I32 z ≡ true
+fits_i32 (pos n) h = grind arith
+fits_i32 (negsuc n) h = grind arith

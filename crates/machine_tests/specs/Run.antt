@@ -1,0 +1,83 @@
+-- The bodies that tests run.
+use Rattle.std.specs.Prelude.{◌≡◌, ℕ, pos, true, List, [], ◌∷◌, Some, None, codes, slice_get}
+use Rattle.text_core.specs.declared.name.Name.{Name}
+use Rattle.text_core.specs.declared.span.Span.{Span}
+use Rattle.logic_term.specs.declared.kinds.BinaryOp.TheVariants.{Lt}
+use Rattle.logic_term.specs.declared.kinds.IntKind.TheVariants.{I32}
+use Rattle.logic_term.specs.declared.kinds.Label.{Label}
+use Rattle.logic_term.specs.Range.{fits}
+use Rattle.logic_term.specs.Ty.{Ty, int, bool, no_tys, and_ty}
+use Rattle.mir_ir.specs.declared.place.Lit.TheVariants as lit
+use Rattle.mir_ir.specs.declared.place.Operand.TheVariants.{Copy, Move, Const}
+use Rattle.mir_ir.specs.declared.statement.Rvalue.{Rvalue}
+use Rattle.mir_ir.specs.declared.statement.Rvalue.TheVariants.{Use, Binary, Neg}
+use Rattle.mir_ir.specs.declared.statement.StatementKind.TheVariants.{Assign, Dead}
+use Rattle.mir_ir.specs.declared.statement.Statement.{Statement}
+use Rattle.mir_ir.specs.declared.terminator.FnId.TheVariants as fn_id
+use Rattle.mir_ir.specs.declared.terminator.Callee.TheVariants.{Function}
+use Rattle.mir_ir.specs.declared.terminator.TerminatorKind.{TerminatorKind}
+use Rattle.mir_ir.specs.declared.terminator.TerminatorKind.TheVariants.{Goto, If, Call, Return}
+use Rattle.mir_ir.specs.declared.body.Block.{Block}
+use Rattle.mir_ir.specs.declared.body.Body.{Body}
+use Rattle.mir_ir.specs.Body.{param_tys}
+use Rattle.mir_machine.specs.Tree.{Tree, Int, Truth}
+use Rattle.mir_machine.specs.Step.{whole}
+
+-- the one span of all samples
+abbrev pub sample_span : Span
+sample_span = record { start = 24; end = 29 }
+
+abbrev pub assigned : ℕ → Rvalue → Statement
+assigned x r = record { span = sample_span; kind = Assign (whole x) r }
+
+abbrev pub block_of : List Statement → TerminatorKind → Block
+block_of sts end = record { head = None; nest = []; statements = sts; end = record { span = sample_span; kind = end } }
+
+abbrev pub label : ℕ → Label
+label n = record { 0 = n }
+
+-- a body of one parameter, whose first block has label 0
+abbrev pub body_of : List Ty → List Name → List (Label × Block) → Body
+body_of tys names blocks = record { owner = codes "f"; params = 1; locals = tys; names = names; entry = label 0; blocks = blocks; span = sample_span }
+
+abbrev pub name : ℕ → Name
+name n = record { 0 = n }
+
+-- the right side is the answer
+abbrev pub sample : Ty → Ty → Rvalue → Body
+sample answer takes r = body_of (answer ∷ takes ∷ []) (name 100 ∷ name 101 ∷ []) ((label 0, block_of (assigned 0 r ∷ []) Return) ∷ [])
+
+-- of an i32, -x where it is negative, and else x
+abbrev pub absolute : Body
+absolute =
+    body_of (int I32 ∷ int I32 ∷ bool ∷ []) (name 100 ∷ name 101 ∷ name 102 ∷ []) (
+    (label 0, block_of (assigned 2 (Binary Lt (Copy (whole 1)) (Const (lit.Int (pos 0) I32))) ∷ []) (If (Move (whole 2)) (label 1) (label 2)))
+    ∷ (label 1, block_of (assigned 0 (Neg (Copy (whole 1))) ∷ record { span = sample_span; kind = Dead 1 } ∷ []) (Goto (label 3)))
+    ∷ (label 2, block_of (assigned 0 (Use (Move (whole 1))) ∷ []) (Goto (label 3)))
+    ∷ (label 3, block_of [] Return)
+    ∷ []
+    )
+
+-- what body 0 answers of the argument
+abbrev pub calling : Body
+calling =
+    body_of (int I32 ∷ int I32 ∷ []) (name 100 ∷ name 101 ∷ []) (
+    (label 0, block_of [] (Call (whole 0) (Function (fn_id.Body 0)) (Copy (whole 1) ∷ []) (label 1)))
+    ∷ (label 1, block_of [] Return)
+    ∷ []
+    )
+
+abbrev pub program : List Body
+program = absolute ∷ calling ∷ []
+
+-- ---- calls of them
+
+-- the integer or the truth value is one of the type
+abbrev pub IsScalarOf : Ty → Tree (Unit {0}) → Type 0
+IsScalarOf (int k) (Int z) = fits k z ≡ true
+IsScalarOf bool (Truth b) = Unit {0}
+IsScalarOf _ _ = ⊥
+
+-- the body has one parameter, and the tree is one of its type
+abbrev pub TakesOne : List Body → ℕ → Tree (Unit {0}) → Type 0
+TakesOne bodies f t = (b : Body) × (ty : Ty) × (slice_get bodies f ≡ Some b) × (param_tys b no_tys ≡ and_ty ty no_tys) × IsScalarOf ty t

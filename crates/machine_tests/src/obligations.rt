@@ -1,0 +1,402 @@
+ghost use Rattle.std.specs.Prelude.{◌≡◌, ◌<◌, ◌∷◌, [], None, IfOk};
+ghost use Rattle.machine_tests.specs.Walked.{block_of, body_of, whole, straight, branching, looping, calling};
+
+use logic_term::{ArithOp, BinaryOp, Contract, IntKind, Label, Obligation, Term, Ty, TyNode};
+use mir_ir::{
+    Block, Body, Callee, FnId, Head, Initialised, Lit, Operand, Place, Rvalue, Statement,
+    StatementKind, Terminator, TerminatorKind,
+};
+use std::alloc::Global;
+use std::process::Abort;
+use std::test::Fail;
+use text_core::{Items, Kind, Name, NoMemory, Span, Text};
+use wp_gen::{Walk, obligations};
+
+/// The parameter, and the answer, in contracts.
+const X: Name = Name(50);
+
+const ANSWER: Name = Name(51);
+
+const POST: Span = Span { start: 80, end: 81 };
+
+const END: Span = Span { start: 90, end: 91 };
+
+// ---- bodies
+
+fn one<T: Drop>(alloc: Global, item: T) -> Result<Items<T>, NoMemory>
+    ensures { IfOk result (λ items. items ≡ item ∷ []) }
+{
+    let mut items = Items::new(alloc);
+    items.push(item)?;
+    Ok(items)
+}
+
+fn block(
+    head: Option<Head>,
+    nest: Items<Label>,
+    statements: Items<Statement>,
+    kind: TerminatorKind,
+) -> Block
+    ensures { result ≡ block_of head nest statements kind }
+{
+    Block {
+        head,
+        nest,
+        statements,
+        end: Terminator { span: END, kind },
+    }
+}
+
+/// A block outside all loops.
+fn plain(alloc: Global, statements: Items<Statement>, kind: TerminatorKind) -> Block
+    ensures { result ≡ block_of None [] statements kind }
+{
+    block(None, Items::new(alloc), statements, kind)
+}
+
+fn body(alloc: Global, locals: Items<Ty>, blocks: Items<(Label, Block)>) -> Result<Body, NoMemory>
+    ensures { IfOk result (λ b. b ≡ body_of locals blocks) }
+{
+    Ok(Body {
+        owner: Text::from_bytes(alloc, b"f")?,
+        params: 1,
+        locals,
+        names: Items::from_slice(alloc, &[Name(100), Name(101), Name(102)])?,
+        entry: Label(0),
+        blocks,
+        span: END,
+    })
+}
+
+fn straight(
+    alloc: Global,
+    locals: Items<Ty>,
+    statements: Items<Statement>,
+) -> Result<Body, NoMemory>
+    ensures { IfOk result (λ b. b ≡ straight locals statements) }
+{
+    let only = plain(alloc, statements, TerminatorKind::Return);
+    body(alloc, locals, one(alloc, (Label(0), only))?)
+}
+
+fn branching(
+    alloc: Global,
+    locals: Items<Ty>,
+    operand: Operand,
+    yes: Items<Statement>,
+    no: Items<Statement>,
+) -> Result<Body, NoMemory>
+    ensures { IfOk result (λ b. b ≡ branching locals operand yes no) }
+{
+    let branch = TerminatorKind::If(operand, Label(1), Label(2));
+    let mut blocks = one(alloc, (Label(0), plain(alloc, Items::new(alloc), branch)))?;
+    blocks.push((Label(1), plain(alloc, yes, TerminatorKind::Return)))?;
+    blocks.push((Label(2), plain(alloc, no, TerminatorKind::Return)))?;
+    body(alloc, locals, blocks)
+}
+
+fn looping(
+    alloc: Global,
+    locals: Items<Ty>,
+    head: Head,
+    operand: Operand,
+    statements: Items<Statement>,
+) -> Result<Body, NoMemory>
+    ensures { IfOk result (λ b. b ≡ looping locals head operand statements) }
+{
+    let enter = plain(alloc, Items::new(alloc), TerminatorKind::Goto(Label(1)));
+    let test = TerminatorKind::If(operand, Label(2), Label(3));
+    let again = TerminatorKind::Goto(Label(1));
+    let at_head = block(Some(head), one(alloc, Label(1))?, Items::new(alloc), test);
+    let step = block(None, one(alloc, Label(1))?, statements, again);
+    let mut blocks = one(alloc, (Label(0), enter))?;
+    blocks.push((Label(1), at_head))?;
+    blocks.push((Label(2), step))?;
+    blocks.push((
+        Label(3),
+        plain(alloc, Items::new(alloc), TerminatorKind::Return),
+    ))?;
+    body(alloc, locals, blocks)
+}
+
+fn calling(alloc: Global, answer: Ty, param: Ty, args: Items<Operand>) -> Result<Body, NoMemory>
+    ensures { IfOk result (λ b. b ≡ calling answer (param ∷ []) args) }
+{
+    let place = Place {
+        local: 0,
+        path: Items::new(alloc),
+    };
+    let function = Callee::Function(FnId::Body(0));
+    let call = TerminatorKind::Call(place, function, args, Label(1));
+    let mut blocks = one(alloc, (Label(0), plain(alloc, Items::new(alloc), call)))?;
+    blocks.push((
+        Label(1),
+        plain(alloc, Items::new(alloc), TerminatorKind::Return),
+    ))?;
+    let mut locals = one(alloc, answer)?;
+    locals.push(param)?;
+    body(alloc, locals, blocks)
+}
+
+// ---- statements
+
+/// The answer and the parameter are integers of the kind, and local 2 is a truth value.
+fn locals(alloc: Global, kind: IntKind) -> Result<Items<Ty>, NoMemory> {
+    let mut types = one(alloc, Ty::int(kind))?;
+    types.push(Ty::int(kind))?;
+    types.push(Ty { node: TyNode::Bool })?;
+    Ok(types)
+}
+
+fn copied(alloc: Global, local: u32) -> Operand {
+    Operand::Copy(Place {
+        local,
+        path: Items::new(alloc),
+    })
+}
+
+/// `answer = x op 1`, where the operator stands at byte `start`.
+fn answer_is(
+    alloc: Global,
+    start: u32,
+    kind: IntKind,
+    op: BinaryOp,
+) -> Result<Items<Statement>, NoMemory>
+    requires { start < 80 }
+{
+    let place = Place {
+        local: 0,
+        path: Items::new(alloc),
+    };
+    let number = Operand::Const(Lit::Int(1, kind));
+    let value = Rvalue::Binary(op, copied(alloc, 1), number);
+    let span = Span {
+        start,
+        end: start + 1,
+    };
+    let kind = StatementKind::Assign(place, value);
+    one(alloc, Statement { span, kind })
+}
+
+// ---- formulas
+
+/// `name@`
+fn number_of(alloc: Global, name: Name) -> Result<Term, NoMemory> {
+    Term::model(alloc, Term::var(name))
+}
+
+/// `x@ + 1`
+fn next(alloc: Global) -> Result<Term, NoMemory> {
+    Term::calculate(alloc, ArithOp::Add, number_of(alloc, X)?, Term::integer(1))
+}
+
+/// `name@ == x@ + 1`
+fn is_next(alloc: Global, name: Name) -> Result<Term, NoMemory> {
+    let number = number_of(alloc, name)?;
+    Term::equal(alloc, number, next(alloc)?)
+}
+
+/// `x@ < 100`
+fn is_small(alloc: Global) -> Result<Term, NoMemory> {
+    let number = number_of(alloc, X)?;
+    Term::less(alloc, number, Term::integer(100))
+}
+
+/// `requires x@ < 100`, `ensures result@ == x@ + 1`
+fn contract(alloc: Global) -> Result<Contract, NoMemory> {
+    let pre = Span { start: 70, end: 71 };
+    Ok(Contract {
+        params: one(alloc, X)?,
+        answer: ANSWER,
+        pre: one(alloc, is_small(alloc)?)?,
+        post: one(alloc, is_next(alloc, ANSWER)?)?,
+        variants: Items::new(alloc),
+        spans: Items::from_slice(alloc, &[pre, POST])?,
+    })
+}
+
+/// For all x of `i32`, `x@ < 100` implies the formula.
+fn for_small(alloc: Global, formula: Term) -> Result<Term, NoMemory> {
+    let known = is_small(alloc)?;
+    let body = Term::implies(alloc, known, formula)?;
+    Term::forall(alloc, X, Ty::int(IntKind::I32), body)
+}
+
+/// `-2147483648 <= x@ + 1 && x@ + 1 <= 2147483647`
+fn next_is_in_range(alloc: Global) -> Result<Term, NoMemory> {
+    let above = Term::at_most(alloc, Term::integer(-2147483648), next(alloc)?)?;
+    let below = Term::at_most(alloc, next(alloc)?, Term::integer(2147483647))?;
+    Term::and(alloc, above, below)
+}
+
+/// For all values of `i32`, `value@ == x@ + 1` implies `value@ == x@ + 1`.
+fn next_is_answered(alloc: Global) -> Result<Term, NoMemory> {
+    let value = Name(60);
+    let known = is_next(alloc, value)?;
+    let formula = Term::implies(alloc, known, is_next(alloc, value)?)?;
+    Term::forall(alloc, value, Ty::int(IntKind::I32), formula)
+}
+
+// ---- obligations
+
+fn nothing_gone(alloc: Global) -> Initialised {
+    Initialised {
+        gone: Items::new(alloc),
+    }
+}
+
+/// The obligations of `answer = x op 1` over the integers of the kind.
+fn of_operation(alloc: Global, kind: IntKind, op: BinaryOp) -> Result<Vec<Obligation>, NoMemory> {
+    let statements = answer_is(alloc, 10, kind, op)?;
+    let body = straight(alloc, locals(alloc, kind)?, statements)?;
+    let walk = Walk {
+        body: &body,
+        contracts: &[],
+        contract: &contract(alloc)?,
+        init: &nothing_gone(alloc),
+    };
+    obligations(alloc, &walk, 1)
+}
+
+/// The obligations of a body that adds on one side of a branch and divides on the other.
+fn of_branch(alloc: Global) -> Result<Vec<Obligation>, NoMemory> {
+    let yes = answer_is(alloc, 10, IntKind::U8, BinaryOp::Add)?;
+    let no = answer_is(alloc, 20, IntKind::U8, BinaryOp::Div)?;
+    let types = locals(alloc, IntKind::U8)?;
+    let body = branching(alloc, types, copied(alloc, 2), yes, no)?;
+    let walk = Walk {
+        body: &body,
+        contracts: &[],
+        contract: &contract(alloc)?,
+        init: &nothing_gone(alloc),
+    };
+    obligations(alloc, &walk, 1)
+}
+
+/// The obligations of a loop with one invariant.
+fn of_loop(alloc: Global) -> Result<Vec<Obligation>, NoMemory> {
+    let invariant = Span { start: 30, end: 31 };
+    let head = Head {
+        invariants: one(alloc, Term::truth(true))?,
+        spans: one(alloc, invariant)?,
+    };
+    let step = answer_is(alloc, 40, IntKind::I32, BinaryOp::Mul)?;
+    let types = locals(alloc, IntKind::I32)?;
+    let body = looping(alloc, types, head, copied(alloc, 2), step)?;
+    let walk = Walk {
+        body: &body,
+        contracts: &[],
+        contract: &contract(alloc)?,
+        init: &nothing_gone(alloc),
+    };
+    obligations(alloc, &walk, 1)
+}
+
+/// The obligations of a body that answers what another function answers of x.
+fn of_call(alloc: Global) -> Result<Vec<Obligation>, NoMemory> {
+    let contracts = one(alloc, contract(alloc)?)?;
+    let args = one(alloc, copied(alloc, 1))?;
+    let (answer, param) = (Ty::int(IntKind::I32), Ty::int(IntKind::I32));
+    let body = calling(alloc, answer, param, args)?;
+    let walk = Walk {
+        body: &body,
+        contracts: contracts.as_slice(),
+        contract: &contract(alloc)?,
+        init: &nothing_gone(alloc),
+    };
+    obligations(alloc, &walk, 1)
+}
+
+// ---- tests
+
+/// The obligations have these kinds and first bytes, in this order, and are numbered from 1.
+fn expect_all(rt: &impl Abort, made: &[Obligation], wanted: &[(Kind, u32)]) {
+    assert_eq!(rt; made.len(), wanted.len());
+    for i in 0..made.len().min(wanted.len()) {
+        let seen = (made[i].kind, made[i].span.start);
+        assert_eq!(rt; seen, wanted[i], "obligation {i}");
+        assert_eq!(rt; made[i].number as usize, i + 1);
+    }
+}
+
+/// Whether the goal of the obligation at the place is this formula.
+fn is_goal(alloc: Global, made: &[Obligation], at: usize, wanted: &Term) -> Result<bool, NoMemory> {
+    match made.get(at) {
+        Some(obligation) => obligation.goal.same_up_to_names(alloc, wanted),
+        None => Ok(false),
+    }
+}
+
+#[test]
+fn a_sum_and_its_goals(rt: HostRuntime) -> Result<(), Fail> {
+    let alloc = rt.alloc();
+    let made = of_operation(alloc, IntKind::I32, BinaryOp::Add)?;
+    expect_all(
+        &rt,
+        made.as_slice(),
+        &[(Kind::Overflow, 10), (Kind::Ensures, 80)],
+    );
+    let range = for_small(alloc, next_is_in_range(alloc)?)?;
+    assert!(rt; is_goal(alloc, made.as_slice(), 0, &range)?);
+    let answer = for_small(alloc, next_is_answered(alloc)?)?;
+    assert!(rt; is_goal(alloc, made.as_slice(), 1, &answer)?);
+    Ok(())
+}
+
+#[test]
+fn quotients(rt: HostRuntime) -> Result<(), Fail> {
+    let signed = of_operation(rt.alloc(), IntKind::I32, BinaryOp::Div)?;
+    let wanted = [
+        (Kind::Division, 10),
+        (Kind::Overflow, 10),
+        (Kind::Ensures, 80),
+    ];
+    expect_all(&rt, signed.as_slice(), &wanted);
+    let unsigned = of_operation(rt.alloc(), IntKind::U32, BinaryOp::Rem)?;
+    expect_all(
+        &rt,
+        unsigned.as_slice(),
+        &[(Kind::Division, 10), (Kind::Ensures, 80)],
+    );
+    Ok(())
+}
+
+#[test]
+fn true_side_first(rt: HostRuntime) -> Result<(), Fail> {
+    let made = of_branch(rt.alloc())?;
+    let wanted = [
+        (Kind::Overflow, 10),
+        (Kind::Ensures, 80),
+        (Kind::Division, 20),
+        (Kind::Ensures, 80),
+    ];
+    expect_all(&rt, made.as_slice(), &wanted);
+    Ok(())
+}
+
+#[test]
+fn a_loop_with_its_invariant(rt: HostRuntime) -> Result<(), Fail> {
+    let made = of_loop(rt.alloc())?;
+    let wanted = [
+        (Kind::InvEntry, 30),
+        (Kind::Overflow, 40),
+        (Kind::InvKept, 30),
+        (Kind::Ensures, 80),
+    ];
+    expect_all(&rt, made.as_slice(), &wanted);
+    Ok(())
+}
+
+#[test]
+fn a_call_and_its_requires(rt: HostRuntime) -> Result<(), Fail> {
+    let alloc = rt.alloc();
+    let made = of_call(alloc)?;
+    expect_all(
+        &rt,
+        made.as_slice(),
+        &[(Kind::Requires, 90), (Kind::Ensures, 80)],
+    );
+    let small = for_small(alloc, is_small(alloc)?)?;
+    assert!(rt; is_goal(alloc, made.as_slice(), 0, &small)?);
+    Ok(())
+}

@@ -1,0 +1,264 @@
+use concrete_syntax::tokens_of;
+use logic_term::{ArithOp, IntKind};
+use pearlite::{
+    BinaryTerm, CallTrait, Cursor, GhostMacro, PanicMacro, Predicate, Pterm, PtermNode, Quantifier,
+    UnaryTerm, Word, WordKind, parse_term, words_of,
+};
+use std::alloc::Global;
+use std::process::Abort;
+use std::test::Fail;
+use text_core::{Items, Names};
+
+/// A letter for the form at the top of a term.
+fn letter(term: &Pterm) -> u8 {
+    match &term.node {
+        PtermNode::Int(_, _) => b'i',
+        PtermNode::Truth(_) => b't',
+        PtermNode::Answer => b'r',
+        PtermNode::Receiver => b's',
+        PtermNode::Path(_) => b'p',
+        PtermNode::Unary(op, _) => match op {
+            UnaryTerm::Neg => b'n',
+            UnaryTerm::Not => b'!',
+            UnaryTerm::Current => b'c',
+            UnaryTerm::Final => b'^',
+            UnaryTerm::View => b'@',
+        },
+        PtermNode::Binary(op, _, _) => match op {
+            BinaryTerm::Implies => b'>',
+            BinaryTerm::Or => b'|',
+            BinaryTerm::And => b'&',
+            BinaryTerm::Compare(_) => b'=',
+            BinaryTerm::Calculate(ArithOp::Add) => b'+',
+            BinaryTerm::Calculate(ArithOp::Sub) => b'-',
+            BinaryTerm::Calculate(_) => b'*',
+            BinaryTerm::MutRef => b'm',
+        },
+        PtermNode::Field(_, _) => b'.',
+        PtermNode::Part(_, _, _) => b'0',
+        PtermNode::Method(_, _, _) => b'(',
+        PtermNode::Call(_, _) => b'f',
+        PtermNode::Literal(_, _) => b'{',
+        PtermNode::Tuple(_) => b',',
+        PtermNode::If(_, _, _) => b'?',
+        PtermNode::Match(_, _) => b'M',
+        PtermNode::Quantified(_, _, _) => b'Q',
+        PtermNode::Predicate(_, _) => b'P',
+    }
+}
+
+/// The letters of a term and of its first two operands; a space where it has none.
+fn letters(term: &Pterm) -> (u8, u8, u8) {
+    match &term.node {
+        PtermNode::Unary(_, one)
+        | PtermNode::Field(one, _)
+        | PtermNode::Part(one, _, _)
+        | PtermNode::Method(one, _, _)
+        | PtermNode::Match(one, _)
+        | PtermNode::Quantified(_, _, one) => (letter(term), letter(one), b' '),
+        PtermNode::Binary(_, one, other) | PtermNode::If(one, other, _) => (
+            letter(term),
+            letter(one),
+            letter(other),
+        ),
+        _ => (letter(term), b' ', b' '),
+    }
+}
+
+/// The words of the text, and their names.
+fn worded(alloc: Global, text: &[u8]) -> Option<(Items<Word>, Names)> {
+    if text.len() > 1 << 20 {
+        return None;
+    }
+    let mut names = Names::new(alloc);
+    match words_of(alloc, text, &mut names) {
+        Ok(words) => Some((words, names)),
+        Err(_) => None,
+    }
+}
+
+/// The term with which the text begins, and the number of its words.
+fn read(alloc: Global, text: &[u8]) -> Option<(Pterm, u32)> {
+    if text.len() > 1 << 20 {
+        return None;
+    }
+    let tokens = match tokens_of(alloc, text) {
+        Ok(tokens) => tokens,
+        Err(_) => return None,
+    };
+    let mut names = Names::new(alloc);
+    let mut cursor = Cursor::new(text, tokens.as_slice());
+    match parse_term(alloc, &mut cursor, &mut names) {
+        Ok(term) => Some((term, cursor.place())),
+        Err(_) => None,
+    }
+}
+
+/// The text begins with a term of these letters, which has so many words.
+fn is_term(alloc: Global, text: &[u8], forms: (u8, u8, u8), count: u32) -> bool {
+    match read(alloc, text) {
+        Some((term, taken)) => {
+            let found = letters(&term);
+            found.0 == forms.0 && found.1 == forms.1 && found.2 == forms.2 && taken == count
+        }
+        None => false,
+    }
+}
+
+/// The word of this number in the text.
+fn word_of_number(alloc: Global, text: &[u8], number: usize) -> Option<Word> {
+    let (words, _) = worded(alloc, text)?;
+    match words.as_slice().get(number) {
+        Some(word) => Some(*word),
+        None => None,
+    }
+}
+
+/// The kind of the word of this number in the text.
+fn kind_of_number(alloc: Global, text: &[u8], number: usize) -> Option<WordKind> {
+    let word = word_of_number(alloc, text, number)?;
+    Some(word.kind)
+}
+
+/// The words of these numbers in the text have one name.
+fn have_one_name(alloc: Global, text: &[u8], one: usize, other: usize) -> bool {
+    match (
+        word_of_number(alloc, text, one),
+        word_of_number(alloc, text, other),
+    ) {
+        (Some(one), Some(other)) => one.name == other.name,
+        _ => false,
+    }
+}
+
+/// The word of this number in the text is of this kind, stands there, and has this number and type.
+fn is_word(
+    alloc: Global,
+    text: &[u8],
+    number: usize,
+    kind: WordKind,
+    span: (u32, u32),
+    value: (i128, Option<IntKind>),
+) -> bool {
+    match word_of_number(alloc, text, number) {
+        Some(word) => {
+            word.kind == kind
+                && word.span.start == span.0
+                && word.span.end == span.1
+                && word.value == value.0
+                && word.suffix == value.1
+        }
+        None => false,
+    }
+}
+
+#[test]
+fn terms_group_as_the_grammar_says(rt: HostRuntime) {
+    let alloc = rt.alloc();
+    let cases = [
+        (b"a + b * c".as_slice(), (b'+', b'p', b'*'), 5),
+        (b"-a * b".as_slice(), (b'*', b'n', b'p'), 4),
+        (b"a ==> b ==> c".as_slice(), (b'>', b'p', b'>'), 5),
+        (b"a - b - c".as_slice(), (b'-', b'-', b'p'), 5),
+        (b"a || b && c".as_slice(), (b'|', b'p', b'&'), 5),
+        (b"a && b || c".as_slice(), (b'|', b'&', b'p'), 5),
+        (b"a < b + 1".as_slice(), (b'=', b'p', b'+'), 5),
+        (b"(a < b) == c".as_slice(), (b'=', b'=', b'p'), 7),
+        (b"-5".as_slice(), (b'i', b' ', b' '), 2),
+        (b"-(5)".as_slice(), (b'i', b' ', b' '), 4),
+        (b"--5".as_slice(), (b'n', b'i', b' '), 3),
+        (b"!x@".as_slice(), (b'!', b'@', b' '), 3),
+        (b"*x@".as_slice(), (b'c', b'@', b' '), 3),
+        (b"^*x".as_slice(), (b'^', b'c', b' '), 3),
+        (b"x.f.0".as_slice(), (b'0', b'.', b' '), 5),
+        (b"x.f(y).g".as_slice(), (b'.', b'(', b' '), 8),
+        (b"x.f()".as_slice(), (b'(', b'p', b' '), 5),
+        (b"f(x, y,)@".as_slice(), (b'@', b'f', b' '), 8),
+        (b"a::b::<T>(x)".as_slice(), (b'f', b' ', b' '), 10),
+        (b"Vec::<T>::new".as_slice(), (b'p', b' ', b' '), 7),
+        (b"<T as A>::f(self)".as_slice(), (b'f', b' ', b' '), 10),
+        (b"S { f: a, g: b }".as_slice(), (b'{', b' ', b' '), 10),
+        (b"(a)".as_slice(), (b'p', b' ', b' '), 3),
+        (b"(a,)".as_slice(), (b',', b' ', b' '), 4),
+        (b"()".as_slice(), (b',', b' ', b' '), 2),
+        (
+            b"if a { result } else { self }".as_slice(),
+            (b'?', b'p', b'r'),
+            9,
+        ),
+        (
+            b"match x { A(_, mut y) => 1, B { z, .. } => 2 }".as_slice(),
+            (b'M', b'p', b' '),
+            22,
+        ),
+        (
+            b"forall<i: Int> 0 <= i ==> i < n".as_slice(),
+            (b'Q', b'>', b' '),
+            13,
+        ),
+        (
+            b"exists<r: &'a mut (T, u8)> true".as_slice(),
+            (b'Q', b't', b' '),
+            14,
+        ),
+        (b"MutRef(a, *b)".as_slice(), (b'm', b'p', b'c'), 7),
+        (
+            b"postcondition_mut(f, (x,), r)".as_slice(),
+            (b'P', b' ', b' '),
+            11,
+        ),
+        (b"a) + b".as_slice(), (b'p', b' ', b' '), 1),
+        (b"a as u8".as_slice(), (b'p', b' ', b' '), 1),
+        (b"a < b < c".as_slice(), (b'=', b'p', b'p'), 3),
+    ];
+    for (text, forms, count) in cases {
+        assert!(rt; is_term(alloc, text, forms, count));
+    }
+}
+
+#[test]
+fn words_have_kinds_and_numbers(rt: HostRuntime) {
+    let alloc = rt.alloc();
+    let text = b"forall<x: u8> x == 0x1_Fu8 // y".as_slice();
+    let cases = [
+        (
+            0,
+            WordKind::Quantifier(Quantifier::Forall),
+            (0, 6),
+            (0, None),
+        ),
+        (2, WordKind::Other, (7, 8), (0, None)),
+        (4, WordKind::Int(IntKind::U8), (10, 12), (0, None)),
+        (8, WordKind::Other, (19, 26), (31, Some(IntKind::U8))),
+    ];
+    for (number, kind, span, value) in cases {
+        assert!(rt; is_word(alloc, text, number, kind, span, value));
+    }
+    assert!(rt; word_of_number(alloc, text, 9).is_none());
+}
+
+#[test]
+fn names_are_told_apart_by_their_texts(rt: HostRuntime) {
+    let alloc = rt.alloc();
+    let text = b"ensures postcondition_mut FnMut unreachable snapshot bool i128".as_slice();
+    let kinds = [
+        WordKind::Ensures,
+        WordKind::Predicate(Predicate::PostconditionMut),
+        WordKind::CallTrait(CallTrait::FnMut),
+        WordKind::Panic(PanicMacro::Unreachable),
+        WordKind::Ghost(GhostMacro::Snapshot),
+        WordKind::Bool,
+        WordKind::Other,
+    ];
+    for (number, kind) in kinds.into_iter().enumerate() {
+        assert!(rt; kind_of_number(alloc, text, number) == Some(kind));
+    }
+}
+
+#[test]
+fn words_of_one_text_have_one_name(rt: HostRuntime) {
+    let alloc = rt.alloc();
+    assert!(rt; have_one_name(alloc, b"x y x", 0, 2));
+    assert!(rt; !have_one_name(alloc, b"x y x", 0, 1));
+    assert!(rt; !have_one_name(alloc, b"x", 0, 1));
+}
