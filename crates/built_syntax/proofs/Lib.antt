@@ -1,3 +1,6 @@
-pub mod Whole
+pub mod PartByPart
 pub mod OneRefusal
+pub mod Sizes
+pub mod Whole
+pub mod WrittenTypes
 pub use Rattle.pearlite.proofs.WordLists

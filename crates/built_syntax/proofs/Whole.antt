@@ -1,104 +1,114 @@
--- From what the whole grammar spells to what the parser promises.
-use Rattle.std.specs.Prelude.{◌≡◌, ℕ, List, ◌++◌, ◌≤◌, ◌<◌, length, None, Some, IfOk, IfErr}
-use Rattle.std.proofs.Common.{refl, sym, ◌∙◌, ap, subst, inl, inr, Result, Ok, Err}
+-- From the items that a source spells to the functions that it spells.
+use Rattle.std.specs.Prelude.{◌≡◌, ℕ, suc, ◌+◌, ◌≤◌, List, [], ◌∷◌, ◌++◌, length, Option, None, Some, Result, Ok, Err}
+use Rattle.std.proofs.Common.{refl, sym, ◌∙◌, ap, inl, inr, arith}
 use Rattle.text_core.specs.declared.span.Span.{Span}
 use Rattle.text_core.specs.declared.refusal.SourceError.{SourceError}
-use Rattle.text_core.specs.declared.refusal.Code.TheVariants.{E20}
-use Rattle.text_core.specs.declared.refusal.LimitKind.TheVariants.{Functions}
 use Rattle.text_core.specs.Names.{words, HaveOnePlace}
 use Rattle.concrete_syntax.specs.declared.fault.ParseFault.{ParseFault}
 use Rattle.concrete_syntax.specs.declared.fault.ParseFault.TheVariants as whole
-use Rattle.concrete_syntax.specs.Parsed.{SpellsAs, IsParseError as IsGrammarError}
-use Rattle.concrete_syntax.specs.Sources.{phrases}
-use Rattle.concrete_syntax.proofs.Whole.{another_value, not_both, one_source as one_tree}
+use Rattle.concrete_syntax.specs.Words.{IsWordError as IsPlainWordError}
 use Rattle.pearlite.specs.declared.fault.PassError.{PassError}
 use Rattle.pearlite.specs.declared.fault.PassError.TheVariants as P
-use Rattle.pearlite.specs.declared.word.Word.{Word}
 use Rattle.pearlite.specs.Faults.{error_of}
-use Rattle.pearlite.specs.Words.{AreWords, IsWordError, GivesNames}
-use Rattle.pearlite.proofs.WordLists.{same_words, one_table, table_has_one_place}
+use Rattle.pearlite.specs.Words.{IsWordError}
+use Rattle.rs_syntax.specs.declared.attribute.Attribute.{Attribute}
+use Rattle.rs_syntax.specs.declared.item.Item.{Item}
+use Rattle.rs_syntax.specs.declared.item.ItemNode.{ItemNode}
+use Rattle.rs_syntax.specs.declared.item.ItemNode.TheVariants as I
+use Rattle.rs_syntax.specs.Parsed.{SpellsItems, functions_of, functions_among, IsParseError as IsItemsError, SpellsNone as SpellsNoItems}
+use Rattle.rs_syntax.proofs.Whole.{one_list, error_of_words, none_of_words}
 use Rattle.built_syntax.specs.declared.function.Function.{Function}
-use Rattle.built_syntax.specs.declared.value.Value.{Value}
-use Rattle.built_syntax.specs.Make.{trees}
-use Rattle.built_syntax.specs.Parsed.{SpellsValue, SpellsSource, most_functions, IsParseError, SpellsNone}
-use Rattle.built_syntax.specs.Values.{functions_in, unbuilt_in}
+use Rattle.built_syntax.specs.Built.{◌>>=◌, with_some}
+use Rattle.built_syntax.specs.BuiltItems.{nothing_behind, unbuilt_behind, item_by, item_of, unread, built_function, built_items}
+use Rattle.built_syntax.specs.Parsed.{SpellsSource, IsUnbuiltAt, most_functions, IsParseError, SpellsNone}
 
--- ---- refusals of the whole grammar
+same_ok : {A B : Type 0} {a b : A} → ◌≡◌ {A = Result A B} (Ok a) (Ok b) → a ≡ b
+same_ok e = cc
 
--- what the grammar refuses spells nothing
-none_of_source : (table : List (List ℕ)) (bytes : List ℕ) (error : SourceError) → IsGrammarError bytes (whole.Source error) → SpellsNone table bytes (P.Source error)
-none_of_source table bytes error h = λ functions s. (
-    let es = another_value (trees s.spelled.words) phrases bytes s.value s.spelled.spelled in
-    not_both bytes es.0 error es.1 h)
+ok_err : {A : Type 0} (a : A) (n : ℕ) → ◌≡◌ {A = Result A ℕ} (Ok a) (Err n) → ⊥
+ok_err a n e = cc
 
-pub error_of_words : (table : List (List ℕ)) (bytes : List ℕ) (error : PassError) → IsWordError bytes error → IsParseError table bytes error
-error_of_words table bytes (P.Source error) h = inl (inl h)
-error_of_words table bytes (P.Limit limit) h = absurd h
-error_of_words table bytes P.NoMemory h = tt
+-- ---- refusals of what is no list of items
 
-pub none_of_words : (table : List (List ℕ)) (bytes : List ℕ) (error : PassError) → IsWordError bytes error → SpellsNone table bytes error
-none_of_words table bytes (P.Source error) h = none_of_source table bytes error (inl h)
-none_of_words table bytes (P.Limit limit) h = tt
-none_of_words table bytes P.NoMemory h = tt
+pub of_items : (table : List (List ℕ)) (bytes : List ℕ) (error : PassError) → IsItemsError table bytes error → IsParseError table bytes error
+of_items table bytes (P.Source error) h = inl h
+of_items table bytes (P.Limit limit) h = h
+of_items table bytes P.NoMemory h = tt
 
-pub error_of_grammar : (table : List (List ℕ)) (bytes : List ℕ) (fault : ParseFault) → IsGrammarError bytes fault → IsParseError table bytes (error_of fault)
-error_of_grammar table bytes (whole.Source error) h = inl h
-error_of_grammar table bytes whole.NoMemory h = tt
+pub none_of_items : (table : List (List ℕ)) (bytes : List ℕ) (error : PassError) → SpellsNoItems table bytes error → SpellsNone table bytes error
+none_of_items table bytes (P.Source error) h = λ functions s. h s.items s.spelled
+none_of_items table bytes (P.Limit limit) h = tt
+none_of_items table bytes P.NoMemory h = tt
 
-pub none_of_grammar : (table : List (List ℕ)) (bytes : List ℕ) (fault : ParseFault) → IsGrammarError bytes fault → SpellsNone table bytes (error_of fault)
-none_of_grammar table bytes (whole.Source error) h = none_of_source table bytes error h
-none_of_grammar table bytes whole.NoMemory h = tt
+pub of_words : (table : List (List ℕ)) (bytes : List ℕ) (error : PassError) → IsWordError bytes error → IsParseError table bytes error
+of_words table bytes error h = of_items table bytes error (error_of_words table bytes error h)
 
--- ---- one value
+pub none_of_tokens : (table : List (List ℕ)) (bytes : List ℕ) (error : PassError) → IsWordError bytes error → SpellsNone table bytes error
+none_of_tokens table bytes error h = none_of_items table bytes error (none_of_words table bytes error h)
 
-pub value_alone : (old new : List (List ℕ)) (bytes : List ℕ) (ws : List Word) (value : Value) → GivesNames old bytes new → ((other : List Word) → AreWords new bytes other → other ≡ ws)
-    → ((other : Value) → SpellsAs (trees ws) bytes other → other ≡ value) → (other : Value) → SpellsValue old bytes other → other ≡ value
-value_alone old new bytes ws value gives only one other s =
-    let table : s.table ≡ new = one_table old bytes s.table new s.gives gives in
-    let same : s.words ≡ ws = only s.words (subst (λ (t : List (List ℕ)). AreWords t bytes s.words) table s.are_words) in
-    one other (subst (λ (x : List Word). SpellsAs (trees x) bytes other) same s.spelled)
+pub word_error : (bytes : List ℕ) (fault : ParseFault) → IsPlainWordError bytes fault → IsWordError bytes (error_of fault)
+word_error bytes (whole.Source error) h = h
+word_error bytes whole.NoMemory h = tt
 
-pub one_value : (old : List (List ℕ)) (bytes : List ℕ) (one other : Value) → HaveOnePlace (words ++ old) → SpellsValue old bytes one → SpellsValue old bytes other → one ≡ other
-one_value old bytes one other place a b =
-    let table : a.table ≡ b.table = one_table old bytes a.table b.table a.gives b.gives in
-    let e = same_words b.table bytes a.words b.words (table_has_one_place old bytes b.table b.gives place) (subst (λ (t : List (List ℕ)). AreWords t bytes a.words) table a.are_words) b.are_words in
-    one_tree (trees b.words) bytes one other (subst (λ (x : List Word). SpellsAs (trees x) bytes one) e a.spelled) b.spelled
+-- ---- how many functions there are
+
+-- an item makes as many functions as it has
+counted : (m : Result (Unit {0}) ℕ) (o : Option Function) → nothing_behind m ≡ Ok o → o ≡ None
+counted (Ok x) o e = sym (same_ok e)
+counted (Err n) o e = absurd (ok_err o n (sym e))
+
+not_made : (own : Span) (m : Result (Unit {0}) ℕ) (o : Option Function) → unbuilt_behind own m ≡ Ok o → ⊥
+not_made own (Ok x) o e = ok_err o own.start (sym e)
+not_made own (Err n) o e = ok_err o n (sym e)
+
+abbrev some_function : Function → Result (Option Function) ℕ
+some_function f = Ok (Some f)
+
+as_one : (m : Result Function ℕ) (o : Option Function) → (m >>= some_function) ≡ Ok o → (xs : List Function) → length (with_some o xs) ≡ suc (length xs)
+as_one (Ok f) o e xs = ap (λ (p : Option Function). length (with_some p xs)) (sym (same_ok e))
+as_one (Err n) o e xs = absurd (ok_err o n (sym e))
+
+made : (own : Span) (attributes : List Attribute) (node : ItemNode) (o : Option Function) → item_by own attributes node ≡ Ok o → (xs : List Function) → length (with_some o xs) ≡ functions_of node + length xs
+made own attributes (I.Function f) o e xs = omega (arith, as_one (built_function own attributes f) o e xs)
+made own attributes I.Use o e xs = let none : o ≡ None = counted (unread attributes) o e in omega (arith, ap (λ (p : Option Function). length (with_some p xs)) none)
+made own attributes I.ExternCrate o e xs = let none : o ≡ None = counted (unread attributes) o e in omega (arith, ap (λ (p : Option Function). length (with_some p xs)) none)
+made own attributes (I.Struct of) o e xs = absurd (not_made own (unread attributes) o e)
+made own attributes (I.Enum of) o e xs = absurd (not_made own (unread attributes) o e)
+made own attributes (I.Trait of) o e xs = absurd (not_made own (unread attributes) o e)
+made own attributes (I.Impl of) o e xs = absurd (not_made own (unread attributes) o e)
+
+abbrev joined : Option Function → List Function → Result (List Function) ℕ
+joined o gs = Ok (with_some o gs)
+
+abbrev behind : Result (List Function) ℕ → Option Function → Result (List Function) ℕ
+behind n o = n >>= joined o
+
+step : (item : Item) (m : Result (Option Function) ℕ) (n : Result (List Function) ℕ) (fs : List Function) → m ≡ item_of item → (m >>= behind n) ≡ Ok fs
+    → (count : ℕ) → ((gs : List Function) → n ≡ Ok gs → length gs ≡ count) → length fs ≡ functions_of item.node + count
+unfolding item_of
+step item (Err k) n fs is e count h = absurd (ok_err fs k (sym e))
+step item (Ok o) (Err k) fs is e count h = absurd (ok_err fs k (sym e))
+step item (Ok o) (Ok gs) fs is e count h = ap length (sym (same_ok e)) ∙ made item.own item.attributes item.node o (sym is) gs ∙ ap (λ n. functions_of item.node + n) (h gs refl)
+
+pub as_many : (items : List Item) (fs : List Function) → built_items items ≡ Ok fs → length fs ≡ functions_among items
+as_many [] fs e = ap length (sym (same_ok e))
+as_many (item ∷ items) fs e = step item (item_of item) (built_items items) fs refl e (functions_among items) (λ gs is. as_many items gs is)
+
+pub few_functions : (items seen : List Item) (fs : List Function) → seen ≡ items → built_items seen ≡ Ok fs → functions_among items ≤ most_functions → length fs ≤ most_functions
+few_functions items seen fs same is few = omega (arith, few, as_many items fs (ap built_items (sym same) ∙ is))
+
+-- ---- one list of functions
 
 pub one_source : (old : List (List ℕ)) (bytes : List ℕ) (one other : List Function) → HaveOnePlace (words ++ old) → SpellsSource old bytes one → SpellsSource old bytes other → one ≡ other
-one_source old bytes one other place a b = a.is ∙ ap functions_in (one_value old bytes a.value b.value place a.spelled b.spelled) ∙ sym b.is
+one_source old bytes one other place a b =
+    same_ok (sym a.built ∙ ap built_items (one_list old bytes a.items b.items place a.spelled b.spelled) ∙ b.built)
 
--- ---- forms that are not built
+module _ (table : List (List ℕ)) (bytes : List ℕ) (items : List Item) (spelled : SpellsItems table bytes items) (alone : (other : List Item) → SpellsItems table bytes other → other ≡ items) where
+  pub functions_alone : (fs : List Function) → built_items items ≡ Ok fs → (other : List Function) → SpellsSource table bytes other → other ≡ fs
+  functions_alone fs is other s = same_ok (sym s.built ∙ ap built_items (alone s.items s.spelled) ∙ is)
 
-some_none : {A : Type 0} (a : A) → Some a ≡ None → ⊥
-some_none a e = cc
+  pub not_built : functions_among items ≤ most_functions → (start : ℕ) (error : SourceError) → built_items items ≡ Err start → IsUnbuiltAt bytes start error → IsParseError table bytes (P.Source error)
+  not_built few start error is at = inr (record { items = items; spelled = spelled; few = few; start = start; begins = is; place = at })
 
-module _ (table : List (List ℕ)) (bytes : List ℕ) (value : Value) (spelled : SpellsValue table bytes value) (alone : (other : Value) → SpellsValue table bytes other → other ≡ value) where
-  pub not_built : (span : Span) → unbuilt_in value ≡ Some span → IsParseError table bytes (P.Source (record { code = E20; span = span; other = None }))
-  not_built span is = inr (record { has = record { value = value; spelled = spelled; unbuilt = is }; is = refl })
-
-  pub none_built : (span : Span) → unbuilt_in value ≡ Some span → SpellsNone table bytes (P.Source (record { code = E20; span = span; other = None }))
-  none_built span is = λ functions s. some_none span (sym is ∙ ap unbuilt_in (sym (alone s.value s.spelled)) ∙ s.built)
-
-  -- ---- the bound on functions
-
-  spells : (fs : List Function) → unbuilt_in value ≡ None → fs ≡ functions_in value → SpellsSource table bytes fs
-  spells fs built is = record { value = value; spelled = spelled; built = built; is = is }
-
-  pub bounded : (fs : List Function) (r : Result (List Function) PassError) → unbuilt_in value ≡ None → fs ≡ functions_in value → IfOk r (λ gs. (gs ≡ fs) × (length fs ≤ most_functions)) → IfOk r (λ gs. SpellsSource table bytes gs)
-  bounded fs (Ok gs) built e b = spells gs built (b.0 ∙ e)
-  bounded fs (Err x) built e b = b
-
-  pub bounded_alone : (fs : List Function) (r : Result (List Function) PassError) → fs ≡ functions_in value → IfOk r (λ gs. (gs ≡ fs) × (length fs ≤ most_functions))
-      → IfOk r (λ gs. (other : List Function) → SpellsSource table bytes other → other ≡ gs)
-  bounded_alone fs (Ok gs) e b = λ other s. s.is ∙ ap functions_in (alone s.value s.spelled) ∙ sym (b.0 ∙ e)
-  bounded_alone fs (Err x) e b = b
-
-  pub too_many : (fs : List Function) (r : Result (List Function) PassError) → unbuilt_in value ≡ None → fs ≡ functions_in value
-      → IfErr r (λ x. (most_functions < length fs) × (x ≡ P.Limit (record { kind = Functions; counted = 4097; bound = most_functions }))) → IfErr r (λ x. IsParseError table bytes x)
-  too_many fs (Ok gs) built e b = b
-  too_many fs (Err x) built e b = subst (λ (y : PassError). IsParseError table bytes y) (sym b.1) (record { functions = fs; spelled = spells fs built e; many = b.0; is = refl })
-
-  pub none_bounded : (fs : List Function) (r : Result (List Function) PassError)
-      → IfErr r (λ x. (most_functions < length fs) × (x ≡ P.Limit (record { kind = Functions; counted = 4097; bound = most_functions }))) → IfErr r (λ x. SpellsNone table bytes x)
-  none_bounded fs (Ok gs) b = b
-  none_bounded fs (Err x) b = subst (λ (y : PassError). SpellsNone table bytes y) (sym b.1) tt
+  pub none_built : (start : ℕ) (error : SourceError) → built_items items ≡ Err start → SpellsNone table bytes (P.Source error)
+  none_built start error is = λ functions s. ok_err functions start (sym s.built ∙ ap built_items (alone s.items s.spelled) ∙ is)

@@ -4,7 +4,7 @@ use Rattle.text_core.specs.declared.name.Name.{Name}
 use Rattle.text_core.specs.declared.span.Span.{Span}
 use Rattle.logic_term.specs.declared.kinds.BinaryOp.{BinaryOp}
 use Rattle.logic_term.specs.declared.kinds.IntKind.{IntKind}
-use Rattle.built_syntax.specs.declared.operator.LazyOp.{LazyOp}
+use Rattle.rs_syntax.specs.declared.operator.LazyOp.{LazyOp}
 use Rattle.built_syntax.specs.declared.binding.Binding.{Binding}
 use Rattle.built_syntax.specs.Pterm.{Pterm}
 

@@ -6,7 +6,7 @@ use Rattle.text_core.specs.contracts.name.Name as name
 use Rattle.text_core.specs.contracts.span.Span as span
 use Rattle.logic_term.specs.contracts.kinds.BinaryOp as binary_op
 use Rattle.logic_term.specs.contracts.kinds.IntKind as int_kind
-use Rattle.built_syntax.specs.contracts.operator.LazyOp as lazy_op
+use Rattle.rs_syntax.specs.contracts.operator.LazyOp as lazy_op
 use Rattle.built_syntax.specs.contracts.binding.Binding as binding
 use Rattle.built_syntax.specs.PtermCode.{coded_pterm}
 use base.Stored.{Gv, gnil, gnum, gcons, num}

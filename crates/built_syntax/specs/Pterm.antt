@@ -4,11 +4,13 @@ use Rattle.text_core.specs.declared.name.Name.{Name}
 use Rattle.text_core.specs.declared.span.Span.{Span}
 use Rattle.logic_term.specs.declared.kinds.ArithOp.{ArithOp}
 use Rattle.logic_term.specs.declared.kinds.IntKind.{IntKind}
-use Rattle.built_syntax.specs.declared.operator.Comparison.{Comparison}
+use Rattle.pearlite.specs.declared.operator.Comparison.{Comparison}
 
 pub data Pterm : Type 0 where
   integer : Span → ℤ → Option IntKind → Pterm
   truth : Span → Bool → Pterm
+  -- `result`
+  answer : Span → Pterm
   named : Span → Name → Pterm
   viewed : Span → Pterm → Pterm
   negative : Span → Pterm → Pterm

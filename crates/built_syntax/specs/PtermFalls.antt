@@ -10,6 +10,7 @@ use Rattle.built_syntax.specs.declared.pterm.Pterm.TheDeep.{deep-PtermNode}
 pub falls : (s : Span) (n : PtermNode) → max (deep-PtermNode n) 0 ≤ pterm_size (pterm_of s n)
 falls s (node.Int a0 a1) = omega arith
 falls s (node.Truth a0) = omega arith
+falls s node.Answer = omega arith
 falls s (node.Name a0) = omega arith
 falls s (node.View a0) = omega arith
 falls s (node.Neg a0) = omega arith

@@ -1,7 +1,7 @@
 use crate::binding::StmtKind;
-use crate::operator::LazyOp;
 use crate::pterm::Pterm;
 use logic_term::{BinaryOp, IntKind};
+use rs_syntax::LazyOp;
 use std::marker::Model;
 use text_core::{Name, Span};
 

@@ -1,56 +1,51 @@
 //! The parser of sources.
 ghost use Rattle.std.specs.Prelude.{◌≡◌, ℕ, ◌+◌, ◌<◌, ◌≤◌, ◌^◌, List, length, IfOk, IfErr, OnOk};
-ghost use Rattle.pearlite.specs.declared.fault.PassError.TheVariants as P;
-ghost use Rattle.text_core.specs.declared.refusal.LimitKind.TheVariants.{Functions};
-ghost use Rattle.pearlite.specs.Words.{Keeps, GivesNames};
+ghost use Rattle.pearlite.specs.Words.{Keeps, GivesNames, IsWordError};
 ghost use Rattle.built_syntax.specs.declared.function.Function.{Function};
-ghost use Rattle.built_syntax.specs.Parsed.{SpellsValue, SpellsSource, most_functions, IsParseError, SpellsNone};
+ghost use Rattle.built_syntax.specs.Parsed.{SpellsSource, most_functions, first_token, IsUnbuiltAt, IsParseError, SpellsNone};
 
 use crate::function::Function;
-use crate::value::{Value, discard, functions_in, unbuilt_in};
-use pearlite::{PassError, words_of};
+use crate::functions::built_items;
+use crate::stop::Stop;
+use concrete_syntax::tokens_of;
+use pearlite::PassError;
+use rs_tokens::Token;
 use std::alloc::Global;
-use text_core::{Code, Items, Limit, LimitKind, Names, SourceError};
+use text_core::{Code, Items, Names, SourceError, Span};
 
-/// The most functions of a source.
-const MOST_FUNCTIONS: usize = 4096;
-
-/// The functions, where there are not too many.
-fn within_bound(functions: Items<Function>) -> Result<Items<Function>, PassError>
-    ensures ok { IfOk result (λ fs. (fs ≡ functions) × (length functions ≤ most_functions)) }
-    ensures err { IfErr result (λ e. (most_functions < length functions) × (e ≡ P.Limit (record { kind = Functions; counted = 4097; bound = most_functions }))) }
+/// The first of the tokens that does not begin before the byte; else the end.
+fn first_token(tokens: &[Token], end: u32, start: u32) -> Span
+    ensures { result ≡ first_token tokens.now end start }
 {
-    if functions.len() > MOST_FUNCTIONS {
-        return Err(PassError::Limit(Limit {
-            kind: LimitKind::Functions,
-            counted: 4097,
-            bound: 4096,
-        }));
+    for token in tokens {
+        if start <= token.span.start {
+            return token.span;
+        }
     }
-    Ok(functions)
+    Span { start: end, end }
 }
 
-/// What the bytes spell by the whole grammar.
-fn value_of(alloc: Global, bytes: &[u8], names: &mut Names) -> Result<Value, PassError>
+/// The refusal of a form that begins at this byte.
+fn refusal_at(alloc: Global, bytes: &[u8], start: u32) -> Result<SourceError, PassError>
     requires few { length bytes.now ≤ 2 ^ 20 }
-    requires room { length names.old + 2 ^ 20 < 2 ^ 32 }
-    ensures ok { IfOk result (λ v. SpellsValue names.old bytes.now v) }
-    ensures alone { IfOk result (λ v. (other : Value) → SpellsValue names.old bytes.now other → other ≡ v) }
-    ensures names { OnOk result (GivesNames names.old bytes.now names.new) }
-    ensures refused { IfErr result (λ e. IsParseError names.old bytes.now e) }
-    ensures rightly { IfErr result (λ e. SpellsNone names.old bytes.now e) }
-    ensures kept { Keeps names.old names.new }
+    ensures ok { IfOk result (λ e. IsUnbuiltAt bytes.now start e) }
+    ensures refused { IfErr result (λ e. IsWordError bytes.now e) }
 {
-    let words = words_of(alloc, bytes, names)?;
-    let value: Value = concrete_syntax::parse(&words, alloc, bytes)?;
-    Ok(value)
+    let tokens = tokens_of(alloc, bytes)?;
+    let span = first_token(tokens.as_slice(), bytes.len() as u32, start);
+    Ok(SourceError {
+        code: Code::E20,
+        span,
+        other: None,
+    })
 }
 
 /// The functions of a source (Rust Reference, "Items", "Statements", "Expressions"; terms as in Creusot's Pearlite).
 /// Identifiers that have no name yet are given one, in order of first use.
 ///
-/// Errors: `Source` by E01 to E04 and E20 where the source is none of the whole grammar, as `concrete_syntax` refuses it, and by
-/// E20 at the first word of the first form that is not built. `Limit` where there are more than 4,096 functions. `NoMemory`.
+/// Errors: `Source` by E01 to E04 and E20 where the source is none of the whole grammar, as `rs_syntax` refuses it, and by
+/// E20 at the first token of the first form that is not built. `Limit` where there are more than 4,096 functions, those of traits
+/// and impls among them. `NoMemory`.
 pub fn parse(alloc: Global, bytes: &[u8], names: &mut Names) -> Result<Items<Function>, PassError>
     requires few { length bytes.now ≤ 2 ^ 20 }
     requires room { length names.old + 2 ^ 20 < 2 ^ 32 }
@@ -65,16 +60,10 @@ pub fn parse(alloc: Global, bytes: &[u8], names: &mut Names) -> Result<Items<Fun
 
     ensures kept { Keeps names.old names.new }
 {
-    let value = value_of(alloc, bytes, names)?;
-    match unbuilt_in(&value) {
-        Some(span) => {
-            discard(value);
-            Err(PassError::Source(SourceError {
-                code: Code::E20,
-                span,
-                other: None,
-            }))
-        }
-        None => within_bound(functions_in(alloc, value)),
+    let items = rs_syntax::parse(alloc, bytes, names)?;
+    match built_items(alloc, items.as_slice()) {
+        Ok(functions) => Ok(functions),
+        Err(Stop::NoMemory) => Err(PassError::NoMemory),
+        Err(Stop::Unbuilt(start)) => Err(PassError::Source(refusal_at(alloc, bytes, start)?)),
     }
 }

@@ -1,5 +1,5 @@
-use crate::operator::Comparison;
 use logic_term::{ArithOp, IntKind};
+use pearlite::Comparison;
 use std::marker::Model;
 use text_core::{Name, Span};
 
@@ -19,6 +19,8 @@ pub enum PtermNode {
     /// An integer, with the type at its end if it has one. A `-` right before the integer belongs to it.
     Int(i128, Option<IntKind>),
     Truth(bool),
+    /// `result`
+    Answer,
     Name(Name),
     /// `t@`
     View(Box<Pterm>),

@@ -36,8 +36,6 @@ mod tables;
 mod term_choices;
 mod term_rule;
 mod term_tables;
-#[cfg(test)]
-mod tests;
 mod tree;
 mod word;
 mod word_choices;

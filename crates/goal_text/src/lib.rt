@@ -4,7 +4,5 @@
 mod piece;
 mod sort;
 mod term;
-#[cfg(test)]
-mod tests;
 
 pub use term::goal_text;

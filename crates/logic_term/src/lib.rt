@@ -8,8 +8,6 @@ mod normal;
 mod obligation;
 mod subst;
 mod term;
-#[cfg(test)]
-mod tests;
 mod ty;
 
 pub use kinds::{

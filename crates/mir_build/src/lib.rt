@@ -10,8 +10,6 @@ mod laws;
 mod lowered;
 mod program;
 mod stop;
-#[cfg(test)]
-mod tests;
 
 pub use laws::{
     blocks_are_counted, lowered_bodies_are_laid_out, lowered_bodies_are_sound,

@@ -3,7 +3,6 @@ pub mod Depths
 pub mod GivenTypes
 pub mod NeverStuck
 pub mod Plain
-pub mod SampleLemmas
 pub mod Scalars
 pub mod Shown
 pub mod Stepping

@@ -10,7 +10,6 @@ pub mod Reads
 pub mod Run
 pub mod RunCode
 pub mod RunView
-pub mod Sample
 pub mod ScalarView
 pub mod Step
 pub mod Tree

@@ -14,8 +14,6 @@ mod run_error;
 mod running;
 mod scalar;
 mod spot;
-#[cfg(test)]
-mod tests;
 mod tree;
 
 pub use args::Args;

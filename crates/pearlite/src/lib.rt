@@ -5,8 +5,6 @@ mod action;
 mod action_tables;
 mod binder;
 mod cursor;
-#[cfg(test)]
-mod cursor_tests;
 mod fault;
 mod make_patterns;
 mod make_terms;
@@ -16,8 +14,6 @@ mod path;
 mod pattern;
 mod pterm;
 mod reader;
-#[cfg(test)]
-mod tests;
 mod trees;
 mod types;
 mod value;

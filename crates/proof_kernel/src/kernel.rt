@@ -281,6 +281,3 @@ impl Kernel {
         self.stack.last()
     }
 }
-
-#[cfg(test)]
-mod tests;

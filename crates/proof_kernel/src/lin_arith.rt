@@ -5,9 +5,6 @@ ghost use Rattle.std.specs.Int.{w128};
 ghost use Rattle.proof_kernel.specs.LinArith.{HasRisingAtoms, AllRowsHold, IsCertificate, IsNarrow, IsFirstWide, IsFirstNegative, FailsAt, factor_of, entry_of};
 ghost use Rattle.proof_kernel.specs.LinColumns.{lesser_of, joined_of, IsNextAtom, IsColumnSum, IsFalseSum, IsOutcome};
 
-#[cfg(test)]
-mod tests;
-
 use text_core::Items;
 
 /// One term of a linear row: the factor times the atom.

@@ -7,9 +7,6 @@ ghost use Rattle.proof_kernel.specs.LinearRows.{difference, is_in, with_atom, wi
 ghost use Rattle.logic_term.specs.Same.{same_term};
 ghost use Rattle.proof_kernel.specs.Rules.{hypothesis, sort_of};
 
-#[cfg(test)]
-mod tests;
-
 use crate::lin_arith::{CertAnswer, Part, Row, check_certificate};
 use crate::sequent::Sequent;
 use crate::step::{Multiple, Reference};

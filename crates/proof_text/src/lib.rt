@@ -8,8 +8,6 @@ mod proof;
 mod reader;
 mod step;
 mod table;
-#[cfg(test)]
-mod tests;
 mod word;
 
 pub use fault::ProofTextError;

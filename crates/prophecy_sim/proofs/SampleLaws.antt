@@ -21,10 +21,9 @@ use Rattle.mir_ir.specs.Layout.{among, targets, Leads, on, back}
 use Rattle.mir_ir.specs.WellFormed.{HasBlock, StatementIsTyped, EndIsTyped, IsTyped, Locals, with, CanRun, run, CanEnd, Carries, Within, parameters, IsInitialised, AreSound}
 use Rattle.mir_machine.specs.Good.{Each}
 use Rattle.wp_gen.specs.Row.{value_name}
-use Rattle.wp_gen.specs.Sample.{label, whole}
 use Rattle.wp_gen.specs.Walk.{is_gone, statement, goto, branch, call, return, plain, first, again}
 use Rattle.prophecy_sim.specs.Programs.{IsScalar, IsOneOf, IsNameIn, SpeaksOf, IsSimple, HeadsSpeakOf, AreFunctions, HasTrueObligations, setting}
-use Rattle.prophecy_sim.specs.Sample.{name, head, cleared, caller, is_false, program, SampleIsSound, SampleIsTrue, SampleIsGood}
+use Rattle.prophecy_sim.specs.Sample.{label, whole, name, head, cleared, caller, is_false, program, SampleIsSound, SampleIsTrue, SampleIsGood}
 use Rattle.prophecy_sim.proofs.GoodBody.{good}
 
 some_same : {A : Type 0} {a b : A} → Some a ≡ Some b → a ≡ b

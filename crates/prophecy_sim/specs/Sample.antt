@@ -1,26 +1,43 @@
 -- A program of two functions, one with a loop and a branch and one that calls it, whose contracts are that the answer is false, and
 -- the conditions of the law at it.
-use Rattle.std.specs.Prelude.{ℕ, false, [], ◌∷◌, Some, None, slice_get, ◌≡◌, codes}
+use Rattle.std.specs.Prelude.{ℕ, false, List, [], ◌∷◌, Option, Some, None, slice_get, ◌≡◌, codes}
 use Rattle.text_core.specs.declared.name.Name.{Name}
+use Rattle.text_core.specs.declared.span.Span.{Span}
+use Rattle.logic_term.specs.declared.kinds.Label.{Label}
 use Rattle.logic_term.specs.declared.obligation.Contract.{Contract}
 use Rattle.logic_term.specs.Sort.{Declarations}
 use Rattle.logic_term.specs.Term.{var, not, implies}
 use Rattle.logic_term.specs.Ty.{bool}
 use Rattle.mir_ir.specs.declared.place.Lit.TheVariants as lit
 use Rattle.mir_ir.specs.declared.place.Operand.{Operand}
+use Rattle.mir_ir.specs.declared.place.Place.{Place}
 use Rattle.mir_ir.specs.declared.place.Operand.TheVariants.{Copy, Const}
 use Rattle.mir_ir.specs.declared.statement.Rvalue.TheVariants.{Use}
 use Rattle.mir_ir.specs.declared.statement.StatementKind.TheVariants.{Assign}
 use Rattle.mir_ir.specs.declared.statement.Statement.{Statement}
 use Rattle.mir_ir.specs.declared.terminator.FnId.TheVariants.{Body as OfBody}
 use Rattle.mir_ir.specs.declared.terminator.Callee.TheVariants.{Function}
+use Rattle.mir_ir.specs.declared.terminator.TerminatorKind.{TerminatorKind}
 use Rattle.mir_ir.specs.declared.terminator.TerminatorKind.TheVariants.{Goto, If, Call, Return}
+use Rattle.mir_ir.specs.declared.body.Block.{Block}
 use Rattle.mir_ir.specs.declared.body.Body.{Body}
 use Rattle.mir_ir.specs.declared.body.Head.{Head}
 use Rattle.mir_ir.specs.WellFormed.{AreSound}
 use Rattle.mir_machine.specs.Good.{Good}
-use Rattle.wp_gen.specs.Sample.{label, end_span, block_of, whole}
 use Rattle.prophecy_sim.specs.Programs.{Program, setting, AreFunctions, HasTrueObligations}
+
+abbrev pub label : ℕ → Label
+label n = record { 0 = n }
+
+-- where each statement and each block's end stand
+abbrev pub end_span : Span
+end_span = record { start = 90; end = 91 }
+
+abbrev pub block_of : Option Head → List Label → List Statement → TerminatorKind → Block
+block_of head nest sts end = record { head = head; nest = nest; statements = sts; end = record { span = end_span; kind = end } }
+
+abbrev pub whole : ℕ → Place
+whole x = record { local = x; path = [] }
 
 abbrev pub name : ℕ → Name
 name n = record { 0 = n }

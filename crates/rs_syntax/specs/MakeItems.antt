@@ -50,9 +50,9 @@ scoped true = Crate
 scoped false = Public
 
 -- the item behind its attributes
-unfoldable pub item_with : Span → Piece → Visibility → Piece → Piece
-item_with span so_far visibility (V.ItemNode node) = V.Item (record { span = span; attributes = attributes_in so_far; visibility = visibility; node = node })
-item_with span so_far visibility other = other
+unfoldable pub item_with : Span → Piece → Visibility → Span → Piece → Piece
+item_with span so_far visibility own (V.ItemNode node) = V.Item (record { span = span; attributes = attributes_in so_far; visibility = visibility; own = own; node = node })
+item_with span so_far visibility own other = other
 
 -- the function of a trait or an impl behind its attributes
 unfoldable pub method_with : Span → Piece → Visibility → Piece → Piece
@@ -100,9 +100,11 @@ impl_made parts = V.ItemNode (I.Impl (record {
 unfoldable pub function_made : List Value → Piece
 function_made parts = V.Function (record {
   name = segment_in (second parts).piece;
+  generics_span = (third parts).extent;
   generics = generics_in (third parts).piece;
   params = params_in (fourth parts).piece;
   answer = answer_in (fifth parts).piece;
+  conditions_span = (sixth parts).extent;
   conditions = conditions_in (sixth parts).piece;
   body = body_in (seventh parts).piece;
 })
@@ -161,8 +163,8 @@ item_made (R.LogicMark y) at a vs = attribute_behind a at.own A.Logic
 item_made (R.LawMark y) at a vs = attribute_behind a at.own A.Law
 item_made (R.SkippedAttribute y) at a vs = attribute_behind a at.own A.Skipped
 item_made (R.Attribute y) at a vs = attribute_behind a at.own (attribute_node_in (second vs).piece)
-item_made (R.PublicItem y) at a vs = item_with at.whole a (visibility_in (first vs).piece) (second vs).piece
-item_made (R.PrivateItem y) at a vs = item_with at.whole a Private (first vs).piece
+item_made (R.PublicItem y) at a vs = item_with at.whole a (visibility_in (first vs).piece) (span_in (second vs)) (second vs).piece
+item_made (R.PrivateItem y) at a vs = item_with at.whole a Private (span_in (first vs)) (first vs).piece
 item_made (R.PublicMethod y) at a vs = method_with at.whole a (visibility_in (first vs).piece) (second vs).piece
 item_made (R.PrivateMethod y) at a vs = method_with at.whole a Private (first vs).piece
 item_made R.TraitFunction at a vs = method_with at.whole a Private (first vs).piece

@@ -32,10 +32,14 @@ pub enum Body {
 #[derive(Drop)]
 pub struct Function {
     pub name: Segment,
+    /// From `<` to `>`, where they stand.
+    pub generics_span: Option<Span>,
     pub generics: Items<GenericParam>,
     pub params: Items<Param>,
     /// `None` where no `->` stands: then the answer is unit.
     pub answer: Option<TypeTree>,
+    /// From `where` to the last condition, where it stands.
+    pub conditions_span: Option<Span>,
     pub conditions: Items<Condition>,
     pub body: Body,
 }
@@ -148,5 +152,7 @@ pub struct Item {
     pub span: Span,
     pub attributes: Items<Attribute>,
     pub visibility: Visibility,
+    /// From its first word behind attributes and visibility to its end.
+    pub own: Span,
     pub node: ItemNode,
 }

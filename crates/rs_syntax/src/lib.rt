@@ -19,8 +19,6 @@ mod parser;
 mod pieces;
 mod shapes;
 mod statement;
-#[cfg(test)]
-mod tests;
 mod trees;
 mod value;
 

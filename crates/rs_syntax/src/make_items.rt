@@ -5,7 +5,7 @@ ghost use Rattle.rs_syntax.specs.declared.item.Fields.TheVariants as F;
 ghost use Rattle.rs_syntax.specs.declared.item.VariantFields.TheVariants as VF;
 ghost use Rattle.rs_syntax.specs.declared.value.Piece.TheVariants as V;
 ghost use Rattle.pearlite.specs.Make.{stands};
-ghost use Rattle.rs_syntax.specs.Values.{first, second, visibility_in, types_in, fields_in, expr_in, term_in};
+ghost use Rattle.rs_syntax.specs.Values.{span_in, first, second, visibility_in, types_in, fields_in, expr_in, term_in};
 ghost use Rattle.rs_syntax.specs.MakeItems.{item_with, method_with, item_behind, method_behind, impl_method_behind, view_type_behind, function_item, struct_made, enum_made, trait_made, impl_made, function_made, trait_head_made, named_head_made, public_field_behind, field_behind, field_type_behind, variant_behind, scoped};
 
 use crate::boxed::Boxed;
@@ -20,7 +20,9 @@ use crate::pieces::{
     visibility_in,
 };
 use crate::shapes::{answer_in, next_segment, segment_in, term_in, type_in, types_in, word_in};
-use crate::value::{Piece, Value, discard, next_extent, next_piece, skip};
+use crate::value::{
+    NOWHERE, Piece, Value, discard, next, next_extent, next_piece, next_place, skip,
+};
 use pearlite::{TypeNode, TypeTree};
 use std::alloc::Global;
 use std::collections::VecDeque;
@@ -45,18 +47,20 @@ pub fn item_with(
     span: Span,
     so_far: Piece,
     visibility: Visibility,
-    item: Piece,
+    item: Value,
 ) -> Result<Piece, NoMemory>
-    ensures { IfOk result (λ p. p ≡ item_with span so_far visibility item) }
+    ensures { IfOk result (λ p. p ≡ item_with span so_far visibility (span_in item) item.piece) }
 {
     let attributes = attributes_in(alloc, so_far);
-    match item {
+    let own = item.extent.unwrap_or(NOWHERE);
+    match item.piece {
         Piece::ItemNode(node) => {
             let node = node.into_inner();
             let item = Item {
                 span,
                 attributes,
                 visibility,
+                own,
                 node,
             };
             Ok(Piece::Item(Boxed::new(alloc, item)?))
@@ -72,10 +76,10 @@ pub fn public_item(
     so_far: Piece,
     parts: &mut VecDeque<Value>,
 ) -> Result<Piece, NoMemory>
-    ensures { IfOk result (λ p. p ≡ item_with span so_far (visibility_in (first parts.old.items).piece) (second parts.old.items).piece) }
+    ensures { IfOk result (λ p. p ≡ item_with span so_far (visibility_in (first parts.old.items).piece) (span_in (second parts.old.items)) (second parts.old.items).piece) }
 {
     let visibility = visibility_in(next_piece(parts));
-    item_with(alloc, span, so_far, visibility, next_piece(parts))
+    item_with(alloc, span, so_far, visibility, next(parts))
 }
 
 /// The function of a trait or an impl behind its attributes.
@@ -283,16 +287,20 @@ pub fn function(alloc: Global, parts: &mut VecDeque<Value>) -> Result<Piece, NoM
 {
     skip(parts);
     let name = next_segment(parts);
-    let generics = generics_in(alloc, next_piece(parts));
+    let (generics_span, generics) = next_place(parts);
+    let generics = generics_in(alloc, generics);
     let params = params_in(alloc, next_piece(parts));
     let answer = answer_in(next_piece(parts));
-    let conditions = conditions_in(alloc, next_piece(parts));
+    let (conditions_span, conditions) = next_place(parts);
+    let conditions = conditions_in(alloc, conditions);
     let body = body_in(next_piece(parts));
     let function = Function {
         name,
+        generics_span,
         generics,
         params,
         answer,
+        conditions_span,
         conditions,
         body,
     };

@@ -242,7 +242,7 @@ fn item_made(
             at.whole,
             before,
             Visibility::Private,
-            first_piece(parts),
+            next(parts),
         ),
         ItemRule::PublicMethod(_) => public_method(alloc, at.whole, before, parts),
         ItemRule::PrivateMethod(_) | ItemRule::TraitFunction => method_with(

@@ -175,6 +175,16 @@ pub fn next_piece(parts: &mut VecDeque<Value>) -> Piece
     next(parts).piece
 }
 
+/// Takes the first value off: where it stands, and its piece.
+pub fn next_place(parts: &mut VecDeque<Value>) -> (Option<Span>, Piece)
+    ensures extent { result.0 ≡ (first parts.old.items).extent }
+    ensures piece { result.1 ≡ (first parts.old.items).piece }
+    ensures rest { parts.new.items ≡ others parts.old.items }
+{
+    let value = next(parts);
+    (value.extent, value.piece)
+}
+
 /// Takes the first value off, which nothing needs.
 pub fn skip(parts: &mut VecDeque<Value>)
     ensures { parts.new.items ≡ others parts.old.items }

@@ -1,5 +1,5 @@
 -- The names that are free in formulas: variables in scope, and the answer.
-use Rattle.std.proofs.Common.{◌≡◌, ◌∙◌, ℕ, ◌<◌, ◌==◌, ◌||◌, Bool, true, false, List, length, Option, Some, None, Result, Ok, Err, ◌⊎◌, inl, inr, refl, sym, subst, true≢false}
+use Rattle.std.proofs.Common.{◌≡◌, ◌∙◌, ℕ, ◌<◌, ◌||◌, Bool, true, false, List, length, Option, Some, None, Result, Ok, Err, ◌⊎◌, inl, inr, refl, sym, subst, true≢false}
 use Rattle.std.specs.Prelude.{ℤ, if◌then◌else◌}
 use Rattle.text_core.specs.declared.name.Name.{Name}
 use Rattle.text_core.specs.declared.refusal.SourceError.{SourceError}
@@ -11,17 +11,16 @@ use Rattle.logic_term.proofs.FreeLaw.{same_test, same_name}
 use Rattle.logic_term.specs.Term as logic
 use Rattle.logic_term.specs.Term.{Term, Operator, var, lit, truth as truth_term, one, two, model, negative as negative_term, not as not_term, calculate, is_less, is_at_most, is_equal, and as and_term, or as or_term, implies as implies_term}
 use Rattle.logic_term.specs.Ty.{Ty, int, bool, math_int}
-use Rattle.built_syntax.specs.declared.operator.Comparison.{Comparison}
-use Rattle.built_syntax.specs.declared.operator.Comparison.TheVariants.{Eq, Ne, Lt, Le, Gt, Ge}
-use Rattle.built_syntax.specs.Pterm.{Pterm, integer, truth, named, viewed as modeled, negative, denied, calculated, compare, both, either, implied}
+use Rattle.built_syntax.specs.declared.Comparison.{Comparison}
+use Rattle.built_syntax.specs.declared.Comparison.TheVariants.{Eq, Ne, Lt, Le, Gt, Ge}
+use Rattle.built_syntax.specs.Pterm.{Pterm, integer, truth, answer, named, viewed as modeled, negative, denied, calculated, compare, both, either, implied}
 use Rattle.built_syntax.specs.PtermView.{span_of}
-use Rattle.type_check.specs.declared.scope.Answer.{Answer}
 use Rattle.type_check.specs.declared.scope.Found.{Found}
 use Rattle.type_check.specs.declared.scope.Variable.{Variable}
 use Rattle.type_check.specs.declared.sorted.SortedTerm.{SortedTerm}
 use Rattle.type_check.specs.Answers.{mismatch}
 use Rattle.type_check.specs.Scope.{found}
-use Rattle.type_check.specs.Terms.{sorted, literal, variable_term, name_term, model_of_sort, model_of, formula, number, ordered, is_ordering, ordered_at, compared, elaborated, asserted, assertion, kept}
+use Rattle.type_check.specs.Terms.{sorted, literal, variable_term, name_term, answer_term, model_of_sort, model_of, formula, number, ordered, is_ordering, ordered_at, compared, elaborated, asserted, assertion, kept}
 use Rattle.type_check.specs.Types.{same_ty, is_math_int, is_bool}
 use Rattle.type_check.specs.VariableNames.{variable_name, answer_name}
 use Rattle.type_check.specs.WellTyped.{IsVariable, SpeaksOf, SpeaksOfAnswer}
@@ -53,31 +52,31 @@ only_one Q op t h x p = h x (in_one (free x t) p)
 only_two : (Q : Name → Type 0) (op : Operator) (t u : Term) → Only Q t → Only Q u → Only Q (two op t u)
 only_two Q op t u h k x p = elim (in_two (free x t) (free x u) p) as (λ _. Q x) [ inl a ↦ h x a | inr b ↦ k x b ]
 
--- the name means one of these where A is the answer
-abbrev pub Heard : Option Answer → ℕ → Name → Type 0
+-- the name means one of these where A is the type of the answer
+abbrev pub Heard : Option Ty → ℕ → Name → Type 0
 Heard None n x = IsVariable n x
-Heard (Some a) n x = IsVariable n x ⊎ (x ≡ answer_name)
+Heard (Some t) n x = IsVariable n x ⊎ (x ≡ answer_name)
 
-heard_variable : (A : Option Answer) (n k : ℕ) → k < n → Heard A n (variable_name k)
+heard_variable : (A : Option Ty) (n k : ℕ) → k < n → Heard A n (variable_name k)
 heard_variable None n k h = (k, h, refl)
-heard_variable (Some a) n k h = inl (k, h, refl)
+heard_variable (Some t) n k h = inl (k, h, refl)
 
-variable_only : (A : Option Answer) (Γ : List Variable) (s : Span) (o : Option Found) (r : SortedTerm) → ((w : Found) → o ≡ Some w → w.place < length Γ) → variable_term s o ≡ Ok r → Only (Heard A (length Γ)) r.term
+variable_only : (A : Option Ty) (Γ : List Variable) (s : Span) (o : Option Found) (r : SortedTerm) → ((w : Found) → o ≡ Some w → w.place < length Γ) → variable_term s o ≡ Ok r → Only (Heard A (length Γ)) r.term
 variable_only A Γ s None r h p = absurd (cc)
 variable_only A Γ s (Some w) r h p =
     let q : sorted w.ty (var (variable_name w.place)) ≡ r = same_ok _ _ p in
     subst (λ (r : SortedTerm). Only (Heard A (length Γ)) r.term) q (only_var (Heard A (length Γ)) (variable_name w.place) (heard_variable A (length Γ) w.place (h w refl)))
 
-answer_only : (a : Answer) (Γ : List Variable) (b : Bool) (m : Result SortedTerm SourceError) (r : SortedTerm) → (m ≡ Ok r → Only (Heard (Some a) (length Γ)) r.term) → (if b then Ok (sorted a.ty (var answer_name)) else m) ≡ Ok r → Only (Heard (Some a) (length Γ)) r.term
-answer_only a Γ true m r h p =
-    let q : sorted a.ty (var answer_name) ≡ r = same_ok _ _ p in
-    subst (λ (r : SortedTerm). Only (Heard (Some a) (length Γ)) r.term) q (only_var (Heard (Some a) (length Γ)) answer_name (inr refl))
-answer_only a Γ false m r h p = h p
-
-name_only : (A : Option Answer) (Γ : List Variable) (s : Span) (x : Name) (r : SortedTerm) → name_term A Γ s x ≡ Ok r → Only (Heard A (length Γ)) r.term
+name_only : (A : Option Ty) (Γ : List Variable) (s : Span) (x : Name) (r : SortedTerm) → name_term Γ s x ≡ Ok r → Only (Heard A (length Γ)) r.term
 unfolding name_term
-name_only None Γ s x r p = variable_only None Γ s (found x Γ) r (found_within Γ x) p
-name_only (Some a) Γ s x r p = answer_only a Γ (x.0 == a.name.0) (variable_term s (found x Γ)) r (variable_only (Some a) Γ s (found x Γ) r (found_within Γ x)) p
+name_only A Γ s x r p = variable_only A Γ s (found x Γ) r (found_within Γ x) p
+
+answer_only : (A : Option Ty) (n : ℕ) (s : Span) (r : SortedTerm) → answer_term A s ≡ Ok r → Only (Heard A n) r.term
+unfolding answer_term
+answer_only None n s r p = absurd (cc)
+answer_only (Some t) n s r p =
+    let q : sorted t (var answer_name) ≡ r = same_ok _ _ p in
+    subst (λ (r : SortedTerm). Only (Heard (Some t) n) r.term) q (only_var (Heard (Some t) n) answer_name (inr refl))
 
 literal_only : (Q : Name → Type 0) (s : Span) (z : ℤ) (k : Option IntKind) (r : SortedTerm) → literal s z k ≡ Ok r → Only Q r.term
 unfolding literal
@@ -139,9 +138,10 @@ compared_only Q op s s' a c r h k p =
 made : (Q : Name → Type 0) (u : Ty) (t : Term) (r : SortedTerm) → Only Q t → yes (sorted u t) ≡ Ok r → Only Q r.term
 made Q u t r h p = let q : sorted u t ≡ r = same_ok _ _ p in subst (λ (r : SortedTerm). Only Q r.term) q h
 
-pub elaborated_only : (A : Option Answer) (Γ : List Variable) (t : Pterm) (r : SortedTerm) → elaborated A Γ t ≡ Ok r → Only (Heard A (length Γ)) r.term
+pub elaborated_only : (A : Option Ty) (Γ : List Variable) (t : Pterm) (r : SortedTerm) → elaborated A Γ t ≡ Ok r → Only (Heard A (length Γ)) r.term
 elaborated_only A Γ (integer s z k) r p = literal_only (Heard A (length Γ)) s z k r p
 elaborated_only A Γ (truth s b) r p = made (Heard A (length Γ)) bool (truth_term b) r (λ x h. only_none (Heard A (length Γ)) x false refl h) p
+elaborated_only A Γ (answer s) r p = answer_only A (length Γ) s r p
 elaborated_only A Γ (named s x) r p = name_only A Γ s x r p
 elaborated_only A Γ (modeled s t) r p =
     let a = bound (elaborated A Γ t) _ r p in
@@ -199,7 +199,7 @@ elaborated_only A Γ (implied s t u) r p =
     (formula_only (Heard A (length Γ)) (span_of u) b.0 y.0 (elaborated_only A Γ u b.0 b.1) y.1))
     y.2
 
-asserted_only : (A : Option Answer) (Γ : List Variable) (t : Pterm) (u : Term) → asserted A Γ t ≡ Ok u → Only (Heard A (length Γ)) u
+asserted_only : (A : Option Ty) (Γ : List Variable) (t : Pterm) (u : Term) → asserted A Γ t ≡ Ok u → Only (Heard A (length Γ)) u
 asserted_only A Γ t u p =
     let a = bound (elaborated A Γ t) (formula (span_of t)) u p in
     formula_only (Heard A (length Γ)) (span_of t) a.0 u (elaborated_only A Γ t a.0 a.1) a.2
@@ -216,5 +216,5 @@ kept_speaks_of_answer n s (Err e) h = tt
 pub assertion_speaks : (Γ : List Variable) (t : Pterm) → SpeaksOf (length Γ) (assertion None Γ t)
 assertion_speaks Γ t = kept_speaks (length Γ) (span_of t) (asserted None Γ t) (asserted_only None Γ t)
 
-pub assertion_speaks_of_answer : (a : Answer) (Γ : List Variable) (t : Pterm) → SpeaksOfAnswer (length Γ) (assertion (Some a) Γ t)
-assertion_speaks_of_answer a Γ t = kept_speaks_of_answer (length Γ) (span_of t) (asserted (Some a) Γ t) (asserted_only (Some a) Γ t)
+pub assertion_speaks_of_answer : (u : Ty) (Γ : List Variable) (t : Pterm) → SpeaksOfAnswer (length Γ) (assertion (Some u) Γ t)
+assertion_speaks_of_answer u Γ t = kept_speaks_of_answer (length Γ) (span_of t) (asserted (Some u) Γ t) (asserted_only (Some u) Γ t)

@@ -1,7 +1,6 @@
 -- The functions of a source, one after another.
 use Rattle.std.proofs.Common.{◌≡◌, ◌∙◌, ℕ, suc, ◌+◌, ◌<◌, List, [], ◌∷◌, ◌++◌, length, get_or, drop, drop-cons, add-one, append_assoc, refl, ap, sym, Result, Ok, Err}
 use Rattle.std.proofs.lemmas.List.{append-nil}
-use Rattle.text_core.specs.declared.name.Name.{Name}
 use Rattle.text_core.specs.declared.refusal.SourceError.{SourceError}
 use Rattle.built_syntax.specs.declared.PassError.{PassError}
 use Rattle.built_syntax.specs.declared.function.Function.{Function}
@@ -15,15 +14,15 @@ abbrev pub and_functions : List TypedFunction → List TypedFunction → Result 
 and_functions gs end = Ok (gs ++ end)
 
 -- what is left, after these functions
-abbrev pub continued : List Heading → Name → List Function → List TypedFunction → Result (List TypedFunction) SourceError
-continued σ x fs gs = typed_functions σ x fs >>= and_functions gs
+abbrev pub continued : List Heading → List Function → List TypedFunction → Result (List TypedFunction) SourceError
+continued σ fs gs = typed_functions σ fs >>= and_functions gs
 
 nothing_yet : (m : Result (List TypedFunction) SourceError) → m ≡ (m >>= and_functions [])
 nothing_yet (Ok r) = refl
 nothing_yet (Err e) = refl
 
-pub functions_start : (σ : List Heading) (x : Name) (fs : List Function) (gs : List TypedFunction) → gs ≡ [] → typed_functions σ x fs ≡ continued σ x (drop 0 fs) gs
-functions_start σ x fs gs q = rw q (nothing_yet (typed_functions σ x fs))
+pub functions_start : (σ : List Heading) (fs : List Function) (gs : List TypedFunction) → gs ≡ [] → typed_functions σ fs ≡ continued σ (drop 0 fs) gs
+functions_start σ fs gs q = rw q (nothing_yet (typed_functions σ fs))
 
 abbrev one : TypedFunction → List TypedFunction → Result (List TypedFunction) SourceError
 one g r = Ok (g ∷ r)
@@ -32,31 +31,31 @@ one_more : (gs : List TypedFunction) (g : TypedFunction) (m : Result (List Typed
 one_more gs g (Ok r) = ap Ok (sym (append_assoc gs (g ∷ []) r))
 one_more gs g (Err e) = refl
 
-abbrev then_functions : List Heading → Name → List Function → TypedFunction → Result (List TypedFunction) SourceError
-then_functions σ x fs g = typed_functions σ x fs >>= one g
+abbrev then_functions : List Heading → List Function → TypedFunction → Result (List TypedFunction) SourceError
+then_functions σ fs g = typed_functions σ fs >>= one g
 
-next : (σ : List Heading) (x : Name) (fs : List Function) (i : ℕ) (f : Function) → f ≡ get_or fs i f → i < length fs → typed_functions σ x (drop i fs) ≡ (typed_function σ x f >>= then_functions σ x (drop (suc i) fs))
-next σ x fs i f q h =
-    ap (typed_functions σ x) (drop-cons fs i f h)
-    ∙ ap (λ g. typed_function σ x g >>= then_functions σ x (drop (suc i) fs)) (sym q)
+next : (σ : List Heading) (fs : List Function) (i : ℕ) (f : Function) → f ≡ get_or fs i f → i < length fs → typed_functions σ (drop i fs) ≡ (typed_function σ f >>= then_functions σ (drop (suc i) fs))
+next σ fs i f q h =
+    ap (typed_functions σ) (drop-cons fs i f h)
+    ∙ ap (λ g. typed_function σ g >>= then_functions σ (drop (suc i) fs)) (sym q)
 
-pub functions_more : (σ : List Heading) (x : Name) (fs : List Function) (i : ℕ) (f : Function) (gs : List TypedFunction) (g : TypedFunction) → f ≡ get_or fs i f → i < length fs → typed_function σ x f ≡ Ok g → continued σ x (drop i fs) gs ≡ continued σ x (drop (i + 1) fs) (gs ++ g ∷ [])
-functions_more σ x fs i f gs g q h p =
+pub functions_more : (σ : List Heading) (fs : List Function) (i : ℕ) (f : Function) (gs : List TypedFunction) (g : TypedFunction) → f ≡ get_or fs i f → i < length fs → typed_function σ f ≡ Ok g → continued σ (drop i fs) gs ≡ continued σ (drop (i + 1) fs) (gs ++ g ∷ [])
+functions_more σ fs i f gs g q h p =
     rw add-one
-    (ap (λ m. m >>= and_functions gs) (next σ x fs i f q h)
-    ∙ ap (λ (m : Result TypedFunction SourceError). (m >>= then_functions σ x (drop (suc i) fs)) >>= and_functions gs) p
-    ∙ one_more gs g (typed_functions σ x (drop (suc i) fs)))
+    (ap (λ m. m >>= and_functions gs) (next σ fs i f q h)
+    ∙ ap (λ (m : Result TypedFunction SourceError). (m >>= then_functions σ (drop (suc i) fs)) >>= and_functions gs) p
+    ∙ one_more gs g (typed_functions σ (drop (suc i) fs)))
 
-pub functions_stop : (h : PassError) (σ : List Heading) (x : Name) (fs : List Function) (i : ℕ) (f : Function) (gs : List TypedFunction) → f ≡ get_or fs i f → i < length fs → typed_functions σ x fs ≡ continued σ x (drop i fs) gs → Refuses h (typed_function σ x f) → Refuses h (typed_functions σ x fs)
-functions_stop h σ x fs i f gs q l r p =
+pub functions_stop : (h : PassError) (σ : List Heading) (fs : List Function) (i : ℕ) (f : Function) (gs : List TypedFunction) → f ≡ get_or fs i f → i < length fs → typed_functions σ fs ≡ continued σ (drop i fs) gs → Refuses h (typed_function σ f) → Refuses h (typed_functions σ fs)
+functions_stop h σ fs i f gs q l r p =
     along h _ _ r
     (refuses_then h _ (and_functions gs)
-    (along h _ _ (next σ x fs i f q l)
-    (refuses_then h (typed_function σ x f) (then_functions σ x (drop (suc i) fs)) p)))
+    (along h _ _ (next σ fs i f q l)
+    (refuses_then h (typed_function σ f) (then_functions σ (drop (suc i) fs)) p)))
 
 drop_all : (fs : List Function) (n : ℕ) → n ≡ length fs → drop n fs ≡ []
 drop_all [] n q = rw q refl
 drop_all (f ∷ fs) n q = rw q (drop_all fs (length fs) refl)
 
-pub functions_end : (σ : List Heading) (x : Name) (fs : List Function) (n : ℕ) (gs : List TypedFunction) → n ≡ length fs → continued σ x (drop n fs) gs ≡ Ok gs
-functions_end σ x fs n gs q = rw (drop_all fs n q) (ap Ok (append-nil gs))
+pub functions_end : (σ : List Heading) (fs : List Function) (n : ℕ) (gs : List TypedFunction) → n ≡ length fs → continued σ (drop n fs) gs ≡ Ok gs
+functions_end σ fs n gs q = rw (drop_all fs n q) (ap Ok (append-nil gs))

@@ -1,7 +1,6 @@
 -- What a source comes to: three passes, each over all functions before the next begins. The names of functions and parameters,
 -- then the types of program code, then the formulas of clauses and invariants.
 use Rattle.std.specs.Prelude.{◌≡◌, Bool, true, false, List, [], ◌∷◌, map, Option, Some, None, Result, Ok, Err, if◌then◌else◌}
-use Rattle.text_core.specs.declared.name.Name.{Name}
 use Rattle.text_core.specs.declared.refusal.SourceError.{SourceError}
 use Rattle.text_core.specs.declared.span.Span.{Span}
 use Rattle.logic_term.specs.Ty.{Ty, int, bool, tuple, no_tys}
@@ -15,7 +14,6 @@ use Rattle.type_check.specs.declared.program.Signature.{Signature}
 use Rattle.type_check.specs.declared.program.TypedClause.{TypedClause}
 use Rattle.type_check.specs.declared.program.TypedFunction.{TypedFunction}
 use Rattle.type_check.specs.declared.program.TypedProgram.{TypedProgram}
-use Rattle.type_check.specs.declared.scope.Answer.{Answer}
 use Rattle.type_check.specs.declared.scope.Variable.{Variable}
 use Rattle.type_check.specs.Answers.{◌>>=◌, mismatch}
 use Rattle.type_check.specs.FirstBad.{first_bad}
@@ -64,37 +62,38 @@ unbuilt f = unbuilt_answer (unbuilt_param f.params) (answer_ty f.answer) f.name_
 -- ---- functions
 
 -- an `ensures` alone hears the answer
-abbrev pub heard : ClauseKind → Option Answer → Option Answer
-heard Requires a = None
-heard Ensures a = a
+abbrev pub heard : ClauseKind → Option Ty → Option Ty
+heard Requires t = None
+heard Ensures t = t
 
-abbrev pub clause_of : Option Answer → List Variable → Clause → TypedClause
-clause_of a Γ c = record { kind = c.kind; formula = assertion (heard c.kind a) Γ c.term }
+-- t is the type of the answer
+abbrev pub clause_of : Option Ty → List Variable → Clause → TypedClause
+clause_of t Γ c = record { kind = c.kind; formula = assertion (heard c.kind t) Γ c.term }
 
--- the function of the body; x is the name of the answer
-abbrev pub function_of : Name → Function → TypedExpr → TypedFunction
-function_of x f e = record {
+-- the function of the body
+abbrev pub function_of : Function → TypedExpr → TypedFunction
+function_of f e = record {
   name = f.name;
   span = f.name_span;
   signature = signature_of f;
-  clauses = map (clause_of (Some (record { name = x; ty = answer_ty f.answer })) (map variable_of f.params)) f.clauses;
+  clauses = map (clause_of (Some (answer_ty f.answer)) (map variable_of f.params)) f.clauses;
   body = e;
 }
 
-abbrev pub function_where : List Heading → Name → Function → Option Span → Result TypedFunction SourceError
-function_where σ x f (Some s) = Err (mismatch s)
-function_where σ x f None = do
+abbrev pub function_where : List Heading → Function → Option Span → Result TypedFunction SourceError
+function_where σ f (Some s) = Err (mismatch s)
+function_where σ f None = do
   e ← typed σ (map variable_of f.params) f.body (Some (answer_ty f.answer))
-  Ok (function_of x f e)
+  Ok (function_of f e)
 
-unfoldable pub typed_function : List Heading → Name → Function → Result TypedFunction SourceError
-typed_function σ x f = function_where σ x f (unbuilt f)
+unfoldable pub typed_function : List Heading → Function → Result TypedFunction SourceError
+typed_function σ f = function_where σ f (unbuilt f)
 
-abbrev pub typed_functions : List Heading → Name → List Function → Result (List TypedFunction) SourceError
-typed_functions σ x [] = Ok []
-typed_functions σ x (f ∷ fs) = do
-  g ← typed_function σ x f
-  gs ← typed_functions σ x fs
+abbrev pub typed_functions : List Heading → List Function → Result (List TypedFunction) SourceError
+typed_functions σ [] = Ok []
+typed_functions σ (f ∷ fs) = do
+  g ← typed_function σ f
+  gs ← typed_functions σ fs
   Ok (g ∷ gs)
 
 -- ---- the whole
@@ -106,9 +105,8 @@ unless None m = m
 abbrev pub program_of : List TypedFunction → Result TypedProgram SourceError
 program_of gs = unless (first_bad gs) (Ok (record { functions = gs }))
 
--- x is the name of the answer in an `ensures`
-unfoldable pub checked : Name → List Function → Result TypedProgram SourceError
-checked x fs = unless (first_double fs) (typed_functions (map heading_of fs) x fs >>= program_of)
+unfoldable pub checked : List Function → Result TypedProgram SourceError
+checked fs = unless (first_double fs) (typed_functions (map heading_of fs) fs >>= program_of)
 
 -- no clause and no invariant is refused
 abbrev pub AllGood : TypedProgram → Type 0

@@ -1,6 +1,5 @@
 -- What holds of every source.
 use Rattle.std.specs.Prelude.{◌≡◌, List, Ok}
-use Rattle.text_core.specs.declared.name.Name.{Name}
 use Rattle.built_syntax.specs.declared.function.Function.{Function}
 use Rattle.type_check.specs.declared.program.TypedProgram.{TypedProgram}
 use Rattle.type_check.specs.Checked.{AllGood, checked}
@@ -8,8 +7,8 @@ use Rattle.type_check.specs.WellTyped.{ProgramFits}
 
 -- the program that a source comes to fits
 abbrev pub CheckedProgramsFit : Type 0
-CheckedProgramsFit = (x : Name) (fs : List Function) (p : TypedProgram) → checked x fs ≡ Ok p → ProgramFits p
+CheckedProgramsFit = (fs : List Function) (p : TypedProgram) → checked fs ≡ Ok p → ProgramFits p
 
 -- and no formula of it is refused
 abbrev pub CheckedProgramsAreGood : Type 0
-CheckedProgramsAreGood = (x : Name) (fs : List Function) (p : TypedProgram) → checked x fs ≡ Ok p → AllGood p
+CheckedProgramsAreGood = (fs : List Function) (p : TypedProgram) → checked fs ≡ Ok p → AllGood p

@@ -1,6 +1,6 @@
 -- The terms that the terms of contracts become, with their sorts (Pearlite, Creusot). Literals without suffix and all
 -- arithmetic are of the unbounded integers.
-use Rattle.std.specs.Prelude.{ℤ, Bool, true, false, List, Option, Some, None, Result, Ok, Err, ◌==◌, if◌then◌else◌}
+use Rattle.std.specs.Prelude.{ℤ, Bool, true, false, List, Option, Some, None, Result, Ok, Err, if◌then◌else◌}
 use Rattle.text_core.specs.declared.name.Name.{Name}
 use Rattle.text_core.specs.declared.refusal.SourceError.{SourceError}
 use Rattle.text_core.specs.declared.span.Span.{Span}
@@ -8,13 +8,12 @@ use Rattle.logic_term.specs.declared.kinds.IntKind.{IntKind}
 use Rattle.logic_term.specs.Range.{fits}
 use Rattle.logic_term.specs.Term.{Term, var, lit, truth as truth_term, model, negative as negative_term, not as not_term, calculate, is_less, is_at_most, is_equal, and as and_term, or as or_term, implies as implies_term}
 use Rattle.logic_term.specs.Ty.{Ty, int, bool, math_int}
-use Rattle.built_syntax.specs.declared.operator.Comparison.{Comparison}
-use Rattle.built_syntax.specs.declared.operator.Comparison.TheVariants.{Eq, Ne, Lt, Le, Gt, Ge}
-use Rattle.built_syntax.specs.Pterm.{Pterm, integer, truth, named, viewed, negative, denied, calculated, compare, both, either, implied}
+use Rattle.built_syntax.specs.declared.Comparison.{Comparison}
+use Rattle.built_syntax.specs.declared.Comparison.TheVariants.{Eq, Ne, Lt, Le, Gt, Ge}
+use Rattle.built_syntax.specs.Pterm.{Pterm, integer, truth, answer, named, viewed, negative, denied, calculated, compare, both, either, implied}
 use Rattle.built_syntax.specs.PtermView.{span_of}
 use Rattle.type_check.specs.declared.assertion.Assertion.{Assertion}
 use Rattle.type_check.specs.declared.assertion.Assertion.TheVariants.{Good, Bad}
-use Rattle.type_check.specs.declared.scope.Answer.{Answer}
 use Rattle.type_check.specs.declared.scope.Found.{Found}
 use Rattle.type_check.specs.declared.scope.Variable.{Variable}
 use Rattle.type_check.specs.declared.sorted.SortedTerm.{SortedTerm}
@@ -34,10 +33,13 @@ abbrev pub variable_term : Span → Option Found → Result SortedTerm SourceErr
 variable_term s None = Err (unknown_name s)
 variable_term s (Some v) = Ok (sorted v.ty (var (variable_name v.place)))
 
--- the name of the answer hides a variable
-unfoldable pub name_term : Option Answer → List Variable → Span → Name → Result SortedTerm SourceError
-name_term None Γ s x = variable_term s (found x Γ)
-name_term (Some a) Γ s x = if x.0 == a.name.0 then Ok (sorted a.ty (var answer_name)) else variable_term s (found x Γ)
+unfoldable pub name_term : List Variable → Span → Name → Result SortedTerm SourceError
+name_term Γ s x = variable_term s (found x Γ)
+
+-- `result`: the answer, of this type where it may be spoken of; never a variable
+unfoldable pub answer_term : Option Ty → Span → Result SortedTerm SourceError
+answer_term None s = Err (unknown_name s)
+answer_term (Some t) s = Ok (sorted t (var answer_name))
 
 -- the unbounded integer of a machine integer
 abbrev pub model_of_sort : Ty → Span → Term → Result SortedTerm SourceError
@@ -80,11 +82,12 @@ compared op s r a b =
     (if is_ordering op then ordered_at a.sort op s a.term b.term else Ok (sorted bool (ordered op a.term b.term)))
     else Err (mismatch r)
 
--- the term over the variables, and the answer where there is one
-abbrev pub elaborated : Option Answer → List Variable → Pterm → Result SortedTerm SourceError
+-- the term over the variables, and the answer of type A where it may be spoken of
+abbrev pub elaborated : Option Ty → List Variable → Pterm → Result SortedTerm SourceError
 elaborated A Γ (integer s z k) = literal s z k
 elaborated A Γ (truth s b) = Ok (sorted bool (truth_term b))
-elaborated A Γ (named s x) = name_term A Γ s x
+elaborated A Γ (answer s) = answer_term A s
+elaborated A Γ (named s x) = name_term Γ s x
 elaborated A Γ (viewed s t) = do
   a ← elaborated A Γ t
   model_of (span_of t) a
@@ -126,12 +129,12 @@ elaborated A Γ (implied s t u) = do
   Ok (sorted bool (implies_term p q))
 
 -- a clause or an invariant, which is a formula
-abbrev pub asserted : Option Answer → List Variable → Pterm → Result Term SourceError
+abbrev pub asserted : Option Ty → List Variable → Pterm → Result Term SourceError
 asserted A Γ t = elaborated A Γ t >>= formula (span_of t)
 
 abbrev pub kept : Span → Result Term SourceError → Assertion
 kept s (Ok t) = Good s t
 kept s (Err e) = Bad e
 
-abbrev pub assertion : Option Answer → List Variable → Pterm → Assertion
+abbrev pub assertion : Option Ty → List Variable → Pterm → Assertion
 assertion A Γ t = kept (span_of t) (asserted A Γ t)

@@ -11,12 +11,12 @@ use crate::logic::first_bad;
 use crate::names::first_double;
 use crate::program::{Signature, TypedClause, TypedFunction, TypedProgram};
 use crate::refusal::mismatch;
-use crate::scope::{Answer, Variable};
+use crate::scope::Variable;
 use crate::types::unit_ty;
 use built_syntax::{Clause, ClauseKind, Function, Param, PassError};
 use logic_term::{Ty, TyNode};
 use std::alloc::Global;
-use text_core::{Items, Name, NoMemory, Span};
+use text_core::{Items, NoMemory, Span};
 
 fn answer_ty(alloc: Global, answer: &Option<Ty>) -> Result<Ty, NoMemory>
     ensures { IfOk result (λ t. t ≡ answer_ty answer.now) }
@@ -112,7 +112,7 @@ fn unbuilt(function: &Function) -> Option<Span>
 
 fn clause_of(
     alloc: Global,
-    answer: &Option<Answer>,
+    answer: &Option<Ty>,
     scope: &[Variable],
     clause: &Clause,
 ) -> Result<TypedClause, NoMemory>
@@ -130,7 +130,7 @@ fn clause_of(
 
 fn clauses_of(
     alloc: Global,
-    answer: &Option<Answer>,
+    answer: &Option<Ty>,
     scope: &[Variable],
     clauses: &[Clause],
 ) -> Result<Vec<TypedClause>, NoMemory>
@@ -143,25 +143,22 @@ fn clauses_of(
     Ok(typed)
 }
 
-/// The function with the types of its expressions. `name` is that of the answer in an `ensures`.
+/// The function with the types of its expressions.
 #[tactic(auto, unfolding(crate::specs::Checked::typed_function))]
 fn type_function(
     alloc: Global,
     headings: &[Heading],
-    name: Name,
     function: &Function,
 ) -> Result<TypedFunction, PassError>
-    ensures { Answers result (typed_function headings.now name function.now) }
+    ensures { Answers result (typed_function headings.now function.now) }
 {
     if let Some(span) = unbuilt(function) {
         return Err(mismatch(span));
     }
     let signature = signature_of(alloc, function)?;
     let scope = scope_of(alloc, function.params.as_slice())?;
-    let wanted = Some(answer_ty(alloc, &function.answer)?);
-    let body = type_expr(alloc, headings, scope.as_slice(), &function.body, &wanted)?;
-    let ty = answer_ty(alloc, &function.answer)?;
-    let answer = Some(Answer { name, ty });
+    let answer = Some(answer_ty(alloc, &function.answer)?);
+    let body = type_expr(alloc, headings, scope.as_slice(), &function.body, &answer)?;
     let clauses = function.clauses.as_slice();
     let clauses = clauses_of(alloc, &answer, scope.as_slice(), clauses)?;
     Ok(TypedFunction {
@@ -176,14 +173,13 @@ fn type_function(
 fn type_functions(
     alloc: Global,
     headings: &[Heading],
-    name: Name,
     functions: &[Function],
 ) -> Result<Vec<TypedFunction>, PassError>
-    ensures { AnswersAs result (typed_functions headings.now name functions.now) (λ v. v.items) }
+    ensures { AnswersAs result (typed_functions headings.now functions.now) (λ v. v.items) }
 {
     let mut typed = Vec::with_capacity(alloc, functions.len())?;
     for i in 0..functions.len() {
-        let function = type_function(alloc, headings, name, &functions[i])?;
+        let function = type_function(alloc, headings, &functions[i])?;
         typed.push(function)?;
     }
     Ok(typed)
@@ -191,14 +187,14 @@ fn type_functions(
 
 /// The three passes, one after another.
 #[tactic(auto, unfolding(crate::specs::Checked::checked))]
-fn passes(alloc: Global, answer: Name, functions: &[Function]) -> Result<TypedProgram, PassError>
-    ensures { Answers result (checked answer functions.now) }
+fn passes(alloc: Global, functions: &[Function]) -> Result<TypedProgram, PassError>
+    ensures { Answers result (checked functions.now) }
 {
     if let Some(error) = first_double(functions) {
         return Err(PassError::Source(error));
     }
     let headings = headings_of(alloc, functions)?;
-    let typed = type_functions(alloc, headings.as_slice(), answer, functions)?;
+    let typed = type_functions(alloc, headings.as_slice(), functions)?;
     if let Some(error) = first_bad(typed.as_slice()) {
         return Err(PassError::Source(error));
     }
@@ -207,18 +203,17 @@ fn passes(alloc: Global, answer: Name, functions: &[Function]) -> Result<TypedPr
     })
 }
 
-/// The functions with their names resolved and the types of their expressions. `answer` is the name of the text
-/// `result`, by which an `ensures` speaks of the answer.
+/// The functions with their names resolved and the types of their expressions.
 ///
 /// Errors: three passes, each over all functions before the next begins; each refuses the first failing part of the
 /// first failing function. E06 at a name of a function or a parameter that an earlier one has. Then, of program code,
 /// E05 at a name that is not declared, E07 where a type is not the one wanted, and E22 at a variable that is written and
-/// not `mut`. Then E05 and E07 of clauses and invariants. Never a limit. `NoMemory` also where a number of variables or
-/// functions passes 32 bits.
-pub fn check(alloc: Global, answer: Name, functions: &[Function]) -> Result<TypedProgram, PassError>
-    ensures answers { Answers result (checked answer functions.now) }
+/// not `mut`. Then E05 and E07 of clauses and invariants, among them E05 at a `result` outside of `ensures`. Never a
+/// limit. `NoMemory` also where a number of variables or functions passes 32 bits.
+pub fn check(alloc: Global, functions: &[Function]) -> Result<TypedProgram, PassError>
+    ensures answers { Answers result (checked functions.now) }
     ensures fits { IfOk result ProgramFits }
     ensures good { IfOk result AllGood }
 {
-    passes(alloc, answer, functions)
+    passes(alloc, functions)
 }

@@ -3,12 +3,12 @@ ghost use Rattle.logic_term.specs.Term.{or};
 ghost use Rattle.logic_term.specs.Ty.{bool, math_int};
 ghost use Rattle.built_syntax.specs.PtermView.{span_of};
 ghost use Rattle.type_check.specs.Answers.{Answers};
-ghost use Rattle.type_check.specs.Terms.{sorted, literal, name_term, model_of, formula, number, ordered, is_ordering, ordered_at, compared, elaborated, asserted, assertion};
+ghost use Rattle.type_check.specs.Terms.{sorted, literal, name_term, answer_term, model_of, formula, number, ordered, is_ordering, ordered_at, compared, elaborated, asserted, assertion};
 ghost use Rattle.type_check.specs.VariableNames.{variable_name, answer_name};
 
 use crate::assertion::Assertion;
 use crate::refusal::{mismatch, unknown_name};
-use crate::scope::{Answer, Variable, find_variable};
+use crate::scope::{Variable, find_variable};
 use crate::sorted::SortedTerm;
 use crate::types::{bool_ty, fits, is_bool, is_math_int, math_int_ty, same_ty};
 use built_syntax::{Comparison, PassError, Pterm, PtermNode};
@@ -74,25 +74,30 @@ fn literal(number: i128, kind: Option<IntKind>, span: Span) -> Result<SortedTerm
 #[tactic(auto, unfolding(crate::specs::Terms::name_term))]
 fn name_term(
     alloc: Global,
-    answer: &Option<Answer>,
     scope: &[Variable],
     span: Span,
     name: Name,
 ) -> Result<SortedTerm, PassError>
-    ensures { Answers result (name_term answer.now scope.now span name) }
+    ensures { Answers result (name_term scope.now span name) }
 {
-    if let Some(answer) = answer
-        && name.0 == answer.name.0
-    {
-        return Ok(SortedTerm {
-            sort: answer.ty.copy(alloc)?,
-            term: Term::var(answer_name()),
-        });
-    }
     match find_variable(alloc, name, scope)? {
         Some(variable) => Ok(SortedTerm {
             sort: variable.ty,
             term: Term::var(variable_name(variable.place)),
+        }),
+        None => Err(unknown_name(span)),
+    }
+}
+
+/// `result`, by the type of the answer where it may be spoken of.
+#[tactic(auto, unfolding(crate::specs::Terms::answer_term))]
+fn answer_term(alloc: Global, answer: &Option<Ty>, span: Span) -> Result<SortedTerm, PassError>
+    ensures { Answers result (answer_term answer.now span) }
+{
+    match answer {
+        Some(ty) => Ok(SortedTerm {
+            sort: ty.copy(alloc)?,
+            term: Term::var(answer_name()),
         }),
         None => Err(unknown_name(span)),
     }
@@ -199,11 +204,11 @@ fn or(alloc: Global, a: Term, b: Term) -> Result<Term, NoMemory>
     Ok(Term { node })
 }
 
-/// The term that a term of a contract becomes, with its sort.
+/// The term that a term of a contract becomes, with its sort. `answer` is the type of an answer that it may speak of.
 #[cycle(elaborate)]
 fn elaborate(
     alloc: Global,
-    answer: &Option<Answer>,
+    answer: &Option<Ty>,
     scope: &[Variable],
     t: &Pterm,
 ) -> Result<SortedTerm, PassError>
@@ -212,7 +217,8 @@ fn elaborate(
     match &t.node {
         PtermNode::Int(number, kind) => literal(*number, *kind, t.span),
         PtermNode::Truth(holds) => Ok(formula_of_sort(Term::truth(*holds))),
-        PtermNode::Name(name) => name_term(alloc, answer, scope, t.span, *name),
+        PtermNode::Answer => answer_term(alloc, answer, t.span),
+        PtermNode::Name(name) => name_term(alloc, scope, t.span, *name),
         PtermNode::View(t) => model_of(alloc, span_of(t), elaborate(alloc, answer, scope, t)?),
         PtermNode::Neg(t) => {
             let t = number(span_of(t), elaborate(alloc, answer, scope, t)?)?;
@@ -256,7 +262,7 @@ fn elaborate(
 #[cycle(elaborate)]
 fn elaborate_formula(
     alloc: Global,
-    answer: &Option<Answer>,
+    answer: &Option<Ty>,
     scope: &[Variable],
     t: &Pterm,
 ) -> Result<Term, PassError>
@@ -268,7 +274,7 @@ fn elaborate_formula(
 /// The formula of a clause or of an invariant.
 pub(crate) fn assertion(
     alloc: Global,
-    answer: &Option<Answer>,
+    answer: &Option<Ty>,
     scope: &[Variable],
     t: &Pterm,
 ) -> Result<Assertion, NoMemory>

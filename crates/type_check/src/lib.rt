@@ -15,8 +15,6 @@ mod refusal;
 mod scope;
 mod sorted;
 mod statements;
-#[cfg(test)]
-mod tests;
 mod typed;
 mod types;
 mod typing;

@@ -13,13 +13,6 @@ pub(crate) struct Variable {
     pub(crate) mutable: bool,
 }
 
-/// The answer of the function, of which an `ensures` speaks.
-#[derive(Drop)]
-pub(crate) struct Answer {
-    pub(crate) name: Name,
-    pub(crate) ty: Ty,
-}
-
 /// A variable that a name means.
 #[derive(Drop)]
 pub(crate) struct Found {

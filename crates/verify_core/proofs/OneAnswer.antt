@@ -1,9 +1,8 @@
 -- A source within its length is accepted with one program, or refused with one code and place, or past one limit, and only one of these.
-use Rattle.std.proofs.Common.{◌≡◌, ◌∙◌, refl, sym, ap, subst, ℕ, ◌<◌, ◌≤◌, List, ◌++◌, length, Result, Ok, Err, arith}
-use Rattle.text_core.specs.Names.{words, HaveOnePlace}
+use Rattle.std.proofs.Common.{◌≡◌, ◌∙◌, refl, sym, ap, subst, ℕ, ◌<◌, ◌≤◌, List, [], length, Result, Ok, Err, arith}
 use Rattle.text_core.specs.declared.refusal.Limit.{Limit}
 use Rattle.text_core.specs.declared.refusal.SourceError.{SourceError}
-use Rattle.text_core.proofs.NamesLemmas.{HaveOnePlace-differ}
+use Rattle.name_tables.proofs.Tables.{one_place_at_first}
 use Rattle.logic_term.specs.declared.obligation.Contract.{Contract}
 use Rattle.mir_ir.specs.declared.body.Body.{Body}
 use Rattle.mir_ir.specs.declared.body.Initialised.{Initialised}
@@ -20,12 +19,9 @@ use Rattle.mir_build.specs.Whole.{HaveFewBlocks}
 use Rattle.mir_build.proofs.OneBody.{programs_lower_in_one_way, blocks_are_counted}
 use Rattle.verify_core.specs.declared.goals.FunctionGoals.{FunctionGoals}
 use Rattle.verify_core.specs.declared.program.Program.{Program}
-use Rattle.verify_core.specs.Prepared.{first_table, result_name, HasFunctions, IsTypedAs, HaveGoals, HaveFewPaths, HasManyPaths, IsPrepared, IsRefused, IsPastLimit, most_bytes, most_blocks, most_obligations}
+use Rattle.verify_core.specs.Prepared.{HasFunctions, IsTypedAs, HaveGoals, HaveFewPaths, HasManyPaths, IsPrepared, IsRefused, IsPastLimit, most_bytes, most_blocks, most_obligations}
 use Rattle.verify_core.specs.Verdict.{obligations_in}
 use Rattle.verify_core.proofs.OneCount.{goals_once, few_obligations_are_not_many, few_paths_are_not_many}
-
-pub first_has_one_place : HaveOnePlace (words ++ first_table)
-first_has_one_place = HaveOnePlace-differ (words ++ first_table) refl
 
 same_ok : {A B : Type 0} {a b : A} → ◌≡◌ {A = Result A B} (Ok a) (Ok b) → a ≡ b
 same_ok e = cc
@@ -38,29 +34,29 @@ ok_err e = cc
 
 module _ (source : List ℕ) where
   same_functions : (t u : List (List ℕ)) (fs gs : List Function) → HasFunctions source t fs → HasFunctions source u gs → fs ≡ gs
-  same_functions t u fs gs h g = one_source first_table source fs gs first_has_one_place h.spelled g.spelled
+  same_functions t u fs gs h g = one_source [] source fs gs one_place_at_first h.spelled g.spelled
 
   same_table : (t u : List (List ℕ)) (fs gs : List Function) → HasFunctions source t fs → HasFunctions source u gs → t ≡ u
-  same_table t u fs gs h g = one_table first_table source t u h.gives g.gives
+  same_table t u fs gs h g = one_table [] source t u h.gives g.gives
 
   same_tables : (t u : List (List ℕ)) (p q : TypedProgram) → IsTypedAs source t p → IsTypedAs source u q → t ≡ u
   same_tables t u p q a b = same_table t u a.functions b.functions a.has b.has
 
   same_typed : (t u : List (List ℕ)) (p q : TypedProgram) → IsTypedAs source t p → IsTypedAs source u q → p ≡ q
-  same_typed t u p q a b = same_ok (sym a.is_typed ∙ ap (checked result_name) (same_functions t u a.functions b.functions a.has b.has) ∙ b.is_typed)
+  same_typed t u p q a b = same_ok (sym a.is_typed ∙ ap checked (same_functions t u a.functions b.functions a.has b.has) ∙ b.is_typed)
 
   -- ---- refusals
 
   typed_not_refused : (t : List (List ℕ)) (p : TypedProgram) (error : SourceError) → IsTypedAs source t p → IsRefused source error → ⊥
-  typed_not_refused t p error a (IsRefused.by_form is) = not_refused first_table source first_has_one_place a.functions error a.has.spelled is
-  typed_not_refused t p error a (IsRefused.by_types {table} {functions} has is) = ok_err (sym a.is_typed ∙ ap (checked result_name) (same_functions t table a.functions functions a.has has) ∙ is)
+  typed_not_refused t p error a (IsRefused.by_form is) = not_refused [] source one_place_at_first a.functions error a.has.spelled is
+  typed_not_refused t p error a (IsRefused.by_types {table} {functions} has is) = ok_err (sym a.is_typed ∙ ap checked (same_functions t table a.functions functions a.has has) ∙ is)
 
   pub one_refusal : (one other : SourceError) → IsRefused source one → IsRefused source other → one ≡ other
-  one_refusal one other (IsRefused.by_form h) (IsRefused.by_form g) = one_error first_table source first_has_one_place one other h g
-  one_refusal one other (IsRefused.by_form h) (IsRefused.by_types {functions = fs} has is) = absurd (not_refused first_table source first_has_one_place fs one has.spelled h)
-  one_refusal one other (IsRefused.by_types {functions = fs} has is) (IsRefused.by_form g) = absurd (not_refused first_table source first_has_one_place fs other has.spelled g)
+  one_refusal one other (IsRefused.by_form h) (IsRefused.by_form g) = one_error [] source one_place_at_first one other h g
+  one_refusal one other (IsRefused.by_form h) (IsRefused.by_types {functions = fs} has is) = absurd (not_refused [] source one_place_at_first fs one has.spelled h)
+  one_refusal one other (IsRefused.by_types {functions = fs} has is) (IsRefused.by_form g) = absurd (not_refused [] source one_place_at_first fs other has.spelled g)
   one_refusal one other (IsRefused.by_types {table = t} {functions = fs} has is) (IsRefused.by_types {table = u} {functions = gs} had was) =
-      same_err (sym is ∙ ap (checked result_name) (same_functions t u fs gs has had) ∙ was)
+      same_err (sym is ∙ ap checked (same_functions t u fs gs has had) ∙ was)
 
   -- ---- two lowerings
 
@@ -81,15 +77,15 @@ module _ (source : List ℕ) where
   module _ (short : length source ≤ most_bytes) where
     pub refused_not_past : (error : SourceError) (limit : Limit) → IsRefused source error → IsPastLimit source limit → ⊥
     refused_not_past error _ r (IsPastLimit.bytes long) = absurd (omega (arith, short, long))
-    refused_not_past error limit (IsRefused.by_form h) (IsPastLimit.functions is) = not_many first_table source first_has_one_place error limit h is
-    refused_not_past error limit (IsRefused.by_types {functions = fs} has is) (IsPastLimit.functions many) = not_few first_table source first_has_one_place fs limit has.spelled has.few many
+    refused_not_past error limit (IsRefused.by_form h) (IsPastLimit.functions is) = not_many [] source one_place_at_first error limit h is
+    refused_not_past error limit (IsRefused.by_types {functions = fs} has is) (IsPastLimit.functions many) = not_few [] source one_place_at_first fs limit has.spelled has.few many
     refused_not_past error _ r (IsPastLimit.blocks {table} {typed} a more) = typed_not_refused table typed error a r
     refused_not_past error _ r (IsPastLimit.paths {table} {typed} a l few many) = typed_not_refused table typed error a r
     refused_not_past error _ r (IsPastLimit.obligations {table} {typed} gs a l few paths have many) = typed_not_refused table typed error a r
 
     -- what is typed has not too many functions
-    typed_not_many : (t : List (List ℕ)) (p : TypedProgram) (limit : Limit) → IsTypedAs source t p → IsParseError first_table source (errors.Limit limit) → ⊥
-    typed_not_many t p limit a is = not_few first_table source first_has_one_place a.functions limit a.has.spelled a.has.few is
+    typed_not_many : (t : List (List ℕ)) (p : TypedProgram) (limit : Limit) → IsTypedAs source t p → IsParseError [] source (errors.Limit limit) → ⊥
+    typed_not_many t p limit a is = not_few [] source one_place_at_first a.functions limit a.has.spelled a.has.few is
 
     few_and_many : (t u : List (List ℕ)) (p q : TypedProgram) (bs ds : List Body) (cs es : List Contract) (gones others : List Initialised) → IsTypedAs source t p → IsTypedAs source u q → LowerTo t p.functions bs cs gones
         → LowerTo u q.functions ds es others → HaveFewPaths bs → HasManyPaths ds → ⊥

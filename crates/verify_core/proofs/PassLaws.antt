@@ -1,12 +1,8 @@
 -- What each pass needs, it is given; and where a pass refuses, the source is refused for a cause.
-use Rattle.std.proofs.Common.{◌≡◌, ◌∙◌, refl, sym, ap, subst, ℕ, zero, suc, ◌+◌, ◌^◌, ◌<◌, ◌≤◌, ◌⊎◌, inl, inr, List, [], ◌∷◌, ◌++◌, length, get_or, Some, None, Ok, codes, slice_get, arith}
+use Rattle.std.proofs.Common.{◌≡◌, ◌∙◌, refl, sym, ap, subst, ℕ, zero, suc, ◌+◌, ◌<◌, ◌≤◌, ◌⊎◌, inl, inr, List, [], ◌∷◌, ◌++◌, length, get_or, Some, None, Ok, slice_get, arith}
 use Rattle.std.proofs.lemmas.Bool.{cases_lt}
 use Rattle.std.proofs.lemmas.List.{length-append}
 use Rattle.std.proofs.lemmas.Option.{slice_get_read}
-use Rattle.text_core.specs.declared.name.Name.{Name}
-use Rattle.text_core.specs.Names.{text_of}
-use Rattle.name_tables.specs.NameTables.{with_name}
-use Rattle.name_tables.proofs.Tables.{interned}
 use Rattle.text_core.specs.declared.refusal.Limit.{Limit}
 use Rattle.logic_term.specs.declared.kinds.Label.{Label}
 use Rattle.logic_term.specs.declared.obligation.Contract.{Contract}
@@ -47,7 +43,7 @@ use Rattle.verify_core.specs.declared.goals.FunctionGoals.{FunctionGoals}
 use Rattle.verify_core.specs.OnSource.{IsPastSomeLimit, RefusesProofs, Refuses}
 use Rattle.verify_core.specs.Passes.{CanWalkAt, CanWalkAll, AreLaidOut, HaveFewGoals, IsSettingAt, AreTooMany, IsGoalsError, IsPathsError}
 use Rattle.verify_core.specs.declared.program.Program.{Program}
-use Rattle.verify_core.specs.Prepared.{first_table, result_name, HasFunctions, IsPrepared, IsTypedAs, gone_of, HasGoals, HaveGoals, HasManyPaths, HaveFewPaths, IsPastLimit, IsRefused, RefusesSource, most_paths, most_obligations}
+use Rattle.verify_core.specs.Prepared.{HasFunctions, IsPrepared, IsTypedAs, gone_of, HasGoals, HaveGoals, HasManyPaths, HaveFewPaths, IsPastLimit, IsRefused, RefusesSource, most_paths, most_obligations}
 use Rattle.verify_core.specs.Refusals.{refusal_of}
 use Rattle.verify_core.specs.Verdict.{obligations_in}
 use Rattle.verify_core.proofs.Assembly.{sound, gone_at}
@@ -60,36 +56,28 @@ some_same e = cc
 
 -- ---- refusals
 
-pub parse_refused : (source : List ℕ) (table : List (List ℕ)) (e : PassError) → table ≡ first_table → IsParseError table source e → RefusesSource source (refusal_of e)
+pub parse_refused : (source : List ℕ) (table : List (List ℕ)) (e : PassError) → table ≡ [] → IsParseError table source e → RefusesSource source (refusal_of e)
 parse_refused source table (errors.Source e) same is = IsRefused.by_form (subst (λ (t : List (List ℕ)). IsParseError t source (errors.Source e)) same is)
 parse_refused source table (errors.Limit l) same is = IsPastLimit.functions (subst (λ (t : List (List ℕ)). IsParseError t source (errors.Limit l)) same is)
 parse_refused source table errors.NoMemory same is = tt
 
--- the name that `result` has been given, and the table then
-pub first_names : (old table : List (List ℕ)) (result : Name) → old ≡ [] → text_of table result ≡ Some (codes "result") → ((other : Name) → text_of table other ≡ Some (codes "result") → other ≡ result)
-    → (table ≡ old) ⊎ (table ≡ old ++ codes "result" ∷ []) → (table ≡ first_table) × (result ≡ result_name)
-first_names old table result empty named one grown =
-    let small : length old < 2 ^ 32 = omega (arith, ap length empty) in
-    let same : table ≡ first_table = interned old table (codes "result") result named one grown small ∙ ap (λ (t : List (List ℕ)). with_name t (codes "result")) empty in
-    (same, sym (one result_name (ap (λ (t : List (List ℕ)). text_of t result_name) same)))
-
-pub has_functions : (source : List ℕ) (old table : List (List ℕ)) (fs : List SourceFunction) → old ≡ first_table → SpellsSource old source fs → length fs ≤ most_functions → GivesNames old source table → HasFunctions source table fs
+pub has_functions : (source : List ℕ) (old table : List (List ℕ)) (fs : List SourceFunction) → old ≡ [] → SpellsSource old source fs → length fs ≤ most_functions → GivesNames old source table → HasFunctions source table fs
 has_functions source old table fs same spelled few gives = record {
   spelled = subst (λ (t : List (List ℕ)). SpellsSource t source fs) same spelled;
   few = few;
   gives = subst (λ (t : List (List ℕ)). GivesNames t source table) same gives;
 }
 
-pub types_refused : (source : List ℕ) (table : List (List ℕ)) (fs : List SourceFunction) (result : Name) (e : PassError) → HasFunctions source table fs → result ≡ result_name → TypesRefuse e (checked result fs) → RefusesSource source (refusal_of e)
-types_refused source table fs result (errors.Source e) has same is = IsRefused.by_types has (ap (λ (x : Name). checked x fs) (sym same) ∙ is)
-types_refused source table fs result (errors.Limit l) has same is = absurd is
-types_refused source table fs result errors.NoMemory has same is = tt
+pub types_refused : (source : List ℕ) (table : List (List ℕ)) (fs : List SourceFunction) (e : PassError) → HasFunctions source table fs → TypesRefuse e (checked fs) → RefusesSource source (refusal_of e)
+types_refused source table fs (errors.Source e) has is = IsRefused.by_types has is
+types_refused source table fs (errors.Limit l) has is = absurd is
+types_refused source table fs errors.NoMemory has is = tt
 
-pub typed_as : (source : List ℕ) (table : List (List ℕ)) (fs : List SourceFunction) (result : Name) (typed : TypedProgram) → HasFunctions source table fs → result ≡ result_name → checked result fs ≡ Ok typed → IsTypedAs source table typed
-typed_as source table fs result typed has same is = record { functions = fs; has = has; is_typed = ap (λ (x : Name). checked x fs) (sym same) ∙ is }
+pub typed_as : (source : List ℕ) (table : List (List ℕ)) (fs : List SourceFunction) (typed : TypedProgram) → HasFunctions source table fs → checked fs ≡ Ok typed → IsTypedAs source table typed
+typed_as source table fs typed has is = record { functions = fs; has = has; is_typed = is }
 
 pub fits_of : (source : List ℕ) (table : List (List ℕ)) (typed : TypedProgram) → IsTypedAs source table typed → ProgramFits typed
-fits_of source table typed t = typed_program_fits result_name t.functions typed t.is_typed
+fits_of source table typed t = typed_program_fits t.functions typed t.is_typed
 
 pub lowering_refused : (source : List ℕ) (table : List (List ℕ)) (typed : TypedProgram) (e : PassError) → IsTypedAs source table typed → FailsFor (ProgramFits typed → HasMoreBlocks typed 4096) e → RefusesSource source (refusal_of e)
 lowering_refused source table typed (errors.Source e) t fails = absurd fails

@@ -18,7 +18,6 @@ use Rattle.proof_text.specs.declared.proof.Proof.{Proof}
 use Rattle.report_out.specs.declared.verdict.FnLine.{FnLine}
 use Rattle.report_out.specs.declared.verdict.Verdict.{Verdict}
 use Rattle.built_syntax.specs.declared.function.Function.{Function}
-use Rattle.text_core.specs.declared.name.Name.{Name}
 use Rattle.type_check.specs.declared.program.TypedProgram.{TypedProgram}
 use Rattle.type_check.specs.Checked.{checked}
 use Rattle.type_check.specs.WellTyped.{ProgramFits}
@@ -26,7 +25,7 @@ use Rattle.type_check.proofs.Whole.{answered_fits}
 use Rattle.std.specs.Prelude.{Ok}
 use Rattle.verify_core.specs.declared.goals.FunctionGoals.{FunctionGoals}
 use Rattle.verify_core.specs.declared.program.Program.{Program}
-use Rattle.verify_core.specs.Prepared.{result_name, IsPrepared, AreGoalsOf, HaveGoals, gone_of, program_of}
+use Rattle.verify_core.specs.Prepared.{IsPrepared, AreGoalsOf, HaveGoals, gone_of, program_of}
 use Rattle.verify_core.specs.Verdict.{no_types, Runs, IsAccepted, Settles, HasDerivation, Tells, IsVerified, IsVerdict}
 use Rattle.verify_core.proofs.Assembly.{sound, functions}
 use Rattle.verify_core.proofs.ReachLaws.{within, got}
@@ -35,8 +34,8 @@ some_same : {A : Type 0} {a b : A} → Some a ≡ Some b → a ≡ b
 some_same e = cc
 
 -- what passes the types fits
-pub typed_program_fits : (x : Name) (fs : List Function) (p : TypedProgram) → checked x fs ≡ Ok p → ProgramFits p
-typed_program_fits x fs p e = answered_fits x fs (Ok p) e
+pub typed_program_fits : (fs : List Function) (p : TypedProgram) → checked fs ≡ Ok p → ProgramFits p
+typed_program_fits fs p e = answered_fits fs (Ok p) e
 
 plus_one : (n : ℕ) → n + 1 ≡ suc n
 plus_one n = omega arith
@@ -83,7 +82,7 @@ pub verified_is_good : (source : List ℕ) (p : Program) (ps : List Proof) (v : 
     → (f : ℕ) (line : FnLine) (c : Contract) → slice_get v.functions f ≡ Some line → line.verified ≡ true → slice_get p.contracts f ≡ Some c → Good no_types p.bodies.bodies f c
 verified_is_good source p ps v prepared verdict f line c is_line verified is_contract =
     let bodies : List Body = p.bodies.bodies in
-    let lowers : Lowers p.names prepared.typed.functions bodies p.contracts prepared.gones = record { lowers = prepared.lowers; fits = typed_program_fits result_name prepared.is_typed.functions prepared.typed prepared.is_typed.is_typed } in
+    let lowers : Lowers p.names prepared.typed.functions bodies p.contracts prepared.gones = record { lowers = prepared.lowers; fits = typed_program_fits prepared.is_typed.functions prepared.typed prepared.is_typed.is_typed } in
     let all : IsVerified ps bodies p.functions f = verified_at ps bodies p.functions f line.verified (verdict.lines.told f line is_line) verified in
     true_makes_good no_types (program_of bodies p.contracts prepared.gones) (sound p.names prepared.typed.functions bodies p.contracts prepared.gones lowers)
     (functions p.names prepared.typed.functions bodies p.contracts prepared.gones lowers) f c is_contract

@@ -1,10 +1,8 @@
 -- The program of a source, and why a source has none.
-use Rattle.std.specs.Prelude.{◌≡◌, ℕ, ◌+◌, ◌<◌, ◌≤◌, zero, suc, List, [], ◌∷◌, length, codes, Some, slice_get, Ok, Err}
-use Rattle.text_core.specs.declared.name.Name.{Name}
+use Rattle.std.specs.Prelude.{◌≡◌, ℕ, ◌+◌, ◌<◌, ◌≤◌, zero, suc, List, [], ◌∷◌, length, Some, slice_get, Ok, Err}
 use Rattle.text_core.specs.declared.refusal.Limit.{Limit}
 use Rattle.text_core.specs.declared.refusal.LimitKind.TheVariants.{SourceBytes, Blocks, Paths, Obligations}
 use Rattle.text_core.specs.declared.refusal.SourceError.{SourceError}
-use Rattle.text_core.specs.Names.{words}
 use Rattle.logic_term.specs.declared.obligation.Contract.{Contract}
 use Rattle.mir_ir.specs.declared.body.Body.{Body}
 use Rattle.mir_ir.specs.declared.body.Initialised.{Initialised}
@@ -41,24 +39,17 @@ most_obligations = 1000000
 
 -- ---- the passes
 
--- the table of names before the source is read: `result` has a name, the first behind those of the words
-abbrev pub first_table : List (List ℕ)
-first_table = codes "result" ∷ []
-
-abbrev pub result_name : Name
-result_name = record { 0 = length words }
-
--- the source spells these functions, and not too many; the table has the names that are in them
+-- the source spells these functions, and not too many; the table, empty before the source is read, has the names that are in them
 pub record HasFunctions (source : List ℕ) (table : List (List ℕ)) (functions : List Function) : Type 0 where
-  pub spelled : SpellsSource first_table source functions
+  pub spelled : SpellsSource [] source functions
   pub few : length functions ≤ most_functions
-  pub gives : GivesNames first_table source table
+  pub gives : GivesNames [] source table
 
 -- the functions of the source have these names and types
 pub record IsTypedAs (source : List ℕ) (table : List (List ℕ)) (typed : TypedProgram) : Type 0 where
   pub functions : List Function
   pub has : HasFunctions source table functions
-  pub is_typed : checked result_name functions ≡ Ok typed
+  pub is_typed : checked functions ≡ Ok typed
 
 -- ---- goals
 
@@ -120,13 +111,13 @@ pub record IsPrepared (source : List ℕ) (p : Program) : Type 0 where
 
 -- the source is refused for this reason: it is none of the whole grammar, or has a form that is not built; or by names and types
 pub data IsRefused (source : List ℕ) (error : SourceError) : Type 0 where
-  by_form : IsParseError first_table source (errors.Source error) → IsRefused source error
-  by_types : {table : List (List ℕ)} {functions : List Function} → HasFunctions source table functions → checked result_name functions ≡ Err error → IsRefused source error
+  by_form : IsParseError [] source (errors.Source error) → IsRefused source error
+  by_types : {table : List (List ℕ)} {functions : List Function} → HasFunctions source table functions → checked functions ≡ Err error → IsRefused source error
 
 -- a quantity of the source is past its bound, and those that are counted before it are not
 pub data IsPastLimit (source : List ℕ) : Limit → Type 0 where
   bytes : most_bytes < length source → IsPastLimit source (record { kind = SourceBytes; counted = length source; bound = most_bytes })
-  functions : {limit : Limit} → IsParseError first_table source (errors.Limit limit) → IsPastLimit source limit
+  functions : {limit : Limit} → IsParseError [] source (errors.Limit limit) → IsPastLimit source limit
   blocks : {table : List (List ℕ)} {typed : TypedProgram} → IsTypedAs source table typed → HasMoreBlocks typed most_blocks → IsPastLimit source (record { kind = Blocks; counted = most_blocks + 1; bound = most_blocks })
   paths : {table : List (List ℕ)} {typed : TypedProgram} {bs : List Body} {cs : List Contract} {gones : List Initialised} → IsTypedAs source table typed → LowerTo table typed.functions bs cs gones → HaveFewBlocks bs → HasManyPaths bs
       → IsPastLimit source (record { kind = Paths; counted = most_paths + 1; bound = most_paths })

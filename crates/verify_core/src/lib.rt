@@ -11,8 +11,6 @@ mod preparing;
 mod program;
 mod reach;
 mod table;
-#[cfg(test)]
-mod tests;
 mod verdict;
 mod verifying;
 

@@ -29,9 +29,8 @@ fn typed_source(alloc: Global, source: &[u8], names: &mut Names) -> Result<Typed
     ensures fits { IfOk result ProgramFits }
     ensures refused { IfErr result (RefusesSource source.now) }
 {
-    let result = names.intern(alloc, "result")?;
     let functions = parse(alloc, source, names)?;
-    Ok(check(alloc, result, functions.as_slice())?)
+    Ok(check(alloc, functions.as_slice())?)
 }
 
 /// That no body has more than 1,024 paths.

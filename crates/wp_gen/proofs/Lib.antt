@@ -5,6 +5,5 @@ pub mod Operations
 pub mod GoalLists
 pub mod WalkLaws
 pub mod ArriveLaws
-pub mod SampleLemmas
 pub mod CountLaws
 pub mod ExistLaws

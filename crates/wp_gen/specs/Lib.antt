@@ -2,6 +2,5 @@ pub mod Command
 pub mod Count
 pub mod Paths
 pub mod Row
-pub mod Sample
 pub mod Walk
 pub mod Walkable

@@ -12,8 +12,6 @@ mod paths;
 mod row;
 mod seen;
 mod step;
-#[cfg(test)]
-mod tests;
 mod walk;
 
 pub use command::Command;

@@ -182,7 +182,7 @@ fn forms_that_are_not_built_are_refused(rt: HostRuntime) -> Result<(), Fail> {
         (b"fn f(x: &u32) {}", b"error E20 8..9 line 1\n"),
         (b"fn f(x: u32) { match x {} }", b"error E20 15..20 line 1\n"),
         (b"fn f() { loop {} }", b"error E20 9..13 line 1\n"),
-        (b"fn f(x: u32) { x.y; }", b"error E20 16..17 line 1\n"),
+        (b"fn f(x: u32) { x.y; }", b"error E20 15..16 line 1\n"),
         (b"fn f() { let (a, b) = 1; }", b"error E20 13..14 line 1\n"),
         (
             b"fn f(x: i32) -> u8 { x as u8 }",

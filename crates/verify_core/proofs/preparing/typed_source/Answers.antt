@@ -1,25 +1,22 @@
 use Rattle.std.proofs.lemmas.Result.{err_from_is_err_and}
-use Rattle.verify_core.proofs.PassLaws.{parse_refused, first_names, has_functions, types_refused, typed_as}
+use Rattle.verify_core.proofs.PassLaws.{parse_refused, has_functions, types_refused, typed_as}
 use Rattle.verify_core.proofs.preparing.typed_source.Goals as goal
 
 pub returns-in_err-functions-clause-refused : goal.returns-in_err-functions-clause-refused
 returns-in_err-functions-clause-refused c =
-    let p = err_from_is_err_and c.from_residual-in_err-functions.result c.from_residual-in_err-functions.ensures.1 in
-    let first = first_names c.args.names.now c.intern.new.self c.in_ok-result.result c.requires.empty c.in_ok-result.ensures.named c.in_ok-result.ensures.one c.in_ok-result.ensures.grown in
-    rw (p.1, p.2) (parse_refused c.args.source.now c.intern.new.self c.in_err-functions.field-0.0 first.0 c.in_err-functions.ensures.refused)
+    let p = err_from_is_err_and c.from_residual.result c.from_residual.ensures.1 in
+    rw (p.1, p.2) (parse_refused c.args.source.now c.args.names.now c.in_err-functions.field-0.0 c.requires.empty c.in_err-functions.ensures.refused)
 
 pub returns-in_err-check-clause-refused : goal.returns-in_err-check-clause-refused
 returns-in_err-check-clause-refused c =
     let p = err_from_is_err_and c.from_residual-in_err-check.result c.from_residual-in_err-check.ensures.1 in
-    let first = first_names c.args.names.now c.intern.new.self c.in_ok-result.result c.requires.empty c.in_ok-result.ensures.named c.in_ok-result.ensures.one c.in_ok-result.ensures.grown in
     rw (p.1, p.2)
-    (types_refused c.args.source.now c.parse.new.names c.in_ok-functions.functions c.in_ok-result.result c.in_err-check.field-0.0
-    (has_functions c.args.source.now c.intern.new.self c.parse.new.names c.in_ok-functions.functions first.0 c.in_ok-functions.ensures.ok c.in_ok-functions.ensures.few c.in_ok-functions.ensures.names) first.1
+    (types_refused c.args.source.now c.parse.new.names c.in_ok-functions.functions c.in_err-check.field-0.0
+    (has_functions c.args.source.now c.args.names.now c.parse.new.names c.in_ok-functions.functions c.requires.empty c.in_ok-functions.ensures.ok c.in_ok-functions.ensures.few c.in_ok-functions.ensures.names)
     (rw c.as_slice.ensures at c.in_err-check.ensures.answers))
 
 pub returns-clause-ok : goal.returns-clause-ok
 returns-clause-ok c =
-    let first = first_names c.args.names.now c.intern.new.self c.in_ok-result.result c.requires.empty c.in_ok-result.ensures.named c.in_ok-result.ensures.one c.in_ok-result.ensures.grown in
-    typed_as c.args.source.now c.parse.new.names c.in_ok-functions.functions c.in_ok-result.result c.in_ok-check.field-0
-    (has_functions c.args.source.now c.intern.new.self c.parse.new.names c.in_ok-functions.functions first.0 c.in_ok-functions.ensures.ok c.in_ok-functions.ensures.few c.in_ok-functions.ensures.names) first.1
+    typed_as c.args.source.now c.parse.new.names c.in_ok-functions.functions c.in_ok-check.field-0
+    (has_functions c.args.source.now c.args.names.now c.parse.new.names c.in_ok-functions.functions c.requires.empty c.in_ok-functions.ensures.ok c.in_ok-functions.ensures.few c.in_ok-functions.ensures.names)
     (rw c.as_slice.ensures at c.in_ok-check.ensures.answers)

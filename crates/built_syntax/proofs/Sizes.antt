@@ -1,0 +1,39 @@
+-- The parts of lists of expressions and statements are smaller than these, and what is built of them part by part.
+use Rattle.std.proofs.Common.{◌≡◌, ℕ, zero, suc, ◌<◌, List, [], ◌∷◌, length, get_or, arith, refl, ap, Result}
+use Rattle.rs_syntax.specs.declared.expr.Stmt.{Stmt}
+use Rattle.rs_syntax.specs.Expr.{Expr}
+use Rattle.rs_syntax.specs.ExprView.{expr_size, exprs_size, stmts_size, exprs_of, stmts_of}
+use Rattle.built_syntax.specs.declared.expr.Stmt.{Stmt as BuiltStmt}
+use Rattle.built_syntax.specs.Built.{each}
+use Rattle.built_syntax.specs.BuiltExprs.{built_expr, built_exprs, built_stmts, stmt_by}
+
+smaller : (es : List Expr) (i : ℕ) (d : Expr) → i < length es → expr_size (get_or es i d) < exprs_size (exprs_of es)
+smaller [] i d h = absurd (omega arith)
+smaller (e ∷ es) zero d h = omega arith
+smaller (e ∷ es) (suc i) d h = omega (arith, smaller es i d (omega arith))
+
+pub each_smaller : (es : List Expr) (i : ℕ) (e : Expr) → e ≡ get_or es i e → i < length es → expr_size e < exprs_size (exprs_of es)
+each_smaller es i e q h = rw q (smaller es i e h)
+
+value_smaller : (ss : List Stmt) (i : ℕ) (d : Stmt) → i < length ss → expr_size (get_or ss i d).value < stmts_size (stmts_of ss)
+value_smaller [] i d h = absurd (omega arith)
+value_smaller (s ∷ ss) zero d h = omega arith
+value_smaller (s ∷ ss) (suc i) d h = omega (arith, value_smaller ss i d (omega arith))
+
+pub stmt_smaller : (ss : List Stmt) (i : ℕ) (s : Stmt) → s ≡ get_or ss i s → i < length ss → expr_size s.value < stmts_size (stmts_of ss)
+stmt_smaller ss i s q h = let f : Stmt → ℕ = λ s. expr_size s.value in omega (arith, ap f q, value_smaller ss i s h)
+
+pub ruleset parts = (each_smaller, stmt_smaller)
+
+-- ---- part by part
+
+abbrev pub stmt_of : Stmt → Result BuiltStmt ℕ
+stmt_of s = stmt_by s.kind (built_expr s.value)
+
+pub exprs_each : (es : List Expr) → built_exprs (exprs_of es) ≡ each built_expr es
+exprs_each [] = refl
+exprs_each (e ∷ es) = rw (exprs_each es) refl
+
+pub stmts_each : (ss : List Stmt) → built_stmts (stmts_of ss) ≡ each stmt_of ss
+stmts_each [] = refl
+stmts_each (s ∷ ss) = rw (stmts_each ss) refl

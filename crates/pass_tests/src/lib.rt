@@ -1,0 +1,11 @@
+//! Tests of the passes over a source: trees, types, bodies and verdicts.
+#![tactic(auto)]
+
+#[cfg(test)]
+mod functions;
+#[cfg(test)]
+mod lowering;
+#[cfg(test)]
+mod types;
+#[cfg(test)]
+mod verdicts;

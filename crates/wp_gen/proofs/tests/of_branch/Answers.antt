@@ -1,5 +1,0 @@
-use Rattle.wp_gen.proofs.SampleLemmas.{branching_can_walk}
-use Rattle.wp_gen.proofs.tests.of_branch.Goals as goal
-
-pub obligations-requires : goal.obligations-requires
-obligations-requires c = branching_can_walk _ _ _ _ _ c.in_ok-body.ensures

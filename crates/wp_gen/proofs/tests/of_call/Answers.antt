@@ -1,7 +1,0 @@
-use Rattle.std.proofs.Common.{◌∙◌, ap}
-use Rattle.std.specs.Prelude.{slice_get}
-use Rattle.wp_gen.proofs.SampleLemmas.{calling_can_walk}
-use Rattle.wp_gen.proofs.tests.of_call.Goals as goal
-
-pub obligations-requires : goal.obligations-requires
-obligations-requires c = calling_can_walk _ _ _ _ _ c.in_ok-body.ensures (ap (λ cs. slice_get cs 0) (c.as_slice.ensures ∙ c.in_ok-contracts.ensures))
