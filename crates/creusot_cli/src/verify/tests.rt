@@ -186,7 +186,7 @@ fn forms_that_are_not_built_are_refused(rt: HostRuntime) -> Result<(), Fail> {
         (b"fn f() { let (a, b) = 1; }", b"error E20 13..14 line 1\n"),
         (
             b"fn f(x: i32) -> u8 { x as u8 }",
-            b"error E20 23..25 line 1\n",
+            b"error E20 21..22 line 1\n",
         ),
         (b"fn f() { return }", b"error E20 9..15 line 1\n"),
         // Behind what is passed over, and attributes at their `#`.
