@@ -32,6 +32,6 @@ pub use pattern::{FieldPat, Pat, PatNode};
 pub use pterm::{Arm, FieldTerm, Pterm, PtermNode};
 pub use reader::parse_term;
 pub use types::{TypeNode, TypeTree};
-pub use value::{Piece, Value};
+pub use value::{Piece, Value, joined};
 pub use word::{Word, WordKind};
 pub use words::words_of;

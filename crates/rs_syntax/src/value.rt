@@ -1,6 +1,5 @@
 //! What the parts of a source are worth while it is read.
 ghost use Rattle.std.specs.Prelude.{◌≡◌, IfOk};
-ghost use Rattle.pearlite.specs.Values.{joined};
 ghost use Rattle.rs_syntax.specs.Values.{extent_of, reach_of, first, others, plain_of, wrapped};
 
 use crate::attribute::{Attribute, AttributeNode};
@@ -14,7 +13,7 @@ use crate::item::{
 use crate::operator::LazyOp;
 use crate::param::{Param, ParamNode};
 use logic_term::{BinaryOp, IntKind};
-use pearlite::{Pat, Piece as PlainPiece, Segment, TypeTree, Value as PlainValue};
+use pearlite::{Pat, Piece as PlainPiece, Segment, TypeTree, Value as PlainValue, joined};
 use std::alloc::Global;
 use std::collections::VecDeque;
 use text_core::{Items, NoMemory, Span};
@@ -111,22 +110,6 @@ pub const NOWHERE: Span = Span { start: 0, end: 0 };
 
 /// A piece that nothing needs; the one place where its parts are freed.
 pub fn discard(_piece: Piece) {}
-
-/// From the start of the one to the end of the other.
-pub fn joined(one: Option<Span>, other: Option<Span>) -> Option<Span>
-    ensures { result ≡ joined one other }
-{
-    match one {
-        None => other,
-        Some(one) => match other {
-            None => Some(one),
-            Some(other) => Some(Span {
-                start: one.start,
-                end: other.end,
-            }),
-        },
-    }
-}
 
 /// From the start of what is so far to the end of the last of the values.
 #[tactic(auto, unfolding(crate::specs::Values::extent_of))]
