@@ -4,27 +4,36 @@ use std::test::Fail;
 
 #[test]
 fn names_stand_for_texts(rt: HostRuntime) -> Result<(), Fail> {
-    let mut names = Names::new(rt.alloc());
-    let x = names.intern(rt.alloc(), "x")?;
-    let y = names.intern(rt.alloc(), "Options")?;
-    assert_eq!(rt; x, Name(27));
-    assert_eq!(rt; y, Name(28));
-    assert_eq!(rt; names.intern(rt.alloc(), "x")?, x);
-    assert_eq!(rt; names.intern(rt.alloc(), "i32")?, I32);
-    assert_eq!(rt; names.intern(rt.alloc(), "Option")?, OPTION);
-    for (name, want) in [
-        (x, Some("x")),
-        (y, Some("Options")),
-        (I32, Some("i32")),
-        (OPTION, Some("Option")),
-        (REPLACE, Some("replace")),
-        (Name(29), None),
-        (Name::fresh(0), None),
-        (Name::fresh(27), None),
-    ] {
+    let alloc = rt.alloc();
+    let mut names = Names::new(alloc);
+    let got = [
+        names.intern(alloc, "x")?,
+        names.intern(alloc, "Options")?,
+        names.intern(alloc, "x")?,
+        names.intern(alloc, "i32")?,
+    ];
+    assert_eq!(rt; got, [Name(27), Name(28), Name(27), I32]);
+    assert_eq!(rt; names.text(Name(27)), Some("x"));
+    assert_eq!(rt; names.text(Name(28)), Some("Options"));
+    Ok(())
+}
+
+/// What stands for a text before any is given, and what never does.
+const TEXTS: [(Name, Option<&str>); 6] = [
+    (I32, Some("i32")),
+    (OPTION, Some("Option")),
+    (REPLACE, Some("replace")),
+    (Name(29), None),
+    (Name(9223372036854775808), None),
+    (Name(9223372036854775835), None),
+];
+
+#[test]
+fn words_have_their_names(rt: HostRuntime) {
+    let names = Names::new(rt.alloc());
+    for (name, want) in TEXTS {
         assert_eq!(rt; names.text(name), want);
     }
-    Ok(())
 }
 
 #[test]
@@ -58,19 +67,25 @@ fn texts_are_compared_by_bytes(rt: HostRuntime) -> Result<(), Fail> {
 
 #[test]
 fn items_keep_their_order(rt: HostRuntime) -> Result<(), Fail> {
-    let mut items = Items::from_slice(rt.alloc(), &[3, 4])?;
-    items.push(5u8)?;
+    let mut items = Items::new(rt.alloc());
+    assert!(rt; items.is_empty());
+    items.push(3u8)?;
+    items.push(4)?;
     items.set(0, 7);
-    assert_eq!(rt; items.as_slice(), [7, 4, 5].as_slice());
-    assert_eq!(rt; items.len(), 3);
-    assert_eq!(rt; items.get(1).copied(), Some(4));
-    assert_eq!(rt; items.get(3).copied(), None);
-    assert_eq!(rt; items.pop(), Some(5));
-    let items = Items::from_vec(items.into_vec());
     assert_eq!(rt; items.as_slice(), [7, 4].as_slice());
-    assert!(rt; !items.is_empty());
-    let mut empty: Items<u8> = Items::new(rt.alloc());
-    assert!(rt; empty.is_empty());
-    assert_eq!(rt; empty.pop(), None);
+    assert_eq!(rt; items.len(), 2);
+    assert_eq!(rt; items.get(1).copied(), Some(4));
+    assert_eq!(rt; items.get(2).copied(), None);
+    Ok(())
+}
+
+#[test]
+fn items_are_those_of_a_vec(rt: HostRuntime) -> Result<(), Fail> {
+    let items = Items::from_slice(rt.alloc(), &[7, 4])?;
+    let mut items = Items::from_vec(items.into_vec());
+    assert_eq!(rt; items.pop(), Some(4));
+    assert_eq!(rt; items.pop(), Some(7));
+    assert!(rt; items.is_empty());
+    assert_eq!(rt; items.pop(), None);
     Ok(())
 }
