@@ -69,18 +69,20 @@ fn minus_two() -> Term {
     Term::integer(-2)
 }
 
+const ARITHMETIC: [(ArithOp, &[u8]); 5] = [
+    (ArithOp::Add, b"(1 + (-2))"),
+    (ArithOp::Sub, b"(1 - (-2))"),
+    (ArithOp::Mul, b"(1 * (-2))"),
+    (ArithOp::Div, b"(1 / (-2))"),
+    (ArithOp::Rem, b"(1 % (-2))"),
+];
+
 #[test]
 fn arithmetic(rt: HostRuntime) -> Result<(), Fail> {
     let alloc = rt.alloc();
-    for (op, wanted) in [
-        (ArithOp::Add, b"(1 + (-2))"),
-        (ArithOp::Sub, b"(1 - (-2))"),
-        (ArithOp::Mul, b"(1 * (-2))"),
-        (ArithOp::Div, b"(1 / (-2))"),
-        (ArithOp::Rem, b"(1 % (-2))"),
-    ] {
+    for (op, wanted) in ARITHMETIC {
         let goal = Term::calculate(alloc, op, one(), minus_two())?;
-        assert_eq!(rt; goal_text(alloc, &goal)?.as_slice(), wanted.as_slice());
+        assert_eq!(rt; goal_text(alloc, &goal)?.as_slice(), wanted);
     }
     Ok(())
 }
@@ -123,25 +125,27 @@ fn operators_of_truths(rt: HostRuntime) -> Result<(), Fail> {
     Ok(())
 }
 
+const LITERALS: [(i128, IntKind, &[u8]); 10] = [
+    (5, IntKind::I8, b"5i8"),
+    (5, IntKind::I16, b"5i16"),
+    (-5, IntKind::I32, b"(-5i32)"),
+    (-5, IntKind::I64, b"(-5i64)"),
+    (0, IntKind::Isize, b"0isize"),
+    (5, IntKind::U8, b"5u8"),
+    (5, IntKind::U16, b"5u16"),
+    (5, IntKind::U32, b"5u32"),
+    (
+        18446744073709551615,
+        IntKind::U64,
+        b"18446744073709551615u64",
+    ),
+    (0, IntKind::Usize, b"0usize"),
+];
+
 #[test]
 fn literals(rt: HostRuntime) -> Result<(), Fail> {
     let alloc = rt.alloc();
-    for (number, kind, wanted) in [
-        (5, IntKind::I8, b"5i8".as_slice()),
-        (5, IntKind::I16, b"5i16".as_slice()),
-        (-5, IntKind::I32, b"(-5i32)".as_slice()),
-        (-5, IntKind::I64, b"(-5i64)".as_slice()),
-        (0, IntKind::Isize, b"0isize".as_slice()),
-        (5, IntKind::U8, b"5u8".as_slice()),
-        (5, IntKind::U16, b"5u16".as_slice()),
-        (5, IntKind::U32, b"5u32".as_slice()),
-        (
-            18446744073709551615,
-            IntKind::U64,
-            b"18446744073709551615u64".as_slice(),
-        ),
-        (0, IntKind::Usize, b"0usize".as_slice()),
-    ] {
+    for (number, kind, wanted) in LITERALS {
         let literal = Term::lit(number, Ty::int(kind));
         assert_eq!(rt; goal_text(alloc, &literal)?.as_slice(), wanted);
     }
@@ -171,21 +175,19 @@ fn made_text(alloc: Global, ctor: Ctor, parts: usize) -> Result<Vec<u8>, NoMemor
     goal_text(alloc, &Term::made(ctor, terms))
 }
 
+const VALUES: [(Ctor, usize, &[u8]); 6] = [
+    (Ctor::Tuple, 0, b"()"),
+    (Ctor::Tuple, 1, b"(true,)"),
+    (Ctor::Tuple, 3, b"(true, false, false)"),
+    (Ctor::Closure(7), 0, b"closure()"),
+    (Ctor::Closure(7), 2, b"closure(true, false)"),
+    (Ctor::Variant(AdtId(3), 1), 1, b"declared3::1(true)"),
+];
+
 #[test]
 fn values(rt: HostRuntime) -> Result<(), Fail> {
     let alloc = rt.alloc();
-    for (ctor, parts, wanted) in [
-        (Ctor::Tuple, 0, b"()".as_slice()),
-        (Ctor::Tuple, 1, b"(true,)".as_slice()),
-        (Ctor::Tuple, 3, b"(true, false, false)".as_slice()),
-        (Ctor::Closure(7), 0, b"closure()".as_slice()),
-        (Ctor::Closure(7), 2, b"closure(true, false)".as_slice()),
-        (
-            Ctor::Variant(AdtId(3), 1),
-            1,
-            b"declared3::1(true)".as_slice(),
-        ),
-    ] {
+    for (ctor, parts, wanted) in VALUES {
         assert_eq!(rt; made_text(alloc, ctor, parts)?.as_slice(), wanted);
     }
     Ok(())
@@ -212,14 +214,16 @@ fn boxed(alloc: Global) -> Result<Box<Ty>, NoMemory> {
     Ok(Box::new(alloc, Ty::bool())?)
 }
 
+const TUPLES: [(usize, &[u8]); 3] = [
+    (0, b"(forall<v1: ()> true)"),
+    (1, b"(forall<v1: (Int,)> true)"),
+    (2, b"(forall<v1: (Int, bool)> true)"),
+];
+
 #[test]
 fn tuple_sorts(rt: HostRuntime) -> Result<(), Fail> {
     let alloc = rt.alloc();
-    for (parts, wanted) in [
-        (0, b"(forall<v1: ()> true)".as_slice()),
-        (1, b"(forall<v1: (Int,)> true)".as_slice()),
-        (2, b"(forall<v1: (Int, bool)> true)".as_slice()),
-    ] {
+    for (parts, wanted) in TUPLES {
         let node = TyNode::Tuple(sorts(alloc, parts)?);
         assert_eq!(rt; sort_text(alloc, node)?.as_slice(), wanted);
     }

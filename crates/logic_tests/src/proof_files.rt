@@ -61,6 +61,11 @@ fn step_of(file: &ProofFile, proof: usize, at: usize) -> Option<&Step> {
     Some(&step.step)
 }
 
+/// Whether the proof is one of `inc`, with this number, and ends on this line.
+fn is_of_inc(proof: &Proof, number: u32, end: u32) -> bool {
+    proof.number == number && proof.end == end && proof.owner.bytes() == b"inc".as_slice()
+}
+
 fn is_hyp(step: Option<&Step>, label: Label2) -> bool {
     match step {
         Some(Step::Hyp(of)) => *of == label,
@@ -75,12 +80,17 @@ fn two_proofs(rt: HostRuntime) -> Result<(), Fail> {
     assert_eq!(rt; file.proofs.len(), 2);
     let first = file.proofs.get(0).ok_or("no proof")?;
     let second = file.proofs.get(1).ok_or("one proof")?;
-    assert_eq!(rt; (first.number, first.end), (1, 8));
-    assert_eq!(rt; (second.number, second.end), (2, 12));
-    assert_eq!(rt; first.owner.bytes(), b"inc".as_slice());
-    assert_eq!(rt; second.owner.bytes(), b"inc".as_slice());
+    assert!(rt; is_of_inc(first, 1, 8));
+    assert!(rt; is_of_inc(second, 2, 12));
     assert!(rt; lines_are(first, &[3, 4, 5, 6, 7]));
     assert!(rt; lines_are(second, &[10, 11]));
+    Ok(())
+}
+
+#[test]
+fn steps_of_two_proofs(rt: HostRuntime) -> Result<(), Fail> {
+    let mut names = Names::new(rt.alloc());
+    let file = read_proofs(rt.alloc(), TWO.as_bytes(), &mut names)?;
     assert!(rt; names_are(step_of(&file, 1, 0), &[Name(27), Name(28)]));
     assert!(rt; is_hyp(step_of(&file, 1, 1), Label2 { step: 1, part: 2 }));
     let of = Reference::Hyp(Label2 { step: 2, part: 1 });
@@ -92,63 +102,69 @@ fn two_proofs(rt: HostRuntime) -> Result<(), Fail> {
     Ok(())
 }
 
+const READ: [&str; 5] = [
+    TWO,
+    "creusot-proofs 1\n",
+    "creusot-proofs 1\n# one\n\nproof 0 _a\n# two \u{e9}\nintro\n\nend\n#\n",
+    "creusot-proofs 1\nproof 4294967295 x\nlin -0:goal 0:-0.0 -170141183460469231731687303715884105728:1.1 170141183460469231731687303715884105727:goal\nend\n",
+    "creusot-proofs 1\nproof 1 x\nend\nproof 1 y\nend\nproof 2 x\nend\n",
+];
+
 #[test]
 fn what_is_read(rt: HostRuntime) {
-    for text in [
-        TWO,
-        "creusot-proofs 1\n",
-        "creusot-proofs 1\n# one\n\nproof 0 _a\n# two \u{e9}\nintro\n\nend\n#\n",
-        "creusot-proofs 1\nproof 4294967295 x\nlin -0:goal 0:-0.0 -170141183460469231731687303715884105728:1.1 170141183460469231731687303715884105727:goal\nend\n",
-        "creusot-proofs 1\nproof 1 x\nend\nproof 1 y\nend\nproof 2 x\nend\n",
-    ] {
+    for text in READ {
         assert_eq!(rt; bad_line(rt.alloc(), text), 0, "{text}");
     }
 }
 
+const BAD_LINES: [(&str, u32); 20] = [
+    ("", 1),
+    ("creusot-proofs 1", 1),
+    ("creusot-proofs 2\n", 1),
+    ("# no\ncreusot-proofs 1\n", 1),
+    ("\ncreusot-proofs 1\n", 1),
+    ("creusot-proofs 1\nproof 1 x\n", 3),
+    ("creusot-proofs 1\nproof 1 x\nend", 3),
+    ("creusot-proofs 1\n#", 2),
+    ("creusot-proofs 1\nproof 01 x\nend\n", 2),
+    ("creusot-proofs 1\nproof 4294967296 x\nend\n", 2),
+    ("creusot-proofs 1\nproof 1 fn\nend\n", 2),
+    ("creusot-proofs 1\nproof 1 1x\nend\n", 2),
+    ("creusot-proofs 1\nproof 1 _\nend\n", 2),
+    ("creusot-proofs 1\nproof 1  x\nend\n", 2),
+    ("creusot-proofs 1\nproof 1 x \nend\n", 2),
+    ("creusot-proofs 1\r\n", 1),
+    ("creusot-proofs 1\nproof 1 x\nend\nproof 1 x\nend\n", 4),
+    ("creusot-proofs 1\nproof 1 x\nproof 2 x\nend\n", 3),
+    ("creusot-proofs 1\nend\n", 2),
+    ("creusot-proofs 1\nsplit\n", 2),
+];
+
 #[test]
 fn first_bad_lines(rt: HostRuntime) {
-    for (text, want) in [
-        ("", 1),
-        ("creusot-proofs 1", 1),
-        ("creusot-proofs 2\n", 1),
-        ("# no\ncreusot-proofs 1\n", 1),
-        ("\ncreusot-proofs 1\n", 1),
-        ("creusot-proofs 1\nproof 1 x\n", 3),
-        ("creusot-proofs 1\nproof 1 x\nend", 3),
-        ("creusot-proofs 1\n#", 2),
-        ("creusot-proofs 1\nproof 01 x\nend\n", 2),
-        ("creusot-proofs 1\nproof 4294967296 x\nend\n", 2),
-        ("creusot-proofs 1\nproof 1 fn\nend\n", 2),
-        ("creusot-proofs 1\nproof 1 1x\nend\n", 2),
-        ("creusot-proofs 1\nproof 1 _\nend\n", 2),
-        ("creusot-proofs 1\nproof 1  x\nend\n", 2),
-        ("creusot-proofs 1\nproof 1 x \nend\n", 2),
-        ("creusot-proofs 1\r\n", 1),
-        ("creusot-proofs 1\nproof 1 x\nend\nproof 1 x\nend\n", 4),
-        ("creusot-proofs 1\nproof 1 x\nproof 2 x\nend\n", 3),
-        ("creusot-proofs 1\nend\n", 2),
-        ("creusot-proofs 1\nsplit\n", 2),
-    ] {
+    for (text, want) in BAD_LINES {
         assert_eq!(rt; bad_line(rt.alloc(), text), want, "{text}");
     }
 }
 
+const BAD_STEPS: [&str; 12] = [
+    "creusot-proofs 1\nproof 1 x\nrange x\nrange x\nsplit\nlin 1 goal\nend\n",
+    "creusot-proofs 1\nproof 1 x\nrange x\nrange x\nsplit\nlin 01:goal\nend\n",
+    "creusot-proofs 1\nproof 1 x\nrange x\nrange x\nsplit\nlin +1:goal\nend\n",
+    "creusot-proofs 1\nproof 1 x\nrange x\nrange x\nsplit\nlin -01:goal\nend\n",
+    "creusot-proofs 1\nproof 1 x\nrange x\nrange x\nsplit\nlin 170141183460469231731687303715884105728:goal\nend\n",
+    "creusot-proofs 1\nproof 1 x\nrange x\nrange x\nsplit\nlin\nend\n",
+    "creusot-proofs 1\nproof 1 x\nrange x\nrange x\nsplit\nlin 1:1.01\nend\n",
+    "creusot-proofs 1\nproof 1 x\nrange x\nrange x\nsplit\nhyp 1\nend\n",
+    "creusot-proofs 1\nproof 1 x\nrange x\nrange x\nsplit\nhyp 1.2 1.3\nend\n",
+    "creusot-proofs 1\nproof 1 x\nrange x\nrange x\nsplit\nsplit x\nend\n",
+    "creusot-proofs 1\nproof 1 x\nrange x\nrange x\nsplit\nsolve\nend\n",
+    "creusot-proofs 1\nproof 1 x\nrange x\nrange x\nsplit\nintro \u{e9}\nend\n",
+];
+
 #[test]
 fn bad_steps(rt: HostRuntime) {
-    for text in [
-        "creusot-proofs 1\nproof 1 x\nrange x\nrange x\nsplit\nlin 1 goal\nend\n",
-        "creusot-proofs 1\nproof 1 x\nrange x\nrange x\nsplit\nlin 01:goal\nend\n",
-        "creusot-proofs 1\nproof 1 x\nrange x\nrange x\nsplit\nlin +1:goal\nend\n",
-        "creusot-proofs 1\nproof 1 x\nrange x\nrange x\nsplit\nlin -01:goal\nend\n",
-        "creusot-proofs 1\nproof 1 x\nrange x\nrange x\nsplit\nlin 170141183460469231731687303715884105728:goal\nend\n",
-        "creusot-proofs 1\nproof 1 x\nrange x\nrange x\nsplit\nlin\nend\n",
-        "creusot-proofs 1\nproof 1 x\nrange x\nrange x\nsplit\nlin 1:1.01\nend\n",
-        "creusot-proofs 1\nproof 1 x\nrange x\nrange x\nsplit\nhyp 1\nend\n",
-        "creusot-proofs 1\nproof 1 x\nrange x\nrange x\nsplit\nhyp 1.2 1.3\nend\n",
-        "creusot-proofs 1\nproof 1 x\nrange x\nrange x\nsplit\nsplit x\nend\n",
-        "creusot-proofs 1\nproof 1 x\nrange x\nrange x\nsplit\nsolve\nend\n",
-        "creusot-proofs 1\nproof 1 x\nrange x\nrange x\nsplit\nintro \u{e9}\nend\n",
-    ] {
+    for text in BAD_STEPS {
         assert_eq!(rt; bad_line(rt.alloc(), text), 6, "{text}");
     }
 }
