@@ -6,7 +6,7 @@ use Rattle.logic_term.specs.Term.{every, Term, bind, var, implies, forall}
 use Rattle.logic_term.specs.Subst.{replaced}
 use Rattle.proof_kernel.specs.declared.sequent.Sequent.{Sequent}
 use Rattle.proof_kernel.specs.declared.rules.Lead.{Lead}
-use Rattle.proof_kernel.specs.declared.rules.Lead.TheVariants.{Premise, Variable, Nothing}
+use Rattle.proof_kernel.specs.declared.rules.Lead.TheVariants.{Premise, Other}
 use Rattle.proof_kernel.specs.Rules.{IsNew, declaring, is_implication}
 
 abbrev pub is_quantified : Term → Bool
@@ -15,8 +15,11 @@ is_quantified t = false
 
 abbrev pub IsLead : Term → Lead → Type 0
 IsLead goal (Premise a b) = goal ≡ implies a b
-IsLead goal (Variable x s t) = goal ≡ forall x s t
-IsLead goal (Nothing t) = (t ≡ goal) × (is_implication goal ≡ false) × (is_quantified goal ≡ false)
+IsLead goal (Other t) = (t ≡ goal) × (is_implication goal ≡ false)
+
+-- a quantifier of this sort leads the goal, and this is its body at the name
+abbrev pub IsOpened : Name → Term → Ty × Term → Type 0
+IsOpened x goal p = (y : Name) × (b : Term) × (goal ≡ forall y p.0 b) × (p.1 ≡ replaced y (var x) b)
 
 -- the name is taken for the variable of the quantifier that leads the goal
 abbrev pub IsDeclared : Name → Sequent → Sequent → Type 0

@@ -6,8 +6,8 @@ ghost use Rattle.logic_term.specs.Subst.{SameUpToNames};
 ghost use Rattle.logic_term.specs.Term.{Term as Tree};
 ghost use Rattle.text_core.specs.declared.name.Name.{Name};
 ghost use Rattle.proof_kernel.specs.declared.sequent.Sequent.{Sequent};
-ghost use Rattle.proof_kernel.specs.Leads.{IsLead, IsStuck, IsDeclared};
-ghost use Rattle.proof_kernel.specs.Rules.{hypothesis, sort_of, with_goal, is_implication, is_conjunction, conjuncts, lower_bound, upper_bound, ranged, Intros, TakesSome};
+ghost use Rattle.proof_kernel.specs.Leads.{is_quantified, IsLead, IsOpened, IsStuck, IsDeclared};
+ghost use Rattle.proof_kernel.specs.Rules.{hypothesis, sort_of, with_goal, is_implication, is_conjunction, conjuncts, lower_bound, upper_bound, ranged, declaring, Intros, TakesSome};
 
 use crate::sequent::{Sequent, hypothesis_of, sort_of_var};
 use logic_term::{IntKind, Label2, Sort, Term, TermNode, TyNode};
@@ -144,6 +144,14 @@ fn upper_bound_of(alloc: Global, kind: IntKind, name: Name) -> Result<Term, NoMe
     Term::at_most(alloc, model, Term::integer(kind.highest()))
 }
 
+/// The sequent with one more hypothesis.
+fn with_hyp(mut q: Sequent, label: Label2, hyp: Term) -> Result<Sequent, NoMemory>
+    ensures { IfOk result (λ r. r ≡ record { vars = q.vars; hyps = q.hyps ++ (label, hyp) ∷ []; goal = q.goal }) }
+{
+    q.hyps.push((label, hyp))?;
+    Ok(q)
+}
+
 fn with_bounds(
     alloc: Global,
     step: u32,
@@ -153,14 +161,10 @@ fn with_bounds(
 ) -> Result<Sequent, NoMemory>
     ensures { IfOk result (λ p. p ≡ ranged step kind name q.now) }
 {
-    let Sequent {
-        vars,
-        mut hyps,
-        goal,
-    } = q.copy(alloc)?;
-    hyps.push((Label2 { step, part: 1 }, lower_bound_of(alloc, kind, name)?))?;
-    hyps.push((Label2 { step, part: 2 }, upper_bound_of(alloc, kind, name)?))?;
-    Ok(Sequent { vars, hyps, goal })
+    let lower = lower_bound_of(alloc, kind, name)?;
+    let upper = upper_bound_of(alloc, kind, name)?;
+    let q = with_hyp(q.copy(alloc)?, Label2 { step, part: 1 }, lower)?;
+    with_hyp(q, Label2 { step, part: 2 }, upper)
 }
 
 /// The sequent with the bounds of the variable; `None` exactly where it is no variable of a machine type.
@@ -226,8 +230,7 @@ fn assume(
 #[derive(Drop)]
 enum Lead {
     Premise(Term, Term),
-    Variable(Name, Sort, Term),
-    Nothing(Term),
+    Other(Term),
 }
 
 fn lead_of(goal: Term) -> Lead
@@ -236,8 +239,7 @@ fn lead_of(goal: Term) -> Lead
     let Term { node } = goal;
     match node {
         TermNode::Implies(a, b) => Lead::Premise(Box::into_inner(a), Box::into_inner(b)),
-        TermNode::Forall(name, sort, body) => Lead::Variable(name, sort, Box::into_inner(body)),
-        node => Lead::Nothing(Term { node }),
+        node => Lead::Other(Term { node }),
     }
 }
 
@@ -247,9 +249,6 @@ fn strip(alloc: Global, step: u32, part: u32, q: Sequent) -> Result<Stripped, No
     ensures rest { IfOk result (λ r. is_implication r.q.goal ≡ false) }
     ensures same { IfOk result (λ r. (names : List Name) (p : Sequent) → Intros step part names q p ↔ Intros step r.part names r.q p) }
 {
-    if !is_implies(&q.goal) {
-        return Ok(Stripped { q, part });
-    }
     let Sequent { vars, hyps, goal } = q;
     match lead_of(goal) {
         Lead::Premise(premise, goal) => {
@@ -257,9 +256,33 @@ fn strip(alloc: Global, step: u32, part: u32, q: Sequent) -> Result<Stripped, No
             let rest = assume(Label2 { step, part }, vars, hyps, premise, goal)?;
             strip(alloc, step, next, rest)
         }
-        Lead::Variable(_, _, _) => unreachable!(),
-        Lead::Nothing(_) => unreachable!(),
+        Lead::Other(goal) => {
+            let q = Sequent { vars, hyps, goal };
+            Ok(Stripped { q, part })
+        }
     }
+}
+
+/// The sort of the quantifier that leads the goal, and its body at this name; `None` where none leads it.
+fn opened(alloc: Global, name: Name, goal: &Term) -> Result<Option<(Sort, Term)>, NoMemory>
+    ensures { IfOk result (λ o. MatchOption o (is_quantified goal.now ≡ false) (IsOpened name goal.now)) }
+{
+    match &goal.node {
+        TermNode::Forall(bound, sort, body) => {
+            let body = body.replaced(alloc, *bound, &Term::var(name))?;
+            Ok(Some((sort.copy(alloc)?, body)))
+        }
+        _ => Ok(None),
+    }
+}
+
+/// The sequent with one more variable, and with another goal.
+fn with_variable(mut q: Sequent, name: Name, sort: Sort, goal: Term) -> Result<Sequent, NoMemory>
+    ensures { IfOk result (λ r. r ≡ declaring q name sort goal) }
+{
+    q.vars.push((name, sort))?;
+    q.goal = goal;
+    Ok(q)
 }
 
 /// The sequent with the quantifier that leads its goal taken off; `None` where none leads it, or the name is not new.
@@ -269,19 +292,9 @@ fn declare(alloc: Global, name: Name, q: Sequent) -> Result<Option<Sequent>, NoM
     if !q.is_new(name) {
         return Ok(None);
     }
-    let Sequent {
-        mut vars,
-        hyps,
-        goal,
-    } = q;
-    match lead_of(goal) {
-        Lead::Variable(bound, sort, body) => {
-            let goal = body.replaced(alloc, bound, &Term::var(name))?;
-            vars.push((name, sort))?;
-            Ok(Some(Sequent { vars, hyps, goal }))
-        }
-        Lead::Premise(_, _) => Ok(None),
-        Lead::Nothing(_) => Ok(None),
+    match opened(alloc, name, &q.goal)? {
+        None => Ok(None),
+        Some((sort, goal)) => Ok(Some(with_variable(q, name, sort, goal)?)),
     }
 }
 
