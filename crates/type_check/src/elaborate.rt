@@ -1,5 +1,5 @@
 ghost use Rattle.std.specs.Prelude.{◌≡◌, IfOk, None, map};
-ghost use Rattle.logic_term.specs.Term.{or};
+ghost use Rattle.logic_term.specs.Term.{model};
 ghost use Rattle.logic_term.specs.Ty.{bool, math_int};
 ghost use Rattle.built_syntax.specs.PtermView.{span_of};
 ghost use Rattle.type_check.specs.Answers.{Answers};
@@ -12,7 +12,8 @@ use crate::scope::{Variable, find_variable};
 use crate::sorted::SortedTerm;
 use crate::types::{bool_ty, fits, is_bool, is_math_int, math_int_ty, same_ty};
 use built_syntax::{Comparison, PassError, Pterm, PtermNode};
-use logic_term::{IntKind, Term, TermNode, Ty, TyNode};
+use logic_term::{IntKind, Term, Ty, TyNode};
+use rs_syntax::Boxed;
 use std::alloc::Global;
 use text_core::{Name, NoMemory, Span};
 
@@ -39,34 +40,40 @@ fn span_of(t: &Pterm) -> Span
     t.span
 }
 
-fn formula_of_sort(term: Term) -> SortedTerm
-    ensures { result ≡ sorted bool term }
+fn of_sort(alloc: Global, sort: Ty, term: Term) -> Result<SortedTerm, NoMemory>
+    ensures { IfOk result (λ t. t ≡ sorted sort term) }
 {
-    SortedTerm {
-        sort: bool_ty(),
-        term,
-    }
+    let term = Boxed::new(alloc, term)?;
+    Ok(SortedTerm { sort, term })
 }
 
-fn number_of_sort(term: Term) -> SortedTerm
-    ensures { result ≡ sorted math_int term }
+fn formula_of_sort(alloc: Global, term: Term) -> Result<SortedTerm, NoMemory>
+    ensures { IfOk result (λ t. t ≡ sorted bool term) }
 {
-    SortedTerm {
-        sort: math_int_ty(),
-        term,
-    }
+    of_sort(alloc, bool_ty(), term)
+}
+
+fn number_of_sort(alloc: Global, term: Term) -> Result<SortedTerm, NoMemory>
+    ensures { IfOk result (λ t. t ≡ sorted math_int term) }
+{
+    of_sort(alloc, math_int_ty(), term)
 }
 
 #[tactic(auto, unfolding(crate::specs::Terms::literal))]
-fn literal(number: i128, kind: Option<IntKind>, span: Span) -> Result<SortedTerm, PassError>
+fn literal(
+    alloc: Global,
+    number: i128,
+    kind: Option<IntKind>,
+    span: Span,
+) -> Result<SortedTerm, PassError>
     ensures { Answers result (literal span number kind) }
 {
     match kind {
-        None => Ok(number_of_sort(Term::integer(number))),
-        Some(kind) if fits(kind, number) => Ok(SortedTerm {
-            sort: Ty::int(kind),
-            term: Term::lit(number, Ty::int(kind)),
-        }),
+        None => Ok(number_of_sort(alloc, Term::integer(number))?),
+        Some(kind) if fits(kind, number) => {
+            let term = Term::lit(number, Ty::int(kind));
+            Ok(of_sort(alloc, Ty::int(kind), term)?)
+        }
         Some(_) => Err(mismatch(span)),
     }
 }
@@ -81,10 +88,10 @@ fn name_term(
     ensures { Answers result (name_term scope.now span name) }
 {
     match find_variable(alloc, name, scope)? {
-        Some(variable) => Ok(SortedTerm {
-            sort: variable.ty,
-            term: Term::var(variable_name(variable.place)),
-        }),
+        Some(variable) => {
+            let term = Term::var(variable_name(variable.place));
+            Ok(of_sort(alloc, variable.ty, term)?)
+        }
         None => Err(unknown_name(span)),
     }
 }
@@ -95,10 +102,7 @@ fn answer_term(alloc: Global, answer: &Option<Ty>, span: Span) -> Result<SortedT
     ensures { Answers result (answer_term answer.now span) }
 {
     match answer {
-        Some(ty) => Ok(SortedTerm {
-            sort: ty.copy(alloc)?,
-            term: Term::var(answer_name()),
-        }),
+        Some(ty) => Ok(of_sort(alloc, ty.copy(alloc)?, Term::var(answer_name()))?),
         None => Err(unknown_name(span)),
     }
 }
@@ -110,36 +114,43 @@ fn model_of(alloc: Global, span: Span, t: SortedTerm) -> Result<SortedTerm, Pass
 {
     let SortedTerm { sort, term } = t;
     match &sort.node {
-        TyNode::Int(_) => Ok(number_of_sort(Term::model(alloc, term)?)),
+        TyNode::Int(_) => {
+            let model = Term::model(alloc, term.into_inner())?;
+            Ok(number_of_sort(alloc, model)?)
+        }
         _ => Err(mismatch(span)),
     }
 }
 
 #[tactic(auto, unfolding(crate::specs::Terms::formula))]
-fn formula(span: Span, t: SortedTerm) -> Result<Term, PassError>
+fn formula(span: Span, t: SortedTerm) -> Result<Boxed<Term>, PassError>
     ensures { Answers result (formula span t) }
 {
-    if is_bool(&t.sort) {
-        Ok(t.term)
+    let SortedTerm { sort, term } = t;
+    if is_bool(&sort) {
+        Ok(term)
     } else {
         Err(mismatch(span))
     }
 }
 
 #[tactic(auto, unfolding(crate::specs::Terms::number))]
-fn number(span: Span, t: SortedTerm) -> Result<Term, PassError>
+fn number(span: Span, t: SortedTerm) -> Result<Boxed<Term>, PassError>
     ensures { Answers result (number span t) }
 {
-    if is_math_int(&t.sort) {
-        Ok(t.term)
+    let SortedTerm { sort, term } = t;
+    if is_math_int(&sort) {
+        Ok(term)
     } else {
         Err(mismatch(span))
     }
 }
 
-fn ordered(alloc: Global, op: Comparison, a: Term, b: Term) -> Result<Term, NoMemory>
+fn ordered(alloc: Global, op: Comparison, a: Boxed<Term>, b: Boxed<Term>) -> Result<Term, NoMemory>
     ensures { IfOk result (λ t. t ≡ ordered op a b) }
 {
+    let a = a.into_inner();
+    let b = b.into_inner();
     match op {
         Comparison::Lt => Term::less(alloc, a, b),
         Comparison::Le => Term::at_most(alloc, a, b),
@@ -156,22 +167,29 @@ fn is_ordering(op: Comparison) -> bool
     !matches!(op, Comparison::Eq | Comparison::Ne)
 }
 
+/// `t@`, of a machine integer.
+fn modelled(alloc: Global, t: Boxed<Term>) -> Result<Boxed<Term>, NoMemory>
+    ensures { IfOk result (λ m. m ≡ model t) }
+{
+    Boxed::new(alloc, Term::model(alloc, t.into_inner())?)
+}
+
 fn ordered_at(
     alloc: Global,
     sort: &Ty,
     op: Comparison,
     span: Span,
-    a: Term,
-    b: Term,
+    a: Boxed<Term>,
+    b: Boxed<Term>,
 ) -> Result<SortedTerm, PassError>
     ensures { Answers result (ordered_at sort.now op span a b) }
 {
     match &sort.node {
-        TyNode::MathInt => Ok(formula_of_sort(ordered(alloc, op, a, b)?)),
+        TyNode::MathInt => Ok(formula_of_sort(alloc, ordered(alloc, op, a, b)?)?),
         TyNode::Int(_) => {
-            let a = Term::model(alloc, a)?;
-            let b = Term::model(alloc, b)?;
-            Ok(formula_of_sort(ordered(alloc, op, a, b)?))
+            let a = modelled(alloc, a)?;
+            let b = modelled(alloc, b)?;
+            Ok(formula_of_sort(alloc, ordered(alloc, op, a, b)?)?)
         }
         _ => Err(mismatch(span)),
     }
@@ -187,21 +205,18 @@ fn compared(
 ) -> Result<SortedTerm, PassError>
     ensures { Answers result (compared op spans.0 spans.1 a b) }
 {
-    if !same_ty(&b.sort, &a.sort) {
+    let SortedTerm { sort, term: a } = a;
+    let SortedTerm {
+        sort: other,
+        term: b,
+    } = b;
+    if !same_ty(&other, &sort) {
         return Err(mismatch(spans.1));
     }
-    let SortedTerm { sort, term } = a;
     if is_ordering(op) {
-        return ordered_at(alloc, &sort, op, spans.0, term, b.term);
+        return ordered_at(alloc, &sort, op, spans.0, a, b);
     }
-    Ok(formula_of_sort(ordered(alloc, op, term, b.term)?))
-}
-
-fn or(alloc: Global, a: Term, b: Term) -> Result<Term, NoMemory>
-    ensures { IfOk result (λ t. t ≡ or a b) }
-{
-    let node = TermNode::Or(Box::new(alloc, a)?, Box::new(alloc, b)?);
-    Ok(Term { node })
+    Ok(formula_of_sort(alloc, ordered(alloc, op, a, b)?)?)
 }
 
 /// The term that a term of a contract becomes, with its sort. `answer` is the type of an answer that it may speak of.
@@ -215,25 +230,26 @@ fn elaborate(
     ensures { Answers result (elaborated answer.now scope.now t.now) }
 {
     match &t.node {
-        PtermNode::Int(number, kind) => literal(*number, *kind, t.span),
-        PtermNode::Truth(holds) => Ok(formula_of_sort(Term::truth(*holds))),
+        PtermNode::Int(number, kind) => literal(alloc, *number, *kind, t.span),
+        PtermNode::Truth(holds) => Ok(formula_of_sort(alloc, Term::truth(*holds))?),
         PtermNode::Answer => answer_term(alloc, answer, t.span),
         PtermNode::Name(name) => name_term(alloc, scope, t.span, *name),
         PtermNode::View(t) => model_of(alloc, span_of(t), elaborate(alloc, answer, scope, t)?),
         PtermNode::Neg(t) => {
             let t = number(span_of(t), elaborate(alloc, answer, scope, t)?)?;
-            Ok(number_of_sort(Term::negative(alloc, t)?))
+            Ok(number_of_sort(alloc, Term::negative(alloc, t.into_inner())?)?)
         }
         PtermNode::Not(t) => {
             let t = elaborate_formula(alloc, answer, scope, t)?;
-            Ok(formula_of_sort(Term::not(alloc, t)?))
+            Ok(formula_of_sort(alloc, Term::not(alloc, t.into_inner())?)?)
         }
         PtermNode::Arith(op, t, u) => {
             let a = elaborate(alloc, answer, scope, t)?;
             let b = elaborate(alloc, answer, scope, u)?;
             let a = number(span_of(t), a)?;
             let b = number(span_of(u), b)?;
-            Ok(number_of_sort(Term::calculate(alloc, *op, a, b)?))
+            let value = Term::calculate(alloc, *op, a.into_inner(), b.into_inner())?;
+            Ok(number_of_sort(alloc, value)?)
         }
         PtermNode::Compare(op, t, u) => {
             let a = elaborate(alloc, answer, scope, t)?;
@@ -243,17 +259,20 @@ fn elaborate(
         PtermNode::And(t, u) => {
             let a = elaborate_formula(alloc, answer, scope, t)?;
             let b = elaborate_formula(alloc, answer, scope, u)?;
-            Ok(formula_of_sort(Term::and(alloc, a, b)?))
+            let both = Term::and(alloc, a.into_inner(), b.into_inner())?;
+            Ok(formula_of_sort(alloc, both)?)
         }
         PtermNode::Or(t, u) => {
             let a = elaborate_formula(alloc, answer, scope, t)?;
             let b = elaborate_formula(alloc, answer, scope, u)?;
-            Ok(formula_of_sort(or(alloc, a, b)?))
+            let either = Term::or(alloc, a.into_inner(), b.into_inner())?;
+            Ok(formula_of_sort(alloc, either)?)
         }
         PtermNode::Implies(t, u) => {
             let a = elaborate_formula(alloc, answer, scope, t)?;
             let b = elaborate_formula(alloc, answer, scope, u)?;
-            Ok(formula_of_sort(Term::implies(alloc, a, b)?))
+            let implied = Term::implies(alloc, a.into_inner(), b.into_inner())?;
+            Ok(formula_of_sort(alloc, implied)?)
         }
     }
 }
@@ -265,7 +284,7 @@ fn elaborate_formula(
     answer: &Option<Ty>,
     scope: &[Variable],
     t: &Pterm,
-) -> Result<Term, PassError>
+) -> Result<Boxed<Term>, PassError>
     ensures { Answers result (asserted answer.now scope.now t.now) }
 {
     formula(span_of(t), elaborate(alloc, answer, scope, t)?)
@@ -281,7 +300,7 @@ pub(crate) fn assertion(
     ensures { IfOk result (λ a. a ≡ assertion answer.now scope.now t.now) }
 {
     match elaborate_formula(alloc, answer, scope, t) {
-        Ok(formula) => Ok(Assertion::Good(span_of(t), formula)),
+        Ok(formula) => Ok(Assertion::Good(span_of(t), formula.into_inner())),
         Err(PassError::Source(error)) => Ok(Assertion::Bad(error)),
         Err(_) => Err(NoMemory),
     }

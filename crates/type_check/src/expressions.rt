@@ -1,4 +1,5 @@
-ghost use Rattle.built_syntax.specs.ExprView.{exprs_of as written_exprs, span_of};
+ghost use Rattle.built_syntax.specs.Expr as written;
+ghost use Rattle.built_syntax.specs.ExprView.{exprs_of as written_exprs, span_of, stmts_of};
 ghost use Rattle.type_check.specs.Answers.{Answers};
 ghost use Rattle.type_check.specs.Opened.{AnswersAs, Opens};
 ghost use Rattle.type_check.specs.TypedExprView.{exprs_of};
@@ -17,9 +18,11 @@ use crate::typing::{
     as_name, assigned, branch, called, choice, denied, given_ty, is_bare, lazy, literal, negated,
     operated, order_of, param_ty, repeat, span_of, spans_at, target_ty, truth, updated, variable,
 };
-use built_syntax::{Expr, ExprNode, PassError, Stmt};
+use built_syntax::{Expr, ExprNode, LazyOp, PassError, Pterm, Stmt};
 use logic_term::Ty;
+use rs_syntax::Boxed;
 use std::alloc::Global;
+use text_core::{Name, Span};
 
 /// The expression with its type: the expected one, where there is one.
 #[cycle(type_expr)]
@@ -30,13 +33,13 @@ pub(crate) fn type_expr(
     scope: &[Variable],
     e: &Expr,
     expected: &Option<Ty>,
-) -> Result<TypedExpr, PassError>
+) -> Result<Boxed<TypedExpr>, PassError>
     ensures { Answers result (typed headings.now scope.now e.now expected.now) }
 {
     let whole = e.span;
     match &e.node {
-        ExprNode::Int(number, kind) => literal(expected, whole, *number, *kind),
-        ExprNode::Truth(holds) => truth(expected, whole, *holds),
+        ExprNode::Int(number, kind) => literal(alloc, expected, whole, *number, *kind),
+        ExprNode::Truth(holds) => truth(alloc, expected, whole, *holds),
         ExprNode::Name(name) => variable(alloc, scope, expected, whole, *name),
         ExprNode::Neg(operator, a) => {
             let operand = type_expr(alloc, headings, scope, a, expected)?;
@@ -57,11 +60,7 @@ pub(crate) fn type_expr(
                 operands,
             )
         }
-        ExprNode::Lazy(op, a, b) => {
-            let left = type_expr(alloc, headings, scope, a, &Some(bool_ty()))?;
-            let right = type_expr(alloc, headings, scope, b, &Some(bool_ty()))?;
-            lazy(alloc, expected, whole, *op, left, right)
-        }
+        ExprNode::Lazy(op, a, b) => type_lazy(alloc, headings, scope, expected, whole, *op, a, b),
         ExprNode::Assign(left, value) => {
             let target = type_target(alloc, headings, scope, left)?;
             let wanted = target_ty(alloc, &target)?;
@@ -82,41 +81,149 @@ pub(crate) fn type_expr(
             )
         }
         ExprNode::Call(name, at, args) => {
-            let Some(callee) = find_callee(alloc, *name, headings, scope)? else {
-                return Err(unknown_name(*at));
-            };
-            let params = callee.signature.params.as_slice();
-            let args = type_args(alloc, headings, scope, args, params)?;
-            called(expected, whole, callee, args)
+            type_call(alloc, headings, scope, expected, whole, *name, *at, args)
         }
         ExprNode::Block(stmts) => {
             let Opened { stmts, .. } = type_statements(alloc, headings, scope, stmts)?;
             block(alloc, expected, whole, stmts)
         }
         ExprNode::BlockWith(stmts, last) => {
-            let Opened { scope, stmts } = type_statements(alloc, headings, scope, stmts)?;
-            let last = type_expr(alloc, headings, scope.as_slice(), last, expected)?;
-            block_with(alloc, expected, whole, stmts, last)
+            type_block_with(alloc, headings, scope, expected, whole, stmts, last)
         }
         ExprNode::If(condition, body) => {
-            let test = type_expr(alloc, headings, scope, condition, &Some(bool_ty()))?;
-            let body = type_expr(alloc, headings, scope, body, &Some(unit_ty(alloc)))?;
-            branch(alloc, expected, whole, test, body)
+            type_branch(alloc, headings, scope, expected, whole, condition, body)
         }
         ExprNode::IfElse(condition, yes, no) => {
-            let condition = type_expr(alloc, headings, scope, condition, &Some(bool_ty()))?;
-            let yes = type_expr(alloc, headings, scope, yes, expected)?;
-            let wanted = given_ty(alloc, &yes)?;
-            let no = type_expr(alloc, headings, scope, no, &wanted)?;
-            choice(alloc, expected, whole, condition, yes, no)
+            type_choice(alloc, headings, scope, expected, whole, condition, yes, no)
         }
-        ExprNode::While(invariants, condition, body) => {
-            let condition = type_expr(alloc, headings, scope, condition, &Some(bool_ty()))?;
-            let body = type_expr(alloc, headings, scope, body, &Some(unit_ty(alloc)))?;
-            let invariants = assertions(alloc, scope, invariants)?;
-            repeat(alloc, expected, whole, invariants, condition, body)
-        }
+        ExprNode::While(invariants, condition, body) => type_while(
+            alloc, headings, scope, expected, whole, invariants, condition, body,
+        ),
     }
+}
+
+/// `left && right` and `left || right`.
+#[cycle(type_expr)]
+#[tactic(auto, using(crate::proofs::Parts::parts))]
+fn type_lazy(
+    alloc: Global,
+    headings: &[Heading],
+    scope: &[Variable],
+    expected: &Option<Ty>,
+    whole: Span,
+    op: LazyOp,
+    left: &Expr,
+    right: &Expr,
+) -> Result<Boxed<TypedExpr>, PassError>
+    ensures { Answers result (typed headings.now scope.now (written.lazy whole op left.now right.now) expected.now) }
+{
+    let left = type_expr(alloc, headings, scope, left, &Some(bool_ty()))?;
+    let right = type_expr(alloc, headings, scope, right, &Some(bool_ty()))?;
+    lazy(alloc, expected, whole, op, left, right)
+}
+
+/// A call of the function of this name, which stands here.
+#[cycle(type_expr)]
+#[tactic(auto, using(crate::proofs::Parts::parts))]
+fn type_call(
+    alloc: Global,
+    headings: &[Heading],
+    scope: &[Variable],
+    expected: &Option<Ty>,
+    whole: Span,
+    name: Name,
+    at: Span,
+    args: &[Expr],
+) -> Result<Boxed<TypedExpr>, PassError>
+    ensures { Answers result (typed headings.now scope.now (written.call whole name at (written_exprs args.now)) expected.now) }
+{
+    let Some(callee) = find_callee(alloc, name, headings, scope)? else {
+        return Err(unknown_name(at));
+    };
+    let params = callee.signature.params.as_slice();
+    let args = type_args(alloc, headings, scope, args, params)?;
+    called(alloc, expected, whole, callee, args)
+}
+
+/// A block with a last expression.
+#[cycle(type_expr)]
+#[tactic(auto, using(crate::proofs::Parts::parts))]
+fn type_block_with(
+    alloc: Global,
+    headings: &[Heading],
+    scope: &[Variable],
+    expected: &Option<Ty>,
+    whole: Span,
+    stmts: &[Stmt],
+    last: &Expr,
+) -> Result<Boxed<TypedExpr>, PassError>
+    ensures { Answers result (typed headings.now scope.now (written.block whole (stmts_of stmts.now (written.last last.now))) expected.now) }
+{
+    let Opened { scope, stmts } = type_statements(alloc, headings, scope, stmts)?;
+    let last = type_expr(alloc, headings, scope.as_slice(), last, expected)?;
+    block_with(alloc, expected, whole, stmts, last)
+}
+
+/// `if` without `else`.
+#[cycle(type_expr)]
+#[tactic(auto, using(crate::proofs::Parts::parts))]
+fn type_branch(
+    alloc: Global,
+    headings: &[Heading],
+    scope: &[Variable],
+    expected: &Option<Ty>,
+    whole: Span,
+    condition: &Expr,
+    body: &Expr,
+) -> Result<Boxed<TypedExpr>, PassError>
+    ensures { Answers result (typed headings.now scope.now (written.branch whole condition.now body.now) expected.now) }
+{
+    let test = type_expr(alloc, headings, scope, condition, &Some(bool_ty()))?;
+    let body = type_expr(alloc, headings, scope, body, &Some(unit_ty(alloc)))?;
+    branch(alloc, expected, whole, test, body)
+}
+
+/// `if` with `else`: the first of the two gives the other its type.
+#[cycle(type_expr)]
+#[tactic(auto, using(crate::proofs::Parts::parts))]
+fn type_choice(
+    alloc: Global,
+    headings: &[Heading],
+    scope: &[Variable],
+    expected: &Option<Ty>,
+    whole: Span,
+    condition: &Expr,
+    yes: &Expr,
+    no: &Expr,
+) -> Result<Boxed<TypedExpr>, PassError>
+    ensures { Answers result (typed headings.now scope.now (written.choice whole condition.now yes.now no.now) expected.now) }
+{
+    let condition = type_expr(alloc, headings, scope, condition, &Some(bool_ty()))?;
+    let yes = type_expr(alloc, headings, scope, yes, expected)?;
+    let wanted = given_ty(alloc, yes.get())?;
+    let no = type_expr(alloc, headings, scope, no, &wanted)?;
+    choice(alloc, expected, whole, condition, yes, no)
+}
+
+/// `while` with its invariants.
+#[cycle(type_expr)]
+#[tactic(auto, using(crate::proofs::Parts::parts))]
+fn type_while(
+    alloc: Global,
+    headings: &[Heading],
+    scope: &[Variable],
+    expected: &Option<Ty>,
+    whole: Span,
+    invariants: &[Pterm],
+    condition: &Expr,
+    body: &Expr,
+) -> Result<Boxed<TypedExpr>, PassError>
+    ensures { Answers result (typed headings.now scope.now (written.repeat whole invariants.now condition.now body.now) expected.now) }
+{
+    let condition = type_expr(alloc, headings, scope, condition, &Some(bool_ty()))?;
+    let body = type_expr(alloc, headings, scope, body, &Some(unit_ty(alloc)))?;
+    let invariants = assertions(alloc, scope, invariants)?;
+    repeat(alloc, expected, whole, invariants, condition, body)
 }
 
 /// The operands of an operation, each at its type.
@@ -140,13 +247,13 @@ fn type_operands(
         }
         Order::SecondGives => {
             let right = type_expr(alloc, headings, scope, b, &None)?;
-            let wanted = given_ty(alloc, &right)?;
+            let wanted = given_ty(alloc, right.get())?;
             let left = type_expr(alloc, headings, scope, a, &wanted)?;
             Ok(Operands { left, right })
         }
         Order::FirstGives => {
             let left = type_expr(alloc, headings, scope, a, &None)?;
-            let wanted = given_ty(alloc, &left)?;
+            let wanted = given_ty(alloc, left.get())?;
             let right = type_expr(alloc, headings, scope, b, &wanted)?;
             Ok(Operands { left, right })
         }
@@ -189,7 +296,7 @@ fn type_args(
     for i in 0..args.len() {
         let wanted = param_ty(alloc, params, i)?;
         let arg = type_expr(alloc, headings, scope, &args[i], &wanted)?;
-        typed.push(arg)?;
+        typed.push(arg.into_inner())?;
     }
     Ok(typed)
 }
@@ -211,8 +318,9 @@ fn type_statements(
         let stmt = &stmts[i];
         let wanted = expected_by(alloc, &stmt.kind)?;
         let value = type_expr(alloc, headings, inner.as_slice(), &stmt.value, &wanted)?;
-        declare(alloc, &mut inner, &stmt.kind, &value)?;
+        declare(alloc, &mut inner, &stmt.kind, value.get())?;
         let binds = is_binding(&stmt.kind);
+        let value = value.into_inner();
         typed.push(TypedStmt { binds, value })?;
     }
     Ok(Opened {

@@ -1,8 +1,9 @@
 use logic_term::{Sort, Term};
+use rs_syntax::Boxed;
 
 /// A term with its sort.
 #[derive(Drop)]
 pub(crate) struct SortedTerm {
     pub(crate) sort: Sort,
-    pub(crate) term: Term,
+    pub(crate) term: Boxed<Term>,
 }

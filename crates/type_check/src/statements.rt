@@ -11,6 +11,7 @@ use crate::types::unit_ty;
 use crate::typing::{fit, ty_of};
 use built_syntax::{PassError, StmtKind};
 use logic_term::Ty;
+use rs_syntax::Boxed;
 use std::alloc::Global;
 use text_core::{NoMemory, Span};
 
@@ -74,12 +75,12 @@ pub(crate) fn block(
     expected: &Option<Ty>,
     span: Span,
     stmts: Vec<TypedStmt>,
-) -> Result<TypedExpr, PassError>
+) -> Result<Boxed<TypedExpr>, PassError>
     ensures { Answers result (closed expected.now span (stmts_of stmts.items done)) }
 {
     let ty = unit_ty(alloc);
     let node = TypedNode::Block(stmts);
-    fit(expected, span, TypedExpr { ty, span, node })
+    fit(alloc, expected, span, TypedExpr { ty, span, node })
 }
 
 /// A block with a last expression.
@@ -89,11 +90,11 @@ pub(crate) fn block_with(
     expected: &Option<Ty>,
     span: Span,
     stmts: Vec<TypedStmt>,
-    last: TypedExpr,
-) -> Result<TypedExpr, PassError>
+    last: Boxed<TypedExpr>,
+) -> Result<Boxed<TypedExpr>, PassError>
     ensures { Answers result (closed expected.now span (stmts_of stmts.items (ends_with last))) }
 {
-    let ty = ty_of(&last).copy(alloc)?;
-    let node = TypedNode::BlockWith(stmts, Box::new(alloc, last)?);
-    fit(expected, span, TypedExpr { ty, span, node })
+    let ty = ty_of(last.get()).copy(alloc)?;
+    let node = TypedNode::BlockWith(stmts, last.into_box());
+    fit(alloc, expected, span, TypedExpr { ty, span, node })
 }

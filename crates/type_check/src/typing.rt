@@ -16,6 +16,7 @@ use crate::typed::{TypedExpr, TypedNode};
 use crate::types::{bool_ty, fits, is_signed_ty, is_updated, operation_ty, same_ty, unit_ty};
 use built_syntax::{Expr, ExprNode, LazyOp, PassError};
 use logic_term::{BinaryOp, IntKind, Ty, TyNode};
+use rs_syntax::Boxed;
 use std::alloc::Global;
 use text_core::{Name, NoMemory, Span};
 
@@ -41,12 +42,18 @@ pub(crate) fn given_ty(alloc: Global, e: &TypedExpr) -> Result<Option<Ty>, NoMem
 
 /// The expression, where its type is the expected one, if there is one. `span` is that of the expression.
 #[tactic(auto, unfolding(crate::specs::Typing::fit))]
-pub(crate) fn fit(expected: &Option<Ty>, span: Span, e: TypedExpr) -> Result<TypedExpr, PassError>
+pub(crate) fn fit(
+    alloc: Global,
+    expected: &Option<Ty>,
+    span: Span,
+    e: TypedExpr,
+) -> Result<Boxed<TypedExpr>, PassError>
     ensures { Answers result (fit expected.now span e) }
 {
+    let e = Boxed::new(alloc, e)?;
     match expected {
         None => Ok(e),
-        Some(ty) if same_ty(ty_of(&e), ty) => Ok(e),
+        Some(ty) if same_ty(ty_of(e.get()), ty) => Ok(e),
         Some(_) => Err(mismatch(span)),
     }
 }
@@ -68,18 +75,19 @@ fn literal_kind(kind: Option<IntKind>, expected: &Option<Ty>) -> Option<IntKind>
 
 #[tactic(auto, unfolding(crate::specs::Typing::literal))]
 pub(crate) fn literal(
+    alloc: Global,
     expected: &Option<Ty>,
     span: Span,
     number: i128,
     kind: Option<IntKind>,
-) -> Result<TypedExpr, PassError>
+) -> Result<Boxed<TypedExpr>, PassError>
     ensures { Answers result (literal expected.now span number kind) }
 {
     match literal_kind(kind, expected) {
         Some(kind) if fits(kind, number) => {
             let node = TypedNode::Int(number, kind);
             let ty = Ty::int(kind);
-            fit(expected, span, TypedExpr { ty, span, node })
+            fit(alloc, expected, span, TypedExpr { ty, span, node })
         }
         _ => Err(mismatch(span)),
     }
@@ -92,14 +100,14 @@ pub(crate) fn variable(
     expected: &Option<Ty>,
     span: Span,
     name: Name,
-) -> Result<TypedExpr, PassError>
+) -> Result<Boxed<TypedExpr>, PassError>
     ensures { Answers result (variable scope.now expected.now span name) }
 {
     match find_variable(alloc, name, scope)? {
         Some(found) => {
             let Found { place, ty, .. } = found;
             let node = TypedNode::Variable(place);
-            fit(expected, span, TypedExpr { ty, span, node })
+            fit(alloc, expected, span, TypedExpr { ty, span, node })
         }
         None => Err(unknown_name(span)),
     }
@@ -118,17 +126,17 @@ pub(crate) fn negated(
     alloc: Global,
     expected: &Option<Ty>,
     spans: Spans,
-    operand: TypedExpr,
-) -> Result<TypedExpr, PassError>
+    operand: Boxed<TypedExpr>,
+) -> Result<Boxed<TypedExpr>, PassError>
     ensures { Answers result (negated expected.now spans.whole spans.operator spans.first operand) }
 {
-    if !is_signed_ty(ty_of(&operand)) {
+    if !is_signed_ty(ty_of(operand.get())) {
         return Err(mismatch(spans.first));
     }
-    let ty = ty_of(&operand).copy(alloc)?;
-    let node = TypedNode::Neg(Box::new(alloc, operand)?);
+    let ty = ty_of(operand.get()).copy(alloc)?;
+    let node = TypedNode::Neg(operand.into_box());
     let span = spans.operator;
-    fit(expected, spans.whole, TypedExpr { ty, span, node })
+    fit(alloc, expected, spans.whole, TypedExpr { ty, span, node })
 }
 
 /// Whether the expression is an integer without a type at its end.
@@ -145,18 +153,16 @@ pub(crate) fn operated(
     spans: Spans,
     op: BinaryOp,
     operands: Operands,
-) -> Result<TypedExpr, PassError>
+) -> Result<Boxed<TypedExpr>, PassError>
     ensures { Answers result (operated expected.now spans.whole spans.operator spans.first op operands) }
 {
     let Operands { left, right } = operands;
-    let Some(ty) = operation_ty(op, ty_of(&left)) else {
+    let Some(ty) = operation_ty(op, ty_of(left.get())) else {
         return Err(mismatch(spans.first));
     };
-    let left = Box::new(alloc, left)?;
-    let right = Box::new(alloc, right)?;
-    let node = TypedNode::Binary(op, left, right);
+    let node = TypedNode::Binary(op, left.into_box(), right.into_box());
     let span = spans.operator;
-    fit(expected, spans.whole, TypedExpr { ty, span, node })
+    fit(alloc, expected, spans.whole, TypedExpr { ty, span, node })
 }
 
 /// The name that the expression is, if it is one.
@@ -175,7 +181,7 @@ pub(crate) fn target_ty(alloc: Global, target: &Target) -> Result<Option<Ty>, No
 {
     match target {
         Target::Variable(found) => Ok(Some(found.ty.copy(alloc)?)),
-        Target::Value(e) => given_ty(alloc, e),
+        Target::Value(e) => given_ty(alloc, e.get()),
     }
 }
 
@@ -186,16 +192,15 @@ pub(crate) fn assigned(
     span: Span,
     left: Span,
     target: Target,
-    value: TypedExpr,
-) -> Result<TypedExpr, PassError>
+    value: Boxed<TypedExpr>,
+) -> Result<Boxed<TypedExpr>, PassError>
     ensures { Answers result (assigned expected.now span left target value) }
 {
     let ty = unit_ty(alloc);
-    let value = Box::new(alloc, value)?;
     match target {
         Target::Variable(found) => {
-            let node = TypedNode::Assign(found.place, value);
-            let e = fit(expected, span, TypedExpr { ty, span, node })?;
+            let node = TypedNode::Assign(found.place, value.into_box());
+            let e = fit(alloc, expected, span, TypedExpr { ty, span, node })?;
             if found.mutable {
                 Ok(e)
             } else {
@@ -203,8 +208,8 @@ pub(crate) fn assigned(
             }
         }
         Target::Value(lost) => {
-            let node = TypedNode::AssignValue(Box::new(alloc, lost)?, value);
-            fit(expected, span, TypedExpr { ty, span, node })
+            let node = TypedNode::AssignValue(lost.into_box(), value.into_box());
+            fit(alloc, expected, span, TypedExpr { ty, span, node })
         }
     }
 }
@@ -214,7 +219,7 @@ fn is_target_updated(op: BinaryOp, target: &Target) -> bool
 {
     match target {
         Target::Variable(found) => is_updated(op, &found.ty),
-        Target::Value(e) => is_updated(op, ty_of(e)),
+        Target::Value(e) => is_updated(op, ty_of(e.get())),
     }
 }
 
@@ -225,8 +230,8 @@ pub(crate) fn updated(
     spans: Spans,
     op: BinaryOp,
     target: Target,
-    value: TypedExpr,
-) -> Result<TypedExpr, PassError>
+    value: Boxed<TypedExpr>,
+) -> Result<Boxed<TypedExpr>, PassError>
     ensures { Answers result (updated expected.now spans.whole spans.operator spans.first op target value) }
 {
     if !is_target_updated(op, &target) {
@@ -234,11 +239,10 @@ pub(crate) fn updated(
     }
     let ty = unit_ty(alloc);
     let span = spans.operator;
-    let value = Box::new(alloc, value)?;
     match target {
         Target::Variable(found) => {
-            let node = TypedNode::Update(op, found.place, value);
-            let e = fit(expected, spans.whole, TypedExpr { ty, span, node })?;
+            let node = TypedNode::Update(op, found.place, value.into_box());
+            let e = fit(alloc, expected, spans.whole, TypedExpr { ty, span, node })?;
             if found.mutable {
                 Ok(e)
             } else {
@@ -246,19 +250,20 @@ pub(crate) fn updated(
             }
         }
         Target::Value(lost) => {
-            let node = TypedNode::UpdateValue(op, Box::new(alloc, lost)?, value);
-            fit(expected, spans.whole, TypedExpr { ty, span, node })
+            let node = TypedNode::UpdateValue(op, lost.into_box(), value.into_box());
+            fit(alloc, expected, spans.whole, TypedExpr { ty, span, node })
         }
     }
 }
 
 #[tactic(auto, unfolding(crate::specs::Typing::called), using(crate::proofs::Arguments::how_many_are))]
 pub(crate) fn called(
+    alloc: Global,
     expected: &Option<Ty>,
     span: Span,
     callee: Callee,
     args: Vec<TypedExpr>,
-) -> Result<TypedExpr, PassError>
+) -> Result<Boxed<TypedExpr>, PassError>
     ensures { Answers result (called expected.now span callee (exprs_of args.items)) }
 {
     if args.len() != callee.signature.params.len() {
@@ -266,28 +271,33 @@ pub(crate) fn called(
     }
     let node = TypedNode::Call(callee.place, args);
     let ty = callee.signature.answer;
-    fit(expected, span, TypedExpr { ty, span, node })
+    fit(alloc, expected, span, TypedExpr { ty, span, node })
 }
 
-pub(crate) fn truth(expected: &Option<Ty>, span: Span, holds: bool) -> Result<TypedExpr, PassError>
+pub(crate) fn truth(
+    alloc: Global,
+    expected: &Option<Ty>,
+    span: Span,
+    holds: bool,
+) -> Result<Boxed<TypedExpr>, PassError>
     ensures { Answers result (fit expected.now span (tree.truth bool span holds)) }
 {
     let node = TypedNode::Truth(holds);
     let ty = bool_ty();
-    fit(expected, span, TypedExpr { ty, span, node })
+    fit(alloc, expected, span, TypedExpr { ty, span, node })
 }
 
 pub(crate) fn denied(
     alloc: Global,
     expected: &Option<Ty>,
     span: Span,
-    operand: TypedExpr,
-) -> Result<TypedExpr, PassError>
+    operand: Boxed<TypedExpr>,
+) -> Result<Boxed<TypedExpr>, PassError>
     ensures { Answers result (fit expected.now span (tree.denied bool span operand)) }
 {
-    let node = TypedNode::Not(Box::new(alloc, operand)?);
+    let node = TypedNode::Not(operand.into_box());
     let ty = bool_ty();
-    fit(expected, span, TypedExpr { ty, span, node })
+    fit(alloc, expected, span, TypedExpr { ty, span, node })
 }
 
 pub(crate) fn lazy(
@@ -295,14 +305,14 @@ pub(crate) fn lazy(
     expected: &Option<Ty>,
     span: Span,
     op: LazyOp,
-    left: TypedExpr,
-    right: TypedExpr,
-) -> Result<TypedExpr, PassError>
+    left: Boxed<TypedExpr>,
+    right: Boxed<TypedExpr>,
+) -> Result<Boxed<TypedExpr>, PassError>
     ensures { Answers result (fit expected.now span (tree.lazy bool span op left right)) }
 {
-    let node = TypedNode::Lazy(op, Box::new(alloc, left)?, Box::new(alloc, right)?);
+    let node = TypedNode::Lazy(op, left.into_box(), right.into_box());
     let ty = bool_ty();
-    fit(expected, span, TypedExpr { ty, span, node })
+    fit(alloc, expected, span, TypedExpr { ty, span, node })
 }
 
 /// `if` without `else`.
@@ -310,30 +320,29 @@ pub(crate) fn branch(
     alloc: Global,
     expected: &Option<Ty>,
     span: Span,
-    condition: TypedExpr,
-    body: TypedExpr,
-) -> Result<TypedExpr, PassError>
+    condition: Boxed<TypedExpr>,
+    body: Boxed<TypedExpr>,
+) -> Result<Boxed<TypedExpr>, PassError>
     ensures { Answers result (fit expected.now span (tree.branch unit span condition body)) }
 {
-    let node = TypedNode::If(Box::new(alloc, condition)?, Box::new(alloc, body)?);
+    let node = TypedNode::If(condition.into_box(), body.into_box());
     let ty = unit_ty(alloc);
-    fit(expected, span, TypedExpr { ty, span, node })
+    fit(alloc, expected, span, TypedExpr { ty, span, node })
 }
 
 pub(crate) fn choice(
     alloc: Global,
     expected: &Option<Ty>,
     span: Span,
-    condition: TypedExpr,
-    yes: TypedExpr,
-    no: TypedExpr,
-) -> Result<TypedExpr, PassError>
+    condition: Boxed<TypedExpr>,
+    yes: Boxed<TypedExpr>,
+    no: Boxed<TypedExpr>,
+) -> Result<Boxed<TypedExpr>, PassError>
     ensures { Answers result (fit expected.now span (tree.choice (ty_of yes) span condition yes no)) }
 {
-    let ty = ty_of(&yes).copy(alloc)?;
-    let condition = Box::new(alloc, condition)?;
-    let node = TypedNode::IfElse(condition, Box::new(alloc, yes)?, Box::new(alloc, no)?);
-    fit(expected, span, TypedExpr { ty, span, node })
+    let ty = ty_of(yes.get()).copy(alloc)?;
+    let node = TypedNode::IfElse(condition.into_box(), yes.into_box(), no.into_box());
+    fit(alloc, expected, span, TypedExpr { ty, span, node })
 }
 
 pub(crate) fn repeat(
@@ -341,15 +350,14 @@ pub(crate) fn repeat(
     expected: &Option<Ty>,
     span: Span,
     invariants: Vec<Assertion>,
-    condition: TypedExpr,
-    body: TypedExpr,
-) -> Result<TypedExpr, PassError>
+    condition: Boxed<TypedExpr>,
+    body: Boxed<TypedExpr>,
+) -> Result<Boxed<TypedExpr>, PassError>
     ensures { Answers result (fit expected.now span (tree.repeat unit span invariants.items condition body)) }
 {
-    let condition = Box::new(alloc, condition)?;
-    let node = TypedNode::While(invariants, condition, Box::new(alloc, body)?);
+    let node = TypedNode::While(invariants, condition.into_box(), body.into_box());
     let ty = unit_ty(alloc);
-    fit(expected, span, TypedExpr { ty, span, node })
+    fit(alloc, expected, span, TypedExpr { ty, span, node })
 }
 
 /// How the operands of an operation get their types, where a type is expected of it and each operand may be an integer

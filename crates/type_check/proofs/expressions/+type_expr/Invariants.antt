@@ -1,6 +1,6 @@
 use Rattle.std.proofs.Common.{◌≡◌, ◌+◌, ◌*◌, max, drop, Option}
 use Rattle.logic_term.specs.Ty.{Ty}
-use Rattle.built_syntax.specs.Expr.{Stmts, done}
+use Rattle.built_syntax.specs.Expr.{Stmts, done, last}
 use Rattle.built_syntax.specs.ExprView.{expr_size, stmts_size, exprs_size, stmts_of, exprs_of}
 use Rattle.type_check.specs.Typing.{typed_args, typed_rest}
 use Rattle.type_check.proofs.Arguments.{continued as args_continued}
@@ -12,6 +12,24 @@ decreases-type_expr l = 2 * expr_size l.e.now
 
 abbrev pub decreases-type_operands : goal.decreases-type_operands
 decreases-type_operands l = 2 * max (expr_size l.a.now) (expr_size l.b.now) + 1
+
+abbrev pub decreases-type_lazy : goal.decreases-type_lazy
+decreases-type_lazy l = 2 * max (expr_size l.left.now) (expr_size l.right.now) + 1
+
+abbrev pub decreases-type_call : goal.decreases-type_call
+decreases-type_call l = 2 * exprs_size (exprs_of l.args.now) + 1
+
+abbrev pub decreases-type_block_with : goal.decreases-type_block_with
+decreases-type_block_with l = 2 * stmts_size (stmts_of l.stmts.now (last l.last.now)) + 1
+
+abbrev pub decreases-type_branch : goal.decreases-type_branch
+decreases-type_branch l = 2 * max (expr_size l.condition.now) (expr_size l.body.now) + 1
+
+abbrev pub decreases-type_choice : goal.decreases-type_choice
+decreases-type_choice l = 2 * max (expr_size l.condition.now) (max (expr_size l.yes.now) (expr_size l.no.now)) + 1
+
+abbrev pub decreases-type_while : goal.decreases-type_while
+decreases-type_while l = 2 * max (expr_size l.condition.now) (expr_size l.body.now) + 1
 
 abbrev pub decreases-type_target : goal.decreases-type_target
 decreases-type_target l = 2 * expr_size l.left.now + 1
