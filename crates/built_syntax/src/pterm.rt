@@ -14,7 +14,6 @@ pub struct Pterm {
 
 /// What a term is at its top.
 #[cycle(pterm)]
-#[derive(Drop)]
 pub enum PtermNode {
     /// An integer, with the type at its end if it has one. A `-` right before the integer belongs to it.
     Int(i128, Option<IntKind>),
@@ -31,6 +30,27 @@ pub enum PtermNode {
     And(Box<Pterm>, Box<Pterm>),
     Or(Box<Pterm>, Box<Pterm>),
     Implies(Box<Pterm>, Box<Pterm>),
+}
+
+// By hand, so that whoever holds one drops it by a call (docs/architecture.md).
+impl Drop for PtermNode {
+    #[cycle(pterm)]
+    fn drop(self) {
+        match self {
+            PtermNode::Int(_, _)
+            | PtermNode::Truth(_)
+            | PtermNode::Answer
+            | PtermNode::Name(_)
+            | PtermNode::View(_)
+            | PtermNode::Neg(_)
+            | PtermNode::Not(_)
+            | PtermNode::Arith(_, _, _)
+            | PtermNode::Compare(_, _, _)
+            | PtermNode::And(_, _)
+            | PtermNode::Or(_, _)
+            | PtermNode::Implies(_, _) => {}
+        }
+    }
 }
 
 impl Model for Pterm {

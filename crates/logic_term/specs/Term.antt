@@ -1,5 +1,5 @@
 -- Terms and formulas, as contracts see them: a small core into which the variants of `TermNode` are viewed.
-use Rattle.std.specs.Prelude.{ℕ, suc, ℤ, Bool}
+use Rattle.std.specs.Prelude.{ℕ, suc, ℤ, Bool, true, false}
 use Rattle.text_core.specs.declared.name.Name.{Name}
 use Rattle.logic_term.specs.declared.kinds.ArithOp.{ArithOp}
 use Rattle.logic_term.specs.declared.kinds.Ctor.{Ctor}
@@ -78,6 +78,10 @@ implies = two implied
 
 abbrev pub forall : Name → Ty → Term → Term
 forall = bind every
+
+abbrev pub is_implication : Term → Bool
+is_implication (apply implied ts) = true
+is_implication t = false
 
 -- `()`, the tuple of no parts
 abbrev pub unit : Term

@@ -1,4 +1,6 @@
-ghost use Rattle.std.specs.Prelude.{◌≡◌, ◌↔◌, IfOk, IsTrue};
+ghost use Rattle.std.specs.Prelude.{◌≡◌, ◌↔◌, false, IfOk, IfErr, IsTrue};
+ghost use Rattle.logic_term.specs.Term.{implies, is_implication};
+ghost use Rattle.logic_term.specs.TermView.{term_of};
 
 use crate::kinds::{ArithOp, Ctor};
 use crate::ty::Ty;
@@ -18,7 +20,6 @@ pub struct Term {
 
 /// What a term is at its top.
 #[cycle(term)]
-#[derive(Drop)]
 pub enum TermNode {
     Var(Name),
     /// An integer of a machine type, or of the unbounded integers.
@@ -40,6 +41,30 @@ pub enum TermNode {
     Forall(Name, Sort, Box<Term>),
 }
 
+// By hand, so that whoever holds one drops it by a call (docs/architecture.md).
+impl Drop for TermNode {
+    #[cycle(term)]
+    fn drop(self) {
+        match self {
+            TermNode::Var(_)
+            | TermNode::Lit(_, _)
+            | TermNode::Truth(_)
+            | TermNode::Make(_, _)
+            | TermNode::Model(_)
+            | TermNode::Arith(_, _, _)
+            | TermNode::Neg(_)
+            | TermNode::Less(_, _)
+            | TermNode::AtMost(_, _)
+            | TermNode::Equal(_, _)
+            | TermNode::Not(_)
+            | TermNode::And(_, _)
+            | TermNode::Or(_, _)
+            | TermNode::Implies(_, _)
+            | TermNode::Forall(_, _, _) => {}
+        }
+    }
+}
+
 impl Model for Term {
     ghost use Rattle.logic_term.specs.Term.{Term as Tree};
     ghost use Rattle.logic_term.specs.TermCode.{coded_term};
@@ -59,7 +84,31 @@ impl Model for Term {
     ghost size_decreases = { λ a h. falls a.node };
 }
 
+impl TermNode {
+    fn into_implication(self) -> Result<(Box<Term>, Box<Term>), TermNode>
+        ensures ok { IfOk result (λ p. term_of self ≡ implies p.0.value p.1.value) }
+        ensures other { IfErr result (λ n. (n ≡ self) × (is_implication (term_of self) ≡ false)) }
+    {
+        match self {
+            TermNode::Implies(a, b) => Ok((a, b)),
+            node => Err(node),
+        }
+    }
+}
+
 impl Term {
+    /// The premise and the conclusion of an implication. Any other term comes back as the error.
+    pub fn into_implication(self) -> Result<(Term, Term), Term>
+        ensures ok { IfOk result (λ p. self ≡ implies p.0 p.1) }
+        ensures other { IfErr result (λ t. (t ≡ self) × (is_implication self ≡ false)) }
+    {
+        let Term { node } = self;
+        match node.into_implication() {
+            Ok((a, b)) => Ok((Box::into_inner(a), Box::into_inner(b))),
+            Err(node) => Err(Term { node }),
+        }
+    }
+
     #[cycle(copy)]
     #[tactic(auto, using(crate::specs::TermFalls::each_smaller))]
     pub fn copy(&self, alloc: Global) -> Result<Term, NoMemory>

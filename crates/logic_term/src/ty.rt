@@ -15,7 +15,6 @@ pub struct Ty {
 
 /// What a type is at its top.
 #[cycle(ty)]
-#[derive(Drop)]
 pub enum TyNode {
     Int(IntKind),
     Bool,
@@ -35,6 +34,27 @@ pub enum TyNode {
     /// What `@` of a value of the type has as its type.
     View(Box<Ty>),
     Snapshot(Box<Ty>),
+}
+
+// By hand, so that whoever holds one drops it by a call (docs/architecture.md).
+impl Drop for TyNode {
+    #[cycle(ty)]
+    fn drop(self) {
+        match self {
+            TyNode::Int(_)
+            | TyNode::Bool
+            | TyNode::MathInt
+            | TyNode::Tuple(_)
+            | TyNode::Adt(_, _, _)
+            | TyNode::Boxed(_)
+            | TyNode::Shared(_, _)
+            | TyNode::Unique(_, _)
+            | TyNode::Param(_)
+            | TyNode::Closure(_, _, _, _)
+            | TyNode::View(_)
+            | TyNode::Snapshot(_) => {}
+        }
+    }
 }
 
 /// How a value may be called, and at which types.

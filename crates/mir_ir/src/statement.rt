@@ -15,11 +15,19 @@ pub enum Rvalue {
     Make(Ctor, Items<Operand>),
 }
 
-#[derive(Drop)]
 pub enum StatementKind {
     Assign(Place, Rvalue),
     /// The local, by its number, holds nothing from here on.
     Dead(u32),
+}
+
+// By hand, so that whoever holds one drops it by a call (docs/architecture.md).
+impl Drop for StatementKind {
+    fn drop(self) {
+        match self {
+            StatementKind::Assign(_, _) | StatementKind::Dead(_) => {}
+        }
+    }
 }
 
 #[derive(Drop)]

@@ -17,7 +17,6 @@ pub struct Path {
 }
 
 /// The forms of paths.
-#[derive(Drop)]
 pub enum PathNode {
     /// `a::b::<T>`: the first name, those behind it, and the types at the end, none where no `::<` stands.
     Names(Segment, Items<Segment>, Items<TypeTree>),
@@ -25,4 +24,14 @@ pub enum PathNode {
     Member(Segment, Items<TypeTree>, Segment),
     /// `<T as A>::b`
     Qualified(TypeTree, Segment, Segment),
+}
+
+// By hand, so that whoever holds one drops it by a call (docs/architecture.md).
+impl Drop for PathNode {
+    fn drop(self) {
+        match self {
+            PathNode::Names(_, _, _) | PathNode::Member(_, _, _) | PathNode::Qualified(_, _, _) =>
+                {}
+        }
+    }
 }

@@ -59,7 +59,9 @@ const NO_WORD: Word = Word {
 };
 
 /// A piece that nothing needs; the one place where its parts are freed.
-pub fn discard(_piece: Piece) {}
+pub fn discard(piece: Piece) {
+    drop(piece);
+}
 
 /// The word of a number.
 pub fn word_at(words: &[Word], number: usize) -> Word

@@ -2,14 +2,14 @@
 use Rattle.std.proofs.Common.{◌≡◌, ◌≢◌, ℕ, suc, ◌+◌, true, false, List, [], ◌∷◌, ◌↔◌, refl, sym, ◌∙◌, ap, subst, add-one, true≢false}
 use Rattle.text_core.specs.declared.name.Name.{Name}
 use Rattle.logic_term.specs.Ty.{Ty}
-use Rattle.logic_term.specs.Term.{Term, var, implies, forall}
+use Rattle.logic_term.specs.Term.{Term, var, implies, forall, is_implication}
 use Rattle.logic_term.specs.Subst.{replaced}
 use Rattle.proof_kernel.specs.declared.sequent.Sequent.{Sequent}
 use Rattle.std.specs.Prelude.{Result, Ok, Err, IfOk}
 use Rattle.std.proofs.Common.{inl, inr, ◌<◌, ◌≤◌, length, get_or, drop, drop-cons}
 use Rattle.std.proofs.lemmas.List.{drop_all}
 use Rattle.proof_kernel.specs.Leads.{is_quantified, IsStuck, IsDeclared}
-use Rattle.proof_kernel.specs.Rules.{label, IsNew, assuming, declaring, is_implication, Intros, stop, by_premise, by_variable}
+use Rattle.proof_kernel.specs.Rules.{label, IsNew, assuming, declaring, Intros, stop, by_premise, by_variable}
 
 same_left : (a b c d : Term) → implies a b ≡ implies c d → a ≡ c
 same_left a b c d e = cc

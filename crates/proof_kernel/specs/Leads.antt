@@ -2,12 +2,12 @@
 use Rattle.std.specs.Prelude.{◌≡◌, Bool, true, false, ◌⊎◌}
 use Rattle.text_core.specs.declared.name.Name.{Name}
 use Rattle.logic_term.specs.Ty.{Ty}
-use Rattle.logic_term.specs.Term.{every, Term, bind, var, implies, forall}
+use Rattle.logic_term.specs.Term.{every, Term, bind, var, implies, forall, is_implication}
 use Rattle.logic_term.specs.Subst.{replaced}
 use Rattle.proof_kernel.specs.declared.sequent.Sequent.{Sequent}
 use Rattle.proof_kernel.specs.declared.rules.Lead.{Lead}
 use Rattle.proof_kernel.specs.declared.rules.Lead.TheVariants.{Premise, Other}
-use Rattle.proof_kernel.specs.Rules.{IsNew, declaring, is_implication}
+use Rattle.proof_kernel.specs.Rules.{IsNew, declaring}
 
 abbrev pub is_quantified : Term → Bool
 is_quantified (bind every x s t) = true

@@ -5,7 +5,7 @@ use Rattle.logic_term.specs.declared.kinds.Label2.{Label2}
 use Rattle.logic_term.specs.declared.kinds.IntKind.{IntKind}
 use Rattle.logic_term.specs.Ty.{Ty, math_int}
 use Rattle.logic_term.specs.Range.{lowest, highest}
-use Rattle.logic_term.specs.Term.{both, implied, Term, var, lit, apply, no_terms, and_term, model, is_at_most, implies, forall}
+use Rattle.logic_term.specs.Term.{both, Term, var, lit, apply, no_terms, and_term, model, is_at_most, implies, forall, is_implication}
 use Rattle.logic_term.specs.Free.{free}
 use Rattle.logic_term.specs.Subst.{replaced}
 use Rattle.proof_kernel.specs.declared.sequent.Sequent.{Sequent}
@@ -50,10 +50,6 @@ abbrev pub declaring : Sequent → Name → Ty → Term → Sequent
 declaring q x s t = record { vars = q.vars ++ (x, s) ∷ []; hyps = q.hyps; goal = t }
 
 -- ---- intro: quantifiers and premises that lead the goal are taken off
-
-abbrev pub is_implication : Term → Bool
-is_implication (apply implied ts) = true
-is_implication t = false
 
 -- names for the quantifiers that are left; k: the number of the next hypothesis of step s
 pub data Intros (s : ℕ) : ℕ → List Name → Sequent → Sequent → Type 0 where

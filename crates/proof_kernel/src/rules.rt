@@ -3,11 +3,11 @@ ghost use Rattle.logic_term.specs.Ty.{int};
 ghost use Rattle.logic_term.specs.declared.kinds.IntKind.{IntKind};
 ghost use Rattle.logic_term.specs.declared.kinds.Label2.{Label2};
 ghost use Rattle.logic_term.specs.Subst.{SameUpToNames};
-ghost use Rattle.logic_term.specs.Term.{Term as Tree};
+ghost use Rattle.logic_term.specs.Term.{Term as Tree, is_implication};
 ghost use Rattle.text_core.specs.declared.name.Name.{Name};
 ghost use Rattle.proof_kernel.specs.declared.sequent.Sequent.{Sequent};
 ghost use Rattle.proof_kernel.specs.Leads.{is_quantified, IsLead, IsOpened, IsStuck, IsDeclared};
-ghost use Rattle.proof_kernel.specs.Rules.{hypothesis, sort_of, with_goal, is_implication, is_conjunction, conjuncts, lower_bound, upper_bound, ranged, declaring, Intros, TakesSome};
+ghost use Rattle.proof_kernel.specs.Rules.{hypothesis, sort_of, with_goal, is_conjunction, conjuncts, lower_bound, upper_bound, ranged, declaring, Intros, TakesSome};
 
 use crate::sequent::{Sequent, hypothesis_of, sort_of_var};
 use logic_term::{IntKind, Label2, Sort, Term, TermNode, TyNode};
@@ -236,10 +236,9 @@ enum Lead {
 fn lead_of(goal: Term) -> Lead
     ensures { IsLead goal result }
 {
-    let Term { node } = goal;
-    match node {
-        TermNode::Implies(a, b) => Lead::Premise(Box::into_inner(a), Box::into_inner(b)),
-        node => Lead::Other(Term { node }),
+    match goal.into_implication() {
+        Ok((premise, conclusion)) => Lead::Premise(premise, conclusion),
+        Err(other) => Lead::Other(other),
     }
 }
 

@@ -109,7 +109,9 @@ pub struct Reach {
 pub const NOWHERE: Span = Span { start: 0, end: 0 };
 
 /// A piece that nothing needs; the one place where its parts are freed.
-pub fn discard(_piece: Piece) {}
+pub fn discard(piece: Piece) {
+    drop(piece);
+}
 
 /// From the start of what is so far to the end of the last of the values.
 #[tactic(auto, unfolding(crate::specs::Values::extent_of))]
