@@ -1,7 +1,7 @@
 -- The parts of terms are smaller than the whole.
-use Rattle.std.specs.Prelude.{◌+◌, ◌≤◌, max, List, [], ◌∷◌}
-use Rattle.std.proofs.Common.{arith}
-use denote.Param.Weighed.{most}
+use Rattle.std.specs.Prelude.{◌+◌, ◌≤◌, max, List, [], ◌∷◌, ◌≡◌, ℕ, ◌*◌, ◌<◌}
+use Rattle.std.proofs.Common.{arith, sym}
+use denote.Param.Weighed.{most, w_this}
 use Rattle.text_core.specs.declared.span.Span.{Span}
 use Rattle.pearlite.specs.Pterm.{Pterm}
 use Rattle.pearlite.specs.PtermView.{pterm_of, terms_of, field_terms_of, arms_of, pterm_size, terms_size, field_terms_size, arms_size}
@@ -9,7 +9,7 @@ use Rattle.pearlite.specs.declared.pterm.FieldTerm.{FieldTerm}
 use Rattle.pearlite.specs.declared.pterm.Arm.{Arm}
 use Rattle.pearlite.specs.declared.pterm.PtermNode.{PtermNode}
 use Rattle.pearlite.specs.declared.pterm.PtermNode.TheVariants as node
-use Rattle.pearlite.specs.declared.pterm.Pterm.TheDeep.{deep-PtermNode}
+use Rattle.pearlite.specs.declared.pterm.Pterm.TheDeep.{deep-PtermNode, size-Pterm, size-FieldTerm, size-Arm}
 
 most_terms : (xs : List Pterm) → most (λ x. pterm_size x + 1) xs ≤ terms_size (terms_of xs)
 most_terms [] = omega arith
@@ -41,3 +41,44 @@ falls s (node.If a0 a1 a2) = omega arith
 falls s (node.Match a0 a1) = omega (arith, most_arms a1.items)
 falls s (node.Quantified a0 a1 a2) = omega arith
 falls s (node.Predicate a0 a1) = omega (arith, most_terms a1.items)
+
+-- ---- what a drop of parts needs
+
+weighed-Pterm : (x : Pterm) → size-Pterm x ≤ 3 * (pterm_size x + 1)
+weighed-Pterm x = omega arith
+
+weigh-Pterm : (xs : List Pterm) → most (w_this.weight Pterm size-Pterm) xs ≤ 3 * most (w_this.weight Pterm (λ x. pterm_size x + 1)) xs
+weigh-Pterm [] = omega arith
+weigh-Pterm (x ∷ xs) = omega (arith, weighed-Pterm x, weigh-Pterm xs)
+
+weighed-FieldTerm : (x : FieldTerm) → size-FieldTerm x ≤ 3 * (max (pterm_size x.value + 1) 0) + 1
+weighed-FieldTerm x = omega arith
+
+weigh-FieldTerm : (xs : List FieldTerm) → most (w_this.weight FieldTerm size-FieldTerm) xs ≤ 3 * most (w_this.weight FieldTerm (λ x. max (pterm_size x.value + 1) 0)) xs + 1
+weigh-FieldTerm [] = omega arith
+weigh-FieldTerm (x ∷ xs) = omega (arith, weighed-FieldTerm x, weigh-FieldTerm xs)
+
+weighed-Arm : (x : Arm) → size-Arm x ≤ 3 * (max (pterm_size x.body + 1) 0) + 1
+weighed-Arm x = omega arith
+
+weigh-Arm : (xs : List Arm) → most (w_this.weight Arm size-Arm) xs ≤ 3 * most (w_this.weight Arm (λ x. max (pterm_size x.body + 1) 0)) xs + 1
+weigh-Arm [] = omega arith
+weigh-Arm (x ∷ xs) = omega (arith, weighed-Arm x, weigh-Arm xs)
+
+pub Method-weighs : (n : PtermNode) (a0 : _) (a1 : _) (xs : _) (t : ℕ) → n ≡ node.Method a0 a1 xs → 3 * deep-PtermNode n + 2 ≡ t → most (w_this.weight Pterm size-Pterm) xs.items < t
+Method-weighs n a0 a1 xs t e d = rw (sym d) (rw e (omega (arith, weigh-Pterm xs.items)))
+
+pub Call-weighs : (n : PtermNode) (a0 : _) (xs : _) (t : ℕ) → n ≡ node.Call a0 xs → 3 * deep-PtermNode n + 2 ≡ t → most (w_this.weight Pterm size-Pterm) xs.items < t
+Call-weighs n a0 xs t e d = rw (sym d) (rw e (omega (arith, weigh-Pterm xs.items)))
+
+pub Literal-weighs : (n : PtermNode) (a0 : _) (xs : _) (t : ℕ) → n ≡ node.Literal a0 xs → 3 * deep-PtermNode n + 2 ≡ t → most (w_this.weight FieldTerm size-FieldTerm) xs.items < t
+Literal-weighs n a0 xs t e d = rw (sym d) (rw e (omega (arith, weigh-FieldTerm xs.items)))
+
+pub Tuple-weighs : (n : PtermNode) (xs : _) (t : ℕ) → n ≡ node.Tuple xs → 3 * deep-PtermNode n + 2 ≡ t → most (w_this.weight Pterm size-Pterm) xs.items < t
+Tuple-weighs n xs t e d = rw (sym d) (rw e (omega (arith, weigh-Pterm xs.items)))
+
+pub Match-weighs : (n : PtermNode) (a0 : _) (xs : _) (t : ℕ) → n ≡ node.Match a0 xs → 3 * deep-PtermNode n + 2 ≡ t → most (w_this.weight Arm size-Arm) xs.items < t
+Match-weighs n a0 xs t e d = rw (sym d) (rw e (omega (arith, weigh-Arm xs.items)))
+
+pub Predicate-weighs : (n : PtermNode) (a0 : _) (xs : _) (t : ℕ) → n ≡ node.Predicate a0 xs → 3 * deep-PtermNode n + 2 ≡ t → most (w_this.weight Pterm size-Pterm) xs.items < t
+Predicate-weighs n a0 xs t e d = rw (sym d) (rw e (omega (arith, weigh-Pterm xs.items)))

@@ -14,7 +14,6 @@ pub struct Pat {
 
 /// What a pattern is at its top.
 #[cycle(pat)]
-#[derive(Drop)]
 pub enum PatNode {
     /// `_`
     Any,
@@ -30,6 +29,23 @@ pub enum PatNode {
     Parts(Path, Vec<Pat>),
     /// A constructor with its fields, and whether `..` stands behind them.
     Fields(Path, Vec<FieldPat>, bool),
+}
+
+// By hand, so that whoever holds one drops it by a call (docs/architecture.md).
+impl Drop for PatNode {
+    #[cycle(pat)]
+    fn drop(self) {
+        match self {
+            PatNode::Any
+            | PatNode::Mutable(_)
+            | PatNode::Int(_, _)
+            | PatNode::Truth(_)
+            | PatNode::Tuple(_)
+            | PatNode::Path(_)
+            | PatNode::Parts(_, _)
+            | PatNode::Fields(_, _, _) => {}
+        }
+    }
 }
 
 /// A field of a constructor; `x` alone is `x: x`.

@@ -17,7 +17,6 @@ pub struct Pterm {
 
 /// What a term is at its top.
 #[cycle(pterm)]
-#[derive(Drop)]
 pub enum PtermNode {
     /// An integer, with the type at its end if it has one. A `-` right before the integer belongs to it.
     Int(i128, Option<IntKind>),
@@ -46,6 +45,32 @@ pub enum PtermNode {
     /// The variables and the body.
     Quantified(Quantifier, Vec<Binder>, Box<Pterm>),
     Predicate(Predicate, Vec<Pterm>),
+}
+
+// By hand, so that whoever holds one drops it by a call (docs/architecture.md).
+impl Drop for PtermNode {
+    #[cycle(pterm)]
+    fn drop(self) {
+        match self {
+            PtermNode::Int(_, _)
+            | PtermNode::Truth(_)
+            | PtermNode::Answer
+            | PtermNode::Receiver
+            | PtermNode::Path(_)
+            | PtermNode::Unary(_, _)
+            | PtermNode::Binary(_, _, _)
+            | PtermNode::Field(_, _)
+            | PtermNode::Part(_, _, _)
+            | PtermNode::Method(_, _, _)
+            | PtermNode::Call(_, _)
+            | PtermNode::Literal(_, _)
+            | PtermNode::Tuple(_)
+            | PtermNode::If(_, _, _)
+            | PtermNode::Match(_, _)
+            | PtermNode::Quantified(_, _, _)
+            | PtermNode::Predicate(_, _) => {}
+        }
+    }
 }
 
 /// A field of a struct literal.

@@ -12,7 +12,6 @@ pub struct TypeTree {
 
 /// What a type is at its top.
 #[cycle(type_tree)]
-#[derive(Drop)]
 pub enum TypeNode {
     /// A name with its arguments, none of them where no `<` stands.
     Named(Name, Vec<TypeTree>),
@@ -25,6 +24,21 @@ pub enum TypeNode {
     SelfView,
     /// A lifetime, which stands among the arguments of a named type alone.
     Lifetime,
+}
+
+// By hand, so that whoever holds one drops it by a call (docs/architecture.md).
+impl Drop for TypeNode {
+    #[cycle(type_tree)]
+    fn drop(self) {
+        match self {
+            TypeNode::Named(_, _)
+            | TypeNode::Tuple(_)
+            | TypeNode::Reference(_, _, _)
+            | TypeNode::SelfType
+            | TypeNode::SelfView
+            | TypeNode::Lifetime => {}
+        }
+    }
 }
 
 impl Model for TypeTree {
