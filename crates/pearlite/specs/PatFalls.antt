@@ -30,25 +30,25 @@ falls s (node.Fields a0 a1 a2) = omega (arith, most_field_pats a1.items)
 
 -- ---- what a drop of parts needs
 
-weighed-Pat : (x : Pat) → size-Pat x ≤ 3 * (pat_size x + 1)
-weighed-Pat x = omega arith
+weighed_pat : (x : Pat) → size-Pat x ≤ 3 * (pat_size x + 1)
+weighed_pat x = omega arith
 
-weigh-Pat : (xs : List Pat) → most (w_this.weight Pat size-Pat) xs ≤ 3 * most (w_this.weight Pat (λ x. pat_size x + 1)) xs
-weigh-Pat [] = omega arith
-weigh-Pat (x ∷ xs) = omega (arith, weighed-Pat x, weigh-Pat xs)
+weigh_pat : (xs : List Pat) → most (w_this.weight Pat size-Pat) xs ≤ 3 * most (w_this.weight Pat (λ x. pat_size x + 1)) xs
+weigh_pat [] = omega arith
+weigh_pat (x ∷ xs) = omega (arith, weighed_pat x, weigh_pat xs)
 
-weighed-FieldPat : (x : FieldPat) → size-FieldPat x ≤ 3 * (max (pat_size x.pattern + 1) 0) + 1
-weighed-FieldPat x = omega arith
+weighed_field_pat : (x : FieldPat) → size-FieldPat x ≤ 3 * (max (pat_size x.pattern + 1) 0) + 1
+weighed_field_pat x = omega arith
 
-weigh-FieldPat : (xs : List FieldPat) → most (w_this.weight FieldPat size-FieldPat) xs ≤ 3 * most (w_this.weight FieldPat (λ x. max (pat_size x.pattern + 1) 0)) xs + 1
-weigh-FieldPat [] = omega arith
-weigh-FieldPat (x ∷ xs) = omega (arith, weighed-FieldPat x, weigh-FieldPat xs)
+weigh_field_pat : (xs : List FieldPat) → most (w_this.weight FieldPat size-FieldPat) xs ≤ 3 * most (w_this.weight FieldPat (λ x. max (pat_size x.pattern + 1) 0)) xs + 1
+weigh_field_pat [] = omega arith
+weigh_field_pat (x ∷ xs) = omega (arith, weighed_field_pat x, weigh_field_pat xs)
 
-pub Tuple-weighs : (n : PatNode) (xs : _) (t : ℕ) → n ≡ node.Tuple xs → 3 * deep-PatNode n + 2 ≡ t → most (w_this.weight Pat size-Pat) xs.items < t
-Tuple-weighs n xs t e d = rw (sym d) (rw e (omega (arith, weigh-Pat xs.items)))
+pub tuple_weighs : (n : PatNode) (xs : _) (t : ℕ) → n ≡ node.Tuple xs → 3 * deep-PatNode n + 2 ≡ t → most (w_this.weight Pat size-Pat) xs.items < t
+tuple_weighs n xs t e d = rw (sym d) (rw e (omega (arith, weigh_pat xs.items)))
 
-pub Parts-weighs : (n : PatNode) (a0 : _) (xs : _) (t : ℕ) → n ≡ node.Parts a0 xs → 3 * deep-PatNode n + 2 ≡ t → most (w_this.weight Pat size-Pat) xs.items < t
-Parts-weighs n a0 xs t e d = rw (sym d) (rw e (omega (arith, weigh-Pat xs.items)))
+pub parts_weighs : (n : PatNode) (a0 : _) (xs : _) (t : ℕ) → n ≡ node.Parts a0 xs → 3 * deep-PatNode n + 2 ≡ t → most (w_this.weight Pat size-Pat) xs.items < t
+parts_weighs n a0 xs t e d = rw (sym d) (rw e (omega (arith, weigh_pat xs.items)))
 
-pub Fields-weighs : (n : PatNode) (a0 : _) (xs : _) (a2 : _) (t : ℕ) → n ≡ node.Fields a0 xs a2 → 3 * deep-PatNode n + 2 ≡ t → most (w_this.weight FieldPat size-FieldPat) xs.items < t
-Fields-weighs n a0 xs a2 t e d = rw (sym d) (rw e (omega (arith, weigh-FieldPat xs.items)))
+pub fields_weighs : (n : PatNode) (a0 : _) (xs : _) (a2 : _) (t : ℕ) → n ≡ node.Fields a0 xs a2 → 3 * deep-PatNode n + 2 ≡ t → most (w_this.weight FieldPat size-FieldPat) xs.items < t
+fields_weighs n a0 xs a2 t e d = rw (sym d) (rw e (omega (arith, weigh_field_pat xs.items)))

@@ -44,41 +44,41 @@ falls s (node.Predicate a0 a1) = omega (arith, most_terms a1.items)
 
 -- ---- what a drop of parts needs
 
-weighed-Pterm : (x : Pterm) → size-Pterm x ≤ 3 * (pterm_size x + 1)
-weighed-Pterm x = omega arith
+weighed_pterm : (x : Pterm) → size-Pterm x ≤ 3 * (pterm_size x + 1)
+weighed_pterm x = omega arith
 
-weigh-Pterm : (xs : List Pterm) → most (w_this.weight Pterm size-Pterm) xs ≤ 3 * most (w_this.weight Pterm (λ x. pterm_size x + 1)) xs
-weigh-Pterm [] = omega arith
-weigh-Pterm (x ∷ xs) = omega (arith, weighed-Pterm x, weigh-Pterm xs)
+weigh_pterm : (xs : List Pterm) → most (w_this.weight Pterm size-Pterm) xs ≤ 3 * most (w_this.weight Pterm (λ x. pterm_size x + 1)) xs
+weigh_pterm [] = omega arith
+weigh_pterm (x ∷ xs) = omega (arith, weighed_pterm x, weigh_pterm xs)
 
-weighed-FieldTerm : (x : FieldTerm) → size-FieldTerm x ≤ 3 * (max (pterm_size x.value + 1) 0) + 1
-weighed-FieldTerm x = omega arith
+weighed_field_term : (x : FieldTerm) → size-FieldTerm x ≤ 3 * (max (pterm_size x.value + 1) 0) + 1
+weighed_field_term x = omega arith
 
-weigh-FieldTerm : (xs : List FieldTerm) → most (w_this.weight FieldTerm size-FieldTerm) xs ≤ 3 * most (w_this.weight FieldTerm (λ x. max (pterm_size x.value + 1) 0)) xs + 1
-weigh-FieldTerm [] = omega arith
-weigh-FieldTerm (x ∷ xs) = omega (arith, weighed-FieldTerm x, weigh-FieldTerm xs)
+weigh_field_term : (xs : List FieldTerm) → most (w_this.weight FieldTerm size-FieldTerm) xs ≤ 3 * most (w_this.weight FieldTerm (λ x. max (pterm_size x.value + 1) 0)) xs + 1
+weigh_field_term [] = omega arith
+weigh_field_term (x ∷ xs) = omega (arith, weighed_field_term x, weigh_field_term xs)
 
-weighed-Arm : (x : Arm) → size-Arm x ≤ 3 * (max (pterm_size x.body + 1) 0) + 1
-weighed-Arm x = omega arith
+weighed_arm : (x : Arm) → size-Arm x ≤ 3 * (max (pterm_size x.body + 1) 0) + 1
+weighed_arm x = omega arith
 
-weigh-Arm : (xs : List Arm) → most (w_this.weight Arm size-Arm) xs ≤ 3 * most (w_this.weight Arm (λ x. max (pterm_size x.body + 1) 0)) xs + 1
-weigh-Arm [] = omega arith
-weigh-Arm (x ∷ xs) = omega (arith, weighed-Arm x, weigh-Arm xs)
+weigh_arm : (xs : List Arm) → most (w_this.weight Arm size-Arm) xs ≤ 3 * most (w_this.weight Arm (λ x. max (pterm_size x.body + 1) 0)) xs + 1
+weigh_arm [] = omega arith
+weigh_arm (x ∷ xs) = omega (arith, weighed_arm x, weigh_arm xs)
 
-pub Method-weighs : (n : PtermNode) (a0 : _) (a1 : _) (xs : _) (t : ℕ) → n ≡ node.Method a0 a1 xs → 3 * deep-PtermNode n + 2 ≡ t → most (w_this.weight Pterm size-Pterm) xs.items < t
-Method-weighs n a0 a1 xs t e d = rw (sym d) (rw e (omega (arith, weigh-Pterm xs.items)))
+pub method_weighs : (n : PtermNode) (a0 : _) (a1 : _) (xs : _) (t : ℕ) → n ≡ node.Method a0 a1 xs → 3 * deep-PtermNode n + 2 ≡ t → most (w_this.weight Pterm size-Pterm) xs.items < t
+method_weighs n a0 a1 xs t e d = rw (sym d) (rw e (omega (arith, weigh_pterm xs.items)))
 
-pub Call-weighs : (n : PtermNode) (a0 : _) (xs : _) (t : ℕ) → n ≡ node.Call a0 xs → 3 * deep-PtermNode n + 2 ≡ t → most (w_this.weight Pterm size-Pterm) xs.items < t
-Call-weighs n a0 xs t e d = rw (sym d) (rw e (omega (arith, weigh-Pterm xs.items)))
+pub call_weighs : (n : PtermNode) (a0 : _) (xs : _) (t : ℕ) → n ≡ node.Call a0 xs → 3 * deep-PtermNode n + 2 ≡ t → most (w_this.weight Pterm size-Pterm) xs.items < t
+call_weighs n a0 xs t e d = rw (sym d) (rw e (omega (arith, weigh_pterm xs.items)))
 
-pub Literal-weighs : (n : PtermNode) (a0 : _) (xs : _) (t : ℕ) → n ≡ node.Literal a0 xs → 3 * deep-PtermNode n + 2 ≡ t → most (w_this.weight FieldTerm size-FieldTerm) xs.items < t
-Literal-weighs n a0 xs t e d = rw (sym d) (rw e (omega (arith, weigh-FieldTerm xs.items)))
+pub literal_weighs : (n : PtermNode) (a0 : _) (xs : _) (t : ℕ) → n ≡ node.Literal a0 xs → 3 * deep-PtermNode n + 2 ≡ t → most (w_this.weight FieldTerm size-FieldTerm) xs.items < t
+literal_weighs n a0 xs t e d = rw (sym d) (rw e (omega (arith, weigh_field_term xs.items)))
 
-pub Tuple-weighs : (n : PtermNode) (xs : _) (t : ℕ) → n ≡ node.Tuple xs → 3 * deep-PtermNode n + 2 ≡ t → most (w_this.weight Pterm size-Pterm) xs.items < t
-Tuple-weighs n xs t e d = rw (sym d) (rw e (omega (arith, weigh-Pterm xs.items)))
+pub tuple_weighs : (n : PtermNode) (xs : _) (t : ℕ) → n ≡ node.Tuple xs → 3 * deep-PtermNode n + 2 ≡ t → most (w_this.weight Pterm size-Pterm) xs.items < t
+tuple_weighs n xs t e d = rw (sym d) (rw e (omega (arith, weigh_pterm xs.items)))
 
-pub Match-weighs : (n : PtermNode) (a0 : _) (xs : _) (t : ℕ) → n ≡ node.Match a0 xs → 3 * deep-PtermNode n + 2 ≡ t → most (w_this.weight Arm size-Arm) xs.items < t
-Match-weighs n a0 xs t e d = rw (sym d) (rw e (omega (arith, weigh-Arm xs.items)))
+pub match_weighs : (n : PtermNode) (a0 : _) (xs : _) (t : ℕ) → n ≡ node.Match a0 xs → 3 * deep-PtermNode n + 2 ≡ t → most (w_this.weight Arm size-Arm) xs.items < t
+match_weighs n a0 xs t e d = rw (sym d) (rw e (omega (arith, weigh_arm xs.items)))
 
-pub Predicate-weighs : (n : PtermNode) (a0 : _) (xs : _) (t : ℕ) → n ≡ node.Predicate a0 xs → 3 * deep-PtermNode n + 2 ≡ t → most (w_this.weight Pterm size-Pterm) xs.items < t
-Predicate-weighs n a0 xs t e d = rw (sym d) (rw e (omega (arith, weigh-Pterm xs.items)))
+pub predicate_weighs : (n : PtermNode) (a0 : _) (xs : _) (t : ℕ) → n ≡ node.Predicate a0 xs → 3 * deep-PtermNode n + 2 ≡ t → most (w_this.weight Pterm size-Pterm) xs.items < t
+predicate_weighs n a0 xs t e d = rw (sym d) (rw e (omega (arith, weigh_pterm xs.items)))

@@ -1,3 +1,7 @@
+ghost use Rattle.std.specs.Prelude.{◌≡◌};
+ghost use Rattle.rs_syntax.specs.ExprView.{expr_of};
+ghost use Rattle.rs_syntax.specs.MakeStatements.{with_else};
+
 use crate::attribute::Attribute;
 use crate::operator::{LazyOp, UnaryOp};
 use crate::param::Param;
@@ -18,7 +22,6 @@ pub struct Expr {
 
 /// What an expression is at its top.
 #[cycle(expr)]
-#[derive(Drop)]
 pub enum ExprNode {
     /// An integer, with the type at its end if it has one. A `-` right before the integer belongs to it.
     Int(i128, Option<IntKind>),
@@ -79,6 +82,48 @@ pub enum ExprNode {
     Call(Box<Expr>, Vec<Expr>),
 }
 
+// By hand, so that whoever holds one drops it by a call (docs/architecture.md).
+impl Drop for ExprNode {
+    #[cycle(expr)]
+    fn drop(self) {
+        match self {
+            ExprNode::Int(_, _)
+            | ExprNode::Truth(_)
+            | ExprNode::Receiver
+            | ExprNode::Path(_)
+            | ExprNode::Literal(_, _)
+            | ExprNode::Tuple(_)
+            | ExprNode::Block(_)
+            | ExprNode::BlockWith(_, _)
+            | ExprNode::If(_, _)
+            | ExprNode::IfElse(_, _, _)
+            | ExprNode::Match(_, _)
+            | ExprNode::While(_, _)
+            | ExprNode::Loop(_)
+            | ExprNode::Attributed(_, _)
+            | ExprNode::Closure(_, _, _, _)
+            | ExprNode::Return
+            | ExprNode::ReturnWith(_)
+            | ExprNode::Break
+            | ExprNode::Continue
+            | ExprNode::Panic(_, _)
+            | ExprNode::Ghost(_, _)
+            | ExprNode::Let(_, _)
+            | ExprNode::Assign(_, _)
+            | ExprNode::Update(_, _, _, _)
+            | ExprNode::Lazy(_, _, _)
+            | ExprNode::Binary(_, _, _, _)
+            | ExprNode::Cast(_, _)
+            | ExprNode::Unary(_, _, _)
+            | ExprNode::Borrow(_, _)
+            | ExprNode::Field(_, _, _)
+            | ExprNode::Part(_, _, _)
+            | ExprNode::Method(_, _, _, _)
+            | ExprNode::Call(_, _) => {}
+        }
+    }
+}
+
 /// A statement of a block.
 #[cycle(expr)]
 #[derive(Drop)]
@@ -105,6 +150,21 @@ pub struct FieldExpr {
     pub span: Span,
     pub name: Segment,
     pub value: Expr,
+}
+
+impl ExprNode {
+    /// The node at its place as an expression: the `if` with its `else`, any other as it is.
+    pub(crate) fn with_else(self, place: Span, span: Span, other: Box<Expr>) -> Expr
+        ensures { result ≡ with_else span (expr_of place self) other.value }
+    {
+        match self {
+            ExprNode::If(condition, body) => Expr {
+                span,
+                node: ExprNode::IfElse(condition, body, other),
+            },
+            node => Expr { span: place, node },
+        }
+    }
 }
 
 impl Model for Expr {

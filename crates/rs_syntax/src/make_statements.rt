@@ -298,21 +298,9 @@ pub fn else_branch(
 fn with_else(span: Span, expr: Expr, other: Box<Expr>) -> Expr
     ensures { result ≡ with_else span expr other.value }
 {
-    let place = expr.span;
-    match expr.node {
-        ExprNode::If(condition, body) => Expr {
-            span,
-            node: ExprNode::IfElse(condition, body, other),
-        },
-        node => {
-            discard_box(other);
-            Expr { span: place, node }
-        }
-    }
+    let Expr { span: place, node } = expr;
+    node.with_else(place, span, other)
 }
-
-/// An expression that nothing needs.
-fn discard_box(_expr: Box<Expr>) {}
 
 /// `let`, the pattern, and what it is tried on.
 pub fn tried(alloc: Global, span: Span, parts: &mut VecDeque<Value>) -> Result<Piece, NoMemory>

@@ -23,7 +23,9 @@ pub const NO_WORD: Word = Word {
 };
 
 /// A piece of a term that nothing needs.
-pub fn discard_plain(_piece: PlainPiece) {}
+pub fn discard_plain(piece: PlainPiece) {
+    drop(piece);
+}
 
 pub fn no_type() -> TypeTree
     ensures { result ≡ Ty.self_type nowhere }
