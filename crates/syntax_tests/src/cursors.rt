@@ -106,7 +106,7 @@ fn has_two_terms(alloc: Global, text: &[u8]) -> bool {
         Ok(first) => {
             let behind = cursor.place();
             match parse_term(alloc, &mut cursor, &mut names) {
-                Ok(second) => match (first.node, second.node) {
+                Ok(second) => match (&first.node, &second.node) {
                     (PtermNode::Int(5, None), PtermNode::Path(_)) => {
                         behind == 1 && cursor.place() == 2
                     }
