@@ -1,6 +1,7 @@
--- One statement more of a walk.
-use Rattle.std.proofs.Common.{◌≡◌, ◌∙◌, sym, ap, subst, ℕ, suc, ◌+◌, ◌-◌, ◌*◌, ◌<◌, ◌≤◌, Some, None, true, false, cond, List, [], ◌∷◌, ◌++◌, length, get_or, drop, arith}
+-- Goals of a walk.
+use Rattle.std.proofs.Common.{◌≡◌, ◌∙◌, sym, ap, subst, ℕ, suc, ◌+◌, ◌-◌, ◌*◌, ◌<◌, ◌≤◌, Some, None, true, false, cond, List, [], ◌∷◌, ◌++◌, length, get_or, drop, refl, arith}
 use Rattle.std.proofs.Math.Seq.{drop-cons}
+use Rattle.std.proofs.lemmas.List.{drop_all, append_assoc, map-append}
 use Rattle.logic_term.specs.declared.kinds.Label.{Label}
 use Rattle.mir_ir.specs.declared.statement.Statement.{Statement}
 use Rattle.mir_ir.specs.declared.terminator.Terminator.{Terminator}
@@ -22,24 +23,62 @@ use Rattle.mir_ir.specs.declared.body.Block.{Block}
 use Rattle.mir_ir.specs.declared.body.Head.{Head}
 use Rattle.mir_ir.specs.Body.{block_in}
 use Rattle.mir_ir.specs.Layout.{among}
-use Rattle.wp_gen.specs.Walk.{seen_before, each_goal, goals_at_return, where_true, where_false, head_commands, goals_of_call, call_commands, Setting, Walks, Arrives, statement, branch, call, return, plain, first, again}
+use Rattle.wp_gen.specs.Command.{before, before_all}
+use Rattle.wp_gen.specs.Walk.{goal_before, seen_before, each_goal, goals_at_return, where_true, where_false, head_commands, goals_of_call, call_commands, Setting, Walks, Arrives, statement, branch, call, return, plain, first, again}
 use Rattle.logic_term.specs.Term.{Term}
 use Rattle.wp_gen.specs.Walkable.{IsKnown, GoesThroughCall, MayArrive, MayWalk}
 use Rattle.wp_gen.proofs.ArriveLaws.{read_there, room, arrival_measure, plain_block}
 
-split_at : (sts : List Statement) (i : ℕ) (st : Statement) → 0 < i → i ≤ length sts → st ≡ get_or sts (i - 1) st → drop (i - 1) sts ≡ st ∷ drop i sts
-split_at sts i st above within read =
-    let next : suc (i - 1) ≡ i = omega arith in
-    drop-cons sts (i - 1) st (omega arith) ∙ ap (λ x. x ∷ drop (suc (i - 1)) sts) (sym read) ∙ ap (λ n. st ∷ drop n sts) next
+-- ---- goals before more commands
 
--- the goals from a statement on, of those after it
-pub one_statement : (w : Setting) (heads : List Label) (end : Terminator) (n : ℕ) (sts : List Statement) (i : ℕ) (st : Statement) (old given new : List Goal) →
-    0 < i → i ≤ length sts → st ≡ get_or sts (i - 1) st → given ≡ old → new ≡ goals_of w.body st.span st.kind ++ seen_before (commands_of w.body st.kind) given →
-    Walks w heads (drop i sts) end old n → Walks w heads (drop (i - 1) sts) end new n
-one_statement w heads end n sts i st old given new above within read same made walks =
-    let after : Walks w heads (st ∷ drop i sts) end (goals_of w.body st.span st.kind ++ seen_before (commands_of w.body st.kind) old) n = statement walks in
-    let is : goals_of w.body st.span st.kind ++ seen_before (commands_of w.body st.kind) old ≡ new = sym (made ∙ ap (λ gs. goals_of w.body st.span st.kind ++ seen_before (commands_of w.body st.kind) gs) same) in
-    subst (λ xs. Walks w heads xs end new n) (sym (split_at sts i st above within read)) (subst (λ gs. Walks w heads (st ∷ drop i sts) end gs n) is after)
+pub before_more : (cs ds : List Command) (φ : Term) → before_all (cs ++ ds) φ ≡ before_all cs (before_all ds φ)
+before_more [] ds φ = refl
+before_more (c ∷ cs) ds φ = ap (before c) (before_more cs ds φ)
+
+goal_before_more : (cs ds : List Command) (g : Goal) → goal_before (cs ++ ds) g ≡ goal_before cs (goal_before ds g)
+goal_before_more cs ds g = ap (λ φ. record { kind = g.kind; span = g.span; formula = φ }) (before_more cs ds g.formula)
+
+seen_before_more : (cs ds : List Command) (gs : List Goal) → seen_before (cs ++ ds) gs ≡ seen_before cs (seen_before ds gs)
+seen_before_more cs ds [] = refl
+seen_before_more cs ds (g ∷ gs) = ap (λ h. h ∷ seen_before (cs ++ ds) gs) (goal_before_more cs ds g) ∙ ap (λ hs. goal_before cs (goal_before ds g) ∷ hs) (seen_before_more cs ds gs)
+
+pub seen_before_none : (gs : List Goal) → seen_before [] gs ≡ gs
+seen_before_none [] = refl
+seen_before_none (g ∷ gs) = ap (λ hs. g ∷ hs) (seen_before_none gs)
+
+more_goals : (cs ds : List Command) (known own gs : List Goal) → known ++ seen_before cs (own ++ seen_before ds gs) ≡ (known ++ seen_before cs own) ++ seen_before (cs ++ ds) gs
+more_goals cs ds known own gs =
+    ap (λ xs. known ++ xs) (map-append (goal_before cs) own (seen_before ds gs))
+    ∙ sym (append_assoc known (seen_before cs own) (seen_before cs (seen_before ds gs)))
+    ∙ ap (λ xs. (known ++ seen_before cs own) ++ xs) (sym (seen_before_more cs ds gs))
+
+-- whatever the goals after the first i statements are, these are the goals from the first on
+abbrev pub GoesThrough : Setting → List Statement → ℕ → List Goal → List Command → Type 0
+GoesThrough w sts i goals cs = (heads : List Label) (end : Terminator) (n : ℕ) (gs : List Goal) → Walks w heads (drop i sts) end gs n → Walks w heads sts end (goals ++ seen_before cs gs) n
+
+pub nothing_yet : (w : Setting) (sts : List Statement) (goals : List Goal) (cs : List Command) → goals ≡ [] → cs ≡ [] → GoesThrough w sts 0 goals cs
+nothing_yet w sts goals cs no_goals no_commands heads end n gs walks =
+    let is : goals ++ seen_before cs gs ≡ gs = ap (λ xs. xs ++ seen_before cs gs) no_goals ∙ ap (λ ds. seen_before ds gs) no_commands ∙ seen_before_none gs in
+    subst (λ xs. Walks w heads sts end xs n) (sym is) walks
+
+pub one_statement : (w : Setting) (sts : List Statement) (i : ℕ) (st : Statement) (goals goals' : List Goal) (cs given cs' : List Command) → i < length sts → st ≡ get_or sts i st →
+    given ≡ cs → goals' ≡ goals ++ seen_before given (goals_of w.body st.span st.kind) → cs' ≡ cs ++ commands_of w.body st.kind → GoesThrough w sts i goals cs → GoesThrough w sts (i + 1) goals' cs'
+one_statement w sts i st goals goals' cs given cs' within read same made said so_far heads end n gs walks =
+    let next : suc i ≡ i + 1 = omega arith in
+    let split : drop i sts ≡ st ∷ drop (i + 1) sts = drop-cons sts i st within ∙ ap (λ x. x ∷ drop (suc i) sts) (sym read) ∙ ap (λ m. st ∷ drop m sts) next in
+    let here : Walks w heads (drop i sts) end (goals_of w.body st.span st.kind ++ seen_before (commands_of w.body st.kind) gs) n = subst (λ xs. Walks w heads xs end (goals_of w.body st.span st.kind ++ seen_before (commands_of w.body st.kind) gs) n) (sym split) (statement walks) in
+    let is : goals ++ seen_before cs (goals_of w.body st.span st.kind ++ seen_before (commands_of w.body st.kind) gs) ≡ goals' ++ seen_before cs' gs =
+    more_goals cs (commands_of w.body st.kind) goals (goals_of w.body st.span st.kind) gs
+    ∙ ap (λ xs. (goals ++ seen_before xs (goals_of w.body st.span st.kind)) ++ seen_before (cs ++ commands_of w.body st.kind) gs) (sym same)
+    ∙ ap (λ xs. xs ++ seen_before (cs ++ commands_of w.body st.kind) gs) (sym made)
+    ∙ ap (λ xs. goals' ++ seen_before xs gs) (sym said) in
+    subst (λ xs. Walks w heads sts end xs n) is (so_far heads end n _ here)
+
+pub all_statements : (w : Setting) (sts : List Statement) (i : ℕ) (goals ends new : List Goal) (cs given : List Command) → length sts ≤ i → given ≡ cs → new ≡ goals ++ seen_before given ends → GoesThrough w sts i goals cs →
+    (heads : List Label) (end : Terminator) (n : ℕ) → Walks w heads [] end ends n → Walks w heads sts end new n
+all_statements w sts i goals ends new cs given past same made so_far heads end n walks =
+    let here : Walks w heads (drop i sts) end ends n = subst (λ xs. Walks w heads xs end ends n) (sym (drop_all i sts past)) walks in
+    subst (λ xs. Walks w heads sts end xs n) (ap (λ xs. goals ++ seen_before xs ends) (sym same) ∙ sym made) (so_far heads end n ends here)
 
 pub through_a_call : (w : Setting) (at : Span) (p : Place) (f : ℕ) (args : List Operand) (after new owed : List Goal) (cs given : List Command) (r : Contract) (t : Ty) (locals : List Ty) →
     IsKnown w f p → locals ≡ w.body.locals → t ≡ get_or locals p.local t →

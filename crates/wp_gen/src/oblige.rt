@@ -71,12 +71,7 @@ fn goals(alloc: Global, walk: &Walk<'_>) -> Result<Vec<Goal>, NoMemory>
 {
     let inner = goals_from_entry(alloc, walk)?;
     let commands = entry_commands(alloc, walk.body, walk.contract)?;
-    with_seen_before(
-        alloc,
-        Vec::new(alloc),
-        commands.as_slice(),
-        inner.as_slice(),
-    )
+    with_seen_before(alloc, Vec::new(alloc), commands.as_slice(), inner)
 }
 
 fn obligation(alloc: Global, owner: &Text, number: u32, goal: &Goal) -> Result<Obligation, NoMemory>

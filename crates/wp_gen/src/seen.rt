@@ -26,23 +26,28 @@ fn before(alloc: Global, command: &Command, formula: Term) -> Result<Term, NoMem
     }
 }
 
-fn before_all(alloc: Global, commands: &[Command], formula: &Term) -> Result<Term, NoMemory>
-    ensures { IfOk result (λ t. t ≡ before_all commands.now formula.now) }
+fn before_all(alloc: Global, commands: &[Command], formula: Term) -> Result<Term, NoMemory>
+    ensures { IfOk result (λ t. t ≡ before_all commands.now formula) }
 {
-    let mut seen = formula.copy(alloc)?;
+    let mut seen = formula;
     for i in (0..commands.len()).rev() {
         seen = before(alloc, &commands[i], seen)?;
     }
     Ok(seen)
 }
 
-fn goal_before(alloc: Global, commands: &[Command], goal: &Goal) -> Result<Goal, NoMemory>
-    ensures { IfOk result (λ g. g ≡ goal_before commands.now goal.now) }
+fn goal_before(alloc: Global, commands: &[Command], goal: Goal) -> Result<Goal, NoMemory>
+    ensures { IfOk result (λ g. g ≡ goal_before commands.now goal) }
 {
-    let formula = before_all(alloc, commands, &goal.formula)?;
+    let Goal {
+        kind,
+        span,
+        formula,
+    } = goal;
+    let formula = before_all(alloc, commands, formula)?;
     Ok(Goal {
-        kind: goal.kind,
-        span: goal.span,
+        kind,
+        span,
         formula,
     })
 }
@@ -52,9 +57,9 @@ pub(crate) fn with_seen_before(
     alloc: Global,
     first: Vec<Goal>,
     commands: &[Command],
-    goals: &[Goal],
+    goals: Vec<Goal>,
 ) -> Result<Vec<Goal>, NoMemory>
-    ensures { IfOk result (λ v. v.items ≡ first.items ++ seen_before commands.now goals.now) }
+    ensures { IfOk result (λ v. v.items ≡ first.items ++ seen_before commands.now goals.items) }
 {
     let mut all = first;
     for goal in goals {

@@ -89,10 +89,10 @@ fn both_sides(
     alloc: Global,
     body: &Body,
     operand: &Operand,
-    yes: &[Goal],
-    no: &[Goal],
+    yes: Vec<Goal>,
+    no: Vec<Goal>,
 ) -> Result<Vec<Goal>, NoMemory>
-    ensures { IfOk result (λ v. v.items ≡ seen_before (where_true body.now operand.now) yes.now ++ seen_before (where_false body.now operand.now) no.now) }
+    ensures { IfOk result (λ v. v.items ≡ seen_before (where_true body.now operand.now) yes.items ++ seen_before (where_false body.now operand.now) no.items) }
 {
     let is_true = where_true(alloc, body, operand)?;
     let is_false = where_false(alloc, body, operand)?;
@@ -102,20 +102,37 @@ fn both_sides(
 
 // ---- statements
 
-fn through_one(
+/// The goals of a statement, the commands standing before each, behind others.
+fn with_goals_of(
     alloc: Global,
     body: &Body,
     statement: &Statement,
-    goals: &[Goal],
+    first: Vec<Goal>,
+    before: &[Command],
 ) -> Result<Vec<Goal>, NoMemory>
-    ensures { IfOk result (λ v. v.items ≡ goals_of body.now statement.now.span statement.now.kind ++ seen_before (commands_of body.now statement.now.kind) goals.now) }
+    ensures { IfOk result (λ v. v.items ≡ first.items ++ seen_before before.now (goals_of body.now statement.now.span statement.now.kind)) }
 {
-    let first = goals_of(alloc, body, statement.span, &statement.kind)?;
-    let commands = commands_of(alloc, body, &statement.kind)?;
-    with_seen_before(alloc, first, commands.as_slice(), goals)
+    let own = goals_of(alloc, body, statement.span, &statement.kind)?;
+    with_seen_before(alloc, first, before, own)
 }
 
-/// The goals from the first statement on, of those after the last.
+/// The commands of a statement, behind others.
+fn with_commands_of(
+    alloc: Global,
+    body: &Body,
+    statement: &Statement,
+    first: Vec<Command>,
+) -> Result<Vec<Command>, NoMemory>
+    ensures { IfOk result (λ v. v.items ≡ first.items ++ commands_of body.now statement.now.kind) }
+{
+    let mut all = first;
+    let mut own = commands_of(alloc, body, &statement.kind)?;
+    all.append(&mut own)?;
+    Ok(all)
+}
+
+/// The goals from the first statement on, of those after the last. Each goal goes through all that stands before it at once, while it
+/// is at hand.
 fn through(
     alloc: Global,
     walk: &Walk<'_>,
@@ -124,11 +141,13 @@ fn through(
 ) -> Result<Vec<Goal>, NoMemory>
     ensures { IfOk result (λ v. (heads : List LabelValue) (end : TerminatorValue) (n : ℕ) → Walks (setting walk.now) heads [] end ends.items n → Walks (setting walk.now) heads statements.now end v.items n) }
 {
-    let mut goals = ends;
-    for i in (0..statements.len()).rev() {
-        goals = through_one(alloc, walk.body, &statements[i], goals.as_slice())?;
+    let mut goals = Vec::new(alloc);
+    let mut before = Vec::new(alloc);
+    for statement in statements {
+        goals = with_goals_of(alloc, walk.body, statement, goals, before.as_slice())?;
+        before = with_commands_of(alloc, walk.body, statement, before)?;
     }
-    Ok(goals)
+    with_seen_before(alloc, goals, before.as_slice(), ends)
 }
 
 // ---- blocks
@@ -159,10 +178,10 @@ fn through_call(
     place: &Place,
     function: u32,
     args: &[Operand],
-    goals: &[Goal],
+    goals: Vec<Goal>,
 ) -> Result<Vec<Goal>, NoMemory>
     requires { IsKnown (setting walk.now) function place.now }
-    ensures { IfOk result (λ v. GoesThroughCall (setting walk.now) span place.now function args.now goals.now v.items) }
+    ensures { IfOk result (λ v. GoesThroughCall (setting walk.now) span place.now function args.now goals.items v.items) }
 {
     let callee = &walk.contracts[function as usize];
     let ty = &walk.body.locals.as_slice()[place.local as usize];
@@ -189,13 +208,7 @@ fn end_goals(
         TerminatorKind::If(operand, yes, no) => {
             let true_side = arrive(alloc, walk, heads, *yes)?;
             let false_side = arrive(alloc, walk, heads, *no)?;
-            both_sides(
-                alloc,
-                walk.body,
-                operand,
-                true_side.as_slice(),
-                false_side.as_slice(),
-            )
+            both_sides(alloc, walk.body, operand, true_side, false_side)
         }
         TerminatorKind::Call(place, callee, args, next) => {
             let function = body_number(*callee);
@@ -207,7 +220,7 @@ fn end_goals(
                 place,
                 function,
                 args.as_slice(),
-                goals.as_slice(),
+                goals,
             )
         }
         TerminatorKind::Return => goals_at_return(alloc, walk.body, walk.contract),
@@ -257,7 +270,7 @@ fn first_arrival(
     let commands = head_commands(alloc, walk.body, walk.init, label, head)?;
     let passed = with_label(alloc, label, heads)?;
     let goals = block_goals(alloc, walk, passed.as_slice(), label, block)?;
-    with_seen_before(alloc, entered, commands.as_slice(), goals.as_slice())
+    with_seen_before(alloc, entered, commands.as_slice(), goals)
 }
 
 /// The goals from the arrival at a block on.

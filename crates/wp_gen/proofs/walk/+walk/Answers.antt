@@ -1,6 +1,6 @@
 use Rattle.text_core.specs.declared.refusal.Kind.TheVariants.{InvEntry}
 use Rattle.wp_gen.specs.Walk.{each_goal}
-use Rattle.std.proofs.Common.{◌∙◌, ap, sym, arith}
+use Rattle.std.proofs.Common.{◌∙◌, ap, sym, refl, arith}
 use Rattle.std.proofs.lemmas.Result.{IfOk-weaker}
 use Rattle.wp_gen.specs.Walk.{goto}
 use Rattle.wp_gen.specs.Walkable.{setting}
@@ -40,8 +40,8 @@ pub end_goals-returns-in_ok-false_side-in-If : goal.end_goals-returns-in_ok-fals
 end_goals-returns-in_ok-false_side-in-If t c =
     IfOk-weaker c.both_sides.result _ _
     (λ v e. branch_walks (setting c.args.walk.now) c.args.heads.now c.args.block.now.end c.in-If.operand c.in-If.yes c.in-If.no
-    c.in_ok-true_side-in-If.true_side.items c.in_ok-false_side-in-If.false_side.items c.as_slice.result.now c.as_slice-in-If.result.now v.items
-    c.in-If.is c.in_ok-true_side-in-If.ensures c.in_ok-false_side-in-If.ensures c.as_slice.ensures.value c.as_slice-in-If.ensures.value e)
+    c.in_ok-true_side-in-If.true_side.items c.in_ok-false_side-in-If.false_side.items _ _ v.items
+    c.in-If.is c.in_ok-true_side-in-If.ensures c.in_ok-false_side-in-If.ensures refl refl e)
     c.both_sides.ensures
 
 pub end_goals-returns-in_ok-goals-in-Call : goal.end_goals-returns-in_ok-goals-in-Call
@@ -50,7 +50,7 @@ end_goals-returns-in_ok-goals-in-Call t c =
     (λ v through. call_walks (setting c.args.walk.now) c.args.heads.now c.args.block.now.end c.in-Call.place c.body_number-function.result c.in-Call.args _ c.in-Call.next
     c.in_ok-goals-in-Call.goals.items _ v.items
     (called c.args.block.now.end.kind c.in-Call.place c.in-Call.callee c.in-Call.args c.in-Call.next c.body_number-function.result c.in-Call.is c.body_number-function.ensures)
-    c.in_ok-goals-in-Call.ensures c.as_slice-in-Call-2.ensures.value c.as_slice-in-Call.ensures through)
+    c.in_ok-goals-in-Call.ensures refl c.as_slice.ensures through)
     c.through_call.ensures
 
 pub end_goals-returns-in-Return : goal.end_goals-returns-in-Return
@@ -62,7 +62,7 @@ first_arrival-returns t c =
     IfOk-weaker c.with_seen_before.result _ _
     (λ v e. first_arrives (setting c.args.walk.now) c.args.heads.now c.args.label c.args.block.now c.args.head.now c.in_ok-entered.entered.items c.in_ok-goals.goals.items _ v.items
     c.in_ok-commands.commands.items _ c.as_slice-3.result.now c.requires.block c.requires.head c.requires.not_passed (c.as_slice-3.ensures.value ∙ c.in_ok-passed.ensures) c.in_ok-goals.ensures
-    (c.in_ok-entered.ensures ∙ ap (λ ts. each_goal InvEntry ts c.as_slice-2.result.now) c.as_slice.ensures ∙ ap (each_goal InvEntry c.args.head.now.invariants) c.as_slice-2.ensures) c.in_ok-commands.ensures c.as_slice-4.ensures.value c.as_slice-5.ensures.value e)
+    (c.in_ok-entered.ensures ∙ ap (λ ts. each_goal InvEntry ts c.as_slice-2.result.now) c.as_slice.ensures ∙ ap (each_goal InvEntry c.args.head.now.invariants) c.as_slice-2.ensures) c.in_ok-commands.ensures c.as_slice-4.ensures.value refl e)
     c.with_seen_before.ensures
 
 pub arrive-returns-in-None : goal.arrive-returns-in-None
