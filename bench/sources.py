@@ -1,4 +1,5 @@
-"""Writes a source of many functions, and their proofs: sums with bounds, or loops and calls."""
+"""Writes a source and its proofs: many functions of sums with bounds, or of loops and calls; one function of many additions
+in a row; or a long source that is refused at its last word."""
 import sys
 
 
@@ -33,10 +34,27 @@ def loop_function(k):
     return source, proofs
 
 
+def additions(count):
+    """One function of so many additions in a row, without proofs: what is measured is how long its goals take."""
+    return f"fn f(x: u64) -> u64 {{ x{' + x' * count} }}\n", ""
+
+
+def long_source(size):
+    """Some `size` bytes: one function of many short sums, and a word at the end that cannot stand there."""
+    line = "    let x = y + 1 + 2 + 3 + 4;\n"
+    return "fn f(y: i32) {\n" + line * (size // len(line)) + "}\nelse\n", ""
+
+
+def texts_of(kind, count):
+    if kind in ("additions", "long"):
+        return [{"additions": additions, "long": long_source}[kind](count)]
+    function = {"sums": sum_function, "loops": loop_function}[kind]
+    return [function(k) for k in range(1, count + 1)]
+
+
 def main():
     kind, count, source_name, proofs_name = sys.argv[1], int(sys.argv[2]), sys.argv[3], sys.argv[4]
-    function = {"sums": sum_function, "loops": loop_function}[kind]
-    texts = [function(k) for k in range(1, count + 1)]
+    texts = texts_of(kind, count)
     with open(source_name, "w", encoding="utf-8") as out:
         out.writelines(source for source, _ in texts)
     with open(proofs_name, "w", encoding="utf-8") as out:
