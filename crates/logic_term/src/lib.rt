@@ -11,7 +11,8 @@ mod term;
 mod ty;
 
 pub use kinds::{
-    AdtId, ArithOp, BinaryOp, Ctor, FnKind, IntKind, Label, Label2, LogicFn, Region, TraitId,
+    AdtId, ArithOp, BinaryOp, Ctor, FnKind, IntKind, Label, Label2, LogicFn, Region, TermBinary,
+    TermUnary, TraitId, TyUnary,
 };
 pub use laws::{
     bound_names_do_not_count, free_names_alone_count, normal_forms_keep_values,
@@ -22,4 +23,4 @@ pub use normal::reduce;
 pub use obligation::{Bounds, Contract, Instance, Obligation};
 pub use subst::{Renaming, Replacement};
 pub use term::{Sort, Term, TermNode};
-pub use ty::{FnBound, Ty, TyNode, copy_types, same_types};
+pub use ty::{CompoundTy, FnBound, Ty, TyNode, copy_types, same_types};

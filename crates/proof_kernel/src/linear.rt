@@ -10,7 +10,7 @@ ghost use Rattle.proof_kernel.specs.Rules.{hypothesis, sort_of};
 use crate::lin_arith::{CertAnswer, Part, Row, check_certificate};
 use crate::sequent::Sequent;
 use crate::step::{Multiple, Reference};
-use logic_term::{ArithOp, Label2, Sort, Term, TermNode, TyNode};
+use logic_term::{ArithOp, Label2, Sort, Term, TermBinary, TermNode, TermUnary, TyNode};
 use std::alloc::Global;
 use text_core::{Items, Name, NoMemory};
 
@@ -71,10 +71,11 @@ fn is_integer_var(vars: &[(Name, Sort)], name: Name) -> bool
 fn is_integer(vars: &[(Name, Sort)], t: &Term) -> bool
     ensures { result ≡ is_integer vars.now t.now }
 {
-    match &t.node {
+    match &*t.node {
         TermNode::Var(name) => is_integer_var(vars, *name),
         TermNode::Lit(_, sort) => matches!(sort.node, TyNode::MathInt),
-        TermNode::Model(_) | TermNode::Neg(_) | TermNode::Arith(_, _, _) => true,
+        TermNode::Unary(TermUnary::Model | TermUnary::Negative, _)
+        | TermNode::Binary(TermBinary::Arith(_), _, _) => true,
         _ => false,
     }
 }
@@ -95,11 +96,11 @@ fn hypothesis(label: Label2, hyps: &[(Label2, Term)]) -> Option<&Term>
 fn row_of<'a>(vars: &[(Name, Sort)], t: &'a Term) -> Option<Sides<'a>>
     ensures { option_map difference result ≡ row_of vars.now t.now }
 {
-    match &t.node {
-        TermNode::AtMost(a, b) => Some(at_least(b, a)),
-        TermNode::Less(a, b) => Some(greater(b, a)),
-        TermNode::Equal(a, b) if is_integer(vars, a) => Some(at_least(b, a)),
-        TermNode::Not(denied) => row_of_goal(denied),
+    match &*t.node {
+        TermNode::Binary(TermBinary::AtMost, a, b) => Some(at_least(b, a)),
+        TermNode::Binary(TermBinary::Less, a, b) => Some(greater(b, a)),
+        TermNode::Binary(TermBinary::Equal, a, b) if is_integer(vars, a) => Some(at_least(b, a)),
+        TermNode::Unary(TermUnary::Not, denied) => row_of_goal(denied),
         _ => None,
     }
 }
@@ -108,8 +109,8 @@ fn row_of<'a>(vars: &[(Name, Sort)], t: &'a Term) -> Option<Sides<'a>>
 fn row_back<'a>(vars: &[(Name, Sort)], t: &'a Term) -> Option<Sides<'a>>
     ensures { option_map difference result ≡ row_back vars.now t.now }
 {
-    match &t.node {
-        TermNode::Equal(a, b) if is_integer(vars, a) => Some(at_least(a, b)),
+    match &*t.node {
+        TermNode::Binary(TermBinary::Equal, a, b) if is_integer(vars, a) => Some(at_least(a, b)),
         _ => None,
     }
 }
@@ -118,9 +119,9 @@ fn row_back<'a>(vars: &[(Name, Sort)], t: &'a Term) -> Option<Sides<'a>>
 fn row_of_goal(t: &Term) -> Option<Sides<'_>>
     ensures { option_map difference result ≡ row_of_goal t.now }
 {
-    match &t.node {
-        TermNode::AtMost(a, b) => Some(greater(a, b)),
-        TermNode::Less(a, b) => Some(at_least(a, b)),
+    match &*t.node {
+        TermNode::Binary(TermBinary::AtMost, a, b) => Some(greater(a, b)),
+        TermNode::Binary(TermBinary::Less, a, b) => Some(at_least(a, b)),
         _ => None,
     }
 }
@@ -190,12 +191,13 @@ fn add_atom(alloc: Global, table: &mut Items<Term>, atom: &Term) -> Result<(), N
 fn add_atoms(alloc: Global, table: &mut Items<Term>, t: &Term) -> Result<(), NoMemory>
     ensures { OnOk result (table.new ≡ with_atoms table.old t.now) }
 {
-    match &t.node {
-        TermNode::Arith(ArithOp::Add, a, b) | TermNode::Arith(ArithOp::Sub, a, b) => {
+    match &*t.node {
+        TermNode::Binary(TermBinary::Arith(ArithOp::Add), a, b)
+        | TermNode::Binary(TermBinary::Arith(ArithOp::Sub), a, b) => {
             add_atoms(alloc, table, a)?;
             add_atoms(alloc, table, b)
         }
-        TermNode::Neg(a) => add_atoms(alloc, table, a),
+        TermNode::Unary(TermUnary::Negative, a) => add_atoms(alloc, table, a),
         TermNode::Lit(_, _) => Ok(()),
         _ => add_atom(alloc, table, t),
     }
@@ -220,18 +222,18 @@ fn atoms_of(alloc: Global, all: &[Sides]) -> Result<Items<Term>, NoMemory>
 fn factor(atom: &Term, t: &Term) -> Option<i128>
     ensures { SomeIff result (IsNarrowFactor atom.now t.now) (factor atom.now t.now) }
 {
-    match &t.node {
-        TermNode::Arith(ArithOp::Add, a, b) => {
+    match &*t.node {
+        TermNode::Binary(TermBinary::Arith(ArithOp::Add), a, b) => {
             let left = factor(atom, a)?;
             let right = factor(atom, b)?;
             left.checked_add(right)
         }
-        TermNode::Arith(ArithOp::Sub, a, b) => {
+        TermNode::Binary(TermBinary::Arith(ArithOp::Sub), a, b) => {
             let left = factor(atom, a)?;
             let right = factor(atom, b)?;
             left.checked_sub(right)
         }
-        TermNode::Neg(a) => factor(atom, a)?.checked_neg(),
+        TermNode::Unary(TermUnary::Negative, a) => factor(atom, a)?.checked_neg(),
         TermNode::Lit(_, _) => Some(0),
         _ => Some(factor_itself(atom, t)),
     }
@@ -249,10 +251,14 @@ fn factor_itself(atom: &Term, t: &Term) -> i128
 fn constant(t: &Term) -> Option<i128>
     ensures { SomeIff result (IsNarrowConstant t.now) (constant t.now) }
 {
-    match &t.node {
-        TermNode::Arith(ArithOp::Add, a, b) => constant(a)?.checked_add(constant(b)?),
-        TermNode::Arith(ArithOp::Sub, a, b) => constant(a)?.checked_sub(constant(b)?),
-        TermNode::Neg(a) => constant(a)?.checked_neg(),
+    match &*t.node {
+        TermNode::Binary(TermBinary::Arith(ArithOp::Add), a, b) => constant(a)?.checked_add(
+            constant(b)?,
+        ),
+        TermNode::Binary(TermBinary::Arith(ArithOp::Sub), a, b) => constant(a)?.checked_sub(
+            constant(b)?,
+        ),
+        TermNode::Unary(TermUnary::Negative, a) => constant(a)?.checked_neg(),
         TermNode::Lit(number, _) => Some(*number),
         _ => Some(0),
     }
