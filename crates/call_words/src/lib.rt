@@ -4,8 +4,6 @@
 mod grammar;
 mod laws;
 mod request;
-#[cfg(test)]
-mod tests;
 
 pub use laws::{plain_words_ask, words_read_as_the_table};
 pub use request::{Request, Verb, request_of};

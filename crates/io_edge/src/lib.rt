@@ -7,8 +7,6 @@ mod memory_sink;
 mod shelf;
 mod sink;
 mod std_sink;
-#[cfg(test)]
-mod tests;
 mod writing;
 
 pub use file_shelf::FileShelf;

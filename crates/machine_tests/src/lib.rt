@@ -1,6 +1,8 @@
-//! Tests of the obligations of bodies, and of their runs.
+//! Tests of bodies, of their obligations, and of their runs.
 #![tactic(auto)]
 
+#[cfg(test)]
+mod bodies;
 #[cfg(test)]
 mod obligations;
 #[cfg(test)]

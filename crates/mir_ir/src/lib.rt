@@ -5,8 +5,6 @@ mod body;
 mod place;
 mod statement;
 mod terminator;
-#[cfg(test)]
-mod tests;
 
 pub use body::{Block, Bodies, Body, Head, Initialised, Point};
 pub use place::{Lit, Operand, Place, Proj};

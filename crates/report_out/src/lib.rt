@@ -5,8 +5,6 @@ mod line;
 mod listed;
 mod printing;
 mod refusal;
-#[cfg(test)]
-mod tests;
 mod verdict;
 
 pub use listed::{ListedItem, listing};

@@ -9,8 +9,6 @@ mod lexer;
 mod marks;
 mod strings;
 mod tables;
-#[cfg(test)]
-mod tests;
 mod token;
 mod words;
 

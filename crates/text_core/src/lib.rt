@@ -8,8 +8,6 @@ pub mod name;
 mod names;
 mod refusal;
 mod span;
-#[cfg(test)]
-mod tests;
 mod text;
 
 pub use fault::NoMemory;

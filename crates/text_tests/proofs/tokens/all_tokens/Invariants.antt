@@ -1,7 +1,7 @@
 use Rattle.std.proofs.Common.{◌≡◌, ◌≤◌, ◌-◌, length, None}
 use Rattle.std.specs.Str.{IsUtf8}
 use Rattle.rs_tokens.specs.Reading.{HasGiven}
-use Rattle.rs_tokens.proofs.tests.all_tokens.Given as goal
+use Rattle.text_tests.proofs.tokens.all_tokens.Given as goal
 
 abbrev pub invariant-loop-tokens : goal.invariant-loop-tokens
 invariant-loop-tokens l = record {

@@ -3,7 +3,7 @@ use Rattle.std.specs.Str.{IsUtf8}
 use Rattle.text_core.specs.declared.refusal.SourceError.{SourceError}
 use Rattle.rs_tokens.specs.Reading.{Gives, nothing, one_more, HasEnded, IsNoText}
 use Rattle.rs_tokens.proofs.OneReading.{given_whole}
-use Rattle.rs_tokens.proofs.tests.all_tokens.Goals as goal
+use Rattle.text_tests.proofs.tokens.all_tokens.Goals as goal
 
 pub loop-tokens-init : goal.loop-tokens-init
 loop-tokens-init c = record {
