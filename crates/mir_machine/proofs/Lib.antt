@@ -2,7 +2,6 @@ pub mod Coming
 pub mod Depths
 pub mod GivenTypes
 pub mod NeverStuck
-pub mod Plain
 pub mod Scalars
 pub mod Shown
 pub mod Stepping

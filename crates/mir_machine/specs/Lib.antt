@@ -4,6 +4,7 @@ pub mod FrameCode
 pub mod FrameStep
 pub mod Good
 pub mod Halt
+pub mod Laws
 pub mod Memory
 pub mod NextView
 pub mod Reads

@@ -6,6 +6,7 @@ mod arithmetic;
 mod entry;
 mod frame;
 mod halt;
+mod laws;
 mod machine;
 mod next;
 mod operands;
@@ -18,6 +19,7 @@ mod tree;
 
 pub use args::Args;
 pub use frame::{Frame, State};
+pub use laws::proper_calls_are_never_stuck;
 pub use machine::{Machine, NoIntrinsics};
 pub use mir_ir::{
     Block, Bodies, Body, Callee, FnId, Head, Lit, Operand, Place, Point, Proj, Rvalue, Statement,

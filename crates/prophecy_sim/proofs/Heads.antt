@@ -23,7 +23,7 @@ use Rattle.prophecy_sim.proofs.Steps.{decide}
 
 -- ---- what a loop writes
 
-or_first : (c d : Bool) → c ≡ true → (c || d) ≡ true
+pub or_first : (c d : Bool) → c ≡ true → (c || d) ≡ true
 or_first c d e = ap (λ t. t || d) e
 
 or_second : (c d : Bool) → d ≡ true → (c || d) ≡ true

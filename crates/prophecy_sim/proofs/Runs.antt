@@ -8,6 +8,7 @@ use Rattle.mir_ir.specs.declared.place.Place.{Place}
 use Rattle.logic_term.proofs.SubstLaw.{replaced_means}
 use Rattle.logic_term.proofs.Coincide.{with_same, with_other}
 use Rattle.logic_term.specs.TyView.{tys_of}
+use Rattle.std.specs.List.{list_any}
 use Rattle.logic_term.specs.declared.obligation.Contract.{Contract}
 use Rattle.std.proofs.lemmas.List.{length-take, length-drop}
 use Rattle.std.proofs.Common.{◌≡◌, ◌∙◌, ◌⊎◌, inl, inr, refl, sym, ap, subst, ℕ, zero, suc, ◌+◌, ◌≤◌, ◌&&◌, pos, Bool, true, false, cond, List, [], ◌∷◌, ◌++◌, length, drop, Option, Some, None, slice_get, true≢false, arith, map, take, slice_set, ◌<◌, ◌==◌}
@@ -55,12 +56,12 @@ use Rattle.wp_gen.specs.Row.{operand_term, goals_of, commands_of, value_name, na
 use Rattle.mir_ir.specs.Layout.{among, targets, around, around_of, place_of}
 use Rattle.mir_machine.specs.Good.{Each, named}
 use Rattle.wp_gen.specs.Walkable.{AllAmong}
-use Rattle.wp_gen.specs.Walk.{Setting, writes, loop_writes, is_gone, is_renewed, head_commands, each_goal, seen_before, goals_at_return, where_true, where_false, Walks, statement, goto, branch, call, return, Arrives, plain, first, again, at_answer, at_arguments, at_arguments_and_answer, goals_of_call, call_commands, end_writes}
+use Rattle.wp_gen.specs.Walk.{Setting, moves as moves_out, writes, loop_writes, is_gone, is_renewed, head_commands, each_goal, seen_before, goals_at_return, where_true, where_false, Walks, statement, goto, branch, call, return, Arrives, plain, first, again, at_answer, at_arguments, at_arguments_and_answer, goals_of_call, call_commands, end_writes}
 use Rattle.wp_gen.proofs.Commands.{GoalsHold, goals_moved, goals_first, goals_rest, then_moves}
 use Rattle.prophecy_sim.specs.Programs.{IsScalar, IsOneOf, IsNameIn, IsSimple, SpeaksOf, HeadsSpeakOf, Program, setting, IsFunction, AreFunctions, Calls as CallsBody}
 use Rattle.prophecy_sim.proofs.Values.{T, ValueHas, Matches, operand_means, local_has, local_named, named_as, matches_new}
 use Rattle.prophecy_sim.proofs.Entries.{assumed_move}
-use Rattle.prophecy_sim.proofs.Heads.{Renewed, renewed_move, loop_writes_statement, loop_writes_end}
+use Rattle.prophecy_sim.proofs.Heads.{or_first, Renewed, renewed_move, loop_writes_statement, loop_writes_end}
 use Rattle.prophecy_sim.proofs.Memories.{among_first, among_second, among_more, among_head, among_either, KeepsParams, AreBehind, Passed, Memories, one_more, memories_kept, Reached, onward, backward, reached}
 use Rattle.prophecy_sim.proofs.Steps.{quiet_both, taken_before, all_taken_before, at_no, IsOutside, After, statement_quiet, decide, put_matches, not_written}
 
@@ -72,10 +73,9 @@ pub params_length : (c : Body) → c.params + 1 ≤ length c.locals → length (
 params_length c l = grind (arith, length-take, length-drop, l)
 
 -- one formula for each goal
-pub each_holds : (S : Structure) (kind : Kind) (ts : List Term) (spans : List Span) (ρ : Env) → length ts ≤ length spans → GoalsHold S ρ (each_goal kind ts spans) → Each (λ t. Holds S t ρ) ts
-each_holds S kind [] spans ρ l h = tt
-each_holds S kind (t ∷ ts) [] ρ l h = absurd (omega arith)
-each_holds S kind (t ∷ ts) (s ∷ spans) ρ l h = (h.0, each_holds S kind ts spans ρ (omega arith) h.1)
+pub each_holds : (S : Structure) (kind : Kind) (ts : List Term) (spans : List Span) (ρ : Env) → GoalsHold S ρ (each_goal kind ts spans) → Each (λ t. Holds S t ρ) ts
+each_holds S kind [] spans ρ h = tt
+each_holds S kind (t ∷ ts) spans ρ h = (h.0, each_holds S kind ts (drop 1 spans) ρ h.1)
 
 -- the walk of a statement and of what comes after it
 walk_statement : {w : Setting} {heads : List Label} {xs : List Statement} {end : Terminator} {gs : List Goal} {n : ℕ} → Walks w heads xs end gs n → (st : Statement) (sts : List Statement) → xs ≡ st ∷ sts →
@@ -391,13 +391,13 @@ module _ (Δ : Declarations) (program : Program) (sound : AreSound program.bodie
         hold = goals_rest S c.env invariants (seen_before (head_commands b w.init l h) gs) hold;
         unchanged = λ x q i. refl;
       } in
-      at_head f l ls c outer p function types ms (each_holds S InvEntry h.invariants h.spans c.env (heads_speak.spans l k h is_block e) (goals_first S c.env invariants (seen_before (head_commands b w.init l h) gs) hold))
+      at_head f l ls c outer p function types ms (each_holds S InvEntry h.invariants h.spans c.env (goals_first S c.env invariants (seen_before (head_commands b w.init l h) gs) hold))
   arrived {heads} {l} (first k h is_block e fresh_l walks) f ls function types c (backward to h' outer is_to is_head a ms p) hold = absurd (false_true (among l heads) fresh_l a)
   arrived (again k h is_block e passed) f ls function types c (onward to outer is_to is_around ms sub behind fresh) hold = absurd (fresh passed)
   arrived {l = l} (again k h is_block e passed) f ls function types c (backward to h' outer is_to is_head a ms p) hold =
       let same : p.block ≡ k = some_same_block k p.block l is_block p.is_block in
       let head : h ≡ p.head = some_same (sym e ∙ subst (λ (x : Block). x.head ≡ Some p.head) same p.is_head) in
-      at_head f l ls c outer p function types ms (subst (λ (x : Head). Each (λ t. Holds S t c.env) x.invariants) head (each_holds S InvKept h.invariants h.spans c.env (heads_speak.spans l k h is_block e) hold))
+      at_head f l ls c outer p function types ms (subst (λ (x : Head). Each (λ t. Holds S t c.env) x.invariants) head (each_holds S InvKept h.invariants h.spans c.env hold))
 
   -- ---- ends of blocks
 
@@ -503,7 +503,7 @@ module _ (Δ : Declarations) (program : Program) (sound : AreSound program.bodie
           shape = subst (λ ty. Shape (instance no_tys ty) t) (sym (first_ty b.locals answer.0 answer.1)) h.0;
           plain = plain;
           posts = posts_hold own.contract.post (value_of t) own.speaks.over (ap st.env (named_as b 0 name.0 name.1) ∙ m 0 name.0 initialised_0 name.1 ∙ plain_one t (st.store 0) plain h.1)
-              (each_holds S Ensures (map (at_answer b own.contract) own.contract.post) (drop (length own.contract.pre) own.contract.spans) st.env (subst (λ n. n ≤ length (drop (length own.contract.pre) own.contract.spans)) (sym (length_map (at_answer b own.contract) own.contract.post)) own.speaks.spans) hold);
+              (each_holds S Ensures (map (at_answer b own.contract) own.contract.post) (drop (length own.contract.pre) own.contract.spans) st.env hold);
         })
 
     -- the ways on from the block, with any values in what the loops around write
@@ -616,7 +616,7 @@ module _ (Δ : Declarations) (program : Program) (sound : AreSound program.bodie
         unwritten h x inside_h not_there = by_test (p.local == x) refl
           where
             by_test : (c : Bool) → (p.local == x) ≡ c → with_answer x ≡ st.store x
-            by_test true e = absurd (true≢false (sym (loop_writes_end b h f.label st.block x st.is_block inside_h (ap (end_writes x) kind ∙ e)) ∙ not_there))
+            by_test true e = absurd (true≢false (sym (loop_writes_end b h f.label st.block x st.is_block inside_h (ap (end_writes x) kind ∙ or_first (p.local == x) (list_any (moves_out x) os) e)) ∙ not_there))
             by_test false e = not_written Δ b bodies typed simple.names st.store p.local x v e
 
         after : (ls' : List T) → Fits b no_tys (with p.local (all_taken os end_set)) ls' → Agrees ls' with_answer → Standing (starting waiting ls' l)

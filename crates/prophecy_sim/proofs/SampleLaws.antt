@@ -245,7 +245,6 @@ speaks = record {
   none_is_new = λ i n e q. not_new n (is_below n.0 (param_number i n e).0) q;
   before = tt;
   over = (λ x f d. absurd (d (at_answer x f)), tt);
-  spans = omega arith;
 }
   where
     same : (i j : ℕ) → i ≡ 0 → j ≡ 0 → i ≡ j
@@ -272,14 +271,10 @@ caller_speaks = record {
   none_is_new = speaks.none_is_new;
   before = tt;
   over = speaks.over;
-  spans = speaks.spans;
 }
 
 abbrev SpeaksThere : IsInitialised cleared → Label → Block → Type 0
 SpeaksThere i l k = (h : Head) → k.head ≡ Some h → Each (λ (t : Term). (x : Name) → free x t ≡ true → IsOneOf x is_false.params ⊎ IsNameIn cleared (i.at l 0) x) h.invariants
-
-abbrev HasSpans : Label → Block → Type 0
-HasSpans l k = (h : Head) → k.head ≡ Some h → length h.invariants ≤ length h.spans
 
 zero_apart : (n : ℕ) → (0 == suc n) ≡ false
 zero_apart n = grind (arith, nat_tests)
@@ -297,7 +292,6 @@ not_gone sets empty (suc n) x inside = ap (λ t. (t && true) && ((0 == x) && tru
 heads_speak : (i : IsInitialised cleared) → HasSets sets i → HeadsSpeakOf cleared is_false (program.gone 0) i
 heads_speak i has = record {
   over = λ l k h is is_head. block_found (SpeaksThere i) cleared.blocks l k ((λ h e. absurd (cc)), (speaks_there, ((λ h e. absurd (cc)), ((λ h e. absurd (cc)), tt)))) is h is_head;
-  spans = λ l k h is is_head. block_found HasSpans cleared.blocks l k ((λ h e. absurd (cc)), (has_spans, ((λ h e. absurd (cc)), ((λ h e. absurd (cc)), tt)))) is h is_head;
   there = λ l x inside. not_gone sets refl l.0 x (sym (has l x) ∙ inside);
 }
   where
@@ -309,13 +303,9 @@ heads_speak i has = record {
     speaks_there : (h : Head) → Some head ≡ Some h → Each (λ (t : Term). (x : Name) → free x t ≡ true → IsOneOf x is_false.params ⊎ IsNameIn cleared (i.at (label 1) 0) x) h.invariants
     speaks_there h e = subst (λ (g : Head). Each (λ (t : Term). (x : Name) → free x t ≡ true → IsOneOf x is_false.params ⊎ IsNameIn cleared (i.at (label 1) 0) x) g.invariants) (some_same e) ((λ x f. one_of x (x.0 == 100) (x.0 == 10) refl refl f), tt)
 
-    has_spans : (h : Head) → Some head ≡ Some h → length h.invariants ≤ length h.spans
-    has_spans h e = subst (λ (g : Head). length g.invariants ≤ length g.spans) (some_same e) (omega arith)
-
 caller_heads_speak : (i : IsInitialised caller) → HasSets caller_sets i → HeadsSpeakOf caller is_false (program.gone 1) i
 caller_heads_speak i has = record {
   over = λ l k h is is_head. absurd (no_head l k h is is_head);
-  spans = λ l k h is is_head. absurd (no_head l k h is is_head);
   there = λ l x inside. not_gone caller_sets refl l.0 x (sym (has l x) ∙ inside);
 }
   where

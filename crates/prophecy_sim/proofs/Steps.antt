@@ -1,5 +1,5 @@
 -- One step of the machine in a body of branches, against the walk.
-use Rattle.std.proofs.Common.{◌≡◌, ◌∙◌, ◌⊎◌, inl, inr, refl, sym, ap, subst, ℕ, ◌==◌, Bool, true, false, cond, List, [], ◌∷◌, Some, slice_get, eq-eqb, ne_eqb, true≢false}
+use Rattle.std.proofs.Common.{◌≡◌, ◌∙◌, ◌⊎◌, inl, inr, refl, sym, ap, subst, ℕ, ◌==◌, ◌||◌, Bool, true, false, cond, List, [], ◌∷◌, Some, slice_get, eq-eqb, ne_eqb, true≢false}
 use Rattle.std.proofs.lemmas.Bool.{eqb-true}
 use Rattle.text_core.specs.declared.name.Name.{Name}
 use Rattle.text_core.specs.declared.span.Span.{Span}
@@ -22,7 +22,7 @@ use Rattle.mir_machine.proofs.Shown.{Store, Agrees, stored, rvalue_value, assign
 use Rattle.mir_machine.proofs.Tried.{Goes, Quiet, quiet_weaker}
 use Rattle.wp_gen.specs.Command.{MovesAll, none}
 use Rattle.wp_gen.specs.Row.{value_name, name_of, goals_of, commands_of}
-use Rattle.wp_gen.specs.Walk.{writes}
+use Rattle.wp_gen.specs.Walk.{rvalue_moves, writes}
 use Rattle.wp_gen.proofs.Commands.{GoalsHold}
 use Rattle.prophecy_sim.specs.Programs.{AreNamesOfLocals}
 use Rattle.prophecy_sim.proofs.Values.{T, Matches, local_named, named_as}
@@ -110,6 +110,10 @@ module _ (Δ : Declarations) (b : Body) where
     evaluated_matches : (r : Rvalue) (set : Locals) (σ : Store) (ρ : Env) → Matches b set σ ρ → Matches b (evaluated r set) σ ρ
     evaluated_matches r set σ ρ m x n inside e = m x n (evaluated_before r set x inside) e
 
+    neither_first : (c d : Bool) → (c || d) ≡ false → c ≡ false
+    neither_first true d e = absurd (true≢false e)
+    neither_first false d e = refl
+
     pub not_written : (σ : Store) (y x : ℕ) (v : Value) → (y == x) ≡ false → stored y v σ x ≡ σ x
     not_written σ y x v e = elim (decide x y) [
       | inl q ↦ absurd (true≢false (sym (eq-eqb y x (sym q)) ∙ e))
@@ -142,7 +146,7 @@ module _ (Δ : Declarations) (b : Body) where
           matches = put_matches (evaluated r set) σ ρ l.env p.local ty (rvalue_value σ r) has.1 (evaluated_matches r set σ ρ m) l.here l.elsewhere;
           moves = l.moves;
           elsewhere = λ n out. l.elsewhere n (λ q. out.0 p.local at_place.0 at_place.1 (q ∙ ap (λ (z : Name). z.0) (named_as b p.local at_place.0 at_place.1))) out.1;
-          others = λ x e. not_written σ p.local x (rvalue_value σ r) e;
+          others = λ x e. not_written σ p.local x (rvalue_value σ r) (neither_first (p.local == x) (rvalue_moves x r) e);
         })
     statement_quiet (Dead x) set ls σ ρ span (ty, is_ty) can fitting agrees m goals =
         quiet_weaker (λ ls'. Fits b no_tys (without x set) ls' × Agrees ls' σ) (After (Dead x) set σ ρ) (run_local b no_tys ls span (Dead x))

@@ -50,7 +50,6 @@ pub record SpeaksOf (b : Body) (c : Contract) : Type 0 where
   pub none_is_new : (i : ℕ) (n : Name) → slice_get c.params i ≡ Some n → n.0 ≡ value_name.0 → ⊥
   pub before : Each (λ (t : Term). (x : Name) → free x t ≡ true → IsOneOf x c.params) c.pre
   pub over : Each (λ (t : Term). (x : Name) → free x t ≡ true → (x.0 ≡ c.answer.0 → ⊥) → IsOneOf x c.params) c.post
-  pub spans : length c.post ≤ length (drop (length c.pre) c.spans)
 
 -- the goal is true at every instance and at every environment
 abbrev pub IsTrueGoal : Declarations → Obligation → Type 0
@@ -69,7 +68,6 @@ IsNameIn b set x = (y : ℕ) × (set y ≡ true) × (slice_get b.names y ≡ Som
 -- an invariant speaks of parameters, and of locals that are initialised at its head; what is initialised there is not gone
 pub record HeadsSpeakOf (b : Body) (c : Contract) (gone : Initialised) (i : IsInitialised b) : Type 0 where
   pub over : (l : Label) (k : Block) (h : Head) → block_in b.blocks l ≡ Some k → k.head ≡ Some h → Each (λ (t : Term). (x : Name) → free x t ≡ true → IsOneOf x c.params ⊎ IsNameIn b (i.at l 0) x) h.invariants
-  pub spans : (l : Label) (k : Block) (h : Head) → block_in b.blocks l ≡ Some k → k.head ≡ Some h → length h.invariants ≤ length h.spans
   pub there : (l : Label) (x : ℕ) → i.at l 0 x ≡ true → is_gone gone l x ≡ false
 
 -- ---- programs

@@ -54,7 +54,6 @@ speaks b c h = record {
   none_is_new = λ i n is e. h.none_is_new i n is (e ∙ value_number);
   before = each_of (λ (t : Term). (x : Name) → free x t ≡ true → sim.IsOneOf x c.params) c.pre h.before;
   over = each_of (λ (t : Term). (x : Name) → free x t ≡ true → (x.0 ≡ c.answer.0 → ⊥) → sim.IsOneOf x c.params) c.post h.over;
-  spans = omega (arith, h.spans);
 }
 
 -- ---- heads
@@ -87,7 +86,6 @@ module _ (b : Body) (gone : Initialised) (i : IsInitialised b) (h : HeadsSpeak b
   heads : (c : Contract) → sim.HeadsSpeakOf b c gone i
   heads c = record {
     over = λ l k head is_block is_head. each_of (λ (t : Term). (x : Name) → free x t ≡ true → sim.IsOneOf x c.params ⊎ sim.IsNameIn b (i.at l 0) x) head.invariants (λ j t is x is_free. inr (h.over l k head is_block is_head j t is x is_free));
-    spans = λ l k head is_block is_head. omega (arith, h.spans l k head is_block is_head);
     there = λ l x set. not_true (is_gone gone l x) (there l x set);
   }
 

@@ -4,7 +4,13 @@ use Rattle.logic_term.specs.declared.obligation.Contract.{Contract}
 use Rattle.logic_term.specs.declared.obligation.Obligation.{Obligation}
 use Rattle.mir_ir.specs.declared.body.Body.{Body}
 use Rattle.mir_ir.specs.declared.body.Initialised.{Initialised}
-use Rattle.mir_machine.specs.Good.{Each, Good}
+use Rattle.logic_term.specs.Sort.{Declarations}
+use Rattle.logic_term.specs.Ty.{Tys}
+use Rattle.mir_machine.specs.Good.{Each, Good, IsProper, called}
+use Rattle.mir_machine.specs.Step.{Stuck, after}
+use Rattle.mir_machine.specs.Tree.{Tree}
+use Rattle.mir_machine.specs.Typed.{Met}
+use Rattle.mir_machine.proofs.NeverStuck.{never_stuck}
 use Rattle.mir_build.specs.Laws.{Lowers}
 use Rattle.prophecy_sim.specs.Programs as sim
 use Rattle.prophecy_sim.proofs.GoodBody.{good as true_makes_good}
@@ -77,12 +83,21 @@ verified_at : (ps : List Proof) (bodies : List Body) (goals : List FunctionGoals
 verified_at ps bodies goals f true tells e = tells
 verified_at ps bodies goals f false tells e = absurd (true≢false (sym e))
 
+lowering : (source : List ℕ) (p : Program) → (prepared : IsPrepared source p) → Lowers p.names prepared.typed.functions p.bodies.bodies p.contracts prepared.gones
+lowering source p prepared = record { lowers = prepared.lowers; fits = typed_program_fits prepared.is_typed.functions prepared.typed prepared.is_typed.is_typed }
+
+-- no proper call of a function of an accepted source is stuck
+pub accepted_is_never_stuck : (source : List ℕ) (p : Program) → IsPrepared source p → (Δ : Declarations) (f : ℕ) (θ : Tys) (args held : List (Tree (Unit {0}))) (b : Body) (met : List Met) → IsProper Δ p.bodies.bodies f θ args held b met
+    → (n : ℕ) → after p.bodies.bodies n (called b f θ args held) ≡ Stuck → ⊥
+accepted_is_never_stuck source p prepared Δ f θ args held b met proper n =
+    never_stuck Δ p.bodies.bodies (sound p.names prepared.typed.functions p.bodies.bodies p.contracts prepared.gones (lowering source p prepared)) f θ args held b met proper n
+
 -- each function that the verdict lists as verified is good for its contract
 pub verified_is_good : (source : List ℕ) (p : Program) (ps : List Proof) (v : Verdict) → IsPrepared source p → IsVerdict ps p.bodies.bodies p.functions v
     → (f : ℕ) (line : FnLine) (c : Contract) → slice_get v.functions f ≡ Some line → line.verified ≡ true → slice_get p.contracts f ≡ Some c → Good no_types p.bodies.bodies f c
 verified_is_good source p ps v prepared verdict f line c is_line verified is_contract =
     let bodies : List Body = p.bodies.bodies in
-    let lowers : Lowers p.names prepared.typed.functions bodies p.contracts prepared.gones = record { lowers = prepared.lowers; fits = typed_program_fits prepared.is_typed.functions prepared.typed prepared.is_typed.is_typed } in
+    let lowers = lowering source p prepared in
     let all : IsVerified ps bodies p.functions f = verified_at ps bodies p.functions f line.verified (verdict.lines.told f line is_line) verified in
     true_makes_good no_types (program_of bodies p.contracts prepared.gones) (sound p.names prepared.typed.functions bodies p.contracts prepared.gones lowers)
     (functions p.names prepared.typed.functions bodies p.contracts prepared.gones lowers) f c is_contract

@@ -4,6 +4,12 @@ use Rattle.logic_term.specs.declared.obligation.Contract.{Contract}
 use Rattle.logic_term.specs.declared.obligation.Obligation.{Obligation}
 use Rattle.mir_ir.specs.declared.body.Body.{Body}
 use Rattle.mir_ir.specs.declared.body.Initialised.{Initialised}
+use Rattle.logic_term.specs.Sort.{Declarations}
+use Rattle.logic_term.specs.Ty.{Tys}
+use Rattle.mir_machine.specs.Good.{IsProper, called}
+use Rattle.mir_machine.specs.Step.{Stuck, after}
+use Rattle.mir_machine.specs.Tree.{Tree}
+use Rattle.mir_machine.specs.Typed.{Met}
 use Rattle.proof_text.specs.declared.proof.NumberedStep.{NumberedStep}
 use Rattle.proof_text.specs.declared.proof.Proof.{Proof}
 use Rattle.report_out.specs.declared.verdict.Verdict.{Verdict}
@@ -88,3 +94,11 @@ AcceptedIsWithinLimits = (source : List ℕ) (p : Program) (limit : Limit) → l
 
 abbrev pub RefusedIsWithinLimits : Type 0
 RefusedIsWithinLimits = (source : List ℕ) (error : SourceError) (limit : Limit) → length source ≤ most_bytes → IsRefused source error → IsPastLimit source limit → ⊥
+
+-- ---- runs
+
+-- of an accepted source: after a proper call of any function, verified or not, no state is stuck
+abbrev pub AcceptedIsNeverStuck : Type 0
+AcceptedIsNeverStuck =
+    (source : List ℕ) (p : Program) → IsPrepared source p → (Δ : Declarations) (f : ℕ) (θ : Tys) (args held : List (Tree (Unit {0}))) (b : Body) (met : List Met) → IsProper Δ p.bodies.bodies f θ args held b met
+    → (n : ℕ) → after p.bodies.bodies n (called b f θ args held) ≡ Stuck → ⊥

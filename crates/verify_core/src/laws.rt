@@ -1,5 +1,5 @@
 //! Laws of what there is one of. Nothing here computes.
-ghost use Rattle.verify_core.specs.Laws.{AcceptedIsNotRefused, AcceptedIsWithinLimits, FewerAreFront, FewerHaveFewer, FewObligationsAreNotMany, FewPathsAreNotMany, GoalsAreOfBodies, GoalsAreOne, LimitIsOne, ObligationsAreOne, ProgramIsOne, RefusalIsOne, RefusedAtOneLine, RefusedIsNotAccepted, RefusedIsWithinLimits, VerdictIsOne};
+ghost use Rattle.verify_core.specs.Laws.{AcceptedIsNeverStuck, AcceptedIsNotRefused, AcceptedIsWithinLimits, FewerAreFront, FewerHaveFewer, FewObligationsAreNotMany, FewPathsAreNotMany, GoalsAreOfBodies, GoalsAreOne, LimitIsOne, ObligationsAreOne, ProgramIsOne, RefusalIsOne, RefusedAtOneLine, RefusedIsNotAccepted, RefusedIsWithinLimits, VerdictIsOne};
 
 /// A body with its contract has one list of obligations, and one number of paths.
 pub fn obligations_are_of_one_walk()
@@ -44,4 +44,10 @@ pub fn a_source_has_one_answer()
     ensures not_refused { AcceptedIsNotRefused }
     ensures within_limits { AcceptedIsWithinLimits }
     ensures refused_within_limits { RefusedIsWithinLimits }
+{}
+
+/// No run of a proper call of a function of an accepted source gets stuck, after any number of steps, whether or not the function is
+/// verified.
+pub fn accepted_sources_never_get_stuck()
+    ensures { AcceptedIsNeverStuck }
 {}

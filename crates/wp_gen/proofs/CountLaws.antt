@@ -1,8 +1,8 @@
 -- Laws of the number of goals.
-use Rattle.std.proofs.Common.{◌≡◌, ◌∙◌, ◌⊎◌, inl, inr, refl, sym, ap, subst, ℕ, suc, ◌+◌, ◌-◌, true, false, true≢false, List, [], ◌∷◌, ◌++◌, length, length-append, min, map, drop, get_or, Option, Some, None, slice_get, arith}
-use Rattle.std.proofs.lemmas.List.{length-map, length-drop}
+use Rattle.std.proofs.Common.{◌≡◌, ◌∙◌, ◌⊎◌, inl, inr, refl, sym, ap, subst, ℕ, suc, ◌+◌, true, false, true≢false, List, [], ◌∷◌, ◌++◌, length, length-append, map, drop, get_or, Option, Some, None, slice_get, arith}
+use Rattle.std.proofs.lemmas.List.{length-map}
 use Rattle.text_core.specs.declared.refusal.Kind.{Kind}
-use Rattle.text_core.specs.declared.refusal.Kind.TheVariants.{InvEntry, Ensures}
+use Rattle.text_core.specs.declared.refusal.Kind.TheVariants.{InvEntry, InvKept, Ensures}
 use Rattle.text_core.specs.declared.span.Span.{Span}
 use Rattle.logic_term.specs.declared.kinds.Label.{Label}
 use Rattle.logic_term.specs.declared.obligation.Contract.{Contract}
@@ -36,16 +36,12 @@ some_same e = cc
 
 -- ---- lengths
 
-pub length_each : (k : Kind) (ts : List Term) (spans : List Span) → length (each_goal k ts spans) ≡ min (length ts) (length spans)
-length_each k [] spans = omega arith
-length_each k (t ∷ ts) [] = omega arith
-length_each k (t ∷ ts) (s ∷ spans) = omega (arith, length_each k ts spans)
+length_each : (k : Kind) (ts : List Term) (spans : List Span) → length (each_goal k ts spans) ≡ length ts
+length_each k [] spans = refl
+length_each k (t ∷ ts) spans = ap suc (length_each k ts (drop 1 spans))
 
-same_length : (k j : Kind) (h : Head) → length (each_goal k h.invariants h.spans) ≡ length (each_goal j h.invariants h.spans)
-same_length k j h = length_each k h.invariants h.spans ∙ sym (length_each j h.invariants h.spans)
-
-pub length_at_return : (b : Body) (c : Contract) → length (goals_at_return b c) ≡ min (length c.post) (length c.spans - length c.pre)
-length_at_return b c = omega (arith, length_each Ensures (map (at_answer b c) c.post) (drop (length c.pre) c.spans), length-map c.post (at_answer b c), length-drop (length c.pre) c.spans)
+pub length_at_return : (b : Body) (c : Contract) → length (goals_at_return b c) ≡ length c.post
+length_at_return b c = length_each Ensures (map (at_answer b c) c.post) (drop (length c.pre) c.spans) ∙ length-map c.post (at_answer b c)
 
 pub length_numbered : (owner : List ℕ) (n : ℕ) (gs : List Goal) → length (numbered owner n gs) ≡ length gs
 length_numbered owner n [] = refl
@@ -176,7 +172,7 @@ again_has : {w : Setting} {heads : List Label} {m : Label} {gs : List Goal} {n :
 again_has (plain k is no_head walks) to h is_to is_head there = absurd (let e : None ≡ Some h = sym no_head ∙ ap (λ (j : Block). j.head) (some_same (sym is ∙ is_to)) ∙ is_head in cc)
 again_has (first k h' is is_h not_passed walks) to h is_to is_head there = absurd (true≢false (sym there ∙ not_passed))
 again_has (again k h' is is_h passed_it) to h is_to is_head there =
-    same_length _ InvEntry h' ∙ ap goals_of_head (sym is_h ∙ ap (λ (j : Block). j.head) (some_same (sym is ∙ is_to)))
+    length_each InvKept h'.invariants h'.spans ∙ ap goals_of_head (sym is_h ∙ ap (λ (j : Block). j.head) (some_same (sym is ∙ is_to)))
 
 enters_has : {w : Setting} {heads : List Label} {m : Label} {gs : List Goal} {n : ℕ} → Arrives w heads m gs n → (at : IsEnteredAt w.body heads m) → (inner : List Goal) × AreFrom w m inner × (length gs ≡ goals_of_head at.block.head + length inner)
 enters_has {w} {heads} {m} {gs} {n} (plain k is no_head walks) at =
@@ -193,7 +189,7 @@ enters_has {w} {heads} {m} {gs} {n} (first {gs = inner} k h is is_head not_passe
     let stands : MayStand w.body (m ∷ heads) m at.block = subst (λ (o : Option Head). MayStand w.body (passed o m heads) m at.block) some at.stands in (
       inner,
       (m ∷ heads, at.block, n, stands, subst (λ (j : Block). Walks w (m ∷ heads) j.statements j.end inner n) same walks),
-      after_goals (each_goal InvEntry h.invariants h.spans) (head_commands w.body w.init m h) inner ∙ ap (λ i. i + length inner) (sym (ap goals_of_head some)),
+      after_goals (each_goal InvEntry h.invariants h.spans) (head_commands w.body w.init m h) inner ∙ ap (λ i. i + length inner) (length_each InvEntry h.invariants h.spans ∙ sym (ap goals_of_head some)),
     )
 enters_has (again k h is is_head passed_it) at = absurd (true≢false (sym passed_it ∙ at.not_passed))
 

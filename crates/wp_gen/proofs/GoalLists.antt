@@ -1,7 +1,7 @@
 -- Lists of goals.
-use Rattle.std.proofs.Common.{◌≡◌, ◌∙◌, sym, ap, ℕ, ◌+◌, ◌<◌, ◌≤◌, List, [], ◌∷◌, ◌++◌, length, min, get_or, take, drop, refl, add-zero, arith, ◌⊎◌, inl, inr}
+use Rattle.std.proofs.Common.{◌≡◌, ◌∙◌, sym, ap, ℕ, zero, suc, ◌+◌, ◌<◌, ◌≤◌, List, [], ◌∷◌, ◌++◌, length, min, get_or, take, drop, refl, add-zero, add-one, arith, ◌⊎◌, inl, inr}
 use Rattle.std.proofs.lemmas.Bool.{cases_lt}
-use Rattle.std.proofs.lemmas.List.{take_more, drop_all, append-nil, length-take-le}
+use Rattle.std.proofs.lemmas.List.{take_more, drop_more, drop_all, append-nil, append_assoc, length-take-le}
 use Rattle.text_core.specs.declared.refusal.Kind.{Kind}
 use Rattle.text_core.specs.declared.span.Span.{Span}
 use Rattle.logic_term.specs.Term.{Term}
@@ -11,24 +11,35 @@ use Rattle.logic_term.specs.declared.subst.Replacement.{Replacement}
 use Rattle.logic_term.specs.declared.obligation.Obligation.{Obligation}
 use Rattle.logic_term.specs.Ty.{Ty}
 use Rattle.wp_gen.specs.declared.command.Command.{Command}
-use Rattle.wp_gen.specs.Walk.{each_goal, entries, parameters, numbered}
-
-no_spans : (k : Kind) (ts : List Term) → each_goal k ts [] ≡ []
-no_spans k [] = refl
-no_spans k (t ∷ ts) = refl
-
-past_either : (k : Kind) (ts : List Term) (spans : List Span) (i : ℕ) → (length ts ≤ i) ⊎ (length spans ≤ i) → each_goal k (drop i ts) (drop i spans) ≡ []
-past_either k ts spans i (inl h) = ap (λ us. each_goal k us (drop i spans)) (drop_all i ts h)
-past_either k ts spans i (inr h) = ap (each_goal k (drop i ts)) (drop_all i spans h) ∙ no_spans k (drop i ts)
+use Rattle.wp_gen.specs.Walk.{first_span, each_goal, entries, parameters, numbered}
 
 shorter : (m n i : ℕ) → min m n ≤ i → (m ≤ i) ⊎ (n ≤ i)
 shorter m n i h = elim (cases_lt i m) [ inl below ↦ inr (omega arith) | inr above ↦ inl above ]
 
--- one goal for each formula that has a span
-pub no_more_goals : (k : Kind) (ts : List Term) (spans : List Span) (i : ℕ) (goals : List Goal) → min (length ts) (length spans) ≤ i →
-    each_goal k ts spans ≡ goals ++ each_goal k (drop i ts) (drop i spans) → goals ≡ each_goal k ts spans
+next_suc : (spans : List Span) (i : ℕ) → drop 1 (drop i spans) ≡ drop (suc i) spans
+next_suc [] zero = refl
+next_suc [] (suc i) = refl
+next_suc (s ∷ spans) zero = refl
+next_suc (s ∷ spans) (suc i) = next_suc spans i
+
+next_spans : (spans : List Span) (i : ℕ) → drop 1 (drop i spans) ≡ drop (i + 1) spans
+next_spans spans i = next_suc spans i ∙ ap (λ n. drop n spans) (sym (add-one i))
+
+pub one_more_of_each : (k : Kind) (ts : List Term) (spans : List Span) (i : ℕ) (goals new : List Goal) (t : Term) (s : Span) (g : Goal) → i < length ts →
+    each_goal k ts spans ≡ goals ++ each_goal k (drop i ts) (drop i spans) → s ≡ first_span (drop i spans) → t ≡ get_or ts i t → g ≡ record { kind = k; span = s; formula = t } → new ≡ goals ++ g ∷ [] →
+    each_goal k ts spans ≡ new ++ each_goal k (drop (i + 1) ts) (drop (i + 1) spans)
+one_more_of_each k ts spans i goals new t s g within so_far s_is t_is g_is new_is =
+    let after : List Goal = each_goal k (drop (i + 1) ts) (drop (i + 1) spans) in
+    let taken : each_goal k (drop i ts) (drop i spans) ≡ record { kind = k; span = first_span (drop i spans); formula = get_or ts i t } ∷ each_goal k (drop (i + 1) ts) (drop 1 (drop i spans)) =
+    ap (λ us. each_goal k us (drop i spans)) (drop_more ts i t within) in
+    let first : g ≡ record { kind = k; span = first_span (drop i spans); formula = get_or ts i t } = g_is ∙ ap (λ (x : Span). record { kind = k; span = x; formula = t }) s_is ∙ ap (λ (u : Term). record { kind = k; span = first_span (drop i spans); formula = u }) t_is in
+    so_far ∙ ap (λ gs. goals ++ gs) (taken ∙ ap (λ ss. record { kind = k; span = first_span (drop i spans); formula = get_or ts i t } ∷ each_goal k (drop (i + 1) ts) ss) (next_spans spans i) ∙ ap (λ (x : Goal). x ∷ after) (sym first))
+    ∙ sym (append_assoc goals (g ∷ []) after) ∙ ap (λ gs. gs ++ after) (sym new_is)
+
+-- one goal for each formula
+pub no_more_goals : (k : Kind) (ts : List Term) (spans : List Span) (i : ℕ) (goals : List Goal) → length ts ≤ i → each_goal k ts spans ≡ goals ++ each_goal k (drop i ts) (drop i spans) → goals ≡ each_goal k ts spans
 no_more_goals k ts spans i goals past so_far =
-    sym (so_far ∙ ap (λ gs. goals ++ gs) (past_either k ts spans i (shorter (length ts) (length spans) i past)) ∙ append-nil goals)
+    sym (so_far ∙ ap (λ us. goals ++ each_goal k us (drop i spans)) (drop_all i ts past) ∙ append-nil goals)
 
 no_terms : (xs : List Name) → entries xs [] ≡ []
 no_terms [] = refl

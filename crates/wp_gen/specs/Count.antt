@@ -1,6 +1,5 @@
 -- How many goals a body has, found before one is made, against a bound: what is left of the room for them.
 use Rattle.std.specs.Prelude.{◌≡◌, ℕ, ◌+◌, ◌<◌, List, [], ◌∷◌, length, Option, Some, None}
-use Rattle.text_core.specs.declared.refusal.Kind.TheVariants.{InvEntry}
 use Rattle.logic_term.specs.declared.kinds.Label.{Label}
 use Rattle.logic_term.specs.declared.obligation.Obligation.{Obligation}
 use Rattle.mir_ir.specs.declared.statement.Statement.{Statement}
@@ -10,7 +9,7 @@ use Rattle.mir_ir.specs.declared.body.Head.{Head}
 use Rattle.wp_gen.specs.declared.goal.Goal.{Goal}
 use Rattle.wp_gen.specs.Paths.{MayStand}
 use Rattle.wp_gen.specs.Row.{goals_of}
-use Rattle.wp_gen.specs.Walk.{Setting, Walks, Arrives, AreObligations, each_goal}
+use Rattle.wp_gen.specs.Walk.{Setting, Walks, Arrives, AreObligations}
 use Rattle.wp_gen.specs.Walkable.{CanWalk}
 
 -- so much is left of the room after so many; none where there are more
@@ -30,7 +29,7 @@ goals_within b (st ∷ sts) = length (goals_of b st.span st.kind) + goals_within
 -- how many goals an arrival at a head has, first or again; none at a block that is no head
 abbrev pub goals_of_head : Option Head → ℕ
 goals_of_head None = 0
-goals_of_head (Some h) = length (each_goal InvEntry h.invariants h.spans)
+goals_of_head (Some h) = length h.invariants
 
 -- the goals from a block's first statement on, along whatever way it was reached
 abbrev pub AreFrom : Setting → Label → List Goal → Type 0

@@ -15,6 +15,9 @@ use Rattle.logic_term.specs.Term.{Term, var}
 use Rattle.logic_term.specs.Term as terms
 use Rattle.logic_term.specs.Ty.{Ty}
 use Rattle.mir_ir.specs.declared.place.Operand.{Operand}
+use Rattle.mir_ir.specs.declared.place.Operand.TheVariants.{Move}
+use Rattle.mir_ir.specs.declared.statement.Rvalue.{Rvalue}
+use Rattle.mir_ir.specs.declared.statement.Rvalue.TheVariants.{Use, Binary, Neg, Not, Make}
 use Rattle.mir_ir.specs.declared.place.Place.{Place}
 use Rattle.mir_ir.specs.declared.terminator.FnId.TheVariants.{Body as OfBody}
 use Rattle.mir_ir.specs.declared.terminator.Callee.TheVariants.{Function}
@@ -47,11 +50,15 @@ goal_before cs g = record { kind = g.kind; span = g.span; formula = before_all c
 abbrev pub seen_before : List Command → List Goal → List Goal
 seen_before cs gs = map (goal_before cs) gs
 
--- one goal for each formula with its span
+-- the first span; where none is given, the empty one at the start of the source
+abbrev pub first_span : List Span → Span
+first_span [] = record { start = 0; end = 0 }
+first_span (s ∷ spans) = s
+
+-- one goal for each formula, with its span
 abbrev pub each_goal : Kind → List Term → List Span → List Goal
 each_goal kind [] spans = []
-each_goal kind (t ∷ ts) [] = []
-each_goal kind (t ∷ ts) (s ∷ spans) = record { kind = kind; span = s; formula = t } ∷ each_goal kind ts spans
+each_goal kind (t ∷ ts) spans = record { kind = kind; span = first_span spans; formula = t } ∷ each_goal kind ts (drop 1 spans)
 
 -- one goal for each formula, all at one span
 abbrev pub all_at : Kind → Span → List Term → List Goal
@@ -80,19 +87,32 @@ where_false b o = Assume (terms.not (operand_term b o)) ∷ []
 abbrev pub is_in_loop : Label → Block → Bool
 is_in_loop l k = among l k.nest
 
--- the statement writes the local
+-- the operand moves out of the local
+abbrev pub moves : ℕ → Operand → Bool
+moves x (Move p) = p.local == x
+moves x _ = false
+
+abbrev pub rvalue_moves : ℕ → Rvalue → Bool
+rvalue_moves x (Use o) = moves x o
+rvalue_moves x (Binary op a b) = moves x a || moves x b
+rvalue_moves x (Neg o) = moves x o
+rvalue_moves x (Not o) = moves x o
+rvalue_moves x (Make c os) = list_any (moves x) os
+
+-- the statement writes the local; a move leaves nothing behind, which is a write too
 abbrev pub writes : ℕ → StatementKind → Bool
-writes x (Assign p r) = p.local == x
+writes x (Assign p r) = p.local == x || rvalue_moves x r
 writes x (Dead y) = false
 
 abbrev pub end_writes : ℕ → TerminatorKind → Bool
-end_writes x (Call p callee args l) = p.local == x
+end_writes x (Call p callee args l) = p.local == x || list_any (moves x) args
+end_writes x (If o on_true on_false) = moves x o
 end_writes x _ = false
 
 abbrev pub block_writes : ℕ → Block → Bool
 block_writes x k = list_any (λ st. writes x st.kind) k.statements || end_writes x k.end.kind
 
--- some block of the loop writes the local
+-- some block of the loop writes the local, or moves out of it
 abbrev pub loop_writes : Body → Label → ℕ → Bool
 loop_writes b l x = list_any (λ e. is_in_loop l e.1 && block_writes x e.1) b.blocks
 

@@ -4,6 +4,7 @@ ghost use Rattle.text_core.specs.declared.span.Span.{Span as SpanValue};
 ghost use Rattle.text_core.specs.declared.refusal.Kind.TheVariants.{InvEntry};
 ghost use Rattle.logic_term.specs.declared.obligation.Obligation.{Obligation as ObligationValue};
 ghost use Rattle.mir_ir.specs.declared.body.Block.{Block as BlockValue};
+ghost use Rattle.mir_ir.specs.declared.body.Body.{Body as BodyValue};
 ghost use Rattle.mir_ir.specs.Body.{block_in};
 ghost use Rattle.mir_ir.specs.Layout.{among, targets};
 ghost use Rattle.wp_gen.specs.Count.{IsRoomLeft, LeavesRoom, goals_within, goals_of_head, AreFrom, AreAlong, AreSomeObligations};
@@ -75,15 +76,14 @@ fn after_statements(body: &Body, statements: &[Statement], room: u32) -> Option<
 fn count_of_head(head: &Head) -> usize
     ensures { result ≡ goals_of_head (Some head.now) }
 {
-    head.invariants.len().min(head.spans.len())
+    head.invariants.len()
 }
 
 /// How many goals a return has.
-fn count_of_return(body: &Body, contract: &Contract) -> usize
-    ensures { result ≡ length (goals_at_return body.now contract.now) }
+fn count_of_return(contract: &Contract) -> usize
+    ensures { (b : BodyValue) → result ≡ length (goals_at_return b contract.now) }
 {
-    let spans = contract.spans.len().saturating_sub(contract.pre.len());
-    contract.post.len().min(spans)
+    contract.post.len()
 }
 
 /// What is left of the room after the goals of the arrival at a block, before its statements.
@@ -133,7 +133,7 @@ fn from_block(walk: &Walk<'_>, label: Label, room: u32) -> Option<u32>
             let left = after(left, callee.pre.len())?;
             along(walk, label, block, *next, left)
         }
-        TerminatorKind::Return => after(left, count_of_return(walk.body, walk.contract)),
+        TerminatorKind::Return => after(left, count_of_return(walk.contract)),
     }
 }
 

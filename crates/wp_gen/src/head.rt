@@ -1,15 +1,16 @@
-//! Loop heads: what a loop writes has new values there.
+//! Loop heads: what a loop writes, or moves out of, has new values there.
 ghost use Rattle.std.specs.Prelude.{◌≡◌, ◌∷◌, [], ◌++◌, ◌==◌, ◌||◌, ◌&&◌, map, length, IfOk};
 ghost use Rattle.std.specs.List.{list_any};
 ghost use Rattle.mir_ir.specs.Layout.{among};
-ghost use Rattle.wp_gen.specs.Walk.{is_in_loop, writes, end_writes, block_writes, loop_writes, is_whole, is_gone, is_renewed, picked, renewed, assumed, head_commands};
+ghost use Rattle.wp_gen.specs.Walk.{is_in_loop, moves, rvalue_moves, writes, end_writes, block_writes, loop_writes, is_whole, is_gone, is_renewed, picked, renewed, assumed, head_commands};
 
 use crate::call::with_assumed;
 use crate::command::Command;
 use crate::row::name_of;
 use logic_term::{Label, Ty};
 use mir_ir::{
-    Block, Body, Head, Initialised, Place, Point, Statement, StatementKind, TerminatorKind,
+    Block, Body, Head, Initialised, Operand, Place, Point, Rvalue, Statement, StatementKind,
+    TerminatorKind,
 };
 use std::alloc::Global;
 use text_core::{Items, NoMemory};
@@ -27,11 +28,39 @@ fn is_in_loop(head: Label, block: &Block) -> bool
     among(head, block.nest.as_slice())
 }
 
+fn moves(x: u32, operand: &Operand) -> bool
+    ensures { result ≡ moves x operand.now }
+{
+    match operand {
+        Operand::Move(place) => place.local == x,
+        Operand::Copy(_) => false,
+        Operand::Const(_) => false,
+    }
+}
+
+fn any_moves(x: u32, operands: &[Operand]) -> bool
+    ensures { result ≡ list_any (moves x) operands.now }
+{
+    operands.iter().any(|operand| moves(x, operand))
+}
+
+fn rvalue_moves(x: u32, rvalue: &Rvalue) -> bool
+    ensures { result ≡ rvalue_moves x rvalue.now }
+{
+    match rvalue {
+        Rvalue::Use(operand) => moves(x, operand),
+        Rvalue::Binary(_, left, right) => moves(x, left) || moves(x, right),
+        Rvalue::Neg(operand) => moves(x, operand),
+        Rvalue::Not(operand) => moves(x, operand),
+        Rvalue::Make(_, operands) => any_moves(x, operands.as_slice()),
+    }
+}
+
 fn writes(x: u32, statement: &Statement) -> bool
     ensures { result ≡ writes x statement.now.kind }
 {
     match &statement.kind {
-        StatementKind::Assign(place, _) => place.local == x,
+        StatementKind::Assign(place, rvalue) => place.local == x || rvalue_moves(x, rvalue),
         StatementKind::Dead(_) => false,
     }
 }
@@ -40,9 +69,11 @@ fn end_writes(x: u32, end: &TerminatorKind) -> bool
     ensures { result ≡ end_writes x end.now }
 {
     match end {
-        TerminatorKind::Call(place, _, _, _) => place.local == x,
+        TerminatorKind::Call(place, _, args, _) => {
+            place.local == x || any_moves(x, args.as_slice())
+        }
         TerminatorKind::Goto(_) => false,
-        TerminatorKind::If(_, _, _) => false,
+        TerminatorKind::If(condition, _, _) => moves(x, condition),
         TerminatorKind::Return => false,
     }
 }

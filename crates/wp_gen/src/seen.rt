@@ -1,7 +1,7 @@
 //! Formulas and goals, seen from before commands; and goals from formulas.
-ghost use Rattle.std.specs.Prelude.{◌≡◌, ◌∷◌, [], ◌++◌, map, IfOk};
+ghost use Rattle.std.specs.Prelude.{◌≡◌, ◌∷◌, [], ◌++◌, map, drop, IfOk};
 ghost use Rattle.wp_gen.specs.Command.{before, before_all};
-ghost use Rattle.wp_gen.specs.Walk.{goal_before, seen_before, each_goal, all_at};
+ghost use Rattle.wp_gen.specs.Walk.{goal_before, seen_before, first_span, each_goal, all_at};
 
 use crate::command::Command;
 use crate::goal::Goal;
@@ -79,7 +79,17 @@ fn goal_of(alloc: Global, kind: Kind, span: Span, term: &Term) -> Result<Goal, N
     })
 }
 
-/// One goal for each formula with its span.
+/// The span of this number; where none is given, the empty one at the start of the source.
+fn span_at(spans: &[Span], at: usize) -> Span
+    ensures { result ≡ first_span (drop at spans.now) }
+{
+    match spans.get(at) {
+        Some(span) => *span,
+        None => Span { start: 0, end: 0 },
+    }
+}
+
+/// One goal for each formula, with its span.
 pub(crate) fn each_goal(
     alloc: Global,
     kind: Kind,
@@ -89,8 +99,8 @@ pub(crate) fn each_goal(
     ensures { IfOk result (λ v. v.items ≡ each_goal kind terms.now spans.now) }
 {
     let mut goals = Vec::new(alloc);
-    for i in 0..terms.len().min(spans.len()) {
-        goals.push(goal_of(alloc, kind, spans[i], &terms[i])?)?;
+    for i in 0..terms.len() {
+        goals.push(goal_of(alloc, kind, span_at(spans, i), &terms[i])?)?;
     }
     Ok(goals)
 }

@@ -105,4 +105,4 @@ from_block-returns-in-Return t c =
     from_here (setting c.args.walk.now) c.args.label c.in-Some.block.now c.args.room c.in_ok-left.left c.after-in-Return.result (sym c.in-Some.ensures)
     (subst (λ sts. IsRoomLeft c.args.room (goals_within c.args.walk.now.body.now sts) (Some c.in_ok-left.left)) c.as_slice.ensures c.in_ok-left.ensures)
     (return_leaves (setting c.args.walk.now) c.args.label c.in-Some.block.now c.in_ok-left.left c.after-in-Return.result c.in-Return.is
-    (same_room c.in_ok-left.left _ _ c.after-in-Return.result c.count_of_return.ensures c.after-in-Return.ensures))
+    (same_room c.in_ok-left.left _ _ c.after-in-Return.result (c.count_of_return.ensures c.args.walk.now.body.now) c.after-in-Return.ensures))

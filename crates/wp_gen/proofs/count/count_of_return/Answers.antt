@@ -1,6 +1,6 @@
-use Rattle.std.proofs.Common.{arith}
+use Rattle.std.proofs.Common.{◌∙◌, sym, ap, length}
 use Rattle.wp_gen.proofs.CountLaws.{length_at_return}
 use Rattle.wp_gen.proofs.count.count_of_return.Goals as goal
 
 pub returns : goal.returns
-returns c = let e = length_at_return c.args.body.now c.args.contract.now in omega (arith, e)
+returns c = λ b. c.len.ensures ∙ sym (length_at_return b c.args.contract.now)

@@ -1,0 +1,5 @@
+use Rattle.mir_machine.proofs.NeverStuck.{never_stuck}
+use Rattle.mir_machine.proofs.laws.proper_calls_are_never_stuck.Goals as goal
+
+pub returns : goal.returns
+returns c = never_stuck
