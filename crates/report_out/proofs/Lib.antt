@@ -1,1 +1,2 @@
+mod LineFeedLaws
 mod ReportLaws

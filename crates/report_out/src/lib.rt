@@ -2,6 +2,7 @@
 #![tactic(auto)]
 
 mod line;
+mod line_feeds;
 mod listed;
 mod printing;
 mod refusal;

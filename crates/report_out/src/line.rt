@@ -1,11 +1,13 @@
 //! The pieces of lines.
-ghost use Rattle.std.specs.Prelude.{◌≡◌, ◌+◌, ◌^◌, ◌<◌, ◌++◌, codes, length, OnOk};
+ghost use Rattle.std.specs.Prelude.{◌≡◌, ◌++◌, codes, OnOk};
 ghost use Rattle.std.specs.Fmt.{decimal};
+ghost use Rattle.report_out.specs.LineFeeds.{AreNumbered};
 ghost use Rattle.report_out.specs.Report.{kind_text, reason_text, span_text, line_number, code_text, limit_text};
 
+use crate::line_feeds::{Lines, line_at};
 use crate::verdict::Reason;
 use std::alloc::Global;
-use text_core::{Code, Kind, LimitKind, NoMemory, Span, line_of};
+use text_core::{Code, Kind, LimitKind, NoMemory, Span};
 
 pub(crate) fn push_text(out: &mut Vec<u8>, text: &[u8]) -> Result<(), NoMemory>
     ensures { OnOk result (out.new.items ≡ out.old.items ++ text.now) }
@@ -115,12 +117,12 @@ pub(crate) fn push_place(
     alloc: Global,
     out: &mut Vec<u8>,
     span: Span,
-    source: &[u8],
+    lines: &Lines<'_>,
 ) -> Result<(), NoMemory>
-    requires { length source.now + 1 < 2 ^ 32 }
-    ensures { OnOk result (out.new.items ≡ out.old.items ++ (span_text span ++ codes " line " ++ decimal (line_number source.now span.start))) }
+    requires { AreNumbered lines.now }
+    ensures { OnOk result (out.new.items ≡ out.old.items ++ (span_text span ++ codes " line " ++ decimal (line_number lines.now.source.now span.start))) }
 {
     push_span(alloc, out, span)?;
     push_text(out, b" line ")?;
-    push_number(alloc, out, line_of(source, span.start) as u64)
+    push_number(alloc, out, line_at(lines, span.start))
 }

@@ -1,9 +1,11 @@
 //! The list of the obligations of a source.
 ghost use Rattle.std.specs.Prelude.{◌≡◌, ◌+◌, ◌^◌, ◌<◌, ◌++◌, codes, flat_map, length, IfOk, OnOk};
 ghost use Rattle.std.specs.Fmt.{decimal};
+ghost use Rattle.report_out.specs.LineFeeds.{AreNumbered};
 ghost use Rattle.report_out.specs.Report.{line_feed, space, kind_text, span_text, line_number, listed_line, list_of};
 
 use crate::line::{kind_bytes, push_number, push_place, push_text};
+use crate::line_feeds::{Lines, lines_of};
 use std::alloc::Global;
 use text_core::{Kind, NoMemory, Span, Text};
 
@@ -42,14 +44,14 @@ fn push_listed(
     alloc: Global,
     out: &mut Vec<u8>,
     item: &ListedItem,
-    source: &[u8],
+    lines: &Lines<'_>,
 ) -> Result<(), NoMemory>
-    requires { length source.now + 1 < 2 ^ 32 }
-    ensures { OnOk result (out.new.items ≡ out.old.items ++ listed_line source.now item.now) }
+    requires { AreNumbered lines.now }
+    ensures { OnOk result (out.new.items ≡ out.old.items ++ listed_line lines.now.source.now item.now) }
 {
     push_number_and_kind(alloc, out, item)?;
     push_text(out, b" ")?;
-    push_place(alloc, out, item.span, source)?;
+    push_place(alloc, out, item.span, lines)?;
     push_text(out, b" ")?;
     push_owner_and_goal(out, item)
 }
@@ -59,9 +61,10 @@ pub fn listing(alloc: Global, items: &[ListedItem], source: &[u8]) -> Result<Vec
     requires { length source.now + 1 < 2 ^ 32 }
     ensures { IfOk result (λ bytes. bytes.items ≡ list_of source.now items.now) }
 {
+    let lines = lines_of(alloc, source)?;
     let mut out = Vec::new(alloc);
     for item in items {
-        push_listed(alloc, &mut out, item, source)?;
+        push_listed(alloc, &mut out, item, &lines)?;
     }
     Ok(out)
 }

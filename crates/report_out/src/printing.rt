@@ -1,9 +1,11 @@
 //! The report of a verdict.
 ghost use Rattle.std.specs.Prelude.{◌≡◌, ◌+◌, ◌^◌, ◌<◌, ◌++◌, codes, flat_map, length, IfOk, OnOk};
 ghost use Rattle.std.specs.Fmt.{decimal};
+ghost use Rattle.report_out.specs.LineFeeds.{AreNumbered};
 ghost use Rattle.report_out.specs.Report.{line_feed, space, kind_text, reason_text, span_text, line_number, function_line, open_line, verified_count, summary_line, report_of};
 
 use crate::line::{kind_bytes, push_number, push_place, push_reason, push_text};
+use crate::line_feeds::{Lines, lines_of};
 use crate::verdict::{FnLine, LeftItem, Verdict};
 use std::alloc::Global;
 use text_core::NoMemory;
@@ -32,14 +34,14 @@ fn push_open_line(
     alloc: Global,
     out: &mut Vec<u8>,
     item: &LeftItem,
-    source: &[u8],
+    lines: &Lines<'_>,
 ) -> Result<(), NoMemory>
-    requires { length source.now + 1 < 2 ^ 32 }
-    ensures { OnOk result (out.new.items ≡ out.old.items ++ open_line source.now item.now) }
+    requires { AreNumbered lines.now }
+    ensures { OnOk result (out.new.items ≡ out.old.items ++ open_line lines.now.source.now item.now) }
 {
     push_item(alloc, out, item)?;
     push_text(out, b" ")?;
-    push_place(alloc, out, item.span, source)?;
+    push_place(alloc, out, item.span, lines)?;
     push_text(out, b" ")?;
     push_cause(alloc, out, item)
 }
@@ -48,13 +50,13 @@ fn push_open_lines(
     alloc: Global,
     out: &mut Vec<u8>,
     left: &[LeftItem],
-    source: &[u8],
+    lines: &Lines<'_>,
 ) -> Result<(), NoMemory>
-    requires { length source.now + 1 < 2 ^ 32 }
-    ensures { OnOk result (out.new.items ≡ out.old.items ++ flat_map (open_line source.now) left.now) }
+    requires { AreNumbered lines.now }
+    ensures { OnOk result (out.new.items ≡ out.old.items ++ flat_map (open_line lines.now.source.now) left.now) }
 {
     for item in left {
-        push_open_line(alloc, out, item, source)?;
+        push_open_line(alloc, out, item, lines)?;
     }
     Ok(())
 }
@@ -145,9 +147,10 @@ pub fn report(alloc: Global, v: &Verdict, source: &[u8]) -> Result<Vec<u8>, NoMe
     requires { length source.now + 1 < 2 ^ 32 }
     ensures { IfOk result (λ bytes. bytes.items ≡ report_of source.now v.now) }
 {
+    let lines = lines_of(alloc, source)?;
     let mut out = Vec::new(alloc);
     push_functions(&mut out, v.functions.as_slice())?;
-    push_open_lines(alloc, &mut out, v.left.as_slice(), source)?;
+    push_open_lines(alloc, &mut out, v.left.as_slice(), &lines)?;
     push_summary(alloc, &mut out, v)?;
     Ok(out)
 }
