@@ -13,11 +13,10 @@ use crate::around::{Around, local_name};
 use crate::builder::{BodyText, Builder, MOST_BLOCKS};
 use crate::expression::{lower_into, lower_rest, value_span};
 use crate::stop::Stop;
-use built_syntax::PassError;
 use logic_term::{Label, Ty};
 use mir_ir::{Body, Initialised, Terminator, TerminatorKind};
 use std::alloc::Global;
-use text_core::{Items, Limit, LimitKind, Name, Names, NoMemory, Text};
+use text_core::{Items, Limit, LimitKind, Name, Names, NoMemory, PassError, Text};
 use type_check::{Signature, TypedExpr, TypedFunction, TypedNode};
 
 /// The locals that the parameters are. Want of memory is answered too where a number would pass 32 bits.

@@ -1,6 +1,5 @@
 ghost use Rattle.std.specs.Prelude.{◌<◌};
 
-use built_syntax::PassError;
 use logic_term::{BinaryOp, IntKind, Label, Term, Ty, TyNode};
 use mir_build::{Lowered, lower};
 use mir_ir::{Block, Body, Rvalue, Statement, StatementKind, TerminatorKind};
@@ -8,7 +7,7 @@ use std::alloc::Global;
 use std::process::Abort;
 use std::test::Fail;
 use text_core::name::OPTION;
-use text_core::{Items, Name, Names, NoMemory, Span};
+use text_core::{Items, Name, Names, NoMemory, PassError, Span};
 use type_check::{
     Assertion, Signature, TypedExpr, TypedFunction, TypedNode, TypedProgram, TypedStmt,
 };

@@ -1,5 +1,5 @@
-ghost use Rattle.built_syntax.specs.Expr as written;
-ghost use Rattle.built_syntax.specs.ExprView.{exprs_of as written_exprs, span_of, stmts_of};
+ghost use Rattle.built_trees.specs.Expr as written;
+ghost use Rattle.built_trees.specs.ExprView.{exprs_of as written_exprs, span_of, stmts_of};
 ghost use Rattle.type_check.specs.Answers.{Answers};
 ghost use Rattle.type_check.specs.Opened.{AnswersAs, Opens};
 ghost use Rattle.type_check.specs.TypedExprView.{exprs_of};
@@ -18,11 +18,10 @@ use crate::typing::{
     as_name, assigned, branch, called, choice, denied, given_ty, is_bare, lazy, literal, negated,
     operated, order_of, param_ty, repeat, span_of, spans_at, target_ty, truth, updated, variable,
 };
-use built_syntax::{Expr, ExprNode, LazyOp, PassError, Pterm, Stmt};
-use logic_term::Ty;
-use rs_syntax::Boxed;
+use built_trees::{Expr, ExprNode, Pterm, Stmt};
+use logic_term::{LazyOp, Ty};
 use std::alloc::Global;
-use text_core::{Name, Span};
+use text_core::{Boxed, Name, PassError, Span};
 
 /// The expression with its type: the expected one, where there is one.
 #[cycle(type_expr)]

@@ -1,7 +1,7 @@
 use crate::scope::Found;
 use crate::typed::TypedExpr;
 use logic_term::Ty;
-use rs_syntax::Boxed;
+use text_core::Boxed;
 
 /// The operands of an operation.
 #[derive(Drop)]

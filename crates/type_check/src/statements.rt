@@ -9,11 +9,10 @@ use crate::scope::Variable;
 use crate::typed::{TypedExpr, TypedNode, TypedStmt};
 use crate::types::unit_ty;
 use crate::typing::{fit, ty_of};
-use built_syntax::{PassError, StmtKind};
+use built_trees::StmtKind;
 use logic_term::Ty;
-use rs_syntax::Boxed;
 use std::alloc::Global;
-use text_core::{NoMemory, Span};
+use text_core::{Boxed, NoMemory, PassError, Span};
 
 /// What is in scope after statements, and the statements.
 #[derive(Drop)]

@@ -1,6 +1,5 @@
 use crate::assertion::Assertion;
-use built_syntax::LazyOp;
-use logic_term::{BinaryOp, IntKind, Ty};
+use logic_term::{BinaryOp, IntKind, LazyOp, Ty};
 use std::marker::Model;
 use text_core::Span;
 

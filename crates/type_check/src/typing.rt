@@ -1,6 +1,6 @@
 ghost use Rattle.std.specs.Prelude.{◌≡◌, Some, IfOk, slice_get};
 ghost use Rattle.logic_term.specs.Ty.{bool};
-ghost use Rattle.built_syntax.specs.ExprView.{span_of};
+ghost use Rattle.built_trees.specs.ExprView.{span_of};
 ghost use Rattle.type_check.specs.Answers.{Answers};
 ghost use Rattle.type_check.specs.TypedExpr as tree;
 ghost use Rattle.type_check.specs.TypedExprView.{ty_of, exprs_of};
@@ -14,11 +14,10 @@ use crate::refusal::{mismatch, not_mutable, unknown_name};
 use crate::scope::{Found, Variable, find_variable};
 use crate::typed::{TypedExpr, TypedNode};
 use crate::types::{bool_ty, fits, is_signed_ty, is_updated, operation_ty, same_ty, unit_ty};
-use built_syntax::{Expr, ExprNode, LazyOp, PassError};
-use logic_term::{BinaryOp, IntKind, Ty, TyNode};
-use rs_syntax::Boxed;
+use built_trees::{Expr, ExprNode};
+use logic_term::{BinaryOp, IntKind, LazyOp, Ty, TyNode};
 use std::alloc::Global;
-use text_core::{Name, NoMemory, Span};
+use text_core::{Boxed, Name, NoMemory, PassError, Span};
 
 /// From the expression's first token to its last.
 pub(crate) fn span_of(e: &Expr) -> Span
