@@ -70,7 +70,7 @@ pub(crate) fn lower_into(
     ensures around { OnOk result (around c.new ≡ around c.old) }
 {
     let span = e.span;
-    match &e.node {
+    match &*e.node {
         TypedNode::Int(z, k) => Ok(b.put_constant(alloc, span, d, Lit::Int(*z, *k))?),
         TypedNode::Truth(v) => Ok(b.put_constant(alloc, span, d, Lit::Bool(*v))?),
         TypedNode::Variable(v) => {

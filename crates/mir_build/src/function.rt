@@ -70,7 +70,7 @@ fn lower_outermost(
     ensures limit { IfErr result (λ stop. stop ≡ Blocks → 4096 < b.old.labels + labels e.now) }
     ensures most { OnOk result (b.old.labels ≤ 4096 → b.new.labels ≤ 4096) }
 {
-    match &e.node {
+    match &*e.node {
         TypedNode::Block(ss) => lower_rest(alloc, b, c, true, e.span, ss, None, 0),
         TypedNode::BlockWith(ss, last) => lower_rest(alloc, b, c, true, e.span, ss, Some(last), 0),
         _ => lower_into(alloc, b, c, e, 0),

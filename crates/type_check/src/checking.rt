@@ -166,7 +166,7 @@ fn type_function(
         span: function.name_span,
         signature,
         clauses: Items::from_vec(clauses),
-        body: body.into_inner(),
+        body,
     })
 }
 
