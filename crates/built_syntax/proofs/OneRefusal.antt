@@ -9,11 +9,11 @@ use Rattle.rs_tokens.proofs.OneReading.{one_list as one_token_list}
 use Rattle.concrete_syntax.specs.declared.fault.ParseFault.TheVariants as whole
 use Rattle.concrete_syntax.specs.Parsed.{IsParseError as IsGrammarError}
 use Rattle.concrete_syntax.proofs.Whole.{one_error as one_grammar_error}
-use Rattle.pearlite.specs.declared.fault.PassError.TheVariants as P
+use Rattle.text_core.specs.declared.fault.PassError.TheVariants as P
 use Rattle.rs_syntax.specs.declared.item.Item.{Item}
 use Rattle.rs_syntax.specs.Parsed.{SpellsItems}
 use Rattle.rs_syntax.proofs.Whole.{no_value, one_list, not_many as not_many_items}
-use Rattle.built_syntax.specs.declared.function.Function.{Function}
+use Rattle.built_trees.specs.declared.function.Function.{Function}
 use Rattle.built_syntax.specs.BuiltItems.{built_items}
 use Rattle.built_syntax.specs.Parsed.{SpellsSource, first_token, IsUnbuiltAt, IsNotBuilt, most_functions, IsParseError}
 use Rattle.built_syntax.proofs.Whole.{as_many}

@@ -3,7 +3,7 @@ use Rattle.std.proofs.Common.{◌≡◌, ℕ, zero, suc, ◌<◌, List, [], ◌�
 use Rattle.rs_syntax.specs.declared.expr.Stmt.{Stmt}
 use Rattle.rs_syntax.specs.Expr.{Expr}
 use Rattle.rs_syntax.specs.ExprView.{expr_size, exprs_size, stmts_size, exprs_of, stmts_of}
-use Rattle.built_syntax.specs.declared.expr.Stmt.{Stmt as BuiltStmt}
+use Rattle.built_trees.specs.declared.expr.Stmt.{Stmt as BuiltStmt}
 use Rattle.built_syntax.specs.Built.{each}
 use Rattle.built_syntax.specs.BuiltExprs.{built_expr, built_exprs, built_stmts, stmt_by}
 

@@ -7,9 +7,9 @@ use Rattle.text_core.specs.Names.{words, HaveOnePlace}
 use Rattle.concrete_syntax.specs.declared.fault.ParseFault.{ParseFault}
 use Rattle.concrete_syntax.specs.declared.fault.ParseFault.TheVariants as whole
 use Rattle.concrete_syntax.specs.Words.{IsWordError as IsPlainWordError}
-use Rattle.pearlite.specs.declared.fault.PassError.{PassError}
-use Rattle.pearlite.specs.declared.fault.PassError.TheVariants as P
-use Rattle.pearlite.specs.Faults.{error_of}
+use Rattle.text_core.specs.declared.fault.PassError.{PassError}
+use Rattle.text_core.specs.declared.fault.PassError.TheVariants as P
+use Rattle.concrete_syntax.specs.Faults.{error_of}
 use Rattle.pearlite.specs.Words.{IsWordError}
 use Rattle.rs_syntax.specs.declared.attribute.Attribute.{Attribute}
 use Rattle.rs_syntax.specs.declared.item.Item.{Item}
@@ -17,7 +17,7 @@ use Rattle.rs_syntax.specs.declared.item.ItemNode.{ItemNode}
 use Rattle.rs_syntax.specs.declared.item.ItemNode.TheVariants as I
 use Rattle.rs_syntax.specs.Parsed.{SpellsItems, functions_of, functions_among, IsParseError as IsItemsError, SpellsNone as SpellsNoItems}
 use Rattle.rs_syntax.proofs.Whole.{one_list, error_of_words, none_of_words}
-use Rattle.built_syntax.specs.declared.function.Function.{Function}
+use Rattle.built_trees.specs.declared.function.Function.{Function}
 use Rattle.built_syntax.specs.Built.{◌>>=◌, with_some}
 use Rattle.built_syntax.specs.BuiltItems.{nothing_behind, unbuilt_behind, item_by, item_of, unread, built_function, built_items}
 use Rattle.built_syntax.specs.Parsed.{SpellsSource, IsUnbuiltAt, most_functions, IsParseError, SpellsNone}

@@ -13,15 +13,15 @@ use Rattle.rs_syntax.specs.declared.operator.UnaryOp.TheVariants.{Neg, Not, Dere
 use Rattle.rs_syntax.specs.declared.statement.StmtKind.{StmtKind as WrittenKind}
 use Rattle.rs_syntax.specs.declared.statement.StmtKind.TheVariants as W
 use Rattle.rs_syntax.specs.Expr as E
-use Rattle.built_syntax.specs.declared.binding.Binding.{Binding}
-use Rattle.built_syntax.specs.declared.binding.StmtKind.{StmtKind}
-use Rattle.built_syntax.specs.declared.binding.StmtKind.TheVariants as K
-use Rattle.built_syntax.specs.declared.expr.Stmt.{Stmt}
+use Rattle.built_trees.specs.declared.binding.Binding.{Binding}
+use Rattle.built_trees.specs.declared.binding.StmtKind.{StmtKind}
+use Rattle.built_trees.specs.declared.binding.StmtKind.TheVariants as K
+use Rattle.built_trees.specs.declared.expr.Stmt.{Stmt}
 use Rattle.built_syntax.specs.Built.{◌>>=◌, unbuilt, pair, gather}
 use Rattle.built_syntax.specs.BuiltTerms.{name_alone, built_type_or_none, built_term}
-use Rattle.built_syntax.specs.Expr.{Expr, integer, truth, named, negative, denied, binary, lazy, assign, update, call, block, branch, choice, repeat, done, last}
-use Rattle.built_syntax.specs.ExprView.{stmts_of, exprs_of}
-use Rattle.built_syntax.specs.Pterm.{Pterm}
+use Rattle.built_trees.specs.Expr.{Expr, integer, truth, named, negative, denied, binary, lazy, assign, update, call, block, branch, choice, repeat, done, last}
+use Rattle.built_trees.specs.ExprView.{stmts_of, exprs_of}
+use Rattle.built_trees.specs.Pterm.{Pterm}
 
 -- ---- what a `let` declares
 

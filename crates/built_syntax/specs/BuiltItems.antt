@@ -15,14 +15,14 @@ use Rattle.rs_syntax.specs.declared.item.ItemNode.TheVariants as I
 use Rattle.rs_syntax.specs.declared.param.Param.{Param as WrittenParam}
 use Rattle.rs_syntax.specs.declared.param.ParamNode.{ParamNode}
 use Rattle.rs_syntax.specs.declared.param.ParamNode.TheVariants as P
-use Rattle.built_syntax.specs.declared.function.Clause.{Clause}
-use Rattle.built_syntax.specs.declared.function.ClauseKind.TheVariants as C
-use Rattle.built_syntax.specs.declared.function.Function.{Function}
-use Rattle.built_syntax.specs.declared.function.Param.{Param}
+use Rattle.built_trees.specs.declared.function.Clause.{Clause}
+use Rattle.built_trees.specs.declared.function.ClauseKind.TheVariants as C
+use Rattle.built_trees.specs.declared.function.Function.{Function}
+use Rattle.built_trees.specs.declared.function.Param.{Param}
 use Rattle.built_syntax.specs.Built.{◌>>=◌, unbuilt, absent, each, gather}
 use Rattle.built_syntax.specs.BuiltTerms.{built_type, built_type_or_none, built_term}
 use Rattle.built_syntax.specs.BuiltExprs.{built_expr}
-use Rattle.built_syntax.specs.Expr.{Expr}
+use Rattle.built_trees.specs.Expr.{Expr}
 
 -- ---- contracts
 

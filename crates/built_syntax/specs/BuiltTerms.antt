@@ -14,7 +14,7 @@ use Rattle.pearlite.specs.Pterm as T
 use Rattle.pearlite.specs.TypeTree as W
 use Rattle.pearlite.specs.TypeTree.{TypeTree}
 use Rattle.built_syntax.specs.Built.{◌>>=◌, unbuilt}
-use Rattle.built_syntax.specs.Pterm.{Pterm, integer, truth, answer, named, viewed, negative, denied, calculated, compare, both, either, implied}
+use Rattle.built_trees.specs.Pterm.{Pterm, integer, truth, answer, named, viewed, negative, denied, calculated, compare, both, either, implied}
 
 -- ---- names
 

@@ -3,13 +3,5 @@ pub mod Built
 pub mod BuiltExprs
 pub mod BuiltItems
 pub mod BuiltTerms
-pub mod Expr
-pub mod ExprCode
-pub mod ExprFalls
-pub mod ExprView
 pub mod Parsed
-pub mod Pterm
-pub mod PtermCode
-pub mod PtermFalls
-pub mod PtermView
 pub use Rattle.pearlite.specs.Words

@@ -5,11 +5,11 @@ use Rattle.text_core.specs.declared.refusal.SourceError.{SourceError}
 use Rattle.text_core.specs.declared.refusal.Code.TheVariants.{E20}
 use Rattle.rs_tokens.specs.declared.token.Token.{Token}
 use Rattle.rs_tokens.specs.Reading.{AreTokens}
-use Rattle.pearlite.specs.declared.fault.PassError.{PassError}
-use Rattle.pearlite.specs.declared.fault.PassError.TheVariants as P
+use Rattle.text_core.specs.declared.fault.PassError.{PassError}
+use Rattle.text_core.specs.declared.fault.PassError.TheVariants as P
 use Rattle.rs_syntax.specs.declared.item.Item.{Item}
 use Rattle.rs_syntax.specs.Parsed.{SpellsItems, functions_among, most_functions as most_of_items, IsParseError as IsItemsError}
-use Rattle.built_syntax.specs.declared.function.Function.{Function}
+use Rattle.built_trees.specs.declared.function.Function.{Function}
 use Rattle.built_syntax.specs.BuiltItems.{built_items}
 
 -- the most functions of a source

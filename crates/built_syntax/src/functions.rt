@@ -4,12 +4,11 @@ ghost use Rattle.built_syntax.specs.Answers.{Answers, AnswersAs};
 ghost use Rattle.built_syntax.specs.Built.{absent, each, gather};
 ghost use Rattle.built_syntax.specs.BuiltItems.{clause_of, param_of, built_body, built_function, unread, item_of, built_items};
 
-use crate::expr::Expr;
 use crate::expressions::built_expr;
-use crate::function::{Clause, ClauseKind, Function, Param};
 use crate::lists::push_some;
 use crate::stop::Stop;
 use crate::terms::{built_term, built_type, type_or_none};
+use built_trees::{Clause, ClauseKind, Expr, Function, Param};
 use rs_syntax::{
     Attribute, AttributeNode, Body, ClauseKind as WrittenClause, Function as WrittenFunction, Item,
     ItemNode, Param as WrittenParam, ParamNode,

@@ -3,8 +3,8 @@ ghost use Rattle.std.specs.Prelude.{◌≡◌, ◌≤◌, ℕ, ◌++◌, List, l
 ghost use Rattle.text_core.specs.declared.refusal.Limit.{Limit};
 ghost use Rattle.text_core.specs.declared.refusal.SourceError.{SourceError};
 ghost use Rattle.text_core.specs.Names.{words, HaveOnePlace};
-ghost use Rattle.pearlite.specs.declared.fault.PassError.TheVariants as P;
-ghost use Rattle.built_syntax.specs.declared.function.Function.{Function};
+ghost use Rattle.text_core.specs.declared.fault.PassError.TheVariants as P;
+ghost use Rattle.built_trees.specs.declared.function.Function.{Function};
 ghost use Rattle.built_syntax.specs.Parsed.{SpellsSource, most_functions, IsParseError};
 
 /// By each table of names a text spells at most one list of functions.

@@ -1,17 +1,16 @@
 //! The parser of sources.
 ghost use Rattle.std.specs.Prelude.{◌≡◌, ℕ, ◌+◌, ◌<◌, ◌≤◌, ◌^◌, List, length, IfOk, IfErr, OnOk};
 ghost use Rattle.pearlite.specs.Words.{Keeps, GivesNames, IsWordError};
-ghost use Rattle.built_syntax.specs.declared.function.Function.{Function};
+ghost use Rattle.built_trees.specs.declared.function.Function.{Function};
 ghost use Rattle.built_syntax.specs.Parsed.{SpellsSource, most_functions, first_token, IsUnbuiltAt, IsParseError, SpellsNone};
 
-use crate::function::Function;
 use crate::functions::built_items;
 use crate::stop::Stop;
+use built_trees::Function;
 use concrete_syntax::tokens_of;
-use pearlite::PassError;
 use rs_tokens::Token;
 use std::alloc::Global;
-use text_core::{Code, Items, Names, SourceError, Span};
+use text_core::{Code, Items, Names, PassError, SourceError, Span};
 
 /// The first of the tokens that does not begin before the byte; else the end.
 fn first_token(tokens: &[Token], end: u32, start: u32) -> Span

@@ -4,8 +4,8 @@ ghost use Rattle.pearlite.specs.Pterm as T;
 ghost use Rattle.built_syntax.specs.Answers.{Answers, AnswersAs};
 ghost use Rattle.built_syntax.specs.BuiltTerms.{name_alone, named_type, built_type, built_type_or_none, named_term, built_term};
 
-use crate::pterm::{Pterm, PtermNode};
 use crate::stop::Stop;
+use built_trees::{Pterm, PtermNode};
 use logic_term::{IntKind, Ty, TyNode};
 use pearlite::{
     BinaryTerm, Path, PathNode, Pterm as WrittenTerm, PtermNode as WrittenNode, Segment, TypeNode,

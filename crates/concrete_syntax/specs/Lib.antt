@@ -3,6 +3,7 @@ pub mod Begins
 pub mod Choices
 pub mod ExprChoices
 pub mod ExprRules
+pub mod Faults
 pub mod Front
 pub mod ItemChoices
 pub mod ItemRules

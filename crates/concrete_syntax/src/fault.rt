@@ -1,8 +1,9 @@
 ghost use Rattle.std.specs.Prelude.{◌≡◌};
 ghost use Rattle.concrete_syntax.specs.declared.fault.ParseFault.TheVariants as errors;
+ghost use Rattle.concrete_syntax.specs.Faults.{error_of};
 
 use std::alloc::{AllocError, AllocFailed};
-use text_core::{NoMemory, SourceError};
+use text_core::{NoMemory, PassError, SourceError};
 use thiserror::Error;
 
 /// Why a source has no phrases.
@@ -37,5 +38,16 @@ impl<T: Drop> From<AllocFailed<T>> for ParseFault {
 
     fn from(_refused: AllocFailed<T>) -> ParseFault {
         ParseFault::NoMemory
+    }
+}
+
+impl From<ParseFault> for PassError {
+    ghost from_gives = { λ fault e. e ≡ error_of fault };
+
+    fn from(fault: ParseFault) -> PassError {
+        match fault {
+            ParseFault::Source(error) => PassError::Source(error),
+            ParseFault::NoMemory => PassError::NoMemory,
+        }
     }
 }

@@ -11,8 +11,8 @@ mod term;
 mod ty;
 
 pub use kinds::{
-    AdtId, ArithOp, BinaryOp, Ctor, FnKind, IntKind, Label, Label2, LogicFn, Region, TermBinary,
-    TermUnary, TraitId, TyUnary,
+    AdtId, ArithOp, BinaryOp, Comparison, Ctor, FnKind, IntKind, Label, Label2, LazyOp, LogicFn,
+    Region, TermBinary, TermUnary, TraitId, TyUnary,
 };
 pub use laws::{
     bound_names_do_not_count, free_names_alone_count, normal_forms_keep_values,

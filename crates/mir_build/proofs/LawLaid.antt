@@ -9,8 +9,8 @@ use Rattle.mir_ir.specs.declared.terminator.FnId.TheVariants as fn_id
 use Rattle.mir_ir.specs.declared.terminator.Callee.TheVariants.{Function}
 use Rattle.mir_ir.specs.declared.terminator.TerminatorKind.TheVariants.{Goto, If, Call, Return}
 use Rattle.mir_ir.specs.WellFormed.{Locals, with, without, CanTakeAll, all_taken, Within}
-use Rattle.built_syntax.specs.declared.LazyOp.{LazyOp}
-use Rattle.built_syntax.specs.declared.LazyOp.TheVariants as lazy_op
+use Rattle.logic_term.specs.declared.kinds.LazyOp.{LazyOp}
+use Rattle.logic_term.specs.declared.kinds.LazyOp.TheVariants as lazy_op
 use Rattle.type_check.specs.declared.program.Signature.{Signature}
 use Rattle.type_check.specs.TypedExpr.{TypedExpr, TypedStmts, TypedExprs}
 use Rattle.type_check.specs.WellTyped.{IsWellTyped, StatementsFit, ArgumentsFit}

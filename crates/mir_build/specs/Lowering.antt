@@ -15,10 +15,10 @@ use Rattle.logic_term.specs.declared.subst.Replacement.{Replacement}
 use Rattle.logic_term.specs.Subst.{above, subst}
 use Rattle.logic_term.specs.Term.{Term, var, truth}
 use Rattle.logic_term.specs.Ty.{Ty}
-use Rattle.built_syntax.specs.declared.LazyOp.{LazyOp}
-use Rattle.built_syntax.specs.declared.LazyOp.TheVariants as lazy_op
-use Rattle.built_syntax.specs.declared.function.ClauseKind.{ClauseKind}
-use Rattle.built_syntax.specs.declared.function.ClauseKind.TheVariants.{Requires, Ensures}
+use Rattle.logic_term.specs.declared.kinds.LazyOp.{LazyOp}
+use Rattle.logic_term.specs.declared.kinds.LazyOp.TheVariants as lazy_op
+use Rattle.built_trees.specs.declared.function.ClauseKind.{ClauseKind}
+use Rattle.built_trees.specs.declared.function.ClauseKind.TheVariants.{Requires, Ensures}
 use Rattle.mir_ir.specs.declared.place.Lit.{Lit}
 use Rattle.mir_ir.specs.declared.place.Lit.TheVariants as lit
 use Rattle.mir_ir.specs.declared.place.Operand.{Operand}

@@ -3,8 +3,8 @@ use Rattle.std.specs.Prelude.{◌≡◌, ℕ, ◌+◌, ◌≤◌, List, [], ◌�
 use Rattle.std.specs.List.{All}
 use Rattle.text_core.specs.declared.refusal.Limit.{Limit}
 use Rattle.text_core.specs.declared.refusal.LimitKind.TheVariants.{Blocks}
-use Rattle.built_syntax.specs.declared.PassError.{PassError}
-use Rattle.built_syntax.specs.declared.PassError.TheVariants as errors
+use Rattle.text_core.specs.declared.fault.PassError.{PassError}
+use Rattle.text_core.specs.declared.fault.PassError.TheVariants as errors
 use Rattle.mir_ir.specs.declared.body.Body.{Body}
 use Rattle.mir_ir.specs.declared.terminator.TerminatorKind.TheVariants.{Return}
 use Rattle.type_check.specs.declared.program.TypedFunction.{TypedFunction}

@@ -1,11 +1,11 @@
 //! Contracts of functions, from their clauses.
 ghost use Rattle.std.specs.Prelude.{◌≡◌, [], ◌++◌, map, IfOk, OnOk};
 ghost use Rattle.type_check.specs.VariableNames.{variable_name};
-ghost use Rattle.built_syntax.specs.declared.function.ClauseKind.TheVariants.{Requires, Ensures};
+ghost use Rattle.built_trees.specs.declared.function.ClauseKind.TheVariants.{Requires, Ensures};
 ghost use Rattle.mir_build.specs.Lowering.{counted, formula, formula_span, formulas_of, picked, contract_of};
 
 use crate::around::{answer_name, formula, formula_span, variable_name};
-use built_syntax::ClauseKind;
+use built_trees::ClauseKind;
 use logic_term::{Contract, Term, Ty};
 use std::alloc::Global;
 use text_core::{Items, Name, NoMemory, Span};

@@ -15,8 +15,7 @@ ghost use Rattle.mir_build.specs.declared.stop.Stop.TheVariants.{Blocks};
 use crate::around::{Around, head_of, local_of, nest};
 use crate::builder::{Builder, copied, moved, whole};
 use crate::stop::Stop;
-use built_syntax::LazyOp;
-use logic_term::{BinaryOp, Label, Ty};
+use logic_term::{BinaryOp, Label, LazyOp, Ty};
 use mir_ir::{Callee, FnId, Lit, Operand, Rvalue, Terminator, TerminatorKind};
 use std::alloc::Global;
 use text_core::{Items, NoMemory, Span};
@@ -71,7 +70,7 @@ pub(crate) fn lower_into(
     ensures around { OnOk result (around c.new ≡ around c.old) }
 {
     let span = e.span;
-    match &e.node {
+    match &*e.node {
         TypedNode::Int(z, k) => Ok(b.put_constant(alloc, span, d, Lit::Int(*z, *k))?),
         TypedNode::Truth(v) => Ok(b.put_constant(alloc, span, d, Lit::Bool(*v))?),
         TypedNode::Variable(v) => {

@@ -13,11 +13,10 @@ use crate::around::{Around, local_name};
 use crate::builder::{BodyText, Builder, MOST_BLOCKS};
 use crate::expression::{lower_into, lower_rest, value_span};
 use crate::stop::Stop;
-use built_syntax::PassError;
 use logic_term::{Label, Ty};
 use mir_ir::{Body, Initialised, Terminator, TerminatorKind};
 use std::alloc::Global;
-use text_core::{Items, Limit, LimitKind, Name, Names, NoMemory, Text};
+use text_core::{Items, Limit, LimitKind, Name, Names, NoMemory, PassError, Text};
 use type_check::{Signature, TypedExpr, TypedFunction, TypedNode};
 
 /// The locals that the parameters are. Want of memory is answered too where a number would pass 32 bits.
@@ -71,7 +70,7 @@ fn lower_outermost(
     ensures limit { IfErr result (λ stop. stop ≡ Blocks → 4096 < b.old.labels + labels e.now) }
     ensures most { OnOk result (b.old.labels ≤ 4096 → b.new.labels ≤ 4096) }
 {
-    match &e.node {
+    match &*e.node {
         TypedNode::Block(ss) => lower_rest(alloc, b, c, true, e.span, ss, None, 0),
         TypedNode::BlockWith(ss, last) => lower_rest(alloc, b, c, true, e.span, ss, Some(last), 0),
         _ => lower_into(alloc, b, c, e, 0),

@@ -7,10 +7,9 @@ ghost use Rattle.mir_build.specs.Whole.{HaveFewBlocks, FailsFor};
 use crate::contract::contract_of;
 use crate::function::lower_function;
 use crate::lowered::Lowered;
-use built_syntax::PassError;
 use mir_ir::Bodies;
 use std::alloc::Global;
-use text_core::{Items, Names};
+use text_core::{Items, Names, PassError};
 use type_check::TypedProgram;
 
 /// One body for each function, in order, with its contract and what may be gone in it. A program whose names or types do

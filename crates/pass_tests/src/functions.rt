@@ -1,12 +1,12 @@
 ghost use Rattle.std.specs.Prelude.{◌≤◌, ◌^◌, length};
 
-use built_syntax::{Expr, ExprNode, Function, StmtKind, parse};
+use built_syntax::parse;
+use built_trees::{Expr, ExprNode, Function, StmtKind};
 use logic_term::BinaryOp;
-use pearlite::PassError;
 use std::alloc::Global;
 use std::process::Abort;
 use std::test::Fail;
-use text_core::{Code, Names, Span};
+use text_core::{Code, Names, PassError, Span};
 
 fn is_at(span: Span, start: u32, end: u32) -> bool {
     span.start == start && span.end == end

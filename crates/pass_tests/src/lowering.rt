@@ -1,6 +1,5 @@
 ghost use Rattle.std.specs.Prelude.{◌<◌};
 
-use built_syntax::PassError;
 use logic_term::{BinaryOp, IntKind, Label, Term, Ty, TyNode};
 use mir_build::{Lowered, lower};
 use mir_ir::{Block, Body, Rvalue, Statement, StatementKind, TerminatorKind};
@@ -8,7 +7,7 @@ use std::alloc::Global;
 use std::process::Abort;
 use std::test::Fail;
 use text_core::name::OPTION;
-use text_core::{Items, Name, Names, NoMemory, Span};
+use text_core::{Items, Name, Names, NoMemory, PassError, Span};
 use type_check::{
     Assertion, Signature, TypedExpr, TypedFunction, TypedNode, TypedProgram, TypedStmt,
 };
@@ -39,25 +38,19 @@ fn number_ty() -> Ty {
     Ty::int(IntKind::I32)
 }
 
-fn expr(ty: Ty, start: u32, node: TypedNode) -> TypedExpr
+fn expr(alloc: Global, ty: Ty, start: u32, node: TypedNode) -> Result<TypedExpr, NoMemory>
     requires { start < 100 }
 {
-    TypedExpr {
-        ty,
-        span: byte(start),
-        node,
-    }
-}
-
-fn boxed(alloc: Global, e: TypedExpr) -> Result<Box<TypedExpr>, NoMemory> {
-    Ok(Box::new(alloc, e)?)
+    let node = Box::new(alloc, node)?;
+    let span = byte(start);
+    Ok(TypedExpr { ty, span, node })
 }
 
 /// A variable that holds a number.
-fn variable(alloc: Global, start: u32, v: u32) -> Result<Box<TypedExpr>, NoMemory>
+fn variable(alloc: Global, start: u32, v: u32) -> Result<TypedExpr, NoMemory>
     requires { start < 100 }
 {
-    boxed(alloc, expr(number_ty(), start, TypedNode::Variable(v)))
+    expr(alloc, number_ty(), start, TypedNode::Variable(v))
 }
 
 /// The variable and the number, under the operator.
@@ -68,13 +61,13 @@ fn operation(
     op: BinaryOp,
     v: u32,
     number: i128,
-) -> Result<Box<TypedExpr>, NoMemory>
+) -> Result<TypedExpr, NoMemory>
     requires { start < 98 }
 {
     let left = variable(alloc, start + 1, v)?;
     let number = TypedNode::Int(number, IntKind::I32);
-    let right = boxed(alloc, expr(number_ty(), start + 2, number))?;
-    boxed(alloc, expr(ty, start, TypedNode::Binary(op, left, right)))
+    let right = expr(alloc, number_ty(), start + 2, number)?;
+    expr(alloc, ty, start, TypedNode::Binary(op, left, right))
 }
 
 /// A block of these statements whose last expression is this one.
@@ -84,8 +77,7 @@ fn block_with(
     statements: Vec<TypedStmt>,
     last: TypedExpr,
 ) -> Result<TypedExpr, NoMemory> {
-    let node = TypedNode::BlockWith(statements, boxed(alloc, last)?);
-    Ok(expr(ty, 90, node))
+    expr(alloc, ty, 90, TypedNode::BlockWith(statements, last))
 }
 
 /// A program of one function.
@@ -111,16 +103,12 @@ fn branching(alloc: Global) -> Result<TypedProgram, NoMemory> {
     let mut params = Items::new(alloc);
     params.push(bool_ty())?;
     params.push(number_ty())?;
-    let test = boxed(alloc, expr(bool_ty(), 11, TypedNode::Variable(0)))?;
+    let test = expr(alloc, bool_ty(), 11, TypedNode::Variable(0))?;
     let yes = operation(alloc, number_ty(), 20, BinaryOp::Add, 1, 1)?;
     let no = operation(alloc, number_ty(), 30, BinaryOp::Div, 1, 2)?;
     let node = TypedNode::IfElse(test, yes, no);
-    let body = block_with(
-        alloc,
-        number_ty(),
-        Vec::new(alloc),
-        expr(number_ty(), 10, node),
-    )?;
+    let choice = expr(alloc, number_ty(), 10, node)?;
+    let body = block_with(alloc, number_ty(), Vec::new(alloc), choice)?;
     program_of(alloc, params, number_ty(), body)
 }
 
@@ -130,20 +118,17 @@ fn looping(alloc: Global, invariant: Term) -> Result<TypedProgram, NoMemory> {
     params.push(number_ty())?;
     let test = operation(alloc, bool_ty(), 20, BinaryOp::Ne, 0, 0)?;
     let less = operation(alloc, number_ty(), 40, BinaryOp::Sub, 0, 1)?;
-    let value = expr(unit_ty(alloc), 35, TypedNode::Assign(0, less));
+    let value = expr(alloc, unit_ty(alloc), 35, TypedNode::Assign(0, less))?;
     let mut statements = Vec::new(alloc);
     statements.push(TypedStmt {
         binds: false,
         value,
     })?;
-    let inner = boxed(
-        alloc,
-        expr(unit_ty(alloc), 30, TypedNode::Block(statements)),
-    )?;
+    let inner = expr(alloc, unit_ty(alloc), 30, TypedNode::Block(statements))?;
     let mut invariants = Vec::new(alloc);
     invariants.push(Assertion::Good(byte(50), invariant))?;
     let node = TypedNode::While(invariants, test, inner);
-    let around = expr(unit_ty(alloc), 10, node);
+    let around = expr(alloc, unit_ty(alloc), 10, node)?;
     let body = block_with(alloc, unit_ty(alloc), Vec::new(alloc), around)?;
     program_of(alloc, params, unit_ty(alloc), body)
 }

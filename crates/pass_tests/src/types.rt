@@ -1,11 +1,10 @@
-use built_syntax::{
-    Clause, ClauseKind, Expr, ExprNode, Function, Param, PassError, Pterm, PtermNode, Stmt,
-    StmtKind,
+use built_trees::{
+    Clause, ClauseKind, Expr, ExprNode, Function, Param, Pterm, PtermNode, Stmt, StmtKind,
 };
 use logic_term::{BinaryOp, IntKind, Ty};
 use std::alloc::Global;
 use std::test::Fail;
-use text_core::{Code, Items, Name, NoMemory, Span};
+use text_core::{Code, Items, Name, NoMemory, PassError, Span};
 use type_check::check;
 
 const F: Name = Name(40);

@@ -10,12 +10,12 @@ use Rattle.concrete_syntax.specs.declared.word.Word.{Word as PlainWord}
 use Rattle.concrete_syntax.specs.Front.{SpellsFront}
 use Rattle.concrete_syntax.specs.Words.{IsBadText, no_text, bad_token, AreWords as ArePlainWords, IsWordError as IsPlainWordError}
 use Rattle.concrete_syntax.proofs.Tokens.{as_many, same_words}
-use Rattle.pearlite.specs.declared.fault.PassError.{PassError}
-use Rattle.pearlite.specs.declared.fault.PassError.TheVariants as P
+use Rattle.text_core.specs.declared.fault.PassError.{PassError}
+use Rattle.text_core.specs.declared.fault.PassError.TheVariants as P
 use Rattle.pearlite.specs.declared.value.Value.{Value}
 use Rattle.pearlite.specs.declared.word.Word.{Word}
 use Rattle.pearlite.specs.Cursor.{Standing}
-use Rattle.pearlite.specs.Faults.{error_of}
+use Rattle.concrete_syntax.specs.Faults.{error_of}
 use Rattle.pearlite.specs.Make.{trees}
 use Rattle.pearlite.specs.Parsed.{term, SpellsTerm, IsTermError, SpellsNoTerm}
 use Rattle.pearlite.specs.Pterm.{Pterm}

@@ -14,7 +14,7 @@ use Rattle.pearlite.specs.declared.action.Action.{Action}
 use Rattle.pearlite.specs.declared.action.Action.TheVariants as F
 use Rattle.pearlite.specs.declared.operator.BinaryTerm.TheVariants as B
 use Rattle.pearlite.specs.declared.operator.UnaryTerm.TheVariants as U
-use Rattle.pearlite.specs.declared.operator.Comparison.TheVariants as C
+use Rattle.logic_term.specs.declared.kinds.Comparison.TheVariants as C
 
 abbrev pub item_action : ItemRule → Action
 item_action RI.TermBraces = F.Second

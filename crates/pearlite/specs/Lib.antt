@@ -1,6 +1,5 @@
 pub mod Actions
 pub mod Cursor
-pub mod Faults
 pub mod Make
 pub mod Parsed
 pub mod Pat

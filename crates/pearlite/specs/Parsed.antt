@@ -9,8 +9,8 @@ use Rattle.concrete_syntax.specs.declared.phrases.Literals.TheVariants as L
 use Rattle.concrete_syntax.specs.declared.word.Word.{Word as PlainWord}
 use Rattle.concrete_syntax.specs.Front.{SpellsFront, IsFrontRefusal}
 use Rattle.concrete_syntax.specs.Words.{AreWords as ArePlainWords}
-use Rattle.pearlite.specs.declared.fault.PassError.{PassError}
-use Rattle.pearlite.specs.declared.fault.PassError.TheVariants as P
+use Rattle.text_core.specs.declared.fault.PassError.{PassError}
+use Rattle.text_core.specs.declared.fault.PassError.TheVariants as P
 use Rattle.pearlite.specs.declared.value.Value.{Value}
 use Rattle.pearlite.specs.declared.word.Word.{Word}
 use Rattle.pearlite.specs.Cursor.{Standing}

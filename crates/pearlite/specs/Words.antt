@@ -21,8 +21,8 @@ use Rattle.pearlite.specs.declared.operator.GhostMacro.TheVariants as G
 use Rattle.pearlite.specs.declared.word.Word.{Word}
 use Rattle.pearlite.specs.declared.word.WordKind.{WordKind}
 use Rattle.pearlite.specs.declared.word.WordKind.TheVariants as K
-use Rattle.pearlite.specs.declared.fault.PassError.{PassError}
-use Rattle.pearlite.specs.declared.fault.PassError.TheVariants.{Source, Limit, NoMemory}
+use Rattle.text_core.specs.declared.fault.PassError.{PassError}
+use Rattle.text_core.specs.declared.fault.PassError.TheVariants.{Source, Limit, NoMemory}
 
 -- ---- tables by text
 

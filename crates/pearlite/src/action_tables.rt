@@ -3,9 +3,9 @@ ghost use Rattle.std.specs.Prelude.{◌≡◌};
 ghost use Rattle.pearlite.specs.Actions.{item_action, shape_action, term_action, action_of};
 
 use crate::action::Action;
-use crate::operator::{BinaryTerm, Comparison, UnaryTerm};
+use crate::operator::{BinaryTerm, UnaryTerm};
 use concrete_syntax::{ItemRule, Rule, ShapeRule, TermRule};
-use logic_term::ArithOp;
+use logic_term::{ArithOp, Comparison};
 
 /// Of the rules of items those that terms have parts by.
 fn item_action(rule: ItemRule) -> Action

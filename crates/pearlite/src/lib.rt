@@ -5,7 +5,6 @@ mod action;
 mod action_tables;
 mod binder;
 mod cursor;
-mod fault;
 mod make_patterns;
 mod make_terms;
 mod make_types;
@@ -23,9 +22,9 @@ mod words;
 pub use action::Action;
 pub use binder::Binder;
 pub use cursor::Cursor;
-pub use fault::PassError;
+pub use logic_term::Comparison;
 pub use operator::{
-    BinaryTerm, CallTrait, Comparison, GhostMacro, PanicMacro, Predicate, Quantifier, UnaryTerm,
+    BinaryTerm, CallTrait, GhostMacro, PanicMacro, Predicate, Quantifier, UnaryTerm,
 };
 pub use path::{Path, PathNode, Segment};
 pub use pattern::{FieldPat, Pat, PatNode};

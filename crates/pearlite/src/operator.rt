@@ -1,15 +1,4 @@
-use logic_term::ArithOp;
-
-/// The comparisons of terms.
-#[derive(Clone, Copy, Debug, PartialEq, Eq)]
-pub enum Comparison {
-    Eq,
-    Ne,
-    Lt,
-    Le,
-    Gt,
-    Ge,
-}
+use logic_term::{ArithOp, Comparison};
 
 /// The operators with one operand.
 #[derive(Clone, Copy, Debug, PartialEq, Eq)]

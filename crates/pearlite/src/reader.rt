@@ -6,7 +6,6 @@ ghost use Rattle.pearlite.specs.Pterm.{Pterm};
 ghost use Rattle.pearlite.specs.Words.{Keeps, GivesNames};
 
 use crate::cursor::Cursor;
-use crate::fault::PassError;
 use crate::pterm::Pterm;
 use crate::value::{Value, term_in};
 use crate::words::words_of;
@@ -14,7 +13,7 @@ use concrete_syntax::{
     FrontFault, Literals, Mode, Nonterminal, TermPhrase, Word as PlainWord, parse_front,
 };
 use std::alloc::Global;
-use text_core::Names;
+use text_core::{Names, PassError};
 
 /// The words from that number on.
 fn words_behind(words: &[PlainWord], place: usize) -> &[PlainWord]

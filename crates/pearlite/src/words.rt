@@ -13,13 +13,12 @@ ghost use Rattle.pearlite.specs.declared.word.Word.{Word};
 ghost use Rattle.concrete_syntax.specs.Words.{found_in, row_of, text_in};
 ghost use Rattle.pearlite.specs.Words.{kind_by, value_by, suffix_of, suffix_by, HasName, IsLexeme, IsWordOf, AreWords, IsWordError, Keeps, NamesOnlyNew, with_identifier, GivesNames};
 
-use crate::fault::PassError;
 use crate::operator::{CallTrait, GhostMacro, PanicMacro, Predicate, Quantifier};
 use crate::word::{Word, WordKind};
 use logic_term::IntKind;
 use rs_tokens::{Lexer, Token, TokenKind};
 use std::alloc::Global;
-use text_core::{Items, Name, Names, NoMemory};
+use text_core::{Items, Name, Names, NoMemory, PassError};
 
 /// The names that are told apart by their texts.
 const QUOTED: [(&str, WordKind); 26] = [

@@ -10,10 +10,10 @@ use Rattle.concrete_syntax.specs.declared.fault.ParseFault.TheVariants as whole
 use Rattle.concrete_syntax.specs.Parsed.{SpellsAs, IsParseError as IsGrammarError}
 use Rattle.concrete_syntax.specs.Sources.{phrases}
 use Rattle.concrete_syntax.proofs.Whole.{another_value, not_both, one_source as one_tree}
-use Rattle.pearlite.specs.declared.fault.PassError.{PassError}
-use Rattle.pearlite.specs.declared.fault.PassError.TheVariants as P
+use Rattle.text_core.specs.declared.fault.PassError.{PassError}
+use Rattle.text_core.specs.declared.fault.PassError.TheVariants as P
 use Rattle.pearlite.specs.declared.word.Word.{Word}
-use Rattle.pearlite.specs.Faults.{error_of}
+use Rattle.concrete_syntax.specs.Faults.{error_of}
 use Rattle.pearlite.specs.Words.{AreWords, IsWordError, GivesNames}
 use Rattle.pearlite.proofs.WordLists.{same_words, one_table, table_has_one_place}
 use Rattle.rs_syntax.specs.declared.item.Item.{Item}

@@ -13,7 +13,7 @@ use Rattle.pearlite.specs.Pterm.{Pterm}
 use Rattle.rs_syntax.specs.declared.attribute.Attribute.{Attribute}
 use Rattle.rs_syntax.specs.declared.param.Param.{Param}
 use Rattle.rs_syntax.specs.declared.statement.StmtKind.{StmtKind}
-use Rattle.rs_syntax.specs.declared.operator.LazyOp.{LazyOp}
+use Rattle.logic_term.specs.declared.kinds.LazyOp.{LazyOp}
 use Rattle.rs_syntax.specs.declared.operator.UnaryOp.{UnaryOp}
 
 mutual

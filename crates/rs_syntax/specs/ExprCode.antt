@@ -15,7 +15,7 @@ use Rattle.pearlite.specs.PtermCode.{coded_pterm}
 use Rattle.rs_syntax.specs.contracts.attribute.Attribute as attribute
 use Rattle.rs_syntax.specs.contracts.param.Param as param
 use Rattle.rs_syntax.specs.contracts.statement.StmtKind as stmt_kind
-use Rattle.rs_syntax.specs.contracts.operator.LazyOp as lazy_op
+use Rattle.logic_term.specs.contracts.kinds.LazyOp as lazy_op
 use Rattle.rs_syntax.specs.contracts.operator.UnaryOp as unary_op
 use base.Stored.{Gv, gnil, gnum, gcons, num}
 use Rattle.rs_syntax.specs.Expr.{Expr, integer, truth, receiver, path, literal, tuple, block, block_with, branch, choice, matching, repeat, endless, attributed, closure, bare_return, return_with, break_off, go_on, panic, logical, tried, assign, update, lazy, binary, cast, unary, borrow, field, part, method, call, Exprs, none, more, Stmts, no_stmts, with_stmt, Arms, no_arms, with_arm, FieldExprs, no_fields, with_field}

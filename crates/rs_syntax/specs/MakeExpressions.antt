@@ -13,7 +13,7 @@ use Rattle.pearlite.specs.Make.{stands}
 use Rattle.rs_syntax.specs.Expr as E
 use Rattle.rs_syntax.specs.Expr.{Expr}
 use Rattle.rs_syntax.specs.ExprView.{exprs_of, field_exprs_of}
-use Rattle.rs_syntax.specs.declared.operator.LazyOp.TheVariants as Z
+use Rattle.logic_term.specs.declared.kinds.LazyOp.TheVariants as Z
 use Rattle.rs_syntax.specs.declared.operator.UnaryOp.{UnaryOp}
 use Rattle.rs_syntax.specs.declared.operator.UnaryOp.TheVariants as U
 use Rattle.rs_syntax.specs.declared.value.Suffix.{Suffix}

@@ -4,8 +4,8 @@ use Rattle.text_core.specs.declared.refusal.Limit.{Limit}
 use Rattle.text_core.specs.declared.refusal.LimitKind.TheVariants.{Functions}
 use Rattle.concrete_syntax.specs.declared.fault.ParseFault.TheVariants as whole
 use Rattle.concrete_syntax.specs.Parsed.{SpellsAs, IsParseError as IsGrammarError}
-use Rattle.pearlite.specs.declared.fault.PassError.{PassError}
-use Rattle.pearlite.specs.declared.fault.PassError.TheVariants as P
+use Rattle.text_core.specs.declared.fault.PassError.{PassError}
+use Rattle.text_core.specs.declared.fault.PassError.TheVariants as P
 use Rattle.pearlite.specs.declared.word.Word.{Word}
 use Rattle.pearlite.specs.Words.{AreWords, GivesNames}
 use Rattle.rs_syntax.specs.declared.item.ImplItem.{ImplItem}

@@ -1,6 +1,5 @@
-use crate::boxed::Boxed;
 use pearlite::{Pterm, Segment};
-use text_core::{Items, Span};
+use text_core::{Boxed, Items, Span};
 
 /// The clauses of contracts, loops and closures.
 #[derive(Clone, Copy, Debug, PartialEq, Eq)]

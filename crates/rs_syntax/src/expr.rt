@@ -3,10 +3,10 @@ ghost use Rattle.rs_syntax.specs.ExprView.{expr_of};
 ghost use Rattle.rs_syntax.specs.MakeStatements.{with_else};
 
 use crate::attribute::Attribute;
-use crate::operator::{LazyOp, UnaryOp};
+use crate::operator::UnaryOp;
 use crate::param::Param;
 use crate::statement::StmtKind;
-use logic_term::{BinaryOp, IntKind};
+use logic_term::{BinaryOp, IntKind, LazyOp};
 use pearlite::{GhostMacro, PanicMacro, Pat, Path, Pterm, Segment, TypeTree};
 use std::marker::Model;
 use text_core::{Items, Span};

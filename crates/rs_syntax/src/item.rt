@@ -1,10 +1,9 @@
 use crate::attribute::Attribute;
-use crate::boxed::Boxed;
 use crate::expr::Expr;
 use crate::generics::{Condition, GenericParam};
 use crate::param::Param;
 use pearlite::{Pterm, Segment, TypeTree};
-use text_core::{Items, Span};
+use text_core::{Boxed, Items, Span};
 
 /// Who may name an item.
 #[derive(Clone, Copy, Debug, PartialEq, Eq)]

@@ -3,7 +3,7 @@ ghost use Rattle.std.specs.Prelude.{◌≡◌, ◌≤◌, ℕ, ◌++◌, List};
 ghost use Rattle.text_core.specs.declared.refusal.Limit.{Limit};
 ghost use Rattle.text_core.specs.declared.refusal.SourceError.{SourceError};
 ghost use Rattle.text_core.specs.Names.{words, HaveOnePlace};
-ghost use Rattle.pearlite.specs.declared.fault.PassError.TheVariants as P;
+ghost use Rattle.text_core.specs.declared.fault.PassError.TheVariants as P;
 ghost use Rattle.rs_syntax.specs.declared.item.Item.{Item};
 ghost use Rattle.rs_syntax.specs.Parsed.{SpellsItems, functions_among, most_functions, IsParseError};
 

@@ -2,7 +2,6 @@
 #![tactic(auto)]
 
 mod attribute;
-mod boxed;
 mod expr;
 mod generics;
 mod item;
@@ -23,7 +22,6 @@ mod trees;
 mod value;
 
 pub use attribute::{Attribute, AttributeNode, ClauseKind};
-pub use boxed::Boxed;
 pub use expr::{Arm, Expr, ExprNode, FieldExpr, Stmt};
 pub use generics::{Bound, BoundNode, Condition, ConditionNode, GenericNode, GenericParam};
 pub use item::{
@@ -33,7 +31,8 @@ pub use item::{
 pub use laws::{
     a_source_has_one_refusal, a_text_of_items_is_not_refused, a_text_spells_one_list_of_items,
 };
-pub use operator::{LazyOp, UnaryOp};
+pub use logic_term::LazyOp;
+pub use operator::UnaryOp;
 pub use param::{Param, ParamNode};
 pub use parser::parse;
 pub use statement::StmtKind;

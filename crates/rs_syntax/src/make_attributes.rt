@@ -7,7 +7,6 @@ ghost use Rattle.rs_syntax.specs.MakeItems.{attribute_behind, name_behind, claus
 ghost use Rattle.rs_syntax.specs.MakeAttributed.{begun, attributed};
 
 use crate::attribute::{Attribute, AttributeNode, ClauseKind};
-use crate::boxed::Boxed;
 use crate::expr::{Expr, ExprNode};
 use crate::pieces::{attribute_in, attributes_in, expr_in, names_in, waiting_in};
 use crate::shapes::{next_segment, next_word, term_in};
@@ -15,7 +14,7 @@ use crate::value::{NOWHERE, Piece, Value, next_piece, skip};
 use pearlite::WordKind;
 use std::alloc::Global;
 use std::collections::VecDeque;
-use text_core::{Items, NoMemory, Span};
+use text_core::{Boxed, Items, NoMemory, Span};
 
 /// The attributes with one more.
 #[tactic(auto, unfolding(crate::specs::MakeItems::attribute_behind))]

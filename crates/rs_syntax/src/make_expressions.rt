@@ -4,7 +4,6 @@ ghost use Rattle.rs_syntax.specs.declared.value.Piece.TheVariants as V;
 ghost use Rattle.rs_syntax.specs.Values.{first, second, third, segment_in, type_in, types_in, expr_in, exprs_in, comma_in, arguments_in, params_in, panic_of, ghost_of, closure_answer_in, closure_body_in};
 ghost use Rattle.rs_syntax.specs.MakeExpressions.{magnitude, negation_made, unary_made, borrow_made, expr_behind, parens_made, integer_made, return_made, panic_made, ghost_made, literal_made, field_value, field_behind, closure_made};
 
-use crate::boxed::Boxed;
 use crate::expr::{Expr, ExprNode, FieldExpr};
 use crate::make_generics::stands;
 use crate::make_operators::plain;
@@ -18,7 +17,7 @@ use logic_term::IntKind;
 use pearlite::{GhostMacro, PanicMacro, Path, PathNode, Segment, TypeTree, WordKind};
 use std::alloc::Global;
 use std::collections::VecDeque;
-use text_core::{Items, NoMemory, Span};
+use text_core::{Boxed, Items, NoMemory, Span};
 
 /// The integer, where it is one that is not negative.
 #[tactic(auto, unfolding(crate::specs::MakeExpressions::magnitude))]

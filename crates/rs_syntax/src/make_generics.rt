@@ -9,7 +9,6 @@ ghost use Rattle.pearlite.specs.Make.{stands};
 ghost use Rattle.rs_syntax.specs.Values.{span_in, first, second, third, segment_in, place_in, bounds_in, param_node_in, call_trait_of};
 ghost use Rattle.rs_syntax.specs.MakeItems.{generic_behind, bound_behind, call_bound_made, condition_behind, param_behind, named_param};
 
-use crate::boxed::Boxed;
 use crate::generics::{Bound, BoundNode, Condition, ConditionNode, GenericNode, GenericParam};
 use crate::param::{Param, ParamNode};
 use crate::pieces::{bounds_in, conditions_in, generics_in, param_node_in, params_in};
@@ -18,7 +17,7 @@ use crate::value::{NOWHERE, Piece, Value, discard, next_extent, next_piece, skip
 use pearlite::{CallTrait, WordKind};
 use std::alloc::Global;
 use std::collections::VecDeque;
-use text_core::{NoMemory, Span};
+use text_core::{Boxed, NoMemory, Span};
 
 /// Whether something stands there.
 pub fn stands(extent: Option<Span>) -> bool

@@ -8,7 +8,6 @@ ghost use Rattle.pearlite.specs.Make.{stands};
 ghost use Rattle.rs_syntax.specs.Values.{span_in, first, second, visibility_in, types_in, fields_in, expr_in, term_in};
 ghost use Rattle.rs_syntax.specs.MakeItems.{item_with, method_with, item_behind, method_behind, impl_method_behind, view_type_behind, function_item, struct_made, enum_made, trait_made, impl_made, function_made, trait_head_made, named_head_made, public_field_behind, field_behind, field_type_behind, variant_behind, scoped};
 
-use crate::boxed::Boxed;
 use crate::item::{
     Body, Enum, Field, Fields, Function, Impl, ImplItem, Item, ItemNode, Method, Struct, Trait,
     Variant, VariantFields, Visibility,
@@ -26,7 +25,7 @@ use crate::value::{
 use pearlite::{TypeNode, TypeTree};
 use std::alloc::Global;
 use std::collections::VecDeque;
-use text_core::{NoMemory, Span};
+use text_core::{Boxed, NoMemory, Span};
 
 /// `pub`, and the scope of it.
 pub fn visibility(parts: &mut VecDeque<Value>) -> Piece

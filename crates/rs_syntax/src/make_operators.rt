@@ -6,18 +6,16 @@ ghost use Rattle.rs_syntax.specs.declared.value.SuffixNode.TheVariants as X;
 ghost use Rattle.rs_syntax.specs.Values.{second, type_in, expr_in, exprs_in};
 ghost use Rattle.rs_syntax.specs.MakeExpressions.{applied, folded, folded_all, chained, updated, computed, member_by};
 
-use crate::boxed::Boxed;
 use crate::expr::{Expr, ExprNode};
-use crate::operator::LazyOp;
 use crate::pieces::{expr_in, exprs_in, next_expr, suffixes_in};
 use crate::shapes::{type_in, word_in};
 use crate::value::{
     NOWHERE, Piece, Reach, Suffix, SuffixNode, Value, discard, next_extent, next_piece, skip,
 };
-use logic_term::BinaryOp;
+use logic_term::{BinaryOp, LazyOp};
 use std::alloc::Global;
 use std::collections::VecDeque;
-use text_core::{Items, NoMemory, Span};
+use text_core::{Boxed, Items, NoMemory, Span};
 
 /// An expression with this span. Err only for want of memory.
 pub fn plain(alloc: Global, span: Span, node: ExprNode) -> Result<Piece, NoMemory>

@@ -10,7 +10,6 @@ ghost use Rattle.rs_syntax.specs.MakeAttributed.{begun, attributed};
 ghost use Rattle.rs_syntax.specs.MakeStatements.{attributed_chain, settled_by, settled, ran_by, ran, let_made, blocklike_made, block_by, block_made, with_else, else_made, arm_made};
 
 use crate::attribute::Attribute;
-use crate::boxed::Boxed;
 use crate::expr::{Arm, Expr, ExprNode, Stmt};
 use crate::make_attributes::{attributed, begun, one_attribute};
 use crate::make_generics::stands;
@@ -25,7 +24,7 @@ use crate::value::{NOWHERE, Piece, Reach, Value, discard, next, next_extent, nex
 use pearlite::Pat;
 use std::alloc::Global;
 use std::collections::VecDeque;
-use text_core::{Items, NoMemory, Span};
+use text_core::{Boxed, Items, NoMemory, Span};
 
 /// A closure with its attributes, and the operators behind it.
 #[tactic(auto, unfolding(crate::specs::MakeStatements::attributed_chain))]

@@ -8,12 +8,3 @@ pub enum UnaryOp {
     /// `*e`
     Deref,
 }
-
-/// The lazy operators of program code.
-#[derive(Clone, Copy, Debug, PartialEq, Eq)]
-pub enum LazyOp {
-    /// `&&`
-    And,
-    /// `||`
-    Or,
-}

@@ -1,7 +1,7 @@
 //! The parser of sources.
 ghost use Rattle.std.specs.Prelude.{◌≡◌, ℕ, ◌+◌, ◌<◌, ◌≤◌, ◌^◌, List, length, IsTrue, ◌↔◌, IfOk, IfErr, OnOk};
 ghost use Rattle.text_core.specs.declared.refusal.LimitKind.TheVariants.{Functions};
-ghost use Rattle.pearlite.specs.declared.fault.PassError.TheVariants as P;
+ghost use Rattle.text_core.specs.declared.fault.PassError.TheVariants as P;
 ghost use Rattle.pearlite.specs.Words.{Keeps, GivesNames};
 ghost use Rattle.rs_syntax.specs.declared.item.Item.{Item};
 ghost use Rattle.rs_syntax.specs.declared.value.Value.{Value};
@@ -10,9 +10,9 @@ ghost use Rattle.rs_syntax.specs.Parsed.{SpellsValue, SpellsItems, methods_among
 use crate::item::{ImplItem, Item, ItemNode};
 use crate::pieces::items_in;
 use crate::value::Value;
-use pearlite::{PassError, words_of};
+use pearlite::words_of;
 use std::alloc::Global;
-use text_core::{Items, Limit, LimitKind, Names};
+use text_core::{Items, Limit, LimitKind, Names, PassError};
 
 /// The most functions of a source.
 const MOST_FUNCTIONS: usize = 4096;

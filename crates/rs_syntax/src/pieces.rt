@@ -3,7 +3,6 @@ ghost use Rattle.std.specs.Prelude.{◌≡◌, IfOk};
 ghost use Rattle.rs_syntax.specs.Values.{first, others, comma_in, trait_in, target_in, expr_in, statements_in, pending_in, waiting_in, place_of_pending, arms_in, pattern_in, place_of_pattern, closure_params_in, closure_answer_in, closure_body_in, path_expr, no_expr, plain_target, pattern_of, attribute_node_in, attribute_in, attributes_in, names_in, visibility_in, body_in, generics_in, bounds_in, conditions_in, param_node_in, params_in, fields_in, struct_fields_in, variant_fields_in, variants_in, methods_in, impl_items_in, items_in, exprs_in, arguments_in, field_exprs_in, suffixes_in};
 
 use crate::attribute::{Attribute, AttributeNode};
-use crate::boxed::Boxed;
 use crate::expr::{Arm, Expr, ExprNode, FieldExpr, Stmt};
 use crate::generics::{Bound, Condition, GenericParam};
 use crate::item::{
@@ -15,7 +14,7 @@ use crate::value::{NOWHERE, Piece, Suffix, Value, discard, next_piece};
 use pearlite::{Pat, Piece as PlainPiece, Segment, TypeNode, TypeTree};
 use std::alloc::Global;
 use std::collections::VecDeque;
-use text_core::{Items, NoMemory, Span};
+use text_core::{Boxed, Items, NoMemory, Span};
 
 /// Whether a comma stands among expressions.
 #[tactic(auto, unfolding(crate::specs::Values::comma_in))]

@@ -3,20 +3,18 @@ ghost use Rattle.std.specs.Prelude.{◌≡◌, IfOk};
 ghost use Rattle.rs_syntax.specs.Values.{extent_of, reach_of, first, others, plain_of, wrapped};
 
 use crate::attribute::{Attribute, AttributeNode};
-use crate::boxed::Boxed;
 use crate::expr::{Arm, Expr, FieldExpr, Stmt};
 use crate::generics::{Bound, Condition, GenericParam};
 use crate::item::{
     Body, Field, Fields, Function, ImplItem, Item, ItemNode, Method, Variant, VariantFields,
     Visibility,
 };
-use crate::operator::LazyOp;
 use crate::param::{Param, ParamNode};
-use logic_term::{BinaryOp, IntKind};
+use logic_term::{BinaryOp, IntKind, LazyOp};
 use pearlite::{Pat, Piece as PlainPiece, Segment, TypeTree, Value as PlainValue, joined};
 use std::alloc::Global;
 use std::collections::VecDeque;
-use text_core::{Items, NoMemory, Span};
+use text_core::{Boxed, Items, NoMemory, Span};
 
 /// An operator with what stands behind it, without its first operand.
 #[derive(Drop)]

@@ -1,8 +1,8 @@
 use concrete_syntax::tokens_of;
-use pearlite::{Cursor, PassError, PtermNode, parse_term};
+use pearlite::{Cursor, PtermNode, parse_term};
 use std::alloc::Global;
 use std::process::Abort;
-use text_core::{Code, Names};
+use text_core::{Code, Names, PassError};
 
 /// Where the cursor stands behind a term, or behind a refusal with its code and the start of its span.
 #[derive(Clone, Copy, PartialEq, Eq)]

@@ -1,11 +1,10 @@
-use pearlite::PassError;
 use rs_syntax::{
     Body, Expr, ExprNode, Fields, ImplItem, Item, ItemNode, VariantFields, Visibility, parse,
 };
 use std::alloc::Global;
 use std::process::Abort;
 use std::test::Fail;
-use text_core::{Code, Items, LimitKind, Names, NoMemory};
+use text_core::{Code, Items, LimitKind, Names, NoMemory, PassError};
 
 /// A letter for the form at the top of an expression.
 fn letter(expr: &Expr) -> u8 {

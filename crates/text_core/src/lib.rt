@@ -1,6 +1,7 @@
 //! What every layer speaks of: places in a source, names, texts, codes of refusals, limits, and lists.
 #![tactic(auto)]
 
+mod boxed;
 mod fault;
 mod items;
 mod line;
@@ -10,7 +11,8 @@ mod refusal;
 mod span;
 mod text;
 
-pub use fault::NoMemory;
+pub use boxed::Boxed;
+pub use fault::{NoMemory, PassError};
 pub use items::Items;
 pub use line::line_of;
 pub use name::Name;

@@ -2,10 +2,10 @@
 use Rattle.std.proofs.Common.{◌≡◌, ◌∙◌, ℕ, zero, suc, ◌+◌, ◌<◌, List, [], ◌∷◌, ◌++◌, length, get_or, drop, refl, ap, ap₂, sym, add-one, drop-cons, Result, Ok, Err, slice_get}
 use Rattle.text_core.specs.declared.refusal.SourceError.{SourceError}
 use Rattle.logic_term.specs.Ty.{Ty}
-use Rattle.built_syntax.specs.declared.PassError.{PassError}
-use Rattle.built_syntax.specs.declared.PassError.TheVariants as fault
-use Rattle.built_syntax.specs.Expr.{Expr, Exprs, more}
-use Rattle.built_syntax.specs.ExprView.{exprs_of as written_exprs}
+use Rattle.text_core.specs.declared.fault.PassError.{PassError}
+use Rattle.text_core.specs.declared.fault.PassError.TheVariants as fault
+use Rattle.built_trees.specs.Expr.{Expr, Exprs, more}
+use Rattle.built_trees.specs.ExprView.{exprs_of as written_exprs}
 use Rattle.type_check.specs.declared.heading.Heading.{Heading}
 use Rattle.type_check.specs.declared.scope.Variable.{Variable}
 use Rattle.type_check.specs.Answers.{◌>>=◌, Refuses}

@@ -1,11 +1,11 @@
 -- The parts of blocks are smaller than these.
 use Rattle.std.proofs.Common.{◌≡◌, ℕ, zero, suc, ◌≤◌, ◌<◌, max, List, [], ◌∷◌, length, get_or, arith, refl, ap}
-use Rattle.built_syntax.specs.declared.binding.StmtKind.{StmtKind}
-use Rattle.built_syntax.specs.declared.binding.StmtKind.TheVariants as kind
-use Rattle.built_syntax.specs.declared.expr.Stmt.{Stmt}
-use Rattle.built_syntax.specs.Expr.{Expr, Stmts, done, last, bind, run, blocklike}
-use Rattle.built_syntax.specs.ExprFalls.{each_smaller}
-use Rattle.built_syntax.specs.ExprView.{expr_size, stmts_size, stmt_of, stmts_of}
+use Rattle.built_trees.specs.declared.binding.StmtKind.{StmtKind}
+use Rattle.built_trees.specs.declared.binding.StmtKind.TheVariants as kind
+use Rattle.built_trees.specs.declared.expr.Stmt.{Stmt}
+use Rattle.built_trees.specs.Expr.{Expr, Stmts, done, last, bind, run, blocklike}
+use Rattle.built_trees.specs.ExprFalls.{each_smaller}
+use Rattle.built_trees.specs.ExprView.{expr_size, stmts_size, stmt_of, stmts_of}
 
 some_size : (ss : Stmts) → 1 ≤ stmts_size ss
 some_size done = omega arith

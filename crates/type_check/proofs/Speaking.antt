@@ -11,10 +11,10 @@ use Rattle.logic_term.proofs.FreeLaw.{same_test, same_name}
 use Rattle.logic_term.specs.Term as logic
 use Rattle.logic_term.specs.Term.{Term, Operator, var, lit, truth as truth_term, one, two, model, negative as negative_term, not as not_term, calculate, is_less, is_at_most, is_equal, and as and_term, or as or_term, implies as implies_term}
 use Rattle.logic_term.specs.Ty.{Ty, int, bool, math_int}
-use Rattle.built_syntax.specs.declared.Comparison.{Comparison}
-use Rattle.built_syntax.specs.declared.Comparison.TheVariants.{Eq, Ne, Lt, Le, Gt, Ge}
-use Rattle.built_syntax.specs.Pterm.{Pterm, integer, truth, answer, named, viewed as modeled, negative, denied, calculated, compare, both, either, implied}
-use Rattle.built_syntax.specs.PtermView.{span_of}
+use Rattle.logic_term.specs.declared.kinds.Comparison.{Comparison}
+use Rattle.logic_term.specs.declared.kinds.Comparison.TheVariants.{Eq, Ne, Lt, Le, Gt, Ge}
+use Rattle.built_trees.specs.Pterm.{Pterm, integer, truth, answer, named, viewed as modeled, negative, denied, calculated, compare, both, either, implied}
+use Rattle.built_trees.specs.PtermView.{span_of}
 use Rattle.type_check.specs.declared.scope.Found.{Found}
 use Rattle.type_check.specs.declared.scope.Variable.{Variable}
 use Rattle.type_check.specs.declared.sorted.SortedTerm.{SortedTerm}

@@ -2,8 +2,8 @@
 use Rattle.std.proofs.Common.{◌≡◌, ◌∙◌, ℕ, suc, ◌+◌, ◌<◌, List, [], ◌∷◌, ◌++◌, length, get_or, drop, drop-cons, add-one, append_assoc, refl, ap, sym, Result, Ok, Err}
 use Rattle.std.proofs.lemmas.List.{append-nil}
 use Rattle.text_core.specs.declared.refusal.SourceError.{SourceError}
-use Rattle.built_syntax.specs.declared.PassError.{PassError}
-use Rattle.built_syntax.specs.declared.function.Function.{Function}
+use Rattle.text_core.specs.declared.fault.PassError.{PassError}
+use Rattle.built_trees.specs.declared.function.Function.{Function}
 use Rattle.type_check.specs.declared.heading.Heading.{Heading}
 use Rattle.type_check.specs.declared.program.TypedFunction.{TypedFunction}
 use Rattle.type_check.specs.Answers.{◌>>=◌, Refuses}

@@ -4,13 +4,13 @@ use Rattle.std.specs.Prelude.{if◌then◌else◌, IfOk}
 use Rattle.text_core.specs.declared.refusal.SourceError.{SourceError}
 use Rattle.text_core.specs.declared.span.Span.{Span}
 use Rattle.logic_term.specs.Ty.{Ty, int, bool, tuple, no_tys}
-use Rattle.built_syntax.specs.declared.PassError.{PassError}
-use Rattle.built_syntax.specs.declared.function.Clause.{Clause}
-use Rattle.built_syntax.specs.declared.function.ClauseKind.{ClauseKind}
-use Rattle.built_syntax.specs.declared.function.ClauseKind.TheVariants.{Requires, Ensures}
-use Rattle.built_syntax.specs.declared.function.Function.{Function}
-use Rattle.built_syntax.specs.declared.function.Param.{Param}
-use Rattle.built_syntax.specs.Pterm.{Pterm}
+use Rattle.text_core.specs.declared.fault.PassError.{PassError}
+use Rattle.built_trees.specs.declared.function.Clause.{Clause}
+use Rattle.built_trees.specs.declared.function.ClauseKind.{ClauseKind}
+use Rattle.built_trees.specs.declared.function.ClauseKind.TheVariants.{Requires, Ensures}
+use Rattle.built_trees.specs.declared.function.Function.{Function}
+use Rattle.built_trees.specs.declared.function.Param.{Param}
+use Rattle.built_trees.specs.Pterm.{Pterm}
 use Rattle.type_check.specs.declared.heading.Heading.{Heading}
 use Rattle.type_check.specs.declared.program.Signature.{Signature}
 use Rattle.type_check.specs.declared.program.TypedFunction.{TypedFunction}

@@ -3,8 +3,8 @@ use Rattle.std.specs.Prelude.{◌≡◌, Bool, None, Result, Ok, Err, if◌then�
 use Rattle.text_core.specs.declared.refusal.Code.TheVariants.{E05, E06, E07, E22}
 use Rattle.text_core.specs.declared.refusal.SourceError.{SourceError}
 use Rattle.text_core.specs.declared.span.Span.{Span}
-use Rattle.built_syntax.specs.declared.PassError.{PassError}
-use Rattle.built_syntax.specs.declared.PassError.TheVariants as fault
+use Rattle.text_core.specs.declared.fault.PassError.{PassError}
+use Rattle.text_core.specs.declared.fault.PassError.TheVariants as fault
 
 -- one part after another
 infixl 10 ◌>>=◌

@@ -5,8 +5,8 @@ use Rattle.text_core.specs.declared.name.Name.{Name}
 use Rattle.text_core.specs.declared.refusal.SourceError.{SourceError}
 use Rattle.text_core.specs.declared.span.Span.{Span}
 use Rattle.logic_term.specs.Ty.{Ty}
-use Rattle.built_syntax.specs.Expr.{Expr, Stmts, Exprs, integer, truth, named, negative, denied, binary, lazy, assign, update, call, block, branch, choice, repeat, done, last, bind, run, blocklike, none, more}
-use Rattle.built_syntax.specs.ExprView.{span_of}
+use Rattle.built_trees.specs.Expr.{Expr, Stmts, Exprs, integer, truth, named, negative, denied, binary, lazy, assign, update, call, block, branch, choice, repeat, done, last, bind, run, blocklike, none, more}
+use Rattle.built_trees.specs.ExprView.{span_of}
 use Rattle.type_check.specs.declared.heading.Heading.{Heading}
 use Rattle.type_check.specs.declared.scope.Found.{Found}
 use Rattle.type_check.specs.declared.scope.Variable.{Variable}

@@ -4,11 +4,11 @@ use Rattle.std.specs.Prelude.{◌≡◌, Bool, true, false, List, [], ◌∷◌,
 use Rattle.text_core.specs.declared.refusal.SourceError.{SourceError}
 use Rattle.text_core.specs.declared.span.Span.{Span}
 use Rattle.logic_term.specs.Ty.{Ty, int, bool, tuple, no_tys}
-use Rattle.built_syntax.specs.declared.function.Clause.{Clause}
-use Rattle.built_syntax.specs.declared.function.ClauseKind.{ClauseKind}
-use Rattle.built_syntax.specs.declared.function.ClauseKind.TheVariants.{Requires, Ensures}
-use Rattle.built_syntax.specs.declared.function.Function.{Function}
-use Rattle.built_syntax.specs.declared.function.Param.{Param}
+use Rattle.built_trees.specs.declared.function.Clause.{Clause}
+use Rattle.built_trees.specs.declared.function.ClauseKind.{ClauseKind}
+use Rattle.built_trees.specs.declared.function.ClauseKind.TheVariants.{Requires, Ensures}
+use Rattle.built_trees.specs.declared.function.Function.{Function}
+use Rattle.built_trees.specs.declared.function.Param.{Param}
 use Rattle.type_check.specs.declared.heading.Heading.{Heading}
 use Rattle.type_check.specs.declared.program.Signature.{Signature}
 use Rattle.type_check.specs.declared.program.TypedClause.{TypedClause}

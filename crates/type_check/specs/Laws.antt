@@ -1,6 +1,6 @@
 -- What holds of every source.
 use Rattle.std.specs.Prelude.{◌≡◌, List, Ok}
-use Rattle.built_syntax.specs.declared.function.Function.{Function}
+use Rattle.built_trees.specs.declared.function.Function.{Function}
 use Rattle.type_check.specs.declared.program.TypedProgram.{TypedProgram}
 use Rattle.type_check.specs.Checked.{AllGood, checked}
 use Rattle.type_check.specs.WellTyped.{ProgramFits}

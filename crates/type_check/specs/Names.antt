@@ -2,8 +2,8 @@
 use Rattle.std.specs.Prelude.{◌==◌, ◌++◌, Bool, true, false, List, [], ◌∷◌, Option, Some, None, if◌then◌else◌}
 use Rattle.text_core.specs.declared.name.Name.{Name}
 use Rattle.text_core.specs.declared.refusal.SourceError.{SourceError}
-use Rattle.built_syntax.specs.declared.function.Function.{Function}
-use Rattle.built_syntax.specs.declared.function.Param.{Param}
+use Rattle.built_trees.specs.declared.function.Function.{Function}
+use Rattle.built_trees.specs.declared.function.Param.{Param}
 use Rattle.type_check.specs.Answers.{double_name}
 
 abbrev pub or_else : Option SourceError → Option SourceError → Option SourceError

@@ -2,12 +2,12 @@
 use Rattle.std.specs.Prelude.{◌≡◌, Bool, true, false, List, Option, Some, None, Result, Ok, Err}
 use Rattle.text_core.specs.declared.refusal.SourceError.{SourceError}
 use Rattle.logic_term.specs.Ty.{Ty}
-use Rattle.built_syntax.specs.declared.binding.StmtKind.{StmtKind}
-use Rattle.built_syntax.specs.declared.binding.StmtKind.TheVariants as kind
-use Rattle.built_syntax.specs.declared.expr.Stmt.{Stmt}
-use Rattle.built_syntax.specs.declared.PassError.{PassError}
-use Rattle.built_syntax.specs.Expr.{Stmts}
-use Rattle.built_syntax.specs.ExprView.{stmts_of}
+use Rattle.built_trees.specs.declared.binding.StmtKind.{StmtKind}
+use Rattle.built_trees.specs.declared.binding.StmtKind.TheVariants as kind
+use Rattle.built_trees.specs.declared.expr.Stmt.{Stmt}
+use Rattle.text_core.specs.declared.fault.PassError.{PassError}
+use Rattle.built_trees.specs.Expr.{Stmts}
+use Rattle.built_trees.specs.ExprView.{stmts_of}
 use Rattle.type_check.specs.declared.heading.Heading.{Heading}
 use Rattle.type_check.specs.declared.scope.Variable.{Variable}
 use Rattle.type_check.specs.declared.statements.Opened.{Opened}

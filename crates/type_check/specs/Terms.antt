@@ -8,10 +8,10 @@ use Rattle.logic_term.specs.declared.kinds.IntKind.{IntKind}
 use Rattle.logic_term.specs.Range.{fits}
 use Rattle.logic_term.specs.Term.{Term, var, lit, truth as truth_term, model, negative as negative_term, not as not_term, calculate, is_less, is_at_most, is_equal, and as and_term, or as or_term, implies as implies_term}
 use Rattle.logic_term.specs.Ty.{Ty, int, bool, math_int}
-use Rattle.built_syntax.specs.declared.Comparison.{Comparison}
-use Rattle.built_syntax.specs.declared.Comparison.TheVariants.{Eq, Ne, Lt, Le, Gt, Ge}
-use Rattle.built_syntax.specs.Pterm.{Pterm, integer, truth, answer, named, viewed, negative, denied, calculated, compare, both, either, implied}
-use Rattle.built_syntax.specs.PtermView.{span_of}
+use Rattle.logic_term.specs.declared.kinds.Comparison.{Comparison}
+use Rattle.logic_term.specs.declared.kinds.Comparison.TheVariants.{Eq, Ne, Lt, Le, Gt, Ge}
+use Rattle.built_trees.specs.Pterm.{Pterm, integer, truth, answer, named, viewed, negative, denied, calculated, compare, both, either, implied}
+use Rattle.built_trees.specs.PtermView.{span_of}
 use Rattle.type_check.specs.declared.assertion.Assertion.{Assertion}
 use Rattle.type_check.specs.declared.assertion.Assertion.TheVariants.{Good, Bad}
 use Rattle.type_check.specs.declared.scope.Found.{Found}

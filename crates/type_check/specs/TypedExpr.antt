@@ -4,7 +4,7 @@ use Rattle.text_core.specs.declared.span.Span.{Span}
 use Rattle.logic_term.specs.declared.kinds.BinaryOp.{BinaryOp}
 use Rattle.logic_term.specs.declared.kinds.IntKind.{IntKind}
 use Rattle.logic_term.specs.Ty.{Ty}
-use Rattle.built_syntax.specs.declared.LazyOp.{LazyOp}
+use Rattle.logic_term.specs.declared.kinds.LazyOp.{LazyOp}
 use Rattle.type_check.specs.declared.assertion.Assertion.{Assertion}
 
 mutual

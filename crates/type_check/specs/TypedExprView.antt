@@ -24,20 +24,20 @@ abbrev pub typed_of : Ty → Span → TypedNode → TypedExpr
 typed_of t s (node.Int a0 a1) = integer t s a0 a1
 typed_of t s (node.Truth a0) = truth t s a0
 typed_of t s (node.Variable a0) = variable t s a0
-typed_of t s (node.Neg a0) = negative t s a0.value
-typed_of t s (node.Not a0) = denied t s a0.value
-typed_of t s (node.Binary a0 a1 a2) = binary t s a0 a1.value a2.value
-typed_of t s (node.Lazy a0 a1 a2) = lazy t s a0 a1.value a2.value
-typed_of t s (node.Assign a0 a1) = assign t s a0 a1.value
-typed_of t s (node.AssignValue a0 a1) = assign_value t s a0.value a1.value
-typed_of t s (node.Update a0 a1 a2) = update t s a0 a1 a2.value
-typed_of t s (node.UpdateValue a0 a1 a2) = update_value t s a0 a1.value a2.value
+typed_of t s (node.Neg a0) = negative t s a0
+typed_of t s (node.Not a0) = denied t s a0
+typed_of t s (node.Binary a0 a1 a2) = binary t s a0 a1 a2
+typed_of t s (node.Lazy a0 a1 a2) = lazy t s a0 a1 a2
+typed_of t s (node.Assign a0 a1) = assign t s a0 a1
+typed_of t s (node.AssignValue a0 a1) = assign_value t s a0 a1
+typed_of t s (node.Update a0 a1 a2) = update t s a0 a1 a2
+typed_of t s (node.UpdateValue a0 a1 a2) = update_value t s a0 a1 a2
 typed_of t s (node.Call a0 a1) = call t s a0 (exprs_of a1.items)
 typed_of t s (node.Block ss) = block t s (stmts_of ss.items done)
-typed_of t s (node.BlockWith ss e) = block t s (stmts_of ss.items (last e.value))
-typed_of t s (node.If a0 a1) = branch t s a0.value a1.value
-typed_of t s (node.IfElse a0 a1 a2) = choice t s a0.value a1.value a2.value
-typed_of t s (node.While a0 a1 a2) = repeat t s a0.items a1.value a2.value
+typed_of t s (node.BlockWith ss e) = block t s (stmts_of ss.items (last e))
+typed_of t s (node.If a0 a1) = branch t s a0 a1
+typed_of t s (node.IfElse a0 a1 a2) = choice t s a0 a1 a2
+typed_of t s (node.While a0 a1 a2) = repeat t s a0.items a1 a2
 
 abbrev mutual
   pub typed_size : TypedExpr → ℕ

@@ -9,8 +9,8 @@ use Rattle.logic_term.specs.declared.kinds.IntKind.TheVariants.{I8, I16, I32, I6
 use Rattle.logic_term.specs.Free.{free}
 use Rattle.logic_term.specs.Range.{fits}
 use Rattle.logic_term.specs.Ty.{Ty, int, bool, tuple, no_tys}
-use Rattle.built_syntax.specs.declared.function.ClauseKind.{ClauseKind}
-use Rattle.built_syntax.specs.declared.function.ClauseKind.TheVariants.{Requires, Ensures}
+use Rattle.built_trees.specs.declared.function.ClauseKind.{ClauseKind}
+use Rattle.built_trees.specs.declared.function.ClauseKind.TheVariants.{Requires, Ensures}
 use Rattle.type_check.specs.declared.assertion.Assertion.{Assertion}
 use Rattle.type_check.specs.declared.assertion.Assertion.TheVariants.{Good, Bad}
 use Rattle.type_check.specs.declared.program.Signature.{Signature}

@@ -13,10 +13,10 @@ use crate::program::{Signature, TypedClause, TypedFunction, TypedProgram};
 use crate::refusal::mismatch;
 use crate::scope::Variable;
 use crate::types::unit_ty;
-use built_syntax::{Clause, ClauseKind, Function, Param, PassError};
+use built_trees::{Clause, ClauseKind, Function, Param};
 use logic_term::{Ty, TyNode};
 use std::alloc::Global;
-use text_core::{Items, NoMemory, Span};
+use text_core::{Items, NoMemory, PassError, Span};
 
 fn answer_ty(alloc: Global, answer: &Option<Ty>) -> Result<Ty, NoMemory>
     ensures { IfOk result (λ t. t ≡ answer_ty answer.now) }
@@ -166,7 +166,7 @@ fn type_function(
         span: function.name_span,
         signature,
         clauses: Items::from_vec(clauses),
-        body: body.into_inner(),
+        body,
     })
 }
 

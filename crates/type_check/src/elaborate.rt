@@ -1,7 +1,7 @@
 ghost use Rattle.std.specs.Prelude.{◌≡◌, IfOk, None, map};
 ghost use Rattle.logic_term.specs.Term.{model};
 ghost use Rattle.logic_term.specs.Ty.{bool, math_int};
-ghost use Rattle.built_syntax.specs.PtermView.{span_of};
+ghost use Rattle.built_trees.specs.PtermView.{span_of};
 ghost use Rattle.type_check.specs.Answers.{Answers};
 ghost use Rattle.type_check.specs.Terms.{sorted, literal, name_term, answer_term, model_of, formula, number, ordered, is_ordering, ordered_at, compared, elaborated, asserted, assertion};
 ghost use Rattle.type_check.specs.VariableNames.{variable_name, answer_name};
@@ -11,11 +11,10 @@ use crate::refusal::{mismatch, unknown_name};
 use crate::scope::{Variable, find_variable};
 use crate::sorted::SortedTerm;
 use crate::types::{bool_ty, fits, is_bool, is_math_int, math_int_ty, same_ty};
-use built_syntax::{Comparison, PassError, Pterm, PtermNode};
-use logic_term::{IntKind, Term, Ty, TyNode};
-use rs_syntax::Boxed;
+use built_trees::{Pterm, PtermNode};
+use logic_term::{Comparison, IntKind, Term, Ty, TyNode};
 use std::alloc::Global;
-use text_core::{Name, NoMemory, Span};
+use text_core::{Boxed, Name, NoMemory, PassError, Span};
 
 /// The name by which formulas speak of the variable of this place.
 #[tactic(auto, unfolding(crate::specs::VariableNames::variable_name))]

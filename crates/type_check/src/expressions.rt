@@ -1,5 +1,5 @@
-ghost use Rattle.built_syntax.specs.Expr as written;
-ghost use Rattle.built_syntax.specs.ExprView.{exprs_of as written_exprs, span_of, stmts_of};
+ghost use Rattle.built_trees.specs.Expr as written;
+ghost use Rattle.built_trees.specs.ExprView.{exprs_of as written_exprs, span_of, stmts_of};
 ghost use Rattle.type_check.specs.Answers.{Answers};
 ghost use Rattle.type_check.specs.Opened.{AnswersAs, Opens};
 ghost use Rattle.type_check.specs.TypedExprView.{exprs_of};
@@ -18,11 +18,10 @@ use crate::typing::{
     as_name, assigned, branch, called, choice, denied, given_ty, is_bare, lazy, literal, negated,
     operated, order_of, param_ty, repeat, span_of, spans_at, target_ty, truth, updated, variable,
 };
-use built_syntax::{Expr, ExprNode, LazyOp, PassError, Pterm, Stmt};
-use logic_term::Ty;
-use rs_syntax::Boxed;
+use built_trees::{Expr, ExprNode, Pterm, Stmt};
+use logic_term::{LazyOp, Ty};
 use std::alloc::Global;
-use text_core::{Name, Span};
+use text_core::{Name, PassError, Span};
 
 /// The expression with its type: the expected one, where there is one.
 #[cycle(type_expr)]
@@ -33,7 +32,7 @@ pub(crate) fn type_expr(
     scope: &[Variable],
     e: &Expr,
     expected: &Option<Ty>,
-) -> Result<Boxed<TypedExpr>, PassError>
+) -> Result<TypedExpr, PassError>
     ensures { Answers result (typed headings.now scope.now e.now expected.now) }
 {
     let whole = e.span;
@@ -114,7 +113,7 @@ fn type_lazy(
     op: LazyOp,
     left: &Expr,
     right: &Expr,
-) -> Result<Boxed<TypedExpr>, PassError>
+) -> Result<TypedExpr, PassError>
     ensures { Answers result (typed headings.now scope.now (written.lazy whole op left.now right.now) expected.now) }
 {
     let left = type_expr(alloc, headings, scope, left, &Some(bool_ty()))?;
@@ -134,7 +133,7 @@ fn type_call(
     name: Name,
     at: Span,
     args: &[Expr],
-) -> Result<Boxed<TypedExpr>, PassError>
+) -> Result<TypedExpr, PassError>
     ensures { Answers result (typed headings.now scope.now (written.call whole name at (written_exprs args.now)) expected.now) }
 {
     let Some(callee) = find_callee(alloc, name, headings, scope)? else {
@@ -156,7 +155,7 @@ fn type_block_with(
     whole: Span,
     stmts: &[Stmt],
     last: &Expr,
-) -> Result<Boxed<TypedExpr>, PassError>
+) -> Result<TypedExpr, PassError>
     ensures { Answers result (typed headings.now scope.now (written.block whole (stmts_of stmts.now (written.last last.now))) expected.now) }
 {
     let Opened { scope, stmts } = type_statements(alloc, headings, scope, stmts)?;
@@ -175,7 +174,7 @@ fn type_branch(
     whole: Span,
     condition: &Expr,
     body: &Expr,
-) -> Result<Boxed<TypedExpr>, PassError>
+) -> Result<TypedExpr, PassError>
     ensures { Answers result (typed headings.now scope.now (written.branch whole condition.now body.now) expected.now) }
 {
     let test = type_expr(alloc, headings, scope, condition, &Some(bool_ty()))?;
@@ -195,12 +194,12 @@ fn type_choice(
     condition: &Expr,
     yes: &Expr,
     no: &Expr,
-) -> Result<Boxed<TypedExpr>, PassError>
+) -> Result<TypedExpr, PassError>
     ensures { Answers result (typed headings.now scope.now (written.choice whole condition.now yes.now no.now) expected.now) }
 {
     let condition = type_expr(alloc, headings, scope, condition, &Some(bool_ty()))?;
     let yes = type_expr(alloc, headings, scope, yes, expected)?;
-    let wanted = given_ty(alloc, yes.get())?;
+    let wanted = given_ty(alloc, &yes)?;
     let no = type_expr(alloc, headings, scope, no, &wanted)?;
     choice(alloc, expected, whole, condition, yes, no)
 }
@@ -217,7 +216,7 @@ fn type_while(
     invariants: &[Pterm],
     condition: &Expr,
     body: &Expr,
-) -> Result<Boxed<TypedExpr>, PassError>
+) -> Result<TypedExpr, PassError>
     ensures { Answers result (typed headings.now scope.now (written.repeat whole invariants.now condition.now body.now) expected.now) }
 {
     let condition = type_expr(alloc, headings, scope, condition, &Some(bool_ty()))?;
@@ -247,13 +246,13 @@ fn type_operands(
         }
         Order::SecondGives => {
             let right = type_expr(alloc, headings, scope, b, &None)?;
-            let wanted = given_ty(alloc, right.get())?;
+            let wanted = given_ty(alloc, &right)?;
             let left = type_expr(alloc, headings, scope, a, &wanted)?;
             Ok(Operands { left, right })
         }
         Order::FirstGives => {
             let left = type_expr(alloc, headings, scope, a, &None)?;
-            let wanted = given_ty(alloc, left.get())?;
+            let wanted = given_ty(alloc, &left)?;
             let right = type_expr(alloc, headings, scope, b, &wanted)?;
             Ok(Operands { left, right })
         }
@@ -296,7 +295,7 @@ fn type_args(
     for i in 0..args.len() {
         let wanted = param_ty(alloc, params, i)?;
         let arg = type_expr(alloc, headings, scope, &args[i], &wanted)?;
-        typed.push(arg.into_inner())?;
+        typed.push(arg)?;
     }
     Ok(typed)
 }
@@ -318,9 +317,8 @@ fn type_statements(
         let stmt = &stmts[i];
         let wanted = expected_by(alloc, &stmt.kind)?;
         let value = type_expr(alloc, headings, inner.as_slice(), &stmt.value, &wanted)?;
-        declare(alloc, &mut inner, &stmt.kind, value.get())?;
+        declare(alloc, &mut inner, &stmt.kind, &value)?;
         let binds = is_binding(&stmt.kind);
-        let value = value.into_inner();
         typed.push(TypedStmt { binds, value })?;
     }
     Ok(Opened {

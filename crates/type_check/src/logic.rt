@@ -42,7 +42,7 @@ fn bad_among(assertions: &[Assertion]) -> Option<SourceError>
 fn bad_in(e: &TypedExpr) -> Option<SourceError>
     ensures { result ≡ bad_in e.now }
 {
-    match &e.node {
+    match &*e.node {
         TypedNode::Int(_, _) => None,
         TypedNode::Truth(_) => None,
         TypedNode::Variable(_) => None,

@@ -2,7 +2,7 @@ ghost use Rattle.std.specs.Prelude.{◌≡◌, [], take};
 ghost use Rattle.type_check.specs.Answers.{double_name};
 ghost use Rattle.type_check.specs.Names.{is_param, double_param, is_function, double_in, double_from, first_double};
 
-use built_syntax::{Function, Param};
+use built_trees::{Function, Param};
 use text_core::{Code, Name, SourceError, Span};
 
 fn double_name(span: Span) -> SourceError

@@ -1,13 +1,12 @@
 use crate::scope::Found;
 use crate::typed::TypedExpr;
 use logic_term::Ty;
-use rs_syntax::Boxed;
 
 /// The operands of an operation.
 #[derive(Drop)]
 pub(crate) struct Operands {
-    pub(crate) left: Boxed<TypedExpr>,
-    pub(crate) right: Boxed<TypedExpr>,
+    pub(crate) left: TypedExpr,
+    pub(crate) right: TypedExpr,
 }
 
 /// What is assigned to.
@@ -15,7 +14,7 @@ pub(crate) struct Operands {
 pub(crate) enum Target {
     Variable(Found),
     /// A value that is no variable's.
-    Value(Boxed<TypedExpr>),
+    Value(TypedExpr),
 }
 
 /// How the operands of an operation get their types.

@@ -1,6 +1,6 @@
 use crate::assertion::Assertion;
 use crate::typed::TypedExpr;
-use built_syntax::ClauseKind;
+use built_trees::ClauseKind;
 use logic_term::Ty;
 use text_core::{Items, Name, Span};
 

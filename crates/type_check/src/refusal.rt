@@ -1,9 +1,8 @@
 ghost use Rattle.std.specs.Prelude.{◌≡◌, None};
-ghost use Rattle.built_syntax.specs.declared.PassError.TheVariants as fault;
+ghost use Rattle.text_core.specs.declared.fault.PassError.TheVariants as fault;
 ghost use Rattle.type_check.specs.Answers.{unknown_name, double_name, mismatch, not_mutable};
 
-use built_syntax::PassError;
-use text_core::{Code, SourceError, Span};
+use text_core::{Code, PassError, SourceError, Span};
 
 fn refusal(code: Code, span: Span) -> PassError
     ensures { result ≡ fault.Source (record { code = code; span = span; other = None }) }

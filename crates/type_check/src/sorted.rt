@@ -1,5 +1,5 @@
 use logic_term::{Sort, Term};
-use rs_syntax::Boxed;
+use text_core::Boxed;
 
 /// A term with its sort.
 #[derive(Drop)]

@@ -9,11 +9,10 @@ use crate::scope::Variable;
 use crate::typed::{TypedExpr, TypedNode, TypedStmt};
 use crate::types::unit_ty;
 use crate::typing::{fit, ty_of};
-use built_syntax::{PassError, StmtKind};
+use built_trees::StmtKind;
 use logic_term::Ty;
-use rs_syntax::Boxed;
 use std::alloc::Global;
-use text_core::{NoMemory, Span};
+use text_core::{NoMemory, PassError, Span};
 
 /// What is in scope after statements, and the statements.
 #[derive(Drop)]
@@ -75,12 +74,12 @@ pub(crate) fn block(
     expected: &Option<Ty>,
     span: Span,
     stmts: Vec<TypedStmt>,
-) -> Result<Boxed<TypedExpr>, PassError>
+) -> Result<TypedExpr, PassError>
     ensures { Answers result (closed expected.now span (stmts_of stmts.items done)) }
 {
     let ty = unit_ty(alloc);
     let node = TypedNode::Block(stmts);
-    fit(alloc, expected, span, TypedExpr { ty, span, node })
+    fit(alloc, expected, span, ty, span, node)
 }
 
 /// A block with a last expression.
@@ -90,11 +89,11 @@ pub(crate) fn block_with(
     expected: &Option<Ty>,
     span: Span,
     stmts: Vec<TypedStmt>,
-    last: Boxed<TypedExpr>,
-) -> Result<Boxed<TypedExpr>, PassError>
+    last: TypedExpr,
+) -> Result<TypedExpr, PassError>
     ensures { Answers result (closed expected.now span (stmts_of stmts.items (ends_with last))) }
 {
-    let ty = ty_of(last.get()).copy(alloc)?;
-    let node = TypedNode::BlockWith(stmts, last.into_box());
-    fit(alloc, expected, span, TypedExpr { ty, span, node })
+    let ty = ty_of(&last).copy(alloc)?;
+    let node = TypedNode::BlockWith(stmts, last);
+    fit(alloc, expected, span, ty, span, node)
 }

@@ -1,6 +1,5 @@
 use crate::assertion::Assertion;
-use built_syntax::LazyOp;
-use logic_term::{BinaryOp, IntKind, Ty};
+use logic_term::{BinaryOp, IntKind, LazyOp, Ty};
 use std::marker::Model;
 use text_core::Span;
 
@@ -13,7 +12,7 @@ pub struct TypedExpr {
     /// Where a panic of it stands: the operator's for an operation and a compound assignment, the whole call's for a
     /// call, else that of the expression.
     pub span: Span,
-    pub node: TypedNode,
+    pub node: Box<TypedNode>,
 }
 
 /// What an expression is at its top.
@@ -24,25 +23,25 @@ pub enum TypedNode {
     Truth(bool),
     /// A variable.
     Variable(u32),
-    Neg(Box<TypedExpr>),
-    Not(Box<TypedExpr>),
-    Binary(BinaryOp, Box<TypedExpr>, Box<TypedExpr>),
-    Lazy(LazyOp, Box<TypedExpr>, Box<TypedExpr>),
+    Neg(TypedExpr),
+    Not(TypedExpr),
+    Binary(BinaryOp, TypedExpr, TypedExpr),
+    Lazy(LazyOp, TypedExpr, TypedExpr),
     /// To a variable.
-    Assign(u32, Box<TypedExpr>),
+    Assign(u32, TypedExpr),
     /// To a value that is no variable's: what is assigned is lost.
-    AssignValue(Box<TypedExpr>, Box<TypedExpr>),
+    AssignValue(TypedExpr, TypedExpr),
     /// `x += e` and the like.
-    Update(BinaryOp, u32, Box<TypedExpr>),
-    UpdateValue(BinaryOp, Box<TypedExpr>, Box<TypedExpr>),
+    Update(BinaryOp, u32, TypedExpr),
+    UpdateValue(BinaryOp, TypedExpr, TypedExpr),
     /// A function of the program, by its place.
     Call(u32, Vec<TypedExpr>),
     Block(Vec<TypedStmt>),
-    BlockWith(Vec<TypedStmt>, Box<TypedExpr>),
-    If(Box<TypedExpr>, Box<TypedExpr>),
-    IfElse(Box<TypedExpr>, Box<TypedExpr>, Box<TypedExpr>),
+    BlockWith(Vec<TypedStmt>, TypedExpr),
+    If(TypedExpr, TypedExpr),
+    IfElse(TypedExpr, TypedExpr, TypedExpr),
     /// The invariants, the condition and the body.
-    While(Vec<Assertion>, Box<TypedExpr>, Box<TypedExpr>),
+    While(Vec<Assertion>, TypedExpr, TypedExpr),
 }
 
 /// A statement: with `binds` it declares the next variable, which is in scope to the end of the block.
@@ -63,11 +62,11 @@ impl Model for TypedExpr {
 
     ghost use Rattle.type_check.specs.TypedExprView.{typed_of, typed_size};
 
-    ghost view = { λ e. typed_of e.ty e.span e.node };
+    ghost view = { λ e. typed_of e.ty e.span e.node.value };
 
     ghost size = { typed_size };
 
     ghost use Rattle.type_check.specs.TypedExprFalls.{falls};
 
-    ghost size_decreases = { λ a h. falls a.ty a.span a.node };
+    ghost size_decreases = { λ a h. falls a.ty a.span a.node.value };
 }

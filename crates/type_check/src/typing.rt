@@ -1,9 +1,9 @@
 ghost use Rattle.std.specs.Prelude.{◌≡◌, Some, IfOk, slice_get};
 ghost use Rattle.logic_term.specs.Ty.{bool};
-ghost use Rattle.built_syntax.specs.ExprView.{span_of};
+ghost use Rattle.built_trees.specs.ExprView.{span_of};
 ghost use Rattle.type_check.specs.Answers.{Answers};
 ghost use Rattle.type_check.specs.TypedExpr as tree;
-ghost use Rattle.type_check.specs.TypedExprView.{ty_of, exprs_of};
+ghost use Rattle.type_check.specs.TypedExprView.{ty_of, typed_of, exprs_of};
 ghost use Rattle.type_check.specs.Typing.{fit, order_of, literal_kind, literal, variable, negated, is_bare, operated, as_name, target_ty, assigned, updated, called, is_updated};
 ghost use Rattle.type_check.specs.WellTyped.{unit};
 
@@ -14,11 +14,10 @@ use crate::refusal::{mismatch, not_mutable, unknown_name};
 use crate::scope::{Found, Variable, find_variable};
 use crate::typed::{TypedExpr, TypedNode};
 use crate::types::{bool_ty, fits, is_signed_ty, is_updated, operation_ty, same_ty, unit_ty};
-use built_syntax::{Expr, ExprNode, LazyOp, PassError};
-use logic_term::{BinaryOp, IntKind, Ty, TyNode};
-use rs_syntax::Boxed;
+use built_trees::{Expr, ExprNode};
+use logic_term::{BinaryOp, IntKind, LazyOp, Ty, TyNode};
 use std::alloc::Global;
-use text_core::{Name, NoMemory, Span};
+use text_core::{Name, NoMemory, PassError, Span};
 
 /// From the expression's first token to its last.
 pub(crate) fn span_of(e: &Expr) -> Span
@@ -40,21 +39,25 @@ pub(crate) fn given_ty(alloc: Global, e: &TypedExpr) -> Result<Option<Ty>, NoMem
     Ok(Some(ty_of(e).copy(alloc)?))
 }
 
-/// The expression, where its type is the expected one, if there is one. `span` is that of the expression.
+/// The expression of this type and node, where the type is the expected one, if there is one. `whole` is the span of the
+/// expression as it is written.
 #[tactic(auto, unfolding(crate::specs::Typing::fit))]
 pub(crate) fn fit(
     alloc: Global,
     expected: &Option<Ty>,
+    whole: Span,
+    ty: Ty,
     span: Span,
-    e: TypedExpr,
-) -> Result<Boxed<TypedExpr>, PassError>
-    ensures { Answers result (fit expected.now span e) }
+    node: TypedNode,
+) -> Result<TypedExpr, PassError>
+    ensures { Answers result (fit expected.now whole (typed_of ty span node)) }
 {
-    let e = Boxed::new(alloc, e)?;
+    let node = Box::new(alloc, node)?;
+    let e = TypedExpr { ty, span, node };
     match expected {
         None => Ok(e),
-        Some(ty) if same_ty(ty_of(e.get()), ty) => Ok(e),
-        Some(_) => Err(mismatch(span)),
+        Some(ty) if same_ty(ty_of(&e), ty) => Ok(e),
+        Some(_) => Err(mismatch(whole)),
     }
 }
 
@@ -80,14 +83,14 @@ pub(crate) fn literal(
     span: Span,
     number: i128,
     kind: Option<IntKind>,
-) -> Result<Boxed<TypedExpr>, PassError>
+) -> Result<TypedExpr, PassError>
     ensures { Answers result (literal expected.now span number kind) }
 {
     match literal_kind(kind, expected) {
         Some(kind) if fits(kind, number) => {
             let node = TypedNode::Int(number, kind);
             let ty = Ty::int(kind);
-            fit(alloc, expected, span, TypedExpr { ty, span, node })
+            fit(alloc, expected, span, ty, span, node)
         }
         _ => Err(mismatch(span)),
     }
@@ -100,14 +103,14 @@ pub(crate) fn variable(
     expected: &Option<Ty>,
     span: Span,
     name: Name,
-) -> Result<Boxed<TypedExpr>, PassError>
+) -> Result<TypedExpr, PassError>
     ensures { Answers result (variable scope.now expected.now span name) }
 {
     match find_variable(alloc, name, scope)? {
         Some(found) => {
             let Found { place, ty, .. } = found;
             let node = TypedNode::Variable(place);
-            fit(alloc, expected, span, TypedExpr { ty, span, node })
+            fit(alloc, expected, span, ty, span, node)
         }
         None => Err(unknown_name(span)),
     }
@@ -126,17 +129,17 @@ pub(crate) fn negated(
     alloc: Global,
     expected: &Option<Ty>,
     spans: Spans,
-    operand: Boxed<TypedExpr>,
-) -> Result<Boxed<TypedExpr>, PassError>
+    operand: TypedExpr,
+) -> Result<TypedExpr, PassError>
     ensures { Answers result (negated expected.now spans.whole spans.operator spans.first operand) }
 {
-    if !is_signed_ty(ty_of(operand.get())) {
+    if !is_signed_ty(ty_of(&operand)) {
         return Err(mismatch(spans.first));
     }
-    let ty = ty_of(operand.get()).copy(alloc)?;
-    let node = TypedNode::Neg(operand.into_box());
+    let ty = ty_of(&operand).copy(alloc)?;
+    let node = TypedNode::Neg(operand);
     let span = spans.operator;
-    fit(alloc, expected, spans.whole, TypedExpr { ty, span, node })
+    fit(alloc, expected, spans.whole, ty, span, node)
 }
 
 /// Whether the expression is an integer without a type at its end.
@@ -153,16 +156,16 @@ pub(crate) fn operated(
     spans: Spans,
     op: BinaryOp,
     operands: Operands,
-) -> Result<Boxed<TypedExpr>, PassError>
+) -> Result<TypedExpr, PassError>
     ensures { Answers result (operated expected.now spans.whole spans.operator spans.first op operands) }
 {
     let Operands { left, right } = operands;
-    let Some(ty) = operation_ty(op, ty_of(left.get())) else {
+    let Some(ty) = operation_ty(op, ty_of(&left)) else {
         return Err(mismatch(spans.first));
     };
-    let node = TypedNode::Binary(op, left.into_box(), right.into_box());
+    let node = TypedNode::Binary(op, left, right);
     let span = spans.operator;
-    fit(alloc, expected, spans.whole, TypedExpr { ty, span, node })
+    fit(alloc, expected, spans.whole, ty, span, node)
 }
 
 /// The name that the expression is, if it is one.
@@ -181,7 +184,7 @@ pub(crate) fn target_ty(alloc: Global, target: &Target) -> Result<Option<Ty>, No
 {
     match target {
         Target::Variable(found) => Ok(Some(found.ty.copy(alloc)?)),
-        Target::Value(e) => given_ty(alloc, e.get()),
+        Target::Value(e) => given_ty(alloc, e),
     }
 }
 
@@ -192,15 +195,15 @@ pub(crate) fn assigned(
     span: Span,
     left: Span,
     target: Target,
-    value: Boxed<TypedExpr>,
-) -> Result<Boxed<TypedExpr>, PassError>
+    value: TypedExpr,
+) -> Result<TypedExpr, PassError>
     ensures { Answers result (assigned expected.now span left target value) }
 {
     let ty = unit_ty(alloc);
     match target {
         Target::Variable(found) => {
-            let node = TypedNode::Assign(found.place, value.into_box());
-            let e = fit(alloc, expected, span, TypedExpr { ty, span, node })?;
+            let node = TypedNode::Assign(found.place, value);
+            let e = fit(alloc, expected, span, ty, span, node)?;
             if found.mutable {
                 Ok(e)
             } else {
@@ -208,8 +211,8 @@ pub(crate) fn assigned(
             }
         }
         Target::Value(lost) => {
-            let node = TypedNode::AssignValue(lost.into_box(), value.into_box());
-            fit(alloc, expected, span, TypedExpr { ty, span, node })
+            let node = TypedNode::AssignValue(lost, value);
+            fit(alloc, expected, span, ty, span, node)
         }
     }
 }
@@ -219,7 +222,7 @@ fn is_target_updated(op: BinaryOp, target: &Target) -> bool
 {
     match target {
         Target::Variable(found) => is_updated(op, &found.ty),
-        Target::Value(e) => is_updated(op, ty_of(e.get())),
+        Target::Value(e) => is_updated(op, ty_of(e)),
     }
 }
 
@@ -230,8 +233,8 @@ pub(crate) fn updated(
     spans: Spans,
     op: BinaryOp,
     target: Target,
-    value: Boxed<TypedExpr>,
-) -> Result<Boxed<TypedExpr>, PassError>
+    value: TypedExpr,
+) -> Result<TypedExpr, PassError>
     ensures { Answers result (updated expected.now spans.whole spans.operator spans.first op target value) }
 {
     if !is_target_updated(op, &target) {
@@ -241,8 +244,8 @@ pub(crate) fn updated(
     let span = spans.operator;
     match target {
         Target::Variable(found) => {
-            let node = TypedNode::Update(op, found.place, value.into_box());
-            let e = fit(alloc, expected, spans.whole, TypedExpr { ty, span, node })?;
+            let node = TypedNode::Update(op, found.place, value);
+            let e = fit(alloc, expected, spans.whole, ty, span, node)?;
             if found.mutable {
                 Ok(e)
             } else {
@@ -250,8 +253,8 @@ pub(crate) fn updated(
             }
         }
         Target::Value(lost) => {
-            let node = TypedNode::UpdateValue(op, lost.into_box(), value.into_box());
-            fit(alloc, expected, spans.whole, TypedExpr { ty, span, node })
+            let node = TypedNode::UpdateValue(op, lost, value);
+            fit(alloc, expected, spans.whole, ty, span, node)
         }
     }
 }
@@ -263,7 +266,7 @@ pub(crate) fn called(
     span: Span,
     callee: Callee,
     args: Vec<TypedExpr>,
-) -> Result<Boxed<TypedExpr>, PassError>
+) -> Result<TypedExpr, PassError>
     ensures { Answers result (called expected.now span callee (exprs_of args.items)) }
 {
     if args.len() != callee.signature.params.len() {
@@ -271,7 +274,7 @@ pub(crate) fn called(
     }
     let node = TypedNode::Call(callee.place, args);
     let ty = callee.signature.answer;
-    fit(alloc, expected, span, TypedExpr { ty, span, node })
+    fit(alloc, expected, span, ty, span, node)
 }
 
 pub(crate) fn truth(
@@ -279,25 +282,25 @@ pub(crate) fn truth(
     expected: &Option<Ty>,
     span: Span,
     holds: bool,
-) -> Result<Boxed<TypedExpr>, PassError>
+) -> Result<TypedExpr, PassError>
     ensures { Answers result (fit expected.now span (tree.truth bool span holds)) }
 {
     let node = TypedNode::Truth(holds);
     let ty = bool_ty();
-    fit(alloc, expected, span, TypedExpr { ty, span, node })
+    fit(alloc, expected, span, ty, span, node)
 }
 
 pub(crate) fn denied(
     alloc: Global,
     expected: &Option<Ty>,
     span: Span,
-    operand: Boxed<TypedExpr>,
-) -> Result<Boxed<TypedExpr>, PassError>
+    operand: TypedExpr,
+) -> Result<TypedExpr, PassError>
     ensures { Answers result (fit expected.now span (tree.denied bool span operand)) }
 {
-    let node = TypedNode::Not(operand.into_box());
+    let node = TypedNode::Not(operand);
     let ty = bool_ty();
-    fit(alloc, expected, span, TypedExpr { ty, span, node })
+    fit(alloc, expected, span, ty, span, node)
 }
 
 pub(crate) fn lazy(
@@ -305,14 +308,14 @@ pub(crate) fn lazy(
     expected: &Option<Ty>,
     span: Span,
     op: LazyOp,
-    left: Boxed<TypedExpr>,
-    right: Boxed<TypedExpr>,
-) -> Result<Boxed<TypedExpr>, PassError>
+    left: TypedExpr,
+    right: TypedExpr,
+) -> Result<TypedExpr, PassError>
     ensures { Answers result (fit expected.now span (tree.lazy bool span op left right)) }
 {
-    let node = TypedNode::Lazy(op, left.into_box(), right.into_box());
+    let node = TypedNode::Lazy(op, left, right);
     let ty = bool_ty();
-    fit(alloc, expected, span, TypedExpr { ty, span, node })
+    fit(alloc, expected, span, ty, span, node)
 }
 
 /// `if` without `else`.
@@ -320,29 +323,29 @@ pub(crate) fn branch(
     alloc: Global,
     expected: &Option<Ty>,
     span: Span,
-    condition: Boxed<TypedExpr>,
-    body: Boxed<TypedExpr>,
-) -> Result<Boxed<TypedExpr>, PassError>
+    condition: TypedExpr,
+    body: TypedExpr,
+) -> Result<TypedExpr, PassError>
     ensures { Answers result (fit expected.now span (tree.branch unit span condition body)) }
 {
-    let node = TypedNode::If(condition.into_box(), body.into_box());
+    let node = TypedNode::If(condition, body);
     let ty = unit_ty(alloc);
-    fit(alloc, expected, span, TypedExpr { ty, span, node })
+    fit(alloc, expected, span, ty, span, node)
 }
 
 pub(crate) fn choice(
     alloc: Global,
     expected: &Option<Ty>,
     span: Span,
-    condition: Boxed<TypedExpr>,
-    yes: Boxed<TypedExpr>,
-    no: Boxed<TypedExpr>,
-) -> Result<Boxed<TypedExpr>, PassError>
+    condition: TypedExpr,
+    yes: TypedExpr,
+    no: TypedExpr,
+) -> Result<TypedExpr, PassError>
     ensures { Answers result (fit expected.now span (tree.choice (ty_of yes) span condition yes no)) }
 {
-    let ty = ty_of(yes.get()).copy(alloc)?;
-    let node = TypedNode::IfElse(condition.into_box(), yes.into_box(), no.into_box());
-    fit(alloc, expected, span, TypedExpr { ty, span, node })
+    let ty = ty_of(&yes).copy(alloc)?;
+    let node = TypedNode::IfElse(condition, yes, no);
+    fit(alloc, expected, span, ty, span, node)
 }
 
 pub(crate) fn repeat(
@@ -350,14 +353,14 @@ pub(crate) fn repeat(
     expected: &Option<Ty>,
     span: Span,
     invariants: Vec<Assertion>,
-    condition: Boxed<TypedExpr>,
-    body: Boxed<TypedExpr>,
-) -> Result<Boxed<TypedExpr>, PassError>
+    condition: TypedExpr,
+    body: TypedExpr,
+) -> Result<TypedExpr, PassError>
     ensures { Answers result (fit expected.now span (tree.repeat unit span invariants.items condition body)) }
 {
-    let node = TypedNode::While(invariants, condition.into_box(), body.into_box());
+    let node = TypedNode::While(invariants, condition, body);
     let ty = unit_ty(alloc);
-    fit(alloc, expected, span, TypedExpr { ty, span, node })
+    fit(alloc, expected, span, ty, span, node)
 }
 
 /// How the operands of an operation get their types, where a type is expected of it and each operand may be an integer

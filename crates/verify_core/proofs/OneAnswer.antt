@@ -6,8 +6,8 @@ use Rattle.name_tables.proofs.Tables.{one_place_at_first}
 use Rattle.logic_term.specs.declared.obligation.Contract.{Contract}
 use Rattle.mir_ir.specs.declared.body.Body.{Body}
 use Rattle.mir_ir.specs.declared.body.Initialised.{Initialised}
-use Rattle.built_syntax.specs.declared.PassError.TheVariants as errors
-use Rattle.built_syntax.specs.declared.function.Function.{Function}
+use Rattle.text_core.specs.declared.fault.PassError.TheVariants as errors
+use Rattle.built_trees.specs.declared.function.Function.{Function}
 use Rattle.built_syntax.specs.Parsed.{IsParseError}
 use Rattle.built_syntax.proofs.OneRefusal.{one_error, not_refused, not_few, not_many}
 use Rattle.built_syntax.proofs.Whole.{one_source}

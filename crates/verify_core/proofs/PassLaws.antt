@@ -17,9 +17,9 @@ use Rattle.mir_ir.specs.declared.terminator.Callee.TheVariants.{Function}
 use Rattle.mir_ir.specs.declared.terminator.TerminatorKind.{TerminatorKind}
 use Rattle.mir_ir.specs.declared.terminator.TerminatorKind.TheVariants.{Call}
 use Rattle.mir_ir.specs.WellFormed.{EndIsTyped}
-use Rattle.built_syntax.specs.declared.PassError.{PassError}
-use Rattle.built_syntax.specs.declared.PassError.TheVariants as errors
-use Rattle.built_syntax.specs.declared.function.Function.{Function as SourceFunction}
+use Rattle.text_core.specs.declared.fault.PassError.{PassError}
+use Rattle.text_core.specs.declared.fault.PassError.TheVariants as errors
+use Rattle.built_trees.specs.declared.function.Function.{Function as SourceFunction}
 use Rattle.built_syntax.specs.Parsed.{SpellsSource, IsParseError, most_functions}
 use Rattle.built_syntax.specs.Words.{GivesNames}
 use Rattle.type_check.specs.declared.program.TypedFunction.{TypedFunction}

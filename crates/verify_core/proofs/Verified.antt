@@ -23,7 +23,7 @@ use Rattle.proof_text.specs.declared.proof.NumberedStep.{NumberedStep}
 use Rattle.proof_text.specs.declared.proof.Proof.{Proof}
 use Rattle.report_out.specs.declared.verdict.FnLine.{FnLine}
 use Rattle.report_out.specs.declared.verdict.Verdict.{Verdict}
-use Rattle.built_syntax.specs.declared.function.Function.{Function}
+use Rattle.built_trees.specs.declared.function.Function.{Function}
 use Rattle.type_check.specs.declared.program.TypedProgram.{TypedProgram}
 use Rattle.type_check.specs.Checked.{checked}
 use Rattle.type_check.specs.WellTyped.{ProgramFits}

@@ -9,8 +9,8 @@ use Rattle.mir_ir.specs.declared.body.Initialised.{Initialised}
 use Rattle.wp_gen.specs.Paths.{HasPaths, HasMorePaths}
 use Rattle.wp_gen.specs.Walk.{AreObligations}
 use Rattle.prophecy_sim.specs.Programs as sim
-use Rattle.built_syntax.specs.declared.function.Function.{Function}
-use Rattle.built_syntax.specs.declared.PassError.TheVariants as errors
+use Rattle.built_trees.specs.declared.function.Function.{Function}
+use Rattle.text_core.specs.declared.fault.PassError.TheVariants as errors
 use Rattle.built_syntax.specs.Parsed.{SpellsSource, IsParseError, most_functions}
 use Rattle.built_syntax.specs.Words.{GivesNames}
 use Rattle.type_check.specs.declared.program.TypedProgram.{TypedProgram}

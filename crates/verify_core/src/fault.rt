@@ -2,9 +2,8 @@ ghost use Rattle.std.specs.Prelude.{◌≡◌};
 ghost use Rattle.verify_core.specs.declared.fault.Refusal.TheVariants as refusals;
 ghost use Rattle.verify_core.specs.Refusals.{refusal_of};
 
-use built_syntax::PassError;
 use std::alloc::{AllocError, AllocFailed};
-use text_core::{Limit, NoMemory, SourceError};
+use text_core::{Limit, NoMemory, PassError, SourceError};
 use thiserror::Error;
 
 /// Why there is no verdict on a source.

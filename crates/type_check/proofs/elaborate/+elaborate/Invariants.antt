@@ -1,5 +1,5 @@
 use Rattle.std.proofs.Common.{◌+◌, ◌*◌}
-use Rattle.built_syntax.specs.PtermView.{pterm_size}
+use Rattle.built_trees.specs.PtermView.{pterm_size}
 use Rattle.type_check.proofs.elaborate.+elaborate.Given as goal
 
 abbrev pub decreases-elaborate : goal.decreases-elaborate

@@ -1,7 +1,7 @@
 use Rattle.std.proofs.Common.{◌≡◌, ◌+◌, ◌*◌, max, drop, Option}
 use Rattle.logic_term.specs.Ty.{Ty}
-use Rattle.built_syntax.specs.Expr.{Stmts, done, last}
-use Rattle.built_syntax.specs.ExprView.{expr_size, stmts_size, exprs_size, stmts_of, exprs_of}
+use Rattle.built_trees.specs.Expr.{Stmts, done, last}
+use Rattle.built_trees.specs.ExprView.{expr_size, stmts_size, exprs_size, stmts_of, exprs_of}
 use Rattle.type_check.specs.Typing.{typed_args, typed_rest}
 use Rattle.type_check.proofs.Arguments.{continued as args_continued}
 use Rattle.type_check.proofs.StatementLists.{continued as statements_continued}

@@ -2,10 +2,10 @@
 use Rattle.std.specs.Prelude.{◌≤◌, max}
 use Rattle.std.proofs.Common.{arith}
 use Rattle.text_core.specs.declared.span.Span.{Span}
-use Rattle.built_syntax.specs.PtermView.{pterm_of, pterm_size}
-use Rattle.built_syntax.specs.declared.pterm.PtermNode.{PtermNode}
-use Rattle.built_syntax.specs.declared.pterm.PtermNode.TheVariants as node
-use Rattle.built_syntax.specs.declared.pterm.Pterm.TheDeep.{deep-PtermNode}
+use Rattle.built_trees.specs.PtermView.{pterm_of, pterm_size}
+use Rattle.built_trees.specs.declared.pterm.PtermNode.{PtermNode}
+use Rattle.built_trees.specs.declared.pterm.PtermNode.TheVariants as node
+use Rattle.built_trees.specs.declared.pterm.Pterm.TheDeep.{deep-PtermNode}
 
 pub falls : (s : Span) (n : PtermNode) → max (deep-PtermNode n) 0 ≤ pterm_size (pterm_of s n)
 falls s (node.Int a0 a1) = omega arith

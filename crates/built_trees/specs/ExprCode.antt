@@ -6,11 +6,11 @@ use Rattle.text_core.specs.contracts.name.Name as name
 use Rattle.text_core.specs.contracts.span.Span as span
 use Rattle.logic_term.specs.contracts.kinds.BinaryOp as binary_op
 use Rattle.logic_term.specs.contracts.kinds.IntKind as int_kind
-use Rattle.rs_syntax.specs.contracts.operator.LazyOp as lazy_op
-use Rattle.built_syntax.specs.contracts.binding.Binding as binding
-use Rattle.built_syntax.specs.PtermCode.{coded_pterm}
+use Rattle.logic_term.specs.contracts.kinds.LazyOp as lazy_op
+use Rattle.built_trees.specs.contracts.binding.Binding as binding
+use Rattle.built_trees.specs.PtermCode.{coded_pterm}
 use base.Stored.{Gv, gnil, gnum, gcons, num}
-use Rattle.built_syntax.specs.Expr.{Expr, integer, truth, named, negative, denied, binary, lazy, assign, update, call, block, branch, choice, repeat, Stmts, done, last, bind, run, blocklike, Exprs, none, more}
+use Rattle.built_trees.specs.Expr.{Expr, integer, truth, named, negative, denied, binary, lazy, assign, update, call, block, branch, choice, repeat, Stmts, done, last, bind, run, blocklike, Exprs, none, more}
 
 abbrev pub head : Gv → Gv
 head gnil = gnil

@@ -1,5 +1,4 @@
-use logic_term::{ArithOp, IntKind};
-use pearlite::Comparison;
+use logic_term::{ArithOp, Comparison, IntKind};
 use std::marker::Model;
 use text_core::{Name, Span};
 
@@ -54,20 +53,20 @@ impl Drop for PtermNode {
 }
 
 impl Model for Pterm {
-    ghost use Rattle.built_syntax.specs.Pterm.{Pterm as Tree};
-    ghost use Rattle.built_syntax.specs.PtermCode.{coded_pterm};
+    ghost use Rattle.built_trees.specs.Pterm.{Pterm as Tree};
+    ghost use Rattle.built_trees.specs.PtermCode.{coded_pterm};
 
     ghost Value = { Tree };
 
     ghost coded = { coded_pterm };
 
-    ghost use Rattle.built_syntax.specs.PtermView.{pterm_of, pterm_size};
+    ghost use Rattle.built_trees.specs.PtermView.{pterm_of, pterm_size};
 
     ghost view = { λ t. pterm_of t.span t.node };
 
     ghost size = { pterm_size };
 
-    ghost use Rattle.built_syntax.specs.PtermFalls.{falls};
+    ghost use Rattle.built_trees.specs.PtermFalls.{falls};
 
     ghost size_decreases = { λ a h. falls a.span a.node };
 }

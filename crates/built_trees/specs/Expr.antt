@@ -4,9 +4,9 @@ use Rattle.text_core.specs.declared.name.Name.{Name}
 use Rattle.text_core.specs.declared.span.Span.{Span}
 use Rattle.logic_term.specs.declared.kinds.BinaryOp.{BinaryOp}
 use Rattle.logic_term.specs.declared.kinds.IntKind.{IntKind}
-use Rattle.rs_syntax.specs.declared.operator.LazyOp.{LazyOp}
-use Rattle.built_syntax.specs.declared.binding.Binding.{Binding}
-use Rattle.built_syntax.specs.Pterm.{Pterm}
+use Rattle.logic_term.specs.declared.kinds.LazyOp.{LazyOp}
+use Rattle.built_trees.specs.declared.binding.Binding.{Binding}
+use Rattle.built_trees.specs.Pterm.{Pterm}
 
 mutual
   pub data Expr : Type 0 where

@@ -1,7 +1,6 @@
 use crate::binding::StmtKind;
 use crate::pterm::Pterm;
-use logic_term::{BinaryOp, IntKind};
-use rs_syntax::LazyOp;
+use logic_term::{BinaryOp, IntKind, LazyOp};
 use std::marker::Model;
 use text_core::{Name, Span};
 
@@ -55,20 +54,20 @@ pub struct Stmt {
 }
 
 impl Model for Expr {
-    ghost use Rattle.built_syntax.specs.Expr.{Expr as Tree};
-    ghost use Rattle.built_syntax.specs.ExprCode.{coded_expr};
+    ghost use Rattle.built_trees.specs.Expr.{Expr as Tree};
+    ghost use Rattle.built_trees.specs.ExprCode.{coded_expr};
 
     ghost Value = { Tree };
 
     ghost coded = { coded_expr };
 
-    ghost use Rattle.built_syntax.specs.ExprView.{expr_of, expr_size};
+    ghost use Rattle.built_trees.specs.ExprView.{expr_of, expr_size};
 
     ghost view = { λ e. expr_of e.span e.node };
 
     ghost size = { expr_size };
 
-    ghost use Rattle.built_syntax.specs.ExprFalls.{falls};
+    ghost use Rattle.built_trees.specs.ExprFalls.{falls};
 
     ghost size_decreases = { λ a h. falls a.span a.node };
 }

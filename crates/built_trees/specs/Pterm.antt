@@ -4,7 +4,7 @@ use Rattle.text_core.specs.declared.name.Name.{Name}
 use Rattle.text_core.specs.declared.span.Span.{Span}
 use Rattle.logic_term.specs.declared.kinds.ArithOp.{ArithOp}
 use Rattle.logic_term.specs.declared.kinds.IntKind.{IntKind}
-use Rattle.pearlite.specs.declared.operator.Comparison.{Comparison}
+use Rattle.logic_term.specs.declared.kinds.Comparison.{Comparison}
 
 pub data Pterm : Type 0 where
   integer : Span → ℤ → Option IntKind → Pterm

@@ -1,12 +1,12 @@
 -- The expressions that nodes stand for, and how deep expressions are.
 use Rattle.std.specs.Prelude.{ℕ, suc, max, List, [], ◌∷◌}
 use Rattle.text_core.specs.declared.span.Span.{Span}
-use Rattle.built_syntax.specs.Expr.{Expr, integer, truth, named, negative, denied, binary, lazy, assign, update, call, block, branch, choice, repeat, Stmts, done, last, bind, run, blocklike, Exprs, none, more}
-use Rattle.built_syntax.specs.declared.binding.StmtKind.{StmtKind}
-use Rattle.built_syntax.specs.declared.binding.StmtKind.TheVariants as kind
-use Rattle.built_syntax.specs.declared.expr.Stmt.{Stmt}
-use Rattle.built_syntax.specs.declared.expr.ExprNode.{ExprNode}
-use Rattle.built_syntax.specs.declared.expr.ExprNode.TheVariants as node
+use Rattle.built_trees.specs.Expr.{Expr, integer, truth, named, negative, denied, binary, lazy, assign, update, call, block, branch, choice, repeat, Stmts, done, last, bind, run, blocklike, Exprs, none, more}
+use Rattle.built_trees.specs.declared.binding.StmtKind.{StmtKind}
+use Rattle.built_trees.specs.declared.binding.StmtKind.TheVariants as kind
+use Rattle.built_trees.specs.declared.expr.Stmt.{Stmt}
+use Rattle.built_trees.specs.declared.expr.ExprNode.{ExprNode}
+use Rattle.built_trees.specs.declared.expr.ExprNode.TheVariants as node
 
 abbrev pub stmt_of : StmtKind → Expr → Stmts → Stmts
 stmt_of (kind.Let b) e ss = bind b e ss

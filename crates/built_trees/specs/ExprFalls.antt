@@ -3,14 +3,14 @@ use Rattle.std.specs.Prelude.{◌≡◌, ℕ, zero, suc, ◌+◌, ◌≤◌, ◌
 use Rattle.std.proofs.Common.{arith, refl}
 use denote.Param.Weighed.{most}
 use Rattle.text_core.specs.declared.span.Span.{Span}
-use Rattle.built_syntax.specs.Expr.{Expr, Stmts, done, last}
-use Rattle.built_syntax.specs.ExprView.{expr_of, expr_size, stmts_size, exprs_size, stmt_of, stmts_of, exprs_of}
-use Rattle.built_syntax.specs.declared.binding.StmtKind.{StmtKind}
-use Rattle.built_syntax.specs.declared.binding.StmtKind.TheVariants as kind
-use Rattle.built_syntax.specs.declared.expr.Stmt.{Stmt}
-use Rattle.built_syntax.specs.declared.expr.ExprNode.{ExprNode}
-use Rattle.built_syntax.specs.declared.expr.ExprNode.TheVariants as node
-use Rattle.built_syntax.specs.declared.expr.Expr.TheDeep.{deep-ExprNode}
+use Rattle.built_trees.specs.Expr.{Expr, Stmts, done, last}
+use Rattle.built_trees.specs.ExprView.{expr_of, expr_size, stmts_size, exprs_size, stmt_of, stmts_of, exprs_of}
+use Rattle.built_trees.specs.declared.binding.StmtKind.{StmtKind}
+use Rattle.built_trees.specs.declared.binding.StmtKind.TheVariants as kind
+use Rattle.built_trees.specs.declared.expr.Stmt.{Stmt}
+use Rattle.built_trees.specs.declared.expr.ExprNode.{ExprNode}
+use Rattle.built_trees.specs.declared.expr.ExprNode.TheVariants as node
+use Rattle.built_trees.specs.declared.expr.Expr.TheDeep.{deep-ExprNode}
 
 stmt_size : (k : StmtKind) (e : Expr) (ss : Stmts) → stmts_size (stmt_of k e ss) ≡ suc (max (expr_size e) (stmts_size ss))
 stmt_size (kind.Let b) e ss = refl

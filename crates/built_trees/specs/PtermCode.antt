@@ -6,9 +6,9 @@ use Rattle.text_core.specs.contracts.name.Name as name
 use Rattle.text_core.specs.contracts.span.Span as span
 use Rattle.logic_term.specs.contracts.kinds.ArithOp as arith_op
 use Rattle.logic_term.specs.contracts.kinds.IntKind as int_kind
-use Rattle.pearlite.specs.contracts.operator.Comparison as comparison
+use Rattle.logic_term.specs.contracts.kinds.Comparison as comparison
 use base.Stored.{Gv, gnil, gnum, gcons, num}
-use Rattle.built_syntax.specs.Pterm.{Pterm, integer, truth, answer, named, viewed, negative, denied, calculated, compare, both, either, implied}
+use Rattle.built_trees.specs.Pterm.{Pterm, integer, truth, answer, named, viewed, negative, denied, calculated, compare, both, either, implied}
 
 abbrev pub head : Gv → Gv
 head gnil = gnil

@@ -1,8 +1,8 @@
 ghost use Rattle.std.specs.Prelude.{◌≡◌, IfOk};
 
+use crate::fault::NoMemory;
 use std::alloc::Global;
 use std::marker::Model;
-use text_core::NoMemory;
 
 /// A value on the heap, which contracts see as the value.
 #[derive(Drop)]

@@ -1,9 +1,9 @@
 -- The terms that nodes stand for, and how deep terms are.
 use Rattle.std.specs.Prelude.{ℕ, suc, max}
 use Rattle.text_core.specs.declared.span.Span.{Span}
-use Rattle.built_syntax.specs.Pterm.{Pterm, integer, truth, answer, named, viewed, negative, denied, calculated, compare, both, either, implied}
-use Rattle.built_syntax.specs.declared.pterm.PtermNode.{PtermNode}
-use Rattle.built_syntax.specs.declared.pterm.PtermNode.TheVariants as node
+use Rattle.built_trees.specs.Pterm.{Pterm, integer, truth, answer, named, viewed, negative, denied, calculated, compare, both, either, implied}
+use Rattle.built_trees.specs.declared.pterm.PtermNode.{PtermNode}
+use Rattle.built_trees.specs.declared.pterm.PtermNode.TheVariants as node
 
 abbrev pub pterm_of : Span → PtermNode → Pterm
 pterm_of s (node.Int a0 a1) = integer s a0 a1
