@@ -3,7 +3,6 @@ use Rattle.std.proofs.Common.{◌≡◌, ◌∙◌, refl, sym, ap, subst, ℕ, z
 use Rattle.logic_term.specs.declared.kinds.IntKind.{IntKind}
 use Rattle.logic_term.specs.Ty.{int, bool, unit_ty}
 use Rattle.logic_term.specs.Sort.{Declarations, HasSort, of_int as sort_int, of_bool as sort_bool, of_tuple as sort_tuple, of_none as sort_none}
-use Rattle.logic_term.specs.declared.kinds.Ctor.{Ctor}
 use Rattle.logic_term.specs.Value.{Value, Values, Number, Flag, nothing, no_values, and_value}
 use Rattle.logic_term.specs.Value as value
 use Rattle.mir_machine.specs.declared.spot.Spot.{Spot}
