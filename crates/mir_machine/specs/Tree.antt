@@ -1,4 +1,4 @@
--- The machine's values, as contracts see them: one constructor for each variant of `TreeNode`. K: what a mutable reference is
+-- The machine's values, as contracts see them: one constructor for each form of `TreeNode` and `PointerTree`. K: what a mutable reference is
 -- marked with, which no row of the machine reads; the machine's own states mark with nothing.
 use Rattle.std.specs.Prelude.{ℕ, zero, suc, ℤ, Bool, List, [], ◌∷◌, Option, Some, None}
 use Rattle.logic_term.specs.declared.kinds.Ctor.{Ctor}

@@ -1,16 +1,21 @@
 -- The trees that nodes stand for, and how deep trees are.
 use Rattle.std.specs.Prelude.{ℕ, suc, max}
 use Rattle.mir_machine.specs.Tree.{Tree, Trees, Int, Truth, Made, Boxed, Shared, Unique, Gone, no_trees, and_tree, trees_of}
+use Rattle.mir_machine.specs.declared.tree.PointerTree.{PointerTree}
+use Rattle.mir_machine.specs.declared.tree.PointerTree.TheVariants as pointer
 use Rattle.mir_machine.specs.declared.tree.TreeNode.{TreeNode}
 use Rattle.mir_machine.specs.declared.tree.TreeNode.TheVariants as node
+
+abbrev pub pointer_of : PointerTree → Tree (Unit {0})
+pointer_of (pointer.Boxed t) = Boxed t
+pointer_of (pointer.Shared at) = Shared at
+pointer_of (pointer.Unique at) = Unique tt at
 
 abbrev pub tree_of : TreeNode → Tree (Unit {0})
 tree_of (node.Int z) = Int z
 tree_of (node.Bool b) = Truth b
 tree_of (node.Made c ts) = Made c (trees_of ts.items)
-tree_of (node.Boxed t) = Boxed t.value
-tree_of (node.Shared at) = Shared at
-tree_of (node.Unique at) = Unique tt at
+tree_of (node.Pointer p) = pointer_of p.value
 tree_of node.Gone = Gone
 
 abbrev mutual

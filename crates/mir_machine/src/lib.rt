@@ -28,4 +28,4 @@ pub use mir_ir::{
 pub use outcome::Outcome;
 pub use run_error::RunError;
 pub use spot::Spot;
-pub use tree::{Tree, TreeNode};
+pub use tree::{PointerTree, Tree, TreeNode};

@@ -1,4 +1,5 @@
 ghost use Rattle.std.specs.Prelude.{◌≡◌, IfOk};
+ghost use Rattle.mir_machine.specs.TreeView.{pointer_of};
 
 use crate::spot::Spot;
 use logic_term::Ctor;
@@ -13,7 +14,7 @@ pub struct Tree {
     pub node: TreeNode,
 }
 
-/// What a value is at its top.
+/// What a value is at its top. All that is large is behind one pointer, so that a value is small wherever it is held.
 #[cycle(tree)]
 #[derive(Drop)]
 pub enum TreeNode {
@@ -21,13 +22,20 @@ pub enum TreeNode {
     Bool(bool),
     /// A tuple, a struct, a variant, or a closure with its captures.
     Made(Ctor, Vec<Tree>),
-    Boxed(Box<Tree>),
+    Pointer(Box<PointerTree>),
+    /// What a move leaves.
+    Gone,
+}
+
+/// A value that points to another one.
+#[cycle(tree)]
+#[derive(Drop)]
+pub enum PointerTree {
+    Boxed(Tree),
     /// A shared reference to the spot.
     Shared(Spot),
     /// A mutable reference to the spot.
     Unique(Spot),
-    /// What a move leaves.
-    Gone,
 }
 
 impl Model for Tree {
@@ -59,11 +67,25 @@ impl Tree {
             TreeNode::Int(z) => TreeNode::Int(*z),
             TreeNode::Bool(b) => TreeNode::Bool(*b),
             TreeNode::Made(ctor, parts) => TreeNode::Made(*ctor, copy_trees(alloc, parts)?),
-            TreeNode::Boxed(t) => TreeNode::Boxed(Box::new(alloc, t.copy(alloc)?)?),
-            TreeNode::Shared(spot) => TreeNode::Shared(spot.copy(alloc)?),
-            TreeNode::Unique(spot) => TreeNode::Unique(spot.copy(alloc)?),
+            TreeNode::Pointer(pointer) => return pointer.copied(alloc),
             TreeNode::Gone => TreeNode::Gone,
         };
+        Ok(Tree { node })
+    }
+}
+
+impl PointerTree {
+    /// A copy of the value.
+    #[cycle(copy_tree)]
+    fn copied(&self, alloc: Global) -> Result<Tree, NoMemory>
+        ensures { IfOk result (λ t. t ≡ pointer_of self.now) }
+    {
+        let pointer = match self {
+            PointerTree::Boxed(t) => PointerTree::Boxed(t.copy(alloc)?),
+            PointerTree::Shared(spot) => PointerTree::Shared(spot.copy(alloc)?),
+            PointerTree::Unique(spot) => PointerTree::Unique(spot.copy(alloc)?),
+        };
+        let node = TreeNode::Pointer(Box::new(alloc, pointer)?);
         Ok(Tree { node })
     }
 }
