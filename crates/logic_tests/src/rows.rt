@@ -206,3 +206,154 @@ fn a_term_is_too_wide(rt: HostRuntime) -> Result<(), Fail> {
     );
     Ok(())
 }
+
+// ---- products
+
+fn product(alloc: Global, a: Term, b: Term) -> Result<Term, NoMemory> {
+    Term::calculate(alloc, ArithOp::Mul, a, b)
+}
+
+/// `x@ * y`.
+fn x_times_y(alloc: Global) -> Result<Term, NoMemory> {
+    let t = x(alloc)?;
+    product(alloc, t, y())
+}
+
+/// From this hypothesis the goal that the first term is at most the second.
+fn at_most_from(alloc: Global, one: Term, a: Term, b: Term) -> Result<Sequent, NoMemory> {
+    let goal = Term::at_most(alloc, a, b)?;
+    sequent(alloc, one, Term::truth(true), goal)
+}
+
+/// From x@ <= 5, which is 5 - x, that 2 * x@ <= 10: 2x - 11 for the goal.
+fn doubled(alloc: Global) -> Result<Sequent, NoMemory> {
+    let t = x(alloc)?;
+    let one = Term::at_most(alloc, t, Term::integer(5))?;
+    let t = x(alloc)?;
+    let t = product(alloc, Term::integer(2), t)?;
+    at_most_from(alloc, one, t, Term::integer(10))
+}
+
+/// From x@ * y <= 10, which is 10 - xy, that (x@ + 1) * y <= 10 + y: xy - 11 for the goal.
+fn multiplied_out(alloc: Global) -> Result<Sequent, NoMemory> {
+    let t = x_times_y(alloc)?;
+    let one = Term::at_most(alloc, t, Term::integer(10))?;
+    let t = successor(alloc)?;
+    let t = product(alloc, t, y())?;
+    let u = sum(alloc, Term::integer(10), y())?;
+    at_most_from(alloc, one, t, u)
+}
+
+/// Rows with monomials: the goal's once, and the hypothesis so often.
+fn with_hypothesis(alloc: Global, q: &Sequent, by: i128) -> Result<LinAnswer, NoMemory> {
+    let [goal, one, _] = times([1, by, 0]);
+    certifies(alloc, q, &[goal, one])
+}
+
+#[test]
+fn a_number_times_an_atom(rt: HostRuntime) -> Result<(), Fail> {
+    let q = doubled(rt.alloc())?;
+    assert!(rt; with_hypothesis(rt.alloc(), &q, 2)? == LinAnswer::Closes);
+    assert!(rt; with_hypothesis(rt.alloc(), &q, 1)? == LinAnswer::Fails);
+    Ok(())
+}
+
+#[test]
+fn a_sum_times_an_atom(rt: HostRuntime) -> Result<(), Fail> {
+    let q = multiplied_out(rt.alloc())?;
+    assert!(rt; with_hypothesis(rt.alloc(), &q, 1)? == LinAnswer::Closes);
+    assert!(rt; with_hypothesis(rt.alloc(), &q, 2)? == LinAnswer::Fails);
+    Ok(())
+}
+
+/// What the negated goal alone comes to, the goal being that the first term is at most the second.
+fn alone(alloc: Global, a: Term, b: Term) -> Result<LinAnswer, NoMemory> {
+    let q = at_most_from(alloc, Term::truth(true), a, b)?;
+    certifies(alloc, &q, &[multiple(1, Reference::Goal)])
+}
+
+#[test]
+fn a_number_times_a_number(rt: HostRuntime) -> Result<(), Fail> {
+    for (bound, want) in [(6, LinAnswer::Closes), (5, LinAnswer::Fails)] {
+        let t = product(rt.alloc(), Term::integer(2), Term::integer(3))?;
+        assert!(rt; alone(rt.alloc(), t, Term::integer(bound))? == want);
+    }
+    Ok(())
+}
+
+/// `y * x@` and `x@ * y` are one monomial, and `x@ * x@` is another.
+#[test]
+fn the_order_of_factors(rt: HostRuntime) -> Result<(), Fail> {
+    let t = x(rt.alloc())?;
+    let t = product(rt.alloc(), y(), t)?;
+    let u = x_times_y(rt.alloc())?;
+    assert!(rt; alone(rt.alloc(), t, u)? == LinAnswer::Closes);
+    Ok(())
+}
+
+/// `x@ * x@`.
+fn square(alloc: Global) -> Result<Term, NoMemory> {
+    let t = x(alloc)?;
+    let u = x(alloc)?;
+    product(alloc, t, u)
+}
+
+#[test]
+fn other_factors(rt: HostRuntime) -> Result<(), Fail> {
+    let t = square(rt.alloc())?;
+    let u = x_times_y(rt.alloc())?;
+    assert!(rt; alone(rt.alloc(), t, u)? == LinAnswer::Fails);
+    Ok(())
+}
+
+/// `MAX * y`.
+fn widest(alloc: Global) -> Result<Term, NoMemory> {
+    product(alloc, Term::integer(MAX), y())
+}
+
+/// A product of two coefficients, and a running sum, that pass 128 bits.
+#[test]
+fn products_are_too_wide(rt: HostRuntime) -> Result<(), Fail> {
+    for by in [2, 1] {
+        let t = widest(rt.alloc())?;
+        let t = product(rt.alloc(), Term::integer(by), t)?;
+        let want = if by == 1 { LinAnswer::Fails } else { LinAnswer::TooWide };
+        assert!(rt; alone(rt.alloc(), t, Term::integer(0))? == want);
+    }
+    Ok(())
+}
+
+/// (MAX + y) * (1 + y), in which y has MAX + 1.
+fn wide_sum(alloc: Global) -> Result<Term, NoMemory> {
+    let t = sum(alloc, Term::integer(MAX), y())?;
+    let u = sum(alloc, Term::integer(1), y())?;
+    product(alloc, t, u)
+}
+
+#[test]
+fn a_running_sum_is_too_wide(rt: HostRuntime) -> Result<(), Fail> {
+    let t = wide_sum(rt.alloc())?;
+    assert!(rt; alone(rt.alloc(), t, Term::integer(0))? == LinAnswer::TooWide);
+    Ok(())
+}
+
+/// An atom that binds a name, in which another is free: `(forall<bound: Int> bound == free)@`.
+fn binding(alloc: Global, bound: Name, free: Name) -> Result<Term, NoMemory> {
+    let integers = Ty {
+        node: TyNode::MathInt,
+    };
+    let body = Term::equal(alloc, Term::var(bound), Term::var(free))?;
+    let formula = Term::forall(alloc, bound, integers, body)?;
+    Term::model(alloc, formula)
+}
+
+/// Atoms are compared up to bound names.
+#[test]
+fn bound_names_in_atoms(rt: HostRuntime) -> Result<(), Fail> {
+    for (free, want) in [(X, LinAnswer::Closes), (Y, LinAnswer::Fails)] {
+        let t = binding(rt.alloc(), Name(7), X)?;
+        let u = binding(rt.alloc(), Name(3), free)?;
+        assert!(rt; alone(rt.alloc(), t, u)? == want);
+    }
+    Ok(())
+}
