@@ -3,7 +3,10 @@ use Rattle.std.proofs.Common.{◌≡◌, ℕ, zero, suc, refl, sym, ◌∙◌, a
 use Rattle.std.specs.Prelude.{Result, Ok, Err, IfOk}
 use Rattle.logic_term.specs.Ty.{int}
 use Rattle.logic_term.specs.Value.{Number, integer_of}
-use Rattle.logic_term.specs.Term.{Operator, modeled, Term, Terms, var, lit, truth, apply, bind, no_terms, and_term, count}
+use Rattle.logic_term.specs.Term.{Operator, modeled, Term, Terms, var, lit, truth, apply, bind, no_terms, and_term, two, count}
+use Rattle.logic_term.specs.TermOperator.{binary_operator}
+use Rattle.logic_term.specs.declared.kinds.TermBinary.{TermBinary}
+use Rattle.logic_term.specs.declared.kinds.TermBinary.TheVariants as binary
 use Rattle.logic_term.specs.Meaning.{Structure, Env, with_value, Means, Argument}
 use Rattle.logic_term.specs.Normal.{simplified, reduced, all_reduced}
 use Rattle.logic_term.specs.Laws.{HasValuesOf}
@@ -12,6 +15,15 @@ use Rattle.logic_term.proofs.Alike.{Alike, alike_same, alike_then, applied_alike
 count_all_reduced : (ts : Terms) → count (all_reduced ts) ≡ count ts
 count_all_reduced no_terms = refl
 count_all_reduced (and_term t ts) = ap suc (count_all_reduced ts)
+
+pub two_simplified : (op : TermBinary) (a b : Term) → simplified (binary_operator op) (and_term a (and_term b no_terms)) ≡ two (binary_operator op) a b
+two_simplified (binary.Arith op) a b = refl
+two_simplified binary.Less a b = refl
+two_simplified binary.AtMost a b = refl
+two_simplified binary.Equal a b = refl
+two_simplified binary.And a b = refl
+two_simplified binary.Or a b = refl
+two_simplified binary.Implies a b = refl
 
 module _ (S : Structure) where
   simplified_means : (op : Operator) (ts : Terms) (ρ : Env) → Alike (Means S (simplified op ts) ρ) (Means S (apply op ts) ρ)

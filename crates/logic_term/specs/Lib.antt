@@ -10,6 +10,7 @@ pub mod Subst
 pub mod Term
 pub mod TermCode
 pub mod TermFalls
+pub mod TermOperator
 pub mod TermView
 pub mod Ty
 pub mod TyCode

@@ -83,6 +83,10 @@ abbrev pub is_implication : Term → Bool
 is_implication (apply implied ts) = true
 is_implication t = false
 
+abbrev pub is_conjunction : Term → Bool
+is_conjunction (apply both ts) = true
+is_conjunction t = false
+
 -- `()`, the tuple of no parts
 abbrev pub unit : Term
 unit = apply (made Tuple) no_terms

@@ -1,12 +1,12 @@
 -- The parts of a term are smaller than it.
-use Rattle.std.specs.Prelude.{◌≡◌, ℕ, zero, suc, ◌+◌, ◌*◌, ◌≤◌, ◌<◌, length, get_or, max, List, [], ◌∷◌}
+use Rattle.std.specs.Prelude.{◌≡◌, ℕ, zero, suc, ◌+◌, ◌≤◌, ◌<◌, length, get_or, max, List, [], ◌∷◌}
 use Rattle.std.proofs.Common.{arith, refl, sym, ap, ◌∙◌}
-use denote.Param.Weighed.{most, w_this}
+use denote.Param.Weighed.{most}
 use Rattle.logic_term.specs.Term.{Term, Terms, no_terms, and_term}
 use Rattle.logic_term.specs.TermView.{term_of, term_size, terms_size, terms_of}
 use Rattle.logic_term.specs.declared.term.TermNode.{TermNode}
 use Rattle.logic_term.specs.declared.term.TermNode.TheVariants as node
-use Rattle.logic_term.specs.declared.term.Term.TheDeep.{deep-TermNode, size-Term}
+use Rattle.logic_term.specs.declared.term.Term.TheDeep.{deep-TermNode}
 
 most_terms : (ts : List Term) → most (λ t. term_size t + 1) ts ≤ terms_size (terms_of ts)
 most_terms [] = omega arith
@@ -37,24 +37,6 @@ falls (node.Var x) = omega arith
 falls (node.Lit z s) = omega arith
 falls (node.Truth b) = omega arith
 falls (node.Make c ts) = omega (arith, most_terms ts.items)
-falls (node.Model a) = omega arith
-falls (node.Arith op a b) = omega arith
-falls (node.Neg a) = omega arith
-falls (node.Less a b) = omega arith
-falls (node.AtMost a b) = omega arith
-falls (node.Equal a b) = omega arith
-falls (node.Not a) = omega arith
-falls (node.And a b) = omega arith
-falls (node.Or a b) = omega arith
-falls (node.Implies a b) = omega arith
+falls (node.Unary op a) = omega arith
+falls (node.Binary op a b) = omega arith
 falls (node.Forall x s a) = omega arith
-
-weighed : (t : Term) → size-Term t ≤ 2 * (term_size t + 1)
-weighed t = omega arith
-
-weigh : (ts : List Term) → most (w_this.weight Term size-Term) ts ≤ 2 * most (w_this.weight Term (λ t. term_size t + 1)) ts
-weigh [] = omega arith
-weigh (t ∷ ts) = omega (arith, weighed t, weigh ts)
-
-pub made_weighs : (n : TermNode) (c : _) (ts : _) (t : ℕ) → n ≡ node.Make c ts → 2 * deep-TermNode n + 1 ≡ t → most (w_this.weight Term size-Term) ts.items < t
-made_weighs n c ts t e d = rw (sym d) (rw e (omega (arith, weigh ts.items)))

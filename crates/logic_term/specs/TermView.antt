@@ -1,6 +1,7 @@
 -- The terms that nodes stand for, and how deep terms are.
 use Rattle.std.specs.Prelude.{ℕ, suc, max, List, [], ◌∷◌}
-use Rattle.logic_term.specs.Term.{made, Term, Terms, var, lit, truth, apply, bind, no_terms, and_term, model, negative, not, calculate, is_less, is_at_most, is_equal, and, or, implies, forall}
+use Rattle.logic_term.specs.Term.{made, Term, Terms, var, lit, truth, apply, bind, no_terms, and_term, one, two, forall}
+use Rattle.logic_term.specs.TermOperator.{unary_operator, binary_operator}
 use Rattle.logic_term.specs.declared.term.TermNode.{TermNode}
 use Rattle.logic_term.specs.declared.term.TermNode.TheVariants as node
 
@@ -13,17 +14,9 @@ term_of (node.Var x) = var x
 term_of (node.Lit z s) = lit z s
 term_of (node.Truth b) = truth b
 term_of (node.Make c ts) = apply (made c) (terms_of ts.items)
-term_of (node.Model a) = model a.value
-term_of (node.Arith op a b) = calculate op a.value b.value
-term_of (node.Neg a) = negative a.value
-term_of (node.Less a b) = is_less a.value b.value
-term_of (node.AtMost a b) = is_at_most a.value b.value
-term_of (node.Equal a b) = is_equal a.value b.value
-term_of (node.Not a) = not a.value
-term_of (node.And a b) = and a.value b.value
-term_of (node.Or a b) = or a.value b.value
-term_of (node.Implies a b) = implies a.value b.value
-term_of (node.Forall x s a) = forall x s a.value
+term_of (node.Unary op a) = one (unary_operator op) a
+term_of (node.Binary op a b) = two (binary_operator op) a b
+term_of (node.Forall x s a) = forall x s a
 
 abbrev mutual
   pub term_size : Term → ℕ

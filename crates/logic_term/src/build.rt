@@ -1,9 +1,10 @@
 ghost use Rattle.std.specs.Prelude.{◌≡◌, IfOk};
 ghost use Rattle.logic_term.specs.Ty.{math_int};
 ghost use Rattle.logic_term.specs.TermView.{terms_of};
-ghost use Rattle.logic_term.specs.Term.{apply, made, var, lit, truth, unit, model, negative, not, calculate, is_less, is_at_most, is_equal, and, or, implies, forall};
+ghost use Rattle.logic_term.specs.TermOperator.{unary_operator, binary_operator};
+ghost use Rattle.logic_term.specs.Term.{apply, one, two, made, var, lit, truth, unit, model, negative, not, calculate, is_less, is_at_most, is_equal, and, or, implies, forall};
 
-use crate::kinds::{ArithOp, Ctor};
+use crate::kinds::{ArithOp, Ctor, TermBinary, TermUnary};
 use crate::term::{Sort, Term, TermNode};
 use crate::ty::Ty;
 use std::alloc::Global;
@@ -11,127 +12,122 @@ use text_core::{Name, NoMemory};
 
 /// Terms of parts, which are moved into them.
 impl Term {
-    pub fn var(name: Name) -> Term
-        ensures { result ≡ var name }
+    pub fn var(alloc: Global, name: Name) -> Result<Term, NoMemory>
+        ensures { IfOk result (λ t. t ≡ var name) }
     {
-        Term {
-            node: TermNode::Var(name),
-        }
+        Term::of(alloc, TermNode::Var(name))
     }
 
-    pub fn lit(number: i128, sort: Sort) -> Term
-        ensures { result ≡ lit number sort }
+    pub fn lit(alloc: Global, number: i128, sort: Sort) -> Result<Term, NoMemory>
+        ensures { IfOk result (λ t. t ≡ lit number sort) }
     {
-        Term {
-            node: TermNode::Lit(number, sort),
-        }
+        Term::of(alloc, TermNode::Lit(number, sort))
     }
 
     /// An unbounded integer.
-    pub fn integer(number: i128) -> Term
-        ensures { result ≡ lit number math_int }
+    pub fn integer(alloc: Global, number: i128) -> Result<Term, NoMemory>
+        ensures { IfOk result (λ t. t ≡ lit number math_int) }
     {
-        Term::lit(number, Ty::math_int())
+        Term::lit(alloc, number, Ty::math_int())
     }
 
-    pub fn truth(holds: bool) -> Term
-        ensures { result ≡ truth holds }
+    pub fn truth(alloc: Global, holds: bool) -> Result<Term, NoMemory>
+        ensures { IfOk result (λ t. t ≡ truth holds) }
     {
-        Term {
-            node: TermNode::Truth(holds),
-        }
+        Term::of(alloc, TermNode::Truth(holds))
     }
 
     /// A value made of parts.
-    pub fn made(ctor: Ctor, parts: Vec<Term>) -> Term
-        ensures { result ≡ apply (made ctor) (terms_of parts.items) }
+    pub fn made(alloc: Global, ctor: Ctor, parts: Vec<Term>) -> Result<Term, NoMemory>
+        ensures { IfOk result (λ t. t ≡ apply (made ctor) (terms_of parts.items)) }
     {
-        Term {
-            node: TermNode::Make(ctor, parts),
-        }
+        Term::of(alloc, TermNode::Make(ctor, parts))
     }
 
     /// `()`, the tuple of no parts.
-    pub fn unit(alloc: Global) -> Term
-        ensures { result ≡ unit }
+    pub fn unit(alloc: Global) -> Result<Term, NoMemory>
+        ensures { IfOk result (λ t. t ≡ unit) }
     {
-        Term::made(Ctor::Tuple, Vec::new(alloc))
+        Term::made(alloc, Ctor::Tuple, Vec::new(alloc))
+    }
+
+    /// The operator at the term.
+    pub fn unary(alloc: Global, op: TermUnary, t: Term) -> Result<Term, NoMemory>
+        ensures { IfOk result (λ m. m ≡ one (unary_operator op) t) }
+    {
+        Term::of(alloc, TermNode::Unary(op, t))
+    }
+
+    /// The operator at both terms.
+    pub fn binary(alloc: Global, op: TermBinary, a: Term, b: Term) -> Result<Term, NoMemory>
+        ensures { IfOk result (λ t. t ≡ two (binary_operator op) a b) }
+    {
+        Term::of(alloc, TermNode::Binary(op, a, b))
     }
 
     pub fn model(alloc: Global, t: Term) -> Result<Term, NoMemory>
         ensures { IfOk result (λ m. m ≡ model t) }
     {
-        let node = TermNode::Model(Box::new(alloc, t)?);
-        Ok(Term { node })
+        Term::unary(alloc, TermUnary::Model, t)
     }
 
     pub fn negative(alloc: Global, t: Term) -> Result<Term, NoMemory>
         ensures { IfOk result (λ m. m ≡ negative t) }
     {
-        let node = TermNode::Neg(Box::new(alloc, t)?);
-        Ok(Term { node })
+        Term::unary(alloc, TermUnary::Negative, t)
     }
 
     pub fn not(alloc: Global, t: Term) -> Result<Term, NoMemory>
         ensures { IfOk result (λ m. m ≡ not t) }
     {
-        let node = TermNode::Not(Box::new(alloc, t)?);
-        Ok(Term { node })
+        Term::unary(alloc, TermUnary::Not, t)
     }
 
     pub fn calculate(alloc: Global, op: ArithOp, a: Term, b: Term) -> Result<Term, NoMemory>
         ensures { IfOk result (λ t. t ≡ calculate op a b) }
     {
-        let node = TermNode::Arith(op, Box::new(alloc, a)?, Box::new(alloc, b)?);
-        Ok(Term { node })
+        Term::binary(alloc, TermBinary::Arith(op), a, b)
     }
 
     pub fn less(alloc: Global, a: Term, b: Term) -> Result<Term, NoMemory>
         ensures { IfOk result (λ t. t ≡ is_less a b) }
     {
-        let node = TermNode::Less(Box::new(alloc, a)?, Box::new(alloc, b)?);
-        Ok(Term { node })
+        Term::binary(alloc, TermBinary::Less, a, b)
     }
 
     pub fn at_most(alloc: Global, a: Term, b: Term) -> Result<Term, NoMemory>
         ensures { IfOk result (λ t. t ≡ is_at_most a b) }
     {
-        let node = TermNode::AtMost(Box::new(alloc, a)?, Box::new(alloc, b)?);
-        Ok(Term { node })
+        Term::binary(alloc, TermBinary::AtMost, a, b)
     }
 
     pub fn equal(alloc: Global, a: Term, b: Term) -> Result<Term, NoMemory>
         ensures { IfOk result (λ t. t ≡ is_equal a b) }
     {
-        let node = TermNode::Equal(Box::new(alloc, a)?, Box::new(alloc, b)?);
-        Ok(Term { node })
+        Term::binary(alloc, TermBinary::Equal, a, b)
     }
 
     pub fn and(alloc: Global, a: Term, b: Term) -> Result<Term, NoMemory>
         ensures { IfOk result (λ t. t ≡ and a b) }
     {
-        let node = TermNode::And(Box::new(alloc, a)?, Box::new(alloc, b)?);
-        Ok(Term { node })
+        Term::binary(alloc, TermBinary::And, a, b)
     }
 
     pub fn or(alloc: Global, a: Term, b: Term) -> Result<Term, NoMemory>
         ensures { IfOk result (λ t. t ≡ or a b) }
     {
-        let node = TermNode::Or(Box::new(alloc, a)?, Box::new(alloc, b)?);
-        Ok(Term { node })
+        Term::binary(alloc, TermBinary::Or, a, b)
     }
 
     pub fn implies(alloc: Global, a: Term, b: Term) -> Result<Term, NoMemory>
         ensures { IfOk result (λ t. t ≡ implies a b) }
     {
-        let node = TermNode::Implies(Box::new(alloc, a)?, Box::new(alloc, b)?);
-        Ok(Term { node })
+        Term::binary(alloc, TermBinary::Implies, a, b)
     }
 
     pub fn forall(alloc: Global, name: Name, sort: Sort, body: Term) -> Result<Term, NoMemory>
         ensures { IfOk result (λ t. t ≡ forall name sort body) }
     {
-        let node = TermNode::Forall(name, sort, Box::new(alloc, body)?);
-        Ok(Term { node })
+        Term::of(alloc, TermNode::Forall(name, sort, body))
     }
 }

@@ -42,21 +42,13 @@ impl Term {
     fn above_free(&self, alloc: Global, bound: &[Name]) -> Result<u64, NoMemory>
         ensures { IfOk result (λ n. n ≡ above_free bound.now self.now) }
     {
-        match &self.node {
+        match &*self.node {
             TermNode::Var(name) => above_name(*name, bound),
             TermNode::Lit(_, _) => Ok(0),
             TermNode::Truth(_) => Ok(0),
             TermNode::Make(_, parts) => all_above_free(alloc, parts, bound),
-            TermNode::Model(t) => t.above_free(alloc, bound),
-            TermNode::Arith(_, a, b) => both_above_free(alloc, a, b, bound),
-            TermNode::Neg(t) => t.above_free(alloc, bound),
-            TermNode::Less(a, b) => both_above_free(alloc, a, b, bound),
-            TermNode::AtMost(a, b) => both_above_free(alloc, a, b, bound),
-            TermNode::Equal(a, b) => both_above_free(alloc, a, b, bound),
-            TermNode::Not(t) => t.above_free(alloc, bound),
-            TermNode::And(a, b) => both_above_free(alloc, a, b, bound),
-            TermNode::Or(a, b) => both_above_free(alloc, a, b, bound),
-            TermNode::Implies(a, b) => both_above_free(alloc, a, b, bound),
+            TermNode::Unary(_, t) => t.above_free(alloc, bound),
+            TermNode::Binary(_, a, b) => both_above_free(alloc, a, b, bound),
             TermNode::Forall(name, _, t) => {
                 let inner = with_name(alloc, *name, bound)?;
                 t.above_free(alloc, inner.as_slice())

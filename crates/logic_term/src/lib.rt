@@ -12,15 +12,17 @@ mod term;
 mod ty;
 
 pub use kinds::{
-    AdtId, ArithOp, BinaryOp, Ctor, FnKind, IntKind, Label, Label2, LogicFn, Region, TraitId,
+    AdtId, ArithOp, BinaryOp, Ctor, FnKind, IntKind, Label, Label2, LogicFn, Region, TermBinary,
+    TermUnary, TraitId, TyUnary,
 };
 pub use laws::{
-    bound_names_do_not_count, canonical_forms_keep_values, free_names_alone_count, normal_forms_keep_values,
-    other_names_do_not_count, put_terms_count_as_values, truth_of_comparisons,
-    truth_of_connectives, truth_of_forall, values_are_single, values_are_sure, values_of_made,
+    bound_names_do_not_count, canonical_forms_keep_values, free_names_alone_count,
+    normal_forms_keep_values, other_names_do_not_count, put_terms_count_as_values,
+    truth_of_comparisons, truth_of_connectives, truth_of_forall, values_are_single,
+    values_are_sure, values_of_made,
 };
 pub use normal::reduce;
 pub use obligation::{Bounds, Contract, Instance, Obligation};
 pub use subst::{Renaming, Replacement};
 pub use term::{Sort, Term, TermNode};
-pub use ty::{FnBound, Ty, TyNode, copy_types, same_types};
+pub use ty::{CompoundTy, FnBound, Ty, TyNode, copy_types, same_types};

@@ -1,10 +1,12 @@
 ghost use Rattle.std.specs.Prelude.{◌≡◌, ◌↔◌, IfOk};
 ghost use Rattle.logic_term.specs.Term.{modeled, no_terms, and_term};
 ghost use Rattle.logic_term.specs.TermView.{terms_of};
+ghost use Rattle.logic_term.specs.TermOperator.{unary_operator, binary_operator};
 ghost use Rattle.logic_term.specs.Normal.{simplified, reduced, all_reduced};
 ghost use Rattle.logic_term.specs.Laws.{HasValuesOf};
 
-use crate::term::{Term, TermNode};
+use crate::kinds::{TermBinary, TermUnary};
+use crate::term::{Term, TermNode, literal, quantified};
 use crate::ty::TyNode;
 use std::alloc::Global;
 use text_core::NoMemory;
@@ -13,14 +15,31 @@ use text_core::NoMemory;
 fn model_of(alloc: Global, t: Term) -> Result<Term, NoMemory>
     ensures { IfOk result (λ m. m ≡ simplified modeled (and_term t no_terms)) }
 {
-    if let TermNode::Lit(number, sort) = &t.node
+    if let TermNode::Lit(number, sort) = &*t.node
         && let TyNode::Int(_) = &sort.node
     {
-        return Ok(Term::integer(*number));
+        return Term::integer(alloc, *number);
     }
-    Ok(Term {
-        node: TermNode::Model(Box::new(alloc, t)?),
-    })
+    Term::model(alloc, t)
+}
+
+/// The operator at a term in normal form.
+fn unary_form(alloc: Global, op: TermUnary, t: Term) -> Result<Term, NoMemory>
+    ensures { IfOk result (λ r. r ≡ simplified (unary_operator op) (and_term t no_terms)) }
+{
+    match op {
+        TermUnary::Model => model_of(alloc, t),
+        TermUnary::Negative => Term::negative(alloc, t),
+        TermUnary::Not => Term::not(alloc, t),
+    }
+}
+
+/// The operator at terms in normal form.
+#[tactic(auto, using(crate::proofs::Reduction::two_simplified))]
+fn binary_form(alloc: Global, op: TermBinary, a: Term, b: Term) -> Result<Term, NoMemory>
+    ensures { IfOk result (λ r. r ≡ simplified (binary_operator op) (and_term a (and_term b no_terms))) }
+{
+    Term::binary(alloc, op, a, b)
 }
 
 /// The normal form of the term: `@` of a literal is the unbounded integer. It has the values of the term, whatever the
@@ -36,55 +55,20 @@ pub fn reduce(alloc: Global, t: &Term) -> Result<Term, NoMemory>
 fn normal_form(alloc: Global, t: &Term) -> Result<Term, NoMemory>
     ensures { IfOk result (λ r. r ≡ reduced t.now) }
 {
-    let node = match &t.node {
-        TermNode::Var(name) => TermNode::Var(*name),
-        TermNode::Lit(number, sort) => TermNode::Lit(*number, sort.copy(alloc)?),
-        TermNode::Truth(holds) => TermNode::Truth(*holds),
-        TermNode::Make(ctor, parts) => TermNode::Make(*ctor, normal_forms(alloc, parts)?),
-        TermNode::Model(a) => return model_of(alloc, normal_form(alloc, a)?),
-        TermNode::Arith(op, a, b) => {
-            TermNode::Arith(
-                *op,
-                normal_form_boxed(alloc, a)?,
-                normal_form_boxed(alloc, b)?,
-            )
-        }
-        TermNode::Neg(a) => TermNode::Neg(normal_form_boxed(alloc, a)?),
-        TermNode::Less(a, b) => TermNode::Less(
-            normal_form_boxed(alloc, a)?,
-            normal_form_boxed(alloc, b)?,
-        ),
-        TermNode::AtMost(a, b) => {
-            TermNode::AtMost(normal_form_boxed(alloc, a)?, normal_form_boxed(alloc, b)?)
-        }
-        TermNode::Equal(a, b) => TermNode::Equal(
-            normal_form_boxed(alloc, a)?,
-            normal_form_boxed(alloc, b)?,
-        ),
-        TermNode::Not(a) => TermNode::Not(normal_form_boxed(alloc, a)?),
-        TermNode::And(a, b) => TermNode::And(
-            normal_form_boxed(alloc, a)?,
-            normal_form_boxed(alloc, b)?,
-        ),
-        TermNode::Or(a, b) => TermNode::Or(
-            normal_form_boxed(alloc, a)?,
-            normal_form_boxed(alloc, b)?,
-        ),
-        TermNode::Implies(a, b) => {
-            TermNode::Implies(normal_form_boxed(alloc, a)?, normal_form_boxed(alloc, b)?)
+    match &*t.node {
+        TermNode::Var(name) => Term::var(alloc, *name),
+        TermNode::Lit(number, sort) => literal(alloc, *number, sort),
+        TermNode::Truth(holds) => Term::truth(alloc, *holds),
+        TermNode::Make(ctor, parts) => Term::made(alloc, *ctor, normal_forms(alloc, parts)?),
+        TermNode::Unary(op, a) => unary_form(alloc, *op, normal_form(alloc, a)?),
+        TermNode::Binary(op, a, b) => {
+            let a = normal_form(alloc, a)?;
+            binary_form(alloc, *op, a, normal_form(alloc, b)?)
         }
         TermNode::Forall(name, sort, a) => {
-            TermNode::Forall(*name, sort.copy(alloc)?, normal_form_boxed(alloc, a)?)
+            quantified(alloc, *name, sort, normal_form(alloc, a)?)
         }
-    };
-    Ok(Term { node })
-}
-
-#[cycle(normal_form)]
-fn normal_form_boxed(alloc: Global, t: &Term) -> Result<Box<Term>, NoMemory>
-    ensures { IfOk result (λ r. r.value ≡ reduced t.now) }
-{
-    Ok(Box::new(alloc, normal_form(alloc, t)?)?)
+    }
 }
 
 #[cycle(normal_form)]

@@ -3,12 +3,12 @@ ghost use Rattle.logic_term.specs.Free.{free, free_in_some};
 ghost use Rattle.logic_term.specs.TermView.{terms_of};
 ghost use Rattle.logic_term.specs.Subst.{above, all_above, look, subst, substs, subst_body, renaming, replaced, SameUpToNames};
 
-use crate::term::{Term, TermNode};
+use crate::term::{Term, TermNode, literal, quantified};
 use std::alloc::Global;
 use text_core::{Name, NoMemory};
 
 /// A bound name, and the name that it gets.
-#[derive(Clone, Copy, Debug, PartialEq, Eq)]
+#[derive(Clone, Copy)]
 pub struct Renaming {
     pub from: Name,
     pub to: Name,
@@ -44,9 +44,7 @@ fn entry_for(alloc: Global, name: Name, sub: &[Replacement]) -> Result<Term, NoM
             return sub[i].by.copy(alloc);
         }
     }
-    Ok(Term {
-        node: TermNode::Var(name),
-    })
+    Term::var(alloc, name)
 }
 
 /// The same, the renamings standing before the entries.
@@ -60,9 +58,7 @@ fn looked_up(
 {
     for i in 0..renamings.len() {
         if name.0 == renamings[i].from.0 {
-            return Ok(Term {
-                node: TermNode::Var(renamings[i].to),
-            });
+            return Term::var(alloc, renamings[i].to);
         }
     }
     entry_for(alloc, name, sub)
@@ -74,21 +70,13 @@ impl Term {
     pub fn free_in(&self, name: Name) -> bool
         ensures { result ≡ free name self.now }
     {
-        match &self.node {
+        match &*self.node {
             TermNode::Var(other) => name.0 == other.0,
             TermNode::Lit(_, _) => false,
             TermNode::Truth(_) => false,
             TermNode::Make(_, parts) => free_in_any(name, parts),
-            TermNode::Model(t) => t.free_in(name),
-            TermNode::Arith(_, a, b) => a.free_in(name) || b.free_in(name),
-            TermNode::Neg(t) => t.free_in(name),
-            TermNode::Less(a, b) => a.free_in(name) || b.free_in(name),
-            TermNode::AtMost(a, b) => a.free_in(name) || b.free_in(name),
-            TermNode::Equal(a, b) => a.free_in(name) || b.free_in(name),
-            TermNode::Not(t) => t.free_in(name),
-            TermNode::And(a, b) => a.free_in(name) || b.free_in(name),
-            TermNode::Or(a, b) => a.free_in(name) || b.free_in(name),
-            TermNode::Implies(a, b) => a.free_in(name) || b.free_in(name),
+            TermNode::Unary(_, t) => t.free_in(name),
+            TermNode::Binary(_, a, b) => a.free_in(name) || b.free_in(name),
             TermNode::Forall(other, _, t) => name.0 != other.0 && t.free_in(name),
         }
     }
@@ -98,21 +86,13 @@ impl Term {
     pub fn above(&self) -> Result<u64, NoMemory>
         ensures { IfOk result (λ n. n ≡ above self.now) }
     {
-        match &self.node {
+        match &*self.node {
             TermNode::Var(name) => name.0.checked_add(1).ok_or(NoMemory),
             TermNode::Lit(_, _) => Ok(0),
             TermNode::Truth(_) => Ok(0),
             TermNode::Make(_, parts) => above_all(parts),
-            TermNode::Model(t) => t.above(),
-            TermNode::Arith(_, a, b) => above_both(a, b),
-            TermNode::Neg(t) => t.above(),
-            TermNode::Less(a, b) => above_both(a, b),
-            TermNode::AtMost(a, b) => above_both(a, b),
-            TermNode::Equal(a, b) => above_both(a, b),
-            TermNode::Not(t) => t.above(),
-            TermNode::And(a, b) => above_both(a, b),
-            TermNode::Or(a, b) => above_both(a, b),
-            TermNode::Implies(a, b) => above_both(a, b),
+            TermNode::Unary(_, t) => t.above(),
+            TermNode::Binary(_, a, b) => above_both(a, b),
             TermNode::Forall(name, _, t) => {
                 let outer = name.0.checked_add(1).ok_or(NoMemory)?;
                 let inner = t.above()?;
@@ -133,66 +113,27 @@ impl Term {
     ) -> Result<Term, NoMemory>
         ensures { IfOk result (λ t. t ≡ subst next (map renaming renamings.now ++ sub.now) self.now) }
     {
-        let node = match &self.node {
-            TermNode::Var(name) => return looked_up(alloc, *name, renamings, sub),
-            TermNode::Lit(number, sort) => TermNode::Lit(*number, sort.copy(alloc)?),
-            TermNode::Truth(holds) => TermNode::Truth(*holds),
+        match &*self.node {
+            TermNode::Var(name) => looked_up(alloc, *name, renamings, sub),
+            TermNode::Lit(number, sort) => literal(alloc, *number, sort),
+            TermNode::Truth(holds) => Term::truth(alloc, *holds),
             TermNode::Make(ctor, parts) => {
                 let parts = subst_all(alloc, parts, next, renamings, sub)?;
-                return Ok(Term::made(*ctor, parts));
+                Term::made(alloc, *ctor, parts)
             }
-            TermNode::Model(t) => TermNode::Model(t.subst_boxed(alloc, next, renamings, sub)?),
-            TermNode::Arith(op, a, b) => TermNode::Arith(
-                *op,
-                a.subst_boxed(alloc, next, renamings, sub)?,
-                b.subst_boxed(alloc, next, renamings, sub)?,
-            ),
-            TermNode::Neg(t) => TermNode::Neg(t.subst_boxed(alloc, next, renamings, sub)?),
-            TermNode::Less(a, b) => TermNode::Less(
-                a.subst_boxed(alloc, next, renamings, sub)?,
-                b.subst_boxed(alloc, next, renamings, sub)?,
-            ),
-            TermNode::AtMost(a, b) => TermNode::AtMost(
-                a.subst_boxed(alloc, next, renamings, sub)?,
-                b.subst_boxed(alloc, next, renamings, sub)?,
-            ),
-            TermNode::Equal(a, b) => TermNode::Equal(
-                a.subst_boxed(alloc, next, renamings, sub)?,
-                b.subst_boxed(alloc, next, renamings, sub)?,
-            ),
-            TermNode::Not(t) => TermNode::Not(t.subst_boxed(alloc, next, renamings, sub)?),
-            TermNode::And(a, b) => TermNode::And(
-                a.subst_boxed(alloc, next, renamings, sub)?,
-                b.subst_boxed(alloc, next, renamings, sub)?,
-            ),
-            TermNode::Or(a, b) => TermNode::Or(
-                a.subst_boxed(alloc, next, renamings, sub)?,
-                b.subst_boxed(alloc, next, renamings, sub)?,
-            ),
-            TermNode::Implies(a, b) => TermNode::Implies(
-                a.subst_boxed(alloc, next, renamings, sub)?,
-                b.subst_boxed(alloc, next, renamings, sub)?,
-            ),
+            TermNode::Unary(op, t) => {
+                Term::unary(alloc, *op, t.subst(alloc, next, renamings, sub)?)
+            }
+            TermNode::Binary(op, a, b) => {
+                let a = a.subst(alloc, next, renamings, sub)?;
+                let b = b.subst(alloc, next, renamings, sub)?;
+                Term::binary(alloc, *op, a, b)
+            }
             TermNode::Forall(name, sort, t) => {
-                let sort = sort.copy(alloc)?;
                 let body = t.subst_under(alloc, *name, next, renamings, sub)?;
-                TermNode::Forall(Name(next), sort, body)
+                quantified(alloc, Name(next), sort, body)
             }
-        };
-        Ok(Term { node })
-    }
-
-    #[cycle(subst)]
-    fn subst_boxed(
-        &self,
-        alloc: Global,
-        next: u64,
-        renamings: &[Renaming],
-        sub: &[Replacement],
-    ) -> Result<Box<Term>, NoMemory>
-        ensures { IfOk result (λ t. t.value ≡ subst next (map renaming renamings.now ++ sub.now) self.now) }
-    {
-        Ok(Box::new(alloc, self.subst(alloc, next, renamings, sub)?)?)
+        }
     }
 
     /// The body of a quantifier over the name, which gets the number `next`.
@@ -204,13 +145,13 @@ impl Term {
         next: u64,
         renamings: &[Renaming],
         sub: &[Replacement],
-    ) -> Result<Box<Term>, NoMemory>
-        ensures { IfOk result (λ t. t.value ≡ subst_body next from (map renaming renamings.now ++ sub.now) self.now) }
+    ) -> Result<Term, NoMemory>
+        ensures { IfOk result (λ t. t ≡ subst_body next from (map renaming renamings.now ++ sub.now) self.now) }
     {
         let to = Name(next);
         let inner = with_renaming(alloc, Renaming { from, to }, renamings)?;
         let after = next.checked_add(1).ok_or(NoMemory)?;
-        self.subst_boxed(alloc, after, inner.as_slice(), sub)
+        self.subst(alloc, after, inner.as_slice(), sub)
     }
 
     /// The term with another for the name; no name is captured.

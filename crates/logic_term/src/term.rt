@@ -1,8 +1,8 @@
-ghost use Rattle.std.specs.Prelude.{◌≡◌, ◌↔◌, false, IfOk, IfErr, IsTrue};
-ghost use Rattle.logic_term.specs.Term.{implies, is_implication};
+ghost use Rattle.std.specs.Prelude.{◌≡◌, ◌↔◌, false, IfOk, IfErr, IsTrue, MatchOption};
+ghost use Rattle.logic_term.specs.Term.{lit, forall, and, implies, is_conjunction, is_implication};
 ghost use Rattle.logic_term.specs.TermView.{term_of};
 
-use crate::kinds::{ArithOp, Ctor};
+use crate::kinds::{Ctor, TermBinary, TermUnary};
 use crate::ty::Ty;
 use std::alloc::Global;
 use std::marker::Model;
@@ -15,11 +15,12 @@ pub type Sort = Ty;
 #[cycle(term)]
 #[derive(Drop)]
 pub struct Term {
-    pub node: TermNode,
+    pub node: Box<TermNode>,
 }
 
 /// What a term is at its top.
 #[cycle(term)]
+#[derive(Drop)]
 pub enum TermNode {
     Var(Name),
     /// An integer of a machine type, or of the unbounded integers.
@@ -27,42 +28,9 @@ pub enum TermNode {
     Truth(bool),
     /// A value made of parts.
     Make(Ctor, Vec<Term>),
-    /// The unbounded integer of a machine integer, written `t@`.
-    Model(Box<Term>),
-    Arith(ArithOp, Box<Term>, Box<Term>),
-    Neg(Box<Term>),
-    Less(Box<Term>, Box<Term>),
-    AtMost(Box<Term>, Box<Term>),
-    Equal(Box<Term>, Box<Term>),
-    Not(Box<Term>),
-    And(Box<Term>, Box<Term>),
-    Or(Box<Term>, Box<Term>),
-    Implies(Box<Term>, Box<Term>),
-    Forall(Name, Sort, Box<Term>),
-}
-
-// By hand, so that whoever holds one drops it by a call (docs/architecture.md).
-impl Drop for TermNode {
-    #[cycle(term)]
-    fn drop(self) {
-        match self {
-            TermNode::Var(_)
-            | TermNode::Lit(_, _)
-            | TermNode::Truth(_)
-            | TermNode::Make(_, _)
-            | TermNode::Model(_)
-            | TermNode::Arith(_, _, _)
-            | TermNode::Neg(_)
-            | TermNode::Less(_, _)
-            | TermNode::AtMost(_, _)
-            | TermNode::Equal(_, _)
-            | TermNode::Not(_)
-            | TermNode::And(_, _)
-            | TermNode::Or(_, _)
-            | TermNode::Implies(_, _)
-            | TermNode::Forall(_, _, _) => {}
-        }
-    }
+    Unary(TermUnary, Term),
+    Binary(TermBinary, Term, Term),
+    Forall(Name, Sort, Term),
 }
 
 impl Model for Term {
@@ -75,37 +43,58 @@ impl Model for Term {
 
     ghost use Rattle.logic_term.specs.TermView.{term_of, term_size};
 
-    ghost view = { λ t. term_of t.node };
+    ghost view = { λ t. term_of t.node.value };
 
     ghost size = { term_size };
 
     ghost use Rattle.logic_term.specs.TermFalls.{falls};
 
-    ghost size_decreases = { λ a h. falls a.node };
-}
-
-impl TermNode {
-    fn into_implication(self) -> Result<(Box<Term>, Box<Term>), TermNode>
-        ensures ok { IfOk result (λ p. term_of self ≡ implies p.0.value p.1.value) }
-        ensures other { IfErr result (λ n. (n ≡ self) × (is_implication (term_of self) ≡ false)) }
-    {
-        match self {
-            TermNode::Implies(a, b) => Ok((a, b)),
-            node => Err(node),
-        }
-    }
+    ghost size_decreases = { λ a h. falls a.node.value };
 }
 
 impl Term {
+    /// The term with this at its top.
+    pub fn of(alloc: Global, node: TermNode) -> Result<Term, NoMemory>
+        ensures { IfOk result (λ t. t ≡ term_of node) }
+    {
+        let node = Box::new(alloc, node)?;
+        Ok(Term { node })
+    }
+
+    pub fn is_implication(&self) -> bool
+        ensures { result ≡ is_implication self.now }
+    {
+        matches!(&*self.node, TermNode::Binary(TermBinary::Implies, _, _))
+    }
+
+    pub fn is_conjunction(&self) -> bool
+        ensures { result ≡ is_conjunction self.now }
+    {
+        matches!(&*self.node, TermNode::Binary(TermBinary::And, _, _))
+    }
+
+    /// Both sides of a conjunction.
+    pub fn as_conjunction(&self) -> Option<(&Term, &Term)>
+        ensures { MatchOption result (is_conjunction self.now ≡ false) (λ p. self.now ≡ and p.0.now p.1.now) }
+    {
+        match &*self.node {
+            TermNode::Binary(TermBinary::And, a, b) => Some((a, b)),
+            _ => None,
+        }
+    }
+
     /// The premise and the conclusion of an implication. Any other term comes back as the error.
     pub fn into_implication(self) -> Result<(Term, Term), Term>
         ensures ok { IfOk result (λ p. self ≡ implies p.0 p.1) }
         ensures other { IfErr result (λ t. (t ≡ self) × (is_implication self ≡ false)) }
     {
+        if !self.is_implication() {
+            return Err(self);
+        }
         let Term { node } = self;
-        match node.into_implication() {
-            Ok((a, b)) => Ok((Box::into_inner(a), Box::into_inner(b))),
-            Err(node) => Err(Term { node }),
+        match Box::into_inner(node) {
+            TermNode::Binary(TermBinary::Implies, a, b) => Ok((a, b)),
+            _ => unreachable!(),
         }
     }
 
@@ -114,38 +103,17 @@ impl Term {
     pub fn copy(&self, alloc: Global) -> Result<Term, NoMemory>
         ensures { IfOk result (λ t. t ≡ self.now) }
     {
-        let node = match &self.node {
-            TermNode::Var(name) => TermNode::Var(*name),
-            TermNode::Lit(number, sort) => TermNode::Lit(*number, sort.copy(alloc)?),
-            TermNode::Truth(holds) => TermNode::Truth(*holds),
-            TermNode::Make(ctor, parts) => TermNode::Make(*ctor, copy_terms(alloc, parts)?),
-            TermNode::Model(t) => TermNode::Model(t.copy_boxed(alloc)?),
-            TermNode::Arith(op, a, b) => {
-                TermNode::Arith(*op, a.copy_boxed(alloc)?, b.copy_boxed(alloc)?)
+        match &*self.node {
+            TermNode::Var(name) => Term::var(alloc, *name),
+            TermNode::Lit(number, sort) => literal(alloc, *number, sort),
+            TermNode::Truth(holds) => Term::truth(alloc, *holds),
+            TermNode::Make(ctor, parts) => Term::made(alloc, *ctor, copy_terms(alloc, parts)?),
+            TermNode::Unary(op, t) => Term::unary(alloc, *op, t.copy(alloc)?),
+            TermNode::Binary(op, a, b) => {
+                Term::binary(alloc, *op, a.copy(alloc)?, b.copy(alloc)?)
             }
-            TermNode::Neg(t) => TermNode::Neg(t.copy_boxed(alloc)?),
-            TermNode::Less(a, b) => TermNode::Less(a.copy_boxed(alloc)?, b.copy_boxed(alloc)?),
-            TermNode::AtMost(a, b) => TermNode::AtMost(a.copy_boxed(alloc)?, b.copy_boxed(alloc)?),
-            TermNode::Equal(a, b) => TermNode::Equal(a.copy_boxed(alloc)?, b.copy_boxed(alloc)?),
-            TermNode::Not(t) => TermNode::Not(t.copy_boxed(alloc)?),
-            TermNode::And(a, b) => TermNode::And(a.copy_boxed(alloc)?, b.copy_boxed(alloc)?),
-            TermNode::Or(a, b) => TermNode::Or(a.copy_boxed(alloc)?, b.copy_boxed(alloc)?),
-            TermNode::Implies(a, b) => TermNode::Implies(
-                a.copy_boxed(alloc)?,
-                b.copy_boxed(alloc)?,
-            ),
-            TermNode::Forall(name, sort, t) => {
-                TermNode::Forall(*name, sort.copy(alloc)?, t.copy_boxed(alloc)?)
-            }
-        };
-        Ok(Term { node })
-    }
-
-    #[cycle(copy)]
-    fn copy_boxed(&self, alloc: Global) -> Result<Box<Term>, NoMemory>
-        ensures { IfOk result (λ t. t.value ≡ self.now) }
-    {
-        Ok(Box::new(alloc, self.copy(alloc)?)?)
+            TermNode::Forall(name, sort, t) => quantified(alloc, *name, sort, t.copy(alloc)?),
+        }
     }
 
     /// Whether both are the same term, bound names and sorts included.
@@ -154,29 +122,42 @@ impl Term {
     pub fn same(&self, other: &Term) -> bool
         ensures { IsTrue result ↔ (self.now ≡ other.now) }
     {
-        match (&self.node, &other.node) {
+        match (&*self.node, &*other.node) {
             (TermNode::Var(x), TermNode::Var(y)) => x.0 == y.0,
             (TermNode::Lit(m, s), TermNode::Lit(n, q)) => m == n && s.same(q),
             (TermNode::Truth(a), TermNode::Truth(b)) => a == b,
             (TermNode::Make(c, ts), TermNode::Make(d, us)) => c == d && same_terms(ts, us),
-            (TermNode::Model(a), TermNode::Model(b)) => a.same(b),
-            (TermNode::Arith(o, a, b), TermNode::Arith(p, c, d)) => {
+            (TermNode::Unary(o, a), TermNode::Unary(p, b)) => o == p && a.same(b),
+            (TermNode::Binary(o, a, b), TermNode::Binary(p, c, d)) => {
                 o == p && a.same(c) && b.same(d)
             }
-            (TermNode::Neg(a), TermNode::Neg(b)) => a.same(b),
-            (TermNode::Less(a, b), TermNode::Less(c, d)) => a.same(c) && b.same(d),
-            (TermNode::AtMost(a, b), TermNode::AtMost(c, d)) => a.same(c) && b.same(d),
-            (TermNode::Equal(a, b), TermNode::Equal(c, d)) => a.same(c) && b.same(d),
-            (TermNode::Not(a), TermNode::Not(b)) => a.same(b),
-            (TermNode::And(a, b), TermNode::And(c, d)) => a.same(c) && b.same(d),
-            (TermNode::Or(a, b), TermNode::Or(c, d)) => a.same(c) && b.same(d),
-            (TermNode::Implies(a, b), TermNode::Implies(c, d)) => a.same(c) && b.same(d),
             (TermNode::Forall(x, s, a), TermNode::Forall(y, q, b)) => {
                 x.0 == y.0 && s.same(q) && a.same(b)
             }
             _ => false,
         }
     }
+}
+
+/// The literal of a copy of the sort.
+pub(crate) fn literal(alloc: Global, number: i128, sort: &Sort) -> Result<Term, NoMemory>
+    ensures { IfOk result (λ t. t ≡ lit number sort.now) }
+{
+    let sort = sort.copy(alloc)?;
+    Term::lit(alloc, number, sort)
+}
+
+/// The universal formula over a copy of the sort.
+pub(crate) fn quantified(
+    alloc: Global,
+    name: Name,
+    sort: &Sort,
+    body: Term,
+) -> Result<Term, NoMemory>
+    ensures { IfOk result (λ t. t ≡ forall name sort.now body) }
+{
+    let sort = sort.copy(alloc)?;
+    Term::forall(alloc, name, sort, body)
 }
 
 #[cycle(copy)]

@@ -1,7 +1,8 @@
 ghost use Rattle.std.specs.Prelude.{◌≡◌, ◌↔◌, IfOk, IsTrue};
 ghost use Rattle.logic_term.specs.Ty.{int, bool, math_int, unit_ty};
+ghost use Rattle.logic_term.specs.TyView.{IsSameBound, closure_of, compound_of};
 
-use crate::kinds::{AdtId, FnKind, IntKind, Region};
+use crate::kinds::{AdtId, FnKind, IntKind, Region, TyUnary};
 use std::alloc::Global;
 use std::marker::Model;
 use text_core::NoMemory;
@@ -13,48 +14,30 @@ pub struct Ty {
     pub node: TyNode,
 }
 
-/// What a type is at its top.
+/// What a type is at its top. All that is large is behind one pointer, so that a type is small wherever it is held.
 #[cycle(ty)]
+#[derive(Drop)]
 pub enum TyNode {
     Int(IntKind),
     Bool,
     /// The unbounded integers of terms.
     MathInt,
     Tuple(Vec<Ty>),
-    /// A declared type at regions and types for its parameters.
-    Adt(AdtId, Vec<Region>, Vec<Ty>),
-    Boxed(Box<Ty>),
-    Shared(Region, Box<Ty>),
-    Unique(Region, Box<Ty>),
     /// A type parameter, by its number within the item.
     Param(u32),
-    /// A closure: its number, the types for the parameters of the item around it, the types of its captures, and its
-    /// signature.
-    Closure(u32, Vec<Ty>, Vec<Ty>, Box<FnBound>),
-    /// What `@` of a value of the type has as its type.
-    View(Box<Ty>),
-    Snapshot(Box<Ty>),
+    Compound(Box<CompoundTy>),
 }
 
-// By hand, so that whoever holds one drops it by a call (docs/architecture.md).
-impl Drop for TyNode {
-    #[cycle(ty)]
-    fn drop(self) {
-        match self {
-            TyNode::Int(_)
-            | TyNode::Bool
-            | TyNode::MathInt
-            | TyNode::Tuple(_)
-            | TyNode::Adt(_, _, _)
-            | TyNode::Boxed(_)
-            | TyNode::Shared(_, _)
-            | TyNode::Unique(_, _)
-            | TyNode::Param(_)
-            | TyNode::Closure(_, _, _, _)
-            | TyNode::View(_)
-            | TyNode::Snapshot(_) => {}
-        }
-    }
+/// What a type of other types is at its top, but for tuples.
+#[cycle(ty)]
+#[derive(Drop)]
+pub enum CompoundTy {
+    /// A declared type at regions and types for its parameters.
+    Adt(AdtId, Vec<Region>, Vec<Ty>),
+    Unary(TyUnary, Ty),
+    /// A closure: its number, the types for the parameters of the item around it, the types of its captures, and its
+    /// signature.
+    Closure(u32, Vec<Ty>, Vec<Ty>, FnBound),
 }
 
 /// How a value may be called, and at which types.
@@ -119,6 +102,14 @@ impl Ty {
         }
     }
 
+    /// The type with this at its top.
+    pub fn compound(alloc: Global, parts: CompoundTy) -> Result<Ty, NoMemory>
+        ensures { IfOk result (λ t. t ≡ compound_of parts) }
+    {
+        let node = TyNode::Compound(Box::new(alloc, parts)?);
+        Ok(Ty { node })
+    }
+
     #[cycle(copy_ty)]
     #[tactic(auto, using(crate::specs::TyFalls::each_smaller))]
     pub fn copy(&self, alloc: Global) -> Result<Ty, NoMemory>
@@ -129,32 +120,8 @@ impl Ty {
             TyNode::Bool => TyNode::Bool,
             TyNode::MathInt => TyNode::MathInt,
             TyNode::Tuple(parts) => TyNode::Tuple(copy_types(alloc, parts)?),
-            TyNode::Adt(adt, regions, types) => {
-                let regions = Vec::from_slice(alloc, regions)?;
-                TyNode::Adt(*adt, regions, copy_types(alloc, types)?)
-            }
-            TyNode::Boxed(t) => TyNode::Boxed(Box::new(alloc, t.copy(alloc)?)?),
-            TyNode::Shared(region, t) => TyNode::Shared(*region, Box::new(alloc, t.copy(alloc)?)?),
-            TyNode::Unique(region, t) => TyNode::Unique(*region, Box::new(alloc, t.copy(alloc)?)?),
             TyNode::Param(number) => TyNode::Param(*number),
-            TyNode::Closure(number, types, captures, bound) => {
-                let types = copy_types(alloc, types)?;
-                let captures = copy_types(alloc, captures)?;
-                let params = copy_types(alloc, &bound.params)?;
-                let result = bound.result.copy(alloc)?;
-                let kind = bound.kind;
-                let bound = Box::new(
-                    alloc,
-                    FnBound {
-                        kind,
-                        params,
-                        result,
-                    },
-                )?;
-                TyNode::Closure(*number, types, captures, bound)
-            }
-            TyNode::View(t) => TyNode::View(Box::new(alloc, t.copy(alloc)?)?),
-            TyNode::Snapshot(t) => TyNode::Snapshot(Box::new(alloc, t.copy(alloc)?)?),
+            TyNode::Compound(parts) => return parts.copied(alloc),
         };
         Ok(Ty { node })
     }
@@ -170,26 +137,96 @@ impl Ty {
             (TyNode::Bool, TyNode::Bool) => true,
             (TyNode::MathInt, TyNode::MathInt) => true,
             (TyNode::Tuple(a), TyNode::Tuple(b)) => same_types(a, b),
-            (TyNode::Adt(a, rs, ts), TyNode::Adt(b, qs, us)) => {
-                a == b && same_regions(rs, qs) && same_types(ts, us)
-            }
-            (TyNode::Boxed(a), TyNode::Boxed(b)) => a.same(b),
-            (TyNode::Shared(r, a), TyNode::Shared(q, b)) => r == q && a.same(b),
-            (TyNode::Unique(r, a), TyNode::Unique(q, b)) => r == q && a.same(b),
             (TyNode::Param(a), TyNode::Param(b)) => a == b,
-            (TyNode::Closure(n, ts, cs, a), TyNode::Closure(m, us, ds, b)) => {
-                n == m
-                    && same_types(ts, us)
-                    && same_types(cs, ds)
-                    && a.kind == b.kind
-                    && same_types(&a.params, &b.params)
-                    && a.result.same(&b.result)
-            }
-            (TyNode::View(a), TyNode::View(b)) => a.same(b),
-            (TyNode::Snapshot(a), TyNode::Snapshot(b)) => a.same(b),
+            (TyNode::Compound(a), TyNode::Compound(b)) => a.same(b),
             _ => false,
         }
     }
+}
+
+impl CompoundTy {
+    /// A copy of the type.
+    #[cycle(copy_ty)]
+    #[tactic(auto, using(crate::specs::TyFalls::each_smaller))]
+    fn copied(&self, alloc: Global) -> Result<Ty, NoMemory>
+        ensures { IfOk result (λ t. t ≡ compound_of self.now) }
+    {
+        match self {
+            CompoundTy::Adt(adt, regions, types) => {
+                let regions = Vec::from_slice(alloc, regions)?;
+                let types = copy_types(alloc, types)?;
+                Ty::compound(alloc, CompoundTy::Adt(*adt, regions, types))
+            }
+            CompoundTy::Unary(op, t) => {
+                let t = t.copy(alloc)?;
+                Ty::compound(alloc, CompoundTy::Unary(*op, t))
+            }
+            CompoundTy::Closure(number, types, captures, bound) => {
+                copied_closure(alloc, *number, types, captures, bound)
+            }
+        }
+    }
+
+    /// Whether both are the same type, regions included.
+    #[cycle(same_ty)]
+    #[tactic(auto, using(crate::specs::TyFalls::each_smaller, crate::specs::TyFalls::tys_of_injective))]
+    fn same(&self, other: &CompoundTy) -> bool
+        ensures { IsTrue result ↔ (compound_of self.now ≡ compound_of other.now) }
+    {
+        match (self, other) {
+            (CompoundTy::Adt(a, rs, ts), CompoundTy::Adt(b, qs, us)) => {
+                a == b && same_regions(rs, qs) && same_types(ts, us)
+            }
+            (CompoundTy::Unary(o, a), CompoundTy::Unary(p, b)) => o == p && a.same(b),
+            (CompoundTy::Closure(n, ts, cs, a), CompoundTy::Closure(m, us, ds, b)) => {
+                n == m && same_types(ts, us) && same_types(cs, ds) && a.same(b)
+            }
+            _ => false,
+        }
+    }
+}
+
+impl FnBound {
+    #[cycle(copy_ty)]
+    #[tactic(auto, using(crate::specs::TyFalls::each_smaller))]
+    fn copy(&self, alloc: Global) -> Result<FnBound, NoMemory>
+        ensures { IfOk result (λ b. IsSameBound b self.now) }
+    {
+        let params = copy_types(alloc, &self.params)?;
+        let result = self.result.copy(alloc)?;
+        let kind = self.kind;
+        Ok(FnBound {
+            kind,
+            params,
+            result,
+        })
+    }
+
+    /// Whether both are the same, regions included.
+    #[cycle(same_ty)]
+    fn same(&self, other: &FnBound) -> bool
+        ensures { IsTrue result ↔ IsSameBound self.now other.now }
+    {
+        self.kind == other.kind
+            && same_types(&self.params, &other.params)
+            && self.result.same(&other.result)
+    }
+}
+
+#[cycle(copy_ty)]
+fn copied_closure(
+    alloc: Global,
+    number: u32,
+    types: &[Ty],
+    captures: &[Ty],
+    bound: &FnBound,
+) -> Result<Ty, NoMemory>
+    ensures { IfOk result (λ t. t ≡ closure_of number types.now captures.now bound.now) }
+{
+    let types = copy_types(alloc, types)?;
+    let captures = copy_types(alloc, captures)?;
+    let bound = bound.copy(alloc)?;
+    Ty::compound(alloc, CompoundTy::Closure(number, types, captures, bound))
 }
 
 #[cycle(copy_ty)]

@@ -4,7 +4,7 @@ use Rattle.text_core.specs.declared.name.Name.{Name}
 use Rattle.logic_term.specs.declared.kinds.Label2.{Label2}
 use Rattle.logic_term.specs.declared.kinds.IntKind.{IntKind}
 use Rattle.logic_term.specs.Ty.{int}
-use Rattle.logic_term.specs.Term.{Term}
+use Rattle.logic_term.specs.Term.{Term, is_conjunction}
 use Rattle.logic_term.specs.Subst.{SameUpToNames}
 use Rattle.proof_kernel.specs.declared.step.Multiple.{Multiple}
 use Rattle.proof_kernel.specs.declared.sequent.Sequent.{Sequent}
@@ -15,7 +15,7 @@ use Rattle.proof_kernel.specs.declared.kernel.Made.TheVariants.{Premises, TooWid
 use Rattle.proof_kernel.specs.Progress.{Progress}
 use Rattle.proof_kernel.specs.Derivation.{Gives, by_intro, by_hyp, by_split, by_range, by_lin}
 use Rattle.proof_kernel.specs.Linear.{Certifies}
-use Rattle.proof_kernel.specs.Rules.{hypothesis, sort_of, with_goal, is_conjunction, conjuncts, ranged, Intros, TakesSome}
+use Rattle.proof_kernel.specs.Rules.{hypothesis, sort_of, with_goal, conjuncts, ranged, Intros, TakesSome}
 use Rattle.proof_kernel.specs.Kernel.{Applies, IsWide}
 use Rattle.proof_kernel.specs.Made.{IsMadeFirst, PassesWidthAt}
 

@@ -1,4 +1,5 @@
 pub mod AcceptLaw
+pub mod Conjuncts
 pub mod Derived
 pub mod Found
 pub mod IntRing

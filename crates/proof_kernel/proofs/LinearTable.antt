@@ -158,6 +158,12 @@ uncovered table m n out (s ∷ p) h = choose (same_monomial s.monomial m) refl (
 
 -- ---- the number of a monomial
 
+first_below : (n : ℕ) → 0 < suc n
+first_below n = omega arith
+
+next_below : (k n : ℕ) → k < n → suc k < suc n
+next_below k n l = omega arith
+
 abbrev pub Place : List Monomial → Monomial → Type 0
 Place table m = (k : ℕ) × (k < length table) × ((d : Monomial) → same_monomial (get_or table k d) m ≡ true)
 
@@ -166,5 +172,5 @@ place_of [] m e = absurd (true≢false (sym e))
 place_of (n ∷ ns) m e = choose (same_monomial n m) refl (λ h. place_of ns m h) e
   where
     choose : (b : Bool) → same_monomial n m ≡ b → (is_in ns m ≡ true → Place ns m) → (b || is_in ns m) ≡ true → Place (n ∷ ns) m
-    choose true p later q = (0, omega arith, λ d. p)
-    choose false p later q = let r = later q in (suc r.0, let l = r.1 in omega arith, r.2)
+    choose true p later q = (0, first_below (length ns), λ d. p)
+    choose false p later q = let r = later q in (suc r.0, next_below r.0 (length ns) r.1, r.2)

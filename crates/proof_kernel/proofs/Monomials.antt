@@ -1,5 +1,5 @@
 -- Monomials are the same exactly where each atom stands in both as often.
-use Rattle.std.proofs.Common.{◌≡◌, suc, ◌==◌, ◌&&◌, Bool, true, false, cond, [], ◌∷◌, ◌⊎◌, inl, inr, refl, sym, ◌∙◌, subst, arith, true≢false}
+use Rattle.std.proofs.Common.{◌≡◌, ℕ, suc, ◌==◌, ◌&&◌, Bool, true, false, cond, [], ◌∷◌, ◌⊎◌, inl, inr, refl, sym, ◌∙◌, subst, arith, true≢false}
 use Rattle.std.specs.List.{list_all}
 use Rattle.std.proofs.lemmas.Bool.{eqb-true, eq-eqb}
 use Rattle.logic_term.specs.Term.{Term}
@@ -74,11 +74,14 @@ pub same_left : (m n k : Monomial) → same_monomial m n ≡ true → same_monom
 same_left m n k e =
     bool_same (same_monomial k m) (same_monomial k n) (λ f. same_trans k m n f e) (λ f. same_trans k n m f (same_sym m n e))
 
+no_count : (n : ℕ) → 0 ≡ suc n → ⊥
+no_count n e = omega arith
+
+stands_once : (b : Bool) (n : ℕ) → b ≡ true → 0 ≡ cond b (suc n) n → ⊥
+stands_once true n s z = no_count n z
+stands_once false n s z = true≢false (sym s)
+
 -- only 1 has no atoms
 pub same_one : (m : Monomial) → same_monomial [] m ≡ true → m ≡ []
 same_one [] e = refl
-same_one (t ∷ m) e = absurd (clash (same_term t t) (equal_same_term t t refl) (same_times [] (t ∷ m) e t))
-  where
-    clash : (b : Bool) → b ≡ true → 0 ≡ cond b (suc (times t m)) (times t m) → ⊥
-    clash true s z = absurd (omega arith)
-    clash false s z = true≢false (sym s)
+same_one (t ∷ m) e = absurd (stands_once (same_term t t) (times t m) (equal_same_term t t refl) (same_times [] (t ∷ m) e t))

@@ -3,14 +3,14 @@ use Rattle.std.proofs.Common.{◌≡◌, ℕ, suc, ◌+◌, true, List, [], ◌�
 use Rattle.text_core.specs.declared.name.Name.{Name}
 use Rattle.logic_term.specs.declared.kinds.IntKind.{IntKind}
 use Rattle.logic_term.specs.Ty.{Ty, int}
-use Rattle.logic_term.specs.Term.{Term, var}
+use Rattle.logic_term.specs.Term.{Term, var, is_conjunction}
 use Rattle.logic_term.specs.Subst.{replaced, SameUpToNames}
 use Rattle.proof_kernel.specs.declared.sequent.Sequent.{Sequent}
 use Rattle.proof_kernel.specs.declared.step.Step.{Step}
 use Rattle.proof_kernel.specs.declared.step.Step.TheVariants.{Intro, Hyp, Split, Range, Lin}
 use Rattle.proof_kernel.specs.declared.step.Multiple.{Multiple}
 use Rattle.proof_kernel.specs.Linear.{Difference, referred, AreRows, AreNarrow, Certifies, PassesWidth}
-use Rattle.proof_kernel.specs.Rules.{label, hypothesis, sort_of, with_goal, assuming, declaring, is_conjunction, conjuncts, ranged, Intros, stop, by_premise, by_variable, TakesSome}
+use Rattle.proof_kernel.specs.Rules.{label, hypothesis, sort_of, with_goal, assuming, declaring, conjuncts, ranged, Intros, stop, by_premise, by_variable, TakesSome}
 use Rattle.proof_kernel.specs.Progress.{Progress}
 use Rattle.proof_kernel.specs.Derivation.{Gives, by_intro, by_hyp, by_split, by_range, by_lin}
 use Rattle.proof_kernel.specs.Kernel.{Applies, IsWide}

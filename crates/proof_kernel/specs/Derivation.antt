@@ -5,7 +5,7 @@ use Rattle.logic_term.specs.declared.kinds.Label2.{Label2}
 use Rattle.logic_term.specs.declared.kinds.IntKind.{IntKind}
 use Rattle.logic_term.specs.declared.obligation.Obligation.{Obligation}
 use Rattle.logic_term.specs.Ty.{int}
-use Rattle.logic_term.specs.Term.{Term}
+use Rattle.logic_term.specs.Term.{Term, is_conjunction}
 use Rattle.logic_term.specs.Subst.{SameUpToNames}
 use Rattle.proof_kernel.specs.declared.sequent.Sequent.{Sequent}
 use Rattle.proof_kernel.specs.declared.step.Multiple.{Multiple}
@@ -13,7 +13,7 @@ use Rattle.proof_kernel.specs.declared.step.Step.{Step}
 use Rattle.proof_kernel.specs.declared.step.Step.TheVariants.{Intro, Hyp, Split, Range, Lin}
 use Rattle.proof_kernel.specs.Sequent.{sequent_of}
 use Rattle.proof_kernel.specs.Linear.{Certifies}
-use Rattle.proof_kernel.specs.Rules.{hypothesis, sort_of, with_goal, Intros, TakesSome, is_conjunction, conjuncts, ranged}
+use Rattle.proof_kernel.specs.Rules.{hypothesis, sort_of, with_goal, Intros, TakesSome, conjuncts, ranged}
 
 -- step number s makes these premises of the sequent
 pub data Gives (s : ℕ) (q : Sequent) : Step → List Sequent → Type 0 where

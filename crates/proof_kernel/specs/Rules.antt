@@ -63,10 +63,6 @@ TakesSome names q = names ≡ [] → is_implication q.goal ≡ true
 
 -- ---- split
 
-abbrev pub is_conjunction : Term → Bool
-is_conjunction (apply both ts) = true
-is_conjunction t = false
-
 -- the conjuncts, at all levels
 abbrev pub conjuncts : Term → List Term
 conjuncts (apply both (and_term a (and_term b no_terms))) = conjuncts a ++ conjuncts b

@@ -12,7 +12,7 @@ use crate::polynomial::{
 };
 use crate::sequent::Sequent;
 use crate::step::{Multiple, Reference};
-use logic_term::{Label2, Sort, Term, TermNode, TyNode};
+use logic_term::{Label2, Sort, Term, TermBinary, TermNode, TermUnary, TyNode};
 use std::alloc::Global;
 use text_core::{Items, Name, NoMemory};
 
@@ -73,10 +73,11 @@ fn is_integer_var(vars: &[(Name, Sort)], name: Name) -> bool
 fn is_integer(vars: &[(Name, Sort)], t: &Term) -> bool
     ensures { result ≡ is_integer vars.now t.now }
 {
-    match &t.node {
+    match &*t.node {
         TermNode::Var(name) => is_integer_var(vars, *name),
         TermNode::Lit(_, sort) => matches!(sort.node, TyNode::MathInt),
-        TermNode::Model(_) | TermNode::Neg(_) | TermNode::Arith(_, _, _) => true,
+        TermNode::Unary(TermUnary::Model | TermUnary::Negative, _)
+        | TermNode::Binary(TermBinary::Arith(_), _, _) => true,
         _ => false,
     }
 }
@@ -97,11 +98,11 @@ fn hypothesis(label: Label2, hyps: &[(Label2, Term)]) -> Option<&Term>
 fn row_of<'a>(vars: &[(Name, Sort)], t: &'a Term) -> Option<Sides<'a>>
     ensures { option_map difference result ≡ row_of vars.now t.now }
 {
-    match &t.node {
-        TermNode::AtMost(a, b) => Some(at_least(b, a)),
-        TermNode::Less(a, b) => Some(greater(b, a)),
-        TermNode::Equal(a, b) if is_integer(vars, a) => Some(at_least(b, a)),
-        TermNode::Not(denied) => row_of_goal(denied),
+    match &*t.node {
+        TermNode::Binary(TermBinary::AtMost, a, b) => Some(at_least(b, a)),
+        TermNode::Binary(TermBinary::Less, a, b) => Some(greater(b, a)),
+        TermNode::Binary(TermBinary::Equal, a, b) if is_integer(vars, a) => Some(at_least(b, a)),
+        TermNode::Unary(TermUnary::Not, denied) => row_of_goal(denied),
         _ => None,
     }
 }
@@ -110,8 +111,8 @@ fn row_of<'a>(vars: &[(Name, Sort)], t: &'a Term) -> Option<Sides<'a>>
 fn row_back<'a>(vars: &[(Name, Sort)], t: &'a Term) -> Option<Sides<'a>>
     ensures { option_map difference result ≡ row_back vars.now t.now }
 {
-    match &t.node {
-        TermNode::Equal(a, b) if is_integer(vars, a) => Some(at_least(a, b)),
+    match &*t.node {
+        TermNode::Binary(TermBinary::Equal, a, b) if is_integer(vars, a) => Some(at_least(a, b)),
         _ => None,
     }
 }
@@ -120,9 +121,9 @@ fn row_back<'a>(vars: &[(Name, Sort)], t: &'a Term) -> Option<Sides<'a>>
 fn row_of_goal(t: &Term) -> Option<Sides<'_>>
     ensures { option_map difference result ≡ row_of_goal t.now }
 {
-    match &t.node {
-        TermNode::AtMost(a, b) => Some(greater(a, b)),
-        TermNode::Less(a, b) => Some(at_least(a, b)),
+    match &*t.node {
+        TermNode::Binary(TermBinary::AtMost, a, b) => Some(greater(a, b)),
+        TermNode::Binary(TermBinary::Less, a, b) => Some(at_least(a, b)),
         _ => None,
     }
 }

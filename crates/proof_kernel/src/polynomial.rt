@@ -8,7 +8,7 @@ ghost use Rattle.logic_term.specs.declared.kinds.ArithOp.TheVariants.{Add, Sub, 
 ghost use Rattle.proof_kernel.specs.Polynomial.{times, stands_in, same_monomial, summand, coefficient, with_summand, next_coefficient, plus, added, opposite_of, opposite, times_of, multiplied, products, polynomial, IsNarrowNumber, AddsNarrowly, AreNarrowSummands, IsNarrowTerm};
 ghost use Rattle.proof_kernel.specs.PolynomialCode.{place, IsNarrowProduct};
 
-use logic_term::{ArithOp, Term, TermNode};
+use logic_term::{ArithOp, Term, TermBinary, TermNode, TermUnary};
 use std::alloc::Global;
 use text_core::{Items, NoMemory};
 
@@ -303,11 +303,11 @@ fn atom(alloc: Global, t: &Term) -> Result<Polynomial, NoMemory>
 pub(crate) fn polynomial(alloc: Global, t: &Term) -> Result<Option<Polynomial>, NoMemory>
     ensures { IfOk result (λ found. SomeIff found (IsNarrowTerm t.now) (polynomial t.now)) }
 {
-    match &t.node {
-        TermNode::Arith(ArithOp::Add, a, b) => sum(alloc, a, b),
-        TermNode::Arith(ArithOp::Sub, a, b) => difference(alloc, a, b),
-        TermNode::Arith(ArithOp::Mul, a, b) => product_of_terms(alloc, a, b),
-        TermNode::Neg(a) => negative(alloc, a),
+    match &*t.node {
+        TermNode::Binary(TermBinary::Arith(ArithOp::Add), a, b) => sum(alloc, a, b),
+        TermNode::Binary(TermBinary::Arith(ArithOp::Sub), a, b) => difference(alloc, a, b),
+        TermNode::Binary(TermBinary::Arith(ArithOp::Mul), a, b) => product_of_terms(alloc, a, b),
+        TermNode::Unary(TermUnary::Negative, a) => negative(alloc, a),
         TermNode::Lit(number, _) => Ok(Some(single(alloc, *number, Items::new(alloc))?)),
         _ => Ok(Some(atom(alloc, t)?)),
     }

@@ -3,11 +3,11 @@ ghost use Rattle.logic_term.specs.Ty.{int};
 ghost use Rattle.logic_term.specs.declared.kinds.IntKind.{IntKind};
 ghost use Rattle.logic_term.specs.declared.kinds.Label2.{Label2};
 ghost use Rattle.logic_term.specs.Subst.{SameUpToNames};
-ghost use Rattle.logic_term.specs.Term.{Term as Tree, is_implication};
+ghost use Rattle.logic_term.specs.Term.{Term as Tree, is_conjunction, is_implication};
 ghost use Rattle.text_core.specs.declared.name.Name.{Name};
 ghost use Rattle.proof_kernel.specs.declared.sequent.Sequent.{Sequent};
 ghost use Rattle.proof_kernel.specs.Leads.{is_quantified, IsLead, IsOpened, IsStuck, IsDeclared};
-ghost use Rattle.proof_kernel.specs.Rules.{hypothesis, sort_of, with_goal, is_conjunction, conjuncts, lower_bound, upper_bound, ranged, declaring, Intros, TakesSome};
+ghost use Rattle.proof_kernel.specs.Rules.{hypothesis, sort_of, with_goal, conjuncts, lower_bound, upper_bound, ranged, declaring, Intros, TakesSome};
 
 use crate::sequent::{Sequent, hypothesis_of, sort_of_var};
 use logic_term::{IntKind, Label2, Sort, Term, TermNode, TyNode};
@@ -34,74 +34,18 @@ fn one_term(alloc: Global, t: &Term) -> Result<Vec<Term>, NoMemory>
 
 /// The conjuncts of the term, at all levels.
 #[cycle(conjuncts)]
+#[tactic(auto, using(crate::proofs::Conjuncts::single_conjunct))]
 fn conjuncts_of(alloc: Global, t: &Term) -> Result<Vec<Term>, NoMemory>
     ensures { IfOk result (λ v. v.items ≡ conjuncts t.now) }
 {
-    match &t.node {
-        TermNode::And(a, b) => {
+    match t.as_conjunction() {
+        Some((a, b)) => {
             let mut left = conjuncts_of(alloc, a)?;
             let mut right = conjuncts_of(alloc, b)?;
             left.append(&mut right)?;
             Ok(left)
         }
-        TermNode::Var(_)
-        | TermNode::Lit(_, _)
-        | TermNode::Truth(_)
-        | TermNode::Make(_, _)
-        | TermNode::Model(_)
-        | TermNode::Arith(_, _, _)
-        | TermNode::Neg(_)
-        | TermNode::Less(_, _)
-        | TermNode::AtMost(_, _)
-        | TermNode::Equal(_, _)
-        | TermNode::Not(_)
-        | TermNode::Or(_, _)
-        | TermNode::Implies(_, _)
-        | TermNode::Forall(_, _, _) => one_term(alloc, t),
-    }
-}
-
-fn is_and(t: &Term) -> bool
-    ensures { result ≡ is_conjunction t.now }
-{
-    match &t.node {
-        TermNode::And(_, _) => true,
-        TermNode::Var(_)
-        | TermNode::Lit(_, _)
-        | TermNode::Truth(_)
-        | TermNode::Make(_, _)
-        | TermNode::Model(_)
-        | TermNode::Arith(_, _, _)
-        | TermNode::Neg(_)
-        | TermNode::Less(_, _)
-        | TermNode::AtMost(_, _)
-        | TermNode::Equal(_, _)
-        | TermNode::Not(_)
-        | TermNode::Or(_, _)
-        | TermNode::Implies(_, _)
-        | TermNode::Forall(_, _, _) => false,
-    }
-}
-
-fn is_implies(t: &Term) -> bool
-    ensures { result ≡ is_implication t.now }
-{
-    match &t.node {
-        TermNode::Implies(_, _) => true,
-        TermNode::Var(_)
-        | TermNode::Lit(_, _)
-        | TermNode::Truth(_)
-        | TermNode::Make(_, _)
-        | TermNode::Model(_)
-        | TermNode::Arith(_, _, _)
-        | TermNode::Neg(_)
-        | TermNode::Less(_, _)
-        | TermNode::AtMost(_, _)
-        | TermNode::Equal(_, _)
-        | TermNode::Not(_)
-        | TermNode::And(_, _)
-        | TermNode::Or(_, _)
-        | TermNode::Forall(_, _, _) => false,
+        None => one_term(alloc, t),
     }
 }
 
@@ -122,7 +66,7 @@ pub fn split(alloc: Global, q: &Sequent) -> Result<Option<Vec<Sequent>>, NoMemor
         (is_conjunction q.now.goal ≡ false)
         (λ premises. (is_conjunction q.now.goal ≡ true) × (premises.items ≡ map (with_goal q.now) (conjuncts q.now.goal)))) }
 {
-    if !is_and(&q.goal) {
+    if !q.goal.is_conjunction() {
         return Ok(None);
     }
     let goals = conjuncts_of(alloc, &q.goal)?;
@@ -133,15 +77,19 @@ pub fn split(alloc: Global, q: &Sequent) -> Result<Option<Vec<Sequent>>, NoMemor
 fn lower_bound_of(alloc: Global, kind: IntKind, name: Name) -> Result<Term, NoMemory>
     ensures { IfOk result (λ t. t ≡ lower_bound kind name) }
 {
-    let model = Term::model(alloc, Term::var(name))?;
-    Term::at_most(alloc, Term::integer(kind.lowest()), model)
+    let variable = Term::var(alloc, name)?;
+    let model = Term::model(alloc, variable)?;
+    let lowest = Term::integer(alloc, kind.lowest())?;
+    Term::at_most(alloc, lowest, model)
 }
 
 fn upper_bound_of(alloc: Global, kind: IntKind, name: Name) -> Result<Term, NoMemory>
     ensures { IfOk result (λ t. t ≡ upper_bound kind name) }
 {
-    let model = Term::model(alloc, Term::var(name))?;
-    Term::at_most(alloc, model, Term::integer(kind.highest()))
+    let variable = Term::var(alloc, name)?;
+    let model = Term::model(alloc, variable)?;
+    let highest = Term::integer(alloc, kind.highest())?;
+    Term::at_most(alloc, model, highest)
 }
 
 /// The sequent with one more hypothesis.
@@ -180,17 +128,7 @@ pub fn range(alloc: Global, step: u32, name: Name, q: &Sequent) -> Result<Option
                 let p = with_bounds(alloc, step, *kind, name, q)?;
                 Ok(Some(p))
             }
-            TyNode::Bool
-            | TyNode::MathInt
-            | TyNode::Tuple(_)
-            | TyNode::Adt(_, _, _)
-            | TyNode::Boxed(_)
-            | TyNode::Shared(_, _)
-            | TyNode::Unique(_, _)
-            | TyNode::Param(_)
-            | TyNode::Closure(_, _, _, _)
-            | TyNode::View(_)
-            | TyNode::Snapshot(_) => Ok(None),
+            _ => Ok(None),
         },
     }
 }
@@ -266,9 +204,10 @@ fn strip(alloc: Global, step: u32, part: u32, q: Sequent) -> Result<Stripped, No
 fn opened(alloc: Global, name: Name, goal: &Term) -> Result<Option<(Sort, Term)>, NoMemory>
     ensures { IfOk result (λ o. MatchOption o (is_quantified goal.now ≡ false) (IsOpened name goal.now)) }
 {
-    match &goal.node {
+    match &*goal.node {
         TermNode::Forall(bound, sort, body) => {
-            let body = body.replaced(alloc, *bound, &Term::var(name))?;
+            let variable = Term::var(alloc, name)?;
+            let body = body.replaced(alloc, *bound, &variable)?;
             Ok(Some((sort.copy(alloc)?, body)))
         }
         _ => Ok(None),
@@ -331,7 +270,7 @@ pub fn intro(
         ((p : Sequent) → TakesSome names.now q.now → Intros step 1 names.now q.now p → ⊥)
         (λ r. TakesSome names.now q.now × Intros step 1 names.now q.now r)) }
 {
-    if names.is_empty() && !is_implies(&q.goal) {
+    if names.is_empty() && !q.goal.is_implication() {
         return Ok(None);
     }
     introduced(alloc, step, names, q)
