@@ -5,6 +5,8 @@ use Rattle.std.specs.List.{join_by}
 use Rattle.text_core.specs.declared.name.Name.{Name}
 use Rattle.logic_term.specs.declared.kinds.ArithOp.{ArithOp}
 use Rattle.logic_term.specs.declared.kinds.ArithOp.TheVariants.{Add, Sub, Mul, Div, Rem}
+use Rattle.logic_term.specs.declared.kinds.TermBinary.{TermBinary}
+use Rattle.logic_term.specs.declared.kinds.TermBinary.TheVariants as binary
 use Rattle.logic_term.specs.declared.kinds.Ctor.{Ctor}
 use Rattle.logic_term.specs.declared.kinds.Ctor.TheVariants.{Tuple, Variant, Closure}
 use Rattle.logic_term.specs.Ty.{Ty}
@@ -26,6 +28,16 @@ arithmetic_sign Sub = codes " - "
 arithmetic_sign Mul = codes " * "
 arithmetic_sign Div = codes " / "
 arithmetic_sign Rem = codes " % "
+
+-- the same of any operator of two terms
+abbrev pub binary_sign : TermBinary → List ℕ
+binary_sign (binary.Arith op) = arithmetic_sign op
+binary_sign binary.Less = codes " < "
+binary_sign binary.AtMost = codes " <= "
+binary_sign binary.Equal = codes " == "
+binary_sign binary.And = codes " && "
+binary_sign binary.Or = codes " || "
+binary_sign binary.Implies = codes " ==> "
 
 -- (A op B)
 abbrev pub between : List ℕ → List (List ℕ) → List ℕ

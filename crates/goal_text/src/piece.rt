@@ -2,9 +2,9 @@
 ghost use Rattle.std.specs.Prelude.{◌≡◌, ◌++◌, codes, OnOk};
 ghost use Rattle.std.specs.Fmt.{decimal};
 ghost use Rattle.goal_text.specs.SortText.{kind_text, numbered, tuple_end};
-ghost use Rattle.goal_text.specs.GoalText.{arithmetic_sign};
+ghost use Rattle.goal_text.specs.GoalText.{arithmetic_sign, binary_sign};
 
-use logic_term::{ArithOp, IntKind};
+use logic_term::{ArithOp, IntKind, TermBinary};
 use std::alloc::Global;
 use text_core::NoMemory;
 
@@ -48,7 +48,21 @@ pub(crate) fn kind_bytes(kind: IntKind) -> &'static [u8]
 }
 
 /// The operator with its spaces.
-pub(crate) fn arithmetic_bytes(op: ArithOp) -> &'static [u8]
+pub(crate) fn binary_bytes(op: TermBinary) -> &'static [u8]
+    ensures { result.now ≡ binary_sign op }
+{
+    match op {
+        TermBinary::Arith(op) => arithmetic_bytes(op),
+        TermBinary::Less => b" < ",
+        TermBinary::AtMost => b" <= ",
+        TermBinary::Equal => b" == ",
+        TermBinary::And => b" && ",
+        TermBinary::Or => b" || ",
+        TermBinary::Implies => b" ==> ",
+    }
+}
+
+fn arithmetic_bytes(op: ArithOp) -> &'static [u8]
     ensures { result.now ≡ arithmetic_sign op }
 {
     match op {

@@ -1,10 +1,10 @@
 //! Sorts as text.
 ghost use Rattle.std.specs.Prelude.{◌≡◌, ◌++◌, codes, flat_map, OnOk};
-ghost use Rattle.logic_term.specs.TyView.{tys_of};
+ghost use Rattle.logic_term.specs.TyView.{compound_of, made_by, tys_of};
 ghost use Rattle.goal_text.specs.SortText.{commas, sort_text, sort_texts, suffix};
 
 use crate::piece::{kind_bytes, push_numbered, push_text, tuple_end_bytes};
-use logic_term::{Sort, Ty, TyNode};
+use logic_term::{CompoundTy, Sort, Ty, TyNode, TyUnary};
 use std::alloc::Global;
 use text_core::NoMemory;
 
@@ -29,27 +29,46 @@ pub(crate) fn push_sort(alloc: Global, out: &mut Vec<u8>, sort: &Sort) -> Result
         TyNode::Tuple(parts) => {
             push_sorts(alloc, out, b"(", parts, tuple_end_bytes(parts.len()))
         }
-        TyNode::Adt(adt, _, types) => {
+        TyNode::Param(number) => push_numbered(alloc, out, b"param", *number as u64),
+        TyNode::Compound(parts) => push_compound(alloc, out, parts),
+    }
+}
+
+#[cycle(push_sort)]
+fn push_compound(alloc: Global, out: &mut Vec<u8>, sort: &CompoundTy) -> Result<(), NoMemory>
+    ensures { OnOk result (out.new.items ≡ out.old.items ++ sort_text (compound_of sort.now)) }
+{
+    match sort {
+        CompoundTy::Adt(adt, _, types) => {
             push_numbered(alloc, out, b"declared", adt.0 as u64)?;
             push_sorts(alloc, out, b"<", types, b">")
         }
-        TyNode::Boxed(t) => push_argument(alloc, out, b"Box<", t),
-        TyNode::Shared(_, t) => {
-            push_text(out, b"&")?;
-            push_sort(alloc, out, t)
-        }
-        TyNode::Unique(_, t) => {
-            push_text(out, b"&mut ")?;
-            push_sort(alloc, out, t)
-        }
-        TyNode::Param(number) => push_numbered(alloc, out, b"param", *number as u64),
-        TyNode::Closure(number, types, captures, _) => {
+        CompoundTy::Unary(op, t) => push_unary(alloc, out, *op, t),
+        CompoundTy::Closure(number, types, captures, _) => {
             push_numbered(alloc, out, b"closure", *number as u64)?;
             push_sorts(alloc, out, b"<", types, b">")?;
             push_sorts(alloc, out, b"(", captures, b")")
         }
-        TyNode::View(t) => push_argument(alloc, out, b"View<", t),
-        TyNode::Snapshot(t) => push_argument(alloc, out, b"Snapshot<", t),
+    }
+}
+
+/// `Box<A>`, `&A` and the like.
+#[cycle(push_sort)]
+fn push_unary(alloc: Global, out: &mut Vec<u8>, op: TyUnary, sort: &Sort) -> Result<(), NoMemory>
+    ensures { OnOk result (out.new.items ≡ out.old.items ++ sort_text (made_by op sort.now)) }
+{
+    match op {
+        TyUnary::Boxed => push_argument(alloc, out, b"Box<", sort),
+        TyUnary::Shared(_) => {
+            push_text(out, b"&")?;
+            push_sort(alloc, out, sort)
+        }
+        TyUnary::Unique(_) => {
+            push_text(out, b"&mut ")?;
+            push_sort(alloc, out, sort)
+        }
+        TyUnary::View => push_argument(alloc, out, b"View<", sort),
+        TyUnary::Snapshot => push_argument(alloc, out, b"Snapshot<", sort),
     }
 }
 

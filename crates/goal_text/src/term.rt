@@ -1,13 +1,14 @@
 //! Terms as text.
 ghost use Rattle.std.specs.Prelude.{◌≡◌, ◌∷◌, ◌++◌, codes, flat_map, IfOk, OnOk};
 ghost use Rattle.logic_term.specs.TermView.{terms_of};
-ghost use Rattle.logic_term.specs.Term.{every, forall};
+ghost use Rattle.logic_term.specs.TermOperator.{unary_operator};
+ghost use Rattle.logic_term.specs.Term.{every, forall, one};
 ghost use Rattle.goal_text.specs.SortText.{commas};
-ghost use Rattle.goal_text.specs.GoalText.{binder_text, literal_text, made_text, number_in, text_in, text_of_goal, texts_in, truth_text};
+ghost use Rattle.goal_text.specs.GoalText.{binary_sign, binder_text, literal_text, made_text, number_in, text_in, text_of_goal, texts_in, truth_text};
 
-use crate::piece::{arithmetic_bytes, push_numbered, push_text, tuple_end_bytes};
+use crate::piece::{binary_bytes, push_numbered, push_text, tuple_end_bytes};
 use crate::sort::{push_sort, suffix_bytes};
-use logic_term::{Ctor, Sort, Term, TermNode};
+use logic_term::{Ctor, Sort, Term, TermBinary, TermNode, TermUnary};
 use std::alloc::Global;
 use text_core::{Name, NoMemory};
 
@@ -91,30 +92,39 @@ fn push_binder(alloc: Global, out: &mut Vec<u8>, number: u64, sort: &Sort) -> Re
 
 /// The term, the names that are bound around it being these, the innermost first.
 #[cycle(push_term)]
+#[tactic(auto, using(crate::proofs::Signs::binary_text))]
 fn push_term(alloc: Global, out: &mut Vec<u8>, bound: &[Name], t: &Term) -> Result<(), NoMemory>
     ensures { OnOk result (out.new.items ≡ out.old.items ++ text_in bound.now t.now) }
 {
-    match &t.node {
+    match &*t.node {
         TermNode::Var(name) => push_numbered(alloc, out, b"v", number_of(bound, *name) as u64),
         TermNode::Lit(number, sort) => push_literal(alloc, out, *number, sort),
         TermNode::Truth(holds) => push_text(out, truth_bytes(*holds)),
         TermNode::Make(ctor, parts) => push_made(alloc, out, bound, *ctor, parts),
-        TermNode::Model(a) => {
-            push_term(alloc, out, bound, a)?;
+        TermNode::Unary(op, a) => push_unary(alloc, out, bound, *op, a),
+        TermNode::Binary(op, a, b) => { push_binary(alloc, out, bound, a, *op, b) }
+        TermNode::Forall(name, sort, a) => push_forall(alloc, out, bound, *name, sort, a),
+    }
+}
+
+/// `A@`, `(-A)` or `(!A)`
+#[cycle(push_term)]
+fn push_unary(
+    alloc: Global,
+    out: &mut Vec<u8>,
+    bound: &[Name],
+    op: TermUnary,
+    t: &Term,
+) -> Result<(), NoMemory>
+    ensures { OnOk result (out.new.items ≡ out.old.items ++ text_in bound.now (one (unary_operator op) t.now)) }
+{
+    match op {
+        TermUnary::Model => {
+            push_term(alloc, out, bound, t)?;
             push_text(out, b"@")
         }
-        TermNode::Arith(op, a, b) => {
-            push_between(alloc, out, bound, a, arithmetic_bytes(*op), b)
-        }
-        TermNode::Neg(a) => push_prefixed(alloc, out, bound, b"-", a),
-        TermNode::Less(a, b) => push_between(alloc, out, bound, a, b" < ", b),
-        TermNode::AtMost(a, b) => push_between(alloc, out, bound, a, b" <= ", b),
-        TermNode::Equal(a, b) => push_between(alloc, out, bound, a, b" == ", b),
-        TermNode::Not(a) => push_prefixed(alloc, out, bound, b"!", a),
-        TermNode::And(a, b) => push_between(alloc, out, bound, a, b" && ", b),
-        TermNode::Or(a, b) => push_between(alloc, out, bound, a, b" || ", b),
-        TermNode::Implies(a, b) => push_between(alloc, out, bound, a, b" ==> ", b),
-        TermNode::Forall(name, sort, a) => push_forall(alloc, out, bound, *name, sort, a),
+        TermUnary::Negative => push_prefixed(alloc, out, bound, b"-", t),
+        TermUnary::Not => push_prefixed(alloc, out, bound, b"!", t),
     }
 }
 
@@ -135,21 +145,21 @@ fn push_prefixed(
     push_text(out, b")")
 }
 
-/// `(A && B)`, the operator having its spaces.
+/// `(A && B)`
 #[cycle(push_term)]
-fn push_between(
+fn push_binary(
     alloc: Global,
     out: &mut Vec<u8>,
     bound: &[Name],
     left: &Term,
-    operator: &[u8],
+    op: TermBinary,
     right: &Term,
 ) -> Result<(), NoMemory>
-    ensures { OnOk result (out.new.items ≡ out.old.items ++ (codes "(" ++ text_in bound.now left.now ++ operator.now ++ text_in bound.now right.now ++ codes ")")) }
+    ensures { OnOk result (out.new.items ≡ out.old.items ++ (codes "(" ++ text_in bound.now left.now ++ binary_sign op ++ text_in bound.now right.now ++ codes ")")) }
 {
     push_text(out, b"(")?;
     push_term(alloc, out, bound, left)?;
-    push_text(out, operator)?;
+    push_text(out, binary_bytes(op))?;
     push_term(alloc, out, bound, right)?;
     push_text(out, b")")
 }

@@ -1,5 +1,8 @@
 use goal_text::goal_text;
-use logic_term::{AdtId, ArithOp, Ctor, FnBound, FnKind, IntKind, Region, Sort, Term, Ty, TyNode};
+use logic_term::{
+    AdtId, ArithOp, CompoundTy, Ctor, FnBound, FnKind, IntKind, Region, Sort, Term, Ty, TyNode,
+    TyUnary,
+};
 use std::alloc::Global;
 use std::process::Abort;
 use std::test::Fail;
@@ -22,15 +25,15 @@ fn i32_sort() -> Sort {
 
 /// `name@ + 1`
 fn successor(alloc: Global, name: Name) -> Result<Term, NoMemory> {
-    let value = Term::model(alloc, Term::var(name))?;
-    Term::calculate(alloc, ArithOp::Add, value, Term::integer(1))
+    let value = Term::model(alloc, Term::var(alloc, name)?)?;
+    Term::calculate(alloc, ArithOp::Add, value, Term::integer(alloc, 1)?)
 }
 
 /// The sum of `x` and 1 is an `i32`.
 fn sum_fits(alloc: Global) -> Result<Term, NoMemory> {
-    let least = Term::integer(-2147483648);
+    let least = Term::integer(alloc, -2147483648)?;
     let above = Term::at_most(alloc, least, successor(alloc, X)?)?;
-    let greatest = Term::integer(2147483647);
+    let greatest = Term::integer(alloc, 2147483647)?;
     let below = Term::at_most(alloc, successor(alloc, X)?, greatest)?;
     let both = Term::and(alloc, above, below)?;
     Term::forall(alloc, X, i32_sort(), both)
@@ -38,9 +41,9 @@ fn sum_fits(alloc: Global) -> Result<Term, NoMemory> {
 
 /// What is one more than `x` is one more than `x`.
 fn sum_is_sum(alloc: Global) -> Result<Term, NoMemory> {
-    let left = Term::model(alloc, Term::var(Y))?;
+    let left = Term::model(alloc, Term::var(alloc, Y)?)?;
     let given = Term::equal(alloc, left, successor(alloc, X)?)?;
-    let left = Term::model(alloc, Term::var(Y))?;
+    let left = Term::model(alloc, Term::var(alloc, Y)?)?;
     let wanted = Term::equal(alloc, left, successor(alloc, X)?)?;
     let implied = Term::implies(alloc, given, wanted)?;
     let inner = Term::forall(alloc, Y, i32_sort(), implied)?;
@@ -61,12 +64,12 @@ fn goals_of_a_sum(rt: HostRuntime) -> Result<(), Fail> {
     Ok(())
 }
 
-fn one() -> Term {
-    Term::integer(1)
+fn one(alloc: Global) -> Result<Term, NoMemory> {
+    Term::integer(alloc, 1)
 }
 
-fn minus_two() -> Term {
-    Term::integer(-2)
+fn minus_two(alloc: Global) -> Result<Term, NoMemory> {
+    Term::integer(alloc, -2)
 }
 
 const ARITHMETIC: [(ArithOp, &[u8]); 5] = [
@@ -81,7 +84,7 @@ const ARITHMETIC: [(ArithOp, &[u8]); 5] = [
 fn arithmetic(rt: HostRuntime) -> Result<(), Fail> {
     let alloc = rt.alloc();
     for (op, wanted) in ARITHMETIC {
-        let goal = Term::calculate(alloc, op, one(), minus_two())?;
+        let goal = Term::calculate(alloc, op, one(alloc)?, minus_two(alloc)?)?;
         assert_eq!(rt; goal_text(alloc, &goal)?.as_slice(), wanted);
     }
     Ok(())
@@ -90,23 +93,23 @@ fn arithmetic(rt: HostRuntime) -> Result<(), Fail> {
 #[test]
 fn operators_of_numbers(rt: HostRuntime) -> Result<(), Fail> {
     let alloc = rt.alloc();
-    expect(&rt, alloc, Term::negative(alloc, one())?, b"(-1)")?;
+    expect(&rt, alloc, Term::negative(alloc, one(alloc)?)?, b"(-1)")?;
     expect(
         &rt,
         alloc,
-        Term::less(alloc, one(), minus_two())?,
+        Term::less(alloc, one(alloc)?, minus_two(alloc)?)?,
         b"(1 < (-2))",
     )?;
     expect(
         &rt,
         alloc,
-        Term::at_most(alloc, one(), minus_two())?,
+        Term::at_most(alloc, one(alloc)?, minus_two(alloc)?)?,
         b"(1 <= (-2))",
     )?;
     expect(
         &rt,
         alloc,
-        Term::equal(alloc, one(), minus_two())?,
+        Term::equal(alloc, one(alloc)?, minus_two(alloc)?)?,
         b"(1 == (-2))",
     )?;
     Ok(())
@@ -115,12 +118,17 @@ fn operators_of_numbers(rt: HostRuntime) -> Result<(), Fail> {
 #[test]
 fn operators_of_truths(rt: HostRuntime) -> Result<(), Fail> {
     let alloc = rt.alloc();
-    expect(&rt, alloc, Term::not(alloc, Term::truth(true))?, b"(!true)")?;
-    let both = Term::and(alloc, Term::truth(true), Term::truth(false))?;
+    expect(
+        &rt,
+        alloc,
+        Term::not(alloc, Term::truth(alloc, true)?)?,
+        b"(!true)",
+    )?;
+    let both = Term::and(alloc, Term::truth(alloc, true)?, Term::truth(alloc, false)?)?;
     expect(&rt, alloc, both, b"(true && false)")?;
-    let either = Term::or(alloc, Term::truth(true), Term::truth(false))?;
+    let either = Term::or(alloc, Term::truth(alloc, true)?, Term::truth(alloc, false)?)?;
     expect(&rt, alloc, either, b"(true || false)")?;
-    let implied = Term::implies(alloc, Term::truth(true), Term::truth(false))?;
+    let implied = Term::implies(alloc, Term::truth(alloc, true)?, Term::truth(alloc, false)?)?;
     expect(&rt, alloc, implied, b"(true ==> false)")?;
     Ok(())
 }
@@ -146,7 +154,7 @@ const LITERALS: [(i128, IntKind, &[u8]); 10] = [
 fn literals(rt: HostRuntime) -> Result<(), Fail> {
     let alloc = rt.alloc();
     for (number, kind, wanted) in LITERALS {
-        let literal = Term::lit(number, Ty::int(kind));
+        let literal = Term::lit(alloc, number, Ty::int(kind))?;
         assert_eq!(rt; goal_text(alloc, &literal)?.as_slice(), wanted);
     }
     Ok(())
@@ -156,7 +164,7 @@ fn literals(rt: HostRuntime) -> Result<(), Fail> {
 #[test]
 fn inner_binder_counts(rt: HostRuntime) -> Result<(), Fail> {
     let alloc = rt.alloc();
-    let equal = Term::equal(alloc, Term::var(X), Term::var(Y))?;
+    let equal = Term::equal(alloc, Term::var(alloc, X)?, Term::var(alloc, Y)?)?;
     let inner = Term::forall(alloc, X, Ty::bool(), equal)?;
     let goal = Term::forall(alloc, X, i32_sort(), inner)?;
     assert_eq!(rt;
@@ -170,9 +178,9 @@ fn inner_binder_counts(rt: HostRuntime) -> Result<(), Fail> {
 fn made_text(alloc: Global, ctor: Ctor, parts: usize) -> Result<Vec<u8>, NoMemory> {
     let mut terms = Vec::new(alloc);
     for i in 0..parts {
-        terms.push(Term::truth(i == 0))?;
+        terms.push(Term::truth(alloc, i == 0)?)?;
     }
-    goal_text(alloc, &Term::made(ctor, terms))
+    goal_text(alloc, &Term::made(alloc, ctor, terms)?)
 }
 
 const VALUES: [(Ctor, usize, &[u8]); 6] = [
@@ -194,11 +202,9 @@ fn values(rt: HostRuntime) -> Result<(), Fail> {
 }
 
 /// `true` for each value of the sort.
-fn sort_text(alloc: Global, node: TyNode) -> Result<Vec<u8>, NoMemory> {
-    goal_text(
-        alloc,
-        &Term::forall(alloc, X, Ty { node }, Term::truth(true))?,
-    )
+fn sort_text(alloc: Global, sort: Ty) -> Result<Vec<u8>, NoMemory> {
+    let body = Term::truth(alloc, true)?;
+    goal_text(alloc, &Term::forall(alloc, X, sort, body)?)
 }
 
 /// So many sorts.
@@ -210,8 +216,9 @@ fn sorts(alloc: Global, count: usize) -> Result<Vec<Ty>, NoMemory> {
     Ok(sorts)
 }
 
-fn boxed(alloc: Global) -> Result<Box<Ty>, NoMemory> {
-    Ok(Box::new(alloc, Ty::bool())?)
+/// `bool` within another type.
+fn around_bool(alloc: Global, op: TyUnary) -> Result<Ty, NoMemory> {
+    Ty::compound(alloc, CompoundTy::Unary(op, Ty::bool()))
 }
 
 const TUPLES: [(usize, &[u8]); 3] = [
@@ -225,19 +232,14 @@ fn tuple_sorts(rt: HostRuntime) -> Result<(), Fail> {
     let alloc = rt.alloc();
     for (parts, wanted) in TUPLES {
         let node = TyNode::Tuple(sorts(alloc, parts)?);
-        assert_eq!(rt; sort_text(alloc, node)?.as_slice(), wanted);
+        assert_eq!(rt; sort_text(alloc, Ty { node })?.as_slice(), wanted);
     }
     Ok(())
 }
 
 /// `true` for each value of the sort is this text.
-fn expect_sort(
-    rt: &impl Abort,
-    alloc: Global,
-    node: TyNode,
-    wanted: &[u8],
-) -> Result<(), NoMemory> {
-    let text = sort_text(alloc, node)?;
+fn expect_sort(rt: &impl Abort, alloc: Global, sort: Ty, wanted: &[u8]) -> Result<(), NoMemory> {
+    let text = sort_text(alloc, sort)?;
     assert!(rt; text.as_slice() == wanted);
     Ok(())
 }
@@ -249,31 +251,31 @@ fn sorts_around_a_sort(rt: HostRuntime) -> Result<(), Fail> {
     expect_sort(
         &rt,
         alloc,
-        TyNode::Boxed(boxed(alloc)?),
+        around_bool(alloc, TyUnary::Boxed)?,
         b"(forall<v1: Box<bool>> true)",
     )?;
     expect_sort(
         &rt,
         alloc,
-        TyNode::Shared(region, boxed(alloc)?),
+        around_bool(alloc, TyUnary::Shared(region))?,
         b"(forall<v1: &bool> true)",
     )?;
     expect_sort(
         &rt,
         alloc,
-        TyNode::Unique(region, boxed(alloc)?),
+        around_bool(alloc, TyUnary::Unique(region))?,
         b"(forall<v1: &mut bool> true)",
     )?;
     expect_sort(
         &rt,
         alloc,
-        TyNode::View(boxed(alloc)?),
+        around_bool(alloc, TyUnary::View)?,
         b"(forall<v1: View<bool>> true)",
     )?;
     expect_sort(
         &rt,
         alloc,
-        TyNode::Snapshot(boxed(alloc)?),
+        around_bool(alloc, TyUnary::Snapshot)?,
         b"(forall<v1: Snapshot<bool>> true)",
     )?;
     Ok(())
@@ -283,13 +285,17 @@ fn sorts_around_a_sort(rt: HostRuntime) -> Result<(), Fail> {
 fn numbered_sorts(rt: HostRuntime) -> Result<(), Fail> {
     let alloc = rt.alloc();
     let regions = Vec::from_slice(alloc, &[Region(1)])?;
-    let declared = TyNode::Adt(AdtId(3), regions, sorts(alloc, 2)?);
+    let parts = CompoundTy::Adt(AdtId(3), regions, sorts(alloc, 2)?);
+    let declared = Ty::compound(alloc, parts)?;
     assert_eq!(rt;
         sort_text(alloc, declared)?.as_slice(),
         b"(forall<v1: declared3<Int, bool>> true)".as_slice()
     );
+    let parameter = Ty {
+        node: TyNode::Param(2),
+    };
     assert_eq!(rt;
-        sort_text(alloc, TyNode::Param(2))?.as_slice(),
+        sort_text(alloc, parameter)?.as_slice(),
         b"(forall<v1: param2> true)".as_slice()
     );
     Ok(())
@@ -303,14 +309,10 @@ fn sort_of_a_closure(rt: HostRuntime) -> Result<(), Fail> {
         params: sorts(alloc, 1)?,
         result: Ty::bool(),
     };
-    let node = TyNode::Closure(
-        4,
-        sorts(alloc, 1)?,
-        sorts(alloc, 2)?,
-        Box::new(alloc, bound)?,
-    );
+    let parts = CompoundTy::Closure(4, sorts(alloc, 1)?, sorts(alloc, 2)?, bound);
+    let closure = Ty::compound(alloc, parts)?;
     assert_eq!(rt;
-        sort_text(alloc, node)?.as_slice(),
+        sort_text(alloc, closure)?.as_slice(),
         b"(forall<v1: closure4<Int>(Int, bool)> true)".as_slice()
     );
     Ok(())

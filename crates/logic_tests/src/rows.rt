@@ -1,4 +1,4 @@
-use logic_term::{ArithOp, IntKind, Label2, Sort, Term, TermNode, Ty, TyNode};
+use logic_term::{ArithOp, IntKind, Label2, Sort, Term, Ty};
 use proof_kernel::{LinAnswer, Multiple, Reference, Sequent, certifies};
 use std::alloc::Global;
 use std::test::Fail;
@@ -15,11 +15,11 @@ const Y: Name = Name(1);
 
 /// `x@`.
 fn x(alloc: Global) -> Result<Term, NoMemory> {
-    Term::model(alloc, Term::var(X))
+    Term::model(alloc, Term::var(alloc, X)?)
 }
 
-fn y() -> Term {
-    Term::var(Y)
+fn y(alloc: Global) -> Result<Term, NoMemory> {
+    Term::var(alloc, Y)
 }
 
 fn sum(alloc: Global, a: Term, b: Term) -> Result<Term, NoMemory> {
@@ -27,7 +27,11 @@ fn sum(alloc: Global, a: Term, b: Term) -> Result<Term, NoMemory> {
 }
 
 fn less(alloc: Global, one: i128, other: i128) -> Result<Term, NoMemory> {
-    Term::less(alloc, Term::integer(one), Term::integer(other))
+    Term::less(
+        alloc,
+        Term::integer(alloc, one)?,
+        Term::integer(alloc, other)?,
+    )
 }
 
 fn label(part: u32) -> Label2 {
@@ -37,10 +41,7 @@ fn label(part: u32) -> Label2 {
 fn sorts(alloc: Global) -> Result<Items<(Name, Sort)>, NoMemory> {
     let mut vars = Items::new(alloc);
     vars.push((X, Ty::int(IntKind::I32)))?;
-    let integers = Ty {
-        node: TyNode::MathInt,
-    };
-    vars.push((Y, integers))?;
+    vars.push((Y, Ty::math_int()))?;
     Ok(vars)
 }
 
@@ -68,13 +69,13 @@ fn times(by: [i128; 3]) -> [Multiple; 3] {
 }
 
 fn at_least_low(alloc: Global, t: Term) -> Result<Term, NoMemory> {
-    Term::at_most(alloc, Term::integer(LOW), t)
+    Term::at_most(alloc, Term::integer(alloc, LOW)?, t)
 }
 
 /// `x@ + 1`.
 fn successor(alloc: Global) -> Result<Term, NoMemory> {
     let t = x(alloc)?;
-    sum(alloc, t, Term::integer(1))
+    sum(alloc, t, Term::integer(alloc, 1)?)
 }
 
 /// From -2147483648 <= x@ and x@ < 100 that -2147483648 <= x@ + 1: x + 2147483648, 99 - x, and -x - 2147483650 for the goal.
@@ -82,7 +83,7 @@ fn lower_bound(alloc: Global) -> Result<Sequent, NoMemory> {
     let t = x(alloc)?;
     let one = at_least_low(alloc, t)?;
     let t = x(alloc)?;
-    let two = Term::less(alloc, t, Term::integer(100))?;
+    let two = Term::less(alloc, t, Term::integer(alloc, 100)?)?;
     let t = successor(alloc)?;
     let goal = at_least_low(alloc, t)?;
     sequent(alloc, one, two, goal)
@@ -104,9 +105,9 @@ fn bounds(rt: HostRuntime) -> Result<(), Fail> {
 
 /// From x = x, of machine integers, and a formula without a row, that 2 < 3.
 fn without_rows(alloc: Global) -> Result<Sequent, NoMemory> {
-    let one = Term::equal(alloc, Term::var(X), Term::var(X))?;
+    let one = Term::equal(alloc, Term::var(alloc, X)?, Term::var(alloc, X)?)?;
     let goal = less(alloc, 2, 3)?;
-    sequent(alloc, one, Term::truth(true), goal)
+    sequent(alloc, one, Term::truth(alloc, true)?, goal)
 }
 
 /// What has no row closes nothing, whatever the multipliers.
@@ -133,17 +134,16 @@ fn references_without_a_row(rt: HostRuntime) -> Result<(), Fail> {
 /// x@ is not below y.
 fn not_below(alloc: Global) -> Result<Term, NoMemory> {
     let t = x(alloc)?;
-    let below = Term::less(alloc, t, y())?;
-    let node = TermNode::Not(Box::new(alloc, below)?);
-    Ok(Term { node })
+    let below = Term::less(alloc, t, y(alloc)?)?;
+    Term::not(alloc, below)
 }
 
 /// From y = 5, which is y - 5 or 5 - y, and x - y, that 4 < x@: 4 - x for the goal.
 fn equality(alloc: Global) -> Result<Sequent, NoMemory> {
-    let one = Term::equal(alloc, y(), Term::integer(5))?;
+    let one = Term::equal(alloc, y(alloc)?, Term::integer(alloc, 5)?)?;
     let two = not_below(alloc)?;
     let t = x(alloc)?;
-    let goal = Term::less(alloc, Term::integer(4), t)?;
+    let goal = Term::less(alloc, Term::integer(alloc, 4)?, t)?;
     sequent(alloc, one, two, goal)
 }
 
@@ -165,25 +165,24 @@ fn both_ways(rt: HostRuntime) -> Result<(), Fail> {
 
 /// -(y - (y + y)).
 fn turned(alloc: Global) -> Result<Term, NoMemory> {
-    let t = sum(alloc, y(), y())?;
-    let t = Term::calculate(alloc, ArithOp::Sub, y(), t)?;
-    let node = TermNode::Neg(Box::new(alloc, t)?);
-    Ok(Term { node })
+    let t = sum(alloc, y(alloc)?, y(alloc)?)?;
+    let t = Term::calculate(alloc, ArithOp::Sub, y(alloc)?, t)?;
+    Term::negative(alloc, t)
 }
 
 /// MAX + 1 <= y.
 fn past_the_width(alloc: Global) -> Result<Term, NoMemory> {
-    let t = sum(alloc, Term::integer(MAX), Term::integer(1))?;
-    Term::at_most(alloc, t, y())
+    let t = sum(alloc, Term::integer(alloc, MAX)?, Term::integer(alloc, 1)?)?;
+    Term::at_most(alloc, t, y(alloc)?)
 }
 
 /// From y + y <= 4, which is 4 - 2y, that y, written in a long way, is below 3: y - 3 for the goal.
 fn repeated(alloc: Global) -> Result<Sequent, NoMemory> {
-    let t = sum(alloc, y(), y())?;
-    let one = Term::at_most(alloc, t, Term::integer(4))?;
+    let t = sum(alloc, y(alloc)?, y(alloc)?)?;
+    let one = Term::at_most(alloc, t, Term::integer(alloc, 4)?)?;
     let two = past_the_width(alloc)?;
     let t = turned(alloc)?;
-    let goal = Term::less(alloc, t, Term::integer(3))?;
+    let goal = Term::less(alloc, t, Term::integer(alloc, 3)?)?;
     sequent(alloc, one, two, goal)
 }
 

@@ -25,8 +25,8 @@ fn obligation(alloc: Global, goal: Term) -> Result<Obligation, NoMemory> {
 
 /// `x@` is below this.
 fn is_below(alloc: Global, bound: i128) -> Result<Term, NoMemory> {
-    let value = Term::model(alloc, Term::var(X))?;
-    Term::less(alloc, value, Term::integer(bound))
+    let value = Term::model(alloc, Term::var(alloc, X)?)?;
+    Term::less(alloc, value, Term::integer(alloc, bound)?)
 }
 
 /// For each `x` of `i32`: where `x@` is below 100, the goal.

@@ -1,4 +1,4 @@
-use logic_term::{AdtId, ArithOp, Ctor, IntKind, Region, Term, Ty, TyNode, reduce};
+use logic_term::{AdtId, ArithOp, CompoundTy, Ctor, IntKind, Region, Term, Ty, TyNode, reduce};
 use std::alloc::Global;
 use std::test::Fail;
 use text_core::{Name, NoMemory};
@@ -17,21 +17,19 @@ fn tree_of(alloc: Global, last: TyNode) -> Result<Ty, NoMemory> {
         node: TyNode::Tuple(parts),
     })?;
     let regions = Vec::from_slice(alloc, &[Region(1)])?;
-    Ok(Ty {
-        node: TyNode::Adt(AdtId(3), regions, types),
-    })
+    Ty::compound(alloc, CompoundTy::Adt(AdtId(3), regions, types))
 }
 
 /// `forall bound: i32. left == bound`
 fn all_equal(alloc: Global, left: Name, bound: Name) -> Result<Term, NoMemory> {
-    let body = Term::equal(alloc, Term::var(left), Term::var(bound))?;
+    let body = Term::equal(alloc, Term::var(alloc, left)?, Term::var(alloc, bound)?)?;
     Term::forall(alloc, bound, Ty::int(IntKind::I32), body)
 }
 
 /// `forall bound: i32. bound@ <= most`
 fn all_at_most(alloc: Global, bound: Name, most: i128) -> Result<Term, NoMemory> {
-    let left = Term::model(alloc, Term::var(bound))?;
-    let body = Term::at_most(alloc, left, Term::integer(most))?;
+    let left = Term::model(alloc, Term::var(alloc, bound)?)?;
+    let body = Term::at_most(alloc, left, Term::integer(alloc, most)?)?;
     Term::forall(alloc, bound, Ty::int(IntKind::I32), body)
 }
 
@@ -69,10 +67,12 @@ fn types(rt: HostRuntime) -> Result<(), Fail> {
 }
 
 #[test]
-fn sorts_of_literals(rt: HostRuntime) {
-    let one = Term::lit(1, Ty::int(IntKind::I32));
-    assert!(rt; one.same(&Term::lit(1, Ty::int(IntKind::I32))));
-    assert!(rt; !one.same(&Term::integer(1)));
+fn sorts_of_literals(rt: HostRuntime) -> Result<(), Fail> {
+    let alloc = rt.alloc();
+    let one = Term::lit(alloc, 1, Ty::int(IntKind::I32))?;
+    assert!(rt; one.same(&Term::lit(alloc, 1, Ty::int(IntKind::I32))?));
+    assert!(rt; !one.same(&Term::integer(alloc, 1)?));
+    Ok(())
 }
 
 fn is_copied(alloc: Global, t: &Term) -> Result<bool, NoMemory> {
@@ -107,7 +107,7 @@ fn no_name_is_captured(rt: HostRuntime) -> Result<(), Fail> {
     let alloc = rt.alloc();
     let t = all_equal(alloc, X, Y)?;
     let wanted = all_equal(alloc, Y, Name(8))?;
-    assert!(rt; becomes(alloc, &t, X, &Term::var(Y), &wanted)?);
+    assert!(rt; becomes(alloc, &t, X, &Term::var(alloc, Y)?, &wanted)?);
     Ok(())
 }
 
@@ -127,7 +127,7 @@ fn bound_names(rt: HostRuntime) -> Result<(), Fail> {
 
 /// `left + x@`
 fn sum_of(alloc: Global, left: Term) -> Result<Term, NoMemory> {
-    let right = Term::model(alloc, Term::var(X))?;
+    let right = Term::model(alloc, Term::var(alloc, X)?)?;
     Term::calculate(alloc, ArithOp::Add, left, right)
 }
 
@@ -139,9 +139,9 @@ fn reduces(alloc: Global, t: &Term, wanted: &Term) -> Result<bool, NoMemory> {
 #[test]
 fn normal_form(rt: HostRuntime) -> Result<(), Fail> {
     let alloc = rt.alloc();
-    let one = Term::model(alloc, Term::lit(1, Ty::int(IntKind::I32)))?;
+    let one = Term::model(alloc, Term::lit(alloc, 1, Ty::int(IntKind::I32))?)?;
     let sum = sum_of(alloc, one)?;
-    let wanted = sum_of(alloc, Term::integer(1))?;
+    let wanted = sum_of(alloc, Term::integer(alloc, 1)?)?;
     assert!(rt; reduces(alloc, &sum, &wanted)?);
     Ok(())
 }
@@ -149,20 +149,20 @@ fn normal_form(rt: HostRuntime) -> Result<(), Fail> {
 /// `(x, last)`
 fn pair_of(alloc: Global, last: Term) -> Result<Term, NoMemory> {
     let mut parts = Vec::with_capacity(alloc, 2)?;
-    parts.push(Term::var(X))?;
+    parts.push(Term::var(alloc, X)?)?;
     parts.push(last)?;
-    Ok(Term::made(Ctor::Tuple, parts))
+    Term::made(alloc, Ctor::Tuple, parts)
 }
 
 #[test]
 fn made_of_parts(rt: HostRuntime) -> Result<(), Fail> {
     let alloc = rt.alloc();
-    let t = pair_of(alloc, Term::var(Y))?;
+    let t = pair_of(alloc, Term::var(alloc, Y)?)?;
     assert!(rt; is_copied(alloc, &t)?);
     assert!(rt; t.free_in(Y));
     assert_eq!(rt; t.above()?, 8);
-    let wanted = pair_of(alloc, Term::unit(alloc))?;
-    assert!(rt; becomes(alloc, &t, Y, &Term::unit(alloc), &wanted)?);
+    let wanted = pair_of(alloc, Term::unit(alloc)?)?;
+    assert!(rt; becomes(alloc, &t, Y, &Term::unit(alloc)?, &wanted)?);
     assert!(rt; !t.same(&wanted));
     assert!(rt; reduces(alloc, &wanted, &wanted)?);
     Ok(())

@@ -182,12 +182,17 @@ fn answer_is(
 
 /// `name@`
 fn number_of(alloc: Global, name: Name) -> Result<Term, NoMemory> {
-    Term::model(alloc, Term::var(name))
+    Term::model(alloc, Term::var(alloc, name)?)
 }
 
 /// `x@ + 1`
 fn next(alloc: Global) -> Result<Term, NoMemory> {
-    Term::calculate(alloc, ArithOp::Add, number_of(alloc, X)?, Term::integer(1))
+    Term::calculate(
+        alloc,
+        ArithOp::Add,
+        number_of(alloc, X)?,
+        Term::integer(alloc, 1)?,
+    )
 }
 
 /// `name@ == x@ + 1`
@@ -199,7 +204,7 @@ fn is_next(alloc: Global, name: Name) -> Result<Term, NoMemory> {
 /// `x@ < 100`
 fn is_small(alloc: Global) -> Result<Term, NoMemory> {
     let number = number_of(alloc, X)?;
-    Term::less(alloc, number, Term::integer(100))
+    Term::less(alloc, number, Term::integer(alloc, 100)?)
 }
 
 /// `requires x@ < 100`, `ensures result@ == x@ + 1`
@@ -224,8 +229,8 @@ fn for_small(alloc: Global, formula: Term) -> Result<Term, NoMemory> {
 
 /// `-2147483648 <= x@ + 1 && x@ + 1 <= 2147483647`
 fn next_is_in_range(alloc: Global) -> Result<Term, NoMemory> {
-    let above = Term::at_most(alloc, Term::integer(-2147483648), next(alloc)?)?;
-    let below = Term::at_most(alloc, next(alloc)?, Term::integer(2147483647))?;
+    let above = Term::at_most(alloc, Term::integer(alloc, -2147483648)?, next(alloc)?)?;
+    let below = Term::at_most(alloc, next(alloc)?, Term::integer(alloc, 2147483647)?)?;
     Term::and(alloc, above, below)
 }
 
@@ -277,7 +282,7 @@ fn of_branch(alloc: Global) -> Result<Vec<Obligation>, NoMemory> {
 fn of_loop(alloc: Global) -> Result<Vec<Obligation>, NoMemory> {
     let invariant = Span { start: 30, end: 31 };
     let head = Head {
-        invariants: one(alloc, Term::truth(true))?,
+        invariants: one(alloc, Term::truth(alloc, true)?)?,
         spans: one(alloc, invariant)?,
     };
     let step = answer_is(alloc, 40, IntKind::I32, BinaryOp::Mul)?;

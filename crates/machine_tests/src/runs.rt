@@ -348,7 +348,7 @@ fn operators_at_the_ends_of_types(rt: HostRuntime) -> Result<(), Fail> {
         assert_eq!(rt;
             operation(rt.alloc(), kind, op, x, n)?,
             want,
-            "{kind:?} {op:?} {x} {n}"
+            "{kind:?} {x} {n} {want:?}"
         );
     }
     assert_eq!(rt; negation(rt.alloc(), IntKind::I8, -128)?, overflow);

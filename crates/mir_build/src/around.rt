@@ -71,7 +71,7 @@ pub(crate) fn formula(alloc: Global, assertion: &Assertion) -> Result<Term, NoMe
 {
     match assertion {
         Assertion::Good(_, term) => term.copy(alloc),
-        Assertion::Bad(_) => Ok(Term::truth(false)),
+        Assertion::Bad(_) => Term::truth(alloc, false),
     }
 }
 
@@ -91,9 +91,10 @@ fn locals_for(alloc: Global, scope: &[u32]) -> Result<Vec<Replacement>, NoMemory
     let mut all = Vec::new(alloc);
     let mut variable: u32 = 0;
     for x in scope {
+        let by = Term::var(alloc, local_name(*x))?;
         all.push(Replacement {
             name: variable_name(variable),
-            by: Term::var(local_name(*x)),
+            by,
         })?;
         variable = variable.checked_add(1).ok_or(NoMemory)?;
     }

@@ -252,7 +252,7 @@ fn a_branch(rt: HostRuntime) -> Result<(), Fail> {
 #[test]
 fn a_loop(rt: HostRuntime) -> Result<(), Fail> {
     // The invariant is variable 0, which is local 1 there.
-    let invariant = Term::var(Name((1 << 63) + (1 << 61)));
+    let invariant = Term::var(rt.alloc(), Name((1 << 63) + (1 << 61)))?;
     let made = lowered(rt.alloc(), &looping(rt.alloc(), invariant)?)?;
     let body = made.bodies.bodies.get(0).ok_or("no body")?;
     assert_eq!(rt;
@@ -289,7 +289,7 @@ fn a_loop(rt: HostRuntime) -> Result<(), Fail> {
     assert_eq!(rt; head.spans.len(), 1);
     assert_eq!(rt; head.spans.get(0), Some(&byte(50)));
     let formula = head.invariants.get(0).ok_or("no invariant")?;
-    assert!(rt; formula.same(&Term::var(Name((1 << 63) + 1))));
+    assert!(rt; formula.same(&Term::var(rt.alloc(), Name((1 << 63) + 1))?));
     let gone = made.gone.get(0).ok_or("no gone places")?;
     let (point, places) = gone.gone.get(0).ok_or("no gone places at the head")?;
     assert_eq!(rt;

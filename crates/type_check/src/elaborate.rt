@@ -1,5 +1,5 @@
 ghost use Rattle.std.specs.Prelude.{◌≡◌, IfOk, None, map};
-ghost use Rattle.logic_term.specs.Term.{model};
+ghost use Rattle.logic_term.specs.Term.{model, truth};
 ghost use Rattle.logic_term.specs.Ty.{bool, math_int};
 ghost use Rattle.built_syntax.specs.PtermView.{span_of};
 ghost use Rattle.type_check.specs.Answers.{Answers};
@@ -53,6 +53,13 @@ fn formula_of_sort(alloc: Global, term: Term) -> Result<SortedTerm, NoMemory>
     of_sort(alloc, bool_ty(), term)
 }
 
+fn truth_term(alloc: Global, holds: bool) -> Result<SortedTerm, NoMemory>
+    ensures { IfOk result (λ t. t ≡ sorted bool (truth holds)) }
+{
+    let term = Term::truth(alloc, holds)?;
+    formula_of_sort(alloc, term)
+}
+
 fn number_of_sort(alloc: Global, term: Term) -> Result<SortedTerm, NoMemory>
     ensures { IfOk result (λ t. t ≡ sorted math_int term) }
 {
@@ -69,9 +76,12 @@ fn literal(
     ensures { Answers result (literal span number kind) }
 {
     match kind {
-        None => Ok(number_of_sort(alloc, Term::integer(number))?),
+        None => {
+            let term = Term::integer(alloc, number)?;
+            Ok(number_of_sort(alloc, term)?)
+        }
         Some(kind) if fits(kind, number) => {
-            let term = Term::lit(number, Ty::int(kind));
+            let term = Term::lit(alloc, number, Ty::int(kind))?;
             Ok(of_sort(alloc, Ty::int(kind), term)?)
         }
         Some(_) => Err(mismatch(span)),
@@ -89,7 +99,7 @@ fn name_term(
 {
     match find_variable(alloc, name, scope)? {
         Some(variable) => {
-            let term = Term::var(variable_name(variable.place));
+            let term = Term::var(alloc, variable_name(variable.place))?;
             Ok(of_sort(alloc, variable.ty, term)?)
         }
         None => Err(unknown_name(span)),
@@ -102,7 +112,10 @@ fn answer_term(alloc: Global, answer: &Option<Ty>, span: Span) -> Result<SortedT
     ensures { Answers result (answer_term answer.now span) }
 {
     match answer {
-        Some(ty) => Ok(of_sort(alloc, ty.copy(alloc)?, Term::var(answer_name()))?),
+        Some(ty) => {
+            let term = Term::var(alloc, answer_name())?;
+            Ok(of_sort(alloc, ty.copy(alloc)?, term)?)
+        }
         None => Err(unknown_name(span)),
     }
 }
@@ -231,7 +244,7 @@ fn elaborate(
 {
     match &t.node {
         PtermNode::Int(number, kind) => literal(alloc, *number, *kind, t.span),
-        PtermNode::Truth(holds) => Ok(formula_of_sort(alloc, Term::truth(*holds))?),
+        PtermNode::Truth(holds) => Ok(truth_term(alloc, *holds)?),
         PtermNode::Answer => answer_term(alloc, answer, t.span),
         PtermNode::Name(name) => name_term(alloc, scope, t.span, *name),
         PtermNode::View(t) => model_of(alloc, span_of(t), elaborate(alloc, answer, scope, t)?),

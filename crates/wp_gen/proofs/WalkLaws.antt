@@ -1,5 +1,5 @@
 -- Goals of a walk.
-use Rattle.std.proofs.Common.{◌≡◌, ◌∙◌, sym, ap, subst, ℕ, suc, ◌+◌, ◌-◌, ◌*◌, ◌<◌, ◌≤◌, Some, None, true, false, cond, List, [], ◌∷◌, ◌++◌, length, get_or, drop, refl, arith}
+use Rattle.std.proofs.Common.{◌≡◌, ◌∙◌, sym, ap, subst, ℕ, suc, ◌+◌, ◌*◌, ◌<◌, ◌≤◌, Some, None, true, false, cond, List, [], ◌∷◌, ◌++◌, length, get_or, drop, refl, arith}
 use Rattle.std.proofs.Math.Seq.{drop-cons}
 use Rattle.std.proofs.lemmas.List.{drop_all, append_assoc, map-append}
 use Rattle.logic_term.specs.declared.kinds.Label.{Label}

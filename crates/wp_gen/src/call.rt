@@ -105,6 +105,26 @@ pub(crate) fn with_assumed(
     Ok(all)
 }
 
+/// What each `ensures` of the callee says of these arguments and of the new value.
+fn known_after(
+    alloc: Global,
+    body: &Body,
+    callee: &Contract,
+    args: &[Operand],
+) -> Result<Vec<Term>, NoMemory>
+    ensures { IfOk result (λ v. v.items ≡ map (at_arguments_and_answer body.now callee.now args.now) callee.now.post) }
+{
+    let terms = operand_terms(alloc, body, args)?;
+    let by = Term::var(alloc, value_name())?;
+    let mut sub = Vec::new(alloc);
+    sub.push(Replacement {
+        name: callee.answer,
+        by,
+    })?;
+    let sub = with_entries(alloc, sub, callee.params.as_slice(), terms.as_slice())?;
+    each_with_terms(alloc, sub.as_slice(), callee.post.as_slice())
+}
+
 /// The commands of a call whose answer comes to local `x`, which has the type.
 pub(crate) fn call_commands(
     alloc: Global,
@@ -117,18 +137,11 @@ pub(crate) fn call_commands(
     ensures { IfOk result (λ v. v.items ≡ call_commands body.now callee.now x ty.now args.now) }
 {
     let value = value_name();
-    let terms = operand_terms(alloc, body, args)?;
-    let mut sub = Vec::new(alloc);
-    let by = Term::var(value);
-    sub.push(Replacement {
-        name: callee.answer,
-        by,
-    })?;
-    let sub = with_entries(alloc, sub, callee.params.as_slice(), terms.as_slice())?;
-    let known = each_with_terms(alloc, sub.as_slice(), callee.post.as_slice())?;
+    let known = known_after(alloc, body, callee, args)?;
     let mut commands = Vec::new(alloc);
     commands.push(Command::Fresh(value, ty.copy(alloc)?))?;
     let mut commands = with_assumed(alloc, commands, known.as_slice())?;
-    commands.push(Command::Set(name_of(body, x), Term::var(value)))?;
+    let answer = Term::var(alloc, value)?;
+    commands.push(Command::Set(name_of(body, x), answer))?;
     Ok(commands)
 }

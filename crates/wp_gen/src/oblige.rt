@@ -37,7 +37,7 @@ fn with_stored(
     let mut all = first;
     let mut local: u32 = 1;
     for name in names {
-        all.push(Command::Set(name_of(body, local), Term::var(*name)))?;
+        all.push(Command::Set(name_of(body, local), Term::var(alloc, *name)?))?;
         local = local.checked_add(1).ok_or(NoMemory)?;
     }
     Ok(all)

@@ -1,5 +1,7 @@
 //! The goals of a statement, and its commands.
 ghost use Rattle.std.specs.Prelude.{◌≡◌, ◌∷◌, [], ◌++◌, map, IfOk, Some, slice_get};
+ghost use Rattle.logic_term.specs.Ty.{math_int};
+ghost use Rattle.logic_term.specs.Term.{is_at_most, is_equal, lit};
 ghost use Rattle.mir_ir.specs.Body.{kind_of, kind_in};
 ghost use Rattle.wp_gen.specs.Row.{value_name, name_of, operand_term, integer_term, in_range, is_signed, not_zero, not_least_by_minus_one, operation, division, overflow, if_signed, goals_of_operation, goals_of_kind, goals_of};
 
@@ -28,14 +30,14 @@ pub(crate) fn name_of(body: &Body, local: u32) -> Name
     }
 }
 
-pub(crate) fn operand_term(body: &Body, operand: &Operand) -> Term
-    ensures { result ≡ operand_term body.now operand.now }
+pub(crate) fn operand_term(alloc: Global, body: &Body, operand: &Operand) -> Result<Term, NoMemory>
+    ensures { IfOk result (λ t. t ≡ operand_term body.now operand.now) }
 {
     match operand {
-        Operand::Copy(place) => Term::var(name_of(body, place.local)),
-        Operand::Move(place) => Term::var(name_of(body, place.local)),
-        Operand::Const(Lit::Int(number, kind)) => Term::lit(*number, Ty::int(*kind)),
-        Operand::Const(Lit::Bool(holds)) => Term::truth(*holds),
+        Operand::Copy(place) => Term::var(alloc, name_of(body, place.local)),
+        Operand::Move(place) => Term::var(alloc, name_of(body, place.local)),
+        Operand::Const(Lit::Int(number, kind)) => Term::lit(alloc, *number, Ty::int(*kind)),
+        Operand::Const(Lit::Bool(holds)) => Term::truth(alloc, *holds),
     }
 }
 
@@ -48,7 +50,7 @@ pub(crate) fn operand_terms(
 {
     let mut terms = Vec::with_capacity(alloc, args.len())?;
     for arg in args {
-        terms.push(operand_term(body, arg))?;
+        terms.push(operand_term(alloc, body, arg)?)?;
     }
     Ok(terms)
 }
@@ -57,7 +59,8 @@ pub(crate) fn operand_terms(
 pub(crate) fn integer_term(alloc: Global, body: &Body, operand: &Operand) -> Result<Term, NoMemory>
     ensures { IfOk result (λ t. t ≡ integer_term body.now operand.now) }
 {
-    Term::model(alloc, operand_term(body, operand))
+    let value = operand_term(alloc, body, operand)?;
+    Term::model(alloc, value)
 }
 
 fn kind_of(ty: &Ty) -> Option<IntKind>
@@ -78,12 +81,33 @@ pub(crate) fn kind_of_local(body: &Body, local: u32) -> Option<IntKind>
 
 // ---- formulas
 
+fn not_below(alloc: Global, least: i128, number: &Term) -> Result<Term, NoMemory>
+    ensures { IfOk result (λ t. t ≡ is_at_most (lit least math_int) number.now) }
+{
+    let least = Term::integer(alloc, least)?;
+    Term::at_most(alloc, least, number.copy(alloc)?)
+}
+
+fn not_above(alloc: Global, number: &Term, greatest: i128) -> Result<Term, NoMemory>
+    ensures { IfOk result (λ t. t ≡ is_at_most number.now (lit greatest math_int)) }
+{
+    let greatest = Term::integer(alloc, greatest)?;
+    Term::at_most(alloc, number.copy(alloc)?, greatest)
+}
+
+fn equals(alloc: Global, t: Term, number: i128) -> Result<Term, NoMemory>
+    ensures { IfOk result (λ e. e ≡ is_equal t (lit number math_int)) }
+{
+    let number = Term::integer(alloc, number)?;
+    Term::equal(alloc, t, number)
+}
+
 #[tactic(auto, unfolding(crate::specs::Row::in_range))]
 fn in_range(alloc: Global, kind: IntKind, number: &Term) -> Result<Term, NoMemory>
     ensures { IfOk result (λ t. t ≡ in_range kind number.now) }
 {
-    let above = Term::at_most(alloc, Term::integer(kind.lowest()), number.copy(alloc)?)?;
-    let below = Term::at_most(alloc, number.copy(alloc)?, Term::integer(kind.highest()))?;
+    let above = not_below(alloc, kind.lowest(), number)?;
+    let below = not_above(alloc, number, kind.highest())?;
     Term::and(alloc, above, below)
 }
 
@@ -101,7 +125,7 @@ pub(crate) fn is_signed(kind: IntKind) -> bool
 fn not_zero(alloc: Global, divisor: Term) -> Result<Term, NoMemory>
     ensures { IfOk result (λ t. t ≡ not_zero divisor) }
 {
-    let zero = Term::equal(alloc, divisor, Term::integer(0))?;
+    let zero = equals(alloc, divisor, 0)?;
     Term::not(alloc, zero)
 }
 
@@ -109,8 +133,8 @@ fn not_zero(alloc: Global, divisor: Term) -> Result<Term, NoMemory>
 fn not_least_by_minus_one(alloc: Global, kind: IntKind, a: Term, b: Term) -> Result<Term, NoMemory>
     ensures { IfOk result (λ t. t ≡ not_least_by_minus_one kind a b) }
 {
-    let least = Term::equal(alloc, a, Term::integer(kind.lowest()))?;
-    let minus_one = Term::equal(alloc, b, Term::integer(-1))?;
+    let least = equals(alloc, a, kind.lowest())?;
+    let minus_one = equals(alloc, b, -1)?;
     let both = Term::and(alloc, least, minus_one)?;
     Term::not(alloc, both)
 }

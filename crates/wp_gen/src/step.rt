@@ -1,6 +1,6 @@
 //! The commands of statements.
 ghost use Rattle.std.specs.Prelude.{◌≡◌, ◌∷◌, [], IfOk, Some, None, Option, slice_get};
-ghost use Rattle.logic_term.specs.Term.{model, is_less, is_at_most};
+ghost use Rattle.logic_term.specs.Term.{model, var, is_less, is_at_most, is_equal};
 ghost use Rattle.mir_ir.specs.Body.{kind_in};
 ghost use Rattle.wp_gen.specs.Row.{name_of, operand_term, operand_ty, integer_term, compared_ty, equality, comparison, of_arithmetic, of_comparison, operation, new_integer, of_operation, of_negation, of_rvalue, commands_of};
 
@@ -12,7 +12,7 @@ use crate::row::{
 use logic_term::{ArithOp, BinaryOp, IntKind, Term, Ty, TyNode};
 use mir_ir::{Body, Lit, Operand, Rvalue, StatementKind};
 use std::alloc::Global;
-use text_core::NoMemory;
+use text_core::{Name, NoMemory};
 
 fn one_command(alloc: Global, command: Command) -> Result<Vec<Command>, NoMemory>
     ensures { IfOk result (λ v. v.items ≡ command ∷ []) }
@@ -20,6 +20,15 @@ fn one_command(alloc: Global, command: Command) -> Result<Vec<Command>, NoMemory
     let mut commands = Vec::with_capacity(alloc, 1)?;
     commands.push(command)?;
     Ok(commands)
+}
+
+/// That the unbounded integer of the variable is this one.
+fn is_exact(alloc: Global, name: Name, exact: Term) -> Result<Term, NoMemory>
+    ensures { IfOk result (λ t. t ≡ is_equal (model (var name)) exact) }
+{
+    let variable = Term::var(alloc, name)?;
+    let number = Term::model(alloc, variable)?;
+    Term::equal(alloc, number, exact)
 }
 
 /// Local `x` gets a new value of the kind, of which it is known that it is the exact one.
@@ -33,11 +42,11 @@ fn new_integer(
     ensures { IfOk result (λ v. v.items ≡ new_integer body.now kind x exact) }
 {
     let value = value_name();
-    let known = Term::equal(alloc, Term::model(alloc, Term::var(value))?, exact)?;
+    let known = is_exact(alloc, value, exact)?;
     let mut commands = Vec::with_capacity(alloc, 3)?;
     commands.push(Command::Fresh(value, Ty::int(kind)))?;
     commands.push(Command::Assume(known))?;
-    commands.push(Command::Set(name_of(body, x), Term::var(value)))?;
+    commands.push(Command::Set(name_of(body, x), Term::var(alloc, value)?))?;
     Ok(commands)
 }
 
@@ -121,7 +130,7 @@ fn comparison(alloc: Global, of: Compared, op: BinaryOp, a: Term, b: Term) -> Re
         BinaryOp::Gt => less(alloc, b, a),
         BinaryOp::Ge => at_most(alloc, b, a),
         BinaryOp::Add | BinaryOp::Sub | BinaryOp::Mul | BinaryOp::Div | BinaryOp::Rem => {
-            Ok(Term::truth(false))
+            Term::truth(alloc, false)
         }
     }
 }
@@ -157,8 +166,8 @@ fn of_comparison(
     ensures { IfOk result (λ v. v.items ≡ of_comparison body.now x op a.now b.now) }
 {
     let of = what_is_compared(body, a);
-    let a = operand_term(body, a);
-    let b = operand_term(body, b);
+    let a = operand_term(alloc, body, a)?;
+    let b = operand_term(alloc, body, b)?;
     let truth = comparison(alloc, of, op, a, b)?;
     one_command(alloc, Command::Set(name_of(body, x), truth))
 }
@@ -195,17 +204,19 @@ fn of_rvalue(alloc: Global, body: &Body, x: u32, rvalue: &Rvalue) -> Result<Vec<
 {
     match rvalue {
         Rvalue::Use(a) => {
-            let value = operand_term(body, a);
+            let value = operand_term(alloc, body, a)?;
             one_command(alloc, Command::Set(name_of(body, x), value))
         }
         Rvalue::Binary(op, a, b) => of_operation(alloc, body, x, *op, a, b),
         Rvalue::Neg(a) => of_negation(alloc, body, x, a),
         Rvalue::Not(a) => {
-            let opposite = Term::not(alloc, operand_term(body, a))?;
+            let value = operand_term(alloc, body, a)?;
+            let opposite = Term::not(alloc, value)?;
             one_command(alloc, Command::Set(name_of(body, x), opposite))
         }
         Rvalue::Make(ctor, parts) => {
-            let value = Term::made(*ctor, operand_terms(alloc, body, parts.as_slice())?);
+            let parts = operand_terms(alloc, body, parts.as_slice())?;
+            let value = Term::made(alloc, *ctor, parts)?;
             one_command(alloc, Command::Set(name_of(body, x), value))
         }
     }

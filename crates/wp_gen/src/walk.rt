@@ -38,7 +38,7 @@ pub struct Walk<'a> {
 fn at_answers(alloc: Global, body: &Body, contract: &Contract) -> Result<Vec<Term>, NoMemory>
     ensures { IfOk result (λ v. v.items ≡ map (at_answer body.now contract.now) contract.now.post) }
 {
-    let answer = Term::var(name_of(body, 0));
+    let answer = Term::var(alloc, name_of(body, 0))?;
     let post = contract.post.as_slice();
     let mut all = Vec::with_capacity(alloc, post.len())?;
     for term in post {
@@ -72,14 +72,15 @@ fn where_true(alloc: Global, body: &Body, operand: &Operand) -> Result<Vec<Comma
     ensures { IfOk result (λ v. v.items ≡ where_true body.now operand.now) }
 {
     let mut commands = Vec::with_capacity(alloc, 1)?;
-    commands.push(Command::Assume(operand_term(body, operand)))?;
+    commands.push(Command::Assume(operand_term(alloc, body, operand)?))?;
     Ok(commands)
 }
 
 fn where_false(alloc: Global, body: &Body, operand: &Operand) -> Result<Vec<Command>, NoMemory>
     ensures { IfOk result (λ v. v.items ≡ where_false body.now operand.now) }
 {
-    let opposite = Term::not(alloc, operand_term(body, operand))?;
+    let value = operand_term(alloc, body, operand)?;
+    let opposite = Term::not(alloc, value)?;
     let mut commands = Vec::with_capacity(alloc, 1)?;
     commands.push(Command::Assume(opposite))?;
     Ok(commands)

@@ -9,8 +9,11 @@ decreases-push_term l = 4 * term_size l.t.now
 abbrev pub decreases-push_prefixed : goal.decreases-push_prefixed
 decreases-push_prefixed l = 4 * term_size l.t.now + 1
 
-abbrev pub decreases-push_between : goal.decreases-push_between
-decreases-push_between l = 4 * max (term_size l.left.now) (term_size l.right.now) + 2
+abbrev pub decreases-push_unary : goal.decreases-push_unary
+decreases-push_unary l = 4 * term_size l.t.now + 2
+
+abbrev pub decreases-push_binary : goal.decreases-push_binary
+decreases-push_binary l = 4 * max (term_size l.left.now) (term_size l.right.now) + 2
 
 abbrev pub decreases-push_forall : goal.decreases-push_forall
 decreases-push_forall l = 4 * term_size l.body.now + 2
