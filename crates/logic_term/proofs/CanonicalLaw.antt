@@ -1,5 +1,5 @@
 -- A term in canonical form has the values of the term.
-use Rattle.std.proofs.Common.{◌≡◌, ℕ, zero, suc, ◌≤◌, ◌<◌, ◌==◌, ◌||◌, ◌&&◌, not, max, Bool, true, false, cond, List, [], ◌∷◌, refl, sym, ◌∙◌, ap, arith, true≢false}
+use Rattle.std.proofs.Common.{◌≡◌, ℕ, zero, suc, ◌≤◌, ◌<◌, ◌==◌, ◌||◌, ◌&&◌, not, Bool, true, false, cond, List, [], ◌∷◌, refl, sym, ◌∙◌, ap, arith, true≢false}
 use Rattle.std.proofs.lemmas.Bool.Decides.{nat_tests}
 use Rattle.text_core.specs.declared.name.Name.{Name}
 use Rattle.logic_term.specs.declared.subst.Replacement.{Replacement}
