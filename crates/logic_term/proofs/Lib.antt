@@ -1,4 +1,5 @@
 pub mod Alike
+pub mod CanonicalLaw
 pub mod Coincide
 pub mod FreeLaw
 pub mod Lists

@@ -10,7 +10,7 @@ use Rattle.logic_term.specs.Subst.{above, all_above, look, subst, substs, replac
 use Rattle.logic_term.proofs.Alike.{Alike, alike_same, alike_back, alike_then, applied_alike_at, quantified_alike}
 use Rattle.logic_term.proofs.Coincide.{agree_new, coincide, with_same}
 
-count_substs : (n : ℕ) (σ : List Replacement) (ts : Terms) → count (substs n σ ts) ≡ count ts
+pub count_substs : (n : ℕ) (σ : List Replacement) (ts : Terms) → count (substs n σ ts) ≡ count ts
 count_substs n σ no_terms = refl
 count_substs n σ (and_term t ts) = ap suc (count_substs n σ ts)
 

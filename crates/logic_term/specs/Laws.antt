@@ -10,6 +10,7 @@ use Rattle.logic_term.specs.Meaning.{Sure, Structure, Env, with_value, Means, Ho
 use Rattle.logic_term.specs.Sort.{HasSort, instance}
 use Rattle.logic_term.specs.Free.{free}
 use Rattle.logic_term.specs.Subst.{replaced, SameUpToNames}
+use Rattle.logic_term.specs.Canonical.{canonical}
 use Rattle.logic_term.specs.Normal.{reduced}
 
 -- t has at ρ the values that u has at τ
@@ -32,6 +33,9 @@ PutTermsCountAsValues = (S : Structure) (ρ : Env) (x : Name) (u t : Term) (w : 
 -- terms that are equal up to the names that they bind have the same values
 abbrev pub BoundNamesDoNotCount : Type 0
 BoundNamesDoNotCount = (t u : Term) → SameUpToNames t u → HasValuesOf t u
+
+abbrev pub CanonicalFormsKeepValues : Type 0
+CanonicalFormsKeepValues = (t : Term) → HasValuesOf (canonical t) t
 
 -- environments with the same values at the free names give the same values
 abbrev pub FreeNamesAloneCount : Type 0

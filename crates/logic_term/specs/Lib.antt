@@ -1,3 +1,4 @@
+pub mod Canonical
 pub mod Free
 pub mod Laws
 pub mod Meaning

@@ -1,7 +1,7 @@
 //! What holds of the meaning of every term. Nothing here computes: each clause is a law of the definitions in specs/,
 //! by which the contracts of this crate speak.
 
-ghost use Rattle.logic_term.specs.Laws.{PutTermsCountAsValues, BoundNamesDoNotCount, FreeNamesAloneCount, OtherNamesDoNotCount};
+ghost use Rattle.logic_term.specs.Laws.{PutTermsCountAsValues, BoundNamesDoNotCount, CanonicalFormsKeepValues, FreeNamesAloneCount, OtherNamesDoNotCount};
 ghost use Rattle.logic_term.specs.Laws.{ValuesAreSingle, ValuesAreSure, ValuesOfMade, ValueOfUnit, NormalFormsKeepValues};
 ghost use Rattle.logic_term.specs.Laws.{TruthOfConstants, TruthOfNot, TruthOfAnd, TruthOfOr, TruthOfImplies, TruthOfForall, TruthOfLess, TruthOfAtMost, TruthOfEqual};
 
@@ -13,6 +13,11 @@ pub fn put_terms_count_as_values()
 /// Renaming: terms that are equal up to the names that they bind have the same values.
 pub fn bound_names_do_not_count()
     ensures { BoundNamesDoNotCount }
+{}
+
+/// The canonical form of a term has its values.
+pub fn canonical_forms_keep_values()
+    ensures { CanonicalFormsKeepValues }
 {}
 
 /// A term's values depend on the values of its free names alone.

@@ -6,6 +6,8 @@ mod certificates;
 #[cfg(test)]
 mod goals;
 #[cfg(test)]
+mod products;
+#[cfg(test)]
 mod proof_files;
 #[cfg(test)]
 mod rows;

@@ -2,15 +2,16 @@
 use Rattle.std.proofs.Common.{◌≡◌, suc, Bool, true, false, cond, List, [], ◌∷◌, ◌++◌, Option, Some, None, All, refl, sym, ◌∙◌, ap, ap₂, subst, arith}
 use Rattle.std.specs.Prelude.{ℤ, pos, negsuc, neg_ℤ, ◌+ℤ◌, ◌-ℤ◌, ◌*ℤ◌, ◌<ℤ◌, ◌≤ℤ◌, int_le, int_lt}
 use Rattle.std.proofs.lemmas.Int.{ints, by_lt_z}
-use Rattle.std.proofs.Math.IntN.{ℤ_ind, +ℤ_assoc, +ℤ_idl, +ℤ_idr, +ℤ_one, -ℤ_one, zero-*ℤ, suc_ℤ-*ℤ, pred_ℤ-*ℤ, *ℤ_comm, *ℤ-zero}
 use Rattle.text_core.specs.declared.name.Name.{Name}
-use Rattle.logic_term.specs.declared.kinds.ArithOp.TheVariants.{Add, Sub}
+use Rattle.logic_term.specs.declared.kinds.ArithOp.TheVariants.{Add, Sub, Mul}
 use Rattle.logic_term.specs.Ty.{Ty}
 use Rattle.logic_term.specs.Value.{Value, Number, integer_of}
 use Rattle.logic_term.specs.Term.{negated, denied, arith as by_op, less, at_most, equal, Term, lit, apply, no_terms, and_term}
+use Rattle.logic_term.specs.Canonical.{canonical}
 use Rattle.logic_term.specs.Same.{same_term}
 use Rattle.logic_term.specs.Meaning.{Sure, Structure, Env, Means, Holds}
 use Rattle.logic_term.proofs.Alike.{sure_map}
+use Rattle.logic_term.proofs.CanonicalLaw.{canonical_means}
 use Rattle.logic_term.proofs.SameLaw.{same_term_equal, equal_same_term}
 use Rattle.logic_term.proofs.Truth.{Exactly, holds_less, holds_at_most, holds_not, holds_equal_exactly}
 use Rattle.logic_term.proofs.Unique.{single, has_value}
@@ -18,190 +19,21 @@ use Rattle.proof_kernel.specs.declared.sequent.Sequent.{Sequent}
 use Rattle.proof_kernel.specs.declared.step.Multiple.{Multiple}
 use Rattle.proof_kernel.specs.declared.step.Reference.{Reference}
 use Rattle.proof_kernel.specs.declared.step.Reference.TheVariants.{Goal, Hyp, Back}
-use Rattle.proof_kernel.specs.LinArith.{int_sum}
-use Rattle.proof_kernel.specs.Linear.{factor, constant, Difference, row_of, row_back, row_of_goal, row_if_found, referred, is_integer, AreRows, row_factor, row_constant, multiples, Certifies}
+use Rattle.proof_kernel.specs.Linear.{Difference, row_of, row_back, row_of_goal, row_if_found, referred, is_integer, AreRows, row_constant, Certifies}
 use Rattle.proof_kernel.specs.Rules.{hypothesis}
 use Rattle.proof_kernel.specs.Sequent.{AllHold, IsTrueAt}
+use Rattle.proof_kernel.proofs.LinearTotal.{sum_at, row_at, total, total_is_constant}
 use Rattle.proof_kernel.proofs.Sound.{held}
-
--- ---- the ring laws that are used
-
-plus_times : (a b c : ℤ) → (a +ℤ b) *ℤ c ≡ a *ℤ c +ℤ b *ℤ c
-plus_times a b c = ℤ_ind (λ x. (a +ℤ x) *ℤ c ≡ a *ℤ c +ℤ x *ℤ c) none (λ n. up (pos n)) (λ n. down (neg_ℤ (pos n))) b
-  where
-    none : (a +ℤ pos 0) *ℤ c ≡ a *ℤ c +ℤ pos 0 *ℤ c
-    none = ap (λ t. t *ℤ c) (+ℤ_idr a) ∙ sym (+ℤ_idr (a *ℤ c)) ∙ ap (λ t. a *ℤ c +ℤ t) (sym (zero-*ℤ c))
-
-    up : (x : ℤ) → (a +ℤ x) *ℤ c ≡ a *ℤ c +ℤ x *ℤ c → (a +ℤ (x +ℤ pos 1)) *ℤ c ≡ a *ℤ c +ℤ (x +ℤ pos 1) *ℤ c
-    up x h =
-        ap (λ t. t *ℤ c) (sym (+ℤ_assoc a x (pos 1)) ∙ +ℤ_one (a +ℤ x))
-        ∙ suc_ℤ-*ℤ (a +ℤ x) c
-        ∙ ap (λ t. t +ℤ c) h
-        ∙ +ℤ_assoc (a *ℤ c) (x *ℤ c) c
-        ∙ ap (λ t. a *ℤ c +ℤ t) (sym (suc_ℤ-*ℤ x c) ∙ ap (λ t. t *ℤ c) (sym (+ℤ_one x)))
-
-    down : (x : ℤ) → (a +ℤ x) *ℤ c ≡ a *ℤ c +ℤ x *ℤ c → (a +ℤ (x +ℤ negsuc 0)) *ℤ c ≡ a *ℤ c +ℤ (x +ℤ negsuc 0) *ℤ c
-    down x h =
-        ap (λ t. t *ℤ c) (sym (+ℤ_assoc a x (negsuc 0)) ∙ -ℤ_one (a +ℤ x))
-        ∙ pred_ℤ-*ℤ (a +ℤ x) c
-        ∙ ap (λ t. t +ℤ neg_ℤ c) h
-        ∙ +ℤ_assoc (a *ℤ c) (x *ℤ c) (neg_ℤ c)
-        ∙ ap (λ t. a *ℤ c +ℤ t) (sym (pred_ℤ-*ℤ x c) ∙ ap (λ t. t *ℤ c) (sym (-ℤ_one x)))
-
--- what adds up to x, and to 0
-opposite : (x y : ℤ) → x +ℤ y ≡ pos 0 → y ≡ neg_ℤ x
-opposite x y e = omega (arith, ints)
-
-neg_times : (a c : ℤ) → neg_ℤ a *ℤ c ≡ neg_ℤ (a *ℤ c)
-neg_times a c = opposite (a *ℤ c) (neg_ℤ a *ℤ c) (sym (plus_times a (neg_ℤ a) c) ∙ ap (λ t. t *ℤ c) (inverse a) ∙ zero-*ℤ c)
-  where
-    inverse : (x : ℤ) → x +ℤ neg_ℤ x ≡ pos 0
-    inverse x = omega (arith, ints)
-
-minus_times : (a b c : ℤ) → (a -ℤ b) *ℤ c ≡ a *ℤ c -ℤ b *ℤ c
-minus_times a b c = plus_times a (neg_ℤ b) c ∙ ap (λ t. a *ℤ c +ℤ t) (neg_times b c)
-
-one_times : (c : ℤ) → pos 1 *ℤ c ≡ c
-one_times c = suc_ℤ-*ℤ (pos 0) c ∙ ap (λ t. t +ℤ c) (zero-*ℤ c) ∙ +ℤ_idl c
-
-times_one : (c : ℤ) → c *ℤ pos 1 ≡ c
-times_one c = *ℤ_comm c (pos 1) ∙ one_times c
-
--- ---- terms and rows at integers for the atoms
-
-abbrev pub sum_at : (Term → ℤ) → Term → ℤ
-sum_at ν (apply (by_op Add) (and_term a (and_term b no_terms))) = sum_at ν a +ℤ sum_at ν b
-sum_at ν (apply (by_op Sub) (and_term a (and_term b no_terms))) = sum_at ν a -ℤ sum_at ν b
-sum_at ν (apply negated (and_term a no_terms)) = neg_ℤ (sum_at ν a)
-sum_at ν (lit z s) = z
-sum_at ν t = ν t
-
-abbrev pub row_at : (Term → ℤ) → Difference → ℤ
-row_at ν d = (sum_at ν d.upper -ℤ sum_at ν d.lower) -ℤ d.gap
-
--- another integer at one atom
-abbrev pub changed : (Term → ℤ) → Term → ℤ → Term → ℤ
-changed ν u z t = cond (same_term t u) z (ν t)
-
-abbrev all_zero : Term → ℤ
-all_zero t = pos 0
-
-sum_at-zero : (t : Term) → sum_at all_zero t ≡ constant t
-sum_at-zero (apply (by_op Add) (and_term a (and_term b no_terms))) = ap₂ (λ x y. x +ℤ y) (sum_at-zero a) (sum_at-zero b)
-sum_at-zero (apply (by_op Sub) (and_term a (and_term b no_terms))) = ap₂ (λ x y. x -ℤ y) (sum_at-zero a) (sum_at-zero b)
-sum_at-zero (apply negated (and_term a no_terms)) = ap neg_ℤ (sum_at-zero a)
-sum_at-zero (lit z s) = refl
-sum_at-zero t = refl
-
--- what a change of an atom adds to a sum is its factor times the change
-atom_step : (b : Bool) (t u : Term) (ν : Term → ℤ) (z : ℤ) → same_term t u ≡ b → cond b z (ν t) ≡ ν t +ℤ cond b (pos 1) (pos 0) *ℤ (z -ℤ ν u)
-atom_step false t u ν z e = sym (ap (λ x. ν t +ℤ x) (zero-*ℤ (z -ℤ ν u)) ∙ +ℤ_idr (ν t))
-atom_step true t u ν z e =
-    back z (ν u) ∙ ap (λ (v : Term). ν v +ℤ (z -ℤ ν u)) (sym (same_term_equal t u e)) ∙ ap (λ x. ν t +ℤ x) (sym (one_times (z -ℤ ν u)))
-  where
-    back : (x y : ℤ) → x ≡ y +ℤ (x -ℤ y)
-    back x y = omega (arith, ints)
-
-add_step : (x y f g d : ℤ) → (x +ℤ f *ℤ d) +ℤ (y +ℤ g *ℤ d) ≡ (x +ℤ y) +ℤ (f +ℤ g) *ℤ d
-add_step x y f g d = swap x y (f *ℤ d) (g *ℤ d) ∙ ap (λ t. (x +ℤ y) +ℤ t) (sym (plus_times f g d))
-  where
-    swap : (x y p q : ℤ) → (x +ℤ p) +ℤ (y +ℤ q) ≡ (x +ℤ y) +ℤ (p +ℤ q)
-    swap x y p q = omega (arith, ints)
-
-sub_step : (x y f g d : ℤ) → (x +ℤ f *ℤ d) -ℤ (y +ℤ g *ℤ d) ≡ (x -ℤ y) +ℤ (f -ℤ g) *ℤ d
-sub_step x y f g d = swap x y (f *ℤ d) (g *ℤ d) ∙ ap (λ t. (x -ℤ y) +ℤ t) (sym (minus_times f g d))
-  where
-    swap : (x y p q : ℤ) → (x +ℤ p) -ℤ (y +ℤ q) ≡ (x -ℤ y) +ℤ (p -ℤ q)
-    swap x y p q = omega (arith, ints)
-
-neg_step : (x f d : ℤ) → neg_ℤ (x +ℤ f *ℤ d) ≡ neg_ℤ x +ℤ neg_ℤ f *ℤ d
-neg_step x f d = swap x (f *ℤ d) ∙ ap (λ t. neg_ℤ x +ℤ t) (sym (neg_times f d))
-  where
-    swap : (x p : ℤ) → neg_ℤ (x +ℤ p) ≡ neg_ℤ x +ℤ neg_ℤ p
-    swap x p = omega (arith, ints)
-
-sum_at-changed : (ν : Term → ℤ) (u : Term) (z : ℤ) (t : Term) → sum_at (changed ν u z) t ≡ sum_at ν t +ℤ factor u t *ℤ (z -ℤ ν u)
-sum_at-changed ν u z (apply (by_op Add) (and_term a (and_term b no_terms))) =
-    ap₂ (λ x y. x +ℤ y) (sum_at-changed ν u z a) (sum_at-changed ν u z b) ∙ add_step (sum_at ν a) (sum_at ν b) (factor u a) (factor u b) (z -ℤ ν u)
-sum_at-changed ν u z (apply (by_op Sub) (and_term a (and_term b no_terms))) =
-    ap₂ (λ x y. x -ℤ y) (sum_at-changed ν u z a) (sum_at-changed ν u z b) ∙ sub_step (sum_at ν a) (sum_at ν b) (factor u a) (factor u b) (z -ℤ ν u)
-sum_at-changed ν u z (apply negated (and_term a no_terms)) =
-    ap neg_ℤ (sum_at-changed ν u z a) ∙ neg_step (sum_at ν a) (factor u a) (z -ℤ ν u)
-sum_at-changed ν u z (lit n s) = sym (ap (λ x. n +ℤ x) (zero-*ℤ (z -ℤ ν u)) ∙ +ℤ_idr n)
-sum_at-changed ν u z t = atom_step (same_term t u) t u ν z refl
-
-row_at-changed : (ν : Term → ℤ) (u : Term) (z : ℤ) (d : Difference) → row_at (changed ν u z) d ≡ row_at ν d +ℤ row_factor u d *ℤ (z -ℤ ν u)
-row_at-changed ν u z d =
-    ap (λ x. x -ℤ d.gap) (ap₂ (λ x y. x -ℤ y) (sum_at-changed ν u z d.upper) (sum_at-changed ν u z d.lower) ∙ sub_step (sum_at ν d.upper) (sum_at ν d.lower) (factor u d.upper) (factor u d.lower) (z -ℤ ν u))
-    ∙ swap (sum_at ν d.upper -ℤ sum_at ν d.lower) (row_factor u d *ℤ (z -ℤ ν u)) d.gap
-  where
-    swap : (x p g : ℤ) → (x +ℤ p) -ℤ g ≡ (x -ℤ g) +ℤ p
-    swap x p g = omega (arith, ints)
-
-row_at-zero : (d : Difference) → row_at all_zero d ≡ row_constant d
-row_at-zero d = ap (λ x. x -ℤ d.gap) (ap₂ (λ x y. x -ℤ y) (sum_at-zero d.upper) (sum_at-zero d.lower))
-
--- ---- the combination of the rows
-
-abbrev total : (Difference → ℤ) → List Difference → List Multiple → ℤ
-total f ds ms = int_sum (multiples f ds ms)
-
-total-same : (f g : Difference → ℤ) → ((d : Difference) → f d ≡ g d) → (ds : List Difference) (ms : List Multiple) → total f ds ms ≡ total g ds ms
-total-same f g e [] ms = refl
-total-same f g e (d ∷ ds) [] = refl
-total-same f g e (d ∷ ds) (m ∷ ms) = ap₂ (λ x y. x *ℤ m.by +ℤ y) (e d) (total-same f g e ds ms)
-
-times_swap : (a b c : ℤ) → (a *ℤ b) *ℤ c ≡ (a *ℤ c) *ℤ b
-times_swap a b c = ℤ_ind (λ x. (a *ℤ x) *ℤ c ≡ (a *ℤ c) *ℤ x) none (λ n. up (pos n)) (λ n. down (neg_ℤ (pos n))) b
-  where
-    right_plus : (x y w : ℤ) → x *ℤ (y +ℤ w) ≡ x *ℤ y +ℤ x *ℤ w
-    right_plus x y w = *ℤ_comm x (y +ℤ w) ∙ plus_times y w x ∙ ap₂ (λ s t. s +ℤ t) (*ℤ_comm y x) (*ℤ_comm w x)
-
-    none : (a *ℤ pos 0) *ℤ c ≡ (a *ℤ c) *ℤ pos 0
-    none = ap (λ t. t *ℤ c) (*ℤ-zero a) ∙ zero-*ℤ c ∙ sym (*ℤ-zero (a *ℤ c))
-
-    up : (x : ℤ) → (a *ℤ x) *ℤ c ≡ (a *ℤ c) *ℤ x → (a *ℤ (x +ℤ pos 1)) *ℤ c ≡ (a *ℤ c) *ℤ (x +ℤ pos 1)
-    up x h =
-        ap (λ t. t *ℤ c) (right_plus a x (pos 1) ∙ ap (λ t. a *ℤ x +ℤ t) (times_one a))
-        ∙ plus_times (a *ℤ x) a c
-        ∙ ap (λ t. t +ℤ a *ℤ c) h
-        ∙ ap (λ t. (a *ℤ c) *ℤ x +ℤ t) (sym (times_one (a *ℤ c)))
-        ∙ sym (right_plus (a *ℤ c) x (pos 1))
-
-    minus_one : (y : ℤ) → y *ℤ negsuc 0 ≡ neg_ℤ y
-    minus_one y = *ℤ_comm y (negsuc 0) ∙ neg_times (pos 1) y ∙ ap neg_ℤ (one_times y)
-
-    down : (x : ℤ) → (a *ℤ x) *ℤ c ≡ (a *ℤ c) *ℤ x → (a *ℤ (x +ℤ negsuc 0)) *ℤ c ≡ (a *ℤ c) *ℤ (x +ℤ negsuc 0)
-    down x h =
-        ap (λ t. t *ℤ c) (right_plus a x (negsuc 0) ∙ ap (λ t. a *ℤ x +ℤ t) (minus_one a))
-        ∙ plus_times (a *ℤ x) (neg_ℤ a) c
-        ∙ ap₂ (λ s t. s +ℤ t) h (neg_times a c)
-        ∙ ap (λ t. (a *ℤ c) *ℤ x +ℤ t) (sym (minus_one (a *ℤ c)))
-        ∙ sym (right_plus (a *ℤ c) x (negsuc 0))
-
-total-changed : (f g : Difference → ℤ) (v : ℤ) (ds : List Difference) (ms : List Multiple) → total (λ d. f d +ℤ g d *ℤ v) ds ms ≡ total f ds ms +ℤ total g ds ms *ℤ v
-total-changed f g v [] ms = sym (ap (λ x. pos 0 +ℤ x) (zero-*ℤ v))
-total-changed f g v (d ∷ ds) [] = sym (ap (λ x. pos 0 +ℤ x) (zero-*ℤ v))
-total-changed f g v (d ∷ ds) (m ∷ ms) =
-    ap₂ (λ x y. x +ℤ y) (plus_times (f d) (g d *ℤ v) m.by ∙ ap (λ x. f d *ℤ m.by +ℤ x) (times_swap (g d) v m.by)) (total-changed f g v ds ms)
-    ∙ add_step (f d *ℤ m.by) (total f ds ms) (g d *ℤ m.by) (total g ds ms) v
-
--- where the factors of an atom add up to 0, its integer does not matter
-total-vanish : (ν : Term → ℤ) (u : Term) (z : ℤ) (ds : List Difference) (ms : List Multiple) → total (row_factor u) ds ms ≡ pos 0 → total (row_at (changed ν u z)) ds ms ≡ total (row_at ν) ds ms
-total-vanish ν u z ds ms e =
-    total-same (row_at (changed ν u z)) (λ d. row_at ν d +ℤ row_factor u d *ℤ (z -ℤ ν u)) (row_at-changed ν u z) ds ms
-    ∙ total-changed (row_at ν) (row_factor u) (z -ℤ ν u) ds ms
-    ∙ ap (λ x. total (row_at ν) ds ms +ℤ x) (ap (λ x. x *ℤ (z -ℤ ν u)) e ∙ zero-*ℤ (z -ℤ ν u))
-    ∙ +ℤ_idr (total (row_at ν) ds ms)
 
 -- ---- atoms
 
 abbrev atoms_of : Term → List Term
 atoms_of (apply (by_op Add) (and_term a (and_term b no_terms))) = atoms_of a ++ atoms_of b
 atoms_of (apply (by_op Sub) (and_term a (and_term b no_terms))) = atoms_of a ++ atoms_of b
+atoms_of (apply (by_op Mul) (and_term a (and_term b no_terms))) = atoms_of a ++ atoms_of b
 atoms_of (apply negated (and_term a no_terms)) = atoms_of a
 atoms_of (lit z s) = []
-atoms_of t = t ∷ []
+atoms_of t = canonical t ∷ []
 
 abbrev atoms_of_rows : List Difference → List Term
 atoms_of_rows [] = []
@@ -249,6 +81,9 @@ module _ (S : Structure) (ρ : Env) where
   abbrev IsAt : Term → ℤ → Type 0
   IsAt t z = (v : Value) × Means S t ρ v × (integer_of v ≡ z)
 
+  of_canonical : (t : Term) (z : ℤ) → IsAt (canonical t) z → IsAt t z
+  of_canonical t z p = (p.0, (canonical_means S t ρ p.0).0 p.1, p.2)
+
   sum_is : (ν : Term → ℤ) (t : Term) → Each (λ u. IsAt u (ν u)) (atoms_of t) → IsAt t (sum_at ν t)
   sum_is ν (apply (by_op Add) (and_term a (and_term b no_terms))) h =
       let p = each_both (λ u. IsAt u (ν u)) (atoms_of a) (atoms_of b) h in
@@ -260,11 +95,16 @@ module _ (S : Structure) (ρ : Env) where
       let x = sum_is ν a p.0 in
       let y = sum_is ν b p.1 in
       (Number (integer_of x.0 -ℤ integer_of y.0), (x.0, y.0, x.1, y.1, refl), ap₂ (λ m n. m -ℤ n) x.2 y.2)
+  sum_is ν (apply (by_op Mul) (and_term a (and_term b no_terms))) h =
+      let p = each_both (λ u. IsAt u (ν u)) (atoms_of a) (atoms_of b) h in
+      let x = sum_is ν a p.0 in
+      let y = sum_is ν b p.1 in
+      (Number (integer_of x.0 *ℤ integer_of y.0), (x.0, y.0, x.1, y.1, refl), ap₂ (λ m n. m *ℤ n) x.2 y.2)
   sum_is ν (apply negated (and_term a no_terms)) h =
       let x = sum_is ν a h in
       (Number (neg_ℤ (integer_of x.0)), (x.0, x.1, refl), ap neg_ℤ x.2)
   sum_is ν (lit z s) h = (Number z, refl, refl)
-  sum_is ν t h = h.0
+  sum_is ν t h = of_canonical t (ν (canonical t)) h.0
 
   exact : (t : Term) (z : ℤ) (p : IsAt t z) → Exactly (Means S t ρ) p.0
   exact t z p v = ((λ q. single S t ρ v p.0 q p.1), (λ e. subst (Means S t ρ) (sym e) p.1))
@@ -379,36 +219,36 @@ module _ (S : Structure) (ρ : Env) where
       (times_not_negative (row_at ν d) m.by row (g 0 m (omega arith)))
       (total_not_negative ν q h n ms ds r.1 (λ k x l. g (suc k) x (omega arith)) here.1)
 
-  -- integers for these atoms, at which the combination comes to its constant
-  abbrev Valuation : List Difference → List Multiple → List Term → Type 0
-  Valuation ds ms us = (ν : Term → ℤ) × Each (λ u. IsAt u (ν u)) us × (total (row_at ν) ds ms ≡ total row_constant ds ms)
+  -- integers for these atoms
+  abbrev Valuation : List Term → Type 0
+  Valuation us = (ν : Term → ℤ) × Each (λ u. IsAt u (ν u)) us
 
-  changed_is : (ν : Term → ℤ) (u : Term) (v : Value) → Means S u ρ v → (t : Term) → IsAt t (ν t) → IsAt t (changed ν u (integer_of v) t)
-  changed_is ν u v m t p = choose (same_term t u) refl
+  -- another integer at one atom
+  abbrev with_integer : (Term → ℤ) → Term → ℤ → Term → ℤ
+  with_integer ν u z t = cond (same_term t u) z (ν t)
+
+  still_is : (ν : Term → ℤ) (u : Term) (v : Value) → Means S u ρ v → (t : Term) → IsAt t (ν t) → IsAt t (with_integer ν u (integer_of v) t)
+  still_is ν u v m t p = choose (same_term t u) refl
     where
       choose : (b : Bool) → same_term t u ≡ b → IsAt t (cond b (integer_of v) (ν t))
       choose true e = (v, subst (λ (x : Term). Means S x ρ v) (sym (same_term_equal t u e)) m, refl)
       choose false e = p
 
-  changed_here : (ν : Term → ℤ) (u : Term) (v : Value) → Means S u ρ v → IsAt u (changed ν u (integer_of v) u)
-  changed_here ν u v m = (v, m, ap (λ b. cond b (integer_of v) (ν u)) (sym (equal_same_term u u refl)))
+  now_is : (ν : Term → ℤ) (u : Term) (v : Value) → Means S u ρ v → IsAt u (with_integer ν u (integer_of v) u)
+  now_is ν u v m = (v, m, ap (λ b. cond b (integer_of v) (ν u)) (sym (equal_same_term u u refl)))
 
-  valuation : (ds : List Difference) (ms : List Multiple) → ((u : Term) → total (row_factor u) ds ms ≡ pos 0) → (us : List Term) → Sure (Valuation ds ms us)
-  valuation ds ms vanish [] k = k (all_zero, tt, total-same (row_at all_zero) row_constant row_at-zero ds ms)
-  valuation ds ms vanish (u ∷ us) k =
-      valuation ds ms vanish us (λ (p : Valuation ds ms us). has_value S u ρ (λ (w : (v : Value) × Means S u ρ v).
-      let ν : Term → ℤ = changed p.0 u (integer_of w.0) in
-      k (
-        ν,
-        (changed_here p.0 u w.0 w.1, each_map (λ t. IsAt t (p.0 t)) (λ t. IsAt t (ν t)) (changed_is p.0 u w.0 w.1) us p.1),
-        total-vanish p.0 u (integer_of w.0) ds ms (vanish u) ∙ p.2,
-      )))
+  valuation : (us : List Term) → Sure (Valuation us)
+  valuation [] k = k ((λ t. pos 0), tt)
+  valuation (u ∷ us) k =
+      valuation us (λ (p : Valuation us). has_value S u ρ (λ (w : (v : Value) × Means S u ρ v).
+      let ν : Term → ℤ = with_integer p.0 u (integer_of w.0) in
+      k (ν, (now_is p.0 u w.0 w.1, each_map (λ t. IsAt t (p.0 t)) (λ t. IsAt t (ν t)) (still_is p.0 u w.0 w.1) us p.1))))
 
 clash : (a b : ℤ) → a ≡ b → pos 0 ≤ℤ a → b <ℤ pos 0 → ⊥
 clash a b e h g = omega (arith, ints)
 
 pub certifies_sound : (S : Structure) (q : Sequent) (ms : List Multiple) → Certifies q ms → IsTrueAt S q
 certifies_sound S q ms c ρ sorts h n =
-    valuation S ρ c.rows ms c.refutes.factors_vanish (atoms_of_rows c.rows) (λ (p : Valuation S ρ c.rows ms (atoms_of_rows c.rows)).
-    clash (total (row_at p.0) c.rows ms) (total row_constant c.rows ms) p.2
+    valuation S ρ (atoms_of_rows c.rows) (λ (p : Valuation S ρ (atoms_of_rows c.rows)).
+    clash (total (row_at p.0) c.rows ms) (total row_constant c.rows ms) (total_is_constant p.0 c.rows ms c.refutes.factors_vanish)
     (total_not_negative S ρ p.0 q h (λ g. g n) ms c.rows c.are_rows c.refutes.none_negative p.1) c.refutes.constant_negative)

@@ -1,137 +1,176 @@
--- The table of atoms: it has each atom of the terms, and what it has not has no factor in them.
-use Rattle.std.proofs.Common.{◌≡◌, ℕ, zero, suc, ◌+◌, ◌<◌, ◌||◌, Bool, true, false, cond, List, [], ◌∷◌, ◌++◌, length, take, map, get_or, pos, ◌+ℤ◌, ◌-ℤ◌, refl, sym, ◌∙◌, ap, ap₂, arith, add-one, true≢false}
-use Rattle.std.specs.Prelude.{neg_ℤ}
-use Rattle.logic_term.specs.declared.kinds.ArithOp.TheVariants.{Add, Sub}
-use Rattle.logic_term.specs.Term.{negated, arith as by_op, Term, lit, apply, no_terms, and_term}
-use Rattle.logic_term.specs.Same.{same_term}
-use Rattle.logic_term.proofs.SameLaw.{same_term_equal, equal_same_term}
+-- The table of monomials: it has each monomial of the forms but 1, and what it has not has no coefficient in them.
+use Rattle.std.proofs.Common.{◌≡◌, ◌≢◌, ℕ, zero, suc, ◌<◌, ◌||◌, Bool, true, false, cond, List, [], ◌∷◌, ◌++◌, length, take, map, get_or, pos, refl, sym, ◌∙◌, ap, ap₂, arith, true≢false}
+use Rattle.proof_kernel.specs.declared.linear.Form.{Form}
 use Rattle.proof_kernel.specs.declared.linear.Sides.{Sides}
-use Rattle.proof_kernel.specs.Linear.{factor, Difference}
-use Rattle.proof_kernel.specs.LinearRows.{difference, is_in, with_atoms, with_all_atoms}
+use Rattle.proof_kernel.specs.declared.polynomial.Summand.{Summand}
+use Rattle.proof_kernel.specs.Polynomial.{Monomial, Polynomial, same_monomial, coefficient}
+use Rattle.proof_kernel.specs.LinearRows.{difference, is_one, is_in, with_monomial, with_monomials, with_all_monomials}
+use Rattle.proof_kernel.proofs.Monomials.{same_left, same_refl, same_one}
 
--- the table has each atom of the term
-abbrev pub Covers : List Term → Term → Type 0
-Covers table (apply (by_op Add) (and_term a (and_term b no_terms))) = Covers table a × Covers table b
-Covers table (apply (by_op Sub) (and_term a (and_term b no_terms))) = Covers table a × Covers table b
-Covers table (apply negated (and_term a no_terms)) = Covers table a
-Covers table (lit z s) = Unit {0}
-Covers table t = is_in table t ≡ true
+-- ---- monomials that are the same
 
--- and each of the differences
-abbrev pub CoversAll : List Term → List Difference → Type 0
+pub coefficient-same : (m n : Monomial) (p : Polynomial) → same_monomial m n ≡ true → coefficient m p ≡ coefficient n p
+coefficient-same m n [] e = refl
+coefficient-same m n (s ∷ p) e = ap₂ (λ b x. cond b s.coefficient x) (same_left m n s.monomial e) (coefficient-same m n p e)
+
+is_in-same : (table : List Monomial) (m n : Monomial) → same_monomial m n ≡ true → is_in table m ≡ is_in table n
+is_in-same [] m n e = refl
+is_in-same (k ∷ ks) m n e = ap₂ (λ x y. x || y) (same_left m n k e) (is_in-same ks m n e)
+
+-- ---- what the table has
+
+-- the table has each monomial of the summands but 1
+abbrev pub Covers : List Monomial → List Summand → Type 0
+Covers table [] = Unit {0}
+Covers table (s ∷ ss) = ((is_one s.monomial || is_in table s.monomial) ≡ true) × Covers table ss
+
+-- and each of the forms
+abbrev pub CoversAll : List Monomial → List Form → Type 0
 CoversAll table [] = Unit {0}
-CoversAll table (d ∷ ds) = (Covers table d.upper × Covers table d.lower) × CoversAll table ds
+CoversAll table (f ∷ fs) = Covers table f.polynomial × CoversAll table fs
 
 -- the second table has what the first has
-abbrev Grows : List Term → List Term → Type 0
-Grows old new = (u : Term) → is_in old u ≡ true → is_in new u ≡ true
+abbrev Grows : List Monomial → List Monomial → Type 0
+Grows old new = (m : Monomial) → is_in old m ≡ true → is_in new m ≡ true
 
 or_left : (a b : Bool) → a ≡ true → (a || b) ≡ true
 or_left true b e = refl
 or_left false b e = absurd (true≢false (sym e))
 
+or_last : (a b : Bool) → b ≡ true → (a || b) ≡ true
+or_last true b e = refl
+or_last false b e = e
+
 or_right : (a b c : Bool) → (b ≡ true → c ≡ true) → (a || b) ≡ true → (a || c) ≡ true
 or_right true b c f e = refl
 or_right false b c f e = f e
 
-is_in-append : (table more : List Term) → Grows table (table ++ more)
-is_in-append [] more u e = absurd (true≢false (sym e))
-is_in-append (t ∷ ts) more u e = or_right (same_term t u) (is_in ts u) (is_in (ts ++ more) u) (is_in-append ts more u) e
+is_in-append : (table more : List Monomial) → Grows table (table ++ more)
+is_in-append [] more m e = absurd (true≢false (sym e))
+is_in-append (n ∷ ns) more m e = or_right (same_monomial n m) (is_in ns m) (is_in (ns ++ more) m) (is_in-append ns more m) e
 
-is_in-last : (table : List Term) (t : Term) → is_in (table ++ t ∷ []) t ≡ true
-is_in-last [] t = or_left (same_term t t) false (equal_same_term t t refl)
-is_in-last (a ∷ ts) t = last (same_term a t) (is_in (ts ++ t ∷ []) t) (is_in-last ts t)
-  where
-    last : (a b : Bool) → b ≡ true → (a || b) ≡ true
-    last true b e = refl
-    last false b e = e
+is_in-last : (table : List Monomial) (m : Monomial) → is_in (table ++ m ∷ []) m ≡ true
+is_in-last [] m = or_left (same_monomial m m) false (same_refl m)
+is_in-last (n ∷ ns) m = or_last (same_monomial n m) (is_in (ns ++ m ∷ []) m) (is_in-last ns m)
 
-with_atom-grows : (table : List Term) (t : Term) (b : Bool) → Grows table (cond b table (table ++ t ∷ []))
-with_atom-grows table t true u e = e
-with_atom-grows table t false u e = is_in-append table (t ∷ []) u e
+with_monomial-grows : (table : List Monomial) (m : Monomial) (b : Bool) → Grows table (cond b table (table ++ m ∷ []))
+with_monomial-grows table m true n e = e
+with_monomial-grows table m false n e = is_in-append table (m ∷ []) n e
 
-with_atom-has : (table : List Term) (t : Term) (b : Bool) → is_in table t ≡ b → is_in (cond b table (table ++ t ∷ [])) t ≡ true
-with_atom-has table t true e = e
-with_atom-has table t false e = is_in-last table t
+with_monomial-has : (table : List Monomial) (m : Monomial) (b : Bool) → (is_one m || is_in table m) ≡ b → (is_one m || is_in (cond b table (table ++ m ∷ [])) m) ≡ true
+with_monomial-has table m true e = e
+with_monomial-has table m false e = or_last (is_one m) (is_in (table ++ m ∷ []) m) (is_in-last table m)
 
-with_atoms-grows : (t : Term) (table : List Term) → Grows table (with_atoms table t)
-with_atoms-grows (apply (by_op Add) (and_term a (and_term b no_terms))) table u e = with_atoms-grows b (with_atoms table a) u (with_atoms-grows a table u e)
-with_atoms-grows (apply (by_op Sub) (and_term a (and_term b no_terms))) table u e = with_atoms-grows b (with_atoms table a) u (with_atoms-grows a table u e)
-with_atoms-grows (apply negated (and_term a no_terms)) table u e = with_atoms-grows a table u e
-with_atoms-grows (lit z s) table u e = e
-with_atoms-grows t table u e = with_atom-grows table t (is_in table t) u e
+with_monomials-grows : (ss : List Summand) (table : List Monomial) → Grows table (with_monomials table ss)
+with_monomials-grows [] table m e = e
+with_monomials-grows (s ∷ ss) table m e =
+    with_monomials-grows ss (with_monomial table s.monomial) m (with_monomial-grows table s.monomial (is_one s.monomial || is_in table s.monomial) m e)
 
-covers_more : (t : Term) (old new : List Term) → Grows old new → Covers old t → Covers new t
-covers_more (apply (by_op Add) (and_term a (and_term b no_terms))) old new g h = (covers_more a old new g h.0, covers_more b old new g h.1)
-covers_more (apply (by_op Sub) (and_term a (and_term b no_terms))) old new g h = (covers_more a old new g h.0, covers_more b old new g h.1)
-covers_more (apply negated (and_term a no_terms)) old new g h = covers_more a old new g h
-covers_more (lit z s) old new g h = tt
-covers_more t old new g h = g t h
+covers_more : (ss : List Summand) (old new : List Monomial) → Grows old new → Covers old ss → Covers new ss
+covers_more [] old new g h = tt
+covers_more (s ∷ ss) old new g h =
+    (or_right (is_one s.monomial) (is_in old s.monomial) (is_in new s.monomial) (g s.monomial) h.0, covers_more ss old new g h.1)
 
-with_atoms-covers : (t : Term) (table : List Term) → Covers (with_atoms table t) t
-with_atoms-covers (apply (by_op Add) (and_term a (and_term b no_terms))) table =
-    (covers_more a (with_atoms table a) _ (with_atoms-grows b (with_atoms table a)) (with_atoms-covers a table), with_atoms-covers b (with_atoms table a))
-with_atoms-covers (apply (by_op Sub) (and_term a (and_term b no_terms))) table =
-    (covers_more a (with_atoms table a) _ (with_atoms-grows b (with_atoms table a)) (with_atoms-covers a table), with_atoms-covers b (with_atoms table a))
-with_atoms-covers (apply negated (and_term a no_terms)) table = with_atoms-covers a table
-with_atoms-covers (lit z s) table = tt
-with_atoms-covers t table = with_atom-has table t (is_in table t) refl
+with_monomials-covers : (ss : List Summand) (table : List Monomial) → Covers (with_monomials table ss) ss
+with_monomials-covers [] table = tt
+with_monomials-covers (s ∷ ss) table =
+    let one : List Monomial = with_monomial table s.monomial in (
+      or_right (is_one s.monomial) (is_in one s.monomial) (is_in (with_monomials one ss) s.monomial) (with_monomials-grows ss one s.monomial)
+          (with_monomial-has table s.monomial (is_one s.monomial || is_in table s.monomial) refl),
+      with_monomials-covers ss one,
+    )
 
-all_grows : (ds : List Difference) (table : List Term) → Grows table (with_all_atoms table ds)
-all_grows [] table u e = e
-all_grows (d ∷ ds) table u e =
-    all_grows ds (with_atoms (with_atoms table d.upper) d.lower) u (with_atoms-grows d.lower (with_atoms table d.upper) u (with_atoms-grows d.upper table u e))
+all_grows : (fs : List Form) (table : List Monomial) → Grows table (with_all_monomials table fs)
+all_grows [] table m e = e
+all_grows (f ∷ fs) table m e = all_grows fs (with_monomials table f.polynomial) m (with_monomials-grows f.polynomial table m e)
 
-pub all_covered : (ds : List Difference) (table : List Term) → CoversAll (with_all_atoms table ds) ds
+pub all_covered : (fs : List Form) (table : List Monomial) → CoversAll (with_all_monomials table fs) fs
 all_covered [] table = tt
-all_covered (d ∷ ds) table =
-    let one = with_atoms table d.upper in
-    let two = with_atoms one d.lower in
-    let end = with_all_atoms two ds in
-    let grows : Grows two end = all_grows ds two in
-    ((covers_more d.upper one end (λ u e. grows u (with_atoms-grows d.lower one u e)) (with_atoms-covers d.upper table), covers_more d.lower two end grows (with_atoms-covers d.lower one)), all_covered ds two)
+all_covered (f ∷ fs) table =
+    let one : List Monomial = with_monomials table f.polynomial in
+    (covers_more f.polynomial one (with_all_monomials one fs) (all_grows fs one) (with_monomials-covers f.polynomial table), all_covered fs one)
 
--- ---- one more difference
+-- ---- 1 is not in it
 
-snoc : (ds : List Difference) (d : Difference) (table : List Term) → with_all_atoms table (ds ++ d ∷ []) ≡ with_atoms (with_atoms (with_all_atoms table ds) d.upper) d.lower
-snoc [] d table = refl
-snoc (a ∷ ds) d table = snoc ds d (with_atoms (with_atoms table a.upper) a.lower)
+abbrev pub NoOne : List Monomial → Type 0
+NoOne [] = Unit {0}
+NoOne (m ∷ ms) = (is_one m ≡ false) × NoOne ms
+
+no_one-last : (table : List Monomial) (m : Monomial) → NoOne table → is_one m ≡ false → NoOne (table ++ m ∷ [])
+no_one-last [] m h e = (e, tt)
+no_one-last (n ∷ ns) m h e = (h.0, no_one-last ns m h.1 e)
+
+or_first : (a b : Bool) → (a || b) ≡ false → a ≡ false
+or_first true b e = e
+or_first false b e = refl
+
+no_one-with : (table : List Monomial) (m : Monomial) → NoOne table → (b : Bool) → (is_one m || is_in table m) ≡ b → NoOne (cond b table (table ++ m ∷ []))
+no_one-with table m h true e = h
+no_one-with table m h false e = no_one-last table m h (or_first (is_one m) (is_in table m) e)
+
+no_one-monomials : (ss : List Summand) (table : List Monomial) → NoOne table → NoOne (with_monomials table ss)
+no_one-monomials [] table h = h
+no_one-monomials (s ∷ ss) table h =
+    no_one-monomials ss (with_monomial table s.monomial) (no_one-with table s.monomial h (is_one s.monomial || is_in table s.monomial) refl)
+
+pub no_one : (fs : List Form) (table : List Monomial) → NoOne table → NoOne (with_all_monomials table fs)
+no_one [] table h = h
+no_one (f ∷ fs) table h = no_one fs (with_monomials table f.polynomial) (no_one-monomials f.polynomial table h)
+
+no_empty : (m : Monomial) → is_one m ≡ false → m ≢ []
+no_empty m e q = true≢false (sym (ap is_one q) ∙ e)
+
+pub not_one : (table : List Monomial) → NoOne table → (k : ℕ) (d : Monomial) → k < length table → get_or table k d ≢ []
+not_one [] h k d l = absurd (omega arith)
+not_one (m ∷ ms) h zero d l = no_empty m h.0
+not_one (m ∷ ms) h (suc k) d l = not_one ms h.1 k d (omega arith)
+
+-- ---- one more
 
 pub map-more : (ss : List Sides) (i : ℕ) (s : Sides) → i < length ss → s ≡ get_or ss i s → map difference (take (suc i) ss) ≡ map difference (take i ss) ++ difference s ∷ []
 map-more [] i s l e = absurd (omega arith)
 map-more (a ∷ ss) zero s l e = ap (λ (x : Sides). difference x ∷ []) (sym e)
 map-more (a ∷ ss) (suc i) s l e = ap (λ ds. difference a ∷ ds) (map-more ss i s (omega arith) e)
 
-pub atoms_more : (ss : List Sides) (i : ℕ) (s : Sides) (one two three : List Term) → i < length ss → s ≡ get_or ss i s → one ≡ with_all_atoms [] (map difference (take i ss)) → two ≡ with_atoms one s.upper.now → three ≡ with_atoms two s.lower.now → three ≡ with_all_atoms [] (map difference (take (i + 1) ss))
-atoms_more ss i s one two three l e p q r =
-    let d = difference s in
-    rw add-one
-    (r ∙ ap (λ x. with_atoms x d.lower) (q ∙ ap (λ x. with_atoms x d.upper) p)
-    ∙ sym (snoc (map difference (take i ss)) d [])
-    ∙ ap (with_all_atoms []) (sym (map-more ss i s l e)))
+-- ---- a polynomial without the monomial
 
--- ---- a term without the atom
+one_is : (m : Monomial) → is_one m ≡ true → m ≡ []
+one_is [] e = refl
+one_is (t ∷ m) e = absurd (true≢false (sym e))
 
-leaf : (table : List Term) (u t : Term) → is_in table u ≡ false → is_in table t ≡ true → (b : Bool) → same_term t u ≡ b → cond b (pos 1) (pos 0) ≡ pos 0
-leaf table u t out here false e = refl
-leaf table u t out here true e =
-    absurd (true≢false (sym here ∙ ap (is_in table) (same_term_equal t u e) ∙ out))
+or_cases : {P : Type 0} (a b : Bool) → (a || b) ≡ true → (a ≡ true → P) → (b ≡ true → P) → P
+or_cases true b e f g = f refl
+or_cases false b e f g = g e
 
-pub uncovered_factor : (table : List Term) (u : Term) → is_in table u ≡ false → (t : Term) → Covers table t → factor u t ≡ pos 0
-uncovered_factor table u out (apply (by_op Add) (and_term a (and_term b no_terms))) h = ap₂ (λ x y. x +ℤ y) (uncovered_factor table u out a h.0) (uncovered_factor table u out b h.1)
-uncovered_factor table u out (apply (by_op Sub) (and_term a (and_term b no_terms))) h = ap₂ (λ x y. x -ℤ y) (uncovered_factor table u out a h.0) (uncovered_factor table u out b h.1)
-uncovered_factor table u out (apply negated (and_term a no_terms)) h = ap neg_ℤ (uncovered_factor table u out a h)
-uncovered_factor table u out (lit z s) h = refl
-uncovered_factor table u out t h = leaf table u t out h (same_term t u) refl
+pub uncovered : (table : List Monomial) (m : Monomial) → m ≢ [] → is_in table m ≡ false → (p : Polynomial) → Covers table p → coefficient m p ≡ pos 0
+uncovered table m n out [] h = refl
+uncovered table m n out (s ∷ p) h = choose (same_monomial s.monomial m) refl (uncovered table m n out p h.1)
+  where
+    clash : same_monomial s.monomial m ≡ true → ⊥
+    clash e =
+        or_cases (is_one s.monomial) (is_in table s.monomial) h.0
+        (λ o. n (same_one m (ap (λ (k : Monomial). same_monomial k m) (sym (one_is s.monomial o)) ∙ e)))
+        (λ i. true≢false (sym i ∙ is_in-same table s.monomial m e ∙ out))
 
-abbrev pub Place : List Term → Term → Type 0
-Place table u = (k : ℕ) × (k < length table) × ((d : Term) → get_or table k d ≡ u)
+    choose : (b : Bool) → same_monomial s.monomial m ≡ b → coefficient m p ≡ pos 0 → cond b s.coefficient (coefficient m p) ≡ pos 0
+    choose true e later = absurd (clash e)
+    choose false e later = later
 
-choose : (t : Term) (ts : List Term) (u : Term) → (is_in ts u ≡ true → Place ts u) → (b : Bool) → same_term t u ≡ b → (b || is_in ts u) ≡ true → Place (t ∷ ts) u
-choose t ts u later true p q = (0, omega arith, λ d. same_term_equal t u p)
-choose t ts u later false p q = let r = later q in (suc r.0, let l = r.1 in omega arith, r.2)
+-- ---- the number of a monomial
 
--- a place of the atom in the table
-pub place_of : (table : List Term) (u : Term) → is_in table u ≡ true → Place table u
-place_of [] u e = absurd (true≢false (sym e))
-place_of (t ∷ ts) u e = choose t ts u (place_of ts u) (same_term t u) refl e
+first_below : (n : ℕ) → 0 < suc n
+first_below n = omega arith
+
+next_below : (k n : ℕ) → k < n → suc k < suc n
+next_below k n l = omega arith
+
+abbrev pub Place : List Monomial → Monomial → Type 0
+Place table m = (k : ℕ) × (k < length table) × ((d : Monomial) → same_monomial (get_or table k d) m ≡ true)
+
+pub place_of : (table : List Monomial) (m : Monomial) → is_in table m ≡ true → Place table m
+place_of [] m e = absurd (true≢false (sym e))
+place_of (n ∷ ns) m e = choose (same_monomial n m) refl (λ h. place_of ns m h) e
+  where
+    choose : (b : Bool) → same_monomial n m ≡ b → (is_in ns m ≡ true → Place ns m) → (b || is_in ns m) ≡ true → Place (n ∷ ns) m
+    choose true p later q = (0, first_below (length ns), λ d. p)
+    choose false p later q = let r = later q in (suc r.0, next_below r.0 (length ns) r.1, r.2)

@@ -8,6 +8,8 @@ pub mod LinColumns
 pub mod Linear
 pub mod LinearRows
 pub mod Made
+pub mod Polynomial
+pub mod PolynomialCode
 pub mod Progress
 pub mod Rules
 pub mod Sequent

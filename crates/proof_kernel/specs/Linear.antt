@@ -1,51 +1,16 @@
 -- The step of linear arithmetic: rows of the hypotheses and of the negated goal that no integers meet together, by a Farkas
--- certificate. Sums, differences and negatives are taken apart, literals are constants, and every other term is an atom.
-use Rattle.std.specs.Prelude.{◌≡◌, ℕ, ◌<◌, Bool, true, false, List, [], ◌∷◌, length, Option, Some, None, ℤ, pos, neg_ℤ, ◌+ℤ◌, ◌-ℤ◌, ◌*ℤ◌, ◌<ℤ◌, ◌≤ℤ◌, if◌then◌else◌, FitsSigned, All}
-use Rattle.std.specs.Int.{w128}
+-- certificate. The sides of a row are polynomials, and a row is linear in their monomials.
+use Rattle.std.specs.Prelude.{◌≡◌, ◌≢◌, ℕ, ◌<◌, Bool, true, false, List, [], ◌∷◌, length, Option, Some, None, ℤ, pos, ◌-ℤ◌, ◌*ℤ◌, ◌<ℤ◌, ◌≤ℤ◌, if◌then◌else◌, All}
 use Rattle.text_core.specs.declared.name.Name.{Name}
-use Rattle.logic_term.specs.declared.kinds.ArithOp.TheVariants.{Add, Sub}
 use Rattle.logic_term.specs.Ty.{Ty, math_int}
 use Rattle.logic_term.specs.Term.{modeled, negated, denied, arith, less, at_most, equal, Term, var, lit, apply, no_terms, and_term}
-use Rattle.logic_term.specs.Same.{same_term}
 use Rattle.proof_kernel.specs.declared.sequent.Sequent.{Sequent}
 use Rattle.proof_kernel.specs.declared.step.Multiple.{Multiple}
 use Rattle.proof_kernel.specs.declared.step.Reference.{Reference}
 use Rattle.proof_kernel.specs.declared.step.Reference.TheVariants.{Goal, Hyp, Back}
 use Rattle.proof_kernel.specs.LinArith.{int_sum, IsNarrowAt}
+use Rattle.proof_kernel.specs.Polynomial.{Monomial, Polynomial, coefficient, added, opposite, polynomial, IsNarrowNumber, AddsNarrowly, IsNarrowTerm}
 use Rattle.proof_kernel.specs.Rules.{hypothesis, sort_of}
-
--- ---- terms as linear forms
-
--- the factor of an atom in a term
-abbrev pub factor : Term → Term → ℤ
-factor u (apply (arith Add) (and_term a (and_term b no_terms))) = factor u a +ℤ factor u b
-factor u (apply (arith Sub) (and_term a (and_term b no_terms))) = factor u a -ℤ factor u b
-factor u (apply negated (and_term a no_terms)) = neg_ℤ (factor u a)
-factor u (lit z s) = pos 0
-factor u t = if same_term t u then pos 1 else pos 0
-
--- the constant of a term
-abbrev pub constant : Term → ℤ
-constant (apply (arith Add) (and_term a (and_term b no_terms))) = constant a +ℤ constant b
-constant (apply (arith Sub) (and_term a (and_term b no_terms))) = constant a -ℤ constant b
-constant (apply negated (and_term a no_terms)) = neg_ℤ (constant a)
-constant (lit z s) = z
-constant t = pos 0
-
--- the number is within 128 bits signed
-abbrev pub IsNarrowNumber : ℤ → Type 0
-IsNarrowNumber z = FitsSigned w128 z
-
--- all numbers of a linear form are within 128 bits: the factor of each atom, and the constant
-abbrev pub IsNarrowForm : (Term → ℤ) → ℤ → Type 0
-IsNarrowForm f c = ((u : Term) → IsNarrowNumber (f u)) × IsNarrowNumber c
-
--- so they are in the term and in each part of it that is taken apart
-abbrev pub IsNarrowTerm : Term → Type 0
-IsNarrowTerm (apply (arith Add) (and_term a (and_term b no_terms))) = IsNarrowTerm a × IsNarrowTerm b × IsNarrowForm (λ u. factor u a +ℤ factor u b) (constant a +ℤ constant b)
-IsNarrowTerm (apply (arith Sub) (and_term a (and_term b no_terms))) = IsNarrowTerm a × IsNarrowTerm b × IsNarrowForm (λ u. factor u a -ℤ factor u b) (constant a -ℤ constant b)
-IsNarrowTerm (apply negated (and_term a no_terms)) = IsNarrowTerm a × IsNarrowForm (λ u. neg_ℤ (factor u a)) (neg_ℤ (constant a))
-IsNarrowTerm t = IsNarrowNumber (constant t)
 
 -- ---- rows
 
@@ -114,11 +79,16 @@ AreRows q (m ∷ ms) (d ∷ ds) = (referred q m.of ≡ Some d) × AreRows q ms d
 AreRows q [] (d ∷ ds) = ⊥
 AreRows q (m ∷ ms) [] = ⊥
 
-abbrev pub row_factor : Term → Difference → ℤ
-row_factor u d = factor u d.upper -ℤ factor u d.lower
+-- upper - lower
+abbrev pub row_polynomial : Difference → Polynomial
+row_polynomial d = added (polynomial d.upper) (opposite (polynomial d.lower))
 
+abbrev pub row_factor : Monomial → Difference → ℤ
+row_factor m d = coefficient m (row_polynomial d)
+
+-- upper - lower - gap at the monomial 1
 abbrev pub row_constant : Difference → ℤ
-row_constant d = (constant d.upper -ℤ constant d.lower) -ℤ d.gap
+row_constant d = coefficient [] (row_polynomial d) -ℤ d.gap
 
 -- ---- the certificate
 
@@ -130,7 +100,8 @@ multiples f (d ∷ ds) (m ∷ ms) = (f d *ℤ m.by) ∷ multiples f ds ms
 
 -- all numbers met in making the rows are within 128 bits
 abbrev pub IsNarrowDifference : Difference → Type 0
-IsNarrowDifference d = IsNarrowTerm d.upper × IsNarrowTerm d.lower × IsNarrowForm (λ u. row_factor u d) (constant d.upper -ℤ constant d.lower) × IsNarrowNumber (row_constant d)
+IsNarrowDifference d =
+    IsNarrowTerm d.upper × IsNarrowTerm d.lower × AddsNarrowly (polynomial d.upper) (opposite (polynomial d.lower)) × IsNarrowNumber (row_constant d)
 
 -- each product and each running sum is within 128 bits
 abbrev pub AreNarrowSums : List ℤ → Type 0
@@ -138,13 +109,13 @@ AreNarrowSums zs = (k : ℕ) → k < length zs → IsNarrowAt zs k
 
 pub record AreNarrow (ds : List Difference) (ms : List Multiple) : Type 0 where
   pub rows : All IsNarrowDifference ds
-  pub factors : (u : Term) → AreNarrowSums (multiples (row_factor u) ds ms)
+  pub factors : (m : Monomial) → m ≢ [] → AreNarrowSums (multiples (row_factor m) ds ms)
   pub constants : AreNarrowSums (multiples row_constant ds ms)
 
--- no multiplier is negative, no atom is left, and the constant is negative
+-- no multiplier is negative, no monomial but 1 is left, and the constant is negative
 pub record Refutes (ds : List Difference) (ms : List Multiple) : Type 0 where
   pub none_negative : All (λ m. pos 0 ≤ℤ m.by) ms
-  pub factors_vanish : (u : Term) → int_sum (multiples (row_factor u) ds ms) ≡ pos 0
+  pub factors_vanish : (m : Monomial) → m ≢ [] → int_sum (multiples (row_factor m) ds ms) ≡ pos 0
   pub constant_negative : int_sum (multiples row_constant ds ms) <ℤ pos 0
 
 -- the multiples close the sequent

@@ -1,78 +1,61 @@
--- The rows of the step of linear arithmetic over a table of atoms.
-use Rattle.std.specs.Prelude.{◌≡◌, ◌↔◌, ℕ, suc, ◌||◌, Bool, false, List, [], ◌∷◌, ◌++◌, ◌+ℤ◌, ◌-ℤ◌, neg_ℤ, if◌then◌else◌, All}
-use Rattle.logic_term.specs.declared.kinds.ArithOp.TheVariants.{Add, Sub}
-use Rattle.logic_term.specs.Term.{negated, arith, Term, lit, apply, no_terms, and_term}
-use Rattle.logic_term.specs.Same.{same_term}
+-- The rows of the step of linear arithmetic over a table of monomials.
+use Rattle.std.specs.Prelude.{◌≡◌, ◌↔◌, ℕ, suc, ◌||◌, Bool, true, false, List, [], ◌∷◌, ◌++◌, if◌then◌else◌}
 use Rattle.proof_kernel.specs.declared.lin_arith.Part.{Part}
 use Rattle.proof_kernel.specs.declared.lin_arith.Row.{Row}
+use Rattle.proof_kernel.specs.declared.linear.Form.{Form}
 use Rattle.proof_kernel.specs.declared.linear.LinAnswer.{LinAnswer}
 use Rattle.proof_kernel.specs.declared.linear.LinAnswer.TheVariants.{Closes, TooWide}
 use Rattle.proof_kernel.specs.declared.linear.Sides.{Sides}
+use Rattle.proof_kernel.specs.declared.polynomial.Summand.{Summand}
 use Rattle.proof_kernel.specs.declared.step.Multiple.{Multiple}
-use Rattle.proof_kernel.specs.Linear.{factor, constant, IsNarrowNumber, Difference, row_factor, row_constant, AreNarrow, Refutes}
+use Rattle.proof_kernel.specs.Polynomial.{Monomial, coefficient, opposite, polynomial, same_monomial, AddsNarrowly, IsNarrowTerm}
+use Rattle.proof_kernel.specs.Linear.{Difference, row_polynomial, row_constant, AreNarrow, Refutes}
 
 -- the difference of two borrowed terms
 abbrev pub difference : Sides → Difference
 difference s = record { upper = s.upper.now; lower = s.lower.now; gap = s.gap }
 
--- ---- the table of atoms
+-- what is at least 0
+abbrev pub form_of : Difference → Form
+form_of d = record { polynomial = row_polynomial d; constant = row_constant d }
 
-abbrev pub is_in : List Term → Term → Bool
-is_in [] u = false
-is_in (t ∷ ts) u = same_term t u || is_in ts u
+-- all numbers met in making the difference are within 128 bits
+abbrev pub IsNarrowGap : Difference → Type 0
+IsNarrowGap d = IsNarrowTerm d.upper × IsNarrowTerm d.lower × AddsNarrowly (polynomial d.upper) (opposite (polynomial d.lower))
 
--- the table with one more atom, unless the atom is in it
-abbrev pub with_atom : List Term → Term → List Term
-with_atom table t = if is_in table t then table else table ++ t ∷ []
+-- ---- the table of monomials
 
--- the table with the atoms of a term
-abbrev pub with_atoms : List Term → Term → List Term
-with_atoms table (apply (arith Add) (and_term a (and_term b no_terms))) = with_atoms (with_atoms table a) b
-with_atoms table (apply (arith Sub) (and_term a (and_term b no_terms))) = with_atoms (with_atoms table a) b
-with_atoms table (apply negated (and_term a no_terms)) = with_atoms table a
-with_atoms table (lit z s) = table
-with_atoms table t = with_atom table t
+abbrev pub is_one : Monomial → Bool
+is_one [] = true
+is_one (t ∷ m) = false
 
--- the table with the atoms of the differences
-abbrev pub with_all_atoms : List Term → List Difference → List Term
-with_all_atoms table [] = table
-with_all_atoms table (d ∷ ds) = with_all_atoms (with_atoms (with_atoms table d.upper) d.lower) ds
+abbrev pub is_in : List Monomial → Monomial → Bool
+is_in [] m = false
+is_in (n ∷ ns) m = same_monomial n m || is_in ns m
 
--- ---- widths
+-- the table with one more monomial, unless it is 1 or in the table
+abbrev pub with_monomial : List Monomial → Monomial → List Monomial
+with_monomial table m = if is_one m || is_in table m then table else table ++ m ∷ []
 
--- the factors of the atom in the term, and in each part of it that is taken apart, are within 128 bits
-abbrev pub IsNarrowFactor : Term → Term → Type 0
-IsNarrowFactor u (apply (arith Add) (and_term a (and_term b no_terms))) = IsNarrowFactor u a × IsNarrowFactor u b × IsNarrowNumber (factor u a +ℤ factor u b)
-IsNarrowFactor u (apply (arith Sub) (and_term a (and_term b no_terms))) = IsNarrowFactor u a × IsNarrowFactor u b × IsNarrowNumber (factor u a -ℤ factor u b)
-IsNarrowFactor u (apply negated (and_term a no_terms)) = IsNarrowFactor u a × IsNarrowNumber (neg_ℤ (factor u a))
-IsNarrowFactor u t = Unit {0}
+-- the table with the monomials of the summands
+abbrev pub with_monomials : List Monomial → List Summand → List Monomial
+with_monomials table [] = table
+with_monomials table (s ∷ ss) = with_monomials (with_monomial table s.monomial) ss
 
--- so are the constants
-abbrev pub IsNarrowConstant : Term → Type 0
-IsNarrowConstant (apply (arith Add) (and_term a (and_term b no_terms))) = IsNarrowConstant a × IsNarrowConstant b × IsNarrowNumber (constant a +ℤ constant b)
-IsNarrowConstant (apply (arith Sub) (and_term a (and_term b no_terms))) = IsNarrowConstant a × IsNarrowConstant b × IsNarrowNumber (constant a -ℤ constant b)
-IsNarrowConstant (apply negated (and_term a no_terms)) = IsNarrowConstant a × IsNarrowNumber (neg_ℤ (constant a))
-IsNarrowConstant t = IsNarrowNumber (constant t)
-
-abbrev pub HasNarrowFactor : Difference → Term → Type 0
-HasNarrowFactor d u = IsNarrowFactor u d.upper × IsNarrowFactor u d.lower × IsNarrowNumber (row_factor u d)
-
-abbrev pub HasNarrowConstant : Difference → Type 0
-HasNarrowConstant d = (IsNarrowConstant d.upper × IsNarrowConstant d.lower × IsNarrowNumber (constant d.upper -ℤ constant d.lower)) × IsNarrowNumber (row_constant d)
-
--- the factors of the table's atoms and the constant
-abbrev pub IsNarrowOver : List Term → Difference → Type 0
-IsNarrowOver table d = All (HasNarrowFactor d) table × HasNarrowConstant d
+-- the table with the monomials of the forms
+abbrev pub with_all_monomials : List Monomial → List Form → List Monomial
+with_all_monomials table [] = table
+with_all_monomials table (f ∷ fs) = with_all_monomials (with_monomials table f.polynomial) fs
 
 -- ---- rows
 
--- a part for each atom, numbered from k on
-abbrev pub parts_from : ℕ → List Term → Difference → List Part
-parts_from k [] d = []
-parts_from k (t ∷ ts) d = record { atom = k; factor = row_factor t d } ∷ parts_from (suc k) ts d
+-- a part for each monomial, numbered from k on
+abbrev pub parts_from : ℕ → List Monomial → Form → List Part
+parts_from k [] f = []
+parts_from k (m ∷ ms) f = record { atom = k; factor = coefficient m f.polynomial } ∷ parts_from (suc k) ms f
 
-abbrev pub row_over : List Term → Difference → Row
-row_over table d = record { parts = parts_from 0 table d; constant = row_constant d }
+abbrev pub row_over : List Monomial → Form → Row
+row_over table f = record { parts = parts_from 0 table f; constant = f.constant }
 
 -- ---- the answer
 

@@ -5,6 +5,7 @@ mod kernel;
 mod laws;
 mod lin_arith;
 mod linear;
+mod polynomial;
 mod rules;
 mod sequent;
 mod step;

@@ -1,16 +1,18 @@
 //! The step of linear arithmetic: rows of hypotheses and of the negated goal, and a certificate that no integers meet them.
 
-ghost use Rattle.std.specs.Prelude.{◌≡◌, ◌↔◌, ◌<◌, ◌^◌, List, [], ◌∷◌, ◌++◌, length, map, All, IfOk, OnOk, SomeIff, MatchOption, option_map, pos, if◌then◌else◌};
+ghost use Rattle.std.specs.Prelude.{◌≡◌, ◌↔◌, ◌<◌, ◌^◌, List, [], ◌∷◌, ◌++◌, length, map, All, IfOk, OnOk, SomeIff, MatchOption, option_map};
 ghost use Rattle.std.specs.Option.{option_copied};
-ghost use Rattle.proof_kernel.specs.Linear.{Difference, factor, constant, row_factor, row_constant, is_math_int_var, is_integer, row_of, row_back, row_of_goal, referred, AreRows, Certifies, PassesWidth, at_least, greater};
-ghost use Rattle.proof_kernel.specs.LinearRows.{difference, is_in, with_atom, with_atoms, with_all_atoms, IsNarrowFactor, IsNarrowConstant, HasNarrowFactor, HasNarrowConstant, IsNarrowOver, parts_from, row_over, IsOutcomeOf};
-ghost use Rattle.logic_term.specs.Same.{same_term};
+ghost use Rattle.proof_kernel.specs.Linear.{Difference, row_polynomial, is_math_int_var, is_integer, row_of, row_back, row_of_goal, referred, AreRows, Certifies, PassesWidth, at_least, greater, IsNarrowDifference};
+ghost use Rattle.proof_kernel.specs.LinearRows.{difference, form_of, IsNarrowGap, is_one, is_in, with_monomial, with_monomials, with_all_monomials, parts_from, row_over, IsOutcomeOf};
 ghost use Rattle.proof_kernel.specs.Rules.{hypothesis, sort_of};
 
 use crate::lin_arith::{CertAnswer, Part, Row, check_certificate};
+use crate::polynomial::{
+    Polynomial, Summand, coefficient, copy_monomial, polynomial, same_monomial, subtracted,
+};
 use crate::sequent::Sequent;
 use crate::step::{Multiple, Reference};
-use logic_term::{ArithOp, Label2, Sort, Term, TermBinary, TermNode, TermUnary, TyNode};
+use logic_term::{Label2, Sort, Term, TermBinary, TermNode, TermUnary, TyNode};
 use std::alloc::Global;
 use text_core::{Items, Name, NoMemory};
 
@@ -158,168 +160,140 @@ fn sides_of<'a>(
     Ok(Some(all))
 }
 
-// ---- the table of atoms
+// ---- forms
 
-/// Whether both are the same term, as a truth value.
-fn is_same(t: &Term, other: &Term) -> bool
-    ensures { result ≡ same_term t.now other.now }
-{
-    t.same(other)
+/// What is at least 0 in a row: the sides' difference, and its constant less the gap.
+#[derive(Drop)]
+struct Form {
+    polynomial: Polynomial,
+    constant: i128,
 }
 
-fn is_in(table: &[Term], atom: &Term) -> bool
-    ensures { result ≡ is_in table.now atom.now }
+/// The difference of the sides; `None` where a number passes 128 bits.
+fn side_difference(alloc: Global, sides: Sides) -> Result<Option<Polynomial>, NoMemory>
+    ensures { IfOk result (λ found. SomeIff found (IsNarrowGap (difference sides.entry)) (row_polynomial (difference sides.entry))) }
+{
+    let Some(upper) = polynomial(alloc, sides.upper)? else {
+        return Ok(None);
+    };
+    match polynomial(alloc, sides.lower)? {
+        Some(lower) => subtracted(alloc, upper, lower.as_slice()),
+        None => Ok(None),
+    }
+}
+
+/// The form of a row; `None` where a number passes 128 bits.
+fn form_of(alloc: Global, sides: Sides) -> Result<Option<Form>, NoMemory>
+    ensures { IfOk result (λ found. SomeIff found (IsNarrowDifference (difference sides.entry)) (form_of (difference sides.entry))) }
+{
+    let Some(polynomial) = side_difference(alloc, sides)? else {
+        return Ok(None);
+    };
+    match coefficient(&[], polynomial.as_slice()).checked_sub(sides.gap) {
+        Some(constant) => Ok(Some(Form {
+            polynomial,
+            constant,
+        })),
+        None => Ok(None),
+    }
+}
+
+/// The rows' forms; `None` where a number of one passes 128 bits.
+fn forms(alloc: Global, all: &[Sides]) -> Result<Option<Items<Form>>, NoMemory>
+    ensures { IfOk result (λ found. SomeIff found (All IsNarrowDifference (map difference all.now)) (map form_of (map difference all.now))) }
+{
+    let mut forms = Items::new(alloc);
+    for sides in all {
+        match form_of(alloc, *sides)? {
+            Some(form) => forms.push(form)?,
+            None => return Ok(None),
+        }
+    }
+    Ok(Some(forms))
+}
+
+// ---- the table of monomials
+
+fn is_in(table: &[Items<Term>], monomial: &[Term]) -> bool
+    ensures { result ≡ is_in table.now monomial.now }
 {
     for known in table {
-        if is_same(known, atom) {
+        if same_monomial(known.as_slice(), monomial) {
             return true;
         }
     }
     false
 }
 
-fn add_atom(alloc: Global, table: &mut Items<Term>, atom: &Term) -> Result<(), NoMemory>
-    ensures { OnOk result (table.new ≡ with_atom table.old atom.now) }
+fn is_one(monomial: &[Term]) -> bool
+    ensures { result ≡ is_one monomial.now }
 {
-    if !is_in(table.as_slice(), atom) {
-        table.push(atom.copy(alloc)?)?;
+    monomial.is_empty()
+}
+
+fn add_monomial(
+    alloc: Global,
+    table: &mut Items<Items<Term>>,
+    monomial: &[Term],
+) -> Result<(), NoMemory>
+    ensures { OnOk result (table.new ≡ with_monomial table.old monomial.now) }
+{
+    if !is_one(monomial) && !is_in(table.as_slice(), monomial) {
+        table.push(copy_monomial(alloc, monomial)?)?;
     }
     Ok(())
 }
 
-#[cycle(add_atoms)]
-fn add_atoms(alloc: Global, table: &mut Items<Term>, t: &Term) -> Result<(), NoMemory>
-    ensures { OnOk result (table.new ≡ with_atoms table.old t.now) }
+fn add_monomials(
+    alloc: Global,
+    table: &mut Items<Items<Term>>,
+    polynomial: &[Summand],
+) -> Result<(), NoMemory>
+    ensures { OnOk result (table.new ≡ with_monomials table.old polynomial.now) }
 {
-    match &*t.node {
-        TermNode::Binary(TermBinary::Arith(ArithOp::Add), a, b)
-        | TermNode::Binary(TermBinary::Arith(ArithOp::Sub), a, b) => {
-            add_atoms(alloc, table, a)?;
-            add_atoms(alloc, table, b)
-        }
-        TermNode::Unary(TermUnary::Negative, a) => add_atoms(alloc, table, a),
-        TermNode::Lit(_, _) => Ok(()),
-        _ => add_atom(alloc, table, t),
+    for summand in polynomial {
+        add_monomial(alloc, table, summand.monomial.as_slice())?;
     }
+    Ok(())
 }
 
-/// The atoms of all sides, each once, by first occurrence.
-fn atoms_of(alloc: Global, all: &[Sides]) -> Result<Items<Term>, NoMemory>
-    ensures { IfOk result (λ table. table ≡ with_all_atoms [] (map difference all.now)) }
+/// The monomials of all forms but 1, each once, by first occurrence.
+fn monomials_of(alloc: Global, forms: &[Form]) -> Result<Items<Items<Term>>, NoMemory>
+    ensures { IfOk result (λ table. table ≡ with_all_monomials [] forms.now) }
 {
     let mut table = Items::new(alloc);
-    for sides in all {
-        add_atoms(alloc, &mut table, sides.upper)?;
-        add_atoms(alloc, &mut table, sides.lower)?;
+    for form in forms {
+        add_monomials(alloc, &mut table, form.polynomial.as_slice())?;
     }
     Ok(table)
 }
 
-// ---- linear forms
+// ---- rows
 
-/// The factor of the atom in the term; `None` where a number passes 128 bits.
-#[cycle(factor)]
-fn factor(atom: &Term, t: &Term) -> Option<i128>
-    ensures { SomeIff result (IsNarrowFactor atom.now t.now) (factor atom.now t.now) }
-{
-    match &*t.node {
-        TermNode::Binary(TermBinary::Arith(ArithOp::Add), a, b) => {
-            let left = factor(atom, a)?;
-            let right = factor(atom, b)?;
-            left.checked_add(right)
-        }
-        TermNode::Binary(TermBinary::Arith(ArithOp::Sub), a, b) => {
-            let left = factor(atom, a)?;
-            let right = factor(atom, b)?;
-            left.checked_sub(right)
-        }
-        TermNode::Unary(TermUnary::Negative, a) => factor(atom, a)?.checked_neg(),
-        TermNode::Lit(_, _) => Some(0),
-        _ => Some(factor_itself(atom, t)),
-    }
-}
-
-/// The factor of the atom in a term that is not taken apart.
-fn factor_itself(atom: &Term, t: &Term) -> i128
-    ensures { result ≡ (if same_term t.now atom.now then pos 1 else pos 0) }
-{
-    if is_same(t, atom) { 1 } else { 0 }
-}
-
-/// The constant of the term; `None` where a number passes 128 bits.
-#[cycle(constant)]
-fn constant(t: &Term) -> Option<i128>
-    ensures { SomeIff result (IsNarrowConstant t.now) (constant t.now) }
-{
-    match &*t.node {
-        TermNode::Binary(TermBinary::Arith(ArithOp::Add), a, b) => constant(a)?.checked_add(
-            constant(b)?,
-        ),
-        TermNode::Binary(TermBinary::Arith(ArithOp::Sub), a, b) => constant(a)?.checked_sub(
-            constant(b)?,
-        ),
-        TermNode::Unary(TermUnary::Negative, a) => constant(a)?.checked_neg(),
-        TermNode::Lit(number, _) => Some(*number),
-        _ => Some(0),
-    }
-}
-
-fn row_factor(atom: &Term, sides: Sides) -> Option<i128>
-    ensures { SomeIff result (HasNarrowFactor (difference sides.entry) atom.now) (row_factor atom.now (difference sides.entry)) }
-{
-    factor(atom, sides.upper)?.checked_sub(factor(atom, sides.lower)?)
-}
-
-fn row_constant(sides: Sides) -> Option<i128>
-    ensures { SomeIff result (HasNarrowConstant (difference sides.entry)) (row_constant (difference sides.entry)) }
-{
-    let constant = constant(sides.upper)?.checked_sub(constant(sides.lower)?)?;
-    constant.checked_sub(sides.gap)
-}
-
-/// A part for each atom of the table, by its number; `None` where a number passes 128 bits.
-fn parts(alloc: Global, table: &[Term], sides: Sides) -> Result<Option<Items<Part>>, NoMemory>
-    ensures { IfOk result (λ found. SomeIff found (All (HasNarrowFactor (difference sides.entry)) table.now) (parts_from 0 table.now (difference sides.entry))) }
+/// A part for each monomial of the table, by its number.
+fn parts(alloc: Global, table: &[Items<Term>], form: &Form) -> Result<Items<Part>, NoMemory>
+    ensures { IfOk result (λ parts. parts ≡ parts_from 0 table.now form.now) }
 {
     let mut all = Items::new(alloc);
-    for (at, atom) in table.iter().enumerate() {
-        let number = u32::try_from(at).ok().ok_or(NoMemory)?;
-        match row_factor(atom, sides) {
-            Some(factor) => all.push(Part {
-                atom: number,
-                factor,
-            })?,
-            None => return Ok(None),
-        }
+    for (at, monomial) in table.iter().enumerate() {
+        let atom = u32::try_from(at).ok().ok_or(NoMemory)?;
+        let factor = coefficient(monomial.as_slice(), form.polynomial.as_slice());
+        all.push(Part { atom, factor })?;
     }
-    Ok(Some(all))
+    Ok(all)
 }
 
-/// The row over the table; `None` where a number passes 128 bits.
-fn row(alloc: Global, table: &[Term], sides: Sides) -> Result<Option<Row>, NoMemory>
-    ensures { IfOk result (λ found. SomeIff found (IsNarrowOver table.now (difference sides.entry)) (row_over table.now (difference sides.entry))) }
-{
-    let Some(parts) = parts(alloc, table, sides)? else {
-        return Ok(None);
-    };
-    match row_constant(sides) {
-        Some(constant) => Ok(Some(Row { parts, constant })),
-        None => Ok(None),
-    }
-}
-
-/// The rows over the table; `None` where a number of one passes 128 bits.
-fn rows(alloc: Global, table: &[Term], all: &[Sides]) -> Result<Option<Items<Row>>, NoMemory>
-    ensures { IfOk result (λ found. SomeIff found (All (IsNarrowOver table.now) (map difference all.now)) (map (row_over table.now) (map difference all.now))) }
+/// The forms' rows over the table.
+fn rows(alloc: Global, table: &[Items<Term>], forms: &[Form]) -> Result<Items<Row>, NoMemory>
+    ensures { IfOk result (λ rows. rows ≡ map (row_over table.now) forms.now) }
 {
     let mut rows = Items::new(alloc);
-    for sides in all {
-        match row(alloc, table, *sides)? {
-            Some(row) => rows.push(row)?,
-            None => return Ok(None),
-        }
+    for form in forms {
+        let parts = parts(alloc, table, form)?;
+        let constant = form.constant;
+        rows.push(Row { parts, constant })?;
     }
-    Ok(Some(rows))
+    Ok(rows)
 }
 
 // ---- the step
@@ -336,10 +310,11 @@ fn outcome(alloc: Global, all: &[Sides], multiples: &[Multiple]) -> Result<LinAn
     requires few { length multiples.now < 2 ^ 32 }
     ensures { IfOk result (λ answer. IsOutcomeOf answer (map difference all.now) multiples.now) }
 {
-    let table = atoms_of(alloc, all)?;
-    let Some(rows) = rows(alloc, table.as_slice(), all)? else {
+    let Some(forms) = forms(alloc, all)? else {
         return Ok(LinAnswer::TooWide);
     };
+    let table = monomials_of(alloc, forms.as_slice())?;
+    let rows = rows(alloc, table.as_slice(), forms.as_slice())?;
     let by = multipliers(alloc, multiples)?;
     match check_certificate(rows.as_slice(), by.as_slice()) {
         CertAnswer::Good => Ok(LinAnswer::Closes),
@@ -352,7 +327,7 @@ fn outcome(alloc: Global, all: &[Sides], multiples: &[Multiple]) -> Result<LinAn
 ///
 /// # Errors
 ///
-/// `NoMemory` where memory is refused, and where the terms have more than 2^32 atoms.
+/// `NoMemory` where memory is refused, and where the rows have more than 2^32 monomials.
 pub fn certifies(alloc: Global, q: &Sequent, multiples: &[Multiple]) -> Result<LinAnswer, NoMemory>
     requires { length multiples.now < 2 ^ 32 }
     ensures closes { IfOk result (λ answer. (answer ≡ LinAnswer.Closes) ↔ Certifies q.now multiples.now) }

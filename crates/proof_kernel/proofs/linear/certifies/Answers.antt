@@ -2,7 +2,8 @@ use Rattle.std.proofs.Common.{◌∙◌, List, length, map, ap, sym, subst}
 use Rattle.proof_kernel.specs.declared.linear.Sides.{Sides}
 use Rattle.proof_kernel.specs.Linear.{AreRows}
 use Rattle.proof_kernel.specs.LinearRows.{difference}
-use Rattle.proof_kernel.proofs.LinearOutcome.{found_says, sides_length, closes_of, wide_of, fails_of}
+use Rattle.proof_kernel.proofs.Found.{found_says}
+use Rattle.proof_kernel.proofs.LinearOutcome.{sides_length, closes_of, wide_of, fails_of}
 use Rattle.proof_kernel.proofs.linear.certifies.Goals as goal
 
 pub outcome-requires-clause-same_length : goal.outcome-requires-clause-same_length
