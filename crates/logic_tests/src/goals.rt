@@ -50,14 +50,12 @@ fn sum_is_sum(alloc: Global) -> Result<Term, NoMemory> {
 #[test]
 fn goals_of_a_sum(rt: HostRuntime) -> Result<(), Fail> {
     let alloc = rt.alloc();
-    assert_eq!(rt;
-        goal_text(alloc, &sum_fits(alloc)?)?.as_slice(),
-        b"(forall<v1: i32> (((-2147483648) <= (v1@ + 1)) && ((v1@ + 1) <= 2147483647)))".as_slice()
-    );
-    assert_eq!(rt;
-        goal_text(alloc, &sum_is_sum(alloc)?)?.as_slice(),
-        b"(forall<v1: i32> (forall<v2: i32> ((v2@ == (v1@ + 1)) ==> (v2@ == (v1@ + 1)))))".as_slice()
-    );
+    let fits =
+        b"(forall<v1: i32> (((-2147483648) <= (v1@ + 1)) && ((v1@ + 1) <= 2147483647)))".as_slice();
+    expect(&rt, alloc, sum_fits(alloc)?, fits)?;
+    let is_sum =
+        b"(forall<v1: i32> (forall<v2: i32> ((v2@ == (v1@ + 1)) ==> (v2@ == (v1@ + 1)))))".as_slice();
+    expect(&rt, alloc, sum_is_sum(alloc)?, is_sum)?;
     Ok(())
 }
 
@@ -82,7 +80,7 @@ fn arithmetic(rt: HostRuntime) -> Result<(), Fail> {
     let alloc = rt.alloc();
     for (op, wanted) in ARITHMETIC {
         let goal = Term::calculate(alloc, op, one(), minus_two())?;
-        assert_eq!(rt; goal_text(alloc, &goal)?.as_slice(), wanted);
+        expect(&rt, alloc, goal, wanted)?;
     }
     Ok(())
 }
@@ -147,7 +145,7 @@ fn literals(rt: HostRuntime) -> Result<(), Fail> {
     let alloc = rt.alloc();
     for (number, kind, wanted) in LITERALS {
         let literal = Term::lit(number, Ty::int(kind));
-        assert_eq!(rt; goal_text(alloc, &literal)?.as_slice(), wanted);
+        expect(&rt, alloc, literal, wanted)?;
     }
     Ok(())
 }
@@ -159,10 +157,12 @@ fn inner_binder_counts(rt: HostRuntime) -> Result<(), Fail> {
     let equal = Term::equal(alloc, Term::var(X), Term::var(Y))?;
     let inner = Term::forall(alloc, X, Ty::bool(), equal)?;
     let goal = Term::forall(alloc, X, i32_sort(), inner)?;
-    assert_eq!(rt;
-        goal_text(alloc, &goal)?.as_slice(),
-        b"(forall<v1: i32> (forall<v2: bool> (v2 == v0)))".as_slice()
-    );
+    expect(
+        &rt,
+        alloc,
+        goal,
+        b"(forall<v1: i32> (forall<v2: bool> (v2 == v0)))",
+    )?;
     Ok(())
 }
 
@@ -188,7 +188,8 @@ const VALUES: [(Ctor, usize, &[u8]); 6] = [
 fn values(rt: HostRuntime) -> Result<(), Fail> {
     let alloc = rt.alloc();
     for (ctor, parts, wanted) in VALUES {
-        assert_eq!(rt; made_text(alloc, ctor, parts)?.as_slice(), wanted);
+        let text = made_text(alloc, ctor, parts)?;
+        assert!(rt; text.as_slice() == wanted);
     }
     Ok(())
 }
@@ -225,7 +226,7 @@ fn tuple_sorts(rt: HostRuntime) -> Result<(), Fail> {
     let alloc = rt.alloc();
     for (parts, wanted) in TUPLES {
         let node = TyNode::Tuple(sorts(alloc, parts)?);
-        assert_eq!(rt; sort_text(alloc, node)?.as_slice(), wanted);
+        expect_sort(&rt, alloc, node, wanted)?;
     }
     Ok(())
 }
@@ -284,14 +285,13 @@ fn numbered_sorts(rt: HostRuntime) -> Result<(), Fail> {
     let alloc = rt.alloc();
     let regions = Vec::from_slice(alloc, &[Region(1)])?;
     let declared = TyNode::Adt(AdtId(3), regions, sorts(alloc, 2)?);
-    assert_eq!(rt;
-        sort_text(alloc, declared)?.as_slice(),
-        b"(forall<v1: declared3<Int, bool>> true)".as_slice()
-    );
-    assert_eq!(rt;
-        sort_text(alloc, TyNode::Param(2))?.as_slice(),
-        b"(forall<v1: param2> true)".as_slice()
-    );
+    expect_sort(
+        &rt,
+        alloc,
+        declared,
+        b"(forall<v1: declared3<Int, bool>> true)",
+    )?;
+    expect_sort(&rt, alloc, TyNode::Param(2), b"(forall<v1: param2> true)")?;
     Ok(())
 }
 
@@ -309,9 +309,11 @@ fn sort_of_a_closure(rt: HostRuntime) -> Result<(), Fail> {
         sorts(alloc, 2)?,
         Box::new(alloc, bound)?,
     );
-    assert_eq!(rt;
-        sort_text(alloc, node)?.as_slice(),
-        b"(forall<v1: closure4<Int>(Int, bool)> true)".as_slice()
-    );
+    expect_sort(
+        &rt,
+        alloc,
+        node,
+        b"(forall<v1: closure4<Int>(Int, bool)> true)",
+    )?;
     Ok(())
 }
