@@ -14,7 +14,7 @@ use std::alloc::Global;
 use text_core::NoMemory;
 
 /// What is to be done with the source.
-#[derive(Clone, Copy, Debug, PartialEq, Eq)]
+#[derive(Clone, Copy, PartialEq, Eq)]
 pub enum Verb {
     /// The functions are to be verified.
     Verify,
@@ -34,7 +34,7 @@ impl Verb {
 }
 
 /// What the words of a call ask for.
-#[derive(Clone, Copy, Debug, PartialEq, Eq)]
+#[derive(Clone, Copy)]
 pub struct Request<'a> {
     /// What is to be done.
     pub verb: Verb,

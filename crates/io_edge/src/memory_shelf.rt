@@ -10,7 +10,7 @@ use std::alloc::{AllocError, Global};
 use std::collections::BTreeMap;
 
 /// Files that are kept in memory. Reads and writes fail at the calls whose numbers were given.
-#[derive(Debug, Drop)]
+#[derive(Drop)]
 pub struct MemoryShelf {
     files: BTreeMap<String, Vec<u8>>,
     failing: Vec<u64>,

@@ -9,7 +9,7 @@ use crate::sink::{Sink, SinkError};
 use std::alloc::Global;
 
 /// An output that keeps its bytes in memory. It fails at the calls whose numbers it was given.
-#[derive(Debug, Drop)]
+#[derive(Drop)]
 pub struct MemorySink {
     bytes: Vec<u8>,
     most_each: u64,

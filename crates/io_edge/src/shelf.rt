@@ -8,7 +8,7 @@ use text_core::NoMemory;
 use thiserror::Error;
 
 /// Why a file was not read or written.
-#[derive(Clone, Copy, Debug, PartialEq, Eq, Error)]
+#[derive(Clone, Copy, Debug, Error)]
 pub enum ShelfError {
     /// The device failed, or there is no such file.
     #[error("the file could not be read or written")]

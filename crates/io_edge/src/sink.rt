@@ -8,7 +8,7 @@ use text_core::NoMemory;
 use thiserror::Error;
 
 /// Why an output did not take the bytes.
-#[derive(Clone, Copy, Debug, PartialEq, Eq, Error)]
+#[derive(Clone, Copy, Debug, Error)]
 pub enum SinkError {
     /// The device failed.
     #[error("the output could not be written")]

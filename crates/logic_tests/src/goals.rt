@@ -53,14 +53,12 @@ fn sum_is_sum(alloc: Global) -> Result<Term, NoMemory> {
 #[test]
 fn goals_of_a_sum(rt: HostRuntime) -> Result<(), Fail> {
     let alloc = rt.alloc();
-    assert_eq!(rt;
-        goal_text(alloc, &sum_fits(alloc)?)?.as_slice(),
-        b"(forall<v1: i32> (((-2147483648) <= (v1@ + 1)) && ((v1@ + 1) <= 2147483647)))".as_slice()
-    );
-    assert_eq!(rt;
-        goal_text(alloc, &sum_is_sum(alloc)?)?.as_slice(),
-        b"(forall<v1: i32> (forall<v2: i32> ((v2@ == (v1@ + 1)) ==> (v2@ == (v1@ + 1)))))".as_slice()
-    );
+    let fits =
+        b"(forall<v1: i32> (((-2147483648) <= (v1@ + 1)) && ((v1@ + 1) <= 2147483647)))".as_slice();
+    expect(&rt, alloc, sum_fits(alloc)?, fits)?;
+    let is_sum =
+        b"(forall<v1: i32> (forall<v2: i32> ((v2@ == (v1@ + 1)) ==> (v2@ == (v1@ + 1)))))".as_slice();
+    expect(&rt, alloc, sum_is_sum(alloc)?, is_sum)?;
     Ok(())
 }
 
@@ -85,7 +83,7 @@ fn arithmetic(rt: HostRuntime) -> Result<(), Fail> {
     let alloc = rt.alloc();
     for (op, wanted) in ARITHMETIC {
         let goal = Term::calculate(alloc, op, one(alloc)?, minus_two(alloc)?)?;
-        assert_eq!(rt; goal_text(alloc, &goal)?.as_slice(), wanted);
+        expect(&rt, alloc, goal, wanted)?;
     }
     Ok(())
 }
@@ -155,7 +153,7 @@ fn literals(rt: HostRuntime) -> Result<(), Fail> {
     let alloc = rt.alloc();
     for (number, kind, wanted) in LITERALS {
         let literal = Term::lit(alloc, number, Ty::int(kind))?;
-        assert_eq!(rt; goal_text(alloc, &literal)?.as_slice(), wanted);
+        expect(&rt, alloc, literal, wanted)?;
     }
     Ok(())
 }
@@ -167,10 +165,12 @@ fn inner_binder_counts(rt: HostRuntime) -> Result<(), Fail> {
     let equal = Term::equal(alloc, Term::var(alloc, X)?, Term::var(alloc, Y)?)?;
     let inner = Term::forall(alloc, X, Ty::bool(), equal)?;
     let goal = Term::forall(alloc, X, i32_sort(), inner)?;
-    assert_eq!(rt;
-        goal_text(alloc, &goal)?.as_slice(),
-        b"(forall<v1: i32> (forall<v2: bool> (v2 == v0)))".as_slice()
-    );
+    expect(
+        &rt,
+        alloc,
+        goal,
+        b"(forall<v1: i32> (forall<v2: bool> (v2 == v0)))",
+    )?;
     Ok(())
 }
 
@@ -196,7 +196,8 @@ const VALUES: [(Ctor, usize, &[u8]); 6] = [
 fn values(rt: HostRuntime) -> Result<(), Fail> {
     let alloc = rt.alloc();
     for (ctor, parts, wanted) in VALUES {
-        assert_eq!(rt; made_text(alloc, ctor, parts)?.as_slice(), wanted);
+        let text = made_text(alloc, ctor, parts)?;
+        assert!(rt; text.as_slice() == wanted);
     }
     Ok(())
 }
@@ -232,7 +233,7 @@ fn tuple_sorts(rt: HostRuntime) -> Result<(), Fail> {
     let alloc = rt.alloc();
     for (parts, wanted) in TUPLES {
         let node = TyNode::Tuple(sorts(alloc, parts)?);
-        assert_eq!(rt; sort_text(alloc, Ty { node })?.as_slice(), wanted);
+        expect_sort(&rt, alloc, Ty { node }, wanted)?;
     }
     Ok(())
 }
@@ -287,17 +288,16 @@ fn numbered_sorts(rt: HostRuntime) -> Result<(), Fail> {
     let regions = Vec::from_slice(alloc, &[Region(1)])?;
     let parts = CompoundTy::Adt(AdtId(3), regions, sorts(alloc, 2)?);
     let declared = Ty::compound(alloc, parts)?;
-    assert_eq!(rt;
-        sort_text(alloc, declared)?.as_slice(),
-        b"(forall<v1: declared3<Int, bool>> true)".as_slice()
-    );
+    expect_sort(
+        &rt,
+        alloc,
+        declared,
+        b"(forall<v1: declared3<Int, bool>> true)",
+    )?;
     let parameter = Ty {
         node: TyNode::Param(2),
     };
-    assert_eq!(rt;
-        sort_text(alloc, parameter)?.as_slice(),
-        b"(forall<v1: param2> true)".as_slice()
-    );
+    expect_sort(&rt, alloc, parameter, b"(forall<v1: param2> true)")?;
     Ok(())
 }
 
@@ -311,9 +311,11 @@ fn sort_of_a_closure(rt: HostRuntime) -> Result<(), Fail> {
     };
     let parts = CompoundTy::Closure(4, sorts(alloc, 1)?, sorts(alloc, 2)?, bound);
     let closure = Ty::compound(alloc, parts)?;
-    assert_eq!(rt;
-        sort_text(alloc, closure)?.as_slice(),
-        b"(forall<v1: closure4<Int>(Int, bool)> true)".as_slice()
-    );
+    expect_sort(
+        &rt,
+        alloc,
+        closure,
+        b"(forall<v1: closure4<Int>(Int, bool)> true)",
+    )?;
     Ok(())
 }

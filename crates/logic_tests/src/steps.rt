@@ -97,7 +97,7 @@ fn range_adds_two_hypotheses(rt: HostRuntime) -> Result<(), Fail> {
     let alloc = rt.alloc();
     let kernel = second(alloc, is_below(alloc, 100)?, &Step::Range(X))?;
     let q = kernel.first().ok_or("closed")?;
-    assert_eq!(rt; q.hyps.len(), 3);
+    assert!(rt; q.hyps.len() == 3);
     Ok(())
 }
 
@@ -113,7 +113,7 @@ fn lin_closes(rt: HostRuntime) -> Result<(), Fail> {
 fn a_number_is_too_wide(rt: HostRuntime) -> Result<(), Fail> {
     let alloc = rt.alloc();
     let refused = second(alloc, is_below(alloc, 101)?, &lin(alloc, i128::MAX)?).err();
-    assert_eq!(rt; refused, Some(StepError::TooWide { step: 2 }));
+    assert!(rt; matches!(refused, Some(StepError::TooWide { step: 2 })));
     Ok(())
 }
 
@@ -121,7 +121,7 @@ fn a_number_is_too_wide(rt: HostRuntime) -> Result<(), Fail> {
 fn no_rule_fits(rt: HostRuntime) -> Result<(), Fail> {
     let alloc = rt.alloc();
     let refused = second(alloc, is_below(alloc, 101)?, &Step::Split).err();
-    assert_eq!(rt; refused, Some(StepError::RuleFails { step: 2 }));
+    assert!(rt; matches!(refused, Some(StepError::RuleFails { step: 2 })));
     Ok(())
 }
 
@@ -130,6 +130,6 @@ fn a_step_cites_itself(rt: HostRuntime) -> Result<(), Fail> {
     let alloc = rt.alloc();
     let own = Step::Hyp(Label2 { step: 2, part: 1 });
     let refused = second(alloc, is_below(alloc, 100)?, &own).err();
-    assert_eq!(rt; refused, Some(StepError::UnknownStep { step: 2 }));
+    assert!(rt; matches!(refused, Some(StepError::UnknownStep { step: 2 })));
     Ok(())
 }

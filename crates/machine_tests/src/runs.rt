@@ -220,7 +220,7 @@ fn program(alloc: Global) -> Result<Bodies, NoMemory>
 // ---- runs
 
 /// What a run has come to.
-#[derive(Clone, Copy, Debug, PartialEq, Eq)]
+#[derive(Clone, Copy, PartialEq, Eq)]
 enum Came {
     Integer(i128),
     Truth(bool),
@@ -293,80 +293,75 @@ fn absolute_of(alloc: Global, f: u32, x: i32) -> Result<Came, Fail>
 fn calls_step_by_step(rt: HostRuntime) -> Result<(), Fail> {
     let bodies = program(rt.alloc())?;
     let mut machine = start(rt.alloc(), &bodies, 1, integer(-41))?;
-    assert_eq!(rt; machine.state().behind.len(), 1);
+    assert!(rt; machine.state().behind.len() == 1);
     machine.step()?;
-    assert_eq!(rt; machine.outcome(), Outcome::Running);
-    assert_eq!(rt; machine.state().running.function, 0);
-    assert_eq!(rt; machine.state().behind.len(), 2);
+    assert!(rt; matches!(machine.outcome(), Outcome::Running));
+    assert!(rt; machine.state().running.function == 0);
+    assert!(rt; machine.state().behind.len() == 2);
     machine.run(2)?;
-    assert_eq!(rt; machine.state().running.label, Label(1));
+    assert!(rt; machine.state().running.label.0 == 1);
     assert!(rt; machine.result().is_none());
     machine.run(99)?;
-    assert_eq!(rt; answer_of(&machine), Came::Integer(41));
-    assert_eq!(rt; machine.state().behind.len(), 0);
-    assert_eq!(rt; machine.run(7)?, 0);
+    assert!(rt; answer_of(&machine) == Came::Integer(41));
+    assert!(rt; machine.state().behind.is_empty());
+    assert!(rt; machine.run(7)? == 0);
     Ok(())
 }
 
+const OVERFLOW: Came = Came::Panic(Cause::Overflow);
+
+const DIVISION: Came = Came::Panic(Cause::Division);
+
+/// Operators with their operands, and what they come to.
+const OPERATIONS: [(IntKind, BinaryOp, i128, i128, Came); 12] = [
+    (IntKind::I8, BinaryOp::Add, 127, 1, OVERFLOW),
+    (
+        IntKind::U64,
+        BinaryOp::Add,
+        18446744073709551614,
+        1,
+        Came::Integer(18446744073709551615),
+    ),
+    (IntKind::U8, BinaryOp::Sub, 0, 1, OVERFLOW),
+    (
+        IntKind::I64,
+        BinaryOp::Mul,
+        -9223372036854775808,
+        -1,
+        OVERFLOW,
+    ),
+    (IntKind::I32, BinaryOp::Div, -2147483648, -1, OVERFLOW),
+    (IntKind::I32, BinaryOp::Rem, -2147483648, -1, OVERFLOW),
+    (IntKind::I16, BinaryOp::Div, 5, 0, DIVISION),
+    (IntKind::Usize, BinaryOp::Rem, 5, 0, DIVISION),
+    (IntKind::I32, BinaryOp::Div, -7, 2, Came::Integer(-3)),
+    (IntKind::I32, BinaryOp::Rem, -7, 2, Came::Integer(-1)),
+    (IntKind::Isize, BinaryOp::Lt, -1, 1, Came::Truth(true)),
+    (
+        IntKind::U32,
+        BinaryOp::Ne,
+        4294967295,
+        4294967295,
+        Came::Truth(false),
+    ),
+];
+
 #[test]
 fn operators_at_the_ends_of_types(rt: HostRuntime) -> Result<(), Fail> {
-    let overflow = Came::Panic(Cause::Overflow);
-    let division = Came::Panic(Cause::Division);
-    let least = i32::MIN as i128;
-    for (kind, op, x, n, want) in [
-        (IntKind::I8, BinaryOp::Add, 127, 1, overflow),
-        (
-            IntKind::U64,
-            BinaryOp::Add,
-            18446744073709551614,
-            1,
-            Came::Integer(18446744073709551615),
-        ),
-        (IntKind::U8, BinaryOp::Sub, 0, 1, overflow),
-        (
-            IntKind::I64,
-            BinaryOp::Mul,
-            -9223372036854775808,
-            -1,
-            overflow,
-        ),
-        (IntKind::I32, BinaryOp::Div, least, -1, overflow),
-        (IntKind::I32, BinaryOp::Rem, least, -1, overflow),
-        (IntKind::I16, BinaryOp::Div, 5, 0, division),
-        (IntKind::Usize, BinaryOp::Rem, 5, 0, division),
-        (IntKind::I32, BinaryOp::Div, -7, 2, Came::Integer(-3)),
-        (IntKind::I32, BinaryOp::Rem, -7, 2, Came::Integer(-1)),
-        (IntKind::Isize, BinaryOp::Lt, -1, 1, Came::Truth(true)),
-        (
-            IntKind::U32,
-            BinaryOp::Ne,
-            4294967295,
-            4294967295,
-            Came::Truth(false),
-        ),
-    ] {
-        assert_eq!(rt;
-            operation(rt.alloc(), kind, op, x, n)?,
-            want,
-            "{kind:?} {x} {n} {want:?}"
-        );
+    for (kind, op, x, n, wanted) in OPERATIONS {
+        let came = operation(rt.alloc(), kind, op, x, n)?;
+        assert!(rt; came == wanted, "of {x} and {n}");
     }
-    assert_eq!(rt; negation(rt.alloc(), IntKind::I8, -128)?, overflow);
-    assert_eq!(rt;
-        negation(rt.alloc(), IntKind::I8, 127)?,
-        Came::Integer(-127)
-    );
+    assert!(rt; negation(rt.alloc(), IntKind::I8, -128)? == OVERFLOW);
+    assert!(rt; negation(rt.alloc(), IntKind::I8, 127)? == Came::Integer(-127));
     Ok(())
 }
 
 #[test]
 fn branches_and_calls(rt: HostRuntime) -> Result<(), Fail> {
-    assert_eq!(rt; absolute_of(rt.alloc(), 0, -7)?, Came::Integer(7));
-    assert_eq!(rt; absolute_of(rt.alloc(), 1, 7)?, Came::Integer(7));
-    assert_eq!(rt;
-        absolute_of(rt.alloc(), 1, i32::MIN)?,
-        Came::Panic(Cause::Overflow)
-    );
+    assert!(rt; absolute_of(rt.alloc(), 0, -7)? == Came::Integer(7));
+    assert!(rt; absolute_of(rt.alloc(), 1, 7)? == Came::Integer(7));
+    assert!(rt; absolute_of(rt.alloc(), 1, i32::MIN)? == OVERFLOW);
     Ok(())
 }
 
@@ -380,7 +375,7 @@ fn inverts_a_truth(rt: HostRuntime) -> Result<(), Fail> {
     };
     let mut machine = start(rt.alloc(), &bodies, 0, truth)?;
     machine.run(7)?;
-    assert_eq!(rt; answer_of(&machine), Came::Truth(false));
+    assert!(rt; answer_of(&machine) == Came::Truth(false));
     Ok(())
 }
 
@@ -391,6 +386,6 @@ fn makes_the_unit(rt: HostRuntime) -> Result<(), Fail> {
     let bodies = sample(rt.alloc(), answer, Ty::int(IntKind::I32), value)?;
     let mut machine = start(rt.alloc(), &bodies, 0, integer(5))?;
     machine.run(7)?;
-    assert_eq!(rt; answer_of(&machine), Came::Unit);
+    assert!(rt; answer_of(&machine) == Came::Unit);
     Ok(())
 }

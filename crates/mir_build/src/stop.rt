@@ -5,7 +5,7 @@ use std::alloc::{AllocError, AllocFailed};
 use text_core::NoMemory;
 
 /// Why the lowering of a body stops.
-#[derive(Drop, Debug)]
+#[derive(Drop)]
 pub(crate) enum Stop {
     /// The body would have more blocks than `MOST_BLOCKS`.
     Blocks,

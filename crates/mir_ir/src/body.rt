@@ -23,7 +23,7 @@ pub struct Block {
 
 /// A place in the code of a body: a block, and the number of a statement in it, from 0. One past the last statement is the
 /// block's end.
-#[derive(Clone, Copy, Debug, PartialEq, Eq)]
+#[derive(Clone, Copy)]
 pub struct Point {
     pub label: Label,
     pub statement: u32,

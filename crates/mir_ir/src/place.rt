@@ -2,7 +2,7 @@ use logic_term::IntKind;
 use text_core::Items;
 
 /// One part of a place's path.
-#[derive(Clone, Copy, Debug, PartialEq, Eq)]
+#[derive(Clone, Copy)]
 pub enum Proj {
     /// A field of a tuple, a struct or a variant, from 0.
     Field(u32),
@@ -20,7 +20,7 @@ pub struct Place {
 }
 
 /// A literal; an integer is one of its kind's.
-#[derive(Clone, Copy, Debug, PartialEq, Eq)]
+#[derive(Clone, Copy)]
 pub enum Lit {
     Int(i128, IntKind),
     Bool(bool),

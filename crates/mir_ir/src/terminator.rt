@@ -3,14 +3,14 @@ use logic_term::Label;
 use text_core::{Items, Span};
 
 /// A function that can be called.
-#[derive(Clone, Copy, Debug, PartialEq, Eq)]
+#[derive(Clone, Copy)]
 pub enum FnId {
     /// A place in the list of bodies, from 0.
     Body(u32),
 }
 
 /// What a call names.
-#[derive(Clone, Copy, Debug, PartialEq, Eq)]
+#[derive(Clone, Copy)]
 pub enum Callee {
     Function(FnId),
 }

@@ -1,7 +1,7 @@
 use text_core::{Cause, NoMemory, Span};
 
 /// Why a part of a step gives no value.
-#[derive(Clone, Copy, Debug)]
+#[derive(Clone, Copy)]
 pub enum Halt {
     /// No row of the machine applies. No body that is typed and initialised comes to it.
     Stuck,

@@ -27,7 +27,7 @@ enum Status {
 }
 
 /// The type of intrinsics until there are some. It is never called.
-#[derive(Clone, Copy, Debug, PartialEq, Eq)]
+#[derive(Clone, Copy)]
 pub struct NoIntrinsics;
 
 /// A run of a call. Contracts see the bodies and what the run has come to, the record of specs/Run.antt.

@@ -1,7 +1,7 @@
 use text_core::{Cause, Span};
 
 /// What a run has come to.
-#[derive(Clone, Copy, Debug, PartialEq, Eq)]
+#[derive(Clone, Copy)]
 pub enum Outcome {
     Running,
     Returned,

@@ -2,7 +2,7 @@ use text_core::{Limit, NoMemory};
 use thiserror::Error;
 
 /// Why a run stops before its end.
-#[derive(Clone, Copy, Debug, PartialEq, Eq, Error)]
+#[derive(Clone, Copy, Debug, Error)]
 pub enum RunError {
     /// A call would make more frames than a run may have.
     #[error("{} frames of {}", .0.counted, .0.bound)]

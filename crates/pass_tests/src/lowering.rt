@@ -2,7 +2,9 @@ ghost use Rattle.std.specs.Prelude.{◌<◌};
 
 use logic_term::{BinaryOp, IntKind, Label, Term, Ty, TyNode};
 use mir_build::{Lowered, lower};
-use mir_ir::{Block, Body, Rvalue, Statement, StatementKind, TerminatorKind};
+use mir_ir::{
+    Block, Body, Initialised, Rvalue, Statement, StatementKind, Terminator, TerminatorKind,
+};
 use std::alloc::Global;
 use std::process::Abort;
 use std::test::Fail;
@@ -136,7 +138,7 @@ fn looping(alloc: Global, invariant: Term) -> Result<TypedProgram, NoMemory> {
 // ---- what is seen of a block
 
 /// A statement or a block's end, without its operands.
-#[derive(Clone, Copy, Debug, PartialEq, Eq)]
+#[derive(Clone, Copy, PartialEq, Eq)]
 enum Shape {
     Use(u32),
     Binary(u32),
@@ -174,28 +176,52 @@ fn expect_block(rt: &impl Abort, body: &Body, at: usize, nest: &[Label], wanted:
         assert!(rt; false, "no block {at}");
         return;
     };
-    assert_eq!(rt; label.0 as usize, at);
-    assert_eq!(rt; block.nest.as_slice(), nest, "block {at}");
+    assert!(rt; label.0 as usize == at);
+    assert!(rt; block.nest.as_slice() == nest, "block {at}");
     expect_shapes(rt, at, block, wanted);
 }
 
+/// Whether the statement has this shape and first byte.
+fn is_statement(statement: &Statement, wanted: (Shape, u32)) -> bool {
+    let (shape, start) = wanted;
+    statement_shape(statement) == shape && statement.span.start == start
+}
+
+/// Whether the end has this shape and first byte.
+fn is_end(end: &Terminator, wanted: (Shape, u32)) -> bool {
+    let (shape, start) = wanted;
+    end_shape(&end.kind) == shape && end.span.start == start
+}
+
 fn expect_shapes(rt: &impl Abort, at: usize, block: &Block, wanted: &[(Shape, u32)]) {
+    let [wanted @ .., end] = wanted else {
+        assert!(rt; false, "no end of block {at}");
+        return;
+    };
     let statements = block.statements.as_slice();
-    assert_eq!(rt;
-        statements.len() as u128 + 1,
-        wanted.len() as u128,
-        "block {at}"
-    );
+    assert!(rt; statements.len() == wanted.len(), "block {at}");
     for i in 0..statements.len().min(wanted.len()) {
-        let seen = (statement_shape(&statements[i]), statements[i].span.start);
-        assert_eq!(rt; seen, wanted[i], "block {at}, statement {i}");
+        assert!(rt;
+            is_statement(&statements[i], wanted[i]),
+            "block {at}, statement {i}"
+        );
     }
-    let end = (end_shape(&block.end.kind), block.end.span.start);
-    assert_eq!(rt; Some(&end), wanted.last(), "block {at}");
+    assert!(rt; is_end(&block.end, *end), "the end of block {at}");
+}
+
+/// Whether the body has so many parameters and locals, and four blocks.
+fn has_counts(body: &Body, params: u32, locals: usize) -> bool {
+    body.params == params && body.locals.len() == locals && body.blocks.len() == 4
 }
 
 fn lowered(alloc: Global, program: &TypedProgram) -> Result<Lowered, PassError> {
     lower(alloc, program, &Names::new(alloc))
+}
+
+/// The loop whose invariant is variable 0, which is local 1 of the body.
+fn lowered_loop(alloc: Global) -> Result<Lowered, PassError> {
+    let invariant = Term::var(alloc, Name((1 << 63) + (1 << 61)))?;
+    lowered(alloc, &looping(alloc, invariant)?)
 }
 
 // ---- tests
@@ -204,11 +230,8 @@ fn lowered(alloc: Global, program: &TypedProgram) -> Result<Lowered, PassError> 
 fn a_branch(rt: HostRuntime) -> Result<(), Fail> {
     let made = lowered(rt.alloc(), &branching(rt.alloc())?)?;
     let body = made.bodies.bodies.get(0).ok_or("no body")?;
-    assert_eq!(rt; body.owner.bytes(), b"Option".as_slice());
-    assert_eq!(rt;
-        (body.params, body.locals.len(), body.blocks.len()),
-        (2, 8, 4)
-    );
+    assert!(rt; body.owner.bytes() == b"Option".as_slice());
+    assert!(rt; has_counts(body, 2, 8));
     expect_block(
         &rt,
         body,
@@ -236,14 +259,9 @@ fn a_branch(rt: HostRuntime) -> Result<(), Fail> {
 
 #[test]
 fn a_loop(rt: HostRuntime) -> Result<(), Fail> {
-    // The invariant is variable 0, which is local 1 there.
-    let invariant = Term::var(rt.alloc(), Name((1 << 63) + (1 << 61)))?;
-    let made = lowered(rt.alloc(), &looping(rt.alloc(), invariant)?)?;
+    let made = lowered_loop(rt.alloc())?;
     let body = made.bodies.bodies.get(0).ok_or("no body")?;
-    assert_eq!(rt;
-        (body.params, body.locals.len(), body.blocks.len()),
-        (1, 10, 4)
-    );
+    assert!(rt; has_counts(body, 1, 10));
     expect_block(&rt, body, 0, &[], &[(Shape::Goto(1), 10)]);
     let test = [
         (Shape::Use(3), 21),
@@ -269,17 +287,38 @@ fn a_loop(rt: HostRuntime) -> Result<(), Fail> {
         &[],
         &[(Shape::Unit(0), 10), (Shape::Return, 90)],
     );
+    Ok(())
+}
+
+/// Whether the head of the loop has one invariant, which stands at byte 50 and is of local 1.
+fn has_invariant(alloc: Global, block: &Block) -> Result<bool, NoMemory> {
+    let local = Term::var(alloc, Name((1 << 63) + 1))?;
+    let Some(head) = &block.head else {
+        return Ok(false);
+    };
+    Ok(match (head.spans.as_slice(), head.invariants.get(0)) {
+        ([span], Some(formula)) => *span == byte(50) && formula.same(&local),
+        _ => false,
+    })
+}
+
+/// Whether so many places may be gone where block 1 begins, which comes first.
+fn has_gone(gone: &Initialised, count: usize) -> bool {
+    match gone.gone.get(0) {
+        Some((point, places)) => {
+            point.label == Label(1) && point.statement == 0 && places.len() == count
+        }
+        None => false,
+    }
+}
+
+#[test]
+fn the_head_of_a_loop(rt: HostRuntime) -> Result<(), Fail> {
+    let made = lowered_loop(rt.alloc())?;
+    let body = made.bodies.bodies.get(0).ok_or("no body")?;
     let (_, block) = body.blocks.get(1).ok_or("no head")?;
-    let head = block.head.as_ref().ok_or("no invariants")?;
-    assert_eq!(rt; head.spans.len(), 1);
-    assert_eq!(rt; head.spans.get(0), Some(&byte(50)));
-    let formula = head.invariants.get(0).ok_or("no invariant")?;
-    assert!(rt; formula.same(&Term::var(rt.alloc(), Name((1 << 63) + 1))?));
+    assert!(rt; has_invariant(rt.alloc(), block)?);
     let gone = made.gone.get(0).ok_or("no gone places")?;
-    let (point, places) = gone.gone.get(0).ok_or("no gone places at the head")?;
-    assert_eq!(rt;
-        (point.label, point.statement, places.len()),
-        (Label(1), 0, 8)
-    );
+    assert!(rt; has_gone(gone, 8));
     Ok(())
 }

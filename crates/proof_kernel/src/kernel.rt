@@ -16,11 +16,11 @@ use text_core::{Items, Name, NoMemory};
 use thiserror::Error;
 
 /// What proofs may cite besides hypotheses: nothing so far.
-#[derive(Clone, Copy, Debug, PartialEq, Eq)]
+#[derive(Clone, Copy)]
 pub struct Tables;
 
 /// Why a step is refused. `step` is the number of the refused step.
-#[derive(Clone, Copy, Debug, PartialEq, Eq, Error)]
+#[derive(Clone, Copy, Debug, Error)]
 pub enum StepError {
     /// A cited step is not above this one.
     #[error("step {step} cites a step that is not above it")]

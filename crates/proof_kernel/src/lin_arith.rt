@@ -8,21 +8,21 @@ ghost use Rattle.proof_kernel.specs.LinColumns.{lesser_of, joined_of, IsNextAtom
 use text_core::Items;
 
 /// One term of a linear row: the factor times the atom.
-#[derive(Clone, Copy, Debug, PartialEq, Eq)]
+#[derive(Clone, Copy)]
 pub struct Part {
     pub atom: u32,
     pub factor: i128,
 }
 
 /// The sum of the parts and the constant is at least 0. Atoms rise.
-#[derive(Debug, Drop)]
+#[derive(Drop)]
 pub struct Row {
     pub parts: Items<Part>,
     pub constant: i128,
 }
 
 /// Whether multipliers show that rows have no common solution.
-#[derive(Clone, Copy, Debug, PartialEq, Eq)]
+#[derive(Clone, Copy)]
 pub enum CertAnswer {
     /// They do: none is negative, and the rows add up to a false constant row.
     Good,

@@ -17,7 +17,7 @@ use std::alloc::Global;
 use text_core::{Items, Name, NoMemory};
 
 /// What a step of linear arithmetic comes to.
-#[derive(Clone, Copy, Debug, PartialEq, Eq)]
+#[derive(Clone, Copy, PartialEq, Eq)]
 pub enum LinAnswer {
     /// The multiples close the sequent.
     Closes,

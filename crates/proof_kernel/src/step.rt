@@ -2,7 +2,7 @@ use logic_term::Label2;
 use text_core::{Items, Name};
 
 /// What a linear step takes a row from.
-#[derive(Clone, Copy, Debug, PartialEq, Eq)]
+#[derive(Clone, Copy)]
 pub enum Reference {
     /// The negation of the goal.
     Goal,
@@ -13,7 +13,7 @@ pub enum Reference {
 }
 
 /// A row with its multiplier.
-#[derive(Clone, Copy, Debug, PartialEq, Eq)]
+#[derive(Clone, Copy)]
 pub struct Multiple {
     pub by: i128,
     pub of: Reference,

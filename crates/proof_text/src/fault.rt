@@ -7,7 +7,7 @@ use text_core::NoMemory;
 use thiserror::Error;
 
 /// Why a proof file could not be read.
-#[derive(Clone, Copy, Debug, Drop, PartialEq, Eq, Error)]
+#[derive(Clone, Copy, Debug, Drop, Error)]
 pub enum ProofTextError {
     /// The first bad line, counted from 1.
     #[error("line {0} of the proof file is wrong")]
@@ -42,7 +42,7 @@ impl<T: Drop> From<AllocFailed<T>> for ProofTextError {
 }
 
 /// Why a line could not be read.
-#[derive(Clone, Copy, Debug, Drop, PartialEq, Eq)]
+#[derive(Clone, Copy, Drop)]
 pub(crate) enum Fault {
     Bad,
     NoMemory,

@@ -4,8 +4,8 @@ ghost use Rattle.std.specs.List.{list_any};
 ghost use Rattle.std.specs.Str.{bytes_eq};
 
 use crate::proof::Proof;
-use indexmap::IndexSet;
 use std::alloc::Global;
+use std::collections::HashSet;
 use std::marker::Model;
 use text_core::{Items, NoMemory};
 
@@ -13,7 +13,7 @@ use text_core::{Items, NoMemory};
 #[derive(Drop)]
 pub(crate) struct ProofTable<'a> {
     proofs: Vec<Proof>,
-    keys: IndexSet<(u32, &'a [u8])>,
+    keys: HashSet<(u32, &'a [u8])>,
 }
 
 impl<'a> Model for ProofTable<'a> {
@@ -36,7 +36,7 @@ impl<'a> ProofTable<'a> {
     {
         ProofTable {
             proofs: Vec::new(alloc),
-            keys: IndexSet::new(alloc),
+            keys: HashSet::new(alloc),
         }
     }
 

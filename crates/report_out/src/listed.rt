@@ -10,7 +10,7 @@ use std::alloc::Global;
 use text_core::{Kind, NoMemory, Span, Text};
 
 /// An obligation with its goal, as it is listed.
-#[derive(Debug, Drop)]
+#[derive(Drop)]
 pub struct ListedItem {
     pub number: u32,
     pub kind: Kind,

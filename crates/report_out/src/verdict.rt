@@ -1,7 +1,7 @@
 use text_core::{Items, Kind, Span, Text};
 
 /// Whether a function is verified.
-#[derive(Debug, Drop)]
+#[derive(Drop)]
 pub struct FnLine {
     /// As the report spells it.
     pub name: Text,
@@ -9,7 +9,7 @@ pub struct FnLine {
 }
 
 /// Why an obligation is left.
-#[derive(Clone, Copy, Debug, PartialEq, Eq)]
+#[derive(Clone, Copy)]
 pub enum Reason {
     /// No proof was given.
     Missing,
@@ -18,7 +18,7 @@ pub enum Reason {
 }
 
 /// An obligation that is not proved.
-#[derive(Debug, Drop)]
+#[derive(Drop)]
 pub struct LeftItem {
     pub number: u32,
     pub kind: Kind,
@@ -28,7 +28,7 @@ pub struct LeftItem {
 }
 
 /// What is verified, and which obligations are left.
-#[derive(Debug, Drop)]
+#[derive(Drop)]
 pub struct Verdict {
     /// One line for each function, in source order.
     pub functions: Items<FnLine>,

@@ -32,7 +32,7 @@ fn bad_token(span: Span) -> SourceError
 }
 
 /// Gives the tokens of a text one by one. It takes no memory.
-#[derive(Debug, Drop)]
+#[derive(Drop)]
 pub struct Lexer<'a> {
     bytes: &'a [u8],
     /// What is left behind the token that was given last.

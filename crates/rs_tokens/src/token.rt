@@ -174,14 +174,14 @@ pub enum TokenKind {
 }
 
 /// A token and where it stands; its text is the part of the source in its span.
-#[derive(Clone, Copy, Debug, PartialEq, Eq)]
+#[derive(Clone, Copy, Debug)]
 pub struct Token {
     pub kind: TokenKind,
     pub span: Span,
 }
 
 /// The token at the front of a text, and how many bytes it has.
-#[derive(Clone, Copy, Debug)]
+#[derive(Clone, Copy)]
 pub struct Front {
     pub kind: TokenKind,
     pub len: usize,

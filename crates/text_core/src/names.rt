@@ -54,7 +54,7 @@ fn place_of(given: &IndexSet<String>, text: &str) -> Option<usize>
 }
 
 /// A table that gives each text one name. The words have names in every table.
-#[derive(Debug, Drop)]
+#[derive(Drop)]
 pub struct Names {
     given: IndexSet<String>,
 }

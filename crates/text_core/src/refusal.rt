@@ -50,7 +50,7 @@ pub enum Code {
 }
 
 /// A refusal of a source: why and where. `other` is the second place of E13 and E17, and `None` for all others.
-#[derive(Clone, Copy, Debug, PartialEq, Eq)]
+#[derive(Clone, Copy, Debug)]
 pub struct SourceError {
     pub code: Code,
     pub span: Span,
@@ -74,7 +74,7 @@ pub enum LimitKind {
 }
 
 /// A quantity past its bound: what was counted, and the bound.
-#[derive(Clone, Copy, Debug, PartialEq, Eq)]
+#[derive(Clone, Copy, Debug)]
 pub struct Limit {
     pub kind: LimitKind,
     pub counted: u64,
@@ -82,7 +82,7 @@ pub struct Limit {
 }
 
 /// The kinds of obligations.
-#[derive(Clone, Copy, Debug, PartialEq, Eq)]
+#[derive(Clone, Copy, PartialEq, Eq)]
 pub enum Kind {
     Requires,
     Assert,
@@ -99,7 +99,7 @@ pub enum Kind {
 }
 
 /// Why a run panics.
-#[derive(Clone, Copy, Debug, PartialEq, Eq)]
+#[derive(Clone, Copy, PartialEq, Eq)]
 pub enum Cause {
     Overflow,
     Division,

@@ -5,7 +5,7 @@ use std::alloc::Global;
 use std::marker::Model;
 
 /// Bytes that contracts see as a list of numbers below 256.
-#[derive(Debug, Drop)]
+#[derive(Drop)]
 pub struct Text {
     bytes: Vec<u8>,
 }

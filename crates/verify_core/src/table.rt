@@ -4,10 +4,10 @@ ghost use Rattle.std.specs.List.{find};
 ghost use Rattle.std.specs.Option.{option_copied};
 ghost use Rattle.verify_core.specs.Verdict.{is_for};
 
-use indexmap::IndexMap;
 use logic_term::Obligation;
 use proof_text::Proof;
 use std::alloc::Global;
+use std::collections::HashMap;
 use std::marker::Model;
 use text_core::NoMemory;
 
@@ -15,7 +15,7 @@ use text_core::NoMemory;
 #[derive(Drop)]
 pub(crate) struct ProofTable<'a> {
     proofs: &'a [Proof],
-    firsts: IndexMap<(u32, &'a [u8]), &'a Proof>,
+    firsts: HashMap<(u32, &'a [u8]), &'a Proof>,
 }
 
 impl<'a> Model for ProofTable<'a> {
@@ -35,7 +35,7 @@ impl<'a> ProofTable<'a> {
     pub(crate) fn new(alloc: Global, proofs: &'a [Proof]) -> Result<ProofTable<'a>, NoMemory>
         ensures { IfOk result (λ table. table ≡ proofs.now) }
     {
-        let mut firsts = IndexMap::new(alloc);
+        let mut firsts = HashMap::new(alloc);
         // From the last to the first, which takes the place of the later ones.
         for proof in proofs.iter().rev() {
             firsts.insert((proof.number, proof.owner.bytes()), proof)?;

@@ -10,7 +10,7 @@ pub struct Goal {
 }
 
 /// A binary operator, by what it owes and gives.
-#[derive(Clone, Copy, Debug, PartialEq, Eq)]
+#[derive(Clone, Copy)]
 pub enum Operation {
     /// The exact result, which has to be of the type.
     Exact(ArithOp),

@@ -51,7 +51,7 @@ fn new_integer(
 }
 
 /// What is compared: two truth values, or two integers.
-#[derive(Clone, Copy, Debug, PartialEq, Eq)]
+#[derive(Clone, Copy)]
 pub enum Compared {
     Truths,
     Integers,

@@ -16,7 +16,7 @@ pub(crate) enum ReadFile {
 }
 
 /// Why nothing is to be printed.
-#[derive(Clone, Copy, Debug, Drop, PartialEq, Eq)]
+#[derive(Clone, Copy, Drop)]
 pub(crate) enum Stop {
     ShelfFailed,
     NoMemory,

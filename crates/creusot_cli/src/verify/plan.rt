@@ -23,7 +23,7 @@ use verify_core::{
 };
 
 /// A status, and what is printed with it.
-#[derive(Debug, Drop)]
+#[derive(Drop)]
 pub(crate) struct Plan {
     pub status: u8,
     pub bytes: Vec<u8>,

@@ -32,10 +32,7 @@ impl Call<'_> {
         Call {
             source,
             proofs,
-            words: &["verify", "s", "--proofs", "p"],
-            failing_reads: &[],
-            most_each: 1000,
-            failing_writes: &[],
+            ..INC
         }
     }
 
@@ -66,185 +63,189 @@ impl Call<'_> {
         let status = creusot(alloc, words.as_slice(), &mut shelf, &mut out);
         Ok((status, out))
     }
+
+    /// Whether the call answers this status and prints this.
+    fn gives(&self, alloc: Global, wanted: u8, printed: &[u8]) -> Result<bool, ShelfError> {
+        let (status, out) = self.run(alloc)?;
+        Ok(status == wanted && out.written() == printed)
+    }
 }
+
+/// Sources and proofs, with the status and what is printed.
+const REPORTS: [(&[u8], &[u8], u8, &[u8]); 7] = [
+    (SOURCE, PROOFS, 0, REPORT),
+    (
+        WITHOUT_BOUND,
+        b"creusot-proofs 1\nproof 2 inc\nintro x t\nhyp 1.1\nend\n",
+        1,
+        b"open 1 overflow 56..57 line 2 missing inc\nsummary functions 1 verified 0 obligations 2 proved 1\n",
+    ),
+    (
+        SOURCE,
+        b"creusot-proofs 1\nproof 1 inc\nintro x\nrange x\nsplit\nlin 1:goal -1:2.2\nlin 1:goal 1:1.1\nend\nproof 2 inc\nintro x t\nhyp 1.2\nend\n",
+        1,
+        b"open 1 overflow 78..79 line 3 proof:6 inc\nsummary functions 1 verified 0 obligations 2 proved 1\n",
+    ),
+    (
+        SOURCE,
+        b"creusot-proofs 1\nproof 1 inc\nintro x\nrange x\nsplit\nlin 1 goal\nlin 1:goal 1:1.1\nend\nproof 2 inc\nintro x t\nhyp 1.2\nend\n",
+        4,
+        b"error proof 6\n",
+    ),
+    (
+        b"",
+        b"creusot-proofs 1\n",
+        0,
+        b"summary functions 0 verified 0 obligations 0 proved 0\n",
+    ),
+    (
+        b"#[requires(y@ != 0)]\nfn quo(x: i32, y: i32) -> i32 { x / y }\n",
+        b"creusot-proofs 1\nproof 1 quo\nintro x y\nhyp 1.1\nend\n",
+        1,
+        b"open 2 overflow 55..56 line 2 missing quo\nsummary functions 1 verified 0 obligations 2 proved 1\n",
+    ),
+    (
+        b"#[requires(n@ >= 0)]\n#[ensures(result@ >= n@)]\nfn up(n: i32) -> i32 { let mut i: i32 = 0; #[invariant(i@ <= n@)] while i < n { i += 1; } i }\n",
+        b"creusot-proofs 1\nproof 1 up\nintro n\nhyp 1.1\nend\nproof 2 up\nintro n i\nrange i\nrange n\nsplit\nlin 1:goal 1:2.1\nlin 1:goal 1:1.3 1:3.2\nend\nproof 3 up\nintro n i v\nlin 1:goal 1:1.3 1:1.4\nend\nproof 4 up\nintro n i\nlin 1:goal 1:1.3\nend\n",
+        0,
+        b"verified up\nsummary functions 1 verified 1 obligations 4 proved 4\n",
+    ),
+];
 
 #[test]
 fn reports_are_byte_for_byte(rt: HostRuntime) -> Result<(), Fail> {
-    let cases = [
-        (SOURCE, PROOFS, 0, REPORT),
-        (
-            WITHOUT_BOUND,
-            b"creusot-proofs 1\nproof 2 inc\nintro x t\nhyp 1.1\nend\n",
-            1,
-            b"open 1 overflow 56..57 line 2 missing inc\nsummary functions 1 verified 0 obligations 2 proved 1\n",
-        ),
-        (
-            SOURCE,
-            b"creusot-proofs 1\nproof 1 inc\nintro x\nrange x\nsplit\nlin 1:goal -1:2.2\nlin 1:goal 1:1.1\nend\nproof 2 inc\nintro x t\nhyp 1.2\nend\n",
-            1,
-            b"open 1 overflow 78..79 line 3 proof:6 inc\nsummary functions 1 verified 0 obligations 2 proved 1\n",
-        ),
-        (
-            SOURCE,
-            b"creusot-proofs 1\nproof 1 inc\nintro x\nrange x\nsplit\nlin 1 goal\nlin 1:goal 1:1.1\nend\nproof 2 inc\nintro x t\nhyp 1.2\nend\n",
-            4,
-            b"error proof 6\n",
-        ),
-        (
-            b"",
-            b"creusot-proofs 1\n",
-            0,
-            b"summary functions 0 verified 0 obligations 0 proved 0\n",
-        ),
-        (
-            b"#[requires(y@ != 0)]\nfn quo(x: i32, y: i32) -> i32 { x / y }\n",
-            b"creusot-proofs 1\nproof 1 quo\nintro x y\nhyp 1.1\nend\n",
-            1,
-            b"open 2 overflow 55..56 line 2 missing quo\nsummary functions 1 verified 0 obligations 2 proved 1\n",
-        ),
-        (
-            b"#[requires(n@ >= 0)]\n#[ensures(result@ >= n@)]\nfn up(n: i32) -> i32 { let mut i: i32 = 0; #[invariant(i@ <= n@)] while i < n { i += 1; } i }\n",
-            b"creusot-proofs 1\nproof 1 up\nintro n\nhyp 1.1\nend\nproof 2 up\nintro n i\nrange i\nrange n\nsplit\nlin 1:goal 1:2.1\nlin 1:goal 1:1.3 1:3.2\nend\nproof 3 up\nintro n i v\nlin 1:goal 1:1.3 1:1.4\nend\nproof 4 up\nintro n i\nlin 1:goal 1:1.3\nend\n",
-            0,
-            b"verified up\nsummary functions 1 verified 1 obligations 4 proved 4\n",
-        ),
-    ];
-    for (source, proofs, want, printed) in cases {
-        let (status, out) = Call::of(source, proofs).run(rt.alloc())?;
-        assert_eq!(rt; status, want);
-        assert_eq!(rt; out.written(), printed);
+    for (at, (source, proofs, status, printed)) in REPORTS.iter().enumerate() {
+        let call = Call::of(source, proofs);
+        assert!(rt; call.gives(rt.alloc(), *status, printed)?, "row {at}");
     }
     Ok(())
 }
+
+/// Sources, and what is printed of their refusal.
+const REFUSED: [(&[u8], &[u8]); 17] = [
+    // The words in their order, and tokens.
+    (b"fn f(x: f64) -> i64 { x }", b"error E20 8..11 line 1\n"),
+    (
+        b"fn f(a: i32, b: i32, c: i32) -> bool { a < b < c }",
+        b"error E03 45..46 line 1\n",
+    ),
+    (
+        b"fn f() -> i32 { ((((((((((((((((((((((((((((((((((((((((((((((((((((((((((((((((",
+        b"error E04 79..80 line 1\n",
+    ),
+    (b"fn f() {", b"error E03 8..8 line 1\n"),
+    (b"\n#[foo] fn f() {}", b"error E20 3..6 line 2\n"),
+    (b"fn f() {} /* a /* b */", b"error E02 10..22 line 1\n"),
+    // Names.
+    (
+        b"fn f() {} fn g() {} fn f() {}",
+        b"error E06 23..24 line 1\n",
+    ),
+    (b"fn f(x: i32, x: i32) {}", b"error E06 13..14 line 1\n"),
+    (b"fn f() -> i32 { x }", b"error E05 16..17 line 1\n"),
+    (b"fn f() { g() }", b"error E05 9..10 line 1\n"),
+    // Types.
+    (b"fn f(x: i32) -> bool { x }", b"error E07 23..24 line 1\n"),
+    (b"fn f() -> u8 { 256 }", b"error E07 15..18 line 1\n"),
+    (b"fn f(x: u8) -> u8 { -x }", b"error E07 21..22 line 1\n"),
+    (b"fn f(x: i32) { x = 1; }", b"error E22 15..16 line 1\n"),
+    // Formulas, behind the types of all functions.
+    (
+        b"#[requires(y@ > 0)] fn f(x: i32) {} fn g() -> i32 { true }",
+        b"error E07 52..56 line 1\n",
+    ),
+    (
+        b"#[requires(y@ > 0)] fn f(x: i32) {}",
+        b"error E05 11..12 line 1\n",
+    ),
+    (
+        b"#[ensures(x > 0)] fn f(x: i32) {}",
+        b"error E07 14..15 line 1\n",
+    ),
+];
 
 #[test]
 fn sources_are_refused_where_they_fail(rt: HostRuntime) -> Result<(), Fail> {
-    let cases = [
-        // The words in their order, and tokens.
-        (
-            b"fn f(x: f64) -> i64 { x }".as_slice(),
-            b"error E20 8..11 line 1\n".as_slice(),
-        ),
-        (
-            b"fn f(a: i32, b: i32, c: i32) -> bool { a < b < c }",
-            b"error E03 45..46 line 1\n",
-        ),
-        (
-            b"fn f() -> i32 { ((((((((((((((((((((((((((((((((((((((((((((((((((((((((((((((((",
-            b"error E04 79..80 line 1\n",
-        ),
-        (b"fn f() {", b"error E03 8..8 line 1\n"),
-        (b"\n#[foo] fn f() {}", b"error E20 3..6 line 2\n"),
-        (b"fn f() {} /* a /* b */", b"error E02 10..22 line 1\n"),
-        // Names.
-        (
-            b"fn f() {} fn g() {} fn f() {}",
-            b"error E06 23..24 line 1\n",
-        ),
-        (b"fn f(x: i32, x: i32) {}", b"error E06 13..14 line 1\n"),
-        (b"fn f() -> i32 { x }", b"error E05 16..17 line 1\n"),
-        (b"fn f() { g() }", b"error E05 9..10 line 1\n"),
-        // Types.
-        (b"fn f(x: i32) -> bool { x }", b"error E07 23..24 line 1\n"),
-        (b"fn f() -> u8 { 256 }", b"error E07 15..18 line 1\n"),
-        (b"fn f(x: u8) -> u8 { -x }", b"error E07 21..22 line 1\n"),
-        (b"fn f(x: i32) { x = 1; }", b"error E22 15..16 line 1\n"),
-        // Formulas, behind the types of all functions.
-        (
-            b"#[requires(y@ > 0)] fn f(x: i32) {} fn g() -> i32 { true }",
-            b"error E07 52..56 line 1\n",
-        ),
-        (
-            b"#[requires(y@ > 0)] fn f(x: i32) {}",
-            b"error E05 11..12 line 1\n",
-        ),
-        (
-            b"#[ensures(x > 0)] fn f(x: i32) {}",
-            b"error E07 14..15 line 1\n",
-        ),
-    ];
-    for (source, printed) in cases {
-        let (status, out) = Call::of(source, b"").run(rt.alloc())?;
-        assert_eq!(rt; status, 3);
-        assert_eq!(rt; out.written(), printed);
+    for (at, (source, printed)) in REFUSED.iter().enumerate() {
+        let call = Call::of(source, b"");
+        assert!(rt; call.gives(rt.alloc(), 3, printed)?, "row {at}");
     }
     Ok(())
 }
+
+/// Sources with forms that are not built, and what is printed of them.
+const NOT_BUILT: [(&[u8], &[u8]); 23] = [
+    (b"struct S;", b"error E20 0..6 line 1\n"),
+    (b"fn f<T>() {}", b"error E20 4..5 line 1\n"),
+    (b"fn f(x: &u32) {}", b"error E20 8..9 line 1\n"),
+    (b"fn f(x: u32) { match x {} }", b"error E20 15..20 line 1\n"),
+    (b"fn f() { loop {} }", b"error E20 9..13 line 1\n"),
+    (b"fn f(x: u32) { x.y; }", b"error E20 15..16 line 1\n"),
+    (b"fn f() { let (a, b) = 1; }", b"error E20 13..14 line 1\n"),
+    (
+        b"fn f(x: i32) -> u8 { x as u8 }",
+        b"error E20 21..22 line 1\n",
+    ),
+    (b"fn f() { return }", b"error E20 9..15 line 1\n"),
+    // Behind what is passed over, and attributes at their `#`.
+    (b"use std::mem; pub enum E {}", b"error E20 18..22 line 1\n"),
+    (b"#[invariant(true)] fn f() {}", b"error E20 0..1 line 1\n"),
+    (b"#[requires(true)] struct S;", b"error E20 0..1 line 1\n"),
+    (
+        b"fn f() {}\n#[inline] #[ensures(true)] pub enum E { A }",
+        b"error E20 20..21 line 2\n",
+    ),
+    (b"#[logic] fn f() -> Int { 1 }", b"error E20 0..1 line 1\n"),
+    (
+        b"fn f() { #[requires(true)] while true {} }",
+        b"error E20 9..10 line 1\n",
+    ),
+    // Forms whose first words a built form could begin with.
+    (b"fn f() { panic!(); }", b"error E20 9..14 line 1\n"),
+    (
+        b"fn f(x: u32) { proof_assert!(x == 1); }",
+        b"error E20 15..27 line 1\n",
+    ),
+    (
+        b"#[requires(forall<i: u32> i == x)] fn f(x: u32) {}",
+        b"error E20 11..17 line 1\n",
+    ),
+    (
+        b"#[requires(x == 1 && MutRef(x, x) == x)] fn f(x: u32) {}",
+        b"error E20 21..27 line 1\n",
+    ),
+    (b"fn f() { let x = (1, 2); }", b"error E20 17..18 line 1\n"),
+    (b"fn f() { (); }", b"error E20 9..10 line 1\n"),
+    // A promise before a `use` line is none of the function behind it.
+    (
+        b"#[requires(false)] use std::mem; fn f() {}",
+        b"error E20 0..1 line 1\n",
+    ),
+    // The whole grammar first.
+    (b"struct S; fn f() { 1 + }", b"error E03 23..24 line 1\n"),
+];
 
 #[test]
 fn forms_that_are_not_built_are_refused(rt: HostRuntime) -> Result<(), Fail> {
-    let cases = [
-        (
-            b"struct S;".as_slice(),
-            b"error E20 0..6 line 1\n".as_slice(),
-        ),
-        (b"fn f<T>() {}", b"error E20 4..5 line 1\n"),
-        (b"fn f(x: &u32) {}", b"error E20 8..9 line 1\n"),
-        (b"fn f(x: u32) { match x {} }", b"error E20 15..20 line 1\n"),
-        (b"fn f() { loop {} }", b"error E20 9..13 line 1\n"),
-        (b"fn f(x: u32) { x.y; }", b"error E20 15..16 line 1\n"),
-        (b"fn f() { let (a, b) = 1; }", b"error E20 13..14 line 1\n"),
-        (
-            b"fn f(x: i32) -> u8 { x as u8 }",
-            b"error E20 21..22 line 1\n",
-        ),
-        (b"fn f() { return }", b"error E20 9..15 line 1\n"),
-        // Behind what is passed over, and attributes at their `#`.
-        (b"use std::mem; pub enum E {}", b"error E20 18..22 line 1\n"),
-        (b"#[invariant(true)] fn f() {}", b"error E20 0..1 line 1\n"),
-        (b"#[requires(true)] struct S;", b"error E20 0..1 line 1\n"),
-        (
-            b"fn f() {}\n#[inline] #[ensures(true)] pub enum E { A }",
-            b"error E20 20..21 line 2\n",
-        ),
-        (b"#[logic] fn f() -> Int { 1 }", b"error E20 0..1 line 1\n"),
-        (
-            b"fn f() { #[requires(true)] while true {} }",
-            b"error E20 9..10 line 1\n",
-        ),
-        // Forms whose first words a built form could begin with.
-        (b"fn f() { panic!(); }", b"error E20 9..14 line 1\n"),
-        (
-            b"fn f(x: u32) { proof_assert!(x == 1); }",
-            b"error E20 15..27 line 1\n",
-        ),
-        (
-            b"#[requires(forall<i: u32> i == x)] fn f(x: u32) {}",
-            b"error E20 11..17 line 1\n",
-        ),
-        (
-            b"#[requires(x == 1 && MutRef(x, x) == x)] fn f(x: u32) {}",
-            b"error E20 21..27 line 1\n",
-        ),
-        (b"fn f() { let x = (1, 2); }", b"error E20 17..18 line 1\n"),
-        (b"fn f() { (); }", b"error E20 9..10 line 1\n"),
-        // A promise before a `use` line is none of the function behind it.
-        (
-            b"#[requires(false)] use std::mem; fn f() {}",
-            b"error E20 0..1 line 1\n",
-        ),
-        // The whole grammar first.
-        (b"struct S; fn f() { 1 + }", b"error E03 23..24 line 1\n"),
-    ];
-    for (source, printed) in cases {
-        let (status, out) = Call::of(source, b"").run(rt.alloc())?;
-        assert_eq!(rt; status, 3);
-        assert_eq!(rt; out.written(), printed);
+    for (at, (source, printed)) in NOT_BUILT.iter().enumerate() {
+        let call = Call::of(source, b"");
+        assert!(rt; call.gives(rt.alloc(), 3, printed)?, "row {at}");
     }
     Ok(())
 }
 
+/// The source in other spellings.
+const SPELLINGS: [&[u8]; 3] = [
+    b"#![allow(unused)]\nuse creusot_contracts::*;\nuse std::mem;\n\n#[requires(x@ < 100)]\n#[inline]\n#[ensures(result@ == x@ + 1)]\npub fn inc(x: i32) -> i32 {\n    x + 1\n}\n",
+    b"/* a /* b */ */ extern crate creusot_contracts; #[doc = \"c\"]\n#[requires(x@<0x64)]#[ensures(result@==x@+1)]pub(crate)fn/**/inc(x:i32,)->i32{(x+1_i32)}// d",
+    b"#[must_use]#[ensures((result@) == (x@ + 1))]\n#[requires(x@ < 100)]\nfn inc(x: i32) -> i32 { ((x) + 1) }",
+];
+
 #[test]
 fn sources_are_read_in_any_spelling(rt: HostRuntime) -> Result<(), Fail> {
-    let cases = [
-        b"#![allow(unused)]\nuse creusot_contracts::*;\nuse std::mem;\n\n#[requires(x@ < 100)]\n#[inline]\n#[ensures(result@ == x@ + 1)]\npub fn inc(x: i32) -> i32 {\n    x + 1\n}\n".as_slice(),
-        b"/* a /* b */ */ extern crate creusot_contracts; #[doc = \"c\"]\n#[requires(x@<0x64)]#[ensures(result@==x@+1)]pub(crate)fn/**/inc(x:i32,)->i32{(x+1_i32)}// d",
-        b"#[must_use]#[ensures((result@) == (x@ + 1))]\n#[requires(x@ < 100)]\nfn inc(x: i32) -> i32 { ((x) + 1) }",
-    ];
-    for source in cases {
-        let (status, out) = Call::of(source, PROOFS).run(rt.alloc())?;
-        assert_eq!(rt; status, 0);
-        assert_eq!(rt; out.written(), REPORT);
+    for (at, source) in SPELLINGS.iter().enumerate() {
+        let call = Call::of(source, PROOFS);
+        assert!(rt; call.gives(rt.alloc(), 0, REPORT)?, "row {at}");
     }
     Ok(())
 }
@@ -253,109 +254,115 @@ fn sources_are_read_in_any_spelling(rt: HostRuntime) -> Result<(), Fail> {
 fn callers_of_open_functions_are_not_verified(rt: HostRuntime) -> Result<(), Fail> {
     // g and h call one another, h calls the open k; l calls none of them.
     let source = b"fn g() { h() }\nfn h() { g(); k() }\n#[ensures(false)]\nfn k() {}\nfn l() {}\n";
-    let (status, out) = Call::of(source, b"creusot-proofs 1\n").run(rt.alloc())?;
-    assert_eq!(rt; status, 1);
-    assert_eq!(rt;
-        out.written(),
-        b"verified l\nopen 1 ensures 45..50 line 3 missing k\nsummary functions 4 verified 1 obligations 1 proved 0\n".as_slice()
-    );
+    let printed =
+        b"verified l\nopen 1 ensures 45..50 line 3 missing k\nsummary functions 4 verified 1 obligations 1 proved 0\n";
+    let call = Call::of(source, b"creusot-proofs 1\n");
+    assert!(rt; call.gives(rt.alloc(), 1, printed)?);
     Ok(())
 }
 
+const INC: Call<'static> = Call {
+    source: SOURCE,
+    proofs: PROOFS,
+    words: &["verify", "s", "--proofs", "p"],
+    failing_reads: &[],
+    most_each: 1000,
+    failing_writes: &[],
+};
+
+/// Calls whose devices or words fail, with the status and what is printed.
+const FAILING: [(Call<'static>, u8, &[u8]); 11] = [
+    // A sink that takes one byte a call.
+    (
+        Call {
+            most_each: 1,
+            ..INC
+        },
+        0,
+        REPORT,
+    ),
+    // Each read fails, and each of the first writes.
+    (
+        Call {
+            failing_reads: &[1],
+            ..INC
+        },
+        5,
+        b"",
+    ),
+    (
+        Call {
+            failing_reads: &[2],
+            ..INC
+        },
+        5,
+        b"",
+    ),
+    (
+        Call {
+            failing_writes: &[1],
+            ..INC
+        },
+        6,
+        b"",
+    ),
+    (
+        Call {
+            most_each: 9,
+            failing_writes: &[2],
+            ..INC
+        },
+        6,
+        b"verified ",
+    ),
+    // A name that the shelf lacks, and words that are none.
+    (
+        Call {
+            words: &["verify", "t"],
+            ..INC
+        },
+        5,
+        b"",
+    ),
+    (
+        Call {
+            words: &["verify", "s", "--proofs", "q"],
+            ..INC
+        },
+        5,
+        b"",
+    ),
+    (Call { words: &[], ..INC }, 2, b"error words\n"),
+    (
+        Call {
+            words: &["list", "s", "--proofs", "p"],
+            ..INC
+        },
+        2,
+        b"error words\n",
+    ),
+    (
+        Call {
+            words: &["--proofs=p", "verify", "s"],
+            ..INC
+        },
+        0,
+        REPORT,
+    ),
+    (
+        Call {
+            words: &["verify", "s"],
+            ..INC
+        },
+        1,
+        b"open 1 overflow 78..79 line 3 missing inc\nopen 2 ensures 32..49 line 2 missing inc\nsummary functions 1 verified 0 obligations 2 proved 0\n",
+    ),
+];
+
 #[test]
 fn devices_fail_at_each_call(rt: HostRuntime) -> Result<(), Fail> {
-    let inc = Call::of(SOURCE, PROOFS);
-    let cases = [
-        // A sink that takes one byte a call.
-        (
-            Call {
-                most_each: 1,
-                ..inc
-            },
-            0,
-            REPORT,
-        ),
-        // Each read fails, and each of the first writes.
-        (
-            Call {
-                failing_reads: &[1],
-                ..inc
-            },
-            5,
-            b"".as_slice(),
-        ),
-        (
-            Call {
-                failing_reads: &[2],
-                ..inc
-            },
-            5,
-            b"".as_slice(),
-        ),
-        (
-            Call {
-                failing_writes: &[1],
-                ..inc
-            },
-            6,
-            b"".as_slice(),
-        ),
-        (
-            Call {
-                most_each: 9,
-                failing_writes: &[2],
-                ..inc
-            },
-            6,
-            b"verified ".as_slice(),
-        ),
-        // A name that the shelf lacks, and words that are none.
-        (
-            Call {
-                words: &["verify", "t"],
-                ..inc
-            },
-            5,
-            b"".as_slice(),
-        ),
-        (
-            Call {
-                words: &["verify", "s", "--proofs", "q"],
-                ..inc
-            },
-            5,
-            b"".as_slice(),
-        ),
-        (Call { words: &[], ..inc }, 2, b"error words\n".as_slice()),
-        (
-            Call {
-                words: &["list", "s", "--proofs", "p"],
-                ..inc
-            },
-            2,
-            b"error words\n".as_slice(),
-        ),
-        (
-            Call {
-                words: &["--proofs=p", "verify", "s"],
-                ..inc
-            },
-            0,
-            REPORT,
-        ),
-        (
-            Call {
-                words: &["verify", "s"],
-                ..inc
-            },
-            1,
-            b"open 1 overflow 78..79 line 3 missing inc\nopen 2 ensures 32..49 line 2 missing inc\nsummary functions 1 verified 0 obligations 2 proved 0\n".as_slice(),
-        ),
-    ];
-    for (call, want, printed) in cases {
-        let (status, out) = call.run(rt.alloc())?;
-        assert_eq!(rt; status, want);
-        assert_eq!(rt; out.written(), printed);
+    for (at, (call, status, printed)) in FAILING.iter().enumerate() {
+        assert!(rt; call.gives(rt.alloc(), *status, printed)?, "row {at}");
     }
     Ok(())
 }
@@ -363,12 +370,8 @@ fn devices_fail_at_each_call(rt: HostRuntime) -> Result<(), Fail> {
 #[test]
 fn a_long_source_is_past_its_limit(rt: HostRuntime) -> Result<(), Fail> {
     let spaces = vec![in rt.alloc(); b' '; 1_048_577]?;
-    let (status, out) = Call::of(spaces.as_slice(), PROOFS).run(rt.alloc())?;
-    assert_eq!(rt; status, 7);
-    assert_eq!(rt;
-        out.written(),
-        b"limit source-bytes 1048577 1048576\n".as_slice()
-    );
+    let call = Call::of(spaces.as_slice(), PROOFS);
+    assert!(rt; call.gives(rt.alloc(), 7, b"limit source-bytes 1048577 1048576\n")?);
     Ok(())
 }
 
@@ -391,45 +394,53 @@ fn printed_at_cut(alloc: Global, at: usize) -> Result<String, ShelfError> {
     Ok(format!(in alloc; "error proof {}\n", feeds.saturating_add(1))?)
 }
 
+/// Whether a call prints that where the file of proofs has these bytes.
+fn is_printed_at_cut(alloc: Global, proofs: &[u8]) -> Result<bool, ShelfError> {
+    let (_status, out) = Call::of(SOURCE, proofs).run(alloc)?;
+    let printed = printed_at_cut(alloc, proofs.len())?;
+    Ok(out.written() == printed.as_bytes())
+}
+
 #[test]
 fn cut_proof_files_are_refused(rt: HostRuntime) -> Result<(), Fail> {
     for at in 0..PROOFS.len() {
-        let (_status, out) = Call::of(SOURCE, &PROOFS[..at]).run(rt.alloc())?;
-        let printed = printed_at_cut(rt.alloc(), at)?;
-        assert_eq!(rt; out.written(), printed.as_bytes(), "cut at {at}");
+        assert!(rt;
+            is_printed_at_cut(rt.alloc(), &PROOFS[..at])?,
+            "cut at {at}"
+        );
     }
     Ok(())
 }
 
 /// The programs of `data/`, with their proofs.
+const PROGRAMS: [(&[u8], &[u8], &[u8]); 4] = [
+    (
+        b"// A counter that stays at 100.\n#[requires(c@ <= 100)]\n#[ensures(result@ <= 100)]\n#[ensures(result@ >= c@)]\nfn next(c: u8) -> u8 {\n    if c < 100 { c + 1 } else { c }\n}\n\n#[ensures(result@ <= 100)]\nfn twice() -> u8 {\n    let a = next(0);\n    next(a)\n}\n",
+        b"creusot-proofs 1\nproof 1 next\nintro c\nrange c\nsplit\nlin 1:goal 1:2.1\nlin 1:goal 1:1.2\nend\nproof 2 next\nintro c v\nlin 1:goal 1:1.3 1:1.2\nend\nproof 3 next\nintro c v\nlin 1:goal 1:-1.3\nend\nproof 4 next\nintro c\nhyp 1.1\nend\nproof 5 next\nintro c\nlin 1:goal\nend\nproof 1 twice\nlin 1:goal\nend\nproof 2 twice\nintro r\nhyp 1.1\nend\nproof 3 twice\nintro r s\nhyp 1.3\nend\n",
+        b"verified next\nverified twice\nsummary functions 2 verified 2 obligations 8 proved 8\n",
+    ),
+    (
+        b"// The greatest common divisor by subtraction; that both numbers stay positive is what is claimed.\n#[requires(a@ > 0)]\n#[requires(b@ > 0)]\n#[ensures(result@ > 0)]\nfn gcd(a: u32, b: u32) -> u32 {\n    let mut x = a;\n    let mut y = b;\n    #[invariant(x@ > 0)]\n    #[invariant(y@ > 0)]\n    while x != y {\n        if x < y {\n            y -= x;\n        } else if y < x {\n            x -= y;\n        }\n    }\n    x\n}\n",
+        b"creusot-proofs 1\nproof 1 gcd\nintro a b\nhyp 1.1\nend\nproof 2 gcd\nintro a b\nhyp 1.2\nend\n# y -= x\nproof 3 gcd\nintro a b x y\nrange x\nrange y\nsplit\nlin 1:goal 1:1.6\nlin 1:goal 1:3.2 1:2.1\nend\nproof 4 gcd\nintro a b x y v\nhyp 1.3\nend\nproof 5 gcd\nintro a b x y v\nlin 1:goal 1:-1.7 1:1.6\nend\n# x -= y\nproof 6 gcd\nintro a b x y\nrange x\nrange y\nsplit\nlin 1:goal 1:1.7\nlin 1:goal 1:2.2 1:3.1\nend\nproof 7 gcd\nintro a b x y v\nlin 1:goal 1:-1.8 1:1.7\nend\nproof 8 gcd\nintro a b x y v\nhyp 1.4\nend\n# Neither is less.\nproof 9 gcd\nintro a b x y\nhyp 1.3\nend\nproof 10 gcd\nintro a b x y\nhyp 1.4\nend\nproof 11 gcd\nintro a b x y\nhyp 1.3\nend\n",
+        b"verified gcd\nsummary functions 1 verified 1 obligations 11 proved 11\n",
+    ),
+    (
+        b"// The integer square root: takes the odd numbers away one after another.\n#[ensures(result@ <= n@)]\nfn isqrt(n: u32) -> u32 {\n    let mut r: u32 = 0;\n    let mut rest: u32 = n;\n    let mut odd: u32 = 1;\n    #[invariant(1 <= odd@)]\n    #[invariant(odd@ <= r@ + r@ + 1)]\n    #[invariant(rest@ + r@ <= n@)]\n    while odd <= rest {\n        rest -= odd;\n        odd += 2;\n        r += 1;\n    }\n    r\n}\n",
+        b"creusot-proofs 1\n# The invariants where the loop begins.\nproof 1 isqrt\nintro n\nlin 1:goal\nend\nproof 2 isqrt\nintro n\nlin 1:goal\nend\nproof 3 isqrt\nintro n\nlin 1:goal\nend\n# rest -= odd\nproof 4 isqrt\nintro n r s o\nrange s\nsplit\nlin 1:goal 1:1.4\nlin 1:goal 1:2.2 1:1.1\nend\n# odd += 2\nproof 5 isqrt\nintro n r s o v\nrange n\nsplit\nlin 1:goal 1:1.1\nlin 3:goal 1:1.2 2:1.3 2:1.4 2:2.2\nend\n# r += 1\nproof 6 isqrt\nintro n r s o v w\nrange r\nrange n\nsplit\nlin 1:goal 1:2.1\nlin 1:goal 1:1.3 1:3.2 1:1.4 1:1.1\nend\n# The invariants after a turn.\nproof 7 isqrt\nintro n r s o v w z\nlin 1:goal 1:-1.6 1:1.1\nend\nproof 8 isqrt\nintro n r s o v w z\nlin 1:goal 1:1.6 2:-1.7 1:1.2\nend\nproof 9 isqrt\nintro n r s o v w z\nlin 1:goal 1:1.5 1:1.7 1:1.3 1:1.1\nend\nproof 10 isqrt\nintro n r s o\nrange s\nlin 1:goal 1:1.3 1:2.1\nend\n",
+        b"verified isqrt\nsummary functions 1 verified 1 obligations 10 proved 10\n",
+    ),
+    (
+        b"#[requires(-1000 <= x@)]\n#[requires(x@ <= 1000)]\n#[ensures(result@ == x@ + x@)]\nfn double(x: i32) -> i32 {\n    x + x\n}\n",
+        b"creusot-proofs 1\nproof 1 double\nintro x\nsplit\nlin 1:goal 2:1.1\nlin 1:goal 2:1.2\nend\nproof 2 double\nintro x sum\nhyp 1.3\nend\n",
+        b"verified double\nsummary functions 1 verified 1 obligations 2 proved 2\n",
+    ),
+];
+
 #[test]
 fn small_programs_are_verified(rt: HostRuntime) -> Result<(), Fail> {
-    let cases = [
-        (
-            b"// A counter that stays at 100.\n#[requires(c@ <= 100)]\n#[ensures(result@ <= 100)]\n#[ensures(result@ >= c@)]\nfn next(c: u8) -> u8 {\n    if c < 100 { c + 1 } else { c }\n}\n\n#[ensures(result@ <= 100)]\nfn twice() -> u8 {\n    let a = next(0);\n    next(a)\n}\n".as_slice(),
-            b"creusot-proofs 1\nproof 1 next\nintro c\nrange c\nsplit\nlin 1:goal 1:2.1\nlin 1:goal 1:1.2\nend\nproof 2 next\nintro c v\nlin 1:goal 1:1.3 1:1.2\nend\nproof 3 next\nintro c v\nlin 1:goal 1:-1.3\nend\nproof 4 next\nintro c\nhyp 1.1\nend\nproof 5 next\nintro c\nlin 1:goal\nend\nproof 1 twice\nlin 1:goal\nend\nproof 2 twice\nintro r\nhyp 1.1\nend\nproof 3 twice\nintro r s\nhyp 1.3\nend\n".as_slice(),
-            b"verified next\nverified twice\nsummary functions 2 verified 2 obligations 8 proved 8\n".as_slice(),
-        ),
-        (
-            b"// The greatest common divisor by subtraction; that both numbers stay positive is what is claimed.\n#[requires(a@ > 0)]\n#[requires(b@ > 0)]\n#[ensures(result@ > 0)]\nfn gcd(a: u32, b: u32) -> u32 {\n    let mut x = a;\n    let mut y = b;\n    #[invariant(x@ > 0)]\n    #[invariant(y@ > 0)]\n    while x != y {\n        if x < y {\n            y -= x;\n        } else if y < x {\n            x -= y;\n        }\n    }\n    x\n}\n",
-            b"creusot-proofs 1\nproof 1 gcd\nintro a b\nhyp 1.1\nend\nproof 2 gcd\nintro a b\nhyp 1.2\nend\n# y -= x\nproof 3 gcd\nintro a b x y\nrange x\nrange y\nsplit\nlin 1:goal 1:1.6\nlin 1:goal 1:3.2 1:2.1\nend\nproof 4 gcd\nintro a b x y v\nhyp 1.3\nend\nproof 5 gcd\nintro a b x y v\nlin 1:goal 1:-1.7 1:1.6\nend\n# x -= y\nproof 6 gcd\nintro a b x y\nrange x\nrange y\nsplit\nlin 1:goal 1:1.7\nlin 1:goal 1:2.2 1:3.1\nend\nproof 7 gcd\nintro a b x y v\nlin 1:goal 1:-1.8 1:1.7\nend\nproof 8 gcd\nintro a b x y v\nhyp 1.4\nend\n# Neither is less.\nproof 9 gcd\nintro a b x y\nhyp 1.3\nend\nproof 10 gcd\nintro a b x y\nhyp 1.4\nend\nproof 11 gcd\nintro a b x y\nhyp 1.3\nend\n",
-            b"verified gcd\nsummary functions 1 verified 1 obligations 11 proved 11\n",
-        ),
-        (
-            b"// The integer square root: takes the odd numbers away one after another.\n#[ensures(result@ <= n@)]\nfn isqrt(n: u32) -> u32 {\n    let mut r: u32 = 0;\n    let mut rest: u32 = n;\n    let mut odd: u32 = 1;\n    #[invariant(1 <= odd@)]\n    #[invariant(odd@ <= r@ + r@ + 1)]\n    #[invariant(rest@ + r@ <= n@)]\n    while odd <= rest {\n        rest -= odd;\n        odd += 2;\n        r += 1;\n    }\n    r\n}\n",
-            b"creusot-proofs 1\n# The invariants where the loop begins.\nproof 1 isqrt\nintro n\nlin 1:goal\nend\nproof 2 isqrt\nintro n\nlin 1:goal\nend\nproof 3 isqrt\nintro n\nlin 1:goal\nend\n# rest -= odd\nproof 4 isqrt\nintro n r s o\nrange s\nsplit\nlin 1:goal 1:1.4\nlin 1:goal 1:2.2 1:1.1\nend\n# odd += 2\nproof 5 isqrt\nintro n r s o v\nrange n\nsplit\nlin 1:goal 1:1.1\nlin 3:goal 1:1.2 2:1.3 2:1.4 2:2.2\nend\n# r += 1\nproof 6 isqrt\nintro n r s o v w\nrange r\nrange n\nsplit\nlin 1:goal 1:2.1\nlin 1:goal 1:1.3 1:3.2 1:1.4 1:1.1\nend\n# The invariants after a turn.\nproof 7 isqrt\nintro n r s o v w z\nlin 1:goal 1:-1.6 1:1.1\nend\nproof 8 isqrt\nintro n r s o v w z\nlin 1:goal 1:1.6 2:-1.7 1:1.2\nend\nproof 9 isqrt\nintro n r s o v w z\nlin 1:goal 1:1.5 1:1.7 1:1.3 1:1.1\nend\nproof 10 isqrt\nintro n r s o\nrange s\nlin 1:goal 1:1.3 1:2.1\nend\n",
-            b"verified isqrt\nsummary functions 1 verified 1 obligations 10 proved 10\n",
-        ),
-        (
-            b"#[requires(-1000 <= x@)]\n#[requires(x@ <= 1000)]\n#[ensures(result@ == x@ + x@)]\nfn double(x: i32) -> i32 {\n    x + x\n}\n",
-            b"creusot-proofs 1\nproof 1 double\nintro x\nsplit\nlin 1:goal 2:1.1\nlin 1:goal 2:1.2\nend\nproof 2 double\nintro x sum\nhyp 1.3\nend\n",
-            b"verified double\nsummary functions 1 verified 1 obligations 2 proved 2\n",
-        ),
-    ];
-    for (source, proofs, printed) in cases {
-        let (status, out) = Call::of(source, proofs).run(rt.alloc())?;
-        assert_eq!(rt; status, 0);
-        assert_eq!(rt; out.written(), printed);
+    for (at, (source, proofs, printed)) in PROGRAMS.iter().enumerate() {
+        let call = Call::of(source, proofs);
+        assert!(rt; call.gives(rt.alloc(), 0, printed)?, "row {at}");
     }
     Ok(())
 }
@@ -450,65 +461,73 @@ fn repeated(
     Ok(bytes)
 }
 
-#[test]
-fn quantities_are_past_their_limits(rt: HostRuntime) -> Result<(), Fail> {
-    let functions = repeated(rt.alloc(), b"", b"fn f() {} ", 4_097, b"")?;
-    // One block, and three for each branch.
-    let blocks = repeated(rt.alloc(), b"fn f(a: bool) {", b" if a {}", 1_366, b" }")?;
-    // Eleven branches one after another make 2,048 paths.
-    let paths = repeated(rt.alloc(), b"fn f(a: bool) {", b" if a {}", 11, b" }")?;
-    // 1,024 paths with 977 quotients each.
-    let branches = repeated(rt.alloc(), b"fn f(a: bool, x: u8) {", b" if a {}", 10, b"")?;
-    let obligations = repeated(rt.alloc(), branches.as_slice(), b" 1 / x;", 977, b" }")?;
-    let cases = [
-        (
-            functions.as_slice(),
-            b"limit functions 4097 4096\n".as_slice(),
-        ),
-        (blocks.as_slice(), b"limit blocks 4097 4096\n".as_slice()),
-        (paths.as_slice(), b"limit paths 1025 1024\n".as_slice()),
-        (
-            obligations.as_slice(),
-            b"limit obligations 1000001 1000000\n".as_slice(),
-        ),
-    ];
-    for (source, printed) in cases {
-        let (status, out) = Call::of(source, b"").run(rt.alloc())?;
-        assert_eq!(rt; status, 7);
-        assert_eq!(rt; out.written(), printed);
-    }
-    Ok(())
+/// One block, and three for each branch.
+fn many_blocks(alloc: Global) -> Result<Vec<u8>, ShelfError> {
+    repeated(alloc, b"fn f(a: bool) {", b" if a {}", 1_366, b" }")
+}
+
+/// Eleven branches one after another make 2,048 paths.
+fn many_paths(alloc: Global) -> Result<Vec<u8>, ShelfError> {
+    repeated(alloc, b"fn f(a: bool) {", b" if a {}", 11, b" }")
+}
+
+/// 1,024 paths with 977 quotients each.
+fn many_obligations(alloc: Global) -> Result<Vec<u8>, ShelfError> {
+    let branches = repeated(alloc, b"fn f(a: bool, x: u8) {", b" if a {}", 10, b"")?;
+    repeated(alloc, branches.as_slice(), b" 1 / x;", 977, b" }")
+}
+
+/// Whether the source is past a limit, and this is printed.
+fn is_past_limit(
+    alloc: Global,
+    source: Result<Vec<u8>, ShelfError>,
+    printed: &[u8],
+) -> Result<bool, ShelfError> {
+    let source = source?;
+    Call::of(source.as_slice(), b"").gives(alloc, 7, printed)
 }
 
 #[test]
+fn quantities_are_past_their_limits(rt: HostRuntime) -> Result<(), Fail> {
+    let alloc = rt.alloc();
+    let functions = repeated(alloc, b"", b"fn f() {} ", 4_097, b"");
+    assert!(rt; is_past_limit(alloc, functions, b"limit functions 4097 4096\n")?);
+    assert!(rt; is_past_limit(alloc, many_blocks(alloc), b"limit blocks 4097 4096\n")?);
+    assert!(rt; is_past_limit(alloc, many_paths(alloc), b"limit paths 1025 1024\n")?);
+    let obligations = many_obligations(alloc);
+    assert!(rt; is_past_limit(alloc, obligations, b"limit obligations 1000001 1000000\n")?);
+    Ok(())
+}
+
+/// Sources, with the status and what is printed of their obligations.
+const LISTS: [(&[u8], u8, &[u8]); 5] = [
+    (
+        WITHOUT_BOUND,
+        0,
+        b"obligation 1 overflow 56..57 line 2 inc\n(forall<v1: i32> (((-2147483648) <= (v1@ + 1)) && ((v1@ + 1) <= 2147483647)))\nobligation 2 ensures 10..27 line 1 inc\n(forall<v1: i32> (forall<v2: i32> ((v2@ == (v1@ + 1)) ==> (v2@ == (v1@ + 1)))))\n",
+    ),
+    (
+        b"#[requires(y@ != 0)]\nfn quo(x: i32, y: i32) -> i32 { x / y }\n",
+        0,
+        b"obligation 1 division 55..56 line 2 quo\n(forall<v1: i32> (forall<v2: i32> ((!(v2@ == 0)) ==> (!(v2@ == 0)))))\nobligation 2 overflow 55..56 line 2 quo\n(forall<v1: i32> (forall<v2: i32> ((!(v2@ == 0)) ==> (!((v1@ == (-2147483648)) && (v2@ == (-1)))))))\n",
+    ),
+    (
+        SOURCE,
+        0,
+        b"obligation 1 overflow 78..79 line 3 inc\n(forall<v1: i32> ((v1@ < 100) ==> (((-2147483648) <= (v1@ + 1)) && ((v1@ + 1) <= 2147483647))))\nobligation 2 ensures 32..49 line 2 inc\n(forall<v1: i32> ((v1@ < 100) ==> (forall<v2: i32> ((v2@ == (v1@ + 1)) ==> (v2@ == (v1@ + 1))))))\n",
+    ),
+    (b"", 0, b""),
+    (b"fn f() {", 3, b"error E03 8..8 line 1\n"),
+];
+
+#[test]
 fn obligations_are_listed(rt: HostRuntime) -> Result<(), Fail> {
-    let cases = [
-        (
-            WITHOUT_BOUND,
-            0,
-            b"obligation 1 overflow 56..57 line 2 inc\n(forall<v1: i32> (((-2147483648) <= (v1@ + 1)) && ((v1@ + 1) <= 2147483647)))\nobligation 2 ensures 10..27 line 1 inc\n(forall<v1: i32> (forall<v2: i32> ((v2@ == (v1@ + 1)) ==> (v2@ == (v1@ + 1)))))\n".as_slice(),
-        ),
-        (
-            b"#[requires(y@ != 0)]\nfn quo(x: i32, y: i32) -> i32 { x / y }\n",
-            0,
-            b"obligation 1 division 55..56 line 2 quo\n(forall<v1: i32> (forall<v2: i32> ((!(v2@ == 0)) ==> (!(v2@ == 0)))))\nobligation 2 overflow 55..56 line 2 quo\n(forall<v1: i32> (forall<v2: i32> ((!(v2@ == 0)) ==> (!((v1@ == (-2147483648)) && (v2@ == (-1)))))))\n".as_slice(),
-        ),
-        (
-            SOURCE,
-            0,
-            b"obligation 1 overflow 78..79 line 3 inc\n(forall<v1: i32> ((v1@ < 100) ==> (((-2147483648) <= (v1@ + 1)) && ((v1@ + 1) <= 2147483647))))\nobligation 2 ensures 32..49 line 2 inc\n(forall<v1: i32> ((v1@ < 100) ==> (forall<v2: i32> ((v2@ == (v1@ + 1)) ==> (v2@ == (v1@ + 1))))))\n",
-        ),
-        (b"", 0, b"".as_slice()),
-        (b"fn f() {", 3, b"error E03 8..8 line 1\n".as_slice()),
-    ];
-    for (source, want, printed) in cases {
+    for (at, (source, status, printed)) in LISTS.iter().enumerate() {
         let call = Call {
             words: &["list", "s"],
             ..Call::of(source, b"")
         };
-        let (status, out) = call.run(rt.alloc())?;
-        assert_eq!(rt; status, want);
-        assert_eq!(rt; out.written(), printed);
+        assert!(rt; call.gives(rt.alloc(), *status, printed)?, "row {at}");
     }
     Ok(())
 }
