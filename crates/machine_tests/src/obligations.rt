@@ -9,7 +9,7 @@ use mir_ir::{
 use std::alloc::Global;
 use std::process::Abort;
 use std::test::Fail;
-use text_core::{Items, Kind, Name, NoMemory, Span, Text};
+use text_core::{Items, Kind, Name, NoMemory, PassError, Span, Text};
 use wp_gen::{Walk, obligations};
 
 /// The parameter, and the answer, in contracts.
@@ -251,7 +251,7 @@ fn nothing_gone(alloc: Global) -> Initialised {
 }
 
 /// The obligations of `answer = x op 1` over the integers of the kind.
-fn of_operation(alloc: Global, kind: IntKind, op: BinaryOp) -> Result<Vec<Obligation>, NoMemory> {
+fn of_operation(alloc: Global, kind: IntKind, op: BinaryOp) -> Result<Vec<Obligation>, PassError> {
     let statements = answer_is(alloc, 10, kind, op)?;
     let body = straight(alloc, locals(alloc, kind)?, statements)?;
     let walk = Walk {
@@ -264,7 +264,7 @@ fn of_operation(alloc: Global, kind: IntKind, op: BinaryOp) -> Result<Vec<Obliga
 }
 
 /// The obligations of a body that adds on one side of a branch and divides on the other.
-fn of_branch(alloc: Global) -> Result<Vec<Obligation>, NoMemory> {
+fn of_branch(alloc: Global) -> Result<Vec<Obligation>, PassError> {
     let yes = answer_is(alloc, 10, IntKind::U8, BinaryOp::Add)?;
     let no = answer_is(alloc, 20, IntKind::U8, BinaryOp::Div)?;
     let types = locals(alloc, IntKind::U8)?;
@@ -279,7 +279,7 @@ fn of_branch(alloc: Global) -> Result<Vec<Obligation>, NoMemory> {
 }
 
 /// The obligations of a loop with one invariant.
-fn of_loop(alloc: Global) -> Result<Vec<Obligation>, NoMemory> {
+fn of_loop(alloc: Global) -> Result<Vec<Obligation>, PassError> {
     let invariant = Span { start: 30, end: 31 };
     let head = Head {
         invariants: one(alloc, Term::truth(alloc, true)?)?,
@@ -298,7 +298,7 @@ fn of_loop(alloc: Global) -> Result<Vec<Obligation>, NoMemory> {
 }
 
 /// The obligations of a body that answers what another function answers of x.
-fn of_call(alloc: Global) -> Result<Vec<Obligation>, NoMemory> {
+fn of_call(alloc: Global) -> Result<Vec<Obligation>, PassError> {
     let contracts = one(alloc, contract(alloc)?)?;
     let args = one(alloc, copied(alloc, 1))?;
     let (answer, param) = (Ty::int(IntKind::I32), Ty::int(IntKind::I32));

@@ -16,7 +16,7 @@ use mir_ir::Body;
 use std::alloc::Global;
 use text_core::{Items, Limit, LimitKind, Names, NoMemory};
 use type_check::{TypedProgram, check};
-use wp_gen::{OBLIGATIONS, Walk, check_paths, obligations, room_after};
+use wp_gen::{OBLIGATIONS, Walk, check_paths, counted_obligations, room_after};
 
 /// The most bytes of a source.
 pub const SOURCE_BYTES: usize = 1 << 20;
@@ -90,7 +90,7 @@ fn function_goals(alloc: Global, lowered: &Lowered, place: usize) -> Result<Func
     ensures { IfOk result (HasGoals lowered.now.bodies.bodies lowered.now.contracts lowered.now.gone place) }
 {
     let walk = walk_of(lowered, place);
-    let obligations = obligations(alloc, &walk, 1)?;
+    let obligations = counted_obligations(alloc, &walk, 1)?;
     Ok(FunctionGoals {
         name: walk.body.owner.copy(alloc)?,
         obligations: Items::from_vec(obligations),

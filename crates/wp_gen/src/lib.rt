@@ -18,7 +18,7 @@ pub use command::Command;
 pub use count::{OBLIGATIONS, room_after};
 pub use goal::{Goal, Operation};
 pub use laws::{obligations_exist, paths_are_counted};
-pub use oblige::obligations;
+pub use oblige::{counted_obligations, obligations};
 pub use paths::{PATHS, check_paths};
 pub use step::Compared;
 pub use walk::Walk;

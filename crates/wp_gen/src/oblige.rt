@@ -1,18 +1,21 @@
 //! The obligations of a body.
-ghost use Rattle.std.specs.Prelude.{◌≡◌, ◌∷◌, [], ◌++◌, ℕ, IfOk, drop};
+ghost use Rattle.std.specs.Prelude.{◌≡◌, ◌∷◌, [], ◌++◌, ℕ, IfOk, IfErr, drop};
 ghost use Rattle.wp_gen.specs.Walk.{parameters, stored, entry_commands, numbered, AreGoals, AreObligations};
+ghost use Rattle.wp_gen.specs.Limits.{HasFewObligations, RefusesWalk};
 ghost use Rattle.wp_gen.specs.Walkable.{setting, CanWalk};
 
 use crate::call::with_assumed;
 use crate::command::Command;
+use crate::count::{OBLIGATIONS, room_after};
 use crate::goal::Goal;
+use crate::paths::check_paths;
 use crate::row::name_of;
 use crate::seen::with_seen_before;
 use crate::walk::{Walk, goals_from_entry};
 use logic_term::{Contract, Obligation, Term, Ty, reduce};
 use mir_ir::Body;
 use std::alloc::Global;
-use text_core::{Items, Name, NoMemory, Text};
+use text_core::{Items, Limit, LimitKind, Name, NoMemory, PassError, Text};
 
 /// Each parameter has some value of its type.
 fn parameters(alloc: Global, names: &[Name], types: &[Ty]) -> Result<Vec<Command>, NoMemory>
@@ -105,12 +108,39 @@ fn numbered(
     Ok(obligations)
 }
 
-/// The obligations of a body with its contract, numbered from `first` on, in the order of the walk of its paths. Want of
-/// memory is answered too where the number of a local or of an obligation would pass 32 bits.
-pub fn obligations(alloc: Global, walk: &Walk<'_>, first: u32) -> Result<Vec<Obligation>, NoMemory>
+/// The obligations of a body with its contract, numbered from `first` on, in the order of the walk of its paths, for a caller that
+/// has counted paths and obligations itself. Want of memory is answered too where the number of a local or of an obligation would
+/// pass 32 bits.
+pub fn counted_obligations(
+    alloc: Global,
+    walk: &Walk<'_>,
+    first: u32,
+) -> Result<Vec<Obligation>, NoMemory>
     requires { CanWalk (setting walk.now) }
     ensures { IfOk result (λ v. (n : ℕ) × AreObligations (setting walk.now) first v.items n) }
 {
     let goals = goals(alloc, walk)?;
     numbered(alloc, &walk.body.owner, first, goals.as_slice())
+}
+
+/// The obligations of a body with its contract, numbered from `first` on, in the order of the walk of its paths.
+///
+/// Errors: `Limit` where the body has more than 1,024 paths, or else more than 1,000,000 obligations, and before one is made;
+/// `NoMemory`, also where the number of a local or of an obligation would pass 32 bits; never `Source`.
+pub fn obligations(alloc: Global, walk: &Walk<'_>, first: u32) -> Result<Vec<Obligation>, PassError>
+    requires { CanWalk (setting walk.now) }
+    ensures ok { IfOk result (λ v. HasFewObligations (setting walk.now) first v.items) }
+    ensures refused { IfErr result (RefusesWalk (setting walk.now)) }
+{
+    match check_paths(walk.body) {
+        Err(limit) => Err(PassError::Limit(limit)),
+        Ok(_) => match room_after(walk, OBLIGATIONS) {
+            None => Err(PassError::Limit(Limit {
+                kind: LimitKind::Obligations,
+                counted: OBLIGATIONS as u64 + 1,
+                bound: OBLIGATIONS as u64,
+            })),
+            Some(_) => Ok(counted_obligations(alloc, walk, first)?),
+        },
+    }
 }

@@ -2,9 +2,9 @@ use Rattle.wp_gen.specs.Walkable.{setting}
 use Rattle.verify_core.proofs.PassLaws.{walk_at, has_goals}
 use Rattle.verify_core.proofs.preparing.function_goals.Goals as goal
 
-pub obligations-requires : goal.obligations-requires
-obligations-requires c = walk_at c.args.lowered.now c.args.place (setting c.walk_of-walk.result) c.requires.walk c.walk_of-walk.ensures
+pub counted_obligations-requires : goal.counted_obligations-requires
+counted_obligations-requires c = walk_at c.args.lowered.now c.args.place (setting c.walk_of-walk.result) c.requires.walk c.walk_of-walk.ensures
 
 pub returns : goal.returns
 returns c =
-    has_goals c.args.lowered.now c.args.place (setting c.walk_of-walk.result) _ _ c.in_ok-obligations.ensures.0 c.walk_of-walk.ensures c.in_ok-copy.ensures c.from_vec.ensures c.in_ok-obligations.ensures.1
+    has_goals c.args.lowered.now c.args.place (setting c.walk_of-walk.result) _ _ c.in_ok-counted_obligations.ensures.0 c.walk_of-walk.ensures c.in_ok-copy.ensures c.from_vec.ensures c.in_ok-counted_obligations.ensures.1
