@@ -1,5 +1,5 @@
 -- The contract of a function speaks of its parameters.
-use Rattle.std.proofs.Common.{◌≡◌, ◌⊎◌, inl, inr, refl, ap, sym, ◌∙◌, subst, ℕ, zero, suc, ◌+◌, ◌-◌, ◌^◌, ◌<◌, ◌≤◌, true, false, List, [], ◌∷◌, ◌++◌, map, drop, length, Option, Some, None, slice_get, arith, length-append, length-drop, true≢false}
+use Rattle.std.proofs.Common.{◌≡◌, ◌⊎◌, inl, inr, refl, ap, sym, ◌∙◌, subst, ℕ, zero, suc, ◌+◌, ◌^◌, ◌≤◌, true, List, [], ◌∷◌, ◌++◌, map, drop, length, Some, slice_get, arith, length-append, length-drop, true≢false}
 use Rattle.text_core.specs.declared.name.Name.{Name}
 use Rattle.logic_term.specs.Free.{free}
 use Rattle.logic_term.specs.Term.{Term}
@@ -15,7 +15,7 @@ use Rattle.type_check.specs.declared.program.TypedFunction.{TypedFunction}
 use Rattle.type_check.specs.VariableNames.{variable_name, answer_name}
 use Rattle.type_check.specs.WellTyped.{IsVariable, SpeaksOf, SpeaksOfAnswer, ClauseSpeaksOf, EachSpeaks, ClausesSpeak, FunctionFits}
 use Rattle.mir_build.specs.Laws.{ContractSpeaks, IsOneOf}
-use Rattle.mir_build.specs.Lowering.{counted, contract_of, formula, formula_span, formulas_of, picked, local_name, LowersTo}
+use Rattle.mir_build.specs.Lowering.{counted, contract_of, formula, formula_span, formulas_of, picked, LowersTo}
 use Rattle.mir_build.proofs.LawFunction.{counted_length, locals_length}
 use Rattle.mir_build.proofs.LawLocals.{counted_at, counted_get, local_no_variable, variable_number, variable_no_answer, variable_not_new, small_named}
 

@@ -1,31 +1,27 @@
 -- The body of a function that lowers: its blocks, the types of its locals and the sets of its labels.
-use Rattle.std.proofs.Common.{◌≡◌, refl, ap, sym, ◌∙◌, subst, ℕ, zero, suc, ◌+◌, ◌<◌, ◌≤◌, ◌==◌, ◌&&◌, nat_lt, Bool, true, false, cond, List, [], ◌∷◌, ◌++◌, map, take, drop, length, Option, Some, None, slice_get, arith, length-append}
-use Rattle.std.proofs.lemmas.Bool.{eqb-true, eq-eqb}
+use Rattle.std.proofs.Common.{◌≡◌, refl, ap, sym, ◌∙◌, subst, ℕ, suc, ◌+◌, ◌<◌, ◌≤◌, ◌==◌, ◌&&◌, nat_lt, Bool, true, false, cond, List, [], ◌∷◌, ◌++◌, map, length, Some, slice_get, arith, length-append}
 use Rattle.std.proofs.lemmas.Bool.Decides.{nat_tests}
-use Rattle.std.proofs.lemmas.Option.{slice_get_within}
 use Rattle.logic_term.specs.declared.kinds.Label.{Label}
 use Rattle.logic_term.specs.Ty.{Ty}
-use Rattle.mir_ir.specs.declared.body.Block.{Block}
 use Rattle.mir_ir.specs.declared.body.Body.{Body}
 use Rattle.mir_ir.specs.declared.body.Initialised.{Initialised}
 use Rattle.mir_ir.specs.Layout.{IsLaidOut}
-use Rattle.mir_ir.specs.WellFormed.{Locals, with, Within, parameters, IsTyped}
+use Rattle.mir_ir.specs.WellFormed.{Locals, with, parameters, IsTyped}
 use Rattle.type_check.specs.declared.program.Signature.{Signature}
 use Rattle.type_check.specs.declared.program.TypedFunction.{TypedFunction}
 use Rattle.type_check.specs.TypedExpr.{TypedExpr}
 use Rattle.type_check.specs.TypedExprView.{ty_of, span_of}
-use Rattle.type_check.specs.WellTyped.{IsBuilt, AllBuilt, IsWellTyped, FunctionFits}
-use Rattle.mir_build.specs.Text.{Title, Line, Open, fresh, begun, made, owned}
+use Rattle.type_check.specs.WellTyped.{IsBuilt, IsWellTyped, FunctionFits}
+use Rattle.mir_build.specs.Text.{Title, Line, fresh, begun, made, owned}
 use Rattle.mir_build.specs.Lowering.{numbers, counted, paired, all_locals, local_name, entry_title, around_body, Around, IntoBody, of_outermost, of_other, LowersTo}
 use Rattle.mir_build.proofs.Numbers.{count}
-use Rattle.mir_build.proofs.LawLists.{Has, here, there, has_left, has_right, has_count, count-append}
-use Rattle.mir_build.proofs.LawNames.{HoldsAll}
+use Rattle.mir_build.proofs.LawLists.{Has, here, there, has_left, has_right, count-append}
 use Rattle.mir_build.proofs.LawFlow.{Flows, In, flows, flows_rest}
-use Rattle.mir_build.proofs.LawLayout.{blocks_of, titles, labels, titles_of, labels_of, Flowing, flowing_of, Once, laid_out}
+use Rattle.mir_build.proofs.LawLayout.{titles, labels, titles_of, labels_of, Flowing, flowing_of, Once, laid_out}
 use Rattle.mir_build.proofs.LawRuns.{with_self, Runs, Agree, labels_in, Laid, HasNone}
 use Rattle.mir_build.proofs.LawLaid.{weight, Apart}
 use Rattle.mir_build.proofs.LawSets.{Scoped, laid, laid_rest}
-use Rattle.mir_build.proofs.LawTyped.{is_local, AreTyped, MadeFits, ScopeFits, scope_length}
+use Rattle.mir_build.proofs.LawTyped.{AreTyped, MadeFits, ScopeFits}
 use Rattle.mir_build.proofs.LawTypes.{Callee, Known, typed, typed_rest}
 use Rattle.mir_build.proofs.LawInit.{set_of, agree, EachBlock, BlockFits, begun_fits, owned_not_there, block_at, Labelling, labelling}
 use Rattle.mir_build.proofs.OneBody.{labels_once, locals_once}

@@ -1,5 +1,5 @@
 -- The invariants at heads speak of locals that are initialised there, and what is gone there is not.
-use Rattle.std.proofs.Common.{◌≡◌, refl, ap, sym, ◌∙◌, subst, ℕ, zero, suc, ◌<◌, ◌≤◌, Bool, true, false, List, [], ◌∷◌, map, length, Option, Some, None, slice_get, arith, true≢false}
+use Rattle.std.proofs.Common.{◌≡◌, refl, ap, sym, ◌∙◌, subst, ℕ, zero, suc, ◌<◌, true, false, List, [], ◌∷◌, map, length, Option, Some, None, slice_get, true≢false}
 use Rattle.std.specs.Option.{is_some}
 use Rattle.std.proofs.lemmas.Option.{slice_get_within}
 use Rattle.text_core.specs.declared.name.Name.{Name}
@@ -14,13 +14,13 @@ use Rattle.mir_ir.specs.declared.body.Initialised.{Initialised}
 use Rattle.mir_ir.specs.declared.body.Point.{Point}
 use Rattle.mir_ir.specs.declared.place.Place.{Place}
 use Rattle.mir_ir.specs.Body.{block_in}
-use Rattle.mir_ir.specs.WellFormed.{Locals, IsInitialised}
+use Rattle.mir_ir.specs.WellFormed.{Locals}
 use Rattle.type_check.specs.declared.program.Signature.{Signature}
 use Rattle.type_check.specs.declared.program.TypedFunction.{TypedFunction}
 use Rattle.type_check.specs.WellTyped.{IsBuilt, FunctionFits}
 use Rattle.mir_build.specs.Laws.{IsNameIn, HeadsSpeak}
 use Rattle.mir_build.specs.Text.{owned}
-use Rattle.mir_build.specs.Lowering.{whole, gone_at, local_name, LowersTo}
+use Rattle.mir_build.specs.Lowering.{whole, gone_at, LowersTo}
 use Rattle.mir_build.proofs.LawLists.{Has, here, there, has_count}
 use Rattle.mir_build.proofs.LawNames.{IsLocalIn, EachFree, HeadFits}
 use Rattle.mir_build.proofs.LawTyped.{is_local}

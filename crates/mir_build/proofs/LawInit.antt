@@ -1,15 +1,14 @@
 -- The blocks of a text along which sets of locals are surely initialised.
-use Rattle.std.proofs.Common.{◌≡◌, refl, ap, sym, ◌∙◌, subst, ℕ, zero, suc, ◌+◌, ◌<◌, ◌≤◌, ◌==◌, Bool, true, false, cond, List, [], ◌∷◌, ◌++◌, map, length, Option, Some, None, slice_get, arith, add-one}
+use Rattle.std.proofs.Common.{◌≡◌, refl, ap, sym, ◌∙◌, subst, ℕ, zero, suc, ◌+◌, ◌≤◌, ◌==◌, Bool, true, false, cond, List, [], ◌∷◌, ◌++◌, length, Option, Some, None, slice_get, arith, add-one}
 use Rattle.std.proofs.lemmas.Bool.{eqb-true, eq-eqb}
 use Rattle.logic_term.specs.declared.kinds.Label.{Label}
 use Rattle.mir_ir.specs.declared.body.Block.{Block}
 use Rattle.mir_ir.specs.declared.body.Body.{Body}
 use Rattle.mir_ir.specs.declared.statement.Statement.{Statement}
-use Rattle.mir_ir.specs.declared.terminator.Terminator.{Terminator}
 use Rattle.mir_ir.specs.declared.terminator.TerminatorKind.TheVariants.{Return}
 use Rattle.mir_ir.specs.Body.{block_in}
 use Rattle.mir_ir.specs.WellFormed.{Locals, CanRun, run, CanEnd, Carries, Within, parameters, IsInitialised}
-use Rattle.mir_build.specs.Text.{Title, Line, Puts, Makes, Turns, Owns, Open, fresh, longer, owned}
+use Rattle.mir_build.specs.Text.{Title, Line, Open, fresh, longer, owned}
 use Rattle.mir_build.specs.Lowering.{ends}
 use Rattle.text_core.specs.declared.span.Span.{Span}
 use Rattle.mir_build.proofs.Numbers.{count}

@@ -1,25 +1,19 @@
 -- Along each lowered text the locals in scope are initialised, and where it ends its own local is too.
-use Rattle.std.proofs.Common.{◌≡◌, ◌⊎◌, inl, inr, refl, ap, sym, ◌∙◌, subst, ℕ, zero, suc, ◌+◌, ◌<◌, ◌≤◌, ◌==◌, Bool, true, false, cond, List, [], ◌∷◌, ◌++◌, map, length, Option, Some, None, slice_get, arith, true≢false, length-append}
+use Rattle.std.proofs.Common.{◌≡◌, refl, ap, sym, ◌∙◌, subst, ℕ, ◌+◌, ◌≤◌, ◌==◌, Bool, true, false, cond, List, [], ◌∷◌, ◌++◌, map, Some, arith}
 use Rattle.logic_term.specs.declared.kinds.Label.{Label}
 use Rattle.logic_term.specs.Ty.{Ty}
 use Rattle.text_core.specs.declared.span.Span.{Span}
 use Rattle.mir_ir.specs.declared.body.Head.{Head}
-use Rattle.mir_ir.specs.declared.place.Operand.{Operand}
 use Rattle.mir_ir.specs.declared.terminator.FnId.TheVariants as fn_id
 use Rattle.mir_ir.specs.declared.terminator.Callee.TheVariants.{Function}
-use Rattle.mir_ir.specs.declared.terminator.TerminatorKind.TheVariants.{Goto, If, Call, Return}
-use Rattle.mir_ir.specs.WellFormed.{Locals, with, without, CanTakeAll, all_taken, Within}
-use Rattle.logic_term.specs.declared.kinds.LazyOp.{LazyOp}
-use Rattle.logic_term.specs.declared.kinds.LazyOp.TheVariants as lazy_op
-use Rattle.type_check.specs.declared.program.Signature.{Signature}
-use Rattle.type_check.specs.TypedExpr.{TypedExpr, TypedStmts, TypedExprs}
-use Rattle.type_check.specs.WellTyped.{IsWellTyped, StatementsFit, ArgumentsFit}
-use Rattle.mir_build.specs.Text.{Title, Line, Puts, Makes, Turns, Owns, made}
-use Rattle.mir_build.specs.Lowering.{numbers, Around, looping, binds, at, at_head, head_of, ends, copied, whole, put_unit, dies_in, where_true, where_false, Into, of_integer, of_truth, of_variable, of_negative, of_denied, of_binary, of_lazy, of_assign, of_assign_value, of_update, of_update_value, of_call, of_block, of_branch, of_choice, of_repeat, Rest, of_done, of_last, of_bind, of_run, Args, of_none, of_more}
+use Rattle.mir_ir.specs.declared.terminator.TerminatorKind.TheVariants.{Goto, If, Call}
+use Rattle.mir_ir.specs.WellFormed.{Locals, with, CanTakeAll, all_taken, Within}
+use Rattle.mir_build.specs.Text.{Line, Makes, Turns, Owns, made}
+use Rattle.mir_build.specs.Lowering.{numbers, Around, at, at_head, ends, copied, whole, put_unit}
 use Rattle.mir_build.proofs.Numbers.{count, labels_begun}
-use Rattle.mir_build.proofs.LawLists.{Has, here, there, has_get, makings-append, count-append, count_self}
-use Rattle.mir_build.proofs.LawNames.{HoldsAll, HeadFits, head_fits}
-use Rattle.mir_build.proofs.LawRuns.{with_self, with_more, with_within, kept, within_trans, HasNone, Runs, stops, puts, makes, turns, owns, runs-append, Agree, agree_left, agree_right, labels_in, Laid, labels_in-append, labels_begun-append, laid_stops, laid_puts, laid_makes, laid-append}
+use Rattle.mir_build.proofs.LawLists.{Has, here, there, makings-append, count_self}
+use Rattle.mir_build.proofs.LawNames.{HoldsAll, HeadFits}
+use Rattle.mir_build.proofs.LawRuns.{with_self, with_more, with_within, HasNone, Runs, stops, puts, makes, turns, owns, runs-append, agree_left, agree_right, labels_in, Laid, labels_in-append, labels_begun-append}
 
 -- ---- what is not in a set
 

@@ -1,9 +1,8 @@
 -- Lists: what stands in them, how often, and what texts begin and make.
-use Rattle.std.proofs.Common.{◌≡◌, refl, ap, sym, ◌∙◌, subst, ℕ, zero, suc, ◌+◌, ◌<◌, ◌≤◌, ◌==◌, Bool, true, false, cond, List, [], ◌∷◌, ◌++◌, map, length, Option, Some, None, slice_get, arith}
+use Rattle.std.proofs.Common.{◌≡◌, refl, ap, sym, ◌∙◌, subst, ℕ, zero, suc, ◌+◌, ◌≤◌, ◌==◌, Bool, true, false, cond, List, [], ◌∷◌, ◌++◌, map, Some, slice_get, arith}
 use Rattle.std.proofs.lemmas.Bool.{eqb-true, eq-eqb}
-use Rattle.std.proofs.lemmas.Bool.Decides.{nat_tests}
 use Rattle.logic_term.specs.Ty.{Ty}
-use Rattle.mir_build.specs.Text.{Title, Line, Puts, Makes, Turns, Owns, begun, made, owned}
+use Rattle.mir_build.specs.Text.{Line, Puts, Makes, Turns, Owns, begun, made}
 use Rattle.mir_build.specs.Lowering.{numbers}
 use Rattle.mir_build.proofs.Numbers.{count}
 

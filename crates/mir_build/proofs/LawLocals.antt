@@ -1,6 +1,6 @@
 -- The names of locals and their types.
-use Rattle.std.proofs.Common.{◌≡◌, ◌⊎◌, inl, inr, refl, ap, sym, ◌∙◌, subst, ℕ, zero, suc, ◌+◌, ◌^◌, ◌<◌, ◌≤◌, ◌==◌, Bool, true, false, cond, List, [], ◌∷◌, ◌++◌, map, length, Option, Some, None, slice_get, arith}
-use Rattle.std.proofs.lemmas.Bool.{eqb-true, eq-eqb}
+use Rattle.std.proofs.Common.{◌≡◌, refl, ap, sym, ◌∙◌, subst, ℕ, zero, suc, ◌+◌, ◌^◌, ◌<◌, ◌≤◌, ◌==◌, Bool, true, false, cond, List, [], ◌∷◌, ◌++◌, map, length, Some, slice_get, arith}
+use Rattle.std.proofs.lemmas.Bool.{eqb-true}
 use Rattle.std.proofs.lemmas.Bool.Decides.{nat_tests}
 use Rattle.std.proofs.lemmas.Option.{slice_get_within}
 use Rattle.text_core.specs.declared.name.Name.{Name}
@@ -16,7 +16,7 @@ use Rattle.mir_build.specs.Text.{Line, Puts, Makes, Turns, Owns, made}
 use Rattle.mir_build.specs.Lowering.{numbers, counted, paired, all_locals, local_name, LowersTo}
 use Rattle.mir_build.proofs.Numbers.{count}
 use Rattle.mir_build.proofs.LawLists.{Has, here, there}
-use Rattle.mir_build.proofs.LawTyped.{AreTyped, MadeFits}
+use Rattle.mir_build.proofs.LawTyped.{AreTyped}
 use Rattle.mir_build.proofs.LawTypes.{Callee}
 use Rattle.mir_build.proofs.OneBody.{locals_once}
 use Rattle.mir_build.proofs.LawFunction.{locals_fit, lines_typed}

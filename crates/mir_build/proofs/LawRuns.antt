@@ -1,5 +1,5 @@
 -- Sets of locals that are surely initialised along a text.
-use Rattle.std.proofs.Common.{◌≡◌, ◌⊎◌, inl, inr, refl, ap, sym, ◌∙◌, subst, ℕ, zero, suc, ◌+◌, ◌<◌, ◌≤◌, ◌==◌, Bool, true, false, cond, List, [], ◌∷◌, ◌++◌, map, length, Option, Some, None, arith, true≢false}
+use Rattle.std.proofs.Common.{◌≡◌, refl, ap, sym, ◌∙◌, ℕ, ◌≤◌, ◌==◌, Bool, true, false, cond, List, [], ◌∷◌, ◌++◌, map, true≢false}
 use Rattle.std.proofs.lemmas.Bool.{eqb-true, eq-eqb}
 use Rattle.logic_term.specs.declared.kinds.Label.{Label}
 use Rattle.logic_term.specs.Ty.{Ty}
@@ -16,7 +16,7 @@ use Rattle.mir_ir.specs.declared.terminator.TerminatorKind.TheVariants.{Goto, If
 use Rattle.mir_ir.specs.WellFormed.{Locals, with, without, taken, CanTake, CanTakeAll, all_taken, CanEvaluate, evaluated, CanRun, run, CanEnd, Carries, Within}
 use Rattle.mir_build.specs.Text.{Title, Line, Puts, Makes, Turns, Owns, begun}
 use Rattle.mir_build.proofs.Numbers.{count, labels_begun}
-use Rattle.mir_build.proofs.LawLists.{Has, here, there, begun-append, count_self}
+use Rattle.mir_build.proofs.LawLists.{begun-append}
 use Rattle.mir_build.proofs.LawNames.{HeadFits}
 
 -- ---- sets

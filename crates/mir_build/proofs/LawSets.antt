@@ -1,5 +1,5 @@
 -- By induction on the rows: along each lowered text the locals in scope are initialised, and where it ends its own local is too.
-use Rattle.std.proofs.Common.{◌≡◌, ◌⊎◌, inl, inr, refl, ap, sym, ◌∙◌, subst, ℕ, zero, suc, ◌+◌, ◌<◌, ◌≤◌, ◌==◌, Bool, true, false, cond, List, [], ◌∷◌, ◌++◌, map, length, Option, Some, None, slice_get, arith, true≢false, length-append, append-nil}
+use Rattle.std.proofs.Common.{◌≡◌, ◌⊎◌, inl, inr, refl, ap, sym, ◌∙◌, subst, ℕ, ◌+◌, Bool, true, false, List, [], ◌∷◌, ◌++◌, length, arith, length-append, append-nil}
 use Rattle.logic_term.specs.declared.kinds.Label.{Label}
 use Rattle.logic_term.specs.Ty.{Ty}
 use Rattle.text_core.specs.declared.span.Span.{Span}
@@ -10,13 +10,12 @@ use Rattle.logic_term.specs.declared.kinds.LazyOp.TheVariants as lazy_op
 use Rattle.type_check.specs.declared.program.Signature.{Signature}
 use Rattle.type_check.specs.TypedExpr.{TypedExpr, TypedStmts, TypedExprs}
 use Rattle.type_check.specs.WellTyped.{IsWellTyped, StatementsFit, ArgumentsFit}
-use Rattle.mir_build.specs.Text.{Title, Line, Puts, Makes, Turns, Owns, made}
-use Rattle.mir_build.specs.Lowering.{numbers, Around, looping, binds, at, head_of, dies_in, where_true, where_false, Into, of_integer, of_truth, of_variable, of_negative, of_denied, of_binary, of_lazy, of_assign, of_assign_value, of_update, of_update_value, of_call, of_block, of_branch, of_choice, of_repeat, Rest, of_done, of_last, of_bind, of_run, Args, of_none, of_more}
-use Rattle.mir_build.proofs.Numbers.{count}
+use Rattle.mir_build.specs.Text.{Title, Line, Makes, Turns, made}
+use Rattle.mir_build.specs.Lowering.{numbers, Around, looping, binds, head_of, dies_in, where_true, where_false, Into, of_integer, of_truth, of_variable, of_negative, of_denied, of_binary, of_lazy, of_assign, of_assign_value, of_update, of_update_value, of_call, of_block, of_branch, of_choice, of_repeat, Rest, of_done, of_last, of_bind, of_run, Args, of_none, of_more}
 use Rattle.mir_build.proofs.LawLists.{Has, here, there, has_get, makings-append, count-append, count_self}
 use Rattle.mir_build.proofs.LawNames.{HoldsAll, head_fits}
-use Rattle.mir_build.proofs.LawRuns.{with_self, with_more, with_within, kept, within_trans, Runs, stops, runs-append, Laid, laid_stops, laid_puts, laid_makes, laid-append}
-use Rattle.mir_build.proofs.LawLaid.{weight, Apart, none, before, first, second, left, right, fresh_second, same_set, forked, looped, with_all, with_all_more, with_all_has, called, weight_with}
+use Rattle.mir_build.proofs.LawRuns.{with_self, with_more, with_within, kept, Runs, stops, runs-append, Laid, laid_stops, laid_puts, laid_makes, laid-append}
+use Rattle.mir_build.proofs.LawLaid.{Apart, none, before, first, second, left, right, fresh_second, same_set, forked, looped, with_all, with_all_more, with_all_has, called, weight_with}
 
 -- the set has the locals in scope, one for each variable
 pub record Scoped (c : Around) (Γ : List Ty) (set : Locals) : Type 0 where

@@ -1,22 +1,21 @@
 -- Texts whose statements and ends are typed.
-use Rattle.std.proofs.Common.{◌≡◌, refl, ap, sym, ◌∙◌, subst, ℕ, zero, suc, ◌+◌, ◌<◌, ◌≤◌, ◌==◌, Bool, true, false, List, [], ◌∷◌, ◌++◌, map, take, drop, length, Option, Some, None, slice_get, arith, if◌then◌else◌, true≢false}
+use Rattle.std.proofs.Common.{◌≡◌, refl, ap, sym, ◌∙◌, subst, ℕ, zero, suc, Bool, true, false, List, [], ◌∷◌, ◌++◌, length, Some, slice_get, if◌then◌else◌, true≢false}
 use Rattle.std.specs.Option.{is_some}
 use Rattle.logic_term.specs.declared.kinds.BinaryOp.{BinaryOp}
 use Rattle.logic_term.specs.declared.kinds.BinaryOp.TheVariants.{Add, Sub, Mul, Div, Rem, Eq, Ne, Lt, Le, Gt, Ge}
 use Rattle.logic_term.specs.declared.kinds.IntKind.{IntKind}
 use Rattle.logic_term.specs.declared.kinds.IntKind.TheVariants.{I8, I16, I32, I64, Isize}
-use Rattle.logic_term.specs.declared.kinds.Ctor.TheVariants.{Tuple}
-use Rattle.logic_term.specs.Ty.{Ty, int, bool, tuple, no_tys}
+use Rattle.logic_term.specs.Ty.{Ty, int, bool}
 use Rattle.mir_ir.specs.declared.body.Body.{Body}
 use Rattle.mir_ir.specs.declared.terminator.TerminatorKind.{TerminatorKind}
 use Rattle.mir_ir.specs.declared.terminator.TerminatorKind.TheVariants.{Goto, If, Call, Return}
 use Rattle.mir_ir.specs.WellFormed.{IsSigned, OperandHas, OperationHas, StatementIsTyped, CallIsTyped, Locals}
 use Rattle.mir_ir.specs.WellFormed as mir
 use Rattle.type_check.specs.declared.program.Signature.{Signature}
-use Rattle.type_check.specs.TypedExpr.{TypedExpr, TypedStmts, TypedExprs, integer, truth, variable, negative, denied, binary, lazy, assign, assign_value, update, update_value, call, block, branch, choice, repeat, done, last, bind, run, none, more}
+use Rattle.type_check.specs.TypedExpr.{TypedExpr, TypedStmts, integer, truth, variable, negative, denied, binary, lazy, assign, assign_value, update, update_value, call, block, branch, choice, repeat, done, last, bind, run}
 use Rattle.type_check.specs.TypedExprView.{ty_of}
-use Rattle.type_check.specs.WellTyped.{IsBuilt, AllBuilt, IsWellTyped, StatementsFit, operation_ty, is_signed, unit}
-use Rattle.mir_build.specs.Text.{Title, Line, Puts, Makes, Turns, Owns, begun, made}
+use Rattle.type_check.specs.WellTyped.{IsBuilt, AllBuilt, IsWellTyped, StatementsFit, operation_ty, is_signed}
+use Rattle.mir_build.specs.Text.{Line, Puts, Makes, Turns, Owns, made}
 use Rattle.mir_build.proofs.LawLists.{Has, here, there, has_left, has_right, made-append}
 use Rattle.mir_build.proofs.LawNames.{HoldsAll, HeadFits}
 
