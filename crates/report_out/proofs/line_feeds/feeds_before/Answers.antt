@@ -8,13 +8,13 @@ loop-first-init c = (at_start c.args.lines.now.source.now c.as_slice-feeds.resul
 pub loop-first-preserved-then-feeds-middle : goal.loop-first-preserved-then-feeds-middle
 loop-first-preserved-then-feeds-middle c = (
   in_upper_half c.args.lines.now.source.now c.as_slice-feeds.result.now c.args.offset c.loop-first.first c.loop-first.last (c.loop-first.first + (c.loop-first.last - c.loop-first.first) / 2) _
-  (c.as_slice-feeds.ensures ∙ c.requires.feeds) c.loop-first.invariant.0 (omega (arith, c.loop-first.invariant.1, c.loop-first-test.true)) c.if-feeds-middle.true,
+      (c.as_slice-feeds.ensures ∙ c.requires.feeds) c.loop-first.invariant.0 (omega (arith, c.loop-first.invariant.1, c.loop-first-test.true)) c.if-feeds-middle.true,
   c.loop-first.invariant.1,
 )
 
 pub loop-first-preserved : goal.loop-first-preserved
 loop-first-preserved c = (
   in_lower_half c.args.lines.now.source.now c.as_slice-feeds.result.now c.args.offset c.loop-first.first c.loop-first.last (c.loop-first.first + (c.loop-first.last - c.loop-first.first) / 2) _
-  (c.as_slice-feeds.ensures ∙ c.requires.feeds) c.loop-first.invariant.0 (omega (arith, c.loop-first.invariant.1, c.loop-first-test.true)) c.if-feeds-middle.false,
+      (c.as_slice-feeds.ensures ∙ c.requires.feeds) c.loop-first.invariant.0 (omega (arith, c.loop-first.invariant.1, c.loop-first-test.true)) c.if-feeds-middle.false,
   omega (arith, c.loop-first.invariant.1, c.loop-first-test.true),
 )
