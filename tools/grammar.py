@@ -491,4 +491,5 @@ def main():
         len(lines), len(bodies), sum(map(len, bodies)), sum(len(b) for alts in bodies for b in alts), sum(map(len, firsts)), steps))
 
 
-main()
+if __name__ == "__main__":
+    main()

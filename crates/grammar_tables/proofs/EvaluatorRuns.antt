@@ -1,4 +1,4 @@
--- The runs of the evaluator.
+-- The runs of the evaluator, and that the values of a tree are what they come to.
 use Rattle.std.specs.Prelude.{◌≡◌, ℕ, ◌+◌, ◌<◌, ◌≤◌, List, [], ◌∷◌, ◌++◌, length, take, drop, reverse}
 use Rattle.std.proofs.Common.{refl, sym, ◌∙◌, ap, subst, append_assoc, append-nil, arith, add_assoc}
 use Rattle.std.proofs.lemmas.List.{reverse-append, map-append}
@@ -66,9 +66,9 @@ module _ {Value : Type 0} (G : Grammar) (m : SemanticActions Value) (count : ℕ
 pub record GoesOn {Value : Type 0} (G : Grammar) (m : SemanticActions Value) (count goal : ℕ) (derivation : List ℕ) (work : List Work) (rs : List ℕ) (at : ℕ) (vs : List Value) : Type 0 where
   pub on : (out : List Value) → Runs G m count (Visit (Nonterminal goal) ∷ []) derivation 0 [] out → Runs G m count (reverse work) rs at vs out
 
-reads_reverse : (ss : List Symbol) → reverse (visits ss) ≡ visits (reverse ss)
-reads_reverse [] = refl
-reads_reverse (s ∷ ss) = reverse-append (Visit s ∷ []) (visits ss) ∙ ap (λ (ws : List Work). ws ++ Visit s ∷ []) (reads_reverse ss) ∙
+visits_reverse : (ss : List Symbol) → reverse (visits ss) ≡ visits (reverse ss)
+visits_reverse [] = refl
+visits_reverse (s ∷ ss) = reverse-append (Visit s ∷ []) (visits ss) ∙ ap (λ (ws : List Work). ws ++ Visit s ∷ []) (visits_reverse ss) ∙
     sym (ap visits (reverse-append (s ∷ []) ss) ∙ map-append Visit (reverse ss) (s ∷ []))
 
 module _ {Value : Type 0} (G : Grammar) (m : SemanticActions Value) (count : ℕ) where
@@ -102,7 +102,7 @@ module _ {Value : Type 0} (G : Grammar) (m : SemanticActions Value) (count : ℕ
       step_shift k e after f = record { on = λ out q. rw f ((shifted (on_top (Visit (Terminal k)) e out q)).1) }
 
       shape : (o : Work) (last_first parts : List Symbol) → reverse last_first ≡ parts → reverse ((new ++ o ∷ []) ++ visits last_first) ≡ visits parts ++ o ∷ reverse new
-      shape o last_first parts h = reverse-append (new ++ o ∷ []) (visits last_first) ∙ ap (λ (ws : List Work). ws ++ reverse (new ++ o ∷ [])) (reads_reverse last_first ∙ ap visits h) ∙
+      shape o last_first parts h = reverse-append (new ++ o ∷ []) (visits last_first) ∙ ap (λ (ws : List Work). ws ++ reverse (new ++ o ∷ [])) (visits_reverse last_first ∙ ap visits h) ∙
           ap (λ (ws : List Work). visits parts ++ ws) (reverse-append new (o ∷ []))
 
       pub step_expand : (n r : ℕ) (rest : List ℕ) → w ≡ Visit (Nonterminal n) → rs ≡ r ∷ rest → (last_first : List Symbol) → reverse last_first ≡ G.body n r → (after : List Work) →

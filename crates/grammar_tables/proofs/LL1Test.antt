@@ -1,4 +1,4 @@
--- What the tests of a listed grammar show.
+-- A listed grammar that passes the test is LL(1).
 use Rattle.std.specs.Prelude.{◌≡◌, ℕ, suc, zero, Bool, true, false, not, if◌then◌else◌, ◌&&◌, ◌||◌, List, [], ◌∷◌, ◌++◌, length, map, get_or, nat_lt, nat_eq, Option, Some, None, ◌<◌, ◌+◌, ◌⊎◌}
 use Rattle.std.proofs.Common.{refl, sym, ◌∙◌, ap, subst, true≢false, arith, inl, inr}
 use Rattle.grammar_tables.specs.declared.symbol.Symbol.{Symbol}
@@ -103,10 +103,10 @@ next_none None e = refl
 next_none (Some j) e = absurd cc
 
 module _ (firsts : List (List ℕ)) (k : Option ℕ) where
-  -- the alternative that is begun stands there, and begins with the kind
-  pub begun_there : (alts : List (List Symbol)) (i : ℕ) → beginning_with firsts k alts ≡ Some i → (i < length alts) × (is_in k (first_of_body firsts (get_or alts i [])) ≡ true)
-  begun_there [] i e = absurd cc
-  begun_there (ss ∷ alts) i e = by (is_in k (first_of_body firsts ss)) refl (begun_there alts) e
+  -- the alternative that is found stands there, and begins with the kind
+  pub beginning_there : (alts : List (List Symbol)) (i : ℕ) → beginning_with firsts k alts ≡ Some i → (i < length alts) × (is_in k (first_of_body firsts (get_or alts i [])) ≡ true)
+  beginning_there [] i e = absurd cc
+  beginning_there (ss ∷ alts) i e = by (is_in k (first_of_body firsts ss)) refl (beginning_there alts) e
     where
       by : (b : Bool) → is_in k (first_of_body firsts ss) ≡ b → ((j : ℕ) → beginning_with firsts k alts ≡ Some j → (j < length alts) × (is_in k (first_of_body firsts (get_or alts j [])) ≡ true)) →
           (if b then Some 0 else next_number (beginning_with firsts k alts)) ≡ Some i → (i < length (ss ∷ alts)) × (is_in k (first_of_body firsts (get_or (ss ∷ alts) i [])) ≡ true)
@@ -118,23 +118,23 @@ module _ (firsts : List (List ℕ)) (k : Option ℕ) where
   among (b ∷ bs) zero f = in_left k (first_of_body firsts b) (first_of_alternatives firsts bs) f
   among (b ∷ bs) (suc j) f = in_right k (first_of_body firsts b) (first_of_alternatives firsts bs) (among bs j f)
 
-  pub begun_in : (alts : List (List Symbol)) (i : ℕ) → are_distinct (first_of_alternatives firsts alts) ≡ true → i < length alts → is_in k (first_of_body firsts (get_or alts i [])) ≡ true → beginning_with firsts k alts ≡ Some i
-  begun_in [] i d l e = absurd (omega arith)
-  begun_in (ss ∷ alts) zero d l e = rw e refl
-  begun_in (ss ∷ alts) (suc i) d l e = by (is_in k (first_of_body firsts ss)) refl (begun_in alts i (distinct_behind (first_of_body firsts ss) (first_of_alternatives firsts alts) d) (omega arith) e)
+  pub beginning_in : (alts : List (List Symbol)) (i : ℕ) → are_distinct (first_of_alternatives firsts alts) ≡ true → i < length alts → is_in k (first_of_body firsts (get_or alts i [])) ≡ true → beginning_with firsts k alts ≡ Some i
+  beginning_in [] i d l e = absurd (omega arith)
+  beginning_in (ss ∷ alts) zero d l e = rw e refl
+  beginning_in (ss ∷ alts) (suc i) d l e = by (is_in k (first_of_body firsts ss)) refl (beginning_in alts i (distinct_behind (first_of_body firsts ss) (first_of_alternatives firsts alts) d) (omega arith) e)
     where
       by : (b : Bool) → is_in k (first_of_body firsts ss) ≡ b → beginning_with firsts k alts ≡ Some i → (if b then Some 0 else next_number (beginning_with firsts k alts)) ≡ Some (suc i)
       by true f g = absurd (not_both k (first_of_body firsts ss) (first_of_alternatives firsts alts) d f (among alts i e))
       by false f g = rw g refl
 
-  -- none is begun where the kind is not among those of the alternatives
-  pub begun_none : (alts : List (List Symbol)) → beginning_with firsts k alts ≡ None → is_in k (first_of_alternatives firsts alts) ≡ true → ⊥
-  begun_none [] e f = nowhere k f
+  -- none is found where the kind is not among those of the alternatives
+  pub beginning_none : (alts : List (List Symbol)) → beginning_with firsts k alts ≡ None → is_in k (first_of_alternatives firsts alts) ≡ true → ⊥
+  beginning_none [] e f = nowhere k f
     where
       nowhere : (j : Option ℕ) → is_in j [] ≡ true → ⊥
       nowhere None e = true≢false (sym e)
       nowhere (Some j) e = true≢false (sym e)
-  begun_none (ss ∷ alts) e f = by (is_in k (first_of_body firsts ss)) refl (begun_none alts) e
+  beginning_none (ss ∷ alts) e f = by (is_in k (first_of_body firsts ss)) refl (beginning_none alts) e
     where
       by : (b : Bool) → is_in k (first_of_body firsts ss) ≡ b → (beginning_with firsts k alts ≡ None → is_in k (first_of_alternatives firsts alts) ≡ true → ⊥) →
           (if b then Some 0 else next_number (beginning_with firsts k alts)) ≡ None → ⊥
@@ -205,7 +205,7 @@ module _ (firsts : List (List ℕ)) (g : List (List (List Symbol))) (depths : Li
 
   begins_some : (n : ℕ) (k : Option ℕ) (i : ℕ) → beginning_with firsts k (get_or g n []) ≡ Some i → begins (grammar_with firsts g) n k ≡ true
   unfolding grammar_with
-  begins_some n k i e = rw e (some_parts k (get_or (get_or g n []) i []) (begun_there firsts k (get_or g n []) i e).1)
+  begins_some n k i e = rw e (some_parts k (get_or (get_or g n []) i []) (beginning_there firsts k (get_or g n []) i e).1)
 
   begins_none : (n : ℕ) (k : Option ℕ) → beginning_with firsts k (get_or g n []) ≡ None → begins (grammar_with firsts g) n k ≡ false
   unfolding grammar_with
@@ -219,7 +219,7 @@ module _ (firsts : List (List ℕ)) (g : List (List (List Symbol))) (depths : Li
   begins_in n k e = by (beginning_with firsts k (get_or g n [])) refl
     where
       by : (o : Option ℕ) → beginning_with firsts k (get_or g n []) ≡ o → begins (grammar_with firsts g) n k ≡ true
-      by None f = absurd (begun_none firsts k (get_or g n []) f (subst (λ (ks : List ℕ). is_in k ks ≡ true) (kinds_are n) e))
+      by None f = absurd (beginning_none firsts k (get_or g n []) f (subst (λ (ks : List ℕ). is_in k ks ≡ true) (kinds_are n) e))
       by (Some i) f = begins_some n k i f
 
   pub in_begins : (n : ℕ) (k : Option ℕ) → begins (grammar_with firsts g) n k ≡ true → is_in k (get_or firsts n []) ≡ true
@@ -227,7 +227,7 @@ module _ (firsts : List (List ℕ)) (g : List (List (List Symbol))) (depths : Li
     where
       by : (o : Option ℕ) → beginning_with firsts k (get_or g n []) ≡ o → is_in k (get_or firsts n []) ≡ true
       by None f = absurd (true≢false (sym e ∙ begins_none n k f))
-      by (Some i) f = subst (λ (ks : List ℕ). is_in k ks ≡ true) (sym (kinds_are n)) (among firsts k (get_or g n []) i (begun_there firsts k (get_or g n []) i f).1)
+      by (Some i) f = subst (λ (ks : List ℕ). is_in k ks ≡ true) (sym (kinds_are n)) (among firsts k (get_or g n []) i (beginning_there firsts k (get_or g n []) i f).1)
 
   can_begin : (k : Option ℕ) (ps : List Symbol) → is_in k (first_of_body firsts ps) ≡ true → CanBegin (grammar_with firsts g) ps k
   unfolding CanBegin
@@ -247,14 +247,14 @@ module _ (firsts : List (List ℕ)) (g : List (List (List Symbol))) (depths : Li
   own : (n r : ℕ) (k : Option ℕ) → (grammar_with firsts g).predict n k ≡ Some r → (grammar_with firsts g).has n r ≡ true
   unfolding grammar_with
   own n r k e = elim (chosen_cases k (get_or g n []) r e) [
-    | inl f ↦ lt_true r (length (get_or g n [])) (begun_there firsts k (get_or g n []) r f).0
+    | inl f ↦ lt_true r (length (get_or g n [])) (beginning_there firsts k (get_or g n []) r f).0
     | inr f ↦ lt_true r (length (get_or g n [])) (empty_there (get_or g n []) r f.1).0
   ]
 
   greedy : (n r : ℕ) (k : Option ℕ) → (grammar_with firsts g).predict n k ≡ Some r → IsGreedy (grammar_with firsts g) n ((grammar_with firsts g).body n r) k
   unfolding grammar_with IsGreedy
   greedy n r k e = elim (chosen_cases k (get_or g n []) r e) [
-    | inl f ↦ long (get_or (get_or g n []) r []) (begun_there firsts k (get_or g n []) r f).1
+    | inl f ↦ long (get_or (get_or g n []) r []) (beginning_there firsts k (get_or g n []) r f).1
     | inr f ↦ rw ((empty_there (get_or g n []) r f.1).1) (begins_none n k f.0)
   ]
     where
@@ -265,7 +265,7 @@ module _ (firsts : List (List ℕ)) (g : List (List (List Symbol))) (depths : Li
   starts : (n r : ℕ) (k : Option ℕ) → (grammar_with firsts g).predict n k ≡ Some r → CanBegin (grammar_with firsts g) ((grammar_with firsts g).body n r) k
   unfolding grammar_with CanBegin
   starts n r k e = elim (chosen_cases k (get_or g n []) r e) [
-    | inl f ↦ can_begin k (get_or (get_or g n []) r []) (begun_there firsts k (get_or g n []) r f).1
+    | inl f ↦ can_begin k (get_or (get_or g n []) r []) (beginning_there firsts k (get_or g n []) r f).1
     | inr f ↦ rw ((empty_there (get_or g n []) r f.1).1) tt
   ]
 
@@ -278,7 +278,7 @@ module _ (firsts : List (List ℕ)) (g : List (List (List Symbol))) (depths : Li
       l = lt_less r (length (get_or g n [])) e
 
       by : (ps : List Symbol) → get_or (get_or g n []) r [] ≡ ps → IsGreedy (grammar_with firsts g) n ps k → CanBegin (grammar_with firsts g) ps k → predicted firsts k (get_or g n []) ≡ Some r
-      by (p ∷ ps) i f c = rw (begun_in firsts k (get_or g n []) r (distinct n r l) l (rw i (in_head k p ps c))) refl
+      by (p ∷ ps) i f c = rw (beginning_in firsts k (get_or g n []) r (distinct n r l) l (rw i (in_head k p ps c))) refl
       by [] i f c = none (beginning_with firsts k (get_or g n [])) refl (unfold IsGreedy in f)
         where
           none : (o : Option ℕ) → beginning_with firsts k (get_or g n []) ≡ o → begins (grammar_with firsts g) n k ≡ false → predicted firsts k (get_or g n []) ≡ Some r
@@ -297,5 +297,5 @@ module _ (firsts : List (List ℕ)) (g : List (List (List Symbol))) (depths : Li
         lt_less (depth_of depths m) (depth_of depths n) (and_right (is_none (empty_alternative (get_or g m []))) (nat_lt (depth_of depths m) (depth_of depths n)) h),
       )
 
-  pub exact : IsLL1 (grammar_with firsts g) (depth_of depths)
-  exact = record { own = own; greedy = greedy; starts = starts; found = found; heads = heads }
+  pub is_ll1_grammar : IsLL1 (grammar_with firsts g) (depth_of depths)
+  is_ll1_grammar = record { own = own; greedy = greedy; starts = starts; found = found; heads = heads }

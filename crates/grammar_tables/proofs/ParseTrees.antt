@@ -1,4 +1,4 @@
--- What is spelled has one tree, and its derivation is that of the tree.
+-- A derivation is that of a tree.
 use Rattle.std.specs.Prelude.{◌≡◌, ℕ, ◌+◌, List, [], ◌∷◌, ◌++◌, length}
 use Rattle.std.proofs.Common.{refl, sym, ◌∙◌, ap, append_assoc, append-nil, arith}
 use Rattle.grammar_tables.specs.declared.symbol.Symbol.{Symbol}

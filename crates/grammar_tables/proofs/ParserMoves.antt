@@ -1,4 +1,4 @@
--- The steps of the reader, and why it ends.
+-- The moves of the parser's loop, and why it ends.
 use Rattle.std.specs.Prelude.{◌≡◌, ℕ, suc, Bool, true, false, if◌then◌else◌, List, [], ◌∷◌, ◌++◌, Option, Some, None, ◌<◌, ◌≤◌, ◌+◌, ◌-◌, ◌*◌, ◌^◌, length, drop, reverse, get_or}
 use Rattle.std.proofs.Common.{refl, sym, ◌∙◌, ap, subst, drop_of_length-le, arith}
 use Rattle.std.proofs.lemmas.List.{nil_from_length, reverse-append, drop_more, length-reverse}
@@ -12,7 +12,7 @@ use Rattle.grammar_tables.specs.declared.parsing.ParseError.TheVariants.{Refused
 use Rattle.grammar_tables.specs.Answers.{IsParseError, IsRefusedAt}
 use Rattle.grammar_tables.specs.LL1.{IsLL1, CanBegin, HasHead}
 
--- a bound on the steps before a token is read
+-- a bound on the expansions before a token is shifted
 abbrev pub weight : Grammar → (ℕ → ℕ) → List Symbol → Option ℕ → ℕ
 weight G d [] k = 0
 weight G d (Terminal j ∷ ss) k = 1
@@ -54,7 +54,7 @@ pub all_behind-reject : (rs : List ℕ) (ss : List Symbol) (ys : List ℕ) → a
 all_behind-reject [] ss ys = refl
 all_behind-reject (r ∷ rs) ss ys = ap (led_by r) (all_behind-reject rs ss ys)
 
--- the reading of the goal goes on as that of what is still wanted
+-- the parse of the goal goes on as that of what is still expected
 pub record Along (G : Grammar) (goal : List Symbol) (xs rs : List ℕ) (ss : List Symbol) (ys : List ℕ) : Type 0 where
   pub on : (o : Outcome) → Parses G ss ys o → Parses G goal xs (all_behind rs o)
 
@@ -81,7 +81,7 @@ module _ (G : Grammar) (goal : List Symbol) (xs rs : List ℕ) where
   pub along_refuse : (n : ℕ) (ss : List Symbol) (ys : List ℕ) → G.predict n (next_kind ys) ≡ None → Along G goal xs rs (Nonterminal n ∷ ss) ys → Parses G goal xs (reject (Nonterminal n ∷ ss) ys)
   along_refuse n ss ys e a = rw (← all_behind-reject rs (Nonterminal n ∷ ss) ys) (a.on (reject (Nonterminal n ∷ ss) ys) (refuse e))
 
--- the last symbol of the stack is the next one that is wanted
+-- the last symbol of the stack is the next one that is expected
 pub reverse_last : (ss : List Symbol) (s : Symbol) → reverse (ss ++ s ∷ []) ≡ s ∷ reverse ss
 reverse_last ss s = reverse-append ss (s ∷ [])
 

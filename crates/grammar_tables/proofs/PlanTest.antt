@@ -1,4 +1,4 @@
--- What the test of a plan shows.
+-- A plan that passes the test is right.
 use Rattle.std.specs.Prelude.{◌≡◌, ℕ, suc, zero, Bool, true, false, not, ◌&&◌, List, [], ◌∷◌, length, get_or, nat_lt, nat_eq, Some, None, ◌<◌}
 use Rattle.std.proofs.Common.{refl, sym, ◌∙◌, subst, true≢false, arith, inl, inr}
 use Rattle.grammar_tables.specs.declared.symbol.Symbol.{Symbol}

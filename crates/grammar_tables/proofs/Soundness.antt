@@ -1,4 +1,4 @@
--- What is read is spelled, what is spelled is read, and a text is read in one way.
+-- What the parser accepts is derived, and what is derived is accepted.
 use Rattle.std.specs.Prelude.{◌≡◌, ℕ, true, List, [], ◌∷◌, ◌++◌, Option, Some}
 use Rattle.std.proofs.Common.{refl, sym, ◌∙◌, ap, subst}
 use Rattle.grammar_tables.specs.declared.symbol.Symbol.{Symbol}
@@ -12,13 +12,13 @@ use Rattle.grammar_tables.specs.LL1.{IsLL1, CanBegin, HasNoEmpty, HasHead}
 pub some_inj : {a b : ℕ} → Some a ≡ Some b → a ≡ b
 some_inj e = cc
 
-pub rules_of : Outcome → List ℕ
-rules_of (accept rs) = rs
-rules_of (reject ss ys) = []
+pub derivation_of : Outcome → List ℕ
+derivation_of (accept rs) = rs
+derivation_of (reject ss ys) = []
 
 pub accept_inj : {rs qs : List ℕ} → accept rs ≡ accept qs → rs ≡ qs
-unfolding rules_of
-accept_inj e = ap rules_of e
+unfolding derivation_of
+accept_inj e = ap derivation_of e
 
 module _ (G : Grammar) (depth : ℕ → ℕ) (s : IsLL1 G depth) where
   -- the outcome is a variable for the induction
@@ -38,7 +38,7 @@ module _ (G : Grammar) (depth : ℕ → ℕ) (s : IsLL1 G depth) where
   pub sound : {ss : List Symbol} {xs rs : List ℕ} → Parses G ss xs (accept rs) → Derives G ss xs rs
   sound q = sound_of q refl
 
-  -- the first symbol has no empty rule
+  -- the first symbol has no empty alternative
   pub Nonnullable : List Symbol → Type 0
   Nonnullable [] = Unit {0}
   Nonnullable (Terminal k ∷ ss) = Unit {0}
@@ -57,7 +57,7 @@ module _ (G : Grammar) (depth : ℕ → ℕ) (s : IsLL1 G depth) where
   unfolding IsGreedy
   predicted n r k p ps e f c = s.found n r k e (rw f tt) (rw f c)
 
-  -- what the symbols spell begins as they can begin
+  -- what the symbols derive begins as they can begin
   front : {ts : List Symbol} {xs rs : List ℕ} → Derives G ts xs rs → (ps us : List Symbol) → ts ≡ ps ++ us → Nonnullable ps → CanBegin G ps (next_kind xs)
   unfolding CanBegin Nonnullable
   front q [] us e h = tt

@@ -9,7 +9,7 @@ use Rattle.grammar_tables.specs.First.{grammar_with, depth_of}
 use Rattle.grammar_tables.specs.PlanTest.{PlanLists, plan_of}
 use Rattle.grammar_tables.specs.Statements.{DerivesASum, SumsAreLL1, SumsArePlanned}
 use Rattle.grammar_tables.specs.Sums.{sum_lines, sums}
-use Rattle.grammar_tables.proofs.LL1Test.{exact}
+use Rattle.grammar_tables.proofs.LL1Test.{is_ll1_grammar}
 use Rattle.grammar_tables.proofs.PlanTest.{plans}
 
 abbrev listed : List (List (List Symbol))
@@ -29,7 +29,7 @@ unfolding sums sum_lines
 are_sums = refl
 
 pub sums_are_ll1 : SumsAreLL1
-sums_are_ll1 = (depth_of depths, rw are_sums (exact firsts listed depths refl refl))
+sums_are_ll1 = (depth_of depths, rw are_sums (is_ll1_grammar firsts listed depths refl refl))
 
 pub sums_are_planned : SumsArePlanned
 unfolding sums sum_lines grammar_with

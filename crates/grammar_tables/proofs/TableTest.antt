@@ -9,7 +9,7 @@ use Rattle.grammar_tables.specs.Grammar.{Grammar}
 use Rattle.grammar_tables.specs.Tables.{TableLists, column_of, cell, prediction_at, index_of, body_at, grammar_of}
 use Rattle.grammar_tables.specs.First.{first_step, is_in, beginning_with, empty_alternative, first_some, predicted, grammar_with, all_of, each_from, is_ll1}
 use Rattle.grammar_tables.specs.TableTest.{same_symbol, same_symbols, cells_from, code_of, states_bodies, states_kinds, states_offsets, states_alternatives, flat_cells}
-use Rattle.grammar_tables.proofs.LL1Test.{and_left, and_right, nat_eq_same, lt_true, lt_less, each_at, kinds_are, begun_there, empty_there, among, or_cases}
+use Rattle.grammar_tables.proofs.LL1Test.{and_left, and_right, nat_eq_same, lt_true, lt_less, each_at, kinds_are, beginning_there, empty_there, among, or_cases}
 
 one_symbol : (s t : Symbol) → same_symbol s t ≡ true → s ≡ t
 one_symbol (Terminal j) (Terminal k) e = ap Terminal (nat_eq_same j k e)
@@ -92,8 +92,8 @@ module _ (firsts : List (List ℕ)) (g : List (List (List Symbol))) (depths : Li
   test₃ : (n : ℕ) → n < length g → states_offsets t firsts n (get_or g n []) ≡ true
   test₃ n l = and_right (nat_lt (length (get_or g n [])) 255) (states_offsets t firsts n (get_or g n [])) (test₂ n l)
 
-  bases_are : (n : ℕ) → n < length g → get_or t.offsets n 0 + length (get_or g n []) ≡ get_or t.offsets (n + 1) 0
-  bases_are n l = nat_eq_same (get_or t.offsets n 0 + length (get_or g n [])) (get_or t.offsets (n + 1) 0) (and_left (nat_eq (get_or t.offsets n 0 + length (get_or g n [])) (get_or t.offsets (n + 1) 0)) (states_kinds t firsts n (get_or g n [])) (test₃ n l))
+  offsets_are : (n : ℕ) → n < length g → get_or t.offsets n 0 + length (get_or g n []) ≡ get_or t.offsets (n + 1) 0
+  offsets_are n l = nat_eq_same (get_or t.offsets n 0 + length (get_or g n [])) (get_or t.offsets (n + 1) 0) (and_left (nat_eq (get_or t.offsets n 0 + length (get_or g n [])) (get_or t.offsets (n + 1) 0)) (states_kinds t firsts n (get_or g n [])) (test₃ n l))
 
   test₄ : (n : ℕ) → n < length g → states_kinds t firsts n (get_or g n []) ≡ true
   test₄ n l = and_right (nat_eq (get_or t.offsets n 0 + length (get_or g n [])) (get_or t.offsets (n + 1) 0)) (states_kinds t firsts n (get_or g n [])) (test₃ n l)
@@ -101,14 +101,14 @@ module _ (firsts : List (List ℕ)) (g : List (List (List Symbol))) (depths : Li
   cell_of : (n j : ℕ) → n < length g → j < 128 → get_or t.predictions (n * 128 + j) 0 ≡ get_or (cells_from (row n) 0 127) j 0
   cell_of n j l m = sym (get_or-drop (n * 128) t.predictions j 0) ∙ sym (get_or-take 128 (drop (n * 128) t.predictions) j 0 m) ∙ ap (λ (cs : List ℕ). get_or cs j 0) (cells_are n l)
 
-  -- the cell says what is chosen
+  -- the cell says what is predicted
   decoded : (n : ℕ) (k : Option ℕ) → n < length g → cell (row n k) ≡ predicted firsts k (get_or g n [])
   decoded n k l = by (predicted firsts k (get_or g n [])) refl
     where
       inside : (i : ℕ) (o p : Option ℕ) → beginning_with firsts k (get_or g n []) ≡ o → empty_alternative (get_or g n []) ≡ p → first_some o p ≡ Some i → i < length (get_or g n [])
       inside i None None a b e = absurd cc
       inside i None (Some j) a b e = (let z : j ≡ i = cc in rw (← z) (empty_there (get_or g n []) j b).0)
-      inside i (Some j) p a b e = (let z : j ≡ i = cc in rw (← z) (begun_there firsts k (get_or g n []) j a).0)
+      inside i (Some j) p a b e = (let z : j ≡ i = cc in rw (← z) (beginning_there firsts k (get_or g n []) j a).0)
 
       by : (o : Option ℕ) → predicted firsts k (get_or g n []) ≡ o → cell (code_of o) ≡ o
       by None e = refl
@@ -128,7 +128,7 @@ module _ (firsts : List (List ℕ)) (g : List (List (List Symbol))) (depths : Li
       by : (o : Option ℕ) → beginning_with firsts (Some k) (get_or g n []) ≡ o → beginning_with firsts (Some k) (get_or g n []) ≡ None
       by None e = e
       by (Some i) e = absurd (small (get_or firsts n []) (and_left (all_of (λ j. nat_lt j 126) (get_or firsts n [])) (states_bodies t n (get_or g n [])) (test₄ n l))
-          (subst (λ (ks : List ℕ). is_in (Some k) ks ≡ true) (sym (kinds_are firsts g depths fixed tested n)) (among firsts (Some k) (get_or g n []) i (begun_there firsts (Some k) (get_or g n []) i e).1)))
+          (subst (λ (ks : List ℕ). is_in (Some k) ks ≡ true) (sym (kinds_are firsts g depths fixed tested n)) (among firsts (Some k) (get_or g n []) i (beginning_there firsts (Some k) (get_or g n []) i e).1)))
 
   within : (n j : ℕ) → n < length g → j < 128 → nat_lt (n * 128 + j) (length t.predictions) ≡ true
   within n j l m = lt_true (n * 128 + j) (length t.predictions) (omega (arith, predictions))
@@ -139,8 +139,8 @@ module _ (firsts : List (List ℕ)) (g : List (List (List Symbol))) (depths : Li
   at_column : (n j : ℕ) (k : Option ℕ) → n < length g → j < 128 → get_or (cells_from (row n) 0 127) j 0 ≡ row n k → prediction_at t n j ≡ predicted firsts k (get_or g n [])
   at_column n j k l m e = rw (within n j l m, cell_of n j l m, e) (decoded n k l)
 
-  choose_same : (n : ℕ) (k : Option ℕ) → prediction_at t n (column_of k) ≡ predicted firsts k (get_or g n [])
-  choose_same n k = elim (lt_cases n (length g)) [
+  predictions_same : (n : ℕ) (k : Option ℕ) → prediction_at t n (column_of k) ≡ predicted firsts k (get_or g n [])
+  predictions_same n k = elim (lt_cases n (length g)) [
     | inr l ↦ rw (past n (column_of k) l, get_or_past g n [] l) refl
     | inl l ↦ inside k l
   ]
@@ -159,21 +159,21 @@ module _ (firsts : List (List ℕ)) (g : List (List (List Symbol))) (depths : Li
   nothing true false x e = refl
   nothing false b x e = refl
 
-  parts_same : (n i : ℕ) → reverse (body_at t n i) ≡ get_or (get_or g n []) i []
-  parts_same n i = elim (lt_cases n (length g)) [
+  bodies_same : (n i : ℕ) → reverse (body_at t n i) ≡ get_or (get_or g n []) i []
+  bodies_same n i = elim (lt_cases n (length g)) [
     | inr l ↦ rw (ge_false (n + 1) (length t.offsets) (omega (arith, offsets, l)), get_or_past g n [] l) refl
     | inl l ↦ elim (lt_cases i (length (get_or g n []))) [
       | inl m ↦ all_symbols (reverse (body_at t n i)) (get_or (get_or g n []) i [])
           (each_at (λ j ss. same_symbols (reverse (body_at t n j)) ss) 0 (get_or g n []) [] i i (and_right (all_of (λ k. nat_lt k 126) (get_or firsts n [])) (states_bodies t n (get_or g n [])) (test₄ n l)) m (omega arith))
       | inr m ↦ nothing (nat_lt (n + 1) (length t.offsets)) (nat_lt (index_of t n i) (get_or t.offsets (n + 1) 0)) _
-          (let h = bases_are n l in ge_false (index_of t n i) (get_or t.offsets (n + 1) 0) (omega (arith, h, m))) ∙ sym (get_or_past (get_or g n []) i [] m)
+          (let h = offsets_are n l in ge_false (index_of t n i) (get_or t.offsets (n + 1) 0) (omega (arith, h, m))) ∙ sym (get_or_past (get_or g n []) i [] m)
     ]
   ]
 
   has_same : (n i : ℕ) → nat_lt (index_of t n i) (get_or t.offsets (n + 1) 0) ≡ nat_lt i (length (get_or g n []))
   has_same n i = elim (lt_cases n (length g)) [
     | inr l ↦ rw (get_or_past t.offsets (n + 1) 0 (omega (arith, offsets, l)), get_or_past g n [] l) (ge_false (index_of t n i) 0 (omega arith) ∙ sym (ge_false i 0 (omega arith)))
-    | inl l ↦ rw (← bases_are n l) (lt_shift (get_or t.offsets n 0) i (length (get_or g n [])))
+    | inl l ↦ rw (← offsets_are n l) (lt_shift (get_or t.offsets n 0) i (length (get_or g n [])))
   ]
 
   value_of : (ℕ → ℕ → Bool) → (ℕ → ℕ → List Symbol) → (ℕ → Option ℕ → Option ℕ) → Grammar
@@ -182,5 +182,5 @@ module _ (firsts : List (List ℕ)) (g : List (List (List Symbol))) (depths : Li
   pub states : grammar_of t ≡ grammar_with firsts g
   unfolding grammar_of grammar_with value_of
   states = ap (λ (h : ℕ → ℕ → Bool). value_of h (λ n i. reverse (body_at t n i)) (λ n k. prediction_at t n (column_of k))) (fun_ext (λ n. fun_ext (λ i. has_same n i)))
-      ∙ ap (λ (p : ℕ → ℕ → List Symbol). value_of (λ n i. nat_lt i (length (get_or g n []))) p (λ n k. prediction_at t n (column_of k))) (fun_ext (λ n. fun_ext (λ i. parts_same n i)))
-      ∙ ap (value_of (λ n i. nat_lt i (length (get_or g n []))) (λ n i. get_or (get_or g n []) i [])) (fun_ext (λ n. fun_ext (λ k. choose_same n k)))
+      ∙ ap (λ (p : ℕ → ℕ → List Symbol). value_of (λ n i. nat_lt i (length (get_or g n []))) p (λ n k. prediction_at t n (column_of k))) (fun_ext (λ n. fun_ext (λ i. bodies_same n i)))
+      ∙ ap (value_of (λ n i. nat_lt i (length (get_or g n []))) (λ n i. get_or (get_or g n []) i [])) (fun_ext (λ n. fun_ext (λ k. predictions_same n k)))

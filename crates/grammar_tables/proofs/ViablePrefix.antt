@@ -33,7 +33,7 @@ module _ (G : Grammar) (depth : ℕ → ℕ) (s : IsLL1 G depth) (p : Plan) (h :
   short_append (Terminal k ∷ ps) ss = ap (λ (ts : List ℕ). k ∷ ts) (short_append ps ss)
   short_append (Nonterminal m ∷ ps) ss = ap (λ (ts : List ℕ). p.short m ++ ts) (short_append ps ss) ∙ sym (append_assoc (p.short m) (short_text p ps) (short_text p ss))
 
-  -- a rule in the place of its nonterminal
+  -- an alternative in the place of its nonterminal
   safe_parts : (n : ℕ) (ps ss : List Symbol) → Fits G p ps n → IsClear n (next_kind (short_text p ss)) → AreSafe ss → AreSafe (ps ++ ss)
   unfolding AreSafe Fits
   safe_parts n [] ss f g q = q
@@ -73,14 +73,14 @@ module _ (G : Grammar) (depth : ℕ → ℕ) (s : IsLL1 G depth) (p : Plan) (h :
   filled : (n : ℕ) → HasPlan G p n → Filled n
   filled n i = fill (suc (p.rank n)) n i (omega arith)
 
-  -- what is wanted can always be written
+  -- what is expected can always be derived
   pub completed : (ss : List Symbol) → AreSafe ss → (rs : List ℕ) × Derives G ss (short_text p ss) rs
   unfolding AreSafe Filled
   completed [] f = ([], done)
   completed (Terminal k ∷ ss) f = let z = completed ss f in (z.0, shift refl z.1)
   completed (Nonterminal n ∷ ss) f = let z = completed ss f.2 in filled n f.0 ss (short_text p ss) z.0 f.1 z.1
 
-  -- the tokens before a stop begin something that is spelled
+  -- the tokens before a stop begin a text that is derived
   pub record IsViable (ss : List Symbol) (xs ys : List ℕ) : Type 0 where
     pub prefix : List ℕ
     pub split : xs ≡ prefix ++ ys
@@ -92,7 +92,7 @@ module _ (G : Grammar) (depth : ℕ → ℕ) (s : IsLL1 G depth) (p : Plan) (h :
   at_once : (ss : List Symbol) (xs : List ℕ) → AreSafe ss → ((us ts : List ℕ) → next_kind us ≡ next_kind xs → Derives G ss us ts → ⊥) → IsViable ss xs xs
   at_once ss xs f g = let z = completed ss f in record { prefix = []; split = refl; zs = short_text p ss; rs = z.0; on = z.1; stuck = g }
 
-  -- the next token is that of the text, or none is read
+  -- the next token is that of the text, or none is shifted
   same_next : (prefix xs ys us : List ℕ) → xs ≡ prefix ++ ys → next_kind us ≡ next_kind ys → next_kind (prefix ++ us) ≡ next_kind xs
   same_next [] xs ys us e f = f ∙ ap next_kind (sym e)
   same_next (x ∷ prefix) xs ys us e f = ap next_kind (sym e)
@@ -109,31 +109,31 @@ module _ (G : Grammar) (depth : ℕ → ℕ) (s : IsLL1 G depth) (p : Plan) (h :
   behind_stop r (accept rs) ts ys e = absurd cc
   behind_stop r (reject ss xs) ts ys e = e
 
-  rule_same : (n r q : ℕ) (k j : Option ℕ) → G.predict n k ≡ Some r → k ≡ j → G.predict n j ≡ Some q → r ≡ q
-  rule_same n r q k j e f g = some_inj (sym e ∙ ap (G.predict n) f ∙ g)
+  alternative_same : (n r q : ℕ) (k j : Option ℕ) → G.predict n k ≡ Some r → k ≡ j → G.predict n j ≡ Some q → r ≡ q
+  alternative_same n r q k j e f g = some_inj (sym e ∙ ap (G.predict n) f ∙ g)
 
-  nothing_spelled : {us ts : List ℕ} (x : ℕ) → Derives G [] us ts → next_kind us ≡ Some x → ⊥
-  nothing_spelled x done e = cc
+  nothing_derived : {us ts : List ℕ} (x : ℕ) → Derives G [] us ts → next_kind us ≡ Some x → ⊥
+  nothing_derived x done e = cc
 
   no_token : {k : ℕ} {ss : List Symbol} {us ts : List ℕ} (ks : Option ℕ) → (ks ≡ Some k → ⊥) → Derives G (Terminal k ∷ ss) us ts → next_kind us ≡ ks → ⊥
   no_token ks f (shift {k} {x} e q) g = f (sym g ∙ ap Some e)
 
-  no_rule : {n : ℕ} {ss : List Symbol} {us ts : List ℕ} (ks : Option ℕ) → G.predict n ks ≡ None → Derives G (Nonterminal n ∷ ss) us ts → next_kind us ≡ ks → ⊥
-  no_rule {n} ks f (expand {ss = ss} r e g q) i = (let j : None ≡ Some r = sym f ∙ sym (ap (G.predict n) i) ∙ chooses G depth s ss e g q in cc)
+  no_alternative : {n : ℕ} {ss : List Symbol} {us ts : List ℕ} (ks : Option ℕ) → G.predict n ks ≡ None → Derives G (Nonterminal n ∷ ss) us ts → next_kind us ≡ ks → ⊥
+  no_alternative {n} ks f (expand {ss = ss} r e g q) i = (let j : None ≡ Some r = sym f ∙ sym (ap (G.predict n) i) ∙ chooses G depth s ss e g q in cc)
 
-  -- what is spelled with the same next token goes by the same rule
-  by_rule : {n : ℕ} {ss : List Symbol} {us ts : List ℕ} (r : ℕ) (ks : Option ℕ) → G.predict n ks ≡ Some r → Derives G (Nonterminal n ∷ ss) us ts → next_kind us ≡ ks →
+  -- what is derived with the same next token goes by the same alternative
+  by_alternative : {n : ℕ} {ss : List Symbol} {us ts : List ℕ} (r : ℕ) (ks : Option ℕ) → G.predict n ks ≡ Some r → Derives G (Nonterminal n ∷ ss) us ts → next_kind us ≡ ks →
       (qs : List ℕ) × Derives G (G.body n r ++ ss) us qs
-  by_rule {n} {ss} {us} r ks f (expand {ss = ss₂} {rs = rs} q e g y) i =
-      let same : q ≡ r = sym (rule_same n r q ks (next_kind us) f (sym i) (chooses G depth s ss₂ e g y)) in
+  by_alternative {n} {ss} {us} r ks f (expand {ss = ss₂} {rs = rs} q e g y) i =
+      let same : q ≡ r = sym (alternative_same n r q ks (next_kind us) f (sym i) (chooses G depth s ss₂ e g y)) in
       (rs, subst (λ (v : ℕ). Derives G (G.body n v ++ ss) us rs) same y)
 
-  unfolding_rule : (n r : ℕ) (ss : List Symbol) (xs ys : List ℕ) → AreSafe (Nonterminal n ∷ ss) → G.predict n (next_kind xs) ≡ Some r →
+  unfolding_alternative : (n r : ℕ) (ss : List Symbol) (xs ys : List ℕ) → AreSafe (Nonterminal n ∷ ss) → G.predict n (next_kind xs) ≡ Some r →
       IsViable (G.body n r ++ ss) xs ys → IsViable (Nonterminal n ∷ ss) xs ys
-  unfolding_rule n r ss xs ys f e V = by V.prefix refl
+  unfolding_alternative n r ss xs ys f e V = by V.prefix refl
     where
       stays : (us ts : List ℕ) → next_kind us ≡ next_kind ys → Derives G (Nonterminal n ∷ ss) (V.prefix ++ us) ts → ⊥
-      stays us ts i q = let z = by_rule r (next_kind xs) e q (same_next V.prefix xs ys us V.split i) in V.stuck us z.0 i z.1
+      stays us ts i q = let z = by_alternative r (next_kind xs) e q (same_next V.prefix xs ys us V.split i) in V.stuck us z.0 i z.1
 
       by : (us : List ℕ) → V.prefix ≡ us → IsViable (Nonterminal n ∷ ss) xs ys
       by [] i = (let j : xs ≡ ys = V.split ∙ ap (λ (us : List ℕ). us ++ ys) i in
@@ -149,25 +149,25 @@ module _ (G : Grammar) (depth : ℕ → ℕ) (s : IsLL1 G depth) (p : Plan) (h :
             stuck = stays;
           })
 
-  safe_rule : (n r : ℕ) (ss : List Symbol) (xs : List ℕ) → AreSafe (Nonterminal n ∷ ss) → G.predict n (next_kind xs) ≡ Some r → AreSafe (G.body n r ++ ss)
+  safe_alternative : (n r : ℕ) (ss : List Symbol) (xs : List ℕ) → AreSafe (Nonterminal n ∷ ss) → G.predict n (next_kind xs) ≡ Some r → AreSafe (G.body n r ++ ss)
   unfolding AreSafe
-  safe_rule n r ss xs f e = safe_parts n (G.body n r) ss (h.fitted n r (s.own n r (next_kind xs) e)) f.1 f.2
+  safe_alternative n r ss xs f e = safe_parts n (G.body n r) ss (h.fitted n r (s.own n r (next_kind xs) e)) f.1 f.2
 
   safe_behind : (k : ℕ) (ss : List Symbol) → AreSafe (Terminal k ∷ ss) → AreSafe ss
   unfolding AreSafe
   safe_behind k ss f = f
 
-  tail_spelled : {k x : ℕ} {ss : List Symbol} {us ts : List ℕ} → Derives G (Terminal k ∷ ss) (x ∷ us) ts → Derives G ss us ts
-  tail_spelled (shift e q) = q
+  tail_derived : {k x : ℕ} {ss : List Symbol} {us ts : List ℕ} → Derives G (Terminal k ∷ ss) (x ∷ us) ts → Derives G ss us ts
+  tail_derived (shift e q) = q
 
   viable_of : {ss : List Symbol} {xs : List ℕ} {o : Outcome} → Parses G ss xs o → AreSafe ss → (ts : List Symbol) (ys : List ℕ) → o ≡ reject ts ys → IsViable ss xs ys
   viable_of r_done f ts ys e = absurd cc
   viable_of (extra {x} {xs}) f ts ys e =
-      subst (λ (us : List ℕ). IsViable [] (x ∷ xs) us) (stop_rest [] ts (x ∷ xs) ys e) (at_once [] (x ∷ xs) f (λ us rs i q. nothing_spelled x q i))
+      subst (λ (us : List ℕ). IsViable [] (x ∷ xs) us) (stop_rest [] ts (x ∷ xs) ys e) (at_once [] (x ∷ xs) f (λ us rs i q. nothing_derived x q i))
   viable_of (miss {k} {ss} {xs} g) f ts ys e =
       subst (λ (us : List ℕ). IsViable (Terminal k ∷ ss) xs us) (stop_rest (Terminal k ∷ ss) ts xs ys e) (at_once (Terminal k ∷ ss) xs f (λ us rs i q. no_token (next_kind xs) g q i))
   viable_of (refuse {n} {ss} {xs} g) f ts ys e =
-      subst (λ (us : List ℕ). IsViable (Nonterminal n ∷ ss) xs us) (stop_rest (Nonterminal n ∷ ss) ts xs ys e) (at_once (Nonterminal n ∷ ss) xs f (λ us rs i q. no_rule (next_kind xs) g q i))
+      subst (λ (us : List ℕ). IsViable (Nonterminal n ∷ ss) xs us) (stop_rest (Nonterminal n ∷ ss) ts xs ys e) (at_once (Nonterminal n ∷ ss) xs f (λ us rs i q. no_alternative (next_kind xs) g q i))
   viable_of (r_shift {k} {x} {ss} {xs} g q) f ts ys e =
       let V = viable_of q (safe_behind k ss f) ts ys e in
       record {
@@ -176,10 +176,10 @@ module _ (G : Grammar) (depth : ℕ → ℕ) (s : IsLL1 G depth) (p : Plan) (h :
         zs = V.zs;
         rs = V.rs;
         on = shift g V.on;
-        stuck = λ us rs i y. V.stuck us rs i (tail_spelled y);
+        stuck = λ us rs i y. V.stuck us rs i (tail_derived y);
       }
   viable_of (r_expand {n} {ss} {xs} {o} r g q) f ts ys e =
-      unfolding_rule n r ss xs ys f g (viable_of q (safe_rule n r ss xs f g) ts ys (behind_stop r o ts ys e))
+      unfolding_alternative n r ss xs ys f g (viable_of q (safe_alternative n r ss xs f g) ts ys (behind_stop r o ts ys e))
 
   pub refused : (n : ℕ) → HasPlan G p n → (xs ys : List ℕ) (ts : List Symbol) → Parses G (Nonterminal n ∷ []) xs (reject ts ys) → IsRefusal G (Nonterminal n ∷ []) xs ys
   unfolding AreSafe IsClear

@@ -1,4 +1,4 @@
--- What a grammar owes so that its predictive parser is exact: LL(1) (Aho, Lam, Sethi, Ullman, "Compilers", 4.4.3) for greedy nonterminals, and a plan that brings each nonterminal to an end.
+-- What a grammar owes so that its predictive parser is is_ll1_grammar: LL(1) (Aho, Lam, Sethi, Ullman, "Compilers", 4.4.3) for greedy nonterminals, and a plan that brings each nonterminal to an end.
 use Rattle.std.specs.Prelude.{◌≡◌, ℕ, ◌<◌, Bool, true, false, List, [], ◌∷◌, ◌++◌, Option, Some, None}
 use Rattle.grammar_tables.specs.declared.symbol.Symbol.{Symbol}
 use Rattle.grammar_tables.specs.declared.symbol.Symbol.TheVariants.{Terminal, Nonterminal}

@@ -20,7 +20,7 @@ abbrev pub column_of : Option ℕ → ℕ
 column_of None = 127
 column_of (Some k) = if nat_lt k 126 then k else 126
 
--- 255 in a cell says that no alternative is chosen
+-- 255 in a cell says that no alternative is predicted
 abbrev pub cell : ℕ → Option ℕ
 cell i = if nat_lt i 255 then Some i else None
 

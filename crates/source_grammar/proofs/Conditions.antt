@@ -5,7 +5,7 @@ use Rattle.grammar_tables.specs.Ebnf.{expanded}
 use Rattle.grammar_tables.specs.LL1.{IsLL1, IsPlanned, HasPlan}
 use Rattle.grammar_tables.specs.First.{first_step, first_sets, depth_of, grammar_with, each_from, is_ll1}
 use Rattle.grammar_tables.specs.PlanTest.{plan_of, is_planned}
-use Rattle.grammar_tables.proofs.LL1Test.{exact}
+use Rattle.grammar_tables.proofs.LL1Test.{is_ll1_grammar}
 use Rattle.grammar_tables.proofs.PlanTest.{plans}
 use Rattle.source_grammar.specs.SourceGrammar.{lines, steps, source_grammar}
 use Rattle.source_grammar.proofs.Listed.{listed}
@@ -37,7 +37,7 @@ unfolding source_grammar
 is_source = rw (is_listed, are_first) refl
 
 pub source_is_ll1 : IsLL1 source_grammar (depth_of depths)
-source_is_ll1 = rw is_source (exact firsts listed depths is_fixed passes_ll1)
+source_is_ll1 = rw is_source (is_ll1_grammar firsts listed depths is_fixed passes_ll1)
 
 pub source_is_planned : IsPlanned source_grammar (plan_of plan)
 source_is_planned = rw is_source (plans firsts listed depths is_fixed passes_ll1 plan passes_plan)
