@@ -49,6 +49,19 @@ pub struct Expansion {
     pub first_value: usize,
 }
 
+impl Expansion {
+    fn new(nonterminal: u16, alternative: u8, first_token: usize, first_value: usize) -> Self
+        ensures { result ≡ record { nonterminal = nonterminal; alternative = alternative; first_token = first_token; first_value = first_value } }
+    {
+        Self {
+            nonterminal,
+            alternative,
+            first_token,
+            first_value,
+        }
+    }
+}
+
 /// What the evaluator has to do.
 #[derive(Clone, Copy)]
 pub enum Work {
@@ -166,13 +179,7 @@ pub fn evaluate<V: SemanticValue>(
                     if next >= derivation.len() {
                         return Ok(values);
                     }
-                    let alternative = derivation[next];
-                    let expansion = Expansion {
-                        nonterminal,
-                        alternative,
-                        first_token: at,
-                        first_value: values.len(),
-                    };
+                    let expansion = Expansion::new(nonterminal, derivation[next], at, values.len());
                     expand(&mut work, tables, expansion)?;
                     next += 1;
                 }
