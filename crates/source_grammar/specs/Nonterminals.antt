@@ -178,206 +178,209 @@ Match = nonterminal 57
 abbrev pub Arms : Form
 Arms = nonterminal 58
 
+abbrev pub AttributedArm : Form
+AttributedArm = nonterminal 59
+
 abbrev pub Loop : Form
-Loop = nonterminal 59
+Loop = nonterminal 60
 
 abbrev pub Condition : Form
-Condition = nonterminal 60
+Condition = nonterminal 61
 
 abbrev pub Expr : Form
-Expr = nonterminal 61
+Expr = nonterminal 62
 
 abbrev pub HeadExpr : Form
-HeadExpr = nonterminal 62
+HeadExpr = nonterminal 63
 
 abbrev pub StatementExpr : Form
-StatementExpr = nonterminal 63
+StatementExpr = nonterminal 64
 
 abbrev pub Or : Form
-Or = nonterminal 64
+Or = nonterminal 65
 
 abbrev pub HeadOr : Form
-HeadOr = nonterminal 65
+HeadOr = nonterminal 66
 
 abbrev pub StatementOr : Form
-StatementOr = nonterminal 66
+StatementOr = nonterminal 67
 
 abbrev pub And : Form
-And = nonterminal 67
+And = nonterminal 68
 
 abbrev pub HeadAnd : Form
-HeadAnd = nonterminal 68
+HeadAnd = nonterminal 69
 
 abbrev pub StatementAnd : Form
-StatementAnd = nonterminal 69
+StatementAnd = nonterminal 70
 
 abbrev pub Cmp : Form
-Cmp = nonterminal 70
+Cmp = nonterminal 71
 
 abbrev pub HeadCmp : Form
-HeadCmp = nonterminal 71
+HeadCmp = nonterminal 72
 
 abbrev pub StatementCmp : Form
-StatementCmp = nonterminal 72
+StatementCmp = nonterminal 73
 
 abbrev pub Sum : Form
-Sum = nonterminal 73
+Sum = nonterminal 74
 
 abbrev pub HeadSum : Form
-HeadSum = nonterminal 74
+HeadSum = nonterminal 75
 
 abbrev pub StatementSum : Form
-StatementSum = nonterminal 75
+StatementSum = nonterminal 76
 
 abbrev pub Prod : Form
-Prod = nonterminal 76
+Prod = nonterminal 77
 
 abbrev pub HeadProd : Form
-HeadProd = nonterminal 77
+HeadProd = nonterminal 78
 
 abbrev pub StatementProd : Form
-StatementProd = nonterminal 78
+StatementProd = nonterminal 79
 
 abbrev pub Cast : Form
-Cast = nonterminal 79
+Cast = nonterminal 80
 
 abbrev pub HeadCast : Form
-HeadCast = nonterminal 80
+HeadCast = nonterminal 81
 
 abbrev pub StatementCast : Form
-StatementCast = nonterminal 81
+StatementCast = nonterminal 82
 
 abbrev pub Unary : Form
-Unary = nonterminal 82
+Unary = nonterminal 83
 
 abbrev pub HeadUnary : Form
-HeadUnary = nonterminal 83
+HeadUnary = nonterminal 84
 
 abbrev pub StatementUnary : Form
-StatementUnary = nonterminal 84
+StatementUnary = nonterminal 85
 
 abbrev pub Postfix : Form
-Postfix = nonterminal 85
+Postfix = nonterminal 86
 
 abbrev pub HeadPostfix : Form
-HeadPostfix = nonterminal 86
+HeadPostfix = nonterminal 87
 
 abbrev pub StatementPostfix : Form
-StatementPostfix = nonterminal 87
+StatementPostfix = nonterminal 88
 
 abbrev pub Arguments : Form
-Arguments = nonterminal 88
+Arguments = nonterminal 89
 
 abbrev pub Prim : Form
-Prim = nonterminal 89
+Prim = nonterminal 90
 
 abbrev pub HeadPrim : Form
-HeadPrim = nonterminal 90
+HeadPrim = nonterminal 91
 
 abbrev pub StatementPrim : Form
-StatementPrim = nonterminal 91
+StatementPrim = nonterminal 92
 
 abbrev pub HeadReturn : Form
-HeadReturn = nonterminal 92
+HeadReturn = nonterminal 93
 
 abbrev pub AttributedPrim : Form
-AttributedPrim = nonterminal 93
+AttributedPrim = nonterminal 94
 
 abbrev pub AttributedHeadPrim : Form
-AttributedHeadPrim = nonterminal 94
+AttributedHeadPrim = nonterminal 95
 
 abbrev pub Atom : Form
-Atom = nonterminal 95
+Atom = nonterminal 96
 
 abbrev pub StructLiteral : Form
-StructLiteral = nonterminal 96
+StructLiteral = nonterminal 97
 
 abbrev pub FieldExpr : Form
-FieldExpr = nonterminal 97
+FieldExpr = nonterminal 98
 
 abbrev pub Closure : Form
-Closure = nonterminal 98
+Closure = nonterminal 99
 
 abbrev pub HeadClosure : Form
-HeadClosure = nonterminal 99
+HeadClosure = nonterminal 100
 
 abbrev pub TypedName : Form
-TypedName = nonterminal 100
+TypedName = nonterminal 101
 
 abbrev pub Term : Form
-Term = nonterminal 101
+Term = nonterminal 102
 
 abbrev pub HeadTerm : Form
-HeadTerm = nonterminal 102
+HeadTerm = nonterminal 103
 
 abbrev pub TermOr : Form
-TermOr = nonterminal 103
+TermOr = nonterminal 104
 
 abbrev pub HeadTermOr : Form
-HeadTermOr = nonterminal 104
+HeadTermOr = nonterminal 105
 
 abbrev pub TermAnd : Form
-TermAnd = nonterminal 105
+TermAnd = nonterminal 106
 
 abbrev pub HeadTermAnd : Form
-HeadTermAnd = nonterminal 106
+HeadTermAnd = nonterminal 107
 
 abbrev pub TermCmp : Form
-TermCmp = nonterminal 107
+TermCmp = nonterminal 108
 
 abbrev pub HeadTermCmp : Form
-HeadTermCmp = nonterminal 108
+HeadTermCmp = nonterminal 109
 
 abbrev pub TermSum : Form
-TermSum = nonterminal 109
+TermSum = nonterminal 110
 
 abbrev pub HeadTermSum : Form
-HeadTermSum = nonterminal 110
+HeadTermSum = nonterminal 111
 
 abbrev pub TermProd : Form
-TermProd = nonterminal 111
+TermProd = nonterminal 112
 
 abbrev pub HeadTermProd : Form
-HeadTermProd = nonterminal 112
+HeadTermProd = nonterminal 113
 
 abbrev pub TermUnary : Form
-TermUnary = nonterminal 113
+TermUnary = nonterminal 114
 
 abbrev pub HeadTermUnary : Form
-HeadTermUnary = nonterminal 114
+HeadTermUnary = nonterminal 115
 
 abbrev pub TermPostfix : Form
-TermPostfix = nonterminal 115
+TermPostfix = nonterminal 116
 
 abbrev pub HeadTermPostfix : Form
-HeadTermPostfix = nonterminal 116
+HeadTermPostfix = nonterminal 117
 
 abbrev pub TermPrim : Form
-TermPrim = nonterminal 117
+TermPrim = nonterminal 118
 
 abbrev pub HeadTermPrim : Form
-HeadTermPrim = nonterminal 118
+HeadTermPrim = nonterminal 119
 
 abbrev pub TermAtom : Form
-TermAtom = nonterminal 119
+TermAtom = nonterminal 120
 
 abbrev pub TermArm : Form
-TermArm = nonterminal 120
+TermArm = nonterminal 121
 
 abbrev pub FieldTerm : Form
-FieldTerm = nonterminal 121
+FieldTerm = nonterminal 122
 
 abbrev pub Name : Form
-Name = nonterminal 122
+Name = nonterminal 123
 
 abbrev pub BoundName : Form
-BoundName = nonterminal 123
+BoundName = nonterminal 124
 
 abbrev pub TypeName : Form
-TypeName = nonterminal 124
+TypeName = nonterminal 125
 
 abbrev pub ExprName : Form
-ExprName = nonterminal 125
+ExprName = nonterminal 126
 
 abbrev pub TermName : Form
-TermName = nonterminal 126
+TermName = nonterminal 127

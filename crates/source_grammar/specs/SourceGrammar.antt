@@ -14,11 +14,11 @@ use Rattle.source_grammar.specs.Terminals.{WordForall, WordExists, WordMutRef, W
 use Rattle.source_grammar.specs.Nonterminals.{Source, SourceHash, Items, Item, ItemAttribute, LogicItem, LogicAttribute, LawItem, UnmarkedItem, OtherItem, Public, Attribute, PassedAttribute, AnyAttribute, AfterTerm, Use, Function}
 use Rattle.source_grammar.specs.Nonterminals.{Logic, Generics, GenericParam, Where, WhereBound, Bounds, Bound, Param, Struct, Field, TupleField, Enum, Variant, Trait, TraitItem, Impl, ImplItems, ImplItem, ImplAttribute, AttributedImplItem}
 use Rattle.source_grammar.specs.Nonterminals.{LogicImplItem, LogicImplAttribute, LawImplItem, AnyType, TypeArguments, TypeArgument, CastType, UnnamedType, Pattern, FieldPatterns, Path, TermPath, PathSegment, Turbo, Qualified, Block}
-use Rattle.source_grammar.specs.Nonterminals.{Statements, AttributedStatement, Blocklike, If, Match, Arms, Loop, Condition, Expr, HeadExpr, StatementExpr, Or, HeadOr, StatementOr, And, HeadAnd, StatementAnd, Cmp, HeadCmp, StatementCmp}
-use Rattle.source_grammar.specs.Nonterminals.{Sum, HeadSum, StatementSum, Prod, HeadProd, StatementProd, Cast, HeadCast, StatementCast, Unary, HeadUnary, StatementUnary, Postfix, HeadPostfix, StatementPostfix, Arguments, Prim, HeadPrim}
-use Rattle.source_grammar.specs.Nonterminals.{StatementPrim, HeadReturn, AttributedPrim, AttributedHeadPrim, Atom, StructLiteral, FieldExpr, Closure, HeadClosure, TypedName, Term, HeadTerm, TermOr, HeadTermOr, TermAnd, HeadTermAnd}
-use Rattle.source_grammar.specs.Nonterminals.{TermCmp, HeadTermCmp, TermSum, HeadTermSum, TermProd, HeadTermProd, TermUnary, HeadTermUnary, TermPostfix, HeadTermPostfix, TermPrim, HeadTermPrim, TermAtom, TermArm, FieldTerm, Name}
-use Rattle.source_grammar.specs.Nonterminals.{BoundName, TypeName, ExprName, TermName}
+use Rattle.source_grammar.specs.Nonterminals.{Statements, AttributedStatement, Blocklike, If, Match, Arms, AttributedArm, Loop, Condition, Expr, HeadExpr, StatementExpr, Or, HeadOr, StatementOr, And, HeadAnd, StatementAnd, Cmp, HeadCmp}
+use Rattle.source_grammar.specs.Nonterminals.{StatementCmp, Sum, HeadSum, StatementSum, Prod, HeadProd, StatementProd, Cast, HeadCast, StatementCast, Unary, HeadUnary, StatementUnary, Postfix, HeadPostfix, StatementPostfix, Arguments}
+use Rattle.source_grammar.specs.Nonterminals.{Prim, HeadPrim, StatementPrim, HeadReturn, AttributedPrim, AttributedHeadPrim, Atom, StructLiteral, FieldExpr, Closure, HeadClosure, TypedName, Term, HeadTerm, TermOr, HeadTermOr, TermAnd}
+use Rattle.source_grammar.specs.Nonterminals.{HeadTermAnd, TermCmp, HeadTermCmp, TermSum, HeadTermSum, TermProd, HeadTermProd, TermUnary, HeadTermUnary, TermPostfix, HeadTermPostfix, TermPrim, HeadTermPrim, TermAtom, TermArm, FieldTerm}
+use Rattle.source_grammar.specs.Nonterminals.{Name, BoundName, TypeName, ExprName, TermName}
 
 unfoldable pub lines : List Form
 lines =
@@ -152,7 +152,9 @@ lines =
     -- Match
     ∷ (KwMatch · HeadExpr · OpenBrace · Arms · CloseBrace)
     -- Arms
-    ∷ (Pattern · FatArrow · (Blocklike · optional Comma · Arms / StatementExpr · optional (Comma · Arms)) / epsilon)
+    ∷ (Pattern · FatArrow · (Blocklike · optional Comma · Arms / Hash · OpenBracket · AnyAttribute · CloseBracket · AttributedArm / StatementExpr · optional (Comma · Arms)) / epsilon)
+    -- AttributedArm
+    ∷ (Hash · OpenBracket · AnyAttribute · CloseBracket · AttributedArm / Loop · optional Comma · Arms / Closure · optional (Comma · Arms))
     -- Loop
     ∷ (KwWhile · Condition · Block / KwLoop · Block)
     -- Condition
