@@ -1,0 +1,11 @@
+pub mod Soundness
+pub mod Uniqueness
+pub mod ViablePrefix
+pub mod ParserMoves
+pub mod Answered
+pub mod LL1Test
+pub mod PlanTest
+pub mod TableTest
+pub mod EvaluatorRuns
+pub mod ParseTrees
+pub mod Sums

@@ -1,0 +1,13 @@
+pub mod Grammar
+pub mod Parses
+pub mod LL1
+pub mod Tables
+pub mod Answers
+pub mod Ebnf
+pub mod First
+pub mod PlanTest
+pub mod TableTest
+pub mod Trees
+pub mod Work
+pub mod Sums
+pub mod Statements
