@@ -307,7 +307,7 @@ def form_text(form, terminals, level=0):
     if kind == "n":
         return form[1]
     if kind in ("seq", "or"):
-        mark, here = (" · ", 1) if kind == "seq" else (" / ", 0)
+        mark, here = (" · ", 1) if kind == "seq" else (" ∣ ", 0)
         text = form_text(form[1], terminals, here + 1) + mark + form_text(form[2], terminals, here)
         return "(%s)" % text if level > here else text
     word = {"opt": "optional", "many": "repeated", "list": "list"}[kind]
@@ -351,7 +351,7 @@ def write_grammar(terminals, lines, steps):
         "use Rattle.grammar_tables.specs.declared.symbol.Symbol.TheVariants.{Nonterminal}",
         "use Rattle.grammar_tables.specs.Grammar.{Grammar}",
         "use Rattle.grammar_tables.specs.First.{first_sets, grammar_with}",
-        "use Rattle.grammar_tables.specs.Ebnf.{Form, expanded, epsilon, ◌·◌, ◌/◌, optional, repeated}",
+        "use Rattle.grammar_tables.specs.Ebnf.{Form, expanded, epsilon, ◌·◌, ◌∣◌, optional, repeated}",
         uses("Rattle.source_grammar.specs.Terminals", [n for w, n in terminals.items() if w in words] + ["list"]),
         uses("Rattle.source_grammar.specs.Nonterminals", [name for _, name, _ in lines]),
         "", "unfoldable pub lines : List Form", "lines ="]

@@ -4,7 +4,7 @@ use Rattle.grammar_tables.specs.declared.symbol.Symbol.{Symbol}
 use Rattle.grammar_tables.specs.declared.symbol.Symbol.TheVariants.{Terminal, Nonterminal}
 
 infixr 70 ◌·◌
-infixr 60 ◌/◌
+infixr 60 ◌∣◌
 pub data Form : Type 0 where
   -- the empty text
   epsilon : Form
@@ -15,7 +15,7 @@ pub data Form : Type 0 where
   -- the one and then the other
   ◌·◌ : Form → Form → Form
   -- the one or the other
-  ◌/◌ : Form → Form → Form
+  ◌∣◌ : Form → Form → Form
   -- the form or nothing
   optional : Form → Form
   -- the form any number of times
@@ -80,7 +80,7 @@ abbrev mutual
   alternatives (terminal k) ss free = one (Terminal k ∷ ss) free
   alternatives (nonterminal m) ss free = one (Nonterminal m ∷ ss) free
   alternatives (a · b) ss free = (λ (y : ExpandedBody). before (alternatives a y.body y.free) y) (as_one_body b ss free)
-  alternatives (a / b) ss free = (λ (x : Expanded). either x (alternatives b ss x.free)) (alternatives a ss free)
+  alternatives (a ∣ b) ss free = (λ (x : Expanded). either x (alternatives b ss x.free)) (alternatives a ss free)
   alternatives (optional a) ss free = or_else (alternatives a ss free) ss
   alternatives (repeated a) ss free = (λ (x : Expanded). looped x (alternatives a (Nonterminal free ∷ []) x.free) [] ss) (alternatives a (Nonterminal free ∷ ss) (suc free))
   alternatives (separated k a) ss free = (λ (x : Expanded). looped x (alternatives a (Nonterminal (suc free) ∷ []) x.free) (separated_rest k free ∷ []) ss) (alternatives a (Nonterminal (suc free) ∷ ss) (suc (suc free)))
@@ -90,7 +90,7 @@ abbrev mutual
   as_one_body (terminal k) ss free = record { body = Terminal k ∷ ss; introduced = []; free = free }
   as_one_body (nonterminal m) ss free = record { body = Nonterminal m ∷ ss; introduced = []; free = free }
   as_one_body (a · b) ss free = (λ (y : ExpandedBody). before_body (as_one_body a y.body y.free) y) (as_one_body b ss free)
-  as_one_body (a / b) ss free = as_nonterminal free ((λ (x : Expanded). either x (alternatives b [] x.free)) (alternatives a [] (suc free))) ss
+  as_one_body (a ∣ b) ss free = as_nonterminal free ((λ (x : Expanded). either x (alternatives b [] x.free)) (alternatives a [] (suc free))) ss
   as_one_body (optional a) ss free = as_nonterminal free (or_else (alternatives a [] (suc free)) []) ss
   as_one_body (repeated a) ss free = as_nonterminal free (or_else (alternatives a (Nonterminal free ∷ []) (suc free)) []) ss
   as_one_body (separated k a) ss free = as_separated k free (alternatives a (Nonterminal (suc free) ∷ []) (suc (suc free))) ss
