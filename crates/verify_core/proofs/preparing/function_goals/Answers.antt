@@ -7,4 +7,4 @@ counted_obligations-requires c = walk_at c.args.lowered.now c.args.place (settin
 
 pub returns : goal.returns
 returns c =
-    has_goals c.args.lowered.now c.args.place (setting c.walk_of-walk.result) _ _ c.in_ok-counted_obligations.ensures.0 c.walk_of-walk.ensures c.in_ok-copy.ensures c.from_vec.ensures c.in_ok-counted_obligations.ensures.1
+    has_goals c.args.lowered.now c.args.place (setting c.walk_of-walk.result) _ _ c.in_ok-obligations.ensures.0 c.walk_of-walk.ensures c.in_ok-copy.ensures c.from_vec.ensures c.in_ok-obligations.ensures.1
