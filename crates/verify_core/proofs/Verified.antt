@@ -7,7 +7,7 @@ use Rattle.mir_ir.specs.declared.body.Initialised.{Initialised}
 use Rattle.logic_term.specs.Sort.{Declarations}
 use Rattle.logic_term.specs.Ty.{Tys}
 use Rattle.mir_machine.specs.Good.{Each, Good, IsProper, called}
-use Rattle.mir_machine.specs.Step.{Stuck, after}
+use Rattle.mir_machine.specs.Step.{Stuck, after as state_after}
 use Rattle.mir_machine.specs.Tree.{Tree}
 use Rattle.mir_machine.specs.Typed.{Met}
 use Rattle.mir_machine.proofs.NeverStuck.{never_stuck}
@@ -88,7 +88,7 @@ lowering source p prepared = record { lowers = prepared.lowers; fits = typed_pro
 
 -- no proper call of a function of an accepted source is stuck
 pub accepted_is_never_stuck : (source : List ℕ) (p : Program) → IsPrepared source p → (Δ : Declarations) (f : ℕ) (θ : Tys) (args held : List (Tree (Unit {0}))) (b : Body) (met : List Met) → IsProper Δ p.bodies.bodies f θ args held b met
-    → (n : ℕ) → after p.bodies.bodies n (called b f θ args held) ≡ Stuck → ⊥
+    → (n : ℕ) → state_after p.bodies.bodies n (called b f θ args held) ≡ Stuck → ⊥
 accepted_is_never_stuck source p prepared Δ f θ args held b met proper n =
     never_stuck Δ p.bodies.bodies (sound p.names prepared.typed.functions p.bodies.bodies p.contracts prepared.gones (lowering source p prepared)) f θ args held b met proper n
 
