@@ -1,8 +1,10 @@
 pub mod Soundness
 pub mod Uniqueness
 pub mod ViablePrefix
+pub mod Limits
+pub mod Fronts
 pub mod ParserMoves
-pub mod Answered
+pub mod FrontAnswers
 pub mod LL1Test
 pub mod PlanTest
 pub mod TableTest

@@ -1,16 +1,21 @@
 -- The moves of the parser's loop, and why it ends.
-use Rattle.std.specs.Prelude.{◌≡◌, ℕ, suc, Bool, true, false, if◌then◌else◌, List, [], ◌∷◌, ◌++◌, Option, Some, None, ◌<◌, ◌≤◌, ◌+◌, ◌-◌, ◌*◌, ◌^◌, length, drop, reverse, get_or}
-use Rattle.std.proofs.Common.{refl, sym, ◌∙◌, ap, subst, drop_of_length-le, arith}
-use Rattle.std.proofs.lemmas.List.{nil_from_length, reverse-append, drop_more, length-reverse}
+use Rattle.std.specs.Prelude.{◌≡◌, ◌==◌, ℕ, suc, Bool, true, false, not, if◌then◌else◌, Result, Ok, Err, is_err, IfOk, List, [], ◌∷◌, ◌++◌, Option, Some, None, ◌<◌, ◌≤◌, ◌+◌, ◌-◌, ◌*◌, ◌^◌, length, take, drop, reverse, map, get_or}
+use Rattle.std.proofs.Common.{refl, sym, ◌∙◌, ap, subst, drop_of_length-le, append-nil, true≢false, arith}
+use Rattle.std.proofs.lemmas.List.{nil_from_length, reverse-append, map-append, length-map, take_more, drop_more, length-reverse}
+use Rattle.grammar_tables.specs.declared.symbol.Mark.{Mark}
 use Rattle.grammar_tables.specs.declared.symbol.Symbol.{Symbol}
 use Rattle.grammar_tables.specs.declared.symbol.Symbol.TheVariants.{Terminal, Nonterminal}
-use Rattle.grammar_tables.specs.Grammar.{Grammar, next_kind, begins, IsGreedy}
-use Rattle.grammar_tables.specs.Parses.{Outcome, accept, reject, led_by, Parses}
-use Rattle.grammar_tables.specs.Parses.Parses.{done, extra, shift, miss, refuse, expand}
-use Rattle.grammar_tables.specs.declared.parsing.ParseError.{ParseError}
-use Rattle.grammar_tables.specs.declared.parsing.ParseError.TheVariants.{Refused, NoMemory}
-use Rattle.grammar_tables.specs.Answers.{IsParseError, IsRefusedAt}
+use Rattle.grammar_tables.specs.declared.parsing.Expected.{Expected}
+use Rattle.grammar_tables.specs.Grammar.{Grammar, next_kind, is_nonempty, begins, IsGreedy}
+use Rattle.grammar_tables.specs.Parses.{Outcome, accept, reject, led_by, ended_with, takes_next, Parses}
+use Rattle.grammar_tables.specs.Parses.Parses.{done, shift, miss, refuse, expand}
 use Rattle.grammar_tables.specs.LL1.{IsLL1, CanBegin, HasHead}
+use Rattle.grammar_tables.specs.Limits.{is_past}
+use Rattle.grammar_tables.specs.Stack.{part_of}
+use Rattle.grammar_tables.specs.Answers.{goal_of, symbols_of}
+use Rattle.grammar_tables.proofs.Soundness.{some_inj}
+use Rattle.grammar_tables.proofs.Limits.{entry, symbols_parts}
+use Rattle.grammar_tables.proofs.Fronts.{Follows, follows_start, follows_shift, follows_expand}
 
 -- a bound on the expansions before a token is shifted
 abbrev pub weight : Grammar → (ℕ → ℕ) → List Symbol → Option ℕ → ℕ
@@ -46,102 +51,145 @@ pub all_behind-append : (rs : List ℕ) (r : ℕ) (o : Outcome) → all_behind (
 all_behind-append [] r o = refl
 all_behind-append (q ∷ rs) r o = ap (led_by q) (all_behind-append rs r o)
 
-pub all_behind-accept : (rs : List ℕ) → all_behind rs (accept []) ≡ accept rs
-all_behind-accept [] = refl
-all_behind-accept (r ∷ rs) = ap (led_by r) (all_behind-accept rs)
+pub all_behind-accept : (rs qs ended ys : List ℕ) → all_behind rs (accept qs ended ys) ≡ accept (rs ++ qs) ended ys
+all_behind-accept [] qs ended ys = refl
+all_behind-accept (r ∷ rs) qs ended ys = ap (led_by r) (all_behind-accept rs qs ended ys)
 
-pub all_behind-reject : (rs : List ℕ) (ss : List Symbol) (ys : List ℕ) → all_behind rs (reject ss ys) ≡ reject ss ys
-all_behind-reject [] ss ys = refl
-all_behind-reject (r ∷ rs) ss ys = ap (led_by r) (all_behind-reject rs ss ys)
+pub all_behind-reject : (rs ended : List ℕ) (ss : List Symbol) (ys : List ℕ) → all_behind rs (reject ended ss ys) ≡ reject ended ss ys
+all_behind-reject [] ended ss ys = refl
+all_behind-reject (r ∷ rs) ended ss ys = ap (led_by r) (all_behind-reject rs ended ss ys)
 
 -- the parse of the goal goes on as that of what is still expected
-pub record Along (G : Grammar) (goal : List Symbol) (xs rs : List ℕ) (ss : List Symbol) (ys : List ℕ) : Type 0 where
-  pub on : (o : Outcome) → Parses G ss ys o → Parses G goal xs (all_behind rs o)
+pub record Along (G : Grammar) (goal : List Symbol) (xs rs ended : List ℕ) (ss : List Symbol) (ys : List ℕ) : Type 0 where
+  pub on : (o : Outcome) → Parses G ended ss ys o → Parses G [] goal xs (all_behind rs o)
 
-pub along_start : (G : Grammar) (goal : List Symbol) (xs : List ℕ) → Along G goal xs [] goal xs
+along_start : (G : Grammar) (goal : List Symbol) (xs : List ℕ) → Along G goal xs [] [] goal xs
 along_start G goal xs = record { on = λ o q. q }
 
-module _ (G : Grammar) (goal : List Symbol) (xs rs : List ℕ) where
-  pub along_shift : (k x : ℕ) (ss : List Symbol) (ys : List ℕ) → x ≡ k → Along G goal xs rs (Terminal k ∷ ss) (x ∷ ys) → Along G goal xs rs ss ys
+module _ (G : Grammar) (goal : List Symbol) (xs rs ended : List ℕ) where
+  along_shift : (k x : ℕ) (ss : List Symbol) (ys : List ℕ) → G.matches k x ≡ true → Along G goal xs rs ended (Terminal k ∷ ss) (x ∷ ys) → Along G goal xs rs [] ss ys
   along_shift k x ss ys e a = record { on = λ o q. a.on o (shift e q) }
 
-  pub along_expand : (n r : ℕ) (ss : List Symbol) (ys : List ℕ) → G.predict n (next_kind ys) ≡ Some r → Along G goal xs rs (Nonterminal n ∷ ss) ys →
-      Along G goal xs (rs ++ r ∷ []) (G.body n r ++ ss) ys
+  along_expand : (n r : ℕ) (ss : List Symbol) (ys : List ℕ) → G.predict n (next_kind ys) ≡ Some r → Along G goal xs rs ended (Nonterminal n ∷ ss) ys →
+      Along G goal xs (rs ++ r ∷ []) (ended_with n (G.body n r) ended) (G.body n r ++ ss) ys
   along_expand n r ss ys e a = record { on = λ o q. rw (all_behind-append rs r o) (a.on (led_by r o) (expand r e q)) }
 
-  pub along_end : Along G goal xs rs [] [] → Parses G goal xs (accept rs)
-  along_end a = rw (← all_behind-accept rs) (a.on (accept []) done)
+  along_end : (ys : List ℕ) → Along G goal xs rs ended [] ys → Parses G [] goal xs (accept rs ended ys)
+  along_end ys a = rw (all_behind-accept rs [] ended ys, append-nil rs) at (a.on (accept [] ended ys) done)
 
-  pub along_extra : (y : ℕ) (ys : List ℕ) → Along G goal xs rs [] (y ∷ ys) → Parses G goal xs (reject [] (y ∷ ys))
-  along_extra y ys a = rw (← all_behind-reject rs [] (y ∷ ys)) (a.on (reject [] (y ∷ ys)) extra)
+  along_miss : (k : ℕ) (ss : List Symbol) (ys : List ℕ) → (takes_next G k ys → ⊥) → Along G goal xs rs ended (Terminal k ∷ ss) ys → Parses G [] goal xs (reject ended (Terminal k ∷ ss) ys)
+  along_miss k ss ys e a = rw (← all_behind-reject rs ended (Terminal k ∷ ss) ys) (a.on (reject ended (Terminal k ∷ ss) ys) (miss e))
 
-  pub along_miss : (k : ℕ) (ss : List Symbol) (ys : List ℕ) → (next_kind ys ≡ Some k → ⊥) → Along G goal xs rs (Terminal k ∷ ss) ys → Parses G goal xs (reject (Terminal k ∷ ss) ys)
-  along_miss k ss ys e a = rw (← all_behind-reject rs (Terminal k ∷ ss) ys) (a.on (reject (Terminal k ∷ ss) ys) (miss e))
+  along_refuse : (n : ℕ) (ss : List Symbol) (ys : List ℕ) → G.predict n (next_kind ys) ≡ None → Along G goal xs rs ended (Nonterminal n ∷ ss) ys → Parses G [] goal xs (reject ended (Nonterminal n ∷ ss) ys)
+  along_refuse n ss ys e a = rw (← all_behind-reject rs ended (Nonterminal n ∷ ss) ys) (a.on (reject ended (Nonterminal n ∷ ss) ys) (refuse e))
 
-  pub along_refuse : (n : ℕ) (ss : List Symbol) (ys : List ℕ) → G.predict n (next_kind ys) ≡ None → Along G goal xs rs (Nonterminal n ∷ ss) ys → Parses G goal xs (reject (Nonterminal n ∷ ss) ys)
-  along_refuse n ss ys e a = rw (← all_behind-reject rs (Nonterminal n ∷ ss) ys) (a.on (reject (Nonterminal n ∷ ss) ys) (refuse e))
+map-reverse : {A B : Type 0} (f : A → B) (xs : List A) → map f (reverse xs) ≡ reverse (map f xs)
+map-reverse f [] = refl
+map-reverse f (x ∷ xs) = ap (map f) (reverse-append (x ∷ []) xs) ∙ map-append f (reverse xs) (x ∷ []) ∙ ap (λ (ys : List _). ys ++ f x ∷ []) (map-reverse f xs) ∙ sym (reverse-append (f x ∷ []) (map f xs))
 
--- the last symbol of the stack is the next one that is expected
-pub reverse_last : (ss : List Symbol) (s : Symbol) → reverse (ss ++ s ∷ []) ≡ s ∷ reverse ss
-reverse_last ss s = reverse-append ss (s ∷ [])
+nonempty-append : (ps : List Symbol) (s : Symbol) → is_nonempty (ps ++ s ∷ []) ≡ true
+nonempty-append [] s = refl
+nonempty-append (p ∷ ps) s = refl
 
-module _ (G : Grammar) (goal : List Symbol) (kinds rs : List ℕ) (old new : List Symbol) (s : Symbol) (at : ℕ) (popped : old ≡ new ++ s ∷ []) where
-  pub top : reverse old ≡ s ∷ reverse new
-  top = ap reverse popped ∙ reverse_last new s
+pub nonempty-reverse : (ps : List Symbol) → is_nonempty (reverse ps) ≡ is_nonempty ps
+nonempty-reverse [] = refl
+nonempty-reverse (p ∷ ps) = ap is_nonempty (reverse-append (p ∷ []) ps) ∙ nonempty-append (reverse ps) p
 
-  pub step_shift : (kind : ℕ) → s ≡ Terminal kind → at < length kinds → get_or kinds at 0 ≡ kind → Along G goal kinds rs (reverse old) (drop at kinds) →
-      Along G goal kinds rs (reverse new) (drop (at + 1) kinds)
-  step_shift kind e l f a = along_shift G goal kinds rs kind (get_or kinds at 0) (reverse new) (drop (at + 1) kinds) f
-      (subst (λ (ys : List ℕ). Along G goal kinds rs (Terminal kind ∷ reverse new) ys) (drop_more kinds at 0 l)
-      (subst (λ (ss : List Symbol). Along G goal kinds rs ss (drop at kinds)) (top ∙ ap (λ (t : Symbol). t ∷ reverse new) e) a))
+module _ (G : Grammar) (marks : ℕ → Mark) (goal levels : ℕ) (depth : ℕ → ℕ) where
+  -- what holds at each turn of the loop, where the next entry of the stack is the last of the items
+  pub record State (kinds rs ended : List ℕ) (items : List Expected) (at : ℕ) : Type 0 where
+    pub inside : at ≤ length kinds
+    pub along : Along G (goal_of goal) kinds rs (reverse ended) (symbols_of (reverse items)) (drop at kinds)
+    pub follows : (s : IsLL1 G depth) → Follows G marks goal levels depth s (take at kinds) (drop at kinds) rs (reverse items)
 
-  pub step_expand : (n r : ℕ) (last_first after : List Symbol) → s ≡ Nonterminal n → G.predict n (next_kind (drop at kinds)) ≡ Some r → reverse last_first ≡ G.body n r →
-      after ≡ new ++ last_first → Along G goal kinds rs (reverse old) (drop at kinds) → Along G goal kinds (rs ++ r ∷ []) (reverse after) (drop at kinds)
-  step_expand n r last_first after e f g i a =
-      subst (λ (ss : List Symbol). Along G goal kinds (rs ++ r ∷ []) ss (drop at kinds))
-      (sym (ap reverse i ∙ reverse-append new last_first ∙ ap (λ (ss : List Symbol). ss ++ reverse new) g))
-      (along_expand G goal kinds rs n r (reverse new) (drop at kinds) f
-      (subst (λ (ss : List Symbol). Along G goal kinds rs ss (drop at kinds)) (top ∙ ap (λ (t : Symbol). t ∷ reverse new) e) a))
+  pub state_start : (kinds : List ℕ) → State kinds [] [] (entry (Nonterminal goal) levels 0 ∷ []) 0
+  state_start kinds = record { inside = omega arith; along = along_start G (goal_of goal) kinds; follows = λ s. follows_start G marks goal levels depth s kinds }
 
-  pub step_miss : (kind : ℕ) → s ≡ Terminal kind → (next_kind (drop at kinds) ≡ Some kind → ⊥) → Along G goal kinds rs (reverse old) (drop at kinds) →
-      Parses G goal kinds (reject (reverse (new ++ s ∷ [])) (drop at kinds))
-  step_miss kind e f a = rw (reverse_last new s, e) (along_miss G goal kinds rs kind (reverse new) (drop at kinds) f
-      (subst (λ (ss : List Symbol). Along G goal kinds rs ss (drop at kinds)) (top ∙ ap (λ (t : Symbol). t ∷ reverse new) e) a))
+  pub step_end : (kinds rs ended : List ℕ) (at : ℕ) → State kinds rs ended [] at → Parses G [] (goal_of goal) kinds (accept rs (reverse ended) (drop at kinds))
+  step_end kinds rs ended at S = along_end G (goal_of goal) kinds rs (reverse ended) (drop at kinds) S.along
 
-  pub step_refuse : (n : ℕ) → s ≡ Nonterminal n → G.predict n (next_kind (drop at kinds)) ≡ None → Along G goal kinds rs (reverse old) (drop at kinds) →
-      Parses G goal kinds (reject (reverse (new ++ s ∷ [])) (drop at kinds))
-  step_refuse n e f a = rw (reverse_last new s, e) (along_refuse G goal kinds rs n (reverse new) (drop at kinds) f
-      (subst (λ (ss : List Symbol). Along G goal kinds rs ss (drop at kinds)) (top ∙ ap (λ (t : Symbol). t ∷ reverse new) e) a))
+  pub symbols_top : (new : List Expected) (e : Expected) → reverse (symbols_of (new ++ e ∷ [])) ≡ e.symbol ∷ symbols_of (reverse new)
+  symbols_top new e = sym (map-reverse (λ (u : Expected). u.symbol) (new ++ e ∷ [])) ∙ ap symbols_of (reverse-append new (e ∷ []))
 
-  pub less_expand : (d : ℕ → ℕ) → IsLL1 G d → (n r : ℕ) (last_first after : List Symbol) → s ≡ Nonterminal n → G.predict n (next_kind (drop at kinds)) ≡ Some r → reverse last_first ≡ G.body n r →
-      after ≡ new ++ last_first → weight G d (reverse after) (next_kind (drop at kinds)) < weight G d (reverse old) (next_kind (drop at kinds))
-  less_expand d h n r last_first after e f g i =
-      rw (ap reverse i ∙ reverse-append new last_first ∙ ap (λ (ss : List Symbol). ss ++ reverse new) g, top, e) (falls G d h n r (reverse new) (next_kind (drop at kinds)) f)
+  module _ (kinds rs ended : List ℕ) (old new : List Expected) (e : Expected) (at : ℕ) (popped : old ≡ new ++ e ∷ []) (S : State kinds rs ended old at) where
+    top : (t : Symbol) → e.symbol ≡ t → reverse old ≡ entry t e.levels e.operators ∷ reverse new
+    top t f = ap reverse popped ∙ reverse-append new (e ∷ []) ∙ ap (λ (u : Symbol). entry u e.levels e.operators ∷ reverse new) f
 
-  pub less_shift : (d : ℕ → ℕ) → ((n : ℕ) → d n ≤ 255) → at < length kinds → length new < 2 ^ 63 → (k : Option ℕ) (w : ℕ) →
-      (length kinds - (at + 1)) * 2 ^ 65 + weight G d (reverse new) k < (length kinds - at) * 2 ^ 65 + w
-  less_shift d f l h k w = let b : weight G d (reverse new) k ≤ length new + 257 = rw length-reverse at (weight_bound G d f (reverse new) k) in omega (arith, b)
+    along_at : (t : Symbol) → e.symbol ≡ t → Along G (goal_of goal) kinds rs (reverse ended) (t ∷ symbols_of (reverse new)) (drop at kinds)
+    along_at t f = subst (λ (es : List Expected). Along G (goal_of goal) kinds rs (reverse ended) (symbols_of es) (drop at kinds)) (top t f) S.along
 
-  pub refusal : (error : ParseError) → IsRefusedAt new s at error → at ≤ length kinds → Parses G goal kinds (reject (reverse (new ++ s ∷ [])) (drop at kinds)) → IsParseError G goal kinds error
-  refusal (Refused r) e l q = rw (e.0, e.1) (l, q)
-  refusal NoMemory e l q = tt
+    pub follows_at : (s : IsLL1 G depth) (t : Symbol) → e.symbol ≡ t → Follows G marks goal levels depth s (take at kinds) (drop at kinds) rs (entry t e.levels e.operators ∷ reverse new)
+    follows_at s t f = subst (λ (es : List Expected). Follows G marks goal levels depth s (take at kinds) (drop at kinds) rs es) (top t f) (S.follows s)
 
-module _ (G : Grammar) (goal : List Symbol) (kinds rs : List ℕ) (old new : List Symbol) (at : ℕ) (same : old ≡ new ++ []) (len : ℕ) (none : len ≡ 0) (size : len ≡ length new) where
-  nothing_left : new ≡ []
-  nothing_left = nil_from_length new (sym size ∙ none)
+    pub step_shift : (k : ℕ) → e.symbol ≡ Terminal k → (l : at < length kinds) → G.matches k (get_or kinds at 0) ≡ true → State kinds rs [] new (at + 1)
+    step_shift k f l m = record {
+      inside = omega (arith, l);
+      along = along_shift G (goal_of goal) kinds rs (reverse ended) k (get_or kinds at 0) (symbols_of (reverse new)) (drop (at + 1) kinds) m
+          (subst (λ (ys : List ℕ). Along G (goal_of goal) kinds rs (reverse ended) (Terminal k ∷ symbols_of (reverse new)) ys) (drop_more kinds at 0 l) (along_at (Terminal k) f));
+      follows = λ s. subst (λ (ps : List ℕ). Follows G marks goal levels depth s ps (drop (at + 1) kinds) rs (reverse new)) (sym (take_more kinds at 0 l))
+          (follows_shift G marks goal levels depth s k (get_or kinds at 0) e.levels e.operators (take at kinds) (drop (at + 1) kinds) rs (reverse new) m
+          (subst (λ (ys : List ℕ). Follows G marks goal levels depth s (take at kinds) ys rs (entry (Terminal k) e.levels e.operators ∷ reverse new)) (drop_more kinds at 0 l) (follows_at s (Terminal k) f)));
+    }
 
-  emptied : Along G goal kinds rs (reverse old) (drop at kinds) → Along G goal kinds rs [] (drop at kinds)
-  emptied a = (let e : reverse old ≡ [] = ap reverse (same ∙ ap (λ (ss : List Symbol). ss ++ []) nothing_left) in subst (λ (ss : List Symbol). Along G goal kinds rs ss (drop at kinds)) e a)
+    pub less_shift : ((n : ℕ) → depth n ≤ 255) → at < length kinds → length new < 2 ^ 63 → (k : Option ℕ) (w : ℕ) →
+        (length kinds - (at + 1)) * 2 ^ 65 + weight G depth (symbols_of (reverse new)) k < (length kinds - at) * 2 ^ 65 + w
+    less_shift f l h k w =
+        let size : length (symbols_of (reverse new)) ≡ length new = length-map (reverse new) (λ (u : Expected). u.symbol) ∙ length-reverse new in
+        let b : weight G depth (symbols_of (reverse new)) k ≤ length (symbols_of (reverse new)) + 257 = weight_bound G depth f (symbols_of (reverse new)) k in
+        omega (arith, b, size)
 
-  pub step_extra : at < length kinds → Along G goal kinds rs (reverse old) (drop at kinds) → Parses G goal kinds (reject (reverse new) (drop at kinds))
-  step_extra l a = (let e : reverse new ≡ [] = ap reverse nothing_left in rw (e, drop_more kinds at 0 l)
-      (along_extra G goal kinds rs (get_or kinds at 0) (drop (at + 1) kinds) (subst (λ (ys : List ℕ). Along G goal kinds rs [] ys) (drop_more kinds at 0 l) (emptied a))))
+    pub step_miss : (k : ℕ) → e.symbol ≡ Terminal k → (takes_next G k (drop at kinds) → ⊥) → Parses G [] (goal_of goal) kinds (reject (reverse ended) (e.symbol ∷ symbols_of (reverse new)) (drop at kinds))
+    step_miss k f m = rw f (along_miss G (goal_of goal) kinds rs (reverse ended) k (symbols_of (reverse new)) (drop at kinds) m (along_at (Terminal k) f))
 
-  pub step_end : length kinds ≤ at → Along G goal kinds rs (reverse old) (drop at kinds) → Parses G goal kinds (accept rs)
-  step_end l a = along_end G goal kinds rs (subst (λ (ys : List ℕ). Along G goal kinds rs [] ys) (drop_of_length-le kinds l) (emptied a))
+    module _ (n : ℕ) (nonterminal : e.symbol ≡ Nonterminal n) where
+      pub step_refuse : G.predict n (next_kind (drop at kinds)) ≡ None → Parses G [] (goal_of goal) kinds (reject (reverse ended) (e.symbol ∷ symbols_of (reverse new)) (drop at kinds))
+      step_refuse f = rw nonterminal (along_refuse G (goal_of goal) kinds rs (reverse ended) n (symbols_of (reverse new)) (drop at kinds) f (along_at (Nonterminal n) nonterminal))
 
-pub at_none : (k : ℕ) (kinds : List ℕ) (at : ℕ) → length kinds ≤ at → next_kind (drop at kinds) ≡ Some k → ⊥
-at_none k kinds at l e = let f : drop at kinds ≡ [] = drop_of_length-le kinds l in (let g : None ≡ Some k = sym (ap next_kind f) ∙ e in cc)
+      module _ (r : ℕ) (parts : List Symbol) (predicted : G.predict n (next_kind (drop at kinds)) ≡ Some r) (stored : reverse parts ≡ G.body n r) where
+        pub past_body : (b : Bool) → is_past (marks n) (is_nonempty parts) e.levels e.operators ≡ b → is_past (marks n) (is_nonempty (G.body n r)) e.levels e.operators ≡ b
+        past_body b f = rw (← stored, nonempty-reverse parts) f
 
-pub at_other : (k : ℕ) (kinds : List ℕ) (at : ℕ) → at < length kinds → (get_or kinds at 0 ≡ k → ⊥) → next_kind (drop at kinds) ≡ Some k → ⊥
-at_other k kinds at l f e = f (let g : Some (get_or kinds at 0) ≡ Some k = sym (ap next_kind (drop_more kinds at 0 l)) ∙ e in cc)
+        module _ (after : List Expected) (pushed : after ≡ new ++ map (part_of (marks n) n e.levels e.operators) parts) where
+          after_is : reverse after ≡ map (part_of (marks n) n e.levels e.operators) (G.body n r) ++ reverse new
+          after_is = ap reverse pushed ∙ reverse-append new (map (part_of (marks n) n e.levels e.operators) parts) ∙
+              ap (λ (us : List Expected). us ++ reverse new) (sym (map-reverse (part_of (marks n) n e.levels e.operators) parts) ∙ ap (map (part_of (marks n) n e.levels e.operators)) stored)
+
+          symbols_after : symbols_of (reverse after) ≡ G.body n r ++ symbols_of (reverse new)
+          symbols_after = ap symbols_of after_is ∙ symbols_parts G (marks n) n e.levels e.operators (G.body n r) (reverse new)
+
+          pub step_expand : (closed : List ℕ) → is_past (marks n) (is_nonempty parts) e.levels e.operators ≡ false → reverse closed ≡ ended_with n (reverse parts) (reverse ended) → State kinds (rs ++ r ∷ []) closed after at
+          step_expand closed f c = record {
+            inside = S.inside;
+            along = rw (symbols_after, c, stored) (along_expand G (goal_of goal) kinds rs (reverse ended) n r (symbols_of (reverse new)) (drop at kinds) predicted (along_at (Nonterminal n) nonterminal));
+            follows = λ s. rw after_is (follows_expand G marks goal levels depth s n r e.levels e.operators (take at kinds) (drop at kinds) rs (reverse new) predicted (past_body false f) (follows_at s (Nonterminal n) nonterminal));
+          }
+
+          pub less_expand : IsLL1 G depth → weight G depth (symbols_of (reverse after)) (next_kind (drop at kinds)) < weight G depth (symbols_of (reverse old)) (next_kind (drop at kinds))
+          less_expand s = rw (symbols_after, top (Nonterminal n) nonterminal) (falls G depth s n r (symbols_of (reverse new)) (next_kind (drop at kinds)) predicted)
+
+-- the next token is not one that the terminal stands for
+pub not_matched : (G : Grammar) (k : ℕ) (kinds : List ℕ) (at : ℕ) → at < length kinds → G.matches k (get_or kinds at 0) ≡ false → takes_next G k (drop at kinds) → ⊥
+not_matched G k kinds at l f t =
+    let same : get_or kinds at 0 ≡ t.0 = some_inj (sym (ap next_kind (drop_more kinds at 0 l)) ∙ t.1) in
+    true≢false (sym t.2 ∙ subst (λ (x : ℕ). G.matches k x ≡ false) same f)
+
+-- or there is none
+pub none_left : (G : Grammar) (k : ℕ) (kinds : List ℕ) (at : ℕ) → length kinds ≤ at → takes_next G k (drop at kinds) → ⊥
+none_left G k kinds at l t = (let f : None ≡ Some t.0 = sym (ap next_kind (drop_of_length-le kinds l)) ∙ t.1 in cc)
+
+-- what a call ensures that did not fail
+pub where_ok : {A E : Type 0} (r : Result A E) (b : Bool) (P : Type 0) → b ≡ is_err r → b ≡ false → IfOk r (λ _. P) → P
+where_ok (Ok x) b P e f h = h
+where_ok (Err x) b P e f h = absurd (true≢false (sym e ∙ f))
+
+some_length : (n : ℕ) → (suc n == 0) ≡ false
+some_length n = grind arith
+
+-- the test for a limit, as the code calls it
+pub past_test : (m own : Mark) (empty r v : Bool) (parts : List Symbol) (deep before : ℕ) → m ≡ own → empty ≡ (length parts == 0) → r ≡ is_past m (not empty) deep before → r ≡ v → is_past own (is_nonempty parts) deep before ≡ v
+past_test m own empty r v [] deep before e f g h = rw e at (rw f at (sym g)) ∙ h
+past_test m own empty r v (p ∷ ps) deep before e f g h = (let i : empty ≡ false = f ∙ some_length (length ps) in rw e at (rw i at (sym g)) ∙ h)
+
+-- an empty stack
+pub nothing_left : (old new : List Expected) (len : ℕ) → old ≡ new ++ [] → len ≡ 0 → len ≡ length new → old ≡ []
+nothing_left old new len e f g = e ∙ append-nil new ∙ nil_from_length new (sym g ∙ f)

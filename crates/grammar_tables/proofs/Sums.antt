@@ -22,18 +22,18 @@ abbrev depths : List ℕ
 depths = 2 ∷ 1 ∷ 1 ∷ []
 
 abbrev plan : PlanLists
-plan = record { alternatives = 0 ∷ 0 ∷ 1 ∷ []; shorts = (0 ∷ []) ∷ (0 ∷ []) ∷ [] ∷ []; ranks = 2 ∷ 1 ∷ 0 ∷ []; takes = (1 ∷ []) ∷ [] ∷ (1 ∷ []) ∷ [] }
+plan = record { classes = []; alternatives = 0 ∷ 0 ∷ 1 ∷ []; shorts = (0 ∷ []) ∷ (0 ∷ []) ∷ [] ∷ []; ranks = 2 ∷ 1 ∷ 0 ∷ []; takes = (1 ∷ []) ∷ [] ∷ (1 ∷ []) ∷ [] }
 
-are_sums : sums ≡ grammar_with firsts listed
+are_sums : sums ≡ grammar_with [] firsts listed
 unfolding sums sum_lines
 are_sums = refl
 
 pub sums_are_ll1 : SumsAreLL1
-sums_are_ll1 = (depth_of depths, rw are_sums (is_ll1_grammar firsts listed depths refl refl))
+sums_are_ll1 = (depth_of depths, rw are_sums (is_ll1_grammar [] firsts listed depths refl refl))
 
 pub sums_are_planned : SumsArePlanned
 unfolding sums sum_lines grammar_with
-sums_are_planned = (plan_of plan, rw are_sums (plans firsts listed depths refl refl plan refl), refl)
+sums_are_planned = (plan_of plan, rw are_sums (plans firsts listed depths plan refl refl refl), refl)
 
 pub derives_a_sum : DerivesASum
 unfolding sums sum_lines grammar_with IsGreedy

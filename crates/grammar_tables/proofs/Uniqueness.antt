@@ -1,10 +1,10 @@
 -- A text comes to one outcome, and a derivation is that of one tree.
-use Rattle.std.specs.Prelude.{◌≡◌, ℕ, List, [], ◌∷◌, ◌++◌, Some}
+use Rattle.std.specs.Prelude.{◌≡◌, ℕ, List, [], ◌∷◌, ◌++◌}
 use Rattle.std.proofs.Common.{refl, sym, ◌∙◌, ap, subst, append_assoc}
 use Rattle.grammar_tables.specs.declared.symbol.Symbol.{Symbol}
 use Rattle.grammar_tables.specs.Grammar.{Grammar, Derives}
-use Rattle.grammar_tables.specs.Parses.{Outcome, led_by, Parses}
-use Rattle.grammar_tables.specs.Parses.Parses.{done, extra, shift, miss, refuse, expand}
+use Rattle.grammar_tables.specs.Parses.{Outcome, led_by, ended_with, Parses}
+use Rattle.grammar_tables.specs.Parses.Parses.{done, shift, miss, refuse, expand}
 use Rattle.grammar_tables.specs.LL1.{IsLL1}
 use Rattle.grammar_tables.specs.Trees.{Tree, Trees, IsTree, AreTrees, preorder, preorder_all}
 use Rattle.grammar_tables.specs.Trees.IsTree.{terminal, nonterminal}
@@ -12,23 +12,22 @@ use Rattle.grammar_tables.specs.Trees.AreTrees.{all_none, all_both}
 use Rattle.grammar_tables.proofs.Soundness.{some_inj, accept_inj, complete}
 
 module _ (G : Grammar) where
-  pub one_outcome : {ss : List Symbol} {xs : List ℕ} {o q : Outcome} → Parses G ss xs o → Parses G ss xs q → o ≡ q
+  pub one_outcome : {es : List ℕ} {ss : List Symbol} {xs : List ℕ} {o q : Outcome} → Parses G es ss xs o → Parses G es ss xs q → o ≡ q
   one_outcome done done = refl
-  one_outcome extra extra = refl
   one_outcome (shift e p) (shift f q) = one_outcome p q
-  one_outcome (shift e p) (miss f) = absurd (f (ap Some e))
-  one_outcome (miss f) (shift e q) = absurd (f (ap Some e))
+  one_outcome (shift {x} e p) (miss f) = absurd (f (x, refl, e))
+  one_outcome (miss f) (shift {x} e q) = absurd (f (x, refl, e))
   one_outcome (miss e) (miss f) = refl
   one_outcome (refuse e) (refuse f) = refl
   one_outcome (refuse e) (expand r f q) = absurd cc
   one_outcome (expand r e p) (refuse f) = absurd cc
-  one_outcome (expand {n} {ss} {xs} {o} r e p) (expand {o = u} s f q) = by (some_inj (sym f ∙ e)) (λ v z. one_outcome p z)
+  one_outcome (expand {n} {ended} {ss} {xs} {o} r e p) (expand {o = u} s f q) = by (some_inj (sym f ∙ e)) (λ v z. one_outcome p z)
     where
-      by : s ≡ r → ((v : Outcome) → Parses G (G.body n r ++ ss) xs v → o ≡ v) → led_by r o ≡ led_by s u
-      by i h = rw (i, h u (subst (λ (k : ℕ). Parses G (G.body n k ++ ss) xs u) i q)) refl
+      by : s ≡ r → ((v : Outcome) → Parses G (ended_with n (G.body n r) ended) (G.body n r ++ ss) xs v → o ≡ v) → led_by r o ≡ led_by s u
+      by i h = rw (i, h u (subst (λ (k : ℕ). Parses G (ended_with n (G.body n k) ended) (G.body n k ++ ss) xs u) i q)) refl
 
 pub one_derivation : (G : Grammar) (depth : ℕ → ℕ) → IsLL1 G depth → {ss : List Symbol} {xs rs qs : List ℕ} → Derives G ss xs rs → Derives G ss xs qs → rs ≡ qs
-one_derivation G depth h d e = accept_inj (one_outcome G (complete G depth h d) (complete G depth h e))
+one_derivation G depth h d e = accept_inj (one_outcome G (complete G depth h d []).1 (complete G depth h e []).1)
 
 head_of : ℕ → List ℕ → ℕ
 head_of d [] = d

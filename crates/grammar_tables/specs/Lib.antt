@@ -1,6 +1,8 @@
 pub mod Grammar
 pub mod Parses
 pub mod LL1
+pub mod Limits
+pub mod Stack
 pub mod Tables
 pub mod Answers
 pub mod Ebnf

@@ -3,9 +3,10 @@ use Rattle.std.specs.Prelude.{ℕ, Bool, true, false, not, ◌&&◌, List, [], �
 use Rattle.grammar_tables.specs.declared.symbol.Symbol.{Symbol}
 use Rattle.grammar_tables.specs.declared.symbol.Symbol.TheVariants.{Terminal, Nonterminal}
 use Rattle.grammar_tables.specs.LL1.{Plan, short_text}
-use Rattle.grammar_tables.specs.First.{first_of_alternatives, is_in, all_of}
+use Rattle.grammar_tables.specs.First.{kinds_of, first_of_alternatives, is_in, all_of}
 
 pub record PlanLists : Type 0 where
+  pub classes : List (List ℕ)
   pub alternatives : List ℕ
   pub shorts : List (List ℕ)
   pub ranks : List ℕ
@@ -14,6 +15,7 @@ pub record PlanLists : Type 0 where
 -- the plan that the lists state, by the numbers of nonterminals
 abbrev pub plan_of : PlanLists → Plan
 plan_of l = record {
+  sample = λ k. get_or (kinds_of l.classes k) 0 0;
   alternative = λ n. get_or l.alternatives n 0;
   short = λ n. get_or l.shorts n [];
   rank = λ n. get_or l.ranks n 0;
@@ -38,7 +40,7 @@ is_not_taken l m (k ∷ ks) n = not (is_in (Some k) (get_or l.takes m []))
 
 abbrev pub fits : List (List (List Symbol)) → PlanLists → ℕ → List Symbol → Bool
 fits g l n [] = true
-fits g l n (Terminal k ∷ ss) = fits g l n ss
+fits g l n (Terminal k ∷ ss) = is_in (Some (get_or (kinds_of l.classes k) 0 0)) (kinds_of l.classes k) && fits g l n ss
 fits g l n (Nonterminal m ∷ ss) = nat_lt (get_or l.alternatives m 0) (length (get_or g m [])) && (is_not_taken l m (short_text (plan_of l) ss) n && fits g l n ss)
 
 abbrev pub are_lower : PlanLists → ℕ → List Symbol → Bool
@@ -47,7 +49,7 @@ are_lower l b (Terminal k ∷ ss) = are_lower l b ss
 are_lower l b (Nonterminal m ∷ ss) = nat_lt (get_or l.ranks m 0) b && are_lower l b ss
 
 abbrev pub is_ended : List (List ℕ) → PlanLists → ℕ → List (List Symbol) → List Symbol → Bool
-is_ended firsts l n alts [] = are_within (first_of_alternatives firsts alts) (get_or l.takes n [])
+is_ended firsts l n alts [] = are_within (first_of_alternatives l.classes firsts alts) (get_or l.takes n [])
 is_ended firsts l n alts (s ∷ ss) = true
 
 -- the nonterminal `n` with these alternatives passes each condition of `IsPlanned`

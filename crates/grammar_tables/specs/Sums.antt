@@ -13,4 +13,4 @@ sum_lines =
     ∷ []
 
 unfoldable pub sums : Grammar
-sums = grammar_with (first_sets 3 (expanded sum_lines)) (expanded sum_lines)
+sums = grammar_with [] (first_sets [] 3 (expanded sum_lines)) (expanded sum_lines)

@@ -3,7 +3,7 @@ use Rattle.std.specs.Prelude.{ℕ, suc, zero, ◌+◌, Bool, true, false, ◌&&�
 use Rattle.grammar_tables.specs.declared.symbol.Symbol.{Symbol}
 use Rattle.grammar_tables.specs.declared.symbol.Symbol.TheVariants.{Terminal, Nonterminal}
 use Rattle.grammar_tables.specs.Tables.{TableLists, body_at}
-use Rattle.grammar_tables.specs.First.{predicted, each_from, all_of}
+use Rattle.grammar_tables.specs.First.{predicted, each_from, all_of, is_in}
 
 abbrev pub same_symbol : Symbol → Symbol → Bool
 same_symbol (Terminal j) (Terminal k) = nat_eq j k
@@ -44,6 +44,20 @@ abbrev pub states_alternatives : TableLists → List (List ℕ) → ℕ → List
 states_alternatives t firsts n alts = nat_lt (length alts) 255 && states_offsets t firsts n alts
 
 -- the predictions of all nonterminals, row by row
-abbrev pub flat_cells : List (List ℕ) → List (List (List Symbol)) → List ℕ
-flat_cells firsts [] = []
-flat_cells firsts (alts ∷ g) = cells_from (λ k. code_of (predicted firsts k alts)) 0 127 ++ flat_cells firsts g
+abbrev pub flat_cells : List (List ℕ) → List (List ℕ) → List (List (List Symbol)) → List ℕ
+flat_cells classes firsts [] = []
+flat_cells classes firsts (alts ∷ g) = cells_from (λ k. code_of (predicted classes firsts k alts)) 0 127 ++ flat_cells classes firsts g
+
+-- whether each of so many kinds from `j` on is in the class
+abbrev pub members_from : List ℕ → ℕ → ℕ → List Bool
+members_from ks j zero = []
+members_from ks j (suc c) = is_in (Some j) ks ∷ members_from ks (suc j) c
+
+-- the members of all classes, class by class
+abbrev pub flat_members : List (List ℕ) → List Bool
+flat_members [] = []
+flat_members (ks ∷ classes) = members_from ks 0 128 ++ flat_members classes
+
+-- the classes are of kinds that have a column
+abbrev pub are_kinds : List ℕ → Bool
+are_kinds ks = all_of (λ k. nat_lt k 126) ks

@@ -6,7 +6,7 @@ use Rattle.grammar_tables.specs.Grammar.{Grammar}
 
 mutual
   pub data Tree : Type 0 where
-    -- a token, by its kind
+    -- a token, by the terminal that stands for it
     leaf : ℕ → Tree
     -- a nonterminal by one of its alternatives, with the trees of the symbols of its body
     node : ℕ → ℕ → Trees → Tree
@@ -47,7 +47,7 @@ abbrev mutual
 
 -- What parse trees are made into.
 pub record SemanticActions (Value : Type 0) : Type 0 where
-  -- the value of a token by its kind and its position; tokens of some kinds have none
+  -- the value of a token by its terminal and its position; some terminals have none
   pub leaf : ℕ → ℕ → Option Value
   -- the nonterminal by that alternative is made into nothing where its parts have so many values: they stand among those of the alternative around it. So loops, lists and chains without operators leave no trace
   pub keeps : ℕ → ℕ → ℕ → Bool

@@ -16,10 +16,10 @@ pub trait SemanticValue: Sized + Drop {
 
     ghost actions: { Self.Context → SemanticActions Self };
 
-    /// The value of the token at that position, where tokens of its kind have one.
-    fn leaf(context: &Self::Context, kind: u8, position: usize) -> Option<Self>
+    /// The value of the token at that position, where its terminal has one.
+    fn leaf(context: &Self::Context, terminal: u8, position: usize) -> Option<Self>
         requires { position < usize.MAX }
-        ensures { result ≡ (actions context.now).leaf kind position };
+        ensures { result ≡ (actions context.now).leaf terminal position };
 
     /// Whether the nonterminal by this alternative, with so many values of its parts, is made into nothing, so that they
     /// stand among the parts of the alternative around it.
@@ -95,14 +95,14 @@ fn expand(work: &mut Vec<Work>, tables: &Tables, expansion: Expansion) -> Result
 /// Adds the value of a token, where it has one.
 fn push_leaf<V: SemanticValue>(
     context: &V::Context,
-    kind: u8,
+    terminal: u8,
     position: usize,
     values: &mut Vec<V>,
 ) -> Result<(), AllocError>
     requires { position < usize.MAX }
-    ensures { IfOk result (λ _. values.new.items ≡ values.old.items ++ option_list ((V.actions context.now).leaf kind position)) }
+    ensures { IfOk result (λ _. values.new.items ≡ values.old.items ++ option_list ((V.actions context.now).leaf terminal position)) }
 {
-    if let Some(value) = V::leaf(context, kind, position) {
+    if let Some(value) = V::leaf(context, terminal, position) {
         values.push(value)?;
     }
     Ok(())
@@ -168,11 +168,11 @@ pub fn evaluate<V: SemanticValue>(
     while let Some(step) = work.pop() {
         match step {
             Work::Visit(symbol) => match symbol {
-                Symbol::Terminal(kind) => {
+                Symbol::Terminal(terminal) => {
                     if at >= count {
                         return Ok(values);
                     }
-                    push_leaf(context, kind, at, &mut values)?;
+                    push_leaf(context, terminal, at, &mut values)?;
                     at += 1;
                 }
                 Symbol::Nonterminal(nonterminal) => {

@@ -12,6 +12,6 @@ pub use laws::{
     a_derivation_has_one_tree, a_refusal_is_at_the_first_offender, a_text_has_one_derivation,
     sums_meet_the_conditions, the_tests_show_the_conditions, what_is_accepted_is_derived,
 };
-pub use parsing::{ParseError, Refusal, parse};
-pub use symbol::Symbol;
+pub use parsing::{Expected, Front, ParseError, Refusal, parse, parse_front};
+pub use symbol::{Mark, Symbol};
 pub use tables::{BodyRange, Tables};

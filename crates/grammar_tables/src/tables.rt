@@ -1,8 +1,8 @@
 //! The tables of a grammar: the bodies of its alternatives, and the table of a predictive parser.
 ghost use Rattle.std.specs.Prelude.{◌≡◌, ◌<◌};
-ghost use Rattle.grammar_tables.specs.Tables.{prediction_at, column_of, body_at, lists_in};
+ghost use Rattle.grammar_tables.specs.Tables.{prediction_at, column_of, body_at, lists_in, matches_at, mark_in};
 
-use crate::symbol::Symbol;
+use crate::symbol::{Mark, Symbol};
 
 /// Where the body of an alternative stands among the symbols.
 #[derive(Clone, Copy)]
@@ -25,6 +25,10 @@ pub struct Tables<'a> {
     pub predictions: &'a [u8],
     /// For each nonterminal a number above those of the nonterminals that begin its alternatives.
     pub depths: &'a [u8],
+    /// For each class of kinds whether each of 128 kinds is in it. The first class is the terminal 128.
+    pub members: &'a [bool],
+    /// What counts at each nonterminal towards a limit.
+    pub marks: &'a [Mark],
 }
 
 /// The column of a kind, or of the end of the text.
@@ -39,6 +43,33 @@ fn column(next: Option<u8>) -> u8
 }
 
 impl<'a> Tables<'a> {
+    /// Whether the terminal stands for tokens of the kind.
+    pub fn matches(&self, terminal: u8, kind: u8) -> bool
+        ensures { result ≡ matches_at (lists_in self.now) terminal kind }
+    {
+        if terminal < 128 {
+            kind == terminal
+        } else if kind < 128 {
+            let cell = (terminal as usize - 128) * 128 + kind as usize;
+            cell < self.members.len() && self.members[cell]
+        } else {
+            false
+        }
+    }
+
+    /// What counts at the nonterminal.
+    #[tactic(auto, unfolding(crate::specs::Tables::mark_in))]
+    pub fn mark(&self, nonterminal: u16) -> Mark
+        ensures { result ≡ mark_in self.now nonterminal }
+    {
+        let nonterminal = nonterminal as usize;
+        if nonterminal < self.marks.len() {
+            self.marks[nonterminal]
+        } else {
+            Mark::Plain
+        }
+    }
+
     /// The alternative of the nonterminal that the next token predicts.
     pub fn predict(&self, nonterminal: u16, next: Option<u8>) -> Option<u8>
         ensures { result ≡ prediction_at (lists_in self.now) nonterminal (column_of next) }

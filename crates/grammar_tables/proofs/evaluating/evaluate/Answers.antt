@@ -9,13 +9,13 @@ use Rattle.grammar_tables.proofs.evaluating.evaluate.Goals as goal
 pub returns-then-at-count : goal.returns-then-at-count
 returns-then-at-count g c =
     no_token (grammar_in c.args.tables.now) (g.V.SemanticValue.actions c.args.context.now) c.args.count c.args.goal c.args.derivation.now c.loop-step.work.items c.pop.new.self.items c.in-Some.step
-    (drop c.loop-step.next c.args.derivation.now) c.loop-step.at c.loop-step.values.items c.in-Some.ensures.items c.loop-step.invariant.on c.in-Terminal.kind
+    (drop c.loop-step.next c.args.derivation.now) c.loop-step.at c.loop-step.values.items c.in-Some.ensures.items c.loop-step.invariant.on c.in-Terminal.terminal
     (c.in-Visit.is ∙ ap Visit c.in-Terminal.is) c.if-at-count.true
 
 pub loop-step-preserved-in-Terminal : goal.loop-step-preserved-in-Terminal
 loop-step-preserved-in-Terminal g c = record {
   on = step_shift (grammar_in c.args.tables.now) (g.V.SemanticValue.actions c.args.context.now) c.args.count c.args.goal c.args.derivation.now c.loop-step.work.items c.pop.new.self.items c.in-Some.step
-      (drop c.loop-step.next c.args.derivation.now) c.loop-step.at c.loop-step.values.items c.in-Some.ensures.items c.loop-step.invariant.on c.in-Terminal.kind
+      (drop c.loop-step.next c.args.derivation.now) c.loop-step.at c.loop-step.values.items c.in-Some.ensures.items c.loop-step.invariant.on c.in-Terminal.terminal
       (c.in-Visit.is ∙ ap Visit c.in-Terminal.is) c.push_leaf.new.values.items c.in_ok-push_leaf-in-Terminal.ensures;
   empty = c.loop-step.invariant.empty;
 }

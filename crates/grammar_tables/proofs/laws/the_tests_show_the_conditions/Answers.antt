@@ -6,7 +6,7 @@ use Rattle.grammar_tables.proofs.laws.the_tests_show_the_conditions.Goals as goa
 
 pub returns : goal.returns
 returns c = record {
-  ll1 = λ firsts g depths e f. is_ll1_grammar firsts g depths e f;
-  planned = λ firsts g depths e f l h. plans firsts g depths e f l h;
-  stated = λ firsts g depths e f t h i j. states firsts g depths e f t h i j (ap length i ∙ flat_length firsts g);
+  ll1 = λ classes firsts g depths e f. is_ll1_grammar classes firsts g depths e f;
+  planned = λ firsts g depths l e f h. plans firsts g depths l e f h;
+  stated = λ classes firsts g depths e f t k m h i j. states classes firsts g depths e f t k m h i j (ap length i ∙ flat_length classes firsts g);
 }
