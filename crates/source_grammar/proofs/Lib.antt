@@ -4,3 +4,7 @@ pub mod Plans
 pub mod Arrays
 pub mod Conditions
 pub mod Stated
+pub mod Matches
+pub mod FirstToken
+pub mod Meanings
+pub mod OneAnswer

@@ -1,324 +1,556 @@
 -- The whole grammar of sources, a line for each nonterminal. The sections are those of the Rust Reference. Made by `python3 tools/grammar.py` of tools/source.ebnf.
-use Rattle.std.specs.Prelude.{ℕ, List, [], ◌∷◌}
-use Rattle.grammar_tables.specs.declared.symbol.Symbol.{Symbol}
-use Rattle.grammar_tables.specs.declared.symbol.Symbol.TheVariants.{Nonterminal}
+use Rattle.std.specs.Prelude.{ℕ, List, [], ◌∷◌, get_or}
+use Rattle.grammar_tables.specs.declared.symbol.Mark.{Mark}
+use Rattle.grammar_tables.specs.declared.symbol.Mark.TheVariants.{Plain}
 use Rattle.grammar_tables.specs.Grammar.{Grammar}
 use Rattle.grammar_tables.specs.First.{first_sets, grammar_with}
-use Rattle.grammar_tables.specs.Ebnf.{Form, expanded, epsilon, ◌·◌, ◌∣◌, optional, repeated}
-use Rattle.source_grammar.specs.Terminals.{Identifier, Underscore, Lifetime, Integer, StringLiteral, KwAs, KwBreak, KwContinue, KwCrate, KwElse, KwEnum, KwExtern, KwFalse, KwFn, KwFor, KwIf, KwImpl, KwLet, KwLoop, KwMatch, KwMove}
-use Rattle.source_grammar.specs.Terminals.{KwMut, KwPub, KwReturn, KwSelfValue, KwSelfType, KwStruct, KwTrait, KwTrue, KwType, KwUse, KwWhere, KwWhile, Implies, EqualEqual, FatArrow, Arrow, NotEqual, AtMost, AtLeast, AndAnd, OrOr}
-use Rattle.source_grammar.specs.Terminals.{PlusEqual, MinusEqual, StarEqual, SlashEqual, PercentEqual, PathSep, DotDot, OpenParen, CloseParen, OpenBracket, CloseBracket, OpenBrace, CloseBrace, Less, Greater, Equal, Plus, Minus}
-use Rattle.source_grammar.specs.Terminals.{Star, Slash, Percent, Not, Ampersand, Bar, Caret, At, Hash, Comma, Semicolon, Colon, Dot, WordCreusotContracts, WordStd, WordRequires, WordEnsures, WordInvariant, WordVariant, WordLogic}
-use Rattle.source_grammar.specs.Terminals.{WordLaw, WordDerive, WordAllow, WordInline, WordMustUse, WordDoc, WordPearlite, WordFn, WordFnMut, WordFnOnce, WordViewTy, WordPanic, WordUnreachable, WordProofAssert, WordSnapshot, WordResult}
-use Rattle.source_grammar.specs.Terminals.{WordForall, WordExists, WordMutRef, WordPrecondition, WordPostcondition, WordPostconditionMut, WordPostconditionOnce, WordF32, WordF64, WordChar, WordStr, WordI128, WordU128, list}
-use Rattle.source_grammar.specs.Nonterminals.{Source, SourceHash, Items, Item, ItemAttribute, LogicItem, LogicAttribute, LawItem, UnmarkedItem, OtherItem, Public, Attribute, PassedAttribute, AnyAttribute, AfterTerm, Use, Function}
-use Rattle.source_grammar.specs.Nonterminals.{Logic, Generics, GenericParam, Where, WhereBound, Bounds, Bound, Param, Struct, Field, TupleField, Enum, Variant, Trait, TraitItem, Impl, ImplItems, ImplItem, ImplAttribute, AttributedImplItem}
-use Rattle.source_grammar.specs.Nonterminals.{LogicImplItem, LogicImplAttribute, LawImplItem, AnyType, TypeArguments, TypeArgument, CastType, UnnamedType, Pattern, FieldPatterns, Path, TermPath, PathSegment, Turbo, Qualified, Block}
-use Rattle.source_grammar.specs.Nonterminals.{Statements, AttributedStatement, Blocklike, If, Match, Arms, AttributedArm, Loop, Condition, Expr, HeadExpr, StatementExpr, Or, HeadOr, StatementOr, And, HeadAnd, StatementAnd, Cmp, HeadCmp}
-use Rattle.source_grammar.specs.Nonterminals.{StatementCmp, Sum, HeadSum, StatementSum, Prod, HeadProd, StatementProd, Cast, HeadCast, StatementCast, Unary, HeadUnary, StatementUnary, Postfix, HeadPostfix, StatementPostfix, Arguments}
-use Rattle.source_grammar.specs.Nonterminals.{Prim, HeadPrim, StatementPrim, HeadReturn, AttributedPrim, AttributedHeadPrim, Atom, StructLiteral, FieldExpr, Closure, HeadClosure, TypedName, Term, HeadTerm, TermOr, HeadTermOr, TermAnd}
-use Rattle.source_grammar.specs.Nonterminals.{HeadTermAnd, TermCmp, HeadTermCmp, TermSum, HeadTermSum, TermProd, HeadTermProd, TermUnary, HeadTermUnary, TermPostfix, HeadTermPostfix, TermPrim, HeadTermPrim, TermAtom, TermArm, FieldTerm}
-use Rattle.source_grammar.specs.Nonterminals.{Name, BoundName, TypeName, ExprName, TermName}
+use Rattle.grammar_tables.specs.Ebnf.{Form, expanded, marked, epsilon, ◌·◌, ◌∣◌, optional, repeated, chain, level}
+use Rattle.source_grammar.specs.Classes.{classes}
+use Rattle.source_grammar.specs.Terminals.{Underscore, Lifetime, Integer, StringLiteral, KwAs, KwBreak, KwContinue, KwCrate, KwElse, KwEnum, KwExtern, KwFn, KwFor, KwIf, KwImpl, KwLet, KwLoop, KwMatch, KwMove, KwMut, KwPub, KwReturn}
+use Rattle.source_grammar.specs.Terminals.{KwSelfValue, KwSelfType, KwStruct, KwTrait, KwType, KwUse, KwWhere, KwWhile, Implies, FatArrow, Arrow, AndAnd, OrOr, PathSep, DotDot, OpenBracket, CloseBracket, Less, Greater, Equal}
+use Rattle.source_grammar.specs.Terminals.{Plus, Minus, Star, Not, Ampersand, Bar, At, Hash, Comma, Semicolon, Colon, Dot, WordCreusotContracts, WordLogic, WordLaw, WordDerive, WordPearlite, WordViewTy, WordResult, WordMutRef}
+use Rattle.source_grammar.specs.Terminals.{Name, BoundName, TypeName, ExprName, TermName, LogicTermName, AssignOperator, ComparisonOperator, SumOperator, ProductOperator, TermPrefix, Truth, ContractsRoot, ClauseWord, PassedWord}
+use Rattle.source_grammar.specs.Terminals.{ClosureTrait, PanicWord, AssertWord, Quantifier, ClosurePredicate, AnyToken, UseToken, list, parens, brackets, braces}
+use Rattle.source_grammar.specs.Nonterminals.{Source, SourceHash, Items, Any, Item, FirstItem, PlainItem, AttributedItem, ItemAttribute, LogicItem, LogicAttribute, LawItem, LawAttribute, UnmarkedItem, OtherItem, Public, Attribute}
+use Rattle.source_grammar.specs.Nonterminals.{AnyAttribute, AttributeInput, ClauseInput, DeriveInput, Use, ContractsUse, ExternCrate, Function, Params, Logic, Generics, GenericParam, LifetimeParam, TypeParam, Where, WhereBounds}
+use Rattle.source_grammar.specs.Nonterminals.{WhereBound, TypeCondition, LifetimeCondition, Bounds, Bound, TraitBound, CallBound, TypesInParens, Param, NamedParam, MutParam, MutNamedParam, MutReceiver, ReceiverParam, BorrowedParam}
+use Rattle.source_grammar.specs.Nonterminals.{Struct, NamedFields, TupleFields, Field, TupleField, Enum, Variant, TypedFields, TypedField, Trait, TraitItem, TraitMethod, Impl, ImplHead, ImplBody, ImplItems, ImplItem, ViewType, ImplMethod}
+use Rattle.source_grammar.specs.Nonterminals.{AttributedMethod, ImplAttribute, LogicMethod, LogicImplAttribute, LawMethod, AnyType, NamedType, TypeArguments, TypeArgument, TypeList, ReferenceType, CastType, CastName, CastReference}
+use Rattle.source_grammar.specs.Nonterminals.{UnnamedType, TupleType, SelfType, Pattern, PatternForm, Wildcard, MutPattern, IntegerPattern, TruthPattern, TuplePattern, PathPattern, PatternParts, PatternFields, FieldPatterns, FieldPattern}
+use Rattle.source_grammar.specs.Nonterminals.{PatternPath, PatternName, PathRest, PathEnd, Qualified, Block, Statements, AttributedStatement, StatementsRest, BlocklikeStatement, LoopStatement, Let, LetValue, LetEnd, Blocklike, If}
+use Rattle.source_grammar.specs.Nonterminals.{Match, Arms, AttributedArm, Loop, While, Forever, Condition, LetCondition, Expr, HeadExpr, StatementExpr, Or, HeadOr, StatementOr, And, HeadAnd, StatementAnd, Cmp, HeadCmp, StatementCmp}
+use Rattle.source_grammar.specs.Nonterminals.{Sum, HeadSum, StatementSum, Prod, HeadProd, StatementProd, Cast, HeadCast, StatementCast, Unary, HeadUnary, StatementUnary, Prefix, HeadPrefix, Postfix, HeadPostfix, StatementPostfix}
+use Rattle.source_grammar.specs.Nonterminals.{PostfixOperation, Member, Arguments, ClosureExpr, ClosureOperation, Prim, HeadPrim, StatementPrim, AttributedPrim, LoopOrClosure, AttributedHeadPrim, LoopOrHeadClosure, Return, HeadReturn}
+use Rattle.source_grammar.specs.Nonterminals.{HeadReturnValue, Atom, IntegerExpr, TruthExpr, SelfExpr, ParenExpr, Break, Continue, PanicCall, GhostCall, PathExpr, HeadPathExpr, ExprPath, ExprPathName, StructLiteral, FieldExpr, Closure}
+use Rattle.source_grammar.specs.Nonterminals.{HeadClosure, ClosureParam, ClosureBody, HeadClosureBody, WholeTerm, Term, HeadTerm, LogicTerm, TermOr, HeadTermOr, LogicTermOr, TermAnd, HeadTermAnd, LogicTermAnd, TermCmp, HeadTermCmp}
+use Rattle.source_grammar.specs.Nonterminals.{LogicTermCmp, TermSum, HeadTermSum, LogicTermSum, TermProd, HeadTermProd, LogicTermProd, TermUnary, HeadTermUnary, LogicTermUnary, PrefixTerm, HeadPrefixTerm, TermPostfix, HeadTermPostfix}
+use Rattle.source_grammar.specs.Nonterminals.{LogicTermPostfix, View, TermMember, TermArguments, TermPrim, HeadTermPrim, LogicTermPrim, Quantified, HeadQuantified, Binder, PathTerm, HeadPathTerm, LogicPathTerm, TermParts, TermPath}
+use Rattle.source_grammar.specs.Nonterminals.{TermPathName, LogicTermPath, LogicPathName, FieldTerms, FieldTerm, TermAtom, IntegerTerm, TruthTerm, AnswerTerm, SelfTerm, ParenTerm, IfTerm, MatchTerm, TermArm, MutRefTerm, PredicateTerm}
+use Rattle.source_grammar.specs.Nonterminals.{AfterTerm, AfterPattern, AfterName}
 
 unfoldable pub lines : List Form
 lines =
     -- ## Sources: the Rust Reference, "Crates and source files". An inner attribute is told from an item's by what stands behind its `#`.
     -- Source
-    (Hash · SourceHash ∣ optional Public · UnmarkedItem · Items ∣ epsilon)
+    (Hash · SourceHash ∣ PlainItem · Items ∣ epsilon)
     -- SourceHash
-    ∷ (Not · OpenBracket · PassedAttribute · CloseBracket · Source ∣ OpenBracket · ItemAttribute · Items)
+    ∷ (Not · brackets Any · Source ∣ FirstItem · Items)
     -- Items
     ∷ (repeated Item)
-    -- ## Items and visibility: "Items", "Visibility and privacy". The body of a function is chosen by its attributes: behind `#[logic]` a logic body, behind `#[law]` none.
+    -- Any
+    ∷ (repeated (AnyToken ∣ parens Any ∣ brackets Any ∣ braces Any))
+    -- ## Items and visibility: "Items", "Visibility and privacy". The body of a function is chosen by its attributes: behind `#[logic]` a logic body, behind `#[law]` none. The `#`
+    -- of a first item stands before it.
     -- Item
-    ∷ (Hash · OpenBracket · ItemAttribute ∣ optional Public · UnmarkedItem)
+    ∷ (AttributedItem)
+    -- FirstItem
+    ∷ (OpenBracket · ItemAttribute)
+    -- PlainItem
+    ∷ (UnmarkedItem)
+    -- AttributedItem
+    ∷ (Hash · OpenBracket · ItemAttribute ∣ UnmarkedItem)
     -- ItemAttribute
-    ∷ (Attribute · CloseBracket · Item ∣ WordLogic · CloseBracket · LogicItem ∣ WordLaw · CloseBracket · LawItem)
+    ∷ (Attribute · CloseBracket · AttributedItem ∣ WordLogic · CloseBracket · LogicItem ∣ WordLaw · CloseBracket · LawItem)
     -- LogicItem
     ∷ (Hash · OpenBracket · LogicAttribute ∣ optional Public · (Function · Logic ∣ OtherItem))
     -- LogicAttribute
     ∷ (Attribute · CloseBracket · LogicItem ∣ WordLogic · CloseBracket · LogicItem ∣ WordLaw · CloseBracket · LawItem)
     -- LawItem
-    ∷ (Hash · OpenBracket · AnyAttribute · CloseBracket · LawItem ∣ optional Public · (Function · Semicolon ∣ OtherItem))
+    ∷ (Hash · brackets LawAttribute · LawItem ∣ optional Public · (Function · Semicolon ∣ OtherItem))
+    -- LawAttribute
+    ∷ (Attribute ∣ WordLogic ∣ WordLaw)
     -- UnmarkedItem
-    ∷ (Function · Block ∣ OtherItem)
+    ∷ (optional Public · (Function · Block ∣ OtherItem))
     -- OtherItem
     ∷ (Struct ∣ Enum ∣ Trait ∣ Impl ∣ Use)
     -- Public
-    ∷ (KwPub · optional (OpenParen · KwCrate · CloseParen))
-    -- ## Attributes: "Attributes". `AfterTerm` stands behind each whole term, so that the parser's stack says that a term is open.
+    ∷ (KwPub · optional (parens KwCrate))
+    -- ## Attributes: "Attributes". The bracket of an item's attribute is a level as others are, but stands apart from it.
     -- Attribute
-    ∷ ((WordRequires ∣ WordEnsures ∣ WordInvariant ∣ WordVariant) · OpenParen · Term · AfterTerm · CloseParen ∣ PassedAttribute)
-    -- PassedAttribute
-    ∷ (WordDerive · OpenParen · list Name · CloseParen ∣ (WordAllow ∣ WordInline ∣ WordMustUse ∣ WordDoc) · optional (OpenParen · list Name · CloseParen))
+    ∷ (level AttributeInput)
     -- AnyAttribute
-    ∷ (Attribute ∣ WordLogic ∣ WordLaw)
-    -- AfterTerm
-    ∷ (epsilon)
+    ∷ (brackets (AttributeInput ∣ WordLogic ∣ WordLaw))
+    -- AttributeInput
+    ∷ (ClauseInput ∣ DeriveInput ∣ PassedWord · Any)
+    -- ClauseInput
+    ∷ (ClauseWord · parens WholeTerm)
+    -- DeriveInput
+    ∷ (WordDerive · parens (list Name))
     -- ## Uses: "Use declarations", "Extern crate declarations".
     -- Use
-    ∷ (KwUse · (WordCreusotContracts ∣ WordStd) · repeated (PathSep · (Name ∣ Star ∣ OpenBrace · list Name · CloseBrace)) · Semicolon ∣ KwExtern · KwCrate · WordCreusotContracts · Semicolon)
+    ∷ (ContractsUse ∣ ExternCrate)
+    -- ContractsUse
+    ∷ (KwUse · ContractsRoot · repeated (UseToken ∣ parens Any ∣ brackets Any ∣ braces Any) · Semicolon)
+    -- ExternCrate
+    ∷ (KwExtern · KwCrate · WordCreusotContracts · Semicolon)
     -- ## Functions and their bodies: "Functions". A logic body is Creusot's.
     -- Function
-    ∷ (KwFn · Name · optional Generics · OpenParen · list Param · CloseParen · optional (Arrow · AnyType) · optional Where)
+    ∷ (KwFn · Name · optional Generics · Params · optional (Arrow · AnyType) · optional Where)
+    -- Params
+    ∷ (parens (list Param))
     -- Logic
-    ∷ (OpenBrace · (Term · AfterTerm ∣ WordPearlite · Not · OpenBrace · Term · AfterTerm · CloseBrace) · CloseBrace)
+    ∷ (braces (LogicTerm · AfterTerm ∣ WordPearlite · Not · braces WholeTerm))
     -- ## Generics: "Generic parameters", "Trait and lifetime bounds".
     -- Generics
     ∷ (Less · list GenericParam · Greater)
     -- GenericParam
-    ∷ (Lifetime · optional (Colon · Lifetime) ∣ Name · optional (Colon · Bounds))
+    ∷ (LifetimeParam ∣ TypeParam)
+    -- LifetimeParam
+    ∷ (Lifetime · optional (Colon · Lifetime))
+    -- TypeParam
+    ∷ (Name · optional (Colon · Bounds))
     -- Where
-    ∷ (KwWhere · list WhereBound)
+    ∷ (KwWhere · WhereBounds)
+    -- WhereBounds
+    ∷ (WhereBound · optional (Comma · WhereBounds) ∣ epsilon)
     -- WhereBound
-    ∷ (Name · Colon · Bounds ∣ Lifetime · Colon · Lifetime)
+    ∷ (TypeCondition ∣ LifetimeCondition)
+    -- TypeCondition
+    ∷ (Name · Colon · Bounds)
+    -- LifetimeCondition
+    ∷ (Lifetime · Colon · Lifetime)
     -- Bounds
     ∷ (Bound · repeated (Plus · Bound))
     -- Bound
-    ∷ (BoundName ∣ (WordFn ∣ WordFnMut ∣ WordFnOnce) · OpenParen · list AnyType · CloseParen · optional (Arrow · AnyType))
+    ∷ (TraitBound ∣ CallBound)
+    -- TraitBound
+    ∷ (BoundName)
+    -- CallBound
+    ∷ (ClosureTrait · TypesInParens · optional (Arrow · AnyType))
+    -- TypesInParens
+    ∷ (parens (list AnyType))
     -- Param
-    ∷ (KwMut · (Name · Colon · AnyType ∣ KwSelfValue) ∣ Name · Colon · AnyType ∣ KwSelfValue ∣ Ampersand · optional Lifetime · optional KwMut · KwSelfValue)
+    ∷ (NamedParam ∣ KwMut · MutParam ∣ ReceiverParam ∣ BorrowedParam)
+    -- NamedParam
+    ∷ (Name · Colon · AnyType)
+    -- MutParam
+    ∷ (MutNamedParam ∣ MutReceiver)
+    -- MutNamedParam
+    ∷ (Name · Colon · AnyType)
+    -- MutReceiver
+    ∷ (KwSelfValue)
+    -- ReceiverParam
+    ∷ (KwSelfValue)
+    -- BorrowedParam
+    ∷ (Ampersand · optional Lifetime · optional KwMut · KwSelfValue)
     -- ## Structs, enums, traits and impls: "Structs", "Enumerations", "Traits", "Implementations".
     -- Struct
-    ∷ (KwStruct · Name · optional Generics · (OpenBrace · list Field · CloseBrace ∣ OpenParen · list TupleField · CloseParen · Semicolon ∣ Semicolon))
+    ∷ (KwStruct · Name · optional Generics · (NamedFields ∣ TupleFields · Semicolon ∣ Semicolon))
+    -- NamedFields
+    ∷ (braces (list Field))
+    -- TupleFields
+    ∷ (parens (list TupleField))
     -- Field
     ∷ (optional KwPub · Name · Colon · AnyType)
     -- TupleField
     ∷ (optional KwPub · AnyType)
     -- Enum
-    ∷ (KwEnum · Name · optional Generics · OpenBrace · list Variant · CloseBrace)
+    ∷ (KwEnum · Name · optional Generics · braces (list Variant))
     -- Variant
-    ∷ (Name · optional (OpenParen · list AnyType · CloseParen ∣ OpenBrace · list TypedName · CloseBrace))
+    ∷ (Name · optional (TypesInParens ∣ TypedFields))
+    -- TypedFields
+    ∷ (braces (list TypedField))
+    -- TypedField
+    ∷ (Name · Colon · AnyType)
     -- Trait
-    ∷ (KwTrait · Name · OpenBrace · repeated TraitItem · CloseBrace)
+    ∷ (KwTrait · Name · braces (repeated TraitItem))
     -- TraitItem
-    ∷ (Hash · OpenBracket · AnyAttribute · CloseBracket · TraitItem ∣ Function · Semicolon)
+    ∷ (TraitMethod)
+    -- TraitMethod
+    ∷ (Hash · AnyAttribute · TraitMethod ∣ Function · Semicolon)
     -- Impl
-    ∷ (KwImpl · optional Generics · (TypeName · optional (KwFor · AnyType ∣ TypeArguments) ∣ UnnamedType ∣ Ampersand · optional Lifetime · optional KwMut · AnyType) · optional Where · OpenBrace · ImplItems · CloseBrace)
+    ∷ (KwImpl · optional Generics · (ImplHead ∣ UnnamedType ∣ ReferenceType) · optional Where · ImplBody)
+    -- ImplHead
+    ∷ (TypeName · optional (KwFor · AnyType ∣ TypeArguments))
+    -- ImplBody
+    ∷ (braces ImplItems)
     -- ImplItems
-    ∷ (repeated ImplItem)
+    ∷ (ImplItem · ImplItems ∣ epsilon)
     -- ImplItem
-    ∷ (KwType · WordViewTy · Equal · AnyType · Semicolon ∣ Hash · OpenBracket · ImplAttribute ∣ optional Public · Function · Block)
+    ∷ (ViewType ∣ ImplMethod)
+    -- ViewType
+    ∷ (KwType · WordViewTy · level (Equal · AnyType) · Semicolon)
+    -- ImplMethod
+    ∷ (AttributedMethod)
+    -- AttributedMethod
+    ∷ (Hash · OpenBracket · ImplAttribute ∣ optional KwPub · Function · Block)
     -- ImplAttribute
-    ∷ (Attribute · CloseBracket · AttributedImplItem ∣ WordLogic · CloseBracket · LogicImplItem ∣ WordLaw · CloseBracket · LawImplItem)
-    -- AttributedImplItem
-    ∷ (Hash · OpenBracket · ImplAttribute ∣ optional Public · Function · Block)
-    -- LogicImplItem
-    ∷ (Hash · OpenBracket · LogicImplAttribute ∣ optional Public · Function · Logic)
+    ∷ (Attribute · CloseBracket · AttributedMethod ∣ WordLogic · CloseBracket · LogicMethod ∣ WordLaw · CloseBracket · LawMethod)
+    -- LogicMethod
+    ∷ (Hash · OpenBracket · LogicImplAttribute ∣ optional KwPub · Function · Logic)
     -- LogicImplAttribute
-    ∷ (Attribute · CloseBracket · LogicImplItem ∣ WordLogic · CloseBracket · LogicImplItem ∣ WordLaw · CloseBracket · LawImplItem)
-    -- LawImplItem
-    ∷ (Hash · OpenBracket · AnyAttribute · CloseBracket · LawImplItem ∣ optional Public · Function · Semicolon)
+    ∷ (Attribute · CloseBracket · LogicMethod ∣ WordLogic · CloseBracket · LogicMethod ∣ WordLaw · CloseBracket · LawMethod)
+    -- LawMethod
+    ∷ (Hash · brackets LawAttribute · LawMethod ∣ optional KwPub · Function · Semicolon)
     -- ## Types: "Types", "Tuple types", "Pointer types". The type behind `as` has no arguments, so that a `<` behind it compares: "Type cast expressions".
     -- AnyType
-    ∷ (TypeName · optional TypeArguments ∣ UnnamedType ∣ Ampersand · optional Lifetime · optional KwMut · AnyType)
+    ∷ (NamedType ∣ UnnamedType ∣ ReferenceType)
+    -- NamedType
+    ∷ (TypeName · optional TypeArguments)
     -- TypeArguments
-    ∷ (Less · list TypeArgument · Greater)
+    ∷ (level (Less · list TypeArgument · Greater))
     -- TypeArgument
     ∷ (Lifetime ∣ AnyType)
+    -- TypeList
+    ∷ (level (Less · list AnyType · Greater))
+    -- ReferenceType
+    ∷ (level (Ampersand · optional Lifetime · optional KwMut · AnyType))
     -- CastType
-    ∷ (TypeName ∣ UnnamedType ∣ Ampersand · optional Lifetime · optional KwMut · CastType)
+    ∷ (CastName ∣ UnnamedType ∣ CastReference)
+    -- CastName
+    ∷ (TypeName)
+    -- CastReference
+    ∷ (level (Ampersand · optional Lifetime · optional KwMut · CastType))
     -- UnnamedType
-    ∷ (OpenParen · list AnyType · CloseParen ∣ KwSelfType · optional (PathSep · WordViewTy))
-    -- ## Patterns and paths: "Patterns", "Paths".
+    ∷ (TupleType ∣ SelfType)
+    -- TupleType
+    ∷ (parens (list AnyType))
+    -- SelfType
+    ∷ (KwSelfType · optional (PathSep · WordViewTy))
+    -- ## Patterns and paths: "Patterns", "Paths". Types stand behind the first name of a path, or behind its last.
     -- Pattern
-    ∷ (Underscore ∣ KwMut · Name ∣ optional Minus · Integer ∣ KwTrue ∣ KwFalse ∣ OpenParen · list Pattern · CloseParen ∣ (Name · repeated (PathSep · PathSegment) ∣ Qualified) · optional (OpenParen · list Pattern ·
-    CloseParen ∣ OpenBrace · FieldPatterns · CloseBrace))
+    ∷ (PatternForm · AfterPattern)
+    -- PatternForm
+    ∷ (Wildcard ∣ MutPattern ∣ IntegerPattern ∣ TruthPattern ∣ TuplePattern ∣ PathPattern)
+    -- Wildcard
+    ∷ (Underscore)
+    -- MutPattern
+    ∷ (KwMut · Name)
+    -- IntegerPattern
+    ∷ (optional Minus · Integer)
+    -- TruthPattern
+    ∷ (Truth)
+    -- TuplePattern
+    ∷ (parens (list Pattern))
+    -- PathPattern
+    ∷ (PatternPath · optional (PatternParts ∣ PatternFields))
+    -- PatternParts
+    ∷ (parens (list Pattern))
+    -- PatternFields
+    ∷ (braces FieldPatterns)
     -- FieldPatterns
-    ∷ (Name · optional (Colon · Pattern) · optional (Comma · FieldPatterns ∣ DotDot) ∣ DotDot ∣ epsilon)
-    -- Path
-    ∷ (ExprName · repeated (PathSep · PathSegment) ∣ Qualified)
-    -- TermPath
-    ∷ (TermName · repeated (PathSep · PathSegment) ∣ Qualified)
-    -- PathSegment
-    ∷ (Name ∣ Less · list AnyType · Greater)
-    -- Turbo
-    ∷ (PathSep · Less · list AnyType · Greater)
+    ∷ (FieldPattern · optional (Comma · FieldPatterns ∣ DotDot) ∣ DotDot ∣ epsilon)
+    -- FieldPattern
+    ∷ (Name · optional (Colon · Pattern))
+    -- PatternPath
+    ∷ (PatternName ∣ Qualified)
+    -- PatternName
+    ∷ (Name · PathRest)
+    -- PathRest
+    ∷ (PathSep · (Name · PathEnd ∣ TypeList · optional (PathSep · Name)) ∣ epsilon)
+    -- PathEnd
+    ∷ (PathSep · (Name · PathEnd ∣ TypeList) ∣ epsilon)
     -- Qualified
     ∷ (Less · AnyType · KwAs · BoundName · Greater · PathSep · Name)
     -- ## Blocks and statements: "Statements", "Block expressions". A statement that begins with a blocklike ends with it.
     -- Block
-    ∷ (OpenBrace · Statements · CloseBrace)
+    ∷ (braces Statements)
     -- Statements
-    ∷ (KwLet · Pattern · optional (Colon · AnyType) · Equal · Expr · Semicolon · Statements ∣ Blocklike · optional Semicolon · Statements ∣ Hash · OpenBracket · AnyAttribute · CloseBracket · AttributedStatement ∣
-    StatementExpr · optional (Semicolon · Statements) ∣ epsilon)
+    ∷ (Let · Statements ∣ BlocklikeStatement · Statements ∣ Hash · AnyAttribute · AttributedStatement ∣ StatementExpr · StatementsRest ∣ epsilon)
     -- AttributedStatement
-    ∷ (Hash · OpenBracket · AnyAttribute · CloseBracket · AttributedStatement ∣ Loop · optional Semicolon · Statements ∣ Closure · optional (Semicolon · Statements))
+    ∷ (Hash · AnyAttribute · AttributedStatement ∣ LoopStatement · Statements ∣ ClosureExpr · StatementsRest)
+    -- StatementsRest
+    ∷ (Semicolon · Statements ∣ epsilon)
+    -- BlocklikeStatement
+    ∷ (Blocklike · optional Semicolon)
+    -- LoopStatement
+    ∷ (Loop · optional Semicolon)
+    -- Let
+    ∷ (KwLet · Pattern · optional (Colon · AnyType) · LetValue · LetEnd)
+    -- LetValue
+    ∷ (level (Equal · Expr))
+    -- LetEnd
+    ∷ (Semicolon)
     -- ## Branches and loops: "if expressions", "match expressions", "Loops and other breakable expressions".
     -- Blocklike
     ∷ (Block ∣ If ∣ Match ∣ Loop)
     -- If
-    ∷ (KwIf · Condition · Block · optional (KwElse · (Block ∣ If)))
+    ∷ (level (KwIf · Condition) · Block · optional (level (KwElse · (Block ∣ If))))
     -- Match
-    ∷ (KwMatch · HeadExpr · OpenBrace · Arms · CloseBrace)
+    ∷ (level (KwMatch · HeadExpr) · braces Arms)
     -- Arms
-    ∷ (Pattern · FatArrow · (Blocklike · optional Comma · Arms ∣ Hash · OpenBracket · AnyAttribute · CloseBracket · AttributedArm ∣ StatementExpr · optional (Comma · Arms)) ∣ epsilon)
+    ∷ (Pattern · FatArrow · (Blocklike · optional Comma · Arms ∣ Hash · AnyAttribute · AttributedArm ∣ StatementExpr · optional (Comma · Arms)) ∣ epsilon)
     -- AttributedArm
-    ∷ (Hash · OpenBracket · AnyAttribute · CloseBracket · AttributedArm ∣ Loop · optional Comma · Arms ∣ Closure · optional (Comma · Arms))
+    ∷ (Hash · AnyAttribute · AttributedArm ∣ Loop · optional Comma · Arms ∣ ClosureExpr · optional (Comma · Arms))
     -- Loop
-    ∷ (KwWhile · Condition · Block ∣ KwLoop · Block)
+    ∷ (While ∣ Forever)
+    -- While
+    ∷ (level (KwWhile · Condition) · Block)
+    -- Forever
+    ∷ (KwLoop · Block)
     -- Condition
-    ∷ (HeadExpr ∣ KwLet · Pattern · Equal · HeadExpr)
-    -- ## Operators, from the weakest to the strongest: "Expression precedence", "Operator expressions".
+    ∷ (HeadExpr ∣ LetCondition)
+    -- LetCondition
+    ∷ (KwLet · Pattern · level (Equal · HeadExpr))
+    -- ## Operators, from the weakest to the strongest: "Expression precedence", "Operator expressions". An assignment groups to the right. A closure with attributes that begins a
+    -- statement goes on with operators.
     -- Expr
-    ∷ (Or · optional ((Equal ∣ PlusEqual ∣ MinusEqual ∣ StarEqual ∣ SlashEqual ∣ PercentEqual) · Expr))
-    -- ## Operators, from the weakest to the strongest: "Expression precedence", "Operator expressions".
+    ∷ (Or · chain (AssignOperator · Or) · optional (level (Equal · Expr)))
     -- HeadExpr
-    ∷ (HeadOr · optional ((Equal ∣ PlusEqual ∣ MinusEqual ∣ StarEqual ∣ SlashEqual ∣ PercentEqual) · HeadExpr))
-    -- ## Operators, from the weakest to the strongest: "Expression precedence", "Operator expressions".
+    ∷ (HeadOr · chain (AssignOperator · HeadOr) · optional (level (Equal · HeadExpr)))
     -- StatementExpr
-    ∷ (StatementOr · optional ((Equal ∣ PlusEqual ∣ MinusEqual ∣ StarEqual ∣ SlashEqual ∣ PercentEqual) · Expr))
+    ∷ (StatementOr · chain (AssignOperator · Or) · optional (level (Equal · Expr)))
     -- Or
-    ∷ (And · repeated (OrOr · And))
+    ∷ (And · chain (OrOr · And))
     -- HeadOr
-    ∷ (HeadAnd · repeated (OrOr · HeadAnd))
+    ∷ (HeadAnd · chain (OrOr · HeadAnd))
     -- StatementOr
-    ∷ (StatementAnd · repeated (OrOr · And))
+    ∷ (StatementAnd · chain (OrOr · And))
     -- And
-    ∷ (Cmp · repeated (AndAnd · Cmp))
+    ∷ (Cmp · chain (AndAnd · Cmp))
     -- HeadAnd
-    ∷ (HeadCmp · repeated (AndAnd · HeadCmp))
+    ∷ (HeadCmp · chain (AndAnd · HeadCmp))
     -- StatementAnd
-    ∷ (StatementCmp · repeated (AndAnd · Cmp))
+    ∷ (StatementCmp · chain (AndAnd · Cmp))
     -- Cmp
-    ∷ (Sum · optional ((EqualEqual ∣ NotEqual ∣ Less ∣ AtMost ∣ Greater ∣ AtLeast) · Sum))
+    ∷ (Sum · optional (ComparisonOperator · Sum))
     -- HeadCmp
-    ∷ (HeadSum · optional ((EqualEqual ∣ NotEqual ∣ Less ∣ AtMost ∣ Greater ∣ AtLeast) · HeadSum))
+    ∷ (HeadSum · optional (ComparisonOperator · HeadSum))
     -- StatementCmp
-    ∷ (StatementSum · optional ((EqualEqual ∣ NotEqual ∣ Less ∣ AtMost ∣ Greater ∣ AtLeast) · Sum))
+    ∷ (StatementSum · optional (ComparisonOperator · Sum))
     -- Sum
-    ∷ (Prod · repeated ((Plus ∣ Minus) · Prod))
+    ∷ (Prod · chain (SumOperator · Prod))
     -- HeadSum
-    ∷ (HeadProd · repeated ((Plus ∣ Minus) · HeadProd))
+    ∷ (HeadProd · chain (SumOperator · HeadProd))
     -- StatementSum
-    ∷ (StatementProd · repeated ((Plus ∣ Minus) · Prod))
+    ∷ (StatementProd · chain (SumOperator · Prod))
     -- Prod
-    ∷ (Cast · repeated ((Star ∣ Slash ∣ Percent) · Cast))
+    ∷ (Cast · chain (ProductOperator · Cast))
     -- HeadProd
-    ∷ (HeadCast · repeated ((Star ∣ Slash ∣ Percent) · HeadCast))
+    ∷ (HeadCast · chain (ProductOperator · HeadCast))
     -- StatementProd
-    ∷ (StatementCast · repeated ((Star ∣ Slash ∣ Percent) · Cast))
+    ∷ (StatementCast · chain (ProductOperator · Cast))
     -- Cast
-    ∷ (Unary · repeated (KwAs · CastType))
+    ∷ (Unary · chain (KwAs · CastType))
     -- HeadCast
-    ∷ (HeadUnary · repeated (KwAs · CastType))
+    ∷ (HeadUnary · chain (KwAs · CastType))
     -- StatementCast
-    ∷ (StatementUnary · repeated (KwAs · CastType))
+    ∷ (StatementUnary · chain (KwAs · CastType))
     -- Unary
-    ∷ ((Minus ∣ Not ∣ Star ∣ Ampersand · optional KwMut) · Unary ∣ Postfix)
+    ∷ (Prefix ∣ Postfix)
     -- HeadUnary
-    ∷ ((Minus ∣ Not ∣ Star ∣ Ampersand · optional KwMut) · HeadUnary ∣ HeadPostfix)
+    ∷ (HeadPrefix ∣ HeadPostfix)
     -- StatementUnary
-    ∷ ((Minus ∣ Not ∣ Star ∣ Ampersand · optional KwMut) · Unary ∣ StatementPostfix)
+    ∷ (Prefix ∣ StatementPostfix)
+    -- Prefix
+    ∷ (level ((Minus ∣ Not ∣ Star ∣ Ampersand · optional KwMut) · Unary))
+    -- HeadPrefix
+    ∷ (level ((Minus ∣ Not ∣ Star ∣ Ampersand · optional KwMut) · HeadUnary))
     -- Postfix
-    ∷ (Prim · repeated (Dot · (Name · optional Turbo · optional Arguments ∣ Integer) ∣ Arguments))
+    ∷ (Prim · chain PostfixOperation)
     -- HeadPostfix
-    ∷ (HeadPrim · repeated (Dot · (Name · optional Turbo · optional Arguments ∣ Integer) ∣ Arguments))
+    ∷ (HeadPrim · chain PostfixOperation)
     -- StatementPostfix
-    ∷ (StatementPrim · repeated (Dot · (Name · optional Turbo · optional Arguments ∣ Integer) ∣ Arguments))
+    ∷ (StatementPrim · chain PostfixOperation)
+    -- PostfixOperation
+    ∷ (Member ∣ Arguments)
+    -- Member
+    ∷ (Dot · (Name · optional (PathSep · TypeList) · optional Arguments ∣ Integer))
     -- Arguments
-    ∷ (OpenParen · list Expr · CloseParen)
+    ∷ (parens (list Expr))
+    -- ClosureExpr
+    ∷ (ClosureOperation · chain (AssignOperator · Or) · optional (level (Equal · Expr)))
+    -- ClosureOperation
+    ∷ (Closure · chain PostfixOperation · chain (KwAs · CastType) · chain (ProductOperator · Cast) · chain (SumOperator · Prod) · optional (ComparisonOperator · Sum) · chain (AndAnd · Cmp) · chain (OrOr · And))
     -- ## Operands: "Literal expressions", "Path expressions", "Struct expressions", "return expressions", "Closure expressions".
     -- Prim
-    ∷ (Atom ∣ Path · optional StructLiteral ∣ Blocklike ∣ Hash · OpenBracket · AnyAttribute · CloseBracket · AttributedPrim ∣ Closure ∣ KwReturn · optional Expr)
+    ∷ (Atom ∣ PathExpr ∣ Blocklike ∣ AttributedPrim ∣ Closure ∣ Return)
     -- HeadPrim
-    ∷ (Atom ∣ Path ∣ Blocklike ∣ Hash · OpenBracket · AnyAttribute · CloseBracket · AttributedHeadPrim ∣ HeadClosure ∣ KwReturn · HeadReturn)
+    ∷ (Atom ∣ HeadPathExpr ∣ Blocklike ∣ AttributedHeadPrim ∣ HeadClosure ∣ HeadReturn)
     -- StatementPrim
-    ∷ (Atom ∣ Path · optional StructLiteral ∣ Closure ∣ KwReturn · optional Expr)
-    -- HeadReturn
-    ∷ (HeadExpr ∣ epsilon)
+    ∷ (Atom ∣ PathExpr ∣ Closure ∣ Return)
     -- AttributedPrim
-    ∷ (Hash · OpenBracket · AnyAttribute · CloseBracket · AttributedPrim ∣ Loop ∣ Closure)
+    ∷ (Hash · AnyAttribute · LoopOrClosure)
+    -- LoopOrClosure
+    ∷ (Hash · AnyAttribute · LoopOrClosure ∣ Loop ∣ Closure)
     -- AttributedHeadPrim
-    ∷ (Hash · OpenBracket · AnyAttribute · CloseBracket · AttributedHeadPrim ∣ Loop ∣ HeadClosure)
+    ∷ (Hash · AnyAttribute · LoopOrHeadClosure)
+    -- LoopOrHeadClosure
+    ∷ (Hash · AnyAttribute · LoopOrHeadClosure ∣ Loop ∣ HeadClosure)
+    -- Return
+    ∷ (KwReturn · optional (level Expr))
+    -- HeadReturn
+    ∷ (KwReturn · HeadReturnValue)
+    -- HeadReturnValue
+    ∷ (level HeadExpr ∣ epsilon)
     -- Atom
-    ∷ (Integer ∣ KwTrue ∣ KwFalse ∣ KwSelfValue ∣ OpenParen · list Expr · CloseParen ∣ KwBreak ∣ KwContinue ∣ (WordPanic ∣ WordUnreachable) · Not · OpenParen · optional StringLiteral · CloseParen ∣ (WordProofAssert ∣
-    WordSnapshot) · Not · OpenParen · Term · AfterTerm · CloseParen)
+    ∷ (IntegerExpr ∣ TruthExpr ∣ SelfExpr ∣ ParenExpr ∣ Break ∣ Continue ∣ PanicCall ∣ GhostCall)
+    -- IntegerExpr
+    ∷ (Integer)
+    -- TruthExpr
+    ∷ (Truth)
+    -- SelfExpr
+    ∷ (KwSelfValue)
+    -- ParenExpr
+    ∷ (parens (list Expr))
+    -- Break
+    ∷ (KwBreak)
+    -- Continue
+    ∷ (KwContinue)
+    -- PanicCall
+    ∷ (PanicWord · Not · parens (optional StringLiteral))
+    -- GhostCall
+    ∷ (AssertWord · Not · parens WholeTerm)
+    -- PathExpr
+    ∷ (ExprPath · optional StructLiteral)
+    -- HeadPathExpr
+    ∷ (ExprPath)
+    -- ExprPath
+    ∷ (ExprPathName ∣ Qualified)
+    -- ExprPathName
+    ∷ (ExprName · AfterName · PathRest)
     -- StructLiteral
-    ∷ (OpenBrace · list FieldExpr · CloseBrace)
+    ∷ (braces (list FieldExpr))
     -- FieldExpr
     ∷ (Name · optional (Colon · Expr))
     -- Closure
-    ∷ (optional KwMove · (OrOr ∣ Bar · list TypedName · Bar) · (Arrow · AnyType · Block ∣ Expr))
+    ∷ (optional KwMove · (level (OrOr · ClosureBody) ∣ Bar · list ClosureParam · level (Bar · ClosureBody)))
     -- HeadClosure
-    ∷ (optional KwMove · (OrOr ∣ Bar · list TypedName · Bar) · (Arrow · AnyType · Block ∣ HeadExpr))
-    -- TypedName
+    ∷ (optional KwMove · (level (OrOr · HeadClosureBody) ∣ Bar · list ClosureParam · level (Bar · HeadClosureBody)))
+    -- ClosureParam
     ∷ (Name · Colon · AnyType)
+    -- ClosureBody
+    ∷ (Arrow · AnyType · Block ∣ Expr)
+    -- HeadClosureBody
+    ∷ (Arrow · AnyType · Block ∣ HeadExpr)
     -- ## Terms of contracts: Creusot's Pearlite, with the operators of Rust.
+    -- WholeTerm
+    ∷ (Term · AfterTerm)
     -- Term
-    ∷ (TermOr · optional (Implies · Term))
-    -- ## Terms of contracts: Creusot's Pearlite, with the operators of Rust.
+    ∷ (TermOr · optional (level (Implies · Term)))
     -- HeadTerm
-    ∷ (HeadTermOr · optional (Implies · HeadTerm))
+    ∷ (HeadTermOr · optional (level (Implies · HeadTerm)))
+    -- LogicTerm
+    ∷ (LogicTermOr · optional (level (Implies · Term)))
     -- TermOr
-    ∷ (TermAnd · repeated (OrOr · TermAnd))
+    ∷ (TermAnd · chain (OrOr · TermAnd))
     -- HeadTermOr
-    ∷ (HeadTermAnd · repeated (OrOr · HeadTermAnd))
+    ∷ (HeadTermAnd · chain (OrOr · HeadTermAnd))
+    -- LogicTermOr
+    ∷ (LogicTermAnd · chain (OrOr · TermAnd))
     -- TermAnd
-    ∷ (TermCmp · repeated (AndAnd · TermCmp))
+    ∷ (TermCmp · chain (AndAnd · TermCmp))
     -- HeadTermAnd
-    ∷ (HeadTermCmp · repeated (AndAnd · HeadTermCmp))
+    ∷ (HeadTermCmp · chain (AndAnd · HeadTermCmp))
+    -- LogicTermAnd
+    ∷ (LogicTermCmp · chain (AndAnd · TermCmp))
     -- TermCmp
-    ∷ (TermSum · optional ((EqualEqual ∣ NotEqual ∣ Less ∣ AtMost ∣ Greater ∣ AtLeast) · TermSum))
+    ∷ (TermSum · optional (ComparisonOperator · TermSum))
     -- HeadTermCmp
-    ∷ (HeadTermSum · optional ((EqualEqual ∣ NotEqual ∣ Less ∣ AtMost ∣ Greater ∣ AtLeast) · HeadTermSum))
+    ∷ (HeadTermSum · optional (ComparisonOperator · HeadTermSum))
+    -- LogicTermCmp
+    ∷ (LogicTermSum · optional (ComparisonOperator · TermSum))
     -- TermSum
-    ∷ (TermProd · repeated ((Plus ∣ Minus) · TermProd))
+    ∷ (TermProd · chain (SumOperator · TermProd))
     -- HeadTermSum
-    ∷ (HeadTermProd · repeated ((Plus ∣ Minus) · HeadTermProd))
+    ∷ (HeadTermProd · chain (SumOperator · HeadTermProd))
+    -- LogicTermSum
+    ∷ (LogicTermProd · chain (SumOperator · TermProd))
     -- TermProd
-    ∷ (TermUnary · repeated ((Star ∣ Slash ∣ Percent) · TermUnary))
+    ∷ (TermUnary · chain (ProductOperator · TermUnary))
     -- HeadTermProd
-    ∷ (HeadTermUnary · repeated ((Star ∣ Slash ∣ Percent) · HeadTermUnary))
+    ∷ (HeadTermUnary · chain (ProductOperator · HeadTermUnary))
+    -- LogicTermProd
+    ∷ (LogicTermUnary · chain (ProductOperator · TermUnary))
     -- TermUnary
-    ∷ ((Minus ∣ Not ∣ Star ∣ Caret) · TermUnary ∣ TermPostfix)
+    ∷ (PrefixTerm ∣ TermPostfix)
     -- HeadTermUnary
-    ∷ ((Minus ∣ Not ∣ Star ∣ Caret) · HeadTermUnary ∣ HeadTermPostfix)
+    ∷ (HeadPrefixTerm ∣ HeadTermPostfix)
+    -- LogicTermUnary
+    ∷ (PrefixTerm ∣ LogicTermPostfix)
+    -- PrefixTerm
+    ∷ (level (TermPrefix · TermUnary))
+    -- HeadPrefixTerm
+    ∷ (level (TermPrefix · HeadTermUnary))
     -- TermPostfix
-    ∷ (TermPrim · repeated (At ∣ Dot · (Name · optional (OpenParen · list Term · CloseParen) ∣ Integer)))
+    ∷ (TermPrim · chain (View ∣ TermMember))
     -- HeadTermPostfix
-    ∷ (HeadTermPrim · repeated (At ∣ Dot · (Name · optional (OpenParen · list Term · CloseParen) ∣ Integer)))
+    ∷ (HeadTermPrim · chain (View ∣ TermMember))
+    -- LogicTermPostfix
+    ∷ (LogicTermPrim · chain (View ∣ TermMember))
+    -- View
+    ∷ (At)
+    -- TermMember
+    ∷ (Dot · (Name · optional TermArguments ∣ Integer))
+    -- TermArguments
+    ∷ (parens (list Term))
     -- TermPrim
-    ∷ (TermAtom ∣ (WordForall ∣ WordExists) · Less · list TypedName · Greater · Term ∣ TermPath · optional (OpenParen · list Term · CloseParen ∣ OpenBrace · list FieldTerm · CloseBrace))
+    ∷ (TermAtom ∣ Quantified ∣ PathTerm)
     -- HeadTermPrim
-    ∷ (TermAtom ∣ (WordForall ∣ WordExists) · Less · list TypedName · Greater · HeadTerm ∣ TermPath · optional (OpenParen · list Term · CloseParen))
-    -- TermAtom
-    ∷ (Integer ∣ KwTrue ∣ KwFalse ∣ WordResult ∣ KwSelfValue ∣ OpenParen · list Term · CloseParen ∣ KwIf · HeadTerm · OpenBrace · Term · CloseBrace · KwElse · OpenBrace · Term · CloseBrace ∣ KwMatch · HeadTerm ·
-    OpenBrace · list TermArm · CloseBrace ∣ WordMutRef · OpenParen · Term · Comma · Term · CloseParen ∣ (WordPrecondition ∣ WordPostcondition ∣ WordPostconditionMut ∣ WordPostconditionOnce) · OpenParen · list Term ·
-    CloseParen)
-    -- TermArm
-    ∷ (Pattern · FatArrow · Term)
+    ∷ (TermAtom ∣ HeadQuantified ∣ HeadPathTerm)
+    -- LogicTermPrim
+    ∷ (TermAtom ∣ Quantified ∣ LogicPathTerm)
+    -- Quantified
+    ∷ (Quantifier · Less · list Binder · level (Greater · Term))
+    -- HeadQuantified
+    ∷ (Quantifier · Less · list Binder · level (Greater · HeadTerm))
+    -- Binder
+    ∷ (Name · Colon · AnyType)
+    -- PathTerm
+    ∷ (TermPath · TermParts)
+    -- HeadPathTerm
+    ∷ (TermPath · optional TermArguments)
+    -- LogicPathTerm
+    ∷ (LogicTermPath · TermParts)
+    -- TermParts
+    ∷ (TermArguments ∣ FieldTerms ∣ epsilon)
+    -- TermPath
+    ∷ (TermPathName ∣ Qualified)
+    -- TermPathName
+    ∷ (TermName · PathRest)
+    -- LogicTermPath
+    ∷ (LogicPathName ∣ Qualified)
+    -- LogicPathName
+    ∷ (LogicTermName · PathRest)
+    -- FieldTerms
+    ∷ (braces (list FieldTerm))
     -- FieldTerm
     ∷ (Name · Colon · Term)
-    -- ## Names: "Identifiers". A quoted word that is no keyword is a name wherever a name may stand, but for these.
-    -- Name
-    ∷ (Identifier ∣ WordCreusotContracts ∣ WordStd ∣ WordRequires ∣ WordEnsures ∣ WordInvariant ∣ WordVariant ∣ WordLogic ∣ WordLaw ∣ WordDerive ∣ WordAllow ∣ WordInline ∣ WordMustUse ∣ WordDoc ∣ WordPearlite ∣ WordFn ∣
-    WordFnMut ∣ WordFnOnce ∣ WordViewTy ∣ WordPanic ∣ WordUnreachable ∣ WordProofAssert ∣ WordSnapshot ∣ WordResult ∣ WordForall ∣ WordExists ∣ WordMutRef ∣ WordPrecondition ∣ WordPostcondition ∣ WordPostconditionMut ∣
-    WordPostconditionOnce ∣ WordF32 ∣ WordF64 ∣ WordChar ∣ WordStr ∣ WordI128 ∣ WordU128)
-    -- BoundName
-    ∷ (Identifier ∣ WordCreusotContracts ∣ WordStd ∣ WordRequires ∣ WordEnsures ∣ WordInvariant ∣ WordVariant ∣ WordLogic ∣ WordLaw ∣ WordDerive ∣ WordAllow ∣ WordInline ∣ WordMustUse ∣ WordDoc ∣ WordPearlite ∣
-    WordViewTy ∣ WordPanic ∣ WordUnreachable ∣ WordProofAssert ∣ WordSnapshot ∣ WordResult ∣ WordForall ∣ WordExists ∣ WordMutRef ∣ WordPrecondition ∣ WordPostcondition ∣ WordPostconditionMut ∣ WordPostconditionOnce ∣
-    WordF32 ∣ WordF64 ∣ WordChar ∣ WordStr ∣ WordI128 ∣ WordU128)
-    -- TypeName
-    ∷ (Identifier ∣ WordCreusotContracts ∣ WordStd ∣ WordRequires ∣ WordEnsures ∣ WordInvariant ∣ WordVariant ∣ WordLogic ∣ WordLaw ∣ WordDerive ∣ WordAllow ∣ WordInline ∣ WordMustUse ∣ WordDoc ∣ WordPearlite ∣ WordFn ∣
-    WordFnMut ∣ WordFnOnce ∣ WordViewTy ∣ WordPanic ∣ WordUnreachable ∣ WordProofAssert ∣ WordSnapshot ∣ WordResult ∣ WordForall ∣ WordExists ∣ WordMutRef ∣ WordPrecondition ∣ WordPostcondition ∣ WordPostconditionMut ∣
-    WordPostconditionOnce)
-    -- ExprName
-    ∷ (Identifier ∣ WordCreusotContracts ∣ WordStd ∣ WordRequires ∣ WordEnsures ∣ WordInvariant ∣ WordVariant ∣ WordLogic ∣ WordLaw ∣ WordDerive ∣ WordAllow ∣ WordInline ∣ WordMustUse ∣ WordDoc ∣ WordPearlite ∣ WordFn ∣
-    WordFnMut ∣ WordFnOnce ∣ WordViewTy ∣ WordResult ∣ WordForall ∣ WordExists ∣ WordMutRef ∣ WordPrecondition ∣ WordPostcondition ∣ WordPostconditionMut ∣ WordPostconditionOnce ∣ WordF32 ∣ WordF64 ∣ WordChar ∣ WordStr ∣
-    WordI128 ∣ WordU128)
-    -- TermName
-    ∷ (Identifier ∣ WordCreusotContracts ∣ WordStd ∣ WordRequires ∣ WordEnsures ∣ WordInvariant ∣ WordVariant ∣ WordLogic ∣ WordLaw ∣ WordDerive ∣ WordAllow ∣ WordInline ∣ WordMustUse ∣ WordDoc ∣ WordFn ∣ WordFnMut ∣
-    WordFnOnce ∣ WordViewTy ∣ WordPanic ∣ WordUnreachable ∣ WordProofAssert ∣ WordSnapshot ∣ WordF32 ∣ WordF64 ∣ WordChar ∣ WordStr ∣ WordI128 ∣ WordU128)
+    -- TermAtom
+    ∷ (IntegerTerm ∣ TruthTerm ∣ AnswerTerm ∣ SelfTerm ∣ ParenTerm ∣ IfTerm ∣ MatchTerm ∣ MutRefTerm ∣ PredicateTerm)
+    -- IntegerTerm
+    ∷ (Integer)
+    -- TruthTerm
+    ∷ (Truth)
+    -- AnswerTerm
+    ∷ (WordResult)
+    -- SelfTerm
+    ∷ (KwSelfValue)
+    -- ParenTerm
+    ∷ (parens (list Term))
+    -- IfTerm
+    ∷ (level (KwIf · HeadTerm) · braces Term · level (KwElse · braces Term))
+    -- MatchTerm
+    ∷ (level (KwMatch · HeadTerm) · braces (list TermArm))
+    -- TermArm
+    ∷ (Pattern · FatArrow · Term)
+    -- MutRefTerm
+    ∷ (WordMutRef · parens (Term · Comma · Term))
+    -- PredicateTerm
+    ∷ (ClosurePredicate · TermArguments)
+    -- ## What stands behind a form, so that a refusal tells that the form is open or has just ended.
+    -- AfterTerm
+    ∷ (epsilon)
+    -- AfterPattern
+    ∷ (epsilon)
+    -- AfterName
+    ∷ (epsilon)
     ∷ []
 
 -- FIRST settles after so many steps
 abbrev pub steps : ℕ
-steps = 13
+steps = 16
 
 unfoldable pub source_grammar : Grammar
-source_grammar = grammar_with (first_sets steps (expanded lines)) (expanded lines)
+source_grammar = grammar_with classes (first_sets classes steps (expanded lines)) (expanded lines)
 
--- a source is derived from the first line
-abbrev pub source : List Symbol
-source = Nonterminal 0 ∷ []
+-- what counts towards a limit at each nonterminal
+unfoldable pub source_marks : ℕ → Mark
+source_marks n = get_or (marked lines) n Plain
+
+-- a source is derived from the first line, and a term that stands alone from that of terms
+abbrev pub source_goal : ℕ
+source_goal = 0
+
+abbrev pub term_goal : ℕ
+term_goal = 184

@@ -1,5 +1,5 @@
--- The terminals, by the kinds of tokens. Made by `python3 tools/grammar.py` of tools/source.ebnf.
-use Rattle.grammar_tables.specs.Ebnf.{Form, terminal, separated}
+-- The terminals, by the kinds of tokens, and behind them those that stand for a class of kinds. Made by `python3 tools/grammar.py` of tools/source.ebnf.
+use Rattle.grammar_tables.specs.Ebnf.{Form, terminal, separated, level, ◌·◌}
 
 -- identifier
 abbrev pub Identifier : Form
@@ -481,6 +481,107 @@ WordI128 = terminal 118
 abbrev pub WordU128 : Form
 WordU128 = terminal 119
 
+-- `union`
+abbrev pub WordUnion : Form
+WordUnion = terminal 120
+
+-- `box`
+abbrev pub WordBox : Form
+WordBox = terminal 121
+
+-- `yield`
+abbrev pub WordYield : Form
+WordYield = terminal 122
+
+-- static lifetime
+abbrev pub StaticLifetime : Form
+StaticLifetime = terminal 123
+
+abbrev pub Name : Form
+Name = terminal 128
+
+abbrev pub BoundName : Form
+BoundName = terminal 129
+
+abbrev pub TypeName : Form
+TypeName = terminal 130
+
+abbrev pub ExprName : Form
+ExprName = terminal 131
+
+abbrev pub TermName : Form
+TermName = terminal 132
+
+abbrev pub LogicTermName : Form
+LogicTermName = terminal 133
+
+abbrev pub AssignOperator : Form
+AssignOperator = terminal 134
+
+abbrev pub ComparisonOperator : Form
+ComparisonOperator = terminal 135
+
+abbrev pub SumOperator : Form
+SumOperator = terminal 136
+
+abbrev pub ProductOperator : Form
+ProductOperator = terminal 137
+
+abbrev pub TermPrefix : Form
+TermPrefix = terminal 138
+
+abbrev pub Truth : Form
+Truth = terminal 139
+
+abbrev pub ContractsRoot : Form
+ContractsRoot = terminal 140
+
+abbrev pub ClauseWord : Form
+ClauseWord = terminal 141
+
+abbrev pub PassedWord : Form
+PassedWord = terminal 142
+
+abbrev pub ClosureTrait : Form
+ClosureTrait = terminal 143
+
+abbrev pub PanicWord : Form
+PanicWord = terminal 144
+
+abbrev pub AssertWord : Form
+AssertWord = terminal 145
+
+abbrev pub Quantifier : Form
+Quantifier = terminal 146
+
+abbrev pub ClosurePredicate : Form
+ClosurePredicate = terminal 147
+
+abbrev pub AnyToken : Form
+AnyToken = terminal 148
+
+abbrev pub UseToken : Form
+UseToken = terminal 149
+
+abbrev pub LeftOutToken : Form
+LeftOutToken = terminal 150
+
+abbrev pub OtherRoot : Form
+OtherRoot = terminal 151
+
+abbrev pub BoundOpening : Form
+BoundOpening = terminal 152
+
 -- any number, with `,` between and perhaps behind the last
 abbrev pub list : Form → Form
 list a = separated 79 a
+
+-- a pair of brackets, and what stands between, one level deeper
+abbrev pub parens : Form → Form
+parens a = level (OpenParen · a · CloseParen)
+
+abbrev pub brackets : Form → Form
+brackets a = level (OpenBracket · a · CloseBracket)
+
+abbrev pub braces : Form → Form
+braces a = level (OpenBrace · a · CloseBrace)

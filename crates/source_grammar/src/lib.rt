@@ -1,25 +1,37 @@
 //! The whole grammar of sources, as tables, and its parser.
 #![tactic(auto)]
 
-ghost use Rattle.std.specs.Prelude.{◌≡◌, IfOk, IfErr};
-ghost use Rattle.grammar_tables.specs.Grammar.{Derives};
+ghost use Rattle.std.specs.Prelude.{◌≡◌, ℕ};
 ghost use Rattle.grammar_tables.specs.LL1.{IsLL1};
-ghost use Rattle.grammar_tables.specs.Tables.{grammar_in, depth_in};
-ghost use Rattle.grammar_tables.specs.Answers.{IsRefused};
-ghost use Rattle.source_grammar.specs.SourceGrammar.{source_grammar, source};
+ghost use Rattle.grammar_tables.specs.Tables.{grammar_in, depth_in, mark_in};
+ghost use Rattle.source_grammar.specs.SourceGrammar.{source_grammar, source_marks};
 
+mod action;
 mod bodies;
+mod classes;
+mod fault;
+pub mod kinds;
+mod laws;
+mod lines;
+mod offence;
+mod parsing;
 mod predictions;
 
-use crate::bodies::{BODIES, DEPTHS, OFFSETS, SYMBOLS};
+use crate::bodies::{BODIES, DEPTHS, MARKS, MEMBERS, OFFSETS, SYMBOLS};
 use crate::predictions::PREDICTIONS;
-use grammar_tables::{ParseError, Tables, parse};
-use std::alloc::Global;
+pub use action::{Action, CodeAction, ShapeAction, action_of, is_for_several};
+pub use fault::SyntaxFault;
+use grammar_tables::Tables;
+pub use laws::{a_source_has_one_tree, fronts_have_one_answer, tokens_have_one_answer};
+pub use lines::{SOURCE, WHOLE_TERM};
+pub use offence::Offence;
+pub use parsing::{parse_source, parse_term};
 
 /// The tables of the grammar.
 pub fn tables() -> Tables<'static>
     ensures grammar { grammar_in result ≡ source_grammar }
     ensures ll1 { IsLL1 (grammar_in result) (depth_in result) }
+    ensures marks { (n : ℕ) → mark_in result n ≡ source_marks n }
 {
     Tables {
         symbols: &SYMBOLS,
@@ -27,13 +39,7 @@ pub fn tables() -> Tables<'static>
         offsets: &OFFSETS,
         predictions: &PREDICTIONS,
         depths: &DEPTHS,
+        members: &MEMBERS,
+        marks: &MARKS,
     }
-}
-
-/// The leftmost derivation of a source whose tokens have these kinds, or the first token that cannot continue.
-pub fn parse_source(alloc: Global, kinds: &[u8]) -> Result<Vec<u8>, ParseError>
-    ensures derived { IfOk result (λ derivation. Derives source_grammar source kinds.now derivation.items) }
-    ensures refused { IfErr result (λ error. IsRefused source_grammar source kinds.now error) }
-{
-    parse(alloc, &tables(), kinds, 0)
 }
