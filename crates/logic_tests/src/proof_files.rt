@@ -19,13 +19,13 @@ hyp 1.2
 end
 ";
 
-/// The first bad line; 0 where the text is read.
-fn bad_line(alloc: Global, text: &str) -> u32 {
-    if text.len() > 1000 {
+/// The first bad line; 0 where the bytes are read.
+fn bad_line(alloc: Global, bytes: &[u8]) -> u32 {
+    if bytes.len() > 1000 {
         return u32::MAX;
     }
     let mut names = Names::new(alloc);
-    match read_proofs(alloc, text.as_bytes(), &mut names) {
+    match read_proofs(alloc, bytes, &mut names) {
         Ok(_file) => 0,
         Err(ProofTextError::BadLine(line)) => line,
         Err(ProofTextError::NoMemory) => u32::MAX,
@@ -126,7 +126,7 @@ const READ: [&str; 5] = [
 #[test]
 fn what_is_read(rt: HostRuntime) {
     for text in READ {
-        assert!(rt; bad_line(rt.alloc(), text) == 0, "{text}");
+        assert!(rt; bad_line(rt.alloc(), text.as_bytes()) == 0, "{text}");
     }
 }
 
@@ -156,7 +156,7 @@ const BAD_LINES: [(&str, u32); 20] = [
 #[test]
 fn first_bad_lines(rt: HostRuntime) {
     for (text, want) in BAD_LINES {
-        assert!(rt; bad_line(rt.alloc(), text) == want, "{text}");
+        assert!(rt; bad_line(rt.alloc(), text.as_bytes()) == want, "{text}");
     }
 }
 
@@ -172,12 +172,85 @@ const BAD_STEPS: [&str; 12] = [
     "creusot-proofs 1\nproof 1 x\nrange x\nrange x\nsplit\nhyp 1.2 1.3\nend\n",
     "creusot-proofs 1\nproof 1 x\nrange x\nrange x\nsplit\nsplit x\nend\n",
     "creusot-proofs 1\nproof 1 x\nrange x\nrange x\nsplit\nsolve\nend\n",
-    "creusot-proofs 1\nproof 1 x\nrange x\nrange x\nsplit\nintro \u{e9}\nend\n",
+    "creusot-proofs 1\nproof 1 x\nrange x\nrange x\nsplit\nintro x\u{a0}y\nend\n",
 ];
 
 #[test]
 fn bad_steps(rt: HostRuntime) {
     for text in BAD_STEPS {
-        assert!(rt; bad_line(rt.alloc(), text) == 6, "{text}");
+        assert!(rt; bad_line(rt.alloc(), text.as_bytes()) == 6, "{text}");
+    }
+}
+
+const NAMES: [&str; 7] = [
+    "x",
+    "_1",
+    "\u{e9}",
+    "gr\u{fc}n_2",
+    "\u{3b1}",
+    "\u{65e5}\u{672c}",
+    "x\u{301}",
+];
+
+const NO_NAMES: [&str; 10] = [
+    "", "_", "1x", "fn", "Self", "dyn", "x-y", "\u{301}x", "\u{b2}", "\u{a0}x",
+];
+
+/// The first bad line of a file in which this is the name that the second step introduces.
+fn bad_line_of_name(alloc: Global, name: &str) -> Result<u32, Fail> {
+    let text = format!(in alloc; "creusot-proofs 1\nproof 1 x\nsplit\nintro y {name}\nend\n")?;
+    Ok(bad_line(alloc, text.as_bytes()))
+}
+
+/// The first bad line of a file with one proof of this owner.
+fn bad_line_of_owner(alloc: Global, owner: &str) -> Result<u32, Fail> {
+    let text = format!(in alloc; "creusot-proofs 1\nproof 1 {owner}\nend\n")?;
+    Ok(bad_line(alloc, text.as_bytes()))
+}
+
+#[test]
+fn names_are_identifiers(rt: HostRuntime) -> Result<(), Fail> {
+    for name in NAMES {
+        assert!(rt; bad_line_of_name(rt.alloc(), name)? == 0, "{name}");
+        assert!(rt; bad_line_of_owner(rt.alloc(), name)? == 0, "{name}");
+    }
+    for name in NO_NAMES {
+        assert!(rt; bad_line_of_name(rt.alloc(), name)? == 4, "{name}");
+        assert!(rt; bad_line_of_owner(rt.alloc(), name)? == 2, "{name}");
+    }
+    Ok(())
+}
+
+#[test]
+fn a_name_has_at_most_255_bytes(rt: HostRuntime) -> Result<(), Fail> {
+    let alloc = rt.alloc();
+    let even = "\u{e9}".repeat(alloc, 127)?;
+    assert!(rt; bad_line_of_name(alloc, &even)? == 0);
+    let longest = format!(in alloc; "x{even}")?;
+    assert!(rt; bad_line_of_name(alloc, &longest)? == 0);
+    assert!(rt; bad_line_of_owner(alloc, &longest)? == 0);
+    let past = format!(in alloc; "xx{even}")?;
+    assert!(rt; bad_line_of_name(alloc, &past)? == 4);
+    assert!(rt; bad_line_of_owner(alloc, &past)? == 2);
+    Ok(())
+}
+
+const LINES_OF_BYTES: [(&[u8], u32); 7] = [
+    (b"creusot-proofs 1\n#\xff\nproof 1 x\n# \xc3\nend\n", 0),
+    (b"creusot-proofs 1\xff\n", 1),
+    (b"creusot-proofs 1\n\xff\n", 2),
+    (b"creusot-proofs 1\nproof 1 x\xff\nend\n", 2),
+    (b"creusot-proofs 1\nproof 1 x\nintro \xc3\nend\n", 3),
+    (b"creusot-proofs 1\nproof 1 x\nrange \xed\xa0\x80\nend\n", 3),
+    (
+        b"creusot-proofs 1\nproof 1 x\n#\xa9\nintro x\xc3\n\xa9\nend\n",
+        4,
+    ),
+];
+
+#[test]
+fn lines_but_comments_are_utf_8(rt: HostRuntime) {
+    for (at, (bytes, want)) in LINES_OF_BYTES.iter().enumerate() {
+        assert!(rt; bad_line(rt.alloc(), *bytes) == *want, "row {at}");
     }
 }

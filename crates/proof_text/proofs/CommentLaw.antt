@@ -5,7 +5,7 @@ use Rattle.std.specs.Option.{option_map}
 use Rattle.std.specs.Str.{bytes_eq}
 use Rattle.std.proofs.lemmas.Bool.Decides.{nat_tests}
 use Rattle.proof_text.specs.ProofTextWords.{◌>>=◌, number_of}
-use Rattle.proof_text.specs.ProofTextLines.{Said, passed, heading, step, «end», none_left, identifier_of, heading_of, step_of, line_by_head, line_of_words, ascii_of, line_of_text, line_of}
+use Rattle.proof_text.specs.ProofTextLines.{Said, passed, heading, step, «end», none_left, identifier_of, heading_of, step_of, line_by_head, line_of_words, utf8_of, line_of_text, line_of}
 use Rattle.proof_text.specs.ProofFileForm.{IsComment}
 
 or_right : (a b : Bool) → b ≡ true → (a || b) ≡ true
@@ -25,7 +25,7 @@ pub comment_passed : (text : List ℕ) → IsComment text → line_of text ≡ S
 unfolding line_of
 comment_passed [] h = refl
 comment_passed (b ∷ bs) h =
-    ap (λ t. cond t (Some passed) (ascii_of (b ∷ bs) >>= line_of_text)) (or_right (length (b ∷ bs) == 0) (b == 35) (is_hash b h))
+    ap (λ t. cond t (Some passed) (utf8_of (b ∷ bs) >>= line_of_text)) (or_right (length (b ∷ bs) == 0) (b == 35) (is_hash b h))
 
 -- ---- no other line is passed over
 
@@ -63,10 +63,10 @@ not_text : (o : Option (List ℕ)) → (o >>= line_of_text) ≡ Some passed → 
 not_text None e = cc
 not_text (Some text) e = not_words (slice_split (λ b. b == 32) text) e
 
-by_test : (b : ℕ) (bs : List ℕ) (t s : Bool) → (length (b ∷ bs) == 0) ≡ t → (b == 35) ≡ s → cond (t || s) (Some passed) (ascii_of (b ∷ bs) >>= line_of_text) ≡ Some passed → b ≡ 35
+by_test : (b : ℕ) (bs : List ℕ) (t s : Bool) → (length (b ∷ bs) == 0) ≡ t → (b == 35) ≡ s → cond (t || s) (Some passed) (utf8_of (b ∷ bs) >>= line_of_text) ≡ Some passed → b ≡ 35
 by_test b bs true s empty hash e = absurd (not_empty b bs empty)
 by_test b bs false true empty hash e = hash_is b hash
-by_test b bs false false empty hash e = absurd (not_text (ascii_of (b ∷ bs)) e)
+by_test b bs false false empty hash e = absurd (not_text (utf8_of (b ∷ bs)) e)
 
 pub passed_comment : (text : List ℕ) → line_of text ≡ Some passed → IsComment text
 unfolding line_of

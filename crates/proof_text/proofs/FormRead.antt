@@ -1,6 +1,7 @@
 -- Lines that are read one by one have the format.
 use Rattle.std.proofs.Common.{◌≡◌, ℕ, suc, ◌+◌, ◌==◌, ◌||◌, ◌&&◌, Bool, true, false, cond, List, [], ◌∷◌, ◌++◌, length, codes, Option, Some, None, Result, Ok, Err, refl, sym, ◌∙◌, ap, subst, arith, add-zero, append_assoc, true≢false}
-use Rattle.std.specs.Str.{bytes_eq}
+use Rattle.std.specs.Str.{bytes_eq, chars, is_utf8}
+use Rattle.std.specs.Char.{encode_utf8}
 use Rattle.std.proofs.lemmas.List.{append-nil}
 use Rattle.std.proofs.lemmas.Bool.Decides.{nat_tests}
 use Rattle.std.proofs.lemmas.Slice.Eq.{bytes_eq-Decides}
@@ -216,9 +217,13 @@ form_of (text ∷ texts) qs e = form_from text texts qs (bytes_eq text header) r
 
 -- ---- what can be continued
 
+end_text : is_utf8 (codes "end") ≡ true
+unfolding is_utf8 chars encode_utf8
+end_text = refl
+
 end_line : line_of (codes "end") ≡ Some «end»
 unfolding line_of line_by_head
-end_line = refl
+end_line = rw end_text refl
 
 -- from each state some lines lead to a file
 finish : (s : State) (n : ℕ) → (more : List (List ℕ)) × AreLines more × ((qs : List SaidProof) × (state_after_all more s n ≡ Ok (between qs)))

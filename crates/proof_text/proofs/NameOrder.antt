@@ -11,7 +11,8 @@ use Rattle.name_tables.specs.NameTables.{with_name, with_names}
 use Rattle.name_tables.proofs.Tables.{names_append}
 use Rattle.proof_text.specs.declared.proof.ProofFile.{ProofFile}
 use Rattle.proof_text.specs.declared.fault.ProofTextError.{ProofTextError}
-use Rattle.proof_text.specs.ProofTextWords.{◌>>=◌, number_of, is_identifier}
+use Rattle.rs_tokens.specs.Tokens.{is_identifier}
+use Rattle.proof_text.specs.ProofTextWords.{◌>>=◌, number_of}
 use Rattle.proof_text.specs.ProofTextLines.{Said, texts_said, Line, passed, heading, step, «end», only, range_of, identifier_of, heading_of, line_by_head, line_of}
 use Rattle.proof_text.specs.ProofTextReads.{line_texts, state_texts, texts_if}
 use Rattle.proof_text.specs.ProofTextFile.{SaidStep, SaidProof, texts_of_steps, texts_in, State, start, between, within, is_proved, state_after, next_state, state_after_all, proofs_of_pieces, proofs_of}

@@ -1,15 +1,15 @@
 -- What the lines of a proof file spell.
 use Rattle.std.specs.Prelude.{◌≡◌, ℕ, List, [], ◌∷◌, length, map, codes, ◌||◌, Option, None, Some, slice_index, ◌==◌, if◌then◌else◌}
-use Rattle.std.specs.Char.{is_ascii}
 use Rattle.std.specs.List.{list_all, slice_split}
 use Rattle.std.specs.Option.{option_map}
-use Rattle.std.specs.Str.{bytes_eq}
+use Rattle.std.specs.Str.{bytes_eq, is_utf8}
 use Rattle.logic_term.specs.declared.kinds.Label2.{Label2}
 use Rattle.proof_kernel.specs.declared.step.Multiple.{Multiple}
 use Rattle.proof_kernel.specs.declared.step.Step.{Step}
 use Rattle.proof_kernel.specs.declared.step.Step.TheVariants.{Intro, Hyp, Split, Range, Lin}
 use Rattle.text_core.specs.Names.{text_of}
-use Rattle.proof_text.specs.ProofTextWords.{◌>>=◌, number_of, label_of, multiple_of, is_identifier}
+use Rattle.rs_tokens.specs.Tokens.{is_identifier}
+use Rattle.proof_text.specs.ProofTextWords.{◌>>=◌, number_of, label_of, multiple_of}
 
 -- a step with its names as texts
 pub data Said : Type 0 where
@@ -43,6 +43,7 @@ abbrev pub none_left : {A : Type 0} → List (List ℕ) → A → Option A
 none_left [] x = Some x
 none_left _ x = None
 
+-- owners and names are identifiers of sources
 abbrev pub identifier_of : List ℕ → Option (List ℕ)
 identifier_of word = if is_identifier word then Some word else None
 
@@ -99,13 +100,14 @@ abbrev pub line_of_words : List (List ℕ) → Option Line
 line_of_words [] = None
 line_of_words (head ∷ words) = line_by_head head words
 
-abbrev pub ascii_of : List ℕ → Option (List ℕ)
-ascii_of text = if list_all is_ascii text then Some text else None
+-- bytes that are text
+abbrev pub utf8_of : List ℕ → Option (List ℕ)
+utf8_of bytes = if is_utf8 bytes then Some bytes else None
 
 -- the words stand between single spaces
 abbrev pub line_of_text : List ℕ → Option Line
 line_of_text text = line_of_words (slice_split (λ b. b == 32) text)
 
--- empty lines and those that begin with `#` are passed over
+-- empty lines and those that begin with `#` are passed over, whatever bytes follow, and any other line is text
 unfoldable pub line_of : List ℕ → Option Line
-line_of line = if length line == 0 || slice_index line 0 == 35 then Some passed else (ascii_of line >>= line_of_text)
+line_of line = if length line == 0 || slice_index line 0 == 35 then Some passed else (utf8_of line >>= line_of_text)

@@ -1,7 +1,7 @@
 -- What the words of a proof file spell.
-use Rattle.std.specs.Prelude.{ℕ, ℤ, pos, neg_ℤ, ◌+◌, ◌^◌, List, [], ◌∷◌, length, drop, codes, Bool, false, ◌&&◌, ◌||◌, Option, None, Some, slice_index, nat_lt, ◌==◌, if◌then◌else◌}
-use Rattle.std.specs.Char.{is_ascii_digit, is_ascii_alphanumeric}
-use Rattle.std.specs.List.{list_all, list_any, position_or_len, before_first, after_first}
+use Rattle.std.specs.Prelude.{ℕ, ℤ, pos, neg_ℤ, ◌+◌, ◌^◌, List, length, drop, codes, Bool, ◌&&◌, Option, None, Some, slice_index, nat_lt, ◌==◌, if◌then◌else◌}
+use Rattle.std.specs.Char.{is_ascii_digit}
+use Rattle.std.specs.List.{list_all, position_or_len, before_first, after_first}
 use Rattle.std.specs.Option.{option_map}
 use Rattle.std.specs.Str.{bytes_eq}
 use Rattle.std.specs.Str.Parse.{digits_value}
@@ -69,23 +69,3 @@ multiple_of word = do
   by ← multiplier_of parts.0
   of ← reference_of parts.1
   Some (record { by = by; of = of })
-
--- the strict keywords of Rust
-abbrev pub keywords : List (List ℕ)
-keywords =
-    codes "as" ∷ codes "break" ∷ codes "const" ∷ codes "continue" ∷ codes "crate" ∷ codes "else" ∷ codes "enum"
-    ∷ codes "extern" ∷ codes "false" ∷ codes "fn" ∷ codes "for" ∷ codes "if" ∷ codes "impl" ∷ codes "in" ∷ codes "let"
-    ∷ codes "loop" ∷ codes "match" ∷ codes "mod" ∷ codes "move" ∷ codes "mut" ∷ codes "pub" ∷ codes "ref"
-    ∷ codes "return" ∷ codes "self" ∷ codes "Self" ∷ codes "static" ∷ codes "struct" ∷ codes "super" ∷ codes "trait"
-    ∷ codes "true" ∷ codes "type" ∷ codes "unsafe" ∷ codes "use" ∷ codes "where" ∷ codes "while" ∷ codes "async"
-    ∷ codes "await" ∷ codes "dyn" ∷ []
-
-unfoldable pub is_keyword : List ℕ → Bool
-is_keyword word = list_any (λ k. bytes_eq word k) keywords
-
--- letters, digits and `_`, of which the first is no digit; neither `_` alone nor a keyword
-unfoldable pub is_identifier : List ℕ → Bool
-is_identifier word =
-    if length word == 0 || is_ascii_digit (slice_index word 0) || bytes_eq word (codes "_") || is_keyword word
-    then false
-    else list_all (λ b. is_ascii_alphanumeric b || b == 95) word

@@ -1,15 +1,15 @@
 ghost use Rattle.std.specs.Prelude.{◌≡◌, ℕ, ◌+◌, ◌^◌, ◌<◌, ◌≤◌, List, ◌-◌, ◌==◌, IfOk, OnOk, length, map};
-ghost use Rattle.std.specs.Char.{is_ascii};
-ghost use Rattle.std.specs.List.{list_all, slice_split};
+ghost use Rattle.std.specs.List.{slice_split};
 ghost use Rattle.std.specs.Option.{option_copied};
 ghost use Rattle.name_tables.specs.NameTables.{with_names};
-ghost use Rattle.proof_text.specs.ProofTextLines.{heading_of, line_by_head, line_of_words, ascii_of, line_of_text, line_of};
+ghost use Rattle.proof_text.specs.ProofTextLines.{heading_of, line_by_head, line_of_words, utf8_of, line_of_text, line_of};
 ghost use Rattle.proof_text.specs.ProofTextReads.{Reads, KeepsNames, SaysLine, line_texts, texts_if};
 
 use crate::fault::Fault;
 use crate::step::step;
-use crate::word::{is_identifier, number};
+use crate::word::number;
 use proof_kernel::Step;
+use rs_tokens::is_identifier;
 use std::alloc::Global;
 use text_core::{Names, NoMemory};
 
@@ -95,18 +95,9 @@ fn line_of_text<'a>(alloc: Global, text: &'a str, names: &mut Names) -> Result<L
     line_of_words(alloc, &words, names)
 }
 
-fn are_ascii(bytes: &[u8]) -> bool
-    ensures { result ≡ list_all is_ascii bytes.now }
+fn utf8(bytes: &[u8]) -> Option<&str>
+    ensures { option_copied result ≡ utf8_of bytes.now }
 {
-    bytes.iter().all(|b| b.is_ascii())
-}
-
-fn ascii(bytes: &[u8]) -> Option<&str>
-    ensures { option_copied result ≡ ascii_of bytes.now }
-{
-    if !are_ascii(bytes) {
-        return None;
-    }
     str::from_utf8(bytes).ok()
 }
 
@@ -126,7 +117,7 @@ pub(crate) fn read_line<'a>(
     if text.is_empty() || text[0] == b'#' {
         return Ok(Line::Passed);
     }
-    match ascii(text) {
+    match utf8(text) {
         Some(text) => line_of_text(alloc, text, names),
         None => Err(Fault::Bad),
     }

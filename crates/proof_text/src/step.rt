@@ -3,13 +3,14 @@ ghost use Rattle.std.specs.List.{list_all};
 ghost use Rattle.std.specs.Option.{option_copied};
 ghost use Rattle.text_core.specs.Names.{text_of};
 ghost use Rattle.name_tables.specs.NameTables.{with_names};
-ghost use Rattle.proof_text.specs.ProofTextWords.{is_identifier};
+ghost use Rattle.rs_tokens.specs.Tokens.{is_identifier};
 ghost use Rattle.proof_text.specs.ProofTextLines.{Says, texts_said, only, intro_of, range_of, multiples_of, some_multiples_of, step_of};
 ghost use Rattle.proof_text.specs.ProofTextReads.{Reads, KeepsNames, texts_if};
 
 use crate::fault::Fault;
-use crate::word::{is_identifier, label, multiple};
+use crate::word::{label, multiple};
 use proof_kernel::{Multiple, Step};
+use rs_tokens::is_identifier;
 use std::alloc::Global;
 use text_core::{Items, Name, Names, NoMemory};
 

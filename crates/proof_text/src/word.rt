@@ -1,19 +1,11 @@
-ghost use Rattle.std.specs.Prelude.{◌≡◌, ◌<◌, ◌||◌, ◌==◌, List, ℕ};
-ghost use Rattle.std.specs.Char.{is_ascii_digit, is_ascii_alphanumeric};
+ghost use Rattle.std.specs.Prelude.{◌≡◌, ◌<◌};
+ghost use Rattle.std.specs.Char.{is_ascii_digit};
 ghost use Rattle.std.specs.List.{list_all};
 ghost use Rattle.std.specs.Option.{option_map, option_copied};
-ghost use Rattle.proof_text.specs.ProofTextWords.{is_numeral, number_of, multiplier_of, cut, after_minus, label_of, reference_of, multiple_of, is_keyword, is_identifier};
+ghost use Rattle.proof_text.specs.ProofTextWords.{is_numeral, number_of, multiplier_of, cut, after_minus, label_of, reference_of, multiple_of};
 
 use logic_term::Label2;
 use proof_kernel::{Multiple, Reference};
-
-/// The strict keywords of Rust.
-const KEYWORDS: [&str; 38] = [
-    "as", "break", "const", "continue", "crate", "else", "enum", "extern", "false", "fn", "for",
-    "if", "impl", "in", "let", "loop", "match", "mod", "move", "mut", "pub", "ref", "return",
-    "self", "Self", "static", "struct", "super", "trait", "true", "type", "unsafe", "use", "where",
-    "while", "async", "await", "dyn",
-];
 
 fn are_digits(bytes: &[u8]) -> bool
     ensures { result ≡ list_all is_ascii_digit bytes.now }
@@ -106,30 +98,4 @@ pub(crate) fn multiple(word: &str) -> Option<Multiple>
     let by = multiplier(by)?;
     let of = reference(of)?;
     Some(Multiple { by, of })
-}
-
-fn is_keyword(word: &str) -> bool
-    ensures { result ≡ is_keyword word.now }
-{
-    KEYWORDS.iter().any(|keyword| word == *keyword)
-}
-
-fn are_name_bytes(bytes: &[u8]) -> bool
-    ensures { result ≡ list_all (λ b. is_ascii_alphanumeric b || b == 95) bytes.now }
-{
-    bytes
-        .iter()
-        .all(|b| b.is_ascii_alphanumeric() || *b == b'_')
-}
-
-/// Letters, digits and `_`, of which the first is no digit; neither `_` alone nor a keyword.
-#[tactic(auto, unfolding(crate::specs::ProofTextWords::is_identifier))]
-pub(crate) fn is_identifier(word: &str) -> bool
-    ensures { result ≡ is_identifier word.now }
-{
-    let bytes = word.as_bytes();
-    if bytes.is_empty() || bytes[0].is_ascii_digit() || word == "_" || is_keyword(word) {
-        return false;
-    }
-    are_name_bytes(bytes)
 }

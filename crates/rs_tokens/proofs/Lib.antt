@@ -1,5 +1,6 @@
 pub mod BlankLaws
 pub mod CommentLaws
+pub mod IdentifierLaws
 pub mod IntegerLaws
 pub mod ListLaws
 pub mod MarkLaws

@@ -51,7 +51,7 @@ chars_front (f ∷ fs) cs back e =
 
 -- ---- the longest word
 
-begins_continues : (c : ℕ) → begins_word c ≡ true → is_xid_continue c ≡ true
+pub begins_continues : (c : ℕ) → begins_word c ≡ true → is_xid_continue c ≡ true
 begins_continues c h =
     elim (or_true (is_xid_start c) (c == 95) h) [
       | inl starts ↦ is_xid_start-is_xid_continue c starts

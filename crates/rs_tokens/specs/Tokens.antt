@@ -1,8 +1,9 @@
 -- What a token is, by its text.
-use Rattle.std.specs.Prelude.{◌≡◌, ◌≢◌, ℕ, ◌+◌, ◌-◌, ◌^◌, ◌≤◌, Bool, true, false, ◌==◌, nat_lt, ◌||◌, ◌&&◌, not, if◌then◌else◌, List, [], ◌∷◌, ◌++◌, length, take, drop, codes, filter, take_while, encode_utf8_all, Option, None, Some, unwrap_or, IsTrue}
+use Rattle.std.specs.Prelude.{◌≡◌, ◌≢◌, ℕ, ◌+◌, ◌-◌, ◌^◌, ◌≤◌, Bool, true, false, ◌==◌, nat_lt, nat_le, ◌||◌, ◌&&◌, not, if◌then◌else◌}
+use Rattle.std.specs.Prelude.{List, [], ◌∷◌, ◌++◌, length, take, drop, codes, filter, take_while, encode_utf8_all, Option, None, Some, unwrap_or, IsTrue}
 use Rattle.std.specs.Char.{digit_value}
 use Rattle.std.specs.List.{list_all, list_any}
-use Rattle.std.specs.Str.{bytes_eq}
+use Rattle.std.specs.Str.{bytes_eq, chars, is_utf8}
 use Rattle.std.specs.Str.Parse.{digits_value}
 use Rattle.unicode_ident.specs.Ident.{is_xid_start, is_xid_continue}
 use Rattle.rs_tokens.specs.declared.token.TokenKind.{TokenKind}
@@ -163,3 +164,22 @@ refused_of Ident text = bounded (length text) longest_identifier (length text)
 refused_of Lifetime text = if names_lifetime (word_kind (drop 1 text)) then bounded (length text) (1 + longest_identifier) (length text) else Some 1
 refused_of Int text = bounded (integer_value text) largest_integer (length text)
 refused_of _ text = None
+
+-- ---- identifiers (Rust Reference, "Identifiers")
+
+-- the first character may begin a word, and the others may continue one
+abbrev pub spell_word : List ℕ → Bool
+spell_word [] = false
+spell_word (first ∷ others) = begins_word first && list_all is_xid_continue others
+
+-- `IsWord` as a test: the text is the UTF-8 of its characters, and they spell a word
+unfoldable pub is_word : List ℕ → Bool
+is_word text = is_utf8 text && spell_word (chars text)
+
+abbrev pub is_ident : TokenKind → Bool
+is_ident Ident = true
+is_ident _ = false
+
+-- the whole text is an identifier: a word, not past its bound, that is not `_` and no strict keyword
+unfoldable pub is_identifier : List ℕ → Bool
+is_identifier text = is_word text && nat_le (length text) longest_identifier && is_ident (word_kind text)

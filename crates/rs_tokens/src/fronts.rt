@@ -10,10 +10,7 @@ use crate::integers::{integer_len, is_digit, is_too_large};
 use crate::marks::longest_mark;
 use crate::strings::string_len;
 use crate::token::{Front, TokenKind};
-use crate::words::{word_kind, word_len};
-
-/// The most bytes of an identifier.
-const LONGEST_IDENTIFIER: usize = 255;
+use crate::words::{LONGEST_IDENTIFIER, word_kind, word_len};
 
 /// The longest token at the front, whatever its length or value; `None` where none stands there.
 fn longest_token(text: &str) -> Option<Front>

@@ -1,15 +1,21 @@
 //! What holds of the tokens of every text.
-ghost use Rattle.std.specs.Prelude.{◌≡◌, ◌++◌, ℕ, List, [], Option, None, Some};
+ghost use Rattle.std.specs.Prelude.{◌≡◌, ◌↔◌, true, ◌++◌, ℕ, List, [], Option, None, Some};
 ghost use Rattle.text_core.specs.declared.span.Span.{Span};
 ghost use Rattle.rs_tokens.specs.declared.token.Token.{Token};
 ghost use Rattle.rs_tokens.specs.declared.token.TokenKind.{TokenKind};
-ghost use Rattle.rs_tokens.specs.Tokens.{IsToken};
+ghost use Rattle.rs_tokens.specs.declared.token.TokenKind.TheVariants.{Ident};
+ghost use Rattle.rs_tokens.specs.Tokens.{IsToken, refused_of, is_identifier};
 ghost use Rattle.rs_tokens.specs.Reading.{Gives, Refuses, HasEnded, HasTokens, HasGiven, AreTokens};
 ghost use Rattle.std.specs.Str.{IsUtf8};
 
 /// A text is a token of at most one kind.
 pub fn a_token_has_one_kind()
     ensures { (kind other : TokenKind) (text : List ℕ) → IsToken kind text → IsToken other text → kind ≡ other }
+{}
+
+/// The identifiers are the texts that are tokens of that kind and within its bound.
+pub fn an_identifier_is_an_admitted_token()
+    ensures { (text : List ℕ) → (is_identifier text ≡ true) ↔ (IsToken Ident text × (refused_of Ident text ≡ None)) }
 {}
 
 /// From each offset on there is at most one next token, and it excludes the end and a refusal.

@@ -2,11 +2,14 @@
 ghost use Rattle.std.specs.Prelude.{◌≡◌, ◌+◌, ◌≤◌, ◌||◌, ◌==◌, ◌++◌, List, ℕ, length, take, take_while, encode_utf8_all, MatchOption};
 ghost use Rattle.std.specs.Str.{chars, IsCharBoundary};
 ghost use Rattle.unicode_ident.specs.Ident.{is_xid_start, is_xid_continue};
-ghost use Rattle.rs_tokens.specs.Tokens.{begins_word, IsWord, HasLongest, HasNone, word_kind};
+ghost use Rattle.rs_tokens.specs.Tokens.{begins_word, IsWord, HasLongest, HasNone, word_kind, is_word, is_ident, is_identifier};
 
 use crate::tables::{RESERVED, kind_in};
 use crate::token::TokenKind;
 use unicode_ident::{is_xid_continue, is_xid_start};
+
+/// The most bytes of an identifier.
+pub const LONGEST_IDENTIFIER: usize = 255;
 
 fn begins_word(character: char) -> bool
     ensures { result ≡ begins_word character }
@@ -46,4 +49,28 @@ pub fn word_kind(word: &[u8]) -> TokenKind
     ensures { result ≡ word_kind word.now }
 {
     kind_in(&RESERVED, word).unwrap_or(TokenKind::Ident)
+}
+
+/// Whether the whole text is a word.
+fn is_word(text: &str) -> bool
+    ensures { result ≡ is_word text.now }
+{
+    match word_len(text) {
+        Some(len) => len == text.len(),
+        None => false,
+    }
+}
+
+fn is_ident(kind: TokenKind) -> bool
+    ensures { result ≡ is_ident kind }
+{
+    matches!(kind, TokenKind::Ident)
+}
+
+/// Whether the whole text is an identifier: a word of at most 255 bytes that is not `_` and no strict keyword.
+#[tactic(auto, unfolding(crate::specs::Tokens::is_identifier))]
+pub fn is_identifier(text: &str) -> bool
+    ensures { result ≡ is_identifier text.now }
+{
+    is_word(text) && text.len() <= LONGEST_IDENTIFIER && is_ident(word_kind(text.as_bytes()))
 }

@@ -2,7 +2,7 @@ use Rattle.std.proofs.Common.{rules, tests, ◌∙◌, sym}
 use Rattle.std.proofs.lemmas.Iterator.{YieldsList-from_slice}
 use Rattle.std.proofs.lemmas.Iterator.Search.{all_from_yields_List}
 use Rattle.std.proofs.lemmas.List.Folds.{list_all-map}
-use Rattle.proof_text.specs.ProofTextWords.{is_identifier}
+use Rattle.rs_tokens.specs.Tokens.{is_identifier}
 use Rattle.proof_text.proofs.StageLemmas.{now}
 use Rattle.proof_text.proofs.step.are_identifiers.Goals as goal
 
