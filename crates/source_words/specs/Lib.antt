@@ -1,0 +1,4 @@
+pub mod QuotedWords
+pub mod Texts
+pub mod TokenKinds
+pub mod Words
