@@ -3,4 +3,4 @@ pub mod OneRefusal
 pub mod Sizes
 pub mod Whole
 pub mod WrittenTypes
-pub use Rattle.pearlite.proofs.WordLists
+pub use Rattle.source_words.proofs.WordLists

@@ -6,13 +6,9 @@ use Rattle.text_core.specs.declared.refusal.Limit.{Limit}
 use Rattle.text_core.specs.declared.refusal.SourceError.{SourceError}
 use Rattle.rs_tokens.specs.declared.token.Token.{Token}
 use Rattle.rs_tokens.proofs.OneReading.{one_list as one_token_list}
-use Rattle.concrete_syntax.specs.declared.fault.ParseFault.TheVariants as whole
-use Rattle.concrete_syntax.specs.Parsed.{IsParseError as IsGrammarError}
-use Rattle.concrete_syntax.proofs.Whole.{one_error as one_grammar_error}
 use Rattle.text_core.specs.declared.fault.PassError.TheVariants as P
 use Rattle.rs_syntax.specs.declared.item.Item.{Item}
-use Rattle.rs_syntax.specs.Parsed.{SpellsItems}
-use Rattle.rs_syntax.proofs.Whole.{no_value, one_list, not_many as not_many_items}
+use Rattle.rs_syntax.proofs.Whole.{no_items, one_error as one_items_error, one_list, not_many as not_many_items}
 use Rattle.built_trees.specs.declared.function.Function.{Function}
 use Rattle.built_syntax.specs.BuiltItems.{built_items}
 use Rattle.built_syntax.specs.Parsed.{SpellsSource, first_token, IsUnbuiltAt, IsNotBuilt, most_functions, IsParseError}
@@ -23,10 +19,6 @@ same_start e = cc
 
 ok_err : {A : Type 0} (a : A) (n : ℕ) → ◌≡◌ {A = Result A ℕ} (Ok a) (Err n) → ⊥
 ok_err a n e = cc
-
--- what the grammar refuses has no items
-no_items : (old : List (List ℕ)) (bytes : List ℕ) (items : List Item) (error : SourceError) → SpellsItems old bytes items → IsGrammarError bytes (whole.Source error) → ⊥
-no_items old bytes items error s h = no_value old bytes s.value error s.spelled h
 
 one_place : (bytes : List ℕ) (start : ℕ) (one other : SourceError) → IsUnbuiltAt bytes start one → IsUnbuiltAt bytes start other → one ≡ other
 one_place bytes start one other a b =
@@ -41,7 +33,7 @@ module _ (old : List (List ℕ)) (bytes : List ℕ) (place : HaveOnePlace (words
       one_place bytes g.start one other (subst (λ n. IsUnbuiltAt bytes n one) start h.place) g.place
 
   pub one_error : (one other : SourceError) → IsParseError old bytes (P.Source one) → IsParseError old bytes (P.Source other) → one ≡ other
-  one_error one other (inl h) (inl g) = one_grammar_error bytes one other h g
+  one_error one other (inl h) (inl g) = one_items_error old bytes one other h g
   one_error one other (inl h) (inr g) = absurd (no_items old bytes g.items one g.spelled h)
   one_error one other (inr h) (inl g) = absurd (no_items old bytes h.items other h.spelled g)
   one_error one other (inr h) (inr g) = same_form one other h g

@@ -4,22 +4,18 @@ use Rattle.std.proofs.Common.{refl, sym, ◌∙◌, ap, inl, inr, arith}
 use Rattle.text_core.specs.declared.span.Span.{Span}
 use Rattle.text_core.specs.declared.refusal.SourceError.{SourceError}
 use Rattle.text_core.specs.Names.{words, HaveOnePlace}
-use Rattle.concrete_syntax.specs.declared.fault.ParseFault.{ParseFault}
-use Rattle.concrete_syntax.specs.declared.fault.ParseFault.TheVariants as whole
-use Rattle.concrete_syntax.specs.Words.{IsWordError as IsPlainWordError}
 use Rattle.text_core.specs.declared.fault.PassError.{PassError}
 use Rattle.text_core.specs.declared.fault.PassError.TheVariants as P
-use Rattle.concrete_syntax.specs.Faults.{error_of}
-use Rattle.pearlite.specs.Words.{IsWordError}
+use Rattle.source_words.specs.Words.{IsWordError}
 use Rattle.rs_syntax.specs.declared.attribute.Attribute.{Attribute}
 use Rattle.rs_syntax.specs.declared.item.Item.{Item}
 use Rattle.rs_syntax.specs.declared.item.ItemNode.{ItemNode}
 use Rattle.rs_syntax.specs.declared.item.ItemNode.TheVariants as I
 use Rattle.rs_syntax.specs.Parsed.{SpellsItems, functions_of, functions_among, IsParseError as IsItemsError, SpellsNone as SpellsNoItems}
-use Rattle.rs_syntax.proofs.Whole.{one_list, error_of_words, none_of_words}
+use Rattle.rs_syntax.proofs.Whole.{one_list, error_of_words, none_spelled}
 use Rattle.built_trees.specs.declared.function.Function.{Function}
 use Rattle.built_syntax.specs.Built.{◌>>=◌, with_some}
-use Rattle.built_syntax.specs.BuiltItems.{nothing_behind, unbuilt_behind, item_by, item_of, unread, built_function, built_items}
+use Rattle.built_syntax.specs.BuiltItems.{nothing_behind, not_made_behind, item_by, item_of, unread, built_function, built_items}
 use Rattle.built_syntax.specs.Parsed.{SpellsSource, IsUnbuiltAt, most_functions, IsParseError, SpellsNone}
 
 same_ok : {A B : Type 0} {a b : A} → ◌≡◌ {A = Result A B} (Ok a) (Ok b) → a ≡ b
@@ -44,11 +40,7 @@ pub of_words : (table : List (List ℕ)) (bytes : List ℕ) (error : PassError) 
 of_words table bytes error h = of_items table bytes error (error_of_words table bytes error h)
 
 pub none_of_tokens : (table : List (List ℕ)) (bytes : List ℕ) (error : PassError) → IsWordError bytes error → SpellsNone table bytes error
-none_of_tokens table bytes error h = none_of_items table bytes error (none_of_words table bytes error h)
-
-pub word_error : (bytes : List ℕ) (fault : ParseFault) → IsPlainWordError bytes fault → IsWordError bytes (error_of fault)
-word_error bytes (whole.Source error) h = h
-word_error bytes whole.NoMemory h = tt
+none_of_tokens table bytes error h = none_of_items table bytes error (none_spelled table bytes error (error_of_words table bytes error h))
 
 -- ---- how many functions there are
 
@@ -57,7 +49,7 @@ counted : (m : Result (Unit {0}) ℕ) (o : Option Function) → nothing_behind m
 counted (Ok x) o e = sym (same_ok e)
 counted (Err n) o e = absurd (ok_err o n (sym e))
 
-not_made : (own : Span) (m : Result (Unit {0}) ℕ) (o : Option Function) → unbuilt_behind own m ≡ Ok o → ⊥
+not_made : (own : Span) (m : Result (Unit {0}) ℕ) (o : Option Function) → not_made_behind own m ≡ Ok o → ⊥
 not_made own (Ok x) o e = ok_err o own.start (sym e)
 not_made own (Err n) o e = ok_err o n (sym e)
 

@@ -1,6 +1,6 @@
 -- The trees of the built forms, of the trees of all forms. A form that is not built is told by the byte where it begins, and of
 -- several such forms the first in source order is.
-use Rattle.std.specs.Prelude.{ℕ, List, [], ◌∷◌, Option, Some, None, Result, Ok, Err}
+use Rattle.std.specs.Prelude.{ℕ, ◌+◌, List, [], ◌∷◌, Option, Some, None, Result, Ok, Err}
 use Rattle.text_core.specs.declared.span.Span.{Span}
 
 -- One part after another. `Ok` is what is built, `Err` where the first form begins that is not.
@@ -11,6 +11,10 @@ Err n >>= k = Err n
 
 abbrev pub unbuilt : {A : Type 0} → Span → Result A ℕ
 unbuilt span = Err span.start
+
+-- the `let` that stands behind the first token is not built: it is the first token that begins behind the first byte
+abbrev pub unbuilt_behind : {A : Type 0} → Span → Result A ℕ
+unbuilt_behind span = Err (span.start + 1)
 
 -- two parts, the first one first
 abbrev pub pair : {A B : Type 0} → Result A ℕ → Result B ℕ → Result (A × B) ℕ

@@ -17,7 +17,7 @@ use Rattle.built_trees.specs.declared.binding.Binding.{Binding}
 use Rattle.built_trees.specs.declared.binding.StmtKind.{StmtKind}
 use Rattle.built_trees.specs.declared.binding.StmtKind.TheVariants as K
 use Rattle.built_trees.specs.declared.expr.Stmt.{Stmt}
-use Rattle.built_syntax.specs.Built.{◌>>=◌, unbuilt, pair, gather}
+use Rattle.built_syntax.specs.Built.{◌>>=◌, unbuilt, unbuilt_behind, pair, gather}
 use Rattle.built_syntax.specs.BuiltTerms.{name_alone, built_type_or_none, built_term}
 use Rattle.built_trees.specs.Expr.{Expr, integer, truth, named, negative, denied, binary, lazy, assign, update, call, block, branch, choice, repeat, done, last}
 use Rattle.built_trees.specs.ExprView.{stmts_of, exprs_of}
@@ -128,16 +128,19 @@ abbrev mutual
     ss ← built_stmts statements
     a ← built_expr e
     Ok (block span (stmts_of ss (last a)))
-  built_expr (E.branch span condition body) = do
+  built_expr (E.branch span None condition body) = do
     p ← pair (built_expr condition) (built_expr body)
     Ok (branch span p.0 p.1)
-  built_expr (E.choice span condition one other) = do
+  built_expr (E.branch span (Some pattern) condition body) = unbuilt_behind span
+  built_expr (E.choice span None condition one other) = do
     p ← pair (built_expr condition) (built_expr one)
     c ← built_expr other
     Ok (choice span p.0 p.1 c)
-  built_expr (E.repeat span condition body) = do
+  built_expr (E.choice span (Some pattern) condition one other) = unbuilt_behind span
+  built_expr (E.repeat span None condition body) = do
     p ← pair (built_expr condition) (built_expr body)
     Ok (repeat span [] p.0 p.1)
+  built_expr (E.repeat span (Some pattern) condition body) = unbuilt_behind span
   built_expr (E.attributed span attributes e) = do
     ts ← gather invariant_of attributes
     a ← built_expr e
@@ -147,18 +150,17 @@ abbrev mutual
   built_expr (E.tuple span parts) = unbuilt span
   built_expr (E.matching span e arms) = unbuilt span
   built_expr (E.endless span body) = unbuilt span
-  built_expr (E.closure span moves parameters ty body) = unbuilt span
+  built_expr (E.closure span first moves parameters ty body) = unbuilt span
   built_expr (E.bare_return span) = unbuilt span
   built_expr (E.return_with span e) = unbuilt span
   built_expr (E.break_off span) = unbuilt span
   built_expr (E.go_on span) = unbuilt span
   built_expr (E.panic span macro text) = unbuilt span
   built_expr (E.logical span macro t) = unbuilt span
-  built_expr (E.tried span pattern e) = unbuilt span
   built_expr (E.cast span e ty) = unbuilt span
   built_expr (E.borrow span mutable e) = unbuilt span
   built_expr (E.field span e name types) = unbuilt span
-  built_expr (E.part span e number suffix) = unbuilt span
+  built_expr (E.part span e number) = unbuilt span
   built_expr (E.method span e name types arguments) = unbuilt span
 
   pub built_exprs : E.Exprs → Result (List Expr) ℕ

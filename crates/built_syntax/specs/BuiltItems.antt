@@ -91,8 +91,8 @@ nothing_behind attributes = do
   nothing ← attributes
   Ok None
 
-abbrev pub unbuilt_behind : Span → Result (Unit {0}) ℕ → Result (Option Function) ℕ
-unbuilt_behind own attributes = do
+abbrev pub not_made_behind : Span → Result (Unit {0}) ℕ → Result (Option Function) ℕ
+not_made_behind own attributes = do
   nothing ← attributes
   unbuilt own
 
@@ -102,10 +102,10 @@ item_by own attributes (I.Function f) = do
   Ok (Some function)
 item_by own attributes I.Use = nothing_behind (unread attributes)
 item_by own attributes I.ExternCrate = nothing_behind (unread attributes)
-item_by own attributes (I.Struct of) = unbuilt_behind own (unread attributes)
-item_by own attributes (I.Enum of) = unbuilt_behind own (unread attributes)
-item_by own attributes (I.Trait of) = unbuilt_behind own (unread attributes)
-item_by own attributes (I.Impl of) = unbuilt_behind own (unread attributes)
+item_by own attributes (I.Struct of) = not_made_behind own (unread attributes)
+item_by own attributes (I.Enum of) = not_made_behind own (unread attributes)
+item_by own attributes (I.Trait of) = not_made_behind own (unread attributes)
+item_by own attributes (I.Impl of) = not_made_behind own (unread attributes)
 
 unfoldable pub item_of : Item → Result (Option Function) ℕ
 item_of item = item_by item.own item.attributes item.node

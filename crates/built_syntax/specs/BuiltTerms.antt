@@ -5,7 +5,7 @@ use Rattle.text_core.specs.declared.span.Span.{Span}
 use Rattle.logic_term.specs.declared.kinds.IntKind.{IntKind}
 use Rattle.logic_term.specs.declared.kinds.IntKind.TheVariants.{I8, I16, I32, I64, Isize, U8, U16, U32, U64, Usize}
 use Rattle.logic_term.specs.Ty.{Ty, int, bool}
-use Rattle.pearlite.specs.declared.operator.BinaryTerm.TheVariants.{Implies, Or, And, Compare, Calculate, MutRef}
+use Rattle.pearlite.specs.declared.operator.BinaryTerm.TheVariants.{Implies, Or, And, Compare, Calculate}
 use Rattle.pearlite.specs.declared.operator.UnaryTerm.TheVariants.{Neg, Not, Current, Final, View}
 use Rattle.pearlite.specs.declared.path.PathNode.{PathNode}
 use Rattle.pearlite.specs.declared.path.PathNode.TheVariants.{Names}
@@ -42,13 +42,13 @@ type_or span None = unbuilt span
 type_or span (Some ty) = Ok ty
 
 unfoldable pub built_type : TypeTree → Result Ty ℕ
-built_type (W.named span name W.none) = type_or span (named_type name)
-built_type (W.named span name (W.more ty types)) = unbuilt span
+built_type (W.named span name [] W.none) = type_or span (named_type name.name)
+built_type (W.named span name [] (W.more ty types)) = unbuilt span
+built_type (W.named span name (lifetime ∷ lifetimes) types) = unbuilt span
 built_type (W.tuple span types) = unbuilt span
 built_type (W.reference span lifetime mutable ty) = unbuilt span
 built_type (W.self_type span) = unbuilt span
 built_type (W.self_view span) = unbuilt span
-built_type (W.lifetime span) = unbuilt span
 
 -- the written type, if there is one
 abbrev pub built_type_or_none : Option TypeTree → Result (Option Ty) ℕ
@@ -66,7 +66,7 @@ named_term span (Some name) = Ok (named span name.name)
 abbrev pub built_term : T.Pterm → Result Pterm ℕ
 built_term (T.integer span value suffix) = Ok (integer span value suffix)
 built_term (T.truth span holds) = Ok (truth span holds)
-built_term (T.answer span) = Ok (answer span)
+built_term (T.answer span name) = Ok (answer span)
 built_term (T.path span path) = named_term span (name_alone path.node)
 built_term (T.unary span Neg t) = do
   a ← built_term t
@@ -99,10 +99,10 @@ built_term (T.binary span (Calculate op) t u) = do
   a ← built_term t
   b ← built_term u
   Ok (calculated span op a b)
-built_term (T.binary span MutRef t u) = unbuilt span
+built_term (T.mut_ref span t u) = unbuilt span
 built_term (T.receiver span) = unbuilt span
 built_term (T.field span t name) = unbuilt span
-built_term (T.part span t number suffix) = unbuilt span
+built_term (T.part span t number) = unbuilt span
 built_term (T.method span t name arguments) = unbuilt span
 built_term (T.call span path arguments) = unbuilt span
 built_term (T.literal span path inside) = unbuilt span

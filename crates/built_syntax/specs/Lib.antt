@@ -4,4 +4,4 @@ pub mod BuiltExprs
 pub mod BuiltItems
 pub mod BuiltTerms
 pub mod Parsed
-pub use Rattle.pearlite.specs.Words
+pub use Rattle.source_words.specs.Words

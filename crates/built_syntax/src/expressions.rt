@@ -30,7 +30,7 @@ fn binding_of(
     ensures { Answers result (binding_of span name written.now) }
 {
     match name {
-        None => Err(Stop::Unbuilt(span.start)),
+        None => Err(Stop::at(span)),
         Some(name) => Ok(Binding {
             mutable: false,
             name: name.name,
@@ -46,7 +46,7 @@ fn built_binding(pattern: &Pat, written: &Option<TypeTree>) -> Result<Binding, S
     ensures { Answers result (built_binding pattern.now written.now) }
 {
     let span = pattern.span;
-    match &pattern.node {
+    match &*pattern.node {
         PatNode::Mutable(name) => Ok(Binding {
             mutable: true,
             name: name.name,
@@ -54,12 +54,12 @@ fn built_binding(pattern: &Pat, written: &Option<TypeTree>) -> Result<Binding, S
             ty: type_or_none(written)?,
         }),
         PatNode::Path(path) => binding_of(span, name_alone(path), written),
-        PatNode::Any => Err(Stop::Unbuilt(span.start)),
-        PatNode::Int(_, _) => Err(Stop::Unbuilt(span.start)),
-        PatNode::Truth(_) => Err(Stop::Unbuilt(span.start)),
-        PatNode::Tuple(_) => Err(Stop::Unbuilt(span.start)),
-        PatNode::Parts(_, _) => Err(Stop::Unbuilt(span.start)),
-        PatNode::Fields(_, _, _) => Err(Stop::Unbuilt(span.start)),
+        PatNode::Any => Err(Stop::at(span)),
+        PatNode::Int(_, _) => Err(Stop::at(span)),
+        PatNode::Truth(_) => Err(Stop::at(span)),
+        PatNode::Tuple(_) => Err(Stop::at(span)),
+        PatNode::Parts(_, _) => Err(Stop::at(span)),
+        PatNode::Fields(_, _, _) => Err(Stop::at(span)),
     }
 }
 
@@ -82,18 +82,18 @@ fn built_kind(written: &WrittenKind) -> Result<StmtKind, Stop>
 fn invariant_of(alloc: Global, attribute: &Attribute) -> Result<Option<Pterm>, Stop>
     ensures { Answers result (invariant_of attribute.now) }
 {
-    let start = attribute.span.start;
+    let span = attribute.span;
     match &attribute.node {
         AttributeNode::Clause(ClauseKind::Invariant, written) => {
-            Ok(Some(built_term(alloc, written.get())?))
+            Ok(Some(built_term(alloc, written)?))
         }
-        AttributeNode::Clause(ClauseKind::Requires, _) => Err(Stop::Unbuilt(start)),
-        AttributeNode::Clause(ClauseKind::Ensures, _) => Err(Stop::Unbuilt(start)),
-        AttributeNode::Clause(ClauseKind::Variant, _) => Err(Stop::Unbuilt(start)),
+        AttributeNode::Clause(ClauseKind::Requires, _) => Err(Stop::at(span)),
+        AttributeNode::Clause(ClauseKind::Ensures, _) => Err(Stop::at(span)),
+        AttributeNode::Clause(ClauseKind::Variant, _) => Err(Stop::at(span)),
         AttributeNode::Skipped => Ok(None),
-        AttributeNode::Logic => Err(Stop::Unbuilt(start)),
-        AttributeNode::Law => Err(Stop::Unbuilt(start)),
-        AttributeNode::Derive(_) => Err(Stop::Unbuilt(start)),
+        AttributeNode::Logic => Err(Stop::at(span)),
+        AttributeNode::Law => Err(Stop::at(span)),
+        AttributeNode::Derive(_) => Err(Stop::at(span)),
     }
 }
 
@@ -130,7 +130,7 @@ fn named_expr(span: Span, name: Option<Segment>) -> Result<Expr, Stop>
     ensures { Answers result (named_expr span name) }
 {
     match name {
-        None => Err(Stop::Unbuilt(span.start)),
+        None => Err(Stop::at(span)),
         Some(name) => Ok(Expr {
             span,
             node: ExprNode::Name(name.name),
@@ -143,7 +143,7 @@ fn named_expr(span: Span, name: Option<Segment>) -> Result<Expr, Stop>
 fn callee(f: &WrittenExpr) -> Option<Segment>
     ensures { result ≡ callee f.now }
 {
-    match &f.node {
+    match &*f.node {
         WrittenNode::Path(path) => name_alone(path),
         _ => None,
     }
@@ -155,7 +155,7 @@ pub(crate) fn built_expr(alloc: Global, written: &WrittenExpr) -> Result<Expr, S
     ensures { Answers result (built_expr written.now) }
 {
     let span = written.span;
-    match &written.node {
+    match &*written.node {
         WrittenNode::Int(value, suffix) => plain(span, ExprNode::Int(*value, *suffix)),
         WrittenNode::Truth(holds) => plain(span, ExprNode::Truth(*holds)),
         WrittenNode::Path(path) => named_expr(span, name_alone(path)),
@@ -182,14 +182,12 @@ pub(crate) fn built_expr(alloc: Global, written: &WrittenExpr) -> Result<Expr, S
             plain(span, ExprNode::Block(statements))
         }
         WrittenNode::BlockWith(statements, e) => block_with(alloc, span, statements, e),
-        WrittenNode::If(condition, body) => {
-            let (a, b) = both(alloc, condition, body)?;
-            plain(span, ExprNode::If(a, b))
+        WrittenNode::If(pattern, condition, body) => branch(alloc, span, pattern, condition, body),
+        WrittenNode::IfElse(pattern, condition, yes, no) => {
+            choice(alloc, span, pattern, condition, yes, no)
         }
-        WrittenNode::IfElse(condition, yes, no) => choice(alloc, span, condition, yes, no),
-        WrittenNode::While(condition, body) => {
-            let (a, b) = both(alloc, condition, body)?;
-            plain(span, ExprNode::While(Vec::new(alloc), a, b))
+        WrittenNode::While(pattern, condition, body) => {
+            repeat(alloc, span, pattern, condition, body)
         }
         WrittenNode::Attributed(attributes, e) => {
             let invariants = invariants_of(alloc, attributes.as_slice())?;
@@ -201,19 +199,18 @@ pub(crate) fn built_expr(alloc: Global, written: &WrittenExpr) -> Result<Expr, S
         | WrittenNode::Tuple(_)
         | WrittenNode::Match(_, _)
         | WrittenNode::Loop(_)
-        | WrittenNode::Closure(_, _, _, _)
+        | WrittenNode::Closure(_, _, _, _, _)
         | WrittenNode::Return
         | WrittenNode::ReturnWith(_)
         | WrittenNode::Break
         | WrittenNode::Continue
         | WrittenNode::Panic(_, _)
         | WrittenNode::Ghost(_, _)
-        | WrittenNode::Let(_, _)
         | WrittenNode::Cast(_, _)
         | WrittenNode::Borrow(_, _)
         | WrittenNode::Field(_, _, _)
-        | WrittenNode::Part(_, _, _)
-        | WrittenNode::Method(_, _, _, _) => Err(Stop::Unbuilt(span.start)),
+        | WrittenNode::Part(_, _)
+        | WrittenNode::Method(_, _, _, _) => Err(Stop::at(span)),
     }
 }
 
@@ -263,8 +260,26 @@ fn unary(
             let a = boxed(alloc, e)?;
             plain(span, ExprNode::Not(a))
         }
-        UnaryOp::Deref => Err(Stop::Unbuilt(span.start)),
+        UnaryOp::Deref => Err(Stop::at(span)),
     }
+}
+
+/// `if` without `else`; one with a pattern is not built, from the `let` behind the `if` on.
+#[cycle(built_expr)]
+fn branch(
+    alloc: Global,
+    span: Span,
+    pattern: &Option<Pat>,
+    condition: &WrittenExpr,
+    body: &WrittenExpr,
+) -> Result<Expr, Stop>
+    ensures { Answers result (built_expr (E.branch span pattern.now condition.now body.now)) }
+{
+    if pattern.is_some() {
+        return Err(Stop::behind(span));
+    }
+    let (a, b) = both(alloc, condition, body)?;
+    plain(span, ExprNode::If(a, b))
 }
 
 /// `if` with both blocks.
@@ -272,15 +287,37 @@ fn unary(
 fn choice(
     alloc: Global,
     span: Span,
+    pattern: &Option<Pat>,
     condition: &WrittenExpr,
     yes: &WrittenExpr,
     no: &WrittenExpr,
 ) -> Result<Expr, Stop>
-    ensures { Answers result (built_expr (E.choice span condition.now yes.now no.now)) }
+    ensures { Answers result (built_expr (E.choice span pattern.now condition.now yes.now no.now)) }
 {
+    if pattern.is_some() {
+        return Err(Stop::behind(span));
+    }
     let (a, b) = both(alloc, condition, yes)?;
     let c = boxed(alloc, no)?;
     plain(span, ExprNode::IfElse(a, b, c))
+}
+
+/// `while`
+#[cycle(built_expr)]
+fn repeat(
+    alloc: Global,
+    span: Span,
+    pattern: &Option<Pat>,
+    condition: &WrittenExpr,
+    body: &WrittenExpr,
+) -> Result<Expr, Stop>
+    ensures { Answers result (built_expr (E.repeat span pattern.now condition.now body.now)) }
+{
+    if pattern.is_some() {
+        return Err(Stop::behind(span));
+    }
+    let (a, b) = both(alloc, condition, body)?;
+    plain(span, ExprNode::While(Vec::new(alloc), a, b))
 }
 
 /// A block with its value.
@@ -309,7 +346,7 @@ fn called(
     ensures { Answers result (called span name (built_exprs (written_exprs arguments.now))) }
 {
     match name {
-        None => Err(Stop::Unbuilt(span.start)),
+        None => Err(Stop::at(span)),
         Some(name) => {
             let arguments = built_exprs(alloc, arguments)?;
             plain(span, ExprNode::Call(name.name, name.span, arguments))

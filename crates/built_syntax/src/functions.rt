@@ -23,24 +23,24 @@ use text_core::{Items, Span};
 fn clause_of(alloc: Global, attribute: &Attribute) -> Result<Option<Clause>, Stop>
     ensures { Answers result (clause_of attribute.now) }
 {
-    let start = attribute.span.start;
+    let span = attribute.span;
     match &attribute.node {
         AttributeNode::Clause(WrittenClause::Requires, written) => {
             let kind = ClauseKind::Requires;
-            let term = built_term(alloc, written.get())?;
+            let term = built_term(alloc, written)?;
             Ok(Some(Clause { kind, term }))
         }
         AttributeNode::Clause(WrittenClause::Ensures, written) => {
             let kind = ClauseKind::Ensures;
-            let term = built_term(alloc, written.get())?;
+            let term = built_term(alloc, written)?;
             Ok(Some(Clause { kind, term }))
         }
-        AttributeNode::Clause(WrittenClause::Invariant, _) => Err(Stop::Unbuilt(start)),
-        AttributeNode::Clause(WrittenClause::Variant, _) => Err(Stop::Unbuilt(start)),
+        AttributeNode::Clause(WrittenClause::Invariant, _) => Err(Stop::at(span)),
+        AttributeNode::Clause(WrittenClause::Variant, _) => Err(Stop::at(span)),
         AttributeNode::Skipped => Ok(None),
-        AttributeNode::Logic => Err(Stop::Unbuilt(start)),
-        AttributeNode::Law => Err(Stop::Unbuilt(start)),
-        AttributeNode::Derive(_) => Err(Stop::Unbuilt(start)),
+        AttributeNode::Logic => Err(Stop::at(span)),
+        AttributeNode::Law => Err(Stop::at(span)),
+        AttributeNode::Derive(_) => Err(Stop::at(span)),
     }
 }
 
@@ -63,7 +63,7 @@ fn absent(place: Option<Span>) -> Result<(), Stop>
 {
     match place {
         None => Ok(()),
-        Some(span) => Err(Stop::Unbuilt(span.start)),
+        Some(span) => Err(Stop::at(span)),
     }
 }
 
@@ -79,8 +79,8 @@ fn param_of(param: &WrittenParam) -> Result<Param, Stop>
             span: name.span,
             ty: built_type(written)?,
         }),
-        ParamNode::Receiver(_) => Err(Stop::Unbuilt(param.span.start)),
-        ParamNode::Borrowed(_, _) => Err(Stop::Unbuilt(param.span.start)),
+        ParamNode::Receiver(_) => Err(Stop::at(param.span)),
+        ParamNode::Borrowed(_, _) => Err(Stop::at(param.span)),
     }
 }
 
@@ -101,9 +101,9 @@ fn built_body(alloc: Global, own: Span, body: &Body) -> Result<Expr, Stop>
     ensures { Answers result (built_body own body.now) }
 {
     match body {
-        Body::Block(block) => built_expr(alloc, block.get()),
-        Body::Term(_) => Err(Stop::Unbuilt(own.start)),
-        Body::Missing => Err(Stop::Unbuilt(own.start)),
+        Body::Block(block) => built_expr(alloc, block),
+        Body::Term(_) => Err(Stop::at(own)),
+        Body::Missing => Err(Stop::at(own)),
     }
 }
 
@@ -141,7 +141,7 @@ fn unread(attributes: &[Attribute]) -> Result<(), Stop>
 {
     for attribute in attributes {
         if !matches!(attribute.node, AttributeNode::Skipped) {
-            return Err(Stop::Unbuilt(attribute.span.start));
+            return Err(Stop::at(attribute.span));
         }
     }
     Ok(())
@@ -165,7 +165,7 @@ fn item_of(alloc: Global, item: &Item) -> Result<Option<Function>, Stop>
         }
         ItemNode::Struct(_) | ItemNode::Enum(_) | ItemNode::Trait(_) | ItemNode::Impl(_) => {
             unread(attributes)?;
-            Err(Stop::Unbuilt(item.own.start))
+            Err(Stop::at(item.own))
         }
     }
 }

@@ -1,23 +1,23 @@
 //! The parser of sources.
 ghost use Rattle.std.specs.Prelude.{◌≡◌, ℕ, ◌+◌, ◌<◌, ◌≤◌, ◌^◌, List, length, IfOk, IfErr, OnOk};
-ghost use Rattle.pearlite.specs.Words.{Keeps, GivesNames, IsWordError};
+ghost use Rattle.source_words.specs.Words.{Keeps, GivesNames, IsWordError};
 ghost use Rattle.built_trees.specs.declared.function.Function.{Function};
 ghost use Rattle.built_syntax.specs.Parsed.{SpellsSource, most_functions, first_token, IsUnbuiltAt, IsParseError, SpellsNone};
 
 use crate::functions::built_items;
 use crate::stop::Stop;
 use built_trees::Function;
-use concrete_syntax::tokens_of;
 use rs_tokens::Token;
+use source_words::tokens_of;
 use std::alloc::Global;
 use text_core::{Code, Items, Names, PassError, SourceError, Span};
 
 /// The first of the tokens that does not begin before the byte; else the end.
-fn first_token(tokens: &[Token], end: u32, start: u32) -> Span
+fn first_token(tokens: &[Token], end: u32, start: u64) -> Span
     ensures { result ≡ first_token tokens.now end start }
 {
     for token in tokens {
-        if start <= token.span.start {
+        if start <= u64::from(token.span.start) {
             return token.span;
         }
     }
@@ -25,7 +25,7 @@ fn first_token(tokens: &[Token], end: u32, start: u32) -> Span
 }
 
 /// The refusal of a form that begins at this byte.
-fn refusal_at(alloc: Global, bytes: &[u8], start: u32) -> Result<SourceError, PassError>
+fn refusal_at(alloc: Global, bytes: &[u8], start: u64) -> Result<SourceError, PassError>
     requires few { length bytes.now ≤ 2 ^ 20 }
     ensures ok { IfOk result (λ e. IsUnbuiltAt bytes.now start e) }
     ensures refused { IfErr result (λ e. IsWordError bytes.now e) }

@@ -68,20 +68,21 @@ fn named_type(name: Name) -> Option<Ty>
 pub(crate) fn built_type(written: &TypeTree) -> Result<Ty, Stop>
     ensures { Answers result (built_type written.now) }
 {
-    let start = written.span.start;
-    match &written.node {
-        TypeNode::Named(name, arguments) => match arguments.as_slice() {
-            [] => match named_type(*name) {
+    let span = written.span;
+    match &*written.node {
+        TypeNode::Named(name, lifetimes, types) => {
+            if !lifetimes.is_empty() || !types.is_empty() {
+                return Err(Stop::at(span));
+            }
+            match named_type(name.name) {
                 Some(ty) => Ok(ty),
-                None => Err(Stop::Unbuilt(start)),
-            },
-            [_, ..] => Err(Stop::Unbuilt(start)),
-        },
-        TypeNode::Tuple(_) => Err(Stop::Unbuilt(start)),
-        TypeNode::Reference(_, _, _) => Err(Stop::Unbuilt(start)),
-        TypeNode::SelfType => Err(Stop::Unbuilt(start)),
-        TypeNode::SelfView => Err(Stop::Unbuilt(start)),
-        TypeNode::Lifetime => Err(Stop::Unbuilt(start)),
+                None => Err(Stop::at(span)),
+            }
+        }
+        TypeNode::Tuple(_) => Err(Stop::at(span)),
+        TypeNode::Reference(_, _, _) => Err(Stop::at(span)),
+        TypeNode::SelfType => Err(Stop::at(span)),
+        TypeNode::SelfView => Err(Stop::at(span)),
     }
 }
 
@@ -102,7 +103,7 @@ fn named_term(span: Span, name: Option<Segment>) -> Result<Pterm, Stop>
     ensures { Answers result (named_term span name) }
 {
     match name {
-        None => Err(Stop::Unbuilt(span.start)),
+        None => Err(Stop::at(span)),
         Some(name) => Ok(Pterm {
             span,
             node: PtermNode::Name(name.name),
@@ -116,7 +117,7 @@ pub(crate) fn built_term(alloc: Global, written: &WrittenTerm) -> Result<Pterm, 
     ensures { Answers result (built_term written.now) }
 {
     let span = written.span;
-    match &written.node {
+    match &*written.node {
         WrittenNode::Int(value, suffix) => Ok(Pterm {
             span,
             node: PtermNode::Int(*value, *suffix),
@@ -125,7 +126,7 @@ pub(crate) fn built_term(alloc: Global, written: &WrittenTerm) -> Result<Pterm, 
             span,
             node: PtermNode::Truth(*holds),
         }),
-        WrittenNode::Answer => Ok(Pterm {
+        WrittenNode::Answer(_) => Ok(Pterm {
             span,
             node: PtermNode::Answer,
         }),
@@ -134,7 +135,8 @@ pub(crate) fn built_term(alloc: Global, written: &WrittenTerm) -> Result<Pterm, 
         WrittenNode::Binary(op, t, u) => binary(alloc, span, *op, t, u),
         WrittenNode::Receiver
         | WrittenNode::Field(_, _)
-        | WrittenNode::Part(_, _, _)
+        | WrittenNode::Part(_, _)
+        | WrittenNode::MutRef(_, _)
         | WrittenNode::Method(_, _, _)
         | WrittenNode::Call(_, _)
         | WrittenNode::Literal(_, _)
@@ -142,7 +144,7 @@ pub(crate) fn built_term(alloc: Global, written: &WrittenTerm) -> Result<Pterm, 
         | WrittenNode::If(_, _, _)
         | WrittenNode::Match(_, _)
         | WrittenNode::Quantified(_, _, _)
-        | WrittenNode::Predicate(_, _) => Err(Stop::Unbuilt(span.start)),
+        | WrittenNode::Predicate(_, _) => Err(Stop::at(span)),
     }
 }
 
@@ -173,8 +175,8 @@ fn unary(alloc: Global, span: Span, op: UnaryTerm, t: &WrittenTerm) -> Result<Pt
             let node = PtermNode::View(boxed(alloc, t)?);
             Ok(Pterm { span, node })
         }
-        UnaryTerm::Current => Err(Stop::Unbuilt(span.start)),
-        UnaryTerm::Final => Err(Stop::Unbuilt(span.start)),
+        UnaryTerm::Current => Err(Stop::at(span)),
+        UnaryTerm::Final => Err(Stop::at(span)),
     }
 }
 
@@ -189,13 +191,10 @@ fn binary(
 ) -> Result<Pterm, Stop>
     ensures { Answers result (built_term (T.binary span op t.now u.now)) }
 {
-    if matches!(op, BinaryTerm::MutRef) {
-        return Err(Stop::Unbuilt(span.start));
-    }
     let a = boxed(alloc, t)?;
     let b = boxed(alloc, u)?;
     let node = match op {
-        BinaryTerm::Implies | BinaryTerm::MutRef => PtermNode::Implies(a, b),
+        BinaryTerm::Implies => PtermNode::Implies(a, b),
         BinaryTerm::Or => PtermNode::Or(a, b),
         BinaryTerm::And => PtermNode::And(a, b),
         BinaryTerm::Compare(op) => PtermNode::Compare(op, a, b),

@@ -1,5 +1,3 @@
-pub mod Digits
-pub mod Terms
-pub mod WordLemmas
-pub mod WordLists
-pub mod WordSteps
+mod PartLists
+mod Terms
+mod TokenCounts

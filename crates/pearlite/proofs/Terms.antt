@@ -1,43 +1,81 @@
--- From the front of a list of words to the term at a place of a source.
-use Rattle.std.proofs.Common.{◌≡◌, ℕ, ◌+◌, ◌≤◌, List, length, drop, Some, None, refl, ap, subst, ◌∙◌, arith, length-drop}
+-- From the derivation of a front to the term at a place of a source.
+use Rattle.std.proofs.Common.{◌≡◌, ℕ, ◌+◌, ◌≤◌, inl, inr, List, length, take, drop, reverse, Some, None, refl, sym, ap, subst, ◌∙◌, arith, length-drop}
+use Rattle.std.proofs.lemmas.List.{length-map, length-take-le, reverse-reverse}
+use Rattle.text_core.specs.declared.fault.PassError.{PassError}
+use Rattle.text_core.specs.declared.fault.PassError.TheVariants as P
 use Rattle.text_core.specs.declared.refusal.SourceError.{SourceError}
 use Rattle.rs_tokens.specs.declared.token.Token.{Token}
 use Rattle.rs_tokens.specs.Reading.{AreTokens}
 use Rattle.rs_tokens.proofs.OneReading.{one_list}
-use Rattle.concrete_syntax.specs.declared.fault.ParseFault.{ParseFault}
-use Rattle.concrete_syntax.specs.declared.fault.ParseFault.TheVariants as F
-use Rattle.concrete_syntax.specs.declared.word.Word.{Word as PlainWord}
-use Rattle.concrete_syntax.specs.Front.{SpellsFront}
-use Rattle.concrete_syntax.specs.Words.{IsBadText, no_text, bad_token, AreWords as ArePlainWords, IsWordError as IsPlainWordError}
-use Rattle.concrete_syntax.proofs.Tokens.{as_many, same_words}
-use Rattle.text_core.specs.declared.fault.PassError.{PassError}
-use Rattle.text_core.specs.declared.fault.PassError.TheVariants as P
-use Rattle.pearlite.specs.declared.value.Value.{Value}
-use Rattle.pearlite.specs.declared.word.Word.{Word}
+use Rattle.grammar_tables.specs.declared.parsing.Front.{Front}
+use Rattle.grammar_tables.specs.Grammar.{Grammar}
+use Rattle.grammar_tables.specs.Trees.{Tree, AreValues, values}
+use Rattle.grammar_tables.proofs.ParseTrees.{tree_of}
+use Rattle.grammar_tables.proofs.Uniqueness.{one_tree}
+use Rattle.source_grammar.specs.declared.fault.SyntaxFault.{SyntaxFault}
+use Rattle.source_grammar.specs.declared.fault.SyntaxFault.TheVariants as fault
+use Rattle.source_grammar.specs.Faults.{IsSourceFront, IsFrontFault}
+use Rattle.source_grammar.specs.SourceGrammar.{source_grammar, term_goal}
+use Rattle.source_grammar.proofs.OneAnswer.{one_front, front_or_fault}
+use Rattle.source_words.specs.declared.word.Word.{Word}
+use Rattle.source_words.specs.Words.{AreWords, GivesNames, IsBadText, no_text, bad_token, IsWordError}
+use Rattle.source_words.proofs.WordLists.{one_table}
+use Rattle.pearlite.specs.declared.part.Part.{Part}
 use Rattle.pearlite.specs.Cursor.{Standing}
-use Rattle.concrete_syntax.specs.Faults.{error_of}
-use Rattle.pearlite.specs.Make.{trees}
-use Rattle.pearlite.specs.Parsed.{term, SpellsTerm, IsTermError, SpellsNoTerm}
+use Rattle.pearlite.specs.Meaning.{shape_actions}
+use Rattle.pearlite.specs.Parsed.{kinds_in, IsMade, ReadsTerm, SpellsTerm, error_of, position_of, IsTermError, SpellsNoTerm}
+use Rattle.pearlite.specs.Parts.{first_term}
 use Rattle.pearlite.specs.Pterm.{Pterm}
-use Rattle.pearlite.specs.Values.{term_in}
-use Rattle.pearlite.specs.Words.{AreWords, IsWordError, GivesNames}
-use Rattle.pearlite.proofs.WordLists.{one_table}
+use Rattle.pearlite.proofs.TokenCounts.{as_many_words}
 
--- ---- the words of tokens
+-- ---- what is made of a front
 
--- there are as many words as tokens
-pub as_many_words : (bytes : List ℕ) (tokens : List Token) (plain : List PlainWord) → AreTokens bytes tokens → ArePlainWords bytes plain → length plain ≡ length tokens
-as_many_words bytes tokens plain are h =
-    let same = (one_list bytes 0 h.tokens tokens None None h.are_tokens.tokens_of are.tokens_of).0 in
-    ap length h.are_words ∙ as_many bytes 0 None h.tokens ∙ ap length same
+pub made_of : (G : Grammar) (words : List Word) (derivation : List ℕ) (count : ℕ) (parts new : List Part) (term : Pterm) → G ≡ source_grammar → AreValues G (shape_actions words) term_goal derivation count parts →
+    new ≡ reverse parts → term ≡ first_term (reverse new) → IsMade words derivation count term
+unfolding AreValues IsMade
+made_of G words derivation count parts new term g are n e t is d s =
+    let same : reverse new ≡ parts = ap reverse n ∙ reverse-reverse parts in
+    let value : parts ≡ values (shape_actions words) 0 t = subst (λ (G' : Grammar). AreValues G' (shape_actions words) term_goal derivation count parts) g are t is d s in
+    e ∙ ap first_term (same ∙ value)
+
+pub reads : (levels : ℕ) (words : List Word) (kinds : List ℕ) (front : Front) (term : Pterm) → kinds ≡ kinds_in words → IsSourceFront term_goal levels kinds front →
+    IsMade words front.derivation.items front.length term → ReadsTerm levels words term front.length
+unfolding IsMade
+reads levels words kinds front term k f m =
+    let t = tree_of source_grammar term_goal (take front.length kinds) front.derivation.items f.derived in
+    record {
+      front = front;
+      longest = subst (λ (ks : List ℕ). IsSourceFront term_goal levels ks front) k f;
+      tree = t.0;
+      is_tree = t.1;
+      derives = t.2;
+      made = m t.0 t.1 t.2 (t.3 ∙ length-take-le front.length kinds f.inside);
+      all = refl;
+    }
+
+-- ---- places
+
+pub front_inside : (levels : ℕ) (words : List Word) (is : Pterm) (taken : ℕ) → ReadsTerm levels words is taken → taken ≤ length words
+front_inside levels words is taken r = omega (arith, r.all, r.longest.inside, length-map words (λ (w : Word). w.kind))
+
+inside : (levels : ℕ) (kinds : List ℕ) (f : SyntaxFault) → IsFrontFault term_goal levels kinds f → position_of f ≤ length kinds
+inside levels kinds (fault.Stray position) h = h.0.inside
+inside levels kinds (fault.LeftOut position) (inl h) = h.0.inside
+inside levels kinds (fault.LeftOut position) (inr h) = omega (arith, h.0.inside)
+inside levels kinds (fault.TooDeep position) h = omega (arith, h.inside)
+inside levels kinds fault.NoMemory h = omega arith
+
+pub fault_inside : (levels : ℕ) (words : List Word) (f : SyntaxFault) → IsFrontFault term_goal levels (kinds_in words) f → position_of f ≤ length words
+fault_inside levels words f h = omega (arith, inside levels (kinds_in words) f h, length-map words (λ (w : Word). w.kind))
 
 -- a place so many words behind another is within the tokens
-pub reaches : (bytes : List ℕ) (tokens : List Token) (plain : List PlainWord) (place taken : ℕ) → AreTokens bytes tokens → ArePlainWords bytes plain → place ≤ length tokens →
-    taken ≤ length (drop place plain) → place + taken ≤ length tokens
-reaches bytes tokens plain place taken are h inside within =
-    let many = as_many_words bytes tokens plain are h in omega (arith, many, inside, within, length-drop place plain)
+pub reaches : (table : List (List ℕ)) (bytes : List ℕ) (tokens : List Token) (words : List Word) (place taken : ℕ) → AreTokens bytes tokens → AreWords table bytes words → place ≤ length tokens →
+    taken ≤ length (drop place words) → place + taken ≤ length tokens
+reaches table bytes tokens words place taken are h place_in within =
+    let many = as_many_words table bytes tokens words are h in omega (arith, many, place_in, within, length-drop place words)
 
--- bytes that have tokens are not refused
+-- ---- bytes that are refused
+
 has_tokens : (bytes : List ℕ) (tokens : List Token) (error : SourceError) → AreTokens bytes tokens → IsBadText bytes error → ⊥
 has_tokens bytes tokens error are (no_text n) = n.no_text are.text
 has_tokens bytes tokens error are (bad_token others utf8 has is) =
@@ -53,34 +91,35 @@ own_none old standing tokens (P.Source error) are h = absurd (has_tokens standin
 own_none old standing tokens (P.Limit limit) are h = tt
 own_none old standing tokens P.NoMemory are h = tt
 
-pub plain_error : (standing : Standing) (tokens : List Token) (e : ParseFault) → AreTokens standing.bytes tokens → IsPlainWordError standing.bytes e → IsTermError standing (error_of e) standing.place
-plain_error standing tokens (F.Source error) are h = absurd (has_tokens standing.bytes tokens error are h)
-plain_error standing tokens F.NoMemory are h = refl
+-- ---- one term
 
-pub plain_none : (old : List (List ℕ)) (standing : Standing) (tokens : List Token) (e : ParseFault) → AreTokens standing.bytes tokens → IsPlainWordError standing.bytes e → SpellsNoTerm old standing (error_of e)
-plain_none old standing tokens (F.Source error) are h = absurd (has_tokens standing.bytes tokens error are h)
-plain_none old standing tokens F.NoMemory are h = tt
+pub one_reading : (levels : ℕ) (words : List Word) (is other : Pterm) (taken after : ℕ) → ReadsTerm levels words is taken → ReadsTerm levels words other after → (other ≡ is) × (after ≡ taken)
+one_reading levels words is other taken after r s =
+    let fronts = one_front term_goal (kinds_in words) levels r.front s.front r.longest s.longest in
+    let tree : s.tree ≡ r.tree = one_tree source_grammar s.is_tree r.is_tree (s.derives ∙ sym fronts.1 ∙ sym r.derives) in
+    (s.made ∙ ap (λ (t : Tree). first_term (values (shape_actions words) 0 t)) tree ∙ sym r.made, s.all ∙ sym fronts.0 ∙ sym r.all)
 
--- ---- terms
-
-module _ (old table : List (List ℕ)) (standing : Standing) (ws : List Word) (gs : List PlainWord) (gives : GivesNames old standing.bytes table)
-    (only : (others : List Word) → AreWords table standing.bytes others → others ≡ ws) (are_plain : ArePlainWords standing.bytes gs) where
-  -- the front that makes a term, of these words
-  front_there : (is : Pterm) (after : ℕ) → (s : SpellsTerm old standing is after) → SpellsFront (trees ws) term standing.levels (drop standing.place gs) s.value s.taken
-  front_there is after s =
+module _ (old table : List (List ℕ)) (standing : Standing) (ws : List Word) (gives : GivesNames old standing.bytes table)
+    (only : (others : List Word) → AreWords table standing.bytes others → others ≡ ws) where
+  -- the reading that makes a term, of these words
+  there : (is : Pterm) (after : ℕ) → (s : SpellsTerm old standing is after) → ReadsTerm standing.levels (drop standing.place ws) is s.taken
+  there is after s =
       let t : s.table ≡ table = one_table old standing.bytes s.table table s.gives gives in
       let w : s.words ≡ ws = only s.words (subst (λ (x : List (List ℕ)). AreWords x standing.bytes s.words) t s.are_words) in
-      let p : s.plain ≡ gs = same_words standing.bytes s.plain gs s.are_plain are_plain in
-      subst (λ (x : List Word). SpellsFront (trees x) term standing.levels (drop standing.place gs) s.value s.taken) w
-      (subst (λ (x : List PlainWord). SpellsFront (trees s.words) term standing.levels (drop standing.place x) s.value s.taken) p s.front)
+      subst (λ (x : List Word). ReadsTerm standing.levels (drop standing.place x) is s.taken) w s.reads
 
-  pub one_term : (v : Value) (taken : ℕ) →
-      ((other : Value) (place : ℕ) → SpellsFront (trees ws) term standing.levels (drop standing.place gs) other place → (other ≡ v) × (place ≡ taken)) →
-      (is : Pterm) (after : ℕ) → SpellsTerm old standing is after → (is ≡ term_in v.piece) × (after ≡ standing.place + taken)
-  one_term v taken alone is after s =
-      let e = alone s.value s.taken (front_there is after s) in
-      (s.made ∙ ap (λ (x : Value). term_in x.piece) e.0, s.behind ∙ ap (λ (n : ℕ). standing.place + n) e.1)
+  pub one_term : (term : Pterm) (taken : ℕ) → ReadsTerm standing.levels (drop standing.place ws) term taken →
+      (other : Pterm) (after : ℕ) → SpellsTerm old standing other after → (other ≡ term) × (after ≡ standing.place + taken)
+  one_term term taken r other after s =
+      let e = one_reading standing.levels (drop standing.place ws) term other taken s.taken r (there other after s) in
+      (e.0, s.behind ∙ ap (λ (n : ℕ). standing.place + n) e.1)
 
-  pub no_term : ((v : Value) (after : ℕ) → SpellsFront (trees ws) term standing.levels (drop standing.place gs) v after → ⊥) →
-      (is : Pterm) (after : ℕ) → SpellsTerm old standing is after → ⊥
-  no_term none is after s = none s.value s.taken (front_there is after s)
+  none_where : (f : SyntaxFault) → (f ≡ fault.NoMemory → ⊥) → IsFrontFault term_goal standing.levels (kinds_in (drop standing.place ws)) f → (is : Pterm) (after : ℕ) → SpellsTerm old standing is after → ⊥
+  none_where f n h is after s =
+      let r = there is after s in front_or_fault term_goal (kinds_in (drop standing.place ws)) standing.levels r.front r.longest f n h
+
+  pub no_term : (end : ℕ) (f : SyntaxFault) → IsFrontFault term_goal standing.levels (kinds_in (drop standing.place ws)) f → SpellsNoTerm old standing (error_of (drop standing.place ws) end f)
+  no_term end (fault.Stray position) h = none_where (fault.Stray position) (λ e. cc) h
+  no_term end (fault.LeftOut position) h = none_where (fault.LeftOut position) (λ e. cc) h
+  no_term end (fault.TooDeep position) h = none_where (fault.TooDeep position) (λ e. cc) h
+  no_term end fault.NoMemory h = tt

@@ -1,7 +1,10 @@
-pub mod Actions
 pub mod Cursor
-pub mod Make
+pub mod MakePatterns
+pub mod MakeTerms
+pub mod MakeTypes
+pub mod Meaning
 pub mod Parsed
+pub mod Parts
 pub mod Pat
 pub mod PatCode
 pub mod PatFalls
@@ -10,9 +13,8 @@ pub mod Pterm
 pub mod PtermCode
 pub mod PtermFalls
 pub mod PtermView
+pub mod Shapes
 pub mod TypeTree
 pub mod TypeTreeCode
 pub mod TypeTreeFalls
 pub mod TypeTreeView
-pub mod Values
-pub mod Words

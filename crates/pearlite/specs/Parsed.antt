@@ -1,50 +1,89 @@
 -- The term that stands at a place of a source, or where it is refused.
-use Rattle.std.specs.Prelude.{◌≡◌, ℕ, ◌+◌, List, length, drop}
-use Rattle.text_core.specs.declared.refusal.SourceError.{SourceError}
-use Rattle.concrete_syntax.specs.declared.phrases.Nonterminal.{Nonterminal}
-use Rattle.concrete_syntax.specs.declared.phrases.Nonterminal.TheVariants as N
-use Rattle.concrete_syntax.specs.declared.phrases.TermPhrase.TheVariants as NT
-use Rattle.concrete_syntax.specs.declared.phrases.Mode.TheVariants as M
-use Rattle.concrete_syntax.specs.declared.phrases.Literals.TheVariants as L
-use Rattle.concrete_syntax.specs.declared.word.Word.{Word as PlainWord}
-use Rattle.concrete_syntax.specs.Front.{SpellsFront, IsFrontRefusal}
-use Rattle.concrete_syntax.specs.Words.{AreWords as ArePlainWords}
+use Rattle.std.specs.Prelude.{◌≡◌, ℕ, ◌+◌, List, None, Option, Some, drop, length, map, slice_get}
 use Rattle.text_core.specs.declared.fault.PassError.{PassError}
 use Rattle.text_core.specs.declared.fault.PassError.TheVariants as P
-use Rattle.pearlite.specs.declared.value.Value.{Value}
-use Rattle.pearlite.specs.declared.word.Word.{Word}
+use Rattle.text_core.specs.declared.refusal.Code.{Code}
+use Rattle.text_core.specs.declared.refusal.Code.TheVariants.{E03, E04, E20}
+use Rattle.text_core.specs.declared.refusal.SourceError.{SourceError}
+use Rattle.text_core.specs.declared.span.Span.{Span}
+use Rattle.grammar_tables.specs.declared.parsing.Front.{Front}
+use Rattle.grammar_tables.specs.declared.symbol.Symbol.TheVariants.{Nonterminal}
+use Rattle.grammar_tables.specs.Trees.{Tree, IsTree, preorder, size, values}
+use Rattle.source_grammar.specs.declared.fault.SyntaxFault.{SyntaxFault}
+use Rattle.source_grammar.specs.declared.fault.SyntaxFault.TheVariants as fault
+use Rattle.source_grammar.specs.Faults.{IsSourceFront, IsFrontFault}
+use Rattle.source_grammar.specs.SourceGrammar.{source_grammar, term_goal}
+use Rattle.source_words.specs.declared.word.Word.{Word}
+use Rattle.source_words.specs.Words.{AreWords, GivesNames}
 use Rattle.pearlite.specs.Cursor.{Standing}
-use Rattle.pearlite.specs.Make.{trees}
+use Rattle.pearlite.specs.Meaning.{shape_actions}
+use Rattle.pearlite.specs.Parts.{first_term}
 use Rattle.pearlite.specs.Pterm.{Pterm}
-use Rattle.pearlite.specs.Values.{term_in}
-use Rattle.pearlite.specs.Words.{AreWords, GivesNames}
 
--- a term in which struct literals may stand bare
-abbrev pub term : Nonterminal
-term = N.Term (NT.Term (M.Inside L.Allowed))
+abbrev pub kinds_in : List Word → List ℕ
+kinds_in words = map (λ word. word.kind) words
 
--- The words from where it stands up to the place `after` spell this term, within the limits, and the word there cannot go on. Names are those of the
--- old table, and of identifiers of the source that have none there, in order of first use.
+-- this is what the actions make of each tree with that derivation and so many tokens
+unfoldable pub IsMade : List Word → List ℕ → ℕ → Pterm → Type 0
+IsMade words derivation count is = (t : Tree) → IsTree source_grammar (Nonterminal term_goal) t → preorder t ≡ derivation → size t ≡ count → is ≡ first_term (values (shape_actions words) 0 t)
+
+-- So many words are the longest front that is a term, within the limits and with so many levels around it, and this is what the actions make of its tree.
+pub record ReadsTerm (levels : ℕ) (words : List Word) (is : Pterm) (taken : ℕ) : Type 0 where
+  pub front : Front
+  pub longest : IsSourceFront term_goal levels (kinds_in words) front
+  pub tree : Tree
+  pub is_tree : IsTree source_grammar (Nonterminal term_goal) tree
+  pub derives : preorder tree ≡ front.derivation.items
+  pub made : is ≡ first_term (values (shape_actions words) 0 tree)
+  pub all : taken ≡ front.length
+
+-- The words from where it stands up to the place `after` spell this term. Names are those of the old table, and of identifiers and lifetimes of the
+-- source that have none there, in order of first use.
 pub record SpellsTerm (old : List (List ℕ)) (standing : Standing) (is : Pterm) (after : ℕ) : Type 0 where
   pub table : List (List ℕ)
   pub gives : GivesNames old standing.bytes table
   pub words : List Word
   pub are_words : AreWords table standing.bytes words
-  pub plain : List PlainWord
-  pub are_plain : ArePlainWords standing.bytes plain
-  pub value : Value
   pub taken : ℕ
-  pub front : SpellsFront (trees words) term standing.levels (drop standing.place plain) value taken
-  pub made : is ≡ term_in value.piece
+  pub reads : ReadsTerm standing.levels (drop standing.place words) is taken
   pub behind : after ≡ standing.place + taken
 
--- the words from where it stands spell no term: the word at the place `after`, or the end, cannot continue
+-- ---- refusals
+
+abbrev pub span_or : ℕ → Option Word → Span
+span_or end (Some word) = word.span
+span_or end None = record { start = end; end = end }
+
+-- the span of the word at the position, or the empty one at the end of the bytes
+abbrev pub span_at : List Word → ℕ → ℕ → Span
+span_at words end position = span_or end (slice_get words position)
+
+abbrev pub refusal : Code → Span → PassError
+refusal code span = P.Source (record { code = code; span = span; other = None })
+
+-- the error that a fault of the words is, behind which the bytes end at that offset
+abbrev pub error_of : List Word → ℕ → SyntaxFault → PassError
+error_of words end (fault.Stray position) = refusal E03 (span_at words end position)
+error_of words end (fault.LeftOut position) = refusal E20 (span_at words end position)
+error_of words end (fault.TooDeep position) = refusal E04 (span_at words end position)
+error_of words end fault.NoMemory = P.NoMemory
+
+-- how many words stand before the one that is told
+abbrev pub position_of : SyntaxFault → ℕ
+position_of (fault.Stray position) = position
+position_of (fault.LeftOut position) = position
+position_of (fault.TooDeep position) = position
+position_of fault.NoMemory = 0
+
+-- no front of the words from where it stands is a term: the word at the place `after`, or the end, is told
 pub record IsTermRefusal (standing : Standing) (error : SourceError) (after : ℕ) : Type 0 where
-  pub plain : List PlainWord
-  pub are_plain : ArePlainWords standing.bytes plain
-  pub taken : ℕ
-  pub refusal : IsFrontRefusal term standing.levels (drop standing.place plain) (length standing.bytes) taken error
-  pub behind : after ≡ standing.place + taken
+  pub table : List (List ℕ)
+  pub words : List Word
+  pub are_words : AreWords table standing.bytes words
+  pub fault : SyntaxFault
+  pub is_fault : IsFrontFault term_goal standing.levels (kinds_in (drop standing.place words)) fault
+  pub told : error_of (drop standing.place words) (length standing.bytes) fault ≡ P.Source error
+  pub behind : after ≡ standing.place + position_of fault
 
 -- an error, and the place that it leaves
 abbrev pub IsTermError : Standing → PassError → ℕ → Type 0

@@ -26,4 +26,5 @@ mutual
 
   pub data FieldPats : Type 0 where
     no_fields : FieldPats
-    with_field : Segment → Pat → FieldPats → FieldPats
+    -- after its span
+    with_field : Span → Segment → Pat → FieldPats → FieldPats

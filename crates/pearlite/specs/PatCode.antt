@@ -39,7 +39,7 @@ abbrev mutual
 
   pub field_pats_code : FieldPats → Gv
   field_pats_code no_fields = gcons (gnum 0) gnil
-  field_pats_code (with_field a0 a1 a2) = gcons (gnum 1) (gcons (segment.the_row.coded.code a0) (gcons (pat_code a1) (field_pats_code a2)))
+  field_pats_code (with_field a0 a1 a2 a3) = gcons (gnum 1) (gcons (span.the_row.coded.code a0) (gcons (segment.the_row.coded.code a1) (gcons (pat_code a2) (field_pats_code a3))))
 
 mutual
   pub pat_injective : (x y : Pat) → pat_code x ≡ pat_code y → x ≡ y
@@ -60,7 +60,7 @@ mutual
 
   pub field_pats_injective : (x y : FieldPats) → field_pats_code x ≡ field_pats_code y → x ≡ y
   field_pats_injective no_fields no_fields p = refl
-  field_pats_injective (with_field a0 a1 a2) (with_field b0 b1 b2) p = λ i. with_field (segment.the_row.coded.inj a0 b0 (ap (λ g. head (tail g)) p) i) (pat_injective a1 b1 (ap (λ g. head (tail (tail g))) p) i) (field_pats_injective a2 b2 (ap (λ g. tail (tail (tail g))) p) i)
+  field_pats_injective (with_field a0 a1 a2 a3) (with_field b0 b1 b2 b3) p = λ i. with_field (span.the_row.coded.inj a0 b0 (ap (λ g. head (tail g)) p) i) (segment.the_row.coded.inj a1 b1 (ap (λ g. head (tail (tail g))) p) i) (pat_injective a2 b2 (ap (λ g. head (tail (tail (tail g)))) p) i) (field_pats_injective a3 b3 (ap (λ g. tail (tail (tail (tail g)))) p) i)
   field_pats_injective x y p = absurd (omega (arith, ap tag p))
 
 abbrev pub coded_pat : Coded Pat

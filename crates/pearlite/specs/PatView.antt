@@ -12,7 +12,7 @@ pats_of (x ∷ xs) = more x (pats_of xs)
 
 abbrev pub field_pats_of : List FieldPat → FieldPats
 field_pats_of [] = no_fields
-field_pats_of (x ∷ xs) = with_field x.name x.pattern (field_pats_of xs)
+field_pats_of (x ∷ xs) = with_field x.span x.name x.pattern (field_pats_of xs)
 
 abbrev pub pat_of : Span → PatNode → Pat
 pat_of s node.Any = any s
@@ -41,7 +41,7 @@ abbrev mutual
 
   pub field_pats_size : FieldPats → ℕ
   field_pats_size no_fields = 1
-  field_pats_size (with_field a0 a1 a2) = suc (max (pat_size a1) (field_pats_size a2))
+  field_pats_size (with_field a0 a1 a2 a3) = suc (max (pat_size a2) (field_pats_size a3))
 
 abbrev pub span_of : Pat → Span
 span_of (any s) = s

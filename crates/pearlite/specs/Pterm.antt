@@ -1,11 +1,13 @@
 -- Terms of contracts as they are written (Pearlite, Creusot): one constructor for each variant of `PtermNode`, after its span.
 use Rattle.std.specs.Prelude.{ℤ, Bool, Option, List}
+use Rattle.text_core.specs.declared.name.Name.{Name}
 use Rattle.text_core.specs.declared.span.Span.{Span}
 use Rattle.logic_term.specs.declared.kinds.IntKind.{IntKind}
 use Rattle.pearlite.specs.declared.path.Path.{Path}
 use Rattle.pearlite.specs.declared.operator.UnaryTerm.{UnaryTerm}
 use Rattle.pearlite.specs.declared.operator.BinaryTerm.{BinaryTerm}
 use Rattle.pearlite.specs.declared.path.Segment.{Segment}
+use Rattle.pearlite.specs.declared.path.Number.{Number}
 use Rattle.pearlite.specs.declared.operator.Quantifier.{Quantifier}
 use Rattle.pearlite.specs.declared.binder.Binder.{Binder}
 use Rattle.pearlite.specs.declared.operator.Predicate.{Predicate}
@@ -15,16 +17,18 @@ mutual
   pub data Pterm : Type 0 where
     integer : Span → ℤ → Option IntKind → Pterm
     truth : Span → Bool → Pterm
-    -- `result`
-    answer : Span → Pterm
+    -- `result`, by its name
+    answer : Span → Name → Pterm
     -- `self`
     receiver : Span → Pterm
     path : Span → Path → Pterm
     unary : Span → UnaryTerm → Pterm → Pterm
     binary : Span → BinaryTerm → Pterm → Pterm → Pterm
+    -- `MutRef` of two terms
+    mut_ref : Span → Pterm → Pterm → Pterm
     field : Span → Pterm → Segment → Pterm
     -- a field by its number
-    part : Span → Pterm → ℤ → Option IntKind → Pterm
+    part : Span → Pterm → Number → Pterm
     method : Span → Pterm → Segment → Terms → Pterm
     call : Span → Path → Terms → Pterm
     -- a struct literal
@@ -42,8 +46,10 @@ mutual
 
   pub data FieldTerms : Type 0 where
     no_fields : FieldTerms
-    with_field : Segment → Pterm → FieldTerms → FieldTerms
+    -- after its span
+    with_field : Span → Segment → Pterm → FieldTerms → FieldTerms
 
   pub data Arms : Type 0 where
     no_arms : Arms
-    with_arm : Pat → Pterm → Arms → Arms
+    -- after its span
+    with_arm : Span → Pat → Pterm → Arms → Arms

@@ -1,11 +1,11 @@
 //! A place in a source.
-ghost use Rattle.std.specs.Prelude.{◌≡◌, ◌≤◌, ◌^◌, length};
+ghost use Rattle.std.specs.Prelude.{◌≡◌, ◌+◌, ◌≤◌, ◌<◌, ◌^◌, length};
 
 use rs_tokens::Token;
 use std::marker::Model;
 
 /// A place among the tokens of a source, with so many levels open around it. It takes no memory.
-#[derive(Debug, Drop)]
+#[derive(Drop)]
 pub struct Cursor<'a> {
     bytes: &'a [u8],
     tokens: &'a [Token],
@@ -71,11 +71,12 @@ impl<'a> Cursor<'a> {
         self.levels
     }
 
-    /// Goes to the place behind so many tokens.
-    pub(crate) fn go_to(&mut self, place: u32)
-        requires { place ≤ length self.old.tokens }
-        ensures { self.new ≡ record self.old { place = place } }
+    /// Goes on behind so many tokens.
+    pub(crate) fn go_on(&mut self, count: usize)
+        requires within { self.old.place + count ≤ length self.old.tokens }
+        requires few { length self.old.tokens < 2 ^ 32 }
+        ensures { self.new ≡ record self.old { place = self.old.place + count } }
     {
-        self.place = place;
+        self.place += count as u32;
     }
 }

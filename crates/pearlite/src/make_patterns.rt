@@ -1,35 +1,44 @@
-//! What the rules of patterns make.
-ghost use Rattle.std.specs.Prelude.{◌≡◌, IfOk, true};
-ghost use Rattle.pearlite.specs.Pat as Tree;
+//! What is made of the lines of patterns.
+ghost use Rattle.std.specs.Prelude.{◌≡◌, IfOk, reverse, unwrap_or};
+ghost use Rattle.pearlite.specs.MakePatterns.{bound, field_pattern_made, integer_pattern_made, mut_pattern_made, opposite, path_pattern_by, path_pattern_made, truth_pattern_made, tuple_pattern_made, wildcard_made};
+ghost use Rattle.pearlite.specs.Parts.{as_pattern, first_of};
 ghost use Rattle.pearlite.specs.PatView.{pat_of};
-ghost use Rattle.pearlite.specs.Values.{first, second, third, word_in, segment_in, path_in, pat_in, pats_in, comma_in, field_pats_in, others_in};
-ghost use Rattle.pearlite.specs.Make.{path_made, inner_pattern_made, opposite, constructor_made, pattern_behind, field_pattern, field_pattern_made};
-ghost use Rattle.pearlite.specs.declared.value.Piece.TheVariants as V;
+ghost use Rattle.text_core.specs.declared.span.Span.{Span};
+ghost use Rattle.pearlite.specs.declared.part.Value.TheVariants as V;
 
-use crate::make_types::next_path;
+use crate::families::{next_of, next_path, pattern_with, take_all};
+use crate::part::{Part, Value};
+use crate::parts::alone;
 use crate::path::{Path, PathNode, Segment};
 use crate::pattern::{FieldPat, Pat, PatNode};
-use crate::value::{
-    Piece, Value, comma_in, discard, field_pats_in, next_pattern, next_piece, next_segment,
-    next_word, others_in, path_in, pats_in, skip,
-};
+use crate::tokens::{is_at, is_before, segment_at, segment_before, span_from, word_before};
+use source_grammar::kinds;
+use source_words::Word;
 use std::alloc::Global;
-use std::collections::VecDeque;
 use text_core::{Items, NoMemory, Span};
 
-/// A pattern with this span.
-pub fn plain_pattern(span: Span, node: PatNode) -> Piece
-    ensures { result ≡ V.Pat (pat_of span node) }
+/// The pattern as a value.
+fn pattern_value(alloc: Global, span: Span, node: PatNode) -> Result<Value, NoMemory>
+    ensures { IfOk result (λ v. v ≡ V.Pattern (pat_of span node)) }
 {
-    Piece::Pat(Pat { span, node })
+    Ok(Value::Pattern(pattern_with(alloc, span, node)?))
+}
+
+/// `_`
+#[tactic(auto, unfolding(crate::specs::MakePatterns::wildcard_made))]
+pub fn wildcard(alloc: Global, words: &[Word], from: usize, to: usize) -> Result<Value, NoMemory>
+    ensures { IfOk result (λ v. v ≡ wildcard_made words.now from to) }
+{
+    pattern_value(alloc, span_from(words, from, to), PatNode::Any)
 }
 
 /// `mut` and the name.
-pub fn mutable_pattern(span: Span, mut parts: VecDeque<Value>) -> Piece
-    ensures { result ≡ V.Pat (Tree.mutable span (segment_in (second parts.items).piece)) }
+#[tactic(auto, unfolding(crate::specs::MakePatterns::mut_pattern_made))]
+pub fn mut_pattern(alloc: Global, words: &[Word], from: usize, to: usize) -> Result<Value, NoMemory>
+    ensures { IfOk result (λ v. v ≡ mut_pattern_made words.now from to) }
 {
-    skip(&mut parts);
-    plain_pattern(span, PatNode::Mutable(next_segment(&mut parts)))
+    let node = PatNode::Mutable(segment_before(words, to, 1));
+    pattern_value(alloc, span_from(words, from, to), node)
 }
 
 /// The opposite of the number of a word, which is not negative.
@@ -39,156 +48,140 @@ fn opposite(number: i128) -> i128
     if number >= 0 { -number } else { number }
 }
 
-/// `-` and the integer.
-pub fn negative_pattern(span: Span, mut parts: VecDeque<Value>) -> Piece
-    ensures { result ≡ V.Pat (Tree.integer span (opposite (word_in (second parts.items).piece).value) (word_in (second parts.items).piece).suffix) }
+/// An integer, with `-` or without.
+#[tactic(auto, unfolding(crate::specs::MakePatterns::integer_pattern_made))]
+pub fn integer_pattern(
+    alloc: Global,
+    words: &[Word],
+    from: usize,
+    to: usize,
+) -> Result<Value, NoMemory>
+    ensures { IfOk result (λ v. v ≡ integer_pattern_made words.now from to) }
 {
-    skip(&mut parts);
-    let word = next_word(&mut parts);
-    plain_pattern(span, PatNode::Int(opposite(word.value), word.suffix))
+    let word = word_before(words, to, 1);
+    let value = if is_at(words, kinds::MINUS, from) {
+        opposite(word.value)
+    } else {
+        word.value
+    };
+    pattern_value(
+        alloc,
+        span_from(words, from, to),
+        PatNode::Int(value, word.suffix),
+    )
 }
 
-pub fn int_pattern(span: Span, mut parts: VecDeque<Value>) -> Piece
-    ensures { result ≡ V.Pat (Tree.integer span (word_in (first parts.items).piece).value (word_in (first parts.items).piece).suffix) }
+/// `true` or `false`
+#[tactic(auto, unfolding(crate::specs::MakePatterns::truth_pattern_made))]
+pub fn truth_pattern(
+    alloc: Global,
+    words: &[Word],
+    from: usize,
+    to: usize,
+) -> Result<Value, NoMemory>
+    ensures { IfOk result (λ v. v ≡ truth_pattern_made words.now from to) }
 {
-    let word = next_word(&mut parts);
-    plain_pattern(span, PatNode::Int(word.value, word.suffix))
+    let node = PatNode::Truth(is_at(words, kinds::KW_TRUE, from));
+    pattern_value(alloc, span_from(words, from, to), node)
 }
 
 /// `(`, the patterns, `)`.
-#[tactic(auto, unfolding(crate::specs::Make::inner_pattern_made, crate::specs::Make::inner_pattern_by))]
-pub fn inner_pattern(alloc: Global, span: Span, mut parts: VecDeque<Value>) -> Piece
-    ensures { result ≡ inner_pattern_made span parts.items }
+#[tactic(auto, unfolding(crate::specs::MakePatterns::tuple_pattern_made))]
+pub fn tuple_pattern(
+    alloc: Global,
+    words: &[Word],
+    from: usize,
+    to: usize,
+    parts: &mut Vec<Part>,
+) -> Result<Value, NoMemory>
+    ensures { IfOk result (λ v. v ≡ tuple_pattern_made words.now from to (reverse parts.old.items)) }
 {
-    skip(&mut parts);
-    let inside = next_piece(&mut parts);
-    let comma = comma_in(&inside);
-    let mut patterns = pats_in(alloc, inside).into_vec();
-    if comma || patterns.len() != 1 {
-        return plain_pattern(span, PatNode::Tuple(patterns));
-    }
-    match patterns.pop() {
-        Some(pattern) => Piece::Pat(pattern),
-        None => plain_pattern(span, PatNode::Tuple(patterns)),
+    match alone(parts) {
+        Some(value) => Ok(value),
+        None => {
+            let patterns = take_all::<Pat>(alloc, parts)?;
+            let node = PatNode::Tuple(patterns.into_vec());
+            pattern_value(alloc, span_from(words, from, to), node)
+        }
     }
 }
 
 /// The path, with the parts or the fields behind it.
-#[tactic(auto, unfolding(crate::specs::Make::constructor_made))]
-fn constructor(span: Span, path: Path, behind: Piece) -> Piece
-    ensures { result ≡ constructor_made span path behind }
+#[tactic(auto, unfolding(crate::specs::MakePatterns::path_pattern_by))]
+fn path_pattern_node(
+    alloc: Global,
+    words: &[Word],
+    to: usize,
+    path: Path,
+    parts: &mut Vec<Part>,
+) -> Result<PatNode, NoMemory>
+    ensures { IfOk result (λ node. (span : Span) → pat_of span node ≡ path_pattern_by words.now to span path (reverse parts.old.items)) }
 {
-    match behind {
-        Piece::Pats(patterns, _) => plain_pattern(span, PatNode::Parts(path, patterns.into_vec())),
-        Piece::FieldPats(fields, others) => plain_pattern(
-            span,
-            PatNode::Fields(path, fields.into_vec(), others),
-        ),
-        other => {
-            discard(other);
-            plain_pattern(span, PatNode::Path(path))
-        }
+    if is_before(words, kinds::CLOSE_PAREN, to, 1) {
+        let patterns = take_all::<Pat>(alloc, parts)?;
+        Ok(PatNode::Parts(path, patterns.into_vec()))
+    } else if is_before(words, kinds::CLOSE_BRACE, to, 1) {
+        let fields = take_all::<FieldPat>(alloc, parts)?;
+        let more = is_before(words, kinds::DOT_DOT, to, 2);
+        Ok(PatNode::Fields(path, fields.into_vec(), more))
+    } else {
+        Ok(PatNode::Path(path))
     }
 }
 
-/// A path that begins with a name, and the parts behind it.
-pub fn named_pattern(alloc: Global, span: Span, mut parts: VecDeque<Value>) -> Piece
-    ensures { result ≡ constructor_made span (path_made (first parts.items) (second parts.items)) (third parts.items).piece }
-{
-    let path = next_path(alloc, &mut parts);
-    constructor(span, path, next_piece(&mut parts))
-}
-
-/// A path at a type, and the parts behind it.
-pub fn qualified_pattern(alloc: Global, span: Span, mut parts: VecDeque<Value>) -> Piece
-    ensures { result ≡ constructor_made span (path_in (first parts.items).piece) (second parts.items).piece }
-{
-    let path = path_in(alloc, next_piece(&mut parts));
-    constructor(span, path, next_piece(&mut parts))
-}
-
-/// The patterns with one more.
-#[tactic(auto, unfolding(crate::specs::Make::pattern_behind))]
-pub fn one_pattern(
+/// A path, with parts or fields or alone.
+#[tactic(auto, unfolding(crate::specs::MakePatterns::path_pattern_made))]
+pub fn path_pattern(
     alloc: Global,
-    so_far: Piece,
-    mut parts: VecDeque<Value>,
-) -> Result<Piece, NoMemory>
-    ensures { IfOk result (λ p. p ≡ pattern_behind so_far (pat_in (first parts.items).piece)) }
+    words: &[Word],
+    from: usize,
+    to: usize,
+    parts: &mut Vec<Part>,
+) -> Result<Value, NoMemory>
+    ensures { IfOk result (λ v. v ≡ path_pattern_made words.now from to (reverse parts.old.items)) }
 {
-    let comma = comma_in(&so_far);
-    let mut patterns = pats_in(alloc, so_far);
-    patterns.push(next_pattern(&mut parts))?;
-    Ok(Piece::Pats(patterns, comma))
+    let path = next_path(alloc, parts);
+    let node = path_pattern_node(alloc, words, to, path, parts)?;
+    pattern_value(alloc, span_from(words, from, to), node)
 }
 
-/// The patterns with a comma behind them.
-pub fn pattern_comma(alloc: Global, so_far: Piece) -> Piece
-    ensures { result ≡ V.Pats (pats_in so_far) true }
+/// The pattern of a name alone, which binds it.
+fn bound(alloc: Global, name: Segment) -> Result<Pat, NoMemory>
+    ensures { IfOk result (λ pattern. pattern ≡ bound name) }
 {
-    Piece::Pats(pats_in(alloc, so_far), true)
+    let path = Path {
+        span: name.span,
+        node: PathNode::Names(name, Items::new(alloc), Items::new(alloc)),
+    };
+    pattern_with(alloc, name.span, PatNode::Path(path))
 }
 
-/// `(`, the parts of a constructor, `)`.
-pub fn pattern_parts(alloc: Global, mut parts: VecDeque<Value>) -> Piece
-    ensures { result ≡ V.Pats (pats_in (second parts.items).piece) (comma_in (second parts.items).piece) }
+/// The pattern of a field, where one stands there, and else its name.
+fn pattern_or_name(alloc: Global, name: Segment, parts: &mut Vec<Part>) -> Result<Pat, NoMemory>
+    ensures { IfOk result (λ pattern. pattern ≡ unwrap_or (first_of as_pattern (reverse parts.old.items)) (bound name)) }
 {
-    skip(&mut parts);
-    let inside = next_piece(&mut parts);
-    let comma = comma_in(&inside);
-    Piece::Pats(pats_in(alloc, inside), comma)
-}
-
-/// `{`, the fields of a constructor, `}`.
-pub fn pattern_fields(alloc: Global, mut parts: VecDeque<Value>) -> Piece
-    ensures { result ≡ V.FieldPats (field_pats_in (second parts.items).piece) (others_in (second parts.items).piece) }
-{
-    skip(&mut parts);
-    let inside = next_piece(&mut parts);
-    let others = others_in(&inside);
-    Piece::FieldPats(field_pats_in(alloc, inside), others)
-}
-
-/// The pattern of a field; a name alone binds it.
-#[tactic(auto, unfolding(crate::specs::Make::field_pattern))]
-fn field_pattern(alloc: Global, name: Segment, behind: Piece) -> Pat
-    ensures { result ≡ field_pattern name behind }
-{
-    match behind {
-        Piece::Pat(pattern) => pattern,
-        other => {
-            discard(other);
-            let path = Path {
-                span: name.span,
-                node: PathNode::Names(name, Items::new(alloc), Items::new(alloc)),
-            };
-            Pat {
-                span: name.span,
-                node: PatNode::Path(path),
-            }
-        }
+    match next_of::<Pat>(parts) {
+        Some(pattern) => Ok(pattern),
+        None => bound(alloc, name),
     }
 }
 
-/// The fields with one more.
-#[tactic(auto, unfolding(crate::specs::Make::field_pattern_made))]
-pub fn further_field_pattern(
+/// A field of a constructor.
+#[tactic(auto, unfolding(crate::specs::MakePatterns::field_pattern_made))]
+pub fn field_pattern(
     alloc: Global,
-    so_far: Piece,
-    mut parts: VecDeque<Value>,
-) -> Result<Piece, NoMemory>
-    ensures { IfOk result (λ p. p ≡ field_pattern_made so_far parts.items) }
+    words: &[Word],
+    from: usize,
+    to: usize,
+    parts: &mut Vec<Part>,
+) -> Result<Value, NoMemory>
+    ensures { IfOk result (λ v. v ≡ field_pattern_made words.now from to (reverse parts.old.items)) }
 {
-    let mut fields = field_pats_in(alloc, so_far);
-    let name = next_segment(&mut parts);
-    let pattern = field_pattern(alloc, name, next_piece(&mut parts));
-    fields.push(FieldPat { name, pattern })?;
-    Ok(Piece::FieldPats(fields, false))
-}
-
-/// The fields with `..` behind them.
-pub fn other_fields(alloc: Global, so_far: Piece) -> Piece
-    ensures { result ≡ V.FieldPats (field_pats_in so_far) true }
-{
-    Piece::FieldPats(field_pats_in(alloc, so_far), true)
+    let name = segment_at(words, from);
+    let pattern = pattern_or_name(alloc, name, parts)?;
+    Ok(Value::FieldPattern(FieldPat {
+        span: span_from(words, from, to),
+        name,
+        pattern,
+    }))
 }

@@ -1,7 +1,7 @@
 use logic_term::{ArithOp, Comparison};
 
 /// The operators with one operand.
-#[derive(Clone, Copy, Debug, PartialEq, Eq)]
+#[derive(Clone, Copy)]
 pub enum UnaryTerm {
     /// `-t`
     Neg,
@@ -16,7 +16,7 @@ pub enum UnaryTerm {
 }
 
 /// The operators with two operands.
-#[derive(Clone, Copy, Debug, PartialEq, Eq)]
+#[derive(Clone, Copy)]
 pub enum BinaryTerm {
     /// `==>`
     Implies,
@@ -26,19 +26,17 @@ pub enum BinaryTerm {
     And,
     Compare(Comparison),
     Calculate(ArithOp),
-    /// `MutRef(t, u)`
-    MutRef,
 }
 
 /// The quantifiers.
-#[derive(Clone, Copy, Debug, PartialEq, Eq)]
+#[derive(Clone, Copy)]
 pub enum Quantifier {
     Forall,
     Exists,
 }
 
 /// The predicates of closures.
-#[derive(Clone, Copy, Debug, PartialEq, Eq)]
+#[derive(Clone, Copy)]
 pub enum Predicate {
     Precondition,
     Postcondition,
@@ -47,7 +45,7 @@ pub enum Predicate {
 }
 
 /// The traits of closures.
-#[derive(Clone, Copy, Debug, PartialEq, Eq)]
+#[derive(Clone, Copy)]
 pub enum CallTrait {
     Fn,
     FnMut,
@@ -55,7 +53,7 @@ pub enum CallTrait {
 }
 
 /// The macros that a run is not to reach.
-#[derive(Clone, Copy, Debug, PartialEq, Eq)]
+#[derive(Clone, Copy)]
 pub enum PanicMacro {
     /// `panic!`
     Panic,
@@ -64,7 +62,7 @@ pub enum PanicMacro {
 }
 
 /// The macros that hold a term among program code.
-#[derive(Clone, Copy, Debug, PartialEq, Eq)]
+#[derive(Clone, Copy)]
 pub enum GhostMacro {
     /// `proof_assert!`
     ProofAssert,

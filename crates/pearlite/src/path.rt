@@ -1,17 +1,27 @@
 use crate::types::TypeTree;
+use logic_term::IntKind;
 use text_core::{Items, Name, Span};
 
 /// A name in its place.
-#[derive(Clone, Copy, Debug, PartialEq, Eq)]
+#[derive(Clone, Copy)]
 pub struct Segment {
     pub name: Name,
     pub span: Span,
 }
 
+/// The number of a part, as that of `t.0`, in its place.
+#[derive(Clone, Copy)]
+pub struct Number {
+    pub span: Span,
+    pub value: i128,
+    /// The type at its end, if it has one.
+    pub suffix: Option<IntKind>,
+}
+
 /// A path as it is written.
 #[derive(Drop)]
 pub struct Path {
-    /// From its first word to its last.
+    /// From its first token to its last.
     pub span: Span,
     pub node: PathNode,
 }

@@ -7,13 +7,14 @@ use text_core::Span;
 #[cycle(pat)]
 #[derive(Drop)]
 pub struct Pat {
-    /// From its first word to its last; that of `(P)` is that of `P`.
+    /// From its first token to its last; that of `(P)` is that of `P`.
     pub span: Span,
-    pub node: PatNode,
+    pub node: Box<PatNode>,
 }
 
 /// What a pattern is at its top.
 #[cycle(pat)]
+#[derive(Drop)]
 pub enum PatNode {
     /// `_`
     Any,
@@ -31,27 +32,12 @@ pub enum PatNode {
     Fields(Path, Vec<FieldPat>, bool),
 }
 
-// By hand, so that whoever holds one drops it by a call (docs/architecture.md).
-impl Drop for PatNode {
-    #[cycle(pat)]
-    fn drop(self) {
-        match self {
-            PatNode::Any
-            | PatNode::Mutable(_)
-            | PatNode::Int(_, _)
-            | PatNode::Truth(_)
-            | PatNode::Tuple(_)
-            | PatNode::Path(_)
-            | PatNode::Parts(_, _)
-            | PatNode::Fields(_, _, _) => {}
-        }
-    }
-}
-
 /// A field of a constructor; `x` alone is `x: x`.
 #[cycle(pat)]
 #[derive(Drop)]
 pub struct FieldPat {
+    /// From its first token to its last.
+    pub span: Span,
     pub name: Segment,
     pub pattern: Pat,
 }
@@ -66,11 +52,11 @@ impl Model for Pat {
 
     ghost use Rattle.pearlite.specs.PatView.{pat_of, pat_size};
 
-    ghost view = { λ p. pat_of p.span p.node };
+    ghost view = { λ p. pat_of p.span p.node.value };
 
     ghost size = { pat_size };
 
     ghost use Rattle.pearlite.specs.PatFalls.{falls};
 
-    ghost size_decreases = { λ a h. falls a.span a.node };
+    ghost size_decreases = { λ a h. falls a.span a.node.value };
 }

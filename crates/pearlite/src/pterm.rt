@@ -1,82 +1,61 @@
 use crate::binder::Binder;
 use crate::operator::{BinaryTerm, Predicate, Quantifier, UnaryTerm};
-use crate::path::{Path, Segment};
+use crate::path::{Number, Path, Segment};
 use crate::pattern::Pat;
 use logic_term::IntKind;
 use std::marker::Model;
-use text_core::Span;
+use text_core::{Name, Span};
 
 /// A term of a contract as it is written. Contracts see the tree of specs/Pterm.antt.
 #[cycle(pterm)]
 #[derive(Drop)]
 pub struct Pterm {
-    /// From its first word to its last; that of `(X)` is that of `X`.
+    /// From its first token to its last; that of `(X)` is that of `X`.
     pub span: Span,
-    pub node: PtermNode,
+    pub node: Box<PtermNode>,
 }
 
 /// What a term is at its top.
 #[cycle(pterm)]
+#[derive(Drop)]
 pub enum PtermNode {
     /// An integer, with the type at its end if it has one. A `-` right before the integer belongs to it.
     Int(i128, Option<IntKind>),
     Truth(bool),
-    /// `result`
-    Answer,
+    /// `result`, which has a name as each identifier.
+    Answer(Name),
     /// `self`
     Receiver,
     Path(Path),
-    Unary(UnaryTerm, Box<Pterm>),
-    Binary(BinaryTerm, Box<Pterm>, Box<Pterm>),
+    Unary(UnaryTerm, Pterm),
+    Binary(BinaryTerm, Pterm, Pterm),
+    /// `MutRef(t, u)`
+    MutRef(Pterm, Pterm),
     /// `t.f`
-    Field(Box<Pterm>, Segment),
-    /// `t.0`, with the type at the end of the integer if it has one.
-    Part(Box<Pterm>, i128, Option<IntKind>),
+    Field(Pterm, Segment),
+    /// `t.0`
+    Part(Pterm, Number),
     /// `t.f(u, v)`
-    Method(Box<Pterm>, Segment, Vec<Pterm>),
+    Method(Pterm, Segment, Vec<Pterm>),
     /// `f(u, v)`
     Call(Path, Vec<Pterm>),
     /// `S { f: t }`
     Literal(Path, Vec<FieldTerm>),
     Tuple(Vec<Pterm>),
     /// The condition and both branches.
-    If(Box<Pterm>, Box<Pterm>, Box<Pterm>),
-    Match(Box<Pterm>, Vec<Arm>),
+    If(Pterm, Pterm, Pterm),
+    Match(Pterm, Vec<Arm>),
     /// The variables and the body.
-    Quantified(Quantifier, Vec<Binder>, Box<Pterm>),
+    Quantified(Quantifier, Vec<Binder>, Pterm),
     Predicate(Predicate, Vec<Pterm>),
-}
-
-// By hand, so that whoever holds one drops it by a call (docs/architecture.md).
-impl Drop for PtermNode {
-    #[cycle(pterm)]
-    fn drop(self) {
-        match self {
-            PtermNode::Int(_, _)
-            | PtermNode::Truth(_)
-            | PtermNode::Answer
-            | PtermNode::Receiver
-            | PtermNode::Path(_)
-            | PtermNode::Unary(_, _)
-            | PtermNode::Binary(_, _, _)
-            | PtermNode::Field(_, _)
-            | PtermNode::Part(_, _, _)
-            | PtermNode::Method(_, _, _)
-            | PtermNode::Call(_, _)
-            | PtermNode::Literal(_, _)
-            | PtermNode::Tuple(_)
-            | PtermNode::If(_, _, _)
-            | PtermNode::Match(_, _)
-            | PtermNode::Quantified(_, _, _)
-            | PtermNode::Predicate(_, _) => {}
-        }
-    }
 }
 
 /// A field of a struct literal.
 #[cycle(pterm)]
 #[derive(Drop)]
 pub struct FieldTerm {
+    /// From its first token to its last.
+    pub span: Span,
     pub name: Segment,
     pub value: Pterm,
 }
@@ -85,6 +64,8 @@ pub struct FieldTerm {
 #[cycle(pterm)]
 #[derive(Drop)]
 pub struct Arm {
+    /// From its first token to its last.
+    pub span: Span,
     pub pattern: Pat,
     pub body: Pterm,
 }
@@ -99,11 +80,11 @@ impl Model for Pterm {
 
     ghost use Rattle.pearlite.specs.PtermView.{pterm_of, pterm_size};
 
-    ghost view = { λ t. pterm_of t.span t.node };
+    ghost view = { λ t. pterm_of t.span t.node.value };
 
     ghost size = { pterm_size };
 
     ghost use Rattle.pearlite.specs.PtermFalls.{falls};
 
-    ghost size_decreases = { λ a h. falls a.span a.node };
+    ghost size_decreases = { λ a h. falls a.span a.node.value };
 }

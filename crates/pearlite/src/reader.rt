@@ -1,31 +1,108 @@
 //! The parser of terms.
-ghost use Rattle.std.specs.Prelude.{◌≡◌, ℕ, ◌+◌, ◌≤◌, ◌<◌, ◌^◌, length, drop, IfOk, IfErr, OnOk};
+ghost use Rattle.std.specs.Prelude.{◌≡◌, ℕ, ◌+◌, ◌≤◌, ◌<◌, ◌^◌, drop, length, IfOk, IfErr, OnOk};
 ghost use Rattle.rs_tokens.specs.Reading.{AreTokens};
-ghost use Rattle.pearlite.specs.Parsed.{SpellsTerm, IsTermError, SpellsNoTerm};
+ghost use Rattle.source_grammar.specs.Faults.{IsFrontFault};
+ghost use Rattle.source_grammar.specs.SourceGrammar.{term_goal};
+ghost use Rattle.source_words.specs.Words.{GivesNames, Keeps};
+ghost use Rattle.pearlite.specs.Parsed.{IsMade, IsTermError, ReadsTerm, SpellsNoTerm, SpellsTerm, error_of, kinds_in, position_of, refusal, span_at};
 ghost use Rattle.pearlite.specs.Pterm.{Pterm};
-ghost use Rattle.pearlite.specs.Words.{Keeps, GivesNames};
 
 use crate::cursor::Cursor;
+use crate::families::next_term;
+use crate::part::Part;
 use crate::pterm::Pterm;
-use crate::value::{Value, term_in};
-use crate::words::words_of;
-use concrete_syntax::{
-    FrontFault, Literals, Mode, Nonterminal, TermPhrase, Word as PlainWord, parse_front,
-};
+use grammar_tables::{Front, evaluate};
+use source_grammar::{SyntaxFault, WHOLE_TERM, tables};
+use source_words::{Word, kinds_of_words, words_of};
 use std::alloc::Global;
-use text_core::{Names, PassError};
+use text_core::{Code, Items, Names, NoMemory, PassError, SourceError, Span};
 
-/// The words from that number on.
-fn words_behind(words: &[PlainWord], place: usize) -> &[PlainWord]
+/// The words from that place on.
+fn words_behind(alloc: Global, words: &[Word], place: usize) -> Result<Items<Word>, NoMemory>
     requires { place ≤ length words.now }
-    ensures { result.now ≡ drop place words.now }
+    ensures { IfOk result (λ behind. behind ≡ drop place words.now) }
 {
-    &words[place..]
+    Items::from_slice(alloc, &words[place..])
+}
+
+/// What the actions make of the tree of a term, by its derivation.
+fn term_of(
+    alloc: Global,
+    words: &Items<Word>,
+    derivation: &[u8],
+    count: usize,
+) -> Result<Pterm, NoMemory>
+    ensures { IfOk result (λ term. IsMade words.now derivation.now count term) }
+{
+    let mut parts = evaluate::<Part>(words, alloc, &tables(), WHOLE_TERM, derivation, count)?;
+    parts.reverse();
+    let term = next_term(alloc, &mut parts)?;
+    Ok(term)
+}
+
+/// The longest front of the words that is a term, and the number of its words; or why there is none.
+fn read_term(alloc: Global, words: &Items<Word>, levels: u32) -> Result<(Pterm, usize), SyntaxFault>
+    requires { levels ≤ 64 }
+    ensures ok { IfOk result (λ read. ReadsTerm levels words.now read.0 read.1) }
+    ensures refused { IfErr result (λ fault. IsFrontFault term_goal levels (kinds_in words.now) fault) }
+{
+    let Ok(kinds) = kinds_of_words(alloc, words.as_slice()) else {
+        return Err(SyntaxFault::NoMemory);
+    };
+    let front = source_grammar::parse_term(alloc, kinds.as_slice(), levels as u8)?;
+    match term_of(alloc, words, front.derivation.as_slice(), front.length) {
+        Ok(term) => Ok((term, front.length)),
+        Err(NoMemory) => Err(SyntaxFault::NoMemory),
+    }
+}
+
+/// The span of the word at the position, or the empty one at the end of the bytes.
+fn span_at(words: &[Word], end: u32, position: usize) -> Span
+    ensures { result ≡ span_at words.now end position }
+{
+    match words.get(position) {
+        Some(word) => word.span,
+        None => Span { start: end, end },
+    }
+}
+
+fn refusal(code: Code, span: Span) -> PassError
+    ensures { result ≡ refusal code span }
+{
+    PassError::Source(SourceError {
+        code,
+        span,
+        other: None,
+    })
+}
+
+/// The error that a fault of the words is, behind which the bytes end at that offset.
+fn error_of(words: &[Word], end: u32, fault: SyntaxFault) -> PassError
+    ensures { result ≡ error_of words.now end fault }
+{
+    match fault {
+        SyntaxFault::Stray(position) => refusal(Code::E03, span_at(words, end, position)),
+        SyntaxFault::LeftOut(position) => refusal(Code::E20, span_at(words, end, position)),
+        SyntaxFault::TooDeep(position) => refusal(Code::E04, span_at(words, end, position)),
+        SyntaxFault::NoMemory => PassError::NoMemory,
+    }
+}
+
+/// How many words stand before the one that is told.
+fn position_of(fault: SyntaxFault) -> usize
+    ensures { result ≡ position_of fault }
+{
+    match fault {
+        SyntaxFault::Stray(position)
+        | SyntaxFault::LeftOut(position)
+        | SyntaxFault::TooDeep(position) => position,
+        SyntaxFault::NoMemory => 0,
+    }
 }
 
 /// The term that the words from the cursor's place on spell, as long as the next word can go on; the cursor then stands at
-/// that word. The cursor's tokens are those of its source. Identifiers of the source that have no name yet are given one, in
-/// order of first use.
+/// that word. The cursor's tokens are those of its source. Identifiers and lifetimes of the source that have no name yet are
+/// given one, in order of first use.
 ///
 /// Errors: `Source` by E03, E04 or E20 at the first word that cannot continue, or at the end of a source that ends too
 /// early, and the cursor then stands there; the levels that are open around it count. `NoMemory`, and the cursor stays.
@@ -45,20 +122,16 @@ pub fn parse_term(alloc: Global, cursor: &mut Cursor, names: &mut Names) -> Resu
     ensures grown { length names.new ≤ length names.old + length cursor.old.bytes }
 {
     let words = words_of(alloc, cursor.bytes(), names)?;
-    let plain = concrete_syntax::words_of(alloc, cursor.bytes())?;
-    let place = cursor.place();
-    let goal = Nonterminal::Term(TermPhrase::Term(Mode::Inside(Literals::Allowed)));
-    let end = cursor.bytes().len() as u32;
-    let behind = words_behind(plain.as_slice(), place as usize);
-    match parse_front::<Value>(&words, alloc, behind, goal, cursor.levels(), end) {
-        Err(FrontFault::NoMemory) => Err(PassError::NoMemory),
-        Err(FrontFault::Refused(at, error)) => {
-            cursor.go_to(place + at as u32);
-            Err(PassError::Source(error))
+    let behind = words_behind(alloc, words.as_slice(), cursor.place() as usize)?;
+    match read_term(alloc, &behind, cursor.levels()) {
+        Ok((term, taken)) => {
+            cursor.go_on(taken);
+            Ok(term)
         }
-        Ok((value, taken)) => {
-            cursor.go_to(place + taken as u32);
-            Ok(term_in(value.piece))
+        Err(fault) => {
+            let end = cursor.bytes().len() as u32;
+            cursor.go_on(position_of(fault));
+            Err(error_of(behind.as_slice(), end, fault))
         }
     }
 }

@@ -1,44 +1,29 @@
+use crate::path::Segment;
 use std::marker::Model;
-use text_core::{Name, Span};
+use text_core::{Items, Span};
 
 /// A type as it is written. Contracts see the tree of specs/TypeTree.antt.
 #[cycle(type_tree)]
 #[derive(Drop)]
 pub struct TypeTree {
-    /// From its first word to its last; that of `(T)` is that of `T`.
+    /// From its first token to its last; that of `(T)` is that of `T`.
     pub span: Span,
-    pub node: TypeNode,
+    pub node: Box<TypeNode>,
 }
 
 /// What a type is at its top.
 #[cycle(type_tree)]
+#[derive(Drop)]
 pub enum TypeNode {
-    /// A name with its arguments, none of them where no `<` stands.
-    Named(Name, Vec<TypeTree>),
+    /// A name, with the lifetimes and the types among its arguments; none of them where no `<` stands.
+    Named(Segment, Items<Segment>, Vec<TypeTree>),
     Tuple(Vec<TypeTree>),
     /// `&T`, with the lifetime if one is written, and whether `mut` is.
-    Reference(Option<Span>, bool, Box<TypeTree>),
+    Reference(Option<Segment>, bool, TypeTree),
     /// `Self`
     SelfType,
     /// `Self::ViewTy`
     SelfView,
-    /// A lifetime, which stands among the arguments of a named type alone.
-    Lifetime,
-}
-
-// By hand, so that whoever holds one drops it by a call (docs/architecture.md).
-impl Drop for TypeNode {
-    #[cycle(type_tree)]
-    fn drop(self) {
-        match self {
-            TypeNode::Named(_, _)
-            | TypeNode::Tuple(_)
-            | TypeNode::Reference(_, _, _)
-            | TypeNode::SelfType
-            | TypeNode::SelfView
-            | TypeNode::Lifetime => {}
-        }
-    }
 }
 
 impl Model for TypeTree {
@@ -51,11 +36,11 @@ impl Model for TypeTree {
 
     ghost use Rattle.pearlite.specs.TypeTreeView.{type_tree_of, type_tree_size};
 
-    ghost view = { λ t. type_tree_of t.span t.node };
+    ghost view = { λ t. type_tree_of t.span t.node.value };
 
     ghost size = { type_tree_size };
 
     ghost use Rattle.pearlite.specs.TypeTreeFalls.{falls};
 
-    ghost size_decreases = { λ a h. falls a.span a.node };
+    ghost size_decreases = { λ a h. falls a.span a.node.value };
 }

@@ -1,2 +1,4 @@
-pub mod Folded
+pub mod Attributed
+pub mod Families
 pub mod Whole
+pub mod Words

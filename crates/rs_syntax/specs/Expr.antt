@@ -5,6 +5,7 @@ use Rattle.logic_term.specs.declared.kinds.BinaryOp.{BinaryOp}
 use Rattle.logic_term.specs.declared.kinds.IntKind.{IntKind}
 use Rattle.pearlite.specs.declared.operator.PanicMacro.{PanicMacro}
 use Rattle.pearlite.specs.declared.operator.GhostMacro.{GhostMacro}
+use Rattle.pearlite.specs.declared.path.Number.{Number}
 use Rattle.pearlite.specs.declared.path.Segment.{Segment}
 use Rattle.pearlite.specs.declared.path.Path.{Path}
 use Rattle.pearlite.specs.TypeTree.{TypeTree}
@@ -28,17 +29,17 @@ mutual
     -- without a last expression
     block : Span → Stmts → Expr
     block_with : Span → Stmts → Expr → Expr
-    -- `if` without `else`
-    branch : Span → Expr → Expr → Expr
-    choice : Span → Expr → Expr → Expr → Expr
+    -- `if` without `else`; the pattern where its condition is a `let`
+    branch : Span → Option Pat → Expr → Expr → Expr
+    choice : Span → Option Pat → Expr → Expr → Expr → Expr
     matching : Span → Expr → Arms → Expr
-    -- the condition and the body
-    repeat : Span → Expr → Expr → Expr
+    -- the pattern where its condition is a `let`, the condition and the body
+    repeat : Span → Option Pat → Expr → Expr → Expr
     endless : Span → Expr → Expr
     -- a loop or a closure with the attributes before it
     attributed : Span → List Attribute → Expr → Expr
-    -- whether `move` stands there, the parameters, the type of the answer, the body
-    closure : Span → Bool → List Param → Option TypeTree → Expr → Expr
+    -- the span of its first token, whether `move` stands there, the parameters, the type of the answer, the body
+    closure : Span → Span → Bool → List Param → Option TypeTree → Expr → Expr
     bare_return : Span → Expr
     return_with : Span → Expr → Expr
     break_off : Span → Expr
@@ -47,8 +48,6 @@ mutual
     panic : Span → PanicMacro → Option Span → Expr
     -- `proof_assert!` or `snapshot!`
     logical : Span → GhostMacro → Pterm → Expr
-    -- `let`, which stands as a condition alone
-    tried : Span → Pat → Expr → Expr
     assign : Span → Expr → Expr → Expr
     -- the span of the operator
     update : Span → BinaryOp → Span → Expr → Expr → Expr
@@ -62,7 +61,7 @@ mutual
     borrow : Span → Bool → Expr → Expr
     -- the types behind `::`
     field : Span → Expr → Segment → List TypeTree → Expr
-    part : Span → Expr → ℤ → Option IntKind → Expr
+    part : Span → Expr → Number → Expr
     -- the types behind `::`, the arguments
     method : Span → Expr → Segment → List TypeTree → Exprs → Expr
     call : Span → Expr → Exprs → Expr

@@ -1,7 +1,9 @@
 -- The expressions that nodes stand for, and how deep they are.
 use Rattle.std.specs.Prelude.{ℕ, suc, max, List, [], ◌∷◌}
 use Rattle.text_core.specs.declared.span.Span.{Span}
-use Rattle.rs_syntax.specs.Expr.{Expr, integer, truth, receiver, path, literal, tuple, block, block_with, branch, choice, matching, repeat, endless, attributed, closure, bare_return, return_with, break_off, go_on, panic, logical, tried, assign, update, lazy, binary, cast, unary, borrow, field, part, method, call, Exprs, none, more, Stmts, no_stmts, with_stmt, Arms, no_arms, with_arm, FieldExprs, no_fields, with_field}
+use Rattle.rs_syntax.specs.Expr.{Expr, integer, truth, receiver, path, literal, tuple, block, block_with, branch, choice, matching, repeat, endless, attributed, closure, bare_return, return_with, break_off, go_on, panic, logical}
+use Rattle.rs_syntax.specs.Expr.{assign, update, lazy, binary, cast, unary, borrow, field, part, method, call, Exprs, none, more, Stmts, no_stmts, with_stmt, Arms, no_arms, with_arm, FieldExprs, no_fields}
+use Rattle.rs_syntax.specs.Expr.{with_field}
 use Rattle.rs_syntax.specs.declared.expr.ExprNode.{ExprNode}
 use Rattle.rs_syntax.specs.declared.expr.ExprNode.TheVariants as node
 use Rattle.rs_syntax.specs.declared.expr.Stmt.{Stmt}
@@ -32,32 +34,31 @@ expr_of s (node.Path a0) = path s a0
 expr_of s (node.Literal a0 a1) = literal s a0 (field_exprs_of a1.items)
 expr_of s (node.Tuple a0) = tuple s (exprs_of a0.items)
 expr_of s (node.Block a0) = block s (stmts_of a0.items)
-expr_of s (node.BlockWith a0 a1) = block_with s (stmts_of a0.items) a1.value
-expr_of s (node.If a0 a1) = branch s a0.value a1.value
-expr_of s (node.IfElse a0 a1 a2) = choice s a0.value a1.value a2.value
-expr_of s (node.Match a0 a1) = matching s a0.value (arms_of a1.items)
-expr_of s (node.While a0 a1) = repeat s a0.value a1.value
-expr_of s (node.Loop a0) = endless s a0.value
-expr_of s (node.Attributed a0 a1) = attributed s a0 a1.value
-expr_of s (node.Closure a0 a1 a2 a3) = closure s a0 a1 a2 a3.value
+expr_of s (node.BlockWith a0 a1) = block_with s (stmts_of a0.items) a1
+expr_of s (node.If a0 a1 a2) = branch s a0 a1 a2
+expr_of s (node.IfElse a0 a1 a2 a3) = choice s a0 a1 a2 a3
+expr_of s (node.Match a0 a1) = matching s a0 (arms_of a1.items)
+expr_of s (node.While a0 a1 a2) = repeat s a0 a1 a2
+expr_of s (node.Loop a0) = endless s a0
+expr_of s (node.Attributed a0 a1) = attributed s a0 a1
+expr_of s (node.Closure a0 a1 a2 a3 a4) = closure s a0 a1 a2 a3 a4
 expr_of s node.Return = bare_return s
-expr_of s (node.ReturnWith a0) = return_with s a0.value
+expr_of s (node.ReturnWith a0) = return_with s a0
 expr_of s node.Break = break_off s
 expr_of s node.Continue = go_on s
 expr_of s (node.Panic a0 a1) = panic s a0 a1
-expr_of s (node.Ghost a0 a1) = logical s a0 a1.value
-expr_of s (node.Let a0 a1) = tried s a0.value a1.value
-expr_of s (node.Assign a0 a1) = assign s a0.value a1.value
-expr_of s (node.Update a0 a1 a2 a3) = update s a0 a1 a2.value a3.value
-expr_of s (node.Lazy a0 a1 a2) = lazy s a0 a1.value a2.value
-expr_of s (node.Binary a0 a1 a2 a3) = binary s a0 a1 a2.value a3.value
-expr_of s (node.Cast a0 a1) = cast s a0.value a1
-expr_of s (node.Unary a0 a1 a2) = unary s a0 a1 a2.value
-expr_of s (node.Borrow a0 a1) = borrow s a0 a1.value
-expr_of s (node.Field a0 a1 a2) = field s a0.value a1 a2
-expr_of s (node.Part a0 a1 a2) = part s a0.value a1 a2
-expr_of s (node.Method a0 a1 a2 a3) = method s a0.value a1 a2 (exprs_of a3.items)
-expr_of s (node.Call a0 a1) = call s a0.value (exprs_of a1.items)
+expr_of s (node.Ghost a0 a1) = logical s a0 a1
+expr_of s (node.Assign a0 a1) = assign s a0 a1
+expr_of s (node.Update a0 a1 a2 a3) = update s a0 a1 a2 a3
+expr_of s (node.Lazy a0 a1 a2) = lazy s a0 a1 a2
+expr_of s (node.Binary a0 a1 a2 a3) = binary s a0 a1 a2 a3
+expr_of s (node.Cast a0 a1) = cast s a0 a1
+expr_of s (node.Unary a0 a1 a2) = unary s a0 a1 a2
+expr_of s (node.Borrow a0 a1) = borrow s a0 a1
+expr_of s (node.Field a0 a1 a2) = field s a0 a1 a2
+expr_of s (node.Part a0 a1) = part s a0 a1
+expr_of s (node.Method a0 a1 a2 a3) = method s a0 a1 a2 (exprs_of a3.items)
+expr_of s (node.Call a0 a1) = call s a0 (exprs_of a1.items)
 
 abbrev mutual
   pub expr_size : Expr → ℕ
@@ -69,20 +70,19 @@ abbrev mutual
   expr_size (tuple a0 a1) = suc (exprs_size a1)
   expr_size (block a0 a1) = suc (stmts_size a1)
   expr_size (block_with a0 a1 a2) = suc (max (stmts_size a1) (expr_size a2))
-  expr_size (branch a0 a1 a2) = suc (max (expr_size a1) (expr_size a2))
-  expr_size (choice a0 a1 a2 a3) = suc (max (expr_size a1) (max (expr_size a2) (expr_size a3)))
+  expr_size (branch a0 a1 a2 a3) = suc (max (expr_size a2) (expr_size a3))
+  expr_size (choice a0 a1 a2 a3 a4) = suc (max (expr_size a2) (max (expr_size a3) (expr_size a4)))
   expr_size (matching a0 a1 a2) = suc (max (expr_size a1) (arms_size a2))
-  expr_size (repeat a0 a1 a2) = suc (max (expr_size a1) (expr_size a2))
+  expr_size (repeat a0 a1 a2 a3) = suc (max (expr_size a2) (expr_size a3))
   expr_size (endless a0 a1) = suc (expr_size a1)
   expr_size (attributed a0 a1 a2) = suc (expr_size a2)
-  expr_size (closure a0 a1 a2 a3 a4) = suc (expr_size a4)
+  expr_size (closure a0 a1 a2 a3 a4 a5) = suc (expr_size a5)
   expr_size (bare_return a0) = 1
   expr_size (return_with a0 a1) = suc (expr_size a1)
   expr_size (break_off a0) = 1
   expr_size (go_on a0) = 1
   expr_size (panic a0 a1 a2) = 1
   expr_size (logical a0 a1 a2) = 1
-  expr_size (tried a0 a1 a2) = suc (expr_size a2)
   expr_size (assign a0 a1 a2) = suc (max (expr_size a1) (expr_size a2))
   expr_size (update a0 a1 a2 a3 a4) = suc (max (expr_size a3) (expr_size a4))
   expr_size (lazy a0 a1 a2 a3) = suc (max (expr_size a2) (expr_size a3))
@@ -91,7 +91,7 @@ abbrev mutual
   expr_size (unary a0 a1 a2 a3) = suc (expr_size a3)
   expr_size (borrow a0 a1 a2) = suc (expr_size a2)
   expr_size (field a0 a1 a2 a3) = suc (expr_size a1)
-  expr_size (part a0 a1 a2 a3) = suc (expr_size a1)
+  expr_size (part a0 a1 a2) = suc (expr_size a1)
   expr_size (method a0 a1 a2 a3 a4) = suc (max (expr_size a1) (exprs_size a4))
   expr_size (call a0 a1 a2) = suc (max (expr_size a1) (exprs_size a2))
 
@@ -120,20 +120,19 @@ span_of (literal s a0 a1) = s
 span_of (tuple s a0) = s
 span_of (block s a0) = s
 span_of (block_with s a0 a1) = s
-span_of (branch s a0 a1) = s
-span_of (choice s a0 a1 a2) = s
+span_of (branch s a0 a1 a2) = s
+span_of (choice s a0 a1 a2 a3) = s
 span_of (matching s a0 a1) = s
-span_of (repeat s a0 a1) = s
+span_of (repeat s a0 a1 a2) = s
 span_of (endless s a0) = s
 span_of (attributed s a0 a1) = s
-span_of (closure s a0 a1 a2 a3) = s
+span_of (closure s a0 a1 a2 a3 a4) = s
 span_of (bare_return s) = s
 span_of (return_with s a0) = s
 span_of (break_off s) = s
 span_of (go_on s) = s
 span_of (panic s a0 a1) = s
 span_of (logical s a0 a1) = s
-span_of (tried s a0 a1) = s
 span_of (assign s a0 a1) = s
 span_of (update s a0 a1 a2 a3) = s
 span_of (lazy s a0 a1 a2) = s
@@ -142,6 +141,6 @@ span_of (cast s a0 a1) = s
 span_of (unary s a0 a1 a2) = s
 span_of (borrow s a0 a1) = s
 span_of (field s a0 a1 a2) = s
-span_of (part s a0 a1 a2) = s
+span_of (part s a0 a1) = s
 span_of (method s a0 a1 a2 a3) = s
 span_of (call s a0 a1) = s

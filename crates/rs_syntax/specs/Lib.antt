@@ -2,10 +2,15 @@ pub mod Expr
 pub mod ExprCode
 pub mod ExprFalls
 pub mod ExprView
+pub mod Gathered
 pub mod Make
-pub mod MakeAttributed
+pub mod MakeAttributes
 pub mod MakeExpressions
+pub mod MakeFields
+pub mod MakeFunctions
+pub mod MakeGenerics
 pub mod MakeItems
+pub mod MakeOperators
 pub mod MakeStatements
 pub mod Parsed
-pub mod Values
+pub mod Parts

@@ -1,117 +1,135 @@
--- What the rules of blocks, statements, conditions and arms make (Rust Reference, "Statements", "Block expressions", "If expressions",
--- "Match expressions", "Loop expressions").
-use Rattle.std.specs.Prelude.{Bool, true, false, List, [], ◌∷◌, ◌++◌, Option, None, Some}
+-- What blocks, statements, conditions and arms make (Rust Reference, "Statements", "Block expressions", "if expressions", "match expressions", "Loops and other breakable expressions").
+use Rattle.std.specs.Prelude.{ℕ, ◌-◌, Bool, true, false, List, [], ◌∷◌, ◌++◌, Option, None, Some, unwrap_or, slice_get}
 use Rattle.text_core.specs.declared.span.Span.{Span}
-use Rattle.concrete_syntax.specs.declared.stmt_rule.StmtRule.{StmtRule}
-use Rattle.concrete_syntax.specs.declared.stmt_rule.StmtRule.TheVariants as R
-use Rattle.pearlite.specs.Make.{stands}
-use Rattle.pearlite.specs.Values.{nowhere}
+use Rattle.grammar_tables.specs.Trees.{option_list}
+use Rattle.source_grammar.specs.Terminals.{Semicolon}
+use Rattle.source_words.specs.declared.word.Word.{Word}
+use Rattle.pearlite.specs.Parts.{nowhere, is_at, span_from}
+use Rattle.pearlite.specs.Pat.{Pat}
+use Rattle.rs_syntax.specs.declared.attribute.Attribute.{Attribute}
+use Rattle.rs_syntax.specs.declared.element.Element.{Element}
+use Rattle.rs_syntax.specs.declared.element.Element.TheVariants as L
+use Rattle.rs_syntax.specs.declared.expr.Stmt.{Stmt}
+use Rattle.rs_syntax.specs.declared.make_blocks.Statements.{Statements}
+use Rattle.rs_syntax.specs.declared.make_matches.Matching.{Matching}
+use Rattle.rs_syntax.specs.declared.part.Part.{Part}
+use Rattle.rs_syntax.specs.declared.part.Value.{Value}
+use Rattle.rs_syntax.specs.declared.part.Value.TheVariants as V
+use Rattle.rs_syntax.specs.declared.statement.StmtKind.{StmtKind}
+use Rattle.rs_syntax.specs.declared.statement.StmtKind.TheVariants as K
 use Rattle.rs_syntax.specs.Expr as E
 use Rattle.rs_syntax.specs.Expr.{Expr}
 use Rattle.rs_syntax.specs.ExprView.{stmts_of, arms_of}
-use Rattle.rs_syntax.specs.MakeAttributed.{begun, attributed}
-use Rattle.rs_syntax.specs.MakeExpressions.{folded_all}
-use Rattle.rs_syntax.specs.declared.attribute.Attribute.{Attribute}
-use Rattle.rs_syntax.specs.declared.expr.Stmt.{Stmt}
-use Rattle.rs_syntax.specs.declared.statement.StmtKind.TheVariants as K
-use Rattle.rs_syntax.specs.declared.value.Piece.{Piece}
-use Rattle.rs_syntax.specs.declared.value.Piece.TheVariants as V
-use Rattle.rs_syntax.specs.declared.value.Value.{Value}
-use Rattle.rs_syntax.specs.declared.value.Reach.{Reach}
-use Rattle.rs_syntax.specs.Values.{across, span_in, others, first, second, third, fourth, answer_in, pat_in, attribute_in, expr_in, statements_in, pending_in, waiting_in, place_of_pending, arms_in, pattern_in, place_of_pattern}
+use Rattle.rs_syntax.specs.MakeOperators.{across, begun, with_attributes}
+use Rattle.rs_syntax.specs.Parts.{found_in, expr_at, pattern_at, element_of, part_span}
 
--- ---- loops and closures with attributes
+-- ---- blocks
 
--- a closure with its attributes, and the operators behind it
-unfoldable pub attributed_chain : List Attribute → List Value → Expr
-attributed_chain attributes parts = folded_all (begun attributes (span_in (first parts))) (attributed attributes (first parts)) (others parts)
+-- a statement with the attributes before its value
+unfoldable pub statement_of : StmtKind → List Attribute → Span → Expr → Stmt
+statement_of kind attributes span expr = record { span = begun attributes span; kind = kind; value = with_attributes attributes expr }
+
+-- all statements so far: behind the last one another stands, so that it is not the value of the block
+abbrev pub settled : Statements → List Stmt
+settled state = state.done ++ option_list state.last
+
+-- behind a `;` a blocklike is a statement, and else it may yet be the value of its block
+unfoldable pub with_blocklike : Statements → Stmt → Bool → Statements
+with_blocklike state stmt true = record { done = settled state ++ stmt ∷ []; last = None; attributes = [] }
+with_blocklike state stmt false = record { done = settled state; last = Some stmt; attributes = [] }
+
+-- the last statement ends with this `;`
+unfoldable pub with_end : Statements → Span → Option Stmt → Statements
+with_end state span None = state
+with_end state span (Some stmt) = record { done = state.done ++ record stmt { span = across stmt.span span } ∷ []; last = None; attributes = state.attributes }
+
+unfoldable pub with_element : Statements → Span → Element → Statements
+with_element state span (L.Stmt stmt) = record { done = settled state ++ stmt ∷ []; last = None; attributes = [] }
+with_element state span (L.Blocklike expr closed) = with_blocklike state (statement_of K.Blocklike state.attributes span expr) closed
+with_element state span (L.Expr expr) = record { done = settled state; last = Some (statement_of K.Run state.attributes span expr); attributes = [] }
+with_element state span (L.Attribute attribute) = record state { attributes = state.attributes ++ attribute ∷ [] }
+with_element state span L.Semicolon = with_end state span state.last
+with_element state span (L.Pattern pattern) = state
+with_element state span L.Other = state
+
+-- behind these statements
+unfoldable pub statements_in : List Word → Statements → List Part → Statements
+statements_in words state [] = state
+statements_in words state (part ∷ parts) = statements_in words (with_element state (part_span words part) (element_of words part)) parts
+
+abbrev pub no_statements : Statements
+no_statements = record { done = []; last = None; attributes = [] }
+
+-- an expression that stands last is the value of the block
+unfoldable pub block_by : Span → List Stmt → Option Stmt → Expr
+block_by span done None = E.block span (stmts_of done)
+block_by span done (Some last) = E.block_with span (stmts_of done) last.value
+
+abbrev pub block_of : Span → Statements → Expr
+block_of span state = block_by span state.done state.last
+
+unfoldable pub block_made : List Word → ℕ → ℕ → List Part → Value
+block_made words from to parts = V.Expr (block_of (span_from words from to) (statements_in words no_statements parts))
 
 -- ---- statements
 
--- the statements, where the pending expression is one that ends with a block
-unfoldable pub settled_by : List Stmt → Option Expr → Span → List Stmt
-settled_by statements None place = statements
-settled_by statements (Some expr) place = statements ++ record { span = place; kind = K.Blocklike; value = expr } ∷ []
+unfoldable pub blocklike_made : List Word → ℕ → List Part → Value
+blocklike_made words to parts = V.BlocklikeStatement (expr_at (found_in parts).exprs 0) (is_at Semicolon words (to - 1))
 
-unfoldable pub settled : Piece → List Stmt
-settled so_far = settled_by (statements_in so_far) (pending_in so_far) (place_of_pending so_far)
+unfoldable pub let_made : List Word → ℕ → ℕ → List Part → Value
+let_made words from to parts = V.Stmt (record { span = span_from words from to; kind = K.Let (pattern_at (found_in parts).patterns 0) (slice_get (found_in parts).types 0); value = expr_at (found_in parts).exprs 0 })
 
--- the statements, where a `;` stands behind the pending expression
-unfoldable pub ran_by : List Stmt → Option Expr → Span → List Stmt
-ran_by statements None place = statements
-ran_by statements (Some expr) place = statements ++ record { span = place; kind = K.Run; value = expr } ∷ []
+-- ---- branches and loops
 
-unfoldable pub ran : Span → Piece → Piece
-ran end so_far = V.Statements (ran_by (statements_in so_far) (pending_in so_far) (across (place_of_pending so_far) end)) None [] nowhere
+unfoldable pub let_condition_made : List Part → Value
+let_condition_made parts = V.Condition (pattern_at (found_in parts).patterns 0) (expr_at (found_in parts).exprs 0)
 
-unfoldable pub let_made : Span → Piece → List Value → Piece
-let_made span so_far parts = V.Statements (settled so_far ++ record { span = span; kind = K.Let (pat_in (second parts).piece) (answer_in (third parts).piece); value = expr_in (fourth parts).piece } ∷ []) None [] nowhere
+-- behind the block of an `if` stands that of its `else`, or another `if`
+unfoldable pub if_by : Span → Option Pat → Expr → Expr → Option Expr → Expr
+if_by span pattern condition body None = E.branch span pattern condition body
+if_by span pattern condition body (Some other) = E.choice span pattern condition body other
 
--- behind a `;` a blocklike is a statement, and else it may yet be the value of its block
-unfoldable pub blocklike_made : Bool → Span → List Stmt → Expr → Piece
-blocklike_made true span statements expr = V.Statements (statements ++ record { span = span; kind = K.Blocklike; value = expr } ∷ []) None [] nowhere
-blocklike_made false span statements expr = V.Statements statements (Some expr) [] span
+unfoldable pub if_made : List Word → ℕ → ℕ → List Part → Value
+if_made words from to parts = let found = found_in parts in
+    V.Expr (if_by (span_from words from to) (slice_get found.patterns 0) (expr_at found.exprs 0) (expr_at found.exprs 1) (slice_get found.exprs 2))
 
--- ---- blocks, `if` and arms
+unfoldable pub while_made : List Word → ℕ → ℕ → List Part → Value
+while_made words from to parts = let found = found_in parts in
+    V.Expr (E.repeat (span_from words from to) (slice_get found.patterns 0) (expr_at found.exprs 0) (expr_at found.exprs 1))
 
-unfoldable pub block_by : Span → List Stmt → Option Expr → Piece
-block_by span statements None = V.Expr (E.block span (stmts_of statements))
-block_by span statements (Some expr) = V.Expr (E.block_with span (stmts_of statements) expr)
+unfoldable pub forever_made : List Word → ℕ → ℕ → List Part → Value
+forever_made words from to parts = V.Expr (E.endless (span_from words from to) (expr_at (found_in parts).exprs 0))
 
-unfoldable pub block_made : Span → Piece → Piece
-block_made span inside = block_by span (statements_in inside) (pending_in inside)
+-- ---- `match`
 
--- behind `else` stands an expression
-abbrev pub with_else : Span → Expr → Expr → Expr
-with_else span (E.branch place condition body) other = E.choice span condition body other
-with_else span expr other = expr
+-- an expression before the first pattern is what is matched, and one behind a pattern the body of its arm
+unfoldable pub with_body : Matching → Span → Expr → Option Pat → Matching
+with_body state span expr None = record state { matched = Some expr }
+with_body state span expr (Some pattern) = record state {
+  arms = state.arms ++ record { span = across state.start span; pattern = pattern; body = with_attributes state.attributes expr } ∷ [];
+  pattern = None;
+  attributes = [];
+}
 
-unfoldable pub else_made : Span → Piece → Expr → Piece
-else_made span (V.Expr expr) other = V.Expr (with_else span expr other)
-else_made span before other = before
+unfoldable pub with_part : Matching → Span → Element → Matching
+with_part state span (L.Pattern pattern) = record state { pattern = Some pattern; start = span }
+with_part state span (L.Expr expr) = with_body state span expr state.pattern
+with_part state span (L.Attribute attribute) = record state { attributes = state.attributes ++ attribute ∷ [] }
+with_part state span (L.Stmt stmt) = state
+with_part state span (L.Blocklike expr closed) = state
+with_part state span L.Semicolon = state
+with_part state span L.Other = state
 
--- the arm with this body, which ends there
-unfoldable pub arm_made : Piece → Expr → Span → Piece
-arm_made so_far body end = V.Arms (arms_in so_far ++ record { span = across (place_of_pattern so_far) end; pattern = pattern_in so_far; body = body } ∷ []) None [] nowhere
+-- behind these arms
+unfoldable pub arms_in : List Word → Matching → List Part → Matching
+arms_in words state [] = state
+arms_in words state (part ∷ parts) = arms_in words (with_part state (part_span words part) (element_of words part)) parts
 
--- ---- rules
+abbrev pub no_arms : Matching
+no_arms = record { matched = None; arms = []; pattern = None; start = nowhere; attributes = [] }
 
-abbrev pub stmt_made : StmtRule → Reach → Piece → List Value → Piece
-stmt_made R.StatementsInBraces at a vs = block_made at.whole (second vs).piece
-stmt_made R.LetStatement at a vs = let_made at.own a vs
-stmt_made R.BlocklikeStatement at a vs = blocklike_made (stands (second vs).extent) at.own (settled a) (expr_in (first vs).piece)
-stmt_made R.AttributedStatement at a vs = V.Statements (settled a) None (attribute_in (first vs).piece ∷ []) nowhere
-stmt_made R.ExprStatement at a vs = V.Statements (settled a) (Some (expr_in (first vs).piece)) [] at.own
-stmt_made R.StatementAttribute at a vs = V.Statements (statements_in a) None (waiting_in a ++ attribute_in (first vs).piece ∷ []) nowhere
-stmt_made R.LoopStatement at a vs = blocklike_made (stands (second vs).extent) (begun (waiting_in a) at.own) (statements_in a) (attributed (waiting_in a) (first vs))
-stmt_made R.ClosureStatement at a vs = V.Statements (statements_in a) (Some (attributed_chain (waiting_in a) vs)) [] (begun (waiting_in a) at.own)
-stmt_made R.LetTyped at a vs = (second vs).piece
-stmt_made R.LetEquals at a vs = (second vs).piece
-stmt_made R.EmptyStatement at a vs = V.Nothing
-stmt_made R.SemiAfterExpr at a vs = ran at.own a
-stmt_made R.BlocklikeBlock at a vs = (first vs).piece
-stmt_made R.BlocklikeIf at a vs = (first vs).piece
-stmt_made R.BlocklikeMatch at a vs = V.Expr (E.matching at.whole (expr_in (first vs).piece) (arms_of (arms_in (second vs).piece)))
-stmt_made R.BlocklikeLoop at a vs = (first vs).piece
-stmt_made R.WhileLoop at a vs = V.Expr (E.repeat at.whole (expr_in (first vs).piece) (expr_in (second vs).piece))
-stmt_made R.EndlessLoop at a vs = V.Expr (E.endless at.whole (expr_in (second vs).piece))
-stmt_made R.WholeIf at a vs = V.Expr (E.branch at.whole (expr_in (first vs).piece) (expr_in (second vs).piece))
-stmt_made R.IfCondition at a vs = (second vs).piece
-stmt_made R.ElseBranch at a vs = else_made at.whole a (expr_in (second vs).piece)
-stmt_made R.ElseBlock at a vs = (first vs).piece
-stmt_made R.ElseIf at a vs = (first vs).piece
-stmt_made R.WhileCondition at a vs = (second vs).piece
-stmt_made R.LetCondition at a vs = V.Expr (E.tried at.whole (pat_in (second vs).piece) (expr_in (third vs).piece))
-stmt_made R.PlainCondition at a vs = (first vs).piece
-stmt_made R.LetConditionEquals at a vs = (second vs).piece
-stmt_made R.MatchScrutinee at a vs = (second vs).piece
-stmt_made R.ArmsInBraces at a vs = (second vs).piece
-stmt_made R.OneArm at a vs = V.Arms (arms_in a) (Some (pat_in (first vs).piece)) [] (span_in (first vs))
-stmt_made R.BlocklikeArm at a vs = arm_made a (expr_in (first vs).piece) (span_in (first vs))
-stmt_made R.AttributedArm at a vs = V.Arms (arms_in a) (Some (pattern_in a)) (attribute_in (first vs).piece ∷ []) (place_of_pattern a)
-stmt_made R.ExprArm at a vs = arm_made a (expr_in (first vs).piece) (span_in (first vs))
-stmt_made R.ArmAttribute at a vs = V.Arms (arms_in a) (Some (pattern_in a)) (waiting_in a ++ attribute_in (first vs).piece ∷ []) (place_of_pattern a)
-stmt_made R.LoopArm at a vs = arm_made a (attributed (waiting_in a) (first vs)) (span_in (first vs))
-stmt_made R.ClosureArm at a vs = arm_made a (attributed_chain (waiting_in a) vs) at.own
-stmt_made R.CommaBehindBlock at a vs = V.Nothing
-stmt_made R.ArmCommaMark at a vs = a
+unfoldable pub match_of : Span → Matching → Expr
+match_of span state = E.matching span (unwrap_or state.matched (E.truth nowhere false)) (arms_of state.arms)
+
+unfoldable pub match_made : List Word → ℕ → ℕ → List Part → Value
+match_made words from to parts = V.Expr (match_of (span_from words from to) (arms_in words no_arms parts))

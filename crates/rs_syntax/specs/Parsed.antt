@@ -1,43 +1,74 @@
 -- What the parser answers: the items of a source, or where it is refused.
-use Rattle.std.specs.Prelude.{◌≡◌, ℕ, suc, ◌+◌, ◌<◌, List, [], ◌∷◌, length}
-use Rattle.text_core.specs.declared.refusal.Limit.{Limit}
-use Rattle.text_core.specs.declared.refusal.LimitKind.TheVariants.{Functions}
-use Rattle.concrete_syntax.specs.declared.fault.ParseFault.TheVariants as whole
-use Rattle.concrete_syntax.specs.Parsed.{SpellsAs, IsParseError as IsGrammarError}
+use Rattle.std.specs.Prelude.{◌≡◌, ℕ, suc, ◌+◌, ◌<◌, List, [], ◌∷◌, length, map, slice_get, ◌⊎◌, Option, None, Some}
 use Rattle.text_core.specs.declared.fault.PassError.{PassError}
 use Rattle.text_core.specs.declared.fault.PassError.TheVariants as P
-use Rattle.pearlite.specs.declared.word.Word.{Word}
-use Rattle.pearlite.specs.Words.{AreWords, GivesNames}
+use Rattle.text_core.specs.declared.refusal.Code.{Code}
+use Rattle.text_core.specs.declared.refusal.Code.TheVariants.{E03, E04, E20}
+use Rattle.text_core.specs.declared.refusal.Limit.{Limit}
+use Rattle.text_core.specs.declared.refusal.LimitKind.TheVariants.{Functions}
+use Rattle.text_core.specs.declared.refusal.SourceError.{SourceError}
+use Rattle.text_core.specs.declared.span.Span.{Span}
+use Rattle.grammar_tables.specs.Answers.{goal_of}
+use Rattle.grammar_tables.specs.Grammar.{Derives}
+use Rattle.grammar_tables.specs.Limits.{limit_passed}
+use Rattle.grammar_tables.specs.Trees.{Tree, IsTree, preorder, values}
+use Rattle.grammar_tables.specs.declared.symbol.Symbol.TheVariants.{Nonterminal}
+use Rattle.source_grammar.specs.declared.fault.SyntaxFault.{SyntaxFault}
+use Rattle.source_grammar.specs.declared.fault.SyntaxFault.TheVariants as fault
+use Rattle.source_grammar.specs.Faults.{IsFault}
+use Rattle.source_grammar.specs.SourceGrammar.{source_grammar, source_marks, source_goal}
+use Rattle.source_words.specs.declared.word.Word.{Word}
+use Rattle.source_words.specs.Words.{AreWords, GivesNames, IsBadText}
 use Rattle.rs_syntax.specs.declared.item.ImplItem.{ImplItem}
 use Rattle.rs_syntax.specs.declared.item.ImplItem.TheVariants as M
 use Rattle.rs_syntax.specs.declared.item.Item.{Item}
 use Rattle.rs_syntax.specs.declared.item.ItemNode.{ItemNode}
 use Rattle.rs_syntax.specs.declared.item.ItemNode.TheVariants as I
-use Rattle.rs_syntax.specs.declared.value.Value.{Value}
+use Rattle.rs_syntax.specs.Gathered.{all_of, item_of}
 use Rattle.rs_syntax.specs.Make.{trees}
-use Rattle.rs_syntax.specs.Values.{items_in}
 
--- the bytes spell this by the whole grammar; names are those of the old table, and of identifiers that have none there, in order
--- of first use
-pub record SpellsValue (old : List (List ℕ)) (bytes : List ℕ) (value : Value) : Type 0 where
+-- ---- words
+
+-- the kinds of words are the tokens of the grammar
+abbrev pub kinds_in : List Word → List ℕ
+kinds_in words = map (λ word. word.kind) words
+
+-- the words of the bytes; names are those of the old table, and of identifiers and lifetimes that have none there, in order of first use
+pub record AreWordsOfSource (old : List (List ℕ)) (bytes : List ℕ) (words : List Word) : Type 0 where
   pub table : List (List ℕ)
   pub gives : GivesNames old bytes table
-  pub words : List Word
   pub are_words : AreWords table bytes words
-  pub spelled : SpellsAs (trees words) bytes value
+
+-- ---- items
+
+-- the tree is one of the whole grammar that derives the words, and within the limits
+pub record IsTreeOf (words : List Word) (tree : Tree) : Type 0 where
+  pub is_tree : IsTree source_grammar (Nonterminal source_goal) tree
+  pub derives : Derives source_grammar (goal_of source_goal) (kinds_in words) (preorder tree)
+  pub within : limit_passed source_marks 0 0 0 tree ≡ None
+
+-- the items that a tree is made into
+abbrev pub items_of : List Word → Tree → List Item
+items_of words tree = all_of item_of (values (trees words) 0 tree)
+
+-- the words spell these items
+pub record AreItemsOf (words : List Word) (items : List Item) : Type 0 where
+  pub tree : Tree
+  pub is_tree_of : IsTreeOf words tree
+  pub are : items ≡ items_of words tree
 
 -- the bytes spell these items
 pub record SpellsItems (old : List (List ℕ)) (bytes : List ℕ) (items : List Item) : Type 0 where
-  pub value : Value
-  pub spelled : SpellsValue old bytes value
-  pub is : items ≡ items_in value.piece
+  pub words : List Word
+  pub are_words : AreWordsOfSource old bytes words
+  pub are_items : AreItemsOf words items
 
 -- ---- the bound on functions
 
 abbrev pub methods_among : List ImplItem → ℕ
 methods_among [] = 0
 methods_among (M.Method method ∷ items) = suc (methods_among items)
-methods_among (M.ViewType span ty ∷ items) = methods_among items
+methods_among (M.ViewType span name ty ∷ items) = methods_among items
 
 abbrev pub functions_of : ItemNode → ℕ
 functions_of (I.Function function) = 1
@@ -63,11 +94,45 @@ pub record AreTooMany (old : List (List ℕ)) (bytes : List ℕ) (limit : Limit)
 
 -- ---- refusals
 
--- an error of the parser: the bytes are none of the whole grammar, or there are too many functions
+-- the span of the word, or the empty one at the end
+abbrev pub span_or : Option Word → ℕ → Span
+span_or None end = record { start = end; end = end }
+span_or (Some word) end = word.span
+
+-- an error at the word of that number, or at the end
+abbrev pub error_at : Code → List Word → ℕ → ℕ → SourceError
+error_at code words end position = record { code = code; span = span_or (slice_get words position) end; other = None }
+
+-- the error that a fault of words stands for, which end at this offset
+abbrev pub error_of : List Word → ℕ → SyntaxFault → PassError
+error_of words end (fault.Stray position) = P.Source (error_at E03 words end position)
+error_of words end (fault.LeftOut position) = P.Source (error_at E20 words end position)
+error_of words end (fault.TooDeep position) = P.Source (error_at E04 words end position)
+error_of words end fault.NoMemory = P.NoMemory
+
+-- the words are not derived by the whole grammar, or not within the limits
+pub record IsSyntaxError (words : List Word) (end : ℕ) (error : SourceError) : Type 0 where
+  pub fault : SyntaxFault
+  pub is_fault : IsFault source_goal 0 (kinds_in words) fault
+  pub is : error_of words end fault ≡ P.Source error
+
+-- the words of the bytes are not
+pub record HasSyntaxError (old : List (List ℕ)) (bytes : List ℕ) (error : SourceError) : Type 0 where
+  pub words : List Word
+  pub are_words : AreWordsOfSource old bytes words
+  pub is_error : IsSyntaxError words (length bytes) error
+
+-- an error of the parser: the bytes are no words, these are not derived, or there are too many functions
 abbrev pub IsParseError : List (List ℕ) → List ℕ → PassError → Type 0
-IsParseError old bytes (P.Source error) = IsGrammarError bytes (whole.Source error)
+IsParseError old bytes (P.Source error) = IsBadText bytes error ⊎ HasSyntaxError old bytes error
 IsParseError old bytes (P.Limit limit) = AreTooMany old bytes limit
 IsParseError old bytes P.NoMemory = Unit {0}
+
+-- an error of words
+abbrev pub IsItemsError : List Word → ℕ → PassError → Type 0
+IsItemsError words end (P.Source error) = IsSyntaxError words end error
+IsItemsError words end (P.Limit limit) = ⊥
+IsItemsError words end P.NoMemory = Unit {0}
 
 -- where a source is refused it spells no items
 abbrev pub SpellsNone : List (List ℕ) → List ℕ → PassError → Type 0

@@ -1,8 +1,8 @@
 use pearlite::{Pterm, Segment};
-use text_core::{Boxed, Items, Span};
+use text_core::{Items, Span};
 
 /// The clauses of contracts, loops and closures.
-#[derive(Clone, Copy, Debug, PartialEq, Eq)]
+#[derive(Clone, Copy)]
 pub enum ClauseKind {
     /// `requires(t)`
     Requires,
@@ -17,7 +17,7 @@ pub enum ClauseKind {
 /// What stands in the brackets of an attribute.
 #[derive(Drop)]
 pub enum AttributeNode {
-    Clause(ClauseKind, Boxed<Pterm>),
+    Clause(ClauseKind, Pterm),
     /// `logic`
     Logic,
     /// `law`

@@ -1,27 +1,30 @@
-ghost use Rattle.std.specs.Prelude.{◌≡◌};
+ghost use Rattle.std.specs.Prelude.{◌≡◌, IfOk, false};
+ghost use Rattle.pearlite.specs.Parts.{nowhere};
+ghost use Rattle.rs_syntax.specs.Expr.{truth};
 ghost use Rattle.rs_syntax.specs.ExprView.{expr_of};
-ghost use Rattle.rs_syntax.specs.MakeStatements.{with_else};
 
 use crate::attribute::Attribute;
 use crate::operator::UnaryOp;
 use crate::param::Param;
 use crate::statement::StmtKind;
 use logic_term::{BinaryOp, IntKind, LazyOp};
-use pearlite::{GhostMacro, PanicMacro, Pat, Path, Pterm, Segment, TypeTree};
+use pearlite::{GhostMacro, NOWHERE, Number, PanicMacro, Pat, Path, Pterm, Segment, TypeTree};
+use std::alloc::Global;
 use std::marker::Model;
-use text_core::{Items, Span};
+use text_core::{Items, NoMemory, Span};
 
 /// An expression of program code as it is written. Contracts see the tree of specs/Expr.antt.
 #[cycle(expr)]
 #[derive(Drop)]
 pub struct Expr {
-    /// From its first word to its last; that of `(X)` is that of `X`.
+    /// From its first token to its last; that of `(X)` is that of `X`.
     pub span: Span,
-    pub node: ExprNode,
+    pub node: Box<ExprNode>,
 }
 
 /// What an expression is at its top.
 #[cycle(expr)]
+#[derive(Drop)]
 pub enum ExprNode {
     /// An integer, with the type at its end if it has one. A `-` right before the integer belongs to it.
     Int(i128, Option<IntKind>),
@@ -35,93 +38,50 @@ pub enum ExprNode {
     /// A block without a last expression.
     Block(Vec<Stmt>),
     /// A block whose value is that of its last expression.
-    BlockWith(Vec<Stmt>, Box<Expr>),
-    /// The condition and the block, without `else`.
-    If(Box<Expr>, Box<Expr>),
-    IfElse(Box<Expr>, Box<Expr>, Box<Expr>),
-    Match(Box<Expr>, Vec<Arm>),
-    /// The condition and the body.
-    While(Box<Expr>, Box<Expr>),
-    Loop(Box<Expr>),
+    BlockWith(Vec<Stmt>, Expr),
+    /// The condition and the block, without `else`; the pattern where the condition is `let p = e`, and then `e`.
+    If(Option<Pat>, Expr, Expr),
+    IfElse(Option<Pat>, Expr, Expr, Expr),
+    Match(Expr, Vec<Arm>),
+    /// The condition and the body; the pattern where the condition is `let p = e`, and then `e`.
+    While(Option<Pat>, Expr, Expr),
+    Loop(Expr),
     /// A loop or a closure with the attributes before it.
-    Attributed(Items<Attribute>, Box<Expr>),
-    /// Whether `move` stands there, the parameters, the type of the answer if one is written, and the body.
-    Closure(bool, Items<Param>, Option<TypeTree>, Box<Expr>),
+    Attributed(Items<Attribute>, Expr),
+    /// The span of its first token, which is `move`, `||` or `|`, whether `move` stands there, the parameters, the type of
+    /// the answer if one is written, and the body.
+    Closure(Span, bool, Items<Param>, Option<TypeTree>, Expr),
     /// `return` alone.
     Return,
     /// `return e`
-    ReturnWith(Box<Expr>),
+    ReturnWith(Expr),
     Break,
     Continue,
     /// `panic!` or `unreachable!`, and the span of its text if it has one.
     Panic(PanicMacro, Option<Span>),
     /// `proof_assert!` or `snapshot!`
-    Ghost(GhostMacro, Box<Pterm>),
-    /// `let p = e`, which stands as a condition alone.
-    Let(Box<Pat>, Box<Expr>),
+    Ghost(GhostMacro, Pterm),
     /// `d = e`
-    Assign(Box<Expr>, Box<Expr>),
+    Assign(Expr, Expr),
     /// `d += e` and the like, and the span of the operator.
-    Update(BinaryOp, Span, Box<Expr>, Box<Expr>),
-    Lazy(LazyOp, Box<Expr>, Box<Expr>),
+    Update(BinaryOp, Span, Expr, Expr),
+    Lazy(LazyOp, Expr, Expr),
     /// `d + e` and the like, and the span of the operator.
-    Binary(BinaryOp, Span, Box<Expr>, Box<Expr>),
+    Binary(BinaryOp, Span, Expr, Expr),
     /// `e as T`
-    Cast(Box<Expr>, TypeTree),
+    Cast(Expr, TypeTree),
     /// The operator with its span, and the operand.
-    Unary(UnaryOp, Span, Box<Expr>),
+    Unary(UnaryOp, Span, Expr),
     /// `&e`, and whether `mut` stands there.
-    Borrow(bool, Box<Expr>),
+    Borrow(bool, Expr),
     /// `e.f`, with the types behind `::`, none where they are not written.
-    Field(Box<Expr>, Segment, Items<TypeTree>),
-    /// `e.0`, with the type at the end of the integer if it has one.
-    Part(Box<Expr>, i128, Option<IntKind>),
+    Field(Expr, Segment, Items<TypeTree>),
+    /// `e.0`
+    Part(Expr, Number),
     /// `e.f::<T>(d)`, with the types behind `::` and the arguments.
-    Method(Box<Expr>, Segment, Items<TypeTree>, Vec<Expr>),
+    Method(Expr, Segment, Items<TypeTree>, Vec<Expr>),
     /// `e(d)`
-    Call(Box<Expr>, Vec<Expr>),
-}
-
-// By hand, so that whoever holds one drops it by a call (docs/architecture.md).
-impl Drop for ExprNode {
-    #[cycle(expr)]
-    fn drop(self) {
-        match self {
-            ExprNode::Int(_, _)
-            | ExprNode::Truth(_)
-            | ExprNode::Receiver
-            | ExprNode::Path(_)
-            | ExprNode::Literal(_, _)
-            | ExprNode::Tuple(_)
-            | ExprNode::Block(_)
-            | ExprNode::BlockWith(_, _)
-            | ExprNode::If(_, _)
-            | ExprNode::IfElse(_, _, _)
-            | ExprNode::Match(_, _)
-            | ExprNode::While(_, _)
-            | ExprNode::Loop(_)
-            | ExprNode::Attributed(_, _)
-            | ExprNode::Closure(_, _, _, _)
-            | ExprNode::Return
-            | ExprNode::ReturnWith(_)
-            | ExprNode::Break
-            | ExprNode::Continue
-            | ExprNode::Panic(_, _)
-            | ExprNode::Ghost(_, _)
-            | ExprNode::Let(_, _)
-            | ExprNode::Assign(_, _)
-            | ExprNode::Update(_, _, _, _)
-            | ExprNode::Lazy(_, _, _)
-            | ExprNode::Binary(_, _, _, _)
-            | ExprNode::Cast(_, _)
-            | ExprNode::Unary(_, _, _)
-            | ExprNode::Borrow(_, _)
-            | ExprNode::Field(_, _, _)
-            | ExprNode::Part(_, _, _)
-            | ExprNode::Method(_, _, _, _)
-            | ExprNode::Call(_, _) => {}
-        }
-    }
+    Call(Expr, Vec<Expr>),
 }
 
 /// A statement of a block.
@@ -152,21 +112,6 @@ pub struct FieldExpr {
     pub value: Expr,
 }
 
-impl ExprNode {
-    /// The node at its place as an expression: the `if` with its `else`, any other as it is.
-    pub(crate) fn with_else(self, place: Span, span: Span, other: Box<Expr>) -> Expr
-        ensures { result ≡ with_else span (expr_of place self) other.value }
-    {
-        match self {
-            ExprNode::If(condition, body) => Expr {
-                span,
-                node: ExprNode::IfElse(condition, body, other),
-            },
-            node => Expr { span: place, node },
-        }
-    }
-}
-
 impl Model for Expr {
     ghost use Rattle.rs_syntax.specs.Expr.{Expr as Tree};
     ghost use Rattle.rs_syntax.specs.ExprCode.{coded_expr};
@@ -177,11 +122,26 @@ impl Model for Expr {
 
     ghost use Rattle.rs_syntax.specs.ExprView.{expr_of, expr_size};
 
-    ghost view = { λ e. expr_of e.span e.node };
+    ghost view = { λ e. expr_of e.span e.node.value };
 
     ghost size = { expr_size };
 
     ghost use Rattle.rs_syntax.specs.ExprFalls.{falls};
 
-    ghost size_decreases = { λ a h. falls a.span a.node };
+    ghost size_decreases = { λ a h. falls a.span a.node.value };
+}
+
+/// The expression with this at its top. Err only for want of memory.
+pub(crate) fn made(alloc: Global, span: Span, node: ExprNode) -> Result<Expr, NoMemory>
+    ensures { IfOk result (λ e. e ≡ expr_of span node) }
+{
+    let node = Box::new(alloc, node)?;
+    Ok(Expr { span, node })
+}
+
+/// What stands for an expression where none is: `false` at the start of the source.
+pub(crate) fn nothing(alloc: Global) -> Result<Expr, NoMemory>
+    ensures { IfOk result (λ e. e ≡ truth nowhere false) }
+{
+    made(alloc, NOWHERE, ExprNode::Truth(false))
 }

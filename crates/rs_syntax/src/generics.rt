@@ -19,8 +19,8 @@ pub struct Bound {
 /// The forms of parameters of declarations.
 #[derive(Drop)]
 pub enum GenericNode {
-    /// The place of a lifetime, and that of its bound if one is written.
-    Lifetime(Span, Option<Span>),
+    /// A lifetime, and its bound if one is written.
+    Lifetime(Segment, Option<Segment>),
     /// A type parameter and its bounds.
     Type(Segment, Items<Bound>),
 }
@@ -35,8 +35,8 @@ pub struct GenericParam {
 /// The forms of conditions behind `where`.
 #[derive(Drop)]
 pub enum ConditionNode {
-    /// `'a: 'b`, by their places.
-    Lifetime(Span, Span),
+    /// `'a: 'b`
+    Lifetime(Segment, Segment),
     /// `T: A`
     Type(Segment, Items<Bound>),
 }

@@ -3,10 +3,10 @@ use crate::expr::Expr;
 use crate::generics::{Condition, GenericParam};
 use crate::param::Param;
 use pearlite::{Pterm, Segment, TypeTree};
-use text_core::{Boxed, Items, Span};
+use text_core::{Items, Span};
 
 /// Who may name an item.
-#[derive(Clone, Copy, Debug, PartialEq, Eq)]
+#[derive(Clone, Copy)]
 pub enum Visibility {
     /// No `pub`.
     Private,
@@ -20,9 +20,9 @@ pub enum Visibility {
 #[derive(Drop)]
 pub enum Body {
     /// A block.
-    Block(Boxed<Expr>),
+    Block(Expr),
     /// A term in braces, also one in `pearlite!{ }`.
-    Term(Boxed<Pterm>),
+    Term(Pterm),
     /// `;`
     Missing,
 }
@@ -115,8 +115,8 @@ pub struct Trait {
 /// What stands in the braces of an impl.
 #[derive(Drop)]
 pub enum ImplItem {
-    /// `type ViewTy = T;`, and where it stands.
-    ViewType(Span, TypeTree),
+    /// `type ViewTy = T;`, and where it stands: `ViewTy` and the type.
+    ViewType(Span, Segment, TypeTree),
     Method(Method),
 }
 
@@ -151,7 +151,7 @@ pub struct Item {
     pub span: Span,
     pub attributes: Items<Attribute>,
     pub visibility: Visibility,
-    /// From its first word behind attributes and visibility to its end.
+    /// From its first token behind attributes and visibility to its end.
     pub own: Span,
     pub node: ItemNode,
 }

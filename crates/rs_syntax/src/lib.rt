@@ -2,24 +2,31 @@
 #![tactic(auto)]
 
 mod attribute;
+mod element;
 mod expr;
+mod found;
+mod gathering;
 mod generics;
 mod item;
 mod laws;
+mod make_attributed;
 mod make_attributes;
+mod make_blocks;
 mod make_expressions;
+mod make_fields;
+mod make_functions;
 mod make_generics;
 mod make_items;
+mod make_matches;
 mod make_operators;
 mod make_statements;
 mod operator;
 mod param;
 mod parser;
-mod pieces;
-mod shapes;
+mod part;
+mod places;
 mod statement;
 mod trees;
-mod value;
 
 pub use attribute::{Attribute, AttributeNode, ClauseKind};
 pub use expr::{Arm, Expr, ExprNode, FieldExpr, Stmt};
@@ -35,5 +42,5 @@ pub use logic_term::LazyOp;
 pub use operator::UnaryOp;
 pub use param::{Param, ParamNode};
 pub use parser::parse;
+pub use part::{Part, Suffix, Value};
 pub use statement::StmtKind;
-pub use value::{Piece, Suffix, SuffixNode, Value};

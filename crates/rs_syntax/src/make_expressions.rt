@@ -1,23 +1,326 @@
-//! What the rules of operands make.
-ghost use Rattle.std.specs.Prelude.{◌≡◌, pos, ◌≤ℤ◌, IfOk, IfSome, [], true};
-ghost use Rattle.rs_syntax.specs.declared.value.Piece.TheVariants as V;
-ghost use Rattle.rs_syntax.specs.Values.{first, second, third, segment_in, type_in, types_in, expr_in, exprs_in, comma_in, arguments_in, params_in, panic_of, ghost_of, closure_answer_in, closure_body_in};
-ghost use Rattle.rs_syntax.specs.MakeExpressions.{magnitude, negation_made, unary_made, borrow_made, expr_behind, parens_made, integer_made, return_made, panic_made, ghost_made, literal_made, field_value, field_behind, closure_made};
+//! What operands make.
+ghost use Rattle.std.specs.Prelude.{◌≡◌, pos, ◌≤ℤ◌, false, get_or, reverse, slice_get, unwrap_or, IfOk, IfSome};
+ghost use Rattle.pearlite.specs.Parts.{no_path, nowhere, span_from};
+ghost use Rattle.pearlite.specs.Pterm.{truth as term_truth};
+ghost use Rattle.rs_syntax.specs.ExprView.{expr_of};
+ghost use Rattle.rs_syntax.specs.declared.part.Value.TheVariants as V;
+ghost use Rattle.rs_syntax.specs.MakeExpressions.{arguments_made, break_made, closure_made, continue_made, field_made, ghost_made, integer_made, magnitude, member_by, member_made, negated, own_path, own_value, panic_made, parens_made, parens_by, path_made, prefix_made, prefixed, return_made, self_made, truth_made};
 
-use crate::expr::{Expr, ExprNode, FieldExpr};
-use crate::make_generics::stands;
-use crate::make_operators::plain;
+use crate::expr::{Expr, ExprNode, FieldExpr, made};
+use crate::found::{Found, exprs_in, first_expr, found_in, take_all, take_first};
 use crate::operator::UnaryOp;
-use crate::pieces::{
-    arguments_in, bars_in, comma_in, expr_in, exprs_in, field_exprs_in, next_expr, params_in,
-};
-use crate::shapes::{next_place, next_segment, next_word, path_in, term_in, type_in, types_in};
-use crate::value::{NOWHERE, Piece, Value, discard, next, next_extent, next_piece, skip};
+use crate::part::{Part, Suffix, Value, word_behind};
 use logic_term::IntKind;
-use pearlite::{GhostMacro, PanicMacro, Path, PathNode, Segment, TypeTree, WordKind};
+use pearlite::{
+    GhostMacro, NOWHERE, PanicMacro, Path, PathNode, Pterm, PtermNode, Segment, is_at, is_before,
+    number_of, segment_at, span_from, word_at,
+};
+use source_grammar::kinds;
+use source_words::Word;
 use std::alloc::Global;
-use std::collections::VecDeque;
-use text_core::{Boxed, Items, NoMemory, Span};
+use text_core::{Boxed, Items, Name, NoMemory, Span};
+
+/// An expression of one or more tokens. Err only for want of memory.
+pub(crate) fn plain(
+    alloc: Global,
+    words: &[Word],
+    from: usize,
+    to: usize,
+    node: ExprNode,
+) -> Result<Value, NoMemory>
+    ensures { IfOk result (λ v. v ≡ V.Expr (expr_of (span_from words.now from to) node)) }
+{
+    let expr = made(alloc, span_from(words, from, to), node)?;
+    Ok(Value::Expr(expr))
+}
+
+#[tactic(auto, unfolding(crate::specs::MakeExpressions::integer_made))]
+pub(crate) fn integer(
+    alloc: Global,
+    words: &[Word],
+    from: usize,
+    to: usize,
+) -> Result<Value, NoMemory>
+    ensures { IfOk result (λ v. v ≡ integer_made words.now from to) }
+{
+    let word = word_at(words, from);
+    plain(
+        alloc,
+        words,
+        from,
+        to,
+        ExprNode::Int(word.value, word.suffix),
+    )
+}
+
+#[tactic(auto, unfolding(crate::specs::MakeExpressions::truth_made))]
+pub(crate) fn truth(
+    alloc: Global,
+    words: &[Word],
+    from: usize,
+    to: usize,
+) -> Result<Value, NoMemory>
+    ensures { IfOk result (λ v. v ≡ truth_made words.now from to) }
+{
+    let holds = is_at(words, kinds::KW_TRUE, from);
+    plain(alloc, words, from, to, ExprNode::Truth(holds))
+}
+
+#[tactic(auto, unfolding(crate::specs::MakeExpressions::self_made))]
+pub(crate) fn receiver(
+    alloc: Global,
+    words: &[Word],
+    from: usize,
+    to: usize,
+) -> Result<Value, NoMemory>
+    ensures { IfOk result (λ v. v ≡ self_made words.now from to) }
+{
+    plain(alloc, words, from, to, ExprNode::Receiver)
+}
+
+#[tactic(auto, unfolding(crate::specs::MakeExpressions::break_made))]
+pub(crate) fn break_off(
+    alloc: Global,
+    words: &[Word],
+    from: usize,
+    to: usize,
+) -> Result<Value, NoMemory>
+    ensures { IfOk result (λ v. v ≡ break_made words.now from to) }
+{
+    plain(alloc, words, from, to, ExprNode::Break)
+}
+
+#[tactic(auto, unfolding(crate::specs::MakeExpressions::continue_made))]
+pub(crate) fn go_on(
+    alloc: Global,
+    words: &[Word],
+    from: usize,
+    to: usize,
+) -> Result<Value, NoMemory>
+    ensures { IfOk result (λ v. v ≡ continue_made words.now from to) }
+{
+    plain(alloc, words, from, to, ExprNode::Continue)
+}
+
+/// `(`, the arguments, `)`. Err only for want of memory.
+#[tactic(auto, unfolding(crate::specs::MakeExpressions::arguments_made))]
+pub(crate) fn arguments(alloc: Global, parts: &mut Vec<Part>) -> Result<Value, NoMemory>
+    ensures { IfOk result (λ v. v ≡ arguments_made (reverse parts.old.items)) }
+{
+    let exprs = exprs_in(alloc, parts)?;
+    Ok(Value::Arguments(exprs))
+}
+
+/// One expression without a comma is itself, and else a tuple.
+#[tactic(auto, unfolding(crate::specs::MakeExpressions::parens_by))]
+fn parens(alloc: Global, span: Span, comma: bool, exprs: Items<Expr>) -> Result<Expr, NoMemory>
+    ensures { IfOk result (λ e. e ≡ parens_by span comma exprs) }
+{
+    let mut exprs = exprs.into_vec();
+    if comma || exprs.len() != 1 {
+        return made(alloc, span, ExprNode::Tuple(exprs));
+    }
+    match exprs.pop() {
+        Some(expr) => Ok(expr),
+        None => made(alloc, span, ExprNode::Tuple(exprs)),
+    }
+}
+
+/// `(`, expressions, `)`. Err only for want of memory.
+#[tactic(auto, unfolding(crate::specs::MakeExpressions::parens_made))]
+pub(crate) fn in_parens(
+    alloc: Global,
+    words: &[Word],
+    from: usize,
+    to: usize,
+    parts: &mut Vec<Part>,
+) -> Result<Value, NoMemory>
+    ensures { IfOk result (λ v. v ≡ parens_made words.now from to (reverse parts.old.items)) }
+{
+    let exprs = exprs_in(alloc, parts)?;
+    let span = span_from(words, from, to);
+    let comma = is_before(words, kinds::COMMA, to, 2);
+    let expr = parens(alloc, span, comma, exprs)?;
+    Ok(Value::Expr(expr))
+}
+
+/// `panic!("..")` or `unreachable!("..")`, with its text if one is written. Err only for want of memory.
+#[tactic(auto, unfolding(crate::specs::MakeExpressions::panic_made, crate::specs::MakeExpressions::text_at))]
+pub(crate) fn panicking(
+    alloc: Global,
+    words: &[Word],
+    from: usize,
+    to: usize,
+) -> Result<Value, NoMemory>
+    ensures { IfOk result (λ v. v ≡ panic_made words.now from to) }
+{
+    let name = if is_at(words, kinds::WORD_UNREACHABLE, from) {
+        PanicMacro::Unreachable
+    } else {
+        PanicMacro::Panic
+    };
+    let word = word_behind(words, from, 3);
+    let text = if word.kind == kinds::STRING_LITERAL {
+        Some(word.span)
+    } else {
+        None
+    };
+    plain(alloc, words, from, to, ExprNode::Panic(name, text))
+}
+
+/// The next term; where none is left, `false` at the start of the source.
+fn term(alloc: Global, terms: &mut Items<Pterm>) -> Result<Pterm, NoMemory>
+    ensures { IfOk result (λ t. t ≡ get_or terms.old 0 (term_truth nowhere false)) }
+{
+    match take_first(alloc, terms) {
+        Some(term) => Ok(term),
+        None => {
+            let node = Box::new(alloc, PtermNode::Truth(false))?;
+            Ok(Pterm {
+                span: NOWHERE,
+                node,
+            })
+        }
+    }
+}
+
+/// `proof_assert!(t)` or `snapshot!(t)`. Err only for want of memory.
+#[tactic(auto, unfolding(crate::specs::MakeExpressions::ghost_made))]
+pub(crate) fn logical(
+    alloc: Global,
+    words: &[Word],
+    from: usize,
+    to: usize,
+    parts: &mut Vec<Part>,
+) -> Result<Value, NoMemory>
+    ensures { IfOk result (λ v. v ≡ ghost_made words.now from to (reverse parts.old.items)) }
+{
+    let mut found = found_in(alloc, parts)?;
+    let name = if is_at(words, kinds::WORD_SNAPSHOT, from) {
+        GhostMacro::Snapshot
+    } else {
+        GhostMacro::ProofAssert
+    };
+    let term = term(alloc, &mut found.terms)?;
+    plain(alloc, words, from, to, ExprNode::Ghost(name, term))
+}
+
+/// The next path; where none is left, the name 0 at the start of the source.
+fn path(alloc: Global, paths: &mut Items<Path>) -> Path
+    ensures { result ≡ get_or paths.old 0 no_path }
+{
+    match take_first(alloc, paths) {
+        Some(path) => path,
+        None => {
+            let name = Segment {
+                name: Name(0),
+                span: NOWHERE,
+            };
+            own_path(alloc, name)
+        }
+    }
+}
+
+/// A name alone as a path.
+fn own_path(alloc: Global, name: Segment) -> Path
+    ensures { result ≡ own_path name }
+{
+    let node = PathNode::Names(name, Items::new(alloc), Items::new(alloc));
+    Path {
+        span: name.span,
+        node,
+    }
+}
+
+/// A path, and the fields in braces behind it. Err only for want of memory.
+#[tactic(auto, unfolding(crate::specs::MakeExpressions::path_made))]
+pub(crate) fn path_or_literal(
+    alloc: Global,
+    words: &[Word],
+    from: usize,
+    to: usize,
+    parts: &mut Vec<Part>,
+) -> Result<Value, NoMemory>
+    ensures { IfOk result (λ v. v ≡ path_made words.now from to (reverse parts.old.items)) }
+{
+    let mut found = found_in(alloc, parts)?;
+    let path = path(alloc, &mut found.paths);
+    let node = if is_before(words, kinds::CLOSE_BRACE, to, 1) {
+        ExprNode::Literal(path, take_all(alloc, &mut found.fields).into_vec())
+    } else {
+        ExprNode::Path(path)
+    };
+    plain(alloc, words, from, to, node)
+}
+
+/// The value of a field; a name alone is its own.
+fn value_of(alloc: Global, name: Segment, value: Option<Expr>) -> Result<Expr, NoMemory>
+    ensures { IfOk result (λ e. e ≡ unwrap_or value (own_value name)) }
+{
+    match value {
+        Some(expr) => Ok(expr),
+        None => made(alloc, name.span, ExprNode::Path(own_path(alloc, name))),
+    }
+}
+
+/// A field of a struct literal; a name alone is its own value. Err only for want of memory.
+#[tactic(auto, unfolding(crate::specs::MakeExpressions::field_made))]
+pub(crate) fn field(
+    alloc: Global,
+    words: &[Word],
+    from: usize,
+    to: usize,
+    parts: &mut Vec<Part>,
+) -> Result<Value, NoMemory>
+    ensures { IfOk result (λ v. v ≡ field_made words.now from to (reverse parts.old.items)) }
+{
+    let mut exprs = exprs_in(alloc, parts)?;
+    let name = segment_at(words, from);
+    let value = value_of(alloc, name, take_first(alloc, &mut exprs))?;
+    let span = span_from(words, from, to);
+    let field = Boxed::new(alloc, FieldExpr { span, name, value })?;
+    Ok(Value::FieldExpr(field))
+}
+
+/// `return`, and what is returned if it is written. Err only for want of memory.
+#[tactic(auto, unfolding(crate::specs::MakeExpressions::return_made, crate::specs::MakeExpressions::return_by))]
+pub(crate) fn returned(
+    alloc: Global,
+    words: &[Word],
+    from: usize,
+    to: usize,
+    parts: &mut Vec<Part>,
+) -> Result<Value, NoMemory>
+    ensures { IfOk result (λ v. v ≡ return_made words.now from to (reverse parts.old.items)) }
+{
+    let mut exprs = exprs_in(alloc, parts)?;
+    let node = match take_first(alloc, &mut exprs) {
+        Some(expr) => ExprNode::ReturnWith(expr),
+        None => ExprNode::Return,
+    };
+    plain(alloc, words, from, to, node)
+}
+
+/// A closure. Err only for want of memory.
+#[tactic(auto, unfolding(crate::specs::MakeExpressions::closure_made))]
+pub(crate) fn closure(
+    alloc: Global,
+    words: &[Word],
+    from: usize,
+    to: usize,
+    parts: &mut Vec<Part>,
+) -> Result<Value, NoMemory>
+    ensures { IfOk result (λ v. v ≡ closure_made words.now from to (reverse parts.old.items)) }
+{
+    let mut found = found_in(alloc, parts)?;
+    let body = found.next_expr(alloc)?;
+    let answer = take_first(alloc, &mut found.types);
+    let first = word_at(words, from).span;
+    let moving = is_at(words, kinds::KW_MOVE, from);
+    let params = take_all(alloc, &mut found.params);
+    let node = ExprNode::Closure(first, moving, params, answer, body);
+    plain(alloc, words, from, to, node)
+}
 
 /// The integer, where it is one that is not negative.
 #[tactic(auto, unfolding(crate::specs::MakeExpressions::magnitude))]
@@ -25,276 +328,109 @@ fn magnitude(operand: &Expr) -> Option<(i128, Option<IntKind>)>
     ensures value { result ≡ magnitude operand.now }
     ensures low { IfSome result (λ p. pos 0 ≤ℤ p.0) }
 {
-    match &operand.node {
+    match &*operand.node {
         ExprNode::Int(value, suffix) if *value >= 0 => Some((*value, *suffix)),
         _ => None,
     }
 }
 
 /// `-` and the operand.
-#[tactic(auto, unfolding(crate::specs::MakeExpressions::negation_made, crate::specs::MakeExpressions::negated))]
-pub fn negation(alloc: Global, span: Span, parts: &mut VecDeque<Value>) -> Result<Piece, NoMemory>
-    ensures { IfOk result (λ p. p ≡ negation_made span parts.old.items) }
+#[tactic(auto, unfolding(crate::specs::MakeExpressions::negated))]
+fn negation(alloc: Global, span: Span, place: Span, operand: Expr) -> Result<Expr, NoMemory>
+    ensures { IfOk result (λ e. e ≡ negated (magnitude operand) span place operand) }
 {
-    let place = next_extent(parts).unwrap_or(NOWHERE);
-    let operand = next_expr(alloc, parts)?;
-    match magnitude(operand.get()) {
-        Some((value, suffix)) => plain(alloc, span, ExprNode::Int(-value, suffix)),
-        None => {
-            let node = ExprNode::Unary(UnaryOp::Neg, place, operand.into_box());
-            plain(alloc, span, node)
+    match magnitude(&operand) {
+        Some((value, suffix)) => made(alloc, span, ExprNode::Int(-value, suffix)),
+        None => made(alloc, span, ExprNode::Unary(UnaryOp::Neg, place, operand)),
+    }
+}
+
+/// The operator before the operand, which is the token at `from`.
+#[tactic(auto, unfolding(crate::specs::MakeExpressions::prefixed))]
+fn prefixed(
+    alloc: Global,
+    words: &[Word],
+    from: usize,
+    span: Span,
+    operand: Expr,
+) -> Result<Expr, NoMemory>
+    ensures { IfOk result (λ e. e ≡ prefixed words.now from span operand) }
+{
+    let word = word_at(words, from);
+    match word.kind {
+        kinds::MINUS => negation(alloc, span, word.span, operand),
+        kinds::NOT => made(
+            alloc,
+            span,
+            ExprNode::Unary(UnaryOp::Not, word.span, operand),
+        ),
+        kinds::STAR => made(
+            alloc,
+            span,
+            ExprNode::Unary(UnaryOp::Deref, word.span, operand),
+        ),
+        _ => {
+            let mutable = word_behind(words, from, 1).kind == kinds::KW_MUT;
+            made(alloc, span, ExprNode::Borrow(mutable, operand))
         }
     }
 }
 
-/// The operator and the operand.
-#[tactic(auto, unfolding(crate::specs::MakeExpressions::unary_made))]
-pub fn unary(
+/// An operator and its operand. Err only for want of memory.
+#[tactic(auto, unfolding(crate::specs::MakeExpressions::prefix_made))]
+pub(crate) fn prefix(
     alloc: Global,
-    span: Span,
-    op: UnaryOp,
-    parts: &mut VecDeque<Value>,
-) -> Result<Piece, NoMemory>
-    ensures { IfOk result (λ p. p ≡ unary_made span op parts.old.items) }
+    words: &[Word],
+    from: usize,
+    to: usize,
+    parts: &mut Vec<Part>,
+) -> Result<Value, NoMemory>
+    ensures { IfOk result (λ v. v ≡ prefix_made words.now from to (reverse parts.old.items)) }
 {
-    let place = next_extent(parts).unwrap_or(NOWHERE);
-    let operand = next_expr(alloc, parts)?.into_box();
-    plain(alloc, span, ExprNode::Unary(op, place, operand))
+    let operand = first_expr(alloc, parts)?;
+    let span = span_from(words, from, to);
+    let expr = prefixed(alloc, words, from, span, operand)?;
+    Ok(Value::Expr(expr))
 }
 
-/// `&`, `mut` and the operand.
-#[tactic(auto, unfolding(crate::specs::MakeExpressions::borrow_made))]
-pub fn borrow(alloc: Global, span: Span, parts: &mut VecDeque<Value>) -> Result<Piece, NoMemory>
-    ensures { IfOk result (λ p. p ≡ borrow_made span parts.old.items) }
+/// A field, or a method with its arguments.
+#[tactic(auto, unfolding(crate::specs::MakeExpressions::member_by))]
+fn member_by(alloc: Global, name: Segment, found: &mut Found) -> Suffix
+    ensures { result ≡ member_by name found.old.types (slice_get found.old.arguments 0) }
 {
-    skip(parts);
-    let mutable = stands(next_extent(parts));
-    let operand = next_expr(alloc, parts)?.into_box();
-    plain(alloc, span, ExprNode::Borrow(mutable, operand))
-}
-
-/// The name of a member, the types behind it, and its arguments.
-pub fn member_name(alloc: Global, parts: &mut VecDeque<Value>) -> Piece
-    ensures { result ≡ V.Member (segment_in (first parts.old.items).piece) (types_in (second parts.old.items).piece) (arguments_in (third parts.old.items).piece) }
-{
-    let name = next_segment(parts);
-    let types = types_in(alloc, next_piece(parts));
-    Piece::Member(name, types, arguments_in(next_piece(parts)))
-}
-
-/// `(`, the arguments of a method, `)`.
-pub fn arguments(alloc: Global, parts: &mut VecDeque<Value>) -> Piece
-    ensures { result ≡ V.Exprs (exprs_in (second parts.old.items).piece) (comma_in (second parts.old.items).piece) }
-{
-    skip(parts);
-    let inside = next_piece(parts);
-    let comma = comma_in(&inside);
-    Piece::Exprs(exprs_in(alloc, inside), comma)
-}
-
-/// The expressions with one more.
-#[tactic(auto, unfolding(crate::specs::MakeExpressions::expr_behind))]
-pub fn one_expr(
-    alloc: Global,
-    so_far: Piece,
-    parts: &mut VecDeque<Value>,
-) -> Result<Piece, NoMemory>
-    ensures { IfOk result (λ p. p ≡ expr_behind so_far parts.old.items) }
-{
-    let comma = comma_in(&so_far);
-    let mut exprs = exprs_in(alloc, so_far);
-    exprs.push(next_expr(alloc, parts)?.into_inner())?;
-    Ok(Piece::Exprs(exprs, comma))
-}
-
-/// The expressions with a comma behind them.
-pub fn expr_comma(alloc: Global, so_far: Piece) -> Piece
-    ensures { result ≡ V.Exprs (exprs_in so_far) true }
-{
-    Piece::Exprs(exprs_in(alloc, so_far), true)
-}
-
-/// `(`, the expressions, `)`.
-#[tactic(auto, unfolding(crate::specs::MakeExpressions::parens_made, crate::specs::MakeExpressions::parens_by))]
-pub fn in_parens(alloc: Global, span: Span, parts: &mut VecDeque<Value>) -> Result<Piece, NoMemory>
-    ensures { IfOk result (λ p. p ≡ parens_made span parts.old.items) }
-{
-    skip(parts);
-    let inside = next_piece(parts);
-    let comma = comma_in(&inside);
-    let mut exprs = exprs_in(alloc, inside).into_vec();
-    if comma || exprs.len() != 1 {
-        return plain(alloc, span, ExprNode::Tuple(exprs));
-    }
-    match exprs.pop() {
-        Some(expr) => Ok(Piece::Expr(Boxed::new(alloc, expr)?)),
-        None => plain(alloc, span, ExprNode::Tuple(exprs)),
+    let types = take_all(alloc, &mut found.types);
+    match take_first(alloc, &mut found.arguments) {
+        Some(arguments) => Suffix::Method(name, types, arguments),
+        None => Suffix::Field(name, types),
     }
 }
 
-#[tactic(auto, unfolding(crate::specs::MakeExpressions::integer_made))]
-pub fn integer(alloc: Global, span: Span, parts: &mut VecDeque<Value>) -> Result<Piece, NoMemory>
-    ensures { IfOk result (λ p. p ≡ integer_made span parts.old.items) }
+/// `.` and a number, a field or a method. Err only for want of memory.
+#[tactic(auto, unfolding(crate::specs::MakeExpressions::member_made))]
+pub(crate) fn member(
+    alloc: Global,
+    words: &[Word],
+    from: usize,
+    parts: &mut Vec<Part>,
+) -> Result<Value, NoMemory>
+    ensures { IfOk result (λ v. v ≡ member_made words.now from (reverse parts.old.items)) }
 {
-    let word = next_word(parts);
-    plain(alloc, span, ExprNode::Int(word.value, word.suffix))
-}
-
-/// `return`, and what is returned if it is written.
-#[tactic(auto, unfolding(crate::specs::MakeExpressions::return_made, crate::specs::MakeExpressions::return_by))]
-pub fn returned(alloc: Global, span: Span, parts: &mut VecDeque<Value>) -> Result<Piece, NoMemory>
-    ensures { IfOk result (λ p. p ≡ return_made span parts.old.items) }
-{
-    skip(parts);
-    let value = next(parts);
-    if stands(value.extent) {
-        let value = expr_in(alloc, value.piece)?.into_box();
-        plain(alloc, span, ExprNode::ReturnWith(value))
+    let mut found = found_in(alloc, parts)?;
+    let word = word_behind(words, from, 1);
+    let suffix = if word.kind == kinds::INTEGER {
+        Suffix::Part(number_of(word))
     } else {
-        discard(value.piece);
-        plain(alloc, span, ExprNode::Return)
+        member_by(alloc, segment_of(word), &mut found)
+    };
+    let suffix = Boxed::new(alloc, suffix)?;
+    Ok(Value::Suffix(suffix))
+}
+
+fn segment_of(word: Word) -> Segment
+    ensures { result ≡ record { name = word.name; span = word.span } }
+{
+    Segment {
+        name: word.name,
+        span: word.span,
     }
-}
-
-fn panic_of(kind: WordKind) -> PanicMacro
-    ensures { result ≡ panic_of kind }
-{
-    match kind {
-        WordKind::Panic(panic) => panic,
-        _ => PanicMacro::Panic,
-    }
-}
-
-/// `panic` or `unreachable`, `!`, and its text.
-#[tactic(auto, unfolding(crate::specs::MakeExpressions::panic_made))]
-pub fn panicking(alloc: Global, span: Span, parts: &mut VecDeque<Value>) -> Result<Piece, NoMemory>
-    ensures { IfOk result (λ p. p ≡ panic_made span parts.old.items) }
-{
-    let macro_name = panic_of(next_word(parts).kind);
-    skip(parts);
-    let text = next_place(parts);
-    plain(alloc, span, ExprNode::Panic(macro_name, text))
-}
-
-fn ghost_of(kind: WordKind) -> GhostMacro
-    ensures { result ≡ ghost_of kind }
-{
-    match kind {
-        WordKind::Ghost(macro_name) => macro_name,
-        _ => GhostMacro::ProofAssert,
-    }
-}
-
-/// `proof_assert` or `snapshot`, `!`, and its term.
-#[tactic(auto, unfolding(crate::specs::MakeExpressions::ghost_made))]
-pub fn logical(alloc: Global, span: Span, parts: &mut VecDeque<Value>) -> Result<Piece, NoMemory>
-    ensures { IfOk result (λ p. p ≡ ghost_made span parts.old.items) }
-{
-    let macro_name = ghost_of(next_word(parts).kind);
-    skip(parts);
-    let term = Box::new(alloc, term_in(next_piece(parts)))?;
-    plain(alloc, span, ExprNode::Ghost(macro_name, term))
-}
-
-/// The fields behind a path.
-#[tactic(auto, unfolding(crate::specs::MakeExpressions::literal_made))]
-pub fn literal(
-    alloc: Global,
-    span: Span,
-    so_far: Piece,
-    parts: &mut VecDeque<Value>,
-) -> Result<Piece, NoMemory>
-    ensures { IfOk result (λ p. p ≡ literal_made span so_far parts.old.items) }
-{
-    let path = path_in(alloc, so_far);
-    skip(parts);
-    let fields = field_exprs_in(alloc, next_piece(parts));
-    plain(alloc, span, ExprNode::Literal(path, fields.into_vec()))
-}
-
-/// The value of a field; a name alone is its own.
-#[tactic(auto, unfolding(crate::specs::MakeExpressions::field_value))]
-fn field_value(alloc: Global, written: bool, name: Segment, piece: Piece) -> Result<Expr, NoMemory>
-    ensures { IfOk result (λ e. e ≡ field_value written name piece) }
-{
-    if written {
-        return Ok(expr_in(alloc, piece)?.into_inner());
-    }
-    discard(piece);
-    let span = name.span;
-    let node = PathNode::Names(name, Items::new(alloc), Items::new(alloc));
-    Ok(Expr {
-        span,
-        node: ExprNode::Path(Path { span, node }),
-    })
-}
-
-/// The name and the value of a field, behind the other fields.
-#[tactic(auto, unfolding(crate::specs::MakeExpressions::field_behind))]
-pub fn field(
-    alloc: Global,
-    span: Span,
-    so_far: Piece,
-    parts: &mut VecDeque<Value>,
-) -> Result<Piece, NoMemory>
-    ensures { IfOk result (λ p. p ≡ field_behind span so_far parts.old.items) }
-{
-    let mut fields = field_exprs_in(alloc, so_far);
-    let name = next_segment(parts);
-    let value = next(parts);
-    let value = field_value(alloc, stands(value.extent), name, value.piece)?;
-    fields.push(FieldExpr { span, name, value })?;
-    Ok(Piece::FieldExprs(fields))
-}
-
-/// The type of a closure's answer, off the heap.
-fn answer_of(answer: Option<Boxed<TypeTree>>) -> Option<TypeTree>
-    ensures { result ≡ answer }
-{
-    match answer {
-        None => None,
-        Some(ty) => Some(ty.into_inner()),
-    }
-}
-
-/// A closure of what stands from its bars on.
-#[tactic(auto, unfolding(crate::specs::MakeExpressions::closure_made))]
-pub fn closure(alloc: Global, span: Span, moving: bool, bars: Piece) -> Result<Piece, NoMemory>
-    ensures { IfOk result (λ p. p ≡ closure_made span moving bars) }
-{
-    let bars = bars_in(alloc, bars)?;
-    let answer = answer_of(bars.answer);
-    let node = ExprNode::Closure(moving, bars.params, answer, bars.body.into_box());
-    plain(alloc, span, node)
-}
-
-/// `||` and the body of a closure.
-pub fn no_params(alloc: Global, parts: &mut VecDeque<Value>) -> Result<Piece, NoMemory>
-    ensures { IfOk result (λ p. p ≡ V.Bars [] (closure_answer_in (second parts.old.items).piece) (closure_body_in (second parts.old.items).piece)) }
-{
-    skip(parts);
-    let bars = bars_in(alloc, next_piece(parts))?;
-    discard(Piece::Params(bars.params));
-    Ok(Piece::Bars(Items::new(alloc), bars.answer, bars.body))
-}
-
-/// `|`, the parameters of a closure, and what stands from the other bar on.
-pub fn some_params(alloc: Global, parts: &mut VecDeque<Value>) -> Result<Piece, NoMemory>
-    ensures { IfOk result (λ p. p ≡ V.Bars (params_in (second parts.old.items).piece) (closure_answer_in (third parts.old.items).piece) (closure_body_in (third parts.old.items).piece)) }
-{
-    skip(parts);
-    let params = params_in(alloc, next_piece(parts));
-    let bars = bars_in(alloc, next_piece(parts))?;
-    discard(Piece::Params(bars.params));
-    Ok(Piece::Bars(params, bars.answer, bars.body))
-}
-
-/// `->`, the type of a closure's answer, and its block.
-pub fn typed_body(alloc: Global, parts: &mut VecDeque<Value>) -> Result<Piece, NoMemory>
-    ensures { IfOk result (λ p. p ≡ V.TypedBody (type_in (second parts.old.items).piece) (expr_in (third parts.old.items).piece)) }
-{
-    skip(parts);
-    let ty = Boxed::new(alloc, type_in(next_piece(parts)))?;
-    let body = next_expr(alloc, parts)?;
-    Ok(Piece::TypedBody(ty, body))
 }

@@ -1,239 +1,312 @@
-//! What the rules of parameters, bounds and conditions make.
-ghost use Rattle.std.specs.Prelude.{◌≡◌, IfOk, false, true};
-ghost use Rattle.rs_syntax.specs.declared.generics.BoundNode.TheVariants as B;
-ghost use Rattle.rs_syntax.specs.declared.generics.ConditionNode.TheVariants as C;
-ghost use Rattle.rs_syntax.specs.declared.generics.GenericNode.TheVariants as G;
-ghost use Rattle.rs_syntax.specs.declared.param.ParamNode.TheVariants as P;
-ghost use Rattle.rs_syntax.specs.declared.value.Piece.TheVariants as V;
-ghost use Rattle.pearlite.specs.Make.{stands};
-ghost use Rattle.rs_syntax.specs.Values.{span_in, first, second, third, segment_in, place_in, bounds_in, param_node_in, call_trait_of};
-ghost use Rattle.rs_syntax.specs.MakeItems.{generic_behind, bound_behind, call_bound_made, condition_behind, param_behind, named_param};
+//! What the lines of parameters, bounds and conditions make.
+ghost use Rattle.std.specs.Prelude.{◌≡◌, ◌+◌, reverse, Some, None, IfOk};
+ghost use Rattle.pearlite.specs.MakeTypes.{lifetime_at};
+ghost use Rattle.rs_syntax.specs.MakeGenerics.{outlived, lifetime_param_made, type_param_made, generics_made, type_condition_made, lifetime_condition_made, where_made};
+ghost use Rattle.rs_syntax.specs.MakeGenerics.{trait_bound_made, call_trait_of, with_call_type, call_with, call_bound_made};
+ghost use Rattle.rs_syntax.specs.MakeGenerics.{param_made, named_param_made, mut_named_param_made, receiver_param_made, mut_receiver_made, borrowed_param_made};
 
+use crate::gathering::{Gather, all_of, first_of, gather_all};
 use crate::generics::{Bound, BoundNode, Condition, ConditionNode, GenericNode, GenericParam};
 use crate::param::{Param, ParamNode};
-use crate::pieces::{bounds_in, conditions_in, generics_in, param_node_in, params_in};
-use crate::shapes::{answer_in, next_place, next_segment, next_word, type_in, types_in};
-use crate::value::{NOWHERE, Piece, Value, discard, next_extent, next_piece, skip};
-use pearlite::{CallTrait, WordKind};
+use crate::part::{Part, Value, segment_at, span_from};
+use crate::places::{is_at, is_before, is_behind, segment_behind};
+use pearlite::{CallTrait, Segment, TypeTree, Value as Shape};
+use source_grammar::kinds;
+use source_words::Word;
 use std::alloc::Global;
-use std::collections::VecDeque;
-use text_core::{Boxed, NoMemory, Span};
+use text_core::{Boxed, Items, NoMemory};
 
-/// Whether something stands there.
-pub fn stands(extent: Option<Span>) -> bool
-    ensures { result ≡ stands extent }
+/// The lifetime behind the `:` of `'a: 'b`, where it is written.
+fn outlived(words: &[Word], from: usize, to: usize) -> Option<Segment>
+    ensures { result ≡ outlived words.now from to }
 {
-    match extent {
-        None => false,
-        Some(_) => true,
+    if to.saturating_sub(from) > 1 {
+        Some(segment_behind(words, from, 2))
+    } else {
+        None
     }
 }
 
-/// The parameters of a declaration with one more.
-#[tactic(auto, unfolding(crate::specs::MakeItems::generic_behind))]
-fn generic_behind(
+/// `'a` or `'a: 'b`
+#[tactic(auto, unfolding(crate::specs::MakeGenerics::lifetime_param_made))]
+pub(crate) fn lifetime_param(
     alloc: Global,
-    so_far: Piece,
-    span: Span,
-    node: GenericNode,
-) -> Result<Piece, NoMemory>
-    ensures { IfOk result (λ p. p ≡ generic_behind so_far span node) }
+    words: &[Word],
+    from: usize,
+    to: usize,
+) -> Result<Value, NoMemory>
+    ensures { IfOk result (λ v. v ≡ lifetime_param_made words.now from to) }
 {
-    let mut params = generics_in(alloc, so_far);
-    params.push(GenericParam { span, node })?;
-    Ok(Piece::Generics(params))
+    let span = span_from(words, from, to);
+    let node = GenericNode::Lifetime(segment_at(words, from), outlived(words, from, to));
+    Ok(Value::GenericParam(Boxed::new(alloc, GenericParam { span, node })?))
 }
 
-/// A lifetime and its bound, behind the other parameters.
-pub fn lifetime_param(
+/// `T` or `T: A + B`
+#[tactic(auto, unfolding(crate::specs::MakeGenerics::type_param_made))]
+pub(crate) fn type_param(
     alloc: Global,
-    span: Span,
-    so_far: Piece,
-    parts: &mut VecDeque<Value>,
-) -> Result<Piece, NoMemory>
-    ensures { IfOk result (λ p. p ≡ generic_behind so_far span (G.Lifetime (span_in (first parts.old.items)) (place_in (second parts.old.items).piece))) }
+    words: &[Word],
+    from: usize,
+    to: usize,
+    parts: &mut Vec<Part>,
+) -> Result<Value, NoMemory>
+    ensures { IfOk result (λ v. v ≡ type_param_made words.now from to (reverse parts.old.items)) }
 {
-    let lifetime = next_extent(parts).unwrap_or(NOWHERE);
-    let bound = next_place(parts);
-    generic_behind(alloc, so_far, span, GenericNode::Lifetime(lifetime, bound))
+    let bounds: Items<Bound> = all_of(alloc, parts)?;
+    let span = span_from(words, from, to);
+    let node = GenericNode::Type(segment_at(words, from), bounds);
+    Ok(Value::GenericParam(Boxed::new(alloc, GenericParam { span, node })?))
 }
 
-/// A type parameter and its bounds, behind the other parameters.
-pub fn type_param(
-    alloc: Global,
-    span: Span,
-    so_far: Piece,
-    parts: &mut VecDeque<Value>,
-) -> Result<Piece, NoMemory>
-    ensures { IfOk result (λ p. p ≡ generic_behind so_far span (G.Type (segment_in (first parts.old.items).piece) (bounds_in (second parts.old.items).piece))) }
+/// `<'a, T>`
+#[tactic(auto, unfolding(crate::specs::MakeGenerics::generics_made))]
+pub(crate) fn generics(alloc: Global, parts: &mut Vec<Part>) -> Result<Value, NoMemory>
+    ensures { IfOk result (λ v. v ≡ generics_made (reverse parts.old.items)) }
 {
-    let name = next_segment(parts);
-    let bounds = bounds_in(alloc, next_piece(parts));
-    generic_behind(alloc, so_far, span, GenericNode::Type(name, bounds))
+    Ok(Value::Generics(all_of::<GenericParam>(alloc, parts)?))
 }
 
-/// The bounds with one more.
-#[tactic(auto, unfolding(crate::specs::MakeItems::bound_behind))]
-pub fn bound_behind(alloc: Global, so_far: Piece, bound: Piece) -> Result<Piece, NoMemory>
-    ensures { IfOk result (λ p. p ≡ bound_behind so_far bound) }
+/// `T: A + B`
+#[tactic(auto, unfolding(crate::specs::MakeGenerics::type_condition_made))]
+pub(crate) fn type_condition(
+    alloc: Global,
+    words: &[Word],
+    from: usize,
+    to: usize,
+    parts: &mut Vec<Part>,
+) -> Result<Value, NoMemory>
+    ensures { IfOk result (λ v. v ≡ type_condition_made words.now from to (reverse parts.old.items)) }
 {
-    let mut bounds = bounds_in(alloc, so_far);
-    match bound {
-        Piece::Bound(bound) => {
-            bounds.push(bound.into_inner())?;
-            Ok(Piece::Bounds(bounds))
-        }
-        other => {
-            discard(other);
-            Ok(Piece::Bounds(bounds))
-        }
-    }
+    let bounds: Items<Bound> = all_of(alloc, parts)?;
+    let span = span_from(words, from, to);
+    let node = ConditionNode::Type(segment_at(words, from), bounds);
+    Ok(Value::WhereCondition(Boxed::new(alloc, Condition { span, node })?))
+}
+
+/// `'a: 'b`
+#[tactic(auto, unfolding(crate::specs::MakeGenerics::lifetime_condition_made))]
+pub(crate) fn lifetime_condition(
+    alloc: Global,
+    words: &[Word],
+    from: usize,
+    to: usize,
+) -> Result<Value, NoMemory>
+    ensures { IfOk result (λ v. v ≡ lifetime_condition_made words.now from to) }
+{
+    let span = span_from(words, from, to);
+    let node = ConditionNode::Lifetime(segment_at(words, from), segment_behind(words, from, 2));
+    Ok(Value::WhereCondition(Boxed::new(alloc, Condition { span, node })?))
+}
+
+/// `where`, and the conditions.
+#[tactic(auto, unfolding(crate::specs::MakeGenerics::where_made))]
+pub(crate) fn conditions(alloc: Global, parts: &mut Vec<Part>) -> Result<Value, NoMemory>
+    ensures { IfOk result (λ v. v ≡ where_made (reverse parts.old.items)) }
+{
+    Ok(Value::Where(all_of::<Condition>(alloc, parts)?))
 }
 
 /// The name of a trait.
-pub fn trait_bound(
+#[tactic(auto, unfolding(crate::specs::MakeGenerics::trait_bound_made))]
+pub(crate) fn trait_bound(
     alloc: Global,
-    span: Span,
-    parts: &mut VecDeque<Value>,
-) -> Result<Piece, NoMemory>
-    ensures { IfOk result (λ p. p ≡ V.Bound (record { span = span; node = B.Trait (segment_in (first parts.old.items).piece) })) }
+    words: &[Word],
+    from: usize,
+    to: usize,
+) -> Result<Value, NoMemory>
+    ensures { IfOk result (λ v. v ≡ trait_bound_made words.now from to) }
 {
-    let node = BoundNode::Trait(next_segment(parts));
-    let bound = Boxed::new(alloc, Bound { span, node })?;
-    Ok(Piece::Bound(bound))
+    let span = span_from(words, from, to);
+    let node = BoundNode::Trait(segment_at(words, from));
+    Ok(Value::Bound(Boxed::new(alloc, Bound { span, node })?))
 }
 
-fn call_trait_of(kind: WordKind) -> CallTrait
-    ensures { result ≡ call_trait_of kind }
+/// The trait of closures that stands there.
+fn call_trait_of(words: &[Word], place: usize) -> CallTrait
+    ensures { result ≡ call_trait_of words.now place }
 {
-    match kind {
-        WordKind::CallTrait(call) => call,
-        _ => CallTrait::Fn,
+    if is_at(words, kinds::WORD_FN, place) {
+        CallTrait::Fn
+    } else if is_at(words, kinds::WORD_FN_MUT, place) {
+        CallTrait::FnMut
+    } else {
+        CallTrait::FnOnce
     }
 }
 
-/// `Fn`, `FnMut` or `FnOnce`, the types that are taken, and that of the answer.
-#[tactic(auto, unfolding(crate::specs::MakeItems::call_bound_made))]
-pub fn call_bound(alloc: Global, span: Span, parts: &mut VecDeque<Value>) -> Result<Piece, NoMemory>
-    ensures { IfOk result (λ p. p ≡ call_bound_made span parts.old.items) }
-{
-    let call = call_trait_of(next_word(parts).kind);
-    let types = types_in(alloc, next_piece(parts));
-    let answer = answer_in(next_piece(parts));
-    let node = BoundNode::Call(call, types, answer);
-    let bound = Boxed::new(alloc, Bound { span, node })?;
-    Ok(Piece::Bound(bound))
+/// The types of a bound by a trait of closures.
+#[derive(Drop)]
+pub(crate) struct CallTypes {
+    /// Those in the parentheses.
+    pub taken: Items<TypeTree>,
+    /// The one behind `->`.
+    pub answer: Option<TypeTree>,
 }
 
-/// The conditions with one more.
-#[tactic(auto, unfolding(crate::specs::MakeItems::condition_behind))]
-fn condition_behind(
-    alloc: Global,
-    so_far: Piece,
-    span: Span,
-    node: ConditionNode,
-) -> Result<Piece, NoMemory>
-    ensures { IfOk result (λ p. p ≡ condition_behind so_far span node) }
-{
-    let mut conditions = conditions_in(alloc, so_far);
-    conditions.push(Condition { span, node })?;
-    Ok(Piece::Conditions(conditions))
+impl CallTypes {
+    fn set_answer(&mut self, ty: TypeTree)
+        ensures { self.new ≡ record self.old { answer = Some ty } }
+    {
+        self.answer = Some(ty);
+    }
+
+    /// Adds a type, where it is one.
+    fn add_type(&mut self, is_answer: bool, ty: Option<TypeTree>) -> Result<(), NoMemory>
+        ensures { IfOk result (λ _. self.new ≡ with_call_type is_answer self.old ty) }
+    {
+        match ty {
+            None => Ok(()),
+            Some(ty) => {
+                if is_answer {
+                    self.set_answer(ty);
+                    return Ok(());
+                }
+                self.taken.push(ty)
+            }
+        }
+    }
 }
 
-/// A lifetime, `:`, and the one that it outlives, behind the other conditions.
-pub fn lifetime_condition(
+impl Gather for CallTypes {
+    ghost with = { call_with };
+
+    fn add(&mut self, words: &[Word], part: Part) -> Result<(), NoMemory> {
+        let is_answer = is_before(words, kinds::ARROW, part.from, 1);
+        self.add_type(is_answer, part.value.into_type())
+    }
+}
+
+/// `Fn(S) -> T` and the like.
+#[tactic(auto, unfolding(crate::specs::MakeGenerics::call_bound_made))]
+pub(crate) fn call_bound(
     alloc: Global,
-    span: Span,
-    so_far: Piece,
-    parts: &mut VecDeque<Value>,
-) -> Result<Piece, NoMemory>
-    ensures { IfOk result (λ p. p ≡ condition_behind so_far span (C.Lifetime (span_in (first parts.old.items)) (span_in (third parts.old.items)))) }
+    words: &[Word],
+    from: usize,
+    to: usize,
+    parts: &mut Vec<Part>,
+) -> Result<Value, NoMemory>
+    ensures { IfOk result (λ v. v ≡ call_bound_made words.now from to (reverse parts.old.items)) }
 {
-    let longer = next_extent(parts).unwrap_or(NOWHERE);
-    skip(parts);
-    let shorter = next_extent(parts).unwrap_or(NOWHERE);
-    condition_behind(
+    let bare = CallTypes {
+        taken: Items::new(alloc),
+        answer: None,
+    };
+    let CallTypes { taken, answer } = gather_all(words, parts, bare)?;
+    let span = span_from(words, from, to);
+    let node = BoundNode::Call(call_trait_of(words, from), taken, answer);
+    Ok(Value::Bound(Boxed::new(alloc, Bound { span, node })?))
+}
+
+/// A parameter of a function or a closure.
+#[tactic(auto, unfolding(crate::specs::MakeGenerics::param_made))]
+fn param(
+    alloc: Global,
+    words: &[Word],
+    from: usize,
+    to: usize,
+    node: ParamNode,
+) -> Result<Value, NoMemory>
+    ensures { IfOk result (λ v. v ≡ param_made words.now from to node) }
+{
+    let span = span_from(words, from, to);
+    Ok(Value::Param(Boxed::new(alloc, Param { span, node })?))
+}
+
+/// `x: T`
+#[tactic(auto, unfolding(crate::specs::MakeGenerics::named_param_made))]
+pub(crate) fn named_param(
+    alloc: Global,
+    words: &[Word],
+    from: usize,
+    to: usize,
+    parts: &mut Vec<Part>,
+) -> Result<Value, NoMemory>
+    ensures { IfOk result (λ v. v ≡ named_param_made words.now from to (reverse parts.old.items)) }
+{
+    match first_of::<TypeTree>(parts) {
+        Some(ty) => {
+            let node = ParamNode::Named(false, segment_at(words, from), ty);
+            param(alloc, words, from, to, node)
+        }
+        None => Ok(Value::Shape(Shape::Passed)),
+    }
+}
+
+/// `x: T` behind its `mut`.
+#[tactic(auto, unfolding(crate::specs::MakeGenerics::mut_named_param_made))]
+pub(crate) fn mut_named_param(
+    alloc: Global,
+    words: &[Word],
+    from: usize,
+    to: usize,
+    parts: &mut Vec<Part>,
+) -> Result<Value, NoMemory>
+    ensures { IfOk result (λ v. v ≡ mut_named_param_made words.now from to (reverse parts.old.items)) }
+{
+    match first_of::<TypeTree>(parts) {
+        Some(ty) => {
+            let node = ParamNode::Named(true, segment_at(words, from), ty);
+            param(alloc, words, from.saturating_sub(1), to, node)
+        }
+        None => Ok(Value::Shape(Shape::Passed)),
+    }
+}
+
+/// `self`
+#[tactic(auto, unfolding(crate::specs::MakeGenerics::receiver_param_made))]
+pub(crate) fn receiver_param(
+    alloc: Global,
+    words: &[Word],
+    from: usize,
+    to: usize,
+) -> Result<Value, NoMemory>
+    ensures { IfOk result (λ v. v ≡ receiver_param_made words.now from to) }
+{
+    param(alloc, words, from, to, ParamNode::Receiver(false))
+}
+
+/// `self` behind its `mut`.
+#[tactic(auto, unfolding(crate::specs::MakeGenerics::mut_receiver_made))]
+pub(crate) fn mut_receiver(
+    alloc: Global,
+    words: &[Word],
+    from: usize,
+    to: usize,
+) -> Result<Value, NoMemory>
+    ensures { IfOk result (λ v. v ≡ mut_receiver_made words.now from to) }
+{
+    param(
         alloc,
-        so_far,
-        span,
-        ConditionNode::Lifetime(longer, shorter),
+        words,
+        from.saturating_sub(1),
+        to,
+        ParamNode::Receiver(true),
     )
 }
 
-/// A type parameter, `:`, and its bounds, behind the other conditions.
-pub fn type_condition(
+/// The lifetime behind the place, where one stands there.
+fn lifetime_behind(words: &[Word], place: usize) -> Option<Segment>
+    ensures { result ≡ lifetime_at words.now (place + 1) }
+{
+    if is_behind(words, kinds::LIFETIME, place, 1) {
+        Some(segment_behind(words, place, 1))
+    } else {
+        None
+    }
+}
+
+/// `&'a mut self`
+#[tactic(auto, unfolding(crate::specs::MakeGenerics::borrowed_param_made))]
+pub(crate) fn borrowed_param(
     alloc: Global,
-    span: Span,
-    so_far: Piece,
-    parts: &mut VecDeque<Value>,
-) -> Result<Piece, NoMemory>
-    ensures { IfOk result (λ p. p ≡ condition_behind so_far span (C.Type (segment_in (first parts.old.items).piece) (bounds_in (third parts.old.items).piece))) }
+    words: &[Word],
+    from: usize,
+    to: usize,
+) -> Result<Value, NoMemory>
+    ensures { IfOk result (λ v. v ≡ borrowed_param_made words.now from to) }
 {
-    let name = next_segment(parts);
-    skip(parts);
-    let bounds = bounds_in(alloc, next_piece(parts));
-    condition_behind(alloc, so_far, span, ConditionNode::Type(name, bounds))
-}
-
-/// The parameters of a function or a closure with one more.
-#[tactic(auto, unfolding(crate::specs::MakeItems::param_behind))]
-pub fn param_behind(
-    alloc: Global,
-    so_far: Piece,
-    span: Span,
-    node: ParamNode,
-) -> Result<Piece, NoMemory>
-    ensures { IfOk result (λ p. p ≡ param_behind so_far span node) }
-{
-    let mut params = params_in(alloc, so_far);
-    params.push(Param { span, node })?;
-    Ok(Piece::Params(params))
-}
-
-/// The name, `:` and the type.
-#[tactic(auto, unfolding(crate::specs::MakeItems::named_param))]
-pub fn named_param(mutable: bool, parts: &mut VecDeque<Value>) -> ParamNode
-    ensures { result ≡ named_param mutable parts.old.items }
-{
-    let name = next_segment(parts);
-    skip(parts);
-    let ty = type_in(next_piece(parts));
-    ParamNode::Named(mutable, name, ty)
-}
-
-/// A parameter behind its `mut`.
-pub fn param_piece(alloc: Global, node: ParamNode) -> Result<Piece, NoMemory>
-    ensures { IfOk result (λ p. p ≡ V.ParamNode node) }
-{
-    let node = Boxed::new(alloc, node)?;
-    Ok(Piece::ParamNode(node))
-}
-
-/// `mut` and what it belongs to, behind the other parameters.
-pub fn mutable_param(
-    alloc: Global,
-    span: Span,
-    so_far: Piece,
-    parts: &mut VecDeque<Value>,
-) -> Result<Piece, NoMemory>
-    ensures { IfOk result (λ p. p ≡ param_behind so_far span (param_node_in (second parts.old.items).piece)) }
-{
-    skip(parts);
-    let node = param_node_in(next_piece(parts));
-    param_behind(alloc, so_far, span, node)
-}
-
-/// `&`, a lifetime, `mut` and `self`, behind the other parameters.
-pub fn borrowed_self(
-    alloc: Global,
-    span: Span,
-    so_far: Piece,
-    parts: &mut VecDeque<Value>,
-) -> Result<Piece, NoMemory>
-    ensures { IfOk result (λ p. p ≡ param_behind so_far span (P.Borrowed (second parts.old.items).extent (stands (third parts.old.items).extent))) }
-{
-    skip(parts);
-    let lifetime = next_extent(parts);
-    let mutable = stands(next_extent(parts));
-    param_behind(alloc, so_far, span, ParamNode::Borrowed(lifetime, mutable))
+    let mutable = is_before(words, kinds::KW_MUT, to, 2);
+    let node = ParamNode::Borrowed(lifetime_behind(words, from), mutable);
+    param(alloc, words, from, to, node)
 }

@@ -1,5 +1,5 @@
 /// The operators of program code with one operand.
-#[derive(Clone, Copy, Debug, PartialEq, Eq)]
+#[derive(Clone, Copy)]
 pub enum UnaryOp {
     /// `-e`
     Neg,

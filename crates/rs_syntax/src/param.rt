@@ -9,7 +9,7 @@ pub enum ParamNode {
     /// `self`, and whether `mut` stands before it.
     Receiver(bool),
     /// `&self`, with the lifetime if one is written, and whether `mut` is.
-    Borrowed(Option<Span>, bool),
+    Borrowed(Option<Segment>, bool),
 }
 
 /// A parameter of a function or a closure.

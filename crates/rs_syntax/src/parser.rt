@@ -2,20 +2,26 @@
 ghost use Rattle.std.specs.Prelude.{◌≡◌, ℕ, ◌+◌, ◌<◌, ◌≤◌, ◌^◌, List, length, IsTrue, ◌↔◌, IfOk, IfErr, OnOk};
 ghost use Rattle.text_core.specs.declared.refusal.LimitKind.TheVariants.{Functions};
 ghost use Rattle.text_core.specs.declared.fault.PassError.TheVariants as P;
-ghost use Rattle.pearlite.specs.Words.{Keeps, GivesNames};
+ghost use Rattle.source_grammar.specs.Faults.{IsSourceDerivation};
+ghost use Rattle.source_grammar.specs.SourceGrammar.{source_goal};
+ghost use Rattle.source_words.specs.Words.{Keeps, GivesNames};
 ghost use Rattle.rs_syntax.specs.declared.item.Item.{Item};
-ghost use Rattle.rs_syntax.specs.declared.value.Value.{Value};
-ghost use Rattle.rs_syntax.specs.Parsed.{SpellsValue, SpellsItems, methods_among, functions_of, functions_among, most_functions, IsParseError, SpellsNone};
+ghost use Rattle.rs_syntax.specs.Parsed.{kinds_in, AreItemsOf, SpellsItems, methods_among, functions_of, functions_among, most_functions, error_at, error_of, IsItemsError, IsParseError, SpellsNone};
 
+use crate::gathering::all_of;
 use crate::item::{ImplItem, Item, ItemNode};
-use crate::pieces::items_in;
-use crate::value::Value;
-use pearlite::words_of;
+use crate::part::Part;
+use grammar_tables::evaluate;
+use source_grammar::{SyntaxFault, parse_source, tables};
+use source_words::{Word, kinds_of_words, words_of};
 use std::alloc::Global;
-use text_core::{Items, Limit, LimitKind, Names, PassError};
+use text_core::{Code, Items, Limit, LimitKind, Names, PassError, SourceError, Span};
 
 /// The most functions of a source.
 const MOST_FUNCTIONS: usize = 4096;
+
+/// The first line of the grammar.
+const SOURCE: u16 = 0;
 
 /// How many functions stand in an impl.
 fn methods_among(items: &[ImplItem]) -> usize
@@ -26,7 +32,7 @@ fn methods_among(items: &[ImplItem]) -> usize
     for item in items {
         match item {
             ImplItem::Method(_) => count += 1,
-            ImplItem::ViewType(_, _) => {}
+            ImplItem::ViewType(_, _, _) => {}
         }
     }
     count
@@ -74,27 +80,73 @@ fn within_bound(items: Items<Item>) -> Result<Items<Item>, PassError>
     Ok(items)
 }
 
-/// What the bytes spell by the whole grammar.
-fn value_of(alloc: Global, bytes: &[u8], names: &mut Names) -> Result<Value, PassError>
-    requires few { length bytes.now ≤ 2 ^ 20 }
-    requires room { length names.old + 2 ^ 20 < 2 ^ 32 }
-    ensures ok { IfOk result (λ v. SpellsValue names.old bytes.now v) }
-    ensures alone { IfOk result (λ v. (other : Value) → SpellsValue names.old bytes.now other → other ≡ v) }
-    ensures names { OnOk result (GivesNames names.old bytes.now names.new) }
-    ensures refused { IfErr result (λ e. IsParseError names.old bytes.now e) }
-    ensures rightly { IfErr result (λ e. SpellsNone names.old bytes.now e) }
-    ensures kept { Keeps names.old names.new }
+/// An error at the word of that number, or at the end of the source.
+fn error_at(code: Code, words: &[Word], end: u32, position: usize) -> SourceError
+    ensures { result ≡ error_at code words.now end position }
 {
-    let words = words_of(alloc, bytes, names)?;
-    let value: Value = concrete_syntax::parse(&words, alloc, bytes)?;
-    Ok(value)
+    let span = match words.get(position) {
+        Some(word) => word.span,
+        None => Span { start: end, end },
+    };
+    SourceError {
+        code,
+        span,
+        other: None,
+    }
+}
+
+/// The error that a fault of the words stands for.
+fn error_of(words: &[Word], end: u32, fault: SyntaxFault) -> PassError
+    ensures { result ≡ error_of words.now end fault }
+{
+    match fault {
+        SyntaxFault::Stray(position) => PassError::Source(error_at(
+            Code::E03,
+            words,
+            end,
+            position,
+        )),
+        SyntaxFault::LeftOut(position) => {
+            PassError::Source(error_at(Code::E20, words, end, position))
+        }
+        SyntaxFault::TooDeep(position) => {
+            PassError::Source(error_at(Code::E04, words, end, position))
+        }
+        SyntaxFault::NoMemory => PassError::NoMemory,
+    }
+}
+
+/// The items that the words are made into by this derivation.
+fn items_by(alloc: Global, words: &Items<Word>, derivation: &[u8]) -> Result<Items<Item>, PassError>
+    requires { IsSourceDerivation source_goal 0 (kinds_in words.now) derivation.now }
+    ensures ok { IfOk result (λ items. AreItemsOf words.now items) }
+    ensures err { IfErr result (λ e. e ≡ P.NoMemory) }
+{
+    let mut parts: Vec<Part> = evaluate(words, alloc, &tables(), SOURCE, derivation, words.len())?;
+    parts.reverse();
+    Ok(all_of(alloc, &mut parts)?)
+}
+
+/// The items that the words spell, which end at this offset.
+fn items_of(alloc: Global, words: &Items<Word>, end: u32) -> Result<Items<Item>, PassError>
+    ensures ok { IfOk result (λ items. AreItemsOf words.now items) }
+    ensures refused { IfErr result (λ e. IsItemsError words.now end e) }
+{
+    let kinds = kinds_of_words(alloc, words.as_slice())?;
+    match parse_source(alloc, kinds.as_slice()) {
+        Ok(derivation) => items_by(alloc, words, derivation.as_slice()),
+        Err(fault) => Err(error_of(words.as_slice(), end, fault)),
+    }
 }
 
 /// The items of a source (Rust Reference, "Items", "Statements", "Expressions", "Patterns", "Types", "Paths"; terms as in
-/// Creusot's Pearlite), each node with its span. Identifiers that have no name yet are given one, in order of first use.
+/// Creusot's Pearlite), each node with its span. Identifiers and lifetimes that have no name yet are given one, in order of
+/// first use.
 ///
-/// Errors: `Source` by E01 to E04 and E20 where the source is none of the whole grammar, as `concrete_syntax` refuses it. `Limit`
-/// where there are more than 4,096 functions, those of traits and impls among them. `NoMemory`.
+/// Errors: `Source` by E01 where the bytes are no UTF-8, by E02 where a part of them is no token, and at the first token
+/// that cannot continue, or empty at the end of a source that ends too early: by E04 where that token opens the 65th level
+/// or is the 257th operator of a chain, by E20 where it begins a construct of Rust that the language leaves out, by E03
+/// else. `Limit` where there are more than 4,096 functions, those of traits and impls among them. `NoMemory`.
 pub fn parse(alloc: Global, bytes: &[u8], names: &mut Names) -> Result<Items<Item>, PassError>
     requires few { length bytes.now ≤ 2 ^ 20 }
     requires room { length names.old + 2 ^ 20 < 2 ^ 32 }
@@ -109,6 +161,7 @@ pub fn parse(alloc: Global, bytes: &[u8], names: &mut Names) -> Result<Items<Ite
 
     ensures kept { Keeps names.old names.new }
 {
-    let value = value_of(alloc, bytes, names)?;
-    within_bound(items_in(alloc, value.piece))
+    let words = words_of(alloc, bytes, names)?;
+    let items = items_of(alloc, &words, bytes.len() as u32)?;
+    within_bound(items)
 }

@@ -1,5 +1,5 @@
-use concrete_syntax::tokens_of;
 use pearlite::{Cursor, PtermNode, parse_term};
+use source_words::tokens_of;
 use std::alloc::Global;
 use std::process::Abort;
 use text_core::{Code, Names, PassError};
@@ -106,7 +106,7 @@ fn has_two_terms(alloc: Global, text: &[u8]) -> bool {
         Ok(first) => {
             let behind = cursor.place();
             match parse_term(alloc, &mut cursor, &mut names) {
-                Ok(second) => match (&first.node, &second.node) {
+                Ok(second) => match (&*first.node, &*second.node) {
                     (PtermNode::Int(5, None), PtermNode::Path(_)) => {
                         behind == 1 && cursor.place() == 2
                     }

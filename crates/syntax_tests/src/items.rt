@@ -8,7 +8,7 @@ use text_core::{Code, Items, LimitKind, Names, NoMemory, PassError};
 
 /// A letter for the form at the top of an expression.
 fn letter(expr: &Expr) -> u8 {
-    match &expr.node {
+    match &*expr.node {
         ExprNode::Int(_, _) => b'i',
         ExprNode::Truth(_) => b't',
         ExprNode::Receiver => b's',
@@ -17,20 +17,19 @@ fn letter(expr: &Expr) -> u8 {
         ExprNode::Tuple(_) => b',',
         ExprNode::Block(_) => b'B',
         ExprNode::BlockWith(_, _) => b'b',
-        ExprNode::If(_, _) => b'I',
-        ExprNode::IfElse(_, _, _) => b'E',
+        ExprNode::If(_, _, _) => b'I',
+        ExprNode::IfElse(_, _, _, _) => b'E',
         ExprNode::Match(_, _) => b'M',
-        ExprNode::While(_, _) => b'W',
+        ExprNode::While(_, _, _) => b'W',
         ExprNode::Loop(_) => b'L',
         ExprNode::Attributed(_, _) => b'#',
-        ExprNode::Closure(_, _, _, _) => b'c',
+        ExprNode::Closure(_, _, _, _, _) => b'c',
         ExprNode::Return => b'r',
         ExprNode::ReturnWith(_) => b'R',
         ExprNode::Break => b'k',
         ExprNode::Continue => b'n',
         ExprNode::Panic(_, _) => b'P',
         ExprNode::Ghost(_, _) => b'G',
-        ExprNode::Let(_, _) => b'l',
         ExprNode::Assign(_, _) => b'=',
         ExprNode::Update(_, _, _, _) => b'u',
         ExprNode::Lazy(_, _, _) => b'z',
@@ -39,7 +38,7 @@ fn letter(expr: &Expr) -> u8 {
         ExprNode::Unary(_, _, _) => b'-',
         ExprNode::Borrow(_, _) => b'&',
         ExprNode::Field(_, _, _) => b'.',
-        ExprNode::Part(_, _, _) => b'0',
+        ExprNode::Part(_, _) => b'0',
         ExprNode::Method(_, _, _, _) => b'm',
         ExprNode::Call(_, _) => b'(',
     }
@@ -47,27 +46,27 @@ fn letter(expr: &Expr) -> u8 {
 
 /// The letters of an expression and of its first two operands; a space where it has none.
 fn letters(expr: &Expr) -> (u8, u8, u8) {
-    match &expr.node {
+    match &*expr.node {
         ExprNode::Unary(_, _, one)
         | ExprNode::Borrow(_, one)
         | ExprNode::Field(one, _, _)
-        | ExprNode::Part(one, _, _)
+        | ExprNode::Part(one, _)
         | ExprNode::Method(one, _, _, _)
         | ExprNode::Call(one, _)
         | ExprNode::Cast(one, _)
         | ExprNode::Match(one, _)
         | ExprNode::Loop(one)
         | ExprNode::Attributed(_, one)
-        | ExprNode::Closure(_, _, _, one)
+        | ExprNode::Closure(_, _, _, _, one)
         | ExprNode::ReturnWith(one)
         | ExprNode::BlockWith(_, one) => (letter(expr), letter(one), b' '),
         ExprNode::Binary(_, _, one, other)
         | ExprNode::Lazy(_, one, other)
         | ExprNode::Assign(one, other)
         | ExprNode::Update(_, _, one, other)
-        | ExprNode::While(one, other)
-        | ExprNode::If(one, other)
-        | ExprNode::IfElse(one, _, other) => (letter(expr), letter(one), letter(other)),
+        | ExprNode::While(_, one, other)
+        | ExprNode::If(_, one, other)
+        | ExprNode::IfElse(_, one, _, other) => (letter(expr), letter(one), letter(other)),
         _ => (letter(expr), b' ', b' '),
     }
 }
@@ -104,7 +103,7 @@ fn is_body(
         _ => return false,
     };
     match &function.body {
-        Body::Block(block) => match &block.get().node {
+        Body::Block(block) => match &*block.node {
             ExprNode::BlockWith(statements, value) => {
                 let found = letters(value);
                 statements.len() == count
@@ -287,7 +286,7 @@ fn statements_are_of_all_forms(rt: HostRuntime) {
         ),
         (
             b"fn f() { if let a = b {} else if c {} }".as_slice(),
-            (b'E', b'l', b'I'),
+            (b'E', b'p', b'I'),
             (9, 37),
             0,
         ),
@@ -400,7 +399,7 @@ fn item_letter(item: &Item) -> (u8, usize, usize) {
         },
         ItemNode::Trait(of) => (b'T', of.methods.len(), 0),
         ItemNode::Impl(of) => match of.items.as_slice() {
-            [ImplItem::ViewType(_, _), ..] => (b'V', of.items.len(), of.conditions.len()),
+            [ImplItem::ViewType(_, _, _), ..] => (b'V', of.items.len(), of.conditions.len()),
             _ => (
                 if of.of.is_some() { b'I' } else { b'i' },
                 of.items.len(),

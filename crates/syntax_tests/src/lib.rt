@@ -1,11 +1,9 @@
-//! Tests of the calls that read sources: tables of texts, with what each spells or where it is refused.
+//! Tests of the calls that make trees of sources and of terms.
 #![tactic(auto)]
 
 #[cfg(test)]
 mod cursors;
 #[cfg(test)]
 mod items;
-#[cfg(test)]
-mod phrases;
 #[cfg(test)]
 mod terms;

@@ -1,9 +1,7 @@
-use concrete_syntax::tokens_of;
 use logic_term::{ArithOp, IntKind};
-use pearlite::{
-    BinaryTerm, CallTrait, Cursor, GhostMacro, PanicMacro, Predicate, Pterm, PtermNode, Quantifier,
-    UnaryTerm, Word, WordKind, parse_term, words_of,
-};
+use pearlite::{BinaryTerm, Cursor, Pterm, PtermNode, UnaryTerm, parse_term};
+use source_grammar::kinds::{IDENTIFIER, INTEGER, LIFETIME, STATIC_LIFETIME, WORD_FORALL};
+use source_words::{Word, tokens_of, words_of};
 use std::alloc::Global;
 use std::process::Abort;
 use std::test::Fail;
@@ -11,10 +9,10 @@ use text_core::{Items, Names};
 
 /// A letter for the form at the top of a term.
 fn letter(term: &Pterm) -> u8 {
-    match &term.node {
+    match &*term.node {
         PtermNode::Int(_, _) => b'i',
         PtermNode::Truth(_) => b't',
-        PtermNode::Answer => b'r',
+        PtermNode::Answer(_) => b'r',
         PtermNode::Receiver => b's',
         PtermNode::Path(_) => b'p',
         PtermNode::Unary(op, _) => match op {
@@ -32,10 +30,10 @@ fn letter(term: &Pterm) -> u8 {
             BinaryTerm::Calculate(ArithOp::Add) => b'+',
             BinaryTerm::Calculate(ArithOp::Sub) => b'-',
             BinaryTerm::Calculate(_) => b'*',
-            BinaryTerm::MutRef => b'm',
         },
+        PtermNode::MutRef(_, _) => b'm',
         PtermNode::Field(_, _) => b'.',
-        PtermNode::Part(_, _, _) => b'0',
+        PtermNode::Part(_, _) => b'0',
         PtermNode::Method(_, _, _) => b'(',
         PtermNode::Call(_, _) => b'f',
         PtermNode::Literal(_, _) => b'{',
@@ -49,18 +47,16 @@ fn letter(term: &Pterm) -> u8 {
 
 /// The letters of a term and of its first two operands; a space where it has none.
 fn letters(term: &Pterm) -> (u8, u8, u8) {
-    match &term.node {
+    match &*term.node {
         PtermNode::Unary(_, one)
         | PtermNode::Field(one, _)
-        | PtermNode::Part(one, _, _)
+        | PtermNode::Part(one, _)
         | PtermNode::Method(one, _, _)
         | PtermNode::Match(one, _)
         | PtermNode::Quantified(_, _, one) => (letter(term), letter(one), b' '),
-        PtermNode::Binary(_, one, other) | PtermNode::If(one, other, _) => (
-            letter(term),
-            letter(one),
-            letter(other),
-        ),
+        PtermNode::Binary(_, one, other)
+        | PtermNode::MutRef(one, other)
+        | PtermNode::If(one, other, _) => (letter(term), letter(one), letter(other)),
         _ => (letter(term), b' ', b' '),
     }
 }
@@ -114,12 +110,6 @@ fn word_of_number(alloc: Global, text: &[u8], number: usize) -> Option<Word> {
     }
 }
 
-/// The kind of the word of this number in the text.
-fn kind_of_number(alloc: Global, text: &[u8], number: usize) -> Option<WordKind> {
-    let word = word_of_number(alloc, text, number)?;
-    Some(word.kind)
-}
-
 /// The words of these numbers in the text have one name.
 fn have_one_name(alloc: Global, text: &[u8], one: usize, other: usize) -> bool {
     match (
@@ -136,7 +126,7 @@ fn is_word(
     alloc: Global,
     text: &[u8],
     number: usize,
-    kind: WordKind,
+    kind: u8,
     span: (u32, u32),
     value: (i128, Option<IntKind>),
 ) -> bool {
@@ -221,15 +211,10 @@ fn words_have_kinds_and_numbers(rt: HostRuntime) {
     let alloc = rt.alloc();
     let text = b"forall<x: u8> x == 0x1_Fu8 // y".as_slice();
     let cases = [
-        (
-            0,
-            WordKind::Quantifier(Quantifier::Forall),
-            (0, 6),
-            (0, None),
-        ),
-        (2, WordKind::Other, (7, 8), (0, None)),
-        (4, WordKind::Int(IntKind::U8), (10, 12), (0, None)),
-        (8, WordKind::Other, (19, 26), (31, Some(IntKind::U8))),
+        (0, WORD_FORALL, (0, 6), (0, None)),
+        (2, IDENTIFIER, (7, 8), (0, None)),
+        (4, IDENTIFIER, (10, 12), (0, None)),
+        (8, INTEGER, (19, 26), (31, Some(IntKind::U8))),
     ];
     for (number, kind, span, value) in cases {
         assert!(rt; is_word(alloc, text, number, kind, span, value));
@@ -238,21 +223,13 @@ fn words_have_kinds_and_numbers(rt: HostRuntime) {
 }
 
 #[test]
-fn names_are_told_apart_by_their_texts(rt: HostRuntime) {
+fn lifetimes_have_kinds_and_names(rt: HostRuntime) {
     let alloc = rt.alloc();
-    let text = b"ensures postcondition_mut FnMut unreachable snapshot bool i128".as_slice();
-    let kinds = [
-        WordKind::Ensures,
-        WordKind::Predicate(Predicate::PostconditionMut),
-        WordKind::CallTrait(CallTrait::FnMut),
-        WordKind::Panic(PanicMacro::Unreachable),
-        WordKind::Ghost(GhostMacro::Snapshot),
-        WordKind::Bool,
-        WordKind::Other,
-    ];
-    for (number, kind) in kinds.into_iter().enumerate() {
-        assert!(rt; kind_of_number(alloc, text, number) == Some(kind));
-    }
+    let text = b"'a 'static 'a 'b".as_slice();
+    assert!(rt; is_word(alloc, text, 0, LIFETIME, (0, 2), (0, None)));
+    assert!(rt; is_word(alloc, text, 1, STATIC_LIFETIME, (3, 10), (0, None)));
+    assert!(rt; have_one_name(alloc, text, 0, 2));
+    assert!(rt; !have_one_name(alloc, text, 0, 3));
 }
 
 #[test]

@@ -18,6 +18,12 @@ decreases-both l = 8 * max (expr_size l.d.now) (expr_size l.e.now) + 2
 abbrev pub decreases-unary : goal.decreases-unary
 decreases-unary l = 8 * expr_size l.e.now + 2
 
+abbrev pub decreases-branch : goal.decreases-branch
+decreases-branch l = 8 * max (expr_size l.condition.now) (expr_size l.body.now) + 3
+
+abbrev pub decreases-repeat : goal.decreases-repeat
+decreases-repeat l = 8 * max (expr_size l.condition.now) (expr_size l.body.now) + 3
+
 abbrev pub decreases-choice : goal.decreases-choice
 decreases-choice l = 8 * max (expr_size l.condition.now) (max (expr_size l.yes.now) (expr_size l.no.now)) + 3
 
