@@ -1,13 +1,16 @@
 -- What a call answers, and that what it lists is good.
-use Rattle.std.proofs.Common.{◌≡◌, ◌≢◌, ◌∙◌, ◌⊎◌, ◌↔◌, inl, inr, refl, sym, ap, subst, ℕ, ◌<◌, ◌≤◌, ◌==◌, Bool, false, List, [], ◌∷◌, length, Option, None, Some, arith}
-use Rattle.std.specs.Prelude.{if◌then◌else◌}
+use Rattle.std.proofs.Common.{◌≡◌, ◌≢◌, ◌∙◌, ◌⊎◌, ◌↔◌, inl, inr, refl, sym, ap, subst, ℕ, ◌<◌, ◌≤◌, ◌==◌, Bool, false, List, [], ◌∷◌, length, Option, None, Some, Result, Ok, Err, arith}
+use Rattle.std.specs.Prelude.{if◌then◌else◌, IfOk}
 use Rattle.std.specs.Io.KnownBytes.{Appends}
+use Rattle.text_core.specs.Counts.{Rose}
 use Rattle.text_core.specs.declared.refusal.Limit.{Limit}
 use Rattle.text_core.specs.declared.refusal.SourceError.{SourceError}
+use Rattle.io_edge.specs.Faults.{NoneFalls}
 use Rattle.io_edge.specs.Shelf.{Files}
 use Rattle.mir_machine.specs.Good.{Each}
 use Rattle.proof_text.specs.declared.proof.Proof.{Proof}
 use Rattle.proof_text.specs.declared.proof.ProofFile.{ProofFile}
+use Rattle.proof_text.specs.ProofTextFile.{SpellsProofs}
 use Rattle.report_out.specs.declared.verdict.LeftItem.{LeftItem}
 use Rattle.report_out.specs.declared.verdict.Verdict.{Verdict}
 use Rattle.report_out.specs.Report.{report_of, source_error_line, limit_line}
@@ -19,68 +22,101 @@ use Rattle.verify_core.specs.declared.fault.Refusal.TheVariants as refusals
 use Rattle.verify_core.specs.declared.program.Program.{Program}
 use Rattle.verify_core.specs.Listing.{list_text}
 use Rattle.verify_core.specs.OnSource.{RefusesProofs, most_proof_bytes}
-use Rattle.verify_core.specs.Prepared.{IsRefused, IsPastLimit, most_bytes}
+use Rattle.verify_core.specs.Prepared.{IsPrepared, IsRefused, IsPastLimit, most_bytes}
 use Rattle.verify_core.specs.Verdict.{HasDerivation, IsVerdict, obligations_in}
 use Rattle.verify_core.proofs.SettledLaws.{left_exactly}
 use Rattle.verify_core.proofs.Verified.{verified_is_good}
 use Rattle.creusot_cli.specs.declared.verify.files.ReadFile.{ReadFile}
-use Rattle.creusot_cli.specs.declared.verify.files.ReadFile.TheVariants.{TooLong}
-use Rattle.creusot_cli.specs.declared.verify.plan.Plan.{Plan}
-use Rattle.creusot_cli.specs.declared.verify.plan.Given.{Given}
-use Rattle.creusot_cli.specs.declared.verify.plan.Given.TheVariants.{Proofs, Refused}
-use Rattle.creusot_cli.specs.Call.{source_limit, proofs_limit, GivesProofs, AreProofs, HeldAs, HasProgram, Answers, AnswersWords, status_of, ReportsWords, DoesVerb, IsRead, PlansRefusedProofs}
+use Rattle.creusot_cli.specs.declared.verify.files.Stop.{Stop}
+use Rattle.creusot_cli.specs.declared.verify.files.Stop.TheVariants.{ShelfFailed}
+use Rattle.creusot_cli.specs.declared.verify.answer.Plan.{Plan}
+use Rattle.creusot_cli.specs.Answer.{Fetched, whole, longer, source_limit, proofs_limit, IsProgramOf, AnswersSource, AreProofs, AnswersProofs, status_of}
+use Rattle.creusot_cli.specs.Call.{fetched, HeldAs, IsFetched, IsRead, AreFetched, AreRead, IsProofsWithin, HasProgram, Answers, AnswersWords, ReportsWords, DoesVerb, CannotRead, PlansRefusedProofs}
 
--- ---- files that are too long, and sources that are refused
+-- ---- what the source decides
 
-pub long_source : (shelf : Option Files) (a : Asked) (r : ReadFile) (n : ℕ) (bytes : List ℕ) → IsRead shelf a.source 1048576 r → r ≡ TooLong n → bytes ≡ limit_line (source_limit n) → Answers shelf a 7 bytes
-long_source shelf a r n bytes read e b =
-    let at : IsRead shelf a.source 1048576 (TooLong n) = subst (λ (x : ReadFile). IsRead shelf a.source 1048576 x) e read in
-    subst (λ (bs : List ℕ). Answers shelf a 7 bs) (sym b) (Answers.source_long at.0 at.1)
+-- what holds of what is answered, by what does
+pub if_ok : {A E : Type 0} (P Q : A → Type 0) (r : Result A E) → ((a : A) → P a → Q a) → IfOk r P → IfOk r Q
+if_ok P Q (Ok a) f h = f a h
+if_ok P Q (Err e) f h = tt
 
-pub long_proofs : (shelf : Option Files) (name : List ℕ) (r : ReadFile) (n : ℕ) (bytes : List ℕ) → IsRead shelf name 67108864 r → r ≡ TooLong n → bytes ≡ limit_line (proofs_limit n) →
-    (source : List ℕ) (p : Program) (a : Asked) → a.verb ≡ Verify → a.proofs ≡ Some name → HasProgram shelf a source p → Answers shelf a 7 bytes
-long_proofs shelf name r n bytes read e b source p a verb named has =
-    let at : IsRead shelf name 67108864 (TooLong n) = subst (λ (x : ReadFile). IsRead shelf name 67108864 x) e read in
-    subst (λ (bs : List ℕ). Answers shelf a 7 bs) (sym b) (Answers.proofs_long source name p verb has named at.0 at.1)
+pub refused_source : (verb : Verb) (source : List ℕ) (error : SourceError) (bytes : List ℕ) → length source ≤ most_bytes → IsRefused source error → bytes ≡ source_error_line source error → AnswersSource verb (whole source) 3 bytes
+refused_source verb source error bytes short refused b = subst (λ (bs : List ℕ). AnswersSource verb (whole source) 3 bs) (sym b) (AnswersSource.source_refused refl short refused)
+
+pub past_limit : (verb : Verb) (source : List ℕ) (limit : Limit) → length source ≤ most_bytes → IsPastLimit source limit → (plan : Plan) → (plan.status ≡ 7) × (plan.bytes.items ≡ limit_line limit) →
+    AnswersSource verb (whole source) plan.status plan.bytes.items
+past_limit verb source limit short past plan (status, printed) = rw (status, printed) (AnswersSource.limit_passed refl short past)
+
+pub is_program : (source : List ℕ) (p : Program) → length source ≤ most_bytes → IsPrepared source p → IsProgramOf (whole source) source p
+is_program source p short prepared = record { is_whole = refl; short = short; prepared = prepared }
+
+pub listed_answers : (verb : Verb) (source : List ℕ) (p : Program) (plan : Plan) → verb ≡ Listing → length source ≤ most_bytes → IsPrepared source p → (plan.status ≡ 0) × (plan.bytes.items ≡ list_text source p.functions) →
+    AnswersSource verb (whole source) plan.status plan.bytes.items
+listed_answers verb source p plan v short prepared (status, printed) = rw (status, printed) (AnswersSource.listed source p v (is_program source p short prepared))
+
+-- ---- what the proofs decide
+
+pub reported_answers : (source : List ℕ) (p : Program) (o : Option Fetched) (proofs : List Proof) → AreProofs o proofs → (plan : Plan) →
+    (v : Verdict) × IsVerdict proofs p.bodies.bodies p.functions v × (plan.status ≡ status_of v) × (plan.bytes.items ≡ report_of source v) → AnswersProofs source p o plan.status plan.bytes.items
+reported_answers source p o proofs are plan (v, is, status, printed) = rw (status, printed) (AnswersProofs.reported proofs are is)
+
+pub given_proofs : (bytes : List ℕ) (file : ProofFile) (proofs : List Proof) → length bytes ≤ most_proof_bytes → SpellsProofs [] bytes file → proofs ≡ file.proofs → AreProofs (Some (whole bytes)) proofs
+given_proofs bytes file proofs short spelled e = rw e (AreProofs.given bytes short spelled)
+
+pub absent_proofs : (o : Option Fetched) (proofs : List Proof) → o ≡ None → proofs ≡ [] → AreProofs o proofs
+absent_proofs o proofs e p = rw (e, p) AreProofs.absent
 
 -- a file of proofs that was read whole is refused for a bad line alone
-pub refused_proofs : (shelf : Option Files) (name bytes : List ℕ) (r : Refusal) (plan : Plan) → HeldAs shelf name bytes → length bytes ≤ most_proof_bytes → RefusesProofs bytes r → PlansRefusedProofs r plan →
-    (source : List ℕ) (p : Program) (a : Asked) → a.verb ≡ Verify → a.proofs ≡ Some name → HasProgram shelf a source p → Answers shelf a plan.status plan.bytes.items
-refused_proofs shelf name bytes (refusals.Source error) plan held short refuses plans source p a verb named has = absurd refuses
-refused_proofs shelf name bytes (refusals.Proof line) plan held short refuses (status, printed) source p a verb named has =
-    rw (status, printed) (Answers.proofs_refused source name bytes p verb has named held short refuses)
-refused_proofs shelf name bytes (refusals.Limit limit) plan held short (long, is) plans source p a verb named has = absurd (omega (arith, short, long))
-refused_proofs shelf name bytes refusals.NoMemory plan held short refuses plans source p a verb named has = absurd plans
+pub refused_proofs : (source : List ℕ) (p : Program) (bytes : List ℕ) (r : Refusal) → length bytes ≤ most_proof_bytes → RefusesProofs bytes r → (plan : Plan) → PlansRefusedProofs r plan →
+    AnswersProofs source p (Some (whole bytes)) plan.status plan.bytes.items
+refused_proofs source p bytes (refusals.Source error) short refuses plan plans = absurd refuses
+refused_proofs source p bytes (refusals.Proof line) short refuses plan (status, printed) = rw (status, printed) (AnswersProofs.proofs_refused bytes refl short refuses)
+refused_proofs source p bytes (refusals.Limit limit) short (long, is) plan plans = absurd (omega (arith, short, long))
+refused_proofs source p bytes refusals.NoMemory short refuses plan plans = absurd plans
 
-pub refused_source : (shelf : Option Files) (a : Asked) (source : List ℕ) (error : SourceError) (bytes : List ℕ) → HeldAs shelf a.source source → length source ≤ most_bytes → IsRefused source error →
-    bytes ≡ source_error_line source error → Answers shelf a 3 bytes
-refused_source shelf a source error bytes held short refused b =
-    subst (λ (bs : List ℕ). Answers shelf a 3 bs) (sym b) (Answers.source_refused held short refused)
+pub long_proofs : (source : List ℕ) (p : Program) (o : Option Fetched) (n : ℕ) → o ≡ Some (longer n) → most_proof_bytes < n → (plan : Plan) → (plan.status ≡ 7) × (plan.bytes.items ≡ limit_line (proofs_limit n)) →
+    AnswersProofs source p o plan.status plan.bytes.items
+long_proofs source p o n e far plan (status, printed) = rw (status, printed) (AnswersProofs.proofs_long e far)
 
-pub past_limit : (shelf : Option Files) (a : Asked) (source : List ℕ) (limit : Limit) (bytes : List ℕ) → HeldAs shelf a.source source → length source ≤ most_bytes → IsPastLimit source limit →
-    bytes ≡ limit_line limit → Answers shelf a 7 bytes
-past_limit shelf a source limit bytes held short past b =
-    subst (λ (bs : List ℕ). Answers shelf a 7 bs) (sym b) (Answers.limit_passed held short past)
+-- ---- what was read
 
--- ---- proofs that are given, and what is reported of them
+pub are_within : (shelf : Option Files) (name : Option (List ℕ)) (r : Option ReadFile) → AreRead shelf name r → IsProofsWithin r
+are_within shelf name None read = tt
+are_within shelf None (Some r) read = absurd read
+are_within shelf (Some name) (Some r) read = read.within
 
-pub absent_proofs : (shelf : Option Files) (name : Option (List ℕ)) (ps : List Proof) → name ≡ None → ps ≡ [] → AreProofs shelf name ps
-absent_proofs shelf name ps e p = rw (e, p) AreProofs.absent
+pub whole_read : (shelf : Option Files) (name : List ℕ) (most : ℕ) (r : ReadFile) (f : Fetched) → IsRead shelf name most r → fetched r ≡ f → IsFetched shelf name most f
+whole_read shelf name most r f read e = subst (λ (x : Fetched). IsFetched shelf name most x) e read
 
-pub refused_answers : (shelf : Option Files) (a : Asked) (source : List ℕ) (p : Program) (g : Given) (plan : Plan) → a.verb ≡ Verify → GivesProofs shelf a.proofs g → g ≡ Refused plan →
-    HasProgram shelf a source p → Answers shelf a plan.status plan.bytes.items
-refused_answers shelf a source p g plan verb gives e has = (subst (λ (x : Given). GivesProofs shelf a.proofs x) e gives) source p a verb refl has
+pub program_has : (shelf : Option Files) (a : Asked) (source : List ℕ) (p : Program) → HeldAs shelf a.source (whole source) → IsProgramOf (whole source) source p → HasProgram shelf a source p
+program_has shelf a source p held is = record { held = held; short = is.short; prepared = is.prepared }
 
-pub reported_answers : (shelf : Option Files) (a : Asked) (source : List ℕ) (p : Program) (g : Given) (file : ProofFile) (ps : List Proof) (v : Verdict) (status : ℕ) (bytes : List ℕ) → a.verb ≡ Verify →
-    GivesProofs shelf a.proofs g → g ≡ Proofs file → ps ≡ file.proofs → IsVerdict ps p.bodies.bodies p.functions v → status ≡ status_of v → bytes ≡ report_of source v →
-    HasProgram shelf a source p → Answers shelf a status bytes
-reported_answers shelf a source p g file ps v status bytes verb gives is ps_is verdict status_is bytes_is has =
-    let at : AreProofs shelf a.proofs file.proofs = subst (λ (x : Given). GivesProofs shelf a.proofs x) is gives in
-    let are : AreProofs shelf a.proofs ps = subst (λ (xs : List Proof). AreProofs shelf a.proofs xs) (sym ps_is) at in
-    rw (status_is, bytes_is) (Answers.reported p ps verb has are verdict)
+-- the source is whole, and what it decides is answered
+pub source_answers : (shelf : Option Files) (a : Asked) (source : List ℕ) (plan : Plan) → length source ≤ most_bytes → HeldAs shelf a.source (whole source) → AnswersSource a.verb (whole source) plan.status plan.bytes.items →
+    Answers shelf a plan.status plan.bytes.items
+source_answers shelf a source plan short held answers = Answers.by_source (whole source) (record { held = held; within = short }) answers
 
-pub listed_answers : (shelf : Option Files) (a : Asked) (source : List ℕ) (p : Program) (plan : Plan) → a.verb ≡ Listing → (plan.status ≡ 0) × (plan.bytes.items ≡ list_text source p.functions) → HasProgram shelf a source p → Answers shelf a plan.status plan.bytes.items
-listed_answers shelf a source p plan verb (status, printed) has = rw (status, printed) (Answers.listed source p verb has)
+pub long_source : (shelf : Option Files) (a : Asked) (n : ℕ) (plan : Plan) → IsFetched shelf a.source most_bytes (longer n) → (plan.status ≡ 7) × (plan.bytes.items ≡ limit_line (source_limit n)) → Answers shelf a plan.status plan.bytes.items
+long_source shelf a n plan at (status, printed) = rw (status, printed) (Answers.by_source (longer n) at (AnswersSource.source_long refl at.within))
+
+-- ---- faults
+
+-- a failure that is handed on is that of the shelf, where what is answered is
+pub stop_is : {T : Type 0} (r : Result T Stop) (s t : Stop) → r ≡ Err s → s ≡ t → r ≡ Err ShelfFailed → t ≡ ShelfFailed
+stop_is r s t is same e = cc
+
+pub cannot_read_proofs : (shelf : Option Files) (before after : List ℕ → ℕ) (a : Asked) (source : List ℕ) (p : Program) → a.verb ≡ Verify → HasProgram shelf a source p
+    → ((n : List ℕ) × (a.proofs ≡ Some n) × Rose (before n) (after n)) → CannotRead shelf before after (Some a)
+cannot_read_proofs shelf before after a source p verb has (name, named, rose) = CannotRead.of_proofs source p name verb has named rose
+
+rose_before : (b m a : ℕ) → b ≤ m → Rose m a → Rose b a
+rose_before b m a below rose = omega arith
+
+-- what rose after a read has risen since before it
+pub later_fault : (shelf later : Option Files) (before mid after : List ℕ → ℕ) (a : Option Asked) → later ≡ shelf → NoneFalls before mid → CannotRead later mid after a → CannotRead shelf before after a
+later_fault shelf later before mid after _ same none (CannotRead.of_source {a} rose) = CannotRead.of_source (rose_before (before a.source) (mid a.source) (after a.source) (none a.source) rose)
+later_fault shelf later before mid after _ same none (CannotRead.of_proofs {a} source p name verb has named rose) =
+    CannotRead.of_proofs source p name verb (subst (λ (x : Option Files). HasProgram x a source p) same has) named (rose_before (before name) (mid name) (after name) (none name) rose)
 
 -- ---- what is listed is good
 
@@ -107,19 +143,27 @@ zero_at (x ∷ xs) e = absurd cc
 does_verb : (shelf : Option Files) (a : Asked) (result : ℕ) (before after : Option (List ℕ)) (v : Verb) → a.verb ≡ v → DoesVerb v shelf a result before after → DoesVerb a.verb shelf a result before after
 does_verb shelf a result before after v e does = subst (λ (u : Verb). DoesVerb u shelf a result before after) (sym e) does
 
-report : (shelf : Option Files) (a : Asked) (result : ℕ) (before after : Option (List ℕ)) {status : ℕ} {bytes : List ℕ} →
-    Answers shelf a status bytes → result ≡ status → Appends before after bytes → (result ≡ 0) ⊎ (result ≡ 1) → DoesVerb a.verb shelf a result before after
-report shelf a result before after (Answers.source_long long far) e added small = absurd (differs result 7 small (omega arith) e)
-report shelf a result before after (Answers.source_refused held short refused) e added small = absurd (differs result 3 small (omega arith) e)
-report shelf a result before after (Answers.limit_passed held short past) e added small = absurd (differs result 7 small (omega arith) e)
-report shelf a result before after (Answers.proofs_long source name p verb has named long far) e added small = absurd (differs result 7 small (omega arith) e)
-report shelf a result before after (Answers.proofs_refused source name bytes p verb has named held short bad) e added small = absurd (differs result 4 small (omega arith) e)
-report shelf a result before after (Answers.listed source p verb has) e added small =
-    does_verb shelf a result before after Listing verb (record { source = source; program = p; has = has; zero = e; printed = added })
-report shelf a result before after (Answers.reported {source = source} {v = v} p proofs verb has are verdict) e added small = does_verb shelf a result before after Verify verb (record {
+-- what an answer about the source alone says
+report_source : (shelf : Option Files) (a : Asked) (f : Fetched) (result : ℕ) (before after : Option (List ℕ)) {status : ℕ} {bytes : List ℕ} → IsFetched shelf a.source most_bytes f →
+    AnswersSource a.verb f status bytes → result ≡ status → Appends before after bytes → (result ≡ 0) ⊎ (result ≡ 1) → DoesVerb a.verb shelf a result before after
+report_source shelf a f result before after at (AnswersSource.source_long is far) e added small = absurd (differs result 7 small (omega arith) e)
+report_source shelf a f result before after at (AnswersSource.source_refused is short refused) e added small = absurd (differs result 3 small (omega arith) e)
+report_source shelf a f result before after at (AnswersSource.limit_passed is short past) e added small = absurd (differs result 7 small (omega arith) e)
+report_source shelf a f result before after at (AnswersSource.listed source p verb is) e added small =
+    let held : HeldAs shelf a.source (whole source) = subst (λ (x : Fetched). HeldAs shelf a.source x) is.is_whole at.held in
+    does_verb shelf a result before after Listing verb (record { source = source; program = p; has = record { held = held; short = is.short; prepared = is.prepared }; zero = e; printed = added })
+
+-- what an answer about the proofs says
+report_proofs : (shelf : Option Files) (a : Asked) (source : List ℕ) (p : Program) (o : Option Fetched) (result : ℕ) (before after : Option (List ℕ)) {status : ℕ} {bytes : List ℕ} → a.verb ≡ Verify →
+    HasProgram shelf a source p → AreFetched shelf a.proofs o → AnswersProofs source p o status bytes → result ≡ status → Appends before after bytes → (result ≡ 0) ⊎ (result ≡ 1) → DoesVerb a.verb shelf a result before after
+report_proofs shelf a source p o result before after verb has read (AnswersProofs.proofs_long is far) e added small = absurd (differs result 7 small (omega arith) e)
+report_proofs shelf a source p o result before after verb has read (AnswersProofs.proofs_refused bytes is short bad) e added small = absurd (differs result 4 small (omega arith) e)
+report_proofs shelf a source p o result before after verb has read (AnswersProofs.reported {v = v} proofs are verdict) e added small = does_verb shelf a result before after Verify verb (record {
   source = source;
   program = p;
   has = has;
+  read = o;
+  are_read = read;
   proofs = proofs;
   are_proofs = are;
   verdict = v;
@@ -135,6 +179,11 @@ report shelf a result before after (Answers.reported {source = source} {v = v} p
     complete : (result ≡ 0) ↔ Each (HasDerivation proofs) (obligations_in p.functions)
     complete = (λ zero_is. exactly.0 (none_left v.left result e zero_is), λ each. e ∙ zero_at v.left (exactly.1 each))
 
+report : (shelf : Option Files) (a : Asked) (result : ℕ) (before after : Option (List ℕ)) {status : ℕ} {bytes : List ℕ} →
+    Answers shelf a status bytes → result ≡ status → Appends before after bytes → (result ≡ 0) ⊎ (result ≡ 1) → DoesVerb a.verb shelf a result before after
+report shelf a result before after (Answers.by_source f at answers) e added small = report_source shelf a f result before after at answers e added small
+report shelf a result before after (Answers.by_proofs source p o verb has read answers) e added small = report_proofs shelf a source p o result before after verb has read answers e added small
+
 pub reports : (shelf : Option Files) (a : Option Asked) (status result : ℕ) (bytes : List ℕ) (before after : Option (List ℕ)) → AnswersWords shelf a status bytes →
     (result ≢ 6 → result ≢ 8 → (result ≡ status) × Appends before after bytes) → (result ≡ 0) ⊎ (result ≡ 1) → ReportsWords shelf a result before after
 reports shelf None status result bytes before after answers printed small =
@@ -143,3 +192,33 @@ reports shelf None status result bytes before after answers printed small =
 reports shelf (Some a) status result bytes before after answers printed small =
     let told = printed (differs result 6 small (omega arith)) (differs result 8 small (omega arith)) in
     report shelf a result before after answers told.0 told.1 small
+
+-- ---- no answer is a fault
+
+zero_or_one : (left : List LeftItem) (s : ℕ) → s ≡ (if length left == 0 then 0 else 1) → s ≤ 1
+zero_or_one [] s e = omega arith
+zero_or_one (x ∷ xs) s e =
+    let one : s ≡ 1 = e ∙ ap (λ (b : Bool). if b then 0 else 1) (some_left x xs) in
+    omega arith
+
+source_not_five : (verb : Verb) (f : Fetched) {s : ℕ} {bytes : List ℕ} → AnswersSource verb f s bytes → s ≡ 5 → ⊥
+source_not_five verb f (AnswersSource.source_long is far) e = omega arith
+source_not_five verb f (AnswersSource.source_refused is short refused) e = omega arith
+source_not_five verb f (AnswersSource.limit_passed is short past) e = omega arith
+source_not_five verb f (AnswersSource.listed source p v is) e = omega arith
+
+proofs_not_five : (source : List ℕ) (p : Program) (o : Option Fetched) {s : ℕ} {bytes : List ℕ} → AnswersProofs source p o s bytes → s ≡ 5 → ⊥
+proofs_not_five source p o (AnswersProofs.proofs_long is far) e = omega arith
+proofs_not_five source p o (AnswersProofs.proofs_refused bytes is short bad) e = omega arith
+proofs_not_five source p o (AnswersProofs.reported {v} proofs are verdict) e = omega (arith, zero_or_one v.left (status_of v) refl)
+
+not_five : (shelf : Option Files) (a : Option Asked) (s : ℕ) (bytes : List ℕ) → AnswersWords shelf a s bytes → s ≡ 5 → ⊥
+not_five shelf None s bytes answers e = omega (arith, answers.0)
+not_five shelf (Some a) s bytes (Answers.by_source f at answers) e = source_not_five a.verb f answers e
+not_five shelf (Some a) s bytes (Answers.by_proofs source p o verb has read answers) e = proofs_not_five source p o answers e
+
+pub never_five : (shelf : Option Files) (a : Option Asked) (planned result : ℕ) (told : List ℕ) (before after : Option (List ℕ)) → AnswersWords shelf a planned told →
+    (result ≢ 6 → result ≢ 8 → (result ≡ planned) × Appends before after told) → result ≡ 5 → ⊥
+never_five shelf a planned result told before after answers printed e =
+    let is = printed (λ six. omega arith) (λ eight. omega arith) in
+    not_five shelf a planned told answers (sym is.0 ∙ e)

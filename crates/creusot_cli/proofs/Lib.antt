@@ -1,2 +1,3 @@
 mod CallLaws
+mod OneAnswer
 mod OneCall

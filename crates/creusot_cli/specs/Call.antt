@@ -1,79 +1,79 @@
--- What a call of the program answers, and what it prints.
-use Rattle.std.specs.Prelude.{◌≡◌, ◌⊎◌, ◌↔◌, ℕ, ◌<◌, ◌≤◌, ◌==◌, true, List, [], length, Option, None, Some, slice_get, if◌then◌else◌}
+-- What a call of the program reads, answers and prints.
+use Rattle.std.specs.Prelude.{◌≡◌, ◌⊎◌, ◌↔◌, ℕ, ◌≤◌, true, List, length, Option, None, Some, slice_get}
 use Rattle.std.specs.Io.KnownBytes.{Appends}
-use Rattle.text_core.specs.declared.refusal.Limit.{Limit}
-use Rattle.text_core.specs.declared.refusal.LimitKind.TheVariants.{SourceBytes, ProofBytes}
-use Rattle.text_core.specs.declared.refusal.SourceError.{SourceError}
+use Rattle.std.specs.Option.{option_map}
 use Rattle.text_core.specs.Counts.{Rose}
 use Rattle.io_edge.specs.Shelf.{Files, WhereTold, Holds, HoldsLength}
 use Rattle.io_edge.specs.Sink.{AppendsPrefix}
 use Rattle.logic_term.specs.declared.obligation.Contract.{Contract}
 use Rattle.mir_machine.specs.Good.{Each, Good}
 use Rattle.proof_text.specs.declared.proof.Proof.{Proof}
-use Rattle.proof_text.specs.declared.proof.ProofFile.{ProofFile}
-use Rattle.proof_text.specs.ProofTextFile.{SpellsProofs, IsFirstBadLine}
 use Rattle.report_out.specs.declared.verdict.FnLine.{FnLine}
 use Rattle.report_out.specs.declared.verdict.Verdict.{Verdict}
-use Rattle.report_out.specs.Report.{report_of, source_error_line, proof_error_line, words_error_line, limit_line}
+use Rattle.report_out.specs.Report.{report_of, proof_error_line, limit_line, words_error_line}
 use Rattle.call_words.specs.Asked.{Asked}
 use Rattle.call_words.specs.declared.request.Verb.{Verb}
 use Rattle.call_words.specs.declared.request.Verb.TheVariants.{Verify, List as Listing}
+use Rattle.verify_core.specs.declared.fault.Refusal.{Refusal}
+use Rattle.verify_core.specs.declared.fault.Refusal.TheVariants as refusals
 use Rattle.verify_core.specs.declared.program.Program.{Program}
 use Rattle.verify_core.specs.Listing.{list_text}
 use Rattle.verify_core.specs.OnSource.{most_proof_bytes}
-use Rattle.verify_core.specs.Prepared.{IsPrepared, IsRefused, IsPastLimit, most_bytes}
+use Rattle.verify_core.specs.Prepared.{IsPrepared, most_bytes}
 use Rattle.verify_core.specs.Verdict.{no_types, HasDerivation, IsVerdict, obligations_in}
+use Rattle.creusot_cli.specs.Answer.{Fetched, whole, longer, IsWithin, IsProgramOf, AnswersSource, AreProofs, AnswersProofs}
 use Rattle.creusot_cli.specs.declared.verify.files.ReadFile.{ReadFile}
 use Rattle.creusot_cli.specs.declared.verify.files.ReadFile.TheVariants.{Whole, TooLong}
-use Rattle.verify_core.specs.declared.fault.Refusal.{Refusal}
-use Rattle.verify_core.specs.declared.fault.Refusal.TheVariants as refusals
-use Rattle.creusot_cli.specs.declared.verify.plan.Plan.{Plan}
-use Rattle.creusot_cli.specs.declared.verify.plan.Given.{Given}
-use Rattle.creusot_cli.specs.declared.verify.plan.Given.TheVariants.{Proofs, Refused}
+use Rattle.creusot_cli.specs.declared.verify.answer.Plan.{Plan}
+use Rattle.creusot_cli.specs.declared.verify.answer.Opened.{Opened}
+use Rattle.creusot_cli.specs.declared.verify.answer.Opened.TheVariants.{Answered, Accepted}
 
--- the name holds these bytes, or a file of this length, where that is told
-abbrev pub HeldAs : Option Files → List ℕ → List ℕ → Type 0
-HeldAs shelf name bytes = WhereTold shelf (Holds name bytes)
+-- ---- reading
 
-abbrev pub IsLong : Option Files → List ℕ → ℕ → Type 0
-IsLong shelf name n = WhereTold shelf (HoldsLength name n)
+abbrev pub fetched : ReadFile → Fetched
+fetched (Whole bytes) = whole bytes.items
+fetched (TooLong n) = longer n
 
--- ---- limits of files
+-- the name holds this, where it is told what it holds
+abbrev pub HeldAs : Option Files → List ℕ → Fetched → Type 0
+HeldAs shelf name (whole bytes) = WhereTold shelf (Holds name bytes)
+HeldAs shelf name (longer n) = WhereTold shelf (HoldsLength name n)
 
-abbrev pub source_limit : ℕ → Limit
-source_limit n = record { kind = SourceBytes; counted = n; bound = most_bytes }
+-- what a read of the name may give, of at most so many bytes
+pub record IsFetched (shelf : Option Files) (name : List ℕ) (most : ℕ) (f : Fetched) : Type 0 where
+  pub held : HeldAs shelf name f
+  pub within : IsWithin most f
 
-abbrev pub proofs_limit : ℕ → Limit
-proofs_limit n = record { kind = ProofBytes; counted = n; bound = most_proof_bytes }
+abbrev pub IsRead : Option Files → List ℕ → ℕ → ReadFile → Type 0
+IsRead shelf name most r = IsFetched shelf name most (fetched r)
 
--- ---- the proofs that the words name
+-- the file of proofs, where one is named
+abbrev pub AreFetched : Option Files → Option (List ℕ) → Option Fetched → Type 0
+AreFetched shelf None None = Unit {0}
+AreFetched shelf None (Some f) = ⊥
+AreFetched shelf (Some name) None = ⊥
+AreFetched shelf (Some name) (Some f) = IsFetched shelf name most_proof_bytes f
 
--- no proofs where no file is named
-pub data AreProofs (shelf : Option Files) : Option (List ℕ) → List Proof → Type 0 where
-  absent : AreProofs shelf None []
-  given : {name : List ℕ} {file : ProofFile} (bytes : List ℕ) → HeldAs shelf name bytes → length bytes ≤ most_proof_bytes → SpellsProofs [] bytes file → AreProofs shelf (Some name) file.proofs
+abbrev pub AreRead : Option Files → Option (List ℕ) → Option ReadFile → Type 0
+AreRead shelf name r = AreFetched shelf name (option_map fetched r)
+
+-- the file of proofs was read with its bound
+abbrev pub IsProofsWithin : Option ReadFile → Type 0
+IsProofsWithin None = Unit {0}
+IsProofsWithin (Some r) = IsWithin most_proof_bytes (fetched r)
 
 -- ---- answers
 
-abbrev pub status_of : Verdict → ℕ
-status_of v = if length v.left == 0 then 0 else 1
-
 -- the source is accepted, and this is its program
 pub record HasProgram (shelf : Option Files) (a : Asked) (source : List ℕ) (p : Program) : Type 0 where
-  pub held : HeldAs shelf a.source source
+  pub held : HeldAs shelf a.source (whole source)
   pub short : length source ≤ most_bytes
   pub prepared : IsPrepared source p
 
--- the status and the bytes printed for what is asked; a source is looked at before its proofs
-pub data Answers (shelf : Option Files) (a : Asked) : ℕ → List ℕ → Type 0 where
-  source_long : {n : ℕ} → IsLong shelf a.source n → most_bytes < n → Answers shelf a 7 (limit_line (source_limit n))
-  source_refused : {source : List ℕ} {error : SourceError} → HeldAs shelf a.source source → length source ≤ most_bytes → IsRefused source error → Answers shelf a 3 (source_error_line source error)
-  limit_passed : {source : List ℕ} {limit : Limit} → HeldAs shelf a.source source → length source ≤ most_bytes → IsPastLimit source limit → Answers shelf a 7 (limit_line limit)
-  listed : (source : List ℕ) (p : Program) → a.verb ≡ Listing → HasProgram shelf a source p → Answers shelf a 0 (list_text source p.functions)
-  proofs_long : {n : ℕ} (source name : List ℕ) (p : Program) → a.verb ≡ Verify → HasProgram shelf a source p → a.proofs ≡ Some name → IsLong shelf name n → most_proof_bytes < n → Answers shelf a 7 (limit_line (proofs_limit n))
-  proofs_refused : {line : ℕ} (source name bytes : List ℕ) (p : Program) → a.verb ≡ Verify → HasProgram shelf a source p → a.proofs ≡ Some name → HeldAs shelf name bytes → length bytes ≤ most_proof_bytes → IsFirstBadLine bytes line → Answers shelf a 4 (proof_error_line line)
-  reported : {source : List ℕ} {v : Verdict} (p : Program) (proofs : List Proof) → a.verb ≡ Verify
-      → HasProgram shelf a source p → AreProofs shelf a.proofs proofs → IsVerdict proofs p.bodies.bodies p.functions v → Answers shelf a (status_of v) (report_of source v)
+-- the status and the bytes printed for what is asked; the proofs are read where the source is accepted
+pub data Answers (shelf : Option Files) (a : Asked) (status : ℕ) (printed : List ℕ) : Type 0 where
+  by_source : (source : Fetched) → IsFetched shelf a.source most_bytes source → AnswersSource a.verb source status printed → Answers shelf a status printed
+  by_proofs : (source : List ℕ) (p : Program) (proofs : Option Fetched) → a.verb ≡ Verify → HasProgram shelf a source p → AreFetched shelf a.proofs proofs → AnswersProofs source p proofs status printed → Answers shelf a status printed
 
 -- the same where the words may ask for nothing
 abbrev pub AnswersWords : Option Files → Option Asked → ℕ → List ℕ → Type 0
@@ -88,8 +88,10 @@ pub record Reports (shelf : Option Files) (a : Asked) (status : ℕ) (before aft
   pub source : List ℕ
   pub program : Program
   pub has : HasProgram shelf a source program
+  pub read : Option Fetched
+  pub are_read : AreFetched shelf a.proofs read
   pub proofs : List Proof
-  pub are_proofs : AreProofs shelf a.proofs proofs
+  pub are_proofs : AreProofs read proofs
   pub verdict : Verdict
   pub is_verdict : IsVerdict proofs program.bodies.bodies program.functions verdict
   pub printed : Appends before after (report_of source verdict)
@@ -122,26 +124,17 @@ PrintsPart shelf a before after =
 
 -- ---- faults
 
--- one of the names in the words
-abbrev pub IsNamed : Option Asked → List ℕ → Type 0
-IsNamed None name = ⊥
-IsNamed (Some a) name = (a.source ≡ name) ⊎ (a.proofs ≡ Some name)
+-- the read faults of the source rose; or those of the file of proofs, where the source is accepted
+pub data CannotRead (shelf : Option Files) (before after : List ℕ → ℕ) : Option Asked → Type 0 where
+  of_source : {a : Asked} → Rose (before a.source) (after a.source) → CannotRead shelf before after (Some a)
+  of_proofs : {a : Asked} (source : List ℕ) (p : Program) (name : List ℕ) → a.verb ≡ Verify → HasProgram shelf a source p → a.proofs ≡ Some name → Rose (before name) (after name) → CannotRead shelf before after (Some a)
 
--- the read faults of a name in the words rose
-abbrev pub NamedRose : Option Asked → (List ℕ → ℕ) → (List ℕ → ℕ) → Type 0
-NamedRose a before after = (name : List ℕ) × IsNamed a name × Rose (before name) (after name)
+-- ---- parts of the code
 
--- ---- reading
-
--- what was read of the name, of at most so many bytes
-abbrev pub IsRead : Option Files → List ℕ → ℕ → ReadFile → Type 0
-IsRead shelf name most (Whole bytes) = HeldAs shelf name bytes.items × (length bytes.items ≤ most)
-IsRead shelf name most (TooLong n) = IsLong shelf name n × (most < n)
-
--- the proofs, or the status and the bytes that are printed for want of them
-abbrev pub GivesProofs : Option Files → Option (List ℕ) → Given → Type 0
-GivesProofs shelf name (Proofs file) = AreProofs shelf name file.proofs
-GivesProofs shelf name (Refused plan) = (source : List ℕ) (p : Program) (a : Asked) → a.verb ≡ Verify → a.proofs ≡ name → HasProgram shelf a source p → Answers shelf a plan.status plan.bytes.items
+-- what a source decides alone, or its program, which is to be verified
+abbrev pub Opens : Verb → List ℕ → Opened → Type 0
+Opens verb source (Answered plan) = AnswersSource verb (whole source) plan.status plan.bytes.items
+Opens verb source (Accepted p) = (verb ≡ Verify) × IsProgramOf (whole source) source p
 
 -- the status and the bytes that are printed where proofs are refused for the reason
 abbrev pub PlansRefusedProofs : Refusal → Plan → Type 0

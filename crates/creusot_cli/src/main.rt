@@ -1,6 +1,9 @@
 //! The program: `verify SOURCE --proofs FILE` prints which functions of a source are verified, and `list SOURCE` what is to be proved.
 #![tactic(auto)]
 
+ghost use Rattle.std.specs.Prelude.{◌≡◌};
+ghost use Rattle.std.specs.Process.{exit_status};
+
 mod verify;
 
 use io_edge::{FileShelf, StdSink};
@@ -26,11 +29,18 @@ fn words_or_none(rt: &HostRuntime) -> Vec<String> {
     }
 }
 
+/// The process ends with the status that is answered.
+fn exit_code(status: u8) -> ExitCode
+    ensures { exit_status result ≡ status }
+{
+    ExitCode::from(status)
+}
+
 fn main(rt: HostRuntime) -> io::Result<ExitCode> {
     let alloc = rt.alloc();
     let words = words_or_none(&rt);
     let mut shelf = FileShelf::new(rt.clone()?);
     let mut out = StdSink::new(rt);
     let status = creusot(alloc, words.as_slice(), &mut shelf, &mut out);
-    Ok(ExitCode::from(status))
+    Ok(exit_code(status))
 }

@@ -5,16 +5,25 @@ ghost use Rattle.text_core.specs.Counts.{Rose};
 ghost use Rattle.io_edge.specs.Faults.{NoneFalls};
 ghost use Rattle.io_edge.specs.Shelf.{Files};
 ghost use Rattle.io_edge.specs.Sink.{AppendsPrefix};
-ghost use Rattle.creusot_cli.specs.Call.{AnswersWords, ReportsWords, PrintsPart, NamedRose};
+ghost use Rattle.creusot_cli.specs.Call.{AnswersWords, ReportsWords, PrintsPart, CannotRead};
 ghost use Rattle.call_words.specs.Asked.{asked_of};
 
+mod answer;
+#[cfg(test)]
+mod device_tests;
 mod files;
+pub mod laws;
+#[cfg(test)]
+mod limit_tests;
 mod plan;
+#[cfg(test)]
+mod programs;
 #[cfg(test)]
 mod tests;
 
+use crate::verify::answer::Plan;
 use crate::verify::files::Stop;
-use crate::verify::plan::{Plan, plan_of};
+use crate::verify::plan::plan_of;
 use call_words::request_of;
 use io_edge::{Shelf, Sink, SinkError, write_all};
 use report_out::words_error;
@@ -24,7 +33,7 @@ use std::alloc::Global;
 fn plan_of_words<S: Shelf>(alloc: Global, words: &[String], shelf: &mut S) -> Result<Plan, Stop>
     ensures ok { IfOk result (λ p. AnswersWords (S.holds shelf.old) (asked_of (map string_bytes words.now)) p.status p.bytes.items) }
     ensures holds { S.holds shelf.new ≡ S.holds shelf.old }
-    ensures failed { result ≡ Err Stop.ShelfFailed → NamedRose (asked_of (map string_bytes words.now)) (S.read_faults shelf.old) (S.read_faults shelf.new) }
+    ensures failed { result ≡ Err Stop.ShelfFailed → CannotRead (S.holds shelf.old) (S.read_faults shelf.old) (S.read_faults shelf.new) (asked_of (map string_bytes words.now)) }
     ensures none_falls { NoneFalls (S.read_faults shelf.old) (S.read_faults shelf.new) }
     ensures no_write { S.write_faults shelf.new ≡ S.write_faults shelf.old }
 {
@@ -67,7 +76,7 @@ pub fn creusot<S: Shelf, K: Sink>(alloc: Global, words: &[String], shelf: &mut S
         → result ≢ 5 → result ≢ 6 → result ≢ 8 → (result ≡ status) × Appends (K.written out.old) (K.written out.new) bytes }
     // At every status what was printed is a front of what the table says.
     ensures part { PrintsPart (S.holds shelf.old) (asked_of (map string_bytes words.now)) (K.written out.old) (K.written out.new) }
-    ensures unread { result ≡ 5 → NamedRose (asked_of (map string_bytes words.now)) (S.read_faults shelf.old) (S.read_faults shelf.new) × (out.new ≡ out.old) }
+    ensures unread { result ≡ 5 → CannotRead (S.holds shelf.old) (S.read_faults shelf.old) (S.read_faults shelf.new) (asked_of (map string_bytes words.now)) × (out.new ≡ out.old) }
     ensures unwritten { result ≡ 6 → Rose (K.faults out.old) (K.faults out.new) }
     ensures holds { S.holds shelf.new ≡ S.holds shelf.old }
     ensures no_write { S.write_faults shelf.new ≡ S.write_faults shelf.old }

@@ -4,31 +4,32 @@ use std::alloc::Global;
 use std::collections::BTreeMap;
 use std::test::Fail;
 
-const SOURCE: &[u8] =
+pub(crate) const SOURCE: &[u8] =
     b"#[requires(x@ < 100)]\n#[ensures(result@ == x@ + 1)]\nfn inc(x: i32) -> i32 { x + 1 }\n";
 
-const PROOFS: &[u8] =
+pub(crate) const PROOFS: &[u8] =
     b"creusot-proofs 1\nproof 1 inc\nintro x\nrange x\nsplit\nlin 1:goal 1:2.1\nlin 1:goal 1:1.1\nend\nproof 2 inc\nintro x t\nhyp 1.2\nend\n";
 
-const REPORT: &[u8] = b"verified inc\nsummary functions 1 verified 1 obligations 2 proved 2\n";
+pub(crate) const REPORT: &[u8] =
+    b"verified inc\nsummary functions 1 verified 1 obligations 2 proved 2\n";
 
 /// The same function without its first line.
 const WITHOUT_BOUND: &[u8] = b"#[ensures(result@ == x@ + 1)]\nfn inc(x: i32) -> i32 { x + 1 }\n";
 
 /// A call: the files `s` and `p`, the words, and the calls of the shelf and of the sink that fail.
 #[derive(Clone, Copy, Drop)]
-struct Call<'a> {
-    source: &'a [u8],
-    proofs: &'a [u8],
-    words: &'a [&'a str],
-    failing_reads: &'a [u64],
-    most_each: u64,
-    failing_writes: &'a [u64],
+pub(crate) struct Call<'a> {
+    pub source: &'a [u8],
+    pub proofs: &'a [u8],
+    pub words: &'a [&'a str],
+    pub failing_reads: &'a [u64],
+    pub most_each: u64,
+    pub failing_writes: &'a [u64],
 }
 
 impl Call<'_> {
     /// `verify s --proofs p` with nothing failing.
-    fn of<'a>(source: &'a [u8], proofs: &'a [u8]) -> Call<'a> {
+    pub fn of<'a>(source: &'a [u8], proofs: &'a [u8]) -> Call<'a> {
         Call {
             source,
             proofs,
@@ -65,7 +66,7 @@ impl Call<'_> {
     }
 
     /// Whether the call answers this status and prints this.
-    fn gives(&self, alloc: Global, wanted: u8, printed: &[u8]) -> Result<bool, ShelfError> {
+    pub fn gives(&self, alloc: Global, wanted: u8, printed: &[u8]) -> Result<bool, ShelfError> {
         let (status, out) = self.run(alloc)?;
         Ok(status == wanted && out.written() == printed)
     }
@@ -261,7 +262,7 @@ fn callers_of_open_functions_are_not_verified(rt: HostRuntime) -> Result<(), Fai
     Ok(())
 }
 
-const INC: Call<'static> = Call {
+pub(crate) const INC: Call<'static> = Call {
     source: SOURCE,
     proofs: PROOFS,
     words: &["verify", "s", "--proofs", "p"],
@@ -269,111 +270,6 @@ const INC: Call<'static> = Call {
     most_each: 1000,
     failing_writes: &[],
 };
-
-/// Calls whose devices or words fail, with the status and what is printed.
-const FAILING: [(Call<'static>, u8, &[u8]); 11] = [
-    // A sink that takes one byte a call.
-    (
-        Call {
-            most_each: 1,
-            ..INC
-        },
-        0,
-        REPORT,
-    ),
-    // Each read fails, and each of the first writes.
-    (
-        Call {
-            failing_reads: &[1],
-            ..INC
-        },
-        5,
-        b"",
-    ),
-    (
-        Call {
-            failing_reads: &[2],
-            ..INC
-        },
-        5,
-        b"",
-    ),
-    (
-        Call {
-            failing_writes: &[1],
-            ..INC
-        },
-        6,
-        b"",
-    ),
-    (
-        Call {
-            most_each: 9,
-            failing_writes: &[2],
-            ..INC
-        },
-        6,
-        b"verified ",
-    ),
-    // A name that the shelf lacks, and words that are none.
-    (
-        Call {
-            words: &["verify", "t"],
-            ..INC
-        },
-        5,
-        b"",
-    ),
-    (
-        Call {
-            words: &["verify", "s", "--proofs", "q"],
-            ..INC
-        },
-        5,
-        b"",
-    ),
-    (Call { words: &[], ..INC }, 2, b"error words\n"),
-    (
-        Call {
-            words: &["list", "s", "--proofs", "p"],
-            ..INC
-        },
-        2,
-        b"error words\n",
-    ),
-    (
-        Call {
-            words: &["--proofs=p", "verify", "s"],
-            ..INC
-        },
-        0,
-        REPORT,
-    ),
-    (
-        Call {
-            words: &["verify", "s"],
-            ..INC
-        },
-        1,
-        b"open 1 overflow 78..79 line 3 missing inc\nopen 2 ensures 32..49 line 2 missing inc\nsummary functions 1 verified 0 obligations 2 proved 0\n",
-    ),
-];
-
-#[test]
-fn devices_fail_at_each_call(rt: HostRuntime) -> Result<(), Fail> {
-    for (at, (call, status, printed)) in FAILING.iter().enumerate() {
-        assert!(rt; call.gives(rt.alloc(), *status, printed)?, "row {at}");
-    }
-    Ok(())
-}
-
-#[test]
-fn a_long_source_is_past_its_limit(rt: HostRuntime) -> Result<(), Fail> {
-    let spaces = vec![in rt.alloc(); b' '; 1_048_577]?;
-    let call = Call::of(spaces.as_slice(), PROOFS);
-    assert!(rt; call.gives(rt.alloc(), 7, b"limit source-bytes 1048577 1048576\n")?);
-    Ok(())
-}
 
 /// What a call prints where the file of proofs ends before this byte.
 fn printed_at_cut(alloc: Global, at: usize) -> Result<String, ShelfError> {
@@ -409,93 +305,6 @@ fn cut_proof_files_are_refused(rt: HostRuntime) -> Result<(), Fail> {
             "cut at {at}"
         );
     }
-    Ok(())
-}
-
-/// The programs of `data/`, with their proofs.
-const PROGRAMS: [(&[u8], &[u8], &[u8]); 4] = [
-    (
-        b"// A counter that stays at 100.\n#[requires(c@ <= 100)]\n#[ensures(result@ <= 100)]\n#[ensures(result@ >= c@)]\nfn next(c: u8) -> u8 {\n    if c < 100 { c + 1 } else { c }\n}\n\n#[ensures(result@ <= 100)]\nfn twice() -> u8 {\n    let a = next(0);\n    next(a)\n}\n",
-        b"creusot-proofs 1\nproof 1 next\nintro c\nrange c\nsplit\nlin 1:goal 1:2.1\nlin 1:goal 1:1.2\nend\nproof 2 next\nintro c v\nlin 1:goal 1:1.3 1:1.2\nend\nproof 3 next\nintro c v\nlin 1:goal 1:-1.3\nend\nproof 4 next\nintro c\nhyp 1.1\nend\nproof 5 next\nintro c\nlin 1:goal\nend\nproof 1 twice\nlin 1:goal\nend\nproof 2 twice\nintro r\nhyp 1.1\nend\nproof 3 twice\nintro r s\nhyp 1.3\nend\n",
-        b"verified next\nverified twice\nsummary functions 2 verified 2 obligations 8 proved 8\n",
-    ),
-    (
-        b"// The greatest common divisor by subtraction; that both numbers stay positive is what is claimed.\n#[requires(a@ > 0)]\n#[requires(b@ > 0)]\n#[ensures(result@ > 0)]\nfn gcd(a: u32, b: u32) -> u32 {\n    let mut x = a;\n    let mut y = b;\n    #[invariant(x@ > 0)]\n    #[invariant(y@ > 0)]\n    while x != y {\n        if x < y {\n            y -= x;\n        } else if y < x {\n            x -= y;\n        }\n    }\n    x\n}\n",
-        b"creusot-proofs 1\nproof 1 gcd\nintro a b\nhyp 1.1\nend\nproof 2 gcd\nintro a b\nhyp 1.2\nend\n# y -= x\nproof 3 gcd\nintro a b x y\nrange x\nrange y\nsplit\nlin 1:goal 1:1.6\nlin 1:goal 1:3.2 1:2.1\nend\nproof 4 gcd\nintro a b x y v\nhyp 1.3\nend\nproof 5 gcd\nintro a b x y v\nlin 1:goal 1:-1.7 1:1.6\nend\n# x -= y\nproof 6 gcd\nintro a b x y\nrange x\nrange y\nsplit\nlin 1:goal 1:1.7\nlin 1:goal 1:2.2 1:3.1\nend\nproof 7 gcd\nintro a b x y v\nlin 1:goal 1:-1.8 1:1.7\nend\nproof 8 gcd\nintro a b x y v\nhyp 1.4\nend\n# Neither is less.\nproof 9 gcd\nintro a b x y\nhyp 1.3\nend\nproof 10 gcd\nintro a b x y\nhyp 1.4\nend\nproof 11 gcd\nintro a b x y\nhyp 1.3\nend\n",
-        b"verified gcd\nsummary functions 1 verified 1 obligations 11 proved 11\n",
-    ),
-    (
-        b"// The integer square root: takes the odd numbers away one after another.\n#[ensures(result@ <= n@)]\nfn isqrt(n: u32) -> u32 {\n    let mut r: u32 = 0;\n    let mut rest: u32 = n;\n    let mut odd: u32 = 1;\n    #[invariant(1 <= odd@)]\n    #[invariant(odd@ <= r@ + r@ + 1)]\n    #[invariant(rest@ + r@ <= n@)]\n    while odd <= rest {\n        rest -= odd;\n        odd += 2;\n        r += 1;\n    }\n    r\n}\n",
-        b"creusot-proofs 1\n# The invariants where the loop begins.\nproof 1 isqrt\nintro n\nlin 1:goal\nend\nproof 2 isqrt\nintro n\nlin 1:goal\nend\nproof 3 isqrt\nintro n\nlin 1:goal\nend\n# rest -= odd\nproof 4 isqrt\nintro n r s o\nrange s\nsplit\nlin 1:goal 1:1.4\nlin 1:goal 1:2.2 1:1.1\nend\n# odd += 2\nproof 5 isqrt\nintro n r s o v\nrange n\nsplit\nlin 1:goal 1:1.1\nlin 3:goal 1:1.2 2:1.3 2:1.4 2:2.2\nend\n# r += 1\nproof 6 isqrt\nintro n r s o v w\nrange r\nrange n\nsplit\nlin 1:goal 1:2.1\nlin 1:goal 1:1.3 1:3.2 1:1.4 1:1.1\nend\n# The invariants after a turn.\nproof 7 isqrt\nintro n r s o v w z\nlin 1:goal 1:-1.6 1:1.1\nend\nproof 8 isqrt\nintro n r s o v w z\nlin 1:goal 1:1.6 2:-1.7 1:1.2\nend\nproof 9 isqrt\nintro n r s o v w z\nlin 1:goal 1:1.5 1:1.7 1:1.3 1:1.1\nend\nproof 10 isqrt\nintro n r s o\nrange s\nlin 1:goal 1:1.3 1:2.1\nend\n",
-        b"verified isqrt\nsummary functions 1 verified 1 obligations 10 proved 10\n",
-    ),
-    (
-        b"#[requires(-1000 <= x@)]\n#[requires(x@ <= 1000)]\n#[ensures(result@ == x@ + x@)]\nfn double(x: i32) -> i32 {\n    x + x\n}\n",
-        b"creusot-proofs 1\nproof 1 double\nintro x\nsplit\nlin 1:goal 2:1.1\nlin 1:goal 2:1.2\nend\nproof 2 double\nintro x sum\nhyp 1.3\nend\n",
-        b"verified double\nsummary functions 1 verified 1 obligations 2 proved 2\n",
-    ),
-];
-
-#[test]
-fn small_programs_are_verified(rt: HostRuntime) -> Result<(), Fail> {
-    for (at, (source, proofs, printed)) in PROGRAMS.iter().enumerate() {
-        let call = Call::of(source, proofs);
-        assert!(rt; call.gives(rt.alloc(), 0, printed)?, "row {at}");
-    }
-    Ok(())
-}
-
-/// A text so many times, between two others.
-fn repeated(
-    alloc: Global,
-    before: &[u8],
-    text: &[u8],
-    count: usize,
-    after: &[u8],
-) -> Result<Vec<u8>, ShelfError> {
-    let mut bytes = Vec::from_slice(alloc, before)?;
-    for _turn in 0..count {
-        bytes.extend_from_slice(text)?;
-    }
-    bytes.extend_from_slice(after)?;
-    Ok(bytes)
-}
-
-/// One block, and three for each branch.
-fn many_blocks(alloc: Global) -> Result<Vec<u8>, ShelfError> {
-    repeated(alloc, b"fn f(a: bool) {", b" if a {}", 1_366, b" }")
-}
-
-/// Eleven branches one after another make 2,048 paths.
-fn many_paths(alloc: Global) -> Result<Vec<u8>, ShelfError> {
-    repeated(alloc, b"fn f(a: bool) {", b" if a {}", 11, b" }")
-}
-
-/// 1,024 paths with 977 quotients each.
-fn many_obligations(alloc: Global) -> Result<Vec<u8>, ShelfError> {
-    let branches = repeated(alloc, b"fn f(a: bool, x: u8) {", b" if a {}", 10, b"")?;
-    repeated(alloc, branches.as_slice(), b" 1 / x;", 977, b" }")
-}
-
-/// Whether the source is past a limit, and this is printed.
-fn is_past_limit(
-    alloc: Global,
-    source: Result<Vec<u8>, ShelfError>,
-    printed: &[u8],
-) -> Result<bool, ShelfError> {
-    let source = source?;
-    Call::of(source.as_slice(), b"").gives(alloc, 7, printed)
-}
-
-#[test]
-fn quantities_are_past_their_limits(rt: HostRuntime) -> Result<(), Fail> {
-    let alloc = rt.alloc();
-    let functions = repeated(alloc, b"", b"fn f() {} ", 4_097, b"");
-    assert!(rt; is_past_limit(alloc, functions, b"limit functions 4097 4096\n")?);
-    assert!(rt; is_past_limit(alloc, many_blocks(alloc), b"limit blocks 4097 4096\n")?);
-    assert!(rt; is_past_limit(alloc, many_paths(alloc), b"limit paths 1025 1024\n")?);
-    let obligations = many_obligations(alloc);
-    assert!(rt; is_past_limit(alloc, obligations, b"limit obligations 1000001 1000000\n")?);
     Ok(())
 }
 

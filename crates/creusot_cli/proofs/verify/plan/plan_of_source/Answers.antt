@@ -1,8 +1,11 @@
+use Rattle.std.proofs.Common.{subst}
 use Rattle.call_words.specs.Asked.{asked}
+use Rattle.creusot_cli.specs.declared.verify.answer.Opened.{Opened}
+use Rattle.creusot_cli.specs.Call.{Opens}
+use Rattle.creusot_cli.proofs.CallLaws.{source_answers}
 use Rattle.creusot_cli.proofs.verify.plan.plan_of_source.Goals as goal
 
-pub returns-in-Ok-clause-ok : goal.returns-in-Ok-clause-ok
-returns-in-Ok-clause-ok g c = λ held. c.plan_of_program.ensures.ok (record { held = held; short = c.requires.short; prepared = c.in-Ok.ensures.ok })
-
-pub returns-in-Err-clause-ok : goal.returns-in-Err-clause-ok
-returns-in-Err-clause-ok g c = λ held. c.plan_of_refusal.ensures.ok c.in-Err.ensures.refused (g.S.Shelf.holds c.args.shelf.now) (asked c.args.request) held
+pub returns-in-Answered-clause-ok : goal.returns-in-Answered-clause-ok
+returns-in-Answered-clause-ok g c =
+    source_answers (g.S.Shelf.holds c.args.shelf.now) (asked c.args.request) c.args.source.now c.in-Answered.plan c.requires.short c.requires.held
+    (subst (λ (o : Opened). Opens c.args.request.verb c.args.source.now o) c.in-Answered.is c.in_ok-plan.ensures)

@@ -1,15 +1,21 @@
+use Rattle.std.proofs.lemmas.Result.{err_from_is_err_and}
+use Rattle.std.proofs.Common.{◌≡◌, ◌∙◌, ap, Err}
+use Rattle.std.specs.Option.{option_map}
 use Rattle.call_words.specs.Asked.{asked}
-use Rattle.creusot_cli.proofs.CallLaws.{refused_answers, reported_answers}
+use Rattle.creusot_cli.specs.declared.verify.files.Stop.{Stop}
+use Rattle.creusot_cli.specs.declared.verify.files.Stop.TheVariants.{ShelfFailed}
+use Rattle.creusot_cli.specs.Call.{Answers, fetched}
+use Rattle.creusot_cli.proofs.CallLaws.{cannot_read_proofs, stop_is}
 use Rattle.creusot_cli.proofs.verify.plan.verified.Goals as goal
 
-pub returns-in-Refused-clause-ok : goal.returns-in-Refused-clause-ok
-returns-in-Refused-clause-ok g c = λ has.
-    refused_answers (g.S.Shelf.holds c.args.shelf.now) (asked c.args.request) c.args.source.now c.args.program.now c.in_ok-plan.field-0 c.in-Refused.plan
-    c.requires.verb c.in_ok-plan.ensures.gives c.in-Refused.is has
+pub returns-in_err-proofs-clause-failed : goal.returns-in_err-proofs-clause-failed
+returns-in_err-proofs-clause-failed g c = λ e.
+    let p = err_from_is_err_and c.from_residual.result c.from_residual.ensures.1 in
+    let stop : c.in_err-proofs.field-0.0 ≡ ShelfFailed = stop_is c.from_residual.result p.0 c.in_err-proofs.field-0.0 p.1 p.2 e in
+    let failed : c.read_proofs.result ≡ Err ShelfFailed = c.in_err-proofs.was ∙ ap (λ (s : Stop). Err s) stop in
+    cannot_read_proofs (g.S.Shelf.holds c.args.shelf.now) (g.S.Shelf.read_faults c.args.shelf.now) (g.S.Shelf.read_faults c.read_proofs.new.shelf) (asked c.args.request) c.args.source.now c.args.program.now
+    c.requires.verb c.requires.has (c.read_proofs.ensures.failed failed)
 
-pub returns-in_ok-reported-in-Proofs-clause-ok : goal.returns-in_ok-reported-in-Proofs-clause-ok
-returns-in_ok-reported-in-Proofs-clause-ok g c = λ has.
-    let made = c.in_ok-reported-in-Proofs.ensures in
-    reported_answers (g.S.Shelf.holds c.args.shelf.now) (asked c.args.request) c.args.source.now c.args.program.now c.in_ok-plan.field-0 c.in-Proofs.file c.as_slice.result.now
-    made.0 c.in_ok-reported-in-Proofs.field-0.status c.in_ok-reported-in-Proofs.field-0.bytes.items c.requires.verb
-    c.in_ok-plan.ensures.gives c.in-Proofs.is c.as_slice.ensures made.1 made.2 made.3 has
+pub returns-clause-ok : goal.returns-clause-ok
+returns-clause-ok g c =
+    Answers.by_proofs c.args.source.now c.args.program.now (option_map fetched c.in_ok-proofs.proofs) c.requires.verb c.requires.has c.in_ok-proofs.ensures.read c.in_ok-answer_on_proofs.ensures

@@ -1,0 +1,449 @@
+//! The programs of `data/`, but for those that other tests have, as the files are.
+use super::tests::Call;
+use std::test::Fail;
+
+/// A source, its proofs, and what is printed of them.
+type Example = (&'static [u8], &'static [u8], &'static [u8]);
+
+const ABS_DIFF: Example = (
+    b"// How far two numbers are apart.
+#[ensures(a@ < b@ ==> result@ == b@ - a@)]
+#[ensures(b@ <= a@ ==> result@ == a@ - b@)]
+fn abs_diff(a: u32, b: u32) -> u32 {
+    if a < b { b - a } else { a - b }
+}
+",
+    b"creusot-proofs 1
+# b - a
+proof 1 abs_diff
+intro a b
+range a
+range b
+split
+lin 1:goal 1:1.1
+lin 1:goal 1:3.2 1:2.1
+end
+proof 2 abs_diff
+intro a b d
+hyp 1.2
+end
+# Here a < b, and b <= a is no case of it.
+proof 3 abs_diff
+intro a b d
+lin 1:1.1 1:1.3
+end
+# a - b
+proof 4 abs_diff
+intro a b
+range a
+range b
+split
+lin 1:goal 1:1.1
+lin 1:goal 1:2.2 1:3.1
+end
+proof 5 abs_diff
+intro a b d
+lin 1:1.1 1:1.3
+end
+proof 6 abs_diff
+intro a b d
+hyp 1.2
+end
+",
+    b"verified abs_diff\nsummary functions 1 verified 1 obligations 6 proved 6\n",
+);
+
+const CLAMP: Example = (
+    b"// A number moved to the nearest within bounds.
+#[requires(low@ <= high@)]
+#[ensures(low@ <= result@)]
+#[ensures(result@ <= high@)]
+#[ensures(x@ <= low@ ==> result@ <= low@)]
+#[ensures(high@ <= x@ ==> high@ <= result@)]
+#[ensures(low@ <= x@ ==> x@ <= high@ ==> result@ <= x@)]
+#[ensures(low@ <= x@ ==> x@ <= high@ ==> x@ <= result@)]
+fn clamp(x: i32, low: i32, high: i32) -> i32 {
+    if x < low {
+        low
+    } else if high < x {
+        high
+    } else {
+        x
+    }
+}
+",
+    b"creusot-proofs 1
+# x is below both bounds.
+proof 1 clamp
+intro x l h
+lin 1:goal
+end
+proof 2 clamp
+intro x l h
+hyp 1.1
+end
+proof 3 clamp
+intro x l h
+lin 1:goal
+end
+proof 4 clamp
+intro x l h
+lin 1:goal 1:1.3 1:1.2
+end
+proof 5 clamp
+intro x l h
+hyp 1.3
+end
+proof 6 clamp
+intro x l h
+lin 1:goal 1:1.2
+end
+# x is above both bounds.
+proof 7 clamp
+intro x l h
+hyp 1.1
+end
+proof 8 clamp
+intro x l h
+lin 1:goal
+end
+proof 9 clamp
+intro x l h
+lin 1:goal 1:1.3 1:1.4
+end
+proof 10 clamp
+intro x l h
+lin 1:goal
+end
+proof 11 clamp
+intro x l h
+lin 1:goal 1:1.3
+end
+proof 12 clamp
+intro x l h
+hyp 1.5
+end
+# x is within.
+proof 13 clamp
+intro x l h
+lin 1:goal 1:1.2
+end
+proof 14 clamp
+intro x l h
+lin 1:goal 1:1.3
+end
+proof 15 clamp
+intro x l h
+hyp 1.4
+end
+proof 16 clamp
+intro x l h
+hyp 1.4
+end
+proof 17 clamp
+intro x l h
+lin 1:goal
+end
+proof 18 clamp
+intro x l h
+lin 1:goal
+end
+",
+    b"verified clamp\nsummary functions 1 verified 1 obligations 18 proved 18\n",
+);
+
+const COUNTER: Example = (
+    b"// A counter that stays at 100.
+#[requires(c@ <= 100)]
+#[ensures(result@ <= 100)]
+#[ensures(result@ >= c@)]
+fn next(c: u8) -> u8 {
+    if c < 100 { c + 1 } else { c }
+}
+
+#[ensures(result@ <= 100)]
+fn twice() -> u8 {
+    let a = next(0);
+    next(a)
+}
+",
+    b"creusot-proofs 1
+proof 1 next
+intro c
+range c
+split
+lin 1:goal 1:2.1
+lin 1:goal 1:1.2
+end
+proof 2 next
+intro c v
+lin 1:goal 1:1.3 1:1.2
+end
+proof 3 next
+intro c v
+lin 1:goal 1:-1.3
+end
+proof 4 next
+intro c
+hyp 1.1
+end
+proof 5 next
+intro c
+lin 1:goal
+end
+proof 1 twice
+lin 1:goal
+end
+proof 2 twice
+intro r
+hyp 1.1
+end
+proof 3 twice
+intro r s
+hyp 1.3
+end
+",
+    b"verified next\nverified twice\nsummary functions 2 verified 2 obligations 8 proved 8\n",
+);
+
+const DOUBLE: Example = (
+    b"#[requires(-1000 <= x@)]
+#[requires(x@ <= 1000)]
+#[ensures(result@ == x@ + x@)]
+fn double(x: i32) -> i32 {
+    x + x
+}
+",
+    b"creusot-proofs 1
+proof 1 double
+intro x
+split
+lin 1:goal 2:1.1
+lin 1:goal 2:1.2
+end
+proof 2 double
+intro x sum
+hyp 1.3
+end
+",
+    b"verified double\nsummary functions 1 verified 1 obligations 2 proved 2\n",
+);
+
+const GCD: Example = (
+    b"// The greatest common divisor by subtraction; that both numbers stay positive is what is claimed.
+#[requires(a@ > 0)]
+#[requires(b@ > 0)]
+#[ensures(result@ > 0)]
+fn gcd(a: u32, b: u32) -> u32 {
+    let mut x = a;
+    let mut y = b;
+    #[invariant(x@ > 0)]
+    #[invariant(y@ > 0)]
+    while x != y {
+        if x < y {
+            y -= x;
+        } else if y < x {
+            x -= y;
+        }
+    }
+    x
+}
+",
+    b"creusot-proofs 1
+proof 1 gcd
+intro a b
+hyp 1.1
+end
+proof 2 gcd
+intro a b
+hyp 1.2
+end
+# y -= x
+proof 3 gcd
+intro a b x y
+range x
+range y
+split
+lin 1:goal 1:1.6
+lin 1:goal 1:3.2 1:2.1
+end
+proof 4 gcd
+intro a b x y v
+hyp 1.3
+end
+proof 5 gcd
+intro a b x y v
+lin 1:goal 1:-1.7 1:1.6
+end
+# x -= y
+proof 6 gcd
+intro a b x y
+range x
+range y
+split
+lin 1:goal 1:1.7
+lin 1:goal 1:2.2 1:3.1
+end
+proof 7 gcd
+intro a b x y v
+lin 1:goal 1:-1.8 1:1.7
+end
+proof 8 gcd
+intro a b x y v
+hyp 1.4
+end
+# Neither is less.
+proof 9 gcd
+intro a b x y
+hyp 1.3
+end
+proof 10 gcd
+intro a b x y
+hyp 1.4
+end
+proof 11 gcd
+intro a b x y
+hyp 1.3
+end
+",
+    b"verified gcd\nsummary functions 1 verified 1 obligations 11 proved 11\n",
+);
+
+const ISQRT: Example = (
+    b"// The integer square root: takes the odd numbers away one after another.
+#[ensures(result@ <= n@)]
+fn isqrt(n: u32) -> u32 {
+    let mut r: u32 = 0;
+    let mut rest: u32 = n;
+    let mut odd: u32 = 1;
+    #[invariant(1 <= odd@)]
+    #[invariant(odd@ <= r@ + r@ + 1)]
+    #[invariant(rest@ + r@ <= n@)]
+    while odd <= rest {
+        rest -= odd;
+        odd += 2;
+        r += 1;
+    }
+    r
+}
+",
+    b"creusot-proofs 1
+# The invariants where the loop begins.
+proof 1 isqrt
+intro n
+lin 1:goal
+end
+proof 2 isqrt
+intro n
+lin 1:goal
+end
+proof 3 isqrt
+intro n
+lin 1:goal
+end
+# rest -= odd
+proof 4 isqrt
+intro n r s o
+range s
+split
+lin 1:goal 1:1.4
+lin 1:goal 1:2.2 1:1.1
+end
+# odd += 2
+proof 5 isqrt
+intro n r s o v
+range n
+split
+lin 1:goal 1:1.1
+lin 3:goal 1:1.2 2:1.3 2:1.4 2:2.2
+end
+# r += 1
+proof 6 isqrt
+intro n r s o v w
+range r
+range n
+split
+lin 1:goal 1:2.1
+lin 1:goal 1:1.3 1:3.2 1:1.4 1:1.1
+end
+# The invariants after a turn.
+proof 7 isqrt
+intro n r s o v w z
+lin 1:goal 1:-1.6 1:1.1
+end
+proof 8 isqrt
+intro n r s o v w z
+lin 1:goal 1:1.6 2:-1.7 1:1.2
+end
+proof 9 isqrt
+intro n r s o v w z
+lin 1:goal 1:1.5 1:1.7 1:1.3 1:1.1
+end
+proof 10 isqrt
+intro n r s o
+range s
+lin 1:goal 1:1.3 1:2.1
+end
+",
+    b"verified isqrt\nsummary functions 1 verified 1 obligations 10 proved 10\n",
+);
+
+const MAX: Example = (
+    b"// The larger of two numbers.
+#[ensures(a@ <= result@)]
+#[ensures(b@ <= result@)]
+#[ensures(a@ <= b@ ==> result@ <= b@)]
+#[ensures(b@ <= a@ ==> result@ <= a@)]
+fn max(a: i32, b: i32) -> i32 {
+    if a < b { b } else { a }
+}
+",
+    b"creusot-proofs 1
+# b is the larger one.
+proof 1 max
+intro a b
+lin 1:goal 1:1.1
+end
+proof 2 max
+intro a b
+lin 1:goal
+end
+proof 3 max
+intro a b
+lin 1:goal
+end
+proof 4 max
+intro a b
+hyp 1.2
+end
+# a is at least as large.
+proof 5 max
+intro a b
+lin 1:goal
+end
+proof 6 max
+intro a b
+lin 1:goal 1:1.1
+end
+proof 7 max
+intro a b
+hyp 1.2
+end
+proof 8 max
+intro a b
+lin 1:goal
+end
+",
+    b"verified max\nsummary functions 1 verified 1 obligations 8 proved 8\n",
+);
+
+const EXAMPLES: [Example; 7] = [ABS_DIFF, CLAMP, COUNTER, DOUBLE, GCD, ISQRT, MAX];
+
+#[test]
+fn small_programs_are_verified(rt: HostRuntime) -> Result<(), Fail> {
+    for (at, (source, proofs, printed)) in EXAMPLES.iter().enumerate() {
+        let call = Call::of(source, proofs);
+        assert!(rt; call.gives(rt.alloc(), 0, printed)?, "row {at}");
+    }
+    Ok(())
+}
