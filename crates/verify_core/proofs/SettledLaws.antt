@@ -38,13 +38,13 @@ proof_is_accepted o steps proof =
 
 -- ---- obligations
 
-settled_derives : (ps : List Proof) (o : Obligation) → Settles ps o None → HasDerivation ps o
+pub settled_derives : (ps : List Proof) (o : Obligation) → Settles ps o None → HasDerivation ps o
 settled_derives ps o (Settles.proved {p = p} found accepted) = record { proof = p; is_for_it = found; derives = accepted_is_proof o p.steps accepted }
 
 some_proof : (p q : Proof) → Some p ≡ Some q → p ≡ q
 some_proof p q e = cc
 
-left_underived : (ps : List Proof) (o : Obligation) (r : Reason) → Settles ps o (Some r) → HasDerivation ps o → ⊥
+pub left_underived : (ps : List Proof) (o : Obligation) (r : Reason) → Settles ps o (Some r) → HasDerivation ps o → ⊥
 left_underived ps o r (Settles.missing none) has = absurd (let e : None ≡ Some has.proof = sym none ∙ has.is_for_it in cc)
 left_underived ps o r (Settles.refused {p = p} {line = line} found refused) has =
     let same : has.proof ≡ p = some_proof has.proof p (sym has.is_for_it ∙ found) in

@@ -1,5 +1,5 @@
 -- What there is one of: the answer about a source, the obligations of functions, the count of paths, and the verdict.
-use Rattle.std.specs.Prelude.{◌≡◌, ℕ, ◌<◌, ◌≤◌, List, ◌++◌, length}
+use Rattle.std.specs.Prelude.{◌≡◌, ℕ, ◌<◌, ◌≤◌, Some, None, List, ◌++◌, length}
 use Rattle.logic_term.specs.declared.obligation.Contract.{Contract}
 use Rattle.logic_term.specs.declared.obligation.Obligation.{Obligation}
 use Rattle.mir_ir.specs.declared.body.Body.{Body}
@@ -12,6 +12,7 @@ use Rattle.mir_machine.specs.Tree.{Tree}
 use Rattle.mir_machine.specs.Typed.{Met}
 use Rattle.proof_text.specs.declared.proof.NumberedStep.{NumberedStep}
 use Rattle.proof_text.specs.declared.proof.Proof.{Proof}
+use Rattle.report_out.specs.declared.verdict.Reason.{Reason}
 use Rattle.report_out.specs.declared.verdict.Verdict.{Verdict}
 use Rattle.wp_gen.specs.Walk.{Setting, AreObligations}
 use Rattle.verify_core.specs.declared.goals.FunctionGoals.{FunctionGoals}
@@ -19,7 +20,7 @@ use Rattle.text_core.specs.declared.refusal.Limit.{Limit}
 use Rattle.text_core.specs.declared.refusal.SourceError.{SourceError}
 use Rattle.verify_core.specs.declared.program.Program.{Program}
 use Rattle.verify_core.specs.Prepared.{HaveGoals, HaveFewPaths, HasManyPaths, IsPrepared, IsRefused, IsPastLimit, most_bytes, most_obligations}
-use Rattle.verify_core.specs.Verdict.{IsAccepted, IsRefusedAt, IsVerdict, obligations_in}
+use Rattle.verify_core.specs.Verdict.{IsAccepted, IsRefusedAt, IsVerdict, Settles, HasDerivation, obligations_in}
 
 -- ---- obligations
 
@@ -94,6 +95,15 @@ AcceptedIsWithinLimits = (source : List ℕ) (p : Program) (limit : Limit) → l
 
 abbrev pub RefusedIsWithinLimits : Type 0
 RefusedIsWithinLimits = (source : List ℕ) (error : SourceError) (limit : Limit) → length source ≤ most_bytes → IsRefused source error → IsPastLimit source limit → ⊥
+
+-- ---- each obligation
+
+-- an obligation that is settled as proved has a derivation among the proofs, and one that is left, for whatever reason, has none
+abbrev pub SettledHasDerivation : Type 0
+SettledHasDerivation = (ps : List Proof) (o : Obligation) → Settles ps o None → HasDerivation ps o
+
+abbrev pub LeftHasNoDerivation : Type 0
+LeftHasNoDerivation = (ps : List Proof) (o : Obligation) (reason : Reason) → Settles ps o (Some reason) → HasDerivation ps o → ⊥
 
 -- ---- runs
 

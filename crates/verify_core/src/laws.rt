@@ -1,5 +1,5 @@
 //! Laws of what there is one of. Nothing here computes.
-ghost use Rattle.verify_core.specs.Laws.{AcceptedIsNeverStuck, AcceptedIsNotRefused, AcceptedIsWithinLimits, FewerAreFront, FewerHaveFewer, FewObligationsAreNotMany, FewPathsAreNotMany, GoalsAreOfBodies, GoalsAreOne, LimitIsOne, ObligationsAreOne, ProgramIsOne, RefusalIsOne, RefusedAtOneLine, RefusedIsNotAccepted, RefusedIsWithinLimits, VerdictIsOne};
+ghost use Rattle.verify_core.specs.Laws.{AcceptedIsNeverStuck, AcceptedIsNotRefused, AcceptedIsWithinLimits, FewerAreFront, FewerHaveFewer, FewObligationsAreNotMany, FewPathsAreNotMany, GoalsAreOfBodies, GoalsAreOne, LeftHasNoDerivation, LimitIsOne, ObligationsAreOne, ProgramIsOne, RefusalIsOne, RefusedAtOneLine, RefusedIsNotAccepted, RefusedIsWithinLimits, SettledHasDerivation, VerdictIsOne};
 
 /// A body with its contract has one list of obligations, and one number of paths.
 pub fn obligations_are_of_one_walk()
@@ -33,6 +33,13 @@ pub fn refusals_are_at_one_line()
 /// The functions of a program have one verdict by the proofs of a file.
 pub fn a_verdict_is_one()
     ensures { VerdictIsOne }
+{}
+
+/// The verdict is complete obligation by obligation: one that is settled as proved has a derivation among the proofs, and one
+/// that is left has none.
+pub fn each_obligation_is_settled_rightly()
+    ensures proved { SettledHasDerivation }
+    ensures left { LeftHasNoDerivation }
 {}
 
 /// A source is accepted with one program, or refused with one code and place, or past one limit, and only one of these. Limits

@@ -18,8 +18,8 @@ pub use fault::Refusal;
 pub use goals::FunctionGoals;
 pub use laws::{
     a_source_has_one_answer, a_verdict_is_one, accepted_sources_never_get_stuck,
-    functions_have_one_list_of_goals, obligations_are_counted, obligations_are_of_one_walk,
-    paths_are_counted, refusals_are_at_one_line,
+    each_obligation_is_settled_rightly, functions_have_one_list_of_goals, obligations_are_counted,
+    obligations_are_of_one_walk, paths_are_counted, refusals_are_at_one_line,
 };
 pub use listing::list;
 pub use preparing::{SOURCE_BYTES, prepare};
