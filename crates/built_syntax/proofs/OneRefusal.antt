@@ -7,7 +7,7 @@ use Rattle.text_core.specs.declared.refusal.SourceError.{SourceError}
 use Rattle.rs_tokens.specs.declared.token.Token.{Token}
 use Rattle.rs_tokens.proofs.OneReading.{one_list as one_token_list}
 use Rattle.text_core.specs.declared.fault.PassError.TheVariants as P
-use Rattle.rs_syntax.specs.declared.item.Item.{Item}
+use Rattle.source_trees.specs.declared.item.Item.{Item}
 use Rattle.rs_syntax.proofs.Whole.{no_items, one_error as one_items_error, one_list, not_many as not_many_items}
 use Rattle.built_trees.specs.declared.function.Function.{Function}
 use Rattle.built_syntax.specs.BuiltItems.{built_items}

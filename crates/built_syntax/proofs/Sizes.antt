@@ -1,8 +1,8 @@
 -- The parts of lists of expressions and statements are smaller than these, and what is built of them part by part.
 use Rattle.std.proofs.Common.{◌≡◌, ℕ, zero, suc, ◌<◌, List, [], ◌∷◌, length, get_or, arith, refl, ap, Result}
-use Rattle.rs_syntax.specs.declared.expr.Stmt.{Stmt}
-use Rattle.rs_syntax.specs.Expr.{Expr}
-use Rattle.rs_syntax.specs.ExprView.{expr_size, exprs_size, stmts_size, exprs_of, stmts_of}
+use Rattle.source_trees.specs.declared.expr.Stmt.{Stmt}
+use Rattle.source_trees.specs.Expr.{Expr}
+use Rattle.source_trees.specs.ExprView.{expr_size, exprs_size, stmts_size, exprs_of, stmts_of}
 use Rattle.built_trees.specs.declared.expr.Stmt.{Stmt as BuiltStmt}
 use Rattle.built_syntax.specs.Built.{each}
 use Rattle.built_syntax.specs.BuiltExprs.{built_expr, built_exprs, built_stmts, stmt_by}

@@ -7,10 +7,10 @@ use Rattle.text_core.specs.Names.{words, HaveOnePlace}
 use Rattle.text_core.specs.declared.fault.PassError.{PassError}
 use Rattle.text_core.specs.declared.fault.PassError.TheVariants as P
 use Rattle.source_words.specs.Words.{IsWordError}
-use Rattle.rs_syntax.specs.declared.attribute.Attribute.{Attribute}
-use Rattle.rs_syntax.specs.declared.item.Item.{Item}
-use Rattle.rs_syntax.specs.declared.item.ItemNode.{ItemNode}
-use Rattle.rs_syntax.specs.declared.item.ItemNode.TheVariants as I
+use Rattle.source_trees.specs.declared.attribute.Attribute.{Attribute}
+use Rattle.source_trees.specs.declared.item.Item.{Item}
+use Rattle.source_trees.specs.declared.item.ItemNode.{ItemNode}
+use Rattle.source_trees.specs.declared.item.ItemNode.TheVariants as I
 use Rattle.rs_syntax.specs.Parsed.{SpellsItems, functions_of, functions_among, IsParseError as IsItemsError, SpellsNone as SpellsNoItems}
 use Rattle.rs_syntax.proofs.Whole.{one_list, error_of_words, none_spelled}
 use Rattle.built_trees.specs.declared.function.Function.{Function}

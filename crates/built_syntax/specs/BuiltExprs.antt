@@ -1,18 +1,18 @@
 -- Expressions and statements that are built (Rust Reference, "Expressions", "Statements", "Attributes").
 use Rattle.std.specs.Prelude.{true, false, List, [], ◌∷◌, Option, Some, None, Result, Ok, ℕ}
 use Rattle.text_core.specs.declared.span.Span.{Span}
-use Rattle.pearlite.specs.declared.path.Segment.{Segment}
-use Rattle.pearlite.specs.Pat as P
-use Rattle.pearlite.specs.Pat.{Pat}
-use Rattle.pearlite.specs.TypeTree.{TypeTree}
-use Rattle.rs_syntax.specs.declared.attribute.Attribute.{Attribute}
-use Rattle.rs_syntax.specs.declared.attribute.AttributeNode.{AttributeNode}
-use Rattle.rs_syntax.specs.declared.attribute.AttributeNode.TheVariants as A
-use Rattle.rs_syntax.specs.declared.attribute.ClauseKind.TheVariants.{Requires, Ensures, Invariant, Variant}
-use Rattle.rs_syntax.specs.declared.operator.UnaryOp.TheVariants.{Neg, Not, Deref}
-use Rattle.rs_syntax.specs.declared.statement.StmtKind.{StmtKind as WrittenKind}
-use Rattle.rs_syntax.specs.declared.statement.StmtKind.TheVariants as W
-use Rattle.rs_syntax.specs.Expr as E
+use Rattle.source_trees.specs.declared.path.Segment.{Segment}
+use Rattle.source_trees.specs.Pat as P
+use Rattle.source_trees.specs.Pat.{Pat}
+use Rattle.source_trees.specs.TypeTree.{TypeTree}
+use Rattle.source_trees.specs.declared.attribute.Attribute.{Attribute}
+use Rattle.source_trees.specs.declared.attribute.AttributeNode.{AttributeNode}
+use Rattle.source_trees.specs.declared.attribute.AttributeNode.TheVariants as A
+use Rattle.source_trees.specs.declared.attribute.ClauseKind.TheVariants.{Requires, Ensures, Invariant, Variant}
+use Rattle.source_trees.specs.declared.operator.UnaryOp.TheVariants.{Neg, Not, Deref}
+use Rattle.source_trees.specs.declared.statement.StmtKind.{StmtKind as WrittenKind}
+use Rattle.source_trees.specs.declared.statement.StmtKind.TheVariants as W
+use Rattle.source_trees.specs.Expr as E
 use Rattle.built_trees.specs.declared.binding.Binding.{Binding}
 use Rattle.built_trees.specs.declared.binding.StmtKind.{StmtKind}
 use Rattle.built_trees.specs.declared.binding.StmtKind.TheVariants as K

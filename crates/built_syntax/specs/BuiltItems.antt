@@ -2,19 +2,19 @@
 -- nothing, and neither do attributes that say nothing of what a program does.
 use Rattle.std.specs.Prelude.{List, [], ◌∷◌, Option, Some, None, Result, Ok, ℕ}
 use Rattle.text_core.specs.declared.span.Span.{Span}
-use Rattle.rs_syntax.specs.declared.attribute.Attribute.{Attribute}
-use Rattle.rs_syntax.specs.declared.attribute.AttributeNode.{AttributeNode}
-use Rattle.rs_syntax.specs.declared.attribute.AttributeNode.TheVariants as A
-use Rattle.rs_syntax.specs.declared.attribute.ClauseKind.TheVariants.{Requires, Ensures, Invariant, Variant}
-use Rattle.rs_syntax.specs.declared.item.Body.{Body}
-use Rattle.rs_syntax.specs.declared.item.Body.TheVariants as D
-use Rattle.rs_syntax.specs.declared.item.Function.{Function as WrittenFunction}
-use Rattle.rs_syntax.specs.declared.item.Item.{Item}
-use Rattle.rs_syntax.specs.declared.item.ItemNode.{ItemNode}
-use Rattle.rs_syntax.specs.declared.item.ItemNode.TheVariants as I
-use Rattle.rs_syntax.specs.declared.param.Param.{Param as WrittenParam}
-use Rattle.rs_syntax.specs.declared.param.ParamNode.{ParamNode}
-use Rattle.rs_syntax.specs.declared.param.ParamNode.TheVariants as P
+use Rattle.source_trees.specs.declared.attribute.Attribute.{Attribute}
+use Rattle.source_trees.specs.declared.attribute.AttributeNode.{AttributeNode}
+use Rattle.source_trees.specs.declared.attribute.AttributeNode.TheVariants as A
+use Rattle.source_trees.specs.declared.attribute.ClauseKind.TheVariants.{Requires, Ensures, Invariant, Variant}
+use Rattle.source_trees.specs.declared.item.Body.{Body}
+use Rattle.source_trees.specs.declared.item.Body.TheVariants as D
+use Rattle.source_trees.specs.declared.item.Function.{Function as WrittenFunction}
+use Rattle.source_trees.specs.declared.item.Item.{Item}
+use Rattle.source_trees.specs.declared.item.ItemNode.{ItemNode}
+use Rattle.source_trees.specs.declared.item.ItemNode.TheVariants as I
+use Rattle.source_trees.specs.declared.param.Param.{Param as WrittenParam}
+use Rattle.source_trees.specs.declared.param.ParamNode.{ParamNode}
+use Rattle.source_trees.specs.declared.param.ParamNode.TheVariants as P
 use Rattle.built_trees.specs.declared.function.Clause.{Clause}
 use Rattle.built_trees.specs.declared.function.ClauseKind.TheVariants as C
 use Rattle.built_trees.specs.declared.function.Function.{Function}

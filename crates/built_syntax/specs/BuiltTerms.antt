@@ -5,14 +5,14 @@ use Rattle.text_core.specs.declared.span.Span.{Span}
 use Rattle.logic_term.specs.declared.kinds.IntKind.{IntKind}
 use Rattle.logic_term.specs.declared.kinds.IntKind.TheVariants.{I8, I16, I32, I64, Isize, U8, U16, U32, U64, Usize}
 use Rattle.logic_term.specs.Ty.{Ty, int, bool}
-use Rattle.pearlite.specs.declared.operator.BinaryTerm.TheVariants.{Implies, Or, And, Compare, Calculate}
-use Rattle.pearlite.specs.declared.operator.UnaryTerm.TheVariants.{Neg, Not, Current, Final, View}
-use Rattle.pearlite.specs.declared.path.PathNode.{PathNode}
-use Rattle.pearlite.specs.declared.path.PathNode.TheVariants.{Names}
-use Rattle.pearlite.specs.declared.path.Segment.{Segment}
-use Rattle.pearlite.specs.Pterm as T
-use Rattle.pearlite.specs.TypeTree as W
-use Rattle.pearlite.specs.TypeTree.{TypeTree}
+use Rattle.source_trees.specs.declared.operator.BinaryTerm.TheVariants.{Implies, Or, And, Compare, Calculate}
+use Rattle.source_trees.specs.declared.operator.UnaryTerm.TheVariants.{Neg, Not, Current, Final, View}
+use Rattle.source_trees.specs.declared.path.PathNode.{PathNode}
+use Rattle.source_trees.specs.declared.path.PathNode.TheVariants.{Names}
+use Rattle.source_trees.specs.declared.path.Segment.{Segment}
+use Rattle.source_trees.specs.Pterm as T
+use Rattle.source_trees.specs.TypeTree as W
+use Rattle.source_trees.specs.TypeTree.{TypeTree}
 use Rattle.built_syntax.specs.Built.{◌>>=◌, unbuilt}
 use Rattle.built_trees.specs.Pterm.{Pterm, integer, truth, answer, named, viewed, negative, denied, calculated, compare, both, either, implied}
 

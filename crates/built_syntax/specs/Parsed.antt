@@ -7,7 +7,7 @@ use Rattle.rs_tokens.specs.declared.token.Token.{Token}
 use Rattle.rs_tokens.specs.Reading.{AreTokens}
 use Rattle.text_core.specs.declared.fault.PassError.{PassError}
 use Rattle.text_core.specs.declared.fault.PassError.TheVariants as P
-use Rattle.rs_syntax.specs.declared.item.Item.{Item}
+use Rattle.source_trees.specs.declared.item.Item.{Item}
 use Rattle.rs_syntax.specs.Parsed.{SpellsItems, functions_among, most_functions as most_of_items, IsParseError as IsItemsError}
 use Rattle.built_trees.specs.declared.function.Function.{Function}
 use Rattle.built_syntax.specs.BuiltItems.{built_items}

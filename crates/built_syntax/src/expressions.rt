@@ -1,20 +1,19 @@
 //! Expressions and statements that are built.
 ghost use Rattle.std.specs.Prelude.{◌≡◌, Ok};
-ghost use Rattle.rs_syntax.specs.Expr as E;
+ghost use Rattle.source_trees.specs.Expr as E;
 ghost use Rattle.built_syntax.specs.Answers.{Answers, AnswersAs};
 ghost use Rattle.built_syntax.specs.Built.{pair, gather};
 ghost use Rattle.built_trees.specs.ExprView.{expr_of};
-ghost use Rattle.rs_syntax.specs.ExprView.{exprs_of as written_exprs, stmts_of as written_stmts};
+ghost use Rattle.source_trees.specs.ExprView.{exprs_of as written_exprs, stmts_of as written_stmts};
 ghost use Rattle.built_syntax.specs.BuiltExprs.{binding_of, built_binding, built_kind, invariant_of, with_invariants, named_expr, callee, called, built_expr, built_exprs, built_stmts, stmt_by};
 
 use crate::lists::push_some;
 use crate::stop::Stop;
 use crate::terms::{built_term, name_alone, type_or_none};
 use built_trees::{Binding, Expr, ExprNode, Pterm, Stmt, StmtKind};
-use pearlite::{Pat, PatNode, Segment, TypeTree};
-use rs_syntax::{
-    Attribute, AttributeNode, ClauseKind, Expr as WrittenExpr, ExprNode as WrittenNode,
-    Stmt as WrittenStmt, StmtKind as WrittenKind, UnaryOp,
+use source_trees::{
+    Attribute, AttributeNode, ClauseKind, Expr as WrittenExpr, ExprNode as WrittenNode, Pat,
+    PatNode, Segment, Stmt as WrittenStmt, StmtKind as WrittenKind, TypeTree, UnaryOp,
 };
 use std::alloc::Global;
 use text_core::Span;

@@ -9,7 +9,7 @@ use crate::lists::push_some;
 use crate::stop::Stop;
 use crate::terms::{built_term, built_type, type_or_none};
 use built_trees::{Clause, ClauseKind, Expr, Function, Param};
-use rs_syntax::{
+use source_trees::{
     Attribute, AttributeNode, Body, ClauseKind as WrittenClause, Function as WrittenFunction, Item,
     ItemNode, Param as WrittenParam, ParamNode,
 };

@@ -1,13 +1,13 @@
 //! Names, types and terms that are built.
 ghost use Rattle.std.specs.Prelude.{◌≡◌, slice_get};
-ghost use Rattle.pearlite.specs.Pterm as T;
+ghost use Rattle.source_trees.specs.Pterm as T;
 ghost use Rattle.built_syntax.specs.Answers.{Answers, AnswersAs};
 ghost use Rattle.built_syntax.specs.BuiltTerms.{name_alone, named_type, built_type, built_type_or_none, named_term, built_term};
 
 use crate::stop::Stop;
 use built_trees::{Pterm, PtermNode};
 use logic_term::{IntKind, Ty, TyNode};
-use pearlite::{
+use source_trees::{
     BinaryTerm, Path, PathNode, Pterm as WrittenTerm, PtermNode as WrittenNode, Segment, TypeNode,
     TypeTree, UnaryTerm,
 };

@@ -25,7 +25,7 @@ use Rattle.pearlite.specs.Cursor.{Standing}
 use Rattle.pearlite.specs.Meaning.{shape_actions}
 use Rattle.pearlite.specs.Parsed.{kinds_in, IsMade, ReadsTerm, SpellsTerm, error_of, position_of, IsTermError, SpellsNoTerm}
 use Rattle.pearlite.specs.Parts.{first_term}
-use Rattle.pearlite.specs.Pterm.{Pterm}
+use Rattle.source_trees.specs.Pterm.{Pterm}
 use Rattle.pearlite.proofs.TokenCounts.{as_many_words}
 
 -- ---- what is made of a front

@@ -5,16 +5,4 @@ pub mod MakeTypes
 pub mod Meaning
 pub mod Parsed
 pub mod Parts
-pub mod Pat
-pub mod PatCode
-pub mod PatFalls
-pub mod PatView
-pub mod Pterm
-pub mod PtermCode
-pub mod PtermFalls
-pub mod PtermView
 pub mod Shapes
-pub mod TypeTree
-pub mod TypeTreeCode
-pub mod TypeTreeFalls
-pub mod TypeTreeView

@@ -6,13 +6,13 @@ use Rattle.source_words.specs.declared.word.Word.{Word}
 use Rattle.pearlite.specs.declared.part.Part.{Part}
 use Rattle.pearlite.specs.declared.part.Value.{Value}
 use Rattle.pearlite.specs.declared.part.Value.TheVariants as V
-use Rattle.pearlite.specs.declared.path.Path.{Path}
-use Rattle.pearlite.specs.declared.path.PathNode.TheVariants.{Names}
-use Rattle.pearlite.specs.declared.path.Segment.{Segment}
+use Rattle.source_trees.specs.declared.path.Path.{Path}
+use Rattle.source_trees.specs.declared.path.PathNode.TheVariants.{Names}
+use Rattle.source_trees.specs.declared.path.Segment.{Segment}
 use Rattle.pearlite.specs.Parts.{word_at, is_at, segment_at, span_from, alone, as_pattern, as_field_pattern, as_path, all_of, first_of, behind, first_path}
-use Rattle.pearlite.specs.Pat as P
-use Rattle.pearlite.specs.Pat.{Pat}
-use Rattle.pearlite.specs.PatView.{pats_of, field_pats_of}
+use Rattle.source_trees.specs.Pat as P
+use Rattle.source_trees.specs.Pat.{Pat}
+use Rattle.source_trees.specs.PatView.{pats_of, field_pats_of}
 
 -- `"_"`
 unfoldable pub wildcard_made : List Word → ℕ → ℕ → Value

@@ -8,25 +8,25 @@ use Rattle.source_grammar.specs.Classes.{kind_of}
 use Rattle.source_grammar.specs.Terminals.{AndAnd, AtLeast, AtMost, CloseBrace, CloseParen, EqualEqual, Greater, Integer, KwTrue, Less, Minus, Not, NotEqual, OrOr, Percent, Plus, Slash, Star, WordExists}
 use Rattle.source_grammar.specs.Terminals.{WordPostcondition, WordPostconditionMut, WordPostconditionOnce}
 use Rattle.source_words.specs.declared.word.Word.{Word}
-use Rattle.pearlite.specs.declared.operator.BinaryTerm.{BinaryTerm}
-use Rattle.pearlite.specs.declared.operator.BinaryTerm.TheVariants as B
-use Rattle.pearlite.specs.declared.operator.Predicate.{Predicate}
-use Rattle.pearlite.specs.declared.operator.Predicate.TheVariants as R
-use Rattle.pearlite.specs.declared.operator.Quantifier.{Quantifier}
-use Rattle.pearlite.specs.declared.operator.Quantifier.TheVariants.{Forall, Exists}
-use Rattle.pearlite.specs.declared.operator.UnaryTerm.{UnaryTerm}
-use Rattle.pearlite.specs.declared.operator.UnaryTerm.TheVariants as U
+use Rattle.source_trees.specs.declared.operator.BinaryTerm.{BinaryTerm}
+use Rattle.source_trees.specs.declared.operator.BinaryTerm.TheVariants as B
+use Rattle.source_trees.specs.declared.operator.Predicate.{Predicate}
+use Rattle.source_trees.specs.declared.operator.Predicate.TheVariants as R
+use Rattle.source_trees.specs.declared.operator.Quantifier.{Quantifier}
+use Rattle.source_trees.specs.declared.operator.Quantifier.TheVariants.{Forall, Exists}
+use Rattle.source_trees.specs.declared.operator.UnaryTerm.{UnaryTerm}
+use Rattle.source_trees.specs.declared.operator.UnaryTerm.TheVariants as U
 use Rattle.pearlite.specs.declared.part.Part.{Part}
 use Rattle.pearlite.specs.declared.part.TermSuffix.{TermSuffix}
 use Rattle.pearlite.specs.declared.part.TermSuffix.TheVariants as S
 use Rattle.pearlite.specs.declared.part.Value.{Value}
 use Rattle.pearlite.specs.declared.part.Value.TheVariants as V
-use Rattle.pearlite.specs.declared.path.Number.{Number}
-use Rattle.pearlite.specs.declared.path.Path.{Path}
+use Rattle.source_trees.specs.declared.path.Number.{Number}
+use Rattle.source_trees.specs.declared.path.Path.{Path}
 use Rattle.pearlite.specs.Parts.{word_at, is_at, segment_at, span_from, others, second, last, front, alone, as_term, as_field_term, as_arm, as_binder, as_pattern, as_path, all_of, behind, first_type, first_pattern, first_path, first_term, term_or}
-use Rattle.pearlite.specs.Pterm as T
-use Rattle.pearlite.specs.Pterm.{Pterm}
-use Rattle.pearlite.specs.PtermView.{terms_of, field_terms_of, arms_of}
+use Rattle.source_trees.specs.Pterm as T
+use Rattle.source_trees.specs.Pterm.{Pterm}
+use Rattle.source_trees.specs.PtermView.{terms_of, field_terms_of, arms_of}
 
 -- ---- operations
 

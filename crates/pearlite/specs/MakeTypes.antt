@@ -6,13 +6,13 @@ use Rattle.source_words.specs.declared.word.Word.{Word}
 use Rattle.pearlite.specs.declared.part.Part.{Part}
 use Rattle.pearlite.specs.declared.part.Value.{Value}
 use Rattle.pearlite.specs.declared.part.Value.TheVariants as V
-use Rattle.pearlite.specs.declared.path.PathNode.{PathNode}
-use Rattle.pearlite.specs.declared.path.PathNode.TheVariants as N
-use Rattle.pearlite.specs.declared.path.Segment.{Segment}
+use Rattle.source_trees.specs.declared.path.PathNode.{PathNode}
+use Rattle.source_trees.specs.declared.path.PathNode.TheVariants as N
+use Rattle.source_trees.specs.declared.path.Segment.{Segment}
 use Rattle.pearlite.specs.Parts.{is_at, segment_at, span_from, first, others, second, alone, as_type, all_of, first_type, names_in}
-use Rattle.pearlite.specs.TypeTree as Ty
-use Rattle.pearlite.specs.TypeTree.{TypeTree}
-use Rattle.pearlite.specs.TypeTreeView.{types_of}
+use Rattle.source_trees.specs.TypeTree as Ty
+use Rattle.source_trees.specs.TypeTree.{TypeTree}
+use Rattle.source_trees.specs.TypeTreeView.{types_of}
 
 -- `TypeName [ TypeArguments ]`: the names behind the first are those of lifetimes
 unfoldable pub named_type_made : List Word → ℕ → ℕ → List Part → Value

@@ -18,7 +18,7 @@ use Rattle.source_words.specs.Words.{AreWords, GivesNames}
 use Rattle.pearlite.specs.Cursor.{Standing}
 use Rattle.pearlite.specs.Meaning.{shape_actions}
 use Rattle.pearlite.specs.Parts.{first_term}
-use Rattle.pearlite.specs.Pterm.{Pterm}
+use Rattle.source_trees.specs.Pterm.{Pterm}
 
 abbrev pub kinds_in : List Word → List ℕ
 kinds_in words = map (λ word. word.kind) words

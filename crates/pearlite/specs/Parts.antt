@@ -6,20 +6,20 @@ use Rattle.grammar_tables.specs.Trees.{option_list}
 use Rattle.source_grammar.specs.Classes.{kind_of, names, stands_in}
 use Rattle.source_grammar.specs.Terminals.{Lifetime}
 use Rattle.source_words.specs.declared.word.Word.{Word}
-use Rattle.pearlite.specs.declared.binder.Binder.{Binder}
-use Rattle.pearlite.specs.declared.path.Path.{Path}
-use Rattle.pearlite.specs.declared.path.PathNode.TheVariants.{Names}
-use Rattle.pearlite.specs.declared.path.Segment.{Segment}
-use Rattle.pearlite.specs.declared.pattern.FieldPat.{FieldPat}
-use Rattle.pearlite.specs.declared.pterm.Arm.{Arm}
-use Rattle.pearlite.specs.declared.pterm.FieldTerm.{FieldTerm}
+use Rattle.source_trees.specs.declared.binder.Binder.{Binder}
+use Rattle.source_trees.specs.declared.path.Path.{Path}
+use Rattle.source_trees.specs.declared.path.PathNode.TheVariants.{Names}
+use Rattle.source_trees.specs.declared.path.Segment.{Segment}
+use Rattle.source_trees.specs.declared.pattern.FieldPat.{FieldPat}
+use Rattle.source_trees.specs.declared.pterm.TermArm.{TermArm}
+use Rattle.source_trees.specs.declared.pterm.FieldTerm.{FieldTerm}
 use Rattle.pearlite.specs.declared.part.Part.{Part}
 use Rattle.pearlite.specs.declared.part.TermSuffix.{TermSuffix}
 use Rattle.pearlite.specs.declared.part.Value.{Value}
 use Rattle.pearlite.specs.declared.part.Value.TheVariants as V
-use Rattle.pearlite.specs.Pat.{Pat, any}
-use Rattle.pearlite.specs.Pterm.{Pterm, truth}
-use Rattle.pearlite.specs.TypeTree.{TypeTree, self_type}
+use Rattle.source_trees.specs.Pat.{Pat, any}
+use Rattle.source_trees.specs.Pterm.{Pterm, truth}
+use Rattle.source_trees.specs.TypeTree.{TypeTree, self_type}
 
 -- ---- tokens, by their places among the words
 
@@ -108,7 +108,7 @@ unfoldable pub as_field_term : Value → Option FieldTerm
 as_field_term (V.FieldTerm field) = Some field
 as_field_term value = None
 
-unfoldable pub as_arm : Value → Option Arm
+unfoldable pub as_arm : Value → Option TermArm
 as_arm (V.Arm arm) = Some arm
 as_arm value = None
 

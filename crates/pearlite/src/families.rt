@@ -1,19 +1,18 @@
 //! The parts of a line by their families.
 ghost use Rattle.std.specs.Prelude.{◌≡◌, Option, IfOk, reverse};
 ghost use Rattle.pearlite.specs.declared.part.Value.{Value};
-ghost use Rattle.pearlite.specs.PatView.{pat_of};
-ghost use Rattle.pearlite.specs.PtermView.{pterm_of};
-ghost use Rattle.pearlite.specs.TypeTreeView.{type_tree_of};
+ghost use Rattle.source_trees.specs.PatView.{pat_of};
+ghost use Rattle.source_trees.specs.PtermView.{pterm_of};
+ghost use Rattle.source_trees.specs.TypeTreeView.{type_tree_of};
 ghost use Rattle.pearlite.specs.Parts.{all_of, as_arm, as_binder, as_field_pattern, as_field_term, as_path, as_pattern, as_term, as_type, behind, first_of, first_path, first_pattern, first_term, first_type};
 
-use crate::binder::Binder;
 use crate::part::{Part, Value};
 use crate::parts::next;
-use crate::path::{Path, PathNode, Segment};
-use crate::pattern::{FieldPat, Pat, PatNode};
-use crate::pterm::{Arm, FieldTerm, Pterm, PtermNode};
 use crate::tokens::NOWHERE;
-use crate::types::{TypeNode, TypeTree};
+use source_trees::{
+    Binder, FieldPat, FieldTerm, Pat, PatNode, Path, PathNode, Pterm, PtermNode, Segment, TermArm,
+    TypeNode, TypeTree,
+};
 use std::alloc::Global;
 use text_core::{Items, Name, NoMemory, Span};
 
@@ -102,10 +101,10 @@ impl Family for FieldTerm {
     }
 }
 
-impl Family for Arm {
+impl Family for TermArm {
     ghost seen = { as_arm };
 
-    fn seen(value: Value) -> Option<Arm> {
+    fn seen(value: Value) -> Option<TermArm> {
         value.into_arm()
     }
 }

@@ -1,19 +1,18 @@
 //! What is made of the lines of operations on terms.
 ghost use Rattle.std.specs.Prelude.{◌≡◌, ◌≤ℤ◌, IfOk, IfSome, pos, reverse};
 ghost use Rattle.pearlite.specs.MakeTerms.{applied, applied_by, magnitude, operation, operator_of, prefix_of, prefix_term_made, prefixed, suffixed, term_member_made, term_operation_made};
-ghost use Rattle.pearlite.specs.PtermView.{pterm_of};
+ghost use Rattle.source_trees.specs.PtermView.{pterm_of};
 ghost use Rattle.pearlite.specs.declared.part.Value.TheVariants as V;
 
 use crate::families::{next_term, take_all, term_with};
-use crate::operator::{BinaryTerm, UnaryTerm};
 use crate::part::{Part, TermSuffix, Value};
 use crate::parts::{next, place_of_next, skip};
-use crate::pterm::{Pterm, PtermNode};
 use crate::tokens::{
     is_before, number_of, segment_at, segment_before, span_from, word_at, word_before,
 };
 use logic_term::{ArithOp, Comparison, IntKind};
 use source_grammar::kinds;
+use source_trees::{BinaryTerm, Pterm, PtermNode, UnaryTerm};
 use source_words::Word;
 use std::alloc::Global;
 use text_core::{NoMemory, Span};

@@ -2,17 +2,16 @@
 ghost use Rattle.std.specs.Prelude.{◌≡◌, IfOk, reverse, unwrap_or};
 ghost use Rattle.pearlite.specs.MakePatterns.{bound, field_pattern_made, integer_pattern_made, mut_pattern_made, opposite, path_pattern_by, path_pattern_made, truth_pattern_made, tuple_pattern_made, wildcard_made};
 ghost use Rattle.pearlite.specs.Parts.{as_pattern, first_of};
-ghost use Rattle.pearlite.specs.PatView.{pat_of};
+ghost use Rattle.source_trees.specs.PatView.{pat_of};
 ghost use Rattle.text_core.specs.declared.span.Span.{Span};
 ghost use Rattle.pearlite.specs.declared.part.Value.TheVariants as V;
 
 use crate::families::{next_of, next_path, pattern_with, take_all};
 use crate::part::{Part, Value};
 use crate::parts::alone;
-use crate::path::{Path, PathNode, Segment};
-use crate::pattern::{FieldPat, Pat, PatNode};
 use crate::tokens::{is_at, is_before, segment_at, segment_before, span_from, word_before};
 use source_grammar::kinds;
+use source_trees::{FieldPat, Pat, PatNode, Path, PathNode, Segment};
 use source_words::Word;
 use std::alloc::Global;
 use text_core::{Items, NoMemory, Span};

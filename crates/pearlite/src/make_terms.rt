@@ -3,19 +3,16 @@ ghost use Rattle.std.specs.Prelude.{◌≡◌, IfOk, reverse};
 ghost use Rattle.pearlite.specs.MakeTerms.{answer_term_made, binder_made, field_term_made, if_term_made, integer_term_made, match_term_made, mut_ref_term_made, paren_term_made, path_term_by, path_term_made, predicate_of, predicate_term_made};
 ghost use Rattle.pearlite.specs.MakeTerms.{quantified_made, quantifier_of, self_term_made, term_arm_made, truth_term_made};
 ghost use Rattle.pearlite.specs.Parts.{as_term, term_or};
-ghost use Rattle.pearlite.specs.PtermView.{pterm_of};
+ghost use Rattle.source_trees.specs.PtermView.{pterm_of};
 ghost use Rattle.pearlite.specs.declared.part.Value.TheVariants as V;
 ghost use Rattle.text_core.specs.declared.span.Span.{Span};
 
-use crate::binder::Binder;
 use crate::families::{next_path, next_pattern, next_term, next_type, take_all, term_with};
-use crate::operator::{Predicate, Quantifier};
 use crate::part::{Part, Value};
 use crate::parts::{alone, take_last};
-use crate::path::Path;
-use crate::pterm::{Arm, FieldTerm, Pterm, PtermNode};
 use crate::tokens::{NOWHERE, is_at, is_before, segment_at, span_from, word_at};
 use source_grammar::kinds;
+use source_trees::{Binder, FieldTerm, Path, Predicate, Pterm, PtermNode, Quantifier, TermArm};
 use source_words::Word;
 use std::alloc::Global;
 use text_core::{NoMemory, Span};
@@ -176,7 +173,7 @@ pub fn match_term(
     ensures { IfOk result (λ v. v ≡ match_term_made words.now from to (reverse parts.old.items)) }
 {
     let head = next_term(alloc, parts)?;
-    let arms = take_all::<Arm>(alloc, parts)?;
+    let arms = take_all::<TermArm>(alloc, parts)?;
     let node = PtermNode::Match(head, arms.into_vec());
     term_value(alloc, span_from(words, from, to), node)
 }
@@ -194,7 +191,7 @@ pub fn term_arm(
 {
     let pattern = next_pattern(alloc, parts)?;
     let body = next_term(alloc, parts)?;
-    Ok(Value::Arm(Arm {
+    Ok(Value::Arm(TermArm {
         span: span_from(words, from, to),
         pattern,
         body,

@@ -2,17 +2,16 @@
 ghost use Rattle.std.specs.Prelude.{◌≡◌, IfOk, reverse};
 ghost use Rattle.pearlite.specs.MakeTypes.{is_member, named_path_made, named_type_made, path_node, qualified_path_made, reference_by, reference_type_made, self_type_made, tuple_type_made};
 ghost use Rattle.pearlite.specs.declared.part.Value.TheVariants as V;
-ghost use Rattle.pearlite.specs.declared.path.Path.{Path};
+ghost use Rattle.source_trees.specs.declared.path.Path.{Path};
 
 use crate::families::{next_type, take_all, type_with};
 use crate::part::{Part, Value};
 use crate::parts::{alone, names_and_types, place_of_next, skip};
-use crate::path::{Path, PathNode, Segment};
 use crate::tokens::{
     is_at, is_before, lifetime_at, segment_at, segment_before, span_from, word_at,
 };
-use crate::types::{TypeNode, TypeTree};
 use source_grammar::kinds;
+use source_trees::{Path, PathNode, Segment, TypeNode, TypeTree};
 use source_words::Word;
 use std::alloc::Global;
 use text_core::{Boxed, Items, NoMemory, Span};

@@ -2,11 +2,9 @@
 ghost use Rattle.std.specs.Prelude.{◌≡◌};
 ghost use Rattle.pearlite.specs.Parts.{as_arm, as_binder, as_field_pattern, as_field_term, as_path, as_pattern, as_suffix, as_term, as_type, is_suffix, is_token};
 
-use crate::binder::Binder;
-use crate::path::{Number, Path, Segment};
-use crate::pattern::{FieldPat, Pat};
-use crate::pterm::{Arm, FieldTerm, Pterm};
-use crate::types::TypeTree;
+use source_trees::{
+    Binder, FieldPat, FieldTerm, Number, Pat, Path, Pterm, Segment, TermArm, TypeTree,
+};
 use text_core::{Boxed, Items};
 
 /// What a token or a line is worth.
@@ -18,7 +16,7 @@ pub enum Value {
     Path(Boxed<Path>),
     Term(Pterm),
     FieldTerm(FieldTerm),
-    Arm(Arm),
+    Arm(TermArm),
     Binder(Binder),
     Suffix(TermSuffix),
     /// Nothing is made of it.
@@ -152,7 +150,7 @@ impl Value {
 
     /// The arm, where it is one.
     #[tactic(auto, unfolding(crate::specs::Parts::as_arm))]
-    pub fn into_arm(self) -> Option<Arm>
+    pub fn into_arm(self) -> Option<TermArm>
         ensures { result ≡ as_arm self }
     {
         match self {

@@ -3,9 +3,8 @@ ghost use Rattle.std.specs.Prelude.{◌≡◌, [], ◌∷◌, IfNone, IfOk, Matc
 ghost use Rattle.pearlite.specs.Parts.{all_of, alone, as_type, first, front, last, name_of, names_in, others};
 
 use crate::part::{Part, Value, discard};
-use crate::path::Segment;
 use crate::tokens::{has_name, segment_at, word_at};
-use crate::types::TypeTree;
+use source_trees::{Segment, TypeTree};
 use source_words::Word;
 use std::alloc::Global;
 use text_core::{Items, NoMemory};

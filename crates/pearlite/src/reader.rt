@@ -5,14 +5,14 @@ ghost use Rattle.source_grammar.specs.Faults.{IsFrontFault};
 ghost use Rattle.source_grammar.specs.SourceGrammar.{term_goal};
 ghost use Rattle.source_words.specs.Words.{GivesNames, Keeps};
 ghost use Rattle.pearlite.specs.Parsed.{IsMade, IsTermError, ReadsTerm, SpellsNoTerm, SpellsTerm, error_of, kinds_in, position_of, refusal, span_at};
-ghost use Rattle.pearlite.specs.Pterm.{Pterm};
+ghost use Rattle.source_trees.specs.Pterm.{Pterm};
 
 use crate::cursor::Cursor;
 use crate::families::next_term;
 use crate::part::Part;
-use crate::pterm::Pterm;
 use grammar_tables::{Front, evaluate};
 use source_grammar::{SyntaxFault, WHOLE_TERM, tables};
+use source_trees::Pterm;
 use source_words::{Word, kinds_of_words, words_of};
 use std::alloc::Global;
 use text_core::{Code, Items, Names, NoMemory, PassError, SourceError, Span};

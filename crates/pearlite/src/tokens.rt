@@ -4,8 +4,8 @@ ghost use Rattle.pearlite.specs.MakeTerms.{number_of};
 ghost use Rattle.pearlite.specs.MakeTypes.{lifetime_at};
 ghost use Rattle.pearlite.specs.Parts.{has_name, segment_at, span_from, word_at};
 
-use crate::path::{Number, Segment};
 use source_grammar::kinds;
+use source_trees::{Number, Segment};
 use source_words::Word;
 use text_core::{Name, Span};
 

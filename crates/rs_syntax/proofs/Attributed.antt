@@ -2,11 +2,11 @@
 use Rattle.std.specs.Prelude.{◌≡◌, ◌<◌, List}
 use Rattle.std.proofs.Common.{refl, arith}
 use Rattle.text_core.specs.declared.span.Span.{Span}
-use Rattle.rs_syntax.specs.declared.attribute.Attribute.{Attribute}
+use Rattle.source_trees.specs.declared.attribute.Attribute.{Attribute}
 use Rattle.rs_syntax.specs.declared.part.Suffix.{Suffix}
 use Rattle.rs_syntax.specs.declared.part.Suffix.TheVariants as X
-use Rattle.rs_syntax.specs.Expr.{Expr}
-use Rattle.rs_syntax.specs.ExprView.{expr_size}
+use Rattle.source_trees.specs.Expr.{Expr}
+use Rattle.source_trees.specs.ExprView.{expr_size}
 use Rattle.rs_syntax.specs.MakeOperators.{across, applied, on_operand}
 
 pub on_operand_applied : (start : Span) (attributes : List Attribute) (span : Span) (operand : Expr) (suffix : Suffix) →

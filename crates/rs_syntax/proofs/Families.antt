@@ -1,7 +1,7 @@
 -- What stands among parts is joined part by part.
 use Rattle.std.specs.Prelude.{◌≡◌, List, [], ◌∷◌, drop, slice_get}
 use Rattle.std.proofs.Common.{append_assoc, refl}
-use Rattle.rs_syntax.specs.Expr.{Expr}
+use Rattle.source_trees.specs.Expr.{Expr}
 use Rattle.rs_syntax.specs.declared.found.Found.{Found}
 use Rattle.rs_syntax.specs.declared.part.Part.{Part}
 use Rattle.rs_syntax.specs.Parts.{expr_at, joined, found_of, found_in}

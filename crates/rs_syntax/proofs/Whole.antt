@@ -27,7 +27,7 @@ use Rattle.source_grammar.proofs.OneAnswer.{one_fault, derived_or_faulty}
 use Rattle.source_words.specs.declared.word.Word.{Word}
 use Rattle.source_words.specs.Words.{AreWords, GivesNames, IsBadText, IsWordError}
 use Rattle.source_words.proofs.WordLists.{no_words}
-use Rattle.rs_syntax.specs.declared.item.Item.{Item}
+use Rattle.source_trees.specs.declared.item.Item.{Item}
 use Rattle.rs_syntax.specs.declared.part.Part.{Part}
 use Rattle.rs_syntax.specs.Gathered.{all_of, item_of}
 use Rattle.rs_syntax.specs.Make.{trees}

@@ -3,14 +3,14 @@ use Rattle.std.specs.Prelude.{List, [], ◌∷◌, ◌++◌, Option, None, Some}
 use Rattle.grammar_tables.specs.Trees.{option_list}
 use Rattle.pearlite.specs.declared.part.Value.TheVariants as S
 use Rattle.pearlite.specs.Parts.{this_or, as_type, as_term}
-use Rattle.pearlite.specs.Pterm.{Pterm}
-use Rattle.pearlite.specs.TypeTree.{TypeTree}
-use Rattle.rs_syntax.specs.declared.generics.Bound.{Bound}
-use Rattle.rs_syntax.specs.declared.generics.Condition.{Condition}
-use Rattle.rs_syntax.specs.declared.generics.GenericParam.{GenericParam}
-use Rattle.rs_syntax.specs.declared.item.Field.{Field}
-use Rattle.rs_syntax.specs.declared.item.Item.{Item}
-use Rattle.rs_syntax.specs.declared.item.Method.{Method}
+use Rattle.source_trees.specs.Pterm.{Pterm}
+use Rattle.source_trees.specs.TypeTree.{TypeTree}
+use Rattle.source_trees.specs.declared.generics.Bound.{Bound}
+use Rattle.source_trees.specs.declared.generics.Condition.{Condition}
+use Rattle.source_trees.specs.declared.generics.GenericParam.{GenericParam}
+use Rattle.source_trees.specs.declared.item.Field.{Field}
+use Rattle.source_trees.specs.declared.item.Item.{Item}
+use Rattle.source_trees.specs.declared.item.Method.{Method}
 use Rattle.rs_syntax.specs.declared.part.Part.{Part}
 use Rattle.rs_syntax.specs.declared.part.Value.{Value}
 use Rattle.rs_syntax.specs.declared.part.Value.TheVariants as V

@@ -1,7 +1,3 @@
-pub mod Expr
-pub mod ExprCode
-pub mod ExprFalls
-pub mod ExprView
 pub mod Gathered
 pub mod Make
 pub mod MakeAttributes

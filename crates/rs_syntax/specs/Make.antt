@@ -9,7 +9,7 @@ use Rattle.source_grammar.specs.declared.action.CodeAction.TheVariants as codes
 use Rattle.source_words.specs.declared.word.Word.{Word}
 use Rattle.pearlite.specs.declared.part.Value.TheVariants as S
 use Rattle.pearlite.specs.Shapes.{shape_made}
-use Rattle.rs_syntax.specs.declared.item.ItemNode.TheVariants as I
+use Rattle.source_trees.specs.declared.item.ItemNode.TheVariants as I
 use Rattle.rs_syntax.specs.declared.part.Part.{Part}
 use Rattle.rs_syntax.specs.declared.part.Value.{Value}
 use Rattle.rs_syntax.specs.declared.part.Value.TheVariants as V

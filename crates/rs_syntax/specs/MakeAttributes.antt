@@ -2,11 +2,11 @@
 use Rattle.std.specs.Prelude.{ℕ, ◌||◌, Bool, if◌then◌else◌, List, [], ◌∷◌, ◌++◌, fold, drop}
 use Rattle.source_grammar.specs.Terminals.{OpenParen, CloseParen, Comma, WordRequires, WordEnsures, WordInvariant}
 use Rattle.source_words.specs.declared.word.Word.{Word}
-use Rattle.pearlite.specs.declared.path.Segment.{Segment}
+use Rattle.source_trees.specs.declared.path.Segment.{Segment}
 use Rattle.pearlite.specs.Parts.{is_at, segment_at}
-use Rattle.rs_syntax.specs.declared.attribute.AttributeNode.TheVariants as A
-use Rattle.rs_syntax.specs.declared.attribute.ClauseKind.{ClauseKind}
-use Rattle.rs_syntax.specs.declared.attribute.ClauseKind.TheVariants.{Requires, Ensures, Invariant, Variant}
+use Rattle.source_trees.specs.declared.attribute.AttributeNode.TheVariants as A
+use Rattle.source_trees.specs.declared.attribute.ClauseKind.{ClauseKind}
+use Rattle.source_trees.specs.declared.attribute.ClauseKind.TheVariants.{Requires, Ensures, Invariant, Variant}
 use Rattle.rs_syntax.specs.declared.part.Part.{Part}
 use Rattle.rs_syntax.specs.declared.part.Value.{Value}
 use Rattle.rs_syntax.specs.declared.part.Value.TheVariants as V

@@ -4,26 +4,26 @@ use Rattle.text_core.specs.declared.span.Span.{Span}
 use Rattle.logic_term.specs.declared.kinds.IntKind.{IntKind}
 use Rattle.source_grammar.specs.Terminals.{StringLiteral, Integer, KwMove, KwMut, KwTrue, Minus, Star, Not, Comma, CloseBrace, WordUnreachable, WordSnapshot}
 use Rattle.source_words.specs.declared.word.Word.{Word}
-use Rattle.pearlite.specs.declared.operator.GhostMacro.TheVariants as G
-use Rattle.pearlite.specs.declared.operator.PanicMacro.TheVariants as P
-use Rattle.pearlite.specs.declared.path.Number.{Number}
-use Rattle.pearlite.specs.declared.path.Path.{Path}
-use Rattle.pearlite.specs.declared.path.PathNode.TheVariants as N
-use Rattle.pearlite.specs.declared.path.Segment.{Segment}
+use Rattle.source_trees.specs.declared.operator.GhostMacro.TheVariants as G
+use Rattle.source_trees.specs.declared.operator.PanicMacro.TheVariants as P
+use Rattle.source_trees.specs.declared.path.Number.{Number}
+use Rattle.source_trees.specs.declared.path.Path.{Path}
+use Rattle.source_trees.specs.declared.path.PathNode.TheVariants as N
+use Rattle.source_trees.specs.declared.path.Segment.{Segment}
 use Rattle.pearlite.specs.Parts.{nowhere, no_path, word_at, is_at, segment_at, span_from}
-use Rattle.pearlite.specs.Pterm.{Pterm}
-use Rattle.pearlite.specs.Pterm as T
-use Rattle.pearlite.specs.TypeTree.{TypeTree}
-use Rattle.rs_syntax.specs.declared.operator.UnaryOp.TheVariants as U
+use Rattle.source_trees.specs.Pterm.{Pterm}
+use Rattle.source_trees.specs.Pterm as T
+use Rattle.source_trees.specs.TypeTree.{TypeTree}
+use Rattle.source_trees.specs.declared.operator.UnaryOp.TheVariants as U
 use Rattle.rs_syntax.specs.declared.part.Part.{Part}
 use Rattle.rs_syntax.specs.declared.part.Suffix.{Suffix}
 use Rattle.rs_syntax.specs.declared.part.Suffix.TheVariants as X
 use Rattle.rs_syntax.specs.declared.part.Value.{Value}
 use Rattle.rs_syntax.specs.declared.part.Value.TheVariants as V
-use Rattle.rs_syntax.specs.declared.expr.Stmt.{Stmt}
-use Rattle.rs_syntax.specs.Expr as E
-use Rattle.rs_syntax.specs.Expr.{Expr}
-use Rattle.rs_syntax.specs.ExprView.{exprs_of, field_exprs_of}
+use Rattle.source_trees.specs.declared.expr.Stmt.{Stmt}
+use Rattle.source_trees.specs.Expr as E
+use Rattle.source_trees.specs.Expr.{Expr}
+use Rattle.source_trees.specs.ExprView.{exprs_of, field_exprs_of}
 use Rattle.rs_syntax.specs.MakeStatements.{statements_in, no_statements}
 use Rattle.rs_syntax.specs.Parts.{found_in, expr_at}
 

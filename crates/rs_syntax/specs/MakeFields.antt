@@ -2,15 +2,15 @@
 use Rattle.std.specs.Prelude.{ℕ, ◌+◌, ◌-◌, if◌then◌else◌, List, [], ◌∷◌, ◌++◌, None, Some, fold}
 use Rattle.source_grammar.specs.Terminals.{CloseParen, CloseBrace, KwPub}
 use Rattle.source_words.specs.declared.word.Word.{Word}
-use Rattle.pearlite.specs.declared.path.Segment.{Segment}
+use Rattle.source_trees.specs.declared.path.Segment.{Segment}
 use Rattle.pearlite.specs.Parts.{is_at, segment_at, span_from}
-use Rattle.rs_syntax.specs.declared.item.Enum.{Enum}
-use Rattle.rs_syntax.specs.declared.item.Field.{Field}
-use Rattle.rs_syntax.specs.declared.item.Fields.{Fields}
-use Rattle.rs_syntax.specs.declared.item.Fields.TheVariants as F
-use Rattle.rs_syntax.specs.declared.item.ItemNode.TheVariants as I
-use Rattle.rs_syntax.specs.declared.item.VariantFields.{VariantFields}
-use Rattle.rs_syntax.specs.declared.item.VariantFields.TheVariants as W
+use Rattle.source_trees.specs.declared.item.Enum.{Enum}
+use Rattle.source_trees.specs.declared.item.Field.{Field}
+use Rattle.source_trees.specs.declared.item.Fields.{Fields}
+use Rattle.source_trees.specs.declared.item.Fields.TheVariants as F
+use Rattle.source_trees.specs.declared.item.ItemNode.TheVariants as I
+use Rattle.source_trees.specs.declared.item.VariantFields.{VariantFields}
+use Rattle.source_trees.specs.declared.item.VariantFields.TheVariants as W
 use Rattle.rs_syntax.specs.declared.make_fields.StructParts.{StructParts}
 use Rattle.rs_syntax.specs.declared.part.Part.{Part}
 use Rattle.rs_syntax.specs.declared.part.Value.{Value}

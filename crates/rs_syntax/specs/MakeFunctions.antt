@@ -6,11 +6,11 @@ use Rattle.source_words.specs.declared.word.Word.{Word}
 use Rattle.pearlite.specs.declared.part.Part.{Part as ShapePart}
 use Rattle.pearlite.specs.Parts.{as_type, is_at, segment_at, span_from}
 use Rattle.pearlite.specs.Shapes.{shape_made}
-use Rattle.pearlite.specs.TypeTree.{TypeTree}
-use Rattle.rs_syntax.specs.declared.item.Body.TheVariants.{Missing}
-use Rattle.rs_syntax.specs.declared.item.Function.{Function}
-use Rattle.rs_syntax.specs.declared.item.ImplItem.TheVariants as M
-use Rattle.rs_syntax.specs.declared.item.ItemNode.TheVariants as I
+use Rattle.source_trees.specs.TypeTree.{TypeTree}
+use Rattle.source_trees.specs.declared.item.Body.TheVariants.{Missing}
+use Rattle.source_trees.specs.declared.item.Function.{Function}
+use Rattle.source_trees.specs.declared.item.ImplItem.TheVariants as M
+use Rattle.source_trees.specs.declared.item.ItemNode.TheVariants as I
 use Rattle.rs_syntax.specs.declared.make_functions.ImplOf.{ImplOf}
 use Rattle.rs_syntax.specs.declared.make_functions.ImplParts.{ImplParts}
 use Rattle.rs_syntax.specs.declared.part.Part.{Part}

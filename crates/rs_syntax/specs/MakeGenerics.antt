@@ -2,18 +2,18 @@
 use Rattle.std.specs.Prelude.{ℕ, ◌+◌, ◌-◌, Bool, true, false, nat_lt, if◌then◌else◌, List, [], ◌∷◌, ◌++◌, Option, None, Some, fold}
 use Rattle.source_grammar.specs.Terminals.{Arrow, KwMut, WordFn, WordFnMut}
 use Rattle.source_words.specs.declared.word.Word.{Word}
-use Rattle.pearlite.specs.declared.operator.CallTrait.{CallTrait}
-use Rattle.pearlite.specs.declared.operator.CallTrait.TheVariants.{Fn, FnMut, FnOnce}
-use Rattle.pearlite.specs.declared.path.Segment.{Segment}
+use Rattle.source_trees.specs.declared.operator.CallTrait.{CallTrait}
+use Rattle.source_trees.specs.declared.operator.CallTrait.TheVariants.{Fn, FnMut, FnOnce}
+use Rattle.source_trees.specs.declared.path.Segment.{Segment}
 use Rattle.pearlite.specs.MakeTypes.{lifetime_at}
 use Rattle.pearlite.specs.Parts.{is_at, segment_at, span_from}
-use Rattle.pearlite.specs.TypeTree.{TypeTree}
-use Rattle.rs_syntax.specs.declared.generics.BoundNode.TheVariants as B
-use Rattle.rs_syntax.specs.declared.generics.ConditionNode.TheVariants as C
-use Rattle.rs_syntax.specs.declared.generics.GenericNode.TheVariants as G
+use Rattle.source_trees.specs.TypeTree.{TypeTree}
+use Rattle.source_trees.specs.declared.generics.BoundNode.TheVariants as B
+use Rattle.source_trees.specs.declared.generics.ConditionNode.TheVariants as C
+use Rattle.source_trees.specs.declared.generics.GenericNode.TheVariants as G
 use Rattle.rs_syntax.specs.declared.make_generics.CallTypes.{CallTypes}
-use Rattle.rs_syntax.specs.declared.param.ParamNode.{ParamNode}
-use Rattle.rs_syntax.specs.declared.param.ParamNode.TheVariants as P
+use Rattle.source_trees.specs.declared.param.ParamNode.{ParamNode}
+use Rattle.source_trees.specs.declared.param.ParamNode.TheVariants as P
 use Rattle.rs_syntax.specs.declared.part.Part.{Part}
 use Rattle.rs_syntax.specs.declared.part.Value.{Value}
 use Rattle.rs_syntax.specs.declared.part.Value.TheVariants as V

@@ -5,13 +5,13 @@ use Rattle.source_words.specs.declared.word.Word.{Word}
 use Rattle.pearlite.specs.declared.part.Value.{Value as Shape}
 use Rattle.pearlite.specs.declared.part.Value.TheVariants as S
 use Rattle.pearlite.specs.Parts.{is_at, span_from}
-use Rattle.rs_syntax.specs.declared.attribute.AttributeNode.{AttributeNode}
-use Rattle.rs_syntax.specs.declared.attribute.AttributeNode.TheVariants as A
-use Rattle.rs_syntax.specs.declared.item.Body.{Body}
-use Rattle.rs_syntax.specs.declared.item.Body.TheVariants as B
-use Rattle.rs_syntax.specs.declared.item.ItemNode.{ItemNode}
-use Rattle.rs_syntax.specs.declared.item.ItemNode.TheVariants as I
-use Rattle.rs_syntax.specs.declared.item.Visibility.TheVariants.{Private, Public, Crate}
+use Rattle.source_trees.specs.declared.attribute.AttributeNode.{AttributeNode}
+use Rattle.source_trees.specs.declared.attribute.AttributeNode.TheVariants as A
+use Rattle.source_trees.specs.declared.item.Body.{Body}
+use Rattle.source_trees.specs.declared.item.Body.TheVariants as B
+use Rattle.source_trees.specs.declared.item.ItemNode.{ItemNode}
+use Rattle.source_trees.specs.declared.item.ItemNode.TheVariants as I
+use Rattle.source_trees.specs.declared.item.Visibility.TheVariants.{Private, Public, Crate}
 use Rattle.rs_syntax.specs.declared.make_items.ItemParts.{ItemParts}
 use Rattle.rs_syntax.specs.declared.part.Part.{Part}
 use Rattle.rs_syntax.specs.declared.part.Value.{Value}

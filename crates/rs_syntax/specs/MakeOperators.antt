@@ -9,15 +9,15 @@ use Rattle.source_grammar.specs.Terminals.{EqualEqual, NotEqual, AtMost, AtLeast
 use Rattle.source_words.specs.declared.word.Word.{Word}
 use Rattle.pearlite.specs.declared.part.Value.TheVariants as S
 use Rattle.pearlite.specs.Parts.{nowhere, word_at, span_from}
-use Rattle.rs_syntax.specs.declared.attribute.Attribute.{Attribute}
+use Rattle.source_trees.specs.declared.attribute.Attribute.{Attribute}
 use Rattle.rs_syntax.specs.declared.part.Part.{Part}
 use Rattle.rs_syntax.specs.declared.part.Suffix.{Suffix}
 use Rattle.rs_syntax.specs.declared.part.Suffix.TheVariants as X
 use Rattle.rs_syntax.specs.declared.part.Value.{Value}
 use Rattle.rs_syntax.specs.declared.part.Value.TheVariants as V
-use Rattle.rs_syntax.specs.Expr as E
-use Rattle.rs_syntax.specs.Expr.{Expr}
-use Rattle.rs_syntax.specs.ExprView.{exprs_of, span_of}
+use Rattle.source_trees.specs.Expr as E
+use Rattle.source_trees.specs.Expr.{Expr}
+use Rattle.source_trees.specs.ExprView.{exprs_of, span_of}
 
 -- ---- an operator on its operand
 

@@ -5,21 +5,21 @@ use Rattle.grammar_tables.specs.Trees.{option_list}
 use Rattle.source_grammar.specs.Terminals.{Semicolon}
 use Rattle.source_words.specs.declared.word.Word.{Word}
 use Rattle.pearlite.specs.Parts.{nowhere, is_at, span_from}
-use Rattle.pearlite.specs.Pat.{Pat}
-use Rattle.rs_syntax.specs.declared.attribute.Attribute.{Attribute}
+use Rattle.source_trees.specs.Pat.{Pat}
+use Rattle.source_trees.specs.declared.attribute.Attribute.{Attribute}
 use Rattle.rs_syntax.specs.declared.element.Element.{Element}
 use Rattle.rs_syntax.specs.declared.element.Element.TheVariants as L
-use Rattle.rs_syntax.specs.declared.expr.Stmt.{Stmt}
+use Rattle.source_trees.specs.declared.expr.Stmt.{Stmt}
 use Rattle.rs_syntax.specs.declared.make_blocks.Statements.{Statements}
 use Rattle.rs_syntax.specs.declared.make_matches.Matching.{Matching}
 use Rattle.rs_syntax.specs.declared.part.Part.{Part}
 use Rattle.rs_syntax.specs.declared.part.Value.{Value}
 use Rattle.rs_syntax.specs.declared.part.Value.TheVariants as V
-use Rattle.rs_syntax.specs.declared.statement.StmtKind.{StmtKind}
-use Rattle.rs_syntax.specs.declared.statement.StmtKind.TheVariants as K
-use Rattle.rs_syntax.specs.Expr as E
-use Rattle.rs_syntax.specs.Expr.{Expr}
-use Rattle.rs_syntax.specs.ExprView.{stmts_of, arms_of}
+use Rattle.source_trees.specs.declared.statement.StmtKind.{StmtKind}
+use Rattle.source_trees.specs.declared.statement.StmtKind.TheVariants as K
+use Rattle.source_trees.specs.Expr as E
+use Rattle.source_trees.specs.Expr.{Expr}
+use Rattle.source_trees.specs.ExprView.{stmts_of, arms_of}
 use Rattle.rs_syntax.specs.MakeOperators.{across, begun, with_attributes}
 use Rattle.rs_syntax.specs.Parts.{found_in, expr_at, pattern_at, element_of, part_span}
 

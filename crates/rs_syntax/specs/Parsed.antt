@@ -19,11 +19,11 @@ use Rattle.source_grammar.specs.Faults.{IsFault}
 use Rattle.source_grammar.specs.SourceGrammar.{source_grammar, source_marks, source_goal}
 use Rattle.source_words.specs.declared.word.Word.{Word}
 use Rattle.source_words.specs.Words.{AreWords, GivesNames, IsBadText}
-use Rattle.rs_syntax.specs.declared.item.ImplItem.{ImplItem}
-use Rattle.rs_syntax.specs.declared.item.ImplItem.TheVariants as M
-use Rattle.rs_syntax.specs.declared.item.Item.{Item}
-use Rattle.rs_syntax.specs.declared.item.ItemNode.{ItemNode}
-use Rattle.rs_syntax.specs.declared.item.ItemNode.TheVariants as I
+use Rattle.source_trees.specs.declared.item.ImplItem.{ImplItem}
+use Rattle.source_trees.specs.declared.item.ImplItem.TheVariants as M
+use Rattle.source_trees.specs.declared.item.Item.{Item}
+use Rattle.source_trees.specs.declared.item.ItemNode.{ItemNode}
+use Rattle.source_trees.specs.declared.item.ItemNode.TheVariants as I
 use Rattle.rs_syntax.specs.Gathered.{all_of, item_of}
 use Rattle.rs_syntax.specs.Make.{trees}
 

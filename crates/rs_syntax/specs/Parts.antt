@@ -5,17 +5,17 @@ use Rattle.source_grammar.specs.Terminals.{Semicolon, WordLogic, WordLaw}
 use Rattle.source_words.specs.declared.word.Word.{Word}
 use Rattle.pearlite.specs.declared.part.Value.TheVariants as S
 use Rattle.pearlite.specs.Parts.{nowhere, word_at, is_at, span_from}
-use Rattle.pearlite.specs.Pat.{Pat, any}
-use Rattle.rs_syntax.specs.declared.attribute.Attribute.{Attribute}
-use Rattle.rs_syntax.specs.declared.attribute.AttributeNode.{AttributeNode}
-use Rattle.rs_syntax.specs.declared.attribute.AttributeNode.TheVariants as A
+use Rattle.source_trees.specs.Pat.{Pat, any}
+use Rattle.source_trees.specs.declared.attribute.Attribute.{Attribute}
+use Rattle.source_trees.specs.declared.attribute.AttributeNode.{AttributeNode}
+use Rattle.source_trees.specs.declared.attribute.AttributeNode.TheVariants as A
 use Rattle.rs_syntax.specs.declared.element.Element.{Element}
 use Rattle.rs_syntax.specs.declared.element.Element.TheVariants as L
 use Rattle.rs_syntax.specs.declared.found.Found.{Found}
 use Rattle.rs_syntax.specs.declared.part.Part.{Part}
 use Rattle.rs_syntax.specs.declared.part.Value.{Value}
 use Rattle.rs_syntax.specs.declared.part.Value.TheVariants as V
-use Rattle.rs_syntax.specs.Expr.{Expr, truth}
+use Rattle.source_trees.specs.Expr.{Expr, truth}
 
 -- ---- families
 

@@ -4,10 +4,9 @@ ghost use Rattle.rs_syntax.specs.declared.element.Element.TheVariants as L;
 ghost use Rattle.rs_syntax.specs.declared.part.Value.TheVariants as V;
 ghost use Rattle.rs_syntax.specs.Parts.{attribute_from, element_by, element_of_token};
 
-use crate::attribute::{Attribute, AttributeNode};
-use crate::expr::{Expr, Stmt};
-use pearlite::{Pat, Value as Shape, is_at, word_at, word_before};
+use pearlite::{Value as Shape, is_at, word_at, word_before};
 use source_grammar::kinds;
+use source_trees::{Attribute, AttributeNode, Expr, Pat, Stmt};
 use source_words::Word;
 use text_core::{Boxed, Span};
 

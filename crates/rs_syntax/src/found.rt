@@ -4,10 +4,10 @@ ghost use Rattle.grammar_tables.specs.Trees.{option_list};
 ghost use Rattle.rs_syntax.specs.declared.part.Value.TheVariants as V;
 ghost use Rattle.rs_syntax.specs.Parts.{expr_at, found_in, found_of, joined, none_found, pattern_at};
 
-use crate::expr::{Expr, FieldExpr, nothing};
-use crate::param::Param;
+use crate::nodes::nothing;
 use crate::part::{Part, next};
-use pearlite::{NOWHERE, Pat, PatNode, Path, Pterm, TypeTree, Value as Shape};
+use pearlite::{NOWHERE, Value as Shape};
+use source_trees::{Expr, FieldExpr, Param, Pat, PatNode, Path, Pterm, TypeTree};
 use std::alloc::Global;
 use std::mem;
 use text_core::{Items, NoMemory};

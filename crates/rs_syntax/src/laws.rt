@@ -4,7 +4,7 @@ ghost use Rattle.text_core.specs.declared.refusal.Limit.{Limit};
 ghost use Rattle.text_core.specs.declared.refusal.SourceError.{SourceError};
 ghost use Rattle.text_core.specs.Names.{words, HaveOnePlace};
 ghost use Rattle.text_core.specs.declared.fault.PassError.TheVariants as P;
-ghost use Rattle.rs_syntax.specs.declared.item.Item.{Item};
+ghost use Rattle.source_trees.specs.declared.item.Item.{Item};
 ghost use Rattle.rs_syntax.specs.Parsed.{SpellsItems, functions_among, most_functions, IsParseError};
 
 /// By each table of names a text spells at most one list of items, with all spans.

@@ -1,15 +1,15 @@
 //! Loops and closures with the attributes before them.
 ghost use Rattle.std.specs.Prelude.{◌≡◌, List, IfOk, IfErr};
 ghost use Rattle.text_core.specs.declared.span.Span.{Span};
-ghost use Rattle.rs_syntax.specs.declared.attribute.Attribute.{Attribute};
-ghost use Rattle.rs_syntax.specs.Expr.{attributed};
-ghost use Rattle.rs_syntax.specs.ExprView.{expr_of};
+ghost use Rattle.source_trees.specs.declared.attribute.Attribute.{Attribute};
+ghost use Rattle.source_trees.specs.Expr.{attributed};
+ghost use Rattle.source_trees.specs.ExprView.{expr_of};
 ghost use Rattle.rs_syntax.specs.MakeOperators.{across, applied, begun, on_operand, with_attributes};
 
-use crate::attribute::Attribute;
-use crate::expr::{Expr, ExprNode, made};
 use crate::make_operators::applied;
+use crate::nodes::made;
 use crate::part::Suffix;
+use source_trees::{Attribute, Expr, ExprNode};
 use std::alloc::Global;
 use text_core::{Items, NoMemory, Span};
 

@@ -2,13 +2,13 @@
 ghost use Rattle.std.specs.Prelude.{◌≡◌, reverse, IfOk};
 ghost use Rattle.rs_syntax.specs.MakeAttributes.{clause_of, clause_made, is_separator, with_name, derive_made};
 
-use crate::attribute::{AttributeNode, ClauseKind};
 use crate::gathering::{Gather, first_of, gather_all};
 use crate::part::families::{discard, skip};
 use crate::part::{Part, Value, segment_at};
 use crate::places::is_at;
-use pearlite::{Pterm, Segment, Value as Shape};
+use pearlite::Value as Shape;
 use source_grammar::kinds;
+use source_trees::{AttributeNode, ClauseKind, Pterm, Segment};
 use source_words::Word;
 use std::alloc::Global;
 use text_core::{Items, NoMemory};

@@ -1,16 +1,15 @@
 //! What blocks make of their statements.
 ghost use Rattle.std.specs.Prelude.{◌≡◌, ◌∷◌, [], ◌++◌, reverse, IfOk};
-ghost use Rattle.rs_syntax.specs.declared.statement.StmtKind.TheVariants as K;
+ghost use Rattle.source_trees.specs.declared.statement.StmtKind.TheVariants as K;
 ghost use Rattle.rs_syntax.specs.MakeExpressions.{attributed_made, value_of};
 ghost use Rattle.rs_syntax.specs.MakeStatements.{block_by, block_made, no_statements, settled, statement_of, statements_in, with_blocklike, with_element, with_end};
 
-use crate::attribute::Attribute;
 use crate::element::Element;
-use crate::expr::{Expr, ExprNode, Stmt, made, nothing};
 use crate::make_attributed::{across, begun, with_attributes};
+use crate::nodes::{made, nothing};
 use crate::part::{Part, Value, next};
-use crate::statement::StmtKind;
 use pearlite::span_from;
+use source_trees::{Attribute, Expr, ExprNode, Stmt, StmtKind};
 use source_words::Word;
 use std::alloc::Global;
 use std::mem;

@@ -1,21 +1,21 @@
 //! What operands make.
 ghost use Rattle.std.specs.Prelude.{◌≡◌, pos, ◌≤ℤ◌, false, get_or, reverse, slice_get, unwrap_or, IfOk, IfSome};
 ghost use Rattle.pearlite.specs.Parts.{no_path, nowhere, span_from};
-ghost use Rattle.pearlite.specs.Pterm.{truth as term_truth};
-ghost use Rattle.rs_syntax.specs.ExprView.{expr_of};
+ghost use Rattle.source_trees.specs.Pterm.{truth as term_truth};
+ghost use Rattle.source_trees.specs.ExprView.{expr_of};
 ghost use Rattle.rs_syntax.specs.declared.part.Value.TheVariants as V;
 ghost use Rattle.rs_syntax.specs.MakeExpressions.{arguments_made, break_made, closure_made, continue_made, field_made, ghost_made, integer_made, magnitude, member_by, member_made, negated, own_path, own_value, panic_made, parens_made, parens_by, path_made, prefix_made, prefixed, return_made, self_made, truth_made};
 
-use crate::expr::{Expr, ExprNode, FieldExpr, made};
 use crate::found::{Found, exprs_in, first_expr, found_in, take_all, take_first};
-use crate::operator::UnaryOp;
+use crate::nodes::made;
 use crate::part::{Part, Suffix, Value, word_behind};
 use logic_term::IntKind;
-use pearlite::{
-    GhostMacro, NOWHERE, PanicMacro, Path, PathNode, Pterm, PtermNode, Segment, is_at, is_before,
-    number_of, segment_at, span_from, word_at,
-};
+use pearlite::{NOWHERE, is_at, is_before, number_of, segment_at, span_from, word_at};
 use source_grammar::kinds;
+use source_trees::{
+    Expr, ExprNode, FieldExpr, GhostMacro, PanicMacro, Path, PathNode, Pterm, PtermNode, Segment,
+    UnaryOp,
+};
 use source_words::Word;
 use std::alloc::Global;
 use text_core::{Boxed, Items, Name, NoMemory, Span};

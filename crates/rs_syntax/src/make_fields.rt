@@ -5,12 +5,13 @@ ghost use Rattle.rs_syntax.specs.MakeFields.{field_name, field_made, tuple_field
 ghost use Rattle.rs_syntax.specs.MakeFields.{struct_with, struct_with_value, struct_fields, struct_made, enum_with, enum_with_value, enum_made};
 
 use crate::gathering::{Gather, all_of, first_of, gather_all};
-use crate::generics::GenericParam;
-use crate::item::{Enum, Field, Fields, ItemNode, Struct, Variant, VariantFields};
 use crate::part::{Part, Value, segment_at, span_from};
 use crate::places::{is_at, is_before, segment_behind};
-use pearlite::{Segment, TypeTree, Value as Shape};
+use pearlite::Value as Shape;
 use source_grammar::kinds;
+use source_trees::{
+    Enum, Field, Fields, GenericParam, ItemNode, Segment, Struct, TypeTree, Variant, VariantFields,
+};
 use source_words::Word;
 use std::alloc::Global;
 use text_core::{Boxed, Items, NoMemory};
@@ -182,12 +183,10 @@ pub(crate) fn struct_item(
     node_value(alloc, ItemNode::Struct(item))
 }
 
-impl Enum {
-    pub(crate) fn set_generics(&mut self, generics: Items<GenericParam>)
-        ensures { self.new ≡ record self.old { generics = generics } }
-    {
-        self.generics = generics;
-    }
+pub(crate) fn set_enum_generics(so_far: &mut Enum, generics: Items<GenericParam>)
+    ensures { so_far.new ≡ record so_far.old { generics = generics } }
+{
+    so_far.generics = generics;
 }
 
 impl Gather for Enum {

@@ -5,39 +5,39 @@ ghost use Rattle.rs_syntax.specs.MakeFunctions.{with_answer, function_with, func
 ghost use Rattle.rs_syntax.specs.MakeFunctions.{before_shapes, shape_part, shape_parts, trait_head, type_head, impl_head_made, view_type_made, with_target, impl_with, impl_with_value, impl_made};
 
 use crate::gathering::{Gather, all_of, first_of, gather_all};
-use crate::generics::{Condition, GenericParam};
-use crate::item::{Body, Function, Impl, ImplItem, ItemNode, Method, Trait};
 use crate::make_fields::node_value;
 use crate::part::{Part, Value, segment_at, span_from};
 use crate::places::{is_behind, segment_behind};
-use pearlite::{Part as ShapePart, Segment, TypeTree, Value as Shape, make_shape};
+use pearlite::{Part as ShapePart, Value as Shape, make_shape};
 use source_grammar::{ShapeAction, kinds};
+use source_trees::{
+    Body, Condition, Function, GenericParam, Impl, ImplItem, ItemNode, Method, Segment, Trait,
+    TypeTree,
+};
 use source_words::Word;
 use std::alloc::Global;
 use text_core::{Boxed, Items, NoMemory, Span};
 
-impl Function {
-    pub(crate) fn set_generics(&mut self, span: Span, generics: Items<GenericParam>)
-        ensures { self.new ≡ record self.old { generics_span = Some span; generics = generics } }
-    {
-        self.generics_span = Some(span);
-        self.generics = generics;
-    }
+pub(crate) fn set_generics(function: &mut Function, span: Span, generics: Items<GenericParam>)
+    ensures { function.new ≡ record function.old { generics_span = Some span; generics = generics } }
+{
+    function.generics_span = Some(span);
+    function.generics = generics;
+}
 
-    pub(crate) fn set_conditions(&mut self, span: Span, conditions: Items<Condition>)
-        ensures { self.new ≡ record self.old { conditions_span = Some span; conditions = conditions } }
-    {
-        self.conditions_span = Some(span);
-        self.conditions = conditions;
-    }
+pub(crate) fn set_conditions(function: &mut Function, span: Span, conditions: Items<Condition>)
+    ensures { function.new ≡ record function.old { conditions_span = Some span; conditions = conditions } }
+{
+    function.conditions_span = Some(span);
+    function.conditions = conditions;
+}
 
-    /// The type behind `->`, where it is one.
-    pub(crate) fn set_answer(&mut self, ty: Option<TypeTree>)
-        ensures { self.new ≡ with_answer self.old ty }
-    {
-        if let Some(ty) = ty {
-            self.answer = Some(ty);
-        }
+/// The type behind `->`, where it is one.
+pub(crate) fn set_answer(function: &mut Function, ty: Option<TypeTree>)
+    ensures { function.new ≡ with_answer function.old ty }
+{
+    if let Some(ty) = ty {
+        function.answer = Some(ty);
     }
 }
 

@@ -6,12 +6,14 @@ ghost use Rattle.rs_syntax.specs.MakeGenerics.{trait_bound_made, call_trait_of, 
 ghost use Rattle.rs_syntax.specs.MakeGenerics.{param_made, named_param_made, mut_named_param_made, receiver_param_made, mut_receiver_made, borrowed_param_made};
 
 use crate::gathering::{Gather, all_of, first_of, gather_all};
-use crate::generics::{Bound, BoundNode, Condition, ConditionNode, GenericNode, GenericParam};
-use crate::param::{Param, ParamNode};
 use crate::part::{Part, Value, segment_at, span_from};
 use crate::places::{is_at, is_before, is_behind, segment_behind};
-use pearlite::{CallTrait, Segment, TypeTree, Value as Shape};
+use pearlite::Value as Shape;
 use source_grammar::kinds;
+use source_trees::{
+    Bound, BoundNode, CallTrait, Condition, ConditionNode, GenericNode, GenericParam, Param,
+    ParamNode, Segment, TypeTree,
+};
 use source_words::Word;
 use std::alloc::Global;
 use text_core::{Boxed, Items, NoMemory};

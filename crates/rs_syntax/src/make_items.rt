@@ -1,16 +1,15 @@
 //! What the lines of items and methods make.
 ghost use Rattle.std.specs.Prelude.{◌≡◌, reverse, IfOk};
 ghost use Rattle.pearlite.specs.Parts.{as_term};
-ghost use Rattle.rs_syntax.specs.declared.item.Body.TheVariants.{Term};
+ghost use Rattle.source_trees.specs.declared.item.Body.TheVariants.{Term};
 ghost use Rattle.rs_syntax.specs.MakeItems.{with_attribute, item_with_token, item_with_shape, with_node, item_with, item_with_value, item_parts, with_body, item_start, item_made, method_made};
 
-use crate::attribute::{Attribute, AttributeNode};
 use crate::gathering::{Gather, gather_all};
-use crate::item::{Body, Function, Item, ItemNode, Method, Visibility};
 use crate::part::{Part, Value, span_from, word_at};
 use crate::places::is_at;
 use pearlite::Value as Shape;
 use source_grammar::kinds;
+use source_trees::{Attribute, AttributeNode, Body, Function, Item, ItemNode, Method, Visibility};
 use source_words::Word;
 use std::alloc::Global;
 use std::mem;

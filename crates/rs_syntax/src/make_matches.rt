@@ -1,15 +1,15 @@
 //! What `match` makes of its arms.
 ghost use Rattle.std.specs.Prelude.{◌≡◌, false, reverse, unwrap_or, IfOk};
 ghost use Rattle.pearlite.specs.Parts.{nowhere};
-ghost use Rattle.rs_syntax.specs.Expr.{truth};
+ghost use Rattle.source_trees.specs.Expr.{truth};
 ghost use Rattle.rs_syntax.specs.MakeStatements.{arms_in, match_made, match_of, no_arms, with_body, with_part};
 
-use crate::attribute::Attribute;
 use crate::element::Element;
-use crate::expr::{Arm, Expr, ExprNode, made, nothing};
 use crate::make_attributed::{across, with_attributes};
+use crate::nodes::{made, nothing};
 use crate::part::{Part, Value, next};
-use pearlite::{NOWHERE, Pat, span_from};
+use pearlite::{NOWHERE, span_from};
+use source_trees::{Arm, Attribute, Expr, ExprNode, Pat};
 use source_words::Word;
 use std::alloc::Global;
 use std::mem;

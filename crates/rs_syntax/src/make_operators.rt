@@ -2,11 +2,12 @@
 ghost use Rattle.std.specs.Prelude.{◌≡◌, reverse, IfOk};
 ghost use Rattle.rs_syntax.specs.MakeOperators.{applied, assigned, assigning, assignment_made, binary_of, computing, operated, operation_made, updating_of};
 
-use crate::expr::{Expr, ExprNode, made, nothing};
+use crate::nodes::{made, nothing};
 use crate::part::{Part, Suffix, Value, next};
 use logic_term::{BinaryOp, LazyOp};
 use pearlite::{span_from, word_at, word_before};
 use source_grammar::kinds;
+use source_trees::{Expr, ExprNode};
 use source_words::Word;
 use std::alloc::Global;
 use text_core::{NoMemory, Span};

@@ -3,13 +3,12 @@ ghost use Rattle.std.specs.Prelude.{◌≡◌, reverse, IfOk};
 ghost use Rattle.rs_syntax.specs.declared.part.Value.TheVariants as V;
 ghost use Rattle.rs_syntax.specs.MakeStatements.{blocklike_made, forever_made, if_made, let_condition_made, let_made, while_made};
 
-use crate::expr::{ExprNode, Stmt};
 use crate::found::{first_expr, found_in, take_first};
 use crate::make_expressions::plain;
 use crate::part::{Part, Value};
-use crate::statement::StmtKind;
 use pearlite::{is_before, span_from};
 use source_grammar::kinds;
+use source_trees::{ExprNode, Stmt, StmtKind};
 use source_words::Word;
 use std::alloc::Global;
 use text_core::{Boxed, NoMemory};

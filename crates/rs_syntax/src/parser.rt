@@ -5,14 +5,14 @@ ghost use Rattle.text_core.specs.declared.fault.PassError.TheVariants as P;
 ghost use Rattle.source_grammar.specs.Faults.{IsSourceDerivation};
 ghost use Rattle.source_grammar.specs.SourceGrammar.{source_goal};
 ghost use Rattle.source_words.specs.Words.{Keeps, GivesNames};
-ghost use Rattle.rs_syntax.specs.declared.item.Item.{Item};
+ghost use Rattle.source_trees.specs.declared.item.Item.{Item};
 ghost use Rattle.rs_syntax.specs.Parsed.{kinds_in, AreItemsOf, SpellsItems, methods_among, functions_of, functions_among, most_functions, error_at, error_of, IsItemsError, IsParseError, SpellsNone};
 
 use crate::gathering::all_of;
-use crate::item::{ImplItem, Item, ItemNode};
 use crate::part::Part;
 use grammar_tables::evaluate;
 use source_grammar::{SyntaxFault, parse_source, tables};
+use source_trees::{ImplItem, Item, ItemNode};
 use source_words::{Word, kinds_of_words, words_of};
 use std::alloc::Global;
 use text_core::{Code, Items, Limit, LimitKind, Names, PassError, SourceError, Span};

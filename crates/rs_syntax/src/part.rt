@@ -2,24 +2,24 @@
 ghost use Rattle.std.specs.Prelude.{◌≡◌, ◌∷◌, [], ◌+◌, reverse, IfOk, MatchOption, OnOk};
 ghost use Rattle.pearlite.specs.Parts.{word_at};
 ghost use Rattle.text_core.specs.declared.span.Span.{Span};
-ghost use Rattle.rs_syntax.specs.ExprView.{expr_of};
+ghost use Rattle.source_trees.specs.ExprView.{expr_of};
 ghost use Rattle.rs_syntax.specs.MakeOperators.{applied, as_expr, expr_in, suffix_by};
 ghost use Rattle.rs_syntax.specs.Parts.{element_by, found_of, joined, part_span};
 
 mod adding;
 pub(crate) mod families;
 
-use crate::attribute::AttributeNode;
 use crate::element::{Element, attribute_from, element_of_shape};
-use crate::expr::{Expr, ExprNode, FieldExpr, Stmt, nothing};
 use crate::found::Found;
-use crate::generics::{Bound, Condition, GenericParam};
-use crate::item::{Field, Function, ImplItem, Item, ItemNode, Method, Variant};
 use crate::make_operators::computing;
-use crate::param::Param;
+use crate::nodes::nothing;
 use logic_term::{BinaryOp, LazyOp};
-use pearlite::{Number, Pat, Segment, TypeTree, Value as Shape};
+use pearlite::Value as Shape;
 pub(crate) use pearlite::{segment_at, span_from, word_at};
+use source_trees::{
+    AttributeNode, Bound, Condition, Expr, ExprNode, Field, FieldExpr, Function, GenericParam,
+    ImplItem, Item, ItemNode, Method, Number, Param, Pat, Segment, Stmt, TypeTree, Variant,
+};
 use source_words::Word;
 use std::alloc::Global;
 use text_core::{Boxed, Items, NoMemory, Span};

@@ -3,7 +3,7 @@ ghost use Rattle.std.specs.Prelude.{◌≡◌, ◌+◌, ◌-◌, nat_eq};
 ghost use Rattle.pearlite.specs.Parts.{word_at, segment_at};
 
 use crate::part::{word_at, word_behind};
-use pearlite::Segment;
+use source_trees::Segment;
 use source_words::Word;
 
 /// Whether the word is of that kind.

@@ -2,7 +2,6 @@
 ghost use Rattle.std.specs.Prelude.{◌≡◌, reverse, IfOk};
 ghost use Rattle.rs_syntax.specs.Make.{expr_made, code_made, value_made, is_kept, trees};
 
-use crate::item::ItemNode;
 use crate::make_attributes::{clause, derive};
 use crate::make_blocks::{attributed, block};
 use crate::make_expressions::{
@@ -26,6 +25,7 @@ use crate::part::{Part, Value};
 use grammar_tables::{Expansion, SemanticValue};
 use pearlite::{Value as Shape, make_shape};
 use source_grammar::{Action, CodeAction, action_of, is_for_several};
+use source_trees::ItemNode;
 use source_words::Word;
 use std::alloc::{AllocError, Global};
 use text_core::{Items, NoMemory};

@@ -1,4 +1,5 @@
-use pearlite::{Cursor, PtermNode, parse_term};
+use pearlite::{Cursor, parse_term};
+use source_trees::PtermNode;
 use source_words::tokens_of;
 use std::alloc::Global;
 use std::process::Abort;

@@ -1,5 +1,6 @@
-use rs_syntax::{
-    Body, Expr, ExprNode, Fields, ImplItem, Item, ItemNode, VariantFields, Visibility, parse,
+use rs_syntax::parse;
+use source_trees::{
+    Body, Expr, ExprNode, Fields, ImplItem, Item, ItemNode, VariantFields, Visibility,
 };
 use std::alloc::Global;
 use std::process::Abort;

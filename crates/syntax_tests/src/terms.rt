@@ -1,6 +1,7 @@
 use logic_term::{ArithOp, IntKind};
-use pearlite::{BinaryTerm, Cursor, Pterm, PtermNode, UnaryTerm, parse_term};
+use pearlite::{Cursor, parse_term};
 use source_grammar::kinds::{IDENTIFIER, INTEGER, LIFETIME, STATIC_LIFETIME, WORD_FORALL};
+use source_trees::{BinaryTerm, Pterm, PtermNode, UnaryTerm};
 use source_words::{Word, tokens_of, words_of};
 use std::alloc::Global;
 use std::process::Abort;

@@ -4,12 +4,12 @@ ghost use Rattle.rs_syntax.specs.MakeFields.{struct_with_value, enum_with_value}
 ghost use Rattle.rs_syntax.specs.MakeFunctions.{function_with_value, impl_with_value, shape_part};
 ghost use Rattle.rs_syntax.specs.MakeItems.{item_with_value};
 
-use crate::item::{Body, Enum, Function, ImplItem, ItemNode};
-use crate::make_fields::StructParts;
-use crate::make_functions::ImplParts;
+use crate::make_fields::{StructParts, set_enum_generics};
+use crate::make_functions::{ImplParts, set_answer, set_conditions, set_generics};
 use crate::make_items::ItemParts;
 use crate::part::{Value, span_from};
 use pearlite::Part as ShapePart;
+use source_trees::{Body, Enum, Function, ImplItem, ItemNode};
 use source_words::Word;
 use text_core::NoMemory;
 
@@ -34,7 +34,7 @@ impl Value {
     {
         match self {
             Value::Generics(generics) => {
-                so_far.set_generics(generics);
+                set_enum_generics(so_far, generics);
                 Ok(())
             }
             Value::Variant(variant) => so_far.variants.push(variant.into_inner()),
@@ -55,15 +55,15 @@ impl Value {
         match self {
             Value::Param(param) => function.params.push(param.into_inner()),
             Value::Generics(generics) => {
-                function.set_generics(span_from(words, from, to), generics);
+                set_generics(function, span_from(words, from, to), generics);
                 Ok(())
             }
             Value::Where(conditions) => {
-                function.set_conditions(span_from(words, from, to), conditions);
+                set_conditions(function, span_from(words, from, to), conditions);
                 Ok(())
             }
             Value::Shape(shape) => {
-                function.set_answer(shape.into_type());
+                set_answer(function, shape.into_type());
                 Ok(())
             }
             _ => Ok(()),

@@ -3,10 +3,8 @@ ghost use Rattle.std.specs.Prelude.{◌≡◌, drop, reverse};
 ghost use Rattle.rs_syntax.specs.Gathered.{type_of, term_of, generic_of, bound_of, condition_of, field_of, method_of, item_of};
 
 use crate::gathering::Family;
-use crate::generics::{Bound, Condition, GenericParam};
-use crate::item::{Field, Item, Method};
 use crate::part::{Part, Value};
-use pearlite::{Pterm, TypeTree};
+use source_trees::{Bound, Condition, Field, GenericParam, Item, Method, Pterm, TypeTree};
 
 /// A value that nothing needs.
 pub(crate) fn discard(value: Value) {

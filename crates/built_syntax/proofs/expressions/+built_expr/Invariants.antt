@@ -1,5 +1,5 @@
 use Rattle.std.proofs.Common.{◌≡◌, ◌+◌, ◌*◌, max, drop}
-use Rattle.rs_syntax.specs.ExprView.{expr_size, exprs_size, stmts_size, exprs_of, stmts_of}
+use Rattle.source_trees.specs.ExprView.{expr_size, exprs_size, stmts_size, exprs_of, stmts_of}
 use Rattle.built_syntax.specs.Built.{each}
 use Rattle.built_syntax.specs.BuiltExprs.{built_expr}
 use Rattle.built_syntax.proofs.PartByPart.{each_left}

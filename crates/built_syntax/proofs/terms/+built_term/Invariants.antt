@@ -1,5 +1,5 @@
 use Rattle.std.proofs.Common.{◌+◌, ◌*◌, max}
-use Rattle.pearlite.specs.PtermView.{pterm_size}
+use Rattle.source_trees.specs.PtermView.{pterm_size}
 use Rattle.built_syntax.proofs.terms.+built_term.Given as goal
 
 abbrev pub decreases-built_term : goal.decreases-built_term

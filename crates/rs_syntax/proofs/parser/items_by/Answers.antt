@@ -1,7 +1,7 @@
 use Rattle.std.proofs.Common.{◌≡◌, List, reverse, subst, ap, ◌∙◌, sym}
 use Rattle.std.proofs.lemmas.List.{reverse-reverse}
 use Rattle.grammar_tables.specs.Tables.{grammar_in}
-use Rattle.rs_syntax.specs.declared.item.Item.{Item}
+use Rattle.source_trees.specs.declared.item.Item.{Item}
 use Rattle.rs_syntax.specs.declared.part.Part.{Part}
 use Rattle.rs_syntax.specs.Gathered.{all_of, item_of}
 use Rattle.rs_syntax.specs.Parsed.{AreItemsOf}

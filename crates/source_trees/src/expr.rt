@@ -1,17 +1,14 @@
-ghost use Rattle.std.specs.Prelude.{◌≡◌, IfOk, false};
-ghost use Rattle.pearlite.specs.Parts.{nowhere};
-ghost use Rattle.rs_syntax.specs.Expr.{truth};
-ghost use Rattle.rs_syntax.specs.ExprView.{expr_of};
-
 use crate::attribute::Attribute;
-use crate::operator::UnaryOp;
+use crate::operator::{GhostMacro, PanicMacro, UnaryOp};
 use crate::param::Param;
+use crate::path::{Number, Path, Segment};
+use crate::pattern::Pat;
+use crate::pterm::Pterm;
 use crate::statement::StmtKind;
+use crate::types::TypeTree;
 use logic_term::{BinaryOp, IntKind, LazyOp};
-use pearlite::{GhostMacro, NOWHERE, Number, PanicMacro, Pat, Path, Pterm, Segment, TypeTree};
-use std::alloc::Global;
 use std::marker::Model;
-use text_core::{Items, NoMemory, Span};
+use text_core::{Items, Span};
 
 /// An expression of program code as it is written. Contracts see the tree of specs/Expr.antt.
 #[cycle(expr)]
@@ -113,35 +110,20 @@ pub struct FieldExpr {
 }
 
 impl Model for Expr {
-    ghost use Rattle.rs_syntax.specs.Expr.{Expr as Tree};
-    ghost use Rattle.rs_syntax.specs.ExprCode.{coded_expr};
+    ghost use Rattle.source_trees.specs.Expr.{Expr as Tree};
+    ghost use Rattle.source_trees.specs.ExprCode.{coded_expr};
 
     ghost Value = { Tree };
 
     ghost coded = { coded_expr };
 
-    ghost use Rattle.rs_syntax.specs.ExprView.{expr_of, expr_size};
+    ghost use Rattle.source_trees.specs.ExprView.{expr_of, expr_size};
 
     ghost view = { λ e. expr_of e.span e.node.value };
 
     ghost size = { expr_size };
 
-    ghost use Rattle.rs_syntax.specs.ExprFalls.{falls};
+    ghost use Rattle.source_trees.specs.ExprFalls.{falls};
 
     ghost size_decreases = { λ a h. falls a.span a.node.value };
-}
-
-/// The expression with this at its top. Err only for want of memory.
-pub(crate) fn made(alloc: Global, span: Span, node: ExprNode) -> Result<Expr, NoMemory>
-    ensures { IfOk result (λ e. e ≡ expr_of span node) }
-{
-    let node = Box::new(alloc, node)?;
-    Ok(Expr { span, node })
-}
-
-/// What stands for an expression where none is: `false` at the start of the source.
-pub(crate) fn nothing(alloc: Global) -> Result<Expr, NoMemory>
-    ensures { IfOk result (λ e. e ≡ truth nowhere false) }
-{
-    made(alloc, NOWHERE, ExprNode::Truth(false))
 }

@@ -1,9 +1,9 @@
 -- The types that nodes stand for, and how deep they are.
 use Rattle.std.specs.Prelude.{ℕ, suc, max, List, [], ◌∷◌}
 use Rattle.text_core.specs.declared.span.Span.{Span}
-use Rattle.pearlite.specs.TypeTree.{TypeTree, named, tuple, reference, self_type, self_view, Types, none, more}
-use Rattle.pearlite.specs.declared.types.TypeNode.{TypeNode}
-use Rattle.pearlite.specs.declared.types.TypeNode.TheVariants as node
+use Rattle.source_trees.specs.TypeTree.{TypeTree, named, tuple, reference, self_type, self_view, Types, none, more}
+use Rattle.source_trees.specs.declared.types.TypeNode.{TypeNode}
+use Rattle.source_trees.specs.declared.types.TypeNode.TheVariants as node
 
 abbrev pub types_of : List TypeTree → Types
 types_of [] = none

@@ -44,7 +44,7 @@ pub enum PtermNode {
     Tuple(Vec<Pterm>),
     /// The condition and both branches.
     If(Pterm, Pterm, Pterm),
-    Match(Pterm, Vec<Arm>),
+    Match(Pterm, Vec<TermArm>),
     /// The variables and the body.
     Quantified(Quantifier, Vec<Binder>, Pterm),
     Predicate(Predicate, Vec<Pterm>),
@@ -63,7 +63,7 @@ pub struct FieldTerm {
 /// An arm of a `match`.
 #[cycle(pterm)]
 #[derive(Drop)]
-pub struct Arm {
+pub struct TermArm {
     /// From its first token to its last.
     pub span: Span,
     pub pattern: Pat,
@@ -71,20 +71,20 @@ pub struct Arm {
 }
 
 impl Model for Pterm {
-    ghost use Rattle.pearlite.specs.Pterm.{Pterm as Tree};
-    ghost use Rattle.pearlite.specs.PtermCode.{coded_pterm};
+    ghost use Rattle.source_trees.specs.Pterm.{Pterm as Tree};
+    ghost use Rattle.source_trees.specs.PtermCode.{coded_pterm};
 
     ghost Value = { Tree };
 
     ghost coded = { coded_pterm };
 
-    ghost use Rattle.pearlite.specs.PtermView.{pterm_of, pterm_size};
+    ghost use Rattle.source_trees.specs.PtermView.{pterm_of, pterm_size};
 
     ghost view = { λ t. pterm_of t.span t.node.value };
 
     ghost size = { pterm_size };
 
-    ghost use Rattle.pearlite.specs.PtermFalls.{falls};
+    ghost use Rattle.source_trees.specs.PtermFalls.{falls};
 
     ghost size_decreases = { λ a h. falls a.span a.node.value };
 }

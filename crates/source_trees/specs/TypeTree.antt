@@ -1,7 +1,7 @@
 -- Types as they are written (Rust Reference, "Types"): one constructor for each variant of `TypeNode`, after its span.
 use Rattle.std.specs.Prelude.{Bool, List, Option}
 use Rattle.text_core.specs.declared.span.Span.{Span}
-use Rattle.pearlite.specs.declared.path.Segment.{Segment}
+use Rattle.source_trees.specs.declared.path.Segment.{Segment}
 
 mutual
   pub data TypeTree : Type 0 where

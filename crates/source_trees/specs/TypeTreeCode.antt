@@ -3,9 +3,9 @@ use Rattle.std.specs.Prelude.{◌≡◌, ℕ}
 use Rattle.std.proofs.Common.{refl, ap, arith}
 use Rattle.std.specs.Coded.{Coded, coded_bool, coded_list, coded_option}
 use Rattle.text_core.specs.contracts.span.Span as span
-use Rattle.pearlite.specs.contracts.path.Segment as segment
+use Rattle.source_trees.specs.contracts.path.Segment as segment
 use base.Stored.{Gv, gnil, gnum, gcons, num}
-use Rattle.pearlite.specs.TypeTree.{TypeTree, named, tuple, reference, self_type, self_view, Types, none, more}
+use Rattle.source_trees.specs.TypeTree.{TypeTree, named, tuple, reference, self_type, self_view, Types, none, more}
 
 abbrev pub head : Gv → Gv
 head gnil = gnil

@@ -1,10 +1,10 @@
 -- The patterns that nodes stand for, and how deep they are.
 use Rattle.std.specs.Prelude.{ℕ, suc, max, List, [], ◌∷◌}
 use Rattle.text_core.specs.declared.span.Span.{Span}
-use Rattle.pearlite.specs.Pat.{Pat, any, mutable, integer, truth, tuple, path, parts, fields, Pats, none, more, FieldPats, no_fields, with_field}
-use Rattle.pearlite.specs.declared.pattern.PatNode.{PatNode}
-use Rattle.pearlite.specs.declared.pattern.PatNode.TheVariants as node
-use Rattle.pearlite.specs.declared.pattern.FieldPat.{FieldPat}
+use Rattle.source_trees.specs.Pat.{Pat, any, mutable, integer, truth, tuple, path, parts, fields, Pats, none, more, FieldPats, no_fields, with_field}
+use Rattle.source_trees.specs.declared.pattern.PatNode.{PatNode}
+use Rattle.source_trees.specs.declared.pattern.PatNode.TheVariants as node
+use Rattle.source_trees.specs.declared.pattern.FieldPat.{FieldPat}
 
 abbrev pub pats_of : List Pat → Pats
 pats_of [] = none

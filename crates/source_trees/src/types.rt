@@ -27,20 +27,20 @@ pub enum TypeNode {
 }
 
 impl Model for TypeTree {
-    ghost use Rattle.pearlite.specs.TypeTree.{TypeTree as Tree};
-    ghost use Rattle.pearlite.specs.TypeTreeCode.{coded_type_tree};
+    ghost use Rattle.source_trees.specs.TypeTree.{TypeTree as Tree};
+    ghost use Rattle.source_trees.specs.TypeTreeCode.{coded_type_tree};
 
     ghost Value = { Tree };
 
     ghost coded = { coded_type_tree };
 
-    ghost use Rattle.pearlite.specs.TypeTreeView.{type_tree_of, type_tree_size};
+    ghost use Rattle.source_trees.specs.TypeTreeView.{type_tree_of, type_tree_size};
 
     ghost view = { λ t. type_tree_of t.span t.node.value };
 
     ghost size = { type_tree_size };
 
-    ghost use Rattle.pearlite.specs.TypeTreeFalls.{falls};
+    ghost use Rattle.source_trees.specs.TypeTreeFalls.{falls};
 
     ghost size_decreases = { λ a h. falls a.span a.node.value };
 }

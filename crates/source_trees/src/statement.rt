@@ -1,4 +1,5 @@
-use pearlite::{Pat, TypeTree};
+use crate::pattern::Pat;
+use crate::types::TypeTree;
 
 /// What is done with a statement's value.
 #[derive(Drop)]

@@ -1,14 +1,14 @@
 -- The expressions that nodes stand for, and how deep they are.
 use Rattle.std.specs.Prelude.{ℕ, suc, max, List, [], ◌∷◌}
 use Rattle.text_core.specs.declared.span.Span.{Span}
-use Rattle.rs_syntax.specs.Expr.{Expr, integer, truth, receiver, path, literal, tuple, block, block_with, branch, choice, matching, repeat, endless, attributed, closure, bare_return, return_with, break_off, go_on, panic, logical}
-use Rattle.rs_syntax.specs.Expr.{assign, update, lazy, binary, cast, unary, borrow, field, part, method, call, Exprs, none, more, Stmts, no_stmts, with_stmt, Arms, no_arms, with_arm, FieldExprs, no_fields}
-use Rattle.rs_syntax.specs.Expr.{with_field}
-use Rattle.rs_syntax.specs.declared.expr.ExprNode.{ExprNode}
-use Rattle.rs_syntax.specs.declared.expr.ExprNode.TheVariants as node
-use Rattle.rs_syntax.specs.declared.expr.Stmt.{Stmt}
-use Rattle.rs_syntax.specs.declared.expr.Arm.{Arm}
-use Rattle.rs_syntax.specs.declared.expr.FieldExpr.{FieldExpr}
+use Rattle.source_trees.specs.Expr.{Expr, integer, truth, receiver, path, literal, tuple, block, block_with, branch, choice, matching, repeat, endless, attributed, closure, bare_return, return_with, break_off, go_on, panic, logical}
+use Rattle.source_trees.specs.Expr.{assign, update, lazy, binary, cast, unary, borrow, field, part, method, call, Exprs, none, more, Stmts, no_stmts, with_stmt, Arms, no_arms, with_arm, FieldExprs, no_fields}
+use Rattle.source_trees.specs.Expr.{with_field}
+use Rattle.source_trees.specs.declared.expr.ExprNode.{ExprNode}
+use Rattle.source_trees.specs.declared.expr.ExprNode.TheVariants as node
+use Rattle.source_trees.specs.declared.expr.Stmt.{Stmt}
+use Rattle.source_trees.specs.declared.expr.Arm.{Arm}
+use Rattle.source_trees.specs.declared.expr.FieldExpr.{FieldExpr}
 
 abbrev pub exprs_of : List Expr → Exprs
 exprs_of [] = none

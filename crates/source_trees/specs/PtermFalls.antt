@@ -3,13 +3,13 @@ use Rattle.std.specs.Prelude.{◌+◌, ◌≤◌, max, List, [], ◌∷◌}
 use Rattle.std.proofs.Common.{arith}
 use denote.Param.Weighed.{most}
 use Rattle.text_core.specs.declared.span.Span.{Span}
-use Rattle.pearlite.specs.Pterm.{Pterm}
-use Rattle.pearlite.specs.PtermView.{pterm_of, terms_of, field_terms_of, arms_of, pterm_size, terms_size, field_terms_size, arms_size}
-use Rattle.pearlite.specs.declared.pterm.FieldTerm.{FieldTerm}
-use Rattle.pearlite.specs.declared.pterm.Arm.{Arm}
-use Rattle.pearlite.specs.declared.pterm.PtermNode.{PtermNode}
-use Rattle.pearlite.specs.declared.pterm.PtermNode.TheVariants as node
-use Rattle.pearlite.specs.declared.pterm.Pterm.TheDeep.{deep-PtermNode}
+use Rattle.source_trees.specs.Pterm.{Pterm}
+use Rattle.source_trees.specs.PtermView.{pterm_of, terms_of, field_terms_of, arms_of, pterm_size, terms_size, field_terms_size, arms_size}
+use Rattle.source_trees.specs.declared.pterm.FieldTerm.{FieldTerm}
+use Rattle.source_trees.specs.declared.pterm.TermArm.{TermArm}
+use Rattle.source_trees.specs.declared.pterm.PtermNode.{PtermNode}
+use Rattle.source_trees.specs.declared.pterm.PtermNode.TheVariants as node
+use Rattle.source_trees.specs.declared.pterm.Pterm.TheDeep.{deep-PtermNode}
 
 most_terms : (xs : List Pterm) → most (λ x. pterm_size x + 1) xs ≤ terms_size (terms_of xs)
 most_terms [] = omega arith
@@ -19,7 +19,7 @@ most_field_terms : (xs : List FieldTerm) → most (λ x. max (pterm_size x.value
 most_field_terms [] = omega arith
 most_field_terms (x ∷ xs) = omega (arith, most_field_terms xs)
 
-most_arms : (xs : List Arm) → most (λ x. max (pterm_size x.body + 1) 0) xs ≤ arms_size (arms_of xs)
+most_arms : (xs : List TermArm) → most (λ x. max (pterm_size x.body + 1) 0) xs ≤ arms_size (arms_of xs)
 most_arms [] = omega arith
 most_arms (x ∷ xs) = omega (arith, most_arms xs)
 

@@ -1,4 +1,5 @@
-use pearlite::{Pterm, Segment};
+use crate::path::Segment;
+use crate::pterm::Pterm;
 use text_core::{Items, Span};
 
 /// The clauses of contracts, loops and closures.

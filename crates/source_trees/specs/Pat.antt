@@ -1,9 +1,9 @@
 -- Patterns as they are written (Rust Reference, "Patterns"): one constructor for each variant of `PatNode`, after its span.
 use Rattle.std.specs.Prelude.{ℤ, Bool, Option}
 use Rattle.text_core.specs.declared.span.Span.{Span}
-use Rattle.pearlite.specs.declared.path.Segment.{Segment}
+use Rattle.source_trees.specs.declared.path.Segment.{Segment}
 use Rattle.logic_term.specs.declared.kinds.IntKind.{IntKind}
-use Rattle.pearlite.specs.declared.path.Path.{Path}
+use Rattle.source_trees.specs.declared.path.Path.{Path}
 
 mutual
   pub data Pat : Type 0 where

@@ -3,14 +3,14 @@ use Rattle.std.specs.Prelude.{◌+◌, ◌≤◌, max, List, [], ◌∷◌}
 use Rattle.std.proofs.Common.{arith}
 use denote.Param.Weighed.{most}
 use Rattle.text_core.specs.declared.span.Span.{Span}
-use Rattle.rs_syntax.specs.Expr.{Expr}
-use Rattle.rs_syntax.specs.ExprView.{expr_of, exprs_of, stmts_of, arms_of, field_exprs_of, expr_size, exprs_size, stmts_size, arms_size, field_exprs_size}
-use Rattle.rs_syntax.specs.declared.expr.Stmt.{Stmt}
-use Rattle.rs_syntax.specs.declared.expr.Arm.{Arm}
-use Rattle.rs_syntax.specs.declared.expr.FieldExpr.{FieldExpr}
-use Rattle.rs_syntax.specs.declared.expr.ExprNode.{ExprNode}
-use Rattle.rs_syntax.specs.declared.expr.ExprNode.TheVariants as node
-use Rattle.rs_syntax.specs.declared.expr.Expr.TheDeep.{deep-ExprNode}
+use Rattle.source_trees.specs.Expr.{Expr}
+use Rattle.source_trees.specs.ExprView.{expr_of, exprs_of, stmts_of, arms_of, field_exprs_of, expr_size, exprs_size, stmts_size, arms_size, field_exprs_size}
+use Rattle.source_trees.specs.declared.expr.Stmt.{Stmt}
+use Rattle.source_trees.specs.declared.expr.Arm.{Arm}
+use Rattle.source_trees.specs.declared.expr.FieldExpr.{FieldExpr}
+use Rattle.source_trees.specs.declared.expr.ExprNode.{ExprNode}
+use Rattle.source_trees.specs.declared.expr.ExprNode.TheVariants as node
+use Rattle.source_trees.specs.declared.expr.Expr.TheDeep.{deep-ExprNode}
 
 most_exprs : (xs : List Expr) → most (λ x. expr_size x + 1) xs ≤ exprs_size (exprs_of xs)
 most_exprs [] = omega arith

@@ -2,7 +2,9 @@ use crate::attribute::Attribute;
 use crate::expr::Expr;
 use crate::generics::{Condition, GenericParam};
 use crate::param::Param;
-use pearlite::{Pterm, Segment, TypeTree};
+use crate::path::Segment;
+use crate::pterm::Pterm;
+use crate::types::TypeTree;
 use text_core::{Items, Span};
 
 /// Who may name an item.

@@ -3,11 +3,11 @@ use Rattle.std.specs.Prelude.{◌≡◌, ℕ}
 use Rattle.std.proofs.Common.{refl, ap, arith}
 use Rattle.std.specs.Coded.{Coded, coded_ℤ, coded_bool, coded_option}
 use Rattle.text_core.specs.contracts.span.Span as span
-use Rattle.pearlite.specs.contracts.path.Segment as segment
+use Rattle.source_trees.specs.contracts.path.Segment as segment
 use Rattle.logic_term.specs.contracts.kinds.IntKind as int_kind
-use Rattle.pearlite.specs.contracts.path.Path as path_of
+use Rattle.source_trees.specs.contracts.path.Path as path_of
 use base.Stored.{Gv, gnil, gnum, gcons, num}
-use Rattle.pearlite.specs.Pat.{Pat, any, mutable, integer, truth, tuple, path, parts, fields, Pats, none, more, FieldPats, no_fields, with_field}
+use Rattle.source_trees.specs.Pat.{Pat, any, mutable, integer, truth, tuple, path, parts, fields, Pats, none, more, FieldPats, no_fields, with_field}
 
 abbrev pub head : Gv → Gv
 head gnil = gnil

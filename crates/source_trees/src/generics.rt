@@ -1,4 +1,6 @@
-use pearlite::{CallTrait, Segment, TypeTree};
+use crate::operator::CallTrait;
+use crate::path::Segment;
+use crate::types::TypeTree;
 use text_core::{Items, Span};
 
 /// What a type has to meet.

@@ -1,12 +1,12 @@
 -- The terms that nodes stand for, and how deep they are.
 use Rattle.std.specs.Prelude.{ℕ, suc, max, List, [], ◌∷◌}
 use Rattle.text_core.specs.declared.span.Span.{Span}
-use Rattle.pearlite.specs.Pterm.{Pterm, integer, truth, answer, receiver, path, unary, binary, mut_ref, field, part, method, call, literal, tuple, choice, matching, quantified, predicate}
-use Rattle.pearlite.specs.Pterm.{Terms, none, more, FieldTerms, no_fields, with_field, Arms, no_arms, with_arm}
-use Rattle.pearlite.specs.declared.pterm.PtermNode.{PtermNode}
-use Rattle.pearlite.specs.declared.pterm.PtermNode.TheVariants as node
-use Rattle.pearlite.specs.declared.pterm.FieldTerm.{FieldTerm}
-use Rattle.pearlite.specs.declared.pterm.Arm.{Arm}
+use Rattle.source_trees.specs.Pterm.{Pterm, integer, truth, answer, receiver, path, unary, binary, mut_ref, field, part, method, call, literal, tuple, choice, matching, quantified, predicate}
+use Rattle.source_trees.specs.Pterm.{Terms, none, more, FieldTerms, no_fields, with_field, Arms, no_arms, with_arm}
+use Rattle.source_trees.specs.declared.pterm.PtermNode.{PtermNode}
+use Rattle.source_trees.specs.declared.pterm.PtermNode.TheVariants as node
+use Rattle.source_trees.specs.declared.pterm.FieldTerm.{FieldTerm}
+use Rattle.source_trees.specs.declared.pterm.TermArm.{TermArm}
 
 abbrev pub terms_of : List Pterm → Terms
 terms_of [] = none
@@ -16,7 +16,7 @@ abbrev pub field_terms_of : List FieldTerm → FieldTerms
 field_terms_of [] = no_fields
 field_terms_of (x ∷ xs) = with_field x.span x.name x.value (field_terms_of xs)
 
-abbrev pub arms_of : List Arm → Arms
+abbrev pub arms_of : List TermArm → Arms
 arms_of [] = no_arms
 arms_of (x ∷ xs) = with_arm x.span x.pattern x.body (arms_of xs)
 

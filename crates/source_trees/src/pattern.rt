@@ -43,20 +43,20 @@ pub struct FieldPat {
 }
 
 impl Model for Pat {
-    ghost use Rattle.pearlite.specs.Pat.{Pat as Tree};
-    ghost use Rattle.pearlite.specs.PatCode.{coded_pat};
+    ghost use Rattle.source_trees.specs.Pat.{Pat as Tree};
+    ghost use Rattle.source_trees.specs.PatCode.{coded_pat};
 
     ghost Value = { Tree };
 
     ghost coded = { coded_pat };
 
-    ghost use Rattle.pearlite.specs.PatView.{pat_of, pat_size};
+    ghost use Rattle.source_trees.specs.PatView.{pat_of, pat_size};
 
     ghost view = { λ p. pat_of p.span p.node.value };
 
     ghost size = { pat_size };
 
-    ghost use Rattle.pearlite.specs.PatFalls.{falls};
+    ghost use Rattle.source_trees.specs.PatFalls.{falls};
 
     ghost size_decreases = { λ a h. falls a.span a.node.value };
 }

@@ -3,15 +3,15 @@ use Rattle.std.specs.Prelude.{ℤ, Bool, Option, List}
 use Rattle.text_core.specs.declared.name.Name.{Name}
 use Rattle.text_core.specs.declared.span.Span.{Span}
 use Rattle.logic_term.specs.declared.kinds.IntKind.{IntKind}
-use Rattle.pearlite.specs.declared.path.Path.{Path}
-use Rattle.pearlite.specs.declared.operator.UnaryTerm.{UnaryTerm}
-use Rattle.pearlite.specs.declared.operator.BinaryTerm.{BinaryTerm}
-use Rattle.pearlite.specs.declared.path.Segment.{Segment}
-use Rattle.pearlite.specs.declared.path.Number.{Number}
-use Rattle.pearlite.specs.declared.operator.Quantifier.{Quantifier}
-use Rattle.pearlite.specs.declared.binder.Binder.{Binder}
-use Rattle.pearlite.specs.declared.operator.Predicate.{Predicate}
-use Rattle.pearlite.specs.Pat.{Pat}
+use Rattle.source_trees.specs.declared.path.Path.{Path}
+use Rattle.source_trees.specs.declared.operator.UnaryTerm.{UnaryTerm}
+use Rattle.source_trees.specs.declared.operator.BinaryTerm.{BinaryTerm}
+use Rattle.source_trees.specs.declared.path.Segment.{Segment}
+use Rattle.source_trees.specs.declared.path.Number.{Number}
+use Rattle.source_trees.specs.declared.operator.Quantifier.{Quantifier}
+use Rattle.source_trees.specs.declared.binder.Binder.{Binder}
+use Rattle.source_trees.specs.declared.operator.Predicate.{Predicate}
+use Rattle.source_trees.specs.Pat.{Pat}
 
 mutual
   pub data Pterm : Type 0 where

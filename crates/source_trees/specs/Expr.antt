@@ -3,19 +3,19 @@ use Rattle.std.specs.Prelude.{ℤ, Bool, Option, List}
 use Rattle.text_core.specs.declared.span.Span.{Span}
 use Rattle.logic_term.specs.declared.kinds.BinaryOp.{BinaryOp}
 use Rattle.logic_term.specs.declared.kinds.IntKind.{IntKind}
-use Rattle.pearlite.specs.declared.operator.PanicMacro.{PanicMacro}
-use Rattle.pearlite.specs.declared.operator.GhostMacro.{GhostMacro}
-use Rattle.pearlite.specs.declared.path.Number.{Number}
-use Rattle.pearlite.specs.declared.path.Segment.{Segment}
-use Rattle.pearlite.specs.declared.path.Path.{Path}
-use Rattle.pearlite.specs.TypeTree.{TypeTree}
-use Rattle.pearlite.specs.Pat.{Pat}
-use Rattle.pearlite.specs.Pterm.{Pterm}
-use Rattle.rs_syntax.specs.declared.attribute.Attribute.{Attribute}
-use Rattle.rs_syntax.specs.declared.param.Param.{Param}
-use Rattle.rs_syntax.specs.declared.statement.StmtKind.{StmtKind}
+use Rattle.source_trees.specs.declared.operator.PanicMacro.{PanicMacro}
+use Rattle.source_trees.specs.declared.operator.GhostMacro.{GhostMacro}
+use Rattle.source_trees.specs.declared.path.Number.{Number}
+use Rattle.source_trees.specs.declared.path.Segment.{Segment}
+use Rattle.source_trees.specs.declared.path.Path.{Path}
+use Rattle.source_trees.specs.TypeTree.{TypeTree}
+use Rattle.source_trees.specs.Pat.{Pat}
+use Rattle.source_trees.specs.Pterm.{Pterm}
+use Rattle.source_trees.specs.declared.attribute.Attribute.{Attribute}
+use Rattle.source_trees.specs.declared.param.Param.{Param}
+use Rattle.source_trees.specs.declared.statement.StmtKind.{StmtKind}
 use Rattle.logic_term.specs.declared.kinds.LazyOp.{LazyOp}
-use Rattle.rs_syntax.specs.declared.operator.UnaryOp.{UnaryOp}
+use Rattle.source_trees.specs.declared.operator.UnaryOp.{UnaryOp}
 
 mutual
   pub data Expr : Type 0 where

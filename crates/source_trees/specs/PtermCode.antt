@@ -5,18 +5,18 @@ use Rattle.std.specs.Coded.{Coded, coded_ℤ, coded_bool, coded_option, coded_li
 use Rattle.text_core.specs.contracts.span.Span as span
 use Rattle.text_core.specs.contracts.name.Name as name
 use Rattle.logic_term.specs.contracts.kinds.IntKind as int_kind
-use Rattle.pearlite.specs.contracts.path.Path as path_of
-use Rattle.pearlite.specs.contracts.path.Number as number
-use Rattle.pearlite.specs.contracts.operator.UnaryTerm as unary_term
-use Rattle.pearlite.specs.contracts.operator.BinaryTerm as binary_term
-use Rattle.pearlite.specs.contracts.path.Segment as segment
-use Rattle.pearlite.specs.contracts.operator.Quantifier as quantifier
-use Rattle.pearlite.specs.contracts.binder.Binder as binder
-use Rattle.pearlite.specs.contracts.operator.Predicate as predicate_row
-use Rattle.pearlite.specs.PatCode.{coded_pat}
+use Rattle.source_trees.specs.contracts.path.Path as path_of
+use Rattle.source_trees.specs.contracts.path.Number as number
+use Rattle.source_trees.specs.contracts.operator.UnaryTerm as unary_term
+use Rattle.source_trees.specs.contracts.operator.BinaryTerm as binary_term
+use Rattle.source_trees.specs.contracts.path.Segment as segment
+use Rattle.source_trees.specs.contracts.operator.Quantifier as quantifier
+use Rattle.source_trees.specs.contracts.binder.Binder as binder
+use Rattle.source_trees.specs.contracts.operator.Predicate as predicate_row
+use Rattle.source_trees.specs.PatCode.{coded_pat}
 use base.Stored.{Gv, gnil, gnum, gcons, num}
-use Rattle.pearlite.specs.Pterm.{Pterm, integer, truth, answer, receiver, path, unary, binary, mut_ref, field, part, method, call, literal, tuple, choice, matching, quantified, predicate}
-use Rattle.pearlite.specs.Pterm.{Terms, none, more, FieldTerms, no_fields, with_field, Arms, no_arms, with_arm}
+use Rattle.source_trees.specs.Pterm.{Pterm, integer, truth, answer, receiver, path, unary, binary, mut_ref, field, part, method, call, literal, tuple, choice, matching, quantified, predicate}
+use Rattle.source_trees.specs.Pterm.{Terms, none, more, FieldTerms, no_fields, with_field, Arms, no_arms, with_arm}
 
 abbrev pub head : Gv → Gv
 head gnil = gnil

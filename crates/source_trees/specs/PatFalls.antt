@@ -3,12 +3,12 @@ use Rattle.std.specs.Prelude.{◌+◌, ◌≤◌, max, List, [], ◌∷◌}
 use Rattle.std.proofs.Common.{arith}
 use denote.Param.Weighed.{most}
 use Rattle.text_core.specs.declared.span.Span.{Span}
-use Rattle.pearlite.specs.Pat.{Pat}
-use Rattle.pearlite.specs.PatView.{pat_of, pats_of, field_pats_of, pat_size, pats_size, field_pats_size}
-use Rattle.pearlite.specs.declared.pattern.FieldPat.{FieldPat}
-use Rattle.pearlite.specs.declared.pattern.PatNode.{PatNode}
-use Rattle.pearlite.specs.declared.pattern.PatNode.TheVariants as node
-use Rattle.pearlite.specs.declared.pattern.Pat.TheDeep.{deep-PatNode}
+use Rattle.source_trees.specs.Pat.{Pat}
+use Rattle.source_trees.specs.PatView.{pat_of, pats_of, field_pats_of, pat_size, pats_size, field_pats_size}
+use Rattle.source_trees.specs.declared.pattern.FieldPat.{FieldPat}
+use Rattle.source_trees.specs.declared.pattern.PatNode.{PatNode}
+use Rattle.source_trees.specs.declared.pattern.PatNode.TheVariants as node
+use Rattle.source_trees.specs.declared.pattern.Pat.TheDeep.{deep-PatNode}
 
 most_pats : (xs : List Pat) → most (λ x. pat_size x + 1) xs ≤ pats_size (pats_of xs)
 most_pats [] = omega arith

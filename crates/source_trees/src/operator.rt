@@ -69,3 +69,14 @@ pub enum GhostMacro {
     /// `snapshot!`
     Snapshot,
 }
+
+/// The operators of program code with one operand.
+#[derive(Clone, Copy)]
+pub enum UnaryOp {
+    /// `-e`
+    Neg,
+    /// `!e`
+    Not,
+    /// `*e`
+    Deref,
+}

@@ -6,22 +6,22 @@ use Rattle.text_core.specs.contracts.span.Span as span
 use Rattle.logic_term.specs.contracts.kinds.BinaryOp as binary_op
 use Rattle.logic_term.specs.contracts.kinds.IntKind as int_kind
 use Rattle.logic_term.specs.contracts.kinds.LazyOp as lazy_op
-use Rattle.pearlite.specs.contracts.path.Number as number
-use Rattle.pearlite.specs.contracts.path.Path as path_of
-use Rattle.pearlite.specs.contracts.path.Segment as segment
-use Rattle.pearlite.specs.contracts.operator.PanicMacro as panic_macro
-use Rattle.pearlite.specs.contracts.operator.GhostMacro as ghost_macro
-use Rattle.pearlite.specs.TypeTreeCode.{coded_type_tree}
-use Rattle.pearlite.specs.PatCode.{coded_pat}
-use Rattle.pearlite.specs.PtermCode.{coded_pterm}
-use Rattle.rs_syntax.specs.contracts.attribute.Attribute as attribute
-use Rattle.rs_syntax.specs.contracts.param.Param as param
-use Rattle.rs_syntax.specs.contracts.statement.StmtKind as stmt_kind
-use Rattle.rs_syntax.specs.contracts.operator.UnaryOp as unary_op
+use Rattle.source_trees.specs.contracts.path.Number as number
+use Rattle.source_trees.specs.contracts.path.Path as path_of
+use Rattle.source_trees.specs.contracts.path.Segment as segment
+use Rattle.source_trees.specs.contracts.operator.PanicMacro as panic_macro
+use Rattle.source_trees.specs.contracts.operator.GhostMacro as ghost_macro
+use Rattle.source_trees.specs.TypeTreeCode.{coded_type_tree}
+use Rattle.source_trees.specs.PatCode.{coded_pat}
+use Rattle.source_trees.specs.PtermCode.{coded_pterm}
+use Rattle.source_trees.specs.contracts.attribute.Attribute as attribute
+use Rattle.source_trees.specs.contracts.param.Param as param
+use Rattle.source_trees.specs.contracts.statement.StmtKind as stmt_kind
+use Rattle.source_trees.specs.contracts.operator.UnaryOp as unary_op
 use base.Stored.{Gv, gnil, gnum, gcons, num}
-use Rattle.rs_syntax.specs.Expr.{Expr, integer, truth, receiver, path, literal, tuple, block, block_with, branch, choice, matching, repeat, endless, attributed, closure, bare_return, return_with, break_off, go_on, panic, logical}
-use Rattle.rs_syntax.specs.Expr.{assign, update, lazy, binary, cast, unary, borrow, field, part, method, call, Exprs, none, more, Stmts, no_stmts, with_stmt, Arms, no_arms, with_arm, FieldExprs, no_fields}
-use Rattle.rs_syntax.specs.Expr.{with_field}
+use Rattle.source_trees.specs.Expr.{Expr, integer, truth, receiver, path, literal, tuple, block, block_with, branch, choice, matching, repeat, endless, attributed, closure, bare_return, return_with, break_off, go_on, panic, logical}
+use Rattle.source_trees.specs.Expr.{assign, update, lazy, binary, cast, unary, borrow, field, part, method, call, Exprs, none, more, Stmts, no_stmts, with_stmt, Arms, no_arms, with_arm, FieldExprs, no_fields}
+use Rattle.source_trees.specs.Expr.{with_field}
 
 abbrev pub head : Gv → Gv
 head gnil = gnil

@@ -1,4 +1,5 @@
-use pearlite::{Segment, TypeTree};
+use crate::path::Segment;
+use crate::types::TypeTree;
 use text_core::Span;
 
 /// The forms of parameters.

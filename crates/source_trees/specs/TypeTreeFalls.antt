@@ -3,11 +3,11 @@ use Rattle.std.specs.Prelude.{◌+◌, ◌≤◌, max, List, [], ◌∷◌}
 use Rattle.std.proofs.Common.{arith}
 use denote.Param.Weighed.{most}
 use Rattle.text_core.specs.declared.span.Span.{Span}
-use Rattle.pearlite.specs.TypeTree.{TypeTree}
-use Rattle.pearlite.specs.TypeTreeView.{type_tree_of, types_of, type_tree_size, types_size}
-use Rattle.pearlite.specs.declared.types.TypeNode.{TypeNode}
-use Rattle.pearlite.specs.declared.types.TypeNode.TheVariants as node
-use Rattle.pearlite.specs.declared.types.TypeTree.TheDeep.{deep-TypeNode}
+use Rattle.source_trees.specs.TypeTree.{TypeTree}
+use Rattle.source_trees.specs.TypeTreeView.{type_tree_of, types_of, type_tree_size, types_size}
+use Rattle.source_trees.specs.declared.types.TypeNode.{TypeNode}
+use Rattle.source_trees.specs.declared.types.TypeNode.TheVariants as node
+use Rattle.source_trees.specs.declared.types.TypeTree.TheDeep.{deep-TypeNode}
 
 most_types : (xs : List TypeTree) → most (λ x. type_tree_size x + 1) xs ≤ types_size (types_of xs)
 most_types [] = omega arith

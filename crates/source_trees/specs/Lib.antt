@@ -1,0 +1,16 @@
+pub mod Expr
+pub mod ExprCode
+pub mod ExprFalls
+pub mod ExprView
+pub mod Pat
+pub mod PatCode
+pub mod PatFalls
+pub mod PatView
+pub mod Pterm
+pub mod PtermCode
+pub mod PtermFalls
+pub mod PtermView
+pub mod TypeTree
+pub mod TypeTreeCode
+pub mod TypeTreeFalls
+pub mod TypeTreeView
