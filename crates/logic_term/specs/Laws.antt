@@ -15,7 +15,7 @@ use Rattle.logic_term.specs.Normal.{reduced}
 
 -- t has at ρ the values that u has at τ
 abbrev pub SameValues : Structure → Term → Env → Term → Env → Type 0
-SameValues S t ρ u τ = (v : Value) → Means S t ρ v ↔ Means S u τ v
+SameValues S t ρ u τ = (v : Value) → Sure (Means S t ρ v) ↔ Sure (Means S u τ v)
 
 -- the terms have the same values, whatever the values of names
 abbrev pub HasValuesOf : Term → Term → Type 0
@@ -23,7 +23,7 @@ HasValuesOf t u = (S : Structure) (ρ : Env) → SameValues S t ρ u ρ
 
 -- the term has this value and no other
 abbrev pub HasExactly : Structure → Term → Env → Value → Type 0
-HasExactly S t ρ w = (v : Value) → Means S t ρ v ↔ (v ≡ w)
+HasExactly S t ρ w = (v : Value) → Sure (Means S t ρ v) ↔ Sure (v ≡ w)
 
 -- a term put for a name counts as its value
 abbrev pub PutTermsCountAsValues : Type 0

@@ -5,6 +5,7 @@ use Rattle.std.specs.Option.{option_map}
 use Rattle.std.specs.Ordering.{int_eq}
 use Rattle.text_core.specs.declared.name.Name.{Name}
 use Rattle.text_core.specs.declared.span.Span.{Span}
+use Rattle.logic_term.proofs.Alike.{to, from}
 use Rattle.logic_term.specs.declared.kinds.ArithOp.{ArithOp}
 use Rattle.logic_term.specs.declared.kinds.ArithOp.TheVariants as arith_op
 use Rattle.logic_term.specs.declared.kinds.BinaryOp.{BinaryOp}
@@ -89,8 +90,8 @@ module _ (S₀ : Structure) where
   equal_exactly s t ρ v w c e g f h = says_exactly _ c (decided c f h)
     where
       decided : (c : Bool) → (c ≡ true → v ≡ w) → (v ≡ w → c ≡ true) → Decided c ((x y : Value) → Means S₀ s ρ x → Means S₀ t ρ y → Sure (x ≡ y))
-      decided true f h = λ x y p q n. n ((e x).0 p ∙ f refl ∙ sym ((g y).0 q))
-      decided false f h = λ same. same v w ((e v).1 refl) ((g w).1 refl) (λ r. true≢false (sym (h r)))
+      decided true f h = λ x y p q n. to _ _ e x p (λ i. to _ _ g y q (λ j. n (i ∙ f refl ∙ sym j)))
+      decided false f h = λ same. from _ _ e v refl (λ p. from _ _ g w refl (λ q. same v w p q (λ r. true≢false (sym (h r)))))
 
   -- where the type has no negative integers, the divisor is not -1
   not_least : (k : IntKind) (span : Span) (s t : Term) (ρ : Env) (y z : ℤ) → fits k z ≡ true → Computes S₀ s ρ y → Computes S₀ t ρ z → GoalsHold S₀ ρ (if_signed k (overflow span (not_least_by_minus_one k s t) ∷ [])) →
