@@ -8,6 +8,7 @@ use Rattle.logic_term.specs.Value.{Value, Number, Flag, flag_of, integer_of}
 use Rattle.logic_term.specs.Term.{Term, truth, model, negative, not, calculate, is_less, is_at_most, is_equal, and, or, implies, forall}
 use Rattle.logic_term.specs.Meaning.{Sure, Has, Of, OfTwo, Says, Yes, calculated, on_integers, compared, Structure, Env, with_value, Means, Holds}
 use Rattle.logic_term.specs.Sort.{HasSort, instance}
+use Rattle.logic_term.specs.Theory.{declared}
 use Rattle.logic_term.proofs.Alike.{Alike, alike, to, from, sure_map}
 
 pub stable_bool : (b c : Bool) → Sure (b ≡ c) → b ≡ c
@@ -75,7 +76,7 @@ module _ (S : Structure) where
   pub holds_implies : (a b : Term) (ρ : Env) → Holds S (implies a b) ρ ↔ (Holds S a ρ → Holds S b ρ)
   holds_implies a b ρ = says_what _ (λ f p n. f (λ g. g p n))
 
-  pub holds_forall : (x : Name) (s : Ty) (t : Term) (ρ : Env) → Holds S (forall x s t) ρ ↔ ((w : Value) → HasSort S.declared w (instance S.types s) → Holds S t (with_value ρ x w))
+  pub holds_forall : (x : Name) (s : Ty) (t : Term) (ρ : Env) → Holds S (forall x s t) ρ ↔ ((w : Value) → HasSort (declared S.theory) w (instance S.types s) → Holds S t (with_value ρ x w))
   holds_forall x s t ρ = says_what _ (λ f w h n. f (λ g. g w h n))
 
   pub holds_equal : (a b : Term) (ρ : Env) → Holds S (is_equal a b) ρ ↔ ((x y : Value) → Means S a ρ x → Means S b ρ y → Sure (x ≡ y))

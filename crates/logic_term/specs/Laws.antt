@@ -8,6 +8,7 @@ use Rattle.logic_term.specs.Value.{Value, Values, Made, no_values, and_value, in
 use Rattle.logic_term.specs.Term.{made, Term, Terms, truth, apply, no_terms, and_term, unit, not, is_less, is_at_most, is_equal, and, or, implies, forall}
 use Rattle.logic_term.specs.Meaning.{Sure, Structure, Env, with_value, Means, Holds}
 use Rattle.logic_term.specs.Sort.{HasSort, instance}
+use Rattle.logic_term.specs.Theory.{declared}
 use Rattle.logic_term.specs.Free.{free}
 use Rattle.logic_term.specs.Subst.{replaced, SameUpToNames}
 use Rattle.logic_term.specs.Canonical.{canonical}
@@ -93,7 +94,7 @@ TruthOfImplies = (S : Structure) (ρ : Env) (t u : Term) → Holds S (implies t 
 -- the quantifier goes over all values of the sort
 abbrev pub TruthOfForall : Type 0
 TruthOfForall = (S : Structure) (ρ : Env) (x : Name) (s : Ty) (t : Term) → Holds S (forall x s t) ρ
-    ↔ ((w : Value) → HasSort S.declared w (instance S.types s) → Holds S t (with_value ρ x w))
+    ↔ ((w : Value) → HasSort (declared S.theory) w (instance S.types s) → Holds S t (with_value ρ x w))
 
 abbrev pub TruthOfLess : Type 0
 TruthOfLess = (S : Structure) (ρ : Env) (t u : Term) (v w : Value) → HasExactly S t ρ v → HasExactly S u ρ w

@@ -3,6 +3,7 @@
 
 mod build;
 mod canonical;
+mod declaration;
 mod kinds;
 mod laws;
 mod normal;
@@ -11,6 +12,7 @@ mod subst;
 mod term;
 mod ty;
 
+pub use declaration::{AdtDecl, FieldDecl, VariantDecl};
 pub use kinds::{
     AdtId, ArithOp, BinaryOp, Comparison, Ctor, FnKind, IntKind, Label, Label2, LazyOp, LogicFn,
     Region, TermBinary, TermUnary, TraitId, TyUnary,

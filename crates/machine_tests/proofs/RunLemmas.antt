@@ -8,7 +8,8 @@ use Rattle.logic_term.specs.declared.kinds.Ctor.TheVariants.{Tuple}
 use Rattle.logic_term.specs.declared.kinds.IntKind.TheVariants.{I32}
 use Rattle.logic_term.specs.declared.kinds.Label.{Label}
 use Rattle.logic_term.specs.Range.{fits}
-use Rattle.logic_term.specs.Sort.{Declarations, instance}
+use Rattle.logic_term.specs.Sort.{instance}
+use Rattle.logic_term.specs.Theory.{Theory, declared, nothing_declared}
 use Rattle.logic_term.specs.Ty.{Ty, Tys, int, bool, no_tys, and_ty, unit_ty}
 use Rattle.mir_ir.specs.declared.place.Lit.TheVariants as lit
 use Rattle.mir_ir.specs.declared.place.Operand.{Operand}
@@ -244,27 +245,23 @@ program_sound (suc (suc f)) b e = absurd (cc)
 
 -- ---- calls
 
--- no declared types
-abbrev pub no_types : Declarations
-no_types d k = None
-
-scalar_typed : (s : State (Unit {0})) (ty : Ty) (t : Tree (Unit {0})) → IsScalarOf ty t → Typed no_types s t ty []
+scalar_typed : (s : State (Unit {0})) (ty : Ty) (t : Tree (Unit {0})) → IsScalarOf ty t → Typed (declared nothing_declared) s t ty []
 scalar_typed s (int k) (Int z) h = is_int h
 scalar_typed s bool (Truth b) h = is_truth
 scalar_typed s _ _ h = absurd h
 
 -- a call at one argument, with no trees outside
 pub one_call : (bodies : List Body) (f : ℕ) (θ : Tys) (args held : List (Tree (Unit {0}))) (t : Tree (Unit {0})) → θ ≡ no_tys → args ≡ t ∷ [] → held ≡ [] → TakesOne bodies f t →
-    (Δ : Declarations) × (b : Body) × (met : List Met) × IsProper Δ bodies f θ args held b met
+    (Θ : Theory) × (b : Body) × (met : List Met) × IsProper Θ bodies f θ args held b met
 one_call bodies f θ args held t is_ground is_t is_empty (b, ty, is_body, params, scalar) = (
-  no_types,
+  nothing_declared,
   b,
   [],
   rw (is_ground, is_t, is_empty) (record {
     of = is_body;
     ground = refl;
     outside_typed = tt;
-    typed = subst (λ tys. AreTyped no_types (called b f no_tys (t ∷ []) []) (trees_of (t ∷ [])) tys []) (sym params) (more_typed (scalar_typed (called b f no_tys (t ∷ []) []) ty t scalar) none_typed);
+    typed = subst (λ tys. AreTyped (declared nothing_declared) (called b f no_tys (t ∷ []) []) (trees_of (t ∷ [])) tys []) (sym params) (more_typed (scalar_typed (called b f no_tys (t ∷ []) []) ty t scalar) none_typed);
     outer = tt;
     apart = λ i j r q e g mutable over. absurd (cc);
   }),

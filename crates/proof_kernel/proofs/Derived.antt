@@ -2,14 +2,15 @@
 use Rattle.std.proofs.Common.{◌≡◌, ℕ, suc, ◌+◌, max, List, [], ◌∷◌, ◌++◌, length, sym, ap, subst, arith, add-zero}
 use Rattle.logic_term.specs.declared.obligation.Obligation.{Obligation}
 use Rattle.logic_term.specs.Term.{Term}
-use Rattle.logic_term.specs.Sort.{Declarations}
-use Rattle.logic_term.specs.Meaning.{Structure, Env, Holds}
+use Rattle.logic_term.specs.Meaning.{Structure, Env, Holds, structure_of}
+use Rattle.logic_term.specs.Obligations.{IsTrueObligation}
+use Rattle.logic_term.specs.Theory.{Theory}
 use Rattle.logic_term.specs.Subst.{above, subst as substituted, SameUpToNames}
 use Rattle.logic_term.proofs.Alike.{yes_alike}
 use Rattle.logic_term.proofs.SubstLaw.{renamed_means}
 use Rattle.proof_kernel.specs.declared.sequent.Sequent.{Sequent}
 use Rattle.proof_kernel.specs.declared.step.Step.{Step}
-use Rattle.proof_kernel.specs.Sequent.{IsTrueAt, AllTrueAt, IsTrueObligation}
+use Rattle.proof_kernel.specs.Sequent.{IsTrueAt, AllTrueAt}
 use Rattle.proof_kernel.specs.Progress.{Progress}
 use Rattle.proof_kernel.specs.Kernel.{Applies}
 use Rattle.proof_kernel.specs.Derivation.{Gives, by_intro, by_hyp, by_split, by_range, by_lin, Derives, no_step, one_step, IsProof}
@@ -41,8 +42,8 @@ module _ (S : Structure) where
       let r = both_true ps others (derives_sound (suc s) (ps ++ others) rest rs d h) in
       (gives_sound s q step ps g r.0, r.1)
 
-pub proof_is_sound : (Δ : Declarations) (o : Obligation) (steps : List Step) → IsProof o steps → IsTrueObligation Δ o
-proof_is_sound Δ o steps d θ ρ = (derives_sound (record { declared = Δ; types = θ }) 1 _ steps [] d tt).0 ρ tt tt
+pub proof_is_sound : (Θ : Theory) (o : Obligation) (steps : List Step) → IsProof o steps → IsTrueObligation Θ o
+proof_is_sound Θ o steps d θ i ρ = (derives_sound (structure_of Θ θ) 1 _ steps [] d tt).0 ρ tt tt
 
 -- ---- longer derivations
 

@@ -6,7 +6,7 @@ use Rattle.text_core.specs.declared.name.Name.{Name}
 use Rattle.logic_term.specs.declared.kinds.Label.{Label}
 use Rattle.logic_term.specs.Free.{free}
 use Rattle.logic_term.specs.Meaning.{Sure, Says, Yes}
-use Rattle.logic_term.specs.Sort.{Declarations}
+use Rattle.logic_term.specs.Theory.{Theory}
 use Rattle.logic_term.specs.Term.{Term}
 use Rattle.logic_term.specs.Ty.{Ty, bool}
 use Rattle.logic_term.specs.Value.{Flag, flag_of}
@@ -361,8 +361,8 @@ none_is_both h = h (λ e. true≢false (ap flag_of e))
 is_true : (P : Type 0) → P → Yes (Says P)
 is_true P p n = n (true, refl, p)
 
-true_obligations : (Δ : Declarations) → HasTrueObligations Δ (setting program 0 cleared is_false)
-true_obligations Δ = record {
+true_obligations : (Θ : Theory) → HasTrueObligations Θ (setting program 0 cleared is_false)
+true_obligations Θ = record {
   first = 1;
   obligations = _;
   paths = _;
@@ -391,9 +391,9 @@ true_obligations Δ = record {
 }
 
 -- of the call its `ensures` alone is known, which says the same of the answer
-caller_true_obligations : (Δ : Declarations) → HasTrueObligations Δ (setting program 1 caller is_false)
+caller_true_obligations : (Θ : Theory) → HasTrueObligations Θ (setting program 1 caller is_false)
 unfolding value_name
-caller_true_obligations Δ = record {
+caller_true_obligations Θ = record {
   first = 1;
   obligations = _;
   paths = _;
@@ -410,14 +410,14 @@ caller_true_obligations Δ = record {
 }
 
 pub sample_true : SampleIsTrue
-sample_true Δ zero b c e f = subst (λ d. HasTrueObligations Δ (setting program 0 b d)) (some_same f) (subst (λ d. HasTrueObligations Δ (setting program 0 d is_false)) (some_same e) (true_obligations Δ))
-sample_true Δ (suc zero) b c e f = subst (λ d. HasTrueObligations Δ (setting program 1 b d)) (some_same f) (subst (λ d. HasTrueObligations Δ (setting program 1 d is_false)) (some_same e) (caller_true_obligations Δ))
-sample_true Δ (suc (suc n)) b c e f = absurd (no_more n b e)
+sample_true Θ zero b c e f = subst (λ d. HasTrueObligations Θ (setting program 0 b d)) (some_same f) (subst (λ d. HasTrueObligations Θ (setting program 0 d is_false)) (some_same e) (true_obligations Θ))
+sample_true Θ (suc zero) b c e f = subst (λ d. HasTrueObligations Θ (setting program 1 b d)) (some_same f) (subst (λ d. HasTrueObligations Θ (setting program 1 d is_false)) (some_same e) (caller_true_obligations Θ))
+sample_true Θ (suc (suc n)) b c e f = absurd (no_more n b e)
 
 -- ---- the law of these conditions
 
 pub sample_good : SampleIsGood
-sample_good Δ = (
-  good Δ program sound functions 0 is_false refl (λ n b c reached e f. sample_true Δ n b c e f),
-  good Δ program sound functions 1 is_false refl (λ n b c reached e f. sample_true Δ n b c e f),
+sample_good Θ = (
+  good Θ program sound functions 0 is_false refl (λ n b c reached e f. sample_true Θ n b c e f),
+  good Θ program sound functions 1 is_false refl (λ n b c reached e f. sample_true Θ n b c e f),
 )

@@ -5,10 +5,10 @@ use Rattle.text_core.specs.declared.name.Name.{Name}
 use Rattle.logic_term.specs.declared.kinds.IntKind.{IntKind}
 use Rattle.logic_term.specs.declared.kinds.Ctor.TheVariants.{Tuple}
 use Rattle.logic_term.specs.Range.{fits}
-use Rattle.logic_term.specs.Sort.{Declarations}
+use Rattle.logic_term.specs.Theory.{Theory}
 use Rattle.logic_term.specs.Ty.{Ty, int, bool, tuple, no_tys, unit_ty}
 use Rattle.logic_term.specs.Value.{Value, Number, Flag, Made, no_values}
-use Rattle.logic_term.specs.Meaning.{Structure, Env, with_value, Means}
+use Rattle.logic_term.specs.Meaning.{Structure, Env, with_value, Means, structure_of}
 use Rattle.logic_term.proofs.Alike.{alike_same}
 use Rattle.logic_term.proofs.Coincide.{with_other}
 use Rattle.logic_term.proofs.Truth.{Exactly}
@@ -79,9 +79,9 @@ can_before set (Move q) (Const l) h = tt
 
 -- ---- operands
 
-module _ (Δ : Declarations) (bodies : List Body) (b : Body) (typed : IsTyped bodies b) (named : AreNamesOfLocals b) where
+module _ (Θ : Theory) (bodies : List Body) (b : Body) (typed : IsTyped bodies b) (named : AreNamesOfLocals b) where
   abbrev pub S : Structure
-  S = record { declared = Δ; types = no_tys }
+  S = structure_of Θ no_tys
 
   var_exactly : (ρ : Env) (x : ℕ) (n : Name) (v : Value) → slice_get b.names x ≡ Some n → ρ n ≡ v → Exactly (λ u. u ≡ ρ (name_of b x)) v
   var_exactly ρ x n v e f = subst (λ w. Exactly (λ u. u ≡ ρ (name_of b x)) w) (ap ρ (named_as b x n e) ∙ f) (alike_same _)
