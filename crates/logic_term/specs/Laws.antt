@@ -7,7 +7,8 @@ use Rattle.logic_term.specs.declared.kinds.Ctor.TheVariants.{Tuple}
 use Rattle.logic_term.specs.Value.{Value, Values, Made, no_values, and_value, integer_of}
 use Rattle.logic_term.specs.Term.{made, Term, Terms, truth, apply, no_terms, and_term, unit, not, is_less, is_at_most, is_equal, and, or, implies, forall}
 use Rattle.logic_term.specs.Meaning.{Sure, Structure, Env, with_value, Means, Holds}
-use Rattle.logic_term.specs.Sort.{HasSort, instance}
+use Rattle.logic_term.specs.Erased.{erased}
+use Rattle.logic_term.specs.Sort.{Declarations, HasSort, instance}
 use Rattle.logic_term.specs.Theory.{declared}
 use Rattle.logic_term.specs.Free.{free}
 use Rattle.logic_term.specs.Subst.{replaced, SameUpToNames}
@@ -72,6 +73,10 @@ ValuesOfMade = (S : Structure) (ρ : Env) (c : Ctor) (ts : Terms) (vs : Values)
 
 abbrev pub ValueOfUnit : Type 0
 ValueOfUnit = (S : Structure) (ρ : Env) → HasExactly S unit ρ (Made Tuple no_values)
+
+-- a type and its sort have the same values
+abbrev pub SortsKeepValues : Type 0
+SortsKeepValues = (Δ : Declarations) (v : Value) (t : Ty) → HasSort Δ v t ↔ HasSort Δ v (erased t)
 
 -- ---- when formulas are true
 

@@ -1,4 +1,5 @@
 pub mod Canonical
+pub mod Erased
 pub mod Free
 pub mod Laws
 pub mod Meaning
