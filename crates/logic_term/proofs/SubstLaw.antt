@@ -6,7 +6,7 @@ use Rattle.logic_term.specs.declared.subst.Replacement.{Replacement}
 use Rattle.logic_term.specs.Value.{Value}
 use Rattle.logic_term.specs.Term.{Term, Terms, var, lit, truth, apply, bind, no_terms, and_term, count}
 use Rattle.logic_term.specs.Meaning.{Structure, Env, with_value, Means, Argument}
-use Rattle.logic_term.specs.Subst.{above, all_above, look, subst, substs, replaced, SameUpToNames}
+use Rattle.logic_term.specs.Subst.{above, all_above, look, subst, substs, replaced}
 use Rattle.logic_term.proofs.Alike.{alike_exactly, Alike, alike_same, alike_back, alike_then, applied_alike_at, quantified_alike}
 use Rattle.logic_term.proofs.Coincide.{agree_new, coincide, with_same}
 
@@ -51,9 +51,3 @@ module _ (S : Structure) where
   -- new names for bound ones change nothing
   pub renamed_means : (n : ℕ) (t : Term) (ρ : Env) → above t ≤ n → Alike (Means S (subst n [] t) ρ) (Means S t ρ)
   renamed_means n t ρ l = subst_means n t n ρ ρ [] l (λ y k. (omega arith, alike_same _))
-
-  -- terms that are equal up to the names that they bind have the same values
-  pub same_up_to_names_means : (t u : Term) (ρ : Env) → SameUpToNames t u → Alike (Means S t ρ) (Means S u ρ)
-  same_up_to_names_means t u ρ same =
-      alike_then _ _ _ (alike_back _ _ (renamed_means (max (above t) (above u)) t ρ (omega arith)))
-      (subst_path (λ s. Alike (Means S s ρ) (Means S u ρ)) (sym same) (renamed_means (max (above t) (above u)) u ρ (omega arith)))

@@ -11,8 +11,8 @@ use Rattle.logic_term.specs.Erased.{erased}
 use Rattle.logic_term.specs.Sort.{Declarations, HasSort, instance}
 use Rattle.logic_term.specs.Theory.{declared}
 use Rattle.logic_term.specs.Free.{free}
-use Rattle.logic_term.specs.Subst.{replaced, SameUpToNames}
-use Rattle.logic_term.specs.Canonical.{canonical}
+use Rattle.logic_term.specs.Subst.{replaced}
+use Rattle.logic_term.specs.Canonical.{canonical, SameUpToNames}
 use Rattle.logic_term.specs.Normal.{reduced}
 
 -- t has at ρ the values that u has at τ

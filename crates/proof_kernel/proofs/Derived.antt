@@ -5,9 +5,9 @@ use Rattle.logic_term.specs.Term.{Term}
 use Rattle.logic_term.specs.Meaning.{Structure, Env, Holds, structure_of}
 use Rattle.logic_term.specs.Obligations.{IsTrueObligation}
 use Rattle.logic_term.specs.Theory.{Theory}
-use Rattle.logic_term.specs.Subst.{above, subst as substituted, SameUpToNames}
+use Rattle.logic_term.specs.Canonical.{SameUpToNames}
 use Rattle.logic_term.proofs.Alike.{yes_alike}
-use Rattle.logic_term.proofs.SubstLaw.{renamed_means}
+use Rattle.logic_term.proofs.CanonicalLaw.{same_up_to_names_means}
 use Rattle.proof_kernel.specs.declared.sequent.Sequent.{Sequent}
 use Rattle.proof_kernel.specs.declared.step.Step.{Step}
 use Rattle.proof_kernel.specs.Sequent.{IsTrueAt, AllTrueAt}
@@ -21,9 +21,7 @@ module _ (S : Structure) where
   -- terms that differ in bound names alone are true together
   same_holds : (t u : Term) (ρ : Env) → SameUpToNames t u → Holds S t ρ → Holds S u ρ
   same_holds t u ρ e h =
-      let n : ℕ = max (above t) (above u) in
-      let renamed : Holds S (substituted n [] t) ρ = (yes_alike _ _ (renamed_means S n t ρ (omega arith))).1 h in
-      (yes_alike _ _ (renamed_means S n u ρ (omega arith))).0 (subst (λ x. Holds S x ρ) e renamed)
+      (yes_alike _ _ (same_up_to_names_means S t u ρ e)).0 h
 
   pub gives_sound : (s : ℕ) (q : Sequent) (step : Step) (ps : List Sequent) → Gives s q step ps → AllTrueAt S ps → IsTrueAt S q
   gives_sound s q step ps (by_intro {names = names} {r = r} some i) h = intros_sound S s 1 names q r i h.0
