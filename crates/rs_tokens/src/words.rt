@@ -15,10 +15,28 @@ use unicode_ident::{is_xid_continue, is_xid_start};
 /// The most bytes of an identifier.
 pub const LONGEST_IDENTIFIER: usize = 255;
 
+/// ASCII characters are not sought in the tables of Unicode.
+#[tactic(auto, using(crate::proofs::WordLaws::ascii_begins))]
 fn begins_word(character: char) -> bool
     ensures { result ≡ begins_word character }
 {
-    is_xid_start(character) | (character == '_')
+    if character.is_ascii() {
+        character.is_ascii_alphabetic() | (character == '_')
+    } else {
+        is_xid_start(character)
+    }
+}
+
+/// ASCII characters are not sought in the tables of Unicode.
+#[tactic(auto, using(crate::proofs::WordLaws::ascii_continues))]
+fn continues_word(character: char) -> bool
+    ensures { result ≡ is_xid_continue character }
+{
+    if character.is_ascii() {
+        character.is_ascii_alphanumeric() | (character == '_')
+    } else {
+        is_xid_continue(character)
+    }
 }
 
 /// How many bytes the characters at the front have that may continue a word.
@@ -27,7 +45,7 @@ fn continuing_len(text: &str) -> usize
 {
     let mut len = 0;
     for character in text.chars() {
-        if !is_xid_continue(character) {
+        if !continues_word(character) {
             return len;
         }
         len += character.len_utf8();
