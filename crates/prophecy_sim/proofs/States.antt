@@ -1,5 +1,6 @@
 -- Runs of a program: the frames of a stack, each waiting for the answer of the call that it made.
 use Rattle.std.proofs.Common.{◌≡◌, ◌∙◌, sym, subst, ℕ, zero, suc, List, [], ◌∷◌, Some, slice_get}
+use Rattle.std.proofs.lemmas.Option.{same_Some}
 use Rattle.logic_term.specs.declared.obligation.Contract.{Contract}
 use Rattle.logic_term.specs.Meaning.{Env, Holds}
 use Rattle.logic_term.specs.Sort.{Declarations}
@@ -20,9 +21,6 @@ use Rattle.mir_machine.proofs.Tried.{Quiet, quiet_then}
 use Rattle.mir_machine.proofs.Wholes.{try_step-whole, come_back-whole}
 use Rattle.prophecy_sim.proofs.Runs.{Standing, IsAnswer, GoesOn, EndsFine, frame_comes}
 use Rattle.prophecy_sim.proofs.Begins.{begins}
-
-some_same : {A : Type 0} {a c : A} → Some a ≡ Some c → a ≡ c
-some_same e = cc
 
 module _ (Δ : Declarations) (program : Program) (sound : AreSound program.bodies) (functions : AreFunctions program sound)
     (top : ℕ) (proved : AreProvedFrom Δ program top) (top_contract : Contract) (top_env : Env) (out : Frame (Unit {0})) where
@@ -87,7 +85,7 @@ module _ (Δ : Declarations) (program : Program) (sound : AreSound program.bodie
   settled_fine n reached b is_body ρ fs h (Calls f g) (e, of_f, calls, goes_on) =
       let reached' : Reaches program.bodies top e.function = by_call reached calls in
       let own = functions e.function e.body e.is_body in
-      let same : e.contract ≡ own.contract = some_same (sym e.is_contract ∙ own.is_contract) in
+      let same : e.contract ≡ own.contract = same_Some _ _ (sym e.is_contract ∙ own.is_contract) in
       let pre = subst (λ (d : Contract). Each (λ (t : Term). Holds (record { declared = Δ; types = no_tys }) t (named d.params (values_of e.args))) d.pre) same e.pre in
       let start = begins Δ program sound functions e.function e.body e.is_body (proved e.function e.body own.contract reached' e.is_body own.is_contract) e.args e.shaped pre in
       let ρ' : Env = named own.contract.params (values_of e.args) in
