@@ -34,13 +34,8 @@ use Rattle.prophecy_sim.proofs.Arguments.{values_of, AllPlain, argument_value, a
 use Rattle.prophecy_sim.proofs.Entries.{AreSorted, parameters_move, assumed_move, Stored, stored_move}
 use Rattle.prophecy_sim.proofs.Memories.{Reached, onward, none_around}
 use Rattle.mir_ir.specs.WellFormed as formed
-use Rattle.prophecy_sim.proofs.Lists.{get_taken, get_behind}
+use Rattle.prophecy_sim.proofs.Lists.{get_taken, get_behind, get_first}
 use Rattle.prophecy_sim.proofs.Runs.{Standing, Coming, arrived}
-
-get_first : {A : Type 0} (xs : List A) (i : ℕ) → i < length xs → (x : A) × (slice_get xs i ≡ Some x)
-get_first [] i h = absurd (omega arith)
-get_first (x ∷ xs) zero h = (x, refl)
-get_first (x ∷ xs) (suc i) h = get_first xs i (omega arith)
 
 and_right : (p q : Bool) → (p && q) ≡ true → q ≡ true
 and_right true q e = e

@@ -1,5 +1,6 @@
 -- A function is good where all obligations of the functions that it may reach are true.
-use Rattle.std.proofs.Common.{◌≡◌, ◌∙◌, refl, sym, ap, ap₂, subst, ℕ, zero, suc, ◌<◌, List, [], ◌∷◌, ◌++◌, length, take, drop, Some, slice_get, arith}
+use Rattle.std.proofs.Common.{◌≡◌, ◌∙◌, refl, sym, ap, ap₂, subst, ℕ, suc, List, [], ◌∷◌, ◌++◌, length, take, drop, Some, slice_get, arith}
+use Rattle.std.proofs.lemmas.Option.{same_Some}
 use Rattle.logic_term.specs.declared.kinds.IntKind.{IntKind}
 use Rattle.logic_term.specs.declared.obligation.Contract.{Contract}
 use Rattle.logic_term.specs.Meaning.{Env, Holds, structure_of}
@@ -20,18 +21,10 @@ use Rattle.mir_machine.proofs.NeverStuck.{Shape, AreShaped, typed_args, never_st
 use Rattle.prophecy_sim.specs.Programs.{IsScalar, IsSimple, Program, IsFunction, AreFunctions, itself, AreProvedFrom, TrueObligationsMakeGood}
 use Rattle.prophecy_sim.proofs.Values.{T}
 use Rattle.prophecy_sim.proofs.Arguments.{value_of, plain_reads, values_of, AllPlain, all_read, shaped_all, typed_answer}
-use Rattle.prophecy_sim.proofs.Lists.{get_taken, get_behind}
+use Rattle.prophecy_sim.proofs.Lists.{get_taken, get_behind, get_first}
 use Rattle.prophecy_sim.proofs.Runs.{IsAnswer, first_ty}
 use Rattle.prophecy_sim.proofs.Begins.{begins}
 use Rattle.prophecy_sim.proofs.States.{OutcomeFine, run_fine}
-
-get_first : {A : Type 0} (xs : List A) (i : ℕ) → i < length xs → (x : A) × (slice_get xs i ≡ Some x)
-get_first [] i h = absurd (omega arith)
-get_first (x ∷ xs) zero h = (x, refl)
-get_first (x ∷ xs) (suc i) h = get_first xs i (omega arith)
-
-some_same : {A : Type 0} {a b : A} → Some a ≡ Some b → a ≡ b
-some_same e = cc
 
 -- ---- no references are met from integers, truth values and `()`
 
@@ -181,7 +174,7 @@ module _ (Θ : Theory) (program : Program) (sound : AreSound program.bodies) (fu
 
   good_own : Good Θ bodies fn c
   good_own θ args held b' met proper meets n =
-      let same : b ≡ b' = some_same (sym is_body ∙ proper.of) in
+      let same : b ≡ b' = same_Some _ _ (sym is_body ∙ proper.of) in
       let Q : Body → Type 0 = λ d. IsProper Θ bodies fn θ args held d met → MeetsRequires Θ θ c (called d fn θ args held) args met → IsFine Θ θ c (answer_ty d θ) (called d fn θ args held) args met (after bodies n (called d fn θ args held)) in
       subst Q same (λ p q. at_types θ args held met p q n) proper meets
 
@@ -189,5 +182,5 @@ module _ (Θ : Theory) (program : Program) (sound : AreSound program.bodies) (fu
 pub good : TrueObligationsMakeGood
 good Θ program sound functions fn c is_contract proved θ args held b met proper meets n =
     let own = functions fn b proper.of in
-    let same : own.contract ≡ c = some_same (sym own.is_contract ∙ is_contract) in
+    let same : own.contract ≡ c = same_Some _ _ (sym own.is_contract ∙ is_contract) in
     (subst (Good Θ program.bodies fn) same (good_own Θ program sound functions fn proved b proper.of)) θ args held b met proper meets n

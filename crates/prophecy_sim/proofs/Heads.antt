@@ -21,6 +21,7 @@ use Rattle.wp_gen.specs.Walk.{is_in_loop, writes, end_writes, block_writes, loop
 use Rattle.prophecy_sim.specs.Programs.{AreNamesOfLocals}
 use Rattle.prophecy_sim.proofs.Values.{named_as}
 use Rattle.prophecy_sim.proofs.Steps.{decide}
+use Rattle.prophecy_sim.proofs.Lists.{get_first}
 
 -- ---- what a loop writes
 
@@ -65,11 +66,6 @@ loop_writes_end b h l k x is_k within w =
     (or_second (list_any (λ (s : Statement). writes x s.kind) k.statements) (end_writes x k.end.kind) w))
 
 -- ---- new values
-
-get_first : {A : Type 0} (xs : List A) (i : ℕ) → i < length xs → (x : A) × (slice_get xs i ≡ Some x)
-get_first [] i h = absurd (omega arith)
-get_first (x ∷ xs) zero h = (x, refl)
-get_first (x ∷ xs) (suc i) h = get_first xs i (omega arith)
 
 one_on : (m i : ℕ) → (m + 1) + i ≡ m + suc i
 one_on m i = omega arith

@@ -20,9 +20,6 @@ use Rattle.prophecy_sim.proofs.Steps.{at_no, IsOutside}
 
 -- ---- lists of labels
 
-some_same : {A : Type 0} {a c : A} → Some a ≡ Some c → a ≡ c
-some_same e = cc
-
 same_label : (l m : Label) → l.0 ≡ m.0 → l ≡ m
 same_label l m e = let f : ℕ → Label = λ n. record { 0 = n } in ap f e
 

@@ -1,5 +1,5 @@
 -- One frame: where the goals of its walk hold, its next step does not panic, and the goals of what is left hold after it.
-use Rattle.prophecy_sim.proofs.Lists.{drop_get, drop_none, found_block, same_head, same_rest, some_same, get_first, get_taken, get_behind, length_map}
+use Rattle.prophecy_sim.proofs.Lists.{drop_get, drop_none, found_block, same_head, same_rest, get_first, get_taken, get_behind}
 use Rattle.prophecy_sim.proofs.Calls.{AllShow, operands_show, overlay, overlay_named, AreExactly, with_terms_mean, all_hold, all_exactly}
 use Rattle.prophecy_sim.proofs.Arguments.{value_of, IsPlain, plain_one, plain_shows, shaped_plain, shaped_sort, values_of, AllPlain, shaped_all}
 use Rattle.mir_ir.specs.declared.terminator.FnId.TheVariants.{Body as OfBody}
@@ -11,9 +11,9 @@ use Rattle.logic_term.specs.TyView.{tys_of}
 use Rattle.std.specs.List.{list_any}
 use Rattle.logic_term.specs.declared.obligation.Contract.{Contract}
 use Rattle.std.proofs.lemmas.List.{length-take, length-drop}
-use Rattle.std.proofs.Common.{◌≡◌, ◌∙◌, ◌⊎◌, inl, inr, refl, sym, ap, subst, ℕ, zero, suc, ◌+◌, ◌≤◌, ◌&&◌, pos, Bool, true, false, cond, List, [], ◌∷◌, ◌++◌, length, drop, Option, Some, None, slice_get, true≢false, arith, map, take, slice_set, ◌<◌, ◌==◌}
+use Rattle.std.proofs.Common.{◌≡◌, ◌∙◌, ◌⊎◌, inl, inr, refl, sym, ap, subst, ℕ, suc, ◌+◌, ◌≤◌, ◌&&◌, pos, Bool, true, false, cond, List, [], ◌∷◌, ◌++◌, length, drop, Option, Some, None, slice_get, true≢false, arith, map, take, slice_set, ◌==◌}
 use Rattle.std.specs.Prelude.{not as flip, option_and_then}
-use Rattle.std.proofs.lemmas.Option.{slice_get_within}
+use Rattle.std.proofs.lemmas.Option.{same_Some, slice_get_within}
 use Rattle.text_core.specs.declared.name.Name.{Name}
 use Rattle.text_core.specs.declared.refusal.Kind.{Kind}
 use Rattle.text_core.specs.declared.refusal.Kind.TheVariants.{InvEntry, InvKept, Ensures, Requires}
@@ -68,7 +68,7 @@ use Rattle.prophecy_sim.proofs.Steps.{quiet_both, taken_before, all_taken_before
 
 pub first_ty : (ts : List Ty) (ty : Ty) → slice_get ts 0 ≡ Some ty → nth_ty (tys_of ts) 0 ≡ ty
 first_ty [] ty e = absurd (cc)
-first_ty (t ∷ ts) ty e = some_same e
+first_ty (t ∷ ts) ty e = same_Some _ _ e
 
 pub params_length : (c : Body) → c.params + 1 ≤ length c.locals → length (take c.params (drop 1 c.locals)) ≡ c.params
 params_length c l = grind (arith, length-take, length-drop, l)
@@ -197,7 +197,7 @@ module _ (Θ : Theory) (program : Program) (sound : AreSound program.bodies) (fu
     pub keeps : KeepsOutside env
 
   some_same_block : (k to : Block) (l : Label) → block_in b.blocks l ≡ Some k → block_in b.blocks l ≡ Some to → to ≡ k
-  some_same_block k to l e f = some_same (sym f ∙ e)
+  some_same_block k to l e f = same_Some _ _ (sym f ∙ e)
 
   -- ---- at the head of a loop
 
@@ -397,7 +397,7 @@ module _ (Θ : Theory) (program : Program) (sound : AreSound program.bodies) (fu
   arrived (again k h is_block e passed) f ls function types c (onward to outer is_to is_around ms sub behind fresh) hold = absurd (fresh passed)
   arrived {l = l} (again k h is_block e passed) f ls function types c (backward to h' outer is_to is_head a ms p) hold =
       let same : p.block ≡ k = some_same_block k p.block l is_block p.is_block in
-      let head : h ≡ p.head = some_same (sym e ∙ subst (λ (x : Block). x.head ≡ Some p.head) same p.is_head) in
+      let head : h ≡ p.head = same_Some _ _ (sym e ∙ subst (λ (x : Block). x.head ≡ Some p.head) same p.is_head) in
       at_head f l ls c outer p function types ms (subst (λ (x : Head). Each (λ t. Holds S t c.env) x.invariants) head (each_holds S InvKept h.invariants h.spans c.env hold))
 
   -- ---- ends of blocks
@@ -533,7 +533,7 @@ module _ (Θ : Theory) (program : Program) (sound : AreSound program.bodies) (fu
       waiting = record f { locals = ls }
 
       speaks : SpeaksOf c d
-      speaks = subst (SpeaksOf c) (some_same (sym callee.is_contract ∙ is_d)) callee.speaks
+      speaks = subst (SpeaksOf c) (same_Some _ _ (sym callee.is_contract ∙ is_d)) callee.speaks
 
       args_plain : AllPlain args
       args_plain = shaped_all args (take c.params (drop 1 c.locals)) shaped.0 shaped.1 (λ i ty e. callee.simple.scalars (suc i) ty (get_behind c.locals i ty (get_taken (drop 1 c.locals) c.params i ty e)))
@@ -599,10 +599,10 @@ module _ (Θ : Theory) (program : Program) (sound : AreSound program.bodies) (fu
                 with_other called_in d.answer x v r ∙ sym (overlay_named d.params args with_new one.0 x one.1 (omega (arith, slice_get_within d.params one.0 x one.1, count))) ∙ sym (with_other (overlay d.params argument_values with_new) d.answer x v r)
 
         shape : Shape (instance no_tys u) t'
-        shape = subst (λ ty. Shape ty t') (ap (instance no_tys) (first_ty c.locals u first_local)) (subst (λ (x : Body). Shape (answer_ty x no_tys) t') (some_same (sym a.is_body ∙ is_c)) a.shape)
+        shape = subst (λ ty. Shape ty t') (ap (instance no_tys) (first_ty c.locals u first_local)) (subst (λ (x : Body). Shape (answer_ty x no_tys) t') (same_Some _ _ (sym a.is_body ∙ is_c)) a.shape)
 
         sort : HasSort (declared Θ) v (instance no_tys t)
-        sort = subst (λ ty. HasSort (declared Θ) v (instance no_tys ty)) (some_same (sym place.1 ∙ is_t)) (shaped_sort (declared Θ) u t' (simple.scalars p.local u place.1) shape)
+        sort = subst (λ ty. HasSort (declared Θ) v (instance no_tys ty)) (same_Some _ _ (sym place.1 ∙ is_t)) (shaped_sort (declared Θ) u t' (simple.scalars p.local u place.1) shape)
 
         moves : MovesAll S (call_commands b d p.local t os) st.env with_place
         moves = more (by_fresh v sort) (then_moves S (assumed_move S (map (at_arguments_and_answer b d os) d.post) with_new (posts_there d.post speaks.over a.posts)) (more (by_set v new_exactly) none))

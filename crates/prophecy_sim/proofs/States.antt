@@ -1,5 +1,6 @@
 -- Runs of a program: the frames of a stack, each waiting for the answer of the call that it made.
 use Rattle.std.proofs.Common.{◌≡◌, ◌∙◌, sym, subst, ℕ, zero, suc, List, [], ◌∷◌, Some, slice_get}
+use Rattle.std.proofs.lemmas.Option.{same_Some}
 use Rattle.logic_term.specs.declared.obligation.Contract.{Contract}
 use Rattle.logic_term.specs.Meaning.{Env, Holds, structure_of}
 use Rattle.logic_term.specs.Theory.{Theory}
@@ -87,7 +88,7 @@ module _ (Θ : Theory) (program : Program) (sound : AreSound program.bodies) (fu
   settled_fine n reached b is_body ρ fs h (Calls f g) (e, of_f, calls, goes_on) =
       let reached' : Reaches program.bodies top e.function = by_call reached calls in
       let own = functions e.function e.body e.is_body in
-      let same : e.contract ≡ own.contract = some_same (sym e.is_contract ∙ own.is_contract) in
+      let same : e.contract ≡ own.contract = same_Some _ _ (sym e.is_contract ∙ own.is_contract) in
       let pre = subst (λ (d : Contract). Each (λ (t : Term). Holds (structure_of Θ no_tys) t (named d.params (values_of e.args))) d.pre) same e.pre in
       let start = begins Θ program sound functions e.function e.body e.is_body (proved e.function e.body own.contract reached' e.is_body own.is_contract) e.args e.shaped pre in
       let ρ' : Env = named own.contract.params (values_of e.args) in

@@ -1,5 +1,5 @@
 -- Programs of functions over integers, truth values and `()`, and what true obligations are worth.
-use Rattle.std.specs.Prelude.{◌≡◌, ℕ, ◌≤◌, true, List, length, drop, Some, slice_get, ◌⊎◌, false}
+use Rattle.std.specs.Prelude.{◌≡◌, ℕ, true, List, length, Some, slice_get, ◌⊎◌, false}
 use Rattle.text_core.specs.declared.name.Name.{Name}
 use Rattle.logic_term.specs.declared.kinds.Label.{Label}
 use Rattle.logic_term.specs.declared.obligation.Contract.{Contract}
