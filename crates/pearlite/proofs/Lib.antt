@@ -1,3 +1,2 @@
 mod PartLists
 mod Terms
-mod TokenCounts

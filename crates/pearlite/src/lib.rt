@@ -15,6 +15,7 @@ mod shapes;
 mod tokens;
 
 pub use cursor::Cursor;
+pub use make_operations::unsigned;
 pub use part::{Part, TermSuffix, Value};
 pub use reader::parse_term;
 pub use shapes::make_shape;
