@@ -1,2 +1,6 @@
+mod Asked
+mod Finding
+mod Leaves
 mod PartLists
+pub mod Serving
 mod Terms

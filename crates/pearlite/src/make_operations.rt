@@ -145,7 +145,11 @@ pub fn unsigned(value: i128, suffix: Option<IntKind>) -> Option<(i128, Option<In
     ensures value { result ≡ unsigned value suffix }
     ensures low { IfSome result (λ p. pos 0 ≤ℤ p.0) }
 {
-    if value >= 0 { Some((value, suffix)) } else { None }
+    if value >= 0 {
+        Some((value, suffix))
+    } else {
+        None
+    }
 }
 
 /// The integer, where it is one that is not negative.
