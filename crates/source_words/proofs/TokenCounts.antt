@@ -23,7 +23,7 @@ behind_blanks : (text rest : List ℕ) → Skips text rest → length rest ≤ l
 behind_blanks text rest (none e) = omega (arith, ap length e)
 behind_blanks text rest (more {after} b s) = omega (arith, behind_blank text after b, behind_blanks after rest s)
 
-ends_behind : (bytes : List ℕ) (at : ℕ) (t : Token) → at ≤ length bytes → Gives bytes at t → at + 1 ≤ t.span.end
+pub ends_behind : (bytes : List ℕ) (at : ℕ) (t : Token) → at ≤ length bytes → Gives bytes at t → at + 1 ≤ t.span.end
 ends_behind bytes at t inside g =
     let shorter = behind_blanks (drop at bytes) (drop t.span.start bytes) g.settles.skips in
     let some = (longest_some (drop t.span.start bytes) t.kind g.len g.stands).0 in
