@@ -12,6 +12,8 @@ macro_rules! first_of {
     };
 }
 
+mod attributes;
+mod expressions;
 mod form;
 mod patterns;
 mod place;
