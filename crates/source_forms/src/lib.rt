@@ -15,9 +15,11 @@ macro_rules! first_of {
 mod attributes;
 mod expressions;
 mod form;
+mod items;
 mod patterns;
 mod place;
 mod terms;
 mod types;
 
 pub use form::Form;
+pub use items::first_unbuilt;
