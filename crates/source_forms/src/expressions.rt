@@ -192,9 +192,15 @@ pub(crate) fn unbuilt_expr(built: &[Form], e: &Expr) -> Option<u64>
         ExprNode::Panic(of, _) => here(built, panic_form(*of), span),
         ExprNode::Ghost(of, term) => logical(built, span, *of, term),
         ExprNode::Assign(d, e) => first_of!(here(built, Form::Assign, span), two(built, d, e)),
-        ExprNode::Update(_, _, d, e) => first_of!(here(built, Form::Update, span), two(built, d, e)),
+        ExprNode::Update(_, _, d, e) => first_of!(
+            here(built, Form::Update, span),
+            two(built, d, e)
+        ),
         ExprNode::Lazy(_, d, e) => first_of!(here(built, Form::Lazy, span), two(built, d, e)),
-        ExprNode::Binary(_, _, d, e) => first_of!(here(built, Form::Binary, span), two(built, d, e)),
+        ExprNode::Binary(_, _, d, e) => first_of!(
+            here(built, Form::Binary, span),
+            two(built, d, e)
+        ),
         ExprNode::Cast(e, ty) => {
             first_of!(one(built, Form::Cast, span, e), unbuilt_type(built, ty))
         }
@@ -256,10 +262,7 @@ fn literal(built: &[Form], span: Span, path: &Path, fields: &[FieldExpr]) -> Opt
 fn tuple(built: &[Form], span: Span, parts: &[Expr]) -> Option<u64>
     ensures { result ≡ unbuilt_expr (is_among built.now) (E.tuple span (exprs_of parts.now)) }
 {
-    first_of!(
-        here(built, Form::Tuple, span),
-        unbuilt_exprs(built, parts)
-    )
+    first_of!(here(built, Form::Tuple, span), unbuilt_exprs(built, parts))
 }
 
 #[cycle(unbuilt_expr)]

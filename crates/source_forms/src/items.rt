@@ -116,9 +116,7 @@ fn unbuilt_body(built: &[Form], own: Span, body: &Body) -> Option<u64>
     ensures { result ≡ unbuilt_body (is_among built.now) own body.now }
 {
     match body {
-        Body::Block(e) => {
-            first_of!(here(built, Form::BlockBody, own), unbuilt_expr(built, e))
-        }
+        Body::Block(e) => { first_of!(here(built, Form::BlockBody, own), unbuilt_expr(built, e)) }
         Body::Term(term) => {
             first_of!(here(built, Form::TermBody, own), unbuilt_term(built, term))
         }
@@ -247,10 +245,7 @@ fn unbuilt_impl_item(built: &[Form], item: &ImplItem) -> Option<u64>
 {
     match item {
         ImplItem::ViewType(span, _, ty) => {
-            first_of!(
-                here(built, Form::ViewType, *span),
-                unbuilt_type(built, ty)
-            )
+            first_of!(here(built, Form::ViewType, *span), unbuilt_type(built, ty))
         }
         ImplItem::Method(method) => unbuilt_method(built, Form::ImplFunction, method),
     }
@@ -316,10 +311,7 @@ fn unbuilt_node(built: &[Form], own: Span, node: &ItemNode) -> Option<u64>
             )
         }
         ItemNode::Impl(of) => {
-            first_of!(
-                here(built, impl_form(of.of), own),
-                unbuilt_impl(built, of)
-            )
+            first_of!(here(built, impl_form(of.of), own), unbuilt_impl(built, of))
         }
         ItemNode::Use => None,
         ItemNode::ExternCrate => None,

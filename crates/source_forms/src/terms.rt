@@ -116,13 +116,7 @@ fn several(built: &[Form], form: Form, span: Span, terms: &[Pterm]) -> Option<u6
 }
 
 #[cycle(unbuilt_term)]
-fn method(
-    built: &[Form],
-    span: Span,
-    t: &Pterm,
-    name: Segment,
-    arguments: &[Pterm],
-) -> Option<u64>
+fn method(built: &[Form], span: Span, t: &Pterm, name: Segment, arguments: &[Pterm]) -> Option<u64>
     ensures { result ≡ unbuilt_term (is_among built.now) (T.method span t.now name (terms_of arguments.now)) }
 {
     first_of!(

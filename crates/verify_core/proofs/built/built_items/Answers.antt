@@ -4,3 +4,38 @@ use Rattle.source_forms.specs.ItemForms.{first_unbuilt}
 use Rattle.verify_core.specs.Built.{is_built}
 use Rattle.verify_core.proofs.BuiltItems.{of_items, none_of_items, of_words, none_of_words, not_built, none_built}
 use Rattle.verify_core.proofs.built.built_items.Goals as goal
+
+pub returns-in_err-items-clause-refused : goal.returns-in_err-items-clause-refused
+returns-in_err-items-clause-refused c =
+    let p = err_from_is_err_and c.from_residual.result c.from_residual.ensures.1 in
+    rw (p.1, p.2) (of_items c.args.names.now c.args.bytes.now c.in_err-items.field-0.0 c.in_err-items.ensures.refused)
+
+pub returns-in_err-items-clause-rightly : goal.returns-in_err-items-clause-rightly
+returns-in_err-items-clause-rightly c =
+    let p = err_from_is_err_and c.from_residual.result c.from_residual.ensures.1 in
+    rw (p.1, p.2) (none_of_items c.args.names.now c.args.bytes.now c.in_err-items.field-0.0 c.in_err-items.ensures.rightly)
+
+pub returns-in-None-clause-ok : goal.returns-in-None-clause-ok
+returns-in-None-clause-ok c = record {
+  spelled = c.in_ok-items.ensures.ok;
+  built = ap (first_unbuilt is_built) (sym c.as_slice.ensures) ∙ sym c.in-None.ensures;
+}
+
+pub returns-in-None-clause-alone : goal.returns-in-None-clause-alone
+returns-in-None-clause-alone c = λ other s. c.in_ok-items.ensures.alone other s.spelled
+
+pub returns-in_err-refusal_at-in-Some-clause-refused : goal.returns-in_err-refusal_at-in-Some-clause-refused
+returns-in_err-refusal_at-in-Some-clause-refused c =
+    let p = err_from_is_err_and c.from_residual-in_err-refusal_at-in-Some.result c.from_residual-in_err-refusal_at-in-Some.ensures.1 in
+    rw (p.1, p.2) (of_words c.args.names.now c.args.bytes.now c.in_err-refusal_at-in-Some.field-0.0 c.in_err-refusal_at-in-Some.ensures.refused)
+
+pub returns-in_err-refusal_at-in-Some-clause-rightly : goal.returns-in_err-refusal_at-in-Some-clause-rightly
+returns-in_err-refusal_at-in-Some-clause-rightly c =
+    let p = err_from_is_err_and c.from_residual-in_err-refusal_at-in-Some.result c.from_residual-in_err-refusal_at-in-Some.ensures.1 in
+    rw (p.1, p.2) (none_of_words c.args.names.now c.args.bytes.now c.in_err-refusal_at-in-Some.field-0.0 c.in_err-refusal_at-in-Some.ensures.refused)
+
+pub returns-clause-refused : goal.returns-clause-refused
+returns-clause-refused c = ?
+
+pub returns-clause-rightly : goal.returns-clause-rightly
+returns-clause-rightly c = ?
