@@ -1,9 +1,10 @@
 -- The parts of lists are smaller than these, and the place in a list is that in its first part that has one.
 use Rattle.std.proofs.Common.{◌≡◌, ℕ, zero, suc, ◌<◌, ◌≤◌, ◌+◌, List, [], ◌∷◌, length, get_or, arith, refl, ap, Bool}
 use Rattle.text_core.specs.declared.name.Name.{Name}
-use Rattle.source_trees.specs.declared.path.Segment.{Segment}
+use Rattle.source_trees.specs.declared.types.TypeArgument.{TypeArgument}
+use Rattle.source_trees.specs.declared.types.TypeArgument.TheVariants as argument
 use Rattle.source_trees.specs.TypeTree.{TypeTree}
-use Rattle.source_trees.specs.TypeTreeView.{types_of, type_tree_size, types_size}
+use Rattle.source_trees.specs.TypeTreeView.{types_of, type_arguments_of, type_tree_size, types_size, type_arguments_size}
 use Rattle.source_trees.specs.declared.pattern.FieldPat.{FieldPat}
 use Rattle.source_trees.specs.Pat.{Pat}
 use Rattle.source_trees.specs.PatView.{pats_of, field_pats_of, pat_size, pats_size, field_pats_size}
@@ -19,12 +20,12 @@ use Rattle.source_trees.specs.ExprView.{exprs_of, stmts_of, arms_of, field_exprs
 use Rattle.source_forms.specs.declared.form.Form.{Form}
 use Rattle.source_forms.specs.declared.form.Form.TheVariants.{NamedType}
 use Rattle.source_forms.specs.Forms.{◌or_else◌, in_each}
-use Rattle.source_forms.specs.TypeForms.{named_form, unbuilt_type, unbuilt_types}
+use Rattle.source_forms.specs.TypeForms.{named_form, unbuilt_type, unbuilt_types, unbuilt_arguments, unbuilt_argument}
 
-pub named_with : (name : Name) (lifetimes : List Segment) (types : List TypeTree) → 1 ≤ length lifetimes + length types → named_form name lifetimes (types_of types) ≡ NamedType
-named_with name [] [] h = absurd (omega arith)
-named_with name [] (ty ∷ types) h = refl
-named_with name (lifetime ∷ lifetimes) types h = refl
+pub named_with : (name : Name) (arguments : List TypeArgument) → 1 ≤ length arguments → named_form name (type_arguments_of arguments) ≡ NamedType
+named_with name [] h = absurd (omega arith)
+named_with name (argument.Lifetime lifetime ∷ arguments) h = refl
+named_with name (argument.Type ty ∷ arguments) h = refl
 
 -- ---- types
 
@@ -36,9 +37,23 @@ smaller_type (t ∷ ts) (suc i) d h = omega (arith, smaller_type ts i d (omega a
 pub type_smaller : (ts : List TypeTree) (i : ℕ) (t : TypeTree) → t ≡ get_or ts i t → i < length ts → type_tree_size t < types_size (types_of ts)
 type_smaller ts i t q h = rw q (smaller_type ts i t h)
 
-pub types_each : (F : Form → Bool) (ts : List TypeTree) → unbuilt_types F (types_of ts) ≡ in_each (unbuilt_type F) ts
-types_each F [] = refl
-types_each F (t ∷ ts) = ap (λ o. unbuilt_type F t or_else o) (types_each F ts)
+abbrev pub argument_size : TypeArgument → ℕ
+argument_size (argument.Lifetime lifetime) = 0
+argument_size (argument.Type ty) = type_tree_size ty
+
+smaller_argument : (xs : List TypeArgument) (i : ℕ) (d : TypeArgument) → i < length xs → argument_size (get_or xs i d) < type_arguments_size (type_arguments_of xs)
+smaller_argument [] i d h = absurd (omega arith)
+smaller_argument (argument.Lifetime lifetime ∷ xs) zero d h = omega arith
+smaller_argument (argument.Lifetime lifetime ∷ xs) (suc i) d h = omega (arith, smaller_argument xs i d (omega arith))
+smaller_argument (argument.Type ty ∷ xs) zero d h = omega arith
+smaller_argument (argument.Type ty ∷ xs) (suc i) d h = omega (arith, smaller_argument xs i d (omega arith))
+
+pub argument_smaller : (xs : List TypeArgument) (i : ℕ) (x : TypeArgument) → x ≡ get_or xs i x → i < length xs → argument_size x < type_arguments_size (type_arguments_of xs)
+argument_smaller xs i x q h = rw q (smaller_argument xs i x h)
+
+pub arguments_more : (F : Form → Bool) (x : TypeArgument) (xs : List TypeArgument) → unbuilt_arguments F (type_arguments_of (x ∷ xs)) ≡ (unbuilt_argument F x or_else unbuilt_arguments F (type_arguments_of xs))
+arguments_more F (argument.Lifetime lifetime) xs = refl
+arguments_more F (argument.Type ty) xs = refl
 
 -- ---- patterns
 
@@ -118,4 +133,4 @@ field_expr_at (x ∷ xs) (suc i) d h = omega (arith, field_expr_at xs i d (omega
 pub field_expr_smaller : (xs : List FieldExpr) (i : ℕ) (x : FieldExpr) → x ≡ get_or xs i x → i < length xs → expr_size x.value < field_exprs_size (field_exprs_of xs)
 field_expr_smaller xs i x q h = let f : FieldExpr → ℕ = λ y. expr_size y.value in omega (arith, ap f q, field_expr_at xs i x h)
 
-pub ruleset parts = (type_smaller, pattern_smaller, field_pattern_smaller, term_smaller, field_term_smaller, term_arm_smaller, expr_smaller, stmt_smaller, arm_smaller, field_expr_smaller)
+pub ruleset parts = (type_smaller, argument_smaller, pattern_smaller, field_pattern_smaller, term_smaller, field_term_smaller, term_arm_smaller, expr_smaller, stmt_smaller, arm_smaller, field_expr_smaller)

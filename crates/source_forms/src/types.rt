@@ -1,21 +1,21 @@
 //! Types and paths.
 ghost use Rattle.std.specs.Prelude.{◌≡◌};
-ghost use Rattle.source_trees.specs.TypeTreeView.{types_of};
+ghost use Rattle.source_trees.specs.TypeTreeView.{types_of, type_arguments_of};
 ghost use Rattle.source_forms.specs.Forms.{is_among, in_each};
-ghost use Rattle.source_forms.specs.TypeForms.{named_form, reference_form, unbuilt_type, unbuilt_types, path_form, unbuilt_path};
+ghost use Rattle.source_forms.specs.TypeForms.{named_form, reference_form, unbuilt_type, unbuilt_types, unbuilt_arguments, unbuilt_argument, path_form, unbuilt_path};
 
 use crate::form::Form;
 use crate::place::here;
-use source_trees::{Path, PathNode, Segment, TypeNode, TypeTree};
+use source_trees::{Path, PathNode, TypeArgument, TypeNode, TypeTree};
 use text_core::Name;
 use text_core::name::BOOL;
 
 /// The form of a name with these arguments.
 #[tactic(auto, using(crate::proofs::Sizes::named_with))]
-fn named_form(name: Name, lifetimes: &[Segment], types: &[TypeTree]) -> Form
-    ensures { result ≡ named_form name lifetimes.now (types_of types.now) }
+fn named_form(name: Name, arguments: &[TypeArgument]) -> Form
+    ensures { result ≡ named_form name (type_arguments_of arguments.now) }
 {
-    if lifetimes.is_empty() && types.is_empty() && name.0 <= BOOL.0 {
+    if arguments.is_empty() && name.0 <= BOOL.0 {
         Form::MachineType
     } else {
         Form::NamedType
@@ -38,9 +38,12 @@ pub(crate) fn unbuilt_type(built: &[Form], ty: &TypeTree) -> Option<u64>
 {
     let span = ty.span;
     match &*ty.node {
-        TypeNode::Named(name, lifetimes, types) => {
-            let form = named_form(name.name, lifetimes.as_slice(), types);
-            first_of!(here(built, form, span), unbuilt_types(built, types))
+        TypeNode::Named(name, arguments) => {
+            let form = named_form(name.name, arguments);
+            first_of!(
+                here(built, form, span),
+                unbuilt_arguments(built, arguments)
+            )
         }
         TypeNode::Tuple(types) => {
             first_of!(
@@ -71,6 +74,31 @@ pub(crate) fn unbuilt_types(built: &[Form], types: &[TypeTree]) -> Option<u64>
         }
     }
     None
+}
+
+/// In the types among the arguments.
+#[cycle(unbuilt_type)]
+#[tactic(auto, using(crate::proofs::Sizes::parts))]
+fn unbuilt_arguments(built: &[Form], arguments: &[TypeArgument]) -> Option<u64>
+    ensures { result ≡ unbuilt_arguments (is_among built.now) (type_arguments_of arguments.now) }
+{
+    for argument in arguments {
+        match unbuilt_argument(built, argument) {
+            Some(start) => return Some(start),
+            None => {}
+        }
+    }
+    None
+}
+
+#[cycle(unbuilt_type)]
+fn unbuilt_argument(built: &[Form], argument: &TypeArgument) -> Option<u64>
+    ensures { result ≡ unbuilt_argument (is_among built.now) argument.now }
+{
+    match argument {
+        TypeArgument::Lifetime(_) => None,
+        TypeArgument::Type(ty) => unbuilt_type(built, ty),
+    }
 }
 
 /// One form for a name alone, and one for any other path.
