@@ -16,7 +16,7 @@ use Rattle.verify_core.specs.declared.built.TheConstants.{BUILT}
 
 -- the forms that are built
 unfoldable pub is_built : Form → Bool
-is_built form = is_among BUILT form
+is_built = is_among BUILT
 
 -- the bytes spell these items, and nothing that is not built; names are those of the old table, and of identifiers that have none there, in
 -- order of first use

@@ -34,8 +34,12 @@ returns-in_err-refusal_at-in-Some-clause-rightly c =
     let p = err_from_is_err_and c.from_residual-in_err-refusal_at-in-Some.result c.from_residual-in_err-refusal_at-in-Some.ensures.1 in
     rw (p.1, p.2) (none_of_words c.args.names.now c.args.bytes.now c.in_err-refusal_at-in-Some.field-0.0 c.in_err-refusal_at-in-Some.ensures.refused)
 
-pub returns-clause-refused : goal.returns-clause-refused
-returns-clause-refused c = ?
+pub returns-in_ok-refusal_at-in-Some-clause-refused : goal.returns-in_ok-refusal_at-in-Some-clause-refused
+returns-in_ok-refusal_at-in-Some-clause-refused c =
+    not_built c.args.names.now c.args.bytes.now c.in_ok-items.items c.in_ok-items.ensures.ok c.in_ok-items.ensures.alone c.in_ok-items.ensures.few c.in-Some.start c.in_ok-refusal_at-in-Some.field-0
+    (ap (first_unbuilt is_built) (sym c.as_slice.ensures) ∙ sym c.in-Some.ensures) c.in_ok-refusal_at-in-Some.ensures.ok
 
-pub returns-clause-rightly : goal.returns-clause-rightly
-returns-clause-rightly c = ?
+pub returns-in_ok-refusal_at-in-Some-clause-rightly : goal.returns-in_ok-refusal_at-in-Some-clause-rightly
+returns-in_ok-refusal_at-in-Some-clause-rightly c =
+    none_built c.args.names.now c.args.bytes.now c.in_ok-items.items c.in_ok-items.ensures.ok c.in_ok-items.ensures.alone c.in-Some.start c.in_ok-refusal_at-in-Some.field-0
+    (ap (first_unbuilt is_built) (sym c.as_slice.ensures) ∙ sym c.in-Some.ensures)
