@@ -38,14 +38,12 @@ fn a_function_is_verified_where_its_obligations_are_proved(rt: HostRuntime) {
     );
 }
 
+/// Outside of `ensures` the name `result` is an ordinary one.
 #[test]
-fn no_term_speaks_of_a_parameter_named_result(rt: HostRuntime) {
+fn a_precondition_speaks_of_a_parameter_named_result(rt: HostRuntime) {
     let source = b"#[requires(result@ < 9)] fn f(result: i32) {}";
-    let refused = match verify(rt.alloc(), source, b"creusot-proofs 1\n") {
-        Err(Refusal::Source(error)) => error.code == Code::E05 && error.span.start == 11,
-        _ => false,
-    };
-    assert!(rt; refused);
+    let accepted = verify(rt.alloc(), source, b"creusot-proofs 1\n").is_ok();
+    assert!(rt; accepted);
 }
 
 #[test]

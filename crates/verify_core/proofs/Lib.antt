@@ -1,4 +1,5 @@
 mod Assembly
+mod BuiltItems
 mod JudgeLaws
 pub mod OneAnswer
 pub mod OneCount

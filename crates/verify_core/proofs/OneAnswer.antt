@@ -7,11 +7,8 @@ use Rattle.logic_term.specs.declared.obligation.Contract.{Contract}
 use Rattle.mir_ir.specs.declared.body.Body.{Body}
 use Rattle.mir_ir.specs.declared.body.Initialised.{Initialised}
 use Rattle.text_core.specs.declared.fault.PassError.TheVariants as errors
-use Rattle.built_trees.specs.declared.function.Function.{Function}
-use Rattle.built_syntax.specs.Parsed.{IsParseError}
-use Rattle.built_syntax.proofs.OneRefusal.{one_error, not_refused, not_few, not_many}
-use Rattle.built_syntax.proofs.Whole.{one_source}
-use Rattle.built_syntax.proofs.WordLists.{one_table}
+use Rattle.source_words.proofs.WordLists.{one_table}
+use Rattle.source_trees.specs.declared.item.Item.{Item}
 use Rattle.type_check.specs.declared.program.TypedProgram.{TypedProgram}
 use Rattle.type_check.specs.Checked.{checked}
 use Rattle.mir_build.specs.Lowering.{LowerTo, HasMoreBlocks}
@@ -19,8 +16,10 @@ use Rattle.mir_build.specs.Whole.{HaveFewBlocks}
 use Rattle.mir_build.proofs.OneBody.{programs_lower_in_one_way, blocks_are_counted}
 use Rattle.verify_core.specs.declared.goals.FunctionGoals.{FunctionGoals}
 use Rattle.verify_core.specs.declared.program.Program.{Program}
-use Rattle.verify_core.specs.Prepared.{HasFunctions, IsTypedAs, HaveGoals, HaveFewPaths, HasManyPaths, IsPrepared, IsRefused, IsPastLimit, most_bytes, most_blocks, most_obligations}
+use Rattle.verify_core.specs.Built.{IsSourceError}
+use Rattle.verify_core.specs.Prepared.{HasItems, IsTypedAs, HaveGoals, HaveFewPaths, HasManyPaths, IsPrepared, IsRefused, IsPastLimit, most_bytes, most_blocks, most_obligations}
 use Rattle.verify_core.specs.Verdict.{obligations_in}
+use Rattle.verify_core.proofs.BuiltItems.{one_source, one_error, not_refused, not_few, not_many}
 use Rattle.verify_core.proofs.OneCount.{goals_once, few_obligations_are_not_many, few_paths_are_not_many}
 
 same_ok : {A B : Type 0} {a b : A} → ◌≡◌ {A = Result A B} (Ok a) (Ok b) → a ≡ b
@@ -33,30 +32,30 @@ ok_err : {A B : Type 0} {a : A} {b : B} → ◌≡◌ {A = Result A B} (Ok a) (E
 ok_err e = cc
 
 module _ (source : List ℕ) where
-  same_functions : (t u : List (List ℕ)) (fs gs : List Function) → HasFunctions source t fs → HasFunctions source u gs → fs ≡ gs
-  same_functions t u fs gs h g = one_source [] source fs gs one_place_at_first h.spelled g.spelled
+  same_items : (t u : List (List ℕ)) (is js : List Item) → HasItems source t is → HasItems source u js → is ≡ js
+  same_items t u is js h g = one_source [] source one_place_at_first is js h.spelled g.spelled
 
-  same_table : (t u : List (List ℕ)) (fs gs : List Function) → HasFunctions source t fs → HasFunctions source u gs → t ≡ u
-  same_table t u fs gs h g = one_table [] source t u h.gives g.gives
+  same_table : (t u : List (List ℕ)) (is js : List Item) → HasItems source t is → HasItems source u js → t ≡ u
+  same_table t u is js h g = one_table [] source t u h.gives g.gives
 
   same_tables : (t u : List (List ℕ)) (p q : TypedProgram) → IsTypedAs source t p → IsTypedAs source u q → t ≡ u
-  same_tables t u p q a b = same_table t u a.functions b.functions a.has b.has
+  same_tables t u p q a b = same_table t u a.items b.items a.has b.has
 
   same_typed : (t u : List (List ℕ)) (p q : TypedProgram) → IsTypedAs source t p → IsTypedAs source u q → p ≡ q
-  same_typed t u p q a b = same_ok (sym a.is_typed ∙ ap checked (same_functions t u a.functions b.functions a.has b.has) ∙ b.is_typed)
+  same_typed t u p q a b = same_ok (sym a.is_typed ∙ ap checked (same_items t u a.items b.items a.has b.has) ∙ b.is_typed)
 
   -- ---- refusals
 
   typed_not_refused : (t : List (List ℕ)) (p : TypedProgram) (error : SourceError) → IsTypedAs source t p → IsRefused source error → ⊥
-  typed_not_refused t p error a (IsRefused.by_form is) = not_refused [] source one_place_at_first a.functions error a.has.spelled is
-  typed_not_refused t p error a (IsRefused.by_types {table} {functions} has is) = ok_err (sym a.is_typed ∙ ap checked (same_functions t table a.functions functions a.has has) ∙ is)
+  typed_not_refused t p error a (IsRefused.by_form is) = not_refused [] source one_place_at_first a.items error a.has.spelled is
+  typed_not_refused t p error a (IsRefused.by_types {table} {items} has is) = ok_err (sym a.is_typed ∙ ap checked (same_items t table a.items items a.has has) ∙ is)
 
   pub one_refusal : (one other : SourceError) → IsRefused source one → IsRefused source other → one ≡ other
   one_refusal one other (IsRefused.by_form h) (IsRefused.by_form g) = one_error [] source one_place_at_first one other h g
-  one_refusal one other (IsRefused.by_form h) (IsRefused.by_types {functions = fs} has is) = absurd (not_refused [] source one_place_at_first fs one has.spelled h)
-  one_refusal one other (IsRefused.by_types {functions = fs} has is) (IsRefused.by_form g) = absurd (not_refused [] source one_place_at_first fs other has.spelled g)
-  one_refusal one other (IsRefused.by_types {table = t} {functions = fs} has is) (IsRefused.by_types {table = u} {functions = gs} had was) =
-      same_err (sym is ∙ ap checked (same_functions t u fs gs has had) ∙ was)
+  one_refusal one other (IsRefused.by_form h) (IsRefused.by_types {items = items} has is) = absurd (not_refused [] source one_place_at_first items one has.spelled h)
+  one_refusal one other (IsRefused.by_types {items = items} has is) (IsRefused.by_form g) = absurd (not_refused [] source one_place_at_first items other has.spelled g)
+  one_refusal one other (IsRefused.by_types {table = t} {items = items} has is) (IsRefused.by_types {table = u} {items = others} had was) =
+      same_err (sym is ∙ ap checked (same_items t u items others has had) ∙ was)
 
   -- ---- two lowerings
 
@@ -78,14 +77,14 @@ module _ (source : List ℕ) where
     pub refused_not_past : (error : SourceError) (limit : Limit) → IsRefused source error → IsPastLimit source limit → ⊥
     refused_not_past error _ r (IsPastLimit.bytes long) = absurd (omega (arith, short, long))
     refused_not_past error limit (IsRefused.by_form h) (IsPastLimit.functions is) = not_many [] source one_place_at_first error limit h is
-    refused_not_past error limit (IsRefused.by_types {functions = fs} has is) (IsPastLimit.functions many) = not_few [] source one_place_at_first fs limit has.spelled has.few many
+    refused_not_past error limit (IsRefused.by_types {items = items} has is) (IsPastLimit.functions many) = not_few [] source one_place_at_first items limit has.spelled has.few many
     refused_not_past error _ r (IsPastLimit.blocks {table} {typed} a more) = typed_not_refused table typed error a r
     refused_not_past error _ r (IsPastLimit.paths {table} {typed} a l few many) = typed_not_refused table typed error a r
     refused_not_past error _ r (IsPastLimit.obligations {table} {typed} gs a l few paths have many) = typed_not_refused table typed error a r
 
     -- what is typed has not too many functions
-    typed_not_many : (t : List (List ℕ)) (p : TypedProgram) (limit : Limit) → IsTypedAs source t p → IsParseError [] source (errors.Limit limit) → ⊥
-    typed_not_many t p limit a is = not_few [] source one_place_at_first a.functions limit a.has.spelled a.has.few is
+    typed_not_many : (t : List (List ℕ)) (p : TypedProgram) (limit : Limit) → IsTypedAs source t p → IsSourceError [] source (errors.Limit limit) → ⊥
+    typed_not_many t p limit a is = not_few [] source one_place_at_first a.items limit a.has.spelled a.has.few is
 
     few_and_many : (t u : List (List ℕ)) (p q : TypedProgram) (bs ds : List Body) (cs es : List Contract) (gones others : List Initialised) → IsTypedAs source t p → IsTypedAs source u q → LowerTo t p.functions bs cs gones
         → LowerTo u q.functions ds es others → HaveFewPaths bs → HasManyPaths ds → ⊥

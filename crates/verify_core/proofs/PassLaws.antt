@@ -19,9 +19,9 @@ use Rattle.mir_ir.specs.declared.terminator.TerminatorKind.TheVariants.{Call}
 use Rattle.mir_ir.specs.WellFormed.{EndIsTyped}
 use Rattle.text_core.specs.declared.fault.PassError.{PassError}
 use Rattle.text_core.specs.declared.fault.PassError.TheVariants as errors
-use Rattle.built_trees.specs.declared.function.Function.{Function as SourceFunction}
-use Rattle.built_syntax.specs.Parsed.{SpellsSource, IsParseError, most_functions}
-use Rattle.built_syntax.specs.Words.{GivesNames}
+use Rattle.source_words.specs.Words.{GivesNames}
+use Rattle.source_trees.specs.declared.item.Item.{Item}
+use Rattle.rs_syntax.specs.Parsed.{functions_among, most_functions}
 use Rattle.type_check.specs.declared.program.TypedFunction.{TypedFunction}
 use Rattle.type_check.specs.declared.program.TypedProgram.{TypedProgram}
 use Rattle.type_check.specs.Answers.{Refuses as TypesRefuse}
@@ -40,10 +40,11 @@ use Rattle.wp_gen.specs.Walkable.{CanWalk}
 use Rattle.verify_core.specs.declared.fault.Refusal.{Refusal}
 use Rattle.verify_core.specs.declared.fault.Refusal.TheVariants as refusals
 use Rattle.verify_core.specs.declared.goals.FunctionGoals.{FunctionGoals}
+use Rattle.verify_core.specs.Built.{SpellsBuilt, IsSourceError}
 use Rattle.verify_core.specs.OnSource.{IsPastSomeLimit, RefusesProofs, Refuses}
 use Rattle.verify_core.specs.Passes.{CanWalkAt, CanWalkAll, AreLaidOut, HaveFewGoals, IsSettingAt, AreTooMany, IsGoalsError, IsPathsError}
 use Rattle.verify_core.specs.declared.program.Program.{Program}
-use Rattle.verify_core.specs.Prepared.{HasFunctions, IsPrepared, IsTypedAs, gone_of, HasGoals, HaveGoals, HasManyPaths, HaveFewPaths, IsPastLimit, IsRefused, RefusesSource, most_paths, most_obligations}
+use Rattle.verify_core.specs.Prepared.{HasItems, IsPrepared, IsTypedAs, gone_of, HasGoals, HaveGoals, HasManyPaths, HaveFewPaths, IsPastLimit, IsRefused, RefusesSource, most_paths, most_obligations}
 use Rattle.verify_core.specs.Refusals.{refusal_of}
 use Rattle.verify_core.specs.Verdict.{obligations_in}
 use Rattle.verify_core.proofs.Assembly.{sound, gone_at}
@@ -56,28 +57,28 @@ some_same e = cc
 
 -- ---- refusals
 
-pub parse_refused : (source : List ℕ) (table : List (List ℕ)) (e : PassError) → table ≡ [] → IsParseError table source e → RefusesSource source (refusal_of e)
-parse_refused source table (errors.Source e) same is = IsRefused.by_form (subst (λ (t : List (List ℕ)). IsParseError t source (errors.Source e)) same is)
-parse_refused source table (errors.Limit l) same is = IsPastLimit.functions (subst (λ (t : List (List ℕ)). IsParseError t source (errors.Limit l)) same is)
-parse_refused source table errors.NoMemory same is = tt
+pub source_refused : (source : List ℕ) (table : List (List ℕ)) (e : PassError) → table ≡ [] → IsSourceError table source e → RefusesSource source (refusal_of e)
+source_refused source table (errors.Source e) same is = IsRefused.by_form (subst (λ (t : List (List ℕ)). IsSourceError t source (errors.Source e)) same is)
+source_refused source table (errors.Limit l) same is = IsPastLimit.functions (subst (λ (t : List (List ℕ)). IsSourceError t source (errors.Limit l)) same is)
+source_refused source table errors.NoMemory same is = tt
 
-pub has_functions : (source : List ℕ) (old table : List (List ℕ)) (fs : List SourceFunction) → old ≡ [] → SpellsSource old source fs → length fs ≤ most_functions → GivesNames old source table → HasFunctions source table fs
-has_functions source old table fs same spelled few gives = record {
-  spelled = subst (λ (t : List (List ℕ)). SpellsSource t source fs) same spelled;
+pub has_items : (source : List ℕ) (old table : List (List ℕ)) (items : List Item) → old ≡ [] → SpellsBuilt old source items → functions_among items ≤ most_functions → GivesNames old source table → HasItems source table items
+has_items source old table items same spelled few gives = record {
+  spelled = subst (λ (t : List (List ℕ)). SpellsBuilt t source items) same spelled;
   few = few;
   gives = subst (λ (t : List (List ℕ)). GivesNames t source table) same gives;
 }
 
-pub types_refused : (source : List ℕ) (table : List (List ℕ)) (fs : List SourceFunction) (e : PassError) → HasFunctions source table fs → TypesRefuse e (checked fs) → RefusesSource source (refusal_of e)
-types_refused source table fs (errors.Source e) has is = IsRefused.by_types has is
-types_refused source table fs (errors.Limit l) has is = absurd is
-types_refused source table fs errors.NoMemory has is = tt
+pub types_refused : (source : List ℕ) (table : List (List ℕ)) (items : List Item) (e : PassError) → HasItems source table items → TypesRefuse e (checked items) → RefusesSource source (refusal_of e)
+types_refused source table items (errors.Source e) has is = IsRefused.by_types has is
+types_refused source table items (errors.Limit l) has is = absurd is
+types_refused source table items errors.NoMemory has is = tt
 
-pub typed_as : (source : List ℕ) (table : List (List ℕ)) (fs : List SourceFunction) (typed : TypedProgram) → HasFunctions source table fs → checked fs ≡ Ok typed → IsTypedAs source table typed
-typed_as source table fs typed has is = record { functions = fs; has = has; is_typed = is }
+pub typed_as : (source : List ℕ) (table : List (List ℕ)) (items : List Item) (typed : TypedProgram) → HasItems source table items → checked items ≡ Ok typed → IsTypedAs source table typed
+typed_as source table items typed has is = record { items = items; has = has; is_typed = is }
 
 pub fits_of : (source : List ℕ) (table : List (List ℕ)) (typed : TypedProgram) → IsTypedAs source table typed → ProgramFits typed
-fits_of source table typed t = typed_program_fits t.functions typed t.is_typed
+fits_of source table typed t = typed_program_fits t.items typed t.is_typed
 
 pub lowering_refused : (source : List ℕ) (table : List (List ℕ)) (typed : TypedProgram) (e : PassError) → IsTypedAs source table typed → FailsFor (ProgramFits typed → HasMoreBlocks typed 4096) e → RefusesSource source (refusal_of e)
 lowering_refused source table typed (errors.Source e) t fails = absurd fails

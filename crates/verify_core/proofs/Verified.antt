@@ -23,7 +23,7 @@ use Rattle.proof_text.specs.declared.proof.NumberedStep.{NumberedStep}
 use Rattle.proof_text.specs.declared.proof.Proof.{Proof}
 use Rattle.report_out.specs.declared.verdict.FnLine.{FnLine}
 use Rattle.report_out.specs.declared.verdict.Verdict.{Verdict}
-use Rattle.built_trees.specs.declared.function.Function.{Function}
+use Rattle.source_trees.specs.declared.item.Item.{Item}
 use Rattle.type_check.specs.declared.program.TypedProgram.{TypedProgram}
 use Rattle.type_check.specs.Checked.{checked}
 use Rattle.type_check.specs.WellTyped.{ProgramFits}
@@ -40,8 +40,8 @@ some_same : {A : Type 0} {a b : A} → Some a ≡ Some b → a ≡ b
 some_same e = cc
 
 -- what passes the types fits
-pub typed_program_fits : (fs : List Function) (p : TypedProgram) → checked fs ≡ Ok p → ProgramFits p
-typed_program_fits fs p e = answered_fits fs (Ok p) e
+pub typed_program_fits : (items : List Item) (p : TypedProgram) → checked items ≡ Ok p → ProgramFits p
+typed_program_fits items p e = answered_fits items (Ok p) e
 
 plus_one : (n : ℕ) → n + 1 ≡ suc n
 plus_one n = omega arith
@@ -84,7 +84,7 @@ verified_at ps bodies goals f true tells e = tells
 verified_at ps bodies goals f false tells e = absurd (true≢false (sym e))
 
 lowering : (source : List ℕ) (p : Program) → (prepared : IsPrepared source p) → Lowers p.names prepared.typed.functions p.bodies.bodies p.contracts prepared.gones
-lowering source p prepared = record { lowers = prepared.lowers; fits = typed_program_fits prepared.is_typed.functions prepared.typed prepared.is_typed.is_typed }
+lowering source p prepared = record { lowers = prepared.lowers; fits = typed_program_fits prepared.is_typed.items prepared.typed prepared.is_typed.is_typed }
 
 -- no proper call of a function of an accepted source is stuck
 pub accepted_is_never_stuck : (source : List ℕ) (p : Program) → IsPrepared source p → (Θ : Theory) (f : ℕ) (θ : Tys) (args held : List (Tree (Unit {0}))) (b : Body) (met : List Met) → IsProper Θ p.bodies.bodies f θ args held b met

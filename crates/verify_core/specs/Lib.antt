@@ -1,3 +1,4 @@
+pub mod Built
 pub mod Firsts
 pub mod Flags
 pub mod Judging

@@ -9,10 +9,10 @@ use Rattle.mir_ir.specs.declared.body.Initialised.{Initialised}
 use Rattle.wp_gen.specs.Paths.{HasPaths, HasMorePaths}
 use Rattle.wp_gen.specs.Walk.{AreObligations}
 use Rattle.prophecy_sim.specs.Programs as sim
-use Rattle.built_trees.specs.declared.function.Function.{Function}
 use Rattle.text_core.specs.declared.fault.PassError.TheVariants as errors
-use Rattle.built_syntax.specs.Parsed.{SpellsSource, IsParseError, most_functions}
-use Rattle.built_syntax.specs.Words.{GivesNames}
+use Rattle.source_words.specs.Words.{GivesNames}
+use Rattle.source_trees.specs.declared.item.Item.{Item}
+use Rattle.rs_syntax.specs.Parsed.{functions_among, most_functions}
 use Rattle.type_check.specs.declared.program.TypedProgram.{TypedProgram}
 use Rattle.type_check.specs.Checked.{checked}
 use Rattle.mir_build.specs.Lowering.{LowerTo, HasMoreBlocks}
@@ -21,6 +21,7 @@ use Rattle.verify_core.specs.declared.fault.Refusal.{Refusal}
 use Rattle.verify_core.specs.declared.fault.Refusal.TheVariants as refusals
 use Rattle.verify_core.specs.declared.goals.FunctionGoals.{FunctionGoals}
 use Rattle.verify_core.specs.declared.program.Program.{Program}
+use Rattle.verify_core.specs.Built.{SpellsBuilt, IsSourceError}
 use Rattle.verify_core.specs.Verdict.{obligations_in}
 
 -- ---- bounds
@@ -39,17 +40,18 @@ most_obligations = 1000000
 
 -- ---- the passes
 
--- the source spells these functions, and not too many; the table, empty before the source is read, has the names that are in them
-pub record HasFunctions (source : List ℕ) (table : List (List ℕ)) (functions : List Function) : Type 0 where
-  pub spelled : SpellsSource [] source functions
-  pub few : length functions ≤ most_functions
+-- the source spells these items, all forms in them are built, and there are not too many functions; the table, empty before the source is
+-- read, has the names that are in them
+pub record HasItems (source : List ℕ) (table : List (List ℕ)) (items : List Item) : Type 0 where
+  pub spelled : SpellsBuilt [] source items
+  pub few : functions_among items ≤ most_functions
   pub gives : GivesNames [] source table
 
--- the functions of the source have these names and types
+-- the items of the source have these names and types
 pub record IsTypedAs (source : List ℕ) (table : List (List ℕ)) (typed : TypedProgram) : Type 0 where
-  pub functions : List Function
-  pub has : HasFunctions source table functions
-  pub is_typed : checked functions ≡ Ok typed
+  pub items : List Item
+  pub has : HasItems source table items
+  pub is_typed : checked items ≡ Ok typed
 
 -- ---- goals
 
@@ -111,13 +113,13 @@ pub record IsPrepared (source : List ℕ) (p : Program) : Type 0 where
 
 -- the source is refused for this reason: it is none of the whole grammar, or has a form that is not built; or by names and types
 pub data IsRefused (source : List ℕ) (error : SourceError) : Type 0 where
-  by_form : IsParseError [] source (errors.Source error) → IsRefused source error
-  by_types : {table : List (List ℕ)} {functions : List Function} → HasFunctions source table functions → checked functions ≡ Err error → IsRefused source error
+  by_form : IsSourceError [] source (errors.Source error) → IsRefused source error
+  by_types : {table : List (List ℕ)} {items : List Item} → HasItems source table items → checked items ≡ Err error → IsRefused source error
 
 -- a quantity of the source is past its bound, and those that are counted before it are not
 pub data IsPastLimit (source : List ℕ) : Limit → Type 0 where
   bytes : most_bytes < length source → IsPastLimit source (record { kind = SourceBytes; counted = length source; bound = most_bytes })
-  functions : {limit : Limit} → IsParseError [] source (errors.Limit limit) → IsPastLimit source limit
+  functions : {limit : Limit} → IsSourceError [] source (errors.Limit limit) → IsPastLimit source limit
   blocks : {table : List (List ℕ)} {typed : TypedProgram} → IsTypedAs source table typed → HasMoreBlocks typed most_blocks → IsPastLimit source (record { kind = Blocks; counted = most_blocks + 1; bound = most_blocks })
   paths : {table : List (List ℕ)} {typed : TypedProgram} {bs : List Body} {cs : List Contract} {gones : List Initialised} → IsTypedAs source table typed → LowerTo table typed.functions bs cs gones → HaveFewBlocks bs → HasManyPaths bs
       → IsPastLimit source (record { kind = Paths; counted = most_paths + 1; bound = most_paths })

@@ -1,6 +1,7 @@
 //! The verdict on a source: which obligations its proofs prove, and which functions are verified.
 #![tactic(auto)]
 
+mod built;
 mod check;
 mod fault;
 mod goals;

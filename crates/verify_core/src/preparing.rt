@@ -7,10 +7,10 @@ ghost use Rattle.verify_core.specs.Prepared.{IsTypedAs, IsPrepared, HasGoals, Ha
 ghost use Rattle.wp_gen.specs.Walkable.{setting};
 ghost use Rattle.verify_core.specs.Passes.{CanWalkAt, CanWalkAll, AreAllGoals, AreLaidOut, HaveFewGoals, IsSettingAt, IsGoalsError, IsPathsError};
 
+use crate::built::built_items;
 use crate::fault::Refusal;
 use crate::goals::FunctionGoals;
 use crate::program::Program;
-use built_syntax::parse;
 use mir_build::{Lowered, lower};
 use mir_ir::Body;
 use std::alloc::Global;
@@ -29,8 +29,8 @@ fn typed_source(alloc: Global, source: &[u8], names: &mut Names) -> Result<Typed
     ensures fits { IfOk result ProgramFits }
     ensures refused { IfErr result (RefusesSource source.now) }
 {
-    let functions = parse(alloc, source, names)?;
-    Ok(check(alloc, functions.as_slice())?)
+    let items = built_items(alloc, source, names)?;
+    Ok(check(alloc, items.as_slice())?)
 }
 
 /// That no body has more than 1,024 paths.

@@ -1,22 +1,22 @@
 use Rattle.std.proofs.lemmas.Result.{err_from_is_err_and}
-use Rattle.verify_core.proofs.PassLaws.{parse_refused, has_functions, types_refused, typed_as}
+use Rattle.verify_core.proofs.PassLaws.{source_refused, has_items, types_refused, typed_as}
 use Rattle.verify_core.proofs.preparing.typed_source.Goals as goal
 
-pub returns-in_err-functions-clause-refused : goal.returns-in_err-functions-clause-refused
-returns-in_err-functions-clause-refused c =
+pub returns-in_err-items-clause-refused : goal.returns-in_err-items-clause-refused
+returns-in_err-items-clause-refused c =
     let p = err_from_is_err_and c.from_residual.result c.from_residual.ensures.1 in
-    rw (p.1, p.2) (parse_refused c.args.source.now c.args.names.now c.in_err-functions.field-0.0 c.requires.empty c.in_err-functions.ensures.refused)
+    rw (p.1, p.2) (source_refused c.args.source.now c.args.names.now c.in_err-items.field-0.0 c.requires.empty c.in_err-items.ensures.refused)
 
 pub returns-in_err-check-clause-refused : goal.returns-in_err-check-clause-refused
 returns-in_err-check-clause-refused c =
     let p = err_from_is_err_and c.from_residual-in_err-check.result c.from_residual-in_err-check.ensures.1 in
     rw (p.1, p.2)
-    (types_refused c.args.source.now c.parse.new.names c.in_ok-functions.functions c.in_err-check.field-0.0
-    (has_functions c.args.source.now c.args.names.now c.parse.new.names c.in_ok-functions.functions c.requires.empty c.in_ok-functions.ensures.ok c.in_ok-functions.ensures.few c.in_ok-functions.ensures.names)
+    (types_refused c.args.source.now c.built_items.new.names c.in_ok-items.items c.in_err-check.field-0.0
+    (has_items c.args.source.now c.args.names.now c.built_items.new.names c.in_ok-items.items c.requires.empty c.in_ok-items.ensures.ok c.in_ok-items.ensures.few c.in_ok-items.ensures.names)
     (rw c.as_slice.ensures at c.in_err-check.ensures.answers))
 
 pub returns-clause-ok : goal.returns-clause-ok
 returns-clause-ok c =
-    typed_as c.args.source.now c.parse.new.names c.in_ok-functions.functions c.in_ok-check.field-0
-    (has_functions c.args.source.now c.args.names.now c.parse.new.names c.in_ok-functions.functions c.requires.empty c.in_ok-functions.ensures.ok c.in_ok-functions.ensures.few c.in_ok-functions.ensures.names)
+    typed_as c.args.source.now c.built_items.new.names c.in_ok-items.items c.in_ok-check.field-0
+    (has_items c.args.source.now c.args.names.now c.built_items.new.names c.in_ok-items.items c.requires.empty c.in_ok-items.ensures.ok c.in_ok-items.ensures.few c.in_ok-items.ensures.names)
     (rw c.as_slice.ensures at c.in_ok-check.ensures.answers)

@@ -1,6 +1,0 @@
-use Rattle.std.proofs.Common.{◌≡◌, drop}
-use Rattle.built_syntax.specs.Parsed.{first_token}
-use Rattle.built_syntax.proofs.parser.first_token.Given as goal
-
-abbrev pub invariant-loop-token : goal.invariant-loop-token
-invariant-loop-token l = first_token l.tokens l.end l.start ≡ first_token (drop l.token-index l.tokens) l.end l.start

@@ -1,0 +1,54 @@
+use Rattle.std.proofs.Common.{◌≡◌, ◌+◌, ◌*◌, drop, max}
+use Rattle.source_trees.specs.PtermView.{terms_of, field_terms_of, arms_of, pterm_size, terms_size, field_terms_size, arms_size}
+use Rattle.source_forms.specs.Forms.{is_among}
+use Rattle.source_forms.specs.TermForms.{unbuilt_terms, unbuilt_field_terms, unbuilt_term_arms}
+use Rattle.source_forms.proofs.terms.+unbuilt_term.Given as goal
+
+abbrev pub decreases-unbuilt_term : goal.decreases-unbuilt_term
+decreases-unbuilt_term l = 2 * pterm_size l.term.now
+
+abbrev pub decreases-one : goal.decreases-one
+decreases-one l = 2 * pterm_size l.t.now + 1
+
+abbrev pub decreases-two : goal.decreases-two
+decreases-two l = 2 * max (pterm_size l.t.now) (pterm_size l.u.now) + 1
+
+abbrev pub decreases-several : goal.decreases-several
+decreases-several l = 2 * terms_size (terms_of l.terms.now) + 1
+
+abbrev pub decreases-method : goal.decreases-method
+decreases-method l = 2 * max (pterm_size l.t.now) (terms_size (terms_of l.arguments.now)) + 1
+
+abbrev pub decreases-call : goal.decreases-call
+decreases-call l = 2 * terms_size (terms_of l.arguments.now) + 1
+
+abbrev pub decreases-literal : goal.decreases-literal
+decreases-literal l = 2 * field_terms_size (field_terms_of l.fields.now) + 1
+
+abbrev pub decreases-choice : goal.decreases-choice
+decreases-choice l = 2 * max (pterm_size l.condition.now) (max (pterm_size l.yes.now) (pterm_size l.no.now)) + 1
+
+abbrev pub decreases-matching : goal.decreases-matching
+decreases-matching l = 2 * max (pterm_size l.t.now) (arms_size (arms_of l.arms.now)) + 1
+
+abbrev pub decreases-quantified : goal.decreases-quantified
+decreases-quantified l = 2 * pterm_size l.body.now + 1
+
+abbrev pub decreases-unbuilt_terms : goal.decreases-unbuilt_terms
+decreases-unbuilt_terms l = 2 * terms_size (terms_of l.terms.now)
+
+abbrev pub decreases-unbuilt_field_terms : goal.decreases-unbuilt_field_terms
+decreases-unbuilt_field_terms l = 2 * field_terms_size (field_terms_of l.fields.now)
+
+abbrev pub decreases-unbuilt_term_arms : goal.decreases-unbuilt_term_arms
+decreases-unbuilt_term_arms l = 2 * arms_size (arms_of l.arms.now)
+
+abbrev pub invariant-unbuilt_terms-loop-term : goal.invariant-unbuilt_terms-loop-term
+invariant-unbuilt_terms-loop-term l = unbuilt_terms (is_among l.built) (terms_of l.terms) ≡ unbuilt_terms (is_among l.built) (terms_of (drop l.term-index l.terms))
+
+abbrev pub invariant-unbuilt_field_terms-loop-field : goal.invariant-unbuilt_field_terms-loop-field
+invariant-unbuilt_field_terms-loop-field l =
+    unbuilt_field_terms (is_among l.built) (field_terms_of l.fields) ≡ unbuilt_field_terms (is_among l.built) (field_terms_of (drop l.field-index l.fields))
+
+abbrev pub invariant-unbuilt_term_arms-loop-arm : goal.invariant-unbuilt_term_arms-loop-arm
+invariant-unbuilt_term_arms-loop-arm l = unbuilt_term_arms (is_among l.built) (arms_of l.arms) ≡ unbuilt_term_arms (is_among l.built) (arms_of (drop l.arm-index l.arms))

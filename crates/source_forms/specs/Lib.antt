@@ -1,0 +1,6 @@
+pub mod ExprForms
+pub mod Forms
+pub mod ItemForms
+pub mod PatternForms
+pub mod TermForms
+pub mod TypeForms
