@@ -30,6 +30,7 @@ pub(crate) struct Found {
 }
 
 /// The variable of the name: the last of the scope, whose outermost variable stands first.
+#[tactic(auto, using(crate::proofs::Lookups::lookups))]
 pub(crate) fn find_variable(
     alloc: Global,
     name: Name,
