@@ -1,8 +1,12 @@
--- The parts of lists of expressions and statements are smaller than these.
-use Rattle.std.proofs.Common.{◌≡◌, ℕ, zero, suc, ◌<◌, List, [], ◌∷◌, length, get_or, arith, refl, ap}
+-- The parts of lists of expressions and statements are smaller than these, and what is seen of a node.
+use Rattle.std.proofs.Common.{◌≡◌, ℕ, zero, suc, ◌<◌, List, [], ◌∷◌, length, get_or, arith, refl, ap, sym, ◌∙◌, Option, None}
+use Rattle.text_core.specs.declared.span.Span.{Span}
+use Rattle.source_trees.specs.declared.expr.ExprNode.{ExprNode}
+use Rattle.source_trees.specs.declared.expr.ExprNode.TheVariants as node
 use Rattle.source_trees.specs.declared.expr.Stmt.{Stmt}
-use Rattle.source_trees.specs.Expr.{Expr}
-use Rattle.source_trees.specs.ExprView.{expr_size, exprs_size, stmts_size, exprs_of, stmts_of}
+use Rattle.source_trees.specs.Expr.{Expr, repeat}
+use Rattle.source_trees.specs.Pat.{Pat}
+use Rattle.source_trees.specs.ExprView.{expr_of, expr_size, exprs_size, stmts_size, exprs_of, stmts_of}
 
 smaller : (es : List Expr) (i : ℕ) (d : Expr) → i < length es → expr_size (get_or es i d) < exprs_size (exprs_of es)
 smaller [] i d h = absurd (omega arith)
@@ -21,3 +25,9 @@ pub stmt_smaller : (ss : List Stmt) (i : ℕ) (s : Stmt) → s ≡ get_or ss i s
 stmt_smaller ss i s q h = let f : Stmt → ℕ = λ s. expr_size s.value in omega (arith, ap f q, value_smaller ss i s h)
 
 pub ruleset parts = (each_smaller, stmt_smaller)
+
+-- ---- loops
+
+-- an expression that is seen to be a loop without a pattern
+pub loop_seen : (s : Span) (n m : ExprNode) (e : Expr) (o : Option Pat) (c b : Expr) → expr_of s n ≡ e → m ≡ n → m ≡ node.While o c b → o ≡ None → e ≡ repeat s None c b
+loop_seen s n m e o c b v d is q = sym v ∙ ap (expr_of s) (sym d ∙ is ∙ ap (λ o. node.While o c b) q)

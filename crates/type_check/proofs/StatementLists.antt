@@ -107,14 +107,16 @@ grown_by Γ Δ (Some d) a g =
     let v : Variable = record { name = d.name; ty = ty_of a; mutable = d.mutable } in
     (v ∷ g.0, g.1 ∙ append_assoc Γ (v ∷ []) g.0)
 
+grown_as : (Γ : List Variable) (o : Opened) (s : TypedStmt) (r : Opened) → Grown Γ o.scope → behind s o ≡ r → Grown Γ r.scope
+grown_as Γ o s r g q = (g.0, ap (λ (o : Opened). o.scope) (sym q) ∙ g.1)
+
 grown : (σ : List Heading) (Γ : List Variable) (ss : Stmts) (o : Opened) → typed_stmts σ Γ ss ≡ Ok o → Grown Γ o.scope
 grown σ Γ no_stmts o p = ([], ap (λ (o : Opened). o.scope) (sym (same_ok _ _ p)) ∙ sym (append-nil Γ))
 grown σ Γ (with_stmt s k e ss) o p =
     let w = bound (step_of k) _ o p in
     let a = bound (typed σ Γ e w.0.expected) _ o w.2 in
     let r = bound (typed_stmts σ (declared Γ w.0.declares a.0) ss) _ o a.2 in
-    let g = grown_by Γ r.0.scope w.0.declares a.0 (grown σ (declared Γ w.0.declares a.0) ss r.0 r.1) in
-    (g.0, ap (λ (o : Opened). o.scope) (sym (same_ok _ _ r.2)) ∙ g.1)
+    grown_as Γ r.0 (typed_stmt w.0 a.0) o (grown_by Γ r.0.scope w.0.declares a.0 (grown σ (declared Γ w.0.declares a.0) ss r.0 r.1)) (same_ok _ _ r.2)
 
 pub scope_stays : (σ : List Heading) (Γ : List Variable) (ss : List Stmt) (Δ : List Variable) (vs : List TypedStmt) → typed_stmts σ Γ (stmts_of ss) ≡ Ok (opened Δ vs) → take (length Γ) Δ ≡ Γ
 scope_stays σ Γ ss Δ vs p =

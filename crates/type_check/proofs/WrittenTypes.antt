@@ -36,7 +36,6 @@ unfolding written_type
 type_built (named s x [] none) t p = named_built s (named_type x.name) t (λ u q. choice_built (x.name.0 == length int_kinds) (slice_get int_kinds x.name.0) u q) p
 type_built w t p = absurd (cc)
 
-
 pub answer_built : (w : Option TypeTree) (t : Ty) → answer_ty w ≡ Ok t → IsBuilt t
 answer_built None t p = subst IsBuilt (same_ok _ _ p) tt
 answer_built (Some w) t p = type_built w t p

@@ -16,7 +16,9 @@ use crate::sorted::SortedTerm;
 use crate::types::{fits, is_bool, is_math_int, same_ty};
 use crate::written::name_alone;
 use logic_term::{Comparison, IntKind, Term, Ty, TyNode};
-use source_trees::{Attribute, AttributeNode, BinaryTerm, ClauseKind, Pterm, PtermNode, Segment, UnaryTerm};
+use source_trees::{
+    Attribute, AttributeNode, BinaryTerm, ClauseKind, Pterm, PtermNode, Segment, UnaryTerm,
+};
 use std::alloc::Global;
 use text_core::{Boxed, Name, NoMemory, PassError, Span};
 
@@ -418,10 +420,7 @@ fn invariant_of(
             Ok(Some(assertion(alloc, &None, scope, term)?))
         }
         AttributeNode::Skipped => Ok(None),
-        AttributeNode::Clause(
-            ClauseKind::Requires | ClauseKind::Ensures | ClauseKind::Variant,
-            _,
-        )
+        AttributeNode::Clause(ClauseKind::Requires | ClauseKind::Ensures | ClauseKind::Variant, _)
         | AttributeNode::Logic
         | AttributeNode::Law
         | AttributeNode::Derive(_) => Err(unbuilt(attribute.span)),

@@ -44,18 +44,49 @@ pub(crate) fn type_expr(
         ExprNode::Int(number, kind) => literal(alloc, expected, whole, *number, *kind),
         ExprNode::Truth(holds) => truth(alloc, expected, whole, *holds),
         ExprNode::Path(path) => named(alloc, scope.as_slice(), expected, whole, name_alone(path)),
-        ExprNode::Unary(op, at, a) => type_unary(alloc, headings, scope, expected, whole, *op, *at, a),
-        ExprNode::Binary(op, at, a, b) => type_binary(alloc, headings, scope, expected, whole, *op, *at, a, b),
+        ExprNode::Unary(op, at, a) => type_unary(
+            alloc, headings, scope, expected, whole, *op, *at, a,
+        ),
+        ExprNode::Binary(op, at, a, b) => type_binary(
+            alloc, headings, scope, expected, whole, *op, *at, a, b,
+        ),
         ExprNode::Lazy(op, a, b) => type_lazy(alloc, headings, scope, expected, whole, *op, a, b),
-        ExprNode::Assign(left, value) => type_assign(alloc, headings, scope, expected, whole, left, value),
-        ExprNode::Update(op, at, left, value) => type_update(alloc, headings, scope, expected, whole, *op, *at, left, value),
+        ExprNode::Assign(left, value) => type_assign(
+            alloc, headings, scope, expected, whole, left, value,
+        ),
+        ExprNode::Update(op, at, left, value) => type_update(
+            alloc, headings, scope, expected, whole, *op, *at, left, value,
+        ),
         ExprNode::Call(f, args) => type_call(alloc, headings, scope, expected, whole, f, args),
         ExprNode::Block(stmts) => type_block(alloc, headings, scope, expected, whole, stmts),
-        ExprNode::BlockWith(stmts, last) => type_block_with(alloc, headings, scope, expected, whole, stmts, last),
-        ExprNode::If(None, condition, body) => type_branch(alloc, headings, scope, expected, whole, condition, body),
-        ExprNode::IfElse(None, condition, yes, no) => type_choice(alloc, headings, scope, expected, whole, condition, yes, no),
-        ExprNode::While(None, condition, body) => type_while(alloc, headings, scope, expected, whole, &[], condition, body),
-        ExprNode::Attributed(attributes, e) => type_attributed(alloc, headings, scope, expected, whole, attributes.as_slice(), e),
+        ExprNode::BlockWith(stmts, last) => type_block_with(
+            alloc, headings, scope, expected, whole, stmts, last,
+        ),
+        ExprNode::If(None, condition, body) => type_branch(
+            alloc, headings, scope, expected, whole, condition, body,
+        ),
+        ExprNode::IfElse(None, condition, yes, no) => type_choice(
+            alloc, headings, scope, expected, whole, condition, yes, no,
+        ),
+        ExprNode::While(None, condition, body) => type_while(
+            alloc,
+            headings,
+            scope,
+            expected,
+            whole,
+            &[],
+            condition,
+            body,
+        ),
+        ExprNode::Attributed(attributes, e) => type_attributed(
+            alloc,
+            headings,
+            scope,
+            expected,
+            whole,
+            attributes.as_slice(),
+            e,
+        ),
         ExprNode::Receiver
         | ExprNode::Literal(_, _)
         | ExprNode::Tuple(_)
@@ -341,9 +372,12 @@ fn type_attributed(
     ensures kept { OnOk result (scope.new.items ≡ scope.old.items) }
 {
     match &*e.node {
-        ExprNode::While(None, condition, body) => type_while(
-            alloc, headings, scope, expected, whole, attributes, condition, body,
-        ),
+        ExprNode::While(pattern, condition, body) => match pattern {
+            None => type_while(
+                alloc, headings, scope, expected, whole, attributes, condition, body,
+            ),
+            Some(_) => Err(unbuilt(whole)),
+        },
         _ => Err(unbuilt(whole)),
     }
 }
