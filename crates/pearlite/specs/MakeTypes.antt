@@ -1,6 +1,7 @@
 -- What is made of the parts of each line of types and paths (Rust Reference, "Types", "Paths"). A line has the tokens from `from` to before `to`.
-use Rattle.std.specs.Prelude.{ℕ, ◌+◌, ◌-◌, ◌&&◌, Bool, true, false, not, nat_lt, if◌then◌else◌, List, Option, None, Some, unwrap_or}
+use Rattle.std.specs.Prelude.{ℕ, ◌+◌, ◌-◌, ◌&&◌, Bool, true, false, not, nat_lt, if◌then◌else◌, List, [], ◌∷◌, ◌++◌, Option, None, Some, unwrap_or}
 use Rattle.text_core.specs.declared.span.Span.{Span}
+use Rattle.grammar_tables.specs.Trees.{option_list}
 use Rattle.source_grammar.specs.Terminals.{Greater, KwMut, Less, Lifetime, WordViewTy}
 use Rattle.source_words.specs.declared.word.Word.{Word}
 use Rattle.pearlite.specs.declared.part.Part.{Part}
@@ -10,13 +11,26 @@ use Rattle.source_trees.specs.declared.path.PathNode.{PathNode}
 use Rattle.source_trees.specs.declared.path.PathNode.TheVariants as N
 use Rattle.source_trees.specs.declared.path.Segment.{Segment}
 use Rattle.pearlite.specs.Parts.{is_at, segment_at, span_from, first, others, second, alone, as_type, all_of, first_type, names_in}
+use Rattle.source_trees.specs.declared.types.TypeArgument.{TypeArgument}
+use Rattle.source_trees.specs.declared.types.TypeArgument.TheVariants as A
 use Rattle.source_trees.specs.TypeTree as Ty
 use Rattle.source_trees.specs.TypeTree.{TypeTree}
-use Rattle.source_trees.specs.TypeTreeView.{types_of}
+use Rattle.source_trees.specs.TypeTreeView.{types_of, type_arguments_of}
 
--- `TypeName [ TypeArguments ]`: the names behind the first are those of lifetimes
+-- `lifetime | AnyType`
+unfoldable pub type_argument_by : List Word → ℕ → Value → Option TypeArgument
+type_argument_by words from V.Token = if is_at Lifetime words from then Some (A.Lifetime (segment_at words from)) else None
+type_argument_by words from (V.Type ty) = Some (A.Type ty)
+type_argument_by words from value = None
+
+-- `list(TypeArgument)`, in order
+unfoldable pub type_arguments_in : List Word → List Part → List TypeArgument
+type_arguments_in words [] = []
+type_arguments_in words (part ∷ parts) = option_list (type_argument_by words part.from part.value) ++ type_arguments_in words parts
+
+-- `TypeName [ TypeArguments ]`
 unfoldable pub named_type_made : List Word → ℕ → ℕ → List Part → Value
-named_type_made words from to parts = V.Type (Ty.named (span_from words from to) (segment_at words from) (names_in words (others parts)) (types_of (all_of as_type (others parts))))
+named_type_made words from to parts = V.Type (Ty.named (span_from words from to) (segment_at words from) (type_arguments_of (type_arguments_in words (others parts))))
 
 -- a lifetime, where one stands there
 abbrev pub lifetime_at : List Word → ℕ → Option Segment

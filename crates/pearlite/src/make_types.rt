@@ -1,22 +1,40 @@
 //! What is made of the lines of types and paths.
 ghost use Rattle.std.specs.Prelude.{◌≡◌, IfOk, reverse};
-ghost use Rattle.pearlite.specs.MakeTypes.{is_member, named_path_made, named_type_made, path_node, qualified_path_made, reference_by, reference_type_made, self_type_made, tuple_type_made};
+ghost use Rattle.pearlite.specs.MakeTypes.{is_member, named_path_made, named_type_made, path_node, qualified_path_made, reference_by, reference_type_made, self_type_made, tuple_type_made, type_arguments_in};
 ghost use Rattle.pearlite.specs.declared.part.Value.TheVariants as V;
 ghost use Rattle.source_trees.specs.declared.path.Path.{Path};
 
 use crate::families::{next_type, take_all, type_with};
 use crate::part::{Part, Value};
-use crate::parts::{alone, names_and_types, place_of_next, skip};
+use crate::parts::{alone, names_and_types, next, place_of_next, skip};
 use crate::tokens::{
     is_at, is_before, lifetime_at, segment_at, segment_before, span_from, word_at,
 };
 use source_grammar::kinds;
-use source_trees::{Path, PathNode, Segment, TypeNode, TypeTree};
+use source_trees::{Path, PathNode, Segment, TypeArgument, TypeNode, TypeTree};
 use source_words::Word;
 use std::alloc::Global;
 use text_core::{Boxed, Items, NoMemory, Span};
 
-/// A name with its lifetimes and types.
+/// The lifetimes and the types among the parts, in order.
+#[tactic(auto, unfolding(crate::specs::MakeTypes::type_arguments_in))]
+fn type_arguments(
+    alloc: Global,
+    words: &[Word],
+    parts: &mut Vec<Part>,
+) -> Result<Items<TypeArgument>, NoMemory>
+    ensures { IfOk result (λ them. them ≡ type_arguments_in words.now (reverse parts.old.items)) }
+{
+    let mut arguments = Items::new(alloc);
+    while let Some(part) = next(parts) {
+        if let Some(argument) = part.value.into_type_argument(words, part.from) {
+            arguments.push(argument)?;
+        }
+    }
+    Ok(arguments)
+}
+
+/// A name with its arguments.
 #[tactic(auto, unfolding(crate::specs::MakeTypes::named_type_made))]
 pub fn named_type(
     alloc: Global,
@@ -28,8 +46,8 @@ pub fn named_type(
     ensures { IfOk result (λ v. v ≡ named_type_made words.now from to (reverse parts.old.items)) }
 {
     skip(parts);
-    let (lifetimes, types) = names_and_types(alloc, words, parts)?;
-    let node = TypeNode::Named(segment_at(words, from), lifetimes, types.into_vec());
+    let arguments = type_arguments(alloc, words, parts)?;
+    let node = TypeNode::Named(segment_at(words, from), arguments.into_vec());
     Ok(Value::Type(type_with(alloc, span_from(words, from, to), node)?))
 }
 

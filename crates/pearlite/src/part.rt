@@ -1,10 +1,13 @@
 //! What stands in a line: its tokens, and what the lines in it are made into.
 ghost use Rattle.std.specs.Prelude.{◌≡◌};
+ghost use Rattle.pearlite.specs.MakeTypes.{type_argument_by};
 ghost use Rattle.pearlite.specs.Parts.{as_arm, as_binder, as_field_pattern, as_field_term, as_path, as_pattern, as_suffix, as_term, as_type, is_suffix, is_token};
 
+use crate::tokens::lifetime_at;
 use source_trees::{
-    Binder, FieldPat, FieldTerm, Number, Pat, Path, Pterm, Segment, TermArm, TypeTree,
+    Binder, FieldPat, FieldTerm, Number, Pat, Path, Pterm, Segment, TermArm, TypeArgument, TypeTree,
 };
+use source_words::Word;
 use text_core::{Boxed, Items};
 
 /// What a token or a line is worth.
@@ -71,6 +74,24 @@ impl Value {
     {
         match self {
             Value::Type(ty) => Some(ty),
+            other => {
+                discard(other);
+                None
+            }
+        }
+    }
+
+    /// What it is among the arguments of a type, where it begins at that token.
+    #[tactic(auto, unfolding(crate::specs::MakeTypes::type_argument_by))]
+    pub fn into_type_argument(self, words: &[Word], from: usize) -> Option<TypeArgument>
+        ensures { result ≡ type_argument_by words.now from self }
+    {
+        match self {
+            Value::Token => match lifetime_at(words, from) {
+                Some(lifetime) => Some(TypeArgument::Lifetime(lifetime)),
+                None => None,
+            },
+            Value::Type(ty) => Some(TypeArgument::Type(ty)),
             other => {
                 discard(other);
                 None

@@ -30,4 +30,4 @@ pub use path::{Number, Path, PathNode, Segment};
 pub use pattern::{FieldPat, Pat, PatNode};
 pub use pterm::{FieldTerm, Pterm, PtermNode, TermArm};
 pub use statement::StmtKind;
-pub use types::{TypeNode, TypeTree};
+pub use types::{TypeArgument, TypeNode, TypeTree};

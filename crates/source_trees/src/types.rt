@@ -1,6 +1,6 @@
 use crate::path::Segment;
 use std::marker::Model;
-use text_core::{Items, Span};
+use text_core::Span;
 
 /// A type as it is written. Contracts see the tree of specs/TypeTree.antt.
 #[cycle(type_tree)]
@@ -15,8 +15,8 @@ pub struct TypeTree {
 #[cycle(type_tree)]
 #[derive(Drop)]
 pub enum TypeNode {
-    /// A name, with the lifetimes and the types among its arguments; none of them where no `<` stands.
-    Named(Segment, Items<Segment>, Vec<TypeTree>),
+    /// A name with its arguments, none where no `<` stands.
+    Named(Segment, Vec<TypeArgument>),
     Tuple(Vec<TypeTree>),
     /// `&T`, with the lifetime if one is written, and whether `mut` is.
     Reference(Option<Segment>, bool, TypeTree),
@@ -24,6 +24,14 @@ pub enum TypeNode {
     SelfType,
     /// `Self::ViewTy`
     SelfView,
+}
+
+/// What stands between the `<` and the `>` of a type, in any order.
+#[cycle(type_tree)]
+#[derive(Drop)]
+pub enum TypeArgument {
+    Lifetime(Segment),
+    Type(TypeTree),
 }
 
 impl Model for TypeTree {
