@@ -35,29 +35,51 @@ fn expect(rt: &impl Abort, alloc: Global, rows: &[Row]) {
 }
 
 const A_SECOND_OPERAND_IS_CHECKED_AGAINST_THE_FIRST: [Row; 9] = [
-    (b"fn f(x: i32) { let y = x + true; }", Some((Code::E07, 27, 31))),
-    (b"fn f(x: i32) { let y = x + 1u8; }", Some((Code::E07, 27, 30))),
+    (
+        b"fn f(x: i32) { let y = x + true; }",
+        Some((Code::E07, 27, 31)),
+    ),
+    (
+        b"fn f(x: i32) { let y = x + 1u8; }",
+        Some((Code::E07, 27, 30)),
+    ),
     (b"fn f(x: u8) -> bool { 1 < x }", None),
     (b"fn f(x: u8) -> bool { x < 1 + 1 }", None),
-    (b"fn f(x: u8) -> bool { 1 + 1 < x }", Some((Code::E07, 30, 31))),
-    (b"fn f(x: u8) -> bool { x < 256 }", Some((Code::E07, 26, 29))),
+    (
+        b"fn f(x: u8) -> bool { 1 + 1 < x }",
+        Some((Code::E07, 30, 31)),
+    ),
+    (
+        b"fn f(x: u8) -> bool { x < 256 }",
+        Some((Code::E07, 26, 29)),
+    ),
     (b"fn f() { let y: i32 = { let x = 1 + 2; x }; }", None),
     (b"fn f() -> bool { 1u8 == -1 }", Some((Code::E07, 24, 26))),
-    (b"fn f(x: bool, y: i32) -> bool { x == y }", Some((Code::E07, 37, 38))),
+    (
+        b"fn f(x: bool, y: i32) -> bool { x == y }",
+        Some((Code::E07, 37, 38)),
+    ),
 ];
 
 /// An operand whose type the other one gives. An integer without a type at its end takes the other operand's type, and only where it
 /// is itself the operand.
 #[test]
 fn a_second_operand_is_checked_against_the_first(rt: HostRuntime) {
-    expect(&rt, rt.alloc(), &A_SECOND_OPERAND_IS_CHECKED_AGAINST_THE_FIRST);
+    expect(
+        &rt,
+        rt.alloc(),
+        &A_SECOND_OPERAND_IS_CHECKED_AGAINST_THE_FIRST,
+    );
 }
 
 const AN_EXPECTED_TYPE_GOES_DOWN_INTO_OPERANDS: [Row; 6] = [
     (b"fn f(x: i32) -> u8 { x + 1 }", Some((Code::E07, 21, 22))),
     (b"fn f(x: u8) -> i32 { 1 + x }", Some((Code::E07, 25, 26))),
     (b"fn f(x: u8) -> u8 { x + 1 * 2 }", None),
-    (b"fn f(x: u8) -> u8 { x + 1 * 300 }", Some((Code::E07, 28, 31))),
+    (
+        b"fn f(x: u8) -> u8 { x + 1 * 300 }",
+        Some((Code::E07, 28, 31)),
+    ),
     (b"fn f() -> bool { 1 + 2 }", Some((Code::E07, 17, 18))),
     (b"fn f() -> i32 { (1) < (2) }", Some((Code::E07, 16, 25))),
 ];
@@ -69,25 +91,53 @@ fn an_expected_type_goes_down_into_operands(rt: HostRuntime) {
 }
 
 const OPERATORS_LOOK_AT_KINDS_ONCE_THEIR_OPERANDS_ARE_TYPED: [Row; 13] = [
-    (b"fn f(b: bool) { let y = b + b; }", Some((Code::E07, 24, 25))),
-    (b"fn f(b: bool) { let y = b + 1; }", Some((Code::E07, 28, 29))),
-    (b"fn f(b: bool) { let y = b + z; }", Some((Code::E05, 28, 29))),
-    (b"fn f(b: bool) -> bool { b < b }", Some((Code::E07, 24, 25))),
+    (
+        b"fn f(b: bool) { let y = b + b; }",
+        Some((Code::E07, 24, 25)),
+    ),
+    (
+        b"fn f(b: bool) { let y = b + 1; }",
+        Some((Code::E07, 28, 29)),
+    ),
+    (
+        b"fn f(b: bool) { let y = b + z; }",
+        Some((Code::E05, 28, 29)),
+    ),
+    (
+        b"fn f(b: bool) -> bool { b < b }",
+        Some((Code::E07, 24, 25)),
+    ),
     (b"fn f(b: bool) -> bool { b == b }", None),
     (b"fn f(b: bool) { let y = -b; }", Some((Code::E07, 25, 26))),
     (b"fn f(x: u8) -> u8 { -x }", Some((Code::E07, 21, 22))),
     (b"fn f(x: i8) -> i8 { -x }", None),
     (b"fn f(x: i8) -> bool { !x }", Some((Code::E07, 23, 24))),
-    (b"fn f(x: i32, b: bool) -> bool { b && x }", Some((Code::E07, 37, 38))),
-    (b"fn f(x: i32) -> bool { x || z }", Some((Code::E07, 23, 24))),
-    (b"fn f(mut b: bool) { b += true; }", Some((Code::E07, 20, 21))),
-    (b"fn f(mut x: i32) { x += true; }", Some((Code::E07, 24, 28))),
+    (
+        b"fn f(x: i32, b: bool) -> bool { b && x }",
+        Some((Code::E07, 37, 38)),
+    ),
+    (
+        b"fn f(x: i32) -> bool { x || z }",
+        Some((Code::E07, 23, 24)),
+    ),
+    (
+        b"fn f(mut b: bool) { b += true; }",
+        Some((Code::E07, 20, 21)),
+    ),
+    (
+        b"fn f(mut x: i32) { x += true; }",
+        Some((Code::E07, 24, 28)),
+    ),
 ];
 
 /// The refusal is at the first operand of a kind that the operator refuses.
 #[test]
 fn operators_look_at_kinds_once_their_operands_are_typed(rt: HostRuntime) {
-    expect(&rt, rt.alloc(), &OPERATORS_LOOK_AT_KINDS_ONCE_THEIR_OPERANDS_ARE_TYPED);
+    expect(
+        &rt,
+        rt.alloc(),
+        &OPERATORS_LOOK_AT_KINDS_ONCE_THEIR_OPERANDS_ARE_TYPED,
+    );
 }
 
 const INTEGERS_HAVE_THE_TYPE_THAT_IS_EXPECTED: [Row; 11] = [
@@ -115,17 +165,38 @@ const BLOCKS_AND_BRANCHES: [Row; 15] = [
     (b"fn f() -> i32 { 1; }", Some((Code::E07, 14, 20))),
     (b"fn f() -> i32 { {} 3 }", None),
     (b"fn f() -> i32 { { 1 } 3 }", Some((Code::E07, 18, 19))),
-    (b"fn f(b: bool) -> i32 { if b {} }", Some((Code::E07, 23, 30))),
-    (b"fn f(b: bool) -> i32 { if b { 1 } }", Some((Code::E07, 30, 31))),
+    (
+        b"fn f(b: bool) -> i32 { if b {} }",
+        Some((Code::E07, 23, 30)),
+    ),
+    (
+        b"fn f(b: bool) -> i32 { if b { 1 } }",
+        Some((Code::E07, 30, 31)),
+    ),
     (b"fn f() -> i32 { if z {} }", Some((Code::E05, 19, 20))),
-    (b"fn f(b: bool) -> i32 { if b { 1 } else { 2 } 3 }", Some((Code::E07, 30, 31))),
+    (
+        b"fn f(b: bool) -> i32 { if b { 1 } else { 2 } 3 }",
+        Some((Code::E07, 30, 31)),
+    ),
     (b"fn f(b: bool) -> i32 { if b { 1 } else { 2 } }", None),
-    (b"fn f(b: bool) { let x = if b { 1u8 } else { true }; }", Some((Code::E07, 44, 48))),
-    (b"fn f(b: bool) -> u8 { let x = if b { 1u8 } else { 2 }; x }", None),
+    (
+        b"fn f(b: bool) { let x = if b { 1u8 } else { true }; }",
+        Some((Code::E07, 44, 48)),
+    ),
+    (
+        b"fn f(b: bool) -> u8 { let x = if b { 1u8 } else { 2 }; x }",
+        None,
+    ),
     (b"fn f() { if 1 {} }", Some((Code::E07, 12, 13))),
     (b"fn f() { while 1 {} }", Some((Code::E07, 15, 16))),
-    (b"fn f(b: bool) { while b { 1 } }", Some((Code::E07, 26, 27))),
-    (b"fn f(b: bool) -> i32 { while b {} }", Some((Code::E07, 23, 33))),
+    (
+        b"fn f(b: bool) { while b { 1 } }",
+        Some((Code::E07, 26, 27)),
+    ),
+    (
+        b"fn f(b: bool) -> i32 { while b {} }",
+        Some((Code::E07, 23, 33)),
+    ),
 ];
 
 /// A statement that begins with a block, and the body of an `if` without `else`, are expected to be unit.
@@ -136,14 +207,35 @@ fn blocks_and_branches(rt: HostRuntime) {
 
 const CALLS: [Row; 10] = [
     (b"fn f() { g() } fn g() {}", None),
-    (b"fn g(x: i32) {} fn f() { g(); }", Some((Code::E07, 25, 28))),
-    (b"fn g(x: i32) {} fn f() { g(1, true); }", Some((Code::E07, 25, 35))),
-    (b"fn g(x: i32) {} fn f() { g(true); }", Some((Code::E07, 27, 31))),
-    (b"fn g(x: u8, y: bool) {} fn f() { g(1, 2); }", Some((Code::E07, 38, 39))),
-    (b"fn g() {} fn f() -> i32 { g() }", Some((Code::E07, 26, 29))),
+    (
+        b"fn g(x: i32) {} fn f() { g(); }",
+        Some((Code::E07, 25, 28)),
+    ),
+    (
+        b"fn g(x: i32) {} fn f() { g(1, true); }",
+        Some((Code::E07, 25, 35)),
+    ),
+    (
+        b"fn g(x: i32) {} fn f() { g(true); }",
+        Some((Code::E07, 27, 31)),
+    ),
+    (
+        b"fn g(x: u8, y: bool) {} fn f() { g(1, 2); }",
+        Some((Code::E07, 38, 39)),
+    ),
+    (
+        b"fn g() {} fn f() -> i32 { g() }",
+        Some((Code::E07, 26, 29)),
+    ),
     (b"fn f() { g(); }", Some((Code::E05, 9, 10))),
-    (b"fn g() {} fn f(g: i32) { g(); }", Some((Code::E05, 25, 26))),
-    (b"fn g() {} fn f() { let g = 1; g(); }", Some((Code::E05, 30, 31))),
+    (
+        b"fn g() {} fn f(g: i32) { g(); }",
+        Some((Code::E05, 25, 26)),
+    ),
+    (
+        b"fn g() {} fn f() { let g = 1; g(); }",
+        Some((Code::E05, 30, 31)),
+    ),
     (b"fn g() {} fn f() { { let g = 1; } g() }", None),
 ];
 
@@ -155,11 +247,20 @@ fn calls(rt: HostRuntime) {
 
 const NAMES: [Row; 7] = [
     (b"fn f() { x; }", Some((Code::E05, 9, 10))),
-    (b"fn f() { let y = 1; { let z = 1; } z; }", Some((Code::E05, 35, 36))),
-    (b"fn f() { let y = { let z = 1; z + 1 }; z; }", Some((Code::E05, 39, 40))),
+    (
+        b"fn f() { let y = 1; { let z = 1; } z; }",
+        Some((Code::E05, 35, 36)),
+    ),
+    (
+        b"fn f() { let y = { let z = 1; z + 1 }; z; }",
+        Some((Code::E05, 39, 40)),
+    ),
     (b"fn f(x: i32) { let x = true; let y: bool = x; }", None),
     (b"fn f(x: i32) { { let x = true; } let y: i32 = x; }", None),
-    (b"fn f(x: i32) { let x: bool = x; }", Some((Code::E07, 29, 30))),
+    (
+        b"fn f(x: i32) { let x: bool = x; }",
+        Some((Code::E07, 29, 30)),
+    ),
     (b"fn f() { let x = x; }", Some((Code::E05, 17, 18))),
 ];
 
@@ -176,9 +277,15 @@ const ASSIGNMENTS: [Row; 9] = [
     (b"fn f() { let mut x = 1; x += 1; }", None),
     (b"fn f(x: i32) { x = true; }", Some((Code::E07, 19, 23))),
     (b"fn f() { x = y; }", Some((Code::E05, 9, 10))),
-    (b"fn f(mut x: i32) -> i32 { x = 1 }", Some((Code::E07, 26, 31))),
+    (
+        b"fn f(mut x: i32) -> i32 { x = 1 }",
+        Some((Code::E07, 26, 31)),
+    ),
     (b"fn g() -> i32 { 1 } fn f() { g() = 2; }", None),
-    (b"fn g() -> i32 { 1 } fn f() { g() = true; }", Some((Code::E07, 35, 39))),
+    (
+        b"fn g() -> i32 { 1 } fn f() { g() = true; }",
+        Some((Code::E07, 35, 39)),
+    ),
 ];
 
 /// An assignment to what is no place of a variable writes a temporary.
@@ -190,9 +297,18 @@ fn assignments(rt: HostRuntime) {
 const NAMES_THAT_ARE_DECLARED_TWICE: [Row; 6] = [
     (b"fn f() {} fn f() {}", Some((Code::E06, 13, 14))),
     (b"fn f(x: i32, x: i32) {}", Some((Code::E06, 13, 14))),
-    (b"fn f() -> i32 { true } fn f() {}", Some((Code::E06, 26, 27))),
-    (b"fn f(x: i32, x: i32) {} fn f() {}", Some((Code::E06, 13, 14))),
-    (b"use std::vec::Vec; fn f() {} fn g() {} fn f() {}", Some((Code::E06, 42, 43))),
+    (
+        b"fn f() -> i32 { true } fn f() {}",
+        Some((Code::E06, 26, 27)),
+    ),
+    (
+        b"fn f(x: i32, x: i32) {} fn f() {}",
+        Some((Code::E06, 13, 14)),
+    ),
+    (
+        b"use std::vec::Vec; fn f() {} fn g() {} fn f() {}",
+        Some((Code::E06, 42, 43)),
+    ),
     (b"fn f(x: i32) { let x = x; let x = x; }", None),
 ];
 
@@ -203,12 +319,30 @@ fn names_that_are_declared_twice(rt: HostRuntime) {
 }
 
 const RESULT_IS_A_NAME_OUTSIDE_OF_ENSURES: [Row; 7] = [
-    (b"#[requires(result@ < 10)] fn f(result: i32) -> i32 { result }", None),
-    (b"fn f() -> i32 { let mut result: i32 = 0; #[invariant(result@ >= 0)] while result < 10 { result += 1; } result }", None),
-    (b"fn f(result: bool) -> i32 { #[invariant(result)] while false {} 0 }", None),
-    (b"fn f(result: i32) -> bool { #[invariant(result)] while false {} true }", Some((Code::E07, 40, 46))),
-    (b"#[requires(result@ == 0)] fn f() -> i32 { 0 }", Some((Code::E05, 11, 17))),
-    (b"fn f() -> i32 { #[invariant(result@ == 0)] while false {} 0 }", Some((Code::E05, 28, 34))),
+    (
+        b"#[requires(result@ < 10)] fn f(result: i32) -> i32 { result }",
+        None,
+    ),
+    (
+        b"fn f() -> i32 { let mut result: i32 = 0; #[invariant(result@ >= 0)] while result < 10 { result += 1; } result }",
+        None,
+    ),
+    (
+        b"fn f(result: bool) -> i32 { #[invariant(result)] while false {} 0 }",
+        None,
+    ),
+    (
+        b"fn f(result: i32) -> bool { #[invariant(result)] while false {} true }",
+        Some((Code::E07, 40, 46)),
+    ),
+    (
+        b"#[requires(result@ == 0)] fn f() -> i32 { 0 }",
+        Some((Code::E05, 11, 17)),
+    ),
+    (
+        b"fn f() -> i32 { #[invariant(result@ == 0)] while false {} 0 }",
+        Some((Code::E05, 28, 34)),
+    ),
     (b"fn f() -> i32 { result }", Some((Code::E05, 16, 22))),
 ];
 
@@ -220,8 +354,14 @@ fn result_is_a_name_outside_of_ensures(rt: HostRuntime) {
 
 const RESULT_IS_THE_ANSWER_IN_ENSURES: [Row; 5] = [
     (b"#[ensures(result@ == 0)] fn f() -> i32 { 0 }", None),
-    (b"#[ensures(result)] fn f(result: i32) -> bool { true }", None),
-    (b"#[ensures(result)] fn f(result: bool) -> i32 { 0 }", Some((Code::E07, 10, 16))),
+    (
+        b"#[ensures(result)] fn f(result: i32) -> bool { true }",
+        None,
+    ),
+    (
+        b"#[ensures(result)] fn f(result: bool) -> i32 { 0 }",
+        Some((Code::E07, 10, 16)),
+    ),
     (b"#[ensures(result)] fn f() {}", Some((Code::E07, 10, 16))),
     (b"#[ensures(result@ == x@)] fn f(x: i32) -> i32 { x }", None),
 ];
@@ -233,52 +373,126 @@ fn result_is_the_answer_in_ensures(rt: HostRuntime) {
 }
 
 const CONNECTIVES_EXPECT_FORMULAS_OF_EACH_OPERAND_IN_TURN: [Row; 8] = [
-    (b"#[requires(x && z)] fn f(x: i32) {}", Some((Code::E07, 11, 12))),
-    (b"#[requires(z && x)] fn f(x: i32) {}", Some((Code::E05, 11, 12))),
-    (b"#[requires(true || x)] fn f(x: i32) {}", Some((Code::E07, 19, 20))),
-    (b"#[requires(x ==> z)] fn f(x: i32) {}", Some((Code::E07, 11, 12))),
-    (b"#[requires(!x)] fn f(x: i32) {}", Some((Code::E07, 12, 13))),
+    (
+        b"#[requires(x && z)] fn f(x: i32) {}",
+        Some((Code::E07, 11, 12)),
+    ),
+    (
+        b"#[requires(z && x)] fn f(x: i32) {}",
+        Some((Code::E05, 11, 12)),
+    ),
+    (
+        b"#[requires(true || x)] fn f(x: i32) {}",
+        Some((Code::E07, 19, 20)),
+    ),
+    (
+        b"#[requires(x ==> z)] fn f(x: i32) {}",
+        Some((Code::E07, 11, 12)),
+    ),
+    (
+        b"#[requires(!x)] fn f(x: i32) {}",
+        Some((Code::E07, 12, 13)),
+    ),
     (b"#[requires(b && !b || b ==> b)] fn f(b: bool) {}", None),
     (b"#[requires(x)] fn f(x: i32) {}", Some((Code::E07, 11, 12))),
-    (b"#[requires(x@)] fn f(x: i32) {}", Some((Code::E07, 11, 13))),
+    (
+        b"#[requires(x@)] fn f(x: i32) {}",
+        Some((Code::E07, 11, 13)),
+    ),
 ];
 
 #[test]
 fn connectives_expect_formulas_of_each_operand_in_turn(rt: HostRuntime) {
-    expect(&rt, rt.alloc(), &CONNECTIVES_EXPECT_FORMULAS_OF_EACH_OPERAND_IN_TURN);
+    expect(
+        &rt,
+        rt.alloc(),
+        &CONNECTIVES_EXPECT_FORMULAS_OF_EACH_OPERAND_IN_TURN,
+    );
 }
 
 const TERMS_LOOK_AT_KINDS_ONCE_THEIR_OPERANDS_ARE_TYPED: [Row; 15] = [
-    (b"#[requires(b + z == 0)] fn f(b: bool) {}", Some((Code::E05, 15, 16))),
-    (b"#[requires(b + 1 == 0)] fn f(b: bool) {}", Some((Code::E07, 11, 12))),
-    (b"#[requires(1 + b == 0)] fn f(b: bool) {}", Some((Code::E07, 15, 16))),
-    (b"#[requires(b@ == 1)] fn f(b: bool) {}", Some((Code::E07, 11, 12))),
-    (b"#[requires(-b == 1)] fn f(b: bool) {}", Some((Code::E07, 12, 13))),
-    (b"#[requires(b < b)] fn f(b: bool) {}", Some((Code::E07, 11, 12))),
+    (
+        b"#[requires(b + z == 0)] fn f(b: bool) {}",
+        Some((Code::E05, 15, 16)),
+    ),
+    (
+        b"#[requires(b + 1 == 0)] fn f(b: bool) {}",
+        Some((Code::E07, 11, 12)),
+    ),
+    (
+        b"#[requires(1 + b == 0)] fn f(b: bool) {}",
+        Some((Code::E07, 15, 16)),
+    ),
+    (
+        b"#[requires(b@ == 1)] fn f(b: bool) {}",
+        Some((Code::E07, 11, 12)),
+    ),
+    (
+        b"#[requires(-b == 1)] fn f(b: bool) {}",
+        Some((Code::E07, 12, 13)),
+    ),
+    (
+        b"#[requires(b < b)] fn f(b: bool) {}",
+        Some((Code::E07, 11, 12)),
+    ),
     (b"#[requires(b == b)] fn f(b: bool) {}", None),
     (b"#[requires(x < y)] fn f(x: i32, y: i32) {}", None),
     (b"#[requires(x@ < y@ + 1)] fn f(x: i32, y: u8) {}", None),
-    (b"#[requires(x < y)] fn f(x: i32, y: u8) {}", Some((Code::E07, 15, 16))),
-    (b"#[requires(x == 1)] fn f(x: i32) {}", Some((Code::E07, 16, 17))),
+    (
+        b"#[requires(x < y)] fn f(x: i32, y: u8) {}",
+        Some((Code::E07, 15, 16)),
+    ),
+    (
+        b"#[requires(x == 1)] fn f(x: i32) {}",
+        Some((Code::E07, 16, 17)),
+    ),
     (b"#[requires(x == 1i32)] fn f(x: i32) {}", None),
-    (b"#[requires(x == 200i8)] fn f(x: i8) {}", Some((Code::E07, 16, 21))),
+    (
+        b"#[requires(x == 200i8)] fn f(x: i8) {}",
+        Some((Code::E07, 16, 21)),
+    ),
     (b"#[requires(x@ == -1)] fn f(x: i32) {}", None),
-    (b"#[requires(x@ < b)] fn f(x: i32, b: bool) {}", Some((Code::E07, 16, 17))),
+    (
+        b"#[requires(x@ < b)] fn f(x: i32, b: bool) {}",
+        Some((Code::E07, 16, 17)),
+    ),
 ];
 
 /// Literals without a type at their ends, and all arithmetic, are of the unbounded integers.
 #[test]
 fn terms_look_at_kinds_once_their_operands_are_typed(rt: HostRuntime) {
-    expect(&rt, rt.alloc(), &TERMS_LOOK_AT_KINDS_ONCE_THEIR_OPERANDS_ARE_TYPED);
+    expect(
+        &rt,
+        rt.alloc(),
+        &TERMS_LOOK_AT_KINDS_ONCE_THEIR_OPERANDS_ARE_TYPED,
+    );
 }
 
 const FORMULAS_COME_BEHIND_ALL_BODIES: [Row; 6] = [
-    (b"#[requires(z)] fn f() {} fn g() { y; }", Some((Code::E05, 34, 35))),
-    (b"#[requires(z)] fn f() { #[invariant(y)] while false {} }", Some((Code::E05, 11, 12))),
-    (b"fn f() { #[invariant(y)] while false {} } #[requires(z)] fn g() {}", Some((Code::E05, 21, 22))),
-    (b"#[requires(true)] #[ensures(y)] fn f() {}", Some((Code::E05, 28, 29))),
-    (b"fn f(x: i32) { let y = true; #[invariant(y)] while false { let z = 1; } }", None),
-    (b"fn f() { #[invariant(z)] while false { let z = true; } }", Some((Code::E05, 21, 22))),
+    (
+        b"#[requires(z)] fn f() {} fn g() { y; }",
+        Some((Code::E05, 34, 35)),
+    ),
+    (
+        b"#[requires(z)] fn f() { #[invariant(y)] while false {} }",
+        Some((Code::E05, 11, 12)),
+    ),
+    (
+        b"fn f() { #[invariant(y)] while false {} } #[requires(z)] fn g() {}",
+        Some((Code::E05, 21, 22)),
+    ),
+    (
+        b"#[requires(true)] #[ensures(y)] fn f() {}",
+        Some((Code::E05, 28, 29)),
+    ),
+    (
+        b"fn f(x: i32) { let y = true; #[invariant(y)] while false { let z = 1; } }",
+        None,
+    ),
+    (
+        b"fn f() { #[invariant(z)] while false { let z = true; } }",
+        Some((Code::E05, 21, 22)),
+    ),
 ];
 
 /// Clauses before bodies, and all of a function before the next.
@@ -291,15 +505,24 @@ const FORMS_THAT_HAVE_NO_TYPE_YET: [Row; 14] = [
     (b"fn f(x: i32) { &x; }", Some((Code::E20, 15, 17))),
     (b"fn f() { return; }", Some((Code::E20, 9, 15))),
     (b"fn f() { let _ = 1; }", Some((Code::E20, 13, 14))),
-    (b"fn f() { let x: (i32, bool) = y; }", Some((Code::E20, 16, 27))),
+    (
+        b"fn f() { let x: (i32, bool) = y; }",
+        Some((Code::E20, 16, 27)),
+    ),
     (b"fn f(x: &i32) {}", Some((Code::E20, 8, 12))),
     (b"fn f() -> () {}", Some((Code::E20, 10, 12))),
     (b"fn f<T>() {}", Some((Code::E20, 4, 7))),
     (b"struct S;", Some((Code::E20, 0, 9))),
-    (b"fn f(x: i32) { if let y = x {} }", Some((Code::E20, 15, 30))),
+    (
+        b"fn f(x: i32) { if let y = x {} }",
+        Some((Code::E20, 15, 30)),
+    ),
     (b"fn f() { a::b(); }", Some((Code::E20, 9, 15))),
     (b"#[variant(true)] fn f() {}", Some((Code::E20, 0, 16))),
-    (b"fn f() { #[requires(true)] while true {} }", Some((Code::E20, 9, 26))),
+    (
+        b"fn f() { #[requires(true)] while true {} }",
+        Some((Code::E20, 9, 26)),
+    ),
     (b"#[requires(f())] fn f() {}", Some((Code::E20, 11, 14))),
     (b"use std::vec::Vec; #[allow(x)] fn f() {}", None),
 ];

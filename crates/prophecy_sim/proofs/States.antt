@@ -22,7 +22,6 @@ use Rattle.mir_machine.proofs.Wholes.{try_step-whole, come_back-whole}
 use Rattle.prophecy_sim.proofs.Runs.{Standing, IsAnswer, GoesOn, EndsFine, frame_comes}
 use Rattle.prophecy_sim.proofs.Begins.{begins}
 
-
 module _ (Θ : Theory) (program : Program) (sound : AreSound program.bodies) (functions : AreFunctions program sound)
     (top : ℕ) (proved : AreProvedFrom Θ program top) (top_contract : Contract) (top_env : Env) (out : Frame (Unit {0})) where
   abbrev bodies : List Body
