@@ -236,7 +236,7 @@ type_or_stops s (Some t) e p = absurd (no_type t e p)
 
 type_stops : (w : W.TypeTree) (e : SourceError) → written_type w ≡ Err e → IsUnbuilt e
 unfolding written_type
-type_stops (W.named s x [] W.none) e p = type_or_stops s (named_type x.name) e p
+type_stops (W.named s x W.no_arguments) e p = type_or_stops s (named_type x.name) e p
 type_stops w e p = not_built {A = Ty} _ e p
 
 some_type_stops : (w : Option W.TypeTree) (e : SourceError) → written_or_none w ≡ Err e → IsUnbuilt e

@@ -55,7 +55,7 @@ type_or s None = Err (unbuilt s)
 type_or s (Some t) = Ok t
 
 unfoldable pub written_type : W.TypeTree → Result Ty SourceError
-written_type (W.named s x [] W.none) = type_or s (named_type x.name)
+written_type (W.named s x W.no_arguments) = type_or s (named_type x.name)
 written_type w = Err (unbuilt (type_span w))
 
 -- the written type, if there is one

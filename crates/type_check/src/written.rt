@@ -83,8 +83,8 @@ fn written_type(written: &TypeTree) -> Result<Ty, PassError>
 {
     let span = written.span;
     match &*written.node {
-        TypeNode::Named(name, lifetimes, types) => {
-            if !lifetimes.is_empty() || !types.is_empty() {
+        TypeNode::Named(name, arguments) => {
+            if !arguments.is_empty() {
                 return Err(unbuilt(span));
             }
             match named_type(name.name) {
