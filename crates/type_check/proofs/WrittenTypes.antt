@@ -1,15 +1,15 @@
 -- Types as they are written: those with arguments are not built, and what is built is an integer type, `bool` or unit.
-use Rattle.std.proofs.Common.{◌≡◌, ◌≤◌, ◌+◌, ◌==◌, Bool, true, false, List, [], ◌∷◌, length, Option, Some, None, Ok, Err, refl, subst, arith}
+use Rattle.std.proofs.Common.{◌≡◌, ◌≤◌, ◌==◌, Bool, true, false, List, [], ◌∷◌, length, Option, Some, None, Ok, Err, refl, subst, arith}
 use Rattle.std.specs.Prelude.{slice_get, if◌then◌else◌}
 use Rattle.text_core.specs.declared.name.Name.{Name}
 use Rattle.text_core.specs.declared.span.Span.{Span}
 use Rattle.logic_term.specs.declared.kinds.IntKind.{IntKind}
 use Rattle.logic_term.specs.Ty.{Ty, int, bool}
 use Rattle.source_trees.specs.declared.path.Segment.{Segment}
-use Rattle.source_trees.specs.TypeTree.{TypeTree, named, no_arguments}
-use Rattle.source_trees.specs.TypeTreeView.{type_arguments_of}
 use Rattle.source_trees.specs.declared.types.TypeArgument.{TypeArgument}
 use Rattle.source_trees.specs.declared.types.TypeArgument.TheVariants as argument
+use Rattle.source_trees.specs.TypeTree.{TypeTree, named, no_arguments}
+use Rattle.source_trees.specs.TypeTreeView.{type_arguments_of}
 use Rattle.type_check.specs.Answers.{unbuilt}
 use Rattle.type_check.specs.WellTyped.{IsBuilt}
 use Rattle.type_check.specs.Written.{int_kinds, int_or_none, named_type, type_or, written_type, answer_ty}
@@ -18,8 +18,8 @@ use Rattle.type_check.proofs.Bound.{same_ok}
 pub with_arguments : (s : Span) (x : Segment) (arguments : List TypeArgument) → 1 ≤ length arguments → written_type (named s x (type_arguments_of arguments)) ≡ Err (unbuilt s)
 unfolding written_type
 with_arguments s x [] h = absurd (omega arith)
-with_arguments s x (argument.Lifetime lifetime ∷ others) h = refl
-with_arguments s x (argument.Type w ∷ others) h = refl
+with_arguments s x (argument.Lifetime l ∷ rest) h = refl
+with_arguments s x (argument.Type w ∷ rest) h = refl
 
 int_built : (k : Option IntKind) (t : Ty) → int_or_none k ≡ Some t → IsBuilt t
 int_built None t p = absurd (cc)
