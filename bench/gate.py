@@ -77,11 +77,11 @@ def table(seen):
     return lines
 
 
-def main(said):
+def main(said, words):
     before, begun = os.times(), time.time()
     seen = {}
     with open(said, "w") as out:
-        gate = subprocess.Popen(["rt", "ci"], stdout=out, stderr=subprocess.STDOUT)
+        gate = subprocess.Popen(["rt", "ci", *words], stdout=out, stderr=subprocess.STDOUT)
         while gate.poll() is None:
             sample(gate.pid, seen)
             time.sleep(0.5)
@@ -95,4 +95,4 @@ def main(said):
 
 
 if __name__ == "__main__":
-    sys.exit(main(sys.argv[1]))
+    sys.exit(main(sys.argv[1], sys.argv[2:]))

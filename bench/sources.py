@@ -1,5 +1,5 @@
 """Writes a source and its proofs: many functions of sums with bounds, or of loops and calls; one function of many additions
-in a row; or a long source that is refused at its last word."""
+in a row; or a long source that is refused at its last token, at its last word, or at its first item."""
 import sys
 
 
@@ -39,15 +39,28 @@ def additions(count):
     return f"fn f(x: u64) -> u64 {{ x{' + x' * count} }}\n", ""
 
 
+LINE = "    let x = y + 1 + 2 + 3 + 4;\n"
+
+
 def long_source(size):
     """Some `size` bytes: one function of many short sums, and a word at the end that cannot stand there."""
-    line = "    let x = y + 1 + 2 + 3 + 4;\n"
-    return "fn f(y: i32) {\n" + line * (size // len(line)) + "}\nelse\n", ""
+    return "fn f(y: i32) {\n" + LINE * (size // len(LINE)) + "}\nelse\n", ""
+
+
+def no_token_source(size):
+    """The same, with no token at the end: its words are not parsed."""
+    return long_source(size)[0].replace("else", "$"), ""
+
+
+def not_built_source(size):
+    """The same, whole, with an item before it that is not built: its trees are made, and looked at no further."""
+    return "struct S;\n" + long_source(size)[0].replace("else", ""), ""
 
 
 def texts_of(kind, count):
-    if kind in ("additions", "long"):
-        return [{"additions": additions, "long": long_source}[kind](count)]
+    made = {"additions": additions, "long": long_source, "no_token": no_token_source, "not_built": not_built_source}
+    if kind in made:
+        return [made[kind](count)]
     function = {"sums": sum_function, "loops": loop_function}[kind]
     return [function(k) for k in range(1, count + 1)]
 
@@ -62,4 +75,5 @@ def main():
         out.writelines(proofs for _, proofs in texts)
 
 
-main()
+if __name__ == "__main__":
+    main()

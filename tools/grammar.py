@@ -629,7 +629,7 @@ def write_kinds(terminals):
 
 
 def write_words(terminals):
-    """What crates/source_words says of the terminals: those of the lexer's kinds, and the quoted words with theirs, which the code has by their lengths."""
+    """What crates/source_words says of the terminals: those of the lexer's kinds, and the quoted words with theirs, which the code has by their first bytes."""
     of_kinds = [name for name in terminals.values() if not name.startswith("Word") and name not in LAST_KINDS.values()]
     variant = lambda name: TOKEN_KINDS.get(name, name)
     out = ["-- The kinds of tokens that have one whatever their text, by the lexer's kinds. " + MADE, "use Rattle.std.specs.Prelude.{ℕ}", "use Rattle.source_grammar.specs.Classes.{kind_of}",
@@ -641,12 +641,13 @@ def write_words(terminals):
            uses("Rattle.source_grammar.specs.Terminals", quoted.values()), "", "unfoldable pub quoted : List (List ℕ × ℕ)", "quoted ="]
     out += ["    %s(codes \"%s\", kind_of %s)" % ("∷ " if i else "", word, name) for i, (word, name) in enumerate(quoted.items())] + ["    ∷ []"]
     write("specs/QuotedWords.antt", "\n".join(out), WORDS_CRATE)
-    by_length = {}
+    by_front = {}
     for word, name in quoted.items():
-        by_length.setdefault(len(word), []).append((word, name))
-    out = ["//! The quoted words that are no keywords, by their lengths, with their kinds. " + MADE, "", "use source_grammar::kinds;", ""]
-    for length, rows in sorted(by_length.items()):
-        out += ["#[rattlefmt::skip]", "pub const OF_LENGTH_%d: [(&str, u8); %d] = [" % (length, len(rows))] + ["    (\"%s\", kinds::%s)," % (word, screaming(name)) for word, name in rows] + ["];", ""]
+        by_front.setdefault(word[0], []).append((word, name))
+    out = ["//! The quoted words that are no keywords, by their first bytes, with their kinds. " + MADE, "", "use source_grammar::kinds;", ""]
+    for front, rows in sorted(by_front.items()):
+        label = "UPPER_" + front if front.isupper() else front.upper()
+        out += ["#[rattlefmt::skip]", "pub const FROM_%s: [(&str, u8); %d] = [" % (label, len(rows))] + ["    (\"%s\", kinds::%s)," % (word, screaming(name)) for word, name in rows] + ["];", ""]
     write("src/quoted_words.rt", "\n".join(out), WORDS_CRATE)
 
 

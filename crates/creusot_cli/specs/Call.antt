@@ -6,6 +6,7 @@ use Rattle.text_core.specs.Counts.{Rose}
 use Rattle.io_edge.specs.Shelf.{Files, WhereTold, Holds, HoldsLength}
 use Rattle.io_edge.specs.Sink.{AppendsPrefix}
 use Rattle.logic_term.specs.declared.obligation.Contract.{Contract}
+use Rattle.logic_term.specs.Theory.{nothing_declared}
 use Rattle.mir_machine.specs.Good.{Each, Good}
 use Rattle.proof_text.specs.declared.proof.Proof.{Proof}
 use Rattle.report_out.specs.declared.verdict.FnLine.{FnLine}
@@ -20,7 +21,7 @@ use Rattle.verify_core.specs.declared.program.Program.{Program}
 use Rattle.verify_core.specs.Listing.{list_text}
 use Rattle.verify_core.specs.OnSource.{most_proof_bytes}
 use Rattle.verify_core.specs.Prepared.{IsPrepared, most_bytes}
-use Rattle.verify_core.specs.Verdict.{no_types, HasDerivation, IsVerdict, obligations_in}
+use Rattle.verify_core.specs.Verdict.{HasDerivation, IsVerdict, obligations_in}
 use Rattle.creusot_cli.specs.Answer.{Fetched, whole, longer, IsWithin, IsProgramOf, AnswersSource, AreProofs, AnswersProofs}
 use Rattle.creusot_cli.specs.declared.verify.files.ReadFile.{ReadFile}
 use Rattle.creusot_cli.specs.declared.verify.files.ReadFile.TheVariants.{Whole, TooLong}
@@ -96,7 +97,7 @@ pub record Reports (shelf : Option Files) (a : Asked) (status : ℕ) (before aft
   pub is_verdict : IsVerdict proofs program.bodies.bodies program.functions verdict
   pub printed : Appends before after (report_of source verdict)
   pub complete : (status ≡ 0) ↔ Each (HasDerivation proofs) (obligations_in program.functions)
-  pub good : (f : ℕ) (line : FnLine) (c : Contract) → slice_get verdict.functions f ≡ Some line → line.verified ≡ true → slice_get program.contracts f ≡ Some c → Good no_types program.bodies.bodies f c
+  pub good : (f : ℕ) (line : FnLine) (c : Contract) → slice_get verdict.functions f ≡ Some line → line.verified ≡ true → slice_get program.contracts f ≡ Some c → Good nothing_declared program.bodies.bodies f c
 
 -- the source is accepted, and what is printed is the list of the obligations of its program
 pub record ListsAll (shelf : Option Files) (a : Asked) (status : ℕ) (before after : Option (List ℕ)) : Type 0 where

@@ -101,7 +101,7 @@ module _ (G : Grammar) (marks : ℕ → Mark) (goal levels : ℕ) (depth : ℕ �
           inside = S.inside;
           derived = front_derived G marks goal levels depth s (take f.length kinds) (drop f.length kinds) f.derivation.items (S.follows s);
           within = front_within G marks goal levels depth s (take f.length kinds) (drop f.length kinds) f.derivation.items (S.follows s);
-          longest = λ p h i. longest G depth s q;
+          longest = longest G depth s q;
         };
         moves = (S.inside, q);
       }
@@ -132,7 +132,7 @@ module _ (G : Grammar) (marks : ℕ → Mark) (goal : ℕ) (kinds : List ℕ) wh
   pub behind_front : (depth : ℕ → ℕ) → IsLL1 G depth → (front : Front) → IsParsed G marks goal 0 kinds front → front.length < length kinds → IsRefused G marks goal 0 kinds front.length
   behind_front depth s f m l = record {
     inside = m.inside;
-    refusal = λ p h i. by (m.longest p h i);
+    refusal = λ p h i. by m.longest;
     within = front_keeps G marks goal 0 depth s (take f.length kinds) f.derivation.items m.derived m.within;
   }
     where

@@ -42,7 +42,7 @@ pub record IsParsed (G : Grammar) (marks : ℕ → Mark) (goal levels : ℕ) (xs
   pub inside : f.length ≤ length xs
   pub derived : Derives G (goal_of goal) (take f.length xs) f.derivation.items
   pub within : PassesAt G marks goal levels f.derivation.items None
-  pub longest : ByPlan G goal (IsFront G (goal_of goal) xs f.derivation.items (drop f.length xs))
+  pub longest : IsFront G (goal_of goal) xs f.derivation.items (drop f.length xs)
 
 -- The token at the position, or the end, is the first one that cannot continue, and no token before it passes a limit.
 pub record IsRefused (G : Grammar) (marks : ℕ → Mark) (goal levels : ℕ) (xs : List ℕ) (position : ℕ) : Type 0 where

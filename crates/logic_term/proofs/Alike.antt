@@ -5,8 +5,31 @@ use Rattle.logic_term.specs.declared.kinds.Ctor.{Ctor}
 use Rattle.logic_term.specs.Term.{Operator, modeled, negated, denied, arith, less, at_most, equal, both, either, implied, made, Quantifier, every, some}
 use Rattle.logic_term.specs.Meaning.{Sure, Has, Of, OfTwo, Decided, Says, Yes, Each, MadeOf, Applied, Quantified}
 
+pub sure_map : (P Q : Type 0) → (P → Q) → Sure P → Sure Q
+sure_map P Q f p n = p (λ x. n (f x))
+
+pub sure_then : (P Q : Type 0) → (P → Sure Q) → Sure P → Sure Q
+sure_then P Q f p n = p (λ x. f x n)
+
+-- each value that the one has, the other cannot fail to have
+abbrev pub Into : Has → Has → Type 0
+Into A B = (v : Value) → A v → Sure (B v)
+
 abbrev pub Alike : Has → Has → Type 0
-Alike A B = (v : Value) → A v ↔ B v
+Alike A B = (v : Value) → Sure (A v) ↔ Sure (B v)
+
+pub alike : (A B : Has) → Into A B → Into B A → Alike A B
+alike A B f g v = (sure_then _ _ (f v), sure_then _ _ (g v))
+
+-- the same values exactly
+pub alike_exactly : (A B : Has) → ((v : Value) → A v ↔ B v) → Alike A B
+alike_exactly A B e v = (sure_map _ _ (e v).0, sure_map _ _ (e v).1)
+
+pub to : (A B : Has) → Alike A B → Into A B
+to A B e v p = (e v).0 (λ n. n p)
+
+pub from : (A B : Has) → Alike A B → Into B A
+from A B e v p = (e v).1 (λ n. n p)
 
 pub alike_same : (A : Has) → Alike A A
 alike_same A v = ((λ p. p), (λ p. p))
@@ -17,34 +40,34 @@ alike_back A B e v = ((e v).1, (e v).0)
 pub alike_then : (A B C : Has) → Alike A B → Alike B C → Alike A C
 alike_then A B C e f v = ((λ p. (f v).0 ((e v).0 p)), (λ p. (e v).1 ((f v).1 p)))
 
-pub sure_map : (P Q : Type 0) → (P → Q) → Sure P → Sure Q
-sure_map P Q f p n = p (λ x. n (f x))
-
 pub yes_alike : (A B : Has) → Alike A B → Yes A ↔ Yes B
-yes_alike A B e = (sure_map _ _ (e (Flag true)).0, sure_map _ _ (e (Flag true)).1)
+yes_alike A B e = e (Flag true)
 
 decided : (P Q : Type 0) → P ↔ Q → (b : Bool) → Decided b P → Decided b Q
 decided P Q e true d = e.0 d
 decided P Q e false d = λ q. d (e.1 q)
 
 pub says_alike : (P Q : Type 0) → P ↔ Q → Alike (Says P) (Says Q)
-says_alike P Q e v = ((λ s. (s.0, s.1, decided P Q e s.0 s.2)), (λ s. (s.0, s.1, decided Q P (e.1, e.0) s.0 s.2)))
+says_alike P Q e v = (sure_map _ _ (λ s. (s.0, s.1, decided P Q e s.0 s.2)), sure_map _ _ (λ s. (s.0, s.1, decided Q P (e.1, e.0) s.0 s.2)))
+
+of_into : (f : Value → Value) (A B : Has) → Into A B → Into (Of f A) (Of f B)
+of_into f A B e v p n = e p.0 p.1 (λ q. n (p.0, q, p.2))
 
 of_alike : (f : Value → Value) (A B : Has) → Alike A B → Alike (Of f A) (Of f B)
-of_alike f A B e v = ((λ p. (p.0, (e p.0).0 p.1, p.2)), (λ p. (p.0, (e p.0).1 p.1, p.2)))
+of_alike f A B e = alike _ _ (of_into f A B (to A B e)) (of_into f B A (from A B e))
+
+of_two_into : (f : Value → Value → Value) (A B C D : Has) → Into A B → Into C D → Into (OfTwo f A C) (OfTwo f B D)
+of_two_into f A B C D e g v p n = e p.0 p.2 (λ q. g p.1 p.3 (λ r. n (p.0, p.1, q, r, p.4)))
 
 of_two_alike : (f : Value → Value → Value) (A B C D : Has) → Alike A B → Alike C D → Alike (OfTwo f A C) (OfTwo f B D)
-of_two_alike f A B C D e g v = ((λ p. (p.0, p.1, (e p.0).0 p.2, (g p.1).0 p.3, p.4)), (λ p. (p.0, p.1, (e p.0).1 p.2, (g p.1).1 p.3, p.4)))
+of_two_alike f A B C D e g = alike _ _ (of_two_into f A B C D (to _ _ e) (to _ _ g)) (of_two_into f B A D C (from _ _ e) (from _ _ g))
 
-each_alike : (n : ℕ) (A B : ℕ → Has) → ((k : ℕ) → Alike (A k) (B k)) → (vs : Values) → Each n A vs ↔ Each n B vs
-each_alike zero A B e vs = ((λ p. p), (λ p. p))
-each_alike (suc n) A B e vs = (
-  (λ p. (p.0, p.1, (e 0 p.0).0 p.2, (each_alike n (λ k. A (suc k)) (λ k. B (suc k)) (λ k. e (suc k)) p.1).0 p.3, p.4)),
-  (λ p. (p.0, p.1, (e 0 p.0).1 p.2, (each_alike n (λ k. A (suc k)) (λ k. B (suc k)) (λ k. e (suc k)) p.1).1 p.3, p.4)),
-)
+each_into : (n : ℕ) (A B : ℕ → Has) → ((k : ℕ) → Into (A k) (B k)) → (vs : Values) → Each n A vs → Sure (Each n B vs)
+each_into zero A B e vs p m = m p
+each_into (suc n) A B e vs p m = e 0 p.0 p.2 (λ q. each_into n (λ k. A (suc k)) (λ k. B (suc k)) (λ k. e (suc k)) p.1 p.3 (λ r. m (p.0, p.1, q, r, p.4)))
 
-made_alike : (c : Ctor) (P Q : Values → Type 0) → ((vs : Values) → P vs ↔ Q vs) → Alike (MadeOf c P) (MadeOf c Q)
-made_alike c P Q e v = ((λ p. (p.0, (e p.0).0 p.1, p.2)), (λ p. (p.0, (e p.0).1 p.1, p.2)))
+made_into : (c : Ctor) (P Q : Values → Type 0) → ((vs : Values) → P vs → Sure (Q vs)) → Into (MadeOf c P) (MadeOf c Q)
+made_into c P Q e v p n = e p.0 p.1 (λ q. n (p.0, q, p.2))
 
 -- an operator's values are those of its arguments' values
 pub applied_alike : (op : Operator) (n : ℕ) (A B : ℕ → Has) → ((k : ℕ) → Alike (A k) (B k)) → Alike (Applied op n A) (Applied op n B)
@@ -54,7 +77,10 @@ applied_alike denied n A B e = says_alike _ _ ((λ d y. d ((yes_alike _ _ (e 0))
 applied_alike (arith op) n A B e = of_two_alike _ _ _ _ _ (e 0) (e 1)
 applied_alike less n A B e = of_two_alike _ _ _ _ _ (e 0) (e 1)
 applied_alike at_most n A B e = of_two_alike _ _ _ _ _ (e 0) (e 1)
-applied_alike equal n A B e = says_alike _ _ ((λ s x y p q. s x y ((e 0 x).1 p) ((e 1 y).1 q)), (λ s x y p q. s x y ((e 0 x).0 p) ((e 1 y).0 q)))
+applied_alike equal n A B e = says_alike _ _ (
+  (λ s x y p q k. from _ _ (e 0) x p (λ r. from _ _ (e 1) y q (λ t. s x y r t k))),
+  (λ s x y p q k. to _ _ (e 0) x p (λ r. to _ _ (e 1) y q (λ t. s x y r t k))),
+)
 applied_alike both n A B e = says_alike _ _ ((λ p. ((yes_alike _ _ (e 0)).0 p.0, (yes_alike _ _ (e 1)).0 p.1)), (λ p. ((yes_alike _ _ (e 0)).1 p.0, (yes_alike _ _ (e 1)).1 p.1)))
 applied_alike either n A B e = says_alike _ _ (
   (λ d p. d ((λ y. p.0 ((yes_alike _ _ (e 0)).0 y)), (λ y. p.1 ((yes_alike _ _ (e 1)).0 y)))),
@@ -64,7 +90,7 @@ applied_alike implied n A B e = says_alike _ _ (
   (λ f y. (yes_alike _ _ (e 1)).0 (f ((yes_alike _ _ (e 0)).1 y))),
   (λ f y. (yes_alike _ _ (e 1)).1 (f ((yes_alike _ _ (e 0)).0 y))),
 )
-applied_alike (made c) n A B e = made_alike c (Each n A) (Each n B) (each_alike n A B e)
+applied_alike (made c) n A B e = alike _ _ (made_into c (Each n A) (Each n B) (each_into n A B (λ k. to _ _ (e k)))) (made_into c (Each n B) (Each n A) (each_into n B A (λ k. from _ _ (e k))))
 
 -- the same where the numbers of arguments are equal by a law
 pub applied_alike_at : (op : Operator) (m n : ℕ) (A B : ℕ → Has) → m ≡ n → ((k : ℕ) → Alike (A k) (B k)) → Alike (Applied op m A) (Applied op n B)

@@ -1,5 +1,6 @@
 -- A term in canonical form has the values of the term.
 use Rattle.std.proofs.Common.{◌≡◌, ℕ, zero, suc, ◌≤◌, ◌<◌, ◌==◌, ◌||◌, ◌&&◌, not, Bool, true, false, cond, List, [], ◌∷◌, refl, sym, ◌∙◌, ap, arith, true≢false}
+use Rattle.std.proofs.Common.{subst as subst_path}
 use Rattle.std.proofs.lemmas.Bool.Decides.{nat_tests}
 use Rattle.text_core.specs.declared.name.Name.{Name}
 use Rattle.logic_term.specs.declared.subst.Replacement.{Replacement}
@@ -8,8 +9,8 @@ use Rattle.logic_term.specs.Term.{Term, Terms, var, lit, truth, apply, bind, no_
 use Rattle.logic_term.specs.Meaning.{Structure, Env, with_value, Means, Argument}
 use Rattle.logic_term.specs.Free.{free, free_in_some}
 use Rattle.logic_term.specs.Subst.{above, look, subst, substs}
-use Rattle.logic_term.specs.Canonical.{is_one_of, above_free, all_above_free, canonical}
-use Rattle.logic_term.proofs.Alike.{Alike, alike_same, alike_back, alike_then, applied_alike_at, quantified_alike}
+use Rattle.logic_term.specs.Canonical.{is_one_of, above_free, all_above_free, canonical, SameUpToNames}
+use Rattle.logic_term.proofs.Alike.{alike_exactly, Alike, alike_same, alike_back, alike_then, applied_alike_at, quantified_alike}
 use Rattle.logic_term.proofs.Coincide.{agree_new, coincide, with_same}
 use Rattle.logic_term.proofs.FreeLaw.{same_test, same_name}
 use Rattle.logic_term.proofs.SubstLaw.{count_substs}
@@ -63,7 +64,7 @@ module _ (S : Structure) where
   under : (n : ℕ) (ρ : Env) (u : Term) (w v' : Value) (b c : Bool) → ((not b && c) ≡ true → (above u ≤ n) × Alike (Means S u ρ) (λ v. v ≡ v')) → c ≡ true
       → (above (cond b (var (record { 0 = n })) u) ≤ suc n) × Alike (Means S (cond b (var (record { 0 = n })) u) (with_value ρ (record { 0 = n }) w)) (λ v. v ≡ cond b w v')
   under n ρ u w v' true c h e =
-      (omega arith, λ v. ((λ p. p ∙ with_same ρ (record { 0 = n }) w), (λ p. p ∙ sym (with_same ρ (record { 0 = n }) w))))
+      (omega arith, alike_exactly _ _ (λ v. ((λ p. p ∙ with_same ρ (record { 0 = n }) w), (λ p. p ∙ sym (with_same ρ (record { 0 = n }) w)))))
   under n ρ u w v' false c h e =
       let k = h e in
       (omega arith, alike_then _ _ _ (alike_back _ _ (coincide S n u ρ (with_value ρ (record { 0 = n }) w) k.0 (agree_new n ρ (record { 0 = n }) w (omega arith)))) k.1)
@@ -100,3 +101,8 @@ module _ (S : Structure) where
   pub canonical_means : (t : Term) (ρ : Env) → Alike (Means S (canonical t) ρ) (Means S t ρ)
   unfolding canonical
   canonical_means t ρ = free_subst_means t (above_free [] t) ρ ρ [] (λ x e. let below : x.0 < above_free [] t = free_below [] t x e refl in (omega arith, alike_same _))
+
+  -- terms that are equal up to the names that they bind have the same values
+  pub same_up_to_names_means : (t u : Term) (ρ : Env) → SameUpToNames t u → Alike (Means S t ρ) (Means S u ρ)
+  same_up_to_names_means t u ρ same =
+      alike_then _ _ _ (alike_back _ _ (canonical_means t ρ)) (subst_path (λ s. Alike (Means S s ρ) (Means S u ρ)) (sym same) (canonical_means u ρ))

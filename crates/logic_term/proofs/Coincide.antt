@@ -6,7 +6,7 @@ use Rattle.logic_term.specs.Value.{Value}
 use Rattle.logic_term.specs.Term.{Term, Terms, var, lit, truth, apply, bind, no_terms, and_term}
 use Rattle.logic_term.specs.Meaning.{Structure, Env, with_value, Means, Argument}
 use Rattle.logic_term.specs.Subst.{above, all_above}
-use Rattle.logic_term.proofs.Alike.{Alike, alike_same, applied_alike, quantified_alike}
+use Rattle.logic_term.proofs.Alike.{sure_map, Alike, alike_same, applied_alike, quantified_alike}
 
 -- the environments have the same values at all names below n
 abbrev pub Agree : ℕ → Env → Env → Type 0
@@ -32,7 +32,7 @@ agree_new n ρ x w l y h = sym (with_other ρ x y w (λ e. absurd (omega arith))
 module _ (S : Structure) where
   mutual
     pub coincide : (n : ℕ) (t : Term) (ρ σ : Env) → above t ≤ n → Agree n ρ σ → Alike (Means S t ρ) (Means S t σ)
-    coincide n (var x) ρ σ b h v = let e : ρ x ≡ σ x = h x (omega arith) in ((λ p. p ∙ e), (λ p. p ∙ sym e))
+    coincide n (var x) ρ σ b h v = let e : ρ x ≡ σ x = h x (omega arith) in (sure_map (v ≡ ρ x) (v ≡ σ x) (λ p. p ∙ e), sure_map (v ≡ σ x) (v ≡ ρ x) (λ p. p ∙ sym e))
     coincide n (lit z s) ρ σ b h v = ((λ p. p), (λ p. p))
     coincide n (truth c) ρ σ b h v = ((λ p. p), (λ p. p))
     coincide n (apply op ts) ρ σ b h v = applied_alike op _ _ _ (λ k. coincides n ts ρ σ b h k) v

@@ -6,7 +6,7 @@ use Rattle.logic_term.specs.Value.{Value}
 use Rattle.logic_term.specs.Term.{Term, Terms, var, lit, truth, apply, bind, no_terms, and_term}
 use Rattle.logic_term.specs.Meaning.{Structure, Env, with_value, Means, Argument}
 use Rattle.logic_term.specs.Free.{free, free_in_some}
-use Rattle.logic_term.proofs.Alike.{Alike, alike_same, applied_alike, quantified_alike}
+use Rattle.logic_term.proofs.Alike.{sure_map, Alike, alike_same, applied_alike, quantified_alike}
 
 -- the environments have the same values at the free names of the term
 abbrev pub AgreeOn : (Name → Bool) → Env → Env → Type 0
@@ -35,7 +35,7 @@ apart_at false w u d = refl
 module _ (S : Structure) where
   mutual
     pub coincide_free : (t : Term) (ρ σ : Env) → AgreeOn (λ x. free x t) ρ σ → Alike (Means S t ρ) (Means S t σ)
-    coincide_free (var x) ρ σ h v = let e : ρ x ≡ σ x = h x (grind (arith, nat_tests)) in ((λ p. p ∙ e), (λ p. p ∙ sym e))
+    coincide_free (var x) ρ σ h v = let e : ρ x ≡ σ x = h x (grind (arith, nat_tests)) in (sure_map (v ≡ ρ x) (v ≡ σ x) (λ p. p ∙ e), sure_map (v ≡ σ x) (v ≡ ρ x) (λ p. p ∙ sym e))
     coincide_free (lit z s) ρ σ h v = ((λ p. p), (λ p. p))
     coincide_free (truth b) ρ σ h v = ((λ p. p), (λ p. p))
     coincide_free (apply op ts) ρ σ h v = applied_alike op _ _ _ (λ k. coincide_all_free ts ρ σ h k) v

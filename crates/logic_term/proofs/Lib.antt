@@ -1,12 +1,14 @@
 pub mod Alike
 pub mod CanonicalLaw
 pub mod Coincide
+pub mod Erased
 pub mod FreeLaw
 pub mod Lists
 pub mod Made
 pub mod Reduction
 pub mod SameLaw
 pub mod SortLaw
+pub mod SortParts
 pub mod SubstLaw
 pub mod Truth
 pub mod Unique

@@ -10,7 +10,7 @@ use Rattle.logic_term.specs.declared.kinds.TermBinary.TheVariants as binary
 use Rattle.logic_term.specs.Meaning.{Structure, Env, with_value, Means, Argument}
 use Rattle.logic_term.specs.Normal.{simplified, reduced, all_reduced}
 use Rattle.logic_term.specs.Laws.{HasValuesOf}
-use Rattle.logic_term.proofs.Alike.{Alike, alike_same, alike_then, applied_alike_at, quantified_alike}
+use Rattle.logic_term.proofs.Alike.{alike_exactly, Alike, alike_same, alike_then, applied_alike_at, quantified_alike}
 
 count_all_reduced : (ts : Terms) → count (all_reduced ts) ≡ count ts
 count_all_reduced no_terms = refl
@@ -27,8 +27,8 @@ two_simplified binary.Implies a b = refl
 
 module _ (S : Structure) where
   simplified_means : (op : Operator) (ts : Terms) (ρ : Env) → Alike (Means S (simplified op ts) ρ) (Means S (apply op ts) ρ)
-  simplified_means modeled (and_term (lit z (int k)) no_terms) ρ v = ((λ p. (Number z, refl, p)), (λ p. p.2 ∙ ap (λ x. Number (integer_of x)) p.1))
-  simplified_means op ts ρ v = ((λ p. p), (λ p. p))
+  simplified_means modeled (and_term (lit z (int k)) no_terms) ρ = alike_exactly _ _ (λ v. ((λ p. (Number z, refl, p)), (λ p. p.2 ∙ ap (λ x. Number (integer_of x)) p.1)))
+  simplified_means op ts ρ = alike_same _
 
   mutual
     pub reduced_means : (t : Term) (ρ : Env) → Alike (Means S (reduced t) ρ) (Means S t ρ)

@@ -6,8 +6,8 @@ use Rattle.logic_term.specs.declared.subst.Replacement.{Replacement}
 use Rattle.logic_term.specs.Value.{Value}
 use Rattle.logic_term.specs.Term.{Term, Terms, var, lit, truth, apply, bind, no_terms, and_term, count}
 use Rattle.logic_term.specs.Meaning.{Structure, Env, with_value, Means, Argument}
-use Rattle.logic_term.specs.Subst.{above, all_above, look, subst, substs, replaced, SameUpToNames}
-use Rattle.logic_term.proofs.Alike.{Alike, alike_same, alike_back, alike_then, applied_alike_at, quantified_alike}
+use Rattle.logic_term.specs.Subst.{above, all_above, look, subst, substs, replaced}
+use Rattle.logic_term.proofs.Alike.{alike_exactly, Alike, alike_same, alike_back, alike_then, applied_alike_at, quantified_alike}
 use Rattle.logic_term.proofs.Coincide.{agree_new, coincide, with_same}
 
 pub count_substs : (n : ℕ) (σ : List Replacement) (ts : Terms) → count (substs n σ ts) ≡ count ts
@@ -20,7 +20,7 @@ module _ (S : Structure) where
   Stands m n ρ σ τ = (x : Name) → x.0 < m → (above (look σ x) ≤ n) × Alike (Means S (look σ x) ρ) (λ v. v ≡ τ x)
 
   stands_at : (n : ℕ) (ρ : Env) (u : Term) (w v' : Value) (b : Bool) → (above u ≤ n) × Alike (Means S u ρ) (λ v. v ≡ v') → (above (cond b (var (record { 0 = n })) u) ≤ suc n) × Alike (Means S (cond b (var (record { 0 = n })) u) (with_value ρ (record { 0 = n }) w)) (λ v. v ≡ cond b w v')
-  stands_at n ρ u w v' true h = (omega arith, λ v. ((λ p. p ∙ with_same ρ (record { 0 = n }) w), (λ p. p ∙ sym (with_same ρ (record { 0 = n }) w))))
+  stands_at n ρ u w v' true h = (omega arith, alike_exactly _ _ (λ v. ((λ p. p ∙ with_same ρ (record { 0 = n }) w), (λ p. p ∙ sym (with_same ρ (record { 0 = n }) w)))))
   stands_at n ρ u w v' false h = (omega arith, alike_then _ _ _ (alike_back _ _ (coincide S n u ρ (with_value ρ (record { 0 = n }) w) h.0 (agree_new n ρ (record { 0 = n }) w (omega arith)))) h.1)
 
   pub stands_under : (m n : ℕ) (ρ τ : Env) (σ : List Replacement) (y : Name) (w : Value) → Stands m n ρ σ τ → Stands m (suc n) (with_value ρ (record { 0 = n }) w) (record { name = y; by = var (record { 0 = n }) } ∷ σ) (with_value τ y w)
@@ -51,9 +51,3 @@ module _ (S : Structure) where
   -- new names for bound ones change nothing
   pub renamed_means : (n : ℕ) (t : Term) (ρ : Env) → above t ≤ n → Alike (Means S (subst n [] t) ρ) (Means S t ρ)
   renamed_means n t ρ l = subst_means n t n ρ ρ [] l (λ y k. (omega arith, alike_same _))
-
-  -- terms that are equal up to the names that they bind have the same values
-  pub same_up_to_names_means : (t u : Term) (ρ : Env) → SameUpToNames t u → Alike (Means S t ρ) (Means S u ρ)
-  same_up_to_names_means t u ρ same =
-      alike_then _ _ _ (alike_back _ _ (renamed_means (max (above t) (above u)) t ρ (omega arith)))
-      (subst_path (λ s. Alike (Means S s ρ) (Means S u ρ)) (sym same) (renamed_means (max (above t) (above u)) u ρ (omega arith)))

@@ -8,7 +8,8 @@ use Rattle.logic_term.specs.Value.{Value, Number, Flag, flag_of, integer_of}
 use Rattle.logic_term.specs.Term.{Term, truth, model, negative, not, calculate, is_less, is_at_most, is_equal, and, or, implies, forall}
 use Rattle.logic_term.specs.Meaning.{Sure, Has, Of, OfTwo, Says, Yes, calculated, on_integers, compared, Structure, Env, with_value, Means, Holds}
 use Rattle.logic_term.specs.Sort.{HasSort, instance}
-use Rattle.logic_term.proofs.Alike.{Alike, sure_map}
+use Rattle.logic_term.specs.Theory.{declared}
+use Rattle.logic_term.proofs.Alike.{Alike, alike, to, from, sure_map}
 
 pub stable_bool : (b c : Bool) → Sure (b ≡ c) → b ≡ c
 stable_bool true true s = refl
@@ -29,13 +30,13 @@ abbrev pub Exactly : Has → Value → Type 0
 Exactly A w = Alike A (λ v. v ≡ w)
 
 pub of_exactly : (f : Value → Value) (A : Has) (x : Value) → Exactly A x → Exactly (Of f A) (f x)
-of_exactly f A x e v = ((λ p. p.2 ∙ ap f ((e p.0).0 p.1)), (λ p. (x, (e x).1 refl, p)))
+of_exactly f A x e = alike _ _ (λ v p. sure_map _ _ (λ q. p.2 ∙ ap f q) (to _ _ e p.0 p.1)) (λ v p n. from _ _ e x refl (λ q. n (x, q, p)))
 
 pub of_two_exactly : (f : Value → Value → Value) (A B : Has) (x y : Value) → Exactly A x → Exactly B y → Exactly (OfTwo f A B) (f x y)
-of_two_exactly f A B x y e g v = ((λ p. p.4 ∙ ap₂ f ((e p.0).0 p.2) ((g p.1).0 p.3)), (λ p. (x, y, (e x).1 refl, (g y).1 refl, p)))
+of_two_exactly f A B x y e g = alike _ _ (λ v p n. to _ _ e p.0 p.2 (λ q. to _ _ g p.1 p.3 (λ r. n (p.4 ∙ ap₂ f q r)))) (λ v p n. from _ _ e x refl (λ q. from _ _ g y refl (λ r. n (x, y, q, r, p))))
 
 pub yes_flag : (A : Has) (b : Bool) → Exactly A (Flag b) → Yes A ↔ (b ≡ true)
-yes_flag A b e = ((λ y. stable_bool b true (sure_map _ _ (λ p. sym (ap flag_of ((e (Flag true)).0 p))) y)), (λ q n. n ((e (Flag true)).1 (ap Flag (sym q)))))
+yes_flag A b e = ((λ y. stable_bool b true (sure_map _ _ (λ p. sym (ap flag_of p)) ((e (Flag true)).0 y))), (λ q. (e (Flag true)).1 (λ n. n (ap Flag (sym q)))))
 
 module _ (S : Structure) where
   -- the term has exactly this integer
@@ -75,7 +76,7 @@ module _ (S : Structure) where
   pub holds_implies : (a b : Term) (ρ : Env) → Holds S (implies a b) ρ ↔ (Holds S a ρ → Holds S b ρ)
   holds_implies a b ρ = says_what _ (λ f p n. f (λ g. g p n))
 
-  pub holds_forall : (x : Name) (s : Ty) (t : Term) (ρ : Env) → Holds S (forall x s t) ρ ↔ ((w : Value) → HasSort S.declared w (instance S.types s) → Holds S t (with_value ρ x w))
+  pub holds_forall : (x : Name) (s : Ty) (t : Term) (ρ : Env) → Holds S (forall x s t) ρ ↔ ((w : Value) → HasSort (declared S.theory) w (instance S.types s) → Holds S t (with_value ρ x w))
   holds_forall x s t ρ = says_what _ (λ f w h n. f (λ g. g w h n))
 
   pub holds_equal : (a b : Term) (ρ : Env) → Holds S (is_equal a b) ρ ↔ ((x y : Value) → Means S a ρ x → Means S b ρ y → Sure (x ≡ y))
@@ -83,6 +84,6 @@ module _ (S : Structure) where
 
   pub holds_equal_exactly : (a b : Term) (ρ : Env) (x y : Value) → Exactly (Means S a ρ) x → Exactly (Means S b ρ) y → Holds S (is_equal a b) ρ ↔ Sure (x ≡ y)
   holds_equal_exactly a b ρ x y e g = (
-    (λ h. (holds_equal a b ρ).0 h x y ((e x).1 refl) ((g y).1 refl)),
-    (λ s. (holds_equal a b ρ).1 (λ u w p q. sure_map _ _ (λ r. (e u).0 p ∙ r ∙ sym ((g w).0 q)) s)),
+    (λ h n. from _ _ e x refl (λ p. from _ _ g y refl (λ q. (holds_equal a b ρ).0 h x y p q n))),
+    (λ s. (holds_equal a b ρ).1 (λ u w p q n. to _ _ e u p (λ i. to _ _ g w q (λ j. s (λ r. n (i ∙ r ∙ sym j)))))),
   )

@@ -5,6 +5,7 @@ use Rattle.logic_term.specs.Value.{Value, Values, Number, Flag, Made, no_values,
 use Rattle.logic_term.specs.Term.{Operator, modeled, negated, denied, arith, less, at_most, equal, both, either, implied, made, Quantifier, every, some, Term, Terms, var, lit, truth, apply, bind, no_terms, and_term, count}
 use Rattle.logic_term.specs.Meaning.{Sure, Has, Of, OfTwo, Decided, Says, Each, MadeOf, Applied, Quantified, Structure, Env, with_value, Means, Argument}
 use Rattle.logic_term.specs.Sort.{HasSort, instance}
+use Rattle.logic_term.specs.Theory.{declared}
 use Rattle.logic_term.proofs.Alike.{sure_map}
 
 abbrev pub Single : Has → Type 0
@@ -92,7 +93,7 @@ module _ (S : Structure) where
     single (lit z s) ρ v w p q = p ∙ sym q
     single (truth b) ρ v w p q = p ∙ sym q
     single (apply op ts) ρ v w p q = applied_single op (count ts) (λ n. Argument S ts ρ n) (λ n. singles ts ρ n) v w p q
-    single (bind q x s t) ρ v w p r = quantified_single q (λ u. HasSort S.declared u (instance S.types s)) (λ u. Means S t (with_value ρ x u)) v w p r
+    single (bind q x s t) ρ v w p r = quantified_single q (λ u. HasSort (declared S.theory) u (instance S.types s)) (λ u. Means S t (with_value ρ x u)) v w p r
 
     pub singles : (ts : Terms) (ρ : Env) (n : ℕ) → Single (Argument S ts ρ n)
     singles no_terms ρ n v w p q = p ∙ sym q
@@ -105,7 +106,7 @@ module _ (S : Structure) where
     has_value (lit z s) ρ n = n (Number z, refl)
     has_value (truth b) ρ n = n (Flag b, refl)
     has_value (apply op ts) ρ n = applied_some op (count ts) (λ k. Argument S ts ρ k) (λ k. have_values ts ρ k) n
-    has_value (bind q x s t) ρ n = quantified_some q (λ u. HasSort S.declared u (instance S.types s)) (λ u. Means S t (with_value ρ x u)) n
+    has_value (bind q x s t) ρ n = quantified_some q (λ u. HasSort (declared S.theory) u (instance S.types s)) (λ u. Means S t (with_value ρ x u)) n
 
     pub have_values : (ts : Terms) (ρ : Env) (k : ℕ) → SomeValue (Argument S ts ρ k)
     have_values no_terms ρ k = λ n. n (Flag false, refl)

@@ -1,6 +1,6 @@
 -- The canonical form of a term up to the names that it binds. It is the same for terms that differ in bound names alone, and
 -- no other term has a say in it.
-use Rattle.std.specs.Prelude.{ℕ, suc, ◌==◌, ◌||◌, Bool, false, max, List, [], ◌∷◌, if◌then◌else◌}
+use Rattle.std.specs.Prelude.{◌≡◌, ℕ, suc, ◌==◌, ◌||◌, Bool, false, max, List, [], ◌∷◌, if◌then◌else◌}
 use Rattle.text_core.specs.declared.name.Name.{Name}
 use Rattle.logic_term.specs.Term.{Term, Terms, var, lit, truth, apply, bind, no_terms, and_term}
 use Rattle.logic_term.specs.Subst.{subst}
@@ -25,3 +25,7 @@ abbrev mutual
 -- the term with its bound names numbered from one past its largest free name on
 unfoldable pub canonical : Term → Term
 canonical t = subst (above_free [] t) [] t
+
+-- the terms are equal up to the names that they bind
+abbrev pub SameUpToNames : Term → Term → Type 0
+SameUpToNames t u = canonical t ≡ canonical u

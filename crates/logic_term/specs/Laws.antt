@@ -7,15 +7,17 @@ use Rattle.logic_term.specs.declared.kinds.Ctor.TheVariants.{Tuple}
 use Rattle.logic_term.specs.Value.{Value, Values, Made, no_values, and_value, integer_of}
 use Rattle.logic_term.specs.Term.{made, Term, Terms, truth, apply, no_terms, and_term, unit, not, is_less, is_at_most, is_equal, and, or, implies, forall}
 use Rattle.logic_term.specs.Meaning.{Sure, Structure, Env, with_value, Means, Holds}
-use Rattle.logic_term.specs.Sort.{HasSort, instance}
+use Rattle.logic_term.specs.Erased.{erased}
+use Rattle.logic_term.specs.Sort.{Declarations, HasSort, instance}
+use Rattle.logic_term.specs.Theory.{declared}
 use Rattle.logic_term.specs.Free.{free}
-use Rattle.logic_term.specs.Subst.{replaced, SameUpToNames}
-use Rattle.logic_term.specs.Canonical.{canonical}
+use Rattle.logic_term.specs.Subst.{replaced}
+use Rattle.logic_term.specs.Canonical.{canonical, SameUpToNames}
 use Rattle.logic_term.specs.Normal.{reduced}
 
 -- t has at ρ the values that u has at τ
 abbrev pub SameValues : Structure → Term → Env → Term → Env → Type 0
-SameValues S t ρ u τ = (v : Value) → Means S t ρ v ↔ Means S u τ v
+SameValues S t ρ u τ = (v : Value) → Sure (Means S t ρ v) ↔ Sure (Means S u τ v)
 
 -- the terms have the same values, whatever the values of names
 abbrev pub HasValuesOf : Term → Term → Type 0
@@ -23,7 +25,7 @@ HasValuesOf t u = (S : Structure) (ρ : Env) → SameValues S t ρ u ρ
 
 -- the term has this value and no other
 abbrev pub HasExactly : Structure → Term → Env → Value → Type 0
-HasExactly S t ρ w = (v : Value) → Means S t ρ v ↔ (v ≡ w)
+HasExactly S t ρ w = (v : Value) → Sure (Means S t ρ v) ↔ Sure (v ≡ w)
 
 -- a term put for a name counts as its value
 abbrev pub PutTermsCountAsValues : Type 0
@@ -72,6 +74,10 @@ ValuesOfMade = (S : Structure) (ρ : Env) (c : Ctor) (ts : Terms) (vs : Values)
 abbrev pub ValueOfUnit : Type 0
 ValueOfUnit = (S : Structure) (ρ : Env) → HasExactly S unit ρ (Made Tuple no_values)
 
+-- a type and its sort have the same values
+abbrev pub SortsKeepValues : Type 0
+SortsKeepValues = (Δ : Declarations) (v : Value) (t : Ty) → HasSort Δ v t ↔ HasSort Δ v (erased t)
+
 -- ---- when formulas are true
 
 abbrev pub TruthOfConstants : Type 0
@@ -93,7 +99,7 @@ TruthOfImplies = (S : Structure) (ρ : Env) (t u : Term) → Holds S (implies t 
 -- the quantifier goes over all values of the sort
 abbrev pub TruthOfForall : Type 0
 TruthOfForall = (S : Structure) (ρ : Env) (x : Name) (s : Ty) (t : Term) → Holds S (forall x s t) ρ
-    ↔ ((w : Value) → HasSort S.declared w (instance S.types s) → Holds S t (with_value ρ x w))
+    ↔ ((w : Value) → HasSort (declared S.theory) w (instance S.types s) → Holds S t (with_value ρ x w))
 
 abbrev pub TruthOfLess : Type 0
 TruthOfLess = (S : Structure) (ρ : Env) (t u : Term) (v w : Value) → HasExactly S t ρ v → HasExactly S u ρ w

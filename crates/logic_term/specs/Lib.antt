@@ -1,8 +1,10 @@
 pub mod Canonical
+pub mod Erased
 pub mod Free
 pub mod Laws
 pub mod Meaning
 pub mod Normal
+pub mod Obligations
 pub mod Range
 pub mod Same
 pub mod Sort
@@ -12,6 +14,7 @@ pub mod TermCode
 pub mod TermFalls
 pub mod TermOperator
 pub mod TermView
+pub mod Theory
 pub mod Ty
 pub mod TyCode
 pub mod TyFalls

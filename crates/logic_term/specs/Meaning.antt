@@ -9,7 +9,8 @@ use Rattle.logic_term.specs.Ty.{Tys}
 use Rattle.logic_term.specs.Term.{Operator, modeled, negated, denied, arith, less, at_most, equal, both, either, implied, made, Quantifier, every, some, Term, Terms, var, lit, truth, apply, bind, no_terms, and_term, count}
 use Rattle.logic_term.specs.declared.kinds.Ctor.{Ctor}
 use Rattle.logic_term.specs.Value.{Value, Values, Number, Flag, Made, no_values, and_value, nothing, integer_of}
-use Rattle.logic_term.specs.Sort.{Declarations, HasSort, instance}
+use Rattle.logic_term.specs.Sort.{HasSort, instance}
+use Rattle.logic_term.specs.Theory.{Theory, declared}
 
 -- P cannot fail
 abbrev pub Sure : Type 0 → Type 0
@@ -19,10 +20,13 @@ Sure P = (P → ⊥) → ⊥
 abbrev pub Has : Type 1
 Has = Value → Type 0
 
--- what terms are read at: the declared types, and the types for the type parameters
+-- what terms are read at: what is declared, and the types for the type parameters
 pub record Structure : Type 0 where
-  pub declared : Declarations
+  pub theory : Theory
   pub types : Tys
+
+abbrev pub structure_of : Theory → Tys → Structure
+structure_of Θ θ = record { theory = Θ; types = θ }
 
 -- the values of variables
 abbrev pub Env : Type 0
@@ -107,7 +111,7 @@ abbrev mutual
   Means S (lit z t) ρ v = v ≡ Number z
   Means S (truth b) ρ v = v ≡ Flag b
   Means S (apply op ts) ρ v = Applied op (count ts) (λ n. Argument S ts ρ n) v
-  Means S (bind q x t u) ρ v = Quantified q (λ w. HasSort S.declared w (instance S.types t)) (λ w. Means S u (with_value ρ x w)) v
+  Means S (bind q x t u) ρ v = Quantified q (λ w. HasSort (declared S.theory) w (instance S.types t)) (λ w. Means S u (with_value ρ x w)) v
 
   pub Argument : Structure → Terms → Env → ℕ → Has
   Argument S no_terms ρ n = Nothing

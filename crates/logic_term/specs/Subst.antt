@@ -1,5 +1,5 @@
 -- Substitution. It is simultaneous and gives every bound name a new number, so that it never captures.
-use Rattle.std.specs.Prelude.{◌≡◌, ℕ, suc, ◌==◌, max, List, [], ◌∷◌, cond}
+use Rattle.std.specs.Prelude.{ℕ, suc, ◌==◌, max, List, [], ◌∷◌, cond}
 use Rattle.text_core.specs.declared.name.Name.{Name}
 use Rattle.logic_term.specs.declared.subst.Renaming.{Renaming}
 use Rattle.logic_term.specs.declared.subst.Replacement.{Replacement}
@@ -47,7 +47,3 @@ subst_body n x σ t = subst (suc n) (record { name = x; by = var (record { 0 = n
 -- t with u for x
 abbrev pub replaced : Name → Term → Term → Term
 replaced x u t = subst (max (above t) (above u)) (record { name = x; by = u } ∷ []) t
-
--- the terms are equal up to the names that they bind
-abbrev pub SameUpToNames : Term → Term → Type 0
-SameUpToNames t u = subst (max (above t) (above u)) [] t ≡ subst (max (above t) (above u)) [] u

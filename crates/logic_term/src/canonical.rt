@@ -1,5 +1,5 @@
-ghost use Rattle.std.specs.Prelude.{◌≡◌, ◌∷◌, suc, IfOk, max, if◌then◌else◌};
-ghost use Rattle.logic_term.specs.Canonical.{is_one_of, above_free, all_above_free, canonical};
+ghost use Rattle.std.specs.Prelude.{◌≡◌, ◌∷◌, ◌↔◌, suc, IfOk, IsTrue, max, if◌then◌else◌};
+ghost use Rattle.logic_term.specs.Canonical.{is_one_of, above_free, all_above_free, canonical, SameUpToNames};
 ghost use Rattle.logic_term.specs.TermView.{terms_of};
 
 use crate::term::{Term, TermNode};
@@ -64,6 +64,15 @@ impl Term {
     {
         let next = self.above_free(alloc, &[])?;
         self.subst(alloc, next, &[], &[])
+    }
+
+    /// Whether both are the same up to the names that they bind.
+    pub fn same_up_to_names(&self, alloc: Global, other: &Term) -> Result<bool, NoMemory>
+        ensures { IfOk result (λ b. IsTrue b ↔ SameUpToNames self.now other.now) }
+    {
+        let left = self.canonical(alloc)?;
+        let right = other.canonical(alloc)?;
+        Ok(left.same(&right))
     }
 }
 

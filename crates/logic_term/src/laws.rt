@@ -1,7 +1,7 @@
 //! What holds of the meaning of every term. Nothing here computes: each clause is a law of the definitions in specs/,
 //! by which the contracts of this crate speak.
 
-ghost use Rattle.logic_term.specs.Laws.{PutTermsCountAsValues, BoundNamesDoNotCount, CanonicalFormsKeepValues, FreeNamesAloneCount, OtherNamesDoNotCount};
+ghost use Rattle.logic_term.specs.Laws.{PutTermsCountAsValues, BoundNamesDoNotCount, CanonicalFormsKeepValues, FreeNamesAloneCount, OtherNamesDoNotCount, SortsKeepValues};
 ghost use Rattle.logic_term.specs.Laws.{ValuesAreSingle, ValuesAreSure, ValuesOfMade, ValueOfUnit, NormalFormsKeepValues};
 ghost use Rattle.logic_term.specs.Laws.{TruthOfConstants, TruthOfNot, TruthOfAnd, TruthOfOr, TruthOfImplies, TruthOfForall, TruthOfLess, TruthOfAtMost, TruthOfEqual};
 
@@ -44,6 +44,11 @@ pub fn values_are_sure()
 pub fn values_of_made()
     ensures parts { ValuesOfMade }
     ensures unit { ValueOfUnit }
+{}
+
+/// A type and its sort have the same values, whatever is declared.
+pub fn sorts_keep_values()
+    ensures { SortsKeepValues }
 {}
 
 /// The normal form of a term has the values of the term.

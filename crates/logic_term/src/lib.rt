@@ -3,6 +3,7 @@
 
 mod build;
 mod canonical;
+mod declaration;
 mod kinds;
 mod laws;
 mod normal;
@@ -11,6 +12,7 @@ mod subst;
 mod term;
 mod ty;
 
+pub use declaration::{AdtDecl, FieldDecl, VariantDecl};
 pub use kinds::{
     AdtId, ArithOp, BinaryOp, Comparison, Ctor, FnKind, IntKind, Label, Label2, LazyOp, LogicFn,
     Region, TermBinary, TermUnary, TraitId, TyUnary,
@@ -18,8 +20,8 @@ pub use kinds::{
 pub use laws::{
     bound_names_do_not_count, canonical_forms_keep_values, free_names_alone_count,
     normal_forms_keep_values, other_names_do_not_count, put_terms_count_as_values,
-    truth_of_comparisons, truth_of_connectives, truth_of_forall, values_are_single,
-    values_are_sure, values_of_made,
+    sorts_keep_values, truth_of_comparisons, truth_of_connectives, truth_of_forall,
+    values_are_single, values_are_sure, values_of_made,
 };
 pub use normal::reduce;
 pub use obligation::{Bounds, Contract, Instance, Obligation};

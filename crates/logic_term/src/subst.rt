@@ -1,7 +1,7 @@
-ghost use Rattle.std.specs.Prelude.{◌≡◌, ◌∷◌, ◌++◌, [], ◌↔◌, IfOk, IsTrue, map, max};
+ghost use Rattle.std.specs.Prelude.{◌≡◌, ◌∷◌, ◌++◌, [], IfOk, map, max};
 ghost use Rattle.logic_term.specs.Free.{free, free_in_some};
 ghost use Rattle.logic_term.specs.TermView.{terms_of};
-ghost use Rattle.logic_term.specs.Subst.{above, all_above, look, subst, substs, subst_body, renaming, replaced, SameUpToNames};
+ghost use Rattle.logic_term.specs.Subst.{above, all_above, look, subst, substs, subst_body, renaming, replaced};
 
 use crate::term::{Term, TermNode, literal, quantified};
 use std::alloc::Global;
@@ -163,16 +163,6 @@ impl Term {
         let mut sub = Vec::with_capacity(alloc, 1)?;
         sub.push(Replacement { name, by })?;
         self.subst(alloc, next, &[], sub.as_slice())
-    }
-
-    /// Whether both are the same up to the names that they bind.
-    pub fn same_up_to_names(&self, alloc: Global, other: &Term) -> Result<bool, NoMemory>
-        ensures { IfOk result (λ b. IsTrue b ↔ SameUpToNames self.now other.now) }
-    {
-        let next = above_both(self, other)?;
-        let left = self.subst(alloc, next, &[], &[])?;
-        let right = other.subst(alloc, next, &[], &[])?;
-        Ok(left.same(&right))
     }
 }
 

@@ -1,5 +1,6 @@
 -- The samples are typed and initialised, and calls of them are proper.
 use Rattle.std.proofs.Common.{◌≡◌, ◌∙◌, refl, sym, ap, subst, ℕ, zero, suc, ◌+◌, ◌<◌, ◌≤◌, ◌==◌, ℤ, pos, negsuc, FitsSigned, Bool, true, false, cond, List, Some, None, [], ◌∷◌, length, slice_get, arith}
+use Rattle.std.proofs.lemmas.Option.{same_Some}
 use Rattle.std.proofs.lemmas.Bool.{eqb-true}
 use Rattle.std.specs.Int.{w32}
 use Rattle.logic_term.specs.declared.kinds.BinaryOp.{BinaryOp}
@@ -8,7 +9,8 @@ use Rattle.logic_term.specs.declared.kinds.Ctor.TheVariants.{Tuple}
 use Rattle.logic_term.specs.declared.kinds.IntKind.TheVariants.{I32}
 use Rattle.logic_term.specs.declared.kinds.Label.{Label}
 use Rattle.logic_term.specs.Range.{fits}
-use Rattle.logic_term.specs.Sort.{Declarations, instance}
+use Rattle.logic_term.specs.Sort.{instance}
+use Rattle.logic_term.specs.Theory.{Theory, declared, nothing_declared}
 use Rattle.logic_term.specs.Ty.{Ty, Tys, int, bool, no_tys, and_ty, unit_ty}
 use Rattle.mir_ir.specs.declared.place.Lit.TheVariants as lit
 use Rattle.mir_ir.specs.declared.place.Operand.{Operand}
@@ -27,9 +29,6 @@ use Rattle.mir_machine.specs.Typed.{Met, Typed, AreTyped, is_int, is_truth, none
 use Rattle.mir_machine.specs.Good.{IsProper, called}
 use Rattle.machine_tests.specs.Run.{sample, absolute, calling, program, IsScalarOf, TakesOne}
 
-some_same : {A : Type 0} {a b : A} → Some a ≡ Some b → a ≡ b
-some_same e = cc
-
 -- ---- bodies, block by block
 
 abbrev EachBlock : (Label → Block → Type 0) → List (Label × Block) → Type 0
@@ -41,7 +40,7 @@ block_found P [] l k h e = absurd (cc)
 block_found P (b ∷ bs) l k h e = by_test (block_found P bs l k h.1) (b.0.0 == l.0) refl e
   where
     by_test : (block_in bs l ≡ Some k → P l k) → (t : Bool) → (b.0.0 == l.0) ≡ t → cond t (Some b.1) (block_in bs l) ≡ Some k → P l k
-    by_test rest true same q = subst (P l) (some_same q) (subst (λ (m : Label). P m b.1) (λ i. record { 0 = eqb-true b.0.0 l.0 same i }) h.0)
+    by_test rest true same q = subst (P l) (same_Some _ _ q) (subst (λ (m : Label). P m b.1) (λ i. record { 0 = eqb-true b.0.0 l.0 same i }) h.0)
     by_test rest false other q = rest q
 
 -- the statements from number i on
@@ -51,7 +50,7 @@ EachStatement P i (st ∷ sts) = P i st × EachStatement P (i + 1) sts
 
 statement_found : (P : ℕ → Statement → Type 0) (i : ℕ) (sts : List Statement) (j : ℕ) (st : Statement) → EachStatement P i sts → slice_get sts j ≡ Some st → P (i + j) st
 statement_found P i [] j st h e = absurd (cc)
-statement_found P i (s ∷ sts) zero st h e = subst (P (i + 0)) (some_same e) (subst (λ n. P n s) (here i) h.0)
+statement_found P i (s ∷ sts) zero st h e = subst (P (i + 0)) (same_Some _ _ e) (subst (λ n. P n s) (here i) h.0)
   where
     here : (i : ℕ) → i ≡ i + 0
     here i = omega arith
@@ -121,7 +120,7 @@ pub sample_sound : (answer takes : Ty) (r : Rvalue) → RvalueHas (sample answer
 sample_sound answer takes r has can (suc f) b e = absurd (cc)
 sample_sound answer takes r has can zero b e =
     let s = sample answer takes r in
-    subst (λ c. IsTyped (s ∷ []) c × IsInitialised c) (some_same e)
+    subst (λ c. IsTyped (s ∷ []) c × IsInitialised c) (same_Some _ _ e)
     (body_sound (s ∷ []) s (one_sets s r) (record {
       named = refl;
       answers = omega arith;
@@ -238,33 +237,29 @@ calling_sound = record {
 }
 
 pub program_sound : AreSound program
-program_sound zero b e = subst (λ c. IsTyped program c × IsInitialised c) (some_same e) (body_sound program absolute absolute_sets absolute_sound)
-program_sound (suc zero) b e = subst (λ c. IsTyped program c × IsInitialised c) (some_same e) (body_sound program calling calling_sets calling_sound)
+program_sound zero b e = subst (λ c. IsTyped program c × IsInitialised c) (same_Some _ _ e) (body_sound program absolute absolute_sets absolute_sound)
+program_sound (suc zero) b e = subst (λ c. IsTyped program c × IsInitialised c) (same_Some _ _ e) (body_sound program calling calling_sets calling_sound)
 program_sound (suc (suc f)) b e = absurd (cc)
 
 -- ---- calls
 
--- no declared types
-abbrev pub no_types : Declarations
-no_types d k = None
-
-scalar_typed : (s : State (Unit {0})) (ty : Ty) (t : Tree (Unit {0})) → IsScalarOf ty t → Typed no_types s t ty []
+scalar_typed : (s : State (Unit {0})) (ty : Ty) (t : Tree (Unit {0})) → IsScalarOf ty t → Typed (declared nothing_declared) s t ty []
 scalar_typed s (int k) (Int z) h = is_int h
 scalar_typed s bool (Truth b) h = is_truth
 scalar_typed s _ _ h = absurd h
 
 -- a call at one argument, with no trees outside
 pub one_call : (bodies : List Body) (f : ℕ) (θ : Tys) (args held : List (Tree (Unit {0}))) (t : Tree (Unit {0})) → θ ≡ no_tys → args ≡ t ∷ [] → held ≡ [] → TakesOne bodies f t →
-    (Δ : Declarations) × (b : Body) × (met : List Met) × IsProper Δ bodies f θ args held b met
+    (Θ : Theory) × (b : Body) × (met : List Met) × IsProper Θ bodies f θ args held b met
 one_call bodies f θ args held t is_ground is_t is_empty (b, ty, is_body, params, scalar) = (
-  no_types,
+  nothing_declared,
   b,
   [],
   rw (is_ground, is_t, is_empty) (record {
     of = is_body;
     ground = refl;
     outside_typed = tt;
-    typed = subst (λ tys. AreTyped no_types (called b f no_tys (t ∷ []) []) (trees_of (t ∷ [])) tys []) (sym params) (more_typed (scalar_typed (called b f no_tys (t ∷ []) []) ty t scalar) none_typed);
+    typed = subst (λ tys. AreTyped (declared nothing_declared) (called b f no_tys (t ∷ []) []) (trees_of (t ∷ [])) tys []) (sym params) (more_typed (scalar_typed (called b f no_tys (t ∷ []) []) ty t scalar) none_typed);
     outer = tt;
     apart = λ i j r q e g mutable over. absurd (cc);
   }),

@@ -1,5 +1,6 @@
 -- The bodies that tests use can be walked.
 use Rattle.std.proofs.Common.{◌≡◌, refl, sym, ap, subst, ◌==◌, ◌||◌, Bool, true, false, cond, true≢false, List, [], ◌∷◌, Some, arith}
+use Rattle.std.proofs.lemmas.Option.{same_Some}
 use Rattle.std.proofs.lemmas.Bool.{eqb-true}
 use Rattle.std.specs.Prelude.{slice_get}
 use Rattle.logic_term.specs.declared.kinds.Label.{Label}
@@ -18,10 +19,7 @@ use Rattle.mir_ir.specs.Body.{block_in}
 use Rattle.mir_ir.specs.Layout.{among, targets, around, Leads, on, back}
 use Rattle.wp_gen.specs.Walk.{Setting}
 use Rattle.wp_gen.specs.Walkable.{IsKnown, CanWalk}
-use Rattle.machine_tests.specs.Walked.{label, straight, branching, looping, calling}
-
-some_same : {A : Type 0} {a b : A} → Some a ≡ Some b → a ≡ b
-some_same e = cc
+use Rattle.machine_tests.specs.Walked.{label, straight, branching, looping, calling, forking, IsForking}
 
 same_label : (l m : Label) → (l.0 == m.0) ≡ true → l ≡ m
 same_label l m e = ap (λ n. let r : Label = record { 0 = n } in r) (eqb-true l.0 m.0 e)
@@ -37,7 +35,7 @@ block_found P [] l k h e = absurd (cc)
 block_found P (b ∷ bs) l k h e = by_test (block_found P bs l k h.1) (b.0.0 == l.0) refl e
   where
     by_test : (block_in bs l ≡ Some k → P l k) → (t : Bool) → (b.0.0 == l.0) ≡ t → cond t (Some b.1) (block_in bs l) ≡ Some k → P l k
-    by_test rest true same q = subst (P l) (some_same q) (subst (λ (m : Label). P m b.1) (same_label b.0 l same) h.0)
+    by_test rest true same q = subst (P l) (same_Some _ _ q) (subst (λ (m : Label). P m b.1) (same_label b.0 l same) h.0)
     by_test rest false other q = rest q
 
 abbrev EachLabel : (Label → Type 0) → List Label → Type 0
@@ -128,3 +126,17 @@ calling_can_walk w ty tys args c is has =
       },
       (record { leads = tt; known = tt }, tt),
     ))
+
+forking_walks : (w : Setting) (tys : List Ty) (first second third : Operand) → w.body ≡ forking tys first second third → CanWalk w
+forking_walks w tys first second third is =
+    with_body w (forking tys first second third) is
+    (can_walk (record w { body = forking tys first second third }) _ refl refl (
+      record { leads = (on _ refl (omega arith) (record { outer = []; inner = []; is_around = refl; within = refl }), (on _ refl (omega arith) (record { outer = []; inner = []; is_around = refl; within = refl }), tt)); known = tt },
+      (
+        record { leads = (on _ refl (omega arith) (record { outer = []; inner = []; is_around = refl; within = refl }), (on _ refl (omega arith) (record { outer = []; inner = []; is_around = refl; within = refl }), tt)); known = tt },
+        (record { leads = (on _ refl (omega arith) (record { outer = []; inner = []; is_around = refl; within = refl }), (on _ refl (omega arith) (record { outer = []; inner = []; is_around = refl; within = refl }), tt)); known = tt }, (record { leads = tt; known = tt }, tt)),
+      ),
+    ))
+
+pub forking_can_walk : (w : Setting) → IsForking w.body → CanWalk w
+forking_can_walk w forks = forking_walks w forks.locals forks.first forks.second forks.third forks.is

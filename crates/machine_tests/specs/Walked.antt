@@ -1,5 +1,5 @@
 -- The bodies that tests use, with their statements left open.
-use Rattle.std.specs.Prelude.{ℕ, List, [], ◌∷◌, Option, Some, None, codes}
+use Rattle.std.specs.Prelude.{◌≡◌, ℕ, List, [], ◌∷◌, Option, Some, None, codes}
 use Rattle.text_core.specs.declared.name.Name.{Name}
 use Rattle.text_core.specs.declared.span.Span.{Span}
 use Rattle.logic_term.specs.declared.kinds.Label.{Label}
@@ -68,3 +68,21 @@ calling ty tys args =
     ∷ (label 1, block_of None [] [] Return)
     ∷ []
     )
+
+-- three times both sides of a branch lead to the next block: eight paths
+abbrev pub forking : List Ty → Operand → Operand → Operand → Body
+forking tys first second third =
+    body_of tys (
+    (label 0, block_of None [] [] (If first (label 1) (label 1)))
+    ∷ (label 1, block_of None [] [] (If second (label 2) (label 2)))
+    ∷ (label 2, block_of None [] [] (If third (label 3) (label 3)))
+    ∷ (label 3, block_of None [] [] Return)
+    ∷ []
+    )
+
+pub record IsForking (b : Body) : Type 0 where
+  pub locals : List Ty
+  pub first : Operand
+  pub second : Operand
+  pub third : Operand
+  pub is : b ≡ forking locals first second third

@@ -1,5 +1,6 @@
 ghost use Rattle.std.specs.Prelude.{◌≡◌, ◌<◌, ◌∷◌, [], None, IfOk};
-ghost use Rattle.machine_tests.specs.Walked.{block_of, body_of, whole, straight, branching, looping, calling};
+ghost use Rattle.mir_ir.specs.declared.terminator.TerminatorKind.TheVariants.{If};
+ghost use Rattle.machine_tests.specs.Walked.{block_of, body_of, whole, straight, branching, looping, calling, forking, IsForking};
 
 use logic_term::{ArithOp, BinaryOp, Contract, IntKind, Label, Obligation, Term, Ty, TyNode};
 use mir_ir::{
@@ -9,8 +10,8 @@ use mir_ir::{
 use std::alloc::Global;
 use std::process::Abort;
 use std::test::Fail;
-use text_core::{Items, Kind, Name, NoMemory, PassError, Span, Text};
-use wp_gen::{Walk, obligations};
+use text_core::{Items, Kind, Limit, LimitKind, Name, NoMemory, PassError, Span, Text};
+use wp_gen::{OBLIGATIONS, Walk, counted_obligations, obligations, room_after};
 
 /// The parameter, and the answer, in contracts.
 const X: Name = Name(50);
@@ -135,6 +136,33 @@ fn calling(alloc: Global, answer: Ty, param: Ty, args: Items<Operand>) -> Result
     ))?;
     let mut locals = one(alloc, answer)?;
     locals.push(param)?;
+    body(alloc, locals, blocks)
+}
+
+/// Both sides of a branch lead to the next block.
+fn fork(alloc: Global, operand: Operand, next: Label) -> Block
+    ensures { result ≡ block_of None [] [] (If operand next next) }
+{
+    let branch = TerminatorKind::If(operand, next, next);
+    plain(alloc, Items::new(alloc), branch)
+}
+
+fn forking(
+    alloc: Global,
+    locals: Items<Ty>,
+    first: Operand,
+    second: Operand,
+    third: Operand,
+) -> Result<Body, NoMemory>
+    ensures { IfOk result (λ b. b ≡ forking locals first second third) }
+{
+    let mut blocks = one(alloc, (Label(0), fork(alloc, first, Label(1))))?;
+    blocks.push((Label(1), fork(alloc, second, Label(2))))?;
+    blocks.push((Label(2), fork(alloc, third, Label(3))))?;
+    blocks.push((
+        Label(3),
+        plain(alloc, Items::new(alloc), TerminatorKind::Return),
+    ))?;
     body(alloc, locals, blocks)
 }
 
@@ -312,6 +340,85 @@ fn of_call(alloc: Global) -> Result<Vec<Obligation>, PassError> {
     obligations(alloc, &walk, 1)
 }
 
+// ---- limits
+
+/// A contract that promises `true` so many times.
+fn promising(alloc: Global, posts: u32) -> Result<Contract, NoMemory> {
+    let mut post = Items::new(alloc);
+    for _ in 0..posts {
+        post.push(Term::truth(alloc, true)?)?;
+    }
+    Ok(Contract {
+        params: one(alloc, X)?,
+        answer: ANSWER,
+        pre: Items::new(alloc),
+        post,
+        variants: Items::new(alloc),
+        spans: one(alloc, POST)?,
+    })
+}
+
+/// A body of eight paths, each with what its contract promises.
+fn eight_paths(alloc: Global) -> Result<Body, NoMemory>
+    ensures { IfOk result IsForking }
+{
+    let types = locals(alloc, IntKind::U8)?;
+    let (first, second, third) = (copied(alloc, 2), copied(alloc, 2), copied(alloc, 2));
+    forking(alloc, types, first, second, third)
+}
+
+/// What is left of the room for obligations behind those of eight paths that promise so much each.
+fn room_behind(alloc: Global, posts: u32) -> Result<Option<u32>, NoMemory> {
+    let body = eight_paths(alloc)?;
+    let walk = Walk {
+        body: &body,
+        contracts: &[],
+        contract: &promising(alloc, posts)?,
+        init: &nothing_gone(alloc),
+    };
+    Ok(room_after(&walk, OBLIGATIONS))
+}
+
+/// The limit past which the obligations of eight paths are that promise so much each, if they are.
+fn limit_of(alloc: Global, posts: u32) -> Result<Option<Limit>, PassError> {
+    let body = eight_paths(alloc)?;
+    let walk = Walk {
+        body: &body,
+        contracts: &[],
+        contract: &promising(alloc, posts)?,
+        init: &nothing_gone(alloc),
+    };
+    match obligations(alloc, &walk, 1) {
+        Ok(_) => Ok(None),
+        Err(PassError::Limit(limit)) => Ok(Some(limit)),
+        Err(error) => Err(error),
+    }
+}
+
+/// The obligations of eight paths that promise so much each, counted from `first` on.
+fn counted_from(alloc: Global, posts: u32, first: u32) -> Result<Vec<Obligation>, NoMemory> {
+    let body = eight_paths(alloc)?;
+    let walk = Walk {
+        body: &body,
+        contracts: &[],
+        contract: &promising(alloc, posts)?,
+        init: &nothing_gone(alloc),
+    };
+    counted_obligations(alloc, &walk, first)
+}
+
+/// Whether a million obligations are allowed and this is what is said of more.
+fn is_past_a_million(limit: Option<Limit>) -> bool {
+    match limit {
+        Some(limit) => {
+            matches!(limit.kind, LimitKind::Obligations)
+                && limit.counted == 1_000_001
+                && limit.bound == 1_000_000
+        }
+        None => false,
+    }
+}
+
 // ---- tests
 
 /// Whether the obligation has this kind, first byte and number.
@@ -407,5 +514,26 @@ fn a_call_and_its_requires(rt: HostRuntime) -> Result<(), Fail> {
     );
     let small = for_small(alloc, is_small(alloc)?)?;
     assert!(rt; is_goal(alloc, made.as_slice(), 0, &small)?);
+    Ok(())
+}
+
+#[test]
+fn a_million_obligations_are_the_most(rt: HostRuntime) -> Result<(), Fail> {
+    let alloc = rt.alloc();
+    assert!(rt; matches!(room_behind(alloc, 124_999)?, Some(8)));
+    assert!(rt; matches!(room_behind(alloc, 125_000)?, Some(0)));
+    assert!(rt; matches!(room_behind(alloc, 125_001)?, None));
+    assert!(rt; is_past_a_million(limit_of(alloc, 125_001)?));
+    assert!(rt; limit_of(alloc, 2)?.is_none());
+    Ok(())
+}
+
+#[test]
+fn obligations_that_are_counted_by_their_caller(rt: HostRuntime) -> Result<(), Fail> {
+    let made = counted_from(rt.alloc(), 2, 1000)?;
+    assert!(rt; made.len() == 16);
+    for i in 0..made.len().min(16) {
+        assert!(rt; made[i].kind == Kind::Ensures && made[i].number as usize == 1000 + i);
+    }
     Ok(())
 }

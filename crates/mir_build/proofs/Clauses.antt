@@ -1,7 +1,7 @@
 -- The formulas of clauses, from the i-th clause on.
 use Rattle.std.proofs.Common.{◌≡◌, ◌<◌, refl, ap, sym, ◌∙◌, get_or, add-one, drop-cons, ℕ, ◌+◌, List, [], ◌∷◌, ◌++◌, drop, length, map}
-use Rattle.built_trees.specs.declared.function.ClauseKind.{ClauseKind}
-use Rattle.built_trees.specs.declared.function.ClauseKind.TheVariants.{Requires, Ensures}
+use Rattle.type_check.specs.declared.program.ClauseKind.{ClauseKind}
+use Rattle.type_check.specs.declared.program.ClauseKind.TheVariants.{Requires, Ensures}
 use Rattle.type_check.specs.declared.assertion.Assertion.{Assertion}
 use Rattle.type_check.specs.declared.program.TypedClause.{TypedClause}
 use Rattle.mir_build.specs.Lowering.{formula, formula_span, formulas_of, picked}

@@ -5,8 +5,8 @@ use Rattle.logic_term.specs.Free.{free}
 use Rattle.logic_term.specs.Term.{Term}
 use Rattle.mir_ir.specs.declared.body.Body.{Body}
 use Rattle.mir_ir.specs.declared.body.Initialised.{Initialised}
-use Rattle.built_trees.specs.declared.function.ClauseKind.{ClauseKind}
-use Rattle.built_trees.specs.declared.function.ClauseKind.TheVariants.{Requires, Ensures}
+use Rattle.type_check.specs.declared.program.ClauseKind.{ClauseKind}
+use Rattle.type_check.specs.declared.program.ClauseKind.TheVariants.{Requires, Ensures}
 use Rattle.type_check.specs.declared.assertion.Assertion.{Assertion}
 use Rattle.type_check.specs.declared.assertion.Assertion.TheVariants.{Good, Bad}
 use Rattle.type_check.specs.declared.program.Signature.{Signature}

@@ -17,8 +17,8 @@ use Rattle.logic_term.specs.Term.{Term, var, truth}
 use Rattle.logic_term.specs.Ty.{Ty}
 use Rattle.logic_term.specs.declared.kinds.LazyOp.{LazyOp}
 use Rattle.logic_term.specs.declared.kinds.LazyOp.TheVariants as lazy_op
-use Rattle.built_trees.specs.declared.function.ClauseKind.{ClauseKind}
-use Rattle.built_trees.specs.declared.function.ClauseKind.TheVariants.{Requires, Ensures}
+use Rattle.type_check.specs.declared.program.ClauseKind.{ClauseKind}
+use Rattle.type_check.specs.declared.program.ClauseKind.TheVariants.{Requires, Ensures}
 use Rattle.mir_ir.specs.declared.place.Lit.{Lit}
 use Rattle.mir_ir.specs.declared.place.Lit.TheVariants as lit
 use Rattle.mir_ir.specs.declared.place.Operand.{Operand}

@@ -1,15 +1,14 @@
 //! Contracts of functions, from their clauses.
 ghost use Rattle.std.specs.Prelude.{◌≡◌, [], ◌++◌, map, IfOk, OnOk};
 ghost use Rattle.type_check.specs.VariableNames.{variable_name};
-ghost use Rattle.built_trees.specs.declared.function.ClauseKind.TheVariants.{Requires, Ensures};
+ghost use Rattle.type_check.specs.declared.program.ClauseKind.TheVariants.{Requires, Ensures};
 ghost use Rattle.mir_build.specs.Lowering.{counted, formula, formula_span, formulas_of, picked, contract_of};
 
 use crate::around::{answer_name, formula, formula_span, variable_name};
-use built_trees::ClauseKind;
 use logic_term::{Contract, Term, Ty};
 use std::alloc::Global;
 use text_core::{Items, Name, NoMemory, Span};
-use type_check::{TypedClause, TypedFunction};
+use type_check::{ClauseKind, TypedClause, TypedFunction};
 
 /// The names of the variables that the parameters are. Want of memory is answered too where a number would pass 32 bits.
 fn parameter_names(alloc: Global, params: &[Ty]) -> Result<Items<Name>, NoMemory>

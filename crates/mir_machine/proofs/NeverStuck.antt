@@ -18,7 +18,9 @@ use Rattle.logic_term.specs.declared.kinds.Ctor.TheVariants.{Tuple}
 use Rattle.logic_term.specs.Range.{fits}
 use Rattle.logic_term.specs.Ty.{Ty, Tys, int, bool, tuple, no_tys, and_ty, unit_ty}
 use Rattle.logic_term.specs.TyView.{tys_of}
+use Rattle.logic_term.specs.Obligations.{how_many}
 use Rattle.logic_term.specs.Sort.{Declarations, instance, instances, nth_ty}
+use Rattle.logic_term.specs.Theory.{Theory, declared}
 use Rattle.mir_ir.specs.declared.place.Lit.{Lit}
 use Rattle.mir_ir.specs.declared.place.Lit.TheVariants as lit
 use Rattle.mir_ir.specs.declared.place.Place.{Place}
@@ -44,7 +46,7 @@ use Rattle.mir_machine.specs.Step.{try_step, fit, divide, of_integers, of_truths
 use Rattle.mir_machine.specs.FrameStep.{IsWhole, ReadsWholes, NamesWholes, AreWhole, EndNamesWholes, AllNameWholes, Left, local_tree, take_operand, take_operands, evaluate, put_local, run_local, FrameEnd, Stays, Calls, Answers, starting, frame_end, frame_row, frame_step, settled, frame_block, resumed_at, resumed}
 use Rattle.mir_ir.specs.WellFormed.{PlaceHas, LitHas, OperandHas, OperandsHave, operation_ty, IsEquality, OperationHas, RvalueHas, StatementIsTyped, EndIsTyped, IsTyped, Locals, without, with, CanTake, taken, CanTakeAll, all_taken, CanEvaluate, evaluated, CanRun, run, CanEnd, Carries, Within, parameters, AreSound}
 use Rattle.mir_machine.specs.Typed.{Met, Typed, AreTyped, is_int, is_truth, is_tuple, is_adt, is_closure, is_boxed, is_shared, is_unique, none_typed, more_typed}
-use Rattle.mir_machine.specs.Good.{called, IsInstance, IsProper}
+use Rattle.mir_machine.specs.Good.{called, IsProper}
 use Rattle.mir_machine.specs.Run.{IsSafe}
 use Rattle.mir_machine.proofs.Tried.{Goes, goes_then}
 use Rattle.mir_machine.proofs.Wholes.{try_step-whole, come_back-whole}
@@ -468,7 +470,7 @@ entered_fits {K} bodies b f θ args typed of_args = record {
 pub record Ready {K : Type 0} (bodies : List Body) (sound : AreSound bodies) (f : Frame K) : Type 0 where
   pub body : Body
   pub is_body : slice_get bodies f.function ≡ Some body
-  pub ground : IsInstance body f.types
+  pub ground : f.types ≡ no_tys
   pub block : Block
   pub is_block : block_in body.blocks f.label ≡ Some block
   pub within : f.statement ≤ length block.statements
@@ -478,7 +480,7 @@ pub record Ready {K : Type 0} (bodies : List Body) (sound : AreSound bodies) (f 
 pub record Waits {K : Type 0} (bodies : List Body) (sound : AreSound bodies) (f : Frame K) (n : ℕ) : Type 0 where
   pub body : Body
   pub is_body : slice_get bodies f.function ≡ Some body
-  pub ground : IsInstance body f.types
+  pub ground : f.types ≡ no_tys
   pub block : Block
   pub is_block : block_in body.blocks f.label ≡ Some block
   pub place : Place
@@ -511,7 +513,7 @@ ready_entered bodies sound n b args is_body of_args =
     }
 
 -- the frame goes on at the start of a block
-ready_starting : {K : Type 0} (bodies : List Body) (sound : AreSound bodies) (f : Frame K) (b : Body) (is_body : slice_get bodies f.function ≡ Some b) (set : Locals) (ls : List (Tree K)) (l : Label) → IsInstance b f.types → ((k : Block) × (block_in b.blocks l ≡ Some k)) → Within ((sound f.function b is_body).1.at l 0) set → Fits b f.types set ls → Ready bodies sound (starting f ls l)
+ready_starting : {K : Type 0} (bodies : List Body) (sound : AreSound bodies) (f : Frame K) (b : Body) (is_body : slice_get bodies f.function ≡ Some b) (set : Locals) (ls : List (Tree K)) (l : Label) → f.types ≡ no_tys → ((k : Block) × (block_in b.blocks l ≡ Some k)) → Within ((sound f.function b is_body).1.at l 0) set → Fits b f.types set ls → Ready bodies sound (starting f ls l)
 ready_starting bodies sound f b is_body set ls l ground leads within h = record {
   body = b;
   is_body = is_body;
@@ -702,31 +704,37 @@ alive_after bodies sound top (suc n) o h = alive_next bodies sound top (after_fr
 
 -- ---- the start
 
-pub start_alive : {K : Type 0} (Δ : Declarations) (bodies : List Body) (sound : AreSound bodies) (f : ℕ) (θ : Tys) (args held : List (Tree K)) (b : Body) (met : List Met) → IsProper Δ bodies f θ args held b met → Alive bodies sound f (Running (called b f θ args held))
-start_alive {K} Δ bodies sound f θ args held b met proper =
-    let shaped = typed_args Δ (called b f θ args held) θ args (take b.params (drop 1 b.locals)) met proper.typed in
-    subst (λ types. Alive bodies sound f (Running (called b f types args held))) (sym proper.ground)
-    (ready_entered bodies sound f b args proper.of (shaped.0, subst (λ types. AreShaped types args (take b.params (drop 1 b.locals))) proper.ground shaped.1), refl)
+-- where there are no type parameters there are no types for them
+pub no_types_for_none : (θ : Tys) → how_many θ ≡ 0 → θ ≡ no_tys
+no_types_for_none no_tys e = refl
+no_types_for_none (and_ty t ts) e = absurd (omega arith)
+
+pub start_alive : {K : Type 0} (Θ : Theory) (bodies : List Body) (sound : AreSound bodies) (f : ℕ) (θ : Tys) (args held : List (Tree K)) (b : Body) (met : List Met) → IsProper Θ bodies f θ args held b met → Alive bodies sound f (Running (called b f θ args held))
+start_alive {K} Θ bodies sound f θ args held b met proper =
+    let shaped = typed_args (declared Θ) (called b f θ args held) θ args (take b.params (drop 1 b.locals)) met proper.typed in
+    let none = no_types_for_none θ proper.ground in
+    subst (λ types. Alive bodies sound f (Running (called b f types args held))) (sym none)
+    (ready_entered bodies sound f b args proper.of (shaped.0, subst (λ types. AreShaped types args (take b.params (drop 1 b.locals))) none shaped.1), refl)
 
 -- what a proper call of typed, initialised bodies comes to
-pub call_alive : {K : Type 0} (Δ : Declarations) (bodies : List Body) (sound : AreSound bodies) (f : ℕ) (θ : Tys) (args held : List (Tree K)) (b : Body) (met : List Met) → IsProper Δ bodies f θ args held b met → (n : ℕ) → Alive bodies sound f (after bodies n (called b f θ args held))
-call_alive Δ bodies sound f θ args held b met proper n =
+pub call_alive : {K : Type 0} (Θ : Theory) (bodies : List Body) (sound : AreSound bodies) (f : ℕ) (θ : Tys) (args held : List (Tree K)) (b : Body) (met : List Met) → IsProper Θ bodies f θ args held b met → (n : ℕ) → Alive bodies sound f (after bodies n (called b f θ args held))
+call_alive Θ bodies sound f θ args held b met proper n =
     let start = Running (called b f θ args held) in
-    alive_after bodies sound f n start (start_alive Δ bodies sound f θ args held b met proper)
+    alive_after bodies sound f n start (start_alive Θ bodies sound f θ args held b met proper)
 
 alive_free : {K : Type 0} (bodies : List Body) (sound : AreSound bodies) (top : ℕ) (o : Outcome K) → Alive bodies sound top o → o ≡ Stuck → ⊥
 alive_free bodies sound top o h e = subst (Alive bodies sound top) e h
 
 -- it is never stuck
-pub never_stuck : {K : Type 0} (Δ : Declarations) (bodies : List Body) → AreSound bodies → (f : ℕ) (θ : Tys) (args held : List (Tree K)) (b : Body) (met : List Met) → IsProper Δ bodies f θ args held b met → (n : ℕ) → after bodies n (called b f θ args held) ≡ Stuck → ⊥
-never_stuck Δ bodies sound f θ args held b met proper n =
-    alive_free bodies sound f (after bodies n (called b f θ args held)) (call_alive Δ bodies sound f θ args held b met proper n)
+pub never_stuck : {K : Type 0} (Θ : Theory) (bodies : List Body) → AreSound bodies → (f : ℕ) (θ : Tys) (args held : List (Tree K)) (b : Body) (met : List Met) → IsProper Θ bodies f θ args held b met → (n : ℕ) → after bodies n (called b f θ args held) ≡ Stuck → ⊥
+never_stuck Θ bodies sound f θ args held b met proper n =
+    alive_free bodies sound f (after bodies n (called b f θ args held)) (call_alive Θ bodies sound f θ args held b met proper n)
 
 -- its answer has the shape of the answer's type
-pub answer_shape : {K : Type 0} (Δ : Declarations) (bodies : List Body) → AreSound bodies → (f : ℕ) (θ : Tys) (args held : List (Tree K)) (b : Body) (met : List Met) → IsProper Δ bodies f θ args held b met → (n : ℕ) (s : State K) (t : Tree K) → after bodies n (called b f θ args held) ≡ Returned s t → Shape (answer_ty b θ) t
-answer_shape Δ bodies sound f θ args held b met proper n s t e =
-    let (c, is_c, shape) = subst (Alive bodies sound f) e (call_alive Δ bodies sound f θ args held b met proper n) in
-    subst (λ types. Shape (answer_ty b types) t) (sym proper.ground) (subst (λ d. Shape (answer_ty d no_tys) t) (some_same (sym is_c ∙ proper.of)) shape)
+pub answer_shape : {K : Type 0} (Θ : Theory) (bodies : List Body) → AreSound bodies → (f : ℕ) (θ : Tys) (args held : List (Tree K)) (b : Body) (met : List Met) → IsProper Θ bodies f θ args held b met → (n : ℕ) (s : State K) (t : Tree K) → after bodies n (called b f θ args held) ≡ Returned s t → Shape (answer_ty b θ) t
+answer_shape Θ bodies sound f θ args held b met proper n s t e =
+    let (c, is_c, shape) = subst (Alive bodies sound f) e (call_alive Θ bodies sound f θ args held b met proper n) in
+    subst (λ types. Shape (answer_ty b types) t) (sym (no_types_for_none θ proper.ground)) (subst (λ d. Shape (answer_ty d no_tys) t) (some_same (sym is_c ∙ proper.of)) shape)
 
-pub safe_call : (Δ : Declarations) (bodies : List Body) → AreSound bodies → (f : ℕ) (θ : Tys) (args held : List (Tree (Unit {0}))) (b : Body) (met : List Met) → IsProper Δ bodies f θ args held b met → IsSafe (record { bodies = bodies; outcome = Running (called b f θ args held) })
-safe_call Δ bodies sound f θ args held b met proper = (sound_wholes bodies sound, never_stuck Δ bodies sound f θ args held b met proper)
+pub safe_call : (Θ : Theory) (bodies : List Body) → AreSound bodies → (f : ℕ) (θ : Tys) (args held : List (Tree (Unit {0}))) (b : Body) (met : List Met) → IsProper Θ bodies f θ args held b met → IsSafe (record { bodies = bodies; outcome = Running (called b f θ args held) })
+safe_call Θ bodies sound f θ args held b met proper = (sound_wholes bodies sound, never_stuck Θ bodies sound f θ args held b met proper)

@@ -3,10 +3,12 @@
 use Rattle.std.specs.Prelude.{◌≡◌, ℕ, ◌==◌, Bool, true, false, ◌&&◌, cond, List, [], ◌∷◌, Option, Some, None, slice_get}
 use Rattle.text_core.specs.declared.name.Name.{Name}
 use Rattle.logic_term.specs.declared.obligation.Contract.{Contract}
-use Rattle.logic_term.specs.Meaning.{Env, Holds, with_value}
-use Rattle.logic_term.specs.Sort.{Declarations, HasSort}
+use Rattle.logic_term.specs.Meaning.{Env, Holds, structure_of, with_value}
+use Rattle.logic_term.specs.Obligations.{IsInstance}
+use Rattle.logic_term.specs.Sort.{HasSort}
 use Rattle.logic_term.specs.Term.{Term}
-use Rattle.logic_term.specs.Ty.{Ty, Tys, no_tys}
+use Rattle.logic_term.specs.Theory.{Theory, declared}
+use Rattle.logic_term.specs.Ty.{Ty, Tys}
 use Rattle.logic_term.specs.Value.{Value, Values, nothing, no_values, and_value}
 use Rattle.mir_ir.specs.declared.body.Body.{Body}
 use Rattle.mir_machine.specs.declared.spot.Spot.{Spot}
@@ -34,20 +36,17 @@ begins (n ∷ p) (m ∷ q) = (n == m) && begins p q
 abbrev pub overlap : Spot → Spot → Bool
 overlap a b = (a.frame == b.frame) && (a.local == b.local) && begins a.path b.path
 
--- types for the type parameters of a body; so far bodies have none
-abbrev pub IsInstance : Body → Tys → Type 0
-IsInstance b θ = θ ≡ no_tys
-
 -- the call of a body as it begins, with these arguments and these trees outside
 abbrev pub called : {K : Type 0} → Body → ℕ → Tys → List (Tree K) → List (Tree K) → State K
 called b f θ args held = entered b f θ args ∷ outside held ∷ []
 
 -- the call of function f with these arguments and these trees outside; met: the references met from the arguments
-pub record IsProper {K : Type 0} (Δ : Declarations) (bodies : List Body) (f : ℕ) (θ : Tys) (args held : List (Tree K)) (b : Body) (met : List Met) : Type 0 where
+pub record IsProper {K : Type 0} (Θ : Theory) (bodies : List Body) (f : ℕ) (θ : Tys) (args held : List (Tree K)) (b : Body) (met : List Met) : Type 0 where
   pub of : slice_get bodies f ≡ Some b
-  pub ground : IsInstance b θ
-  pub outside_typed : Each (λ t. (ty : Ty) × (rs : List Met) × Typed Δ (called b f θ args held) t ty rs) held
-  pub typed : AreTyped Δ (called b f θ args held) (trees_of args) (param_tys b θ) met
+  -- so far bodies have no type parameters
+  pub ground : IsInstance Θ [] θ
+  pub outside_typed : Each (λ t. (ty : Ty) × (rs : List Met) × Typed (declared Θ) (called b f θ args held) t ty rs) held
+  pub typed : AreTyped (declared Θ) (called b f θ args held) (trees_of args) (param_tys b θ) met
   -- they refer to places of frame 0
   pub outer : Each (λ r. r.place.frame ≡ 0) met
   -- the place of a mutable one overlaps that of no other
@@ -61,16 +60,16 @@ named [] vs = λ x. nothing
 named (x ∷ xs) no_values = λ x. nothing
 named (x ∷ xs) (and_value v vs) = with_value (named xs vs) x v
 
-abbrev pub AllHold : Declarations → Tys → Env → List Term → Type 0
-AllHold Δ θ ρ ts = Each (λ t. Holds (record { declared = Δ; types = θ }) t ρ) ts
+abbrev pub AllHold : Theory → Tys → Env → List Term → Type 0
+AllHold Θ θ ρ ts = Each (λ t. Holds (structure_of Θ θ) t ρ) ts
 
 -- a value for each place
 abbrev pub Supply : Type 0
 Supply = Spot → Value
 
 -- each place that a mutable reference was met to has a value of its type
-abbrev pub Supplies : Declarations → Supply → List Met → Type 0
-Supplies Δ final met = Each (λ r. r.mutable ≡ true → HasSort Δ (final r.place) r.of) met
+abbrev pub Supplies : Theory → Supply → List Met → Type 0
+Supplies Θ final met = Each (λ r. r.mutable ≡ true → HasSort (declared Θ) (final r.place) r.of) met
 
 abbrev pub not_lent : {K : Type 0} → View K → Spot → Option Value
 not_lent w at = None
@@ -80,9 +79,9 @@ abbrev pub here : Spot
 here = record { frame = 0; local = 0; path = [] }
 
 -- each `requires` is true of the arguments as they read, at every supply of final values
-abbrev pub MeetsRequires : {K : Type 0} → Declarations → Tys → Contract → State K → List (Tree K) → List Met → Type 0
-MeetsRequires {K} Δ θ c s args met =
-    (final : Supply) (vs : Values) → Supplies Δ final met → ReadsAll {K = K} false s (λ k. final) not_lent Plain here 0 (trees_of args) vs → AllHold Δ θ (named c.params vs) c.pre
+abbrev pub MeetsRequires : {K : Type 0} → Theory → Tys → Contract → State K → List (Tree K) → List Met → Type 0
+MeetsRequires {K} Θ θ c s args met =
+    (final : Supply) (vs : Values) → Supplies Θ final met → ReadsAll {K = K} false s (λ k. final) not_lent Plain here 0 (trees_of args) vs → AllHold Θ θ (named c.params vs) c.pre
 
 abbrev pub same_path : List ℕ → List ℕ → Bool
 same_path [] [] = true
@@ -104,30 +103,30 @@ AreFinal {K} s' fill returned final met =
 
 -- s, args: the state and the arguments as the call began; s', t: the state and the answer at the return; returned: the
 -- references met from the answer
-pub record MeetsEnsures {K : Type 0} (Δ : Declarations) (θ : Tys) (c : Contract) (s : State K) (args : List (Tree K)) (met : List Met) (s' : State K) (t : Tree K) (returned : List Met) (fill : Supply) : Type 0 where
+pub record MeetsEnsures {K : Type 0} (Θ : Theory) (θ : Tys) (c : Contract) (s : State K) (args : List (Tree K)) (met : List Met) (s' : State K) (t : Tree K) (returned : List Met) (fill : Supply) : Type 0 where
   pub final : Supply
   pub values : Values
   pub result : Value
   pub finals : AreFinal s' fill returned final met
   pub reads : ReadsAll false s (λ k. final) not_lent Plain here 0 (trees_of args) values
   pub result_reads : Reads false s' (λ k. fill) not_lent Plain here t result
-  pub holds : AllHold Δ θ (with_value (named c.params values) c.answer result) c.post
+  pub holds : AllHold Θ θ (with_value (named c.params values) c.answer result) c.post
 
 -- ---- good functions
 
 -- no panic and no stuck state; at a return the answer has its type, and the postcondition holds at every filling
-abbrev pub IsFine : {K : Type 0} → Declarations → Tys → Contract → Ty → State K → List (Tree K) → List Met → Outcome K → Type 0
-IsFine Δ θ c answer s args met (Running s') = Unit {0}
-IsFine Δ θ c answer s args met (Returned s' t) =
-    (returned : List Met) × Typed Δ s' t answer returned × ((fill : Supply) → Supplies Δ fill returned → MeetsEnsures Δ θ c s args met s' t returned fill)
-IsFine Δ θ c answer s args met (Panicked cause span) = ⊥
-IsFine Δ θ c answer s args met Stuck = ⊥
+abbrev pub IsFine : {K : Type 0} → Theory → Tys → Contract → Ty → State K → List (Tree K) → List Met → Outcome K → Type 0
+IsFine Θ θ c answer s args met (Running s') = Unit {0}
+IsFine Θ θ c answer s args met (Returned s' t) =
+    (returned : List Met) × Typed (declared Θ) s' t answer returned × ((fill : Supply) → Supplies Θ fill returned → MeetsEnsures Θ θ c s args met s' t returned fill)
+IsFine Θ θ c answer s args met (Panicked cause span) = ⊥
+IsFine Θ θ c answer s args met Stuck = ⊥
 
 -- function f is good for the contract: at every instance, each proper call that meets the `requires` is fine, however many
 -- steps it is run
-abbrev pub Good : Declarations → List Body → ℕ → Contract → Type 0
-Good Δ bodies f c =
+abbrev pub Good : Theory → List Body → ℕ → Contract → Type 0
+Good Θ bodies f c =
     (θ : Tys) (args held : List (Tree (Unit {0}))) (b : Body) (met : List Met) →
-    IsProper Δ bodies f θ args held b met →
-    MeetsRequires Δ θ c (called b f θ args held) args met →
-    (n : ℕ) → IsFine Δ θ c (answer_ty b θ) (called b f θ args held) args met (after bodies n (called b f θ args held))
+    IsProper Θ bodies f θ args held b met →
+    MeetsRequires Θ θ c (called b f θ args held) args met →
+    (n : ℕ) → IsFine Θ θ c (answer_ty b θ) (called b f θ args held) args met (after bodies n (called b f θ args held))

@@ -1,6 +1,6 @@
 -- What holds of every proper call, whatever its contract.
 use Rattle.std.specs.Prelude.{◌≡◌, ℕ, List}
-use Rattle.logic_term.specs.Sort.{Declarations}
+use Rattle.logic_term.specs.Theory.{Theory}
 use Rattle.logic_term.specs.Ty.{Tys}
 use Rattle.mir_ir.specs.declared.body.Body.{Body}
 use Rattle.mir_ir.specs.WellFormed.{AreSound}
@@ -12,5 +12,5 @@ use Rattle.mir_machine.specs.Typed.{Met}
 -- after a proper call of a function of bodies that are typed and initialised no state is stuck; no obligation is asked for
 abbrev pub ProperCallsAreNeverStuck : Type 0
 ProperCallsAreNeverStuck =
-    (Δ : Declarations) (bodies : List Body) → AreSound bodies → (f : ℕ) (θ : Tys) (args held : List (Tree (Unit {0}))) (b : Body) (met : List Met) → IsProper Δ bodies f θ args held b met
+    (Θ : Theory) (bodies : List Body) → AreSound bodies → (f : ℕ) (θ : Tys) (args held : List (Tree (Unit {0}))) (b : Body) (met : List Met) → IsProper Θ bodies f θ args held b met
     → (n : ℕ) → after bodies n (called b f θ args held) ≡ Stuck → ⊥

@@ -5,7 +5,7 @@ use Rattle.mir_ir.specs.declared.terminator.FnId.{FnId}
 use Rattle.mir_ir.specs.declared.terminator.FnId.TheVariants as fn_id
 use Rattle.mir_machine.specs.declared.outcome.Outcome.{Outcome as Shown}
 use Rattle.mir_machine.specs.declared.outcome.Outcome.TheVariants as shown
-use Rattle.logic_term.specs.Sort.{Declarations}
+use Rattle.logic_term.specs.Theory.{Theory}
 use Rattle.logic_term.specs.Ty.{Ty}
 use Rattle.logic_term.specs.TyView.{tys_of}
 use Rattle.mir_machine.specs.Good.{called, IsProper}
@@ -23,10 +23,10 @@ pub record Run : Type 0 where
 abbrev pub body_number : FnId → ℕ
 body_number (fn_id.Body n) = n
 
--- the call of f is proper, at some declarations of types
+-- the call of f is proper, at some declarations
 abbrev pub CanCall : List Body → FnId → List Ty → List (Tree (Unit {0})) → List (Tree (Unit {0})) → Type 0
 CanCall bodies f types args held =
-    (Δ : Declarations) × (b : Body) × (met : List Met) × IsProper Δ bodies (body_number f) (tys_of types) args held b met
+    (Θ : Theory) × (b : Body) × (met : List Met) × IsProper Θ bodies (body_number f) (tys_of types) args held b met
 
 -- the run stands where the call of f begins
 abbrev pub Starts : List Body → FnId → List Ty → List (Tree (Unit {0})) → List (Tree (Unit {0})) → Run → Type 0

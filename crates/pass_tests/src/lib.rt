@@ -6,6 +6,6 @@ mod functions;
 #[cfg(test)]
 mod lowering;
 #[cfg(test)]
-mod types;
+mod typing;
 #[cfg(test)]
 mod verdicts;

@@ -1,3 +1,6 @@
+mod Asked
+mod Finding
+mod Leaves
 mod PartLists
+pub mod Serving
 mod Terms
-mod TokenCounts

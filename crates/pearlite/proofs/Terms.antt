@@ -1,12 +1,8 @@
 -- From the derivation of a front to the term at a place of a source.
-use Rattle.std.proofs.Common.{◌≡◌, ℕ, ◌+◌, ◌≤◌, inl, inr, List, length, take, drop, reverse, Some, None, refl, sym, ap, subst, ◌∙◌, arith, length-drop}
+use Rattle.std.proofs.Common.{◌≡◌, ℕ, ◌+◌, ◌≤◌, inl, inr, List, length, take, drop, reverse, refl, sym, ap, subst, ◌∙◌, arith, length-drop}
 use Rattle.std.proofs.lemmas.List.{length-map, length-take-le, reverse-reverse}
-use Rattle.text_core.specs.declared.fault.PassError.{PassError}
-use Rattle.text_core.specs.declared.fault.PassError.TheVariants as P
-use Rattle.text_core.specs.declared.refusal.SourceError.{SourceError}
 use Rattle.rs_tokens.specs.declared.token.Token.{Token}
 use Rattle.rs_tokens.specs.Reading.{AreTokens}
-use Rattle.rs_tokens.proofs.OneReading.{one_list}
 use Rattle.grammar_tables.specs.declared.parsing.Front.{Front}
 use Rattle.grammar_tables.specs.Grammar.{Grammar}
 use Rattle.grammar_tables.specs.Trees.{Tree, AreValues, values}
@@ -18,15 +14,16 @@ use Rattle.source_grammar.specs.Faults.{IsSourceFront, IsFrontFault}
 use Rattle.source_grammar.specs.SourceGrammar.{source_grammar, term_goal}
 use Rattle.source_grammar.proofs.OneAnswer.{one_front, front_or_fault}
 use Rattle.source_words.specs.declared.word.Word.{Word}
-use Rattle.source_words.specs.Words.{AreWords, GivesNames, IsBadText, no_text, bad_token, IsWordError}
+use Rattle.source_words.specs.Faults.{kinds_in, error_of}
+use Rattle.source_words.specs.Words.{AreWords, GivesNames}
 use Rattle.source_words.proofs.WordLists.{one_table}
 use Rattle.pearlite.specs.declared.part.Part.{Part}
 use Rattle.pearlite.specs.Cursor.{Standing}
 use Rattle.pearlite.specs.Meaning.{shape_actions}
-use Rattle.pearlite.specs.Parsed.{kinds_in, IsMade, ReadsTerm, SpellsTerm, error_of, position_of, IsTermError, SpellsNoTerm}
+use Rattle.pearlite.specs.Parsed.{IsMade, ReadsTerm, SpellsTerm, position_of, SpellsNoTerm}
 use Rattle.pearlite.specs.Parts.{first_term}
 use Rattle.source_trees.specs.Pterm.{Pterm}
-use Rattle.pearlite.proofs.TokenCounts.{as_many_words}
+use Rattle.source_words.proofs.TokenCounts.{as_many_words}
 
 -- ---- what is made of a front
 
@@ -73,23 +70,6 @@ pub reaches : (table : List (List ℕ)) (bytes : List ℕ) (tokens : List Token)
     taken ≤ length (drop place words) → place + taken ≤ length tokens
 reaches table bytes tokens words place taken are h place_in within =
     let many = as_many_words table bytes tokens words are h in omega (arith, many, place_in, within, length-drop place words)
-
--- ---- bytes that are refused
-
-has_tokens : (bytes : List ℕ) (tokens : List Token) (error : SourceError) → AreTokens bytes tokens → IsBadText bytes error → ⊥
-has_tokens bytes tokens error are (no_text n) = n.no_text are.text
-has_tokens bytes tokens error are (bad_token others utf8 has is) =
-    let e : None ≡ Some error.span = (one_list bytes 0 tokens others None (Some error.span) are.tokens_of has).1 in absurd cc
-
-pub own_error : (standing : Standing) (tokens : List Token) (e : PassError) → AreTokens standing.bytes tokens → IsWordError standing.bytes e → IsTermError standing e standing.place
-own_error standing tokens (P.Source error) are h = absurd (has_tokens standing.bytes tokens error are h)
-own_error standing tokens (P.Limit limit) are h = h
-own_error standing tokens P.NoMemory are h = refl
-
-pub own_none : (old : List (List ℕ)) (standing : Standing) (tokens : List Token) (e : PassError) → AreTokens standing.bytes tokens → IsWordError standing.bytes e → SpellsNoTerm old standing e
-own_none old standing tokens (P.Source error) are h = absurd (has_tokens standing.bytes tokens error are h)
-own_none old standing tokens (P.Limit limit) are h = tt
-own_none old standing tokens P.NoMemory are h = tt
 
 -- ---- one term
 

@@ -1,3 +1,4 @@
+pub mod Asked
 pub mod Cursor
 pub mod MakePatterns
 pub mod MakeTerms
@@ -5,4 +6,5 @@ pub mod MakeTypes
 pub mod Meaning
 pub mod Parsed
 pub mod Parts
+pub mod Served
 pub mod Shapes

@@ -76,9 +76,14 @@ term_operation_made words from parts = V.Term (operation words from (first_term 
 abbrev pub prefix_of : ℕ → UnaryTerm
 prefix_of kind = if nat_eq kind (kind_of Minus) then U.Neg else (if nat_eq kind (kind_of Not) then U.Not else (if nat_eq kind (kind_of Star) then U.Current else U.Final))
 
+-- a number with its type, where it is not negative
+abbrev pub unsigned : ℤ → Option IntKind → Option (ℤ × Option IntKind)
+unsigned (pos n) suffix = Some (pos n, suffix)
+unsigned number suffix = None
+
 -- the integer, where it is one that is not negative
 unfoldable pub magnitude : Pterm → Option (ℤ × Option IntKind)
-magnitude (T.integer span (pos n) suffix) = Some (pos n, suffix)
+magnitude (T.integer span value suffix) = unsigned value suffix
 magnitude term = None
 
 -- a `-` before an integer that is not negative belongs to it

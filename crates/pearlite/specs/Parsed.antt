@@ -1,11 +1,8 @@
 -- The term that stands at a place of a source, or where it is refused.
-use Rattle.std.specs.Prelude.{◌≡◌, ℕ, ◌+◌, List, None, Option, Some, drop, length, map, slice_get}
+use Rattle.std.specs.Prelude.{◌≡◌, ℕ, ◌+◌, List, drop, length}
 use Rattle.text_core.specs.declared.fault.PassError.{PassError}
 use Rattle.text_core.specs.declared.fault.PassError.TheVariants as P
-use Rattle.text_core.specs.declared.refusal.Code.{Code}
-use Rattle.text_core.specs.declared.refusal.Code.TheVariants.{E03, E04, E20}
 use Rattle.text_core.specs.declared.refusal.SourceError.{SourceError}
-use Rattle.text_core.specs.declared.span.Span.{Span}
 use Rattle.grammar_tables.specs.declared.parsing.Front.{Front}
 use Rattle.grammar_tables.specs.declared.symbol.Symbol.TheVariants.{Nonterminal}
 use Rattle.grammar_tables.specs.Trees.{Tree, IsTree, preorder, size, values}
@@ -14,14 +11,12 @@ use Rattle.source_grammar.specs.declared.fault.SyntaxFault.TheVariants as fault
 use Rattle.source_grammar.specs.Faults.{IsSourceFront, IsFrontFault}
 use Rattle.source_grammar.specs.SourceGrammar.{source_grammar, term_goal}
 use Rattle.source_words.specs.declared.word.Word.{Word}
+use Rattle.source_words.specs.Faults.{kinds_in, error_of}
 use Rattle.source_words.specs.Words.{AreWords, GivesNames}
 use Rattle.pearlite.specs.Cursor.{Standing}
 use Rattle.pearlite.specs.Meaning.{shape_actions}
 use Rattle.pearlite.specs.Parts.{first_term}
 use Rattle.source_trees.specs.Pterm.{Pterm}
-
-abbrev pub kinds_in : List Word → List ℕ
-kinds_in words = map (λ word. word.kind) words
 
 -- this is what the actions make of each tree with that derivation and so many tokens
 unfoldable pub IsMade : List Word → List ℕ → ℕ → Pterm → Type 0
@@ -49,24 +44,6 @@ pub record SpellsTerm (old : List (List ℕ)) (standing : Standing) (is : Pterm)
   pub behind : after ≡ standing.place + taken
 
 -- ---- refusals
-
-abbrev pub span_or : ℕ → Option Word → Span
-span_or end (Some word) = word.span
-span_or end None = record { start = end; end = end }
-
--- the span of the word at the position, or the empty one at the end of the bytes
-abbrev pub span_at : List Word → ℕ → ℕ → Span
-span_at words end position = span_or end (slice_get words position)
-
-abbrev pub refusal : Code → Span → PassError
-refusal code span = P.Source (record { code = code; span = span; other = None })
-
--- the error that a fault of the words is, behind which the bytes end at that offset
-abbrev pub error_of : List Word → ℕ → SyntaxFault → PassError
-error_of words end (fault.Stray position) = refusal E03 (span_at words end position)
-error_of words end (fault.LeftOut position) = refusal E20 (span_at words end position)
-error_of words end (fault.TooDeep position) = refusal E04 (span_at words end position)
-error_of words end fault.NoMemory = P.NoMemory
 
 -- how many words stand before the one that is told
 abbrev pub position_of : SyntaxFault → ℕ

@@ -63,6 +63,13 @@ impl<'a> Cursor<'a> {
         self.bytes
     }
 
+    /// The tokens of the source.
+    pub(crate) fn tokens(&self) -> &'a [Token]
+        ensures { result.now ≡ self.now.tokens }
+    {
+        self.tokens
+    }
+
     /// How many levels are open around the place.
     pub(crate) fn levels(&self) -> u32
         ensures value { result ≡ self.now.levels }

@@ -3,6 +3,7 @@
 
 mod cursor;
 mod families;
+mod laws;
 mod make_operations;
 mod make_patterns;
 mod make_terms;
@@ -15,6 +16,8 @@ mod shapes;
 mod tokens;
 
 pub use cursor::Cursor;
+pub use laws::each_part_is_there;
+pub use make_operations::unsigned;
 pub use part::{Part, TermSuffix, Value};
 pub use reader::parse_term;
 pub use shapes::make_shape;

@@ -1,6 +1,6 @@
 //! What is made of the lines of operations on terms.
 ghost use Rattle.std.specs.Prelude.{◌≡◌, ◌≤ℤ◌, IfOk, IfSome, pos, reverse};
-ghost use Rattle.pearlite.specs.MakeTerms.{applied, applied_by, magnitude, operation, operator_of, prefix_of, prefix_term_made, prefixed, suffixed, term_member_made, term_operation_made};
+ghost use Rattle.pearlite.specs.MakeTerms.{applied, applied_by, magnitude, operation, operator_of, prefix_of, prefix_term_made, prefixed, suffixed, term_member_made, term_operation_made, unsigned};
 ghost use Rattle.source_trees.specs.PtermView.{pterm_of};
 ghost use Rattle.pearlite.specs.declared.part.Value.TheVariants as V;
 
@@ -140,6 +140,18 @@ fn prefix_of(kind: u8) -> UnaryTerm
     }
 }
 
+/// A number with its type, where it is not negative.
+pub fn unsigned(value: i128, suffix: Option<IntKind>) -> Option<(i128, Option<IntKind>)>
+    ensures value { result ≡ unsigned value suffix }
+    ensures low { IfSome result (λ p. pos 0 ≤ℤ p.0) }
+{
+    if value >= 0 {
+        Some((value, suffix))
+    } else {
+        None
+    }
+}
+
 /// The integer, where it is one that is not negative.
 #[tactic(auto, unfolding(crate::specs::MakeTerms::magnitude))]
 fn magnitude(term: &Pterm) -> Option<(i128, Option<IntKind>)>
@@ -147,7 +159,7 @@ fn magnitude(term: &Pterm) -> Option<(i128, Option<IntKind>)>
     ensures low { IfSome result (λ p. pos 0 ≤ℤ p.0) }
 {
     match &*term.node {
-        PtermNode::Int(value, suffix) if *value >= 0 => Some((*value, *suffix)),
+        PtermNode::Int(value, suffix) => unsigned(*value, *suffix),
         _ => None,
     }
 }

@@ -3,8 +3,9 @@ ghost use Rattle.std.specs.Prelude.{◌≡◌, ℕ, ◌+◌, ◌≤◌, ◌<◌,
 ghost use Rattle.rs_tokens.specs.Reading.{AreTokens};
 ghost use Rattle.source_grammar.specs.Faults.{IsFrontFault};
 ghost use Rattle.source_grammar.specs.SourceGrammar.{term_goal};
+ghost use Rattle.source_words.specs.Faults.{kinds_in};
 ghost use Rattle.source_words.specs.Words.{GivesNames, Keeps};
-ghost use Rattle.pearlite.specs.Parsed.{IsMade, IsTermError, ReadsTerm, SpellsNoTerm, SpellsTerm, error_of, kinds_in, position_of, refusal, span_at};
+ghost use Rattle.pearlite.specs.Parsed.{IsMade, IsTermError, ReadsTerm, SpellsNoTerm, SpellsTerm, position_of};
 ghost use Rattle.source_trees.specs.Pterm.{Pterm};
 
 use crate::cursor::Cursor;
@@ -13,9 +14,9 @@ use crate::part::Part;
 use grammar_tables::{Front, evaluate};
 use source_grammar::{SyntaxFault, WHOLE_TERM, tables};
 use source_trees::Pterm;
-use source_words::{Word, kinds_of_words, words_of};
+use source_words::{Word, error_of, kinds_of_words, words_of_tokens};
 use std::alloc::Global;
-use text_core::{Code, Items, Names, NoMemory, PassError, SourceError, Span};
+use text_core::{Items, Names, NoMemory, PassError};
 
 /// The words from that place on.
 fn words_behind(alloc: Global, words: &[Word], place: usize) -> Result<Items<Word>, NoMemory>
@@ -56,38 +57,6 @@ fn read_term(alloc: Global, words: &Items<Word>, levels: u32) -> Result<(Pterm, 
     }
 }
 
-/// The span of the word at the position, or the empty one at the end of the bytes.
-fn span_at(words: &[Word], end: u32, position: usize) -> Span
-    ensures { result ≡ span_at words.now end position }
-{
-    match words.get(position) {
-        Some(word) => word.span,
-        None => Span { start: end, end },
-    }
-}
-
-fn refusal(code: Code, span: Span) -> PassError
-    ensures { result ≡ refusal code span }
-{
-    PassError::Source(SourceError {
-        code,
-        span,
-        other: None,
-    })
-}
-
-/// The error that a fault of the words is, behind which the bytes end at that offset.
-fn error_of(words: &[Word], end: u32, fault: SyntaxFault) -> PassError
-    ensures { result ≡ error_of words.now end fault }
-{
-    match fault {
-        SyntaxFault::Stray(position) => refusal(Code::E03, span_at(words, end, position)),
-        SyntaxFault::LeftOut(position) => refusal(Code::E20, span_at(words, end, position)),
-        SyntaxFault::TooDeep(position) => refusal(Code::E04, span_at(words, end, position)),
-        SyntaxFault::NoMemory => PassError::NoMemory,
-    }
-}
-
 /// How many words stand before the one that is told.
 fn position_of(fault: SyntaxFault) -> usize
     ensures { result ≡ position_of fault }
@@ -121,7 +90,7 @@ pub fn parse_term(alloc: Global, cursor: &mut Cursor, names: &mut Names) -> Resu
     ensures kept { Keeps names.old names.new }
     ensures grown { length names.new ≤ length names.old + length cursor.old.bytes }
 {
-    let words = words_of(alloc, cursor.bytes(), names)?;
+    let words = words_of_tokens(alloc, cursor.bytes(), cursor.tokens(), names)?;
     let behind = words_behind(alloc, words.as_slice(), cursor.place() as usize)?;
     match read_term(alloc, &behind, cursor.levels()) {
         Ok((term, taken)) => {

@@ -2,14 +2,15 @@
 use Rattle.std.proofs.Common.{◌≡◌, ℕ, suc, ◌+◌, max, List, [], ◌∷◌, ◌++◌, length, sym, ap, subst, arith, add-zero}
 use Rattle.logic_term.specs.declared.obligation.Obligation.{Obligation}
 use Rattle.logic_term.specs.Term.{Term}
-use Rattle.logic_term.specs.Sort.{Declarations}
-use Rattle.logic_term.specs.Meaning.{Structure, Env, Holds}
-use Rattle.logic_term.specs.Subst.{above, subst as substituted, SameUpToNames}
+use Rattle.logic_term.specs.Meaning.{Structure, Env, Holds, structure_of}
+use Rattle.logic_term.specs.Obligations.{IsTrueObligation}
+use Rattle.logic_term.specs.Theory.{Theory}
+use Rattle.logic_term.specs.Canonical.{SameUpToNames}
 use Rattle.logic_term.proofs.Alike.{yes_alike}
-use Rattle.logic_term.proofs.SubstLaw.{renamed_means}
+use Rattle.logic_term.proofs.CanonicalLaw.{same_up_to_names_means}
 use Rattle.proof_kernel.specs.declared.sequent.Sequent.{Sequent}
 use Rattle.proof_kernel.specs.declared.step.Step.{Step}
-use Rattle.proof_kernel.specs.Sequent.{IsTrueAt, AllTrueAt, IsTrueObligation}
+use Rattle.proof_kernel.specs.Sequent.{IsTrueAt, AllTrueAt}
 use Rattle.proof_kernel.specs.Progress.{Progress}
 use Rattle.proof_kernel.specs.Kernel.{Applies}
 use Rattle.proof_kernel.specs.Derivation.{Gives, by_intro, by_hyp, by_split, by_range, by_lin, Derives, no_step, one_step, IsProof}
@@ -20,9 +21,7 @@ module _ (S : Structure) where
   -- terms that differ in bound names alone are true together
   same_holds : (t u : Term) (ρ : Env) → SameUpToNames t u → Holds S t ρ → Holds S u ρ
   same_holds t u ρ e h =
-      let n : ℕ = max (above t) (above u) in
-      let renamed : Holds S (substituted n [] t) ρ = (yes_alike _ _ (renamed_means S n t ρ (omega arith))).1 h in
-      (yes_alike _ _ (renamed_means S n u ρ (omega arith))).0 (subst (λ x. Holds S x ρ) e renamed)
+      (yes_alike _ _ (same_up_to_names_means S t u ρ e)).0 h
 
   pub gives_sound : (s : ℕ) (q : Sequent) (step : Step) (ps : List Sequent) → Gives s q step ps → AllTrueAt S ps → IsTrueAt S q
   gives_sound s q step ps (by_intro {names = names} {r = r} some i) h = intros_sound S s 1 names q r i h.0
@@ -41,8 +40,8 @@ module _ (S : Structure) where
       let r = both_true ps others (derives_sound (suc s) (ps ++ others) rest rs d h) in
       (gives_sound s q step ps g r.0, r.1)
 
-pub proof_is_sound : (Δ : Declarations) (o : Obligation) (steps : List Step) → IsProof o steps → IsTrueObligation Δ o
-proof_is_sound Δ o steps d θ ρ = (derives_sound (record { declared = Δ; types = θ }) 1 _ steps [] d tt).0 ρ tt tt
+pub proof_is_sound : (Θ : Theory) (o : Obligation) (steps : List Step) → IsProof o steps → IsTrueObligation Θ o
+proof_is_sound Θ o steps d θ i ρ = (derives_sound (structure_of Θ θ) 1 _ steps [] d tt).0 ρ tt tt
 
 -- ---- longer derivations
 

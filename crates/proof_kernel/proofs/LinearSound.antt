@@ -10,7 +10,7 @@ use Rattle.logic_term.specs.Term.{negated, denied, arith as by_op, less, at_most
 use Rattle.logic_term.specs.Canonical.{canonical}
 use Rattle.logic_term.specs.Same.{same_term}
 use Rattle.logic_term.specs.Meaning.{Sure, Structure, Env, Means, Holds}
-use Rattle.logic_term.proofs.Alike.{sure_map}
+use Rattle.logic_term.proofs.Alike.{alike_exactly, sure_map}
 use Rattle.logic_term.proofs.CanonicalLaw.{canonical_means}
 use Rattle.logic_term.proofs.SameLaw.{same_term_equal, equal_same_term}
 use Rattle.logic_term.proofs.Truth.{Exactly, holds_less, holds_at_most, holds_not, holds_equal_exactly}
@@ -107,7 +107,7 @@ module _ (S : Structure) (ρ : Env) where
   sum_is ν t h = of_canonical t (ν (canonical t)) h.0
 
   exact : (t : Term) (z : ℤ) (p : IsAt t z) → Exactly (Means S t ρ) p.0
-  exact t z p v = ((λ q. single S t ρ v p.0 q p.1), (λ e. subst (Means S t ρ) (sym e) p.1))
+  exact t z p = alike_exactly _ _ (λ v. ((λ q. single S t ρ v p.0 q p.1), (λ e. subst (Means S t ρ) (sym e) p.1)))
 
   -- ---- what a formula says of the integers
 

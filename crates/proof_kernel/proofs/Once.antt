@@ -4,7 +4,8 @@ use Rattle.text_core.specs.declared.name.Name.{Name}
 use Rattle.logic_term.specs.declared.kinds.IntKind.{IntKind}
 use Rattle.logic_term.specs.Ty.{Ty, int}
 use Rattle.logic_term.specs.Term.{Term, var, is_conjunction}
-use Rattle.logic_term.specs.Subst.{replaced, SameUpToNames}
+use Rattle.logic_term.specs.Canonical.{SameUpToNames}
+use Rattle.logic_term.specs.Subst.{replaced}
 use Rattle.proof_kernel.specs.declared.sequent.Sequent.{Sequent}
 use Rattle.proof_kernel.specs.declared.step.Step.{Step}
 use Rattle.proof_kernel.specs.declared.step.Step.TheVariants.{Intro, Hyp, Split, Range, Lin}

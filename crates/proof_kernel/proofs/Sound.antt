@@ -9,6 +9,7 @@ use Rattle.logic_term.specs.Ty.{Ty, int, math_int}
 use Rattle.logic_term.specs.Range.{lowest, highest}
 use Rattle.logic_term.specs.Value.{Value, Number, integer_of}
 use Rattle.logic_term.specs.Sort.{HasSort, instance}
+use Rattle.logic_term.specs.Theory.{declared}
 use Rattle.logic_term.specs.Term.{both, Term, var, lit, apply, no_terms, and_term, model, forall}
 use Rattle.logic_term.specs.Meaning.{Structure, Env, with_value, Holds}
 use Rattle.logic_term.specs.Free.{free}
@@ -53,11 +54,11 @@ module _ (S : Structure) where
     | inr p ↦ held l hs t ρ p h.1
   ]
 
-  pub sorted : (x : Name) (vs : List (Name × Ty)) (t : Ty) (ρ : Env) → sort_of x vs ≡ Some t → InSorts S vs ρ → HasSort S.declared (ρ x) (instance S.types t)
+  pub sorted : (x : Name) (vs : List (Name × Ty)) (t : Ty) (ρ : Env) → sort_of x vs ≡ Some t → InSorts S vs ρ → HasSort (declared S.theory) (ρ x) (instance S.types t)
   sorted x [] t ρ e h = absurd (cc)
   sorted x (v ∷ vs) t ρ e h = elim (picked (x.0 == v.0.0) v.1 t (sort_of x vs) e) [
     | inl p ↦ let same : v.0 ≡ x = sym (same_name x v.0 (same_test x.0 v.0.0 p.0)) in
-        subst (λ y. HasSort S.declared (ρ y) (instance S.types t)) same (subst (λ u. HasSort S.declared (ρ v.0) (instance S.types u)) p.1 h.0)
+        subst (λ y. HasSort (declared S.theory) (ρ y) (instance S.types t)) same (subst (λ u. HasSort (declared S.theory) (ρ v.0) (instance S.types u)) p.1 h.0)
     | inr p ↦ sorted x vs t ρ p h.1
   ]
 
@@ -69,7 +70,7 @@ module _ (S : Structure) where
   sorts_new x [] ρ w e h = tt
   sorts_new x (v ∷ vs) ρ w e h =
       let n = not_picked (x.0 == v.0.0) v.1 (sort_of x vs) e in
-      (kept (v.0.0 == x.0) w (ρ v.0) (λ u. HasSort S.declared u (instance S.types v.1)) (turned x.0 v.0.0 n.0) h.0, sorts_new x vs ρ w n.1 h.1)
+      (kept (v.0.0 == x.0) w (ρ v.0) (λ u. HasSort (declared S.theory) u (instance S.types v.1)) (turned x.0 v.0.0 n.0) h.0, sorts_new x vs ρ w n.1 h.1)
 
   hyps_new : (x : Name) (hs : List (Label2 × Term)) (ρ : Env) (w : Value) → free_in_hyps x hs ≡ false → AllHold S hs ρ → AllHold S hs (with_value ρ x w)
   hyps_new x [] ρ w e h = tt
@@ -77,7 +78,7 @@ module _ (S : Structure) where
       let n = or_false (free x g.1) (free_in_hyps x hs) e in
       ((yes_alike _ _ (unused_means S x g.1 ρ w n.0)).0 h.0, hyps_new x hs ρ w n.1 h.1)
 
-  sorts_more : (vs : List (Name × Ty)) (v : Name × Ty) (ρ : Env) → InSorts S vs ρ → HasSort S.declared (ρ v.0) (instance S.types v.1) → InSorts S (vs ++ v ∷ []) ρ
+  sorts_more : (vs : List (Name × Ty)) (v : Name × Ty) (ρ : Env) → InSorts S vs ρ → HasSort (declared S.theory) (ρ v.0) (instance S.types v.1) → InSorts S (vs ++ v ∷ []) ρ
   sorts_more [] v ρ h s = (s, tt)
   sorts_more (u ∷ vs) v ρ h s = (h.0, sorts_more vs v ρ h.1 s)
 
@@ -112,7 +113,7 @@ module _ (S : Structure) where
   intros_sound s k names q r (by_variable {x = x} {y = y} {names = rest} {t = t} {b = b} e new i) true_r = λ ρ z h.
       subst (λ g. Holds S g ρ) (sym e) ((holds_forall S y t b ρ).1 (λ w sort.
       let ρ' : Env = with_value ρ x w in
-      let here : HasSort S.declared (ρ' x) (instance S.types t) = subst (λ u. HasSort S.declared u (instance S.types t)) (sym (with_same ρ x w)) sort in
+      let here : HasSort (declared S.theory) (ρ' x) (instance S.types t) = subst (λ u. HasSort (declared S.theory) u (instance S.types t)) (sym (with_same ρ x w)) sort in
       renamed x y t b ρ w (ap (λ g. free x g) (sym e) ∙ new.in_goal)
       (intros_sound s k rest (declaring q x t (replaced y (var x) b)) r i true_r ρ' (sorts_more q.vars (x, t) ρ' (sorts_new x q.vars ρ w new.in_vars z) here) (hyps_new x q.hyps ρ w new.in_hyps h))))
 
@@ -132,7 +133,7 @@ module _ (S : Structure) where
 
   pub ranged_sound : (s : ℕ) (x : Name) (k : IntKind) (q : Sequent) → sort_of x q.vars ≡ Some (int k) → IsTrueAt S (ranged s k x q) → IsTrueAt S q
   ranged_sound s x k q e true_r ρ z h =
-      let v = int_value S.declared (ρ x) (int k) k (sorted x q.vars (int k) ρ e z) refl in
+      let v = int_value (declared S.theory) (ρ x) (int k) k (sorted x q.vars (int k) ρ e z) refl in
       let in_range = and_true (int_le (lowest k) v.0) (int_le v.0 (highest k)) v.2 in
       let here : integer_of (ρ x) ≡ v.0 = ap integer_of v.1 in
       let model_is = computes_model S (var x) ρ (ρ x) (alike_same _) in

@@ -1,19 +1,20 @@
 -- What is true of the definitions.
 use Rattle.std.specs.Prelude.{◌≡◌, ◌↔◌, ℕ, List}
-use Rattle.logic_term.specs.Sort.{Declarations}
 use Rattle.logic_term.specs.Meaning.{Structure}
+use Rattle.logic_term.specs.Obligations.{IsTrueObligation}
+use Rattle.logic_term.specs.Theory.{Theory}
 use Rattle.logic_term.specs.declared.obligation.Obligation.{Obligation}
 use Rattle.proof_kernel.specs.declared.sequent.Sequent.{Sequent}
 use Rattle.proof_kernel.specs.declared.step.Step.{Step}
-use Rattle.proof_kernel.specs.Sequent.{IsTrueAt, AllTrueAt, IsTrueObligation}
+use Rattle.proof_kernel.specs.Sequent.{IsTrueAt, AllTrueAt}
 use Rattle.proof_kernel.specs.Derivation.{Gives, IsProof}
 use Rattle.proof_kernel.specs.Progress.{Progress}
 use Rattle.proof_kernel.specs.Kernel.{Applies, IsWide}
 use Rattle.proof_kernel.specs.Accepts.{Accepts, Refuses}
 
--- the goal of an obligation that has a proof is true at all declarations
+-- the goal of an obligation that has a proof is true, whatever is declared
 abbrev pub DerivedIsTrue : Type 0
-DerivedIsTrue = (Δ : Declarations) (o : Obligation) (steps : List Step) → IsProof o steps → IsTrueObligation Δ o
+DerivedIsTrue = (Θ : Theory) (o : Obligation) (steps : List Step) → IsProof o steps → IsTrueObligation Θ o
 
 -- where all premises that a step gives are true, the sequent is
 abbrev pub RulesAreSound : Type 0

@@ -1,9 +1,10 @@
--- The truth of sequents and of obligations.
+-- The truth of sequents.
 use Rattle.std.specs.Prelude.{List, [], ◌∷◌}
 use Rattle.text_core.specs.declared.name.Name.{Name}
-use Rattle.logic_term.specs.Ty.{Ty, Tys}
+use Rattle.logic_term.specs.Ty.{Ty}
 use Rattle.logic_term.specs.Term.{Term}
-use Rattle.logic_term.specs.Sort.{Declarations, HasSort, instance}
+use Rattle.logic_term.specs.Sort.{HasSort, instance}
+use Rattle.logic_term.specs.Theory.{declared}
 use Rattle.logic_term.specs.Meaning.{Structure, Env, Holds}
 use Rattle.logic_term.specs.declared.kinds.Label2.{Label2}
 use Rattle.logic_term.specs.declared.obligation.Obligation.{Obligation}
@@ -12,7 +13,7 @@ use Rattle.proof_kernel.specs.declared.sequent.Sequent.{Sequent}
 -- each variable has a value of its sort
 abbrev pub InSorts : Structure → List (Name × Ty) → Env → Type 0
 InSorts S [] ρ = Unit {0}
-InSorts S (x ∷ xs) ρ = HasSort S.declared (ρ x.0) (instance S.types x.1) × InSorts S xs ρ
+InSorts S (x ∷ xs) ρ = HasSort (declared S.theory) (ρ x.0) (instance S.types x.1) × InSorts S xs ρ
 
 -- all hypotheses are true
 abbrev pub AllHold : Structure → List (Label2 × Term) → Env → Type 0
@@ -30,7 +31,3 @@ AllTrueAt S (q ∷ qs) = IsTrueAt S q × AllTrueAt S qs
 -- the sequent with which the proof of an obligation begins
 abbrev pub sequent_of : Obligation → Sequent
 sequent_of o = record { vars = []; hyps = []; goal = o.goal }
-
--- the goal is true at every instance and at every environment
-abbrev pub IsTrueObligation : Declarations → Obligation → Type 0
-IsTrueObligation Δ o = (θ : Tys) (ρ : Env) → Holds (record { declared = Δ; types = θ }) o.goal ρ

@@ -2,7 +2,7 @@ ghost use Rattle.std.specs.Prelude.{◌≡◌, ◌≢◌, ◌↔◌, ℕ, List, 
 ghost use Rattle.logic_term.specs.Ty.{int};
 ghost use Rattle.logic_term.specs.declared.kinds.IntKind.{IntKind};
 ghost use Rattle.logic_term.specs.declared.kinds.Label2.{Label2};
-ghost use Rattle.logic_term.specs.Subst.{SameUpToNames};
+ghost use Rattle.logic_term.specs.Canonical.{SameUpToNames};
 ghost use Rattle.logic_term.specs.Term.{Term as Tree, is_conjunction, is_implication};
 ghost use Rattle.text_core.specs.declared.name.Name.{Name};
 ghost use Rattle.proof_kernel.specs.declared.sequent.Sequent.{Sequent};

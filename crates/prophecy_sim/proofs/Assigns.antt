@@ -5,6 +5,7 @@ use Rattle.std.specs.Option.{option_map}
 use Rattle.std.specs.Ordering.{int_eq}
 use Rattle.text_core.specs.declared.name.Name.{Name}
 use Rattle.text_core.specs.declared.span.Span.{Span}
+use Rattle.logic_term.proofs.Alike.{to, from}
 use Rattle.logic_term.specs.declared.kinds.ArithOp.{ArithOp}
 use Rattle.logic_term.specs.declared.kinds.ArithOp.TheVariants as arith_op
 use Rattle.logic_term.specs.declared.kinds.BinaryOp.{BinaryOp}
@@ -13,7 +14,8 @@ use Rattle.logic_term.specs.declared.kinds.Ctor.{Ctor}
 use Rattle.logic_term.specs.declared.kinds.IntKind.{IntKind}
 use Rattle.logic_term.specs.declared.kinds.IntKind.TheVariants.{I8, I16, I32, I64, Isize, U8, U16, U32, U64, Usize}
 use Rattle.logic_term.specs.Range.{lowest, fits}
-use Rattle.logic_term.specs.Sort.{Declarations, instance}
+use Rattle.logic_term.specs.Sort.{instance}
+use Rattle.logic_term.specs.Theory.{Theory}
 use Rattle.logic_term.specs.Ty.{Ty, int, bool, no_tys}
 use Rattle.logic_term.specs.Value.{Value, Number, Flag, no_values, integer_of, flag_of}
 use Rattle.logic_term.specs.Term.{made, Term, apply, no_terms, negative, calculate, is_equal}
@@ -89,8 +91,8 @@ module _ (S₀ : Structure) where
   equal_exactly s t ρ v w c e g f h = says_exactly _ c (decided c f h)
     where
       decided : (c : Bool) → (c ≡ true → v ≡ w) → (v ≡ w → c ≡ true) → Decided c ((x y : Value) → Means S₀ s ρ x → Means S₀ t ρ y → Sure (x ≡ y))
-      decided true f h = λ x y p q n. n ((e x).0 p ∙ f refl ∙ sym ((g y).0 q))
-      decided false f h = λ same. same v w ((e v).1 refl) ((g w).1 refl) (λ r. true≢false (sym (h r)))
+      decided true f h = λ x y p q n. to _ _ e x p (λ i. to _ _ g y q (λ j. n (i ∙ f refl ∙ sym j)))
+      decided false f h = λ same. from _ _ e v refl (λ p. from _ _ g w refl (λ q. same v w p q (λ r. true≢false (sym (h r)))))
 
   -- where the type has no negative integers, the divisor is not -1
   not_least : (k : IntKind) (span : Span) (s t : Term) (ρ : Env) (y z : ℤ) → fits k z ≡ true → Computes S₀ s ρ y → Computes S₀ t ρ z → GoalsHold S₀ ρ (if_signed k (overflow span (not_least_by_minus_one k s t) ∷ [])) →
@@ -107,18 +109,18 @@ module _ (S₀ : Structure) where
   not_least U64 span s t ρ y z f c d h = λ e g. true≢false (sym f ∙ ap (fits U64) g)
   not_least Usize span s t ρ y z f c d h = λ e g. true≢false (sym f ∙ ap (fits Usize) g)
 
-module _ (Δ : Declarations) (bodies : List Body) (b : Body) (typed : IsTyped bodies b) (named : AreNamesOfLocals b) where
+module _ (Θ : Theory) (bodies : List Body) (b : Body) (typed : IsTyped bodies b) (named : AreNamesOfLocals b) where
   -- the right side does not panic, and the commands lead to an environment in which the place's name has its value, and all other
   -- names but that of new values have what they had
   pub record Assigned (σ : Store) (ρ : Env) (p : Place) (r : Rvalue) : Type 0 where
     pub in_range : RvalueIsInRange (kind_in (place_ty b no_tys p)) σ r
     pub env : Env
-    pub moves : MovesAll (S Δ bodies b typed named) (commands_of b (Assign p r)) ρ env
+    pub moves : MovesAll (S Θ bodies b typed named) (commands_of b (Assign p r)) ρ env
     pub here : env (name_of b p.local) ≡ rvalue_value σ r
     pub elsewhere : (n : Name) → (n.0 ≡ (name_of b p.local).0 → ⊥) → (n.0 ≡ value_name.0 → ⊥) → env n ≡ ρ n
 
   abbrev W : Structure
-  W = S Δ bodies b typed named
+  W = S Θ bodies b typed named
 
   -- ---- the two forms of commands
 
@@ -154,7 +156,7 @@ module _ (Δ : Declarations) (bodies : List Body) (b : Body) (typed : IsTyped bo
   -- ---- operands that are integers, and truth values
 
   operand_exactly : (set : Locals) (σ : Store) (ρ : Env) (o : Operand) (ty : Ty) (w : Value) → OperandHas b o ty → CanTake set o → Matches b set σ ρ → operand_value σ o ≡ w → Exactly (Means W (operand_term b o) ρ) w
-  operand_exactly set σ ρ o ty w has can m is = subst (λ v. Exactly (Means W (operand_term b o) ρ) v) is (operand_means Δ bodies b typed named set σ ρ o ty has can m)
+  operand_exactly set σ ρ o ty w has can m is = subst (λ v. Exactly (Means W (operand_term b o) ρ) v) is (operand_means Θ bodies b typed named set σ ρ o ty has can m)
 
   operand_computes : (set : Locals) (σ : Store) (ρ : Env) (o : Operand) (ty : Ty) (y : ℤ) → OperandHas b o ty → CanTake set o → Matches b set σ ρ → operand_value σ o ≡ Number y → Computes W (integer_term b o) ρ y
   operand_computes set σ ρ o ty y has can m is = computes_model W (operand_term b o) ρ (Number y) (operand_exactly set σ ρ o ty (Number y) has can m is)
@@ -162,7 +164,7 @@ module _ (Δ : Declarations) (bodies : List Body) (b : Body) (typed : IsTyped bo
   -- ---- one operand
 
   use_assigned : (set : Locals) (σ : Store) (ρ : Env) (p : Place) (o : Operand) (ty : Ty) → OperandHas b o ty → CanTake set o → Matches b set σ ρ → Assigned σ ρ p (Use o)
-  use_assigned set σ ρ p o ty has can m = set_assigned σ ρ p (Use o) (operand_term b o) tt refl (operand_means Δ bodies b typed named set σ ρ o ty has can m)
+  use_assigned set σ ρ p o ty has can m = set_assigned σ ρ p (Use o) (operand_term b o) tt refl (operand_means Θ bodies b typed named set σ ρ o ty has can m)
 
   -- what has no parts
   make_assigned : (σ : Store) (ρ : Env) (p : Place) (c : Ctor) (os : List Operand) → os ≡ [] → Assigned σ ρ p (Make c os)
@@ -190,7 +192,7 @@ module _ (Δ : Declarations) (bodies : List Body) (b : Body) (typed : IsTyped bo
       new_assigned σ ρ p (Neg o) k t z
       (subst (λ c. InKind c (λ k. fits k z ≡ true)) (sym (place_kind b p ty k place is)) f)
       (ap (λ c. of_rvalue b c p.local (Neg o)) kind) refl f
-      (computes_negative W (integer_term b o) (with_value ρ value_name (Number z)) y (operand_computes set σ (with_value ρ value_name (Number z)) o (int k) y has can (matches_new Δ bodies b typed named set σ ρ (Number z) m) is_y))
+      (computes_negative W (integer_term b o) (with_value ρ value_name (Number z)) y (operand_computes set σ (with_value ρ value_name (Number z)) o (int k) y has can (matches_new Θ bodies b typed named set σ ρ (Number z) m) is_y))
 
   -- ---- arithmetic
 
@@ -216,7 +218,7 @@ module _ (Δ : Declarations) (bodies : List Body) (b : Body) (typed : IsTyped bo
       let ρ₁ : Env = with_value ρ value_name (Number x) in
       let t : Term = calculate a (integer_term b o) (integer_term b q) in
       new_assigned σ ρ p (Binary op o q) k t x fine is (ap₂ (applied op) is_y is_z ∙ value) f
-      (subst (λ u. Computes W t ρ₁ u) there (exact_computes set σ ρ₁ a o q s y z has_o has_q can_o can_q (matches_new Δ bodies b typed named set σ ρ (Number x) m) is_y is_z))
+      (subst (λ u. Computes W t ρ₁ u) there (exact_computes set σ ρ₁ a o q s y z has_o has_q can_o can_q (matches_new Θ bodies b typed named set σ ρ (Number x) m) is_y is_z))
 
   -- what is known of two operands that are integers, where a place of that kind is written
   record Integer (set : Locals) (σ : Store) (ρ : Env) (p : Place) (o q : Operand) (k : IntKind) : Type 0 where
@@ -397,7 +399,7 @@ module _ (Δ : Declarations) (bodies : List Body) (b : Body) (typed : IsTyped bo
   -- ---- right sides
 
   pub assigned : (set : Locals) (ls : List T) (σ : Store) (ρ : Env) (span : Span) (p : Place) (r : Rvalue) (ty : Ty) → PlaceHas b p ty → RvalueHas b r ty → CanEvaluate set r →
-      Fits b no_tys set ls → Agrees ls σ → Matches b set σ ρ → GoalsHold (S Δ bodies b typed named) ρ (goals_of b span (Assign p r)) → Assigned σ ρ p r
+      Fits b no_tys set ls → Agrees ls σ → Matches b set σ ρ → GoalsHold (S Θ bodies b typed named) ρ (goals_of b span (Assign p r)) → Assigned σ ρ p r
   assigned set ls σ ρ span p (Use o) ty place has can fit agrees m goals = use_assigned set σ ρ p o ty has can m
   assigned set ls σ ρ span p (Binary op o q) ty place has can fit agrees m goals = binary_assigned set ls σ ρ span p op o q ty has.0 place has.1 has.2 has.3 can.0 (can_before set o q can.1) fit agrees m goals
   assigned set ls σ ρ span p (Neg o) ty place has can fit agrees m goals = neg_assigned set ls σ ρ span p o ty has.0 place has.3 has.2 can fit agrees m goals

@@ -7,7 +7,9 @@ use Rattle.text_core.specs.declared.name.Name.{Name}
 use Rattle.logic_term.specs.declared.obligation.Contract.{Contract}
 use Rattle.logic_term.specs.declared.obligation.Obligation.{Obligation}
 use Rattle.logic_term.specs.Meaning.{Structure, Env, Holds}
-use Rattle.logic_term.specs.Sort.{Declarations, HasSort, instance}
+use Rattle.logic_term.specs.Sort.{HasSort, instance}
+use Rattle.logic_term.specs.Theory.{Theory, declared}
+use Rattle.logic_term.specs.Obligations.{how_many, IsTrueObligation}
 use Rattle.logic_term.specs.Term.{Term}
 use Rattle.logic_term.specs.Ty.{Ty, no_tys}
 use Rattle.logic_term.proofs.Alike.{yes_alike}
@@ -25,20 +27,15 @@ use Rattle.wp_gen.specs.Command.{MovesAll}
 use Rattle.wp_gen.specs.Row.{name_of}
 use Rattle.wp_gen.specs.Walk.{Setting, entry_commands, parameters, numbered}
 use Rattle.wp_gen.proofs.Commands.{GoalsHold, goals_moved, then_moves}
-use Rattle.prophecy_sim.specs.Programs.{IsScalar, IsOneOf, IsSimple, SpeaksOf, IsTrueGoal, Program, setting, IsFunction, AreFunctions, HasTrueObligations}
+use Rattle.prophecy_sim.specs.Programs.{IsScalar, IsOneOf, IsSimple, SpeaksOf, Program, setting, IsFunction, AreFunctions, HasTrueObligations}
 use Rattle.prophecy_sim.proofs.Values.{T, named_as}
 use Rattle.prophecy_sim.proofs.Steps.{at_no, IsOutside}
 use Rattle.prophecy_sim.proofs.Arguments.{values_of, AllPlain, argument_value, arguments_show, named_value, shaped_all, sorted_argument}
 use Rattle.prophecy_sim.proofs.Entries.{AreSorted, parameters_move, assumed_move, Stored, stored_move}
 use Rattle.prophecy_sim.proofs.Memories.{Reached, onward, none_around}
 use Rattle.mir_ir.specs.WellFormed as formed
-use Rattle.prophecy_sim.proofs.Lists.{get_taken, get_behind}
+use Rattle.prophecy_sim.proofs.Lists.{get_taken, get_behind, get_first}
 use Rattle.prophecy_sim.proofs.Runs.{Standing, Coming, arrived}
-
-get_first : {A : Type 0} (xs : List A) (i : ℕ) → i < length xs → (x : A) × (slice_get xs i ≡ Some x)
-get_first [] i h = absurd (omega arith)
-get_first (x ∷ xs) zero h = (x, refl)
-get_first (x ∷ xs) (suc i) h = get_first xs i (omega arith)
 
 and_right : (p q : Bool) → (p && q) ≡ true → q ≡ true
 and_right true q e = e
@@ -49,13 +46,13 @@ module _ (S : Structure) where
   same_hold [] ρ σ same h = tt
   same_hold (t ∷ ts) ρ σ same h = ((yes_alike _ _ (coincide_free S t ρ σ (λ x f. same x))).0 h.0, same_hold ts ρ σ same h.1)
 
-  goals_hold : (owner : List ℕ) (m : ℕ) (gs : List Goal) (ρ : Env) → ((o : List Obligation) → o ≡ numbered owner m gs → Each (IsTrueGoal S.declared) o) → GoalsHold S ρ gs
-  goals_hold owner m [] ρ h = tt
-  goals_hold owner m (g ∷ gs) ρ h =
+  goals_hold : (owner : List ℕ) (m : ℕ) (gs : List Goal) (ρ : Env) → how_many S.types ≡ 0 → ((o : List Obligation) → o ≡ numbered owner m gs → Each (IsTrueObligation S.theory) o) → GoalsHold S ρ gs
+  goals_hold owner m [] ρ none h = tt
+  goals_hold owner m (g ∷ gs) ρ none h =
       let all = h (numbered owner m (g ∷ gs)) refl in
-      ((yes_alike _ _ (reduced_means S g.formula ρ)).0 (all.0 S.types ρ), goals_hold owner (m + 1) gs ρ (λ o e. subst (Each (IsTrueGoal S.declared)) (sym e) all.1))
+      ((yes_alike _ _ (reduced_means S g.formula ρ)).0 (all.0 S.types none ρ), goals_hold owner (m + 1) gs ρ none (λ o e. subst (Each (IsTrueObligation S.theory)) (sym e) all.1))
 
-module _ (Δ : Declarations) (program : Program) (sound : AreSound program.bodies) (functions : AreFunctions program sound) (fn : ℕ) (b : Body) (is_body : slice_get program.bodies fn ≡ Some b) (proved : HasTrueObligations Δ (setting program fn b (functions fn b is_body).contract)) where
+module _ (Θ : Theory) (program : Program) (sound : AreSound program.bodies) (functions : AreFunctions program sound) (fn : ℕ) (b : Body) (is_body : slice_get program.bodies fn ≡ Some b) (proved : HasTrueObligations Θ (setting program fn b (functions fn b is_body).contract)) where
   abbrev bodies : List Body
   bodies = program.bodies
 
@@ -75,7 +72,7 @@ module _ (Δ : Declarations) (program : Program) (sound : AreSound program.bodie
   w = setting program fn b c
 
   abbrev S : Structure
-  S = at_no Δ b
+  S = at_no Θ b
 
   abbrev typed : IsTyped bodies b
   typed = (sound fn b is_body).0
@@ -112,7 +109,7 @@ module _ (Δ : Declarations) (program : Program) (sound : AreSound program.bodie
       less : {i j : ℕ} → 1 + i ≡ 1 + j → i ≡ j
       less p = omega arith
 
-  param_is_outside : (x : Name) → IsOneOf x c.params → IsOutside Δ b x
+  param_is_outside : (x : Name) → IsOneOf x c.params → IsOutside Θ b x
   param_is_outside x one = ((λ y n e q. speaks.no_local one.0 y x n one.1 e q), speaks.none_is_new one.0 x one.1)
 
   -- ---- the entry
@@ -128,7 +125,7 @@ module _ (Δ : Declarations) (program : Program) (sound : AreSound program.bodie
     sorted i x ty e f =
         let below : i < b.params = omega (arith, slice_get_within c.params i x e, speaks.count) in
         let taken : slice_get param_list i ≡ Some ty = taken_is (drop 1 b.locals) b.params i ty f below in
-        subst (λ v. HasSort Δ v (instance no_tys ty)) (sym (named_value c.params args speaks.apart i x e (omega (arith, slice_get_within param_list i ty taken, shaped.0)))) (sorted_argument Δ args param_list shaped.1 i ty taken (scalars i ty taken))
+        subst (λ v. HasSort (declared Θ) v (instance no_tys ty)) (sym (named_value c.params args speaks.apart i x e (omega (arith, slice_get_within param_list i ty taken, shaped.0)))) (sorted_argument (declared Θ) args param_list shaped.1 i ty taken (scalars i ty taken))
       where
         taken_is : (xs : List Ty) (p n : ℕ) (t : Ty) → slice_get xs n ≡ Some t → n < p → slice_get (take p xs) n ≡ Some t
         taken_is [] p n t q l = absurd (cc)
@@ -147,7 +144,7 @@ module _ (Δ : Declarations) (program : Program) (sound : AreSound program.bodie
 
     goals_there : GoalsHold S set.env proved.are.are_goals.inner
     goals_there =
-        let before : GoalsHold S ρ₀ proved.are.goals = goals_hold S b.owner proved.first proved.are.goals ρ₀ (λ o e. subst (Each (IsTrueGoal Δ)) (proved.are.are_numbered ∙ sym e) proved.all_true) in
+        let before : GoalsHold S ρ₀ proved.are.goals = goals_hold S b.owner proved.first proved.are.goals ρ₀ refl (λ o e. subst (Each (IsTrueObligation Θ)) (proved.are.are_numbered ∙ sym e) proved.all_true) in
         goals_moved S proved.are.are_goals.inner enters (subst (GoalsHold S ρ₀) proved.are.are_goals.closed before)
 
     abbrev at_entry : Frame (Unit {0})
@@ -172,7 +169,7 @@ module _ (Δ : Declarations) (program : Program) (sound : AreSound program.bodie
         params_length : length param_list ≡ b.params
         params_length = grind (arith, length-take, length-drop, typed.answers)
 
-    comes : Coming Δ program sound functions fn b is_body ρ₀ at_entry b.entry at_entry.locals
+    comes : Coming Θ program sound functions fn b is_body ρ₀ at_entry b.entry at_entry.locals
     comes = record {
       fitting = fits_within b no_tys (initialised.at b.entry 0) (formed.parameters b) at_entry.locals initialised.entry (entered_fits bodies b fn no_tys args typed shaped);
       store = entry_store (argument_value args);
@@ -182,10 +179,10 @@ module _ (Δ : Declarations) (program : Program) (sound : AreSound program.bodie
       keeps = λ n out. set.kept n (λ j l q. let x = local_name (1 + j) (room j l) in out.0 (1 + j) x.0 x.1 (q ∙ name_at (1 + j) x.0 x.1)) ∙ given.2 n;
     }
 
-    way : Reached Δ w initialised ρ₀ comes.store [] b.entry
+    way : Reached Θ w initialised ρ₀ comes.store [] b.entry
     unfolding comes
     way = onward simple.laid_out.entry [] simple.laid_out.is_entry simple.laid_out.at_entry none_around (λ h a. a) (λ h a. absurd (cc)) (λ a. absurd (cc))
 
-    pub begins : Standing Δ program sound functions fn b is_body ρ₀ at_entry
+    pub begins : Standing Θ program sound functions fn b is_body ρ₀ at_entry
     unfolding comes
-    begins = arrived Δ program sound functions fn b is_body ρ₀ proved.are.are_goals.arrives at_entry at_entry.locals refl refl comes way goals_there
+    begins = arrived Θ program sound functions fn b is_body ρ₀ proved.are.are_goals.arrives at_entry at_entry.locals refl refl comes way goals_there

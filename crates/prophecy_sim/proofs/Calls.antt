@@ -4,7 +4,7 @@ use Rattle.text_core.specs.declared.name.Name.{Name}
 use Rattle.text_core.specs.declared.span.Span.{Span}
 use Rattle.text_core.specs.declared.refusal.Kind.{Kind}
 use Rattle.logic_term.specs.declared.subst.Replacement.{Replacement}
-use Rattle.logic_term.specs.Meaning.{Structure, Env, with_value, Means, Holds}
+use Rattle.logic_term.specs.Meaning.{Structure, Env, with_value, Means, Holds, structure_of}
 use Rattle.logic_term.specs.Subst.{above, look}
 use Rattle.logic_term.specs.Term.{Term}
 use Rattle.logic_term.specs.Ty.{Ty, no_tys}
@@ -24,7 +24,7 @@ use Rattle.wp_gen.proofs.Commands.{GoalsHold}
 use Rattle.mir_ir.specs.WellFormed.{OperandsHave, Locals, taken, CanTakeAll, IsTyped}
 use Rattle.mir_machine.specs.Good.{named}
 use Rattle.logic_term.proofs.Coincide.{with_same}
-use Rattle.logic_term.specs.Sort.{Declarations}
+use Rattle.logic_term.specs.Theory.{Theory}
 use Rattle.wp_gen.specs.Row.{operand_term}
 use Rattle.prophecy_sim.specs.Programs.{AreNamesOfLocals}
 use Rattle.prophecy_sim.proofs.Arguments.{value_of, values_of, AllPlain, plain_one}
@@ -100,9 +100,9 @@ module _ (S : Structure) where
 
 -- ---- the terms of operands
 
-module _ (Δ : Declarations) (bodies : List Body) (b : Body) (typed : IsTyped bodies b) (names : AreNamesOfLocals b) where
+module _ (Θ : Theory) (bodies : List Body) (b : Body) (typed : IsTyped bodies b) (names : AreNamesOfLocals b) where
   abbrev at_no : Structure
-  at_no = record { declared = Δ; types = no_tys }
+  at_no = structure_of Θ no_tys
 
   taken_matches : (o : Operand) (set : Locals) (σ : Store) (ρ : Env) → Matches b set σ ρ → Matches b (taken o set) σ ρ
   taken_matches o set σ ρ m x n inside e = m x n (taken_before o set x inside) e
@@ -114,6 +114,6 @@ module _ (Δ : Declarations) (bodies : List Body) (b : Body) (typed : IsTyped bo
   all_exactly set σ ρ (t ∷ ts) [] tys has can m shows plain = absurd shows
   all_exactly set σ ρ (t ∷ ts) (o ∷ os) [] has can m shows plain = absurd has
   all_exactly set σ ρ (t ∷ ts) (o ∷ os) (ty ∷ tys) has can m shows plain = (
-    subst (λ v. Exactly (Means at_no (operand_term b o) ρ) v) (plain_one t (operand_value σ o) plain.0 shows.0) (operand_means Δ bodies b typed names set σ ρ o ty has.0 can.0 m),
+    subst (λ v. Exactly (Means at_no (operand_term b o) ρ) v) (plain_one t (operand_value σ o) plain.0 shows.0) (operand_means Θ bodies b typed names set σ ρ o ty has.0 can.0 m),
     all_exactly (taken o set) σ ρ ts os tys has.1 can.1 (taken_matches o set σ ρ m) shows.1 plain.1,
   )

@@ -4,6 +4,7 @@ use Rattle.std.proofs.Common.{◌≡◌, ◌∙◌, inl, inr, refl, sym, ap, sub
 use Rattle.text_core.specs.declared.name.Name.{Name}
 use Rattle.logic_term.specs.Meaning.{Structure, Env, with_value, Holds}
 use Rattle.logic_term.specs.Sort.{HasSort, instance}
+use Rattle.logic_term.specs.Theory.{declared}
 use Rattle.logic_term.specs.Term.{Term}
 use Rattle.logic_term.specs.Ty.{Ty}
 use Rattle.logic_term.proofs.Alike.{alike_same}
@@ -25,7 +26,7 @@ module _ (S : Structure) where
 
   -- the values that names have are of their types
   abbrev pub AreSorted : Env → List Name → List Ty → Type 0
-  AreSorted ρ xs tys = (i : ℕ) (x : Name) (ty : Ty) → slice_get xs i ≡ Some x → slice_get tys i ≡ Some ty → HasSort S.declared (ρ x) (instance S.types ty)
+  AreSorted ρ xs tys = (i : ℕ) (x : Name) (ty : Ty) → slice_get xs i ≡ Some x → slice_get tys i ≡ Some ty → HasSort (declared S.theory) (ρ x) (instance S.types ty)
 
   -- each parameter has the value that it has
   pub parameters_move : (xs : List Name) (tys : List Ty) (ρ : Env) → AreSorted ρ xs tys → (σ : Env) × MovesAll S (parameters xs tys) ρ σ × ((y : Name) → σ y ≡ ρ y)
@@ -33,7 +34,7 @@ module _ (S : Structure) where
   parameters_move (x ∷ xs) [] ρ sorted = (ρ, none, λ y. refl)
   parameters_move (x ∷ xs) (ty ∷ tys) ρ sorted =
       let ρ₁ : Env = with_value ρ x (ρ x) in
-      let rest = parameters_move xs tys ρ₁ (λ i y t e f. subst (λ v. HasSort S.declared v (instance S.types t)) (sym (same_point ρ x y)) (sorted (suc i) y t e f)) in
+      let rest = parameters_move xs tys ρ₁ (λ i y t e f. subst (λ v. HasSort (declared S.theory) v (instance S.types t)) (sym (same_point ρ x y)) (sorted (suc i) y t e f)) in
       (rest.0, more (by_fresh (ρ x) (sorted 0 x ty refl refl)) rest.1, λ y. rest.2 y ∙ same_point ρ x y)
 
   pub assumed_move : (ts : List Term) (ρ : Env) → Each (λ t. Holds S t ρ) ts → MovesAll S (assumed ts) ρ ρ

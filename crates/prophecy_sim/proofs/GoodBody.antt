@@ -1,9 +1,11 @@
 -- A function is good where all obligations of the functions that it may reach are true.
-use Rattle.std.proofs.Common.{◌≡◌, ◌∙◌, refl, sym, ap, ap₂, subst, ℕ, zero, suc, ◌<◌, List, [], ◌∷◌, ◌++◌, length, take, drop, Some, slice_get, arith}
+use Rattle.std.proofs.Common.{◌≡◌, ◌∙◌, refl, sym, ap, ap₂, subst, ℕ, suc, List, [], ◌∷◌, ◌++◌, length, take, drop, Some, slice_get, arith}
+use Rattle.std.proofs.lemmas.Option.{same_Some}
 use Rattle.logic_term.specs.declared.kinds.IntKind.{IntKind}
 use Rattle.logic_term.specs.declared.obligation.Contract.{Contract}
-use Rattle.logic_term.specs.Meaning.{Env, Holds}
+use Rattle.logic_term.specs.Meaning.{Env, Holds, structure_of}
 use Rattle.logic_term.specs.Sort.{Declarations, instance, instances}
+use Rattle.logic_term.specs.Theory.{Theory, declared}
 use Rattle.logic_term.specs.Ty.{Ty, Tys, int, bool, tuple, no_tys, and_ty, unit_ty}
 use Rattle.logic_term.specs.TyView.{tys_of}
 use Rattle.logic_term.specs.Value.{nothing}
@@ -15,22 +17,14 @@ use Rattle.mir_machine.specs.Frame.{State}
 use Rattle.mir_machine.specs.Step.{Outcome, Running, Returned, Panicked, Stuck, after, outside}
 use Rattle.mir_machine.specs.Typed.{Met, Typed, AreTyped, is_int, is_truth, is_tuple, is_adt, is_closure, is_boxed, is_shared, is_unique, none_typed, more_typed}
 use Rattle.mir_machine.specs.Good.{Each, IsProper, IsFine, Good, MeetsRequires, MeetsEnsures, Supply, named, called, here}
-use Rattle.mir_machine.proofs.NeverStuck.{Shape, AreShaped, typed_args, never_stuck, answer_shape}
+use Rattle.mir_machine.proofs.NeverStuck.{Shape, AreShaped, typed_args, never_stuck, no_types_for_none, answer_shape}
 use Rattle.prophecy_sim.specs.Programs.{IsScalar, IsSimple, Program, IsFunction, AreFunctions, itself, AreProvedFrom, TrueObligationsMakeGood}
 use Rattle.prophecy_sim.proofs.Values.{T}
 use Rattle.prophecy_sim.proofs.Arguments.{value_of, plain_reads, values_of, AllPlain, all_read, shaped_all, typed_answer}
-use Rattle.prophecy_sim.proofs.Lists.{get_taken, get_behind}
+use Rattle.prophecy_sim.proofs.Lists.{get_taken, get_behind, get_first}
 use Rattle.prophecy_sim.proofs.Runs.{IsAnswer, first_ty}
 use Rattle.prophecy_sim.proofs.Begins.{begins}
 use Rattle.prophecy_sim.proofs.States.{OutcomeFine, run_fine}
-
-get_first : {A : Type 0} (xs : List A) (i : ℕ) → i < length xs → (x : A) × (slice_get xs i ≡ Some x)
-get_first [] i h = absurd (omega arith)
-get_first (x ∷ xs) zero h = (x, refl)
-get_first (x ∷ xs) (suc i) h = get_first xs i (omega arith)
-
-some_same : {A : Type 0} {a b : A} → Some a ≡ Some b → a ≡ b
-some_same e = cc
 
 -- ---- no references are met from integers, truth values and `()`
 
@@ -90,8 +84,8 @@ none_met_all Δ s (sc ∷ tys) (more_typed {t = t} {ty = ty} {tys = vs} {first =
     ap₂ (λ xs ys. xs ++ ys) (none_met Δ s t ty first h sc (first_is ty (instance no_tys sc) vs (instances no_tys (tys_of tys)) e) (scalars 0 sc refl))
     (none_met_all Δ s tys hs (others_are ty (instance no_tys sc) vs (instances no_tys (tys_of tys)) e) (λ i u q. scalars (suc i) u q))
 
-module _ (Δ : Declarations) (program : Program) (sound : AreSound program.bodies) (functions : AreFunctions program sound)
-    (fn : ℕ) (proved : AreProvedFrom Δ program fn) (b : Body) (is_body : slice_get program.bodies fn ≡ Some b) where
+module _ (Θ : Theory) (program : Program) (sound : AreSound program.bodies) (functions : AreFunctions program sound)
+    (fn : ℕ) (proved : AreProvedFrom Θ program fn) (b : Body) (is_body : slice_get program.bodies fn ≡ Some b) where
   abbrev bodies : List Body
   bodies = program.bodies
 
@@ -110,12 +104,12 @@ module _ (Δ : Declarations) (program : Program) (sound : AreSound program.bodie
   scalars : (i : ℕ) (ty : Ty) → slice_get param_list i ≡ Some ty → IsScalar ty
   scalars i ty e = simple.scalars (suc i) ty (get_behind b.locals i ty (get_taken (drop 1 b.locals) b.params i ty e))
 
-  module _ (args held : List T) (proper : IsProper Δ bodies fn no_tys args held b []) (meets : MeetsRequires Δ no_tys c (called b fn no_tys args held) args []) where
+  module _ (args held : List T) (proper : IsProper Θ bodies fn no_tys args held b []) (meets : MeetsRequires Θ no_tys c (called b fn no_tys args held) args []) where
     abbrev start : State (Unit {0})
     start = called b fn no_tys args held
 
     abbrev shaped : (length args ≡ length param_list) × AreShaped no_tys args param_list
-    shaped = typed_args Δ start no_tys args param_list [] proper.typed
+    shaped = typed_args (declared Θ) start no_tys args param_list [] proper.typed
 
     plain : AllPlain args
     plain = shaped_all args param_list shaped.0 shaped.1 scalars
@@ -123,22 +117,22 @@ module _ (Δ : Declarations) (program : Program) (sound : AreSound program.bodie
     abbrev ρ₀ : Env
     ρ₀ = named c.params (values_of args)
 
-    pre : Each (λ t. Holds (record { declared = Δ; types = no_tys }) t ρ₀) c.pre
+    pre : Each (λ t. Holds (structure_of Θ no_tys) t ρ₀) c.pre
     pre = meets (λ at. nothing) (values_of args) tt (all_read start (λ k at. nothing) here 0 args plain)
 
     abbrev Fine : Outcome (Unit {0}) → Type 0
-    Fine = OutcomeFine Δ program sound functions fn proved c ρ₀ (outside held)
+    Fine = OutcomeFine Θ program sound functions fn proved c ρ₀ (outside held)
 
     starts : Fine (Running start)
     starts = (
-      record { function = fn; reached = itself; body = b; is_body = is_body; env = ρ₀; standing = begins Δ program sound functions fn b is_body (proved fn b c itself is_body own.is_contract) args shaped pre },
+      record { function = fn; reached = itself; body = b; is_body = is_body; env = ρ₀; standing = begins Θ program sound functions fn b is_body (proved fn b c itself is_body own.is_contract) args shaped pre },
       (refl, λ t a. a),
     )
 
     answer : (ty : Ty) × (slice_get b.locals 0 ≡ Some ty)
     answer = get_first b.locals 0 (omega (arith, (sound fn b is_body).0.answers))
 
-    ensures_met : (s' : State (Unit {0})) (t : T) (fill : Supply) → IsAnswer Δ bodies fn c ρ₀ t → MeetsEnsures Δ no_tys c start args [] s' t [] fill
+    ensures_met : (s' : State (Unit {0})) (t : T) (fill : Supply) → IsAnswer Θ bodies fn c ρ₀ t → MeetsEnsures Θ no_tys c start args [] s' t [] fill
     ensures_met s' t fill a = record {
       final = λ at. nothing;
       values = values_of args;
@@ -149,7 +143,7 @@ module _ (Δ : Declarations) (program : Program) (sound : AreSound program.bodie
       holds = a.posts;
     }
 
-    fine_of : (o : Outcome (Unit {0})) → Fine o → (o ≡ Stuck → ⊥) → ((s' : State (Unit {0})) (t : T) → o ≡ Returned s' t → Shape (answer_ty b no_tys) t) → IsFine Δ no_tys c (answer_ty b no_tys) start args [] o
+    fine_of : (o : Outcome (Unit {0})) → Fine o → (o ≡ Stuck → ⊥) → ((s' : State (Unit {0})) (t : T) → o ≡ Returned s' t → Shape (answer_ty b no_tys) t) → IsFine Θ no_tys c (answer_ty b no_tys) start args [] o
     fine_of (Running s') h alive shape = tt
     fine_of (Panicked cause span) h alive shape = absurd h
     fine_of Stuck h alive shape = absurd (alive refl)
@@ -157,36 +151,36 @@ module _ (Δ : Declarations) (program : Program) (sound : AreSound program.bodie
         let ty : Ty = answer.0 in
         let is : answer_ty b no_tys ≡ instance no_tys ty = ap (instance no_tys) (first_ty b.locals ty answer.1) in
         let shaped_as : Shape (instance no_tys ty) t = subst (λ u. Shape u t) is (shape s' t refl) in
-        ([], subst (λ u. Typed Δ s' t u []) (sym is) (typed_answer Δ s' ty t (simple.scalars 0 ty answer.1) shaped_as), λ fill sup. ensures_met s' t fill h)
+        ([], subst (λ u. Typed (declared Θ) s' t u []) (sym is) (typed_answer (declared Θ) s' ty t (simple.scalars 0 ty answer.1) shaped_as), λ fill sup. ensures_met s' t fill h)
 
-    call_fine : (n : ℕ) → IsFine Δ no_tys c (answer_ty b no_tys) start args [] (after bodies n start)
+    call_fine : (n : ℕ) → IsFine Θ no_tys c (answer_ty b no_tys) start args [] (after bodies n start)
     call_fine n =
-        fine_of (after bodies n start) (run_fine Δ program sound functions fn proved c ρ₀ (outside held) n (Running start) starts)
-        (never_stuck Δ bodies sound fn no_tys args held b [] proper n)
-        (λ s' t e. answer_shape Δ bodies sound fn no_tys args held b [] proper n s' t e)
+        fine_of (after bodies n start) (run_fine Θ program sound functions fn proved c ρ₀ (outside held) n (Running start) starts)
+        (never_stuck Θ bodies sound fn no_tys args held b [] proper n)
+        (λ s' t e. answer_shape Θ bodies sound fn no_tys args held b [] proper n s' t e)
 
   -- ---- every proper call
 
-  at_none : (args held : List T) (met : List Met) → IsProper Δ bodies fn no_tys args held b met → MeetsRequires Δ no_tys c (called b fn no_tys args held) args met → (n : ℕ) → IsFine Δ no_tys c (answer_ty b no_tys) (called b fn no_tys args held) args met (after bodies n (called b fn no_tys args held))
+  at_none : (args held : List T) (met : List Met) → IsProper Θ bodies fn no_tys args held b met → MeetsRequires Θ no_tys c (called b fn no_tys args held) args met → (n : ℕ) → IsFine Θ no_tys c (answer_ty b no_tys) (called b fn no_tys args held) args met (after bodies n (called b fn no_tys args held))
   at_none args held met proper meets n =
-      let none : met ≡ [] = none_met_all Δ (called b fn no_tys args held) param_list proper.typed refl scalars in
-      let Q : List Met → Type 0 = λ ms. IsProper Δ bodies fn no_tys args held b ms → MeetsRequires Δ no_tys c (called b fn no_tys args held) args ms → IsFine Δ no_tys c (answer_ty b no_tys) (called b fn no_tys args held) args ms (after bodies n (called b fn no_tys args held)) in
+      let none : met ≡ [] = none_met_all (declared Θ) (called b fn no_tys args held) param_list proper.typed refl scalars in
+      let Q : List Met → Type 0 = λ ms. IsProper Θ bodies fn no_tys args held b ms → MeetsRequires Θ no_tys c (called b fn no_tys args held) args ms → IsFine Θ no_tys c (answer_ty b no_tys) (called b fn no_tys args held) args ms (after bodies n (called b fn no_tys args held)) in
       subst Q (sym none) (λ p q. call_fine args held p q n) proper meets
 
-  at_types : (θ : Tys) (args held : List T) (met : List Met) → IsProper Δ bodies fn θ args held b met → MeetsRequires Δ θ c (called b fn θ args held) args met → (n : ℕ) → IsFine Δ θ c (answer_ty b θ) (called b fn θ args held) args met (after bodies n (called b fn θ args held))
+  at_types : (θ : Tys) (args held : List T) (met : List Met) → IsProper Θ bodies fn θ args held b met → MeetsRequires Θ θ c (called b fn θ args held) args met → (n : ℕ) → IsFine Θ θ c (answer_ty b θ) (called b fn θ args held) args met (after bodies n (called b fn θ args held))
   at_types θ args held met proper meets n =
-      let Q : Tys → Type 0 = λ τ. IsProper Δ bodies fn τ args held b met → MeetsRequires Δ τ c (called b fn τ args held) args met → IsFine Δ τ c (answer_ty b τ) (called b fn τ args held) args met (after bodies n (called b fn τ args held)) in
-      subst Q (sym proper.ground) (λ p q. at_none args held met p q n) proper meets
+      let Q : Tys → Type 0 = λ τ. IsProper Θ bodies fn τ args held b met → MeetsRequires Θ τ c (called b fn τ args held) args met → IsFine Θ τ c (answer_ty b τ) (called b fn τ args held) args met (after bodies n (called b fn τ args held)) in
+      subst Q (sym (no_types_for_none θ proper.ground)) (λ p q. at_none args held met p q n) proper meets
 
-  good_own : Good Δ bodies fn c
+  good_own : Good Θ bodies fn c
   good_own θ args held b' met proper meets n =
-      let same : b ≡ b' = some_same (sym is_body ∙ proper.of) in
-      let Q : Body → Type 0 = λ d. IsProper Δ bodies fn θ args held d met → MeetsRequires Δ θ c (called d fn θ args held) args met → IsFine Δ θ c (answer_ty d θ) (called d fn θ args held) args met (after bodies n (called d fn θ args held)) in
+      let same : b ≡ b' = same_Some _ _ (sym is_body ∙ proper.of) in
+      let Q : Body → Type 0 = λ d. IsProper Θ bodies fn θ args held d met → MeetsRequires Θ θ c (called d fn θ args held) args met → IsFine Θ θ c (answer_ty d θ) (called d fn θ args held) args met (after bodies n (called d fn θ args held)) in
       subst Q same (λ p q. at_types θ args held met p q n) proper meets
 
 -- with the contract of the function
 pub good : TrueObligationsMakeGood
-good Δ program sound functions fn c is_contract proved θ args held b met proper meets n =
+good Θ program sound functions fn c is_contract proved θ args held b met proper meets n =
     let own = functions fn b proper.of in
-    let same : own.contract ≡ c = some_same (sym own.is_contract ∙ is_contract) in
-    (subst (Good Δ program.bodies fn) same (good_own Δ program sound functions fn proved b proper.of)) θ args held b met proper meets n
+    let same : own.contract ≡ c = same_Some _ _ (sym own.is_contract ∙ is_contract) in
+    (subst (Good Θ program.bodies fn) same (good_own Θ program sound functions fn proved b proper.of)) θ args held b met proper meets n

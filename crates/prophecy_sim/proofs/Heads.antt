@@ -6,6 +6,7 @@ use Rattle.text_core.specs.declared.name.Name.{Name}
 use Rattle.logic_term.specs.declared.kinds.Label.{Label}
 use Rattle.logic_term.specs.Meaning.{Structure, Env, with_value}
 use Rattle.logic_term.specs.Sort.{HasSort, instance}
+use Rattle.logic_term.specs.Theory.{declared}
 use Rattle.logic_term.specs.Ty.{Ty}
 use Rattle.logic_term.specs.Value.{Value}
 use Rattle.logic_term.proofs.Coincide.{with_same, with_other}
@@ -20,6 +21,7 @@ use Rattle.wp_gen.specs.Walk.{is_in_loop, writes, end_writes, block_writes, loop
 use Rattle.prophecy_sim.specs.Programs.{AreNamesOfLocals}
 use Rattle.prophecy_sim.proofs.Values.{named_as}
 use Rattle.prophecy_sim.proofs.Steps.{decide}
+use Rattle.prophecy_sim.proofs.Lists.{get_first}
 
 -- ---- what a loop writes
 
@@ -65,11 +67,6 @@ loop_writes_end b h l k x is_k within w =
 
 -- ---- new values
 
-get_first : {A : Type 0} (xs : List A) (i : ℕ) → i < length xs → (x : A) × (slice_get xs i ≡ Some x)
-get_first [] i h = absurd (omega arith)
-get_first (x ∷ xs) zero h = (x, refl)
-get_first (x ∷ xs) (suc i) h = get_first xs i (omega arith)
-
 one_on : (m i : ℕ) → (m + 1) + i ≡ m + suc i
 one_on m i = omega arith
 
@@ -93,7 +90,7 @@ module _ (S : Structure) (b : Body) (named : AreNamesOfLocals b) (count : length
 
   -- the new values are of the locals' types
   abbrev AreOfTypes : (ℕ → Bool) → (ℕ → Value) → Type 0
-  AreOfTypes p val = (x : ℕ) (ty : Ty) → p x ≡ true → slice_get b.locals x ≡ Some ty → HasSort S.declared (val x) (instance S.types ty)
+  AreOfTypes p val = (x : ℕ) (ty : Ty) → p x ≡ true → slice_get b.locals x ≡ Some ty → HasSort (declared S.theory) (val x) (instance S.types ty)
 
   -- these are the types of the locals from number m on
   abbrev IsRest : ℕ → List Ty → Type 0
@@ -114,7 +111,7 @@ module _ (S : Structure) (b : Body) (named : AreNamesOfLocals b) (count : length
         by_place x n le lt px e (inr d) = rest.there x n (omega (arith, d)) (omega arith) px e
 
     -- local m has its value, and later ones do not touch its name
-    given : p m ≡ true → (n₀ : Name) → slice_get b.names m ≡ Some n₀ → HasSort S.declared (val m) (instance S.types t) → RenewedFrom p val (m + 1) ts (with_value ρ (name_of b m) (val m)) → RenewedFrom p val m (t ∷ ts) ρ
+    given : p m ≡ true → (n₀ : Name) → slice_get b.names m ≡ Some n₀ → HasSort (declared S.theory) (val m) (instance S.types t) → RenewedFrom p val (m + 1) ts (with_value ρ (name_of b m) (val m)) → RenewedFrom p val m (t ∷ ts) ρ
     given is_m n₀ e₀ sort rest = record {
       env = rest.env;
       moves = subst (λ c. MovesAll S (renewed b (if c then (m, t) ∷ picked p (m + 1) ts else picked p (m + 1) ts)) ρ rest.env) (sym is_m) (more (by_fresh (val m) sort) rest.moves);
@@ -151,7 +148,7 @@ module _ (S : Structure) (b : Body) (named : AreNamesOfLocals b) (count : length
       by_test rest true e = given p val m t ts ρ e name_at.0 name_at.1 (sorts m t e is_t) (rest (with_value ρ (name_of b m) (val m)))
       by_test rest false e = passed p val m t ts ρ e (rest ρ)
 
-  pub renewed_move : (p : ℕ → Bool) (val : ℕ → Value) (ρ : Env) → ((x : ℕ) (ty : Ty) → p x ≡ true → slice_get b.locals x ≡ Some ty → HasSort S.declared (val x) (instance S.types ty)) → Renewed p val ρ
+  pub renewed_move : (p : ℕ → Bool) (val : ℕ → Value) (ρ : Env) → ((x : ℕ) (ty : Ty) → p x ≡ true → slice_get b.locals x ≡ Some ty → HasSort (declared S.theory) (val x) (instance S.types ty)) → Renewed p val ρ
   renewed_move p val ρ sorts =
       let all = renewed_from p val sorts 0 b.locals ρ (λ i. ap (slice_get b.locals) (from_none i)) in
       record {

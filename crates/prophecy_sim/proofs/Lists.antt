@@ -1,5 +1,6 @@
 -- Elements of lists, and of their fronts and rests.
 use Rattle.std.proofs.Common.{◌≡◌, refl, ap, subst, ℕ, zero, suc, ◌+◌, ◌<◌, ◌==◌, Bool, true, false, cond, List, [], ◌∷◌, length, map, take, drop, Some, None, arith}
+use Rattle.std.proofs.lemmas.Option.{same_Some}
 use Rattle.std.specs.Prelude.{slice_get}
 use Rattle.logic_term.specs.declared.kinds.Label.{Label}
 use Rattle.mir_ir.specs.declared.body.Block.{Block}
@@ -24,9 +25,6 @@ same_head e = cc
 
 pub same_rest : {A : Type 0} {x y : A} {xs ys : List A} → x ∷ xs ≡ y ∷ ys → xs ≡ ys
 same_rest e = cc
-
-pub some_same : {A : Type 0} {a b : A} → Some a ≡ Some b → a ≡ b
-some_same e = cc
 
 pub get_first : {A : Type 0} (xs : List A) (i : ℕ) → i < length xs → (x : A) × (slice_get xs i ≡ Some x)
 get_first [] i h = absurd (omega arith)
@@ -57,5 +55,5 @@ found_block (b ∷ bs) l k e = here (b.0.0 == l.0) e (found_block bs l k)
     Found xs = (i : ℕ) × (m : Label) × (slice_get xs i ≡ Some (m, k))
 
     here : (same : Bool) → cond same (Some b.1) (block_in bs l) ≡ Some k → (block_in bs l ≡ Some k → Found bs) → Found (b ∷ bs)
-    here true e rest = (0, b.0, ap (λ (x : Block). Some (b.0, x)) (some_same e))
+    here true e rest = (0, b.0, ap (λ (x : Block). Some (b.0, x)) (same_Some _ _ e))
     here false e rest = let f = rest e in (suc f.0, f.1, f.2)

@@ -3,7 +3,7 @@ use Rattle.std.proofs.Common.{◌≡◌, ◌∙◌, ◌⊎◌, inl, inr, refl, s
 use Rattle.std.proofs.lemmas.Bool.{eqb-true}
 use Rattle.logic_term.specs.declared.kinds.Label.{Label}
 use Rattle.logic_term.specs.Meaning.{Env}
-use Rattle.logic_term.specs.Sort.{Declarations}
+use Rattle.logic_term.specs.Theory.{Theory}
 use Rattle.text_core.specs.declared.name.Name.{Name}
 use Rattle.mir_ir.specs.declared.body.Block.{Block}
 use Rattle.mir_ir.specs.declared.body.Head.{Head}
@@ -19,9 +19,6 @@ use Rattle.prophecy_sim.proofs.Values.{Matches}
 use Rattle.prophecy_sim.proofs.Steps.{at_no, IsOutside}
 
 -- ---- lists of labels
-
-some_same : {A : Type 0} {a c : A} → Some a ≡ Some c → a ≡ c
-some_same e = cc
 
 same_label : (l m : Label) → l.0 ≡ m.0 → l ≡ m
 same_label l m e = let f : ℕ → Label = λ n. record { 0 = n } in ap f e
@@ -112,9 +109,9 @@ both_empty (x ∷ xs) ys e = absurd (cc)
 
 -- ---- heads
 
-module _ (Δ : Declarations) (w : Setting) (i : IsInitialised w.body) (ρ₀ : Env) where
+module _ (Θ : Theory) (w : Setting) (i : IsInitialised w.body) (ρ₀ : Env) where
   abbrev pub KeepsParams : Env → Type 0
-  KeepsParams ρ = (n : Name) → IsOutside Δ w.body n → ρ n ≡ ρ₀ n
+  KeepsParams ρ = (n : Name) → IsOutside Θ w.body n → ρ n ≡ ρ₀ n
 
   -- none of the heads comes behind the block of the label
   abbrev pub AreBehind : List Label → Label → Type 0
@@ -137,7 +134,7 @@ module _ (Δ : Declarations) (w : Setting) (i : IsInitialised w.body) (ρ₀ : E
     pub goals : List Goal
     pub paths : ℕ
     pub walks : Walks w heads block.statements block.end goals paths
-    pub hold : GoalsHold (at_no Δ w.body) env (seen_before (head_commands w.body w.init l head) goals)
+    pub hold : GoalsHold (at_no Θ w.body) env (seen_before (head_commands w.body w.init l head) goals)
     pub unchanged : (x : ℕ) → loop_writes w.body l x ≡ false → i.at l 0 x ≡ true → σ x ≡ store x
 
   pub data Memories (σ : Store) : List Label → Type 0 where

@@ -1,5 +1,5 @@
 -- One frame: where the goals of its walk hold, its next step does not panic, and the goals of what is left hold after it.
-use Rattle.prophecy_sim.proofs.Lists.{drop_get, drop_none, found_block, same_head, same_rest, some_same, get_first, get_taken, get_behind, length_map}
+use Rattle.prophecy_sim.proofs.Lists.{drop_get, drop_none, found_block, same_head, same_rest, get_first, get_taken, get_behind}
 use Rattle.prophecy_sim.proofs.Calls.{AllShow, operands_show, overlay, overlay_named, AreExactly, with_terms_mean, all_hold, all_exactly}
 use Rattle.prophecy_sim.proofs.Arguments.{value_of, IsPlain, plain_one, plain_shows, shaped_plain, shaped_sort, values_of, AllPlain, shaped_all}
 use Rattle.mir_ir.specs.declared.terminator.FnId.TheVariants.{Body as OfBody}
@@ -11,9 +11,9 @@ use Rattle.logic_term.specs.TyView.{tys_of}
 use Rattle.std.specs.List.{list_any}
 use Rattle.logic_term.specs.declared.obligation.Contract.{Contract}
 use Rattle.std.proofs.lemmas.List.{length-take, length-drop}
-use Rattle.std.proofs.Common.{◌≡◌, ◌∙◌, ◌⊎◌, inl, inr, refl, sym, ap, subst, ℕ, zero, suc, ◌+◌, ◌≤◌, ◌&&◌, pos, Bool, true, false, cond, List, [], ◌∷◌, ◌++◌, length, drop, Option, Some, None, slice_get, true≢false, arith, map, take, slice_set, ◌<◌, ◌==◌}
+use Rattle.std.proofs.Common.{◌≡◌, ◌∙◌, ◌⊎◌, inl, inr, refl, sym, ap, subst, ℕ, suc, ◌+◌, ◌≤◌, ◌&&◌, pos, Bool, true, false, cond, List, [], ◌∷◌, ◌++◌, length, drop, Option, Some, None, slice_get, true≢false, arith, map, take, slice_set, ◌==◌}
 use Rattle.std.specs.Prelude.{not as flip, option_and_then}
-use Rattle.std.proofs.lemmas.Option.{slice_get_within}
+use Rattle.std.proofs.lemmas.Option.{same_Some, slice_get_within}
 use Rattle.text_core.specs.declared.name.Name.{Name}
 use Rattle.text_core.specs.declared.refusal.Kind.{Kind}
 use Rattle.text_core.specs.declared.refusal.Kind.TheVariants.{InvEntry, InvKept, Ensures, Requires}
@@ -26,8 +26,9 @@ use Rattle.logic_term.specs.Free.{free}
 use Rattle.logic_term.specs.Term.{Term, var}
 use Rattle.logic_term.proofs.Alike.{yes_alike, alike_same}
 use Rattle.logic_term.proofs.FreeLaw.{coincide_free, same_name}
-use Rattle.logic_term.specs.Meaning.{Structure, Env, Means, Holds, with_value}
-use Rattle.logic_term.specs.Sort.{Declarations, HasSort, instance, of_int, of_bool, of_tuple, of_none, nth_ty}
+use Rattle.logic_term.specs.Meaning.{Structure, Env, Means, Holds, with_value, structure_of}
+use Rattle.logic_term.specs.Sort.{HasSort, instance, of_int, of_bool, of_tuple, of_none, nth_ty}
+use Rattle.logic_term.specs.Theory.{Theory, declared}
 use Rattle.logic_term.specs.Term as terms
 use Rattle.logic_term.specs.Ty.{Ty, int, bool, tuple, no_tys, unit_ty}
 use Rattle.logic_term.specs.Value.{Value, Number, Flag, Made, no_values, nothing}
@@ -67,7 +68,7 @@ use Rattle.prophecy_sim.proofs.Steps.{quiet_both, taken_before, all_taken_before
 
 pub first_ty : (ts : List Ty) (ty : Ty) → slice_get ts 0 ≡ Some ty → nth_ty (tys_of ts) 0 ≡ ty
 first_ty [] ty e = absurd (cc)
-first_ty (t ∷ ts) ty e = some_same e
+first_ty (t ∷ ts) ty e = same_Some _ _ e
 
 pub params_length : (c : Body) → c.params + 1 ≤ length c.locals → length (take c.params (drop 1 c.locals)) ≡ c.params
 params_length c l = grind (arith, length-take, length-drop, l)
@@ -93,15 +94,15 @@ walk_statement (return e) st sts q = absurd (cc)
 -- ---- calls and answers
 
 -- the answer of a function with the contract, which was called in the environment: its type is right, and each `ensures` is true
-pub record IsAnswer (Δ : Declarations) (bodies : List Body) (n : ℕ) (c : Contract) (ρ : Env) (t : T) : Type 0 where
+pub record IsAnswer (Θ : Theory) (bodies : List Body) (n : ℕ) (c : Contract) (ρ : Env) (t : T) : Type 0 where
   pub body : Body
   pub is_body : slice_get bodies n ≡ Some body
   pub shape : Shape (answer_ty body no_tys) t
   pub plain : IsPlain t
-  pub posts : Each (λ (p : Term). Holds (record { declared = Δ; types = no_tys }) p (with_value ρ c.answer (value_of t))) c.post
+  pub posts : Each (λ (p : Term). Holds (structure_of Θ no_tys) p (with_value ρ c.answer (value_of t))) c.post
 
 -- the frame begins a call of a function whose `requires` are true of the arguments
-pub record Entered (Δ : Declarations) (p : Program) (g : Frame (Unit {0})) : Type 0 where
+pub record Entered (Θ : Theory) (p : Program) (g : Frame (Unit {0})) : Type 0 where
   pub function : ℕ
   pub body : Body
   pub contract : Contract
@@ -110,9 +111,9 @@ pub record Entered (Δ : Declarations) (p : Program) (g : Frame (Unit {0})) : Ty
   pub args : List T
   pub is_frame : g ≡ entered body function no_tys args
   pub shaped : (length args ≡ length (take body.params (drop 1 body.locals))) × AreShaped no_tys args (take body.params (drop 1 body.locals))
-  pub pre : Each (λ (t : Term). Holds (record { declared = Δ; types = no_tys }) t (named contract.params (values_of args))) contract.pre
+  pub pre : Each (λ (t : Term). Holds (structure_of Θ no_tys) t (named contract.params (values_of args))) contract.pre
 
-module _ (Δ : Declarations) (program : Program) (sound : AreSound program.bodies) (functions : AreFunctions program sound) (fn : ℕ) (b : Body) (is_body : slice_get program.bodies fn ≡ Some b) (ρ₀ : Env) where
+module _ (Θ : Theory) (program : Program) (sound : AreSound program.bodies) (functions : AreFunctions program sound) (fn : ℕ) (b : Body) (is_body : slice_get program.bodies fn ≡ Some b) (ρ₀ : Env) where
   abbrev bodies : List Body
   bodies = program.bodies
 
@@ -129,9 +130,9 @@ module _ (Δ : Declarations) (program : Program) (sound : AreSound program.bodie
   w = setting program fn b own.contract
 
   abbrev S : Structure
-  S = at_no Δ b
+  S = at_no Θ b
 
-  params_outside : (x : Name) → IsOneOf x own.contract.params → IsOutside Δ b x
+  params_outside : (x : Name) → IsOneOf x own.contract.params → IsOutside Θ b x
   params_outside x one = ((λ y n e q. own.speaks.no_local one.0 y x n one.1 e q), own.speaks.none_is_new one.0 x one.1)
 
   abbrev typed : IsTyped bodies b
@@ -142,16 +143,16 @@ module _ (Δ : Declarations) (program : Program) (sound : AreSound program.bodie
 
   -- the names outside of the body have the values that they had at the entry
   abbrev pub KeepsOutside : Env → Type 0
-  KeepsOutside = KeepsParams Δ w initialised ρ₀
+  KeepsOutside = KeepsParams Θ w initialised ρ₀
 
   abbrev Remembers : Store → List Label → Type 0
-  Remembers = Memories Δ w initialised ρ₀
+  Remembers = Memories Θ w initialised ρ₀
 
   abbrev Head_of : Label → List Label → Store → Type 0
-  Head_of = Passed Δ w initialised ρ₀
+  Head_of = Passed Θ w initialised ρ₀
 
   abbrev Comes_to : Store → List Label → Label → Type 0
-  Comes_to = Reached Δ w initialised ρ₀
+  Comes_to = Reached Θ w initialised ρ₀
 
   pub record Standing (f : Frame (Unit {0})) : Type 0 where
     pub function : f.function ≡ fn
@@ -173,16 +174,16 @@ module _ (Δ : Declarations) (program : Program) (sound : AreSound program.bodie
     -- what is remembered of the loops around
     pub nested : Remembers store block.nest
     pub enclosing : AllAmong block.nest heads
-    pub behind : AreBehind Δ w initialised ρ₀ heads f.label
+    pub behind : AreBehind Θ w initialised ρ₀ heads f.label
 
   -- after the call, with any answer that meets the callee's contract, the frame goes on
   abbrev pub GoesOn : Frame (Unit {0}) → ℕ → Contract → Env → Type 0
-  GoesOn f n c ρ = (t : T) → IsAnswer Δ bodies n c ρ t → Quiet Standing (resumed bodies t f)
+  GoesOn f n c ρ = (t : T) → IsAnswer Θ bodies n c ρ t → Quiet Standing (resumed bodies t f)
 
   abbrev pub EndsFine : FrameEnd (Unit {0}) → Type 0
   EndsFine (Stays f) = Standing f
-  EndsFine (Calls f g) = (e : Entered Δ program g) × (f.function ≡ fn) × CallsBody bodies fn e.function × GoesOn f e.function e.contract (named e.contract.params (values_of e.args))
-  EndsFine (Answers t) = IsAnswer Δ bodies fn own.contract ρ₀ t
+  EndsFine (Calls f g) = (e : Entered Θ program g) × (f.function ≡ fn) × CallsBody bodies fn e.function × GoesOn f e.function e.contract (named e.contract.params (values_of e.args))
+  EndsFine (Answers t) = IsAnswer Θ bodies fn own.contract ρ₀ t
 
   -- ---- arrivals
 
@@ -196,7 +197,7 @@ module _ (Δ : Declarations) (program : Program) (sound : AreSound program.bodie
     pub keeps : KeepsOutside env
 
   some_same_block : (k to : Block) (l : Label) → block_in b.blocks l ≡ Some k → block_in b.blocks l ≡ Some to → to ≡ k
-  some_same_block k to l e f = some_same (sym f ∙ e)
+  some_same_block k to l e f = same_Some _ _ (sym f ∙ e)
 
   -- ---- at the head of a loop
 
@@ -222,17 +223,17 @@ module _ (Δ : Declarations) (program : Program) (sound : AreSound program.bodie
   zero_fits U64 = refl
   zero_fits Usize = refl
 
-  default_sort : (ty : Ty) → IsScalar ty → HasSort Δ (default_of ty) (instance no_tys ty)
+  default_sort : (ty : Ty) → IsScalar ty → HasSort (declared Θ) (default_of ty) (instance no_tys ty)
   unfolding default_of
   default_sort (int k) scalar = of_int (zero_fits k)
   default_sort bool scalar = of_bool
   default_sort (tuple no_tys) scalar = of_tuple of_none
   default_sort _ scalar = absurd scalar
 
-  value_sort : (ty : Ty) (v : Value) → IsScalar ty → ValueHas ty v → HasSort Δ v (instance no_tys ty)
-  value_sort (int k) v scalar (z, is, f) = subst (λ u. HasSort Δ u (int k)) (sym is) (of_int f)
-  value_sort bool v scalar (c, is) = subst (λ u. HasSort Δ u bool) (sym is) of_bool
-  value_sort (tuple no_tys) v scalar is = subst (λ u. HasSort Δ u unit_ty) (sym is) (of_tuple of_none)
+  value_sort : (ty : Ty) (v : Value) → IsScalar ty → ValueHas ty v → HasSort (declared Θ) v (instance no_tys ty)
+  value_sort (int k) v scalar (z, is, f) = subst (λ u. HasSort (declared Θ) u (int k)) (sym is) (of_int f)
+  value_sort bool v scalar (c, is) = subst (λ u. HasSort (declared Θ) u bool) (sym is) of_bool
+  value_sort (tuple no_tys) v scalar is = subst (λ u. HasSort (declared Θ) u unit_ty) (sym is) (of_tuple of_none)
   value_sort _ v scalar h = absurd scalar
 
   not_both : (p q : Bool) → q ≡ false → (p && flip q) ≡ false → p ≡ false
@@ -263,12 +264,12 @@ module _ (Δ : Declarations) (program : Program) (sound : AreSound program.bodie
     unfolding ty_or
     ty_is x ty e = ap ty_or e
 
-    new_sort : (x : ℕ) (ty : Ty) → slice_get b.locals x ≡ Some ty → HasSort Δ (new_value x) (instance no_tys ty)
+    new_sort : (x : ℕ) (ty : Ty) → slice_get b.locals x ≡ Some ty → HasSort (declared Θ) (new_value x) (instance no_tys ty)
     new_sort x ty is_ty = by_test (initialised.at l 0 x) refl
       where
-        by_test : (t : Bool) → initialised.at l 0 x ≡ t → HasSort Δ (new_value x) (instance no_tys ty)
-        by_test true e = subst (λ v. HasSort Δ v (instance no_tys ty)) (sym (there_value x e)) (value_sort ty (c.store x) (simple.scalars x ty is_ty) (local_has b (initialised.at l 0) ls c.store x ty c.fitting c.agrees is_ty e))
-        by_test false e = subst (λ v. HasSort Δ v (instance no_tys ty)) (sym (gone_value x e ∙ ap default_of (ty_is x ty is_ty))) (default_sort ty (simple.scalars x ty is_ty))
+        by_test : (t : Bool) → initialised.at l 0 x ≡ t → HasSort (declared Θ) (new_value x) (instance no_tys ty)
+        by_test true e = subst (λ v. HasSort (declared Θ) v (instance no_tys ty)) (sym (there_value x e)) (value_sort ty (c.store x) (simple.scalars x ty is_ty) (local_has b (initialised.at l 0) ls c.store x ty c.fitting c.agrees is_ty e))
+        by_test false e = subst (λ v. HasSort (declared Θ) v (instance no_tys ty)) (sym (gone_value x e ∙ ap default_of (ty_is x ty is_ty))) (default_sort ty (simple.scalars x ty is_ty))
 
     abbrev again_env : Renewed S b simple.names typed.named (is_renewed b w.init l) new_value p.env
     again_env = renewed_move S b simple.names typed.named (is_renewed b w.init l) new_value p.env (λ x ty t is_ty. new_sort x ty is_ty)
@@ -335,7 +336,7 @@ module _ (Δ : Declarations) (program : Program) (sound : AreSound program.bodie
     | inr q ↦ subst (λ k. among k (l ∷ heads) ≡ true) q (among_first l heads)
   ]
 
-  still_behind : (l : Label) (heads : List Label) → AreBehind Δ w initialised ρ₀ heads l → AreBehind Δ w initialised ρ₀ (l ∷ heads) l
+  still_behind : (l : Label) (heads : List Label) → AreBehind Θ w initialised ρ₀ heads l → AreBehind Θ w initialised ρ₀ (l ∷ heads) l
   still_behind l heads h m e = elim (among_head m l heads e) [
     | inl q ↦ subst (λ k. place_of b.blocks k ≤ place_of b.blocks l) q (omega arith)
     | inr a ↦ h m a
@@ -396,7 +397,7 @@ module _ (Δ : Declarations) (program : Program) (sound : AreSound program.bodie
   arrived (again k h is_block e passed) f ls function types c (onward to outer is_to is_around ms sub behind fresh) hold = absurd (fresh passed)
   arrived {l = l} (again k h is_block e passed) f ls function types c (backward to h' outer is_to is_head a ms p) hold =
       let same : p.block ≡ k = some_same_block k p.block l is_block p.is_block in
-      let head : h ≡ p.head = some_same (sym e ∙ subst (λ (x : Block). x.head ≡ Some p.head) same p.is_head) in
+      let head : h ≡ p.head = same_Some _ _ (sym e ∙ subst (λ (x : Block). x.head ≡ Some p.head) same p.is_head) in
       at_head f l ls c outer p function types ms (subst (λ (x : Head). Each (λ t. Holds S t c.env) x.invariants) head (each_holds S InvKept h.invariants h.spans c.env hold))
 
   -- ---- ends of blocks
@@ -450,7 +451,7 @@ module _ (Δ : Declarations) (program : Program) (sound : AreSound program.bodie
         value = operand_value st.store o
 
         exactly : Exactly (Means S (operand_term b o) st.env) value
-        exactly = operand_means Δ bodies b typed simple.names end_set st.store st.env o bool has can m
+        exactly = operand_means Θ bodies b typed simple.names end_set st.store st.env o bool has can m
 
         taken_matches : Matches b (taken o end_set) st.store st.env
         taken_matches x n inside e = m x n (taken_before o end_set x inside) e
@@ -532,13 +533,13 @@ module _ (Δ : Declarations) (program : Program) (sound : AreSound program.bodie
       waiting = record f { locals = ls }
 
       speaks : SpeaksOf c d
-      speaks = subst (SpeaksOf c) (some_same (sym callee.is_contract ∙ is_d)) callee.speaks
+      speaks = subst (SpeaksOf c) (same_Some _ _ (sym callee.is_contract ∙ is_d)) callee.speaks
 
       args_plain : AllPlain args
       args_plain = shaped_all args (take c.params (drop 1 c.locals)) shaped.0 shaped.1 (λ i ty e. callee.simple.scalars (suc i) ty (get_behind c.locals i ty (get_taken (drop 1 c.locals) c.params i ty e)))
 
       exactly : AreExactly S operand_terms argument_values st.env
-      exactly = all_exactly Δ bodies b typed simple.names end_set st.store st.env args os (take c.params (drop 1 c.locals)) have can m shows args_plain
+      exactly = all_exactly Θ bodies b typed simple.names end_set st.store st.env args os (take c.params (drop 1 c.locals)) have can m shows args_plain
 
       count : length d.params ≡ length args
       count = speaks.count ∙ sym (params_length c ((sound n c is_c).0.answers)) ∙ sym shaped.0
@@ -551,7 +552,7 @@ module _ (Δ : Declarations) (program : Program) (sound : AreSound program.bodie
             pre_hold ts over.1 h.1,
           )
 
-      entering : Entered Δ program (entered c n no_tys args)
+      entering : Entered Θ program (entered c n no_tys args)
       entering = record {
         function = n;
         body = c;
@@ -564,7 +565,7 @@ module _ (Δ : Declarations) (program : Program) (sound : AreSound program.bodie
         pre = pre_hold d.pre speaks.before (all_hold S Requires at (map (at_arguments b d os) d.pre) st.env (goals_first S st.env (goals_of_call b d at os) (seen_before (call_commands b d p.local t os) gs) hold));
       }
 
-      module _ (t' : T) (a : IsAnswer Δ bodies n d called_in t') where
+      module _ (t' : T) (a : IsAnswer Θ bodies n d called_in t') where
         abbrev v : Value
         v = value_of t'
 
@@ -581,7 +582,7 @@ module _ (Δ : Declarations) (program : Program) (sound : AreSound program.bodie
         new_exactly = subst (λ x. Exactly (Means S (var value_name) with_new) x) (with_same st.env value_name v) (alike_same _)
 
         all_new : AreExactly S (var value_name ∷ operand_terms) (v ∷ argument_values) with_new
-        all_new = (new_exactly, all_exactly Δ bodies b typed simple.names end_set st.store with_new args os (take c.params (drop 1 c.locals)) have can (matches_new Δ bodies b typed simple.names end_set st.store st.env v m) shows args_plain)
+        all_new = (new_exactly, all_exactly Θ bodies b typed simple.names end_set st.store with_new args os (take c.params (drop 1 c.locals)) have can (matches_new Θ bodies b typed simple.names end_set st.store st.env v m) shows args_plain)
 
         posts_there : (ts : List Term) → Each (λ (q : Term). (x : Name) → free x q ≡ true → (x.0 ≡ d.answer.0 → ⊥) → IsOneOf x d.params) ts → Each (λ q. Holds S q (with_value called_in d.answer v)) ts → Each (λ q. Holds S q with_new) (map (at_arguments_and_answer b d os) ts)
         posts_there [] over h = tt
@@ -598,10 +599,10 @@ module _ (Δ : Declarations) (program : Program) (sound : AreSound program.bodie
                 with_other called_in d.answer x v r ∙ sym (overlay_named d.params args with_new one.0 x one.1 (omega (arith, slice_get_within d.params one.0 x one.1, count))) ∙ sym (with_other (overlay d.params argument_values with_new) d.answer x v r)
 
         shape : Shape (instance no_tys u) t'
-        shape = subst (λ ty. Shape ty t') (ap (instance no_tys) (first_ty c.locals u first_local)) (subst (λ (x : Body). Shape (answer_ty x no_tys) t') (some_same (sym a.is_body ∙ is_c)) a.shape)
+        shape = subst (λ ty. Shape ty t') (ap (instance no_tys) (first_ty c.locals u first_local)) (subst (λ (x : Body). Shape (answer_ty x no_tys) t') (same_Some _ _ (sym a.is_body ∙ is_c)) a.shape)
 
-        sort : HasSort Δ v (instance no_tys t)
-        sort = subst (λ ty. HasSort Δ v (instance no_tys ty)) (some_same (sym place.1 ∙ is_t)) (shaped_sort Δ u t' (simple.scalars p.local u place.1) shape)
+        sort : HasSort (declared Θ) v (instance no_tys t)
+        sort = subst (λ ty. HasSort (declared Θ) v (instance no_tys ty)) (same_Some _ _ (sym place.1 ∙ is_t)) (shaped_sort (declared Θ) u t' (simple.scalars p.local u place.1) shape)
 
         moves : MovesAll S (call_commands b d p.local t os) st.env with_place
         moves = more (by_fresh v sort) (then_moves S (assumed_move S (map (at_arguments_and_answer b d os) d.post) with_new (posts_there d.post speaks.over a.posts)) (more (by_set v new_exactly) none))
@@ -617,7 +618,7 @@ module _ (Δ : Declarations) (program : Program) (sound : AreSound program.bodie
           where
             by_test : (c : Bool) → (p.local == x) ≡ c → with_answer x ≡ st.store x
             by_test true e = absurd (true≢false (sym (loop_writes_end b h f.label st.block x st.is_block inside_h (ap (end_writes x) kind ∙ or_first (p.local == x) (list_any (moves_out x) os) e)) ∙ not_there))
-            by_test false e = not_written Δ b bodies typed simple.names st.store p.local x v e
+            by_test false e = not_written Θ b bodies typed simple.names st.store p.local x v e
 
         after : (ls' : List T) → Fits b no_tys (with p.local (all_taken os end_set)) ls' → Agrees ls' with_answer → Standing (starting waiting ls' l)
         after ls' fits' agrees' =
@@ -628,7 +629,7 @@ module _ (Δ : Declarations) (program : Program) (sound : AreSound program.bodie
               agrees = agrees';
               env = with_place;
               matches = matches_within (initialised.at l 0) (with p.local (all_taken os end_set)) with_answer with_place within
-                  (put_matches Δ b bodies typed simple.names (all_taken os end_set) st.store st.env with_place p.local u v place.1 still_matches (with_same with_new (name_of b p.local) v)
+                  (put_matches Θ b bodies typed simple.names (all_taken os end_set) st.store st.env with_place p.local u v place.1 still_matches (with_same with_new (name_of b p.local) v)
                   (λ n' not_place not_new. with_other with_new (name_of b p.local) n' v not_place ∙ with_other st.env value_name n' v not_new));
               keeps = λ n' out. with_other with_new (name_of b p.local) n' v (λ q. out.0 p.local place_name.0 place_name.1 (q ∙ ap (λ (z : Name). z.0) (named_as b p.local place_name.0 place_name.1)))
                   ∙ with_other st.env value_name n' v out.1 ∙ st.keeps n' out;
@@ -717,8 +718,8 @@ module _ (Δ : Declarations) (program : Program) (sound : AreSound program.bodie
         let rows = initialised.statements f.label st.block f.statement s st.is_block e in
         let set = initialised.at f.label f.statement in
         subst (λ θ. Quiet EndsFine (run_local b θ f.locals s.span s.kind >>= λ ls. Yields (Stays (record f { locals = ls; statement = f.statement + 1 })))) (sym st.types)
-        (quiet_then (After Δ b s.kind set st.store st.env) EndsFine (run_local b no_tys f.locals s.span s.kind) (λ ls. Yields (Stays (record f { locals = ls; statement = f.statement + 1 })))
-        (statement_quiet Δ b bodies typed simple.names s.kind set f.locals st.store st.env s.span (typed.statements f.label st.block f.statement s st.is_block e) rows.0 st.fitting st.agrees st.matches
+        (quiet_then (After Θ b s.kind set st.store st.env) EndsFine (run_local b no_tys f.locals s.span s.kind) (λ ls. Yields (Stays (record f { locals = ls; statement = f.statement + 1 })))
+        (statement_quiet Θ b bodies typed simple.names s.kind set f.locals st.store st.env s.span (typed.statements f.label st.block f.statement s st.is_block e) rows.0 st.fitting st.agrees st.matches
         (goals_first S st.env (goals_of b s.span s.kind) (seen_before (commands_of b s.kind) split.0) hold))
         (λ ls a. record {
           function = st.function;
@@ -737,7 +738,7 @@ module _ (Δ : Declarations) (program : Program) (sound : AreSound program.bodie
           paths = st.paths;
           walks = split.2;
           hold = goals_moved S split.0 a.moves (goals_rest S st.env (goals_of b s.span s.kind) (seen_before (commands_of b s.kind) split.0) hold);
-          nested = memories_kept Δ w initialised ρ₀ st.nested (λ h x inside unwritten. a.others x (not_written h x s e inside unwritten));
+          nested = memories_kept Θ w initialised ρ₀ st.nested (λ h x inside unwritten. a.others x (not_written h x s e inside unwritten));
           enclosing = st.enclosing;
           behind = st.behind;
         }))
@@ -755,7 +756,7 @@ module _ (Δ : Declarations) (program : Program) (sound : AreSound program.bodie
         end_comes st.walks (drop_none st.block.statements f.statement e) refl st.hold
         (subst (λ i. Fits b no_tys (initialised.at f.label i) f.locals) here st.fitting)
         (subst (λ i. Matches b (initialised.at f.label i) st.store st.env) here st.matches)
-        (λ τ same k a. reached Δ w initialised ρ₀ τ st.heads f.label k st.block (memories_kept Δ w initialised ρ₀ st.nested same) st.enclosing st.behind (simple.laid_out.edges f.label k st.block st.is_block a))
+        (λ τ same k a. reached Θ w initialised ρ₀ τ st.heads f.label k st.block (memories_kept Θ w initialised ρ₀ st.nested same) st.enclosing st.behind (simple.laid_out.edges f.label k st.block st.is_block a))
 
     row_comes : (o : Option Statement) → slice_get st.block.statements f.statement ≡ o → Quiet EndsFine (frame_row bodies b f st.block.end o)
     row_comes (Some s) e = at_statement s e

@@ -1,12 +1,13 @@
 -- A program with a loop and a call meets the conditions of the law, and its obligations are true.
 use Rattle.std.proofs.Common.{◌≡◌, ◌∙◌, inl, inr, refl, sym, ap, subst, ℕ, zero, suc, ◌+◌, ◌<◌, ◌≤◌, ◌==◌, ◌⊎◌, ◌||◌, ◌&&◌, Bool, true, false, cond, true≢false, List, Some, [], ◌∷◌, length, slice_get, arith}
+use Rattle.std.proofs.lemmas.Option.{same_Some}
 use Rattle.std.proofs.lemmas.Bool.{eqb-true}
 use Rattle.std.proofs.lemmas.Bool.Decides.{nat_tests}
 use Rattle.text_core.specs.declared.name.Name.{Name}
 use Rattle.logic_term.specs.declared.kinds.Label.{Label}
 use Rattle.logic_term.specs.Free.{free}
 use Rattle.logic_term.specs.Meaning.{Sure, Says, Yes}
-use Rattle.logic_term.specs.Sort.{Declarations}
+use Rattle.logic_term.specs.Theory.{Theory}
 use Rattle.logic_term.specs.Term.{Term}
 use Rattle.logic_term.specs.Ty.{Ty, bool}
 use Rattle.logic_term.specs.Value.{Flag, flag_of}
@@ -26,9 +27,6 @@ use Rattle.prophecy_sim.specs.Programs.{IsScalar, IsOneOf, IsNameIn, SpeaksOf, I
 use Rattle.prophecy_sim.specs.Sample.{label, whole, name, head, cleared, caller, is_false, program, SampleIsSound, SampleIsTrue, SampleIsGood}
 use Rattle.prophecy_sim.proofs.GoodBody.{good}
 
-some_same : {A : Type 0} {a b : A} → Some a ≡ Some b → a ≡ b
-some_same e = cc
-
 same_label : (l m : Label) → (l.0 == m.0) ≡ true → l ≡ m
 same_label l m e = ap (λ n. let r : Label = record { 0 = n } in r) (eqb-true l.0 m.0 e)
 
@@ -43,7 +41,7 @@ block_found P [] l k h e = absurd (cc)
 block_found P (b ∷ bs) l k h e = by_test (block_found P bs l k h.1) (b.0.0 == l.0) refl e
   where
     by_test : (block_in bs l ≡ Some k → P l k) → (t : Bool) → (b.0.0 == l.0) ≡ t → cond t (Some b.1) (block_in bs l) ≡ Some k → P l k
-    by_test rest true same q = subst (P l) (some_same q) (subst (λ (m : Label). P m b.1) (same_label b.0 l same) h.0)
+    by_test rest true same q = subst (P l) (same_Some _ _ q) (subst (λ (m : Label). P m b.1) (same_label b.0 l same) h.0)
     by_test rest false other q = rest q
 
 abbrev EachLabel : (Label → Type 0) → List Label → Type 0
@@ -65,7 +63,7 @@ EachStatement P i (st ∷ sts) = P i st × EachStatement P (i + 1) sts
 
 statement_found : (P : ℕ → Statement → Type 0) (i : ℕ) (sts : List Statement) (j : ℕ) (st : Statement) → EachStatement P i sts → slice_get sts j ≡ Some st → P (i + j) st
 statement_found P i [] j st h e = absurd (cc)
-statement_found P i (s ∷ sts) zero st h e = subst (P (i + 0)) (some_same e) (subst (λ n. P n s) (here i) h.0)
+statement_found P i (s ∷ sts) zero st h e = subst (P (i + 0)) (same_Some _ _ e) (subst (λ n. P n s) (here i) h.0)
   where
     here : (i : ℕ) → i ≡ i + 0
     here i = omega arith
@@ -167,12 +165,12 @@ caller_initialised = initialised_of caller caller_sets caller_blocks_sound (λ x
 -- ---- names
 
 local_number : (x : ℕ) (n : Name) → slice_get cleared.names x ≡ Some n → (n.0 ≡ 100 + x) × (x < 2)
-local_number zero n e = (ap (λ (m : Name). m.0) (sym (some_same e)), omega arith)
-local_number (suc zero) n e = (ap (λ (m : Name). m.0) (sym (some_same e)), omega arith)
+local_number zero n e = (ap (λ (m : Name). m.0) (sym (same_Some _ _ e)), omega arith)
+local_number (suc zero) n e = (ap (λ (m : Name). m.0) (sym (same_Some _ _ e)), omega arith)
 local_number (suc (suc x)) n e = absurd (cc)
 
 param_number : (i : ℕ) (n : Name) → slice_get is_false.params i ≡ Some n → (n.0 ≡ 10) × (i ≡ 0)
-param_number zero n e = (ap (λ (m : Name). m.0) (sym (some_same e)), refl)
+param_number zero n e = (ap (λ (m : Name). m.0) (sym (same_Some _ _ e)), refl)
 param_number (suc i) n e = absurd (cc)
 
 not_new : (n : Name) → n.0 < 200 → n.0 ≡ value_name.0 → ⊥
@@ -216,8 +214,8 @@ simple = record {
     apart x y n m e f q = omega arith
 
     scalar : (x : ℕ) (ty : Ty) → slice_get cleared.locals x ≡ Some ty → IsScalar ty
-    scalar zero ty e = subst IsScalar (some_same e) tt
-    scalar (suc zero) ty e = subst IsScalar (some_same e) tt
+    scalar zero ty e = subst IsScalar (same_Some _ _ e) tt
+    scalar (suc zero) ty e = subst IsScalar (same_Some _ _ e) tt
     scalar (suc (suc x)) ty e = absurd (cc)
 
 caller_leads_on : EachBlock (λ l k. EachLabel (Leads caller l k) (targets k.end.kind)) caller.blocks
@@ -301,7 +299,7 @@ heads_speak i has = record {
     one_of x false false e f q = absurd (true≢false (sym q))
 
     speaks_there : (h : Head) → Some head ≡ Some h → Each (λ (t : Term). (x : Name) → free x t ≡ true → IsOneOf x is_false.params ⊎ IsNameIn cleared (i.at (label 1) 0) x) h.invariants
-    speaks_there h e = subst (λ (g : Head). Each (λ (t : Term). (x : Name) → free x t ≡ true → IsOneOf x is_false.params ⊎ IsNameIn cleared (i.at (label 1) 0) x) g.invariants) (some_same e) ((λ x f. one_of x (x.0 == 100) (x.0 == 10) refl refl f), tt)
+    speaks_there h e = subst (λ (g : Head). Each (λ (t : Term). (x : Name) → free x t ≡ true → IsOneOf x is_false.params ⊎ IsNameIn cleared (i.at (label 1) 0) x) g.invariants) (same_Some _ _ e) ((λ x f. one_of x (x.0 == 100) (x.0 == 10) refl refl f), tt)
 
 caller_heads_speak : (i : IsInitialised caller) → HasSets caller_sets i → HeadsSpeakOf caller is_false (program.gone 1) i
 caller_heads_speak i has = record {
@@ -322,8 +320,8 @@ no_more : (f : ℕ) (b : Body) → slice_get program.bodies (suc (suc f)) ≡ So
 no_more f b e = absurd (cc)
 
 abbrev sound : AreSound program.bodies
-sound zero b e = (subst (IsTyped program.bodies) (some_same e) typed, (moved b (some_same e)).0)
-sound (suc zero) b e = (subst (IsTyped program.bodies) (some_same e) caller_typed, (caller_moved b (some_same e)).0)
+sound zero b e = (subst (IsTyped program.bodies) (same_Some _ _ e) typed, (moved b (same_Some _ _ e)).0)
+sound (suc zero) b e = (subst (IsTyped program.bodies) (same_Some _ _ e) caller_typed, (caller_moved b (same_Some _ _ e)).0)
 sound (suc (suc f)) b e = absurd (no_more f b e)
 
 heads_of : (b : Body) → cleared ≡ b → (i : IsInitialised b) → HasSets sets i → HeadsSpeakOf b is_false (program.gone 0) i
@@ -336,16 +334,16 @@ functions : AreFunctions program sound
 functions zero b e = record {
   contract = is_false;
   is_contract = refl;
-  simple = subst IsSimple (some_same e) simple;
-  speaks = subst (λ d. SpeaksOf d is_false) (some_same e) speaks;
-  heads = heads_of b (some_same e) (moved b (some_same e)).0 (moved b (some_same e)).1;
+  simple = subst IsSimple (same_Some _ _ e) simple;
+  speaks = subst (λ d. SpeaksOf d is_false) (same_Some _ _ e) speaks;
+  heads = heads_of b (same_Some _ _ e) (moved b (same_Some _ _ e)).0 (moved b (same_Some _ _ e)).1;
 }
 functions (suc zero) b e = record {
   contract = is_false;
   is_contract = refl;
-  simple = subst IsSimple (some_same e) caller_simple;
-  speaks = subst (λ d. SpeaksOf d is_false) (some_same e) caller_speaks;
-  heads = caller_heads_of b (some_same e) (caller_moved b (some_same e)).0 (caller_moved b (some_same e)).1;
+  simple = subst IsSimple (same_Some _ _ e) caller_simple;
+  speaks = subst (λ d. SpeaksOf d is_false) (same_Some _ _ e) caller_speaks;
+  heads = caller_heads_of b (same_Some _ _ e) (caller_moved b (same_Some _ _ e)).0 (caller_moved b (same_Some _ _ e)).1;
 }
 functions (suc (suc n)) b e = absurd (no_more n b e)
 
@@ -361,8 +359,8 @@ none_is_both h = h (λ e. true≢false (ap flag_of e))
 is_true : (P : Type 0) → P → Yes (Says P)
 is_true P p n = n (true, refl, p)
 
-true_obligations : (Δ : Declarations) → HasTrueObligations Δ (setting program 0 cleared is_false)
-true_obligations Δ = record {
+true_obligations : (Θ : Theory) → HasTrueObligations Θ (setting program 0 cleared is_false)
+true_obligations Θ = record {
   first = 1;
   obligations = _;
   paths = _;
@@ -391,9 +389,9 @@ true_obligations Δ = record {
 }
 
 -- of the call its `ensures` alone is known, which says the same of the answer
-caller_true_obligations : (Δ : Declarations) → HasTrueObligations Δ (setting program 1 caller is_false)
+caller_true_obligations : (Θ : Theory) → HasTrueObligations Θ (setting program 1 caller is_false)
 unfolding value_name
-caller_true_obligations Δ = record {
+caller_true_obligations Θ = record {
   first = 1;
   obligations = _;
   paths = _;
@@ -410,14 +408,14 @@ caller_true_obligations Δ = record {
 }
 
 pub sample_true : SampleIsTrue
-sample_true Δ zero b c e f = subst (λ d. HasTrueObligations Δ (setting program 0 b d)) (some_same f) (subst (λ d. HasTrueObligations Δ (setting program 0 d is_false)) (some_same e) (true_obligations Δ))
-sample_true Δ (suc zero) b c e f = subst (λ d. HasTrueObligations Δ (setting program 1 b d)) (some_same f) (subst (λ d. HasTrueObligations Δ (setting program 1 d is_false)) (some_same e) (caller_true_obligations Δ))
-sample_true Δ (suc (suc n)) b c e f = absurd (no_more n b e)
+sample_true Θ zero b c e f = subst (λ d. HasTrueObligations Θ (setting program 0 b d)) (same_Some _ _ f) (subst (λ d. HasTrueObligations Θ (setting program 0 d is_false)) (same_Some _ _ e) (true_obligations Θ))
+sample_true Θ (suc zero) b c e f = subst (λ d. HasTrueObligations Θ (setting program 1 b d)) (same_Some _ _ f) (subst (λ d. HasTrueObligations Θ (setting program 1 d is_false)) (same_Some _ _ e) (caller_true_obligations Θ))
+sample_true Θ (suc (suc n)) b c e f = absurd (no_more n b e)
 
 -- ---- the law of these conditions
 
 pub sample_good : SampleIsGood
-sample_good Δ = (
-  good Δ program sound functions 0 is_false refl (λ n b c reached e f. sample_true Δ n b c e f),
-  good Δ program sound functions 1 is_false refl (λ n b c reached e f. sample_true Δ n b c e f),
+sample_good Θ = (
+  good Θ program sound functions 0 is_false refl (λ n b c reached e f. sample_true Θ n b c e f),
+  good Θ program sound functions 1 is_false refl (λ n b c reached e f. sample_true Θ n b c e f),
 )

@@ -3,8 +3,8 @@ use Rattle.std.proofs.Common.{◌≡◌, ◌∙◌, ◌⊎◌, inl, inr, refl, s
 use Rattle.std.proofs.lemmas.Bool.{eqb-true}
 use Rattle.text_core.specs.declared.name.Name.{Name}
 use Rattle.text_core.specs.declared.span.Span.{Span}
-use Rattle.logic_term.specs.Meaning.{Structure, Env}
-use Rattle.logic_term.specs.Sort.{Declarations}
+use Rattle.logic_term.specs.Meaning.{Structure, Env, structure_of}
+use Rattle.logic_term.specs.Theory.{Theory}
 use Rattle.logic_term.specs.Ty.{Ty, no_tys}
 use Rattle.logic_term.specs.Value.{Value}
 use Rattle.mir_ir.specs.declared.place.Operand.{Operand}
@@ -64,9 +64,9 @@ evaluated_before (Make c os) set y e = all_taken_before os set y e
 
 -- ---- statements
 
-module _ (Δ : Declarations) (b : Body) where
+module _ (Θ : Theory) (b : Body) where
   abbrev pub at_no : Structure
-  at_no = record { declared = Δ; types = no_tys }
+  at_no = structure_of Θ no_tys
 
   -- the name is of no local, and not that of new values
   abbrev pub IsOutside : Name → Type 0
@@ -130,7 +130,7 @@ module _ (Δ : Declarations) (b : Body) where
     pub statement_quiet : (kind : StatementKind) (set : Locals) (ls : List T) (σ : Store) (ρ : Env) (span : Span) → StatementIsTyped b kind → CanRun set kind → Fits b no_tys set ls → Agrees ls σ → Matches b set σ ρ →
         GoalsHold at_no ρ (goals_of b span kind) → Quiet (After kind set σ ρ) (run_local b no_tys ls span kind)
     statement_quiet (Assign p r) set ls σ ρ span (ty, has, rhas) can fitting agrees m goals =
-        let l = assigned Δ bodies b typed named set ls σ ρ span p r ty has rhas can fitting agrees m goals in
+        let l = assigned Θ bodies b typed named set ls σ ρ span p r ty has rhas can fitting agrees m goals in
         let at_place = local_named bodies b typed p.local ty has.1 in
         let σ' : Store = stored p.local (rvalue_value σ r) σ in
         let set' : Locals = run (Assign p r) set in

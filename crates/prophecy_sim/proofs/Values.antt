@@ -1,14 +1,14 @@
 -- The values of locals: what the machine's trees show, and what the names of locals have in an environment.
-use Rattle.std.proofs.Common.{◌≡◌, ◌∙◌, refl, sym, ap, subst, ℕ, zero, suc, ◌<◌, ◌==◌, ℤ, Bool, true, false, cond, List, [], ◌∷◌, length, Some, slice_get, arith}
+use Rattle.std.proofs.Common.{◌≡◌, ◌∙◌, refl, sym, ap, subst, ℕ, ◌==◌, ℤ, Bool, true, false, cond, List, Some, slice_get, arith}
 use Rattle.std.proofs.lemmas.Option.{slice_get_within}
 use Rattle.text_core.specs.declared.name.Name.{Name}
 use Rattle.logic_term.specs.declared.kinds.IntKind.{IntKind}
 use Rattle.logic_term.specs.declared.kinds.Ctor.TheVariants.{Tuple}
 use Rattle.logic_term.specs.Range.{fits}
-use Rattle.logic_term.specs.Sort.{Declarations}
+use Rattle.logic_term.specs.Theory.{Theory}
 use Rattle.logic_term.specs.Ty.{Ty, int, bool, tuple, no_tys, unit_ty}
 use Rattle.logic_term.specs.Value.{Value, Number, Flag, Made, no_values}
-use Rattle.logic_term.specs.Meaning.{Structure, Env, with_value, Means}
+use Rattle.logic_term.specs.Meaning.{Structure, Env, with_value, Means, structure_of}
 use Rattle.logic_term.proofs.Alike.{alike_same}
 use Rattle.logic_term.proofs.Coincide.{with_other}
 use Rattle.logic_term.proofs.Truth.{Exactly}
@@ -22,6 +22,7 @@ use Rattle.mir_machine.proofs.NeverStuck.{Shape, Fits}
 use Rattle.mir_machine.proofs.Shown.{Shows, Store, Agrees, operand_value}
 use Rattle.wp_gen.specs.Row.{value_name, or_value_name, name_of, operand_term}
 use Rattle.prophecy_sim.specs.Programs.{AreNamesOfLocals}
+use Rattle.prophecy_sim.proofs.Lists.{get_first}
 
 -- a tree of the machine
 abbrev pub T : Type 0
@@ -39,14 +40,6 @@ ValueHas _ v = Unit {0}
 -- the name of each local of the set has the value of the local
 abbrev pub Matches : Body → Locals → Store → Env → Type 0
 Matches b set σ ρ = (x : ℕ) (n : Name) → set x ≡ true → slice_get b.names x ≡ Some n → ρ n ≡ σ x
-
-some_same : {A : Type 0} {a b : A} → Some a ≡ Some b → a ≡ b
-some_same e = cc
-
-get_first : {A : Type 0} (xs : List A) (i : ℕ) → i < length xs → (x : A) × (slice_get xs i ≡ Some x)
-get_first [] i h = absurd (omega arith)
-get_first (x ∷ xs) zero h = (x, refl)
-get_first (x ∷ xs) (suc i) h = get_first xs i (omega arith)
 
 -- each local has a name
 pub local_named : (bodies : List Body) (b : Body) → IsTyped bodies b → (x : ℕ) (ty : Ty) → slice_get b.locals x ≡ Some ty → (n : Name) × (slice_get b.names x ≡ Some n)
@@ -79,9 +72,9 @@ can_before set (Move q) (Const l) h = tt
 
 -- ---- operands
 
-module _ (Δ : Declarations) (bodies : List Body) (b : Body) (typed : IsTyped bodies b) (named : AreNamesOfLocals b) where
+module _ (Θ : Theory) (bodies : List Body) (b : Body) (typed : IsTyped bodies b) (named : AreNamesOfLocals b) where
   abbrev pub S : Structure
-  S = record { declared = Δ; types = no_tys }
+  S = structure_of Θ no_tys
 
   var_exactly : (ρ : Env) (x : ℕ) (n : Name) (v : Value) → slice_get b.names x ≡ Some n → ρ n ≡ v → Exactly (λ u. u ≡ ρ (name_of b x)) v
   var_exactly ρ x n v e f = subst (λ w. Exactly (λ u. u ≡ ρ (name_of b x)) w) (ap ρ (named_as b x n e) ∙ f) (alike_same _)

@@ -1,12 +1,13 @@
 -- Programs of functions over integers, truth values and `()`, and what true obligations are worth.
-use Rattle.std.specs.Prelude.{◌≡◌, ℕ, ◌≤◌, true, List, length, drop, Some, slice_get, ◌⊎◌, false}
+use Rattle.std.specs.Prelude.{◌≡◌, ℕ, true, List, length, Some, slice_get, ◌⊎◌, false}
 use Rattle.text_core.specs.declared.name.Name.{Name}
 use Rattle.logic_term.specs.declared.kinds.Label.{Label}
 use Rattle.logic_term.specs.declared.obligation.Contract.{Contract}
 use Rattle.logic_term.specs.declared.obligation.Obligation.{Obligation}
 use Rattle.logic_term.specs.Free.{free}
 use Rattle.logic_term.specs.Meaning.{Env, Holds}
-use Rattle.logic_term.specs.Sort.{Declarations}
+use Rattle.logic_term.specs.Theory.{Theory, declared}
+use Rattle.logic_term.specs.Obligations.{IsTrueObligation}
 use Rattle.logic_term.specs.Term.{Term}
 use Rattle.logic_term.specs.Ty.{Ty, Tys, int, bool, tuple, no_tys}
 use Rattle.mir_ir.specs.declared.place.Operand.{Operand}
@@ -51,10 +52,6 @@ pub record SpeaksOf (b : Body) (c : Contract) : Type 0 where
   pub before : Each (λ (t : Term). (x : Name) → free x t ≡ true → IsOneOf x c.params) c.pre
   pub over : Each (λ (t : Term). (x : Name) → free x t ≡ true → (x.0 ≡ c.answer.0 → ⊥) → IsOneOf x c.params) c.post
 
--- the goal is true at every instance and at every environment
-abbrev pub IsTrueGoal : Declarations → Obligation → Type 0
-IsTrueGoal Δ o = (θ : Tys) (ρ : Env) → Holds (record { declared = Δ; types = θ }) o.goal ρ
-
 -- every local is an integer, a truth value or `()`, and loops are entered at their heads
 pub record IsSimple (b : Body) : Type 0 where
   pub names : AreNamesOfLocals b
@@ -93,12 +90,12 @@ abbrev pub AreFunctions : (p : Program) → AreSound p.bodies → Type 0
 AreFunctions p sound = (n : ℕ) (b : Body) (is_body : slice_get p.bodies n ≡ Some b) → IsFunction p sound n b is_body
 
 -- the obligations of the body with the contract are true
-pub record HasTrueObligations (Δ : Declarations) (w : Setting) : Type 0 where
+pub record HasTrueObligations (Θ : Theory) (w : Setting) : Type 0 where
   pub first : ℕ
   pub obligations : List Obligation
   pub paths : ℕ
   pub are : AreObligations w first obligations paths
-  pub all_true : Each (IsTrueGoal Δ) obligations
+  pub all_true : Each (IsTrueObligation Θ) obligations
 
 -- ---- what a function may reach
 
@@ -121,11 +118,11 @@ pub data Reaches (bodies : List Body) (f : ℕ) : ℕ → Type 0 where
   by_call : {n m : ℕ} → Reaches bodies f n → Calls bodies n m → Reaches bodies f m
 
 -- the obligations of each function that f may reach are true
-abbrev pub AreProvedFrom : Declarations → Program → ℕ → Type 0
-AreProvedFrom Δ p f = (n : ℕ) (b : Body) (d : Contract) → Reaches p.bodies f n → slice_get p.bodies n ≡ Some b → slice_get p.contracts n ≡ Some d
-    → HasTrueObligations Δ (setting p n b d)
+abbrev pub AreProvedFrom : Theory → Program → ℕ → Type 0
+AreProvedFrom Θ p f = (n : ℕ) (b : Body) (d : Contract) → Reaches p.bodies f n → slice_get p.bodies n ≡ Some b → slice_get p.contracts n ≡ Some d
+    → HasTrueObligations Θ (setting p n b d)
 
 -- a function is good where all obligations of the functions that it may reach are true, whatever the declared types are
 abbrev pub TrueObligationsMakeGood : Type 0
-TrueObligationsMakeGood = (Δ : Declarations) (p : Program) (sound : AreSound p.bodies) → AreFunctions p sound
-    → (f : ℕ) (c : Contract) → slice_get p.contracts f ≡ Some c → AreProvedFrom Δ p f → Good Δ p.bodies f c
+TrueObligationsMakeGood = (Θ : Theory) (p : Program) (sound : AreSound p.bodies) → AreFunctions p sound
+    → (f : ℕ) (c : Contract) → slice_get p.contracts f ≡ Some c → AreProvedFrom Θ p f → Good Θ p.bodies f c

@@ -5,7 +5,7 @@ use Rattle.text_core.specs.declared.name.Name.{Name}
 use Rattle.text_core.specs.declared.span.Span.{Span}
 use Rattle.logic_term.specs.declared.kinds.Label.{Label}
 use Rattle.logic_term.specs.declared.obligation.Contract.{Contract}
-use Rattle.logic_term.specs.Sort.{Declarations}
+use Rattle.logic_term.specs.Theory.{Theory, declared}
 use Rattle.logic_term.specs.Term.{var, not, implies}
 use Rattle.logic_term.specs.Ty.{bool}
 use Rattle.mir_ir.specs.declared.place.Lit.TheVariants as lit
@@ -98,8 +98,8 @@ SampleIsSound = (sound : AreSound program.bodies) × AreFunctions program sound
 
 -- the walk of each function comes to an end, and all of its obligations are true, whatever the declared types are
 abbrev pub SampleIsTrue : Type 0
-SampleIsTrue = (Δ : Declarations) (n : ℕ) (b : Body) (c : Contract) → slice_get program.bodies n ≡ Some b → slice_get program.contracts n ≡ Some c → HasTrueObligations Δ (setting program n b c)
+SampleIsTrue = (Θ : Theory) (n : ℕ) (b : Body) (c : Contract) → slice_get program.bodies n ≡ Some b → slice_get program.contracts n ≡ Some c → HasTrueObligations Θ (setting program n b c)
 
 -- so both functions are good, by the law
 abbrev pub SampleIsGood : Type 0
-SampleIsGood = (Δ : Declarations) → Good Δ program.bodies 0 is_false × Good Δ program.bodies 1 is_false
+SampleIsGood = (Θ : Theory) → Good Θ program.bodies 0 is_false × Good Θ program.bodies 1 is_false

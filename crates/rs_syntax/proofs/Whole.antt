@@ -1,5 +1,5 @@
 -- From the derivation of the words of a source to what the parser promises.
-use Rattle.std.specs.Prelude.{◌≡◌, ℕ, List, ◌++◌, length, slice_get, ◌≤◌, ◌<◌, IfOk, IfErr}
+use Rattle.std.specs.Prelude.{◌≡◌, ℕ, List, ◌++◌, length, ◌≤◌, ◌<◌, IfOk, IfErr}
 use Rattle.std.proofs.Common.{rules, refl, sym, ◌∙◌, ap, subst, arith, inl, inr, Result, Ok, Err, None}
 use Rattle.std.proofs.lemmas.Grind.{common_steps}
 use Rattle.text_core.specs.declared.fault.PassError.{PassError}
@@ -25,13 +25,14 @@ use Rattle.source_grammar.proofs.Conditions.{source_is_ll1}
 use Rattle.source_grammar.proofs.Firsts.{depths}
 use Rattle.source_grammar.proofs.OneAnswer.{one_fault, derived_or_faulty}
 use Rattle.source_words.specs.declared.word.Word.{Word}
+use Rattle.source_words.specs.Faults.{kinds_in, error_of}
 use Rattle.source_words.specs.Words.{AreWords, GivesNames, IsBadText, IsWordError}
 use Rattle.source_words.proofs.WordLists.{no_words}
 use Rattle.source_trees.specs.declared.item.Item.{Item}
 use Rattle.rs_syntax.specs.declared.part.Part.{Part}
 use Rattle.rs_syntax.specs.Gathered.{all_of, item_of}
 use Rattle.rs_syntax.specs.Make.{trees}
-use Rattle.rs_syntax.specs.Parsed.{kinds_in, AreWordsOfSource, IsTreeOf, items_of, AreItemsOf, SpellsItems, functions_among, most_functions, span_or, error_at, error_of, IsSyntaxError, IsParseError, IsItemsError, SpellsNone}
+use Rattle.rs_syntax.specs.Parsed.{AreWordsOfSource, IsTreeOf, items_of, AreItemsOf, SpellsItems, functions_among, most_functions, IsSyntaxError, IsParseError, IsItemsError, SpellsNone}
 use Rattle.rs_syntax.proofs.Words.{same_kinds, same_span, one_list_of_words, words_alone, one_bad_text}
 
 -- ---- the tree of words

@@ -1,5 +1,5 @@
 -- Words of the same bytes, and their refusals.
-use Rattle.std.specs.Prelude.{◌≡◌, ℕ, zero, suc, List, [], ◌∷◌, ◌++◌, slice_get}
+use Rattle.std.specs.Prelude.{◌≡◌, ℕ, zero, suc, List, [], ◌∷◌, ◌++◌}
 use Rattle.std.proofs.Common.{refl, sym, ◌∙◌, ap, subst, inl, inr, Some, None}
 use Rattle.std.specs.Str.{IsValidUpTo}
 use Rattle.std.proofs.lemmas.Bool.{cases_order}
@@ -10,9 +10,10 @@ use Rattle.text_core.specs.Names.{words, HaveOnePlace}
 use Rattle.rs_tokens.specs.declared.token.Token.{Token}
 use Rattle.rs_tokens.proofs.OneReading.{one_list}
 use Rattle.source_words.specs.declared.word.Word.{Word}
+use Rattle.source_words.specs.Faults.{kinds_in, span_at}
 use Rattle.source_words.specs.Words.{AreWords, AreWordsOf, none, one_more, GivesNames, IsBadText, no_text, bad_token}
 use Rattle.source_words.proofs.WordLists.{one_table, table_has_one_place, same_words}
-use Rattle.rs_syntax.specs.Parsed.{kinds_in, span_or, AreWordsOfSource}
+use Rattle.rs_syntax.specs.Parsed.{AreWordsOfSource}
 
 -- ---- kinds and places are those of the tokens, whatever the names
 
@@ -24,7 +25,7 @@ kinds_of_tokens table other bytes _ _ _ (one_more {token} {word = a} {tokens} {w
     λ i. head i ∷ rest i
 
 span_of_tokens : (table other : List (List ℕ)) (bytes : List ℕ) (tokens : List Token) (a b : List Word) (position end : ℕ) → AreWordsOf table bytes tokens a → AreWordsOf other bytes tokens b
-    → span_or (slice_get a position) end ≡ span_or (slice_get b position) end
+    → span_at a end position ≡ span_at b end position
 span_of_tokens table other bytes _ _ _ position end none none = refl
 span_of_tokens table other bytes _ _ _ zero end (one_more v vs) (one_more w ws) = v.span ∙ sym w.span
 span_of_tokens table other bytes _ _ _ (suc position) end (one_more {token} {word = a} {tokens} {words = as2} v vs) (one_more {word = b} {words = bs} w ws) = span_of_tokens table other bytes tokens as2 bs position end vs ws
@@ -37,7 +38,7 @@ same_tokens table other bytes a b v w =
 pub same_kinds : (table other : List (List ℕ)) (bytes : List ℕ) (a b : List Word) → AreWords table bytes a → AreWords other bytes b → kinds_in a ≡ kinds_in b
 same_kinds table other bytes a b v w = kinds_of_tokens table other bytes v.tokens a b v.are_words (same_tokens table other bytes a b v w)
 
-pub same_span : (table other : List (List ℕ)) (bytes : List ℕ) (a b : List Word) (position end : ℕ) → AreWords table bytes a → AreWords other bytes b → span_or (slice_get a position) end ≡ span_or (slice_get b position) end
+pub same_span : (table other : List (List ℕ)) (bytes : List ℕ) (a b : List Word) (position end : ℕ) → AreWords table bytes a → AreWords other bytes b → span_at a end position ≡ span_at b end position
 same_span table other bytes a b position end v w = span_of_tokens table other bytes v.tokens a b position end v.are_words (same_tokens table other bytes a b v w)
 
 -- ---- in a table in which no text stands twice, bytes are one list of words

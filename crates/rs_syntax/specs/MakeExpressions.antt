@@ -1,15 +1,15 @@
 -- What operands make (Rust Reference, "Literal expressions", "Path expressions", "Struct expressions", "return expressions", "Closure expressions", "Operator expressions").
-use Rattle.std.specs.Prelude.{ℕ, ◌+◌, ◌-◌, ℤ, pos, neg_ℤ, Bool, true, false, if◌then◌else◌, List, [], ◌∷◌, Option, None, Some, get_or, slice_get}
+use Rattle.std.specs.Prelude.{ℕ, ◌+◌, ◌-◌, ℤ, neg_ℤ, Bool, true, false, if◌then◌else◌, List, [], ◌∷◌, Option, None, Some, get_or, slice_get}
 use Rattle.text_core.specs.declared.span.Span.{Span}
 use Rattle.logic_term.specs.declared.kinds.IntKind.{IntKind}
 use Rattle.source_grammar.specs.Terminals.{StringLiteral, Integer, KwMove, KwMut, KwTrue, Minus, Star, Not, Comma, CloseBrace, WordUnreachable, WordSnapshot}
 use Rattle.source_words.specs.declared.word.Word.{Word}
 use Rattle.source_trees.specs.declared.operator.GhostMacro.TheVariants as G
 use Rattle.source_trees.specs.declared.operator.PanicMacro.TheVariants as P
-use Rattle.source_trees.specs.declared.path.Number.{Number}
 use Rattle.source_trees.specs.declared.path.Path.{Path}
 use Rattle.source_trees.specs.declared.path.PathNode.TheVariants as N
 use Rattle.source_trees.specs.declared.path.Segment.{Segment}
+use Rattle.pearlite.specs.MakeTerms.{number_of, unsigned}
 use Rattle.pearlite.specs.Parts.{nowhere, no_path, word_at, is_at, segment_at, span_from}
 use Rattle.source_trees.specs.Pterm.{Pterm}
 use Rattle.source_trees.specs.Pterm as T
@@ -118,7 +118,7 @@ attributed_made words parts = V.Expr (value_of (statements_in words no_statement
 
 -- an integer that is not negative
 unfoldable pub magnitude : Expr → Option (ℤ × Option IntKind)
-magnitude (E.integer span (pos n) suffix) = Some (pos n, suffix)
+magnitude (E.integer span value suffix) = unsigned value suffix
 magnitude _ = None
 
 -- a `-` before an integer that is not negative belongs to it
@@ -135,9 +135,6 @@ prefixed words from span operand =
 
 unfoldable pub prefix_made : List Word → ℕ → ℕ → List Part → Value
 prefix_made words from to parts = V.Expr (prefixed words from (span_from words from to) (expr_at (found_in parts).exprs 0))
-
-abbrev pub number_of : Word → Number
-number_of word = record { span = word.span; value = word.value; suffix = word.suffix }
 
 unfoldable pub member_by : Segment → List TypeTree → Option (List Expr) → Suffix
 member_by name types None = X.Field name types

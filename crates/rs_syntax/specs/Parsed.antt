@@ -1,23 +1,20 @@
 -- What the parser answers: the items of a source, or where it is refused.
-use Rattle.std.specs.Prelude.{◌≡◌, ℕ, suc, ◌+◌, ◌<◌, List, [], ◌∷◌, length, map, slice_get, ◌⊎◌, Option, None, Some}
+use Rattle.std.specs.Prelude.{◌≡◌, ℕ, suc, ◌+◌, ◌<◌, List, [], ◌∷◌, length, ◌⊎◌, None}
 use Rattle.text_core.specs.declared.fault.PassError.{PassError}
 use Rattle.text_core.specs.declared.fault.PassError.TheVariants as P
-use Rattle.text_core.specs.declared.refusal.Code.{Code}
-use Rattle.text_core.specs.declared.refusal.Code.TheVariants.{E03, E04, E20}
 use Rattle.text_core.specs.declared.refusal.Limit.{Limit}
 use Rattle.text_core.specs.declared.refusal.LimitKind.TheVariants.{Functions}
 use Rattle.text_core.specs.declared.refusal.SourceError.{SourceError}
-use Rattle.text_core.specs.declared.span.Span.{Span}
 use Rattle.grammar_tables.specs.Answers.{goal_of}
 use Rattle.grammar_tables.specs.Grammar.{Derives}
 use Rattle.grammar_tables.specs.Limits.{limit_passed}
 use Rattle.grammar_tables.specs.Trees.{Tree, IsTree, preorder, values}
 use Rattle.grammar_tables.specs.declared.symbol.Symbol.TheVariants.{Nonterminal}
 use Rattle.source_grammar.specs.declared.fault.SyntaxFault.{SyntaxFault}
-use Rattle.source_grammar.specs.declared.fault.SyntaxFault.TheVariants as fault
 use Rattle.source_grammar.specs.Faults.{IsFault}
 use Rattle.source_grammar.specs.SourceGrammar.{source_grammar, source_marks, source_goal}
 use Rattle.source_words.specs.declared.word.Word.{Word}
+use Rattle.source_words.specs.Faults.{kinds_in, error_of}
 use Rattle.source_words.specs.Words.{AreWords, GivesNames, IsBadText}
 use Rattle.source_trees.specs.declared.item.ImplItem.{ImplItem}
 use Rattle.source_trees.specs.declared.item.ImplItem.TheVariants as M
@@ -28,10 +25,6 @@ use Rattle.rs_syntax.specs.Gathered.{all_of, item_of}
 use Rattle.rs_syntax.specs.Make.{trees}
 
 -- ---- words
-
--- the kinds of words are the tokens of the grammar
-abbrev pub kinds_in : List Word → List ℕ
-kinds_in words = map (λ word. word.kind) words
 
 -- the words of the bytes; names are those of the old table, and of identifiers and lifetimes that have none there, in order of first use
 pub record AreWordsOfSource (old : List (List ℕ)) (bytes : List ℕ) (words : List Word) : Type 0 where
@@ -93,22 +86,6 @@ pub record AreTooMany (old : List (List ℕ)) (bytes : List ℕ) (limit : Limit)
   pub is : limit ≡ record { kind = Functions; counted = 4097; bound = most_functions }
 
 -- ---- refusals
-
--- the span of the word, or the empty one at the end
-abbrev pub span_or : Option Word → ℕ → Span
-span_or None end = record { start = end; end = end }
-span_or (Some word) end = word.span
-
--- an error at the word of that number, or at the end
-abbrev pub error_at : Code → List Word → ℕ → ℕ → SourceError
-error_at code words end position = record { code = code; span = span_or (slice_get words position) end; other = None }
-
--- the error that a fault of words stands for, which end at this offset
-abbrev pub error_of : List Word → ℕ → SyntaxFault → PassError
-error_of words end (fault.Stray position) = P.Source (error_at E03 words end position)
-error_of words end (fault.LeftOut position) = P.Source (error_at E20 words end position)
-error_of words end (fault.TooDeep position) = P.Source (error_at E04 words end position)
-error_of words end fault.NoMemory = P.NoMemory
 
 -- the words are not derived by the whole grammar, or not within the limits
 pub record IsSyntaxError (words : List Word) (end : ℕ) (error : SourceError) : Type 0 where

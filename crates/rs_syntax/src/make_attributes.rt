@@ -5,8 +5,7 @@ ghost use Rattle.rs_syntax.specs.MakeAttributes.{clause_of, clause_made, is_sepa
 use crate::gathering::{Gather, first_of, gather_all};
 use crate::part::families::{discard, skip};
 use crate::part::{Part, Value, segment_at};
-use crate::places::is_at;
-use pearlite::Value as Shape;
+use pearlite::{Value as Shape, is_at};
 use source_grammar::kinds;
 use source_trees::{AttributeNode, ClauseKind, Pterm, Segment};
 use source_words::Word;

@@ -9,8 +9,9 @@ ghost use Rattle.rs_syntax.specs.MakeExpressions.{arguments_made, break_made, cl
 use crate::found::{Found, exprs_in, first_expr, found_in, take_all, take_first};
 use crate::nodes::made;
 use crate::part::{Part, Suffix, Value, word_behind};
+use crate::places::segment_behind;
 use logic_term::IntKind;
-use pearlite::{NOWHERE, is_at, is_before, number_of, segment_at, span_from, word_at};
+use pearlite::{NOWHERE, is_at, is_before, number_of, segment_at, span_from, unsigned, word_at};
 use source_grammar::kinds;
 use source_trees::{
     Expr, ExprNode, FieldExpr, GhostMacro, PanicMacro, Path, PathNode, Pterm, PtermNode, Segment,
@@ -329,7 +330,7 @@ fn magnitude(operand: &Expr) -> Option<(i128, Option<IntKind>)>
     ensures low { IfSome result (λ p. pos 0 ≤ℤ p.0) }
 {
     match &*operand.node {
-        ExprNode::Int(value, suffix) if *value >= 0 => Some((*value, *suffix)),
+        ExprNode::Int(value, suffix) => unsigned(*value, *suffix),
         _ => None,
     }
 }
@@ -420,17 +421,8 @@ pub(crate) fn member(
     let suffix = if word.kind == kinds::INTEGER {
         Suffix::Part(number_of(word))
     } else {
-        member_by(alloc, segment_of(word), &mut found)
+        member_by(alloc, segment_behind(words, from, 1), &mut found)
     };
     let suffix = Boxed::new(alloc, suffix)?;
     Ok(Value::Suffix(suffix))
-}
-
-fn segment_of(word: Word) -> Segment
-    ensures { result ≡ record { name = word.name; span = word.span } }
-{
-    Segment {
-        name: word.name,
-        span: word.span,
-    }
 }

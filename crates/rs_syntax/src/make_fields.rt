@@ -6,8 +6,8 @@ ghost use Rattle.rs_syntax.specs.MakeFields.{struct_with, struct_with_value, str
 
 use crate::gathering::{Gather, all_of, first_of, gather_all};
 use crate::part::{Part, Value, segment_at, span_from};
-use crate::places::{is_at, is_before, segment_behind};
-use pearlite::Value as Shape;
+use crate::places::segment_behind;
+use pearlite::{Value as Shape, is_at, is_before};
 use source_grammar::kinds;
 use source_trees::{
     Enum, Field, Fields, GenericParam, ItemNode, Segment, Struct, TypeTree, Variant, VariantFields,

@@ -7,8 +7,8 @@ ghost use Rattle.rs_syntax.specs.MakeGenerics.{param_made, named_param_made, mut
 
 use crate::gathering::{Gather, all_of, first_of, gather_all};
 use crate::part::{Part, Value, segment_at, span_from};
-use crate::places::{is_at, is_before, is_behind, segment_behind};
-use pearlite::Value as Shape;
+use crate::places::{is_behind, segment_behind};
+use pearlite::{Value as Shape, is_at, is_before};
 use source_grammar::kinds;
 use source_trees::{
     Bound, BoundNode, CallTrait, Condition, ConditionNode, GenericNode, GenericParam, Param,

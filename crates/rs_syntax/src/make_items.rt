@@ -6,8 +6,7 @@ ghost use Rattle.rs_syntax.specs.MakeItems.{with_attribute, item_with_token, ite
 
 use crate::gathering::{Gather, gather_all};
 use crate::part::{Part, Value, span_from, word_at};
-use crate::places::is_at;
-use pearlite::Value as Shape;
+use pearlite::{Value as Shape, is_at};
 use source_grammar::kinds;
 use source_trees::{Attribute, AttributeNode, Body, Function, Item, ItemNode, Method, Visibility};
 use source_words::Word;

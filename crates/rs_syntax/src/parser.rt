@@ -4,18 +4,19 @@ ghost use Rattle.text_core.specs.declared.refusal.LimitKind.TheVariants.{Functio
 ghost use Rattle.text_core.specs.declared.fault.PassError.TheVariants as P;
 ghost use Rattle.source_grammar.specs.Faults.{IsSourceDerivation};
 ghost use Rattle.source_grammar.specs.SourceGrammar.{source_goal};
+ghost use Rattle.source_words.specs.Faults.{kinds_in};
 ghost use Rattle.source_words.specs.Words.{Keeps, GivesNames};
 ghost use Rattle.source_trees.specs.declared.item.Item.{Item};
-ghost use Rattle.rs_syntax.specs.Parsed.{kinds_in, AreItemsOf, SpellsItems, methods_among, functions_of, functions_among, most_functions, error_at, error_of, IsItemsError, IsParseError, SpellsNone};
+ghost use Rattle.rs_syntax.specs.Parsed.{AreItemsOf, SpellsItems, methods_among, functions_of, functions_among, most_functions, IsItemsError, IsParseError, SpellsNone};
 
 use crate::gathering::all_of;
 use crate::part::Part;
 use grammar_tables::evaluate;
-use source_grammar::{SyntaxFault, parse_source, tables};
+use source_grammar::{parse_source, tables};
 use source_trees::{ImplItem, Item, ItemNode};
-use source_words::{Word, kinds_of_words, words_of};
+use source_words::{Word, error_of, kinds_of_words, words_of};
 use std::alloc::Global;
-use text_core::{Code, Items, Limit, LimitKind, Names, PassError, SourceError, Span};
+use text_core::{Items, Limit, LimitKind, Names, PassError};
 
 /// The most functions of a source.
 const MOST_FUNCTIONS: usize = 4096;
@@ -78,42 +79,6 @@ fn within_bound(items: Items<Item>) -> Result<Items<Item>, PassError>
         }));
     }
     Ok(items)
-}
-
-/// An error at the word of that number, or at the end of the source.
-fn error_at(code: Code, words: &[Word], end: u32, position: usize) -> SourceError
-    ensures { result ≡ error_at code words.now end position }
-{
-    let span = match words.get(position) {
-        Some(word) => word.span,
-        None => Span { start: end, end },
-    };
-    SourceError {
-        code,
-        span,
-        other: None,
-    }
-}
-
-/// The error that a fault of the words stands for.
-fn error_of(words: &[Word], end: u32, fault: SyntaxFault) -> PassError
-    ensures { result ≡ error_of words.now end fault }
-{
-    match fault {
-        SyntaxFault::Stray(position) => PassError::Source(error_at(
-            Code::E03,
-            words,
-            end,
-            position,
-        )),
-        SyntaxFault::LeftOut(position) => {
-            PassError::Source(error_at(Code::E20, words, end, position))
-        }
-        SyntaxFault::TooDeep(position) => {
-            PassError::Source(error_at(Code::E04, words, end, position))
-        }
-        SyntaxFault::NoMemory => PassError::NoMemory,
-    }
 }
 
 /// The items that the words are made into by this derivation.

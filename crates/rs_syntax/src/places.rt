@@ -1,24 +1,10 @@
 //! What stands at places among words.
-ghost use Rattle.std.specs.Prelude.{◌≡◌, ◌+◌, ◌-◌, nat_eq};
+ghost use Rattle.std.specs.Prelude.{◌≡◌, ◌+◌, nat_eq};
 ghost use Rattle.pearlite.specs.Parts.{word_at, segment_at};
 
-use crate::part::{word_at, word_behind};
+use crate::part::word_behind;
 use source_trees::Segment;
 use source_words::Word;
-
-/// Whether the word is of that kind.
-pub(crate) fn is_at(words: &[Word], kind: u8, place: usize) -> bool
-    ensures { result ≡ nat_eq (word_at words.now place).kind kind }
-{
-    word_at(words, place).kind == kind
-}
-
-/// Whether the word that stands so many tokens before that place is of that kind.
-pub(crate) fn is_before(words: &[Word], kind: u8, place: usize, count: usize) -> bool
-    ensures { result ≡ nat_eq (word_at words.now (place - count)).kind kind }
-{
-    is_at(words, kind, place.saturating_sub(count))
-}
 
 /// Whether the word that stands so many tokens behind that place is of that kind.
 pub(crate) fn is_behind(words: &[Word], kind: u8, place: usize, count: usize) -> bool

@@ -1,5 +1,6 @@
 pub mod BlankLaws
 pub mod CommentLaws
+pub mod FirstBytes
 pub mod IdentifierLaws
 pub mod IntegerLaws
 pub mod ListLaws

@@ -1,5 +1,5 @@
 -- The longest word at the front of a text.
-use Rattle.std.proofs.Common.{◌≡◌, ℕ, zero, suc, ◌+◌, ◌<◌, ◌≤◌, Bool, true, false, ◌==◌, cond, List, [], ◌∷◌, ◌++◌, length, take, drop, get_or, refl, sym, ap, subst, ◌∙◌, append_assoc, arith, inl, inr}
+use Rattle.std.proofs.Common.{◌≡◌, ℕ, zero, suc, ◌+◌, ◌<◌, ◌≤◌, Bool, true, false, ◌==◌, ◌||◌, cond, List, [], ◌∷◌, ◌++◌, length, take, drop, get_or, refl, sym, ap, subst, ◌∙◌, append_assoc, arith, inl, inr}
 use Rattle.std.proofs.lemmas.List.{length-append, take-append-drop, take_more, append-nil}
 use Rattle.std.proofs.Math.Seq.{take-append_seam}
 use Rattle.std.specs.Prelude.{encode_utf8, encode_utf8_all, take_while}
@@ -7,11 +7,25 @@ use lib.Utf8.{scalars}
 use Rattle.std.specs.List.{list_all, prefix_len}
 use Rattle.std.specs.Str.{chars, IsUtf8, IsCharBoundary}
 use Rattle.std.proofs.lemmas.Str.{encodes-append, encodes-chars, cons_from_encodes, encode_same, length-encode, len_utf8_bounds, chars_past_char, IsCharBoundary-at_seam, scalars-chars}
-use Rattle.std.proofs.lemmas.Bool.{eqb-true, false≢true}
-use Rattle.unicode_ident.proofs.IdentLemmas.{is_xid_start-is_xid_continue, is_xid_continue-ascii}
+use Rattle.std.proofs.lemmas.Bool.{eqb-true, ltb-true, false≢true}
+use Rattle.std.specs.Char.{is_ascii, is_ascii_alphabetic, is_ascii_alphanumeric}
+use Rattle.unicode_ident.proofs.IdentLemmas.{is_xid_start-is_xid_continue, is_xid_start-ascii, is_xid_continue-ascii}
 use Rattle.unicode_ident.specs.Ident.{is_xid_start, is_xid_continue}
 use Rattle.rs_tokens.specs.Tokens.{begins_word, IsWord, IsQuotedWord, HasLongest, HasNone}
 use Rattle.rs_tokens.proofs.ListLaws.{same_tail, and_true, or_true, front_le, run_at_least, run_passes}
+
+-- ---- ASCII characters
+
+small : (c : ℕ) → is_ascii c ≡ true → c < 128
+small c h = ltb-true c 128 h
+
+pub ascii_begins : (c : ℕ) → is_ascii c ≡ true → (is_ascii_alphabetic c || (c == 95)) ≡ begins_word c
+ascii_begins c h = ap (λ (p : Bool). p || (c == 95)) (sym (is_xid_start-ascii c (small c h)))
+
+pub ascii_continues : (c : ℕ) → is_ascii c ≡ true → (is_ascii_alphanumeric c || (c == 95)) ≡ is_xid_continue c
+ascii_continues c h = sym (is_xid_continue-ascii c (small c h))
+
+-- ---- words
 
 pub encode_some : (c : ℕ) → 1 ≤ length (encode_utf8 c)
 encode_some c = omega (arith, length-encode c, len_utf8_bounds c)

@@ -40,10 +40,7 @@ pub(crate) fn unbuilt_type(built: &[Form], ty: &TypeTree) -> Option<u64>
     match &*ty.node {
         TypeNode::Named(name, arguments) => {
             let form = named_form(name.name, arguments);
-            first_of!(
-                here(built, form, span),
-                unbuilt_arguments(built, arguments)
-            )
+            first_of!(here(built, form, span), unbuilt_arguments(built, arguments))
         }
         TypeNode::Tuple(types) => {
             first_of!(

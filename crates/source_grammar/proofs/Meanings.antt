@@ -89,4 +89,4 @@ module _ (t : Tables) (stated : grammar_in t ≡ source_grammar) (marked : (n : 
     term_front levels front f = by (of_source (λ G m. IsParsed G m term_goal levels kinds front) f)
       where
         by : IsParsed source_grammar source_marks term_goal levels kinds front → IsSourceFront term_goal levels kinds front
-        by g = record { inside = g.inside; derived = g.derived; within = g.within; longest = g.longest (plan_of plan) source_is_planned term_has_plan }
+        by g = record { inside = g.inside; derived = g.derived; within = g.within; longest = g.longest }

@@ -6,8 +6,8 @@ use Rattle.text_core.specs.declared.refusal.SourceError.{SourceError}
 use Rattle.text_core.specs.Names.{words, text_of, HaveOnePlace}
 use Rattle.rs_tokens.specs.declared.token.Token.{Token}
 use Rattle.rs_tokens.specs.declared.token.TokenKind.{TokenKind}
-use Rattle.rs_tokens.specs.Reading.{Gives, HasGiven, nothing as given_nothing, one_more as given_more, HasEnded, IsNoText, IsBadToken}
-use Rattle.rs_tokens.proofs.OneReading.{one_list, given_whole, given_refused}
+use Rattle.rs_tokens.specs.Reading.{Gives, HasGiven, nothing as given_nothing, one_more as given_more, HasEnded, IsNoText}
+use Rattle.rs_tokens.proofs.OneReading.{one_list, given_whole}
 use Rattle.source_words.specs.declared.word.Word.{Word}
 use Rattle.source_words.specs.Texts.{text_in}
 use Rattle.source_words.specs.Words.{bears_name, HasName, IsWordOf, AreWordsOf, none, one_more, AreWords, Keeps, NamesOnlyNew, with_identifier, identifiers_in, GivesNames}
@@ -163,12 +163,6 @@ only_read first table bytes ws at utf8 r e others o =
     let whole = given_whole bytes r.tokens at utf8 r.given e in
     let same = (one_list bytes 0 o.tokens r.tokens None None o.are_tokens.tokens_of whole.tokens_of).0 in
     r.only others (subst (λ (ts : List Token). AreWordsOf table bytes ts others) same o.are_words)
-
-pub bad_text : (bytes : List ℕ) (tokens : List Token) (at : ℕ) (refusal : Option SourceError) (error : SourceError) → MatchOption refusal (IsUtf8 bytes) (λ e. IsNoText bytes e)
-    → ((e : SourceError) → refusal ≡ Some e → error ≡ e) → (refusal ≡ None → IsBadToken bytes at error) → HasGiven bytes tokens at → IsBadText bytes error
-bad_text bytes tokens at (Some e) error state again refused given = no_text (subst (λ (x : SourceError). IsNoText bytes x) (sym (again e refl)) state)
-bad_text bytes tokens at None error state again refused given =
-    let r = refused refl in bad_token tokens state (given_refused bytes tokens at error.span given r.refuses) r.is
 
 -- ---- words and refusals of the same bytes
 

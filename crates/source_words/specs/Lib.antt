@@ -1,3 +1,4 @@
+pub mod Faults
 pub mod QuotedWords
 pub mod Texts
 pub mod TokenKinds

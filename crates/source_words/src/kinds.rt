@@ -1,36 +1,53 @@
 //! The kinds of words.
-ghost use Rattle.std.specs.Prelude.{◌≡◌};
+ghost use Rattle.std.specs.Prelude.{◌≡◌, slice_get, Some};
 ghost use Rattle.source_words.specs.QuotedWords.{quoted};
 ghost use Rattle.source_words.specs.Texts.{found_in};
 ghost use Rattle.source_words.specs.Words.{identifier_kind, lifetime_kind, kind_by};
 
 use crate::quoted_words::{
-    OF_LENGTH_2, OF_LENGTH_3, OF_LENGTH_4, OF_LENGTH_5, OF_LENGTH_6, OF_LENGTH_7, OF_LENGTH_8,
-    OF_LENGTH_9, OF_LENGTH_11, OF_LENGTH_12, OF_LENGTH_13, OF_LENGTH_17, OF_LENGTH_18,
+    FROM_A, FROM_B, FROM_C, FROM_D, FROM_E, FROM_F, FROM_I, FROM_L, FROM_M, FROM_P, FROM_R, FROM_S,
+    FROM_U, FROM_UPPER_F, FROM_UPPER_M, FROM_UPPER_V, FROM_V, FROM_Y,
 };
 use crate::tables::found_in;
 use rs_tokens::TokenKind;
 use source_grammar::kinds;
 
-/// The kind of the quoted word that the text is. Only those of its length are compared with it.
+/// The kind of the quoted word that the text is. Only those that begin with its first byte are compared with it.
+fn quoted_from(first: u8, text: &[u8]) -> Option<u8>
+    requires { slice_get text.now 0 ≡ Some first }
+    ensures { result ≡ found_in quoted text.now }
+{
+    match first {
+        b'F' => found_in(&FROM_UPPER_F, text),
+        b'M' => found_in(&FROM_UPPER_M, text),
+        b'V' => found_in(&FROM_UPPER_V, text),
+        b'a' => found_in(&FROM_A, text),
+        b'b' => found_in(&FROM_B, text),
+        b'c' => found_in(&FROM_C, text),
+        b'd' => found_in(&FROM_D, text),
+        b'e' => found_in(&FROM_E, text),
+        b'f' => found_in(&FROM_F, text),
+        b'i' => found_in(&FROM_I, text),
+        b'l' => found_in(&FROM_L, text),
+        b'm' => found_in(&FROM_M, text),
+        b'p' => found_in(&FROM_P, text),
+        b'r' => found_in(&FROM_R, text),
+        b's' => found_in(&FROM_S, text),
+        b'u' => found_in(&FROM_U, text),
+        b'v' => found_in(&FROM_V, text),
+        b'y' => found_in(&FROM_Y, text),
+        _ => None,
+    }
+}
+
+/// The kind of the quoted word that the text is.
+#[tactic(auto, unfolding(crate::specs::QuotedWords::quoted))]
 fn quoted_kind(text: &[u8]) -> Option<u8>
     ensures { result ≡ found_in quoted text.now }
 {
-    match text.len() {
-        2 => found_in(&OF_LENGTH_2, text),
-        3 => found_in(&OF_LENGTH_3, text),
-        4 => found_in(&OF_LENGTH_4, text),
-        5 => found_in(&OF_LENGTH_5, text),
-        6 => found_in(&OF_LENGTH_6, text),
-        7 => found_in(&OF_LENGTH_7, text),
-        8 => found_in(&OF_LENGTH_8, text),
-        9 => found_in(&OF_LENGTH_9, text),
-        11 => found_in(&OF_LENGTH_11, text),
-        12 => found_in(&OF_LENGTH_12, text),
-        13 => found_in(&OF_LENGTH_13, text),
-        17 => found_in(&OF_LENGTH_17, text),
-        18 => found_in(&OF_LENGTH_18, text),
-        _ => None,
+    match text.first() {
+        Some(first) => quoted_from(*first, text),
+        None => None,
     }
 }
 

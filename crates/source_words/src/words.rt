@@ -1,12 +1,14 @@
 //! The words of a source.
-ghost use Rattle.std.specs.Prelude.{◌≡◌, ℕ, ◌+◌, ◌≤◌, ◌<◌, ◌^◌, ◌++◌, ◌∷◌, [], ◌⊎◌, List, Some, true, length, map, IfOk, IfErr, OnOk};
+ghost use Rattle.std.specs.Prelude.{◌≡◌, ℕ, ◌+◌, ◌≤◌, ◌<◌, ◌^◌, ◌++◌, ◌∷◌, [], ◌⊎◌, List, Some, true, length, IfOk, IfErr, OnOk};
 ghost use Rattle.std.specs.Str.{IsUtf8};
 ghost use Rattle.text_core.specs.Names.{text_of};
 ghost use Rattle.name_tables.specs.NameTables.{with_name, with_names};
 ghost use Rattle.text_core.specs.declared.name.Name.{Name};
 ghost use Rattle.rs_tokens.specs.declared.token.TokenKind.TheVariants as T;
+ghost use Rattle.rs_tokens.specs.Reading.{AreTokens};
 ghost use Rattle.rs_tokens.specs.Tokens.{integer_value, largest_integer};
 ghost use Rattle.source_words.specs.declared.word.Word.{Word};
+ghost use Rattle.source_words.specs.Faults.{kinds_in};
 ghost use Rattle.source_words.specs.Texts.{text_in};
 ghost use Rattle.source_words.specs.Words.{bears_name, value_by, suffix_by, HasName, IsLexeme, IsWordOf, AreWords, IsWordError, Keeps, NamesOnlyNew, with_identifier, GivesNames};
 
@@ -126,9 +128,33 @@ pub fn words_of(alloc: Global, bytes: &[u8], names: &mut Names) -> Result<Items<
     }
 }
 
+/// The same by the tokens of the bytes. Err only for want of memory.
+pub fn words_of_tokens(
+    alloc: Global,
+    bytes: &[u8],
+    tokens: &[Token],
+    names: &mut Names,
+) -> Result<Items<Word>, NoMemory>
+    requires whole { AreTokens bytes.now tokens.now }
+    requires few { length bytes.now ≤ 2 ^ 20 }
+    requires room { length names.old + 2 ^ 20 < 2 ^ 32 }
+    ensures ok { IfOk result (λ words. AreWords names.new bytes.now words) }
+    ensures only { IfOk result (λ words. (other : List Word) → AreWords names.new bytes.now other → other ≡ words) }
+    ensures names { OnOk result (GivesNames names.old bytes.now names.new) }
+    ensures kept { Keeps names.old names.new }
+    ensures grown { length names.new ≤ length names.old + length bytes.now }
+{
+    let mut words = Items::new(alloc);
+    for token in tokens {
+        let word = word_of(alloc, bytes, *token, names)?;
+        words.push(word)?;
+    }
+    Ok(words)
+}
+
 /// The kinds of the words, in order.
 pub fn kinds_of_words(alloc: Global, words: &[Word]) -> Result<Vec<u8>, NoMemory>
-    ensures { IfOk result (λ kinds. kinds.items ≡ map (λ word. word.kind) words.now) }
+    ensures { IfOk result (λ kinds. kinds.items ≡ kinds_in words.now) }
 {
     let mut kinds = Vec::new(alloc);
     for word in words {

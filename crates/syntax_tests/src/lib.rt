@@ -4,6 +4,8 @@
 #[cfg(test)]
 mod cursors;
 #[cfg(test)]
+mod grouping;
+#[cfg(test)]
 mod items;
 #[cfg(test)]
 mod terms;

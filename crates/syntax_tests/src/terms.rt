@@ -1,7 +1,7 @@
 use logic_term::{ArithOp, IntKind};
 use pearlite::{Cursor, parse_term};
 use source_grammar::kinds::{IDENTIFIER, INTEGER, LIFETIME, STATIC_LIFETIME, WORD_FORALL};
-use source_trees::{BinaryTerm, Pterm, PtermNode, UnaryTerm};
+use source_trees::{BinaryTerm, Pterm, PtermNode, TypeArgument, TypeNode, UnaryTerm};
 use source_words::{Word, tokens_of, words_of};
 use std::alloc::Global;
 use std::process::Abort;
@@ -239,4 +239,61 @@ fn words_of_one_text_have_one_name(rt: HostRuntime) {
     assert!(rt; have_one_name(alloc, b"x y x", 0, 2));
     assert!(rt; !have_one_name(alloc, b"x y x", 0, 1));
     assert!(rt; !have_one_name(alloc, b"x", 0, 1));
+}
+
+/// A letter for an argument of a type.
+fn argument_letter(argument: &TypeArgument) -> u8 {
+    match argument {
+        TypeArgument::Lifetime(_) => b'l',
+        TypeArgument::Type(_) => b't',
+    }
+}
+
+/// The text is a quantifier whose first variable has a type with arguments of these letters.
+fn has_arguments(alloc: Global, text: &[u8], letters: &[u8]) -> bool {
+    let term = match read(alloc, text) {
+        Some((term, _)) => term,
+        None => return false,
+    };
+    let binders = match &*term.node {
+        PtermNode::Quantified(_, binders, _) => binders,
+        _ => return false,
+    };
+    match binders.first() {
+        Some(binder) => match &*binder.ty.node {
+            TypeNode::Named(_, arguments) => {
+                arguments.len() == letters.len()
+                    && arguments
+                        .iter()
+                        .zip(letters)
+                        .all(|(argument, letter)| argument_letter(argument) == *letter)
+            }
+            _ => false,
+        },
+        None => false,
+    }
+}
+
+#[test]
+fn arguments_of_types_stand_in_their_order(rt: HostRuntime) {
+    let alloc = rt.alloc();
+    let cases = [
+        (b"forall<x: S> true".as_slice(), b"".as_slice()),
+        (b"forall<x: S<'a>> true".as_slice(), b"l".as_slice()),
+        (
+            b"forall<x: S<u8, (T, U)>> true".as_slice(),
+            b"tt".as_slice(),
+        ),
+        (
+            b"forall<x: S<'a, T, 'b>> true".as_slice(),
+            b"ltl".as_slice(),
+        ),
+        (
+            b"forall<x: S<T, 'a, 'b, U,>> true".as_slice(),
+            b"tllt".as_slice(),
+        ),
+    ];
+    for (text, letters) in cases {
+        assert!(rt; has_arguments(alloc, text, letters));
+    }
 }

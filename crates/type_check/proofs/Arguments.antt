@@ -3,9 +3,8 @@ use Rattle.std.proofs.Common.{◌≡◌, ◌∙◌, ℕ, zero, suc, ◌+◌, ◌
 use Rattle.text_core.specs.declared.refusal.SourceError.{SourceError}
 use Rattle.logic_term.specs.Ty.{Ty}
 use Rattle.text_core.specs.declared.fault.PassError.{PassError}
-use Rattle.text_core.specs.declared.fault.PassError.TheVariants as fault
-use Rattle.built_trees.specs.Expr.{Expr, Exprs, more}
-use Rattle.built_trees.specs.ExprView.{exprs_of as written_exprs}
+use Rattle.source_trees.specs.Expr.{Expr, Exprs, more}
+use Rattle.source_trees.specs.ExprView.{exprs_of as written_exprs}
 use Rattle.type_check.specs.declared.heading.Heading.{Heading}
 use Rattle.type_check.specs.declared.scope.Variable.{Variable}
 use Rattle.type_check.specs.Answers.{◌>>=◌, Refuses}
@@ -13,16 +12,11 @@ use Rattle.type_check.specs.TypedExpr.{TypedExpr, TypedExprs}
 use Rattle.type_check.specs.TypedExpr as tree
 use Rattle.type_check.specs.TypedExprView.{exprs_of}
 use Rattle.type_check.specs.Typing.{how_many, first_of, rest_of, typed, typed_args}
+use Rattle.type_check.proofs.PartByPart.{along, refuses_then}
 
 pub how_many_are : (es : List TypedExpr) → how_many (exprs_of es) ≡ length es
 how_many_are [] = refl
 how_many_are (e ∷ es) = ap suc (how_many_are es)
-
--- a refusal goes through
-pub refuses_then : {A B : Type 0} (f : PassError) (m : Result A SourceError) (k : A → Result B SourceError) → Refuses f m → Refuses f (m >>= k)
-refuses_then (fault.Source e) m k h = ap (λ n. n >>= k) h
-refuses_then (fault.Limit l) m k h = h
-refuses_then fault.NoMemory m k h = tt
 
 -- these arguments, and then the others
 abbrev pub onto : List TypedExpr → TypedExprs → TypedExprs
@@ -88,10 +82,9 @@ args_more σ Γ es ts i e vs v q h p =
     ∙ ap (λ (m : Result TypedExpr SourceError). (m >>= then_args σ Γ (written_exprs (drop (suc i) es)) (drop (suc i) ts)) >>= and_args vs) p
     ∙ one_more vs v (typed_args σ Γ (written_exprs (drop (suc i) es)) (drop (suc i) ts)))
 
-pub along : {A : Type 0} (f : PassError) (m n : Result A SourceError) → m ≡ n → Refuses f n → Refuses f m
-along (fault.Source e) m n q h = q ∙ h
-along (fault.Limit l) m n q h = h
-along fault.NoMemory m n q h = tt
+-- from the start
+pub args_more_all : (σ : List Heading) (Γ : List Variable) (es : List Expr) (ts : List Ty) (i : ℕ) (e : Expr) (vs ws : List TypedExpr) (v : TypedExpr) → e ≡ get_or es i e → i < length es → typed σ Γ e (slice_get ts i) ≡ Ok v → ws ≡ vs ++ v ∷ [] → typed_args σ Γ (written_exprs es) ts ≡ continued σ Γ es ts i vs → typed_args σ Γ (written_exprs es) ts ≡ continued σ Γ es ts (i + 1) ws
+args_more_all σ Γ es ts i e vs ws v q h p pushed r = r ∙ args_more σ Γ es ts i e vs v q h p ∙ ap (continued σ Γ es ts (i + 1)) (sym pushed)
 
 pub args_stop : (f : PassError) (σ : List Heading) (Γ : List Variable) (es : List Expr) (ts : List Ty) (i : ℕ) (e : Expr) (vs : List TypedExpr) → e ≡ get_or es i e → i < length es → Refuses f (typed σ Γ e (slice_get ts i)) → Refuses f (continued σ Γ es ts i vs)
 args_stop f σ Γ es ts i e vs q h p =

@@ -8,9 +8,16 @@ use Rattle.logic_term.specs.declared.kinds.BinaryOp.{BinaryOp}
 use Rattle.logic_term.specs.declared.kinds.IntKind.{IntKind}
 use Rattle.logic_term.specs.Range.{fits}
 use Rattle.logic_term.specs.Ty.{Ty, int, bool}
-use Rattle.built_trees.specs.Expr.{Expr, Stmts, Exprs, integer, truth, named, negative, denied, binary, lazy, assign, update, call, block, branch, choice, repeat, done, last, bind, run, blocklike, none, more}
-use Rattle.built_trees.specs.ExprView.{span_of}
-use Rattle.built_trees.specs.Pterm.{Pterm}
+use Rattle.source_trees.specs.declared.attribute.Attribute.{Attribute}
+use Rattle.source_trees.specs.declared.attribute.AttributeNode.{AttributeNode}
+use Rattle.source_trees.specs.declared.attribute.AttributeNode.TheVariants as A
+use Rattle.source_trees.specs.declared.attribute.ClauseKind.TheVariants.{Invariant}
+use Rattle.source_trees.specs.declared.operator.UnaryOp.TheVariants.{Neg, Not}
+use Rattle.source_trees.specs.declared.path.Segment.{Segment}
+use Rattle.source_trees.specs.Expr as E
+use Rattle.source_trees.specs.Expr.{Expr}
+use Rattle.source_trees.specs.ExprView.{span_of}
+use Rattle.type_check.specs.declared.assertion.Assertion.{Assertion}
 use Rattle.type_check.specs.declared.heading.Callee.{Callee}
 use Rattle.type_check.specs.declared.heading.Heading.{Heading}
 use Rattle.type_check.specs.declared.operands.Operands.{Operands}
@@ -18,22 +25,25 @@ use Rattle.type_check.specs.declared.operands.Order.{Order}
 use Rattle.type_check.specs.declared.operands.Order.TheVariants as order
 use Rattle.type_check.specs.declared.operands.Target.{Target}
 use Rattle.type_check.specs.declared.operands.Target.TheVariants as target
+use Rattle.type_check.specs.declared.scope.Declared.{Declared}
 use Rattle.type_check.specs.declared.scope.Found.{Found}
 use Rattle.type_check.specs.declared.scope.Variable.{Variable}
-use Rattle.type_check.specs.Answers.{◌>>=◌, mismatch, not_mutable}
+use Rattle.type_check.specs.Answers.{◌>>=◌, mismatch, not_mutable, with_some, gather}
 use Rattle.type_check.specs.Functions.{callee}
 use Rattle.type_check.specs.Scope.{found}
 use Rattle.type_check.specs.Terms.{assertion}
 use Rattle.type_check.specs.TypedExpr.{TypedExpr, TypedStmts, TypedExprs}
 use Rattle.type_check.specs.TypedExpr as tree
-use Rattle.type_check.specs.TypedExprView.{ty_of}
+use Rattle.type_check.specs.TypedExprView.{ty_of, stmts_of}
 use Rattle.type_check.specs.Types.{same_ty, is_signed_ty}
-use Rattle.type_check.specs.Typing.{Typed, fit, literal_kind, literal_of, literal, variable_of, variable, negated, is_bare, order_without, order_of, operands_of, operands, operation, operated, as_name, target_variable, target_value, target_of, target_ty, if_mutable, assigned, is_updated, update_of, updated, known, how_many, first_of, rest_of, called, block_ty, declared, closed, typed, typed_rest, typed_args}
+use Rattle.type_check.specs.Typing.{Typed, fit, literal_kind, literal_of, literal, variable_of, variable, named, negated, is_bare, order_of, operands_of, operands, operation, operated, target_variable, target_value, target_of, target_ty, if_mutable, assigned, is_updated, update_of, updated, known, callee_of, how_many, first_of, rest_of, called, block_ty, declared, Opened, opened, typed_stmt, behind, closed, invariant_by, invariant_of, typed, typed_stmts, typed_args}
 use Rattle.type_check.specs.WellTyped.{unit, is_arithmetic, operation_ty, is_signed, IsOf, SpeaksOf, EachSpeaks, IsWellTyped, StatementsFit, ArgumentsFit}
+use Rattle.type_check.specs.Written.{as_name, name_alone, step_of}
 use Rattle.type_check.proofs.Bound.{bound, held, yes, same_ok}
 use Rattle.type_check.proofs.Lookups.{types, signatures_at, found_type, callee_signature}
 use Rattle.type_check.proofs.SameTypes.{equal_types}
 use Rattle.type_check.proofs.Speaking.{assertion_speaks}
+use Rattle.type_check.proofs.StatementLists.{block_ty_after}
 
 abbrev pub Meets : Option Ty → TypedExpr → Type 0
 Meets None e = Unit {0}
@@ -75,6 +85,10 @@ variable_sound : (σ : List Heading) (Γ : List Variable) (t : Option Ty) (s : S
 unfolding variable
 variable_sound σ Γ t s x r p = variable_at σ Γ t s (found x Γ) r (found_type Γ x) p
 
+named_sound : (σ : List Heading) (Γ : List Variable) (t : Option Ty) (s : Span) (o : Option Segment) (r : TypedExpr) → named Γ t s o ≡ Ok r → Sound σ Γ t r
+named_sound σ Γ t s None r p = absurd (cc)
+named_sound σ Γ t s (Some x) r p = variable_sound σ Γ t s x.name r p
+
 -- ---- operators
 
 signed_int : (u : Ty) → is_signed_ty u ≡ true → (k : IntKind) × (is_signed k ≡ true) × (u ≡ int k)
@@ -92,21 +106,6 @@ pub record BothSound (σ : List Heading) (Γ : List Variable) (p : Operands) : T
   pub left : IsWellTyped (signatures_at σ) (types Γ) p.left
   pub right : IsWellTyped (signatures_at σ) (types Γ) p.right
   pub same : IsOf (ty_of p.left) p.right
-
--- where both operands are checked against one type, this is there
-abbrev pub IsDecided : Order → Type 0
-IsDecided (order.Against None) = ⊥
-IsDecided _ = Unit {0}
-
-decided_without : (first second : Bool) → IsDecided (order_without first second)
-decided_without true true = tt
-decided_without true false = tt
-decided_without false second = tt
-
-order_decided : (b : Bool) (t : Option Ty) (first second : Bool) → IsDecided (order_of b t first second)
-order_decided true (Some t) first second = tt
-order_decided true None first second = decided_without first second
-order_decided false t first second = decided_without first second
 
 operation_sound : (σ : List Heading) (Γ : List Variable) (u t : Option Ty) (s o r : Span) (op : BinaryOp) (p : Operands) (e : TypedExpr) → operation_ty op (ty_of p.left) ≡ u → BothSound σ Γ p → operation u t s o r op p ≡ Ok e → Sound σ Γ t e
 operation_sound σ Γ None t s o r op p e q b h = absurd (cc)
@@ -161,6 +160,10 @@ known_callee : (s : Span) (o : Option Callee) (f : Callee) → known s o ≡ Ok 
 known_callee s None f p = absurd (cc)
 known_callee s (Some g) f p = ap Some (same_ok _ _ p)
 
+called_callee : (σ : List Heading) (Γ : List Variable) (s : Span) (o : Option Segment) (f : Callee) → callee_of σ Γ s o ≡ Ok f → slice_get (signatures_at σ) f.place ≡ Some f.signature
+called_callee σ Γ s None f p = absurd (cc)
+called_callee σ Γ s (Some x) f p = callee_signature σ Γ x.name f (known_callee x.span (callee σ Γ x.name) f p)
+
 abbrev pub AllSound : List Heading → List Variable → TypedExprs → List Ty → Type 0
 AllSound σ Γ es ts = how_many es ≡ length ts → ArgumentsFit (signatures_at σ) (types Γ) es ts
 
@@ -195,9 +198,36 @@ length-types : (Γ : List Variable) → length (types Γ) ≡ length Γ
 length-types [] = refl
 length-types (v ∷ Γ) = ap suc (length-types Γ)
 
-invariants_speak : (Γ : List Variable) (ts : List Pterm) → EachSpeaks (length (types Γ)) (map (assertion None Γ) ts)
-invariants_speak Γ [] = tt
-invariants_speak Γ (t ∷ ts) = (subst (λ n. SpeaksOf n (assertion None Γ t)) (sym (length-types Γ)) (assertion_speaks Γ t), invariants_speak Γ ts)
+speaks_there : (Γ : List Variable) (a : Assertion) → SpeaksOf (length Γ) a → SpeaksOf (length (types Γ)) a
+speaks_there Γ a h = subst (λ n. SpeaksOf n a) (sym (length-types Γ)) h
+
+abbrev SomeSpeaks : ℕ → Option Assertion → Type 0
+SomeSpeaks n None = Unit {0}
+SomeSpeaks n (Some a) = SpeaksOf n a
+
+same_some : (o p : Option Assertion) → yes o ≡ Ok p → o ≡ p
+same_some o p q = same_ok _ _ q
+
+invariant_speaks : (Γ : List Variable) (s : Span) (n : AttributeNode) (o : Option Assertion) → invariant_by Γ s n ≡ Ok o → SomeSpeaks (length (types Γ)) o
+invariant_speaks Γ s (A.Clause Invariant t) o p = subst (SomeSpeaks (length (types Γ))) (same_some (Some (assertion None Γ t)) o p) (speaks_there Γ (assertion None Γ t) (assertion_speaks Γ t))
+invariant_speaks Γ s A.Skipped o p = subst (SomeSpeaks (length (types Γ))) (same_some None o p) tt
+invariant_speaks Γ s n o p = absurd (cc)
+
+attribute_speaks : (Γ : List Variable) (a : Attribute) (o : Option Assertion) → invariant_of Γ a ≡ Ok o → SomeSpeaks (length (types Γ)) o
+unfolding invariant_of
+attribute_speaks Γ a o p = invariant_speaks Γ a.span a.node o p
+
+joined_speak : (n : ℕ) (o : Option Assertion) (rest : List Assertion) → SomeSpeaks n o → EachSpeaks n rest → EachSpeaks n (with_some o rest)
+joined_speak n None rest h k = k
+joined_speak n (Some a) rest h k = (h, k)
+
+invariants_speak : (Γ : List Variable) (as' : List Attribute) (is : List Assertion) → gather (invariant_of Γ) as' ≡ Ok is → EachSpeaks (length (types Γ)) is
+invariants_speak Γ [] is p = subst (EachSpeaks (length (types Γ))) (same_ok _ _ p) tt
+invariants_speak Γ (a ∷ as') is p =
+    let o = bound (invariant_of Γ a) _ is p in
+    let rest = bound (gather (invariant_of Γ) as') _ is o.2 in
+    subst (EachSpeaks (length (types Γ))) (same_ok _ _ rest.2)
+    (joined_speak (length (types Γ)) o.0 rest.0 (attribute_speaks Γ a o.0 o.1) (invariants_speak Γ as' rest.0 rest.1))
 
 -- ---- expressions
 
@@ -208,20 +238,19 @@ EachSound σ Γ f = (t : Option Ty) (r : TypedExpr) → f t ≡ Ok r → Sound �
 both_sound : (σ : List Heading) (Γ : List Variable) (a b : TypedExpr) (p : Operands) → IsWellTyped (signatures_at σ) (types Γ) a → IsWellTyped (signatures_at σ) (types Γ) b → ty_of b ≡ ty_of a → yes (operands_of a b) ≡ Ok p → BothSound σ Γ p
 both_sound σ Γ a b p wa wb q h = subst (BothSound σ Γ) (same_ok _ _ h) (record { left = wa; right = wb; same = q })
 
-operands_sound : (σ : List Heading) (Γ : List Variable) (o : Order) (f g : Option Ty → Typed) (p : Operands) → IsDecided o → EachSound σ Γ f → EachSound σ Γ g → operands o f g ≡ Ok p → BothSound σ Γ p
-operands_sound σ Γ (order.Against (Some t)) f g p d hf hg h =
+operands_sound : (σ : List Heading) (Γ : List Variable) (o : Order) (f g : Option Ty → Typed) (p : Operands) → EachSound σ Γ f → EachSound σ Γ g → operands o f g ≡ Ok p → BothSound σ Γ p
+operands_sound σ Γ (order.Against t) f g p hf hg h =
     let a = bound (f (Some t)) _ p h in
     let b = bound (g (Some t)) _ p a.2 in
     let sa = hf (Some t) a.0 a.1 in
     let sb = hg (Some t) b.0 b.1 in
     both_sound σ Γ a.0 b.0 p sa.well sb.well (sb.meets ∙ sym sa.meets) b.2
-operands_sound σ Γ (order.Against None) f g p d hf hg h = absurd d
-operands_sound σ Γ order.SecondGives f g p d hf hg h =
+operands_sound σ Γ order.SecondGives f g p hf hg h =
     let b = bound (g None) _ p h in
     let a = bound (f (Some (ty_of b.0))) _ p b.2 in
     let sa = hf (Some (ty_of b.0)) a.0 a.1 in
     both_sound σ Γ a.0 b.0 p sa.well (hg None b.0 b.1).well (sym sa.meets) a.2
-operands_sound σ Γ order.FirstGives f g p d hf hg h =
+operands_sound σ Γ order.FirstGives f g p hf hg h =
     let a = bound (f None) _ p h in
     let b = bound (g (Some (ty_of a.0))) _ p a.2 in
     let sb = hg (Some (ty_of a.0)) b.0 b.1 in
@@ -231,66 +260,87 @@ target_variable_sound : (σ : List Heading) (Γ : List Variable) (s : Span) (o :
 target_variable_sound σ Γ s None a h p = absurd (cc)
 target_variable_sound σ Γ s (Some v) a h p = subst (TargetSound σ Γ) (same_ok _ _ p) (h v refl)
 
-target_sound : (σ : List Heading) (Γ : List Variable) (s : Span) (x : Option Name) (f : Option Ty → Typed) (a : Target) → EachSound σ Γ f → target_of Γ s x f ≡ Ok a → TargetSound σ Γ a
-target_sound σ Γ s (Some x) f a h p = target_variable_sound σ Γ s (found x Γ) a (found_type Γ x) p
+target_sound : (σ : List Heading) (Γ : List Variable) (s : Span) (x : Option Segment) (f : Option Ty → Typed) (a : Target) → EachSound σ Γ f → target_of Γ s x f ≡ Ok a → TargetSound σ Γ a
+target_sound σ Γ s (Some x) f a h p = target_variable_sound σ Γ s (found x.name Γ) a (found_type Γ x.name) p
 target_sound σ Γ s None f a h p =
     let e = bound (f None) target_value a p in
     subst (TargetSound σ Γ) (same_ok _ _ e.2) (h None e.0 e.1).well
 
+-- what stands behind statements fits in the scope behind them, and all together in that before them
+abbrev pub OpenedSound : List Heading → List Variable → Opened → Type 0
+OpenedSound σ Γ o = (u : Ty) (end : TypedStmts) → StatementsFit (signatures_at σ) (types o.scope) u end → StatementsFit (signatures_at σ) (types Γ) u (stmts_of o.stmts end)
+
+nothing_opened : (σ : List Heading) (Γ : List Variable) → OpenedSound σ Γ (opened Γ [])
+nothing_opened σ Γ u end h = h
+
+declared_sound : (σ : List Heading) (Γ : List Variable) (d : Option Declared) (t : Option Ty) (a : TypedExpr) (o : Opened) → IsWellTyped (signatures_at σ) (types Γ) a → OpenedSound σ (declared Γ d a) o → OpenedSound σ Γ (behind (typed_stmt (record { declares = d; expected = t }) a) o)
+declared_sound σ Γ None t a o w h = λ u end k. (w, h u end k)
+declared_sound σ Γ (Some d) t a o w h = λ u end k.
+    (w, subst (λ ts. StatementsFit (signatures_at σ) ts u (stmts_of o.stmts end)) (types-append Γ (record { name = d.name; ty = ty_of a; mutable = d.mutable })) (h u end k))
+
+-- a block of these statements, with what stands behind them
+block_sound : (σ : List Heading) (Γ : List Variable) (t : Option Ty) (s : Span) (o : Opened) (end : TypedStmts) (r : TypedExpr) → OpenedSound σ Γ o → StatementsFit (signatures_at σ) (types o.scope) (block_ty end) end → closed t s (stmts_of o.stmts end) ≡ Ok r → Sound σ Γ t r
+block_sound σ Γ t s o end r h k p =
+    closed_sound σ Γ t s (stmts_of o.stmts end) r
+    (subst (λ u. StatementsFit (signatures_at σ) (types Γ) u (stmts_of o.stmts end)) (sym (block_ty_after o.stmts end)) (h (block_ty end) end k)) p
+
 mutual
   pub typed_sound : (σ : List Heading) (Γ : List Variable) (e : Expr) (t : Option Ty) (r : TypedExpr) → typed σ Γ e t ≡ Ok r → Sound σ Γ t r
-  typed_sound σ Γ (integer s z k) t r p = literal_sound σ Γ t s z k r p
-  typed_sound σ Γ (truth s b) t r p = fit_sound σ Γ t s (tree.truth bool s b) r refl p
-  typed_sound σ Γ (named s x) t r p = variable_sound σ Γ t s x r p
-  typed_sound σ Γ (negative s o e) t r p =
+  typed_sound σ Γ (E.integer s z k) t r p = literal_sound σ Γ t s z k r p
+  typed_sound σ Γ (E.truth s b) t r p = fit_sound σ Γ t s (tree.truth bool s b) r refl p
+  typed_sound σ Γ (E.path s w) t r p = named_sound σ Γ t s (name_alone w.node) r p
+  typed_sound σ Γ (E.unary s Neg o e) t r p =
       let a = bound (typed σ Γ e t) _ r p in
       negated_sound σ Γ t s o (span_of e) a.0 r (typed_sound σ Γ e t a.0 a.1).well a.2
-  typed_sound σ Γ (denied s e) t r p =
+  typed_sound σ Γ (E.unary s Not o e) t r p =
       let a = bound (typed σ Γ e (Some bool)) _ r p in
       let sa = typed_sound σ Γ e (Some bool) a.0 a.1 in
       fit_sound σ Γ t s (tree.denied bool s a.0) r (refl, sa.meets, sa.well) a.2
-  typed_sound σ Γ (binary s op o a b) t r p =
+  typed_sound σ Γ (E.binary s op o a b) t r p =
       let q = bound (operands (order_of (is_arithmetic op) t (is_bare a) (is_bare b)) (typed σ Γ a) (typed σ Γ b)) _ r p in
       operated_sound σ Γ t s o (span_of a) op q.0 r
       (operands_sound σ Γ (order_of (is_arithmetic op) t (is_bare a) (is_bare b)) (typed σ Γ a) (typed σ Γ b) q.0
-      (order_decided (is_arithmetic op) t (is_bare a) (is_bare b))
       (λ u v h. typed_sound σ Γ a u v h) (λ u v h. typed_sound σ Γ b u v h) q.1)
       q.2
-  typed_sound σ Γ (lazy s op a b) t r p =
+  typed_sound σ Γ (E.lazy s op a b) t r p =
       let x = bound (typed σ Γ a (Some bool)) _ r p in
       let y = bound (typed σ Γ b (Some bool)) _ r x.2 in
       let sx = typed_sound σ Γ a (Some bool) x.0 x.1 in
       let sy = typed_sound σ Γ b (Some bool) y.0 y.1 in
       fit_sound σ Γ t s (tree.lazy bool s op x.0 y.0) r (refl, sx.meets, sy.meets, sx.well, sy.well) y.2
-  typed_sound σ Γ (assign s l e) t r p =
+  typed_sound σ Γ (E.assign s l e) t r p =
       let a = bound (target_of Γ (span_of l) (as_name l) (typed σ Γ l)) _ r p in
       let b = bound (typed σ Γ e (Some (target_ty a.0))) _ r a.2 in
       let sb = typed_sound σ Γ e (Some (target_ty a.0)) b.0 b.1 in
       assigned_sound σ Γ t s (span_of l) a.0 b.0 r
       (target_sound σ Γ (span_of l) (as_name l) (typed σ Γ l) a.0 (λ u v h. typed_sound σ Γ l u v h) a.1)
       sb.well sb.meets b.2
-  typed_sound σ Γ (update s op o l e) t r p =
+  typed_sound σ Γ (E.update s op o l e) t r p =
       let a = bound (target_of Γ (span_of l) (as_name l) (typed σ Γ l)) _ r p in
       let b = bound (typed σ Γ e (Some (target_ty a.0))) _ r a.2 in
       let sb = typed_sound σ Γ e (Some (target_ty a.0)) b.0 b.1 in
       updated_sound σ Γ t s o (span_of l) op a.0 b.0 r
       (target_sound σ Γ (span_of l) (as_name l) (typed σ Γ l) a.0 (λ u v h. typed_sound σ Γ l u v h) a.1)
       sb.well sb.meets b.2
-  typed_sound σ Γ (call s x v es) t r p =
-      let f = bound (known v (callee σ Γ x)) _ r p in
-      let as' = bound (typed_args σ Γ es f.0.signature.params) _ r f.2 in
-      called_sound σ Γ t s f.0 as'.0 r (callee_signature σ Γ x f.0 (known_callee v (callee σ Γ x) f.0 f.1))
-      (args_sound σ Γ es f.0.signature.params as'.0 as'.1) as'.2
-  typed_sound σ Γ (block s ss) t r p =
-      let a = bound (typed_rest σ Γ ss t) _ r p in
-      closed_sound σ Γ t s a.0 r (rest_sound σ Γ ss t a.0 a.1) a.2
-  typed_sound σ Γ (branch s c a) t r p =
+  typed_sound σ Γ (E.call s f es) t r p =
+      let g = bound (callee_of σ Γ s (as_name f)) _ r p in
+      let as' = bound (typed_args σ Γ es g.0.signature.params) _ r g.2 in
+      called_sound σ Γ t s g.0 as'.0 r (called_callee σ Γ s (as_name f) g.0 g.1)
+      (args_sound σ Γ es g.0.signature.params as'.0 as'.1) as'.2
+  typed_sound σ Γ (E.block s ss) t r p =
+      let o = bound (typed_stmts σ Γ ss) _ r p in
+      block_sound σ Γ t s o.0 tree.done r (stmts_sound σ Γ ss o.0 o.1) refl o.2
+  typed_sound σ Γ (E.block_with s ss e) t r p =
+      let o = bound (typed_stmts σ Γ ss) _ r p in
+      let a = bound (typed σ o.0.scope e t) _ r o.2 in
+      block_sound σ Γ t s o.0 (tree.last a.0) r (stmts_sound σ Γ ss o.0 o.1) (refl, (typed_sound σ o.0.scope e t a.0 a.1).well) a.2
+  typed_sound σ Γ (E.branch s None c a) t r p =
       let x = bound (typed σ Γ c (Some bool)) _ r p in
       let y = bound (typed σ Γ a (Some unit)) _ r x.2 in
       let sx = typed_sound σ Γ c (Some bool) x.0 x.1 in
       let sy = typed_sound σ Γ a (Some unit) y.0 y.1 in
       fit_sound σ Γ t s (tree.branch unit s x.0 y.0) r (refl, sx.meets, sy.meets, sx.well, sy.well) y.2
-  typed_sound σ Γ (choice s c a b) t r p =
+  typed_sound σ Γ (E.choice s None c a b) t r p =
       let x = bound (typed σ Γ c (Some bool)) _ r p in
       let y = bound (typed σ Γ a t) _ r x.2 in
       let z = bound (typed σ Γ b (Some (ty_of y.0))) _ r y.2 in
@@ -298,41 +348,33 @@ mutual
       let sy = typed_sound σ Γ a t y.0 y.1 in
       let sz = typed_sound σ Γ b (Some (ty_of y.0)) z.0 z.1 in
       fit_sound σ Γ t s (tree.choice (ty_of y.0) s x.0 y.0 z.0) r (sx.meets, refl, sz.meets, sx.well, sy.well, sz.well) z.2
-  typed_sound σ Γ (repeat s is c b) t r p =
+  typed_sound σ Γ (E.repeat s None c b) t r p =
       let x = bound (typed σ Γ c (Some bool)) _ r p in
       let y = bound (typed σ Γ b (Some unit)) _ r x.2 in
       let sx = typed_sound σ Γ c (Some bool) x.0 x.1 in
       let sy = typed_sound σ Γ b (Some unit) y.0 y.1 in
-      fit_sound σ Γ t s (tree.repeat unit s (map (assertion None Γ) is) x.0 y.0) r
-      (refl, invariants_speak Γ is, sx.meets, sy.meets, sx.well, sy.well) y.2
+      fit_sound σ Γ t s (tree.repeat unit s [] x.0 y.0) r (refl, tt, sx.meets, sy.meets, sx.well, sy.well) y.2
+  typed_sound σ Γ (E.attributed s as' (E.repeat v None c b)) t r p =
+      let is = bound (gather (invariant_of Γ) as') _ r p in
+      let x = bound (typed σ Γ c (Some bool)) _ r is.2 in
+      let y = bound (typed σ Γ b (Some unit)) _ r x.2 in
+      let sx = typed_sound σ Γ c (Some bool) x.0 x.1 in
+      let sy = typed_sound σ Γ b (Some unit) y.0 y.1 in
+      fit_sound σ Γ t s (tree.repeat unit s is.0 x.0 y.0) r (refl, invariants_speak Γ as' is.0 is.1, sx.meets, sy.meets, sx.well, sy.well) y.2
+  typed_sound σ Γ e t r p = absurd (cc)
 
-  rest_sound : (σ : List Heading) (Γ : List Variable) (ss : Stmts) (t : Option Ty) (r : TypedStmts) → typed_rest σ Γ ss t ≡ Ok r → StatementsFit (signatures_at σ) (types Γ) (block_ty r) r
-  rest_sound σ Γ done t r p = subst (λ (r : TypedStmts). StatementsFit (signatures_at σ) (types Γ) (block_ty r) r) (same_ok _ _ p) refl
-  rest_sound σ Γ (last e) t r p =
-      let a = bound (typed σ Γ e t) _ r p in
-      subst (λ (r : TypedStmts). StatementsFit (signatures_at σ) (types Γ) (block_ty r) r) (same_ok _ _ a.2) (refl, (typed_sound σ Γ e t a.0 a.1).well)
-  rest_sound σ Γ (bind b e ss) t r p =
-      let a = bound (typed σ Γ e b.ty) _ r p in
-      let c = bound (typed_rest σ (declared Γ b a.0) ss t) _ r a.2 in
-      let h = rest_sound σ (declared Γ b a.0) ss t c.0 c.1 in
-      subst (λ (r : TypedStmts). StatementsFit (signatures_at σ) (types Γ) (block_ty r) r) (same_ok _ _ c.2) (
-        (typed_sound σ Γ e b.ty a.0 a.1).well,
-        subst (λ ts. StatementsFit (signatures_at σ) ts (block_ty c.0) c.0) (types-append Γ (record { name = b.name; ty = ty_of a.0; mutable = b.mutable })) h,
-      )
-  rest_sound σ Γ (run e ss) t r p =
-      let a = bound (typed σ Γ e None) _ r p in
-      let c = bound (typed_rest σ Γ ss t) _ r a.2 in
-      subst (λ (r : TypedStmts). StatementsFit (signatures_at σ) (types Γ) (block_ty r) r) (same_ok _ _ c.2)
-      ((typed_sound σ Γ e None a.0 a.1).well, rest_sound σ Γ ss t c.0 c.1)
-  rest_sound σ Γ (blocklike e ss) t r p =
-      let a = bound (typed σ Γ e (Some unit)) _ r p in
-      let c = bound (typed_rest σ Γ ss t) _ r a.2 in
-      subst (λ (r : TypedStmts). StatementsFit (signatures_at σ) (types Γ) (block_ty r) r) (same_ok _ _ c.2)
-      ((typed_sound σ Γ e (Some unit) a.0 a.1).well, rest_sound σ Γ ss t c.0 c.1)
+  stmts_sound : (σ : List Heading) (Γ : List Variable) (ss : E.Stmts) (o : Opened) → typed_stmts σ Γ ss ≡ Ok o → OpenedSound σ Γ o
+  stmts_sound σ Γ E.no_stmts o p = subst (OpenedSound σ Γ) (same_ok _ _ p) (nothing_opened σ Γ)
+  stmts_sound σ Γ (E.with_stmt s k e ss) o p =
+      let w = bound (step_of k) _ o p in
+      let a = bound (typed σ Γ e w.0.expected) _ o w.2 in
+      let c = bound (typed_stmts σ (declared Γ w.0.declares a.0) ss) _ o a.2 in
+      subst (OpenedSound σ Γ) (same_ok _ _ c.2)
+      (declared_sound σ Γ w.0.declares w.0.expected a.0 c.0 (typed_sound σ Γ e w.0.expected a.0 a.1).well (stmts_sound σ (declared Γ w.0.declares a.0) ss c.0 c.1))
 
-  args_sound : (σ : List Heading) (Γ : List Variable) (es : Exprs) (ts : List Ty) (r : TypedExprs) → typed_args σ Γ es ts ≡ Ok r → AllSound σ Γ r ts
-  args_sound σ Γ none ts r p = subst (λ (r : TypedExprs). AllSound σ Γ r ts) (same_ok _ _ p) (no_args σ Γ ts)
-  args_sound σ Γ (more e es) ts r p =
+  args_sound : (σ : List Heading) (Γ : List Variable) (es : E.Exprs) (ts : List Ty) (r : TypedExprs) → typed_args σ Γ es ts ≡ Ok r → AllSound σ Γ r ts
+  args_sound σ Γ E.none ts r p = subst (λ (r : TypedExprs). AllSound σ Γ r ts) (same_ok _ _ p) (no_args σ Γ ts)
+  args_sound σ Γ (E.more e es) ts r p =
       let a = bound (typed σ Γ e (first_of ts)) _ r p in
       let c = bound (typed_args σ Γ es (rest_of ts)) _ r a.2 in
       subst (λ (r : TypedExprs). AllSound σ Γ r ts) (same_ok _ _ c.2)

@@ -1,13 +1,13 @@
 pub mod Arguments
 pub mod Bound
-pub mod BuiltTypes
 pub mod Fits
 pub mod Lookups
+pub mod PartByPart
 pub mod Parts
 pub mod Refusing
 pub mod SameTypes
 pub mod Speaking
 pub mod StatementLists
-pub mod TypedFunctions
 pub mod TypedParts
 pub mod Whole
+pub mod WrittenTypes

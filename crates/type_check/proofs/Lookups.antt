@@ -1,5 +1,8 @@
 -- What is found in a scope and among functions stands there.
-use Rattle.std.proofs.Common.{◌≡◌, ℕ, zero, suc, ◌+◌, ◌<◌, ◌==◌, Bool, true, false, List, [], ◌∷◌, length, map, Option, Some, None, refl, ap, subst, arith}
+use Rattle.std.proofs.Common.{◌≡◌, ℕ, zero, suc, ◌+◌, ◌<◌, ◌==◌, Bool, true, false, List, [], ◌∷◌, ◌++◌, length, get_or, take, map, Option, Some, None, refl, ap, sym, subst, ◌∙◌, add-one, ◌≢◌, arith}
+use Rattle.std.proofs.lemmas.Bool.Decides.{nat_tests}
+use Rattle.std.proofs.Math.Seq.{take-suc, take-length}
+use Rattle.std.proofs.lemmas.List.{length-take}
 use Rattle.std.specs.Prelude.{slice_get, if◌then◌else◌}
 use Rattle.std.proofs.lemmas.Option.{slice_get_within}
 use Rattle.text_core.specs.declared.name.Name.{Name}
@@ -9,11 +12,9 @@ use Rattle.type_check.specs.declared.heading.Heading.{Heading}
 use Rattle.type_check.specs.declared.program.Signature.{Signature}
 use Rattle.type_check.specs.declared.scope.Found.{Found}
 use Rattle.type_check.specs.declared.scope.Variable.{Variable}
+use Rattle.type_check.specs.Checked.{type_of}
 use Rattle.type_check.specs.Functions.{callee, callee_at, function_from, unless_variable}
 use Rattle.type_check.specs.Scope.{at_place, found, found_from}
-
-abbrev pub type_of : Variable → Ty
-type_of v = v.ty
 
 -- the types of the variables in scope
 abbrev pub types : List Variable → List Ty
@@ -81,3 +82,36 @@ callee_signature σ Γ x w p =
     function_holds (λ w. slice_get (signatures_at σ) w.place ≡ Some w.signature) 0 x σ
     (λ j h q. let e : j ≡ 0 + j = omega arith in subst (λ n. slice_get (signatures_at σ) n ≡ Some h.signature) e (get_signature σ j h q))
     w (no_variable (found x Γ) (function_from 0 x σ) w p)
+
+-- ---- from the end
+
+found_from-append : (best : Option Found) (k : ℕ) (x : Name) (Γ : List Variable) (v : Variable) → found_from best k x (Γ ++ v ∷ []) ≡ (if x.0 == v.name.0 then Some (at_place (k + length Γ) v) else found_from best k x Γ)
+found_from-append best k x [] v = let e : k ≡ k + 0 = omega arith in ap (λ n. if x.0 == v.name.0 then Some (at_place n v) else best) e
+found_from-append best k x (u ∷ Γ) v =
+    let e : k + 1 + length Γ ≡ k + suc (length Γ) = omega arith in
+    let next = if x.0 == u.name.0 then Some (at_place k u) else best in
+    found_from-append next (k + 1) x Γ v ∙ ap (λ n. if x.0 == v.name.0 then Some (at_place n v) else found_from next (k + 1) x Γ) e
+
+length_taken : (Γ : List Variable) (i : ℕ) → i < length Γ → length (take i Γ) ≡ i
+length_taken Γ i h = omega (arith, length-take i Γ)
+
+taken : (Γ : List Variable) (i : ℕ) (v : Variable) → v ≡ get_or Γ i v → i < length Γ → take (i + 1) Γ ≡ take i Γ ++ v ∷ []
+taken Γ i v q h = rw add-one (take-suc Γ i v h ∙ ap (λ u. take i Γ ++ u ∷ []) (sym q))
+
+found_next : (x : Name) (Γ : List Variable) (i : ℕ) (v : Variable) → v ≡ get_or Γ i v → i < length Γ → found x (take (i + 1) Γ) ≡ (if x.0 == v.name.0 then Some (at_place i v) else found x (take i Γ))
+found_next x Γ i v q h =
+    ap (found x) (taken Γ i v q h)
+    ∙ found_from-append None 0 x (take i Γ) v
+    ∙ ap (λ n. if x.0 == v.name.0 then Some (at_place n v) else found x (take i Γ)) (let e = length_taken Γ i h in omega arith)
+
+-- the last variable of the name is the first from the end
+pub found_here : (x : Name) (Γ : List Variable) (i : ℕ) (v : Variable) → v ≡ get_or Γ i v → i < length Γ → x.0 ≡ v.name.0 → found x (take (i + 1) Γ) ≡ Some (at_place i v)
+found_here x Γ i v q h e = found_next x Γ i v q h ∙ (let t : (x.0 == v.name.0) ≡ true = grind (arith, nat_tests) in rw t refl)
+
+pub found_below : (x : Name) (Γ : List Variable) (i : ℕ) (v : Variable) → v ≡ get_or Γ i v → i < length Γ → x.0 ≢ v.name.0 → found x (take (i + 1) Γ) ≡ found x (take i Γ)
+found_below x Γ i v q h e = found_next x Γ i v q h ∙ (let t : (x.0 == v.name.0) ≡ false = grind (arith, nat_tests) in rw t refl)
+
+pub found_all : (x : Name) (Γ : List Variable) (n : ℕ) → n ≡ length Γ → found x (take n Γ) ≡ found x Γ
+found_all x Γ n q = rw q (ap (found x) (take-length Γ))
+
+pub ruleset lookups = (found_here, found_below, found_all)

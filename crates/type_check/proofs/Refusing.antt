@@ -1,5 +1,5 @@
 -- Refusals of program code have causes.
-use Rattle.std.proofs.Common.{◌≡◌, ◌⊎◌, inl, inr, ◌==◌, Bool, true, false, List, length, map, Option, Some, None, Result, Ok, Err, refl, ap, sym, subst}
+use Rattle.std.proofs.Common.{◌≡◌, ◌⊎◌, inl, inr, ◌==◌, Bool, true, false, List, [], ◌∷◌, length, Option, Some, None, Result, Ok, Err, refl, ap, sym, subst}
 use Rattle.std.specs.Prelude.{ℤ, if◌then◌else◌}
 use Rattle.text_core.specs.declared.name.Name.{Name}
 use Rattle.text_core.specs.declared.refusal.SourceError.{SourceError}
@@ -7,9 +7,21 @@ use Rattle.text_core.specs.declared.span.Span.{Span}
 use Rattle.logic_term.specs.declared.kinds.BinaryOp.{BinaryOp}
 use Rattle.logic_term.specs.declared.kinds.IntKind.{IntKind}
 use Rattle.logic_term.specs.Range.{fits}
-use Rattle.logic_term.specs.Ty.{Ty, int, bool}
-use Rattle.built_trees.specs.Expr.{Expr, Stmts, Exprs, integer, truth, named, negative, denied, binary, lazy, assign, update, call, block, branch, choice, repeat, done, last, bind, run, blocklike, none, more}
-use Rattle.built_trees.specs.ExprView.{span_of}
+use Rattle.logic_term.specs.Ty.{Ty, int, bool, unit_ty}
+use Rattle.source_trees.specs.declared.attribute.Attribute.{Attribute}
+use Rattle.source_trees.specs.declared.attribute.AttributeNode.{AttributeNode}
+use Rattle.source_trees.specs.declared.attribute.AttributeNode.TheVariants as A
+use Rattle.source_trees.specs.declared.attribute.ClauseKind.TheVariants.{Invariant}
+use Rattle.source_trees.specs.declared.operator.UnaryOp.TheVariants.{Neg, Not}
+use Rattle.source_trees.specs.declared.path.Segment.{Segment}
+use Rattle.source_trees.specs.declared.statement.StmtKind.{StmtKind}
+use Rattle.source_trees.specs.declared.statement.StmtKind.TheVariants as kind
+use Rattle.source_trees.specs.Expr as E
+use Rattle.source_trees.specs.Expr.{Expr}
+use Rattle.source_trees.specs.ExprView.{span_of}
+use Rattle.source_trees.specs.Pat as P
+use Rattle.source_trees.specs.TypeTree as W
+use Rattle.type_check.specs.declared.assertion.Assertion.{Assertion}
 use Rattle.type_check.specs.declared.heading.Callee.{Callee}
 use Rattle.type_check.specs.declared.heading.Heading.{Heading}
 use Rattle.type_check.specs.declared.operands.Operands.{Operands}
@@ -17,19 +29,22 @@ use Rattle.type_check.specs.declared.operands.Order.{Order}
 use Rattle.type_check.specs.declared.operands.Order.TheVariants as order
 use Rattle.type_check.specs.declared.operands.Target.{Target}
 use Rattle.type_check.specs.declared.operands.Target.TheVariants as target
+use Rattle.type_check.specs.declared.scope.Declared.{Declared}
 use Rattle.type_check.specs.declared.scope.Found.{Found}
 use Rattle.type_check.specs.declared.scope.Variable.{Variable}
-use Rattle.type_check.specs.Answers.{◌>>=◌, unknown_name, mismatch, not_mutable}
-use Rattle.type_check.specs.Causes.{IsMismatch, IsUnknown, IsNotWritten, Causes, CausesInRest, CausesInArgs}
+use Rattle.type_check.specs.declared.statements.Step.{Step}
+use Rattle.type_check.specs.Answers.{◌>>=◌, unknown_name, mismatch, unbuilt, not_mutable, with_some, gather}
+use Rattle.type_check.specs.Causes.{IsMismatch, IsUnbuilt, IsUnknown, IsNotRead, IsNotWritten, IsNotCalled, Causes, CausesInStmts, CausesInArgs}
 use Rattle.type_check.specs.Functions.{callee}
 use Rattle.type_check.specs.Scope.{found}
 use Rattle.type_check.specs.Terms.{assertion}
 use Rattle.type_check.specs.TypedExpr.{TypedExpr, TypedStmts, TypedExprs}
 use Rattle.type_check.specs.TypedExpr as tree
-use Rattle.type_check.specs.TypedExprView.{ty_of}
+use Rattle.type_check.specs.TypedExprView.{ty_of, stmts_of}
 use Rattle.type_check.specs.Types.{same_ty, is_signed_ty}
-use Rattle.type_check.specs.Typing.{Typed, fit, literal_kind, literal_of, literal, variable_of, variable, negated, is_bare, order_of, operands_of, operands, operation, operated, as_name, target_variable, target_value, target_of, target_ty, if_mutable, assigned, is_updated, update_of, updated, known, how_many, first_of, rest_of, called, block_ty, declared, closed, typed, typed_rest, typed_args}
+use Rattle.type_check.specs.Typing.{Typed, fit, literal_kind, literal_of, literal, variable_of, variable, named, negated, is_bare, order_of, operands_of, operands, operation, operated, target_variable, target_value, target_of, target_ty, if_mutable, assigned, is_updated, update_of, updated, known, callee_of, how_many, first_of, rest_of, called, block_ty, declared, Opened, behind, typed_stmt, closed, invariant_by, invariant_of, typed, typed_stmts, typed_args}
 use Rattle.type_check.specs.WellTyped.{unit, is_arithmetic, operation_ty}
+use Rattle.type_check.specs.Written.{as_name, name_alone, named_type, type_or, written_type, written_or_none, name_or, declared_by, step_of}
 use Rattle.type_check.proofs.Bound.{bound, yes, same_ok}
 
 -- where a chain stops: at its first part, or after it
@@ -63,6 +78,10 @@ variable_stops : (Γ : List Variable) (t : Option Ty) (s : Span) (x : Name) (e :
 unfolding variable
 variable_stops Γ t s x e p = variable_at t s (found x Γ) e p
 
+named_stops : (Γ : List Variable) (t : Option Ty) (s : Span) (o : Option Segment) (e : SourceError) → named Γ t s o ≡ Err e → IsMismatch e ⊎ IsNotRead Γ s o e
+named_stops Γ t s None e p = let q : unbuilt s ≡ e = cc in inr (sym q)
+named_stops Γ t s (Some x) e p = variable_stops Γ t s x.name e p
+
 negated_stops : (t : Option Ty) (s o r : Span) (a : TypedExpr) (e : SourceError) → negated t s o r a ≡ Err e → IsMismatch e
 unfolding negated
 negated_stops t s o r a e p = unheld (is_signed_ty (ty_of a)) (fit t s (tree.negative (ty_of a) o a)) r e (fit_stops t s (tree.negative (ty_of a) o a) e) p
@@ -84,9 +103,9 @@ no_operands a b f g e p = absurd (cc)
 
 operands_stop : (o : Order) (f g : Option Ty → Typed) (e : SourceError) → operands o f g ≡ Err e → OneStops f g e
 operands_stop (order.Against t) f g e p =
-    elim (stop (f t) _ e p) as (λ _. OneStops f g e) [
-      | inl q ↦ inl (t, q)
-      | inr a ↦ elim (stop (g t) _ e a.2) as (λ _. OneStops f g e) [ inl q ↦ inr (t, q) | inr b ↦ no_operands a.0 b.0 f g e b.2 ]
+    elim (stop (f (Some t)) _ e p) as (λ _. OneStops f g e) [
+      | inl q ↦ inl (Some t, q)
+      | inr a ↦ elim (stop (g (Some t)) _ e a.2) as (λ _. OneStops f g e) [ inl q ↦ inr (Some t, q) | inr b ↦ no_operands a.0 b.0 f g e b.2 ]
     ]
 operands_stop order.SecondGives f g e p =
     elim (stop (g None) _ e p) as (λ _. OneStops f g e) [
@@ -102,8 +121,8 @@ operands_stop order.FirstGives f g e p =
 -- ---- assignments
 
 -- a left side stops as the name of no variable, or where it is typed
-abbrev pub LeftStops : List Variable → Span → Option Name → (Option Ty → Typed) → SourceError → Type 0
-LeftStops Γ s x f e = ((y : Name) × (x ≡ Some y) × IsUnknown Γ y s e) ⊎ ((t : Option Ty) × (f t ≡ Err e))
+abbrev pub LeftStops : List Variable → Span → Option Segment → (Option Ty → Typed) → SourceError → Type 0
+LeftStops Γ s x f e = ((y : Segment) × (x ≡ Some y) × IsUnknown Γ y.name s e) ⊎ ((t : Option Ty) × (f t ≡ Err e))
 
 no_variable : (Γ : List Variable) (s : Span) (y : Name) (o : Option Found) (e : SourceError) → found y Γ ≡ o → target_variable s o ≡ Err e → IsUnknown Γ y s e
 no_variable Γ s y None e q p = let r : unknown_name s ≡ e = cc in (sym r, q)
@@ -112,22 +131,22 @@ no_variable Γ s y (Some v) e q p = absurd (cc)
 no_error : (a : TypedExpr) (e : SourceError) → target_value a ≡ Err e → ⊥
 no_error a e p = cc
 
-left_stops : (Γ : List Variable) (s : Span) (x : Option Name) (f : Option Ty → Typed) (e : SourceError) → target_of Γ s x f ≡ Err e → LeftStops Γ s x f e
-left_stops Γ s (Some y) f e p = inl (y, refl, no_variable Γ s y (found y Γ) e refl p)
+left_stops : (Γ : List Variable) (s : Span) (x : Option Segment) (f : Option Ty → Typed) (e : SourceError) → target_of Γ s x f ≡ Err e → LeftStops Γ s x f e
+left_stops Γ s (Some y) f e p = inl (y, refl, no_variable Γ s y.name (found y.name Γ) e refl p)
 left_stops Γ s None f e p =
     elim (stop (f None) target_value e p) as (λ _. LeftStops Γ s None f e) [ inl q ↦ inr (None, q) | inr a ↦ absurd (no_error a.0 e a.2) ]
 
 -- a target that is a variable is that of the name
-abbrev pub IsNamed : List Variable → Option Name → Target → Type 0
-IsNamed Γ x (target.Variable v) = (y : Name) × (x ≡ Some y) × (found y Γ ≡ Some v)
+abbrev pub IsNamed : List Variable → Option Segment → Target → Type 0
+IsNamed Γ x (target.Variable v) = (y : Segment) × (x ≡ Some y) × (found y.name Γ ≡ Some v)
 IsNamed Γ x (target.Value a) = Unit {0}
 
-found_named : (Γ : List Variable) (s : Span) (y : Name) (o : Option Found) (a : Target) → found y Γ ≡ o → target_variable s o ≡ Ok a → IsNamed Γ (Some y) a
+found_named : (Γ : List Variable) (s : Span) (y : Segment) (o : Option Found) (a : Target) → found y.name Γ ≡ o → target_variable s o ≡ Ok a → IsNamed Γ (Some y) a
 found_named Γ s y None a q p = absurd (cc)
 found_named Γ s y (Some v) a q p = subst (IsNamed Γ (Some y)) (same_ok (target.Variable v) a p) (y, refl, q)
 
-left_named : (Γ : List Variable) (s : Span) (x : Option Name) (f : Option Ty → Typed) (a : Target) → target_of Γ s x f ≡ Ok a → IsNamed Γ x a
-left_named Γ s (Some y) f a p = found_named Γ s y (found y Γ) a refl p
+left_named : (Γ : List Variable) (s : Span) (x : Option Segment) (f : Option Ty → Typed) (a : Target) → target_of Γ s x f ≡ Ok a → IsNamed Γ x a
+left_named Γ s (Some y) f a p = found_named Γ s y (found y.name Γ) a refl p
 left_named Γ s None f a p =
     let e = bound (f None) target_value a p in
     subst (IsNamed Γ None) (same_ok (target.Value e.0) a e.2) tt
@@ -191,6 +210,10 @@ known_stops : (s : Span) (o : Option Callee) (e : SourceError) → known s o ≡
 known_stops s None e p = let q : unknown_name s ≡ e = cc in (sym q, refl)
 known_stops s (Some f) e p = absurd (cc)
 
+callee_stops : (σ : List Heading) (Γ : List Variable) (s : Span) (o : Option Segment) (e : SourceError) → callee_of σ Γ s o ≡ Err e → IsNotCalled σ Γ s o e
+callee_stops σ Γ s None e p = let q : unbuilt s ≡ e = cc in sym q
+callee_stops σ Γ s (Some x) e p = known_stops x.span (callee σ Γ x.name) e p
+
 called_stops : (t : Option Ty) (s : Span) (f : Callee) (es : TypedExprs) (e : SourceError) → called t s f es ≡ Err e → IsMismatch e
 unfolding called
 called_stops t s f es e p = unheld (how_many es == length f.signature.params) (fit t s (tree.call f.signature.answer s f.place es)) s e (fit_stops t s (tree.call f.signature.answer s f.place es) e) p
@@ -199,8 +222,72 @@ closed_stops : (t : Option Ty) (s : Span) (ss : TypedStmts) (e : SourceError) �
 unfolding closed
 closed_stops t s ss e p = fit_stops t s (tree.block (block_ty ss) s ss) e p
 
-no_statements : (ss : TypedStmts) (e : SourceError) → yes ss ≡ Err e → ⊥
-no_statements ss e p = cc
+not_built : {A : Type 0} (s : Span) (e : SourceError) → ◌≡◌ {A = Result A SourceError} (Err (unbuilt s)) (Err e) → IsUnbuilt e
+not_built s e p = let q : unbuilt s ≡ e = cc in (s, sym q)
+
+-- ---- statements
+
+no_type : {A : Type 0} (a : A) (e : SourceError) → yes a ≡ Err e → ⊥
+no_type a e p = cc
+
+type_or_stops : (s : Span) (o : Option Ty) (e : SourceError) → type_or s o ≡ Err e → IsUnbuilt e
+type_or_stops s None e p = not_built {A = Ty} s e p
+type_or_stops s (Some t) e p = absurd (no_type t e p)
+
+type_stops : (w : W.TypeTree) (e : SourceError) → written_type w ≡ Err e → IsUnbuilt e
+unfolding written_type
+type_stops (W.named s x W.no_arguments) e p = type_or_stops s (named_type x.name) e p
+type_stops w e p = not_built {A = Ty} _ e p
+
+some_type_stops : (w : Option W.TypeTree) (e : SourceError) → written_or_none w ≡ Err e → IsUnbuilt e
+some_type_stops None e p = absurd (cc)
+some_type_stops (Some w) e p =
+    elim (stop (written_type w) _ e p) as (λ _. IsUnbuilt e) [ inl q ↦ type_stops w e q | inr t ↦ absurd (no_type (Some t.0) e t.2) ]
+
+name_stops : (s : Span) (o : Option Segment) (e : SourceError) → name_or s o ≡ Err e → IsUnbuilt e
+name_stops s None e p = not_built {A = Declared} s e p
+name_stops s (Some x) e p = absurd (cc)
+
+pattern_stops : (w : P.Pat) (e : SourceError) → declared_by w ≡ Err e → IsUnbuilt e
+unfolding declared_by
+pattern_stops (P.mutable s x) e p = absurd (cc)
+pattern_stops (P.path s w) e p = name_stops s (name_alone w.node) e p
+pattern_stops w e p = not_built {A = Declared} _ e p
+
+step_stops : (k : StmtKind) (e : SourceError) → step_of k ≡ Err e → IsUnbuilt e
+unfolding step_of
+step_stops (kind.Let w t) e p =
+    elim (stop (declared_by w) _ e p) as (λ _. IsUnbuilt e) [
+      | inl q ↦ pattern_stops w e q
+      | inr x ↦ elim (stop (written_or_none t) _ e x.2) as (λ _. IsUnbuilt e) [
+        | inl q ↦ some_type_stops t e q
+        | inr u ↦ (let step : Step = record { declares = Some x.0; expected = u.0 } in absurd (no_type step e u.2))
+      ]
+    ]
+step_stops kind.Run e p = absurd (cc)
+step_stops kind.Blocklike e p = absurd (cc)
+
+-- ---- loops
+
+invariant_stops : (Γ : List Variable) (s : Span) (n : AttributeNode) (e : SourceError) → invariant_by Γ s n ≡ Err e → IsUnbuilt e
+invariant_stops Γ s (A.Clause Invariant t) e p = absurd (cc)
+invariant_stops Γ s A.Skipped e p = absurd (cc)
+invariant_stops Γ s n e p = not_built {A = Option Assertion} s e p
+
+attribute_stops : (Γ : List Variable) (a : Attribute) (e : SourceError) → invariant_of Γ a ≡ Err e → IsUnbuilt e
+unfolding invariant_of
+attribute_stops Γ a e p = invariant_stops Γ a.span a.node e p
+
+invariants_stop : (Γ : List Variable) (as' : List Attribute) (e : SourceError) → gather (invariant_of Γ) as' ≡ Err e → IsUnbuilt e
+invariants_stop Γ [] e p = absurd (cc)
+invariants_stop Γ (a ∷ as') e p =
+    elim (stop (invariant_of Γ a) _ e p) as (λ _. IsUnbuilt e) [
+      | inl q ↦ attribute_stops Γ a e q
+      | inr o ↦ elim (stop (gather (invariant_of Γ) as') _ e o.2) as (λ _. IsUnbuilt e) [
+        | inl q ↦ invariants_stop Γ as' e q
+        | inr rest ↦ absurd (no_type (with_some o.0 rest.0) e rest.2)
+      ]
+    ]
 
 no_args : (es : TypedExprs) (e : SourceError) → yes es ≡ Err e → ⊥
 no_args es e p = cc
@@ -209,117 +296,122 @@ no_args es e p = cc
 
 mutual
   pub typed_stops : (σ : List Heading) (Γ : List Variable) (a : Expr) (t : Option Ty) (e : SourceError) → typed σ Γ a t ≡ Err e → Causes σ Γ a e
-  typed_stops σ Γ (integer s z k) t e p = literal_stops t s z k e p
-  typed_stops σ Γ (truth s b) t e p = fit_stops t s (tree.truth bool s b) e p
-  typed_stops σ Γ (named s x) t e p = variable_stops Γ t s x e p
-  typed_stops σ Γ (negative s o a) t e p =
-      elim (stop (typed σ Γ a t) _ e p) as (λ _. Causes σ Γ (negative s o a) e) [
+  typed_stops σ Γ (E.integer s z k) t e p = literal_stops t s z k e p
+  typed_stops σ Γ (E.truth s b) t e p = fit_stops t s (tree.truth bool s b) e p
+  typed_stops σ Γ (E.path s w) t e p = named_stops Γ t s (name_alone w.node) e p
+  typed_stops σ Γ (E.unary s Neg o a) t e p =
+      elim (stop (typed σ Γ a t) _ e p) as (λ _. Causes σ Γ (E.unary s Neg o a) e) [
         | inl q ↦ inr (typed_stops σ Γ a t e q)
         | inr x ↦ inl (negated_stops t s o (span_of a) x.0 e x.2)
       ]
-  typed_stops σ Γ (denied s a) t e p =
-      elim (stop (typed σ Γ a (Some bool)) _ e p) as (λ _. Causes σ Γ (denied s a) e) [
+  typed_stops σ Γ (E.unary s Not o a) t e p =
+      elim (stop (typed σ Γ a (Some bool)) _ e p) as (λ _. Causes σ Γ (E.unary s Not o a) e) [
         | inl q ↦ inr (typed_stops σ Γ a (Some bool) e q)
         | inr x ↦ inl (fit_stops t s (tree.denied bool s x.0) e x.2)
       ]
-  typed_stops σ Γ (binary s op o a b) t e p =
-      elim (stop (operands (order_of (is_arithmetic op) t (is_bare a) (is_bare b)) (typed σ Γ a) (typed σ Γ b)) _ e p) as (λ _. Causes σ Γ (binary s op o a b) e) [
-        | inl q ↦ elim (operands_stop (order_of (is_arithmetic op) t (is_bare a) (is_bare b)) (typed σ Γ a) (typed σ Γ b) e q) as (λ _. Causes σ Γ (binary s op o a b) e) [
+  typed_stops σ Γ (E.binary s op o a b) t e p =
+      elim (stop (operands (order_of (is_arithmetic op) t (is_bare a) (is_bare b)) (typed σ Γ a) (typed σ Γ b)) _ e p) as (λ _. Causes σ Γ (E.binary s op o a b) e) [
+        | inl q ↦ elim (operands_stop (order_of (is_arithmetic op) t (is_bare a) (is_bare b)) (typed σ Γ a) (typed σ Γ b) e q) as (λ _. Causes σ Γ (E.binary s op o a b) e) [
           | inl x ↦ inr (inl (typed_stops σ Γ a x.0 e x.1))
           | inr y ↦ inr (inr (typed_stops σ Γ b y.0 e y.1))
         ]
         | inr x ↦ inl (operated_stops t s o (span_of a) op x.0 e x.2)
       ]
-  typed_stops σ Γ (lazy s op a b) t e p =
-      elim (stop (typed σ Γ a (Some bool)) _ e p) as (λ _. Causes σ Γ (lazy s op a b) e) [
+  typed_stops σ Γ (E.lazy s op a b) t e p =
+      elim (stop (typed σ Γ a (Some bool)) _ e p) as (λ _. Causes σ Γ (E.lazy s op a b) e) [
         | inl q ↦ inr (inl (typed_stops σ Γ a (Some bool) e q))
-        | inr x ↦ elim (stop (typed σ Γ b (Some bool)) _ e x.2) as (λ _. Causes σ Γ (lazy s op a b) e) [
+        | inr x ↦ elim (stop (typed σ Γ b (Some bool)) _ e x.2) as (λ _. Causes σ Γ (E.lazy s op a b) e) [
           | inl q ↦ inr (inr (typed_stops σ Γ b (Some bool) e q))
           | inr y ↦ inl (fit_stops t s (tree.lazy bool s op x.0 y.0) e y.2)
         ]
       ]
-  typed_stops σ Γ (assign s l a) t e p =
+  typed_stops σ Γ (E.assign s l a) t e p =
       assignment_stops σ Γ l a (assigned t s (span_of l)) e (λ x y q. assigned_stops t s (span_of l) x y e q)
       (λ u q. typed_stops σ Γ l u e q) (λ u q. typed_stops σ Γ a u e q) p
-  typed_stops σ Γ (update s op o l a) t e p =
+  typed_stops σ Γ (E.update s op o l a) t e p =
       assignment_stops σ Γ l a (updated t s o (span_of l) op) e (λ x y q. updated_stops t s o (span_of l) op x y e q)
       (λ u q. typed_stops σ Γ l u e q) (λ u q. typed_stops σ Γ a u e q) p
-  typed_stops σ Γ (call s x r es) t e p =
-      elim (stop (known r (callee σ Γ x)) _ e p) as (λ _. Causes σ Γ (call s x r es) e) [
-        | inl q ↦ inl (inr (known_stops r (callee σ Γ x) e q))
-        | inr f ↦ elim (stop (typed_args σ Γ es f.0.signature.params) _ e f.2) as (λ _. Causes σ Γ (call s x r es) e) [
-          | inl q ↦ inr (args_stop σ Γ es f.0.signature.params e q)
-          | inr y ↦ inl (inl (called_stops t s f.0 y.0 e y.2))
+  typed_stops σ Γ (E.call s f es) t e p =
+      elim (stop (callee_of σ Γ s (as_name f)) _ e p) as (λ _. Causes σ Γ (E.call s f es) e) [
+        | inl q ↦ inl (inr (callee_stops σ Γ s (as_name f) e q))
+        | inr g ↦ elim (stop (typed_args σ Γ es g.0.signature.params) _ e g.2) as (λ _. Causes σ Γ (E.call s f es) e) [
+          | inl q ↦ inr (args_stop σ Γ es g.0.signature.params e q)
+          | inr y ↦ inl (inl (called_stops t s g.0 y.0 e y.2))
         ]
       ]
-  typed_stops σ Γ (block s ss) t e p =
-      elim (stop (typed_rest σ Γ ss t) _ e p) as (λ _. Causes σ Γ (block s ss) e) [
-        | inl q ↦ inr (rest_stops σ Γ ss t e q)
-        | inr x ↦ inl (closed_stops t s x.0 e x.2)
+  typed_stops σ Γ (E.block s ss) t e p =
+      elim (stop (typed_stmts σ Γ ss) _ e p) as (λ _. Causes σ Γ (E.block s ss) e) [
+        | inl q ↦ inr (stmts_stop σ Γ ss e q)
+        | inr o ↦ inl (closed_stops t s (stmts_of o.0.stmts tree.done) e o.2)
       ]
-  typed_stops σ Γ (branch s c a) t e p =
-      elim (stop (typed σ Γ c (Some bool)) _ e p) as (λ _. Causes σ Γ (branch s c a) e) [
+  typed_stops σ Γ (E.block_with s ss a) t e p =
+      elim (stop (typed_stmts σ Γ ss) _ e p) as (λ _. Causes σ Γ (E.block_with s ss a) e) [
+        | inl q ↦ inr (inl (stmts_stop σ Γ ss e q))
+        | inr o ↦ elim (stop (typed σ o.0.scope a t) _ e o.2) as (λ _. Causes σ Γ (E.block_with s ss a) e) [
+          | inl q ↦ inr (inr (o.0, o.1, typed_stops σ o.0.scope a t e q))
+          | inr x ↦ inl (closed_stops t s (stmts_of o.0.stmts (tree.last x.0)) e x.2)
+        ]
+      ]
+  typed_stops σ Γ (E.branch s None c a) t e p =
+      elim (stop (typed σ Γ c (Some bool)) _ e p) as (λ _. Causes σ Γ (E.branch s None c a) e) [
         | inl q ↦ inr (inl (typed_stops σ Γ c (Some bool) e q))
-        | inr x ↦ elim (stop (typed σ Γ a (Some unit)) _ e x.2) as (λ _. Causes σ Γ (branch s c a) e) [
+        | inr x ↦ elim (stop (typed σ Γ a (Some unit)) _ e x.2) as (λ _. Causes σ Γ (E.branch s None c a) e) [
           | inl q ↦ inr (inr (typed_stops σ Γ a (Some unit) e q))
           | inr y ↦ inl (fit_stops t s (tree.branch unit s x.0 y.0) e y.2)
         ]
       ]
-  typed_stops σ Γ (choice s c a b) t e p =
-      elim (stop (typed σ Γ c (Some bool)) _ e p) as (λ _. Causes σ Γ (choice s c a b) e) [
+  typed_stops σ Γ (E.choice s None c a b) t e p =
+      elim (stop (typed σ Γ c (Some bool)) _ e p) as (λ _. Causes σ Γ (E.choice s None c a b) e) [
         | inl q ↦ inr (inl (typed_stops σ Γ c (Some bool) e q))
-        | inr x ↦ elim (stop (typed σ Γ a t) _ e x.2) as (λ _. Causes σ Γ (choice s c a b) e) [
+        | inr x ↦ elim (stop (typed σ Γ a t) _ e x.2) as (λ _. Causes σ Γ (E.choice s None c a b) e) [
           | inl q ↦ inr (inr (inl (typed_stops σ Γ a t e q)))
-          | inr y ↦ elim (stop (typed σ Γ b (Some (ty_of y.0))) _ e y.2) as (λ _. Causes σ Γ (choice s c a b) e) [
+          | inr y ↦ elim (stop (typed σ Γ b (Some (ty_of y.0))) _ e y.2) as (λ _. Causes σ Γ (E.choice s None c a b) e) [
             | inl q ↦ inr (inr (inr (typed_stops σ Γ b (Some (ty_of y.0)) e q)))
             | inr z ↦ inl (fit_stops t s (tree.choice (ty_of y.0) s x.0 y.0 z.0) e z.2)
           ]
         ]
       ]
-  typed_stops σ Γ (repeat s is c b) t e p =
-      elim (stop (typed σ Γ c (Some bool)) _ e p) as (λ _. Causes σ Γ (repeat s is c b) e) [
+  typed_stops σ Γ (E.repeat s None c b) t e p =
+      elim (stop (typed σ Γ c (Some bool)) _ e p) as (λ _. Causes σ Γ (E.repeat s None c b) e) [
         | inl q ↦ inr (inl (typed_stops σ Γ c (Some bool) e q))
-        | inr x ↦ elim (stop (typed σ Γ b (Some unit)) _ e x.2) as (λ _. Causes σ Γ (repeat s is c b) e) [
+        | inr x ↦ elim (stop (typed σ Γ b (Some unit)) _ e x.2) as (λ _. Causes σ Γ (E.repeat s None c b) e) [
           | inl q ↦ inr (inr (typed_stops σ Γ b (Some unit) e q))
-          | inr y ↦ inl (fit_stops t s (tree.repeat unit s (map (assertion None Γ) is) x.0 y.0) e y.2)
+          | inr y ↦ inl (fit_stops t s (tree.repeat unit s [] x.0 y.0) e y.2)
+        ]
+      ]
+  typed_stops σ Γ (E.attributed s as' (E.repeat v None c b)) t e p =
+      elim (stop (gather (invariant_of Γ) as') _ e p) as (λ _. Causes σ Γ (E.attributed s as' (E.repeat v None c b)) e) [
+        | inl q ↦ inl (inr (invariants_stop Γ as' e q))
+        | inr is ↦ elim (stop (typed σ Γ c (Some bool)) _ e is.2) as (λ _. Causes σ Γ (E.attributed s as' (E.repeat v None c b)) e) [
+          | inl q ↦ inr (inl (typed_stops σ Γ c (Some bool) e q))
+          | inr x ↦ elim (stop (typed σ Γ b (Some unit)) _ e x.2) as (λ _. Causes σ Γ (E.attributed s as' (E.repeat v None c b)) e) [
+            | inl q ↦ inr (inr (typed_stops σ Γ b (Some unit) e q))
+            | inr y ↦ inl (inl (fit_stops t s (tree.repeat unit s is.0 x.0 y.0) e y.2))
+          ]
+        ]
+      ]
+  typed_stops σ Γ a t e p = let q : unbuilt (span_of a) ≡ e = cc in sym q
+
+  stmts_stop : (σ : List Heading) (Γ : List Variable) (ss : E.Stmts) (e : SourceError) → typed_stmts σ Γ ss ≡ Err e → CausesInStmts σ Γ ss e
+  stmts_stop σ Γ E.no_stmts e p = absurd (cc)
+  stmts_stop σ Γ (E.with_stmt s k a ss) e p =
+      elim (stop (step_of k) _ e p) as (λ _. CausesInStmts σ Γ (E.with_stmt s k a ss) e) [
+        | inl q ↦ inl (step_stops k e q)
+        | inr w ↦ elim (stop (typed σ Γ a w.0.expected) _ e w.2) as (λ _. CausesInStmts σ Γ (E.with_stmt s k a ss) e) [
+          | inl q ↦ inr (inl (typed_stops σ Γ a w.0.expected e q))
+          | inr x ↦ elim (stop (typed_stmts σ (declared Γ w.0.declares x.0) ss) _ e x.2) as (λ _. CausesInStmts σ Γ (E.with_stmt s k a ss) e) [
+            | inl q ↦ inr (inr (w.0, x.0, w.1, x.1, stmts_stop σ (declared Γ w.0.declares x.0) ss e q))
+            | inr o ↦ absurd (no_type (behind (typed_stmt w.0 x.0) o.0) e o.2)
+          ]
         ]
       ]
 
-  rest_stops : (σ : List Heading) (Γ : List Variable) (ss : Stmts) (t : Option Ty) (e : SourceError) → typed_rest σ Γ ss t ≡ Err e → CausesInRest σ Γ ss e
-  rest_stops σ Γ done t e p = absurd (cc)
-  rest_stops σ Γ (last a) t e p =
-      elim (stop (typed σ Γ a t) _ e p) as (λ _. Causes σ Γ a e) [ inl q ↦ typed_stops σ Γ a t e q | inr x ↦ absurd (no_statements (tree.last x.0) e x.2) ]
-  rest_stops σ Γ (bind b a ss) t e p =
-      elim (stop (typed σ Γ a b.ty) _ e p) as (λ _. CausesInRest σ Γ (bind b a ss) e) [
-        | inl q ↦ inl (typed_stops σ Γ a b.ty e q)
-        | inr x ↦ elim (stop (typed_rest σ (declared Γ b x.0) ss t) _ e x.2) as (λ _. CausesInRest σ Γ (bind b a ss) e) [
-          | inl q ↦ inr (x.0, x.1, rest_stops σ (declared Γ b x.0) ss t e q)
-          | inr y ↦ absurd (no_statements (tree.bind x.0 y.0) e y.2)
-        ]
-      ]
-  rest_stops σ Γ (run a ss) t e p =
-      elim (stop (typed σ Γ a None) _ e p) as (λ _. CausesInRest σ Γ (run a ss) e) [
-        | inl q ↦ inl (typed_stops σ Γ a None e q)
-        | inr x ↦ elim (stop (typed_rest σ Γ ss t) _ e x.2) as (λ _. CausesInRest σ Γ (run a ss) e) [
-          | inl q ↦ inr (rest_stops σ Γ ss t e q)
-          | inr y ↦ absurd (no_statements (tree.run x.0 y.0) e y.2)
-        ]
-      ]
-  rest_stops σ Γ (blocklike a ss) t e p =
-      elim (stop (typed σ Γ a (Some unit)) _ e p) as (λ _. CausesInRest σ Γ (blocklike a ss) e) [
-        | inl q ↦ inl (typed_stops σ Γ a (Some unit) e q)
-        | inr x ↦ elim (stop (typed_rest σ Γ ss t) _ e x.2) as (λ _. CausesInRest σ Γ (blocklike a ss) e) [
-          | inl q ↦ inr (rest_stops σ Γ ss t e q)
-          | inr y ↦ absurd (no_statements (tree.run x.0 y.0) e y.2)
-        ]
-      ]
-
-  args_stop : (σ : List Heading) (Γ : List Variable) (es : Exprs) (ts : List Ty) (e : SourceError) → typed_args σ Γ es ts ≡ Err e → CausesInArgs σ Γ es e
-  args_stop σ Γ none ts e p = absurd (cc)
-  args_stop σ Γ (more a es) ts e p =
-      elim (stop (typed σ Γ a (first_of ts)) _ e p) as (λ _. CausesInArgs σ Γ (more a es) e) [
+  args_stop : (σ : List Heading) (Γ : List Variable) (es : E.Exprs) (ts : List Ty) (e : SourceError) → typed_args σ Γ es ts ≡ Err e → CausesInArgs σ Γ es e
+  args_stop σ Γ E.none ts e p = absurd (cc)
+  args_stop σ Γ (E.more a es) ts e p =
+      elim (stop (typed σ Γ a (first_of ts)) _ e p) as (λ _. CausesInArgs σ Γ (E.more a es) e) [
         | inl q ↦ inl (typed_stops σ Γ a (first_of ts) e q)
-        | inr x ↦ elim (stop (typed_args σ Γ es (rest_of ts)) _ e x.2) as (λ _. CausesInArgs σ Γ (more a es) e) [
+        | inr x ↦ elim (stop (typed_args σ Γ es (rest_of ts)) _ e x.2) as (λ _. CausesInArgs σ Γ (E.more a es) e) [
           | inl q ↦ inr (args_stop σ Γ es (rest_of ts) e q)
           | inr y ↦ absurd (no_args (tree.more x.0 y.0) e y.2)
         ]

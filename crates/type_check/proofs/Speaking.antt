@@ -13,16 +13,21 @@ use Rattle.logic_term.specs.Term.{Term, Operator, var, lit, truth as truth_term,
 use Rattle.logic_term.specs.Ty.{Ty, int, bool, math_int}
 use Rattle.logic_term.specs.declared.kinds.Comparison.{Comparison}
 use Rattle.logic_term.specs.declared.kinds.Comparison.TheVariants.{Eq, Ne, Lt, Le, Gt, Ge}
-use Rattle.built_trees.specs.Pterm.{Pterm, integer, truth, answer, named, viewed as modeled, negative, denied, calculated, compare, both, either, implied}
-use Rattle.built_trees.specs.PtermView.{span_of}
+use Rattle.source_trees.specs.declared.operator.BinaryTerm.TheVariants.{Implies, Or, And, Compare, Calculate}
+use Rattle.source_trees.specs.declared.operator.UnaryTerm.TheVariants.{Neg, Not, View}
+use Rattle.source_trees.specs.declared.path.Segment.{Segment}
+use Rattle.source_trees.specs.Pterm as T
+use Rattle.source_trees.specs.Pterm.{Pterm}
+use Rattle.source_trees.specs.PtermView.{span_of}
 use Rattle.type_check.specs.declared.scope.Found.{Found}
 use Rattle.type_check.specs.declared.scope.Variable.{Variable}
 use Rattle.type_check.specs.declared.sorted.SortedTerm.{SortedTerm}
-use Rattle.type_check.specs.Answers.{mismatch}
+use Rattle.type_check.specs.Answers.{◌>>=◌, mismatch, pair}
 use Rattle.type_check.specs.Scope.{found}
-use Rattle.type_check.specs.Terms.{sorted, literal, variable_term, name_term, answer_term, model_of_sort, model_of, formula, number, ordered, is_ordering, ordered_at, compared, elaborated, asserted, assertion, kept}
+use Rattle.type_check.specs.Terms.{sorted, literal, variable_term, name_term, named_term, answer_term, model_of_sort, model_of, formula, number, ordered, is_ordering, ordered_at, compared, connected, elaborated, asserted, assertion, kept}
 use Rattle.type_check.specs.Types.{same_ty, is_math_int, is_bool}
 use Rattle.type_check.specs.VariableNames.{variable_name, answer_name}
+use Rattle.type_check.specs.Written.{name_alone}
 use Rattle.type_check.specs.WellTyped.{IsVariable, SpeaksOf, SpeaksOfAnswer}
 use Rattle.type_check.proofs.Bound.{bound, held, yes, same_ok}
 use Rattle.type_check.proofs.Lookups.{found_within}
@@ -71,12 +76,16 @@ name_only : (A : Option Ty) (Γ : List Variable) (s : Span) (x : Name) (r : Sort
 unfolding name_term
 name_only A Γ s x r p = variable_only A Γ s (found x Γ) r (found_within Γ x) p
 
-answer_only : (A : Option Ty) (n : ℕ) (s : Span) (r : SortedTerm) → answer_term A s ≡ Ok r → Only (Heard A n) r.term
+named_only : (A : Option Ty) (Γ : List Variable) (s : Span) (o : Option Segment) (r : SortedTerm) → named_term Γ s o ≡ Ok r → Only (Heard A (length Γ)) r.term
+named_only A Γ s None r p = absurd (cc)
+named_only A Γ s (Some x) r p = name_only A Γ s x.name r p
+
+answer_only : (A : Option Ty) (Γ : List Variable) (s : Span) (x : Name) (r : SortedTerm) → answer_term A Γ s x ≡ Ok r → Only (Heard A (length Γ)) r.term
 unfolding answer_term
-answer_only None n s r p = absurd (cc)
-answer_only (Some t) n s r p =
+answer_only None Γ s x r p = name_only None Γ s x r p
+answer_only (Some t) Γ s x r p =
     let q : sorted t (var answer_name) ≡ r = same_ok _ _ p in
-    subst (λ (r : SortedTerm). Only (Heard (Some t) n) r.term) q (only_var (Heard (Some t) n) answer_name (inr refl))
+    subst (λ (r : SortedTerm). Only (Heard (Some t) (length Γ)) r.term) q (only_var (Heard (Some t) (length Γ)) answer_name (inr refl))
 
 literal_only : (Q : Name → Type 0) (s : Span) (z : ℤ) (k : Option IntKind) (r : SortedTerm) → literal s z k ≡ Ok r → Only Q r.term
 unfolding literal
@@ -138,23 +147,34 @@ compared_only Q op s s' a c r h k p =
 made : (Q : Name → Type 0) (u : Ty) (t : Term) (r : SortedTerm) → Only Q t → yes (sorted u t) ≡ Ok r → Only Q r.term
 made Q u t r h p = let q : sorted u t ≡ r = same_ok _ _ p in subst (λ (r : SortedTerm). Only Q r.term) q h
 
+asserted_by : (Q : Name → Type 0) (t : Pterm) (m : Result SortedTerm SourceError) (u : Term) → ((a : SortedTerm) → m ≡ Ok a → Only Q a.term) → (m >>= formula (span_of t)) ≡ Ok u → Only Q u
+asserted_by Q t m u h p =
+    let a = bound m (formula (span_of t)) u p in
+    formula_only Q (span_of t) a.0 u (h a.0 a.1) a.2
+
+-- a connective of two formulas
+connected_only : (Q : Name → Type 0) (op : Operator) (m n : Result Term SourceError) (r : SortedTerm) → ((u : Term) → m ≡ Ok u → Only Q u) → ((u : Term) → n ≡ Ok u → Only Q u) → (pair m n >>= connected (two op)) ≡ Ok r → Only Q r.term
+connected_only Q op (Ok t) (Ok u) r h k p = made Q bool (two op t u) r (only_two Q op t u (h t refl) (k u refl)) p
+connected_only Q op (Ok t) (Err e) r h k p = absurd (cc)
+connected_only Q op (Err e) n r h k p = absurd (cc)
+
 pub elaborated_only : (A : Option Ty) (Γ : List Variable) (t : Pterm) (r : SortedTerm) → elaborated A Γ t ≡ Ok r → Only (Heard A (length Γ)) r.term
-elaborated_only A Γ (integer s z k) r p = literal_only (Heard A (length Γ)) s z k r p
-elaborated_only A Γ (truth s b) r p = made (Heard A (length Γ)) bool (truth_term b) r (λ x h. only_none (Heard A (length Γ)) x false refl h) p
-elaborated_only A Γ (answer s) r p = answer_only A (length Γ) s r p
-elaborated_only A Γ (named s x) r p = name_only A Γ s x r p
-elaborated_only A Γ (modeled s t) r p =
+elaborated_only A Γ (T.integer s z k) r p = literal_only (Heard A (length Γ)) s z k r p
+elaborated_only A Γ (T.truth s b) r p = made (Heard A (length Γ)) bool (truth_term b) r (λ x h. only_none (Heard A (length Γ)) x false refl h) p
+elaborated_only A Γ (T.answer s x) r p = answer_only A Γ s x r p
+elaborated_only A Γ (T.path s w) r p = named_only A Γ s (name_alone w.node) r p
+elaborated_only A Γ (T.unary s View t) r p =
     let a = bound (elaborated A Γ t) _ r p in
     model_only (Heard A (length Γ)) (span_of t) a.0 r (elaborated_only A Γ t a.0 a.1) a.2
-elaborated_only A Γ (negative s t) r p =
+elaborated_only A Γ (T.unary s Neg t) r p =
     let a = bound (elaborated A Γ t) _ r p in
     let x = bound (number (span_of t) a.0) _ r a.2 in
     made (Heard A (length Γ)) math_int (negative_term x.0) r (only_one (Heard A (length Γ)) logic.negated x.0 (number_only (Heard A (length Γ)) (span_of t) a.0 x.0 (elaborated_only A Γ t a.0 a.1) x.1)) x.2
-elaborated_only A Γ (denied s t) r p =
+elaborated_only A Γ (T.unary s Not t) r p =
     let a = bound (elaborated A Γ t) _ r p in
     let x = bound (formula (span_of t) a.0) _ r a.2 in
     made (Heard A (length Γ)) bool (not_term x.0) r (only_one (Heard A (length Γ)) logic.denied x.0 (formula_only (Heard A (length Γ)) (span_of t) a.0 x.0 (elaborated_only A Γ t a.0 a.1) x.1)) x.2
-elaborated_only A Γ (calculated s op t u) r p =
+elaborated_only A Γ (T.binary s (Calculate op) t u) r p =
     let a = bound (elaborated A Γ t) _ r p in
     let b = bound (elaborated A Γ u) _ r a.2 in
     let x = bound (number (span_of t) a.0) _ r b.2 in
@@ -164,45 +184,26 @@ elaborated_only A Γ (calculated s op t u) r p =
     (number_only (Heard A (length Γ)) (span_of t) a.0 x.0 (elaborated_only A Γ t a.0 a.1) x.1)
     (number_only (Heard A (length Γ)) (span_of u) b.0 y.0 (elaborated_only A Γ u b.0 b.1) y.1))
     y.2
-elaborated_only A Γ (compare s op t u) r p =
+elaborated_only A Γ (T.binary s (Compare op) t u) r p =
     let a = bound (elaborated A Γ t) _ r p in
     let b = bound (elaborated A Γ u) _ r a.2 in
     compared_only (Heard A (length Γ)) op (span_of t) (span_of u) a.0 b.0 r (elaborated_only A Γ t a.0 a.1) (elaborated_only A Γ u b.0 b.1) b.2
-elaborated_only A Γ (both s t u) r p =
-    let a = bound (elaborated A Γ t) _ r p in
-    let x = bound (formula (span_of t) a.0) _ r a.2 in
-    let b = bound (elaborated A Γ u) _ r x.2 in
-    let y = bound (formula (span_of u) b.0) _ r b.2 in
-    made (Heard A (length Γ)) bool (and_term x.0 y.0) r
-    (only_two (Heard A (length Γ)) logic.both x.0 y.0
-    (formula_only (Heard A (length Γ)) (span_of t) a.0 x.0 (elaborated_only A Γ t a.0 a.1) x.1)
-    (formula_only (Heard A (length Γ)) (span_of u) b.0 y.0 (elaborated_only A Γ u b.0 b.1) y.1))
-    y.2
-elaborated_only A Γ (either s t u) r p =
-    let a = bound (elaborated A Γ t) _ r p in
-    let x = bound (formula (span_of t) a.0) _ r a.2 in
-    let b = bound (elaborated A Γ u) _ r x.2 in
-    let y = bound (formula (span_of u) b.0) _ r b.2 in
-    made (Heard A (length Γ)) bool (or_term x.0 y.0) r
-    (only_two (Heard A (length Γ)) logic.either x.0 y.0
-    (formula_only (Heard A (length Γ)) (span_of t) a.0 x.0 (elaborated_only A Γ t a.0 a.1) x.1)
-    (formula_only (Heard A (length Γ)) (span_of u) b.0 y.0 (elaborated_only A Γ u b.0 b.1) y.1))
-    y.2
-elaborated_only A Γ (implied s t u) r p =
-    let a = bound (elaborated A Γ t) _ r p in
-    let x = bound (formula (span_of t) a.0) _ r a.2 in
-    let b = bound (elaborated A Γ u) _ r x.2 in
-    let y = bound (formula (span_of u) b.0) _ r b.2 in
-    made (Heard A (length Γ)) bool (implies_term x.0 y.0) r
-    (only_two (Heard A (length Γ)) logic.implied x.0 y.0
-    (formula_only (Heard A (length Γ)) (span_of t) a.0 x.0 (elaborated_only A Γ t a.0 a.1) x.1)
-    (formula_only (Heard A (length Γ)) (span_of u) b.0 y.0 (elaborated_only A Γ u b.0 b.1) y.1))
-    y.2
+elaborated_only A Γ (T.binary s And t u) r p =
+    connected_only (Heard A (length Γ)) logic.both (elaborated A Γ t >>= formula (span_of t)) (elaborated A Γ u >>= formula (span_of u)) r
+    (λ v q. asserted_by (Heard A (length Γ)) t (elaborated A Γ t) v (λ a h. elaborated_only A Γ t a h) q)
+    (λ v q. asserted_by (Heard A (length Γ)) u (elaborated A Γ u) v (λ a h. elaborated_only A Γ u a h) q) p
+elaborated_only A Γ (T.binary s Or t u) r p =
+    connected_only (Heard A (length Γ)) logic.either (elaborated A Γ t >>= formula (span_of t)) (elaborated A Γ u >>= formula (span_of u)) r
+    (λ v q. asserted_by (Heard A (length Γ)) t (elaborated A Γ t) v (λ a h. elaborated_only A Γ t a h) q)
+    (λ v q. asserted_by (Heard A (length Γ)) u (elaborated A Γ u) v (λ a h. elaborated_only A Γ u a h) q) p
+elaborated_only A Γ (T.binary s Implies t u) r p =
+    connected_only (Heard A (length Γ)) logic.implied (elaborated A Γ t >>= formula (span_of t)) (elaborated A Γ u >>= formula (span_of u)) r
+    (λ v q. asserted_by (Heard A (length Γ)) t (elaborated A Γ t) v (λ a h. elaborated_only A Γ t a h) q)
+    (λ v q. asserted_by (Heard A (length Γ)) u (elaborated A Γ u) v (λ a h. elaborated_only A Γ u a h) q) p
+elaborated_only A Γ t r p = absurd (cc)
 
 asserted_only : (A : Option Ty) (Γ : List Variable) (t : Pterm) (u : Term) → asserted A Γ t ≡ Ok u → Only (Heard A (length Γ)) u
-asserted_only A Γ t u p =
-    let a = bound (elaborated A Γ t) (formula (span_of t)) u p in
-    formula_only (Heard A (length Γ)) (span_of t) a.0 u (elaborated_only A Γ t a.0 a.1) a.2
+asserted_only A Γ t u p = asserted_by (Heard A (length Γ)) t (elaborated A Γ t) u (λ a h. elaborated_only A Γ t a h) p
 
 kept_speaks : (n : ℕ) (s : Span) (m : Result Term SourceError) → ((u : Term) → m ≡ Ok u → Only (IsVariable n) u) → SpeaksOf n (kept s m)
 kept_speaks n s (Ok u) h = h u refl

@@ -1,22 +1,24 @@
 -- The statements of a block, one after another.
-use Rattle.std.proofs.Common.{◌≡◌, ◌∙◌, ℕ, suc, ◌+◌, ◌<◌, Bool, true, false, List, [], ◌∷◌, ◌++◌, length, get_or, drop, refl, ap, sym, add-one, drop-cons, Option, Result, Ok, Err}
+use Rattle.std.proofs.Common.{◌≡◌, ◌∙◌, ℕ, suc, ◌+◌, ◌<◌, ◌≤◌, Bool, true, false, List, [], ◌∷◌, ◌++◌, length, get_or, take, drop, refl, ap, sym, subst, add-one, drop-cons, append_assoc, append-nil, arith, Option, Some, None, Result, Ok, Err}
+use Rattle.std.proofs.Math.Seq.{take-append_seam}
 use Rattle.text_core.specs.declared.refusal.SourceError.{SourceError}
-use Rattle.logic_term.specs.Ty.{Ty}
-use Rattle.built_trees.specs.declared.binding.StmtKind.{StmtKind}
-use Rattle.built_trees.specs.declared.binding.StmtKind.TheVariants as kind
-use Rattle.built_trees.specs.declared.expr.Stmt.{Stmt}
 use Rattle.text_core.specs.declared.fault.PassError.{PassError}
-use Rattle.built_trees.specs.Expr.{Expr, Stmts}
-use Rattle.built_trees.specs.ExprView.{stmt_of, stmts_of}
+use Rattle.logic_term.specs.Ty.{Ty}
+use Rattle.source_trees.specs.declared.expr.Stmt.{Stmt}
+use Rattle.source_trees.specs.Expr.{Expr, Stmts, no_stmts, with_stmt}
+use Rattle.source_trees.specs.ExprView.{stmts_of}
 use Rattle.type_check.specs.declared.heading.Heading.{Heading}
+use Rattle.type_check.specs.declared.scope.Declared.{Declared}
 use Rattle.type_check.specs.declared.scope.Variable.{Variable}
+use Rattle.type_check.specs.declared.statements.Step.{Step}
 use Rattle.type_check.specs.declared.typed.TypedStmt.{TypedStmt}
 use Rattle.type_check.specs.Answers.{◌>>=◌, Refuses}
-use Rattle.type_check.specs.Opened.{expected_by, declared_by, is_binding, and_then}
 use Rattle.type_check.specs.TypedExpr.{TypedExpr, TypedStmts}
-use Rattle.type_check.specs.TypedExprView.{stmt_of as typed_stmt_of, stmts_of as typed_stmts_of}
-use Rattle.type_check.specs.Typing.{block_ty, typed, typed_rest}
-use Rattle.type_check.proofs.Arguments.{refuses_then, along}
+use Rattle.type_check.specs.TypedExprView.{ty_of, stmt_of as typed_stmt_of, stmts_of as typed_stmts_of}
+use Rattle.type_check.specs.Typing.{Typed, Opened, opened, behind, block_ty, declared, typed, typed_stmt, typed_stmts, typed_statement}
+use Rattle.type_check.specs.Written.{step_of}
+use Rattle.type_check.proofs.Bound.{bound, same_ok}
+use Rattle.type_check.proofs.PartByPart.{along, refuses_then}
 
 stmt_ty : (b : Bool) (e : TypedExpr) (ss : TypedStmts) → block_ty (typed_stmt_of b e ss) ≡ block_ty ss
 stmt_ty true e ss = refl
@@ -27,62 +29,96 @@ pub block_ty_after : (ss : List TypedStmt) (end : TypedStmts) → block_ty (type
 block_ty_after [] end = refl
 block_ty_after (s ∷ ss) end = stmt_ty s.binds s.value (typed_stmts_of ss end) ∙ block_ty_after ss end
 
--- what is left, after these statements
-abbrev pub continued : List Heading → List Variable → List Stmt → Stmts → Option Ty → List TypedStmt → Result TypedStmts SourceError
-continued σ Γ ss end t vs = typed_rest σ Γ (stmts_of ss end) t >>= and_then vs
+-- these statements, and then the others
+abbrev pub onto : List TypedStmt → Opened → Result Opened SourceError
+onto vs o = Ok (opened o.scope (vs ++ o.stmts))
 
-nothing_yet : (m : Result TypedStmts SourceError) → m ≡ (m >>= and_then [])
-nothing_yet (Ok r) = refl
+-- what is left, after these statements
+abbrev pub continued : List Heading → List Variable → List Stmt → List TypedStmt → Result Opened SourceError
+continued σ Γ ss vs = typed_stmts σ Γ (stmts_of ss) >>= onto vs
+
+nothing_yet : (m : Result Opened SourceError) → m ≡ (m >>= onto [])
+nothing_yet (Ok o) = refl
 nothing_yet (Err e) = refl
 
-pub statements_start : (σ : List Heading) (Γ Γ' : List Variable) (ss : List Stmt) (vs : List TypedStmt) (end : Stmts) (t : Option Ty) → Γ' ≡ Γ → vs ≡ [] → typed_rest σ Γ (stmts_of ss end) t ≡ continued σ Γ' (drop 0 ss) end t vs
-statements_start σ Γ Γ' ss vs end t p q = rw (p, q) (nothing_yet (typed_rest σ Γ (stmts_of ss end) t))
+pub statements_start : (σ : List Heading) (Γ Γ' : List Variable) (ss : List Stmt) (vs : List TypedStmt) → Γ' ≡ Γ → vs ≡ [] → typed_stmts σ Γ (stmts_of ss) ≡ continued σ Γ' (drop 0 ss) vs
+statements_start σ Γ Γ' ss vs p q = rw (p, q) (nothing_yet (typed_stmts σ Γ (stmts_of ss)))
 
-abbrev pub typed_stmt : Bool → TypedExpr → TypedStmt
-typed_stmt b v = record { binds = b; value = v }
+-- ---- one statement, and then the others
 
-onto_more : (vs : List TypedStmt) (v : TypedStmt) (end : TypedStmts) → typed_stmts_of vs (typed_stmt_of v.binds v.value end) ≡ typed_stmts_of (vs ++ v ∷ []) end
-onto_more [] v end = refl
-onto_more (w ∷ vs) v end = ap (typed_stmt_of w.binds w.value) (onto_more vs v end)
+abbrev one : TypedStmt → Opened → Result Opened SourceError
+one s o = Ok (behind s o)
 
-abbrev one : Bool → TypedExpr → TypedStmts → Result TypedStmts SourceError
-one b v r = Ok (typed_stmt_of b v r)
+abbrev then_rest : List Heading → Stmts → List Variable × TypedStmt → Result Opened SourceError
+then_rest σ ss q = typed_stmts σ q.0 ss >>= one q.1
 
-one_more : (vs : List TypedStmt) (b : Bool) (v : TypedExpr) (m : Result TypedStmts SourceError) → ((m >>= one b v) >>= and_then vs) ≡ (m >>= and_then (vs ++ typed_stmt b v ∷ []))
-one_more vs b v (Ok r) = ap Ok (onto_more vs (typed_stmt b v) r)
-one_more vs b v (Err e) = refl
+by_value : (σ : List Heading) (Γ : List Variable) (p : Step) (ss : Stmts) (n : Typed)
+    → (n >>= λ a. typed_stmts σ (declared Γ p.declares a) ss >>= λ o. Ok (behind (typed_stmt p a) o)) ≡ ((n >>= λ a. Ok (declared Γ p.declares a, typed_stmt p a)) >>= then_rest σ ss)
+by_value σ Γ p ss (Ok a) = refl
+by_value σ Γ p ss (Err e) = refl
 
-abbrev then_rest : List Heading → List Variable → StmtKind → Stmts → Option Ty → TypedExpr → Result TypedStmts SourceError
-then_rest σ Γ k ss t a = typed_rest σ (declared_by Γ k a) ss t >>= one (is_binding k) a
+by_step : (σ : List Heading) (Γ : List Variable) (e : Expr) (ss : Stmts) (m : Result Step SourceError)
+    → (m >>= λ p. typed σ Γ e p.expected >>= λ a. typed_stmts σ (declared Γ p.declares a) ss >>= λ o. Ok (behind (typed_stmt p a) o)) ≡ ((m >>= λ p. typed σ Γ e p.expected >>= λ a. Ok (declared Γ p.declares a, typed_stmt p a)) >>= then_rest σ ss)
+by_step σ Γ e ss (Ok p) = by_value σ Γ p ss (typed σ Γ e p.expected)
+by_step σ Γ e ss (Err f) = refl
 
-step : (σ : List Heading) (Γ : List Variable) (k : StmtKind) (e : Expr) (ss : Stmts) (t : Option Ty) → typed_rest σ Γ (stmt_of k e ss) t ≡ (typed σ Γ e (expected_by k) >>= then_rest σ Γ k ss t)
-step σ Γ (kind.Let b) e ss t = refl
-step σ Γ kind.Run e ss t = refl
-step σ Γ kind.Blocklike e ss t = refl
+step : (σ : List Heading) (Γ : List Variable) (s : Stmt) (ss : Stmts) → typed_stmts σ Γ (with_stmt s.span s.kind s.value ss) ≡ (typed_statement σ Γ s >>= then_rest σ ss)
+step σ Γ s ss = by_step σ Γ s.value ss (step_of s.kind)
 
-stmts_at : (ss : List Stmt) (i : ℕ) (s : Stmt) (end : Stmts) → s ≡ get_or ss i s → i < length ss → stmts_of (drop i ss) end ≡ stmt_of s.kind s.value (stmts_of (drop (suc i) ss) end)
-stmts_at ss i s end q h = rw (drop-cons ss i s h) (ap (λ (x : Stmt). stmt_of x.kind x.value (stmts_of (drop (suc i) ss) end)) (sym q))
+stmts_at : (ss : List Stmt) (i : ℕ) (s : Stmt) → s ≡ get_or ss i s → i < length ss → stmts_of (drop i ss) ≡ with_stmt s.span s.kind s.value (stmts_of (drop (suc i) ss))
+stmts_at ss i s q h = rw (drop-cons ss i s h) (ap (λ (x : Stmt). with_stmt x.span x.kind x.value (stmts_of (drop (suc i) ss))) (sym q))
 
-next : (σ : List Heading) (Γ : List Variable) (ss : List Stmt) (i : ℕ) (s : Stmt) (end : Stmts) (t : Option Ty) → s ≡ get_or ss i s → i < length ss → typed_rest σ Γ (stmts_of (drop i ss) end) t ≡ (typed σ Γ s.value (expected_by s.kind) >>= then_rest σ Γ s.kind (stmts_of (drop (suc i) ss) end) t)
-next σ Γ ss i s end t q h = ap (λ x. typed_rest σ Γ x t) (stmts_at ss i s end q h) ∙ step σ Γ s.kind s.value (stmts_of (drop (suc i) ss) end) t
+next : (σ : List Heading) (Γ : List Variable) (ss : List Stmt) (i : ℕ) (s : Stmt) → s ≡ get_or ss i s → i < length ss → typed_stmts σ Γ (stmts_of (drop i ss)) ≡ (typed_statement σ Γ s >>= then_rest σ (stmts_of (drop (suc i) ss)))
+next σ Γ ss i s q h = ap (typed_stmts σ Γ) (stmts_at ss i s q h) ∙ step σ Γ s (stmts_of (drop (suc i) ss))
 
-pub statements_more : (σ : List Heading) (Γ : List Variable) (ss : List Stmt) (i : ℕ) (s : Stmt) (vs : List TypedStmt) (v : TypedExpr) (end : Stmts) (t : Option Ty) → s ≡ get_or ss i s → i < length ss → typed σ Γ s.value (expected_by s.kind) ≡ Ok v → continued σ Γ (drop i ss) end t vs ≡ continued σ (declared_by Γ s.kind v) (drop (i + 1) ss) end t (vs ++ typed_stmt (is_binding s.kind) v ∷ [])
-statements_more σ Γ ss i s vs v end t q h p =
+one_more : (vs : List TypedStmt) (s : TypedStmt) (m : Result Opened SourceError) → ((m >>= one s) >>= onto vs) ≡ (m >>= onto (vs ++ s ∷ []))
+one_more vs s (Ok o) = ap (λ xs. Ok (opened o.scope xs)) (sym (append_assoc vs (s ∷ []) o.stmts))
+one_more vs s (Err e) = refl
+
+pub statements_more : (σ : List Heading) (Γ Γ' : List Variable) (ss : List Stmt) (i : ℕ) (s : Stmt) (vs : List TypedStmt) (v : TypedStmt) → s ≡ get_or ss i s → i < length ss → typed_statement σ Γ s ≡ Ok (Γ', v) → continued σ Γ (drop i ss) vs ≡ continued σ Γ' (drop (i + 1) ss) (vs ++ v ∷ [])
+statements_more σ Γ Γ' ss i s vs v q h p =
     rw add-one
-    (ap (λ m. m >>= and_then vs) (next σ Γ ss i s end t q h)
-    ∙ ap (λ (m : Result TypedExpr SourceError). (m >>= then_rest σ Γ s.kind (stmts_of (drop (suc i) ss) end) t) >>= and_then vs) p
-    ∙ one_more vs (is_binding s.kind) v (typed_rest σ (declared_by Γ s.kind v) (stmts_of (drop (suc i) ss) end) t))
+    (ap (λ m. m >>= onto vs) (next σ Γ ss i s q h)
+    ∙ ap (λ (m : Result (List Variable × TypedStmt) SourceError). (m >>= then_rest σ (stmts_of (drop (suc i) ss))) >>= onto vs) p
+    ∙ one_more vs v (typed_stmts σ Γ' (stmts_of (drop (suc i) ss))))
 
-pub statements_stop : (f : PassError) (σ : List Heading) (Γ Γ₀ : List Variable) (ss : List Stmt) (i : ℕ) (s : Stmt) (vs : List TypedStmt) (end : Stmts) (t : Option Ty) → s ≡ get_or ss i s → i < length ss → typed_rest σ Γ₀ (stmts_of ss end) t ≡ continued σ Γ (drop i ss) end t vs → Refuses f (typed σ Γ s.value (expected_by s.kind)) → Refuses f (typed_rest σ Γ₀ (stmts_of ss end) t)
-statements_stop f σ Γ Γ₀ ss i s vs end t q h r p =
+pub statements_stop : (f : PassError) (σ : List Heading) (Γ Γ₀ : List Variable) (ss : List Stmt) (i : ℕ) (s : Stmt) (vs : List TypedStmt) → s ≡ get_or ss i s → i < length ss → typed_stmts σ Γ₀ (stmts_of ss) ≡ continued σ Γ (drop i ss) vs → Refuses f (typed_statement σ Γ s) → Refuses f (typed_stmts σ Γ₀ (stmts_of ss))
+statements_stop f σ Γ Γ₀ ss i s vs q h r p =
     along f _ _ r
-    (refuses_then f _ (and_then vs)
-    (along f _ _ (next σ Γ ss i s end t q h)
-    (refuses_then f (typed σ Γ s.value (expected_by s.kind)) (then_rest σ Γ s.kind (stmts_of (drop (suc i) ss) end) t) p)))
+    (refuses_then f _ (onto vs)
+    (along f _ _ (next σ Γ ss i s q h)
+    (refuses_then f (typed_statement σ Γ s) (then_rest σ (stmts_of (drop (suc i) ss))) p)))
 
 drop_all : (ss : List Stmt) (n : ℕ) → n ≡ length ss → drop n ss ≡ []
 drop_all [] n q = rw q refl
 drop_all (s ∷ ss) n q = rw q (drop_all ss (length ss) refl)
 
-pub statements_end : (σ : List Heading) (Γ : List Variable) (ss : List Stmt) (n : ℕ) (vs : List TypedStmt) (end : Stmts) (t : Option Ty) → n ≡ length ss → continued σ Γ (drop n ss) end t vs ≡ (typed_rest σ Γ end t >>= and_then vs)
-statements_end σ Γ ss n vs end t q = rw (drop_all ss n q) refl
+pub statements_end : (σ : List Heading) (Γ : List Variable) (ss : List Stmt) (n : ℕ) (vs : List TypedStmt) → n ≡ length ss → continued σ Γ (drop n ss) vs ≡ Ok (opened Γ vs)
+statements_end σ Γ ss n vs q = rw (drop_all ss n q) (ap (λ xs. Ok (opened Γ xs)) (append-nil vs))
+
+-- ---- what was in scope before stays there
+
+abbrev Grown : List Variable → List Variable → Type 0
+Grown Γ Δ = (more : List Variable) × (Δ ≡ Γ ++ more)
+
+grown_by : (Γ Δ : List Variable) (d : Option Declared) (a : TypedExpr) → Grown (declared Γ d a) Δ → Grown Γ Δ
+grown_by Γ Δ None a g = g
+grown_by Γ Δ (Some d) a g =
+    let v : Variable = record { name = d.name; ty = ty_of a; mutable = d.mutable } in
+    (v ∷ g.0, g.1 ∙ append_assoc Γ (v ∷ []) g.0)
+
+grown_as : (Γ : List Variable) (o : Opened) (s : TypedStmt) (r : Opened) → Grown Γ o.scope → behind s o ≡ r → Grown Γ r.scope
+grown_as Γ o s r g q = (g.0, ap (λ (o : Opened). o.scope) (sym q) ∙ g.1)
+
+grown : (σ : List Heading) (Γ : List Variable) (ss : Stmts) (o : Opened) → typed_stmts σ Γ ss ≡ Ok o → Grown Γ o.scope
+grown σ Γ no_stmts o p = ([], ap (λ (o : Opened). o.scope) (sym (same_ok _ _ p)) ∙ sym (append-nil Γ))
+grown σ Γ (with_stmt s k e ss) o p =
+    let w = bound (step_of k) _ o p in
+    let a = bound (typed σ Γ e w.0.expected) _ o w.2 in
+    let r = bound (typed_stmts σ (declared Γ w.0.declares a.0) ss) _ o a.2 in
+    grown_as Γ r.0 (typed_stmt w.0 a.0) o (grown_by Γ r.0.scope w.0.declares a.0 (grown σ (declared Γ w.0.declares a.0) ss r.0 r.1)) (same_ok _ _ r.2)
+
+pub scope_stays : (σ : List Heading) (Γ : List Variable) (ss : List Stmt) (Δ : List Variable) (vs : List TypedStmt) → typed_stmts σ Γ (stmts_of ss) ≡ Ok (opened Δ vs) → take (length Γ) Δ ≡ Γ
+scope_stays σ Γ ss Δ vs p =
+    let g = grown σ Γ (stmts_of ss) (opened Δ vs) p in
+    ap (take (length Γ)) g.1 ∙ take-append_seam Γ g.0

@@ -1,104 +1,205 @@
 -- A checked program fits, and no formula of it is refused.
-use Rattle.std.proofs.Common.{◌≡◌, suc, Bool, true, false, List, [], ◌∷◌, length, map, Option, Some, None, Result, Ok, Err, refl, ap, ap₂, sym, subst}
-use Rattle.std.specs.Prelude.{if◌then◌else◌, IfOk}
+use Rattle.std.proofs.Common.{◌≡◌, ◌∙◌, suc, List, [], ◌∷◌, length, map, Option, Some, None, Result, Ok, Err, refl, ap, ap₂, sym, subst}
+use Rattle.std.specs.Prelude.{IfOk}
 use Rattle.text_core.specs.declared.refusal.SourceError.{SourceError}
 use Rattle.text_core.specs.declared.span.Span.{Span}
-use Rattle.logic_term.specs.Ty.{Ty, int, bool, tuple, no_tys}
+use Rattle.logic_term.specs.Ty.{Ty}
 use Rattle.text_core.specs.declared.fault.PassError.{PassError}
-use Rattle.built_trees.specs.declared.function.Clause.{Clause}
-use Rattle.built_trees.specs.declared.function.ClauseKind.{ClauseKind}
-use Rattle.built_trees.specs.declared.function.ClauseKind.TheVariants.{Requires, Ensures}
-use Rattle.built_trees.specs.declared.function.Function.{Function}
-use Rattle.built_trees.specs.declared.function.Param.{Param}
-use Rattle.built_trees.specs.Pterm.{Pterm}
+use Rattle.source_trees.specs.declared.attribute.Attribute.{Attribute}
+use Rattle.source_trees.specs.declared.attribute.AttributeNode.{AttributeNode}
+use Rattle.source_trees.specs.declared.attribute.AttributeNode.TheVariants as A
+use Rattle.source_trees.specs.declared.attribute.ClauseKind.TheVariants as clause
+use Rattle.source_trees.specs.declared.item.Body.{Body}
+use Rattle.source_trees.specs.declared.item.Body.TheVariants as body
+use Rattle.source_trees.specs.declared.item.Function.{Function}
+use Rattle.source_trees.specs.declared.item.Item.{Item}
+use Rattle.source_trees.specs.declared.item.ItemNode.{ItemNode}
+use Rattle.source_trees.specs.declared.item.ItemNode.TheVariants as item
+use Rattle.source_trees.specs.declared.param.Param.{Param}
+use Rattle.source_trees.specs.declared.param.ParamNode.{ParamNode}
+use Rattle.source_trees.specs.declared.param.ParamNode.TheVariants as param
+use Rattle.source_trees.specs.Pterm.{Pterm}
 use Rattle.type_check.specs.declared.heading.Heading.{Heading}
+use Rattle.type_check.specs.declared.program.ClauseKind.{ClauseKind}
+use Rattle.type_check.specs.declared.program.ClauseKind.TheVariants.{Requires, Ensures}
 use Rattle.type_check.specs.declared.program.Signature.{Signature}
+use Rattle.type_check.specs.declared.program.TypedClause.{TypedClause}
 use Rattle.type_check.specs.declared.program.TypedFunction.{TypedFunction}
 use Rattle.type_check.specs.declared.program.TypedProgram.{TypedProgram}
 use Rattle.type_check.specs.declared.scope.Variable.{Variable}
-use Rattle.type_check.specs.Answers.{◌>>=◌, Answers}
-use Rattle.type_check.specs.Checked.{answer_ty, param_ty, signature_of, heading_of, variable_of, is_built, unbuilt_param, unbuilt_answer, unbuilt, heard, clause_of, function_of, function_where, typed_function, typed_functions, unless, program_of, checked, AllGood}
+use Rattle.type_check.specs.Answers.{◌>>=◌, Answers, absent, each, with_some, gather}
+use Rattle.type_check.specs.Checked.{type_of, signature_by, heading_of, skipped, declares_by, declares, heard, clause_by, clause_of, typed_body, typed_function, typed_by, typed_item, unless, program_of, typed_items, checked, AllGood}
 use Rattle.type_check.specs.FirstBad.{first_bad}
 use Rattle.type_check.specs.Names.{first_double}
 use Rattle.type_check.specs.Terms.{assertion}
 use Rattle.type_check.specs.TypedExpr.{TypedExpr}
-use Rattle.type_check.specs.Typing.{typed}
 use Rattle.type_check.specs.WellTyped.{IsBuilt, AllBuilt, ClauseSpeaksOf, ClausesSpeak, FunctionFits, EachFits, ProgramFits, signatures, IsWellTyped}
+use Rattle.type_check.specs.Written.{answer_ty, param_by, param_of, written_type}
 use Rattle.type_check.proofs.Bound.{bound, yes, same_ok}
 use Rattle.type_check.proofs.Fits.{Sound, typed_sound}
 use Rattle.type_check.proofs.Lookups.{types, signatures_at}
 use Rattle.type_check.proofs.Speaking.{assertion_speaks, assertion_speaks_of_answer}
+use Rattle.type_check.proofs.WrittenTypes.{type_built, answer_built}
 
-built : (t : Ty) → is_built t ≡ true → IsBuilt t
-built (int k) p = tt
-built bool p = tt
-built (tuple no_tys) p = tt
-built t p = absurd (cc)
+-- ---- signatures
 
-first_built : (b : Bool) (t : Ty) (ps : List Param) (s : Span) → is_built t ≡ b → (unbuilt_param ps ≡ None → AllBuilt (map param_ty ps)) → (if b then unbuilt_param ps else Some s) ≡ None → IsBuilt t × AllBuilt (map param_ty ps)
-first_built true t ps s q h p = (built t q, h p)
-first_built false t ps s q h p = absurd (cc)
+param_is_built : (s : Span) (n : ParamNode) (v : Variable) → param_by s n ≡ Ok v → IsBuilt v.ty
+param_is_built s (param.Named m x w) v p =
+    let t = bound (written_type w) _ v p in
+    let u : Variable = record { name = x.name; ty = t.0; mutable = m } in
+    let q : u ≡ v = same_ok _ _ t.2 in
+    subst (λ (v : Variable). IsBuilt v.ty) q (type_built w t.0 t.1)
+param_is_built s n v p = absurd (cc)
 
-all_built : (ps : List Param) → unbuilt_param ps ≡ None → AllBuilt (map param_ty ps)
-all_built [] p = tt
-all_built (q ∷ ps) p = first_built (is_built q.ty) q.ty ps q.span refl (all_built ps) p
+of_param : (q : Param) (v : Variable) → param_of q ≡ Ok v → IsBuilt v.ty
+unfolding param_of
+of_param q v p = param_is_built q.span q.node v p
 
-answer_built : (b : Bool) (t : Ty) (s : Span) → is_built t ≡ b → (if b then None else Some s) ≡ None → IsBuilt t
-answer_built true t s q p = built t q
-answer_built false t s q p = absurd (cc)
+all_built : (ps : List Param) (Γ : List Variable) → each param_of ps ≡ Ok Γ → AllBuilt (map type_of Γ)
+all_built [] Γ p = subst (λ (Γ : List Variable). AllBuilt (map type_of Γ)) (same_ok _ _ p) tt
+all_built (q ∷ ps) Γ p =
+    let v = bound (param_of q) _ Γ p in
+    let Δ = bound (each param_of ps) _ Γ v.2 in
+    subst (λ (Γ : List Variable). AllBuilt (map type_of Γ)) (same_ok _ _ Δ.2) (of_param q v.0 v.1, all_built ps Δ.0 Δ.1)
 
-both_built : (o : Option Span) (t : Ty) (s : Span) → unbuilt_answer o t s ≡ None → (o ≡ None) × IsBuilt t
-both_built (Some r) t s p = absurd (cc)
-both_built None t s p = (refl, answer_built (is_built t) t s refl p)
-
-types_of : (ps : List Param) → types (map variable_of ps) ≡ map param_ty ps
-types_of [] = refl
-types_of (p ∷ ps) = ap (λ ts. p.ty ∷ ts) (types_of ps)
-
-lengths : (ps : List Param) → length (map variable_of ps) ≡ length (map param_ty ps)
+lengths : (Γ : List Variable) → length Γ ≡ length (types Γ)
 lengths [] = refl
-lengths (p ∷ ps) = ap suc (lengths ps)
+lengths (v ∷ Γ) = ap suc (lengths Γ)
 
-clause_speaks : (u : Ty) (Γ : List Variable) (k : ClauseKind) (t : Pterm) → ClauseSpeaksOf (length Γ) k (assertion (heard k (Some u)) Γ t)
-clause_speaks u Γ Requires t = assertion_speaks Γ t
-clause_speaks u Γ Ensures t = assertion_speaks_of_answer u Γ t
+-- ---- clauses
 
-clauses_speak : (u : Ty) (Γ : List Variable) (cs : List Clause) → ClausesSpeak (length Γ) (map (clause_of (Some u) Γ) cs)
-clauses_speak u Γ [] = tt
-clauses_speak u Γ (c ∷ cs) = (clause_speaks u Γ c.kind c.term, clauses_speak u Γ cs)
+abbrev SomeSpeaks : Option TypedClause → List Variable → Type 0
+SomeSpeaks None Γ = Unit {0}
+SomeSpeaks (Some c) Γ = ClauseSpeaksOf (length Γ) c.kind c.formula
 
-made_fits : (σ : List Heading) (f : Function) (e : TypedExpr) → unbuilt f ≡ None → Sound σ (map variable_of f.params) (Some (answer_ty f.answer)) e → FunctionFits (signatures_at σ) (function_of f e)
-made_fits σ f e u s =
-    let b = both_built (unbuilt_param f.params) (answer_ty f.answer) f.name_span u in
-    record {
-      params = all_built f.params b.0;
-      answer = b.1;
-      clauses = subst (λ n. ClausesSpeak n (function_of f e).clauses) (lengths f.params) (clauses_speak (answer_ty f.answer) (map variable_of f.params) f.clauses);
-      body = subst (λ ts. IsWellTyped (signatures_at σ) ts e) (types_of f.params) s.well;
-      of_answer = s.meets;
-    }
+same_some : (o p : Option TypedClause) → yes o ≡ Ok p → o ≡ p
+same_some o p q = same_ok _ _ q
 
-function_at : (σ : List Heading) (f : Function) (o : Option Span) (g : TypedFunction) → unbuilt f ≡ o → function_where σ f o ≡ Ok g → FunctionFits (signatures_at σ) g × (g.signature ≡ signature_of f)
-function_at σ f (Some s) g u p = absurd (cc)
-function_at σ f None g u p =
-    let e = bound (typed σ (map variable_of f.params) f.body (Some (answer_ty f.answer))) _ g p in
-    let q : function_of f e.0 ≡ g = same_ok _ _ e.2 in
-    let s = typed_sound σ (map variable_of f.params) f.body (Some (answer_ty f.answer)) e.0 e.1 in
-    (subst (FunctionFits (signatures_at σ)) q (made_fits σ f e.0 u s), ap (λ (h : TypedFunction). h.signature) (sym q))
+kind_speaks : (u : Ty) (Γ : List Variable) (k : ClauseKind) (t : Pterm) → ClauseSpeaksOf (length Γ) k (assertion (heard k (Some u)) Γ t)
+kind_speaks u Γ Requires t = assertion_speaks Γ t
+kind_speaks u Γ Ensures t = assertion_speaks_of_answer u Γ t
 
-function_fits : (σ : List Heading) (f : Function) (g : TypedFunction) → typed_function σ f ≡ Ok g → FunctionFits (signatures_at σ) g × (g.signature ≡ signature_of f)
+clause_speaks : (u : Ty) (Γ : List Variable) (s : Span) (n : AttributeNode) (o : Option TypedClause) → clause_by (Some u) Γ s n ≡ Ok o → SomeSpeaks o Γ
+clause_speaks u Γ s (A.Clause clause.Requires t) o p = subst (λ o. SomeSpeaks o Γ) (same_some _ o p) (kind_speaks u Γ Requires t)
+clause_speaks u Γ s (A.Clause clause.Ensures t) o p = subst (λ o. SomeSpeaks o Γ) (same_some _ o p) (kind_speaks u Γ Ensures t)
+clause_speaks u Γ s A.Skipped o p = subst (λ o. SomeSpeaks o Γ) (same_some None o p) tt
+clause_speaks u Γ s n o p = absurd (cc)
+
+attribute_speaks : (u : Ty) (Γ : List Variable) (a : Attribute) (o : Option TypedClause) → clause_of (Some u) Γ a ≡ Ok o → SomeSpeaks o Γ
+unfolding clause_of
+attribute_speaks u Γ a o p = clause_speaks u Γ a.span a.node o p
+
+joined_speak : (Γ : List Variable) (o : Option TypedClause) (rest : List TypedClause) → SomeSpeaks o Γ → ClausesSpeak (length Γ) rest → ClausesSpeak (length Γ) (with_some o rest)
+joined_speak Γ None rest h k = k
+joined_speak Γ (Some c) rest h k = (h, k)
+
+clauses_speak : (u : Ty) (Γ : List Variable) (as' : List Attribute) (cs : List TypedClause) → gather (clause_of (Some u) Γ) as' ≡ Ok cs → ClausesSpeak (length Γ) cs
+clauses_speak u Γ [] cs p = subst (ClausesSpeak (length Γ)) (same_ok _ _ p) tt
+clauses_speak u Γ (a ∷ as') cs p =
+    let o = bound (clause_of (Some u) Γ a) _ cs p in
+    let rest = bound (gather (clause_of (Some u) Γ) as') _ cs o.2 in
+    subst (ClausesSpeak (length Γ)) (same_ok _ _ rest.2) (joined_speak Γ o.0 rest.0 (attribute_speaks u Γ a o.0 o.1) (clauses_speak u Γ as' rest.0 rest.1))
+
+-- ---- functions
+
+body_sound : (σ : List Heading) (Γ : List Variable) (t : Option Ty) (own : Span) (b : Body) (e : TypedExpr) → typed_body σ Γ t own b ≡ Ok e → Sound σ Γ t e
+body_sound σ Γ t own (body.Block a) e p = typed_sound σ Γ a t e p
+body_sound σ Γ t own b e p = absurd (cc)
+
+-- what a function is typed as fits, and has the signature of the parameters and the answer that are written
+abbrev IsOf : Function → Signature → Type 0
+IsOf f g = (Γ : List Variable) × (t : Ty) × (each param_of f.params ≡ Ok Γ) × (answer_ty f.answer ≡ Ok t) × (g ≡ signature_by Γ t)
+
+function_fits : (σ : List Heading) (own : Span) (as' : List Attribute) (f : Function) (g : TypedFunction) → typed_function σ own as' f ≡ Ok g → FunctionFits (signatures_at σ) g × IsOf f g.signature
 unfolding typed_function
-function_fits σ f g p = function_at σ f (unbuilt f) g refl p
+function_fits σ own as' f g p =
+    let Γ = bound (each param_of f.params) _ g p in
+    let t = bound (answer_ty f.answer) _ g Γ.2 in
+    let cs = bound (gather (clause_of (Some t.0) Γ.0) as') _ g t.2 in
+    let e = bound (typed_body σ Γ.0 (Some t.0) own f.body) _ g cs.2 in
+    let s = body_sound σ Γ.0 (Some t.0) own f.body e.0 e.1 in
+    let h : TypedFunction = record { name = f.name.name; span = f.name.span; signature = signature_by Γ.0 t.0; clauses = cs.0; body = e.0 } in
+    let q : h ≡ g = same_ok _ _ e.2 in
+    let fits : FunctionFits (signatures_at σ) h = record {
+      params = all_built f.params Γ.0 Γ.1;
+      answer = answer_built f.answer t.0 t.1;
+      clauses = subst (λ n. ClausesSpeak n cs.0) (lengths Γ.0) (clauses_speak t.0 Γ.0 as' cs.0 cs.1);
+      body = s.well;
+      of_answer = s.meets;
+    } in
+    (subst (FunctionFits (signatures_at σ)) q fits, (Γ.0, t.0, Γ.1, t.1, ap (λ (h : TypedFunction). h.signature) (sym q)))
 
-functions_fit : (σ : List Heading) (fs : List Function) (gs : List TypedFunction) → typed_functions σ fs ≡ Ok gs → EachFits (signatures_at σ) gs × (signatures gs ≡ signatures_at (map heading_of fs))
-functions_fit σ [] gs p = subst (λ (gs : List TypedFunction). EachFits (signatures_at σ) gs × (signatures gs ≡ signatures_at (map heading_of []))) (same_ok _ _ p) (tt, refl)
-functions_fit σ (f ∷ fs) gs p =
-    let g = bound (typed_function σ f) _ gs p in
-    let hs = bound (typed_functions σ fs) _ gs g.2 in
-    let a = function_fits σ f g.0 g.1 in
-    let b = functions_fit σ fs hs.0 hs.1 in
-    subst (λ (gs : List TypedFunction). EachFits (signatures_at σ) gs × (signatures gs ≡ signatures_at (map heading_of (f ∷ fs)))) (same_ok _ _ hs.2)
-    ((a.0, b.0), ap₂ (λ (s : Signature) (ss : List Signature). s ∷ ss) a.1 b.1)
+heading_is : (f : Function) (h : Heading) → heading_of f ≡ Ok h → IsOf f h.signature
+unfolding heading_of
+heading_is f h p =
+    let a = bound (absent f.generics_span) _ h p in
+    let Γ = bound (each param_of f.params) _ h a.2 in
+    let t = bound (answer_ty f.answer) _ h Γ.2 in
+    let b = bound (absent f.conditions_span) _ h t.2 in
+    let made : Heading = record { name = f.name.name; signature = signature_by Γ.0 t.0 } in
+    let q : made ≡ h = same_ok _ _ b.2 in
+    (Γ.0, t.0, Γ.1, t.1, ap (λ (h : Heading). h.signature) (sym q))
+
+same_signature : (f : Function) (g h : Signature) → IsOf f g → IsOf f h → g ≡ h
+same_signature f g h a b =
+    let Γ : a.0 ≡ b.0 = same_ok _ _ (sym a.2 ∙ b.2) in
+    let t : a.1 ≡ b.1 = same_ok _ _ (sym a.3 ∙ b.3) in
+    a.4 ∙ ap₂ signature_by Γ t ∙ sym b.4
+
+-- ---- items
+
+-- an item that declares this heading is typed as this function, which fits
+abbrev ItemFits : List Heading → Option Heading → Option TypedFunction → Type 0
+ItemFits σ (Some h) (Some g) = FunctionFits (signatures_at σ) g × (g.signature ≡ h.signature)
+ItemFits σ None None = Unit {0}
+ItemFits σ _ _ = ⊥
+
+both_none : (σ : List Heading) (m : Result (Unit {0}) SourceError) (o : Option Heading) (g : Option TypedFunction) → (m >>= λ nothing. yes {A = Option Heading} None) ≡ Ok o → yes {A = Option TypedFunction} None ≡ Ok g → ItemFits σ o g
+both_none σ (Ok u) o g p q =
+    let e : None ≡ o = same_ok _ _ p in
+    let k : None ≡ g = same_ok _ _ q in
+    subst (λ o. ItemFits σ o g) e (subst (ItemFits σ None) k tt)
+both_none σ (Err e) o g p q = absurd (cc)
+
+none_declared : {A : Type 0} (m : Result (Unit {0}) SourceError) (e : SourceError) (o : A) → (m >>= λ nothing. Err e) ≡ Ok o → ⊥
+none_declared (Ok u) e o p = cc
+none_declared (Err f) e o p = cc
+
+item_by_fits : (σ : List Heading) (own : Span) (as' : List Attribute) (n : ItemNode) (o : Option Heading) (g : Option TypedFunction) → declares_by own as' n ≡ Ok o → typed_by σ own as' n ≡ Ok g → ItemFits σ o g
+item_by_fits σ own as' (item.Function f) o g p q =
+    let h = bound (heading_of f) _ o p in
+    let k = bound (typed_function σ own as' f) _ g q in
+    let e : Some h.0 ≡ o = same_ok _ _ h.2 in
+    let d : Some k.0 ≡ g = same_ok _ _ k.2 in
+    let fits = function_fits σ own as' f k.0 k.1 in
+    subst (λ o. ItemFits σ o g) e (subst (ItemFits σ (Some h.0)) d (fits.0, same_signature f k.0.signature h.0.signature fits.1 (heading_is f h.0 h.1)))
+item_by_fits σ own as' item.Use o g p q = both_none σ (skipped as') o g p q
+item_by_fits σ own as' item.ExternCrate o g p q = both_none σ (skipped as') o g p q
+item_by_fits σ own as' n o g p q = absurd (none_declared (skipped as') _ o p)
+
+item_fits : (σ : List Heading) (i : Item) (o : Option Heading) (g : Option TypedFunction) → declares i ≡ Ok o → typed_item σ i ≡ Ok g → ItemFits σ o g
+unfolding declares
+item_fits σ i o g p q = item_by_fits σ i.own i.attributes i.node o g p q
+
+abbrev AllFit : List Heading → List Heading → List TypedFunction → Type 0
+AllFit σ hs gs = EachFits (signatures_at σ) gs × (signatures gs ≡ signatures_at hs)
+
+joined_fit : (σ : List Heading) (o : Option Heading) (g : Option TypedFunction) (hs : List Heading) (gs : List TypedFunction) → ItemFits σ o g → AllFit σ hs gs → AllFit σ (with_some o hs) (with_some g gs)
+joined_fit σ (Some h) (Some g) hs gs a b = ((a.0, b.0), ap₂ (λ (s : Signature) (ss : List Signature). s ∷ ss) a.1 b.1)
+joined_fit σ None None hs gs a b = b
+joined_fit σ o g hs gs a b = absurd a
+
+items_fit : (σ : List Heading) (is : List Item) (hs : List Heading) (gs : List TypedFunction) → gather declares is ≡ Ok hs → gather (typed_item σ) is ≡ Ok gs → AllFit σ hs gs
+items_fit σ [] hs gs p q = subst (λ hs. AllFit σ hs gs) (same_ok _ _ p) (subst (AllFit σ []) (same_ok _ _ q) (tt, refl))
+items_fit σ (i ∷ is) hs gs p q =
+    let o = bound (declares i) _ hs p in
+    let os = bound (gather declares is) _ hs o.2 in
+    let g = bound (typed_item σ i) _ gs q in
+    let rest = bound (gather (typed_item σ) is) _ gs g.2 in
+    subst (λ hs. AllFit σ hs gs) (same_ok _ _ os.2) (subst (AllFit σ (with_some o.0 os.0)) (same_ok _ _ rest.2)
+    (joined_fit σ o.0 g.0 os.0 rest.0 (item_fits σ i o.0 g.0 o.1 g.1) (items_fit σ is os.0 rest.0 os.1 rest.1)))
+
+-- ---- the whole
 
 accepted : {A : Type 0} (o : Option SourceError) (m : Result A SourceError) (a : A) → unless o m ≡ Ok a → (o ≡ None) × (m ≡ Ok a)
 accepted (Some e) m a p = absurd (cc)
@@ -107,27 +208,31 @@ accepted None m a p = (refl, p)
 abbrev whole : List TypedFunction → TypedProgram
 whole gs = record { functions = gs }
 
-pub fits_program : (fs : List Function) (p : TypedProgram) → checked fs ≡ Ok p → ProgramFits p
+abbrev passed : List Item → Result TypedProgram SourceError
+passed is = gather declares is >>= typed_items is >>= program_of
+
+pub fits_program : (is : List Item) (p : TypedProgram) → checked is ≡ Ok p → ProgramFits p
 unfolding checked
-fits_program fs p h =
-    let c = accepted (first_double fs) (typed_functions (map heading_of fs) fs >>= program_of) p h in
-    let g = bound (typed_functions (map heading_of fs) fs) program_of p c.1 in
+fits_program is p h =
+    let c = accepted (first_double is) (passed is) p h in
+    let g = bound (gather declares is >>= typed_items is) program_of p c.1 in
+    let σ = bound (gather declares is) (typed_items is) g.0 g.1 in
     let d = accepted (first_bad g.0) (yes (whole g.0)) p g.2 in
-    let f = functions_fit (map heading_of fs) fs g.0 g.1 in
+    let f = items_fit σ.0 is σ.0 g.0 σ.1 σ.2 in
     subst ProgramFits (same_ok _ _ d.1) (subst (λ σ. EachFits σ g.0) (sym f.1) f.0)
 
-pub good_program : (fs : List Function) (p : TypedProgram) → checked fs ≡ Ok p → AllGood p
+pub good_program : (is : List Item) (p : TypedProgram) → checked is ≡ Ok p → AllGood p
 unfolding checked
-good_program fs p h =
-    let c = accepted (first_double fs) (typed_functions (map heading_of fs) fs >>= program_of) p h in
-    let g = bound (typed_functions (map heading_of fs) fs) program_of p c.1 in
+good_program is p h =
+    let c = accepted (first_double is) (passed is) p h in
+    let g = bound (gather declares is >>= typed_items is) program_of p c.1 in
     let d = accepted (first_bad g.0) (yes (whole g.0)) p g.2 in
     subst AllGood (same_ok _ _ d.1) d.0
 
-pub answered_fits : (fs : List Function) (r : Result TypedProgram PassError) → Answers r (checked fs) → IfOk r ProgramFits
-answered_fits fs (Ok p) h = fits_program fs p h
-answered_fits fs (Err f) h = tt
+pub answered_fits : (is : List Item) (r : Result TypedProgram PassError) → Answers r (checked is) → IfOk r ProgramFits
+answered_fits is (Ok p) h = fits_program is p h
+answered_fits is (Err f) h = tt
 
-pub answered_good : (fs : List Function) (r : Result TypedProgram PassError) → Answers r (checked fs) → IfOk r AllGood
-answered_good fs (Ok p) h = good_program fs p h
-answered_good fs (Err f) h = tt
+pub answered_good : (is : List Item) (r : Result TypedProgram PassError) → Answers r (checked is) → IfOk r AllGood
+answered_good is (Ok p) h = good_program is p h
+answered_good is (Err f) h = tt

@@ -1,23 +1,31 @@
--- Why program code is refused: E05 at a name that means nothing there, E22 at a variable that is written and is not `mut`, or a type
--- that is not the one wanted.
+-- Why program code is refused: E05 at a name that means nothing there, E22 at the name of a variable that is written and is not `mut`, a type
+-- that is not the one wanted, or a form that is not built.
 use Rattle.std.specs.Prelude.{◌≡◌, ◌⊎◌, false, List, Option, Some, None, Ok, Err}
 use Rattle.text_core.specs.declared.name.Name.{Name}
 use Rattle.text_core.specs.declared.refusal.SourceError.{SourceError}
 use Rattle.text_core.specs.declared.span.Span.{Span}
 use Rattle.logic_term.specs.Ty.{Ty}
-use Rattle.built_trees.specs.Expr.{Expr, Stmts, Exprs, integer, truth, named, negative, denied, binary, lazy, assign, update, call, block, branch, choice, repeat, done, last, bind, run, blocklike, none, more}
-use Rattle.built_trees.specs.ExprView.{span_of}
+use Rattle.source_trees.specs.declared.operator.UnaryOp.TheVariants.{Neg, Not}
+use Rattle.source_trees.specs.declared.path.Segment.{Segment}
+use Rattle.source_trees.specs.Expr as E
+use Rattle.source_trees.specs.Expr.{Expr}
+use Rattle.source_trees.specs.ExprView.{span_of}
 use Rattle.type_check.specs.declared.heading.Heading.{Heading}
 use Rattle.type_check.specs.declared.scope.Found.{Found}
 use Rattle.type_check.specs.declared.scope.Variable.{Variable}
-use Rattle.type_check.specs.Answers.{unknown_name, mismatch, not_mutable}
+use Rattle.type_check.specs.declared.statements.Step.{Step}
+use Rattle.type_check.specs.Answers.{unknown_name, mismatch, unbuilt, not_mutable}
 use Rattle.type_check.specs.Functions.{callee}
 use Rattle.type_check.specs.Scope.{found}
 use Rattle.type_check.specs.TypedExpr.{TypedExpr}
-use Rattle.type_check.specs.Typing.{as_name, declared, typed}
+use Rattle.type_check.specs.Typing.{Opened, declared, typed, typed_stmts}
+use Rattle.type_check.specs.Written.{as_name, name_alone, step_of}
 
 abbrev pub IsMismatch : SourceError → Type 0
 IsMismatch e = (s : Span) × (e ≡ mismatch s)
+
+abbrev pub IsUnbuilt : SourceError → Type 0
+IsUnbuilt e = (s : Span) × (e ≡ unbuilt s)
 
 -- no variable of the name is in scope
 abbrev pub IsUnknown : List Variable → Name → Span → SourceError → Type 0
@@ -27,38 +35,51 @@ IsUnknown Γ x s e = (e ≡ unknown_name s) × (found x Γ ≡ None)
 abbrev pub IsConstant : List Variable → Name → Span → SourceError → Type 0
 IsConstant Γ x s e = (v : Found) × (found x Γ ≡ Some v) × (v.mutable ≡ false) × (e ≡ not_mutable s)
 
+-- a path that is no name alone is not built
+abbrev pub IsNotRead : List Variable → Span → Option Segment → SourceError → Type 0
+IsNotRead Γ s None e = e ≡ unbuilt s
+IsNotRead Γ s (Some x) e = IsUnknown Γ x.name s e
+
 -- the left side of an assignment is such a name
 abbrev pub IsNotWritten : List Variable → Expr → SourceError → Type 0
-IsNotWritten Γ l e = (x : Name) × (as_name l ≡ Some x) × (IsUnknown Γ x (span_of l) e ⊎ IsConstant Γ x (span_of l) e)
+IsNotWritten Γ l e = (x : Segment) × (as_name l ≡ Some x) × (IsUnknown Γ x.name (span_of l) e ⊎ IsConstant Γ x.name (span_of l) e)
+
+-- what is called is no name alone, or a name that no function has there; the span is that of the call
+abbrev pub IsNotCalled : List Heading → List Variable → Span → Option Segment → SourceError → Type 0
+IsNotCalled σ Γ s None e = e ≡ unbuilt s
+IsNotCalled σ Γ s (Some x) e = (e ≡ unknown_name x.span) × (callee σ Γ x.name ≡ None)
 
 -- the refusal has its cause at the expression or at a part of it, in the scope of that part
 abbrev mutual
   pub Causes : List Heading → List Variable → Expr → SourceError → Type 0
-  Causes σ Γ (integer s z k) e = IsMismatch e
-  Causes σ Γ (truth s b) e = IsMismatch e
-  Causes σ Γ (named s x) e = IsMismatch e ⊎ IsUnknown Γ x s e
-  Causes σ Γ (negative s o a) e = IsMismatch e ⊎ Causes σ Γ a e
-  Causes σ Γ (denied s a) e = IsMismatch e ⊎ Causes σ Γ a e
-  Causes σ Γ (binary s op o a b) e = IsMismatch e ⊎ (Causes σ Γ a e ⊎ Causes σ Γ b e)
-  Causes σ Γ (lazy s op a b) e = IsMismatch e ⊎ (Causes σ Γ a e ⊎ Causes σ Γ b e)
-  Causes σ Γ (assign s l a) e = (IsMismatch e ⊎ IsNotWritten Γ l e) ⊎ (Causes σ Γ l e ⊎ Causes σ Γ a e)
-  Causes σ Γ (update s op o l a) e = (IsMismatch e ⊎ IsNotWritten Γ l e) ⊎ (Causes σ Γ l e ⊎ Causes σ Γ a e)
-  Causes σ Γ (call s x r es) e = (IsMismatch e ⊎ ((e ≡ unknown_name r) × (callee σ Γ x ≡ None))) ⊎ CausesInArgs σ Γ es e
-  Causes σ Γ (block s ss) e = IsMismatch e ⊎ CausesInRest σ Γ ss e
-  Causes σ Γ (branch s c a) e = IsMismatch e ⊎ (Causes σ Γ c e ⊎ Causes σ Γ a e)
-  Causes σ Γ (choice s c a b) e = IsMismatch e ⊎ (Causes σ Γ c e ⊎ (Causes σ Γ a e ⊎ Causes σ Γ b e))
-  Causes σ Γ (repeat s is c b) e = IsMismatch e ⊎ (Causes σ Γ c e ⊎ Causes σ Γ b e)
+  Causes σ Γ (E.integer s z k) e = IsMismatch e
+  Causes σ Γ (E.truth s b) e = IsMismatch e
+  Causes σ Γ (E.path s p) e = IsMismatch e ⊎ IsNotRead Γ s (name_alone p.node) e
+  Causes σ Γ (E.unary s Neg o a) e = IsMismatch e ⊎ Causes σ Γ a e
+  Causes σ Γ (E.unary s Not o a) e = IsMismatch e ⊎ Causes σ Γ a e
+  Causes σ Γ (E.binary s op o a b) e = IsMismatch e ⊎ (Causes σ Γ a e ⊎ Causes σ Γ b e)
+  Causes σ Γ (E.lazy s op a b) e = IsMismatch e ⊎ (Causes σ Γ a e ⊎ Causes σ Γ b e)
+  Causes σ Γ (E.assign s l a) e = (IsMismatch e ⊎ IsNotWritten Γ l e) ⊎ (Causes σ Γ l e ⊎ Causes σ Γ a e)
+  Causes σ Γ (E.update s op o l a) e = (IsMismatch e ⊎ IsNotWritten Γ l e) ⊎ (Causes σ Γ l e ⊎ Causes σ Γ a e)
+  Causes σ Γ (E.call s f es) e = (IsMismatch e ⊎ IsNotCalled σ Γ s (as_name f) e) ⊎ CausesInArgs σ Γ es e
+  Causes σ Γ (E.block s ss) e = IsMismatch e ⊎ CausesInStmts σ Γ ss e
+  Causes σ Γ (E.block_with s ss a) e = IsMismatch e ⊎ (CausesInStmts σ Γ ss e ⊎ ((o : Opened) × (typed_stmts σ Γ ss ≡ Ok o) × Causes σ o.scope a e))
+  Causes σ Γ (E.branch s None c a) e = IsMismatch e ⊎ (Causes σ Γ c e ⊎ Causes σ Γ a e)
+  Causes σ Γ (E.choice s None c a b) e = IsMismatch e ⊎ (Causes σ Γ c e ⊎ (Causes σ Γ a e ⊎ Causes σ Γ b e))
+  Causes σ Γ (E.repeat s None c b) e = IsMismatch e ⊎ (Causes σ Γ c e ⊎ Causes σ Γ b e)
+  -- or an attribute before the loop is no invariant
+  Causes σ Γ (E.attributed s is (E.repeat r None c b)) e = (IsMismatch e ⊎ IsUnbuilt e) ⊎ (Causes σ Γ c e ⊎ Causes σ Γ b e)
+  Causes σ Γ a e = e ≡ unbuilt (span_of a)
 
-  pub CausesInRest : List Heading → List Variable → Stmts → SourceError → Type 0
-  CausesInRest σ Γ done e = ⊥
-  CausesInRest σ Γ (last a) e = Causes σ Γ a e
-  CausesInRest σ Γ (bind b a ss) e = Causes σ Γ a e ⊎ ((v : TypedExpr) × (typed σ Γ a b.ty ≡ Ok v) × CausesInRest σ (declared Γ b v) ss e)
-  CausesInRest σ Γ (run a ss) e = Causes σ Γ a e ⊎ CausesInRest σ Γ ss e
-  CausesInRest σ Γ (blocklike a ss) e = Causes σ Γ a e ⊎ CausesInRest σ Γ ss e
+  pub CausesInStmts : List Heading → List Variable → E.Stmts → SourceError → Type 0
+  CausesInStmts σ Γ E.no_stmts e = ⊥
+  -- the pattern or the type of a `let` is not built, or the value is refused, or what stands behind it
+  CausesInStmts σ Γ (E.with_stmt s k a ss) e =
+      IsUnbuilt e ⊎ (Causes σ Γ a e ⊎ ((p : Step) × (v : TypedExpr) × (step_of k ≡ Ok p) × (typed σ Γ a p.expected ≡ Ok v) × CausesInStmts σ (declared Γ p.declares v) ss e))
 
-  pub CausesInArgs : List Heading → List Variable → Exprs → SourceError → Type 0
-  CausesInArgs σ Γ none e = ⊥
-  CausesInArgs σ Γ (more a es) e = Causes σ Γ a e ⊎ CausesInArgs σ Γ es e
+  pub CausesInArgs : List Heading → List Variable → E.Exprs → SourceError → Type 0
+  CausesInArgs σ Γ E.none e = ⊥
+  CausesInArgs σ Γ (E.more a es) e = Causes σ Γ a e ⊎ CausesInArgs σ Γ es e
 
 -- a refusal of program code has a cause
 abbrev pub RefusalsHaveCauses : Type 0

@@ -1,100 +1,118 @@
--- What a source comes to: three passes, each over all functions before the next begins. The names of functions and parameters,
--- then the types of program code, then the formulas of clauses and invariants.
-use Rattle.std.specs.Prelude.{◌≡◌, Bool, true, false, List, [], ◌∷◌, map, Option, Some, None, Result, Ok, Err, if◌then◌else◌}
+-- What a source comes to: passes that each go over all items before the next begins. The names of functions and parameters, then
+-- what each item declares, then the bodies and contracts of functions, then the formulas of clauses and invariants
+-- (Rust Reference, "Items", "Functions", "Attributes"; Creusot, "Contracts").
+use Rattle.std.specs.Prelude.{◌≡◌, List, [], ◌∷◌, map, Option, Some, None, Result, Ok, Err}
 use Rattle.text_core.specs.declared.refusal.SourceError.{SourceError}
 use Rattle.text_core.specs.declared.span.Span.{Span}
-use Rattle.logic_term.specs.Ty.{Ty, int, bool, tuple, no_tys}
-use Rattle.built_trees.specs.declared.function.Clause.{Clause}
-use Rattle.built_trees.specs.declared.function.ClauseKind.{ClauseKind}
-use Rattle.built_trees.specs.declared.function.ClauseKind.TheVariants.{Requires, Ensures}
-use Rattle.built_trees.specs.declared.function.Function.{Function}
-use Rattle.built_trees.specs.declared.function.Param.{Param}
+use Rattle.logic_term.specs.Ty.{Ty}
+use Rattle.source_trees.specs.declared.attribute.Attribute.{Attribute}
+use Rattle.source_trees.specs.declared.attribute.AttributeNode.{AttributeNode}
+use Rattle.source_trees.specs.declared.attribute.AttributeNode.TheVariants as A
+use Rattle.source_trees.specs.declared.attribute.ClauseKind.TheVariants as clause
+use Rattle.source_trees.specs.declared.item.Body.{Body}
+use Rattle.source_trees.specs.declared.item.Body.TheVariants as body
+use Rattle.source_trees.specs.declared.item.Function.{Function}
+use Rattle.source_trees.specs.declared.item.Item.{Item}
+use Rattle.source_trees.specs.declared.item.ItemNode.{ItemNode}
+use Rattle.source_trees.specs.declared.item.ItemNode.TheVariants as item
+use Rattle.source_trees.specs.Pterm.{Pterm}
 use Rattle.type_check.specs.declared.heading.Heading.{Heading}
+use Rattle.type_check.specs.declared.program.ClauseKind.{ClauseKind}
+use Rattle.type_check.specs.declared.program.ClauseKind.TheVariants.{Requires, Ensures}
 use Rattle.type_check.specs.declared.program.Signature.{Signature}
 use Rattle.type_check.specs.declared.program.TypedClause.{TypedClause}
 use Rattle.type_check.specs.declared.program.TypedFunction.{TypedFunction}
 use Rattle.type_check.specs.declared.program.TypedProgram.{TypedProgram}
 use Rattle.type_check.specs.declared.scope.Variable.{Variable}
-use Rattle.type_check.specs.Answers.{◌>>=◌, mismatch}
+use Rattle.type_check.specs.Answers.{◌>>=◌, unbuilt, absent, each, gather}
 use Rattle.type_check.specs.FirstBad.{first_bad}
 use Rattle.type_check.specs.Names.{first_double}
 use Rattle.type_check.specs.Terms.{assertion}
-use Rattle.type_check.specs.Typing.{typed}
-use Rattle.type_check.specs.TypedExpr.{TypedExpr}
-use Rattle.type_check.specs.WellTyped.{unit}
+use Rattle.type_check.specs.Typing.{Typed, typed}
+use Rattle.type_check.specs.Written.{answer_ty, param_of}
 
--- ---- signatures
+-- ---- what items declare
 
-abbrev pub answer_ty : Option Ty → Ty
-answer_ty None = unit
-answer_ty (Some t) = t
+abbrev pub type_of : Variable → Ty
+type_of v = v.ty
 
-abbrev pub param_ty : Param → Ty
-param_ty p = p.ty
+-- of parameters that are these variables
+abbrev pub signature_by : List Variable → Ty → Signature
+signature_by Γ t = record { params = map type_of Γ; answer = t }
 
-abbrev pub signature_of : Function → Signature
-signature_of f = record { params = map param_ty f.params; answer = answer_ty f.answer }
+-- without type parameters and without conditions
+unfoldable pub heading_of : Function → Result Heading SourceError
+heading_of f = do
+  none ← absent f.generics_span
+  Γ ← each param_of f.params
+  t ← answer_ty f.answer
+  none ← absent f.conditions_span
+  Ok (record { name = f.name.name; signature = signature_by Γ t })
 
-abbrev pub heading_of : Function → Heading
-heading_of f = record { name = f.name; signature = signature_of f }
+abbrev pub skipped_by : Span → AttributeNode → Result (Unit {0}) SourceError → Result (Unit {0}) SourceError
+skipped_by s A.Skipped rest = rest
+skipped_by s _ rest = Err (unbuilt s)
 
-abbrev pub variable_of : Param → Variable
-variable_of p = record { name = p.name; ty = p.ty; mutable = p.mutable }
+-- attributes that say nothing of what a program does
+abbrev pub skipped : List Attribute → Result (Unit {0}) SourceError
+skipped [] = Ok tt
+skipped (a ∷ as') = skipped_by a.span a.node (skipped as')
 
-abbrev pub is_built : Ty → Bool
-is_built (int k) = true
-is_built bool = true
-is_built (tuple no_tys) = true
-is_built _ = false
+-- a `use` line declares nothing, and neither does what is no function, which is not built
+abbrev pub declares_by : Span → List Attribute → ItemNode → Result (Option Heading) SourceError
+declares_by own as' (item.Function f) = do
+  h ← heading_of f
+  Ok (Some h)
+declares_by own as' item.Use = skipped as' >>= λ nothing. Ok None
+declares_by own as' item.ExternCrate = skipped as' >>= λ nothing. Ok None
+declares_by own as' _ = skipped as' >>= λ nothing. Err (unbuilt own)
 
--- the name before the first type that is not built: the parser gives none
-abbrev pub unbuilt_param : List Param → Option Span
-unbuilt_param [] = None
-unbuilt_param (p ∷ ps) = if is_built p.ty then unbuilt_param ps else Some p.span
+unfoldable pub declares : Item → Result (Option Heading) SourceError
+declares i = declares_by i.own i.attributes i.node
 
-abbrev pub unbuilt_answer : Option Span → Ty → Span → Option Span
-unbuilt_answer (Some s) t r = Some s
-unbuilt_answer None t r = if is_built t then None else Some r
-
-abbrev pub unbuilt : Function → Option Span
-unbuilt f = unbuilt_answer (unbuilt_param f.params) (answer_ty f.answer) f.name_span
-
--- ---- functions
+-- ---- contracts
 
 -- an `ensures` alone hears the answer
 abbrev pub heard : ClauseKind → Option Ty → Option Ty
 heard Requires t = None
 heard Ensures t = t
 
--- t is the type of the answer
-abbrev pub clause_of : Option Ty → List Variable → Clause → TypedClause
-clause_of t Γ c = record { kind = c.kind; formula = assertion (heard c.kind t) Γ c.term }
+abbrev pub clause_of_kind : ClauseKind → Option Ty → List Variable → Pterm → TypedClause
+clause_of_kind k t Γ p = record { kind = k; formula = assertion (heard k t) Γ p }
 
--- the function of the body
-abbrev pub function_of : Function → TypedExpr → TypedFunction
-function_of f e = record {
-  name = f.name;
-  span = f.name_span;
-  signature = signature_of f;
-  clauses = map (clause_of (Some (answer_ty f.answer)) (map variable_of f.params)) f.clauses;
-  body = e;
-}
+-- before a function `requires` and `ensures` are built, and no other clause; t is the type of the answer
+abbrev pub clause_by : Option Ty → List Variable → Span → AttributeNode → Result (Option TypedClause) SourceError
+clause_by t Γ s (A.Clause clause.Requires p) = Ok (Some (clause_of_kind Requires t Γ p))
+clause_by t Γ s (A.Clause clause.Ensures p) = Ok (Some (clause_of_kind Ensures t Γ p))
+clause_by t Γ s A.Skipped = Ok None
+clause_by t Γ s _ = Err (unbuilt s)
 
-abbrev pub function_where : List Heading → Function → Option Span → Result TypedFunction SourceError
-function_where σ f (Some s) = Err (mismatch s)
-function_where σ f None = do
-  e ← typed σ (map variable_of f.params) f.body (Some (answer_ty f.answer))
-  Ok (function_of f e)
+unfoldable pub clause_of : Option Ty → List Variable → Attribute → Result (Option TypedClause) SourceError
+clause_of t Γ a = clause_by t Γ a.span a.node
 
-unfoldable pub typed_function : List Heading → Function → Result TypedFunction SourceError
-typed_function σ f = function_where σ f (unbuilt f)
+-- ---- functions
 
-abbrev pub typed_functions : List Heading → List Function → Result (List TypedFunction) SourceError
-typed_functions σ [] = Ok []
-typed_functions σ (f ∷ fs) = do
-  g ← typed_function σ f
-  gs ← typed_functions σ fs
-  Ok (g ∷ gs)
+-- a body is a block; own: where the function stands
+abbrev pub typed_body : List Heading → List Variable → Option Ty → Span → Body → Typed
+typed_body σ Γ t own (body.Block e) = typed σ Γ e t
+typed_body σ Γ t own _ = Err (unbuilt own)
+
+unfoldable pub typed_function : List Heading → Span → List Attribute → Function → Result TypedFunction SourceError
+typed_function σ own as' f = do
+  Γ ← each param_of f.params
+  t ← answer_ty f.answer
+  cs ← gather (clause_of (Some t) Γ) as'
+  e ← typed_body σ Γ (Some t) own f.body
+  Ok (record { name = f.name.name; span = f.name.span; signature = signature_by Γ t; clauses = cs; body = e })
+
+abbrev pub typed_by : List Heading → Span → List Attribute → ItemNode → Result (Option TypedFunction) SourceError
+typed_by σ own as' (item.Function f) = do
+  g ← typed_function σ own as' f
+  Ok (Some g)
+typed_by σ own as' _ = Ok None
+
+abbrev pub typed_item : List Heading → Item → Result (Option TypedFunction) SourceError
+typed_item σ i = typed_by σ i.own i.attributes i.node
 
 -- ---- the whole
 
@@ -105,8 +123,12 @@ unless None m = m
 abbrev pub program_of : List TypedFunction → Result TypedProgram SourceError
 program_of gs = unless (first_bad gs) (Ok (record { functions = gs }))
 
-unfoldable pub checked : List Function → Result TypedProgram SourceError
-checked fs = unless (first_double fs) (typed_functions (map heading_of fs) fs >>= program_of)
+-- the functions of items that declare these
+abbrev pub typed_items : List Item → List Heading → Result (List TypedFunction) SourceError
+typed_items is σ = gather (typed_item σ) is
+
+unfoldable pub checked : List Item → Result TypedProgram SourceError
+checked is = unless (first_double is) (gather declares is >>= typed_items is >>= program_of)
 
 -- no clause and no invariant is refused
 abbrev pub AllGood : TypedProgram → Type 0

@@ -1,14 +1,14 @@
 -- What holds of every source.
 use Rattle.std.specs.Prelude.{◌≡◌, List, Ok}
-use Rattle.built_trees.specs.declared.function.Function.{Function}
+use Rattle.source_trees.specs.declared.item.Item.{Item}
 use Rattle.type_check.specs.declared.program.TypedProgram.{TypedProgram}
 use Rattle.type_check.specs.Checked.{AllGood, checked}
 use Rattle.type_check.specs.WellTyped.{ProgramFits}
 
 -- the program that a source comes to fits
 abbrev pub CheckedProgramsFit : Type 0
-CheckedProgramsFit = (fs : List Function) (p : TypedProgram) → checked fs ≡ Ok p → ProgramFits p
+CheckedProgramsFit = (is : List Item) (p : TypedProgram) → checked is ≡ Ok p → ProgramFits p
 
 -- and no formula of it is refused
 abbrev pub CheckedProgramsAreGood : Type 0
-CheckedProgramsAreGood = (fs : List Function) (p : TypedProgram) → checked fs ≡ Ok p → AllGood p
+CheckedProgramsAreGood = (is : List Item) (p : TypedProgram) → checked is ≡ Ok p → AllGood p

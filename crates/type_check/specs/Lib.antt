@@ -5,7 +5,6 @@ pub mod FirstBad
 pub mod Functions
 pub mod Laws
 pub mod Names
-pub mod Opened
 pub mod Scope
 pub mod Terms
 pub mod TypedExpr
@@ -16,3 +15,4 @@ pub mod Types
 pub mod Typing
 pub mod VariableNames
 pub mod WellTyped
+pub mod Written

@@ -10,17 +10,22 @@ use Rattle.logic_term.specs.Term.{Term, var, lit, truth as truth_term, model, ne
 use Rattle.logic_term.specs.Ty.{Ty, int, bool, math_int}
 use Rattle.logic_term.specs.declared.kinds.Comparison.{Comparison}
 use Rattle.logic_term.specs.declared.kinds.Comparison.TheVariants.{Eq, Ne, Lt, Le, Gt, Ge}
-use Rattle.built_trees.specs.Pterm.{Pterm, integer, truth, answer, named, viewed, negative, denied, calculated, compare, both, either, implied}
-use Rattle.built_trees.specs.PtermView.{span_of}
+use Rattle.source_trees.specs.declared.operator.BinaryTerm.TheVariants.{Implies, Or, And, Compare, Calculate}
+use Rattle.source_trees.specs.declared.operator.UnaryTerm.TheVariants.{Neg, Not, View}
+use Rattle.source_trees.specs.declared.path.Segment.{Segment}
+use Rattle.source_trees.specs.Pterm as T
+use Rattle.source_trees.specs.Pterm.{Pterm}
+use Rattle.source_trees.specs.PtermView.{span_of}
 use Rattle.type_check.specs.declared.assertion.Assertion.{Assertion}
 use Rattle.type_check.specs.declared.assertion.Assertion.TheVariants.{Good, Bad}
 use Rattle.type_check.specs.declared.scope.Found.{Found}
 use Rattle.type_check.specs.declared.scope.Variable.{Variable}
 use Rattle.type_check.specs.declared.sorted.SortedTerm.{SortedTerm}
-use Rattle.type_check.specs.Answers.{◌>>=◌, unknown_name, mismatch, wanted}
+use Rattle.type_check.specs.Answers.{◌>>=◌, unknown_name, mismatch, unbuilt, wanted, pair}
 use Rattle.type_check.specs.Scope.{found}
 use Rattle.type_check.specs.Types.{same_ty, is_math_int, is_bool}
 use Rattle.type_check.specs.VariableNames.{variable_name, answer_name}
+use Rattle.type_check.specs.Written.{name_alone}
 
 abbrev pub sorted : Ty → Term → SortedTerm
 sorted s t = record { sort = s; term = t }
@@ -36,10 +41,15 @@ variable_term s (Some v) = Ok (sorted v.ty (var (variable_name v.place)))
 unfoldable pub name_term : List Variable → Span → Name → Result SortedTerm SourceError
 name_term Γ s x = variable_term s (found x Γ)
 
--- `result`: the answer, of this type where it may be spoken of; never a variable
-unfoldable pub answer_term : Option Ty → Span → Result SortedTerm SourceError
-answer_term None s = Err (unknown_name s)
-answer_term (Some t) s = Ok (sorted t (var answer_name))
+-- a path that is a name alone
+abbrev pub named_term : List Variable → Span → Option Segment → Result SortedTerm SourceError
+named_term Γ s None = Err (unbuilt s)
+named_term Γ s (Some x) = name_term Γ s x.name
+
+-- `result` by its name: the answer, of this type where it may be spoken of; else a variable as each other name
+unfoldable pub answer_term : Option Ty → List Variable → Span → Name → Result SortedTerm SourceError
+answer_term None Γ s x = name_term Γ s x
+answer_term (Some t) Γ s x = Ok (sorted t (var answer_name))
 
 -- the unbounded integer of a machine integer
 abbrev pub model_of_sort : Ty → Span → Term → Result SortedTerm SourceError
@@ -82,51 +92,40 @@ compared op s r a b =
     (if is_ordering op then ordered_at a.sort op s a.term b.term else Ok (sorted bool (ordered op a.term b.term)))
     else Err (mismatch r)
 
--- the term over the variables, and the answer of type A where it may be spoken of
+abbrev pub connected : (Term → Term → Term) → Term × Term → Result SortedTerm SourceError
+connected op p = Ok (sorted bool (op p.0 p.1))
+
+-- the term over the variables, and the answer of type A where it may be spoken of; what has no row is not built
 abbrev pub elaborated : Option Ty → List Variable → Pterm → Result SortedTerm SourceError
-elaborated A Γ (integer s z k) = literal s z k
-elaborated A Γ (truth s b) = Ok (sorted bool (truth_term b))
-elaborated A Γ (answer s) = answer_term A s
-elaborated A Γ (named s x) = name_term Γ s x
-elaborated A Γ (viewed s t) = do
+elaborated A Γ (T.integer s z k) = literal s z k
+elaborated A Γ (T.truth s b) = Ok (sorted bool (truth_term b))
+elaborated A Γ (T.answer s x) = answer_term A Γ s x
+elaborated A Γ (T.path s p) = named_term Γ s (name_alone p.node)
+elaborated A Γ (T.unary s View t) = do
   a ← elaborated A Γ t
   model_of (span_of t) a
-elaborated A Γ (negative s t) = do
+elaborated A Γ (T.unary s Neg t) = do
   a ← elaborated A Γ t
   x ← number (span_of t) a
   Ok (sorted math_int (negative_term x))
-elaborated A Γ (denied s t) = do
+elaborated A Γ (T.unary s Not t) = do
   a ← elaborated A Γ t
   p ← formula (span_of t) a
   Ok (sorted bool (not_term p))
-elaborated A Γ (calculated s op t u) = do
+elaborated A Γ (T.binary s (Calculate op) t u) = do
   a ← elaborated A Γ t
   b ← elaborated A Γ u
   x ← number (span_of t) a
   y ← number (span_of u) b
   Ok (sorted math_int (calculate op x y))
-elaborated A Γ (compare s op t u) = do
+elaborated A Γ (T.binary s (Compare op) t u) = do
   a ← elaborated A Γ t
   b ← elaborated A Γ u
   compared op (span_of t) (span_of u) a b
-elaborated A Γ (both s t u) = do
-  a ← elaborated A Γ t
-  p ← formula (span_of t) a
-  b ← elaborated A Γ u
-  q ← formula (span_of u) b
-  Ok (sorted bool (and_term p q))
-elaborated A Γ (either s t u) = do
-  a ← elaborated A Γ t
-  p ← formula (span_of t) a
-  b ← elaborated A Γ u
-  q ← formula (span_of u) b
-  Ok (sorted bool (or_term p q))
-elaborated A Γ (implied s t u) = do
-  a ← elaborated A Γ t
-  p ← formula (span_of t) a
-  b ← elaborated A Γ u
-  q ← formula (span_of u) b
-  Ok (sorted bool (implies_term p q))
+elaborated A Γ (T.binary s And t u) = pair (elaborated A Γ t >>= formula (span_of t)) (elaborated A Γ u >>= formula (span_of u)) >>= connected and_term
+elaborated A Γ (T.binary s Or t u) = pair (elaborated A Γ t >>= formula (span_of t)) (elaborated A Γ u >>= formula (span_of u)) >>= connected or_term
+elaborated A Γ (T.binary s Implies t u) = pair (elaborated A Γ t >>= formula (span_of t)) (elaborated A Γ u >>= formula (span_of u)) >>= connected implies_term
+elaborated A Γ t = Err (unbuilt (span_of t))
 
 -- a clause or an invariant, which is a formula
 abbrev pub asserted : Option Ty → List Variable → Pterm → Result Term SourceError

@@ -1,7 +1,7 @@
 -- Which variable each name means and which type each expression has, in the form of bidirectional typing (Pierce and Turner
 -- 2000): without an expected type an expression gives one, with one it fits it (Rust Reference, "Operator expressions",
--- "Call expressions", "Block expressions", "if expressions", "Predicate loops").
-use Rattle.std.specs.Prelude.{ℕ, suc, ℤ, ◌==◌, ◌++◌, Bool, true, false, List, [], ◌∷◌, length, map, Option, Some, None, Result, Ok, Err, if◌then◌else◌}
+-- "Call expressions", "Block expressions", "if expressions", "Predicate loops"). What has no row is not built.
+use Rattle.std.specs.Prelude.{ℕ, suc, ℤ, ◌==◌, ◌++◌, Bool, true, false, List, [], ◌∷◌, length, Option, Some, None, Result, Ok, Err, if◌then◌else◌}
 use Rattle.text_core.specs.declared.name.Name.{Name}
 use Rattle.text_core.specs.declared.refusal.SourceError.{SourceError}
 use Rattle.text_core.specs.declared.span.Span.{Span}
@@ -10,9 +10,17 @@ use Rattle.logic_term.specs.declared.kinds.IntKind.{IntKind}
 use Rattle.logic_term.specs.declared.kinds.IntKind.TheVariants.{I32}
 use Rattle.logic_term.specs.Range.{fits}
 use Rattle.logic_term.specs.Ty.{Ty, int, bool}
-use Rattle.built_trees.specs.declared.binding.Binding.{Binding}
-use Rattle.built_trees.specs.Expr.{Expr, Stmts, Exprs, integer, truth, named, negative, denied, binary, lazy, assign, update, call, block, branch, choice, repeat, done, last, bind, run, blocklike, none, more}
-use Rattle.built_trees.specs.ExprView.{span_of}
+use Rattle.source_trees.specs.declared.attribute.Attribute.{Attribute}
+use Rattle.source_trees.specs.declared.attribute.AttributeNode.{AttributeNode}
+use Rattle.source_trees.specs.declared.attribute.AttributeNode.TheVariants as A
+use Rattle.source_trees.specs.declared.attribute.ClauseKind.TheVariants.{Invariant}
+use Rattle.source_trees.specs.declared.expr.Stmt.{Stmt}
+use Rattle.source_trees.specs.declared.operator.UnaryOp.TheVariants.{Neg, Not}
+use Rattle.source_trees.specs.declared.path.Segment.{Segment}
+use Rattle.source_trees.specs.Expr as E
+use Rattle.source_trees.specs.Expr.{Expr}
+use Rattle.source_trees.specs.ExprView.{span_of}
+use Rattle.type_check.specs.declared.assertion.Assertion.{Assertion}
 use Rattle.type_check.specs.declared.heading.Callee.{Callee}
 use Rattle.type_check.specs.declared.heading.Heading.{Heading}
 use Rattle.type_check.specs.declared.operands.Operands.{Operands}
@@ -20,17 +28,21 @@ use Rattle.type_check.specs.declared.operands.Order.{Order}
 use Rattle.type_check.specs.declared.operands.Order.TheVariants as order
 use Rattle.type_check.specs.declared.operands.Target.{Target}
 use Rattle.type_check.specs.declared.operands.Target.TheVariants as target
+use Rattle.type_check.specs.declared.scope.Declared.{Declared}
 use Rattle.type_check.specs.declared.scope.Found.{Found}
 use Rattle.type_check.specs.declared.scope.Variable.{Variable}
-use Rattle.type_check.specs.Answers.{◌>>=◌, unknown_name, mismatch, not_mutable, wanted}
+use Rattle.type_check.specs.declared.statements.Step.{Step}
+use Rattle.type_check.specs.declared.typed.TypedStmt.{TypedStmt}
+use Rattle.type_check.specs.Answers.{◌>>=◌, unknown_name, mismatch, unbuilt, not_mutable, wanted, gather}
 use Rattle.type_check.specs.Functions.{callee}
 use Rattle.type_check.specs.Scope.{found}
 use Rattle.type_check.specs.Terms.{assertion}
 use Rattle.type_check.specs.TypedExpr.{TypedExpr, TypedStmts, TypedExprs}
 use Rattle.type_check.specs.TypedExpr as tree
-use Rattle.type_check.specs.TypedExprView.{ty_of}
+use Rattle.type_check.specs.TypedExprView.{ty_of, stmts_of}
 use Rattle.type_check.specs.Types.{same_ty, is_signed_ty}
 use Rattle.type_check.specs.WellTyped.{unit, is_arithmetic, operation_ty}
+use Rattle.type_check.specs.Written.{as_name, name_alone, step_of}
 
 abbrev pub Typed : Type 0
 Typed = Result TypedExpr SourceError
@@ -63,6 +75,11 @@ variable_of t s (Some v) = fit t s (tree.variable v.ty s v.place)
 unfoldable pub variable : List Variable → Option Ty → Span → Name → Typed
 variable Γ t s x = variable_of t s (found x Γ)
 
+-- a path that is a name alone
+abbrev pub named : List Variable → Option Ty → Span → Option Segment → Typed
+named Γ t s None = Err (unbuilt s)
+named Γ t s (Some x) = variable Γ t s x.name
+
 -- ---- operators
 
 -- the spans are the expression's, the operator's and the operand's
@@ -71,18 +88,18 @@ negated t s o r a = if is_signed_ty (ty_of a) then fit t s (tree.negative (ty_of
 
 -- an integer without a type at its end
 abbrev pub is_bare : Expr → Bool
-is_bare (integer s z None) = true
+is_bare (E.integer s z None) = true
 is_bare _ = false
 
 -- how the operands get their types: both are checked against one, or the second or the first gives it to the other
 abbrev pub order_without : (first second : Bool) → Order
-order_without true true = order.Against (Some (int I32))
+order_without true true = order.Against (int I32)
 order_without true false = order.SecondGives
 order_without false q = order.FirstGives
 
 -- first, second: whether the operands are integers without a type at their ends
 abbrev pub order_of : (arithmetic : Bool) (expected : Option Ty) (first second : Bool) → Order
-order_of true (Some t) p q = order.Against (Some t)
+order_of true (Some t) p q = order.Against t
 order_of true None p q = order_without p q
 order_of false t p q = order_without p q
 
@@ -92,8 +109,8 @@ operands_of a b = record { left = a; right = b }
 -- from what the operands are at each expected type
 abbrev pub operands : Order → (Option Ty → Typed) → (Option Ty → Typed) → Result Operands SourceError
 operands (order.Against t) first second = do
-  a ← first t
-  b ← second t
+  a ← first (Some t)
+  b ← second (Some t)
   Ok (operands_of a b)
 operands order.SecondGives first second = do
   b ← second None
@@ -114,10 +131,6 @@ operated t s o r op p = operation (operation_ty op (ty_of p.left)) t s o r op p
 
 -- ---- assignments
 
-abbrev pub as_name : Expr → Option Name
-as_name (named s x) = Some x
-as_name _ = None
-
 abbrev pub target_variable : Span → Option Found → Result Target SourceError
 target_variable s None = Err (unknown_name s)
 target_variable s (Some v) = Ok (target.Variable v)
@@ -126,8 +139,8 @@ abbrev pub target_value : TypedExpr → Result Target SourceError
 target_value e = Ok (target.Value e)
 
 -- what is assigned to, from the left side, and what this is at each expected type
-abbrev pub target_of : List Variable → Span → Option Name → (Option Ty → Typed) → Result Target SourceError
-target_of Γ s (Some x) left = target_variable s (found x Γ)
+abbrev pub target_of : List Variable → Span → Option Segment → (Option Ty → Typed) → Result Target SourceError
+target_of Γ s (Some x) left = target_variable s (found x.name Γ)
 target_of Γ s None left = left None >>= target_value
 
 abbrev pub target_ty : Target → Ty
@@ -160,6 +173,11 @@ abbrev pub known : Span → Option Callee → Result Callee SourceError
 known s None = Err (unknown_name s)
 known s (Some f) = Ok f
 
+-- what is called by a name alone; the span is that of the call
+abbrev pub callee_of : List Heading → List Variable → Span → Option Segment → Result Callee SourceError
+callee_of σ Γ s None = Err (unbuilt s)
+callee_of σ Γ s (Some x) = known x.span (callee σ Γ x.name)
+
 abbrev pub how_many : TypedExprs → ℕ
 how_many tree.none = 0
 how_many (tree.more e es) = suc (how_many es)
@@ -184,85 +202,124 @@ block_ty (tree.last e) = ty_of e
 block_ty (tree.bind e ss) = block_ty ss
 block_ty (tree.run e ss) = block_ty ss
 
-abbrev pub declared : List Variable → Binding → TypedExpr → List Variable
-declared Γ b e = Γ ++ record { name = b.name; ty = ty_of e; mutable = b.mutable } ∷ []
+-- the scope behind a statement of this value
+abbrev pub declared : List Variable → Option Declared → TypedExpr → List Variable
+declared Γ None e = Γ
+declared Γ (Some d) e = Γ ++ record { name = d.name; ty = ty_of e; mutable = d.mutable } ∷ []
+
+abbrev pub binds : Option Declared → Bool
+binds None = false
+binds (Some d) = true
+
+abbrev pub typed_stmt : Step → TypedExpr → TypedStmt
+typed_stmt p e = record { binds = binds p.declares; value = e }
+
+-- statements, and the scope behind them
+pub record Opened : Type 0 where
+  pub scope : List Variable
+  pub stmts : List TypedStmt
+
+abbrev pub opened : List Variable → List TypedStmt → Opened
+opened Γ ss = record { scope = Γ; stmts = ss }
+
+-- the statement, and then the others
+abbrev pub behind : TypedStmt → Opened → Opened
+behind s o = opened o.scope (s ∷ o.stmts)
 
 -- a block of these statements
 unfoldable pub closed : Option Ty → Span → TypedStmts → Typed
 closed t s ss = fit t s (tree.block (block_ty ss) s ss)
 
+-- ---- loops
+
+-- before a loop invariants are built, and no other clause
+abbrev pub invariant_by : List Variable → Span → AttributeNode → Result (Option Assertion) SourceError
+invariant_by Γ s (A.Clause Invariant p) = Ok (Some (assertion None Γ p))
+invariant_by Γ s A.Skipped = Ok None
+invariant_by Γ s _ = Err (unbuilt s)
+
+unfoldable pub invariant_of : List Variable → Attribute → Result (Option Assertion) SourceError
+invariant_of Γ a = invariant_by Γ a.span a.node
+
 -- ---- expressions
 
 abbrev mutual
   pub typed : List Heading → List Variable → Expr → Option Ty → Typed
-  typed σ Γ (integer s z k) t = literal t s z k
-  typed σ Γ (truth s b) t = fit t s (tree.truth bool s b)
-  typed σ Γ (named s x) t = variable Γ t s x
-  typed σ Γ (negative s o e) t = do
+  typed σ Γ (E.integer s z k) t = literal t s z k
+  typed σ Γ (E.truth s b) t = fit t s (tree.truth bool s b)
+  typed σ Γ (E.path s p) t = named Γ t s (name_alone p.node)
+  typed σ Γ (E.unary s Neg o e) t = do
     a ← typed σ Γ e t
     negated t s o (span_of e) a
-  typed σ Γ (denied s e) t = do
+  typed σ Γ (E.unary s Not o e) t = do
     a ← typed σ Γ e (Some bool)
     fit t s (tree.denied bool s a)
-  typed σ Γ (binary s op o a b) t = do
+  typed σ Γ (E.binary s op o a b) t = do
     p ← operands (order_of (is_arithmetic op) t (is_bare a) (is_bare b)) (typed σ Γ a) (typed σ Γ b)
     operated t s o (span_of a) op p
-  typed σ Γ (lazy s op a b) t = do
+  typed σ Γ (E.lazy s op a b) t = do
     x ← typed σ Γ a (Some bool)
     y ← typed σ Γ b (Some bool)
     fit t s (tree.lazy bool s op x y)
-  typed σ Γ (assign s l e) t = do
+  typed σ Γ (E.assign s l e) t = do
     a ← target_of Γ (span_of l) (as_name l) (typed σ Γ l)
     b ← typed σ Γ e (Some (target_ty a))
     assigned t s (span_of l) a b
-  typed σ Γ (update s op o l e) t = do
+  typed σ Γ (E.update s op o l e) t = do
     a ← target_of Γ (span_of l) (as_name l) (typed σ Γ l)
     b ← typed σ Γ e (Some (target_ty a))
     updated t s o (span_of l) op a b
-  typed σ Γ (call s x r es) t = do
-    f ← known r (callee σ Γ x)
-    as' ← typed_args σ Γ es f.signature.params
-    called t s f as'
-  typed σ Γ (block s ss) t = do
-    ss' ← typed_rest σ Γ ss t
-    closed t s ss'
-  typed σ Γ (branch s c a) t = do
+  typed σ Γ (E.call s f es) t = do
+    g ← callee_of σ Γ s (as_name f)
+    as' ← typed_args σ Γ es g.signature.params
+    called t s g as'
+  typed σ Γ (E.block s ss) t = do
+    o ← typed_stmts σ Γ ss
+    closed t s (stmts_of o.stmts tree.done)
+  typed σ Γ (E.block_with s ss e) t = do
+    o ← typed_stmts σ Γ ss
+    a ← typed σ o.scope e t
+    closed t s (stmts_of o.stmts (tree.last a))
+  typed σ Γ (E.branch s None c a) t = do
     x ← typed σ Γ c (Some bool)
     y ← typed σ Γ a (Some unit)
     fit t s (tree.branch unit s x y)
-  typed σ Γ (choice s c a b) t = do
+  typed σ Γ (E.choice s None c a b) t = do
     x ← typed σ Γ c (Some bool)
     y ← typed σ Γ a t
     z ← typed σ Γ b (Some (ty_of y))
     fit t s (tree.choice (ty_of y) s x y z)
-  typed σ Γ (repeat s is c b) t = do
+  typed σ Γ (E.repeat s None c b) t = do
     x ← typed σ Γ c (Some bool)
     y ← typed σ Γ b (Some unit)
-    fit t s (tree.repeat unit s (map (assertion None Γ) is) x y)
+    fit t s (tree.repeat unit s [] x y)
+  -- a loop with its invariants, from the first attribute on
+  typed σ Γ (E.attributed s is (E.repeat r None c b)) t = do
+    is' ← gather (invariant_of Γ) is
+    x ← typed σ Γ c (Some bool)
+    y ← typed σ Γ b (Some unit)
+    fit t s (tree.repeat unit s is' x y)
+  typed σ Γ e t = Err (unbuilt (span_of e))
 
-  -- the statements of a block, whose last expression has the expected type
-  pub typed_rest : List Heading → List Variable → Stmts → Option Ty → Result TypedStmts SourceError
-  typed_rest σ Γ done t = Ok tree.done
-  typed_rest σ Γ (last e) t = do
-    a ← typed σ Γ e t
-    Ok (tree.last a)
-  typed_rest σ Γ (bind b e ss) t = do
-    a ← typed σ Γ e b.ty
-    ss' ← typed_rest σ (declared Γ b a) ss t
-    Ok (tree.bind a ss')
-  typed_rest σ Γ (run e ss) t = do
-    a ← typed σ Γ e None
-    ss' ← typed_rest σ Γ ss t
-    Ok (tree.run a ss')
-  typed_rest σ Γ (blocklike e ss) t = do
-    a ← typed σ Γ e (Some unit)
-    ss' ← typed_rest σ Γ ss t
-    Ok (tree.run a ss')
+  pub typed_stmts : List Heading → List Variable → E.Stmts → Result Opened SourceError
+  typed_stmts σ Γ E.no_stmts = Ok (opened Γ [])
+  typed_stmts σ Γ (E.with_stmt s k e ss) = do
+    p ← step_of k
+    a ← typed σ Γ e p.expected
+    o ← typed_stmts σ (declared Γ p.declares a) ss
+    Ok (behind (typed_stmt p a) o)
 
   -- arguments for parameters of these types; those past the parameters have any type
-  pub typed_args : List Heading → List Variable → Exprs → List Ty → Result TypedExprs SourceError
-  typed_args σ Γ none ts = Ok tree.none
-  typed_args σ Γ (more e es) ts = do
+  pub typed_args : List Heading → List Variable → E.Exprs → List Ty → Result TypedExprs SourceError
+  typed_args σ Γ E.none ts = Ok tree.none
+  typed_args σ Γ (E.more e es) ts = do
     a ← typed σ Γ e (first_of ts)
     as' ← typed_args σ Γ es (rest_of ts)
     Ok (tree.more a as')
+
+-- a statement, and the scope behind it
+abbrev pub typed_statement : List Heading → List Variable → Stmt → Result (List Variable × TypedStmt) SourceError
+typed_statement σ Γ s = do
+  p ← step_of s.kind
+  a ← typed σ Γ s.value p.expected
+  Ok (declared Γ p.declares a, typed_stmt p a)

@@ -8,9 +8,9 @@ use Rattle.logic_term.specs.declared.kinds.IntKind.{IntKind}
 use Rattle.logic_term.specs.declared.kinds.IntKind.TheVariants.{I8, I16, I32, I64, Isize}
 use Rattle.logic_term.specs.Free.{free}
 use Rattle.logic_term.specs.Range.{fits}
-use Rattle.logic_term.specs.Ty.{Ty, int, bool, tuple, no_tys}
-use Rattle.built_trees.specs.declared.function.ClauseKind.{ClauseKind}
-use Rattle.built_trees.specs.declared.function.ClauseKind.TheVariants.{Requires, Ensures}
+use Rattle.logic_term.specs.Ty.{Ty, int, bool, tuple, no_tys, unit_ty}
+use Rattle.type_check.specs.declared.program.ClauseKind.{ClauseKind}
+use Rattle.type_check.specs.declared.program.ClauseKind.TheVariants.{Requires, Ensures}
 use Rattle.type_check.specs.declared.assertion.Assertion.{Assertion}
 use Rattle.type_check.specs.declared.assertion.Assertion.TheVariants.{Good, Bad}
 use Rattle.type_check.specs.declared.program.Signature.{Signature}
@@ -22,7 +22,7 @@ use Rattle.type_check.specs.TypedExprView.{ty_of}
 use Rattle.type_check.specs.VariableNames.{variable_name, answer_name}
 
 abbrev pub unit : Ty
-unit = tuple no_tys
+unit = unit_ty
 
 -- the types that are built: the machine integers, the truth values and unit
 abbrev pub IsBuilt : Ty → Type 0

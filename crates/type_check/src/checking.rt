@@ -1,200 +1,171 @@
-ghost use Rattle.std.specs.Prelude.{◌≡◌, IfOk, map};
-ghost use Rattle.type_check.specs.Answers.{Answers};
-ghost use Rattle.type_check.specs.Checked.{AllGood, answer_ty, checked, clause_of, heading_of, is_built, param_ty, signature_of, typed_function, typed_functions, unbuilt, unbuilt_param, variable_of};
-ghost use Rattle.type_check.specs.Opened.{AnswersAs};
+ghost use Rattle.std.specs.Prelude.{◌≡◌, IfOk, OnOk};
+ghost use Rattle.type_check.specs.Answers.{Answers, AnswersAs, gather};
+ghost use Rattle.type_check.specs.Checked.{AllGood, checked, clause_of, clause_of_kind, typed_body, typed_function, typed_item};
 ghost use Rattle.type_check.specs.WellTyped.{ProgramFits};
 
+use crate::declaring::{headings_of, signature_of, variables_of};
 use crate::elaborate::assertion;
 use crate::expressions::type_expr;
 use crate::heading::Heading;
+use crate::lists::push_some;
 use crate::logic::first_bad;
 use crate::names::first_double;
-use crate::program::{Signature, TypedClause, TypedFunction, TypedProgram};
-use crate::refusal::mismatch;
+use crate::program::{ClauseKind, TypedClause, TypedFunction, TypedProgram};
+use crate::refusal::unbuilt;
 use crate::scope::Variable;
-use crate::types::unit_ty;
-use built_trees::{Clause, ClauseKind, Function, Param};
-use logic_term::{Ty, TyNode};
+use crate::typed::TypedExpr;
+use crate::written::answer_ty;
+use logic_term::Ty;
+use source_trees::{
+    Attribute, AttributeNode, Body, ClauseKind as WrittenKind, Function, Item, ItemNode, Pterm,
+};
 use std::alloc::Global;
 use text_core::{Items, NoMemory, PassError, Span};
 
-fn answer_ty(alloc: Global, answer: &Option<Ty>) -> Result<Ty, NoMemory>
-    ensures { IfOk result (λ t. t ≡ answer_ty answer.now) }
+// ---- contracts
+
+/// The clause of this kind, where the function answers a value of this type.
+fn clause_of_kind(
+    alloc: Global,
+    kind: ClauseKind,
+    answer: &Option<Ty>,
+    scope: &[Variable],
+    term: &Pterm,
+) -> Result<TypedClause, NoMemory>
+    ensures { IfOk result (λ c. c ≡ clause_of_kind kind answer.now scope.now term.now) }
 {
-    match answer {
-        None => Ok(unit_ty(alloc)),
-        Some(ty) => ty.copy(alloc),
-    }
+    let formula = match kind {
+        ClauseKind::Requires => assertion(alloc, &None, scope, term)?,
+        ClauseKind::Ensures => assertion(alloc, answer, scope, term)?,
+    };
+    Ok(TypedClause { kind, formula })
 }
 
-fn param_types(alloc: Global, params: &[Param]) -> Result<Vec<Ty>, NoMemory>
-    ensures { IfOk result (λ v. v.items ≡ map param_ty params.now) }
-{
-    let mut types = Vec::with_capacity(alloc, params.len())?;
-    for param in params {
-        types.push(param.ty.copy(alloc)?)?;
-    }
-    Ok(types)
-}
-
-fn signature_of(alloc: Global, function: &Function) -> Result<Signature, NoMemory>
-    ensures { IfOk result (λ s. s ≡ signature_of function.now) }
-{
-    let params = param_types(alloc, function.params.as_slice())?;
-    let answer = answer_ty(alloc, &function.answer)?;
-    Ok(Signature {
-        params: Items::from_vec(params),
-        answer,
-    })
-}
-
-fn headings_of(alloc: Global, functions: &[Function]) -> Result<Vec<Heading>, NoMemory>
-    ensures { IfOk result (λ v. v.items ≡ map heading_of functions.now) }
-{
-    let mut headings = Vec::with_capacity(alloc, functions.len())?;
-    for function in functions {
-        let signature = signature_of(alloc, function)?;
-        let name = function.name;
-        headings.push(Heading { name, signature })?;
-    }
-    Ok(headings)
-}
-
-fn scope_of(alloc: Global, params: &[Param]) -> Result<Vec<Variable>, NoMemory>
-    ensures { IfOk result (λ v. v.items ≡ map variable_of params.now) }
-{
-    let mut scope = Vec::with_capacity(alloc, params.len())?;
-    for param in params {
-        let ty = param.ty.copy(alloc)?;
-        scope.push(Variable {
-            name: param.name,
-            ty,
-            mutable: param.mutable,
-        })?;
-    }
-    Ok(scope)
-}
-
-/// Whether the type is a machine integer type, `bool` or unit.
-fn is_built(ty: &Ty) -> bool
-    ensures { result ≡ is_built ty.now }
-{
-    match &ty.node {
-        TyNode::Int(_) | TyNode::Bool => true,
-        TyNode::Tuple(parts) => parts.as_slice().is_empty(),
-        _ => false,
-    }
-}
-
-fn unbuilt_param(params: &[Param]) -> Option<Span>
-    ensures { result ≡ unbuilt_param params.now }
-{
-    for param in params {
-        if !is_built(&param.ty) {
-            return Some(param.span);
-        }
-    }
-    None
-}
-
-/// The name before the first type of the signature that is not built.
-fn unbuilt(function: &Function) -> Option<Span>
-    ensures { result ≡ unbuilt function.now }
-{
-    if let Some(span) = unbuilt_param(function.params.as_slice()) {
-        return Some(span);
-    }
-    match &function.answer {
-        Some(ty) if !is_built(ty) => Some(function.name_span),
-        _ => None,
-    }
-}
-
+/// The clause of an attribute before a function; none where the attribute says nothing.
+#[tactic(auto, unfolding(crate::specs::Checked::clause_of))]
 fn clause_of(
     alloc: Global,
     answer: &Option<Ty>,
     scope: &[Variable],
-    clause: &Clause,
-) -> Result<TypedClause, NoMemory>
-    ensures { IfOk result (λ c. c ≡ clause_of answer.now scope.now clause.now) }
+    attribute: &Attribute,
+) -> Result<Option<TypedClause>, PassError>
+    ensures { Answers result (clause_of answer.now scope.now attribute.now) }
 {
-    let formula = match clause.kind {
-        ClauseKind::Requires => assertion(alloc, &None, scope, &clause.term)?,
-        ClauseKind::Ensures => assertion(alloc, answer, scope, &clause.term)?,
+    let (kind, term) = match &attribute.node {
+        AttributeNode::Clause(WrittenKind::Requires, term) => (ClauseKind::Requires, term),
+        AttributeNode::Clause(WrittenKind::Ensures, term) => (ClauseKind::Ensures, term),
+        AttributeNode::Skipped => return Ok(None),
+        AttributeNode::Clause(WrittenKind::Invariant | WrittenKind::Variant, _)
+        | AttributeNode::Logic
+        | AttributeNode::Law
+        | AttributeNode::Derive(_) => return Err(unbuilt(attribute.span)),
     };
-    Ok(TypedClause {
-        kind: clause.kind,
-        formula,
-    })
+    Ok(Some(clause_of_kind(alloc, kind, answer, scope, term)?))
 }
 
 fn clauses_of(
     alloc: Global,
     answer: &Option<Ty>,
     scope: &[Variable],
-    clauses: &[Clause],
-) -> Result<Vec<TypedClause>, NoMemory>
-    ensures { IfOk result (λ v. v.items ≡ map (clause_of answer.now scope.now) clauses.now) }
+    attributes: &[Attribute],
+) -> Result<Vec<TypedClause>, PassError>
+    ensures { AnswersAs result (gather (clause_of answer.now scope.now) attributes.now) (λ v. v.items) }
 {
-    let mut typed = Vec::with_capacity(alloc, clauses.len())?;
-    for clause in clauses {
-        typed.push(clause_of(alloc, answer, scope, clause)?)?;
+    let mut clauses = Vec::new(alloc);
+    for attribute in attributes {
+        push_some(&mut clauses, clause_of(alloc, answer, scope, attribute)?)?;
     }
-    Ok(typed)
+    Ok(clauses)
 }
 
-/// The function with the types of its expressions.
+// ---- functions
+
+/// A block is built as the body of a function, which stands there.
+fn type_body(
+    alloc: Global,
+    headings: &[Heading],
+    scope: &mut Vec<Variable>,
+    answer: &Option<Ty>,
+    own: Span,
+    body: &Body,
+) -> Result<TypedExpr, PassError>
+    ensures answers { Answers result (typed_body headings.now scope.old.items answer.now own body.now) }
+    ensures kept { OnOk result (scope.new.items ≡ scope.old.items) }
+{
+    match body {
+        Body::Block(e) => type_expr(alloc, headings, scope, e, answer),
+        Body::Term(_) | Body::Missing => Err(unbuilt(own)),
+    }
+}
+
+/// The function that stands there, with the attributes before it and the types of its expressions.
 #[tactic(auto, unfolding(crate::specs::Checked::typed_function))]
 fn type_function(
     alloc: Global,
     headings: &[Heading],
-    function: &Function,
+    own: Span,
+    attributes: &[Attribute],
+    f: &Function,
 ) -> Result<TypedFunction, PassError>
-    ensures { Answers result (typed_function headings.now function.now) }
+    ensures { Answers result (typed_function headings.now own attributes.now f.now) }
 {
-    if let Some(span) = unbuilt(function) {
-        return Err(mismatch(span));
-    }
-    let signature = signature_of(alloc, function)?;
-    let scope = scope_of(alloc, function.params.as_slice())?;
-    let answer = Some(answer_ty(alloc, &function.answer)?);
-    let body = type_expr(alloc, headings, scope.as_slice(), &function.body, &answer)?;
-    let clauses = function.clauses.as_slice();
-    let clauses = clauses_of(alloc, &answer, scope.as_slice(), clauses)?;
+    let mut scope = variables_of(alloc, f.params.as_slice())?;
+    let answer = answer_ty(alloc, &f.answer)?;
+    let expected = Some(answer.copy(alloc)?);
+    let signature = signature_of(alloc, scope.as_slice(), answer)?;
+    let clauses = clauses_of(alloc, &expected, scope.as_slice(), attributes)?;
+    let body = type_body(alloc, headings, &mut scope, &expected, own, &f.body)?;
     Ok(TypedFunction {
-        name: function.name,
-        span: function.name_span,
+        name: f.name.name,
+        span: f.name.span,
         signature,
         clauses: Items::from_vec(clauses),
         body,
     })
 }
 
-fn type_functions(
+/// The function that the item is; none where it is none.
+fn type_item(
     alloc: Global,
     headings: &[Heading],
-    functions: &[Function],
-) -> Result<Vec<TypedFunction>, PassError>
-    ensures { AnswersAs result (typed_functions headings.now functions.now) (λ v. v.items) }
+    item: &Item,
+) -> Result<Option<TypedFunction>, PassError>
+    ensures { Answers result (typed_item headings.now item.now) }
 {
-    let mut typed = Vec::with_capacity(alloc, functions.len())?;
-    for i in 0..functions.len() {
-        let function = type_function(alloc, headings, &functions[i])?;
-        typed.push(function)?;
+    let attributes = item.attributes.as_slice();
+    match &item.node {
+        ItemNode::Function(f) => {
+            let typed = type_function(alloc, headings, item.own, attributes, f)?;
+            Ok(Some(typed))
+        }
+        _ => Ok(None),
     }
-    Ok(typed)
 }
 
-/// The three passes, one after another.
-#[tactic(auto, unfolding(crate::specs::Checked::checked))]
-fn passes(alloc: Global, functions: &[Function]) -> Result<TypedProgram, PassError>
-    ensures { Answers result (checked functions.now) }
+fn type_items(
+    alloc: Global,
+    headings: &[Heading],
+    items: &[Item],
+) -> Result<Vec<TypedFunction>, PassError>
+    ensures { AnswersAs result (gather (typed_item headings.now) items.now) (λ v. v.items) }
 {
-    if let Some(error) = first_double(functions) {
+    let mut functions = Vec::with_capacity(alloc, items.len())?;
+    for item in items {
+        push_some(&mut functions, type_item(alloc, headings, item)?)?;
+    }
+    Ok(functions)
+}
+
+/// The passes, one after another.
+#[tactic(auto, unfolding(crate::specs::Checked::checked))]
+fn passes(alloc: Global, items: &[Item]) -> Result<TypedProgram, PassError>
+    ensures { Answers result (checked items.now) }
+{
+    if let Some(error) = first_double(items) {
         return Err(PassError::Source(error));
     }
-    let headings = headings_of(alloc, functions)?;
-    let typed = type_functions(alloc, headings.as_slice(), functions)?;
+    let headings = headings_of(alloc, items)?;
+    let typed = type_items(alloc, headings.as_slice(), items)?;
     if let Some(error) = first_bad(typed.as_slice()) {
         return Err(PassError::Source(error));
     }
@@ -203,17 +174,18 @@ fn passes(alloc: Global, functions: &[Function]) -> Result<TypedProgram, PassErr
     })
 }
 
-/// The functions with their names resolved and the types of their expressions.
+/// The functions of the items, with their names resolved and the types of their expressions.
 ///
-/// Errors: three passes, each over all functions before the next begins; each refuses the first failing part of the
-/// first failing function. E06 at a name of a function or a parameter that an earlier one has. Then, of program code,
-/// E05 at a name that is not declared, E07 where a type is not the one wanted, and E22 at a variable that is written and
-/// not `mut`. Then E05 and E07 of clauses and invariants, among them E05 at a `result` outside of `ensures`. Never a
-/// limit. `NoMemory` also where a number of variables or functions passes 32 bits.
-pub fn check(alloc: Global, functions: &[Function]) -> Result<TypedProgram, PassError>
-    ensures answers { Answers result (checked functions.now) }
+/// Errors: passes that each go over all items before the next begins; each refuses the first failing part of the first
+/// failing item. E06 at a name of a function or a parameter that an earlier one has. Then E20 at what an item declares
+/// that is not built. Then, of bodies and contracts, E20 at a form that is not built, and of bodies E05 at a name that is
+/// not declared, E07 where a type is not the one wanted, and E22 at a variable that is written and not `mut`. Then E05,
+/// E07 and E20 of the terms of clauses and invariants. Never a limit. `NoMemory` also where a number of variables or
+/// functions passes 32 bits.
+pub fn check(alloc: Global, items: &[Item]) -> Result<TypedProgram, PassError>
+    ensures answers { Answers result (checked items.now) }
     ensures fits { IfOk result ProgramFits }
     ensures good { IfOk result AllGood }
 {
-    passes(alloc, functions)
+    passes(alloc, items)
 }

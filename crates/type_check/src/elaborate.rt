@@ -1,18 +1,24 @@
-ghost use Rattle.std.specs.Prelude.{◌≡◌, IfOk, None, map};
+ghost use Rattle.std.specs.Prelude.{◌≡◌, IfOk};
 ghost use Rattle.logic_term.specs.Term.{model, truth};
 ghost use Rattle.logic_term.specs.Ty.{bool, math_int};
-ghost use Rattle.built_trees.specs.PtermView.{span_of};
-ghost use Rattle.type_check.specs.Answers.{Answers};
-ghost use Rattle.type_check.specs.Terms.{sorted, literal, name_term, answer_term, model_of, formula, number, ordered, is_ordering, ordered_at, compared, elaborated, asserted, assertion};
+ghost use Rattle.source_trees.specs.Pterm as T;
+ghost use Rattle.source_trees.specs.PtermView.{span_of};
+ghost use Rattle.type_check.specs.Answers.{Answers, AnswersAs, gather, pair};
+ghost use Rattle.type_check.specs.Terms.{sorted, literal, name_term, named_term, answer_term, model_of, formula, number, ordered, is_ordering, ordered_at, compared, elaborated, asserted, assertion};
+ghost use Rattle.type_check.specs.Typing.{invariant_of};
 ghost use Rattle.type_check.specs.VariableNames.{variable_name, answer_name};
 
 use crate::assertion::Assertion;
-use crate::refusal::{mismatch, unknown_name};
+use crate::lists::push_some;
+use crate::refusal::{mismatch, unbuilt, unknown_name};
 use crate::scope::{Variable, find_variable};
 use crate::sorted::SortedTerm;
-use crate::types::{bool_ty, fits, is_bool, is_math_int, math_int_ty, same_ty};
-use built_trees::{Pterm, PtermNode};
+use crate::types::{fits, is_bool, is_math_int, same_ty};
+use crate::written::name_alone;
 use logic_term::{Comparison, IntKind, Term, Ty, TyNode};
+use source_trees::{
+    Attribute, AttributeNode, BinaryTerm, ClauseKind, Pterm, PtermNode, Segment, UnaryTerm,
+};
 use std::alloc::Global;
 use text_core::{Boxed, Name, NoMemory, PassError, Span};
 
@@ -49,7 +55,7 @@ fn of_sort(alloc: Global, sort: Ty, term: Term) -> Result<SortedTerm, NoMemory>
 fn formula_of_sort(alloc: Global, term: Term) -> Result<SortedTerm, NoMemory>
     ensures { IfOk result (λ t. t ≡ sorted bool term) }
 {
-    of_sort(alloc, bool_ty(), term)
+    of_sort(alloc, Ty::bool(), term)
 }
 
 fn truth_term(alloc: Global, holds: bool) -> Result<SortedTerm, NoMemory>
@@ -62,7 +68,7 @@ fn truth_term(alloc: Global, holds: bool) -> Result<SortedTerm, NoMemory>
 fn number_of_sort(alloc: Global, term: Term) -> Result<SortedTerm, NoMemory>
     ensures { IfOk result (λ t. t ≡ sorted math_int term) }
 {
-    of_sort(alloc, math_int_ty(), term)
+    of_sort(alloc, Ty::math_int(), term)
 }
 
 #[tactic(auto, unfolding(crate::specs::Terms::literal))]
@@ -105,17 +111,38 @@ fn name_term(
     }
 }
 
-/// `result`, by the type of the answer where it may be spoken of.
+/// A name as a term.
+fn named_term(
+    alloc: Global,
+    scope: &[Variable],
+    span: Span,
+    name: Option<Segment>,
+) -> Result<SortedTerm, PassError>
+    ensures { Answers result (named_term scope.now span name) }
+{
+    match name {
+        None => Err(unbuilt(span)),
+        Some(name) => name_term(alloc, scope, span, name.name),
+    }
+}
+
+/// `result`: the answer, of its type where it may be spoken of, else a variable.
 #[tactic(auto, unfolding(crate::specs::Terms::answer_term))]
-fn answer_term(alloc: Global, answer: &Option<Ty>, span: Span) -> Result<SortedTerm, PassError>
-    ensures { Answers result (answer_term answer.now span) }
+fn answer_term(
+    alloc: Global,
+    answer: &Option<Ty>,
+    scope: &[Variable],
+    span: Span,
+    name: Name,
+) -> Result<SortedTerm, PassError>
+    ensures { Answers result (answer_term answer.now scope.now span name) }
 {
     match answer {
         Some(ty) => {
             let term = Term::var(alloc, answer_name())?;
             Ok(of_sort(alloc, ty.copy(alloc)?, term)?)
         }
-        None => Err(unknown_name(span)),
+        None => name_term(alloc, scope, span, name),
     }
 }
 
@@ -241,52 +268,113 @@ fn elaborate(
 ) -> Result<SortedTerm, PassError>
     ensures { Answers result (elaborated answer.now scope.now t.now) }
 {
-    match &t.node {
+    match &*t.node {
         PtermNode::Int(number, kind) => literal(alloc, *number, *kind, t.span),
         PtermNode::Truth(holds) => Ok(truth_term(alloc, *holds)?),
-        PtermNode::Answer => answer_term(alloc, answer, t.span),
-        PtermNode::Name(name) => name_term(alloc, scope, t.span, *name),
-        PtermNode::View(t) => model_of(alloc, span_of(t), elaborate(alloc, answer, scope, t)?),
-        PtermNode::Neg(t) => {
+        PtermNode::Answer(name) => answer_term(alloc, answer, scope, t.span, *name),
+        PtermNode::Path(path) => named_term(alloc, scope, t.span, name_alone(path)),
+        PtermNode::Unary(op, a) => elaborate_unary(alloc, answer, scope, t.span, *op, a),
+        PtermNode::Binary(op, a, b) => elaborate_binary(alloc, answer, scope, t.span, *op, a, b),
+        PtermNode::Receiver
+        | PtermNode::MutRef(_, _)
+        | PtermNode::Field(_, _)
+        | PtermNode::Part(_, _)
+        | PtermNode::Method(_, _, _)
+        | PtermNode::Call(_, _)
+        | PtermNode::Literal(_, _)
+        | PtermNode::Tuple(_)
+        | PtermNode::If(_, _, _)
+        | PtermNode::Match(_, _)
+        | PtermNode::Quantified(_, _, _)
+        | PtermNode::Predicate(_, _) => Err(unbuilt(t.span)),
+    }
+}
+
+/// An operator with its operand.
+#[cycle(elaborate)]
+fn elaborate_unary(
+    alloc: Global,
+    answer: &Option<Ty>,
+    scope: &[Variable],
+    span: Span,
+    op: UnaryTerm,
+    t: &Pterm,
+) -> Result<SortedTerm, PassError>
+    ensures { Answers result (elaborated answer.now scope.now (T.unary span op t.now)) }
+{
+    match op {
+        UnaryTerm::View => model_of(alloc, span_of(t), elaborate(alloc, answer, scope, t)?),
+        UnaryTerm::Neg => {
             let t = number(span_of(t), elaborate(alloc, answer, scope, t)?)?;
             Ok(number_of_sort(alloc, Term::negative(alloc, t.into_inner())?)?)
         }
-        PtermNode::Not(t) => {
+        UnaryTerm::Not => {
             let t = elaborate_formula(alloc, answer, scope, t)?;
             Ok(formula_of_sort(alloc, Term::not(alloc, t.into_inner())?)?)
         }
-        PtermNode::Arith(op, t, u) => {
+        UnaryTerm::Current | UnaryTerm::Final => Err(unbuilt(span)),
+    }
+}
+
+/// An operator with its operands.
+#[cycle(elaborate)]
+fn elaborate_binary(
+    alloc: Global,
+    answer: &Option<Ty>,
+    scope: &[Variable],
+    span: Span,
+    op: BinaryTerm,
+    t: &Pterm,
+    u: &Pterm,
+) -> Result<SortedTerm, PassError>
+    ensures { Answers result (elaborated answer.now scope.now (T.binary span op t.now u.now)) }
+{
+    match op {
+        BinaryTerm::Calculate(op) => {
             let a = elaborate(alloc, answer, scope, t)?;
             let b = elaborate(alloc, answer, scope, u)?;
             let a = number(span_of(t), a)?;
             let b = number(span_of(u), b)?;
-            let value = Term::calculate(alloc, *op, a.into_inner(), b.into_inner())?;
+            let value = Term::calculate(alloc, op, a.into_inner(), b.into_inner())?;
             Ok(number_of_sort(alloc, value)?)
         }
-        PtermNode::Compare(op, t, u) => {
+        BinaryTerm::Compare(op) => {
             let a = elaborate(alloc, answer, scope, t)?;
             let b = elaborate(alloc, answer, scope, u)?;
-            compared(alloc, *op, (span_of(t), span_of(u)), a, b)
+            compared(alloc, op, (span_of(t), span_of(u)), a, b)
         }
-        PtermNode::And(t, u) => {
-            let a = elaborate_formula(alloc, answer, scope, t)?;
-            let b = elaborate_formula(alloc, answer, scope, u)?;
+        BinaryTerm::And => {
+            let (a, b) = elaborate_formulas(alloc, answer, scope, t, u)?;
             let both = Term::and(alloc, a.into_inner(), b.into_inner())?;
             Ok(formula_of_sort(alloc, both)?)
         }
-        PtermNode::Or(t, u) => {
-            let a = elaborate_formula(alloc, answer, scope, t)?;
-            let b = elaborate_formula(alloc, answer, scope, u)?;
+        BinaryTerm::Or => {
+            let (a, b) = elaborate_formulas(alloc, answer, scope, t, u)?;
             let either = Term::or(alloc, a.into_inner(), b.into_inner())?;
             Ok(formula_of_sort(alloc, either)?)
         }
-        PtermNode::Implies(t, u) => {
-            let a = elaborate_formula(alloc, answer, scope, t)?;
-            let b = elaborate_formula(alloc, answer, scope, u)?;
+        BinaryTerm::Implies => {
+            let (a, b) = elaborate_formulas(alloc, answer, scope, t, u)?;
             let implied = Term::implies(alloc, a.into_inner(), b.into_inner())?;
             Ok(formula_of_sort(alloc, implied)?)
         }
     }
+}
+
+/// The formulas that two terms become, the first one first.
+#[cycle(elaborate)]
+fn elaborate_formulas(
+    alloc: Global,
+    answer: &Option<Ty>,
+    scope: &[Variable],
+    t: &Pterm,
+    u: &Pterm,
+) -> Result<(Boxed<Term>, Boxed<Term>), PassError>
+    ensures { Answers result (pair (asserted answer.now scope.now t.now) (asserted answer.now scope.now u.now)) }
+{
+    let a = elaborate_formula(alloc, answer, scope, t)?;
+    let b = elaborate_formula(alloc, answer, scope, u)?;
+    Ok((a, b))
 }
 
 /// The formula that a term of a contract becomes.
@@ -318,17 +406,38 @@ pub(crate) fn assertion(
     }
 }
 
-/// The formulas of invariants.
-pub(crate) fn assertions(
+/// The invariant of an attribute before a loop; none where the attribute says nothing.
+#[tactic(auto, unfolding(crate::specs::Typing::invariant_of))]
+fn invariant_of(
     alloc: Global,
     scope: &[Variable],
-    terms: &[Pterm],
-) -> Result<Vec<Assertion>, NoMemory>
-    ensures { IfOk result (λ v. v.items ≡ map (assertion None scope.now) terms.now) }
+    attribute: &Attribute,
+) -> Result<Option<Assertion>, PassError>
+    ensures { Answers result (invariant_of scope.now attribute.now) }
 {
-    let mut all = Vec::with_capacity(alloc, terms.len())?;
-    for t in terms {
-        all.push(assertion(alloc, &None, scope, t)?)?;
+    match &attribute.node {
+        AttributeNode::Clause(ClauseKind::Invariant, term) => {
+            Ok(Some(assertion(alloc, &None, scope, term)?))
+        }
+        AttributeNode::Skipped => Ok(None),
+        AttributeNode::Clause(ClauseKind::Requires | ClauseKind::Ensures | ClauseKind::Variant, _)
+        | AttributeNode::Logic
+        | AttributeNode::Law
+        | AttributeNode::Derive(_) => Err(unbuilt(attribute.span)),
     }
-    Ok(all)
+}
+
+/// The invariants of the attributes before a loop.
+pub(crate) fn invariants_of(
+    alloc: Global,
+    scope: &[Variable],
+    attributes: &[Attribute],
+) -> Result<Vec<Assertion>, PassError>
+    ensures { AnswersAs result (gather (invariant_of scope.now) attributes.now) (λ v. v.items) }
+{
+    let mut invariants = Vec::new(alloc);
+    for attribute in attributes {
+        push_some(&mut invariants, invariant_of(alloc, scope, attribute)?)?;
+    }
+    Ok(invariants)
 }

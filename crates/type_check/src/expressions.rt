@@ -1,104 +1,165 @@
-ghost use Rattle.built_trees.specs.Expr as written;
-ghost use Rattle.built_trees.specs.ExprView.{exprs_of as written_exprs, span_of, stmts_of};
-ghost use Rattle.type_check.specs.Answers.{Answers};
-ghost use Rattle.type_check.specs.Opened.{AnswersAs, Opens};
+ghost use Rattle.std.specs.Prelude.{◌≡◌, OnOk};
+ghost use Rattle.source_trees.specs.Expr as E;
+ghost use Rattle.source_trees.specs.ExprView.{exprs_of as written_exprs, span_of, stmts_of as written_stmts};
+ghost use Rattle.type_check.specs.Answers.{Answers, AnswersAs};
 ghost use Rattle.type_check.specs.TypedExprView.{exprs_of};
-ghost use Rattle.type_check.specs.Typing.{is_bare, as_name, order_of, operands, target_of, typed, typed_args};
+ghost use Rattle.type_check.specs.Typing.{callee_of, is_bare, opened, operands, order_of, target_of, typed, typed_args, typed_statement, typed_stmts};
 ghost use Rattle.type_check.specs.WellTyped.{is_arithmetic};
+ghost use Rattle.type_check.specs.Written.{as_name};
 
-use crate::elaborate::assertions;
-use crate::heading::{Heading, find_callee};
+use crate::elaborate::invariants_of;
+use crate::heading::{Callee, Heading, find_callee};
 use crate::operands::{Operands, Order, Target};
-use crate::refusal::unknown_name;
-use crate::scope::{Variable, copy_scope, find_variable};
-use crate::statements::{Opened, block, block_with, declare, expected_by, is_binding};
+use crate::refusal::{unbuilt, unknown_name};
+use crate::scope::{Variable, find_variable};
+use crate::statements::{block, block_with, declare};
 use crate::typed::{TypedExpr, TypedStmt};
-use crate::types::{bool_ty, is_arithmetic, unit_ty};
+use crate::types::is_arithmetic;
 use crate::typing::{
-    as_name, assigned, branch, called, choice, denied, given_ty, is_bare, lazy, literal, negated,
-    operated, order_of, param_ty, repeat, span_of, spans_at, target_ty, truth, updated, variable,
+    assigned, branch, called, choice, denied, given_ty, is_bare, lazy, literal, named, negated,
+    operated, order_of, param_ty, repeat, span_of, spans_at, target_ty, truth, updated,
 };
-use built_trees::{Expr, ExprNode, Pterm, Stmt};
-use logic_term::{LazyOp, Ty};
+use crate::written::{as_name, name_alone, step_of};
+use logic_term::{BinaryOp, LazyOp, Ty};
+use source_trees::{Attribute, Expr, ExprNode, Segment, Stmt, UnaryOp};
 use std::alloc::Global;
-use text_core::{Name, PassError, Span};
+use text_core::{PassError, Span};
 
-/// The expression with its type: the expected one, where there is one.
+/// The expression with its type: the expected one, where there is one. What the scope holds is as before where it
+/// answers.
 #[cycle(type_expr)]
 #[tactic(auto, using(crate::proofs::Parts::parts))]
 pub(crate) fn type_expr(
     alloc: Global,
     headings: &[Heading],
-    scope: &[Variable],
+    scope: &mut Vec<Variable>,
     e: &Expr,
     expected: &Option<Ty>,
 ) -> Result<TypedExpr, PassError>
-    ensures { Answers result (typed headings.now scope.now e.now expected.now) }
+    ensures answers { Answers result (typed headings.now scope.old.items e.now expected.now) }
+    ensures kept { OnOk result (scope.new.items ≡ scope.old.items) }
 {
     let whole = e.span;
-    match &e.node {
+    match &*e.node {
         ExprNode::Int(number, kind) => literal(alloc, expected, whole, *number, *kind),
         ExprNode::Truth(holds) => truth(alloc, expected, whole, *holds),
-        ExprNode::Name(name) => variable(alloc, scope, expected, whole, *name),
-        ExprNode::Neg(operator, a) => {
+        ExprNode::Path(path) => named(alloc, scope.as_slice(), expected, whole, name_alone(path)),
+        ExprNode::Unary(op, at, a) => type_unary(
+            alloc, headings, scope, expected, whole, *op, *at, a,
+        ),
+        ExprNode::Binary(op, at, a, b) => type_binary(
+            alloc, headings, scope, expected, whole, *op, *at, a, b,
+        ),
+        ExprNode::Lazy(op, a, b) => type_lazy(alloc, headings, scope, expected, whole, *op, a, b),
+        ExprNode::Assign(left, value) => type_assign(
+            alloc, headings, scope, expected, whole, left, value,
+        ),
+        ExprNode::Update(op, at, left, value) => type_update(
+            alloc, headings, scope, expected, whole, *op, *at, left, value,
+        ),
+        ExprNode::Call(f, args) => type_call(alloc, headings, scope, expected, whole, f, args),
+        ExprNode::Block(stmts) => type_block(alloc, headings, scope, expected, whole, stmts),
+        ExprNode::BlockWith(stmts, last) => type_block_with(
+            alloc, headings, scope, expected, whole, stmts, last,
+        ),
+        ExprNode::If(None, condition, body) => type_branch(
+            alloc, headings, scope, expected, whole, condition, body,
+        ),
+        ExprNode::IfElse(None, condition, yes, no) => type_choice(
+            alloc, headings, scope, expected, whole, condition, yes, no,
+        ),
+        ExprNode::While(None, condition, body) => type_while(
+            alloc,
+            headings,
+            scope,
+            expected,
+            whole,
+            &[],
+            condition,
+            body,
+        ),
+        ExprNode::Attributed(attributes, e) => type_attributed(
+            alloc,
+            headings,
+            scope,
+            expected,
+            whole,
+            attributes.as_slice(),
+            e,
+        ),
+        ExprNode::Receiver
+        | ExprNode::Literal(_, _)
+        | ExprNode::Tuple(_)
+        | ExprNode::If(Some(_), _, _)
+        | ExprNode::IfElse(Some(_), _, _, _)
+        | ExprNode::Match(_, _)
+        | ExprNode::While(Some(_), _, _)
+        | ExprNode::Loop(_)
+        | ExprNode::Closure(_, _, _, _, _)
+        | ExprNode::Return
+        | ExprNode::ReturnWith(_)
+        | ExprNode::Break
+        | ExprNode::Continue
+        | ExprNode::Panic(_, _)
+        | ExprNode::Ghost(_, _)
+        | ExprNode::Cast(_, _)
+        | ExprNode::Borrow(_, _)
+        | ExprNode::Field(_, _, _)
+        | ExprNode::Part(_, _)
+        | ExprNode::Method(_, _, _, _) => Err(unbuilt(whole)),
+    }
+}
+
+/// `-e`, `!e` and `*e`.
+#[cycle(type_expr)]
+#[tactic(auto, using(crate::proofs::Parts::parts))]
+fn type_unary(
+    alloc: Global,
+    headings: &[Heading],
+    scope: &mut Vec<Variable>,
+    expected: &Option<Ty>,
+    whole: Span,
+    op: UnaryOp,
+    operator: Span,
+    a: &Expr,
+) -> Result<TypedExpr, PassError>
+    ensures answers { Answers result (typed headings.now scope.old.items (E.unary whole op operator a.now) expected.now) }
+    ensures kept { OnOk result (scope.new.items ≡ scope.old.items) }
+{
+    match op {
+        UnaryOp::Neg => {
             let operand = type_expr(alloc, headings, scope, a, expected)?;
-            negated(alloc, expected, spans_at(whole, *operator, a), operand)
+            negated(alloc, expected, spans_at(whole, operator, a), operand)
         }
-        ExprNode::Not(a) => {
-            let operand = type_expr(alloc, headings, scope, a, &Some(bool_ty()))?;
+        UnaryOp::Not => {
+            let operand = type_expr(alloc, headings, scope, a, &Some(Ty::bool()))?;
             denied(alloc, expected, whole, operand)
         }
-        ExprNode::Binary(op, operator, a, b) => {
-            let order = order_of(alloc, is_arithmetic(*op), expected, is_bare(a), is_bare(b))?;
-            let operands = type_operands(alloc, headings, scope, &order, a, b)?;
-            operated(
-                alloc,
-                expected,
-                spans_at(whole, *operator, a),
-                *op,
-                operands,
-            )
-        }
-        ExprNode::Lazy(op, a, b) => type_lazy(alloc, headings, scope, expected, whole, *op, a, b),
-        ExprNode::Assign(left, value) => {
-            let target = type_target(alloc, headings, scope, left)?;
-            let wanted = target_ty(alloc, &target)?;
-            let value = type_expr(alloc, headings, scope, value, &wanted)?;
-            assigned(alloc, expected, whole, span_of(left), target, value)
-        }
-        ExprNode::Update(op, operator, left, value) => {
-            let target = type_target(alloc, headings, scope, left)?;
-            let wanted = target_ty(alloc, &target)?;
-            let value = type_expr(alloc, headings, scope, value, &wanted)?;
-            updated(
-                alloc,
-                expected,
-                spans_at(whole, *operator, left),
-                *op,
-                target,
-                value,
-            )
-        }
-        ExprNode::Call(name, at, args) => {
-            type_call(alloc, headings, scope, expected, whole, *name, *at, args)
-        }
-        ExprNode::Block(stmts) => {
-            let Opened { stmts, .. } = type_statements(alloc, headings, scope, stmts)?;
-            block(alloc, expected, whole, stmts)
-        }
-        ExprNode::BlockWith(stmts, last) => {
-            type_block_with(alloc, headings, scope, expected, whole, stmts, last)
-        }
-        ExprNode::If(condition, body) => {
-            type_branch(alloc, headings, scope, expected, whole, condition, body)
-        }
-        ExprNode::IfElse(condition, yes, no) => {
-            type_choice(alloc, headings, scope, expected, whole, condition, yes, no)
-        }
-        ExprNode::While(invariants, condition, body) => type_while(
-            alloc, headings, scope, expected, whole, invariants, condition, body,
-        ),
+        UnaryOp::Deref => Err(unbuilt(whole)),
     }
+}
+
+/// `left + right` and the like.
+#[cycle(type_expr)]
+#[tactic(auto, using(crate::proofs::Parts::parts))]
+fn type_binary(
+    alloc: Global,
+    headings: &[Heading],
+    scope: &mut Vec<Variable>,
+    expected: &Option<Ty>,
+    whole: Span,
+    op: BinaryOp,
+    operator: Span,
+    a: &Expr,
+    b: &Expr,
+) -> Result<TypedExpr, PassError>
+    ensures answers { Answers result (typed headings.now scope.old.items (E.binary whole op operator a.now b.now) expected.now) }
+    ensures kept { OnOk result (scope.new.items ≡ scope.old.items) }
+{
+    let order = order_of(alloc, is_arithmetic(op), expected, is_bare(a), is_bare(b))?;
+    let operands = type_operands(alloc, headings, scope, order, a, b)?;
+    let spans = spans_at(whole, operator, a);
+    operated(alloc, expected, spans, op, operands)
 }
 
 /// `left && right` and `left || right`.
@@ -107,41 +168,105 @@ pub(crate) fn type_expr(
 fn type_lazy(
     alloc: Global,
     headings: &[Heading],
-    scope: &[Variable],
+    scope: &mut Vec<Variable>,
     expected: &Option<Ty>,
     whole: Span,
     op: LazyOp,
     left: &Expr,
     right: &Expr,
 ) -> Result<TypedExpr, PassError>
-    ensures { Answers result (typed headings.now scope.now (written.lazy whole op left.now right.now) expected.now) }
+    ensures answers { Answers result (typed headings.now scope.old.items (E.lazy whole op left.now right.now) expected.now) }
+    ensures kept { OnOk result (scope.new.items ≡ scope.old.items) }
 {
-    let left = type_expr(alloc, headings, scope, left, &Some(bool_ty()))?;
-    let right = type_expr(alloc, headings, scope, right, &Some(bool_ty()))?;
+    let left = type_expr(alloc, headings, scope, left, &Some(Ty::bool()))?;
+    let right = type_expr(alloc, headings, scope, right, &Some(Ty::bool()))?;
     lazy(alloc, expected, whole, op, left, right)
 }
 
-/// A call of the function of this name, which stands here.
+/// `left = value`
+#[cycle(type_expr)]
+#[tactic(auto, using(crate::proofs::Parts::parts))]
+fn type_assign(
+    alloc: Global,
+    headings: &[Heading],
+    scope: &mut Vec<Variable>,
+    expected: &Option<Ty>,
+    whole: Span,
+    left: &Expr,
+    value: &Expr,
+) -> Result<TypedExpr, PassError>
+    ensures answers { Answers result (typed headings.now scope.old.items (E.assign whole left.now value.now) expected.now) }
+    ensures kept { OnOk result (scope.new.items ≡ scope.old.items) }
+{
+    let target = type_target(alloc, headings, scope, left)?;
+    let wanted = target_ty(alloc, &target)?;
+    let value = type_expr(alloc, headings, scope, value, &wanted)?;
+    assigned(alloc, expected, whole, span_of(left), target, value)
+}
+
+/// `left += value` and the like.
+#[cycle(type_expr)]
+#[tactic(auto, using(crate::proofs::Parts::parts))]
+fn type_update(
+    alloc: Global,
+    headings: &[Heading],
+    scope: &mut Vec<Variable>,
+    expected: &Option<Ty>,
+    whole: Span,
+    op: BinaryOp,
+    operator: Span,
+    left: &Expr,
+    value: &Expr,
+) -> Result<TypedExpr, PassError>
+    ensures answers { Answers result (typed headings.now scope.old.items (E.update whole op operator left.now value.now) expected.now) }
+    ensures kept { OnOk result (scope.new.items ≡ scope.old.items) }
+{
+    let target = type_target(alloc, headings, scope, left)?;
+    let wanted = target_ty(alloc, &target)?;
+    let value = type_expr(alloc, headings, scope, value, &wanted)?;
+    let spans = spans_at(whole, operator, left);
+    updated(alloc, expected, spans, op, target, value)
+}
+
+/// A call.
 #[cycle(type_expr)]
 #[tactic(auto, using(crate::proofs::Parts::parts))]
 fn type_call(
     alloc: Global,
     headings: &[Heading],
-    scope: &[Variable],
+    scope: &mut Vec<Variable>,
     expected: &Option<Ty>,
     whole: Span,
-    name: Name,
-    at: Span,
+    f: &Expr,
     args: &[Expr],
 ) -> Result<TypedExpr, PassError>
-    ensures { Answers result (typed headings.now scope.now (written.call whole name at (written_exprs args.now)) expected.now) }
+    ensures answers { Answers result (typed headings.now scope.old.items (E.call whole f.now (written_exprs args.now)) expected.now) }
+    ensures kept { OnOk result (scope.new.items ≡ scope.old.items) }
 {
-    let Some(callee) = find_callee(alloc, name, headings, scope)? else {
-        return Err(unknown_name(at));
-    };
+    let callee = callee_of(alloc, headings, scope.as_slice(), whole, as_name(f))?;
     let params = callee.signature.params.as_slice();
     let args = type_args(alloc, headings, scope, args, params)?;
     called(alloc, expected, whole, callee, args)
+}
+
+/// A block without a last expression.
+#[cycle(type_expr)]
+#[tactic(auto, using(crate::proofs::Parts::parts))]
+fn type_block(
+    alloc: Global,
+    headings: &[Heading],
+    scope: &mut Vec<Variable>,
+    expected: &Option<Ty>,
+    whole: Span,
+    stmts: &[Stmt],
+) -> Result<TypedExpr, PassError>
+    ensures answers { Answers result (typed headings.now scope.old.items (E.block whole (written_stmts stmts.now)) expected.now) }
+    ensures kept { OnOk result (scope.new.items ≡ scope.old.items) }
+{
+    let around = scope.len();
+    let stmts = type_statements(alloc, headings, scope, stmts)?;
+    scope.truncate(around);
+    block(alloc, expected, whole, stmts)
 }
 
 /// A block with a last expression.
@@ -150,16 +275,19 @@ fn type_call(
 fn type_block_with(
     alloc: Global,
     headings: &[Heading],
-    scope: &[Variable],
+    scope: &mut Vec<Variable>,
     expected: &Option<Ty>,
     whole: Span,
     stmts: &[Stmt],
     last: &Expr,
 ) -> Result<TypedExpr, PassError>
-    ensures { Answers result (typed headings.now scope.now (written.block whole (stmts_of stmts.now (written.last last.now))) expected.now) }
+    ensures answers { Answers result (typed headings.now scope.old.items (E.block_with whole (written_stmts stmts.now) last.now) expected.now) }
+    ensures kept { OnOk result (scope.new.items ≡ scope.old.items) }
 {
-    let Opened { scope, stmts } = type_statements(alloc, headings, scope, stmts)?;
-    let last = type_expr(alloc, headings, scope.as_slice(), last, expected)?;
+    let around = scope.len();
+    let stmts = type_statements(alloc, headings, scope, stmts)?;
+    let last = type_expr(alloc, headings, scope, last, expected)?;
+    scope.truncate(around);
     block_with(alloc, expected, whole, stmts, last)
 }
 
@@ -169,16 +297,17 @@ fn type_block_with(
 fn type_branch(
     alloc: Global,
     headings: &[Heading],
-    scope: &[Variable],
+    scope: &mut Vec<Variable>,
     expected: &Option<Ty>,
     whole: Span,
     condition: &Expr,
     body: &Expr,
 ) -> Result<TypedExpr, PassError>
-    ensures { Answers result (typed headings.now scope.now (written.branch whole condition.now body.now) expected.now) }
+    ensures answers { Answers result (typed headings.now scope.old.items (E.branch whole None condition.now body.now) expected.now) }
+    ensures kept { OnOk result (scope.new.items ≡ scope.old.items) }
 {
-    let test = type_expr(alloc, headings, scope, condition, &Some(bool_ty()))?;
-    let body = type_expr(alloc, headings, scope, body, &Some(unit_ty(alloc)))?;
+    let test = type_expr(alloc, headings, scope, condition, &Some(Ty::bool()))?;
+    let body = type_expr(alloc, headings, scope, body, &Some(Ty::unit(alloc)))?;
     branch(alloc, expected, whole, test, body)
 }
 
@@ -188,41 +317,69 @@ fn type_branch(
 fn type_choice(
     alloc: Global,
     headings: &[Heading],
-    scope: &[Variable],
+    scope: &mut Vec<Variable>,
     expected: &Option<Ty>,
     whole: Span,
     condition: &Expr,
     yes: &Expr,
     no: &Expr,
 ) -> Result<TypedExpr, PassError>
-    ensures { Answers result (typed headings.now scope.now (written.choice whole condition.now yes.now no.now) expected.now) }
+    ensures answers { Answers result (typed headings.now scope.old.items (E.choice whole None condition.now yes.now no.now) expected.now) }
+    ensures kept { OnOk result (scope.new.items ≡ scope.old.items) }
 {
-    let condition = type_expr(alloc, headings, scope, condition, &Some(bool_ty()))?;
+    let condition = type_expr(alloc, headings, scope, condition, &Some(Ty::bool()))?;
     let yes = type_expr(alloc, headings, scope, yes, expected)?;
     let wanted = given_ty(alloc, &yes)?;
     let no = type_expr(alloc, headings, scope, no, &wanted)?;
     choice(alloc, expected, whole, condition, yes, no)
 }
 
-/// `while` with its invariants.
+/// `while` with the attributes before it, which are its invariants.
 #[cycle(type_expr)]
 #[tactic(auto, using(crate::proofs::Parts::parts))]
 fn type_while(
     alloc: Global,
     headings: &[Heading],
-    scope: &[Variable],
+    scope: &mut Vec<Variable>,
     expected: &Option<Ty>,
     whole: Span,
-    invariants: &[Pterm],
+    attributes: &[Attribute],
     condition: &Expr,
     body: &Expr,
 ) -> Result<TypedExpr, PassError>
-    ensures { Answers result (typed headings.now scope.now (written.repeat whole invariants.now condition.now body.now) expected.now) }
+    ensures answers { Answers result (typed headings.now scope.old.items (E.attributed whole attributes.now (E.repeat whole None condition.now body.now)) expected.now) }
+    ensures kept { OnOk result (scope.new.items ≡ scope.old.items) }
 {
-    let condition = type_expr(alloc, headings, scope, condition, &Some(bool_ty()))?;
-    let body = type_expr(alloc, headings, scope, body, &Some(unit_ty(alloc)))?;
-    let invariants = assertions(alloc, scope, invariants)?;
+    let invariants = invariants_of(alloc, scope.as_slice(), attributes)?;
+    let condition = type_expr(alloc, headings, scope, condition, &Some(Ty::bool()))?;
+    let body = type_expr(alloc, headings, scope, body, &Some(Ty::unit(alloc)))?;
     repeat(alloc, expected, whole, invariants, condition, body)
+}
+
+/// A loop or a closure with attributes before it.
+#[cycle(type_expr)]
+#[tactic(auto, using(crate::proofs::Parts::parts))]
+fn type_attributed(
+    alloc: Global,
+    headings: &[Heading],
+    scope: &mut Vec<Variable>,
+    expected: &Option<Ty>,
+    whole: Span,
+    attributes: &[Attribute],
+    e: &Expr,
+) -> Result<TypedExpr, PassError>
+    ensures answers { Answers result (typed headings.now scope.old.items (E.attributed whole attributes.now e.now) expected.now) }
+    ensures kept { OnOk result (scope.new.items ≡ scope.old.items) }
+{
+    match &*e.node {
+        ExprNode::While(pattern, condition, body) => match pattern {
+            None => type_while(
+                alloc, headings, scope, expected, whole, attributes, condition, body,
+            ),
+            Some(_) => Err(unbuilt(whole)),
+        },
+        _ => Err(unbuilt(whole)),
+    }
 }
 
 /// The operands of an operation, each at its type.
@@ -231,17 +388,19 @@ fn type_while(
 fn type_operands(
     alloc: Global,
     headings: &[Heading],
-    scope: &[Variable],
-    order: &Order,
+    scope: &mut Vec<Variable>,
+    order: Order,
     a: &Expr,
     b: &Expr,
 ) -> Result<Operands, PassError>
-    ensures { Answers result (operands order.now (typed headings.now scope.now a.now) (typed headings.now scope.now b.now)) }
+    ensures answers { Answers result (operands order (typed headings.now scope.old.items a.now) (typed headings.now scope.old.items b.now)) }
+    ensures kept { OnOk result (scope.new.items ≡ scope.old.items) }
 {
     match order {
         Order::Against(wanted) => {
-            let left = type_expr(alloc, headings, scope, a, wanted)?;
-            let right = type_expr(alloc, headings, scope, b, wanted)?;
+            let wanted = Some(wanted);
+            let left = type_expr(alloc, headings, scope, a, &wanted)?;
+            let right = type_expr(alloc, headings, scope, b, &wanted)?;
             Ok(Operands { left, right })
         }
         Order::SecondGives => {
@@ -265,13 +424,14 @@ fn type_operands(
 fn type_target(
     alloc: Global,
     headings: &[Heading],
-    scope: &[Variable],
+    scope: &mut Vec<Variable>,
     left: &Expr,
 ) -> Result<Target, PassError>
-    ensures { Answers result (target_of scope.now (span_of left.now) (as_name left.now) (typed headings.now scope.now left.now)) }
+    ensures answers { Answers result (target_of scope.old.items (span_of left.now) (as_name left.now) (typed headings.now scope.old.items left.now)) }
+    ensures kept { OnOk result (scope.new.items ≡ scope.old.items) }
 {
     match as_name(left) {
-        Some(name) => match find_variable(alloc, name, scope)? {
+        Some(name) => match find_variable(alloc, name.name, scope.as_slice())? {
             Some(found) => Ok(Target::Variable(found)),
             None => Err(unknown_name(span_of(left))),
         },
@@ -285,11 +445,12 @@ fn type_target(
 fn type_args(
     alloc: Global,
     headings: &[Heading],
-    scope: &[Variable],
+    scope: &mut Vec<Variable>,
     args: &[Expr],
     params: &[Ty],
 ) -> Result<Vec<TypedExpr>, PassError>
-    ensures { AnswersAs result (typed_args headings.now scope.now (written_exprs args.now) params.now) (λ v. exprs_of v.items) }
+    ensures answers { AnswersAs result (typed_args headings.now scope.old.items (written_exprs args.now) params.now) (λ v. exprs_of v.items) }
+    ensures kept { OnOk result (scope.new.items ≡ scope.old.items) }
 {
     let mut typed = Vec::with_capacity(alloc, args.len())?;
     for i in 0..args.len() {
@@ -300,29 +461,58 @@ fn type_args(
     Ok(typed)
 }
 
-/// The statements of a block, and what is in scope after them.
+/// The statements of a block. What they declare stands in the scope afterwards.
 #[cycle(type_expr)]
 #[tactic(auto, using(crate::proofs::Parts::parts))]
 fn type_statements(
     alloc: Global,
     headings: &[Heading],
-    scope: &[Variable],
+    scope: &mut Vec<Variable>,
     stmts: &[Stmt],
-) -> Result<Opened, PassError>
-    ensures { Opens headings.now scope.now stmts.now result }
+) -> Result<Vec<TypedStmt>, PassError>
+    ensures { AnswersAs result (typed_stmts headings.now scope.old.items (written_stmts stmts.now)) (λ v. opened scope.new.items v.items) }
 {
-    let mut inner = copy_scope(alloc, scope)?;
     let mut typed = Vec::with_capacity(alloc, stmts.len())?;
     for i in 0..stmts.len() {
-        let stmt = &stmts[i];
-        let wanted = expected_by(alloc, &stmt.kind)?;
-        let value = type_expr(alloc, headings, inner.as_slice(), &stmt.value, &wanted)?;
-        declare(alloc, &mut inner, &stmt.kind, &value)?;
-        let binds = is_binding(&stmt.kind);
-        typed.push(TypedStmt { binds, value })?;
+        let stmt = type_statement(alloc, headings, scope, &stmts[i])?;
+        typed.push(stmt)?;
     }
-    Ok(Opened {
-        scope: inner,
-        stmts: typed,
-    })
+    Ok(typed)
+}
+
+/// A statement. What it declares stands in the scope afterwards.
+#[cycle(type_expr)]
+#[tactic(auto, using(crate::proofs::Parts::parts))]
+fn type_statement(
+    alloc: Global,
+    headings: &[Heading],
+    scope: &mut Vec<Variable>,
+    stmt: &Stmt,
+) -> Result<TypedStmt, PassError>
+    ensures { AnswersAs result (typed_statement headings.now scope.old.items stmt.now) (λ s. (scope.new.items, s)) }
+{
+    let step = step_of(alloc, &stmt.kind)?;
+    let value = type_expr(alloc, headings, scope, &stmt.value, &step.expected)?;
+    declare(alloc, scope, step.declares, &value)?;
+    let binds = step.declares.is_some();
+    Ok(TypedStmt { binds, value })
+}
+
+/// What is called by this name alone; the span is that of the call.
+fn callee_of(
+    alloc: Global,
+    headings: &[Heading],
+    scope: &[Variable],
+    span: Span,
+    name: Option<Segment>,
+) -> Result<Callee, PassError>
+    ensures { Answers result (callee_of headings.now scope.now span name) }
+{
+    let Some(name) = name else {
+        return Err(unbuilt(span));
+    };
+    match find_callee(alloc, name.name, headings, scope)? {
+        Some(callee) => Ok(callee),
+        None => Err(unknown_name(name.span)),
+    }
 }

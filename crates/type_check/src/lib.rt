@@ -3,10 +3,12 @@
 
 mod assertion;
 mod checking;
+mod declaring;
 mod elaborate;
 mod expressions;
 mod heading;
 mod laws;
+mod lists;
 mod logic;
 mod names;
 mod operands;
@@ -18,10 +20,11 @@ mod statements;
 mod typed;
 mod types;
 mod typing;
+mod written;
 
 pub use assertion::Assertion;
 pub use checking::check;
 pub use elaborate::{answer_name, variable_name};
 pub use laws::{checked_programs_fit, refusals_have_causes};
-pub use program::{Signature, TypedClause, TypedFunction, TypedProgram};
+pub use program::{ClauseKind, Signature, TypedClause, TypedFunction, TypedProgram};
 pub use typed::{TypedExpr, TypedNode, TypedStmt};

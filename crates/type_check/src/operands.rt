@@ -21,7 +21,7 @@ pub(crate) enum Target {
 #[derive(Drop)]
 pub(crate) enum Order {
     /// Both are checked against this one.
-    Against(Option<Ty>),
+    Against(Ty),
     /// The first is checked against the type that the second gives.
     SecondGives,
     /// The second is checked against the type that the first gives.

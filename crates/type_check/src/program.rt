@@ -1,8 +1,16 @@
 use crate::assertion::Assertion;
 use crate::typed::TypedExpr;
-use built_trees::ClauseKind;
 use logic_term::Ty;
 use text_core::{Items, Name, Span};
+
+/// When a clause of a contract holds.
+#[derive(Clone, Copy)]
+pub enum ClauseKind {
+    /// Before the call.
+    Requires,
+    /// Behind the call.
+    Ensures,
+}
 
 /// A clause of a contract, over the parameters, and in `ensures` the answer.
 #[derive(Drop)]

@@ -1,6 +1,6 @@
 ghost use Rattle.std.specs.Prelude.{◌≡◌, None};
 ghost use Rattle.text_core.specs.declared.fault.PassError.TheVariants as fault;
-ghost use Rattle.type_check.specs.Answers.{unknown_name, double_name, mismatch, not_mutable};
+ghost use Rattle.type_check.specs.Answers.{unknown_name, double_name, mismatch, unbuilt, not_mutable};
 
 use text_core::{Code, PassError, SourceError, Span};
 
@@ -33,6 +33,13 @@ pub(crate) fn mismatch(span: Span) -> PassError
     ensures { result ≡ fault.Source (mismatch span) }
 {
     refusal(Code::E07, span)
+}
+
+/// A form that is not built.
+pub(crate) fn unbuilt(span: Span) -> PassError
+    ensures { result ≡ fault.Source (unbuilt span) }
+{
+    refusal(Code::E20, span)
 }
 
 /// A write to a variable that is not `mut`.

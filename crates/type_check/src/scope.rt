@@ -13,6 +13,13 @@ pub(crate) struct Variable {
     pub(crate) mutable: bool,
 }
 
+/// What a `let` declares.
+#[derive(Clone, Copy)]
+pub(crate) struct Declared {
+    pub(crate) name: Name,
+    pub(crate) mutable: bool,
+}
+
 /// A variable that a name means.
 #[derive(Drop)]
 pub(crate) struct Found {
@@ -23,6 +30,7 @@ pub(crate) struct Found {
 }
 
 /// The variable of the name: the last of the scope, whose outermost variable stands first.
+#[tactic(auto, using(crate::proofs::Lookups::lookups))]
 pub(crate) fn find_variable(
     alloc: Global,
     name: Name,
@@ -30,40 +38,16 @@ pub(crate) fn find_variable(
 ) -> Result<Option<Found>, NoMemory>
     ensures { IfOk result (λ o. o ≡ found name scope.now) }
 {
-    let mut best = None;
-    let mut place = 0;
-    for variable in scope {
+    let mut left = scope.len();
+    while left > 0 {
+        left -= 1;
+        let variable = &scope[left];
         if name.0 == variable.name.0 {
-            best = Some(Found {
-                place,
-                ty: variable.ty.copy(alloc)?,
-                mutable: variable.mutable,
-            });
+            let place = u32::try_from(left).map_err(|_| NoMemory)?;
+            let ty = variable.ty.copy(alloc)?;
+            let mutable = variable.mutable;
+            return Ok(Some(Found { place, ty, mutable }));
         }
-        place = u32::checked_add(place, 1).ok_or(NoMemory)?;
     }
-    Ok(best)
-}
-
-/// A copy of the scope.
-pub(crate) fn copy_scope(alloc: Global, scope: &[Variable]) -> Result<Vec<Variable>, NoMemory>
-    ensures { IfOk result (λ v. v.items ≡ scope.now) }
-{
-    let mut copies = Vec::with_capacity(alloc, scope.len())?;
-    for i in 0..scope.len() {
-        copies.push(scope[i].copy(alloc)?)?;
-    }
-    Ok(copies)
-}
-
-impl Variable {
-    fn copy(&self, alloc: Global) -> Result<Variable, NoMemory>
-        ensures { IfOk result (λ v. v ≡ self.now) }
-    {
-        Ok(Variable {
-            name: self.name,
-            ty: self.ty.copy(alloc)?,
-            mutable: self.mutable,
-        })
-    }
+    Ok(None)
 }

@@ -1,12 +1,10 @@
 ghost use Rattle.std.specs.Prelude.{◌≡◌};
 ghost use Rattle.logic_term.specs.Range.{fits};
-ghost use Rattle.logic_term.specs.Ty.{bool, math_int};
 ghost use Rattle.type_check.specs.Types.{same_ty, is_bool, is_math_int, is_signed_ty};
 ghost use Rattle.type_check.specs.Typing.{is_updated};
-ghost use Rattle.type_check.specs.WellTyped.{unit, is_arithmetic, is_equality, operation_ty};
+ghost use Rattle.type_check.specs.WellTyped.{is_arithmetic, is_equality, operation_ty};
 
 use logic_term::{BinaryOp, IntKind, Ty, TyNode};
-use std::alloc::Global;
 
 /// Whether both are one type.
 pub(crate) fn same_ty(t: &Ty, u: &Ty) -> bool
@@ -32,28 +30,6 @@ pub(crate) fn fits(kind: IntKind, number: i128) -> bool
     ensures { result ≡ fits kind number }
 {
     kind.lowest() <= number && number <= kind.highest()
-}
-
-pub(crate) fn bool_ty() -> Ty
-    ensures { result ≡ bool }
-{
-    Ty { node: TyNode::Bool }
-}
-
-pub(crate) fn math_int_ty() -> Ty
-    ensures { result ≡ math_int }
-{
-    Ty {
-        node: TyNode::MathInt,
-    }
-}
-
-pub(crate) fn unit_ty(alloc: Global) -> Ty
-    ensures { result ≡ unit }
-{
-    Ty {
-        node: TyNode::Tuple(Vec::new(alloc)),
-    }
 }
 
 pub(crate) fn is_signed_ty(t: &Ty) -> bool
@@ -86,8 +62,8 @@ pub(crate) fn operation_ty(op: BinaryOp, t: &Ty) -> Option<Ty>
 {
     match &t.node {
         TyNode::Int(kind) if is_arithmetic(op) => Some(Ty::int(*kind)),
-        TyNode::Int(_) => Some(bool_ty()),
-        TyNode::Bool if is_equality(op) => Some(bool_ty()),
+        TyNode::Int(_) => Some(Ty::bool()),
+        TyNode::Bool if is_equality(op) => Some(Ty::bool()),
         _ => None,
     }
 }

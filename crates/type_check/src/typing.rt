@@ -1,21 +1,21 @@
 ghost use Rattle.std.specs.Prelude.{◌≡◌, Some, IfOk, slice_get};
 ghost use Rattle.logic_term.specs.Ty.{bool};
-ghost use Rattle.built_trees.specs.ExprView.{span_of};
+ghost use Rattle.source_trees.specs.ExprView.{span_of};
 ghost use Rattle.type_check.specs.Answers.{Answers};
 ghost use Rattle.type_check.specs.TypedExpr as tree;
 ghost use Rattle.type_check.specs.TypedExprView.{ty_of, typed_of, exprs_of};
-ghost use Rattle.type_check.specs.Typing.{fit, order_of, literal_kind, literal, variable, negated, is_bare, operated, as_name, target_ty, assigned, updated, called, is_updated};
+ghost use Rattle.type_check.specs.Typing.{fit, order_of, literal_kind, literal, variable, negated, is_bare, named, operated, target_ty, assigned, updated, called, is_updated};
 ghost use Rattle.type_check.specs.WellTyped.{unit};
 
 use crate::assertion::Assertion;
 use crate::heading::Callee;
 use crate::operands::{Operands, Order, Target};
-use crate::refusal::{mismatch, not_mutable, unknown_name};
+use crate::refusal::{mismatch, not_mutable, unbuilt, unknown_name};
 use crate::scope::{Found, Variable, find_variable};
 use crate::typed::{TypedExpr, TypedNode};
-use crate::types::{bool_ty, fits, is_signed_ty, is_updated, operation_ty, same_ty, unit_ty};
-use built_trees::{Expr, ExprNode};
+use crate::types::{fits, is_signed_ty, is_updated, operation_ty, same_ty};
 use logic_term::{BinaryOp, IntKind, LazyOp, Ty, TyNode};
+use source_trees::{Expr, ExprNode, Segment};
 use std::alloc::Global;
 use text_core::{Name, NoMemory, PassError, Span};
 
@@ -97,7 +97,7 @@ pub(crate) fn literal(
 }
 
 #[tactic(auto, unfolding(crate::specs::Typing::variable))]
-pub(crate) fn variable(
+fn variable(
     alloc: Global,
     scope: &[Variable],
     expected: &Option<Ty>,
@@ -113,6 +113,22 @@ pub(crate) fn variable(
             fit(alloc, expected, span, ty, span, node)
         }
         None => Err(unknown_name(span)),
+    }
+}
+
+/// A path that is a name alone.
+pub(crate) fn named(
+    alloc: Global,
+    scope: &[Variable],
+    expected: &Option<Ty>,
+    span: Span,
+    name: Option<Segment>,
+) -> Result<TypedExpr, PassError>
+    ensures { Answers result (named scope.now expected.now span name) }
+{
+    match name {
+        None => Err(unbuilt(span)),
+        Some(name) => variable(alloc, scope, expected, span, name.name),
     }
 }
 
@@ -146,7 +162,7 @@ pub(crate) fn negated(
 pub(crate) fn is_bare(e: &Expr) -> bool
     ensures { result ≡ is_bare e.now }
 {
-    matches!(&e.node, ExprNode::Int(_, None))
+    matches!(&*e.node, ExprNode::Int(_, None))
 }
 
 #[tactic(auto, unfolding(crate::specs::Typing::operated))]
@@ -166,16 +182,6 @@ pub(crate) fn operated(
     let node = TypedNode::Binary(op, left, right);
     let span = spans.operator;
     fit(alloc, expected, spans.whole, ty, span, node)
-}
-
-/// The name that the expression is, if it is one.
-pub(crate) fn as_name(e: &Expr) -> Option<Name>
-    ensures { result ≡ as_name e.now }
-{
-    match &e.node {
-        ExprNode::Name(name) => Some(*name),
-        _ => None,
-    }
 }
 
 /// The type of what is assigned to, as one that the right side is checked against.
@@ -199,7 +205,7 @@ pub(crate) fn assigned(
 ) -> Result<TypedExpr, PassError>
     ensures { Answers result (assigned expected.now span left target value) }
 {
-    let ty = unit_ty(alloc);
+    let ty = Ty::unit(alloc);
     match target {
         Target::Variable(found) => {
             let node = TypedNode::Assign(found.place, value);
@@ -240,7 +246,7 @@ pub(crate) fn updated(
     if !is_target_updated(op, &target) {
         return Err(mismatch(spans.first));
     }
-    let ty = unit_ty(alloc);
+    let ty = Ty::unit(alloc);
     let span = spans.operator;
     match target {
         Target::Variable(found) => {
@@ -286,7 +292,7 @@ pub(crate) fn truth(
     ensures { Answers result (fit expected.now span (tree.truth bool span holds)) }
 {
     let node = TypedNode::Truth(holds);
-    let ty = bool_ty();
+    let ty = Ty::bool();
     fit(alloc, expected, span, ty, span, node)
 }
 
@@ -299,7 +305,7 @@ pub(crate) fn denied(
     ensures { Answers result (fit expected.now span (tree.denied bool span operand)) }
 {
     let node = TypedNode::Not(operand);
-    let ty = bool_ty();
+    let ty = Ty::bool();
     fit(alloc, expected, span, ty, span, node)
 }
 
@@ -314,7 +320,7 @@ pub(crate) fn lazy(
     ensures { Answers result (fit expected.now span (tree.lazy bool span op left right)) }
 {
     let node = TypedNode::Lazy(op, left, right);
-    let ty = bool_ty();
+    let ty = Ty::bool();
     fit(alloc, expected, span, ty, span, node)
 }
 
@@ -329,7 +335,7 @@ pub(crate) fn branch(
     ensures { Answers result (fit expected.now span (tree.branch unit span condition body)) }
 {
     let node = TypedNode::If(condition, body);
-    let ty = unit_ty(alloc);
+    let ty = Ty::unit(alloc);
     fit(alloc, expected, span, ty, span, node)
 }
 
@@ -359,7 +365,7 @@ pub(crate) fn repeat(
     ensures { Answers result (fit expected.now span (tree.repeat unit span invariants.items condition body)) }
 {
     let node = TypedNode::While(invariants, condition, body);
-    let ty = unit_ty(alloc);
+    let ty = Ty::unit(alloc);
     fit(alloc, expected, span, ty, span, node)
 }
 
@@ -377,10 +383,10 @@ pub(crate) fn order_of(
     if let Some(ty) = expected
         && arithmetic
     {
-        return Ok(Order::Against(Some(ty.copy(alloc)?)));
+        return Ok(Order::Against(ty.copy(alloc)?));
     }
     Ok(match (first, second) {
-        (true, true) => Order::Against(Some(Ty::int(IntKind::I32))),
+        (true, true) => Order::Against(Ty::int(IntKind::I32)),
         (true, false) => Order::SecondGives,
         (false, _) => Order::FirstGives,
     })

@@ -4,7 +4,8 @@ use Rattle.logic_term.specs.declared.obligation.Contract.{Contract}
 use Rattle.logic_term.specs.declared.obligation.Obligation.{Obligation}
 use Rattle.mir_ir.specs.declared.body.Body.{Body}
 use Rattle.mir_ir.specs.declared.body.Initialised.{Initialised}
-use Rattle.logic_term.specs.Sort.{Declarations}
+use Rattle.logic_term.specs.Obligations.{IsTrueObligation}
+use Rattle.logic_term.specs.Theory.{Theory, nothing_declared}
 use Rattle.logic_term.specs.Ty.{Tys}
 use Rattle.mir_machine.specs.Good.{Each, Good, IsProper, called}
 use Rattle.mir_machine.specs.Step.{Stuck, after as state_after}
@@ -17,7 +18,6 @@ use Rattle.prophecy_sim.proofs.GoodBody.{good as true_makes_good}
 use Rattle.proof_kernel.specs.declared.sequent.Sequent.{Sequent}
 use Rattle.proof_kernel.specs.Derivation.{Derives, no_step, one_step, IsProof}
 use Rattle.proof_kernel.specs.Progress.{Progress}
-use Rattle.proof_kernel.specs.Sequent.{IsTrueObligation}
 use Rattle.proof_kernel.proofs.Derived.{proof_is_sound}
 use Rattle.proof_text.specs.declared.proof.NumberedStep.{NumberedStep}
 use Rattle.proof_text.specs.declared.proof.Proof.{Proof}
@@ -32,7 +32,7 @@ use Rattle.std.specs.Prelude.{Ok}
 use Rattle.verify_core.specs.declared.goals.FunctionGoals.{FunctionGoals}
 use Rattle.verify_core.specs.declared.program.Program.{Program}
 use Rattle.verify_core.specs.Prepared.{IsPrepared, AreGoalsOf, HaveGoals, gone_of, program_of}
-use Rattle.verify_core.specs.Verdict.{no_types, Runs, IsAccepted, Settles, HasDerivation, Tells, IsVerified, IsVerdict}
+use Rattle.verify_core.specs.Verdict.{Runs, IsAccepted, Settles, HasDerivation, Tells, IsVerified, IsVerdict}
 use Rattle.verify_core.proofs.Assembly.{sound, functions}
 use Rattle.verify_core.proofs.ReachLaws.{within, got}
 
@@ -60,8 +60,8 @@ derived {l = l} {ns = n ∷ ns} (Runs.more {k = k} {m = m} does rest) =
 pub accepted_is_proof : (o : Obligation) (steps : List NumberedStep) → IsAccepted o steps → IsProof o (map (λ n. n.step) steps)
 accepted_is_proof o steps accepted = subst (λ (qs : List Sequent). Derives 1 (_) (map (λ n. n.step) steps) qs) accepted.closed (derived accepted.runs)
 
-pub settled_is_true : (ps : List Proof) (o : Obligation) → Settles ps o None → IsTrueObligation no_types o
-settled_is_true ps o (Settles.proved {p = p} found accepted) = proof_is_sound no_types o (map (λ n. n.step) p.steps) (accepted_is_proof o p.steps accepted)
+pub settled_is_true : (ps : List Proof) (o : Obligation) → Settles ps o None → IsTrueObligation nothing_declared o
+settled_is_true ps o (Settles.proved {p = p} found accepted) = proof_is_sound nothing_declared o (map (λ n. n.step) p.steps) (accepted_is_proof o p.steps accepted)
 
 -- ---- what true obligations are worth
 
@@ -75,9 +75,9 @@ goals_at bs cs gones gs have as_many n b c is_b is_c =
     let same_contract : h.contract ≡ c = some_same (sym h.is_contract ∙ is_c) in
     (found.0, found.1, subst (λ (d : Contract). AreGoalsOf cs b d (gone_of gones n) found.0) same_contract (subst (λ (a : Body). AreGoalsOf cs a h.contract (gone_of gones n) found.0) same_body h.goals))
 
-true_goals : (ps : List Proof) (os : List Obligation) → Each (HasDerivation ps) os → Each (sim.IsTrueGoal no_types) os
+true_goals : (ps : List Proof) (os : List Obligation) → Each (HasDerivation ps) os → Each (IsTrueObligation nothing_declared) os
 true_goals ps [] each = tt
-true_goals ps (o ∷ os) (has, each) = (proof_is_sound no_types o (map (λ n. n.step) has.proof.steps) has.derives, true_goals ps os each)
+true_goals ps (o ∷ os) (has, each) = (proof_is_sound nothing_declared o (map (λ n. n.step) has.proof.steps) has.derives, true_goals ps os each)
 
 verified_at : (ps : List Proof) (bodies : List Body) (goals : List FunctionGoals) (f : ℕ) (flag : Bool) → Tells flag (IsVerified ps bodies goals f) → flag ≡ true → IsVerified ps bodies goals f
 verified_at ps bodies goals f true tells e = tells
@@ -87,19 +87,19 @@ lowering : (source : List ℕ) (p : Program) → (prepared : IsPrepared source p
 lowering source p prepared = record { lowers = prepared.lowers; fits = typed_program_fits prepared.is_typed.items prepared.typed prepared.is_typed.is_typed }
 
 -- no proper call of a function of an accepted source is stuck
-pub accepted_is_never_stuck : (source : List ℕ) (p : Program) → IsPrepared source p → (Δ : Declarations) (f : ℕ) (θ : Tys) (args held : List (Tree (Unit {0}))) (b : Body) (met : List Met) → IsProper Δ p.bodies.bodies f θ args held b met
+pub accepted_is_never_stuck : (source : List ℕ) (p : Program) → IsPrepared source p → (Θ : Theory) (f : ℕ) (θ : Tys) (args held : List (Tree (Unit {0}))) (b : Body) (met : List Met) → IsProper Θ p.bodies.bodies f θ args held b met
     → (n : ℕ) → state_after p.bodies.bodies n (called b f θ args held) ≡ Stuck → ⊥
-accepted_is_never_stuck source p prepared Δ f θ args held b met proper n =
-    never_stuck Δ p.bodies.bodies (sound p.names prepared.typed.functions p.bodies.bodies p.contracts prepared.gones (lowering source p prepared)) f θ args held b met proper n
+accepted_is_never_stuck source p prepared Θ f θ args held b met proper n =
+    never_stuck Θ p.bodies.bodies (sound p.names prepared.typed.functions p.bodies.bodies p.contracts prepared.gones (lowering source p prepared)) f θ args held b met proper n
 
 -- each function that the verdict lists as verified is good for its contract
 pub verified_is_good : (source : List ℕ) (p : Program) (ps : List Proof) (v : Verdict) → IsPrepared source p → IsVerdict ps p.bodies.bodies p.functions v
-    → (f : ℕ) (line : FnLine) (c : Contract) → slice_get v.functions f ≡ Some line → line.verified ≡ true → slice_get p.contracts f ≡ Some c → Good no_types p.bodies.bodies f c
+    → (f : ℕ) (line : FnLine) (c : Contract) → slice_get v.functions f ≡ Some line → line.verified ≡ true → slice_get p.contracts f ≡ Some c → Good nothing_declared p.bodies.bodies f c
 verified_is_good source p ps v prepared verdict f line c is_line verified is_contract =
     let bodies : List Body = p.bodies.bodies in
     let lowers = lowering source p prepared in
     let all : IsVerified ps bodies p.functions f = verified_at ps bodies p.functions f line.verified (verdict.lines.told f line is_line) verified in
-    true_makes_good no_types (program_of bodies p.contracts prepared.gones) (sound p.names prepared.typed.functions bodies p.contracts prepared.gones lowers)
+    true_makes_good nothing_declared (program_of bodies p.contracts prepared.gones) (sound p.names prepared.typed.functions bodies p.contracts prepared.gones lowers)
     (functions p.names prepared.typed.functions bodies p.contracts prepared.gones lowers) f c is_contract
     (λ n b d reaches is_body is_d.
     let g = goals_at bodies p.contracts prepared.gones p.functions prepared.goals prepared.as_many n b d is_body is_d in

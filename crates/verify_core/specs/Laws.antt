@@ -4,7 +4,7 @@ use Rattle.logic_term.specs.declared.obligation.Contract.{Contract}
 use Rattle.logic_term.specs.declared.obligation.Obligation.{Obligation}
 use Rattle.mir_ir.specs.declared.body.Body.{Body}
 use Rattle.mir_ir.specs.declared.body.Initialised.{Initialised}
-use Rattle.logic_term.specs.Sort.{Declarations}
+use Rattle.logic_term.specs.Theory.{Theory}
 use Rattle.logic_term.specs.Ty.{Tys}
 use Rattle.mir_machine.specs.Good.{IsProper, called}
 use Rattle.mir_machine.specs.Step.{Stuck, after}
@@ -110,5 +110,5 @@ LeftHasNoDerivation = (ps : List Proof) (o : Obligation) (reason : Reason) → S
 -- of an accepted source: after a proper call of any function, verified or not, no state is stuck
 abbrev pub AcceptedIsNeverStuck : Type 0
 AcceptedIsNeverStuck =
-    (source : List ℕ) (p : Program) → IsPrepared source p → (Δ : Declarations) (f : ℕ) (θ : Tys) (args held : List (Tree (Unit {0}))) (b : Body) (met : List Met) → IsProper Δ p.bodies.bodies f θ args held b met
+    (source : List ℕ) (p : Program) → IsPrepared source p → (Θ : Theory) (f : ℕ) (θ : Tys) (args held : List (Tree (Unit {0}))) (b : Body) (met : List Met) → IsProper Θ p.bodies.bodies f θ args held b met
     → (n : ℕ) → after p.bodies.bodies n (called b f θ args held) ≡ Stuck → ⊥

@@ -3,7 +3,6 @@ use Rattle.std.specs.Prelude.{◌≡◌, ℕ, suc, ◌==◌, ◌&&◌, Bool, tru
 use Rattle.std.specs.List.{find}
 use Rattle.std.specs.Str.{bytes_eq}
 use Rattle.logic_term.specs.declared.obligation.Obligation.{Obligation}
-use Rattle.logic_term.specs.Sort.{Declarations}
 pub use Rattle.proof_kernel.specs.Accepts.{Does, begun}
 use Rattle.proof_kernel.specs.Progress.{Progress}
 use Rattle.proof_text.specs.declared.proof.NumberedStep.{NumberedStep}
@@ -18,10 +17,6 @@ use Rattle.mir_machine.specs.Good.{Each}
 use Rattle.proof_kernel.specs.Derivation.{IsProof}
 use Rattle.verify_core.specs.declared.goals.FunctionGoals.{FunctionGoals}
 use Rattle.prophecy_sim.specs.Programs.{Reaches}
-
--- no types are declared
-abbrev pub no_types : Declarations
-no_types = λ d n. None
 
 -- ---- one proof
 

@@ -10,7 +10,7 @@ use Rattle.logic_term.specs.Value.{Value, Number, Flag}
 use Rattle.logic_term.specs.Sort.{of_int}
 use Rattle.logic_term.specs.Term.{Term, var, lit, model, not, is_at_most, is_equal, and}
 use Rattle.logic_term.specs.Meaning.{Says, Decided, Structure, Env, with_value, Means, Holds, Yes}
-use Rattle.logic_term.proofs.Alike.{alike_same}
+use Rattle.logic_term.proofs.Alike.{alike_exactly, alike_same}
 use Rattle.logic_term.proofs.Coincide.{with_same}
 use Rattle.logic_term.proofs.Truth.{Exactly, Computes, computes_model, holds_and, holds_not, holds_at_most, holds_equal_exactly, yes_flag}
 use Rattle.wp_gen.specs.declared.command.Command.TheVariants.{Set, Fresh, Assume}
@@ -26,7 +26,7 @@ says_one P false true p q = absurd (p q)
 says_one P false false p q = refl
 
 pub says_exactly : (P : Type 0) (c : Bool) → Decided c P → Exactly (Says P) (Flag c)
-says_exactly P c d v = ((λ p. p.1 ∙ ap Flag (says_one P p.0 c p.2 d)), (λ e. (c, e, d)))
+says_exactly P c d = alike_exactly _ _ (λ v. ((λ p. p.1 ∙ ap Flag (says_one P p.0 c p.2 d)), (λ e. (c, e, d))))
 
 decided_not : (c : Bool) (P : Type 0) → P ↔ (c ≡ true) → Decided (flip c) (P → ⊥)
 decided_not true P e = λ n. n (e.1 refl)

@@ -5,6 +5,7 @@ use Rattle.text_core.specs.declared.name.Name.{Name}
 use Rattle.logic_term.specs.Meaning.{Structure, Env, with_value, Holds}
 use Rattle.logic_term.specs.Laws.{HasExactly}
 use Rattle.logic_term.specs.Sort.{HasSort, instance}
+use Rattle.logic_term.specs.Theory.{declared}
 use Rattle.logic_term.specs.Subst.{replaced}
 use Rattle.logic_term.specs.Term.{Term, implies, forall}
 use Rattle.logic_term.specs.Ty.{Ty}
@@ -26,7 +27,7 @@ before_all (c ∷ cs) φ = before c (before_all cs φ)
 
 pub data Moves (S : Structure) : Command → Env → Env → Type 0 where
   by_set : {x : Name} {t : Term} {ρ : Env} (w : Value) → HasExactly S t ρ w → Moves S (Set x t) ρ (with_value ρ x w)
-  by_fresh : {x : Name} {s : Ty} {ρ : Env} (w : Value) → HasSort S.declared w (instance S.types s) → Moves S (Fresh x s) ρ (with_value ρ x w)
+  by_fresh : {x : Name} {s : Ty} {ρ : Env} (w : Value) → HasSort (declared S.theory) w (instance S.types s) → Moves S (Fresh x s) ρ (with_value ρ x w)
   by_assume : {a : Term} {ρ : Env} → Holds S a ρ → Moves S (Assume a) ρ ρ
 
 pub data MovesAll (S : Structure) : List Command → Env → Env → Type 0 where

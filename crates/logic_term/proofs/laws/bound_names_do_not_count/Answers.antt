@@ -1,4 +1,4 @@
-use Rattle.logic_term.proofs.SubstLaw.{same_up_to_names_means}
+use Rattle.logic_term.proofs.CanonicalLaw.{same_up_to_names_means}
 use Rattle.logic_term.proofs.laws.bound_names_do_not_count.Goals as goal
 
 pub returns : goal.returns

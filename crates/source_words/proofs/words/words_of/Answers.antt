@@ -1,6 +1,7 @@
 use Rattle.std.proofs.Common.{◌≡◌, ◌<◌, ◌∙◌, arith}
 use Rattle.source_words.proofs.WordLists.{read_nothing, read_more}
-use Rattle.source_words.proofs.WordSteps.{utf8_of, state_of, gives_here, lexeme_here, all_here, names_here, only_here, bad_here, keeps_on, again_of}
+use Rattle.source_words.proofs.TokenLists.{utf8_of, state_of, gives_here, again_of}
+use Rattle.source_words.proofs.WordSteps.{lexeme_here, all_here, names_here, only_here, bad_here, keeps_on}
 use Rattle.source_words.proofs.words.words_of.Goals as goal
 
 pub loop-error-init : goal.loop-error-init

@@ -1,0 +1,63 @@
+-- What is asked among the parts of a line is found there.
+use Rattle.std.proofs.Common.{◌≡◌, ℕ, List, [], ◌∷◌, map, Some, None, ◌⊎◌, inl, inr, refl, arith}
+use Rattle.std.specs.Prelude.{Option, IsSome}
+use Rattle.pearlite.specs.declared.part.Part.{Part}
+use Rattle.pearlite.specs.declared.part.Value.{Value}
+use Rattle.pearlite.specs.declared.part.Value.TheVariants as V
+use Rattle.pearlite.specs.Parts.{as_type, as_pattern, as_path, as_term, this_or, first_of, behind_by, behind}
+use Rattle.pearlite.specs.Served.{Among, nothing, this, further}
+use Rattle.pearlite.specs.Asked.{a_type, a_pattern, a_path, a_term, family_of, family_in, IsFound}
+
+among_others : {f : ℕ} {fs gs : List ℕ} → Among (f ∷ fs) gs → Among fs gs
+among_others (this a) = further a
+among_others (further a) = further (among_others a)
+
+first_or_later : {f g : ℕ} {fs gs : List ℕ} → Among (f ∷ fs) (g ∷ gs) → (g ≡ f) ⊎ Among (f ∷ fs) gs
+first_or_later (this a) = inl refl
+first_or_later (further a) = inr a
+
+others_later : {f g : ℕ} {fs gs : List ℕ} → Among (f ∷ fs) (g ∷ gs) → Among fs gs
+others_later (this a) = a
+others_later (further a) = among_others a
+
+found : {A : Type 0} (seen : Value → Option A) (f : ℕ) → ((v : Value) → family_of v ≡ f → seen v ≡ None → ⊥) → IsFound seen f
+unfolding first_of behind
+found seen f knows fs [] h = elim h [ ]
+found {A} seen f knows fs (p ∷ ps) h = by (seen p.value) refl (found seen f knows fs ps)
+  where
+    by : (o : Option A) → seen p.value ≡ o → (Among (f ∷ fs) (map family_in ps) → IsSome (first_of seen ps) × Among fs (map family_in (behind seen ps)))
+        → IsSome (this_or o (first_of seen ps)) × Among fs (map family_in (behind_by o ps (behind seen ps)))
+    by (Some x) e others = (refl, others_later h)
+    by None e others = elim (first_or_later h) [ inl s ↦ absurd (knows p.value s e) | inr a ↦ others a ]
+
+pub type_found : IsFound as_type a_type
+unfolding as_type
+type_found = found as_type a_type knows
+  where
+    knows : (v : Value) → family_of v ≡ a_type → as_type v ≡ None → ⊥
+    knows (V.Type ty) s e = cc
+    knows v s e = omega arith
+
+pub pattern_found : IsFound as_pattern a_pattern
+unfolding as_pattern
+pattern_found = found as_pattern a_pattern knows
+  where
+    knows : (v : Value) → family_of v ≡ a_pattern → as_pattern v ≡ None → ⊥
+    knows (V.Pattern pattern) s e = cc
+    knows v s e = omega arith
+
+pub path_found : IsFound as_path a_path
+unfolding as_path
+path_found = found as_path a_path knows
+  where
+    knows : (v : Value) → family_of v ≡ a_path → as_path v ≡ None → ⊥
+    knows (V.Path path) s e = cc
+    knows v s e = omega arith
+
+pub term_found : IsFound as_term a_term
+unfolding as_term
+term_found = found as_term a_term knows
+  where
+    knows : (v : Value) → family_of v ≡ a_term → as_term v ≡ None → ⊥
+    knows (V.Term term) s e = cc
+    knows v s e = omega arith
