@@ -1,5 +1,5 @@
 -- The parts of lists are smaller than these, and the place in a list is that in its first part that has one.
-use Rattle.std.proofs.Common.{◌≡◌, ℕ, zero, suc, ◌<◌, ◌≤◌, ◌+◌, List, [], ◌∷◌, length, get_or, arith, refl, ap, Bool}
+use Rattle.std.proofs.Common.{◌≡◌, ℕ, zero, suc, ◌<◌, ◌≤◌, List, [], ◌∷◌, length, get_or, arith, refl, ap, Bool}
 use Rattle.text_core.specs.declared.name.Name.{Name}
 use Rattle.source_trees.specs.declared.types.TypeArgument.{TypeArgument}
 use Rattle.source_trees.specs.declared.types.TypeArgument.TheVariants as argument
@@ -19,8 +19,8 @@ use Rattle.source_trees.specs.Expr.{Expr}
 use Rattle.source_trees.specs.ExprView.{exprs_of, stmts_of, arms_of, field_exprs_of, expr_size, exprs_size, stmts_size, arms_size, field_exprs_size}
 use Rattle.source_forms.specs.declared.form.Form.{Form}
 use Rattle.source_forms.specs.declared.form.Form.TheVariants.{NamedType}
-use Rattle.source_forms.specs.Forms.{◌or_else◌, in_each}
-use Rattle.source_forms.specs.TypeForms.{named_form, unbuilt_type, unbuilt_types, unbuilt_arguments, unbuilt_argument}
+use Rattle.source_forms.specs.Forms.{◌or_else◌}
+use Rattle.source_forms.specs.TypeForms.{named_form, unbuilt_arguments, unbuilt_argument}
 
 pub named_with : (name : Name) (arguments : List TypeArgument) → 1 ≤ length arguments → named_form name (type_arguments_of arguments) ≡ NamedType
 named_with name [] h = absurd (omega arith)

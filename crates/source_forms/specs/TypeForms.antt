@@ -1,8 +1,7 @@
 -- Types and paths (Rust Reference, "Types", "Paths"): where the first form begins that is not in the set.
-use Rattle.std.specs.Prelude.{ℕ, ◌≤◌, Bool, true, false, List, [], ◌∷◌, Option, Some, None, nat_le, if◌then◌else◌}
+use Rattle.std.specs.Prelude.{ℕ, Bool, true, false, [], Option, None, nat_le, if◌then◌else◌}
 use Rattle.text_core.specs.declared.name.Name.{Name}
 use Rattle.text_core.specs.declared.name.TheConstants.{BOOL}
-use Rattle.source_trees.specs.declared.path.Path.{Path}
 use Rattle.source_trees.specs.declared.path.PathNode.{PathNode}
 use Rattle.source_trees.specs.declared.path.PathNode.TheVariants.{Names, Member, Qualified}
 use Rattle.source_trees.specs.declared.types.TypeArgument.{TypeArgument}

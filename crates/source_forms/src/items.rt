@@ -1,9 +1,9 @@
 //! Items.
 ghost use Rattle.std.specs.Prelude.{◌≡◌};
-ghost use Rattle.source_forms.specs.Forms.{is_among, here, in_some, in_each, ◌or_else◌};
+ghost use Rattle.source_forms.specs.Forms.{is_among, here, in_some, in_each};
 ghost use Rattle.source_trees.specs.declared.item.ItemNode.TheVariants as I;
 ghost use Rattle.source_forms.specs.ExprForms.{unbuilt_attribute};
-ghost use Rattle.source_forms.specs.ItemForms.{unbuilt_bound, unbuilt_generic, unbuilt_condition, unbuilt_body, unbuilt_function, unbuilt_method, unbuilt_field, unbuilt_fields, unbuilt_variant_fields, unbuilt_variant, impl_form, unbuilt_impl_item, unbuilt_impl, promises_of, unbuilt_node, unbuilt_item, first_unbuilt};
+ghost use Rattle.source_forms.specs.ItemForms.{unbuilt_bound, unbuilt_generic, unbuilt_condition, unbuilt_body, unbuilt_function, unbuilt_method, unbuilt_field, unbuilt_fields, unbuilt_variant, impl_form, unbuilt_impl_item, unbuilt_impl, promises_of, unbuilt_node, unbuilt_item, first_unbuilt};
 
 use crate::attributes::{unbuilt_attributes, unbuilt_params};
 use crate::expressions::{unbuilt_answer, unbuilt_expr};

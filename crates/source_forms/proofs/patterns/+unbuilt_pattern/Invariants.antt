@@ -1,4 +1,4 @@
-use Rattle.std.proofs.Common.{◌≡◌, ◌+◌, ◌*◌, drop}
+use Rattle.std.proofs.Common.{◌≡◌, ◌*◌, drop}
 use Rattle.source_trees.specs.PatView.{pats_of, field_pats_of, pat_size, pats_size, field_pats_size}
 use Rattle.source_forms.specs.Forms.{is_among}
 use Rattle.source_forms.specs.PatternForms.{unbuilt_patterns, unbuilt_fields}
