@@ -31,19 +31,19 @@ pub loop-token-preserved : goal.loop-token-preserved
 loop-token-preserved c =
     let h = next_left c.args.names.now c.loop-token.names c.args.bytes.now c.loop-token.words c.args.tokens.now c.loop-token.token-index (record { kind = T.Ident; span = record { start = 0; end = 0 } }) c.loop-token-test.true c.loop-token.invariant in
     rw c.in_ok-push.ensures.ok (one_less c.args.names.now c.loop-token.names c.args.bytes.now c.loop-token.words c.args.tokens.now c.requires.whole c.word_of.new.names c.in_ok-word.word _ _ h
-        c.word_of.ensures.kept c.word_of.ensures.new c.word_of.ensures.few c.in_ok-word.ensures.ok c.in_ok-word.ensures.only c.in_ok-word.ensures.table)
+    c.word_of.ensures.kept c.word_of.ensures.new c.word_of.ensures.few c.in_ok-word.ensures.ok c.in_ok-word.ensures.only c.in_ok-word.ensures.table)
 
 pub returns-clause-ok : goal.returns-clause-ok
 returns-clause-ok c =
     none_left c.args.names.now c.loop-token.names c.args.bytes.now c.loop-token.words c.args.tokens.now c.requires.whole
-        (no_more c.args.names.now c.loop-token.names c.args.bytes.now c.loop-token.words c.args.tokens.now c.loop-token.token-index c.loop-token-test.false c.loop-token.invariant)
+    (no_more c.args.names.now c.loop-token.names c.args.bytes.now c.loop-token.words c.args.tokens.now c.loop-token.token-index c.loop-token-test.false c.loop-token.invariant)
 
 pub returns-clause-only : goal.returns-clause-only
 returns-clause-only c =
     only_left c.args.names.now c.loop-token.names c.args.bytes.now c.loop-token.words c.args.tokens.now c.requires.whole
-        (no_more c.args.names.now c.loop-token.names c.args.bytes.now c.loop-token.words c.args.tokens.now c.loop-token.token-index c.loop-token-test.false c.loop-token.invariant)
+    (no_more c.args.names.now c.loop-token.names c.args.bytes.now c.loop-token.words c.args.tokens.now c.loop-token.token-index c.loop-token-test.false c.loop-token.invariant)
 
 pub returns-clause-names : goal.returns-clause-names
 returns-clause-names c =
     names_left c.args.names.now c.loop-token.names c.args.bytes.now c.loop-token.words c.args.tokens.now c.requires.whole
-        (no_more c.args.names.now c.loop-token.names c.args.bytes.now c.loop-token.words c.args.tokens.now c.loop-token.token-index c.loop-token-test.false c.loop-token.invariant)
+    (no_more c.args.names.now c.loop-token.names c.args.bytes.now c.loop-token.words c.args.tokens.now c.loop-token.token-index c.loop-token-test.false c.loop-token.invariant)
