@@ -1,10 +1,10 @@
 -- Each line of a term has what it asks of its parts: the grammar passes the test, by computation.
-use Rattle.std.proofs.Common.{◌≡◌, ℕ, ◌+◌, ◌<◌, zero, suc, Bool, true, false, List, [], ◌∷◌, length, map, get_or, nat_lt, nat_eq, Some, None, ◌⊎◌, inl, inr, refl, sym, ap, subst, ◌∙◌, true≢false, arith}
-use Rattle.std.specs.Prelude.{unwrap_or, Option}
+use Rattle.std.proofs.Common.{◌≡◌, ℕ, ◌<◌, zero, suc, Bool, true, false, List, [], ◌∷◌, length, map, get_or, nat_eq, Some, ◌⊎◌, inl, inr, refl, sym, subst, ◌∙◌, true≢false, arith}
+use Rattle.std.specs.Prelude.{unwrap_or}
 use Rattle.grammar_tables.specs.declared.symbol.Symbol.{Symbol}
 use Rattle.grammar_tables.specs.First.{is_in, all_of, each_from, grammar_with}
 use Rattle.grammar_tables.specs.Grammar.{Grammar}
-use Rattle.grammar_tables.specs.Trees.{Tree, option_list, values}
+use Rattle.grammar_tables.specs.Trees.{Tree, values}
 use Rattle.grammar_tables.specs.declared.symbol.Symbol.TheVariants.{Nonterminal}
 use Rattle.grammar_tables.proofs.LL1Test.{all_each, each_at, lt_less, or_cases, nat_eq_same}
 use Rattle.source_grammar.specs.Actions.{actions, several as severals, action_of, is_for_several}
@@ -19,7 +19,6 @@ use Rattle.source_grammar.proofs.Listed.{class_lists, listed}
 use Rattle.source_words.specs.declared.word.Word.{Word}
 use Rattle.pearlite.specs.declared.part.Part.{Part}
 use Rattle.pearlite.specs.declared.part.Value.{Value}
-use Rattle.pearlite.specs.declared.part.Value.TheVariants as V
 use Rattle.pearlite.specs.MakePatterns.{wildcard_made, mut_pattern_made, integer_pattern_made, truth_pattern_made, tuple_pattern_made, path_pattern_made, field_pattern_made}
 use Rattle.pearlite.specs.MakeTerms.{term_operation_made, prefix_term_made, term_member_made, integer_term_made, truth_term_made, answer_term_made, self_term_made, paren_term_made, path_term_made, field_term_made}
 use Rattle.pearlite.specs.MakeTerms.{if_term_made, match_term_made, term_arm_made, mut_ref_term_made, predicate_term_made, quantified_made, binder_made}
@@ -27,7 +26,7 @@ use Rattle.pearlite.specs.MakeTypes.{named_type_made, reference_type_made, tuple
 use Rattle.pearlite.specs.Meaning.{is_kept, value_made, shape_actions}
 use Rattle.pearlite.specs.Parts.{alone}
 use Rattle.pearlite.specs.Shapes.{shape_made}
-use Rattle.pearlite.specs.Served.{Among, Asks, AreThere, IsServed}
+use Rattle.pearlite.specs.Served.{Among, AreThere, IsServed}
 use Rattle.pearlite.specs.Asked.{a_type, a_pattern, a_pattern_field, a_path, a_term, a_term_field, an_arm, a_binder, a_suffix, family_of, family_in, asks_of, asks_by, asks_at, IsTermTree, EachPartIsThere, ATermIsThere}
 use Rattle.pearlite.proofs.Leaves.{leaves}
 use Rattle.pearlite.proofs.Serving.{Kind, kept, made, several, is_kept_by, is_among, leaves_of, is_fit, tree_has_all, tree_served}

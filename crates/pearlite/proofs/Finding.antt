@@ -1,11 +1,10 @@
 -- What is asked among the parts of a line is found there.
 use Rattle.std.proofs.Common.{◌≡◌, ℕ, List, [], ◌∷◌, map, Some, None, ◌⊎◌, inl, inr, refl, arith}
 use Rattle.std.specs.Prelude.{Option, IsSome}
-use Rattle.pearlite.specs.declared.part.Part.{Part}
 use Rattle.pearlite.specs.declared.part.Value.{Value}
 use Rattle.pearlite.specs.declared.part.Value.TheVariants as V
 use Rattle.pearlite.specs.Parts.{as_type, as_pattern, as_path, as_term, this_or, first_of, behind_by, behind}
-use Rattle.pearlite.specs.Served.{Among, nothing, this, further}
+use Rattle.pearlite.specs.Served.{Among, this, further}
 use Rattle.pearlite.specs.Asked.{a_type, a_pattern, a_path, a_term, family_of, family_in, IsFound}
 
 among_others : {f : ℕ} {fs gs : List ℕ} → Among (f ∷ fs) gs → Among fs gs

@@ -1,5 +1,5 @@
 -- A grammar whose lines pass a test have what they ask of their parts.
-use Rattle.std.proofs.Common.{◌≡◌, ℕ, ◌+◌, ◌<◌, ◌≤◌, suc, zero, Bool, true, false, not, ◌&&◌, ◌||◌, if◌then◌else◌, List, [], ◌∷◌, ◌++◌, length, map, get_or, nat_lt, nat_eq, Option, None, Some, refl, sym, ap, subst, ◌∙◌, ◌⊎◌, inl, inr, true≢false, append_assoc, append-nil, arith}
+use Rattle.std.proofs.Common.{◌≡◌, ℕ, ◌+◌, ◌<◌, suc, Bool, true, false, not, ◌&&◌, ◌||◌, if◌then◌else◌, List, [], ◌∷◌, ◌++◌, length, map, get_or, nat_lt, nat_eq, Option, None, Some, refl, sym, ap, subst, ◌∙◌, ◌⊎◌, inl, inr, true≢false, append_assoc, append-nil, arith}
 use Rattle.std.proofs.lemmas.List.{length-map}
 use Rattle.grammar_tables.specs.declared.symbol.Symbol.{Symbol}
 use Rattle.grammar_tables.specs.declared.symbol.Symbol.TheVariants.{Terminal, Nonterminal}
@@ -9,7 +9,7 @@ use Rattle.grammar_tables.specs.Grammar.Derives.{done, shift, expand}
 use Rattle.grammar_tables.specs.Trees.{Tree, Trees, leaf, node, none, both, IsTree, AreTrees, preorder, preorder_all, SemanticActions, values, all_values, folded, option_list, size, sizes}
 use Rattle.grammar_tables.specs.Trees.IsTree.{terminal, nonterminal}
 use Rattle.grammar_tables.specs.Trees.AreTrees.{all_none, all_both}
-use Rattle.grammar_tables.proofs.LL1Test.{and_left, and_right, or_cases, nat_eq_same, in_append, in_left, in_right}
+use Rattle.grammar_tables.proofs.LL1Test.{and_left, and_right, or_cases, nat_eq_same, in_left, in_right}
 use Rattle.pearlite.specs.Served.{Among, nothing, this, further, AreAll, last_of, Asks, AreThere, IsServed, AllServed}
 
 -- ---- lists of families

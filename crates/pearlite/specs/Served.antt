@@ -1,5 +1,5 @@
 -- What the lines of a grammar ask of their parts, by the families that these are of, and that it is there. Families are numbers.
-use Rattle.std.specs.Prelude.{◌≡◌, ℕ, ◌+◌, Bool, true, false, List, [], ◌∷◌, length, map, Option, None, Some}
+use Rattle.std.specs.Prelude.{◌≡◌, ℕ, ◌+◌, true, false, List, [], ◌∷◌, length, map, Option, None, Some}
 use Rattle.grammar_tables.specs.First.{is_in, first_some}
 use Rattle.grammar_tables.specs.Trees.{Tree, Trees, leaf, node, none, both, SemanticActions, all_values, size}
 
