@@ -10,7 +10,7 @@ use Rattle.logic_term.specs.Term.{negated, denied, arith as by_op, less, at_most
 use Rattle.logic_term.specs.Canonical.{canonical}
 use Rattle.logic_term.specs.Same.{same_term}
 use Rattle.logic_term.specs.Meaning.{Sure, Structure, Env, Means, Holds}
-use Rattle.logic_term.proofs.Alike.{alike_exactly, sure_map}
+use Rattle.logic_term.proofs.Alike.{alike_exactly, sure_map, to}
 use Rattle.logic_term.proofs.CanonicalLaw.{canonical_means}
 use Rattle.logic_term.proofs.SameLaw.{same_term_equal, equal_same_term}
 use Rattle.logic_term.proofs.Truth.{Exactly, holds_less, holds_at_most, holds_not, holds_equal_exactly}
@@ -81,29 +81,25 @@ module _ (S : Structure) (ρ : Env) where
   abbrev IsAt : Term → ℤ → Type 0
   IsAt t z = (v : Value) × Means S t ρ v × (integer_of v ≡ z)
 
-  of_canonical : (t : Term) (z : ℤ) → IsAt (canonical t) z → IsAt t z
-  of_canonical t z p = (p.0, (canonical_means S t ρ p.0).0 p.1, p.2)
+  of_canonical : (t : Term) (z : ℤ) → IsAt (canonical t) z → Sure (IsAt t z)
+  of_canonical t z p = sure_map _ _ (λ m. (p.0, m, p.2)) (to _ _ (canonical_means S t ρ) p.0 p.1)
 
-  sum_is : (ν : Term → ℤ) (t : Term) → Each (λ u. IsAt u (ν u)) (atoms_of t) → IsAt t (sum_at ν t)
+  sum_is : (ν : Term → ℤ) (t : Term) → Each (λ u. IsAt u (ν u)) (atoms_of t) → Sure (IsAt t (sum_at ν t))
   sum_is ν (apply (by_op Add) (and_term a (and_term b no_terms))) h =
       let p = each_both (λ u. IsAt u (ν u)) (atoms_of a) (atoms_of b) h in
-      let x = sum_is ν a p.0 in
-      let y = sum_is ν b p.1 in
-      (Number (integer_of x.0 +ℤ integer_of y.0), (x.0, y.0, x.1, y.1, refl), ap₂ (λ m n. m +ℤ n) x.2 y.2)
+      λ n. sum_is ν a p.0 (λ x. sum_is ν b p.1 (λ y.
+      n (Number (integer_of x.0 +ℤ integer_of y.0), (x.0, y.0, x.1, y.1, refl), ap₂ (λ m n. m +ℤ n) x.2 y.2)))
   sum_is ν (apply (by_op Sub) (and_term a (and_term b no_terms))) h =
       let p = each_both (λ u. IsAt u (ν u)) (atoms_of a) (atoms_of b) h in
-      let x = sum_is ν a p.0 in
-      let y = sum_is ν b p.1 in
-      (Number (integer_of x.0 -ℤ integer_of y.0), (x.0, y.0, x.1, y.1, refl), ap₂ (λ m n. m -ℤ n) x.2 y.2)
+      λ n. sum_is ν a p.0 (λ x. sum_is ν b p.1 (λ y.
+      n (Number (integer_of x.0 -ℤ integer_of y.0), (x.0, y.0, x.1, y.1, refl), ap₂ (λ m n. m -ℤ n) x.2 y.2)))
   sum_is ν (apply (by_op Mul) (and_term a (and_term b no_terms))) h =
       let p = each_both (λ u. IsAt u (ν u)) (atoms_of a) (atoms_of b) h in
-      let x = sum_is ν a p.0 in
-      let y = sum_is ν b p.1 in
-      (Number (integer_of x.0 *ℤ integer_of y.0), (x.0, y.0, x.1, y.1, refl), ap₂ (λ m n. m *ℤ n) x.2 y.2)
+      λ n. sum_is ν a p.0 (λ x. sum_is ν b p.1 (λ y.
+      n (Number (integer_of x.0 *ℤ integer_of y.0), (x.0, y.0, x.1, y.1, refl), ap₂ (λ m n. m *ℤ n) x.2 y.2)))
   sum_is ν (apply negated (and_term a no_terms)) h =
-      let x = sum_is ν a h in
-      (Number (neg_ℤ (integer_of x.0)), (x.0, x.1, refl), ap neg_ℤ x.2)
-  sum_is ν (lit z s) h = (Number z, refl, refl)
+      λ n. sum_is ν a h (λ x. n (Number (neg_ℤ (integer_of x.0)), (x.0, x.1, refl), ap neg_ℤ x.2))
+  sum_is ν (lit z s) h = λ n. n (Number z, refl, refl)
   sum_is ν t h = of_canonical t (ν (canonical t)) h.0
 
   exact : (t : Term) (z : ℤ) (p : IsAt t z) → Exactly (Means S t ρ) p.0
@@ -214,7 +210,7 @@ module _ (S : Structure) (ρ : Env) where
       let P : Term → Type 0 = λ u. IsAt u (ν u) in
       let here = each_both P (atoms_of d.upper ++ atoms_of d.lower) (atoms_of_rows ds) e in
       let sides = each_both P (atoms_of d.upper) (atoms_of d.lower) here.0 in
-      let row : pos 0 ≤ℤ row_at ν d = referred_gives ν q h n m.of d r.0 (sum_is ν d.upper sides.0, sum_is ν d.lower sides.1) in
+      let row : pos 0 ≤ℤ row_at ν d = stable_order _ (λ k. sum_is ν d.upper sides.0 (λ x. sum_is ν d.lower sides.1 (λ y. k (referred_gives ν q h n m.of d r.0 (x, y))))) in
       plus_not_negative (row_at ν d *ℤ m.by) (total (row_at ν) ds ms)
       (times_not_negative (row_at ν d) m.by row (g 0 m (omega arith)))
       (total_not_negative ν q h n ms ds r.1 (λ k x l. g (suc k) x (omega arith)) here.1)

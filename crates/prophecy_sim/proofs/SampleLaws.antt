@@ -380,10 +380,10 @@ true_obligations Θ = record {
     are_numbered = refl;
   };
   all_true = (
-    λ θ ρ. is_true _ (λ w sort. is_true _ (λ same. same)),
+    λ θ i ρ. is_true _ (λ w sort. is_true _ (λ same. same)),
     (
-      λ θ ρ. is_true _ (λ w sort. is_true _ (λ v fits. is_true _ (λ known. is_true _ (λ taken. is_true _ (λ no. absurd (none_is_both no)))))),
-      (λ θ ρ. is_true _ (λ w sort. is_true _ (λ v fits. is_true _ (λ known. is_true _ (λ left. left)))), tt),
+      λ θ i ρ. is_true _ (λ w sort. is_true _ (λ v fits. is_true _ (λ known. is_true _ (λ taken. is_true _ (λ no. absurd (none_is_both no)))))),
+      (λ θ i ρ. is_true _ (λ w sort. is_true _ (λ v fits. is_true _ (λ known. is_true _ (λ left. left)))), tt),
     ),
   );
 }
@@ -404,7 +404,7 @@ caller_true_obligations Θ = record {
     };
     are_numbered = refl;
   };
-  all_true = (λ θ ρ. is_true _ (λ w sort. is_true _ (λ v fits. is_true _ (λ known. known))), tt);
+  all_true = (λ θ i ρ. is_true _ (λ w sort. is_true _ (λ v fits. is_true _ (λ known. known))), tt);
 }
 
 pub sample_true : SampleIsTrue
