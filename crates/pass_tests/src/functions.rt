@@ -134,7 +134,7 @@ const BUILT: [(&'static [u8], usize); 3] = [
         2,
     ),
     (
-        b"#[requires(x@ > 0 ==> x@ < 3)] #[ensures(result@ == 4 || !(x == 1))] fn f(x: i8) -> i8 { #[invariant(x >= 0)] while x > 0 { x; } 4 }",
+        b"#[requires(x@ > 0 ==> x@ < 3)] #[ensures(result@ == 4 || !(x@ == 1))] fn f(x: i8) -> i8 { #[invariant(x@ >= 0)] while x > 0 { x; } 4 }",
         1,
     ),
 ];
