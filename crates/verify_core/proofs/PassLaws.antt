@@ -57,10 +57,10 @@ some_same e = cc
 
 -- ---- refusals
 
-pub source_refused : (source : List ℕ) (table : List (List ℕ)) (e : PassError) → table ≡ [] → IsSourceError table source e → RefusesSource source (refusal_of e)
-source_refused source table (errors.Source e) same is = IsRefused.by_form (subst (λ (t : List (List ℕ)). IsSourceError t source (errors.Source e)) same is)
-source_refused source table (errors.Limit l) same is = IsPastLimit.functions (subst (λ (t : List (List ℕ)). IsSourceError t source (errors.Limit l)) same is)
-source_refused source table errors.NoMemory same is = tt
+pub items_refused : (source : List ℕ) (table : List (List ℕ)) (e : PassError) → table ≡ [] → IsSourceError table source e → RefusesSource source (refusal_of e)
+items_refused source table (errors.Source e) same is = IsRefused.by_form (subst (λ (t : List (List ℕ)). IsSourceError t source (errors.Source e)) same is)
+items_refused source table (errors.Limit l) same is = IsPastLimit.functions (subst (λ (t : List (List ℕ)). IsSourceError t source (errors.Limit l)) same is)
+items_refused source table errors.NoMemory same is = tt
 
 pub has_items : (source : List ℕ) (old table : List (List ℕ)) (items : List Item) → old ≡ [] → SpellsBuilt old source items → functions_among items ≤ most_functions → GivesNames old source table → HasItems source table items
 has_items source old table items same spelled few gives = record {

@@ -1,11 +1,11 @@
 use Rattle.std.proofs.lemmas.Result.{err_from_is_err_and}
-use Rattle.verify_core.proofs.PassLaws.{source_refused, has_items, types_refused, typed_as}
+use Rattle.verify_core.proofs.PassLaws.{items_refused, has_items, types_refused, typed_as}
 use Rattle.verify_core.proofs.preparing.typed_source.Goals as goal
 
 pub returns-in_err-items-clause-refused : goal.returns-in_err-items-clause-refused
 returns-in_err-items-clause-refused c =
     let p = err_from_is_err_and c.from_residual.result c.from_residual.ensures.1 in
-    rw (p.1, p.2) (source_refused c.args.source.now c.args.names.now c.in_err-items.field-0.0 c.requires.empty c.in_err-items.ensures.refused)
+    rw (p.1, p.2) (items_refused c.args.source.now c.args.names.now c.in_err-items.field-0.0 c.requires.empty c.in_err-items.ensures.refused)
 
 pub returns-in_err-check-clause-refused : goal.returns-in_err-check-clause-refused
 returns-in_err-check-clause-refused c =
