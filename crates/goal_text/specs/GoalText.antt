@@ -3,8 +3,8 @@ use Rattle.std.specs.Prelude.{ℕ, ℤ, pos, negsuc, suc, ◌==◌, Bool, List, 
 use Rattle.std.specs.Fmt.{decimal}
 use Rattle.std.specs.List.{join_by}
 use Rattle.text_core.specs.declared.name.Name.{Name}
-use Rattle.logic_term.specs.declared.kinds.ArithOp.{ArithOp}
-use Rattle.logic_term.specs.declared.kinds.ArithOp.TheVariants.{Add, Sub, Mul, Div, Rem}
+use Rattle.source_kinds.specs.declared.kinds.ArithOp.{ArithOp}
+use Rattle.source_kinds.specs.declared.kinds.ArithOp.TheVariants.{Add, Sub, Mul, Div, Rem}
 use Rattle.logic_term.specs.declared.kinds.TermBinary.{TermBinary}
 use Rattle.logic_term.specs.declared.kinds.TermBinary.TheVariants as binary
 use Rattle.logic_term.specs.declared.kinds.Ctor.{Ctor}

@@ -4,7 +4,8 @@ ghost use Rattle.std.specs.Fmt.{decimal};
 ghost use Rattle.goal_text.specs.SortText.{kind_text, numbered, tuple_end};
 ghost use Rattle.goal_text.specs.GoalText.{arithmetic_sign, binary_sign};
 
-use logic_term::{ArithOp, IntKind, TermBinary};
+use logic_term::TermBinary;
+use source_kinds::{ArithOp, IntKind};
 use std::alloc::Global;
 use text_core::NoMemory;
 

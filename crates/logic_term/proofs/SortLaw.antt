@@ -1,8 +1,8 @@
 -- What the values of a sort are.
 use Rattle.std.proofs.Common.{◌≡◌, ℤ, true, subst}
-use Rattle.logic_term.specs.declared.kinds.IntKind.{IntKind}
+use Rattle.source_kinds.specs.declared.kinds.IntKind.{IntKind}
 use Rattle.logic_term.specs.Ty.{Ty, int}
-use Rattle.logic_term.specs.Range.{fits}
+use Rattle.source_kinds.specs.Range.{fits}
 use Rattle.logic_term.specs.Value.{Value, Number}
 use Rattle.logic_term.specs.Sort.{Declarations, HasSort}
 use Rattle.logic_term.proofs.SortParts.{parts}

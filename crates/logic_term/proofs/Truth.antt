@@ -2,7 +2,7 @@
 use Rattle.std.proofs.Common.{◌≡◌, ℤ, Bool, true, false, ◌↔◌, refl, sym, ◌∙◌, ap, ap₂, true≢false}
 use Rattle.std.specs.Prelude.{int_le, int_lt, neg_ℤ}
 use Rattle.text_core.specs.declared.name.Name.{Name}
-use Rattle.logic_term.specs.declared.kinds.ArithOp.{ArithOp}
+use Rattle.source_kinds.specs.declared.kinds.ArithOp.{ArithOp}
 use Rattle.logic_term.specs.Ty.{Ty}
 use Rattle.logic_term.specs.Value.{Value, Number, Flag, flag_of, integer_of}
 use Rattle.logic_term.specs.Term.{Term, truth, model, negative, not, calculate, is_less, is_at_most, is_equal, and, or, implies, forall}

@@ -5,7 +5,6 @@ pub mod Laws
 pub mod Meaning
 pub mod Normal
 pub mod Obligations
-pub mod Range
 pub mod Same
 pub mod Sort
 pub mod Subst

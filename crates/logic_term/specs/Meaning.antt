@@ -3,8 +3,8 @@
 use Rattle.std.specs.Prelude.{◌≡◌, ℕ, zero, suc, ℤ, pos, neg_ℤ, ◌+ℤ◌, ◌-ℤ◌, ◌*ℤ◌, int_div, int_rem, int_le, int_lt, Bool, true, false, cond, ◌==◌}
 use Rattle.std.specs.Ordering.{int_eq}
 use Rattle.text_core.specs.declared.name.Name.{Name}
-use Rattle.logic_term.specs.declared.kinds.ArithOp.{ArithOp}
-use Rattle.logic_term.specs.declared.kinds.ArithOp.TheVariants.{Add, Sub, Mul, Div, Rem}
+use Rattle.source_kinds.specs.declared.kinds.ArithOp.{ArithOp}
+use Rattle.source_kinds.specs.declared.kinds.ArithOp.TheVariants.{Add, Sub, Mul, Div, Rem}
 use Rattle.logic_term.specs.Ty.{Tys}
 use Rattle.logic_term.specs.Term.{Operator, modeled, negated, denied, arith, less, at_most, equal, both, either, implied, made, Quantifier, every, some, Term, Terms, var, lit, truth, apply, bind, no_terms, and_term, count}
 use Rattle.logic_term.specs.declared.kinds.Ctor.{Ctor}

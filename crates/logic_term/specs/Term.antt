@@ -1,7 +1,7 @@
 -- Terms and formulas, as contracts see them: a small core into which the variants of `TermNode` are viewed.
 use Rattle.std.specs.Prelude.{ℕ, suc, ℤ, Bool, true, false}
 use Rattle.text_core.specs.declared.name.Name.{Name}
-use Rattle.logic_term.specs.declared.kinds.ArithOp.{ArithOp}
+use Rattle.source_kinds.specs.declared.kinds.ArithOp.{ArithOp}
 use Rattle.logic_term.specs.declared.kinds.Ctor.{Ctor}
 use Rattle.logic_term.specs.declared.kinds.Ctor.TheVariants.{Tuple}
 use Rattle.logic_term.specs.Ty.{Ty}

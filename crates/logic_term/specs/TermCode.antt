@@ -7,7 +7,7 @@ use base.Stored.{Gv, gnil, gnum, gcons, num}
 use Rattle.text_core.specs.contracts.name.Name as name
 use Rattle.logic_term.specs.TyCode.{head, tail, tag, coded_ty}
 use Rattle.logic_term.specs.Term.{Operator, modeled, negated, denied, arith, less, at_most, equal, both, either, implied, made, Quantifier, every, some, Term, Terms, var, lit, truth, apply, bind, no_terms, and_term}
-use Rattle.logic_term.specs.contracts.kinds.ArithOp as arith_op
+use Rattle.source_kinds.specs.contracts.kinds.ArithOp as arith_op
 use Rattle.logic_term.specs.contracts.kinds.Ctor as ctor
 
 abbrev pub operator_code : Operator → Gv

@@ -4,9 +4,10 @@ ghost use Rattle.logic_term.specs.TermView.{terms_of};
 ghost use Rattle.logic_term.specs.TermOperator.{unary_operator, binary_operator};
 ghost use Rattle.logic_term.specs.Term.{apply, one, two, made, var, lit, truth, unit, model, negative, not, calculate, is_less, is_at_most, is_equal, and, or, implies, forall};
 
-use crate::kinds::{ArithOp, Ctor, TermBinary, TermUnary};
+use crate::kinds::{Ctor, TermBinary, TermUnary};
 use crate::term::{Sort, Term, TermNode};
 use crate::ty::Ty;
+use source_kinds::ArithOp;
 use std::alloc::Global;
 use text_core::{Name, NoMemory};
 

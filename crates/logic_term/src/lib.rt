@@ -14,8 +14,7 @@ mod ty;
 
 pub use declaration::{AdtDecl, FieldDecl, VariantDecl};
 pub use kinds::{
-    AdtId, ArithOp, BinaryOp, Comparison, Ctor, FnKind, IntKind, Label, Label2, LazyOp, LogicFn,
-    Region, TermBinary, TermUnary, TraitId, TyUnary,
+    AdtId, Ctor, FnKind, Label, Label2, LogicFn, Region, TermBinary, TermUnary, TraitId, TyUnary,
 };
 pub use laws::{
     bound_names_do_not_count, canonical_forms_keep_values, free_names_alone_count,

@@ -2,7 +2,8 @@ ghost use Rattle.std.specs.Prelude.{◌≡◌, ◌↔◌, IfOk, IsTrue};
 ghost use Rattle.logic_term.specs.Ty.{int, bool, math_int, unit_ty};
 ghost use Rattle.logic_term.specs.TyView.{IsSameBound, closure_of, compound_of};
 
-use crate::kinds::{AdtId, FnKind, IntKind, Region, TyUnary};
+use crate::kinds::{AdtId, FnKind, Region, TyUnary};
+use source_kinds::IntKind;
 use std::alloc::Global;
 use std::marker::Model;
 use text_core::NoMemory;

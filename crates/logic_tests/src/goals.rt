@@ -1,8 +1,8 @@
 use goal_text::goal_text;
 use logic_term::{
-    AdtId, ArithOp, CompoundTy, Ctor, FnBound, FnKind, IntKind, Region, Sort, Term, Ty, TyNode,
-    TyUnary,
+    AdtId, CompoundTy, Ctor, FnBound, FnKind, Region, Sort, Term, Ty, TyNode, TyUnary,
 };
+use source_kinds::{ArithOp, IntKind};
 use std::alloc::Global;
 use std::process::Abort;
 use std::test::Fail;

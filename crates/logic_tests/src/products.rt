@@ -1,5 +1,6 @@
-use logic_term::{ArithOp, Label2, Term, Ty};
+use logic_term::{Label2, Term, Ty};
 use proof_kernel::{LinAnswer, Multiple, Reference, Sequent, certifies};
+use source_kinds::ArithOp;
 use std::alloc::Global;
 use std::test::Fail;
 use text_core::{Items, Name, NoMemory};

@@ -1,5 +1,6 @@
-use logic_term::{ArithOp, IntKind, Label2, Sort, Term, Ty};
+use logic_term::{Label2, Sort, Term, Ty};
 use proof_kernel::{LinAnswer, Multiple, Reference, Sequent, certifies};
+use source_kinds::{ArithOp, IntKind};
 use std::alloc::Global;
 use std::test::Fail;
 use text_core::{Items, Name, NoMemory};

@@ -1,7 +1,8 @@
 ghost use Rattle.std.specs.Prelude.{◌≡◌, ◌+◌, ◌<◌, IfOk, OnOk};
 
-use logic_term::{IntKind, Label2, Obligation, Term, Ty};
+use logic_term::{Label2, Obligation, Term, Ty};
 use proof_kernel::{Kernel, Multiple, Reference, Step, StepError, Tables};
+use source_kinds::IntKind;
 use std::alloc::Global;
 use std::test::Fail;
 use text_core::{Items, Kind, Name, NoMemory, Span, Text};

@@ -1,4 +1,5 @@
-use logic_term::{AdtId, ArithOp, CompoundTy, Ctor, IntKind, Region, Term, Ty, TyNode, reduce};
+use logic_term::{AdtId, CompoundTy, Ctor, Region, Term, Ty, TyNode, reduce};
+use source_kinds::{ArithOp, IntKind};
 use std::alloc::Global;
 use std::test::Fail;
 use text_core::{Name, NoMemory};

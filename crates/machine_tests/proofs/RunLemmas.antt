@@ -3,12 +3,12 @@ use Rattle.std.proofs.Common.{◌≡◌, ◌∙◌, refl, sym, ap, subst, ℕ, z
 use Rattle.std.proofs.lemmas.Option.{same_Some}
 use Rattle.std.proofs.lemmas.Bool.{eqb-true}
 use Rattle.std.specs.Int.{w32}
-use Rattle.logic_term.specs.declared.kinds.BinaryOp.{BinaryOp}
-use Rattle.logic_term.specs.declared.kinds.IntKind.{IntKind}
+use Rattle.source_kinds.specs.declared.kinds.BinaryOp.{BinaryOp}
+use Rattle.source_kinds.specs.declared.kinds.IntKind.{IntKind}
 use Rattle.logic_term.specs.declared.kinds.Ctor.TheVariants.{Tuple}
-use Rattle.logic_term.specs.declared.kinds.IntKind.TheVariants.{I32}
+use Rattle.source_kinds.specs.declared.kinds.IntKind.TheVariants.{I32}
 use Rattle.logic_term.specs.declared.kinds.Label.{Label}
-use Rattle.logic_term.specs.Range.{fits}
+use Rattle.source_kinds.specs.Range.{fits}
 use Rattle.logic_term.specs.Sort.{instance}
 use Rattle.logic_term.specs.Theory.{Theory, declared, nothing_declared}
 use Rattle.logic_term.specs.Ty.{Ty, Tys, int, bool, no_tys, and_ty, unit_ty}

@@ -2,10 +2,10 @@
 use Rattle.std.specs.Prelude.{◌≡◌, ℕ, pos, true, List, [], ◌∷◌, Some, None, codes, slice_get}
 use Rattle.text_core.specs.declared.name.Name.{Name}
 use Rattle.text_core.specs.declared.span.Span.{Span}
-use Rattle.logic_term.specs.declared.kinds.BinaryOp.TheVariants.{Lt}
-use Rattle.logic_term.specs.declared.kinds.IntKind.TheVariants.{I32}
+use Rattle.source_kinds.specs.declared.kinds.BinaryOp.TheVariants.{Lt}
+use Rattle.source_kinds.specs.declared.kinds.IntKind.TheVariants.{I32}
 use Rattle.logic_term.specs.declared.kinds.Label.{Label}
-use Rattle.logic_term.specs.Range.{fits}
+use Rattle.source_kinds.specs.Range.{fits}
 use Rattle.logic_term.specs.Ty.{Ty, int, bool, no_tys, and_ty}
 use Rattle.mir_ir.specs.declared.place.Lit.TheVariants as lit
 use Rattle.mir_ir.specs.declared.place.Operand.TheVariants.{Copy, Move, Const}

@@ -2,11 +2,12 @@ ghost use Rattle.std.specs.Prelude.{◌≡◌, ◌<◌, ◌∷◌, [], None, IfO
 ghost use Rattle.mir_ir.specs.declared.terminator.TerminatorKind.TheVariants.{If};
 ghost use Rattle.machine_tests.specs.Walked.{block_of, body_of, whole, straight, branching, looping, calling, forking, IsForking};
 
-use logic_term::{ArithOp, BinaryOp, Contract, IntKind, Label, Obligation, Term, Ty, TyNode};
+use logic_term::{Contract, Label, Obligation, Term, Ty, TyNode};
 use mir_ir::{
     Block, Body, Callee, FnId, Head, Initialised, Lit, Operand, Place, Rvalue, Statement,
     StatementKind, Terminator, TerminatorKind,
 };
+use source_kinds::{ArithOp, BinaryOp, IntKind};
 use std::alloc::Global;
 use std::process::Abort;
 use std::test::Fail;

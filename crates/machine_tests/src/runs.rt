@@ -1,17 +1,18 @@
 ghost use Rattle.std.specs.Prelude.{◌≡◌, ◌<◌, [], ◌∷◌, IfOk};
-ghost use Rattle.logic_term.specs.Range.{fits};
+ghost use Rattle.source_kinds.specs.Range.{fits};
 ghost use Rattle.mir_ir.specs.WellFormed.{operation_ty, IsSigned, AreSound};
 ghost use Rattle.mir_ir.specs.declared.place.Operand.TheVariants.{Copy};
 ghost use Rattle.mir_machine.specs.Tree.{Int};
 ghost use Rattle.mir_machine.specs.Step.{whole};
 ghost use Rattle.machine_tests.specs.Run.{assigned, block_of, sample, absolute, calling, program, TakesOne};
 
-use logic_term::{BinaryOp, Ctor, Instance, IntKind, Label, Ty, TyNode};
+use logic_term::{Ctor, Instance, Label, Ty, TyNode};
 use mir_ir::{
     Block, Bodies, Body, Callee, FnId, Lit, Operand, Place, Rvalue, Statement, StatementKind,
     Terminator, TerminatorKind,
 };
 use mir_machine::{Args, Machine, NoIntrinsics, Outcome, Tree, TreeNode};
+use source_kinds::{BinaryOp, IntKind};
 use std::alloc::Global;
 use std::test::Fail;
 use text_core::{Cause, Items, Name, NoMemory, Span, Text};

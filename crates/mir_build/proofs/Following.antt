@@ -4,8 +4,8 @@ use Rattle.std.specs.List.{range_with_len}
 use Rattle.text_core.specs.declared.span.Span.{Span}
 use Rattle.logic_term.specs.Ty.{Ty}
 use Rattle.mir_ir.specs.declared.terminator.Terminator.{Terminator}
-use Rattle.logic_term.specs.declared.kinds.LazyOp.{LazyOp}
-use Rattle.logic_term.specs.declared.kinds.LazyOp.TheVariants.{And, Or}
+use Rattle.source_kinds.specs.declared.kinds.LazyOp.{LazyOp}
+use Rattle.source_kinds.specs.declared.kinds.LazyOp.TheVariants.{And, Or}
 use Rattle.mir_build.specs.Text.{Title, Line, Puts, Makes, Turns, Owns, made}
 use Rattle.mir_build.specs.Lowering.{numbers, paired, where_true, where_false}
 use Rattle.mir_build.proofs.Numbers.{count, makings, within, within_zero, within_split, within_one}

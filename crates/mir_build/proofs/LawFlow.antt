@@ -7,8 +7,8 @@ use Rattle.mir_ir.specs.declared.statement.Statement.{Statement}
 use Rattle.mir_ir.specs.declared.terminator.Terminator.{Terminator}
 use Rattle.mir_ir.specs.Layout.{among, targets, around_of}
 use Rattle.logic_term.specs.Ty.{Ty}
-use Rattle.logic_term.specs.declared.kinds.LazyOp.{LazyOp}
-use Rattle.logic_term.specs.declared.kinds.LazyOp.TheVariants as lazy_op
+use Rattle.source_kinds.specs.declared.kinds.LazyOp.{LazyOp}
+use Rattle.source_kinds.specs.declared.kinds.LazyOp.TheVariants as lazy_op
 use Rattle.std.specs.Prelude.{ℕ}
 use Rattle.type_check.specs.TypedExpr.{TypedExpr, TypedStmts, TypedExprs}
 use Rattle.text_core.specs.declared.span.Span.{Span}

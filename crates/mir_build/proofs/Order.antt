@@ -2,7 +2,7 @@
 use Rattle.std.proofs.Common.{◌≡◌, refl, ap, ◌∙◌, ℕ, ◌+◌, Bool, true, false, List, [], ◌∷◌, ◌++◌, subst, arith}
 use Rattle.std.specs.List.{range_with_len}
 use Rattle.text_core.specs.declared.span.Span.{Span}
-use Rattle.logic_term.specs.declared.kinds.LazyOp.TheVariants.{And, Or}
+use Rattle.source_kinds.specs.declared.kinds.LazyOp.TheVariants.{And, Or}
 use Rattle.type_check.specs.TypedExpr.{TypedExpr, TypedStmts, TypedExprs, integer, truth, variable, negative, denied, binary, lazy, assign, assign_value, update, update_value, call, block, branch, choice, repeat, done, last, bind, run, none, more}
 use Rattle.mir_build.specs.Text.{Line, Puts, Makes, Turns, Owns, made}
 use Rattle.mir_build.specs.Lowering.{Around, binds, dies_in, numbers}

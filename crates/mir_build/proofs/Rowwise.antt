@@ -1,8 +1,8 @@
 -- By the rows: how many labels a text's rows name, and how many blocks it begins.
 use Rattle.std.proofs.Common.{◌≡◌, refl, ℕ, ◌+◌, Bool, List, [], ◌∷◌, ◌++◌, length, length-append, arith}
 use Rattle.text_core.specs.declared.span.Span.{Span}
-use Rattle.logic_term.specs.declared.kinds.LazyOp.{LazyOp}
-use Rattle.logic_term.specs.declared.kinds.LazyOp.TheVariants.{And, Or}
+use Rattle.source_kinds.specs.declared.kinds.LazyOp.{LazyOp}
+use Rattle.source_kinds.specs.declared.kinds.LazyOp.TheVariants.{And, Or}
 use Rattle.type_check.specs.TypedExpr.{TypedExpr, TypedStmts, TypedExprs}
 use Rattle.mir_build.specs.Text.{Line}
 use Rattle.mir_build.specs.Lowering.{Around, where_true, where_false, Into, of_integer, of_truth, of_variable, of_negative, of_denied, of_binary, of_lazy, of_assign, of_assign_value, of_update, of_update_value, of_call, of_block, of_branch, of_choice, of_repeat, Rest, of_done, of_last, of_bind, of_run, Args, of_none, of_more, IntoBody, of_outermost, of_other, named, named_rest, named_args}

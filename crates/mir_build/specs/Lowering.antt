@@ -6,17 +6,17 @@ use Rattle.std.specs.List.{range_with_len}
 use Rattle.text_core.specs.declared.name.Name.{Name}
 use Rattle.text_core.specs.declared.span.Span.{Span}
 use Rattle.text_core.specs.Names.{text_of}
-use Rattle.logic_term.specs.declared.kinds.BinaryOp.{BinaryOp}
+use Rattle.source_kinds.specs.declared.kinds.BinaryOp.{BinaryOp}
 use Rattle.logic_term.specs.declared.kinds.Ctor.TheVariants.{Tuple}
-use Rattle.logic_term.specs.declared.kinds.IntKind.{IntKind}
+use Rattle.source_kinds.specs.declared.kinds.IntKind.{IntKind}
 use Rattle.logic_term.specs.declared.kinds.Label.{Label}
 use Rattle.logic_term.specs.declared.obligation.Contract.{Contract}
 use Rattle.logic_term.specs.declared.subst.Replacement.{Replacement}
 use Rattle.logic_term.specs.Subst.{above, subst}
 use Rattle.logic_term.specs.Term.{Term, var, truth}
 use Rattle.logic_term.specs.Ty.{Ty}
-use Rattle.logic_term.specs.declared.kinds.LazyOp.{LazyOp}
-use Rattle.logic_term.specs.declared.kinds.LazyOp.TheVariants as lazy_op
+use Rattle.source_kinds.specs.declared.kinds.LazyOp.{LazyOp}
+use Rattle.source_kinds.specs.declared.kinds.LazyOp.TheVariants as lazy_op
 use Rattle.type_check.specs.declared.program.ClauseKind.{ClauseKind}
 use Rattle.type_check.specs.declared.program.ClauseKind.TheVariants.{Requires, Ensures}
 use Rattle.mir_ir.specs.declared.place.Lit.{Lit}

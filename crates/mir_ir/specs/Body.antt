@@ -2,7 +2,7 @@
 use Rattle.std.specs.Prelude.{◌==◌, cond, List, [], ◌∷◌, drop, take, Option, Some, None, slice_get}
 use Rattle.std.specs.Option.{option_map}
 use Rattle.logic_term.specs.declared.kinds.Label.{Label}
-use Rattle.logic_term.specs.declared.kinds.IntKind.{IntKind}
+use Rattle.source_kinds.specs.declared.kinds.IntKind.{IntKind}
 use Rattle.logic_term.specs.Ty.{Ty, Tys, int}
 use Rattle.logic_term.specs.TyView.{tys_of}
 use Rattle.logic_term.specs.Sort.{instance, instances, nth_ty}

@@ -1,4 +1,4 @@
-use logic_term::IntKind;
+use source_kinds::IntKind;
 use text_core::Items;
 
 /// One part of a place's path.

@@ -1,5 +1,6 @@
 use crate::place::{Operand, Place};
-use logic_term::{BinaryOp, Ctor};
+use logic_term::Ctor;
+use source_kinds::BinaryOp;
 use text_core::{Items, Span};
 
 /// The right side of an assignment.

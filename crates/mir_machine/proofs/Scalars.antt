@@ -1,8 +1,8 @@
 -- An operator takes integers and truth values alone: what it does on the trees of its operands is what it does on those.
 use Rattle.std.proofs.Common.{◌≡◌, ◌∙◌, refl, ap, Result, ℕ, ℤ, Bool, List, Option, Some, None, slice_get}
 use Rattle.text_core.specs.declared.span.Span.{Span}
-use Rattle.logic_term.specs.declared.kinds.IntKind.{IntKind}
-use Rattle.logic_term.specs.declared.kinds.BinaryOp.{BinaryOp}
+use Rattle.source_kinds.specs.declared.kinds.IntKind.{IntKind}
+use Rattle.source_kinds.specs.declared.kinds.BinaryOp.{BinaryOp}
 use Rattle.mir_ir.specs.declared.place.Operand.{Operand}
 use Rattle.mir_ir.specs.declared.place.Operand.TheVariants.{Copy, Move, Const}
 use Rattle.mir_ir.specs.declared.statement.Rvalue.TheVariants.{Binary, Neg, Not}

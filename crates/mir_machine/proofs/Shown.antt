@@ -4,10 +4,10 @@ use Rattle.std.specs.Ordering.{int_eq}
 use Rattle.text_core.specs.declared.refusal.Cause.TheVariants.{Overflow, Division}
 use Rattle.text_core.specs.declared.span.Span.{Span}
 use Rattle.logic_term.specs.declared.kinds.Ctor.{Ctor}
-use Rattle.logic_term.specs.declared.kinds.IntKind.{IntKind}
-use Rattle.logic_term.specs.declared.kinds.BinaryOp.{BinaryOp}
-use Rattle.logic_term.specs.declared.kinds.BinaryOp.TheVariants.{Add, Sub, Mul, Div, Rem, Eq, Ne, Lt, Le, Gt, Ge}
-use Rattle.logic_term.specs.Range.{fits}
+use Rattle.source_kinds.specs.declared.kinds.IntKind.{IntKind}
+use Rattle.source_kinds.specs.declared.kinds.BinaryOp.{BinaryOp}
+use Rattle.source_kinds.specs.declared.kinds.BinaryOp.TheVariants.{Add, Sub, Mul, Div, Rem, Eq, Ne, Lt, Le, Gt, Ge}
+use Rattle.source_kinds.specs.Range.{fits}
 use Rattle.logic_term.specs.Ty.{Tys}
 use Rattle.logic_term.specs.Value.{Value, Values, Number, Flag, no_values, and_value, nothing, integer_of, flag_of}
 use Rattle.logic_term.specs.Value as value

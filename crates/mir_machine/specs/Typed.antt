@@ -3,9 +3,9 @@ use Rattle.std.specs.Prelude.{◌≡◌, ℕ, ℤ, Bool, true, false, List, [], 
 use Rattle.logic_term.specs.declared.kinds.AdtId.{AdtId}
 use Rattle.logic_term.specs.declared.kinds.Ctor.TheVariants.{Tuple, Variant, Closure}
 use Rattle.logic_term.specs.declared.kinds.FnKind.{FnKind}
-use Rattle.logic_term.specs.declared.kinds.IntKind.{IntKind}
+use Rattle.source_kinds.specs.declared.kinds.IntKind.{IntKind}
 use Rattle.logic_term.specs.declared.kinds.Region.{Region}
-use Rattle.logic_term.specs.Range.{fits}
+use Rattle.source_kinds.specs.Range.{fits}
 use Rattle.logic_term.specs.Sort.{Declarations, instances}
 use Rattle.logic_term.specs.Ty.{Ty, Tys, int, bool, tuple, adt, boxed, shared, unique, closure, no_tys, and_ty}
 use Rattle.mir_machine.specs.declared.spot.Spot.{Spot}

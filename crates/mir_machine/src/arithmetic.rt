@@ -1,7 +1,7 @@
 ghost use Rattle.std.specs.Prelude.{◌≡◌, ◌≢◌, ℤ, neg_ℤ, FitsSigned, not, int_div, int_rem};
 ghost use Rattle.std.specs.Int.{w128};
 ghost use Rattle.std.specs.Option.{SomeIff};
-ghost use Rattle.logic_term.specs.Range.{fits};
+ghost use Rattle.source_kinds.specs.Range.{fits};
 ghost use Rattle.mir_machine.specs.Tree.{Int, Truth};
 ghost use Rattle.mir_machine.specs.Halt.{Comes};
 ghost use Rattle.mir_machine.specs.Step.{fit, divide, arithmetic, of_integers, same_truth, of_truths, binary, negated, inverted, truth_of};
@@ -10,7 +10,7 @@ ghost use Rattle.mir_machine.specs.ScalarView.{scalar_tree};
 use crate::halt::Halt;
 use crate::scalar::Scalar;
 use crate::tree::{Tree, TreeNode};
-use logic_term::{BinaryOp, IntKind};
+use source_kinds::{BinaryOp, IntKind};
 use text_core::{Cause, Span};
 
 fn fits(kind: IntKind, z: i128) -> bool

@@ -17,11 +17,12 @@ use crate::halt::Halt;
 use crate::next::Next;
 use crate::operands::{move_out, put, take, take_all, take_scalar, take_truth};
 use crate::tree::{Tree, TreeNode, copy_trees};
-use logic_term::{Ctor, IntKind, Label, Ty, TyNode};
+use logic_term::{Ctor, Label, Ty, TyNode};
 use mir_ir::{
     Block, Bodies, Body, Callee, FnId, Operand, Place, Rvalue, Statement, StatementKind,
     TerminatorKind,
 };
+use source_kinds::IntKind;
 use std::alloc::Global;
 use std::mem;
 use text_core::{Items, NoMemory, Span};

@@ -1,10 +1,11 @@
 ghost use Rattle.std.specs.Prelude.{◌<◌};
 
-use logic_term::{BinaryOp, IntKind, Label, Term, Ty, TyNode};
+use logic_term::{Label, Term, Ty, TyNode};
 use mir_build::{Lowered, lower};
 use mir_ir::{
     Block, Body, Initialised, Rvalue, Statement, StatementKind, Terminator, TerminatorKind,
 };
+use source_kinds::{BinaryOp, IntKind};
 use std::alloc::Global;
 use std::process::Abort;
 use std::test::Fail;

@@ -1,9 +1,9 @@
 -- What is made of the parts of each line of terms (Creusot, "Pearlite"; Rust Reference, "Operator expressions"). A line has the tokens from `from` to before `to`.
 use Rattle.std.specs.Prelude.{ℕ, ℤ, pos, neg_ℤ, ◌-◌, nat_eq, if◌then◌else◌, List, [], ◌∷◌, Option, None, Some, unwrap_or}
 use Rattle.text_core.specs.declared.span.Span.{Span}
-use Rattle.logic_term.specs.declared.kinds.ArithOp.TheVariants as A
-use Rattle.logic_term.specs.declared.kinds.Comparison.TheVariants as C
-use Rattle.logic_term.specs.declared.kinds.IntKind.{IntKind}
+use Rattle.source_kinds.specs.declared.kinds.ArithOp.TheVariants as A
+use Rattle.source_kinds.specs.declared.kinds.Comparison.TheVariants as C
+use Rattle.source_kinds.specs.declared.kinds.IntKind.{IntKind}
 use Rattle.source_grammar.specs.Classes.{kind_of}
 use Rattle.source_grammar.specs.Terminals.{AndAnd, AtLeast, AtMost, CloseBrace, CloseParen, EqualEqual, Greater, Integer, KwTrue, Less, Minus, Not, NotEqual, OrOr, Percent, Plus, Slash, Star, WordExists}
 use Rattle.source_grammar.specs.Terminals.{WordPostcondition, WordPostconditionMut, WordPostconditionOnce}

@@ -10,8 +10,8 @@ use crate::parts::{next, place_of_next, skip};
 use crate::tokens::{
     is_before, number_of, segment_at, segment_before, span_from, word_at, word_before,
 };
-use logic_term::{ArithOp, Comparison, IntKind};
 use source_grammar::kinds;
+use source_kinds::{ArithOp, Comparison, IntKind};
 use source_trees::{BinaryTerm, Pterm, PtermNode, UnaryTerm};
 use source_words::Word;
 use std::alloc::Global;

@@ -2,7 +2,7 @@
 use Rattle.std.proofs.Common.{◌≡◌, ℕ, List, [], ◌∷◌, ◌++◌, ◌+◌, map, true, reverse, Some, refl, sym, ◌∙◌, ap, subst}
 use Rattle.text_core.specs.declared.name.Name.{Name}
 use Rattle.logic_term.specs.declared.kinds.Label2.{Label2}
-use Rattle.logic_term.specs.declared.kinds.IntKind.{IntKind}
+use Rattle.source_kinds.specs.declared.kinds.IntKind.{IntKind}
 use Rattle.logic_term.specs.Ty.{int}
 use Rattle.logic_term.specs.Term.{Term, is_conjunction}
 use Rattle.logic_term.specs.Canonical.{SameUpToNames}

@@ -3,7 +3,7 @@ use Rattle.std.proofs.Common.{◌≡◌, suc, Bool, true, false, cond, List, [],
 use Rattle.std.specs.Prelude.{ℤ, pos, negsuc, neg_ℤ, ◌+ℤ◌, ◌-ℤ◌, ◌*ℤ◌, ◌<ℤ◌, ◌≤ℤ◌, int_le, int_lt}
 use Rattle.std.proofs.lemmas.Int.{ints, by_lt_z}
 use Rattle.text_core.specs.declared.name.Name.{Name}
-use Rattle.logic_term.specs.declared.kinds.ArithOp.TheVariants.{Add, Sub, Mul}
+use Rattle.source_kinds.specs.declared.kinds.ArithOp.TheVariants.{Add, Sub, Mul}
 use Rattle.logic_term.specs.Ty.{Ty}
 use Rattle.logic_term.specs.Value.{Value, Number, integer_of}
 use Rattle.logic_term.specs.Term.{negated, denied, arith as by_op, less, at_most, equal, Term, lit, apply, no_terms, and_term}

@@ -3,7 +3,7 @@ use Rattle.std.proofs.Common.{◌≡◌, ◌≢◌, Bool, true, false, cond, Lis
 use Rattle.std.specs.Prelude.{ℤ, pos, neg_ℤ, ◌+ℤ◌, ◌-ℤ◌, ◌*ℤ◌}
 use Rattle.std.proofs.lemmas.Int.{ints}
 use Rattle.std.proofs.Math.IntN.{+ℤ_idl, +ℤ_idr, zero-*ℤ, *ℤ-zero}
-use Rattle.logic_term.specs.declared.kinds.ArithOp.TheVariants.{Add, Sub, Mul}
+use Rattle.source_kinds.specs.declared.kinds.ArithOp.TheVariants.{Add, Sub, Mul}
 use Rattle.logic_term.specs.Canonical.{canonical}
 use Rattle.logic_term.specs.Term.{negated, arith as by_op, Term, lit, apply, no_terms, and_term}
 use Rattle.proof_kernel.specs.declared.polynomial.Summand.{Summand}

@@ -1,7 +1,7 @@
 -- What a step gives is one list of premises.
 use Rattle.std.proofs.Common.{◌≡◌, ℕ, suc, ◌+◌, true, List, [], ◌∷◌, ◌++◌, map, Option, Some, refl, sym, ◌∙◌, ap, subst, add-one}
 use Rattle.text_core.specs.declared.name.Name.{Name}
-use Rattle.logic_term.specs.declared.kinds.IntKind.{IntKind}
+use Rattle.source_kinds.specs.declared.kinds.IntKind.{IntKind}
 use Rattle.logic_term.specs.Ty.{Ty, int}
 use Rattle.logic_term.specs.Term.{Term, var, is_conjunction}
 use Rattle.logic_term.specs.Canonical.{SameUpToNames}

@@ -4,9 +4,9 @@ use Rattle.std.specs.Prelude.{int_le}
 use Rattle.std.proofs.lemmas.Bool.Decides.{nat_tests}
 use Rattle.text_core.specs.declared.name.Name.{Name}
 use Rattle.logic_term.specs.declared.kinds.Label2.{Label2}
-use Rattle.logic_term.specs.declared.kinds.IntKind.{IntKind}
+use Rattle.source_kinds.specs.declared.kinds.IntKind.{IntKind}
 use Rattle.logic_term.specs.Ty.{Ty, int, math_int}
-use Rattle.logic_term.specs.Range.{lowest, highest}
+use Rattle.source_kinds.specs.Range.{lowest, highest}
 use Rattle.logic_term.specs.Value.{Value, Number, integer_of}
 use Rattle.logic_term.specs.Sort.{HasSort, instance}
 use Rattle.logic_term.specs.Theory.{declared}

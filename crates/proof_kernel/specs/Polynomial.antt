@@ -3,7 +3,7 @@
 use Rattle.std.specs.Prelude.{ℕ, suc, ◌==◌, ◌&&◌, Bool, List, [], ◌∷◌, ◌++◌, map, ℤ, pos, neg_ℤ, ◌+ℤ◌, ◌*ℤ◌, if◌then◌else◌, FitsSigned}
 use Rattle.std.specs.Int.{w128}
 use Rattle.std.specs.List.{list_all}
-use Rattle.logic_term.specs.declared.kinds.ArithOp.TheVariants.{Add, Sub, Mul}
+use Rattle.source_kinds.specs.declared.kinds.ArithOp.TheVariants.{Add, Sub, Mul}
 use Rattle.logic_term.specs.Canonical.{canonical}
 use Rattle.logic_term.specs.Same.{same_term}
 use Rattle.logic_term.specs.Term.{negated, arith, Term, lit, apply, no_terms, and_term}

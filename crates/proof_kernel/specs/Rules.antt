@@ -2,9 +2,9 @@
 use Rattle.std.specs.Prelude.{◌≡◌, ℕ, suc, ◌==◌, ◌||◌, ◌&&◌, Bool, true, false, List, [], ◌∷◌, ◌++◌, Option, Some, None, if◌then◌else◌}
 use Rattle.text_core.specs.declared.name.Name.{Name}
 use Rattle.logic_term.specs.declared.kinds.Label2.{Label2}
-use Rattle.logic_term.specs.declared.kinds.IntKind.{IntKind}
+use Rattle.source_kinds.specs.declared.kinds.IntKind.{IntKind}
 use Rattle.logic_term.specs.Ty.{Ty, math_int}
-use Rattle.logic_term.specs.Range.{lowest, highest}
+use Rattle.source_kinds.specs.Range.{lowest, highest}
 use Rattle.logic_term.specs.Term.{both, Term, var, lit, apply, no_terms, and_term, model, is_at_most, implies, forall, is_implication}
 use Rattle.logic_term.specs.Free.{free}
 use Rattle.logic_term.specs.Subst.{replaced}

@@ -4,11 +4,12 @@ ghost use Rattle.std.specs.Prelude.{◌≡◌, ◌++◌, [], ◌∷◌, pos, IfO
 ghost use Rattle.logic_term.specs.Canonical.{canonical};
 ghost use Rattle.logic_term.specs.Same.{same_term};
 ghost use Rattle.logic_term.specs.Term.{calculate, negative};
-ghost use Rattle.logic_term.specs.declared.kinds.ArithOp.TheVariants.{Add, Sub, Mul};
+ghost use Rattle.source_kinds.specs.declared.kinds.ArithOp.TheVariants.{Add, Sub, Mul};
 ghost use Rattle.proof_kernel.specs.Polynomial.{times, stands_in, same_monomial, summand, coefficient, with_summand, next_coefficient, plus, added, opposite_of, opposite, times_of, multiplied, products, polynomial, IsNarrowNumber, AddsNarrowly, AreNarrowSummands, IsNarrowTerm};
 ghost use Rattle.proof_kernel.specs.PolynomialCode.{place, IsNarrowProduct};
 
-use logic_term::{ArithOp, Term, TermBinary, TermNode, TermUnary};
+use logic_term::{Term, TermBinary, TermNode, TermUnary};
+use source_kinds::ArithOp;
 use std::alloc::Global;
 use text_core::{Items, NoMemory};
 

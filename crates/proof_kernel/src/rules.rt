@@ -1,6 +1,6 @@
 ghost use Rattle.std.specs.Prelude.{◌≡◌, ◌≢◌, ◌↔◌, ℕ, List, ◌∷◌, ◌++◌, ◌+◌, [], Some, IfOk, MatchOption, IsTrue, map, true, false};
 ghost use Rattle.logic_term.specs.Ty.{int};
-ghost use Rattle.logic_term.specs.declared.kinds.IntKind.{IntKind};
+ghost use Rattle.source_kinds.specs.declared.kinds.IntKind.{IntKind};
 ghost use Rattle.logic_term.specs.declared.kinds.Label2.{Label2};
 ghost use Rattle.logic_term.specs.Canonical.{SameUpToNames};
 ghost use Rattle.logic_term.specs.Term.{Term as Tree, is_conjunction, is_implication};
@@ -10,7 +10,8 @@ ghost use Rattle.proof_kernel.specs.Leads.{is_quantified, IsLead, IsOpened, IsSt
 ghost use Rattle.proof_kernel.specs.Rules.{hypothesis, sort_of, with_goal, conjuncts, lower_bound, upper_bound, ranged, declaring, Intros, TakesSome};
 
 use crate::sequent::{Sequent, hypothesis_of, sort_of_var};
-use logic_term::{IntKind, Label2, Sort, Term, TermNode, TyNode};
+use logic_term::{Label2, Sort, Term, TermNode, TyNode};
+use source_kinds::IntKind;
 use std::alloc::Global;
 use text_core::{Items, Name, NoMemory};
 

@@ -1,7 +1,7 @@
 -- A function is good where all obligations of the functions that it may reach are true.
 use Rattle.std.proofs.Common.{◌≡◌, ◌∙◌, refl, sym, ap, ap₂, subst, ℕ, suc, List, [], ◌∷◌, ◌++◌, length, take, drop, Some, slice_get, arith}
 use Rattle.std.proofs.lemmas.Option.{same_Some}
-use Rattle.logic_term.specs.declared.kinds.IntKind.{IntKind}
+use Rattle.source_kinds.specs.declared.kinds.IntKind.{IntKind}
 use Rattle.logic_term.specs.declared.obligation.Contract.{Contract}
 use Rattle.logic_term.specs.Meaning.{Env, Holds, structure_of}
 use Rattle.logic_term.specs.Sort.{Declarations, instance, instances}

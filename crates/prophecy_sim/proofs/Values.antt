@@ -2,9 +2,9 @@
 use Rattle.std.proofs.Common.{◌≡◌, ◌∙◌, refl, sym, ap, subst, ℕ, ◌==◌, ℤ, Bool, true, false, cond, List, Some, slice_get, arith}
 use Rattle.std.proofs.lemmas.Option.{slice_get_within}
 use Rattle.text_core.specs.declared.name.Name.{Name}
-use Rattle.logic_term.specs.declared.kinds.IntKind.{IntKind}
+use Rattle.source_kinds.specs.declared.kinds.IntKind.{IntKind}
 use Rattle.logic_term.specs.declared.kinds.Ctor.TheVariants.{Tuple}
-use Rattle.logic_term.specs.Range.{fits}
+use Rattle.source_kinds.specs.Range.{fits}
 use Rattle.logic_term.specs.Theory.{Theory}
 use Rattle.logic_term.specs.Ty.{Ty, int, bool, tuple, no_tys, unit_ty}
 use Rattle.logic_term.specs.Value.{Value, Number, Flag, Made, no_values}

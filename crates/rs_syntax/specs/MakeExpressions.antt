@@ -1,7 +1,7 @@
 -- What operands make (Rust Reference, "Literal expressions", "Path expressions", "Struct expressions", "return expressions", "Closure expressions", "Operator expressions").
 use Rattle.std.specs.Prelude.{ℕ, ◌+◌, ◌-◌, ℤ, neg_ℤ, Bool, true, false, if◌then◌else◌, List, [], ◌∷◌, Option, None, Some, get_or, slice_get}
 use Rattle.text_core.specs.declared.span.Span.{Span}
-use Rattle.logic_term.specs.declared.kinds.IntKind.{IntKind}
+use Rattle.source_kinds.specs.declared.kinds.IntKind.{IntKind}
 use Rattle.source_grammar.specs.Terminals.{StringLiteral, Integer, KwMove, KwMut, KwTrue, Minus, Star, Not, Comma, CloseBrace, WordUnreachable, WordSnapshot}
 use Rattle.source_words.specs.declared.word.Word.{Word}
 use Rattle.source_trees.specs.declared.operator.GhostMacro.TheVariants as G

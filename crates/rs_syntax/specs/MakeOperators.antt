@@ -1,9 +1,9 @@
 -- What operators make of their operands (Rust Reference, "Operator expressions"), and what attributes make of loops and closures.
 use Rattle.std.specs.Prelude.{ℕ, ◌-◌, ◌==◌, if◌then◌else◌, List, [], ◌∷◌, Option, None, Some, unwrap_or, reverse, false}
 use Rattle.text_core.specs.declared.span.Span.{Span}
-use Rattle.logic_term.specs.declared.kinds.BinaryOp.{BinaryOp}
-use Rattle.logic_term.specs.declared.kinds.BinaryOp.TheVariants as O
-use Rattle.logic_term.specs.declared.kinds.LazyOp.TheVariants as Z
+use Rattle.source_kinds.specs.declared.kinds.BinaryOp.{BinaryOp}
+use Rattle.source_kinds.specs.declared.kinds.BinaryOp.TheVariants as O
+use Rattle.source_kinds.specs.declared.kinds.LazyOp.TheVariants as Z
 use Rattle.source_grammar.specs.Classes.{kind_of}
 use Rattle.source_grammar.specs.Terminals.{EqualEqual, NotEqual, AtMost, AtLeast, AndAnd, OrOr, MinusEqual, StarEqual, SlashEqual, PercentEqual, Less, Greater, Equal, Minus, Star, Slash, Percent}
 use Rattle.source_words.specs.declared.word.Word.{Word}

@@ -10,9 +10,9 @@ use crate::found::{Found, exprs_in, first_expr, found_in, take_all, take_first};
 use crate::nodes::made;
 use crate::part::{Part, Suffix, Value, word_behind};
 use crate::places::segment_behind;
-use logic_term::IntKind;
 use pearlite::{NOWHERE, is_at, is_before, number_of, segment_at, span_from, unsigned, word_at};
 use source_grammar::kinds;
+use source_kinds::IntKind;
 use source_trees::{
     Expr, ExprNode, FieldExpr, GhostMacro, PanicMacro, Path, PathNode, Pterm, PtermNode, Segment,
     UnaryOp,

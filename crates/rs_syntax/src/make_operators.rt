@@ -4,9 +4,9 @@ ghost use Rattle.rs_syntax.specs.MakeOperators.{applied, assigned, assigning, as
 
 use crate::nodes::{made, nothing};
 use crate::part::{Part, Suffix, Value, next};
-use logic_term::{BinaryOp, LazyOp};
 use pearlite::{span_from, word_at, word_before};
 use source_grammar::kinds;
+use source_kinds::{BinaryOp, LazyOp};
 use source_trees::{Expr, ExprNode};
 use source_words::Word;
 use std::alloc::Global;

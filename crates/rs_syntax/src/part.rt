@@ -13,9 +13,9 @@ use crate::element::{Element, attribute_from, element_of_shape};
 use crate::found::Found;
 use crate::make_operators::computing;
 use crate::nodes::nothing;
-use logic_term::{BinaryOp, LazyOp};
 use pearlite::Value as Shape;
 pub(crate) use pearlite::{segment_at, span_from, word_at};
+use source_kinds::{BinaryOp, LazyOp};
 use source_trees::{
     AttributeNode, Bound, Condition, Expr, ExprNode, Field, FieldExpr, Function, GenericParam,
     ImplItem, Item, ItemNode, Method, Number, Param, Pat, Segment, Stmt, TypeTree, Variant,

@@ -1,8 +1,8 @@
 -- Expressions as they are written (Rust Reference, "Expressions", "Statements"): one constructor for each variant of `ExprNode`, after its span.
 use Rattle.std.specs.Prelude.{ℤ, Bool, Option, List}
 use Rattle.text_core.specs.declared.span.Span.{Span}
-use Rattle.logic_term.specs.declared.kinds.BinaryOp.{BinaryOp}
-use Rattle.logic_term.specs.declared.kinds.IntKind.{IntKind}
+use Rattle.source_kinds.specs.declared.kinds.BinaryOp.{BinaryOp}
+use Rattle.source_kinds.specs.declared.kinds.IntKind.{IntKind}
 use Rattle.source_trees.specs.declared.operator.PanicMacro.{PanicMacro}
 use Rattle.source_trees.specs.declared.operator.GhostMacro.{GhostMacro}
 use Rattle.source_trees.specs.declared.path.Number.{Number}
@@ -14,7 +14,7 @@ use Rattle.source_trees.specs.Pterm.{Pterm}
 use Rattle.source_trees.specs.declared.attribute.Attribute.{Attribute}
 use Rattle.source_trees.specs.declared.param.Param.{Param}
 use Rattle.source_trees.specs.declared.statement.StmtKind.{StmtKind}
-use Rattle.logic_term.specs.declared.kinds.LazyOp.{LazyOp}
+use Rattle.source_kinds.specs.declared.kinds.LazyOp.{LazyOp}
 use Rattle.source_trees.specs.declared.operator.UnaryOp.{UnaryOp}
 
 mutual

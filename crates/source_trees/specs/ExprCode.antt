@@ -3,9 +3,9 @@ use Rattle.std.specs.Prelude.{◌≡◌, ℕ}
 use Rattle.std.proofs.Common.{refl, ap, arith}
 use Rattle.std.specs.Coded.{Coded, coded_ℤ, coded_bool, coded_option, coded_list}
 use Rattle.text_core.specs.contracts.span.Span as span
-use Rattle.logic_term.specs.contracts.kinds.BinaryOp as binary_op
-use Rattle.logic_term.specs.contracts.kinds.IntKind as int_kind
-use Rattle.logic_term.specs.contracts.kinds.LazyOp as lazy_op
+use Rattle.source_kinds.specs.contracts.kinds.BinaryOp as binary_op
+use Rattle.source_kinds.specs.contracts.kinds.IntKind as int_kind
+use Rattle.source_kinds.specs.contracts.kinds.LazyOp as lazy_op
 use Rattle.source_trees.specs.contracts.path.Number as number
 use Rattle.source_trees.specs.contracts.path.Path as path_of
 use Rattle.source_trees.specs.contracts.path.Segment as segment

@@ -2,7 +2,7 @@
 use Rattle.std.specs.Prelude.{ℤ, Bool, Option}
 use Rattle.text_core.specs.declared.span.Span.{Span}
 use Rattle.source_trees.specs.declared.path.Segment.{Segment}
-use Rattle.logic_term.specs.declared.kinds.IntKind.{IntKind}
+use Rattle.source_kinds.specs.declared.kinds.IntKind.{IntKind}
 use Rattle.source_trees.specs.declared.path.Path.{Path}
 
 mutual

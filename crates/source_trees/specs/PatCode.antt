@@ -4,7 +4,7 @@ use Rattle.std.proofs.Common.{refl, ap, arith}
 use Rattle.std.specs.Coded.{Coded, coded_ℤ, coded_bool, coded_option}
 use Rattle.text_core.specs.contracts.span.Span as span
 use Rattle.source_trees.specs.contracts.path.Segment as segment
-use Rattle.logic_term.specs.contracts.kinds.IntKind as int_kind
+use Rattle.source_kinds.specs.contracts.kinds.IntKind as int_kind
 use Rattle.source_trees.specs.contracts.path.Path as path_of
 use base.Stored.{Gv, gnil, gnum, gcons, num}
 use Rattle.source_trees.specs.Pat.{Pat, any, mutable, integer, truth, tuple, path, parts, fields, Pats, none, more, FieldPats, no_fields, with_field}

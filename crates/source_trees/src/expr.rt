@@ -6,7 +6,7 @@ use crate::pattern::Pat;
 use crate::pterm::Pterm;
 use crate::statement::StmtKind;
 use crate::types::TypeTree;
-use logic_term::{BinaryOp, IntKind, LazyOp};
+use source_kinds::{BinaryOp, IntKind, LazyOp};
 use std::marker::Model;
 use text_core::{Items, Span};
 

@@ -1,4 +1,4 @@
-use logic_term::{ArithOp, Comparison};
+use source_kinds::{ArithOp, Comparison};
 
 /// The operators with one operand.
 #[derive(Clone, Copy)]

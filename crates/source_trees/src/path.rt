@@ -1,5 +1,5 @@
 use crate::types::TypeTree;
-use logic_term::IntKind;
+use source_kinds::IntKind;
 use text_core::{Items, Name, Span};
 
 /// A name in its place.

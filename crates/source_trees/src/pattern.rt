@@ -1,5 +1,5 @@
 use crate::path::{Path, Segment};
-use logic_term::IntKind;
+use source_kinds::IntKind;
 use std::marker::Model;
 use text_core::Span;
 

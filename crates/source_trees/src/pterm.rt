@@ -2,7 +2,7 @@ use crate::binder::Binder;
 use crate::operator::{BinaryTerm, Predicate, Quantifier, UnaryTerm};
 use crate::path::{Number, Path, Segment};
 use crate::pattern::Pat;
-use logic_term::IntKind;
+use source_kinds::IntKind;
 use std::marker::Model;
 use text_core::{Name, Span};
 

@@ -7,7 +7,7 @@ ghost use Rattle.rs_tokens.specs.Tokens.{continues_digits, base_named, base_of, 
 ghost use Rattle.source_words.specs.Words.{suffix_of};
 
 use crate::tables::found_in;
-use logic_term::IntKind;
+use source_kinds::IntKind;
 
 /// The types at the end of integers.
 const INT_KINDS: [(&str, IntKind); 10] = [

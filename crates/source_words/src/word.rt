@@ -1,4 +1,4 @@
-use logic_term::IntKind;
+use source_kinds::IntKind;
 use text_core::{Name, Span};
 
 /// A token of a source.

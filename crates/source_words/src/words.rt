@@ -15,8 +15,8 @@ ghost use Rattle.source_words.specs.Words.{bears_name, value_by, suffix_by, HasN
 use crate::integers::integer;
 use crate::kinds::kind_by;
 use crate::word::Word;
-use logic_term::IntKind;
 use rs_tokens::{Lexer, Token, TokenKind};
+use source_kinds::IntKind;
 use std::alloc::Global;
 use text_core::{Items, Name, Names, NoMemory, PassError};
 

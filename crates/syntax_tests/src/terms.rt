@@ -1,6 +1,6 @@
-use logic_term::{ArithOp, IntKind};
 use pearlite::{Cursor, parse_term};
 use source_grammar::kinds::{IDENTIFIER, INTEGER, LIFETIME, STATIC_LIFETIME, WORD_FORALL};
+use source_kinds::{ArithOp, IntKind};
 use source_trees::{BinaryTerm, Pterm, PtermNode, TypeArgument, TypeNode, UnaryTerm};
 use source_words::{Word, tokens_of, words_of};
 use std::alloc::Global;

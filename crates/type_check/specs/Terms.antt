@@ -4,12 +4,12 @@ use Rattle.std.specs.Prelude.{ℤ, Bool, true, false, List, Option, Some, None, 
 use Rattle.text_core.specs.declared.name.Name.{Name}
 use Rattle.text_core.specs.declared.refusal.SourceError.{SourceError}
 use Rattle.text_core.specs.declared.span.Span.{Span}
-use Rattle.logic_term.specs.declared.kinds.IntKind.{IntKind}
-use Rattle.logic_term.specs.Range.{fits}
+use Rattle.source_kinds.specs.declared.kinds.IntKind.{IntKind}
+use Rattle.source_kinds.specs.Range.{fits}
 use Rattle.logic_term.specs.Term.{Term, var, lit, truth as truth_term, model, negative as negative_term, not as not_term, calculate, is_less, is_at_most, is_equal, and as and_term, or as or_term, implies as implies_term}
 use Rattle.logic_term.specs.Ty.{Ty, int, bool, math_int}
-use Rattle.logic_term.specs.declared.kinds.Comparison.{Comparison}
-use Rattle.logic_term.specs.declared.kinds.Comparison.TheVariants.{Eq, Ne, Lt, Le, Gt, Ge}
+use Rattle.source_kinds.specs.declared.kinds.Comparison.{Comparison}
+use Rattle.source_kinds.specs.declared.kinds.Comparison.TheVariants.{Eq, Ne, Lt, Le, Gt, Ge}
 use Rattle.source_trees.specs.declared.operator.BinaryTerm.TheVariants.{Implies, Or, And, Compare, Calculate}
 use Rattle.source_trees.specs.declared.operator.UnaryTerm.TheVariants.{Neg, Not, View}
 use Rattle.source_trees.specs.declared.path.Segment.{Segment}

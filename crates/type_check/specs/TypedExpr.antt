@@ -1,10 +1,10 @@
 -- Expressions with types and resolved names: one constructor for each variant of `TypedNode`, after its type and its span.
 use Rattle.std.specs.Prelude.{ℕ, ℤ, Bool, List}
 use Rattle.text_core.specs.declared.span.Span.{Span}
-use Rattle.logic_term.specs.declared.kinds.BinaryOp.{BinaryOp}
-use Rattle.logic_term.specs.declared.kinds.IntKind.{IntKind}
+use Rattle.source_kinds.specs.declared.kinds.BinaryOp.{BinaryOp}
+use Rattle.source_kinds.specs.declared.kinds.IntKind.{IntKind}
 use Rattle.logic_term.specs.Ty.{Ty}
-use Rattle.logic_term.specs.declared.kinds.LazyOp.{LazyOp}
+use Rattle.source_kinds.specs.declared.kinds.LazyOp.{LazyOp}
 use Rattle.type_check.specs.declared.assertion.Assertion.{Assertion}
 
 mutual

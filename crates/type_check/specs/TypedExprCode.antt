@@ -3,10 +3,10 @@ use Rattle.std.specs.Prelude.{◌≡◌, ℕ}
 use Rattle.std.proofs.Common.{refl, ap, arith}
 use Rattle.std.specs.Coded.{Coded, coded_ℕ, coded_ℤ, coded_bool, coded_list}
 use Rattle.text_core.specs.contracts.span.Span as span
-use Rattle.logic_term.specs.contracts.kinds.BinaryOp as binary_op
-use Rattle.logic_term.specs.contracts.kinds.IntKind as int_kind
+use Rattle.source_kinds.specs.contracts.kinds.BinaryOp as binary_op
+use Rattle.source_kinds.specs.contracts.kinds.IntKind as int_kind
 use Rattle.logic_term.specs.TyCode.{coded_ty}
-use Rattle.logic_term.specs.contracts.kinds.LazyOp as lazy_op
+use Rattle.source_kinds.specs.contracts.kinds.LazyOp as lazy_op
 use Rattle.type_check.specs.contracts.assertion.Assertion as assertion
 use base.Stored.{Gv, gnil, gnum, gcons, num}
 use Rattle.type_check.specs.TypedExpr.{TypedExpr, integer, truth, variable, negative, denied, binary, lazy, assign, assign_value, update, update_value, call, block, branch, choice, repeat, TypedStmts, done, last, bind, run, TypedExprs, none, more}

@@ -15,7 +15,8 @@ use crate::scope::{Variable, find_variable};
 use crate::sorted::SortedTerm;
 use crate::types::{fits, is_bool, is_math_int, same_ty};
 use crate::written::name_alone;
-use logic_term::{Comparison, IntKind, Term, Ty, TyNode};
+use logic_term::{Term, Ty, TyNode};
+use source_kinds::{Comparison, IntKind};
 use source_trees::{
     Attribute, AttributeNode, BinaryTerm, ClauseKind, Pterm, PtermNode, Segment, UnaryTerm,
 };

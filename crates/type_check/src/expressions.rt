@@ -20,7 +20,8 @@ use crate::typing::{
     operated, order_of, param_ty, repeat, span_of, spans_at, target_ty, truth, updated,
 };
 use crate::written::{as_name, name_alone, step_of};
-use logic_term::{BinaryOp, LazyOp, Ty};
+use logic_term::Ty;
+use source_kinds::{BinaryOp, LazyOp};
 use source_trees::{Attribute, Expr, ExprNode, Segment, Stmt, UnaryOp};
 use std::alloc::Global;
 use text_core::{PassError, Span};

@@ -1,5 +1,6 @@
 use crate::assertion::Assertion;
-use logic_term::{BinaryOp, IntKind, LazyOp, Ty};
+use logic_term::Ty;
+use source_kinds::{BinaryOp, IntKind, LazyOp};
 use std::marker::Model;
 use text_core::Span;
 

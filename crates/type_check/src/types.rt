@@ -1,10 +1,11 @@
 ghost use Rattle.std.specs.Prelude.{◌≡◌};
-ghost use Rattle.logic_term.specs.Range.{fits};
+ghost use Rattle.source_kinds.specs.Range.{fits};
 ghost use Rattle.type_check.specs.Types.{same_ty, is_bool, is_math_int, is_signed_ty};
 ghost use Rattle.type_check.specs.Typing.{is_updated};
 ghost use Rattle.type_check.specs.WellTyped.{is_arithmetic, is_equality, operation_ty};
 
-use logic_term::{BinaryOp, IntKind, Ty, TyNode};
+use logic_term::{Ty, TyNode};
+use source_kinds::{BinaryOp, IntKind};
 
 /// Whether both are one type.
 pub(crate) fn same_ty(t: &Ty, u: &Ty) -> bool

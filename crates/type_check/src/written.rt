@@ -6,7 +6,8 @@ ghost use Rattle.type_check.specs.Written.{name_alone, as_name, named_type, writ
 use crate::refusal::unbuilt;
 use crate::scope::{Declared, Variable};
 use crate::statements::Step;
-use logic_term::{IntKind, Ty};
+use logic_term::Ty;
+use source_kinds::IntKind;
 use source_trees::{
     Expr, ExprNode, Param, ParamNode, Pat, PatNode, Path, PathNode, Segment, StmtKind, TypeNode,
     TypeTree,

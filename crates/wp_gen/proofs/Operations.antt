@@ -3,8 +3,8 @@ use Rattle.std.proofs.Common.{◌≡◌, ◌∙◌, ◌↔◌, refl, sym, ap, su
 use Rattle.std.specs.Prelude.{int_le, ◌&&◌}
 use Rattle.std.specs.Prelude.{not as flip}
 use Rattle.text_core.specs.declared.name.Name.{Name}
-use Rattle.logic_term.specs.declared.kinds.IntKind.{IntKind}
-use Rattle.logic_term.specs.Range.{lowest, highest, fits}
+use Rattle.source_kinds.specs.declared.kinds.IntKind.{IntKind}
+use Rattle.source_kinds.specs.Range.{lowest, highest, fits}
 use Rattle.logic_term.specs.Ty.{int, math_int}
 use Rattle.logic_term.specs.Value.{Value, Number, Flag}
 use Rattle.logic_term.specs.Sort.{of_int}

@@ -1,9 +1,9 @@
 -- Quotients stay in their type, but for the least integer divided by -1.
 use Rattle.std.proofs.Common.{◌≡◌, refl, ap, ℕ, zero, suc, ◌/◌, ◌%◌, ◌≤◌, ℤ, pos, negsuc, neg_ℤ, unsigned_abs, int_div, int_rem, true, arith}
 use Rattle.std.proofs.Math.Nat.{div-le_self, mod-le}
-use Rattle.logic_term.specs.declared.kinds.IntKind.{IntKind}
-use Rattle.logic_term.specs.declared.kinds.IntKind.TheVariants.{I8, I16, I32, I64, Isize, U8, U16, U32, U64, Usize}
-use Rattle.logic_term.specs.Range.{lowest, fits}
+use Rattle.source_kinds.specs.declared.kinds.IntKind.{IntKind}
+use Rattle.source_kinds.specs.declared.kinds.IntKind.TheVariants.{I8, I16, I32, I64, Isize, U8, U16, U32, U64, Usize}
+use Rattle.source_kinds.specs.Range.{lowest, fits}
 
 -- a natural number that is no greater
 smaller : (k : IntKind) (a m : ℕ) → m ≤ a → fits k (pos a) ≡ true → fits k (pos m) ≡ true

@@ -4,13 +4,13 @@ use Rattle.std.specs.Prelude.{ℕ, ◌+◌, ◌^◌, pos, negsuc, Bool, true, fa
 use Rattle.text_core.specs.declared.name.Name.{Name}
 use Rattle.text_core.specs.declared.span.Span.{Span}
 use Rattle.text_core.specs.declared.refusal.Kind.TheVariants.{Overflow, Division}
-use Rattle.logic_term.specs.declared.kinds.ArithOp.{ArithOp}
-use Rattle.logic_term.specs.declared.kinds.ArithOp.TheVariants as arith
-use Rattle.logic_term.specs.declared.kinds.BinaryOp.{BinaryOp}
-use Rattle.logic_term.specs.declared.kinds.BinaryOp.TheVariants.{Add, Sub, Mul, Div, Rem, Eq, Ne, Lt, Le, Gt, Ge}
-use Rattle.logic_term.specs.declared.kinds.IntKind.{IntKind}
-use Rattle.logic_term.specs.declared.kinds.IntKind.TheVariants.{I8, I16, I32, I64, Isize, U8, U16, U32, U64, Usize}
-use Rattle.logic_term.specs.Range.{lowest, highest}
+use Rattle.source_kinds.specs.declared.kinds.ArithOp.{ArithOp}
+use Rattle.source_kinds.specs.declared.kinds.ArithOp.TheVariants as arith
+use Rattle.source_kinds.specs.declared.kinds.BinaryOp.{BinaryOp}
+use Rattle.source_kinds.specs.declared.kinds.BinaryOp.TheVariants.{Add, Sub, Mul, Div, Rem, Eq, Ne, Lt, Le, Gt, Ge}
+use Rattle.source_kinds.specs.declared.kinds.IntKind.{IntKind}
+use Rattle.source_kinds.specs.declared.kinds.IntKind.TheVariants.{I8, I16, I32, I64, Isize, U8, U16, U32, U64, Usize}
+use Rattle.source_kinds.specs.Range.{lowest, highest}
 use Rattle.logic_term.specs.Term.{made, Term, var, lit, truth, apply, model, negative, not, calculate, is_less, is_at_most, is_equal, and}
 use Rattle.logic_term.specs.TermView.{terms_of}
 use Rattle.logic_term.specs.Ty.{Ty, int, bool, math_int}

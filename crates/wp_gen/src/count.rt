@@ -16,8 +16,9 @@ use crate::goal::Operation;
 use crate::head::among;
 use crate::row::{is_signed, kind_of_local, operation};
 use crate::walk::{Walk, body_number};
-use logic_term::{Contract, IntKind, Label};
+use logic_term::{Contract, Label};
 use mir_ir::{Block, Body, Head, Rvalue, Statement, StatementKind, TerminatorKind};
+use source_kinds::IntKind;
 
 /// The most obligations of a source.
 pub const OBLIGATIONS: u32 = 1_000_000;

@@ -1,4 +1,5 @@
-use logic_term::{ArithOp, Term};
+use logic_term::Term;
+use source_kinds::ArithOp;
 use text_core::{Kind, Span};
 
 /// A formula to be shown at a point of a body, and what it is for.

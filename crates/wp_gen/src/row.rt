@@ -6,8 +6,9 @@ ghost use Rattle.mir_ir.specs.Body.{kind_of, kind_in};
 ghost use Rattle.wp_gen.specs.Row.{value_name, name_of, operand_term, integer_term, in_range, is_signed, not_zero, not_least_by_minus_one, operation, division, overflow, if_signed, goals_of_operation, goals_of_kind, goals_of};
 
 use crate::goal::{Goal, Operation};
-use logic_term::{ArithOp, BinaryOp, IntKind, Term, Ty, TyNode};
+use logic_term::{Term, Ty, TyNode};
 use mir_ir::{Body, Lit, Operand, Rvalue, StatementKind};
+use source_kinds::{ArithOp, BinaryOp, IntKind};
 use std::alloc::Global;
 use text_core::{Kind, Name, NoMemory, Span};
 

@@ -9,8 +9,9 @@ use crate::goal::Operation;
 use crate::row::{
     integer_term, kind_of_local, name_of, operand_term, operand_terms, operation, value_name,
 };
-use logic_term::{ArithOp, BinaryOp, IntKind, Term, Ty, TyNode};
+use logic_term::{Term, Ty, TyNode};
 use mir_ir::{Body, Lit, Operand, Rvalue, StatementKind};
+use source_kinds::{ArithOp, BinaryOp, IntKind};
 use std::alloc::Global;
 use text_core::{Name, NoMemory};
 

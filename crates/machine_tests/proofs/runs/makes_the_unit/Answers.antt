@@ -1,5 +1,5 @@
 use Rattle.std.proofs.Common.{◌≡◌, pos, refl}
-use Rattle.logic_term.specs.declared.kinds.IntKind.TheVariants.{I32}
+use Rattle.source_kinds.specs.declared.kinds.IntKind.TheVariants.{I32}
 use Rattle.machine_tests.proofs.RunLemmas.{unit_samples, sample_takes}
 use Rattle.machine_tests.proofs.runs.makes_the_unit.Goals as goal
 

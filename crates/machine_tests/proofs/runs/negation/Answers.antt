@@ -1,5 +1,5 @@
 use Rattle.std.proofs.Common.{◌≡◌, true, rules}
-use Rattle.logic_term.specs.Range.{fits}
+use Rattle.source_kinds.specs.Range.{fits}
 use Rattle.mir_machine.specs.Tree.{Int}
 use Rattle.machine_tests.proofs.RunLemmas.{neg_samples, sample_takes}
 use Rattle.machine_tests.proofs.runs.negation.Goals as goal

@@ -1,7 +1,7 @@
 use Rattle.std.proofs.Common.{◌≡◌, FitsSigned, true, rules}
 use Rattle.std.proofs.lemmas.Int.{to_z-of_z}
 use Rattle.std.specs.Int.{w128}
-use Rattle.logic_term.specs.Range.{fits}
+use Rattle.source_kinds.specs.Range.{fits}
 use Rattle.mir_machine.specs.Tree.{Int}
 use Rattle.machine_tests.proofs.RunLemmas.{binary_samples, sample_takes}
 use Rattle.machine_tests.proofs.runs.operation.Goals as goal
