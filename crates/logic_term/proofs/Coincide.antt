@@ -1,23 +1,18 @@
 -- A term's values depend on the variables in it alone.
-use Rattle.std.proofs.Common.{◌≡◌, ℕ, zero, suc, ◌≤◌, ◌<◌, ◌==◌, Bool, true, false, cond, refl, sym, ◌∙◌, arith}
+use Rattle.std.proofs.Common.{◌≡◌, ℕ, ◌≤◌, ◌<◌, ◌==◌, ◌||◌, ◌&&◌, not, Bool, true, false, refl, sym, true≢false, arith}
 use Rattle.std.proofs.lemmas.Bool.Decides.{nat_tests}
 use Rattle.text_core.specs.declared.name.Name.{Name}
 use Rattle.logic_term.specs.Value.{Value}
 use Rattle.logic_term.specs.Term.{Term, Terms, var, lit, truth, apply, bind, no_terms, and_term}
-use Rattle.logic_term.specs.Meaning.{Structure, Env, with_value, Means, Argument}
+use Rattle.logic_term.specs.Meaning.{Structure, Env, with_value, Means}
 use Rattle.logic_term.specs.Subst.{above, all_above}
-use Rattle.logic_term.proofs.Alike.{sure_map, Alike, alike_same, applied_alike, quantified_alike}
+use Rattle.logic_term.specs.Free.{free, free_in_some}
+use Rattle.logic_term.proofs.Alike.{Alike}
+use Rattle.logic_term.proofs.FreeLaw.{coincide_free, same_test}
 
 -- the environments have the same values at all names below n
 abbrev pub Agree : ℕ → Env → Env → Type 0
 Agree n ρ σ = (x : Name) → x.0 < n → ρ x ≡ σ x
-
-chosen : (b : Bool) (w u v : Value) → u ≡ v → cond b w u ≡ cond b w v
-chosen true w u v e = refl
-chosen false w u v e = e
-
-pub agree_with : (n : ℕ) (ρ σ : Env) (x : Name) (w : Value) → Agree n ρ σ → Agree n (with_value ρ x w) (with_value σ x w)
-agree_with n ρ σ x w h y l = chosen (y.0 == x.0) w (ρ y) (σ y) (h y l)
 
 pub with_same : (ρ : Env) (x : Name) (w : Value) → with_value ρ x w x ≡ w
 with_same ρ x w = grind (arith, nat_tests)
@@ -29,16 +24,29 @@ with_other ρ x y w d = grind (arith, nat_tests)
 pub agree_new : (n : ℕ) (ρ : Env) (x : Name) (w : Value) → n ≤ x.0 → Agree n ρ (with_value ρ x w)
 agree_new n ρ x w l y h = sym (with_other ρ x y w (λ e. absurd (omega arith)))
 
-module _ (S : Structure) where
-  mutual
-    pub coincide : (n : ℕ) (t : Term) (ρ σ : Env) → above t ≤ n → Agree n ρ σ → Alike (Means S t ρ) (Means S t σ)
-    coincide n (var x) ρ σ b h v = let e : ρ x ≡ σ x = h x (omega arith) in (sure_map (v ≡ ρ x) (v ≡ σ x) (λ p. p ∙ e), sure_map (v ≡ σ x) (v ≡ ρ x) (λ p. p ∙ sym e))
-    coincide n (lit z s) ρ σ b h v = ((λ p. p), (λ p. p))
-    coincide n (truth c) ρ σ b h v = ((λ p. p), (λ p. p))
-    coincide n (apply op ts) ρ σ b h v = applied_alike op _ _ _ (λ k. coincides n ts ρ σ b h k) v
-    coincide n (bind q x s t) ρ σ b h v = quantified_alike q _ _ _ (λ w. coincide n t (with_value ρ x w) (with_value σ x w) (omega arith) (agree_with n ρ σ x w h)) v
+-- ---- free names are below the bound
 
-    pub coincides : (n : ℕ) (ts : Terms) (ρ σ : Env) → all_above ts ≤ n → Agree n ρ σ → (k : ℕ) → Alike (Argument S ts ρ k) (Argument S ts σ k)
-    coincides n no_terms ρ σ b h k = alike_same _
-    coincides n (and_term t ts) ρ σ b h zero = coincide n t ρ σ (omega arith) h
-    coincides n (and_term t ts) ρ σ b h (suc k) = coincides n ts ρ σ (omega arith) h k
+or_cases : {P : Type 0} (a b : Bool) → (a || b) ≡ true → (a ≡ true → P) → (b ≡ true → P) → P
+or_cases true b e f g = f refl
+or_cases false b e f g = g e
+
+right_side : (b c : Bool) → (not b && c) ≡ true → c ≡ true
+right_side true c e = absurd (true≢false (sym e))
+right_side false c e = e
+
+mutual
+  pub free_above : (x : Name) (t : Term) → free x t ≡ true → x.0 < above t
+  free_above x (var y) e = let same : x.0 ≡ y.0 = same_test x.0 y.0 e in omega arith
+  free_above x (lit z s) e = absurd (true≢false (sym e))
+  free_above x (truth b) e = absurd (true≢false (sym e))
+  free_above x (apply op ts) e = free_above_all x ts e
+  free_above x (bind q y s t) e = let l : x.0 < above t = free_above x t (right_side (x.0 == y.0) (free x t) e) in omega arith
+
+  free_above_all : (x : Name) (ts : Terms) → free_in_some x ts ≡ true → x.0 < all_above ts
+  free_above_all x no_terms e = absurd (true≢false (sym e))
+  free_above_all x (and_term t ts) e = or_cases (free x t) (free_in_some x ts) e
+      (λ f. let l : x.0 < above t = free_above x t f in omega arith) (λ f. let l : x.0 < all_above ts = free_above_all x ts f in omega arith)
+
+module _ (S : Structure) where
+  pub coincide : (n : ℕ) (t : Term) (ρ σ : Env) → above t ≤ n → Agree n ρ σ → Alike (Means S t ρ) (Means S t σ)
+  coincide n t ρ σ b h = coincide_free S t ρ σ (λ x e. let l : x.0 < above t = free_above x t e in h x (omega arith))

@@ -1,11 +1,10 @@
 -- A type and its sort have the same values.
-use Rattle.std.proofs.Common.{◌≡◌, ℕ, zero, suc, refl, sym, ap, ap₂, ◌∙◌, List, [], Some, Option}
-use Rattle.logic_term.specs.declared.kinds.Ctor.TheVariants.{Tuple, Variant, Closure}
+use Rattle.std.proofs.Common.{◌≡◌, ℕ, zero, suc, refl, sym, ap, ap₂, ◌∙◌, []}
 use Rattle.logic_term.specs.Ty.{Ty, Tys, int, bool, math_int, tuple, adt, boxed, shared, unique, param, closure, viewed, snapshot, no_tys, and_ty}
 use Rattle.logic_term.specs.Value.{Value, Values, Number, Flag, Made, Pair, no_values, and_value, parts_of, first_value, other_values}
-use Rattle.logic_term.specs.Sort.{Declarations, nth_ty, instance, instances, HasSort, HaveSorts, of_int, of_math_int, of_bool, of_tuple, of_adt, of_closure, of_boxed, of_shared, of_snapshot, of_unique, of_none, of_more}
+use Rattle.logic_term.specs.Sort.{Declarations, nth_ty, instance, instances, HasSort, HaveSorts, of_tuple, of_adt, of_closure, of_boxed, of_shared, of_snapshot, of_unique, of_more}
 use Rattle.logic_term.specs.Erased.{erased, all_erased}
-use Rattle.logic_term.proofs.SortParts.{Parts, parts, all_parts}
+use Rattle.logic_term.proofs.SortParts.{parts, all_parts}
 
 -- what is left when snapshots are opened too
 abbrev mutual

@@ -12,10 +12,10 @@ use Rattle.logic_term.proofs.Alike.{sure_map, Alike, alike_same, applied_alike, 
 abbrev pub AgreeOn : (Name → Bool) → Env → Env → Type 0
 AgreeOn f ρ σ = (x : Name) → f x ≡ true → ρ x ≡ σ x
 
-or_left : (a b : Bool) → a ≡ true → (a || b) ≡ true
+pub or_left : (a b : Bool) → a ≡ true → (a || b) ≡ true
 or_left a b e = grind arith
 
-or_right : (a b : Bool) → b ≡ true → (a || b) ≡ true
+pub or_right : (a b : Bool) → b ≡ true → (a || b) ≡ true
 or_right a b e = grind arith
 
 under : (b c : Bool) (w u v : Value) → ((not b && c) ≡ true → u ≡ v) → c ≡ true → cond b w u ≡ cond b w v

@@ -5,10 +5,9 @@ pub mod Erased
 pub mod FreeLaw
 pub mod Lists
 pub mod Made
-pub mod Reduction
+pub mod PlacedLaw
 pub mod SameLaw
 pub mod SortLaw
 pub mod SortParts
-pub mod SubstLaw
 pub mod Truth
 pub mod Unique

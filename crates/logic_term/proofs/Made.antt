@@ -1,5 +1,5 @@
 -- The values of what is made of parts.
-use Rattle.std.proofs.Common.{◌≡◌, ◌↔◌, refl, ◌∙◌, ap, ap₂}
+use Rattle.std.proofs.Common.{◌≡◌, refl, ◌∙◌, ap, ap₂}
 use Rattle.logic_term.specs.declared.kinds.Ctor.{Ctor}
 use Rattle.logic_term.specs.Value.{Values, Made, no_values, and_value}
 use Rattle.logic_term.specs.Term.{made, Terms, apply, no_terms, and_term, count}

@@ -1,9 +1,5 @@
 -- What the values of a sort are made of.
-use Rattle.std.proofs.Common.{◌≡◌, ℕ, zero, suc, ℤ, Bool, true, false, List, refl, sym, ap, ap₂, ◌∙◌, Option, Some, None}
-use Rattle.source_kinds.specs.declared.kinds.IntKind.{IntKind}
-use Rattle.logic_term.specs.declared.kinds.AdtId.{AdtId}
-use Rattle.logic_term.specs.declared.kinds.Region.{Region}
-use Rattle.logic_term.specs.declared.kinds.Ctor.{Ctor}
+use Rattle.std.proofs.Common.{◌≡◌, ℕ, zero, suc, ℤ, Bool, true, refl, ap, ap₂, Some}
 use Rattle.logic_term.specs.declared.kinds.Ctor.TheVariants.{Tuple, Variant, Closure}
 use Rattle.logic_term.specs.Ty.{Ty, Tys, int, bool, math_int, tuple, adt, boxed, shared, unique, param, closure, viewed, snapshot, no_tys, and_ty}
 use Rattle.source_kinds.specs.Range.{fits}

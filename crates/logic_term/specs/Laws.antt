@@ -1,5 +1,5 @@
 -- Laws of the meaning of terms.
-use Rattle.std.specs.Prelude.{◌≡◌, int_le, int_lt, true, false, IsTrue, ◌↔◌}
+use Rattle.std.specs.Prelude.{◌≡◌, ℕ, ◌≤◌, int_le, int_lt, Bool, true, false, List, IsTrue, ◌↔◌}
 use Rattle.text_core.specs.declared.name.Name.{Name}
 use Rattle.logic_term.specs.Ty.{Ty}
 use Rattle.logic_term.specs.declared.kinds.Ctor.{Ctor}
@@ -11,7 +11,9 @@ use Rattle.logic_term.specs.Erased.{erased}
 use Rattle.logic_term.specs.Sort.{Declarations, HasSort, instance}
 use Rattle.logic_term.specs.Theory.{declared}
 use Rattle.logic_term.specs.Free.{free}
-use Rattle.logic_term.specs.Subst.{replaced}
+use Rattle.logic_term.specs.declared.subst.Replacement.{Replacement}
+use Rattle.logic_term.specs.Placed.{placed}
+use Rattle.logic_term.specs.Subst.{above, look, placing, with_terms, replaced}
 use Rattle.logic_term.specs.Canonical.{canonical, SameUpToNames}
 use Rattle.logic_term.specs.Normal.{reduced}
 
@@ -27,10 +29,20 @@ HasValuesOf t u = (S : Structure) (ρ : Env) → SameValues S t ρ u ρ
 abbrev pub HasExactly : Structure → Term → Env → Value → Type 0
 HasExactly S t ρ w = (v : Value) → Sure (Means S t ρ v) ↔ Sure (v ≡ w)
 
--- a term put for a name counts as its value
+-- terms put for names, all at once, count as their values: σ's terms have, at ρ, the values that τ gives the names for which they stand
 abbrev pub PutTermsCountAsValues : Type 0
-PutTermsCountAsValues = (S : Structure) (ρ : Env) (x : Name) (u t : Term) (w : Value)
+PutTermsCountAsValues = (S : Structure) (ρ τ : Env) (σ : List Replacement) (t : Term)
+    → ((x : Name) → IsTrue (free x t) → HasExactly S (look σ x) ρ (τ x)) → SameValues S (with_terms σ t) ρ t τ
+
+-- the same of one name
+abbrev pub APutTermCountsAsValue : Type 0
+APutTermCountsAsValue = (S : Structure) (ρ : Env) (x : Name) (u t : Term) (w : Value)
     → HasExactly S u ρ w → SameValues S (replaced x u t) ρ t (with_value ρ x w)
+
+-- terms put for the free names, all at once, and reduced where that is asked: no name from n on is in them
+abbrev pub PlacedTermsCountAsValues : Type 0
+PlacedTermsCountAsValues = (S : Structure) (reduces : Bool) (n : ℕ) (ρ τ : Env) (σ : List Replacement) (t : Term)
+    → ((x : Name) → IsTrue (free x t) → (above (look σ x) ≤ n) × HasExactly S (look σ x) ρ (τ x)) → SameValues S (placed reduces n (placing σ) t) ρ t τ
 
 -- terms that are equal up to the names that they bind have the same values
 abbrev pub BoundNamesDoNotCount : Type 0

@@ -5,7 +5,9 @@ pub mod Laws
 pub mod Meaning
 pub mod Normal
 pub mod Obligations
+pub mod Placed
 pub mod Same
+pub mod Simplified
 pub mod Sort
 pub mod Subst
 pub mod Term

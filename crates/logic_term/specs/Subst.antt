@@ -1,8 +1,9 @@
 -- Substitution. It is simultaneous and gives every bound name a new number, so that it never captures.
-use Rattle.std.specs.Prelude.{ℕ, suc, ◌==◌, max, List, [], ◌∷◌, cond}
+use Rattle.std.specs.Prelude.{ℕ, suc, ◌==◌, max, true, false, List, [], ◌∷◌, cond}
 use Rattle.text_core.specs.declared.name.Name.{Name}
 use Rattle.logic_term.specs.declared.subst.Renaming.{Renaming}
 use Rattle.logic_term.specs.declared.subst.Replacement.{Replacement}
+use Rattle.logic_term.specs.Placed.{Placing, placed, all_placed}
 use Rattle.logic_term.specs.Term.{Term, Terms, var, lit, truth, apply, bind, no_terms, and_term}
 
 -- one past the largest name in the term, bound names included
@@ -27,22 +28,33 @@ abbrev pub look : List Replacement → Name → Term
 look [] x = var x
 look (e ∷ σ) x = cond (x.0 == e.name.0) e.by (look σ x)
 
+-- the entries' terms, the same at each depth
+abbrev pub placing : List Replacement → Placing
+placing σ x depth = look σ x
+
 -- the term with σ's terms for its free names, the bound names being numbered from n on
-abbrev mutual
-  pub subst : ℕ → List Replacement → Term → Term
-  subst n σ (var x) = look σ x
-  subst n σ (lit z s) = lit z s
-  subst n σ (truth b) = truth b
-  subst n σ (apply op ts) = apply op (substs n σ ts)
-  subst n σ (bind q x s t) = bind q (record { 0 = n }) s (subst (suc n) (record { name = x; by = var (record { 0 = n }) } ∷ σ) t)
+abbrev pub subst : ℕ → List Replacement → Term → Term
+subst n σ t = placed false n (placing σ) t
 
-  pub substs : ℕ → List Replacement → Terms → Terms
-  substs n σ no_terms = no_terms
-  substs n σ (and_term t ts) = and_term (subst n σ t) (substs n σ ts)
+abbrev pub substs : ℕ → List Replacement → Terms → Terms
+substs n σ ts = all_placed false n (placing σ) ts
 
--- the body of a quantifier over x, which gets the number n
-abbrev pub subst_body : ℕ → Name → List Replacement → Term → Term
-subst_body n x σ t = subst (suc n) (record { name = x; by = var (record { 0 = n }) } ∷ σ) t
+-- the same, reduced: for entries in normal form it is in normal form
+abbrev pub put_reduced : ℕ → List Replacement → Term → Term
+put_reduced n σ t = placed true n (placing σ) t
+
+-- the entries, and first of them the number n for the name
+abbrev pub with_number : ℕ → Name → List Replacement → List Replacement
+with_number n x σ = record { name = x; by = var (record { 0 = n }) } ∷ σ
+
+-- one past the largest name in the entries' terms
+abbrev pub above_entries : List Replacement → ℕ
+above_entries [] = 0
+above_entries (e ∷ σ) = max (above e.by) (above_entries σ)
+
+-- the term with σ's terms for its free names, all at once
+abbrev pub with_terms : List Replacement → Term → Term
+with_terms σ t = subst (max (above t) (above_entries σ)) σ t
 
 -- t with u for x
 abbrev pub replaced : Name → Term → Term → Term

@@ -87,6 +87,10 @@ abbrev pub is_conjunction : Term → Bool
 is_conjunction (apply both ts) = true
 is_conjunction t = false
 
+abbrev pub is_quantified : Term → Bool
+is_quantified (bind every x s t) = true
+is_quantified t = false
+
 -- `()`, the tuple of no parts
 abbrev pub unit : Term
 unit = apply (made Tuple) no_terms

@@ -39,10 +39,10 @@ fn above_name(name: Name, bound: &[Name]) -> Result<u64, NoMemory>
 impl Term {
     /// One past the largest name in the term that is free there and none of these.
     #[cycle(above_free)]
-    fn above_free(&self, alloc: Global, bound: &[Name]) -> Result<u64, NoMemory>
+    pub(crate) fn above_free(&self, alloc: Global, bound: &[Name]) -> Result<u64, NoMemory>
         ensures { IfOk result (λ n. n ≡ above_free bound.now self.now) }
     {
-        match &*self.node {
+        match self.node() {
             TermNode::Var(name) => above_name(*name, bound),
             TermNode::Lit(_, _) => Ok(0),
             TermNode::Truth(_) => Ok(0),

@@ -1,13 +1,16 @@
 //! What holds of the meaning of every term. Nothing here computes: each clause is a law of the definitions in specs/,
 //! by which the contracts of this crate speak.
 
-ghost use Rattle.logic_term.specs.Laws.{PutTermsCountAsValues, BoundNamesDoNotCount, CanonicalFormsKeepValues, FreeNamesAloneCount, OtherNamesDoNotCount, SortsKeepValues};
+ghost use Rattle.logic_term.specs.Laws.{PutTermsCountAsValues, APutTermCountsAsValue, PlacedTermsCountAsValues, BoundNamesDoNotCount, CanonicalFormsKeepValues, FreeNamesAloneCount, OtherNamesDoNotCount, SortsKeepValues};
 ghost use Rattle.logic_term.specs.Laws.{ValuesAreSingle, ValuesAreSure, ValuesOfMade, ValueOfUnit, NormalFormsKeepValues};
 ghost use Rattle.logic_term.specs.Laws.{TruthOfConstants, TruthOfNot, TruthOfAnd, TruthOfOr, TruthOfImplies, TruthOfForall, TruthOfLess, TruthOfAtMost, TruthOfEqual};
 
-/// Substitution: a term with `u` for a name has the values that it has where the name stands for the value of `u`.
+/// Substitution: a term with terms for its names, all at once, has the values that it has where the names stand for the values of
+/// these terms. The same holds of one name, and of what is reduced on the way.
 pub fn put_terms_count_as_values()
-    ensures { PutTermsCountAsValues }
+    ensures together { PutTermsCountAsValues }
+    ensures one { APutTermCountsAsValue }
+    ensures reduced { PlacedTermsCountAsValues }
 {}
 
 /// Renaming: terms that are equal up to the names that they bind have the same values.

@@ -6,8 +6,8 @@ mod canonical;
 mod declaration;
 mod kinds;
 mod laws;
-mod normal;
 mod obligation;
+mod placed;
 mod subst;
 mod term;
 mod ty;
@@ -22,8 +22,8 @@ pub use laws::{
     sorts_keep_values, truth_of_comparisons, truth_of_connectives, truth_of_forall,
     values_are_single, values_are_sure, values_of_made,
 };
-pub use normal::reduce;
 pub use obligation::{Bounds, Contract, Instance, Obligation};
+pub use placed::reduce;
 pub use subst::{Renaming, Replacement};
 pub use term::{Sort, Term, TermNode};
 pub use ty::{CompoundTy, FnBound, Ty, TyNode, copy_types, same_types};

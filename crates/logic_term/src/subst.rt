@@ -1,9 +1,9 @@
 ghost use Rattle.std.specs.Prelude.{◌≡◌, ◌∷◌, ◌++◌, [], IfOk, map, max};
 ghost use Rattle.logic_term.specs.Free.{free, free_in_some};
 ghost use Rattle.logic_term.specs.TermView.{terms_of};
-ghost use Rattle.logic_term.specs.Subst.{above, all_above, look, subst, substs, subst_body, renaming, replaced};
+ghost use Rattle.logic_term.specs.Subst.{above, all_above, above_entries, with_terms, subst, renaming, replaced};
 
-use crate::term::{Term, TermNode, literal, quantified};
+use crate::term::{Term, TermNode};
 use std::alloc::Global;
 use text_core::{Name, NoMemory};
 
@@ -21,56 +21,13 @@ pub struct Replacement {
     pub by: Term,
 }
 
-/// The renamings with one more, which hides an earlier one of its name.
-fn with_renaming(
-    alloc: Global,
-    first: Renaming,
-    rest: &[Renaming],
-) -> Result<Vec<Renaming>, NoMemory>
-    ensures { IfOk result (λ v. v.items ≡ first ∷ rest.now) }
-{
-    let mut all = Vec::with_capacity(alloc, 1)?;
-    all.push(first)?;
-    all.extend_from_slice(rest)?;
-    Ok(all)
-}
-
-/// The term that stands for the name: the first of its entries, or else the name itself.
-fn entry_for(alloc: Global, name: Name, sub: &[Replacement]) -> Result<Term, NoMemory>
-    ensures { IfOk result (λ t. t ≡ look sub.now name) }
-{
-    for i in 0..sub.len() {
-        if name.0 == sub[i].name.0 {
-            return sub[i].by.copy(alloc);
-        }
-    }
-    Term::var(alloc, name)
-}
-
-/// The same, the renamings standing before the entries.
-fn looked_up(
-    alloc: Global,
-    name: Name,
-    renamings: &[Renaming],
-    sub: &[Replacement],
-) -> Result<Term, NoMemory>
-    ensures { IfOk result (λ t. t ≡ look (map renaming renamings.now ++ sub.now) name) }
-{
-    for i in 0..renamings.len() {
-        if name.0 == renamings[i].from.0 {
-            return Term::var(alloc, renamings[i].to);
-        }
-    }
-    entry_for(alloc, name, sub)
-}
-
 impl Term {
     /// Whether the name is free in the term.
     #[cycle(free_in)]
     pub fn free_in(&self, name: Name) -> bool
         ensures { result ≡ free name self.now }
     {
-        match &*self.node {
+        match self.node() {
             TermNode::Var(other) => name.0 == other.0,
             TermNode::Lit(_, _) => false,
             TermNode::Truth(_) => false,
@@ -86,7 +43,7 @@ impl Term {
     pub fn above(&self) -> Result<u64, NoMemory>
         ensures { IfOk result (λ n. n ≡ above self.now) }
     {
-        match &*self.node {
+        match self.node() {
             TermNode::Var(name) => name.0.checked_add(1).ok_or(NoMemory),
             TermNode::Lit(_, _) => Ok(0),
             TermNode::Truth(_) => Ok(0),
@@ -101,9 +58,8 @@ impl Term {
         }
     }
 
-    /// The term with entries' terms for its free names, its bound names being numbered from `next` on. The renamings
-    /// stand before the entries. Want of memory is answered too where a number would pass 64 bits.
-    #[cycle(subst)]
+    /// The term with entries' terms for its free names, all at once, its bound names being numbered from `next` on by their depth. The
+    /// renamings stand before the entries. Want of memory is answered too where a number would pass 64 bits.
     pub fn subst(
         &self,
         alloc: Global,
@@ -113,45 +69,16 @@ impl Term {
     ) -> Result<Term, NoMemory>
         ensures { IfOk result (λ t. t ≡ subst next (map renaming renamings.now ++ sub.now) self.now) }
     {
-        match &*self.node {
-            TermNode::Var(name) => looked_up(alloc, *name, renamings, sub),
-            TermNode::Lit(number, sort) => literal(alloc, *number, sort),
-            TermNode::Truth(holds) => Term::truth(alloc, *holds),
-            TermNode::Make(ctor, parts) => {
-                let parts = subst_all(alloc, parts, next, renamings, sub)?;
-                Term::made(alloc, *ctor, parts)
-            }
-            TermNode::Unary(op, t) => {
-                Term::unary(alloc, *op, t.subst(alloc, next, renamings, sub)?)
-            }
-            TermNode::Binary(op, a, b) => {
-                let a = a.subst(alloc, next, renamings, sub)?;
-                let b = b.subst(alloc, next, renamings, sub)?;
-                Term::binary(alloc, *op, a, b)
-            }
-            TermNode::Forall(name, sort, t) => {
-                let body = t.subst_under(alloc, *name, next, renamings, sub)?;
-                quantified(alloc, Name(next), sort, body)
-            }
-        }
+        self.placed(alloc, false, next, renamings, sub)
     }
 
-    /// The body of a quantifier over the name, which gets the number `next`.
-    #[cycle(subst)]
-    fn subst_under(
-        &self,
-        alloc: Global,
-        from: Name,
-        next: u64,
-        renamings: &[Renaming],
-        sub: &[Replacement],
-    ) -> Result<Term, NoMemory>
-        ensures { IfOk result (λ t. t ≡ subst_body next from (map renaming renamings.now ++ sub.now) self.now) }
+    /// The term with the entries' terms for its free names, all at once; no name is captured.
+    pub fn with(&self, alloc: Global, sub: &[Replacement]) -> Result<Term, NoMemory>
+        ensures { IfOk result (λ t. t ≡ with_terms sub.now self.now) }
     {
-        let to = Name(next);
-        let inner = with_renaming(alloc, Renaming { from, to }, renamings)?;
-        let after = next.checked_add(1).ok_or(NoMemory)?;
-        self.subst(alloc, after, inner.as_slice(), sub)
+        let own = self.above()?;
+        let others = above_entries(sub)?;
+        self.subst(alloc, own.max(others), &[], sub)
     }
 
     /// The term with another for the name; no name is captured.
@@ -159,11 +86,23 @@ impl Term {
         ensures { IfOk result (λ t. t ≡ replaced name by.now self.now) }
     {
         let next = above_both(self, by)?;
-        let by = by.copy(alloc)?;
+        let by = by.share()?;
         let mut sub = Vec::with_capacity(alloc, 1)?;
         sub.push(Replacement { name, by })?;
         self.subst(alloc, next, &[], sub.as_slice())
     }
+}
+
+/// One past the largest name in the entries' terms.
+fn above_entries(sub: &[Replacement]) -> Result<u64, NoMemory>
+    ensures { IfOk result (λ n. n ≡ above_entries sub.now) }
+{
+    let mut most: u64 = 0;
+    for i in (0..sub.len()).rev() {
+        let here = sub[i].by.above()?;
+        most = here.max(most);
+    }
+    Ok(most)
 }
 
 #[cycle(above)]
@@ -198,22 +137,4 @@ fn free_in_any(name: Name, terms: &[Term]) -> bool
         }
     }
     false
-}
-
-#[cycle(subst)]
-#[tactic(auto, using(crate::specs::TermFalls::each_smaller))]
-fn subst_all(
-    alloc: Global,
-    terms: &[Term],
-    next: u64,
-    renamings: &[Renaming],
-    sub: &[Replacement],
-) -> Result<Vec<Term>, NoMemory>
-    ensures { IfOk result (λ v. terms_of v.items ≡ substs next (map renaming renamings.now ++ sub.now) (terms_of terms.now)) }
-{
-    let mut all = Vec::with_capacity(alloc, terms.len())?;
-    for i in 0..terms.len() {
-        all.push(terms[i].subst(alloc, next, renamings, sub)?)?;
-    }
-    Ok(all)
 }

@@ -1,21 +1,23 @@
-ghost use Rattle.std.specs.Prelude.{◌≡◌, ◌↔◌, false, IfOk, IfErr, IsTrue, MatchOption};
-ghost use Rattle.logic_term.specs.Term.{lit, forall, and, implies, is_conjunction, is_implication};
+ghost use Rattle.std.specs.Prelude.{◌≡◌, ◌↔◌, false, IfOk, IsTrue, MatchOption};
+ghost use Rattle.logic_term.specs.Term.{lit, forall, and, implies, is_conjunction, is_implication, is_quantified};
 ghost use Rattle.logic_term.specs.TermView.{term_of};
 
 use crate::kinds::{Ctor, TermBinary, TermUnary};
 use crate::ty::Ty;
 use std::alloc::Global;
 use std::marker::Model;
+use std::rc::Rc;
 use text_core::{Name, NoMemory};
 
 /// A type of terms: a type without boxes, shared references and regions.
 pub type Sort = Ty;
 
-/// A term, or a formula, which is a term of sort `bool`. Contracts see the tree of specs/Term.antt.
+/// A term, or a formula, which is a term of sort `bool`. Its parts are shared with the terms that were made of them. Contracts see
+/// the tree of specs/Term.antt.
 #[cycle(term)]
 #[derive(Drop)]
 pub struct Term {
-    pub node: Box<TermNode>,
+    node: Rc<TermNode>,
 }
 
 /// What a term is at its top.
@@ -57,7 +59,22 @@ impl Term {
     pub fn of(alloc: Global, node: TermNode) -> Result<Term, NoMemory>
         ensures { IfOk result (λ t. t ≡ term_of node) }
     {
-        let node = Box::new(alloc, node)?;
+        let node = Rc::new(alloc, node)?;
+        Ok(Term { node })
+    }
+
+    /// What the term is at its top.
+    pub fn node(&self) -> &TermNode
+        ensures { term_of result.now ≡ self.now }
+    {
+        &self.node
+    }
+
+    /// The same term, shared: no part of it is copied. Want of memory is answered where it is shared too often to be counted.
+    pub fn share(&self) -> Result<Term, NoMemory>
+        ensures { IfOk result (λ t. t ≡ self.now) }
+    {
+        let node = self.node.clone()?;
         Ok(Term { node })
     }
 
@@ -83,36 +100,23 @@ impl Term {
         }
     }
 
-    /// The premise and the conclusion of an implication. Any other term comes back as the error.
-    pub fn into_implication(self) -> Result<(Term, Term), Term>
-        ensures ok { IfOk result (λ p. self ≡ implies p.0 p.1) }
-        ensures other { IfErr result (λ t. (t ≡ self) × (is_implication self ≡ false)) }
+    /// The premise and the conclusion of an implication.
+    pub fn as_implication(&self) -> Option<(&Term, &Term)>
+        ensures { MatchOption result (is_implication self.now ≡ false) (λ p. self.now ≡ implies p.0.now p.1.now) }
     {
-        if !self.is_implication() {
-            return Err(self);
-        }
-        let Term { node } = self;
-        match Box::into_inner(node) {
-            TermNode::Binary(TermBinary::Implies, a, b) => Ok((a, b)),
-            _ => unreachable!(),
+        match &*self.node {
+            TermNode::Binary(TermBinary::Implies, a, b) => Some((a, b)),
+            _ => None,
         }
     }
 
-    #[cycle(copy)]
-    #[tactic(auto, using(crate::specs::TermFalls::each_smaller))]
-    pub fn copy(&self, alloc: Global) -> Result<Term, NoMemory>
-        ensures { IfOk result (λ t. t ≡ self.now) }
+    /// The name, the sort and the body of a universal formula.
+    pub fn as_forall(&self) -> Option<(Name, &Sort, &Term)>
+        ensures { MatchOption result (is_quantified self.now ≡ false) (λ p. self.now ≡ forall p.0 p.1.now p.2.now) }
     {
         match &*self.node {
-            TermNode::Var(name) => Term::var(alloc, *name),
-            TermNode::Lit(number, sort) => literal(alloc, *number, sort),
-            TermNode::Truth(holds) => Term::truth(alloc, *holds),
-            TermNode::Make(ctor, parts) => Term::made(alloc, *ctor, copy_terms(alloc, parts)?),
-            TermNode::Unary(op, t) => Term::unary(alloc, *op, t.copy(alloc)?),
-            TermNode::Binary(op, a, b) => {
-                Term::binary(alloc, *op, a.copy(alloc)?, b.copy(alloc)?)
-            }
-            TermNode::Forall(name, sort, t) => quantified(alloc, *name, sort, t.copy(alloc)?),
+            TermNode::Forall(name, sort, body) => Some((*name, sort, body)),
+            _ => None,
         }
     }
 
@@ -139,14 +143,6 @@ impl Term {
     }
 }
 
-/// The literal of a copy of the sort.
-pub(crate) fn literal(alloc: Global, number: i128, sort: &Sort) -> Result<Term, NoMemory>
-    ensures { IfOk result (λ t. t ≡ lit number sort.now) }
-{
-    let sort = sort.copy(alloc)?;
-    Term::lit(alloc, number, sort)
-}
-
 /// The universal formula over a copy of the sort.
 pub(crate) fn quantified(
     alloc: Global,
@@ -158,18 +154,6 @@ pub(crate) fn quantified(
 {
     let sort = sort.copy(alloc)?;
     Term::forall(alloc, name, sort, body)
-}
-
-#[cycle(copy)]
-#[tactic(auto, using(crate::specs::TermFalls::each_smaller))]
-fn copy_terms(alloc: Global, terms: &[Term]) -> Result<Vec<Term>, NoMemory>
-    ensures { IfOk result (λ v. v.items ≡ terms.now) }
-{
-    let mut copies = Vec::with_capacity(alloc, terms.len())?;
-    for i in 0..terms.len() {
-        copies.push(terms[i].copy(alloc)?)?;
-    }
-    Ok(copies)
 }
 
 #[cycle(same)]

@@ -1,4 +1,4 @@
-use Rattle.logic_term.proofs.Reduction.{reduced_means}
+use Rattle.logic_term.proofs.CanonicalLaw.{reduced_means}
 use Rattle.logic_term.proofs.laws.normal_forms_keep_values.Goals as goal
 
 pub returns : goal.returns
