@@ -9,5 +9,6 @@ pub mod PlacedLaw
 pub mod SameLaw
 pub mod SortLaw
 pub mod SortParts
+pub mod SortSound
 pub mod Truth
 pub mod Unique

@@ -5,7 +5,7 @@ use Rattle.prophecy_sim.proofs.Arguments.{value_of, IsPlain, plain_one, plain_sh
 use Rattle.mir_ir.specs.declared.terminator.FnId.TheVariants.{Body as OfBody}
 use Rattle.mir_ir.specs.declared.terminator.Callee.TheVariants.{Function}
 use Rattle.mir_ir.specs.declared.place.Place.{Place}
-use Rattle.logic_term.proofs.SubstLaw.{replaced_means}
+use Rattle.logic_term.proofs.PlacedLaw.{replaced_means}
 use Rattle.logic_term.proofs.Coincide.{with_same, with_other}
 use Rattle.logic_term.specs.TyView.{tys_of}
 use Rattle.std.specs.List.{list_any}
