@@ -1,4 +1,5 @@
 pub mod Alike
+pub mod Bound
 pub mod CanonicalLaw
 pub mod Coincide
 pub mod Erased
