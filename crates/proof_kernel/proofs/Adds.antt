@@ -5,14 +5,15 @@ use Rattle.std.proofs.lemmas.Bool.Decides.{nat_tests}
 use Rattle.text_core.specs.declared.name.Name.{Name}
 use Rattle.logic_term.specs.declared.kinds.Label2.{Label2}
 use Rattle.logic_term.specs.Ty.{Ty}
-use Rattle.logic_term.specs.Term.{Term, var}
-use Rattle.logic_term.specs.Subst.{replaced}
+use Rattle.logic_term.specs.declared.subst.Renaming.{Renaming}
+use Rattle.logic_term.specs.Term.{implied, every, Term, apply, bind, no_terms, and_term}
+use Rattle.logic_term.specs.Subst.{renamed}
 use Rattle.proof_kernel.specs.declared.sequent.Sequent.{Sequent}
 use Rattle.proof_kernel.specs.declared.step.Multiple.{Multiple}
 use Rattle.proof_kernel.specs.declared.step.Reference.{Reference}
 use Rattle.proof_kernel.specs.declared.step.Reference.TheVariants.{Goal, Hyp as Of, Back}
 use Rattle.proof_kernel.specs.declared.step.Step.{Step}
-use Rattle.proof_kernel.specs.Rules.{label, same_label, hypothesis, sort_of, with_goal, assuming, declaring, Intros, stop, by_premise, by_variable, lower_bound, upper_bound}
+use Rattle.proof_kernel.specs.Rules.{label, same_label, hypothesis, sort_of, with_goal, assuming, declaring, taken, lower_bound, upper_bound}
 use Rattle.proof_kernel.specs.Linear.{Difference, row_of, row_back, row_if_found, referred, AreRows}
 use Rattle.proof_kernel.specs.Setting.{Setting}
 use Rattle.proof_kernel.specs.Steps.{labels_in, labels_of, new_names, IsLabelOf, IsVariableOf, AddsItsOwn}
@@ -64,12 +65,17 @@ module _ (P : Label2 → Type 0) (N : Name → Type 0) (s : ℕ) (own : (k : ℕ
   more_hyps : (hs gs : List (Label2 × Term)) → Each (λ (h : Label2 × Term). P h.0) hs → Each (λ (h : Label2 × Term). P h.0) gs → Each (λ (h : Label2 × Term). P h.0) (hs ++ gs)
   more_hyps hs gs a b = each_and (λ (h : Label2 × Term). P h.0) hs gs a b
 
-  intros_add : (k : ℕ) (names : List Name) (q r : Sequent) → Intros s k names q r → Each N names → Has P N q → Has P N r
-  intros_add k names q r (stop e) new has = has
-  intros_add k names q r (by_premise {a = a} {b = c} e i) new has =
-      intros_add (suc k) names (assuming q (label s k) a c) r i new (more_hyps q.hyps ((label s k, a) ∷ []) has.0 (own k, tt), has.1)
-  intros_add k names q r (by_variable {x = x} {y = y} {names = rest} {t = t} {b = c} e fresh i) new has =
-      intros_add k rest (declaring q x t (replaced y (var x) c)) r i new.1 (has.0, each_and (λ (v : Name × Ty). N v.0) q.vars ((x, t) ∷ []) has.1 (new.0, tt))
+  ended_adds : (g : Term) (q r : Sequent) → Some (with_goal q g) ≡ Some r → Has P N q → Has P N r
+  ended_adds g q r e has = let is : with_goal q g ≡ r = cc in subst (Has P N) is has
+
+  taken_adds : (k : ℕ) (names : List Name) (bound : List Renaming) (t : Term) (q r : Sequent) → taken s k names bound t q ≡ Some r → Each N names → Has P N q → Has P N r
+  taken_adds k names bound (apply implied (and_term a (and_term b no_terms))) q r e new has =
+      taken_adds (suc k) names bound b (assuming q (label s k) (renamed bound a)) r e new (more_hyps q.hyps ((label s k, renamed bound a) ∷ []) has.0 (own k, tt), has.1)
+  taken_adds k [] bound (bind every y u b) q r e new has = ended_adds (renamed bound (bind every y u b)) q r e has
+  taken_adds k (x ∷ xs) bound (bind every y u b) q r e new has =
+      taken_adds k xs (bound ++ record { from = y; to = x } ∷ []) b (declaring q x u) r e new.1 (has.0, each_and (λ (v : Name × Ty). N v.0) q.vars ((x, u) ∷ []) has.1 (new.0, tt))
+  taken_adds k [] bound t q r e new has = ended_adds (renamed bound t) q r e has
+  taken_adds k (x ∷ xs) bound t q r e new has = absurd (cc)
 
   goals_keep : (q : Sequent) (goals : List Term) → Has P N q → Each (Has P N) (map (with_goal q) goals)
   goals_keep q [] has = tt
@@ -77,7 +83,7 @@ module _ (P : Label2 → Type 0) (N : Name → Type 0) (s : ℕ) (own : (k : ℕ
 
   -- what the step cites is there; and where P is so of the sequent's labels, and N of its names and of the new ones, they are so of those of the premises
   pub given_adds : (w : Setting) (q : Sequent) (step : Step) (ps : List Sequent) → Gives w s q step ps → Each N (new_names step) → Has P N q → Each (IsLabelOf q) (labels_of step) × Each (Has P N) ps
-  given_adds w q step ps (by_intro {names = names} {r = r} some i) new has = (tt, (intros_add 1 names q r i new has, tt))
+  given_adds w q step ps (by_intro {names = names} {r = r} some i) new has = (tt, (taken_adds 1 names [] q.goal q r i.is new has, tt))
   given_adds w q step ps (by_hyp {h = h} e same) new has = (((h, e), tt), tt)
   given_adds w q step ps (by_split e) new has = (tt, goals_keep q _ has)
   given_adds w q step ps (by_range {x = x} {k = k} e) new has =

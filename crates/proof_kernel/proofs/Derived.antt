@@ -14,7 +14,8 @@ use Rattle.proof_kernel.specs.declared.step.Step.TheVariants.{Intro, Hyp, Split,
 use Rattle.proof_kernel.specs.Sequent.{IsTrueAt, AllTrueAt}
 use Rattle.proof_kernel.specs.Setting.{Setting, IsStructureOf, setting_of, theory_of}
 use Rattle.proof_kernel.specs.Derivation.{Gives, by_intro, by_hyp, by_split, by_range, by_lin, CitedAreTrue, Derives, no_step, one_step, IsProof}
-use Rattle.proof_kernel.proofs.Sound.{held, intros_sound, conjuncts_sound, ranged_sound}
+use Rattle.proof_kernel.proofs.Sound.{held, conjuncts_sound, ranged_sound}
+use Rattle.proof_kernel.proofs.IntroSound.{intros_sound}
 use Rattle.proof_kernel.proofs.LinearSound.{certifies_sound}
 
 -- terms that differ in bound names alone are true together
@@ -31,7 +32,7 @@ nothing_cited w S (Lin ms) = tt
 
 module _ (w : Setting) (S : Structure) (is : IsStructureOf w S) where
   pub gives_sound : (s : ℕ) (q : Sequent) (step : Step) (ps : List Sequent) → Gives w s q step ps → CitedAreTrue w S step → AllTrueAt S ps → IsTrueAt S q
-  gives_sound s q step ps (by_intro {names = names} {r = r} some i) cited h = intros_sound S s 1 names q r i h.0
+  gives_sound s q step ps (by_intro {names = names} {r = r} some i) cited h = intros_sound S s names q r i h.0
   gives_sound s q step ps (by_hyp {l = l} {h = t} e same) cited h = λ ρ sorts hyps. same_holds S t q.goal ρ same (held S l q.hyps t ρ e hyps)
   gives_sound s q step ps (by_split e) cited h = conjuncts_sound S q q.goal h
   gives_sound s q step ps (by_range {x = x} {k = k} e) cited h = ranged_sound S s x k q e h.0

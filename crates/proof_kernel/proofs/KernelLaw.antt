@@ -15,6 +15,7 @@ use Rattle.proof_kernel.specs.declared.kernel.Made.{Made}
 use Rattle.proof_kernel.specs.declared.kernel.Made.TheVariants.{Premises, TooWide, Nothing}
 use Rattle.proof_kernel.specs.Setting.{Setting}
 use Rattle.proof_kernel.specs.Progress.{Progress}
+use Rattle.proof_kernel.proofs.Once.{given}
 use Rattle.proof_kernel.specs.Derivation.{Gives, by_intro, by_hyp, by_split, by_range, by_lin}
 use Rattle.proof_kernel.specs.Linear.{Certifies}
 use Rattle.proof_kernel.specs.Rules.{hypothesis, sort_of, with_goal, conjuncts, ranged, Intros, TakesSome}
@@ -70,8 +71,11 @@ same_step w s left before e = ap (λ p. p.step) e
 
 -- ---- what each rule gives
 
-pub intro_given : (w : Setting) (s : ℕ) (q r : Sequent) (ns names : List Name) (ps : List Sequent) → ns ≡ names → TakesSome ns q × Intros s 1 ns q r → ps ≡ r ∷ [] → Gives w s q (Intro names) ps
+pub intro_given : (w : Setting) (s : ℕ) (q r : Sequent) (ns names : List Name) (ps : List Sequent) → ns ≡ names → TakesSome ns q × Intros s ns q r → ps ≡ r ∷ [] → Gives w s q (Intro names) ps
 intro_given w s q r ns names ps n p e = subst (λ l. Gives w s q (Intro names) l) (sym e) (subst (λ l. Gives w s q (Intro l) (r ∷ [])) n (by_intro p.0 p.1))
+
+pub no_intro : (w : Setting) (s : ℕ) (q : Sequent) (ns names : List Name) → ns ≡ names → ((r : Sequent) → TakesSome ns q → Intros s ns q r → ⊥) → (ps : List Sequent) → Gives w s q (Intro names) ps → ⊥
+no_intro w s q ns names e none ps g = let has = given w s q (Intro names) ps g in let at : (r : Sequent) → TakesSome names q → Intros s names q r → ⊥ = subst (λ l. (r : Sequent) → TakesSome l q → Intros s l q r → ⊥) e none in at has.1.0 has.0 has.1.1
 
 pub hyp_given : (w : Setting) (s : ℕ) (q : Sequent) (l : Label2) (ps : List Sequent) → (h : Term) × (hypothesis l q.hyps ≡ Some h) × SameUpToNames h q.goal → ps ≡ [] → Gives w s q (Hyp l) ps
 hyp_given w s q l ps p e = subst (λ ps. Gives w s q (Hyp l) ps) (sym e) (by_hyp p.1 p.2)

@@ -5,6 +5,7 @@ pub mod Derived
 pub mod Found
 pub mod IntRing
 pub mod IntroLaw
+pub mod IntroSound
 pub mod KernelLaw
 pub mod Labels
 pub mod LinLemmas

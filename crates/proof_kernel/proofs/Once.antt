@@ -1,26 +1,24 @@
 -- What a step gives is one list of premises.
-use Rattle.std.proofs.Common.{◌≡◌, ℕ, suc, ◌+◌, true, List, [], ◌∷◌, ◌++◌, map, Option, Some, refl, sym, ◌∙◌, ap, subst, add-one}
+use Rattle.std.proofs.Common.{◌≡◌, ℕ, ◌+◌, true, List, [], ◌∷◌, ◌++◌, map, Option, Some, refl, sym, ◌∙◌, ap, subst}
 use Rattle.text_core.specs.declared.name.Name.{Name}
 use Rattle.source_kinds.specs.declared.kinds.IntKind.{IntKind}
 use Rattle.logic_term.specs.Ty.{Ty, int}
-use Rattle.logic_term.specs.Term.{Term, var, is_conjunction}
+use Rattle.logic_term.specs.Term.{Term, is_conjunction}
 use Rattle.logic_term.specs.Canonical.{SameUpToNames}
-use Rattle.logic_term.specs.Subst.{replaced}
 use Rattle.proof_kernel.specs.declared.sequent.Sequent.{Sequent}
 use Rattle.proof_kernel.specs.declared.step.Step.{Step}
 use Rattle.proof_kernel.specs.declared.step.Step.TheVariants.{Intro, Hyp, Split, Range, Lin}
 use Rattle.proof_kernel.specs.declared.step.Multiple.{Multiple}
 use Rattle.proof_kernel.specs.Linear.{Difference, referred, AreRows, AreNarrow, Certifies, PassesWidth}
-use Rattle.proof_kernel.specs.Rules.{label, hypothesis, sort_of, with_goal, assuming, declaring, conjuncts, ranged, Intros, stop, by_premise, by_variable, TakesSome}
+use Rattle.proof_kernel.specs.Rules.{hypothesis, sort_of, with_goal, conjuncts, ranged, Intros, TakesSome}
 use Rattle.proof_kernel.specs.Setting.{Setting}
 use Rattle.proof_kernel.specs.Progress.{Progress}
 use Rattle.proof_kernel.specs.Derivation.{Gives, by_intro, by_hyp, by_split, by_range, by_lin}
 use Rattle.proof_kernel.specs.Kernel.{Applies, IsWide}
-use Rattle.proof_kernel.proofs.IntroLaw.{premise_step, variable_step, stop_step}
 
 -- what a step gives, by the kind of the step
 abbrev pub Given : Setting → ℕ → Sequent → Step → List Sequent → Type 0
-Given w s q (Intro names) ps = TakesSome names q × ((r : Sequent) × Intros s 1 names q r × (ps ≡ r ∷ []))
+Given w s q (Intro names) ps = TakesSome names q × ((r : Sequent) × Intros s names q r × (ps ≡ r ∷ []))
 Given w s q (Hyp l) ps = (ps ≡ []) × ((h : Term) × (hypothesis l q.hyps ≡ Some h) × SameUpToNames h q.goal)
 Given w s q Split ps = (is_conjunction q.goal ≡ true) × (ps ≡ map (with_goal q) (conjuncts q.goal))
 Given w s q (Range x) ps = (k : IntKind) × (sort_of x q.vars ≡ Some (int k)) × (ps ≡ ranged s k x q ∷ [])
@@ -35,19 +33,17 @@ given w s q step ps (by_lin c) = (refl, c)
 
 -- ---- each is one
 
-pub intros_once : (s k : ℕ) (names : List Name) (q r p : Sequent) → Intros s k names q r → Intros s k names q p → p ≡ r
-intros_once s k names q r p (stop e) j = stop_step s k q p e [] refl j
-intros_once s k names q r p (by_premise {a = a} {b = b} e i) j =
-    let next : suc k ≡ k + 1 = sym (add-one k) in
-    intros_once s (suc k) names (assuming q (label s k) a b) r p i (subst (λ n. Intros s n names (assuming q (label s k) a b) p) (sym next) ((premise_step s k names q p a b e).0 j))
-intros_once s k names q r p (by_variable {x = x} {y = y} {names = rest} {t = t} {b = b} e new i) j =
-    intros_once s k rest (declaring q x t (replaced y (var x) b)) r p i ((variable_step s k x rest q p y t b e new).0 j)
+intros_once : (s : ℕ) (names : List Name) (q r p : Sequent) → Intros s names q r → Intros s names q p → p ≡ r
+intros_once s names q r p i j = same_sequent (sym j.is ∙ i.is)
+  where
+    same_sequent : {x y : Sequent} → Some x ≡ Some y → x ≡ y
+    same_sequent e = cc
 
 same_kind : (o : Option Ty) (k l : IntKind) → o ≡ Some (int k) → o ≡ Some (int l) → k ≡ l
 same_kind o k l e f = cc
 
 once : (w : Setting) (s : ℕ) (q : Sequent) (step : Step) (ps rs : List Sequent) → Given w s q step ps → Given w s q step rs → ps ≡ rs
-once w s q (Intro names) ps rs g h = g.1.2 ∙ (ap (λ r. r ∷ []) (intros_once s 1 names q h.1.0 g.1.0 h.1.1 g.1.1) ∙ sym h.1.2)
+once w s q (Intro names) ps rs g h = g.1.2 ∙ (ap (λ r. r ∷ []) (intros_once s names q h.1.0 g.1.0 h.1.1 g.1.1) ∙ sym h.1.2)
 once w s q (Hyp l) ps rs g h = g.0 ∙ sym h.0
 once w s q Split ps rs g h = g.1 ∙ sym h.1
 once w s q (Range x) ps rs g h = g.2 ∙ (ap (λ k. ranged s k x q ∷ []) (same_kind (sort_of x q.vars) g.0 h.0 g.1 h.1) ∙ sym h.2)

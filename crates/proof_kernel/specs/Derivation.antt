@@ -20,7 +20,7 @@ use Rattle.proof_kernel.specs.Rules.{hypothesis, sort_of, with_goal, Intros, Tak
 
 -- step number s makes these premises of the sequent
 pub data Gives (w : Setting) (s : ℕ) (q : Sequent) : Step → List Sequent → Type 0 where
-  by_intro : {names : List Name} {r : Sequent} → TakesSome names q → Intros s 1 names q r → Gives w s q (Intro names) (r ∷ [])
+  by_intro : {names : List Name} {r : Sequent} → TakesSome names q → Intros s names q r → Gives w s q (Intro names) (r ∷ [])
   by_hyp : {l : Label2} {h : Term} → hypothesis l q.hyps ≡ Some h → SameUpToNames h q.goal → Gives w s q (Hyp l) []
   by_split : is_conjunction q.goal ≡ true → Gives w s q Split (map (with_goal q) (conjuncts q.goal))
   by_range : {x : Name} {k : IntKind} → sort_of x q.vars ≡ Some (int k) → Gives w s q (Range x) (ranged s k x q ∷ [])

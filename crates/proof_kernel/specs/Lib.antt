@@ -1,8 +1,8 @@
 pub mod Accepts
 pub mod Derivation
+pub mod Intro
 pub mod Kernel
 pub mod Laws
-pub mod Leads
 pub mod LinArith
 pub mod LinColumns
 pub mod Linear

@@ -5,9 +5,11 @@ use Rattle.logic_term.specs.declared.kinds.Label2.{Label2}
 use Rattle.source_kinds.specs.declared.kinds.IntKind.{IntKind}
 use Rattle.logic_term.specs.Ty.{Ty, math_int}
 use Rattle.source_kinds.specs.Range.{lowest, highest}
-use Rattle.logic_term.specs.Term.{both, Term, var, lit, apply, no_terms, and_term, model, is_at_most, implies, forall, is_implication}
+use Rattle.logic_term.specs.Term.{both, implied, every, Term, var, lit, apply, bind, no_terms, and_term, model, is_at_most, forall, is_implication}
 use Rattle.logic_term.specs.Free.{free}
-use Rattle.logic_term.specs.Subst.{replaced}
+use Rattle.logic_term.specs.declared.subst.Renaming.{Renaming}
+use Rattle.logic_term.specs.Canonical.{is_one_of}
+use Rattle.logic_term.specs.Subst.{renamed}
 use Rattle.proof_kernel.specs.declared.sequent.Sequent.{Sequent}
 
 -- ---- labels, variables and hypotheses
@@ -41,21 +43,38 @@ pub record IsNew (x : Name) (q : Sequent) : Type 0 where
 abbrev pub with_goal : Sequent → Term → Sequent
 with_goal q t = record { vars = q.vars; hyps = q.hyps; goal = t }
 
--- one more hypothesis, and another goal
-abbrev pub assuming : Sequent → Label2 → Term → Term → Sequent
-assuming q l h t = record { vars = q.vars; hyps = q.hyps ++ (l, h) ∷ []; goal = t }
+-- one more hypothesis
+abbrev pub assuming : Sequent → Label2 → Term → Sequent
+assuming q l h = record { vars = q.vars; hyps = q.hyps ++ (l, h) ∷ []; goal = q.goal }
 
--- one more variable, and another goal
-abbrev pub declaring : Sequent → Name → Ty → Term → Sequent
-declaring q x s t = record { vars = q.vars ++ (x, s) ∷ []; hyps = q.hyps; goal = t }
+-- one more variable
+abbrev pub declaring : Sequent → Name → Ty → Sequent
+declaring q x s = record { vars = q.vars ++ (x, s) ∷ []; hyps = q.hyps; goal = q.goal }
 
 -- ---- intro: quantifiers and premises that lead the goal are taken off
 
--- names for the quantifiers that are left; k: the number of the next hypothesis of step s
-pub data Intros (s : ℕ) : ℕ → List Name → Sequent → Sequent → Type 0 where
-  stop : {k : ℕ} {q : Sequent} → is_implication q.goal ≡ false → Intros s k [] q q
-  by_premise : {k : ℕ} {names : List Name} {q r : Sequent} {a b : Term} → q.goal ≡ implies a b → Intros s (suc k) names (assuming q (label s k) a b) r → Intros s k names q r
-  by_variable : {k : ℕ} {x y : Name} {names : List Name} {q r : Sequent} {t : Ty} {b : Term} → q.goal ≡ forall y t b → IsNew x q → Intros s k names (declaring q x t (replaced y (var x) b)) r → Intros s k (x ∷ names) q r
+-- the names are new in the sequent, and no two are one
+abbrev pub AreNew : List Name → Sequent → Type 0
+AreNew [] q = Unit {0}
+AreNew (x ∷ xs) q = IsNew x q × (is_one_of x xs ≡ false) × AreNew xs q
+
+-- what comes of a list of names that is empty, and of one that is not
+abbrev pub by_names : {A : Type 0} → List Name → A → (Name → List Name → A) → A
+by_names [] none some = none
+by_names (x ∷ xs) none some = some x xs
+
+-- the sequent q without all that leads its goal, of which t is left. names: for the quantifiers that are left. bound: the names that those
+-- before got. k: the number of the next hypothesis of step s. Names are put for names once, in each premise and in what the goal ends in
+abbrev pub taken : (s : ℕ) → ℕ → List Name → List Renaming → Term → Sequent → Option Sequent
+taken s k names bound (apply implied (and_term a (and_term b no_terms))) q = taken s (suc k) names bound b (assuming q (label s k) (renamed bound a))
+taken s k names bound (bind every y t b) q =
+    by_names names (Some (with_goal q (renamed bound (forall y t b)))) (λ x others. taken s k others (bound ++ record { from = y; to = x } ∷ []) b (declaring q x t))
+taken s k names bound t q = by_names names (Some (with_goal q (renamed bound t))) (λ x others. None)
+
+-- names for all quantifiers that are to be taken off
+pub record Intros (s : ℕ) (names : List Name) (q r : Sequent) : Type 0 where
+  pub new : AreNew names q
+  pub is : taken s 1 names [] q.goal q ≡ Some r
 
 -- at least one is taken off
 abbrev pub TakesSome : List Name → Sequent → Type 0

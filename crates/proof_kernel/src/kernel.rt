@@ -8,8 +8,9 @@ ghost use Rattle.proof_kernel.specs.Made.{IsMade, IsMadeFirst, others_of};
 ghost use Rattle.proof_kernel.specs.Setting.{setting};
 ghost use Rattle.proof_kernel.specs.Steps.{labels_in};
 
+use crate::intro::intro;
 use crate::linear::{LinAnswer, certifies};
-use crate::rules::{intro, is_hypothesis, range, split};
+use crate::rules::{is_hypothesis, range, split};
 use crate::sequent::Sequent;
 use crate::setting::{Scope, Tables};
 use crate::step::{Multiple, Reference, Step};
@@ -259,7 +260,7 @@ impl<'a> Kernel<'a> {
         let q = Sequent {
             vars: Items::new(alloc),
             hyps: Items::new(alloc),
-            goal: obligation.goal.copy(alloc)?,
+            goal: obligation.goal.share()?,
         };
         let stack = one_premise(alloc, q)?;
         let scope = Scope { tables, obligation };

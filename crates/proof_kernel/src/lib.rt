@@ -1,6 +1,7 @@
 //! The kernel: sequents, the steps of proofs, and what each step makes of a sequent.
 #![tactic(auto)]
 
+mod intro;
 mod kernel;
 mod laws;
 mod lin_arith;

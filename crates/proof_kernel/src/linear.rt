@@ -70,7 +70,7 @@ fn is_integer_var(vars: &[(Name, Sort)], name: Name) -> bool
 fn is_integer(vars: &[(Name, Sort)], t: &Term) -> bool
     ensures { result ≡ is_integer vars.now t.now }
 {
-    match &*t.node {
+    match t.node() {
         TermNode::Var(name) => is_integer_var(vars, *name),
         TermNode::Lit(_, sort) => matches!(sort.node, TyNode::MathInt),
         TermNode::Unary(TermUnary::Model | TermUnary::Negative, _)
@@ -83,7 +83,7 @@ fn is_integer(vars: &[(Name, Sort)], t: &Term) -> bool
 fn row_of<'a>(vars: &[(Name, Sort)], t: &'a Term) -> Option<Sides<'a>>
     ensures { option_map difference result ≡ row_of vars.now t.now }
 {
-    match &*t.node {
+    match t.node() {
         TermNode::Binary(TermBinary::AtMost, a, b) => Some(at_least(b, a)),
         TermNode::Binary(TermBinary::Less, a, b) => Some(greater(b, a)),
         TermNode::Binary(TermBinary::Equal, a, b) if is_integer(vars, a) => Some(at_least(b, a)),
@@ -96,7 +96,7 @@ fn row_of<'a>(vars: &[(Name, Sort)], t: &'a Term) -> Option<Sides<'a>>
 fn row_back<'a>(vars: &[(Name, Sort)], t: &'a Term) -> Option<Sides<'a>>
     ensures { option_map difference result ≡ row_back vars.now t.now }
 {
-    match &*t.node {
+    match t.node() {
         TermNode::Binary(TermBinary::Equal, a, b) if is_integer(vars, a) => Some(at_least(a, b)),
         _ => None,
     }
@@ -106,7 +106,7 @@ fn row_back<'a>(vars: &[(Name, Sort)], t: &'a Term) -> Option<Sides<'a>>
 fn row_of_goal(t: &Term) -> Option<Sides<'_>>
     ensures { option_map difference result ≡ row_of_goal t.now }
 {
-    match &*t.node {
+    match t.node() {
         TermNode::Binary(TermBinary::AtMost, a, b) => Some(greater(a, b)),
         TermNode::Binary(TermBinary::Less, a, b) => Some(at_least(a, b)),
         _ => None,

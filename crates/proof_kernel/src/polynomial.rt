@@ -79,7 +79,7 @@ pub(crate) fn copy_monomial(alloc: Global, monomial: &[Term]) -> Result<Items<Te
 {
     let mut copies = Vec::with_capacity(alloc, monomial.len())?;
     for atom in monomial {
-        copies.push(atom.copy(alloc)?)?;
+        copies.push(atom.share()?)?;
     }
     Ok(Items::from_vec(copies))
 }
@@ -90,7 +90,7 @@ fn joined(alloc: Global, left: &[Term], right: &[Term]) -> Result<Items<Term>, N
 {
     let mut monomial = copy_monomial(alloc, left)?;
     for atom in right {
-        monomial.push(atom.copy(alloc)?)?;
+        monomial.push(atom.share()?)?;
     }
     Ok(monomial)
 }
@@ -304,7 +304,7 @@ fn atom(alloc: Global, t: &Term) -> Result<Polynomial, NoMemory>
 pub(crate) fn polynomial(alloc: Global, t: &Term) -> Result<Option<Polynomial>, NoMemory>
     ensures { IfOk result (λ found. SomeIff found (IsNarrowTerm t.now) (polynomial t.now)) }
 {
-    match &*t.node {
+    match t.node() {
         TermNode::Binary(TermBinary::Arith(ArithOp::Add), a, b) => sum(alloc, a, b),
         TermNode::Binary(TermBinary::Arith(ArithOp::Sub), a, b) => difference(alloc, a, b),
         TermNode::Binary(TermBinary::Arith(ArithOp::Mul), a, b) => product_of_terms(alloc, a, b),

@@ -1,19 +1,16 @@
-ghost use Rattle.std.specs.Prelude.{◌≡◌, ◌≢◌, ◌↔◌, ℕ, List, ◌∷◌, ◌++◌, ◌+◌, [], Some, IfOk, MatchOption, IsTrue, map, true, false};
+ghost use Rattle.std.specs.Prelude.{◌≡◌, ◌≢◌, ◌↔◌, ◌∷◌, ◌++◌, [], Some, IfOk, MatchOption, IsTrue, map, true, false};
 ghost use Rattle.logic_term.specs.Ty.{int};
 ghost use Rattle.source_kinds.specs.declared.kinds.IntKind.{IntKind};
 ghost use Rattle.logic_term.specs.declared.kinds.Label2.{Label2};
 ghost use Rattle.logic_term.specs.Canonical.{SameUpToNames};
-ghost use Rattle.logic_term.specs.Term.{Term as Tree, is_conjunction, is_implication};
-ghost use Rattle.text_core.specs.declared.name.Name.{Name};
-ghost use Rattle.proof_kernel.specs.declared.sequent.Sequent.{Sequent};
-ghost use Rattle.proof_kernel.specs.Leads.{is_quantified, IsLead, IsOpened, IsStuck, IsDeclared};
-ghost use Rattle.proof_kernel.specs.Rules.{hypothesis, sort_of, with_goal, conjuncts, lower_bound, upper_bound, ranged, declaring, Intros, TakesSome};
+ghost use Rattle.logic_term.specs.Term.{Term as Tree, is_conjunction};
+ghost use Rattle.proof_kernel.specs.Rules.{hypothesis, sort_of, with_goal, conjuncts, lower_bound, upper_bound, ranged};
 
 use crate::sequent::{Sequent, hypothesis_of, sort_of_var};
-use logic_term::{Label2, Sort, Term, TermNode, TyNode};
+use logic_term::{Label2, Term, TyNode};
 use source_kinds::IntKind;
 use std::alloc::Global;
-use text_core::{Items, Name, NoMemory};
+use text_core::{Name, NoMemory};
 
 /// Whether the hypothesis of the label is the goal, up to the names that both bind.
 pub fn is_hypothesis(alloc: Global, label: Label2, q: &Sequent) -> Result<bool, NoMemory>
@@ -29,7 +26,7 @@ fn one_term(alloc: Global, t: &Term) -> Result<Vec<Term>, NoMemory>
     ensures { IfOk result (λ v. v.items ≡ t.now ∷ []) }
 {
     let mut all = Vec::with_capacity(alloc, 1)?;
-    all.push(t.copy(alloc)?)?;
+    all.push(t.share()?)?;
     Ok(all)
 }
 
@@ -55,7 +52,7 @@ fn with_each_goal(alloc: Global, q: &Sequent, goals: &[Term]) -> Result<Vec<Sequ
 {
     let mut premises = Vec::with_capacity(alloc, goals.len())?;
     for i in 0..goals.len() {
-        let goal = goals[i].copy(alloc)?;
+        let goal = goals[i].share()?;
         premises.push(q.with_goal(alloc, goal)?)?;
     }
     Ok(premises)
@@ -132,147 +129,4 @@ pub fn range(alloc: Global, step: u32, name: Name, q: &Sequent) -> Result<Option
             _ => Ok(None),
         },
     }
-}
-
-/// A sequent whose goal begins with no premise, and the number of the next hypothesis.
-#[derive(Drop)]
-struct Stripped {
-    q: Sequent,
-    part: u32,
-}
-
-/// The number after that of a hypothesis.
-fn next_part(part: u32) -> Result<u32, NoMemory>
-    ensures { IfOk result (λ next. next ≡ part + 1) }
-{
-    match part.checked_add(1) {
-        Some(next) => Ok(next),
-        None => Err(NoMemory),
-    }
-}
-
-/// A sequent with one more hypothesis, and with another goal.
-fn assume(
-    label: Label2,
-    vars: Items<(Name, Sort)>,
-    mut hyps: Items<(Label2, Term)>,
-    premise: Term,
-    goal: Term,
-) -> Result<Sequent, NoMemory>
-    ensures { IfOk result (λ q. q ≡ record { vars = vars; hyps = hyps ++ (label, premise) ∷ []; goal = goal }) }
-{
-    hyps.push((label, premise))?;
-    Ok(Sequent { vars, hyps, goal })
-}
-
-/// What leads a goal, and what is left.
-#[derive(Drop)]
-enum Lead {
-    Premise(Term, Term),
-    Other(Term),
-}
-
-fn lead_of(goal: Term) -> Lead
-    ensures { IsLead goal result }
-{
-    match goal.into_implication() {
-        Ok((premise, conclusion)) => Lead::Premise(premise, conclusion),
-        Err(other) => Lead::Other(other),
-    }
-}
-
-/// Takes off the premises that lead the goal.
-#[cycle(strip)]
-fn strip(alloc: Global, step: u32, part: u32, q: Sequent) -> Result<Stripped, NoMemory>
-    ensures rest { IfOk result (λ r. is_implication r.q.goal ≡ false) }
-    ensures same { IfOk result (λ r. (names : List Name) (p : Sequent) → Intros step part names q p ↔ Intros step r.part names r.q p) }
-{
-    let Sequent { vars, hyps, goal } = q;
-    match lead_of(goal) {
-        Lead::Premise(premise, goal) => {
-            let next = next_part(part)?;
-            let rest = assume(Label2 { step, part }, vars, hyps, premise, goal)?;
-            strip(alloc, step, next, rest)
-        }
-        Lead::Other(goal) => {
-            let q = Sequent { vars, hyps, goal };
-            Ok(Stripped { q, part })
-        }
-    }
-}
-
-/// The sort of the quantifier that leads the goal, and its body at this name; `None` where none leads it.
-fn opened(alloc: Global, name: Name, goal: &Term) -> Result<Option<(Sort, Term)>, NoMemory>
-    ensures { IfOk result (λ o. MatchOption o (is_quantified goal.now ≡ false) (IsOpened name goal.now)) }
-{
-    match &*goal.node {
-        TermNode::Forall(bound, sort, body) => {
-            let variable = Term::var(alloc, name)?;
-            let body = body.replaced(alloc, *bound, &variable)?;
-            Ok(Some((sort.copy(alloc)?, body)))
-        }
-        _ => Ok(None),
-    }
-}
-
-/// The sequent with one more variable, and with another goal.
-fn with_variable(mut q: Sequent, name: Name, sort: Sort, goal: Term) -> Result<Sequent, NoMemory>
-    ensures { IfOk result (λ r. r ≡ declaring q name sort goal) }
-{
-    q.vars.push((name, sort))?;
-    q.goal = goal;
-    Ok(q)
-}
-
-/// The sequent with the quantifier that leads its goal taken off; `None` where none leads it, or the name is not new.
-fn declare(alloc: Global, name: Name, q: Sequent) -> Result<Option<Sequent>, NoMemory>
-    ensures { IfOk result (λ o. MatchOption o (IsStuck name q) (λ r. IsDeclared name q r)) }
-{
-    if !q.is_new(name) {
-        return Ok(None);
-    }
-    match opened(alloc, name, &q.goal)? {
-        None => Ok(None),
-        Some((sort, goal)) => Ok(Some(with_variable(q, name, sort, goal)?)),
-    }
-}
-
-/// Takes off what leads the goal, with these names for the quantifiers; `None` exactly where that is not to be done.
-fn introduced(
-    alloc: Global,
-    step: u32,
-    names: &[Name],
-    q: &Sequent,
-) -> Result<Option<Sequent>, NoMemory>
-    ensures { IfOk result (λ o. MatchOption o
-        ((p : Sequent) → Intros step 1 names.now q.now p → ⊥)
-        (λ r. Intros step 1 names.now q.now r)) }
-{
-    let mut current = strip(alloc, step, 1, q.copy(alloc)?)?;
-    for i in 0..names.len() {
-        let Stripped { q, part } = current;
-        match declare(alloc, names[i], q)? {
-            None => return Ok(None),
-            Some(next) => current = strip(alloc, step, part, next)?,
-        }
-    }
-    let Stripped { q, part: _ } = current;
-    Ok(Some(q))
-}
-
-/// The premise of a step that takes off what leads the goal; `None` exactly where no such step applies.
-pub fn intro(
-    alloc: Global,
-    step: u32,
-    names: &[Name],
-    q: &Sequent,
-) -> Result<Option<Sequent>, NoMemory>
-    ensures { IfOk result (λ o. MatchOption o
-        ((p : Sequent) → TakesSome names.now q.now → Intros step 1 names.now q.now p → ⊥)
-        (λ r. TakesSome names.now q.now × Intros step 1 names.now q.now r)) }
-{
-    if names.is_empty() && !q.goal.is_implication() {
-        return Ok(None);
-    }
-    introduced(alloc, step, names, q)
 }

@@ -1,6 +1,7 @@
-ghost use Rattle.std.specs.Prelude.{◌≡◌, ◌↔◌, IfOk, IsTrue, map};
+ghost use Rattle.std.specs.Prelude.{◌≡◌, ◌↔◌, IfOk, IsTrue, false};
 ghost use Rattle.std.specs.Option.{option_copied};
-ghost use Rattle.proof_kernel.specs.Rules.{hypothesis, sort_of, free_in_hyps, with_goal, IsNew};
+ghost use Rattle.proof_kernel.specs.Rules.{hypothesis, sort_of, free_in_hyps, with_goal};
+ghost use Rattle.logic_term.specs.Free.{free};
 
 use logic_term::{Label2, Sort, Term};
 use std::alloc::Global;
@@ -64,7 +65,7 @@ fn copy_hyps(alloc: Global, hyps: &[(Label2, Term)]) -> Result<Vec<(Label2, Term
 {
     let mut copies = Vec::with_capacity(alloc, hyps.len())?;
     for i in 0..hyps.len() {
-        copies.push((hyps[i].0, hyps[i].1.copy(alloc)?))?;
+        copies.push((hyps[i].0, hyps[i].1.share()?))?;
     }
     Ok(copies)
 }
@@ -73,7 +74,7 @@ impl Sequent {
     pub fn copy(&self, alloc: Global) -> Result<Sequent, NoMemory>
         ensures { IfOk result (λ q. q ≡ self.now) }
     {
-        let goal = self.goal.copy(alloc)?;
+        let goal = self.goal.share()?;
         self.with_goal(alloc, goal)
     }
 
@@ -86,12 +87,10 @@ impl Sequent {
         Ok(Sequent { vars, hyps, goal })
     }
 
-    /// Whether the name is no variable of the sequent, and free nowhere in it.
-    pub(crate) fn is_new(&self, name: Name) -> bool
-        ensures { IsTrue result ↔ IsNew name self.now }
+    /// Whether the name is free in no hypothesis and not in the goal.
+    pub(crate) fn is_free_nowhere(&self, name: Name) -> bool
+        ensures { IsTrue result ↔ ((free_in_hyps name self.now.hyps ≡ false) × (free name self.now.goal ≡ false)) }
     {
-        sort_of_var(name, self.vars.as_slice()).is_none()
-            && !is_free_in_hyps(name, self.hyps.as_slice())
-            && !self.goal.free_in(name)
+        !is_free_in_hyps(name, self.hyps.as_slice()) && !self.goal.free_in(name)
     }
 }

@@ -1,0 +1,201 @@
+//! The step that takes off what leads a goal.
+ghost use Rattle.std.specs.Prelude.{◌≡◌, ◌↔◌, ◌≤◌, ℕ, List, ◌∷◌, ◌++◌, ◌+◌, [], None, Some, IfOk, OnOk, IsTrue, MatchOption, false};
+ghost use Rattle.text_core.specs.declared.name.Name.{Name};
+ghost use Rattle.logic_term.specs.Canonical.{is_one_of};
+ghost use Rattle.logic_term.specs.Subst.{renamed};
+ghost use Rattle.logic_term.specs.Term.{implies, forall, is_implication, is_quantified};
+ghost use Rattle.proof_kernel.specs.declared.sequent.Sequent.{Sequent};
+ghost use Rattle.proof_kernel.specs.Rules.{label, sort_of, with_goal, assuming, declaring, AreNew, IsNew, taken, Intros, TakesSome};
+ghost use Rattle.proof_kernel.specs.Intro.{IsAbove, IsLead};
+
+use crate::sequent::{Sequent, sort_of_var};
+use logic_term::{Label2, Renaming, Sort, Term};
+use std::alloc::Global;
+use text_core::{Name, NoMemory};
+
+// ---- new names
+
+/// A number past all names that are free in the sequent.
+fn above_free(alloc: Global, q: &Sequent) -> Result<u64, NoMemory>
+    ensures { IfOk result (λ n. IsAbove n q.now) }
+{
+    let mut most = q.goal.above_free(alloc)?;
+    let hyps = q.hyps.as_slice();
+    for i in 0..hyps.len() {
+        let hyp = &hyps[i];
+        most = most.max(hyp.1.above_free(alloc)?);
+    }
+    Ok(most)
+}
+
+/// Whether the name is no variable of the sequent and free nowhere in it. What is past `above` is free nowhere.
+fn is_new(name: Name, q: &Sequent, above: u64) -> bool
+    requires { IsAbove above q.now }
+    ensures { IsTrue result ↔ IsNew name q.now }
+{
+    if sort_of_var(name, q.vars.as_slice()).is_some() {
+        return false;
+    }
+    above <= name.0 || q.is_free_nowhere(name)
+}
+
+fn is_one_of(name: Name, names: &[Name]) -> bool
+    ensures { result ≡ is_one_of name names.now }
+{
+    for other in names {
+        if name.0 == other.0 {
+            return true;
+        }
+    }
+    false
+}
+
+/// Whether the names are new in the sequent, and no two are one.
+fn are_new(alloc: Global, names: &[Name], q: &Sequent) -> Result<bool, NoMemory>
+    ensures { IfOk result (λ b. IsTrue b ↔ AreNew names.now q.now) }
+{
+    let above = above_free(alloc, q)?;
+    for i in 0..names.len() {
+        if !is_new(names[i], q, above) || is_one_of(names[i], &names[i + 1..]) {
+            return Ok(false);
+        }
+    }
+    Ok(true)
+}
+
+// ---- what leads
+
+/// What leads a goal.
+#[derive(Clone, Copy)]
+enum Lead<'a> {
+    Premise(&'a Term, &'a Term),
+    Variable(Name, &'a Sort, &'a Term),
+    Nothing,
+}
+
+fn lead_of(goal: &Term) -> Lead<'_>
+    ensures { IsLead goal.now result }
+{
+    if let Some((premise, rest)) = goal.as_implication() {
+        return Lead::Premise(premise, rest);
+    }
+    match goal.as_forall() {
+        Some((name, sort, body)) => Lead::Variable(name, sort, body),
+        None => Lead::Nothing,
+    }
+}
+
+/// A sequent without some of what leads its goal: the names that the quantifiers got, and the number of the next hypothesis. The goal
+/// stays until all is taken off.
+#[derive(Drop)]
+struct Taken {
+    q: Sequent,
+    bound: Vec<Renaming>,
+    part: u32,
+}
+
+impl Taken {
+    /// One more hypothesis of the step.
+    fn assume(&mut self, alloc: Global, step: u32, premise: &Term) -> Result<(), NoMemory>
+        ensures q { OnOk result (self.new.q ≡ assuming self.old.q (label step self.old.part) (renamed self.old.bound.items premise.now)) }
+        ensures bound { OnOk result (self.new.bound.items ≡ self.old.bound.items) }
+        ensures part { OnOk result (self.new.part ≡ self.old.part + 1) }
+    {
+        let hyp = premise.renamed(alloc, &mut self.bound)?;
+        let label = Label2 {
+            step,
+            part: self.part,
+        };
+        self.part = self.part.checked_add(1).ok_or(NoMemory)?;
+        self.q.hyps.push((label, hyp))?;
+        Ok(())
+    }
+
+    /// One more variable, for a quantifier over `from`.
+    fn declare(
+        &mut self,
+        alloc: Global,
+        name: Name,
+        from: Name,
+        sort: &Sort,
+    ) -> Result<(), NoMemory>
+        ensures q { OnOk result (self.new.q ≡ declaring self.old.q name sort.now) }
+        ensures bound { OnOk result (self.new.bound.items ≡ self.old.bound.items ++ record { from = from; to = name } ∷ []) }
+        ensures part { OnOk result (self.new.part ≡ self.old.part) }
+    {
+        let sort = sort.copy(alloc)?;
+        self.q.vars.push((name, sort))?;
+        self.bound.push(Renaming { from, to: name })?;
+        Ok(())
+    }
+
+    /// The sequent, with what is left of the goal.
+    fn ended(self, alloc: Global, goal: &Term) -> Result<Sequent, NoMemory>
+        ensures { IfOk result (λ q. q ≡ with_goal self.q (renamed self.bound.items goal.now)) }
+    {
+        let Taken {
+            q,
+            mut bound,
+            part: _,
+        } = self;
+        let goal = goal.renamed(alloc, &mut bound)?;
+        Ok(Sequent {
+            vars: q.vars,
+            hyps: q.hyps,
+            goal,
+        })
+    }
+}
+
+/// The sequent without what leads its goal, with these names for the quantifiers; `None` where a name is left that no quantifier is to have.
+fn take(alloc: Global, step: u32, names: &[Name], q: &Sequent) -> Result<Option<Sequent>, NoMemory>
+    ensures { IfOk result (λ o. o ≡ taken step 1 names.now [] q.now.goal q.now) }
+{
+    let mut left = Taken {
+        q: q.copy(alloc)?,
+        bound: Vec::new(alloc),
+        part: 1,
+    };
+    let mut goal = &q.goal;
+    let mut used: usize = 0;
+    let mut leads = true;
+    while leads {
+        match lead_of(goal) {
+            Lead::Premise(premise, rest) => {
+                left.assume(alloc, step, premise)?;
+                goal = rest;
+            }
+            Lead::Variable(from, sort, body) if used < names.len() => {
+                left.declare(alloc, names[used], from, sort)?;
+                used += 1;
+                goal = body;
+            }
+            _ => leads = false,
+        }
+    }
+    if used < names.len() {
+        return Ok(None);
+    }
+    let q = left.ended(alloc, goal)?;
+    Ok(Some(q))
+}
+
+/// The premise of a step that takes off what leads the goal, with these names for the quantifiers; `None` exactly where no such step applies.
+pub fn intro(
+    alloc: Global,
+    step: u32,
+    names: &[Name],
+    q: &Sequent,
+) -> Result<Option<Sequent>, NoMemory>
+    ensures { IfOk result (λ o. MatchOption o
+        ((p : Sequent) → TakesSome names.now q.now → Intros step names.now q.now p → ⊥)
+        (λ r. TakesSome names.now q.now × Intros step names.now q.now r)) }
+{
+    if names.is_empty() && !q.goal.is_implication() {
+        return Ok(None);
+    }
+    if !are_new(alloc, names, q)? {
+        return Ok(None);
+    }
+    take(alloc, step, names, q)
+}
