@@ -37,23 +37,35 @@ fn below_gives(alloc: Global, goal: Term) -> Result<Obligation, NoMemory> {
 }
 
 /// Does a step, of which a test has few.
-fn apply(kernel: &mut Kernel, alloc: Global, step: &Step) -> Result<(), StepError>
+fn apply(kernel: &mut Kernel<'_>, alloc: Global, step: &Step) -> Result<(), StepError>
     requires { kernel.old.step < 100 }
     ensures { OnOk result (kernel.new.step ≡ kernel.old.step + 1) }
 {
     kernel.apply(alloc, step)
 }
 
-/// The proof under way when this has been its second step. Before it `x` is a variable, and the hypothesis 1.1 says that `x@` is
-/// below 100.
-fn second(alloc: Global, goal: Term, step: &Step) -> Result<Kernel, StepError>
+/// The proof under way when this has been its second step, of an obligation that `below_gives` made. Before it `x` is a variable, and
+/// the hypothesis 1.1 says that `x@` is below 100.
+fn second<'a>(
+    alloc: Global,
+    obligation: &'a Obligation,
+    tables: &'a Tables,
+    step: &Step,
+) -> Result<Kernel<'a>, StepError>
     ensures { IfOk result (λ kernel. kernel.step ≡ 3) }
 {
-    let mut kernel = Kernel::new(alloc, &below_gives(alloc, goal)?, &Tables)?;
+    let mut kernel = Kernel::new(alloc, obligation, tables)?;
     let intro = Step::Intro(Items::from_slice(alloc, &[X])?);
     apply(&mut kernel, alloc, &intro)?;
     apply(&mut kernel, alloc, step)?;
     Ok(kernel)
+}
+
+/// Why this is refused as the second step, if it is.
+fn refusal(alloc: Global, goal: Term, step: &Step) -> Result<Option<StepError>, NoMemory> {
+    let obligation = below_gives(alloc, goal)?;
+    let tables = Tables::new(alloc);
+    Ok(second(alloc, &obligation, &tables, step).err())
 }
 
 /// The negated goal and the hypothesis 1.1, each as often as this.
@@ -73,7 +85,8 @@ fn lin(alloc: Global, by: i128) -> Result<Step, NoMemory> {
 fn a_whole_proof(rt: HostRuntime) -> Result<(), Fail> {
     let alloc = rt.alloc();
     let obligation = below_gives(alloc, is_below(alloc, 100)?)?;
-    let mut kernel = Kernel::new(alloc, &obligation, &Tables)?;
+    let tables = Tables::new(alloc);
+    let mut kernel = Kernel::new(alloc, &obligation, &tables)?;
     let intro = Step::Intro(Items::from_slice(alloc, &[Y])?);
     apply(&mut kernel, alloc, &intro)?;
     apply(&mut kernel, alloc, &Step::Hyp(Label2 { step: 1, part: 1 }))?;
@@ -85,7 +98,9 @@ fn a_whole_proof(rt: HostRuntime) -> Result<(), Fail> {
 fn split_leaves_two(rt: HostRuntime) -> Result<(), Fail> {
     let alloc = rt.alloc();
     let goal = Term::and(alloc, is_below(alloc, 100)?, is_below(alloc, 101)?)?;
-    let mut kernel = second(alloc, goal, &Step::Split)?;
+    let obligation = below_gives(alloc, goal)?;
+    let tables = Tables::new(alloc);
+    let mut kernel = second(alloc, &obligation, &tables, &Step::Split)?;
     apply(&mut kernel, alloc, &Step::Hyp(Label2 { step: 1, part: 1 }))?;
     assert!(rt; !kernel.closed());
     apply(&mut kernel, alloc, &lin(alloc, 1)?)?;
@@ -96,7 +111,9 @@ fn split_leaves_two(rt: HostRuntime) -> Result<(), Fail> {
 #[test]
 fn range_adds_two_hypotheses(rt: HostRuntime) -> Result<(), Fail> {
     let alloc = rt.alloc();
-    let kernel = second(alloc, is_below(alloc, 100)?, &Step::Range(X))?;
+    let obligation = below_gives(alloc, is_below(alloc, 100)?)?;
+    let tables = Tables::new(alloc);
+    let kernel = second(alloc, &obligation, &tables, &Step::Range(X))?;
     let q = kernel.first().ok_or("closed")?;
     assert!(rt; q.hyps.len() == 3);
     Ok(())
@@ -105,7 +122,9 @@ fn range_adds_two_hypotheses(rt: HostRuntime) -> Result<(), Fail> {
 #[test]
 fn lin_closes(rt: HostRuntime) -> Result<(), Fail> {
     let alloc = rt.alloc();
-    let kernel = second(alloc, is_below(alloc, 101)?, &lin(alloc, 1)?)?;
+    let obligation = below_gives(alloc, is_below(alloc, 101)?)?;
+    let tables = Tables::new(alloc);
+    let kernel = second(alloc, &obligation, &tables, &lin(alloc, 1)?)?;
     assert!(rt; kernel.closed());
     Ok(())
 }
@@ -113,7 +132,7 @@ fn lin_closes(rt: HostRuntime) -> Result<(), Fail> {
 #[test]
 fn a_number_is_too_wide(rt: HostRuntime) -> Result<(), Fail> {
     let alloc = rt.alloc();
-    let refused = second(alloc, is_below(alloc, 101)?, &lin(alloc, i128::MAX)?).err();
+    let refused = refusal(alloc, is_below(alloc, 101)?, &lin(alloc, i128::MAX)?)?;
     assert!(rt; matches!(refused, Some(StepError::TooWide { step: 2 })));
     Ok(())
 }
@@ -121,7 +140,7 @@ fn a_number_is_too_wide(rt: HostRuntime) -> Result<(), Fail> {
 #[test]
 fn no_rule_fits(rt: HostRuntime) -> Result<(), Fail> {
     let alloc = rt.alloc();
-    let refused = second(alloc, is_below(alloc, 101)?, &Step::Split).err();
+    let refused = refusal(alloc, is_below(alloc, 101)?, &Step::Split)?;
     assert!(rt; matches!(refused, Some(StepError::RuleFails { step: 2 })));
     Ok(())
 }
@@ -130,7 +149,7 @@ fn no_rule_fits(rt: HostRuntime) -> Result<(), Fail> {
 fn a_step_cites_itself(rt: HostRuntime) -> Result<(), Fail> {
     let alloc = rt.alloc();
     let own = Step::Hyp(Label2 { step: 2, part: 1 });
-    let refused = second(alloc, is_below(alloc, 100)?, &own).err();
+    let refused = refusal(alloc, is_below(alloc, 100)?, &own)?;
     assert!(rt; matches!(refused, Some(StepError::UnknownStep { step: 2 })));
     Ok(())
 }

@@ -252,18 +252,21 @@ impl<'a> Kernel<'a> {
     /// The proof of an obligation under way, with these tables: its goal alone, at step 1.
     pub fn new(
         alloc: Global,
-        obligation: &'a Obligation,
+        goal: &'a Obligation,
         tables: &'a Tables,
     ) -> Result<Kernel<'a>, NoMemory>
-        ensures { IfOk result (λ k. k ≡ begun tables.now obligation.now) }
+        ensures { IfOk result (λ k. k ≡ begun tables.now goal.now) }
     {
         let q = Sequent {
             vars: Items::new(alloc),
             hyps: Items::new(alloc),
-            goal: obligation.goal.share()?,
+            goal: goal.goal.share()?,
         };
         let stack = one_premise(alloc, q)?;
-        let scope = Scope { tables, obligation };
+        let scope = Scope {
+            tables,
+            obligation: goal,
+        };
         Ok(Kernel {
             scope,
             step: 1,

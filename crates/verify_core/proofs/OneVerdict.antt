@@ -1,10 +1,8 @@
 -- There is one verdict, and steps are refused at one line.
-use Rattle.std.proofs.Common.{◌≡◌, ◌∙◌, ◌⊎◌, inl, inr, refl, sym, ap, subst, ℕ, zero, suc, Bool, true, false, List, [], ◌∷◌, ◌++◌, map, Option, None, Some, slice_get}
+use Rattle.std.proofs.Common.{◌≡◌, ◌∙◌, ◌⊎◌, inl, inr, refl, sym, ap, subst, ℕ, zero, suc, Bool, true, false, List, [], ◌∷◌, map, Option, None, Some, slice_get}
 use Rattle.std.specs.List.{find}
 use Rattle.logic_term.specs.declared.obligation.Obligation.{Obligation}
 use Rattle.mir_ir.specs.declared.body.Body.{Body}
-use Rattle.proof_kernel.specs.Progress.{Progress}
-use Rattle.proof_text.specs.declared.proof.NumberedStep.{NumberedStep}
 use Rattle.proof_text.specs.declared.proof.Proof.{Proof}
 use Rattle.report_out.specs.declared.verdict.FnLine.{FnLine}
 use Rattle.report_out.specs.declared.verdict.LeftItem.{LeftItem}
@@ -12,42 +10,13 @@ use Rattle.report_out.specs.declared.verdict.Reason.{Reason}
 use Rattle.report_out.specs.declared.verdict.Reason.TheVariants.{Missing, Proof as Refused}
 use Rattle.verify_core.specs.declared.goals.FunctionGoals.{FunctionGoals}
 use Rattle.verify_core.specs.Laws.{RefusedAtOneLine, RefusedIsNotAccepted, VerdictIsOne}
-use Rattle.verify_core.specs.Verdict.{Does, Runs, IsAccepted, IsRefusedAt, begun, is_for, Settles, Judges, left_item, Tells, IsVerified, AreLines}
-use Rattle.verify_core.proofs.StepsOnce.{does_once, refused_is_no_proof}
+use Rattle.verify_core.specs.Verdict.{IsAccepted, IsRefusedAt, is_for, Settles, Judges, left_item, Tells, IsVerified, AreLines}
+use Rattle.verify_core.proofs.StepsOnce.{refused_once, refused_is_no_proof}
 
 -- ---- the line at which steps are refused
 
-abbrev CannotDo : Progress → NumberedStep → Type 0
-CannotDo k n = (after : Progress) → Does k n.step after → ⊥
-
--- from there on the steps are refused at this line: the first that cannot be done, or the end, where a sequent is left
-abbrev IsRefusedFrom : ℕ → Progress → List NumberedStep → ℕ → Type 0
-IsRefusedFrom «end» k [] line = (k.left ≡ [] → ⊥) × (line ≡ «end»)
-IsRefusedFrom «end» k (n ∷ ns) line = (CannotDo k n × (line ≡ n.line)) ⊎ ((m : Progress) × Does k n.step m × IsRefusedFrom «end» m ns line)
-
-from_step : {k m : Progress} {done : List NumberedStep} («end» : ℕ) (n : NumberedStep) (rest : List NumberedStep) → Runs k done m → CannotDo m n → IsRefusedFrom «end» k (done ++ n ∷ rest) n.line
-from_step «end» n rest Runs.none never = inl (never, refl)
-from_step «end» n rest (Runs.more {m = m} does runs) never = inr (m, does, from_step «end» n rest runs never)
-
-from_end : {k m : Progress} {steps : List NumberedStep} («end» : ℕ) → Runs k steps m → (m.left ≡ [] → ⊥) → IsRefusedFrom «end» k steps «end»
-from_end «end» Runs.none left = (left, refl)
-from_end «end» (Runs.more {m = m} does runs) left = inr (m, does, from_end «end» runs left)
-
-from_begun : (o : Obligation) (steps : List NumberedStep) («end» line : ℕ) → IsRefusedAt o steps «end» line → IsRefusedFrom «end» (begun o) steps line
-from_begun o steps «end» line (IsRefusedAt.at_step {n = n} {k = k} done rest e runs never) = subst (λ (ns : List NumberedStep). IsRefusedFrom «end» (begun o) ns n.line) (sym e) (from_step «end» n rest runs never)
-from_begun o steps «end» line (IsRefusedAt.at_end {k = k} runs left) = from_end «end» runs left
-
-line_once : («end» : ℕ) (steps : List NumberedStep) (k : Progress) (l m : ℕ) → IsRefusedFrom «end» k steps l → IsRefusedFrom «end» k steps m → l ≡ m
-line_once «end» [] k l m a b = a.1 ∙ sym b.1
-line_once «end» (n ∷ ns) k l m (inl a) (inl b) = a.1 ∙ sym b.1
-line_once «end» (n ∷ ns) k l m (inl a) (inr b) = absurd (a.0 b.0 b.1)
-line_once «end» (n ∷ ns) k l m (inr a) (inl b) = absurd (b.0 a.0 a.1)
-line_once «end» (n ∷ ns) k l m (inr a) (inr b) =
-    let same : b.0 ≡ a.0 = does_once k b.0 a.0 n.step b.1 a.1 in
-    line_once «end» ns a.0 l m a.2 (subst (λ (p : Progress). IsRefusedFrom «end» p ns m) same b.2)
-
 pub refused_at_one_line : RefusedAtOneLine
-refused_at_one_line o steps «end» line other a b = line_once «end» steps (begun o) line other (from_begun o steps «end» line a) (from_begun o steps «end» other b)
+refused_at_one_line = refused_once
 
 pub refused_is_not_accepted : RefusedIsNotAccepted
 refused_is_not_accepted o steps «end» line accepted refused = refused_is_no_proof o steps «end» line refused accepted

@@ -1,31 +1,36 @@
 -- One more step, and one more obligation.
-use Rattle.std.proofs.Common.{◌≡◌, ◌∙◌, sym, ap, subst, ℕ, zero, suc, ◌+◌, ◌<◌, ◌≤◌, List, [], ◌∷◌, ◌++◌, length, take, get_or, Option, None, Some, arith}
+use Rattle.std.proofs.Common.{◌≡◌, ◌∙◌, refl, sym, ap, subst, ℕ, zero, suc, ◌+◌, ◌<◌, ◌≤◌, List, [], ◌∷◌, ◌++◌, length, take, get_or, Option, None, Some, arith}
 use Rattle.std.specs.List.{find}
-use Rattle.std.proofs.lemmas.List.{take_more, take_all}
+use Rattle.std.proofs.lemmas.List.{take_more, take_all, map-append}
 use Rattle.logic_term.specs.declared.obligation.Obligation.{Obligation}
+use Rattle.proof_kernel.specs.declared.setting.Tables.{Tables}
 use Rattle.proof_kernel.specs.declared.step.Step.{Step}
+use Rattle.proof_kernel.specs.Accepts.{Does, Runs, none, more, begun, RefusesFrom, here, later, «open»}
 use Rattle.proof_kernel.specs.Progress.{Progress}
+use Rattle.proof_kernel.specs.Setting.{no_tables}
 use Rattle.proof_text.specs.declared.proof.NumberedStep.{NumberedStep}
 use Rattle.proof_text.specs.declared.proof.Proof.{Proof}
 use Rattle.report_out.specs.declared.verdict.Reason.{Reason}
 use Rattle.report_out.specs.declared.verdict.Reason.TheVariants.{Proof as Refused}
 use Rattle.report_out.specs.declared.verdict.LeftItem.{LeftItem}
-use Rattle.verify_core.specs.Verdict.{Does, Runs, begun, IsAccepted, IsRefusedAt, is_for, Settles, Judges, left_item}
+use Rattle.verify_core.specs.Verdict.{steps_of, line_behind, IsAccepted, IsRefusedAt, is_for, Settles, Judges, left_item}
 use Rattle.verify_core.specs.VerdictWords.{Checks}
 
 -- ---- the steps of a proof
 
-one_more_step : {k m l : Progress} {ns : List NumberedStep} (n : NumberedStep) → Runs k ns m → Does m n.step l → Runs k (ns ++ n ∷ []) l
-one_more_step n Runs.none does = Runs.more does Runs.none
-one_more_step n (Runs.more first rest) does = Runs.more first (one_more_step n rest does)
+one_more_step : {k m l : Progress} {steps : List Step} (step : Step) → Runs k steps m → Does m step l → Runs k (steps ++ step ∷ []) l
+one_more_step step none does = more does none
+one_more_step step (more first rest) does = more first (one_more_step step rest does)
 
-pub begins : (o : Obligation) (k : Progress) → k ≡ begun o → Runs (begun o) [] k
-begins o k e = subst (λ (p : Progress). Runs (begun o) [] p) (sym e) Runs.none
+pub begins : (T : Tables) (o : Obligation) (k : Progress) → T ≡ no_tables → k ≡ begun T o → Runs (begun no_tables o) [] k
+begins T o k t e = subst (λ (p : Progress). Runs (begun no_tables o) [] p) (sym (e ∙ ap (λ (u : Tables). begun u o) t)) none
 
 pub goes_on : (o : Obligation) (steps : List NumberedStep) (i : ℕ) (n : NumberedStep) (k m : Progress) →
-    i < length steps → n ≡ get_or steps i n → Runs (begun o) (take i steps) k → Does k n.step m → Runs (begun o) (take (i + 1) steps) m
+    i < length steps → n ≡ get_or steps i n → Runs (begun no_tables o) (steps_of (take i steps)) k → Does k n.step m → Runs (begun no_tables o) (steps_of (take (i + 1) steps)) m
 goes_on o steps i n k m within is runs does =
-    subst (λ (ns : List NumberedStep). Runs (begun o) ns m) (sym (take_more steps i n within ∙ ap (λ (x : NumberedStep). take i steps ++ x ∷ []) (sym is))) (one_more_step n runs does)
+    let taken : take (i + 1) steps ≡ take i steps ++ n ∷ [] = take_more steps i n within ∙ ap (λ (x : NumberedStep). take i steps ++ x ∷ []) (sym is) in
+    let as_steps : steps_of (take (i + 1) steps) ≡ steps_of (take i steps) ++ n.step ∷ [] = ap steps_of taken ∙ map-append (λ (n : NumberedStep). n.step) (take i steps) (n ∷ []) in
+    subst (λ (ss : List Step). Runs (begun no_tables o) ss m) (sym as_steps) (one_more_step n.step runs does)
 
 split_at : (xs : List NumberedStep) (i : ℕ) (x : NumberedStep) → i < length xs → x ≡ get_or xs i x → (rest : List NumberedStep) × (xs ≡ take i xs ++ x ∷ rest)
 split_at [] i x within is = absurd (omega arith)
@@ -34,27 +39,52 @@ split_at (y ∷ ys) (suc i) x within is =
     let found = split_at ys i x (omega arith) is in
     (found.0, ap (λ zs. y ∷ zs) found.1)
 
+-- the steps that run are done, and what comes behind them is refused
+refused_step : {k m : Progress} {steps : List Step} (step : Step) (rest : List Step) → Runs k steps m → ((after : Progress) → Does m step after → ⊥) → RefusesFrom k (steps ++ step ∷ rest) (length steps)
+refused_step step rest none never = here never
+refused_step step rest (more first runs) never = later first (refused_step step rest runs never)
+
+refused_end : {k m : Progress} {steps : List Step} → Runs k steps m → (m.left ≡ [] → ⊥) → RefusesFrom k steps (length steps)
+refused_end none is_open = «open» is_open
+refused_end (more first runs) is_open = later first (refused_end runs is_open)
+
+line_of_step : (ns : List NumberedStep) (n : NumberedStep) (rest : List NumberedStep) («end» : ℕ) → n.line ≡ line_behind (length (steps_of ns)) (ns ++ n ∷ rest) «end»
+line_of_step [] n rest «end» = refl
+line_of_step (x ∷ ns) n rest «end» = line_of_step ns n rest «end»
+
+line_of_end : (ns : List NumberedStep) («end» : ℕ) → «end» ≡ line_behind (length (steps_of ns)) ns «end»
+line_of_end [] «end» = refl
+line_of_end (x ∷ ns) «end» = line_of_end ns «end»
+
+refused_behind : (o : Obligation) (ns : List NumberedStep) (n : NumberedStep) (rest : List NumberedStep) («end» : ℕ) (k : Progress) →
+    Runs (begun no_tables o) (steps_of ns) k → ((after : Progress) → Does k n.step after → ⊥) → IsRefusedAt o (ns ++ n ∷ rest) «end» n.line
+refused_behind o ns n rest «end» k runs never = record {
+  done = length (steps_of ns);
+  refuses = subst (λ (ss : List Step). RefusesFrom (begun no_tables o) ss (length (steps_of ns))) (sym (map-append (λ (n : NumberedStep). n.step) ns (n ∷ rest))) (refused_step n.step (steps_of rest) runs never);
+  is_line = line_of_step ns n rest «end»;
+}
+
 pub refused_there : (o : Obligation) (steps : List NumberedStep) («end» i : ℕ) (n : NumberedStep) (k : Progress) →
-    i < length steps → n ≡ get_or steps i n → Runs (begun o) (take i steps) k → ((after : Progress) → Does k n.step after → ⊥) → IsRefusedAt o steps «end» n.line
+    i < length steps → n ≡ get_or steps i n → Runs (begun no_tables o) (steps_of (take i steps)) k → ((after : Progress) → Does k n.step after → ⊥) → IsRefusedAt o steps «end» n.line
 refused_there o steps «end» i n k within is runs never =
     let found = split_at steps i n within is in
-    IsRefusedAt.at_step (take i steps) found.0 found.1 runs never
+    subst (λ (ns : List NumberedStep). IsRefusedAt o ns «end» n.line) (sym found.1) (refused_behind o (take i steps) n found.0 «end» k runs never)
 
-all_run : (o : Obligation) (steps : List NumberedStep) (i : ℕ) (k : Progress) → length steps ≤ i → Runs (begun o) (take i steps) k → Runs (begun o) steps k
-all_run o steps i k past runs = subst (λ (ns : List NumberedStep). Runs (begun o) ns k) (take_all i steps past) runs
+all_run : (o : Obligation) (steps : List NumberedStep) (i : ℕ) (k : Progress) → length steps ≤ i → Runs (begun no_tables o) (steps_of (take i steps)) k → Runs (begun no_tables o) (steps_of steps) k
+all_run o steps i k past runs = subst (λ (ns : List NumberedStep). Runs (begun no_tables o) (steps_of ns) k) (take_all i steps past) runs
 
-pub accepted : (o : Obligation) (steps : List NumberedStep) (i : ℕ) (k : Progress) → length steps ≤ i → Runs (begun o) (take i steps) k → k.left ≡ [] → IsAccepted o steps
+pub accepted : (o : Obligation) (steps : List NumberedStep) (i : ℕ) (k : Progress) → length steps ≤ i → Runs (begun no_tables o) (steps_of (take i steps)) k → k.left ≡ [] → IsAccepted o steps
 accepted o steps i k past runs closed = record { last = k; runs = all_run o steps i k past runs; closed = closed }
 
-pub left_open : (o : Obligation) (steps : List NumberedStep) («end» i : ℕ) (k : Progress) → length steps ≤ i → Runs (begun o) (take i steps) k → (k.left ≡ [] → ⊥) → IsRefusedAt o steps «end» «end»
-left_open o steps «end» i k past runs is_open = IsRefusedAt.at_end (all_run o steps i k past runs) is_open
+pub left_open : (o : Obligation) (steps : List NumberedStep) («end» i : ℕ) (k : Progress) → length steps ≤ i → Runs (begun no_tables o) (steps_of (take i steps)) k → (k.left ≡ [] → ⊥) → IsRefusedAt o steps «end» «end»
+left_open o steps «end» i k past runs is_open = record { done = length (steps_of steps); refuses = refused_end (all_run o steps i k past runs) is_open; is_line = line_of_end steps «end» }
 
 -- ---- one obligation
 
 pub proof_accepted : (ps : List Proof) (o : Obligation) (p : Proof) (steps : List NumberedStep) (r : Option ℕ) →
     find (is_for o) ps ≡ Some p → steps ≡ p.steps → Checks o steps p.«end» r → r ≡ None → Settles ps o None
-proof_accepted ps o p steps r found is checks none =
-    let at : Checks o steps p.«end» None = subst (λ (x : Option ℕ). Checks o steps p.«end» x) none checks in
+proof_accepted ps o p steps r found is checks is_none =
+    let at : Checks o steps p.«end» None = subst (λ (x : Option ℕ). Checks o steps p.«end» x) is_none checks in
     Settles.proved found (subst (λ (ns : List NumberedStep). IsAccepted o ns) is at)
 
 pub proof_refused : (ps : List Proof) (o : Obligation) (p : Proof) (steps : List NumberedStep) (r : Option ℕ) (line : ℕ) →

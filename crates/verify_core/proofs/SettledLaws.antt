@@ -1,42 +1,23 @@
 -- An obligation is left exactly where the file has no derivation of it.
-use Rattle.std.proofs.Common.{◌≡◌, ◌∙◌, refl, sym, subst, ℕ, List, [], ◌∷◌, map, None, Some}
+use Rattle.std.proofs.Common.{◌≡◌, ◌∙◌, refl, sym, subst, ℕ, List, [], ◌∷◌, None, Some}
 use Rattle.std.specs.Prelude.{◌↔◌}
 use Rattle.logic_term.specs.declared.obligation.Obligation.{Obligation}
 use Rattle.mir_machine.specs.Good.{Each}
-use Rattle.proof_kernel.specs.declared.step.Step.{Step}
 use Rattle.proof_kernel.specs.Derivation.{IsProof}
-use Rattle.proof_kernel.specs.Progress.{Progress}
-use Rattle.proof_kernel.specs.Accepts as accepts
+use Rattle.proof_kernel.specs.Setting.{no_tables}
 use Rattle.proof_kernel.proofs.AcceptLaw.{accepts_proofs}
 use Rattle.proof_text.specs.declared.proof.NumberedStep.{NumberedStep}
 use Rattle.proof_text.specs.declared.proof.Proof.{Proof}
 use Rattle.report_out.specs.declared.verdict.LeftItem.{LeftItem}
 use Rattle.report_out.specs.declared.verdict.Reason.{Reason}
-use Rattle.verify_core.specs.Verdict.{Does, Runs, IsAccepted, begun, Settles, HasDerivation, Judges}
+use Rattle.verify_core.specs.Verdict.{steps_of, IsAccepted, Settles, HasDerivation, Judges}
 use Rattle.verify_core.proofs.StepsOnce.{refused_is_no_proof}
 use Rattle.verify_core.proofs.Verified.{accepted_is_proof}
 
--- ---- the steps of a proof
-
--- steps that are numbered by their lines do what the steps do
-with_lines : (ns : List NumberedStep) (k l : Progress) → accepts.Runs k (map (λ n. n.step) ns) l → Runs k ns l
-with_lines [] k l r = subst (λ p. Runs k [] p) (sym (ends k l r)) Runs.none
-  where
-    ends : (k l : Progress) → accepts.Runs k [] l → l ≡ k
-    ends k l accepts.none = refl
-with_lines (n ∷ ns) k l r =
-    let f = starts k l n.step (map (λ n. n.step) ns) r in
-    Runs.more f.1 (with_lines ns f.0 l f.2)
-  where
-    starts : (k l : Progress) (step : Step) (steps : List Step) → accepts.Runs k (step ∷ steps) l → (m : Progress) × Does k step m × accepts.Runs m steps l
-    starts k l step steps (accepts.more {m = m} does rest) = (m, does, rest)
-
-proof_is_accepted : (o : Obligation) (steps : List NumberedStep) → IsProof o (map (λ n. n.step) steps) → IsAccepted o steps
-proof_is_accepted o steps proof =
-    let a = (accepts_proofs o (map (λ n. n.step) steps)).1 proof in
-    record { last = a.last; runs = with_lines steps (begun o) a.last a.runs; closed = a.closed }
-
 -- ---- obligations
+
+proof_is_accepted : (o : Obligation) (steps : List NumberedStep) → IsProof no_tables o (steps_of steps) → IsAccepted o steps
+proof_is_accepted o steps proof = (accepts_proofs no_tables o (steps_of steps)).1 proof
 
 pub settled_derives : (ps : List Proof) (o : Obligation) → Settles ps o None → HasDerivation ps o
 settled_derives ps o (Settles.proved {p = p} found accepted) = record { proof = p; is_for_it = found; derives = accepted_is_proof o p.steps accepted }

@@ -1,5 +1,5 @@
 -- What is proved by a file is derived, and so it is true; and each function that is verified is good.
-use Rattle.std.proofs.Common.{◌≡◌, sym, subst, ℕ, suc, ◌+◌, ◌<◌, Bool, true, false, List, [], ◌∷◌, ◌++◌, length, map, None, Some, slice_get, ◌∙◌, true≢false, arith}
+use Rattle.std.proofs.Common.{◌≡◌, sym, subst, ℕ, ◌<◌, Bool, true, false, List, [], ◌∷◌, length, None, Some, slice_get, ◌∙◌, true≢false}
 use Rattle.logic_term.specs.declared.obligation.Contract.{Contract}
 use Rattle.logic_term.specs.declared.obligation.Obligation.{Obligation}
 use Rattle.mir_ir.specs.declared.body.Body.{Body}
@@ -15,9 +15,9 @@ use Rattle.mir_machine.proofs.NeverStuck.{never_stuck}
 use Rattle.mir_build.specs.Laws.{Lowers}
 use Rattle.prophecy_sim.specs.Programs as sim
 use Rattle.prophecy_sim.proofs.GoodBody.{good as true_makes_good}
-use Rattle.proof_kernel.specs.declared.sequent.Sequent.{Sequent}
-use Rattle.proof_kernel.specs.Derivation.{Derives, no_step, one_step, IsProof}
-use Rattle.proof_kernel.specs.Progress.{Progress}
+use Rattle.proof_kernel.specs.Derivation.{IsProof}
+use Rattle.proof_kernel.specs.Setting.{no_tables}
+use Rattle.proof_kernel.proofs.AcceptLaw.{accepts_proofs}
 use Rattle.proof_kernel.proofs.Derived.{proof_is_sound}
 use Rattle.proof_text.specs.declared.proof.NumberedStep.{NumberedStep}
 use Rattle.proof_text.specs.declared.proof.Proof.{Proof}
@@ -32,7 +32,7 @@ use Rattle.std.specs.Prelude.{Ok}
 use Rattle.verify_core.specs.declared.goals.FunctionGoals.{FunctionGoals}
 use Rattle.verify_core.specs.declared.program.Program.{Program}
 use Rattle.verify_core.specs.Prepared.{IsPrepared, AreGoalsOf, HaveGoals, gone_of, program_of}
-use Rattle.verify_core.specs.Verdict.{Runs, IsAccepted, Settles, HasDerivation, Tells, IsVerified, IsVerdict}
+use Rattle.verify_core.specs.Verdict.{steps_of, IsAccepted, Settles, HasDerivation, Tells, IsVerified, IsVerdict}
 use Rattle.verify_core.proofs.Assembly.{sound, functions}
 use Rattle.verify_core.proofs.ReachLaws.{within, got}
 
@@ -43,25 +43,11 @@ some_same e = cc
 pub typed_program_fits : (items : List Item) (p : TypedProgram) → checked items ≡ Ok p → ProgramFits p
 typed_program_fits items p e = answered_fits items (Ok p) e
 
-plus_one : (n : ℕ) → n + 1 ≡ suc n
-plus_one n = omega arith
-
-derived : {k l : Progress} {ns : List NumberedStep} → Runs k ns l → Derives k.step k.left (map (λ n. n.step) ns) l.left
-derived Runs.none = no_step
-derived {l = l} {ns = n ∷ ns} (Runs.more {k = k} {m = m} does rest) =
-    let a = does.applies in
-    let after : Derives m.step m.left (map (λ n. n.step) ns) l.left = derived rest in
-    let moved : Derives (k.step + 1) (a.premises ++ a.others) (map (λ n. n.step) ns) l.left =
-    subst (λ (p : Progress). Derives p.step p.left (map (λ n. n.step) ns) l.left) a.is after in
-    let there : Derives (suc k.step) (a.premises ++ a.others) (map (λ n. n.step) ns) l.left =
-    subst (λ (s : ℕ). Derives s (a.premises ++ a.others) (map (λ n. n.step) ns) l.left) (plus_one k.step) moved in
-    subst (λ (qs : List Sequent). Derives k.step qs (map (λ n. n.step) (n ∷ ns)) l.left) (sym a.was) (one_step a.gives there)
-
-pub accepted_is_proof : (o : Obligation) (steps : List NumberedStep) → IsAccepted o steps → IsProof o (map (λ n. n.step) steps)
-accepted_is_proof o steps accepted = subst (λ (qs : List Sequent). Derives 1 (_) (map (λ n. n.step) steps) qs) accepted.closed (derived accepted.runs)
+pub accepted_is_proof : (o : Obligation) (steps : List NumberedStep) → IsAccepted o steps → IsProof no_tables o (steps_of steps)
+accepted_is_proof o steps accepted = (accepts_proofs no_tables o (steps_of steps)).0 accepted
 
 pub settled_is_true : (ps : List Proof) (o : Obligation) → Settles ps o None → IsTrueObligation nothing_declared o
-settled_is_true ps o (Settles.proved {p = p} found accepted) = proof_is_sound nothing_declared o (map (λ n. n.step) p.steps) (accepted_is_proof o p.steps accepted)
+settled_is_true ps o (Settles.proved {p = p} found accepted) = proof_is_sound no_tables o (steps_of p.steps) (accepted_is_proof o p.steps accepted)
 
 -- ---- what true obligations are worth
 
@@ -77,7 +63,7 @@ goals_at bs cs gones gs have as_many n b c is_b is_c =
 
 true_goals : (ps : List Proof) (os : List Obligation) → Each (HasDerivation ps) os → Each (IsTrueObligation nothing_declared) os
 true_goals ps [] each = tt
-true_goals ps (o ∷ os) (has, each) = (proof_is_sound nothing_declared o (map (λ n. n.step) has.proof.steps) has.derives, true_goals ps os each)
+true_goals ps (o ∷ os) (has, each) = (proof_is_sound no_tables o (steps_of has.proof.steps) has.derives, true_goals ps os each)
 
 verified_at : (ps : List Proof) (bodies : List Body) (goals : List FunctionGoals) (f : ℕ) (flag : Bool) → Tells flag (IsVerified ps bodies goals f) → flag ≡ true → IsVerified ps bodies goals f
 verified_at ps bodies goals f true tells e = tells

@@ -1,10 +1,11 @@
 -- What the kernel makes of the proofs of a file, and the verdict on the functions of a program.
-use Rattle.std.specs.Prelude.{◌≡◌, ℕ, suc, ◌==◌, ◌&&◌, Bool, true, false, List, [], ◌∷◌, ◌++◌, length, map, flat_map, Option, None, Some, slice_get}
+use Rattle.std.specs.Prelude.{◌≡◌, ℕ, zero, suc, ◌==◌, ◌&&◌, Bool, true, false, List, [], ◌∷◌, length, map, flat_map, Option, None, Some, slice_get}
 use Rattle.std.specs.List.{find}
 use Rattle.std.specs.Str.{bytes_eq}
 use Rattle.logic_term.specs.declared.obligation.Obligation.{Obligation}
-pub use Rattle.proof_kernel.specs.Accepts.{Does, begun}
-use Rattle.proof_kernel.specs.Progress.{Progress}
+use Rattle.proof_kernel.specs.declared.step.Step.{Step}
+use Rattle.proof_kernel.specs.Accepts.{Accepts, Refuses}
+use Rattle.proof_kernel.specs.Setting.{no_tables}
 use Rattle.proof_text.specs.declared.proof.NumberedStep.{NumberedStep}
 use Rattle.proof_text.specs.declared.proof.Proof.{Proof}
 use Rattle.report_out.specs.declared.verdict.Reason.{Reason}
@@ -20,22 +21,26 @@ use Rattle.prophecy_sim.specs.Programs.{Reaches}
 
 -- ---- one proof
 
--- the steps lead from the first to the second
-pub data Runs : Progress → List NumberedStep → Progress → Type 0 where
-  none : {k : Progress} → Runs k [] k
-  more : {k m l : Progress} {n : NumberedStep} {ns : List NumberedStep} → Does k n.step m → Runs m ns l → Runs k (n ∷ ns) l
+abbrev pub steps_of : List NumberedStep → List Step
+steps_of ns = map (λ n. n.step) ns
 
--- the kernel accepts the steps, and no sequent is left
-pub record IsAccepted (o : Obligation) (steps : List NumberedStep) : Type 0 where
-  pub last : Progress
-  pub runs : Runs (begun o) steps last
-  pub closed : last.left ≡ []
+-- the kernel does all steps, and no sequent is left; a source declares nothing that steps look up
+abbrev pub IsAccepted : Obligation → List NumberedStep → Type 0
+IsAccepted o steps = Accepts no_tables o (steps_of steps)
 
--- the line at which the steps are refused: that of the first step that cannot be done, or of the proof's end, where a
--- sequent is left
-pub data IsRefusedAt (o : Obligation) (steps : List NumberedStep) («end» : ℕ) : ℕ → Type 0 where
-  at_step : {n : NumberedStep} {k : Progress} (done rest : List NumberedStep) → steps ≡ done ++ n ∷ rest → Runs (begun o) done k → ((after : Progress) → Does k n.step after → ⊥) → IsRefusedAt o steps «end» n.line
-  at_end : {k : Progress} → Runs (begun o) steps k → (k.left ≡ [] → ⊥) → IsRefusedAt o steps «end» «end»
+-- the line of the step behind so many, or of the proof's end
+abbrev pub line_behind : ℕ → List NumberedStep → ℕ → ℕ
+line_behind k [] «end» = «end»
+line_behind zero (n ∷ ns) «end» = n.line
+line_behind (suc k) (n ∷ ns) «end» = line_behind k ns «end»
+
+-- the line at which the kernel refuses the steps: that of the first step that cannot be done, or of the proof's end,
+-- where a sequent is left
+pub record IsRefusedAt (o : Obligation) (steps : List NumberedStep) («end» line : ℕ) : Type 0 where
+  -- how many steps are done
+  pub done : ℕ
+  pub refuses : Refuses no_tables o (steps_of steps) done
+  pub is_line : line ≡ line_behind done steps «end»
 
 -- ---- one obligation
 
@@ -66,7 +71,7 @@ pub data Judges (ps : List Proof) : List Obligation → List LeftItem → ℕ �
 pub record HasDerivation (ps : List Proof) (o : Obligation) : Type 0 where
   pub proof : Proof
   pub is_for_it : find (is_for o) ps ≡ Some proof
-  pub derives : IsProof o (map (λ n. n.step) proof.steps)
+  pub derives : IsProof no_tables o (steps_of proof.steps)
 
 -- each obligation of the function has a derivation
 abbrev pub IsProved : List Proof → FunctionGoals → Type 0

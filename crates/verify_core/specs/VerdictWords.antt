@@ -2,11 +2,12 @@
 use Rattle.std.specs.Prelude.{◌≡◌, ℕ, ◌+◌, Bool, true, false, List, [], ◌∷◌, ◌++◌, Option, None, Some}
 use Rattle.logic_term.specs.declared.obligation.Obligation.{Obligation}
 use Rattle.proof_kernel.specs.declared.step.Step.{Step}
+use Rattle.proof_kernel.specs.Accepts.{Does}
 use Rattle.proof_kernel.specs.Progress.{Progress}
 use Rattle.proof_text.specs.declared.proof.NumberedStep.{NumberedStep}
 use Rattle.report_out.specs.declared.verdict.Reason.{Reason}
 use Rattle.report_out.specs.declared.verdict.LeftItem.{LeftItem}
-use Rattle.verify_core.specs.Verdict.{Does, IsAccepted, IsRefusedAt, left_item}
+use Rattle.verify_core.specs.Verdict.{IsAccepted, IsRefusedAt, left_item}
 
 -- whether the step was done; where it cannot be, nothing changes
 abbrev pub TakesStep : Progress → Step → Progress → Bool → Type 0

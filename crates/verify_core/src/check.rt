@@ -8,7 +8,7 @@ use std::alloc::Global;
 use text_core::NoMemory;
 
 /// Does the step. `false`: it cannot be done.
-fn take_step(alloc: Global, kernel: &mut Kernel, step: &Step) -> Result<bool, NoMemory>
+fn take_step(alloc: Global, kernel: &mut Kernel<'_>, step: &Step) -> Result<bool, NoMemory>
     requires { kernel.old.step + 1 < 2 ^ 32 }
     ensures { IfOk result (TakesStep kernel.old step.now kernel.new) }
 {
@@ -34,7 +34,8 @@ pub(crate) fn refused_line(
     if steps.len() >= u32::MAX as usize - 1 {
         return Err(NoMemory);
     }
-    let mut kernel = Kernel::new(alloc, obligation, &Tables)?;
+    let tables = Tables::new(alloc);
+    let mut kernel = Kernel::new(alloc, obligation, &tables)?;
     for numbered in steps {
         if !take_step(alloc, &mut kernel, &numbered.step)? {
             return Ok(Some(numbered.line));

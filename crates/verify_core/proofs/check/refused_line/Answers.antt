@@ -1,13 +1,13 @@
 use Rattle.std.proofs.Common.{◌∙◌, ℕ, ◌+◌, Bool, sym, ap, subst, arith, true≢false}
 use Rattle.proof_kernel.specs.Progress.{Progress}
-use Rattle.verify_core.specs.Verdict.{Does}
+use Rattle.proof_kernel.specs.Accepts.{Does}
 use Rattle.verify_core.specs.VerdictWords.{TakesStep}
 use Rattle.verify_core.proofs.RunLaws.{begins, goes_on, refused_there, left_open, done_number}
 use Rattle.verify_core.proofs.check.refused_line.Goals as goal
 
 pub loop-numbered-init : goal.loop-numbered-init
 loop-numbered-init c = record {
-  runs = begins c.args.obligation.now c.in_ok-kernel.kernel c.in_ok-kernel.ensures;
+  runs = begins c.new-tables.result c.args.obligation.now c.in_ok-kernel.kernel c.new-tables.ensures c.in_ok-kernel.ensures;
   number = ap (λ (k : Progress). k.step) c.in_ok-kernel.ensures;
 }
 
