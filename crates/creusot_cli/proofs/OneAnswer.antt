@@ -84,7 +84,7 @@ data Found : Type 0 where
 
 -- what an answer about an accepted source is
 data OfProgram (verb : Verb) (proofs : Option Fetched) (bytes : List ℕ) (p : Program) (status : ℕ) (printed : List ℕ) : Type 0 where
-  lists : verb ≡ Listing → Same status printed 0 (list_text bytes p.functions) → OfProgram verb proofs bytes p status printed
+  lists : verb ≡ Listing → Same status printed 0 (list_text p.names bytes p.functions) → OfProgram verb proofs bytes p status printed
   verifies : verb ≡ Verify → AnswersProofs bytes p proofs status printed → OfProgram verb proofs bytes p status printed
 
 module _ (verb : Verb) (source : Fetched) (proofs : Option Fetched) where
