@@ -50,7 +50,7 @@ past_limit verb source limit short past plan (status, printed) = rw (status, pri
 pub is_program : (source : List ℕ) (p : Program) → length source ≤ most_bytes → IsPrepared source p → IsProgramOf (whole source) source p
 is_program source p short prepared = record { is_whole = refl; short = short; prepared = prepared }
 
-pub listed_answers : (verb : Verb) (source : List ℕ) (p : Program) (plan : Plan) → verb ≡ Listing → length source ≤ most_bytes → IsPrepared source p → (plan.status ≡ 0) × (plan.bytes.items ≡ list_text source p.functions) →
+pub listed_answers : (verb : Verb) (source : List ℕ) (p : Program) (plan : Plan) → verb ≡ Listing → length source ≤ most_bytes → IsPrepared source p → (plan.status ≡ 0) × (plan.bytes.items ≡ list_text p.names source p.functions) →
     AnswersSource verb (whole source) plan.status plan.bytes.items
 listed_answers verb source p plan v short prepared (status, printed) = rw (status, printed) (AnswersSource.listed source p v (is_program source p short prepared))
 

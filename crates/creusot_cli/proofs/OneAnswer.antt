@@ -2,10 +2,11 @@
 use Rattle.std.proofs.Common.{◌≡◌, ◌∙◌, refl, sym, ap, subst, ℕ, ◌≤◌, List, [], length, Option, Some, None}
 use Rattle.text_core.specs.declared.refusal.Limit.{Limit}
 use Rattle.text_core.specs.declared.refusal.SourceError.{SourceError}
+use Rattle.name_tables.specs.NameTables.{with_names}
 use Rattle.name_tables.proofs.Tables.{one_place_at_first}
 use Rattle.proof_text.specs.declared.proof.Proof.{Proof}
 use Rattle.proof_text.specs.declared.proof.ProofFile.{ProofFile}
-use Rattle.proof_text.specs.ProofTextFile.{IsFirstBadLine}
+use Rattle.proof_text.specs.ProofFileForm.{IsFirstBadLine, texts_in}
 use Rattle.proof_text.proofs.FormLaw.{one_reading, spelled_once}
 use Rattle.report_out.specs.Report.{report_of, source_error_line, proof_error_line, limit_line}
 use Rattle.call_words.specs.declared.request.Verb.{Verb}
@@ -43,9 +44,9 @@ long_not_read _ n _ e (AreProofs.given bytes short spelled) = cc
 
 bad_not_read : (o : Option Fetched) (bytes : List ℕ) (line : ℕ) (given : List Proof) → o ≡ Some (whole bytes) → IsFirstBadLine bytes line → AreProofs o given → ⊥
 bad_not_read _ bytes line _ e bad AreProofs.absent = cc
-bad_not_read _ bytes line _ e bad (AreProofs.given other short spelled) =
+bad_not_read _ bytes line _ e bad (AreProofs.given {file} other short spelled) =
     let same : bytes ≡ other = cc in
-    one_reading.not_both other spelled.0 line spelled.1 (subst (λ (x : List ℕ). IsFirstBadLine x line) same bad)
+    one_reading.not_both (with_names [] (texts_in other)) other file.proofs line spelled (subst (λ (x : List ℕ). IsFirstBadLine x line) same bad)
 
 same_proofs : (o : Option Fetched) (one other : List Proof) → AreProofs o one → AreProofs o other → one ≡ other
 same_proofs None _ _ AreProofs.absent AreProofs.absent = refl
@@ -83,7 +84,7 @@ data Found : Type 0 where
 
 -- what an answer about an accepted source is
 data OfProgram (verb : Verb) (proofs : Option Fetched) (bytes : List ℕ) (p : Program) (status : ℕ) (printed : List ℕ) : Type 0 where
-  lists : verb ≡ Listing → Same status printed 0 (list_text bytes p.functions) → OfProgram verb proofs bytes p status printed
+  lists : verb ≡ Listing → Same status printed 0 (list_text p.names bytes p.functions) → OfProgram verb proofs bytes p status printed
   verifies : verb ≡ Verify → AnswersProofs bytes p proofs status printed → OfProgram verb proofs bytes p status printed
 
 module _ (verb : Verb) (source : Fetched) (proofs : Option Fetched) where

@@ -47,7 +47,7 @@ pub data AnswersSource (verb : Verb) (source : Fetched) : ℕ → List ℕ → T
   source_long : {n : ℕ} → source ≡ longer n → most_bytes < n → AnswersSource verb source 7 (limit_line (source_limit n))
   source_refused : {bytes : List ℕ} {error : SourceError} → source ≡ whole bytes → length bytes ≤ most_bytes → IsRefused bytes error → AnswersSource verb source 3 (source_error_line bytes error)
   limit_passed : {bytes : List ℕ} {limit : Limit} → source ≡ whole bytes → length bytes ≤ most_bytes → IsPastLimit bytes limit → AnswersSource verb source 7 (limit_line limit)
-  listed : (bytes : List ℕ) (p : Program) → verb ≡ Listing → IsProgramOf source bytes p → AnswersSource verb source 0 (list_text bytes p.functions)
+  listed : (bytes : List ℕ) (p : Program) → verb ≡ Listing → IsProgramOf source bytes p → AnswersSource verb source 0 (list_text p.names bytes p.functions)
 
 -- ---- the proofs of an accepted source
 

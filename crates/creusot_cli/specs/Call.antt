@@ -105,7 +105,7 @@ pub record ListsAll (shelf : Option Files) (a : Asked) (status : ℕ) (before af
   pub program : Program
   pub has : HasProgram shelf a source program
   pub zero : status ≡ 0
-  pub printed : Appends before after (list_text source program.functions)
+  pub printed : Appends before after (list_text program.names source program.functions)
 
 abbrev pub DoesVerb : Verb → Option Files → Asked → ℕ → Option (List ℕ) → Option (List ℕ) → Type 0
 DoesVerb Verify = Reports

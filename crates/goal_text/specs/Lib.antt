@@ -1,2 +1,5 @@
+pub mod BoundView
 pub mod GoalText
 pub mod SortText
+pub mod Spelling
+pub mod SpellingView

@@ -5,6 +5,7 @@ use Rattle.std.specs.List.{join_by}
 use Rattle.source_kinds.specs.declared.kinds.IntKind.{IntKind}
 use Rattle.source_kinds.specs.declared.kinds.IntKind.TheVariants.{I8, I16, I32, I64, Isize, U8, U16, U32, U64, Usize}
 use Rattle.logic_term.specs.Ty.{Ty, Tys, int, bool, math_int, tuple, adt, boxed, shared, unique, param, closure, viewed, snapshot, no_tys, and_ty}
+use Rattle.goal_text.specs.Spelling.{Spelling, adt_text}
 
 -- A, B
 abbrev pub commas : List (List ℕ) → List ℕ
@@ -34,26 +35,31 @@ kind_text U32 = codes "u32"
 kind_text U64 = codes "u64"
 kind_text Usize = codes "usize"
 
+-- <A, B>, where there is any
+abbrev pub arguments_text : List (List ℕ) → List ℕ
+arguments_text [] = []
+arguments_text (t ∷ ts) = codes "<" ++ commas (t ∷ ts) ++ codes ">"
+
 -- the sort, regions and signatures left out
 abbrev mutual
-  pub sort_text : Ty → List ℕ
-  sort_text (int kind) = kind_text kind
-  sort_text bool = codes "bool"
-  sort_text math_int = codes "Int"
-  sort_text (tuple parts) = tuple_text (sort_texts parts)
-  sort_text (adt declared regions types) = numbered (codes "declared") declared.0 ++ codes "<" ++ commas (sort_texts types) ++ codes ">"
-  sort_text (boxed t) = codes "Box<" ++ sort_text t ++ codes ">"
-  sort_text (shared region t) = codes "&" ++ sort_text t
-  sort_text (unique region t) = codes "&mut " ++ sort_text t
-  sort_text (param number) = numbered (codes "param") number
-  sort_text (closure number types captures kind params result) =
-      numbered (codes "closure") number ++ codes "<" ++ commas (sort_texts types) ++ codes ">(" ++ commas (sort_texts captures) ++ codes ")"
-  sort_text (viewed t) = codes "View<" ++ sort_text t ++ codes ">"
-  sort_text (snapshot t) = codes "Snapshot<" ++ sort_text t ++ codes ">"
+  pub sort_text : Spelling → Ty → List ℕ
+  sort_text w (int kind) = kind_text kind
+  sort_text w bool = codes "bool"
+  sort_text w math_int = codes "Int"
+  sort_text w (tuple parts) = tuple_text (sort_texts w parts)
+  sort_text w (adt declared regions types) = adt_text w declared.0 ++ arguments_text (sort_texts w types)
+  sort_text w (boxed t) = codes "Box<" ++ sort_text w t ++ codes ">"
+  sort_text w (shared region t) = codes "&" ++ sort_text w t
+  sort_text w (unique region t) = codes "&mut " ++ sort_text w t
+  sort_text w (param number) = numbered (codes "param") number
+  sort_text w (closure number types captures kind params result) =
+      numbered (codes "closure") number ++ codes "<" ++ commas (sort_texts w types) ++ codes ">(" ++ commas (sort_texts w captures) ++ codes ")"
+  sort_text w (viewed t) = codes "View<" ++ sort_text w t ++ codes ">"
+  sort_text w (snapshot t) = codes "Snapshot<" ++ sort_text w t ++ codes ">"
 
-  pub sort_texts : Tys → List (List ℕ)
-  sort_texts no_tys = []
-  sort_texts (and_ty t ts) = sort_text t ∷ sort_texts ts
+  pub sort_texts : Spelling → Tys → List (List ℕ)
+  sort_texts w no_tys = []
+  sort_texts w (and_ty t ts) = sort_text w t ∷ sort_texts w ts
 
 -- what follows the digits of a literal of the sort
 abbrev pub suffix : Ty → List ℕ

@@ -3,6 +3,8 @@
 
 mod piece;
 mod sort;
+mod spelling;
 mod term;
 
+pub use spelling::Spelling;
 pub use term::goal_text;

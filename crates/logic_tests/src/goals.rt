@@ -1,20 +1,34 @@
-use goal_text::goal_text;
+use goal_text::{Spelling, goal_text};
 use logic_term::{
-    AdtId, CompoundTy, Ctor, FnBound, FnKind, Region, Sort, Term, Ty, TyNode, TyUnary,
+    AdtDecl, AdtId, CompoundTy, Ctor, FieldDecl, Region, Sort, Term, Ty, TyNode, TyUnary,
+    VariantDecl,
 };
 use source_kinds::{ArithOp, IntKind};
 use std::alloc::Global;
 use std::process::Abort;
 use std::test::Fail;
-use text_core::{Name, NoMemory};
+use text_core::name::{BOX, MEM, NONE, OPTION, SOME, SWAP};
+use text_core::{Items, Name, Names, NoMemory, Span};
 
 const X: Name = Name(70);
 
 const Y: Name = Name(50);
 
+const NOWHERE: Span = Span { start: 0, end: 0 };
+
+/// The text of the goal of a program that declares nothing.
+fn plain_text(alloc: Global, goal: &Term) -> Result<Vec<u8>, NoMemory> {
+    let names = Names::new(alloc);
+    let spelling = Spelling {
+        adts: &[],
+        names: &names,
+    };
+    goal_text(alloc, &spelling, goal)
+}
+
 /// The text of the goal is this one.
 fn expect(rt: &impl Abort, alloc: Global, goal: Term, wanted: &[u8]) -> Result<(), NoMemory> {
-    let text = goal_text(alloc, &goal)?;
+    let text = plain_text(alloc, &goal)?;
     assert!(rt; text.as_slice() == wanted);
     Ok(())
 }
@@ -175,28 +189,27 @@ fn inner_binder_counts(rt: HostRuntime) -> Result<(), Fail> {
 }
 
 /// A value of so many parts.
-fn made_text(alloc: Global, ctor: Ctor, parts: usize) -> Result<Vec<u8>, NoMemory> {
+fn made(alloc: Global, ctor: Ctor, parts: usize) -> Result<Term, NoMemory> {
     let mut terms = Vec::new(alloc);
     for i in 0..parts {
         terms.push(Term::truth(alloc, i == 0)?)?;
     }
-    goal_text(alloc, &Term::made(alloc, ctor, terms)?)
+    Term::made(alloc, ctor, terms)
 }
 
-const VALUES: [(Ctor, usize, &[u8]); 6] = [
+const VALUES: [(Ctor, usize, &[u8]); 5] = [
     (Ctor::Tuple, 0, b"()"),
     (Ctor::Tuple, 1, b"(true,)"),
     (Ctor::Tuple, 3, b"(true, false, false)"),
     (Ctor::Closure(7), 0, b"closure()"),
     (Ctor::Closure(7), 2, b"closure(true, false)"),
-    (Ctor::Variant(AdtId(3), 1), 1, b"declared3::1(true)"),
 ];
 
 #[test]
 fn values(rt: HostRuntime) -> Result<(), Fail> {
     let alloc = rt.alloc();
     for (ctor, parts, wanted) in VALUES {
-        let text = made_text(alloc, ctor, parts)?;
+        let text = plain_text(alloc, &made(alloc, ctor, parts)?)?;
         assert!(rt; text.as_slice() == wanted);
     }
     Ok(())
@@ -205,7 +218,7 @@ fn values(rt: HostRuntime) -> Result<(), Fail> {
 /// `true` for each value of the sort.
 fn sort_text(alloc: Global, sort: Ty) -> Result<Vec<u8>, NoMemory> {
     let body = Term::truth(alloc, true)?;
-    goal_text(alloc, &Term::forall(alloc, X, sort, body)?)
+    plain_text(alloc, &Term::forall(alloc, X, sort, body)?)
 }
 
 /// So many sorts.
@@ -282,40 +295,94 @@ fn sorts_around_a_sort(rt: HostRuntime) -> Result<(), Fail> {
     Ok(())
 }
 
+/// A field of truth values.
+fn field(name: Name) -> FieldDecl {
+    FieldDecl {
+        name,
+        ty: Ty::bool(),
+        span: NOWHERE,
+    }
+}
+
+/// A variant with these fields.
+fn variant(alloc: Global, name: Name, fields: &[Name]) -> Result<VariantDecl, NoMemory> {
+    let mut of_truths = Vec::new(alloc);
+    for name in fields {
+        of_truths.push(field(*name))?;
+    }
+    let fields = Items::from_vec(of_truths);
+    Ok(VariantDecl { name, fields })
+}
+
+/// A declared type with these variants.
+fn declared(name: Name, variants: Vec<VariantDecl>, is_struct: bool) -> AdtDecl {
+    AdtDecl {
+        name,
+        regions: 0,
+        params: 0,
+        variants: Items::from_vec(variants),
+        is_struct,
+        copy: false,
+        span: NOWHERE,
+    }
+}
+
+/// A struct with two named fields, and an enum with a variant of a numbered field.
+fn two_types(alloc: Global, zero: Name) -> Result<Vec<AdtDecl>, NoMemory> {
+    let mut of_box = Vec::new(alloc);
+    of_box.push(variant(alloc, BOX, &[MEM, SWAP])?)?;
+    let mut of_option = Vec::new(alloc);
+    of_option.push(variant(alloc, NONE, &[])?)?;
+    of_option.push(variant(alloc, SOME, &[zero])?)?;
+    let mut adts = Vec::new(alloc);
+    adts.push(declared(BOX, of_box, true))?;
+    adts.push(declared(OPTION, of_option, false))?;
+    Ok(adts)
+}
+
+const DECLARED: [(Ctor, usize, &[u8]); 3] = [
+    (
+        Ctor::Variant(AdtId(0), 0),
+        2,
+        b"Box { mem: true, swap: false }",
+    ),
+    (Ctor::Variant(AdtId(1), 0), 0, b"Option::None"),
+    (Ctor::Variant(AdtId(1), 1), 1, b"Option::Some(true)"),
+];
+
 #[test]
-fn numbered_sorts(rt: HostRuntime) -> Result<(), Fail> {
+fn values_of_declared_types(rt: HostRuntime) -> Result<(), Fail> {
     let alloc = rt.alloc();
-    let regions = Vec::from_slice(alloc, &[Region(1)])?;
-    let parts = CompoundTy::Adt(AdtId(3), regions, sorts(alloc, 2)?);
-    let declared = Ty::compound(alloc, parts)?;
-    expect_sort(
-        &rt,
-        alloc,
-        declared,
-        b"(forall<v1: declared3<Int, bool>> true)",
-    )?;
-    let parameter = Ty {
-        node: TyNode::Param(2),
+    let mut names = Names::new(alloc);
+    let zero = names.intern(alloc, "0")?;
+    let adts = two_types(alloc, zero)?;
+    let spelling = Spelling {
+        adts: &adts,
+        names: &names,
     };
-    expect_sort(&rt, alloc, parameter, b"(forall<v1: param2> true)")?;
+    for (ctor, parts, wanted) in DECLARED {
+        let goal = made(alloc, ctor, parts)?;
+        let text = goal_text(alloc, &spelling, &goal)?;
+        assert!(rt; text.as_slice() == wanted);
+    }
     Ok(())
 }
 
 #[test]
-fn sort_of_a_closure(rt: HostRuntime) -> Result<(), Fail> {
+fn declared_sorts(rt: HostRuntime) -> Result<(), Fail> {
     let alloc = rt.alloc();
-    let bound = FnBound {
-        kind: FnKind::Fn,
-        params: sorts(alloc, 1)?,
-        result: Ty::bool(),
+    let mut names = Names::new(alloc);
+    let zero = names.intern(alloc, "0")?;
+    let adts = two_types(alloc, zero)?;
+    let spelling = Spelling {
+        adts: &adts,
+        names: &names,
     };
-    let parts = CompoundTy::Closure(4, sorts(alloc, 1)?, sorts(alloc, 2)?, bound);
-    let closure = Ty::compound(alloc, parts)?;
-    expect_sort(
-        &rt,
-        alloc,
-        closure,
-        b"(forall<v1: closure4<Int>(Int, bool)> true)",
-    )?;
+    let regions = Vec::from_slice(alloc, &[Region(1)])?;
+    let parts = CompoundTy::Adt(AdtId(1), regions, sorts(alloc, 2)?);
+    let sort = Ty::compound(alloc, parts)?;
+    let goal = Term::forall(alloc, X, sort, Term::truth(alloc, true)?)?;
+    let text = goal_text(alloc, &spelling, &goal)?;
+    assert!(rt; text.as_slice() == b"(forall<v1: Option<Int, bool>> true)".as_slice());
     Ok(())
 }

@@ -3,11 +3,18 @@ use Rattle.std.proofs.Common.{◌≡◌, ℕ, suc, ◌+◌, ◌==◌, ◌||◌, 
 use Rattle.std.specs.List.{list_any, slice_split, onto_first}
 use Rattle.std.proofs.lemmas.List.{append-nil}
 use Rattle.std.proofs.lemmas.Bool.Decides.{nat_tests}
-use Rattle.proof_text.specs.ProofFileForm.{SaidProof, HasNoFeed, AreLines, ended, IsFileOf, BeginsFile, IsFirstBadLine}
-use Rattle.proof_text.specs.ProofTextFile.{State, start, between, within, next_state, or_bad, and_then, state_after_all, proofs_at_end, proofs_of_pieces, proofs_of}
+use Rattle.name_tables.specs.NameTables.{with_names}
+use Rattle.proof_text.specs.declared.proof.Proof.{Proof}
+use Rattle.proof_text.specs.declared.proof.ProofFile.{ProofFile}
+use Rattle.proof_text.specs.ProofTextWords.{Each}
+use Rattle.proof_text.specs.ProofFileForm.{texts_of_lines, HasNoFeed, AreLines, ended, IsFileOf, texts_in, SpellsProofs, BeginsFile, IsFirstBadLine}
+use Rattle.proof_text.specs.ProofTextFile.{ProofText, IsProofOf, State, start, between, within, next_state, or_bad, and_then, state_after_all, proofs_at_end, proofs_of_pieces, proofs_of}
 use Rattle.proof_text.proofs.EndLemmas.{last_apart}
 use Rattle.proof_text.proofs.FormRuns.{run_append, form_run}
-use Rattle.proof_text.proofs.FormRead.{form_of, begins, begun}
+use Rattle.proof_text.proofs.FormRead.{proofs_there, form_of, begins, begun}
+use Rattle.proof_text.proofs.StepLaw.{AreNamed}
+use Rattle.proof_text.proofs.KeptNames.{each_named, named_parts}
+use Rattle.proof_text.proofs.NameOrder.{texts_append}
 
 -- ---- the text and its lines
 
@@ -79,17 +86,21 @@ proofs_by lines rest a h = ap proofs_of_pieces (split_lines lines rest a h) ∙ 
 
 -- ---- a file
 
-pub file_read : (bytes : List ℕ) (said : List SaidProof) → IsFileOf bytes said → proofs_of bytes ≡ Ok said
-file_read bytes said f =
-    ap proofs_of (f.whole ∙ sym (append-nil (ended f.lines)))
-    ∙ (proofs_by f.lines [] f.are_lines refl ∙ ap (λ r. and_then r (proofs_at_end (length f.lines + 1) [])) (form_run f.lines said f.form))
+pub file_read : (table : List (List ℕ)) (bytes : List ℕ) (proofs : List Proof) → IsFileOf table bytes proofs → (said : List ProofText) × (proofs_of bytes ≡ Ok said) × Each (IsProofOf table) said proofs
+file_read table bytes proofs f =
+    let run = form_run table f.lines proofs f.form in (
+      run.0,
+      ap proofs_of (f.whole ∙ sym (append-nil (ended f.lines)))
+          ∙ (proofs_by f.lines [] f.are_lines refl ∙ ap (λ r. and_then r (proofs_at_end (length f.lines + 1) [])) run.1),
+      run.2,
+    )
 
 -- where the lines may end
-pub record Ends (state : Result State ℕ) (rest : List ℕ) (said : List SaidProof) : Type 0 where
+pub record Ends (state : Result State ℕ) (rest : List ℕ) (said : List ProofText) : Type 0 where
   pub none : rest ≡ []
   pub last : state ≡ Ok (between said)
 
-ends_at : (s : State) (n : ℕ) (rest : List ℕ) (said : List SaidProof) → proofs_at_end n rest s ≡ Ok said → Ends (Ok s) rest said
+ends_at : (s : State) (n : ℕ) (rest : List ℕ) (said : List ProofText) → proofs_at_end n rest s ≡ Ok said → Ends (Ok s) rest said
 ends_at (between ps) n [] said e = let same : ps ≡ said = cc in record { none = refl; last = ap (λ l. Ok (between l)) same }
 ends_at start n [] said e = absurd (cc)
 ends_at (within ps k o done) n [] said e = absurd (cc)
@@ -97,12 +108,26 @@ ends_at start n (b ∷ bs) said e = absurd (cc)
 ends_at (between ps) n (b ∷ bs) said e = absurd (cc)
 ends_at (within ps k o done) n (b ∷ bs) said e = absurd (cc)
 
-pub ends_by : (r : Result State ℕ) (n : ℕ) (rest : List ℕ) (said : List SaidProof) → and_then r (proofs_at_end n rest) ≡ Ok said → Ends r rest said
+pub ends_by : (r : Result State ℕ) (n : ℕ) (rest : List ℕ) (said : List ProofText) → and_then r (proofs_at_end n rest) ≡ Ok said → Ends r rest said
 ends_by (Ok s) n rest said e = ends_at s n rest said e
 ends_by (Err m) n rest said e = absurd (cc)
 
-pub read_file : (bytes : List ℕ) (said : List SaidProof) → proofs_of bytes ≡ Ok said → IsFileOf bytes said
-read_file bytes said e =
+-- the lines of a text that has these proofs
+record Whole (bytes : List ℕ) (said : List ProofText) : Type 0 where
+  lines : List (List ℕ)
+  are_lines : AreLines lines
+  whole : bytes ≡ ended lines
+  leads : state_after_all lines start 1 ≡ Ok (between said)
+  texts : (table : List (List ℕ)) → AreNamed table (texts_in bytes) → AreNamed table (texts_of_lines lines)
+
+cut_texts : (table : List (List ℕ)) (bytes : List ℕ) (c : Cut bytes) → AreNamed table (texts_in bytes) → AreNamed table (texts_of_lines c.lines)
+cut_texts table bytes c named =
+    let pieces : slice_split is_feed bytes ≡ c.lines ++ c.rest ∷ [] = ap (slice_split is_feed) c.whole ∙ split_lines c.lines c.rest c.are_lines c.no_feed in
+    let texts : texts_in bytes ≡ texts_of_lines c.lines ++ texts_of_lines (c.rest ∷ []) = ap texts_of_lines pieces ∙ texts_append c.lines (c.rest ∷ []) in
+    (named_parts table (texts_of_lines c.lines) (texts_of_lines (c.rest ∷ [])) (subst (AreNamed table) texts named)).0
+
+whole_of : (bytes : List ℕ) (said : List ProofText) → proofs_of bytes ≡ Ok said → Whole bytes said
+whole_of bytes said e =
     let c = cut bytes in
     let n : ℕ = length c.lines + 1 in
     let reads : and_then (state_after_all c.lines start 1) (proofs_at_end n c.rest) ≡ Ok said = sym (proofs_by c.lines c.rest c.are_lines c.no_feed) ∙ (ap proofs_of (sym c.whole) ∙ e) in
@@ -111,8 +136,22 @@ read_file bytes said e =
       lines = c.lines;
       are_lines = c.are_lines;
       whole = c.whole ∙ (ap (λ r. ended c.lines ++ r) ends.none ∙ append-nil (ended c.lines));
-      form = form_of c.lines said ends.last;
+      leads = ends.last;
+      texts = λ table named. cut_texts table bytes c named;
     }
+
+pub read_file : (table : List (List ℕ)) (bytes : List ℕ) (said : List ProofText) (proofs : List Proof) → proofs_of bytes ≡ Ok said → Each (IsProofOf table) said proofs → IsFileOf table bytes proofs
+read_file table bytes said proofs e each =
+    let w = whole_of bytes said e in
+    record { lines = w.lines; are_lines = w.are_lines; whole = w.whole; form = form_of table w.lines said proofs w.leads each }
+
+-- from each table
+pub file_there : (old : List (List ℕ)) (bytes : List ℕ) (said : List ProofText) → proofs_of bytes ≡ Ok said → (file : ProofFile) × SpellsProofs old bytes file
+file_there old bytes said e =
+    let w = whole_of bytes said e in
+    let table : List (List ℕ) = with_names old (texts_in bytes) in
+    let proofs = proofs_there table w.lines said (w.texts table (each_named old (texts_in bytes))) w.leads in
+    (record { proofs = proofs.0 }, read_file table bytes said proofs.0 e proofs.1)
 
 -- ---- the first bad line
 
@@ -192,7 +231,7 @@ bad_end (within ps k o done) n m (b ∷ bs) e = cc
 first_by : (bytes : List ℕ) (m : ℕ) (c : Cut bytes) (r : Result State ℕ) → state_after_all c.lines start 1 ≡ r → and_then r (proofs_at_end (length c.lines + 1) c.rest) ≡ Err m → proofs_of bytes ≡ Err m → IsFirstBadLine bytes m
 first_by bytes m c (Err n) is e whole = let same : n ≡ m = cc in at_line bytes c.lines c.rest m c.are_lines c.whole (breaks c.lines start 1 m (is ∙ ap Err same))
 first_by bytes m c (Ok s) is e whole =
-    let none : (proofs : List SaidProof) → IsFileOf bytes proofs → ⊥ = λ proofs f. let read : proofs_of bytes ≡ Ok proofs = file_read bytes proofs f in absurd (cc) in
+    let none : (table : List (List ℕ)) (proofs : List Proof) → IsFileOf table bytes proofs → ⊥ = λ table proofs f. let read : proofs_of bytes ≡ Ok (file_read table bytes proofs f).0 = (file_read table bytes proofs f).1 in absurd (cc) in
     subst (IsFirstBadLine bytes) (bad_end s (length c.lines + 1) m c.rest e) (IsFirstBadLine.at_end c.lines c.rest c.whole c.are_lines c.no_feed (begins c.lines s is) none)
 
 pub bad_read : (bytes : List ℕ) (m : ℕ) → proofs_of bytes ≡ Err m → IsFirstBadLine bytes m
@@ -216,8 +255,9 @@ line_by before text s (Err m) leads is never =
 stays_bad : (xs ys : List (List ℕ)) (m : ℕ) → state_after_all xs start 1 ≡ Err m → state_after_all (xs ++ ys) start 1 ≡ Err m
 stays_bad xs ys m e = run_append xs ys start 1 ∙ ap (λ r. and_then r (λ t. state_after_all ys t (1 + length xs))) e
 
-end_by : (bytes : List ℕ) (lines : List (List ℕ)) (rest : List ℕ) (s : State) (r : Result (List SaidProof) ℕ) → proofs_of bytes ≡ r → proofs_at_end (length lines + 1) rest s ≡ r → ((proofs : List SaidProof) → IsFileOf bytes proofs → ⊥) → r ≡ Err (length lines + 1)
-end_by bytes lines rest s (Ok said) is e none = absurd (none said (read_file bytes said is))
+end_by : (bytes : List ℕ) (lines : List (List ℕ)) (rest : List ℕ) (s : State) (r : Result (List ProofText) ℕ) → proofs_of bytes ≡ r → proofs_at_end (length lines + 1) rest s ≡ r → ((table : List (List ℕ)) (proofs : List Proof) → IsFileOf table bytes proofs → ⊥) →
+    r ≡ Err (length lines + 1)
+end_by bytes lines rest s (Ok said) is e none = let file = file_there [] bytes said is in absurd (none (with_names [] (texts_in bytes)) file.0.proofs file.1)
 end_by bytes lines rest s (Err m) is e none = ap Err (sym (bad_end s (length lines + 1) m rest e))
 
 pub read_bad : (bytes : List ℕ) (m : ℕ) → IsFirstBadLine bytes m → proofs_of bytes ≡ Err m

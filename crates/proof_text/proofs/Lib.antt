@@ -1,12 +1,13 @@
-pub mod CommentLaw
 pub mod EndLemmas
 pub mod FormBytes
 pub mod FormLaw
 pub mod FormRead
 pub mod FormRuns
 pub mod KeptNames
+pub mod LineLaw
 pub mod LineLemmas
 pub mod NameOrder
 pub mod NumeralLemmas
 pub mod StageLemmas
+pub mod StepLaw
 pub mod StepLemmas

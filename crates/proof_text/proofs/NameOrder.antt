@@ -1,128 +1,111 @@
 -- The names that a file gives, line by line.
-use Rattle.std.proofs.Common.{◌≡◌, ℕ, zero, suc, ◌+◌, ◌<◌, ◌≤◌, Bool, true, false, cond, List, [], ◌∷◌, ◌++◌, length, map, take, drop, get_or, codes, Option, None, Some, Result, Ok, Err, refl, sym, ◌∙◌, ap, append_assoc, arith, Bor}
+use Rattle.std.proofs.Common.{◌≡◌, ℕ, ◌+◌, ◌<◌, ◌≤◌, Bool, true, false, List, [], ◌∷◌, ◌++◌, length, map, take, get_or, codes, Option, Result, Ok, Err, refl, sym, ◌∙◌, ap, append_assoc, Bor, ◌||◌, ◌==◌, true≢false}
 use Rattle.std.specs.Prelude.{OnOk}
-use Rattle.std.specs.Option.{option_map}
 use Rattle.std.specs.List.{slice_split}
 use Rattle.std.specs.Str.{bytes_eq}
-use Rattle.std.proofs.lemmas.List.{take_more, map-append, append-nil}
 use Rattle.std.proofs.Math.Dec.{eqb}
-use Rattle.std.proofs.Math.Seq.{drop-nil}
+use Rattle.std.proofs.lemmas.List.{take_all, take_more, map-append, append-nil}
+use Rattle.std.proofs.lemmas.Slice.Eq.{bytes_eq-Decides}
 use Rattle.name_tables.specs.NameTables.{with_name, with_names}
 use Rattle.name_tables.proofs.Tables.{names_append}
 use Rattle.proof_text.specs.declared.proof.ProofFile.{ProofFile}
 use Rattle.proof_text.specs.declared.fault.ProofTextError.{ProofTextError}
-use Rattle.rs_tokens.specs.Tokens.{is_identifier}
-use Rattle.proof_text.specs.ProofTextWords.{◌>>=◌, number_of}
-use Rattle.proof_text.specs.ProofTextLines.{Said, texts_said, Line, passed, heading, step, «end», only, range_of, identifier_of, heading_of, line_by_head, line_of}
-use Rattle.proof_text.specs.ProofTextReads.{line_texts, state_texts, texts_if}
-use Rattle.proof_text.specs.ProofTextFile.{SaidStep, SaidProof, texts_of_steps, texts_in, State, start, between, within, is_proved, state_after, next_state, state_after_all, proofs_of_pieces, proofs_of}
+use Rattle.proof_text.specs.ProofTextLines.{rest_of, texts_by, texts_in_line}
+use Rattle.proof_text.specs.ProofTextFile.{is_passed}
+use Rattle.proof_text.specs.ProofFileForm.{IsComment, texts_of_lines, texts_in}
+use Rattle.proof_text.proofs.LineLaw.{more_before, not_empty, hash_is}
 use Rattle.proof_text.proofs.StageLemmas.{now}
-use Rattle.proof_text.proofs.EndLemmas.{pieces_are}
-use Rattle.proof_text.proofs.FormBytes.{ends_by}
 
 -- ---- the words of a line
 
 -- one more text
-pub one_more_named : (old before new : List (List ℕ)) (texts : List (Bor (List ℕ))) (i : ℕ) (d : Bor (List ℕ)) → i < length texts → before ≡ with_names old (map now (take i texts)) → new ≡ with_name before (now (get_or texts i d)) → new ≡ with_names old (map now (take (i + 1) texts))
+pub one_more_named : (old before new : List (List ℕ)) (texts : List (Bor (List ℕ))) (i : ℕ) (d : Bor (List ℕ)) → i < length texts → before ≡ with_names old (map now (take i texts)) →
+    new ≡ with_name before (now (get_or texts i d)) → new ≡ with_names old (map now (take (i + 1) texts))
 one_more_named old before new texts i d h so_far more =
     more
     ∙ (ap (λ (ts : List (List ℕ)). with_name ts (now (get_or texts i d))) so_far
     ∙ (sym (names_append old (map now (take i texts)) (now (get_or texts i d) ∷ []))
     ∙ ap (with_names old) (sym (map-append now (take i texts) (get_or texts i d ∷ [])) ∙ ap (map now) (sym (take_more texts i d h)))))
 
--- the one word of a range
-pub range_texts : (words : List (List ℕ)) (word : List ℕ) → only words ≡ Some word → is_identifier word ≡ true → texts_if texts_said (range_of words) ≡ word ∷ []
-range_texts words word one is = rw (one, is) refl
+-- the first and the last line of a proof name nothing
+pub proof_names : (rest : Option (List ℕ)) → texts_by (codes "proof") rest ≡ []
+unfolding texts_by
+proof_names rest = refl
 
--- a step's line names what the step does, and the head of a proof nothing
-pub step_texts : (o : Option Said) → texts_if line_texts (option_map step o) ≡ texts_if texts_said o
-step_texts None = refl
-step_texts (Some said) = refl
+pub end_names : (rest : Option (List ℕ)) → texts_by (codes "end") rest ≡ []
+unfolding texts_by
+end_names rest = refl
 
-heading_by : (n : Option ℕ) (o : Option (List ℕ)) → texts_if line_texts (n >>= (λ m. o >>= (λ w. Some (heading m w)))) ≡ []
-heading_by None o = refl
-heading_by (Some m) None = refl
-heading_by (Some m) (Some w) = refl
+pub none_by : (head word : List ℕ) (rest : Option (List ℕ)) → bytes_eq head word ≡ true → texts_by word rest ≡ [] → texts_by head rest ≡ []
+none_by head word rest e h = ap (λ w. texts_by w rest) ((bytes_eq-Decides head word).0 e) ∙ h
 
-pub heading_texts : (words : List (List ℕ)) → texts_if line_texts (heading_of words) ≡ []
-unfolding heading_of
-heading_texts [] = refl
-heading_texts (a ∷ []) = refl
-heading_texts (a ∷ b ∷ []) = heading_by (number_of a) (identifier_of b)
-heading_texts (a ∷ b ∷ c ∷ words) = refl
+pub header_names : (text : List ℕ) → bytes_eq text (codes "creusot-proofs 1") ≡ true → texts_in_line text ≡ []
+unfolding texts_by
+header_names text e = ap texts_in_line ((bytes_eq-Decides text (codes "creusot-proofs 1")).0 e)
+
+hash_names : (b : ℕ) (bs : List ℕ) → b ≡ 35 → texts_in_line (b ∷ bs) ≡ []
+unfolding texts_by
+hash_names b bs e =
+    ap (λ c. texts_in_line (c ∷ bs)) e ∙ ap (λ h. texts_by h (rest_of (35 ∷ bs))) (more_before 35 bs refl)
+
+pub comment_names : (text : List ℕ) → IsComment text → texts_in_line text ≡ []
+unfolding texts_by
+comment_names [] h = refl
+comment_names (b ∷ bs) h = hash_names b bs h
+
+passed_is : (b : ℕ) (bs : List ℕ) (t s : Bool) → (length (b ∷ bs) == 0) ≡ t → (b == 35) ≡ s → (t || s) ≡ true → texts_in_line (b ∷ bs) ≡ []
+passed_is b bs true s empty hash e = absurd (not_empty b bs empty)
+passed_is b bs false true empty hash e = hash_names b bs (hash_is b hash)
+passed_is b bs false false empty hash e = absurd (true≢false (sym e))
+
+pub passed_names : (text : List ℕ) → is_passed text ≡ true → texts_in_line text ≡ []
+unfolding texts_by
+passed_names [] e = refl
+passed_names (b ∷ bs) e = passed_is b bs (length (b ∷ bs) == 0) (b == 35) refl refl e
+
+-- ---- line by line
 
 pub on_ok : {A E : Type 0} {P : Type 0} (r : Result A E) → P → OnOk r P
 on_ok (Ok x) p = p
 on_ok (Err e) p = tt
 
-pub proof_names_none : {A E : Type 0} (table : List (List ℕ)) (head : List ℕ) (words : List (List ℕ)) (r : Result A E) → bytes_eq head (codes "proof") ≡ true → OnOk r (table ≡ with_names table (texts_if line_texts (line_by_head head words)))
-unfolding line_by_head
-proof_names_none table head words r h = on_ok r (rw h (ap (with_names table) (sym (heading_texts words))))
+pub on_both : {A E : Type 0} {P Q : Type 0} (r : Result A E) → OnOk r P → (P → Q) → OnOk r Q
+on_both (Ok x) p f = f p
+on_both (Err e) p f = tt
 
--- ---- one line after others
+pub texts_append : (xs ys : List (List ℕ)) → texts_of_lines (xs ++ ys) ≡ texts_of_lines xs ++ texts_of_lines ys
+texts_append [] ys = refl
+texts_append (x ∷ xs) ys = ap (λ ts. texts_in_line x ++ ts) (texts_append xs ys) ∙ sym (append_assoc (texts_in_line x) (texts_of_lines xs) (texts_of_lines ys))
 
-steps_push : (steps : List SaidStep) (last : SaidStep) → texts_of_steps (steps ++ last ∷ []) ≡ texts_of_steps steps ++ texts_said last.step
-steps_push [] last = append-nil (texts_said last.step)
-steps_push (s ∷ steps) last = ap (λ ts. texts_said s.step ++ ts) (steps_push steps last) ∙ sym (append_assoc (texts_said s.step) (texts_of_steps steps) (texts_said last.step))
+texts_push : (xs : List (List ℕ)) (x : List ℕ) → texts_of_lines (xs ++ x ∷ []) ≡ texts_of_lines xs ++ texts_in_line x
+texts_push xs x = texts_append xs (x ∷ []) ∙ ap (λ ts. texts_of_lines xs ++ ts) (append-nil (texts_in_line x))
 
-proofs_push : (proofs : List SaidProof) (last : SaidProof) → texts_in (proofs ++ last ∷ []) ≡ texts_in proofs ++ texts_of_steps last.steps
-proofs_push [] last = append-nil (texts_of_steps last.steps)
-proofs_push (p ∷ proofs) last = ap (λ ts. texts_of_steps p.steps ++ ts) (proofs_push proofs last) ∙ sym (append_assoc (texts_of_steps p.steps) (texts_in proofs) (texts_of_steps last.steps))
-
-texts_are : (s t : State) → Some s ≡ Some t → state_texts t ≡ state_texts s
-texts_are s t e = let same : s ≡ t = cc in ap state_texts (sym same)
-
-opened_texts : (ps : List SaidProof) (k : ℕ) (o : List ℕ) (b : Bool) (t : State) → cond b None (Some (within ps k o [])) ≡ Some t → state_texts t ≡ texts_in ps ++ []
-opened_texts ps k o true t e = absurd (cc)
-opened_texts ps k o false t e = texts_are (within ps k o []) t e
-
-texts_after : (s t : State) (n : ℕ) (l : Line) → state_after s n l ≡ Some t → state_texts t ≡ state_texts s ++ line_texts l
-texts_after s t n passed e = texts_are s t e ∙ sym (append-nil (state_texts s))
-texts_after (between ps) t n (heading k o) e = opened_texts ps k o (is_proved k o ps) t e
-texts_after (within ps k o ss) t n (step said) e =
-    let last : SaidStep = record { line = n; step = said } in
-    texts_are (within ps k o (ss ++ last ∷ [])) t e
-    ∙ (ap (λ ts. texts_in ps ++ ts) (steps_push ss last) ∙ sym (append_assoc (texts_in ps) (texts_of_steps ss) (texts_said said)))
-texts_after (within ps k o ss) t n «end» e =
-    let last : SaidProof = record { number = k; owner = o; steps = ss; «end» = n } in
-    texts_are (between (ps ++ last ∷ [])) t e ∙ (proofs_push ps last ∙ sym (append-nil (texts_in ps ++ texts_of_steps ss)))
-texts_after start t n (heading k o) e = absurd (cc)
-texts_after start t n (step said) e = absurd (cc)
-texts_after start t n «end» e = absurd (cc)
-texts_after (between ps) t n (step said) e = absurd (cc)
-texts_after (between ps) t n «end» e = absurd (cc)
-texts_after (within ps k o ss) t n (heading m w) e = absurd (cc)
-
-named_by : (s t : State) (n : ℕ) (o : Option Line) (first old new : List (List ℕ)) → (o >>= state_after s n) ≡ Some t → old ≡ with_names first (state_texts s) → new ≡ with_names old (texts_if line_texts o) → new ≡ with_names first (state_texts t)
-named_by s t n None first old new e so_far more = absurd (cc)
-named_by s t n (Some l) first old new e so_far more =
+-- one more line
+pub line_named : (old before new : List (List ℕ)) (lines : List (Bor (List ℕ))) (i : ℕ) (d : Bor (List ℕ)) → i < length lines → before ≡ with_names old (texts_of_lines (map now (take i lines))) →
+    new ≡ with_names before (texts_in_line (now (get_or lines i d))) → new ≡ with_names old (texts_of_lines (map now (take (i + 1) lines)))
+line_named old before new lines i d h so_far more =
+    let line : List ℕ = now (get_or lines i d) in
     more
-    ∙ (ap (λ (ts : List (List ℕ)). with_names ts (line_texts l)) so_far
-    ∙ (sym (names_append first (state_texts s) (line_texts l)) ∙ ap (with_names first) (sym (texts_after s t n l e))))
+    ∙ (ap (λ (ts : List (List ℕ)). with_names ts (texts_in_line line)) so_far
+    ∙ (sym (names_append old (texts_of_lines (map now (take i lines))) (texts_in_line line))
+    ∙ ap (with_names old)
+    (sym (texts_push (map now (take i lines)) line) ∙ ap texts_of_lines (sym (map-append now (take i lines) (get_or lines i d ∷ [])) ∙ ap (map now) (sym (take_more lines i d h))))))
 
--- the names so far, and those of one line more, are those after it
-pub line_named : (s t : State) (n : ℕ) (text : List ℕ) (first old new : List (List ℕ)) → next_state s n text ≡ (line_of text >>= state_after s n) → next_state s n text ≡ Some t → old ≡ with_names first (state_texts s) → new ≡ with_names old (texts_if line_texts (line_of text)) → new ≡ with_names first (state_texts t)
-line_named s t n text first old new is e so_far more = named_by s t n (line_of text) first old new (sym is ∙ e) so_far more
+-- all lines
+pub all_named : (old names : List (List ℕ)) (lines : List (Bor (List ℕ))) (at : ℕ) → length lines ≤ at → names ≡ with_names old (texts_of_lines (map now (take at lines))) → names ≡ with_names old (texts_of_lines (map now lines))
+all_named old names lines at h named = named ∙ ap (λ ls. with_names old (texts_of_lines (map now ls))) (take_all at lines h)
 
--- ---- all lines
-
-past_all : {A : Type 0} (xs : List A) (i : ℕ) → length xs ≤ i → drop i xs ≡ []
-past_all [] i h = drop-nil i
-past_all (x ∷ xs) zero h = absurd (omega arith)
-past_all (x ∷ xs) (suc i) h = past_all xs i (omega arith)
-
--- behind the last line the names are those of the state to which all lines lead
-pub all_named : (lines : List (Bor (List ℕ))) (at : ℕ) (s t : State) (first names : List (List ℕ)) → length lines ≤ at → state_after_all (map now (drop at lines)) s (at + 1) ≡ state_after_all (map now lines) start 1 → state_after_all (map now lines) start 1 ≡ Ok t → names ≡ with_names first (state_texts s) → names ≡ with_names first (state_texts t)
-all_named lines at s t first names h goes_on e named =
-    let here : state_after_all (map now (drop at lines)) s (at + 1) ≡ Ok s = ap (λ ls. state_after_all (map now ls) s (at + 1)) (past_all lines at h) in
-    let same : s ≡ t = cc in
-    named ∙ ap (λ u. with_names first (state_texts u)) same
-
--- where the pieces are proofs, the lines lead to these proofs
-pub lines_lead : (pieces lines : List (Bor (List ℕ))) (rest : Bor (List ℕ)) (said : List SaidProof) → pieces ≡ lines ++ rest ∷ [] → proofs_of_pieces (map now pieces) ≡ Ok said → state_after_all (map now lines) start 1 ≡ Ok (between said)
-lines_lead pieces lines rest said h e = (ends_by (state_after_all (map now lines) start 1) (length lines + 1) (now rest) said (sym (pieces_are pieces lines rest h) ∙ e)).last
+-- an empty rest names nothing
+pub pieces_named : (old new : List (List ℕ)) (pieces lines : List (Bor (List ℕ))) (rest : Bor (List ℕ)) → pieces ≡ lines ++ rest ∷ [] → now rest ≡ [] → new ≡ with_names old (texts_of_lines (map now lines)) →
+    new ≡ with_names old (texts_of_lines (map now pieces))
+pieces_named old new pieces lines rest h e named =
+    named ∙ ap (with_names old)
+    (sym (append-nil (texts_of_lines (map now lines)))
+    ∙ (ap (λ ts. texts_of_lines (map now lines) ++ ts) (sym (ap texts_in_line e ∙ comment_names [] tt))
+    ∙ (sym (texts_push (map now lines) (now rest)) ∙ ap texts_of_lines (sym (ap (map now) h ∙ map-append now lines (rest ∷ []))))))
 
 -- what the pieces name, the bytes do
-pub named_from : (old new : List (List ℕ)) (bytes : List ℕ) (pieces : List (List ℕ)) (r : Result ProofFile ProofTextError) → pieces ≡ slice_split (λ b. eqb b 10) bytes → ((said : List SaidProof) → proofs_of_pieces pieces ≡ Ok said → OnOk r (new ≡ with_names old (texts_in said))) → (said : List SaidProof) → proofs_of bytes ≡ Ok said → OnOk r (new ≡ with_names old (texts_in said))
-unfolding proofs_of
-named_from old new bytes pieces r is named said e = named said (ap proofs_of_pieces is ∙ e)
+pub named_from : (old new : List (List ℕ)) (bytes : List ℕ) (pieces : List (List ℕ)) (r : Result ProofFile ProofTextError) → pieces ≡ slice_split (λ b. eqb b 10) bytes → OnOk r (new ≡ with_names old (texts_of_lines pieces)) →
+    OnOk r (new ≡ with_names old (texts_in bytes))
+named_from old new bytes pieces (Ok file) is named = named ∙ ap (λ ps. with_names old (texts_of_lines ps)) is
+named_from old new bytes pieces (Err e) is named = tt

@@ -113,7 +113,9 @@ pair_of a b = (a, b)
 pairs : (a b u v : List ℕ) → a ≡ u → b ≡ v → pair_of a b ≡ pair_of u v
 pairs a b u v e f = ap (λ x. pair_of x b) e ∙ ap (pair_of u) f
 
-pub cut_is : (c : ℕ) (bs : List ℕ) (r : Option (Bor (List ℕ) × Bor (List ℕ))) → MatchOption r (position_or_len (λ b. nat_eq b c) bs ≡ length bs) (λ x. (position_or_len (λ b. nat_eq b c) bs < length bs) × (x.0.now ≡ before_first (λ b. nat_eq b c) bs) × (x.1.now ≡ after_first (λ b. nat_eq b c) bs)) → option_map (λ parts. (parts.0.now, parts.1.now)) r ≡ cut c bs
+pub cut_is : (c : ℕ) (bs : List ℕ) (r : Option (Bor (List ℕ) × Bor (List ℕ))) →
+    MatchOption r (position_or_len (λ b. nat_eq b c) bs ≡ length bs) (λ x. (position_or_len (λ b. nat_eq b c) bs < length bs) × (x.0.now ≡ before_first (λ b. nat_eq b c) bs) × (x.1.now ≡ after_first (λ b. nat_eq b c) bs)) →
+    option_map (λ parts. (parts.0.now, parts.1.now)) r ≡ cut c bs
 cut_is c bs None h = rw (le-ltb (position_or_len (λ b. nat_eq b c) bs) (length bs) (omega arith)) refl
 cut_is c bs (Some x) h = rw (lt-ltb (position_or_len (λ b. nat_eq b c) bs) (length bs) h.0) (ap (λ (p : List ℕ × List ℕ). Some p) (pairs _ _ _ _ h.1 h.2))
 

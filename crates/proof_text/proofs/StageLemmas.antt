@@ -12,11 +12,12 @@ use Rattle.proof_text.specs.declared.fault.Fault.TheVariants.{Bad, NoMemory}
 use Rattle.proof_text.specs.declared.fault.ProofTextError.{ProofTextError}
 use Rattle.proof_text.specs.declared.fault.ProofTextError.TheVariants as errors
 use Rattle.proof_text.specs.ProofTextWords.{◌>>=◌}
-use Rattle.proof_text.specs.ProofTextLines.{Said, Says, line_of, «end»}
-use Rattle.proof_text.specs.ProofTextLines.{Line as SaidLine}
-use Rattle.proof_text.specs.ProofTextLines.{step as said_step}
-use Rattle.proof_text.specs.ProofTextReads.{Reads, ReadsLines, SaysLine, SaysState, is_start, total_length}
-use Rattle.proof_text.specs.ProofTextFile.{SaidStep, SaidProof, Each, SaysStep, SaysProof, State, start, between, within, is_proved, state_after, next_state, state_after_all}
+use Rattle.proof_text.specs.ProofTextWords.{Each}
+use Rattle.proof_text.specs.ProofTextLines.{SpellsStep}
+use Rattle.proof_text.specs.ProofTextReads.{Reads, ReadsLines, IsLineOf, IsStageOf, is_start, total_length}
+use Rattle.proof_text.specs.ProofTextFile.{StepText, ProofText, IsStepOf, IsProofOf, State, start, between, within, is_proved, state_after, next_state, state_after_all}
+use Rattle.proof_text.specs.ProofTextFile.{line_of, step as a_step, «end»}
+use Rattle.proof_text.specs.ProofTextFile.{Line as LineKind}
 
 pub each_push : {A B : Type 0} (R : A → B → Type 0) (xs : List A) (ys : List B) (x : A) (y : B) → Each R xs ys → R x y → Each R (xs ++ x ∷ []) (ys ++ y ∷ [])
 each_push R [] [] x y h r = (r, tt)
@@ -25,14 +26,15 @@ each_push R [] (b ∷ ys) x y h r = absurd h
 each_push R (a ∷ xs) [] x y h r = absurd h
 
 -- one more step is said
-pub step_said : (table : List (List ℕ)) (ss : List SaidStep) (old new : List NumberedStep) (n : ℕ) (said : Said) (step : NumberedStep) → Each (SaysStep table) ss old → n ≡ step.line → Says table said step.step → new ≡ old ++ step ∷ [] → Each (SaysStep table) (ss ++ record { line = n; step = said } ∷ []) new
-step_said table ss old new n said step h e r is = rw is (each_push (SaysStep table) ss old (record { line = n; step = said }) step h (e, r))
+pub step_said : (table : List (List ℕ)) (ss : List StepText) (old new : List NumberedStep) (n : ℕ) (text : List ℕ) (step : NumberedStep) → Each (IsStepOf table) ss old → n ≡ step.line →
+    SpellsStep table text step.step → new ≡ old ++ step ∷ [] → Each (IsStepOf table) (ss ++ record { line = n; text = text } ∷ []) new
+step_said table ss old new n text step h e r is = rw is (each_push (IsStepOf table) ss old (record { line = n; text = text }) step h (e, r))
 
 -- one more proof is said
-pub end_said : (table : List (List ℕ)) (ps : List SaidProof) (old new : List Proof) (said : SaidProof) (proof : Proof) → Each (SaysProof table) ps old → SaysProof table said proof → new ≡ old ++ proof ∷ [] → Each (SaysProof table) (ps ++ said ∷ []) new
-end_said table ps old new said proof h r is = rw is (each_push (SaysProof table) ps old said proof h r)
+pub end_said : (table : List (List ℕ)) (ps : List ProofText) (old new : List Proof) (said : ProofText) (proof : Proof) → Each (IsProofOf table) ps old → IsProofOf table said proof → new ≡ old ++ proof ∷ [] → Each (IsProofOf table) (ps ++ said ∷ []) new
+end_said table ps old new said proof h r is = rw is (each_push (IsProofOf table) ps old said proof h r)
 
-pub same_proved : (table : List (List ℕ)) (number : ℕ) (owner : List ℕ) (said : List SaidProof) (proofs : List Proof) → Each (SaysProof table) said proofs → list_any (λ p. nat_eq p.number number && bytes_eq p.owner owner) proofs ≡ is_proved number owner said
+pub same_proved : (table : List (List ℕ)) (number : ℕ) (owner : List ℕ) (said : List ProofText) (proofs : List Proof) → Each (IsProofOf table) said proofs → list_any (λ p. nat_eq p.number number && bytes_eq p.owner owner) proofs ≡ is_proved number owner said
 unfolding is_proved
 same_proved table number owner [] [] h = refl
 same_proved table number owner (x ∷ xs) (y ∷ ys) h =
@@ -79,15 +81,15 @@ WithStep step (stages.Within done opened) (stages.Within same more) =
     (same ≡ done) × (more.number ≡ opened.number) × (more.owner.now ≡ opened.owner.now) × (more.steps.items ≡ opened.steps.items ++ step ∷ [])
 WithStep step _ _ = ⊥
 
-pub step_goes_on : (table : List (List ℕ)) (s : State) (old new : Stage) (n : ℕ) (said : Said) (step : NumberedStep) → WithStep step old new → SaysState table s old → n ≡ step.line → Says table said step.step → Reads {X = Stage} (SaysState table) (Ok new) (state_after s n (said_step said))
-step_goes_on table (within ps k o ss) (stages.Within done opened) (stages.Within same more) n said step w h e r =
-    (subst (Each (SaysProof table) ps) (sym w.0) h.0, h.1 ∙ sym w.1, h.2 ∙ sym w.2, step_said table ss opened.steps.items more.steps.items n said step h.3 e r w.3)
-step_goes_on table start (stages.Within done opened) (stages.Within same more) n said step w h e r = absurd h
-step_goes_on table (between ps) (stages.Within done opened) (stages.Within same more) n said step w h e r = absurd h
-step_goes_on table s stages.Start new n said step w h e r = absurd w
-step_goes_on table s (stages.Between done) new n said step w h e r = absurd w
-step_goes_on table s (stages.Within done opened) stages.Start n said step w h e r = absurd w
-step_goes_on table s (stages.Within done opened) (stages.Between same) n said step w h e r = absurd w
+pub step_goes_on : (table : List (List ℕ)) (s : State) (old new : Stage) (n : ℕ) (text : List ℕ) (step : NumberedStep) → WithStep step old new → IsStageOf table s old → n ≡ step.line → SpellsStep table text step.step → Reads {X = Stage} (IsStageOf table) (Ok new) (state_after s n text a_step)
+step_goes_on table (within ps k o ss) (stages.Within done opened) (stages.Within same more) n text step w h e r =
+    (subst (Each (IsProofOf table) ps) (sym w.0) h.0, h.1 ∙ sym w.1, h.2 ∙ sym w.2, step_said table ss opened.steps.items more.steps.items n text step h.3 e r w.3)
+step_goes_on table start (stages.Within done opened) (stages.Within same more) n text step w h e r = absurd h
+step_goes_on table (between ps) (stages.Within done opened) (stages.Within same more) n text step w h e r = absurd h
+step_goes_on table s stages.Start new n text step w h e r = absurd w
+step_goes_on table s (stages.Between done) new n text step w h e r = absurd w
+step_goes_on table s (stages.Within done opened) stages.Start n text step w h e r = absurd w
+step_goes_on table s (stages.Within done opened) (stages.Between same) n text step w h e r = absurd w
 
 -- new is old with its open proof ended
 abbrev pub WithProof : Proof → Stage → Stage → Type 0
@@ -95,64 +97,71 @@ WithProof proof (stages.Within done opened) (stages.Between more) =
     (proof.number ≡ opened.number) × (proof.owner ≡ opened.owner.now) × (proof.steps ≡ opened.steps.items) × (more ≡ done ++ proof ∷ [])
 WithProof proof _ _ = ⊥
 
-pub proof_goes_on : (table : List (List ℕ)) (s : State) (old new : Stage) (n : ℕ) (proof : Proof) → WithProof proof old new → SaysState table s old → proof.«end» ≡ n → Reads {X = Stage} (SaysState table) (Ok new) (state_after s n «end»)
-proof_goes_on table (within ps k o ss) (stages.Within done opened) (stages.Between more) n proof w h e =
+pub proof_goes_on : (table : List (List ℕ)) (s : State) (old new : Stage) (n : ℕ) (text : List ℕ) (proof : Proof) → WithProof proof old new → IsStageOf table s old → proof.«end» ≡ n → Reads {X = Stage} (IsStageOf table) (Ok new) (state_after s n text «end»)
+proof_goes_on table (within ps k o ss) (stages.Within done opened) (stages.Between more) n text proof w h e =
     end_said table ps done more (record { number = k; owner = o; steps = ss; «end» = n }) proof h.0
-    (h.1 ∙ sym w.0, h.2 ∙ sym w.1, sym e, subst (Each (SaysStep table) ss) (sym w.2) h.3) w.3
-proof_goes_on table start (stages.Within done opened) (stages.Between more) n proof w h e = absurd h
-proof_goes_on table (between ps) (stages.Within done opened) (stages.Between more) n proof w h e = absurd h
-proof_goes_on table s stages.Start new n proof w h e = absurd w
-proof_goes_on table s (stages.Between done) new n proof w h e = absurd w
-proof_goes_on table s (stages.Within done opened) stages.Start n proof w h e = absurd w
-proof_goes_on table s (stages.Within done opened) (stages.Within same more) n proof w h e = absurd w
+    (h.1 ∙ sym w.0, h.2 ∙ sym w.1, sym e, subst (Each (IsStepOf table) ss) (sym w.2) h.3) w.3
+proof_goes_on table start (stages.Within done opened) (stages.Between more) n text proof w h e = absurd h
+proof_goes_on table (between ps) (stages.Within done opened) (stages.Between more) n text proof w h e = absurd h
+proof_goes_on table s stages.Start new n text proof w h e = absurd w
+proof_goes_on table s (stages.Between done) new n text proof w h e = absurd w
+proof_goes_on table s (stages.Within done opened) stages.Start n text proof w h e = absurd w
+proof_goes_on table s (stages.Within done opened) (stages.Within same more) n text proof w h e = absurd w
 
 -- before the first line and after it
-pub at_start : (table : List (List ℕ)) (s : State) (stage : Stage) → is_start stage ≡ true → SaysState table s stage → s ≡ start
+pub at_start : (table : List (List ℕ)) (s : State) (stage : Stage) → is_start stage ≡ true → IsStageOf table s stage → s ≡ start
 at_start table start stages.Start e h = refl
 at_start table (between ps) stages.Start e h = absurd h
 at_start table (within ps k o ss) stages.Start e h = absurd h
 at_start table s (stages.Between done) e h = cc
 at_start table s (stages.Within done opened) e h = cc
 
-pub past_start : (table : List (List ℕ)) (s : State) (stage : Stage) (n : ℕ) (text : List ℕ) → is_start stage ≡ false → SaysState table s stage → next_state s n text ≡ (line_of text >>= state_after s n)
+pub past_start : (table : List (List ℕ)) (s : State) (stage : Stage) (n : ℕ) (text : List ℕ) → is_start stage ≡ false → IsStageOf table s stage → next_state s n text ≡ (line_of text >>= state_after s n text)
 past_start table start stages.Start n text e h = cc
 past_start table start (stages.Between done) n text e h = absurd h
 past_start table start (stages.Within done opened) n text e h = absurd h
 past_start table (between ps) stage n text e h = refl
 past_start table (within ps k o ss) stage n text e h = refl
 
-goes_by : (table : List (List ℕ)) (s : State) (stage : Stage) (line : code.Line) (n : ℕ) (r : Result Stage Fault) (o : Option SaidLine) → Reads (SaysLine table) (Ok line) o → SaysState table s stage → ((said : SaidLine) → SaysState table s stage → SaysLine table said line → Reads (SaysState table) r (state_after s n said)) → Reads (SaysState table) r (o >>= state_after s n)
-goes_by table s stage line n r None reads h f = absurd reads
-goes_by table s stage line n r (Some said) reads h f = f said h reads
+goes_by : (table : List (List ℕ)) (s : State) (stage : Stage) (line : code.Line) (n : ℕ) (text : List ℕ) (r : Result Stage Fault) (o : Option LineKind) → Reads (IsLineOf table text) (Ok line) o → IsStageOf table s stage →
+    ((said : LineKind) → IsStageOf table s stage → IsLineOf table text said line → Reads (IsStageOf table) r (state_after s n text said)) → Reads (IsStageOf table) r (o >>= state_after s n text)
+goes_by table s stage line n text r None reads h f = absurd reads
+goes_by table s stage line n text r (Some said) reads h f = f said h reads
 
-pub line_goes_on : (table : List (List ℕ)) (s : State) (stage : Stage) (line : code.Line) (n : ℕ) (text : List ℕ) (r : Result Stage Fault) → is_start stage ≡ false → Reads (SaysLine table) (Ok line) (line_of text) → SaysState table s stage → ((said : SaidLine) → SaysState table s stage → SaysLine table said line → Reads (SaysState table) r (state_after s n said)) → Reads (SaysState table) r (next_state s n text)
+pub line_goes_on : (table : List (List ℕ)) (s : State) (stage : Stage) (line : code.Line) (n : ℕ) (text : List ℕ) (r : Result Stage Fault) → is_start stage ≡ false → Reads (IsLineOf table text) (Ok line) (line_of text) →
+    IsStageOf table s stage → ((said : LineKind) → IsStageOf table s stage → IsLineOf table text said line → Reads (IsStageOf table) r (state_after s n text said)) → Reads (IsStageOf table) r (next_state s n text)
 line_goes_on table s stage line n text r e reads h f =
-    subst (Reads (SaysState table) r) (sym (past_start table s stage n text e h)) (goes_by table s stage line n r (line_of text) reads h f)
+    subst (Reads (IsStageOf table) r) (sym (past_start table s stage n text e h)) (goes_by table s stage line n text r (line_of text) reads h f)
 
-pub line_fails : (table : List (List ℕ)) (s : State) (stage : Stage) (n : ℕ) (text : List ℕ) (e : Fault) → is_start stage ≡ false → SaysState table s stage → Reads (SaysLine table) (Err e) (line_of text) → Reads (SaysState table) (Err e) (next_state s n text)
-line_fails table s stage n text Bad b h reads = past_start table s stage n text b h ∙ ap (λ o. o >>= state_after s n) reads
+pub line_fails : (table : List (List ℕ)) (s : State) (stage : Stage) (n : ℕ) (text : List ℕ) (e : Fault) → is_start stage ≡ false → IsStageOf table s stage → Reads (IsLineOf table text) (Err e) (line_of text) → Reads (IsStageOf table) (Err e) (next_state s n text)
+line_fails table s stage n text Bad b h reads = past_start table s stage n text b h ∙ ap (λ o. o >>= state_after s n text) reads
 line_fails table s stage n text NoMemory b h reads = tt
 
-pub header_read : (table : List (List ℕ)) (s : State) (stage new : Stage) (n : ℕ) (text : List ℕ) → is_start stage ≡ true → SaysState table s stage → bytes_eq text (codes "creusot-proofs 1") ≡ true → SaysState table (between []) new → Reads (SaysState table) (Ok new) (next_state s n text)
+pub header_read : (table : List (List ℕ)) (s : State) (stage new : Stage) (n : ℕ) (text : List ℕ) → is_start stage ≡ true → IsStageOf table s stage → bytes_eq text (codes "creusot-proofs 1") ≡ true → IsStageOf table (between []) new → Reads (IsStageOf table) (Ok new) (next_state s n text)
 header_read table s stage new n text b h e r = rw (at_start table s stage b h) (rw e r)
 
-pub header_bad : (table : List (List ℕ)) (s : State) (stage : Stage) (n : ℕ) (text : List ℕ) → is_start stage ≡ true → SaysState table s stage → bytes_eq text (codes "creusot-proofs 1") ≡ false → next_state s n text ≡ None
+pub header_bad : (table : List (List ℕ)) (s : State) (stage : Stage) (n : ℕ) (text : List ℕ) → is_start stage ≡ true → IsStageOf table s stage → bytes_eq text (codes "creusot-proofs 1") ≡ false → next_state s n text ≡ None
 header_bad table s stage n text b h e = rw (at_start table s stage b h) (rw e refl)
 
 -- the lines one by one
-keeps_by : (table : List (List ℕ)) (lines : List (Bor (List ℕ))) (i : ℕ) (d : Bor (List ℕ)) (s : State) (stage : Stage) (all : Result State ℕ) (o : Option State) → next_state s (i + 1) (now (get_or lines i d)) ≡ o → i < length lines → Reads {X = Stage} (SaysState table) (Ok stage) o → state_after_all (map now (drop i lines)) s (i + 1) ≡ all → (t : State) × SaysState table t stage × (state_after_all (map now (drop (i + 1) lines)) t (i + 1 + 1) ≡ all) × (o ≡ Some t)
+keeps_by : (table : List (List ℕ)) (lines : List (Bor (List ℕ))) (i : ℕ) (d : Bor (List ℕ)) (s : State) (stage : Stage) (all : Result State ℕ) (o : Option State) → next_state s (i + 1) (now (get_or lines i d)) ≡ o → i < length lines →
+    Reads {X = Stage} (IsStageOf table) (Ok stage) o → state_after_all (map now (drop i lines)) s (i + 1) ≡ all → (t : State) × IsStageOf table t stage × (state_after_all (map now (drop (i + 1) lines)) t (i + 1 + 1) ≡ all) × (o ≡ Some t)
 keeps_by table lines i d s stage all None e h reads r = absurd reads
 keeps_by table lines i d s stage all (Some t) e h reads r = (t, reads, sym (goes_on lines i d s t h e) ∙ r, refl)
 
-pub keeps_on : (table : List (List ℕ)) (lines : List (Bor (List ℕ))) (i : ℕ) (d : Bor (List ℕ)) (s : State) (stage : Stage) (all : Result State ℕ) → i < length lines → Reads {X = Stage} (SaysState table) (Ok stage) (next_state s (i + 1) (now (get_or lines i d))) → state_after_all (map now (drop i lines)) s (i + 1) ≡ all → (t : State) × SaysState table t stage × (state_after_all (map now (drop (i + 1) lines)) t (i + 1 + 1) ≡ all) × (next_state s (i + 1) (now (get_or lines i d)) ≡ Some t)
+pub keeps_on : (table : List (List ℕ)) (lines : List (Bor (List ℕ))) (i : ℕ) (d : Bor (List ℕ)) (s : State) (stage : Stage) (all : Result State ℕ) → i < length lines →
+    Reads {X = Stage} (IsStageOf table) (Ok stage) (next_state s (i + 1) (now (get_or lines i d))) → state_after_all (map now (drop i lines)) s (i + 1) ≡ all →
+    (t : State) × IsStageOf table t stage × (state_after_all (map now (drop (i + 1) lines)) t (i + 1 + 1) ≡ all) × (next_state s (i + 1) (now (get_or lines i d)) ≡ Some t)
 keeps_on table lines i d s stage all h reads r = keeps_by table lines i d s stage all _ refl h reads r
 
-pub breaks_off : (table : List (List ℕ)) (lines : List (Bor (List ℕ))) (i : ℕ) (d : Bor (List ℕ)) (s : State) (all : Result State ℕ) (e : Fault) (p : ProofTextError) → i < length lines → Reads {X = Stage} (SaysState table) (Err e) (next_state s (i + 1) (now (get_or lines i d))) → state_after_all (map now (drop i lines)) s (i + 1) ≡ all → (e ≡ Bad → p ≡ errors.BadLine (i + 1)) → (e ≡ NoMemory → p ≡ errors.NoMemory) → ReadsLines {X = Stage} (SaysState table) (Err p) all
+pub breaks_off : (table : List (List ℕ)) (lines : List (Bor (List ℕ))) (i : ℕ) (d : Bor (List ℕ)) (s : State) (all : Result State ℕ) (e : Fault) (p : ProofTextError) → i < length lines →
+    Reads {X = Stage} (IsStageOf table) (Err e) (next_state s (i + 1) (now (get_or lines i d))) → state_after_all (map now (drop i lines)) s (i + 1) ≡ all → (e ≡ Bad → p ≡ errors.BadLine (i + 1)) → (e ≡ NoMemory → p ≡ errors.NoMemory) →
+    ReadsLines {X = Stage} (IsStageOf table) (Err p) all
 breaks_off table lines i d s all Bad p h reads r bad memory = rw (bad refl) (sym r ∙ stops lines i d s h reads)
 breaks_off table lines i d s all NoMemory p h reads r bad memory = rw (memory refl) tt
 
-pub all_read : (table : List (List ℕ)) (s : State) (stage : Stage) (all : Result State ℕ) → SaysState table s stage → Ok s ≡ all → ReadsLines {X = Stage} (SaysState table) (Ok stage) all
-all_read table s stage all h e = subst (ReadsLines {X = Stage} (SaysState table) (Ok stage)) e h
+pub all_read : (table : List (List ℕ)) (s : State) (stage : Stage) (all : Result State ℕ) → IsStageOf table s stage → Ok s ≡ all → ReadsLines {X = Stage} (IsStageOf table) (Ok stage) all
+all_read table s stage all h e = subst (ReadsLines {X = Stage} (IsStageOf table) (Ok stage)) e h
 
 -- the names that a line leaves room for
 pub room_after : (lines : List (Bor (List ℕ))) (i : ℕ) (d : Bor (List ℕ)) (new old bound : ℕ) → i < length lines → new ≤ old + length (now (get_or lines i d)) → old + total_length (map now (drop i lines)) ≤ bound → new + total_length (map now (drop (i + 1) lines)) ≤ bound

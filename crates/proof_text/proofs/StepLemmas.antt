@@ -5,13 +5,36 @@ use Rattle.text_core.specs.Names.{text_of}
 use Rattle.text_core.specs.declared.name.Name.{Name}
 use Rattle.proof_kernel.specs.declared.step.Multiple.{Multiple}
 use Rattle.proof_text.specs.ProofTextWords.{◌>>=◌, multiple_of}
-use Rattle.proof_text.specs.ProofTextLines.{multiples_of}
+use Rattle.text_core.proofs.NamesLemmas.{text_of-Some}
+use Rattle.proof_text.specs.ProofTextLines.{text_at, multiples_of}
 use Rattle.proof_text.specs.ProofTextReads.{KeepsNames}
-use Rattle.proof_text.proofs.KeptNames.{kept_map}
 use Rattle.proof_text.proofs.StageLemmas.{now}
 
+kept_map : (old new : List (List ℕ)) → KeepsNames old new → (names : List Name) (texts : List (List ℕ)) → map (text_of old) names ≡ map Some texts → map (text_of new) names ≡ map Some texts
+kept_map old new k [] [] h = refl
+kept_map old new k [] (t ∷ ts) h = cc
+kept_map old new k (n ∷ ns) [] h = cc
+kept_map old new k (n ∷ ns) (t ∷ ts) h =
+    let first : text_of new n ≡ Some t = k n t (cc) in
+    let others : map (text_of new) ns ≡ map Some ts = kept_map old new k ns ts (cc) in
+    cc
+
+-- names that stand for texts are at their places
+pub one_at : (table : List (List ℕ)) (name : Name) (text : List ℕ) → text_of table name ≡ Some text → text_at table name ≡ Some text
+one_at table name text h = (text_of-Some table name text h).1
+
+pub all_at : (table : List (List ℕ)) (names : List Name) (texts : List (List ℕ)) → map (text_of table) names ≡ map Some texts → map (text_at table) names ≡ map Some texts
+all_at table [] [] h = refl
+all_at table [] (t ∷ ts) h = cc
+all_at table (n ∷ ns) [] h = cc
+all_at table (n ∷ ns) (t ∷ ts) h =
+    let here : text_of table n ≡ Some t = cc in
+    let others : map (text_at table) ns ≡ map Some ts = all_at table ns ts (cc) in
+    ap (λ o. o ∷ map (text_at table) ns) (one_at table n t here) ∙ ap (λ os. Some t ∷ os) others
+
 -- one more name
-pub one_more : (old new : List (List ℕ)) (names : List Name) (texts : List (Bor (List ℕ))) (i : ℕ) (d : Bor (List ℕ)) (name : Name) → i < length texts → KeepsNames old new → map (text_of old) names ≡ map Some (map now (take i texts)) → text_of new name ≡ Some (now (get_or texts i d)) → map (text_of new) (names ++ name ∷ []) ≡ map Some (map now (take (i + 1) texts))
+pub one_more : (old new : List (List ℕ)) (names : List Name) (texts : List (Bor (List ℕ))) (i : ℕ) (d : Bor (List ℕ)) (name : Name) → i < length texts → KeepsNames old new → map (text_of old) names ≡ map Some (map now (take i texts)) →
+    text_of new name ≡ Some (now (get_or texts i d)) → map (text_of new) (names ++ name ∷ []) ≡ map Some (map now (take (i + 1) texts))
 one_more old new names texts i d name h k e r =
     map-append (text_of new) names (name ∷ [])
     ∙ ap (λ xs. xs ++ text_of new name ∷ []) (kept_map old new k names (map now (take i texts)) e)
@@ -32,7 +55,8 @@ next_multiple : (front : List Multiple) (m : Multiple) (o : Option (List Multipl
 next_multiple front m None = refl
 next_multiple front m (Some ms) = ap Some (sym (append_assoc front (m ∷ []) ms))
 
-pub multiples_go_on : (front : List Multiple) (words : List (Bor (List ℕ))) (i : ℕ) (d : Bor (List ℕ)) (m : Multiple) → i < length words → multiple_of (now (get_or words i d)) ≡ Some m → with_front front (multiples_of (map now (drop i words))) ≡ with_front (front ++ m ∷ []) (multiples_of (map now (drop (i + 1) words)))
+pub multiples_go_on : (front : List Multiple) (words : List (Bor (List ℕ))) (i : ℕ) (d : Bor (List ℕ)) (m : Multiple) → i < length words → multiple_of (now (get_or words i d)) ≡ Some m →
+    with_front front (multiples_of (map now (drop i words))) ≡ with_front (front ++ m ∷ []) (multiples_of (map now (drop (i + 1) words)))
 multiples_go_on front words i d m h e =
     ap (λ ws. with_front front (multiples_of (map now ws))) (drop-cons words i d h)
     ∙ rw e (next_multiple front m (multiples_of (map now (drop (suc i) words))))

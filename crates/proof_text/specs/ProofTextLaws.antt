@@ -1,15 +1,39 @@
 -- What is true of the format.
-use Rattle.std.specs.Prelude.{◌≡◌, ◌⊎◌, ℕ, List, ◌++◌}
+use Rattle.std.specs.Prelude.{◌≡◌, ◌⊎◌, ℕ, List, ◌++◌, map}
 use Rattle.text_core.specs.Names.{words, HaveOnePlace}
+use Rattle.proof_kernel.specs.declared.step.Step.{Step}
+use Rattle.proof_kernel.specs.declared.step.Step.TheVariants.{Intro, Hyp, Split, Range, Lin}
+use Rattle.proof_text.specs.declared.proof.NumberedStep.{NumberedStep}
+use Rattle.proof_text.specs.declared.proof.Proof.{Proof}
 use Rattle.proof_text.specs.declared.proof.ProofFile.{ProofFile}
-use Rattle.proof_text.specs.ProofFileForm.{SaidProof, IsFileOf, SpellsProofs, IsFirstBadLine}
+use Rattle.proof_text.specs.ProofTextWords.{Each}
+use Rattle.proof_text.specs.ProofTextLines.{text_at}
+use Rattle.proof_text.specs.ProofFileForm.{IsFileOf, SpellsProofs, IsFirstBadLine}
 
--- a text is a file or has a first bad line, never both, and either is one
+-- ---- the same proofs, each under a table of its own
+
+-- the steps are the same, and name the same texts
+abbrev pub AlikeStep : List (List ℕ) → List (List ℕ) → Step → Step → Type 0
+AlikeStep table other (Intro ms) (Intro ns) = map (text_at table) ms ≡ map (text_at other) ns
+AlikeStep table other (Hyp l) (Hyp m) = l ≡ m
+AlikeStep table other Split Split = Unit {0}
+AlikeStep table other (Range m) (Range n) = text_at table m ≡ text_at other n
+AlikeStep table other (Lin ms) (Lin ns) = ms ≡ ns
+AlikeStep table other _ _ = ⊥
+
+abbrev pub AlikeProof : List (List ℕ) → List (List ℕ) → Proof → Proof → Type 0
+AlikeProof table other p q =
+    (p.number ≡ q.number) × (p.owner ≡ q.owner) × (p.«end» ≡ q.«end») × Each (λ (s t : NumberedStep). (s.line ≡ t.line) × AlikeStep table other s.step t.step) p.steps q.steps
+
+-- ---- the laws
+
+-- from each table a text spells a file, or it has a first bad line, and never both; that line is one, and so are the proofs, but for the
+-- tables that name their texts
 pub record HasOneReading : Type 0 where
-  pub either : (bytes : List ℕ) → ((said : List SaidProof) × IsFileOf bytes said) ⊎ ((n : ℕ) × IsFirstBadLine bytes n)
-  pub not_both : (bytes : List ℕ) (said : List SaidProof) (n : ℕ) → IsFileOf bytes said → IsFirstBadLine bytes n → ⊥
+  pub either : (old : List (List ℕ)) (bytes : List ℕ) → ((file : ProofFile) × SpellsProofs old bytes file) ⊎ ((n : ℕ) × IsFirstBadLine bytes n)
+  pub not_both : (table : List (List ℕ)) (bytes : List ℕ) (proofs : List Proof) (n : ℕ) → IsFileOf table bytes proofs → IsFirstBadLine bytes n → ⊥
   pub one_line : (bytes : List ℕ) (m n : ℕ) → IsFirstBadLine bytes m → IsFirstBadLine bytes n → m ≡ n
-  pub one_said : (bytes : List ℕ) (said other : List SaidProof) → IsFileOf bytes said → IsFileOf bytes other → said ≡ other
+  pub alike : (table other : List (List ℕ)) (bytes : List ℕ) (ps qs : List Proof) → IsFileOf table bytes ps → IsFileOf other bytes qs → Each (AlikeProof table other) ps qs
 
 -- from a table in which no text stands twice, a text spells one file
 abbrev pub IsSpelledOnce : Type 0

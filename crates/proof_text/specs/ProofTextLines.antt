@@ -1,47 +1,40 @@
 -- What the lines of a proof file spell.
-use Rattle.std.specs.Prelude.{◌≡◌, ℕ, List, [], ◌∷◌, length, map, codes, ◌||◌, Option, None, Some, slice_index, ◌==◌, if◌then◌else◌}
-use Rattle.std.specs.List.{list_all, slice_split}
+--
+-- A line is a head, its first word, and a rest: the bytes after the space behind the head, where one stands there. The head says of which
+-- kind the line is, and each kind says what its rest is. A rest is split into words only where its kind wants words.
+use Rattle.std.specs.Prelude.{◌≡◌, ℕ, List, [], ◌∷◌, map, codes, true, Option, None, Some, slice_get, if◌then◌else◌, ◌++◌, ◌==◌}
+use Rattle.std.specs.List.{list_all, slice_split, before_first}
 use Rattle.std.specs.Option.{option_map}
 use Rattle.std.specs.Str.{bytes_eq, is_utf8}
-use Rattle.logic_term.specs.declared.kinds.Label2.{Label2}
 use Rattle.proof_kernel.specs.declared.step.Multiple.{Multiple}
 use Rattle.proof_kernel.specs.declared.step.Step.{Step}
 use Rattle.proof_kernel.specs.declared.step.Step.TheVariants.{Intro, Hyp, Split, Range, Lin}
-use Rattle.text_core.specs.Names.{text_of}
+use Rattle.text_core.specs.Names.{words}
+use Rattle.text_core.specs.declared.name.Name.{Name}
 use Rattle.rs_tokens.specs.Tokens.{is_identifier}
-use Rattle.proof_text.specs.ProofTextWords.{◌>>=◌, number_of, label_of, multiple_of}
+use Rattle.proof_text.specs.ProofTextWords.{◌>>=◌, number_of, label_of, multiple_of, cut}
 
--- a step with its names as texts
-pub data Said : Type 0 where
-  intro : List (List ℕ) → Said
-  hyp : Label2 → Said
-  split : Said
-  range : List ℕ → Said
-  lin : List Multiple → Said
+-- ---- a line
 
--- the step is the one that is said, under the table's names
-abbrev pub Says : List (List ℕ) → Said → Step → Type 0
-Says table (intro texts) (Intro names) = map (text_of table) names ≡ map Some texts
-Says table (hyp l) (Hyp label) = l ≡ label
-Says table split Split = Unit {0}
-Says table (range text) (Range name) = text_of table name ≡ Some text
-Says table (lin ms) (Lin multiples) = ms ≡ multiples
-Says table _ _ = ⊥
+-- the first word
+abbrev pub head_of : List ℕ → List ℕ
+head_of line = before_first (λ b. b == 32) line
 
--- the texts that a step names, in order
-abbrev pub texts_said : Said → List (List ℕ)
-texts_said (intro texts) = texts
-texts_said (range text) = text ∷ []
-texts_said _ = []
+-- what stands after the space behind it
+abbrev pub rest_of : List ℕ → Option (List ℕ)
+rest_of line = option_map (λ (parts : List ℕ × List ℕ). parts.1) (cut 32 line)
 
--- the one word of the list
-abbrev pub only : List (List ℕ) → Option (List ℕ)
-only (word ∷ []) = Some word
-only _ = None
+-- a rest as words, with single spaces between
+abbrev pub words_of : Option (List ℕ) → List (List ℕ)
+words_of None = []
+words_of (Some rest) = slice_split (λ b. b == 32) rest
 
-abbrev pub none_left : {A : Type 0} → List (List ℕ) → A → Option A
-none_left [] x = Some x
-none_left _ x = None
+-- ---- the parts of steps
+
+-- the text that a name stands for, in the table that was given these texts beside the words of text_core: as `text_of` of text_core
+-- says, but also of tables that are too long for a program
+abbrev pub text_at : List (List ℕ) → Name → Option (List ℕ)
+text_at table name = slice_get (words ++ table) name.0
 
 -- owners and names are identifiers of sources
 abbrev pub identifier_of : List ℕ → Option (List ℕ)
@@ -55,59 +48,66 @@ multiples_of (word ∷ words) = do
   multiples ← multiples_of words
   Some (multiple ∷ multiples)
 
-abbrev pub some_multiples_of : List (List ℕ) → Option (List Multiple)
-some_multiples_of [] = None
-some_multiples_of words = multiples_of words
+-- one multiple or more, with single spaces between
+abbrev pub multiples_in : List ℕ → Option (List Multiple)
+multiples_in rest = multiples_of (slice_split (λ b. b == 32) rest)
 
-abbrev pub intro_of : List (List ℕ) → Option Said
-intro_of words = if list_all is_identifier words then Some (intro words) else None
+-- ---- steps
 
-abbrev pub range_of : List (List ℕ) → Option Said
-range_of words = option_map range (only words >>= identifier_of)
+-- the head of a step's line
+abbrev pub word_of : Step → List ℕ
+word_of (Intro names) = codes "intro"
+word_of (Hyp label) = codes "hyp"
+word_of Split = codes "split"
+word_of (Range name) = codes "range"
+word_of (Lin multiples) = codes "lin"
 
--- a step, by its first word and the others
-unfoldable pub step_of : List ℕ → List (List ℕ) → Option Said
-step_of head words =
-    if bytes_eq head (codes "intro") then intro_of words
-    else if bytes_eq head (codes "hyp") then option_map hyp (only words >>= label_of)
-    else if bytes_eq head (codes "split") then none_left words split
-    else if bytes_eq head (codes "range") then range_of words
-    else if bytes_eq head (codes "lin") then option_map lin (some_multiples_of words)
-    else None
+-- the rest of its line, under the table's names
+abbrev pub SpellsRest : List (List ℕ) → Option (List ℕ) → Step → Type 0
+SpellsRest table rest (Intro names) = (list_all is_identifier (words_of rest) ≡ true) × (map (text_at table) names ≡ map Some (words_of rest))
+SpellsRest table rest (Hyp label) = (rest >>= label_of) ≡ Some label
+SpellsRest table rest Split = rest ≡ None
+SpellsRest table rest (Range name) = (word : List ℕ) × (rest ≡ Some word) × (is_identifier word ≡ true) × (text_at table name ≡ Some word)
+SpellsRest table rest (Lin multiples) = (rest >>= multiples_in) ≡ Some multiples
 
--- a line after the first
-pub data Line : Type 0 where
-  passed : Line
-  heading : ℕ → List ℕ → Line
-  step : Said → Line
-  «end» : Line
+-- the head and the rest spell the step
+abbrev pub SpellsParts : List (List ℕ) → List ℕ → Option (List ℕ) → Step → Type 0
+SpellsParts table head rest step = (head ≡ word_of step) × SpellsRest table rest step
+
+-- the line spells the step: it is text of such a head and rest
+abbrev pub SpellsStep : List (List ℕ) → List ℕ → Step → Type 0
+SpellsStep table line step = (is_utf8 line ≡ true) × SpellsParts table (head_of line) (rest_of line) step
+
+-- the one word that a rest is
+abbrev pub as_word : Option (List ℕ) → List (List ℕ)
+as_word None = []
+as_word (Some rest) = rest ∷ []
+
+-- the texts that a line names, in order: those of an `intro` and that of a `range`
+unfoldable pub texts_by : List ℕ → Option (List ℕ) → List (List ℕ)
+texts_by head rest =
+    if bytes_eq head (codes "intro") then words_of rest
+    else if bytes_eq head (codes "hyp") then []
+    else if bytes_eq head (codes "split") then []
+    else if bytes_eq head (codes "range") then as_word rest
+    else []
+
+abbrev pub texts_in_line : List ℕ → List (List ℕ)
+texts_in_line line = texts_by (head_of line) (rest_of line)
+
+-- ---- the first and the last line of a proof
 
 -- `NUMBER OWNER`
-unfoldable pub heading_of : List (List ℕ) → Option Line
-heading_of (number ∷ owner ∷ []) = do
-  n ← number_of number
-  o ← identifier_of owner
-  Some (heading n o)
-heading_of _ = None
+abbrev pub heading_of : List ℕ → Option (ℕ × List ℕ)
+heading_of rest = do
+  parts ← cut 32 rest
+  number ← number_of parts.0
+  owner ← identifier_of parts.1
+  Some (number, owner)
 
-unfoldable pub line_by_head : List ℕ → List (List ℕ) → Option Line
-line_by_head head words =
-    if bytes_eq head (codes "proof") then heading_of words
-    else if bytes_eq head (codes "end") then none_left words «end»
-    else option_map step (step_of head words)
+-- `proof NUMBER OWNER`
+abbrev pub IsHeading : List ℕ → ℕ → List ℕ → Type 0
+IsHeading line number owner = (is_utf8 line ≡ true) × (head_of line ≡ codes "proof") × ((rest_of line >>= heading_of) ≡ Some (number, owner))
 
-abbrev pub line_of_words : List (List ℕ) → Option Line
-line_of_words [] = None
-line_of_words (head ∷ words) = line_by_head head words
-
--- bytes that are text
-abbrev pub utf8_of : List ℕ → Option (List ℕ)
-utf8_of bytes = if is_utf8 bytes then Some bytes else None
-
--- the words stand between single spaces
-abbrev pub line_of_text : List ℕ → Option Line
-line_of_text text = line_of_words (slice_split (λ b. b == 32) text)
-
--- empty lines and those that begin with `#` are passed over, whatever bytes follow, and any other line is text
-unfoldable pub line_of : List ℕ → Option Line
-line_of line = if length line == 0 || slice_index line 0 == 35 then Some passed else (utf8_of line >>= line_of_text)
+abbrev pub IsEnd : List ℕ → Type 0
+IsEnd line = line ≡ codes "end"

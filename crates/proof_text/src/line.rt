@@ -1,17 +1,17 @@
-ghost use Rattle.std.specs.Prelude.{◌≡◌, ℕ, ◌+◌, ◌^◌, ◌<◌, ◌≤◌, List, ◌-◌, ◌==◌, IfOk, OnOk, length, map};
-ghost use Rattle.std.specs.List.{slice_split};
-ghost use Rattle.std.specs.Option.{option_copied};
+ghost use Rattle.std.specs.Prelude.{◌≡◌, ℕ, ◌+◌, ◌^◌, ◌<◌, ◌≤◌, ◌==◌, List, Option, OnOk, length};
+ghost use Rattle.std.specs.Option.{option_copied, option_map};
 ghost use Rattle.name_tables.specs.NameTables.{with_names};
-ghost use Rattle.proof_text.specs.ProofTextLines.{heading_of, line_by_head, line_of_words, utf8_of, line_of_text, line_of};
-ghost use Rattle.proof_text.specs.ProofTextReads.{Reads, KeepsNames, SaysLine, line_texts, texts_if};
+ghost use Rattle.proof_text.specs.ProofTextLines.{head_of, rest_of, heading_of, texts_by, texts_in_line};
+ghost use Rattle.proof_text.specs.ProofTextFile.{heading, line_by_head, is_passed, line_of};
+ghost use Rattle.proof_text.specs.ProofTextReads.{Reads, KeepsNames, utf8_of, IsHeaded, IsLineOf, room_of};
 
 use crate::fault::Fault;
 use crate::step::step;
-use crate::word::number;
+use crate::word::{cut, number};
 use proof_kernel::Step;
 use rs_tokens::is_identifier;
 use std::alloc::Global;
-use text_core::{Names, NoMemory};
+use text_core::Names;
 
 /// A line after the first.
 #[derive(Drop)]
@@ -23,76 +23,63 @@ pub(crate) enum Line<'a> {
 }
 
 /// `NUMBER OWNER`
-#[tactic(auto, unfolding(crate::specs::ProofTextLines::heading_of))]
-fn heading<'a>(words: &[&'a str]) -> Result<Line<'a>, Fault>
-    ensures { (table : List (List ℕ)) → Reads (SaysLine table) result (heading_of (map (λ word. word.now) words.now)) }
+fn heading<'a>(rest: &'a str) -> Result<Line<'a>, Fault>
+    ensures { (table : List (List ℕ)) (head : List ℕ) (whole : Option (List ℕ)) → Reads (IsHeaded table head whole) result (option_map (λ h. heading h.0 h.1) (heading_of rest.now)) }
 {
-    match words {
-        [number_word, owner] => {
-            let number = number(*number_word).ok_or(Fault::Bad)?;
-            if !is_identifier(*owner) {
-                return Err(Fault::Bad);
-            }
-            Ok(Line::Heading(number, *owner))
-        }
-        _ => Err(Fault::Bad),
+    let (number_word, owner) = cut(rest, ' ').ok_or(Fault::Bad)?;
+    let number = number(number_word).ok_or(Fault::Bad)?;
+    if !is_identifier(owner) {
+        return Err(Fault::Bad);
     }
+    Ok(Line::Heading(number, owner))
 }
 
-#[tactic(auto, unfolding(crate::specs::ProofTextLines::line_by_head))]
+/// The line with this first word and this rest.
+#[tactic(auto, unfolding(crate::specs::ProofTextFile::line_by_head))]
 fn line_by_head<'a>(
     alloc: Global,
     head: &str,
-    words: &[&'a str],
+    rest: Option<&'a str>,
     names: &mut Names,
 ) -> Result<Line<'a>, Fault>
-    requires { length names.old + length words.now < 2 ^ 32 }
-    ensures said { Reads (SaysLine names.new) result (line_by_head head.now (map (λ word. word.now) words.now)) }
-    ensures table { OnOk result (names.new ≡ with_names names.old (texts_if line_texts (line_by_head head.now (map (λ word. word.now) words.now)))) }
+    requires { length names.old + room_of (option_copied rest) < 2 ^ 32 }
+    ensures said { Reads (IsHeaded names.new head.now (option_copied rest.entry)) result (line_by_head head.now (option_copied rest.entry)) }
+    ensures table { OnOk result (names.new ≡ with_names names.old (texts_by head.now (option_copied rest.entry))) }
     ensures kept { KeepsNames names.old names.new }
-    ensures grown { length names.new ≤ length names.old + length words.now }
+    ensures grown { length names.new ≤ length names.old + room_of (option_copied rest.entry) }
 {
     if head == "proof" {
-        return heading(words);
+        return heading(rest.ok_or(Fault::Bad)?);
     }
     if head == "end" {
-        if !words.is_empty() {
+        if rest.is_some() {
             return Err(Fault::Bad);
         }
         return Ok(Line::End);
     }
-    Ok(Line::Step(step(alloc, head, words, names)?))
+    Ok(Line::Step(step(alloc, head, rest, names)?))
 }
 
-fn line_of_words<'a>(alloc: Global, words: &[&'a str], names: &mut Names) -> Result<Line<'a>, Fault>
-    requires { length names.old + length words.now < 2 ^ 32 }
-    ensures said { Reads (SaysLine names.new) result (line_of_words (map (λ word. word.now) words.now)) }
-    ensures table { OnOk result (names.new ≡ with_names names.old (texts_if line_texts (line_of_words (map (λ word. word.now) words.now)))) }
-    ensures kept { KeepsNames names.old names.new }
-    ensures grown { length names.new ≤ length names.old + (length words.now - 1) }
+/// The first word, and what stands after the space behind it.
+fn parts(text: &str) -> (&str, Option<&str>)
+    ensures head { result.0.now ≡ head_of text.now }
+    ensures rest { option_copied result.1 ≡ rest_of text.now }
 {
-    match words {
-        [] => Err(Fault::Bad),
-        [head, rest @ ..] => line_by_head(alloc, *head, rest, names),
+    match cut(text, ' ') {
+        Some((head, rest)) => (head, Some(rest)),
+        None => (text, None),
     }
 }
 
-fn words_of(alloc: Global, text: &str) -> Result<Vec<&str>, NoMemory>
-    ensures words { IfOk result (λ words. map (λ word. word.now) words.items ≡ slice_split (λ b. b == 32) text.now) }
-    ensures count { IfOk result (λ words. length words.items ≤ length text.now + 1) }
-{
-    Ok(text.split(' ').collect(alloc)?)
-}
-
 fn line_of_text<'a>(alloc: Global, text: &'a str, names: &mut Names) -> Result<Line<'a>, Fault>
-    requires { length names.old + length text.now + 1 < 2 ^ 32 }
-    ensures said { Reads (SaysLine names.new) result (line_of_text text.now) }
-    ensures table { OnOk result (names.new ≡ with_names names.old (texts_if line_texts (line_of_text text.now))) }
+    requires { length names.old + length text.now < 2 ^ 32 }
+    ensures said { Reads (IsHeaded names.new (head_of text.now) (rest_of text.now)) result (line_by_head (head_of text.now) (rest_of text.now)) }
+    ensures table { OnOk result (names.new ≡ with_names names.old (texts_in_line text.now)) }
     ensures kept { KeepsNames names.old names.new }
     ensures grown { length names.new ≤ length names.old + length text.now }
 {
-    let words = words_of(alloc, text)?;
-    line_of_words(alloc, &words, names)
+    let (head, rest) = parts(text);
+    line_by_head(alloc, head, rest, names)
 }
 
 fn utf8(bytes: &[u8]) -> Option<&str>
@@ -101,20 +88,27 @@ fn utf8(bytes: &[u8]) -> Option<&str>
     str::from_utf8(bytes).ok()
 }
 
+/// Whether the line is empty or a comment.
+fn is_passed(text: &[u8]) -> bool
+    ensures { result ≡ is_passed text.now }
+{
+    text.is_empty() || text[0] == b'#'
+}
+
 /// What the line spells.
-#[tactic(auto, unfolding(crate::specs::ProofTextLines::line_of))]
+#[tactic(auto, unfolding(crate::specs::ProofTextFile::line_of))]
 pub(crate) fn read_line<'a>(
     alloc: Global,
     text: &'a [u8],
     names: &mut Names,
 ) -> Result<Line<'a>, Fault>
     requires { length names.old + length text.now + 1 < 2 ^ 32 }
-    ensures said { Reads (SaysLine names.new) result (line_of text.now) }
-    ensures table { OnOk result (names.new ≡ with_names names.old (texts_if line_texts (line_of text.now))) }
+    ensures said { Reads (IsLineOf names.new text.now) result (line_of text.now) }
+    ensures table { OnOk result (names.new ≡ with_names names.old (texts_in_line text.now)) }
     ensures kept { KeepsNames names.old names.new }
     ensures grown { length names.new ≤ length names.old + length text.now }
 {
-    if text.is_empty() || text[0] == b'#' {
+    if is_passed(text) {
         return Ok(Line::Passed);
     }
     match utf8(text) {

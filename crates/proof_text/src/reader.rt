@@ -1,11 +1,14 @@
-ghost use Rattle.std.specs.Prelude.{◌≡◌, ℕ, ◌+◌, ◌^◌, ◌<◌, ◌≤◌, ◌==◌, List, [], ◌∷◌, ◌++◌, length, map, Some, Ok, IfOk, OnOk, IsOk, IsErrOf, ◌⊎◌};
+ghost use Rattle.std.specs.Prelude.{◌≡◌, ℕ, ◌+◌, ◌^◌, ◌<◌, ◌≤◌, ◌==◌, List, [], ◌∷◌, ◌++◌, length, map, codes, IfOk, OnOk, IsOk, IsErrOf, ◌⊎◌};
 ghost use Rattle.std.specs.List.{slice_split};
+ghost use Rattle.std.specs.Str.{bytes_eq};
 ghost use Rattle.name_tables.specs.NameTables.{with_names};
-ghost use Rattle.proof_text.specs.ProofFileForm.{Each, SaysStep, SaysProof, SaidProof, texts_in, IsFileOf, SpellsProofs, HasNamesOf, IsFirstBadLine};
-ghost use Rattle.proof_text.specs.ProofTextFile.{State, start, is_proved, state_after, next_state, state_after_all, proofs_at_end, proofs_of_pieces};
-ghost use Rattle.proof_text.specs.declared.proof.ProofFile.{ProofFile as File};
-ghost use Rattle.proof_text.specs.ProofTextLines.{Said, Line as SaidLine, Says, heading, step as said_step, «end»};
-ghost use Rattle.proof_text.specs.ProofTextReads.{Reads, ReadsLines, KeepsNames, SaysLine, SaysState, state_texts, is_start, total_length};
+ghost use Rattle.proof_text.specs.ProofTextWords.{Each};
+ghost use Rattle.proof_text.specs.ProofTextLines.{SpellsStep, texts_in_line};
+ghost use Rattle.proof_text.specs.ProofFileForm.{texts_of_lines, IsFileOf, SpellsProofs, HasNamesOf, IsFirstBadLine};
+ghost use Rattle.proof_text.specs.ProofTextFile.{ProofText, IsProofOf, State, start, is_proved, state_after, next_state, state_after_all, proofs_at_end, proofs_of_pieces};
+ghost use Rattle.proof_text.specs.ProofTextFile.{Line as LineKind, heading, step as a_step, «end»};
+ghost use Rattle.proof_text.specs.declared.proof.Proof.{Proof as OneProof};
+ghost use Rattle.proof_text.specs.ProofTextReads.{Reads, ReadsLines, KeepsNames, IsLineOf, IsStageOf, is_start, total_length};
 
 use crate::fault::{Fault, ProofTextError};
 use crate::line::{Line, read_line};
@@ -17,6 +20,12 @@ use text_core::{Items, Names, NoMemory, Text};
 
 /// The first line.
 const HEADER: &[u8] = b"creusot-proofs 1";
+
+fn is_header(text: &[u8]) -> bool
+    ensures { result ≡ bytes_eq text.now (codes "creusot-proofs 1") }
+{
+    text == HEADER
+}
 
 /// A proof of which the `end` has not come.
 #[derive(Drop)]
@@ -36,7 +45,7 @@ pub(crate) enum Stage<'a> {
 
 /// Whether there is a proof of this obligation.
 fn is_proved<'a>(number: u32, owner: &'a str, proofs: &ProofTable<'a>) -> bool
-    ensures { (table : List (List ℕ)) (said : List SaidProof) → Each (SaysProof table) said proofs.now → result ≡ is_proved number owner.now said }
+    ensures { (table : List (List ℕ)) (said : List ProofText) → Each (IsProofOf table) said proofs.now → result ≡ is_proved number owner.now said }
 {
     proofs.has(number, owner)
 }
@@ -48,7 +57,7 @@ fn opened<'a>(
     number: u32,
     owner: &'a str,
 ) -> Result<Stage<'a>, Fault>
-    ensures { (table : List (List ℕ)) (s : State) (n : ℕ) → SaysState table s stage.entry → Reads (SaysState table) result (state_after s n (heading number owner.now)) }
+    ensures { (table : List (List ℕ)) (s : State) (n : ℕ) (text : List ℕ) → IsStageOf table s stage.entry → Reads (IsStageOf table) result (state_after s n text (heading number owner.now)) }
 {
     match stage {
         Stage::Between(proofs) => {
@@ -103,7 +112,7 @@ fn ended(alloc: Global, opened: OpenProof<'_>, end: u32) -> Result<Proof, Fault>
 
 /// Where the file stands after a step.
 fn with_step<'a>(stage: Stage<'a>, line: u32, step: Step) -> Result<Stage<'a>, Fault>
-    ensures { (table : List (List ℕ)) (s : State) (said : Said) → SaysState table s stage.entry → Says table said step → Reads (SaysState table) result (state_after s line (said_step said)) }
+    ensures { (table : List (List ℕ)) (s : State) (text : List ℕ) → IsStageOf table s stage.entry → SpellsStep table text step → Reads (IsStageOf table) result (state_after s line text a_step) }
 {
     match stage {
         Stage::Within(proofs, opened) => {
@@ -117,7 +126,7 @@ fn with_step<'a>(stage: Stage<'a>, line: u32, step: Step) -> Result<Stage<'a>, F
 
 /// Where the file stands after the end of a proof.
 fn closed<'a>(alloc: Global, stage: Stage<'a>, line: u32) -> Result<Stage<'a>, Fault>
-    ensures { (table : List (List ℕ)) (s : State) → SaysState table s stage.entry → Reads (SaysState table) result (state_after s line «end») }
+    ensures { (table : List (List ℕ)) (s : State) (text : List ℕ) → IsStageOf table s stage.entry → Reads (IsStageOf table) result (state_after s line text «end») }
 {
     match stage {
         Stage::Within(proofs, opened) => {
@@ -138,7 +147,7 @@ fn after<'a>(
     number: u32,
     line: Line<'a>,
 ) -> Result<Stage<'a>, Fault>
-    ensures { (table : List (List ℕ)) (s : State) (said : SaidLine) → SaysState table s stage.entry → SaysLine table said line.entry → Reads (SaysState table) result (state_after s number said) }
+    ensures { (table : List (List ℕ)) (s : State) (text : List ℕ) (said : LineKind) → IsStageOf table s stage.entry → IsLineOf table text said line.entry → Reads (IsStageOf table) result (state_after s number text said) }
 {
     match line {
         Line::Passed => Ok(stage),
@@ -167,13 +176,13 @@ fn next<'a>(
     names: &mut Names,
 ) -> Result<Stage<'a>, Fault>
     requires { length names.old + length text.now + 1 < 2 ^ 32 }
-    ensures said { (s : State) → SaysState names.old s stage.entry → Reads (SaysState names.new) result (next_state s number text.now) }
-    ensures table { (s t : State) (first : List (List ℕ)) → SaysState names.old s stage.entry → next_state s number text.now ≡ Some t → names.old ≡ with_names first (state_texts s) → OnOk result (names.new ≡ with_names first (state_texts t)) }
+    ensures said { (s : State) → IsStageOf names.old s stage.entry → Reads (IsStageOf names.new) result (next_state s number text.now) }
+    ensures table { OnOk result (names.new ≡ with_names names.old (texts_in_line text.now)) }
     ensures kept { KeepsNames names.old names.new }
     ensures grown { length names.new ≤ length names.old + length text.now }
 {
     if is_start(&stage) {
-        if text != HEADER {
+        if !is_header(text) {
             return Err(Fault::Bad);
         }
         return Ok(Stage::Between(ProofTable::new(alloc)));
@@ -190,8 +199,8 @@ fn after_lines<'a>(
 ) -> Result<Stage<'a>, ProofTextError>
     requires count { length lines.now + 1 < 2 ^ 32 }
     requires room { length names.old + total_length (map (λ line. line.now) lines.now) + 1 < 2 ^ 32 }
-    ensures said { ReadsLines (SaysState names.new) result (state_after_all (map (λ line. line.now) lines.now) start 1) }
-    ensures table { (s : State) → state_after_all (map (λ line. line.now) lines.now) start 1 ≡ Ok s → OnOk result (names.new ≡ with_names names.old (state_texts s)) }
+    ensures said { ReadsLines (IsStageOf names.new) result (state_after_all (map (λ line. line.now) lines.now) start 1) }
+    ensures table { OnOk result (names.new ≡ with_names names.old (texts_of_lines (map (λ line. line.now) lines.now))) }
     ensures kept { KeepsNames names.old names.new }
 {
     let mut stage = Stage::Start;
@@ -213,7 +222,8 @@ fn pieces(alloc: Global, bytes: &[u8]) -> Result<Vec<&[u8]>, NoMemory>
 
 /// The file, where it may end so: nothing stands after the last line feed, and no proof is open.
 fn at_end(stage: Stage<'_>, rest: &[u8], end: u32) -> Result<ProofFile, ProofTextError>
-    ensures { (table : List (List ℕ)) (s : State) → SaysState table s stage.entry → ReadsLines (λ said file. Each (SaysProof table) said file.proofs) result (proofs_at_end end rest.now s) }
+    ensures read { (table : List (List ℕ)) (s : State) → IsStageOf table s stage.entry → ReadsLines (λ said file. Each (IsProofOf table) said file.proofs) result (proofs_at_end end rest.now s) }
+    ensures empty { OnOk result (rest.now ≡ []) }
 {
     match stage {
         Stage::Between(proofs) => {
@@ -236,8 +246,8 @@ fn read_pieces(
 ) -> Result<ProofFile, ProofTextError>
     requires count { length pieces.now < 2 ^ 31 }
     requires room { length names.old + total_length (map (λ piece. piece.now) pieces.now) + 1 < 2 ^ 32 }
-    ensures read { ReadsLines (λ said file. Each (SaysProof names.new) said file.proofs) result (proofs_of_pieces (map (λ piece. piece.now) pieces.now)) }
-    ensures table { (said : List SaidProof) → proofs_of_pieces (map (λ piece. piece.now) pieces.now) ≡ Ok said → OnOk result (names.new ≡ with_names names.old (texts_in said)) }
+    ensures read { ReadsLines (λ said file. Each (IsProofOf names.new) said file.proofs) result (proofs_of_pieces (map (λ piece. piece.now) pieces.now)) }
+    ensures table { OnOk result (names.new ≡ with_names names.old (texts_of_lines (map (λ piece. piece.now) pieces.now))) }
     ensures kept { KeepsNames names.old names.new }
 {
     let Some((rest, lines)) = pieces.split_last() else {
@@ -260,10 +270,10 @@ pub fn read_proofs(
     ensures ok { IfOk result (λ file. SpellsProofs names.old bytes.now file) }
     ensures named { OnOk result (HasNamesOf names.old bytes.now names.new) }
     ensures bad { (n : ℕ) → IsErrOf result (ProofTextError.BadLine n) → IsFirstBadLine bytes.now n }
-    ensures none { (n : ℕ) → IsErrOf result (ProofTextError.BadLine n) → (old : List (List ℕ)) (file : File) → SpellsProofs old bytes.now file → ⊥ }
+    ensures none { (n : ℕ) → IsErrOf result (ProofTextError.BadLine n) → (table : List (List ℕ)) (proofs : List OneProof) → IsFileOf table bytes.now proofs → ⊥ }
     ensures kept { KeepsNames names.old names.new }
     // And each answer comes where it is due, or memory was refused.
-    ensures file_where_due { (said : List SaidProof) → IsFileOf bytes.now said → IsOk result ⊎ IsErrOf result ProofTextError.NoMemory }
+    ensures file_where_due { (table : List (List ℕ)) (proofs : List OneProof) → IsFileOf table bytes.now proofs → IsOk result ⊎ IsErrOf result ProofTextError.NoMemory }
     ensures line_where_due { (n : ℕ) → IsFirstBadLine bytes.now n → IsErrOf result (ProofTextError.BadLine n) ⊎ IsErrOf result ProofTextError.NoMemory }
 {
     let pieces = pieces(alloc, bytes)?;

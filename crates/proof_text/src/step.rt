@@ -1,11 +1,12 @@
-ghost use Rattle.std.specs.Prelude.{◌≡◌, ℕ, ◌+◌, ◌^◌, ◌<◌, ◌≤◌, List, length, map, IfOk, OnOk, Some};
-ghost use Rattle.std.specs.List.{list_all};
+ghost use Rattle.std.specs.Prelude.{◌≡◌, ℕ, ◌+◌, ◌^◌, ◌<◌, ◌≤◌, ◌==◌, List, [], ◌∷◌, length, map, codes, IfOk, OnOk, IsErrOf, Some, Option, false};
+ghost use Rattle.std.specs.List.{list_all, slice_split};
 ghost use Rattle.std.specs.Option.{option_copied};
 ghost use Rattle.text_core.specs.Names.{text_of};
 ghost use Rattle.name_tables.specs.NameTables.{with_names};
 ghost use Rattle.rs_tokens.specs.Tokens.{is_identifier};
-ghost use Rattle.proof_text.specs.ProofTextLines.{Says, texts_said, only, intro_of, range_of, multiples_of, some_multiples_of, step_of};
-ghost use Rattle.proof_text.specs.ProofTextReads.{Reads, KeepsNames, texts_if};
+ghost use Rattle.proof_text.specs.ProofTextLines.{words_of, multiples_of, multiples_in, SpellsParts, texts_by};
+ghost use Rattle.proof_text.specs.ProofTextFile.{is_step};
+ghost use Rattle.proof_text.specs.ProofTextReads.{Reads, KeepsNames, room_of};
 
 use crate::fault::Fault;
 use crate::word::{label, multiple};
@@ -14,13 +15,22 @@ use rs_tokens::is_identifier;
 use std::alloc::Global;
 use text_core::{Items, Name, Names, NoMemory};
 
-/// The one word.
-fn only<'a>(words: &[&'a str]) -> Option<&'a str>
-    ensures { option_copied result ≡ only (map (λ word. word.now) words.now) }
+/// The words between single spaces.
+fn split_words(alloc: Global, text: &str) -> Result<Vec<&str>, NoMemory>
+    ensures words { IfOk result (λ words. map (λ word. word.now) words.items ≡ slice_split (λ b. b == 32) text.now) }
+    ensures count { IfOk result (λ words. length words.items ≤ length text.now + 1) }
 {
-    match words {
-        [word] => Some(*word),
-        _ => None,
+    Ok(text.split(' ').collect(alloc)?)
+}
+
+/// The words of a line's rest.
+fn words<'a>(alloc: Global, rest: Option<&'a str>) -> Result<Vec<&'a str>, NoMemory>
+    ensures words { IfOk result (λ words. map (λ word. word.now) words.items ≡ words_of (option_copied rest.entry)) }
+    ensures count { IfOk result (λ words. length words.items ≤ room_of (option_copied rest.entry)) }
+{
+    match rest {
+        Some(rest) => split_words(alloc, rest),
+        None => Ok(Vec::new(alloc)),
     }
 }
 
@@ -55,70 +65,74 @@ fn multiples(alloc: Global, words: &[&str]) -> Result<Items<Multiple>, Fault>
     Ok(Items::from_vec(read))
 }
 
-fn lin(alloc: Global, words: &[&str]) -> Result<Items<Multiple>, Fault>
-    ensures { Reads (λ said read. said ≡ read) result (some_multiples_of (map (λ word. word.now) words.now)) }
+/// `M:REF ..`
+fn lin(alloc: Global, rest: &str) -> Result<Items<Multiple>, Fault>
+    ensures { Reads (λ said read. said ≡ read) result (multiples_in rest.now) }
 {
-    if words.is_empty() {
-        return Err(Fault::Bad);
-    }
-    multiples(alloc, words)
+    let words = split_words(alloc, rest)?;
+    multiples(alloc, &words)
 }
 
-fn intro(alloc: Global, words: &[&str], names: &mut Names) -> Result<Step, Fault>
-    requires { length names.old + length words.now < 2 ^ 32 }
-    ensures said { Reads (Says names.new) result (intro_of (map (λ word. word.now) words.now)) }
-    ensures table { OnOk result (names.new ≡ with_names names.old (texts_if texts_said (intro_of (map (λ word. word.now) words.now)))) }
+/// `NAME ..`
+fn intro(alloc: Global, rest: Option<&str>, names: &mut Names) -> Result<Step, Fault>
+    requires { length names.old + room_of (option_copied rest) < 2 ^ 32 }
+    ensures said { IfOk result (λ step. SpellsParts names.new (codes "intro") (option_copied rest.entry) step) }
+    ensures bad { IsErrOf result Fault.Bad → list_all is_identifier (words_of (option_copied rest.entry)) ≡ false }
+    ensures table { OnOk result (names.new ≡ with_names names.old (words_of (option_copied rest.entry))) }
     ensures kept { KeepsNames names.old names.new }
-    ensures grown { length names.new ≤ length names.old + length words.now }
+    ensures grown { length names.new ≤ length names.old + room_of (option_copied rest.entry) }
 {
-    if !are_identifiers(words) {
+    let words = words(alloc, rest)?;
+    if !are_identifiers(&words) {
         return Err(Fault::Bad);
     }
-    Ok(Step::Intro(named(alloc, words, names)?))
+    Ok(Step::Intro(named(alloc, &words, names)?))
 }
 
-fn range(alloc: Global, words: &[&str], names: &mut Names) -> Result<Step, Fault>
-    requires { length names.old + length words.now < 2 ^ 32 }
-    ensures said { Reads (Says names.new) result (range_of (map (λ word. word.now) words.now)) }
-    ensures table { OnOk result (names.new ≡ with_names names.old (texts_if texts_said (range_of (map (λ word. word.now) words.now)))) }
+/// `NAME`
+fn range(alloc: Global, word: &str, names: &mut Names) -> Result<Step, Fault>
+    requires { length names.old + 1 < 2 ^ 32 }
+    ensures said { IfOk result (λ step. SpellsParts names.new (codes "range") (Some word.now) step) }
+    ensures bad { IsErrOf result Fault.Bad → is_identifier word.now ≡ false }
+    ensures table { OnOk result (names.new ≡ with_names names.old (word.now ∷ [])) }
     ensures kept { KeepsNames names.old names.new }
-    ensures grown { length names.new ≤ length names.old + length words.now }
+    ensures grown { length names.new ≤ length names.old + 1 }
 {
-    let word = only(words).ok_or(Fault::Bad)?;
     if !is_identifier(word) {
         return Err(Fault::Bad);
     }
     Ok(Step::Range(names.intern(alloc, word)?))
 }
 
-/// A step, by its first word and the others.
-#[tactic(auto, unfolding(crate::specs::ProofTextLines::step_of))]
+/// A step, by the first word of its line and the rest.
+#[tactic(auto, unfolding(crate::specs::ProofTextFile::is_step, crate::specs::ProofTextLines::texts_by))]
 pub(crate) fn step(
     alloc: Global,
     head: &str,
-    words: &[&str],
+    rest: Option<&str>,
     names: &mut Names,
 ) -> Result<Step, Fault>
-    requires { length names.old + length words.now < 2 ^ 32 }
-    ensures said { Reads (Says names.new) result (step_of head.now (map (λ word. word.now) words.now)) }
-    ensures table { OnOk result (names.new ≡ with_names names.old (texts_if texts_said (step_of head.now (map (λ word. word.now) words.now)))) }
+    requires { length names.old + room_of (option_copied rest) < 2 ^ 32 }
+    ensures said { IfOk result (λ step. SpellsParts names.new head.now (option_copied rest.entry) step) }
+    ensures bad { IsErrOf result Fault.Bad → is_step head.now (option_copied rest.entry) ≡ false }
+    ensures table { OnOk result (names.new ≡ with_names names.old (texts_by head.now (option_copied rest.entry))) }
     ensures kept { KeepsNames names.old names.new }
-    ensures grown { length names.new ≤ length names.old + length words.now }
+    ensures grown { length names.new ≤ length names.old + room_of (option_copied rest.entry) }
 {
     match head {
-        "intro" => intro(alloc, words, names),
+        "intro" => intro(alloc, rest, names),
         "hyp" => {
-            let word = only(words).ok_or(Fault::Bad)?;
-            Ok(Step::Hyp(label(word).ok_or(Fault::Bad)?))
+            let rest = rest.ok_or(Fault::Bad)?;
+            Ok(Step::Hyp(label(rest).ok_or(Fault::Bad)?))
         }
         "split" => {
-            if !words.is_empty() {
+            if rest.is_some() {
                 return Err(Fault::Bad);
             }
             Ok(Step::Split)
         }
-        "range" => range(alloc, words, names),
-        "lin" => Ok(Step::Lin(lin(alloc, words)?)),
+        "range" => range(alloc, rest.ok_or(Fault::Bad)?, names),
+        "lin" => Ok(Step::Lin(lin(alloc, rest.ok_or(Fault::Bad)?)?)),
         _ => Err(Fault::Bad),
     }
 }

@@ -57,7 +57,7 @@ fn multiplier(word: &str) -> Option<i128>
 }
 
 /// What stands before and after the first such character.
-fn cut(word: &str, at: char) -> Option<(&str, &str)>
+pub(crate) fn cut(word: &str, at: char) -> Option<(&str, &str)>
     requires { at < 128 }
     ensures { option_map (λ parts. (parts.0.now, parts.1.now)) result ≡ cut at word.now }
 {

@@ -43,7 +43,7 @@ pub(crate) fn plan_of_limit(alloc: Global, limit: Limit) -> Result<Plan, NoMemor
 /// The list of the obligations of the program.
 fn listed(alloc: Global, source: &[u8], program: &Program) -> Result<Plan, NoMemory>
     requires { length source.now ≤ 2 ^ 20 }
-    ensures { IfOk result (λ p. (p.status ≡ 0) × (p.bytes.items ≡ list_text source.now program.now.functions)) }
+    ensures { IfOk result (λ p. (p.status ≡ 0) × (p.bytes.items ≡ list_text program.now.names source.now program.now.functions)) }
 {
     let bytes = list(alloc, program, source)?;
     Ok(Plan { status: 0, bytes })

@@ -1,5 +1,8 @@
-use Rattle.std.proofs.Common.{◌≡◌, ◌+◌, ◌*◌, ◌++◌, codes, flat_map, max, take}
+use Rattle.std.proofs.Common.{◌≡◌, ◌+◌, ◌*◌, ◌++◌, codes, flat_map, map, max, take}
 use Rattle.logic_term.specs.TermView.{term_size, terms_size, terms_of}
+use Rattle.goal_text.specs.Spelling.{labelled}
+use Rattle.goal_text.specs.SpellingView.{spelling_of}
+use Rattle.goal_text.specs.BoundView.{bounds_of}
 use Rattle.goal_text.specs.GoalText.{text_in}
 use Rattle.goal_text.proofs.term.+push_term.Given as goal
 
@@ -24,6 +27,16 @@ decreases-push_made l = 4 * terms_size (terms_of l.parts.now) + 3
 abbrev pub decreases-push_parts : goal.decreases-push_parts
 decreases-push_parts l = 4 * terms_size (terms_of l.parts.now) + 2
 
+abbrev pub decreases-push_fields : goal.decreases-push_fields
+decreases-push_fields l = 4 * terms_size (terms_of l.parts.now) + 2
+
+abbrev pub decreases-push_other_fields : goal.decreases-push_other_fields
+decreases-push_other_fields l = 4 * terms_size (terms_of l.others.now)
+
+abbrev pub invariant-push_other_fields-loop-i : goal.invariant-push_other_fields-loop-i
+invariant-push_other_fields-loop-i l =
+    l.out.items ≡ l.initial.out.items ++ flat_map (λ part. codes ", " ++ part) (labelled (spelling_of l.spelling) l.numbered l.fields (map (text_in (spelling_of l.spelling) (bounds_of l.bound)) (take l.i l.others)))
+
 abbrev pub decreases-push_listed : goal.decreases-push_listed
 decreases-push_listed l = 4 * terms_size (terms_of l.parts.now) + 1
 
@@ -31,4 +44,4 @@ abbrev pub decreases-push_others : goal.decreases-push_others
 decreases-push_others l = 4 * terms_size (terms_of l.others.now)
 
 abbrev pub invariant-push_others-loop-i : goal.invariant-push_others-loop-i
-invariant-push_others-loop-i l = l.out.items ≡ l.initial.out.items ++ flat_map (λ t. codes ", " ++ text_in l.bound t) (take l.i l.others)
+invariant-push_others-loop-i l = l.out.items ≡ l.initial.out.items ++ flat_map (λ t. codes ", " ++ text_in (spelling_of l.spelling) (bounds_of l.bound) t) (take l.i l.others)

@@ -1,11 +1,24 @@
-use Rattle.std.proofs.Common.{◌∙◌, sym, map}
-use Rattle.proof_text.proofs.StageLemmas.{now}
-use Rattle.proof_text.proofs.LineLemmas.{heads_proof}
-use Rattle.proof_text.proofs.NameOrder.{proof_names_none}
+use Rattle.std.proofs.Common.{◌∙◌, sym, ap, Some}
+use Rattle.std.specs.Option.{option_copied}
+use Rattle.name_tables.specs.NameTables.{with_names}
+use Rattle.proof_text.proofs.LineLemmas.{headed_proof, headed_step}
+use Rattle.proof_text.proofs.NameOrder.{on_ok, none_by, proof_names, end_names}
 use Rattle.proof_text.proofs.line.line_by_head.Goals as goal
 
 pub returns-then-eq-clause-said : goal.returns-then-eq-clause-said
-returns-then-eq-clause-said c = heads_proof c.args.names.now c.args.head.now (map now c.args.words.now) c.heading.result (sym c.eq.ensures ∙ c.if-eq.true) (c.heading.ensures c.args.names.now)
+returns-then-eq-clause-said c =
+    headed_proof c.args.names.now c.args.head.now (option_copied c.args.rest) c.in_ok-ok_or.field-0.now c.heading.result (sym c.eq.ensures ∙ c.if-eq.true) (ap option_copied c.in_ok-ok_or.ensures.ok_part)
+    (c.heading.ensures c.args.names.now c.args.head.now (Some c.in_ok-ok_or.field-0.now))
 
 pub returns-then-eq-clause-table : goal.returns-then-eq-clause-table
-returns-then-eq-clause-table c = proof_names_none c.args.names.now c.args.head.now (map now c.args.words.now) c.heading.result (sym c.eq.ensures ∙ c.if-eq.true)
+returns-then-eq-clause-table c =
+    on_ok c.heading.result
+    (ap (with_names c.args.names.now) (sym (none_by c.args.head.now _ (option_copied c.args.rest) (sym c.eq.ensures ∙ c.if-eq.true) (proof_names (option_copied c.args.rest)))))
+
+pub returns-then-eq-2-clause-table : goal.returns-then-eq-2-clause-table
+returns-then-eq-2-clause-table c =
+    ap (with_names c.args.names.now) (sym (none_by c.args.head.now _ (option_copied c.args.rest) (sym c.eq-2.ensures ∙ c.if-eq-2.true) (end_names (option_copied c.args.rest))))
+
+pub returns-clause-said : goal.returns-clause-said
+returns-clause-said c =
+    headed_step c.step.new.names c.args.head.now (option_copied c.args.rest) c.in_ok-step.field-0 c.in_ok-step.ensures.said (sym c.eq.ensures ∙ c.if-eq.false) (sym c.eq-2.ensures ∙ c.if-eq-2.false)

@@ -1,14 +1,16 @@
-use Rattle.std.proofs.Common.{◌≡◌, ◌+◌, ◌≤◌, length, map, drop}
+use Rattle.std.proofs.Common.{◌≡◌, ◌+◌, ◌≤◌, length, map, drop, take}
 use Rattle.name_tables.specs.NameTables.{with_names}
+use Rattle.proof_text.specs.ProofFileForm.{texts_of_lines}
 use Rattle.proof_text.specs.ProofTextFile.{State, start, state_after_all}
-use Rattle.proof_text.specs.ProofTextReads.{KeepsNames, SaysState, state_texts, total_length}
+use Rattle.proof_text.specs.ProofTextReads.{KeepsNames, IsStageOf, total_length}
 use Rattle.proof_text.proofs.StageLemmas.{now}
 use Rattle.proof_text.proofs.reader.after_lines.Given as goal
 
--- the stage is that of a state from which the other lines go on as all do from the start; what it says has names
+-- the stage is that of a state from which the other lines go on as all do from the start; what the lines so far name has names
 abbrev pub invariant-loop-at : goal.invariant-loop-at
 invariant-loop-at l = record {
-  said : (s : State) × SaysState l.names s l.stage × (state_after_all (map now (drop l.at l.lines)) s (l.at + 1) ≡ state_after_all (map now l.lines) start 1) × (l.names ≡ with_names l.fn.names (state_texts s));
+  said : (s : State) × IsStageOf l.names s l.stage × (state_after_all (map now (drop l.at l.lines)) s (l.at + 1) ≡ state_after_all (map now l.lines) start 1);
+  table : l.names ≡ with_names l.fn.names (texts_of_lines (map now (take l.at l.lines)));
   kept : KeepsNames l.fn.names l.names;
   room : length l.names + total_length (map now (drop l.at l.lines)) ≤ length l.fn.names + total_length (map now l.lines);
 }

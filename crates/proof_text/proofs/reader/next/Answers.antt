@@ -1,18 +1,17 @@
-use Rattle.std.proofs.Common.{sym, ◌∙◌}
-use Rattle.proof_text.proofs.KeptNames.{kept_state}
-use Rattle.proof_text.proofs.StageLemmas.{line_goes_on, past_start}
-use Rattle.proof_text.proofs.NameOrder.{on_ok, line_named}
+use Rattle.std.proofs.Common.{sym, ap, ◌∙◌}
+use Rattle.proof_text.specs.ProofTextLines.{texts_in_line}
+use Rattle.proof_text.proofs.KeptNames.{kept_state, keeps_by}
+use Rattle.proof_text.proofs.StageLemmas.{line_goes_on}
+use Rattle.name_tables.specs.NameTables.{with_names}
+use Rattle.proof_text.proofs.NameOrder.{header_names}
 use Rattle.proof_text.proofs.reader.next.Goals as goal
 
 pub returns-clause-said : goal.returns-clause-said
 returns-clause-said c = λ s h.
     line_goes_on c.read_line.new.names s c.args.stage c.in_ok-line.line c.args.number c.args.text.now c.after.result
     (sym c.is_start.ensures ∙ c.if-is_start.false) c.in_ok-line.ensures.said
-    (kept_state c.args.names.now c.read_line.new.names c.read_line.ensures.kept s c.args.stage h)
-    (λ said k l. c.after.ensures c.read_line.new.names s said k l)
+    (kept_state c.args.names.now c.read_line.new.names (keeps_by c.args.names.now c.read_line.new.names (texts_in_line c.args.text.now) c.in_ok-line.ensures.table) s c.args.stage h)
+    (λ said k l. c.after.ensures c.read_line.new.names s c.args.text.now said k l)
 
-pub returns-clause-table : goal.returns-clause-table
-returns-clause-table c = λ s t first says is so_far.
-    on_ok c.after.result
-    (line_named s t c.args.number c.args.text.now first c.args.names.now c.read_line.new.names
-    (past_start c.args.names.now s c.args.stage c.args.number c.args.text.now (sym c.is_start.ensures ∙ c.if-is_start.false) says) is so_far c.in_ok-line.ensures.table)
+pub returns-then-is_start-clause-table : goal.returns-then-is_start-clause-table
+returns-then-is_start-clause-table c = ap (with_names c.args.names.now) (sym (header_names c.args.text.now (sym c.is_header.ensures ∙ c.if-not-is_header.false)))

@@ -3,7 +3,7 @@ use Rattle.proof_text.specs.ProofTextReads.{total_length}
 use Rattle.proof_text.proofs.StageLemmas.{now}
 use Rattle.proof_text.proofs.EndLemmas.{few_pieces, short_pieces, ok_from, bad_from}
 use Rattle.proof_text.proofs.FormBytes.{bad_read}
-use Rattle.proof_text.proofs.FormLaw.{ok_form, named_form, none_form, file_due, line_due}
+use Rattle.proof_text.proofs.FormLaw.{ok_form, none_form, file_due, line_due}
 use Rattle.proof_text.proofs.NameOrder.{named_from}
 use Rattle.proof_text.proofs.reader.read_proofs.Goals as goal
 
@@ -23,20 +23,19 @@ returns-clause-ok c =
 pub returns-clause-named : goal.returns-clause-named
 returns-clause-named c =
     let are = ap (map now) c.deref.ensures.value ∙ c.in_ok-pieces.ensures in
-    named_form c.args.names.now c.read_pieces.new.names c.args.bytes.now c.read_pieces.result
-    (named_from c.args.names.now c.read_pieces.new.names c.args.bytes.now (map now c.deref.result.now) c.read_pieces.result are c.read_pieces.ensures.table)
+    named_from c.args.names.now c.read_pieces.new.names c.args.bytes.now (map now c.deref.result.now) c.read_pieces.result are c.read_pieces.ensures.table
 
 pub returns-clause-bad : goal.returns-clause-bad
 returns-clause-bad c = λ n is.
     bad_read c.args.bytes.now n (bad_from c.read_pieces.new.names c.args.bytes.now (map now c.deref.result.now) c.read_pieces.result n (ap (map now) c.deref.ensures.value ∙ c.in_ok-pieces.ensures) c.read_pieces.ensures.read is)
 
 pub returns-clause-none : goal.returns-clause-none
-returns-clause-none c = λ n is old file.
-    none_form old c.args.bytes.now n file (bad_from c.read_pieces.new.names c.args.bytes.now (map now c.deref.result.now) c.read_pieces.result n (ap (map now) c.deref.ensures.value ∙ c.in_ok-pieces.ensures) c.read_pieces.ensures.read is)
+returns-clause-none c = λ n is table proofs.
+    none_form table c.args.bytes.now n proofs (bad_from c.read_pieces.new.names c.args.bytes.now (map now c.deref.result.now) c.read_pieces.result n (ap (map now) c.deref.ensures.value ∙ c.in_ok-pieces.ensures) c.read_pieces.ensures.read is)
 
 pub returns-clause-file_where_due : goal.returns-clause-file_where_due
-returns-clause-file_where_due c = λ said file.
-    file_due c.args.bytes.now c.read_pieces.result said
+returns-clause-file_where_due c = λ table proofs file.
+    file_due c.args.bytes.now c.read_pieces.result table proofs
     (λ n is. bad_read c.args.bytes.now n (bad_from c.read_pieces.new.names c.args.bytes.now (map now c.deref.result.now) c.read_pieces.result n (ap (map now) c.deref.ensures.value ∙ c.in_ok-pieces.ensures) c.read_pieces.ensures.read is))
     file
 

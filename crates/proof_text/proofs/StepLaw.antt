@@ -1,0 +1,181 @@
+-- What the line of a step spells, step by step.
+use Rattle.std.proofs.Common.{◌≡◌, ℕ, Bool, true, false, cond, List, [], ◌∷◌, ◌++◌, map, Option, Some, None, refl, sym, ◌∙◌, ap, slice_get, codes, true≢false}
+use Rattle.std.specs.Prelude.{is_some, is_none}
+use Rattle.std.specs.List.{list_all}
+use Rattle.std.specs.Str.{bytes_eq, is_utf8}
+use Rattle.std.proofs.lemmas.Slice.Eq.{bytes_eq-Decides}
+use Rattle.proof_kernel.specs.declared.step.Step.{Step}
+use Rattle.proof_kernel.specs.declared.step.Step.TheVariants.{Intro, Hyp, Split, Range, Lin}
+use Rattle.text_core.specs.Names.{words, HaveOnePlace}
+use Rattle.text_core.specs.declared.name.Name.{Name}
+use Rattle.rs_tokens.specs.Tokens.{is_identifier}
+use Rattle.proof_text.specs.ProofTextWords.{◌>>=◌, label_of}
+use Rattle.proof_text.specs.ProofTextLines.{head_of, rest_of, words_of, text_at, identifier_of, multiples_in, word_of, SpellsRest, SpellsParts, SpellsStep, as_word, texts_by, texts_in_line}
+use Rattle.proof_text.specs.ProofTextFile.{is_step, step, line_if, line_by_head, line_of}
+use Rattle.proof_text.specs.ProofTextLaws.{AlikeStep}
+use Rattle.proof_text.proofs.LineLaw.{is_plain, text_line}
+
+-- ---- a spelled step has a line
+
+rest_is : (table : List (List ℕ)) (rest : Option (List ℕ)) (s : Step) → SpellsRest table rest s → is_step (word_of s) rest ≡ true
+unfolding is_step
+rest_is table rest (Intro names) h = h.0
+rest_is table rest (Hyp l) h = ap is_some h
+rest_is table rest Split h = ap is_none h
+rest_is table rest (Range x) h = rw (h.1, h.2) refl
+rest_is table rest (Lin ms) h = ap is_some h
+
+by_word : (s : Step) (rest : Option (List ℕ)) → line_by_head (word_of s) rest ≡ line_if (is_step (word_of s) rest) step
+unfolding line_by_head
+by_word (Intro names) rest = refl
+by_word (Hyp l) rest = refl
+by_word Split rest = refl
+by_word (Range x) rest = refl
+by_word (Lin ms) rest = refl
+
+word_plain : (s : Step) → is_plain (word_of s) ≡ true
+word_plain (Intro names) = refl
+word_plain (Hyp l) = refl
+word_plain Split = refl
+word_plain (Range x) = refl
+word_plain (Lin ms) = refl
+
+pub parts_are : (table : List (List ℕ)) (head : List ℕ) (rest : Option (List ℕ)) (s : Step) → SpellsParts table head rest s → is_step head rest ≡ true
+parts_are table head rest s h = ap (λ w. is_step w rest) h.0 ∙ rest_is table rest s h.1
+
+pub step_line : (table : List (List ℕ)) (text : List ℕ) (s : Step) → SpellsStep table text s → line_of text ≡ Some step
+step_line table text s h =
+    text_line text (ap is_plain h.1.0 ∙ word_plain s) h.0
+    ∙ (ap (λ w. line_by_head w (rest_of text)) h.1.0 ∙ by_word s (rest_of text) ∙ ap (λ b. line_if b step) (rest_is table (rest_of text) s h.1.1))
+
+-- ---- such a line spells a step
+
+-- each of the texts has a name
+abbrev pub AreNamed : List (List ℕ) → List (List ℕ) → Type 0
+AreNamed table [] = Unit {0}
+AreNamed table (text ∷ texts) = ((name : Name) × (text_at table name ≡ Some text)) × AreNamed table texts
+
+names_there : (table texts : List (List ℕ)) → AreNamed table texts → (names : List Name) × (map (text_at table) names ≡ map Some texts)
+names_there table [] h = ([], refl)
+names_there table (text ∷ texts) h =
+    let more = names_there table texts h.1 in
+    let first : text_at table h.0.0 ≡ Some text = h.0.1 in
+    let rest : map (text_at table) more.0 ≡ map Some texts = more.1 in
+    (h.0.0 ∷ more.0, ap (λ o. o ∷ map (text_at table) more.0) first ∙ ap (λ os. Some text ∷ os) rest)
+
+some_of : {A : Type 0} (o : Option A) → is_some o ≡ true → (x : A) × (o ≡ Some x)
+some_of None e = absurd (cc)
+some_of (Some x) e = (x, refl)
+
+none_of : {A : Type 0} (o : Option A) → is_none o ≡ true → o ≡ None
+none_of None e = refl
+none_of (Some x) e = absurd (cc)
+
+identifier_by : (word : List ℕ) (t : Bool) → is_identifier word ≡ t → is_some (cond t (Some word) None) ≡ true → is_identifier word ≡ true
+identifier_by word true is e = is
+identifier_by word false is e = absurd (cc)
+
+range_there : (table : List (List ℕ)) (rest : Option (List ℕ)) → is_some (rest >>= identifier_of) ≡ true → AreNamed table (as_word rest) → (name : Name) × SpellsRest table rest (Range name)
+range_there table None e h = absurd (cc)
+range_there table (Some word) e h = (h.0.0, (word, refl, identifier_by word (is_identifier word) refl e, h.0.1))
+
+same_head : (head word : List ℕ) → bytes_eq head word ≡ true → head ≡ word
+same_head head word e = (bytes_eq-Decides head word).0 e
+
+abbrev Spelled : List (List ℕ) → List ℕ → Option (List ℕ) → Type 0
+Spelled table head rest = (s : Step) × SpellsParts table head rest s
+
+by_words : (table : List (List ℕ)) (head : List ℕ) (rest : Option (List ℕ)) (a b c d e : Bool) → bytes_eq head (codes "intro") ≡ a → bytes_eq head (codes "hyp") ≡ b → bytes_eq head (codes "split") ≡ c →
+    bytes_eq head (codes "range") ≡ d → bytes_eq head (codes "lin") ≡ e →
+    cond a (list_all is_identifier (words_of rest)) (cond b (is_some (rest >>= label_of)) (cond c (is_none rest) (cond d (is_some (rest >>= identifier_of)) (cond e (is_some (rest >>= multiples_in)) false)))) ≡ true →
+    AreNamed table (cond a (words_of rest) (cond b [] (cond c [] (cond d (as_word rest) [])))) → Spelled table head rest
+by_words table head rest true b c d e p q r s t is named =
+    let names = names_there table (words_of rest) named in (Intro names.0, (same_head head (codes "intro") p, (is, names.1)))
+by_words table head rest false true c d e p q r s t is named = let l = some_of (rest >>= label_of) is in (Hyp l.0, (same_head head (codes "hyp") q, l.1))
+by_words table head rest false false true d e p q r s t is named = (Split, (same_head head (codes "split") r, none_of rest is))
+by_words table head rest false false false true e p q r s t is named = let x = range_there table rest is named in (Range x.0, (same_head head (codes "range") s, x.1))
+by_words table head rest false false false false true p q r s t is named = let ms = some_of (rest >>= multiples_in) is in (Lin ms.0, (same_head head (codes "lin") t, ms.1))
+by_words table head rest false false false false false p q r s t is named = absurd (cc)
+
+parts_there : (table : List (List ℕ)) (head : List ℕ) (rest : Option (List ℕ)) → is_step head rest ≡ true → AreNamed table (texts_by head rest) → Spelled table head rest
+unfolding is_step texts_by
+parts_there table head rest is named =
+    by_words table head rest (bytes_eq head (codes "intro")) (bytes_eq head (codes "hyp")) (bytes_eq head (codes "split")) (bytes_eq head (codes "range")) (bytes_eq head (codes "lin"))
+    refl refl refl refl refl is named
+
+pub step_there : (table : List (List ℕ)) (text : List ℕ) → is_utf8 text ≡ true → is_step (head_of text) (rest_of text) ≡ true → AreNamed table (texts_in_line text) → (s : Step) × SpellsStep table text s
+step_there table text u is named = let s = parts_there table (head_of text) (rest_of text) is named in (s.0, (u, s.1))
+
+-- ---- in a larger table the same step is spelled
+
+-- each text stays where it is
+abbrev pub KeepsTexts : List (List ℕ) → List (List ℕ) → Type 0
+KeepsTexts old new = (k : ℕ) (text : List ℕ) → slice_get (words ++ old) k ≡ Some text → slice_get (words ++ new) k ≡ Some text
+
+module _ (old new : List (List ℕ)) (keeps : KeepsTexts old new) where
+  kept_names : (names : List Name) (texts : List (List ℕ)) → map (text_at old) names ≡ map Some texts → map (text_at new) names ≡ map Some texts
+  kept_names [] [] h = refl
+  kept_names [] (t ∷ ts) h = cc
+  kept_names (n ∷ ns) [] h = cc
+  kept_names (n ∷ ns) (t ∷ ts) h =
+      let here : text_at old n ≡ Some t = cc in
+      let first : text_at new n ≡ Some t = keeps n.0 t here in
+      let others : map (text_at new) ns ≡ map Some ts = kept_names ns ts (cc) in
+      ap (λ o. o ∷ map (text_at new) ns) first ∙ ap (λ os. Some t ∷ os) others
+
+  kept_rest : (rest : Option (List ℕ)) (s : Step) → SpellsRest old rest s → SpellsRest new rest s
+  kept_rest rest (Intro names) h = (h.0, kept_names names (words_of rest) h.1)
+  kept_rest rest (Hyp l) h = h
+  kept_rest rest Split h = h
+  kept_rest rest (Range x) h = (h.0, h.1, h.2, keeps x.0 h.0 h.3)
+  kept_rest rest (Lin ms) h = h
+
+  pub kept_step : (text : List ℕ) (s : Step) → SpellsStep old text s → SpellsStep new text s
+  kept_step text s h = (h.0, (h.1.0, kept_rest (rest_of text) s h.1.1))
+
+-- ---- a line spells one step
+
+module _ (table other : List (List ℕ)) (rest : Option (List ℕ)) where
+  alike_rest : (s t : Step) → bytes_eq (word_of s) (word_of t) ≡ true → SpellsRest table rest s → SpellsRest other rest t → AlikeStep table other s t
+  alike_rest (Intro ms) (Intro ns) e h k = h.1 ∙ sym k.1
+  alike_rest (Hyp l) (Hyp m) e h k = let same : Some l ≡ Some m = sym h ∙ k in cc
+  alike_rest Split Split e h k = tt
+  alike_rest (Range m) (Range n) e h k = let same : Some h.0 ≡ Some k.0 = sym h.1 ∙ k.1 in h.3 ∙ same ∙ sym k.3
+  alike_rest (Lin ms) (Lin ns) e h k = let same : Some ms ≡ Some ns = sym h ∙ k in cc
+  alike_rest _ _ e h k = absurd (true≢false (sym e))
+
+pub alike_step : (table other : List (List ℕ)) (text : List ℕ) (s t : Step) → SpellsStep table text s → SpellsStep other text t → AlikeStep table other s t
+alike_step table other text s t h k = alike_rest table other (rest_of text) s t ((bytes_eq-Decides (word_of s) (word_of t)).1 (sym h.1.0 ∙ k.1.0)) h.1.1 k.1.1
+
+module _ (table : List (List ℕ)) (place : HaveOnePlace (words ++ table)) where
+  name_once : (m n : Name) (text : List ℕ) → text_at table m ≡ Some text → text_at table n ≡ Some text → m ≡ n
+  name_once m n text h k = ap (λ (i : ℕ). let name : Name = record { 0 = i } in name) (place m.0 n.0 text h k)
+
+  names_once : (xs ys : List Name) (texts : List (List ℕ)) → map (text_at table) xs ≡ map Some texts → map (text_at table) ys ≡ map Some texts → xs ≡ ys
+  names_once [] [] texts h k = refl
+  names_once [] (y ∷ ys) [] h k = absurd (cc)
+  names_once [] (y ∷ ys) (t ∷ ts) h k = absurd (cc)
+  names_once (x ∷ xs) [] [] h k = absurd (cc)
+  names_once (x ∷ xs) [] (t ∷ ts) h k = absurd (cc)
+  names_once (x ∷ xs) (y ∷ ys) [] h k = absurd (cc)
+  names_once (x ∷ xs) (y ∷ ys) (t ∷ ts) h k =
+      let first : text_at table x ≡ Some t = cc in
+      let second : text_at table y ≡ Some t = cc in
+      let rest_first : map (text_at table) xs ≡ map Some ts = cc in
+      let rest_second : map (text_at table) ys ≡ map Some ts = cc in
+      let here : x ≡ y = name_once x y t first second in
+      let rest : xs ≡ ys = names_once xs ys ts rest_first rest_second in
+      ap (λ z. z ∷ xs) here ∙ ap (λ zs. y ∷ zs) rest
+
+  rest_once : (rest : Option (List ℕ)) (s t : Step) → AlikeStep table table s t → SpellsRest table rest s → SpellsRest table rest t → s ≡ t
+  rest_once rest (Intro ms) (Intro ns) e h k = ap Intro (names_once ms ns (words_of rest) h.1 k.1)
+  rest_once rest (Hyp l) (Hyp m) e h k = ap Hyp e
+  rest_once rest Split Split e h k = refl
+  rest_once rest (Range m) (Range n) e h k =
+      let same : Some h.0 ≡ Some k.0 = sym h.1 ∙ k.1 in
+      ap Range (name_once m n k.0 (h.3 ∙ same) k.3)
+  rest_once rest (Lin ms) (Lin ns) e h k = ap Lin e
+  rest_once rest _ _ e h k = absurd e
+
+  pub step_once : (text : List ℕ) (s t : Step) → SpellsStep table text s → SpellsStep table text t → s ≡ t
+  step_once text s t h k = rest_once (rest_of text) s t (alike_step table table text s t h k) h.1.1 k.1.1
