@@ -46,7 +46,7 @@ use Rattle.rs_syntax.specs.MakeGenerics.{param_made, named_param_made, mut_named
 use Rattle.rs_syntax.specs.MakeItems.{with_attribute, item_with, item_with_value, item_with_shape, item_with_token, bare_item, with_body, item_made, method_by, method_made}
 use Rattle.rs_syntax.specs.MakeOperators.{assignment_made, operation_made}
 use Rattle.rs_syntax.specs.MakeStatements.{block_made, blocklike_made, forever_made, if_made, let_condition_made, let_made, match_made, while_made}
-use Rattle.rs_syntax.specs.Asked.{a_function, an_impl_head, a_method, family_of, family_in, code_asks, code_family, EachLineIsMade}
+use Rattle.rs_syntax.specs.Asked.{a_function, an_impl_head, a_method, family_of, family_in, code_asks, code_family, EachLineIsMade, ShapesAreThere}
 use Rattle.rs_syntax.proofs.Finding.{type_there, term_there}
 
 -- ---- types, patterns, paths and terms
@@ -62,14 +62,15 @@ same_shapes : (parts : List Part) → AreAll shape_families (map family_in parts
 same_shapes [] a = refl
 same_shapes (p ∷ ps) a = one_shape p.value p.from p.to (shape_parts ps) a.0 ∙ ap (λ (fs : List ℕ). family_of p.value ∷ fs) (same_shapes ps a.1)
 
-shapes_alone : (action : ShapeAction) → is_within (asks_of action).families shape_families ≡ true
-shapes_alone shapes.NamedType = refl
-shapes_alone action = refl
+within_shapes : (action : ShapeAction) → is_within (asks_of action).families shape_families ≡ true
+within_shapes shapes.NamedType = refl
+within_shapes action = refl
+
+pub shapes_there : ShapesAreThere
+shapes_there action parts h = same_shapes parts (all_within (asks_of action).families shape_families (map family_in parts) (within_shapes action) h.families)
 
 shape_of_family : (action : ShapeAction) (words : List Word) (from to : ℕ) (parts : List Part) → AreThere (asks_of action) (map family_in parts) → terms.family_of (shape_made action words from to (shape_parts parts)) ≡ family_made action
-shape_of_family action words from to parts h =
-    let same = same_shapes parts (all_within (asks_of action).families shape_families (map family_in parts) (shapes_alone action) h.families) in
-    made_of_family action words from to (shape_parts parts) (subst (λ (fs : List ℕ). AreThere (asks_of action) fs) (sym same) h)
+shape_of_family action words from to parts h = made_of_family action words from to (shape_parts parts) (subst (λ (fs : List ℕ). AreThere (asks_of action) fs) (sym (shapes_there action parts h)) h)
 
 -- ---- what is made of one part
 

@@ -11,6 +11,7 @@ use Rattle.source_grammar.specs.declared.action.Action.{Action}
 use Rattle.source_grammar.specs.declared.action.Action.TheVariants.{Keep, Shape, Code}
 use Rattle.source_grammar.specs.declared.action.CodeAction.{CodeAction}
 use Rattle.source_grammar.specs.declared.action.CodeAction.TheVariants as codes
+use Rattle.source_grammar.specs.declared.action.ShapeAction.{ShapeAction}
 use Rattle.source_words.specs.declared.word.Word.{Word}
 use Rattle.pearlite.specs.Asked as shapes
 use Rattle.pearlite.specs.Asked.{a_token, a_type, a_pattern, a_path, a_term, passed_over, asking, asks_of}
@@ -22,6 +23,7 @@ use Rattle.rs_syntax.specs.declared.part.Value.{Value}
 use Rattle.rs_syntax.specs.declared.part.Value.TheVariants as V
 use Rattle.rs_syntax.specs.Gathered.{first_of, type_of, term_of, generic_of, bound_of, condition_of, field_of, method_of, item_of}
 use Rattle.rs_syntax.specs.Make.{trees, value_made}
+use Rattle.rs_syntax.specs.MakeFunctions.{shape_parts}
 use Rattle.rs_syntax.specs.MakeItems.{item_with}
 use Rattle.rs_syntax.specs.MakeOperators.{as_expr, suffix_by}
 use Rattle.rs_syntax.specs.MakeStatements.{statements_in, no_statements, arms_in, no_arms}
@@ -125,9 +127,9 @@ family_in part = family_of part.value
 
 -- ---- what is asked
 
--- tokens stand before all that: as many as there are
-abbrev pub behind_tokens : List ℕ → Asks → Asks
-behind_tokens tokens asks = record asks { first = map (λ family. family ∷ []) tokens }
+-- and that the first parts are of these, one behind the other
+abbrev pub beginning_with : List ℕ → Asks → Asks
+beginning_with families asks = record asks { first = map (λ family. family ∷ []) families }
 
 abbrev pub one_token : List ℕ
 one_token = a_token ∷ []
@@ -138,7 +140,7 @@ two_tokens = a_token ∷ a_token ∷ []
 abbrev pub three_tokens : List ℕ
 three_tokens = a_token ∷ a_token ∷ a_token ∷ []
 
--- what stands in a block or around the arms of a `match` as an attribute
+-- attributes may stand among these
 abbrev pub of_attributes : List ℕ → List ℕ
 of_attributes families = a_token ∷ passed_over ∷ an_attribute ∷ families
 
@@ -150,7 +152,7 @@ condition_or_expression = an_expression ∷ a_let_condition ∷ []
 abbrev pub asks_conditional : Asks
 asks_conditional = record (asking [] (a_token ∷ an_expression ∷ a_let_condition ∷ [])) { parts = condition_or_expression ∷ (an_expression ∷ []) ∷ [] }
 
--- operands of which the last one is the value
+-- and that the last part is an expression
 abbrev pub ending_with_value : Asks → Asks
 ending_with_value asks = record asks { last = an_expression ∷ [] }
 
@@ -158,34 +160,34 @@ ending_with_value asks = record asks { last = an_expression ∷ [] }
 abbrev pub item_asks : CodeAction → Asks
 item_asks codes.Passed = asking [] (a_token ∷ passed_over ∷ [])
 item_asks codes.Item = record (asking [] (of_attributes (a_term ∷ an_expression ∷ a_function ∷ an_item_node ∷ []))) { parts = (a_function ∷ an_item_node ∷ []) ∷ [] }
-item_asks codes.Clause = behind_tokens two_tokens (asking (a_term ∷ []) (a_token ∷ a_term ∷ []))
-item_asks codes.Derive = behind_tokens two_tokens (asking [] (a_token ∷ []))
+item_asks codes.Clause = beginning_with two_tokens (asking (a_term ∷ []) (a_token ∷ a_term ∷ []))
+item_asks codes.Derive = beginning_with two_tokens (asking [] (a_token ∷ []))
 item_asks codes.Use = asking [] (a_token ∷ passed_over ∷ [])
 item_asks codes.ExternCrate = asking [] (a_token ∷ [])
-item_asks codes.Function = behind_tokens two_tokens (asking [] (a_token ∷ a_type ∷ generics ∷ conditions ∷ a_parameter ∷ []))
+item_asks codes.Function = beginning_with two_tokens (asking [] (a_token ∷ a_type ∷ generics ∷ conditions ∷ a_parameter ∷ []))
 item_asks codes.Generics = asking [] (a_token ∷ a_generic ∷ [])
-item_asks codes.LifetimeParam = behind_tokens one_token (asking [] (a_token ∷ []))
-item_asks codes.TypeParam = behind_tokens one_token (asking [] (a_token ∷ a_bound ∷ []))
+item_asks codes.LifetimeParam = beginning_with one_token (asking [] (a_token ∷ []))
+item_asks codes.TypeParam = beginning_with one_token (asking [] (a_token ∷ a_bound ∷ []))
 item_asks codes.Where = asking [] (a_token ∷ a_condition ∷ [])
-item_asks codes.TypeCondition = behind_tokens two_tokens (asking [] (a_token ∷ a_bound ∷ []))
-item_asks codes.LifetimeCondition = behind_tokens three_tokens (asking [] (a_token ∷ []))
-item_asks codes.TraitBound = behind_tokens one_token (asking [] (a_token ∷ []))
-item_asks codes.CallBound = behind_tokens two_tokens (asking [] (a_token ∷ a_type ∷ []))
-item_asks codes.NamedParam = behind_tokens two_tokens (asking (a_type ∷ []) (a_token ∷ a_type ∷ []))
-item_asks codes.MutNamedParam = behind_tokens two_tokens (asking (a_type ∷ []) (a_token ∷ a_type ∷ []))
-item_asks codes.MutReceiver = behind_tokens one_token (asking [] (a_token ∷ []))
-item_asks codes.ReceiverParam = behind_tokens one_token (asking [] (a_token ∷ []))
-item_asks codes.BorrowedParam = behind_tokens one_token (asking (a_token ∷ a_token ∷ []) (a_token ∷ []))
-item_asks codes.Struct = behind_tokens two_tokens (asking [] (a_token ∷ generics ∷ a_field ∷ []))
-item_asks codes.Field = behind_tokens two_tokens (asking (a_type ∷ []) (a_token ∷ a_type ∷ []))
+item_asks codes.TypeCondition = beginning_with two_tokens (asking [] (a_token ∷ a_bound ∷ []))
+item_asks codes.LifetimeCondition = beginning_with three_tokens (asking [] (a_token ∷ []))
+item_asks codes.TraitBound = beginning_with one_token (asking [] (a_token ∷ []))
+item_asks codes.CallBound = beginning_with two_tokens (asking [] (a_token ∷ a_type ∷ []))
+item_asks codes.NamedParam = beginning_with two_tokens (asking (a_type ∷ []) (a_token ∷ a_type ∷ []))
+item_asks codes.MutNamedParam = beginning_with two_tokens (asking (a_type ∷ []) (a_token ∷ a_type ∷ []))
+item_asks codes.MutReceiver = beginning_with one_token (asking [] (a_token ∷ []))
+item_asks codes.ReceiverParam = beginning_with one_token (asking [] (a_token ∷ []))
+item_asks codes.BorrowedParam = beginning_with one_token (asking (a_token ∷ a_token ∷ []) (a_token ∷ []))
+item_asks codes.Struct = beginning_with two_tokens (asking [] (a_token ∷ generics ∷ a_field ∷ []))
+item_asks codes.Field = beginning_with two_tokens (asking (a_type ∷ []) (a_token ∷ a_type ∷ []))
 item_asks codes.TupleField = asking (a_type ∷ []) (a_token ∷ a_type ∷ [])
-item_asks codes.Enum = behind_tokens two_tokens (asking [] (a_token ∷ generics ∷ a_variant ∷ []))
-item_asks codes.Variant = behind_tokens one_token (asking [] (a_token ∷ a_type ∷ a_field ∷ []))
-item_asks codes.Trait = behind_tokens two_tokens (asking [] (a_token ∷ a_method ∷ []))
+item_asks codes.Enum = beginning_with two_tokens (asking [] (a_token ∷ generics ∷ a_variant ∷ []))
+item_asks codes.Variant = beginning_with one_token (asking [] (a_token ∷ a_type ∷ a_field ∷ []))
+item_asks codes.Trait = beginning_with two_tokens (asking [] (a_token ∷ a_method ∷ []))
 item_asks codes.Method = asking (a_function ∷ []) (of_attributes (a_term ∷ an_expression ∷ a_function ∷ []))
 item_asks codes.Impl = record (asking [] (a_token ∷ a_type ∷ generics ∷ conditions ∷ a_method ∷ an_impl_item ∷ an_impl_head ∷ [])) { parts = (a_type ∷ an_impl_head ∷ []) ∷ [] }
-item_asks codes.ImplHead = behind_tokens one_token (asking [] (a_token ∷ a_type ∷ []))
-item_asks codes.ViewType = behind_tokens three_tokens (asking (a_type ∷ []) (a_token ∷ a_type ∷ []))
+item_asks codes.ImplHead = beginning_with one_token (asking [] (a_token ∷ a_type ∷ []))
+item_asks codes.ViewType = beginning_with three_tokens (asking (a_type ∷ []) (a_token ∷ a_type ∷ []))
 item_asks action = asking [] []
 
 -- of statements and expressions, and those
@@ -194,27 +196,27 @@ code_asks codes.Block = asking [] (of_attributes (an_expression ∷ a_statement 
 code_asks codes.Blocklike = asking (an_expression ∷ []) (a_token ∷ an_expression ∷ [])
 code_asks codes.Let = asking (a_pattern ∷ an_expression ∷ []) (a_token ∷ a_type ∷ a_pattern ∷ an_expression ∷ [])
 code_asks codes.If = asks_conditional
-code_asks codes.Match = behind_tokens (a_token ∷ an_expression ∷ []) (asking [] (of_attributes (a_pattern ∷ an_expression ∷ [])))
+code_asks codes.Match = beginning_with (a_token ∷ an_expression ∷ []) (asking [] (of_attributes (a_pattern ∷ an_expression ∷ [])))
 code_asks codes.While = asks_conditional
 code_asks codes.Forever = asking (an_expression ∷ []) (a_token ∷ an_expression ∷ [])
 code_asks codes.LetCondition = asking (a_pattern ∷ an_expression ∷ []) (a_token ∷ a_pattern ∷ an_expression ∷ [])
 code_asks codes.Assignment = ending_with_value (asking (an_expression ∷ []) (a_token ∷ an_expression ∷ []))
-code_asks codes.Operation = behind_tokens (an_expression ∷ []) (asking [] (a_token ∷ a_type ∷ an_expression ∷ an_operation ∷ arguments ∷ []))
-code_asks codes.Prefix = behind_tokens one_token (asking (an_expression ∷ []) (a_token ∷ an_expression ∷ []))
-code_asks codes.Member = behind_tokens two_tokens (asking [] (a_token ∷ a_type ∷ arguments ∷ []))
+code_asks codes.Operation = beginning_with (an_expression ∷ []) (asking [] (a_token ∷ a_type ∷ an_expression ∷ an_operation ∷ arguments ∷ []))
+code_asks codes.Prefix = beginning_with one_token (asking (an_expression ∷ []) (a_token ∷ an_expression ∷ []))
+code_asks codes.Member = beginning_with two_tokens (asking [] (a_token ∷ a_type ∷ arguments ∷ []))
 code_asks codes.Arguments = asking [] (a_token ∷ an_expression ∷ [])
 code_asks codes.Attributed = ending_with_value (asking (an_expression ∷ []) (of_attributes (an_expression ∷ [])))
 code_asks codes.Return = asking [] (a_token ∷ an_expression ∷ [])
-code_asks codes.IntegerExpr = behind_tokens one_token (asking [] (a_token ∷ []))
-code_asks codes.TruthExpr = behind_tokens one_token (asking [] (a_token ∷ []))
-code_asks codes.SelfExpr = behind_tokens one_token (asking [] (a_token ∷ []))
+code_asks codes.IntegerExpr = beginning_with one_token (asking [] (a_token ∷ []))
+code_asks codes.TruthExpr = beginning_with one_token (asking [] (a_token ∷ []))
+code_asks codes.SelfExpr = beginning_with one_token (asking [] (a_token ∷ []))
 code_asks codes.ParenExpr = asking [] (a_token ∷ an_expression ∷ [])
-code_asks codes.Break = behind_tokens one_token (asking [] (a_token ∷ []))
-code_asks codes.Continue = behind_tokens one_token (asking [] (a_token ∷ []))
-code_asks codes.PanicCall = behind_tokens three_tokens (asking [] (a_token ∷ []))
-code_asks codes.GhostCall = behind_tokens three_tokens (asking (a_term ∷ []) (a_token ∷ a_term ∷ []))
+code_asks codes.Break = beginning_with one_token (asking [] (a_token ∷ []))
+code_asks codes.Continue = beginning_with one_token (asking [] (a_token ∷ []))
+code_asks codes.PanicCall = beginning_with three_tokens (asking [] (a_token ∷ []))
+code_asks codes.GhostCall = beginning_with three_tokens (asking (a_term ∷ []) (a_token ∷ a_term ∷ []))
 code_asks codes.PathExpr = asking (a_path ∷ []) (a_token ∷ a_path ∷ a_field_expression ∷ [])
-code_asks codes.FieldExpr = behind_tokens one_token (asking [] (a_token ∷ an_expression ∷ []))
+code_asks codes.FieldExpr = beginning_with one_token (asking [] (a_token ∷ an_expression ∷ []))
 code_asks codes.Closure = asking (an_expression ∷ []) (a_token ∷ a_type ∷ an_expression ∷ a_parameter ∷ [])
 code_asks action = item_asks action
 
@@ -332,6 +334,10 @@ abbrev pub NodeIsThere : Type 0
 NodeIsThere = (words : List Word) (bare other : ItemParts) (parts : List Part) → Among ((a_function ∷ an_item_node ∷ []) ∷ []) (map family_in parts) →
     AreSameNodes (fold (item_with words) bare parts) (fold (item_with words) other parts)
 
+-- all parts of a line of types, patterns, paths or terms are those of shapes, of which `pearlite` has the law
+abbrev pub ShapesAreThere : Type 0
+ShapesAreThere = (action : ShapeAction) (parts : List Part) → AreThere (asks_of action) (map family_in parts) → map shapes.family_in (shape_parts parts) ≡ map family_in parts
+
 pub record WhatIsAskedIsFound : Type 0 where
   pub a_first_type : IsFound type_of a_type
   pub a_first_term : IsFound term_of a_term
@@ -350,3 +356,4 @@ pub record WhatIsAskedIsFound : Type 0 where
   pub operand : OperandIsThere
   pub matched : MatchedIsThere
   pub node : NodeIsThere
+  pub shapes_alone : ShapesAreThere

@@ -31,4 +31,5 @@ returns-clause-found c = record {
   operand = finding.operand_there;
   matched = finding.matched_there;
   node = finding.node_there;
+  shapes_alone = making.shapes_there;
 }
