@@ -5,27 +5,28 @@ use Rattle.pearlite.specs.declared.part.Value.{Value}
 use Rattle.pearlite.specs.declared.part.Value.TheVariants as V
 use Rattle.pearlite.specs.Parts.{as_type, as_pattern, as_path, as_term, this_or, first_of, behind_by, behind}
 use Rattle.pearlite.specs.Served.{Among, this, further}
+use Rattle.pearlite.proofs.Serving.{is_itself_in}
 use Rattle.pearlite.specs.Asked.{a_type, a_pattern, a_path, a_term, family_of, family_in, IsFound}
 
-among_others : {f : ℕ} {fs gs : List ℕ} → Among (f ∷ fs) gs → Among fs gs
-among_others (this a) = further a
+among_others : {place : List ℕ} {places : List (List ℕ)} {fs : List ℕ} → Among (place ∷ places) fs → Among places fs
+among_others (this i a) = further a
 among_others (further a) = further (among_others a)
 
-first_or_later : {f g : ℕ} {fs gs : List ℕ} → Among (f ∷ fs) (g ∷ gs) → (g ≡ f) ⊎ Among (f ∷ fs) gs
-first_or_later (this a) = inl refl
+pub first_or_later : {f g : ℕ} {places : List (List ℕ)} {fs : List ℕ} → Among ((f ∷ []) ∷ places) (g ∷ fs) → (g ≡ f) ⊎ Among ((f ∷ []) ∷ places) fs
+first_or_later {f} {g} (this i a) = inl (is_itself_in f g i)
 first_or_later (further a) = inr a
 
-others_later : {f g : ℕ} {fs gs : List ℕ} → Among (f ∷ fs) (g ∷ gs) → Among fs gs
-others_later (this a) = a
+others_later : {g : ℕ} {place : List ℕ} {places : List (List ℕ)} {fs : List ℕ} → Among (place ∷ places) (g ∷ fs) → Among places fs
+others_later (this i a) = a
 others_later (further a) = among_others a
 
 found : {A : Type 0} (seen : Value → Option A) (f : ℕ) → ((v : Value) → family_of v ≡ f → seen v ≡ None → ⊥) → IsFound seen f
 unfolding first_of behind
-found seen f knows fs [] h = elim h [ ]
-found {A} seen f knows fs (p ∷ ps) h = by (seen p.value) refl (found seen f knows fs ps)
+found seen f knows places [] h = elim h [ ]
+found {A} seen f knows places (p ∷ ps) h = by (seen p.value) refl (found seen f knows places ps)
   where
-    by : (o : Option A) → seen p.value ≡ o → (Among (f ∷ fs) (map family_in ps) → IsSome (first_of seen ps) × Among fs (map family_in (behind seen ps)))
-        → IsSome (this_or o (first_of seen ps)) × Among fs (map family_in (behind_by o ps (behind seen ps)))
+    by : (o : Option A) → seen p.value ≡ o → (Among ((f ∷ []) ∷ places) (map family_in ps) → IsSome (first_of seen ps) × Among places (map family_in (behind seen ps)))
+        → IsSome (this_or o (first_of seen ps)) × Among places (map family_in (behind_by o ps (behind seen ps)))
     by (Some x) e others = (refl, others_later h)
     by None e others = elim (first_or_later h) [ inl s ↦ absurd (knows p.value s e) | inr a ↦ others a ]
 

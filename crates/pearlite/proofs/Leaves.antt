@@ -1,9 +1,9 @@
 -- What each nonterminal of the grammar leaves among the parts of the line around it, where nothing is made of it. Made by `python3 tools/leaves.py` of tools/source.ebnf.
-use Rattle.std.specs.Prelude.{ℕ, Bool, true, false, List, [], ◌∷◌}
+use Rattle.std.specs.Prelude.{ℕ, Bool, true, false, List, [], ◌∷◌, map}
 use Rattle.pearlite.proofs.Serving.{Leaves, no_parts}
 
 abbrev left : List ℕ → List ℕ → List ℕ → List ℕ → Bool → Leaves
-left surely only single ending empty = record { surely = surely; only = only; single = single; ending = ending; empty = empty }
+left surely only single ending empty = record { surely = map (λ family. family ∷ []) surely; begins = []; exact = false; only = only; single = single; ending = ending; empty = empty }
 
 unfoldable pub leaves : List Leaves
 leaves =

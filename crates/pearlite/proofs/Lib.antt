@@ -1,6 +1,7 @@
-mod Asked
-mod Finding
+pub mod Asked
+pub mod Finding
 mod Leaves
 mod PartLists
 pub mod Serving
+pub mod SourceLines
 mod Terms

@@ -1,6 +1,6 @@
 -- A grammar whose lines pass a test have what they ask of their parts.
 use Rattle.std.proofs.Common.{◌≡◌, ℕ, ◌+◌, ◌<◌, suc, Bool, true, false, not, ◌&&◌, ◌||◌, if◌then◌else◌, List, [], ◌∷◌, ◌++◌, length, map, get_or, nat_lt, nat_eq, Option, None, Some, refl, sym, ap, subst, ◌∙◌, ◌⊎◌, inl, inr, true≢false, append_assoc, append-nil, arith}
-use Rattle.std.proofs.lemmas.List.{length-map}
+use Rattle.std.proofs.lemmas.List.{length-append, length-map}
 use Rattle.grammar_tables.specs.declared.symbol.Symbol.{Symbol}
 use Rattle.grammar_tables.specs.declared.symbol.Symbol.TheVariants.{Terminal, Nonterminal}
 use Rattle.grammar_tables.specs.First.{is_in, first_some, all_of}
@@ -10,51 +10,25 @@ use Rattle.grammar_tables.specs.Trees.{Tree, Trees, leaf, node, none, both, IsTr
 use Rattle.grammar_tables.specs.Trees.IsTree.{terminal, nonterminal}
 use Rattle.grammar_tables.specs.Trees.AreTrees.{all_none, all_both}
 use Rattle.grammar_tables.proofs.LL1Test.{and_left, and_right, or_cases, nat_eq_same, in_left, in_right}
-use Rattle.pearlite.specs.Served.{Among, nothing, this, further, AreAll, last_of, Asks, AreThere, IsServed, AllServed}
+use Rattle.pearlite.specs.Served.{Among, nothing, this, further, StartWith, AreAll, last_of, Asks, AreThere, IsServed, AllServed}
 
 -- ---- lists of families
 
-behind : (fs : List ℕ) {xs gs : List ℕ} → Among xs gs → Among xs (fs ++ gs)
-behind [] a = a
-behind (f ∷ fs) a = further (behind fs a)
+-- one that stands there alone is it
+pub is_itself_in : (f g : ℕ) → is_in (Some g) (f ∷ []) ≡ true → g ≡ f
+is_itself_in f g e = elim (or_cases (nat_eq g f) false e) [ inl s ↦ nat_eq_same g f s | inr s ↦ absurd (true≢false (sym s)) ]
 
-among_append : {xs ys fs gs : List ℕ} → Among xs fs → Among ys gs → Among (xs ++ ys) (fs ++ gs)
-among_append {fs} nothing b = behind fs b
-among_append (this a) b = this (among_append a b)
-among_append (further a) b = further (among_append a b)
-
-among_all : {xs ys zs : List ℕ} → Among xs ys → Among ys zs → Among xs zs
-among_all nothing b = nothing
-among_all (this a) (this b) = this (among_all a b)
-among_all (this a) (further b) = further (among_all (this a) b)
-among_all (further a) (this b) = further (among_all a b)
-among_all (further a) (further b) = further (among_all (further a) b)
-
-abbrev pub is_among : List ℕ → List ℕ → Bool
-is_among [] ys = true
-is_among (x ∷ xs) [] = false
-is_among (x ∷ xs) (y ∷ ys) = if nat_eq x y then is_among xs ys else is_among (x ∷ xs) ys
-
-are_among : (xs ys : List ℕ) → is_among xs ys ≡ true → Among xs ys
-are_among [] ys e = nothing
-are_among (x ∷ xs) [] e = absurd (true≢false (sym e))
-are_among (x ∷ xs) (y ∷ ys) e = by (nat_eq x y) refl e (are_among xs ys) (are_among (x ∷ xs) ys)
-  where
-    by : (b : Bool) → nat_eq x y ≡ b → (if b then is_among xs ys else is_among (x ∷ xs) ys) ≡ true → (is_among xs ys ≡ true → Among xs ys) → (is_among (x ∷ xs) ys ≡ true → Among (x ∷ xs) ys) → Among (x ∷ xs) (y ∷ ys)
-    by true s e first later = subst (λ (z : ℕ). Among (x ∷ xs) (z ∷ ys)) (nat_eq_same x y s) (this (first e))
-    by false s e first later = further (later e)
-
-abbrev is_within : List ℕ → List ℕ → Bool
+abbrev pub is_within : List ℕ → List ℕ → Bool
 is_within fs gs = all_of (λ f. is_in (Some f) gs) fs
 
-within : (fs gs : List ℕ) (f : ℕ) → is_within fs gs ≡ true → is_in (Some f) fs ≡ true → is_in (Some f) gs ≡ true
+pub within : (fs gs : List ℕ) (f : ℕ) → is_within fs gs ≡ true → is_in (Some f) fs ≡ true → is_in (Some f) gs ≡ true
 within [] gs f e i = absurd (true≢false (sym i))
 within (x ∷ fs) gs f e i = elim (or_cases (nat_eq f x) (is_in (Some f) fs) i) [
   | inl s ↦ subst (λ (y : ℕ). is_in (Some y) gs ≡ true) (sym (nat_eq_same f x s)) (and_left (is_in (Some x) gs) (is_within fs gs) e)
   | inr j ↦ within fs gs f (and_right (is_in (Some x) gs) (is_within fs gs) e) j
 ]
 
-all_within : (these others fs : List ℕ) → is_within these others ≡ true → AreAll these fs → AreAll others fs
+pub all_within : (these others fs : List ℕ) → is_within these others ≡ true → AreAll these fs → AreAll others fs
 all_within these others [] e a = tt
 all_within these others (f ∷ fs) e a = (within these others f e a.0, all_within these others fs e a.1)
 
@@ -75,11 +49,66 @@ last_append (f ∷ fs) gs = rw (last_append fs gs) (by (last_of gs))
     by None = refl
     by (Some x) = refl
 
+-- ---- parts in order
+
+behind : (fs : List ℕ) {places : List (List ℕ)} {gs : List ℕ} → Among places gs → Among places (fs ++ gs)
+behind [] a = a
+behind (f ∷ fs) a = further (behind fs a)
+
+among_append : {xs ys : List (List ℕ)} {fs gs : List ℕ} → Among xs fs → Among ys gs → Among (xs ++ ys) (fs ++ gs)
+among_append {fs} nothing b = behind fs b
+among_append (this i a) b = this i (among_append a b)
+among_append (further a) b = further (among_append a b)
+
+-- what stands at the second places stands at the first ones, each of which is one of those
+abbrev pub is_among : List (List ℕ) → List (List ℕ) → Bool
+is_among [] ys = true
+is_among (x ∷ xs) [] = false
+is_among (x ∷ xs) (y ∷ ys) = if is_within y x then is_among xs ys else is_among (x ∷ xs) ys
+
+among_all : (xs ys : List (List ℕ)) {fs : List ℕ} → is_among xs ys ≡ true → Among ys fs → Among xs fs
+among_all [] ys e a = nothing
+among_all (x ∷ xs) [] e a = absurd (true≢false (sym e))
+among_all (x ∷ xs) (y ∷ ys) e (further a) = further (among_all (x ∷ xs) (y ∷ ys) e a)
+among_all (x ∷ xs) (y ∷ ys) e (this {f} {fs} i a) = by (is_within y x) refl e (among_all xs ys) (among_all (x ∷ xs) ys)
+  where
+    by : (b : Bool) → is_within y x ≡ b → (if b then is_among xs ys else is_among (x ∷ xs) ys) ≡ true → (is_among xs ys ≡ true → Among ys fs → Among xs fs) → (is_among (x ∷ xs) ys ≡ true → Among ys fs → Among (x ∷ xs) fs) → Among (x ∷ xs) (f ∷ fs)
+    by true w e first later = this (within y x f w i) (first e a)
+    by false w e first later = further (later e a)
+
+start_append : (places : List (List ℕ)) (fs gs : List ℕ) → StartWith places fs → StartWith places (fs ++ gs)
+start_append [] fs gs s = tt
+start_append (x ∷ xs) [] gs s = absurd s
+start_append (x ∷ xs) (f ∷ fs) gs s = (s.0, start_append xs fs gs s.1)
+
+-- where there are no others
+start_behind : (places others : List (List ℕ)) (fs gs : List ℕ) → StartWith places fs → length fs ≡ length places → StartWith others gs → StartWith (places ++ others) (fs ++ gs)
+start_behind [] others [] gs s e t = t
+start_behind [] others (f ∷ fs) gs s e t = absurd (omega arith)
+start_behind (x ∷ xs) others [] gs s e t = absurd s
+start_behind (x ∷ xs) others (f ∷ fs) gs s e t = (s.0, start_behind xs others fs gs s.1 (omega arith) t)
+
+-- the second places begin with the first ones, each of which is one of those
+abbrev pub is_start : List (List ℕ) → List (List ℕ) → Bool
+is_start [] ys = true
+is_start (x ∷ xs) [] = false
+is_start (x ∷ xs) (y ∷ ys) = is_within y x && is_start xs ys
+
+start_all : (xs ys : List (List ℕ)) (fs : List ℕ) → is_start xs ys ≡ true → StartWith ys fs → StartWith xs fs
+start_all [] ys fs e s = tt
+start_all (x ∷ xs) [] fs e s = absurd (true≢false (sym e))
+start_all (x ∷ xs) (y ∷ ys) [] e s = absurd s
+start_all (x ∷ xs) (y ∷ ys) (f ∷ fs) e s = (within y x f (and_left (is_within y x) (is_start xs ys) e) s.0, start_all xs ys fs (and_right (is_within y x) (is_start xs ys) e) s.1)
+
 -- ---- what a line leaves among the parts of the line around it
 
 pub record Leaves : Type 0 where
   -- parts of these families, in this order
-  pub surely : List ℕ
+  pub surely : List (List ℕ)
+  -- the first ones
+  pub begins : List (List ℕ)
+  -- whether there are no others than those
+  pub exact : Bool
   -- no part of another family than these
   pub only : List ℕ
   -- where it is one part, one of these
@@ -89,22 +118,26 @@ pub record Leaves : Type 0 where
   -- whether there may be no part
   pub empty : Bool
 
-record IsLeft (l : Leaves) (fs : List ℕ) : Type 0 where
-  surely : Among l.surely fs
-  only : AreAll l.only fs
-  single : (f : ℕ) → fs ≡ f ∷ [] → is_in (Some f) l.single ≡ true
-  ending : (f : ℕ) → last_of fs ≡ Some f → is_in (Some f) l.ending ≡ true
-  empty : fs ≡ [] → l.empty ≡ true
+pub record IsLeft (l : Leaves) (fs : List ℕ) : Type 0 where
+  pub surely : Among l.surely fs
+  pub begins : StartWith l.begins fs
+  pub exact : l.exact ≡ true → length fs ≡ length l.begins
+  pub only : AreAll l.only fs
+  pub single : (f : ℕ) → fs ≡ f ∷ [] → is_in (Some f) l.single ≡ true
+  pub ending : (f : ℕ) → last_of fs ≡ Some f → is_in (Some f) l.ending ≡ true
+  pub empty : fs ≡ [] → l.empty ≡ true
 
 abbrev pub no_parts : Leaves
-no_parts = record { surely = []; only = []; single = []; ending = []; empty = true }
+no_parts = record { surely = []; begins = []; exact = true; only = []; single = []; ending = []; empty = true }
 
 abbrev pub one_part : ℕ → Leaves
-one_part f = record { surely = f ∷ []; only = f ∷ []; single = f ∷ []; ending = f ∷ []; empty = false }
+one_part f = record { surely = (f ∷ []) ∷ []; begins = (f ∷ []) ∷ []; exact = true; only = f ∷ []; single = f ∷ []; ending = f ∷ []; empty = false }
 
 abbrev pub joined : Leaves → Leaves → Leaves
 joined a b = record {
   surely = a.surely ++ b.surely;
+  begins = a.begins ++ (if a.exact then b.begins else []);
+  exact = a.exact && b.exact;
   only = a.only ++ b.only;
   single = (if b.empty then a.single else []) ++ (if a.empty then b.single else []);
   ending = b.ending ++ (if b.empty then a.ending else []);
@@ -124,11 +157,13 @@ some_same : {x y : ℕ} → Some x ≡ Some y → x ≡ y
 some_same e = cc
 
 none_left : IsLeft no_parts []
-none_left = record { surely = nothing; only = tt; single = λ f e. absurd (cc); ending = λ f e. absurd (cc); empty = λ e. refl }
+none_left = record { surely = nothing; begins = tt; exact = λ e. refl; only = tt; single = λ f e. absurd (cc); ending = λ f e. absurd (cc); empty = λ e. refl }
 
 one_left : (f : ℕ) → IsLeft (one_part f) (f ∷ [])
 one_left f = record {
-  surely = this nothing;
+  surely = this (is_itself f) nothing;
+  begins = (is_itself f, tt);
+  exact = λ e. refl;
   only = (is_itself f, tt);
   single = λ g e. subst (λ (h : ℕ). is_in (Some h) (f ∷ []) ≡ true) (first_same e) (is_itself f);
   ending = λ g e. subst (λ (h : ℕ). is_in (Some h) (f ∷ []) ≡ true) (some_same e) (is_itself f);
@@ -142,12 +177,22 @@ if_true false xs e = absurd (true≢false (sym e))
 joined_left : (a b : Leaves) (fs gs : List ℕ) → IsLeft a fs → IsLeft b gs → IsLeft (joined a b) (fs ++ gs)
 joined_left a b fs gs l m = record {
   surely = among_append l.surely m.surely;
+  begins = begins a.exact l.exact;
+  exact = λ e. length-append fs gs ∙ both (l.exact (and_left a.exact b.exact e)) (m.exact (and_right a.exact b.exact e)) a.exact (and_left a.exact b.exact e);
   only = all_append a.only b.only fs gs l.only m.only;
   single = single fs gs l m;
   ending = ending gs m;
   empty = empty fs l;
 }
   where
+    begins : (x : Bool) → (x ≡ true → length fs ≡ length a.begins) → StartWith (a.begins ++ (if x then b.begins else [])) (fs ++ gs)
+    begins true h = start_behind a.begins b.begins fs gs l.begins (h refl) m.begins
+    begins false h = rw (append-nil a.begins) (start_append a.begins fs gs l.begins)
+
+    both : length fs ≡ length a.begins → length gs ≡ length b.begins → (x : Bool) → x ≡ true → length fs + length gs ≡ length (a.begins ++ (if x then b.begins else []))
+    both h k true e = rw (h, k) (sym (length-append a.begins b.begins))
+    both h k false e = absurd (true≢false (sym e))
+
     single : (fs gs : List ℕ) → IsLeft a fs → IsLeft b gs → (f : ℕ) → fs ++ gs ≡ f ∷ [] → is_in (Some f) ((if b.empty then a.single else []) ++ (if a.empty then b.single else [])) ≡ true
     single [] gs l m f e = in_right (Some f) (if b.empty then a.single else []) (if a.empty then b.single else []) (subst (λ (xs : List ℕ). is_in (Some f) xs ≡ true) (if_true a.empty b.single (l.empty refl)) (m.single f e))
     single (x ∷ []) [] l m f e = in_left (Some f) (if b.empty then a.single else []) (if a.empty then b.single else []) (subst (λ (xs : List ℕ). is_in (Some f) xs ≡ true) (if_true b.empty a.single (m.empty refl)) (l.single f e))
@@ -170,6 +215,10 @@ joined_left a b fs gs l m = record {
     empty [] l e = rw (l.empty refl, m.empty e) refl
     empty (x ∷ xs) l e = absurd (cc)
 
+-- what surely stands there
+pub is_among_left : {l : Leaves} {fs : List ℕ} (places : List (List ℕ)) → is_among places l.surely ≡ true → IsLeft l fs → Among places fs
+is_among_left {l} places e left = among_all places l.surely e left.surely
+
 -- ---- lines
 
 pub data Kind : Type 0 where
@@ -185,31 +234,62 @@ is_kept_by kept count = true
 is_kept_by (made f) count = false
 is_kept_by (several f) count = nat_lt count 2
 
+abbrev pub made_by : ℕ → Bool → Kind
+made_by f true = several f
+made_by f false = made f
+
+pub is_kept_few : (f : ℕ) (many : Bool) (count : ℕ) → (many && nat_lt count 2) ≡ is_kept_by (made_by f many) count
+is_kept_few f true count = refl
+is_kept_few f false count = refl
+
+pub same_made : (many : Bool) (f g : ℕ) → (made_by g many ≡ made f) ⊎ (made_by g many ≡ several f) → g ≡ f
+same_made true f g (inl h) = absurd (cc)
+same_made true f g (inr h) = cc
+same_made false f g (inl h) = cc
+same_made false f g (inr h) = absurd (cc)
+
+pub never_made : (k : Kind) (f : ℕ) → k ≡ kept → (k ≡ made f) ⊎ (k ≡ several f) → ⊥
+never_made k f e (inl h) = cc
+never_made k f e (inr h) = cc
+
 abbrev pub leaves_by : Kind → Leaves → Leaves
 leaves_by kept l = l
 leaves_by (made f) l = one_part f
 leaves_by (several f) l = one_part f
 
+-- the first begins as the second
+abbrev is_begun : Leaves → Leaves → Bool
+is_begun a b = is_start b.begins a.begins && (not b.exact || (a.exact && nat_eq (length a.begins) (length b.begins)))
+
 -- the first is one of the second
 abbrev is_one : Leaves → Leaves → Bool
-is_one a b = is_among b.surely a.surely && (is_within a.only b.only && (is_within a.single b.single && (is_within a.ending b.ending && (not a.empty || b.empty))))
+is_one a b = is_among b.surely a.surely && (is_within a.only b.only && (is_within a.single b.single && (is_within a.ending b.ending && ((not a.empty || b.empty) && is_begun a b))))
 
 one_of : (a b : Leaves) (fs : List ℕ) → is_one a b ≡ true → IsLeft a fs → IsLeft b fs
 one_of a b fs e l =
     let e1 = and_right (is_among b.surely a.surely) _ e in
     let e2 = and_right (is_within a.only b.only) _ e1 in
     let e3 = and_right (is_within a.single b.single) _ e2 in
+    let e4 = and_right (is_within a.ending b.ending) _ e3 in
+    let e5 = and_right (not a.empty || b.empty) _ e4 in
     record {
-      surely = among_all (are_among b.surely a.surely (and_left (is_among b.surely a.surely) _ e)) l.surely;
+      surely = among_all b.surely a.surely (and_left (is_among b.surely a.surely) _ e) l.surely;
+      begins = start_all b.begins a.begins fs (and_left (is_start b.begins a.begins) _ e5) l.begins;
+      exact = λ i. no_others (and_right (is_start b.begins a.begins) _ e5) i l.exact;
       only = all_within a.only b.only fs (and_left (is_within a.only b.only) _ e1) l.only;
       single = λ f i. within a.single b.single f (and_left (is_within a.single b.single) _ e2) (l.single f i);
       ending = λ f i. within a.ending b.ending f (and_left (is_within a.ending b.ending) _ e3) (l.ending f i);
-      empty = λ i. may a.empty b.empty (l.empty i) (and_right (is_within a.ending b.ending) _ e3);
+      empty = λ i. may a.empty b.empty (l.empty i) (and_left (not a.empty || b.empty) _ e4);
     }
   where
     may : (x y : Bool) → x ≡ true → (not x || y) ≡ true → y ≡ true
     may true y e f = f
     may false y e f = absurd (true≢false (sym e))
+
+    no_others : (not b.exact || (a.exact && nat_eq (length a.begins) (length b.begins))) ≡ true → b.exact ≡ true → (a.exact ≡ true → length fs ≡ length a.begins) → length fs ≡ length b.begins
+    no_others e i h =
+        let k = may b.exact (a.exact && nat_eq (length a.begins) (length b.begins)) i e in
+        h (and_left a.exact _ k) ∙ nat_eq_same (length a.begins) (length b.begins) (and_right a.exact _ k)
 
 module _ (asks : ℕ → Asks) (kind : ℕ → Kind) (table : List Leaves) where
   abbrev pub leaves_at : ℕ → Leaves
@@ -230,7 +310,7 @@ module _ (asks : ℕ → Asks) (kind : ℕ → Kind) (table : List Leaves) where
   is_alone these body = false
 
   abbrev pub has_all : Asks → Leaves → List Symbol → Bool
-  has_all q l body = is_among q.parts l.surely && (is_within l.only q.families && (is_within l.ending q.last && (is_within l.only q.alone || is_alone q.alone body)))
+  has_all q l body = is_among q.parts l.surely && (is_start q.first l.begins && (is_within l.only q.families && (is_within l.ending q.last && (is_within l.only q.alone || is_alone q.alone body))))
 
   abbrev pub is_fit_by : Kind → ℕ → Leaves → List Symbol → Bool
   is_fit_by kept n l body = is_one l (get_or table n no_parts)
@@ -354,10 +434,12 @@ module _ {V : Type 0} (G : Grammar) (m : SemanticActions V) (family : V → ℕ)
     there : {body : List Symbol} {ts : Trees} (at : ℕ) (q : Asks) → AreTrees G body ts → AllLeft body at ts → has_all asks kind table q (left_of_body body) body ≡ true → AreThere q (families at ts)
     there {body} {ts} at q a l e =
         let b = body_left at a l in
-        let e1 = and_right (is_among q.parts (left_of_body body).surely) _ e in
+        let e0 = and_right (is_among q.parts (left_of_body body).surely) _ e in
+        let e1 = and_right (is_start q.first (left_of_body body).begins) _ e0 in
         let e2 = and_right (is_within (left_of_body body).only q.families) _ e1 in
         record {
-          parts = among_all (are_among q.parts (left_of_body body).surely (and_left (is_among q.parts (left_of_body body).surely) _ e)) b.surely;
+          parts = among_all q.parts (left_of_body body).surely (and_left (is_among q.parts (left_of_body body).surely) _ e) b.surely;
+          first = start_all q.first (left_of_body body).begins (families at ts) (and_left (is_start q.first (left_of_body body).begins) _ e0) b.begins;
           families = all_within (left_of_body body).only q.families (families at ts) (and_left (is_within (left_of_body body).only q.families) _ e1) b.only;
           last = λ f i. within (left_of_body body).ending q.last f (and_left (is_within (left_of_body body).ending q.last) _ e2) (b.ending f i);
           alone = alone_there at q.alone a l b (and_right (is_within (left_of_body body).ending q.last) _ e2);
@@ -434,5 +516,5 @@ module _ {V : Type 0} (G : Grammar) (m : SemanticActions V) (family : V → ℕ)
             let ls = all_served (at + size t) b h.1 in
             ((l.0, ls.0), (l.1, ls.1))
 
-      pub tree_served : (s : Symbol) (t : Tree) (at : ℕ) → IsTree G s t → HasAll G t → IsServed m family asks at t × ((f : ℕ) → is_among (f ∷ []) (left_of s).surely ≡ true → Among (f ∷ []) (map family (values m at t)))
-      tree_served s t at a h = (let l = served at a h in (l.1, λ f e. among_all (are_among (f ∷ []) (left_of s).surely e) l.0.surely))
+      pub tree_served : (s : Symbol) (t : Tree) (at : ℕ) → IsTree G s t → HasAll G t → IsServed m family asks at t × IsLeft (left_of s) (map family (values m at t))
+      tree_served s t at a h = (let l = served at a h in (l.1, l.0))

@@ -73,7 +73,7 @@ family_in part = family_of part.value
 
 -- these parts in this order, and none but of these families
 abbrev pub asking : List ℕ → List ℕ → Asks
-asking parts families = record { parts = parts; families = families; last = families; alone = families }
+asking parts families = record { parts = map (λ family. family ∷ []) parts; first = []; families = families; last = families; alone = families }
 
 -- `"(" list(X) ")"`, where what stands alone is one X
 abbrev pub in_parens : ℕ → Asks
@@ -115,7 +115,33 @@ asks_of shapes.TermArm = asking (a_pattern ∷ a_term ∷ []) (a_token ∷ a_pat
 asks_of shapes.MutRefTerm = asking (a_term ∷ a_term ∷ []) (a_token ∷ a_term ∷ [])
 asks_of shapes.PredicateTerm = asking [] (a_token ∷ a_term ∷ [])
 
--- lines that make nothing ask nothing
+-- ---- what is made
+
+-- of which family an action makes a value
+abbrev pub family_made : ShapeAction → ℕ
+family_made shapes.NamedType = a_type
+family_made shapes.ReferenceType = a_type
+family_made shapes.TupleType = a_type
+family_made shapes.SelfType = a_type
+family_made shapes.Wildcard = a_pattern
+family_made shapes.MutPattern = a_pattern
+family_made shapes.IntegerPattern = a_pattern
+family_made shapes.TruthPattern = a_pattern
+family_made shapes.TuplePattern = a_pattern
+family_made shapes.PathPattern = a_pattern
+family_made shapes.FieldPattern = a_pattern_field
+family_made shapes.NamedPath = a_path
+family_made shapes.QualifiedPath = a_path
+family_made shapes.View = a_suffix
+family_made shapes.TermMember = a_suffix
+family_made shapes.Binder = a_binder
+family_made shapes.FieldTerm = a_term_field
+family_made shapes.TermArm = an_arm
+family_made action = a_term
+
+-- ---- lines
+
+-- those that make nothing ask nothing
 abbrev pub asks_by : Action → Asks
 asks_by (Shape action) = asks_of action
 asks_by Keep = asking [] []
@@ -138,11 +164,11 @@ EachPartIsThere = (words : List Word) (tree : Tree) → IsTermTree tree → IsSe
 
 -- where a part of the family is asked, it is found, and what is asked behind it stands behind it
 abbrev pub IsFound : {A : Type 0} → (Value → Option A) → ℕ → Type 0
-IsFound seen family = (fs : List ℕ) (parts : List Part) → Among (family ∷ fs) (map family_in parts) → IsSome (first_of seen parts) × Among fs (map family_in (behind seen parts))
+IsFound seen family = (places : List (List ℕ)) (parts : List Part) → Among ((family ∷ []) ∷ places) (map family_in parts) → IsSome (first_of seen parts) × Among places (map family_in (behind seen parts))
 
 abbrev pub WhatIsAskedIsFound : Type 0
 WhatIsAskedIsFound = IsFound as_type a_type × IsFound as_pattern a_pattern × IsFound as_path a_path × IsFound as_term a_term
 
 -- and it is made into a term
 abbrev pub ATermIsThere : Type 0
-ATermIsThere = (words : List Word) (tree : Tree) → IsTermTree tree → Among (a_term ∷ []) (map family_in (values (shape_actions words) 0 tree))
+ATermIsThere = (words : List Word) (tree : Tree) → IsTermTree tree → Among ((a_term ∷ []) ∷ []) (map family_in (values (shape_actions words) 0 tree))

@@ -3,11 +3,17 @@ use Rattle.std.specs.Prelude.{◌≡◌, ℕ, ◌+◌, true, false, List, [], �
 use Rattle.grammar_tables.specs.First.{is_in, first_some}
 use Rattle.grammar_tables.specs.Trees.{Tree, Trees, leaf, node, none, both, SemanticActions, all_values, size}
 
--- the first families stand among the others, in their order
-pub data Among : List ℕ → List ℕ → Type 0 where
+-- Parts of these families stand among the others, in this order. Each place lists the families of which one may stand there.
+pub data Among : List (List ℕ) → List ℕ → Type 0 where
   nothing : {fs : List ℕ} → Among [] fs
-  this : {f : ℕ} {fs gs : List ℕ} → Among fs gs → Among (f ∷ fs) (f ∷ gs)
-  further : {g : ℕ} {fs gs : List ℕ} → Among fs gs → Among fs (g ∷ gs)
+  this : {f : ℕ} {place : List ℕ} {places : List (List ℕ)} {fs : List ℕ} → is_in (Some f) place ≡ true → Among places fs → Among (place ∷ places) (f ∷ fs)
+  further : {g : ℕ} {places : List (List ℕ)} {fs : List ℕ} → Among places fs → Among places (g ∷ fs)
+
+-- and as the first ones, one behind the other
+abbrev pub StartWith : List (List ℕ) → List ℕ → Type 0
+StartWith [] fs = Unit {0}
+StartWith (place ∷ places) [] = ⊥
+StartWith (place ∷ places) (f ∷ fs) = (is_in (Some f) place ≡ true) × StartWith places fs
 
 -- each is one of these
 abbrev pub AreAll : List ℕ → List ℕ → Type 0
@@ -21,7 +27,9 @@ last_of (f ∷ fs) = first_some (last_of fs) (Some f)
 -- What a line asks of its parts.
 pub record Asks : Type 0 where
   -- that parts of these families stand there, in this order
-  pub parts : List ℕ
+  pub parts : List (List ℕ)
+  -- and these as the first ones
+  pub first : List (List ℕ)
   -- that each part is of one of these
   pub families : List ℕ
   -- that the last one is
@@ -32,6 +40,7 @@ pub record Asks : Type 0 where
 -- what the line asks is there
 pub record AreThere (asks : Asks) (fs : List ℕ) : Type 0 where
   pub parts : Among asks.parts fs
+  pub first : StartWith asks.first fs
   pub families : AreAll asks.families fs
   pub last : (f : ℕ) → last_of fs ≡ Some f → is_in (Some f) asks.last ≡ true
   pub alone : (f g h : ℕ) → fs ≡ f ∷ g ∷ h ∷ [] → is_in (Some g) asks.alone ≡ true

@@ -1,3 +1,4 @@
+pub mod Asked
 pub mod Gathered
 pub mod Make
 pub mod MakeAttributes

@@ -1,10 +1,10 @@
 -- What the lines of functions, traits and impls make (Rust Reference, "Functions", "Traits", "Implementations").
-use Rattle.std.specs.Prelude.{ℕ, ◌+◌, if◌then◌else◌, List, [], ◌∷◌, ◌++◌, Option, None, Some, fold}
-use Rattle.source_grammar.specs.Terminals.{KwFor}
+use Rattle.std.specs.Prelude.{ℕ, ◌+◌, Bool, true, false, if◌then◌else◌, List, [], ◌∷◌, ◌++◌, Option, None, Some, fold, reverse}
 use Rattle.source_grammar.specs.declared.action.ShapeAction.TheVariants.{NamedType}
 use Rattle.source_words.specs.declared.word.Word.{Word}
 use Rattle.pearlite.specs.declared.part.Part.{Part as ShapePart}
-use Rattle.pearlite.specs.Parts.{as_type, is_at, segment_at, span_from}
+use Rattle.pearlite.specs.declared.part.Value.TheVariants as S
+use Rattle.pearlite.specs.Parts.{as_type, segment_at, span_from}
 use Rattle.pearlite.specs.Shapes.{shape_made}
 use Rattle.source_trees.specs.TypeTree.{TypeTree}
 use Rattle.source_trees.specs.declared.item.Body.TheVariants.{Missing}
@@ -72,9 +72,18 @@ trait_head words from parts = made_of (first_of type_of parts) (λ ty. V.ImplHea
 abbrev pub type_head : List Word → ℕ → ℕ → List Part → Value
 type_head words from to parts = made_of (as_type (shape_made NamedType words from to (shape_parts parts))) (λ ty. V.ImplHead None ty)
 
--- `TypeName [ "for" AnyType | TypeArguments ]`
+abbrev pub is_type : Value → Bool
+is_type (V.Shape (S.Type ty)) = true
+is_type _ = false
+
+-- whether the first of them is a type
+abbrev pub begins_with_type : List Part → Bool
+begins_with_type [] = false
+begins_with_type (part ∷ parts) = is_type part.value
+
+-- `TypeName [ "for" AnyType | TypeArguments ]`: a type stands last exactly behind `for`
 unfoldable pub impl_head_made : List Word → ℕ → ℕ → List Part → Value
-impl_head_made words from to parts = if is_at KwFor words (from + 1) then trait_head words from parts else type_head words from to parts
+impl_head_made words from to parts = if begins_with_type (reverse parts) then trait_head words from parts else type_head words from to parts
 
 -- `"type" "ViewTy" level( "=" AnyType ) ";"`
 unfoldable pub view_type_made : List Word → ℕ → ℕ → List Part → Value

@@ -5,6 +5,7 @@ ghost use Rattle.text_core.specs.declared.refusal.SourceError.{SourceError};
 ghost use Rattle.text_core.specs.Names.{words, HaveOnePlace};
 ghost use Rattle.text_core.specs.declared.fault.PassError.TheVariants as P;
 ghost use Rattle.source_trees.specs.declared.item.Item.{Item};
+ghost use Rattle.rs_syntax.specs.Asked.{EachLineIsMade, EachPartIsThere, ItemsAreThere, WhatIsAskedIsFound};
 ghost use Rattle.rs_syntax.specs.Parsed.{SpellsItems, functions_among, most_functions, IsParseError};
 
 /// By each table of names a text spells at most one list of items, with all spans.
@@ -29,4 +30,14 @@ pub fn a_text_of_items_is_not_refused()
         SpellsItems old bytes items → IsParseError old bytes (P.Source error) → ⊥ }
     ensures limit { (old : List (List ℕ)) (bytes : List ℕ) (items : List Item) (limit : Limit) → HaveOnePlace (words ++ old) →
         SpellsItems old bytes items → functions_among items ≤ most_functions → IsParseError old bytes (P.Limit limit) → ⊥ }
+{}
+
+/// In each line of a source of which something is made, the parts that its action asks for are there, in this order, and no
+/// part of another family. What is made of it is of the family of its action, and never what stands for a part that is
+/// missing. All parts of the whole are items, or stand around items.
+pub fn each_part_is_there()
+    ensures lines { EachPartIsThere }
+    ensures made { EachLineIsMade }
+    ensures source { ItemsAreThere }
+    ensures found { WhatIsAskedIsFound }
 {}

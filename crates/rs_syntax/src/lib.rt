@@ -24,6 +24,7 @@ mod trees;
 
 pub use laws::{
     a_source_has_one_refusal, a_text_of_items_is_not_refused, a_text_spells_one_list_of_items,
+    each_part_is_there,
 };
 pub use parser::parse;
 pub use part::{Part, Suffix, Value};

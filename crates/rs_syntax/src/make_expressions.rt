@@ -4,7 +4,8 @@ ghost use Rattle.pearlite.specs.Parts.{no_path, nowhere, span_from};
 ghost use Rattle.source_trees.specs.Pterm.{truth as term_truth};
 ghost use Rattle.source_trees.specs.ExprView.{expr_of};
 ghost use Rattle.rs_syntax.specs.declared.part.Value.TheVariants as V;
-ghost use Rattle.rs_syntax.specs.MakeExpressions.{arguments_made, break_made, closure_made, continue_made, field_made, ghost_made, integer_made, magnitude, member_by, member_made, negated, own_path, own_value, panic_made, parens_made, parens_by, path_made, prefix_made, prefixed, return_made, self_made, truth_made};
+ghost use Rattle.rs_syntax.specs.MakeExpressions.{arguments_made, break_made, closure_made, continue_made, field_made, ghost_made, integer_made, member_made, panic_made, parens_made, path_made, prefix_made, return_made, self_made, truth_made};
+ghost use Rattle.rs_syntax.specs.MakeExpressions.{magnitude, member_by, negated, own_path, own_value, parens_by, prefixed};
 
 use crate::found::{Found, exprs_in, first_expr, found_in, take_all, take_first};
 use crate::nodes::made;

@@ -2,14 +2,14 @@
 ghost use Rattle.std.specs.Prelude.{◌≡◌, reverse, Some, IfOk};
 ghost use Rattle.pearlite.specs.Parts.{as_type};
 ghost use Rattle.rs_syntax.specs.MakeFunctions.{with_answer, function_with, function_with_value, bare_function, function_made, trait_made};
-ghost use Rattle.rs_syntax.specs.MakeFunctions.{before_shapes, shape_part, shape_parts, trait_head, type_head, impl_head_made, view_type_made, with_target, impl_with, impl_with_value, impl_made};
+ghost use Rattle.rs_syntax.specs.MakeFunctions.{before_shapes, shape_part, shape_parts, trait_head, type_head, begins_with_type, impl_head_made, view_type_made, with_target, impl_with, impl_with_value, impl_made};
 
 use crate::gathering::{Gather, all_of, first_of, gather_all};
 use crate::make_fields::node_value;
 use crate::part::{Part, Value, segment_at, span_from};
-use crate::places::{is_behind, segment_behind};
+use crate::places::segment_behind;
 use pearlite::{Part as ShapePart, Value as Shape, make_shape};
-use source_grammar::{ShapeAction, kinds};
+use source_grammar::ShapeAction;
 use source_trees::{
     Body, Condition, Function, GenericParam, Impl, ImplItem, ItemNode, Method, Segment, Trait,
     TypeTree,
@@ -138,6 +138,16 @@ fn type_head(
     }
 }
 
+/// Whether the last part is a type. It stands first.
+fn ends_with_type(parts: &[Part]) -> bool
+    ensures { result ≡ begins_with_type parts.now }
+{
+    match parts.first() {
+        Some(part) => part.value.is_type(),
+        None => false,
+    }
+}
+
 /// What stands before the items of an impl.
 #[tactic(auto, unfolding(crate::specs::MakeFunctions::impl_head_made))]
 pub(crate) fn impl_head(
@@ -149,7 +159,7 @@ pub(crate) fn impl_head(
 ) -> Result<Value, NoMemory>
     ensures { IfOk result (λ v. v ≡ impl_head_made words.now from to (reverse parts.old.items)) }
 {
-    if is_behind(words, kinds::KW_FOR, from, 1) {
+    if ends_with_type(parts) {
         Ok(trait_head(words, from, parts))
     } else {
         type_head(alloc, words, from, to, parts)

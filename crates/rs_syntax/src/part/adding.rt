@@ -1,14 +1,14 @@
 //! What parts add to the items that they belong to.
 ghost use Rattle.std.specs.Prelude.{◌≡◌, IfOk};
 ghost use Rattle.rs_syntax.specs.MakeFields.{struct_with_value, enum_with_value};
-ghost use Rattle.rs_syntax.specs.MakeFunctions.{function_with_value, impl_with_value, shape_part};
+ghost use Rattle.rs_syntax.specs.MakeFunctions.{function_with_value, impl_with_value, is_type, shape_part};
 ghost use Rattle.rs_syntax.specs.MakeItems.{item_with_value};
 
 use crate::make_fields::{StructParts, set_enum_generics};
 use crate::make_functions::{ImplParts, set_answer, set_conditions, set_generics};
 use crate::make_items::ItemParts;
 use crate::part::{Value, span_from};
-use pearlite::Part as ShapePart;
+use pearlite::{Part as ShapePart, Value as Shape};
 use source_trees::{Body, Enum, Function, ImplItem, ItemNode};
 use source_words::Word;
 use text_core::NoMemory;
@@ -68,6 +68,13 @@ impl Value {
             }
             _ => Ok(()),
         }
+    }
+
+    /// Whether it is a type.
+    pub(crate) fn is_type(&self) -> bool
+        ensures { result ≡ is_type self.now }
+    {
+        matches!(self, Value::Shape(Shape::Type(_)))
     }
 
     /// The part as one of a line of shapes, where it is one.
