@@ -129,7 +129,7 @@ fn push_term<'a>(
 ) -> Result<(), NoMemory>
     ensures { OnOk result (out.new.items ≡ out.old.items ++ text_in (spelling_of spelling.now) (bounds_of bound.now) t.now) }
 {
-    match &*t.node {
+    match t.node() {
         TermNode::Var(name) => push_numbered(alloc, out, b"v", number_of(bound, *name) as u64),
         TermNode::Lit(number, sort) => push_literal(alloc, out, *number, sort),
         TermNode::Truth(holds) => push_text(out, truth_bytes(*holds)),
