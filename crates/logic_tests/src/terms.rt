@@ -1,4 +1,6 @@
-use logic_term::{AdtId, CompoundTy, Ctor, Region, Term, Ty, TyNode, reduce};
+use logic_term::{
+    AdtId, CompoundTy, Ctor, Region, Renaming, Replacement, Term, Ty, TyNode, reduce,
+};
 use source_kinds::{ArithOp, IntKind};
 use std::alloc::Global;
 use std::test::Fail;
@@ -168,5 +170,49 @@ fn made_of_parts(rt: HostRuntime) -> Result<(), Fail> {
     assert!(rt; becomes(alloc, &t, Y, &Term::unit(alloc)?, &wanted)?);
     assert!(rt; !t.same(&wanted));
     assert!(rt; reduces(alloc, &wanted, &wanted)?);
+    Ok(())
+}
+
+/// `(x, y)` with `y` for `x` and `x` for `y`, as names.
+fn turned(alloc: Global, t: &Term) -> Result<Term, NoMemory> {
+    let mut names = Vec::with_capacity(alloc, 2)?;
+    names.push(Renaming { from: X, to: Y })?;
+    names.push(Renaming { from: Y, to: X })?;
+    t.renamed(alloc, &mut names)
+}
+
+/// The same, as terms.
+fn turned_as_terms(alloc: Global, t: &Term) -> Result<Term, NoMemory> {
+    let mut terms = Vec::with_capacity(alloc, 2)?;
+    terms.push(Replacement {
+        name: X,
+        by: Term::var(alloc, Y)?,
+    })?;
+    terms.push(Replacement {
+        name: Y,
+        by: Term::var(alloc, X)?,
+    })?;
+    t.with(alloc, terms.as_slice())
+}
+
+#[test]
+fn names_change_places(rt: HostRuntime) -> Result<(), Fail> {
+    let alloc = rt.alloc();
+    let t = pair_of(alloc, Term::var(alloc, Y)?)?;
+    let other = turned(alloc, &t)?;
+    assert!(rt; !other.same(&t));
+    assert!(rt; turned(alloc, &other)?.same(&t));
+    assert!(rt; turned_as_terms(alloc, &t)?.same(&other));
+    Ok(())
+}
+
+#[test]
+fn what_leads(rt: HostRuntime) -> Result<(), Fail> {
+    let alloc = rt.alloc();
+    let all = all_at_most(alloc, X, 1)?;
+    assert!(rt; all.as_forall().is_some() && all.as_implication().is_none());
+    let known = Term::implies(alloc, all.share()?, all)?;
+    assert!(rt; known.as_implication().is_some() && known.as_forall().is_none());
+    assert!(rt; known.above_free(alloc)? == 0);
     Ok(())
 }

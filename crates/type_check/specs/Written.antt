@@ -22,7 +22,7 @@ use Rattle.source_trees.specs.TypeTreeView.{span_of as type_span}
 use Rattle.type_check.specs.declared.scope.Declared.{Declared}
 use Rattle.type_check.specs.declared.scope.Variable.{Variable}
 use Rattle.type_check.specs.declared.statements.Step.{Step}
-use Rattle.type_check.specs.Answers.{unbuilt}
+use Rattle.type_check.specs.Answers.{◌>>=◌, unbuilt}
 
 -- ---- names
 
