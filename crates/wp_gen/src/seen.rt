@@ -20,7 +20,7 @@ fn before(alloc: Global, command: &Command, formula: Term) -> Result<Term, NoMem
             Term::forall(alloc, *name, sort, formula)
         }
         Command::Assume(known) => {
-            let known = known.copy(alloc)?;
+            let known = known.share()?;
             Term::implies(alloc, known, formula)
         }
     }
@@ -71,7 +71,7 @@ pub(crate) fn with_seen_before(
 fn goal_of(alloc: Global, kind: Kind, span: Span, term: &Term) -> Result<Goal, NoMemory>
     ensures { IfOk result (λ g. g ≡ record { kind = kind; span = span; formula = term.now }) }
 {
-    let formula = term.copy(alloc)?;
+    let formula = term.share()?;
     Ok(Goal {
         kind,
         span,
