@@ -156,7 +156,7 @@ put_same k p ν n = ap (λ b. cond b (p n) (ν (record { 0 = k }) n)) (itself_is
 put_other : (k : ℕ) (p : ℕ → Term) (ν : Placing) (x : Name) (n : ℕ) → x.0 < k → put (record { 0 = k }) p ν x n ≡ ν x n
 put_other k p ν x n l = ap (λ b. cond b (p n) (ν x n)) (less_is_other x.0 k l)
 
-denotes_at : (r : Bool) (k : ℕ) (u : Term) (ν : Placing) (p q : ℕ → Term) (b c : Bool) → ((not b && c) ≡ true → ((y : Name) → free y u ≡ true → y.0 < k) × ((n : ℕ) → placed r n ν u ≡ q n)) → c ≡ true
+pub denotes_at : (r : Bool) (k : ℕ) (u : Term) (ν : Placing) (p q : ℕ → Term) (b c : Bool) → ((not b && c) ≡ true → ((y : Name) → free y u ≡ true → y.0 < k) × ((n : ℕ) → placed r n ν u ≡ q n)) → c ≡ true
     → ((y : Name) → free y (cond b (var (record { 0 = k })) u) ≡ true → y.0 < suc k) × ((n : ℕ) → placed r n (put (record { 0 = k }) p ν) (cond b (var (record { 0 = k })) u) ≡ cond b (p n) (q n))
 denotes_at r k u ν p q true c h e = (λ y f. let same : y.0 ≡ k = same_test y.0 k f in omega arith, λ n. put_same k p ν n)
 denotes_at r k u ν p q false c h e =

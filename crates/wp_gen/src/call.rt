@@ -5,9 +5,9 @@ ghost use Rattle.logic_term.specs.Subst.{with_terms};
 ghost use Rattle.wp_gen.specs.Walk.{entries, at_arguments, at_arguments_and_answer, goals_of_call, call_commands, assumed};
 
 use crate::command::Command;
+use crate::formulas::all_at;
 use crate::goal::Goal;
 use crate::row::{name_of, operand_terms, value_name};
-use crate::seen::all_at;
 use logic_term::{Contract, Replacement, Term, Ty};
 use mir_ir::{Body, Operand};
 use std::alloc::Global;
