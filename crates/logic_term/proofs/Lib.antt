@@ -1,4 +1,5 @@
 pub mod Alike
+pub mod Bound
 pub mod CanonicalLaw
 pub mod Coincide
 pub mod Depths
@@ -10,5 +11,6 @@ pub mod PlacedLaw
 pub mod SameLaw
 pub mod SortLaw
 pub mod SortParts
+pub mod SortSound
 pub mod Truth
 pub mod Unique

@@ -9,6 +9,7 @@ pub mod Placed
 pub mod Same
 pub mod Simplified
 pub mod Sort
+pub mod Sorted
 pub mod Subst
 pub mod Term
 pub mod TermCode

@@ -43,9 +43,10 @@ substs n σ ts = all_placed false n (placing σ) ts
 abbrev pub put_reduced : ℕ → List Replacement → Term → Term
 put_reduced n σ t = placed true n (placing σ) t
 
--- the entries, and first of them the number n for the name
-abbrev pub with_number : ℕ → Name → List Replacement → List Replacement
-with_number n x σ = record { name = x; by = var (record { 0 = n }) } ∷ σ
+-- the numbers of bound names, of which the last was bound innermost, before other entries
+abbrev pub numbers_before : List Renaming → List Replacement → List Replacement
+numbers_before [] σ = σ
+numbers_before (r ∷ rs) σ = numbers_before rs (renaming r ∷ σ)
 
 -- one past the largest name in the entries' terms
 abbrev pub above_entries : List Replacement → ℕ
@@ -55,6 +56,10 @@ above_entries (e ∷ σ) = max (above e.by) (above_entries σ)
 -- the term with σ's terms for its free names, all at once
 abbrev pub with_terms : List Replacement → Term → Term
 with_terms σ t = subst (max (above t) (above_entries σ)) σ t
+
+-- the term with names for its free names, all at once, the last of a name counting
+abbrev pub renamed : List Renaming → Term → Term
+renamed rs t = with_terms (numbers_before rs []) t
 
 -- t with u for x
 abbrev pub replaced : Name → Term → Term → Term

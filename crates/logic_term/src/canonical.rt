@@ -1,4 +1,4 @@
-ghost use Rattle.std.specs.Prelude.{◌≡◌, ◌∷◌, ◌↔◌, suc, IfOk, IsTrue, max, if◌then◌else◌};
+ghost use Rattle.std.specs.Prelude.{◌≡◌, ◌∷◌, [], ◌↔◌, suc, IfOk, OnOk, IsTrue, max, if◌then◌else◌};
 ghost use Rattle.logic_term.specs.Canonical.{is_one_of, above_free, all_above_free, canonical, SameUpToNames};
 ghost use Rattle.logic_term.specs.TermView.{terms_of};
 
@@ -9,22 +9,15 @@ use text_core::{Name, NoMemory};
 fn is_one_of(name: Name, names: &[Name]) -> bool
     ensures { result ≡ is_one_of name names.now }
 {
-    for other in names {
+    let mut left = names.len();
+    while left > 0 {
+        left -= 1;
+        let other = &names[left];
         if name.0 == other.0 {
             return true;
         }
     }
     false
-}
-
-/// The names with one more before them.
-fn with_name(alloc: Global, first: Name, rest: &[Name]) -> Result<Vec<Name>, NoMemory>
-    ensures { IfOk result (λ v. v.items ≡ first ∷ rest.now) }
-{
-    let mut all = Vec::with_capacity(alloc, 1)?;
-    all.push(first)?;
-    all.extend_from_slice(rest)?;
-    Ok(all)
 }
 
 fn above_name(name: Name, bound: &[Name]) -> Result<u64, NoMemory>
@@ -37,23 +30,41 @@ fn above_name(name: Name, bound: &[Name]) -> Result<u64, NoMemory>
 }
 
 impl Term {
-    /// One past the largest name in the term that is free there and none of these.
+    /// One past the largest name that is free in the term.
+    pub fn above_free(&self, alloc: Global) -> Result<u64, NoMemory>
+        ensures { IfOk result (λ n. n ≡ above_free [] self.now) }
+    {
+        self.above_free_in(&mut Vec::new(alloc))
+    }
+
+    /// The same of the names that are none of these.
     #[cycle(above_free)]
-    pub(crate) fn above_free(&self, alloc: Global, bound: &[Name]) -> Result<u64, NoMemory>
-        ensures { IfOk result (λ n. n ≡ above_free bound.now self.now) }
+    fn above_free_in(&self, bound: &mut Vec<Name>) -> Result<u64, NoMemory>
+        ensures ok { IfOk result (λ n. n ≡ above_free bound.old.items self.now) }
+        ensures kept { OnOk result (bound.new.items ≡ bound.old.items) }
     {
         match self.node() {
-            TermNode::Var(name) => above_name(*name, bound),
+            TermNode::Var(name) => above_name(*name, bound.as_slice()),
             TermNode::Lit(_, _) => Ok(0),
             TermNode::Truth(_) => Ok(0),
-            TermNode::Make(_, parts) => all_above_free(alloc, parts, bound),
-            TermNode::Unary(_, t) => t.above_free(alloc, bound),
-            TermNode::Binary(_, a, b) => both_above_free(alloc, a, b, bound),
-            TermNode::Forall(name, _, t) => {
-                let inner = with_name(alloc, *name, bound)?;
-                t.above_free(alloc, inner.as_slice())
-            }
+            TermNode::Make(_, parts) => all_above_free(parts, bound),
+            TermNode::Unary(_, t) => t.above_free_in(bound),
+            TermNode::Binary(_, a, b) => both_above_free(a, b, bound),
+            TermNode::Forall(name, _, t) => t.above_free_under(*name, bound),
         }
+    }
+
+    /// The same, where one more name is bound.
+    #[cycle(above_free)]
+    #[tactic(auto, using(crate::proofs::Bound::bound_last))]
+    fn above_free_under(&self, name: Name, bound: &mut Vec<Name>) -> Result<u64, NoMemory>
+        ensures ok { IfOk result (λ n. n ≡ above_free (name ∷ bound.old.items) self.now) }
+        ensures kept { OnOk result (bound.new.items ≡ bound.old.items) }
+    {
+        bound.push(name)?;
+        let above = self.above_free_in(bound)?;
+        bound.pop();
+        Ok(above)
     }
 
     /// The term with its bound names numbered from one past its largest free name on: the same for all terms that differ
@@ -62,8 +73,8 @@ impl Term {
     pub fn canonical(&self, alloc: Global) -> Result<Term, NoMemory>
         ensures { IfOk result (λ t. t ≡ canonical self.now) }
     {
-        let next = self.above_free(alloc, &[])?;
-        self.subst(alloc, next, &[], &[])
+        let next = self.above_free(alloc)?;
+        self.placed(alloc, false, next, &[])
     }
 
     /// Whether both are the same up to the names that they bind.
@@ -77,22 +88,24 @@ impl Term {
 }
 
 #[cycle(above_free)]
-fn both_above_free(alloc: Global, a: &Term, b: &Term, bound: &[Name]) -> Result<u64, NoMemory>
-    ensures { IfOk result (λ n. n ≡ max (above_free bound.now a.now) (above_free bound.now b.now)) }
+fn both_above_free(a: &Term, b: &Term, bound: &mut Vec<Name>) -> Result<u64, NoMemory>
+    ensures ok { IfOk result (λ n. n ≡ max (above_free bound.old.items a.now) (above_free bound.old.items b.now)) }
+    ensures kept { OnOk result (bound.new.items ≡ bound.old.items) }
 {
-    let left = a.above_free(alloc, bound)?;
-    let right = b.above_free(alloc, bound)?;
+    let left = a.above_free_in(bound)?;
+    let right = b.above_free_in(bound)?;
     Ok(left.max(right))
 }
 
 #[cycle(above_free)]
 #[tactic(auto, using(crate::specs::TermFalls::each_smaller))]
-fn all_above_free(alloc: Global, terms: &[Term], bound: &[Name]) -> Result<u64, NoMemory>
-    ensures { IfOk result (λ n. n ≡ all_above_free bound.now (terms_of terms.now)) }
+fn all_above_free(terms: &[Term], bound: &mut Vec<Name>) -> Result<u64, NoMemory>
+    ensures ok { IfOk result (λ n. n ≡ all_above_free bound.old.items (terms_of terms.now)) }
+    ensures kept { OnOk result (bound.new.items ≡ bound.old.items) }
 {
     let mut largest = 0u64;
     for i in 0..terms.len() {
-        largest = largest.max(terms[i].above_free(alloc, bound)?);
+        largest = largest.max(terms[i].above_free_in(bound)?);
     }
     Ok(largest)
 }

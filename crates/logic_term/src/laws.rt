@@ -2,6 +2,7 @@
 //! by which the contracts of this crate speak.
 
 ghost use Rattle.logic_term.specs.Laws.{PutTermsCountAsValues, APutTermCountsAsValue, PlacedTermsCountAsValues, BoundNamesDoNotCount, CanonicalFormsKeepValues, FreeNamesAloneCount, OtherNamesDoNotCount, SortsKeepValues};
+ghost use Rattle.logic_term.specs.Sorted.{SortsAreKept};
 ghost use Rattle.logic_term.specs.Laws.{ValuesAreSingle, ValuesAreSure, ValuesOfMade, ValueOfUnit, NormalFormsKeepValues};
 ghost use Rattle.logic_term.specs.Laws.{TruthOfConstants, TruthOfNot, TruthOfAnd, TruthOfOr, TruthOfImplies, TruthOfForall, TruthOfLess, TruthOfAtMost, TruthOfEqual};
 
@@ -52,6 +53,11 @@ pub fn values_of_made()
 /// A type and its sort have the same values, whatever is declared.
 pub fn sorts_keep_values()
     ensures { SortsKeepValues }
+{}
+
+/// A term that has a sort has values of this sort, where variables have values of theirs.
+pub fn sorts_are_kept()
+    ensures { SortsAreKept }
 {}
 
 /// The normal form of a term has the values of the term.

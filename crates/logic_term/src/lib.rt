@@ -18,7 +18,7 @@ pub use kinds::{
 };
 pub use laws::{
     bound_names_do_not_count, canonical_forms_keep_values, free_names_alone_count,
-    normal_forms_keep_values, other_names_do_not_count, put_terms_count_as_values,
+    normal_forms_keep_values, other_names_do_not_count, put_terms_count_as_values, sorts_are_kept,
     sorts_keep_values, truth_of_comparisons, truth_of_connectives, truth_of_forall,
     values_are_single, values_are_sure, values_of_made,
 };

@@ -1,11 +1,11 @@
 //! Terms for the free names of a term, numbers for its bound ones, and the normal form, in one walk.
-ghost use Rattle.std.specs.Prelude.{◌≡◌, ◌∷◌, ◌++◌, ◌+◌, IfOk, map, suc};
-ghost use Rattle.logic_term.specs.Term.{made, apply, modeled, no_terms, and_term};
+ghost use Rattle.std.specs.Prelude.{◌≡◌, ◌∷◌, IfOk, OnOk, suc};
+ghost use Rattle.logic_term.specs.Term.{made, var, modeled, no_terms, and_term};
 ghost use Rattle.logic_term.specs.TermView.{terms_of};
 ghost use Rattle.logic_term.specs.TermOperator.{unary_operator, binary_operator};
 ghost use Rattle.logic_term.specs.Simplified.{simplified, formed};
 ghost use Rattle.logic_term.specs.Placed.{placed, all_placed};
-ghost use Rattle.logic_term.specs.Subst.{look, renaming, placing, with_number};
+ghost use Rattle.logic_term.specs.Subst.{look, placing, numbers_before};
 ghost use Rattle.logic_term.specs.Normal.{reduced};
 ghost use Rattle.logic_term.specs.Laws.{HasValuesOf};
 
@@ -17,20 +17,6 @@ use std::alloc::Global;
 use text_core::{Name, NoMemory};
 
 // ---- what stands for a name
-
-/// The renamings with one more, which hides an earlier one of its name.
-fn with_renaming(
-    alloc: Global,
-    first: Renaming,
-    rest: &[Renaming],
-) -> Result<Vec<Renaming>, NoMemory>
-    ensures { IfOk result (λ v. v.items ≡ first ∷ rest.now) }
-{
-    let mut all = Vec::with_capacity(alloc, 1)?;
-    all.push(first)?;
-    all.extend_from_slice(rest)?;
-    Ok(all)
-}
 
 /// The term that stands for the name: the first of its entries, or else the name itself.
 fn entry_for(alloc: Global, name: Name, sub: &[Replacement]) -> Result<Term, NoMemory>
@@ -44,18 +30,21 @@ fn entry_for(alloc: Global, name: Name, sub: &[Replacement]) -> Result<Term, NoM
     Term::var(alloc, name)
 }
 
-/// The same, the renamings standing before the entries.
+/// The same, the numbers of bound names standing before the entries, the innermost first.
 fn looked_up(
     alloc: Global,
     name: Name,
-    renamings: &[Renaming],
+    bound: &[Renaming],
     sub: &[Replacement],
 ) -> Result<Term, NoMemory>
-    ensures { IfOk result (λ t. t ≡ look (map renaming renamings.now ++ sub.now) name) }
+    ensures { IfOk result (λ t. t ≡ look (numbers_before bound.now sub.now) name) }
 {
-    for i in 0..renamings.len() {
-        if name.0 == renamings[i].from.0 {
-            return Term::var(alloc, renamings[i].to);
+    let mut left = bound.len();
+    while left > 0 {
+        left -= 1;
+        let renaming = &bound[left];
+        if name.0 == renaming.from.0 {
+            return Term::var(alloc, renaming.to);
         }
     }
     entry_for(alloc, name, sub)
@@ -113,38 +102,52 @@ fn made_form(alloc: Global, reduces: bool, ctor: Ctor, parts: Vec<Term>) -> Resu
 
 impl Term {
     /// The term with entries' terms for its free names, all at once, its bound names being numbered from `next` on by their depth. It is
-    /// reduced where `reduces` is set; for entries in normal form it is then in normal form, up to the numbers of bound names. The
-    /// renamings stand before the entries. Want of memory is answered too where a number would pass 64 bits.
-    #[cycle(placed)]
+    /// reduced where `reduces` is set; for entries in normal form it is then in normal form, up to the numbers of bound names. Want of
+    /// memory is answered too where a number would pass 64 bits.
     pub fn placed(
         &self,
         alloc: Global,
         reduces: bool,
         next: u64,
-        renamings: &[Renaming],
         sub: &[Replacement],
     ) -> Result<Term, NoMemory>
-        ensures { IfOk result (λ t. t ≡ placed reduces next (placing (map renaming renamings.now ++ sub.now)) self.now) }
+        ensures { IfOk result (λ t. t ≡ placed reduces next (placing sub.now) self.now) }
+    {
+        self.placed_in(alloc, reduces, next, &mut Vec::new(alloc), sub)
+    }
+
+    /// The same, where these names are bound around it.
+    #[cycle(placed)]
+    pub(crate) fn placed_in(
+        &self,
+        alloc: Global,
+        reduces: bool,
+        next: u64,
+        bound: &mut Vec<Renaming>,
+        sub: &[Replacement],
+    ) -> Result<Term, NoMemory>
+        ensures ok { IfOk result (λ t. t ≡ placed reduces next (placing (numbers_before bound.old.items sub.now)) self.now) }
+        ensures kept { OnOk result (bound.new.items ≡ bound.old.items) }
     {
         match self.node() {
-            TermNode::Var(name) => looked_up(alloc, *name, renamings, sub),
+            TermNode::Var(name) => looked_up(alloc, *name, bound.as_slice(), sub),
             TermNode::Lit(_, _) => self.share(),
             TermNode::Truth(_) => self.share(),
             TermNode::Make(ctor, parts) => {
-                let parts = all_placed(alloc, parts, reduces, next, renamings, sub)?;
+                let parts = all_placed(alloc, parts, reduces, next, bound, sub)?;
                 made_form(alloc, reduces, *ctor, parts)
             }
             TermNode::Unary(op, t) => {
-                let t = t.placed(alloc, reduces, next, renamings, sub)?;
+                let t = t.placed_in(alloc, reduces, next, bound, sub)?;
                 unary_form(alloc, reduces, *op, t)
             }
             TermNode::Binary(op, a, b) => {
-                let a = a.placed(alloc, reduces, next, renamings, sub)?;
-                let b = b.placed(alloc, reduces, next, renamings, sub)?;
+                let a = a.placed_in(alloc, reduces, next, bound, sub)?;
+                let b = b.placed_in(alloc, reduces, next, bound, sub)?;
                 binary_form(alloc, reduces, *op, a, b)
             }
             TermNode::Forall(name, sort, t) => {
-                let body = t.placed_under(alloc, reduces, *name, next, renamings, sub)?;
+                let body = t.placed_under(alloc, reduces, *name, next, bound, sub)?;
                 quantified(alloc, Name(next), sort, body)
             }
         }
@@ -152,21 +155,25 @@ impl Term {
 
     /// The body of a quantifier over the name, which gets the number `next`.
     #[cycle(placed)]
+    #[tactic(auto, using(crate::proofs::Bound::last_first))]
     fn placed_under(
         &self,
         alloc: Global,
         reduces: bool,
         from: Name,
         next: u64,
-        renamings: &[Renaming],
+        bound: &mut Vec<Renaming>,
         sub: &[Replacement],
     ) -> Result<Term, NoMemory>
-        ensures { IfOk result (λ t. t ≡ placed reduces (suc next) (placing (with_number next from (map renaming renamings.now ++ sub.now))) self.now) }
+        ensures ok { IfOk result (λ t. t ≡ placed reduces (suc next) (placing (record { name = from; by = var (record { 0 = next }) } ∷ numbers_before bound.old.items sub.now)) self.now) }
+        ensures kept { OnOk result (bound.new.items ≡ bound.old.items) }
     {
         let to = Name(next);
-        let inner = with_renaming(alloc, Renaming { from, to }, renamings)?;
         let after = next.checked_add(1).ok_or(NoMemory)?;
-        self.placed(alloc, reduces, after, inner.as_slice(), sub)
+        bound.push(Renaming { from, to })?;
+        let body = self.placed_in(alloc, reduces, after, bound, sub)?;
+        bound.pop();
+        Ok(body)
     }
 }
 
@@ -177,14 +184,15 @@ fn all_placed(
     terms: &[Term],
     reduces: bool,
     next: u64,
-    renamings: &[Renaming],
+    bound: &mut Vec<Renaming>,
     sub: &[Replacement],
 ) -> Result<Vec<Term>, NoMemory>
-    ensures { IfOk result (λ v. terms_of v.items ≡ all_placed reduces next (placing (map renaming renamings.now ++ sub.now)) (terms_of terms.now)) }
+    ensures ok { IfOk result (λ v. terms_of v.items ≡ all_placed reduces next (placing (numbers_before bound.old.items sub.now)) (terms_of terms.now)) }
+    ensures kept { OnOk result (bound.new.items ≡ bound.old.items) }
 {
     let mut all = Vec::with_capacity(alloc, terms.len())?;
     for i in 0..terms.len() {
-        all.push(terms[i].placed(alloc, reduces, next, renamings, sub)?)?;
+        all.push(terms[i].placed_in(alloc, reduces, next, bound, sub)?)?;
     }
     Ok(all)
 }
@@ -204,7 +212,7 @@ pub fn reduce(alloc: Global, t: &Term) -> Result<Term, NoMemory>
 fn normal_form(alloc: Global, t: &Term) -> Result<Term, NoMemory>
     ensures { IfOk result (λ r. r ≡ reduced t.now) }
 {
-    let next = t.above_free(alloc, &[])?;
-    let form = t.placed(alloc, true, next, &[], &[])?;
+    let next = t.above_free(alloc)?;
+    let form = t.placed(alloc, true, next, &[])?;
     form.canonical(alloc)
 }

@@ -1,7 +1,7 @@
-ghost use Rattle.std.specs.Prelude.{◌≡◌, ◌∷◌, ◌++◌, [], IfOk, map, max};
+ghost use Rattle.std.specs.Prelude.{◌≡◌, [], IfOk, OnOk, max};
 ghost use Rattle.logic_term.specs.Free.{free, free_in_some};
 ghost use Rattle.logic_term.specs.TermView.{terms_of};
-ghost use Rattle.logic_term.specs.Subst.{above, all_above, above_entries, with_terms, subst, renaming, replaced};
+ghost use Rattle.logic_term.specs.Subst.{above, all_above, above_entries, numbers_before, renamed, with_terms, replaced};
 
 use crate::term::{Term, TermNode};
 use std::alloc::Global;
@@ -58,27 +58,24 @@ impl Term {
         }
     }
 
-    /// The term with entries' terms for its free names, all at once, its bound names being numbered from `next` on by their depth. The
-    /// renamings stand before the entries. Want of memory is answered too where a number would pass 64 bits.
-    pub fn subst(
-        &self,
-        alloc: Global,
-        next: u64,
-        renamings: &[Renaming],
-        sub: &[Replacement],
-    ) -> Result<Term, NoMemory>
-        ensures { IfOk result (λ t. t ≡ subst next (map renaming renamings.now ++ sub.now) self.now) }
-    {
-        self.placed(alloc, false, next, renamings, sub)
-    }
-
     /// The term with the entries' terms for its free names, all at once; no name is captured.
     pub fn with(&self, alloc: Global, sub: &[Replacement]) -> Result<Term, NoMemory>
         ensures { IfOk result (λ t. t ≡ with_terms sub.now self.now) }
     {
         let own = self.above()?;
         let others = above_entries(sub)?;
-        self.subst(alloc, own.max(others), &[], sub)
+        self.placed(alloc, false, own.max(others), sub)
+    }
+
+    /// The term with names for its free names, all at once, the last of a name counting; no name is captured. The list is as it was
+    /// where the answer is a term.
+    pub fn renamed(&self, alloc: Global, names: &mut Vec<Renaming>) -> Result<Term, NoMemory>
+        ensures ok { IfOk result (λ t. t ≡ renamed names.old.items self.now) }
+        ensures kept { OnOk result (names.new.items ≡ names.old.items) }
+    {
+        let own = self.above()?;
+        let others = above_names(names.as_slice())?;
+        self.placed_in(alloc, false, own.max(others), names, &[])
     }
 
     /// The term with another for the name; no name is captured.
@@ -89,8 +86,21 @@ impl Term {
         let by = by.share()?;
         let mut sub = Vec::with_capacity(alloc, 1)?;
         sub.push(Replacement { name, by })?;
-        self.subst(alloc, next, &[], sub.as_slice())
+        self.placed(alloc, false, next, sub.as_slice())
     }
+}
+
+/// One past the largest of the names that are given.
+fn above_names(names: &[Renaming]) -> Result<u64, NoMemory>
+    ensures { IfOk result (λ n. n ≡ above_entries (numbers_before names.now [])) }
+{
+    let mut most: u64 = 0;
+    for i in 0..names.len() {
+        let renaming = &names[i];
+        let here = renaming.to.0.checked_add(1).ok_or(NoMemory)?;
+        most = here.max(most);
+    }
+    Ok(most)
 }
 
 /// One past the largest name in the entries' terms.

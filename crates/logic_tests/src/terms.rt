@@ -78,15 +78,15 @@ fn sorts_of_literals(rt: HostRuntime) -> Result<(), Fail> {
     Ok(())
 }
 
-fn is_copied(alloc: Global, t: &Term) -> Result<bool, NoMemory> {
-    Ok(t.copy(alloc)?.same(t))
+fn is_shared(t: &Term) -> Result<bool, NoMemory> {
+    Ok(t.share()?.same(t))
 }
 
 #[test]
 fn names_in_terms(rt: HostRuntime) -> Result<(), Fail> {
     let alloc = rt.alloc();
     let t = all_equal(alloc, X, Y)?;
-    assert!(rt; is_copied(alloc, &t)?);
+    assert!(rt; is_shared(&t)?);
     assert!(rt; t.above()? == 8);
     for (name, free) in [(X, true), (Y, false), (Name(8), false)] {
         assert!(rt; t.free_in(name) == free, "name {}", name.0);
@@ -161,7 +161,7 @@ fn pair_of(alloc: Global, last: Term) -> Result<Term, NoMemory> {
 fn made_of_parts(rt: HostRuntime) -> Result<(), Fail> {
     let alloc = rt.alloc();
     let t = pair_of(alloc, Term::var(alloc, Y)?)?;
-    assert!(rt; is_copied(alloc, &t)?);
+    assert!(rt; is_shared(&t)?);
     assert!(rt; t.free_in(Y));
     assert!(rt; t.above()? == 8);
     let wanted = pair_of(alloc, Term::unit(alloc)?)?;

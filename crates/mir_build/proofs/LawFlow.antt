@@ -13,7 +13,8 @@ use Rattle.std.specs.Prelude.{ℕ}
 use Rattle.type_check.specs.TypedExpr.{TypedExpr, TypedStmts, TypedExprs}
 use Rattle.text_core.specs.declared.span.Span.{Span}
 use Rattle.mir_build.specs.Text.{Title, Line, Puts, Makes, Turns, Owns, begun}
-use Rattle.mir_build.specs.Lowering.{Around, looping, binds, at, at_head, head_of, dies_in, where_true, where_false, Into, of_integer, of_truth, of_variable, of_negative, of_denied, of_binary, of_lazy, of_assign, of_assign_value, of_update, of_update_value, of_call, of_block, of_branch, of_choice, of_repeat, Rest, of_done, of_last, of_bind, of_run, Args, of_none, of_more}
+use Rattle.mir_build.specs.Lowering.{Around, looping, binds, at, at_head, head_of, dies_in, where_true, where_false, Into, of_integer, of_truth, of_variable, of_negative, of_denied, of_binary, of_lazy}
+use Rattle.mir_build.specs.Lowering.{of_assign, of_assign_value, of_update, of_update_value, of_call, of_block, of_branch, of_choice, of_repeat, Rest, of_done, of_last, of_bind, of_run, Args, of_none, of_more}
 use Rattle.mir_build.proofs.LawLists.{Has, here, there, has_left, has_right, begun-append}
 
 -- from a block in the loops `from`, the blocks of `later` standing behind it, in a body of the blocks `whole`

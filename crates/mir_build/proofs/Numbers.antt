@@ -99,8 +99,26 @@ mutual
   once (call ty s f es) c l t d x = simp begins-append (omega (arith, args_once es c l t x, within_split l (labels_in es) 1 _ x refl, within_one (l + labels_in es) x))
   once (block ty s ss) c l t d x = rest_once ss false s c l t d x
   once (branch ty s e a) c l t d x = simp begins-append (omega (arith, once e c l (t + 1) t x, once a c (l + labels e + 3) (t + 1 + locals e) d x, within_split l (labels e + 3) (labels a) (l + labels e + 3) x (omega arith), within_split l (labels e) 3 _ x refl, within_three (l + labels e) x))
-  once (choice ty s e a b) c l t d x = simp begins-append (omega (arith, once e c l (t + 1) t x, once a c (l + labels e + 3) (t + 1 + locals e) d x, once b c (l + labels e + 3 + labels a) (t + 1 + locals e + locals a) d x, within_split l (labels e + 3 + labels a) (labels b) (l + labels e + 3 + labels a) x (omega arith), within_split l (labels e + 3) (labels a) (l + labels e + 3) x (omega arith), within_split l (labels e) 3 _ x refl, within_three (l + labels e) x))
-  once (repeat ty s is' e b) c l t d x = simp begins-append (omega (arith, once e (looping c (label l)) (l + 3) (t + 1) t x, once b (looping c (label l)) (l + 3 + labels e) (t + 1 + locals e + 1) (t + 1 + locals e) x, within_split l (3 + labels e) (labels b) (l + 3 + labels e) x (omega arith), within_split l 3 (labels e) _ x refl, within_three l x))
+  once (choice ty s e a b) c l t d x =
+      simp begins-append (omega (
+        arith,
+        once e c l (t + 1) t x,
+        once a c (l + labels e + 3) (t + 1 + locals e) d x,
+        once b c (l + labels e + 3 + labels a) (t + 1 + locals e + locals a) d x,
+        within_split l (labels e + 3 + labels a) (labels b) (l + labels e + 3 + labels a) x (omega arith),
+        within_split l (labels e + 3) (labels a) (l + labels e + 3) x (omega arith),
+        within_split l (labels e) 3 _ x refl,
+        within_three (l + labels e) x,
+      ))
+  once (repeat ty s is' e b) c l t d x =
+      simp begins-append (omega (
+        arith,
+        once e (looping c (label l)) (l + 3) (t + 1) t x,
+        once b (looping c (label l)) (l + 3 + labels e) (t + 1 + locals e + 1) (t + 1 + locals e) x,
+        within_split l (3 + labels e) (labels b) (l + 3 + labels e) x (omega arith),
+        within_split l 3 (labels e) _ x refl,
+        within_three l x,
+      ))
 
   pub rest_once : (ss : TypedStmts) (outer : Bool) (s : Span) (c : Around) (l t d x : ℕ) → begins x (rest ss outer s c l t d) ≡ within l (labels_of ss) x
   rest_once done outer s c l t d x = within_zero l x

@@ -9,7 +9,8 @@ use Rattle.mir_ir.specs.declared.terminator.TerminatorKind.TheVariants.{Goto, If
 use Rattle.type_check.specs.TypedExpr.{TypedExpr, TypedStmts, TypedExprs, block}
 use Rattle.type_check.specs.TypedExprView.{ty_of}
 use Rattle.mir_build.specs.Text.{Line, Makes, Turns, Owns, made}
-use Rattle.mir_build.specs.Lowering.{Around, binds, looping, at, at_head, head_of, whole, puts, put_unit, copied, moved, ends, dies_in, numbers, where_true, where_false, Into, of_integer, of_truth, of_variable, of_negative, of_denied, of_binary, of_lazy, of_assign, of_assign_value, of_update, of_update_value, of_call, of_block, of_branch, of_choice, of_repeat, Rest, of_done, of_last, of_bind, of_run, Args, of_none, of_more, IntoBody, of_outermost, of_other, is_block, named, named_rest, named_args, named_body}
+use Rattle.mir_build.specs.Lowering.{Around, binds, looping, at, at_head, head_of, whole, puts, put_unit, copied, moved, ends, dies_in, numbers, where_true, where_false, Into, of_integer, of_truth, of_variable, of_negative, of_denied, of_binary, of_lazy, of_assign}
+use Rattle.mir_build.specs.Lowering.{of_assign_value, of_update, of_update_value, of_call, of_block, of_branch, of_choice, of_repeat, Rest, of_done, of_last, of_bind, of_run, Args, of_none, of_more, IntoBody, of_outermost, of_other, is_block, named, named_rest, named_args, named_body}
 use Rattle.mir_build.specs.Numbered.{into, rest, args, body_text, labels, locals, locals_in, temporaries, label, local_of}
 use Rattle.mir_build.proofs.Numbers.{makings, making, args_making}
 use Rattle.mir_build.proofs.Order.{InOrder, numbers_of}

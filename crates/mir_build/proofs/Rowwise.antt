@@ -5,7 +5,8 @@ use Rattle.source_kinds.specs.declared.kinds.LazyOp.{LazyOp}
 use Rattle.source_kinds.specs.declared.kinds.LazyOp.TheVariants.{And, Or}
 use Rattle.type_check.specs.TypedExpr.{TypedExpr, TypedStmts, TypedExprs}
 use Rattle.mir_build.specs.Text.{Line}
-use Rattle.mir_build.specs.Lowering.{Around, where_true, where_false, Into, of_integer, of_truth, of_variable, of_negative, of_denied, of_binary, of_lazy, of_assign, of_assign_value, of_update, of_update_value, of_call, of_block, of_branch, of_choice, of_repeat, Rest, of_done, of_last, of_bind, of_run, Args, of_none, of_more, IntoBody, of_outermost, of_other, named, named_rest, named_args}
+use Rattle.mir_build.specs.Lowering.{Around, where_true, where_false, Into, of_integer, of_truth, of_variable, of_negative, of_denied, of_binary, of_lazy, of_assign, of_assign_value, of_update, of_update_value, of_call, of_block}
+use Rattle.mir_build.specs.Lowering.{of_branch, of_choice, of_repeat, Rest, of_done, of_last, of_bind, of_run, Args, of_none, of_more, IntoBody, of_outermost, of_other, named, named_rest, named_args}
 use Rattle.mir_build.specs.Numbered.{labels, labels_of, labels_in}
 use Rattle.mir_build.proofs.Following.{From, from_right, from_both}
 use Rattle.mir_build.proofs.Numbers.{turns, turns-append, no_turns}

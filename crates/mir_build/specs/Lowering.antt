@@ -1,7 +1,7 @@
 -- Lowering: a row for each form of expression, with any labels and temporaries, which a body has in the order of its rows: 0, 1 and so
 -- on. The order of evaluation is that of the Rust Reference: operands from the left, the right side of an assignment before its place,
 -- `&&` and `||` lazily.
-use Rattle.std.specs.Prelude.{◌≡◌, ℕ, ℤ, ◌+◌, ◌^◌, ◌<◌, ◌≤◌, max, Bool, true, false, List, [], ◌∷◌, ◌++◌, length, map, Some, None, slice_get}
+use Rattle.std.specs.Prelude.{◌≡◌, ℕ, ℤ, ◌+◌, ◌^◌, ◌<◌, ◌≤◌, Bool, true, false, List, [], ◌∷◌, ◌++◌, length, map, Some, None, slice_get}
 use Rattle.std.specs.List.{range_with_len}
 use Rattle.text_core.specs.declared.name.Name.{Name}
 use Rattle.text_core.specs.declared.span.Span.{Span}
@@ -12,7 +12,7 @@ use Rattle.source_kinds.specs.declared.kinds.IntKind.{IntKind}
 use Rattle.logic_term.specs.declared.kinds.Label.{Label}
 use Rattle.logic_term.specs.declared.obligation.Contract.{Contract}
 use Rattle.logic_term.specs.declared.subst.Replacement.{Replacement}
-use Rattle.logic_term.specs.Subst.{above, subst}
+use Rattle.logic_term.specs.Subst.{with_terms}
 use Rattle.logic_term.specs.Term.{Term, var, truth}
 use Rattle.logic_term.specs.Ty.{Ty}
 use Rattle.source_kinds.specs.declared.kinds.LazyOp.{LazyOp}
@@ -85,13 +85,6 @@ formula_span (Bad e) = e.span
 abbrev pub locals_for : ℕ → List ℕ → List Replacement
 locals_for k [] = []
 locals_for k (x ∷ xs) = record { name = variable_name k; by = var (local_name x) } ∷ locals_for (k + 1) xs
-
-abbrev pub above_all : List Replacement → ℕ
-above_all [] = 0
-above_all (e ∷ σ) = max (above e.by) (above_all σ)
-
-abbrev pub with_terms : List Replacement → Term → Term
-with_terms σ t = subst (max (above t) (above_all σ)) σ t
 
 -- the formula over the names of the locals
 abbrev pub at_locals : List ℕ → Term → Term

@@ -1,8 +1,9 @@
 //! What stands around an expression, and the invariants of a loop there.
-ghost use Rattle.std.specs.Prelude.{◌≡◌, map, max, IfOk};
+ghost use Rattle.std.specs.Prelude.{◌≡◌, map, IfOk};
 ghost use Rattle.mir_build.specs.Built.{around};
 ghost use Rattle.mir_build.specs.Numbered.{local_of};
-ghost use Rattle.mir_build.specs.Lowering.{local_name, formula, formula_span, locals_for, above_all, with_terms, head_of};
+ghost use Rattle.mir_build.specs.Lowering.{local_name, formula, formula_span, locals_for, head_of};
+ghost use Rattle.logic_term.specs.Subst.{with_terms};
 ghost use Rattle.type_check.specs.VariableNames.{variable_name, answer_name};
 
 use logic_term::{Label, Replacement, Term};
@@ -70,7 +71,7 @@ pub(crate) fn formula(alloc: Global, assertion: &Assertion) -> Result<Term, NoMe
     ensures { IfOk result (λ t. t ≡ formula assertion.now) }
 {
     match assertion {
-        Assertion::Good(_, term) => term.copy(alloc),
+        Assertion::Good(_, term) => term.share(),
         Assertion::Bad(_) => Term::truth(alloc, false),
     }
 }
@@ -101,26 +102,6 @@ fn locals_for(alloc: Global, scope: &[u32]) -> Result<Vec<Replacement>, NoMemory
     Ok(all)
 }
 
-/// One past the largest name in the terms.
-fn above_all(sub: &[Replacement]) -> Result<u64, NoMemory>
-    ensures { IfOk result (λ n. n ≡ above_all sub.now) }
-{
-    let mut most: u64 = 0;
-    for i in (0..sub.len()).rev() {
-        let here = sub[i].by.above()?;
-        most = here.max(most);
-    }
-    Ok(most)
-}
-
-fn with_terms(alloc: Global, sub: &[Replacement], term: &Term) -> Result<Term, NoMemory>
-    ensures { IfOk result (λ t. t ≡ with_terms sub.now term.now) }
-{
-    let own = term.above()?;
-    let others = above_all(sub)?;
-    term.subst(alloc, own.max(others), &[], sub)
-}
-
 fn formula_with_terms(
     alloc: Global,
     sub: &[Replacement],
@@ -129,7 +110,7 @@ fn formula_with_terms(
     ensures { IfOk result (λ t. t ≡ with_terms sub.now (formula assertion.now)) }
 {
     let term = formula(alloc, assertion)?;
-    with_terms(alloc, sub, &term)
+    term.with(alloc, sub)
 }
 
 fn formulas_with_terms(

@@ -1,5 +1,6 @@
 -- Progress and preservation: a proper call of typed, initialised bodies is never stuck.
-use Rattle.std.proofs.Common.{◌≡◌, ◌∙◌, ◌⊎◌, inl, inr, ⊎_elim, refl, sym, ap, subst, ℕ, zero, suc, ◌+◌, ◌-◌, ◌<◌, ◌≤◌, ◌==◌, nat_lt, ◌&&◌, ℤ, pos, negsuc, neg_ℤ, unsigned_abs, ◌%◌, ◌+ℤ◌, ◌-ℤ◌, ◌*ℤ◌, int_div, int_rem, Bool, true, false, cond, List, [], ◌∷◌, ◌++◌, length, take, drop, replicate, Option, Some, None, slice_get, slice_set, eq-eqb, ne_eqb, arith}
+use Rattle.std.proofs.Common.{◌≡◌, ◌∙◌, ◌⊎◌, inl, inr, ⊎_elim, refl, sym, ap, subst, ℕ, zero, suc, ◌+◌, ◌-◌, ◌<◌, ◌≤◌, ◌==◌, nat_lt, ◌&&◌, ℤ, pos, negsuc, neg_ℤ, unsigned_abs, ◌%◌}
+use Rattle.std.proofs.Common.{◌+ℤ◌, ◌-ℤ◌, ◌*ℤ◌, int_div, int_rem, Bool, true, false, cond, List, [], ◌∷◌, ◌++◌, length, take, drop, replicate, Option, Some, None, slice_get, slice_set, eq-eqb, ne_eqb, arith}
 use Rattle.std.proofs.lemmas.Bool.{eqb-true, ltb-true}
 use Rattle.std.proofs.lemmas.List.{length-append, length-replicate, length-take, length-drop}
 use Rattle.std.proofs.lemmas.Option.{slice_get_within}
@@ -43,8 +44,10 @@ use Rattle.mir_machine.specs.Frame.{Frame, State}
 use Rattle.mir_ir.specs.Body.{block_in, whole, place_ty, kind_of, kind_in, answer_ty}
 use Rattle.mir_machine.specs.Memory.{is_there}
 use Rattle.mir_machine.specs.Step.{try_step, fit, divide, of_integers, of_truths, binary, negated, inverted, truth_of, literal, callee_frame, Outcome, Running, Returned, Panicked, Stuck, outcome_of, step, next, after_from, after, entered, come_back}
-use Rattle.mir_machine.specs.FrameStep.{IsWhole, ReadsWholes, NamesWholes, AreWhole, EndNamesWholes, AllNameWholes, Left, local_tree, take_operand, take_operands, evaluate, put_local, run_local, FrameEnd, Stays, Calls, Answers, starting, frame_end, frame_row, frame_step, settled, frame_block, resumed_at, resumed}
-use Rattle.mir_ir.specs.WellFormed.{PlaceHas, LitHas, OperandHas, OperandsHave, operation_ty, IsEquality, OperationHas, RvalueHas, StatementIsTyped, EndIsTyped, IsTyped, Locals, without, with, CanTake, taken, CanTakeAll, all_taken, CanEvaluate, evaluated, CanRun, run, CanEnd, Carries, Within, parameters, AreSound}
+use Rattle.mir_machine.specs.FrameStep.{IsWhole, ReadsWholes, NamesWholes, AreWhole, EndNamesWholes, AllNameWholes, Left, local_tree, take_operand, take_operands, evaluate, put_local, run_local}
+use Rattle.mir_machine.specs.FrameStep.{FrameEnd, Stays, Calls, Answers, starting, frame_end, frame_row, frame_step, settled, frame_block, resumed_at, resumed}
+use Rattle.mir_ir.specs.WellFormed.{PlaceHas, LitHas, OperandHas, OperandsHave, operation_ty, IsEquality, OperationHas, RvalueHas, StatementIsTyped, EndIsTyped, IsTyped, Locals, without, with}
+use Rattle.mir_ir.specs.WellFormed.{CanTake, taken, CanTakeAll, all_taken, CanEvaluate, evaluated, CanRun, run, CanEnd, Carries, Within, parameters, AreSound}
 use Rattle.mir_machine.specs.Typed.{Met, Typed, AreTyped, is_int, is_truth, is_tuple, is_adt, is_closure, is_boxed, is_shared, is_unique, none_typed, more_typed}
 use Rattle.mir_machine.specs.Good.{called, IsProper}
 use Rattle.mir_machine.specs.Run.{IsSafe}
@@ -318,7 +321,8 @@ inverted_goes : {K : Type 0} (t : Tree K) → Shape bool t → Goes (Shape {K = 
 inverted_goes {K} t (there, (b, is)) = subst (λ w. Goes (Shape {K = K} bool) (inverted w)) (sym is) (refl, (_, refl))
 
 -- one operand, and what is made of its tree
-unary_goes : {K : Type 0} (b : Body) (θ : Tys) (set : Locals) (ls : List (Tree K)) (o : Operand) (s ty : Ty) (make : Tree K → Try (Tree K)) → Fits b θ set ls → OperandHas b o s → CanTake set o → ((t : Tree K) → Shape (instance θ s) t → Goes (Shape (instance θ ty)) (make t)) → Goes (Keeps b θ (taken o set) ty) (take_operand ls o >>= λ l. make l.1 >>= λ t. Yields (l.0, t))
+unary_goes : {K : Type 0} (b : Body) (θ : Tys) (set : Locals) (ls : List (Tree K)) (o : Operand) (s ty : Ty) (make : Tree K → Try (Tree K)) → Fits b θ set ls → OperandHas b o s → CanTake set o
+    → ((t : Tree K) → Shape (instance θ s) t → Goes (Shape (instance θ ty)) (make t)) → Goes (Keeps b θ (taken o set) ty) (take_operand ls o >>= λ l. make l.1 >>= λ t. Yields (l.0, t))
 unary_goes {K} b θ set ls o s ty make h has can go =
     goes_then (Keeps b θ (taken o set) s) (Keeps b θ (taken o set) ty) (take_operand ls o) (λ l. make l.1 >>= λ t. Yields (l.0, t)) (take_goes b θ set ls o s h has can)
     (λ l kept. goes_then (Shape (instance θ ty)) (Keeps b θ (taken o set) ty) (make l.1) (λ t. Yields (l.0, t)) (go l.1 kept.1) (λ t shape. (kept.0, shape)))
@@ -499,7 +503,8 @@ EndsWell bodies sound n (Stays f) = Ready bodies sound f × (f.function ≡ n)
 EndsWell bodies sound n (Calls f g) = Ready bodies sound g × Waits bodies sound f g.function × (f.function ≡ n)
 EndsWell bodies sound n (Answers t) = IsAnswer bodies n t
 
-ready_entered : {K : Type 0} (bodies : List Body) (sound : AreSound bodies) (n : ℕ) (b : Body) (args : List (Tree K)) → slice_get bodies n ≡ Some b → (length args ≡ length (take b.params (drop 1 b.locals))) × AreShaped no_tys args (take b.params (drop 1 b.locals)) → Ready bodies sound (entered b n no_tys args)
+ready_entered : {K : Type 0} (bodies : List Body) (sound : AreSound bodies) (n : ℕ) (b : Body) (args : List (Tree K)) → slice_get bodies n ≡ Some b
+    → (length args ≡ length (take b.params (drop 1 b.locals))) × AreShaped no_tys args (take b.params (drop 1 b.locals)) → Ready bodies sound (entered b n no_tys args)
 ready_entered bodies sound n b args is_body of_args =
     let both = sound n b is_body in
     record {
@@ -513,7 +518,8 @@ ready_entered bodies sound n b args is_body of_args =
     }
 
 -- the frame goes on at the start of a block
-ready_starting : {K : Type 0} (bodies : List Body) (sound : AreSound bodies) (f : Frame K) (b : Body) (is_body : slice_get bodies f.function ≡ Some b) (set : Locals) (ls : List (Tree K)) (l : Label) → f.types ≡ no_tys → ((k : Block) × (block_in b.blocks l ≡ Some k)) → Within ((sound f.function b is_body).1.at l 0) set → Fits b f.types set ls → Ready bodies sound (starting f ls l)
+ready_starting : {K : Type 0} (bodies : List Body) (sound : AreSound bodies) (f : Frame K) (b : Body) (is_body : slice_get bodies f.function ≡ Some b) (set : Locals) (ls : List (Tree K)) (l : Label) → f.types ≡ no_tys
+    → ((k : Block) × (block_in b.blocks l ≡ Some k)) → Within ((sound f.function b is_body).1.at l 0) set → Fits b f.types set ls → Ready bodies sound (starting f ls l)
 ready_starting bodies sound f b is_body set ls l ground leads within h = record {
   body = b;
   is_body = is_body;
@@ -555,7 +561,8 @@ module _ {K : Type 0} (bodies : List Body) (sound : AreSound bodies) (f : Frame 
   goto_goes : (l : Label) → Fits r.body f.types end_set f.locals → EndIsTyped bodies r.body (Goto l) → Carries (λ l'. (sound f.function r.body r.is_body).1.at l' 0) end_set (Goto l) → Goes Well (frame_end bodies f (Goto l))
   goto_goes l h typed carries = (ready_starting bodies sound f r.body r.is_body end_set f.locals l r.ground typed carries h, refl)
 
-  if_goes : (o : Operand) (on_true on_false : Label) → Fits r.body f.types end_set f.locals → EndIsTyped bodies r.body (If o on_true on_false) → CanEnd end_set (If o on_true on_false) → Carries (λ l'. (sound f.function r.body r.is_body).1.at l' 0) end_set (If o on_true on_false) → Goes Well (frame_end bodies f (If o on_true on_false))
+  if_goes : (o : Operand) (on_true on_false : Label) → Fits r.body f.types end_set f.locals → EndIsTyped bodies r.body (If o on_true on_false) → CanEnd end_set (If o on_true on_false)
+      → Carries (λ l'. (sound f.function r.body r.is_body).1.at l' 0) end_set (If o on_true on_false) → Goes Well (frame_end bodies f (If o on_true on_false))
   if_goes o on_true on_false h typed can carries =
       goes_then (Keeps r.body f.types (taken o end_set) bool) Well (take_operand f.locals o) (λ l. truth_of l.1 >>= λ b. Yields (Stays (starting f l.0 (cond b on_true on_false)))) (take_goes r.body f.types end_set f.locals o bool h typed.0 can)
       (λ l kept. branch l.0 l.1 kept.0 kept.1)
@@ -567,7 +574,8 @@ module _ {K : Type 0} (bodies : List Body) (sound : AreSound bodies) (f : Frame 
       branch : (ls : List (Tree K)) (t : Tree K) → Fits r.body f.types (taken o end_set) ls → Shape bool t → Goes Well (truth_of t >>= λ b. Yields (Stays (starting f ls (cond b on_true on_false))))
       branch ls t fits (there, (b, is)) = subst (λ u. Goes Well (truth_of u >>= λ c. Yields (Stays (starting f ls (cond c on_true on_false))))) (sym is) (to b ls fits, refl)
 
-  call_goes : (p : Place) (n : ℕ) (os : List Operand) (l : Label) → r.block.end.kind ≡ Call p (Function (fn_id.Body n)) os l → Fits r.body f.types end_set f.locals → EndIsTyped bodies r.body (Call p (Function (fn_id.Body n)) os l) → CanTakeAll end_set os → Goes Well (frame_end bodies f (Call p (Function (fn_id.Body n)) os l))
+  call_goes : (p : Place) (n : ℕ) (os : List Operand) (l : Label) → r.block.end.kind ≡ Call p (Function (fn_id.Body n)) os l → Fits r.body f.types end_set f.locals → EndIsTyped bodies r.body (Call p (Function (fn_id.Body n)) os l)
+      → CanTakeAll end_set os → Goes Well (frame_end bodies f (Call p (Function (fn_id.Body n)) os l))
   call_goes p n os l is h ((c, t, is_callee, have, first, place), leads) can =
       let tys : List Ty = take c.params (drop 1 c.locals) in
       goes_then (AreArguments r.body f.types (all_taken os end_set) tys) Well (take_operands f.locals os) (λ a. callee_frame bodies (Function (fn_id.Body n)) a.1 >>= λ g. Yields (Calls (record f { locals = a.0 }) g))
@@ -731,7 +739,8 @@ never_stuck Θ bodies sound f θ args held b met proper n =
     alive_free bodies sound f (after bodies n (called b f θ args held)) (call_alive Θ bodies sound f θ args held b met proper n)
 
 -- its answer has the shape of the answer's type
-pub answer_shape : {K : Type 0} (Θ : Theory) (bodies : List Body) → AreSound bodies → (f : ℕ) (θ : Tys) (args held : List (Tree K)) (b : Body) (met : List Met) → IsProper Θ bodies f θ args held b met → (n : ℕ) (s : State K) (t : Tree K) → after bodies n (called b f θ args held) ≡ Returned s t → Shape (answer_ty b θ) t
+pub answer_shape : {K : Type 0} (Θ : Theory) (bodies : List Body) → AreSound bodies → (f : ℕ) (θ : Tys) (args held : List (Tree K)) (b : Body) (met : List Met) → IsProper Θ bodies f θ args held b met → (n : ℕ) (s : State K) (t : Tree K)
+    → after bodies n (called b f θ args held) ≡ Returned s t → Shape (answer_ty b θ) t
 answer_shape Θ bodies sound f θ args held b met proper n s t e =
     let (c, is_c, shape) = subst (Alive bodies sound f) e (call_alive Θ bodies sound f θ args held b met proper n) in
     subst (λ types. Shape (answer_ty b types) t) (sym (no_types_for_none θ proper.ground)) (subst (λ d. Shape (answer_ty d no_tys) t) (some_same (sym is_c ∙ proper.of)) shape)

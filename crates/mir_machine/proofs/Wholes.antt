@@ -25,7 +25,8 @@ use Rattle.mir_machine.specs.Frame.{Frame, State}
 use Rattle.mir_ir.specs.Body.{block_in, place_ty, kind_in}
 use Rattle.mir_machine.specs.Memory.{frame_at, set_frame, is_there, read, write}
 use Rattle.mir_machine.specs.Step.{operand, operands, rvalue, binary, negated, inverted, truth_of, whole, statement_step, callee_frame, answered, leave, end_step, row, try_step, Taken, Outcome, Running, come_back, past, at_label}
-use Rattle.mir_machine.specs.FrameStep.{IsWhole, AreWhole, ReadsWholes, NamesWholes, EndNamesWholes, AllNameWholes, Left, local_tree, take_operand, take_operands, evaluate, put_local, run_local, FrameEnd, Stays, Calls, Answers, starting, call_end, frame_end, frame_row, frame_step, settled, resumed_at, resumed}
+use Rattle.mir_machine.specs.FrameStep.{IsWhole, AreWhole, ReadsWholes, NamesWholes, EndNamesWholes, AllNameWholes, Left, local_tree, take_operand, take_operands, evaluate, put_local, run_local}
+use Rattle.mir_machine.specs.FrameStep.{FrameEnd, Stays, Calls, Answers, starting, call_end, frame_end, frame_row, frame_step, settled, resumed_at, resumed}
 
 -- ---- one part of a step after another
 
@@ -262,7 +263,8 @@ end-whole bodies f fs (If o on_true on_false) e = if-whole bodies f fs o on_true
 end-whole bodies f fs (Call p callee os l) e = call-whole bodies f fs p callee os l e.1
 end-whole bodies f fs Return e = leave-whole bodies f fs
 
-row-whole : {K : Type 0} (bodies : List Body) (b : Body) (f : Frame K) (fs : State K) (end : Terminator) (o : Option Statement) → ((st : Statement) → o ≡ Some st → NamesWholes st.kind) → EndNamesWholes end.kind → row bodies b f.types (f ∷ fs) end o ≡ (frame_row bodies b f end o >>= settled bodies fs)
+row-whole : {K : Type 0} (bodies : List Body) (b : Body) (f : Frame K) (fs : State K) (end : Terminator) (o : Option Statement) → ((st : Statement) → o ≡ Some st → NamesWholes st.kind) → EndNamesWholes end.kind
+    → row bodies b f.types (f ∷ fs) end o ≡ (frame_row bodies b f end o >>= settled bodies fs)
 row-whole {K} bodies b f fs end (Some st) whole ends =
     ap (λ (m : Try (State K)). m >>= go_on) (statement_step-whole b f.types f fs st.span st.kind (whole st refl))
     ∙ then_then (run_local b f.types f.locals st.span st.kind) (λ ls. Yields (moved_on f ls ∷ fs)) go_on

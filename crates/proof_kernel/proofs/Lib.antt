@@ -1,10 +1,12 @@
 pub mod AcceptLaw
+pub mod Adds
 pub mod Conjuncts
 pub mod Derived
 pub mod Found
 pub mod IntRing
 pub mod IntroLaw
 pub mod KernelLaw
+pub mod Labels
 pub mod LinLemmas
 pub mod LinSound
 pub mod LinSteps

@@ -12,25 +12,26 @@ use Rattle.proof_kernel.specs.declared.step.Step.TheVariants.{Intro, Hyp, Split,
 use Rattle.proof_kernel.specs.declared.step.Multiple.{Multiple}
 use Rattle.proof_kernel.specs.Linear.{Difference, referred, AreRows, AreNarrow, Certifies, PassesWidth}
 use Rattle.proof_kernel.specs.Rules.{label, hypothesis, sort_of, with_goal, assuming, declaring, conjuncts, ranged, Intros, stop, by_premise, by_variable, TakesSome}
+use Rattle.proof_kernel.specs.Setting.{Setting}
 use Rattle.proof_kernel.specs.Progress.{Progress}
 use Rattle.proof_kernel.specs.Derivation.{Gives, by_intro, by_hyp, by_split, by_range, by_lin}
 use Rattle.proof_kernel.specs.Kernel.{Applies, IsWide}
 use Rattle.proof_kernel.proofs.IntroLaw.{premise_step, variable_step, stop_step}
 
 -- what a step gives, by the kind of the step
-abbrev pub Given : ℕ → Sequent → Step → List Sequent → Type 0
-Given s q (Intro names) ps = TakesSome names q × ((r : Sequent) × Intros s 1 names q r × (ps ≡ r ∷ []))
-Given s q (Hyp l) ps = (ps ≡ []) × ((h : Term) × (hypothesis l q.hyps ≡ Some h) × SameUpToNames h q.goal)
-Given s q Split ps = (is_conjunction q.goal ≡ true) × (ps ≡ map (with_goal q) (conjuncts q.goal))
-Given s q (Range x) ps = (k : IntKind) × (sort_of x q.vars ≡ Some (int k)) × (ps ≡ ranged s k x q ∷ [])
-Given s q (Lin ms) ps = (ps ≡ []) × Certifies q ms
+abbrev pub Given : Setting → ℕ → Sequent → Step → List Sequent → Type 0
+Given w s q (Intro names) ps = TakesSome names q × ((r : Sequent) × Intros s 1 names q r × (ps ≡ r ∷ []))
+Given w s q (Hyp l) ps = (ps ≡ []) × ((h : Term) × (hypothesis l q.hyps ≡ Some h) × SameUpToNames h q.goal)
+Given w s q Split ps = (is_conjunction q.goal ≡ true) × (ps ≡ map (with_goal q) (conjuncts q.goal))
+Given w s q (Range x) ps = (k : IntKind) × (sort_of x q.vars ≡ Some (int k)) × (ps ≡ ranged s k x q ∷ [])
+Given w s q (Lin ms) ps = (ps ≡ []) × Certifies q ms
 
-pub given : (s : ℕ) (q : Sequent) (step : Step) (ps : List Sequent) → Gives s q step ps → Given s q step ps
-given s q step ps (by_intro {r = r} some i) = (some, (r, i, refl))
-given s q step ps (by_hyp {h = h} e same) = (refl, (h, e, same))
-given s q step ps (by_split e) = (e, refl)
-given s q step ps (by_range {k = k} e) = (k, e, refl)
-given s q step ps (by_lin c) = (refl, c)
+pub given : (w : Setting) (s : ℕ) (q : Sequent) (step : Step) (ps : List Sequent) → Gives w s q step ps → Given w s q step ps
+given w s q step ps (by_intro {r = r} some i) = (some, (r, i, refl))
+given w s q step ps (by_hyp {h = h} e same) = (refl, (h, e, same))
+given w s q step ps (by_split e) = (e, refl)
+given w s q step ps (by_range {k = k} e) = (k, e, refl)
+given w s q step ps (by_lin c) = (refl, c)
 
 -- ---- each is one
 
@@ -45,15 +46,15 @@ intros_once s k names q r p (by_variable {x = x} {y = y} {names = rest} {t = t} 
 same_kind : (o : Option Ty) (k l : IntKind) → o ≡ Some (int k) → o ≡ Some (int l) → k ≡ l
 same_kind o k l e f = cc
 
-once : (s : ℕ) (q : Sequent) (step : Step) (ps rs : List Sequent) → Given s q step ps → Given s q step rs → ps ≡ rs
-once s q (Intro names) ps rs g h = g.1.2 ∙ (ap (λ r. r ∷ []) (intros_once s 1 names q h.1.0 g.1.0 h.1.1 g.1.1) ∙ sym h.1.2)
-once s q (Hyp l) ps rs g h = g.0 ∙ sym h.0
-once s q Split ps rs g h = g.1 ∙ sym h.1
-once s q (Range x) ps rs g h = g.2 ∙ (ap (λ k. ranged s k x q ∷ []) (same_kind (sort_of x q.vars) g.0 h.0 g.1 h.1) ∙ sym h.2)
-once s q (Lin ms) ps rs g h = g.0 ∙ sym h.0
+once : (w : Setting) (s : ℕ) (q : Sequent) (step : Step) (ps rs : List Sequent) → Given w s q step ps → Given w s q step rs → ps ≡ rs
+once w s q (Intro names) ps rs g h = g.1.2 ∙ (ap (λ r. r ∷ []) (intros_once s 1 names q h.1.0 g.1.0 h.1.1 g.1.1) ∙ sym h.1.2)
+once w s q (Hyp l) ps rs g h = g.0 ∙ sym h.0
+once w s q Split ps rs g h = g.1 ∙ sym h.1
+once w s q (Range x) ps rs g h = g.2 ∙ (ap (λ k. ranged s k x q ∷ []) (same_kind (sort_of x q.vars) g.0 h.0 g.1 h.1) ∙ sym h.2)
+once w s q (Lin ms) ps rs g h = g.0 ∙ sym h.0
 
-pub gives_once : (s : ℕ) (q : Sequent) (step : Step) (ps rs : List Sequent) → Gives s q step ps → Gives s q step rs → ps ≡ rs
-gives_once s q step ps rs g h = once s q step ps rs (given s q step ps g) (given s q step rs h)
+pub gives_once : (w : Setting) (s : ℕ) (q : Sequent) (step : Step) (ps rs : List Sequent) → Gives w s q step ps → Gives w s q step rs → ps ≡ rs
+gives_once w s q step ps rs g h = once w s q step ps rs (given w s q step ps g) (given w s q step rs h)
 
 same_first : (q r : Sequent) (qs rs : List Sequent) → q ∷ qs ≡ r ∷ rs → (q ≡ r) × (qs ≡ rs)
 same_first q r qs rs e = (cc, cc)
@@ -61,10 +62,10 @@ same_first q r qs rs e = (cc, cc)
 pub applies_once : (before after other : Progress) (step : Step) → Applies before step after → Applies before step other → after ≡ other
 applies_once before after other step a b =
     let parts = same_first a.first b.first a.others b.others (sym a.was ∙ b.was) in
-    let gives : Gives before.step b.first step a.premises = subst (λ q. Gives before.step q step a.premises) parts.0 a.gives in
-    let premises : a.premises ≡ b.premises = gives_once before.step b.first step a.premises b.premises gives b.gives in
+    let gives : Gives before.setting before.step b.first step a.premises = subst (λ q. Gives before.setting before.step q step a.premises) parts.0 a.gives in
+    let premises : a.premises ≡ b.premises = gives_once before.setting before.step b.first step a.premises b.premises gives b.gives in
     let left : a.premises ++ a.others ≡ b.premises ++ b.others = cc in
-    let whole : List Sequent → Progress = λ qs. record { step = before.step + 1; left = qs } in
+    let whole : List Sequent → Progress = λ qs. record before { step = before.step + 1; left = qs } in
     a.is ∙ (ap whole left ∙ sym b.is)
 
 -- ---- a certificate that closes is not too wide
@@ -86,15 +87,15 @@ rows_once q (m ∷ ms) (d ∷ ds) (e ∷ es) a b =
 closed_is_narrow : (q : Sequent) (ms : List Multiple) → Certifies q ms → PassesWidth q ms → ⊥
 closed_is_narrow q ms c p = p.wide (subst (λ ds. AreNarrow ds ms) (sym (rows_once q ms c.rows p.rows c.are_rows p.are_rows)) c.narrow)
 
-given_is_narrow : (s : ℕ) (q : Sequent) (step : Step) (ps : List Sequent) (ms : List Multiple) → step ≡ Lin ms → Given s q step ps → PassesWidth q ms → ⊥
-given_is_narrow s q (Intro names) ps ms e g p = absurd (cc)
-given_is_narrow s q (Hyp l) ps ms e g p = absurd (cc)
-given_is_narrow s q Split ps ms e g p = absurd (cc)
-given_is_narrow s q (Range x) ps ms e g p = absurd (cc)
-given_is_narrow s q (Lin ns) ps ms e g p = let same : ns ≡ ms = cc in closed_is_narrow q ms (subst (λ l. Certifies q l) same g.1) p
+given_is_narrow : (w : Setting) (s : ℕ) (q : Sequent) (step : Step) (ps : List Sequent) (ms : List Multiple) → step ≡ Lin ms → Given w s q step ps → PassesWidth q ms → ⊥
+given_is_narrow w s q (Intro names) ps ms e g p = absurd (cc)
+given_is_narrow w s q (Hyp l) ps ms e g p = absurd (cc)
+given_is_narrow w s q Split ps ms e g p = absurd (cc)
+given_is_narrow w s q (Range x) ps ms e g p = absurd (cc)
+given_is_narrow w s q (Lin ns) ps ms e g p = let same : ns ≡ ms = cc in closed_is_narrow q ms (subst (λ l. Certifies q l) same g.1) p
 
 pub wide_is_not_done : (before after : Progress) (step : Step) → IsWide before step → Applies before step after → ⊥
 wide_is_not_done before after step w a =
     let parts = same_first a.first w.first a.others w.others (sym a.was ∙ w.was) in
-    let gives : Gives before.step w.first step a.premises = subst (λ q. Gives before.step q step a.premises) parts.0 a.gives in
-    given_is_narrow before.step w.first step a.premises w.multiples w.is_lin (given before.step w.first step a.premises gives) w.passes
+    let gives : Gives before.setting before.step w.first step a.premises = subst (λ q. Gives before.setting before.step q step a.premises) parts.0 a.gives in
+    given_is_narrow before.setting before.step w.first step a.premises w.multiples w.is_lin (given before.setting before.step w.first step a.premises gives) w.passes

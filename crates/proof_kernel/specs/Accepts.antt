@@ -1,8 +1,10 @@
 -- Which steps the kernel accepts as a proof.
 use Rattle.std.specs.Prelude.{◌≡◌, ℕ, suc, true, List, [], ◌∷◌}
 use Rattle.logic_term.specs.declared.obligation.Obligation.{Obligation}
+use Rattle.proof_kernel.specs.declared.setting.Tables.{Tables}
 use Rattle.proof_kernel.specs.declared.step.Step.{Step}
 use Rattle.proof_kernel.specs.Sequent.{sequent_of}
+use Rattle.proof_kernel.specs.Setting.{setting_of}
 use Rattle.proof_kernel.specs.Progress.{Progress}
 use Rattle.proof_kernel.specs.Kernel.{Applies, cites_above}
 
@@ -17,13 +19,13 @@ pub data Runs : Progress → List Step → Progress → Type 0 where
   more : {k m l : Progress} {step : Step} {steps : List Step} → Does k step m → Runs m steps l → Runs k (step ∷ steps) l
 
 -- the proof of the obligation before its first step
-abbrev pub begun : Obligation → Progress
-begun o = record { step = 1; left = sequent_of o ∷ [] }
+abbrev pub begun : Tables → Obligation → Progress
+begun T o = record { setting = setting_of T o; step = 1; left = sequent_of o ∷ [] }
 
 -- the kernel does all steps, and no sequent is left
-pub record Accepts (o : Obligation) (steps : List Step) : Type 0 where
+pub record Accepts (T : Tables) (o : Obligation) (steps : List Step) : Type 0 where
   pub last : Progress
-  pub runs : Runs (begun o) steps last
+  pub runs : Runs (begun T o) steps last
   pub closed : last.left ≡ []
 
 -- from there so many steps are done, and then comes one that cannot be; or all are done, and a sequent is left
@@ -33,5 +35,5 @@ pub data RefusesFrom : Progress → List Step → ℕ → Type 0 where
   «open» : {k : Progress} → (k.left ≡ [] → ⊥) → RefusesFrom k [] 0
 
 -- the kernel does so many of the steps and refuses what follows them: a step, or the end
-abbrev pub Refuses : Obligation → List Step → ℕ → Type 0
-Refuses o steps n = RefusesFrom (begun o) steps n
+abbrev pub Refuses : Tables → Obligation → List Step → ℕ → Type 0
+Refuses T o steps n = RefusesFrom (begun T o) steps n

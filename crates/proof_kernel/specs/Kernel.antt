@@ -4,14 +4,13 @@ use Rattle.std.specs.List.{list_all}
 use Rattle.logic_term.specs.declared.kinds.Label2.{Label2}
 use Rattle.proof_kernel.specs.declared.sequent.Sequent.{Sequent}
 use Rattle.proof_kernel.specs.declared.step.Multiple.{Multiple}
-use Rattle.proof_kernel.specs.declared.step.Reference.{Reference}
-use Rattle.proof_kernel.specs.declared.step.Reference.TheVariants.{Goal, Hyp as Of, Back}
 use Rattle.proof_kernel.specs.declared.step.Step.{Step}
-use Rattle.proof_kernel.specs.declared.step.Step.TheVariants.{Intro, Hyp, Split, Range, Lin}
+use Rattle.proof_kernel.specs.declared.step.Step.TheVariants.{Lin}
 use Rattle.proof_kernel.specs.declared.kernel.StepError.{StepError}
 use Rattle.proof_kernel.specs.declared.kernel.StepError.TheVariants.{NoMemory}
 use Rattle.proof_kernel.specs.Progress.{Progress}
 use Rattle.proof_kernel.specs.Derivation.{Gives}
+use Rattle.proof_kernel.specs.Steps.{labels_of}
 use Rattle.proof_kernel.specs.Linear.{PassesWidth}
 
 abbrev pub first_of : List Sequent → Option Sequent
@@ -24,28 +23,16 @@ pub record Applies (before : Progress) (step : Step) (after : Progress) : Type 0
   pub others : List Sequent
   pub premises : List Sequent
   pub was : before.left ≡ first ∷ others
-  pub gives : Gives before.step first step premises
-  pub is : after ≡ record { step = before.step + 1; left = premises ++ others }
+  pub gives : Gives before.setting before.step first step premises
+  pub is : after ≡ record before { step = before.step + 1; left = premises ++ others }
 
 -- the label is of a step above the one with this number
 abbrev pub is_above : ℕ → Label2 → Bool
 is_above s l = nat_lt 0 l.step && nat_lt l.step s
 
-abbrev pub is_reference_above : ℕ → Reference → Bool
-is_reference_above s Goal = true
-is_reference_above s (Of l) = is_above s l
-is_reference_above s (Back l) = is_above s l
-
-abbrev pub are_above : ℕ → List Multiple → Bool
-are_above s ms = list_all (λ m. is_reference_above s m.of) ms
-
 -- each step that the step with this number cites is above it
 abbrev pub cites_above : ℕ → Step → Bool
-cites_above s (Intro names) = true
-cites_above s (Hyp l) = is_above s l
-cites_above s Split = true
-cites_above s (Range x) = true
-cites_above s (Lin ms) = are_above s ms
+cites_above s step = list_all (is_above s) (labels_of step)
 
 -- a number of the step's certificate passes 128 bits at the first sequent
 pub record IsWide (before : Progress) (step : Step) : Type 0 where

@@ -11,5 +11,8 @@ pub mod Made
 pub mod Polynomial
 pub mod PolynomialCode
 pub mod Progress
+pub mod ProgressCode
 pub mod Rules
 pub mod Sequent
+pub mod Setting
+pub mod Steps

@@ -1,23 +1,23 @@
-ghost use Rattle.std.specs.Prelude.{◌≡◌, ◌↔◌, ℕ, ◌+◌, ◌<◌, ◌^◌, ◌∷◌, ◌++◌, [], true, false, reverse, IfOk, OnOk, OnErr, IsTrue, Ok, Err};
+ghost use Rattle.std.specs.Prelude.{◌≡◌, ◌↔◌, ℕ, ◌+◌, ◌<◌, ◌^◌, ◌∷◌, ◌++◌, [], false, true, reverse, IfOk, OnOk, OnErr, IsTrue, Ok, Err};
+ghost use Rattle.std.specs.List.{list_all};
 ghost use Rattle.std.specs.Option.{option_copied};
 ghost use Rattle.proof_kernel.specs.declared.step.Step.TheVariants as kinds;
-ghost use Rattle.proof_kernel.specs.Sequent.{sequent_of};
-ghost use Rattle.proof_kernel.specs.Kernel.{Applies, CanBeDone, FitsNoRule, IsTooWide, IsWide, NothingApplies, UnlessNoMemory, first_of, is_above, is_reference_above, are_above, cites_above};
+ghost use Rattle.proof_kernel.specs.Accepts.{begun};
+ghost use Rattle.proof_kernel.specs.Kernel.{Applies, CanBeDone, FitsNoRule, IsTooWide, IsWide, NothingApplies, UnlessNoMemory, first_of, is_above, cites_above};
 ghost use Rattle.proof_kernel.specs.Made.{IsMade, IsMadeFirst, others_of};
+ghost use Rattle.proof_kernel.specs.Setting.{setting};
+ghost use Rattle.proof_kernel.specs.Steps.{labels_in};
 
 use crate::linear::{LinAnswer, certifies};
 use crate::rules::{intro, is_hypothesis, range, split};
 use crate::sequent::Sequent;
+use crate::setting::{Scope, Tables};
 use crate::step::{Multiple, Reference, Step};
 use logic_term::{Label2, Obligation};
 use std::alloc::Global;
 use std::marker::Model;
 use text_core::{Items, Name, NoMemory};
 use thiserror::Error;
-
-/// What proofs may cite besides hypotheses: nothing so far.
-#[derive(Clone, Copy)]
-pub struct Tables;
 
 /// Why a step is refused. `step` is the number of the refused step.
 #[derive(Clone, Copy, Debug, Error)]
@@ -46,25 +46,27 @@ impl From<NoMemory> for StepError {
     }
 }
 
-/// A proof under way: the number of the next step, from 1, and the sequents that are left, the first one first.
+/// A proof under way: what it is about, the number of the next step, from 1, and the sequents that are left, the first one first.
 #[derive(Drop)]
-pub struct Kernel {
+pub struct Kernel<'a> {
+    scope: Scope<'a>,
     step: u32,
     /// The first sequent stands last.
     stack: Vec<Sequent>,
 }
 
-impl Model for Kernel {
-    ghost use Rattle.std.specs.Prelude.{reverse};
-    ghost use Rattle.std.specs.Coded.{codes};
+impl<'a> Model for Kernel<'a> {
     ghost use Rattle.proof_kernel.specs.Progress.{Progress};
-    ghost use Rattle.proof_kernel.specs.contracts.sequent.Sequent as sequents;
+    ghost use Rattle.proof_kernel.specs.ProgressCode.{coded_progress};
 
     ghost Value = { Progress };
 
-    ghost coded = { Prim.hlevel (codes, sequents.the_row.coded) };
+    ghost coded = { coded_progress };
 
-    ghost view = { λ k. record { step = k.step; left = reverse k.stack.items } };
+    ghost use Rattle.std.specs.Prelude.{reverse};
+    ghost use Rattle.proof_kernel.specs.Setting.{setting};
+
+    ghost view = { λ k. record { setting = setting k.scope; step = k.step; left = reverse k.stack.items } };
 }
 
 fn is_label_above(step: u32, label: Label2) -> bool
@@ -74,7 +76,7 @@ fn is_label_above(step: u32, label: Label2) -> bool
 }
 
 fn is_in_order(step: u32, reference: Reference) -> bool
-    ensures { result ≡ is_reference_above step reference }
+    ensures { result ≡ list_all (is_above step) (labels_in reference) }
 {
     match reference {
         Reference::Goal => true,
@@ -84,7 +86,7 @@ fn is_in_order(step: u32, reference: Reference) -> bool
 }
 
 fn are_in_order(step: u32, multiples: &[Multiple]) -> bool
-    ensures { result ≡ are_above step multiples.now }
+    ensures { result ≡ list_all (λ m. list_all (is_above step) (labels_in m.of)) multiples.now }
 {
     multiples.iter().all(|m| is_in_order(step, m.of))
 }
@@ -118,8 +120,14 @@ fn one_premise(alloc: Global, premise: Sequent) -> Result<Vec<Sequent>, NoMemory
     Ok(premises)
 }
 
-fn by_intro(alloc: Global, number: u32, names: &Items<Name>, q: &Sequent) -> Result<Made, NoMemory>
-    ensures { IfOk result (λ made. IsMade number q.now (kinds.Intro names.now) made) }
+fn by_intro(
+    alloc: Global,
+    scope: &Scope<'_>,
+    number: u32,
+    names: &Items<Name>,
+    q: &Sequent,
+) -> Result<Made, NoMemory>
+    ensures { IfOk result (λ made. IsMade (setting scope.now) number q.now (kinds.Intro names.now) made) }
 {
     match intro(alloc, number, names.as_slice(), q)? {
         None => Ok(Made::Nothing),
@@ -130,8 +138,14 @@ fn by_intro(alloc: Global, number: u32, names: &Items<Name>, q: &Sequent) -> Res
     }
 }
 
-fn by_hyp(alloc: Global, number: u32, label: Label2, q: &Sequent) -> Result<Made, NoMemory>
-    ensures { IfOk result (λ made. IsMade number q.now (kinds.Hyp label) made) }
+fn by_hyp(
+    alloc: Global,
+    scope: &Scope<'_>,
+    number: u32,
+    label: Label2,
+    q: &Sequent,
+) -> Result<Made, NoMemory>
+    ensures { IfOk result (λ made. IsMade (setting scope.now) number q.now (kinds.Hyp label) made) }
 {
     if is_hypothesis(alloc, label, q)? {
         Ok(Made::Premises(Vec::new(alloc)))
@@ -140,8 +154,8 @@ fn by_hyp(alloc: Global, number: u32, label: Label2, q: &Sequent) -> Result<Made
     }
 }
 
-fn by_split(alloc: Global, number: u32, q: &Sequent) -> Result<Made, NoMemory>
-    ensures { IfOk result (λ made. IsMade number q.now kinds.Split made) }
+fn by_split(alloc: Global, scope: &Scope<'_>, number: u32, q: &Sequent) -> Result<Made, NoMemory>
+    ensures { IfOk result (λ made. IsMade (setting scope.now) number q.now kinds.Split made) }
 {
     match split(alloc, q)? {
         None => Ok(Made::Nothing),
@@ -149,8 +163,14 @@ fn by_split(alloc: Global, number: u32, q: &Sequent) -> Result<Made, NoMemory>
     }
 }
 
-fn by_range(alloc: Global, number: u32, name: Name, q: &Sequent) -> Result<Made, NoMemory>
-    ensures { IfOk result (λ made. IsMade number q.now (kinds.Range name) made) }
+fn by_range(
+    alloc: Global,
+    scope: &Scope<'_>,
+    number: u32,
+    name: Name,
+    q: &Sequent,
+) -> Result<Made, NoMemory>
+    ensures { IfOk result (λ made. IsMade (setting scope.now) number q.now (kinds.Range name) made) }
 {
     match range(alloc, number, name, q)? {
         None => Ok(Made::Nothing),
@@ -163,11 +183,12 @@ fn by_range(alloc: Global, number: u32, name: Name, q: &Sequent) -> Result<Made,
 
 fn by_lin(
     alloc: Global,
+    scope: &Scope<'_>,
     number: u32,
     multiples: &Items<Multiple>,
     q: &Sequent,
 ) -> Result<Made, NoMemory>
-    ensures { IfOk result (λ made. IsMade number q.now (kinds.Lin multiples.now) made) }
+    ensures { IfOk result (λ made. IsMade (setting scope.now) number q.now (kinds.Lin multiples.now) made) }
 {
     if multiples.len() > u32::MAX as usize {
         return Err(NoMemory);
@@ -180,30 +201,37 @@ fn by_lin(
 }
 
 /// What the step with this number makes of the sequent.
-fn made_of(alloc: Global, number: u32, step: &Step, q: &Sequent) -> Result<Made, NoMemory>
-    ensures { IfOk result (λ made. IsMade number q.now step.now made) }
+fn made_of(
+    alloc: Global,
+    scope: &Scope<'_>,
+    number: u32,
+    step: &Step,
+    q: &Sequent,
+) -> Result<Made, NoMemory>
+    ensures { IfOk result (λ made. IsMade (setting scope.now) number q.now step.now made) }
 {
     match step {
-        Step::Intro(names) => by_intro(alloc, number, names, q),
-        Step::Hyp(label) => by_hyp(alloc, number, *label, q),
-        Step::Split => by_split(alloc, number, q),
-        Step::Range(name) => by_range(alloc, number, *name, q),
-        Step::Lin(multiples) => by_lin(alloc, number, multiples, q),
+        Step::Intro(names) => by_intro(alloc, scope, number, names, q),
+        Step::Hyp(label) => by_hyp(alloc, scope, number, *label, q),
+        Step::Split => by_split(alloc, scope, number, q),
+        Step::Range(name) => by_range(alloc, scope, number, *name, q),
+        Step::Lin(multiples) => by_lin(alloc, scope, number, multiples, q),
     }
 }
 
 /// The same at the last sequent of the stack; nothing where it is empty.
 fn made_of_last(
     alloc: Global,
+    scope: &Scope<'_>,
     number: u32,
     step: &Step,
     stack: &[Sequent],
 ) -> Result<Made, NoMemory>
-    ensures { IfOk result (λ made. IsMadeFirst number (reverse stack.now) step.now made) }
+    ensures { IfOk result (λ made. IsMadeFirst (setting scope.now) number (reverse stack.now) step.now made) }
 {
     match stack.last() {
         None => Ok(Made::Nothing),
-        Some(q) => made_of(alloc, number, step, q),
+        Some(q) => made_of(alloc, scope, number, step, q),
     }
 }
 
@@ -219,18 +247,27 @@ fn replace_last(stack: &mut Vec<Sequent>, mut premises: Vec<Sequent>) -> Result<
     Ok(())
 }
 
-impl Kernel {
-    /// The proof of an obligation under way: its goal alone, at step 1.
-    pub fn new(alloc: Global, goal: &Obligation, _tables: &Tables) -> Result<Kernel, NoMemory>
-        ensures { IfOk result (λ k. k ≡ record { step = 1; left = sequent_of goal.now ∷ [] }) }
+impl<'a> Kernel<'a> {
+    /// The proof of an obligation under way, with these tables: its goal alone, at step 1.
+    pub fn new(
+        alloc: Global,
+        obligation: &'a Obligation,
+        tables: &'a Tables,
+    ) -> Result<Kernel<'a>, NoMemory>
+        ensures { IfOk result (λ k. k ≡ begun tables.now obligation.now) }
     {
         let q = Sequent {
             vars: Items::new(alloc),
             hyps: Items::new(alloc),
-            goal: goal.goal.copy(alloc)?,
+            goal: obligation.goal.copy(alloc)?,
         };
         let stack = one_premise(alloc, q)?;
-        Ok(Kernel { step: 1, stack })
+        let scope = Scope { tables, obligation };
+        Ok(Kernel {
+            scope,
+            step: 1,
+            stack,
+        })
     }
 
     /// Does the step at the first sequent, whose place its premises take. A refused step changes nothing. `UnknownStep`
@@ -256,7 +293,7 @@ impl Kernel {
         if !cites_in_order(number, step) {
             return Err(StepError::UnknownStep { step: number });
         }
-        match made_of_last(alloc, number, step, self.stack.as_slice())? {
+        match made_of_last(alloc, &self.scope, number, step, self.stack.as_slice())? {
             Made::Premises(premises) => {
                 replace_last(&mut self.stack, premises)?;
                 self.step = number + 1;

@@ -1,5 +1,5 @@
 //! Laws of the definitions, which no code runs.
-ghost use Rattle.proof_kernel.specs.Laws.{AcceptsExactlyProofs, DerivedIsTrue, RefusesOnce, RulesAreSound, StepsGiveOneResult, WideIsNotDone};
+ghost use Rattle.proof_kernel.specs.Laws.{AcceptsExactlyProofs, DerivedIsTrue, RefusesOnce, RulesAreSound, StepsGiveOneResult, StepsNameTheirOwn, WideIsNotDone};
 
 /// The goal of an obligation that has a proof is true.
 pub fn what_is_derived_is_true()
@@ -9,6 +9,12 @@ pub fn what_is_derived_is_true()
 /// Where all premises of a step are true, the sequent is.
 pub fn rules_are_sound()
     ensures { RulesAreSound }
+{}
+
+/// The labels that a step cites are those of hypotheses. Each premise has the hypotheses and variables of the sequent, or some of them, and beside
+/// them hypotheses labelled with the number of the step, and variables with its new names.
+pub fn steps_name_their_own()
+    ensures { StepsNameTheirOwn }
 {}
 
 /// A step at a sequent has one list of premises at most.

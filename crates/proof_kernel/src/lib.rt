@@ -8,14 +8,16 @@ mod linear;
 mod polynomial;
 mod rules;
 mod sequent;
+mod setting;
 mod step;
 
-pub use kernel::{Kernel, StepError, Tables};
+pub use kernel::{Kernel, StepError};
 pub use laws::{
     proofs_are_accepted, rules_are_sound, steps_are_refused_once, steps_give_one_result,
-    what_is_derived_is_true, wide_is_not_done,
+    steps_name_their_own, what_is_derived_is_true, wide_is_not_done,
 };
 pub use lin_arith::{CertAnswer, Part, Row, check_certificate};
 pub use linear::{LinAnswer, certifies};
 pub use sequent::Sequent;
+pub use setting::Tables;
 pub use step::{Multiple, Reference, Step};

@@ -1,18 +1,17 @@
 //! The step of linear arithmetic: rows of hypotheses and of the negated goal, and a certificate that no integers meet them.
 
 ghost use Rattle.std.specs.Prelude.{◌≡◌, ◌↔◌, ◌<◌, ◌^◌, List, [], ◌∷◌, ◌++◌, length, map, All, IfOk, OnOk, SomeIff, MatchOption, option_map};
-ghost use Rattle.std.specs.Option.{option_copied};
 ghost use Rattle.proof_kernel.specs.Linear.{Difference, row_polynomial, is_math_int_var, is_integer, row_of, row_back, row_of_goal, referred, AreRows, Certifies, PassesWidth, at_least, greater, IsNarrowDifference};
 ghost use Rattle.proof_kernel.specs.LinearRows.{difference, form_of, IsNarrowGap, is_one, is_in, with_monomial, with_monomials, with_all_monomials, parts_from, row_over, IsOutcomeOf};
-ghost use Rattle.proof_kernel.specs.Rules.{hypothesis, sort_of};
+ghost use Rattle.proof_kernel.specs.Rules.{sort_of};
 
 use crate::lin_arith::{CertAnswer, Part, Row, check_certificate};
 use crate::polynomial::{
     Polynomial, Summand, coefficient, copy_monomial, polynomial, same_monomial, subtracted,
 };
-use crate::sequent::Sequent;
+use crate::sequent::{Sequent, hypothesis_of, sort_of_var};
 use crate::step::{Multiple, Reference};
-use logic_term::{Label2, Sort, Term, TermBinary, TermNode, TermUnary, TyNode};
+use logic_term::{Sort, Term, TermBinary, TermNode, TermUnary, TyNode};
 use std::alloc::Global;
 use text_core::{Items, Name, NoMemory};
 
@@ -61,12 +60,10 @@ fn greater<'a>(upper: &'a Term, lower: &'a Term) -> Sides<'a>
 fn is_integer_var(vars: &[(Name, Sort)], name: Name) -> bool
     ensures { result ≡ is_math_int_var (sort_of name vars.now) }
 {
-    for var in vars {
-        if name.0 == var.0.0 {
-            return matches!(var.1.node, TyNode::MathInt);
-        }
+    match sort_of_var(name, vars) {
+        Some(sort) => matches!(sort.node, TyNode::MathInt),
+        None => false,
     }
-    false
 }
 
 /// Whether the term has the sort `Int`.
@@ -80,18 +77,6 @@ fn is_integer(vars: &[(Name, Sort)], t: &Term) -> bool
         | TermNode::Binary(TermBinary::Arith(_), _, _) => true,
         _ => false,
     }
-}
-
-/// The hypothesis of the label.
-fn hypothesis(label: Label2, hyps: &[(Label2, Term)]) -> Option<&Term>
-    ensures { option_copied result ≡ hypothesis label hyps.now }
-{
-    for hyp in hyps {
-        if label.step == hyp.0.step && label.part == hyp.0.part {
-            return Some(&hyp.1);
-        }
-    }
-    None
 }
 
 /// The row of a hypothesis; an equality gives one of integers alone.
@@ -134,10 +119,10 @@ fn referred(q: &Sequent, of: Reference) -> Option<Sides<'_>>
     match of {
         Reference::Goal => row_of_goal(&q.goal),
         Reference::Hyp(label) => {
-            row_of(q.vars.as_slice(), hypothesis(label, q.hyps.as_slice())?)
+            row_of(q.vars.as_slice(), hypothesis_of(label, q.hyps.as_slice())?)
         }
         Reference::Back(label) => {
-            row_back(q.vars.as_slice(), hypothesis(label, q.hyps.as_slice())?)
+            row_back(q.vars.as_slice(), hypothesis_of(label, q.hyps.as_slice())?)
         }
     }
 }

@@ -41,7 +41,8 @@ use Rattle.wp_gen.specs.declared.command.Command.TheVariants.{Set}
 use Rattle.wp_gen.specs.declared.step.Compared.{Compared as Kinds}
 use Rattle.wp_gen.specs.declared.step.Compared.TheVariants.{Truths, Integers}
 use Rattle.wp_gen.specs.Command.{MovesAll, none, more, by_set}
-use Rattle.wp_gen.specs.Row.{value_name, name_of, operand_term, operand_ty, integer_term, is_signed, in_range, not_zero, not_least_by_minus_one, compared_ty, comparison, operation, overflow, division, if_signed, goals_of_kind, goals_of, new_integer, of_comparison, of_operation, of_rvalue, commands_of}
+use Rattle.wp_gen.specs.Row.{value_name, name_of, operand_term, operand_ty, integer_term, is_signed, in_range, not_zero, not_least_by_minus_one, compared_ty, comparison}
+use Rattle.wp_gen.specs.Row.{operation, overflow, division, if_signed, goals_of_kind, goals_of, new_integer, of_comparison, of_operation, of_rvalue, commands_of}
 use Rattle.wp_gen.proofs.Commands.{GoalsHold}
 use Rattle.wp_gen.proofs.Operations.{says_exactly, not_exactly, new_moves, range_fits, divisor_not_zero, not_least_there}
 use Rattle.wp_gen.proofs.Quotients.{quotient_fits, remainder_fits}

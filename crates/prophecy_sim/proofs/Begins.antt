@@ -14,7 +14,7 @@ use Rattle.logic_term.specs.Term.{Term}
 use Rattle.logic_term.specs.Ty.{Ty, no_tys}
 use Rattle.logic_term.proofs.Alike.{yes_alike}
 use Rattle.logic_term.proofs.FreeLaw.{coincide_free}
-use Rattle.logic_term.proofs.Reduction.{reduced_means}
+use Rattle.logic_term.proofs.CanonicalLaw.{reduced_means}
 use Rattle.mir_ir.specs.declared.body.Body.{Body}
 use Rattle.mir_ir.specs.WellFormed.{AreSound, IsTyped, IsInitialised, Locals, OperandHas, EndIsTyped, Within, taken, CanTake, CanEnd, Carries, run, OperandsHave, PlaceHas, CanTakeAll, all_taken, with}
 use Rattle.mir_machine.specs.Frame.{Frame}

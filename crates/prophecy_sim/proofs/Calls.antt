@@ -10,7 +10,7 @@ use Rattle.logic_term.specs.Term.{Term}
 use Rattle.logic_term.specs.Ty.{Ty, no_tys}
 use Rattle.logic_term.specs.Value.{Value}
 use Rattle.logic_term.proofs.Alike.{Alike, alike_same}
-use Rattle.logic_term.proofs.SubstLaw.{Stands, subst_means}
+use Rattle.logic_term.proofs.PlacedLaw.{Stands, subst_means}
 use Rattle.logic_term.proofs.Truth.{Exactly}
 use Rattle.mir_ir.specs.declared.place.Operand.{Operand}
 use Rattle.mir_ir.specs.declared.body.Body.{Body}

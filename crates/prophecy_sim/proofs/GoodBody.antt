@@ -161,7 +161,8 @@ module _ (Θ : Theory) (program : Program) (sound : AreSound program.bodies) (fu
 
   -- ---- every proper call
 
-  at_none : (args held : List T) (met : List Met) → IsProper Θ bodies fn no_tys args held b met → MeetsRequires Θ no_tys c (called b fn no_tys args held) args met → (n : ℕ) → IsFine Θ no_tys c (answer_ty b no_tys) (called b fn no_tys args held) args met (after bodies n (called b fn no_tys args held))
+  at_none : (args held : List T) (met : List Met) → IsProper Θ bodies fn no_tys args held b met → MeetsRequires Θ no_tys c (called b fn no_tys args held) args met → (n : ℕ)
+      → IsFine Θ no_tys c (answer_ty b no_tys) (called b fn no_tys args held) args met (after bodies n (called b fn no_tys args held))
   at_none args held met proper meets n =
       let none : met ≡ [] = none_met_all (declared Θ) (called b fn no_tys args held) param_list proper.typed refl scalars in
       let Q : List Met → Type 0 = λ ms. IsProper Θ bodies fn no_tys args held b ms → MeetsRequires Θ no_tys c (called b fn no_tys args held) args ms → IsFine Θ no_tys c (answer_ty b no_tys) (called b fn no_tys args held) args ms (after bodies n (called b fn no_tys args held)) in

@@ -5,7 +5,7 @@ use Rattle.prophecy_sim.proofs.Arguments.{value_of, IsPlain, plain_one, plain_sh
 use Rattle.mir_ir.specs.declared.terminator.FnId.TheVariants.{Body as OfBody}
 use Rattle.mir_ir.specs.declared.terminator.Callee.TheVariants.{Function}
 use Rattle.mir_ir.specs.declared.place.Place.{Place}
-use Rattle.logic_term.proofs.SubstLaw.{replaced_means}
+use Rattle.logic_term.proofs.PlacedLaw.{replaced_means}
 use Rattle.logic_term.proofs.Coincide.{with_same, with_other}
 use Rattle.logic_term.specs.TyView.{tys_of}
 use Rattle.std.specs.List.{list_any}
@@ -57,7 +57,8 @@ use Rattle.wp_gen.specs.Row.{operand_term, goals_of, commands_of, value_name, na
 use Rattle.mir_ir.specs.Layout.{among, targets, around, around_of, place_of}
 use Rattle.mir_machine.specs.Good.{Each, named}
 use Rattle.wp_gen.specs.Walkable.{AllAmong}
-use Rattle.wp_gen.specs.Walk.{Setting, moves as moves_out, writes, loop_writes, is_gone, is_renewed, head_commands, each_goal, seen_before, goals_at_return, where_true, where_false, Walks, statement, goto, branch, call, return, Arrives, plain, first, again, at_answer, at_arguments, at_arguments_and_answer, goals_of_call, call_commands, end_writes}
+use Rattle.wp_gen.specs.Walk.{Setting, moves as moves_out, writes, loop_writes, is_gone, is_renewed, head_commands, each_goal, seen_before, goals_at_return, where_true, where_false, Walks, statement}
+use Rattle.wp_gen.specs.Walk.{goto, branch, call, return, Arrives, plain, first, again, at_answer, at_arguments, at_arguments_and_answer, goals_of_call, call_commands, end_writes}
 use Rattle.wp_gen.proofs.Commands.{GoalsHold, goals_moved, goals_first, goals_rest, then_moves}
 use Rattle.prophecy_sim.specs.Programs.{IsScalar, IsOneOf, IsNameIn, IsSimple, SpeaksOf, HeadsSpeakOf, Program, setting, IsFunction, AreFunctions, Calls as CallsBody}
 use Rattle.prophecy_sim.proofs.Values.{T, ValueHas, Matches, operand_means, local_has, local_named, named_as, matches_new}
@@ -464,9 +465,11 @@ module _ (Θ : Theory) (program : Program) (sound : AreSound program.bodies) (fu
 
         of_truth : (ls : List T) (c : Bool) → Fits b no_tys (taken o end_set) ls → Agrees ls st.store → value ≡ Flag c → Standing (starting f ls (cond c l r))
         of_truth ls true fitted agrees is =
-            true_comes o l ls (subst (λ v. Exactly (Means S (operand_term b o) st.env) v) is exactly) to_l first_goals (fits_within b no_tys (initialised.at l 0) (taken o end_set) ls within_l fitted) agrees (matches_within (initialised.at l 0) (taken o end_set) st.store st.env within_l taken_matches) way_l
+            true_comes o l ls (subst (λ v. Exactly (Means S (operand_term b o) st.env) v) is exactly) to_l first_goals (fits_within b no_tys (initialised.at l 0) (taken o end_set) ls within_l fitted) agrees
+            (matches_within (initialised.at l 0) (taken o end_set) st.store st.env within_l taken_matches) way_l
         of_truth ls false fitted agrees is =
-            false_comes o r ls (subst (λ v. Exactly (Means S (operand_term b o) st.env) v) is exactly) to_r rest_goals (fits_within b no_tys (initialised.at r 0) (taken o end_set) ls within_r fitted) agrees (matches_within (initialised.at r 0) (taken o end_set) st.store st.env within_r taken_matches) way_r
+            false_comes o r ls (subst (λ v. Exactly (Means S (operand_term b o) st.env) v) is exactly) to_r rest_goals (fits_within b no_tys (initialised.at r 0) (taken o end_set) ls within_r fitted) agrees
+            (matches_within (initialised.at r 0) (taken o end_set) st.store st.env within_r taken_matches) way_r
 
         by_truth : (ls : List T) (t : T) → Fits b no_tys (taken o end_set) ls → Agrees ls st.store → (c : Bool) → t ≡ Truth c → Shows t value → Quiet EndsFine (truth_of t >>= λ d. Yields (Stays (starting f ls (cond d l r))))
         by_truth ls t fitted agrees c is shows =
@@ -511,7 +514,8 @@ module _ (Θ : Theory) (program : Program) (sound : AreSound program.bodies) (fu
     abbrev Ways : List Label → Type 0
     Ways heads = (τ : Store) → ((h : Label) (x : ℕ) → among h st.block.nest ≡ true → loop_writes b h x ≡ false → τ x ≡ st.store x) → (k : Label) → among k (targets st.block.end.kind) ≡ true → Comes_to τ heads k
 
-    module _ {heads : List Label} {gs : List Goal} {paths : ℕ} (p : Place) (n : ℕ) (os : List Operand) (l : Label) (d : Contract) (t : Ty) (at : Span) (kind : st.block.end.kind ≡ Call p (Function (OfBody n)) os l) (is_d : slice_get program.contracts n ≡ Some d) (is_t : slice_get b.locals p.local ≡ Some t)
+    module _ {heads : List Label} {gs : List Goal} {paths : ℕ} (p : Place) (n : ℕ) (os : List Operand) (l : Label) (d : Contract) (t : Ty) (at : Span) (kind : st.block.end.kind ≡ Call p (Function (OfBody n)) os l)
+        (is_d : slice_get program.contracts n ≡ Some d) (is_t : slice_get b.locals p.local ≡ Some t)
         (arrives : Arrives w heads l gs paths) (hold : GoalsHold S st.env (goals_of_call b d at os ++ seen_before (call_commands b d p.local t os) gs)) (m : Matches b end_set st.store st.env) (c : Body) (u : Ty) (is_c : slice_get bodies n ≡ Some c)
         (have : OperandsHave b os (take c.params (drop 1 c.locals))) (first_local : slice_get c.locals 0 ≡ Some u) (place : PlaceHas b p u) (can : CanTakeAll end_set os) (within : Within (initialised.at l 0) (with p.local (all_taken os end_set))) (way : Ways heads)
         (ls args : List T) (fitted : Fits b no_tys (all_taken os end_set) ls) (shaped : (length args ≡ length (take c.params (drop 1 c.locals))) × AreShaped no_tys args (take c.params (drop 1 c.locals))) (agrees : Agrees ls st.store) (shows : AllShow st.store args os) where
@@ -675,7 +679,8 @@ module _ (Θ : Theory) (program : Program) (sound : AreSound program.bodies) (fu
         Arrives w heads l gs paths → GoalsHold S st.env (goals_of_call b d at os ++ seen_before (call_commands b d p.local t os) gs) → Fits b no_tys end_set f.locals → Matches b end_set st.store st.env → (c : Body) (u : Ty) → slice_get bodies n ≡ Some c →
         OperandsHave b os (take c.params (drop 1 c.locals)) → slice_get c.locals 0 ≡ Some u → PlaceHas b p u → CanTakeAll end_set os → Within (initialised.at l 0) (with p.local (all_taken os end_set)) → Ways heads → Quiet EndsFine (frame_end bodies f (Call p (Function (OfBody n)) os l))
     call_comes p n os l d t at kind is_d is_t arrives hold fitting m c u is_c have first_local place can within way =
-        quiet_then (λ (a : List T × List T). AreArguments b no_tys (all_taken os end_set) (take c.params (drop 1 c.locals)) a × (Agrees a.0 st.store × AllShow st.store a.1 os)) EndsFine (take_operands f.locals os) (λ a. callee_frame bodies (Function (OfBody n)) a.1 >>= λ g. Yields (Calls (record f { locals = a.0 }) g))
+        quiet_then (λ (a : List T × List T). AreArguments b no_tys (all_taken os end_set) (take c.params (drop 1 c.locals)) a × (Agrees a.0 st.store × AllShow st.store a.1 os)) EndsFine (take_operands f.locals os)
+        (λ a. callee_frame bodies (Function (OfBody n)) a.1 >>= λ g. Yields (Calls (record f { locals = a.0 }) g))
         (quiet_both (AreArguments b no_tys (all_taken os end_set) (take c.params (drop 1 c.locals))) (λ (a : List T × List T). Agrees a.0 st.store × AllShow st.store a.1 os) (take_operands f.locals os)
         (operands_go b no_tys end_set f.locals os (take c.params (drop 1 c.locals)) fitting have can)
         (operands_show f.locals st.store os st.agrees))

@@ -80,7 +80,8 @@ module _ (Θ : Theory) (program : Program) (sound : AreSound program.bodies) (fu
       (quiet_then (Standing Θ program sound functions w.function w.body w.is_body w.env) OutcomeFine (resumed bodies t f) (λ k. Yields (Running (k ∷ g ∷ fs))) (w.goes_on t a)
       (λ k standing. (record { function = w.function; reached = w.reached; body = w.body; is_body = w.is_body; env = w.env; standing = standing }, h)))
 
-  settled_fine : (n : ℕ) → Reaches program.bodies top n → (b : Body) (is_body : slice_get program.bodies n ≡ Some b) (ρ : Env) (fs : State (Unit {0})) → Stacked n (contract_of n b is_body) ρ fs → (e : FrameEnd (Unit {0})) → EndsFine Θ program sound functions n b is_body ρ e → Quiet OutcomeFine (settled bodies fs e)
+  settled_fine : (n : ℕ) → Reaches program.bodies top n → (b : Body) (is_body : slice_get program.bodies n ≡ Some b) (ρ : Env) (fs : State (Unit {0})) → Stacked n (contract_of n b is_body) ρ fs → (e : FrameEnd (Unit {0}))
+      → EndsFine Θ program sound functions n b is_body ρ e → Quiet OutcomeFine (settled bodies fs e)
   settled_fine n reached b is_body ρ fs h (Stays f) standing = (record { function = n; reached = reached; body = b; is_body = is_body; env = ρ; standing = standing }, h)
   settled_fine n reached b is_body ρ fs h (Calls f g) (e, of_f, calls, goes_on) =
       let reached' : Reaches program.bodies top e.function = by_call reached calls in

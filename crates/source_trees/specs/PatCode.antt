@@ -50,7 +50,8 @@ mutual
   pat_injective (tuple a0 a1) (tuple b0 b1) p = λ i. tuple (span.the_row.coded.inj a0 b0 (ap (λ g. head (tail g)) p) i) (pats_injective a1 b1 (ap (λ g. tail (tail g)) p) i)
   pat_injective (path a0 a1) (path b0 b1) p = λ i. path (span.the_row.coded.inj a0 b0 (ap (λ g. head (tail g)) p) i) (path_of.the_row.coded.inj a1 b1 (ap (λ g. tail (tail g)) p) i)
   pat_injective (parts a0 a1 a2) (parts b0 b1 b2) p = λ i. parts (span.the_row.coded.inj a0 b0 (ap (λ g. head (tail g)) p) i) (path_of.the_row.coded.inj a1 b1 (ap (λ g. head (tail (tail g))) p) i) (pats_injective a2 b2 (ap (λ g. tail (tail (tail g))) p) i)
-  pat_injective (fields a0 a1 a2 a3) (fields b0 b1 b2 b3) p = λ i. fields (span.the_row.coded.inj a0 b0 (ap (λ g. head (tail g)) p) i) (path_of.the_row.coded.inj a1 b1 (ap (λ g. head (tail (tail g))) p) i) (field_pats_injective a2 b2 (ap (λ g. head (tail (tail (tail g)))) p) i) (coded_bool.inj a3 b3 (ap (λ g. tail (tail (tail (tail g)))) p) i)
+  pat_injective (fields a0 a1 a2 a3) (fields b0 b1 b2 b3) p =
+      λ i. fields (span.the_row.coded.inj a0 b0 (ap (λ g. head (tail g)) p) i) (path_of.the_row.coded.inj a1 b1 (ap (λ g. head (tail (tail g))) p) i) (field_pats_injective a2 b2 (ap (λ g. head (tail (tail (tail g)))) p) i) (coded_bool.inj a3 b3 (ap (λ g. tail (tail (tail (tail g)))) p) i)
   pat_injective x y p = absurd (omega (arith, ap tag p))
 
   pub pats_injective : (x y : Pats) → pats_code x ≡ pats_code y → x ≡ y
@@ -60,7 +61,8 @@ mutual
 
   pub field_pats_injective : (x y : FieldPats) → field_pats_code x ≡ field_pats_code y → x ≡ y
   field_pats_injective no_fields no_fields p = refl
-  field_pats_injective (with_field a0 a1 a2 a3) (with_field b0 b1 b2 b3) p = λ i. with_field (span.the_row.coded.inj a0 b0 (ap (λ g. head (tail g)) p) i) (segment.the_row.coded.inj a1 b1 (ap (λ g. head (tail (tail g))) p) i) (pat_injective a2 b2 (ap (λ g. head (tail (tail (tail g)))) p) i) (field_pats_injective a3 b3 (ap (λ g. tail (tail (tail (tail g)))) p) i)
+  field_pats_injective (with_field a0 a1 a2 a3) (with_field b0 b1 b2 b3) p =
+      λ i. with_field (span.the_row.coded.inj a0 b0 (ap (λ g. head (tail g)) p) i) (segment.the_row.coded.inj a1 b1 (ap (λ g. head (tail (tail g))) p) i) (pat_injective a2 b2 (ap (λ g. head (tail (tail (tail g)))) p) i) (field_pats_injective a3 b3 (ap (λ g. tail (tail (tail (tail g)))) p) i)
   field_pats_injective x y p = absurd (omega (arith, ap tag p))
 
 abbrev pub coded_pat : Coded Pat

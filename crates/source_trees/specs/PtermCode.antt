@@ -72,17 +72,22 @@ mutual
   pterm_injective (receiver a0) (receiver b0) p = λ i. receiver (span.the_row.coded.inj a0 b0 (ap (λ g. tail g) p) i)
   pterm_injective (path a0 a1) (path b0 b1) p = λ i. path (span.the_row.coded.inj a0 b0 (ap (λ g. head (tail g)) p) i) (path_of.the_row.coded.inj a1 b1 (ap (λ g. tail (tail g)) p) i)
   pterm_injective (unary a0 a1 a2) (unary b0 b1 b2) p = λ i. unary (span.the_row.coded.inj a0 b0 (ap (λ g. head (tail g)) p) i) (unary_term.the_row.coded.inj a1 b1 (ap (λ g. head (tail (tail g))) p) i) (pterm_injective a2 b2 (ap (λ g. tail (tail (tail g))) p) i)
-  pterm_injective (binary a0 a1 a2 a3) (binary b0 b1 b2 b3) p = λ i. binary (span.the_row.coded.inj a0 b0 (ap (λ g. head (tail g)) p) i) (binary_term.the_row.coded.inj a1 b1 (ap (λ g. head (tail (tail g))) p) i) (pterm_injective a2 b2 (ap (λ g. head (tail (tail (tail g)))) p) i) (pterm_injective a3 b3 (ap (λ g. tail (tail (tail (tail g)))) p) i)
+  pterm_injective (binary a0 a1 a2 a3) (binary b0 b1 b2 b3) p =
+      λ i. binary (span.the_row.coded.inj a0 b0 (ap (λ g. head (tail g)) p) i) (binary_term.the_row.coded.inj a1 b1 (ap (λ g. head (tail (tail g))) p) i) (pterm_injective a2 b2 (ap (λ g. head (tail (tail (tail g)))) p) i) (pterm_injective a3 b3 (ap (λ g. tail (tail (tail (tail g)))) p) i)
   pterm_injective (mut_ref a0 a1 a2) (mut_ref b0 b1 b2) p = λ i. mut_ref (span.the_row.coded.inj a0 b0 (ap (λ g. head (tail g)) p) i) (pterm_injective a1 b1 (ap (λ g. head (tail (tail g))) p) i) (pterm_injective a2 b2 (ap (λ g. tail (tail (tail g))) p) i)
   pterm_injective (field a0 a1 a2) (field b0 b1 b2) p = λ i. field (span.the_row.coded.inj a0 b0 (ap (λ g. head (tail g)) p) i) (pterm_injective a1 b1 (ap (λ g. head (tail (tail g))) p) i) (segment.the_row.coded.inj a2 b2 (ap (λ g. tail (tail (tail g))) p) i)
   pterm_injective (part a0 a1 a2) (part b0 b1 b2) p = λ i. part (span.the_row.coded.inj a0 b0 (ap (λ g. head (tail g)) p) i) (pterm_injective a1 b1 (ap (λ g. head (tail (tail g))) p) i) (number.the_row.coded.inj a2 b2 (ap (λ g. tail (tail (tail g))) p) i)
-  pterm_injective (method a0 a1 a2 a3) (method b0 b1 b2 b3) p = λ i. method (span.the_row.coded.inj a0 b0 (ap (λ g. head (tail g)) p) i) (pterm_injective a1 b1 (ap (λ g. head (tail (tail g))) p) i) (segment.the_row.coded.inj a2 b2 (ap (λ g. head (tail (tail (tail g)))) p) i) (terms_injective a3 b3 (ap (λ g. tail (tail (tail (tail g)))) p) i)
+  pterm_injective (method a0 a1 a2 a3) (method b0 b1 b2 b3) p =
+      λ i. method (span.the_row.coded.inj a0 b0 (ap (λ g. head (tail g)) p) i) (pterm_injective a1 b1 (ap (λ g. head (tail (tail g))) p) i) (segment.the_row.coded.inj a2 b2 (ap (λ g. head (tail (tail (tail g)))) p) i) (terms_injective a3 b3 (ap (λ g. tail (tail (tail (tail g)))) p) i)
   pterm_injective (call a0 a1 a2) (call b0 b1 b2) p = λ i. call (span.the_row.coded.inj a0 b0 (ap (λ g. head (tail g)) p) i) (path_of.the_row.coded.inj a1 b1 (ap (λ g. head (tail (tail g))) p) i) (terms_injective a2 b2 (ap (λ g. tail (tail (tail g))) p) i)
   pterm_injective (literal a0 a1 a2) (literal b0 b1 b2) p = λ i. literal (span.the_row.coded.inj a0 b0 (ap (λ g. head (tail g)) p) i) (path_of.the_row.coded.inj a1 b1 (ap (λ g. head (tail (tail g))) p) i) (field_terms_injective a2 b2 (ap (λ g. tail (tail (tail g))) p) i)
   pterm_injective (tuple a0 a1) (tuple b0 b1) p = λ i. tuple (span.the_row.coded.inj a0 b0 (ap (λ g. head (tail g)) p) i) (terms_injective a1 b1 (ap (λ g. tail (tail g)) p) i)
-  pterm_injective (choice a0 a1 a2 a3) (choice b0 b1 b2 b3) p = λ i. choice (span.the_row.coded.inj a0 b0 (ap (λ g. head (tail g)) p) i) (pterm_injective a1 b1 (ap (λ g. head (tail (tail g))) p) i) (pterm_injective a2 b2 (ap (λ g. head (tail (tail (tail g)))) p) i) (pterm_injective a3 b3 (ap (λ g. tail (tail (tail (tail g)))) p) i)
+  pterm_injective (choice a0 a1 a2 a3) (choice b0 b1 b2 b3) p =
+      λ i. choice (span.the_row.coded.inj a0 b0 (ap (λ g. head (tail g)) p) i) (pterm_injective a1 b1 (ap (λ g. head (tail (tail g))) p) i) (pterm_injective a2 b2 (ap (λ g. head (tail (tail (tail g)))) p) i) (pterm_injective a3 b3 (ap (λ g. tail (tail (tail (tail g)))) p) i)
   pterm_injective (matching a0 a1 a2) (matching b0 b1 b2) p = λ i. matching (span.the_row.coded.inj a0 b0 (ap (λ g. head (tail g)) p) i) (pterm_injective a1 b1 (ap (λ g. head (tail (tail g))) p) i) (arms_injective a2 b2 (ap (λ g. tail (tail (tail g))) p) i)
-  pterm_injective (quantified a0 a1 a2 a3) (quantified b0 b1 b2 b3) p = λ i. quantified (span.the_row.coded.inj a0 b0 (ap (λ g. head (tail g)) p) i) (quantifier.the_row.coded.inj a1 b1 (ap (λ g. head (tail (tail g))) p) i) ((coded_list binder.the_row.coded).inj a2 b2 (ap (λ g. head (tail (tail (tail g)))) p) i) (pterm_injective a3 b3 (ap (λ g. tail (tail (tail (tail g)))) p) i)
+  pterm_injective (quantified a0 a1 a2 a3) (quantified b0 b1 b2 b3) p =
+      λ i. quantified (span.the_row.coded.inj a0 b0 (ap (λ g. head (tail g)) p) i) (quantifier.the_row.coded.inj a1 b1 (ap (λ g. head (tail (tail g))) p) i)
+      ((coded_list binder.the_row.coded).inj a2 b2 (ap (λ g. head (tail (tail (tail g)))) p) i) (pterm_injective a3 b3 (ap (λ g. tail (tail (tail (tail g)))) p) i)
   pterm_injective (predicate a0 a1 a2) (predicate b0 b1 b2) p = λ i. predicate (span.the_row.coded.inj a0 b0 (ap (λ g. head (tail g)) p) i) (predicate_row.the_row.coded.inj a1 b1 (ap (λ g. head (tail (tail g))) p) i) (terms_injective a2 b2 (ap (λ g. tail (tail (tail g))) p) i)
   pterm_injective x y p = absurd (omega (arith, ap tag p))
 
@@ -93,12 +98,14 @@ mutual
 
   pub field_terms_injective : (x y : FieldTerms) → field_terms_code x ≡ field_terms_code y → x ≡ y
   field_terms_injective no_fields no_fields p = refl
-  field_terms_injective (with_field a0 a1 a2 a3) (with_field b0 b1 b2 b3) p = λ i. with_field (span.the_row.coded.inj a0 b0 (ap (λ g. head (tail g)) p) i) (segment.the_row.coded.inj a1 b1 (ap (λ g. head (tail (tail g))) p) i) (pterm_injective a2 b2 (ap (λ g. head (tail (tail (tail g)))) p) i) (field_terms_injective a3 b3 (ap (λ g. tail (tail (tail (tail g)))) p) i)
+  field_terms_injective (with_field a0 a1 a2 a3) (with_field b0 b1 b2 b3) p =
+      λ i. with_field (span.the_row.coded.inj a0 b0 (ap (λ g. head (tail g)) p) i) (segment.the_row.coded.inj a1 b1 (ap (λ g. head (tail (tail g))) p) i) (pterm_injective a2 b2 (ap (λ g. head (tail (tail (tail g)))) p) i) (field_terms_injective a3 b3 (ap (λ g. tail (tail (tail (tail g)))) p) i)
   field_terms_injective x y p = absurd (omega (arith, ap tag p))
 
   pub arms_injective : (x y : Arms) → arms_code x ≡ arms_code y → x ≡ y
   arms_injective no_arms no_arms p = refl
-  arms_injective (with_arm a0 a1 a2 a3) (with_arm b0 b1 b2 b3) p = λ i. with_arm (span.the_row.coded.inj a0 b0 (ap (λ g. head (tail g)) p) i) (coded_pat.inj a1 b1 (ap (λ g. head (tail (tail g))) p) i) (pterm_injective a2 b2 (ap (λ g. head (tail (tail (tail g)))) p) i) (arms_injective a3 b3 (ap (λ g. tail (tail (tail (tail g)))) p) i)
+  arms_injective (with_arm a0 a1 a2 a3) (with_arm b0 b1 b2 b3) p =
+      λ i. with_arm (span.the_row.coded.inj a0 b0 (ap (λ g. head (tail g)) p) i) (coded_pat.inj a1 b1 (ap (λ g. head (tail (tail g))) p) i) (pterm_injective a2 b2 (ap (λ g. head (tail (tail (tail g)))) p) i) (arms_injective a3 b3 (ap (λ g. tail (tail (tail (tail g)))) p) i)
   arms_injective x y p = absurd (omega (arith, ap tag p))
 
 abbrev pub coded_pterm : Coded Pterm

@@ -41,7 +41,9 @@ mutual
   pub type_tree_injective : (x y : TypeTree) → type_tree_code x ≡ type_tree_code y → x ≡ y
   type_tree_injective (named a0 a1 a2) (named b0 b1 b2) p = λ i. named (span.the_row.coded.inj a0 b0 (ap (λ g. head (tail g)) p) i) (segment.the_row.coded.inj a1 b1 (ap (λ g. head (tail (tail g))) p) i) (type_arguments_injective a2 b2 (ap (λ g. tail (tail (tail g))) p) i)
   type_tree_injective (tuple a0 a1) (tuple b0 b1) p = λ i. tuple (span.the_row.coded.inj a0 b0 (ap (λ g. head (tail g)) p) i) (types_injective a1 b1 (ap (λ g. tail (tail g)) p) i)
-  type_tree_injective (reference a0 a1 a2 a3) (reference b0 b1 b2 b3) p = λ i. reference (span.the_row.coded.inj a0 b0 (ap (λ g. head (tail g)) p) i) ((coded_option segment.the_row.coded).inj a1 b1 (ap (λ g. head (tail (tail g))) p) i) (coded_bool.inj a2 b2 (ap (λ g. head (tail (tail (tail g)))) p) i) (type_tree_injective a3 b3 (ap (λ g. tail (tail (tail (tail g)))) p) i)
+  type_tree_injective (reference a0 a1 a2 a3) (reference b0 b1 b2 b3) p =
+      λ i. reference (span.the_row.coded.inj a0 b0 (ap (λ g. head (tail g)) p) i) ((coded_option segment.the_row.coded).inj a1 b1 (ap (λ g. head (tail (tail g))) p) i) (coded_bool.inj a2 b2 (ap (λ g. head (tail (tail (tail g)))) p) i)
+      (type_tree_injective a3 b3 (ap (λ g. tail (tail (tail (tail g)))) p) i)
   type_tree_injective (self_type a0) (self_type b0) p = λ i. self_type (span.the_row.coded.inj a0 b0 (ap (λ g. tail g) p) i)
   type_tree_injective (self_view a0) (self_view b0) p = λ i. self_view (span.the_row.coded.inj a0 b0 (ap (λ g. tail g) p) i)
   type_tree_injective x y p = absurd (omega (arith, ap tag p))

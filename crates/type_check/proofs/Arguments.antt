@@ -83,7 +83,8 @@ args_more σ Γ es ts i e vs v q h p =
     ∙ one_more vs v (typed_args σ Γ (written_exprs (drop (suc i) es)) (drop (suc i) ts)))
 
 -- from the start
-pub args_more_all : (σ : List Heading) (Γ : List Variable) (es : List Expr) (ts : List Ty) (i : ℕ) (e : Expr) (vs ws : List TypedExpr) (v : TypedExpr) → e ≡ get_or es i e → i < length es → typed σ Γ e (slice_get ts i) ≡ Ok v → ws ≡ vs ++ v ∷ [] → typed_args σ Γ (written_exprs es) ts ≡ continued σ Γ es ts i vs → typed_args σ Γ (written_exprs es) ts ≡ continued σ Γ es ts (i + 1) ws
+pub args_more_all : (σ : List Heading) (Γ : List Variable) (es : List Expr) (ts : List Ty) (i : ℕ) (e : Expr) (vs ws : List TypedExpr) (v : TypedExpr) → e ≡ get_or es i e → i < length es → typed σ Γ e (slice_get ts i) ≡ Ok v
+    → ws ≡ vs ++ v ∷ [] → typed_args σ Γ (written_exprs es) ts ≡ continued σ Γ es ts i vs → typed_args σ Γ (written_exprs es) ts ≡ continued σ Γ es ts (i + 1) ws
 args_more_all σ Γ es ts i e vs ws v q h p pushed r = r ∙ args_more σ Γ es ts i e vs v q h p ∙ ap (continued σ Γ es ts (i + 1)) (sym pushed)
 
 pub args_stop : (f : PassError) (σ : List Heading) (Γ : List Variable) (es : List Expr) (ts : List Ty) (i : ℕ) (e : Expr) (vs : List TypedExpr) → e ≡ get_or es i e → i < length es → Refuses f (typed σ Γ e (slice_get ts i)) → Refuses f (continued σ Γ es ts i vs)
@@ -93,7 +94,8 @@ args_stop f σ Γ es ts i e vs q h p =
     (refuses_then f (typed σ Γ e (slice_get ts i)) (then_args σ Γ (written_exprs (drop (suc i) es)) (drop (suc i) ts)) p))
 
 -- from the start
-pub args_stop_all : (f : PassError) (σ : List Heading) (Γ : List Variable) (es : List Expr) (ts : List Ty) (i : ℕ) (e : Expr) (vs : List TypedExpr) → e ≡ get_or es i e → i < length es → typed_args σ Γ (written_exprs es) ts ≡ continued σ Γ es ts i vs → Refuses f (typed σ Γ e (slice_get ts i)) → Refuses f (typed_args σ Γ (written_exprs es) ts)
+pub args_stop_all : (f : PassError) (σ : List Heading) (Γ : List Variable) (es : List Expr) (ts : List Ty) (i : ℕ) (e : Expr) (vs : List TypedExpr) → e ≡ get_or es i e → i < length es
+    → typed_args σ Γ (written_exprs es) ts ≡ continued σ Γ es ts i vs → Refuses f (typed σ Γ e (slice_get ts i)) → Refuses f (typed_args σ Γ (written_exprs es) ts)
 args_stop_all f σ Γ es ts i e vs q h r p = along f _ _ r (args_stop f σ Γ es ts i e vs q h p)
 
 drop_all : (es : List Expr) (n : ℕ) → n ≡ length es → drop n es ≡ []

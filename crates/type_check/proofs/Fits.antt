@@ -1,5 +1,5 @@
 -- What typing gives fits: each part has the type that its place asks for.
-use Rattle.std.proofs.Common.{◌≡◌, ◌∙◌, ℕ, suc, ◌==◌, Bool, true, false, List, [], ◌∷◌, ◌++◌, length, map, Option, Some, None, Ok, refl, ap, sym, subst, arith}
+use Rattle.std.proofs.Common.{◌≡◌, ◌∙◌, ℕ, suc, ◌==◌, Bool, true, List, [], ◌∷◌, ◌++◌, length, Option, Some, None, Ok, refl, ap, sym, subst, arith}
 use Rattle.std.specs.Prelude.{ℤ, slice_get}
 use Rattle.logic_term.proofs.FreeLaw.{same_test}
 use Rattle.text_core.specs.declared.name.Name.{Name}
@@ -36,7 +36,8 @@ use Rattle.type_check.specs.TypedExpr.{TypedExpr, TypedStmts, TypedExprs}
 use Rattle.type_check.specs.TypedExpr as tree
 use Rattle.type_check.specs.TypedExprView.{ty_of, stmts_of}
 use Rattle.type_check.specs.Types.{same_ty, is_signed_ty}
-use Rattle.type_check.specs.Typing.{Typed, fit, literal_kind, literal_of, literal, variable_of, variable, named, negated, is_bare, order_of, operands_of, operands, operation, operated, target_variable, target_value, target_of, target_ty, if_mutable, assigned, is_updated, update_of, updated, known, callee_of, how_many, first_of, rest_of, called, block_ty, declared, Opened, opened, typed_stmt, behind, closed, invariant_by, invariant_of, typed, typed_stmts, typed_args}
+use Rattle.type_check.specs.Typing.{Typed, fit, literal_kind, literal_of, literal, variable_of, variable, named, negated, is_bare, order_of, operands_of, operands, operation, operated, target_variable, target_value, target_of, target_ty, if_mutable, assigned}
+use Rattle.type_check.specs.Typing.{is_updated, update_of, updated, known, callee_of, how_many, first_of, rest_of, called, block_ty, declared, Opened, opened, typed_stmt, behind, closed, invariant_by, invariant_of, typed, typed_stmts, typed_args}
 use Rattle.type_check.specs.WellTyped.{unit, is_arithmetic, operation_ty, is_signed, IsOf, SpeaksOf, EachSpeaks, IsWellTyped, StatementsFit, ArgumentsFit}
 use Rattle.type_check.specs.Written.{as_name, name_alone, step_of}
 use Rattle.type_check.proofs.Bound.{bound, held, yes, same_ok}
@@ -140,7 +141,8 @@ arithmetic_ty : (op : BinaryOp) (u : Ty) → is_updated op u ≡ true → operat
 arithmetic_ty op (int k) p = let q : is_arithmetic op ≡ true = p in rw q refl
 arithmetic_ty op u p = absurd (cc)
 
-update_sound : (σ : List Heading) (Γ : List Variable) (t : Option Ty) (s o l : Span) (op : BinaryOp) (a : Target) (e r : TypedExpr) → TargetSound σ Γ a → IsWellTyped (signatures_at σ) (types Γ) e → ty_of e ≡ target_ty a → is_updated op (target_ty a) ≡ true → update_of t s o l op a e ≡ Ok r → Sound σ Γ t r
+update_sound : (σ : List Heading) (Γ : List Variable) (t : Option Ty) (s o l : Span) (op : BinaryOp) (a : Target) (e r : TypedExpr) → TargetSound σ Γ a → IsWellTyped (signatures_at σ) (types Γ) e → ty_of e ≡ target_ty a
+    → is_updated op (target_ty a) ≡ true → update_of t s o l op a e ≡ Ok r → Sound σ Γ t r
 update_sound σ Γ t s o l op (target.Variable v) e r h w q u p =
     let g : operation_ty op (ty_of e) ≡ Some (ty_of e) = subst (λ z. operation_ty op z ≡ Some z) (sym q) (arithmetic_ty op v.ty u) in
     mutable_sound σ Γ t s l v.mutable (tree.update unit o op v.place e) r (refl, variable_takes Γ v e h q, g, w) p

@@ -1,5 +1,5 @@
 -- The parts of lists of expressions and statements are smaller than these, and what is seen of a node.
-use Rattle.std.proofs.Common.{◌≡◌, ℕ, zero, suc, ◌<◌, List, [], ◌∷◌, length, get_or, arith, refl, ap, sym, ◌∙◌, Option, None}
+use Rattle.std.proofs.Common.{◌≡◌, ℕ, zero, suc, ◌<◌, List, [], ◌∷◌, length, get_or, arith, ap, sym, ◌∙◌, Option, None}
 use Rattle.text_core.specs.declared.span.Span.{Span}
 use Rattle.source_trees.specs.declared.expr.ExprNode.{ExprNode}
 use Rattle.source_trees.specs.declared.expr.ExprNode.TheVariants as node

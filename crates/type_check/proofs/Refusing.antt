@@ -7,7 +7,7 @@ use Rattle.text_core.specs.declared.span.Span.{Span}
 use Rattle.source_kinds.specs.declared.kinds.BinaryOp.{BinaryOp}
 use Rattle.source_kinds.specs.declared.kinds.IntKind.{IntKind}
 use Rattle.source_kinds.specs.Range.{fits}
-use Rattle.logic_term.specs.Ty.{Ty, int, bool, unit_ty}
+use Rattle.logic_term.specs.Ty.{Ty, int, bool}
 use Rattle.source_trees.specs.declared.attribute.Attribute.{Attribute}
 use Rattle.source_trees.specs.declared.attribute.AttributeNode.{AttributeNode}
 use Rattle.source_trees.specs.declared.attribute.AttributeNode.TheVariants as A
@@ -37,12 +37,12 @@ use Rattle.type_check.specs.Answers.{◌>>=◌, unknown_name, mismatch, unbuilt,
 use Rattle.type_check.specs.Causes.{IsMismatch, IsUnbuilt, IsUnknown, IsNotRead, IsNotWritten, IsNotCalled, Causes, CausesInStmts, CausesInArgs}
 use Rattle.type_check.specs.Functions.{callee}
 use Rattle.type_check.specs.Scope.{found}
-use Rattle.type_check.specs.Terms.{assertion}
 use Rattle.type_check.specs.TypedExpr.{TypedExpr, TypedStmts, TypedExprs}
 use Rattle.type_check.specs.TypedExpr as tree
 use Rattle.type_check.specs.TypedExprView.{ty_of, stmts_of}
 use Rattle.type_check.specs.Types.{same_ty, is_signed_ty}
-use Rattle.type_check.specs.Typing.{Typed, fit, literal_kind, literal_of, literal, variable_of, variable, named, negated, is_bare, order_of, operands_of, operands, operation, operated, target_variable, target_value, target_of, target_ty, if_mutable, assigned, is_updated, update_of, updated, known, callee_of, how_many, first_of, rest_of, called, block_ty, declared, Opened, behind, typed_stmt, closed, invariant_by, invariant_of, typed, typed_stmts, typed_args}
+use Rattle.type_check.specs.Typing.{Typed, fit, literal_kind, literal_of, literal, variable_of, variable, named, negated, is_bare, order_of, operands_of, operands, operation, operated, target_variable, target_value, target_of, target_ty, if_mutable, assigned}
+use Rattle.type_check.specs.Typing.{is_updated, update_of, updated, known, callee_of, how_many, first_of, rest_of, called, block_ty, declared, behind, typed_stmt, closed, invariant_by, invariant_of, typed, typed_stmts, typed_args}
 use Rattle.type_check.specs.WellTyped.{unit, is_arithmetic, operation_ty}
 use Rattle.type_check.specs.Written.{as_name, name_alone, named_type, type_or, written_type, written_or_none, name_or, declared_by, step_of}
 use Rattle.type_check.proofs.Bound.{bound, yes, same_ok}
@@ -194,7 +194,9 @@ at_left σ Γ l r e h (inl u) = inl (inr (u.0, u.1, inl u.2))
 at_left σ Γ l r e h (inr t) = inr (inl (h t.0 t.1))
 
 -- an assignment stops at its left side, at its right side, or as a whole
-assignment_stops : (σ : List Heading) (Γ : List Variable) (l r : Expr) (k : Target → TypedExpr → Typed) (e : SourceError) → ((a : Target) (b : TypedExpr) → k a b ≡ Err e → IsMismatch e ⊎ IsFixed a (span_of l) e) → ((t : Option Ty) → typed σ Γ l t ≡ Err e → Causes σ Γ l e) → ((t : Option Ty) → typed σ Γ r t ≡ Err e → Causes σ Γ r e) → (target_of Γ (span_of l) (as_name l) (typed σ Γ l) >>= λ a. typed σ Γ r (Some (target_ty a)) >>= k a) ≡ Err e → (IsMismatch e ⊎ IsNotWritten Γ l e) ⊎ (Causes σ Γ l e ⊎ Causes σ Γ r e)
+assignment_stops : (σ : List Heading) (Γ : List Variable) (l r : Expr) (k : Target → TypedExpr → Typed) (e : SourceError) → ((a : Target) (b : TypedExpr) → k a b ≡ Err e → IsMismatch e ⊎ IsFixed a (span_of l) e)
+    → ((t : Option Ty) → typed σ Γ l t ≡ Err e → Causes σ Γ l e) → ((t : Option Ty) → typed σ Γ r t ≡ Err e → Causes σ Γ r e) → (target_of Γ (span_of l) (as_name l) (typed σ Γ l) >>= λ a. typed σ Γ r (Some (target_ty a)) >>= k a) ≡ Err e
+    → (IsMismatch e ⊎ IsNotWritten Γ l e) ⊎ (Causes σ Γ l e ⊎ Causes σ Γ r e)
 assignment_stops σ Γ l r k e hk hl hr p =
     elim (stop (target_of Γ (span_of l) (as_name l) (typed σ Γ l)) (λ a. typed σ Γ r (Some (target_ty a)) >>= k a) e p) as (λ _. (IsMismatch e ⊎ IsNotWritten Γ l e) ⊎ (Causes σ Γ l e ⊎ Causes σ Γ r e)) [
       | inl q ↦ at_left σ Γ l r e hl (left_stops Γ (span_of l) (as_name l) (typed σ Γ l) e q)

@@ -9,7 +9,7 @@ use Rattle.logic_term.specs.Free.{free}
 use Rattle.source_kinds.specs.Range.{fits}
 use Rattle.logic_term.proofs.FreeLaw.{same_test, same_name}
 use Rattle.logic_term.specs.Term as logic
-use Rattle.logic_term.specs.Term.{Term, Operator, var, lit, truth as truth_term, one, two, model, negative as negative_term, not as not_term, calculate, is_less, is_at_most, is_equal, and as and_term, or as or_term, implies as implies_term}
+use Rattle.logic_term.specs.Term.{Term, Operator, var, lit, truth as truth_term, one, two, model, negative as negative_term, not as not_term, calculate, is_equal}
 use Rattle.logic_term.specs.Ty.{Ty, int, bool, math_int}
 use Rattle.source_kinds.specs.declared.kinds.Comparison.{Comparison}
 use Rattle.source_kinds.specs.declared.kinds.Comparison.TheVariants.{Eq, Ne, Lt, Le, Gt, Ge}

@@ -1,9 +1,8 @@
 -- The statements of a block, one after another.
-use Rattle.std.proofs.Common.{◌≡◌, ◌∙◌, ℕ, suc, ◌+◌, ◌<◌, ◌≤◌, Bool, true, false, List, [], ◌∷◌, ◌++◌, length, get_or, take, drop, refl, ap, sym, subst, add-one, drop-cons, append_assoc, append-nil, arith, Option, Some, None, Result, Ok, Err}
+use Rattle.std.proofs.Common.{◌≡◌, ◌∙◌, ℕ, suc, ◌+◌, ◌<◌, Bool, true, false, List, [], ◌∷◌, ◌++◌, length, get_or, take, drop, refl, ap, sym, add-one, drop-cons, append_assoc, append-nil, Option, Some, None, Result, Ok, Err}
 use Rattle.std.proofs.Math.Seq.{take-append_seam}
 use Rattle.text_core.specs.declared.refusal.SourceError.{SourceError}
 use Rattle.text_core.specs.declared.fault.PassError.{PassError}
-use Rattle.logic_term.specs.Ty.{Ty}
 use Rattle.source_trees.specs.declared.expr.Stmt.{Stmt}
 use Rattle.source_trees.specs.Expr.{Expr, Stmts, no_stmts, with_stmt}
 use Rattle.source_trees.specs.ExprView.{stmts_of}
@@ -82,7 +81,8 @@ statements_more σ Γ Γ' ss i s vs v q h p =
     ∙ ap (λ (m : Result (List Variable × TypedStmt) SourceError). (m >>= then_rest σ (stmts_of (drop (suc i) ss))) >>= onto vs) p
     ∙ one_more vs v (typed_stmts σ Γ' (stmts_of (drop (suc i) ss))))
 
-pub statements_stop : (f : PassError) (σ : List Heading) (Γ Γ₀ : List Variable) (ss : List Stmt) (i : ℕ) (s : Stmt) (vs : List TypedStmt) → s ≡ get_or ss i s → i < length ss → typed_stmts σ Γ₀ (stmts_of ss) ≡ continued σ Γ (drop i ss) vs → Refuses f (typed_statement σ Γ s) → Refuses f (typed_stmts σ Γ₀ (stmts_of ss))
+pub statements_stop : (f : PassError) (σ : List Heading) (Γ Γ₀ : List Variable) (ss : List Stmt) (i : ℕ) (s : Stmt) (vs : List TypedStmt) → s ≡ get_or ss i s → i < length ss → typed_stmts σ Γ₀ (stmts_of ss) ≡ continued σ Γ (drop i ss) vs
+    → Refuses f (typed_statement σ Γ s) → Refuses f (typed_stmts σ Γ₀ (stmts_of ss))
 statements_stop f σ Γ Γ₀ ss i s vs q h r p =
     along f _ _ r
     (refuses_then f _ (onto vs)

@@ -33,7 +33,7 @@ use Rattle.type_check.specs.FirstBad.{first_bad}
 use Rattle.type_check.specs.Names.{first_double}
 use Rattle.type_check.specs.Terms.{assertion}
 use Rattle.type_check.specs.TypedExpr.{TypedExpr}
-use Rattle.type_check.specs.WellTyped.{IsBuilt, AllBuilt, ClauseSpeaksOf, ClausesSpeak, FunctionFits, EachFits, ProgramFits, signatures, IsWellTyped}
+use Rattle.type_check.specs.WellTyped.{IsBuilt, AllBuilt, ClauseSpeaksOf, ClausesSpeak, FunctionFits, EachFits, ProgramFits, signatures}
 use Rattle.type_check.specs.Written.{answer_ty, param_by, param_of, written_type}
 use Rattle.type_check.proofs.Bound.{bound, yes, same_ok}
 use Rattle.type_check.proofs.Fits.{Sound, typed_sound}

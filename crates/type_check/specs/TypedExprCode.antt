@@ -55,22 +55,39 @@ abbrev mutual
 
 mutual
   pub typed_injective : (x y : TypedExpr) → typed_code x ≡ typed_code y → x ≡ y
-  typed_injective (integer a0 a1 a2 a3) (integer b0 b1 b2 b3) p = λ i. integer (coded_ty.inj a0 b0 (ap (λ g. head (tail g)) p) i) (span.the_row.coded.inj a1 b1 (ap (λ g. head (tail (tail g))) p) i) (coded_ℤ.inj a2 b2 (ap (λ g. head (tail (tail (tail g)))) p) i) (int_kind.the_row.coded.inj a3 b3 (ap (λ g. tail (tail (tail (tail g)))) p) i)
+  typed_injective (integer a0 a1 a2 a3) (integer b0 b1 b2 b3) p =
+      λ i. integer (coded_ty.inj a0 b0 (ap (λ g. head (tail g)) p) i) (span.the_row.coded.inj a1 b1 (ap (λ g. head (tail (tail g))) p) i) (coded_ℤ.inj a2 b2 (ap (λ g. head (tail (tail (tail g)))) p) i) (int_kind.the_row.coded.inj a3 b3 (ap (λ g. tail (tail (tail (tail g)))) p) i)
   typed_injective (truth a0 a1 a2) (truth b0 b1 b2) p = λ i. truth (coded_ty.inj a0 b0 (ap (λ g. head (tail g)) p) i) (span.the_row.coded.inj a1 b1 (ap (λ g. head (tail (tail g))) p) i) (coded_bool.inj a2 b2 (ap (λ g. tail (tail (tail g))) p) i)
   typed_injective (variable a0 a1 a2) (variable b0 b1 b2) p = λ i. variable (coded_ty.inj a0 b0 (ap (λ g. head (tail g)) p) i) (span.the_row.coded.inj a1 b1 (ap (λ g. head (tail (tail g))) p) i) (coded_ℕ.inj a2 b2 (ap (λ g. tail (tail (tail g))) p) i)
   typed_injective (negative a0 a1 a2) (negative b0 b1 b2) p = λ i. negative (coded_ty.inj a0 b0 (ap (λ g. head (tail g)) p) i) (span.the_row.coded.inj a1 b1 (ap (λ g. head (tail (tail g))) p) i) (typed_injective a2 b2 (ap (λ g. tail (tail (tail g))) p) i)
   typed_injective (denied a0 a1 a2) (denied b0 b1 b2) p = λ i. denied (coded_ty.inj a0 b0 (ap (λ g. head (tail g)) p) i) (span.the_row.coded.inj a1 b1 (ap (λ g. head (tail (tail g))) p) i) (typed_injective a2 b2 (ap (λ g. tail (tail (tail g))) p) i)
-  typed_injective (binary a0 a1 a2 a3 a4) (binary b0 b1 b2 b3 b4) p = λ i. binary (coded_ty.inj a0 b0 (ap (λ g. head (tail g)) p) i) (span.the_row.coded.inj a1 b1 (ap (λ g. head (tail (tail g))) p) i) (binary_op.the_row.coded.inj a2 b2 (ap (λ g. head (tail (tail (tail g)))) p) i) (typed_injective a3 b3 (ap (λ g. head (tail (tail (tail (tail g))))) p) i) (typed_injective a4 b4 (ap (λ g. tail (tail (tail (tail (tail g))))) p) i)
-  typed_injective (lazy a0 a1 a2 a3 a4) (lazy b0 b1 b2 b3 b4) p = λ i. lazy (coded_ty.inj a0 b0 (ap (λ g. head (tail g)) p) i) (span.the_row.coded.inj a1 b1 (ap (λ g. head (tail (tail g))) p) i) (lazy_op.the_row.coded.inj a2 b2 (ap (λ g. head (tail (tail (tail g)))) p) i) (typed_injective a3 b3 (ap (λ g. head (tail (tail (tail (tail g))))) p) i) (typed_injective a4 b4 (ap (λ g. tail (tail (tail (tail (tail g))))) p) i)
-  typed_injective (assign a0 a1 a2 a3) (assign b0 b1 b2 b3) p = λ i. assign (coded_ty.inj a0 b0 (ap (λ g. head (tail g)) p) i) (span.the_row.coded.inj a1 b1 (ap (λ g. head (tail (tail g))) p) i) (coded_ℕ.inj a2 b2 (ap (λ g. head (tail (tail (tail g)))) p) i) (typed_injective a3 b3 (ap (λ g. tail (tail (tail (tail g)))) p) i)
-  typed_injective (assign_value a0 a1 a2 a3) (assign_value b0 b1 b2 b3) p = λ i. assign_value (coded_ty.inj a0 b0 (ap (λ g. head (tail g)) p) i) (span.the_row.coded.inj a1 b1 (ap (λ g. head (tail (tail g))) p) i) (typed_injective a2 b2 (ap (λ g. head (tail (tail (tail g)))) p) i) (typed_injective a3 b3 (ap (λ g. tail (tail (tail (tail g)))) p) i)
-  typed_injective (update a0 a1 a2 a3 a4) (update b0 b1 b2 b3 b4) p = λ i. update (coded_ty.inj a0 b0 (ap (λ g. head (tail g)) p) i) (span.the_row.coded.inj a1 b1 (ap (λ g. head (tail (tail g))) p) i) (binary_op.the_row.coded.inj a2 b2 (ap (λ g. head (tail (tail (tail g)))) p) i) (coded_ℕ.inj a3 b3 (ap (λ g. head (tail (tail (tail (tail g))))) p) i) (typed_injective a4 b4 (ap (λ g. tail (tail (tail (tail (tail g))))) p) i)
-  typed_injective (update_value a0 a1 a2 a3 a4) (update_value b0 b1 b2 b3 b4) p = λ i. update_value (coded_ty.inj a0 b0 (ap (λ g. head (tail g)) p) i) (span.the_row.coded.inj a1 b1 (ap (λ g. head (tail (tail g))) p) i) (binary_op.the_row.coded.inj a2 b2 (ap (λ g. head (tail (tail (tail g)))) p) i) (typed_injective a3 b3 (ap (λ g. head (tail (tail (tail (tail g))))) p) i) (typed_injective a4 b4 (ap (λ g. tail (tail (tail (tail (tail g))))) p) i)
-  typed_injective (call a0 a1 a2 a3) (call b0 b1 b2 b3) p = λ i. call (coded_ty.inj a0 b0 (ap (λ g. head (tail g)) p) i) (span.the_row.coded.inj a1 b1 (ap (λ g. head (tail (tail g))) p) i) (coded_ℕ.inj a2 b2 (ap (λ g. head (tail (tail (tail g)))) p) i) (exprs_injective a3 b3 (ap (λ g. tail (tail (tail (tail g)))) p) i)
+  typed_injective (binary a0 a1 a2 a3 a4) (binary b0 b1 b2 b3 b4) p =
+      λ i. binary (coded_ty.inj a0 b0 (ap (λ g. head (tail g)) p) i) (span.the_row.coded.inj a1 b1 (ap (λ g. head (tail (tail g))) p) i) (binary_op.the_row.coded.inj a2 b2 (ap (λ g. head (tail (tail (tail g)))) p) i)
+      (typed_injective a3 b3 (ap (λ g. head (tail (tail (tail (tail g))))) p) i) (typed_injective a4 b4 (ap (λ g. tail (tail (tail (tail (tail g))))) p) i)
+  typed_injective (lazy a0 a1 a2 a3 a4) (lazy b0 b1 b2 b3 b4) p =
+      λ i. lazy (coded_ty.inj a0 b0 (ap (λ g. head (tail g)) p) i) (span.the_row.coded.inj a1 b1 (ap (λ g. head (tail (tail g))) p) i) (lazy_op.the_row.coded.inj a2 b2 (ap (λ g. head (tail (tail (tail g)))) p) i)
+      (typed_injective a3 b3 (ap (λ g. head (tail (tail (tail (tail g))))) p) i) (typed_injective a4 b4 (ap (λ g. tail (tail (tail (tail (tail g))))) p) i)
+  typed_injective (assign a0 a1 a2 a3) (assign b0 b1 b2 b3) p =
+      λ i. assign (coded_ty.inj a0 b0 (ap (λ g. head (tail g)) p) i) (span.the_row.coded.inj a1 b1 (ap (λ g. head (tail (tail g))) p) i) (coded_ℕ.inj a2 b2 (ap (λ g. head (tail (tail (tail g)))) p) i) (typed_injective a3 b3 (ap (λ g. tail (tail (tail (tail g)))) p) i)
+  typed_injective (assign_value a0 a1 a2 a3) (assign_value b0 b1 b2 b3) p =
+      λ i. assign_value (coded_ty.inj a0 b0 (ap (λ g. head (tail g)) p) i) (span.the_row.coded.inj a1 b1 (ap (λ g. head (tail (tail g))) p) i) (typed_injective a2 b2 (ap (λ g. head (tail (tail (tail g)))) p) i) (typed_injective a3 b3 (ap (λ g. tail (tail (tail (tail g)))) p) i)
+  typed_injective (update a0 a1 a2 a3 a4) (update b0 b1 b2 b3 b4) p =
+      λ i. update (coded_ty.inj a0 b0 (ap (λ g. head (tail g)) p) i) (span.the_row.coded.inj a1 b1 (ap (λ g. head (tail (tail g))) p) i) (binary_op.the_row.coded.inj a2 b2 (ap (λ g. head (tail (tail (tail g)))) p) i)
+      (coded_ℕ.inj a3 b3 (ap (λ g. head (tail (tail (tail (tail g))))) p) i) (typed_injective a4 b4 (ap (λ g. tail (tail (tail (tail (tail g))))) p) i)
+  typed_injective (update_value a0 a1 a2 a3 a4) (update_value b0 b1 b2 b3 b4) p =
+      λ i. update_value (coded_ty.inj a0 b0 (ap (λ g. head (tail g)) p) i) (span.the_row.coded.inj a1 b1 (ap (λ g. head (tail (tail g))) p) i) (binary_op.the_row.coded.inj a2 b2 (ap (λ g. head (tail (tail (tail g)))) p) i)
+      (typed_injective a3 b3 (ap (λ g. head (tail (tail (tail (tail g))))) p) i) (typed_injective a4 b4 (ap (λ g. tail (tail (tail (tail (tail g))))) p) i)
+  typed_injective (call a0 a1 a2 a3) (call b0 b1 b2 b3) p =
+      λ i. call (coded_ty.inj a0 b0 (ap (λ g. head (tail g)) p) i) (span.the_row.coded.inj a1 b1 (ap (λ g. head (tail (tail g))) p) i) (coded_ℕ.inj a2 b2 (ap (λ g. head (tail (tail (tail g)))) p) i) (exprs_injective a3 b3 (ap (λ g. tail (tail (tail (tail g)))) p) i)
   typed_injective (block a0 a1 a2) (block b0 b1 b2) p = λ i. block (coded_ty.inj a0 b0 (ap (λ g. head (tail g)) p) i) (span.the_row.coded.inj a1 b1 (ap (λ g. head (tail (tail g))) p) i) (stmts_injective a2 b2 (ap (λ g. tail (tail (tail g))) p) i)
-  typed_injective (branch a0 a1 a2 a3) (branch b0 b1 b2 b3) p = λ i. branch (coded_ty.inj a0 b0 (ap (λ g. head (tail g)) p) i) (span.the_row.coded.inj a1 b1 (ap (λ g. head (tail (tail g))) p) i) (typed_injective a2 b2 (ap (λ g. head (tail (tail (tail g)))) p) i) (typed_injective a3 b3 (ap (λ g. tail (tail (tail (tail g)))) p) i)
-  typed_injective (choice a0 a1 a2 a3 a4) (choice b0 b1 b2 b3 b4) p = λ i. choice (coded_ty.inj a0 b0 (ap (λ g. head (tail g)) p) i) (span.the_row.coded.inj a1 b1 (ap (λ g. head (tail (tail g))) p) i) (typed_injective a2 b2 (ap (λ g. head (tail (tail (tail g)))) p) i) (typed_injective a3 b3 (ap (λ g. head (tail (tail (tail (tail g))))) p) i) (typed_injective a4 b4 (ap (λ g. tail (tail (tail (tail (tail g))))) p) i)
-  typed_injective (repeat a0 a1 a2 a3 a4) (repeat b0 b1 b2 b3 b4) p = λ i. repeat (coded_ty.inj a0 b0 (ap (λ g. head (tail g)) p) i) (span.the_row.coded.inj a1 b1 (ap (λ g. head (tail (tail g))) p) i) ((coded_list assertion.the_row.coded).inj a2 b2 (ap (λ g. head (tail (tail (tail g)))) p) i) (typed_injective a3 b3 (ap (λ g. head (tail (tail (tail (tail g))))) p) i) (typed_injective a4 b4 (ap (λ g. tail (tail (tail (tail (tail g))))) p) i)
+  typed_injective (branch a0 a1 a2 a3) (branch b0 b1 b2 b3) p =
+      λ i. branch (coded_ty.inj a0 b0 (ap (λ g. head (tail g)) p) i) (span.the_row.coded.inj a1 b1 (ap (λ g. head (tail (tail g))) p) i) (typed_injective a2 b2 (ap (λ g. head (tail (tail (tail g)))) p) i) (typed_injective a3 b3 (ap (λ g. tail (tail (tail (tail g)))) p) i)
+  typed_injective (choice a0 a1 a2 a3 a4) (choice b0 b1 b2 b3 b4) p =
+      λ i. choice (coded_ty.inj a0 b0 (ap (λ g. head (tail g)) p) i) (span.the_row.coded.inj a1 b1 (ap (λ g. head (tail (tail g))) p) i) (typed_injective a2 b2 (ap (λ g. head (tail (tail (tail g)))) p) i)
+      (typed_injective a3 b3 (ap (λ g. head (tail (tail (tail (tail g))))) p) i) (typed_injective a4 b4 (ap (λ g. tail (tail (tail (tail (tail g))))) p) i)
+  typed_injective (repeat a0 a1 a2 a3 a4) (repeat b0 b1 b2 b3 b4) p =
+      λ i. repeat (coded_ty.inj a0 b0 (ap (λ g. head (tail g)) p) i) (span.the_row.coded.inj a1 b1 (ap (λ g. head (tail (tail g))) p) i) ((coded_list assertion.the_row.coded).inj a2 b2 (ap (λ g. head (tail (tail (tail g)))) p) i)
+      (typed_injective a3 b3 (ap (λ g. head (tail (tail (tail (tail g))))) p) i) (typed_injective a4 b4 (ap (λ g. tail (tail (tail (tail (tail g))))) p) i)
   typed_injective x y p = absurd (omega (arith, ap tag p))
 
   pub stmts_injective : (x y : TypedStmts) → stmts_code x ≡ stmts_code y → x ≡ y

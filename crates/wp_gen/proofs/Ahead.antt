@@ -6,8 +6,8 @@ use Rattle.logic_term.specs.declared.subst.Replacement.{Replacement}
 use Rattle.logic_term.specs.Free.{free}
 use Rattle.logic_term.specs.Normal.{reduced}
 use Rattle.logic_term.specs.Placed.{Placing, itself, put, name_at, placed}
-use Rattle.logic_term.specs.Subst.{above, look, placing, with_number}
-use Rattle.logic_term.specs.Term.{Term, forall, implies}
+use Rattle.logic_term.specs.Subst.{above, look, placing}
+use Rattle.logic_term.specs.Term.{Term, var, forall, implies}
 use Rattle.logic_term.proofs.Coincide.{free_above}
 use Rattle.logic_term.proofs.Depths.{Denotes, denotes_at, free_placed, placed_twice, put_counts, same_reducts}
 use Rattle.logic_term.proofs.FreeLaw.{same_test}
@@ -46,7 +46,7 @@ denote_set s ν τ x t b h y l =
     ((λ z e. made_below t s ν τ z b h e), (λ n. made_is t s ν τ n b h)) (h y l)
 
 denote_fresh : (s : State) (ν τ : Placing) (x : Name) (d : ℕ) → Denote s.next s.terms ν τ
-    → Denote (suc s.next) (with_number s.next x s.terms) (put (record { 0 = s.next }) (name_at d) ν) (put x (name_at d) τ)
+    → Denote (suc s.next) (record { name = x; by = var (record { 0 = s.next }) } ∷ s.terms) (put (record { 0 = s.next }) (name_at d) ν) (put x (name_at d) τ)
 denote_fresh s ν τ x d h y l = denotes_at true s.next (look s.terms y) ν (name_at d) (τ y) (y.0 == x.0) true (λ e. h y l) refl
 
 -- ---- one command more

@@ -7,8 +7,8 @@ use Rattle.logic_term.specs.declared.subst.Replacement.{Replacement}
 use Rattle.logic_term.specs.Free.{free}
 use Rattle.logic_term.specs.Normal.{reduced}
 use Rattle.logic_term.specs.Placed.{Placing, itself, placed}
-use Rattle.logic_term.specs.Subst.{above, look, put_reduced, with_number}
-use Rattle.logic_term.specs.Term.{Term, implies, forall}
+use Rattle.logic_term.specs.Subst.{above, look, put_reduced}
+use Rattle.logic_term.specs.Term.{Term, var, implies, forall}
 use Rattle.wp_gen.specs.declared.command.Command.{Command}
 use Rattle.wp_gen.specs.declared.command.Command.TheVariants.{Set, Fresh, Assume}
 use Rattle.wp_gen.specs.declared.context.Entry.{Entry}
@@ -46,7 +46,7 @@ made s t = put_reduced s.next s.terms t
 
 abbrev pub after : State → Command → State
 after s (Set x t) = record { terms = record { name = x; by = made s t } ∷ s.terms; next = s.next; context = s.context }
-after s (Fresh x q) = record { terms = with_number s.next x s.terms; next = suc s.next; context = Variable (record { 0 = s.next }) q ∷ s.context }
+after s (Fresh x q) = record { terms = record { name = x; by = var (record { 0 = s.next }) } ∷ s.terms; next = suc s.next; context = Variable (record { 0 = s.next }) q ∷ s.context }
 after s (Assume a) = record { terms = s.terms; next = s.next; context = Known (made s a) ∷ s.context }
 
 -- the goal at the state, closed

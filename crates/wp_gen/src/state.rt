@@ -96,7 +96,7 @@ impl State {
         if term.above()? > first_new() {
             return Err(NoMemory);
         }
-        term.placed(alloc, true, self.next, &[], self.terms.as_slice())
+        term.placed(alloc, true, self.next, self.terms.as_slice())
     }
 
     /// From here on the name stands for the value of the term.

@@ -1,5 +1,6 @@
 use Rattle.std.proofs.Common.{◌≡◌, take, map}
-use Rattle.mir_build.specs.Lowering.{formula, with_terms}
+use Rattle.logic_term.specs.Subst.{with_terms}
+use Rattle.mir_build.specs.Lowering.{formula}
 use Rattle.mir_build.proofs.around.formulas_with_terms.Given as goal
 
 abbrev pub invariant-loop-assertion : goal.invariant-loop-assertion

@@ -76,4 +76,5 @@ unfolding quoted
 returns-in-121 c = c.found_in-in-121.ensures ∙ quoted_by 121 _ c.args.text.now (c.requires ∙ ap (λ (b : ℕ). Some b) c.in-121.is) refl
 
 pub returns-in_default : goal.returns-in_default
-returns-in_default c = none_quoted c.args.first c.args.text.now c.requires (omega arith, (omega arith, (omega arith, (omega arith, (omega arith, (omega arith, (omega arith, (omega arith, (omega arith, (omega arith, (omega arith, (omega arith, (omega arith, (omega arith, (omega arith, (omega arith, (omega arith, (omega arith, tt))))))))))))))))))
+returns-in_default c = none_quoted c.args.first c.args.text.now c.requires
+    (omega arith, (omega arith, (omega arith, (omega arith, (omega arith, (omega arith, (omega arith, (omega arith, (omega arith, (omega arith, (omega arith, (omega arith, (omega arith, (omega arith, (omega arith, (omega arith, (omega arith, (omega arith, tt))))))))))))))))))

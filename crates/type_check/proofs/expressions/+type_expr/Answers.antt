@@ -1,5 +1,5 @@
 -- The loop over arguments, what a block leaves in scope, and loops with attributes.
-use Rattle.std.proofs.Common.{◌≡◌, ◌∙◌, Result, Ok, Err, None, ◌+◌, ◌++◌, [], ◌∷◌, length, take, ap, sym, subst, refl, arith, rules}
+use Rattle.std.proofs.Common.{◌≡◌, ◌∙◌, Result, Ok, Err, ◌+◌, ◌++◌, [], ◌∷◌, length, take, ap, sym, subst, arith, rules}
 use Rattle.std.specs.Prelude.{OnOk, slice_get}
 use Rattle.std.proofs.lemmas.Grind.{common_steps}
 use Rattle.std.proofs.lemmas.Result.{err_from_is_err_and}

@@ -1,0 +1,72 @@
+-- A term's values have its sort.
+use Rattle.std.proofs.Common.{◌≡◌, ◌⊎◌, inl, inr, ℕ, ℤ, Bool, true}
+use Rattle.source_kinds.specs.declared.kinds.IntKind.{IntKind}
+use Rattle.source_kinds.specs.Range.{fits}
+use Rattle.logic_term.specs.declared.kinds.Ctor.{Ctor}
+use Rattle.logic_term.specs.declared.kinds.Ctor.TheVariants.{Tuple, Variant, Closure}
+use Rattle.logic_term.specs.Meaning.{Has, Structure, structure_of, Env, Says, Each, Applied, Means, Argument}
+use Rattle.logic_term.specs.Sort.{HasSort, HaveSorts, instance, instances, of_int, of_math_int, of_bool, of_tuple, of_adt, of_none, of_more}
+use Rattle.logic_term.specs.Sorted.{Scope, MadeSort, OperatorSort, Sorted, AllSorted, FitsScope}
+use Rattle.logic_term.specs.Term.{Operator, modeled, negated, denied, arith, less, at_most, equal, both, either, implied, made, every, some, Term, Terms, var, lit, truth, apply, bind, no_terms, and_term, count}
+use Rattle.logic_term.specs.Theory.{Theory, declared}
+use Rattle.logic_term.specs.Ty.{Ty, Tys, int, bool, math_int}
+use Rattle.logic_term.specs.Value.{Value, Values, Number, Flag, Made}
+use Rattle.logic_term.proofs.SortParts.{instances_instances}
+
+module _ (Θ : Theory) (θ : Tys) where
+  abbrev S : Structure
+  S = structure_of Θ θ
+
+  abbrev H : Value → Ty → Type 0
+  H v s = HasSort (declared Θ) v (instance θ s)
+
+  abbrev Hs : Values → Tys → Type 0
+  Hs vs ss = HaveSorts (declared Θ) vs (instances θ ss)
+
+  number_sort : (v : Value) (z : ℤ) (s : Ty) → s ≡ math_int → v ≡ Number z → H v s
+  number_sort v z s e q = rw e (rw q of_math_int)
+
+  flag_sort : (v : Value) (b : Bool) (s : Ty) → s ≡ bool → v ≡ Flag b → H v s
+  flag_sort v b s e q = rw e (rw q of_bool)
+
+  says_sort : (P : Type 0) (v : Value) (s : Ty) → s ≡ bool → Says P v → H v s
+  says_sort P v s e p = flag_sort v p.0 s e p.1
+
+  lit_sort : (z : ℤ) (t : Ty) → (t ≡ math_int) ⊎ ((k : IntKind) × (t ≡ int k) × (fits k z ≡ true)) → H (Number z) t
+  lit_sort z t (inl e) = rw e of_math_int
+  lit_sort z t (inr (k, e, f)) = rw e (of_int f)
+
+  made_sort : (c : Ctor) (ss : Tys) (s : Ty) (vs : Values) → MadeSort Θ c ss s → Hs vs ss → H (Made c vs) s
+  made_sort Tuple ss s vs e h = rw e (of_tuple h)
+  made_sort (Variant d k) ss s vs m h =
+      let g : HaveSorts (declared Θ) vs (instances (instances θ m.1) m.2) = rw (← instances_instances θ m.1 m.2) (rw m.5 at h) in
+      rw m.3 (of_adt {ts = instances θ m.1} m.4 g)
+  made_sort (Closure n) ss s vs e h = absurd e
+
+  -- all: values of all arguments have the sorts
+  operator_sound : (op : Operator) (n : ℕ) (A : ℕ → Has) (ss : Tys) (s : Ty) → OperatorSort Θ op ss s → ((vs : Values) → Each n A vs → Hs vs ss) → (v : Value) → Applied op n A v → H v s
+  operator_sound modeled n A ss s o all v p = number_sort v _ s o.2 p.2
+  operator_sound negated n A ss s o all v p = number_sort v _ s o.1 p.2
+  operator_sound denied n A ss s o all v p = says_sort _ v s o.1 p
+  operator_sound (arith op) n A ss s o all v p = number_sort v _ s o.1 p.4
+  operator_sound less n A ss s o all v p = flag_sort v _ s o.1 p.4
+  operator_sound at_most n A ss s o all v p = flag_sort v _ s o.1 p.4
+  operator_sound equal n A ss s o all v p = says_sort _ v s o.2 p
+  operator_sound both n A ss s o all v p = says_sort _ v s o.1 p
+  operator_sound either n A ss s o all v p = says_sort _ v s o.1 p
+  operator_sound implied n A ss s o all v p = says_sort _ v s o.1 p
+  operator_sound (made c) n A ss s o all v p = rw p.2 (made_sort c ss s p.0 o (all p.0 p.1))
+
+  -- under a binder no sort of a value is asked, since a formula's value is a truth value
+  mutual
+    pub sort_sound : (t : Term) (Γ : Scope) (s : Ty) (ρ : Env) → Sorted Θ Γ t s → FitsScope Θ θ Γ ρ → (v : Value) → Means S t ρ v → H v s
+    sort_sound (var x) Γ s ρ q h v p = rw p (h x s q)
+    sort_sound (lit z t) Γ s ρ q h v p = rw p (rw q.0 (lit_sort z t q.1))
+    sort_sound (truth b) Γ s ρ q h v p = flag_sort v b s q p
+    sort_sound (apply op ts) Γ s ρ q h v p = operator_sound op (count ts) (λ k. Argument S ts ρ k) q.0 s q.1 (λ vs m. all_sound ts Γ q.0 ρ q.2 h vs m) v p
+    sort_sound (bind every x r t) Γ s ρ q h v p = says_sort _ v s q.0 p
+    sort_sound (bind some x r t) Γ s ρ q h v p = says_sort _ v s q.0 p
+
+    all_sound : (ts : Terms) (Γ : Scope) (ss : Tys) (ρ : Env) → AllSorted Θ Γ ts ss → FitsScope Θ θ Γ ρ → (vs : Values) → Each (count ts) (λ k. Argument S ts ρ k) vs → Hs vs ss
+    all_sound no_terms Γ ss ρ q h vs p = rw p (rw q of_none)
+    all_sound (and_term t ts) Γ ss ρ q h vs p = rw p.4 (rw q.2 (of_more (sort_sound t Γ q.0 ρ q.3 h p.0 p.2) (all_sound ts Γ q.1 ρ q.4 h p.1 p.3)))

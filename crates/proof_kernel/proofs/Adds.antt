@@ -1,0 +1,139 @@
+-- What a step cites is there, and what it adds to a sequent is its own.
+use Rattle.std.proofs.Common.{◌≡◌, ℕ, zero, suc, ◌==◌, Bool, true, false, cond, List, [], ◌∷◌, ◌++◌, map, flat_map, Option, Some, None, ◌⊎◌, inl, inr, refl, subst, arith}
+use Rattle.std.specs.List.{Contains}
+use Rattle.std.proofs.lemmas.Bool.Decides.{nat_tests}
+use Rattle.text_core.specs.declared.name.Name.{Name}
+use Rattle.logic_term.specs.declared.kinds.Label2.{Label2}
+use Rattle.logic_term.specs.Ty.{Ty}
+use Rattle.logic_term.specs.Term.{Term, var}
+use Rattle.logic_term.specs.Subst.{replaced}
+use Rattle.proof_kernel.specs.declared.sequent.Sequent.{Sequent}
+use Rattle.proof_kernel.specs.declared.step.Multiple.{Multiple}
+use Rattle.proof_kernel.specs.declared.step.Reference.{Reference}
+use Rattle.proof_kernel.specs.declared.step.Reference.TheVariants.{Goal, Hyp as Of, Back}
+use Rattle.proof_kernel.specs.declared.step.Step.{Step}
+use Rattle.proof_kernel.specs.Rules.{label, same_label, hypothesis, sort_of, with_goal, assuming, declaring, Intros, stop, by_premise, by_variable, lower_bound, upper_bound}
+use Rattle.proof_kernel.specs.Linear.{Difference, row_of, row_back, row_if_found, referred, AreRows}
+use Rattle.proof_kernel.specs.Setting.{Setting}
+use Rattle.proof_kernel.specs.Steps.{labels_in, labels_of, new_names, IsLabelOf, IsVariableOf, AddsItsOwn}
+use Rattle.proof_kernel.specs.Derivation.{Gives, by_intro, by_hyp, by_split, by_range, by_lin}
+
+-- P is so of each item
+abbrev pub Each : {A : Type 0} → (A → Type 0) → List A → Type 0
+Each P [] = Unit {0}
+Each P (x ∷ xs) = P x × Each P xs
+
+pub each_and : {A : Type 0} (P : A → Type 0) (xs ys : List A) → Each P xs → Each P ys → Each P (xs ++ ys)
+each_and P [] ys a b = b
+each_and P (x ∷ xs) ys a b = (a.0, each_and P xs ys a.1 b)
+
+each_of : {A : Type 0} (P : A → Type 0) (xs : List A) (x : A) → Each P xs → Contains xs x → P x
+each_of P [] x e c = absurd (omega (arith, c.1))
+each_of P (y ∷ ys) x e (zero, within, is) = subst P is e.0
+each_of P (y ∷ ys) x e (suc k, within, is) = each_of P ys x e.1 (k, omega arith, is)
+
+each_map : {A : Type 0} (P Q : A → Type 0) (xs : List A) → ((x : A) → P x → Q x) → Each P xs → Each Q xs
+each_map P Q [] f e = tt
+each_map P Q (x ∷ xs) f e = (f x e.0, each_map P Q xs f e.1)
+
+contains_itself : {A : Type 0} (xs : List A) → Each (Contains xs) xs
+contains_itself [] = tt
+contains_itself (x ∷ xs) = ((zero, omega arith, refl), each_map (Contains xs) (Contains (x ∷ xs)) xs (λ y c. (suc c.0, omega (arith, c.1), c.2)) (contains_itself xs))
+
+-- ---- one row a rule
+
+row_found : (row : Term → Option Difference) (o : Option Term) (d : Difference) → row_if_found row o ≡ Some d → (t : Term) × (o ≡ Some t)
+row_found row None d e = absurd (cc)
+row_found row (Some t) d e = (t, refl)
+
+reference_there : (q : Sequent) (of : Reference) (d : Difference) → referred q of ≡ Some d → Each (IsLabelOf q) (labels_in of)
+reference_there q Goal d e = tt
+reference_there q (Of l) d e = (row_found (row_of q.vars) (hypothesis l q.hyps) d e, tt)
+reference_there q (Back l) d e = (row_found (row_back q.vars) (hypothesis l q.hyps) d e, tt)
+
+rows_there : (q : Sequent) (ms : List Multiple) (ds : List Difference) → AreRows q ms ds → Each (IsLabelOf q) (flat_map (λ m. labels_in m.of) ms)
+rows_there q [] ds r = tt
+rows_there q (m ∷ ms) [] r = absurd r
+rows_there q (m ∷ ms) (d ∷ ds) r = each_and (IsLabelOf q) (labels_in m.of) (flat_map (λ m. labels_in m.of) ms) (reference_there q m.of d r.0) (rows_there q ms ds r.1)
+
+-- P is so of the label of each hypothesis, and N of the name of each variable
+abbrev pub Has : (Label2 → Type 0) → (Name → Type 0) → Sequent → Type 0
+Has P N q = Each (λ (h : Label2 × Term). P h.0) q.hyps × Each (λ (v : Name × Ty). N v.0) q.vars
+
+module _ (P : Label2 → Type 0) (N : Name → Type 0) (s : ℕ) (own : (k : ℕ) → P (label s k)) where
+  more_hyps : (hs gs : List (Label2 × Term)) → Each (λ (h : Label2 × Term). P h.0) hs → Each (λ (h : Label2 × Term). P h.0) gs → Each (λ (h : Label2 × Term). P h.0) (hs ++ gs)
+  more_hyps hs gs a b = each_and (λ (h : Label2 × Term). P h.0) hs gs a b
+
+  intros_add : (k : ℕ) (names : List Name) (q r : Sequent) → Intros s k names q r → Each N names → Has P N q → Has P N r
+  intros_add k names q r (stop e) new has = has
+  intros_add k names q r (by_premise {a = a} {b = c} e i) new has =
+      intros_add (suc k) names (assuming q (label s k) a c) r i new (more_hyps q.hyps ((label s k, a) ∷ []) has.0 (own k, tt), has.1)
+  intros_add k names q r (by_variable {x = x} {y = y} {names = rest} {t = t} {b = c} e fresh i) new has =
+      intros_add k rest (declaring q x t (replaced y (var x) c)) r i new.1 (has.0, each_and (λ (v : Name × Ty). N v.0) q.vars ((x, t) ∷ []) has.1 (new.0, tt))
+
+  goals_keep : (q : Sequent) (goals : List Term) → Has P N q → Each (Has P N) (map (with_goal q) goals)
+  goals_keep q [] has = tt
+  goals_keep q (t ∷ ts) has = (has, goals_keep q ts has)
+
+  -- what the step cites is there; and where P is so of the sequent's labels, and N of its names and of the new ones, they are so of those of the premises
+  pub given_adds : (w : Setting) (q : Sequent) (step : Step) (ps : List Sequent) → Gives w s q step ps → Each N (new_names step) → Has P N q → Each (IsLabelOf q) (labels_of step) × Each (Has P N) ps
+  given_adds w q step ps (by_intro {names = names} {r = r} some i) new has = (tt, (intros_add 1 names q r i new has, tt))
+  given_adds w q step ps (by_hyp {h = h} e same) new has = (((h, e), tt), tt)
+  given_adds w q step ps (by_split e) new has = (tt, goals_keep q _ has)
+  given_adds w q step ps (by_range {x = x} {k = k} e) new has =
+      (tt, ((more_hyps q.hyps ((label s 1, lower_bound k x) ∷ (label s 2, upper_bound k x) ∷ []) has.0 (own 1, (own 2, tt)), has.1), tt))
+  given_adds w q step ps (by_lin {ms = ms} c) new has = (rows_there q ms c.rows c.are_rows, tt)
+
+-- ---- so what is added is the step's own
+
+found_or : {A : Type 0} (b : Bool) (x : A) (o : Option A) → ((t : A) × (o ≡ Some t)) ⊎ (b ≡ true) → (t : A) × (cond b (Some x) o ≡ Some t)
+found_or true x o f = (x, refl)
+found_or false x o (inl f) = f
+found_or false x o (inr e) = absurd (cc)
+
+same_label_itself : (l : Label2) → same_label l l ≡ true
+same_label_itself l = grind (arith, nat_tests)
+
+same_name_itself : (x : Name) → (x.0 == x.0) ≡ true
+same_name_itself x = grind (arith, nat_tests)
+
+labels_there : (hs : List (Label2 × Term)) → Each (λ (h : Label2 × Term). (t : Term) × (hypothesis h.0 hs ≡ Some t)) hs
+labels_there [] = tt
+labels_there (g ∷ hs) = (
+  found_or (same_label g.0 g.0) g.1 (hypothesis g.0 hs) (inr (same_label_itself g.0)),
+  each_map (λ (h : Label2 × Term). (t : Term) × (hypothesis h.0 hs ≡ Some t)) (λ (h : Label2 × Term). (t : Term) × (hypothesis h.0 (g ∷ hs) ≡ Some t)) hs
+      (λ h f. found_or (same_label h.0 g.0) g.1 (hypothesis h.0 hs) (inl f)) (labels_there hs),
+)
+
+names_there : (vs : List (Name × Ty)) → Each (λ (v : Name × Ty). (t : Ty) × (sort_of v.0 vs ≡ Some t)) vs
+names_there [] = tt
+names_there (u ∷ vs) = (
+  found_or (u.0.0 == u.0.0) u.1 (sort_of u.0 vs) (inr (same_name_itself u.0)),
+  each_map (λ (v : Name × Ty). (t : Ty) × (sort_of v.0 vs ≡ Some t)) (λ (v : Name × Ty). (t : Ty) × (sort_of v.0 (u ∷ vs) ≡ Some t)) vs
+      (λ v f. found_or (v.0.0 == u.0.0) u.1 (sort_of v.0 vs) (inl f)) (names_there vs),
+)
+
+module _ (w : Setting) (s : ℕ) (q : Sequent) (step : Step) (premises : List Sequent) (g : Gives w s q step premises) where
+  abbrev OwnLabel : Label2 → Type 0
+  OwnLabel l = IsLabelOf q l ⊎ (l.step ≡ s)
+
+  abbrev OwnName : Name → Type 0
+  OwnName x = IsVariableOf q x ⊎ Contains (new_names step) x
+
+  all_own : Each (IsLabelOf q) (labels_of step) × Each (Has OwnLabel OwnName) premises
+  all_own = given_adds OwnLabel OwnName s (λ k. inr refl) w q step premises g
+      (each_map (Contains (new_names step)) OwnName (new_names step) (λ x c. inr c) (contains_itself (new_names step))) (
+        each_map (λ (h : Label2 × Term). (t : Term) × (hypothesis h.0 q.hyps ≡ Some t)) (λ (h : Label2 × Term). OwnLabel h.0) q.hyps (λ h f. inl f) (labels_there q.hyps),
+        each_map (λ (v : Name × Ty). (t : Ty) × (sort_of v.0 q.vars ≡ Some t)) (λ (v : Name × Ty). OwnName v.0) q.vars (λ v f. inl f) (names_there q.vars),
+      )
+
+  pub cited_there : (l : Label2) → Contains (labels_of step) l → IsLabelOf q l
+  cited_there l c = each_of (IsLabelOf q) (labels_of step) l all_own.0 c
+
+  pub adds_its_own : (p : Sequent) → Contains premises p → AddsItsOwn s q step p
+  adds_its_own p c =
+      let has = each_of (Has OwnLabel OwnName) premises p all_own.1 c in
+      record {
+        labels = λ h k. each_of (λ (h : Label2 × Term). OwnLabel h.0) p.hyps h has.0 k;
+        names = λ v k. each_of (λ (v : Name × Ty). OwnName v.0) p.vars v has.1 k;
+      }

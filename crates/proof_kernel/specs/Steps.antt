@@ -1,0 +1,49 @@
+-- What a step names: a list each of labels and of names, whatever the kind of the step.
+use Rattle.std.specs.Prelude.{◌≡◌, ◌⊎◌, ℕ, List, [], ◌∷◌, Some, flat_map}
+use Rattle.std.specs.List.{Contains}
+use Rattle.text_core.specs.declared.name.Name.{Name}
+use Rattle.logic_term.specs.declared.kinds.Label2.{Label2}
+use Rattle.logic_term.specs.Ty.{Ty}
+use Rattle.logic_term.specs.Term.{Term}
+use Rattle.proof_kernel.specs.declared.sequent.Sequent.{Sequent}
+use Rattle.proof_kernel.specs.declared.step.Reference.{Reference}
+use Rattle.proof_kernel.specs.declared.step.Reference.TheVariants.{Goal, Hyp as Of, Back}
+use Rattle.proof_kernel.specs.declared.step.Step.{Step}
+use Rattle.proof_kernel.specs.declared.step.Step.TheVariants.{Intro, Hyp, Split, Range, Lin}
+use Rattle.proof_kernel.specs.Rules.{hypothesis, sort_of}
+
+abbrev pub labels_in : Reference → List Label2
+labels_in Goal = []
+labels_in (Of l) = l ∷ []
+labels_in (Back l) = l ∷ []
+
+-- the labels of the hypotheses that the step cites
+abbrev pub labels_of : Step → List Label2
+labels_of (Intro names) = []
+labels_of (Hyp l) = l ∷ []
+labels_of Split = []
+labels_of (Range x) = []
+labels_of (Lin ms) = flat_map (λ m. labels_in m.of) ms
+
+-- the names that the step gives to variables of its premises
+abbrev pub new_names : Step → List Name
+new_names (Intro names) = names
+new_names (Hyp l) = []
+new_names Split = []
+new_names (Range x) = []
+new_names (Lin ms) = []
+
+-- ---- what is there, and what is added
+
+-- a hypothesis of the sequent has the label
+abbrev pub IsLabelOf : Sequent → Label2 → Type 0
+IsLabelOf q l = (h : Term) × (hypothesis l q.hyps ≡ Some h)
+
+-- the name is that of a variable of the sequent
+abbrev pub IsVariableOf : Sequent → Name → Type 0
+IsVariableOf q x = (t : Ty) × (sort_of x q.vars ≡ Some t)
+
+-- what the premise has beside the labels and variables of the sequent is labelled as of step s, or has a new name of the step
+pub record AddsItsOwn (s : ℕ) (q : Sequent) (step : Step) (premise : Sequent) : Type 0 where
+  pub labels : (h : Label2 × Term) → Contains premise.hyps h → IsLabelOf q h.0 ⊎ (h.0.step ≡ s)
+  pub names : (v : Name × Ty) → Contains premise.vars v → IsVariableOf q v.0 ⊎ Contains (new_names step) v.0
