@@ -3,7 +3,7 @@ use Rattle.std.proofs.Common.{List, [], ◌∷◌, ◌++◌}
 use Rattle.logic_term.specs.Meaning.{Structure, Env, Holds}
 use Rattle.logic_term.specs.Term.{Term}
 use Rattle.logic_term.proofs.Alike.{yes_alike}
-use Rattle.logic_term.proofs.SubstLaw.{replaced_means}
+use Rattle.logic_term.proofs.PlacedLaw.{replaced_means}
 use Rattle.logic_term.proofs.Truth.{holds_implies, holds_forall}
 use Rattle.wp_gen.specs.declared.command.Command.{Command}
 use Rattle.wp_gen.specs.declared.goal.Goal.{Goal}

@@ -1,7 +1,7 @@
 -- Lists of goals.
-use Rattle.std.proofs.Common.{◌≡◌, ◌∙◌, sym, ap, ℕ, zero, suc, ◌+◌, ◌<◌, ◌≤◌, List, [], ◌∷◌, ◌++◌, length, min, get_or, take, drop, refl, add-zero, add-one, arith, ◌⊎◌, inl, inr}
+use Rattle.std.proofs.Common.{◌≡◌, ◌∙◌, sym, ap, ℕ, zero, suc, ◌+◌, ◌<◌, ◌≤◌, List, [], ◌∷◌, ◌++◌, length, min, get_or, drop, refl, add-zero, add-one, arith, ◌⊎◌, inl, inr}
 use Rattle.std.proofs.lemmas.Bool.{cases_lt}
-use Rattle.std.proofs.lemmas.List.{take_more, drop_more, drop_all, append-nil, append_assoc, length-take-le}
+use Rattle.std.proofs.lemmas.List.{drop_more, drop_all, append-nil, append_assoc}
 use Rattle.text_core.specs.declared.refusal.Kind.{Kind}
 use Rattle.text_core.specs.declared.span.Span.{Span}
 use Rattle.logic_term.specs.Term.{Term}
@@ -11,7 +11,8 @@ use Rattle.logic_term.specs.declared.subst.Replacement.{Replacement}
 use Rattle.logic_term.specs.declared.obligation.Obligation.{Obligation}
 use Rattle.logic_term.specs.Ty.{Ty}
 use Rattle.wp_gen.specs.declared.command.Command.{Command}
-use Rattle.wp_gen.specs.Walk.{first_span, each_goal, entries, parameters, numbered}
+use Rattle.wp_gen.specs.State.{listed}
+use Rattle.wp_gen.specs.Walk.{first_span, each_goal, entries, parameters}
 
 shorter : (m n i : ℕ) → min m n ≤ i → (m ≤ i) ⊎ (n ≤ i)
 shorter m n i h = elim (cases_lt i m) [ inl below ↦ inr (omega arith) | inr above ↦ inl above ]
@@ -70,19 +71,14 @@ no_more_parameters xs ts i whole cs past so_far =
     sym (so_far ∙ ap (λ ds. cs ++ ds) (past_parameters xs ts i (shorter (length xs) (length ts) i past)) ∙ append-nil cs)
 
 -- one obligation more
-pub one_more_obligation : (owner : List ℕ) (n m : ℕ) (gs : List Goal) (g : Goal) → m ≡ n + length gs → numbered owner n (gs ++ g ∷ []) ≡ numbered owner n gs ++ numbered owner m (g ∷ [])
-one_more_obligation owner n m [] g e = ap (λ i. numbered owner i (g ∷ [])) (sym (add-zero n) ∙ sym e)
+one_more_obligation : (owner : List ℕ) (n m : ℕ) (gs : List Goal) (g : Goal) → m ≡ n + length gs → listed owner n (gs ++ g ∷ []) ≡ listed owner n gs ++ listed owner m (g ∷ [])
+one_more_obligation owner n m [] g e = ap (λ i. listed owner i (g ∷ [])) (sym (add-zero n) ∙ sym e)
 one_more_obligation owner n m (h ∷ gs) g e =
     let moved : m ≡ n + 1 + length gs = omega arith in
-    ap (λ os. numbered owner n (h ∷ []) ++ os) (one_more_obligation owner (n + 1) m gs g moved)
+    ap (λ os. listed owner n (h ∷ []) ++ os) (one_more_obligation owner (n + 1) m gs g moved)
 
-pub one_more_goal : (owner : List ℕ) (first : ℕ) (goals : List Goal) (i number : ℕ) (g : Goal) (old new : List Obligation) (o : Obligation) →
-    i < length goals → g ≡ get_or goals i g → number ≡ first + i →
-    old ≡ numbered owner first (take i goals) → o ∷ [] ≡ numbered owner number (g ∷ []) → new ≡ old ++ o ∷ [] →
-    new ≡ numbered owner first (take (i + 1) goals)
-one_more_goal owner first goals i number g old new o within read number_is so_far made pushed =
-    let taken : take (i + 1) goals ≡ take i goals ++ g ∷ [] = take_more goals i g within ∙ ap (λ x. take i goals ++ x ∷ []) (sym read) in
-    let size : length (take i goals) ≡ i = length-take-le i goals (omega arith) in
-    let number_after : number ≡ first + length (take i goals) = omega (arith, size, number_is) in
-    pushed ∙ ap (λ os. os ++ o ∷ []) so_far ∙ ap (λ os. numbered owner first (take i goals) ++ os) made
-    ∙ sym (one_more_obligation owner first number (take i goals) g number_after) ∙ ap (numbered owner first) (sym taken)
+pub one_more_goal : (owner : List ℕ) (first : ℕ) (goals : List Goal) (number : ℕ) (g : Goal) (old new : List Obligation) (o : Obligation) →
+    number ≡ first + length goals → old ≡ listed owner first goals → o ∷ [] ≡ listed owner number (g ∷ []) → new ≡ old ++ o ∷ [] → new ≡ listed owner first (goals ++ g ∷ [])
+one_more_goal owner first goals number g old new o number_is so_far made pushed =
+    pushed ∙ ap (λ os. os ++ o ∷ []) so_far ∙ ap (λ os. listed owner first goals ++ os) made
+    ∙ sym (one_more_obligation owner first number goals g number_is)

@@ -1,3 +1,4 @@
+pub mod Ahead
 pub mod Commands
 pub mod PathLaws
 pub mod Quotients

@@ -1,7 +1,12 @@
 pub mod Command
+pub mod ContextFalls
+pub mod ContextView
 pub mod Count
 pub mod Limits
 pub mod Paths
+pub mod Reached
 pub mod Row
+pub mod State
+pub mod StateCode
 pub mod Walk
 pub mod Walkable

@@ -1,5 +1,5 @@
 -- Bodies with too many paths or obligations.
-use Rattle.std.specs.Prelude.{◌≡◌, ℕ, ◌<◌, ◌≤◌, ◌+◌, List, [], length}
+use Rattle.std.specs.Prelude.{ℕ, ◌<◌, ◌≤◌, ◌+◌, List, [], length}
 use Rattle.text_core.specs.declared.fault.PassError.{PassError}
 use Rattle.text_core.specs.declared.fault.PassError.TheVariants as errors
 use Rattle.text_core.specs.declared.refusal.Limit.{Limit}

@@ -1,7 +1,7 @@
 -- The walk of a body's paths from its entry, depth first, where it is true before where it is false, and the goals that are met, in
 -- order. Each goal's formula is made from the goal backwards to the point at which the walk begins. A loop head is passed once:
 -- at a second arrival on a path its invariants are goals and the path ends (Floyd 1967; Creusot).
-use Rattle.std.specs.Prelude.{◌≡◌, ℕ, ◌+◌, ◌==◌, ◌||◌, ◌&&◌, not, max, Bool, true, false, List, [], ◌∷◌, ◌++◌, length, map, drop, Some, None, slice_get, if◌then◌else◌}
+use Rattle.std.specs.Prelude.{◌≡◌, ℕ, ◌+◌, ◌==◌, ◌||◌, ◌&&◌, not, Bool, true, false, List, [], ◌∷◌, ◌++◌, length, map, drop, Some, None, slice_get, if◌then◌else◌}
 use Rattle.std.specs.List.{list_any}
 use Rattle.text_core.specs.declared.name.Name.{Name}
 use Rattle.text_core.specs.declared.span.Span.{Span}
@@ -10,7 +10,7 @@ use Rattle.text_core.specs.declared.refusal.Kind.TheVariants.{Ensures, Requires,
 use Rattle.logic_term.specs.declared.kinds.Label.{Label}
 use Rattle.logic_term.specs.declared.obligation.Contract.{Contract}
 use Rattle.logic_term.specs.declared.subst.Replacement.{Replacement}
-use Rattle.logic_term.specs.Subst.{above, subst, replaced}
+use Rattle.logic_term.specs.Subst.{with_terms, replaced}
 use Rattle.logic_term.specs.Term.{Term, var}
 use Rattle.logic_term.specs.Term as terms
 use Rattle.logic_term.specs.Ty.{Ty}
@@ -151,14 +151,6 @@ abbrev pub entries : List Name → List Term → List Replacement
 entries [] ts = []
 entries (x ∷ xs) [] = []
 entries (x ∷ xs) (t ∷ ts) = record { name = x; by = t } ∷ entries xs ts
-
-abbrev pub all_of : List Replacement → ℕ
-all_of [] = 0
-all_of (e ∷ σ) = max (above e.by) (all_of σ)
-
--- the formula with the terms for the names
-abbrev pub with_terms : List Replacement → Term → Term
-with_terms σ t = subst (max (above t) (all_of σ)) σ t
 
 -- a `requires` or an `ensures` of the callee at these arguments; in an `ensures` the answer is the new value
 abbrev pub at_arguments : Body → Contract → List Operand → Term → Term

@@ -1,5 +1,5 @@
 -- Bodies that can be walked, and what the walk looks up.
-use Rattle.std.specs.Prelude.{◌≡◌, ℕ, true, false, List, ◌++◌, Some, slice_get}
+use Rattle.std.specs.Prelude.{◌≡◌, ℕ, true, false, List, Some, slice_get}
 use Rattle.logic_term.specs.declared.kinds.Label.{Label}
 use Rattle.logic_term.specs.declared.obligation.Contract.{Contract}
 use Rattle.logic_term.specs.Ty.{Ty}
@@ -13,9 +13,7 @@ use Rattle.mir_ir.specs.declared.body.Head.{Head}
 use Rattle.mir_ir.specs.Body.{block_in}
 use Rattle.mir_ir.specs.Layout.{among, around, IsLaidOut}
 use Rattle.wp_gen.specs.declared.walk.Walk.{Walk}
-use Rattle.text_core.specs.declared.span.Span.{Span}
-use Rattle.wp_gen.specs.declared.goal.Goal.{Goal}
-use Rattle.wp_gen.specs.Walk.{Setting, seen_before, goals_of_call, call_commands}
+use Rattle.wp_gen.specs.Walk.{Setting}
 
 abbrev pub setting : Walk → Setting
 setting w = record { body = w.body.now; contracts = w.contracts.now; contract = w.contract.now; init = w.init.now }
@@ -49,11 +47,3 @@ pub record MayWalk (w : Setting) (heads : List Label) (l : Label) (k : Block) : 
   pub is_block : block_in w.body.blocks l ≡ Some k
   pub passed : AllAmong k.nest heads
   pub are_heads : AreHeads w heads
-
--- the goals of a call, and those after it seen from before it
-pub record GoesThroughCall (w : Setting) (at : Span) (p : Place) (f : ℕ) (args : List Operand) (after before : List Goal) : Type 0 where
-  pub callee : Contract
-  pub is_callee : slice_get w.contracts f ≡ Some callee
-  pub answer : Ty
-  pub is_answer : slice_get w.body.locals p.local ≡ Some answer
-  pub goals : before ≡ goals_of_call w.body callee at args ++ seen_before (call_commands w.body callee p.local answer args) after

@@ -1,21 +1,22 @@
 //! Calls: the callee's contract at the arguments.
 ghost use Rattle.std.specs.Prelude.{◌≡◌, ◌∷◌, [], ◌++◌, map, IfOk};
 ghost use Rattle.wp_gen.specs.Row.{operand_term};
-ghost use Rattle.wp_gen.specs.Walk.{entries, all_of, with_terms, at_arguments, at_arguments_and_answer, goals_of_call, call_commands, assumed};
+ghost use Rattle.logic_term.specs.Subst.{with_terms};
+ghost use Rattle.wp_gen.specs.Walk.{entries, at_arguments, at_arguments_and_answer, goals_of_call, call_commands, assumed};
 
 use crate::command::Command;
+use crate::formulas::all_at;
 use crate::goal::Goal;
 use crate::row::{name_of, operand_terms, value_name};
-use crate::seen::all_at;
 use logic_term::{Contract, Replacement, Term, Ty};
 use mir_ir::{Body, Operand};
 use std::alloc::Global;
 use text_core::{Kind, Name, NoMemory, Span};
 
-fn entry(alloc: Global, name: Name, by: &Term) -> Result<Replacement, NoMemory>
+fn entry(name: Name, by: &Term) -> Result<Replacement, NoMemory>
     ensures { IfOk result (λ e. e ≡ record { name = name; by = by.now }) }
 {
-    let by = by.copy(alloc)?;
+    let by = by.share()?;
     Ok(Replacement { name, by })
 }
 
@@ -30,29 +31,9 @@ fn with_entries(
 {
     let mut all = first;
     for i in 0..names.len().min(terms.len()) {
-        all.push(entry(alloc, names[i], &terms[i])?)?;
+        all.push(entry(names[i], &terms[i])?)?;
     }
     Ok(all)
-}
-
-/// One past the largest name in the terms.
-fn all_of(sub: &[Replacement]) -> Result<u64, NoMemory>
-    ensures { IfOk result (λ n. n ≡ all_of sub.now) }
-{
-    let mut most: u64 = 0;
-    for i in (0..sub.len()).rev() {
-        let here = sub[i].by.above()?;
-        most = here.max(most);
-    }
-    Ok(most)
-}
-
-fn with_terms(alloc: Global, sub: &[Replacement], term: &Term) -> Result<Term, NoMemory>
-    ensures { IfOk result (λ t. t ≡ with_terms sub.now term.now) }
-{
-    let own = term.above()?;
-    let others = all_of(sub)?;
-    term.subst(alloc, own.max(others), &[], sub)
 }
 
 fn each_with_terms(
@@ -64,7 +45,7 @@ fn each_with_terms(
 {
     let mut all = Vec::with_capacity(alloc, terms.len())?;
     for term in terms {
-        all.push(with_terms(alloc, sub, term)?)?;
+        all.push(term.with(alloc, sub)?)?;
     }
     Ok(all)
 }
@@ -100,7 +81,7 @@ pub(crate) fn with_assumed(
 {
     let mut all = first;
     for term in terms {
-        all.push(Command::Assume(term.copy(alloc)?))?;
+        all.push(Command::Assume(term.share()?))?;
     }
     Ok(all)
 }

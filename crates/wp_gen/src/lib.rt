@@ -3,14 +3,17 @@
 
 mod call;
 mod command;
+mod context;
 mod count;
+mod formulas;
 mod goal;
 mod head;
 mod laws;
 mod oblige;
 mod paths;
+mod reached;
 mod row;
-mod seen;
+mod state;
 mod step;
 mod walk;
 

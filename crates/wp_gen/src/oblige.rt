@@ -1,6 +1,8 @@
 //! The obligations of a body.
 ghost use Rattle.std.specs.Prelude.{◌≡◌, ◌∷◌, [], ◌++◌, ℕ, IfOk, IfErr, drop};
-ghost use Rattle.wp_gen.specs.Walk.{parameters, stored, entry_commands, numbered, AreGoals, AreObligations};
+ghost use Rattle.wp_gen.specs.Walk.{parameters, stored, entry_commands, AreObligations};
+ghost use Rattle.wp_gen.specs.State.{listed};
+ghost use Rattle.wp_gen.specs.Reached.{AreMet};
 ghost use Rattle.wp_gen.specs.Limits.{HasFewObligations, RefusesWalk};
 ghost use Rattle.wp_gen.specs.Walkable.{setting, CanWalk};
 
@@ -9,10 +11,11 @@ use crate::command::Command;
 use crate::count::{OBLIGATIONS, room_after};
 use crate::goal::Goal;
 use crate::paths::check_paths;
+use crate::reached::Reached;
 use crate::row::name_of;
-use crate::seen::with_seen_before;
+use crate::state::State;
 use crate::walk::{Walk, goals_from_entry};
-use logic_term::{Contract, Obligation, Term, Ty, reduce};
+use logic_term::{Contract, Obligation, Term, Ty};
 use mir_ir::Body;
 use std::alloc::Global;
 use text_core::{Items, Limit, LimitKind, Name, NoMemory, PassError, Text};
@@ -67,37 +70,45 @@ fn entry_commands(alloc: Global, body: &Body, contract: &Contract) -> Result<Vec
     with_stored(alloc, commands, body, names)
 }
 
-/// The goals of a body with its contract, closed at its entry.
+/// The goals of a body with its contract, closed at its entry and in normal form.
 fn goals(alloc: Global, walk: &Walk<'_>) -> Result<Vec<Goal>, NoMemory>
     requires { CanWalk (setting walk.now) }
-    ensures { IfOk result (λ v. (n : ℕ) × AreGoals (setting walk.now) v.items n) }
+    ensures { IfOk result (λ v. AreMet (setting walk.now) v.items) }
 {
-    let inner = goals_from_entry(alloc, walk)?;
     let commands = entry_commands(alloc, walk.body, walk.contract)?;
-    with_seen_before(alloc, Vec::new(alloc), commands.as_slice(), inner)
+    let state = State::new(alloc)?.after_all(alloc, commands.as_slice())?;
+    let goals = Vec::new(alloc);
+    goals_from_entry(alloc, walk, Reached { state, goals })
 }
 
-fn obligation(alloc: Global, owner: &Text, number: u32, goal: &Goal) -> Result<Obligation, NoMemory>
-    ensures { IfOk result (λ o. o ∷ [] ≡ numbered owner.now number (goal.now ∷ [])) }
+fn obligation(alloc: Global, owner: &Text, number: u32, goal: Goal) -> Result<Obligation, NoMemory>
+    ensures { IfOk result (λ o. o ∷ [] ≡ listed owner.now number (goal ∷ [])) }
 {
+    let Goal {
+        kind,
+        span,
+        formula,
+    } = goal;
+    let owner = owner.copy(alloc)?;
     Ok(Obligation {
-        owner: owner.copy(alloc)?,
+        owner,
         number,
-        kind: goal.kind,
-        span: goal.span,
+        kind,
+        span,
         from: None,
         params: Items::new(alloc),
-        goal: reduce(alloc, &goal.formula)?,
+        goal: formula,
     })
 }
 
-fn numbered(
+/// The goals as obligations, numbered from `first` on.
+fn listed(
     alloc: Global,
     owner: &Text,
     first: u32,
-    goals: &[Goal],
+    goals: Vec<Goal>,
 ) -> Result<Vec<Obligation>, NoMemory>
-    ensures { IfOk result (λ v. v.items ≡ numbered owner.now first goals.now) }
+    ensures { IfOk result (λ v. v.items ≡ listed owner.now first goals.items) }
 {
     let mut obligations = Vec::new(alloc);
     let mut number = first;
@@ -120,7 +131,7 @@ pub fn counted_obligations(
     ensures { IfOk result (λ v. (n : ℕ) × AreObligations (setting walk.now) first v.items n) }
 {
     let goals = goals(alloc, walk)?;
-    numbered(alloc, &walk.body.owner, first, goals.as_slice())
+    listed(alloc, &walk.body.owner, first, goals)
 }
 
 /// The obligations of a body with its contract, numbered from `first` on, in the order of the walk of its paths.

@@ -86,14 +86,14 @@ fn not_below(alloc: Global, least: i128, number: &Term) -> Result<Term, NoMemory
     ensures { IfOk result (λ t. t ≡ is_at_most (lit least math_int) number.now) }
 {
     let least = Term::integer(alloc, least)?;
-    Term::at_most(alloc, least, number.copy(alloc)?)
+    Term::at_most(alloc, least, number.share()?)
 }
 
 fn not_above(alloc: Global, number: &Term, greatest: i128) -> Result<Term, NoMemory>
     ensures { IfOk result (λ t. t ≡ is_at_most number.now (lit greatest math_int)) }
 {
     let greatest = Term::integer(alloc, greatest)?;
-    Term::at_most(alloc, number.copy(alloc)?, greatest)
+    Term::at_most(alloc, number.share()?, greatest)
 }
 
 fn equals(alloc: Global, t: Term, number: i128) -> Result<Term, NoMemory>
@@ -207,7 +207,7 @@ fn goals_of_division(
 ) -> Result<Vec<Goal>, NoMemory>
     ensures { IfOk result (λ v. v.items ≡ division span (not_zero b) ∷ if_signed kind (overflow span (not_least_by_minus_one kind a b) ∷ [])) }
 {
-    let not_by_zero = division(span, not_zero(alloc, b.copy(alloc)?)?);
+    let not_by_zero = division(span, not_zero(alloc, b.share()?)?);
     if is_signed(kind) {
         let not_least = not_least_by_minus_one(alloc, kind, a, b)?;
         return two_goals(alloc, not_by_zero, overflow(span, not_least));

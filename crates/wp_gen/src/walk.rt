@@ -1,26 +1,22 @@
 //! The walk of a body's paths.
-ghost use Rattle.std.specs.Prelude.{◌≡◌, ℕ, ◌∷◌, [], ◌++◌, List, drop, length, map, Some, IfOk};
-ghost use Rattle.logic_term.specs.declared.kinds.Label.{Label as LabelValue};
-ghost use Rattle.wp_gen.specs.declared.goal.Goal.{Goal as GoalValue};
-ghost use Rattle.mir_ir.specs.declared.terminator.Terminator.{Terminator as TerminatorValue};
-ghost use Rattle.wp_gen.specs.Walk.{at_answer, goals_at_return, where_true, where_false, seen_before, Walks, Arrives};
-ghost use Rattle.wp_gen.specs.Row.{goals_of, commands_of};
-ghost use Rattle.std.specs.Prelude.{false};
+ghost use Rattle.std.specs.Prelude.{◌≡◌, ◌∷◌, [], false, drop, map, Some, IfOk};
+ghost use Rattle.text_core.specs.declared.refusal.Kind.TheVariants.{InvEntry, InvKept};
 ghost use Rattle.mir_ir.specs.Body.{block_in};
 ghost use Rattle.mir_ir.specs.Layout.{among};
-ghost use Rattle.wp_gen.specs.Walkable.{setting, CanWalk, MayArrive, MayWalk, IsKnown, GoesThroughCall};
+ghost use Rattle.wp_gen.specs.Walk.{at_answer, goals_at_return, each_goal, head_commands};
+ghost use Rattle.wp_gen.specs.Walkable.{setting, CanWalk, MayArrive, MayWalk};
+ghost use Rattle.wp_gen.specs.State.{Adds};
+ghost use Rattle.wp_gen.specs.Reached.{IsOver, WalksOn, ArrivesOn};
 
-use crate::call::{call_commands, goals_of_call};
-use crate::command::Command;
+use crate::formulas::each_goal;
 use crate::goal::Goal;
 use crate::head::{among, head_commands};
-use crate::row::{goals_of, name_of, operand_term};
-use crate::seen::{each_goal, with_seen_before};
-use crate::step::commands_of;
-use logic_term::{Contract, Label, Term};
-use mir_ir::{
-    Block, Body, Callee, FnId, Head, Initialised, Operand, Place, Statement, TerminatorKind,
+use crate::reached::{
+    Reached, over, over_call, over_statements, to_false_side, to_true_side, with_goals_at,
 };
+use crate::row::name_of;
+use logic_term::{Contract, Label, Term};
+use mir_ir::{Block, Body, Callee, FnId, Head, Initialised, TerminatorKind};
 use std::alloc::Global;
 use text_core::{Kind, NoMemory, Span};
 
@@ -66,89 +62,41 @@ fn goals_at_return(alloc: Global, body: &Body, contract: &Contract) -> Result<Ve
     each_goal(alloc, Kind::Ensures, owed.as_slice(), spans)
 }
 
-// ---- branches
-
-fn where_true(alloc: Global, body: &Body, operand: &Operand) -> Result<Vec<Command>, NoMemory>
-    ensures { IfOk result (λ v. v.items ≡ where_true body.now operand.now) }
+/// The goals of a return, behind those that were met.
+fn at_return(alloc: Global, walk: &Walk<'_>, reached: Reached) -> Result<Vec<Goal>, NoMemory>
+    ensures { IfOk result (λ v. Adds reached.state reached.goals.items (goals_at_return walk.now.body.now walk.now.contract.now) v.items) }
 {
-    let mut commands = Vec::with_capacity(alloc, 1)?;
-    commands.push(Command::Assume(operand_term(alloc, body, operand)?))?;
-    Ok(commands)
+    let owed = goals_at_return(alloc, walk.body, walk.contract)?;
+    let Reached { state, goals } = reached;
+    with_goals_at(alloc, &state, goals, owed.as_slice())
 }
 
-fn where_false(alloc: Global, body: &Body, operand: &Operand) -> Result<Vec<Command>, NoMemory>
-    ensures { IfOk result (λ v. v.items ≡ where_false body.now operand.now) }
-{
-    let value = operand_term(alloc, body, operand)?;
-    let opposite = Term::not(alloc, value)?;
-    let mut commands = Vec::with_capacity(alloc, 1)?;
-    commands.push(Command::Assume(opposite))?;
-    Ok(commands)
-}
+// ---- loop heads
 
-fn both_sides(
-    alloc: Global,
-    body: &Body,
-    operand: &Operand,
-    yes: Vec<Goal>,
-    no: Vec<Goal>,
-) -> Result<Vec<Goal>, NoMemory>
-    ensures { IfOk result (λ v. v.items ≡ seen_before (where_true body.now operand.now) yes.items ++ seen_before (where_false body.now operand.now) no.items) }
-{
-    let is_true = where_true(alloc, body, operand)?;
-    let is_false = where_false(alloc, body, operand)?;
-    let first = with_seen_before(alloc, Vec::new(alloc), is_true.as_slice(), yes)?;
-    with_seen_before(alloc, first, is_false.as_slice(), no)
-}
-
-// ---- statements
-
-/// The goals of a statement, the commands standing before each, behind others.
-fn with_goals_of(
-    alloc: Global,
-    body: &Body,
-    statement: &Statement,
-    first: Vec<Goal>,
-    before: &[Command],
-) -> Result<Vec<Goal>, NoMemory>
-    ensures { IfOk result (λ v. v.items ≡ first.items ++ seen_before before.now (goals_of body.now statement.now.span statement.now.kind)) }
-{
-    let own = goals_of(alloc, body, statement.span, &statement.kind)?;
-    with_seen_before(alloc, first, before, own)
-}
-
-/// The commands of a statement, behind others.
-fn with_commands_of(
-    alloc: Global,
-    body: &Body,
-    statement: &Statement,
-    first: Vec<Command>,
-) -> Result<Vec<Command>, NoMemory>
-    ensures { IfOk result (λ v. v.items ≡ first.items ++ commands_of body.now statement.now.kind) }
-{
-    let mut all = first;
-    let mut own = commands_of(alloc, body, &statement.kind)?;
-    all.append(&mut own)?;
-    Ok(all)
-}
-
-/// The goals from the first statement on, of those after the last. Each goal goes through all that stands before it at once, while it
-/// is at hand.
-fn through(
+/// Past a loop head at the first arrival: each invariant is a goal, and then is known.
+fn enter_loop(
     alloc: Global,
     walk: &Walk<'_>,
-    statements: &[Statement],
-    ends: Vec<Goal>,
-) -> Result<Vec<Goal>, NoMemory>
-    ensures { IfOk result (λ v. (heads : List LabelValue) (end : TerminatorValue) (n : ℕ) → Walks (setting walk.now) heads [] end ends.items n → Walks (setting walk.now) heads statements.now end v.items n) }
+    label: Label,
+    head: &Head,
+    reached: Reached,
+) -> Result<Reached, NoMemory>
+    ensures { IfOk result (IsOver (each_goal InvEntry head.now.invariants head.now.spans) (head_commands walk.now.body.now walk.now.init.now label head.now) reached) }
 {
-    let mut goals = Vec::new(alloc);
-    let mut before = Vec::new(alloc);
-    for statement in statements {
-        goals = with_goals_of(alloc, walk.body, statement, goals, before.as_slice())?;
-        before = with_commands_of(alloc, walk.body, statement, before)?;
-    }
-    with_seen_before(alloc, goals, before.as_slice(), ends)
+    let invariants = head.invariants.as_slice();
+    let owed = each_goal(alloc, Kind::InvEntry, invariants, head.spans.as_slice())?;
+    let commands = head_commands(alloc, walk.body, walk.init, label, head)?;
+    over(alloc, reached, owed.as_slice(), commands.as_slice())
+}
+
+/// The goals of an arrival at a head that was passed: each invariant.
+fn arrive_again(alloc: Global, head: &Head, reached: Reached) -> Result<Vec<Goal>, NoMemory>
+    ensures { IfOk result (λ v. Adds reached.state reached.goals.items (each_goal InvKept head.now.invariants head.now.spans) v.items) }
+{
+    let invariants = head.invariants.as_slice();
+    let owed = each_goal(alloc, Kind::InvKept, invariants, head.spans.as_slice())?;
+    let Reached { state, goals } = reached;
+    with_goals_at(alloc, &state, goals, owed.as_slice())
 }
 
 // ---- blocks
@@ -171,27 +119,7 @@ pub(crate) fn body_number(callee: Callee) -> u32
     number
 }
 
-/// The goals of a call, and of what comes after it.
-fn through_call(
-    alloc: Global,
-    walk: &Walk<'_>,
-    span: Span,
-    place: &Place,
-    function: u32,
-    args: &[Operand],
-    goals: Vec<Goal>,
-) -> Result<Vec<Goal>, NoMemory>
-    requires { IsKnown (setting walk.now) function place.now }
-    ensures { IfOk result (λ v. GoesThroughCall (setting walk.now) span place.now function args.now goals.items v.items) }
-{
-    let callee = &walk.contracts[function as usize];
-    let ty = &walk.body.locals.as_slice()[place.local as usize];
-    let first = goals_of_call(alloc, walk.body, callee, span, args)?;
-    let commands = call_commands(alloc, walk.body, callee, place.local, ty, args)?;
-    with_seen_before(alloc, first, commands.as_slice(), goals)
-}
-
-/// The goals from a block's end on.
+/// The goals from a block's end on, behind those that were met.
 #[cycle(walk)]
 fn end_goals(
     alloc: Global,
@@ -199,36 +127,33 @@ fn end_goals(
     heads: &[Label],
     label: Label,
     block: &Block,
+    reached: Reached,
 ) -> Result<Vec<Goal>, NoMemory>
     requires can { CanWalk (setting walk.now) }
     requires here { MayWalk (setting walk.now) heads.now label block.now }
-    ensures { IfOk result (λ v. (n : ℕ) × Walks (setting walk.now) heads.now [] block.now.end v.items n) }
+    ensures { IfOk result (λ v. WalksOn (setting walk.now) heads.now [] block.now.end reached v.items) }
 {
     match &block.end.kind {
-        TerminatorKind::Goto(next) => arrive(alloc, walk, heads, *next),
+        TerminatorKind::Goto(next) => arrive(alloc, walk, heads, *next, reached),
         TerminatorKind::If(operand, yes, no) => {
-            let true_side = arrive(alloc, walk, heads, *yes)?;
-            let false_side = arrive(alloc, walk, heads, *no)?;
-            both_sides(alloc, walk.body, operand, true_side, false_side)
+            let state = reached.state.share(alloc)?;
+            let true_side = to_true_side(alloc, walk.body, operand, reached)?;
+            let goals = arrive(alloc, walk, heads, *yes, true_side)?;
+            let back = Reached { state, goals };
+            let false_side = to_false_side(alloc, walk.body, operand, back)?;
+            arrive(alloc, walk, heads, *no, false_side)
         }
         TerminatorKind::Call(place, callee, args, next) => {
             let function = body_number(*callee);
-            let goals = arrive(alloc, walk, heads, *next)?;
-            through_call(
-                alloc,
-                walk,
-                block.end.span,
-                place,
-                function,
-                args.as_slice(),
-                goals,
-            )
+            let args = args.as_slice();
+            let after = over_call(alloc, walk, block.end.span, place, function, args, reached)?;
+            arrive(alloc, walk, heads, *next, after)
         }
-        TerminatorKind::Return => goals_at_return(alloc, walk.body, walk.contract),
+        TerminatorKind::Return => at_return(alloc, walk, reached),
     }
 }
 
-/// The goals from a block's first statement on.
+/// The goals from a block's first statement on, behind those that were met.
 #[cycle(walk)]
 fn block_goals(
     alloc: Global,
@@ -236,16 +161,17 @@ fn block_goals(
     heads: &[Label],
     label: Label,
     block: &Block,
+    reached: Reached,
 ) -> Result<Vec<Goal>, NoMemory>
     requires can { CanWalk (setting walk.now) }
     requires here { MayWalk (setting walk.now) heads.now label block.now }
-    ensures { IfOk result (λ v. (n : ℕ) × Walks (setting walk.now) heads.now block.now.statements block.now.end v.items n) }
+    ensures { IfOk result (λ v. WalksOn (setting walk.now) heads.now block.now.statements block.now.end reached v.items) }
 {
-    let ends = end_goals(alloc, walk, heads, label, block)?;
-    through(alloc, walk, block.statements.as_slice(), ends)
+    let end = over_statements(alloc, walk, block.statements.as_slice(), reached)?;
+    end_goals(alloc, walk, heads, label, block, end)
 }
 
-/// The goals from the arrival at a loop head on that was not passed.
+/// The goals from the arrival at a loop head on that was not passed, behind those that were met.
 #[cycle(walk)]
 fn first_arrival(
     alloc: Global,
@@ -254,57 +180,55 @@ fn first_arrival(
     label: Label,
     block: &Block,
     head: &Head,
+    reached: Reached,
 ) -> Result<Vec<Goal>, NoMemory>
     requires can { CanWalk (setting walk.now) }
     requires here { MayArrive (setting walk.now) heads.now label }
     requires block { block_in walk.now.body.now.blocks label ≡ Some block.now }
     requires head { block.now.head ≡ Some head.now }
     requires not_passed { among label heads.now ≡ false }
-    ensures { IfOk result (λ v. (n : ℕ) × Arrives (setting walk.now) heads.now label v.items n) }
+    ensures { IfOk result (λ v. ArrivesOn (setting walk.now) heads.now label reached v.items) }
 {
-    let entered = each_goal(
-        alloc,
-        Kind::InvEntry,
-        head.invariants.as_slice(),
-        head.spans.as_slice(),
-    )?;
-    let commands = head_commands(alloc, walk.body, walk.init, label, head)?;
+    let inside = enter_loop(alloc, walk, label, head, reached)?;
     let passed = with_label(alloc, label, heads)?;
-    let goals = block_goals(alloc, walk, passed.as_slice(), label, block)?;
-    with_seen_before(alloc, entered, commands.as_slice(), goals)
+    block_goals(alloc, walk, passed.as_slice(), label, block, inside)
 }
 
-/// The goals from the arrival at a block on.
+/// The goals from the arrival at a block on, behind those that were met.
 #[cycle(walk)]
 fn arrive(
     alloc: Global,
     walk: &Walk<'_>,
     heads: &[Label],
     label: Label,
+    reached: Reached,
 ) -> Result<Vec<Goal>, NoMemory>
     requires can { CanWalk (setting walk.now) }
     requires here { MayArrive (setting walk.now) heads.now label }
-    ensures { IfOk result (λ v. (n : ℕ) × Arrives (setting walk.now) heads.now label v.items n) }
+    ensures { IfOk result (λ v. ArrivesOn (setting walk.now) heads.now label reached v.items) }
 {
     let Some(block) = walk.body.block(label) else {
         unreachable!()
     };
     match &block.head {
-        None => block_goals(alloc, walk, heads, label, block),
+        None => block_goals(alloc, walk, heads, label, block, reached),
         Some(head) => {
             if among(label, heads) {
-                let invariants = head.invariants.as_slice();
-                return each_goal(alloc, Kind::InvKept, invariants, head.spans.as_slice());
+                return arrive_again(alloc, head, reached);
             }
-            first_arrival(alloc, walk, heads, label, block, head)
+            first_arrival(alloc, walk, heads, label, block, head, reached)
         }
     }
 }
 
-/// The goals from a body's entry on.
-pub(crate) fn goals_from_entry(alloc: Global, walk: &Walk<'_>) -> Result<Vec<Goal>, NoMemory>
+/// The goals from a body's entry on, behind those that were met.
+pub(crate) fn goals_from_entry(
+    alloc: Global,
+    walk: &Walk<'_>,
+    reached: Reached,
+) -> Result<Vec<Goal>, NoMemory>
     requires { CanWalk (setting walk.now) }
-    ensures { IfOk result (λ v. (n : ℕ) × Arrives (setting walk.now) [] walk.now.body.now.entry v.items n) }
+    ensures { IfOk result (λ v. ArrivesOn (setting walk.now) [] walk.now.body.now.entry reached v.items) }
 {
-    arrive(alloc, walk, &[], walk.body.entry)
+    arrive(alloc, walk, &[], walk.body.entry, reached)
 }

@@ -1,5 +1,5 @@
 use Rattle.std.proofs.Common.{◌≡◌, take, map}
-use Rattle.wp_gen.specs.Walk.{with_terms}
+use Rattle.logic_term.specs.Subst.{with_terms}
 use Rattle.wp_gen.proofs.call.each_with_terms.Given as goal
 
 abbrev pub invariant-loop-term : goal.invariant-loop-term

@@ -1,4 +1,4 @@
-use Rattle.std.proofs.Common.{◌∙◌, sym, ap, length}
+use Rattle.std.proofs.Common.{◌∙◌, sym}
 use Rattle.wp_gen.proofs.CountLaws.{length_at_return}
 use Rattle.wp_gen.proofs.count.count_of_return.Goals as goal
 

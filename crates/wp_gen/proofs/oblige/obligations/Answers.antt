@@ -1,4 +1,3 @@
-use Rattle.std.proofs.Common.{arith, length}
 use Rattle.wp_gen.specs.Limits.{IsPastWalk}
 use Rattle.wp_gen.proofs.oblige.obligations.Goals as goal
 

@@ -1,11 +1,8 @@
-use Rattle.text_core.specs.declared.refusal.Kind.TheVariants.{InvEntry}
-use Rattle.wp_gen.specs.Walk.{each_goal}
-use Rattle.std.proofs.Common.{◌∙◌, ap, sym, refl, arith}
+use Rattle.std.proofs.Common.{◌∙◌, sym, refl, arith}
 use Rattle.std.proofs.lemmas.Result.{IfOk-weaker}
-use Rattle.wp_gen.specs.Walk.{goto}
 use Rattle.wp_gen.specs.Walkable.{setting}
 use Rattle.wp_gen.proofs.ArriveLaws.{next_arrival, goto_names, if_names_yes, if_names_no, call_names}
-use Rattle.wp_gen.proofs.WalkLaws.{branch_walks, called, call_walks, first_arrives, return_walks, again_arrives, plain_arrives, enter_plain}
+use Rattle.wp_gen.proofs.WalkLaws.{goto_walks, branch_walks, called, call_walks, first_arrives, return_walks, again_arrives, plain_arrives, enter_plain}
 use Rattle.wp_gen.proofs.walk.+walk.Goals as goal
 
 pub end_goals-arrive-requires : goal.end_goals-arrive-requires
@@ -28,55 +25,55 @@ end_goals-arrive-requires-in-Call t c =
     let n = next_arrival (setting c.args.walk.now) c.args.heads.now c.args.label c.args.block.now c.in-Call.next c.requires.can c.requires.here (call_names c.args.block.now.end.kind c.in-Call.place c.in-Call.callee c.in-Call.args c.in-Call.next c.in-Call.is) in
     (omega (arith, n.1, c.decreases), (c.requires.can, n.0))
 
-pub end_goals-through_call-requires : goal.end_goals-through_call-requires
-end_goals-through_call-requires t c =
-    c.requires.can.calls c.args.label c.args.block.now c.in-Call.place c.body_number-function.result c.in-Call.args c.in-Call.next c.requires.here.is_block (called c.args.block.now.end.kind c.in-Call.place c.in-Call.callee c.in-Call.args c.in-Call.next c.body_number-function.result c.in-Call.is c.body_number-function.ensures)
+pub end_goals-over_call-requires : goal.end_goals-over_call-requires
+end_goals-over_call-requires t c =
+    c.requires.can.calls c.args.label c.args.block.now c.in-Call.place c.body_number-function.result c.in-Call.args c.in-Call.next c.requires.here.is_block
+    (called c.args.block.now.end.kind c.in-Call.place c.in-Call.callee c.in-Call.args c.in-Call.next c.body_number-function.result c.in-Call.is c.body_number-function.ensures)
 
 pub end_goals-returns-in-Goto : goal.end_goals-returns-in-Goto
 end_goals-returns-in-Goto t c =
-    IfOk-weaker c.arrive.result _ _ (λ v h. (h.0, goto c.in-Goto.next c.in-Goto.is h.1)) c.arrive.ensures
-
-pub end_goals-returns-in_ok-false_side-in-If : goal.end_goals-returns-in_ok-false_side-in-If
-end_goals-returns-in_ok-false_side-in-If t c =
-    IfOk-weaker c.both_sides.result _ _
-    (λ v e. branch_walks (setting c.args.walk.now) c.args.heads.now c.args.block.now.end c.in-If.operand c.in-If.yes c.in-If.no
-    c.in_ok-true_side-in-If.true_side.items c.in_ok-false_side-in-If.false_side.items _ _ v.items
-    c.in-If.is c.in_ok-true_side-in-If.ensures c.in_ok-false_side-in-If.ensures refl refl e)
-    c.both_sides.ensures
-
-pub end_goals-returns-in_ok-goals-in-Call : goal.end_goals-returns-in_ok-goals-in-Call
-end_goals-returns-in_ok-goals-in-Call t c =
-    IfOk-weaker c.through_call.result _ _
-    (λ v through. call_walks (setting c.args.walk.now) c.args.heads.now c.args.block.now.end c.in-Call.place c.body_number-function.result c.in-Call.args _ c.in-Call.next
-    c.in_ok-goals-in-Call.goals.items _ v.items
-    (called c.args.block.now.end.kind c.in-Call.place c.in-Call.callee c.in-Call.args c.in-Call.next c.body_number-function.result c.in-Call.is c.body_number-function.ensures)
-    c.in_ok-goals-in-Call.ensures refl c.as_slice.ensures through)
-    c.through_call.ensures
-
-pub end_goals-returns-in-Return : goal.end_goals-returns-in-Return
-end_goals-returns-in-Return t c =
-    IfOk-weaker c.goals_at_return.result _ _ (λ v e. return_walks (setting c.args.walk.now) c.args.heads.now c.args.block.now.end v.items c.in-Return.is e) c.goals_at_return.ensures
-
-pub first_arrival-returns : goal.first_arrival-returns
-first_arrival-returns t c =
-    IfOk-weaker c.with_seen_before.result _ _
-    (λ v e. first_arrives (setting c.args.walk.now) c.args.heads.now c.args.label c.args.block.now c.args.head.now c.in_ok-entered.entered.items c.in_ok-goals.goals.items _ v.items
-    c.in_ok-commands.commands.items _ c.as_slice-3.result.now c.requires.block c.requires.head c.requires.not_passed (c.as_slice-3.ensures.value ∙ c.in_ok-passed.ensures) c.in_ok-goals.ensures
-    (c.in_ok-entered.ensures ∙ ap (λ ts. each_goal InvEntry ts c.as_slice-2.result.now) c.as_slice.ensures ∙ ap (each_goal InvEntry c.args.head.now.invariants) c.as_slice-2.ensures) c.in_ok-commands.ensures c.as_slice-4.ensures.value refl e)
-    c.with_seen_before.ensures
+    IfOk-weaker c.arrive.result _ _ (λ v h. goto_walks (setting c.args.walk.now) c.args.heads.now c.args.block.now.end c.in-Goto.next c.args.reached v.items c.in-Goto.is h) c.arrive.ensures
 
 pub arrive-returns-in-None : goal.arrive-returns-in-None
 arrive-returns-in-None t c =
-    IfOk-weaker c.block_goals.result _ _ (λ v h. plain_arrives (setting c.args.walk.now) c.args.heads.now c.args.label c.in-Some.block.now v.items c.in-Some.ensures c.in-None.is h) c.block_goals.ensures
+    IfOk-weaker c.block_goals.result _ _ (λ v h. plain_arrives (setting c.args.walk.now) c.args.heads.now c.args.label c.in-Some.block.now c.args.reached v.items c.in-Some.ensures c.in-None.is h) c.block_goals.ensures
 
 pub arrive-returns-then-among : goal.arrive-returns-then-among
 arrive-returns-then-among t c =
-    IfOk-weaker c.each_goal.result _ _
-    (λ v e. again_arrives (setting c.args.walk.now) c.args.heads.now c.args.label c.in-Some.block.now c.in-Some-head.head v.items c.as_slice-invariants.result.now c.as_slice.result.now
-    (sym c.in-Some.ensures) c.in-Some-head.is (sym c.among.ensures ∙ c.if-among.true) c.as_slice-invariants.ensures c.as_slice.ensures e)
-    c.each_goal.ensures
+    IfOk-weaker c.arrive_again.result _ _
+    (λ v e. again_arrives (setting c.args.walk.now) c.args.heads.now c.args.label c.in-Some.block.now c.in-Some-head.head c.args.reached v.items
+    (sym c.in-Some.ensures) c.in-Some-head.is (sym c.among.ensures ∙ c.if-among.true) e)
+    c.arrive_again.ensures
 
 pub arrive-block_goals-requires : goal.arrive-block_goals-requires
 arrive-block_goals-requires t c =
     let n = enter_plain (setting c.args.walk.now) c.args.heads.now c.args.label c.in-Some.block.now c.requires.here c.in-Some.ensures c.in-None.is in
     (omega (arith, n.0, c.decreases), (c.requires.can, n.1))
+
+pub end_goals-returns-in-Return : goal.end_goals-returns-in-Return
+end_goals-returns-in-Return t c =
+    IfOk-weaker c.at_return.result _ _ (λ v h. return_walks (setting c.args.walk.now) c.args.heads.now c.args.block.now.end c.args.reached v.items c.in-Return.is h) c.at_return.ensures
+
+pub end_goals-returns-in_ok-false_side-in-If : goal.end_goals-returns-in_ok-false_side-in-If
+end_goals-returns-in_ok-false_side-in-If t c =
+    IfOk-weaker c.arrive-in-If-2.result _ _
+    (λ v h. branch_walks (setting c.args.walk.now) c.args.heads.now c.args.block.now.end c.in-If.operand c.in-If.yes c.in-If.no
+    c.args.reached c.in_ok-true_side-in-If.true_side _ c.in_ok-false_side-in-If.false_side c.in_ok-goals-in-If.goals.items v.items
+    c.in-If.is c.in_ok-state-in-If.ensures refl c.in_ok-true_side-in-If.ensures c.in_ok-goals-in-If.ensures c.in_ok-false_side-in-If.ensures h)
+    c.arrive-in-If-2.ensures
+
+pub end_goals-returns-in_ok-after-in-Call : goal.end_goals-returns-in_ok-after-in-Call
+end_goals-returns-in_ok-after-in-Call t c =
+    IfOk-weaker c.arrive-in-Call.result _ _
+    (λ v h. call_walks (setting c.args.walk.now) c.args.heads.now c.args.block.now.end c.in-Call.place c.body_number-function.result c.in-Call.args _ c.in-Call.next
+    c.args.reached c.in_ok-after-in-Call.after v.items
+    (called c.args.block.now.end.kind c.in-Call.place c.in-Call.callee c.in-Call.args c.in-Call.next c.body_number-function.result c.in-Call.is c.body_number-function.ensures)
+    c.as_slice-args.ensures c.in_ok-after-in-Call.ensures h)
+    c.arrive-in-Call.ensures
+
+pub first_arrival-returns : goal.first_arrival-returns
+first_arrival-returns t c =
+    IfOk-weaker c.block_goals.result _ _
+    (λ v h. first_arrives (setting c.args.walk.now) c.args.heads.now c.as_slice.result.now c.args.label c.args.block.now c.args.head.now c.args.reached c.in_ok-inside.inside v.items
+    c.requires.block c.requires.head c.requires.not_passed (c.as_slice.ensures.value ∙ c.in_ok-passed.ensures) c.in_ok-inside.ensures h)
+    c.block_goals.ensures

@@ -1,6 +1,6 @@
 use Rattle.std.proofs.Common.{arith}
 use Rattle.wp_gen.proofs.GoalLists.{no_more_goals, one_more_of_each}
-use Rattle.wp_gen.proofs.seen.each_goal.Goals as goal
+use Rattle.wp_gen.proofs.formulas.each_goal.Goals as goal
 
 pub loop-i-preserved : goal.loop-i-preserved
 loop-i-preserved c =

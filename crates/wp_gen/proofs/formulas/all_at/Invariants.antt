@@ -1,6 +1,6 @@
 use Rattle.std.proofs.Common.{◌≡◌, take}
 use Rattle.wp_gen.specs.Walk.{all_at}
-use Rattle.wp_gen.proofs.seen.all_at.Given as goal
+use Rattle.wp_gen.proofs.formulas.all_at.Given as goal
 
 abbrev pub invariant-loop-term : goal.invariant-loop-term
 invariant-loop-term l = l.goals.items ≡ all_at l.kind l.span (take l.term-index l.terms)

@@ -1,0 +1,6 @@
+use Rattle.std.proofs.Common.{take}
+use Rattle.wp_gen.specs.State.{Adds}
+use Rattle.wp_gen.proofs.reached.with_goals_at.Given as goal
+
+abbrev pub invariant-loop-goal : goal.invariant-loop-goal
+invariant-loop-goal l = Adds l.state l.fn.first.items (take l.goal-index l.owed) l.all.items

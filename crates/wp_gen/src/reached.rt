@@ -1,0 +1,142 @@
+//! Where a walk stands, and how it comes over rows.
+ghost use Rattle.std.specs.Prelude.{[], IfOk};
+ghost use Rattle.wp_gen.specs.Row.{goals_of, commands_of};
+ghost use Rattle.wp_gen.specs.Walk.{where_true, where_false};
+ghost use Rattle.wp_gen.specs.Walkable.{setting, IsKnown};
+ghost use Rattle.wp_gen.specs.State.{Adds};
+ghost use Rattle.wp_gen.specs.Reached.{IsOver, IsOverCall, Passes};
+
+use crate::call::{call_commands, goals_of_call};
+use crate::command::Command;
+use crate::goal::Goal;
+use crate::row::{goals_of, operand_term};
+use crate::state::State;
+use crate::step::commands_of;
+use crate::walk::Walk;
+use logic_term::Term;
+use mir_ir::{Body, Operand, Place, Statement};
+use std::alloc::Global;
+use text_core::{NoMemory, Span};
+
+/// Where a walk stands, and the goals that it has met, each closed and in normal form.
+#[derive(Drop)]
+pub(crate) struct Reached {
+    pub(crate) state: State,
+    pub(crate) goals: Vec<Goal>,
+}
+
+/// The goals at the state, behind others.
+pub(crate) fn with_goals_at(
+    alloc: Global,
+    state: &State,
+    first: Vec<Goal>,
+    owed: &[Goal],
+) -> Result<Vec<Goal>, NoMemory>
+    ensures { IfOk result (λ v. Adds state.now first.items owed.now v.items) }
+{
+    let mut all = first;
+    for goal in owed {
+        all.push(state.goal(alloc, goal)?)?;
+    }
+    Ok(all)
+}
+
+/// Over a row with these goals and commands.
+pub(crate) fn over(
+    alloc: Global,
+    reached: Reached,
+    owed: &[Goal],
+    commands: &[Command],
+) -> Result<Reached, NoMemory>
+    ensures { IfOk result (IsOver owed.now commands.now reached) }
+{
+    let Reached { state, goals } = reached;
+    let goals = with_goals_at(alloc, &state, goals, owed)?;
+    let state = state.after_all(alloc, commands)?;
+    Ok(Reached { state, goals })
+}
+
+// ---- statements
+
+fn over_statement(
+    alloc: Global,
+    body: &Body,
+    statement: &Statement,
+    reached: Reached,
+) -> Result<Reached, NoMemory>
+    ensures { IfOk result (IsOver (goals_of body.now statement.now.span statement.now.kind) (commands_of body.now statement.now.kind) reached) }
+{
+    let owed = goals_of(alloc, body, statement.span, &statement.kind)?;
+    let commands = commands_of(alloc, body, &statement.kind)?;
+    over(alloc, reached, owed.as_slice(), commands.as_slice())
+}
+
+/// Over the statements, in order.
+pub(crate) fn over_statements(
+    alloc: Global,
+    walk: &Walk<'_>,
+    statements: &[Statement],
+    reached: Reached,
+) -> Result<Reached, NoMemory>
+    ensures { IfOk result (Passes (setting walk.now) statements.now [] reached) }
+{
+    let mut here = reached;
+    for statement in statements {
+        here = over_statement(alloc, walk.body, statement, here)?;
+    }
+    Ok(here)
+}
+
+// ---- branches
+
+/// To the side where the operand is true.
+pub(crate) fn to_true_side(
+    alloc: Global,
+    body: &Body,
+    operand: &Operand,
+    reached: Reached,
+) -> Result<Reached, NoMemory>
+    ensures { IfOk result (IsOver [] (where_true body.now operand.now) reached) }
+{
+    let mut commands = Vec::with_capacity(alloc, 1)?;
+    commands.push(Command::Assume(operand_term(alloc, body, operand)?))?;
+    over(alloc, reached, &[], commands.as_slice())
+}
+
+/// To the side where it is not.
+pub(crate) fn to_false_side(
+    alloc: Global,
+    body: &Body,
+    operand: &Operand,
+    reached: Reached,
+) -> Result<Reached, NoMemory>
+    ensures { IfOk result (IsOver [] (where_false body.now operand.now) reached) }
+{
+    let value = operand_term(alloc, body, operand)?;
+    let opposite = Term::not(alloc, value)?;
+    let mut commands = Vec::with_capacity(alloc, 1)?;
+    commands.push(Command::Assume(opposite))?;
+    over(alloc, reached, &[], commands.as_slice())
+}
+
+// ---- calls
+
+/// Over a call of the function.
+pub(crate) fn over_call(
+    alloc: Global,
+    walk: &Walk<'_>,
+    span: Span,
+    place: &Place,
+    function: u32,
+    args: &[Operand],
+    reached: Reached,
+) -> Result<Reached, NoMemory>
+    requires { IsKnown (setting walk.now) function place.now }
+    ensures { IfOk result (IsOverCall (setting walk.now) span place.now function args.now reached) }
+{
+    let callee = &walk.contracts[function as usize];
+    let ty = &walk.body.locals.as_slice()[place.local as usize];
+    let owed = goals_of_call(alloc, walk.body, callee, span, args)?;
+    let commands = call_commands(alloc, walk.body, callee, place.local, ty, args)?;
+    over(alloc, reached, owed.as_slice(), commands.as_slice())
+}
