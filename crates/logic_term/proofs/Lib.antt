@@ -2,7 +2,6 @@ pub mod Alike
 pub mod Bound
 pub mod CanonicalLaw
 pub mod Coincide
-pub mod Depths
 pub mod Erased
 pub mod FreeLaw
 pub mod Lists

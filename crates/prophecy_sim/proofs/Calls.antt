@@ -5,7 +5,7 @@ use Rattle.text_core.specs.declared.span.Span.{Span}
 use Rattle.text_core.specs.declared.refusal.Kind.{Kind}
 use Rattle.logic_term.specs.declared.subst.Replacement.{Replacement}
 use Rattle.logic_term.specs.Meaning.{Structure, Env, with_value, Means, Holds, structure_of}
-use Rattle.logic_term.specs.Subst.{above, look}
+use Rattle.logic_term.specs.Subst.{above, look, above_entries, with_terms}
 use Rattle.logic_term.specs.Term.{Term}
 use Rattle.logic_term.specs.Ty.{Ty, no_tys}
 use Rattle.logic_term.specs.Value.{Value}
@@ -19,7 +19,7 @@ use Rattle.mir_machine.specs.FrameStep.{take_operand, take_operands}
 use Rattle.mir_machine.specs.Good.{Each}
 use Rattle.mir_machine.proofs.Shown.{Shows, Store, Agrees, Leaves, operand_value, operand-shows}
 use Rattle.mir_machine.proofs.Tried.{Quiet, quiet_then}
-use Rattle.wp_gen.specs.Walk.{entries, all_of, with_terms, all_at}
+use Rattle.wp_gen.specs.Walk.{entries, all_at}
 use Rattle.wp_gen.proofs.Commands.{GoalsHold}
 use Rattle.mir_ir.specs.WellFormed.{OperandsHave, Locals, taken, CanTakeAll, IsTyped}
 use Rattle.mir_machine.specs.Good.{named}
@@ -79,7 +79,7 @@ module _ (S : Structure) where
   stands_next n u σ ρ τ v x true l e h = (l, e)
   stands_next n u σ ρ τ v x false l e h = h
 
-  stand_all : (m n : ℕ) (xs : List Name) (ts : List Term) (vs : List Value) (ρ : Env) → AreExactly ts vs ρ → all_of (entries xs ts) ≤ n → m ≤ n → Stands S m n ρ (entries xs ts) (overlay xs vs ρ)
+  stand_all : (m n : ℕ) (xs : List Name) (ts : List Term) (vs : List Value) (ρ : Env) → AreExactly ts vs ρ → above_entries (entries xs ts) ≤ n → m ≤ n → Stands S m n ρ (entries xs ts) (overlay xs vs ρ)
   stand_all m n [] ts vs ρ e l k x b = (omega arith, alike_same _)
   stand_all m n (y ∷ xs) [] [] ρ e l k x b = (omega arith, alike_same _)
   stand_all m n (y ∷ xs) [] (v ∷ vs) ρ e l k x b = absurd e
@@ -90,7 +90,7 @@ module _ (S : Structure) where
   -- the formula with terms for names is true where it is true of their values
   pub with_terms_mean : (xs : List Name) (ts : List Term) (vs : List Value) (ρ : Env) (t : Term) → AreExactly ts vs ρ → Alike (Means S (with_terms (entries xs ts) t) ρ) (Means S t (overlay xs vs ρ))
   with_terms_mean xs ts vs ρ t e =
-      let n = max (above t) (all_of (entries xs ts)) in
+      let n = max (above t) (above_entries (entries xs ts)) in
       subst_means S n t n ρ (overlay xs vs ρ) (entries xs ts) (omega arith) (stand_all n n xs ts vs ρ e (omega arith) (omega arith))
 
   -- formulas at one span

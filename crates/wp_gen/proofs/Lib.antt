@@ -7,4 +7,5 @@ pub mod GoalLists
 pub mod WalkLaws
 pub mod ArriveLaws
 pub mod CountLaws
+pub mod Depths
 pub mod ExistLaws
