@@ -39,13 +39,17 @@ def seconds_of(process):
     return sum(int(it) for it in fields[11:15]) / HERTZ if len(fields) > 14 else 0.0
 
 
+def parent_of(process):
+    found = re.search(r"(?m)^PPid:\s+(\d+)", text_of(f"/proc/{process}/status"))
+    return int(found[1]) if found else 0
+
+
 def is_below(process, top):
     """Whether the process was started by the one at the top, or by one that was."""
     while process > 1:
         if process == top:
             return True
-        found = re.search(r"(?m)^PPid:\s+(\d+)", text_of(f"/proc/{process}/status"))
-        process = int(found[1]) if found else 0
+        process = parent_of(process)
     return False
 
 
@@ -56,7 +60,8 @@ def sample(top, seen):
         process = int(name)
         if process not in seen:
             work = work_of(process)
-            if work is None or not is_below(process, top):
+            # A check that works by several processes is counted at the first of them, which waits for the others.
+            if work is None or parent_of(process) in seen or not is_below(process, top):
                 continue
             seen[process] = [work, 0.0]
         seen[process][1] = max(seen[process][1], seconds_of(process))
