@@ -6,11 +6,14 @@ use Rattle.std.proofs.lemmas.Bool.Decides.{nat_tests}
 use Rattle.text_core.specs.declared.name.Name.{Name}
 use Rattle.logic_term.specs.declared.kinds.Label.{Label}
 use Rattle.logic_term.specs.Free.{free}
-use Rattle.logic_term.specs.Meaning.{Sure, Says, Yes}
+use Rattle.logic_term.specs.Meaning.{Sure, Structure, Env, Holds, Says, Yes}
+use Rattle.logic_term.specs.Normal.{reduced}
 use Rattle.logic_term.specs.Theory.{Theory}
 use Rattle.logic_term.specs.Term.{Term}
 use Rattle.logic_term.specs.Ty.{Ty, bool}
 use Rattle.logic_term.specs.Value.{Flag, flag_of}
+use Rattle.logic_term.proofs.Alike.{yes_alike}
+use Rattle.logic_term.proofs.CanonicalLaw.{reduced_means}
 use Rattle.logic_term.proofs.FreeLaw.{same_name}
 use Rattle.mir_ir.specs.declared.place.Operand.TheVariants.{Copy}
 use Rattle.mir_ir.specs.declared.statement.Statement.{Statement}
@@ -359,6 +362,10 @@ none_is_both h = h (λ e. true≢false (ap flag_of e))
 is_true : (P : Type 0) → P → Yes (Says P)
 is_true P p n = n (true, refl, p)
 
+-- a formula that is true is so in normal form
+as_reduced : (S : Structure) (t : Term) (ρ : Env) → Holds S t ρ → Holds S (reduced t) ρ
+as_reduced S t ρ = (yes_alike _ _ (reduced_means S t ρ)).1
+
 true_obligations : (Θ : Theory) → HasTrueObligations Θ (setting program 0 cleared is_false)
 true_obligations Θ = record {
   first = 1;
@@ -380,10 +387,10 @@ true_obligations Θ = record {
     are_numbered = refl;
   };
   all_true = (
-    λ θ i ρ. is_true _ (λ w sort. is_true _ (λ same. same)),
+    λ θ i ρ. as_reduced _ _ ρ (is_true _ (λ w sort. is_true _ (λ same. same))),
     (
-      λ θ i ρ. is_true _ (λ w sort. is_true _ (λ v fits. is_true _ (λ known. is_true _ (λ taken. is_true _ (λ no. absurd (none_is_both no)))))),
-      (λ θ i ρ. is_true _ (λ w sort. is_true _ (λ v fits. is_true _ (λ known. is_true _ (λ left. left)))), tt),
+      λ θ i ρ. as_reduced _ _ ρ (is_true _ (λ w sort. is_true _ (λ v fits. is_true _ (λ known. is_true _ (λ taken. is_true _ (λ no. absurd (none_is_both no))))))),
+      (λ θ i ρ. as_reduced _ _ ρ (is_true _ (λ w sort. is_true _ (λ v fits. is_true _ (λ known. is_true _ (λ left. left))))), tt),
     ),
   );
 }
@@ -404,7 +411,7 @@ caller_true_obligations Θ = record {
     };
     are_numbered = refl;
   };
-  all_true = (λ θ i ρ. is_true _ (λ w sort. is_true _ (λ v fits. is_true _ (λ known. known))), tt);
+  all_true = (λ θ i ρ. as_reduced _ _ ρ (is_true _ (λ w sort. is_true _ (λ v fits. is_true _ (λ known. known)))), tt);
 }
 
 pub sample_true : SampleIsTrue
