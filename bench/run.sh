@@ -1,5 +1,5 @@
 #!/usr/bin/env bash
-# Seconds and peak memory of `verify` on sources of 64, 512 and 4,096 functions, on one function of 50 to 400 additions in a
+# Seconds and peak memory of `verify` on sources of 64, 512 and 4,096 functions, on one function of 50 to 200 additions in a
 # row, and on a source of a million bytes that is refused at its last word. Its argument is the built program.
 set -eu
 program=$1
@@ -12,7 +12,7 @@ for kind in sums loops; do
     python3 "$here/measure.py" "$kind $count" "$program" "$folder/s" "$folder/p"
   done
 done
-for made in "additions 50" "additions 100" "additions 200" "additions 400" "long 1040000"; do
+for made in "additions 50" "additions 100" "additions 200" "long 1040000"; do
   read -r kind count <<< "$made"
   python3 "$here/sources.py" "$kind" "$count" "$folder/s" "$folder/p"
   python3 "$here/measure.py" "$made" "$program" "$folder/s" "$folder/p"
