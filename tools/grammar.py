@@ -664,7 +664,11 @@ def write_class_numbers(classes):
 
 
 def array(name, kind, items, what):
-    return "/// %s\n#[rattlefmt::skip]\npub const %s: [%s; %d] = [\n%s\n];\n" % (what, name, kind, len(items), wrapped(", ".join(items) + ",", "    ", 280))
+    """A constant array; what would fill over 800 lines goes without blanks."""
+    rows = wrapped(", ".join(items) + ",", "    ", 280)
+    if rows.count("\n") > 800:
+        rows = wrapped(", ".join(items) + ",", "", 360).replace(" ", "")
+    return "/// %s\n#[rattlefmt::skip]\npub const %s: [%s; %d] = [\n%s\n];\n" % (what, name, kind, len(items), rows)
 
 
 def write_arrays(bodies, marks, class_kinds, kinds_of, firsts, depths):

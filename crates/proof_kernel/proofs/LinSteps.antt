@@ -13,7 +13,8 @@ use Rattle.proof_kernel.proofs.LinLemmas.{int_sum-take_more, length-products, co
 
 -- ---- the least atom
 
-pub next_more : (rows : List Row) (i : ℕ) (row : Row) (from : ℕ) (next here : Option ℕ) → i < length rows → row ≡ get_or rows i row → IsNextAtom (take i rows) from next → MatchOption here ((a : ℕ) → from ≤ a → factor_of a row.parts ≡ pos 0) (λ n. (from ≤ n) × ((a : ℕ) → from ≤ a → a < n → factor_of a row.parts ≡ pos 0)) → IsNextAtom (take (i + 1) rows) from (lesser_of next here)
+pub next_more : (rows : List Row) (i : ℕ) (row : Row) (from : ℕ) (next here : Option ℕ) → i < length rows → row ≡ get_or rows i row → IsNextAtom (take i rows) from next → MatchOption here ((a : ℕ) →
+    from ≤ a → factor_of a row.parts ≡ pos 0) (λ n. (from ≤ n) × ((a : ℕ) → from ≤ a → a < n → factor_of a row.parts ≡ pos 0)) → IsNextAtom (take (i + 1) rows) from (lesser_of next here)
 next_more rows i row from next here within is_row before now = step next here before now
   where
     more : (a : ℕ) → IsAbsent (take i rows) a → factor_of a row.parts ≡ pos 0 → IsAbsent (take (i + 1) rows) a
@@ -41,7 +42,8 @@ pub fits_from : (zs : List ℤ) (k : ℕ) (s p : ℤ) → s ≡ int_sum (take k 
 fits_from zs k s p e q narrow =
     (subst (FitsSigned w128) q narrow.0, subst (FitsSigned w128) (sym (sum_step zs k s p e q)) narrow.1)
 
-pub column_more : (column : Column) (rows : List Row) (mult : List ℤ) (k : ℕ) (p s next : ℤ) → get_or (products column rows mult) k (pos 0) ≡ p → s ≡ int_sum (take k (products column rows mult)) → IsNarrowBelow column rows mult k → (FitsSigned w128 p × FitsSigned w128 (s +ℤ p)) × (next ≡ s +ℤ p) → (next ≡ int_sum (take (k + 1) (products column rows mult))) × IsNarrowBelow column rows mult (k + 1)
+pub column_more : (column : Column) (rows : List Row) (mult : List ℤ) (k : ℕ) (p s next : ℤ) → get_or (products column rows mult) k (pos 0) ≡ p → s ≡ int_sum (take k (products column rows mult)) →
+    IsNarrowBelow column rows mult k → (FitsSigned w128 p × FitsSigned w128 (s +ℤ p)) × (next ≡ s +ℤ p) → (next ≡ int_sum (take (k + 1) (products column rows mult))) × IsNarrowBelow column rows mult (k + 1)
 column_more column rows mult k p s next is_p is_sum before now =
     let zs = products column rows mult in (
       now.1 ∙ sum_step zs k s p is_sum is_p,

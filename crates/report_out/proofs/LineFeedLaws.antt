@@ -44,7 +44,8 @@ feed_before n m i d [] within below = absurd (omega (arith, within))
 feed_before n zero i d (b ∷ bytes) within below = absurd (omega (arith, below, from_start n i d (b ∷ bytes) within))
 feed_before n (suc m) i d (b ∷ bytes) within below = by_byte (λ j. feed_before (suc n) m j d bytes) (b == 10) refl i within below
   where
-    by_byte : ((j : ℕ) → j < length (feeds_from (suc n) bytes) → get_or (feeds_from (suc n) bytes) j d < suc n + m → j < feeds_in m bytes) → (t : Bool) → (b == 10) ≡ t → (i : ℕ) → i < length (feeds_from n (b ∷ bytes)) → get_or (feeds_from n (b ∷ bytes)) i d < n + suc m → i < feeds_in (suc m) (b ∷ bytes)
+    by_byte : ((j : ℕ) → j < length (feeds_from (suc n) bytes) → get_or (feeds_from (suc n) bytes) j d < suc n + m → j < feeds_in m bytes) → (t : Bool) →
+        (b == 10) ≡ t → (i : ℕ) → i < length (feeds_from n (b ∷ bytes)) → get_or (feeds_from n (b ∷ bytes)) i d < n + suc m → i < feeds_in (suc m) (b ∷ bytes)
     by_byte rest_of true e zero l below = omega (arith, with_feed m b bytes e)
     by_byte rest_of true e (suc i) l below =
         let here : suc i < length (n ∷ feeds_from (suc n) bytes) = subst (λ xs. suc i < length xs) (feeds_cons n b bytes true e) l in
@@ -63,7 +64,8 @@ feed_behind n m i d [] within above = absurd (omega (arith, within))
 feed_behind n zero i d (b ∷ bytes) within above = omega arith
 feed_behind n (suc m) i d (b ∷ bytes) within above = by_byte (λ j. feed_behind (suc n) m j d bytes) (b == 10) refl i within above
   where
-    by_byte : ((j : ℕ) → j < length (feeds_from (suc n) bytes) → suc n + m ≤ get_or (feeds_from (suc n) bytes) j d → feeds_in m bytes ≤ j) → (t : Bool) → (b == 10) ≡ t → (i : ℕ) → i < length (feeds_from n (b ∷ bytes)) → n + suc m ≤ get_or (feeds_from n (b ∷ bytes)) i d → feeds_in (suc m) (b ∷ bytes) ≤ i
+    by_byte : ((j : ℕ) → j < length (feeds_from (suc n) bytes) → suc n + m ≤ get_or (feeds_from (suc n) bytes) j d → feeds_in m bytes ≤ j) → (t : Bool) →
+        (b == 10) ≡ t → (i : ℕ) → i < length (feeds_from n (b ∷ bytes)) → n + suc m ≤ get_or (feeds_from n (b ∷ bytes)) i d → feeds_in (suc m) (b ∷ bytes) ≤ i
     by_byte rest_of true e zero l above =
         let at : n + suc m ≤ n = subst (λ xs. n + suc m ≤ get_or xs 0 d) (feeds_cons n b bytes true e) above in
         absurd (omega (arith, at))

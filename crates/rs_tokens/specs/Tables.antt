@@ -4,7 +4,11 @@ use Rattle.std.specs.Prelude.{ℕ, List, [], ◌∷◌, codes, Option, None, Som
 use Rattle.std.specs.Borrow.{Bor}
 use Rattle.std.specs.Str.{bytes_eq}
 use Rattle.rs_tokens.specs.declared.token.TokenKind.{TokenKind}
-use Rattle.rs_tokens.specs.declared.token.TokenKind.TheVariants.{Underscore, KwAs, KwBreak, KwConst, KwContinue, KwCrate, KwElse, KwEnum, KwExtern, KwFalse, KwFn, KwFor, KwIf, KwImpl, KwIn, KwLet, KwLoop, KwMatch, KwMod, KwMove, KwMut, KwPub, KwRef, KwReturn, KwSelf, KwSelfType, KwStatic, KwStruct, KwSuper, KwTrait, KwTrue, KwType, KwUnsafe, KwUse, KwWhere, KwWhile, KwAsync, KwAwait, KwDyn, Implies, EqualEqual, FatArrow, Arrow, NotEqual, AtMost, AtLeast, AndAnd, OrOr, PlusEqual, MinusEqual, StarEqual, SlashEqual, PercentEqual, PathSep, DotDot, OpenParen, CloseParen, OpenBracket, CloseBracket, OpenBrace, CloseBrace, Less, Greater, Equal, Plus, Minus, Star, Slash, Percent, Not, And, Or, Caret, At, Pound, Comma, Semicolon, Colon, Dot, Question}
+use Rattle.rs_tokens.specs.declared.token.TokenKind.TheVariants.{Underscore, KwAs, KwBreak, KwConst, KwContinue, KwCrate, KwElse, KwEnum, KwExtern, KwFalse, KwFn, KwFor, KwIf, KwImpl, KwIn, KwLet, KwLoop, KwMatch, KwMod, KwMove, KwMut}
+use Rattle.rs_tokens.specs.declared.token.TokenKind.TheVariants.{KwPub, KwRef, KwReturn, KwSelf, KwSelfType, KwStatic, KwStruct, KwSuper, KwTrait, KwTrue, KwType, KwUnsafe, KwUse, KwWhere, KwWhile, KwAsync, KwAwait, KwDyn, Implies}
+use Rattle.rs_tokens.specs.declared.token.TokenKind.TheVariants.{EqualEqual, FatArrow, Arrow, NotEqual, AtMost, AtLeast, AndAnd, OrOr, PlusEqual, MinusEqual, StarEqual, SlashEqual, PercentEqual, PathSep, DotDot, OpenParen, CloseParen}
+use Rattle.rs_tokens.specs.declared.token.TokenKind.TheVariants.{OpenBracket, CloseBracket, OpenBrace, CloseBrace, Less, Greater, Equal, Plus, Minus, Star, Slash, Percent, Not, And, Or, Caret, At, Pound, Comma, Semicolon, Colon, Dot}
+use Rattle.rs_tokens.specs.declared.token.TokenKind.TheVariants.{Question}
 
 -- a text and the kind of the token that it is
 pub record Row : Type 0 where

@@ -227,7 +227,8 @@ arrival_is_full w l m k room laid is named arrival gs (heads, k', n, may, arrive
         same_room room (goals_of_head at.block.head + length e.0) (length gs) None (sym e.2) (none_left room (goals_of_head at.block.head) (length e.0) (arrival at.block at.is_block))
 
 -- on to a block that is later
-pub on_leaves : (w : Setting) (l m : Label) (k : Block) (room left : ℕ) (r : Option ℕ) → IsLaidOut w.body → block_in w.body.blocks l ≡ Some k → among m (targets k.end.kind) ≡ true → among m k.nest ≡ false → AtArrival w m room (Some left) → LeavesRoom (AreFrom w m) left r → LeavesRoom (AreAlong w l m) room r
+pub on_leaves : (w : Setting) (l m : Label) (k : Block) (room left : ℕ) (r : Option ℕ) → IsLaidOut w.body → block_in w.body.blocks l ≡ Some k →
+    among m (targets k.end.kind) ≡ true → among m k.nest ≡ false → AtArrival w m room (Some left) → LeavesRoom (AreFrom w m) left r → LeavesRoom (AreAlong w l m) room r
 on_leaves w l m k room left r laid is named not_in arrival leaves gs (heads, k', n, may, arrives) =
     let same : k' ≡ k = some_same (sym may.is_block ∙ is) in
     let at = enters_later w.body l m k heads laid named not_in (subst (λ (j : Block). MayStand w.body heads l j) same may) in

@@ -247,7 +247,8 @@ pub first_is_many : (b : Body) (l : Label) (k : Block) (o : Operand) (on_true on
 first_is_many b l k o on_true on_false room is is_kind first = both_count b l k o on_true on_false is is_kind true (room + 1) 0 (room + 1) (omega arith) first (λ heads j may. stopped refl)
 
 -- the second side has more than is left
-pub second_is_many : (b : Body) (l : Label) (k : Block) (o : Operand) (on_true on_false : Label) (room i : ℕ) → block_in b.blocks l ≡ Some k → k.end.kind ≡ If o on_true on_false → i ≤ room → CountsAlong b l on_true false i → CountsAlong b l on_false true (room - i + 1) → CountsFrom b l true (room + 1)
+pub second_is_many : (b : Body) (l : Label) (k : Block) (o : Operand) (on_true on_false : Label) (room i : ℕ) → block_in b.blocks l ≡ Some k →
+    k.end.kind ≡ If o on_true on_false → i ≤ room → CountsAlong b l on_true false i → CountsAlong b l on_false true (room - i + 1) → CountsFrom b l true (room + 1)
 second_is_many b l k o on_true on_false room i is is_kind within first second =
     both_count b l k o on_true on_false is is_kind true i (room - i + 1) (room + 1) (omega arith) (λ heads j may. may_stop (first heads j may)) second
 
