@@ -1,9 +1,10 @@
 -- Terms that have the same values.
 use Rattle.std.proofs.Common.{◌≡◌, ℕ, zero, suc, Bool, true, false, ◌↔◌, subst}
+use Rattle.logic_term.specs.Ty.{Tys}
 use Rattle.logic_term.specs.Value.{Value, Values, Flag}
 use Rattle.logic_term.specs.declared.kinds.Ctor.{Ctor}
 use Rattle.logic_term.specs.Term.{Operator, modeled, negated, denied, arith, less, at_most, equal, both, either, implied, made, Quantifier, every, some}
-use Rattle.logic_term.specs.Meaning.{Sure, Has, Of, OfTwo, Decided, Says, Yes, Each, MadeOf, Applied, Quantified}
+use Rattle.logic_term.specs.Meaning.{Sure, Has, Of, OfTwo, Decided, Says, Yes, Each, MadeOf, Calls, AppliedBy, Quantified}
 
 pub sure_map : (P Q : Type 0) → (P → Q) → Sure P → Sure Q
 sure_map P Q f p n = p (λ x. n (f x))
@@ -70,31 +71,31 @@ made_into : (c : Ctor) (P Q : Values → Type 0) → ((vs : Values) → P vs →
 made_into c P Q e v p n = e p.0 p.1 (λ q. n (p.0, q, p.2))
 
 -- an operator's values are those of its arguments' values
-pub applied_alike : (op : Operator) (n : ℕ) (A B : ℕ → Has) → ((k : ℕ) → Alike (A k) (B k)) → Alike (Applied op n A) (Applied op n B)
-applied_alike modeled n A B e = of_alike _ _ _ (e 0)
-applied_alike negated n A B e = of_alike _ _ _ (e 0)
-applied_alike denied n A B e = says_alike _ _ ((λ d y. d ((yes_alike _ _ (e 0)).1 y)), (λ d y. d ((yes_alike _ _ (e 0)).0 y)))
-applied_alike (arith op) n A B e = of_two_alike _ _ _ _ _ (e 0) (e 1)
-applied_alike less n A B e = of_two_alike _ _ _ _ _ (e 0) (e 1)
-applied_alike at_most n A B e = of_two_alike _ _ _ _ _ (e 0) (e 1)
-applied_alike equal n A B e = says_alike _ _ (
+pub applied_alike : (C : Calls) (θ : Tys) (op : Operator) (n : ℕ) (A B : ℕ → Has) → ((k : ℕ) → Alike (A k) (B k)) → Alike (AppliedBy C θ op n A) (AppliedBy C θ op n B)
+applied_alike C θ modeled n A B e = of_alike _ _ _ (e 0)
+applied_alike C θ negated n A B e = of_alike _ _ _ (e 0)
+applied_alike C θ denied n A B e = says_alike _ _ ((λ d y. d ((yes_alike _ _ (e 0)).1 y)), (λ d y. d ((yes_alike _ _ (e 0)).0 y)))
+applied_alike C θ (arith op) n A B e = of_two_alike _ _ _ _ _ (e 0) (e 1)
+applied_alike C θ less n A B e = of_two_alike _ _ _ _ _ (e 0) (e 1)
+applied_alike C θ at_most n A B e = of_two_alike _ _ _ _ _ (e 0) (e 1)
+applied_alike C θ equal n A B e = says_alike _ _ (
   (λ s x y p q k. from _ _ (e 0) x p (λ r. from _ _ (e 1) y q (λ t. s x y r t k))),
   (λ s x y p q k. to _ _ (e 0) x p (λ r. to _ _ (e 1) y q (λ t. s x y r t k))),
 )
-applied_alike both n A B e = says_alike _ _ ((λ p. ((yes_alike _ _ (e 0)).0 p.0, (yes_alike _ _ (e 1)).0 p.1)), (λ p. ((yes_alike _ _ (e 0)).1 p.0, (yes_alike _ _ (e 1)).1 p.1)))
-applied_alike either n A B e = says_alike _ _ (
+applied_alike C θ both n A B e = says_alike _ _ ((λ p. ((yes_alike _ _ (e 0)).0 p.0, (yes_alike _ _ (e 1)).0 p.1)), (λ p. ((yes_alike _ _ (e 0)).1 p.0, (yes_alike _ _ (e 1)).1 p.1)))
+applied_alike C θ either n A B e = says_alike _ _ (
   (λ d p. d ((λ y. p.0 ((yes_alike _ _ (e 0)).0 y)), (λ y. p.1 ((yes_alike _ _ (e 1)).0 y)))),
   (λ d p. d ((λ y. p.0 ((yes_alike _ _ (e 0)).1 y)), (λ y. p.1 ((yes_alike _ _ (e 1)).1 y)))),
 )
-applied_alike implied n A B e = says_alike _ _ (
+applied_alike C θ implied n A B e = says_alike _ _ (
   (λ f y. (yes_alike _ _ (e 1)).0 (f ((yes_alike _ _ (e 0)).1 y))),
   (λ f y. (yes_alike _ _ (e 1)).1 (f ((yes_alike _ _ (e 0)).0 y))),
 )
-applied_alike (made c) n A B e = alike _ _ (made_into c (Each n A) (Each n B) (each_into n A B (λ k. to _ _ (e k)))) (made_into c (Each n B) (Each n A) (each_into n B A (λ k. from _ _ (e k))))
+applied_alike C θ (made c) n A B e = alike _ _ (made_into c (Each n A) (Each n B) (each_into n A B (λ k. to _ _ (e k)))) (made_into c (Each n B) (Each n A) (each_into n B A (λ k. from _ _ (e k))))
 
 -- the same where the numbers of arguments are equal by a law
-pub applied_alike_at : (op : Operator) (m n : ℕ) (A B : ℕ → Has) → m ≡ n → ((k : ℕ) → Alike (A k) (B k)) → Alike (Applied op m A) (Applied op n B)
-applied_alike_at op m n A B same e = subst (λ j. Alike (Applied op m A) (Applied op j B)) same (applied_alike op m A B e)
+pub applied_alike_at : (C : Calls) (θ : Tys) (op : Operator) (m n : ℕ) (A B : ℕ → Has) → m ≡ n → ((k : ℕ) → Alike (A k) (B k)) → Alike (AppliedBy C θ op m A) (AppliedBy C θ op n B)
+applied_alike_at C θ op m n A B same e = subst (λ j. Alike (AppliedBy C θ op m A) (AppliedBy C θ op j B)) same (applied_alike C θ op m A B e)
 
 pub quantified_alike : (q : Quantifier) (S : Value → Type 0) (A B : Value → Has) → ((w : Value) → Alike (A w) (B w)) → Alike (Quantified q S A) (Quantified q S B)
 quantified_alike every S A B e = says_alike _ _

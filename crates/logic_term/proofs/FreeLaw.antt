@@ -4,7 +4,7 @@ use Rattle.std.proofs.lemmas.Bool.Decides.{nat_tests}
 use Rattle.text_core.specs.declared.name.Name.{Name}
 use Rattle.logic_term.specs.Value.{Value}
 use Rattle.logic_term.specs.Term.{Term, Terms, var, lit, truth, apply, bind, no_terms, and_term}
-use Rattle.logic_term.specs.Meaning.{Structure, Env, with_value, Means, Argument}
+use Rattle.logic_term.specs.Meaning.{Calls, Structure, Env, with_value, MeansBy, ArgumentBy, calls, Means}
 use Rattle.logic_term.specs.Free.{free, free_in_some}
 use Rattle.logic_term.proofs.Alike.{sure_map, Alike, alike_same, applied_alike, quantified_alike}
 
@@ -32,19 +32,24 @@ apart_at : (b : Bool) (w u : Value) → (b ≡ true → ⊥) → u ≡ cond b w 
 apart_at true w u d = absurd (d refl)
 apart_at false w u d = refl
 
-module _ (S : Structure) where
+-- whatever calls mean
+module _ (C : Calls) (S : Structure) where
   mutual
-    pub coincide_free : (t : Term) (ρ σ : Env) → AgreeOn (λ x. free x t) ρ σ → Alike (Means S t ρ) (Means S t σ)
-    coincide_free (var x) ρ σ h v = let e : ρ x ≡ σ x = h x (grind (arith, nat_tests)) in (sure_map (v ≡ ρ x) (v ≡ σ x) (λ p. p ∙ e), sure_map (v ≡ σ x) (v ≡ ρ x) (λ p. p ∙ sym e))
-    coincide_free (lit z s) ρ σ h v = ((λ p. p), (λ p. p))
-    coincide_free (truth b) ρ σ h v = ((λ p. p), (λ p. p))
-    coincide_free (apply op ts) ρ σ h v = applied_alike op _ _ _ (λ k. coincide_all_free ts ρ σ h k) v
-    coincide_free (bind q x s t) ρ σ h v = quantified_alike q _ _ _ (λ w. coincide_free t (with_value ρ x w) (with_value σ x w) (λ y e. under (y.0 == x.0) (free y t) w (ρ y) (σ y) (h y) e)) v
+    pub coincide_free_by : (t : Term) (ρ σ : Env) → AgreeOn (λ x. free x t) ρ σ → Alike (MeansBy C S t ρ) (MeansBy C S t σ)
+    coincide_free_by (var x) ρ σ h v = let e : ρ x ≡ σ x = h x (grind (arith, nat_tests)) in (sure_map (v ≡ ρ x) (v ≡ σ x) (λ p. p ∙ e), sure_map (v ≡ σ x) (v ≡ ρ x) (λ p. p ∙ sym e))
+    coincide_free_by (lit z s) ρ σ h v = ((λ p. p), (λ p. p))
+    coincide_free_by (truth b) ρ σ h v = ((λ p. p), (λ p. p))
+    coincide_free_by (apply op ts) ρ σ h v = applied_alike C S.types op _ _ _ (λ k. coincide_all_free_by ts ρ σ h k) v
+    coincide_free_by (bind q x s t) ρ σ h v = quantified_alike q _ _ _ (λ w. coincide_free_by t (with_value ρ x w) (with_value σ x w) (λ y e. under (y.0 == x.0) (free y t) w (ρ y) (σ y) (h y) e)) v
 
-    pub coincide_all_free : (ts : Terms) (ρ σ : Env) → AgreeOn (λ x. free_in_some x ts) ρ σ → (k : ℕ) → Alike (Argument S ts ρ k) (Argument S ts σ k)
-    coincide_all_free no_terms ρ σ h k = alike_same _
-    coincide_all_free (and_term t ts) ρ σ h zero = coincide_free t ρ σ (λ x e. h x (or_left (free x t) (free_in_some x ts) e))
-    coincide_all_free (and_term t ts) ρ σ h (suc k) = coincide_all_free ts ρ σ (λ x e. h x (or_right (free x t) (free_in_some x ts) e)) k
+    pub coincide_all_free_by : (ts : Terms) (ρ σ : Env) → AgreeOn (λ x. free_in_some x ts) ρ σ → (k : ℕ) → Alike (ArgumentBy C S ts ρ k) (ArgumentBy C S ts σ k)
+    coincide_all_free_by no_terms ρ σ h k = alike_same _
+    coincide_all_free_by (and_term t ts) ρ σ h zero = coincide_free_by t ρ σ (λ x e. h x (or_left (free x t) (free_in_some x ts) e))
+    coincide_all_free_by (and_term t ts) ρ σ h (suc k) = coincide_all_free_by ts ρ σ (λ x e. h x (or_right (free x t) (free_in_some x ts) e)) k
+
+module _ (S : Structure) where
+  pub coincide_free : (t : Term) (ρ σ : Env) → AgreeOn (λ x. free x t) ρ σ → Alike (Means S t ρ) (Means S t σ)
+  coincide_free t ρ σ h = coincide_free_by (calls S.theory) S t ρ σ h
 
   pub set_apart : (x : Name) (t : Term) (ρ : Env) (w : Value) → free x t ≡ false → AgreeOn (λ y. free y t) ρ (with_value ρ x w)
   set_apart x t ρ w f y e = apart_at (y.0 == x.0) w (ρ y) (λ b. true≢false (sym e ∙ ap (λ z. free z t) (same_name y x (same_test y.0 x.0 b)) ∙ f))

@@ -8,7 +8,7 @@ use Rattle.logic_term.specs.declared.kinds.TermBinary.{TermBinary}
 use Rattle.logic_term.specs.declared.kinds.TermBinary.TheVariants as binary
 use Rattle.logic_term.specs.declared.subst.Replacement.{Replacement}
 use Rattle.logic_term.specs.Free.{free, free_in_some}
-use Rattle.logic_term.specs.Meaning.{Structure, Env, with_value, Means, Argument}
+use Rattle.logic_term.specs.Meaning.{Calls, Structure, Env, with_value, MeansBy, ArgumentBy, calls, Means}
 use Rattle.logic_term.specs.Placed.{Placing, itself, put, name_at, placed, all_placed}
 use Rattle.logic_term.specs.Simplified.{simplified, formed}
 use Rattle.logic_term.specs.Subst.{above, look, placing, subst, above_entries, with_terms, replaced}
@@ -41,52 +41,60 @@ pub made_formed : (r : Bool) (c : Ctor) (ts : Terms) → formed r (made c) ts �
 made_formed true c ts = refl
 made_formed false c ts = refl
 
-module _ (S : Structure) where
-  simplified_means : (op : Operator) (ts : Terms) (ρ : Env) → Alike (Means S (simplified op ts) ρ) (Means S (apply op ts) ρ)
+-- whatever calls mean
+module _ (C : Calls) (S : Structure) where
+  simplified_means : (op : Operator) (ts : Terms) (ρ : Env) → Alike (MeansBy C S (simplified op ts) ρ) (MeansBy C S (apply op ts) ρ)
   simplified_means modeled (and_term (lit z (int k)) no_terms) ρ = alike_exactly _ _ (λ v. ((λ p. (Number z, refl, p)), (λ p. p.2 ∙ ap (λ x. Number (integer_of x)) p.1)))
   simplified_means op ts ρ = alike_same _
 
-  formed_means : (r : Bool) (op : Operator) (ts : Terms) (ρ : Env) → Alike (Means S (formed r op ts) ρ) (Means S (apply op ts) ρ)
+  formed_means : (r : Bool) (op : Operator) (ts : Terms) (ρ : Env) → Alike (MeansBy C S (formed r op ts) ρ) (MeansBy C S (apply op ts) ρ)
   formed_means true op ts ρ = simplified_means op ts ρ
   formed_means false op ts ρ = alike_same _
 
   -- what stands for each of these names, at any depth from n on, has the value that τ gives the name, wherever names below n are as in ρ
-  abbrev pub StandsFor : (Name → Bool) → ℕ → Env → Placing → Env → Type 0
-  StandsFor f n ρ σ τ = (x : Name) → f x ≡ true → (k : ℕ) → n ≤ k → (μ : Env) → Agree n μ ρ → Alike (Means S (σ x k) μ) (λ v. v ≡ τ x)
+  abbrev pub StandsForBy : (Name → Bool) → ℕ → Env → Placing → Env → Type 0
+  StandsForBy f n ρ σ τ = (x : Name) → f x ≡ true → (k : ℕ) → n ≤ k → (μ : Env) → Agree n μ ρ → Alike (MeansBy C S (σ x k) μ) (λ v. v ≡ τ x)
 
   -- ---- under a binder
 
   less : (n : ℕ) (μ ρ : Env) (w : Value) → Agree (suc n) μ (with_value ρ (record { 0 = n }) w) → Agree n μ ρ
   less n μ ρ w a x l = a x (omega arith) ∙ sym (agree_new n ρ (record { 0 = n }) w (omega arith) x l)
 
-  stands_at : (n : ℕ) (ρ : Env) (u : ℕ → Term) (w v : Value) (b c : Bool) → ((not b && c) ≡ true → (k : ℕ) → n ≤ k → (μ : Env) → Agree n μ ρ → Alike (Means S (u k) μ) (λ a. a ≡ v)) → c ≡ true
-      → (k : ℕ) → suc n ≤ k → (μ : Env) → Agree (suc n) μ (with_value ρ (record { 0 = n }) w) → Alike (Means S (cond b (name_at n k) (u k)) μ) (λ a. a ≡ cond b w v)
+  stands_at : (n : ℕ) (ρ : Env) (u : ℕ → Term) (w v : Value) (b c : Bool) → ((not b && c) ≡ true → (k : ℕ) → n ≤ k → (μ : Env) → Agree n μ ρ → Alike (MeansBy C S (u k) μ) (λ a. a ≡ v)) → c ≡ true
+      → (k : ℕ) → suc n ≤ k → (μ : Env) → Agree (suc n) μ (with_value ρ (record { 0 = n }) w) → Alike (MeansBy C S (cond b (name_at n k) (u k)) μ) (λ a. a ≡ cond b w v)
   stands_at n ρ u w v true c h e k l μ a =
       let same : μ (record { 0 = n }) ≡ w = a (record { 0 = n }) (omega arith) ∙ with_same ρ (record { 0 = n }) w in
       alike_exactly _ _ (λ x. ((λ p. p ∙ same), (λ p. p ∙ sym same)))
   stands_at n ρ u w v false c h e k l μ a = h e k (omega arith) μ (less n μ ρ w a)
 
-  stands_under : (t : Term) (n : ℕ) (ρ τ : Env) (σ : Placing) (y : Name) (w : Value) → StandsFor (λ x. not (x.0 == y.0) && free x t) n ρ σ τ
-      → StandsFor (λ x. free x t) (suc n) (with_value ρ (record { 0 = n }) w) (put y (name_at n) σ) (with_value τ y w)
+  stands_under : (t : Term) (n : ℕ) (ρ τ : Env) (σ : Placing) (y : Name) (w : Value) → StandsForBy (λ x. not (x.0 == y.0) && free x t) n ρ σ τ
+      → StandsForBy (λ x. free x t) (suc n) (with_value ρ (record { 0 = n }) w) (put y (name_at n) σ) (with_value τ y w)
   stands_under t n ρ τ σ y w h x e = stands_at n ρ (σ x) w (τ x) (x.0 == y.0) (free x t) (h x) e
 
   mutual
-    pub placed_means : (r : Bool) (t : Term) (n : ℕ) (ρ τ : Env) (σ : Placing) → StandsFor (λ x. free x t) n ρ σ τ → Alike (Means S (placed r n σ t) ρ) (Means S t τ)
-    placed_means r (var x) n ρ τ σ h v = h x (self x.0) n (omega arith) ρ (λ y l. refl) v
+    pub placed_means_by : (r : Bool) (t : Term) (n : ℕ) (ρ τ : Env) (σ : Placing) → StandsForBy (λ x. free x t) n ρ σ τ → Alike (MeansBy C S (placed r n σ t) ρ) (MeansBy C S t τ)
+    placed_means_by r (var x) n ρ τ σ h v = h x (self x.0) n (omega arith) ρ (λ y l. refl) v
       where
         self : (k : ℕ) → (k == k) ≡ true
         self k = grind (arith, nat_tests)
-    placed_means r (lit z s) n ρ τ σ h v = ((λ p. p), (λ p. p))
-    placed_means r (truth c) n ρ τ σ h v = ((λ p. p), (λ p. p))
-    placed_means r (apply op ts) n ρ τ σ h v =
-        alike_then _ _ _ (formed_means r op (all_placed r n σ ts) ρ) (applied_alike_at op _ _ _ _ (count_placed r n σ ts) (λ k. all_placed_mean r ts n ρ τ σ h k)) v
-    placed_means r (bind q x s t) n ρ τ σ h v =
-        quantified_alike q _ _ _ (λ w. placed_means r t (suc n) (with_value ρ (record { 0 = n }) w) (with_value τ x w) (put x (name_at n) σ) (stands_under t n ρ τ σ x w h)) v
+    placed_means_by r (lit z s) n ρ τ σ h v = ((λ p. p), (λ p. p))
+    placed_means_by r (truth c) n ρ τ σ h v = ((λ p. p), (λ p. p))
+    placed_means_by r (apply op ts) n ρ τ σ h v =
+        alike_then _ _ _ (formed_means r op (all_placed r n σ ts) ρ) (applied_alike_at C S.types op _ _ _ _ (count_placed r n σ ts) (λ k. all_placed_mean r ts n ρ τ σ h k)) v
+    placed_means_by r (bind q x s t) n ρ τ σ h v =
+        quantified_alike q _ _ _ (λ w. placed_means_by r t (suc n) (with_value ρ (record { 0 = n }) w) (with_value τ x w) (put x (name_at n) σ) (stands_under t n ρ τ σ x w h)) v
 
-    pub all_placed_mean : (r : Bool) (ts : Terms) (n : ℕ) (ρ τ : Env) (σ : Placing) → StandsFor (λ x. free_in_some x ts) n ρ σ τ → (k : ℕ) → Alike (Argument S (all_placed r n σ ts) ρ k) (Argument S ts τ k)
+    pub all_placed_mean : (r : Bool) (ts : Terms) (n : ℕ) (ρ τ : Env) (σ : Placing) → StandsForBy (λ x. free_in_some x ts) n ρ σ τ → (k : ℕ) → Alike (ArgumentBy C S (all_placed r n σ ts) ρ k) (ArgumentBy C S ts τ k)
     all_placed_mean r no_terms n ρ τ σ h k = alike_same _
-    all_placed_mean r (and_term t ts) n ρ τ σ h zero = placed_means r t n ρ τ σ (λ x e. h x (or_left (free x t) (free_in_some x ts) e))
+    all_placed_mean r (and_term t ts) n ρ τ σ h zero = placed_means_by r t n ρ τ σ (λ x e. h x (or_left (free x t) (free_in_some x ts) e))
     all_placed_mean r (and_term t ts) n ρ τ σ h (suc k) = all_placed_mean r ts n ρ τ σ (λ x e. h x (or_right (free x t) (free_in_some x ts) e)) k
+
+module _ (S : Structure) where
+  abbrev pub StandsFor : (Name → Bool) → ℕ → Env → Placing → Env → Type 0
+  StandsFor f n ρ σ τ = StandsForBy (calls S.theory) S f n ρ σ τ
+
+  pub placed_means : (r : Bool) (t : Term) (n : ℕ) (ρ τ : Env) (σ : Placing) → StandsFor (λ x. free x t) n ρ σ τ → Alike (Means S (placed r n σ t) ρ) (Means S t τ)
+  placed_means r t n ρ τ σ h = placed_means_by (calls S.theory) S r t n ρ τ σ h
 
   -- ---- entries
 

@@ -4,7 +4,7 @@ use Rattle.source_kinds.specs.declared.kinds.IntKind.{IntKind}
 use Rattle.source_kinds.specs.Range.{fits}
 use Rattle.logic_term.specs.declared.kinds.Ctor.{Ctor}
 use Rattle.logic_term.specs.declared.kinds.Ctor.TheVariants.{Tuple, Variant, Closure}
-use Rattle.logic_term.specs.Meaning.{Has, Structure, structure_of, Env, Says, Each, Applied, Means, Argument}
+use Rattle.logic_term.specs.Meaning.{Has, Structure, structure_of, Env, Says, Each, Calls, AppliedBy, MeansBy, ArgumentBy, calls, Means}
 use Rattle.logic_term.specs.Sort.{HasSort, HaveSorts, instance, instances, of_int, of_math_int, of_bool, of_tuple, of_adt, of_none, of_more}
 use Rattle.logic_term.specs.Sorted.{Scope, MadeSort, OperatorSort, Sorted, AllSorted, FitsScope}
 use Rattle.logic_term.specs.Term.{Operator, modeled, negated, denied, arith, less, at_most, equal, both, either, implied, made, every, some, Term, Terms, var, lit, truth, apply, bind, no_terms, and_term, count}
@@ -13,7 +13,8 @@ use Rattle.logic_term.specs.Ty.{Ty, Tys, int, bool, math_int}
 use Rattle.logic_term.specs.Value.{Value, Values, Number, Flag, Made}
 use Rattle.logic_term.proofs.SortParts.{instances_instances}
 
-module _ (Θ : Theory) (θ : Tys) where
+-- whatever calls mean
+module _ (C : Calls) (Θ : Theory) (θ : Tys) where
   abbrev S : Structure
   S = structure_of Θ θ
 
@@ -44,7 +45,7 @@ module _ (Θ : Theory) (θ : Tys) where
   made_sort (Closure n) ss s vs e h = absurd e
 
   -- all: values of all arguments have the sorts
-  operator_sound : (op : Operator) (n : ℕ) (A : ℕ → Has) (ss : Tys) (s : Ty) → OperatorSort Θ op ss s → ((vs : Values) → Each n A vs → Hs vs ss) → (v : Value) → Applied op n A v → H v s
+  operator_sound : (op : Operator) (n : ℕ) (A : ℕ → Has) (ss : Tys) (s : Ty) → OperatorSort Θ op ss s → ((vs : Values) → Each n A vs → Hs vs ss) → (v : Value) → AppliedBy C θ op n A v → H v s
   operator_sound modeled n A ss s o all v p = number_sort v _ s o.2 p.2
   operator_sound negated n A ss s o all v p = number_sort v _ s o.1 p.2
   operator_sound denied n A ss s o all v p = says_sort _ v s o.1 p
@@ -59,14 +60,19 @@ module _ (Θ : Theory) (θ : Tys) where
 
   -- under a binder no sort of a value is asked, since a formula's value is a truth value
   mutual
-    pub sort_sound : (t : Term) (Γ : Scope) (s : Ty) (ρ : Env) → Sorted Θ Γ t s → FitsScope Θ θ Γ ρ → (v : Value) → Means S t ρ v → H v s
-    sort_sound (var x) Γ s ρ q h v p = rw p (h x s q)
-    sort_sound (lit z t) Γ s ρ q h v p = rw p (rw q.0 (lit_sort z t q.1))
-    sort_sound (truth b) Γ s ρ q h v p = flag_sort v b s q p
-    sort_sound (apply op ts) Γ s ρ q h v p = operator_sound op (count ts) (λ k. Argument S ts ρ k) q.0 s q.1 (λ vs m. all_sound ts Γ q.0 ρ q.2 h vs m) v p
-    sort_sound (bind every x r t) Γ s ρ q h v p = says_sort _ v s q.0 p
-    sort_sound (bind some x r t) Γ s ρ q h v p = says_sort _ v s q.0 p
+    pub sort_sound_by : (t : Term) (Γ : Scope) (s : Ty) (ρ : Env) → Sorted Θ Γ t s → FitsScope Θ θ Γ ρ → (v : Value) → MeansBy C S t ρ v → H v s
+    sort_sound_by (var x) Γ s ρ q h v p = rw p (h x s q)
+    sort_sound_by (lit z t) Γ s ρ q h v p = rw p (rw q.0 (lit_sort z t q.1))
+    sort_sound_by (truth b) Γ s ρ q h v p = flag_sort v b s q p
+    sort_sound_by (apply op ts) Γ s ρ q h v p = operator_sound op (count ts) (λ k. ArgumentBy C S ts ρ k) q.0 s q.1 (λ vs m. all_sound_by ts Γ q.0 ρ q.2 h vs m) v p
+    sort_sound_by (bind every x r t) Γ s ρ q h v p = says_sort _ v s q.0 p
+    sort_sound_by (bind some x r t) Γ s ρ q h v p = says_sort _ v s q.0 p
 
-    all_sound : (ts : Terms) (Γ : Scope) (ss : Tys) (ρ : Env) → AllSorted Θ Γ ts ss → FitsScope Θ θ Γ ρ → (vs : Values) → Each (count ts) (λ k. Argument S ts ρ k) vs → Hs vs ss
-    all_sound no_terms Γ ss ρ q h vs p = rw p (rw q of_none)
-    all_sound (and_term t ts) Γ ss ρ q h vs p = rw p.4 (rw q.2 (of_more (sort_sound t Γ q.0 ρ q.3 h p.0 p.2) (all_sound ts Γ q.1 ρ q.4 h p.1 p.3)))
+    all_sound_by : (ts : Terms) (Γ : Scope) (ss : Tys) (ρ : Env) → AllSorted Θ Γ ts ss → FitsScope Θ θ Γ ρ → (vs : Values) → Each (count ts) (λ k. ArgumentBy C S ts ρ k) vs → Hs vs ss
+    all_sound_by no_terms Γ ss ρ q h vs p = rw p (rw q of_none)
+    all_sound_by (and_term t ts) Γ ss ρ q h vs p = rw p.4 (rw q.2 (of_more (sort_sound_by t Γ q.0 ρ q.3 h p.0 p.2) (all_sound_by ts Γ q.1 ρ q.4 h p.1 p.3)))
+
+module _ (Θ : Theory) (θ : Tys) where
+  pub sort_sound : (t : Term) (Γ : Scope) (s : Ty) (ρ : Env) → Sorted Θ Γ t s → FitsScope Θ θ Γ ρ →
+      (v : Value) → Means (structure_of Θ θ) t ρ v → HasSort (declared Θ) v (instance θ s)
+  sort_sound t Γ s ρ q h v p = sort_sound_by (calls Θ) Θ θ t Γ s ρ q h v p

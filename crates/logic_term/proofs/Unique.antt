@@ -3,9 +3,10 @@ use Rattle.std.proofs.Common.{◌≡◌, ℕ, zero, suc, Bool, true, false, refl
 use Rattle.logic_term.specs.declared.kinds.Ctor.{Ctor}
 use Rattle.logic_term.specs.Value.{Value, Values, Number, Flag, Made, no_values, and_value}
 use Rattle.logic_term.specs.Term.{Operator, modeled, negated, denied, arith, less, at_most, equal, both, either, implied, made, Quantifier, every, some, Term, Terms, var, lit, truth, apply, bind, no_terms, and_term, count}
-use Rattle.logic_term.specs.Meaning.{Sure, Has, Of, OfTwo, Decided, Says, Each, MadeOf, Applied, Quantified, Structure, Env, with_value, Means, Argument}
+use Rattle.logic_term.specs.Meaning.{Sure, Has, Of, OfTwo, Decided, Says, Each, MadeOf, Calls, AppliedBy, Quantified, Structure, Env, with_value, MeansBy, ArgumentBy, calls, Means}
 use Rattle.logic_term.specs.Sort.{HasSort, instance}
 use Rattle.logic_term.specs.Theory.{declared}
+use Rattle.logic_term.specs.Ty.{Tys}
 use Rattle.logic_term.proofs.Alike.{sure_map}
 
 abbrev pub Single : Has → Type 0
@@ -36,18 +37,18 @@ each_single (suc n) A s us vs p q = p.4 ∙ ap₂ and_value (s 0 p.0 q.0 p.2 q.2
 made_single : (c : Ctor) (P : Values → Type 0) → ((us vs : Values) → P us → P vs → us ≡ vs) → Single (MadeOf c P)
 made_single c P s x y p q = p.2 ∙ ap (λ vs. Made c vs) (s p.0 q.0 p.1 q.1) ∙ sym q.2
 
-pub applied_single : (op : Operator) (n : ℕ) (A : ℕ → Has) → ((k : ℕ) → Single (A k)) → Single (Applied op n A)
-applied_single modeled n A s = of_single _ _ (s 0)
-applied_single negated n A s = of_single _ _ (s 0)
-applied_single denied n A s = says_single _
-applied_single (arith op) n A s = of_two_single _ _ _ (s 0) (s 1)
-applied_single less n A s = of_two_single _ _ _ (s 0) (s 1)
-applied_single at_most n A s = of_two_single _ _ _ (s 0) (s 1)
-applied_single equal n A s = says_single _
-applied_single both n A s = says_single _
-applied_single either n A s = says_single _
-applied_single implied n A s = says_single _
-applied_single (made c) n A s = made_single c (Each n A) (each_single n A s)
+pub applied_single : (C : Calls) (θ : Tys) (op : Operator) (n : ℕ) (A : ℕ → Has) → ((k : ℕ) → Single (A k)) → Single (AppliedBy C θ op n A)
+applied_single C θ modeled n A s = of_single _ _ (s 0)
+applied_single C θ negated n A s = of_single _ _ (s 0)
+applied_single C θ denied n A s = says_single _
+applied_single C θ (arith op) n A s = of_two_single _ _ _ (s 0) (s 1)
+applied_single C θ less n A s = of_two_single _ _ _ (s 0) (s 1)
+applied_single C θ at_most n A s = of_two_single _ _ _ (s 0) (s 1)
+applied_single C θ equal n A s = says_single _
+applied_single C θ both n A s = says_single _
+applied_single C θ either n A s = says_single _
+applied_single C θ implied n A s = says_single _
+applied_single C θ (made c) n A s = made_single c (Each n A) (each_single n A s)
 
 quantified_single : (q : Quantifier) (S : Value → Type 0) (A : Value → Has) → Single (Quantified q S A)
 quantified_single every S A = says_single _
@@ -69,46 +70,54 @@ each_some (suc n) A s m = s 0 (λ p. each_some n (λ k. A (suc k)) (λ k. s (suc
 made_some : (c : Ctor) (P : Values → Type 0) → Sure ((vs : Values) × P vs) → SomeValue (MadeOf c P)
 made_some c P s m = s (λ p. m (Made c p.0, (p.0, p.1, refl)))
 
-applied_some : (op : Operator) (n : ℕ) (A : ℕ → Has) → ((k : ℕ) → SomeValue (A k)) → SomeValue (Applied op n A)
-applied_some modeled n A s = of_some _ _ (s 0)
-applied_some negated n A s = of_some _ _ (s 0)
-applied_some denied n A s = says_some _
-applied_some (arith op) n A s = of_two_some _ _ _ (s 0) (s 1)
-applied_some less n A s = of_two_some _ _ _ (s 0) (s 1)
-applied_some at_most n A s = of_two_some _ _ _ (s 0) (s 1)
-applied_some equal n A s = says_some _
-applied_some both n A s = says_some _
-applied_some either n A s = says_some _
-applied_some implied n A s = says_some _
-applied_some (made c) n A s = made_some c (Each n A) (each_some n A s)
+applied_some : (C : Calls) (θ : Tys) (op : Operator) (n : ℕ) (A : ℕ → Has) → ((k : ℕ) → SomeValue (A k)) → SomeValue (AppliedBy C θ op n A)
+applied_some C θ modeled n A s = of_some _ _ (s 0)
+applied_some C θ negated n A s = of_some _ _ (s 0)
+applied_some C θ denied n A s = says_some _
+applied_some C θ (arith op) n A s = of_two_some _ _ _ (s 0) (s 1)
+applied_some C θ less n A s = of_two_some _ _ _ (s 0) (s 1)
+applied_some C θ at_most n A s = of_two_some _ _ _ (s 0) (s 1)
+applied_some C θ equal n A s = says_some _
+applied_some C θ both n A s = says_some _
+applied_some C θ either n A s = says_some _
+applied_some C θ implied n A s = says_some _
+applied_some C θ (made c) n A s = made_some c (Each n A) (each_some n A s)
 
 quantified_some : (q : Quantifier) (S : Value → Type 0) (A : Value → Has) → SomeValue (Quantified q S A)
 quantified_some every S A = says_some _
 quantified_some some S A = says_some _
 
+-- whatever calls mean
+module _ (C : Calls) (S : Structure) where
+  mutual
+    pub single_by : (t : Term) (ρ : Env) → Single (MeansBy C S t ρ)
+    single_by (var x) ρ v w p q = p ∙ sym q
+    single_by (lit z s) ρ v w p q = p ∙ sym q
+    single_by (truth b) ρ v w p q = p ∙ sym q
+    single_by (apply op ts) ρ v w p q = applied_single C S.types op (count ts) (λ n. ArgumentBy C S ts ρ n) (λ n. singles_by ts ρ n) v w p q
+    single_by (bind q x s t) ρ v w p r = quantified_single q (λ u. HasSort (declared S.theory) u (instance S.types s)) (λ u. MeansBy C S t (with_value ρ x u)) v w p r
+
+    pub singles_by : (ts : Terms) (ρ : Env) (n : ℕ) → Single (ArgumentBy C S ts ρ n)
+    singles_by no_terms ρ n v w p q = p ∙ sym q
+    singles_by (and_term t ts) ρ zero v w p q = single_by t ρ v w p q
+    singles_by (and_term t ts) ρ (suc n) v w p q = singles_by ts ρ n v w p q
+
+  mutual
+    pub has_value_by : (t : Term) (ρ : Env) → SomeValue (MeansBy C S t ρ)
+    has_value_by (var x) ρ n = n (ρ x, refl)
+    has_value_by (lit z s) ρ n = n (Number z, refl)
+    has_value_by (truth b) ρ n = n (Flag b, refl)
+    has_value_by (apply op ts) ρ n = applied_some C S.types op (count ts) (λ k. ArgumentBy C S ts ρ k) (λ k. have_values_by ts ρ k) n
+    has_value_by (bind q x s t) ρ n = quantified_some q (λ u. HasSort (declared S.theory) u (instance S.types s)) (λ u. MeansBy C S t (with_value ρ x u)) n
+
+    pub have_values_by : (ts : Terms) (ρ : Env) (k : ℕ) → SomeValue (ArgumentBy C S ts ρ k)
+    have_values_by no_terms ρ k = λ n. n (Flag false, refl)
+    have_values_by (and_term t ts) ρ zero = has_value_by t ρ
+    have_values_by (and_term t ts) ρ (suc k) = have_values_by ts ρ k
+
 module _ (S : Structure) where
-  mutual
-    pub single : (t : Term) (ρ : Env) → Single (Means S t ρ)
-    single (var x) ρ v w p q = p ∙ sym q
-    single (lit z s) ρ v w p q = p ∙ sym q
-    single (truth b) ρ v w p q = p ∙ sym q
-    single (apply op ts) ρ v w p q = applied_single op (count ts) (λ n. Argument S ts ρ n) (λ n. singles ts ρ n) v w p q
-    single (bind q x s t) ρ v w p r = quantified_single q (λ u. HasSort (declared S.theory) u (instance S.types s)) (λ u. Means S t (with_value ρ x u)) v w p r
+  pub single : (t : Term) (ρ : Env) → Single (Means S t ρ)
+  single t ρ = single_by (calls S.theory) S t ρ
 
-    pub singles : (ts : Terms) (ρ : Env) (n : ℕ) → Single (Argument S ts ρ n)
-    singles no_terms ρ n v w p q = p ∙ sym q
-    singles (and_term t ts) ρ zero v w p q = single t ρ v w p q
-    singles (and_term t ts) ρ (suc n) v w p q = singles ts ρ n v w p q
-
-  mutual
-    pub has_value : (t : Term) (ρ : Env) → SomeValue (Means S t ρ)
-    has_value (var x) ρ n = n (ρ x, refl)
-    has_value (lit z s) ρ n = n (Number z, refl)
-    has_value (truth b) ρ n = n (Flag b, refl)
-    has_value (apply op ts) ρ n = applied_some op (count ts) (λ k. Argument S ts ρ k) (λ k. have_values ts ρ k) n
-    has_value (bind q x s t) ρ n = quantified_some q (λ u. HasSort (declared S.theory) u (instance S.types s)) (λ u. Means S t (with_value ρ x u)) n
-
-    pub have_values : (ts : Terms) (ρ : Env) (k : ℕ) → SomeValue (Argument S ts ρ k)
-    have_values no_terms ρ k = λ n. n (Flag false, refl)
-    have_values (and_term t ts) ρ zero = has_value t ρ
-    have_values (and_term t ts) ρ (suc k) = have_values ts ρ k
+  pub has_value : (t : Term) (ρ : Env) → SomeValue (Means S t ρ)
+  has_value t ρ = has_value_by (calls S.theory) S t ρ

@@ -8,6 +8,7 @@ use Rattle.source_kinds.specs.declared.kinds.ArithOp.TheVariants.{Add, Sub, Mul,
 use Rattle.logic_term.specs.Ty.{Tys}
 use Rattle.logic_term.specs.Term.{Operator, modeled, negated, denied, arith, less, at_most, equal, both, either, implied, made, Quantifier, every, some, Term, Terms, var, lit, truth, apply, bind, no_terms, and_term, count}
 use Rattle.logic_term.specs.declared.kinds.Ctor.{Ctor}
+use Rattle.logic_term.specs.declared.kinds.LogicFn.{LogicFn}
 use Rattle.logic_term.specs.Value.{Value, Values, Number, Flag, Made, no_values, and_value, nothing, integer_of}
 use Rattle.logic_term.specs.Sort.{HasSort, instance}
 use Rattle.logic_term.specs.Theory.{Theory, declared}
@@ -35,6 +36,16 @@ Env = Name → Value
 -- the environment with another value at one name
 abbrev pub with_value : Env → Name → Value → Env
 with_value ρ x v y = cond (y.0 == x.0) v (ρ y)
+
+-- ---- what calls of logic functions mean
+
+-- the values of a call of a logic function, at types for its type parameters, by the values of its arguments
+abbrev pub Calls : Type 1
+Calls = LogicFn → Tys → Values → Has
+
+-- of a theory. So far none declares a logic function: a call has the value that stands for a part that is missing
+abbrev pub calls : Theory → Calls
+calls Θ f ts vs v = v ≡ nothing
 
 -- ---- the values of operators, by the values of their arguments
 
@@ -81,19 +92,20 @@ Each (suc n) A vs = (x : Value) × (xs : Values) × A 0 x × Each n (λ k. A (su
 abbrev pub MadeOf : Ctor → (Values → Type 0) → Has
 MadeOf c P v = (vs : Values) × P vs × (v ≡ Made c vs)
 
--- n: how many arguments there are; A: their values, by number from 0
-abbrev pub Applied : Operator → ℕ → (ℕ → Has) → Has
-Applied modeled n A = Of (on_integer (λ z. z)) (A 0)
-Applied negated n A = Of (on_integer neg_ℤ) (A 0)
-Applied denied n A = Says (Yes (A 0) → ⊥)
-Applied (arith op) n A = OfTwo (on_integers (calculated op)) (A 0) (A 1)
-Applied less n A = OfTwo (compared int_lt) (A 0) (A 1)
-Applied at_most n A = OfTwo (compared int_le) (A 0) (A 1)
-Applied equal n A = Says ((x y : Value) → A 0 x → A 1 y → Sure (x ≡ y))
-Applied both n A = Says (Yes (A 0) × Yes (A 1))
-Applied either n A = Says ((Yes (A 0) → ⊥) × (Yes (A 1) → ⊥) → ⊥)
-Applied implied n A = Says (Yes (A 0) → Yes (A 1))
-Applied (made c) n A = MadeOf c (Each n A)
+-- C: what calls mean; θ: the types for the type parameters; n: how many arguments there are; A: their values, by number from 0. So far no
+-- operator calls
+abbrev pub AppliedBy : Calls → Tys → Operator → ℕ → (ℕ → Has) → Has
+AppliedBy C θ modeled n A = Of (on_integer (λ z. z)) (A 0)
+AppliedBy C θ negated n A = Of (on_integer neg_ℤ) (A 0)
+AppliedBy C θ denied n A = Says (Yes (A 0) → ⊥)
+AppliedBy C θ (arith op) n A = OfTwo (on_integers (calculated op)) (A 0) (A 1)
+AppliedBy C θ less n A = OfTwo (compared int_lt) (A 0) (A 1)
+AppliedBy C θ at_most n A = OfTwo (compared int_le) (A 0) (A 1)
+AppliedBy C θ equal n A = Says ((x y : Value) → A 0 x → A 1 y → Sure (x ≡ y))
+AppliedBy C θ both n A = Says (Yes (A 0) × Yes (A 1))
+AppliedBy C θ either n A = Says ((Yes (A 0) → ⊥) × (Yes (A 1) → ⊥) → ⊥)
+AppliedBy C θ implied n A = Says (Yes (A 0) → Yes (A 1))
+AppliedBy C θ (made c) n A = MadeOf c (Each n A)
 
 -- S: the values of the variable's sort; A: the values of the body, by the variable's
 abbrev pub Quantified : Quantifier → (Value → Type 0) → (Value → Has) → Has
@@ -103,20 +115,27 @@ Quantified some S A = Says (((w : Value) → S w → Yes (A w) → ⊥) → ⊥)
 abbrev pub Nothing : Has
 Nothing v = v ≡ nothing
 
--- ---- the values of terms
+-- ---- the values of terms, where calls mean C
 
 abbrev mutual
-  pub Means : Structure → Term → Env → Has
-  Means S (var x) ρ v = v ≡ ρ x
-  Means S (lit z t) ρ v = v ≡ Number z
-  Means S (truth b) ρ v = v ≡ Flag b
-  Means S (apply op ts) ρ v = Applied op (count ts) (λ n. Argument S ts ρ n) v
-  Means S (bind q x t u) ρ v = Quantified q (λ w. HasSort (declared S.theory) w (instance S.types t)) (λ w. Means S u (with_value ρ x w)) v
+  pub MeansBy : Calls → Structure → Term → Env → Has
+  MeansBy C S (var x) ρ v = v ≡ ρ x
+  MeansBy C S (lit z t) ρ v = v ≡ Number z
+  MeansBy C S (truth b) ρ v = v ≡ Flag b
+  MeansBy C S (apply op ts) ρ v = AppliedBy C S.types op (count ts) (λ n. ArgumentBy C S ts ρ n) v
+  MeansBy C S (bind q x t u) ρ v = Quantified q (λ w. HasSort (declared S.theory) w (instance S.types t)) (λ w. MeansBy C S u (with_value ρ x w)) v
 
-  pub Argument : Structure → Terms → Env → ℕ → Has
-  Argument S no_terms ρ n = Nothing
-  Argument S (and_term t ts) ρ zero = Means S t ρ
-  Argument S (and_term t ts) ρ (suc n) = Argument S ts ρ n
+  pub ArgumentBy : Calls → Structure → Terms → Env → ℕ → Has
+  ArgumentBy C S no_terms ρ n = Nothing
+  ArgumentBy C S (and_term t ts) ρ zero = MeansBy C S t ρ
+  ArgumentBy C S (and_term t ts) ρ (suc n) = ArgumentBy C S ts ρ n
+
+-- calls mean what the theory says
+abbrev pub Means : Structure → Term → Env → Has
+Means S = MeansBy (calls S.theory) S
+
+abbrev pub Argument : Structure → Terms → Env → ℕ → Has
+Argument S = ArgumentBy (calls S.theory) S
 
 -- the formula is true
 abbrev pub Holds : Structure → Term → Env → Type 0
