@@ -72,5 +72,22 @@ unfolding reserved
 returns-in-100 c = c.kind_in-in-100.ensures ∙ reserved_by 100 _ c.args.word.now (c.requires ∙ ap (λ (b : ℕ). Some b) c.in-100.is) refl
 
 pub returns-in_default : goal.returns-in_default
-returns-in_default c = none_reserved c.args.first c.args.word.now c.requires (omega arith, (omega arith, (omega arith, (omega arith, (omega arith, (omega arith,
-    (omega arith, (omega arith, (omega arith, (omega arith, (omega arith, (omega arith, (omega arith, (omega arith, (omega arith, (omega arith, (omega arith, tt)))))))))))))))))
+returns-in_default c = none_reserved c.args.first c.args.word.now c.requires (
+  omega arith,
+  (
+    omega arith,
+    (
+      omega arith,
+      (
+        omega arith,
+        (
+          omega arith,
+          (
+            omega arith,
+            (omega arith, (omega arith, (omega arith, (omega arith, (omega arith, (omega arith, (omega arith, (omega arith, (omega arith, (omega arith, (omega arith, tt))))))))))),
+          ),
+        ),
+      ),
+    ),
+  ),
+)

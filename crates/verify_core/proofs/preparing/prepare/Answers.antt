@@ -29,7 +29,7 @@ pub returns-in_err-check_obligations-clause-refused : goal.returns-in_err-check_
 returns-in_err-check_obligations-clause-refused c =
     let p = err_from_is_err_and c.from_residual-in_err-check_obligations.result c.from_residual-in_err-check_obligations.ensures.1 in
     rw (p.1, p.2) (obligations_refused c.args.source.now c.typed_source.new.names c.in_ok-typed.typed c.in_ok-lowered.lowered _ c.in_ok-typed.ensures.ok (c.in_ok-lowered.ensures.lowered
-        c.in_ok-typed.ensures.fits) c.in_ok-lowered.ensures.few (rw c.as_slice.ensures at c.in_ok-check_all_paths.ensures.ok) c.in_err-check_obligations.ensures.err)
+    c.in_ok-typed.ensures.fits) c.in_ok-lowered.ensures.few (rw c.as_slice.ensures at c.in_ok-check_all_paths.ensures.ok) c.in_err-check_obligations.ensures.err)
 
 pub all_goals-requires : goal.all_goals-requires
 all_goals-requires c = walkable c.typed_source.new.names c.in_ok-typed.typed c.in_ok-lowered.lowered (c.in_ok-lowered.ensures.lowered c.in_ok-typed.ensures.fits) c.in_ok-typed.ensures.fits
