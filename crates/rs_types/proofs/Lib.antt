@@ -1,0 +1,4 @@
+pub mod Endless
+pub mod Lists
+pub mod Numbers
+pub mod Ranked

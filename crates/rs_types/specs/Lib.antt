@@ -1,0 +1,5 @@
+pub mod Applied
+pub mod Bounded
+pub mod Laws
+pub mod Standing
+pub mod Table

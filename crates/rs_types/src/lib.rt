@@ -1,0 +1,10 @@
+//! The declared types of a program: their table, types at types for their parameters, and which types hold themselves.
+#![tactic(auto)]
+
+mod applying;
+mod laws;
+mod table;
+
+pub use applying::apply;
+pub use laws::{a_cycle_is_endless, ranked_types_are_bounded};
+pub use table::AdtTable;
