@@ -1,3 +1,4 @@
+pub mod Arguments
 pub mod Endless
 pub mod Lists
 pub mod Numbers

@@ -3,6 +3,7 @@
 
 mod applying;
 mod laws;
+mod standing;
 mod table;
 
 pub use applying::apply;
