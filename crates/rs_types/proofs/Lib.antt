@@ -1,5 +1,11 @@
 pub mod Arguments
+pub mod Bounds
 pub mod Endless
+pub mod Fields
+pub mod Grow
 pub mod Lists
 pub mod Numbers
 pub mod Ranked
+pub mod Rounds
+pub mod Sound
+pub mod Tests

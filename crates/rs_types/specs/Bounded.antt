@@ -1,5 +1,5 @@
 -- Declarations of types that are well founded: no type holds itself other than in a box, and each has a value.
-use Rattle.std.specs.Prelude.{◌≡◌, ℕ, zero, suc, ◌<◌, Bool, true, false, Option, Some, List}
+use Rattle.std.specs.Prelude.{◌≡◌, ℕ, zero, suc, ◌<◌, Bool, true, Some, List}
 use Rattle.logic_term.specs.declared.kinds.AdtId.{AdtId}
 use Rattle.logic_term.specs.declared.kinds.Region.{Region}
 use Rattle.source_kinds.specs.declared.kinds.IntKind.{IntKind}
@@ -75,4 +75,3 @@ abbrev mutual
 
 abbrev pub AreRanked : Declarations → (AdtId → ℕ) → (AdtId → ℕ → Bool) → Type 0
 AreRanked Δ rank held = (d : AdtId) (k : ℕ) (fs : Tys) → Δ d k ≡ Some fs → AllBelow rank held (rank d) (held d) fs
-

@@ -1,7 +1,6 @@
 -- Which of its type parameters each declared type holds other than in a box, and what stands in a type by that.
-use Rattle.std.specs.Prelude.{◌≡◌, ℕ, suc, ◌==◌, ◌&&◌, ◌||◌, not, max, Bool, true, false, List, [], ◌∷◌, get_or, map, length}
+use Rattle.std.specs.Prelude.{ℕ, suc, ◌&&◌, ◌||◌, max, Bool, false, List, [], ◌∷◌, get_or}
 use Rattle.logic_term.specs.Ty.{Ty, Tys, int, bool, math_int, tuple, adt, boxed, shared, unique, param, closure, viewed, snapshot, no_tys, and_ty}
-use Rattle.logic_term.specs.declared.declaration.AdtDecl.{AdtDecl}
 use Rattle.logic_term.specs.declared.declaration.FieldDecl.{FieldDecl}
 use Rattle.logic_term.specs.declared.declaration.VariantDecl.{VariantDecl}
 

@@ -1,5 +1,7 @@
 pub mod Applied
 pub mod Bounded
+pub mod Endless
+pub mod Growing
 pub mod Holding
 pub mod Laws
 pub mod Standing

@@ -2,6 +2,8 @@
 #![tactic(auto)]
 
 mod applying;
+mod bounded;
+mod holding;
 mod laws;
 mod standing;
 mod table;

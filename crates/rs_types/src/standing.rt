@@ -11,7 +11,7 @@ use text_core::Items;
 #[derive(Clone, Copy)]
 pub(crate) enum Wanted<'a> {
     /// The type parameter of this number.
-    Param(u32),
+    Param(usize),
     /// A declared type at whose number the list has `false`.
     Outside(&'a [bool]),
 }
@@ -21,7 +21,7 @@ impl<'a> Wanted<'a> {
         ensures { result ≡ wants_param self.entry number }
     {
         match self {
-            Wanted::Param(wanted) => number == wanted,
+            Wanted::Param(wanted) => number as usize == wanted,
             Wanted::Outside(_) => false,
         }
     }
@@ -97,12 +97,7 @@ fn one_stands(rows: &[Items<bool>], wanted: Wanted<'_>, types: &[Ty]) -> bool
 /// The same of the arguments of a declared type that holds these of its type parameters.
 #[cycle(stands)]
 #[tactic(auto, using(crate::proofs::Lists::each_smaller, crate::proofs::Arguments::next_argument, crate::proofs::Arguments::found_argument))]
-fn argument_stands(
-    rows: &[Items<bool>],
-    wanted: Wanted<'_>,
-    held: &[bool],
-    types: &[Ty],
-) -> bool
+fn argument_stands(rows: &[Items<bool>], wanted: Wanted<'_>, held: &[bool], types: &[Ty]) -> bool
     ensures { result ≡ argument_stands rows.now (wants_param wanted.entry) (wants_adt wanted.entry) held.now (tys_of types.now) }
 {
     for i in 0..types.len() {
@@ -115,13 +110,7 @@ fn argument_stands(
 
 /// Whether the argument at this place counts and something that is wanted stands in it.
 #[cycle(stands)]
-fn counts_at(
-    rows: &[Items<bool>],
-    wanted: Wanted<'_>,
-    held: &[bool],
-    at: usize,
-    t: &Ty,
-) -> bool
+fn counts_at(rows: &[Items<bool>], wanted: Wanted<'_>, held: &[bool], at: usize, t: &Ty) -> bool
     ensures { result ≡ (get_or held.now at false && stands rows.now (wants_param wanted.entry) (wants_adt wanted.entry) t.now) }
 {
     at < held.len() && held[at] && stands(rows, wanted, t)

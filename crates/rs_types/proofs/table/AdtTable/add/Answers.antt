@@ -8,7 +8,7 @@ invariant_of-self-in-Ok c =
     let none = not_there c.find.result _ c.find.ensures (sym c.is_some.ensures ∙ c.if-is_some.false) in
     let is : c.in_ok-map_err.field-0 ≡ length c.self.inside.decls.items = search rules in
     subst (λ ds. HasNumbers ds c.insert.new.self) (sym (c.in_ok-push.ensures {u = tt}).items)
-        (one_more c.self.inside.decls.items c.args.decl _ c.self.inside.ids c.insert.new.self c.self.invariant (ap (number_of c.args.decl.name.0) c.self.view_is ∙ none) is (c.in-Ok.ensures {u = tt}).updates.0)
+    (one_more c.self.inside.decls.items c.args.decl _ c.self.inside.ids c.insert.new.self c.self.invariant (ap (number_of c.args.decl.name.0) c.self.view_is ∙ none) is (c.in-Ok.ensures {u = tt}).updates.0)
 
 pub invariant_of-self-in-Err : goal.invariant_of-self-in-Err
 invariant_of-self-in-Err c =
