@@ -1,7 +1,6 @@
 //! The step that takes off what leads a goal.
 ghost use Rattle.std.specs.Prelude.{◌≡◌, ◌↔◌, ◌≤◌, ℕ, List, ◌∷◌, ◌++◌, ◌+◌, [], None, Some, IfOk, OnOk, IsTrue, MatchOption, false};
 ghost use Rattle.text_core.specs.declared.name.Name.{Name};
-ghost use Rattle.logic_term.specs.Canonical.{is_one_of};
 ghost use Rattle.logic_term.specs.Subst.{renamed};
 ghost use Rattle.logic_term.specs.Term.{implies, forall, is_implication, is_quantified};
 ghost use Rattle.proof_kernel.specs.declared.sequent.Sequent.{Sequent};
@@ -9,7 +8,7 @@ ghost use Rattle.proof_kernel.specs.Rules.{label, sort_of, with_goal, assuming, 
 ghost use Rattle.proof_kernel.specs.Intro.{IsAbove, IsLead};
 
 use crate::sequent::{Sequent, sort_of_var};
-use logic_term::{Label2, Renaming, Sort, Term};
+use logic_term::{Label2, Renaming, Sort, Term, is_one_of};
 use std::alloc::Global;
 use text_core::{Name, NoMemory};
 
@@ -37,17 +36,6 @@ fn is_new(name: Name, q: &Sequent, above: u64) -> bool
         return false;
     }
     above <= name.0 || q.is_free_nowhere(name)
-}
-
-fn is_one_of(name: Name, names: &[Name]) -> bool
-    ensures { result ≡ is_one_of name names.now }
-{
-    for other in names {
-        if name.0 == other.0 {
-            return true;
-        }
-    }
-    false
 }
 
 /// Whether the names are new in the sequent, and no two are one.
