@@ -40,19 +40,20 @@ none_left s k bound t q e = refl
 
 -- ---- what the relation says, where some is taken off already
 
+abbrev sequent : List (Name × Ty) → List (Label2 × Term) → Term → Sequent
+sequent vs hs t = record { vars = vs; hyps = hs; goal = t }
+
+same_sequent : {us vs : List (Name × Ty)} {gs hs : List (Label2 × Term)} {a b : Term} → us ≡ vs → gs ≡ hs → a ≡ b → Some (sequent us gs a) ≡ Some (sequent vs hs b)
+same_sequent e f g = λ i. Some (sequent (e i) (f i) (g i))
+
 abbrev assumed_from : ℕ → ℕ → List Renaming → List Name → List (List (Name × Ty) × Term) → List (Label2 × Term)
 assumed_from s k bound names ps = map (λ p. (label s p.0, renamed (bound ++ renamings p.1.0 names) p.1.1)) (enumerate_from k ps)
 
 abbrev taken_off : ℕ → ℕ → List Name → List Renaming → List Lead → Term → Sequent → Sequent
-taken_off s k names bound leads end q = record {
-  vars = q.vars ++ under_names (variables leads) names;
-  hyps = q.hyps ++ assumed_from s k bound names (premises leads);
-  goal = renamed (bound ++ renamings (variables leads) names) end;
-}
-
-same_sequent : {us vs : List (Name × Ty)} {gs hs : List (Label2 × Term)} {a b : Term} → us ≡ vs → gs ≡ hs → a ≡ b
-    → Some (let q : Sequent = record { vars = us; hyps = gs; goal = a } in q) ≡ Some (let q : Sequent = record { vars = vs; hyps = hs; goal = b } in q)
-same_sequent e f g = λ i. Some (record { vars = e i; hyps = f i; goal = g i })
+taken_off s k names bound leads end q = sequent
+    (q.vars ++ under_names (variables leads) names)
+    (q.hyps ++ assumed_from s k bound names (premises leads))
+    (renamed (bound ++ renamings (variables leads) names) end)
 
 -- one more quantifier before all premises
 behind_quantifier : (s k : ℕ) (bound : List Renaming) (x y : Name) (u : Ty) (xs : List Name) (ps : List (List (Name × Ty) × Term))
