@@ -15,7 +15,7 @@ use crate::spelling::{
     Spelling, closing_bytes, field_at, fields_at, first_field, is_numbered, opening_bytes,
     other_fields, push_label, push_path,
 };
-use logic_term::{Ctor, FieldDecl, Sort, Term, TermBinary, TermNode, TermUnary};
+use logic_term::{Ctor, FieldDecl, Sort, Term, TermBinary, TermForm, TermUnary};
 use std::alloc::Global;
 use text_core::{Name, NoMemory};
 
@@ -129,14 +129,14 @@ fn push_term<'a>(
 ) -> Result<(), NoMemory>
     ensures { OnOk result (out.new.items ≡ out.old.items ++ text_in (spelling_of spelling.now) (bounds_of bound.now) t.now) }
 {
-    match t.node() {
-        TermNode::Var(name) => push_numbered(alloc, out, b"v", number_of(bound, *name) as u64),
-        TermNode::Lit(number, sort) => push_literal(alloc, out, *number, sort),
-        TermNode::Truth(holds) => push_text(out, truth_bytes(*holds)),
-        TermNode::Make(ctor, parts) => push_made(alloc, out, spelling, bound, *ctor, parts),
-        TermNode::Unary(op, a) => push_unary(alloc, out, spelling, bound, *op, a),
-        TermNode::Binary(op, a, b) => { push_binary(alloc, out, spelling, bound, a, *op, b) }
-        TermNode::Forall(name, sort, a) => push_forall(alloc, out, spelling, bound, *name, sort, a),
+    match t.form() {
+        TermForm::Var(name) => push_numbered(alloc, out, b"v", number_of(bound, name) as u64),
+        TermForm::Lit(number, sort) => push_literal(alloc, out, number, sort),
+        TermForm::Truth(holds) => push_text(out, truth_bytes(holds)),
+        TermForm::Make(ctor, parts) => push_made(alloc, out, spelling, bound, ctor, parts),
+        TermForm::Unary(op, a) => push_unary(alloc, out, spelling, bound, op, a),
+        TermForm::Binary(op, a, b) => { push_binary(alloc, out, spelling, bound, a, op, b) }
+        TermForm::Forall(name, sort, a) => push_forall(alloc, out, spelling, bound, name, sort, a),
     }
 }
 

@@ -11,14 +11,10 @@ use Rattle.logic_term.specs.Normal.{reduced}
 use Rattle.logic_term.specs.Placed.{itself, placed}
 use Rattle.logic_term.specs.Canonical.{is_one_of, above_free, all_above_free, canonical, SameUpToNames}
 use Rattle.logic_term.proofs.Alike.{Alike, alike_back, alike_then}
-use Rattle.logic_term.proofs.FreeLaw.{same_test, same_name}
+use Rattle.logic_term.proofs.FreeLaw.{or_cases, same_test, same_name}
 use Rattle.logic_term.proofs.PlacedLaw.{itself_means}
 
 -- ---- free names are below the first number
-
-cases_or : {P : Type 0} (a b : Bool) → (a || b) ≡ true → (a ≡ true → P) → (b ≡ true → P) → P
-cases_or true b e f g = f refl
-cases_or false b e f g = g e
 
 both_true : (b c : Bool) → (not b && c) ≡ true → (b ≡ false) × (c ≡ true)
 both_true true c e = absurd (true≢false (sym e))
@@ -49,7 +45,7 @@ mutual
   free_below_all : (ys : List Name) (ts : Terms) (x : Name) → free_in_some x ts ≡ true → is_one_of x ys ≡ false → x.0 < all_above_free ys ts
   free_below_all ys no_terms x e out = absurd (true≢false (sym e))
   free_below_all ys (and_term t ts) x e out =
-      cases_or (free x t) (free_in_some x ts) e
+      or_cases (free x t) (free_in_some x ts) e
       (λ f. let here : x.0 < above_free ys t = free_below ys t x f out in omega arith)
       (λ f. let later : x.0 < all_above_free ys ts = free_below_all ys ts x f out in omega arith)
 

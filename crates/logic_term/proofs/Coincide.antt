@@ -1,5 +1,5 @@
 -- A term's values depend on the variables in it alone.
-use Rattle.std.proofs.Common.{◌≡◌, ℕ, ◌≤◌, ◌<◌, ◌==◌, ◌||◌, ◌&&◌, not, Bool, true, false, refl, sym, true≢false, arith}
+use Rattle.std.proofs.Common.{◌≡◌, ℕ, ◌≤◌, ◌<◌, ◌==◌, ◌&&◌, not, Bool, true, false, sym, true≢false, arith}
 use Rattle.std.proofs.lemmas.Bool.Decides.{nat_tests}
 use Rattle.text_core.specs.declared.name.Name.{Name}
 use Rattle.logic_term.specs.Value.{Value}
@@ -8,7 +8,7 @@ use Rattle.logic_term.specs.Meaning.{Structure, Env, with_value, Means}
 use Rattle.logic_term.specs.Subst.{above, all_above}
 use Rattle.logic_term.specs.Free.{free, free_in_some}
 use Rattle.logic_term.proofs.Alike.{Alike}
-use Rattle.logic_term.proofs.FreeLaw.{coincide_free, same_test}
+use Rattle.logic_term.proofs.FreeLaw.{coincide_free, or_cases, same_test}
 
 -- the environments have the same values at all names below n
 abbrev pub Agree : ℕ → Env → Env → Type 0
@@ -25,10 +25,6 @@ pub agree_new : (n : ℕ) (ρ : Env) (x : Name) (w : Value) → n ≤ x.0 → Ag
 agree_new n ρ x w l y h = sym (with_other ρ x y w (λ e. absurd (omega arith)))
 
 -- ---- free names are below the bound
-
-or_cases : {P : Type 0} (a b : Bool) → (a || b) ≡ true → (a ≡ true → P) → (b ≡ true → P) → P
-or_cases true b e f g = f refl
-or_cases false b e f g = g e
 
 right_side : (b c : Bool) → (not b && c) ≡ true → c ≡ true
 right_side true c e = absurd (true≢false (sym e))

@@ -18,6 +18,10 @@ or_left a b e = grind arith
 pub or_right : (a b : Bool) → b ≡ true → (a || b) ≡ true
 or_right a b e = grind arith
 
+pub or_cases : {P : Type 0} (a b : Bool) → (a || b) ≡ true → (a ≡ true → P) → (b ≡ true → P) → P
+or_cases true b e f g = f refl
+or_cases false b e f g = g e
+
 under : (b c : Bool) (w u v : Value) → ((not b && c) ≡ true → u ≡ v) → c ≡ true → cond b w u ≡ cond b w v
 under true c w u v h e = refl
 under false c w u v h e = h e

@@ -6,7 +6,8 @@ use crate::term::{Term, TermNode};
 use std::alloc::Global;
 use text_core::{Name, NoMemory};
 
-fn is_one_of(name: Name, names: &[Name]) -> bool
+/// Whether the name is one of these.
+pub fn is_one_of(name: Name, names: &[Name]) -> bool
     ensures { result ≡ is_one_of name names.now }
 {
     let mut left = names.len();

@@ -12,6 +12,7 @@ mod subst;
 mod term;
 mod ty;
 
+pub use canonical::is_one_of;
 pub use declaration::{AdtDecl, FieldDecl, VariantDecl};
 pub use kinds::{
     AdtId, Ctor, FnKind, Label, Label2, LogicFn, Region, TermBinary, TermUnary, TraitId, TyUnary,
@@ -25,5 +26,5 @@ pub use laws::{
 pub use obligation::{Bounds, Contract, Instance, Obligation};
 pub use placed::reduce;
 pub use subst::{Renaming, Replacement};
-pub use term::{Sort, Term, TermNode};
+pub use term::{Sort, Term, TermForm};
 pub use ty::{CompoundTy, FnBound, Ty, TyNode, copy_types, same_types};

@@ -1,6 +1,6 @@
 ghost use Rattle.std.specs.Prelude.{◌≡◌, ◌↔◌, false, IfOk, IsTrue, MatchOption};
 ghost use Rattle.logic_term.specs.Term.{lit, forall, and, implies, is_conjunction, is_implication, is_quantified};
-ghost use Rattle.logic_term.specs.TermView.{term_of};
+ghost use Rattle.logic_term.specs.TermView.{term_of, term_of_form};
 
 use crate::kinds::{Ctor, TermBinary, TermUnary};
 use crate::ty::Ty;
@@ -20,10 +20,10 @@ pub struct Term {
     node: Rc<TermNode>,
 }
 
-/// What a term is at its top.
+/// What a term is made of, as it is kept.
 #[cycle(term)]
 #[derive(Drop)]
-pub enum TermNode {
+pub(crate) enum TermNode {
     Var(Name),
     /// An integer of a machine type, or of the unbounded integers.
     Lit(i128, Sort),
@@ -33,6 +33,20 @@ pub enum TermNode {
     Unary(TermUnary, Term),
     Binary(TermBinary, Term, Term),
     Forall(Name, Sort, Term),
+}
+
+/// What a term is at its top; its parts are lent.
+#[derive(Clone, Copy)]
+pub enum TermForm<'a> {
+    Var(Name),
+    /// An integer of a machine type, or of the unbounded integers.
+    Lit(i128, &'a Sort),
+    Truth(bool),
+    /// A value made of parts.
+    Make(Ctor, &'a [Term]),
+    Unary(TermUnary, &'a Term),
+    Binary(TermBinary, &'a Term, &'a Term),
+    Forall(Name, &'a Sort, &'a Term),
 }
 
 impl Model for Term {
@@ -56,18 +70,33 @@ impl Model for Term {
 
 impl Term {
     /// The term with this at its top.
-    pub fn of(alloc: Global, node: TermNode) -> Result<Term, NoMemory>
+    pub(crate) fn of(alloc: Global, node: TermNode) -> Result<Term, NoMemory>
         ensures { IfOk result (λ t. t ≡ term_of node) }
     {
         let node = Rc::new(alloc, node)?;
         Ok(Term { node })
     }
 
-    /// What the term is at its top.
-    pub fn node(&self) -> &TermNode
+    /// What the term is made of.
+    pub(crate) fn node(&self) -> &TermNode
         ensures { term_of result.now ≡ self.now }
     {
         &self.node
+    }
+
+    /// What the term is at its top.
+    pub fn form(&self) -> TermForm<'_>
+        ensures { term_of_form result ≡ self.now }
+    {
+        match &*self.node {
+            TermNode::Var(name) => TermForm::Var(*name),
+            TermNode::Lit(number, sort) => TermForm::Lit(*number, sort),
+            TermNode::Truth(holds) => TermForm::Truth(*holds),
+            TermNode::Make(ctor, parts) => TermForm::Make(*ctor, parts.as_slice()),
+            TermNode::Unary(op, a) => TermForm::Unary(*op, a),
+            TermNode::Binary(op, a, b) => TermForm::Binary(*op, a, b),
+            TermNode::Forall(name, sort, body) => TermForm::Forall(*name, sort, body),
+        }
     }
 
     /// The same term, shared: no part of it is copied. Want of memory is answered where it is shared too often to be counted.

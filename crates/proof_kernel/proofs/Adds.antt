@@ -13,11 +13,13 @@ use Rattle.proof_kernel.specs.declared.step.Multiple.{Multiple}
 use Rattle.proof_kernel.specs.declared.step.Reference.{Reference}
 use Rattle.proof_kernel.specs.declared.step.Reference.TheVariants.{Goal, Hyp as Of, Back}
 use Rattle.proof_kernel.specs.declared.step.Step.{Step}
-use Rattle.proof_kernel.specs.Rules.{label, same_label, hypothesis, sort_of, with_goal, assuming, declaring, taken, lower_bound, upper_bound}
+use Rattle.proof_kernel.specs.Intro.{assuming, declaring}
+use Rattle.proof_kernel.specs.Rules.{label, same_label, hypothesis, sort_of, with_goal, lower_bound, upper_bound}
 use Rattle.proof_kernel.specs.Linear.{Difference, row_of, row_back, row_if_found, referred, AreRows}
 use Rattle.proof_kernel.specs.Setting.{Setting}
 use Rattle.proof_kernel.specs.Steps.{labels_in, labels_of, new_names, IsLabelOf, IsVariableOf, AddsItsOwn}
 use Rattle.proof_kernel.specs.Derivation.{Gives, by_intro, by_hyp, by_split, by_range, by_lin}
+use Rattle.proof_kernel.proofs.Taken.{taken, takes_off_computed}
 
 -- P is so of each item
 abbrev pub Each : {A : Type 0} → (A → Type 0) → List A → Type 0
@@ -71,6 +73,7 @@ module _ (P : Label2 → Type 0) (N : Name → Type 0) (s : ℕ) (own : (k : ℕ
   taken_adds : (k : ℕ) (names : List Name) (bound : List Renaming) (t : Term) (q r : Sequent) → taken s k names bound t q ≡ Some r → Each N names → Has P N q → Has P N r
   taken_adds k names bound (apply implied (and_term a (and_term b no_terms))) q r e new has =
       taken_adds (suc k) names bound b (assuming q (label s k) (renamed bound a)) r e new (more_hyps q.hyps ((label s k, renamed bound a) ∷ []) has.0 (own k, tt), has.1)
+  taken_adds k names bound (apply implied ts) q r e new has = absurd (cc)
   taken_adds k [] bound (bind every y u b) q r e new has = ended_adds (renamed bound (bind every y u b)) q r e has
   taken_adds k (x ∷ xs) bound (bind every y u b) q r e new has =
       taken_adds k xs (bound ++ record { from = y; to = x } ∷ []) b (declaring q x u) r e new.1 (has.0, each_and (λ (v : Name × Ty). N v.0) q.vars ((x, u) ∷ []) has.1 (new.0, tt))
@@ -83,7 +86,7 @@ module _ (P : Label2 → Type 0) (N : Name → Type 0) (s : ℕ) (own : (k : ℕ
 
   -- what the step cites is there; and where P is so of the sequent's labels, and N of its names and of the new ones, they are so of those of the premises
   pub given_adds : (w : Setting) (q : Sequent) (step : Step) (ps : List Sequent) → Gives w s q step ps → Each N (new_names step) → Has P N q → Each (IsLabelOf q) (labels_of step) × Each (Has P N) ps
-  given_adds w q step ps (by_intro {names = names} {r = r} some i) new has = (tt, (taken_adds 1 names [] q.goal q r i.is new has, tt))
+  given_adds w q step ps (by_intro {names = names} {r = r} some i) new has = (tt, (taken_adds 1 names [] q.goal q r (takes_off_computed s names q r i.takes) new has, tt))
   given_adds w q step ps (by_hyp {h = h} e same) new has = (((h, e), tt), tt)
   given_adds w q step ps (by_split e) new has = (tt, goals_keep q _ has)
   given_adds w q step ps (by_range {x = x} {k = k} e) new has =

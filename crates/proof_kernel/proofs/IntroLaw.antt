@@ -2,32 +2,19 @@
 use Rattle.std.proofs.Common.{◌≡◌, ℕ, ◌+◌, ◌<◌, ◌≤◌, ◌||◌, Bool, true, false, List, [], ◌∷◌, ◌++◌, max, length, get_or, take, drop, drop-cons, Some, None, refl, sym, ◌∙◌, ap, subst, add-one, arith, true≢false}
 use Rattle.std.proofs.lemmas.List.{drop_all}
 use Rattle.std.proofs.Math.Seq.{take-suc}
-use Rattle.std.specs.Prelude.{◌↔◌}
+use Rattle.std.specs.Prelude.{◌↔◌, Option, Result, Ok, Err, IfOk, MatchOption}
 use Rattle.text_core.specs.declared.name.Name.{Name}
+use Rattle.text_core.specs.declared.fault.NoMemory.{NoMemory}
 use Rattle.logic_term.specs.declared.kinds.Label2.{Label2}
 use Rattle.logic_term.specs.declared.subst.Renaming.{Renaming}
 use Rattle.logic_term.specs.Canonical.{is_one_of, above_free}
 use Rattle.logic_term.specs.Free.{free}
 use Rattle.logic_term.specs.Subst.{renamed}
-use Rattle.logic_term.specs.Term.{implied, every, Term, apply, bind, is_implication, is_quantified}
+use Rattle.logic_term.specs.Term.{Term, is_implication, is_quantified}
 use Rattle.logic_term.proofs.CanonicalLaw.{free_below}
 use Rattle.proof_kernel.specs.declared.sequent.Sequent.{Sequent}
-use Rattle.proof_kernel.specs.Rules.{free_in_hyps, with_goal, IsNew, AreNew, by_names, taken}
-
--- ---- the end
-
--- no implication and no quantifier leads the term
-pub other_ends : (s k : ℕ) (names : List Name) (bound : List Renaming) (t : Term) (q : Sequent) → is_implication t ≡ false → is_quantified t ≡ false
-    → taken s k names bound t q ≡ by_names names (Some (with_goal q (renamed bound t))) (λ x others. None)
-other_ends s k names bound (apply implied ts) q e f = absurd (true≢false e)
-other_ends s k names bound (bind every y u b) q e f = absurd (true≢false f)
-other_ends s k names bound t q e f = refl
-
--- no name is left
-pub none_left : (s k : ℕ) (bound : List Renaming) (t : Term) (q : Sequent) → is_implication t ≡ false → taken s k [] bound t q ≡ Some (with_goal q (renamed bound t))
-none_left s k bound (apply implied ts) q e = absurd (true≢false e)
-none_left s k bound (bind every y u b) q e = refl
-none_left s k bound t q e = refl
+use Rattle.proof_kernel.specs.Rules.{free_in_hyps, with_goal, IsNew, AreNew, TakesOff, TakesSome, Intros}
+use Rattle.proof_kernel.proofs.Taken.{taken, other_ends, none_left, takes_off_computed, computed_takes_off}
 
 -- ---- names that are new
 
@@ -55,9 +42,6 @@ above_next m n k i hs h goal is l e most so_far x b =
     let taken_more : take (i + 1) hs ≡ take i hs ++ h ∷ [] = ap (λ j. take j hs) (add-one i) ∙ take-suc hs i h l ∙ ap (λ g. take i hs ++ g ∷ []) (sym is) in
     (ap (free_in_hyps x) taken_more ∙ both_free x (take i hs) h before.0 here, before.1)
 
-pub above_first : (n k : ℕ) (goal : Term) → k ≡ above_free [] goal → (x : Name) → k ≤ x.0 → free x goal ≡ false
-above_first n k goal e x l = not_free_above x goal (omega arith)
-
 -- ---- one name after the other
 
 pub new_next : (names : List Name) (i : ℕ) (d : Name) (q : Sequent) → i < length names
@@ -68,9 +52,6 @@ new_next names i d q l =
 
 pub all_new : (names : List Name) (i : ℕ) (q : Sequent) → length names ≤ i → AreNew (drop i names) q
 all_new names i q l = subst (λ ns. AreNew ns q) (sym (drop_all i names l)) tt
-
-pub not_free_more : (x : Name) (l : Label2) (t : Term) (hs : List (Label2 × Term)) → free x t ≡ false → free_in_hyps x hs ≡ false → free_in_hyps x ((l, t) ∷ hs) ≡ false
-not_free_more x l t hs e f = ap (λ b. b || free_in_hyps x hs) e ∙ f
 
 -- ---- the loop
 
@@ -84,9 +65,29 @@ pub record Taking (s : ℕ) (names : List Name) (first : Sequent) (used k : ℕ)
   pub same : taken s 1 names [] first.goal first ≡ taken s k (drop used names) bound t q
   pub ends : leads ≡ false → (is_implication t ≡ false) × (used < length names → is_quantified t ≡ false)
 
--- a name is left, and nothing leads for which it could be
+-- a name is left, and nothing leads for which it could be: so no result is
 pub none_taken : (s : ℕ) (names : List Name) (first : Sequent) (used k : ℕ) (bound : List Renaming) (t : Term) (q : Sequent) (leads : Bool) (d : Name) → Taking s names first used k bound t q leads → leads ≡ false → used < length names
-    → None ≡ taken s 1 names [] first.goal first
-none_taken s names first used k bound t q leads d h ended l =
+    → (r : Sequent) → TakesOff s names first r → ⊥
+none_taken s names first used k bound t q leads d h ended l r takes =
     let e : drop used names ≡ get_or names used d ∷ drop (used + 1) names = rw (add-one, drop-cons names used d) refl in
-    sym (h.same ∙ ap (λ ns. taken s k ns bound t q) e ∙ other_ends s k (get_or names used d ∷ drop (used + 1) names) bound t q (h.ends ended).0 ((h.ends ended).1 l))
+    let none : taken s 1 names [] first.goal first ≡ None =
+    h.same ∙ ap (λ ns. taken s k ns bound t q) e ∙ other_ends s k (get_or names used d ∷ drop (used + 1) names) bound t q (h.ends ended).0 ((h.ends ended).1 l) in
+    let some : None ≡ Some r = sym none ∙ takes_off_computed s names first r takes in
+    absurd (cc)
+
+-- no name is left, and no premise leads: so the sequent with what is left of the goal is the result
+pub all_taken : (s : ℕ) (names : List Name) (first : Sequent) (used k : ℕ) (bound : List Renaming) (t : Term) (q r : Sequent) (leads : Bool) → Taking s names first used k bound t q leads → leads ≡ false → length names ≤ used
+    → r ≡ with_goal q (renamed bound t) → TakesOff s names first r
+all_taken s names first used k bound t q r leads h ended l e =
+    computed_takes_off s names first r
+    (h.same ∙ ap (λ ns. taken s k ns bound t q) (drop_all used names l) ∙ none_left s k bound t q (h.ends ended).0 ∙ ap (λ p. Some p) (sym e))
+
+-- ---- the step
+
+-- what is taken off of a goal is what the step gives, where something is to be taken off and the names are new
+pub step_gives : (s : ℕ) (names : List Name) (q : Sequent) (r : Result (Option Sequent) NoMemory) → TakesSome names q → AreNew names q
+    → IfOk r (λ o. MatchOption o ((p : Sequent) → TakesOff s names q p → ⊥) (λ p. TakesOff s names q p))
+    → IfOk r (λ o. MatchOption o ((p : Sequent) → TakesSome names q → Intros s names q p → ⊥) (λ p. TakesSome names q × Intros s names q p))
+step_gives s names q (Err e) some new h = h
+step_gives s names q (Ok None) some new h = λ p t i. h p i.takes
+step_gives s names q (Ok (Some p)) some new h = (some, record { new = new; takes = h })

@@ -22,8 +22,10 @@ use Rattle.logic_term.proofs.PlacedLaw.{with_terms_means}
 use Rattle.logic_term.proofs.Truth.{holds_implies, holds_forall}
 use Rattle.proof_kernel.specs.declared.sequent.Sequent.{Sequent}
 use Rattle.proof_kernel.specs.Sequent.{InSorts, AllHold, IsTrueAt}
-use Rattle.proof_kernel.specs.Rules.{label, sort_of, free_in_hyps, with_goal, assuming, declaring, IsNew, AreNew, taken, Intros}
+use Rattle.proof_kernel.specs.Intro.{assuming, declaring}
+use Rattle.proof_kernel.specs.Rules.{label, sort_of, free_in_hyps, with_goal, IsNew, AreNew, Intros}
 use Rattle.proof_kernel.proofs.Sound.{sorts_more, hyps_more}
+use Rattle.proof_kernel.proofs.Taken.{taken, takes_off_computed}
 
 -- ---- the names that stand for names
 
@@ -94,9 +96,6 @@ module _ (S : Structure) where
   abbrev Fresh : List Name → List Renaming → Term → Type 0
   Fresh names bound t = (z : Name) → free z t ≡ true → is_one_of (name_in bound z) names ≡ false
 
-  at_names : List Renaming → Env → Env
-  at_names bound ρ z = ρ (name_in bound z)
-
   renamed_means : (bound : List Renaming) (t : Term) (ρ : Env) → Alike (Means S (renamed bound t) ρ) (Means S t (λ z. ρ (name_in bound z)))
   renamed_means bound t ρ = with_terms_means S t ρ (λ z. ρ (name_in bound z)) (numbers_before bound [])
       (λ x e. subst (λ u. Alike (Means S u ρ) (λ v. v ≡ ρ (name_in bound x))) (sym (looked bound [] (λ y. y) (λ y. refl) x)) (alike_same _))
@@ -110,9 +109,6 @@ module _ (S : Structure) where
   premise_stays : (names : List Name) (bound : List Renaming) (a : Term) (ρ : Env) → Fresh names bound a → Holds S a (λ z. ρ (name_in bound z)) → Always (Holds S (renamed bound a)) names ρ
   premise_stays names bound a ρ fresh h σ off =
       (yes_alike _ _ (renamed_means bound a σ)).1 ((yes_alike _ _ (coincide_free S a (λ z. ρ (name_in bound z)) (λ z. σ (name_in bound z)) (λ z e. sym (off (name_in bound z) (fresh z e))))).0 h)
-
-  none_of : (x : Name) (xs : List Name) (ρ : Env) (w : Value) → Off xs (with_value ρ x w) (with_value ρ x w)
-  none_of x xs ρ w z e = refl
 
   -- the environment with one value more, and others at names behind it
   off_more : (x : Name) (xs : List Name) (ρ : Env) (w : Value) (σ : Env) → Off xs (with_value ρ x w) σ → Off (x ∷ xs) ρ σ
@@ -138,6 +134,7 @@ module _ (S : Structure) where
       taken_sound s (suc k) names bound b (assuming q (label s k) (renamed bound a)) r e true_r others
       (λ z f. fresh z (or_right (free z a) (free z b || false) (or_left (free z b) false f))) ρ sorts
       (λ σ off. hyps_more S q.hyps ((label s k, renamed bound a) ∷ []) σ (hyps σ off) (premise_stays names bound a ρ (λ z f. fresh z (or_left (free z a) (free z b || false) f)) h σ off, tt)))
+  taken_sound s k names bound (apply implied ts) q r e true_r others fresh ρ sorts hyps = absurd (cc)
   taken_sound s k [] bound (bind every y u b) q r e true_r others fresh ρ sorts hyps = ended_sound bound (bind every y u b) q r ρ e true_r (sorts ρ (λ z f. refl)) (hyps ρ (λ z f. refl))
   taken_sound s k (x ∷ xs) bound (bind every y u b) q r e true_r others fresh ρ sorts hyps =
       (holds_forall S y u b (λ z. ρ (name_in bound z))).1 (λ w sort.
@@ -190,7 +187,7 @@ module _ (S : Structure) where
 
   pub intros_sound : (s : ℕ) (names : List Name) (q r : Sequent) → Intros s names q r → IsTrueAt S r → IsTrueAt S q
   intros_sound s names q r i true_r = λ ρ sorts hyps.
-      taken_sound s 1 names [] q.goal q r i.is true_r (new_apart names q i.new)
+      taken_sound s 1 names [] q.goal q r (takes_off_computed s names q r i.takes) true_r (new_apart names q i.new)
       (λ z f. apart names z (λ e. not_both (free z q.goal) f (among_new names q z i.new e).in_goal)) ρ
       (λ σ off. sorts_off names q.vars ρ σ (λ z e. (among_new names q z i.new e).in_vars) off sorts)
       (λ σ off. hyps_off names q.hyps ρ σ (λ z e. (among_new names q z i.new e).in_hyps) off hyps)

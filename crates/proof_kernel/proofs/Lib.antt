@@ -23,3 +23,4 @@ pub mod Once
 pub mod PolynomialSteps
 pub mod PolynomialValue
 pub mod Sound
+pub mod Taken

@@ -1,5 +1,6 @@
 -- The table of monomials: it has each monomial of the forms but 1, and what it has not has no coefficient in them.
 use Rattle.std.proofs.Common.{◌≡◌, ◌≢◌, ℕ, zero, suc, ◌<◌, ◌||◌, Bool, true, false, cond, List, [], ◌∷◌, ◌++◌, length, take, map, get_or, pos, refl, sym, ◌∙◌, ap, ap₂, arith, true≢false}
+use Rattle.logic_term.proofs.FreeLaw.{or_cases}
 use Rattle.proof_kernel.specs.declared.linear.Form.{Form}
 use Rattle.proof_kernel.specs.declared.linear.Sides.{Sides}
 use Rattle.proof_kernel.specs.declared.polynomial.Summand.{Summand}
@@ -137,10 +138,6 @@ map-more (a ∷ ss) (suc i) s l e = ap (λ ds. difference a ∷ ds) (map-more ss
 one_is : (m : Monomial) → is_one m ≡ true → m ≡ []
 one_is [] e = refl
 one_is (t ∷ m) e = absurd (true≢false (sym e))
-
-or_cases : {P : Type 0} (a b : Bool) → (a || b) ≡ true → (a ≡ true → P) → (b ≡ true → P) → P
-or_cases true b e f g = f refl
-or_cases false b e f g = g e
 
 pub uncovered : (table : List Monomial) (m : Monomial) → m ≢ [] → is_in table m ≡ false → (p : Polynomial) → Covers table p → coefficient m p ≡ pos 0
 uncovered table m n out [] h = refl

@@ -15,6 +15,7 @@ use Rattle.proof_kernel.specs.Setting.{Setting}
 use Rattle.proof_kernel.specs.Progress.{Progress}
 use Rattle.proof_kernel.specs.Derivation.{Gives, by_intro, by_hyp, by_split, by_range, by_lin}
 use Rattle.proof_kernel.specs.Kernel.{Applies, IsWide}
+use Rattle.proof_kernel.proofs.Taken.{takes_off_once}
 
 -- what a step gives, by the kind of the step
 abbrev pub Given : Setting → ℕ → Sequent → Step → List Sequent → Type 0
@@ -34,10 +35,7 @@ given w s q step ps (by_lin c) = (refl, c)
 -- ---- each is one
 
 intros_once : (s : ℕ) (names : List Name) (q r p : Sequent) → Intros s names q r → Intros s names q p → p ≡ r
-intros_once s names q r p i j = same_sequent (sym j.is ∙ i.is)
-  where
-    same_sequent : {x y : Sequent} → Some x ≡ Some y → x ≡ y
-    same_sequent e = cc
+intros_once s names q r p i j = takes_off_once s names q r p i.takes j.takes
 
 same_kind : (o : Option Ty) (k l : IntKind) → o ≡ Some (int k) → o ≡ Some (int l) → k ≡ l
 same_kind o k l e f = cc

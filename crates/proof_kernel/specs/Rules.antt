@@ -1,11 +1,12 @@
 -- What each step makes of the first sequent, one case a rule.
-use Rattle.std.specs.Prelude.{◌≡◌, ℕ, suc, ◌==◌, ◌||◌, ◌&&◌, Bool, true, false, List, [], ◌∷◌, ◌++◌, Option, Some, None, if◌then◌else◌}
+use Rattle.std.specs.Prelude.{◌≡◌, ℕ, ◌==◌, ◌||◌, ◌&&◌, Bool, true, false, List, [], ◌∷◌, ◌++◌, length, map, zip, Option, Some, None, if◌then◌else◌}
+use Rattle.std.specs.List.{enumerate_from}
 use Rattle.text_core.specs.declared.name.Name.{Name}
 use Rattle.logic_term.specs.declared.kinds.Label2.{Label2}
 use Rattle.source_kinds.specs.declared.kinds.IntKind.{IntKind}
 use Rattle.logic_term.specs.Ty.{Ty, math_int}
 use Rattle.source_kinds.specs.Range.{lowest, highest}
-use Rattle.logic_term.specs.Term.{both, implied, every, Term, var, lit, apply, bind, no_terms, and_term, model, is_at_most, forall, is_implication}
+use Rattle.logic_term.specs.Term.{both, Term, var, lit, apply, no_terms, and_term, model, is_at_most, implies, forall, is_implication}
 use Rattle.logic_term.specs.Free.{free}
 use Rattle.logic_term.specs.declared.subst.Renaming.{Renaming}
 use Rattle.logic_term.specs.Canonical.{is_one_of}
@@ -43,38 +44,64 @@ pub record IsNew (x : Name) (q : Sequent) : Type 0 where
 abbrev pub with_goal : Sequent → Term → Sequent
 with_goal q t = record { vars = q.vars; hyps = q.hyps; goal = t }
 
--- one more hypothesis
-abbrev pub assuming : Sequent → Label2 → Term → Sequent
-assuming q l h = record { vars = q.vars; hyps = q.hyps ++ (l, h) ∷ []; goal = q.goal }
-
--- one more variable
-abbrev pub declaring : Sequent → Name → Ty → Sequent
-declaring q x s = record { vars = q.vars ++ (x, s) ∷ []; hyps = q.hyps; goal = q.goal }
-
--- ---- intro: quantifiers and premises that lead the goal are taken off
+-- ---- intro: the quantifiers and premises that lead the goal are taken off
 
 -- the names are new in the sequent, and no two are one
 abbrev pub AreNew : List Name → Sequent → Type 0
 AreNew [] q = Unit {0}
 AreNew (x ∷ xs) q = IsNew x q × (is_one_of x xs ≡ false) × AreNew xs q
 
--- what comes of a list of names that is empty, and of one that is not
-abbrev pub by_names : {A : Type 0} → List Name → A → (Name → List Name → A) → A
-by_names [] none some = none
-by_names (x ∷ xs) none some = some x xs
+-- what may lead a goal
+pub data Lead : Type 0 where
+  premise : Term → Lead
+  quantifier : Name → Ty → Lead
 
--- the sequent q without all that leads its goal, of which t is left. names: for the quantifiers that are left. bound: the names that those
--- before got. k: the number of the next hypothesis of step s. Names are put for names once, in each premise and in what the goal ends in
-abbrev pub taken : (s : ℕ) → ℕ → List Name → List Renaming → Term → Sequent → Option Sequent
-taken s k names bound (apply implied (and_term a (and_term b no_terms))) q = taken s (suc k) names bound b (assuming q (label s k) (renamed bound a))
-taken s k names bound (bind every y t b) q =
-    by_names names (Some (with_goal q (renamed bound (forall y t b)))) (λ x others. taken s k others (bound ++ record { from = y; to = x } ∷ []) b (declaring q x t))
-taken s k names bound t q = by_names names (Some (with_goal q (renamed bound t))) (λ x others. None)
+-- the formula of these leads, each before the next, and of an end
+abbrev pub led_by : List Lead → Term → Term
+led_by [] end = end
+led_by (premise a ∷ leads) end = implies a (led_by leads end)
+led_by (quantifier x t ∷ leads) end = forall x t (led_by leads end)
 
--- names for all quantifiers that are to be taken off
+-- the variables of the quantifiers
+abbrev pub variables : List Lead → List (Name × Ty)
+variables [] = []
+variables (premise a ∷ leads) = variables leads
+variables (quantifier x t ∷ leads) = (x, t) ∷ variables leads
+
+-- the premises, each with the variables that are quantified before it
+abbrev pub premises : List Lead → List (List (Name × Ty) × Term)
+premises [] = []
+premises (premise a ∷ leads) = ([], a) ∷ premises leads
+premises (quantifier x t ∷ leads) = map (λ p. ((x, t) ∷ p.0, p.1)) (premises leads)
+
+-- names for the variables, in order, as many as there are of both
+abbrev pub renamings : List (Name × Ty) → List Name → List Renaming
+renamings vs names = map (λ p. record { from = p.0.0; to = p.1 }) (zip vs names)
+
+-- the variables under these names
+abbrev pub under_names : List (Name × Ty) → List Name → List (Name × Ty)
+under_names vs names = map (λ p. (p.1, p.0.1)) (zip vs names)
+
+-- the premises as the hypotheses 1, 2, .. of step s; in each, the names for the variables before it are put all at once
+abbrev pub assumed : ℕ → List Name → List (List (Name × Ty) × Term) → List (Label2 × Term)
+assumed s names ps = map (λ p. (label s p.0, renamed (renamings p.1.0 names) p.1.1)) (enumerate_from 1 ps)
+
+-- leads are taken off the goal: as many quantifiers as there are names, and all premises up to the end
+pub record TakesOff (s : ℕ) (names : List Name) (q r : Sequent) : Type 0 where
+  pub leads : List Lead
+  pub end : Term
+  pub was : q.goal ≡ led_by leads end
+  pub named : length names ≡ length (variables leads)
+  pub whole : is_implication end ≡ false
+  -- the variables under their names, the premises as hypotheses, and the end as the goal
+  pub vars : r.vars ≡ q.vars ++ under_names (variables leads) names
+  pub hyps : r.hyps ≡ q.hyps ++ assumed s names (premises leads)
+  pub goal : r.goal ≡ renamed (renamings (variables leads) names) end
+
+-- and the names are new
 pub record Intros (s : ℕ) (names : List Name) (q r : Sequent) : Type 0 where
   pub new : AreNew names q
-  pub is : taken s 1 names [] q.goal q ≡ Some r
+  pub takes : TakesOff s names q r
 
 -- at least one is taken off
 abbrev pub TakesSome : List Name → Sequent → Type 0

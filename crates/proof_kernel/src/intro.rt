@@ -1,15 +1,14 @@
 //! The step that takes off what leads a goal.
 ghost use Rattle.std.specs.Prelude.{◌≡◌, ◌↔◌, ◌≤◌, ℕ, List, ◌∷◌, ◌++◌, ◌+◌, [], None, Some, IfOk, OnOk, IsTrue, MatchOption, false};
 ghost use Rattle.text_core.specs.declared.name.Name.{Name};
-ghost use Rattle.logic_term.specs.Canonical.{is_one_of};
 ghost use Rattle.logic_term.specs.Subst.{renamed};
 ghost use Rattle.logic_term.specs.Term.{implies, forall, is_implication, is_quantified};
 ghost use Rattle.proof_kernel.specs.declared.sequent.Sequent.{Sequent};
-ghost use Rattle.proof_kernel.specs.Rules.{label, sort_of, with_goal, assuming, declaring, AreNew, IsNew, taken, Intros, TakesSome};
-ghost use Rattle.proof_kernel.specs.Intro.{IsAbove, IsLead};
+ghost use Rattle.proof_kernel.specs.Rules.{label, sort_of, with_goal, AreNew, IsNew, TakesOff, Intros, TakesSome};
+ghost use Rattle.proof_kernel.specs.Intro.{assuming, declaring, IsAbove, IsFront};
 
 use crate::sequent::{Sequent, sort_of_var};
-use logic_term::{Label2, Renaming, Sort, Term};
+use logic_term::{Label2, Renaming, Sort, Term, is_one_of};
 use std::alloc::Global;
 use text_core::{Name, NoMemory};
 
@@ -39,17 +38,6 @@ fn is_new(name: Name, q: &Sequent, above: u64) -> bool
     above <= name.0 || q.is_free_nowhere(name)
 }
 
-fn is_one_of(name: Name, names: &[Name]) -> bool
-    ensures { result ≡ is_one_of name names.now }
-{
-    for other in names {
-        if name.0 == other.0 {
-            return true;
-        }
-    }
-    false
-}
-
 /// Whether the names are new in the sequent, and no two are one.
 fn are_new(alloc: Global, names: &[Name], q: &Sequent) -> Result<bool, NoMemory>
     ensures { IfOk result (λ b. IsTrue b ↔ AreNew names.now q.now) }
@@ -65,23 +53,23 @@ fn are_new(alloc: Global, names: &[Name], q: &Sequent) -> Result<bool, NoMemory>
 
 // ---- what leads
 
-/// What leads a goal.
+/// What leads a goal, and what it leads.
 #[derive(Clone, Copy)]
-enum Lead<'a> {
+enum Front<'a> {
     Premise(&'a Term, &'a Term),
     Variable(Name, &'a Sort, &'a Term),
     Nothing,
 }
 
-fn lead_of(goal: &Term) -> Lead<'_>
-    ensures { IsLead goal.now result }
+fn front_of(goal: &Term) -> Front<'_>
+    ensures { IsFront goal.now result }
 {
     if let Some((premise, rest)) = goal.as_implication() {
-        return Lead::Premise(premise, rest);
+        return Front::Premise(premise, rest);
     }
     match goal.as_forall() {
-        Some((name, sort, body)) => Lead::Variable(name, sort, body),
-        None => Lead::Nothing,
+        Some((name, sort, body)) => Front::Variable(name, sort, body),
+        None => Front::Nothing,
     }
 }
 
@@ -149,7 +137,9 @@ impl Taken {
 
 /// The sequent without what leads its goal, with these names for the quantifiers; `None` where a name is left that no quantifier is to have.
 fn take(alloc: Global, step: u32, names: &[Name], q: &Sequent) -> Result<Option<Sequent>, NoMemory>
-    ensures { IfOk result (λ o. o ≡ taken step 1 names.now [] q.now.goal q.now) }
+    ensures { IfOk result (λ o. MatchOption o
+        ((p : Sequent) → TakesOff step names.now q.now p → ⊥)
+        (λ r. TakesOff step names.now q.now r)) }
 {
     let mut left = Taken {
         q: q.copy(alloc)?,
@@ -160,12 +150,12 @@ fn take(alloc: Global, step: u32, names: &[Name], q: &Sequent) -> Result<Option<
     let mut used: usize = 0;
     let mut leads = true;
     while leads {
-        match lead_of(goal) {
-            Lead::Premise(premise, rest) => {
+        match front_of(goal) {
+            Front::Premise(premise, rest) => {
                 left.assume(alloc, step, premise)?;
                 goal = rest;
             }
-            Lead::Variable(from, sort, body) if used < names.len() => {
+            Front::Variable(from, sort, body) if used < names.len() => {
                 left.declare(alloc, names[used], from, sort)?;
                 used += 1;
                 goal = body;
@@ -180,6 +170,13 @@ fn take(alloc: Global, step: u32, names: &[Name], q: &Sequent) -> Result<Option<
     Ok(Some(q))
 }
 
+/// Whether there is something to be taken off: a name, or a premise.
+fn takes_some(names: &[Name], q: &Sequent) -> bool
+    ensures { IsTrue result ↔ TakesSome names.now q.now }
+{
+    !names.is_empty() || q.goal.is_implication()
+}
+
 /// The premise of a step that takes off what leads the goal, with these names for the quantifiers; `None` exactly where no such step applies.
 pub fn intro(
     alloc: Global,
@@ -191,7 +188,7 @@ pub fn intro(
         ((p : Sequent) → TakesSome names.now q.now → Intros step names.now q.now p → ⊥)
         (λ r. TakesSome names.now q.now × Intros step names.now q.now r)) }
 {
-    if names.is_empty() && !q.goal.is_implication() {
+    if !takes_some(names, q) {
         return Ok(None);
     }
     if !are_new(alloc, names, q)? {

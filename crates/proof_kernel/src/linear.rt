@@ -11,7 +11,7 @@ use crate::polynomial::{
 };
 use crate::sequent::{Sequent, hypothesis_of, sort_of_var};
 use crate::step::{Multiple, Reference};
-use logic_term::{Sort, Term, TermBinary, TermNode, TermUnary, TyNode};
+use logic_term::{Sort, Term, TermBinary, TermForm, TermUnary, TyNode};
 use std::alloc::Global;
 use text_core::{Items, Name, NoMemory};
 
@@ -70,11 +70,11 @@ fn is_integer_var(vars: &[(Name, Sort)], name: Name) -> bool
 fn is_integer(vars: &[(Name, Sort)], t: &Term) -> bool
     ensures { result ≡ is_integer vars.now t.now }
 {
-    match t.node() {
-        TermNode::Var(name) => is_integer_var(vars, *name),
-        TermNode::Lit(_, sort) => matches!(sort.node, TyNode::MathInt),
-        TermNode::Unary(TermUnary::Model | TermUnary::Negative, _)
-        | TermNode::Binary(TermBinary::Arith(_), _, _) => true,
+    match t.form() {
+        TermForm::Var(name) => is_integer_var(vars, name),
+        TermForm::Lit(_, sort) => matches!(sort.node, TyNode::MathInt),
+        TermForm::Unary(TermUnary::Model | TermUnary::Negative, _)
+        | TermForm::Binary(TermBinary::Arith(_), _, _) => true,
         _ => false,
     }
 }
@@ -83,11 +83,11 @@ fn is_integer(vars: &[(Name, Sort)], t: &Term) -> bool
 fn row_of<'a>(vars: &[(Name, Sort)], t: &'a Term) -> Option<Sides<'a>>
     ensures { option_map difference result ≡ row_of vars.now t.now }
 {
-    match t.node() {
-        TermNode::Binary(TermBinary::AtMost, a, b) => Some(at_least(b, a)),
-        TermNode::Binary(TermBinary::Less, a, b) => Some(greater(b, a)),
-        TermNode::Binary(TermBinary::Equal, a, b) if is_integer(vars, a) => Some(at_least(b, a)),
-        TermNode::Unary(TermUnary::Not, denied) => row_of_goal(denied),
+    match t.form() {
+        TermForm::Binary(TermBinary::AtMost, a, b) => Some(at_least(b, a)),
+        TermForm::Binary(TermBinary::Less, a, b) => Some(greater(b, a)),
+        TermForm::Binary(TermBinary::Equal, a, b) if is_integer(vars, a) => Some(at_least(b, a)),
+        TermForm::Unary(TermUnary::Not, denied) => row_of_goal(denied),
         _ => None,
     }
 }
@@ -96,8 +96,8 @@ fn row_of<'a>(vars: &[(Name, Sort)], t: &'a Term) -> Option<Sides<'a>>
 fn row_back<'a>(vars: &[(Name, Sort)], t: &'a Term) -> Option<Sides<'a>>
     ensures { option_map difference result ≡ row_back vars.now t.now }
 {
-    match t.node() {
-        TermNode::Binary(TermBinary::Equal, a, b) if is_integer(vars, a) => Some(at_least(a, b)),
+    match t.form() {
+        TermForm::Binary(TermBinary::Equal, a, b) if is_integer(vars, a) => Some(at_least(a, b)),
         _ => None,
     }
 }
@@ -106,9 +106,9 @@ fn row_back<'a>(vars: &[(Name, Sort)], t: &'a Term) -> Option<Sides<'a>>
 fn row_of_goal(t: &Term) -> Option<Sides<'_>>
     ensures { option_map difference result ≡ row_of_goal t.now }
 {
-    match t.node() {
-        TermNode::Binary(TermBinary::AtMost, a, b) => Some(greater(a, b)),
-        TermNode::Binary(TermBinary::Less, a, b) => Some(at_least(a, b)),
+    match t.form() {
+        TermForm::Binary(TermBinary::AtMost, a, b) => Some(greater(a, b)),
+        TermForm::Binary(TermBinary::Less, a, b) => Some(at_least(a, b)),
         _ => None,
     }
 }

@@ -8,7 +8,7 @@ ghost use Rattle.source_kinds.specs.declared.kinds.ArithOp.TheVariants.{Add, Sub
 ghost use Rattle.proof_kernel.specs.Polynomial.{times, stands_in, same_monomial, summand, coefficient, with_summand, next_coefficient, plus, added, opposite_of, opposite, times_of, multiplied, products, polynomial, IsNarrowNumber, AddsNarrowly, AreNarrowSummands, IsNarrowTerm};
 ghost use Rattle.proof_kernel.specs.PolynomialCode.{place, IsNarrowProduct};
 
-use logic_term::{Term, TermBinary, TermNode, TermUnary};
+use logic_term::{Term, TermBinary, TermForm, TermUnary};
 use source_kinds::ArithOp;
 use std::alloc::Global;
 use text_core::{Items, NoMemory};
@@ -304,12 +304,12 @@ fn atom(alloc: Global, t: &Term) -> Result<Polynomial, NoMemory>
 pub(crate) fn polynomial(alloc: Global, t: &Term) -> Result<Option<Polynomial>, NoMemory>
     ensures { IfOk result (λ found. SomeIff found (IsNarrowTerm t.now) (polynomial t.now)) }
 {
-    match t.node() {
-        TermNode::Binary(TermBinary::Arith(ArithOp::Add), a, b) => sum(alloc, a, b),
-        TermNode::Binary(TermBinary::Arith(ArithOp::Sub), a, b) => difference(alloc, a, b),
-        TermNode::Binary(TermBinary::Arith(ArithOp::Mul), a, b) => product_of_terms(alloc, a, b),
-        TermNode::Unary(TermUnary::Negative, a) => negative(alloc, a),
-        TermNode::Lit(number, _) => Ok(Some(single(alloc, *number, Items::new(alloc))?)),
+    match t.form() {
+        TermForm::Binary(TermBinary::Arith(ArithOp::Add), a, b) => sum(alloc, a, b),
+        TermForm::Binary(TermBinary::Arith(ArithOp::Sub), a, b) => difference(alloc, a, b),
+        TermForm::Binary(TermBinary::Arith(ArithOp::Mul), a, b) => product_of_terms(alloc, a, b),
+        TermForm::Unary(TermUnary::Negative, a) => negative(alloc, a),
+        TermForm::Lit(number, _) => Ok(Some(single(alloc, number, Items::new(alloc))?)),
         _ => Ok(Some(atom(alloc, t)?)),
     }
 }

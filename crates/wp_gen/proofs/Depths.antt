@@ -13,7 +13,7 @@ use Rattle.logic_term.specs.Term.{Operator, modeled, Term, Terms, var, lit, trut
 use Rattle.logic_term.specs.Ty.{int}
 use Rattle.logic_term.proofs.CanonicalLaw.{free_below}
 use Rattle.logic_term.proofs.Coincide.{free_above}
-use Rattle.logic_term.proofs.FreeLaw.{or_left, or_right, same_test, same_name}
+use Rattle.logic_term.proofs.FreeLaw.{or_cases, or_left, or_right, same_test, same_name}
 
 -- ---- tests
 
@@ -22,10 +22,6 @@ itself_is k = grind (arith, nat_tests)
 
 less_is_other : (x n : ℕ) → x < n → (x == n) ≡ false
 less_is_other x n l = grind (arith, nat_tests)
-
-one_or_other : {P : Type 0} (a b : Bool) → (a || b) ≡ true → (a ≡ true → P) → (b ≡ true → P) → P
-one_or_other true b e f g = f refl
-one_or_other false b e f g = g e
 
 both_of : (b c : Bool) → (not b && c) ≡ true → (b ≡ false) × (c ≡ true)
 both_of true c e = absurd (true≢false (sym e))
@@ -99,7 +95,7 @@ mutual
 
   frees_placed : (r : Bool) (ts : Terms) (n : ℕ) (σ : Placing) (y : Name) → free_in_some y (all_placed r n σ ts) ≡ true → ComesOf (λ x. free_in_some x ts) σ y
   frees_placed r no_terms n σ y e = absurd (true≢false (sym e))
-  frees_placed r (and_term t ts) n σ y e = one_or_other (free y (placed r n σ t)) (free_in_some y (all_placed r n σ ts)) e
+  frees_placed r (and_term t ts) n σ y e = or_cases (free y (placed r n σ t)) (free_in_some y (all_placed r n σ ts)) e
       (λ f. let c = free_placed r t n σ y f in (c.0, c.1, or_left (free c.0 t) (free_in_some c.0 ts) c.2, c.3))
       (λ f. let c = frees_placed r ts n σ y f in (c.0, c.1, or_right (free c.0 t) (free_in_some c.0 ts) c.2, c.3))
 
@@ -118,7 +114,7 @@ mutual
 
   frees_stay : (ts : Terms) (n : ℕ) (σ : Placing) (x y : Name) → y.0 < n → ((k : ℕ) → free y (σ x k) ≡ true) → free_in_some x ts ≡ true → free_in_some y (all_placed false n σ ts) ≡ true
   frees_stay no_terms n σ x y l h e = absurd (true≢false (sym e))
-  frees_stay (and_term t ts) n σ x y l h e = one_or_other (free x t) (free_in_some x ts) e
+  frees_stay (and_term t ts) n σ x y l h e = or_cases (free x t) (free_in_some x ts) e
       (λ f. or_left (free y (placed false n σ t)) (free_in_some y (all_placed false n σ ts)) (free_stays t n σ x y l h f))
       (λ f. or_right (free y (placed false n σ t)) (free_in_some y (all_placed false n σ ts)) (frees_stay ts n σ x y l h f))
 
