@@ -1,0 +1,15 @@
+pub mod Counts
+pub mod Left
+pub mod Parts
+pub mod Places
+pub mod Sorts
+pub mod Sound
+pub mod Spots
+pub mod Tests
+pub mod Integers
+pub mod Rows
+pub mod Branches
+pub mod Branching
+pub mod Going
+pub mod Refined
+pub mod RowLaws
