@@ -12,7 +12,7 @@ use Rattle.logic_term.specs.declared.declaration.VariantDecl.{VariantDecl}
 use Rattle.logic_term.specs.declared.kinds.AdtId.{AdtId}
 use Rattle.logic_term.specs.declared.kinds.Ctor.TheVariants.{Tuple, Variant, Closure}
 use Rattle.logic_term.specs.declared.pattern.PatStep.{PatStep}
-use Rattle.pat_check.proofs.Branches.{at_tuple, at_variant, at_truth, at_number, not_last}
+use Rattle.pat_check.proofs.Answered.{at_tuple, at_variant, at_truth, at_number, not_last}
 use Rattle.pat_check.proofs.Going.{Goes, goes_tuple, goes_flag, goes_number, goes_other, goes_variant}
 use Rattle.pat_check.proofs.RowLaws.{test_spot}
 use Rattle.pat_check.proofs.Spots.{Spot}

@@ -8,7 +8,7 @@ use Rattle.logic_term.specs.Value.{Number, Made}
 use Rattle.logic_term.specs.declared.kinds.AdtId.{AdtId}
 use Rattle.logic_term.specs.declared.kinds.Ctor.TheVariants.{Tuple, Variant}
 use Rattle.logic_term.specs.declared.pattern.PatStep.{PatStep}
-use Rattle.pat_check.proofs.Branches.{tuple_known, variant_known}
+use Rattle.pat_check.proofs.Answered.{tuple_known, variant_known}
 use Rattle.pat_check.proofs.Left.{left, no_more_put, Answers, fewer_put, answers_built, answers_flag, answers_number, answers_other}
 use Rattle.pat_check.proofs.Refined.{Refines, refines_put, refines_anything, refines_asked_number, refines_asked_other}
 use Rattle.pat_check.proofs.Spots.{Spot}

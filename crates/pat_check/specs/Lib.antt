@@ -15,6 +15,7 @@ pub mod PatValueFalls
 pub mod PatValueView
 pub mod Rows
 pub mod Settled
+pub mod States
 pub mod Status
 pub mod Tree
 pub mod Typed

@@ -1,6 +1,8 @@
 //! Which values of a type no arm of a match takes, and the tree of tests that finds the first arm that takes a value.
 #![tactic(auto)]
 
+mod branches;
+mod coverage;
 mod decision;
 mod finding;
 mod finding_kind;
@@ -8,5 +10,10 @@ mod known;
 mod next;
 mod pat_value;
 mod put;
+mod state;
 mod test;
 mod unnamed;
+
+pub use coverage::missing;
+pub use decision::{Decision, DecisionNode};
+pub use pat_value::{PatValue, PatValueNode};
