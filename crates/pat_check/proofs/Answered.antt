@@ -24,8 +24,8 @@ use Rattle.pat_check.specs.declared.test.Test.TheVariants as by
 agree_anything : (Δ : Declarations) (θ fs : Tys) (vs : Values) → HaveSorts Δ vs (instances θ fs) → agree_all (all_anything (count_tys fs)) vs ≡ true
 agree_anything Δ θ no_tys vs h = subst (λ x. agree_all no_knowns x ≡ true) (sym (looks_all Δ vs no_tys h)) refl
 agree_anything Δ θ (and_ty t ts) vs h =
-  let l = looks_all Δ vs (instances θ (and_ty t ts)) h in
-  subst (λ x. agree_all (all_anything (count_tys (and_ty t ts))) x ≡ true) (sym l.2) (agree_anything Δ θ ts l.1 l.4)
+    let l = looks_all Δ vs (instances θ (and_ty t ts)) h in
+    subst (λ x. agree_all (all_anything (count_tys (and_ty t ts))) x ≡ true) (sym l.2) (agree_anything Δ θ ts l.1 l.4)
 
 known_anything : (Δ : Declarations) (fs : Tys) → AreKnown Δ (all_anything (count_tys fs)) fs
 known_anything Δ no_tys = tt
@@ -46,8 +46,8 @@ variant_parts Δ s d k j fs gs p has = absurd p
 
 pub variant_known : (Δ : Declarations) (t : Ty) (d : AdtId) (k n j : ℕ) (gs : Tys) → Asked Δ (by.Made (Variant d k) n) t → Δ d j ≡ Some gs → IsKnown Δ (built (Variant d j) (all_anything (count_tys gs))) t
 variant_known Δ t d k n j gs (fs, po, e) has =
-  let v = variant_parts Δ (core t) d k j fs gs po has in
-  (v.0, v.1, subst (λ m. AreKnown Δ (all_anything m) v.0) v.2 (known_anything Δ v.0))
+    let v = variant_parts Δ (core t) d k j fs gs po has in
+    (v.0, v.1, subst (λ m. AreKnown Δ (all_anything m) v.0) v.2 (known_anything Δ v.0))
 
 -- ---- a tuple, or the only variant
 
@@ -57,20 +57,22 @@ tuple_made Δ θ s fs u p l = absurd p
 
 pub at_tuple : (Δ : Declarations) (t : Ty) (k : Known) (p : List PatStep) (n : ℕ) → Spot Δ k t p (by.Made Tuple n) → (θ : Tys) (v : Value) → HasSort Δ v (instance θ t) → agrees k v ≡ true → agrees (put k p (built Tuple (all_anything n))) v ≡ true
 at_tuple Δ t k p n i θ v h a =
-  let fs = i.asked.0 in
-  let m = tuple_made Δ θ (core i.ty) fs (seen (value_at v p)) i.asked.1 (looks_behind Δ θ i.ty (core i.ty) (value_at v p) refl (i.reads θ v h a)) in
-  let b : agree_all (all_anything n) (parts_of (seen (value_at v p))) ≡ true = subst (λ x. agree_all (all_anything x) (parts_of (seen (value_at v p))) ≡ true) (sym i.asked.2) (agree_anything Δ θ fs (parts_of (seen (value_at v p))) m.1) in
-  agrees_put k p (built Tuple (all_anything n)) v a (and_of _ _ m.0 b)
-
+    let fs = i.asked.0 in
+    let m = tuple_made Δ θ (core i.ty) fs (seen (value_at v p)) i.asked.1 (looks_behind Δ θ i.ty (core i.ty) (value_at v p) refl (i.reads θ v h a)) in
+    let b : agree_all (all_anything n) (parts_of (seen (value_at v p))) ≡ true = subst (λ x. agree_all (all_anything x) (parts_of (seen (value_at v p))) ≡ true) (sym i.asked.2) (agree_anything Δ θ fs (parts_of (seen (value_at v p))) m.1) in
+    agrees_put k p (built Tuple (all_anything n)) v a (and_of _ _ m.0 b)
 
 -- ---- the variants of a declared type
 
 adt_made : (Δ : Declarations) (θ : Tys) (s : Ty) (d : AdtId) (k : ℕ) (fs : Tys) (u : Value) → PartsOf Δ s (Variant d k) fs → Looks Δ u (core (instance θ s)) → (j : ℕ) × (gs : Tys) × (Δ d j ≡ Some gs) × (is_made (Variant d j) u ≡ true) × (agree_all (all_anything (count_tys gs)) (parts_of u) ≡ true) × (variant_seen u ≡ j)
-adt_made Δ θ (adt e rs ts) d k fs u (is, same, some, inst) (j, gs, vs, has, made, h) =
-  (j, gs, subst (λ x. Δ x j ≡ Some gs) same has,
-    subst (λ x. is_made (Variant d j) x ≡ true) (sym made) (subst (λ x. is_made (Variant d j) (Made (Variant x j) vs) ≡ true) (sym same) (ctor_self (Variant d j))),
-    subst (λ x. agree_all (all_anything (count_tys gs)) (parts_of x) ≡ true) (sym made) (agree_anything Δ (instances θ ts) gs vs h),
-    ap variant_seen made)
+adt_made Δ θ (adt e rs ts) d k fs u (is, same, some, inst) (j, gs, vs, has, made, h) = (
+  j,
+  gs,
+  subst (λ x. Δ x j ≡ Some gs) same has,
+  subst (λ x. is_made (Variant d j) x ≡ true) (sym made) (subst (λ x. is_made (Variant d j) (Made (Variant x j) vs) ≡ true) (sym same) (ctor_self (Variant d j))),
+  subst (λ x. agree_all (all_anything (count_tys gs)) (parts_of x) ≡ true) (sym made) (agree_anything Δ (instances θ ts) gs vs h),
+  ap variant_seen made,
+)
 adt_made Δ θ s d k fs u p l = absurd p
 
 pub record AtVariant (Δ : Declarations) (k : Known) (p : List PatStep) (d : AdtId) (v : Value) : Type 0 where
@@ -82,17 +84,15 @@ pub record AtVariant (Δ : Declarations) (k : Known) (p : List PatStep) (d : Adt
 
 pub at_variant : (Δ : Declarations) (t : Ty) (k : Known) (p : List PatStep) (d : AdtId) (m n : ℕ) → Spot Δ k t p (by.Made (Variant d m) n) → (θ : Tys) (v : Value) → HasSort Δ v (instance θ t) → agrees k v ≡ true → AtVariant Δ k p d v
 at_variant Δ t k p d m n i θ v h a =
-  let b = adt_made Δ θ (core i.ty) d m i.asked.0 (seen (value_at v p)) i.asked.1 (looks_behind Δ θ i.ty (core i.ty) (value_at v p) refl (i.reads θ v h a)) in
-  record { variant = b.0; fields = b.1; declared = b.2; is = b.5; agreed = agrees_put k p (built (Variant d b.0) (all_anything (count_tys b.1))) v a (and_of _ _ b.3 b.4) }
-
+    let b = adt_made Δ θ (core i.ty) d m i.asked.0 (seen (value_at v p)) i.asked.1 (looks_behind Δ θ i.ty (core i.ty) (value_at v p) refl (i.reads θ v h a)) in
+    record { variant = b.0; fields = b.1; declared = b.2; is = b.5; agreed = agrees_put k p (built (Variant d b.0) (all_anything (count_tys b.1))) v a (and_of _ _ b.3 b.4) }
 
 -- ---- truth values
 
 pub at_truth : (Δ : Declarations) (t : Ty) (k : Known) (p : List PatStep) → Spot Δ k t p (by.Truth) → (θ : Tys) (v : Value) → HasSort Δ v (instance θ t) → agrees k v ≡ true → (c : Bool) × (seen (value_at v p) ≡ Flag c) × (agrees (put k p (flag c)) v ≡ true)
 at_truth Δ t k p i θ v h a =
-  let l = looks_behind Δ θ i.ty bool (value_at v p) i.asked (i.reads θ v h a) in
-  (l.0, l.1, agrees_put k p (flag l.0) v a (flag_at l.0 (seen (value_at v p)) l.1))
-
+    let l = looks_behind Δ θ i.ty bool (value_at v p) i.asked (i.reads θ v h a) in
+    (l.0, l.1, agrees_put k p (flag l.0) v a (flag_at l.0 (seen (value_at v p)) l.1))
 
 -- ---- integers
 
@@ -127,17 +127,18 @@ at_number Δ t k p c z i θ v h a = by_number (looks_integer Δ θ c (seen (valu
   where
     by_test : (y : ℤ) → seen (value_at v p) ≡ Number y → is_integer c y ≡ true → (b : Bool) → int_eq y z ≡ b → ((seen (value_at v p) ≡ Number z) × (agrees (put k p (number z)) v ≡ true)) ⊎ AtOther k p c z v
     by_test y e f true is =
-      let g = e ∙ ap Number (int_same y z is) in
-      inl (g, agrees_put k p (number z) v a (number_at z (seen (value_at v p)) g))
+        let g = e ∙ ap Number (int_same y z is) in
+        inl (g, agrees_put k p (number z) v a (number_at z (seen (value_at v p)) g))
     by_test y e f false is =
-      let none : among y (z ∷ excluded (known_at k p)) ≡ false = or_false (int_eq y z) _ is (other_of c (known_at k p) z (by.Number c z) y (value_at v p) i.unanswered (agrees_at k p v a) e) in
-      inr (record {
-        integer = y;
-        is = e;
-        within = f;
-        not_among = none;
-        agreed = agrees_put k p (other c (z ∷ excluded (known_at k p))) v a (subst (λ x. is_other (z ∷ excluded (known_at k p)) x ≡ true) (sym e) (not_of _ none));
-      })
+        let none : among y (z ∷ excluded (known_at k p)) ≡ false = or_false (int_eq y z) _ is (other_of c (known_at k p) z (by.Number c z) y (value_at v p) i.unanswered (agrees_at k p v a) e) in
+        inr (record {
+          integer = y;
+          is = e;
+          within = f;
+          not_among = none;
+          agreed = agrees_put k p (other c (z ∷ excluded (known_at k p))) v a (subst (λ x. is_other (z ∷ excluded (known_at k p)) x ≡ true) (sym e) (not_of _ none));
+        })
+
     by_number : (y : ℤ) × (seen (value_at v p) ≡ Number y) × (is_integer c y ≡ true) → ((seen (value_at v p) ≡ Number z) × (agrees (put k p (number z)) v ≡ true)) ⊎ AtOther k p c z v
     by_number (y, e, f) = by_test y e f (int_eq y z) refl
 

@@ -83,16 +83,17 @@ or_right false b e = e
 
 variants_go : (Δ : Declarations) (ps : List Pat) (t : Ty) (k : Known) (p : List PatStep) (d : AdtId) (l n : ℕ) → Spot Δ k t p (by.Made (Variant d l) n) → next 0 ps k ≡ test p (by.Made (Variant d l) n) → (j : ℕ) (fss : List Tys) → ((i : ℕ) (fs : Tys) → slice_get fss i ≡ Some fs → Δ d (j + i) ≡ Some fs) → AllGo Δ ps t k (variant_branches k p d j fss)
 variants_go Δ ps t k p d l n i e j [] h = tt
-variants_go Δ ps t k p d l n i e j (fs ∷ fss) h =
-  (goes_variant Δ ps t k p d l n j fs i e (subst (λ m. Δ d m ≡ Some fs) (let f : j + 0 ≡ j = omega arith in f) (h 0 fs refl)),
-    variants_go Δ ps t k p d l n i e (suc j) fss (λ m gs g. subst (λ x. Δ d x ≡ Some gs) (let f : j + suc m ≡ suc j + m = omega arith in f) (h (suc m) gs g)))
+variants_go Δ ps t k p d l n i e j (fs ∷ fss) h = (
+  goes_variant Δ ps t k p d l n j fs i e (subst (λ m. Δ d m ≡ Some fs) (let f : j + 0 ≡ j = omega arith in f) (h 0 fs refl)),
+  variants_go Δ ps t k p d l n i e (suc j) fss (λ m gs g. subst (λ x. Δ d x ≡ Some gs) (let f : j + suc m ≡ suc j + m = omega arith in f) (h (suc m) gs g)),
+)
 
 one_variant : (k : Known) (p : List PatStep) (d : AdtId) (v : Value) (j : ℕ) (fss : List Tys) (i m : ℕ) (fs : Tys) → m ≡ j + i → slice_get fss i ≡ Some fs → agrees (put k p (built (Variant d m) (all_anything (count_tys fs)))) v ≡ true → some_agrees (variant_branches k p d j fss) v ≡ true
 one_variant k p d v j [] i m fs e g a = absurd (cc)
 one_variant k p d v j (gs ∷ fss) zero m fs e g a =
-  let same : gs ≡ fs = cc in
-  let at : m ≡ j = omega (arith, e) in
-  or_left _ _ (subst (λ x. agrees (put k p (built (Variant d j) (all_anything (count_tys x)))) v ≡ true) (sym same) (subst (λ x. agrees (put k p (built (Variant d x) (all_anything (count_tys fs)))) v ≡ true) at a))
+    let same : gs ≡ fs = cc in
+    let at : m ≡ j = omega (arith, e) in
+    or_left _ _ (subst (λ x. agrees (put k p (built (Variant d j) (all_anything (count_tys x)))) v ≡ true) (sym same) (subst (λ x. agrees (put k p (built (Variant d x) (all_anything (count_tys fs)))) v ≡ true) at a))
 one_variant k p d v j (gs ∷ fss) (suc i) m fs e g a = or_right _ _ (one_variant k p d v (suc j) fss i m fs (omega (arith, e)) g a)
 
 count_branches : (k : Known) (p : List PatStep) (d : AdtId) (j : ℕ) (fss : List Tys) → length (variant_branches k p d j fss) ≡ length fss
@@ -103,8 +104,8 @@ variant_branching : (ds : List AdtDecl) (ps : List Pat) (t : Ty) (k : Known) (p 
 variant_branching ds ps t k p d l n i e = record {
   go = variants_go (fields_in ds) ps t k p d l n i e 0 (field_lists ds d) (λ m fs g. subst (λ x. fields_in ds d x ≡ Some fs) (let f : m ≡ 0 + m = omega arith in f) (fields_at ds d m ∙ g));
   one = λ θ v h a.
-    let x = at_variant (fields_in ds) t k p d l n i θ v h a in
-    one_variant k p d v 0 (field_lists ds d) x.variant x.variant x.fields (omega arith) (sym (fields_at ds d x.variant) ∙ x.declared) x.agreed;
+      let x = at_variant (fields_in ds) t k p d l n i θ v h a in
+      one_variant k p d v 0 (field_lists ds d) x.variant x.variant x.fields (omega arith) (sym (fields_at ds d x.variant) ∙ x.declared) x.agreed;
   few = let c = count_branches k p d 0 (field_lists ds d) in omega (arith, c, few_at ds d.0);
 }
 
@@ -122,22 +123,21 @@ no_closure Δ (closure i ts cs k ps r) n fs p = absurd p
 no_closure Δ (viewed t) n fs p = absurd p
 no_closure Δ (snapshot t) n fs p = absurd p
 
-
 -- ---- integers
 
 integer_branching : (ds : List AdtDecl) (ps : List Pat) (t : Ty) (k : Known) (p : List PatStep) (c : Option IntKind) (z : ℤ) (ks : List Known) → Spot (fields_in ds) k t p (by.Number c z) → next 0 ps k ≡ test p (by.Number c z) → AreIntegerBranches k p c z (z ∷ excluded (known_at k p)) ks → Branching ds ps t k ks
 integer_branching ds ps t k p c z ks i e b = ⊎_elim
-  (λ x. subst (Branching ds ps t k) (sym x.1) (record {
-    go = (goes_number (fields_in ds) ps t k p c z i e, tt);
-    one = λ θ v h a. ⊎_elim (λ y. or_left _ _ y.1) (λ y. not_last k p c z v x.0 y) (at_number (fields_in ds) t k p c z i θ v h a);
-    few = omega arith;
-  }))
-  (λ x. subst (Branching ds ps t k) (sym x.1) (record {
-    go = (goes_number (fields_in ds) ps t k p c z i e, (goes_other (fields_in ds) ps t k p c z i e x.0, tt));
-    one = λ θ v h a. ⊎_elim (λ y. or_left _ _ y.1) (λ y. or_right _ _ (or_left _ _ y.agreed)) (at_number (fields_in ds) t k p c z i θ v h a);
-    few = omega arith;
-  }))
-  b
+    (λ x. subst (Branching ds ps t k) (sym x.1) (record {
+      go = (goes_number (fields_in ds) ps t k p c z i e, tt);
+      one = λ θ v h a. ⊎_elim (λ y. or_left _ _ y.1) (λ y. not_last k p c z v x.0 y) (at_number (fields_in ds) t k p c z i θ v h a);
+      few = omega arith;
+    }))
+    (λ x. subst (Branching ds ps t k) (sym x.1) (record {
+      go = (goes_number (fields_in ds) ps t k p c z i e, (goes_other (fields_in ds) ps t k p c z i e x.0, tt));
+      one = λ θ v h a. ⊎_elim (λ y. or_left _ _ y.1) (λ y. or_right _ _ (or_left _ _ y.agreed)) (at_number (fields_in ds) t k p c z i θ v h a);
+      few = omega arith;
+    }))
+    b
 
 -- ---- truth values
 

@@ -16,6 +16,7 @@ one_more_anything ks n e = subst (λ m. knowns_of (ks ++ anything ∷ []) ≡ al
   where
     front : (k : Known) (ks : Knowns) (m : ℕ) → and_known k ks ≡ all_anything (suc m) → (k ≡ anything) × (ks ≡ all_anything m)
     front k ks m f = (cc, cc)
+
     more : (ks : List Known) (n : ℕ) → knowns_of ks ≡ all_anything n → knowns_of (ks ++ anything ∷ []) ≡ all_anything (suc n)
     more [] zero e = refl
     more [] (suc n) e = absurd (cc)

@@ -33,7 +33,7 @@ in_front Δ θ (viewed t) u h = (u, h, refl)
 made_sort : (Δ : Declarations) (θ : Tys) (s : Ty) (c : Ctor) (fs : Tys) (vs : Values) → PartsOf Δ s c fs → HaveSorts Δ vs (instances θ fs) → HasSort Δ (Made c vs) (instance θ s)
 made_sort Δ θ (tuple ts) Tuple fs vs e h = of_tuple (subst (λ x. HaveSorts Δ vs (instances θ x)) (sym e) h)
 made_sort Δ θ (adt d rs ts) (Variant e k) fs vs (gs, same, has, inst) h =
-  subst (λ x. HasSort Δ (Made (Variant x k) vs) (adt d rs (instances θ ts))) same
+    subst (λ x. HasSort Δ (Made (Variant x k) vs) (adt d rs (instances θ ts))) same
     (of_adt has (subst (λ x. HaveSorts Δ vs x) (ap (instances θ) (sym inst) ∙ instances_twice θ ts gs) h))
 made_sort Δ θ s c fs vs p h = absurd p
 
@@ -46,22 +46,22 @@ mutual
   pub filled : (Δ : Declarations) (θ : Tys) (w : PatValue) (t : Ty) → IsPatValue Δ w t → Fillable Δ θ w t → (v : Value) × HasSort Δ v (instance θ t) × (stands_for w v ≡ true)
   filled Δ θ any t h f = (f.0, f.1, refl)
   filled Δ θ (integer z) t (k, e, i) f =
-    let g = number_sort Δ θ t k z e i in
-    (g.0, g.1, number_at z (seen g.0) g.2)
+      let g = number_sort Δ θ t k z e i in
+      (g.0, g.1, number_at z (seen g.0) g.2)
   filled Δ θ (truth b) t e f =
-    let g = in_front Δ θ t (Flag b) (subst (λ s. HasSort Δ (Flag b) (instance θ s)) (sym e) of_bool) in
-    (g.0, g.1, flag_at b (seen g.0) g.2)
+      let g = in_front Δ θ t (Flag b) (subst (λ s. HasSort Δ (Flag b) (instance θ s)) (sym e) of_bool) in
+      (g.0, g.1, flag_at b (seen g.0) g.2)
   filled Δ θ (made c ws) t (fs, po, h) (gs, pg, f) =
-    let same : gs ≡ fs = parts_same Δ (core t) c gs fs pg po in
-    let vs = filled_all Δ θ ws fs h (subst (λ x. AreFillable Δ θ ws x) same f) in
-    let g = in_front Δ θ t (Made c vs.0) (made_sort Δ θ (core t) c fs vs.0 po vs.1) in
-    (g.0, g.1, subst (λ u. is_made c u && stand_for_all ws (parts_of u) ≡ true) (sym g.2) (and_of _ _ (ctor_self c) vs.2))
+      let same : gs ≡ fs = parts_same Δ (core t) c gs fs pg po in
+      let vs = filled_all Δ θ ws fs h (subst (λ x. AreFillable Δ θ ws x) same f) in
+      let g = in_front Δ θ t (Made c vs.0) (made_sort Δ θ (core t) c fs vs.0 po vs.1) in
+      (g.0, g.1, subst (λ u. is_made c u && stand_for_all ws (parts_of u) ≡ true) (sym g.2) (and_of _ _ (ctor_self c) vs.2))
 
   filled_all : (Δ : Declarations) (θ : Tys) (ws : PatValues) (ts : Tys) → ArePatValues Δ ws ts → AreFillable Δ θ ws ts → (vs : Values) × HaveSorts Δ vs (instances θ ts) × (stand_for_all ws vs ≡ true)
   filled_all Δ θ no_parts no_tys h f = (no_values, of_none, refl)
   filled_all Δ θ no_parts (and_ty t ts) h f = absurd h
   filled_all Δ θ (and_part w ws) no_tys h f = absurd h
   filled_all Δ θ (and_part w ws) (and_ty t ts) h f =
-    let g = filled Δ θ w t h.0 f.0 in
-    let e = filled_all Δ θ ws ts h.1 f.1 in
-    (and_value g.0 e.0, of_more g.1 e.1, and_of _ _ g.2 e.2)
+      let g = filled Δ θ w t h.0 f.0 in
+      let e = filled_all Δ θ ws ts h.1 f.1 in
+      (and_value g.0 e.0, of_more g.1 e.1, and_of _ _ g.2 e.2)

@@ -33,14 +33,14 @@ fewer_left n (q ∷ qs) k p w x e a = by_case (λ f. fewer_left (suc n) qs k p w
     no_more_all : (rs : List Pat) → left_sum rs (put k p x) ≤ left_sum rs k
     no_more_all [] = omega arith
     no_more_all (r ∷ rs) = omega (arith, no_more_put k p x a.0 r, no_more_all rs)
+
     by_case : (next (suc n) qs k ≡ test p w → left_sum qs (put k p x) < left_sum qs k) → left_sum qs (put k p x) ≤ left_sum qs k → (s : Status) → status q k ≡ s → by_status s n q (next (suc n) qs k) ≡ test p w → left_sum (q ∷ qs) (put k p x) < left_sum (q ∷ qs) k
     by_case more rest fails s f = omega (arith, more f, no_more_put k p x a.0 q)
     by_case more rest sure s f = absurd (cc)
     by_case more rest (asks r y) s f =
-      let g : r ≡ p = cc in
-      let h : y ≡ w = cc in
-      omega (arith, rest, fewer_put q k p w x (s ∙ (λ i. asks (g i) (h i))) a)
-
+        let g : r ≡ p = cc in
+        let h : y ≡ w = cc in
+        omega (arith, rest, fewer_put q k p w x (s ∙ (λ i. asks (g i) (h i))) a)
 
 -- what is known after an answer is known of the type, leaves fewer tests, and lets fail what failed
 pub record Goes (Δ : Declarations) (ps : List Pat) (t : Ty) (k x : Known) : Type 0 where

@@ -42,11 +42,11 @@ at_most_false x y e = grind (arith, ints)
 pub below_all : (k : Option IntKind) (hi : ℤ) (zs : List ℤ) → BelowAmong (first_integer k) hi zs → is_past k hi ≡ true → AllAmong k zs
 below_all None hi zs h l y f = absurd (cc)
 below_all (Some k) hi zs h l y f =
-  let g = both (int_le (lowest k) y) (int_le y (highest k)) f in
-  let a : lowest k ≤ℤ y = at_most_true (lowest k) y g.0 in
-  let b : y ≤ℤ highest k = at_most_true y (highest k) g.1 in
-  let c : highest k <ℤ hi = at_most_false hi (highest k) (not_true _ l) in
-  h y a (omega (arith, ints))
+    let g = both (int_le (lowest k) y) (int_le y (highest k)) f in
+    let a : lowest k ≤ℤ y = at_most_true (lowest k) y g.0 in
+    let b : y ≤ℤ highest k = at_most_true y (highest k) g.1 in
+    let c : highest k <ℤ hi = at_most_false hi (highest k) (not_true _ l) in
+    h y a (omega (arith, ints))
 
 and_of_le : (a b : Bool) → a ≡ true → b ≡ true → a && b ≡ true
 and_of_le true b e f = f

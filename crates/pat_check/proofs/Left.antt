@@ -110,22 +110,22 @@ mutual
   fewer_put (shape u c qs) (number y) p w x s a = absurd (cc)
   fewer_put (shape u c qs) (flag b) p w x s a = absurd (cc)
   fewer_put (shape u c qs) (built e ks) p w x s a =
-    let i = fewer_in (variant_number c) qs ks p w x (if_asks (same_ctor c e) (statuses (variant_number c) qs ks) p w s).1 in
-    subst (λ r. Answers w (known_at (built e ks) r) x → left (shape u c qs) (put (built e ks) r x) < left_all qs ks) (sym i.2) i.3 a
+      let i = fewer_in (variant_number c) qs ks p w x (if_asks (same_ctor c e) (statuses (variant_number c) qs ks) p w s).1 in
+      subst (λ r. Answers w (known_at (built e ks) r) x → left (shape u c qs) (put (built e ks) r x) < left_all qs ks) (sym i.2) i.3 a
 
   fewer_in : (n : ℕ) (qs : Pats) (ks : Knowns) (p : List PatStep) (w : Test) (x : Known) → statuses n qs ks ≡ asks p w → (at : ℕ) × (rest : List PatStep) × (p ≡ record { variant = n; field = at } ∷ rest) × (Answers w (known_at (nth_known ks at) rest) x → left_all qs (set_known ks at (put (nth_known ks at) rest x)) < left_all qs ks)
   fewer_in n no_pats no_knowns p w x s = absurd (cc)
   fewer_in n no_pats (and_known k ks) p w x s = absurd (cc)
   fewer_in n (and_pat q qs) no_knowns p w x s = absurd (cc)
   fewer_in n (and_pat q qs) (and_known k ks) p w x s =
-    ⊎_elim
+      ⊎_elim
       (λ e.
-        let f = first_asks n (status q k) p w e in
-        (0, f.0, f.2, λ a. let g : left q (put k f.0 x) < left q k = fewer_put q k f.0 w x f.1 a in omega (arith, g)))
+      let f = first_asks n (status q k) p w e in
+      (0, f.0, f.2, λ a. let g : left q (put k f.0 x) < left q k = fewer_put q k f.0 w x f.1 a in omega (arith, g)))
       (λ e.
-        let f = later_asks (statuses n qs ks) p w e.1 in
-        let i = fewer_in n qs ks f.0 w x f.1 in
-        (suc i.0, i.1, f.2 ∙ ap next_part i.2, λ a. let g : left_all qs (set_known ks i.0 (put (nth_known ks i.0) i.1 x)) < left_all qs ks = i.3 a in omega (arith, g)))
+      let f = later_asks (statuses n qs ks) p w e.1 in
+      let i = fewer_in n qs ks f.0 w x f.1 in
+      (suc i.0, i.1, f.2 ∙ ap next_part i.2, λ a. let g : left_all qs (set_known ks i.0 (put (nth_known ks i.0) i.1 x)) < left_all qs ks = i.3 a in omega (arith, g)))
       (also_asks (first n (status q k)) (later (statuses n qs ks)) p w s)
 
 -- ---- the answers of a test
@@ -151,6 +151,7 @@ answers_built w c m = (none, fewer)
     none (literal u t z) = omega arith
     none (truth u b) = omega arith
     none (shape u e qs) = omega (arith, left_anything qs m)
+
     fewer : (q : Pat) → status q anything ≡ asks [] w → left q (built c (all_anything m)) < left q anything
     fewer (wild u) s = absurd (cc)
     fewer (bound u x m) s = absurd (cc)
@@ -167,6 +168,7 @@ answers_flag w b = (none, fewer)
     none (literal u t z) = omega arith
     none (truth u c) = omega arith
     none (shape u e qs) = omega arith
+
     fewer : (q : Pat) → status q anything ≡ asks [] w → left q (flag b) < left q anything
     fewer (wild u) s = absurd (cc)
     fewer (bound u x m) s = absurd (cc)
@@ -183,6 +185,7 @@ number_any w z = (none, fewer)
     none (literal u t y) = omega arith
     none (truth u c) = omega arith
     none (shape u e qs) = omega arith
+
     fewer : (q : Pat) → status q anything ≡ asks [] w → left q (number z) < left q anything
     fewer (wild u) s = absurd (cc)
     fewer (bound u x m) s = absurd (cc)
@@ -217,6 +220,7 @@ number_other w z j zs = (none, fewer)
     none (literal u t y) = omega arith
     none (truth u c) = omega arith
     none (shape u e qs) = omega arith
+
     fewer : (q : Pat) → status q (other j zs) ≡ asks [] w → left q (number z) < left q (other j zs)
     fewer (wild u) s = absurd (cc)
     fewer (bound u x m) s = absurd (cc)
@@ -236,6 +240,7 @@ other_any c z = (none, fewer)
     none (literal u t y) = at_most_one (among y (z ∷ []))
     none (truth u b) = omega arith
     none (shape u e qs) = omega arith
+
     fewer : (q : Pat) → status q anything ≡ asks [] (by.Number c z) → left q (other c (z ∷ [])) < left q anything
     fewer (wild u) s = absurd (cc)
     fewer (bound u x m) s = absurd (cc)
@@ -252,23 +257,24 @@ other_more c z j zs = (none, fewer)
     none (literal u t y) = or_less (int_eq y z) (among y zs)
     none (truth u b) = omega arith
     none (shape u e qs) = omega arith
+
     fewer : (q : Pat) → status q (other j zs) ≡ asks [] (by.Number c z) → left q (other c (z ∷ zs)) < left q (other j zs)
     fewer (wild u) s = absurd (cc)
     fewer (bound u x m) s = absurd (cc)
     fewer (literal u t y) s =
-      let a = asks_in (among y zs) _ _ _ _ s in
-      named (int_eq y z) (among y zs) (subst (λ u. int_eq y u ≡ true) (same_literal t c y z a.1) (int_self y)) a.0
+        let a = asks_in (among y zs) _ _ _ _ s in
+        named (int_eq y z) (among y zs) (subst (λ u. int_eq y u ≡ true) (same_literal t c y z a.1) (int_self y)) a.0
     fewer (truth u b) s = absurd (cc)
     fewer (shape u e qs) s = absurd (cc)
 
 pub answers_number : (c : Option IntKind) (z : ℤ) (k : Known) → Unanswered (by.Number c z) k → Answers (by.Number c z) k (number z)
 answers_number c z k u = ⊎_elim
-  (λ e. subst (λ x. Answers (by.Number c z) x (number z)) (sym e) (number_any (by.Number c z) z))
-  (λ e. subst (λ x. Answers (by.Number c z) x (number z)) (sym e.2) (number_other (by.Number c z) z e.0 e.1))
-  u
+    (λ e. subst (λ x. Answers (by.Number c z) x (number z)) (sym e) (number_any (by.Number c z) z))
+    (λ e. subst (λ x. Answers (by.Number c z) x (number z)) (sym e.2) (number_other (by.Number c z) z e.0 e.1))
+    u
 
 pub answers_other : (c : Option IntKind) (z : ℤ) (k : Known) → Unanswered (by.Number c z) k → Answers (by.Number c z) k (other c (z ∷ excluded k))
 answers_other c z k u = ⊎_elim
-  (λ e. subst (λ x. Answers (by.Number c z) x (other c (z ∷ excluded x))) (sym e) (other_any c z))
-  (λ e. subst (λ x. Answers (by.Number c z) x (other c (z ∷ excluded x))) (sym e.2) (other_more c z e.0 e.1))
-  u
+    (λ e. subst (λ x. Answers (by.Number c z) x (other c (z ∷ excluded x))) (sym e) (other_any c z))
+    (λ e. subst (λ x. Answers (by.Number c z) x (other c (z ∷ excluded x))) (sym e.2) (other_more c z e.0 e.1))
+    u

@@ -1,10 +1,13 @@
 pub mod Answered
+pub mod Binds
 pub mod Branching
+pub mod Building
 pub mod Counts
 pub mod Filling
 pub mod Going
 pub mod Integers
 pub mod Left
+pub mod OneTree
 pub mod Parts
 pub mod Places
 pub mod Refined
@@ -17,4 +20,5 @@ pub mod Sound
 pub mod Spots
 pub mod Stacks
 pub mod Tests
+pub mod TreeLaw
 pub mod Variants

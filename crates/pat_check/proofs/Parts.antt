@@ -74,9 +74,9 @@ other_lengths n ps ks d = sym (from_lengths n 0 ps ks d) ∙ from_statuses n ps 
 -- one more part
 pub from_more : (n i : ℕ) (ps : List Pat) (ks : List Known) (p : Pat) (k : Known) (found next total : Status) → p ≡ get_or ps i p → k ≡ get_or ks i k → i < length ps → i < length ks → next ≡ at_part n i (status p k) → also found (from n i (drop i ps) (drop i ks)) ≡ total → also (also found next) (from n (i + 1) (drop (i + 1) ps) (drop (i + 1) ks)) ≡ total
 from_more n i ps ks p k found next total ep ek lp lk en e =
-  let rest : ℕ → Status = λ m. from n m (drop m ps) (drop m ks) in
-  let dp : drop i ps ≡ p ∷ drop (suc i) ps = drop-cons ps i p lp ∙ ap (λ x. x ∷ drop (suc i) ps) (sym ep) in
-  let dk : drop i ks ≡ k ∷ drop (suc i) ks = drop-cons ks i k lk ∙ ap (λ x. x ∷ drop (suc i) ks) (sym ek) in
-  let one : rest i ≡ also (at_part n i (status p k)) (rest (suc i)) = λ j. from n i (dp j) (dk j) in
-  let more : i + 1 ≡ suc i = omega arith in
-  ap (λ m. also (also found next) (rest m)) more ∙ also_assoc found next (rest (suc i)) ∙ ap (λ s. also found (also s (rest (suc i)))) en ∙ ap (also found) (sym one) ∙ e
+    let rest : ℕ → Status = λ m. from n m (drop m ps) (drop m ks) in
+    let dp : drop i ps ≡ p ∷ drop (suc i) ps = drop-cons ps i p lp ∙ ap (λ x. x ∷ drop (suc i) ps) (sym ep) in
+    let dk : drop i ks ≡ k ∷ drop (suc i) ks = drop-cons ks i k lk ∙ ap (λ x. x ∷ drop (suc i) ks) (sym ek) in
+    let one : rest i ≡ also (at_part n i (status p k)) (rest (suc i)) = λ j. from n i (dp j) (dk j) in
+    let more : i + 1 ≡ suc i = omega arith in
+    ap (λ m. also (also found next) (rest m)) more ∙ also_assoc found next (rest (suc i)) ∙ ap (λ s. also found (also s (rest (suc i)))) en ∙ ap (also found) (sym one) ∙ e

@@ -33,8 +33,8 @@ agree_with (other t zs) v n w a b = a
 agree_with (number z) v n w a b = a
 agree_with (flag c) v n w a b = a
 agree_with (built c ks) v n w a b =
-  let g = both (is_made c (seen v)) _ a in
-  and_of _ _ g.0 (agree_set ks (parts_of (seen v)) n w g.1 b)
+    let g = both (is_made c (seen v)) _ a in
+    and_of _ _ g.0 (agree_set ks (parts_of (seen v)) n w g.1 b)
 
 -- what is known of a place is known of what stands there
 pub agrees_at : (k : Known) (p : List PatStep) (v : Value) → agrees k v ≡ true → agrees (known_at k p) (value_at v p) ≡ true

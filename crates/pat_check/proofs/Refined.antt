@@ -33,13 +33,13 @@ fails_set n no_pats (and_known k ks) zero x r s = refl
 fails_set n no_pats (and_known k ks) (suc i) x r s = refl
 fails_set n (and_pat p ps) no_knowns i x r s = refl
 fails_set n (and_pat p ps) (and_known k ks) zero x r s = ⊎_elim
-  (λ f. ap (λ y. also (first n y) (later (statuses n ps ks))) (r p (first_fails n (status p k) f)))
-  (λ f. ap (also (first n (status p x))) f ∙ also_fail (first n (status p x)))
-  (also_fails (first n (status p k)) (later (statuses n ps ks)) s)
+    (λ f. ap (λ y. also (first n y) (later (statuses n ps ks))) (r p (first_fails n (status p k) f)))
+    (λ f. ap (also (first n (status p x))) f ∙ also_fail (first n (status p x)))
+    (also_fails (first n (status p k)) (later (statuses n ps ks)) s)
 fails_set n (and_pat p ps) (and_known k ks) (suc i) x r s = ⊎_elim
-  (λ f. ap (λ y. also y (later (statuses n ps (set_known ks i x)))) f)
-  (λ f. ap (λ y. also (first n (status p k)) (later y)) (fails_set n ps ks i x r (later_fails (statuses n ps ks) f)) ∙ also_fail (first n (status p k)))
-  (also_fails (first n (status p k)) (later (statuses n ps ks)) s)
+    (λ f. ap (λ y. also y (later (statuses n ps (set_known ks i x)))) f)
+    (λ f. ap (λ y. also (first n (status p k)) (later y)) (fails_set n ps ks i x r (later_fails (statuses n ps ks) f)) ∙ also_fail (first n (status p k)))
+    (also_fails (first n (status p k)) (later (statuses n ps ks)) s)
 
 refines_with : (k : Known) (n : ℕ) (x : Known) → Refines x (part_known k n) → Refines (with_part k n x) k
 refines_with anything n x r q s = s
@@ -51,9 +51,9 @@ refines_with (built c ks) n x r (bound u y m) s = s
 refines_with (built c ks) n x r (literal u t z) s = refl
 refines_with (built c ks) n x r (truth u b) s = refl
 refines_with (built c ks) n x r (shape u e qs) s = ⊎_elim
-  (λ d. not_if (same_ctor e c) _ d)
-  (λ f. if_fail (same_ctor e c) _ (fails_set (variant_number e) qs ks n x r f))
-  (if_fails (same_ctor e c) (statuses (variant_number e) qs ks) s)
+    (λ d. not_if (same_ctor e c) _ d)
+    (λ f. if_fail (same_ctor e c) _ (fails_set (variant_number e) qs ks n x r f))
+    (if_fails (same_ctor e c) (statuses (variant_number e) qs ks) s)
 
 pub refines_put : (k : Known) (p : List PatStep) (x : Known) → Refines x (known_at k p) → Refines (put k p x) k
 refines_put k [] x r = r
@@ -102,15 +102,15 @@ refines_other z i j zs (shape u c qs) s = refl
 
 pub refines_asked_number : (c : Option IntKind) (z : ℤ) (k : Known) → Unanswered (by.Number c z) k → Refines (number z) k
 refines_asked_number c z k u = ⊎_elim
-  (λ e. subst (Refines (number z)) (sym e) (refines_anything (number z)))
-  (λ e. subst (Refines (number z)) (sym e.2) (refines_number z e.0 e.1 e.3))
-  u
+    (λ e. subst (Refines (number z)) (sym e) (refines_anything (number z)))
+    (λ e. subst (Refines (number z)) (sym e.2) (refines_number z e.0 e.1 e.3))
+    u
 
 pub refines_asked_other : (c : Option IntKind) (z : ℤ) (k : Known) → Unanswered (by.Number c z) k → Refines (other c (z ∷ excluded k)) k
 refines_asked_other c z k u = ⊎_elim
-  (λ e. subst (λ x. Refines (other c (z ∷ excluded x)) x) (sym e) (refines_anything (other c (z ∷ []))))
-  (λ e. subst (λ x. Refines (other c (z ∷ excluded x)) x) (sym e.2) (refines_other z c e.0 e.1))
-  u
+    (λ e. subst (λ x. Refines (other c (z ∷ excluded x)) x) (sym e) (refines_anything (other c (z ∷ []))))
+    (λ e. subst (λ x. Refines (other c (z ∷ excluded x)) x) (sym e.2) (refines_other z c e.0 e.1))
+    u
 
 pub all_still_fail : (ps : List Pat) (k x : Known) → Refines x k → AllFail ps k → AllFail ps x
 all_still_fail [] k x r h = tt

@@ -23,9 +23,9 @@ row_first n (q ∷ qs) k m p v e a = by_case (λ f. row_first (suc n) qs k m p v
     by_case : (next (suc n) qs k ≡ row m p → first_match (suc n) qs v ≡ Some (record { arm = m; binds = bindings p })) → (s : Status) → status q k ≡ s → by_status s n q (next (suc n) qs k) ≡ row m p → first_match n (q ∷ qs) v ≡ Some (record { arm = m; binds = bindings p })
     by_case more fails s f = subst (λ b. cond b (Some (record { arm = n; binds = bindings q })) (first_match (suc n) qs v) ≡ Some (record { arm = m; binds = bindings p })) (sym (fails_match q k v s a)) (more f)
     by_case more sure s f =
-      let x : n ≡ m = cc in
-      let y : q ≡ p = cc in
-      subst (λ b. cond b (Some (record { arm = n; binds = bindings q })) (first_match (suc n) qs v) ≡ Some (record { arm = m; binds = bindings p })) (sym (sure_matches q k v s a)) (λ i. Some (record { arm = x i; binds = bindings (y i) }))
+        let x : n ≡ m = cc in
+        let y : q ≡ p = cc in
+        subst (λ b. cond b (Some (record { arm = n; binds = bindings q })) (first_match (suc n) qs v) ≡ Some (record { arm = m; binds = bindings p })) (sym (sure_matches q k v s a)) (λ i. Some (record { arm = x i; binds = bindings (y i) }))
     by_case more (asks r w) s f = absurd (cc)
 
 -- where no row is left, no pattern matches
@@ -46,6 +46,7 @@ one_matches n (q ∷ qs) k m p v e a = by_case (λ f. one_matches (suc n) qs k m
     or_true : (b : Bool) → b || true ≡ true
     or_true true = refl
     or_true false = refl
+
     by_case : (next (suc n) qs k ≡ row m p → some_match qs v ≡ true) → (s : Status) → status q k ≡ s → by_status s n q (next (suc n) qs k) ≡ row m p → some_match (q ∷ qs) v ≡ true
     by_case more fails s f = subst (λ b. matches q v || b ≡ true) (sym (more f)) (or_true (matches q v))
     by_case more sure s f = subst (λ b. b || some_match qs v ≡ true) (sym (sure_matches q k v s a)) refl
@@ -60,6 +61,6 @@ test_spot Δ n (q ∷ qs) k t p w (hq, hs) g e = by_case (λ f. test_spot Δ (su
     by_case more fails s f = more f
     by_case more sure s f = absurd (cc)
     by_case more (asks r x) s f =
-      let a : r ≡ p = cc in
-      let b : x ≡ w = cc in
-      spot Δ q k t p w hq g (s ∙ (λ i. asks (a i) (b i)))
+        let a : r ≡ p = cc in
+        let b : x ≡ w = cc in
+        spot Δ q k t p w hq g (s ∙ (λ i. asks (a i) (b i)))

@@ -29,8 +29,8 @@ next_at n zero (q ∷ qs) k p e l h m z = (next (suc n) qs k, λ j. by_status (s
     same : n ≡ m
     same = omega (arith, z)
 next_at n (suc i) (q ∷ qs) k p e l h m z =
-  let g = next_at (suc n) i qs k p e (omega arith) h.1 m (omega (arith, z)) in
-  (g.0, ap (λ s. by_status s n q (next (suc n) qs k)) h.0 ∙ g.1)
+    let g = next_at (suc n) i qs k p e (omega arith) h.1 m (omega (arith, z)) in
+    (g.0, ap (λ s. by_status s n q (next (suc n) qs k)) h.0 ∙ g.1)
 
 pub row_at : (i : ℕ) (ps : List Pat) (k : Known) (p : Pat) → p ≡ get_or ps i p → i < length ps → AllFail (take i ps) k → status p k ≡ sure → next 0 ps k ≡ row i p
 row_at i ps k p e l h s = let g = next_at 0 i ps k p e l h i (omega arith) in g.1 ∙ ap (λ x. by_status x i p g.0) s

@@ -41,7 +41,7 @@ copies_few zero b w l = omega arith
 copies_few (suc m) zero w l = absurd (omega arith)
 copies_few (suc m) (suc b) w l = omega (arith, copies_few m b w (omega arith))
 
-weight_least : (b n : ℕ) → 2 ≤ weight b n
+pub weight_least : (b n : ℕ) → 2 ≤ weight b n
 weight_least b zero = omega arith
 weight_least b (suc n) = omega arith
 
@@ -168,30 +168,30 @@ searching_row : (ds : List AdtDecl) (ps : List Pat) (t : Ty) (ss xs : List State
 searching_row ds ps t ss xs y n p e s r = record {
   each = (all_open_parts ds ps t xs y (subst (AllOpen ds ps t) e s.each)).0;
   left_over = λ θ v h. ⊎_elim
-    (λ a. inl a)
-    (λ a. ⊎_elim (λ o. inr o) (λ o. inl (one_matches 0 ps y.known n p v r o)) (open_parts xs y v (subst (λ zs. some_open zs v ≡ true) e a)))
-    (s.left_over θ v h);
+      (λ a. inl a)
+      (λ a. ⊎_elim (λ o. inr o) (λ o. inl (one_matches 0 ps y.known n p v r o)) (open_parts xs y v (subst (λ zs. some_open zs v ≡ true) e a)))
+      (s.left_over θ v h);
 }
 
 weights_parts : (b : ℕ) (ps : List Pat) (ss xs : List State) (y : State) → ss ≡ xs ++ y ∷ [] → state_weights b ps ss ≡ state_weights b ps xs + weight b (left_sum ps y.known)
 weights_parts b ps ss xs y e =
-  let w : state_weights b ps ss ≡ state_weights b ps xs + state_weights b ps (y ∷ []) = ap (state_weights b ps) e ∙ weights_more b ps xs (y ∷ []) in
-  omega (arith, w)
+    let w : state_weights b ps ss ≡ state_weights b ps xs + state_weights b ps (y ∷ []) = ap (state_weights b ps) e ∙ weights_more b ps xs (y ∷ []) in
+    omega (arith, w)
 
 searching_test : (ds : List AdtDecl) (ps : List Pat) (t : Ty) (ss xs zs : List State) (y : State) (n : ℕ) (ks : List Known) → ss ≡ xs ++ y ∷ [] → zs ≡ xs ++ states_of n ks → Searching ds ps t ss → AllFail (take n ps) y.known → Branching ds ps t y.known ks → Searching ds ps t zs
 searching_test ds ps t ss xs zs y n ks e z s f g = subst (Searching ds ps t) (sym z) (record {
   each = all_open_more ds ps t xs (states_of n ks) (all_open_parts ds ps t xs y (subst (AllOpen ds ps t) e s.each)).0 (answers_open ds ps t y.known n ks f g.go);
   left_over = λ θ v h. ⊎_elim
-    (λ a. inl a)
-    (λ a. inr (⊎_elim (λ o. open_left xs (states_of n ks) v o) (λ o. open_right xs (states_of n ks) v (open_answers n ks v (g.one θ v h o))) (open_parts xs y v (subst (λ us. some_open us v ≡ true) e a))))
-    (s.left_over θ v h);
+      (λ a. inl a)
+      (λ a. inr (⊎_elim (λ o. open_left xs (states_of n ks) v o) (λ o. open_right xs (states_of n ks) v (open_answers n ks v (g.one θ v h o))) (open_parts xs y v (subst (λ us. some_open us v ≡ true) e a))))
+      (s.left_over θ v h);
 })
 
 lighter_test : (ds : List AdtDecl) (ps : List Pat) (t : Ty) (ss xs zs : List State) (y : State) (n : ℕ) (ks : List Known) → ss ≡ xs ++ y ∷ [] → zs ≡ xs ++ states_of n ks → Branching ds ps t y.known ks → state_weights (most_branches ds) ps zs < state_weights (most_branches ds) ps ss
 lighter_test ds ps t ss xs zs y n ks e z g =
-  let b = most_branches ds in
-  let u : state_weights b ps zs ≡ state_weights b ps xs + known_weights b ps ks = ap (state_weights b ps) z ∙ weights_more b ps xs (states_of n ks) ∙ ap (λ m. state_weights b ps xs + m) (weights_of b ps n ks) in
-  omega (arith, weights_parts b ps ss xs y e, u, lighter ds ps t y.known ks g)
+    let b = most_branches ds in
+    let u : state_weights b ps zs ≡ state_weights b ps xs + known_weights b ps ks = ap (state_weights b ps) z ∙ weights_more b ps xs (states_of n ks) ∙ ap (λ m. state_weights b ps xs + m) (weights_of b ps n ks) in
+    omega (arith, weights_parts b ps ss xs y e, u, lighter ds ps t y.known ks g)
 
 -- a state that is not free leaves less to look into
 pub searching_goes_on : (ds : List AdtDecl) (ps : List Pat) (t : Ty) (ss xs zs : List State) (y : State) (free : Bool) → AllPats (fields_in ds) ps t → ss ≡ xs ++ y ∷ [] → Searching ds ps t ss → IsLookedInto ds ps y.known xs zs free → free ≡ false → Searching ds ps t zs × (state_weights (most_branches ds) ps zs < state_weights (most_branches ds) ps ss)
@@ -199,14 +199,15 @@ searching_goes_on ds ps t ss xs zs y free h e s l f = by_next (next 0 ps y.known
   where
     by_next : (n : Next) → next 0 ps y.known ≡ n → LeavesBy ds ps y.known n xs zs free → Searching ds ps t zs × (state_weights (most_branches ds) ps zs < state_weights (most_branches ds) ps ss)
     by_next no_row n m = absurd (cc)
-    by_next (row i p) n (m, same) =
-      (subst (Searching ds ps t) (sym same) (searching_row ds ps t ss xs y i p e s n),
-        (let b = most_branches ds in
-        let w : state_weights b ps zs ≡ state_weights b ps xs = ap (state_weights b ps) same in
-        omega (arith, w, weights_parts b ps ss xs y e, weight_least b (left_sum ps y.known))))
+    by_next (row i p) n (m, same) = (
+      subst (Searching ds ps t) (sym same) (searching_row ds ps t ss xs y i p e s n),
+      (let b = most_branches ds in
+          let w : state_weights b ps zs ≡ state_weights b ps xs = ap (state_weights b ps) same in
+          omega (arith, w, weights_parts b ps ss xs y e, weight_least b (left_sum ps y.known))),
+    )
     by_next (test q w) n (m, at, ks, fail, are, is) =
-      let g = branching ds ps t y.known q w ks h (open_at ds ps t ss xs y e s).0 n are in
-      (searching_test ds ps t ss xs zs y at ks e is s fail g, lighter_test ds ps t ss xs zs y at ks e is g)
+        let g = branching ds ps t y.known q w ks h (open_at ds ps t ss xs y e s).0 n are in
+        (searching_test ds ps t ss xs zs y at ks e is s fail g, lighter_test ds ps t ss xs zs y at ks e is g)
 
 -- where a state is free, no arm matches a value of it
 pub free_value : (ds : List AdtDecl) (ps : List Pat) (t : Ty) (ss xs zs : List State) (y : State) (free : Bool) (w : PatValue) → ss ≡ xs ++ y ∷ [] → Searching ds ps t ss → IsLookedInto ds ps y.known xs zs free → free ≡ true → Settles y.known w → IsPatValue (fields_in ds) w t × ((v : Value) → stands_for w v ≡ true → some_match ps v ≡ false)

@@ -23,16 +23,16 @@ mutual
   settled_agrees (number z) w v s a = subst (λ x. stands_for x v ≡ true) s a
   settled_agrees (flag b) w v s a = subst (λ x. stands_for x v ≡ true) s a
   settled_agrees (built c ks) w v (ws, is, s) a =
-    let g = both (is_made c (seen v)) (stand_for_all ws (parts_of (seen v))) (subst (λ x. stands_for x v ≡ true) is a) in
-    and_of _ _ g.0 (settled_agree ks ws (parts_of (seen v)) s g.1)
+      let g = both (is_made c (seen v)) (stand_for_all ws (parts_of (seen v))) (subst (λ x. stands_for x v ≡ true) is a) in
+      and_of _ _ g.0 (settled_agree ks ws (parts_of (seen v)) s g.1)
 
   pub settled_agree : (ks : Knowns) (ws : PatValues) (vs : Values) → SettleAll ks ws → stand_for_all ws vs ≡ true → agree_all ks vs ≡ true
   settled_agree no_knowns ws no_values s a = refl
   settled_agree no_knowns ws (and_value v vs) s a = absurd (let f = subst (λ x. stand_for_all x (and_value v vs) ≡ true) s a in cc)
   settled_agree (and_known k ks) ws no_values (x, xs, is, s, ss) a = absurd (let f = subst (λ y. stand_for_all y no_values ≡ true) is a in cc)
   settled_agree (and_known k ks) ws (and_value v vs) (x, xs, is, s, ss) a =
-    let g = both (stands_for x v) (stand_for_all xs vs) (subst (λ y. stand_for_all y (and_value v vs) ≡ true) is a) in
-    and_of _ _ (settled_agrees k x v s g.0) (settled_agree ks xs vs ss g.1)
+      let g = both (stands_for x v) (stand_for_all xs vs) (subst (λ y. stand_for_all y (and_value v vs) ≡ true) is a) in
+      and_of _ _ (settled_agrees k x v s g.0) (settled_agree ks xs vs ss g.1)
 
 mutual
   pub settled_known : (Δ : Declarations) (k : Known) (w : PatValue) (t : Ty) → Settles k w → IsKnown Δ k t → IsPatValue Δ w t
@@ -54,9 +54,9 @@ settle_more [] [] k w s h = (w, no_parts, refl, h, refl)
 settle_more [] (x ∷ ws) k w s h = absurd (cc)
 settle_more (y ∷ ks) [] k w (x, xs, is, a, b) h = absurd (cc)
 settle_more (y ∷ ks) (z ∷ ws) k w (x, xs, is, a, b) h =
-  let e : x ≡ z = cc in
-  let f : xs ≡ pat_values_of ws = cc in
-  (z, pat_values_of (ws ++ w ∷ []), refl, subst (λ u. Settles y u) e a, settle_more ks ws k w (subst (λ us. SettleAll (knowns_of ks) us) f b) h)
+    let e : x ≡ z = cc in
+    let f : xs ≡ pat_values_of ws = cc in
+    (z, pat_values_of (ws ++ w ∷ []), refl, subst (λ u. Settles y u) e a, settle_more ks ws k w (subst (λ us. SettleAll (knowns_of ks) us) f b) h)
 
 pub take_one : (ks : List Known) (i : ℕ) (k : Known) → k ≡ get_or ks i k → i < length ks → take (i + 1) ks ≡ take i ks ++ k ∷ []
 take_one ks i k e l = subst (λ m. take m ks ≡ take i ks ++ k ∷ []) (let f : suc i ≡ i + 1 = omega arith in f) (front ks i e l)

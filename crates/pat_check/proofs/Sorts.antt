@@ -96,11 +96,11 @@ variants_same d e k j p = cc
 parts_as : (Δ : Declarations) (θ : Tys) (s : Ty) (c : Ctor) (fs : Tys) (u : Value) → PartsOf Δ s c fs → Looks Δ u (core (instance θ s)) → is_made c u ≡ true → HaveSorts Δ (parts_of u) (instances θ fs)
 parts_as Δ θ (tuple ts) Tuple fs u e (vs, is, h) m = subst (λ gs. HaveSorts Δ (parts_of u) (instances θ gs)) e (subst (λ x. HaveSorts Δ (parts_of x) (instances θ ts)) (sym is) h)
 parts_as Δ θ (adt d rs ts) (Variant e k) fs u (gs, same, some, inst) (j, hs, vs, has, is, h) m =
-  let c : Variant e k ≡ Variant d j = ctor_same (Variant e k) (Variant d j) (subst (λ x. is_made (Variant e k) x ≡ true) is m) in
-  let g : gs ≡ hs = some_same (sym some ∙ ap (Δ d) (variants_same e d k j c) ∙ has) in
-  let at_gs : HaveSorts Δ vs (instances (instances θ ts) gs) = subst (λ x. HaveSorts Δ vs (instances (instances θ ts) x)) (sym g) h in
-  let at_fs : HaveSorts Δ vs (instances θ fs) = subst (λ x. HaveSorts Δ vs x) (sym (instances_twice θ ts gs) ∙ ap (instances θ) inst) at_gs in
-  subst (λ x. HaveSorts Δ (parts_of x) (instances θ fs)) (sym is) at_fs
+    let c : Variant e k ≡ Variant d j = ctor_same (Variant e k) (Variant d j) (subst (λ x. is_made (Variant e k) x ≡ true) is m) in
+    let g : gs ≡ hs = some_same (sym some ∙ ap (Δ d) (variants_same e d k j c) ∙ has) in
+    let at_gs : HaveSorts Δ vs (instances (instances θ ts) gs) = subst (λ x. HaveSorts Δ vs (instances (instances θ ts) x)) (sym g) h in
+    let at_fs : HaveSorts Δ vs (instances θ fs) = subst (λ x. HaveSorts Δ vs x) (sym (instances_twice θ ts gs) ∙ ap (instances θ) inst) at_gs in
+    subst (λ x. HaveSorts Δ (parts_of x) (instances θ fs)) (sym is) at_fs
 parts_as Δ θ s c fs u po l m = absurd po
 
 pub parts_sorts : (Δ : Declarations) (θ : Tys) (t : Ty) (c : Ctor) (fs : Tys) (v : Value) → PartsOf Δ (core t) c fs → HasSort Δ v (instance θ t) → is_made c (seen v) ≡ true → HaveSorts Δ (parts_of (seen v)) (instances θ fs)

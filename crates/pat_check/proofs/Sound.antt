@@ -93,9 +93,9 @@ mutual
   sure_matches (shape u c ps) (number y) v s a = absurd (cc)
   sure_matches (shape u c ps) (flag b) v s a = absurd (cc)
   sure_matches (shape u c ps) (built e ks) v s a =
-    let h = if_sure (same_ctor c e) (statuses (variant_number c) ps ks) s in
-    let g = both (is_made e (seen v)) _ a in
-    and_of _ _ (subst (λ d. is_made d (seen v) ≡ true) (sym (ctor_same c e h.0)) g.0) (sure_match_all (variant_number c) ps ks (parts_of (seen v)) h.1 g.1)
+      let h = if_sure (same_ctor c e) (statuses (variant_number c) ps ks) s in
+      let g = both (is_made e (seen v)) _ a in
+      and_of _ _ (subst (λ d. is_made d (seen v) ≡ true) (sym (ctor_same c e h.0)) g.0) (sure_match_all (variant_number c) ps ks (parts_of (seen v)) h.1 g.1)
 
   pub sure_match_all : (n : ℕ) (ps : Pats) (ks : Knowns) (vs : Values) → statuses n ps ks ≡ sure → agree_all ks vs ≡ true → match_all ps vs ≡ true
   sure_match_all n no_pats no_knowns no_values s a = refl
@@ -104,9 +104,9 @@ mutual
   sure_match_all n (and_pat p ps) no_knowns vs s a = absurd (cc)
   sure_match_all n (and_pat p ps) (and_known k ks) no_values s a = absurd (cc)
   sure_match_all n (and_pat p ps) (and_known k ks) (and_value v vs) s a =
-    let h = also_sure (first n (status p k)) (later (statuses n ps ks)) s in
-    let g = both (agrees k v) _ a in
-    and_of _ _ (sure_matches p k v (first_sure n (status p k) h.0) g.0) (sure_match_all n ps ks vs (later_sure (statuses n ps ks) h.1) g.1)
+      let h = also_sure (first n (status p k)) (later (statuses n ps ks)) s in
+      let g = both (agrees k v) _ a in
+      and_of _ _ (sure_matches p k v (first_sure n (status p k) h.0) g.0) (sure_match_all n ps ks vs (later_sure (statuses n ps ks) h.1) g.1)
 
 -- ---- no value of which this is known is matched
 
@@ -178,8 +178,8 @@ mutual
   fails_match (shape u c ps) (number y) v s a = and_left _ _ (number_not_made c y (seen v) a)
   fails_match (shape u c ps) (flag b) v s a = and_left _ _ (flag_not_made c b (seen v) a)
   fails_match (shape u c ps) (built e ks) v s a =
-    let g = both (is_made e (seen v)) _ a in
-    ⊎_elim
+      let g = both (is_made e (seen v)) _ a in
+      ⊎_elim
       (λ d. and_left _ _ (made_other c e (seen v) d g.0))
       (λ f. and_right (is_made c (seen v)) _ (fails_match_all (variant_number c) ps ks (parts_of (seen v)) f g.1))
       (if_fails (same_ctor c e) (statuses (variant_number c) ps ks) s)
@@ -192,8 +192,8 @@ mutual
   fails_match_all n (and_pat p ps) no_knowns (and_value v vs) s a = absurd (cc)
   fails_match_all n (and_pat p ps) (and_known k ks) no_values s a = absurd (cc)
   fails_match_all n (and_pat p ps) (and_known k ks) (and_value v vs) s a =
-    let g = both (agrees k v) _ a in
-    ⊎_elim
+      let g = both (agrees k v) _ a in
+      ⊎_elim
       (λ f. and_left _ _ (fails_match p k v (first_fails n (status p k) f) g.0))
       (λ f. and_right (matches p v) _ (fails_match_all n ps ks vs (later_fails (statuses n ps ks) f) g.1))
       (also_fails (first n (status p k)) (later (statuses n ps ks)) s)

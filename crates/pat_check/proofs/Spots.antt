@@ -80,7 +80,7 @@ pub record SpotIn (Δ : Declarations) (n : ℕ) (ks : Knowns) (ts : Tys) (p : Li
 
 here : (Δ : Declarations) (k : Known) (t : Ty) (q p : List PatStep) (x w : Test) → Asked Δ x t → Unanswered x k → q ≡ [] → asks q x ≡ asks p w → Spot Δ k t p w
 here Δ k t q p x w a u is e =
-  subst (λ y. Spot Δ k t p y) (let f : x ≡ w = cc in f) (subst (λ r. Spot Δ k t r x) (let f : [] ≡ p = cc in f) (record { ty = t; asked = a; unanswered = u; may_put = λ y h. h; reads = λ θ v h b. h }))
+    subst (λ y. Spot Δ k t p y) (let f : x ≡ w = cc in f) (subst (λ r. Spot Δ k t r x) (let f : [] ≡ p = cc in f) (record { ty = t; asked = a; unanswered = u; may_put = λ y h. h; reads = λ θ v h b. h }))
 
 count_same : (Δ : Declarations) (ps : Pats) (ts : Tys) → ArePats Δ ps ts → count_pats ps ≡ count_tys ts
 count_same Δ no_pats no_tys h = refl
@@ -91,16 +91,16 @@ count_same Δ (and_pat p ps) (and_ty t ts) h = ap suc (count_same Δ ps ts h.1)
 first_of_all : (Δ : Declarations) (θ : Tys) (k : Known) (ks : Knowns) (t : Ty) (ts : Tys) (vs : Values) → HaveSorts Δ vs (instances θ (and_ty t ts)) → agree_all (and_known k ks) vs ≡ true → HasSort Δ (nth_value vs 0) (instance θ t) × (agrees k (nth_value vs 0) ≡ true)
 first_of_all Δ θ k ks t ts no_values h a = absurd (cc)
 first_of_all Δ θ k ks t ts (and_value v vs) h a =
-  let l = looks_all Δ (and_value v vs) (instances θ (and_ty t ts)) h in
-  let e : v ≡ l.0 = (let f = l.2 in cc) in
-  (subst (λ x. HasSort Δ x (instance θ t)) (sym e) l.3, (both (agrees k v) _ a).0)
+    let l = looks_all Δ (and_value v vs) (instances θ (and_ty t ts)) h in
+    let e : v ≡ l.0 = (let f = l.2 in cc) in
+    (subst (λ x. HasSort Δ x (instance θ t)) (sym e) l.3, (both (agrees k v) _ a).0)
 
 rest_of_all : (Δ : Declarations) (θ : Tys) (k : Known) (ks : Knowns) (t : Ty) (ts : Tys) (vs : Values) → HaveSorts Δ vs (instances θ (and_ty t ts)) → agree_all (and_known k ks) vs ≡ true → (us : Values) × HaveSorts Δ us (instances θ ts) × (agree_all ks us ≡ true) × ((n : ℕ) → nth_value vs (suc n) ≡ nth_value us n)
 rest_of_all Δ θ k ks t ts no_values h a = absurd (cc)
 rest_of_all Δ θ k ks t ts (and_value v vs) h a =
-  let l = looks_all Δ (and_value v vs) (instances θ (and_ty t ts)) h in
-  let e : vs ≡ l.1 = (let f = l.2 in cc) in
-  (vs, subst (λ x. HaveSorts Δ x (instances θ ts)) (sym e) l.4, (both (agrees k v) _ a).1, λ n. refl)
+    let l = looks_all Δ (and_value v vs) (instances θ (and_ty t ts)) h in
+    let e : vs ≡ l.1 = (let f = l.2 in cc) in
+    (vs, subst (λ x. HaveSorts Δ x (instances θ ts)) (sym e) l.4, (both (agrees k v) _ a).1, λ n. refl)
 
 mutual
   pub spot : (Δ : Declarations) (q : Pat) (k : Known) (t : Ty) (p : List PatStep) (w : Test) → IsPat Δ q t → IsKnown Δ k t → status q k ≡ asks p w → Spot Δ k t p w
@@ -108,8 +108,8 @@ mutual
   spot Δ (bound u x m) k t p w h g s = absurd (cc)
   spot Δ (literal u i z) anything t p w h g s = here Δ anything t [] p (by.Number i z) w h (inl refl) refl s
   spot Δ (literal u i z) (other j zs) t p w h g s =
-    let a = asks_in (among z zs) [] (by.Number i z) p w s in
-    here Δ (other j zs) t [] p (by.Number i z) w h (inr (j, zs, refl, a.0)) refl a.1
+      let a = asks_in (among z zs) [] (by.Number i z) p w s in
+      here Δ (other j zs) t [] p (by.Number i z) w h (inr (j, zs, refl, a.0)) refl a.1
   spot Δ (literal u i z) (number y) t p w h g s = sure_asks (int_eq z y) p w s
   spot Δ (literal u i z) (flag b) t p w h g s = absurd (cc)
   spot Δ (literal u i z) (built c ks) t p w h g s = absurd (cc)
@@ -123,19 +123,19 @@ mutual
   spot Δ (shape u c ps) (number y) t p w h g s = absurd (cc)
   spot Δ (shape u c ps) (flag b) t p w h g s = absurd (cc)
   spot Δ (shape u c ps) (built e ks) t p w (fs, po, h) (gs, pg, g) s =
-    let a = if_asks (same_ctor c e) (statuses (variant_number c) ps ks) p w s in
-    let ce = ctor_same c e a.0 in
-    let same : fs ≡ gs = parts_same Δ (core t) e fs gs (subst (λ d. PartsOf Δ (core t) d fs) ce po) pg in
-    let i = spot_in Δ (variant_number c) ps ks gs p w (subst (λ us. ArePats Δ ps us) same h) g a.1 in
-    subst (λ q. Spot Δ (built e ks) t q w) (sym i.path) (record {
-      ty = i.ty;
-      asked = i.asked;
-      unanswered = i.unanswered;
-      may_put = λ x hx. (gs, pg, i.may_put x hx);
-      reads = λ θ v hv b.
-        let m = both (is_made e (seen v)) _ b in
-        i.reads θ (parts_of (seen v)) (parts_sorts Δ θ t e gs v pg hv m.0) m.1;
-    })
+      let a = if_asks (same_ctor c e) (statuses (variant_number c) ps ks) p w s in
+      let ce = ctor_same c e a.0 in
+      let same : fs ≡ gs = parts_same Δ (core t) e fs gs (subst (λ d. PartsOf Δ (core t) d fs) ce po) pg in
+      let i = spot_in Δ (variant_number c) ps ks gs p w (subst (λ us. ArePats Δ ps us) same h) g a.1 in
+      subst (λ q. Spot Δ (built e ks) t q w) (sym i.path) (record {
+        ty = i.ty;
+        asked = i.asked;
+        unanswered = i.unanswered;
+        may_put = λ x hx. (gs, pg, i.may_put x hx);
+        reads = λ θ v hv b.
+            let m = both (is_made e (seen v)) _ b in
+            i.reads θ (parts_of (seen v)) (parts_sorts Δ θ t e gs v pg hv m.0) m.1;
+      })
 
   pub spot_in : (Δ : Declarations) (n : ℕ) (ps : Pats) (ks : Knowns) (ts : Tys) (p : List PatStep) (w : Test) → ArePats Δ ps ts → AreKnown Δ ks ts → statuses n ps ks ≡ asks p w → SpotIn Δ n ks ts p w
   spot_in Δ n no_pats no_knowns ts p w h g s = absurd (cc)
@@ -143,35 +143,35 @@ mutual
   spot_in Δ n (and_pat q ps) no_knowns ts p w h g s = absurd (cc)
   spot_in Δ n (and_pat q ps) (and_known k ks) no_tys p w h g s = absurd h
   spot_in Δ n (and_pat q ps) (and_known k ks) (and_ty t ts) p w (hq, hs) (gk, gs) s =
-    ⊎_elim
+      ⊎_elim
       (λ e.
-        let a = first_asks n (status q k) p w e in
-        let i = spot Δ q k t a.0 w hq gk a.1 in
-        record {
-          at = 0;
-          rest = a.0;
-          path = a.2;
-          ty = i.ty;
-          asked = i.asked;
-          unanswered = i.unanswered;
-          may_put = λ x hx. (i.may_put x hx, gs);
-          reads = λ θ vs hv b.
+      let a = first_asks n (status q k) p w e in
+      let i = spot Δ q k t a.0 w hq gk a.1 in
+      record {
+        at = 0;
+        rest = a.0;
+        path = a.2;
+        ty = i.ty;
+        asked = i.asked;
+        unanswered = i.unanswered;
+        may_put = λ x hx. (i.may_put x hx, gs);
+        reads = λ θ vs hv b.
             let f = first_of_all Δ θ k ks t ts vs hv b in
             i.reads θ (nth_value vs 0) f.0 f.1;
-        })
+      })
       (λ e.
-        let a = later_asks (statuses n ps ks) p w e.1 in
-        let i = spot_in Δ n ps ks ts a.0 w hs gs a.1 in
-        record {
-          at = suc i.at;
-          rest = i.rest;
-          path = a.2 ∙ ap next_part i.path;
-          ty = i.ty;
-          asked = i.asked;
-          unanswered = i.unanswered;
-          may_put = λ x hx. (gk, i.may_put x hx);
-          reads = λ θ vs hv b.
+      let a = later_asks (statuses n ps ks) p w e.1 in
+      let i = spot_in Δ n ps ks ts a.0 w hs gs a.1 in
+      record {
+        at = suc i.at;
+        rest = i.rest;
+        path = a.2 ∙ ap next_part i.path;
+        ty = i.ty;
+        asked = i.asked;
+        unanswered = i.unanswered;
+        may_put = λ x hx. (gk, i.may_put x hx);
+        reads = λ θ vs hv b.
             let f = rest_of_all Δ θ k ks t ts vs hv b in
             subst (λ u. HasSort Δ (value_at u i.rest) (instance θ i.ty)) (sym (f.3 i.at)) (i.reads θ f.0 f.1 f.2);
-        })
+      })
       (also_asks (first n (status q k)) (later (statuses n ps ks)) p w s)

@@ -9,6 +9,7 @@ pub mod KnownCode
 pub mod KnownFalls
 pub mod KnownTypes
 pub mod KnownView
+pub mod Laws
 pub mod PatValue
 pub mod PatValueCode
 pub mod PatValueFalls
@@ -17,5 +18,6 @@ pub mod Rows
 pub mod Settled
 pub mod States
 pub mod Status
+pub mod Tasks
 pub mod Tree
 pub mod Typed

@@ -12,11 +12,7 @@ pub struct State {
 }
 
 /// Puts a state for each of these on top.
-pub fn push_states(
-    states: &mut Vec<State>,
-    from: usize,
-    branches: &[Known],
-) -> Result<(), NoMemory>
+pub fn push_states(states: &mut Vec<State>, from: usize, branches: &[Known]) -> Result<(), NoMemory>
     ensures { IfOk result (λ done. states.new.items ≡ states.old.items ++ states_of from branches.now) }
 {
     for i in 0..branches.len() {
