@@ -55,7 +55,8 @@ tuple_made : (Δ : Declarations) (θ : Tys) (s : Ty) (fs : Tys) (u : Value) → 
 tuple_made Δ θ (tuple ts) fs u e (vs, is, h) = (subst (λ x. is_made Tuple x ≡ true) (sym is) refl, subst (λ gs. HaveSorts Δ (parts_of u) (instances θ gs)) e (subst (λ x. HaveSorts Δ (parts_of x) (instances θ ts)) (sym is) h))
 tuple_made Δ θ s fs u p l = absurd p
 
-pub at_tuple : (Δ : Declarations) (t : Ty) (k : Known) (p : List PatStep) (n : ℕ) → Spot Δ k t p (by.Made Tuple n) → (θ : Tys) (v : Value) → HasSort Δ v (instance θ t) → agrees k v ≡ true → agrees (put k p (built Tuple (all_anything n))) v ≡ true
+pub at_tuple : (Δ : Declarations) (t : Ty) (k : Known) (p : List PatStep) (n : ℕ) → Spot Δ k t p (by.Made Tuple n) → (θ : Tys) (v : Value) → HasSort Δ v (instance θ t) → agrees k v ≡ true
+    → agrees (put k p (built Tuple (all_anything n))) v ≡ true
 at_tuple Δ t k p n i θ v h a =
     let fs = i.asked.0 in
     let m = tuple_made Δ θ (core i.ty) fs (seen (value_at v p)) i.asked.1 (looks_behind Δ θ i.ty (core i.ty) (value_at v p) refl (i.reads θ v h a)) in
@@ -64,7 +65,8 @@ at_tuple Δ t k p n i θ v h a =
 
 -- ---- the variants of a declared type
 
-adt_made : (Δ : Declarations) (θ : Tys) (s : Ty) (d : AdtId) (k : ℕ) (fs : Tys) (u : Value) → PartsOf Δ s (Variant d k) fs → Looks Δ u (core (instance θ s)) → (j : ℕ) × (gs : Tys) × (Δ d j ≡ Some gs) × (is_made (Variant d j) u ≡ true) × (agree_all (all_anything (count_tys gs)) (parts_of u) ≡ true) × (variant_seen u ≡ j)
+adt_made : (Δ : Declarations) (θ : Tys) (s : Ty) (d : AdtId) (k : ℕ) (fs : Tys) (u : Value) → PartsOf Δ s (Variant d k) fs → Looks Δ u (core (instance θ s))
+    → (j : ℕ) × (gs : Tys) × (Δ d j ≡ Some gs) × (is_made (Variant d j) u ≡ true) × (agree_all (all_anything (count_tys gs)) (parts_of u) ≡ true) × (variant_seen u ≡ j)
 adt_made Δ θ (adt e rs ts) d k fs u (is, same, some, inst) (j, gs, vs, has, made, h) = (
   j,
   gs,
@@ -89,7 +91,8 @@ at_variant Δ t k p d m n i θ v h a =
 
 -- ---- truth values
 
-pub at_truth : (Δ : Declarations) (t : Ty) (k : Known) (p : List PatStep) → Spot Δ k t p (by.Truth) → (θ : Tys) (v : Value) → HasSort Δ v (instance θ t) → agrees k v ≡ true → (c : Bool) × (seen (value_at v p) ≡ Flag c) × (agrees (put k p (flag c)) v ≡ true)
+pub at_truth : (Δ : Declarations) (t : Ty) (k : Known) (p : List PatStep) → Spot Δ k t p (by.Truth) → (θ : Tys) (v : Value) → HasSort Δ v (instance θ t) → agrees k v ≡ true
+    → (c : Bool) × (seen (value_at v p) ≡ Flag c) × (agrees (put k p (flag c)) v ≡ true)
 at_truth Δ t k p i θ v h a =
     let l = looks_behind Δ θ i.ty bool (value_at v p) i.asked (i.reads θ v h a) in
     (l.0, l.1, agrees_put k p (flag l.0) v a (flag_at l.0 (seen (value_at v p)) l.1))
@@ -122,7 +125,8 @@ pub record AtOther (k : Known) (p : List PatStep) (c : Option IntKind) (z : ℤ)
   pub not_among : among integer (z ∷ excluded (known_at k p)) ≡ false
   pub agreed : agrees (put k p (other c (z ∷ excluded (known_at k p)))) v ≡ true
 
-pub at_number : (Δ : Declarations) (t : Ty) (k : Known) (p : List PatStep) (c : Option IntKind) (z : ℤ) → Spot Δ k t p (by.Number c z) → (θ : Tys) (v : Value) → HasSort Δ v (instance θ t) → agrees k v ≡ true → ((seen (value_at v p) ≡ Number z) × (agrees (put k p (number z)) v ≡ true)) ⊎ AtOther k p c z v
+pub at_number : (Δ : Declarations) (t : Ty) (k : Known) (p : List PatStep) (c : Option IntKind) (z : ℤ) → Spot Δ k t p (by.Number c z) → (θ : Tys) (v : Value) → HasSort Δ v (instance θ t)
+    → agrees k v ≡ true → ((seen (value_at v p) ≡ Number z) × (agrees (put k p (number z)) v ≡ true)) ⊎ AtOther k p c z v
 at_number Δ t k p c z i θ v h a = by_number (looks_integer Δ θ c (seen (value_at v p)) (looks_behind Δ θ i.ty (integers c) (value_at v p) i.asked.0 (i.reads θ v h a)))
   where
     by_test : (y : ℤ) → seen (value_at v p) ≡ Number y → is_integer c y ≡ true → (b : Bool) → int_eq y z ≡ b → ((seen (value_at v p) ≡ Number z) × (agrees (put k p (number z)) v ≡ true)) ⊎ AtOther k p c z v

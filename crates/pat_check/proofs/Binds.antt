@@ -35,7 +35,8 @@ parts_more n j m (suc i) (x ∷ ps) p e is l =
     ap (λ bs. under_part n j (bindings x) ++ bs) (parts_more n (suc j) m i ps p (omega (arith, e)) is (omega arith)) ∙ sym (assoc (under_part n j (bindings x)) (bindings_from n (suc j) (pats_of (take i ps))) (under_part n m (bindings p)))
 
 -- the bindings of one more part
-pub part_bound : (q r : List PatStep) (n i : ℕ) (ps : List Pat) (p : Pat) (old now new : List Binding) → p ≡ get_or ps i p → i < length ps → r ≡ q ++ record { variant = n; field = i } ∷ [] → now ≡ old ++ under q (bindings_from n 0 (pats_of (take i ps))) → new ≡ now ++ under r (bindings p) → new ≡ old ++ under q (bindings_from n 0 (pats_of (take (i + 1) ps)))
+pub part_bound : (q r : List PatStep) (n i : ℕ) (ps : List Pat) (p : Pat) (old now new : List Binding) → p ≡ get_or ps i p → i < length ps → r ≡ q ++ record { variant = n; field = i } ∷ []
+    → now ≡ old ++ under q (bindings_from n 0 (pats_of (take i ps))) → new ≡ now ++ under r (bindings p) → new ≡ old ++ under q (bindings_from n 0 (pats_of (take (i + 1) ps)))
 part_bound q r n i ps p old now new is l er en e =
     let at : suc i ≡ i + 1 = omega arith in
     let more = parts_more n 0 i i ps p (omega arith) is l in

@@ -81,14 +81,16 @@ or_right false b e = e
 
 -- ---- the variants
 
-variants_go : (Δ : Declarations) (ps : List Pat) (t : Ty) (k : Known) (p : List PatStep) (d : AdtId) (l n : ℕ) → Spot Δ k t p (by.Made (Variant d l) n) → next 0 ps k ≡ test p (by.Made (Variant d l) n) → (j : ℕ) (fss : List Tys) → ((i : ℕ) (fs : Tys) → slice_get fss i ≡ Some fs → Δ d (j + i) ≡ Some fs) → AllGo Δ ps t k (variant_branches k p d j fss)
+variants_go : (Δ : Declarations) (ps : List Pat) (t : Ty) (k : Known) (p : List PatStep) (d : AdtId) (l n : ℕ) → Spot Δ k t p (by.Made (Variant d l) n)
+    → next 0 ps k ≡ test p (by.Made (Variant d l) n) → (j : ℕ) (fss : List Tys) → ((i : ℕ) (fs : Tys) → slice_get fss i ≡ Some fs → Δ d (j + i) ≡ Some fs) → AllGo Δ ps t k (variant_branches k p d j fss)
 variants_go Δ ps t k p d l n i e j [] h = tt
 variants_go Δ ps t k p d l n i e j (fs ∷ fss) h = (
   goes_variant Δ ps t k p d l n j fs i e (subst (λ m. Δ d m ≡ Some fs) (let f : j + 0 ≡ j = omega arith in f) (h 0 fs refl)),
   variants_go Δ ps t k p d l n i e (suc j) fss (λ m gs g. subst (λ x. Δ d x ≡ Some gs) (let f : j + suc m ≡ suc j + m = omega arith in f) (h (suc m) gs g)),
 )
 
-one_variant : (k : Known) (p : List PatStep) (d : AdtId) (v : Value) (j : ℕ) (fss : List Tys) (i m : ℕ) (fs : Tys) → m ≡ j + i → slice_get fss i ≡ Some fs → agrees (put k p (built (Variant d m) (all_anything (count_tys fs)))) v ≡ true → some_agrees (variant_branches k p d j fss) v ≡ true
+one_variant : (k : Known) (p : List PatStep) (d : AdtId) (v : Value) (j : ℕ) (fss : List Tys) (i m : ℕ) (fs : Tys) → m ≡ j + i → slice_get fss i ≡ Some fs
+    → agrees (put k p (built (Variant d m) (all_anything (count_tys fs)))) v ≡ true → some_agrees (variant_branches k p d j fss) v ≡ true
 one_variant k p d v j [] i m fs e g a = absurd (cc)
 one_variant k p d v j (gs ∷ fss) zero m fs e g a =
     let same : gs ≡ fs = cc in
@@ -100,7 +102,8 @@ count_branches : (k : Known) (p : List PatStep) (d : AdtId) (j : ℕ) (fss : Lis
 count_branches k p d j [] = refl
 count_branches k p d j (fs ∷ fss) = ap suc (count_branches k p d (suc j) fss)
 
-variant_branching : (ds : List AdtDecl) (ps : List Pat) (t : Ty) (k : Known) (p : List PatStep) (d : AdtId) (l n : ℕ) → Spot (fields_in ds) k t p (by.Made (Variant d l) n) → next 0 ps k ≡ test p (by.Made (Variant d l) n) → Branching ds ps t k (variant_branches k p d 0 (field_lists ds d))
+variant_branching : (ds : List AdtDecl) (ps : List Pat) (t : Ty) (k : Known) (p : List PatStep) (d : AdtId) (l n : ℕ) → Spot (fields_in ds) k t p (by.Made (Variant d l) n)
+    → next 0 ps k ≡ test p (by.Made (Variant d l) n) → Branching ds ps t k (variant_branches k p d 0 (field_lists ds d))
 variant_branching ds ps t k p d l n i e = record {
   go = variants_go (fields_in ds) ps t k p d l n i e 0 (field_lists ds d) (λ m fs g. subst (λ x. fields_in ds d x ≡ Some fs) (let f : m ≡ 0 + m = omega arith in f) (fields_at ds d m ∙ g));
   one = λ θ v h a.
@@ -125,7 +128,8 @@ no_closure Δ (snapshot t) n fs p = absurd p
 
 -- ---- integers
 
-integer_branching : (ds : List AdtDecl) (ps : List Pat) (t : Ty) (k : Known) (p : List PatStep) (c : Option IntKind) (z : ℤ) (ks : List Known) → Spot (fields_in ds) k t p (by.Number c z) → next 0 ps k ≡ test p (by.Number c z) → AreIntegerBranches k p c z (z ∷ excluded (known_at k p)) ks → Branching ds ps t k ks
+integer_branching : (ds : List AdtDecl) (ps : List Pat) (t : Ty) (k : Known) (p : List PatStep) (c : Option IntKind) (z : ℤ) (ks : List Known) → Spot (fields_in ds) k t p (by.Number c z)
+    → next 0 ps k ≡ test p (by.Number c z) → AreIntegerBranches k p c z (z ∷ excluded (known_at k p)) ks → Branching ds ps t k ks
 integer_branching ds ps t k p c z ks i e b = ⊎_elim
     (λ x. subst (Branching ds ps t k) (sym x.1) (record {
       go = (goes_number (fields_in ds) ps t k p c z i e, tt);
@@ -165,5 +169,6 @@ branching_at ds ps t k p (by.Made (Closure c) n) ks i e b = no_closure (fields_i
 branching_at ds ps t k p (by.Number c z) ks i e b = integer_branching ds ps t k p c z ks i e b
 branching_at ds ps t k p by.Truth ks i e b = subst (Branching ds ps t k) (sym b) (truth_branching ds ps t k p i e)
 
-pub branching : (ds : List AdtDecl) (ps : List Pat) (t : Ty) (k : Known) (p : List PatStep) (w : Test) (ks : List Known) → AllPats (fields_in ds) ps t → IsKnown (fields_in ds) k t → next 0 ps k ≡ test p w → AreBranches ds k p w ks → Branching ds ps t k ks
+pub branching : (ds : List AdtDecl) (ps : List Pat) (t : Ty) (k : Known) (p : List PatStep) (w : Test) (ks : List Known) → AllPats (fields_in ds) ps t → IsKnown (fields_in ds) k t
+    → next 0 ps k ≡ test p w → AreBranches ds k p w ks → Branching ds ps t k ks
 branching ds ps t k p w ks h g e b = branching_at ds ps t k p w ks (test_spot (fields_in ds) 0 ps k t p w h g e) e b

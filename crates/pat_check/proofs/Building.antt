@@ -47,7 +47,8 @@ decided_last : (n : ℕ) (k : Known) (ks : List Known) (zs : List Task) → reve
 decided_last n k ks zs = ap (λ us. us ++ zs) (reverse_first (task.Decide (record { from = n; known = k })) (decides n ks)) ∙ assoc (reverse (decides n ks)) (task.Decide (record { from = n; known = k }) ∷ []) zs
 
 -- the trees of the branches come first
-branches_finish : (ds : List AdtDecl) (ps : List Pat) (n : ℕ) (ks : List Known) (zs : List Task) (rs : List Decision) (D : Decision) → Finishes ds ps (reverse (decides n ks) ++ zs) rs D → (Ds : List Decision) × AreTrees ds ps ks Ds × (length Ds ≡ length ks) × Finishes ds ps zs (Ds ++ rs) D
+branches_finish : (ds : List AdtDecl) (ps : List Pat) (n : ℕ) (ks : List Known) (zs : List Task) (rs : List Decision) (D : Decision) → Finishes ds ps (reverse (decides n ks) ++ zs) rs D
+    → (Ds : List Decision) × AreTrees ds ps ks Ds × (length Ds ≡ length ks) × Finishes ds ps zs (Ds ++ rs) D
 branches_finish ds ps n [] zs rs D f = ([], no_trees, refl, f)
 branches_finish ds ps n (k ∷ ks) zs rs D f =
     let g = branches_finish ds ps n ks (task.Decide (record { from = n; known = k }) ∷ zs) rs D (subst (λ ts. Finishes ds ps ts rs D) (decided_last n k ks zs) f) in
@@ -67,7 +68,8 @@ drop_front (suc n) [] ys e = absurd (omega (arith, e))
 drop_front (suc n) (x ∷ xs) ys e = drop_front n xs ys (omega (arith, e))
 
 -- a test whose branches are still to be decided finishes as the test does
-test_finishes : (ds : List AdtDecl) (ps : List Pat) (k : Known) (q : List PatStep) (w : Test) (n : ℕ) (ks : List Known) (from : ℕ) (ts : List Task) (rs : List Decision) (D : Decision) → next 0 ps k ≡ test q w → AreBranches ds k q w ks → Finishes ds ps (reverse (decides n ks) ++ task.Join q w (length ks) ∷ ts) rs D → Finishes ds ps (task.Decide (record { from = from; known = k }) ∷ ts) rs D
+test_finishes : (ds : List AdtDecl) (ps : List Pat) (k : Known) (q : List PatStep) (w : Test) (n : ℕ) (ks : List Known) (from : ℕ) (ts : List Task) (rs : List Decision) (D : Decision)
+    → next 0 ps k ≡ test q w → AreBranches ds k q w ks → Finishes ds ps (reverse (decides n ks) ++ task.Join q w (length ks) ∷ ts) rs D → Finishes ds ps (task.Decide (record { from = from; known = k }) ∷ ts) rs D
 test_finishes ds ps k q w n ks from ts rs D e are f =
     let g = branches_finish ds ps n ks (task.Join q w (length ks) ∷ ts) rs D f in
     let E = g.3.0 in
@@ -149,7 +151,8 @@ front_tasks ds ps t ts xs y ms e b = all_tasks_parts ds ps t xs y (subst (AllTas
 abbrev pub GoesOn : List AdtDecl → List Pat → Ty → List Task → List Task → List Decision → Type 0
 GoesOn ds ps t ts us ns = Building ds ps t us ns × (task_weights (most_branches ds) ps us < task_weights (most_branches ds) ps ts)
 
-leaf_made : (ds : List AdtDecl) (ps : List Pat) (t : Ty) (ts xs us : List Task) (s : State) (ms ns : List Decision) (n : ℕ) (p : Pat) → ts ≡ xs ++ task.Decide s ∷ [] → Building ds ps t ts ms → next 0 ps s.known ≡ row n p → us ≡ xs → ns ≡ ms ++ leaf n (bindings p) ∷ [] → GoesOn ds ps t ts us ns
+leaf_made : (ds : List AdtDecl) (ps : List Pat) (t : Ty) (ts xs us : List Task) (s : State) (ms ns : List Decision) (n : ℕ) (p : Pat) → ts ≡ xs ++ task.Decide s ∷ [] → Building ds ps t ts ms
+    → next 0 ps s.known ≡ row n p → us ≡ xs → ns ≡ ms ++ leaf n (bindings p) ∷ [] → GoesOn ds ps t ts us ns
 leaf_made ds ps t ts xs us s ms ns n p e b r is stands = (
   record {
     each = subst (AllTasks ds ps t) (sym is) (front_tasks ds ps t ts xs (task.Decide s) ms e b).0;
@@ -164,7 +167,9 @@ leaf_made ds ps t ts xs us s ms ns n p e b r is stands = (
 tests_reversed : (xs : List Task) (j : Task) (n : ℕ) (ks : List Known) → reverse ((xs ++ j ∷ []) ++ decides n ks) ≡ reverse (decides n ks) ++ j ∷ reverse xs
 tests_reversed xs j n ks = reverse-append (xs ++ j ∷ []) (decides n ks) ∙ ap (λ us. reverse (decides n ks) ++ us) (reverse_last xs j)
 
-test_made : (ds : List AdtDecl) (ps : List Pat) (t : Ty) (ts xs us : List Task) (s : State) (ms ns : List Decision) (q : List PatStep) (w : Test) (n : ℕ) (ks : List Known) → AllPats (fields_in ds) ps t → ts ≡ xs ++ task.Decide s ∷ [] → Building ds ps t ts ms → next 0 ps s.known ≡ test q w → AllFail (take n ps) s.known → AreBranches ds s.known q w ks → us ≡ (xs ++ task.Join q w (length ks) ∷ []) ++ decides n ks → ns ≡ ms → GoesOn ds ps t ts us ns
+test_made : (ds : List AdtDecl) (ps : List Pat) (t : Ty) (ts xs us : List Task) (s : State) (ms ns : List Decision) (q : List PatStep) (w : Test) (n : ℕ) (ks : List Known)
+    → AllPats (fields_in ds) ps t → ts ≡ xs ++ task.Decide s ∷ [] → Building ds ps t ts ms → next 0 ps s.known ≡ test q w → AllFail (take n ps) s.known → AreBranches ds s.known q w ks
+    → us ≡ (xs ++ task.Join q w (length ks) ∷ []) ++ decides n ks → ns ≡ ms → GoesOn ds ps t ts us ns
 test_made ds ps t ts xs us s ms ns q w n ks h e b r fail are is same =
     let front = front_tasks ds ps t ts xs (task.Decide s) ms e b in
     let g = branching ds ps t s.known q w ks h front.1.0 r are in
@@ -176,11 +181,13 @@ test_made ds ps t ts xs us s ms ns q w n ks h e b r fail are is same =
             (subst (λ vs. Finishes ds ps vs (reverse ms) D) (ap reverse is ∙ tests_reversed xs j n ks) (subst (λ rs. Finishes ds ps (reverse us) (reverse rs) D) same f)));
       },
       (let c = most_branches ds in
-          let u : task_weights c ps us ≡ (task_weights c ps xs + task_weights c ps (j ∷ [])) + known_weights c ps ks = ap (task_weights c ps) is ∙ weights_more c ps (xs ++ j ∷ []) (decides n ks) ∙ (λ i. weights_more c ps xs (j ∷ []) i + weights_of c ps n ks i) in
+          let u : task_weights c ps us ≡ (task_weights c ps xs + task_weights c ps (j ∷ [])) + known_weights c ps ks = ap (task_weights c ps) is ∙ weights_more c ps (xs ++ j ∷ []) (decides n ks) ∙
+                (λ i. weights_more c ps xs (j ∷ []) i + weights_of c ps n ks i) in
           omega (arith, u, weights_parts c ps ts xs (task.Decide s) e, lighter ds ps t s.known ks g)),
     )
 
-join_made : (ds : List AdtDecl) (ps : List Pat) (t : Ty) (ts xs us : List Task) (ms ns : List Decision) (q : List PatStep) (w : Test) (n : ℕ) → ts ≡ xs ++ task.Join q w n ∷ [] → Building ds ps t ts ms → us ≡ xs → Joins ds q w n ms ns → GoesOn ds ps t ts us ns
+join_made : (ds : List AdtDecl) (ps : List Pat) (t : Ty) (ts xs us : List Task) (ms ns : List Decision) (q : List PatStep) (w : Test) (n : ℕ) → ts ≡ xs ++ task.Join q w n ∷ []
+    → Building ds ps t ts ms → us ≡ xs → Joins ds q w n ms ns → GoesOn ds ps t ts us ns
 join_made ds ps t ts xs us ms ns q w n e b is (Ds, rest, E, count, taken, node, stands) = (
   record {
     each = subst (AllTasks ds ps t) (sym is) (front_tasks ds ps t ts xs (task.Join q w n) ms e b).0;
@@ -201,7 +208,8 @@ join_made ds ps t ts xs us ms ns q w n e b is (Ds, rest, E, count, taken, node, 
     top = ap reverse taken ∙ reverse-append rest (reverse Ds) ∙ ap (λ us. us ++ reverse rest) (reverse-reverse Ds)
 
 -- what is done leaves less to do
-pub building_goes_on : (ds : List AdtDecl) (ps : List Pat) (t : Ty) (ts xs us : List Task) (y : Task) (ms ns : List Decision) → AllPats (fields_in ds) ps t → ts ≡ xs ++ y ∷ [] → Building ds ps t ts ms → IsDone ds ps y xs ms us ns → GoesOn ds ps t ts us ns
+pub building_goes_on : (ds : List AdtDecl) (ps : List Pat) (t : Ty) (ts xs us : List Task) (y : Task) (ms ns : List Decision) → AllPats (fields_in ds) ps t → ts ≡ xs ++ y ∷ []
+    → Building ds ps t ts ms → IsDone ds ps y xs ms us ns → GoesOn ds ps t ts us ns
 building_goes_on ds ps t ts xs us (task.Decide s) ms ns h e b d = by_next (next 0 ps s.known) refl d
   where
     by_next : (n : Next) → next 0 ps s.known ≡ n → DecidesBy ds ps s.known n xs ms us ns → GoesOn ds ps t ts us ns

@@ -34,7 +34,8 @@ fewer_left n (q ∷ qs) k p w x e a = by_case (λ f. fewer_left (suc n) qs k p w
     no_more_all [] = omega arith
     no_more_all (r ∷ rs) = omega (arith, no_more_put k p x a.0 r, no_more_all rs)
 
-    by_case : (next (suc n) qs k ≡ test p w → left_sum qs (put k p x) < left_sum qs k) → left_sum qs (put k p x) ≤ left_sum qs k → (s : Status) → status q k ≡ s → by_status s n q (next (suc n) qs k) ≡ test p w → left_sum (q ∷ qs) (put k p x) < left_sum (q ∷ qs) k
+    by_case : (next (suc n) qs k ≡ test p w → left_sum qs (put k p x) < left_sum qs k) → left_sum qs (put k p x) ≤ left_sum qs k → (s : Status) → status q k ≡ s
+        → by_status s n q (next (suc n) qs k) ≡ test p w → left_sum (q ∷ qs) (put k p x) < left_sum (q ∷ qs) k
     by_case more rest fails s f = omega (arith, more f, no_more_put k p x a.0 q)
     by_case more rest sure s f = absurd (cc)
     by_case more rest (asks r y) s f =
@@ -48,11 +49,13 @@ pub record Goes (Δ : Declarations) (ps : List Pat) (t : Ty) (k x : Known) : Typ
   pub fewer : left_sum ps x < left_sum ps k
   pub kept : Refines x k
 
-goes : (Δ : Declarations) (ps : List Pat) (t : Ty) (k : Known) (p : List PatStep) (w : Test) (x : Known) (i : Spot Δ k t p w) → next 0 ps k ≡ test p w → IsKnown Δ x i.ty → Answers w (known_at k p) x → Refines x (known_at k p) → Goes Δ ps t k (put k p x)
+goes : (Δ : Declarations) (ps : List Pat) (t : Ty) (k : Known) (p : List PatStep) (w : Test) (x : Known) (i : Spot Δ k t p w) → next 0 ps k ≡ test p w → IsKnown Δ x i.ty → Answers w (known_at k p) x
+    → Refines x (known_at k p) → Goes Δ ps t k (put k p x)
 goes Δ ps t k p w x i e h a r = record { known = i.may_put x h; fewer = fewer_left 0 ps k p w x e a; kept = refines_put k p x r }
 
 -- where nothing is known, anything may be made
-goes_new : (Δ : Declarations) (ps : List Pat) (t : Ty) (k : Known) (p : List PatStep) (w : Test) (x : Known) (i : Spot Δ k t p w) → next 0 ps k ≡ test p w → IsKnown Δ x i.ty → known_at k p ≡ anything → Answers w anything x → Goes Δ ps t k (put k p x)
+goes_new : (Δ : Declarations) (ps : List Pat) (t : Ty) (k : Known) (p : List PatStep) (w : Test) (x : Known) (i : Spot Δ k t p w) → next 0 ps k ≡ test p w → IsKnown Δ x i.ty → known_at k p ≡ anything
+    → Answers w anything x → Goes Δ ps t k (put k p x)
 goes_new Δ ps t k p w x i e h is a = goes Δ ps t k p w x i e h (subst (λ y. Answers w y x) (sym is) a) (subst (Refines x) (sym is) (refines_anything x))
 
 pub goes_tuple : (Δ : Declarations) (ps : List Pat) (t : Ty) (k : Known) (p : List PatStep) (n : ℕ) (i : Spot Δ k t p (by.Made Tuple n)) → next 0 ps k ≡ test p (by.Made Tuple n) → Goes Δ ps t k (put k p (built Tuple (all_anything n)))
@@ -64,8 +67,11 @@ goes_flag Δ ps t k p c i e = goes_new Δ ps t k p by.Truth (flag c) i e i.asked
 pub goes_number : (Δ : Declarations) (ps : List Pat) (t : Ty) (k : Known) (p : List PatStep) (c : Option IntKind) (z : ℤ) (i : Spot Δ k t p (by.Number c z)) → next 0 ps k ≡ test p (by.Number c z) → Goes Δ ps t k (put k p (number z))
 goes_number Δ ps t k p c z i e = goes Δ ps t k p (by.Number c z) (number z) i e (c, i.asked.0, i.asked.1) (answers_number c z (known_at k p) i.unanswered) (refines_asked_number c z (known_at k p) i.unanswered)
 
-pub goes_other : (Δ : Declarations) (ps : List Pat) (t : Ty) (k : Known) (p : List PatStep) (c : Option IntKind) (z : ℤ) (i : Spot Δ k t p (by.Number c z)) → next 0 ps k ≡ test p (by.Number c z) → SomeLeft c (z ∷ excluded (known_at k p)) → Goes Δ ps t k (put k p (other c (z ∷ excluded (known_at k p))))
+pub goes_other : (Δ : Declarations) (ps : List Pat) (t : Ty) (k : Known) (p : List PatStep) (c : Option IntKind) (z : ℤ) (i : Spot Δ k t p (by.Number c z)) → next 0 ps k ≡ test p (by.Number c z)
+    → SomeLeft c (z ∷ excluded (known_at k p)) → Goes Δ ps t k (put k p (other c (z ∷ excluded (known_at k p))))
 goes_other Δ ps t k p c z i e l = goes Δ ps t k p (by.Number c z) (other c (z ∷ excluded (known_at k p))) i e (i.asked.0, l) (answers_other c z (known_at k p) i.unanswered) (refines_asked_other c z (known_at k p) i.unanswered)
 
-pub goes_variant : (Δ : Declarations) (ps : List Pat) (t : Ty) (k : Known) (p : List PatStep) (d : AdtId) (l n j : ℕ) (fs : Tys) (i : Spot Δ k t p (by.Made (Variant d l) n)) → next 0 ps k ≡ test p (by.Made (Variant d l) n) → Δ d j ≡ Some fs → Goes Δ ps t k (put k p (built (Variant d j) (all_anything (count_tys fs))))
-goes_variant Δ ps t k p d l n j fs i e f = goes_new Δ ps t k p (by.Made (Variant d l) n) (built (Variant d j) (all_anything (count_tys fs))) i e (variant_known Δ i.ty d l n j fs i.asked f) i.unanswered (answers_built (by.Made (Variant d l) n) (Variant d j) (count_tys fs))
+pub goes_variant : (Δ : Declarations) (ps : List Pat) (t : Ty) (k : Known) (p : List PatStep) (d : AdtId) (l n j : ℕ) (fs : Tys) (i : Spot Δ k t p (by.Made (Variant d l) n))
+    → next 0 ps k ≡ test p (by.Made (Variant d l) n) → Δ d j ≡ Some fs → Goes Δ ps t k (put k p (built (Variant d j) (all_anything (count_tys fs))))
+goes_variant Δ ps t k p d l n j fs i e f = goes_new Δ ps t k p (by.Made (Variant d l) n) (built (Variant d j) (all_anything (count_tys fs))) i e
+      (variant_known Δ i.ty d l n j fs i.asked f) i.unanswered (answers_built (by.Made (Variant d l) n) (Variant d j) (count_tys fs))

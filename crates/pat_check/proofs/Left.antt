@@ -113,7 +113,8 @@ mutual
       let i = fewer_in (variant_number c) qs ks p w x (if_asks (same_ctor c e) (statuses (variant_number c) qs ks) p w s).1 in
       subst (λ r. Answers w (known_at (built e ks) r) x → left (shape u c qs) (put (built e ks) r x) < left_all qs ks) (sym i.2) i.3 a
 
-  fewer_in : (n : ℕ) (qs : Pats) (ks : Knowns) (p : List PatStep) (w : Test) (x : Known) → statuses n qs ks ≡ asks p w → (at : ℕ) × (rest : List PatStep) × (p ≡ record { variant = n; field = at } ∷ rest) × (Answers w (known_at (nth_known ks at) rest) x → left_all qs (set_known ks at (put (nth_known ks at) rest x)) < left_all qs ks)
+  fewer_in : (n : ℕ) (qs : Pats) (ks : Knowns) (p : List PatStep) (w : Test) (x : Known) → statuses n qs ks ≡ asks p w
+      → (at : ℕ) × (rest : List PatStep) × (p ≡ record { variant = n; field = at } ∷ rest) × (Answers w (known_at (nth_known ks at) rest) x → left_all qs (set_known ks at (put (nth_known ks at) rest x)) < left_all qs ks)
   fewer_in n no_pats no_knowns p w x s = absurd (cc)
   fewer_in n no_pats (and_known k ks) p w x s = absurd (cc)
   fewer_in n (and_pat q qs) no_knowns p w x s = absurd (cc)

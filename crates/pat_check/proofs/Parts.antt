@@ -72,7 +72,8 @@ pub other_lengths : (n : ℕ) (ps : List Pat) (ks : List Known) → (length ps �
 other_lengths n ps ks d = sym (from_lengths n 0 ps ks d) ∙ from_statuses n ps ks
 
 -- one more part
-pub from_more : (n i : ℕ) (ps : List Pat) (ks : List Known) (p : Pat) (k : Known) (found next total : Status) → p ≡ get_or ps i p → k ≡ get_or ks i k → i < length ps → i < length ks → next ≡ at_part n i (status p k) → also found (from n i (drop i ps) (drop i ks)) ≡ total → also (also found next) (from n (i + 1) (drop (i + 1) ps) (drop (i + 1) ks)) ≡ total
+pub from_more : (n i : ℕ) (ps : List Pat) (ks : List Known) (p : Pat) (k : Known) (found next total : Status) → p ≡ get_or ps i p → k ≡ get_or ks i k → i < length ps → i < length ks
+    → next ≡ at_part n i (status p k) → also found (from n i (drop i ps) (drop i ks)) ≡ total → also (also found next) (from n (i + 1) (drop (i + 1) ps) (drop (i + 1) ks)) ≡ total
 from_more n i ps ks p k found next total ep ek lp lk en e =
     let rest : ℕ → Status = λ m. from n m (drop m ps) (drop m ks) in
     let dp : drop i ps ≡ p ∷ drop (suc i) ps = drop-cons ps i p lp ∙ ap (λ x. x ∷ drop (suc i) ps) (sym ep) in

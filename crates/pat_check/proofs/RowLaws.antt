@@ -20,7 +20,8 @@ pub row_first : (n : ℕ) (ps : List Pat) (k : Known) (m : ℕ) (p : Pat) (v : V
 row_first n [] k m p v e a = absurd (cc)
 row_first n (q ∷ qs) k m p v e a = by_case (λ f. row_first (suc n) qs k m p v f a) (status q k) refl e
   where
-    by_case : (next (suc n) qs k ≡ row m p → first_match (suc n) qs v ≡ Some (record { arm = m; binds = bindings p })) → (s : Status) → status q k ≡ s → by_status s n q (next (suc n) qs k) ≡ row m p → first_match n (q ∷ qs) v ≡ Some (record { arm = m; binds = bindings p })
+    by_case : (next (suc n) qs k ≡ row m p → first_match (suc n) qs v ≡ Some (record { arm = m; binds = bindings p })) → (s : Status) → status q k ≡ s → by_status s n q (next (suc n) qs k) ≡ row m p
+        → first_match n (q ∷ qs) v ≡ Some (record { arm = m; binds = bindings p })
     by_case more fails s f = subst (λ b. cond b (Some (record { arm = n; binds = bindings q })) (first_match (suc n) qs v) ≡ Some (record { arm = m; binds = bindings p })) (sym (fails_match q k v s a)) (more f)
     by_case more sure s f =
         let x : n ≡ m = cc in

@@ -109,7 +109,8 @@ open_parts : (xs : List State) (y : State) (v : Value) → some_open (xs ++ y �
 open_parts [] y v e = ⊎_elim (λ a. inr a) (λ a. absurd (cc)) (or_case (agrees y.known v) false e)
 open_parts (x ∷ xs) y v e = by_test (open_parts xs y v) (agrees x.known v) refl e
   where
-    by_test : (some_open (xs ++ y ∷ []) v ≡ true → (some_open xs v ≡ true) ⊎ (agrees y.known v ≡ true)) → (b : Bool) → agrees x.known v ≡ b → b || some_open (xs ++ y ∷ []) v ≡ true → (agrees x.known v || some_open xs v ≡ true) ⊎ (agrees y.known v ≡ true)
+    by_test : (some_open (xs ++ y ∷ []) v ≡ true → (some_open xs v ≡ true) ⊎ (agrees y.known v ≡ true)) → (b : Bool) → agrees x.known v ≡ b → b || some_open (xs ++ y ∷ []) v ≡ true
+        → (agrees x.known v || some_open xs v ≡ true) ⊎ (agrees y.known v ≡ true)
     by_test more true f g = inl (ap (λ b. b || some_open xs v) f)
     by_test more false f g = ⊎_elim (λ a. inl (or_right _ _ a)) (λ a. inr a) (more g)
 
@@ -178,7 +179,8 @@ weights_parts b ps ss xs y e =
     let w : state_weights b ps ss ≡ state_weights b ps xs + state_weights b ps (y ∷ []) = ap (state_weights b ps) e ∙ weights_more b ps xs (y ∷ []) in
     omega (arith, w)
 
-searching_test : (ds : List AdtDecl) (ps : List Pat) (t : Ty) (ss xs zs : List State) (y : State) (n : ℕ) (ks : List Known) → ss ≡ xs ++ y ∷ [] → zs ≡ xs ++ states_of n ks → Searching ds ps t ss → AllFail (take n ps) y.known → Branching ds ps t y.known ks → Searching ds ps t zs
+searching_test : (ds : List AdtDecl) (ps : List Pat) (t : Ty) (ss xs zs : List State) (y : State) (n : ℕ) (ks : List Known) → ss ≡ xs ++ y ∷ [] → zs ≡ xs ++ states_of n ks → Searching ds ps t ss
+    → AllFail (take n ps) y.known → Branching ds ps t y.known ks → Searching ds ps t zs
 searching_test ds ps t ss xs zs y n ks e z s f g = subst (Searching ds ps t) (sym z) (record {
   each = all_open_more ds ps t xs (states_of n ks) (all_open_parts ds ps t xs y (subst (AllOpen ds ps t) e s.each)).0 (answers_open ds ps t y.known n ks f g.go);
   left_over = λ θ v h. ⊎_elim
@@ -187,14 +189,16 @@ searching_test ds ps t ss xs zs y n ks e z s f g = subst (Searching ds ps t) (sy
       (s.left_over θ v h);
 })
 
-lighter_test : (ds : List AdtDecl) (ps : List Pat) (t : Ty) (ss xs zs : List State) (y : State) (n : ℕ) (ks : List Known) → ss ≡ xs ++ y ∷ [] → zs ≡ xs ++ states_of n ks → Branching ds ps t y.known ks → state_weights (most_branches ds) ps zs < state_weights (most_branches ds) ps ss
+lighter_test : (ds : List AdtDecl) (ps : List Pat) (t : Ty) (ss xs zs : List State) (y : State) (n : ℕ) (ks : List Known) → ss ≡ xs ++ y ∷ [] → zs ≡ xs ++ states_of n ks
+    → Branching ds ps t y.known ks → state_weights (most_branches ds) ps zs < state_weights (most_branches ds) ps ss
 lighter_test ds ps t ss xs zs y n ks e z g =
     let b = most_branches ds in
     let u : state_weights b ps zs ≡ state_weights b ps xs + known_weights b ps ks = ap (state_weights b ps) z ∙ weights_more b ps xs (states_of n ks) ∙ ap (λ m. state_weights b ps xs + m) (weights_of b ps n ks) in
     omega (arith, weights_parts b ps ss xs y e, u, lighter ds ps t y.known ks g)
 
 -- a state that is not free leaves less to look into
-pub searching_goes_on : (ds : List AdtDecl) (ps : List Pat) (t : Ty) (ss xs zs : List State) (y : State) (free : Bool) → AllPats (fields_in ds) ps t → ss ≡ xs ++ y ∷ [] → Searching ds ps t ss → IsLookedInto ds ps y.known xs zs free → free ≡ false → Searching ds ps t zs × (state_weights (most_branches ds) ps zs < state_weights (most_branches ds) ps ss)
+pub searching_goes_on : (ds : List AdtDecl) (ps : List Pat) (t : Ty) (ss xs zs : List State) (y : State) (free : Bool) → AllPats (fields_in ds) ps t → ss ≡ xs ++ y ∷ [] → Searching ds ps t ss
+    → IsLookedInto ds ps y.known xs zs free → free ≡ false → Searching ds ps t zs × (state_weights (most_branches ds) ps zs < state_weights (most_branches ds) ps ss)
 searching_goes_on ds ps t ss xs zs y free h e s l f = by_next (next 0 ps y.known) refl l
   where
     by_next : (n : Next) → next 0 ps y.known ≡ n → LeavesBy ds ps y.known n xs zs free → Searching ds ps t zs × (state_weights (most_branches ds) ps zs < state_weights (most_branches ds) ps ss)
@@ -210,7 +214,8 @@ searching_goes_on ds ps t ss xs zs y free h e s l f = by_next (next 0 ps y.known
         (searching_test ds ps t ss xs zs y at ks e is s fail g, lighter_test ds ps t ss xs zs y at ks e is g)
 
 -- where a state is free, no arm matches a value of it
-pub free_value : (ds : List AdtDecl) (ps : List Pat) (t : Ty) (ss xs zs : List State) (y : State) (free : Bool) (w : PatValue) → ss ≡ xs ++ y ∷ [] → Searching ds ps t ss → IsLookedInto ds ps y.known xs zs free → free ≡ true → Settles y.known w → IsPatValue (fields_in ds) w t × ((v : Value) → stands_for w v ≡ true → some_match ps v ≡ false)
+pub free_value : (ds : List AdtDecl) (ps : List Pat) (t : Ty) (ss xs zs : List State) (y : State) (free : Bool) (w : PatValue) → ss ≡ xs ++ y ∷ [] → Searching ds ps t ss
+    → IsLookedInto ds ps y.known xs zs free → free ≡ true → Settles y.known w → IsPatValue (fields_in ds) w t × ((v : Value) → stands_for w v ≡ true → some_match ps v ≡ false)
 free_value ds ps t ss xs zs y free w e s l f c = by_next (next 0 ps y.known) refl l
   where
     by_next : (n : Next) → next 0 ps y.known ≡ n → LeavesBy ds ps y.known n xs zs free → IsPatValue (fields_in ds) w t × ((v : Value) → stands_for w v ≡ true → some_match ps v ≡ false)

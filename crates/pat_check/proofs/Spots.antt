@@ -88,14 +88,16 @@ count_same Δ no_pats (and_ty t ts) h = absurd h
 count_same Δ (and_pat p ps) no_tys h = absurd h
 count_same Δ (and_pat p ps) (and_ty t ts) h = ap suc (count_same Δ ps ts h.1)
 
-first_of_all : (Δ : Declarations) (θ : Tys) (k : Known) (ks : Knowns) (t : Ty) (ts : Tys) (vs : Values) → HaveSorts Δ vs (instances θ (and_ty t ts)) → agree_all (and_known k ks) vs ≡ true → HasSort Δ (nth_value vs 0) (instance θ t) × (agrees k (nth_value vs 0) ≡ true)
+first_of_all : (Δ : Declarations) (θ : Tys) (k : Known) (ks : Knowns) (t : Ty) (ts : Tys) (vs : Values) → HaveSorts Δ vs (instances θ (and_ty t ts)) → agree_all (and_known k ks) vs ≡ true
+    → HasSort Δ (nth_value vs 0) (instance θ t) × (agrees k (nth_value vs 0) ≡ true)
 first_of_all Δ θ k ks t ts no_values h a = absurd (cc)
 first_of_all Δ θ k ks t ts (and_value v vs) h a =
     let l = looks_all Δ (and_value v vs) (instances θ (and_ty t ts)) h in
     let e : v ≡ l.0 = (let f = l.2 in cc) in
     (subst (λ x. HasSort Δ x (instance θ t)) (sym e) l.3, (both (agrees k v) _ a).0)
 
-rest_of_all : (Δ : Declarations) (θ : Tys) (k : Known) (ks : Knowns) (t : Ty) (ts : Tys) (vs : Values) → HaveSorts Δ vs (instances θ (and_ty t ts)) → agree_all (and_known k ks) vs ≡ true → (us : Values) × HaveSorts Δ us (instances θ ts) × (agree_all ks us ≡ true) × ((n : ℕ) → nth_value vs (suc n) ≡ nth_value us n)
+rest_of_all : (Δ : Declarations) (θ : Tys) (k : Known) (ks : Knowns) (t : Ty) (ts : Tys) (vs : Values) → HaveSorts Δ vs (instances θ (and_ty t ts)) → agree_all (and_known k ks) vs ≡ true
+    → (us : Values) × HaveSorts Δ us (instances θ ts) × (agree_all ks us ≡ true) × ((n : ℕ) → nth_value vs (suc n) ≡ nth_value us n)
 rest_of_all Δ θ k ks t ts no_values h a = absurd (cc)
 rest_of_all Δ θ k ks t ts (and_value v vs) h a =
     let l = looks_all Δ (and_value v vs) (instances θ (and_ty t ts)) h in

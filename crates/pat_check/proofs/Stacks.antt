@@ -21,7 +21,8 @@ states_more n i ks k e l = subst (λ m. states_of n (take m ks) ≡ states_of n 
     more (suc i) (x ∷ ks) e l = ap (λ us. record { from = n; known = x } ∷ us) (more i ks e (omega arith))
 
 -- one more state is pushed
-pub state_pushed : (n i : ℕ) (ks : List Known) (k : Known) (old now new : List State) → k ≡ get_or ks i k → i < length ks → now ≡ old ++ states_of n (take i ks) → new ≡ now ++ record { from = n; known = k } ∷ [] → new ≡ old ++ states_of n (take (i + 1) ks)
+pub state_pushed : (n i : ℕ) (ks : List Known) (k : Known) (old now new : List State) → k ≡ get_or ks i k → i < length ks → now ≡ old ++ states_of n (take i ks)
+    → new ≡ now ++ record { from = n; known = k } ∷ [] → new ≡ old ++ states_of n (take (i + 1) ks)
 state_pushed n i ks k old now new e l h f = f ∙ ap (λ xs. xs ++ record { from = n; known = k } ∷ []) h ∙ assoc old (states_of n (take i ks)) (record { from = n; known = k } ∷ []) ∙ ap (λ xs. old ++ xs) (sym (states_more n i ks k e l))
 
 decides_more : (n i : ℕ) (ks : List Known) (k : Known) → k ≡ get_or ks i k → i < length ks → decides n (take (i + 1) ks) ≡ decides n (take i ks) ++ task.Decide (record { from = n; known = k }) ∷ []
@@ -33,5 +34,7 @@ decides_more n i ks k e l = subst (λ m. decides n (take m ks) ≡ decides n (ta
     more (suc i) (x ∷ ks) e l = ap (λ us. task.Decide (record { from = n; known = x }) ∷ us) (more i ks e (omega arith))
 
 -- one more task is pushed
-pub task_pushed : (n i : ℕ) (ks : List Known) (k : Known) (old now new : List Task) → k ≡ get_or ks i k → i < length ks → now ≡ old ++ decides n (take i ks) → new ≡ now ++ task.Decide (record { from = n; known = k }) ∷ [] → new ≡ old ++ decides n (take (i + 1) ks)
-task_pushed n i ks k old now new e l h f = f ∙ ap (λ xs. xs ++ task.Decide (record { from = n; known = k }) ∷ []) h ∙ assoc old (decides n (take i ks)) (task.Decide (record { from = n; known = k }) ∷ []) ∙ ap (λ xs. old ++ xs) (sym (decides_more n i ks k e l))
+pub task_pushed : (n i : ℕ) (ks : List Known) (k : Known) (old now new : List Task) → k ≡ get_or ks i k → i < length ks → now ≡ old ++ decides n (take i ks)
+    → new ≡ now ++ task.Decide (record { from = n; known = k }) ∷ [] → new ≡ old ++ decides n (take (i + 1) ks)
+task_pushed n i ks k old now new e l h f = f ∙ ap (λ xs. xs ++ task.Decide (record { from = n; known = k }) ∷ []) h ∙ assoc old (decides n (take i ks))
+      (task.Decide (record { from = n; known = k }) ∷ []) ∙ ap (λ xs. old ++ xs) (sym (decides_more n i ks k e l))

@@ -33,7 +33,8 @@ listed_at [] n v e l = absurd (omega arith)
 listed_at (w ∷ vs) zero v e l = ap (λ x. Some (field_tys x)) (sym e)
 listed_at (w ∷ vs) (suc n) v e l = listed_at vs n v e (omega arith)
 
-more_from : (k : Known) (q : List PatStep) (d : AdtId) (j m i : ℕ) (fss : List Tys) (fs : Tys) → m ≡ j + i → slice_get fss i ≡ Some fs → variant_branches k q d j (take (suc i) fss) ≡ variant_branches k q d j (take i fss) ++ put k q (built (Variant d m) (all_anything (count_tys fs))) ∷ []
+more_from : (k : Known) (q : List PatStep) (d : AdtId) (j m i : ℕ) (fss : List Tys) (fs : Tys) → m ≡ j + i → slice_get fss i ≡ Some fs
+    → variant_branches k q d j (take (suc i) fss) ≡ variant_branches k q d j (take i fss) ++ put k q (built (Variant d m) (all_anything (count_tys fs))) ∷ []
 more_from k q d j m i [] fs e g = absurd (cc)
 more_from k q d j m zero (gs ∷ fss) fs e g =
     let same : gs ≡ fs = cc in
@@ -41,7 +42,8 @@ more_from k q d j m zero (gs ∷ fss) fs e g =
     λ i. put k q (built (Variant d (at i)) (all_anything (count_tys (same i)))) ∷ []
 more_from k q d j m (suc i) (gs ∷ fss) fs e g = ap (λ xs. put k q (built (Variant d j) (all_anything (count_tys gs))) ∷ xs) (more_from k q d (suc j) m i fss fs (omega (arith, e)) g)
 
-pub variant_more : (k : Known) (q : List PatStep) (d : AdtId) (i : ℕ) (vs : List VariantDecl) (v : VariantDecl) (n : ℕ) (x : Known) (xs : List Known) → v ≡ get_or vs i v → i < length vs → n ≡ length v.fields → x ≡ put k q (built (Variant d i) (all_anything n)) → xs ≡ variant_branches k q d 0 (take i (map field_tys vs)) → xs ++ x ∷ [] ≡ variant_branches k q d 0 (take (i + 1) (map field_tys vs))
+pub variant_more : (k : Known) (q : List PatStep) (d : AdtId) (i : ℕ) (vs : List VariantDecl) (v : VariantDecl) (n : ℕ) (x : Known) (xs : List Known) → v ≡ get_or vs i v → i < length vs
+    → n ≡ length v.fields → x ≡ put k q (built (Variant d i) (all_anything n)) → xs ≡ variant_branches k q d 0 (take i (map field_tys vs)) → xs ++ x ∷ [] ≡ variant_branches k q d 0 (take (i + 1) (map field_tys vs))
 variant_more k q d i vs v n x xs e l c is h =
     let count : n ≡ count_tys (field_tys v) = c ∙ sym (count_fields v.fields) in
     let one = more_from k q d 0 i i (map field_tys vs) (field_tys v) (omega arith) (listed_at vs i v e l) in

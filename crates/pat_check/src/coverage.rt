@@ -70,9 +70,9 @@ fn look_into(
     }
 }
 
-/// Whether the arms cover the type, of which they are patterns, where these types are declared: `None` exactly where each
-/// of its values is matched, and else a pattern value of the type, such that no arm matches a value that it stands for.
-/// Err only for want of memory.
+/// Whether the arms cover the type, of which they are patterns, where these types are declared. With `None` each value of
+/// the type is matched; else no arm matches a value that the answer stands for, and it is a pattern value of the type. Err
+/// only for want of memory.
 pub fn missing(
     alloc: Global,
     arms: &[TypedPat],

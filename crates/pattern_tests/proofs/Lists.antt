@@ -44,10 +44,12 @@ pub all_pats_taken : (Δ : Declarations) (i : ℕ) (ps : List Pat) (t : Ty) → 
 all_pats_taken Δ i ps t l a = subst (λ qs. AllPats Δ qs t) (take_all i ps l) a
 
 -- one more is a pattern of its type
-pub are_pats_more : (Δ : Declarations) (i : ℕ) (ps : List Pat) (p : Pat) (ts : List Ty) (t : Ty) → p ≡ get_or ps i p → t ≡ get_or ts i t → i < length ps → length ps ≡ length ts → IsPat Δ p t → ArePats Δ (pats_of (take i ps)) (tys_of (take i ts)) → ArePats Δ (pats_of (take (i + 1) ps)) (tys_of (take (i + 1) ts))
+pub are_pats_more : (Δ : Declarations) (i : ℕ) (ps : List Pat) (p : Pat) (ts : List Ty) (t : Ty) → p ≡ get_or ps i p → t ≡ get_or ts i t → i < length ps → length ps ≡ length ts → IsPat Δ p t
+    → ArePats Δ (pats_of (take i ps)) (tys_of (take i ts)) → ArePats Δ (pats_of (take (i + 1) ps)) (tys_of (take (i + 1) ts))
 are_pats_more Δ i ps p ts t e f l s h a = subst (λ m. ArePats Δ (pats_of (take m ps)) (tys_of (take m ts))) (let g : suc i ≡ i + 1 = omega arith in g) (more i ps ts e f l s a)
   where
-    more : (i : ℕ) (ps : List Pat) (ts : List Ty) → p ≡ get_or ps i p → t ≡ get_or ts i t → i < length ps → length ps ≡ length ts → ArePats Δ (pats_of (take i ps)) (tys_of (take i ts)) → ArePats Δ (pats_of (take (suc i) ps)) (tys_of (take (suc i) ts))
+    more : (i : ℕ) (ps : List Pat) (ts : List Ty) → p ≡ get_or ps i p → t ≡ get_or ts i t → i < length ps → length ps ≡ length ts → ArePats Δ (pats_of (take i ps)) (tys_of (take i ts))
+        → ArePats Δ (pats_of (take (suc i) ps)) (tys_of (take (suc i) ts))
     more i [] ts e f l s a = absurd (omega arith)
     more i (q ∷ ps) [] e f l s a = absurd (omega (arith, s))
     more zero (q ∷ ps) (u ∷ ts) e f l s a = (subst (λ x. IsPat Δ x u) e (subst (λ y. IsPat Δ p y) f h), tt)
@@ -59,8 +61,10 @@ are_pats_taken Δ i ps ts l s a = subst (λ us. ArePats Δ (pats_of ps) (tys_of 
 -- ---- fields
 
 -- one more field at the types
-pub field_more : (θ : Tys) (i : ℕ) (fs : List FieldDecl) (f : FieldDecl) (t : Ty) (us vs : List Ty) → f ≡ get_or fs i f → i < length fs → t ≡ instance θ f.ty → us ≡ map (instance θ) (take i (map field_ty fs)) → vs ≡ us ++ t ∷ [] → vs ≡ map (instance θ) (take (i + 1) (map field_ty fs))
-field_more θ i fs f t us vs e l is h made = made ∙ (λ j. h j ++ is j ∷ []) ∙ sym (subst (λ m. map (instance θ) (take m (map field_ty fs)) ≡ map (instance θ) (take i (map field_ty fs)) ++ instance θ f.ty ∷ []) (let g : suc i ≡ i + 1 = omega arith in g) (more i fs e l))
+pub field_more : (θ : Tys) (i : ℕ) (fs : List FieldDecl) (f : FieldDecl) (t : Ty) (us vs : List Ty) → f ≡ get_or fs i f → i < length fs → t ≡ instance θ f.ty
+    → us ≡ map (instance θ) (take i (map field_ty fs)) → vs ≡ us ++ t ∷ [] → vs ≡ map (instance θ) (take (i + 1) (map field_ty fs))
+field_more θ i fs f t us vs e l is h made = made ∙ (λ j. h j ++ is j ∷ []) ∙ sym (subst (λ m. map (instance θ) (take m (map field_ty fs)) ≡ map (instance θ) (take i (map field_ty fs)) ++
+      instance θ f.ty ∷ []) (let g : suc i ≡ i + 1 = omega arith in g) (more i fs e l))
   where
     more : (i : ℕ) (fs : List FieldDecl) → f ≡ get_or fs i f → i < length fs → map (instance θ) (take (suc i) (map field_ty fs)) ≡ map (instance θ) (take i (map field_ty fs)) ++ instance θ f.ty ∷ []
     more i [] e l = absurd (omega arith)
@@ -72,8 +76,10 @@ map_length [] = refl
 map_length (f ∷ fs) = ap suc (map_length fs)
 
 -- the fields of a declared variant at the types
-pub fields_found : (ds : List AdtDecl) (d : AdtId) (k i : ℕ) (a : AdtDecl) (v : VariantDecl) (fs : List FieldDecl) (θ : Tys) (us : List Ty) → slice_get ds d.0 ≡ Some a → slice_get a.variants k ≡ Some v → fs ≡ v.fields → us ≡ map (instance θ) (take i (map field_ty fs)) → length fs ≤ i → (gs : Tys) × (fields_in ds d k ≡ Some gs) × (instances θ gs ≡ tys_of us)
-fields_found ds d k i a v fs θ us e f g h l =
-  (tys_of (map field_ty v.fields),
-    ap (λ o. fields_of (variant_of o k)) e ∙ ap fields_of f,
-    ap (λ xs. instances θ (tys_of (map field_ty xs))) (sym g) ∙ sym (instances_front θ i (map field_ty fs) us h (subst (λ n. n ≤ i) (sym (map_length fs)) l)))
+pub fields_found : (ds : List AdtDecl) (d : AdtId) (k i : ℕ) (a : AdtDecl) (v : VariantDecl) (fs : List FieldDecl) (θ : Tys) (us : List Ty) → slice_get ds d.0 ≡ Some a
+    → slice_get a.variants k ≡ Some v → fs ≡ v.fields → us ≡ map (instance θ) (take i (map field_ty fs)) → length fs ≤ i → (gs : Tys) × (fields_in ds d k ≡ Some gs) × (instances θ gs ≡ tys_of us)
+fields_found ds d k i a v fs θ us e f g h l = (
+  tys_of (map field_ty v.fields),
+  ap (λ o. fields_of (variant_of o k)) e ∙ ap fields_of f,
+  ap (λ xs. instances θ (tys_of (map field_ty xs))) (sym g) ∙ sym (instances_front θ i (map field_ty fs) us h (subst (λ n. n ≤ i) (sym (map_length fs)) l)),
+)

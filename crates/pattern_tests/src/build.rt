@@ -1,5 +1,5 @@
 use logic_term::{
-    AdtDecl, AdtId, BindingKind, CompoundTy, Ctor, FieldDecl, PatNode, Ty, TyNode, TyUnary,
+    AdtDecl, AdtId, BindingKind, CompoundTy, Ctor, FieldDecl, PatNode, Region, Ty, TyNode, TyUnary,
     TypedPat, VariantDecl,
 };
 use source_kinds::IntKind;
@@ -7,163 +7,197 @@ use std::alloc::Global;
 use text_core::{Items, Name, NoMemory, Span};
 
 /// `enum Option<T> { None, Some(T) }`
-pub const OPTION: AdtId = AdtId(0);
+const OPTION: AdtId = AdtId(0);
 
-/// `struct Pair<A, B> { 0: A, 1: B }`
-pub const PAIR: AdtId = AdtId(1);
+/// `struct Pair<A, B>(A, B)`
+const PAIR: AdtId = AdtId(1);
 
 /// `enum Only<T> { Only(T) }`
-pub const ONLY: AdtId = AdtId(2);
+const ONLY: AdtId = AdtId(2);
 
 /// `enum List { Nil, Cons(u8, Box<List>) }`
-pub const LIST: AdtId = AdtId(3);
+const LIST: AdtId = AdtId(3);
 
 const NOWHERE: Span = Span { start: 0, end: 0 };
 
-fn field(name: u64, ty: Ty) -> FieldDecl {
-    FieldDecl {
-        name: Name(name),
-        ty,
-        span: NOWHERE,
+fn variant(alloc: Global, types: Vec<Ty>) -> Result<VariantDecl, NoMemory> {
+    let mut types = types;
+    let mut fields = Items::new(alloc);
+    for i in 0..types.len() {
+        let _ = i;
+        let ty = types.pop().ok_or(NoMemory)?;
+        fields.push(FieldDecl {
+            name: Name(0),
+            ty,
+            span: NOWHERE,
+        })?;
     }
+    Ok(VariantDecl {
+        name: Name(0),
+        fields,
+    })
 }
 
-fn param(number: u32) -> Ty {
-    Ty {
-        node: TyNode::Param(number),
+/// The variants by the types of their fields, each as `types` reads them.
+fn declared(alloc: Global, is_struct: bool, variants: &[&[u8]]) -> Result<AdtDecl, NoMemory> {
+    let mut made = Items::new(alloc);
+    for i in 0..variants.len() {
+        made.push(variant(alloc, types(alloc, variants[i])?)?)?;
     }
-}
-
-fn variant(name: u64, fields: Vec<FieldDecl>) -> VariantDecl {
-    VariantDecl {
-        name: Name(name),
-        fields: Items::from_vec(fields),
-    }
-}
-
-fn declared(params: u32, is_struct: bool, variants: Vec<VariantDecl>) -> AdtDecl {
-    AdtDecl {
+    Ok(AdtDecl {
         name: Name(0),
         regions: 0,
-        params,
-        variants: Items::from_vec(variants),
+        params: 2,
+        variants: made,
         is_struct,
         copy: false,
         span: NOWHERE,
-    }
-}
-
-fn option_decl(alloc: Global) -> Result<AdtDecl, NoMemory> {
-    let none = variant(1, Vec::new(alloc));
-    let some = variant(2, vec![in alloc; field(0, param(0))]?);
-    Ok(declared(1, false, vec![in alloc; none, some]?))
-}
-
-fn pair_decl(alloc: Global) -> Result<AdtDecl, NoMemory> {
-    let pair = variant(3, vec![in alloc; field(0, param(0)), field(1, param(1))]?);
-    Ok(declared(2, true, vec![in alloc; pair]?))
-}
-
-fn only_decl(alloc: Global) -> Result<AdtDecl, NoMemory> {
-    let only = variant(4, vec![in alloc; field(0, param(0))]?);
-    Ok(declared(1, false, vec![in alloc; only]?))
-}
-
-fn list_decl(alloc: Global) -> Result<AdtDecl, NoMemory> {
-    let nil = variant(5, Vec::new(alloc));
-    let rest = boxed(alloc, adt(alloc, LIST, Vec::new(alloc))?)?;
-    let fields = vec![in alloc; field(0, Ty::int(IntKind::U8)), field(1, rest)]?;
-    let cons = variant(6, fields);
-    Ok(declared(0, false, vec![in alloc; nil, cons]?))
+    })
 }
 
 /// The declared types of the tests.
 pub fn decls(alloc: Global) -> Result<Vec<AdtDecl>, NoMemory> {
     let mut all = Vec::with_capacity(alloc, 4)?;
-    all.push(option_decl(alloc)?)?;
-    all.push(pair_decl(alloc)?)?;
-    all.push(only_decl(alloc)?)?;
-    all.push(list_decl(alloc)?)?;
+    all.push(declared(alloc, false, &[b"", b"0"])?)?;
+    all.push(declared(alloc, true, &[b"01"])?)?;
+    all.push(declared(alloc, false, &[b"0"])?)?;
+    all.push(declared(alloc, false, &[b"", b"u*l"])?)?;
     Ok(all)
 }
 
 // ---- types
 
-pub fn adt(alloc: Global, id: AdtId, types: Vec<Ty>) -> Result<Ty, NoMemory> {
-    Ty::compound(alloc, CompoundTy::Adt(id, Vec::new(alloc), types))
+fn plain(node: TyNode) -> Ty {
+    Ty { node }
 }
 
-pub fn boxed(alloc: Global, t: Ty) -> Result<Ty, NoMemory> {
-    Ty::compound(alloc, CompoundTy::Unary(TyUnary::Boxed, t))
+fn unary(alloc: Global, op: TyUnary, stack: &mut Vec<Ty>) -> Result<Ty, NoMemory> {
+    let inner = stack.pop().ok_or(NoMemory)?;
+    Ty::compound(alloc, CompoundTy::Unary(op, inner))
 }
 
-/// `&mut T`
-pub fn unique(alloc: Global, t: Ty) -> Result<Ty, NoMemory> {
-    let op = TyUnary::Unique(logic_term::Region(0));
-    Ty::compound(alloc, CompoundTy::Unary(op, t))
+/// So many of the types on top, the topmost first.
+fn top_types(alloc: Global, count: u32, stack: &mut Vec<Ty>) -> Result<Vec<Ty>, NoMemory> {
+    let mut parts = Vec::new(alloc);
+    for i in 0..count {
+        let _ = i;
+        parts.push(stack.pop().ok_or(NoMemory)?)?;
+    }
+    Ok(parts)
 }
 
-pub fn tuple(alloc: Global, a: Ty, b: Ty) -> Result<Ty, NoMemory> {
-    Ok(Ty {
-        node: TyNode::Tuple(vec![in alloc; a, b]?),
-    })
+fn adt(alloc: Global, id: AdtId, count: u32, stack: &mut Vec<Ty>) -> Result<Ty, NoMemory> {
+    let parts = top_types(alloc, count, stack)?;
+    Ty::compound(alloc, CompoundTy::Adt(id, Vec::new(alloc), parts))
 }
 
-/// `Option<T>`
-pub fn option(alloc: Global, t: Ty) -> Result<Ty, NoMemory> {
-    adt(alloc, OPTION, vec![in alloc; t]?)
+fn type_of(alloc: Global, letter: u8, stack: &mut Vec<Ty>) -> Result<Ty, NoMemory> {
+    match letter {
+        b'b' => Ok(Ty::bool()),
+        b'u' => Ok(Ty::int(IntKind::U8)),
+        b'z' => Ok(Ty::math_int()),
+        b'0' => Ok(plain(TyNode::Param(0))),
+        b'1' => Ok(plain(TyNode::Param(1))),
+        b't' => Ok(plain(TyNode::Tuple(top_types(alloc, 2, stack)?))),
+        b'o' => adt(alloc, OPTION, 1, stack),
+        b'p' => adt(alloc, PAIR, 2, stack),
+        b'y' => adt(alloc, ONLY, 1, stack),
+        b'l' => adt(alloc, LIST, 0, stack),
+        b'*' => unary(alloc, TyUnary::Boxed, stack),
+        b'&' => unary(alloc, TyUnary::Shared(Region(0)), stack),
+        b'!' => unary(alloc, TyUnary::Unique(Region(0)), stack),
+        _ => Err(NoMemory),
+    }
 }
 
-// ---- patterns; no call of the tests looks at their types
+/// The types of the text, the last one first: `b` for `bool`, `u` for `u8`, `z` for `Int`, `0` and `1` for parameters, `tAB`
+/// for `(A, B)`, `oA` for `Option<A>`, `pAB` for `Pair<A, B>`, `yA` for `Only<A>`, `l` for `List`, `*A` for `Box<A>`, `&A`, and `!A`
+/// for `&mut A`.
+pub fn types(alloc: Global, text: &[u8]) -> Result<Vec<Ty>, NoMemory> {
+    let mut stack = Vec::new(alloc);
+    for i in 0..text.len() {
+        let made = type_of(alloc, text[text.len() - 1 - i], &mut stack)?;
+        stack.push(made)?;
+    }
+    Ok(stack)
+}
 
+// ---- patterns
+
+/// No call of the tests looks at the types of patterns.
 fn pat(alloc: Global, node: PatNode) -> Result<TypedPat, NoMemory> {
     let node = Box::new(alloc, node)?;
     let ty = Ty::unit(alloc);
     Ok(TypedPat { ty, node })
 }
 
-pub fn wild(alloc: Global) -> Result<TypedPat, NoMemory> {
-    pat(alloc, PatNode::Wild)
-}
-
-pub fn bound(alloc: Global, name: u64) -> Result<TypedPat, NoMemory> {
-    pat(alloc, PatNode::Bound(Name(name), BindingKind::Value))
-}
-
-pub fn truth(alloc: Global, b: bool) -> Result<TypedPat, NoMemory> {
-    pat(alloc, PatNode::Truth(b))
-}
-
-/// An integer of `u8`.
-pub fn byte(alloc: Global, z: i128) -> Result<TypedPat, NoMemory> {
-    pat(alloc, PatNode::Literal(Some(IntKind::U8), z))
-}
-
-/// An unbounded integer.
-pub fn integer(alloc: Global, z: i128) -> Result<TypedPat, NoMemory> {
-    pat(alloc, PatNode::Literal(None, z))
-}
-
-/// The variant, or the struct, with these parts.
-pub fn made(
+fn made(
     alloc: Global,
-    id: AdtId,
-    number: u32,
-    parts: Vec<TypedPat>,
+    ctor: Ctor,
+    count: u32,
+    stack: &mut Vec<TypedPat>,
 ) -> Result<TypedPat, NoMemory> {
-    pat(alloc, PatNode::Made(Ctor::Variant(id, number), parts))
+    let mut parts = Vec::new(alloc);
+    for i in 0..count {
+        let _ = i;
+        parts.push(stack.pop().ok_or(NoMemory)?)?;
+    }
+    pat(alloc, PatNode::Made(ctor, parts))
 }
 
-pub fn pair(alloc: Global, a: TypedPat, b: TypedPat) -> Result<TypedPat, NoMemory> {
-    pat(alloc, PatNode::Made(Ctor::Tuple, vec![in alloc; a, b]?))
+fn pattern(
+    alloc: Global,
+    kind: Option<IntKind>,
+    letter: u8,
+    stack: &mut Vec<TypedPat>,
+) -> Result<TypedPat, NoMemory> {
+    match letter {
+        b'_' => pat(alloc, PatNode::Wild),
+        b'T' => pat(alloc, PatNode::Truth(true)),
+        b'F' => pat(alloc, PatNode::Truth(false)),
+        b't' => made(alloc, Ctor::Tuple, 2, stack),
+        b'n' => made(alloc, Ctor::Variant(OPTION, 0), 0, stack),
+        b's' => made(alloc, Ctor::Variant(OPTION, 1), 1, stack),
+        b'p' => made(alloc, Ctor::Variant(PAIR, 0), 2, stack),
+        b'y' => made(alloc, Ctor::Variant(ONLY, 0), 1, stack),
+        b'e' => made(alloc, Ctor::Variant(LIST, 0), 0, stack),
+        b'c' => made(alloc, Ctor::Variant(LIST, 1), 2, stack),
+        _ => leaf(alloc, kind, letter),
+    }
 }
 
-/// `None`
-pub fn none(alloc: Global) -> Result<TypedPat, NoMemory> {
-    made(alloc, OPTION, 0, Vec::new(alloc))
+fn leaf(alloc: Global, kind: Option<IntKind>, letter: u8) -> Result<TypedPat, NoMemory> {
+    if letter >= b'0' && letter <= b'9' {
+        return literal(alloc, kind, (letter - b'0') as i128);
+    }
+    pat(
+        alloc,
+        PatNode::Bound(Name(letter as u64), BindingKind::Value),
+    )
 }
 
-/// `Some(p)`
-pub fn some(alloc: Global, p: TypedPat) -> Result<TypedPat, NoMemory> {
-    made(alloc, OPTION, 1, vec![in alloc; p]?)
+/// The integer as a pattern.
+pub fn literal(alloc: Global, kind: Option<IntKind>, z: i128) -> Result<TypedPat, NoMemory> {
+    pat(alloc, PatNode::Literal(kind, z))
+}
+
+/// The patterns of the text: `_`, `T` and `F` for the truth values, a digit for the integer of that kind, `tPQ` for `(P, Q)`,
+/// `n` and `sP` for the variants of `Option`, `pPQ` for `Pair(P, Q)`, `yP` for `Only(P)`, `e` and `cPQ` for the variants of
+/// `List`; another letter is a name.
+pub fn patterns(
+    alloc: Global,
+    kind: Option<IntKind>,
+    text: &[u8],
+) -> Result<Vec<TypedPat>, NoMemory> {
+    let mut stack = Vec::new(alloc);
+    for i in 0..text.len() {
+        let made = pattern(alloc, kind, text[text.len() - 1 - i], &mut stack)?;
+        stack.push(made)?;
+    }
+    let mut all = Vec::new(alloc);
+    for i in 0..stack.len() {
+        let _ = i;
+        all.push(stack.pop().ok_or(NoMemory)?)?;
+    }
+    Ok(all)
 }

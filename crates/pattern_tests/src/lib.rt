@@ -2,13 +2,10 @@
 #![tactic(auto)]
 
 pub mod answers;
-pub mod instances;
-pub mod texts;
-pub mod typing;
-
 #[cfg(test)]
 mod build;
+pub mod instances;
 #[cfg(test)]
-mod coverage;
-#[cfg(test)]
-mod trees;
+mod tables;
+pub mod texts;
+pub mod typing;

@@ -111,12 +111,7 @@ fn parts_of(
 
 /// Whether the pattern is one of the type; where it is said to be, it is.
 #[cycle(pattern)]
-fn is_pattern(
-    alloc: Global,
-    decls: &[AdtDecl],
-    pat: &TypedPat,
-    t: &Ty,
-) -> Result<bool, NoMemory>
+fn is_pattern(alloc: Global, decls: &[AdtDecl], pat: &TypedPat, t: &Ty) -> Result<bool, NoMemory>
     ensures { IfOk result (λ b. b ≡ true → IsPat (fields_in decls.now) pat.now t.now) }
 {
     match &*pat.node {
