@@ -2,9 +2,14 @@ pub mod Canonical
 pub mod Erased
 pub mod Free
 pub mod Laws
+pub mod Matches
 pub mod Meaning
 pub mod Normal
 pub mod Obligations
+pub mod Pattern
+pub mod PatternCode
+pub mod PatternFalls
+pub mod PatternView
 pub mod Placed
 pub mod Same
 pub mod Simplified

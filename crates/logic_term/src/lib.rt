@@ -7,6 +7,7 @@ mod declaration;
 mod kinds;
 mod laws;
 mod obligation;
+mod pattern;
 mod placed;
 mod subst;
 mod term;
@@ -24,6 +25,7 @@ pub use laws::{
     values_are_single, values_are_sure, values_of_made,
 };
 pub use obligation::{Bounds, Contract, Instance, Obligation};
+pub use pattern::{Binding, BindingKind, PatNode, PatPath, PatStep, TypedPat};
 pub use placed::reduce;
 pub use subst::{Renaming, Replacement};
 pub use term::{Sort, Term, TermForm};
