@@ -7,10 +7,12 @@ pub mod Normal
 pub mod Obligations
 pub mod Placed
 pub mod Same
+pub mod Scopes
 pub mod Simplified
 pub mod Sort
 pub mod Sorted
 pub mod Subst
+pub mod Tasks
 pub mod Term
 pub mod TermCode
 pub mod TermFalls
@@ -22,3 +24,4 @@ pub mod TyCode
 pub mod TyFalls
 pub mod TyView
 pub mod Value
+pub mod Walk
