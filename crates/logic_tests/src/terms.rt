@@ -89,7 +89,7 @@ fn names_in_terms(rt: HostRuntime) -> Result<(), Fail> {
     let alloc = rt.alloc();
     let t = all_equal(alloc, X, Y)?;
     assert!(rt; is_shared(&t)?);
-    assert!(rt; t.above()? == 8);
+    assert!(rt; t.above(alloc)? == 8);
     for (name, free) in [(X, true), (Y, false), (Name(8), false)] {
         assert!(rt; t.free_in(name) == free, "name {}", name.0);
     }
@@ -165,7 +165,7 @@ fn made_of_parts(rt: HostRuntime) -> Result<(), Fail> {
     let t = pair_of(alloc, Term::var(alloc, Y)?)?;
     assert!(rt; is_shared(&t)?);
     assert!(rt; t.free_in(Y));
-    assert!(rt; t.above()? == 8);
+    assert!(rt; t.above(alloc)? == 8);
     let wanted = pair_of(alloc, Term::unit(alloc)?)?;
     assert!(rt; becomes(alloc, &t, Y, &Term::unit(alloc)?, &wanted)?);
     assert!(rt; !t.same(&wanted));
