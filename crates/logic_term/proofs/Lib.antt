@@ -5,6 +5,7 @@ pub mod Coincide
 pub mod Erased
 pub mod FreeLaw
 pub mod Made
+pub mod Pairs
 pub mod PlacedLaw
 pub mod SameLaw
 pub mod ScopesWalk

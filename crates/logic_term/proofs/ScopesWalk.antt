@@ -1,12 +1,12 @@
 -- One step of a walk through the scopes of a term.
-use Rattle.std.proofs.Common.{◌≡◌, ℕ, suc, ◌+◌, ◌-◌, ◌<◌, ◌≤◌, max, List, [], ◌∷◌, ◌++◌, length, take, map, reverse, Option, Some, None, refl, sym, ◌∙◌, ap, arith, if◌then◌else◌}
+use Rattle.std.proofs.Common.{◌≡◌, ℕ, ◌+◌, ◌-◌, ◌<◌, max, List, [], ◌∷◌, ◌++◌, length, take, map, Option, Some, refl, ◌∙◌, ap, arith}
 use Rattle.std.proofs.lemmas.List.{append-nil, take_at, length-append}
 use Rattle.text_core.specs.declared.name.Name.{Name}
 use Rattle.logic_term.specs.declared.canonical.Scoped.{Scoped}
-use Rattle.logic_term.specs.Canonical.{is_one_of, above_free, all_above_free}
+use Rattle.logic_term.specs.Canonical.{above_free, all_above_free}
 use Rattle.logic_term.specs.Scopes.{scope, scopes, binds, within, above_scopes, above_free_top, scopes_weight}
 use Rattle.logic_term.specs.Term.{Term, Terms, var, lit, truth, apply, bind, no_terms, and_term}
-use Rattle.logic_term.specs.Walk.{listed, parts, weight, weights}
+use Rattle.logic_term.specs.Walk.{listed, weight, weights}
 use Rattle.logic_term.proofs.Bound.{bound_last}
 use Rattle.logic_term.proofs.Walking.{pushed}
 

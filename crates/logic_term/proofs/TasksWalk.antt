@@ -1,14 +1,13 @@
 -- One step of the walk that places a term.
-use Rattle.std.proofs.Common.{◌≡◌, ℕ, suc, ◌+◌, ◌-◌, ◌<◌, ◌≤◌, Bool, List, [], ◌∷◌, ◌++◌, length, take, drop, map, reverse, refl, sym, ◌∙◌, ap, arith}
+use Rattle.std.proofs.Common.{◌≡◌, ℕ, suc, ◌+◌, ◌-◌, ◌<◌, Bool, List, [], ◌∷◌, ◌++◌, length, take, map, refl, sym, ◌∙◌, ap, arith}
 use Rattle.std.proofs.lemmas.List.{append-nil, append_assoc, take_at, drop_at, length-append}
-use Rattle.text_core.specs.declared.name.Name.{Name}
 use Rattle.logic_term.specs.declared.kinds.Ctor.{Ctor}
 use Rattle.logic_term.specs.declared.placed.Task.{Task}
 use Rattle.logic_term.specs.declared.subst.Renaming.{Renaming}
 use Rattle.logic_term.specs.declared.subst.Replacement.{Replacement}
 use Rattle.logic_term.specs.Placed.{Placing, placed, all_placed}
 use Rattle.logic_term.specs.Simplified.{formed}
-use Rattle.logic_term.specs.Subst.{look, numbers_before, placing, renaming}
+use Rattle.logic_term.specs.Subst.{look, numbers_before, placing}
 use Rattle.logic_term.specs.Tasks.{Step, enter, apply_last, bind_last, step, steps, steps_of, binds_of, depth_in, made_of, with_last, applied, bound_over, after, steps_weight}
 use Rattle.logic_term.specs.Term.{Operator, made, Quantifier, Term, Terms, var, lit, truth, apply, bind, no_terms, and_term, count}
 use Rattle.logic_term.specs.TermView.{terms_of}

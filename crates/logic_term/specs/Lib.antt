@@ -5,6 +5,7 @@ pub mod Laws
 pub mod Meaning
 pub mod Normal
 pub mod Obligations
+pub mod Pairs
 pub mod Placed
 pub mod Same
 pub mod Scopes

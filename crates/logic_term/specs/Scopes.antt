@@ -1,5 +1,5 @@
 -- A walk over a term, and through the scopes of the names that it binds.
-use Rattle.std.specs.Prelude.{ℕ, suc, max, List, [], ◌∷◌, ◌++◌, ◌-◌, ◌+◌, length, take, map, reverse, Option, Some, None, if◌then◌else◌}
+use Rattle.std.specs.Prelude.{ℕ, suc, max, List, [], ◌∷◌, ◌-◌, ◌+◌, length, take, map, reverse, Option, Some, None, if◌then◌else◌}
 use Rattle.text_core.specs.declared.name.Name.{Name}
 use Rattle.logic_term.specs.declared.canonical.Scoped.{Scoped}
 use Rattle.logic_term.specs.declared.canonical.Scoped.TheVariants as scoped

@@ -1,6 +1,5 @@
 -- A walk that makes a term of the parts that it has made before, with stacks of what is to be done, of bound names and of terms.
 use Rattle.std.specs.Prelude.{ℕ, suc, ◌+◌, ◌-◌, Bool, true, List, [], ◌∷◌, ◌++◌, length, take, drop, map, reverse}
-use Rattle.text_core.specs.declared.name.Name.{Name}
 use Rattle.logic_term.specs.declared.placed.Form.{Form}
 use Rattle.logic_term.specs.declared.placed.Form.TheVariants as form
 use Rattle.logic_term.specs.declared.placed.Task.{Task}
@@ -10,7 +9,7 @@ use Rattle.logic_term.specs.declared.subst.Replacement.{Replacement}
 use Rattle.logic_term.specs.Placed.{placed}
 use Rattle.logic_term.specs.Simplified.{formed}
 use Rattle.logic_term.specs.Subst.{look, numbers_before, placing}
-use Rattle.logic_term.specs.Term.{Operator, made, Quantifier, every, Term, Terms, var, lit, truth, apply, bind, no_terms, and_term, count}
+use Rattle.logic_term.specs.Term.{Operator, made, Quantifier, every, Term, var, lit, truth, apply, bind, count}
 use Rattle.logic_term.specs.TermOperator.{unary_operator, binary_operator}
 use Rattle.logic_term.specs.TermView.{terms_of}
 use Rattle.logic_term.specs.Ty.{Ty}

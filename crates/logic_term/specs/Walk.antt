@@ -1,6 +1,7 @@
 -- A walk over a term with a stack of the terms that it has yet to go over.
-use Rattle.std.specs.Prelude.{ℕ, suc, ◌+◌, List, [], ◌∷◌, map, reverse}
+use Rattle.std.specs.Prelude.{ℕ, suc, ◌+◌, ◌==◌, Bool, false, List, [], ◌∷◌, map, reverse}
 use Rattle.std.specs.Borrow.{Bor}
+use Rattle.text_core.specs.declared.name.Name.{Name}
 use Rattle.logic_term.specs.Term.{Term, Terms, var, lit, truth, apply, bind, no_terms, and_term}
 
 -- the direct parts of a term
@@ -39,3 +40,18 @@ above_top (lit z s) = 0
 above_top (truth b) = 0
 above_top (apply op ts) = 0
 above_top (bind q x s t) = suc x.0
+
+-- whether the term is the name, and whether it binds the name
+abbrev pub is_name : Name → Term → Bool
+is_name x (var y) = x.0 == y.0
+is_name x (lit z s) = false
+is_name x (truth b) = false
+is_name x (apply op ts) = false
+is_name x (bind q y s t) = false
+
+abbrev pub is_bound_by : Name → Term → Bool
+is_bound_by x (var y) = false
+is_bound_by x (lit z s) = false
+is_bound_by x (truth b) = false
+is_bound_by x (apply op ts) = false
+is_bound_by x (bind q y s t) = x.0 == y.0

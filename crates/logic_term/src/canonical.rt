@@ -104,7 +104,7 @@ impl Term {
     {
         let left = self.canonical(alloc)?;
         let right = other.canonical(alloc)?;
-        Ok(left.same(&right))
+        left.same(alloc, &right)
     }
 }
 

@@ -1,8 +1,7 @@
 ghost use Rattle.std.specs.Prelude.{◌≡◌, [], ◌∷◌, ◌++◌, IfOk, OnOk};
-ghost use Rattle.logic_term.specs.Free.{free, free_in_some};
-ghost use Rattle.logic_term.specs.TermView.{terms_of};
+ghost use Rattle.logic_term.specs.Free.{free};
 ghost use Rattle.logic_term.specs.Subst.{above, above_entries, numbers_before, renamed, with_terms, replaced};
-ghost use Rattle.logic_term.specs.Walk.{above_top, parts, to_do};
+ghost use Rattle.logic_term.specs.Walk.{above_top, is_bound_by, is_name, parts, to_do};
 
 use crate::term::{Term, TermNode};
 use std::alloc::Global;
@@ -24,18 +23,38 @@ pub struct Replacement {
 
 impl Term {
     /// Whether the name is free in the term.
-    #[cycle(free_in)]
-    pub fn free_in(&self, name: Name) -> bool
-        ensures { result ≡ free name self.now }
+    pub fn free_in(&self, alloc: Global, name: Name) -> Result<bool, NoMemory>
+        ensures { IfOk result (λ b. b ≡ free name self.now) }
+    {
+        let mut left = Vec::new(alloc);
+        left.push(self)?;
+        while let Some(t) = left.pop() {
+            if t.is_name(name) {
+                return Ok(true);
+            }
+            if !t.binds(name) {
+                t.push_parts(&mut left)?;
+            }
+        }
+        Ok(false)
+    }
+
+    fn is_name(&self, name: Name) -> bool
+        ensures { result ≡ is_name name self.now }
     {
         match self.node() {
             TermNode::Var(other) => name.0 == other.0,
-            TermNode::Lit(_, _) => false,
-            TermNode::Truth(_) => false,
-            TermNode::Make(_, parts) => free_in_any(name, parts),
-            TermNode::Unary(_, t) => t.free_in(name),
-            TermNode::Binary(_, a, b) => a.free_in(name) || b.free_in(name),
-            TermNode::Forall(other, _, t) => name.0 != other.0 && t.free_in(name),
+            _ => false,
+        }
+    }
+
+    /// Whether the term is a quantifier over the name.
+    fn binds(&self, name: Name) -> bool
+        ensures { result ≡ is_bound_by name self.now }
+    {
+        match self.node() {
+            TermNode::Forall(other, _, _) => name.0 == other.0,
+            _ => false,
         }
     }
 
@@ -156,17 +175,4 @@ fn push_all<'a>(terms: &'a [Term], left: &mut Vec<&'a Term>) -> Result<(), NoMem
         left.push(&terms[i])?;
     }
     Ok(())
-}
-
-#[cycle(free_in)]
-#[tactic(auto, using(crate::specs::TermFalls::each_smaller))]
-fn free_in_any(name: Name, terms: &[Term]) -> bool
-    ensures { result ≡ free_in_some name (terms_of terms.now) }
-{
-    for i in 0..terms.len() {
-        if terms[i].free_in(name) {
-            return true;
-        }
-    }
-    false
 }
