@@ -10,4 +10,4 @@ returns-in-None c = λ ds r.
 pub loop-multiple-preserved : goal.loop-multiple-preserved
 loop-multiple-preserved c =
     rows_more c.args.q.now c.args.multiples.now c.loop-multiple.multiple-index (record { by = pos 0; of = Goal }) c.loop-multiple.all.items c.push.new.self.items
-        c.in-Some.sides c.loop-multiple-test.true (c.in-Some.ensures {u = tt}) c.loop-multiple.invariant (c.in_ok-push-in-Some.ensures {u = tt}).items
+    c.in-Some.sides c.loop-multiple-test.true (c.in-Some.ensures {u = tt}) c.loop-multiple.invariant (c.in_ok-push-in-Some.ensures {u = tt}).items
