@@ -3,3 +3,4 @@ pub mod GoalText
 pub mod SortText
 pub mod Spelling
 pub mod SpellingView
+pub mod TasksView

@@ -1,13 +1,14 @@
 //! Terms as text.
-ghost use Rattle.std.specs.Prelude.{◌≡◌, ◌∷◌, ◌++◌, codes, flat_map, map, IfOk, OnOk};
+ghost use Rattle.std.specs.Prelude.{◌≡◌, ◌<◌, ◌≤◌, ◌+◌, [], ◌∷◌, ◌++◌, ℕ, List, codes, map, reverse, IfOk, OnOk};
 ghost use Rattle.logic_term.specs.TermView.{terms_of};
-ghost use Rattle.logic_term.specs.TermOperator.{unary_operator};
-ghost use Rattle.logic_term.specs.Term.{every, forall, one};
+ghost use Rattle.logic_term.specs.TermOperator.{unary_operator, binary_operator};
+ghost use Rattle.logic_term.specs.Term.{every, forall, one, two};
 ghost use Rattle.goal_text.specs.SortText.{commas};
-ghost use Rattle.goal_text.specs.Spelling.{labelled};
+ghost use Rattle.goal_text.specs.Spelling.{Spelling as Words, labelled};
 ghost use Rattle.goal_text.specs.SpellingView.{spelling_of};
 ghost use Rattle.goal_text.specs.BoundView.{bounds_of};
-ghost use Rattle.goal_text.specs.GoalText.{binary_sign, binder_text, fields_text, literal_text, made_text, number_in, text_in, text_of_goal, texts_in, truth_text};
+ghost use Rattle.goal_text.specs.GoalText.{applied_text, binder_text, fields_text, literal_text, made_text, number_in, text_in, text_of_goal, texts_in, truth_text};
+ghost use Rattle.goal_text.specs.TasksView.{Around, after_commas, left_text, left_load, load, loads};
 
 use crate::piece::{binary_bytes, push_numbered, push_text, tuple_end_bytes};
 use crate::sort::{push_sort, suffix_bytes};
@@ -43,7 +44,7 @@ pub fn goal_text(alloc: Global, spelling: &Spelling<'_>, goal: &Term) -> Result<
     ensures { IfOk result (λ text. text.items ≡ text_of_goal (spelling_of spelling.now) goal.now) }
 {
     let mut out = Vec::new(alloc);
-    push_term(alloc, &mut out, spelling, &[], goal)?;
+    push_term(alloc, &mut out, spelling, goal)?;
     Ok(out)
 }
 
@@ -54,31 +55,31 @@ pub(crate) struct Bound<'a> {
     sort: &'a Sort,
 }
 
+/// What is still to be printed.
+#[derive(Clone, Copy)]
+enum Task<'a> {
+    Term(&'a Term),
+    Text(&'a [u8]),
+    /// The terms, each after a comma.
+    Others(&'a [Term]),
+    /// The values of fields, each after a comma and its field; the flag says that fields are named by their numbers.
+    OtherFields(bool, &'a [FieldDecl], &'a [Term]),
+    /// The scope of the name that was bound last ends here.
+    Left,
+}
+
 /// The number of the innermost binder of the name, the outermost being 1; 0 where none binds it.
 fn number_of(bound: &[Bound<'_>], name: Name) -> usize
     ensures { result ≡ number_in (bounds_of bound.now) name }
 {
-    for i in 0..bound.len() {
-        if name.0 == bound[i].name.0 {
-            return bound.len() - i;
+    let mut left = bound.len();
+    while left > 0 {
+        left -= 1;
+        if name.0 == bound[left].name.0 {
+            return left + 1;
         }
     }
     0
-}
-
-/// The names that are bound within a binder of the name.
-fn within<'a>(
-    alloc: Global,
-    name: Name,
-    sort: &'a Sort,
-    bound: &[Bound<'a>],
-) -> Result<Vec<Bound<'a>>, NoMemory>
-    ensures { IfOk result (λ inner. bounds_of inner.items ≡ (name, sort.now) ∷ bounds_of bound.now) }
-{
-    let mut inner = Vec::new(alloc);
-    inner.push(Bound { name, sort })?;
-    inner.extend_from_slice(bound)?;
-    Ok(inner)
 }
 
 fn truth_bytes(holds: bool) -> &'static [u8]
@@ -117,153 +118,170 @@ fn push_binder(
     push_text(out, b"> ")
 }
 
-/// The term, the names that are bound around it being these, the innermost first.
-#[cycle(push_term)]
-#[tactic(auto, using(crate::proofs::Signs::binary_text))]
+/// The term, no name being bound around it.
 fn push_term<'a>(
     alloc: Global,
     out: &mut Vec<u8>,
-    spelling: &Spelling<'_>,
-    bound: &[Bound<'a>],
-    t: &'a Term,
+    spelling: &Spelling<'a>,
+    term: &'a Term,
 ) -> Result<(), NoMemory>
-    ensures { OnOk result (out.new.items ≡ out.old.items ++ text_in (spelling_of spelling.now) (bounds_of bound.now) t.now) }
+    ensures { OnOk result (out.new.items ≡ out.old.items ++ text_in (spelling_of spelling.now) [] term.now) }
 {
-    match t.form() {
-        TermForm::Var(name) => push_numbered(alloc, out, b"v", number_of(bound, name) as u64),
+    let mut bound = Vec::new(alloc);
+    let mut tasks = Vec::new(alloc);
+    tasks.push(Task::Term(term))?;
+    while let Some(task) = tasks.pop() {
+        match task {
+            Task::Term(t) => {
+                print_term(alloc, out, spelling, t, &mut bound, &mut tasks)?;
+            }
+            Task::Text(text) => {
+                push_text(out, text)?;
+            }
+            Task::Others(terms) => {
+                print_others(out, terms, &mut tasks)?;
+            }
+            Task::OtherFields(numbered, fields, terms) => {
+                print_other_fields(out, spelling, numbered, fields, terms, &mut tasks)?;
+            }
+            Task::Left => {
+                bound.pop();
+            }
+        }
+    }
+    Ok(())
+}
+
+/// Prints the term up to its first part, and adds what is to be printed from there on.
+fn print_term<'a>(
+    alloc: Global,
+    out: &mut Vec<u8>,
+    spelling: &Spelling<'a>,
+    term: &'a Term,
+    bound: &mut Vec<Bound<'a>>,
+    tasks: &mut Vec<Task<'a>>,
+) -> Result<(), NoMemory>
+    ensures text { OnOk result (out.new.items ++ left_text (spelling_of spelling.now) (bounds_of bound.new.items) (reverse tasks.new.items) ≡ out.old.items ++ (text_in (spelling_of spelling.now) (bounds_of bound.old.items) term.now ++ left_text (spelling_of spelling.now) (bounds_of bound.old.items) (reverse tasks.old.items))) }
+    ensures less { OnOk result (left_load (reverse tasks.new.items) < load term.now + left_load (reverse tasks.old.items)) }
+{
+    match term.form() {
+        TermForm::Var(name) => {
+            let number = number_of(bound.as_slice(), name) as u64;
+            push_numbered(alloc, out, b"v", number)
+        }
         TermForm::Lit(number, sort) => push_literal(alloc, out, number, sort),
         TermForm::Truth(holds) => push_text(out, truth_bytes(holds)),
-        TermForm::Make(ctor, parts) => push_made(alloc, out, spelling, bound, ctor, parts),
-        TermForm::Unary(op, a) => push_unary(alloc, out, spelling, bound, op, a),
-        TermForm::Binary(op, a, b) => { push_binary(alloc, out, spelling, bound, a, op, b) }
-        TermForm::Forall(name, sort, a) => push_forall(alloc, out, spelling, bound, name, sort, a),
+        TermForm::Make(ctor, parts) => print_made(out, spelling, ctor, parts, tasks),
+        TermForm::Unary(op, t) => print_unary(out, op, t, tasks),
+        TermForm::Binary(op, a, b) => print_binary(out, a, op, b, tasks),
+        TermForm::Forall(name, sort, t) => {
+            print_forall(alloc, out, spelling, name, sort, t, bound, tasks)
+        }
     }
 }
 
 /// `A@`, `(-A)` or `(!A)`
-#[cycle(push_term)]
-fn push_unary<'a>(
-    alloc: Global,
+fn print_unary<'a>(
     out: &mut Vec<u8>,
-    spelling: &Spelling<'_>,
-    bound: &[Bound<'a>],
     op: TermUnary,
     t: &'a Term,
+    tasks: &mut Vec<Task<'a>>,
 ) -> Result<(), NoMemory>
-    ensures { OnOk result (out.new.items ≡ out.old.items ++ text_in (spelling_of spelling.now) (bounds_of bound.now) (one (unary_operator op) t.now)) }
+    ensures text { OnOk result ((w : Words) → (bs : Around) → out.new.items ++ left_text w bs (reverse tasks.new.items) ≡ out.old.items ++ (text_in w bs (one (unary_operator op) t.now) ++ left_text w bs (reverse tasks.old.items))) }
+    ensures less { OnOk result (left_load (reverse tasks.new.items) ≤ 1 + load t.now + left_load (reverse tasks.old.items)) }
+{
+    let (before, after) = unary_bytes(op);
+    push_text(out, before)?;
+    tasks.push(Task::Text(after))?;
+    tasks.push(Task::Term(t))?;
+    Ok(())
+}
+
+/// What stands before and behind the term.
+fn unary_bytes(op: TermUnary) -> (&'static [u8], &'static [u8])
+    ensures { (w : Words) → (text : List ℕ) → applied_text w (unary_operator op) (text ∷ []) ≡ result.0.now ++ text ++ result.1.now }
 {
     match op {
-        TermUnary::Model => {
-            push_term(alloc, out, spelling, bound, t)?;
-            push_text(out, b"@")
-        }
-        TermUnary::Negative => push_prefixed(alloc, out, spelling, bound, b"-", t),
-        TermUnary::Not => push_prefixed(alloc, out, spelling, bound, b"!", t),
+        TermUnary::Model => (b"", b"@"),
+        TermUnary::Negative => (b"(-", b")"),
+        TermUnary::Not => (b"(!", b")"),
     }
 }
 
-/// `(!A)`
-#[cycle(push_term)]
-fn push_prefixed<'a>(
-    alloc: Global,
-    out: &mut Vec<u8>,
-    spelling: &Spelling<'_>,
-    bound: &[Bound<'a>],
-    operator: &[u8],
-    t: &'a Term,
-) -> Result<(), NoMemory>
-    ensures { OnOk result (out.new.items ≡ out.old.items ++ (codes "(" ++ operator.now ++ text_in (spelling_of spelling.now) (bounds_of bound.now) t.now ++ codes ")")) }
-{
-    push_text(out, b"(")?;
-    push_text(out, operator)?;
-    push_term(alloc, out, spelling, bound, t)?;
-    push_text(out, b")")
-}
-
 /// `(A && B)`
-#[cycle(push_term)]
-fn push_binary<'a>(
-    alloc: Global,
+fn print_binary<'a>(
     out: &mut Vec<u8>,
-    spelling: &Spelling<'_>,
-    bound: &[Bound<'a>],
     left: &'a Term,
     op: TermBinary,
     right: &'a Term,
+    tasks: &mut Vec<Task<'a>>,
 ) -> Result<(), NoMemory>
-    ensures { OnOk result (out.new.items ≡ out.old.items ++ (codes "(" ++ text_in (spelling_of spelling.now) (bounds_of bound.now) left.now ++ binary_sign op ++ text_in (spelling_of spelling.now) (bounds_of bound.now) right.now ++ codes ")")) }
+    ensures text { OnOk result ((w : Words) → (bs : Around) → out.new.items ++ left_text w bs (reverse tasks.new.items) ≡ out.old.items ++ (text_in w bs (two (binary_operator op) left.now right.now) ++ left_text w bs (reverse tasks.old.items))) }
+    ensures less { OnOk result (left_load (reverse tasks.new.items) ≤ 2 + load left.now + load right.now + left_load (reverse tasks.old.items)) }
 {
     push_text(out, b"(")?;
-    push_term(alloc, out, spelling, bound, left)?;
-    push_text(out, binary_bytes(op))?;
-    push_term(alloc, out, spelling, bound, right)?;
-    push_text(out, b")")
+    tasks.push(Task::Text(b")"))?;
+    tasks.push(Task::Term(right))?;
+    tasks.push(Task::Text(binary_bytes(op)))?;
+    tasks.push(Task::Term(left))?;
+    Ok(())
 }
 
 /// `(forall<v1: S> A)`
-#[cycle(push_term)]
-fn push_forall<'a>(
+fn print_forall<'a>(
     alloc: Global,
     out: &mut Vec<u8>,
-    spelling: &Spelling<'_>,
-    bound: &[Bound<'a>],
+    spelling: &Spelling<'a>,
     name: Name,
     sort: &'a Sort,
     body: &'a Term,
+    bound: &mut Vec<Bound<'a>>,
+    tasks: &mut Vec<Task<'a>>,
 ) -> Result<(), NoMemory>
-    ensures { OnOk result (out.new.items ≡ out.old.items ++ text_in (spelling_of spelling.now) (bounds_of bound.now) (forall name sort.now body.now)) }
+    ensures text { OnOk result (out.new.items ++ left_text (spelling_of spelling.now) (bounds_of bound.new.items) (reverse tasks.new.items) ≡ out.old.items ++ (text_in (spelling_of spelling.now) (bounds_of bound.old.items) (forall name sort.now body.now) ++ left_text (spelling_of spelling.now) (bounds_of bound.old.items) (reverse tasks.old.items))) }
+    ensures less { OnOk result (left_load (reverse tasks.new.items) ≤ 2 + load body.now + left_load (reverse tasks.old.items)) }
 {
-    let inner = within(alloc, name, sort, bound)?;
+    bound.push(Bound { name, sort })?;
     push_text(out, b"(")?;
-    push_binder(alloc, out, spelling, inner.len() as u64, sort)?;
-    push_term(alloc, out, spelling, inner.as_slice(), body)?;
-    push_text(out, b")")
+    push_binder(alloc, out, spelling, bound.len() as u64, sort)?;
+    tasks.push(Task::Text(b")"))?;
+    tasks.push(Task::Left)?;
+    tasks.push(Task::Term(body))?;
+    Ok(())
 }
 
 /// A value made of parts.
-#[cycle(push_term)]
-fn push_made<'a>(
-    alloc: Global,
+fn print_made<'a>(
     out: &mut Vec<u8>,
-    spelling: &Spelling<'_>,
-    bound: &[Bound<'a>],
+    spelling: &Spelling<'a>,
     ctor: Ctor,
     parts: &'a [Term],
+    tasks: &mut Vec<Task<'a>>,
 ) -> Result<(), NoMemory>
-    ensures { OnOk result (out.new.items ≡ out.old.items ++ made_text (spelling_of spelling.now) ctor (texts_in (spelling_of spelling.now) (bounds_of bound.now) (terms_of parts.now))) }
+    ensures text { OnOk result ((bs : Around) → out.new.items ++ left_text (spelling_of spelling.now) bs (reverse tasks.new.items) ≡ out.old.items ++ (made_text (spelling_of spelling.now) ctor (texts_in (spelling_of spelling.now) bs (terms_of parts.now)) ++ left_text (spelling_of spelling.now) bs (reverse tasks.old.items))) }
+    ensures less { OnOk result (left_load (reverse tasks.new.items) ≤ 1 + loads (terms_of parts.now) + left_load (reverse tasks.old.items)) }
 {
     match ctor {
-        Ctor::Tuple => {
-            push_parts(
-                alloc,
-                out,
-                spelling,
-                bound,
-                b"(",
-                parts,
-                tuple_end_bytes(parts.len()),
-            )
-        }
+        Ctor::Tuple => { print_parts(out, b"(", parts, tuple_end_bytes(parts.len()), tasks) }
         Ctor::Variant(declared, variant) => {
             push_path(out, spelling, declared, variant)?;
             let fields = fields_at(spelling, declared, variant);
-            push_fields(alloc, out, spelling, bound, fields, parts)
+            print_fields(out, spelling, fields, parts, tasks)
         }
-        Ctor::Closure(_) => push_parts(alloc, out, spelling, bound, b"closure(", parts, b")"),
+        Ctor::Closure(_) => print_parts(out, b"closure(", parts, b")", tasks),
     }
 }
 
 /// The values of a variant's fields.
-#[cycle(push_term)]
-fn push_fields<'a>(
-    alloc: Global,
+fn print_fields<'a>(
     out: &mut Vec<u8>,
-    spelling: &Spelling<'_>,
-    bound: &[Bound<'a>],
-    fields: &[FieldDecl],
+    spelling: &Spelling<'a>,
+    fields: &'a [FieldDecl],
     parts: &'a [Term],
+    tasks: &mut Vec<Task<'a>>,
 ) -> Result<(), NoMemory>
-    ensures { OnOk result (out.new.items ≡ out.old.items ++ fields_text (spelling_of spelling.now) fields.now (texts_in (spelling_of spelling.now) (bounds_of bound.now) (terms_of parts.now))) }
+    ensures text { OnOk result ((bs : Around) → out.new.items ++ left_text (spelling_of spelling.now) bs (reverse tasks.new.items) ≡ out.old.items ++ (fields_text (spelling_of spelling.now) fields.now (texts_in (spelling_of spelling.now) bs (terms_of parts.now)) ++ left_text (spelling_of spelling.now) bs (reverse tasks.old.items))) }
+    ensures less { OnOk result (left_load (reverse tasks.new.items) ≤ 1 + loads (terms_of parts.now) + left_load (reverse tasks.old.items)) }
 {
     let Some((first, others)) = parts.split_first() else {
         return Ok(());
@@ -271,92 +289,69 @@ fn push_fields<'a>(
     let numbered = is_numbered(spelling, fields);
     push_text(out, opening_bytes(numbered))?;
     push_label(out, spelling, numbered, first_field(fields))?;
-    push_term(alloc, out, spelling, bound, first)?;
-    push_other_fields(
-        alloc,
-        out,
-        spelling,
-        bound,
-        numbered,
-        other_fields(fields),
-        others,
-    )?;
-    push_text(out, closing_bytes(numbered))
+    tasks.push(Task::Text(closing_bytes(numbered)))?;
+    tasks.push(Task::OtherFields(numbered, other_fields(fields), others))?;
+    tasks.push(Task::Term(first))?;
+    Ok(())
 }
 
-/// Those after the first, each after a comma.
-#[cycle(push_term)]
-#[tactic(auto, using(logic_term::specs::TermFalls::each_smaller))]
-fn push_other_fields<'a>(
-    alloc: Global,
+/// Prints up to the first value, after a comma and its field.
+fn print_other_fields<'a>(
     out: &mut Vec<u8>,
-    spelling: &Spelling<'_>,
-    bound: &[Bound<'a>],
+    spelling: &Spelling<'a>,
     numbered: bool,
-    fields: &[FieldDecl],
-    others: &'a [Term],
+    fields: &'a [FieldDecl],
+    terms: &'a [Term],
+    tasks: &mut Vec<Task<'a>>,
 ) -> Result<(), NoMemory>
-    ensures { OnOk result (out.new.items ≡ out.old.items ++ flat_map (λ part. codes ", " ++ part) (labelled (spelling_of spelling.now) numbered fields.now (map (text_in (spelling_of spelling.now) (bounds_of bound.now)) others.now))) }
+    ensures text { OnOk result ((bs : Around) → out.new.items ++ left_text (spelling_of spelling.now) bs (reverse tasks.new.items) ≡ out.old.items ++ (after_commas (labelled (spelling_of spelling.now) numbered fields.now (map (text_in (spelling_of spelling.now) bs) terms.now)) ++ left_text (spelling_of spelling.now) bs (reverse tasks.old.items))) }
+    ensures less { OnOk result (left_load (reverse tasks.new.items) < loads (terms_of terms.now) + left_load (reverse tasks.old.items)) }
 {
-    for i in 0..others.len() {
-        push_text(out, b", ")?;
-        push_label(out, spelling, numbered, field_at(fields, i))?;
-        push_term(alloc, out, spelling, bound, &others[i])?;
-    }
+    let Some((first, others)) = terms.split_first() else {
+        return Ok(());
+    };
+    push_text(out, b", ")?;
+    push_label(out, spelling, numbered, first_field(fields))?;
+    tasks.push(Task::OtherFields(numbered, other_fields(fields), others))?;
+    tasks.push(Task::Term(first))?;
     Ok(())
 }
 
 /// `A, B` between two words.
-#[cycle(push_term)]
-fn push_parts<'a>(
-    alloc: Global,
+fn print_parts<'a>(
     out: &mut Vec<u8>,
-    spelling: &Spelling<'_>,
-    bound: &[Bound<'a>],
     before: &[u8],
     parts: &'a [Term],
-    after: &[u8],
+    after: &'a [u8],
+    tasks: &mut Vec<Task<'a>>,
 ) -> Result<(), NoMemory>
-    ensures { OnOk result (out.new.items ≡ out.old.items ++ (before.now ++ commas (texts_in (spelling_of spelling.now) (bounds_of bound.now) (terms_of parts.now)) ++ after.now)) }
+    ensures text { OnOk result ((w : Words) → (bs : Around) → out.new.items ++ left_text w bs (reverse tasks.new.items) ≡ out.old.items ++ ((before.now ++ commas (texts_in w bs (terms_of parts.now)) ++ after.now) ++ left_text w bs (reverse tasks.old.items))) }
+    ensures less { OnOk result (left_load (reverse tasks.new.items) ≤ 1 + loads (terms_of parts.now) + left_load (reverse tasks.old.items)) }
 {
     push_text(out, before)?;
-    push_listed(alloc, out, spelling, bound, parts)?;
-    push_text(out, after)
-}
-
-/// `A, B`
-#[cycle(push_term)]
-fn push_listed<'a>(
-    alloc: Global,
-    out: &mut Vec<u8>,
-    spelling: &Spelling<'_>,
-    bound: &[Bound<'a>],
-    parts: &'a [Term],
-) -> Result<(), NoMemory>
-    ensures { OnOk result (out.new.items ≡ out.old.items ++ commas (texts_in (spelling_of spelling.now) (bounds_of bound.now) (terms_of parts.now))) }
-{
+    tasks.push(Task::Text(after))?;
     let Some((first, others)) = parts.split_first() else {
         return Ok(());
     };
-    push_term(alloc, out, spelling, bound, first)?;
-    push_others(alloc, out, spelling, bound, others)
+    tasks.push(Task::Others(others))?;
+    tasks.push(Task::Term(first))?;
+    Ok(())
 }
 
-/// The parts after the first, each after a comma.
-#[cycle(push_term)]
-#[tactic(auto, using(logic_term::specs::TermFalls::each_smaller))]
-fn push_others<'a>(
-    alloc: Global,
+/// Prints up to the first term, after a comma.
+fn print_others<'a>(
     out: &mut Vec<u8>,
-    spelling: &Spelling<'_>,
-    bound: &[Bound<'a>],
-    others: &'a [Term],
+    terms: &'a [Term],
+    tasks: &mut Vec<Task<'a>>,
 ) -> Result<(), NoMemory>
-    ensures { OnOk result (out.new.items ≡ out.old.items ++ flat_map (λ t. codes ", " ++ text_in (spelling_of spelling.now) (bounds_of bound.now) t) others.now) }
+    ensures text { OnOk result ((w : Words) → (bs : Around) → out.new.items ++ left_text w bs (reverse tasks.new.items) ≡ out.old.items ++ (after_commas (map (text_in w bs) terms.now) ++ left_text w bs (reverse tasks.old.items))) }
+    ensures less { OnOk result (left_load (reverse tasks.new.items) < loads (terms_of terms.now) + left_load (reverse tasks.old.items)) }
 {
-    for i in 0..others.len() {
-        push_text(out, b", ")?;
-        push_term(alloc, out, spelling, bound, &others[i])?;
-    }
+    let Some((first, others)) = terms.split_first() else {
+        return Ok(());
+    };
+    push_text(out, b", ")?;
+    tasks.push(Task::Others(others))?;
+    tasks.push(Task::Term(first))?;
     Ok(())
 }

@@ -4,12 +4,15 @@ pub mod CanonicalLaw
 pub mod Coincide
 pub mod Erased
 pub mod FreeLaw
-pub mod Lists
 pub mod Made
+pub mod Pairs
 pub mod PlacedLaw
 pub mod SameLaw
+pub mod ScopesWalk
 pub mod SortLaw
 pub mod SortParts
 pub mod SortSound
+pub mod TasksWalk
 pub mod Truth
 pub mod Unique
+pub mod Walking

@@ -6,16 +6,19 @@ pub mod Matches
 pub mod Meaning
 pub mod Normal
 pub mod Obligations
+pub mod Pairs
 pub mod Pattern
 pub mod PatternCode
 pub mod PatternFalls
 pub mod PatternView
 pub mod Placed
 pub mod Same
+pub mod Scopes
 pub mod Simplified
 pub mod Sort
 pub mod Sorted
 pub mod Subst
+pub mod Tasks
 pub mod Term
 pub mod TermCode
 pub mod TermFalls
@@ -27,3 +30,4 @@ pub mod TyCode
 pub mod TyFalls
 pub mod TyView
 pub mod Value
+pub mod Walk

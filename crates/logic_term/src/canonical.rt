@@ -1,6 +1,6 @@
-ghost use Rattle.std.specs.Prelude.{◌≡◌, ◌∷◌, [], ◌↔◌, suc, IfOk, OnOk, IsTrue, max, if◌then◌else◌};
-ghost use Rattle.logic_term.specs.Canonical.{is_one_of, above_free, all_above_free, canonical, SameUpToNames};
-ghost use Rattle.logic_term.specs.TermView.{terms_of};
+ghost use Rattle.std.specs.Prelude.{◌≡◌, ◌∷◌, ◌++◌, [], ◌↔◌, suc, IfOk, IsTrue, Some, map, if◌then◌else◌};
+ghost use Rattle.logic_term.specs.Canonical.{is_one_of, above_free, canonical, SameUpToNames};
+ghost use Rattle.logic_term.specs.Scopes.{above_free_top, binds, scopes, within};
 
 use crate::term::{Term, TermNode};
 use std::alloc::Global;
@@ -35,37 +35,58 @@ impl Term {
     pub fn above_free(&self, alloc: Global) -> Result<u64, NoMemory>
         ensures { IfOk result (λ n. n ≡ above_free [] self.now) }
     {
-        self.above_free_in(&mut Vec::new(alloc))
+        let mut bound = Vec::new(alloc);
+        let mut most = 0u64;
+        let mut left = Vec::new(alloc);
+        left.push(Scoped::Within(self))?;
+        while let Some(next) = left.pop() {
+            match next {
+                Scoped::Within(t) => {
+                    most = most.max(t.above_free_top(bound.as_slice())?);
+                    t.push_scoped(&mut bound, &mut left)?;
+                }
+                Scoped::Left => {
+                    bound.pop();
+                }
+            }
+        }
+        Ok(most)
     }
 
-    /// The same of the names that are none of these.
-    #[cycle(above_free)]
-    fn above_free_in(&self, bound: &mut Vec<Name>) -> Result<u64, NoMemory>
-        ensures ok { IfOk result (λ n. n ≡ above_free bound.old.items self.now) }
-        ensures kept { OnOk result (bound.new.items ≡ bound.old.items) }
+    /// One past the term, where it is a name that is none of these; else 0.
+    fn above_free_top(&self, bound: &[Name]) -> Result<u64, NoMemory>
+        ensures { IfOk result (λ n. n ≡ above_free_top bound.now self.now) }
     {
         match self.node() {
-            TermNode::Var(name) => above_name(*name, bound.as_slice()),
-            TermNode::Lit(_, _) => Ok(0),
-            TermNode::Truth(_) => Ok(0),
-            TermNode::Make(_, parts) => all_above_free(parts, bound),
-            TermNode::Unary(_, t) => t.above_free_in(bound),
-            TermNode::Binary(_, a, b) => both_above_free(a, b, bound),
-            TermNode::Forall(name, _, t) => t.above_free_under(*name, bound),
+            TermNode::Var(name) => above_name(*name, bound),
+            _ => Ok(0),
         }
     }
 
-    /// The same, where one more name is bound.
-    #[cycle(above_free)]
-    #[tactic(auto, using(crate::proofs::Bound::bound_last))]
-    fn above_free_under(&self, name: Name, bound: &mut Vec<Name>) -> Result<u64, NoMemory>
-        ensures ok { IfOk result (λ n. n ≡ above_free (name ∷ bound.old.items) self.now) }
-        ensures kept { OnOk result (bound.new.items ≡ bound.old.items) }
+    /// Adds the direct parts of the term, the first last. The name of a quantifier is bound until its body is done.
+    #[tactic(auto, using(crate::proofs::Walking::listed_terms))]
+    fn push_scoped<'a>(
+        &'a self,
+        bound: &mut Vec<Name>,
+        left: &mut Vec<Scoped<'a>>,
+    ) -> Result<(), NoMemory>
+        ensures bound { IfOk result (λ _. bound.new.items ≡ bound.old.items ++ binds self.now) }
+        ensures left { IfOk result (λ _. scopes left.new.items ≡ within self.now ++ scopes left.old.items) }
     {
-        bound.push(name)?;
-        let above = self.above_free_in(bound)?;
-        bound.pop();
-        Ok(above)
+        match self.node() {
+            TermNode::Make(_, parts) => push_all_within(parts, left),
+            TermNode::Unary(_, t) => push_within(t, left),
+            TermNode::Binary(_, a, b) => {
+                push_within(b, left)?;
+                push_within(a, left)
+            }
+            TermNode::Forall(name, _, t) => {
+                bound.push(*name)?;
+                left.push(Scoped::Left)?;
+                push_within(t, left)
+            }
+            _ => Ok(()),
+        }
     }
 
     /// The term with its bound names numbered from one past its largest free name on: the same for all terms that differ
@@ -84,29 +105,34 @@ impl Term {
     {
         let left = self.canonical(alloc)?;
         let right = other.canonical(alloc)?;
-        Ok(left.same(&right))
+        left.same(alloc, &right)
     }
 }
 
-#[cycle(above_free)]
-fn both_above_free(a: &Term, b: &Term, bound: &mut Vec<Name>) -> Result<u64, NoMemory>
-    ensures ok { IfOk result (λ n. n ≡ max (above_free bound.old.items a.now) (above_free bound.old.items b.now)) }
-    ensures kept { OnOk result (bound.new.items ≡ bound.old.items) }
-{
-    let left = a.above_free_in(bound)?;
-    let right = b.above_free_in(bound)?;
-    Ok(left.max(right))
+// ---- what is still to be gone over
+
+/// A step of a walk through scopes.
+#[derive(Clone, Copy)]
+enum Scoped<'a> {
+    /// The term is next.
+    Within(&'a Term),
+    /// The scope of the name that was bound last ends here.
+    Left,
 }
 
-#[cycle(above_free)]
-#[tactic(auto, using(crate::specs::TermFalls::each_smaller))]
-fn all_above_free(terms: &[Term], bound: &mut Vec<Name>) -> Result<u64, NoMemory>
-    ensures ok { IfOk result (λ n. n ≡ all_above_free bound.old.items (terms_of terms.now)) }
-    ensures kept { OnOk result (bound.new.items ≡ bound.old.items) }
+fn push_within<'a>(t: &'a Term, left: &mut Vec<Scoped<'a>>) -> Result<(), NoMemory>
+    ensures { IfOk result (λ _. scopes left.new.items ≡ Some t.now ∷ scopes left.old.items) }
 {
-    let mut largest = 0u64;
-    for i in 0..terms.len() {
-        largest = largest.max(terms[i].above_free_in(bound)?);
+    left.push(Scoped::Within(t))?;
+    Ok(())
+}
+
+/// The terms, the first last.
+fn push_all_within<'a>(terms: &'a [Term], left: &mut Vec<Scoped<'a>>) -> Result<(), NoMemory>
+    ensures { IfOk result (λ _. scopes left.new.items ≡ map Some terms.now ++ scopes left.old.items) }
+{
+    for i in (0..terms.len()).rev() {
+        left.push(Scoped::Within(&terms[i]))?;
     }
-    Ok(largest)
+    Ok(())
 }

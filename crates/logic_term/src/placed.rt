@@ -1,17 +1,18 @@
 //! Terms for the free names of a term, numbers for its bound ones, and the normal form, in one walk.
-ghost use Rattle.std.specs.Prelude.{◌≡◌, ◌∷◌, IfOk, OnOk, suc};
-ghost use Rattle.logic_term.specs.Term.{made, var, modeled, no_terms, and_term};
+ghost use Rattle.std.specs.Prelude.{◌≡◌, [], ◌∷◌, ◌++◌, IfOk, OnOk, suc, length, map};
+ghost use Rattle.logic_term.specs.Term.{every, made, modeled, no_terms, and_term};
 ghost use Rattle.logic_term.specs.TermView.{terms_of};
 ghost use Rattle.logic_term.specs.TermOperator.{unary_operator, binary_operator};
 ghost use Rattle.logic_term.specs.Simplified.{simplified, formed};
-ghost use Rattle.logic_term.specs.Placed.{placed, all_placed};
+ghost use Rattle.logic_term.specs.Placed.{placed};
 ghost use Rattle.logic_term.specs.Subst.{look, placing, numbers_before};
+ghost use Rattle.logic_term.specs.Tasks.{enter, apply_last, bind_last, form_operator, form_count, step, steps, steps_of, binds_of, depth_in, made_of, with_last, applied, bound_over};
 ghost use Rattle.logic_term.specs.Normal.{reduced};
 ghost use Rattle.logic_term.specs.Laws.{HasValuesOf};
 
 use crate::kinds::{Ctor, TermBinary, TermUnary};
 use crate::subst::{Renaming, Replacement};
-use crate::term::{Term, TermNode, quantified};
+use crate::term::{Sort, Term, TermNode, quantified};
 use crate::ty::TyNode;
 use std::alloc::Global;
 use text_core::{Name, NoMemory};
@@ -117,7 +118,6 @@ impl Term {
     }
 
     /// The same, where these names are bound around it.
-    #[cycle(placed)]
     pub(crate) fn placed_in(
         &self,
         alloc: Global,
@@ -129,72 +129,223 @@ impl Term {
         ensures ok { IfOk result (λ t. t ≡ placed reduces next (placing (numbers_before bound.old.items sub.now)) self.now) }
         ensures kept { OnOk result (bound.new.items ≡ bound.old.items) }
     {
-        match self.node() {
-            TermNode::Var(name) => looked_up(alloc, *name, bound.as_slice(), sub),
-            TermNode::Lit(_, _) => self.share(),
-            TermNode::Truth(_) => self.share(),
-            TermNode::Make(ctor, parts) => {
-                let parts = all_placed(alloc, parts, reduces, next, bound, sub)?;
-                made_form(alloc, reduces, *ctor, parts)
-            }
-            TermNode::Unary(op, t) => {
-                let t = t.placed_in(alloc, reduces, next, bound, sub)?;
-                unary_form(alloc, reduces, *op, t)
-            }
-            TermNode::Binary(op, a, b) => {
-                let a = a.placed_in(alloc, reduces, next, bound, sub)?;
-                let b = b.placed_in(alloc, reduces, next, bound, sub)?;
-                binary_form(alloc, reduces, *op, a, b)
-            }
-            TermNode::Forall(name, sort, t) => {
-                let body = t.placed_under(alloc, reduces, *name, next, bound, sub)?;
-                quantified(alloc, Name(next), sort, body)
+        let mut depth = next;
+        let mut done = Vec::new(alloc);
+        let mut tasks = Vec::new(alloc);
+        tasks.push(Task::Enter(self))?;
+        while let Some(task) = tasks.pop() {
+            match task {
+                Task::Enter(t) => {
+                    t.enter(alloc, sub, &mut depth, bound, &mut tasks, &mut done)?;
+                }
+                Task::Form(form) => {
+                    form.apply(alloc, reduces, &mut done)?;
+                }
+                Task::Quantify(number, sort) => {
+                    bound.pop();
+                    depth = number;
+                    quantify(alloc, number, sort, &mut done)?;
+                }
             }
         }
+        done.pop().ok_or(NoMemory)
     }
 
-    /// The body of a quantifier over the name, which gets the number `next`.
-    #[cycle(placed)]
-    #[tactic(auto, using(crate::proofs::Bound::last_first))]
-    fn placed_under(
-        &self,
+    /// Makes the term where it has no parts; else adds what there is to do for it, the first task last.
+    fn enter<'a>(
+        &'a self,
         alloc: Global,
-        reduces: bool,
-        from: Name,
-        next: u64,
-        bound: &mut Vec<Renaming>,
         sub: &[Replacement],
-    ) -> Result<Term, NoMemory>
-        ensures ok { IfOk result (λ t. t ≡ placed reduces (suc next) (placing (record { name = from; by = var (record { 0 = next }) } ∷ numbers_before bound.old.items sub.now)) self.now) }
-        ensures kept { OnOk result (bound.new.items ≡ bound.old.items) }
+        depth: &mut u64,
+        bound: &mut Vec<Renaming>,
+        tasks: &mut Vec<Task<'a>>,
+        done: &mut Vec<Term>,
+    ) -> Result<(), NoMemory>
+        ensures tasks { IfOk result (λ _. steps tasks.new.items ≡ steps_of depth.old self.now ++ steps tasks.old.items) }
+        ensures bound { IfOk result (λ _. bound.new.items ≡ bound.old.items ++ binds_of depth.old self.now) }
+        ensures depth { IfOk result (λ _. depth.new ≡ depth_in depth.old self.now) }
+        ensures made { IfOk result (λ _. done.new.items ≡ done.old.items ++ made_of (numbers_before bound.old.items sub.now) self.now) }
     {
-        let to = Name(next);
-        let after = next.checked_add(1).ok_or(NoMemory)?;
-        bound.push(Renaming { from, to })?;
-        let body = self.placed_in(alloc, reduces, after, bound, sub)?;
-        bound.pop();
-        Ok(body)
+        match self.node() {
+            TermNode::Var(name) => push_name(alloc, *name, bound.as_slice(), sub, done),
+            TermNode::Lit(_, _) => push_shared(self, done),
+            TermNode::Truth(_) => push_shared(self, done),
+            TermNode::Make(ctor, parts) => push_make(*ctor, parts, tasks),
+            TermNode::Unary(op, t) => push_over(Form::Unary(*op), t, tasks),
+            TermNode::Binary(op, a, b) => push_binary(*op, a, b, tasks),
+            TermNode::Forall(name, sort, t) => open(*name, sort, t, depth, bound, tasks),
+        }
     }
 }
 
-#[cycle(placed)]
-#[tactic(auto, using(crate::specs::TermFalls::each_smaller))]
-fn all_placed(
-    alloc: Global,
-    terms: &[Term],
-    reduces: bool,
-    next: u64,
-    bound: &mut Vec<Renaming>,
-    sub: &[Replacement],
-) -> Result<Vec<Term>, NoMemory>
-    ensures ok { IfOk result (λ v. terms_of v.items ≡ all_placed reduces next (placing (numbers_before bound.old.items sub.now)) (terms_of terms.now)) }
-    ensures kept { OnOk result (bound.new.items ≡ bound.old.items) }
+// ---- its steps
+
+/// What is made of the terms that were made last.
+#[derive(Clone, Copy)]
+enum Form {
+    Unary(TermUnary),
+    Binary(TermBinary),
+    /// Of so many parts.
+    Make(Ctor, usize),
+}
+
+#[derive(Clone, Copy)]
+enum Task<'a> {
+    /// The term is to be placed.
+    Enter(&'a Term),
+    Form(Form),
+    /// The term that was made last is the body of a quantifier, whose name has this number.
+    Quantify(u64, &'a Sort),
+}
+
+fn push_task<'a>(task: Task<'a>, tasks: &mut Vec<Task<'a>>) -> Result<(), NoMemory>
+    ensures { IfOk result (λ _. steps tasks.new.items ≡ step task.entry ∷ steps tasks.old.items) }
 {
-    let mut all = Vec::with_capacity(alloc, terms.len())?;
-    for i in 0..terms.len() {
-        all.push(terms[i].placed_in(alloc, reduces, next, bound, sub)?)?;
+    tasks.push(task)?;
+    Ok(())
+}
+
+fn push_name(
+    alloc: Global,
+    name: Name,
+    bound: &[Renaming],
+    sub: &[Replacement],
+    done: &mut Vec<Term>,
+) -> Result<(), NoMemory>
+    ensures { IfOk result (λ _. done.new.items ≡ done.old.items ++ look (numbers_before bound.now sub.now) name ∷ []) }
+{
+    done.push(looked_up(alloc, name, bound, sub)?)?;
+    Ok(())
+}
+
+fn push_shared(t: &Term, done: &mut Vec<Term>) -> Result<(), NoMemory>
+    ensures { IfOk result (λ _. done.new.items ≡ done.old.items ++ t.now ∷ []) }
+{
+    done.push(t.share()?)?;
+    Ok(())
+}
+
+fn push_over<'a>(form: Form, t: &'a Term, tasks: &mut Vec<Task<'a>>) -> Result<(), NoMemory>
+    ensures { IfOk result (λ _. steps tasks.new.items ≡ enter t.now ∷ apply_last (form_operator form) (form_count form) ∷ steps tasks.old.items) }
+{
+    push_task(Task::Form(form), tasks)?;
+    push_task(Task::Enter(t), tasks)
+}
+
+fn push_binary<'a>(
+    op: TermBinary,
+    a: &'a Term,
+    b: &'a Term,
+    tasks: &mut Vec<Task<'a>>,
+) -> Result<(), NoMemory>
+    ensures { IfOk result (λ _. steps tasks.new.items ≡ enter a.now ∷ enter b.now ∷ apply_last (binary_operator op) 2 ∷ steps tasks.old.items) }
+{
+    push_over(Form::Binary(op), b, tasks)?;
+    push_task(Task::Enter(a), tasks)
+}
+
+fn push_make<'a>(ctor: Ctor, parts: &'a [Term], tasks: &mut Vec<Task<'a>>) -> Result<(), NoMemory>
+    ensures { IfOk result (λ _. steps tasks.new.items ≡ map enter parts.now ++ apply_last (made ctor) (length parts.now) ∷ steps tasks.old.items) }
+{
+    push_task(Task::Form(Form::Make(ctor, parts.len())), tasks)?;
+    for i in (0..parts.len()).rev() {
+        push_task(Task::Enter(&parts[i]), tasks)?;
     }
-    Ok(all)
+    Ok(())
+}
+
+/// The body of a quantifier is next, whose name gets the number `depth`.
+fn open<'a>(
+    name: Name,
+    sort: &'a Sort,
+    body: &'a Term,
+    depth: &mut u64,
+    bound: &mut Vec<Renaming>,
+    tasks: &mut Vec<Task<'a>>,
+) -> Result<(), NoMemory>
+    ensures tasks { IfOk result (λ _. steps tasks.new.items ≡ enter body.now ∷ bind_last every depth.old sort.now ∷ steps tasks.old.items) }
+    ensures bound { IfOk result (λ _. bound.new.items ≡ bound.old.items ++ record { from = name; to = record { 0 = depth.old } } ∷ []) }
+    ensures depth { IfOk result (λ _. depth.new ≡ suc depth.old) }
+{
+    let number = *depth;
+    *depth = number.checked_add(1).ok_or(NoMemory)?;
+    bound.push(Renaming {
+        from: name,
+        to: Name(number),
+    })?;
+    push_task(Task::Quantify(number, sort), tasks)?;
+    push_task(Task::Enter(body), tasks)
+}
+
+impl Form {
+    /// Puts what is made in the place of the terms that it is made of.
+    fn apply(self, alloc: Global, reduces: bool, done: &mut Vec<Term>) -> Result<(), NoMemory>
+        ensures { IfOk result (λ _. done.new.items ≡ with_last (applied reduces (form_operator self)) (form_count self) done.old.items) }
+    {
+        match self {
+            Form::Unary(op) => apply_unary(alloc, reduces, op, done),
+            Form::Binary(op) => apply_binary(alloc, reduces, op, done),
+            Form::Make(ctor, count) => apply_made(alloc, reduces, ctor, count, done),
+        }
+    }
+}
+
+#[tactic(auto, using(crate::proofs::TasksWalk::one_last))]
+fn apply_unary(
+    alloc: Global,
+    reduces: bool,
+    op: TermUnary,
+    done: &mut Vec<Term>,
+) -> Result<(), NoMemory>
+    ensures { IfOk result (λ _. done.new.items ≡ with_last (applied reduces (unary_operator op)) 1 done.old.items) }
+{
+    let Some(t) = done.pop() else {
+        return Err(NoMemory);
+    };
+    done.push(unary_form(alloc, reduces, op, t)?)?;
+    Ok(())
+}
+
+#[tactic(auto, using(crate::proofs::TasksWalk::two_last))]
+fn apply_binary(
+    alloc: Global,
+    reduces: bool,
+    op: TermBinary,
+    done: &mut Vec<Term>,
+) -> Result<(), NoMemory>
+    ensures { IfOk result (λ _. done.new.items ≡ with_last (applied reduces (binary_operator op)) 2 done.old.items) }
+{
+    let (Some(b), Some(a)) = (done.pop(), done.pop()) else {
+        return Err(NoMemory);
+    };
+    done.push(binary_form(alloc, reduces, op, a, b)?)?;
+    Ok(())
+}
+
+fn apply_made(
+    alloc: Global,
+    reduces: bool,
+    ctor: Ctor,
+    count: usize,
+    done: &mut Vec<Term>,
+) -> Result<(), NoMemory>
+    ensures { IfOk result (λ _. done.new.items ≡ with_last (applied reduces (made ctor)) count done.old.items) }
+{
+    let first = done.len().saturating_sub(count);
+    let parts = done.split_off(first)?;
+    done.push(made_form(alloc, reduces, ctor, parts)?)?;
+    Ok(())
+}
+
+#[tactic(auto, using(crate::proofs::TasksWalk::one_last))]
+fn quantify(alloc: Global, number: u64, sort: &Sort, done: &mut Vec<Term>) -> Result<(), NoMemory>
+    ensures { IfOk result (λ _. done.new.items ≡ with_last (bound_over every number sort.now) 1 done.old.items) }
+{
+    let Some(body) = done.pop() else {
+        return Err(NoMemory);
+    };
+    done.push(quantified(alloc, Name(number), sort, body)?)?;
+    Ok(())
 }
 
 // ---- the normal form

@@ -1,7 +1,7 @@
-ghost use Rattle.std.specs.Prelude.{◌≡◌, [], IfOk, OnOk, max};
-ghost use Rattle.logic_term.specs.Free.{free, free_in_some};
-ghost use Rattle.logic_term.specs.TermView.{terms_of};
-ghost use Rattle.logic_term.specs.Subst.{above, all_above, above_entries, numbers_before, renamed, with_terms, replaced};
+ghost use Rattle.std.specs.Prelude.{◌≡◌, [], ◌∷◌, ◌++◌, IfOk, OnOk};
+ghost use Rattle.logic_term.specs.Free.{free};
+ghost use Rattle.logic_term.specs.Subst.{above, above_entries, numbers_before, renamed, with_terms, replaced};
+ghost use Rattle.logic_term.specs.Walk.{above_top, is_bound_by, is_name, parts, to_do};
 
 use crate::term::{Term, TermNode};
 use std::alloc::Global;
@@ -23,38 +23,80 @@ pub struct Replacement {
 
 impl Term {
     /// Whether the name is free in the term.
-    #[cycle(free_in)]
-    pub fn free_in(&self, name: Name) -> bool
-        ensures { result ≡ free name self.now }
+    pub fn free_in(&self, alloc: Global, name: Name) -> Result<bool, NoMemory>
+        ensures { IfOk result (λ b. b ≡ free name self.now) }
+    {
+        let mut left = Vec::new(alloc);
+        left.push(self)?;
+        while let Some(t) = left.pop() {
+            if t.is_name(name) {
+                return Ok(true);
+            }
+            if !t.binds(name) {
+                t.push_parts(&mut left)?;
+            }
+        }
+        Ok(false)
+    }
+
+    fn is_name(&self, name: Name) -> bool
+        ensures { result ≡ is_name name self.now }
     {
         match self.node() {
             TermNode::Var(other) => name.0 == other.0,
-            TermNode::Lit(_, _) => false,
-            TermNode::Truth(_) => false,
-            TermNode::Make(_, parts) => free_in_any(name, parts),
-            TermNode::Unary(_, t) => t.free_in(name),
-            TermNode::Binary(_, a, b) => a.free_in(name) || b.free_in(name),
-            TermNode::Forall(other, _, t) => name.0 != other.0 && t.free_in(name),
+            _ => false,
+        }
+    }
+
+    /// Whether the term is a quantifier over the name.
+    fn binds(&self, name: Name) -> bool
+        ensures { result ≡ is_bound_by name self.now }
+    {
+        match self.node() {
+            TermNode::Forall(other, _, _) => name.0 == other.0,
+            _ => false,
         }
     }
 
     /// One past the largest name in the term, bound names included.
-    #[cycle(above)]
-    pub fn above(&self) -> Result<u64, NoMemory>
+    pub fn above(&self, alloc: Global) -> Result<u64, NoMemory>
         ensures { IfOk result (λ n. n ≡ above self.now) }
+    {
+        let mut most = 0u64;
+        let mut left = Vec::new(alloc);
+        left.push(self)?;
+        while let Some(t) = left.pop() {
+            most = most.max(t.above_top()?);
+            t.push_parts(&mut left)?;
+        }
+        Ok(most)
+    }
+
+    /// One past the name that stands at the top of the term; 0 where none does.
+    fn above_top(&self) -> Result<u64, NoMemory>
+        ensures { IfOk result (λ n. n ≡ above_top self.now) }
     {
         match self.node() {
             TermNode::Var(name) => name.0.checked_add(1).ok_or(NoMemory),
-            TermNode::Lit(_, _) => Ok(0),
-            TermNode::Truth(_) => Ok(0),
-            TermNode::Make(_, parts) => above_all(parts),
-            TermNode::Unary(_, t) => t.above(),
-            TermNode::Binary(_, a, b) => above_both(a, b),
-            TermNode::Forall(name, _, t) => {
-                let outer = name.0.checked_add(1).ok_or(NoMemory)?;
-                let inner = t.above()?;
-                Ok(outer.max(inner))
+            TermNode::Forall(name, _, _) => name.0.checked_add(1).ok_or(NoMemory),
+            _ => Ok(0),
+        }
+    }
+
+    /// Adds the direct parts of the term, the first last.
+    #[tactic(auto, using(crate::proofs::Walking::listed_terms))]
+    fn push_parts<'a>(&'a self, left: &mut Vec<&'a Term>) -> Result<(), NoMemory>
+        ensures { IfOk result (λ _. to_do left.new.items ≡ parts self.now ++ to_do left.old.items) }
+    {
+        match self.node() {
+            TermNode::Make(_, parts) => push_all(parts, left),
+            TermNode::Unary(_, t) => push_one(t, left),
+            TermNode::Binary(_, a, b) => {
+                push_one(b, left)?;
+                push_one(a, left)
             }
+            TermNode::Forall(_, _, t) => push_one(t, left),
+            _ => Ok(()),
         }
     }
 
@@ -62,8 +104,8 @@ impl Term {
     pub fn with(&self, alloc: Global, sub: &[Replacement]) -> Result<Term, NoMemory>
         ensures { IfOk result (λ t. t ≡ with_terms sub.now self.now) }
     {
-        let own = self.above()?;
-        let others = above_entries(sub)?;
+        let own = self.above(alloc)?;
+        let others = above_entries(alloc, sub)?;
         self.placed(alloc, false, own.max(others), sub)
     }
 
@@ -73,7 +115,7 @@ impl Term {
         ensures ok { IfOk result (λ t. t ≡ renamed names.old.items self.now) }
         ensures kept { OnOk result (names.new.items ≡ names.old.items) }
     {
-        let own = self.above()?;
+        let own = self.above(alloc)?;
         let others = above_names(names.as_slice())?;
         self.placed_in(alloc, false, own.max(others), names, &[])
     }
@@ -82,11 +124,12 @@ impl Term {
     pub fn replaced(&self, alloc: Global, name: Name, by: &Term) -> Result<Term, NoMemory>
         ensures { IfOk result (λ t. t ≡ replaced name by.now self.now) }
     {
-        let next = above_both(self, by)?;
+        let own = self.above(alloc)?;
+        let others = by.above(alloc)?;
         let by = by.share()?;
         let mut sub = Vec::with_capacity(alloc, 1)?;
         sub.push(Replacement { name, by })?;
-        self.placed(alloc, false, next, sub.as_slice())
+        self.placed(alloc, false, own.max(others), sub.as_slice())
     }
 }
 
@@ -104,47 +147,32 @@ fn above_names(names: &[Renaming]) -> Result<u64, NoMemory>
 }
 
 /// One past the largest name in the entries' terms.
-fn above_entries(sub: &[Replacement]) -> Result<u64, NoMemory>
+fn above_entries(alloc: Global, sub: &[Replacement]) -> Result<u64, NoMemory>
     ensures { IfOk result (λ n. n ≡ above_entries sub.now) }
 {
     let mut most: u64 = 0;
     for i in (0..sub.len()).rev() {
-        let here = sub[i].by.above()?;
+        let here = sub[i].by.above(alloc)?;
         most = here.max(most);
     }
     Ok(most)
 }
 
-#[cycle(above)]
-fn above_both(a: &Term, b: &Term) -> Result<u64, NoMemory>
-    ensures { IfOk result (λ n. n ≡ max (above a.now) (above b.now)) }
+// ---- terms that are still to be gone over
+
+fn push_one<'a>(t: &'a Term, left: &mut Vec<&'a Term>) -> Result<(), NoMemory>
+    ensures { IfOk result (λ _. to_do left.new.items ≡ t.now ∷ to_do left.old.items) }
 {
-    let left = a.above()?;
-    let right = b.above()?;
-    Ok(left.max(right))
+    left.push(t)?;
+    Ok(())
 }
 
-#[cycle(above)]
-#[tactic(auto, using(crate::specs::TermFalls::each_smaller))]
-fn above_all(terms: &[Term]) -> Result<u64, NoMemory>
-    ensures { IfOk result (λ n. n ≡ all_above (terms_of terms.now)) }
+/// The terms, the first last.
+fn push_all<'a>(terms: &'a [Term], left: &mut Vec<&'a Term>) -> Result<(), NoMemory>
+    ensures { IfOk result (λ _. to_do left.new.items ≡ terms.now ++ to_do left.old.items) }
 {
-    let mut largest = 0u64;
-    for i in 0..terms.len() {
-        largest = largest.max(terms[i].above()?);
+    for i in (0..terms.len()).rev() {
+        left.push(&terms[i])?;
     }
-    Ok(largest)
-}
-
-#[cycle(free_in)]
-#[tactic(auto, using(crate::specs::TermFalls::each_smaller))]
-fn free_in_any(name: Name, terms: &[Term]) -> bool
-    ensures { result ≡ free_in_some name (terms_of terms.now) }
-{
-    for i in 0..terms.len() {
-        if terms[i].free_in(name) {
-            return true;
-        }
-    }
-    false
+    Ok(())
 }

@@ -1,6 +1,8 @@
-ghost use Rattle.std.specs.Prelude.{◌≡◌, ◌↔◌, false, IfOk, IsTrue, MatchOption};
+ghost use Rattle.std.specs.Prelude.{◌≡◌, ◌↔◌, ◌∷◌, ◌++◌, false, length, IfOk, IsTrue, MatchOption};
 ghost use Rattle.logic_term.specs.Term.{lit, forall, and, implies, is_conjunction, is_implication, is_quantified};
 ghost use Rattle.logic_term.specs.TermView.{term_of, term_of_form};
+ghost use Rattle.logic_term.specs.Pairs.{firsts, seconds, top};
+ghost use Rattle.logic_term.specs.Walk.{parts};
 
 use crate::kinds::{Ctor, TermBinary, TermUnary};
 use crate::ty::Ty;
@@ -150,26 +152,89 @@ impl Term {
     }
 
     /// Whether both are the same term, bound names and sorts included.
-    #[cycle(same)]
-    #[tactic(auto, using(crate::specs::TermFalls::each_smaller, crate::specs::TermFalls::terms_of_injective))]
-    pub fn same(&self, other: &Term) -> bool
-        ensures { IsTrue result ↔ (self.now ≡ other.now) }
+    pub fn same(&self, alloc: Global, other: &Term) -> Result<bool, NoMemory>
+        ensures { IfOk result (λ b. IsTrue b ↔ (self.now ≡ other.now)) }
+    {
+        let mut left = Vec::new(alloc);
+        left.push((self, other))?;
+        while let Some((a, b)) = left.pop() {
+            if !a.has_same_top(b) {
+                return Ok(false);
+            }
+            a.push_pairs(b, &mut left)?;
+        }
+        Ok(true)
+    }
+
+    /// Whether both are the same but for their direct parts, of which they have as many.
+    #[tactic(auto, using(crate::proofs::Pairs::count_terms))]
+    fn has_same_top(&self, other: &Term) -> bool
+        ensures { IsTrue result ↔ (top self.now ≡ top other.now) }
     {
         match (&*self.node, &*other.node) {
             (TermNode::Var(x), TermNode::Var(y)) => x.0 == y.0,
             (TermNode::Lit(m, s), TermNode::Lit(n, q)) => m == n && s.same(q),
             (TermNode::Truth(a), TermNode::Truth(b)) => a == b,
-            (TermNode::Make(c, ts), TermNode::Make(d, us)) => c == d && same_terms(ts, us),
-            (TermNode::Unary(o, a), TermNode::Unary(p, b)) => o == p && a.same(b),
-            (TermNode::Binary(o, a, b), TermNode::Binary(p, c, d)) => {
-                o == p && a.same(c) && b.same(d)
-            }
-            (TermNode::Forall(x, s, a), TermNode::Forall(y, q, b)) => {
-                x.0 == y.0 && s.same(q) && a.same(b)
-            }
+            (TermNode::Make(c, ts), TermNode::Make(d, us)) => c == d && ts.len() == us.len(),
+            (TermNode::Unary(o, _), TermNode::Unary(p, _)) => o == p,
+            (TermNode::Binary(o, _, _), TermNode::Binary(p, _, _)) => o == p,
+            (TermNode::Forall(x, s, _), TermNode::Forall(y, q, _)) => x.0 == y.0 && s.same(q),
             _ => false,
         }
     }
+
+    /// Adds the pairs of the direct parts of both, where they are the same but for these.
+    #[tactic(auto, using(crate::proofs::Pairs::count_terms, crate::proofs::Walking::listed_terms))]
+    fn push_pairs<'a>(
+        &'a self,
+        other: &'a Term,
+        left: &mut Vec<(&'a Term, &'a Term)>,
+    ) -> Result<(), NoMemory>
+        requires { top self.now ≡ top other.now }
+        ensures firsts { IfOk result (λ _. firsts left.new.items ≡ parts self.now ++ firsts left.old.items) }
+        ensures seconds { IfOk result (λ _. seconds left.new.items ≡ parts other.now ++ seconds left.old.items) }
+    {
+        match (&*self.node, &*other.node) {
+            (TermNode::Make(_, ts), TermNode::Make(_, us)) => push_all_pairs(ts, us, left),
+            (TermNode::Unary(_, a), TermNode::Unary(_, b)) => push_pair(a, b, left),
+            (TermNode::Binary(_, a, b), TermNode::Binary(_, c, d)) => {
+                push_pair(b, d, left)?;
+                push_pair(a, c, left)
+            }
+            (TermNode::Forall(_, _, a), TermNode::Forall(_, _, b)) => push_pair(a, b, left),
+            _ => Ok(()),
+        }
+    }
+}
+
+// ---- pairs that are still to be compared
+
+fn push_pair<'a>(
+    a: &'a Term,
+    b: &'a Term,
+    left: &mut Vec<(&'a Term, &'a Term)>,
+) -> Result<(), NoMemory>
+    ensures firsts { IfOk result (λ _. firsts left.new.items ≡ a.now ∷ firsts left.old.items) }
+    ensures seconds { IfOk result (λ _. seconds left.new.items ≡ b.now ∷ seconds left.old.items) }
+{
+    left.push((a, b))?;
+    Ok(())
+}
+
+/// The pairs of terms at the same places, the first last.
+fn push_all_pairs<'a>(
+    a: &'a [Term],
+    b: &'a [Term],
+    left: &mut Vec<(&'a Term, &'a Term)>,
+) -> Result<(), NoMemory>
+    requires { length a.now ≡ length b.now }
+    ensures firsts { IfOk result (λ _. firsts left.new.items ≡ a.now ++ firsts left.old.items) }
+    ensures seconds { IfOk result (λ _. seconds left.new.items ≡ b.now ++ seconds left.old.items) }
+{
+    for i in (0..a.len()).rev() {
+        left.push((&a[i], &b[i]))?;
+    }
+    Ok(())
 }
 
 /// The universal formula over a copy of the sort.
@@ -183,20 +248,4 @@ pub(crate) fn quantified(
 {
     let sort = sort.copy(alloc)?;
     Term::forall(alloc, name, sort, body)
-}
-
-#[cycle(same)]
-#[tactic(auto, using(crate::specs::TermFalls::each_smaller))]
-fn same_terms(a: &[Term], b: &[Term]) -> bool
-    ensures { IsTrue result ↔ (a.now ≡ b.now) }
-{
-    if a.len() != b.len() {
-        return false;
-    }
-    for i in 0..a.len() {
-        if !a[i].same(&b[i]) {
-            return false;
-        }
-    }
-    true
 }

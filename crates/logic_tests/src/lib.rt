@@ -4,6 +4,8 @@
 #[cfg(test)]
 mod certificates;
 #[cfg(test)]
+mod depth;
+#[cfg(test)]
 mod goals;
 #[cfg(test)]
 mod products;

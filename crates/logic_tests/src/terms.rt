@@ -75,23 +75,23 @@ fn types(rt: HostRuntime) -> Result<(), Fail> {
 fn sorts_of_literals(rt: HostRuntime) -> Result<(), Fail> {
     let alloc = rt.alloc();
     let one = Term::lit(alloc, 1, Ty::int(IntKind::I32))?;
-    assert!(rt; one.same(&Term::lit(alloc, 1, Ty::int(IntKind::I32))?));
-    assert!(rt; !one.same(&Term::integer(alloc, 1)?));
+    assert!(rt; one.same(alloc, &Term::lit(alloc, 1, Ty::int(IntKind::I32))?)?);
+    assert!(rt; !one.same(alloc, &Term::integer(alloc, 1)?)?);
     Ok(())
 }
 
-fn is_shared(t: &Term) -> Result<bool, NoMemory> {
-    Ok(t.share()?.same(t))
+fn is_shared(alloc: Global, t: &Term) -> Result<bool, NoMemory> {
+    t.share()?.same(alloc, t)
 }
 
 #[test]
 fn names_in_terms(rt: HostRuntime) -> Result<(), Fail> {
     let alloc = rt.alloc();
     let t = all_equal(alloc, X, Y)?;
-    assert!(rt; is_shared(&t)?);
-    assert!(rt; t.above()? == 8);
+    assert!(rt; is_shared(alloc, &t)?);
+    assert!(rt; t.above(alloc)? == 8);
     for (name, free) in [(X, true), (Y, false), (Name(8), false)] {
-        assert!(rt; t.free_in(name) == free, "name {}", name.0);
+        assert!(rt; t.free_in(alloc, name)? == free, "name {}", name.0);
     }
     Ok(())
 }
@@ -104,7 +104,7 @@ fn becomes(
     by: &Term,
     wanted: &Term,
 ) -> Result<bool, NoMemory> {
-    Ok(t.replaced(alloc, name, by)?.same(wanted))
+    t.replaced(alloc, name, by)?.same(alloc, wanted)
 }
 
 #[test]
@@ -137,7 +137,7 @@ fn sum_of(alloc: Global, left: Term) -> Result<Term, NoMemory> {
 }
 
 fn reduces(alloc: Global, t: &Term, wanted: &Term) -> Result<bool, NoMemory> {
-    Ok(reduce(alloc, t)?.same(wanted))
+    reduce(alloc, t)?.same(alloc, wanted)
 }
 
 /// `1i32@ + x@` becomes `1 + x@`.
@@ -163,12 +163,12 @@ fn pair_of(alloc: Global, last: Term) -> Result<Term, NoMemory> {
 fn made_of_parts(rt: HostRuntime) -> Result<(), Fail> {
     let alloc = rt.alloc();
     let t = pair_of(alloc, Term::var(alloc, Y)?)?;
-    assert!(rt; is_shared(&t)?);
-    assert!(rt; t.free_in(Y));
-    assert!(rt; t.above()? == 8);
+    assert!(rt; is_shared(alloc, &t)?);
+    assert!(rt; t.free_in(alloc, Y)?);
+    assert!(rt; t.above(alloc)? == 8);
     let wanted = pair_of(alloc, Term::unit(alloc)?)?;
     assert!(rt; becomes(alloc, &t, Y, &Term::unit(alloc)?, &wanted)?);
-    assert!(rt; !t.same(&wanted));
+    assert!(rt; !t.same(alloc, &wanted)?);
     assert!(rt; reduces(alloc, &wanted, &wanted)?);
     Ok(())
 }
@@ -200,9 +200,9 @@ fn names_change_places(rt: HostRuntime) -> Result<(), Fail> {
     let alloc = rt.alloc();
     let t = pair_of(alloc, Term::var(alloc, Y)?)?;
     let other = turned(alloc, &t)?;
-    assert!(rt; !other.same(&t));
-    assert!(rt; turned(alloc, &other)?.same(&t));
-    assert!(rt; turned_as_terms(alloc, &t)?.same(&other));
+    assert!(rt; !other.same(alloc, &t)?);
+    assert!(rt; turned(alloc, &other)?.same(alloc, &t)?);
+    assert!(rt; turned_as_terms(alloc, &t)?.same(alloc, &other)?);
     Ok(())
 }
 

@@ -298,7 +298,7 @@ fn has_invariant(alloc: Global, block: &Block) -> Result<bool, NoMemory> {
         return Ok(false);
     };
     Ok(match (head.spans.as_slice(), head.invariants.get(0)) {
-        ([span], Some(formula)) => *span == byte(50) && formula.same(&local),
+        ([span], Some(formula)) => *span == byte(50) && formula.same(alloc, &local)?,
         _ => false,
     })
 }

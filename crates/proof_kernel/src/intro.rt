@@ -28,14 +28,17 @@ fn above_free(alloc: Global, q: &Sequent) -> Result<u64, NoMemory>
 }
 
 /// Whether the name is no variable of the sequent and free nowhere in it. What is past `above` is free nowhere.
-fn is_new(name: Name, q: &Sequent, above: u64) -> bool
+fn is_new(alloc: Global, name: Name, q: &Sequent, above: u64) -> Result<bool, NoMemory>
     requires { IsAbove above q.now }
-    ensures { IsTrue result ↔ IsNew name q.now }
+    ensures { IfOk result (λ b. IsTrue b ↔ IsNew name q.now) }
 {
     if sort_of_var(name, q.vars.as_slice()).is_some() {
-        return false;
+        return Ok(false);
     }
-    above <= name.0 || q.is_free_nowhere(name)
+    if above <= name.0 {
+        return Ok(true);
+    }
+    q.is_free_nowhere(alloc, name)
 }
 
 /// Whether the names are new in the sequent, and no two are one.
@@ -44,7 +47,7 @@ fn are_new(alloc: Global, names: &[Name], q: &Sequent) -> Result<bool, NoMemory>
 {
     let above = above_free(alloc, q)?;
     for i in 0..names.len() {
-        if !is_new(names[i], q, above) || is_one_of(names[i], &names[i + 1..]) {
+        if !is_new(alloc, names[i], q, above)? || is_one_of(names[i], &names[i + 1..]) {
             return Ok(false);
         }
     }

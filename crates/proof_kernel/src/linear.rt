@@ -174,7 +174,8 @@ fn form_of(alloc: Global, sides: Sides) -> Result<Option<Form>, NoMemory>
     let Some(polynomial) = side_difference(alloc, sides)? else {
         return Ok(None);
     };
-    match coefficient(&[], polynomial.as_slice()).checked_sub(sides.gap) {
+    let number = coefficient(alloc, &[], polynomial.as_slice())?;
+    match number.checked_sub(sides.gap) {
         Some(constant) => Ok(Some(Form {
             polynomial,
             constant,
@@ -199,15 +200,15 @@ fn forms(alloc: Global, all: &[Sides]) -> Result<Option<Items<Form>>, NoMemory>
 
 // ---- the table of monomials
 
-fn is_in(table: &[Items<Term>], monomial: &[Term]) -> bool
-    ensures { result ≡ is_in table.now monomial.now }
+fn is_in(alloc: Global, table: &[Items<Term>], monomial: &[Term]) -> Result<bool, NoMemory>
+    ensures { IfOk result (λ b. b ≡ is_in table.now monomial.now) }
 {
     for known in table {
-        if same_monomial(known.as_slice(), monomial) {
-            return true;
+        if same_monomial(alloc, known.as_slice(), monomial)? {
+            return Ok(true);
         }
     }
-    false
+    Ok(false)
 }
 
 fn is_one(monomial: &[Term]) -> bool
@@ -223,7 +224,7 @@ fn add_monomial(
 ) -> Result<(), NoMemory>
     ensures { OnOk result (table.new ≡ with_monomial table.old monomial.now) }
 {
-    if !is_one(monomial) && !is_in(table.as_slice(), monomial) {
+    if !is_one(monomial) && !is_in(alloc, table.as_slice(), monomial)? {
         table.push(copy_monomial(alloc, monomial)?)?;
     }
     Ok(())
@@ -262,7 +263,7 @@ fn parts(alloc: Global, table: &[Items<Term>], form: &Form) -> Result<Items<Part
     let mut all = Items::new(alloc);
     for (at, monomial) in table.iter().enumerate() {
         let atom = u32::try_from(at).ok().ok_or(NoMemory)?;
-        let factor = coefficient(monomial.as_slice(), form.polynomial.as_slice());
+        let factor = coefficient(alloc, monomial.as_slice(), form.polynomial.as_slice())?;
         all.push(Part { atom, factor })?;
     }
     Ok(all)

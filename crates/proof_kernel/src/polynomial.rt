@@ -36,42 +36,49 @@ fn make_summand(coefficient: i128, monomial: Items<Term>) -> Summand
 // ---- monomials
 
 /// Whether both are the same term, as a truth value.
-fn is_same(t: &Term, other: &Term) -> bool
-    ensures { result ≡ same_term t.now other.now }
+fn is_same(alloc: Global, t: &Term, other: &Term) -> Result<bool, NoMemory>
+    ensures { IfOk result (λ b. b ≡ same_term t.now other.now) }
 {
-    t.same(other)
+    t.same(alloc, other)
 }
 
 /// How often the atom stands in the monomial.
-fn times(atom: &Term, monomial: &[Term]) -> usize
-    ensures { result ≡ times atom.now monomial.now }
+fn times(alloc: Global, atom: &Term, monomial: &[Term]) -> Result<usize, NoMemory>
+    ensures { IfOk result (λ n. n ≡ times atom.now monomial.now) }
 {
-    let mut count = 0;
+    let mut count = 0usize;
     for factor in monomial {
-        if is_same(factor, atom) {
+        if is_same(alloc, factor, atom)? {
             count += 1;
         }
     }
-    count
+    Ok(count)
 }
 
 /// Whether each atom of the first stands as often in the second.
-fn stands_in(monomial: &[Term], other: &[Term]) -> bool
-    ensures { result ≡ stands_in monomial.now other.now }
+fn stands_in(alloc: Global, monomial: &[Term], other: &[Term]) -> Result<bool, NoMemory>
+    ensures { IfOk result (λ b. b ≡ stands_in monomial.now other.now) }
 {
     for atom in monomial {
-        if times(atom, monomial) != times(atom, other) {
-            return false;
+        if times(alloc, atom, monomial)? != times(alloc, atom, other)? {
+            return Ok(false);
         }
     }
-    true
+    Ok(true)
 }
 
 /// Whether the monomials have the same atoms, each as often.
-pub(crate) fn same_monomial(monomial: &[Term], other: &[Term]) -> bool
-    ensures { result ≡ same_monomial monomial.now other.now }
+pub(crate) fn same_monomial(
+    alloc: Global,
+    monomial: &[Term],
+    other: &[Term],
+) -> Result<bool, NoMemory>
+    ensures { IfOk result (λ b. b ≡ same_monomial monomial.now other.now) }
 {
-    stands_in(monomial, other) && stands_in(other, monomial)
+    if !stands_in(alloc, monomial, other)? {
+        return Ok(false);
+    }
+    stands_in(alloc, other, monomial)
 }
 
 pub(crate) fn copy_monomial(alloc: Global, monomial: &[Term]) -> Result<Items<Term>, NoMemory>
@@ -98,34 +105,38 @@ fn joined(alloc: Global, left: &[Term], right: &[Term]) -> Result<Items<Term>, N
 // ---- sums
 
 /// Where the monomial stands in the polynomial; its length where it does not.
-fn place(monomial: &[Term], polynomial: &[Summand]) -> usize
-    ensures { result ≡ place monomial.now polynomial.now }
+fn place(alloc: Global, monomial: &[Term], polynomial: &[Summand]) -> Result<usize, NoMemory>
+    ensures { IfOk result (λ n. n ≡ place monomial.now polynomial.now) }
 {
     for (at, known) in polynomial.iter().enumerate() {
-        if same_monomial(known.monomial.as_slice(), monomial) {
-            return at;
+        if same_monomial(alloc, known.monomial.as_slice(), monomial)? {
+            return Ok(at);
         }
     }
-    polynomial.len()
+    Ok(polynomial.len())
 }
 
 /// The coefficient of the monomial.
-pub(crate) fn coefficient(monomial: &[Term], polynomial: &[Summand]) -> i128
-    ensures { result ≡ coefficient monomial.now polynomial.now }
+pub(crate) fn coefficient(
+    alloc: Global,
+    monomial: &[Term],
+    polynomial: &[Summand],
+) -> Result<i128, NoMemory>
+    ensures { IfOk result (λ n. n ≡ coefficient monomial.now polynomial.now) }
 {
     for known in polynomial {
-        if same_monomial(known.monomial.as_slice(), monomial) {
-            return known.coefficient;
+        if same_monomial(alloc, known.monomial.as_slice(), monomial)? {
+            return Ok(known.coefficient);
         }
     }
-    0
+    Ok(0)
 }
 
 /// Puts the summand in the place of that with the same monomial, or at the end.
-fn put_summand(polynomial: &mut Polynomial, summand: Summand) -> Result<(), NoMemory>
+fn put_summand(alloc: Global, polynomial: &mut Polynomial, summand: Summand) -> Result<(), NoMemory>
     ensures { OnOk result (polynomial.new ≡ with_summand summand polynomial.old) }
 {
-    let at = place(summand.monomial.as_slice(), polynomial.as_slice());
+    let at = place(alloc, summand.monomial.as_slice(), polynomial.as_slice())?;
     if at < polynomial.len() {
         polynomial.set(at, summand);
         return Ok(());
@@ -143,7 +154,7 @@ fn with_coefficient(
     ensures { IfOk result (λ p. p ≡ with_summand (summand coefficient monomial.now) polynomial) }
 {
     let monomial = copy_monomial(alloc, monomial)?;
-    put_summand(&mut polynomial, make_summand(coefficient, monomial))?;
+    put_summand(alloc, &mut polynomial, make_summand(coefficient, monomial))?;
     Ok(polynomial)
 }
 
@@ -156,7 +167,8 @@ fn plus(
     ensures { IfOk result (λ found. SomeIff found (IsNarrowNumber (next_coefficient polynomial summand.now)) (plus polynomial summand.now)) }
 {
     let monomial = summand.monomial.as_slice();
-    match coefficient(monomial, polynomial.as_slice()).checked_add(summand.coefficient) {
+    let known = coefficient(alloc, monomial, polynomial.as_slice())?;
+    match known.checked_add(summand.coefficient) {
         Some(next) => Ok(Some(with_coefficient(alloc, polynomial, next, monomial)?)),
         None => Ok(None),
     }
@@ -171,7 +183,8 @@ fn minus(
     ensures { IfOk result (λ found. SomeIff found (IsNarrowNumber (next_coefficient polynomial (opposite_of summand.now))) (plus polynomial (opposite_of summand.now))) }
 {
     let monomial = summand.monomial.as_slice();
-    match coefficient(monomial, polynomial.as_slice()).checked_sub(summand.coefficient) {
+    let known = coefficient(alloc, monomial, polynomial.as_slice())?;
+    match known.checked_sub(summand.coefficient) {
         Some(next) => Ok(Some(with_coefficient(alloc, polynomial, next, monomial)?)),
         None => Ok(None),
     }

@@ -39,15 +39,15 @@ pub(crate) fn sort_of_var(name: Name, vars: &[(Name, Sort)]) -> Option<&Sort>
     None
 }
 
-fn is_free_in_hyps(name: Name, hyps: &[(Label2, Term)]) -> bool
-    ensures { result ≡ free_in_hyps name hyps.now }
+fn is_free_in_hyps(alloc: Global, name: Name, hyps: &[(Label2, Term)]) -> Result<bool, NoMemory>
+    ensures { IfOk result (λ b. b ≡ free_in_hyps name hyps.now) }
 {
     for i in 0..hyps.len() {
-        if hyps[i].1.free_in(name) {
-            return true;
+        if hyps[i].1.free_in(alloc, name)? {
+            return Ok(true);
         }
     }
-    false
+    Ok(false)
 }
 
 fn copy_vars(alloc: Global, vars: &[(Name, Sort)]) -> Result<Vec<(Name, Sort)>, NoMemory>
@@ -88,9 +88,13 @@ impl Sequent {
     }
 
     /// Whether the name is free in no hypothesis and not in the goal.
-    pub(crate) fn is_free_nowhere(&self, name: Name) -> bool
-        ensures { IsTrue result ↔ ((free_in_hyps name self.now.hyps ≡ false) × (free name self.now.goal ≡ false)) }
+    pub(crate) fn is_free_nowhere(&self, alloc: Global, name: Name) -> Result<bool, NoMemory>
+        ensures { IfOk result (λ b. IsTrue b ↔ ((free_in_hyps name self.now.hyps ≡ false) × (free name self.now.goal ≡ false))) }
     {
-        !is_free_in_hyps(name, self.hyps.as_slice()) && !self.goal.free_in(name)
+        if is_free_in_hyps(alloc, name, self.hyps.as_slice())? {
+            return Ok(false);
+        }
+        let is_in_goal = self.goal.free_in(alloc, name)?;
+        Ok(!is_in_goal)
     }
 }

@@ -93,7 +93,7 @@ impl State {
         ensures is { IfOk result (λ t. t ≡ made self.now term.now) }
         ensures below { IfOk result (λ t. above term.now ≤ first_new) }
     {
-        if term.above()? > first_new() {
+        if term.above(alloc)? > first_new() {
             return Err(NoMemory);
         }
         term.placed(alloc, true, self.next, self.terms.as_slice())

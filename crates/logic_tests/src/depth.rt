@@ -1,0 +1,83 @@
+//! Terms that are far deeper than a stack of calls could be.
+use goal_text::{Spelling, goal_text};
+use logic_term::{Sort, Term, Ty};
+use source_kinds::ArithOp;
+use std::alloc::Global;
+use std::test::Fail;
+use text_core::{Name, Names, NoMemory};
+
+const DEPTH: u64 = 100000;
+
+fn integers() -> Sort {
+    Ty::math_int()
+}
+
+/// `((0 + 1) + 1) + ..`
+fn deep_left(alloc: Global) -> Result<Term, NoMemory> {
+    let mut t = Term::integer(alloc, 0)?;
+    for _ in 0..DEPTH {
+        t = Term::calculate(alloc, ArithOp::Add, t, Term::integer(alloc, 1)?)?;
+    }
+    Ok(t)
+}
+
+/// `true ==> (true ==> ..)`
+fn deep_right(alloc: Global) -> Result<Term, NoMemory> {
+    let mut t = Term::truth(alloc, false)?;
+    for _ in 0..DEPTH {
+        t = Term::implies(alloc, Term::truth(alloc, true)?, t)?;
+    }
+    Ok(t)
+}
+
+/// Quantifiers in one another, over different names.
+fn deep_binders(alloc: Global) -> Result<Term, NoMemory> {
+    let mut t = Term::var(alloc, Name(0))?;
+    for number in 1..DEPTH {
+        t = Term::forall(alloc, Name(number), integers(), t)?;
+    }
+    Ok(t)
+}
+
+/// All that goes over a term ends.
+fn is_gone_over(alloc: Global, t: &Term) -> Result<bool, NoMemory> {
+    let copy = t.placed(alloc, true, t.above(alloc)?, &[])?;
+    let is_free = copy.free_in(alloc, Name(1))?;
+    Ok(!is_free && t.same_up_to_names(alloc, &copy)?)
+}
+
+fn text_length(alloc: Global, t: &Term) -> Result<usize, NoMemory> {
+    let names = Names::new(alloc);
+    let spelling = Spelling {
+        adts: &[],
+        names: &names,
+    };
+    Ok(goal_text(alloc, &spelling, t)?.len())
+}
+
+#[test]
+fn deep_on_the_left(rt: HostRuntime) -> Result<(), Fail> {
+    let alloc = rt.alloc();
+    let t = deep_left(alloc)?;
+    assert!(rt; is_gone_over(alloc, &t)?);
+    assert!(rt; text_length(alloc, &t)? == 600001);
+    Ok(())
+}
+
+#[test]
+fn deep_on_the_right(rt: HostRuntime) -> Result<(), Fail> {
+    let alloc = rt.alloc();
+    let t = deep_right(alloc)?;
+    assert!(rt; is_gone_over(alloc, &t)?);
+    assert!(rt; text_length(alloc, &t)? == 1100005);
+    Ok(())
+}
+
+#[test]
+fn deep_in_binders(rt: HostRuntime) -> Result<(), Fail> {
+    let alloc = rt.alloc();
+    let t = deep_binders(alloc)?;
+    assert!(rt; is_gone_over(alloc, &t)?);
+    assert!(rt; t.above_free(alloc)? == 1);
+    Ok(())
+}
