@@ -59,7 +59,8 @@ pub fn types(alloc: Global, text: &[u8]) -> Result<Vec<Ty>, NoMemory> {
 fn variant(alloc: Global, text: &[u8]) -> Result<VariantDecl, NoMemory> {
     let mut types = types(alloc, text)?;
     let mut fields = Items::new(alloc);
-    while let Some(ty) = types.pop() {
+    for _ in 0..types.len() {
+        let ty = types.pop().ok_or(NoMemory)?;
         fields.push(FieldDecl {
             name: Name(0),
             ty,
