@@ -1,12 +1,11 @@
--- Declarations of types that are well founded: no type holds itself other than in a box, and each has a value.
+-- Types that hold themselves in boxes alone (Rust Reference, "Recursive types").
 use Rattle.std.specs.Prelude.{◌≡◌, ℕ, zero, suc, ◌<◌, Bool, true, Some, List}
 use Rattle.logic_term.specs.declared.kinds.AdtId.{AdtId}
 use Rattle.logic_term.specs.declared.kinds.Region.{Region}
 use Rattle.source_kinds.specs.declared.kinds.IntKind.{IntKind}
 use Rattle.logic_term.specs.declared.kinds.FnKind.{FnKind}
 use Rattle.logic_term.specs.Ty.{Ty, Tys, int, bool, math_int, tuple, adt, boxed, shared, unique, param, closure, viewed, snapshot, no_tys, and_ty}
-use Rattle.logic_term.specs.Value.{Value}
-use Rattle.logic_term.specs.Sort.{Declarations, HasSort, instance, instances, nth_ty}
+use Rattle.logic_term.specs.Sort.{Declarations, instances}
 
 -- ---- what a type holds other than in a box
 
@@ -35,16 +34,6 @@ mutual
 abbrev pub params_from : ℕ → ℕ → Tys
 params_from zero n = no_tys
 params_from (suc m) n = and_ty (param n) (params_from m (suc n))
-
--- the declared type, of m type parameters, holds itself other than in a box
-abbrev pub HoldsItself : Declarations → AdtId → List Region → ℕ → Type 0
-HoldsItself Δ d rs m = Bounded Δ (adt d rs (params_from m 0)) → ⊥
-
--- ---- values
-
--- the declared type has a value wherever each of its type parameters has one
-abbrev pub HasValues : Declarations → AdtId → List Region → ℕ → Type 0
-HasValues Δ d rs m = (θ : Tys) → ((n : ℕ) → n < m → (v : Value) × HasSort Δ v (nth_ty θ n)) → (v : Value) × HasSort Δ v (instance θ (adt d rs (params_from m 0)))
 
 -- ---- ranks
 
