@@ -97,7 +97,7 @@ from_block-returns-in_ok-left-in-Call t c =
     from_here (setting c.args.walk.now) c.args.label c.in-Some.block.now c.args.room c.in_ok-left.left c.along-in-Call.result (sym c.in-Some.ensures)
     (subst (λ sts. IsRoomLeft c.args.room (goals_within c.args.walk.now.body.now sts) (Some c.in_ok-left.left)) c.as_slice.ensures c.in_ok-left.ensures)
     (call_leaves (setting c.args.walk.now) c.args.label c.in-Some.block.now c.in-Call.field-0 c.body_number.result c.in-Call.field-2 c.in-Call.next (get_or
-        c.args.walk.now.contracts.now c.body_number.result c.index-walk-body_number.result) c.in_ok-left.left c.in_ok-left-in-Call.left c.along-in-Call.result is_call
+    c.args.walk.now.contracts.now c.body_number.result c.index-walk-body_number.result) c.in_ok-left.left c.in_ok-left-in-Call.left c.along-in-Call.result is_call
     (contract_read (setting c.args.walk.now) c.args.label c.in-Some.block.now c.in-Call.field-0 c.body_number.result c.in-Call.field-2 c.in-Call.next c.index-walk-body_number.result c.requires.can (sym c.in-Some.ensures) is_call)
     (same_room c.in_ok-left.left _ _ (Some c.in_ok-left-in-Call.left) c.len.ensures c.in_ok-left-in-Call.ensures) c.along-in-Call.ensures)
 
