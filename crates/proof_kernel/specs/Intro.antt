@@ -1,12 +1,10 @@
--- What is seen of a goal and of names, and what is added to a sequent, while what leads the goal is taken off.
+-- What is seen of names, and what is added to a sequent, while what leads the goal is taken off.
 use Rattle.std.specs.Prelude.{◌≡◌, ℕ, ◌≤◌, false, [], ◌∷◌, ◌++◌}
 use Rattle.text_core.specs.declared.name.Name.{Name}
 use Rattle.logic_term.specs.declared.kinds.Label2.{Label2}
 use Rattle.logic_term.specs.Free.{free}
-use Rattle.logic_term.specs.Term.{Term, implies, forall, is_implication, is_quantified}
+use Rattle.logic_term.specs.Term.{Term}
 use Rattle.logic_term.specs.Ty.{Ty}
-use Rattle.proof_kernel.specs.declared.intro.Front.{Front}
-use Rattle.proof_kernel.specs.declared.intro.Front.TheVariants.{Premise, Variable, Nothing}
 use Rattle.proof_kernel.specs.declared.sequent.Sequent.{Sequent}
 use Rattle.proof_kernel.specs.Rules.{free_in_hyps}
 
@@ -21,9 +19,3 @@ declaring q x s = record { vars = q.vars ++ (x, s) ∷ []; hyps = q.hyps; goal =
 -- no name from the number on is free in the sequent
 abbrev pub IsAbove : ℕ → Sequent → Type 0
 IsAbove n q = (x : Name) → n ≤ x.0 → (free_in_hyps x q.hyps ≡ false) × (free x q.goal ≡ false)
-
--- this stands in front of the goal
-abbrev pub IsFront : Term → Front → Type 0
-IsFront goal (Premise a b) = goal ≡ implies a.now b.now
-IsFront goal (Variable x s b) = goal ≡ forall x s.now b.now
-IsFront goal Nothing = (is_implication goal ≡ false) × (is_quantified goal ≡ false)

@@ -56,7 +56,7 @@ pub data Lead : Type 0 where
   premise : Term → Lead
   quantifier : Name → Ty → Lead
 
--- the formula of these leads, each before the next, and of an end
+-- the formula in which these leads stand, one behind the other, and the end behind them
 abbrev pub led_by : List Lead → Term → Term
 led_by [] end = end
 led_by (premise a ∷ leads) end = implies a (led_by leads end)
@@ -74,31 +74,31 @@ premises [] = []
 premises (premise a ∷ leads) = ([], a) ∷ premises leads
 premises (quantifier x t ∷ leads) = map (λ p. ((x, t) ∷ p.0, p.1)) (premises leads)
 
--- names for the variables, in order, as many as there are of both
+-- the variables get the names at their places
 abbrev pub renamings : List (Name × Ty) → List Name → List Renaming
 renamings vs names = map (λ p. record { from = p.0.0; to = p.1 }) (zip vs names)
 
--- the variables under these names
+-- the variables, with their sorts, under the names at their places
 abbrev pub under_names : List (Name × Ty) → List Name → List (Name × Ty)
 under_names vs names = map (λ p. (p.1, p.0.1)) (zip vs names)
 
--- the premises as the hypotheses 1, 2, .. of step s; in each, the names for the variables before it are put all at once
+-- the premises as the hypotheses 1, 2, .. of step s, in each the names of the variables before it, put all at once
 abbrev pub assumed : ℕ → List Name → List (List (Name × Ty) × Term) → List (Label2 × Term)
 assumed s names ps = map (λ p. (label s p.0, renamed (renamings p.1.0 names) p.1.1)) (enumerate_from 1 ps)
 
--- leads are taken off the goal: as many quantifiers as there are names, and all premises up to the end
+-- leads are taken off the goal, among them a quantifier for each name, and no premise leads what is left
 pub record TakesOff (s : ℕ) (names : List Name) (q r : Sequent) : Type 0 where
   pub leads : List Lead
   pub end : Term
   pub was : q.goal ≡ led_by leads end
   pub named : length names ≡ length (variables leads)
   pub whole : is_implication end ≡ false
-  -- the variables under their names, the premises as hypotheses, and the end as the goal
+  -- what is added, and what the goal is now
   pub vars : r.vars ≡ q.vars ++ under_names (variables leads) names
   pub hyps : r.hyps ≡ q.hyps ++ assumed s names (premises leads)
   pub goal : r.goal ≡ renamed (renamings (variables leads) names) end
 
--- and the names are new
+-- leads are taken off under new names
 pub record Intros (s : ℕ) (names : List Name) (q r : Sequent) : Type 0 where
   pub new : AreNew names q
   pub takes : TakesOff s names q r

@@ -2,13 +2,12 @@
 ghost use Rattle.std.specs.Prelude.{◌≡◌, ◌↔◌, ◌≤◌, ℕ, List, ◌∷◌, ◌++◌, ◌+◌, [], None, Some, IfOk, OnOk, IsTrue, MatchOption, false};
 ghost use Rattle.text_core.specs.declared.name.Name.{Name};
 ghost use Rattle.logic_term.specs.Subst.{renamed};
-ghost use Rattle.logic_term.specs.Term.{implies, forall, is_implication, is_quantified};
 ghost use Rattle.proof_kernel.specs.declared.sequent.Sequent.{Sequent};
 ghost use Rattle.proof_kernel.specs.Rules.{label, sort_of, with_goal, AreNew, IsNew, TakesOff, Intros, TakesSome};
-ghost use Rattle.proof_kernel.specs.Intro.{assuming, declaring, IsAbove, IsFront};
+ghost use Rattle.proof_kernel.specs.Intro.{assuming, declaring, IsAbove};
 
 use crate::sequent::{Sequent, sort_of_var};
-use logic_term::{Label2, Renaming, Sort, Term, is_one_of};
+use logic_term::{Label2, Renaming, Sort, Term, TermBinary, TermForm, is_one_of};
 use std::alloc::Global;
 use text_core::{Name, NoMemory};
 
@@ -55,26 +54,6 @@ fn are_new(alloc: Global, names: &[Name], q: &Sequent) -> Result<bool, NoMemory>
 }
 
 // ---- what leads
-
-/// What leads a goal, and what it leads.
-#[derive(Clone, Copy)]
-enum Front<'a> {
-    Premise(&'a Term, &'a Term),
-    Variable(Name, &'a Sort, &'a Term),
-    Nothing,
-}
-
-fn front_of(goal: &Term) -> Front<'_>
-    ensures { IsFront goal.now result }
-{
-    if let Some((premise, rest)) = goal.as_implication() {
-        return Front::Premise(premise, rest);
-    }
-    match goal.as_forall() {
-        Some((name, sort, body)) => Front::Variable(name, sort, body),
-        None => Front::Nothing,
-    }
-}
 
 /// A sequent without some of what leads its goal: the names that the quantifiers got, and the number of the next hypothesis. The goal
 /// stays until all is taken off.
@@ -153,12 +132,12 @@ fn take(alloc: Global, step: u32, names: &[Name], q: &Sequent) -> Result<Option<
     let mut used: usize = 0;
     let mut leads = true;
     while leads {
-        match front_of(goal) {
-            Front::Premise(premise, rest) => {
+        match goal.form() {
+            TermForm::Binary(TermBinary::Implies, premise, rest) => {
                 left.assume(alloc, step, premise)?;
                 goal = rest;
             }
-            Front::Variable(from, sort, body) if used < names.len() => {
+            TermForm::Forall(from, sort, body) if used < names.len() => {
                 left.declare(alloc, names[used], from, sort)?;
                 used += 1;
                 goal = body;
