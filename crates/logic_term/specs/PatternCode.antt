@@ -3,7 +3,7 @@ use Rattle.std.specs.Prelude.{◌≡◌}
 use Rattle.std.proofs.Common.{refl, ap}
 use Rattle.std.proofs.Common.{arith as sums}
 use Rattle.std.specs.Coded.{Coded, coded_option, coded_ℤ, coded_bool}
-use base.Stored.{Gv, gnil, gnum, gcons, num}
+use base.Stored.{Gv, gnil, gnum, gcons}
 use Rattle.logic_term.specs.TyCode.{head, tail, tag, coded_ty}
 use Rattle.text_core.specs.contracts.name.Name as name
 use Rattle.logic_term.specs.contracts.pattern.BindingKind as mode

@@ -1,9 +1,9 @@
 -- The parts of a pattern are smaller than it.
 use Rattle.std.specs.Prelude.{◌≡◌, ℕ, zero, suc, ◌+◌, ◌≤◌, ◌<◌, length, get_or, max, List, [], ◌∷◌}
-use Rattle.std.proofs.Common.{arith, refl, sym, ap, ◌∙◌}
+use Rattle.std.proofs.Common.{arith}
 use denote.Param.Weighed.{most}
 use Rattle.logic_term.specs.Ty.{Ty}
-use Rattle.logic_term.specs.Pattern.{Pat, Pats, no_pats, and_pat}
+use Rattle.logic_term.specs.Pattern.{Pat}
 use Rattle.logic_term.specs.PatternView.{pat_of, pat_size, pats_size, pats_of}
 use Rattle.logic_term.specs.declared.pattern.PatNode.{PatNode}
 use Rattle.logic_term.specs.declared.pattern.PatNode.TheVariants as node

@@ -4,9 +4,9 @@ use Rattle.source_kinds.specs.declared.kinds.IntKind.{IntKind}
 use Rattle.logic_term.specs.Matches.{seen, value_at}
 use Rattle.logic_term.specs.Pattern.{Pat}
 use Rattle.logic_term.specs.Sort.{Declarations, HasSort, instance}
-use Rattle.logic_term.specs.Theory.{declared, fields_of, variant_of}
+use Rattle.logic_term.specs.Theory.{fields_of, variant_of}
 use Rattle.logic_term.specs.Ty.{Ty, Tys, int, bool, math_int, tuple, adt, boxed, shared, unique, param, closure, viewed, snapshot}
-use Rattle.logic_term.specs.Value.{Value, Number, Flag, Made}
+use Rattle.logic_term.specs.Value.{Value, Flag}
 use Rattle.logic_term.specs.declared.declaration.AdtDecl.{AdtDecl}
 use Rattle.logic_term.specs.declared.declaration.VariantDecl.{VariantDecl}
 use Rattle.logic_term.specs.declared.kinds.AdtId.{AdtId}

@@ -182,7 +182,7 @@ test_made ds ps t ts xs us s ms ns q w n ks h e b r fail are is same =
       },
       (let c = most_branches ds in
           let u : task_weights c ps us ≡ (task_weights c ps xs + task_weights c ps (j ∷ [])) + known_weights c ps ks = ap (task_weights c ps) is ∙ weights_more c ps (xs ++ j ∷ []) (decides n ks) ∙
-                (λ i. weights_more c ps xs (j ∷ []) i + weights_of c ps n ks i) in
+          (λ i. weights_more c ps xs (j ∷ []) i + weights_of c ps n ks i) in
           omega (arith, u, weights_parts c ps ts xs (task.Decide s) e, lighter ds ps t s.known ks g)),
     )
 

@@ -4,7 +4,6 @@ use Rattle.source_kinds.specs.declared.kinds.IntKind.{IntKind}
 use Rattle.logic_term.specs.Pattern.{Pat}
 use Rattle.logic_term.specs.Sort.{Declarations}
 use Rattle.logic_term.specs.Ty.{Ty, Tys}
-use Rattle.logic_term.specs.Value.{Number, Made}
 use Rattle.logic_term.specs.declared.kinds.AdtId.{AdtId}
 use Rattle.logic_term.specs.declared.kinds.Ctor.TheVariants.{Tuple, Variant}
 use Rattle.logic_term.specs.declared.pattern.PatStep.{PatStep}
@@ -74,4 +73,4 @@ goes_other Δ ps t k p c z i e l = goes Δ ps t k p (by.Number c z) (other c (z 
 pub goes_variant : (Δ : Declarations) (ps : List Pat) (t : Ty) (k : Known) (p : List PatStep) (d : AdtId) (l n j : ℕ) (fs : Tys) (i : Spot Δ k t p (by.Made (Variant d l) n))
     → next 0 ps k ≡ test p (by.Made (Variant d l) n) → Δ d j ≡ Some fs → Goes Δ ps t k (put k p (built (Variant d j) (all_anything (count_tys fs))))
 goes_variant Δ ps t k p d l n j fs i e f = goes_new Δ ps t k p (by.Made (Variant d l) n) (built (Variant d j) (all_anything (count_tys fs))) i e
-      (variant_known Δ i.ty d l n j fs i.asked f) i.unanswered (answers_built (by.Made (Variant d l) n) (Variant d j) (count_tys fs))
+    (variant_known Δ i.ty d l n j fs i.asked f) i.unanswered (answers_built (by.Made (Variant d l) n) (Variant d j) (count_tys fs))

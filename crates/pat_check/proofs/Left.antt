@@ -4,7 +4,6 @@ use Rattle.std.specs.Ordering.{int_eq}
 use Rattle.source_kinds.specs.declared.kinds.IntKind.{IntKind}
 use Rattle.logic_term.specs.Matches.{same_ctor, same_flag, variant_number}
 use Rattle.logic_term.specs.Pattern.{Pat, Pats, wild, bound, literal, truth, shape, no_pats, and_pat}
-use Rattle.logic_term.specs.Value.{Number}
 use Rattle.logic_term.specs.declared.kinds.Ctor.{Ctor}
 use Rattle.logic_term.specs.declared.pattern.PatStep.{PatStep}
 use Rattle.pat_check.proofs.Spots.{also_asks, first_asks, later_asks, if_asks, asks_in, sure_asks, Unanswered}

@@ -4,7 +4,6 @@ use Rattle.std.specs.Ordering.{int_eq}
 use Rattle.source_kinds.specs.declared.kinds.IntKind.{IntKind}
 use Rattle.logic_term.specs.Matches.{same_ctor, variant_number}
 use Rattle.logic_term.specs.Pattern.{Pat, Pats, wild, bound, literal, truth, shape, no_pats, and_pat}
-use Rattle.logic_term.specs.Value.{Number}
 use Rattle.logic_term.specs.declared.pattern.PatStep.{PatStep}
 use Rattle.pat_check.proofs.Parts.{also_fail}
 use Rattle.pat_check.proofs.Sound.{also_fails, first_fails, later_fails, if_fails, asked_fails}

@@ -7,7 +7,6 @@ use Rattle.logic_term.specs.Value.{Value}
 use Rattle.logic_term.specs.declared.declaration.AdtDecl.{AdtDecl}
 use Rattle.pat_check.proofs.Branching.{most_branches, AllGo, some_agrees, Branching, branching}
 use Rattle.pat_check.proofs.Going.{left_sum}
-use Rattle.pat_check.proofs.Parts.{from}
 use Rattle.pat_check.proofs.Refined.{all_still_fail}
 use Rattle.pat_check.proofs.RowLaws.{none_matches, one_matches}
 use Rattle.pat_check.proofs.Settling.{settled_agrees, settled_known}

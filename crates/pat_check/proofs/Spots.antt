@@ -6,7 +6,7 @@ use Rattle.logic_term.specs.Matches.{seen, same_ctor, same_flag, is_made, nth_va
 use Rattle.logic_term.specs.Pattern.{Pat, Pats, wild, bound, literal, truth, shape, no_pats, and_pat}
 use Rattle.logic_term.specs.Sort.{Declarations, HasSort, HaveSorts, instance, instances}
 use Rattle.logic_term.specs.Ty.{Ty, Tys, bool, no_tys, and_ty}
-use Rattle.logic_term.specs.Value.{Value, Values, Number, Made, no_values, and_value, parts_of}
+use Rattle.logic_term.specs.Value.{Value, Values, no_values, and_value, parts_of}
 use Rattle.logic_term.specs.declared.pattern.PatStep.{PatStep}
 use Rattle.pat_check.proofs.Sorts.{parts_sorts, parts_same, looks_all}
 use Rattle.pat_check.proofs.Tests.{both, ctor_same}

@@ -1,6 +1,5 @@
 -- What is pushed one after another.
 use Rattle.std.proofs.Common.{◌≡◌, refl, sym, ap, ◌∙◌, subst, ℕ, zero, suc, ◌+◌, ◌<◌, List, [], ◌∷◌, ◌++◌, length, get_or, take, arith}
-use Rattle.pat_check.proofs.Parts.{from}
 use Rattle.pat_check.specs.Known.{Known}
 use Rattle.pat_check.specs.States.{states_of}
 use Rattle.pat_check.specs.Tasks.{decides}
@@ -37,4 +36,4 @@ decides_more n i ks k e l = subst (λ m. decides n (take m ks) ≡ decides n (ta
 pub task_pushed : (n i : ℕ) (ks : List Known) (k : Known) (old now new : List Task) → k ≡ get_or ks i k → i < length ks → now ≡ old ++ decides n (take i ks)
     → new ≡ now ++ task.Decide (record { from = n; known = k }) ∷ [] → new ≡ old ++ decides n (take (i + 1) ks)
 task_pushed n i ks k old now new e l h f = f ∙ ap (λ xs. xs ++ task.Decide (record { from = n; known = k }) ∷ []) h ∙ assoc old (decides n (take i ks))
-      (task.Decide (record { from = n; known = k }) ∷ []) ∙ ap (λ xs. old ++ xs) (sym (decides_more n i ks k e l))
+    (task.Decide (record { from = n; known = k }) ∷ []) ∙ ap (λ xs. old ++ xs) (sym (decides_more n i ks k e l))

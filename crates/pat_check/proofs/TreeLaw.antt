@@ -5,9 +5,8 @@ use Rattle.source_kinds.specs.declared.kinds.IntKind.{IntKind}
 use Rattle.logic_term.specs.Matches.{seen, is_number, is_flag, value_at}
 use Rattle.logic_term.specs.Pattern.{Pat}
 use Rattle.logic_term.specs.Sort.{Declarations, HasSort, instance}
-use Rattle.logic_term.specs.Theory.{declared}
 use Rattle.logic_term.specs.Ty.{Ty, Tys}
-use Rattle.logic_term.specs.Value.{Value, Number, Made}
+use Rattle.logic_term.specs.Value.{Value}
 use Rattle.logic_term.specs.declared.declaration.AdtDecl.{AdtDecl}
 use Rattle.logic_term.specs.declared.kinds.AdtId.{AdtId}
 use Rattle.logic_term.specs.declared.kinds.Ctor.TheVariants.{Tuple, Variant, Closure}
@@ -22,7 +21,6 @@ use Rattle.pat_check.specs.Decision.{Decision, switch, if_truth, if_literal, var
 use Rattle.pat_check.specs.DecisionView.{decisions_of}
 use Rattle.pat_check.specs.Known.{Known, other, number, flag, built, all_anything, agrees, known_at, put, excluded}
 use Rattle.pat_check.specs.KnownTypes.{AllAmong, IsKnown}
-use Rattle.pat_check.specs.PatValue.{integer}
 use Rattle.pat_check.specs.Tree.{is_struct, node_of_adt, IsNode, IsTree, AreTrees, is_leaf, is_node, no_trees, and_tree}
 use Rattle.pat_check.specs.Typed.{fields_in, count_tys, AllPats}
 use Rattle.pat_check.specs.declared.test.Test.{Test}
@@ -111,7 +109,7 @@ integer_right Δ ps t θ v k q c z ks Ds D hv a i are node r = ⊎_elim
     (λ x. ⊎_elim
     (λ y. absurd (let s = subst (EachRight ps v (put k q (number z) ∷ put k q (other c (z ∷ excluded (known_at k q))) ∷ [])) y (subst (λ ls. EachRight ps v ls Ds) x.1 r) in s.1))
     (λ y. subst (λ F. Right ps F v) (sym y.3) (literal_right Δ ps t θ v k q c z y.0 y.1 hv a i
-          (subst (EachRight ps v (put k q (number z) ∷ put k q (other c (z ∷ excluded (known_at k q))) ∷ [])) y.2 (subst (λ ls. EachRight ps v ls Ds) x.1 r))))
+    (subst (EachRight ps v (put k q (number z) ∷ put k q (other c (z ∷ excluded (known_at k q))) ∷ [])) y.2 (subst (λ ls. EachRight ps v ls Ds) x.1 r))))
     node)
     are
 

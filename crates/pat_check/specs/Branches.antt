@@ -1,7 +1,7 @@
 -- The answers of a test: a value of which something is known agrees with what is known after one of them. A declared type
 -- has one for each variant, in their order; of an integer the answers are that it is the literal and that it is another,
 -- where there is another.
-use Rattle.std.specs.Prelude.{◌≡◌, ℕ, suc, ℤ, Bool, true, false, ◌⊎◌, Option, Some, None, List, [], ◌∷◌, map, slice_get}
+use Rattle.std.specs.Prelude.{◌≡◌, ℕ, suc, ℤ, true, false, ◌⊎◌, Option, Some, None, List, [], ◌∷◌, map, slice_get}
 use Rattle.source_kinds.specs.declared.kinds.IntKind.{IntKind}
 use Rattle.logic_term.specs.declared.declaration.AdtDecl.{AdtDecl}
 use Rattle.logic_term.specs.declared.declaration.VariantDecl.{VariantDecl}

@@ -1,9 +1,9 @@
 -- Trees of tests, and what they answer.
-use Rattle.std.specs.Prelude.{ℕ, zero, suc, ℤ, Bool, true, cond, Option, Some, None, List, [], ◌∷◌}
+use Rattle.std.specs.Prelude.{ℕ, zero, suc, ℤ, true, cond, Option, Some, None, List, [], ◌∷◌}
 use Rattle.logic_term.specs.declared.pattern.PatStep.{PatStep}
 use Rattle.logic_term.specs.declared.pattern.Binding.{Binding}
 use Rattle.logic_term.specs.Pattern.{Pat}
-use Rattle.logic_term.specs.Value.{Value, Number, Flag, Made, Pair}
+use Rattle.logic_term.specs.Value.{Value, Made}
 use Rattle.logic_term.specs.Matches.{seen, is_number, is_flag, matches, value_at, variant_number, bindings}
 
 mutual

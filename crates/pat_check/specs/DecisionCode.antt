@@ -2,7 +2,7 @@
 use Rattle.std.specs.Prelude.{◌≡◌}
 use Rattle.std.proofs.Common.{refl, ap}
 use Rattle.std.proofs.Common.{arith as sums}
-use Rattle.std.specs.Coded.{Coded, coded_ℕ, coded_list, coded_ℤ}
+use Rattle.std.specs.Coded.{Coded, coded_list, coded_ℤ}
 use base.Stored.{Gv, gnil, gnum, gcons, num}
 use Rattle.logic_term.specs.TyCode.{head, tail, tag}
 use Rattle.logic_term.specs.contracts.pattern.Binding as binding

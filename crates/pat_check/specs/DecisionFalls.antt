@@ -1,8 +1,8 @@
 -- The parts of a tree of tests are smaller than it.
 use Rattle.std.specs.Prelude.{◌≡◌, ℕ, zero, suc, ◌+◌, ◌≤◌, ◌<◌, length, get_or, max, List, [], ◌∷◌}
-use Rattle.std.proofs.Common.{arith, refl, sym, ap, ◌∙◌}
+use Rattle.std.proofs.Common.{arith}
 use denote.Param.Weighed.{most}
-use Rattle.pat_check.specs.Decision.{Decision, Decisions, no_more, and_then}
+use Rattle.pat_check.specs.Decision.{Decision}
 use Rattle.pat_check.specs.DecisionView.{decision_of, decision_size, decisions_size, decisions_of}
 use Rattle.pat_check.specs.declared.decision.DecisionNode.{DecisionNode}
 use Rattle.pat_check.specs.declared.decision.DecisionNode.TheVariants as node

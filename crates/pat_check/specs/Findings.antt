@@ -1,5 +1,5 @@
 -- Findings of the code as statuses, and what the code says of the first remaining row.
-use Rattle.std.specs.Prelude.{◌≡◌, ℕ, List, [], ◌∷◌, take}
+use Rattle.std.specs.Prelude.{◌≡◌, ℕ, List, ◌∷◌, take}
 use Rattle.logic_term.specs.Pattern.{Pat}
 use Rattle.pat_check.specs.declared.finding_kind.Finding.{Finding}
 use Rattle.pat_check.specs.declared.finding_kind.Finding.TheVariants as found

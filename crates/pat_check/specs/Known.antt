@@ -4,7 +4,7 @@ use Rattle.std.specs.Ordering.{int_eq}
 use Rattle.source_kinds.specs.declared.kinds.IntKind.{IntKind}
 use Rattle.logic_term.specs.declared.kinds.Ctor.{Ctor}
 use Rattle.logic_term.specs.declared.pattern.PatStep.{PatStep}
-use Rattle.logic_term.specs.Value.{Value, Values, Number, Flag, Made, Pair, no_values, and_value, parts_of}
+use Rattle.logic_term.specs.Value.{Value, Values, Number, no_values, and_value, parts_of}
 use Rattle.logic_term.specs.Matches.{seen, is_number, is_flag, is_made}
 
 mutual

@@ -3,7 +3,7 @@ use Rattle.std.specs.Prelude.{◌≡◌}
 use Rattle.std.proofs.Common.{refl, ap}
 use Rattle.std.proofs.Common.{arith as sums}
 use Rattle.std.specs.Coded.{Coded, coded_option, coded_list, coded_ℤ, coded_bool}
-use base.Stored.{Gv, gnil, gnum, gcons, num}
+use base.Stored.{Gv, gnil, gnum, gcons}
 use Rattle.logic_term.specs.TyCode.{head, tail, tag}
 use Rattle.source_kinds.specs.contracts.kinds.IntKind as int_kind
 use Rattle.logic_term.specs.contracts.kinds.Ctor as ctor

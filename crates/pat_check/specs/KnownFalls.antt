@@ -1,8 +1,8 @@
 -- The parts of what is known are smaller than it.
 use Rattle.std.specs.Prelude.{◌≡◌, ℕ, zero, suc, ◌+◌, ◌≤◌, ◌<◌, length, get_or, max, List, [], ◌∷◌}
-use Rattle.std.proofs.Common.{arith, refl, sym, ap, ◌∙◌}
+use Rattle.std.proofs.Common.{arith}
 use denote.Param.Weighed.{most}
-use Rattle.pat_check.specs.Known.{Known, Knowns, no_knowns, and_known}
+use Rattle.pat_check.specs.Known.{Known}
 use Rattle.pat_check.specs.KnownView.{known_of, known_size, knowns_size, knowns_of}
 use Rattle.pat_check.specs.declared.known.KnownNode.{KnownNode}
 use Rattle.pat_check.specs.declared.known.KnownNode.TheVariants as node

@@ -1,5 +1,5 @@
 -- What may be known of a value of a type.
-use Rattle.std.specs.Prelude.{◌≡◌, ℤ, Bool, true, false, Option, List}
+use Rattle.std.specs.Prelude.{◌≡◌, ℤ, true, false, Option, List}
 use Rattle.source_kinds.specs.declared.kinds.IntKind.{IntKind}
 use Rattle.logic_term.specs.Ty.{Ty, Tys, bool, no_tys, and_ty}
 use Rattle.logic_term.specs.Sort.{Declarations}

@@ -1,5 +1,5 @@
 -- What holds of every tree of tests, and of every pattern value.
-use Rattle.std.specs.Prelude.{◌≡◌, Bool, true, List}
+use Rattle.std.specs.Prelude.{◌≡◌, true, List}
 use Rattle.logic_term.specs.declared.declaration.AdtDecl.{AdtDecl}
 use Rattle.logic_term.specs.Pattern.{Pat}
 use Rattle.logic_term.specs.Sort.{HasSort, instance}

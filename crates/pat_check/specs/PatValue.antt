@@ -3,7 +3,7 @@ use Rattle.std.specs.Prelude.{◌≡◌, ℤ, Bool, true, false, ◌&&◌, Optio
 use Rattle.source_kinds.specs.declared.kinds.IntKind.{IntKind}
 use Rattle.logic_term.specs.declared.kinds.Ctor.{Ctor}
 use Rattle.logic_term.specs.Ty.{Ty, Tys, bool, no_tys, and_ty}
-use Rattle.logic_term.specs.Value.{Value, Values, Number, Flag, Made, Pair, no_values, and_value, parts_of}
+use Rattle.logic_term.specs.Value.{Value, Values, no_values, and_value, parts_of}
 use Rattle.logic_term.specs.Sort.{Declarations, HasSort, instance}
 use Rattle.logic_term.specs.Pattern.{Pat}
 use Rattle.logic_term.specs.Matches.{seen, is_number, is_flag, is_made}

@@ -1,8 +1,8 @@
 -- The parts of a pattern value are smaller than it.
 use Rattle.std.specs.Prelude.{◌≡◌, ℕ, zero, suc, ◌+◌, ◌≤◌, ◌<◌, length, get_or, max, List, [], ◌∷◌}
-use Rattle.std.proofs.Common.{arith, refl, sym, ap, ◌∙◌}
+use Rattle.std.proofs.Common.{arith}
 use denote.Param.Weighed.{most}
-use Rattle.pat_check.specs.PatValue.{PatValue, PatValues, no_parts, and_part}
+use Rattle.pat_check.specs.PatValue.{PatValue}
 use Rattle.pat_check.specs.PatValueView.{pat_value_of, pat_value_size, pat_values_size, pat_values_of}
 use Rattle.pat_check.specs.declared.pat_value.PatValueNode.{PatValueNode}
 use Rattle.pat_check.specs.declared.pat_value.PatValueNode.TheVariants as node

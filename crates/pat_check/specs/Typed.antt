@@ -1,10 +1,10 @@
 -- Patterns of a type, and the patterns that cover a type (Rust Reference, "Patterns" and "Match expressions").
-use Rattle.std.specs.Prelude.{◌≡◌, ℕ, zero, suc, ℤ, Bool, true, false, ◌||◌, Option, Some, None, List, [], ◌∷◌}
+use Rattle.std.specs.Prelude.{◌≡◌, ℕ, suc, ℤ, Bool, true, false, ◌||◌, Option, Some, None, List, [], ◌∷◌}
 use Rattle.source_kinds.specs.declared.kinds.IntKind.{IntKind}
 use Rattle.source_kinds.specs.Range.{fits}
 use Rattle.logic_term.specs.declared.declaration.AdtDecl.{AdtDecl}
 use Rattle.logic_term.specs.declared.kinds.Ctor.{Ctor}
-use Rattle.logic_term.specs.declared.kinds.Ctor.TheVariants.{Tuple, Variant, Closure}
+use Rattle.logic_term.specs.declared.kinds.Ctor.TheVariants.{Tuple, Variant}
 use Rattle.logic_term.specs.Ty.{Ty, Tys, int, bool, math_int, tuple, adt, boxed, shared, unique, param, closure, viewed, snapshot, no_tys, and_ty}
 use Rattle.logic_term.specs.Value.{Value}
 use Rattle.logic_term.specs.Sort.{Declarations, HasSort, instance, instances}

@@ -64,7 +64,7 @@ are_pats_taken Δ i ps ts l s a = subst (λ us. ArePats Δ (pats_of ps) (tys_of 
 pub field_more : (θ : Tys) (i : ℕ) (fs : List FieldDecl) (f : FieldDecl) (t : Ty) (us vs : List Ty) → f ≡ get_or fs i f → i < length fs → t ≡ instance θ f.ty
     → us ≡ map (instance θ) (take i (map field_ty fs)) → vs ≡ us ++ t ∷ [] → vs ≡ map (instance θ) (take (i + 1) (map field_ty fs))
 field_more θ i fs f t us vs e l is h made = made ∙ (λ j. h j ++ is j ∷ []) ∙ sym (subst (λ m. map (instance θ) (take m (map field_ty fs)) ≡ map (instance θ) (take i (map field_ty fs)) ++
-      instance θ f.ty ∷ []) (let g : suc i ≡ i + 1 = omega arith in g) (more i fs e l))
+    instance θ f.ty ∷ []) (let g : suc i ≡ i + 1 = omega arith in g) (more i fs e l))
   where
     more : (i : ℕ) (fs : List FieldDecl) → f ≡ get_or fs i f → i < length fs → map (instance θ) (take (suc i) (map field_ty fs)) ≡ map (instance θ) (take i (map field_ty fs)) ++ instance θ f.ty ∷ []
     more i [] e l = absurd (omega arith)

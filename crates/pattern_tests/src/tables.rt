@@ -26,44 +26,44 @@ fn missing_of(
 }
 
 /// The type, the arms, and the value that is missing.
-const MISSING: [(&[u8], &[u8], &str); 13] = [
-    (b"b", b"T", "false"),
-    (b"ou", b"s_n", "none"),
-    (b"ou", b"n", "0.1(_)"),
-    (b"ou", b"ns4", "0.1(0)"),
-    (b"u", b"012", "3"),
-    (b"u", b"01x", "none"),
-    (b"tbb", b"tT_t_F", "(false, true)"),
-    (b"!tbb", b"tT_t_F", "(false, true)"),
-    (b"yb", b"yT", "2.0(false)"),
-    (b"pobyb", b"ps__p_yT", "1.0(0.0(), 2.0(false))"),
-    (b"*l", b"ec0_", "3.1(1, _)"),
-    (b"*l", b"c_ec_c__", "3.0()"),
-    (b"0", b"x", "none"),
+const MISSING: [(&[u8], &[u8], &[u8]); 13] = [
+    (b"b", b"T", b"false"),
+    (b"ou", b"s_n", b"none"),
+    (b"ou", b"n", b"0.1(_)"),
+    (b"ou", b"ns4", b"0.1(0)"),
+    (b"u", b"012", b"3"),
+    (b"u", b"01x", b"none"),
+    (b"tbb", b"tT_t_F", b"(false, true)"),
+    (b"!tbb", b"tT_t_F", b"(false, true)"),
+    (b"yb", b"yT", b"2.0(false)"),
+    (b"pobyb", b"ps__p_yT", b"1.0(0.0(), 2.0(false))"),
+    (b"*l", b"ec0_", b"3.1(1, _)"),
+    (b"*l", b"c_ec_c__", b"3.0()"),
+    (b"0", b"x", b"none"),
 ];
 
 #[test]
 fn missing_values(rt: HostRuntime) -> Result<(), Fail> {
     for (t, arms, wanted) in MISSING {
         let text = missing_of(rt.alloc(), BYTE, t, arms)?;
-        assert!(rt; text.as_str() == wanted, "{wanted} is {text}");
+        assert!(rt; text.as_bytes() == wanted, "it is {text}");
     }
     Ok(())
 }
 
 /// Only a wildcard or a name covers the unbounded integers, and integers of a machine type are no patterns of them.
-const UNBOUNDED: [(Option<IntKind>, &[u8], &str); 4] = [
-    (None, b"012", "3"),
-    (None, b"21", "0"),
-    (None, b"0_", "none"),
-    (BYTE, b"0_", "no patterns"),
+const UNBOUNDED: [(Option<IntKind>, &[u8], &[u8]); 4] = [
+    (None, b"012", b"3"),
+    (None, b"21", b"0"),
+    (None, b"0_", b"none"),
+    (BYTE, b"0_", b"no patterns"),
 ];
 
 #[test]
 fn unbounded_integers(rt: HostRuntime) -> Result<(), Fail> {
     for (kind, arms, wanted) in UNBOUNDED {
         let text = missing_of(rt.alloc(), kind, b"z", arms)?;
-        assert!(rt; text.as_str() == wanted, "{wanted} is {text}");
+        assert!(rt; text.as_bytes() == wanted, "it is {text}");
     }
     Ok(())
 }
@@ -78,32 +78,32 @@ fn tree_of(alloc: Global, t: &[u8], arms: &[u8]) -> Result<String, NoMemory> {
 
 /// The type, the arms, and their tree: an enum of one variant is tested and a struct is not; equal stands first; the first row
 /// is tested first, from outside in; boxes and references take no step. `x` has the number 120.
-const TREES: [(&[u8], &[u8], &str); 10] = [
-    (b"ob", b"sxn", "[switch : 1: 0 120=/1.0]"),
-    (b"yb", b"yx", "[switch : 0 120=/0.0]"),
-    (b"pbb", b"pxT", "missing"),
-    (b"pbb", b"pxTx", "[if /0.1: 0 120=/0.0: 1 120=]"),
-    (b"u", b"97_", "[9 : 0: [7 : 1: 2]]"),
-    (b"u", b"_9", "0"),
-    (b"tbb", b"t_TtF__", "[if /0.1: 0: [if /0.0: 2: 1]]"),
+const TREES: [(&[u8], &[u8], &[u8]); 10] = [
+    (b"ob", b"sxn", b"[switch : 1: 0 120=/1.0]"),
+    (b"yb", b"yx", b"[switch : 0 120=/0.0]"),
+    (b"pbb", b"pxT", b"missing"),
+    (b"pbb", b"pxTx", b"[if /0.1: 0 120=/0.0: 1 120=]"),
+    (b"u", b"97_", b"[9 : 0: [7 : 1: 2]]"),
+    (b"u", b"_9", b"0"),
+    (b"tbb", b"t_TtF__", b"[if /0.1: 0: [if /0.0: 2: 1]]"),
     (
         b"tobb",
         b"tsTxtx_",
-        "[switch /0.0: 1 120=/0.0: [if /0.0/1.0: 0 120=/0.1: 1 120=/0.0]]",
+        b"[switch /0.0: 1 120=/0.0: [if /0.0/1.0: 0 120=/0.1: 1 120=/0.0]]",
     ),
     (
         b"*l",
         b"c0cx__",
-        "[switch : 1: [0 /1.0: [switch /1.1: 1: 0 120=/1.1/1.0]: 1]]",
+        b"[switch : 1: [0 /1.0: [switch /1.1: 1: 0 120=/1.1/1.0]: 1]]",
     ),
-    (b"!ob", b"sTns_", "[switch : 1: [if /1.0: 0: 2]]"),
+    (b"!ob", b"sTns_", b"[switch : 1: [if /1.0: 0: 2]]"),
 ];
 
 #[test]
 fn trees(rt: HostRuntime) -> Result<(), Fail> {
     for (t, arms, wanted) in TREES {
         let text = tree_of(rt.alloc(), t, arms)?;
-        assert!(rt; text.as_str() == wanted, "{wanted} is {text}");
+        assert!(rt; text.as_bytes() == wanted, "it is {text}");
     }
     Ok(())
 }
@@ -127,9 +127,9 @@ fn missing_byte(alloc: Global, left_out: u32) -> Result<String, NoMemory> {
 
 #[test]
 fn all_bytes(rt: HostRuntime) -> Result<(), Fail> {
-    for (left_out, wanted) in [(256, "none"), (77, "77"), (255, "255")] {
+    for (left_out, wanted) in [(256, b"none".as_slice()), (77, b"77"), (255, b"255")] {
         let text = missing_byte(rt.alloc(), left_out)?;
-        assert!(rt; text.as_str() == wanted, "{wanted} is {text}");
+        assert!(rt; text.as_bytes() == wanted, "it is {text}");
     }
     Ok(())
 }

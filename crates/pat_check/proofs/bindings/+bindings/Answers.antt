@@ -1,4 +1,4 @@
-use Rattle.std.proofs.Common.{rules, ◌≡◌, ◌∷◌, [], ◌++◌, ◌∙◌, ap, sym}
+use Rattle.std.proofs.Common.{rules, ◌≡◌, ◌∷◌, [], ◌++◌, ◌∙◌, ap}
 use Rattle.logic_term.specs.Matches.{bindings}
 use Rattle.pat_check.specs.Tasks.{under}
 use Rattle.pat_check.proofs.Binds.{part_bound}

@@ -1,6 +1,5 @@
-use Rattle.std.proofs.Common.{rules, ◌≡◌, ◌∷◌, [], ◌++◌, ◌∙◌, ap, sym, length, arith}
-use Rattle.pat_check.specs.Branches.{field_tys, variant_branches, field_lists}
-use Rattle.pat_check.proofs.Variants.{variant_more, all_variants_taken}
+use Rattle.std.proofs.Common.{rules, ◌≡◌, ◌∷◌, [], ◌++◌, ◌∙◌, length}
+use Rattle.pat_check.proofs.Variants.{variant_more}
 use Rattle.pat_check.proofs.branches.variant_branches.Goals as goal
 
 pub loop-j-preserved : goal.loop-j-preserved

@@ -1,4 +1,4 @@
-use Rattle.std.proofs.Common.{rules, ◌≡◌, ◌∙◌}
+use Rattle.std.proofs.Common.{◌∙◌}
 use Rattle.pat_check.proofs.Variants.{variants_got, no_variants}
 use Rattle.pat_check.proofs.branches.variants_in.Goals as goal
 

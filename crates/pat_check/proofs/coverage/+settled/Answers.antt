@@ -1,4 +1,4 @@
-use Rattle.std.proofs.Common.{rules, ◌≡◌, ◌∷◌, [], ◌++◌, ◌+◌, take, ap, sym, ◌∙◌, subst, arith}
+use Rattle.std.proofs.Common.{rules, ◌≡◌, ◌∷◌, [], ◌++◌, take, sym, subst}
 use Rattle.pat_check.specs.KnownView.{knowns_of}
 use Rattle.pat_check.specs.PatValueView.{pat_values_of}
 use Rattle.pat_check.specs.Settled.{SettleAll}

@@ -22,5 +22,5 @@ statuses-loop-i-preserved t c =
       c.loop-i.invariant.0,
       subst (λ s. also s (from n (i + 1) (drop (i + 1) ps) (drop (i + 1) ks)) ≡ statuses n (pats_of ps) (knowns_of ks)) (sym c.combined-found.ensures)
           (from_more n i ps ks c.index-pats-i.result c.index-knowns-i.result (finding_of c.loop-i.found) (finding_of c.in_ok-next-2.next) _ c.index-pats-i.is c.index-knowns-i.is c.loop-i-test.true
-                (omega (arith, c.loop-i.invariant.0)) next c.loop-i.invariant.1),
+          (omega (arith, c.loop-i.invariant.0)) next c.loop-i.invariant.1),
     )

@@ -1,4 +1,4 @@
-use Rattle.std.proofs.Common.{rules, ◌≡◌, ◌∙◌, ap, sym, subst, take, take_all, arith}
+use Rattle.std.proofs.Common.{◌≡◌, ◌∙◌, ap, sym, subst, take_all}
 use Rattle.pat_check.specs.Findings.{finding_of}
 use Rattle.pat_check.specs.Rows.{row, AllFail}
 use Rattle.pat_check.specs.Status.{status, sure}
@@ -10,7 +10,7 @@ returns-in-Sure c =
     let number : c.in_ok-number-in-Sure.number ≡ c.loop-i.i = c.in_ok-number-in-Sure.ensures in
     let arm = c.index-arms-i-in-Sure.result in
     let s : status arm c.args.known.now ≡ sure = status_of c.args.arms.now c.loop-i.i c.args.known.now c.index-arms-i.result arm c.index-arms-i.is c.index-arms-i-in-Sure.is c.loop-i-test.true
-          (sym c.in_ok-status.ensures ∙ ap finding_of c.in-Sure.is) in
+    (sym c.in_ok-status.ensures ∙ ap finding_of c.in-Sure.is) in
     row_at c.loop-i.i c.args.arms.now c.args.known.now arm c.index-arms-i-in-Sure.is c.loop-i-test.true c.loop-i.invariant s ∙ ap (λ n. row n arm) (sym number)
 
 pub returns-in-Asks : goal.returns-in-Asks

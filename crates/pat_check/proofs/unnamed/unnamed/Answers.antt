@@ -1,8 +1,6 @@
-use Rattle.std.proofs.Common.{rules, ◌≡◌, ◌+ℤ◌, ◌∙◌, pos, ap, sym, subst, true, arith}
-use Rattle.std.proofs.lemmas.Int.{ints}
-use Rattle.pat_check.specs.Settled.{first_integer, is_past}
-use Rattle.pat_check.specs.Known.{among}
-use Rattle.pat_check.proofs.Integers.{BelowAmong, below_none, below_more, below_all}
+use Rattle.std.proofs.Common.{rules, ◌+ℤ◌, ◌∙◌, pos, sym}
+use Rattle.pat_check.specs.Settled.{first_integer}
+use Rattle.pat_check.proofs.Integers.{below_none, below_more, below_all}
 use Rattle.pat_check.proofs.unnamed.unnamed.Goals as goal
 
 pub loop-i-init : goal.loop-i-init

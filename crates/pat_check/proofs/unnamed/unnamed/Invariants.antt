@@ -1,4 +1,4 @@
-use Rattle.std.proofs.Common.{ℤ, pos, ◌+ℤ◌}
+use Rattle.std.proofs.Common.{pos, ◌+ℤ◌}
 use Rattle.pat_check.specs.Settled.{first_integer}
 use Rattle.pat_check.proofs.Integers.{BelowAmong}
 use Rattle.pat_check.proofs.unnamed.unnamed.Given as goal
