@@ -37,6 +37,9 @@ pub weights_both : (xs ys : List Term) → weights (terms_of (xs ++ ys)) ≡ wei
 weights_both [] ys = omega arith
 weights_both (x ∷ xs) ys = let e = weights_both xs ys in omega (arith, e)
 
+pub weights_last : (ts : List Term) (t : Term) → weights (terms_of (ts ++ t ∷ [])) ≡ weights (terms_of ts) + weight t
+weights_last ts t = let e = weights_both ts (t ∷ []) in omega (arith, e)
+
 pub parts_lighter : (t : Term) → weights (terms_of (parts t)) < weight t
 parts_lighter (var x) = omega arith
 parts_lighter (lit z s) = omega arith

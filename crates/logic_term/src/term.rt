@@ -1,8 +1,8 @@
-ghost use Rattle.std.specs.Prelude.{◌≡◌, ◌↔◌, ◌∷◌, ◌++◌, false, length, IfOk, IsTrue, MatchOption};
+ghost use Rattle.std.specs.Prelude.{◌≡◌, ◌↔◌, ◌<◌, ◌≤◌, ◌+◌, ◌∷◌, ◌++◌, false, length, IfOk, IsTrue, MatchOption};
 ghost use Rattle.logic_term.specs.Term.{lit, forall, and, implies, is_conjunction, is_implication, is_quantified};
-ghost use Rattle.logic_term.specs.TermView.{term_of, term_of_form};
+ghost use Rattle.logic_term.specs.TermView.{term_of, term_of_form, terms_of};
 ghost use Rattle.logic_term.specs.Pairs.{firsts, seconds, top};
-ghost use Rattle.logic_term.specs.Walk.{parts};
+ghost use Rattle.logic_term.specs.Walk.{parts, weight, weights};
 
 use crate::kinds::{Ctor, TermBinary, TermUnary};
 use crate::ty::Ty;
@@ -17,9 +17,9 @@ pub type Sort = Ty;
 /// A term, or a formula, which is a term of sort `bool`. Its parts are shared with the terms that were made of them. Contracts see
 /// the tree of specs/Term.antt.
 #[cycle(term)]
-#[derive(Drop)]
 pub struct Term {
     node: Rc<TermNode>,
+    alloc: Global,
 }
 
 /// What a term is made of, as it is kept.
@@ -70,13 +70,78 @@ impl Model for Term {
     ghost size_decreases = { λ a h. falls a.node.value };
 }
 
+// By a loop, so that a deep term does not run out of stack; only where memory is refused for its stack are parts dropped by calls.
+impl Drop for Term {
+    #[cycle(term)]
+    #[tactic(auto, using(crate::proofs::Walking::weights_last))]
+    fn drop(mut self) {
+        let mut left = Vec::new(self.alloc);
+        loop {
+            let Term { node, alloc: _ } = self;
+            move_out(node, &mut left);
+            match left.pop() {
+                Some(t) => self = t,
+                None => {
+                    left.destroy_empty();
+                    return;
+                }
+            }
+        }
+    }
+}
+
+/// Moves the direct parts of a term to those that are still to be dropped, unless others share them.
+#[cycle(term)]
+fn move_out(node: Rc<TermNode>, left: &mut Vec<Term>)
+    ensures { weights (terms_of left.new.items) < weight (term_of node.value) + weights (terms_of left.old.items) }
+{
+    if let Some(node) = Rc::into_inner(node) {
+        move_parts(node, left);
+    }
+}
+
+#[cycle(term)]
+fn move_parts(node: TermNode, left: &mut Vec<Term>)
+    ensures { weights (terms_of left.new.items) < weight (term_of node) + weights (terms_of left.old.items) }
+{
+    match node {
+        TermNode::Var(_) | TermNode::Lit(_, _) | TermNode::Truth(_) => {}
+        TermNode::Make(_, parts) => move_all(parts, left),
+        TermNode::Unary(_, t) => move_one(t, left),
+        TermNode::Binary(_, a, b) => {
+            move_one(b, left);
+            move_one(a, left);
+        }
+        TermNode::Forall(_, _, t) => move_one(t, left),
+    }
+}
+
+#[cycle(term)]
+#[tactic(auto, using(crate::proofs::Walking::weights_last))]
+fn move_all(mut parts: Vec<Term>, left: &mut Vec<Term>)
+    ensures { weights (terms_of left.new.items) ≤ weights (terms_of parts.items) + weights (terms_of left.old.items) }
+{
+    while let Some(part) = parts.pop() {
+        move_one(part, left);
+    }
+    parts.destroy_empty();
+}
+
+#[cycle(term)]
+#[tactic(auto, using(crate::proofs::Walking::weights_last))]
+fn move_one(t: Term, left: &mut Vec<Term>)
+    ensures { weights (terms_of left.new.items) ≤ weight t + weights (terms_of left.old.items) }
+{
+    let _ = left.push(t);
+}
+
 impl Term {
     /// The term with this at its top.
     pub(crate) fn of(alloc: Global, node: TermNode) -> Result<Term, NoMemory>
         ensures { IfOk result (λ t. t ≡ term_of node) }
     {
         let node = Rc::new(alloc, node)?;
-        Ok(Term { node })
+        Ok(Term { node, alloc })
     }
 
     /// What the term is made of.
@@ -106,7 +171,8 @@ impl Term {
         ensures { IfOk result (λ t. t ≡ self.now) }
     {
         let node = self.node.clone()?;
-        Ok(Term { node })
+        let alloc = self.alloc;
+        Ok(Term { node, alloc })
     }
 
     pub fn is_implication(&self) -> bool
