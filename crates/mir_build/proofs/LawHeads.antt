@@ -29,6 +29,7 @@ use Rattle.mir_build.proofs.LawInit.{block_at, BlockFits, Labelling}
 use Rattle.mir_build.proofs.LawBlocks.{BlockTyped}
 use Rattle.mir_build.proofs.LawFunction.{start, start_fits, owned_absent, body_labelling, blocks_typed}
 use Rattle.mir_build.proofs.LawLocals.{local_number, named}
+use Rattle.mir_ir.specs.declared.body.Bodies.{Bodies}
 
 some_same : {A : Type 0} {a b : A} → Some a ≡ Some b → a ≡ b
 some_same e = cc
@@ -50,7 +51,7 @@ within_locals b y h = by_case (slice_get b.locals y) refl h
     by_case None e g = absurd (true≢false (sym g))
     by_case (Some t) e g = slice_get_within b.locals y t e
 
-module _ (owner : List ℕ) (f : TypedFunction) (b : Body) (gone : Initialised) (l : LowersTo owner f b gone) (σ : List Signature) (bodies : List Body) (fits : FunctionFits σ f)
+module _ (owner : List ℕ) (f : TypedFunction) (b : Body) (gone : Initialised) (l : LowersTo owner f b gone) (σ : List Signature) (bodies : Bodies) (fits : FunctionFits σ f)
     (callees : (n : ℕ) (g : Signature) → slice_get σ n ≡ Some g → Callee bodies n g) (answers : (n : ℕ) (g : Signature) → slice_get σ n ≡ Some g → IsBuilt g.answer) where
   sets : Label → Locals
   sets = start owner f b gone l σ fits

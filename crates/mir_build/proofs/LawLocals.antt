@@ -20,6 +20,7 @@ use Rattle.mir_build.proofs.LawTyped.{AreTyped}
 use Rattle.mir_build.proofs.LawTypes.{Callee}
 use Rattle.mir_build.proofs.OneBody.{locals_once}
 use Rattle.mir_build.proofs.LawFunction.{locals_fit, lines_typed}
+use Rattle.mir_ir.specs.declared.body.Bodies.{Bodies}
 
 -- ---- names by number
 
@@ -172,7 +173,7 @@ params_built : (n : ℕ) (ts : List Ty) → AllBuilt ts → AllOfBuilt (paired n
 params_built n [] h = none_built
 params_built n (t ∷ ts) h = first_built n t (paired (n + 1) ts) h.0 (params_built (n + 1) ts h.1)
 
-text_built : (bodies : List Body) (b : Body) (xs : List Line) → AreTyped bodies b xs → AllOfBuilt (made xs)
+text_built : (bodies : Bodies) (b : Body) (xs : List Line) → AreTyped bodies b xs → AllOfBuilt (made xs)
 text_built bodies b [] h = none_built
 text_built bodies b (Puts s ∷ xs) h = text_built bodies b xs h.1
 text_built bodies b (Makes x t ∷ xs) h = first_built x t (made xs) h.0 (text_built bodies b xs h.1)
@@ -200,7 +201,7 @@ module _ (owner : List ℕ) (f : TypedFunction) (b : Body) (gone : Initialised) 
     none_is_new = λ x n e q. local_not_new x (small_named x n e).1 (sym (small_named x n e).0 ∙ q);
   }
 
-  module _ (σ : List Signature) (bodies : List Body) (fits : FunctionFits σ f) (callees : (n : ℕ) (g : Signature) → slice_get σ n ≡ Some g → Callee bodies n g) (answers : (n : ℕ) (g : Signature) → slice_get σ n ≡ Some g → IsBuilt g.answer) where
+  module _ (σ : List Signature) (bodies : Bodies) (fits : FunctionFits σ f) (callees : (n : ℕ) (g : Signature) → slice_get σ n ≡ Some g → Callee bodies n g) (answers : (n : ℕ) (g : Signature) → slice_get σ n ≡ Some g → IsBuilt g.answer) where
     all_built : AllOfBuilt (all_locals f l.text)
     all_built = first_built 0 f.signature.answer (paired 1 f.signature.params ++ made l.text) fits.answer
         (built-append (paired 1 f.signature.params) (made l.text) (params_built 1 f.signature.params fits.params)

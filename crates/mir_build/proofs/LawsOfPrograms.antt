@@ -9,45 +9,48 @@ use Rattle.type_check.specs.declared.program.Signature.{Signature}
 use Rattle.type_check.specs.declared.program.TypedFunction.{TypedFunction}
 use Rattle.type_check.specs.WellTyped.{IsBuilt, FunctionFits, EachFits, signatures}
 use Rattle.mir_build.specs.Laws.{Lowers, HeadsSpeak, BodiesAreSound, BodiesAreLaidOut, LocalsHaveNames, LocalsHaveBuiltTypes, HeadsSpeakOfWhatIsThere, ContractsSpeakOfParameters}
-use Rattle.mir_build.specs.Lowering.{counted, contract_of, LowersTo, LowerTo, no_functions, and_function}
+use Rattle.mir_build.specs.Lowering.{counted, contract_of, LowersTo, EachLowersTo, no_functions, and_function}
 use Rattle.mir_build.proofs.LawTyped.{ScopeFits}
 use Rattle.mir_build.proofs.LawTypes.{Callee}
 use Rattle.mir_build.proofs.LawFunction.{answer_fits, scope_fits, body_typed, body_laid_out}
 use Rattle.mir_build.proofs.LawLocals.{locals_are_named, types_built}
 use Rattle.mir_build.proofs.LawContracts.{contract_speaks}
 use Rattle.mir_build.proofs.LawHeads.{labelled, heads_speak}
+use Rattle.mir_ir.specs.declared.body.Bodies.{Bodies}
 
 some_same : {A : Type 0} {a b : A} → Some a ≡ Some b → a ≡ b
 some_same e = cc
 
--- the function of a place, and its body
-pub record FunctionAt (fs : List TypedFunction) (bs : List Body) (cs : List Contract) (gones : List Initialised) (n : ℕ) (f : TypedFunction) (b : Body) : Type 0 where
+-- the function of a place, and its body; the first function has this number
+pub record FunctionAt (first : ℕ) (fs : List TypedFunction) (bs : List Body) (cs : List Contract) (gones : List Initialised) (n : ℕ) (f : TypedFunction) (b : Body) : Type 0 where
   pub owner : List ℕ
   pub gone : Initialised
   pub is_function : slice_get fs n ≡ Some f
   pub is_body : slice_get bs n ≡ Some b
+  pub is_number : b.id ≡ first + n
   pub is_contract : slice_get cs n ≡ Some (contract_of f)
   pub is_gone : slice_get gones n ≡ Some gone
   pub lowers : LowersTo owner f b gone
 
-further : (f : TypedFunction) (fs : List TypedFunction) (b : Body) (bs : List Body) (c : Contract) (cs : List Contract) (g : Initialised) (gs : List Initialised) (n : ℕ) (h : TypedFunction) (k : Body) → FunctionAt fs bs cs gs n h k → FunctionAt (f ∷ fs) (b ∷ bs) (c ∷ cs) (g ∷ gs) (suc n) h k
-further f fs b bs c cs g gs n h k w = record { owner = w.owner; gone = w.gone; is_function = w.is_function; is_body = w.is_body; is_contract = w.is_contract; is_gone = w.is_gone; lowers = w.lowers }
+further : (first : ℕ) (f : TypedFunction) (fs : List TypedFunction) (b : Body) (bs : List Body) (c : Contract) (cs : List Contract) (g : Initialised) (gs : List Initialised) (n : ℕ) (h : TypedFunction) (k : Body)
+    → FunctionAt (suc first) fs bs cs gs n h k → FunctionAt first (f ∷ fs) (b ∷ bs) (c ∷ cs) (g ∷ gs) (suc n) h k
+further first f fs b bs c cs g gs n h k w = record { owner = w.owner; gone = w.gone; is_function = w.is_function; is_body = w.is_body; is_number = omega (arith, w.is_number); is_contract = w.is_contract; is_gone = w.is_gone; lowers = w.lowers }
 
-pub of_body : (table : List (List ℕ)) (fs : List TypedFunction) (bs : List Body) (cs : List Contract) (gones : List Initialised) → LowerTo table fs bs cs gones → (n : ℕ) (b : Body) → slice_get bs n ≡ Some b → (f : TypedFunction) × FunctionAt fs bs cs gones n f b
-of_body table fs bs cs gones no_functions n b e = absurd (cc)
-of_body table fs bs cs gones (and_function {f = f} {b = k} {gone = gone} owner t l r) zero b e =
-    (f, record { owner = owner; gone = gone; is_function = refl; is_body = e; is_contract = refl; is_gone = refl; lowers = subst (λ m. LowersTo owner f m gone) (some_same e) l })
-of_body table fs bs cs gones (and_function {f = f} {fs = fs'} {b = k} {bs = bs'} {cs = cs'} {gone = gone} {gones = gs'} owner t l r) (suc n) b e =
-    let w = of_body table fs' bs' cs' gs' r n b e in
-    (w.0, further f fs' k bs' (contract_of f) cs' gone gs' n w.0 b w.1)
+pub of_body : (table : List (List ℕ)) (first : ℕ) (fs : List TypedFunction) (bs : List Body) (cs : List Contract) (gones : List Initialised) → EachLowersTo table first fs bs cs gones → (n : ℕ) (b : Body) → slice_get bs n ≡ Some b → (f : TypedFunction) × FunctionAt first fs bs cs gones n f b
+of_body table first fs bs cs gones no_functions n b e = absurd (cc)
+of_body table first fs bs cs gones (and_function {f = f} {b = k} {gone = gone} owner t l d r) zero b e =
+    (f, record { owner = owner; gone = gone; is_function = refl; is_body = e; is_number = ap (λ (m : Body). m.id) (sym (some_same e)) ∙ omega (arith, d); is_contract = refl; is_gone = refl; lowers = subst (λ m. LowersTo owner f m gone) (some_same e) l })
+of_body table first fs bs cs gones (and_function {f = f} {fs = fs'} {b = k} {bs = bs'} {cs = cs'} {gone = gone} {gones = gs'} owner t l d r) (suc n) b e =
+    let w = of_body table (suc first) fs' bs' cs' gs' r n b e in
+    (w.0, further first f fs' k bs' (contract_of f) cs' gone gs' n w.0 b w.1)
 
-pub of_function : (table : List (List ℕ)) (fs : List TypedFunction) (bs : List Body) (cs : List Contract) (gones : List Initialised) → LowerTo table fs bs cs gones → (n : ℕ) (f : TypedFunction) → slice_get fs n ≡ Some f → (b : Body) × FunctionAt fs bs cs gones n f b
-of_function table fs bs cs gones no_functions n f e = absurd (cc)
-of_function table fs bs cs gones (and_function {f = g} {b = k} {gone = gone} owner t l r) zero f e =
-    (k, record { owner = owner; gone = gone; is_function = e; is_body = refl; is_contract = ap Some (ap contract_of (some_same e)); is_gone = refl; lowers = subst (λ m. LowersTo owner m k gone) (some_same e) l })
-of_function table fs bs cs gones (and_function {f = g} {fs = fs'} {b = k} {bs = bs'} {cs = cs'} {gone = gone} {gones = gs'} owner t l r) (suc n) f e =
-    let w = of_function table fs' bs' cs' gs' r n f e in
-    (w.0, further g fs' k bs' (contract_of g) cs' gone gs' n f w.0 w.1)
+pub of_function : (table : List (List ℕ)) (first : ℕ) (fs : List TypedFunction) (bs : List Body) (cs : List Contract) (gones : List Initialised) → EachLowersTo table first fs bs cs gones → (n : ℕ) (f : TypedFunction) → slice_get fs n ≡ Some f → (b : Body) × FunctionAt first fs bs cs gones n f b
+of_function table first fs bs cs gones no_functions n f e = absurd (cc)
+of_function table first fs bs cs gones (and_function {f = g} {b = k} {gone = gone} owner t l d r) zero f e =
+    (k, record { owner = owner; gone = gone; is_function = e; is_body = refl; is_number = omega (arith, d); is_contract = ap Some (ap contract_of (some_same e)); is_gone = refl; lowers = subst (λ m. LowersTo owner m k gone) (some_same e) l })
+of_function table first fs bs cs gones (and_function {f = g} {fs = fs'} {b = k} {bs = bs'} {cs = cs'} {gone = gone} {gones = gs'} owner t l d r) (suc n) f e =
+    let w = of_function table (suc first) fs' bs' cs' gs' r n f e in
+    (w.0, further first g fs' k bs' (contract_of g) cs' gone gs' n f w.0 w.1)
 
 pub fits_at : (σ : List Signature) (fs : List TypedFunction) → EachFits σ fs → (n : ℕ) (f : TypedFunction) → slice_get fs n ≡ Some f → FunctionFits σ f
 fits_at σ [] h n f e = absurd (cc)
@@ -82,15 +85,16 @@ drop_one (x ∷ xs) i k e = ap (slice_get (x ∷ xs)) e
 one_on : (i : ℕ) → 1 + i ≡ suc i
 one_on i = omega arith
 
-module _ (table : List (List ℕ)) (fs : List TypedFunction) (bs : List Body) (cs : List Contract) (gones : List Initialised) (l : Lowers table fs bs cs gones) where
+module _ (table : List (List ℕ)) (fs : List TypedFunction) (bs : Bodies) (cs : List Contract) (gones : List Initialised) (l : Lowers table fs bs cs gones) where
   callee : (n : ℕ) (g : Signature) → slice_get (signatures fs) n ≡ Some g → Callee bs n g
   callee n g e =
       let w = signature_at fs n g e in
-      let v = of_function table fs bs cs gones l.lowers n w.0 w.1 in
+      let v = of_function table 0 fs bs.bodies cs gones l.lowers.each n w.0 w.1 in
       let u = v.1.lowers in
       record {
         body = v.0;
         is_body = v.1.is_body;
+        ground = u.types;
         params = ap (λ p. take p (drop 1 v.0.locals)) u.params
             ∙ starts_with v.0 w.0.signature.params (drop 1 v.0.locals) 1 (λ i. drop_one v.0.locals i (1 + i) (one_on i)) (scope_fits v.1.owner w.0 v.0 v.1.gone u)
             ∙ ap (λ (s : Signature). s.params) w.2;
@@ -102,9 +106,12 @@ module _ (table : List (List ℕ)) (fs : List TypedFunction) (bs : List Body) (c
       let w = signature_at fs n g e in
       subst (λ (s : Signature). IsBuilt s.answer) w.2 (fits_at (signatures fs) fs l.fits n w.0 w.1).answer
 
-  module _ (n : ℕ) (b : Body) (is_body : slice_get bs n ≡ Some b) where
-    found : (f : TypedFunction) × FunctionAt fs bs cs gones n f b
-    found = of_body table fs bs cs gones l.lowers n b is_body
+  module _ (n : ℕ) (b : Body) (is_body : slice_get bs.bodies n ≡ Some b) where
+    found : (f : TypedFunction) × FunctionAt 0 fs bs.bodies cs gones n f b
+    found = of_body table 0 fs bs.bodies cs gones l.lowers.each n b is_body
+
+    number : b.id ≡ n
+    number = omega (arith, found.1.is_number)
 
     fit : FunctionFits (signatures fs) found.0
     fit = fits_at (signatures fs) fs l.fits n found.0 found.1.is_function
@@ -121,7 +128,7 @@ module _ (table : List (List ℕ)) (fs : List TypedFunction) (bs : List Body) (c
 -- ---- the laws
 
 pub bodies_are_sound : BodiesAreSound
-bodies_are_sound table fs bs cs gones l n b e = (typed table fs bs cs gones l n b e, (initialised table fs bs cs gones l n b e).0)
+bodies_are_sound table fs bs cs gones l n b e = (typed table fs bs cs gones l n b e, (initialised table fs bs cs gones l n b e).0, number table fs bs cs gones l n b e)
 
 pub bodies_are_laid_out : BodiesAreLaidOut
 bodies_are_laid_out table fs bs cs gones l n b e =
@@ -140,7 +147,7 @@ locals_have_built_types table fs bs cs gones l n b e x t h =
 
 pub heads_speak_of_what_is_there : HeadsSpeakOfWhatIsThere
 heads_speak_of_what_is_there table fs bs cs gones l = (
-  λ n b e. (typed table fs bs cs gones l n b e, (initialised table fs bs cs gones l n b e).0),
+  λ n b e. (typed table fs bs cs gones l n b e, (initialised table fs bs cs gones l n b e).0, number table fs bs cs gones l n b e),
   λ n b gone e g.
       let w = found table fs bs cs gones l n b e in
       subst (λ (gg : Initialised). HeadsSpeak b gg (initialised table fs bs cs gones l n b e).0) (some_same (sym w.1.is_gone ∙ g)) (initialised table fs bs cs gones l n b e).1,

@@ -22,6 +22,7 @@ use Rattle.type_check.specs.declared.program.TypedProgram.{TypedProgram}
 use Rattle.type_check.specs.VariableNames.{variable_name, answer_name}
 use Rattle.type_check.specs.WellTyped.{IsBuilt, EachFits, signatures}
 use Rattle.mir_build.specs.Lowering.{LowerTo, HasMoreBlocks}
+use Rattle.mir_ir.specs.declared.body.Bodies.{Bodies}
 
 -- no two locals have one name, and none has that of a variable, of the answer or of new values
 pub record LocalsAreNamed (b : Body) : Type 0 where
@@ -59,39 +60,39 @@ pub record ContractSpeaks (b : Body) (c : Contract) : Type 0 where
 -- ---- lowering determines what it gives
 
 abbrev pub ProgramsLowerInOneWay : Type 0
-ProgramsLowerInOneWay = (table : List (List ℕ)) (fs : List TypedFunction) (bs bs' : List Body) (cs cs' : List Contract) (gones gones' : List Initialised)
+ProgramsLowerInOneWay = (table : List (List ℕ)) (fs : List TypedFunction) (bs bs' : Bodies) (cs cs' : List Contract) (gones gones' : List Initialised)
     → LowerTo table fs bs cs gones → LowerTo table fs bs' cs' gones' → (bs ≡ bs') × (cs ≡ cs') × (gones ≡ gones')
 
 -- a program has more blocks than the bound only where some body that it lowers to has
 abbrev pub BlocksAreCounted : Type 0
-BlocksAreCounted = (table : List (List ℕ)) (p : TypedProgram) (bs : List Body) (cs : List Contract) (gones : List Initialised) (bound : ℕ)
-    → LowerTo table p.functions bs cs gones → All (λ (b : Body). length b.blocks ≤ bound) bs → HasMoreBlocks p bound → ⊥
+BlocksAreCounted = (table : List (List ℕ)) (p : TypedProgram) (bs : Bodies) (cs : List Contract) (gones : List Initialised) (bound : ℕ)
+    → LowerTo table p.functions bs cs gones → All (λ (b : Body). length b.blocks ≤ bound) bs.bodies → HasMoreBlocks p bound → ⊥
 
 -- ---- the laws of programs that fit
 
 -- each function lowers to a body, a contract and gone places, and the functions fit
-pub record Lowers (table : List (List ℕ)) (fs : List TypedFunction) (bs : List Body) (cs : List Contract) (gones : List Initialised) : Type 0 where
+pub record Lowers (table : List (List ℕ)) (fs : List TypedFunction) (bs : Bodies) (cs : List Contract) (gones : List Initialised) : Type 0 where
   pub lowers : LowerTo table fs bs cs gones
   pub fits : EachFits (signatures fs) fs
 
 abbrev pub BodiesAreSound : Type 0
-BodiesAreSound = (table : List (List ℕ)) (fs : List TypedFunction) (bs : List Body) (cs : List Contract) (gones : List Initialised) → Lowers table fs bs cs gones → AreSound bs
+BodiesAreSound = (table : List (List ℕ)) (fs : List TypedFunction) (bs : Bodies) (cs : List Contract) (gones : List Initialised) → Lowers table fs bs cs gones → AreSound bs
 
 abbrev pub BodiesAreLaidOut : Type 0
-BodiesAreLaidOut = (table : List (List ℕ)) (fs : List TypedFunction) (bs : List Body) (cs : List Contract) (gones : List Initialised) → Lowers table fs bs cs gones → (n : ℕ) (b : Body) → slice_get bs n ≡ Some b → IsLaidOut b
+BodiesAreLaidOut = (table : List (List ℕ)) (fs : List TypedFunction) (bs : Bodies) (cs : List Contract) (gones : List Initialised) → Lowers table fs bs cs gones → (n : ℕ) (b : Body) → slice_get bs.bodies n ≡ Some b → IsLaidOut b
 
 abbrev pub LocalsHaveNames : Type 0
-LocalsHaveNames = (table : List (List ℕ)) (fs : List TypedFunction) (bs : List Body) (cs : List Contract) (gones : List Initialised) → Lowers table fs bs cs gones → (n : ℕ) (b : Body) → slice_get bs n ≡ Some b → LocalsAreNamed b
+LocalsHaveNames = (table : List (List ℕ)) (fs : List TypedFunction) (bs : Bodies) (cs : List Contract) (gones : List Initialised) → Lowers table fs bs cs gones → (n : ℕ) (b : Body) → slice_get bs.bodies n ≡ Some b → LocalsAreNamed b
 
 abbrev pub LocalsHaveBuiltTypes : Type 0
-LocalsHaveBuiltTypes = (table : List (List ℕ)) (fs : List TypedFunction) (bs : List Body) (cs : List Contract) (gones : List Initialised) → Lowers table fs bs cs gones → (n : ℕ) (b : Body) → slice_get bs n ≡ Some b → (x : ℕ) (t : Ty) → slice_get b.locals x ≡ Some t → IsBuilt t
+LocalsHaveBuiltTypes = (table : List (List ℕ)) (fs : List TypedFunction) (bs : Bodies) (cs : List Contract) (gones : List Initialised) → Lowers table fs bs cs gones → (n : ℕ) (b : Body) → slice_get bs.bodies n ≡ Some b → (x : ℕ) (t : Ty) → slice_get b.locals x ≡ Some t → IsBuilt t
 
 -- there are labellings by which the bodies are sound and their heads speak of what is there
 abbrev pub HeadsSpeakOfWhatIsThere : Type 0
-HeadsSpeakOfWhatIsThere = (table : List (List ℕ)) (fs : List TypedFunction) (bs : List Body) (cs : List Contract) (gones : List Initialised) → Lowers table fs bs cs gones
-    → (sound : AreSound bs) × ((n : ℕ) (b : Body) (gone : Initialised) (is_body : slice_get bs n ≡ Some b) → slice_get gones n ≡ Some gone → HeadsSpeak b gone (sound n b is_body).1)
+HeadsSpeakOfWhatIsThere = (table : List (List ℕ)) (fs : List TypedFunction) (bs : Bodies) (cs : List Contract) (gones : List Initialised) → Lowers table fs bs cs gones
+    → (sound : AreSound bs) × ((n : ℕ) (b : Body) (gone : Initialised) (is_body : slice_get bs.bodies n ≡ Some b) → slice_get gones n ≡ Some gone → HeadsSpeak b gone (sound n b is_body).1)
 
 -- each body has a contract and gone places
 abbrev pub ContractsSpeakOfParameters : Type 0
-ContractsSpeakOfParameters = (table : List (List ℕ)) (fs : List TypedFunction) (bs : List Body) (cs : List Contract) (gones : List Initialised) → Lowers table fs bs cs gones
-    → (n : ℕ) (b : Body) → slice_get bs n ≡ Some b → (c : Contract) × (gone : Initialised) × (slice_get cs n ≡ Some c) × (slice_get gones n ≡ Some gone) × ContractSpeaks b c
+ContractsSpeakOfParameters = (table : List (List ℕ)) (fs : List TypedFunction) (bs : Bodies) (cs : List Contract) (gones : List Initialised) → Lowers table fs bs cs gones
+    → (n : ℕ) (b : Body) → slice_get bs.bodies n ≡ Some b → (c : Contract) × (gone : Initialised) × (slice_get cs n ≡ Some c) × (slice_get gones n ≡ Some gone) × ContractSpeaks b c

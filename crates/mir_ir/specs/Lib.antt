@@ -1,3 +1,4 @@
 pub mod Body
+pub mod Callees
 pub mod WellFormed
 pub mod Layout

@@ -36,6 +36,7 @@ use Rattle.prophecy_sim.proofs.Memories.{Reached, onward, none_around}
 use Rattle.mir_ir.specs.WellFormed as formed
 use Rattle.prophecy_sim.proofs.Lists.{get_taken, get_behind, get_first}
 use Rattle.prophecy_sim.proofs.Runs.{Standing, Coming, arrived}
+use Rattle.mir_ir.specs.declared.body.Bodies.{Bodies}
 
 and_right : (p q : Bool) → (p && q) ≡ true → q ≡ true
 and_right true q e = e
@@ -52,8 +53,8 @@ module _ (S : Structure) where
       let all = h (numbered owner m (g ∷ gs)) refl in
       ((yes_alike _ _ (reduced_means S g.formula ρ)).0 (all.0 S.types none ρ), goals_hold owner (m + 1) gs ρ none (λ o e. subst (Each (IsTrueObligation S.theory)) (sym e) all.1))
 
-module _ (Θ : Theory) (program : Program) (sound : AreSound program.bodies) (functions : AreFunctions program sound) (fn : ℕ) (b : Body) (is_body : slice_get program.bodies fn ≡ Some b) (proved : HasTrueObligations Θ (setting program fn b (functions fn b is_body).contract)) where
-  abbrev bodies : List Body
+module _ (Θ : Theory) (program : Program) (sound : AreSound program.bodies) (functions : AreFunctions program sound) (fn : ℕ) (b : Body) (is_body : slice_get program.bodies.bodies fn ≡ Some b) (proved : HasTrueObligations Θ (setting program fn b (functions fn b is_body).contract)) where
+  abbrev bodies : Bodies
   bodies = program.bodies
 
   abbrev own : IsFunction program sound fn b is_body

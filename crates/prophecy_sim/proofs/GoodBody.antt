@@ -25,6 +25,8 @@ use Rattle.prophecy_sim.proofs.Lists.{get_taken, get_behind, get_first}
 use Rattle.prophecy_sim.proofs.Runs.{IsAnswer, first_ty}
 use Rattle.prophecy_sim.proofs.Begins.{begins}
 use Rattle.prophecy_sim.proofs.States.{OutcomeFine, run_fine}
+use Rattle.mir_ir.specs.declared.body.Bodies.{Bodies}
+use Rattle.mir_machine.specs.Code.{code_of}
 
 -- ---- no references are met from integers, truth values and `()`
 
@@ -85,8 +87,8 @@ none_met_all Δ s (sc ∷ tys) (more_typed {t = t} {ty = ty} {tys = vs} {first =
     (none_met_all Δ s tys hs (others_are ty (instance no_tys sc) vs (instances no_tys (tys_of tys)) e) (λ i u q. scalars (suc i) u q))
 
 module _ (Θ : Theory) (program : Program) (sound : AreSound program.bodies) (functions : AreFunctions program sound)
-    (fn : ℕ) (proved : AreProvedFrom Θ program fn) (b : Body) (is_body : slice_get program.bodies fn ≡ Some b) where
-  abbrev bodies : List Body
+    (fn : ℕ) (proved : AreProvedFrom Θ program fn) (b : Body) (is_body : slice_get program.bodies.bodies fn ≡ Some b) where
+  abbrev bodies : Bodies
   bodies = program.bodies
 
   abbrev own : IsFunction program sound fn b is_body
@@ -153,30 +155,30 @@ module _ (Θ : Theory) (program : Program) (sound : AreSound program.bodies) (fu
         let shaped_as : Shape (instance no_tys ty) t = subst (λ u. Shape u t) is (shape s' t refl) in
         ([], subst (λ u. Typed (declared Θ) s' t u []) (sym is) (typed_answer (declared Θ) s' ty t (simple.scalars 0 ty answer.1) shaped_as), λ fill sup. ensures_met s' t fill h)
 
-    call_fine : (n : ℕ) → IsFine Θ no_tys c (answer_ty b no_tys) start args [] (after bodies n start)
+    call_fine : (n : ℕ) → IsFine Θ no_tys c (answer_ty b no_tys) start args [] (after (code_of bodies) n start)
     call_fine n =
-        fine_of (after bodies n start) (run_fine Θ program sound functions fn proved c ρ₀ (outside held) n (Running start) starts)
-        (never_stuck Θ bodies sound fn no_tys args held b [] proper n)
-        (λ s' t e. answer_shape Θ bodies sound fn no_tys args held b [] proper n s' t e)
+        fine_of (after (code_of bodies) n start) (run_fine Θ program sound functions fn proved c ρ₀ (outside held) n (Running start) starts)
+        (never_stuck Θ (code_of bodies) sound fn no_tys args held b [] proper n)
+        (λ s' t e. answer_shape Θ (code_of bodies) sound fn no_tys args held b [] proper n s' t e)
 
   -- ---- every proper call
 
   at_none : (args held : List T) (met : List Met) → IsProper Θ bodies fn no_tys args held b met → MeetsRequires Θ no_tys c (called b fn no_tys args held) args met → (n : ℕ)
-      → IsFine Θ no_tys c (answer_ty b no_tys) (called b fn no_tys args held) args met (after bodies n (called b fn no_tys args held))
+      → IsFine Θ no_tys c (answer_ty b no_tys) (called b fn no_tys args held) args met (after (code_of bodies) n (called b fn no_tys args held))
   at_none args held met proper meets n =
       let none : met ≡ [] = none_met_all (declared Θ) (called b fn no_tys args held) param_list proper.typed refl scalars in
-      let Q : List Met → Type 0 = λ ms. IsProper Θ bodies fn no_tys args held b ms → MeetsRequires Θ no_tys c (called b fn no_tys args held) args ms → IsFine Θ no_tys c (answer_ty b no_tys) (called b fn no_tys args held) args ms (after bodies n (called b fn no_tys args held)) in
+      let Q : List Met → Type 0 = λ ms. IsProper Θ bodies fn no_tys args held b ms → MeetsRequires Θ no_tys c (called b fn no_tys args held) args ms → IsFine Θ no_tys c (answer_ty b no_tys) (called b fn no_tys args held) args ms (after (code_of bodies) n (called b fn no_tys args held)) in
       subst Q (sym none) (λ p q. call_fine args held p q n) proper meets
 
-  at_types : (θ : Tys) (args held : List T) (met : List Met) → IsProper Θ bodies fn θ args held b met → MeetsRequires Θ θ c (called b fn θ args held) args met → (n : ℕ) → IsFine Θ θ c (answer_ty b θ) (called b fn θ args held) args met (after bodies n (called b fn θ args held))
+  at_types : (θ : Tys) (args held : List T) (met : List Met) → IsProper Θ bodies fn θ args held b met → MeetsRequires Θ θ c (called b fn θ args held) args met → (n : ℕ) → IsFine Θ θ c (answer_ty b θ) (called b fn θ args held) args met (after (code_of bodies) n (called b fn θ args held))
   at_types θ args held met proper meets n =
-      let Q : Tys → Type 0 = λ τ. IsProper Θ bodies fn τ args held b met → MeetsRequires Θ τ c (called b fn τ args held) args met → IsFine Θ τ c (answer_ty b τ) (called b fn τ args held) args met (after bodies n (called b fn τ args held)) in
+      let Q : Tys → Type 0 = λ τ. IsProper Θ bodies fn τ args held b met → MeetsRequires Θ τ c (called b fn τ args held) args met → IsFine Θ τ c (answer_ty b τ) (called b fn τ args held) args met (after (code_of bodies) n (called b fn τ args held)) in
       subst Q (sym (no_types_for_none θ proper.ground)) (λ p q. at_none args held met p q n) proper meets
 
   good_own : Good Θ bodies fn c
   good_own θ args held b' met proper meets n =
       let same : b ≡ b' = same_Some _ _ (sym is_body ∙ proper.of) in
-      let Q : Body → Type 0 = λ d. IsProper Θ bodies fn θ args held d met → MeetsRequires Θ θ c (called d fn θ args held) args met → IsFine Θ θ c (answer_ty d θ) (called d fn θ args held) args met (after bodies n (called d fn θ args held)) in
+      let Q : Body → Type 0 = λ d. IsProper Θ bodies fn θ args held d met → MeetsRequires Θ θ c (called d fn θ args held) args met → IsFine Θ θ c (answer_ty d θ) (called d fn θ args held) args met (after (code_of bodies) n (called d fn θ args held)) in
       subst Q same (λ p q. at_types θ args held met p q n) proper meets
 
 -- with the contract of the function

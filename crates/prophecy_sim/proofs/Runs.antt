@@ -66,6 +66,8 @@ use Rattle.prophecy_sim.proofs.Entries.{assumed_move}
 use Rattle.prophecy_sim.proofs.Heads.{or_first, Renewed, renewed_move, loop_writes_statement, loop_writes_end}
 use Rattle.prophecy_sim.proofs.Memories.{among_first, among_second, among_more, among_head, among_either, KeepsParams, AreBehind, Passed, Memories, one_more, memories_kept, Reached, onward, backward, reached}
 use Rattle.prophecy_sim.proofs.Steps.{quiet_both, taken_before, all_taken_before, at_no, IsOutside, After, statement_quiet, decide, put_matches, not_written}
+use Rattle.mir_ir.specs.declared.body.Bodies.{Bodies}
+use Rattle.mir_machine.specs.Code.{code_of}
 
 pub first_ty : (ts : List Ty) (ty : Ty) → slice_get ts 0 ≡ Some ty → nth_ty (tys_of ts) 0 ≡ ty
 first_ty [] ty e = absurd (cc)
@@ -89,15 +91,15 @@ walk_statement {w} {heads} (statement {end = end} {gs = hs} {n = n} rest) st sts
 )
 walk_statement (goto l e a) st sts q = absurd (cc)
 walk_statement (branch o l m e a c) st sts q = absurd (cc)
-walk_statement (call p f args l d t e fd ft a) st sts q = absurd (cc)
+walk_statement (call p callee types args l d t e fd ft a) st sts q = absurd (cc)
 walk_statement (return e) st sts q = absurd (cc)
 
 -- ---- calls and answers
 
 -- the answer of a function with the contract, which was called in the environment: its type is right, and each `ensures` is true
-pub record IsAnswer (Θ : Theory) (bodies : List Body) (n : ℕ) (c : Contract) (ρ : Env) (t : T) : Type 0 where
+pub record IsAnswer (Θ : Theory) (bodies : Bodies) (n : ℕ) (c : Contract) (ρ : Env) (t : T) : Type 0 where
   pub body : Body
-  pub is_body : slice_get bodies n ≡ Some body
+  pub is_body : slice_get bodies.bodies n ≡ Some body
   pub shape : Shape (answer_ty body no_tys) t
   pub plain : IsPlain t
   pub posts : Each (λ (p : Term). Holds (structure_of Θ no_tys) p (with_value ρ c.answer (value_of t))) c.post
@@ -107,15 +109,15 @@ pub record Entered (Θ : Theory) (p : Program) (g : Frame (Unit {0})) : Type 0 w
   pub function : ℕ
   pub body : Body
   pub contract : Contract
-  pub is_body : slice_get p.bodies function ≡ Some body
+  pub is_body : slice_get p.bodies.bodies function ≡ Some body
   pub is_contract : slice_get p.contracts function ≡ Some contract
   pub args : List T
   pub is_frame : g ≡ entered body function no_tys args
   pub shaped : (length args ≡ length (take body.params (drop 1 body.locals))) × AreShaped no_tys args (take body.params (drop 1 body.locals))
   pub pre : Each (λ (t : Term). Holds (structure_of Θ no_tys) t (named contract.params (values_of args))) contract.pre
 
-module _ (Θ : Theory) (program : Program) (sound : AreSound program.bodies) (functions : AreFunctions program sound) (fn : ℕ) (b : Body) (is_body : slice_get program.bodies fn ≡ Some b) (ρ₀ : Env) where
-  abbrev bodies : List Body
+module _ (Θ : Theory) (program : Program) (sound : AreSound program.bodies) (functions : AreFunctions program sound) (fn : ℕ) (b : Body) (is_body : slice_get program.bodies.bodies fn ≡ Some b) (ρ₀ : Env) where
+  abbrev bodies : Bodies
   bodies = program.bodies
 
   abbrev own : IsFunction program sound fn b is_body
@@ -421,7 +423,7 @@ module _ (Θ : Theory) (program : Program) (sound : AreSound program.bodies) (fu
     }
 
     goto_comes : {heads : List Label} {gs : List Goal} {n : ℕ} (l : Label) → Arrives w heads l gs n → GoalsHold S st.env gs → Fits b no_tys end_set f.locals → Matches b end_set st.store st.env → Within (initialised.at l 0) end_set → Comes_to st.store heads l →
-        Quiet EndsFine (frame_end bodies f (Goto l))
+        Quiet EndsFine (frame_end (code_of bodies) f (Goto l))
     goto_comes l arrives hold fitting m i way = arrived arrives f f.locals st.function st.types (to_block l i fitting m) way hold
 
     true_comes : {heads : List Label} {gs : List Goal} {n : ℕ} (o : Operand) (l : Label) (ls : List T) → Exactly (Means S (operand_term b o) st.env) (Flag true) → Arrives w heads l gs n → GoalsHold S st.env (seen_before (where_true b o) gs) →
@@ -442,7 +444,7 @@ module _ (Θ : Theory) (program : Program) (sound : AreSound program.bodies) (fu
 
     branch_comes : {heads : List Label} {gs hs : List Goal} {n m : ℕ} (o : Operand) (l r : Label) → Arrives w heads l gs n → Arrives w heads r hs m → GoalsHold S st.env (seen_before (where_true b o) gs ++ seen_before (where_false b o) hs) →
         Fits b no_tys end_set f.locals → Matches b end_set st.store st.env → OperandHas b o bool → CanTake end_set o → Within (initialised.at l 0) (taken o end_set) → Within (initialised.at r 0) (taken o end_set) →
-        Comes_to st.store heads l → Comes_to st.store heads r → Quiet EndsFine (frame_end bodies f (If o l r))
+        Comes_to st.store heads l → Comes_to st.store heads r → Quiet EndsFine (frame_end (code_of bodies) f (If o l r))
     branch_comes {gs = gs} {hs = hs} o l r to_l to_r hold fitting m has can within_l within_r way_l way_r =
         quiet_then (λ (x : Left (Unit {0})). Keeps b no_tys (taken o end_set) bool x × Leaves st.store (operand_value st.store o) x) EndsFine (take_operand f.locals o) (λ x. truth_of x.1 >>= λ c. Yields (Stays (starting f x.0 (cond c l r))))
         (quiet_both (Keeps b no_tys (taken o end_set) bool) (Leaves st.store (operand_value st.store o)) (take_operand f.locals o) (take_goes b no_tys end_set f.locals o bool fitting has can) (operand-shows f.locals st.store o st.agrees))
@@ -494,7 +496,7 @@ module _ (Θ : Theory) (program : Program) (sound : AreSound program.bodies) (fu
         at_name x f (inr d) =
             with_other st.env own.contract.answer x (st.env (name_of b 0)) d ∙ st.keeps x (params_outside x (over.0 x f d)) ∙ sym (with_other ρ₀ own.contract.answer x v d)
 
-    return_comes : GoalsHold S st.env (goals_at_return b own.contract) → Fits b no_tys end_set f.locals → Matches b end_set st.store st.env → end_set 0 ≡ true → Quiet EndsFine (frame_end bodies f Return)
+    return_comes : GoalsHold S st.env (goals_at_return b own.contract) → Fits b no_tys end_set f.locals → Matches b end_set st.store st.env → end_set 0 ≡ true → Quiet EndsFine (frame_end (code_of bodies) f Return)
     return_comes hold fitting m initialised_0 =
         quiet_then (λ t. Shape (instance no_tys answer.0) t × Shows t (st.store 0)) EndsFine (local_tree f.locals 0) (λ t. Yields (Answers t))
         (quiet_both (Shape (instance no_tys answer.0)) (λ t. Shows t (st.store 0)) (local_tree f.locals 0) (local_goes b no_tys end_set f.locals 0 answer.0 fitting answer.1 initialised_0) (local-shows f.locals st.store 0 st.agrees))
@@ -514,9 +516,9 @@ module _ (Θ : Theory) (program : Program) (sound : AreSound program.bodies) (fu
     abbrev Ways : List Label → Type 0
     Ways heads = (τ : Store) → ((h : Label) (x : ℕ) → among h st.block.nest ≡ true → loop_writes b h x ≡ false → τ x ≡ st.store x) → (k : Label) → among k (targets st.block.end.kind) ≡ true → Comes_to τ heads k
 
-    module _ {heads : List Label} {gs : List Goal} {paths : ℕ} (p : Place) (n : ℕ) (os : List Operand) (l : Label) (d : Contract) (t : Ty) (at : Span) (kind : st.block.end.kind ≡ Call p (Function (OfBody n)) os l)
+    module _ {heads : List Label} {gs : List Goal} {paths : ℕ} (p : Place) (n : ℕ) (types : List Ty) (os : List Operand) (l : Label) (d : Contract) (t : Ty) (at : Span) (kind : st.block.end.kind ≡ Call p (Function (OfBody n)) types os l)
         (is_d : slice_get program.contracts n ≡ Some d) (is_t : slice_get b.locals p.local ≡ Some t)
-        (arrives : Arrives w heads l gs paths) (hold : GoalsHold S st.env (goals_of_call b d at os ++ seen_before (call_commands b d p.local t os) gs)) (m : Matches b end_set st.store st.env) (c : Body) (u : Ty) (is_c : slice_get bodies n ≡ Some c)
+        (arrives : Arrives w heads l gs paths) (hold : GoalsHold S st.env (goals_of_call b d at os ++ seen_before (call_commands b d p.local t os) gs)) (m : Matches b end_set st.store st.env) (c : Body) (u : Ty) (is_c : slice_get bodies.bodies n ≡ Some c)
         (have : OperandsHave b os (take c.params (drop 1 c.locals))) (first_local : slice_get c.locals 0 ≡ Some u) (place : PlaceHas b p u) (can : CanTakeAll end_set os) (within : Within (initialised.at l 0) (with p.local (all_taken os end_set))) (way : Ways heads)
         (ls args : List T) (fitted : Fits b no_tys (all_taken os end_set) ls) (shaped : (length args ≡ length (take c.params (drop 1 c.locals))) × AreShaped no_tys args (take c.params (drop 1 c.locals))) (agrees : Agrees ls st.store) (shows : AllShow st.store args os) where
       abbrev callee : IsFunction program sound n c is_c
@@ -643,7 +645,7 @@ module _ (Θ : Theory) (program : Program) (sound : AreSound program.bodies) (fu
 
         resumes : Quiet Standing (resumed bodies t' waiting)
         resumes =
-            let found : frame_block bodies waiting ≡ Some st.block = ap (option_and_then (λ x. block_in x.blocks f.label)) (subst (λ k. slice_get bodies k ≡ Some b) (sym st.function) is_body) ∙ st.is_block in
+            let found : frame_block bodies waiting ≡ Some st.block = ap (option_and_then (λ x. block_in x.blocks f.label)) (subst (λ k. slice_get bodies.bodies k ≡ Some b) (sym st.function) is_body) ∙ st.is_block in
             subst (λ (o : Option Block). Quiet Standing (need o >>= λ k. resumed_at t' waiting k.end.kind)) (sym found)
             (subst (λ k. Quiet Standing (resumed_at t' waiting k)) (sym kind)
             (quiet_then (λ ls'. Fits b no_tys (with p.local (all_taken os end_set)) ls' × Agrees ls' with_answer) Standing (put_local ls p.local t') (λ ls'. Yields (starting waiting ls' l))
@@ -668,55 +670,60 @@ module _ (Θ : Theory) (program : Program) (sound : AreSound program.bodies) (fu
           block = st.block;
           is_block = here.2;
           place = p;
+          callee = Function (OfBody n);
+          types = types;
           operands = os;
           next = l;
           is_call = kind;
+          is_callee = refl;
         },
         λ t' a. resumes t' a,
       )
 
-    call_comes : {heads : List Label} {gs : List Goal} {paths : ℕ} (p : Place) (n : ℕ) (os : List Operand) (l : Label) (d : Contract) (t : Ty) (at : Span) → st.block.end.kind ≡ Call p (Function (OfBody n)) os l → slice_get program.contracts n ≡ Some d → slice_get b.locals p.local ≡ Some t →
-        Arrives w heads l gs paths → GoalsHold S st.env (goals_of_call b d at os ++ seen_before (call_commands b d p.local t os) gs) → Fits b no_tys end_set f.locals → Matches b end_set st.store st.env → (c : Body) (u : Ty) → slice_get bodies n ≡ Some c →
-        OperandsHave b os (take c.params (drop 1 c.locals)) → slice_get c.locals 0 ≡ Some u → PlaceHas b p u → CanTakeAll end_set os → Within (initialised.at l 0) (with p.local (all_taken os end_set)) → Ways heads → Quiet EndsFine (frame_end bodies f (Call p (Function (OfBody n)) os l))
-    call_comes p n os l d t at kind is_d is_t arrives hold fitting m c u is_c have first_local place can within way =
+    call_comes : {heads : List Label} {gs : List Goal} {paths : ℕ} (p : Place) (n : ℕ) (types : List Ty) (os : List Operand) (l : Label) (d : Contract) (t : Ty) (at : Span) →
+        st.block.end.kind ≡ Call p (Function (OfBody n)) types os l → slice_get program.contracts n ≡ Some d → slice_get b.locals p.local ≡ Some t →
+        Arrives w heads l gs paths → GoalsHold S st.env (goals_of_call b d at os ++ seen_before (call_commands b d p.local t os) gs) → Fits b no_tys end_set f.locals → Matches b end_set st.store st.env → (c : Body) (u : Ty) → slice_get bodies.bodies n ≡ Some c →
+        OperandsHave b os (take c.params (drop 1 c.locals)) → slice_get c.locals 0 ≡ Some u → PlaceHas b p u → CanTakeAll end_set os → Within (initialised.at l 0) (with p.local (all_taken os end_set)) → Ways heads →
+        Quiet EndsFine (frame_end (code_of bodies) f (Call p (Function (OfBody n)) types os l))
+    call_comes p n types os l d t at kind is_d is_t arrives hold fitting m c u is_c have first_local place can within way =
         quiet_then (λ (a : List T × List T). AreArguments b no_tys (all_taken os end_set) (take c.params (drop 1 c.locals)) a × (Agrees a.0 st.store × AllShow st.store a.1 os)) EndsFine (take_operands f.locals os)
         (λ a. callee_frame bodies (Function (OfBody n)) a.1 >>= λ g. Yields (Calls (record f { locals = a.0 }) g))
         (quiet_both (AreArguments b no_tys (all_taken os end_set) (take c.params (drop 1 c.locals))) (λ (a : List T × List T). Agrees a.0 st.store × AllShow st.store a.1 os) (take_operands f.locals os)
         (operands_go b no_tys end_set f.locals os (take c.params (drop 1 c.locals)) fitting have can)
         (operands_show f.locals st.store os st.agrees))
         (λ a h. subst (λ (o : Option Body). Quiet EndsFine ((need o >>= λ x. Yields (entered x n no_tys a.1)) >>= λ g. Yields (Calls (record f { locals = a.0 }) g))) (sym is_c)
-        (called_fine p n os l d t at kind is_d is_t arrives hold m c u is_c have first_local place can within way a.0 a.1 h.0.0 h.0.1 h.1.0 h.1.1))
+        (called_fine p n types os l d t at kind is_d is_t arrives hold m c u is_c have first_local place can within way a.0 a.1 h.0.0 h.0.1 h.1.0 h.1.1))
 
     -- the end of a block, where its statements are done
     end_comes : {heads : List Label} {xs : List Statement} {end : Terminator} {gs : List Goal} {n : ℕ} → Walks w heads xs end gs n → xs ≡ [] → end ≡ st.block.end → GoalsHold S st.env gs →
-        Fits b no_tys end_set f.locals → Matches b end_set st.store st.env → Ways heads → Quiet EndsFine (frame_end bodies f end.kind)
+        Fits b no_tys end_set f.locals → Matches b end_set st.store st.env → Ways heads → Quiet EndsFine (frame_end (code_of bodies) f end.kind)
     end_comes (statement rest) e is hold fitting m way = absurd (cc)
     end_comes {end = end} (goto l q arrives) e is hold fitting m way =
         let kind : st.block.end.kind ≡ Goto l = ap (λ (x : Terminator). x.kind) (sym is) ∙ q in
         let carries : Within (initialised.at l 0) end_set = subst (Carries (λ l'. initialised.at l' 0) end_set) kind (initialised.edges f.label st.block st.is_block) in
-        subst (λ k. Quiet EndsFine (frame_end bodies f k)) (sym q) (goto_comes l arrives hold fitting m carries (way st.store (λ h x i u. refl) l (subst (λ x. among l (targets x) ≡ true) (sym kind) (among_first l []))))
+        subst (λ k. Quiet EndsFine (frame_end (code_of bodies) f k)) (sym q) (goto_comes l arrives hold fitting m carries (way st.store (λ h x i u. refl) l (subst (λ x. among l (targets x) ≡ true) (sym kind) (among_first l []))))
     end_comes {end = end} (branch o l r q to_l to_r) e is hold fitting m way =
         let kind : st.block.end.kind ≡ If o l r = ap (λ (x : Terminator). x.kind) (sym is) ∙ q in
         let carries = subst (Carries (λ l'. initialised.at l' 0) end_set) kind (initialised.edges f.label st.block st.is_block) in
         let has = subst (EndIsTyped bodies b) kind (typed.ends f.label st.block st.is_block) in
         let can = subst (CanEnd end_set) kind (initialised.ends f.label st.block st.is_block) in
-        subst (λ k. Quiet EndsFine (frame_end bodies f k)) (sym q) (branch_comes o l r to_l to_r hold fitting m has.0 can carries.0 carries.1
+        subst (λ k. Quiet EndsFine (frame_end (code_of bodies) f k)) (sym q) (branch_comes o l r to_l to_r hold fitting m has.0 can carries.0 carries.1
         (way st.store (λ h x i u. refl) l (subst (λ x. among l (targets x) ≡ true) (sym kind) (among_first l (r ∷ []))))
         (way st.store (λ h x i u. refl) r (subst (λ x. among r (targets x) ≡ true) (sym kind) (among_second l r))))
-    end_comes {end = end} (call p g args l d t q is_d is_t arrives) e is hold fitting m way =
-        let kind : st.block.end.kind ≡ Call p (Function (OfBody g)) args l = ap (λ (x : Terminator). x.kind) (sym is) ∙ q in
+    end_comes {end = end} (call p (Function (OfBody g)) types args l d t q is_d is_t arrives) e is hold fitting m way =
+        let kind : st.block.end.kind ≡ Call p (Function (OfBody g)) types args l = ap (λ (x : Terminator). x.kind) (sym is) ∙ q in
         let has = subst (EndIsTyped bodies b) kind (typed.ends f.label st.block st.is_block) in
         let can = subst (CanEnd end_set) kind (initialised.ends f.label st.block st.is_block) in
         let carries = subst (Carries (λ l'. initialised.at l' 0) end_set) kind (initialised.edges f.label st.block st.is_block) in
-        subst (λ k. Quiet EndsFine (frame_end bodies f k)) (sym q) (call_comes p g args l d t end.span kind is_d is_t arrives hold fitting m has.0.0 has.0.1 has.0.2 has.0.3 has.0.4 has.0.5 can carries way)
+        subst (λ k. Quiet EndsFine (frame_end (code_of bodies) f k)) (sym q) (call_comes p g types args l d t end.span kind is_d is_t arrives hold fitting m has.0.0 has.0.1 has.0.2 has.0.3 has.0.4 has.0.5 can carries way)
     end_comes {end = end} (return q) e is hold fitting m way =
         let kind : st.block.end.kind ≡ Return = ap (λ (x : Terminator). x.kind) (sym is) ∙ q in
         let can : end_set 0 ≡ true = subst (CanEnd end_set) kind (initialised.ends f.label st.block st.is_block) in
-        subst (λ k. Quiet EndsFine (frame_end bodies f k)) (sym q) (return_comes hold fitting m can)
+        subst (λ k. Quiet EndsFine (frame_end (code_of bodies) f k)) (sym q) (return_comes hold fitting m can)
 
     -- ---- rows
 
-    at_statement : (s : Statement) → slice_get st.block.statements f.statement ≡ Some s → Quiet EndsFine (frame_row bodies b f st.block.end (Some s))
+    at_statement : (s : Statement) → slice_get st.block.statements f.statement ≡ Some s → Quiet EndsFine (frame_row (code_of bodies) b f st.block.end (Some s))
     at_statement s e =
         let split = walk_statement st.walks s (drop (f.statement + 1) st.block.statements) (drop_get st.block.statements f.statement s e) in
         let hold : GoalsHold S st.env (goals_of b s.span s.kind ++ seen_before (commands_of b s.kind) split.0) = subst (GoalsHold S st.env) split.1 st.hold in
@@ -755,7 +762,7 @@ module _ (Θ : Theory) (program : Program) (sound : AreSound program.bodies) (fu
         not_written : (h : Label) (x : ℕ) (s : Statement) → slice_get st.block.statements f.statement ≡ Some s → among h st.block.nest ≡ true → loop_writes b h x ≡ false → writes x s.kind ≡ false
         not_written h x s e inside unwritten = by_test h x s e inside unwritten (writes x s.kind) refl
 
-    at_end : slice_get st.block.statements f.statement ≡ None → Quiet EndsFine (frame_row bodies b f st.block.end None)
+    at_end : slice_get st.block.statements f.statement ≡ None → Quiet EndsFine (frame_row (code_of bodies) b f st.block.end None)
     at_end e =
         let here : f.statement ≡ length st.block.statements = omega (arith, get_past st.block.statements f.statement e, st.within) in
         end_comes st.walks (drop_none st.block.statements f.statement e) refl st.hold
@@ -763,13 +770,13 @@ module _ (Θ : Theory) (program : Program) (sound : AreSound program.bodies) (fu
         (subst (λ i. Matches b (initialised.at f.label i) st.store st.env) here st.matches)
         (λ τ same k a. reached Θ w initialised ρ₀ τ st.heads f.label k st.block (memories_kept Θ w initialised ρ₀ st.nested same) st.enclosing st.behind (simple.laid_out.edges f.label k st.block st.is_block a))
 
-    row_comes : (o : Option Statement) → slice_get st.block.statements f.statement ≡ o → Quiet EndsFine (frame_row bodies b f st.block.end o)
+    row_comes : (o : Option Statement) → slice_get st.block.statements f.statement ≡ o → Quiet EndsFine (frame_row (code_of bodies) b f st.block.end o)
     row_comes (Some s) e = at_statement s e
     row_comes None e = at_end e
 
-    pub frame_comes : Quiet EndsFine (frame_step bodies f)
+    pub frame_comes : Quiet EndsFine (frame_step (code_of bodies) f)
     frame_comes =
-        let found : slice_get bodies f.function ≡ Some b = subst (λ n. slice_get bodies n ≡ Some b) (sym st.function) is_body in
-        subst (λ (o : Option Body). Quiet EndsFine (need o >>= λ c. need (block_in c.blocks f.label) >>= λ d. frame_row bodies c f d.end (slice_get d.statements f.statement))) (sym found)
-        (subst (λ (o : Option Block). Quiet EndsFine (need o >>= λ d. frame_row bodies b f d.end (slice_get d.statements f.statement))) (sym st.is_block)
+        let found : slice_get bodies.bodies f.function ≡ Some b = subst (λ n. slice_get bodies.bodies n ≡ Some b) (sym st.function) is_body in
+        subst (λ (o : Option Body). Quiet EndsFine (need o >>= λ c. need (block_in c.blocks f.label) >>= λ d. frame_row (code_of bodies) c f d.end (slice_get d.statements f.statement))) (sym found)
+        (subst (λ (o : Option Block). Quiet EndsFine (need o >>= λ d. frame_row (code_of bodies) b f d.end (slice_get d.statements f.statement))) (sym st.is_block)
         (row_comes (slice_get st.block.statements f.statement) refl))

@@ -17,6 +17,8 @@ use Rattle.logic_term.proofs.CanonicalLaw.{reduced_means}
 use Rattle.logic_term.proofs.FreeLaw.{same_name}
 use Rattle.mir_ir.specs.declared.place.Operand.TheVariants.{Copy}
 use Rattle.mir_ir.specs.declared.statement.Statement.{Statement}
+use Rattle.mir_ir.specs.declared.terminator.FnId.TheVariants.{Body as OfBody}
+use Rattle.mir_ir.specs.declared.terminator.Callee.TheVariants.{Function}
 use Rattle.mir_ir.specs.declared.body.Block.{Block}
 use Rattle.mir_ir.specs.declared.body.Body.{Body}
 use Rattle.mir_ir.specs.declared.body.Head.{Head}
@@ -96,8 +98,9 @@ module _ (b : Body) (sets : ℕ → ℕ → Locals) (blocks_sound : EachBlock (B
       from_zero : (i : ℕ) → 0 + i ≡ i
       from_zero i = omega arith
 
-  typed_of : length b.names ≡ length b.locals → b.params + 1 ≤ length b.locals → HasBlock b b.entry → IsTyped program.bodies b
-  typed_of named answers begins = record {
+  typed_of : length b.names ≡ length b.locals → b.params + 1 ≤ length b.locals → HasBlock b b.entry → b.types ≡ [] → IsTyped program.bodies b
+  typed_of named answers begins ground = record {
+    ground = ground;
     named = named;
     answers = answers;
     begins = begins;
@@ -149,15 +152,15 @@ blocks_sound = (
 
 caller_blocks_sound : EachBlock (BlockIsSound caller caller_sets) caller.blocks
 caller_blocks_sound = (
-  record { statements = tt; typed = ((cleared, bool, refl, ((refl, refl), tt), refl, (refl, refl)), (_, refl)); can_end = (refl, tt); carries = λ x h. h },
+  record { statements = tt; typed = ((cleared, bool, refl, ((refl, refl), tt), refl, (refl, refl), refl), (_, refl)); can_end = (refl, tt); carries = λ x h. h },
   (record { statements = tt; typed = tt; can_end = refl; carries = tt }, tt),
 )
 
 typed : IsTyped program.bodies cleared
-typed = typed_of cleared sets blocks_sound refl (omega arith) (_, refl)
+typed = typed_of cleared sets blocks_sound refl (omega arith) (_, refl) refl
 
 caller_typed : IsTyped program.bodies caller
-caller_typed = typed_of caller caller_sets caller_blocks_sound refl (omega arith) (_, refl)
+caller_typed = typed_of caller caller_sets caller_blocks_sound refl (omega arith) (_, refl) refl
 
 abbrev initialised : IsInitialised cleared
 initialised = initialised_of cleared sets blocks_sound (λ x h. h)
@@ -319,12 +322,12 @@ moved b same = subst (λ c. (i : IsInitialised c) × HasSets sets i) same (initi
 abbrev caller_moved : (b : Body) → caller ≡ b → (i : IsInitialised b) × HasSets caller_sets i
 caller_moved b same = subst (λ c. (i : IsInitialised c) × HasSets caller_sets i) same (caller_initialised, λ l x. refl)
 
-no_more : (f : ℕ) (b : Body) → slice_get program.bodies (suc (suc f)) ≡ Some b → ⊥
+no_more : (f : ℕ) (b : Body) → slice_get program.bodies.bodies (suc (suc f)) ≡ Some b → ⊥
 no_more f b e = absurd (cc)
 
 abbrev sound : AreSound program.bodies
-sound zero b e = (subst (IsTyped program.bodies) (same_Some _ _ e) typed, (moved b (same_Some _ _ e)).0)
-sound (suc zero) b e = (subst (IsTyped program.bodies) (same_Some _ _ e) caller_typed, (caller_moved b (same_Some _ _ e)).0)
+sound zero b e = (subst (IsTyped program.bodies) (same_Some _ _ e) typed, (moved b (same_Some _ _ e)).0, sym (ap (λ (k : Body). k.id) (same_Some _ _ e)))
+sound (suc zero) b e = (subst (IsTyped program.bodies) (same_Some _ _ e) caller_typed, (caller_moved b (same_Some _ _ e)).0, sym (ap (λ (k : Body). k.id) (same_Some _ _ e)))
 sound (suc (suc f)) b e = absurd (no_more f b e)
 
 heads_of : (b : Body) → cleared ≡ b → (i : IsInitialised b) → HasSets sets i → HeadsSpeakOf b is_false (program.gone 0) i
@@ -406,7 +409,7 @@ caller_true_obligations Θ = record {
     goals = _;
     are_goals = record {
       inner = _;
-      arrives = plain _ refl refl (call (whole 0) 0 (Copy (whole 1) ∷ []) (label 1) is_false bool refl refl refl (plain _ refl refl (return refl)));
+      arrives = plain _ refl refl (call (whole 0) (Function (OfBody 0)) [] (Copy (whole 1) ∷ []) (label 1) is_false bool refl refl refl (plain _ refl refl (return refl)));
       closed = refl;
     };
     are_numbered = refl;

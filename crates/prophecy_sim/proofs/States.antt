@@ -1,5 +1,5 @@
 -- Runs of a program: the frames of a stack, each waiting for the answer of the call that it made.
-use Rattle.std.proofs.Common.{◌≡◌, ◌∙◌, sym, subst, ℕ, zero, suc, List, [], ◌∷◌, Some, slice_get}
+use Rattle.std.proofs.Common.{◌≡◌, ◌∙◌, sym, subst, ℕ, zero, suc, [], ◌∷◌, Some, slice_get}
 use Rattle.std.proofs.lemmas.Option.{same_Some}
 use Rattle.logic_term.specs.declared.obligation.Contract.{Contract}
 use Rattle.logic_term.specs.Meaning.{Env, Holds, structure_of}
@@ -21,14 +21,16 @@ use Rattle.mir_machine.proofs.Tried.{Quiet, quiet_then}
 use Rattle.mir_machine.proofs.Wholes.{try_step-whole, come_back-whole}
 use Rattle.prophecy_sim.proofs.Runs.{Standing, IsAnswer, GoesOn, EndsFine, frame_comes}
 use Rattle.prophecy_sim.proofs.Begins.{begins}
+use Rattle.mir_ir.specs.declared.body.Bodies.{Bodies}
+use Rattle.mir_machine.specs.Code.{code_of}
 
 module _ (Θ : Theory) (program : Program) (sound : AreSound program.bodies) (functions : AreFunctions program sound)
     (top : ℕ) (proved : AreProvedFrom Θ program top) (top_contract : Contract) (top_env : Env) (out : Frame (Unit {0})) where
-  abbrev bodies : List Body
+  abbrev bodies : Bodies
   bodies = program.bodies
 
   -- the contract of the function
-  abbrev contract_of : (n : ℕ) (b : Body) → slice_get program.bodies n ≡ Some b → Contract
+  abbrev contract_of : (n : ℕ) (b : Body) → slice_get program.bodies.bodies n ≡ Some b → Contract
   contract_of n b is_body = (functions n b is_body).contract
 
   abbrev Answer : ℕ → Contract → Env → T → Type 0
@@ -39,7 +41,7 @@ module _ (Θ : Theory) (program : Program) (sound : AreSound program.bodies) (fu
     pub function : ℕ
     pub reached : Reaches program.bodies top function
     pub body : Body
-    pub is_body : slice_get program.bodies function ≡ Some body
+    pub is_body : slice_get program.bodies.bodies function ≡ Some body
     pub env : Env
     pub standing : Standing Θ program sound functions function body is_body env f
 
@@ -48,7 +50,7 @@ module _ (Θ : Theory) (program : Program) (sound : AreSound program.bodies) (fu
     pub function : ℕ
     pub reached : Reaches program.bodies top function
     pub body : Body
-    pub is_body : slice_get program.bodies function ≡ Some body
+    pub is_body : slice_get program.bodies.bodies function ≡ Some body
     pub env : Env
     pub goes_on : GoesOn Θ program sound functions function body is_body env f n c ρ
 
@@ -80,7 +82,7 @@ module _ (Θ : Theory) (program : Program) (sound : AreSound program.bodies) (fu
       (quiet_then (Standing Θ program sound functions w.function w.body w.is_body w.env) OutcomeFine (resumed bodies t f) (λ k. Yields (Running (k ∷ g ∷ fs))) (w.goes_on t a)
       (λ k standing. (record { function = w.function; reached = w.reached; body = w.body; is_body = w.is_body; env = w.env; standing = standing }, h)))
 
-  settled_fine : (n : ℕ) → Reaches program.bodies top n → (b : Body) (is_body : slice_get program.bodies n ≡ Some b) (ρ : Env) (fs : State (Unit {0})) → Stacked n (contract_of n b is_body) ρ fs → (e : FrameEnd (Unit {0}))
+  settled_fine : (n : ℕ) → Reaches program.bodies top n → (b : Body) (is_body : slice_get program.bodies.bodies n ≡ Some b) (ρ : Env) (fs : State (Unit {0})) → Stacked n (contract_of n b is_body) ρ fs → (e : FrameEnd (Unit {0}))
       → EndsFine Θ program sound functions n b is_body ρ e → Quiet OutcomeFine (settled bodies fs e)
   settled_fine n reached b is_body ρ fs h (Stays f) standing = (record { function = n; reached = reached; body = b; is_body = is_body; env = ρ; standing = standing }, h)
   settled_fine n reached b is_body ρ fs h (Calls f g) (e, of_f, calls, goes_on) =
@@ -108,21 +110,21 @@ module _ (Θ : Theory) (program : Program) (sound : AreSound program.bodies) (fu
   of_try (Panics cause span) h = absurd h
   of_try Sticks h = tt
 
-  step_fine : (s : State (Unit {0})) → StateFine s → OutcomeFine (step bodies s)
+  step_fine : (s : State (Unit {0})) → StateFine s → OutcomeFine (step (code_of bodies) s)
   step_fine [] h = absurd h
   step_fine (f ∷ fs) (r, h) =
-      of_try (try_step bodies (f ∷ fs))
-      (subst (Quiet OutcomeFine) (sym (try_step-whole bodies f fs (sound_wholes bodies sound)))
-      (quiet_then (EndsFine Θ program sound functions r.function r.body r.is_body r.env) OutcomeFine (frame_step bodies f) (settled bodies fs)
+      of_try (try_step (code_of bodies) (f ∷ fs))
+      (subst (Quiet OutcomeFine) (sym (try_step-whole (code_of bodies) f fs (sound_wholes bodies sound)))
+      (quiet_then (EndsFine Θ program sound functions r.function r.body r.is_body r.env) OutcomeFine (frame_step (code_of bodies) f) (settled bodies fs)
       (frame_comes Θ program sound functions r.function r.body r.is_body r.env f r.standing)
       (settled_fine r.function r.reached r.body r.is_body r.env fs h)))
 
-  next_fine : (o : Outcome (Unit {0})) → OutcomeFine o → OutcomeFine (next bodies o)
+  next_fine : (o : Outcome (Unit {0})) → OutcomeFine o → OutcomeFine (next (code_of bodies) o)
   next_fine (Running s) h = step_fine s h
   next_fine (Returned s t) h = h
   next_fine (Panicked cause span) h = h
   next_fine Stuck h = h
 
-  pub run_fine : (n : ℕ) (o : Outcome (Unit {0})) → OutcomeFine o → OutcomeFine (after_from bodies n o)
+  pub run_fine : (n : ℕ) (o : Outcome (Unit {0})) → OutcomeFine o → OutcomeFine (after_from (code_of bodies) n o)
   run_fine zero o h = h
-  run_fine (suc n) o h = next_fine (after_from bodies n o) (run_fine n o h)
+  run_fine (suc n) o h = next_fine (after_from (code_of bodies) n o) (run_fine n o h)

@@ -27,6 +27,7 @@ use Rattle.wp_gen.proofs.Commands.{GoalsHold}
 use Rattle.prophecy_sim.specs.Programs.{AreNamesOfLocals}
 use Rattle.prophecy_sim.proofs.Values.{T, Matches, local_named, named_as}
 use Rattle.prophecy_sim.proofs.Assigns.{assigned}
+use Rattle.mir_ir.specs.declared.body.Bodies.{Bodies}
 
 pub quiet_both : {A : Type 0} (P Q : A → Type 0) (m : Try A) → Goes P m → Quiet Q m → Quiet (λ a. P a × Q a) m
 quiet_both P Q (Yields a) g q = (g, q)
@@ -83,7 +84,7 @@ module _ (Θ : Theory) (b : Body) where
     pub elsewhere : (n : Name) → IsOutside n → env n ≡ ρ n
     pub others : (x : ℕ) → writes x kind ≡ false → store x ≡ σ x
 
-  module _ (bodies : List Body) (typed : IsTyped bodies b) (named : AreNamesOfLocals b) where
+  module _ (bodies : Bodies) (typed : IsTyped bodies b) (named : AreNamesOfLocals b) where
     same_as : (t u : Value) (c : Bool) → c ≡ true → cond c t u ≡ t
     same_as t u c e = ap (λ d. cond d t u) e
 

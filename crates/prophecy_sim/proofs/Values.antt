@@ -23,6 +23,7 @@ use Rattle.mir_machine.proofs.Shown.{Shows, Store, Agrees, operand_value}
 use Rattle.wp_gen.specs.Row.{value_name, or_value_name, name_of, operand_term}
 use Rattle.prophecy_sim.specs.Programs.{AreNamesOfLocals}
 use Rattle.prophecy_sim.proofs.Lists.{get_first}
+use Rattle.mir_ir.specs.declared.body.Bodies.{Bodies}
 
 -- a tree of the machine
 abbrev pub T : Type 0
@@ -42,7 +43,7 @@ abbrev pub Matches : Body → Locals → Store → Env → Type 0
 Matches b set σ ρ = (x : ℕ) (n : Name) → set x ≡ true → slice_get b.names x ≡ Some n → ρ n ≡ σ x
 
 -- each local has a name
-pub local_named : (bodies : List Body) (b : Body) → IsTyped bodies b → (x : ℕ) (ty : Ty) → slice_get b.locals x ≡ Some ty → (n : Name) × (slice_get b.names x ≡ Some n)
+pub local_named : (bodies : Bodies) (b : Body) → IsTyped bodies b → (x : ℕ) (ty : Ty) → slice_get b.locals x ≡ Some ty → (n : Name) × (slice_get b.names x ≡ Some n)
 local_named bodies b typed x ty e = get_first b.names x (omega (arith, slice_get_within b.locals x ty e, typed.named))
 
 pub named_as : (b : Body) (x : ℕ) (n : Name) → slice_get b.names x ≡ Some n → name_of b x ≡ n
@@ -72,7 +73,7 @@ can_before set (Move q) (Const l) h = tt
 
 -- ---- operands
 
-module _ (Θ : Theory) (bodies : List Body) (b : Body) (typed : IsTyped bodies b) (named : AreNamesOfLocals b) where
+module _ (Θ : Theory) (bodies : Bodies) (b : Body) (typed : IsTyped bodies b) (named : AreNamesOfLocals b) where
   abbrev pub S : Structure
   S = structure_of Θ no_tys
 

@@ -5,19 +5,18 @@ use Rattle.logic_term.specs.declared.kinds.Label.{Label}
 use Rattle.logic_term.specs.declared.obligation.Contract.{Contract}
 use Rattle.logic_term.specs.declared.obligation.Obligation.{Obligation}
 use Rattle.logic_term.specs.Free.{free}
-use Rattle.logic_term.specs.Meaning.{Env, Holds}
-use Rattle.logic_term.specs.Theory.{Theory, declared}
+use Rattle.logic_term.specs.Theory.{Theory}
 use Rattle.logic_term.specs.Obligations.{IsTrueObligation}
 use Rattle.logic_term.specs.Term.{Term}
-use Rattle.logic_term.specs.Ty.{Ty, Tys, int, bool, tuple, no_tys}
+use Rattle.logic_term.specs.Ty.{Ty, int, bool, tuple, no_tys}
 use Rattle.mir_ir.specs.declared.place.Operand.{Operand}
 use Rattle.mir_ir.specs.declared.place.Place.{Place}
-use Rattle.mir_ir.specs.declared.terminator.FnId.TheVariants as fn_id
-use Rattle.mir_ir.specs.declared.terminator.Callee.TheVariants.{Function}
+use Rattle.mir_ir.specs.declared.terminator.Callee.{Callee}
 use Rattle.mir_ir.specs.declared.terminator.TerminatorKind.TheVariants.{Call}
 use Rattle.mir_ir.specs.declared.body.Block.{Block}
 use Rattle.mir_ir.specs.declared.body.Body.{Body}
 use Rattle.mir_ir.specs.Body.{block_in}
+use Rattle.mir_ir.specs.Callees.{callee_of}
 use Rattle.mir_ir.specs.WellFormed.{AreSound, Locals, IsInitialised}
 use Rattle.mir_machine.specs.Good.{Each, Good}
 use Rattle.wp_gen.specs.Row.{value_name}
@@ -25,6 +24,7 @@ use Rattle.wp_gen.specs.Walk.{Setting, AreObligations, is_gone}
 use Rattle.mir_ir.specs.declared.body.Head.{Head}
 use Rattle.mir_ir.specs.declared.body.Initialised.{Initialised}
 use Rattle.mir_ir.specs.Layout.{IsLaidOut}
+use Rattle.mir_ir.specs.declared.body.Bodies.{Bodies}
 
 -- an integer type, `bool`, or the type of `()`
 abbrev pub IsScalar : Ty → Type 0
@@ -71,7 +71,7 @@ pub record HeadsSpeakOf (b : Body) (c : Contract) (gone : Initialised) (i : IsIn
 
 -- bodies with a contract for each, and what may be gone where in each
 pub record Program : Type 0 where
-  pub bodies : List Body
+  pub bodies : Bodies
   pub contracts : List Contract
   pub gone : ℕ → Initialised
 
@@ -79,7 +79,7 @@ pub record Program : Type 0 where
 abbrev pub setting : Program → ℕ → Body → Contract → Setting
 setting p n b c = record { body = b; contracts = p.contracts; contract = c; init = p.gone n }
 
-pub record IsFunction (p : Program) (sound : AreSound p.bodies) (n : ℕ) (b : Body) (is_body : slice_get p.bodies n ≡ Some b) : Type 0 where
+pub record IsFunction (p : Program) (sound : AreSound p.bodies) (n : ℕ) (b : Body) (is_body : slice_get p.bodies.bodies n ≡ Some b) : Type 0 where
   pub contract : Contract
   pub is_contract : slice_get p.contracts n ≡ Some contract
   pub simple : IsSimple b
@@ -87,7 +87,7 @@ pub record IsFunction (p : Program) (sound : AreSound p.bodies) (n : ℕ) (b : B
   pub heads : HeadsSpeakOf b contract (p.gone n) (sound n b is_body).1
 
 abbrev pub AreFunctions : (p : Program) → AreSound p.bodies → Type 0
-AreFunctions p sound = (n : ℕ) (b : Body) (is_body : slice_get p.bodies n ≡ Some b) → IsFunction p sound n b is_body
+AreFunctions p sound = (n : ℕ) (b : Body) (is_body : slice_get p.bodies.bodies n ≡ Some b) → IsFunction p sound n b is_body
 
 -- the obligations of the body with the contract are true
 pub record HasTrueObligations (Θ : Theory) (w : Setting) : Type 0 where
@@ -100,26 +100,29 @@ pub record HasTrueObligations (Θ : Theory) (w : Setting) : Type 0 where
 -- ---- what a function may reach
 
 -- some block of body n ends with a call of function m
-pub record Calls (bodies : List Body) (n m : ℕ) : Type 0 where
+pub record Calls (bodies : Bodies) (n m : ℕ) : Type 0 where
   pub body : Body
-  pub is_body : slice_get bodies n ≡ Some body
+  pub is_body : slice_get bodies.bodies n ≡ Some body
   pub at : ℕ
   pub label : Label
   pub block : Block
   pub is_block : slice_get body.blocks at ≡ Some (label, block)
   pub place : Place
+  pub callee : Callee
+  pub types : List Ty
   pub operands : List Operand
   pub next : Label
-  pub is_call : block.end.kind ≡ Call place (Function (fn_id.Body m)) operands next
+  pub is_call : block.end.kind ≡ Call place callee types operands next
+  pub is_callee : callee_of bodies callee ≡ Some m
 
 -- what function f may reach by calls: the least set with f that is closed under them
-pub data Reaches (bodies : List Body) (f : ℕ) : ℕ → Type 0 where
+pub data Reaches (bodies : Bodies) (f : ℕ) : ℕ → Type 0 where
   itself : Reaches bodies f f
   by_call : {n m : ℕ} → Reaches bodies f n → Calls bodies n m → Reaches bodies f m
 
 -- the obligations of each function that f may reach are true
 abbrev pub AreProvedFrom : Theory → Program → ℕ → Type 0
-AreProvedFrom Θ p f = (n : ℕ) (b : Body) (d : Contract) → Reaches p.bodies f n → slice_get p.bodies n ≡ Some b → slice_get p.contracts n ≡ Some d
+AreProvedFrom Θ p f = (n : ℕ) (b : Body) (d : Contract) → Reaches p.bodies f n → slice_get p.bodies.bodies n ≡ Some b → slice_get p.contracts n ≡ Some d
     → HasTrueObligations Θ (setting p n b d)
 
 -- a function is good where all obligations of the functions that it may reach are true, whatever the declared types are

@@ -23,6 +23,7 @@ use Rattle.mir_build.specs.Laws.{Lowers, LocalsAreNamed, HeadsSpeak, ContractSpe
 use Rattle.mir_build.proofs.LawsOfPrograms.{bodies_are_laid_out, locals_have_names, locals_have_built_types, heads_speak_of_what_is_there, contracts_speak_of_parameters}
 use Rattle.verify_core.specs.Prepared.{gone_of, program_of}
 use Rattle.verify_core.proofs.ReachLaws.{any_found}
+use Rattle.mir_ir.specs.declared.body.Bodies.{Bodies}
 
 some_same : {A : Type 0} {a b : A} → Some a ≡ Some b → a ≡ b
 some_same e = cc
@@ -96,8 +97,8 @@ gone_at [] n g e = absurd cc
 gone_at (h ∷ gones) zero g e = some_same e
 gone_at (h ∷ gones) (suc n) g e = gone_at gones n g e
 
-module _ (table : List (List ℕ)) (fs : List TypedFunction) (bs : List Body) (cs : List Contract) (gones : List Initialised) (lowers : Lowers table fs bs cs gones) where
-  abbrev labelled : (sound : AreSound bs) × ((n : ℕ) (b : Body) (gone : Initialised) (is_body : slice_get bs n ≡ Some b) → slice_get gones n ≡ Some gone → HeadsSpeak b gone (sound n b is_body).1)
+module _ (table : List (List ℕ)) (fs : List TypedFunction) (bs : Bodies) (cs : List Contract) (gones : List Initialised) (lowers : Lowers table fs bs cs gones) where
+  abbrev labelled : (sound : AreSound bs) × ((n : ℕ) (b : Body) (gone : Initialised) (is_body : slice_get bs.bodies n ≡ Some b) → slice_get gones n ≡ Some gone → HeadsSpeak b gone (sound n b is_body).1)
   labelled = heads_speak_of_what_is_there table fs bs cs gones lowers
 
   pub sound : AreSound bs

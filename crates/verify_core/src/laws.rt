@@ -1,6 +1,25 @@
 //! Laws of what there is one of. Nothing here computes.
-ghost use Rattle.verify_core.specs.Laws.{AcceptedIsNeverStuck, AcceptedIsNotRefused, AcceptedIsWithinLimits, FewerAreFront, FewerHaveFewer, FewObligationsAreNotMany, FewPathsAreNotMany, GoalsAreOfBodies,
-    GoalsAreOne, LeftHasNoDerivation, LimitIsOne, ObligationsAreOne, ProgramIsOne, RefusalIsOne, RefusedAtOneLine, RefusedIsNotAccepted, RefusedIsWithinLimits, SettledHasDerivation, VerdictIsOne};
+ghost use Rattle.verify_core.specs.Laws.{
+  AcceptedIsNeverStuck,
+  AcceptedIsNotRefused,
+  AcceptedIsWithinLimits,
+  FewerAreFront,
+  FewerHaveFewer,
+  FewObligationsAreNotMany,
+  FewPathsAreNotMany,
+  GoalsAreOfBodies,
+  GoalsAreOne,
+  LeftHasNoDerivation,
+  LimitIsOne,
+  ObligationsAreOne,
+  ProgramIsOne,
+  RefusalIsOne,
+  RefusedAtOneLine,
+  RefusedIsNotAccepted,
+  RefusedIsWithinLimits,
+  SettledHasDerivation,
+  VerdictIsOne,
+};
 
 /// A body with its contract has one list of obligations, and one number of paths.
 pub fn obligations_are_of_one_walk()
