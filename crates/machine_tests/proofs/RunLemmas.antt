@@ -93,13 +93,15 @@ body_sound bodies b sets f numbered h = (
     statements = λ l k i st is_block is_statement. (at l k i st is_block is_statement).0;
     ends = λ l k is_block. (found l k is_block).typed;
   },
-  record {
-    at = λ l i. sets l.0 i;
-    entry = h.entry;
-    statements = λ l k i st is_block is_statement. ((at l k i st is_block is_statement).1, (at l k i st is_block is_statement).2);
-    ends = λ l k is_block. (found l k is_block).can_end;
-    edges = λ l k is_block. (found l k is_block).carries;
-  },
+  (
+    λ l i. sets l.0 i,
+    record {
+      entry = h.entry;
+      statements = λ l k i st is_block is_statement. ((at l k i st is_block is_statement).1, (at l k i st is_block is_statement).2);
+      ends = λ l k is_block. (found l k is_block).can_end;
+      edges = λ l k is_block. (found l k is_block).carries;
+    },
+  ),
   numbered,
 )
   where

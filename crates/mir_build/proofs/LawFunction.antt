@@ -23,7 +23,7 @@ use Rattle.mir_build.proofs.LawLaid.{weight, Apart}
 use Rattle.mir_build.proofs.LawSets.{Scoped, laid, laid_rest}
 use Rattle.mir_build.proofs.LawTyped.{AreTyped, MadeFits, ScopeFits}
 use Rattle.mir_build.proofs.LawTypes.{Callee, Known, typed, typed_rest}
-use Rattle.mir_build.proofs.LawInit.{set_of, agree, EachBlock, BlockFits, begun_fits, owned_not_there, block_at, Labelling, labelling}
+use Rattle.mir_build.proofs.LawInit.{set_of, agree, EachBlock, BlockFits, begun_fits, owned_not_there, block_at, IsLabelled, labelling}
 use Rattle.mir_build.proofs.OneBody.{labels_once, locals_once}
 use Rattle.mir_build.proofs.LawBlocks.{typed_at, BlockTyped, typed_blocks, has_block, end_typed}
 use Rattle.mir_ir.specs.declared.body.Bodies.{Bodies}
@@ -197,7 +197,7 @@ module _ (owner : List ℕ) (f : TypedFunction) (b : Body) (gone : Initialised) 
     pub owned_absent : (e : Label × List ℕ) → Has e (owned l.text) → HasNone (start e.0) e.1
     owned_absent e h = owned_not_there start (with 0 (parameters b)) (parameters b) l.text text_runs e h
 
-    pub body_labelling : Labelling b start
+    pub body_labelling : IsLabelled b start
     body_labelling = labelling b start start_fits (λ x h. subst (λ (S : Locals). S x ≡ true) at_entry h)
 
   -- ---- types

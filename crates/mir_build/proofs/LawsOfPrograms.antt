@@ -1,22 +1,23 @@
 -- The laws of programs that lower and fit.
-use Rattle.std.proofs.Common.{◌≡◌, refl, ap, sym, ◌∙◌, subst, ℕ, zero, suc, ◌+◌, List, [], ◌∷◌, take, drop, length, Some, None, slice_get, arith}
+use Rattle.std.proofs.Common.{◌≡◌, refl, ap, sym, ◌∙◌, subst, ℕ, zero, suc, ◌+◌, List, [], ◌∷◌, take, drop, length, Some, None, slice_get, arith, false, Option}
 use Rattle.logic_term.specs.declared.obligation.Contract.{Contract}
 use Rattle.logic_term.specs.Ty.{Ty}
 use Rattle.mir_ir.specs.declared.body.Body.{Body}
 use Rattle.mir_ir.specs.declared.body.Initialised.{Initialised}
-use Rattle.mir_ir.specs.WellFormed.{IsTyped, IsInitialised}
+use Rattle.mir_ir.specs.WellFormed.{IsTyped, Labelling, MeetsMoveRows}
 use Rattle.type_check.specs.declared.program.Signature.{Signature}
 use Rattle.type_check.specs.declared.program.TypedFunction.{TypedFunction}
 use Rattle.type_check.specs.WellTyped.{IsBuilt, FunctionFits, EachFits, signatures}
-use Rattle.mir_build.specs.Laws.{Lowers, HeadsSpeak, BodiesAreSound, BodiesAreLaidOut, LocalsHaveNames, LocalsHaveBuiltTypes, HeadsSpeakOfWhatIsThere, ContractsSpeakOfParameters}
+use Rattle.mir_build.specs.Laws.{Lowers, HeadsAreThere, BodiesAreSound, BodiesAreLaidOut, LocalsHaveNames, LocalsHaveBuiltTypes, HeadsSpeakOfWhatIsThere, ContractsSpeakOfParameters}
 use Rattle.mir_build.specs.Lowering.{counted, contract_of, LowersTo, EachLowersTo, no_functions, and_function}
 use Rattle.mir_build.proofs.LawTyped.{ScopeFits}
 use Rattle.mir_build.proofs.LawTypes.{Callee}
-use Rattle.mir_build.proofs.LawFunction.{answer_fits, scope_fits, body_typed, body_laid_out}
+use Rattle.mir_build.proofs.LawFunction.{answer_fits, scope_fits, body_typed, body_laid_out, start}
 use Rattle.mir_build.proofs.LawLocals.{locals_are_named, types_built}
 use Rattle.mir_build.proofs.LawContracts.{contract_speaks}
 use Rattle.mir_build.proofs.LawHeads.{labelled, heads_speak}
 use Rattle.mir_ir.specs.declared.body.Bodies.{Bodies}
+use Rattle.mir_build.proofs.LawInit.{IsLabelled}
 
 some_same : {A : Type 0} {a b : A} → Some a ≡ Some b → a ≡ b
 some_same e = cc
@@ -119,16 +120,22 @@ module _ (table : List (List ℕ)) (fs : List TypedFunction) (bs : Bodies) (cs :
     typed : IsTyped bs b
     typed = body_typed found.1.owner found.0 b found.1.gone found.1.lowers (signatures fs) bs fit callee answer_built
 
-    initialised : (i : IsInitialised b) × HeadsSpeak b found.1.gone i
+    abbrev labels : IsLabelled b (start found.1.owner found.0 b found.1.gone found.1.lowers (signatures fs) fit)
+    labels = labelled found.1.owner found.0 b found.1.gone found.1.lowers (signatures fs) bs fit callee answer_built
+
+    initialised : (at : Labelling) × MeetsMoveRows b at × HeadsAreThere b found.1.gone at
     initialised = (
-      (labelled found.1.owner found.0 b found.1.gone found.1.lowers (signatures fs) bs fit callee answer_built).initialised,
+      labels.at,
+      labels.moves,
       heads_speak found.1.owner found.0 b found.1.gone found.1.lowers (signatures fs) bs fit callee answer_built,
     )
 
 -- ---- the laws
 
 pub bodies_are_sound : BodiesAreSound
-bodies_are_sound table fs bs cs gones l n b e = (typed table fs bs cs gones l n b e, (initialised table fs bs cs gones l n b e).0, number table fs bs cs gones l n b e)
+bodies_are_sound table fs bs cs gones l n b e =
+    let i = initialised table fs bs cs gones l n b e in
+    (typed table fs bs cs gones l n b e, (i.0, i.1), number table fs bs cs gones l n b e)
 
 pub bodies_are_laid_out : BodiesAreLaidOut
 bodies_are_laid_out table fs bs cs gones l n b e =
@@ -145,15 +152,28 @@ locals_have_built_types table fs bs cs gones l n b e x t h =
     let w = found table fs bs cs gones l n b e in
     types_built w.1.owner w.0 b w.1.gone w.1.lowers (signatures fs) bs (fit table fs bs cs gones l n b e) (callee table fs bs cs gones l) (answer_built table fs bs cs gones l) x t h
 
+module _ (table : List (List ℕ)) (fs : List TypedFunction) (bs : Bodies) (cs : List Contract) (gones : List Initialised) (l : Lowers table fs bs cs gones) where
+  -- the labelling of the body that is found; any where there is none
+  abbrev labelling_at : (n : ℕ) (o : Option Body) → slice_get bs.bodies n ≡ o → Labelling
+  labelling_at n (Some b) e = (initialised table fs bs cs gones l n b e).0
+  labelling_at n None e = λ m i x. false
+
+  meets : (n : ℕ) (b : Body) (gone : Initialised) (o : Option Body) (e : slice_get bs.bodies n ≡ o) → o ≡ Some b → slice_get gones n ≡ Some gone → MeetsMoveRows b (labelling_at n o e) × HeadsAreThere b gone (labelling_at n o e)
+  meets n b gone None e is g = absurd (cc)
+  meets n b gone (Some k) e is g =
+      let w = found table fs bs cs gones l n k e in
+      let i = initialised table fs bs cs gones l n k e in
+      let heads : HeadsAreThere k gone i.0 = subst (λ (gg : Initialised). HeadsAreThere k gg i.0) (some_same (sym w.1.is_gone ∙ g)) i.2 in
+      subst (λ (c : Body). MeetsMoveRows c i.0 × HeadsAreThere c gone i.0) (some_same is) (i.1, heads)
+
 pub heads_speak_of_what_is_there : HeadsSpeakOfWhatIsThere
 heads_speak_of_what_is_there table fs bs cs gones l = (
-  λ n b e. (typed table fs bs cs gones l n b e, (initialised table fs bs cs gones l n b e).0, number table fs bs cs gones l n b e),
-  λ n b gone e g.
-      let w = found table fs bs cs gones l n b e in
-      subst (λ (gg : Initialised). HeadsSpeak b gg (initialised table fs bs cs gones l n b e).0) (some_same (sym w.1.is_gone ∙ g)) (initialised table fs bs cs gones l n b e).1,
+  λ n. labelling_at table fs bs cs gones l n (slice_get bs.bodies n) refl,
+  λ n b gone e g. meets table fs bs cs gones l n b gone (slice_get bs.bodies n) refl e g,
 )
 
 pub contracts_speak_of_parameters : ContractsSpeakOfParameters
 contracts_speak_of_parameters table fs bs cs gones l n b e =
     let w = found table fs bs cs gones l n b e in
-    (contract_of w.0, w.1.gone, w.1.is_contract, w.1.is_gone, contract_speaks w.1.owner w.0 b w.1.gone w.1.lowers (signatures fs) (fit table fs bs cs gones l n b e))
+    let speaks = contract_speaks w.1.owner w.0 b w.1.gone w.1.lowers (signatures fs) (fit table fs bs cs gones l n b e) in
+    (contract_of w.0, w.1.gone, w.1.is_contract, w.1.is_gone, speaks.0, speaks.1)

@@ -2,3 +2,4 @@ pub mod Body
 pub mod Callees
 pub mod WellFormed
 pub mod Layout
+pub mod Names

@@ -199,13 +199,20 @@ Carries starts set Return = Unit {0}
 abbrev pub parameters : Body → Locals
 parameters b x = nat_lt 0 x && nat_lt x (b.params + 1)
 
--- some sets, one before each statement and each block's end, have only locals that are surely initialised there
-pub record IsInitialised (b : Body) : Type 0 where
-  pub at : Label → ℕ → Locals
+-- a set of locals before each statement and each block's end, by the block's label and the statement's number
+abbrev pub Labelling : Type 0
+Labelling = Label → ℕ → Locals
+
+-- the sets have only locals that are surely initialised there
+pub record MeetsMoveRows (b : Body) (at : Labelling) : Type 0 where
   pub entry : Within (at b.entry 0) (parameters b)
   pub statements : (l : Label) (k : Block) (i : ℕ) (st : Statement) → block_in b.blocks l ≡ Some k → slice_get k.statements i ≡ Some st → CanRun (at l i) st.kind × Within (at l (i + 1)) (run st.kind (at l i))
   pub ends : (l : Label) (k : Block) → block_in b.blocks l ≡ Some k → CanEnd (at l (length k.statements)) k.end.kind
   pub edges : (l : Label) (k : Block) → block_in b.blocks l ≡ Some k → Carries (λ l'. at l' 0) (at l (length k.statements)) k.end.kind
+
+-- some labelling does so
+abbrev pub IsInitialised : Body → Type 0
+IsInitialised b = (at : Labelling) × MeetsMoveRows b at
 
 -- each body has its place as its number, and is both
 abbrev pub AreSound : Bodies → Type 0

@@ -480,7 +480,7 @@ pub record Ready {K : Type 0} (bodies : Bodies) (sound : AreSound bodies) (f : F
   pub block : Block
   pub is_block : block_in body.blocks f.label ≡ Some block
   pub within : f.statement ≤ length block.statements
-  pub fitting : Fits body f.types ((sound f.function body is_body).1.at f.label f.statement) f.locals
+  pub fitting : Fits body f.types ((sound f.function body is_body).1.0 f.label f.statement) f.locals
 
 -- the frame waits at its call of body n, which has taken the operands
 pub record Waits {K : Type 0} (bodies : Bodies) (sound : AreSound bodies) (f : Frame K) (n : ℕ) : Type 0 where
@@ -494,7 +494,7 @@ pub record Waits {K : Type 0} (bodies : Bodies) (sound : AreSound bodies) (f : F
   pub operands : List Operand
   pub label : Label
   pub calls : block.end.kind ≡ Call place (Function (fn_id.Body n)) types operands label
-  pub fitting : Fits body f.types (all_taken operands ((sound f.function body is_body).1.at f.label (length block.statements))) f.locals
+  pub fitting : Fits body f.types (all_taken operands ((sound f.function body is_body).1.0 f.label (length block.statements))) f.locals
 
 -- the tree has the shape of the answer of body n
 abbrev pub IsAnswer : {K : Type 0} → Bodies → ℕ → Tree K → Type 0
@@ -517,12 +517,12 @@ ready_entered bodies sound n b args is_body of_args =
       block = both.0.begins.0;
       is_block = both.0.begins.1;
       within = omega arith;
-      fitting = fits_within b no_tys (both.1.at b.entry 0) (parameters b) (entered b n no_tys args).locals both.1.entry (entered_fits bodies b n no_tys args both.0 of_args);
+      fitting = fits_within b no_tys (both.1.0 b.entry 0) (parameters b) (entered b n no_tys args).locals both.1.1.entry (entered_fits bodies b n no_tys args both.0 of_args);
     }
 
 -- the frame goes on at the start of a block
 ready_starting : {K : Type 0} (bodies : Bodies) (sound : AreSound bodies) (f : Frame K) (b : Body) (is_body : slice_get bodies.bodies f.function ≡ Some b) (set : Locals) (ls : List (Tree K)) (l : Label) → f.types ≡ no_tys
-    → ((k : Block) × (block_in b.blocks l ≡ Some k)) → Within ((sound f.function b is_body).1.at l 0) set → Fits b f.types set ls → Ready bodies sound (starting f ls l)
+    → ((k : Block) × (block_in b.blocks l ≡ Some k)) → Within ((sound f.function b is_body).1.0 l 0) set → Fits b f.types set ls → Ready bodies sound (starting f ls l)
 ready_starting bodies sound f b is_body set ls l ground leads within h = record {
   body = b;
   is_body = is_body;
@@ -530,7 +530,7 @@ ready_starting bodies sound f b is_body set ls l ground leads within h = record 
   block = leads.0;
   is_block = leads.1;
   within = omega arith;
-  fitting = fits_within b f.types ((sound f.function b is_body).1.at l 0) set ls within h;
+  fitting = fits_within b f.types ((sound f.function b is_body).1.0 l 0) set ls within h;
 }
 
 module _ {K : Type 0} (code : Code K) (sound : AreSound code.program) (f : Frame K) (r : Ready code.program sound f) where
@@ -540,8 +540,8 @@ module _ {K : Type 0} (code : Code K) (sound : AreSound code.program) (f : Frame
   statement_goes : (st : Statement) → slice_get r.block.statements f.statement ≡ Some st → Goes Well (frame_row code r.body f r.block.end (Some st))
   statement_goes st e =
       let ready = sound f.function r.body r.is_body in
-      let set = ready.1.at f.label f.statement in
-      let rows = ready.1.statements f.label r.block f.statement st r.is_block e in
+      let set = ready.1.0 f.label f.statement in
+      let rows = ready.1.1.statements f.label r.block f.statement st r.is_block e in
       goes_then (Fits r.body f.types (run st.kind set)) Well (run_local r.body f.types f.locals st.span st.kind) (λ ls. Yields (Stays (record f { locals = ls; statement = f.statement + 1 })))
       (run_goes r.body f.types set f.locals st.span st.kind r.fitting (ready.0.statements f.label r.block f.statement st r.is_block e) rows.0)
       (λ ls h. (
@@ -552,20 +552,20 @@ module _ {K : Type 0} (code : Code K) (sound : AreSound code.program) (f : Frame
           block = r.block;
           is_block = r.is_block;
           within = omega (arith, slice_get_within r.block.statements f.statement st e);
-          fitting = fits_within r.body f.types (ready.1.at f.label (f.statement + 1)) (run st.kind set) ls rows.1 h;
+          fitting = fits_within r.body f.types (ready.1.0 f.label (f.statement + 1)) (run st.kind set) ls rows.1 h;
         },
         refl,
       ))
 
   -- what is initialised at the block's end
   abbrev end_set : Locals
-  end_set = (sound f.function r.body r.is_body).1.at f.label (length r.block.statements)
+  end_set = (sound f.function r.body r.is_body).1.0 f.label (length r.block.statements)
 
-  goto_goes : (l : Label) → Fits r.body f.types end_set f.locals → EndIsTyped code.program r.body (Goto l) → Carries (λ l'. (sound f.function r.body r.is_body).1.at l' 0) end_set (Goto l) → Goes Well (frame_end code f (Goto l))
+  goto_goes : (l : Label) → Fits r.body f.types end_set f.locals → EndIsTyped code.program r.body (Goto l) → Carries (λ l'. (sound f.function r.body r.is_body).1.0 l' 0) end_set (Goto l) → Goes Well (frame_end code f (Goto l))
   goto_goes l h typed carries = (ready_starting code.program sound f r.body r.is_body end_set f.locals l r.ground typed carries h, refl)
 
   if_goes : (o : Operand) (on_true on_false : Label) → Fits r.body f.types end_set f.locals → EndIsTyped code.program r.body (If o on_true on_false) → CanEnd end_set (If o on_true on_false)
-      → Carries (λ l'. (sound f.function r.body r.is_body).1.at l' 0) end_set (If o on_true on_false) → Goes Well (frame_end code f (If o on_true on_false))
+      → Carries (λ l'. (sound f.function r.body r.is_body).1.0 l' 0) end_set (If o on_true on_false) → Goes Well (frame_end code f (If o on_true on_false))
   if_goes o on_true on_false h typed can carries =
       goes_then (Keeps r.body f.types (taken o end_set) bool) Well (take_operand f.locals o) (λ l. truth_of l.1 >>= λ b. Yields (Stays (starting f l.0 (cond b on_true on_false)))) (take_goes r.body f.types end_set f.locals o bool h typed.0 can)
       (λ l kept. branch l.0 l.1 kept.0 kept.1)
@@ -607,7 +607,7 @@ module _ {K : Type 0} (code : Code K) (sound : AreSound code.program) (f : Frame
       goes_then (Shape (instance f.types answer.0)) Well (local_tree f.locals 0) (λ t. Yields (Answers t)) (local_goes r.body f.types end_set f.locals 0 answer.0 h answer.1 can)
       (λ t shape. (r.body, r.is_body, subst (λ ty. Shape (instance no_tys ty) t) (sym (answer_is r.body.locals answer.0 answer.1)) (subst (λ θ. Shape (instance θ answer.0) t) r.ground shape)))
 
-  end_goes : (end : TerminatorKind) → r.block.end.kind ≡ end → Fits r.body f.types end_set f.locals → EndIsTyped code.program r.body end → CanEnd end_set end → Carries (λ l'. (sound f.function r.body r.is_body).1.at l' 0) end_set end → Goes Well (frame_end code f end)
+  end_goes : (end : TerminatorKind) → r.block.end.kind ≡ end → Fits r.body f.types end_set f.locals → EndIsTyped code.program r.body end → CanEnd end_set end → Carries (λ l'. (sound f.function r.body r.is_body).1.0 l' 0) end_set end → Goes Well (frame_end code f end)
   end_goes (Goto l) is h typed can carries = goto_goes l h typed carries
   end_goes (If o on_true on_false) is h typed can carries = if_goes o on_true on_false h typed can carries
   end_goes (Call p (Function (fn_id.Body n)) types os l) is h typed can carries = call_goes p n types os l is h typed can
@@ -618,7 +618,7 @@ module _ {K : Type 0} (code : Code K) (sound : AreSound code.program) (f : Frame
   row_goes None e =
       let ready = sound f.function r.body r.is_body in
       let at_end : f.statement ≡ length r.block.statements = omega (arith, get_past r.block.statements f.statement e, r.within) in
-      end_goes r.block.end.kind refl (subst (λ i. Fits r.body f.types (ready.1.at f.label i) f.locals) at_end r.fitting) (ready.0.ends f.label r.block r.is_block) (ready.1.ends f.label r.block r.is_block) (ready.1.edges f.label r.block r.is_block)
+      end_goes r.block.end.kind refl (subst (λ i. Fits r.body f.types (ready.1.0 f.label i) f.locals) at_end r.fitting) (ready.0.ends f.label r.block r.is_block) (ready.1.1.ends f.label r.block r.is_block) (ready.1.1.edges f.label r.block r.is_block)
 
 pub frame_goes : {K : Type 0} (code : Code K) (sound : AreSound code.program) (f : Frame K) → Ready code.program sound f → Goes (EndsWell code.program sound f.function) (frame_step code f)
 frame_goes {K} code sound f r =
@@ -635,20 +635,20 @@ resumed_goes {K} bodies sound f n t w (c, is_callee, shape) =
     let l = w.label in
     let types = w.types in
     let os = w.operands in
-    let starts : Label → Locals = λ l'. both.1.at l' 0 in
-    let end_set : Locals = both.1.at f.label (length w.block.statements) in
+    let starts : Label → Locals = λ l'. both.1.0 l' 0 in
+    let end_set : Locals = both.1.0 f.label (length w.block.statements) in
     let found : frame_block bodies f ≡ Some w.block = ap (option_and_then (λ b. block_in b.blocks f.label)) w.is_body ∙ w.is_block in
     let typed : EndIsTyped bodies w.body (Call p (Function (fn_id.Body n)) types os l) = subst (EndIsTyped bodies w.body) w.calls (both.0.ends f.label w.block w.is_block) in
-    let carries : Carries starts end_set (Call p (Function (fn_id.Body n)) types os l) = subst (Carries starts end_set) w.calls (both.1.edges f.label w.block w.is_block) in
+    let carries : Carries starts end_set (Call p (Function (fn_id.Body n)) types os l) = subst (Carries starts end_set) w.calls (both.1.1.edges f.label w.block w.is_block) in
     let Fine : Frame K → Type 0 = λ g. Ready bodies sound g × (g.function ≡ f.function) in
     subst (λ (o : Option Block). Goes Fine (need o >>= λ k. resumed_at t f k.end.kind)) (sym found)
     (subst (λ end. Goes Fine (resumed_at t f end)) (sym w.calls) (with_typed typed carries))
   where
     with_typed : EndIsTyped bodies w.body (Call w.place (Function (fn_id.Body n)) w.types w.operands w.label) →
-        Within ((sound f.function w.body w.is_body).1.at w.label 0) (with w.place.local (all_taken w.operands ((sound f.function w.body w.is_body).1.at f.label (length w.block.statements)))) →
+        Within ((sound f.function w.body w.is_body).1.0 w.label 0) (with w.place.local (all_taken w.operands ((sound f.function w.body w.is_body).1.0 f.label (length w.block.statements)))) →
         Goes (λ g. Ready bodies sound g × (g.function ≡ f.function)) (resumed_at t f (Call w.place (Function (fn_id.Body n)) w.types w.operands w.label))
     with_typed ((d, ty, is_d, have, first, place, as_many), leads) within =
-        let set : Locals = all_taken w.operands ((sound f.function w.body w.is_body).1.at f.label (length w.block.statements)) in
+        let set : Locals = all_taken w.operands ((sound f.function w.body w.is_body).1.0 f.label (length w.block.statements)) in
         let same : c ≡ d = some_same (sym is_callee ∙ is_d) in
         let of_ty : Shape (instance no_tys ty) t = subst (λ q. Shape (instance no_tys q) t) (answer_is d.locals ty first) (subst (λ b. Shape (answer_ty b no_tys) t) same shape) in
         let here : Shape (instance f.types ty) t = subst (λ θ. Shape (instance θ ty) t) (sym w.ground) of_ty in

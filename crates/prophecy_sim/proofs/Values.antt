@@ -21,7 +21,7 @@ use Rattle.mir_machine.specs.Tree.{Tree}
 use Rattle.mir_machine.proofs.NeverStuck.{Shape, Fits}
 use Rattle.mir_machine.proofs.Shown.{Shows, Store, Agrees, operand_value}
 use Rattle.wp_gen.specs.Row.{value_name, or_value_name, name_of, operand_term}
-use Rattle.prophecy_sim.specs.Programs.{AreNamesOfLocals}
+use Rattle.mir_ir.specs.Names.{LocalsAreNamed, new_number}
 use Rattle.prophecy_sim.proofs.Lists.{get_first}
 use Rattle.mir_ir.specs.declared.body.Bodies.{Bodies}
 
@@ -73,7 +73,12 @@ can_before set (Move q) (Const l) h = tt
 
 -- ---- operands
 
-module _ (Θ : Theory) (bodies : Bodies) (b : Body) (typed : IsTyped bodies b) (named : AreNamesOfLocals b) where
+-- a name that is not that of new values is not that of the walk's
+pub not_value_name : (n : Name) → (n.0 ≡ new_number → ⊥) → n.0 ≡ value_name.0 → ⊥
+unfolding value_name
+not_value_name n other e = other e
+
+module _ (Θ : Theory) (bodies : Bodies) (b : Body) (typed : IsTyped bodies b) (named : LocalsAreNamed b) where
   abbrev pub S : Structure
   S = structure_of Θ no_tys
 
@@ -89,7 +94,7 @@ module _ (Θ : Theory) (bodies : Bodies) (b : Body) (typed : IsTyped bodies b) (
 
   -- a new value is the name of no local
   pub matches_new : (set : Locals) (σ : Store) (ρ : Env) (w : Value) → Matches b set σ ρ → Matches b set σ (with_value ρ value_name w)
-  matches_new set σ ρ w m x n inside e = with_other ρ value_name n w (named.none_is_new x n e) ∙ m x n inside e
+  matches_new set σ ρ w m x n inside e = with_other ρ value_name n w (not_value_name n (named.none_is_new x n e)) ∙ m x n inside e
 
 -- ---- the values that trees show
 

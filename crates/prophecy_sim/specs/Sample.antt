@@ -22,7 +22,7 @@ use Rattle.mir_ir.specs.declared.terminator.TerminatorKind.TheVariants.{Goto, If
 use Rattle.mir_ir.specs.declared.body.Block.{Block}
 use Rattle.mir_ir.specs.declared.body.Body.{Body}
 use Rattle.mir_ir.specs.declared.body.Head.{Head}
-use Rattle.mir_ir.specs.WellFormed.{AreSound}
+use Rattle.mir_ir.specs.WellFormed.{Labelling}
 use Rattle.mir_machine.specs.Good.{Good}
 use Rattle.prophecy_sim.specs.Programs.{Program, setting, AreFunctions, HasTrueObligations}
 
@@ -100,7 +100,7 @@ program = record {
 
 -- both are typed and initialised, and they meet the conditions on functions
 abbrev pub SampleIsSound : Type 0
-SampleIsSound = (sound : AreSound program.bodies) × AreFunctions program sound
+SampleIsSound = (labelling : ℕ → Labelling) × AreFunctions program labelling
 
 -- the walk of each function comes to an end, and all of its obligations are true, whatever the declared types are
 abbrev pub SampleIsTrue : Type 0

@@ -33,7 +33,7 @@ use Rattle.verify_core.specs.declared.goals.FunctionGoals.{FunctionGoals}
 use Rattle.verify_core.specs.declared.program.Program.{Program}
 use Rattle.verify_core.specs.Prepared.{IsPrepared, AreGoalsOf, HaveGoals, gone_of, program_of}
 use Rattle.verify_core.specs.Verdict.{steps_of, IsAccepted, Settles, HasDerivation, Tells, IsVerified, IsVerdict}
-use Rattle.verify_core.proofs.Assembly.{sound, functions}
+use Rattle.verify_core.proofs.Assembly.{sound, labelling, functions}
 use Rattle.verify_core.proofs.ReachLaws.{within, got}
 use Rattle.mir_ir.specs.declared.body.Bodies.{Bodies}
 use Rattle.mir_machine.specs.Code.{code_of}
@@ -87,7 +87,7 @@ verified_is_good source p ps v prepared verdict f line c is_line verified is_con
     let bodies : Bodies = p.bodies in
     let lowers = lowering source p prepared in
     let all : IsVerified ps bodies p.functions f = verified_at ps bodies p.functions f line.verified (verdict.lines.told f line is_line) verified in
-    true_makes_good nothing_declared (program_of bodies p.contracts prepared.gones) (sound p.names prepared.typed.functions bodies p.contracts prepared.gones lowers)
+    true_makes_good nothing_declared (program_of bodies p.contracts prepared.gones) (labelling p.names prepared.typed.functions bodies p.contracts prepared.gones lowers)
     (functions p.names prepared.typed.functions bodies p.contracts prepared.gones lowers) f c is_contract
     (λ n b d reaches is_body is_d.
     let g = goals_at bodies p.contracts prepared.gones p.functions prepared.goals prepared.as_many n b d is_body is_d in
