@@ -57,7 +57,7 @@ listed_answers verb source p plan v short prepared (status, printed) = rw (statu
 -- ---- what the proofs decide
 
 pub reported_answers : (source : List ℕ) (p : Program) (o : Option Fetched) (proofs : List Proof) → AreProofs o proofs → (plan : Plan) →
-    (v : Verdict) × IsVerdict proofs p.bodies.bodies p.functions v × (plan.status ≡ status_of v) × (plan.bytes.items ≡ report_of source v) → AnswersProofs source p o plan.status plan.bytes.items
+    (v : Verdict) × IsVerdict proofs p.bodies p.functions v × (plan.status ≡ status_of v) × (plan.bytes.items ≡ report_of source v) → AnswersProofs source p o plan.status plan.bytes.items
 reported_answers source p o proofs are plan (v, is, status, printed) = rw (status, printed) (AnswersProofs.reported proofs are is)
 
 pub given_proofs : (bytes : List ℕ) (file : ProofFile) (proofs : List Proof) → length bytes ≤ most_proof_bytes → SpellsProofs [] bytes file → proofs ≡ file.proofs → AreProofs (Some (whole bytes)) proofs

@@ -70,7 +70,7 @@ module _ (source : List ℕ) (p : Program) (proofs : Option Fetched) where
   one_of_proofs (AnswersProofs.reported given are is) (AnswersProofs.proofs_refused {line} bytes g short bad) = absurd (bad_not_read proofs bytes line given g bad are)
   one_of_proofs (AnswersProofs.reported {v = one} given are is) (AnswersProofs.reported {v = other} given₂ are₂ is₂) =
       let e = same_proofs proofs given given₂ are are₂ in
-      let same : one ≡ other = verdict_once given₂ p.bodies.bodies p.functions one other (subst (λ (x : List Proof). IsVerdict x p.bodies.bodies p.functions one) e is) is₂ in
+      let same : one ≡ other = verdict_once given₂ p.bodies p.functions one other (subst (λ (x : List Proof). IsVerdict x p.bodies p.functions one) e is) is₂ in
       (ap status_of same, ap (report_of source) same)
 
 -- ---- one source

@@ -62,7 +62,7 @@ status_of v = if length v.left == 0 then 0 else 1
 pub data AnswersProofs (source : List ℕ) (p : Program) (proofs : Option Fetched) : ℕ → List ℕ → Type 0 where
   proofs_long : {n : ℕ} → proofs ≡ Some (longer n) → most_proof_bytes < n → AnswersProofs source p proofs 7 (limit_line (proofs_limit n))
   proofs_refused : {line : ℕ} (bytes : List ℕ) → proofs ≡ Some (whole bytes) → length bytes ≤ most_proof_bytes → IsFirstBadLine bytes line → AnswersProofs source p proofs 4 (proof_error_line line)
-  reported : {v : Verdict} (given : List Proof) → AreProofs proofs given → IsVerdict given p.bodies.bodies p.functions v → AnswersProofs source p proofs (status_of v) (report_of source v)
+  reported : {v : Verdict} (given : List Proof) → AreProofs proofs given → IsVerdict given p.bodies p.functions v → AnswersProofs source p proofs (status_of v) (report_of source v)
 
 -- ---- both
 

@@ -94,10 +94,10 @@ pub record Reports (shelf : Option Files) (a : Asked) (status : ℕ) (before aft
   pub proofs : List Proof
   pub are_proofs : AreProofs read proofs
   pub verdict : Verdict
-  pub is_verdict : IsVerdict proofs program.bodies.bodies program.functions verdict
+  pub is_verdict : IsVerdict proofs program.bodies program.functions verdict
   pub printed : Appends before after (report_of source verdict)
   pub complete : (status ≡ 0) ↔ Each (HasDerivation proofs) (obligations_in program.functions)
-  pub good : (f : ℕ) (line : FnLine) (c : Contract) → slice_get verdict.functions f ≡ Some line → line.verified ≡ true → slice_get program.contracts f ≡ Some c → Good nothing_declared program.bodies.bodies f c
+  pub good : (f : ℕ) (line : FnLine) (c : Contract) → slice_get verdict.functions f ≡ Some line → line.verified ≡ true → slice_get program.contracts f ≡ Some c → Good nothing_declared program.bodies f c
 
 -- the source is accepted, and what is printed is the list of the obligations of its program
 pub record ListsAll (shelf : Option Files) (a : Asked) (status : ℕ) (before after : Option (List ℕ)) : Type 0 where

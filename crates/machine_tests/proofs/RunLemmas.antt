@@ -27,7 +27,8 @@ use Rattle.mir_machine.specs.Frame.{State}
 use Rattle.mir_machine.specs.Step.{whole}
 use Rattle.mir_machine.specs.Typed.{Met, Typed, AreTyped, is_int, is_truth, none_typed, more_typed}
 use Rattle.mir_machine.specs.Good.{IsProper, called}
-use Rattle.machine_tests.specs.Run.{sample, absolute, calling, program, IsScalarOf, TakesOne}
+use Rattle.machine_tests.specs.Run.{sample, absolute, calling, alone, program, IsScalarOf, TakesOne}
+use Rattle.mir_ir.specs.declared.body.Bodies.{Bodies}
 
 -- ---- bodies, block by block
 
@@ -68,35 +69,40 @@ Sets = ℕ → ℕ → Locals
 abbrev StatementIsSound : Body → Sets → Label → ℕ → Statement → Type 0
 StatementIsSound b sets l i st = StatementIsTyped b st.kind × CanRun (sets l.0 i) st.kind × Within (sets l.0 (i + 1)) (run st.kind (sets l.0 i))
 
-record BlockIsSound (bodies : List Body) (b : Body) (sets : Sets) (l : Label) (k : Block) : Type 0 where
+record BlockIsSound (bodies : Bodies) (b : Body) (sets : Sets) (l : Label) (k : Block) : Type 0 where
   statements : EachStatement (StatementIsSound b sets l) 0 k.statements
   typed : EndIsTyped bodies b k.end.kind
   can_end : CanEnd (sets l.0 (length k.statements)) k.end.kind
   carries : Carries (λ l'. sets l'.0 0) (sets l.0 (length k.statements)) k.end.kind
 
-record BodyIsSound (bodies : List Body) (b : Body) (sets : Sets) : Type 0 where
+record BodyIsSound (bodies : Bodies) (b : Body) (sets : Sets) : Type 0 where
+  ground : b.types ≡ []
   named : length b.names ≡ length b.locals
   answers : b.params + 1 ≤ length b.locals
   begins : HasBlock b b.entry
   entry : Within (sets b.entry.0 0) (parameters b)
   blocks : EachBlock (BlockIsSound bodies b sets) b.blocks
 
-body_sound : (bodies : List Body) (b : Body) (sets : Sets) → BodyIsSound bodies b sets → IsTyped bodies b × IsInitialised b
-body_sound bodies b sets h = (
+body_sound : (bodies : Bodies) (b : Body) (sets : Sets) (f : ℕ) → b.id ≡ f → BodyIsSound bodies b sets → IsTyped bodies b × IsInitialised b × (b.id ≡ f)
+body_sound bodies b sets f numbered h = (
   record {
+    ground = h.ground;
     named = h.named;
     answers = h.answers;
     begins = h.begins;
     statements = λ l k i st is_block is_statement. (at l k i st is_block is_statement).0;
     ends = λ l k is_block. (found l k is_block).typed;
   },
-  record {
-    at = λ l i. sets l.0 i;
-    entry = h.entry;
-    statements = λ l k i st is_block is_statement. ((at l k i st is_block is_statement).1, (at l k i st is_block is_statement).2);
-    ends = λ l k is_block. (found l k is_block).can_end;
-    edges = λ l k is_block. (found l k is_block).carries;
-  },
+  (
+    λ l i. sets l.0 i,
+    record {
+      entry = h.entry;
+      statements = λ l k i st is_block is_statement. ((at l k i st is_block is_statement).1, (at l k i st is_block is_statement).2);
+      ends = λ l k is_block. (found l k is_block).can_end;
+      edges = λ l k is_block. (found l k is_block).carries;
+    },
+  ),
+  numbered,
 )
   where
     found : (l : Label) (k : Block) → block_in b.blocks l ≡ Some k → BlockIsSound bodies b sets l k
@@ -116,12 +122,13 @@ abbrev one_sets : Body → Rvalue → Sets
 one_sets b r l zero = parameters b
 one_sets b r l (suc i) = with 0 (evaluated r (parameters b))
 
-pub sample_sound : (answer takes : Ty) (r : Rvalue) → RvalueHas (sample answer takes r) r answer → CanEvaluate (parameters (sample answer takes r)) r → AreSound (sample answer takes r ∷ [])
+pub sample_sound : (answer takes : Ty) (r : Rvalue) → RvalueHas (sample answer takes r) r answer → CanEvaluate (parameters (sample answer takes r)) r → AreSound (alone (sample answer takes r))
 sample_sound answer takes r has can (suc f) b e = absurd (cc)
 sample_sound answer takes r has can zero b e =
     let s = sample answer takes r in
-    subst (λ c. IsTyped (s ∷ []) c × IsInitialised c) (same_Some _ _ e)
-    (body_sound (s ∷ []) s (one_sets s r) (record {
+    subst (λ c. IsTyped (alone s) c × IsInitialised c × (c.id ≡ 0)) (same_Some _ _ e)
+    (body_sound (alone s) s (one_sets s r) 0 refl (record {
+      ground = refl;
       named = refl;
       answers = omega arith;
       begins = (_, refl);
@@ -137,17 +144,17 @@ sample_sound answer takes r has can zero b e =
       );
     }))
 
-pub binary_sound : (k : IntKind) (op : BinaryOp) (n : ℤ) → fits k n ≡ true → AreSound (sample (operation_ty op k) (int k) (Binary op (Copy (whole 1)) (Const (lit.Int n k))) ∷ [])
+pub binary_sound : (k : IntKind) (op : BinaryOp) (n : ℤ) → fits k n ≡ true → AreSound (alone (sample (operation_ty op k) (int k) (Binary op (Copy (whole 1)) (Const (lit.Int n k)))))
 binary_sound k op n n_fits =
     sample_sound (operation_ty op k) (int k) (Binary op (Copy (whole 1)) (Const (lit.Int n k))) (int k, (refl, refl), (refl, n_fits), refl) (refl, tt)
 
-pub neg_sound : (k : IntKind) → IsSigned k → AreSound (sample (int k) (int k) (Neg (Copy (whole 1))) ∷ [])
+pub neg_sound : (k : IntKind) → IsSigned k → AreSound (alone (sample (int k) (int k) (Neg (Copy (whole 1)))))
 neg_sound k signed = sample_sound (int k) (int k) (Neg (Copy (whole 1))) (k, signed, (refl, refl), refl) refl
 
-pub not_sound : AreSound (sample bool bool (Not (Copy (whole 1))) ∷ [])
+pub not_sound : AreSound (alone (sample bool bool (Not (Copy (whole 1)))))
 not_sound = sample_sound bool bool (Not (Copy (whole 1))) ((refl, refl), refl) refl
 
-pub unit_sound : AreSound (sample unit_ty (int I32) (Make Tuple []) ∷ [])
+pub unit_sound : AreSound (alone (sample unit_ty (int I32) (Make Tuple [])))
 unit_sound = sample_sound unit_ty (int I32) (Make Tuple []) (refl, refl, refl) tt
 
 -- ---- the absolute value, and a call of it
@@ -184,6 +191,7 @@ only_answer set h x inside = by_test (x == 0) refl inside
 
 absolute_sound : BodyIsSound program absolute absolute_sets
 absolute_sound = record {
+  ground = refl;
   named = refl;
   answers = omega arith;
   begins = (_, refl);
@@ -221,6 +229,7 @@ calling_sets (suc l) i = with 0 (parameters calling)
 
 calling_sound : BodyIsSound program calling calling_sets
 calling_sound = record {
+  ground = refl;
   named = refl;
   answers = omega arith;
   begins = (_, refl);
@@ -228,7 +237,7 @@ calling_sound = record {
   blocks = (
     record {
       statements = tt;
-      typed = ((absolute, int I32, refl, ((refl, refl), tt), refl, (refl, refl)), (_, refl));
+      typed = ((absolute, int I32, refl, ((refl, refl), tt), refl, (refl, refl), refl), (_, refl));
       can_end = (refl, tt);
       carries = λ x h. h;
     },
@@ -237,8 +246,8 @@ calling_sound = record {
 }
 
 pub program_sound : AreSound program
-program_sound zero b e = subst (λ c. IsTyped program c × IsInitialised c) (same_Some _ _ e) (body_sound program absolute absolute_sets absolute_sound)
-program_sound (suc zero) b e = subst (λ c. IsTyped program c × IsInitialised c) (same_Some _ _ e) (body_sound program calling calling_sets calling_sound)
+program_sound zero b e = subst (λ c. IsTyped program c × IsInitialised c × (c.id ≡ 0)) (same_Some _ _ e) (body_sound program absolute absolute_sets 0 refl absolute_sound)
+program_sound (suc zero) b e = subst (λ c. IsTyped program c × IsInitialised c × (c.id ≡ 1)) (same_Some _ _ e) (body_sound program calling calling_sets 1 refl calling_sound)
 program_sound (suc (suc f)) b e = absurd (cc)
 
 -- ---- calls
@@ -249,7 +258,7 @@ scalar_typed s bool (Truth b) h = is_truth
 scalar_typed s _ _ h = absurd h
 
 -- a call at one argument, with no trees outside
-pub one_call : (bodies : List Body) (f : ℕ) (θ : Tys) (args held : List (Tree (Unit {0}))) (t : Tree (Unit {0})) → θ ≡ no_tys → args ≡ t ∷ [] → held ≡ [] → TakesOne bodies f t →
+pub one_call : (bodies : Bodies) (f : ℕ) (θ : Tys) (args held : List (Tree (Unit {0}))) (t : Tree (Unit {0})) → θ ≡ no_tys → args ≡ t ∷ [] → held ≡ [] → TakesOne bodies f t →
     (Θ : Theory) × (b : Body) × (met : List Met) × IsProper Θ bodies f θ args held b met
 one_call bodies f θ args held t is_ground is_t is_empty (b, ty, is_body, params, scalar) = (
   nothing_declared,
@@ -267,39 +276,39 @@ one_call bodies f θ args held t is_ground is_t is_empty (b, ty, is_body, params
 
 -- ---- what tests make
 
-pub binary_samples : (bodies : List Body) (answer takes : Ty) (first : Operand) (k : IntKind) (op : BinaryOp) (n : ℤ) → bodies ≡ sample answer takes (Binary op first (Const (lit.Int n k))) ∷ [] → answer ≡ operation_ty op k → takes ≡ int k → first ≡ Copy (whole 1) → fits k n ≡ true → AreSound bodies
+pub binary_samples : (bodies : Bodies) (answer takes : Ty) (first : Operand) (k : IntKind) (op : BinaryOp) (n : ℤ) → bodies ≡ alone (sample answer takes (Binary op first (Const (lit.Int n k)))) → answer ≡ operation_ty op k → takes ≡ int k → first ≡ Copy (whole 1) → fits k n ≡ true → AreSound bodies
 binary_samples bodies answer takes first k op n are is_answer is_takes is_first n_fits =
     subst AreSound
-    (sym (are ∙ ap (λ ty. sample ty takes (Binary op first (Const (lit.Int n k))) ∷ []) is_answer
-    ∙ ap (λ ty. sample (operation_ty op k) ty (Binary op first (Const (lit.Int n k))) ∷ []) is_takes
-    ∙ ap (λ o. sample (operation_ty op k) (int k) (Binary op o (Const (lit.Int n k))) ∷ []) is_first))
+    (sym (are ∙ ap (λ ty. alone (sample ty takes (Binary op first (Const (lit.Int n k))))) is_answer
+    ∙ ap (λ ty. alone (sample (operation_ty op k) ty (Binary op first (Const (lit.Int n k))))) is_takes
+    ∙ ap (λ o. alone (sample (operation_ty op k) (int k) (Binary op o (Const (lit.Int n k))))) is_first))
     (binary_sound k op n n_fits)
 
-pub neg_samples : (bodies : List Body) (answer takes : Ty) (first : Operand) (k : IntKind) → bodies ≡ sample answer takes (Neg first) ∷ [] → answer ≡ int k → takes ≡ int k → first ≡ Copy (whole 1) → IsSigned k → AreSound bodies
+pub neg_samples : (bodies : Bodies) (answer takes : Ty) (first : Operand) (k : IntKind) → bodies ≡ alone (sample answer takes (Neg first)) → answer ≡ int k → takes ≡ int k → first ≡ Copy (whole 1) → IsSigned k → AreSound bodies
 neg_samples bodies answer takes first k are is_answer is_takes is_first signed =
     subst AreSound
-    (sym (are ∙ ap (λ ty. sample ty takes (Neg first) ∷ []) is_answer ∙ ap (λ ty. sample (int k) ty (Neg first) ∷ []) is_takes ∙ ap (λ o. sample (int k) (int k) (Neg o) ∷ []) is_first))
+    (sym (are ∙ ap (λ ty. alone (sample ty takes (Neg first))) is_answer ∙ ap (λ ty. alone (sample (int k) ty (Neg first))) is_takes ∙ ap (λ o. alone (sample (int k) (int k) (Neg o))) is_first))
     (neg_sound k signed)
 
-pub not_samples : (bodies : List Body) (first : Operand) → bodies ≡ sample bool bool (Not first) ∷ [] → first ≡ Copy (whole 1) → AreSound bodies
-not_samples bodies first are is_first = subst AreSound (sym (are ∙ ap (λ o. sample bool bool (Not o) ∷ []) is_first)) not_sound
+pub not_samples : (bodies : Bodies) (first : Operand) → bodies ≡ alone (sample bool bool (Not first)) → first ≡ Copy (whole 1) → AreSound bodies
+not_samples bodies first are is_first = subst AreSound (sym (are ∙ ap (λ o. alone (sample bool bool (Not o))) is_first)) not_sound
 
-pub unit_samples : (bodies : List Body) (answer takes : Ty) (os : List Operand) → bodies ≡ sample answer takes (Make Tuple os) ∷ [] → answer ≡ unit_ty → takes ≡ int I32 → os ≡ [] → AreSound bodies
+pub unit_samples : (bodies : Bodies) (answer takes : Ty) (os : List Operand) → bodies ≡ alone (sample answer takes (Make Tuple os)) → answer ≡ unit_ty → takes ≡ int I32 → os ≡ [] → AreSound bodies
 unit_samples bodies answer takes os are is_answer is_takes none =
     subst AreSound
-    (sym (are ∙ ap (λ ty. sample ty takes (Make Tuple os) ∷ []) is_answer ∙ ap (λ ty. sample unit_ty ty (Make Tuple os) ∷ []) is_takes ∙ ap (λ qs. sample unit_ty (int I32) (Make Tuple qs) ∷ []) none))
+    (sym (are ∙ ap (λ ty. alone (sample ty takes (Make Tuple os))) is_answer ∙ ap (λ ty. alone (sample unit_ty ty (Make Tuple os))) is_takes ∙ ap (λ qs. alone (sample unit_ty (int I32) (Make Tuple qs))) none))
     unit_sound
 
-pub sample_takes : (bodies : List Body) (answer takes : Ty) (r : Rvalue) (t : Tree (Unit {0})) (k : IntKind) (x : ℤ) → bodies ≡ sample answer takes r ∷ [] → takes ≡ int k → t ≡ Int x → fits k x ≡ true → TakesOne bodies 0 t
+pub sample_takes : (bodies : Bodies) (answer takes : Ty) (r : Rvalue) (t : Tree (Unit {0})) (k : IntKind) (x : ℤ) → bodies ≡ alone (sample answer takes r) → takes ≡ int k → t ≡ Int x → fits k x ≡ true → TakesOne bodies 0 t
 sample_takes bodies answer takes r t k x are is_takes is_x x_fits =
-    (sample answer takes r, int k, ap (λ bs. slice_get bs 0) are, ap (λ ty. and_ty (instance no_tys ty) no_tys) is_takes, subst (IsScalarOf (int k)) (sym is_x) x_fits)
+    (sample answer takes r, int k, ap (λ (bs : Bodies). slice_get bs.bodies 0) are, ap (λ ty. and_ty (instance no_tys ty) no_tys) is_takes, subst (IsScalarOf (int k)) (sym is_x) x_fits)
 
-pub truth_takes : (bodies : List Body) (r : Rvalue) (b : Bool) → bodies ≡ sample bool bool r ∷ [] → TakesOne bodies 0 (Truth b)
-truth_takes bodies r b are = (sample bool bool r, bool, ap (λ bs. slice_get bs 0) are, refl, tt)
+pub truth_takes : (bodies : Bodies) (r : Rvalue) (b : Bool) → bodies ≡ alone (sample bool bool r) → TakesOne bodies 0 (Truth b)
+truth_takes bodies r b are = (sample bool bool r, bool, ap (λ (bs : Bodies). slice_get bs.bodies 0) are, refl, tt)
 
-pub program_takes : (bodies : List Body) (f : ℕ) (t : Tree (Unit {0})) (x : ℤ) → bodies ≡ program → f < 2 → t ≡ Int x → fits I32 x ≡ true → TakesOne bodies f t
-program_takes bodies zero t x are below is_x x_fits = (absolute, int I32, ap (λ bs. slice_get bs 0) are, refl, subst (IsScalarOf (int I32)) (sym is_x) x_fits)
-program_takes bodies (suc zero) t x are below is_x x_fits = (calling, int I32, ap (λ bs. slice_get bs 1) are, refl, subst (IsScalarOf (int I32)) (sym is_x) x_fits)
+pub program_takes : (bodies : Bodies) (f : ℕ) (t : Tree (Unit {0})) (x : ℤ) → bodies ≡ program → f < 2 → t ≡ Int x → fits I32 x ≡ true → TakesOne bodies f t
+program_takes bodies zero t x are below is_x x_fits = (absolute, int I32, ap (λ (bs : Bodies). slice_get bs.bodies 0) are, refl, subst (IsScalarOf (int I32)) (sym is_x) x_fits)
+program_takes bodies (suc zero) t x are below is_x x_fits = (calling, int I32, ap (λ (bs : Bodies). slice_get bs.bodies 1) are, refl, subst (IsScalarOf (int I32)) (sym is_x) x_fits)
 program_takes bodies (suc (suc f)) t x are below is_x x_fits = absurd (omega arith)
 
 pub fits_i32 : (z : ℤ) → FitsSigned w32 z → fits I32 z ≡ true

@@ -8,8 +8,6 @@ use Rattle.logic_term.specs.declared.obligation.Contract.{Contract}
 use Rattle.logic_term.specs.Ty.{Ty}
 use Rattle.mir_ir.specs.declared.place.Operand.{Operand}
 use Rattle.mir_ir.specs.declared.statement.Statement.{Statement}
-use Rattle.mir_ir.specs.declared.terminator.FnId.TheVariants.{Body as OfBody}
-use Rattle.mir_ir.specs.declared.terminator.Callee.TheVariants.{Function}
 use Rattle.mir_ir.specs.declared.terminator.TerminatorKind.{TerminatorKind}
 use Rattle.mir_ir.specs.declared.terminator.TerminatorKind.TheVariants.{Call}
 use Rattle.mir_ir.specs.declared.body.Block.{Block}
@@ -54,7 +52,7 @@ label_found P (l ∷ ls) m h e = by_test (label_found P ls m h.1) (l.0 == m.0) r
 
 -- a call at the block's end has all that the walk looks up
 abbrev EndIsKnown : Setting → TerminatorKind → Type 0
-EndIsKnown w (Call p (Function (OfBody f)) args l) = IsKnown w f p
+EndIsKnown w (Call p callee types args l) = IsKnown w callee p
 EndIsKnown w _ = Unit {0}
 
 record BlockIsLaidOut (w : Setting) (l : Label) (k : Block) : Type 0 where
@@ -69,7 +67,7 @@ can_walk w entry is_entry at_entry each = record {
     at_entry = at_entry;
     edges = λ l m k is named. label_found (Leads w.body l k) (targets k.end.kind) m (found l k is).leads named;
   };
-  calls = λ l k p f args m is ends. subst (EndIsKnown w) ends (found l k is).known;
+  calls = λ l k p callee types args m is ends. subst (EndIsKnown w) ends (found l k is).known;
 }
   where
     found : (l : Label) (k : Block) → block_in w.body.blocks l ≡ Some k → BlockIsLaidOut w l k
@@ -122,7 +120,7 @@ calling_can_walk w ty tys args c is has =
     (can_walk (record w { body = calling ty tys args }) _ refl refl (
       record {
         leads = (on _ refl (omega arith) (record { outer = []; inner = []; is_around = refl; within = refl }), tt);
-        known = record { callee = (c, has); answer = (ty, refl) };
+        known = record { contract = (c, has); answer = (ty, refl) };
       },
       (record { leads = tt; known = tt }, tt),
     ))

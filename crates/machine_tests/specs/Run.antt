@@ -22,6 +22,7 @@ use Rattle.mir_ir.specs.declared.body.Body.{Body}
 use Rattle.mir_ir.specs.Body.{param_tys}
 use Rattle.mir_machine.specs.Tree.{Tree, Int, Truth}
 use Rattle.mir_machine.specs.Step.{whole}
+use Rattle.mir_ir.specs.declared.body.Bodies.{Bodies}
 
 -- the one span of all samples
 abbrev pub sample_span : Span
@@ -36,21 +37,22 @@ block_of sts end = record { head = None; nest = []; statements = sts; end = reco
 abbrev pub label : ℕ → Label
 label n = record { 0 = n }
 
--- a body of one parameter, whose first block has label 0
-abbrev pub body_of : List Ty → List Name → List (Label × Block) → Body
-body_of tys names blocks = record { owner = codes "f"; params = 1; locals = tys; names = names; entry = label 0; blocks = blocks; span = sample_span }
+-- body n of one parameter, whose first block has label 0
+abbrev pub body_of : ℕ → List Ty → List Name → List (Label × Block) → Body
+body_of id tys names blocks =
+    record { id = id; owner = codes "f"; types = []; params = 1; locals = tys; names = names; outlives = []; entry = label 0; blocks = blocks; span = sample_span }
 
 abbrev pub name : ℕ → Name
 name n = record { 0 = n }
 
 -- the right side is the answer
 abbrev pub sample : Ty → Ty → Rvalue → Body
-sample answer takes r = body_of (answer ∷ takes ∷ []) (name 100 ∷ name 101 ∷ []) ((label 0, block_of (assigned 0 r ∷ []) Return) ∷ [])
+sample answer takes r = body_of 0 (answer ∷ takes ∷ []) (name 100 ∷ name 101 ∷ []) ((label 0, block_of (assigned 0 r ∷ []) Return) ∷ [])
 
 -- of an i32, -x where it is negative, and else x
 abbrev pub absolute : Body
 absolute =
-    body_of (int I32 ∷ int I32 ∷ bool ∷ []) (name 100 ∷ name 101 ∷ name 102 ∷ []) (
+    body_of 0 (int I32 ∷ int I32 ∷ bool ∷ []) (name 100 ∷ name 101 ∷ name 102 ∷ []) (
     (label 0, block_of (assigned 2 (Binary Lt (Copy (whole 1)) (Const (lit.Int (pos 0) I32))) ∷ []) (If (Move (whole 2)) (label 1) (label 2)))
     ∷ (label 1, block_of (assigned 0 (Neg (Copy (whole 1))) ∷ record { span = sample_span; kind = Dead 1 } ∷ []) (Goto (label 3)))
     ∷ (label 2, block_of (assigned 0 (Use (Move (whole 1))) ∷ []) (Goto (label 3)))
@@ -61,14 +63,21 @@ absolute =
 -- what body 0 answers of the argument
 abbrev pub calling : Body
 calling =
-    body_of (int I32 ∷ int I32 ∷ []) (name 100 ∷ name 101 ∷ []) (
-    (label 0, block_of [] (Call (whole 0) (Function (fn_id.Body 0)) (Copy (whole 1) ∷ []) (label 1)))
+    body_of 1 (int I32 ∷ int I32 ∷ []) (name 100 ∷ name 101 ∷ []) (
+    (label 0, block_of [] (Call (whole 0) (Function (fn_id.Body 0)) [] (Copy (whole 1) ∷ []) (label 1)))
     ∷ (label 1, block_of [] Return)
     ∷ []
     )
 
-abbrev pub program : List Body
-program = absolute ∷ calling ∷ []
+-- these bodies, and nothing that is declared beside them
+abbrev pub of_bodies : List Body → Bodies
+of_bodies bs = record { bodies = bs; decls = []; impls = []; closures = [] }
+
+abbrev pub alone : Body → Bodies
+alone b = of_bodies (b ∷ [])
+
+abbrev pub program : Bodies
+program = of_bodies (absolute ∷ calling ∷ [])
 
 -- ---- calls of them
 
@@ -79,5 +88,5 @@ IsScalarOf bool (Truth b) = Unit {0}
 IsScalarOf _ _ = ⊥
 
 -- the body has one parameter, and the tree is one of its type
-abbrev pub TakesOne : List Body → ℕ → Tree (Unit {0}) → Type 0
-TakesOne bodies f t = (b : Body) × (ty : Ty) × (slice_get bodies f ≡ Some b) × (param_tys b no_tys ≡ and_ty ty no_tys) × IsScalarOf ty t
+abbrev pub TakesOne : Bodies → ℕ → Tree (Unit {0}) → Type 0
+TakesOne bodies f t = (b : Body) × (ty : Ty) × (slice_get bodies.bodies f ≡ Some b) × (param_tys b no_tys ≡ and_ty ty no_tys) × IsScalarOf ty t

@@ -30,7 +30,8 @@ abbrev pub sample_names : List Name
 sample_names = record { 0 = 100 } ∷ record { 0 = 101 } ∷ record { 0 = 102 } ∷ []
 
 abbrev pub body_of : List Ty → List (Label × Block) → Body
-body_of tys blocks = record { owner = codes "f"; params = 1; locals = tys; names = sample_names; entry = label 0; blocks = blocks; span = end_span }
+body_of tys blocks =
+    record { id = 0; owner = codes "f"; types = []; params = 1; locals = tys; names = sample_names; outlives = []; entry = label 0; blocks = blocks; span = end_span }
 
 abbrev pub whole : ℕ → Place
 whole x = record { local = x; path = [] }
@@ -64,7 +65,7 @@ looping tys h o sts =
 abbrev pub calling : Ty → List Ty → List Operand → Body
 calling ty tys args =
     body_of (ty ∷ tys) (
-    (label 0, block_of None [] [] (Call (whole 0) (Function (OfBody 0)) args (label 1)))
+    (label 0, block_of None [] [] (Call (whole 0) (Function (OfBody 0)) [] args (label 1)))
     ∷ (label 1, block_of None [] [] Return)
     ∷ []
     )

@@ -32,10 +32,13 @@ fn body_of(alloc: Global, labels: &[u32]) -> Result<Body, NoMemory>
         blocks.push((Label(*label), returning(alloc, i as u32)))?;
     }
     Ok(Body {
+        id: 0,
         owner: Text::from_bytes(alloc, b"f")?,
+        types: Items::new(alloc),
         params: 0,
         locals: Items::new(alloc),
         names: Items::new(alloc),
+        outlives: Items::new(alloc),
         entry: Label(0),
         blocks,
         span: Span { start: 0, end: 9 },

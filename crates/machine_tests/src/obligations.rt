@@ -60,10 +60,13 @@ fn body(alloc: Global, locals: Items<Ty>, blocks: Items<(Label, Block)>) -> Resu
     ensures { IfOk result (λ b. b ≡ body_of locals blocks) }
 {
     Ok(Body {
+        id: 0,
         owner: Text::from_bytes(alloc, b"f")?,
+        types: Items::new(alloc),
         params: 1,
         locals,
         names: Items::from_slice(alloc, &[Name(100), Name(101), Name(102)])?,
+        outlives: Items::new(alloc),
         entry: Label(0),
         blocks,
         span: END,
@@ -129,7 +132,7 @@ fn calling(alloc: Global, answer: Ty, param: Ty, args: Items<Operand>) -> Result
         path: Items::new(alloc),
     };
     let function = Callee::Function(FnId::Body(0));
-    let call = TerminatorKind::Call(place, function, args, Label(1));
+    let call = TerminatorKind::Call(place, function, Items::new(alloc), args, Label(1));
     let mut blocks = one(alloc, (Label(0), plain(alloc, Items::new(alloc), call)))?;
     blocks.push((
         Label(1),

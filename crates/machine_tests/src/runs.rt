@@ -4,7 +4,7 @@ ghost use Rattle.mir_ir.specs.WellFormed.{operation_ty, IsSigned, AreSound};
 ghost use Rattle.mir_ir.specs.declared.place.Operand.TheVariants.{Copy};
 ghost use Rattle.mir_machine.specs.Tree.{Int};
 ghost use Rattle.mir_machine.specs.Step.{whole};
-ghost use Rattle.machine_tests.specs.Run.{assigned, block_of, sample, absolute, calling, program, TakesOne};
+ghost use Rattle.machine_tests.specs.Run.{assigned, block_of, of_bodies, alone, sample, absolute, calling, program, TakesOne};
 
 use logic_term::{Ctor, Instance, Label, Ty, TyNode};
 use mir_ir::{
@@ -73,6 +73,18 @@ fn returning(alloc: Global) -> Block
     block(alloc, Items::new(alloc), TerminatorKind::Return)
 }
 
+/// The bodies, and nothing that is declared beside them.
+fn of_bodies(alloc: Global, bodies: Items<Body>) -> Bodies
+    ensures { result ≡ of_bodies bodies }
+{
+    Bodies {
+        bodies,
+        decls: Items::new(alloc),
+        impls: Items::new(alloc),
+        closures: Items::new(alloc),
+    }
+}
+
 // ---- bodies of one statement
 
 fn operation_ty(op: BinaryOp, kind: IntKind) -> Ty
@@ -88,7 +100,7 @@ fn operation_ty(op: BinaryOp, kind: IntKind) -> Ty
 
 /// `fn f(x: param) -> answer { value }`
 fn sample(alloc: Global, answer: Ty, param: Ty, value: Rvalue) -> Result<Bodies, NoMemory>
-    ensures { IfOk result (λ p. p.bodies ≡ sample answer param value ∷ []) }
+    ensures { IfOk result (λ p. p ≡ alone (sample answer param value)) }
 {
     let statements = one(alloc, assign(alloc, 0, value))?;
     let block = block(alloc, statements, TerminatorKind::Return);
@@ -96,17 +108,18 @@ fn sample(alloc: Global, answer: Ty, param: Ty, value: Rvalue) -> Result<Bodies,
     locals.push(answer)?;
     locals.push(param)?;
     let body = Body {
+        id: 0,
         owner: Text::from_bytes(alloc, b"f")?,
+        types: Items::new(alloc),
         params: 1,
         locals,
         names: Items::from_slice(alloc, &[Name(100), Name(101)])?,
+        outlives: Items::new(alloc),
         entry: Label(0),
         blocks: one(alloc, (Label(0), block))?,
         span: SPAN,
     };
-    Ok(Bodies {
-        bodies: one(alloc, body)?,
-    })
+    Ok(of_bodies(alloc, one(alloc, body)?))
 }
 
 fn integer(z: i128) -> Tree
@@ -124,8 +137,8 @@ fn start<'a>(
     f: u32,
     value: Tree,
 ) -> Result<Machine<'a, NoIntrinsics>, NoMemory>
-    requires sound { AreSound bodies.now.bodies }
-    requires takes_one { TakesOne bodies.now.bodies f value }
+    requires sound { AreSound bodies.now }
+    requires takes_one { TakesOne bodies.now f value }
 {
     let args = Args {
         values: one(alloc, value)?,
@@ -173,10 +186,13 @@ fn absolute(alloc: Global) -> Result<Body, NoMemory>
     locals.push(Ty::int(IntKind::I32))?;
     locals.push(Ty { node: TyNode::Bool })?;
     Ok(Body {
+        id: 0,
         owner: Text::from_bytes(alloc, b"f")?,
+        types: Items::new(alloc),
         params: 1,
         locals,
         names: Items::from_slice(alloc, &[Name(100), Name(101), Name(102)])?,
+        outlives: Items::new(alloc),
         entry: Label(0),
         blocks,
         span: SPAN,
@@ -190,6 +206,7 @@ fn calling(alloc: Global) -> Result<Body, NoMemory>
     let call = TerminatorKind::Call(
         place(alloc, 0),
         Callee::Function(FnId::Body(0)),
+        Items::new(alloc),
         args,
         Label(1),
     );
@@ -200,10 +217,13 @@ fn calling(alloc: Global) -> Result<Body, NoMemory>
     locals.push(Ty::int(IntKind::I32))?;
     locals.push(Ty::int(IntKind::I32))?;
     Ok(Body {
+        id: 1,
         owner: Text::from_bytes(alloc, b"f")?,
+        types: Items::new(alloc),
         params: 1,
         locals,
         names: Items::from_slice(alloc, &[Name(100), Name(101)])?,
+        outlives: Items::new(alloc),
         entry: Label(0),
         blocks,
         span: SPAN,
@@ -211,11 +231,11 @@ fn calling(alloc: Global) -> Result<Body, NoMemory>
 }
 
 fn program(alloc: Global) -> Result<Bodies, NoMemory>
-    ensures { IfOk result (λ p. p.bodies ≡ program) }
+    ensures { IfOk result (λ p. p ≡ program) }
 {
     let mut bodies = one(alloc, absolute(alloc)?)?;
     bodies.push(calling(alloc)?)?;
-    Ok(Bodies { bodies })
+    Ok(of_bodies(alloc, bodies))
 }
 
 // ---- runs

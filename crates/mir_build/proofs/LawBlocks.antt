@@ -16,6 +16,7 @@ use Rattle.mir_build.proofs.LawNames.{HeadFits}
 use Rattle.mir_build.proofs.LawTyped.{EndFits, is_local, AreTyped}
 use Rattle.mir_build.proofs.LawLayout.{blocks_of}
 use Rattle.mir_build.proofs.LawInit.{EachBlock}
+use Rattle.mir_ir.specs.declared.body.Bodies.{Bodies}
 
 abbrev pub AllTyped : Body → List Statement → Type 0
 AllTyped b [] = Unit {0}
@@ -33,12 +34,12 @@ typed_at b [] i s h e = absurd (cc)
 typed_at b (u ∷ sts) zero s h e = subst (λ (z : Statement). StatementIsTyped b z.kind) (some_same e) h.0
 typed_at b (u ∷ sts) (suc i) s h e = typed_at b sts i s h.1 e
 
-pub record BlockTyped (bodies : List Body) (b : Body) (e : Label × Block) : Type 0 where
+pub record BlockTyped (bodies : Bodies) (b : Body) (e : Label × Block) : Type 0 where
   pub statements : AllTyped b e.1.statements
   pub end : EndFits bodies b e.1.end.kind
   pub head : HeadFits (is_local b) e.1.head
 
-pub typed_blocks : (bodies : List Body) (b : Body) (s : Span) (xs : List Line) (o : Open) → AreTyped bodies b xs → AllTyped b o.statements → HeadFits (is_local b) o.title.head → EachBlock (BlockTyped bodies b) (blocks_of o xs (ends s Return))
+pub typed_blocks : (bodies : Bodies) (b : Body) (s : Span) (xs : List Line) (o : Open) → AreTyped bodies b xs → AllTyped b o.statements → HeadFits (is_local b) o.title.head → EachBlock (BlockTyped bodies b) (blocks_of o xs (ends s Return))
 typed_blocks bodies b s [] o p h g = (record { statements = h; end = tt; head = g }, tt)
 typed_blocks bodies b s (Puts st ∷ xs) o p h g = typed_blocks bodies b s xs (longer o st) p.1 (all_typed_more b o.statements st h p.0) g
 typed_blocks bodies b s (Makes x t ∷ xs) o p h g = typed_blocks bodies b s xs o p.1 h g
@@ -59,8 +60,8 @@ second_among l m = by_test (l.0 == m.0) (first_among m [])
     by_test true e = refl
     by_test false e = e
 
-pub end_typed : (bodies : List Body) (b : Body) (k : TerminatorKind) → EndFits bodies b k → ((m : Label) → among m (targets k) ≡ true → HasBlock b m) → EndIsTyped bodies b k
+pub end_typed : (bodies : Bodies) (b : Body) (k : TerminatorKind) → EndFits bodies b k → ((m : Label) → among m (targets k) ≡ true → HasBlock b m) → EndIsTyped bodies b k
 end_typed bodies b (Goto l) h g = g l (first_among l [])
 end_typed bodies b (If o l m) h g = (h, g l (first_among l (m ∷ [])), g m (second_among l m))
-end_typed bodies b (Call p f os l) h g = (h, g l (first_among l []))
+end_typed bodies b (Call p f types os l) h g = (h, g l (first_among l []))
 end_typed bodies b Return h g = tt

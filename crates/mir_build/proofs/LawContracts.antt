@@ -14,7 +14,8 @@ use Rattle.type_check.specs.declared.program.TypedClause.{TypedClause}
 use Rattle.type_check.specs.declared.program.TypedFunction.{TypedFunction}
 use Rattle.type_check.specs.VariableNames.{variable_name, answer_name}
 use Rattle.type_check.specs.WellTyped.{IsVariable, SpeaksOf, SpeaksOfAnswer, ClauseSpeaksOf, EachSpeaks, ClausesSpeak, FunctionFits}
-use Rattle.mir_build.specs.Laws.{ContractSpeaks, IsOneOf}
+use Rattle.mir_build.specs.Laws.{EnsuresAreWhole}
+use Rattle.mir_ir.specs.Names.{ContractSpeaks, IsOneOf}
 use Rattle.mir_build.specs.Lowering.{counted, contract_of, formula, formula_span, formulas_of, picked, LowersTo}
 use Rattle.mir_build.proofs.LawFunction.{counted_length, locals_length}
 use Rattle.mir_build.proofs.LawLocals.{counted_at, counted_get, local_no_variable, variable_number, variable_no_answer, variable_not_new, small_named}
@@ -85,14 +86,18 @@ module _ (owner : List ℕ) (f : TypedFunction) (b : Body) (gone : Initialised) 
   or_answer x n (inl h) = one_of x h
   or_answer x n (inr e) = absurd (n (ap (λ (z : Name). z.0) e))
 
-  pub contract_speaks : ContractSpeaks b (contract_of f)
-  contract_speaks = record {
-    count = map_length variable_name (counted 0 f.signature.params) ∙ counted_length 0 f.signature.params ∙ sym l.params;
-    apart = λ i j x y e g q. variable_number i j (sym (variable_at i x e).0 ∙ q ∙ (variable_at j y g).0);
-    no_answer = λ i n e q. variable_no_answer i (variable_at i n e).1 (sym (variable_at i n e).0 ∙ q);
-    no_local = λ i x n m e g q. local_no_variable x i (small_named owner f b gone l x m g).1 (sym (small_named owner f b gone l x m g).0 ∙ sym q ∙ (variable_at i n e).0);
-    none_is_new = λ i n e q. variable_not_new i (variable_at i n e).1 (sym (variable_at i n e).0 ∙ q);
-    before = λ j t e x h. one_of x (before_at (length f.signature.params) (formulas_of Requires f.clauses) (before_speaks (length f.signature.params) f.clauses fits.clauses) j t e x h);
-    over = λ j t e x h n. or_answer x n (over_at (length f.signature.params) (formulas_of Ensures f.clauses) (over_speaks (length f.signature.params) f.clauses fits.clauses) j t e x h);
-    spans = spans_behind (formulas_of Requires f.clauses) (formulas_of Ensures f.clauses);
-  }
+  pub contract_speaks : ContractSpeaks b (contract_of f) × EnsuresAreWhole (contract_of f)
+  contract_speaks = (
+    record {
+      count = map_length variable_name (counted 0 f.signature.params) ∙ counted_length 0 f.signature.params ∙ sym l.params;
+      apart = λ i j x y e g q. variable_number i j (sym (variable_at i x e).0 ∙ q ∙ (variable_at j y g).0);
+      no_local = λ i x n m e g q. local_no_variable x i (small_named owner f b gone l x m g).1 (sym (small_named owner f b gone l x m g).0 ∙ sym q ∙ (variable_at i n e).0);
+      none_is_new = λ i n e q. variable_not_new i (variable_at i n e).1 (sym (variable_at i n e).0 ∙ q);
+      before = λ j t e x h. one_of x (before_at (length f.signature.params) (formulas_of Requires f.clauses) (before_speaks (length f.signature.params) f.clauses fits.clauses) j t e x h);
+      over = λ j t e x h n. or_answer x n (over_at (length f.signature.params) (formulas_of Ensures f.clauses) (over_speaks (length f.signature.params) f.clauses fits.clauses) j t e x h);
+    },
+    record {
+      no_answer = λ i n e q. variable_no_answer i (variable_at i n e).1 (sym (variable_at i n e).0 ∙ q);
+      spans = spans_behind (formulas_of Requires f.clauses) (formulas_of Ensures f.clauses);
+    },
+  )

@@ -23,9 +23,10 @@ use Rattle.mir_build.proofs.LawLaid.{weight, Apart}
 use Rattle.mir_build.proofs.LawSets.{Scoped, laid, laid_rest}
 use Rattle.mir_build.proofs.LawTyped.{AreTyped, MadeFits, ScopeFits}
 use Rattle.mir_build.proofs.LawTypes.{Callee, Known, typed, typed_rest}
-use Rattle.mir_build.proofs.LawInit.{set_of, agree, EachBlock, BlockFits, begun_fits, owned_not_there, block_at, Labelling, labelling}
+use Rattle.mir_build.proofs.LawInit.{set_of, agree, EachBlock, BlockFits, begun_fits, owned_not_there, block_at, IsLabelled, labelling}
 use Rattle.mir_build.proofs.OneBody.{labels_once, locals_once}
 use Rattle.mir_build.proofs.LawBlocks.{typed_at, BlockTyped, typed_blocks, has_block, end_typed}
+use Rattle.mir_ir.specs.declared.body.Bodies.{Bodies}
 
 -- ---- numbers of parameters
 
@@ -85,7 +86,7 @@ text_laid : (σ : List Signature) (c : Around) (e : TypedExpr) (xs : List Line) 
 text_laid σ c e xs (of_outermost {ty = ty} r) Γ set sc h a = laid_rest σ c _ _ _ 0 xs r Γ set ty sc h a
 text_laid σ c e xs (of_other q p) Γ set sc h a = laid σ c e 0 xs p Γ set sc h a
 
-module _ (σ : List Signature) (bodies : List Body) (b : Body) (callees : (n : ℕ) (g : Signature) → slice_get σ n ≡ Some g → Callee bodies n g) (answers : (n : ℕ) (g : Signature) → slice_get σ n ≡ Some g → IsBuilt g.answer) where
+module _ (σ : List Signature) (bodies : Bodies) (b : Body) (callees : (n : ℕ) (g : Signature) → slice_get σ n ≡ Some g → Callee bodies n g) (answers : (n : ℕ) (g : Signature) → slice_get σ n ≡ Some g → IsBuilt g.answer) where
   text_typed : (c : Around) (e : TypedExpr) (xs : List Line) → IntoBody c e xs → (Γ : List Ty) → Known b c Γ → IsWellTyped σ Γ e → slice_get b.locals 0 ≡ Some (ty_of e) → MadeFits b (made xs) → AreTyped bodies b xs
   text_typed c e xs (of_outermost {ty = ty} r) Γ k h a m = typed_rest σ bodies b callees answers c _ _ _ 0 xs r Γ ty k h a m
   text_typed c e xs (of_other q p) Γ k h a m = typed σ bodies b callees answers c e 0 xs p Γ k h a m
@@ -196,12 +197,12 @@ module _ (owner : List ℕ) (f : TypedFunction) (b : Body) (gone : Initialised) 
     pub owned_absent : (e : Label × List ℕ) → Has e (owned l.text) → HasNone (start e.0) e.1
     owned_absent e h = owned_not_there start (with 0 (parameters b)) (parameters b) l.text text_runs e h
 
-    pub body_labelling : Labelling b start
+    pub body_labelling : IsLabelled b start
     body_labelling = labelling b start start_fits (λ x h. subst (λ (S : Locals). S x ≡ true) at_entry h)
 
   -- ---- types
 
-  module _ (σ : List Signature) (bodies : List Body) (fits : FunctionFits σ f) (callees : (n : ℕ) (g : Signature) → slice_get σ n ≡ Some g → Callee bodies n g) (answers : (n : ℕ) (g : Signature) → slice_get σ n ≡ Some g → IsBuilt g.answer) where
+  module _ (σ : List Signature) (bodies : Bodies) (fits : FunctionFits σ f) (callees : (n : ℕ) (g : Signature) → slice_get σ n ≡ Some g → Callee bodies n g) (answers : (n : ℕ) (g : Signature) → slice_get σ n ≡ Some g → IsBuilt g.answer) where
     pub lines_typed : AreTyped bodies b l.text
     lines_typed = text_typed σ bodies b callees answers (around_body f) f.body l.text l.into f.signature.params
         (record { scope = scope_fits; built_types = fits.params }) fits.body (answer_fits ∙ ap Some (sym fits.of_answer)) text_fits
@@ -215,6 +216,7 @@ module _ (owner : List ℕ) (f : TypedFunction) (b : Body) (gone : Initialised) 
 
     pub body_typed : IsTyped bodies b
     body_typed = record {
+      ground = l.types;
       named = ap length l.names ∙ map_length local_name (counted 0 b.locals) ∙ counted_length 0 b.locals;
       answers = omega (arith, locals_length, l.params);
       begins = (body_laid_out.entry, body_laid_out.is_entry);

@@ -1,5 +1,5 @@
 -- The invariants at heads speak of locals that are initialised there, and what is gone there is not.
-use Rattle.std.proofs.Common.{◌≡◌, refl, ap, sym, ◌∙◌, subst, ℕ, zero, suc, ◌<◌, true, false, List, [], ◌∷◌, map, length, Option, Some, None, slice_get, true≢false}
+use Rattle.std.proofs.Common.{◌≡◌, refl, ap, sym, ◌∙◌, subst, ℕ, zero, suc, ◌<◌, true, false, List, [], ◌∷◌, map, length, Option, Some, None, slice_get, true≢false, inr}
 use Rattle.std.specs.Option.{is_some}
 use Rattle.std.proofs.lemmas.Option.{slice_get_within}
 use Rattle.text_core.specs.declared.name.Name.{Name}
@@ -18,17 +18,19 @@ use Rattle.mir_ir.specs.WellFormed.{Locals}
 use Rattle.type_check.specs.declared.program.Signature.{Signature}
 use Rattle.type_check.specs.declared.program.TypedFunction.{TypedFunction}
 use Rattle.type_check.specs.WellTyped.{IsBuilt, FunctionFits}
-use Rattle.mir_build.specs.Laws.{IsNameIn, HeadsSpeak}
+use Rattle.mir_build.specs.Laws.{HeadsAreThere}
+use Rattle.mir_ir.specs.Names.{IsNameIn}
 use Rattle.mir_build.specs.Text.{owned}
 use Rattle.mir_build.specs.Lowering.{whole, gone_at, LowersTo}
 use Rattle.mir_build.proofs.LawLists.{Has, here, there, has_count}
 use Rattle.mir_build.proofs.LawNames.{IsLocalIn, EachFree, HeadFits}
 use Rattle.mir_build.proofs.LawTyped.{is_local}
 use Rattle.mir_build.proofs.LawTypes.{Callee}
-use Rattle.mir_build.proofs.LawInit.{block_at, BlockFits, Labelling}
+use Rattle.mir_build.proofs.LawInit.{block_at, BlockFits, IsLabelled}
 use Rattle.mir_build.proofs.LawBlocks.{BlockTyped}
 use Rattle.mir_build.proofs.LawFunction.{start, start_fits, owned_absent, body_labelling, blocks_typed}
 use Rattle.mir_build.proofs.LawLocals.{local_number, named}
+use Rattle.mir_ir.specs.declared.body.Bodies.{Bodies}
 
 some_same : {A : Type 0} {a b : A} → Some a ≡ Some b → a ≡ b
 some_same e = cc
@@ -50,7 +52,7 @@ within_locals b y h = by_case (slice_get b.locals y) refl h
     by_case None e g = absurd (true≢false (sym g))
     by_case (Some t) e g = slice_get_within b.locals y t e
 
-module _ (owner : List ℕ) (f : TypedFunction) (b : Body) (gone : Initialised) (l : LowersTo owner f b gone) (σ : List Signature) (bodies : List Body) (fits : FunctionFits σ f)
+module _ (owner : List ℕ) (f : TypedFunction) (b : Body) (gone : Initialised) (l : LowersTo owner f b gone) (σ : List Signature) (bodies : Bodies) (fits : FunctionFits σ f)
     (callees : (n : ℕ) (g : Signature) → slice_get σ n ≡ Some g → Callee bodies n g) (answers : (n : ℕ) (g : Signature) → slice_get σ n ≡ Some g → IsBuilt g.answer) where
   sets : Label → Locals
   sets = start owner f b gone l σ fits
@@ -76,15 +78,15 @@ module _ (owner : List ℕ) (f : TypedFunction) (b : Body) (gone : Initialised) 
       let q = owned_absent owner f b gone l σ fits v.0 v.1 w.0 (has_count w.0 v.0.1 w.1) in
       ap (λ (z : Point × List Place). sets z.0.label p.local) v.2 ∙ ap (λ (z : Place). sets v.0.0 z.local) w.2 ∙ q
 
-  pub labelled : Labelling b (start owner f b gone l σ fits)
+  pub labelled : IsLabelled b (start owner f b gone l σ fits)
   labelled = body_labelling owner f b gone l σ fits
 
-  pub heads_speak : HeadsSpeak b gone labelled.initialised
+  pub heads_speak : HeadsAreThere b gone labelled.at
   unfolding sets
   heads_speak = record {
     over = λ m k h e q j t r x v.
         let w = name_in (sets m) x (free_at (sets m) h.invariants j t (head_free m k h e q).0 r x v) (free_at (is_local b) h.invariants j t (head_local m k h e q).0 r x v) in
-        (w.0, ap (λ (S : Locals). S w.0) (labelled.starts m) ∙ w.1, w.2);
+        inr (w.0, ap (λ (S : Locals). S w.0) (labelled.starts m) ∙ w.1, w.2);
     spans = λ m k h e q. (head_local m k h e q).1;
     there = λ j m g p e r. ap (λ (S : Locals). S p.local) (labelled.starts g.0.label) ∙ absent j m g p e r;
   }

@@ -7,7 +7,7 @@ use Rattle.mir_ir.specs.declared.body.Body.{Body}
 use Rattle.mir_ir.specs.declared.statement.Statement.{Statement}
 use Rattle.mir_ir.specs.declared.terminator.TerminatorKind.TheVariants.{Return}
 use Rattle.mir_ir.specs.Body.{block_in}
-use Rattle.mir_ir.specs.WellFormed.{Locals, CanRun, run, CanEnd, Carries, Within, parameters, IsInitialised}
+use Rattle.mir_ir.specs.WellFormed.{Locals, CanRun, run, CanEnd, Carries, Within, parameters, Labelling, MeetsMoveRows}
 use Rattle.mir_build.specs.Text.{Title, Line, Open, fresh, longer, owned}
 use Rattle.mir_build.specs.Lowering.{ends}
 use Rattle.text_core.specs.declared.span.Span.{Span}
@@ -149,9 +149,10 @@ statements_of None = []
 statements_of (Some k) = k.statements
 
 -- a labelling whose sets at labels are these
-pub record Labelling (b : Body) (start : Label → Locals) : Type 0 where
-  pub initialised : IsInitialised b
-  pub starts : (l : Label) → initialised.at l 0 ≡ start l
+pub record IsLabelled (b : Body) (start : Label → Locals) : Type 0 where
+  pub at : Labelling
+  pub moves : MeetsMoveRows b at
+  pub starts : (l : Label) → at l 0 ≡ start l
 
 module _ (b : Body) (start : Label → Locals) (fits : EachBlock (BlockFits start) b.blocks) (entry : Within (start b.entry) (parameters b)) where
   sets : Label → ℕ → Locals
@@ -171,11 +172,11 @@ module _ (b : Body) (start : Label → Locals) (fits : EachBlock (BlockFits star
   one_on l k i st e f =
       at_block l k (i + 1) e ∙ ap (λ n. after_some n k.statements (start l)) (add-one i) ∙ after_next k.statements i st (start l) f ∙ ap (run st.kind) (sym (at_block l k i e))
 
-  pub labelling : Labelling b start
+  pub labelling : IsLabelled b start
   unfolding sets
   labelling = record {
-    initialised = record {
-      at = sets;
+    at = sets;
+    moves = record {
       entry = entry;
       statements = λ l k i st e f. (
         subst (λ S. CanRun S st.kind) (sym (at_block l k i e)) (can_run_at k.statements i st (start l) (fit l k e).can_run f),

@@ -141,7 +141,7 @@ copies_taken : (ts : List ℕ) (set : Locals) → all_taken (map copied ts) set 
 copies_taken [] set = refl
 copies_taken (t ∷ ts) set = copies_taken ts set
 
-pub called : (c : Around) (s : Span) (f d : ℕ) (ts : List ℕ) (after : Label) (set now : Locals) → HoldsAll now ts → Within set now → Laid now (Turns (ends s (Call (whole d) (Function (fn_id.Body f)) (map copied ts) after)) (at c after) ∷ []) (with d set)
+pub called : (c : Around) (s : Span) (f d : ℕ) (ts : List ℕ) (after : Label) (set now : Locals) → HoldsAll now ts → Within set now → Laid now (Turns (ends s (Call (whole d) (Function (fn_id.Body f)) [] (map copied ts) after)) (at c after) ∷ []) (with d set)
 called c s f d ts after set now h w = record {
   starts = (after, with d set) ∷ [];
   are = refl;

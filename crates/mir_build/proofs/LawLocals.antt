@@ -11,7 +11,8 @@ use Rattle.type_check.specs.declared.program.Signature.{Signature}
 use Rattle.type_check.specs.declared.program.TypedFunction.{TypedFunction}
 use Rattle.type_check.specs.VariableNames.{variable_name, answer_name}
 use Rattle.type_check.specs.WellTyped.{IsBuilt, AllBuilt, FunctionFits}
-use Rattle.mir_build.specs.Laws.{LocalsAreNamed}
+use Rattle.mir_build.specs.Laws.{LocalsAreNoVariables}
+use Rattle.mir_ir.specs.Names.{LocalsAreNamed, new_number}
 use Rattle.mir_build.specs.Text.{Line, Puts, Makes, Turns, Owns, made}
 use Rattle.mir_build.specs.Lowering.{numbers, counted, paired, all_locals, local_name, LowersTo}
 use Rattle.mir_build.proofs.Numbers.{count}
@@ -20,6 +21,7 @@ use Rattle.mir_build.proofs.LawTyped.{AreTyped}
 use Rattle.mir_build.proofs.LawTypes.{Callee}
 use Rattle.mir_build.proofs.OneBody.{locals_once}
 use Rattle.mir_build.proofs.LawFunction.{locals_fit, lines_typed}
+use Rattle.mir_ir.specs.declared.body.Bodies.{Bodies}
 
 -- ---- names by number
 
@@ -54,7 +56,7 @@ pub local_no_answer : (x : ℕ) → x ≤ 2 ^ 32 → (local_name x).0 ≡ answer
 unfolding local_name answer_name
 local_no_answer x h e = omega (arith, e)
 
-pub local_not_new : (x : ℕ) → x ≤ 2 ^ 32 → (local_name x).0 ≡ 2 ^ 63 + 2 ^ 62 → ⊥
+pub local_not_new : (x : ℕ) → x ≤ 2 ^ 32 → (local_name x).0 ≡ new_number → ⊥
 unfolding local_name
 local_not_new x h e = omega (arith, e)
 
@@ -66,7 +68,7 @@ pub variable_no_answer : (k : ℕ) → k ≤ 2 ^ 32 → (variable_name k).0 ≡ 
 unfolding variable_name answer_name
 variable_no_answer k h e = omega (arith, e)
 
-pub variable_not_new : (k : ℕ) → k ≤ 2 ^ 32 → (variable_name k).0 ≡ 2 ^ 63 + 2 ^ 62 → ⊥
+pub variable_not_new : (k : ℕ) → k ≤ 2 ^ 32 → (variable_name k).0 ≡ new_number → ⊥
 unfolding variable_name
 variable_not_new k h e = omega (arith, e)
 
@@ -172,7 +174,7 @@ params_built : (n : ℕ) (ts : List Ty) → AllBuilt ts → AllOfBuilt (paired n
 params_built n [] h = none_built
 params_built n (t ∷ ts) h = first_built n t (paired (n + 1) ts) h.0 (params_built (n + 1) ts h.1)
 
-text_built : (bodies : List Body) (b : Body) (xs : List Line) → AreTyped bodies b xs → AllOfBuilt (made xs)
+text_built : (bodies : Bodies) (b : Body) (xs : List Line) → AreTyped bodies b xs → AllOfBuilt (made xs)
 text_built bodies b [] h = none_built
 text_built bodies b (Puts s ∷ xs) h = text_built bodies b xs h.1
 text_built bodies b (Makes x t ∷ xs) h = first_built x t (made xs) h.0 (text_built bodies b xs h.1)
@@ -192,15 +194,19 @@ module _ (owner : List ℕ) (f : TypedFunction) (b : Body) (gone : Initialised) 
   pub small_named : (x : ℕ) (n : Name) → slice_get b.names x ≡ Some n → (n.0 ≡ (local_name x).0) × (x ≤ 2 ^ 32)
   small_named x n e = let w = name_at x n e in (number_of w.0, omega (arith, w.1, l.few))
 
-  pub locals_are_named : LocalsAreNamed b
-  locals_are_named = record {
-    apart = λ x y n m e f q. local_number x y (sym (small_named x n e).0 ∙ q ∙ (small_named y m f).0);
-    no_variable = λ x k n e q. local_no_variable x k (small_named x n e).1 (sym (small_named x n e).0 ∙ q);
-    no_answer = λ x n e q. local_no_answer x (small_named x n e).1 (sym (small_named x n e).0 ∙ q);
-    none_is_new = λ x n e q. local_not_new x (small_named x n e).1 (sym (small_named x n e).0 ∙ q);
-  }
+  pub locals_are_named : LocalsAreNamed b × LocalsAreNoVariables b
+  locals_are_named = (
+    record {
+      apart = λ x y n m e f q. local_number x y (sym (small_named x n e).0 ∙ q ∙ (small_named y m f).0);
+      none_is_new = λ x n e q. local_not_new x (small_named x n e).1 (sym (small_named x n e).0 ∙ q);
+    },
+    record {
+      no_variable = λ x k n e q. local_no_variable x k (small_named x n e).1 (sym (small_named x n e).0 ∙ q);
+      no_answer = λ x n e q. local_no_answer x (small_named x n e).1 (sym (small_named x n e).0 ∙ q);
+    },
+  )
 
-  module _ (σ : List Signature) (bodies : List Body) (fits : FunctionFits σ f) (callees : (n : ℕ) (g : Signature) → slice_get σ n ≡ Some g → Callee bodies n g) (answers : (n : ℕ) (g : Signature) → slice_get σ n ≡ Some g → IsBuilt g.answer) where
+  module _ (σ : List Signature) (bodies : Bodies) (fits : FunctionFits σ f) (callees : (n : ℕ) (g : Signature) → slice_get σ n ≡ Some g → Callee bodies n g) (answers : (n : ℕ) (g : Signature) → slice_get σ n ≡ Some g → IsBuilt g.answer) where
     all_built : AllOfBuilt (all_locals f l.text)
     all_built = first_built 0 f.signature.answer (paired 1 f.signature.params ++ made l.text) fits.answer
         (built-append (paired 1 f.signature.params) (made l.text) (params_built 1 f.signature.params fits.params)

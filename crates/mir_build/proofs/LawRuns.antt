@@ -99,7 +99,7 @@ run_within (Dead x) small large w = without_within x small large w
 can_end : (k : TerminatorKind) (small large : Locals) → Within small large → CanEnd small k → CanEnd large k
 can_end (Goto l) small large w h = tt
 can_end (If o l m) small large w h = can_take o small large w h
-can_end (Call p f os l) small large w h = can_take_all os small large w h
+can_end (Call p f types os l) small large w h = can_take_all os small large w h
 can_end Return small large w h = w 0 h
 
 carries : (at : Label → Locals) (k : TerminatorKind) (small large : Locals) → Within small large → Carries at small k → Carries at large k
@@ -107,7 +107,7 @@ carries at (Goto l) small large w h = within_trans (at l) small large h w
 carries at (If o l m) small large w h =
     let v = taken_within o small large w in
     (within_trans (at l) (taken o small) (taken o large) h.0 v, within_trans (at m) (taken o small) (taken o large) h.1 v)
-carries at (Call p f os l) small large w h =
+carries at (Call p f types os l) small large w h =
     within_trans (at l) (with p.local (all_taken os small)) (with p.local (all_taken os large)) h (with_within p.local (all_taken os small) (all_taken os large) (all_taken_within os small large w))
 carries at Return small large w h = tt
 

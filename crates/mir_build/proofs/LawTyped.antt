@@ -18,6 +18,7 @@ use Rattle.type_check.specs.WellTyped.{IsBuilt, AllBuilt, IsWellTyped, Statement
 use Rattle.mir_build.specs.Text.{Line, Puts, Makes, Turns, Owns, made}
 use Rattle.mir_build.proofs.LawLists.{Has, here, there, has_left, has_right, made-append}
 use Rattle.mir_build.proofs.LawNames.{HoldsAll, HeadFits}
+use Rattle.mir_ir.specs.declared.body.Bodies.{Bodies}
 
 -- ---- operators
 
@@ -113,10 +114,10 @@ module _ (σ : List Signature) (answers : (n : ℕ) (g : Signature) → slice_ge
 -- ---- what is typed
 
 -- what a block's end owes besides that its labels have blocks
-abbrev pub EndFits : List Body → Body → TerminatorKind → Type 0
+abbrev pub EndFits : Bodies → Body → TerminatorKind → Type 0
 EndFits bodies b (Goto l) = Unit {0}
 EndFits bodies b (If o l m) = OperandHas b o bool
-EndFits bodies b (Call p f os l) = CallIsTyped bodies b p f os
+EndFits bodies b (Call p f types os l) = CallIsTyped bodies b p f types os
 EndFits bodies b Return = Unit {0}
 
 -- the locals of the body
@@ -124,14 +125,14 @@ abbrev pub is_local : Body → Locals
 is_local b x = is_some (slice_get b.locals x)
 
 -- the statements and ends of the text are typed, and what it makes is of a built type
-abbrev pub AreTyped : List Body → Body → List Line → Type 0
+abbrev pub AreTyped : Bodies → Body → List Line → Type 0
 AreTyped bodies b [] = Unit {0}
 AreTyped bodies b (Puts s ∷ xs) = StatementIsTyped b s.kind × AreTyped bodies b xs
 AreTyped bodies b (Makes x t ∷ xs) = IsBuilt t × AreTyped bodies b xs
 AreTyped bodies b (Turns t k ∷ xs) = EndFits bodies b t.kind × HeadFits (is_local b) k.head × AreTyped bodies b xs
 AreTyped bodies b (Owns l ys ∷ xs) = AreTyped bodies b xs
 
-pub typed-append : (bodies : List Body) (b : Body) (xs ys : List Line) → AreTyped bodies b xs → AreTyped bodies b ys → AreTyped bodies b (xs ++ ys)
+pub typed-append : (bodies : Bodies) (b : Body) (xs ys : List Line) → AreTyped bodies b xs → AreTyped bodies b ys → AreTyped bodies b (xs ++ ys)
 typed-append bodies b [] ys p q = q
 typed-append bodies b (Puts s ∷ xs) ys p q = (p.0, typed-append bodies b xs ys p.1 q)
 typed-append bodies b (Makes x t ∷ xs) ys p q = (p.0, typed-append bodies b xs ys p.1 q)

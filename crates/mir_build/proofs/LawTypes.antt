@@ -16,11 +16,13 @@ use Rattle.mir_build.specs.Lowering.{Around, looping, binds, copied, dies_in, wh
 use Rattle.mir_build.specs.Lowering.{of_assign_value, of_update, of_update_value, of_call, of_block, of_branch, of_choice, of_repeat, Rest, of_done, of_last, of_bind, of_run, Args, of_none, of_more}
 use Rattle.mir_build.proofs.LawNames.{head_fits}
 use Rattle.mir_build.proofs.LawTyped.{operation_has, signed, built_more, built, is_local, AreTyped, typed-append, MadeFits, made_first, made_rest, made_left, made_right, ScopeFits, scope_at, scope_more, scope_length, scope_holds}
+use Rattle.mir_ir.specs.declared.body.Bodies.{Bodies}
 
 -- the body of a callee has the types of its signature
-pub record Callee (bodies : List Body) (n : ℕ) (g : Signature) : Type 0 where
+pub record Callee (bodies : Bodies) (n : ℕ) (g : Signature) : Type 0 where
   pub body : Body
-  pub is_body : slice_get bodies n ≡ Some body
+  pub is_body : slice_get bodies.bodies n ≡ Some body
+  pub ground : body.types ≡ []
   pub params : take body.params (drop 1 body.locals) ≡ g.params
   pub answer : slice_get body.locals 0 ≡ Some g.answer
 
@@ -29,7 +31,7 @@ pub record Known (b : Body) (c : Around) (Γ : List Ty) : Type 0 where
   pub scope : ScopeFits b c.scope Γ
   pub built_types : AllBuilt Γ
 
-module _ (σ : List Signature) (bodies : List Body) (b : Body) (callees : (n : ℕ) (g : Signature) → slice_get σ n ≡ Some g → Callee bodies n g) (answers : (n : ℕ) (g : Signature) → slice_get σ n ≡ Some g → IsBuilt g.answer) where
+module _ (σ : List Signature) (bodies : Bodies) (b : Body) (callees : (n : ℕ) (g : Signature) → slice_get σ n ≡ Some g → Callee bodies n g) (answers : (n : ℕ) (g : Signature) → slice_get σ n ≡ Some g → IsBuilt g.answer) where
   -- local x has the type
   abbrev At : ℕ → Ty → Type 0
   At x t = slice_get b.locals x ≡ Some t
@@ -162,7 +164,7 @@ module _ (σ : List Signature) (bodies : List Body) (b : Body) (callees : (n : �
         let w = callees f h.0 h.1 in
         let g = typed_args c es ts us p Γ k h.0.params h.3 (made_left b us _ m) in
         step us _ g.0
-        ((w.body, ty, w.is_body, subst (OperandsHave b (map copied ts)) (sym w.params) g.1, w.answer ∙ ap Some (sym h.2), (refl, a)), tt, tt)
+        ((w.body, ty, w.is_body, subst (OperandsHave b (map copied ts)) (sym w.params) g.1, w.answer ∙ ap Some (sym h.2), (refl, a), sym (ap length w.ground)), tt, tt)
     typed c e d xs (of_block {ty = ty} r) Γ k h a m = typed_rest c _ _ _ d xs r Γ ty k h a m
     typed c e d xs (of_branch {ty = ty} {e = x} {t = t} yes' no' after {xs = us} {ys = vs} p q) Γ k h a m =
         let at_t = made_first b t _ _ m in

@@ -1,53 +1,57 @@
 -- The laws of programs that lower and fit.
-use Rattle.std.proofs.Common.{◌≡◌, refl, ap, sym, ◌∙◌, subst, ℕ, zero, suc, ◌+◌, List, [], ◌∷◌, take, drop, length, Some, None, slice_get, arith}
+use Rattle.std.proofs.Common.{◌≡◌, refl, ap, sym, ◌∙◌, subst, ℕ, zero, suc, ◌+◌, List, [], ◌∷◌, take, drop, length, Some, None, slice_get, arith, false, Option}
 use Rattle.logic_term.specs.declared.obligation.Contract.{Contract}
 use Rattle.logic_term.specs.Ty.{Ty}
 use Rattle.mir_ir.specs.declared.body.Body.{Body}
 use Rattle.mir_ir.specs.declared.body.Initialised.{Initialised}
-use Rattle.mir_ir.specs.WellFormed.{IsTyped, IsInitialised}
+use Rattle.mir_ir.specs.WellFormed.{IsTyped, Labelling, MeetsMoveRows}
 use Rattle.type_check.specs.declared.program.Signature.{Signature}
 use Rattle.type_check.specs.declared.program.TypedFunction.{TypedFunction}
 use Rattle.type_check.specs.WellTyped.{IsBuilt, FunctionFits, EachFits, signatures}
-use Rattle.mir_build.specs.Laws.{Lowers, HeadsSpeak, BodiesAreSound, BodiesAreLaidOut, LocalsHaveNames, LocalsHaveBuiltTypes, HeadsSpeakOfWhatIsThere, ContractsSpeakOfParameters}
-use Rattle.mir_build.specs.Lowering.{counted, contract_of, LowersTo, LowerTo, no_functions, and_function}
+use Rattle.mir_build.specs.Laws.{Lowers, HeadsAreThere, BodiesAreSound, BodiesAreLaidOut, LocalsHaveNames, LocalsHaveBuiltTypes, HeadsSpeakOfWhatIsThere, ContractsSpeakOfParameters}
+use Rattle.mir_build.specs.Lowering.{counted, contract_of, LowersTo, EachLowersTo, no_functions, and_function}
 use Rattle.mir_build.proofs.LawTyped.{ScopeFits}
 use Rattle.mir_build.proofs.LawTypes.{Callee}
-use Rattle.mir_build.proofs.LawFunction.{answer_fits, scope_fits, body_typed, body_laid_out}
+use Rattle.mir_build.proofs.LawFunction.{answer_fits, scope_fits, body_typed, body_laid_out, start}
 use Rattle.mir_build.proofs.LawLocals.{locals_are_named, types_built}
 use Rattle.mir_build.proofs.LawContracts.{contract_speaks}
 use Rattle.mir_build.proofs.LawHeads.{labelled, heads_speak}
+use Rattle.mir_ir.specs.declared.body.Bodies.{Bodies}
+use Rattle.mir_build.proofs.LawInit.{IsLabelled}
 
 some_same : {A : Type 0} {a b : A} → Some a ≡ Some b → a ≡ b
 some_same e = cc
 
--- the function of a place, and its body
-pub record FunctionAt (fs : List TypedFunction) (bs : List Body) (cs : List Contract) (gones : List Initialised) (n : ℕ) (f : TypedFunction) (b : Body) : Type 0 where
+-- the function of a place, and its body; the first function has this number
+pub record FunctionAt (first : ℕ) (fs : List TypedFunction) (bs : List Body) (cs : List Contract) (gones : List Initialised) (n : ℕ) (f : TypedFunction) (b : Body) : Type 0 where
   pub owner : List ℕ
   pub gone : Initialised
   pub is_function : slice_get fs n ≡ Some f
   pub is_body : slice_get bs n ≡ Some b
+  pub is_number : b.id ≡ first + n
   pub is_contract : slice_get cs n ≡ Some (contract_of f)
   pub is_gone : slice_get gones n ≡ Some gone
   pub lowers : LowersTo owner f b gone
 
-further : (f : TypedFunction) (fs : List TypedFunction) (b : Body) (bs : List Body) (c : Contract) (cs : List Contract) (g : Initialised) (gs : List Initialised) (n : ℕ) (h : TypedFunction) (k : Body) → FunctionAt fs bs cs gs n h k → FunctionAt (f ∷ fs) (b ∷ bs) (c ∷ cs) (g ∷ gs) (suc n) h k
-further f fs b bs c cs g gs n h k w = record { owner = w.owner; gone = w.gone; is_function = w.is_function; is_body = w.is_body; is_contract = w.is_contract; is_gone = w.is_gone; lowers = w.lowers }
+further : (first : ℕ) (f : TypedFunction) (fs : List TypedFunction) (b : Body) (bs : List Body) (c : Contract) (cs : List Contract) (g : Initialised) (gs : List Initialised) (n : ℕ) (h : TypedFunction) (k : Body)
+    → FunctionAt (suc first) fs bs cs gs n h k → FunctionAt first (f ∷ fs) (b ∷ bs) (c ∷ cs) (g ∷ gs) (suc n) h k
+further first f fs b bs c cs g gs n h k w = record { owner = w.owner; gone = w.gone; is_function = w.is_function; is_body = w.is_body; is_number = omega (arith, w.is_number); is_contract = w.is_contract; is_gone = w.is_gone; lowers = w.lowers }
 
-pub of_body : (table : List (List ℕ)) (fs : List TypedFunction) (bs : List Body) (cs : List Contract) (gones : List Initialised) → LowerTo table fs bs cs gones → (n : ℕ) (b : Body) → slice_get bs n ≡ Some b → (f : TypedFunction) × FunctionAt fs bs cs gones n f b
-of_body table fs bs cs gones no_functions n b e = absurd (cc)
-of_body table fs bs cs gones (and_function {f = f} {b = k} {gone = gone} owner t l r) zero b e =
-    (f, record { owner = owner; gone = gone; is_function = refl; is_body = e; is_contract = refl; is_gone = refl; lowers = subst (λ m. LowersTo owner f m gone) (some_same e) l })
-of_body table fs bs cs gones (and_function {f = f} {fs = fs'} {b = k} {bs = bs'} {cs = cs'} {gone = gone} {gones = gs'} owner t l r) (suc n) b e =
-    let w = of_body table fs' bs' cs' gs' r n b e in
-    (w.0, further f fs' k bs' (contract_of f) cs' gone gs' n w.0 b w.1)
+pub of_body : (table : List (List ℕ)) (first : ℕ) (fs : List TypedFunction) (bs : List Body) (cs : List Contract) (gones : List Initialised) → EachLowersTo table first fs bs cs gones → (n : ℕ) (b : Body) → slice_get bs n ≡ Some b → (f : TypedFunction) × FunctionAt first fs bs cs gones n f b
+of_body table first fs bs cs gones no_functions n b e = absurd (cc)
+of_body table first fs bs cs gones (and_function {f = f} {b = k} {gone = gone} owner t l d r) zero b e =
+    (f, record { owner = owner; gone = gone; is_function = refl; is_body = e; is_number = ap (λ (m : Body). m.id) (sym (some_same e)) ∙ omega (arith, d); is_contract = refl; is_gone = refl; lowers = subst (λ m. LowersTo owner f m gone) (some_same e) l })
+of_body table first fs bs cs gones (and_function {f = f} {fs = fs'} {b = k} {bs = bs'} {cs = cs'} {gone = gone} {gones = gs'} owner t l d r) (suc n) b e =
+    let w = of_body table (suc first) fs' bs' cs' gs' r n b e in
+    (w.0, further first f fs' k bs' (contract_of f) cs' gone gs' n w.0 b w.1)
 
-pub of_function : (table : List (List ℕ)) (fs : List TypedFunction) (bs : List Body) (cs : List Contract) (gones : List Initialised) → LowerTo table fs bs cs gones → (n : ℕ) (f : TypedFunction) → slice_get fs n ≡ Some f → (b : Body) × FunctionAt fs bs cs gones n f b
-of_function table fs bs cs gones no_functions n f e = absurd (cc)
-of_function table fs bs cs gones (and_function {f = g} {b = k} {gone = gone} owner t l r) zero f e =
-    (k, record { owner = owner; gone = gone; is_function = e; is_body = refl; is_contract = ap Some (ap contract_of (some_same e)); is_gone = refl; lowers = subst (λ m. LowersTo owner m k gone) (some_same e) l })
-of_function table fs bs cs gones (and_function {f = g} {fs = fs'} {b = k} {bs = bs'} {cs = cs'} {gone = gone} {gones = gs'} owner t l r) (suc n) f e =
-    let w = of_function table fs' bs' cs' gs' r n f e in
-    (w.0, further g fs' k bs' (contract_of g) cs' gone gs' n f w.0 w.1)
+pub of_function : (table : List (List ℕ)) (first : ℕ) (fs : List TypedFunction) (bs : List Body) (cs : List Contract) (gones : List Initialised) → EachLowersTo table first fs bs cs gones → (n : ℕ) (f : TypedFunction) → slice_get fs n ≡ Some f → (b : Body) × FunctionAt first fs bs cs gones n f b
+of_function table first fs bs cs gones no_functions n f e = absurd (cc)
+of_function table first fs bs cs gones (and_function {f = g} {b = k} {gone = gone} owner t l d r) zero f e =
+    (k, record { owner = owner; gone = gone; is_function = e; is_body = refl; is_number = omega (arith, d); is_contract = ap Some (ap contract_of (some_same e)); is_gone = refl; lowers = subst (λ m. LowersTo owner m k gone) (some_same e) l })
+of_function table first fs bs cs gones (and_function {f = g} {fs = fs'} {b = k} {bs = bs'} {cs = cs'} {gone = gone} {gones = gs'} owner t l d r) (suc n) f e =
+    let w = of_function table (suc first) fs' bs' cs' gs' r n f e in
+    (w.0, further first g fs' k bs' (contract_of g) cs' gone gs' n f w.0 w.1)
 
 pub fits_at : (σ : List Signature) (fs : List TypedFunction) → EachFits σ fs → (n : ℕ) (f : TypedFunction) → slice_get fs n ≡ Some f → FunctionFits σ f
 fits_at σ [] h n f e = absurd (cc)
@@ -82,15 +86,16 @@ drop_one (x ∷ xs) i k e = ap (slice_get (x ∷ xs)) e
 one_on : (i : ℕ) → 1 + i ≡ suc i
 one_on i = omega arith
 
-module _ (table : List (List ℕ)) (fs : List TypedFunction) (bs : List Body) (cs : List Contract) (gones : List Initialised) (l : Lowers table fs bs cs gones) where
+module _ (table : List (List ℕ)) (fs : List TypedFunction) (bs : Bodies) (cs : List Contract) (gones : List Initialised) (l : Lowers table fs bs cs gones) where
   callee : (n : ℕ) (g : Signature) → slice_get (signatures fs) n ≡ Some g → Callee bs n g
   callee n g e =
       let w = signature_at fs n g e in
-      let v = of_function table fs bs cs gones l.lowers n w.0 w.1 in
+      let v = of_function table 0 fs bs.bodies cs gones l.lowers.each n w.0 w.1 in
       let u = v.1.lowers in
       record {
         body = v.0;
         is_body = v.1.is_body;
+        ground = u.types;
         params = ap (λ p. take p (drop 1 v.0.locals)) u.params
             ∙ starts_with v.0 w.0.signature.params (drop 1 v.0.locals) 1 (λ i. drop_one v.0.locals i (1 + i) (one_on i)) (scope_fits v.1.owner w.0 v.0 v.1.gone u)
             ∙ ap (λ (s : Signature). s.params) w.2;
@@ -102,9 +107,12 @@ module _ (table : List (List ℕ)) (fs : List TypedFunction) (bs : List Body) (c
       let w = signature_at fs n g e in
       subst (λ (s : Signature). IsBuilt s.answer) w.2 (fits_at (signatures fs) fs l.fits n w.0 w.1).answer
 
-  module _ (n : ℕ) (b : Body) (is_body : slice_get bs n ≡ Some b) where
-    found : (f : TypedFunction) × FunctionAt fs bs cs gones n f b
-    found = of_body table fs bs cs gones l.lowers n b is_body
+  module _ (n : ℕ) (b : Body) (is_body : slice_get bs.bodies n ≡ Some b) where
+    found : (f : TypedFunction) × FunctionAt 0 fs bs.bodies cs gones n f b
+    found = of_body table 0 fs bs.bodies cs gones l.lowers.each n b is_body
+
+    number : b.id ≡ n
+    number = omega (arith, found.1.is_number)
 
     fit : FunctionFits (signatures fs) found.0
     fit = fits_at (signatures fs) fs l.fits n found.0 found.1.is_function
@@ -112,16 +120,22 @@ module _ (table : List (List ℕ)) (fs : List TypedFunction) (bs : List Body) (c
     typed : IsTyped bs b
     typed = body_typed found.1.owner found.0 b found.1.gone found.1.lowers (signatures fs) bs fit callee answer_built
 
-    initialised : (i : IsInitialised b) × HeadsSpeak b found.1.gone i
+    abbrev labels : IsLabelled b (start found.1.owner found.0 b found.1.gone found.1.lowers (signatures fs) fit)
+    labels = labelled found.1.owner found.0 b found.1.gone found.1.lowers (signatures fs) bs fit callee answer_built
+
+    initialised : (at : Labelling) × MeetsMoveRows b at × HeadsAreThere b found.1.gone at
     initialised = (
-      (labelled found.1.owner found.0 b found.1.gone found.1.lowers (signatures fs) bs fit callee answer_built).initialised,
+      labels.at,
+      labels.moves,
       heads_speak found.1.owner found.0 b found.1.gone found.1.lowers (signatures fs) bs fit callee answer_built,
     )
 
 -- ---- the laws
 
 pub bodies_are_sound : BodiesAreSound
-bodies_are_sound table fs bs cs gones l n b e = (typed table fs bs cs gones l n b e, (initialised table fs bs cs gones l n b e).0)
+bodies_are_sound table fs bs cs gones l n b e =
+    let i = initialised table fs bs cs gones l n b e in
+    (typed table fs bs cs gones l n b e, (i.0, i.1), number table fs bs cs gones l n b e)
 
 pub bodies_are_laid_out : BodiesAreLaidOut
 bodies_are_laid_out table fs bs cs gones l n b e =
@@ -138,15 +152,28 @@ locals_have_built_types table fs bs cs gones l n b e x t h =
     let w = found table fs bs cs gones l n b e in
     types_built w.1.owner w.0 b w.1.gone w.1.lowers (signatures fs) bs (fit table fs bs cs gones l n b e) (callee table fs bs cs gones l) (answer_built table fs bs cs gones l) x t h
 
+module _ (table : List (List ℕ)) (fs : List TypedFunction) (bs : Bodies) (cs : List Contract) (gones : List Initialised) (l : Lowers table fs bs cs gones) where
+  -- the labelling of the body that is found; any where there is none
+  abbrev labelling_at : (n : ℕ) (o : Option Body) → slice_get bs.bodies n ≡ o → Labelling
+  labelling_at n (Some b) e = (initialised table fs bs cs gones l n b e).0
+  labelling_at n None e = λ m i x. false
+
+  meets : (n : ℕ) (b : Body) (gone : Initialised) (o : Option Body) (e : slice_get bs.bodies n ≡ o) → o ≡ Some b → slice_get gones n ≡ Some gone → MeetsMoveRows b (labelling_at n o e) × HeadsAreThere b gone (labelling_at n o e)
+  meets n b gone None e is g = absurd (cc)
+  meets n b gone (Some k) e is g =
+      let w = found table fs bs cs gones l n k e in
+      let i = initialised table fs bs cs gones l n k e in
+      let heads : HeadsAreThere k gone i.0 = subst (λ (gg : Initialised). HeadsAreThere k gg i.0) (some_same (sym w.1.is_gone ∙ g)) i.2 in
+      subst (λ (c : Body). MeetsMoveRows c i.0 × HeadsAreThere c gone i.0) (some_same is) (i.1, heads)
+
 pub heads_speak_of_what_is_there : HeadsSpeakOfWhatIsThere
 heads_speak_of_what_is_there table fs bs cs gones l = (
-  λ n b e. (typed table fs bs cs gones l n b e, (initialised table fs bs cs gones l n b e).0),
-  λ n b gone e g.
-      let w = found table fs bs cs gones l n b e in
-      subst (λ (gg : Initialised). HeadsSpeak b gg (initialised table fs bs cs gones l n b e).0) (some_same (sym w.1.is_gone ∙ g)) (initialised table fs bs cs gones l n b e).1,
+  λ n. labelling_at table fs bs cs gones l n (slice_get bs.bodies n) refl,
+  λ n b gone e g. meets table fs bs cs gones l n b gone (slice_get bs.bodies n) refl e g,
 )
 
 pub contracts_speak_of_parameters : ContractsSpeakOfParameters
 contracts_speak_of_parameters table fs bs cs gones l n b e =
     let w = found table fs bs cs gones l n b e in
-    (contract_of w.0, w.1.gone, w.1.is_contract, w.1.is_gone, contract_speaks w.1.owner w.0 b w.1.gone w.1.lowers (signatures fs) (fit table fs bs cs gones l n b e))
+    let speaks = contract_speaks w.1.owner w.0 b w.1.gone w.1.lowers (signatures fs) (fit table fs bs cs gones l n b e) in
+    (contract_of w.0, w.1.gone, w.1.is_contract, w.1.is_gone, speaks.0, speaks.1)

@@ -77,7 +77,7 @@ mutual
   one_text c e d xs (of_call {s = s} {f = f} {es = es} {ts = ts} after {xs = us} p) l t n o =
       let w = one_args c es ts us p l t (from_left l (named_args p) _ n) (order_left t us _ o) in
       let k = labels_behind_args p l (after.0 ∷ []) n in
-      λ i. w.1 i ++ Turns (ends s (Call (whole d) (Function (fn_id.Body f)) (map copied (w.0 i)) (label (k.0 i)))) (at c (label (k.0 i))) ∷ []
+      λ i. w.1 i ++ Turns (ends s (Call (whole d) (Function (fn_id.Body f)) [] (map copied (w.0 i)) (label (k.0 i)))) (at c (label (k.0 i))) ∷ []
   one_text c e d xs (of_block p) l t n o = one_rest c false _ _ d xs p l t n o
   one_text c e d xs (of_branch {s = s} {e = a} {a = b} {t = t'} yes' no' after {xs = us} {ys = vs} p q) l t n o =
       let m = l + labels a in

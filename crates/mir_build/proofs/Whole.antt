@@ -22,7 +22,7 @@ use Rattle.type_check.specs.WellTyped.{FunctionFits, EachFits, ProgramFits, sign
 use Rattle.mir_build.specs.declared.builder.BodyText.{BodyText}
 use Rattle.mir_build.specs.declared.builder.OpenBlock.{OpenBlock}
 use Rattle.mir_build.specs.Text.{Line, Puts, Makes, Turns, Owns, Open, fresh, longer, close, closed, left_open, made, owned}
-use Rattle.mir_build.specs.Lowering.{numbers, counted, named_body, entry_title, paired, all_locals, gone_at, around_body, LowersTo, LowerTo, no_functions, and_function, contract_of, HasMoreBlocks, ends, blocks_in}
+use Rattle.mir_build.specs.Lowering.{numbers, counted, named_body, entry_title, paired, all_locals, gone_at, around_body, LowersTo, EachLowersTo, no_functions, and_function, contract_of, HasMoreBlocks, ends, blocks_in}
 use Rattle.mir_build.specs.Numbered.{labels, label}
 use Rattle.mir_build.specs.Built.{written, ended}
 use Rattle.mir_build.specs.Whole.{text_of_body, built, body_of, FailsFor}
@@ -100,8 +100,8 @@ is_for f = sym (length-counted 1 f.signature.params)
 built_parts : (f : TypedFunction) → built f ≡ text_at (closed (fresh (entry_title (label 0))) (text_of_body f)) (left_open (fresh (entry_title (label 0))) (text_of_body f)) (f.signature.answer ∷ (f.signature.params ++ types (text_of_body f))) (map gone_at (owned (text_of_body f)))
 built_parts f = written_parts (text_of_body f) [] (fresh (entry_title (label 0))) (f.signature.answer ∷ f.signature.params) []
 
-pub lowered : (σ : List Signature) (owner : List ℕ) (f : TypedFunction) → FunctionFits σ f → length (built f).locals < 2 ^ 32 → LowersTo owner f (body_of owner f (built f)) (record { gone = (built f).gone })
-lowered σ owner f w few =
+pub lowered : (σ : List Signature) (id : ℕ) (owner : List ℕ) (f : TypedFunction) → FunctionFits σ f → length (built f).locals < 2 ^ 32 → LowersTo owner f (body_of id owner f (built f)) (record { gone = (built f).gone })
+lowered σ id owner f w few =
     let text = text_of_body f in
     let parts = built_parts f in
     let order = body_in_order f.body (around_body f) 1 (1 + length f.signature.params) in
@@ -119,6 +119,8 @@ lowered σ owner f w few =
       all = ap length same ∙ (sym (length-paired 0 ts) ∙ sym (ap length all));
       few = omega (arith, few);
       owner_is = refl;
+      types = refl;
+      outlives = refl;
       params = refl;
       names = refl;
       span = refl;
@@ -134,8 +136,8 @@ closed_turns (Makes n t ∷ xs) o = closed_turns xs o
 closed_turns (Turns e b ∷ xs) o = ap suc (closed_turns xs (fresh b))
 closed_turns (Owns l ys ∷ xs) o = closed_turns xs o
 
-pub blocks_of : (owner : List ℕ) (f : TypedFunction) → length (body_of owner f (built f)).blocks ≡ 1 + labels f.body
-blocks_of owner f =
+pub blocks_of : (id : ℕ) (owner : List ℕ) (f : TypedFunction) → length (body_of id owner f (built f)).blocks ≡ 1 + labels f.body
+blocks_of id owner f =
     let text = text_of_body f in
     let e = ap (λ (x : BodyText). length x.blocks) (built_parts f) in
     omega (arith, e, closed_turns text (fresh (entry_title (label 0))), body_turned f.body (around_body f) 1 (1 + length f.signature.params), length-append (built f).blocks (ended (built f).open_block (ends (span_of f.body) Return) ∷ []))
@@ -152,10 +154,11 @@ fits_at σ (g ∷ fs) zero f w q h = rw q w.0
 fits_at σ (g ∷ fs) (suc i) f w q h = fits_at σ fs i f w.1 q (omega arith)
 
 -- one function more
-pub then_lower : (table : List (List ℕ)) (fs : List TypedFunction) (bs : List Body) (cs : List Contract) (gs : List Initialised) (f : TypedFunction) (b : Body) (g : Initialised) (owner : List ℕ)
-    → LowerTo table fs bs cs gs → text_of table f.name ≡ Some owner → LowersTo owner f b g → LowerTo table (fs ++ f ∷ []) (bs ++ b ∷ []) (cs ++ contract_of f ∷ []) (gs ++ g ∷ [])
-then_lower table fs bs cs gs f b g owner no_functions q w = and_function owner q w no_functions
-then_lower table (h ∷ fs) bs cs gs f b g owner (and_function other p v rest) q w = and_function other p v (then_lower table fs _ _ _ f b g owner rest q w)
+pub then_lower : (table : List (List ℕ)) (n : ℕ) (fs : List TypedFunction) (bs : List Body) (cs : List Contract) (gs : List Initialised) (f : TypedFunction) (b : Body) (g : Initialised) (owner : List ℕ)
+    → EachLowersTo table n fs bs cs gs → text_of table f.name ≡ Some owner → LowersTo owner f b g → b.id ≡ n + length bs → EachLowersTo table n (fs ++ f ∷ []) (bs ++ b ∷ []) (cs ++ contract_of f ∷ []) (gs ++ g ∷ [])
+then_lower table n fs bs cs gs f b g owner no_functions q w i = and_function owner q w (omega (arith, i)) no_functions
+then_lower table n (h ∷ fs) bs cs gs f b g owner (and_function {bs = ks} other p v d rest) q w i =
+    and_function other p v d (then_lower table (suc n) fs ks _ _ f b g owner rest q w (omega (arith, i)))
 
 -- the function at the place has too many blocks
 pub too_many : (p : TypedProgram) (i : ℕ) (f : TypedFunction) → f ≡ get_or p.functions i f → i < length p.functions → 4096 < 1 + labels f.body → ProgramFits p → HasMoreBlocks p 4096
@@ -178,10 +181,10 @@ fails_for P Q (errors.Source e) f h = h
 
 -- ---- what is answered
 
-pub answered : (σ : List Signature) (owner : List ℕ) (f : TypedFunction) (x : BodyText) (b : Body) (g : Initialised) → x ≡ built f → b ≡ body_of owner f x → g ≡ record { gone = x.gone } → length x.locals < 2 ^ 32 → FunctionFits σ f → LowersTo b.owner f b g
-answered σ owner f x b g p q r few w =
+pub answered : (σ : List Signature) (id : ℕ) (owner : List ℕ) (f : TypedFunction) (x : BodyText) (b : Body) (g : Initialised) → x ≡ built f → b ≡ body_of id owner f x → g ≡ record { gone = x.gone } → length x.locals < 2 ^ 32 → FunctionFits σ f → LowersTo b.owner f b g
+answered σ id owner f x b g p q r few w =
     let small : length (built f).locals < 2 ^ 32 = omega (arith, few, ap (λ (y : BodyText). length y.locals) p) in
-    rw (q, r, p) (lowered σ owner f w small)
+    rw (q, r, p) (lowered σ id owner f w small)
 
-pub few_blocks : (owner : List ℕ) (f : TypedFunction) (x : BodyText) (b : Body) → x ≡ built f → b ≡ body_of owner f x → 1 + labels f.body ≤ 4096 → length b.blocks ≤ 4096
-few_blocks owner f x b p q few = rw (q, p) (omega (arith, few, blocks_of owner f))
+pub few_blocks : (id : ℕ) (owner : List ℕ) (f : TypedFunction) (x : BodyText) (b : Body) → x ≡ built f → b ≡ body_of id owner f x → 1 + labels f.body ≤ 4096 → length b.blocks ≤ 4096
+few_blocks id owner f x b p q few = rw (q, p) (omega (arith, few, blocks_of id owner f))

@@ -1,7 +1,7 @@
 -- Lowering: a row for each form of expression, with any labels and temporaries, which a body has in the order of its rows: 0, 1 and so
 -- on. The order of evaluation is that of the Rust Reference: operands from the left, the right side of an assignment before its place,
 -- `&&` and `||` lazily.
-use Rattle.std.specs.Prelude.{◌≡◌, ℕ, ℤ, ◌+◌, ◌^◌, ◌<◌, ◌≤◌, Bool, true, false, List, [], ◌∷◌, ◌++◌, length, map, Some, None, slice_get}
+use Rattle.std.specs.Prelude.{◌≡◌, ℕ, suc, ℤ, ◌+◌, ◌^◌, ◌<◌, ◌≤◌, Bool, true, false, List, [], ◌∷◌, ◌++◌, length, map, Some, None, slice_get}
 use Rattle.std.specs.List.{range_with_len}
 use Rattle.text_core.specs.declared.name.Name.{Name}
 use Rattle.text_core.specs.declared.span.Span.{Span}
@@ -47,6 +47,7 @@ use Rattle.type_check.specs.TypedExpr as typed
 use Rattle.type_check.specs.TypedExprView.{ty_of, span_of}
 use Rattle.type_check.specs.VariableNames.{variable_name, answer_name}
 use Rattle.mir_build.specs.Text.{Title, Line, Puts, Makes, Turns, Owns, fresh, close, closed, left_open, begun, made, owned}
+use Rattle.mir_ir.specs.declared.body.Bodies.{Bodies}
 
 -- ---- what stands around an expression
 
@@ -161,7 +162,7 @@ mutual
     of_update_value : {c : Around} {ty : Ty} {s : Span} {op : BinaryOp} {a e : TypedExpr} {d t p : ℕ} (u : ℕ) {xs ys : List Line} → Into c e t xs → Into c a p ys
         → Into c (update_value ty s op a e) d (Makes t (ty_of e) ∷ (xs ++ Makes p (ty_of a) ∷ (ys ++ Makes u (ty_of e) ∷ puts s u (Binary op (copied p) (copied t)) ∷ puts s p (Use (moved u)) ∷ put_unit s d ∷ [])))
     of_call : {c : Around} {ty : Ty} {s : Span} {f : ℕ} {es : TypedExprs} {d : ℕ} {ts : List ℕ} (after : Label) {xs : List Line} → Args c es ts xs
-        → Into c (call ty s f es) d (xs ++ Turns (ends s (Call (whole d) (Function (fn_id.Body f)) (map copied ts) after)) (at c after) ∷ [])
+        → Into c (call ty s f es) d (xs ++ Turns (ends s (Call (whole d) (Function (fn_id.Body f)) [] (map copied ts) after)) (at c after) ∷ [])
     of_block : {c : Around} {ty : Ty} {s : Span} {ss : TypedStmts} {d : ℕ} {xs : List Line} → Rest c false s ss d xs → Into c (block ty s ss) d xs
     of_branch : {c : Around} {ty : Ty} {s : Span} {e a : TypedExpr} {d t : ℕ} (yes' no' after : Label) {xs ys : List Line} → Into c e t xs → Into c a d ys
         → Into c (branch ty s e a) d (Makes t (ty_of e) ∷ (xs ++ Turns (ends s (If (copied t) yes' no')) (at c yes') ∷ (ys ++ Turns (ends s (Goto after)) (at c no') ∷ put_unit s d ∷ Turns (ends s (Goto after)) (at c after) ∷ [])))
@@ -297,21 +298,31 @@ pub record LowersTo (owner : List ℕ) (f : TypedFunction) (b : Body) (gone : In
   -- locals have numbers of 32 bits
   pub few : length b.locals ≤ 2 ^ 32
   pub owner_is : b.owner ≡ owner
+  -- so far functions have no type parameters, and no lifetimes
+  pub types : b.types ≡ []
+  pub outlives : b.outlives ≡ []
   pub params : b.params ≡ length f.signature.params
   pub names : b.names ≡ map local_name (counted 0 b.locals)
   pub span : b.span ≡ f.span
   pub holds_nothing : gone.gone ≡ map gone_at (owned text)
 
 -- the functions from number n on, each with its text, lower to these bodies, contracts and gone places, one for each
-pub data LowerTo (table : List (List ℕ)) : List TypedFunction → List Body → List Contract → List Initialised → Type 0 where
-  no_functions : LowerTo table [] [] [] []
-  and_function : {f : TypedFunction} {fs : List TypedFunction} {b : Body} {bs : List Body} {cs : List Contract} {gone : Initialised} {gones : List Initialised} (owner : List ℕ)
-      → text_of table f.name ≡ Some owner → LowersTo owner f b gone → LowerTo table fs bs cs gones
-      → LowerTo table (f ∷ fs) (b ∷ bs) (contract_of f ∷ cs) (gone ∷ gones)
+pub data EachLowersTo (table : List (List ℕ)) : ℕ → List TypedFunction → List Body → List Contract → List Initialised → Type 0 where
+  no_functions : {n : ℕ} → EachLowersTo table n [] [] [] []
+  and_function : {n : ℕ} {f : TypedFunction} {fs : List TypedFunction} {b : Body} {bs : List Body} {cs : List Contract} {gone : Initialised} {gones : List Initialised} (owner : List ℕ)
+      → text_of table f.name ≡ Some owner → LowersTo owner f b gone → b.id ≡ n → EachLowersTo table (suc n) fs bs cs gones
+      → EachLowersTo table n (f ∷ fs) (b ∷ bs) (contract_of f ∷ cs) (gone ∷ gones)
+
+-- the functions of a program lower to these; so far it declares no types that bodies are looked up with
+pub record LowerTo (table : List (List ℕ)) (fs : List TypedFunction) (bodies : Bodies) (cs : List Contract) (gones : List Initialised) : Type 0 where
+  pub each : EachLowersTo table 0 fs bodies.bodies cs gones
+  pub decls : bodies.decls ≡ []
+  pub impls : bodies.impls ≡ []
+  pub closures : bodies.closures ≡ []
 
 -- the program lowers to these, by this table of names
 abbrev pub IsLowered : List (List ℕ) → TypedProgram → Lowered → Type 0
-IsLowered table p l = LowerTo table p.functions l.bodies.bodies l.contracts l.gone
+IsLowered table p l = LowerTo table p.functions l.bodies l.contracts l.gone
 
 -- the blocks of a text, the first one included
 abbrev pub blocks_in : List Line → ℕ

@@ -123,7 +123,7 @@ abbrev mutual
       ++ Makes u (ty_of e) ∷ puts s u (Binary op (copied p) (copied t)) ∷ puts s p (Use (moved u)) ∷ put_unit s d ∷ []))
   into (call ty s f es) c l t d =
       let m = l + labels_in es in
-      args es c l t ++ Turns (ends s (Call (whole d) (Function (fn_id.Body f)) (map copied (temporaries es t)) (label m))) (at c (label m)) ∷ []
+      args es c l t ++ Turns (ends s (Call (whole d) (Function (fn_id.Body f)) [] (map copied (temporaries es t)) (label m))) (at c (label m)) ∷ []
   into (block ty s ss) c l t d = rest ss false s c l t d
   into (branch ty s e a) c l t d =
       let m = l + labels e in

@@ -14,6 +14,7 @@ use Rattle.mir_build.specs.Text.{Line}
 use Rattle.mir_build.specs.Lowering.{around_body, entry_title, counted, local_name, ends}
 use Rattle.mir_build.specs.Numbered.{body_text, label}
 use Rattle.mir_build.specs.Built.{written, started, ended}
+use Rattle.mir_ir.specs.declared.body.Bodies.{Bodies}
 
 -- the text of a function's body
 abbrev pub text_of_body : TypedFunction → List Line
@@ -23,19 +24,22 @@ abbrev pub built : TypedFunction → BodyText
 built f = written (text_of_body f) (started (entry_title (label 0)) (f.signature.answer ∷ f.signature.params))
 
 -- the body of what is built
-abbrev pub body_of : List ℕ → TypedFunction → BodyText → Body
-body_of owner f x = record {
+abbrev pub body_of : ℕ → List ℕ → TypedFunction → BodyText → Body
+body_of id owner f x = record {
+  id = id;
   owner = owner;
+  types = [];
   params = length f.signature.params;
   locals = x.locals;
   names = map local_name (counted 0 x.locals);
+  outlives = [];
   entry = label 0;
   blocks = x.blocks ++ ended x.open_block (ends (span_of f.body) Return) ∷ [];
   span = f.span;
 }
 
-abbrev pub HaveFewBlocks : List Body → Type 0
-HaveFewBlocks bs = All (λ (b : Body). length b.blocks ≤ 4096) bs
+abbrev pub HaveFewBlocks : Bodies → Type 0
+HaveFewBlocks bs = All (λ (b : Body). length b.blocks ≤ 4096) bs.bodies
 
 abbrev pub too_many_blocks : Limit
 too_many_blocks = record { kind = Blocks; counted = 4097; bound = 4096 }

@@ -458,7 +458,8 @@ fn lower_call(
     let operands = lower_args(alloc, b, c, es)?;
     let after = b.take_labels(1)?;
     let function = Callee::Function(FnId::Body(f));
-    let call = TerminatorKind::Call(whole(alloc, d), function, operands, Label(after));
+    let types = Items::new(alloc);
+    let call = TerminatorKind::Call(whole(alloc, d), function, types, operands, Label(after));
     b.turn(alloc, c, span, call, after)?;
     Ok(())
 }

@@ -101,11 +101,12 @@ fn lower_text(alloc: Global, f: &TypedFunction) -> Result<BodyText, Stop>
 /// The body of what is built, and what may be gone in it. Want of memory is answered too where a number would pass 32 bits.
 fn finish(
     alloc: Global,
+    id: u32,
     owner: Text,
     f: &TypedFunction,
     text: BodyText,
 ) -> Result<(Body, Initialised), NoMemory>
-    ensures body { IfOk result (λ r. r.0 ≡ body_of owner f.now text) }
+    ensures body { IfOk result (λ r. r.0 ≡ body_of id owner f.now text) }
     ensures gone { IfOk result (λ r. r.1 ≡ record { gone = text.gone }) }
     ensures few { OnOk result (length text.locals < 2 ^ 32) }
 {
@@ -125,10 +126,13 @@ fn finish(
     };
     let names = local_names(alloc, locals.as_slice())?;
     let body = Body {
+        id,
         owner,
+        types: Items::new(alloc),
         params,
         locals,
         names,
+        outlives: Items::new(alloc),
         entry: Label(0),
         blocks,
         span: f.span,
@@ -149,14 +153,17 @@ fn refused(stop: Stop) -> PassError
     }
 }
 
-/// The body of a function, and what may be gone in it. Want of memory is answered too where the function's name has no text.
+/// The body of the function of the number, and what may be gone in it. Want of memory is answered too where the function's name has
+/// no text.
 pub(crate) fn lower_function(
     alloc: Global,
     names: &Names,
+    id: u32,
     f: &TypedFunction,
 ) -> Result<(Body, Initialised), PassError>
     ensures named { IfOk result (λ r. text_of names.now f.now.name ≡ Some r.0.owner) }
     ensures lowered { IfOk result (λ r. (σ : List Signature) → FunctionFits σ f.now → LowersTo r.0.owner f.now r.0 r.1) }
+    ensures numbered { IfOk result (λ r. r.0.id ≡ id) }
     ensures few { IfOk result (λ r. length r.0.blocks ≤ 4096) }
     ensures limit { IfErr result (FailsFor (4096 < 1 + labels f.now.body)) }
 {
@@ -166,6 +173,6 @@ pub(crate) fn lower_function(
     let owner = Text::from_bytes(alloc, owner.as_bytes())?;
     match lower_text(alloc, f) {
         Err(stop) => Err(refused(stop)),
-        Ok(text) => Ok(finish(alloc, owner, f, text)?),
+        Ok(text) => Ok(finish(alloc, id, owner, f, text)?),
     }
 }

@@ -18,24 +18,32 @@ use type_check::TypedProgram;
 /// # Errors
 ///
 /// `Limit` where the body of a function would have more than 4,096 blocks. `NoMemory` where memory is refused, where a
-/// number of a local or of a parameter would pass 32 bits, and where a function's name has no text in the table. The source
+/// number of a function, a local or a parameter would pass 32 bits, and where a function's name has no text in the table. The source
 /// is never refused.
 pub fn lower(alloc: Global, program: &TypedProgram, names: &Names) -> Result<Lowered, PassError>
     ensures lowered { ProgramFits program.now → IfOk result (λ l. IsLowered names.now program.now l) }
-    ensures few { IfOk result (λ l. HaveFewBlocks l.bodies.bodies) }
+    ensures few { IfOk result (λ l. HaveFewBlocks l.bodies) }
     ensures limit { IfErr result (FailsFor (ProgramFits program.now → HasMoreBlocks program.now 4096)) }
 {
     let mut bodies = Items::new(alloc);
     let mut contracts = Items::new(alloc);
     let mut gone = Items::new(alloc);
     for f in program.functions.as_slice() {
-        let (body, own) = lower_function(alloc, names, f)?;
+        let Ok(id) = u32::try_from(bodies.len()) else {
+            return Err(PassError::NoMemory);
+        };
+        let (body, own) = lower_function(alloc, names, id, f)?;
         bodies.push(body)?;
         contracts.push(contract_of(alloc, f)?)?;
         gone.push(own)?;
     }
     Ok(Lowered {
-        bodies: Bodies { bodies },
+        bodies: Bodies {
+            bodies,
+            decls: Items::new(alloc),
+            impls: Items::new(alloc),
+            closures: Items::new(alloc),
+        },
         contracts,
         gone,
     })

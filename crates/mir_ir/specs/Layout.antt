@@ -1,6 +1,6 @@
 -- Blocks in an order in which each edge leads on, or back to the head of a loop around it (reducible flow graphs: Aho, Lam, Sethi
 -- and Ullman 2006, 9.6). A block's nest has the heads of the loops around it, the outermost first, and its own label if it is a head.
-use Rattle.std.specs.Prelude.{◌≡◌, ℕ, suc, ◌+◌, ◌<◌, ◌==◌, cond, Bool, true, List, [], ◌∷◌, ◌++◌, Option, Some, None}
+use Rattle.std.specs.Prelude.{◌≡◌, ℕ, suc, ◌<◌, ◌==◌, cond, Bool, true, List, [], ◌∷◌, ◌++◌, Option, Some, None}
 use Rattle.std.specs.List.{list_any}
 use Rattle.logic_term.specs.declared.kinds.Label.{Label}
 use Rattle.mir_ir.specs.declared.terminator.TerminatorKind.{TerminatorKind}
@@ -18,7 +18,7 @@ among l ls = list_any (λ m. m.0 == l.0) ls
 abbrev pub targets : TerminatorKind → List Label
 targets (Goto l) = l ∷ []
 targets (If o l m) = l ∷ m ∷ []
-targets (Call p c args l) = l ∷ []
+targets (Call p callee types args l) = l ∷ []
 targets Return = []
 
 -- the place of the first block of the label

@@ -20,14 +20,14 @@ use Rattle.mir_ir.specs.declared.statement.Rvalue.TheVariants.{Use, Binary, Neg,
 use Rattle.mir_ir.specs.declared.statement.StatementKind.{StatementKind}
 use Rattle.mir_ir.specs.declared.statement.StatementKind.TheVariants.{Assign, Dead}
 use Rattle.mir_ir.specs.declared.statement.Statement.{Statement}
-use Rattle.mir_ir.specs.declared.terminator.FnId.TheVariants as fn_id
 use Rattle.mir_ir.specs.declared.terminator.Callee.{Callee}
-use Rattle.mir_ir.specs.declared.terminator.Callee.TheVariants.{Function}
 use Rattle.mir_ir.specs.declared.terminator.TerminatorKind.{TerminatorKind}
 use Rattle.mir_ir.specs.declared.terminator.TerminatorKind.TheVariants.{Goto, If, Call, Return}
 use Rattle.mir_ir.specs.declared.body.Block.{Block}
 use Rattle.mir_ir.specs.declared.body.Body.{Body}
+use Rattle.mir_ir.specs.declared.body.Bodies.{Bodies}
 use Rattle.mir_ir.specs.Body.{block_in}
+use Rattle.mir_ir.specs.Callees.{callee_body}
 
 -- ---- types
 
@@ -99,20 +99,24 @@ StatementIsTyped b (Dead x) = (t : Ty) × (slice_get b.locals x ≡ Some t)
 abbrev pub HasBlock : Body → Label → Type 0
 HasBlock b l = (k : Block) × (block_in b.blocks l ≡ Some k)
 
--- the callee is a body of the list, with one operand for each parameter, and the place has the type of its answer
-abbrev pub CallIsTyped : List Body → Body → Place → Callee → List Operand → Type 0
-CallIsTyped bodies b p (Function (fn_id.Body n)) os =
-    (c : Body) × (t : Ty) × (slice_get bodies n ≡ Some c) × OperandsHave b os (take c.params (drop 1 c.locals)) × (slice_get c.locals 0 ≡ Some t) × PlaceHas b p t
+-- the callee has a body, there is one type for each of its type parameters and one operand for each parameter, and the place has the
+-- type of its answer
+abbrev pub CallIsTyped : Bodies → Body → Place → Callee → List Ty → List Operand → Type 0
+CallIsTyped bodies b p callee types os =
+    (c : Body) × (t : Ty) × (callee_body bodies callee ≡ Some c) × OperandsHave b os (take c.params (drop 1 c.locals)) × (slice_get c.locals 0 ≡ Some t) × PlaceHas b p t
+    × (length types ≡ length c.types)
 
 -- each label that is named has a block
-abbrev pub EndIsTyped : List Body → Body → TerminatorKind → Type 0
+abbrev pub EndIsTyped : Bodies → Body → TerminatorKind → Type 0
 EndIsTyped bodies b (Goto l) = HasBlock b l
 EndIsTyped bodies b (If o on_true on_false) = OperandHas b o bool × HasBlock b on_true × HasBlock b on_false
-EndIsTyped bodies b (Call p callee os l) = CallIsTyped bodies b p callee os × HasBlock b l
+EndIsTyped bodies b (Call p callee types os l) = CallIsTyped bodies b p callee types os × HasBlock b l
 EndIsTyped bodies b Return = Unit {0}
 
 -- b is typed among these bodies
-pub record IsTyped (bodies : List Body) (b : Body) : Type 0 where
+pub record IsTyped (bodies : Bodies) (b : Body) : Type 0 where
+  -- so far bodies have no type parameters
+  pub ground : b.types ≡ []
   pub named : length b.names ≡ length b.locals
   -- the answer and the parameters are locals
   pub answers : b.params + 1 ≤ length b.locals
@@ -177,7 +181,7 @@ run (Dead x) set = without x set
 abbrev pub CanEnd : Locals → TerminatorKind → Type 0
 CanEnd set (Goto l) = Unit {0}
 CanEnd set (If o on_true on_false) = CanTake set o
-CanEnd set (Call p callee os l) = CanTakeAll set os
+CanEnd set (Call p callee types os l) = CanTakeAll set os
 CanEnd set Return = set 0 ≡ true
 
 abbrev pub Within : Locals → Locals → Type 0
@@ -188,21 +192,28 @@ Within small large = (x : ℕ) → small x ≡ true → large x ≡ true
 abbrev pub Carries : (Label → Locals) → Locals → TerminatorKind → Type 0
 Carries starts set (Goto l) = Within (starts l) set
 Carries starts set (If o on_true on_false) = Within (starts on_true) (taken o set) × Within (starts on_false) (taken o set)
-Carries starts set (Call p callee os l) = Within (starts l) (with p.local (all_taken os set))
+Carries starts set (Call p callee types os l) = Within (starts l) (with p.local (all_taken os set))
 Carries starts set Return = Unit {0}
 
 -- at entry exactly the parameters are initialised
 abbrev pub parameters : Body → Locals
 parameters b x = nat_lt 0 x && nat_lt x (b.params + 1)
 
--- some sets, one before each statement and each block's end, have only locals that are surely initialised there
-pub record IsInitialised (b : Body) : Type 0 where
-  pub at : Label → ℕ → Locals
+-- a set of locals before each statement and each block's end, by the block's label and the statement's number
+abbrev pub Labelling : Type 0
+Labelling = Label → ℕ → Locals
+
+-- the sets have only locals that are surely initialised there
+pub record MeetsMoveRows (b : Body) (at : Labelling) : Type 0 where
   pub entry : Within (at b.entry 0) (parameters b)
   pub statements : (l : Label) (k : Block) (i : ℕ) (st : Statement) → block_in b.blocks l ≡ Some k → slice_get k.statements i ≡ Some st → CanRun (at l i) st.kind × Within (at l (i + 1)) (run st.kind (at l i))
   pub ends : (l : Label) (k : Block) → block_in b.blocks l ≡ Some k → CanEnd (at l (length k.statements)) k.end.kind
   pub edges : (l : Label) (k : Block) → block_in b.blocks l ≡ Some k → Carries (λ l'. at l' 0) (at l (length k.statements)) k.end.kind
 
--- each body is both
-abbrev pub AreSound : List Body → Type 0
-AreSound bodies = (f : ℕ) (b : Body) → slice_get bodies f ≡ Some b → IsTyped bodies b × IsInitialised b
+-- some labelling does so
+abbrev pub IsInitialised : Body → Type 0
+IsInitialised b = (at : Labelling) × MeetsMoveRows b at
+
+-- each body has its place as its number, and is both
+abbrev pub AreSound : Bodies → Type 0
+AreSound bodies = (f : ℕ) (b : Body) → slice_get bodies.bodies f ≡ Some b → IsTyped bodies b × IsInitialised b × (b.id ≡ f)

@@ -1,7 +1,7 @@
 use crate::place::Place;
 use crate::statement::Statement;
-use crate::terminator::Terminator;
-use logic_term::{Label, Term, Ty};
+use crate::terminator::{Callee, FnId, Terminator};
+use logic_term::{AdtDecl, Bounds, Label, Region, Term, TraitId, Ty};
 use text_core::{Items, Name, Span, Text};
 
 /// The head of a loop: the loop's invariants, over the names of the locals, and the span of each.
@@ -33,11 +33,17 @@ pub struct Point {
 /// local.
 #[derive(Drop)]
 pub struct Body {
+    /// Its place in the list of bodies.
+    pub id: u32,
     /// The function, as the report spells it.
     pub owner: Text,
+    /// The type parameters, with what each must meet.
+    pub types: Items<(Name, Bounds)>,
     pub params: u32,
     pub locals: Items<Ty>,
     pub names: Items<Name>,
+    /// The declared bounds of lifetimes: the first outlives the second.
+    pub outlives: Items<(Region, Region)>,
     pub entry: Label,
     /// The first block of a label counts.
     pub blocks: Items<(Label, Block)>,
@@ -62,10 +68,36 @@ impl Body {
     }
 }
 
-/// The bodies of a program.
+/// The methods of an impl of a trait for a type, in the order of the trait's.
+#[derive(Drop)]
+pub struct ImplBody {
+    pub tr: TraitId,
+    pub target: Ty,
+    pub methods: Items<FnId>,
+}
+
+/// The bodies of a program, with what their types and calls are looked up in.
 #[derive(Drop)]
 pub struct Bodies {
     pub bodies: Items<Body>,
+    /// The declared types.
+    pub decls: Items<AdtDecl>,
+    pub impls: Items<ImplBody>,
+    /// The body of each closure, by the closure's number.
+    pub closures: Items<FnId>,
+}
+
+impl Bodies {
+    ghost use Rattle.std.specs.Prelude.{◌≡◌};
+    ghost use Rattle.mir_ir.specs.Callees.{callee_of};
+
+    /// The number of the body that a call runs; `None` exactly where the callee has none.
+    pub fn callee_of(&self, callee: Callee) -> Option<u32>
+        ensures { result ≡ callee_of self.now callee }
+    {
+        let Callee::Function(FnId::Body(number)) = callee;
+        Some(number)
+    }
 }
 
 /// For points of a body, the places that may be gone there: those that were moved or never written on some way to the point.

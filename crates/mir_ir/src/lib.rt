@@ -6,7 +6,7 @@ mod place;
 mod statement;
 mod terminator;
 
-pub use body::{Block, Bodies, Body, Head, Initialised, Point};
+pub use body::{Block, Bodies, Body, Head, ImplBody, Initialised, Point};
 pub use place::{Lit, Operand, Place, Proj};
 pub use statement::{Rvalue, Statement, StatementKind};
 pub use terminator::{Callee, FnId, Terminator, TerminatorKind};

@@ -1,5 +1,5 @@
 use crate::place::{Operand, Place};
-use logic_term::Label;
+use logic_term::{Label, Ty};
 use text_core::{Items, Span};
 
 /// A function that can be called.
@@ -19,8 +19,9 @@ pub enum TerminatorKind {
     Goto(Label),
     /// To the first label where the operand is true, else to the second.
     If(Operand, Label, Label),
-    /// A call with these arguments. Its answer goes to the place, and the body goes on at the label.
-    Call(Place, Callee, Items<Operand>, Label),
+    /// A call with a type for each type parameter of the callee, and with these arguments. Its answer goes to the place, and the
+    /// body goes on at the label.
+    Call(Place, Callee, Items<Ty>, Items<Operand>, Label),
     Return,
 }
 
@@ -30,7 +31,7 @@ impl Drop for TerminatorKind {
         match self {
             TerminatorKind::Goto(_)
             | TerminatorKind::If(_, _, _)
-            | TerminatorKind::Call(_, _, _, _)
+            | TerminatorKind::Call(_, _, _, _, _)
             | TerminatorKind::Return => {}
         }
     }

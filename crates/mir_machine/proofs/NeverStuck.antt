@@ -53,6 +53,8 @@ use Rattle.mir_machine.specs.Good.{called, IsProper}
 use Rattle.mir_machine.specs.Run.{IsSafe}
 use Rattle.mir_machine.proofs.Tried.{Goes, goes_then}
 use Rattle.mir_machine.proofs.Wholes.{try_step-whole, come_back-whole}
+use Rattle.mir_ir.specs.declared.body.Bodies.{Bodies}
+use Rattle.mir_machine.specs.Code.{Code, code_of}
 
 -- ---- places are whole locals
 
@@ -77,13 +79,13 @@ operands_whole b [] ts h = tt
 operands_whole b (o ∷ os) [] h = absurd h
 operands_whole b (o ∷ os) (t ∷ ts) h = (operand_whole b o t h.0, operands_whole b os ts h.1)
 
-end_wholes : (bodies : List Body) (b : Body) (end : TerminatorKind) → EndIsTyped bodies b end → EndNamesWholes end
+end_wholes : (bodies : Bodies) (b : Body) (end : TerminatorKind) → EndIsTyped bodies b end → EndNamesWholes end
 end_wholes bodies b (Goto l) h = tt
 end_wholes bodies b (If o on_true on_false) h = operand_whole b o bool h.0
-end_wholes bodies b (Call p (Function (fn_id.Body n)) os l) ((c, t, is_body, have, first, place), leads) = (place.0, operands_whole b os (take c.params (drop 1 c.locals)) have)
+end_wholes bodies b (Call p (Function (fn_id.Body n)) types os l) ((c, t, is_body, have, first, place, as_many), leads) = (place.0, operands_whole b os (take c.params (drop 1 c.locals)) have)
 end_wholes bodies b Return h = tt
 
-pub sound_wholes : (bodies : List Body) → AreSound bodies → AllNameWholes bodies
+pub sound_wholes : (bodies : Bodies) → AreSound bodies → AllNameWholes bodies
 sound_wholes bodies sound f b is_body = record {
   statements = λ l k i st is_block is_statement. statement_wholes b st.kind ((sound f b is_body).0.statements l k i st is_block is_statement);
   ends = λ l k is_block. end_wholes bodies b k.end.kind ((sound f b is_body).0.ends l k is_block);
@@ -424,7 +426,7 @@ get_append (z ∷ xs) ys (suc n) x e = get_append xs ys n x e
 start_length : {K : Type 0} (args : List (Tree K)) (n : ℕ) → length args + 1 ≤ n → length (Gone ∷ (args ++ replicate (n - 1 - length args) Gone)) ≡ n
 start_length {K} args n h = omega (arith, length-append args (replicate (n - 1 - length args) Gone), length-replicate {A = Tree K} (n - 1 - length args) Gone)
 
-params_length : (bodies : List Body) (b : Body) → IsTyped bodies b → length (take b.params (drop 1 b.locals)) ≡ b.params
+params_length : (bodies : Bodies) (b : Body) → IsTyped bodies b → length (take b.params (drop 1 b.locals)) ≡ b.params
 params_length bodies b typed = let h = typed.answers in grind (arith, length-take, length-drop)
 
 and_right : (a b : Bool) → (a && b) ≡ true → b ≡ true
@@ -446,7 +448,7 @@ operands_go {K} b θ set ls (o ∷ os) (ty ∷ tys) h have can =
     (λ l kept. goes_then (AreArguments b θ end tys) (AreArguments b θ end (ty ∷ tys)) (take_operands l.0 os) (more l.1) (operands_go b θ (taken o set) l.0 os tys kept.0 have.1 can.1)
     (λ r args. (args.0, (ap suc args.1.0, shaped_more θ l.1 ty r.1 tys kept.1 args.1.1))))
 
-pub entered_fits : {K : Type 0} (bodies : List Body) (b : Body) (f : ℕ) (θ : Tys) (args : List (Tree K)) → IsTyped bodies b → (length args ≡ length (take b.params (drop 1 b.locals))) × AreShaped θ args (take b.params (drop 1 b.locals)) → Fits b θ (parameters b) (entered b f θ args).locals
+pub entered_fits : {K : Type 0} (bodies : Bodies) (b : Body) (f : ℕ) (θ : Tys) (args : List (Tree K)) → IsTyped bodies b → (length args ≡ length (take b.params (drop 1 b.locals))) × AreShaped θ args (take b.params (drop 1 b.locals)) → Fits b θ (parameters b) (entered b f θ args).locals
 entered_fits {K} bodies b f θ args typed of_args = record {
   slot = λ x ty e. get_first (entered b f θ args).locals x (omega (arith, room, slice_get_within b.locals x ty e));
   shaped = shaped;
@@ -471,39 +473,40 @@ entered_fits {K} bodies b f θ args typed of_args = record {
 -- ---- frames
 
 -- the frame stands in its body, with locals as the body's labelling says
-pub record Ready {K : Type 0} (bodies : List Body) (sound : AreSound bodies) (f : Frame K) : Type 0 where
+pub record Ready {K : Type 0} (bodies : Bodies) (sound : AreSound bodies) (f : Frame K) : Type 0 where
   pub body : Body
-  pub is_body : slice_get bodies f.function ≡ Some body
+  pub is_body : slice_get bodies.bodies f.function ≡ Some body
   pub ground : f.types ≡ no_tys
   pub block : Block
   pub is_block : block_in body.blocks f.label ≡ Some block
   pub within : f.statement ≤ length block.statements
-  pub fitting : Fits body f.types ((sound f.function body is_body).1.at f.label f.statement) f.locals
+  pub fitting : Fits body f.types ((sound f.function body is_body).1.0 f.label f.statement) f.locals
 
 -- the frame waits at its call of body n, which has taken the operands
-pub record Waits {K : Type 0} (bodies : List Body) (sound : AreSound bodies) (f : Frame K) (n : ℕ) : Type 0 where
+pub record Waits {K : Type 0} (bodies : Bodies) (sound : AreSound bodies) (f : Frame K) (n : ℕ) : Type 0 where
   pub body : Body
-  pub is_body : slice_get bodies f.function ≡ Some body
+  pub is_body : slice_get bodies.bodies f.function ≡ Some body
   pub ground : f.types ≡ no_tys
   pub block : Block
   pub is_block : block_in body.blocks f.label ≡ Some block
   pub place : Place
+  pub types : List Ty
   pub operands : List Operand
   pub label : Label
-  pub calls : block.end.kind ≡ Call place (Function (fn_id.Body n)) operands label
-  pub fitting : Fits body f.types (all_taken operands ((sound f.function body is_body).1.at f.label (length block.statements))) f.locals
+  pub calls : block.end.kind ≡ Call place (Function (fn_id.Body n)) types operands label
+  pub fitting : Fits body f.types (all_taken operands ((sound f.function body is_body).1.0 f.label (length block.statements))) f.locals
 
 -- the tree has the shape of the answer of body n
-abbrev pub IsAnswer : {K : Type 0} → List Body → ℕ → Tree K → Type 0
-IsAnswer bodies n t = (b : Body) × (slice_get bodies n ≡ Some b) × Shape (answer_ty b no_tys) t
+abbrev pub IsAnswer : {K : Type 0} → Bodies → ℕ → Tree K → Type 0
+IsAnswer bodies n t = (b : Body) × (slice_get bodies.bodies n ≡ Some b) × Shape (answer_ty b no_tys) t
 
 -- the frame of body n is ready for its next step; or it waits, and the frame that it calls is ready; or it answers
-abbrev pub EndsWell : {K : Type 0} (bodies : List Body) → AreSound bodies → ℕ → FrameEnd K → Type 0
+abbrev pub EndsWell : {K : Type 0} (bodies : Bodies) → AreSound bodies → ℕ → FrameEnd K → Type 0
 EndsWell bodies sound n (Stays f) = Ready bodies sound f × (f.function ≡ n)
 EndsWell bodies sound n (Calls f g) = Ready bodies sound g × Waits bodies sound f g.function × (f.function ≡ n)
 EndsWell bodies sound n (Answers t) = IsAnswer bodies n t
 
-ready_entered : {K : Type 0} (bodies : List Body) (sound : AreSound bodies) (n : ℕ) (b : Body) (args : List (Tree K)) → slice_get bodies n ≡ Some b
+ready_entered : {K : Type 0} (bodies : Bodies) (sound : AreSound bodies) (n : ℕ) (b : Body) (args : List (Tree K)) → slice_get bodies.bodies n ≡ Some b
     → (length args ≡ length (take b.params (drop 1 b.locals))) × AreShaped no_tys args (take b.params (drop 1 b.locals)) → Ready bodies sound (entered b n no_tys args)
 ready_entered bodies sound n b args is_body of_args =
     let both = sound n b is_body in
@@ -514,12 +517,12 @@ ready_entered bodies sound n b args is_body of_args =
       block = both.0.begins.0;
       is_block = both.0.begins.1;
       within = omega arith;
-      fitting = fits_within b no_tys (both.1.at b.entry 0) (parameters b) (entered b n no_tys args).locals both.1.entry (entered_fits bodies b n no_tys args both.0 of_args);
+      fitting = fits_within b no_tys (both.1.0 b.entry 0) (parameters b) (entered b n no_tys args).locals both.1.1.entry (entered_fits bodies b n no_tys args both.0 of_args);
     }
 
 -- the frame goes on at the start of a block
-ready_starting : {K : Type 0} (bodies : List Body) (sound : AreSound bodies) (f : Frame K) (b : Body) (is_body : slice_get bodies f.function ≡ Some b) (set : Locals) (ls : List (Tree K)) (l : Label) → f.types ≡ no_tys
-    → ((k : Block) × (block_in b.blocks l ≡ Some k)) → Within ((sound f.function b is_body).1.at l 0) set → Fits b f.types set ls → Ready bodies sound (starting f ls l)
+ready_starting : {K : Type 0} (bodies : Bodies) (sound : AreSound bodies) (f : Frame K) (b : Body) (is_body : slice_get bodies.bodies f.function ≡ Some b) (set : Locals) (ls : List (Tree K)) (l : Label) → f.types ≡ no_tys
+    → ((k : Block) × (block_in b.blocks l ≡ Some k)) → Within ((sound f.function b is_body).1.0 l 0) set → Fits b f.types set ls → Ready bodies sound (starting f ls l)
 ready_starting bodies sound f b is_body set ls l ground leads within h = record {
   body = b;
   is_body = is_body;
@@ -527,18 +530,18 @@ ready_starting bodies sound f b is_body set ls l ground leads within h = record 
   block = leads.0;
   is_block = leads.1;
   within = omega arith;
-  fitting = fits_within b f.types ((sound f.function b is_body).1.at l 0) set ls within h;
+  fitting = fits_within b f.types ((sound f.function b is_body).1.0 l 0) set ls within h;
 }
 
-module _ {K : Type 0} (bodies : List Body) (sound : AreSound bodies) (f : Frame K) (r : Ready bodies sound f) where
+module _ {K : Type 0} (code : Code K) (sound : AreSound code.program) (f : Frame K) (r : Ready code.program sound f) where
   abbrev Well : FrameEnd K → Type 0
-  Well = EndsWell bodies sound f.function
+  Well = EndsWell code.program sound f.function
 
-  statement_goes : (st : Statement) → slice_get r.block.statements f.statement ≡ Some st → Goes Well (frame_row bodies r.body f r.block.end (Some st))
+  statement_goes : (st : Statement) → slice_get r.block.statements f.statement ≡ Some st → Goes Well (frame_row code r.body f r.block.end (Some st))
   statement_goes st e =
       let ready = sound f.function r.body r.is_body in
-      let set = ready.1.at f.label f.statement in
-      let rows = ready.1.statements f.label r.block f.statement st r.is_block e in
+      let set = ready.1.0 f.label f.statement in
+      let rows = ready.1.1.statements f.label r.block f.statement st r.is_block e in
       goes_then (Fits r.body f.types (run st.kind set)) Well (run_local r.body f.types f.locals st.span st.kind) (λ ls. Yields (Stays (record f { locals = ls; statement = f.statement + 1 })))
       (run_goes r.body f.types set f.locals st.span st.kind r.fitting (ready.0.statements f.label r.block f.statement st r.is_block e) rows.0)
       (λ ls h. (
@@ -549,39 +552,39 @@ module _ {K : Type 0} (bodies : List Body) (sound : AreSound bodies) (f : Frame 
           block = r.block;
           is_block = r.is_block;
           within = omega (arith, slice_get_within r.block.statements f.statement st e);
-          fitting = fits_within r.body f.types (ready.1.at f.label (f.statement + 1)) (run st.kind set) ls rows.1 h;
+          fitting = fits_within r.body f.types (ready.1.0 f.label (f.statement + 1)) (run st.kind set) ls rows.1 h;
         },
         refl,
       ))
 
   -- what is initialised at the block's end
   abbrev end_set : Locals
-  end_set = (sound f.function r.body r.is_body).1.at f.label (length r.block.statements)
+  end_set = (sound f.function r.body r.is_body).1.0 f.label (length r.block.statements)
 
-  goto_goes : (l : Label) → Fits r.body f.types end_set f.locals → EndIsTyped bodies r.body (Goto l) → Carries (λ l'. (sound f.function r.body r.is_body).1.at l' 0) end_set (Goto l) → Goes Well (frame_end bodies f (Goto l))
-  goto_goes l h typed carries = (ready_starting bodies sound f r.body r.is_body end_set f.locals l r.ground typed carries h, refl)
+  goto_goes : (l : Label) → Fits r.body f.types end_set f.locals → EndIsTyped code.program r.body (Goto l) → Carries (λ l'. (sound f.function r.body r.is_body).1.0 l' 0) end_set (Goto l) → Goes Well (frame_end code f (Goto l))
+  goto_goes l h typed carries = (ready_starting code.program sound f r.body r.is_body end_set f.locals l r.ground typed carries h, refl)
 
-  if_goes : (o : Operand) (on_true on_false : Label) → Fits r.body f.types end_set f.locals → EndIsTyped bodies r.body (If o on_true on_false) → CanEnd end_set (If o on_true on_false)
-      → Carries (λ l'. (sound f.function r.body r.is_body).1.at l' 0) end_set (If o on_true on_false) → Goes Well (frame_end bodies f (If o on_true on_false))
+  if_goes : (o : Operand) (on_true on_false : Label) → Fits r.body f.types end_set f.locals → EndIsTyped code.program r.body (If o on_true on_false) → CanEnd end_set (If o on_true on_false)
+      → Carries (λ l'. (sound f.function r.body r.is_body).1.0 l' 0) end_set (If o on_true on_false) → Goes Well (frame_end code f (If o on_true on_false))
   if_goes o on_true on_false h typed can carries =
       goes_then (Keeps r.body f.types (taken o end_set) bool) Well (take_operand f.locals o) (λ l. truth_of l.1 >>= λ b. Yields (Stays (starting f l.0 (cond b on_true on_false)))) (take_goes r.body f.types end_set f.locals o bool h typed.0 can)
       (λ l kept. branch l.0 l.1 kept.0 kept.1)
     where
-      to : (b : Bool) (ls : List (Tree K)) → Fits r.body f.types (taken o end_set) ls → Ready bodies sound (starting f ls (cond b on_true on_false))
-      to true ls fits = ready_starting bodies sound f r.body r.is_body (taken o end_set) ls on_true r.ground typed.1 carries.0 fits
-      to false ls fits = ready_starting bodies sound f r.body r.is_body (taken o end_set) ls on_false r.ground typed.2 carries.1 fits
+      to : (b : Bool) (ls : List (Tree K)) → Fits r.body f.types (taken o end_set) ls → Ready code.program sound (starting f ls (cond b on_true on_false))
+      to true ls fits = ready_starting code.program sound f r.body r.is_body (taken o end_set) ls on_true r.ground typed.1 carries.0 fits
+      to false ls fits = ready_starting code.program sound f r.body r.is_body (taken o end_set) ls on_false r.ground typed.2 carries.1 fits
 
       branch : (ls : List (Tree K)) (t : Tree K) → Fits r.body f.types (taken o end_set) ls → Shape bool t → Goes Well (truth_of t >>= λ b. Yields (Stays (starting f ls (cond b on_true on_false))))
       branch ls t fits (there, (b, is)) = subst (λ u. Goes Well (truth_of u >>= λ c. Yields (Stays (starting f ls (cond c on_true on_false))))) (sym is) (to b ls fits, refl)
 
-  call_goes : (p : Place) (n : ℕ) (os : List Operand) (l : Label) → r.block.end.kind ≡ Call p (Function (fn_id.Body n)) os l → Fits r.body f.types end_set f.locals → EndIsTyped bodies r.body (Call p (Function (fn_id.Body n)) os l)
-      → CanTakeAll end_set os → Goes Well (frame_end bodies f (Call p (Function (fn_id.Body n)) os l))
-  call_goes p n os l is h ((c, t, is_callee, have, first, place), leads) can =
+  call_goes : (p : Place) (n : ℕ) (types : List Ty) (os : List Operand) (l : Label) → r.block.end.kind ≡ Call p (Function (fn_id.Body n)) types os l → Fits r.body f.types end_set f.locals → EndIsTyped code.program r.body (Call p (Function (fn_id.Body n)) types os l)
+      → CanTakeAll end_set os → Goes Well (frame_end code f (Call p (Function (fn_id.Body n)) types os l))
+  call_goes p n types os l is h ((c, t, is_callee, have, first, place, as_many), leads) can =
       let tys : List Ty = take c.params (drop 1 c.locals) in
-      goes_then (AreArguments r.body f.types (all_taken os end_set) tys) Well (take_operands f.locals os) (λ a. callee_frame bodies (Function (fn_id.Body n)) a.1 >>= λ g. Yields (Calls (record f { locals = a.0 }) g))
+      goes_then (AreArguments r.body f.types (all_taken os end_set) tys) Well (take_operands f.locals os) (λ a. callee_frame code.program (Function (fn_id.Body n)) a.1 >>= λ g. Yields (Calls (record f { locals = a.0 }) g))
       (operands_go r.body f.types end_set f.locals os tys h have can)
       (λ a args. subst (λ (o : Option Body). Goes Well ((need o >>= λ b. Yields (entered b n no_tys a.1)) >>= λ g. Yields (Calls (record f { locals = a.0 }) g))) (sym is_callee) (
-        ready_entered bodies sound n c a.1 is_callee (args.1.0, subst (λ θ. AreShaped θ a.1 tys) r.ground args.1.1),
+        ready_entered code.program sound n c a.1 is_callee (args.1.0, subst (λ θ. AreShaped θ a.1 tys) r.ground args.1.1),
         record {
           body = r.body;
           is_body = r.is_body;
@@ -589,6 +592,7 @@ module _ {K : Type 0} (bodies : List Body) (sound : AreSound bodies) (f : Frame 
           block = r.block;
           is_block = r.is_block;
           place = p;
+          types = types;
           operands = os;
           label = l;
           calls = is;
@@ -597,53 +601,54 @@ module _ {K : Type 0} (bodies : List Body) (sound : AreSound bodies) (f : Frame 
         refl,
       ))
 
-  return_goes : Fits r.body f.types end_set f.locals → end_set 0 ≡ true → Goes Well (frame_end bodies f Return)
+  return_goes : Fits r.body f.types end_set f.locals → end_set 0 ≡ true → Goes Well (frame_end code f Return)
   return_goes h can =
       let answer = get_first r.body.locals 0 (omega (arith, (sound f.function r.body r.is_body).0.answers)) in
       goes_then (Shape (instance f.types answer.0)) Well (local_tree f.locals 0) (λ t. Yields (Answers t)) (local_goes r.body f.types end_set f.locals 0 answer.0 h answer.1 can)
       (λ t shape. (r.body, r.is_body, subst (λ ty. Shape (instance no_tys ty) t) (sym (answer_is r.body.locals answer.0 answer.1)) (subst (λ θ. Shape (instance θ answer.0) t) r.ground shape)))
 
-  end_goes : (end : TerminatorKind) → r.block.end.kind ≡ end → Fits r.body f.types end_set f.locals → EndIsTyped bodies r.body end → CanEnd end_set end → Carries (λ l'. (sound f.function r.body r.is_body).1.at l' 0) end_set end → Goes Well (frame_end bodies f end)
+  end_goes : (end : TerminatorKind) → r.block.end.kind ≡ end → Fits r.body f.types end_set f.locals → EndIsTyped code.program r.body end → CanEnd end_set end → Carries (λ l'. (sound f.function r.body r.is_body).1.0 l' 0) end_set end → Goes Well (frame_end code f end)
   end_goes (Goto l) is h typed can carries = goto_goes l h typed carries
   end_goes (If o on_true on_false) is h typed can carries = if_goes o on_true on_false h typed can carries
-  end_goes (Call p (Function (fn_id.Body n)) os l) is h typed can carries = call_goes p n os l is h typed can
+  end_goes (Call p (Function (fn_id.Body n)) types os l) is h typed can carries = call_goes p n types os l is h typed can
   end_goes Return is h typed can carries = return_goes h can
 
-  row_goes : (o : Option Statement) → slice_get r.block.statements f.statement ≡ o → Goes Well (frame_row bodies r.body f r.block.end o)
+  row_goes : (o : Option Statement) → slice_get r.block.statements f.statement ≡ o → Goes Well (frame_row code r.body f r.block.end o)
   row_goes (Some st) e = statement_goes st e
   row_goes None e =
       let ready = sound f.function r.body r.is_body in
       let at_end : f.statement ≡ length r.block.statements = omega (arith, get_past r.block.statements f.statement e, r.within) in
-      end_goes r.block.end.kind refl (subst (λ i. Fits r.body f.types (ready.1.at f.label i) f.locals) at_end r.fitting) (ready.0.ends f.label r.block r.is_block) (ready.1.ends f.label r.block r.is_block) (ready.1.edges f.label r.block r.is_block)
+      end_goes r.block.end.kind refl (subst (λ i. Fits r.body f.types (ready.1.0 f.label i) f.locals) at_end r.fitting) (ready.0.ends f.label r.block r.is_block) (ready.1.1.ends f.label r.block r.is_block) (ready.1.1.edges f.label r.block r.is_block)
 
-pub frame_goes : {K : Type 0} (bodies : List Body) (sound : AreSound bodies) (f : Frame K) → Ready bodies sound f → Goes (EndsWell bodies sound f.function) (frame_step bodies f)
-frame_goes {K} bodies sound f r =
-    let at_block : Body → Block → Try (FrameEnd K) = λ b k. frame_row bodies b f k.end (slice_get k.statements f.statement) in
-    subst (Goes (EndsWell bodies sound f.function))
+pub frame_goes : {K : Type 0} (code : Code K) (sound : AreSound code.program) (f : Frame K) → Ready code.program sound f → Goes (EndsWell code.program sound f.function) (frame_step code f)
+frame_goes {K} code sound f r =
+    let at_block : Body → Block → Try (FrameEnd K) = λ b k. frame_row code b f k.end (slice_get k.statements f.statement) in
+    subst (Goes (EndsWell code.program sound f.function))
     (sym (ap (λ o. need o >>= λ b. need (block_in b.blocks f.label) >>= at_block b) r.is_body ∙ ap (λ o. need o >>= at_block r.body) r.is_block))
-    (row_goes bodies sound f r (slice_get r.block.statements f.statement) refl)
+    (row_goes code sound f r (slice_get r.block.statements f.statement) refl)
 
 -- the frame that waits goes on with an answer of the body that it called
-resumed_goes : {K : Type 0} (bodies : List Body) (sound : AreSound bodies) (f : Frame K) (n : ℕ) (t : Tree K) → Waits bodies sound f n → IsAnswer bodies n t → Goes (λ g. Ready bodies sound g × (g.function ≡ f.function)) (resumed bodies t f)
+resumed_goes : {K : Type 0} (bodies : Bodies) (sound : AreSound bodies) (f : Frame K) (n : ℕ) (t : Tree K) → Waits bodies sound f n → IsAnswer bodies n t → Goes (λ g. Ready bodies sound g × (g.function ≡ f.function)) (resumed bodies t f)
 resumed_goes {K} bodies sound f n t w (c, is_callee, shape) =
     let both = sound f.function w.body w.is_body in
     let p = w.place in
     let l = w.label in
+    let types = w.types in
     let os = w.operands in
-    let starts : Label → Locals = λ l'. both.1.at l' 0 in
-    let end_set : Locals = both.1.at f.label (length w.block.statements) in
+    let starts : Label → Locals = λ l'. both.1.0 l' 0 in
+    let end_set : Locals = both.1.0 f.label (length w.block.statements) in
     let found : frame_block bodies f ≡ Some w.block = ap (option_and_then (λ b. block_in b.blocks f.label)) w.is_body ∙ w.is_block in
-    let typed : EndIsTyped bodies w.body (Call p (Function (fn_id.Body n)) os l) = subst (EndIsTyped bodies w.body) w.calls (both.0.ends f.label w.block w.is_block) in
-    let carries : Carries starts end_set (Call p (Function (fn_id.Body n)) os l) = subst (Carries starts end_set) w.calls (both.1.edges f.label w.block w.is_block) in
+    let typed : EndIsTyped bodies w.body (Call p (Function (fn_id.Body n)) types os l) = subst (EndIsTyped bodies w.body) w.calls (both.0.ends f.label w.block w.is_block) in
+    let carries : Carries starts end_set (Call p (Function (fn_id.Body n)) types os l) = subst (Carries starts end_set) w.calls (both.1.1.edges f.label w.block w.is_block) in
     let Fine : Frame K → Type 0 = λ g. Ready bodies sound g × (g.function ≡ f.function) in
     subst (λ (o : Option Block). Goes Fine (need o >>= λ k. resumed_at t f k.end.kind)) (sym found)
     (subst (λ end. Goes Fine (resumed_at t f end)) (sym w.calls) (with_typed typed carries))
   where
-    with_typed : EndIsTyped bodies w.body (Call w.place (Function (fn_id.Body n)) w.operands w.label) →
-        Within ((sound f.function w.body w.is_body).1.at w.label 0) (with w.place.local (all_taken w.operands ((sound f.function w.body w.is_body).1.at f.label (length w.block.statements)))) →
-        Goes (λ g. Ready bodies sound g × (g.function ≡ f.function)) (resumed_at t f (Call w.place (Function (fn_id.Body n)) w.operands w.label))
-    with_typed ((d, ty, is_d, have, first, place), leads) within =
-        let set : Locals = all_taken w.operands ((sound f.function w.body w.is_body).1.at f.label (length w.block.statements)) in
+    with_typed : EndIsTyped bodies w.body (Call w.place (Function (fn_id.Body n)) w.types w.operands w.label) →
+        Within ((sound f.function w.body w.is_body).1.0 w.label 0) (with w.place.local (all_taken w.operands ((sound f.function w.body w.is_body).1.0 f.label (length w.block.statements)))) →
+        Goes (λ g. Ready bodies sound g × (g.function ≡ f.function)) (resumed_at t f (Call w.place (Function (fn_id.Body n)) w.types w.operands w.label))
+    with_typed ((d, ty, is_d, have, first, place, as_many), leads) within =
+        let set : Locals = all_taken w.operands ((sound f.function w.body w.is_body).1.0 f.label (length w.block.statements)) in
         let same : c ≡ d = some_same (sym is_callee ∙ is_d) in
         let of_ty : Shape (instance no_tys ty) t = subst (λ q. Shape (instance no_tys q) t) (answer_is d.locals ty first) (subst (λ b. Shape (answer_ty b no_tys) t) same shape) in
         let here : Shape (instance f.types ty) t = subst (λ θ. Shape (instance θ ty) t) (sym w.ground) of_ty in
@@ -655,27 +660,27 @@ resumed_goes {K} bodies sound f n t w (c, is_callee, shape) =
 
 -- a call of body n runs before these frames: each waits at its call, up to the first call, of body `top`, before which the
 -- outside stands
-abbrev pub Stacked : {K : Type 0} (bodies : List Body) → AreSound bodies → ℕ → ℕ → State K → Type 0
+abbrev pub Stacked : {K : Type 0} (bodies : Bodies) → AreSound bodies → ℕ → ℕ → State K → Type 0
 Stacked bodies sound top n [] = ⊥
 Stacked bodies sound top n (out ∷ []) = n ≡ top
 Stacked bodies sound top n (f ∷ g ∷ fs) = Waits bodies sound f n × Stacked bodies sound top f.function (g ∷ fs)
 
-abbrev pub StateAlive : {K : Type 0} (bodies : List Body) → AreSound bodies → ℕ → State K → Type 0
+abbrev pub StateAlive : {K : Type 0} (bodies : Bodies) → AreSound bodies → ℕ → State K → Type 0
 StateAlive bodies sound top [] = ⊥
 StateAlive bodies sound top (f ∷ fs) = Ready bodies sound f × Stacked bodies sound top f.function fs
 
 -- the call of body `top` runs, or it has ended well
-abbrev pub Alive : {K : Type 0} (bodies : List Body) → AreSound bodies → ℕ → Outcome K → Type 0
+abbrev pub Alive : {K : Type 0} (bodies : Bodies) → AreSound bodies → ℕ → Outcome K → Type 0
 Alive bodies sound top (Running s) = StateAlive bodies sound top s
 Alive bodies sound top (Returned s t) = IsAnswer bodies top t
 Alive bodies sound top (Panicked cause span) = Unit {0}
 Alive bodies sound top Stuck = ⊥
 
-deeper : {K : Type 0} (bodies : List Body) (sound : AreSound bodies) (top n : ℕ) (f : Frame K) (fs : State K) → Waits bodies sound f n → Stacked bodies sound top f.function fs → Stacked bodies sound top n (f ∷ fs)
+deeper : {K : Type 0} (bodies : Bodies) (sound : AreSound bodies) (top n : ℕ) (f : Frame K) (fs : State K) → Waits bodies sound f n → Stacked bodies sound top f.function fs → Stacked bodies sound top n (f ∷ fs)
 deeper bodies sound top n f [] waits stacked = absurd stacked
 deeper bodies sound top n f (g ∷ fs) waits stacked = (waits, stacked)
 
-back_alive : {K : Type 0} (bodies : List Body) (sound : AreSound bodies) (top n : ℕ) (t : Tree K) (fs : State K) → IsAnswer bodies n t → Stacked bodies sound top n fs → Goes (Alive bodies sound top) (come_back bodies t fs)
+back_alive : {K : Type 0} (bodies : Bodies) (sound : AreSound bodies) (top n : ℕ) (t : Tree K) (fs : State K) → IsAnswer bodies n t → Stacked bodies sound top n fs → Goes (Alive bodies sound top) (come_back bodies t fs)
 back_alive bodies sound top n t [] answer stacked = absurd stacked
 back_alive bodies sound top n t (out ∷ []) answer stacked = subst (λ m. IsAnswer bodies m t) stacked answer
 back_alive {K} bodies sound top n t (f ∷ g ∷ fs) answer (waits, stacked) =
@@ -683,32 +688,32 @@ back_alive {K} bodies sound top n t (f ∷ g ∷ fs) answer (waits, stacked) =
     (goes_then (λ h. Ready bodies sound h × (h.function ≡ f.function)) (Alive bodies sound top) (resumed bodies t f) (λ h. Yields (Running (h ∷ g ∷ fs))) (resumed_goes bodies sound f n t waits answer)
     (λ h ready. (ready.0, subst (λ m. Stacked bodies sound top m (g ∷ fs)) (sym ready.1) stacked)))
 
-settled_alive : {K : Type 0} (bodies : List Body) (sound : AreSound bodies) (top n : ℕ) (fs : State K) → Stacked bodies sound top n fs → (e : FrameEnd K) → EndsWell bodies sound n e → Goes (Alive bodies sound top) (settled bodies fs e)
+settled_alive : {K : Type 0} (bodies : Bodies) (sound : AreSound bodies) (top n : ℕ) (fs : State K) → Stacked bodies sound top n fs → (e : FrameEnd K) → EndsWell bodies sound n e → Goes (Alive bodies sound top) (settled bodies fs e)
 settled_alive bodies sound top n fs stacked (Stays f) h = (h.0, subst (λ m. Stacked bodies sound top m fs) (sym h.1) stacked)
 settled_alive bodies sound top n fs stacked (Calls f g) h = (h.0, deeper bodies sound top g.function f fs h.1 (subst (λ m. Stacked bodies sound top m fs) (sym h.2) stacked))
 settled_alive bodies sound top n fs stacked (Answers t) h = back_alive bodies sound top n t fs h stacked
 
-of_goes : {K : Type 0} (bodies : List Body) (sound : AreSound bodies) (top : ℕ) (m : Try (Outcome K)) → Goes (Alive bodies sound top) m → Alive bodies sound top (outcome_of m)
+of_goes : {K : Type 0} (bodies : Bodies) (sound : AreSound bodies) (top : ℕ) (m : Try (Outcome K)) → Goes (Alive bodies sound top) m → Alive bodies sound top (outcome_of m)
 of_goes bodies sound top (Yields o) h = h
 of_goes bodies sound top (Panics c s) h = tt
 of_goes bodies sound top Sticks h = absurd h
 
-step_alive : {K : Type 0} (bodies : List Body) (sound : AreSound bodies) (top : ℕ) (s : State K) → StateAlive bodies sound top s → Alive bodies sound top (step bodies s)
-step_alive bodies sound top [] h = absurd h
-step_alive bodies sound top (f ∷ fs) (ready, stacked) =
-    of_goes bodies sound top (try_step bodies (f ∷ fs))
-    (subst (Goes (Alive bodies sound top)) (sym (try_step-whole bodies f fs (sound_wholes bodies sound)))
-    (goes_then (EndsWell bodies sound f.function) (Alive bodies sound top) (frame_step bodies f) (settled bodies fs) (frame_goes bodies sound f ready) (settled_alive bodies sound top f.function fs stacked)))
+step_alive : {K : Type 0} (code : Code K) (sound : AreSound code.program) (top : ℕ) (s : State K) → StateAlive code.program sound top s → Alive code.program sound top (step code s)
+step_alive code sound top [] h = absurd h
+step_alive code sound top (f ∷ fs) (ready, stacked) =
+    of_goes code.program sound top (try_step code (f ∷ fs))
+    (subst (Goes (Alive code.program sound top)) (sym (try_step-whole code f fs (sound_wholes code.program sound)))
+    (goes_then (EndsWell code.program sound f.function) (Alive code.program sound top) (frame_step code f) (settled code.program fs) (frame_goes code sound f ready) (settled_alive code.program sound top f.function fs stacked)))
 
-pub alive_next : {K : Type 0} (bodies : List Body) (sound : AreSound bodies) (top : ℕ) (o : Outcome K) → Alive bodies sound top o → Alive bodies sound top (next bodies o)
-alive_next bodies sound top (Running s) h = step_alive bodies sound top s h
-alive_next bodies sound top (Returned s t) h = h
-alive_next bodies sound top (Panicked c s) h = tt
-alive_next bodies sound top Stuck h = absurd h
+pub alive_next : {K : Type 0} (code : Code K) (sound : AreSound code.program) (top : ℕ) (o : Outcome K) → Alive code.program sound top o → Alive code.program sound top (next code o)
+alive_next code sound top (Running s) h = step_alive code sound top s h
+alive_next code sound top (Returned s t) h = h
+alive_next code sound top (Panicked c s) h = tt
+alive_next code sound top Stuck h = absurd h
 
-pub alive_after : {K : Type 0} (bodies : List Body) (sound : AreSound bodies) (top n : ℕ) (o : Outcome K) → Alive bodies sound top o → Alive bodies sound top (after_from bodies n o)
-alive_after bodies sound top zero o h = h
-alive_after bodies sound top (suc n) o h = alive_next bodies sound top (after_from bodies n o) (alive_after bodies sound top n o h)
+pub alive_after : {K : Type 0} (code : Code K) (sound : AreSound code.program) (top n : ℕ) (o : Outcome K) → Alive code.program sound top o → Alive code.program sound top (after_from code n o)
+alive_after code sound top zero o h = h
+alive_after code sound top (suc n) o h = alive_next code sound top (after_from code n o) (alive_after code sound top n o h)
 
 -- ---- the start
 
@@ -717,7 +722,7 @@ pub no_types_for_none : (θ : Tys) → how_many θ ≡ 0 → θ ≡ no_tys
 no_types_for_none no_tys e = refl
 no_types_for_none (and_ty t ts) e = absurd (omega arith)
 
-pub start_alive : {K : Type 0} (Θ : Theory) (bodies : List Body) (sound : AreSound bodies) (f : ℕ) (θ : Tys) (args held : List (Tree K)) (b : Body) (met : List Met) → IsProper Θ bodies f θ args held b met → Alive bodies sound f (Running (called b f θ args held))
+pub start_alive : {K : Type 0} (Θ : Theory) (bodies : Bodies) (sound : AreSound bodies) (f : ℕ) (θ : Tys) (args held : List (Tree K)) (b : Body) (met : List Met) → IsProper Θ bodies f θ args held b met → Alive bodies sound f (Running (called b f θ args held))
 start_alive {K} Θ bodies sound f θ args held b met proper =
     let shaped = typed_args (declared Θ) (called b f θ args held) θ args (take b.params (drop 1 b.locals)) met proper.typed in
     let none = no_types_for_none θ proper.ground in
@@ -725,25 +730,25 @@ start_alive {K} Θ bodies sound f θ args held b met proper =
     (ready_entered bodies sound f b args proper.of (shaped.0, subst (λ types. AreShaped types args (take b.params (drop 1 b.locals))) none shaped.1), refl)
 
 -- what a proper call of typed, initialised bodies comes to
-pub call_alive : {K : Type 0} (Θ : Theory) (bodies : List Body) (sound : AreSound bodies) (f : ℕ) (θ : Tys) (args held : List (Tree K)) (b : Body) (met : List Met) → IsProper Θ bodies f θ args held b met → (n : ℕ) → Alive bodies sound f (after bodies n (called b f θ args held))
-call_alive Θ bodies sound f θ args held b met proper n =
+pub call_alive : {K : Type 0} (Θ : Theory) (code : Code K) (sound : AreSound code.program) (f : ℕ) (θ : Tys) (args held : List (Tree K)) (b : Body) (met : List Met) → IsProper Θ code.program f θ args held b met → (n : ℕ) → Alive code.program sound f (after code n (called b f θ args held))
+call_alive Θ code sound f θ args held b met proper n =
     let start = Running (called b f θ args held) in
-    alive_after bodies sound f n start (start_alive Θ bodies sound f θ args held b met proper)
+    alive_after code sound f n start (start_alive Θ code.program sound f θ args held b met proper)
 
-alive_free : {K : Type 0} (bodies : List Body) (sound : AreSound bodies) (top : ℕ) (o : Outcome K) → Alive bodies sound top o → o ≡ Stuck → ⊥
+alive_free : {K : Type 0} (bodies : Bodies) (sound : AreSound bodies) (top : ℕ) (o : Outcome K) → Alive bodies sound top o → o ≡ Stuck → ⊥
 alive_free bodies sound top o h e = subst (Alive bodies sound top) e h
 
 -- it is never stuck
-pub never_stuck : {K : Type 0} (Θ : Theory) (bodies : List Body) → AreSound bodies → (f : ℕ) (θ : Tys) (args held : List (Tree K)) (b : Body) (met : List Met) → IsProper Θ bodies f θ args held b met → (n : ℕ) → after bodies n (called b f θ args held) ≡ Stuck → ⊥
-never_stuck Θ bodies sound f θ args held b met proper n =
-    alive_free bodies sound f (after bodies n (called b f θ args held)) (call_alive Θ bodies sound f θ args held b met proper n)
+pub never_stuck : {K : Type 0} (Θ : Theory) (code : Code K) → AreSound code.program → (f : ℕ) (θ : Tys) (args held : List (Tree K)) (b : Body) (met : List Met) → IsProper Θ code.program f θ args held b met → (n : ℕ) → after code n (called b f θ args held) ≡ Stuck → ⊥
+never_stuck Θ code sound f θ args held b met proper n =
+    alive_free code.program sound f (after code n (called b f θ args held)) (call_alive Θ code sound f θ args held b met proper n)
 
 -- its answer has the shape of the answer's type
-pub answer_shape : {K : Type 0} (Θ : Theory) (bodies : List Body) → AreSound bodies → (f : ℕ) (θ : Tys) (args held : List (Tree K)) (b : Body) (met : List Met) → IsProper Θ bodies f θ args held b met → (n : ℕ) (s : State K) (t : Tree K)
-    → after bodies n (called b f θ args held) ≡ Returned s t → Shape (answer_ty b θ) t
-answer_shape Θ bodies sound f θ args held b met proper n s t e =
-    let (c, is_c, shape) = subst (Alive bodies sound f) e (call_alive Θ bodies sound f θ args held b met proper n) in
+pub answer_shape : {K : Type 0} (Θ : Theory) (code : Code K) → AreSound code.program → (f : ℕ) (θ : Tys) (args held : List (Tree K)) (b : Body) (met : List Met) → IsProper Θ code.program f θ args held b met → (n : ℕ) (s : State K) (t : Tree K)
+    → after code n (called b f θ args held) ≡ Returned s t → Shape (answer_ty b θ) t
+answer_shape Θ code sound f θ args held b met proper n s t e =
+    let (c, is_c, shape) = subst (Alive code.program sound f) e (call_alive Θ code sound f θ args held b met proper n) in
     subst (λ types. Shape (answer_ty b types) t) (sym (no_types_for_none θ proper.ground)) (subst (λ d. Shape (answer_ty d no_tys) t) (some_same (sym is_c ∙ proper.of)) shape)
 
-pub safe_call : (Θ : Theory) (bodies : List Body) → AreSound bodies → (f : ℕ) (θ : Tys) (args held : List (Tree (Unit {0}))) (b : Body) (met : List Met) → IsProper Θ bodies f θ args held b met → IsSafe (record { bodies = bodies; outcome = Running (called b f θ args held) })
-safe_call Θ bodies sound f θ args held b met proper = (sound_wholes bodies sound, never_stuck Θ bodies sound f θ args held b met proper)
+pub safe_call : (Θ : Theory) (bodies : Bodies) → AreSound bodies → (f : ℕ) (θ : Tys) (args held : List (Tree (Unit {0}))) (b : Body) (met : List Met) → IsProper Θ bodies f θ args held b met → IsSafe (record { bodies = bodies; outcome = Running (called b f θ args held) })
+safe_call Θ bodies sound f θ args held b met proper = (sound_wholes bodies sound, never_stuck Θ (code_of bodies) sound f θ args held b met proper)

@@ -4,7 +4,7 @@ use Rattle.std.specs.Prelude.{option_and_then}
 use Rattle.text_core.specs.declared.span.Span.{Span}
 use Rattle.source_kinds.specs.declared.kinds.IntKind.{IntKind}
 use Rattle.logic_term.specs.declared.kinds.Label.{Label}
-use Rattle.logic_term.specs.Ty.{Tys}
+use Rattle.logic_term.specs.Ty.{Ty, Tys}
 use Rattle.mir_ir.specs.declared.place.Place.{Place}
 use Rattle.mir_ir.specs.declared.place.Operand.{Operand}
 use Rattle.mir_ir.specs.declared.place.Operand.TheVariants.{Copy, Move, Const}
@@ -27,6 +27,8 @@ use Rattle.mir_machine.specs.Memory.{frame_at, set_frame, is_there, read, write}
 use Rattle.mir_machine.specs.Step.{operand, operands, rvalue, binary, negated, inverted, truth_of, whole, statement_step, callee_frame, answered, leave, end_step, row, try_step, Taken, Outcome, Running, come_back, past, at_label}
 use Rattle.mir_machine.specs.FrameStep.{IsWhole, AreWhole, ReadsWholes, NamesWholes, EndNamesWholes, AllNameWholes, Left, local_tree, take_operand, take_operands, evaluate, put_local, run_local}
 use Rattle.mir_machine.specs.FrameStep.{FrameEnd, Stays, Calls, Answers, starting, call_end, frame_end, frame_row, frame_step, settled, resumed_at, resumed}
+use Rattle.mir_ir.specs.declared.body.Bodies.{Bodies}
+use Rattle.mir_machine.specs.Code.{Code}
 
 -- ---- one part of a step after another
 
@@ -206,7 +208,7 @@ placed f fs l Sticks = refl
 answered-whole : {K : Type 0} (t : Tree K) (f : Frame K) (fs : State K) (end : TerminatorKind) → EndNamesWholes end → (answered t (f ∷ fs) end >>= go_on) ≡ (resumed_at t f end >>= before fs)
 answered-whole t f fs (Goto l) e = refl
 answered-whole t f fs (If o on_true on_false) e = refl
-answered-whole {K} t f fs (Call p callee os l) e =
+answered-whole {K} t f fs (Call p callee types os l) e =
     ap (λ q. (write (f ∷ fs) q t >>= at_label l) >>= go_on) (whole-path p e.0)
     ∙ ap (λ (m : Try (State K)). (m >>= at_label l) >>= go_on) (write-whole f fs p.local t)
     ∙ placed f fs l (put_local f.locals p.local t)
@@ -218,68 +220,68 @@ two-needs (Some a) g k = refl
 two-needs None g k = refl
 
 -- the frame that waits, by itself
-pub come_back-whole : {K : Type 0} (bodies : List Body) (t : Tree K) (f g : Frame K) (fs : State K) → AllNameWholes bodies → come_back bodies t (f ∷ g ∷ fs) ≡ (resumed bodies t f >>= before (g ∷ fs))
+pub come_back-whole : {K : Type 0} (bodies : Bodies) (t : Tree K) (f g : Frame K) (fs : State K) → AllNameWholes bodies → come_back bodies t (f ∷ g ∷ fs) ≡ (resumed bodies t f >>= before (g ∷ fs))
 come_back-whole {K} bodies t f g fs whole =
     let at_end : Block → Try (Frame K) = λ k. resumed_at t f k.end.kind in
     let at_body : Body → Try (Frame K) = λ b. need (block_in b.blocks f.label) >>= at_end in
-    then_known (need (slice_get bodies f.function)) (λ b. need (block_in b.blocks f.label) >>= λ k. answered t (f ∷ g ∷ fs) k.end.kind >>= go_on) (λ b. at_body b >>= before (g ∷ fs))
+    then_known (need (slice_get bodies.bodies f.function)) (λ b. need (block_in b.blocks f.label) >>= λ k. answered t (f ∷ g ∷ fs) k.end.kind >>= go_on) (λ b. at_body b >>= before (g ∷ fs))
     (λ b is_body.
     then_known (need (block_in b.blocks f.label)) (λ k. answered t (f ∷ g ∷ fs) k.end.kind >>= go_on) (λ k. at_end k >>= before (g ∷ fs))
     (λ k is_block. answered-whole t f (g ∷ fs) k.end.kind ((whole f.function b (needed _ b is_body)).ends f.label k (needed _ k is_block)))
     ∙ sym (then_then (need (block_in b.blocks f.label)) at_end (before (g ∷ fs))))
-    ∙ sym (then_then (need (slice_get bodies f.function)) at_body (before (g ∷ fs)))
-    ∙ ap (λ (m : Try (Frame K)). m >>= before (g ∷ fs)) (sym (two-needs (slice_get bodies f.function) (λ b. block_in b.blocks f.label) at_end))
+    ∙ sym (then_then (need (slice_get bodies.bodies f.function)) at_body (before (g ∷ fs)))
+    ∙ ap (λ (m : Try (Frame K)). m >>= before (g ∷ fs)) (sym (two-needs (slice_get bodies.bodies f.function) (λ b. block_in b.blocks f.label) at_end))
 
 -- ---- ends of blocks
 
-leave-whole : {K : Type 0} (bodies : List Body) (f : Frame K) (fs : State K) → leave bodies (f ∷ fs) ≡ (frame_end bodies f Return >>= settled bodies fs)
-leave-whole {K} bodies f fs =
-    sym (then_then (need (slice_get f.locals 0)) is_there (λ t. come_back bodies t fs))
-    ∙ sym (then_then (local_tree f.locals 0) (λ t. Yields (Answers t)) (settled bodies fs))
+leave-whole : {K : Type 0} (code : Code K) (f : Frame K) (fs : State K) → leave code.program (f ∷ fs) ≡ (frame_end code f Return >>= settled code.program fs)
+leave-whole {K} code f fs =
+    sym (then_then (need (slice_get f.locals 0)) is_there (λ t. come_back code.program t fs))
+    ∙ sym (then_then (local_tree f.locals 0) (λ t. Yields (Answers t)) (settled code.program fs))
 
-if-whole : {K : Type 0} (bodies : List Body) (f : Frame K) (fs : State K) (o : Operand) (on_true on_false : Label) → IsWhole o → end_step bodies (f ∷ fs) (If o on_true on_false) ≡ (frame_end bodies f (If o on_true on_false) >>= settled bodies fs)
-if-whole {K} bodies f fs o on_true on_false e =
+if-whole : {K : Type 0} (code : Code K) (f : Frame K) (fs : State K) (o : Operand) (on_true on_false : Label) → IsWhole o → end_step code (f ∷ fs) (If o on_true on_false) ≡ (frame_end code f (If o on_true on_false) >>= settled code.program fs)
+if-whole {K} code f fs o on_true on_false e =
     let last : Taken K → Try (Outcome K) = λ r. truth_of r.1 >>= λ b. at_label (cond b on_true on_false) r.0 >>= go_on in
     let last' : Left K → Try (FrameEnd K) = λ l. truth_of l.1 >>= λ b. Yields (Stays (starting f l.0 (cond b on_true on_false))) in
     ap (λ (m : Try (Taken K)). m >>= last) (operand-whole f fs o e)
     ∙ then_then (take_operand f.locals o) (λ l. Yields (taken_state f fs l)) last
-    ∙ then_same (take_operand f.locals o) (λ l. last (taken_state f fs l)) (λ l. last' l >>= settled bodies fs)
-    (λ l. sym (then_then (truth_of l.1) (λ b. Yields (Stays (starting f l.0 (cond b on_true on_false)))) (settled bodies fs)))
-    ∙ sym (then_then (take_operand f.locals o) last' (settled bodies fs))
+    ∙ then_same (take_operand f.locals o) (λ l. last (taken_state f fs l)) (λ l. last' l >>= settled code.program fs)
+    (λ l. sym (then_then (truth_of l.1) (λ b. Yields (Stays (starting f l.0 (cond b on_true on_false)))) (settled code.program fs)))
+    ∙ sym (then_then (take_operand f.locals o) last' (settled code.program fs))
 
-call-whole : {K : Type 0} (bodies : List Body) (f : Frame K) (fs : State K) (p : Place) (callee : Callee) (os : List Operand) (l : Label) → AreWhole os → end_step bodies (f ∷ fs) (Call p callee os l) ≡ (call_end bodies f callee os >>= settled bodies fs)
-call-whole {K} bodies f fs p callee os l e =
-    let last : State K × List (Tree K) → Try (Outcome K) = λ r. callee_frame bodies callee r.1 >>= λ g. Yields (Running (g ∷ r.0)) in
-    let last' : Several K → Try (FrameEnd K) = λ r. callee_frame bodies callee r.1 >>= λ g. Yields (Calls (record f { locals = r.0 }) g) in
+call-whole : {K : Type 0} (code : Code K) (f : Frame K) (fs : State K) (p : Place) (callee : Callee) (types : List Ty) (os : List Operand) (l : Label) → AreWhole os → end_step code (f ∷ fs) (Call p callee types os l) ≡ (call_end code f callee os >>= settled code.program fs)
+call-whole {K} code f fs p callee types os l e =
+    let last : State K × List (Tree K) → Try (Outcome K) = λ r. callee_frame code.program callee r.1 >>= λ g. Yields (Running (g ∷ r.0)) in
+    let last' : Several K → Try (FrameEnd K) = λ r. callee_frame code.program callee r.1 >>= λ g. Yields (Calls (record f { locals = r.0 }) g) in
     ap (λ (m : Try (State K × List (Tree K))). m >>= last) (operands-whole f fs os e)
     ∙ then_then (take_operands f.locals os) (λ r. Yields (with_locals f fs r.0, r.1)) last
-    ∙ then_same (take_operands f.locals os) (λ r. last (with_locals f fs r.0, r.1)) (λ r. last' r >>= settled bodies fs)
-    (λ r. sym (then_then (callee_frame bodies callee r.1) (λ g. Yields (Calls (record f { locals = r.0 }) g)) (settled bodies fs)))
-    ∙ sym (then_then (take_operands f.locals os) last' (settled bodies fs))
+    ∙ then_same (take_operands f.locals os) (λ r. last (with_locals f fs r.0, r.1)) (λ r. last' r >>= settled code.program fs)
+    (λ r. sym (then_then (callee_frame code.program callee r.1) (λ g. Yields (Calls (record f { locals = r.0 }) g)) (settled code.program fs)))
+    ∙ sym (then_then (take_operands f.locals os) last' (settled code.program fs))
 
-end-whole : {K : Type 0} (bodies : List Body) (f : Frame K) (fs : State K) (end : TerminatorKind) → EndNamesWholes end → end_step bodies (f ∷ fs) end ≡ (frame_end bodies f end >>= settled bodies fs)
-end-whole bodies f fs (Goto l) e = refl
-end-whole bodies f fs (If o on_true on_false) e = if-whole bodies f fs o on_true on_false e
-end-whole bodies f fs (Call p callee os l) e = call-whole bodies f fs p callee os l e.1
-end-whole bodies f fs Return e = leave-whole bodies f fs
+end-whole : {K : Type 0} (code : Code K) (f : Frame K) (fs : State K) (end : TerminatorKind) → EndNamesWholes end → end_step code (f ∷ fs) end ≡ (frame_end code f end >>= settled code.program fs)
+end-whole code f fs (Goto l) e = refl
+end-whole code f fs (If o on_true on_false) e = if-whole code f fs o on_true on_false e
+end-whole code f fs (Call p callee types os l) e = call-whole code f fs p callee types os l e.1
+end-whole code f fs Return e = leave-whole code f fs
 
-row-whole : {K : Type 0} (bodies : List Body) (b : Body) (f : Frame K) (fs : State K) (end : Terminator) (o : Option Statement) → ((st : Statement) → o ≡ Some st → NamesWholes st.kind) → EndNamesWholes end.kind
-    → row bodies b f.types (f ∷ fs) end o ≡ (frame_row bodies b f end o >>= settled bodies fs)
-row-whole {K} bodies b f fs end (Some st) whole ends =
+row-whole : {K : Type 0} (code : Code K) (b : Body) (f : Frame K) (fs : State K) (end : Terminator) (o : Option Statement) → ((st : Statement) → o ≡ Some st → NamesWholes st.kind) → EndNamesWholes end.kind
+    → row code b f.types (f ∷ fs) end o ≡ (frame_row code b f end o >>= settled code.program fs)
+row-whole {K} code b f fs end (Some st) whole ends =
     ap (λ (m : Try (State K)). m >>= go_on) (statement_step-whole b f.types f fs st.span st.kind (whole st refl))
     ∙ then_then (run_local b f.types f.locals st.span st.kind) (λ ls. Yields (moved_on f ls ∷ fs)) go_on
-    ∙ sym (then_then (run_local b f.types f.locals st.span st.kind) (λ ls. Yields (Stays (moved_on f ls))) (settled bodies fs))
-row-whole bodies b f fs end None whole ends = end-whole bodies f fs end.kind ends
+    ∙ sym (then_then (run_local b f.types f.locals st.span st.kind) (λ ls. Yields (Stays (moved_on f ls))) (settled code.program fs))
+row-whole code b f fs end None whole ends = end-whole code f fs end.kind ends
 
-pub try_step-whole : {K : Type 0} (bodies : List Body) (f : Frame K) (fs : State K) → AllNameWholes bodies → try_step bodies (f ∷ fs) ≡ (frame_step bodies f >>= settled bodies fs)
-try_step-whole {K} bodies f fs whole =
-    let at_block : Body → Block → Try (FrameEnd K) = λ b k. frame_row bodies b f k.end (slice_get k.statements f.statement) in
+pub try_step-whole : {K : Type 0} (code : Code K) (f : Frame K) (fs : State K) → AllNameWholes code.program → try_step code (f ∷ fs) ≡ (frame_step code f >>= settled code.program fs)
+try_step-whole {K} code f fs whole =
+    let at_block : Body → Block → Try (FrameEnd K) = λ b k. frame_row code b f k.end (slice_get k.statements f.statement) in
     let at_body : Body → Try (FrameEnd K) = λ b. need (block_in b.blocks f.label) >>= at_block b in
-    then_known (need (slice_get bodies f.function)) (λ b. need (block_in b.blocks f.label) >>= λ k. row bodies b f.types (f ∷ fs) k.end (slice_get k.statements f.statement)) (λ b. at_body b >>= settled bodies fs)
+    then_known (need (slice_get code.program.bodies f.function)) (λ b. need (block_in b.blocks f.label) >>= λ k. row code b f.types (f ∷ fs) k.end (slice_get k.statements f.statement)) (λ b. at_body b >>= settled code.program fs)
     (λ b is_body.
-    then_known (need (block_in b.blocks f.label)) (λ k. row bodies b f.types (f ∷ fs) k.end (slice_get k.statements f.statement)) (λ k. at_block b k >>= settled bodies fs)
+    then_known (need (block_in b.blocks f.label)) (λ k. row code b f.types (f ∷ fs) k.end (slice_get k.statements f.statement)) (λ k. at_block b k >>= settled code.program fs)
     (λ k is_block.
     let names = whole f.function b (needed _ b is_body) in
-    row-whole bodies b f fs k.end (slice_get k.statements f.statement) (λ st is_statement. names.statements f.label k f.statement st (needed _ k is_block) is_statement) (names.ends f.label k (needed _ k is_block)))
-    ∙ sym (then_then (need (block_in b.blocks f.label)) (at_block b) (settled bodies fs)))
-    ∙ sym (then_then (need (slice_get bodies f.function)) at_body (settled bodies fs))
+    row-whole code b f fs k.end (slice_get k.statements f.statement) (λ st is_statement. names.statements f.label k f.statement st (needed _ k is_block) is_statement) (names.ends f.label k (needed _ k is_block)))
+    ∙ sym (then_then (need (block_in b.blocks f.label)) (at_block b) (settled code.program fs)))
+    ∙ sym (then_then (need (slice_get code.program.bodies f.function)) at_body (settled code.program fs))

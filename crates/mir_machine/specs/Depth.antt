@@ -1,29 +1,30 @@
 -- How many frames a run has. The machine's definition bounds no number of them; a machine that runs many steps does.
-use Rattle.std.specs.Prelude.{◌≡◌, ℕ, ◌<◌, ◌≤◌, List, [], ◌∷◌, Some, length}
+use Rattle.std.specs.Prelude.{◌≡◌, ℕ, ◌<◌, ◌≤◌, [], ◌∷◌, Some, length}
 use Rattle.text_core.specs.declared.refusal.LimitKind.TheVariants.{Frames}
 use Rattle.mir_ir.specs.declared.terminator.TerminatorKind.{TerminatorKind}
 use Rattle.mir_ir.specs.declared.terminator.TerminatorKind.TheVariants.{Goto, If, Call, Return}
 use Rattle.mir_ir.specs.declared.body.Block.{Block}
-use Rattle.mir_ir.specs.declared.body.Body.{Body}
 use Rattle.mir_machine.specs.declared.run_error.RunError.{RunError}
 use Rattle.mir_machine.specs.declared.run_error.RunError.TheVariants as run_error
 use Rattle.mir_machine.specs.Frame.{Frame, State}
 use Rattle.mir_machine.specs.FrameStep.{frame_block}
 use Rattle.mir_machine.specs.Step.{Outcome, Running, Returned, Panicked, Stuck, next}
 use Rattle.mir_machine.specs.Run.{Run, ran}
+use Rattle.mir_ir.specs.declared.body.Bodies.{Bodies}
+use Rattle.mir_machine.specs.Code.{code_of}
 
 abbrev pub IsCall : TerminatorKind → Type 0
 IsCall (Goto l) = ⊥
 IsCall (If o on_true on_false) = ⊥
-IsCall (Call p callee os l) = Unit {0}
+IsCall (Call p callee types os l) = Unit {0}
 IsCall Return = ⊥
 
 -- the frame's next step is a call
-abbrev pub StandsAtCall : List Body → Frame (Unit {0}) → Type 0
+abbrev pub StandsAtCall : Bodies → Frame (Unit {0}) → Type 0
 StandsAtCall bodies f = (k : Block) × (frame_block bodies f ≡ Some k) × (length k.statements ≤ f.statement) × IsCall k.end.kind
 
 -- a call by the running frame would make more than 10,000 frames, the outside not counted
-abbrev pub IsFull : List Body → State (Unit {0}) → Type 0
+abbrev pub IsFull : Bodies → State (Unit {0}) → Type 0
 IsFull bodies [] = ⊥
 IsFull bodies (f ∷ fs) = StandsAtCall bodies f × (10000 ≤ length fs)
 
@@ -41,7 +42,7 @@ frame_count Stuck = 0
 
 -- how many frames the run has after its next step
 abbrev pub next_count : Run → ℕ
-next_count m = frame_count (next m.bodies m.outcome)
+next_count m = frame_count (next (code_of m.bodies) m.outcome)
 
 -- the next step is a call that makes more than 10,000 frames
 abbrev pub CallsTooDeep : Run → Type 0

@@ -25,6 +25,8 @@ use Rattle.mir_machine.specs.Frame.{Frame, State}
 use Rattle.mir_ir.specs.Body.{block_in, place_ty, kind_in}
 use Rattle.mir_machine.specs.Memory.{is_there}
 use Rattle.mir_machine.specs.Step.{literal, binary, negated, inverted, truth_of, callee_frame, Outcome, Running, come_back}
+use Rattle.mir_ir.specs.declared.body.Bodies.{Bodies}
+use Rattle.mir_machine.specs.Code.{Code}
 
 -- ---- whole locals
 
@@ -51,7 +53,7 @@ NamesWholes (Dead x) = Unit {0}
 abbrev pub EndNamesWholes : TerminatorKind → Type 0
 EndNamesWholes (Goto l) = Unit {0}
 EndNamesWholes (If o on_true on_false) = IsWhole o
-EndNamesWholes (Call p callee os l) = (p.path ≡ []) × AreWhole os
+EndNamesWholes (Call p callee types os l) = (p.path ≡ []) × AreWhole os
 EndNamesWholes Return = Unit {0}
 
 -- each place that a body names is a whole local
@@ -59,8 +61,8 @@ pub record BodyNamesWholes (b : Body) : Type 0 where
   pub statements : (l : Label) (k : Block) (i : ℕ) (st : Statement) → block_in b.blocks l ≡ Some k → slice_get k.statements i ≡ Some st → NamesWholes st.kind
   pub ends : (l : Label) (k : Block) → block_in b.blocks l ≡ Some k → EndNamesWholes k.end.kind
 
-abbrev pub AllNameWholes : List Body → Type 0
-AllNameWholes bodies = (f : ℕ) (b : Body) → slice_get bodies f ≡ Some b → BodyNamesWholes b
+abbrev pub AllNameWholes : Bodies → Type 0
+AllNameWholes bodies = (f : ℕ) (b : Body) → slice_get bodies.bodies f ≡ Some b → BodyNamesWholes b
 
 -- ---- the rows
 
@@ -144,33 +146,33 @@ pub data FrameEnd (K : Type 0) : Type 0 where
 abbrev pub starting : {K : Type 0} → Frame K → List (Tree K) → Label → Frame K
 starting f ls l = record f { label = l; statement = 0; locals = ls }
 
-abbrev pub call_end : {K : Type 0} → List Body → Frame K → Callee → List Operand → Try (FrameEnd K)
-call_end bodies f callee os = do
+abbrev pub call_end : {K : Type 0} → Code K → Frame K → Callee → List Operand → Try (FrameEnd K)
+call_end code f callee os = do
   (ls, args) ← take_operands f.locals os
-  g ← callee_frame bodies callee args
+  g ← callee_frame code.program callee args
   Yields (Calls (record f { locals = ls }) g)
 
-abbrev pub frame_end : {K : Type 0} → List Body → Frame K → TerminatorKind → Try (FrameEnd K)
-frame_end bodies f (Goto l) = Yields (Stays (starting f f.locals l))
-frame_end bodies f (If o on_true on_false) = do
+abbrev pub frame_end : {K : Type 0} → Code K → Frame K → TerminatorKind → Try (FrameEnd K)
+frame_end code f (Goto l) = Yields (Stays (starting f f.locals l))
+frame_end code f (If o on_true on_false) = do
   (ls, t) ← take_operand f.locals o
   b ← truth_of t
   Yields (Stays (starting f ls (cond b on_true on_false)))
-frame_end bodies f (Call p callee os l) = call_end bodies f callee os
-frame_end bodies f Return = local_tree f.locals 0 >>= λ t. Yields (Answers t)
+frame_end code f (Call p callee types os l) = call_end code f callee os
+frame_end code f Return = local_tree f.locals 0 >>= λ t. Yields (Answers t)
 
-abbrev pub frame_row : {K : Type 0} → List Body → Body → Frame K → Terminator → Option Statement → Try (FrameEnd K)
-frame_row bodies b f end (Some st) = run_local b f.types f.locals st.span st.kind >>= λ ls. Yields (Stays (record f { locals = ls; statement = f.statement + 1 }))
-frame_row bodies b f end None = frame_end bodies f end.kind
+abbrev pub frame_row : {K : Type 0} → Code K → Body → Frame K → Terminator → Option Statement → Try (FrameEnd K)
+frame_row code b f end (Some st) = run_local b f.types f.locals st.span st.kind >>= λ ls. Yields (Stays (record f { locals = ls; statement = f.statement + 1 }))
+frame_row code b f end None = frame_end code f end.kind
 
-abbrev pub frame_step : {K : Type 0} → List Body → Frame K → Try (FrameEnd K)
-frame_step bodies f = do
-  b ← need (slice_get bodies f.function)
+abbrev pub frame_step : {K : Type 0} → Code K → Frame K → Try (FrameEnd K)
+frame_step code f = do
+  b ← need (slice_get code.program.bodies f.function)
   k ← need (block_in b.blocks f.label)
-  frame_row bodies b f k.end (slice_get k.statements f.statement)
+  frame_row code b f k.end (slice_get k.statements f.statement)
 
 -- what the frame's step makes of the state with these frames behind it
-abbrev pub settled : {K : Type 0} → List Body → State K → FrameEnd K → Try (Outcome K)
+abbrev pub settled : {K : Type 0} → Bodies → State K → FrameEnd K → Try (Outcome K)
 settled bodies fs (Stays f) = Yields (Running (f ∷ fs))
 settled bodies fs (Calls f g) = Yields (Running (g ∷ f ∷ fs))
 settled bodies fs (Answers t) = come_back bodies t fs
@@ -178,12 +180,12 @@ settled bodies fs (Answers t) = come_back bodies t fs
 -- ---- the frame that waits for an answer
 
 -- the block in which a frame stands
-abbrev pub frame_block : {K : Type 0} → List Body → Frame K → Option Block
-frame_block bodies f = option_and_then (λ b. block_in b.blocks f.label) (slice_get bodies f.function)
+abbrev pub frame_block : {K : Type 0} → Bodies → Frame K → Option Block
+frame_block bodies f = option_and_then (λ b. block_in b.blocks f.label) (slice_get bodies.bodies f.function)
 
 abbrev pub resumed_at : {K : Type 0} → Tree K → Frame K → TerminatorKind → Try (Frame K)
-resumed_at t f (Call p callee os l) = put_local f.locals p.local t >>= λ ls. Yields (starting f ls l)
+resumed_at t f (Call p callee types os l) = put_local f.locals p.local t >>= λ ls. Yields (starting f ls l)
 resumed_at t f _ = Sticks
 
-abbrev pub resumed : {K : Type 0} → List Body → Tree K → Frame K → Try (Frame K)
+abbrev pub resumed : {K : Type 0} → Bodies → Tree K → Frame K → Try (Frame K)
 resumed bodies t f = need (frame_block bodies f) >>= λ k. resumed_at t f k.end.kind

@@ -20,6 +20,8 @@ use Rattle.mir_machine.specs.Memory.{tree_at}
 use Rattle.mir_machine.specs.Step.{Outcome, Running, Returned, Panicked, Stuck, after, entered, outside}
 use Rattle.mir_machine.specs.Typed.{Met, Typed, AreTyped}
 use Rattle.mir_machine.specs.Reads.{View, Owner, Plain, Reads, ReadsAll}
+use Rattle.mir_ir.specs.declared.body.Bodies.{Bodies}
+use Rattle.mir_machine.specs.Code.{code_of}
 
 abbrev pub Each : {A : Type 0} → (A → Type 0) → List A → Type 0
 Each P [] = Unit {0}
@@ -41,8 +43,8 @@ abbrev pub called : {K : Type 0} → Body → ℕ → Tys → List (Tree K) → 
 called b f θ args held = entered b f θ args ∷ outside held ∷ []
 
 -- the call of function f with these arguments and these trees outside; met: the references met from the arguments
-pub record IsProper {K : Type 0} (Θ : Theory) (bodies : List Body) (f : ℕ) (θ : Tys) (args held : List (Tree K)) (b : Body) (met : List Met) : Type 0 where
-  pub of : slice_get bodies f ≡ Some b
+pub record IsProper {K : Type 0} (Θ : Theory) (bodies : Bodies) (f : ℕ) (θ : Tys) (args held : List (Tree K)) (b : Body) (met : List Met) : Type 0 where
+  pub of : slice_get bodies.bodies f ≡ Some b
   -- so far bodies have no type parameters
   pub ground : IsInstance Θ [] θ
   pub outside_typed : Each (λ t. (ty : Ty) × (rs : List Met) × Typed (declared Θ) (called b f θ args held) t ty rs) held
@@ -124,9 +126,9 @@ IsFine Θ θ c answer s args met Stuck = ⊥
 
 -- function f is good for the contract: at every instance, each proper call that meets the `requires` is fine, however many
 -- steps it is run
-abbrev pub Good : Theory → List Body → ℕ → Contract → Type 0
+abbrev pub Good : Theory → Bodies → ℕ → Contract → Type 0
 Good Θ bodies f c =
     (θ : Tys) (args held : List (Tree (Unit {0}))) (b : Body) (met : List Met) →
     IsProper Θ bodies f θ args held b met →
     MeetsRequires Θ θ c (called b f θ args held) args met →
-    (n : ℕ) → IsFine Θ θ c (answer_ty b θ) (called b f θ args held) args met (after bodies n (called b f θ args held))
+    (n : ℕ) → IsFine Θ θ c (answer_ty b θ) (called b f θ args held) args met (after (code_of bodies) n (called b f θ args held))

@@ -8,9 +8,11 @@ use Rattle.mir_machine.specs.Good.{IsProper, called}
 use Rattle.mir_machine.specs.Step.{Stuck, after}
 use Rattle.mir_machine.specs.Tree.{Tree}
 use Rattle.mir_machine.specs.Typed.{Met}
+use Rattle.mir_ir.specs.declared.body.Bodies.{Bodies}
+use Rattle.mir_machine.specs.Code.{code_of}
 
 -- after a proper call of a function of bodies that are typed and initialised no state is stuck; no obligation is asked for
 abbrev pub ProperCallsAreNeverStuck : Type 0
 ProperCallsAreNeverStuck =
-    (Θ : Theory) (bodies : List Body) → AreSound bodies → (f : ℕ) (θ : Tys) (args held : List (Tree (Unit {0}))) (b : Body) (met : List Met) → IsProper Θ bodies f θ args held b met
-    → (n : ℕ) → after bodies n (called b f θ args held) ≡ Stuck → ⊥
+    (Θ : Theory) (bodies : Bodies) → AreSound bodies → (f : ℕ) (θ : Tys) (args held : List (Tree (Unit {0}))) (b : Body) (met : List Met) → IsProper Θ bodies f θ args held b met
+    → (n : ℕ) → after (code_of bodies) n (called b f θ args held) ≡ Stuck → ⊥

@@ -1,3 +1,4 @@
+pub mod Code
 pub mod Depth
 pub mod Frame
 pub mod FrameCode

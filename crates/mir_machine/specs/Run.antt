@@ -14,9 +14,11 @@ use Rattle.mir_machine.specs.Tree.{Tree}
 use Rattle.mir_machine.specs.Frame.{Frame, State}
 use Rattle.mir_machine.specs.Step.{Outcome, Running, Returned, Panicked, Stuck, after_from}
 use Rattle.mir_machine.specs.FrameStep.{AllNameWholes}
+use Rattle.mir_ir.specs.declared.body.Bodies.{Bodies}
+use Rattle.mir_machine.specs.Code.{code_of}
 
 pub record Run : Type 0 where
-  pub bodies : List Body
+  pub bodies : Bodies
   pub outcome : Outcome (Unit {0})
 
 -- the body that is called
@@ -24,19 +26,19 @@ abbrev pub body_number : FnId → ℕ
 body_number (fn_id.Body n) = n
 
 -- the call of f is proper, at some declarations
-abbrev pub CanCall : List Body → FnId → List Ty → List (Tree (Unit {0})) → List (Tree (Unit {0})) → Type 0
+abbrev pub CanCall : Bodies → FnId → List Ty → List (Tree (Unit {0})) → List (Tree (Unit {0})) → Type 0
 CanCall bodies f types args held =
     (Θ : Theory) × (b : Body) × (met : List Met) × IsProper Θ bodies (body_number f) (tys_of types) args held b met
 
 -- the run stands where the call of f begins
-abbrev pub Starts : List Body → FnId → List Ty → List (Tree (Unit {0})) → List (Tree (Unit {0})) → Run → Type 0
+abbrev pub Starts : Bodies → FnId → List Ty → List (Tree (Unit {0})) → List (Tree (Unit {0})) → Run → Type 0
 Starts bodies f types args held m =
-    (b : Body) → slice_get bodies (body_number f) ≡ Some b →
+    (b : Body) → slice_get bodies.bodies (body_number f) ≡ Some b →
     m ≡ record { bodies = bodies; outcome = Running (called b (body_number f) (tys_of types) args held) }
 
 -- the run k steps on
 abbrev pub ran : ℕ → Run → Run
-ran k m = record m { outcome = after_from m.bodies k m.outcome }
+ran k m = record m { outcome = after_from (code_of m.bodies) k m.outcome }
 
 abbrev pub IsRunning : Outcome (Unit {0}) → Type 0
 IsRunning (Running s) = Unit {0}
@@ -48,7 +50,7 @@ IsRunning Stuck = ⊥
 pub record IsRan (old : Run) (n : ℕ) (k : ℕ) (new : Run) : Type 0 where
   pub now : new ≡ ran k old
   pub at_most : k ≤ n
-  pub least : (j : ℕ) → j < k → IsRunning (after_from old.bodies j old.outcome)
+  pub least : (j : ℕ) → j < k → IsRunning (after_from (code_of old.bodies) j old.outcome)
   pub ended : k < n → IsRunning new.outcome → ⊥
 
 -- what is shown of an outcome; nothing is shown of `Stuck`
@@ -87,8 +89,8 @@ with_callee [] g ls = []
 with_callee (f ∷ fs) g ls = g ∷ record f { locals = ls } ∷ fs
 
 -- no number of steps leads to a state where no row applies
-abbrev pub NeverStuck : List Body → Outcome (Unit {0}) → Type 0
-NeverStuck bodies o = (n : ℕ) → after_from bodies n o ≢ Stuck
+abbrev pub NeverStuck : Bodies → Outcome (Unit {0}) → Type 0
+NeverStuck bodies o = (n : ℕ) → after_from (code_of bodies) n o ≢ Stuck
 
 -- what each machine keeps
 abbrev pub IsSafe : Run → Type 0

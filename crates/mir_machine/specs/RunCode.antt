@@ -1,13 +1,13 @@
 -- A code for runs, by which the logic tells them apart.
-use Rattle.std.specs.Prelude.{◌≡◌, List, refl}
+use Rattle.std.specs.Prelude.{◌≡◌, refl}
 use Rattle.std.specs.Coded.{Coded, code_by, coded×, coded_option, coded_list}
 use Rattle.std.specs.Prelude.{Option, Some, None}
 use Rattle.text_core.specs.declared.refusal.Cause.{Cause}
 use Rattle.text_core.specs.declared.span.Span.{Span}
 use Rattle.text_core.specs.contracts.refusal.Cause as cause
 use Rattle.text_core.specs.contracts.span.Span as span
-use Rattle.mir_ir.specs.contracts.body.Body as body
-use Rattle.mir_ir.specs.declared.body.Body.{Body}
+use Rattle.mir_ir.specs.contracts.body.Bodies as bodies
+use Rattle.mir_ir.specs.declared.body.Bodies.{Bodies}
 use Rattle.mir_machine.specs.Tree.{Tree}
 use Rattle.mir_machine.specs.TreeCode.{coded_tree}
 use Rattle.mir_machine.specs.Frame.{State}
@@ -45,7 +45,7 @@ coded_outcome = code_by Stored coded_stored stored from_stored from_stored-store
 
 abbrev pub coded_run : Coded Run
 coded_run =
-    code_by (List Body × Outcome (Unit {0})) (coded× (coded_list body.the_row.coded) coded_outcome)
+    code_by (Bodies × Outcome (Unit {0})) (coded× bodies.the_row.coded coded_outcome)
     (λ m. (m.bodies, m.outcome))
     (λ p. record { bodies = p.0; outcome = p.1 })
     (λ _. refl)

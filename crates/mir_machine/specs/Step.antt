@@ -22,9 +22,7 @@ use Rattle.mir_ir.specs.declared.statement.Rvalue.TheVariants.{Use, Binary, Neg,
 use Rattle.mir_ir.specs.declared.statement.StatementKind.{StatementKind}
 use Rattle.mir_ir.specs.declared.statement.StatementKind.TheVariants.{Assign, Dead}
 use Rattle.mir_ir.specs.declared.statement.Statement.{Statement}
-use Rattle.mir_ir.specs.declared.terminator.FnId.TheVariants as fn_id
 use Rattle.mir_ir.specs.declared.terminator.Callee.{Callee}
-use Rattle.mir_ir.specs.declared.terminator.Callee.TheVariants.{Function}
 use Rattle.mir_ir.specs.declared.terminator.TerminatorKind.{TerminatorKind}
 use Rattle.mir_ir.specs.declared.terminator.TerminatorKind.TheVariants.{Goto, If, Call, Return}
 use Rattle.mir_ir.specs.declared.terminator.Terminator.{Terminator}
@@ -33,7 +31,10 @@ use Rattle.mir_machine.specs.Try.{Try, Yields, Panics, Sticks, ◌>>=◌, need}
 use Rattle.mir_machine.specs.Tree.{Tree, Int, Truth, Gone, Made, trees_of}
 use Rattle.mir_machine.specs.Frame.{Frame, State}
 use Rattle.mir_ir.specs.Body.{block_in, place_ty, kind_in}
+use Rattle.mir_ir.specs.Callees.{callee_of}
 use Rattle.mir_machine.specs.Memory.{is_there, read, write}
+use Rattle.mir_ir.specs.declared.body.Bodies.{Bodies}
+use Rattle.mir_machine.specs.Code.{Code}
 
 -- ---- right sides
 
@@ -186,28 +187,31 @@ abbrev pub outside : {K : Type 0} → List (Tree K) → Frame K
 outside held = record { function = 0; types = no_tys; label = record { 0 = 0 }; statement = 0; locals = held }
 
 -- the new frame of a call; so far bodies have no type parameters
-abbrev pub callee_frame : {K : Type 0} → List Body → Callee → List (Tree K) → Try (Frame K)
-callee_frame bodies (Function (fn_id.Body n)) args = need (slice_get bodies n) >>= λ b. Yields (entered b n no_tys args)
+abbrev pub callee_frame : {K : Type 0} → Bodies → Callee → List (Tree K) → Try (Frame K)
+callee_frame bodies callee args = do
+  n ← need (callee_of bodies callee)
+  b ← need (slice_get bodies.bodies n)
+  Yields (entered b n no_tys args)
 
 -- the answer of a call goes to the caller's place, and the caller goes on at its label
 abbrev pub answered : {K : Type 0} → Tree K → State K → TerminatorKind → Try (State K)
-answered t s (Call p callee os l) = do
+answered t s (Call p callee types os l) = do
   s₁ ← write s p t
   at_label l s₁
 answered t s _ = Sticks
 
 -- the outside runs nothing: where it alone is left the run has returned
-abbrev pub come_back : {K : Type 0} → List Body → Tree K → State K → Try (Outcome K)
+abbrev pub come_back : {K : Type 0} → Bodies → Tree K → State K → Try (Outcome K)
 come_back bodies t [] = Sticks
 come_back bodies t (out ∷ []) = Yields (Returned (out ∷ []) t)
 come_back bodies t (f ∷ g ∷ fs) = do
-  b ← need (slice_get bodies f.function)
+  b ← need (slice_get bodies.bodies f.function)
   k ← need (block_in b.blocks f.label)
   s ← answered t (f ∷ g ∷ fs) k.end.kind
   Yields (Running s)
 
 -- the running frame ends, with local 0 as its answer
-abbrev pub leave : {K : Type 0} → List Body → State K → Try (Outcome K)
+abbrev pub leave : {K : Type 0} → Bodies → State K → Try (Outcome K)
 leave bodies [] = Sticks
 leave bodies (f ∷ fs) = do
   t ← need (slice_get f.locals 0)
@@ -216,43 +220,43 @@ leave bodies (f ∷ fs) = do
 
 -- ---- ends of blocks
 
-abbrev pub end_step : {K : Type 0} → List Body → State K → TerminatorKind → Try (Outcome K)
-end_step bodies s (Goto l) = at_label l s >>= λ s'. Yields (Running s')
-end_step bodies s (If o on_true on_false) = do
+abbrev pub end_step : {K : Type 0} → Code K → State K → TerminatorKind → Try (Outcome K)
+end_step code s (Goto l) = at_label l s >>= λ s'. Yields (Running s')
+end_step code s (If o on_true on_false) = do
   (s₁, t) ← operand s o
   b ← truth_of t
   s₂ ← at_label (cond b on_true on_false) s₁
   Yields (Running s₂)
-end_step bodies s (Call p callee os l) = do
+end_step code s (Call p callee types os l) = do
   (s₁, args) ← operands s os
-  f ← callee_frame bodies callee args
+  f ← callee_frame code.program callee args
   Yields (Running (f ∷ s₁))
-end_step bodies s Return = leave bodies s
+end_step code s Return = leave code.program s
 
 -- a block's end comes after its last statement
-abbrev pub row : {K : Type 0} → List Body → Body → Tys → State K → Terminator → Option Statement → Try (Outcome K)
-row bodies b θ s end (Some st) = statement_step b θ s st.span st.kind >>= λ s'. Yields (Running s')
-row bodies b θ s end None = end_step bodies s end.kind
+abbrev pub row : {K : Type 0} → Code K → Body → Tys → State K → Terminator → Option Statement → Try (Outcome K)
+row code b θ s end (Some st) = statement_step b θ s st.span st.kind >>= λ s'. Yields (Running s')
+row code b θ s end None = end_step code s end.kind
 
-abbrev pub try_step : {K : Type 0} → List Body → State K → Try (Outcome K)
-try_step bodies [] = Sticks
-try_step bodies (f ∷ fs) = do
-  b ← need (slice_get bodies f.function)
+abbrev pub try_step : {K : Type 0} → Code K → State K → Try (Outcome K)
+try_step code [] = Sticks
+try_step code (f ∷ fs) = do
+  b ← need (slice_get code.program.bodies f.function)
   k ← need (block_in b.blocks f.label)
-  row bodies b f.types (f ∷ fs) k.end (slice_get k.statements f.statement)
+  row code b f.types (f ∷ fs) k.end (slice_get k.statements f.statement)
 
-abbrev pub step : {K : Type 0} → List Body → State K → Outcome K
-step bodies s = outcome_of (try_step bodies s)
+abbrev pub step : {K : Type 0} → Code K → State K → Outcome K
+step code s = outcome_of (try_step code s)
 
 -- a run that has ended stays as it is
-abbrev pub next : {K : Type 0} → List Body → Outcome K → Outcome K
-next bodies (Running s) = step bodies s
-next bodies o = o
+abbrev pub next : {K : Type 0} → Code K → Outcome K → Outcome K
+next code (Running s) = step code s
+next code o = o
 
 -- n steps on
-abbrev pub after_from : {K : Type 0} → List Body → ℕ → Outcome K → Outcome K
-after_from bodies zero o = o
-after_from bodies (suc n) o = next bodies (after_from bodies n o)
+abbrev pub after_from : {K : Type 0} → Code K → ℕ → Outcome K → Outcome K
+after_from code zero o = o
+after_from code (suc n) o = next code (after_from code n o)
 
-abbrev pub after : {K : Type 0} → List Body → ℕ → State K → Outcome K
-after bodies n s = after_from bodies n (Running s)
+abbrev pub after : {K : Type 0} → Code K → ℕ → State K → Outcome K
+after code n s = after_from code n (Running s)

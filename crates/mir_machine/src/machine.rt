@@ -50,9 +50,9 @@ impl<'a, I> Model for Machine<'a, I> {
 
     ghost use Rattle.mir_machine.specs.RunView.{outcome_at};
 
-    ghost view = { λ m. record { bodies = m.bodies.now.bodies; outcome = outcome_at m.state m.status } };
+    ghost view = { λ m. record { bodies = m.bodies.now; outcome = outcome_at m.state m.status } };
 
-    ghost invariant = { λ m. IsSafe (record { bodies = m.bodies.now.bodies; outcome = outcome_at m.state m.status }) };
+    ghost invariant = { λ m. IsSafe (record { bodies = m.bodies.now; outcome = outcome_at m.state m.status }) };
 }
 
 impl<'a, I: Drop> Machine<'a, I> {
@@ -66,9 +66,9 @@ impl<'a, I: Drop> Machine<'a, I> {
         args: Args,
         intrinsics: I,
     ) -> Result<Machine<'a, I>, NoMemory>
-        requires sound { AreSound bodies.now.bodies }
-        requires proper { CanCall bodies.now.bodies f instance.now.types args.values args.outside }
-        ensures { IfOk result (Starts bodies.now.bodies f instance.now.types args.values args.outside) }
+        requires sound { AreSound bodies.now }
+        requires proper { CanCall bodies.now f instance.now.types args.values args.outside }
+        ensures { IfOk result (Starts bodies.now f instance.now.types args.values args.outside) }
     {
         let FnId::Body(number) = f;
         let types = copy_types(alloc, instance.types.as_slice())?;

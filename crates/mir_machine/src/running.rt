@@ -2,6 +2,7 @@ ghost use Rattle.std.specs.Prelude.{◌≡◌, ◌≢◌, ◌<◌, ◌^◌, [], 
 ghost use Rattle.logic_term.specs.Sort.{instance};
 ghost use Rattle.logic_term.specs.TyView.{tys_of};
 ghost use Rattle.mir_ir.specs.Body.{kind_of, kind_in, place_ty};
+ghost use Rattle.mir_machine.specs.Code.{code_of};
 ghost use Rattle.mir_machine.specs.Depth.{StandsAtCall, IsFull, frames_behind};
 ghost use Rattle.mir_machine.specs.FrameStep.{ReadsWholes, NamesWholes, EndNamesWholes, AreWhole, AllNameWholes, make_tree, evaluate, run_local, call_end, frame_end, frame_step, frame_block, starting, resumed};
 ghost use Rattle.mir_machine.specs.Halt.{Comes};
@@ -19,8 +20,7 @@ use crate::operands::{move_out, put, take, take_all, take_scalar, take_truth};
 use crate::tree::{Tree, TreeNode, copy_trees};
 use logic_term::{Ctor, Label, Ty, TyNode};
 use mir_ir::{
-    Block, Bodies, Body, Callee, FnId, Operand, Place, Rvalue, Statement, StatementKind,
-    TerminatorKind,
+    Block, Bodies, Body, Callee, Operand, Place, Rvalue, Statement, StatementKind, TerminatorKind,
 };
 use source_kinds::IntKind;
 use std::alloc::Global;
@@ -152,9 +152,9 @@ fn callee_frame(
     callee: Callee,
     args: Items<Tree>,
 ) -> Result<Frame, Halt>
-    ensures { Comes result (callee_frame bodies.now.bodies callee args) (λ f. f) }
+    ensures { Comes result (callee_frame bodies.now callee args) (λ f. f) }
 {
-    let Callee::Function(FnId::Body(number)) = callee;
+    let number = bodies.callee_of(callee).ok_or(Halt::Stuck)?;
     let body = bodies.bodies.get(number as usize).ok_or(Halt::Stuck)?;
     let types = Vec::new(alloc);
     Ok(entered(alloc, body, number, types, args.into_vec())?)
@@ -169,7 +169,7 @@ fn call(
     operands: &[Operand],
 ) -> Result<Next, Halt>
     requires { AreWhole operands.now }
-    ensures { Comes result (call_end bodies.now.bodies caller.now callee operands.now) (end_of caller.now) }
+    ensures { Comes result (call_end (code_of bodies.now) caller.now callee operands.now) (end_of caller.now) }
 {
     let mut locals = copy_trees(alloc, &caller.locals)?;
     let args = take_all(alloc, &mut locals, operands)?;
@@ -193,7 +193,7 @@ fn end_block(
     end: &TerminatorKind,
 ) -> Result<Next, Halt>
     requires { EndNamesWholes end.now }
-    ensures ends { Comes result (frame_end bodies.now.bodies frame.old end.now) (end_of frame.new) }
+    ensures ends { Comes result (frame_end (code_of bodies.now) frame.old end.now) (end_of frame.new) }
     ensures unchanged { result ≡ Err Halt.NoMemory → frame.new ≡ frame.old }
     ensures waits { IfOk result (λ next. IsCallee next → frame.new ≡ frame.old) }
 {
@@ -207,7 +207,7 @@ fn end_block(
             go_to(frame, if holds { *yes } else { *no });
             Ok(Next::Same)
         }
-        TerminatorKind::Call(_, callee, operands, _) => {
+        TerminatorKind::Call(_, callee, _, operands, _) => {
             call(alloc, bodies, frame, *callee, operands.as_slice())
         }
         TerminatorKind::Return => Ok(Next::Answer(move_out(&mut frame.locals, 0)?)),
@@ -218,8 +218,8 @@ fn end_block(
 
 /// One step of the running frame. For want of memory, and at a call, the frame stays as it is.
 fn step_frame(alloc: Global, bodies: &Bodies, frame: &mut Frame) -> Result<Next, Halt>
-    requires { AllNameWholes bodies.now.bodies }
-    ensures steps { Comes result (frame_step bodies.now.bodies frame.old) (end_of frame.new) }
+    requires { AllNameWholes bodies.now }
+    ensures steps { Comes result (frame_step (code_of bodies.now) frame.old) (end_of frame.new) }
     ensures unchanged { result ≡ Err Halt.NoMemory → frame.new ≡ frame.old }
     ensures waits { IfOk result (λ next. IsCallee next → frame.new ≡ frame.old) }
 {
@@ -240,7 +240,7 @@ fn step_frame(alloc: Global, bodies: &Bodies, frame: &mut Frame) -> Result<Next,
 
 /// The block in which the frame stands.
 fn block_of<'a>(bodies: &'a Bodies, frame: &Frame) -> Option<&'a Block>
-    ensures { option_copied result ≡ frame_block bodies.now.bodies frame.now }
+    ensures { option_copied result ≡ frame_block bodies.now frame.now }
 {
     bodies
         .bodies
@@ -250,7 +250,7 @@ fn block_of<'a>(bodies: &'a Bodies, frame: &Frame) -> Option<&'a Block>
 
 /// Whether the frame stands at a call.
 fn stands_at_call(bodies: &Bodies, frame: &Frame) -> bool
-    ensures { IsTrue result ↔ StandsAtCall bodies.now.bodies frame.now }
+    ensures { IsTrue result ↔ StandsAtCall bodies.now frame.now }
 {
     let Some(block) = block_of(bodies, frame) else {
         return false;
@@ -268,18 +268,18 @@ pub fn frame_count(state: &State) -> u64
 
 /// Whether the next step is a call that makes more frames than a run may have.
 pub fn is_full(bodies: &Bodies, state: &State) -> bool
-    ensures { IsTrue result ↔ IsFull bodies.now.bodies state.now }
+    ensures { IsTrue result ↔ IsFull bodies.now state.now }
 {
     frame_count(state) >= FRAMES && stands_at_call(bodies, &state.running)
 }
 
 /// The answer goes to the place of the call at which the frame waits, and the frame goes on at the call's label.
 fn resume(bodies: &Bodies, frame: &mut Frame, answer: Tree) -> Result<(), Halt>
-    ensures resumes { Comes result (resumed bodies.now.bodies answer frame.old) (λ _. frame.new) }
+    ensures resumes { Comes result (resumed bodies.now answer frame.old) (λ _. frame.new) }
     ensures memory { result ≢ Err Halt.NoMemory }
 {
     let block = block_of(bodies, frame).ok_or(Halt::Stuck)?;
-    let TerminatorKind::Call(place, _, _, next) = &block.end.kind else {
+    let TerminatorKind::Call(place, _, _, _, next) = &block.end.kind else {
         return Err(Halt::Stuck);
     };
     put(&mut frame.locals, place.local, answer)?;
@@ -301,8 +301,8 @@ fn enter(state: &mut State, frame: Frame, locals: Vec<Tree>) -> Result<(), NoMem
 
 /// The running frame has ended with the answer; `Some` with it where the run returns.
 fn leave(bodies: &Bodies, state: &mut State, answer: Tree) -> Result<Option<Tree>, Halt>
-    requires { AllNameWholes bodies.now.bodies }
-    ensures leaves { Comes result (come_back bodies.now.bodies answer (behind state.old)) (outcome_of_step state.new) }
+    requires { AllNameWholes bodies.now }
+    ensures leaves { Comes result (come_back bodies.now answer (behind state.old)) (outcome_of_step state.new) }
     ensures memory { result ≢ Err Halt.NoMemory }
 {
     match state.behind.pop() {
@@ -321,8 +321,8 @@ fn leave(bodies: &Bodies, state: &mut State, answer: Tree) -> Result<Option<Tree
 
 /// One step of a state; `Some` with the answer where the run returns. For want of memory nothing changes.
 pub fn step_state(alloc: Global, bodies: &Bodies, state: &mut State) -> Result<Option<Tree>, Halt>
-    requires { AllNameWholes bodies.now.bodies }
-    ensures steps { Comes result (try_step bodies.now.bodies state.old) (outcome_of_step state.new) }
+    requires { AllNameWholes bodies.now }
+    ensures steps { Comes result (try_step (code_of bodies.now) state.old) (outcome_of_step state.new) }
     ensures unchanged { result ≡ Err Halt.NoMemory → state.new ≡ state.old }
 {
     match step_frame(alloc, bodies, &mut state.running)? {

@@ -167,7 +167,7 @@ fn end_shape(kind: &TerminatorKind) -> Shape {
         TerminatorKind::Goto(l) => Shape::Goto(l.0),
         TerminatorKind::If(_, yes, no) => Shape::If(yes.0, no.0),
         TerminatorKind::Return => Shape::Return,
-        TerminatorKind::Call(_, _, _, _) => Shape::Call,
+        TerminatorKind::Call(_, _, _, _, _) => Shape::Call,
     }
 }
 

@@ -46,8 +46,9 @@ use Rattle.wp_gen.specs.Row.{operation, overflow, division, if_signed, goals_of_
 use Rattle.wp_gen.proofs.Commands.{GoalsHold}
 use Rattle.wp_gen.proofs.Operations.{says_exactly, not_exactly, new_moves, range_fits, divisor_not_zero, not_least_there}
 use Rattle.wp_gen.proofs.Quotients.{quotient_fits, remainder_fits}
-use Rattle.prophecy_sim.specs.Programs.{AreNamesOfLocals}
+use Rattle.mir_ir.specs.Names.{LocalsAreNamed}
 use Rattle.prophecy_sim.proofs.Values.{T, ValueHas, Matches, S, operand_means, operand_has, matches_new, can_before}
+use Rattle.mir_ir.specs.declared.body.Bodies.{Bodies}
 
 -- ---- kinds
 
@@ -110,7 +111,7 @@ module _ (S₀ : Structure) where
   not_least U64 span s t ρ y z f c d h = λ e g. true≢false (sym f ∙ ap (fits U64) g)
   not_least Usize span s t ρ y z f c d h = λ e g. true≢false (sym f ∙ ap (fits Usize) g)
 
-module _ (Θ : Theory) (bodies : List Body) (b : Body) (typed : IsTyped bodies b) (named : AreNamesOfLocals b) where
+module _ (Θ : Theory) (bodies : Bodies) (b : Body) (typed : IsTyped bodies b) (named : LocalsAreNamed b) where
   -- the right side does not panic, and the commands lead to an environment in which the place's name has its value, and all other
   -- names but that of new values have what they had
   pub record Assigned (σ : Store) (ρ : Env) (p : Place) (r : Rvalue) : Type 0 where

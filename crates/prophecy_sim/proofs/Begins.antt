@@ -16,7 +16,7 @@ use Rattle.logic_term.proofs.Alike.{yes_alike}
 use Rattle.logic_term.proofs.FreeLaw.{coincide_free}
 use Rattle.logic_term.proofs.CanonicalLaw.{reduced_means}
 use Rattle.mir_ir.specs.declared.body.Body.{Body}
-use Rattle.mir_ir.specs.WellFormed.{AreSound, IsTyped, IsInitialised, Locals, OperandHas, EndIsTyped, Within, taken, CanTake, CanEnd, Carries, run, OperandsHave, PlaceHas, CanTakeAll, all_taken, with}
+use Rattle.mir_ir.specs.WellFormed.{IsTyped, Locals, OperandHas, EndIsTyped, Within, taken, CanTake, CanEnd, Carries, run, OperandsHave, PlaceHas, CanTakeAll, all_taken, with, Labelling, MeetsMoveRows}
 use Rattle.mir_machine.specs.Frame.{Frame}
 use Rattle.mir_machine.specs.Step.{entered}
 use Rattle.mir_machine.specs.Good.{Each, named}
@@ -27,8 +27,8 @@ use Rattle.wp_gen.specs.Command.{MovesAll}
 use Rattle.wp_gen.specs.Row.{name_of}
 use Rattle.wp_gen.specs.Walk.{Setting, entry_commands, parameters, numbered}
 use Rattle.wp_gen.proofs.Commands.{GoalsHold, goals_moved, then_moves}
-use Rattle.prophecy_sim.specs.Programs.{IsScalar, IsOneOf, IsSimple, SpeaksOf, Program, setting, IsFunction, AreFunctions, HasTrueObligations}
-use Rattle.prophecy_sim.proofs.Values.{T, named_as}
+use Rattle.prophecy_sim.specs.Programs.{IsScalar, IsSimple, Program, setting, IsFunction, AreFunctions, HasTrueObligations}
+use Rattle.prophecy_sim.proofs.Values.{T, named_as, not_value_name}
 use Rattle.prophecy_sim.proofs.Steps.{at_no, IsOutside}
 use Rattle.prophecy_sim.proofs.Arguments.{values_of, AllPlain, argument_value, arguments_show, named_value, shaped_all, sorted_argument}
 use Rattle.prophecy_sim.proofs.Entries.{AreSorted, parameters_move, assumed_move, Stored, stored_move}
@@ -36,6 +36,8 @@ use Rattle.prophecy_sim.proofs.Memories.{Reached, onward, none_around}
 use Rattle.mir_ir.specs.WellFormed as formed
 use Rattle.prophecy_sim.proofs.Lists.{get_taken, get_behind, get_first}
 use Rattle.prophecy_sim.proofs.Runs.{Standing, Coming, arrived}
+use Rattle.mir_ir.specs.declared.body.Bodies.{Bodies}
+use Rattle.mir_ir.specs.Names.{IsOneOf, ContractSpeaks}
 
 and_right : (p q : Bool) → (p && q) ≡ true → q ≡ true
 and_right true q e = e
@@ -52,11 +54,11 @@ module _ (S : Structure) where
       let all = h (numbered owner m (g ∷ gs)) refl in
       ((yes_alike _ _ (reduced_means S g.formula ρ)).0 (all.0 S.types none ρ), goals_hold owner (m + 1) gs ρ none (λ o e. subst (Each (IsTrueObligation S.theory)) (sym e) all.1))
 
-module _ (Θ : Theory) (program : Program) (sound : AreSound program.bodies) (functions : AreFunctions program sound) (fn : ℕ) (b : Body) (is_body : slice_get program.bodies fn ≡ Some b) (proved : HasTrueObligations Θ (setting program fn b (functions fn b is_body).contract)) where
-  abbrev bodies : List Body
+module _ (Θ : Theory) (program : Program) (labelling : ℕ → Labelling) (functions : AreFunctions program labelling) (fn : ℕ) (b : Body) (is_body : slice_get program.bodies.bodies fn ≡ Some b) (proved : HasTrueObligations Θ (setting program fn b (functions fn b is_body).contract)) where
+  abbrev bodies : Bodies
   bodies = program.bodies
 
-  abbrev own : IsFunction program sound fn b is_body
+  abbrev own : IsFunction program (labelling fn) fn b
   own = functions fn b is_body
 
   abbrev simple : IsSimple b
@@ -65,7 +67,7 @@ module _ (Θ : Theory) (program : Program) (sound : AreSound program.bodies) (fu
   abbrev c : Contract
   c = own.contract
 
-  abbrev speaks : SpeaksOf b c
+  abbrev speaks : ContractSpeaks b c
   speaks = own.speaks
 
   abbrev w : Setting
@@ -75,10 +77,13 @@ module _ (Θ : Theory) (program : Program) (sound : AreSound program.bodies) (fu
   S = at_no Θ b
 
   abbrev typed : IsTyped bodies b
-  typed = (sound fn b is_body).0
+  typed = own.typed
 
-  abbrev initialised : IsInitialised b
-  initialised = (sound fn b is_body).1
+  abbrev initialised : Labelling
+  initialised = labelling fn
+
+  abbrev move_rows : MeetsMoveRows b initialised
+  move_rows = own.moves
 
   abbrev param_list : List Ty
   param_list = take b.params (drop 1 b.locals)
@@ -110,7 +115,7 @@ module _ (Θ : Theory) (program : Program) (sound : AreSound program.bodies) (fu
       less p = omega arith
 
   param_is_outside : (x : Name) → IsOneOf x c.params → IsOutside Θ b x
-  param_is_outside x one = ((λ y n e q. speaks.no_local one.0 y x n one.1 e q), speaks.none_is_new one.0 x one.1)
+  param_is_outside x one = ((λ y n e q. speaks.no_local one.0 y x n one.1 e q), not_value_name x (speaks.none_is_new one.0 x one.1))
 
   -- ---- the entry
 
@@ -150,13 +155,13 @@ module _ (Θ : Theory) (program : Program) (sound : AreSound program.bodies) (fu
     abbrev at_entry : Frame (Unit {0})
     at_entry = entered b fn no_tys args
 
-    entry_matches : (x : ℕ) (n : Name) → initialised.at b.entry 0 x ≡ true → slice_get b.names x ≡ Some n → set.env n ≡ entry_store (argument_value args) x
-    entry_matches zero n inside e = absurd (no (initialised.entry 0 inside))
+    entry_matches : (x : ℕ) (n : Name) → initialised b.entry 0 x ≡ true → slice_get b.names x ≡ Some n → set.env n ≡ entry_store (argument_value args) x
+    entry_matches zero n inside e = absurd (no (move_rows.entry 0 inside))
       where
         no : (formed.parameters b) 0 ≡ true → ⊥
         no q = cc
     entry_matches (suc i) n inside e =
-        let below : i < b.params = is_below (initialised.entry (suc i) inside) in
+        let below : i < b.params = is_below (move_rows.entry (suc i) inside) in
         let x = get_first c.params i (omega (arith, below, speaks.count)) in
         ap set.env (sym (named_as b (suc i) n e)) ∙ ap (λ k. set.env (name_of b k)) (one_more i) ∙ set.here i x.0 x.1 ∙ given.2 x.0 ∙ named_value c.params args speaks.apart i x.0 x.1 (omega (arith, below, shaped.0, params_length))
       where
@@ -169,9 +174,9 @@ module _ (Θ : Theory) (program : Program) (sound : AreSound program.bodies) (fu
         params_length : length param_list ≡ b.params
         params_length = grind (arith, length-take, length-drop, typed.answers)
 
-    comes : Coming Θ program sound functions fn b is_body ρ₀ at_entry b.entry at_entry.locals
+    comes : Coming Θ program labelling functions fn b is_body ρ₀ at_entry b.entry at_entry.locals
     comes = record {
-      fitting = fits_within b no_tys (initialised.at b.entry 0) (formed.parameters b) at_entry.locals initialised.entry (entered_fits bodies b fn no_tys args typed shaped);
+      fitting = fits_within b no_tys (initialised b.entry 0) (formed.parameters b) at_entry.locals move_rows.entry (entered_fits bodies b fn no_tys args typed shaped);
       store = entry_store (argument_value args);
       agrees = agrees_entry args (length b.locals - 1 - length args) (argument_value args) (arguments_show args plain);
       env = set.env;
@@ -183,6 +188,6 @@ module _ (Θ : Theory) (program : Program) (sound : AreSound program.bodies) (fu
     unfolding comes
     way = onward simple.laid_out.entry [] simple.laid_out.is_entry simple.laid_out.at_entry none_around (λ h a. a) (λ h a. absurd (cc)) (λ a. absurd (cc))
 
-    pub begins : Standing Θ program sound functions fn b is_body ρ₀ at_entry
+    pub begins : Standing Θ program labelling functions fn b is_body ρ₀ at_entry
     unfolding comes
-    begins = arrived Θ program sound functions fn b is_body ρ₀ proved.are.are_goals.arrives at_entry at_entry.locals refl refl comes way goals_there
+    begins = arrived Θ program labelling functions fn b is_body ρ₀ proved.are.are_goals.arrives at_entry at_entry.locals refl refl comes way goals_there

@@ -26,10 +26,11 @@ use Rattle.mir_machine.specs.Good.{named}
 use Rattle.logic_term.proofs.Coincide.{with_same}
 use Rattle.logic_term.specs.Theory.{Theory}
 use Rattle.wp_gen.specs.Row.{operand_term}
-use Rattle.prophecy_sim.specs.Programs.{AreNamesOfLocals}
+use Rattle.mir_ir.specs.Names.{LocalsAreNamed}
 use Rattle.prophecy_sim.proofs.Arguments.{value_of, values_of, AllPlain, plain_one}
 use Rattle.prophecy_sim.proofs.Steps.{taken_before}
 use Rattle.prophecy_sim.proofs.Values.{T, Matches, operand_means}
+use Rattle.mir_ir.specs.declared.body.Bodies.{Bodies}
 
 -- ---- operands
 
@@ -100,7 +101,7 @@ module _ (S : Structure) where
 
 -- ---- the terms of operands
 
-module _ (Θ : Theory) (bodies : List Body) (b : Body) (typed : IsTyped bodies b) (names : AreNamesOfLocals b) where
+module _ (Θ : Theory) (bodies : Bodies) (b : Body) (typed : IsTyped bodies b) (names : LocalsAreNamed b) where
   abbrev at_no : Structure
   at_no = structure_of Θ no_tys
 

@@ -11,7 +11,7 @@ use Rattle.logic_term.specs.TyView.{tys_of}
 use Rattle.logic_term.specs.Value.{nothing}
 use Rattle.mir_ir.specs.declared.body.Body.{Body}
 use Rattle.mir_ir.specs.Body.{answer_ty}
-use Rattle.mir_ir.specs.WellFormed.{AreSound}
+use Rattle.mir_ir.specs.WellFormed.{AreSound, Labelling}
 use Rattle.mir_machine.specs.Tree.{Trees}
 use Rattle.mir_machine.specs.Frame.{State}
 use Rattle.mir_machine.specs.Step.{Outcome, Running, Returned, Panicked, Stuck, after, outside}
@@ -25,6 +25,9 @@ use Rattle.prophecy_sim.proofs.Lists.{get_taken, get_behind, get_first}
 use Rattle.prophecy_sim.proofs.Runs.{IsAnswer, first_ty}
 use Rattle.prophecy_sim.proofs.Begins.{begins}
 use Rattle.prophecy_sim.proofs.States.{OutcomeFine, run_fine}
+use Rattle.mir_ir.specs.declared.body.Bodies.{Bodies}
+use Rattle.mir_machine.specs.Code.{code_of}
+use Rattle.prophecy_sim.proofs.Functions.{sound_of}
 
 -- ---- no references are met from integers, truth values and `()`
 
@@ -84,12 +87,15 @@ none_met_all Δ s (sc ∷ tys) (more_typed {t = t} {ty = ty} {tys = vs} {first =
     ap₂ (λ xs ys. xs ++ ys) (none_met Δ s t ty first h sc (first_is ty (instance no_tys sc) vs (instances no_tys (tys_of tys)) e) (scalars 0 sc refl))
     (none_met_all Δ s tys hs (others_are ty (instance no_tys sc) vs (instances no_tys (tys_of tys)) e) (λ i u q. scalars (suc i) u q))
 
-module _ (Θ : Theory) (program : Program) (sound : AreSound program.bodies) (functions : AreFunctions program sound)
-    (fn : ℕ) (proved : AreProvedFrom Θ program fn) (b : Body) (is_body : slice_get program.bodies fn ≡ Some b) where
-  abbrev bodies : List Body
+module _ (Θ : Theory) (program : Program) (labelling : ℕ → Labelling) (functions : AreFunctions program labelling)
+    (fn : ℕ) (proved : AreProvedFrom Θ program fn) (b : Body) (is_body : slice_get program.bodies.bodies fn ≡ Some b) where
+  abbrev bodies : Bodies
   bodies = program.bodies
 
-  abbrev own : IsFunction program sound fn b is_body
+  abbrev sound : AreSound bodies
+  sound = sound_of program labelling functions
+
+  abbrev own : IsFunction program (labelling fn) fn b
   own = functions fn b is_body
 
   abbrev simple : IsSimple b
@@ -121,16 +127,16 @@ module _ (Θ : Theory) (program : Program) (sound : AreSound program.bodies) (fu
     pre = meets (λ at. nothing) (values_of args) tt (all_read start (λ k at. nothing) here 0 args plain)
 
     abbrev Fine : Outcome (Unit {0}) → Type 0
-    Fine = OutcomeFine Θ program sound functions fn proved c ρ₀ (outside held)
+    Fine = OutcomeFine Θ program labelling functions fn proved c ρ₀ (outside held)
 
     starts : Fine (Running start)
     starts = (
-      record { function = fn; reached = itself; body = b; is_body = is_body; env = ρ₀; standing = begins Θ program sound functions fn b is_body (proved fn b c itself is_body own.is_contract) args shaped pre },
+      record { function = fn; reached = itself; body = b; is_body = is_body; env = ρ₀; standing = begins Θ program labelling functions fn b is_body (proved fn b c itself is_body own.is_contract) args shaped pre },
       (refl, λ t a. a),
     )
 
     answer : (ty : Ty) × (slice_get b.locals 0 ≡ Some ty)
-    answer = get_first b.locals 0 (omega (arith, (sound fn b is_body).0.answers))
+    answer = get_first b.locals 0 (omega (arith, own.typed.answers))
 
     ensures_met : (s' : State (Unit {0})) (t : T) (fill : Supply) → IsAnswer Θ bodies fn c ρ₀ t → MeetsEnsures Θ no_tys c start args [] s' t [] fill
     ensures_met s' t fill a = record {
@@ -153,35 +159,35 @@ module _ (Θ : Theory) (program : Program) (sound : AreSound program.bodies) (fu
         let shaped_as : Shape (instance no_tys ty) t = subst (λ u. Shape u t) is (shape s' t refl) in
         ([], subst (λ u. Typed (declared Θ) s' t u []) (sym is) (typed_answer (declared Θ) s' ty t (simple.scalars 0 ty answer.1) shaped_as), λ fill sup. ensures_met s' t fill h)
 
-    call_fine : (n : ℕ) → IsFine Θ no_tys c (answer_ty b no_tys) start args [] (after bodies n start)
+    call_fine : (n : ℕ) → IsFine Θ no_tys c (answer_ty b no_tys) start args [] (after (code_of bodies) n start)
     call_fine n =
-        fine_of (after bodies n start) (run_fine Θ program sound functions fn proved c ρ₀ (outside held) n (Running start) starts)
-        (never_stuck Θ bodies sound fn no_tys args held b [] proper n)
-        (λ s' t e. answer_shape Θ bodies sound fn no_tys args held b [] proper n s' t e)
+        fine_of (after (code_of bodies) n start) (run_fine Θ program labelling functions fn proved c ρ₀ (outside held) n (Running start) starts)
+        (never_stuck Θ (code_of bodies) sound fn no_tys args held b [] proper n)
+        (λ s' t e. answer_shape Θ (code_of bodies) sound fn no_tys args held b [] proper n s' t e)
 
   -- ---- every proper call
 
   at_none : (args held : List T) (met : List Met) → IsProper Θ bodies fn no_tys args held b met → MeetsRequires Θ no_tys c (called b fn no_tys args held) args met → (n : ℕ)
-      → IsFine Θ no_tys c (answer_ty b no_tys) (called b fn no_tys args held) args met (after bodies n (called b fn no_tys args held))
+      → IsFine Θ no_tys c (answer_ty b no_tys) (called b fn no_tys args held) args met (after (code_of bodies) n (called b fn no_tys args held))
   at_none args held met proper meets n =
       let none : met ≡ [] = none_met_all (declared Θ) (called b fn no_tys args held) param_list proper.typed refl scalars in
-      let Q : List Met → Type 0 = λ ms. IsProper Θ bodies fn no_tys args held b ms → MeetsRequires Θ no_tys c (called b fn no_tys args held) args ms → IsFine Θ no_tys c (answer_ty b no_tys) (called b fn no_tys args held) args ms (after bodies n (called b fn no_tys args held)) in
+      let Q : List Met → Type 0 = λ ms. IsProper Θ bodies fn no_tys args held b ms → MeetsRequires Θ no_tys c (called b fn no_tys args held) args ms → IsFine Θ no_tys c (answer_ty b no_tys) (called b fn no_tys args held) args ms (after (code_of bodies) n (called b fn no_tys args held)) in
       subst Q (sym none) (λ p q. call_fine args held p q n) proper meets
 
-  at_types : (θ : Tys) (args held : List T) (met : List Met) → IsProper Θ bodies fn θ args held b met → MeetsRequires Θ θ c (called b fn θ args held) args met → (n : ℕ) → IsFine Θ θ c (answer_ty b θ) (called b fn θ args held) args met (after bodies n (called b fn θ args held))
+  at_types : (θ : Tys) (args held : List T) (met : List Met) → IsProper Θ bodies fn θ args held b met → MeetsRequires Θ θ c (called b fn θ args held) args met → (n : ℕ) → IsFine Θ θ c (answer_ty b θ) (called b fn θ args held) args met (after (code_of bodies) n (called b fn θ args held))
   at_types θ args held met proper meets n =
-      let Q : Tys → Type 0 = λ τ. IsProper Θ bodies fn τ args held b met → MeetsRequires Θ τ c (called b fn τ args held) args met → IsFine Θ τ c (answer_ty b τ) (called b fn τ args held) args met (after bodies n (called b fn τ args held)) in
+      let Q : Tys → Type 0 = λ τ. IsProper Θ bodies fn τ args held b met → MeetsRequires Θ τ c (called b fn τ args held) args met → IsFine Θ τ c (answer_ty b τ) (called b fn τ args held) args met (after (code_of bodies) n (called b fn τ args held)) in
       subst Q (sym (no_types_for_none θ proper.ground)) (λ p q. at_none args held met p q n) proper meets
 
   good_own : Good Θ bodies fn c
   good_own θ args held b' met proper meets n =
       let same : b ≡ b' = same_Some _ _ (sym is_body ∙ proper.of) in
-      let Q : Body → Type 0 = λ d. IsProper Θ bodies fn θ args held d met → MeetsRequires Θ θ c (called d fn θ args held) args met → IsFine Θ θ c (answer_ty d θ) (called d fn θ args held) args met (after bodies n (called d fn θ args held)) in
+      let Q : Body → Type 0 = λ d. IsProper Θ bodies fn θ args held d met → MeetsRequires Θ θ c (called d fn θ args held) args met → IsFine Θ θ c (answer_ty d θ) (called d fn θ args held) args met (after (code_of bodies) n (called d fn θ args held)) in
       subst Q same (λ p q. at_types θ args held met p q n) proper meets
 
 -- with the contract of the function
 pub good : TrueObligationsMakeGood
-good Θ program sound functions fn c is_contract proved θ args held b met proper meets n =
+good Θ program labelling functions fn c is_contract proved θ args held b met proper meets n =
     let own = functions fn b proper.of in
     let same : own.contract ≡ c = same_Some _ _ (sym own.is_contract ∙ is_contract) in
-    (subst (Good Θ program.bodies fn) same (good_own Θ program sound functions fn proved b proper.of)) θ args held b met proper meets n
+    (subst (Good Θ program.bodies fn) same (good_own Θ program labelling functions fn proved b proper.of)) θ args held b met proper meets n

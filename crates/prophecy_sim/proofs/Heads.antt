@@ -18,7 +18,7 @@ use Rattle.mir_ir.specs.Layout.{among}
 use Rattle.wp_gen.specs.Command.{by_fresh, MovesAll, none, more}
 use Rattle.wp_gen.specs.Row.{name_of}
 use Rattle.wp_gen.specs.Walk.{is_in_loop, writes, end_writes, block_writes, loop_writes, picked, renewed}
-use Rattle.prophecy_sim.specs.Programs.{AreNamesOfLocals}
+use Rattle.mir_ir.specs.Names.{LocalsAreNamed}
 use Rattle.prophecy_sim.proofs.Values.{named_as}
 use Rattle.prophecy_sim.proofs.Steps.{decide}
 use Rattle.prophecy_sim.proofs.Lists.{get_first}
@@ -73,7 +73,7 @@ one_on m i = omega arith
 no_more : (m : ℕ) → m + 0 ≡ m
 no_more m = omega arith
 
-module _ (S : Structure) (b : Body) (named : AreNamesOfLocals b) (count : length b.names ≡ length b.locals) where
+module _ (S : Structure) (b : Body) (named : LocalsAreNamed b) (count : length b.names ≡ length b.locals) where
   -- the locals that the test picks have new values, all other names what they had
   pub record Renewed (p : ℕ → Bool) (val : ℕ → Value) (ρ : Env) : Type 0 where
     pub env : Env

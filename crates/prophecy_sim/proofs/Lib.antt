@@ -3,6 +3,7 @@ pub mod Assigns
 pub mod Begins
 pub mod Calls
 pub mod Entries
+pub mod Functions
 pub mod GoodBody
 pub mod Heads
 pub mod Lists

@@ -9,7 +9,7 @@ use Rattle.mir_ir.specs.declared.body.Block.{Block}
 use Rattle.mir_ir.specs.declared.body.Head.{Head}
 use Rattle.mir_ir.specs.Body.{block_in}
 use Rattle.mir_ir.specs.Layout.{among, around, place_of, Leads, on, back}
-use Rattle.mir_ir.specs.WellFormed.{IsInitialised}
+use Rattle.mir_ir.specs.WellFormed.{Labelling}
 use Rattle.mir_machine.proofs.Shown.{Store}
 use Rattle.wp_gen.specs.declared.goal.Goal.{Goal}
 use Rattle.wp_gen.specs.Walk.{Setting, seen_before, loop_writes, head_commands, Walks}
@@ -109,7 +109,7 @@ both_empty (x ∷ xs) ys e = absurd (cc)
 
 -- ---- heads
 
-module _ (Θ : Theory) (w : Setting) (i : IsInitialised w.body) (ρ₀ : Env) where
+module _ (Θ : Theory) (w : Setting) (i : Labelling) (ρ₀ : Env) where
   abbrev pub KeepsParams : Env → Type 0
   KeepsParams ρ = (n : Name) → IsOutside Θ w.body n → ρ n ≡ ρ₀ n
 
@@ -126,7 +126,7 @@ module _ (Θ : Theory) (w : Setting) (i : IsInitialised w.body) (ρ₀ : Env) wh
     pub nest : block.nest ≡ outer ++ l ∷ []
     pub env : Env
     pub store : Store
-    pub matches : Matches w.body (i.at l 0) store env
+    pub matches : Matches w.body (i l 0) store env
     pub keeps : KeepsParams env
     pub heads : List Label
     pub within : AllAmong block.nest heads
@@ -135,7 +135,7 @@ module _ (Θ : Theory) (w : Setting) (i : IsInitialised w.body) (ρ₀ : Env) wh
     pub paths : ℕ
     pub walks : Walks w heads block.statements block.end goals paths
     pub hold : GoalsHold (at_no Θ w.body) env (seen_before (head_commands w.body w.init l head) goals)
-    pub unchanged : (x : ℕ) → loop_writes w.body l x ≡ false → i.at l 0 x ≡ true → σ x ≡ store x
+    pub unchanged : (x : ℕ) → loop_writes w.body l x ≡ false → i l 0 x ≡ true → σ x ≡ store x
 
   pub data Memories (σ : Store) : List Label → Type 0 where
     none_around : Memories σ []

@@ -17,18 +17,20 @@ use Rattle.logic_term.proofs.CanonicalLaw.{reduced_means}
 use Rattle.logic_term.proofs.FreeLaw.{same_name}
 use Rattle.mir_ir.specs.declared.place.Operand.TheVariants.{Copy}
 use Rattle.mir_ir.specs.declared.statement.Statement.{Statement}
+use Rattle.mir_ir.specs.declared.terminator.FnId.TheVariants.{Body as OfBody}
+use Rattle.mir_ir.specs.declared.terminator.Callee.TheVariants.{Function}
 use Rattle.mir_ir.specs.declared.body.Block.{Block}
 use Rattle.mir_ir.specs.declared.body.Body.{Body}
 use Rattle.mir_ir.specs.declared.body.Head.{Head}
 use Rattle.mir_ir.specs.Body.{block_in}
 use Rattle.mir_ir.specs.Layout.{among, targets, Leads, on, back}
-use Rattle.mir_ir.specs.WellFormed.{HasBlock, StatementIsTyped, EndIsTyped, IsTyped, Locals, with, CanRun, run, CanEnd, Carries, Within, parameters, IsInitialised, AreSound}
-use Rattle.mir_machine.specs.Good.{Each}
+use Rattle.mir_ir.specs.WellFormed.{HasBlock, StatementIsTyped, EndIsTyped, IsTyped, Locals, with, CanRun, run, CanEnd, Carries, Within, parameters, Labelling, MeetsMoveRows}
 use Rattle.wp_gen.specs.Row.{value_name}
 use Rattle.wp_gen.specs.Walk.{is_gone, statement, goto, branch, call, return, plain, first, again}
-use Rattle.prophecy_sim.specs.Programs.{IsScalar, IsOneOf, IsNameIn, SpeaksOf, IsSimple, HeadsSpeakOf, AreFunctions, HasTrueObligations, setting}
+use Rattle.prophecy_sim.specs.Programs.{IsScalar, IsSimple, HeadsSpeakOf, AreFunctions, HasTrueObligations, setting, IsFunction}
 use Rattle.prophecy_sim.specs.Sample.{label, whole, name, head, cleared, caller, is_false, program, SampleIsSound, SampleIsTrue, SampleIsGood}
 use Rattle.prophecy_sim.proofs.GoodBody.{good}
+use Rattle.mir_ir.specs.Names.{IsOneOf, IsNameIn, ContractSpeaks, new_number}
 
 same_label : (l m : Label) → (l.0 == m.0) ≡ true → l ≡ m
 same_label l m e = ap (λ n. let r : Label = record { 0 = n } in r) (eqb-true l.0 m.0 e)
@@ -77,6 +79,9 @@ statement_found P i (s ∷ sts) (suc j) st h e = subst (λ n. P n st) (there i j
 
 -- ---- types and what is initialised
 
+abbrev by_number : (ℕ → ℕ → Locals) → Labelling
+by_number sets l i = sets l.0 i
+
 abbrev IsSoundAt : Body → (ℕ → ℕ → Locals) → Label → ℕ → Statement → Type 0
 IsSoundAt b sets l i st = StatementIsTyped b st.kind × CanRun (sets l.0 i) st.kind × Within (sets l.0 (i + 1)) (run st.kind (sets l.0 i))
 
@@ -96,8 +101,9 @@ module _ (b : Body) (sets : ℕ → ℕ → Locals) (blocks_sound : EachBlock (B
       from_zero : (i : ℕ) → 0 + i ≡ i
       from_zero i = omega arith
 
-  typed_of : length b.names ≡ length b.locals → b.params + 1 ≤ length b.locals → HasBlock b b.entry → IsTyped program.bodies b
-  typed_of named answers begins = record {
+  typed_of : length b.names ≡ length b.locals → b.params + 1 ≤ length b.locals → HasBlock b b.entry → b.types ≡ [] → IsTyped program.bodies b
+  typed_of named answers begins ground = record {
+    ground = ground;
     named = named;
     answers = answers;
     begins = begins;
@@ -105,9 +111,8 @@ module _ (b : Body) (sets : ℕ → ℕ → Locals) (blocks_sound : EachBlock (B
     ends = λ l k is. (sound_at l k is).typed;
   }
 
-  abbrev initialised_of : Within (sets b.entry.0 0) (parameters b) → IsInitialised b
-  initialised_of entry = record {
-    at = λ l i. sets l.0 i;
+  moves_of : Within (sets b.entry.0 0) (parameters b) → MeetsMoveRows b (by_number sets)
+  moves_of entry = record {
     entry = entry;
     statements = λ l k i st is at. ((statement_sound l k i st is at).1, (statement_sound l k i st is at).2);
     ends = λ l k is. (sound_at l k is).can_end;
@@ -149,21 +154,21 @@ blocks_sound = (
 
 caller_blocks_sound : EachBlock (BlockIsSound caller caller_sets) caller.blocks
 caller_blocks_sound = (
-  record { statements = tt; typed = ((cleared, bool, refl, ((refl, refl), tt), refl, (refl, refl)), (_, refl)); can_end = (refl, tt); carries = λ x h. h },
+  record { statements = tt; typed = ((cleared, bool, refl, ((refl, refl), tt), refl, (refl, refl), refl), (_, refl)); can_end = (refl, tt); carries = λ x h. h },
   (record { statements = tt; typed = tt; can_end = refl; carries = tt }, tt),
 )
 
 typed : IsTyped program.bodies cleared
-typed = typed_of cleared sets blocks_sound refl (omega arith) (_, refl)
+typed = typed_of cleared sets blocks_sound refl (omega arith) (_, refl) refl
 
 caller_typed : IsTyped program.bodies caller
-caller_typed = typed_of caller caller_sets caller_blocks_sound refl (omega arith) (_, refl)
+caller_typed = typed_of caller caller_sets caller_blocks_sound refl (omega arith) (_, refl) refl
 
-abbrev initialised : IsInitialised cleared
-initialised = initialised_of cleared sets blocks_sound (λ x h. h)
+moves : MeetsMoveRows cleared (by_number sets)
+moves = moves_of cleared sets blocks_sound (λ x h. h)
 
-abbrev caller_initialised : IsInitialised caller
-caller_initialised = initialised_of caller caller_sets caller_blocks_sound (λ x h. h)
+caller_moves : MeetsMoveRows caller (by_number caller_sets)
+caller_moves = moves_of caller caller_sets caller_blocks_sound (λ x h. h)
 
 -- ---- names
 
@@ -176,8 +181,7 @@ param_number : (i : ℕ) (n : Name) → slice_get is_false.params i ≡ Some n �
 param_number zero n e = (ap (λ (m : Name). m.0) (sym (same_Some _ _ e)), refl)
 param_number (suc i) n e = absurd (cc)
 
-not_new : (n : Name) → n.0 < 200 → n.0 ≡ value_name.0 → ⊥
-unfolding value_name
+not_new : (n : Name) → n.0 < 200 → n.0 ≡ new_number → ⊥
 not_new n l q = absurd (omega arith)
 
 below : (m n : ℕ) → m ≡ 100 + n → n < 2 → m < 200
@@ -238,14 +242,14 @@ caller_simple = record {
 
 -- ---- the contract and the head
 
-speaks : SpeaksOf cleared is_false
+speaks : ContractSpeaks cleared is_false
 speaks = record {
   count = refl;
   apart = λ i j x y e f q. same i j (param_number i x e).1 (param_number j y f).1;
   no_local = λ i x n m e f q. no_local x n m (param_number i n e).0 (local_number x m f).0 q;
   none_is_new = λ i n e q. not_new n (is_below n.0 (param_number i n e).0) q;
-  before = tt;
-  over = (λ x f d. absurd (d (at_answer x f)), tt);
+  before = λ j t e. absurd (cc);
+  over = post_over;
 }
   where
     same : (i j : ℕ) → i ≡ 0 → j ≡ 0 → i ≡ j
@@ -264,25 +268,25 @@ speaks = record {
         first_of true e = refl
         first_of false e = e
 
-caller_speaks : SpeaksOf caller is_false
+    post_over : (j : ℕ) (t : Term) → slice_get is_false.post j ≡ Some t → (x : Name) → free x t ≡ true → (x.0 ≡ 11 → ⊥) → IsOneOf x is_false.params
+    post_over zero t e x f d = absurd (d (at_answer x (subst (λ (u : Term). free x u ≡ true) (sym (same_Some _ _ e)) f)))
+    post_over (suc j) t e x f d = absurd (cc)
+
+caller_speaks : ContractSpeaks caller is_false
 caller_speaks = record {
   count = refl;
   apart = speaks.apart;
   no_local = speaks.no_local;
   none_is_new = speaks.none_is_new;
-  before = tt;
+  before = speaks.before;
   over = speaks.over;
 }
 
-abbrev SpeaksThere : IsInitialised cleared → Label → Block → Type 0
-SpeaksThere i l k = (h : Head) → k.head ≡ Some h → Each (λ (t : Term). (x : Name) → free x t ≡ true → IsOneOf x is_false.params ⊎ IsNameIn cleared (i.at l 0) x) h.invariants
+abbrev SpeaksThere : Label → Block → Type 0
+SpeaksThere l k = (h : Head) → k.head ≡ Some h → (j : ℕ) (t : Term) → slice_get h.invariants j ≡ Some t → (x : Name) → free x t ≡ true → IsOneOf x is_false.params ⊎ IsNameIn cleared (sets l.0 0) x
 
 zero_apart : (n : ℕ) → (0 == suc n) ≡ false
 zero_apart n = grind (arith, nat_tests)
-
--- the sets before the blocks are these
-abbrev HasSets : {b : Body} → (ℕ → ℕ → Locals) → IsInitialised b → Type 0
-HasSets sets i = (l : Label) (x : ℕ) → i.at l 0 x ≡ sets l.0 0 x
 
 -- what holds something before a block is not gone there, where the answer holds nothing at the entry
 not_gone : (sets : ℕ → ℕ → Locals) → sets 0 0 0 ≡ false → (n x : ℕ) → sets n 0 x ≡ true → is_gone (program.gone 0) (label n) x ≡ false
@@ -290,68 +294,53 @@ not_gone sets empty zero zero inside = absurd (true≢false (sym inside ∙ empt
 not_gone sets empty zero (suc x) inside = ap (λ t. (t && true || false) || false) (zero_apart x)
 not_gone sets empty (suc n) x inside = ap (λ t. (t && true) && ((0 == x) && true || false) || false) (zero_apart n)
 
-heads_speak : (i : IsInitialised cleared) → HasSets sets i → HeadsSpeakOf cleared is_false (program.gone 0) i
-heads_speak i has = record {
-  over = λ l k h is is_head. block_found (SpeaksThere i) cleared.blocks l k ((λ h e. absurd (cc)), (speaks_there, ((λ h e. absurd (cc)), ((λ h e. absurd (cc)), tt)))) is h is_head;
-  there = λ l x inside. not_gone sets refl l.0 x (sym (has l x) ∙ inside);
+heads_speak : HeadsSpeakOf cleared is_false (program.gone 0) (by_number sets)
+heads_speak = record {
+  over = λ l k h is is_head. block_found SpeaksThere cleared.blocks l k ((λ h e. absurd (cc)), (speaks_there, ((λ h e. absurd (cc)), ((λ h e. absurd (cc)), tt)))) is h is_head;
+  there = λ l x inside. not_gone sets refl l.0 x inside;
 }
   where
-    one_of : (x : Name) (s t : Bool) → (x.0 == 100) ≡ s → (x.0 == 10) ≡ t → (s || (t || false)) ≡ true → IsOneOf x is_false.params ⊎ IsNameIn cleared (i.at (label 1) 0) x
-    one_of x true t e f q = inr (0, has (label 1) 0, ap Some (sym (same_name x (name 100) (eqb-true x.0 100 e))))
+    one_of : (x : Name) (s t : Bool) → (x.0 == 100) ≡ s → (x.0 == 10) ≡ t → (s || (t || false)) ≡ true → IsOneOf x is_false.params ⊎ IsNameIn cleared (sets 1 0) x
+    one_of x true t e f q = inr (0, refl, ap Some (sym (same_name x (name 100) (eqb-true x.0 100 e))))
     one_of x false true e f q = inl (0, ap Some (sym (same_name x (name 10) (eqb-true x.0 10 f))))
     one_of x false false e f q = absurd (true≢false (sym q))
 
-    speaks_there : (h : Head) → Some head ≡ Some h → Each (λ (t : Term). (x : Name) → free x t ≡ true → IsOneOf x is_false.params ⊎ IsNameIn cleared (i.at (label 1) 0) x) h.invariants
-    speaks_there h e = subst (λ (g : Head). Each (λ (t : Term). (x : Name) → free x t ≡ true → IsOneOf x is_false.params ⊎ IsNameIn cleared (i.at (label 1) 0) x) g.invariants) (same_Some _ _ e) ((λ x f. one_of x (x.0 == 100) (x.0 == 10) refl refl f), tt)
+    of_head : (j : ℕ) (t : Term) → slice_get head.invariants j ≡ Some t → (x : Name) → free x t ≡ true → IsOneOf x is_false.params ⊎ IsNameIn cleared (sets 1 0) x
+    of_head zero t e x f = one_of x (x.0 == 100) (x.0 == 10) refl refl (subst (λ (u : Term). free x u ≡ true) (sym (same_Some _ _ e)) f)
+    of_head (suc j) t e x f = absurd (cc)
 
-caller_heads_speak : (i : IsInitialised caller) → HasSets caller_sets i → HeadsSpeakOf caller is_false (program.gone 1) i
-caller_heads_speak i has = record {
-  over = λ l k h is is_head. absurd (no_head l k h is is_head);
-  there = λ l x inside. not_gone caller_sets refl l.0 x (sym (has l x) ∙ inside);
+    speaks_there : (h : Head) → Some head ≡ Some h → (j : ℕ) (t : Term) → slice_get h.invariants j ≡ Some t → (x : Name) → free x t ≡ true → IsOneOf x is_false.params ⊎ IsNameIn cleared (sets 1 0) x
+    speaks_there h e = subst (λ (g : Head). (j : ℕ) (t : Term) → slice_get g.invariants j ≡ Some t → (x : Name) → free x t ≡ true → IsOneOf x is_false.params ⊎ IsNameIn cleared (sets 1 0) x) (same_Some _ _ e) of_head
+
+caller_heads_speak : HeadsSpeakOf caller is_false (program.gone 1) (by_number caller_sets)
+caller_heads_speak = record {
+  over = λ l k h is is_head j t e x f. absurd (no_head l k h is is_head);
+  there = λ l x inside. not_gone caller_sets refl l.0 x inside;
 }
   where
     no_head : (l : Label) (k : Block) (h : Head) → block_in caller.blocks l ≡ Some k → k.head ≡ Some h → ⊥
     no_head l k h is is_head = block_found (λ l k. (h : Head) → k.head ≡ Some h → ⊥) caller.blocks l k ((λ h e. absurd (cc)), ((λ h e. absurd (cc)), tt)) is h is_head
 
-abbrev moved : (b : Body) → cleared ≡ b → (i : IsInitialised b) × HasSets sets i
-moved b same = subst (λ c. (i : IsInitialised c) × HasSets sets i) same (initialised, λ l x. refl)
-
-abbrev caller_moved : (b : Body) → caller ≡ b → (i : IsInitialised b) × HasSets caller_sets i
-caller_moved b same = subst (λ c. (i : IsInitialised c) × HasSets caller_sets i) same (caller_initialised, λ l x. refl)
-
-no_more : (f : ℕ) (b : Body) → slice_get program.bodies (suc (suc f)) ≡ Some b → ⊥
+no_more : (f : ℕ) (b : Body) → slice_get program.bodies.bodies (suc (suc f)) ≡ Some b → ⊥
 no_more f b e = absurd (cc)
 
-abbrev sound : AreSound program.bodies
-sound zero b e = (subst (IsTyped program.bodies) (same_Some _ _ e) typed, (moved b (same_Some _ _ e)).0)
-sound (suc zero) b e = (subst (IsTyped program.bodies) (same_Some _ _ e) caller_typed, (caller_moved b (same_Some _ _ e)).0)
-sound (suc (suc f)) b e = absurd (no_more f b e)
+abbrev labelling : ℕ → Labelling
+labelling zero = by_number sets
+labelling (suc n) = by_number caller_sets
 
-heads_of : (b : Body) → cleared ≡ b → (i : IsInitialised b) → HasSets sets i → HeadsSpeakOf b is_false (program.gone 0) i
-heads_of b same = subst (λ d. (i : IsInitialised d) → HasSets sets i → HeadsSpeakOf d is_false (program.gone 0) i) same heads_speak
+first_function : IsFunction program (labelling 0) 0 cleared
+first_function = record { number = refl; typed = typed; moves = moves; contract = is_false; is_contract = refl; simple = simple; speaks = speaks; heads = heads_speak }
 
-caller_heads_of : (b : Body) → caller ≡ b → (i : IsInitialised b) → HasSets caller_sets i → HeadsSpeakOf b is_false (program.gone 1) i
-caller_heads_of b same = subst (λ d. (i : IsInitialised d) → HasSets caller_sets i → HeadsSpeakOf d is_false (program.gone 1) i) same caller_heads_speak
+second_function : IsFunction program (labelling 1) 1 caller
+second_function = record { number = refl; typed = caller_typed; moves = caller_moves; contract = is_false; is_contract = refl; simple = caller_simple; speaks = caller_speaks; heads = caller_heads_speak }
 
-functions : AreFunctions program sound
-functions zero b e = record {
-  contract = is_false;
-  is_contract = refl;
-  simple = subst IsSimple (same_Some _ _ e) simple;
-  speaks = subst (λ d. SpeaksOf d is_false) (same_Some _ _ e) speaks;
-  heads = heads_of b (same_Some _ _ e) (moved b (same_Some _ _ e)).0 (moved b (same_Some _ _ e)).1;
-}
-functions (suc zero) b e = record {
-  contract = is_false;
-  is_contract = refl;
-  simple = subst IsSimple (same_Some _ _ e) caller_simple;
-  speaks = subst (λ d. SpeaksOf d is_false) (same_Some _ _ e) caller_speaks;
-  heads = caller_heads_of b (same_Some _ _ e) (caller_moved b (same_Some _ _ e)).0 (caller_moved b (same_Some _ _ e)).1;
-}
+functions : AreFunctions program labelling
+functions zero b e = subst (IsFunction program (labelling 0) 0) (same_Some _ _ e) first_function
+functions (suc zero) b e = subst (IsFunction program (labelling 1) 1) (same_Some _ _ e) second_function
 functions (suc (suc n)) b e = absurd (no_more n b e)
 
 pub sample_sound : SampleIsSound
-sample_sound = (sound, functions)
+sample_sound = (labelling, functions)
 
 -- ---- the obligations
 
@@ -406,7 +395,7 @@ caller_true_obligations Θ = record {
     goals = _;
     are_goals = record {
       inner = _;
-      arrives = plain _ refl refl (call (whole 0) 0 (Copy (whole 1) ∷ []) (label 1) is_false bool refl refl refl (plain _ refl refl (return refl)));
+      arrives = plain _ refl refl (call (whole 0) (Function (OfBody 0)) [] (Copy (whole 1) ∷ []) (label 1) is_false bool refl refl refl (plain _ refl refl (return refl)));
       closed = refl;
     };
     are_numbered = refl;
@@ -423,6 +412,6 @@ sample_true Θ (suc (suc n)) b c e f = absurd (no_more n b e)
 
 pub sample_good : SampleIsGood
 sample_good Θ = (
-  good Θ program sound functions 0 is_false refl (λ n b c reached e f. sample_true Θ n b c e f),
-  good Θ program sound functions 1 is_false refl (λ n b c reached e f. sample_true Θ n b c e f),
+  good Θ program labelling functions 0 is_false refl (λ n b c reached e f. sample_true Θ n b c e f),
+  good Θ program labelling functions 1 is_false refl (λ n b c reached e f. sample_true Θ n b c e f),
 )

@@ -24,9 +24,10 @@ use Rattle.wp_gen.specs.Command.{MovesAll, none}
 use Rattle.wp_gen.specs.Row.{value_name, name_of, goals_of, commands_of}
 use Rattle.wp_gen.specs.Walk.{rvalue_moves, writes}
 use Rattle.wp_gen.proofs.Commands.{GoalsHold}
-use Rattle.prophecy_sim.specs.Programs.{AreNamesOfLocals}
-use Rattle.prophecy_sim.proofs.Values.{T, Matches, local_named, named_as}
+use Rattle.mir_ir.specs.Names.{LocalsAreNamed}
+use Rattle.prophecy_sim.proofs.Values.{T, Matches, local_named, named_as, not_value_name}
 use Rattle.prophecy_sim.proofs.Assigns.{assigned}
+use Rattle.mir_ir.specs.declared.body.Bodies.{Bodies}
 
 pub quiet_both : {A : Type 0} (P Q : A → Type 0) (m : Try A) → Goes P m → Quiet Q m → Quiet (λ a. P a × Q a) m
 quiet_both P Q (Yields a) g q = (g, q)
@@ -83,7 +84,7 @@ module _ (Θ : Theory) (b : Body) where
     pub elsewhere : (n : Name) → IsOutside n → env n ≡ ρ n
     pub others : (x : ℕ) → writes x kind ≡ false → store x ≡ σ x
 
-  module _ (bodies : List Body) (typed : IsTyped bodies b) (named : AreNamesOfLocals b) where
+  module _ (bodies : Bodies) (typed : IsTyped bodies b) (named : LocalsAreNamed b) where
     same_as : (t u : Value) (c : Bool) → c ≡ true → cond c t u ≡ t
     same_as t u c e = ap (λ d. cond d t u) e
 
@@ -105,7 +106,7 @@ module _ (Θ : Theory) (b : Body) where
         by_place (inr d) =
             let was : set y ≡ true = sym (ap (λ c. cond c true (set y)) (ne_eqb y x d)) ∙ inside in
             let apart : n.0 ≡ (name_of b x).0 → ⊥ = λ q. d (named.apart y x n at_place.0 e at_place.1 (q ∙ ap (λ (z : Name). z.0) (named_as b x at_place.0 at_place.1))) in
-            elsewhere n apart (named.none_is_new y n e) ∙ m y n was e ∙ sym (other_than v (σ y) (y == x) (ne_eqb y x d))
+            elsewhere n apart (not_value_name n (named.none_is_new y n e)) ∙ m y n was e ∙ sym (other_than v (σ y) (y == x) (ne_eqb y x d))
 
     evaluated_matches : (r : Rvalue) (set : Locals) (σ : Store) (ρ : Env) → Matches b set σ ρ → Matches b (evaluated r set) σ ρ
     evaluated_matches r set σ ρ m x n inside e = m x n (evaluated_before r set x inside) e

@@ -21,8 +21,9 @@ use Rattle.mir_machine.specs.Tree.{Tree}
 use Rattle.mir_machine.proofs.NeverStuck.{Shape, Fits}
 use Rattle.mir_machine.proofs.Shown.{Shows, Store, Agrees, operand_value}
 use Rattle.wp_gen.specs.Row.{value_name, or_value_name, name_of, operand_term}
-use Rattle.prophecy_sim.specs.Programs.{AreNamesOfLocals}
+use Rattle.mir_ir.specs.Names.{LocalsAreNamed, new_number}
 use Rattle.prophecy_sim.proofs.Lists.{get_first}
+use Rattle.mir_ir.specs.declared.body.Bodies.{Bodies}
 
 -- a tree of the machine
 abbrev pub T : Type 0
@@ -42,7 +43,7 @@ abbrev pub Matches : Body → Locals → Store → Env → Type 0
 Matches b set σ ρ = (x : ℕ) (n : Name) → set x ≡ true → slice_get b.names x ≡ Some n → ρ n ≡ σ x
 
 -- each local has a name
-pub local_named : (bodies : List Body) (b : Body) → IsTyped bodies b → (x : ℕ) (ty : Ty) → slice_get b.locals x ≡ Some ty → (n : Name) × (slice_get b.names x ≡ Some n)
+pub local_named : (bodies : Bodies) (b : Body) → IsTyped bodies b → (x : ℕ) (ty : Ty) → slice_get b.locals x ≡ Some ty → (n : Name) × (slice_get b.names x ≡ Some n)
 local_named bodies b typed x ty e = get_first b.names x (omega (arith, slice_get_within b.locals x ty e, typed.named))
 
 pub named_as : (b : Body) (x : ℕ) (n : Name) → slice_get b.names x ≡ Some n → name_of b x ≡ n
@@ -72,7 +73,12 @@ can_before set (Move q) (Const l) h = tt
 
 -- ---- operands
 
-module _ (Θ : Theory) (bodies : List Body) (b : Body) (typed : IsTyped bodies b) (named : AreNamesOfLocals b) where
+-- a name that is not that of new values is not that of the walk's
+pub not_value_name : (n : Name) → (n.0 ≡ new_number → ⊥) → n.0 ≡ value_name.0 → ⊥
+unfolding value_name
+not_value_name n other e = other e
+
+module _ (Θ : Theory) (bodies : Bodies) (b : Body) (typed : IsTyped bodies b) (named : LocalsAreNamed b) where
   abbrev pub S : Structure
   S = structure_of Θ no_tys
 
@@ -88,7 +94,7 @@ module _ (Θ : Theory) (bodies : List Body) (b : Body) (typed : IsTyped bodies b
 
   -- a new value is the name of no local
   pub matches_new : (set : Locals) (σ : Store) (ρ : Env) (w : Value) → Matches b set σ ρ → Matches b set σ (with_value ρ value_name w)
-  matches_new set σ ρ w m x n inside e = with_other ρ value_name n w (named.none_is_new x n e) ∙ m x n inside e
+  matches_new set σ ρ w m x n inside e = with_other ρ value_name n w (not_value_name n (named.none_is_new x n e)) ∙ m x n inside e
 
 -- ---- the values that trees show
 

@@ -5,7 +5,7 @@ use Rattle.text_core.specs.declared.name.Name.{Name}
 use Rattle.text_core.specs.declared.span.Span.{Span}
 use Rattle.logic_term.specs.declared.kinds.Label.{Label}
 use Rattle.logic_term.specs.declared.obligation.Contract.{Contract}
-use Rattle.logic_term.specs.Theory.{Theory, declared}
+use Rattle.logic_term.specs.Theory.{Theory}
 use Rattle.logic_term.specs.Term.{var, not, implies}
 use Rattle.logic_term.specs.Ty.{bool}
 use Rattle.mir_ir.specs.declared.place.Lit.TheVariants as lit
@@ -22,7 +22,7 @@ use Rattle.mir_ir.specs.declared.terminator.TerminatorKind.TheVariants.{Goto, If
 use Rattle.mir_ir.specs.declared.body.Block.{Block}
 use Rattle.mir_ir.specs.declared.body.Body.{Body}
 use Rattle.mir_ir.specs.declared.body.Head.{Head}
-use Rattle.mir_ir.specs.WellFormed.{AreSound}
+use Rattle.mir_ir.specs.WellFormed.{Labelling}
 use Rattle.mir_machine.specs.Good.{Good}
 use Rattle.prophecy_sim.specs.Programs.{Program, setting, AreFunctions, HasTrueObligations}
 
@@ -53,10 +53,13 @@ head = record { invariants = implies (var (name 100)) (var (name 10)) ∷ []; sp
 -- the answer is the parameter, and while it is true it gets false
 abbrev pub cleared : Body
 cleared = record {
+  id = 0;
   owner = codes "f";
+  types = [];
   params = 1;
   locals = bool ∷ bool ∷ [];
   names = name 100 ∷ name 101 ∷ [];
+  outlives = [];
   entry = label 0;
   blocks = (label 0, block_of None [] (assigned 0 (Copy (whole 1)) ∷ []) (Goto (label 1)))
       ∷ (label 1, block_of (Some head) (label 1 ∷ []) [] (If (Copy (whole 0)) (label 2) (label 3)))
@@ -69,12 +72,15 @@ cleared = record {
 -- the answer is that of the first function at the parameter
 abbrev pub caller : Body
 caller = record {
+  id = 1;
   owner = codes "g";
+  types = [];
   params = 1;
   locals = bool ∷ bool ∷ [];
   names = name 100 ∷ name 101 ∷ [];
+  outlives = [];
   entry = label 0;
-  blocks = (label 0, block_of None [] [] (Call (whole 0) (Function (OfBody 0)) (Copy (whole 1) ∷ []) (label 1)))
+  blocks = (label 0, block_of None [] [] (Call (whole 0) (Function (OfBody 0)) [] (Copy (whole 1) ∷ []) (label 1)))
       ∷ (label 1, block_of None [] [] Return)
       ∷ [];
   span = end_span;
@@ -87,18 +93,18 @@ is_false = record { params = name 10 ∷ []; answer = name 11; pre = []; post = 
 -- the two functions with one contract for both; where their bodies begin the answer holds nothing
 abbrev pub program : Program
 program = record {
-  bodies = cleared ∷ caller ∷ [];
+  bodies = record { bodies = cleared ∷ caller ∷ []; decls = []; impls = []; closures = [] };
   contracts = is_false ∷ is_false ∷ [];
   gone = λ n. record { gone = (record { label = label 0; statement = 0 }, whole 0 ∷ []) ∷ [] };
 }
 
 -- both are typed and initialised, and they meet the conditions on functions
 abbrev pub SampleIsSound : Type 0
-SampleIsSound = (sound : AreSound program.bodies) × AreFunctions program sound
+SampleIsSound = (labelling : ℕ → Labelling) × AreFunctions program labelling
 
 -- the walk of each function comes to an end, and all of its obligations are true, whatever the declared types are
 abbrev pub SampleIsTrue : Type 0
-SampleIsTrue = (Θ : Theory) (n : ℕ) (b : Body) (c : Contract) → slice_get program.bodies n ≡ Some b → slice_get program.contracts n ≡ Some c → HasTrueObligations Θ (setting program n b c)
+SampleIsTrue = (Θ : Theory) (n : ℕ) (b : Body) (c : Contract) → slice_get program.bodies.bodies n ≡ Some b → slice_get program.contracts n ≡ Some c → HasTrueObligations Θ (setting program n b c)
 
 -- so both functions are good, by the law
 abbrev pub SampleIsGood : Type 0

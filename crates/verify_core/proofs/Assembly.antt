@@ -1,60 +1,37 @@
 -- A program whose functions fit meets the conditions under which true obligations make functions good.
-use Rattle.std.proofs.Common.{◌≡◌, ◌∙◌, refl, sym, ap, subst, ℕ, zero, suc, ◌+◌, ◌^◌, ◌==◌, ◌&&◌, ◌⊎◌, inr, Bool, true, false, List, [], ◌∷◌, length, Some, slice_get, true≢false, arith}
+use Rattle.std.proofs.Common.{◌≡◌, ◌∙◌, refl, sym, ap, subst, ℕ, zero, suc, ◌+◌, ◌^◌, ◌==◌, ◌&&◌, ◌⊎◌, inr, Bool, true, false, List, [], ◌∷◌, length, Some, slice_get, true≢false, arith, inl, None}
 use Rattle.std.specs.List.{list_any}
 use Rattle.std.proofs.lemmas.Bool.{eqb-true}
 use Rattle.text_core.specs.declared.name.Name.{Name}
 use Rattle.logic_term.specs.declared.kinds.Label.{Label}
 use Rattle.logic_term.specs.declared.obligation.Contract.{Contract}
-use Rattle.logic_term.specs.Free.{free}
-use Rattle.logic_term.specs.Term.{Term}
 use Rattle.logic_term.specs.Ty.{Ty, int, bool, tuple, no_tys}
 use Rattle.mir_ir.specs.declared.body.Body.{Body}
 use Rattle.mir_ir.specs.declared.body.Initialised.{Initialised}
 use Rattle.mir_ir.specs.declared.body.Point.{Point}
 use Rattle.mir_ir.specs.declared.place.Place.{Place}
-use Rattle.mir_ir.specs.WellFormed.{AreSound, IsInitialised}
-use Rattle.mir_machine.specs.Good.{Each}
-use Rattle.wp_gen.specs.Row.{value_name}
+use Rattle.mir_ir.specs.WellFormed.{AreSound, Labelling, MeetsMoveRows}
 use Rattle.wp_gen.specs.Walk.{is_whole, is_gone}
 use Rattle.prophecy_sim.specs.Programs as sim
 use Rattle.type_check.specs.declared.program.TypedFunction.{TypedFunction}
 use Rattle.type_check.specs.WellTyped.{IsBuilt}
-use Rattle.mir_build.specs.Laws.{Lowers, LocalsAreNamed, HeadsSpeak, ContractSpeaks}
-use Rattle.mir_build.proofs.LawsOfPrograms.{bodies_are_laid_out, locals_have_names, locals_have_built_types, heads_speak_of_what_is_there, contracts_speak_of_parameters}
+use Rattle.mir_build.specs.Laws.{Lowers, HeadsAreThere}
+use Rattle.mir_ir.specs.Names.{IsOneOf, IsNameIn}
+use Rattle.mir_build.proofs.LawsOfPrograms.{bodies_are_sound, bodies_are_laid_out, locals_have_names, locals_have_built_types, heads_speak_of_what_is_there, contracts_speak_of_parameters}
 use Rattle.verify_core.specs.Prepared.{gone_of, program_of}
 use Rattle.verify_core.proofs.ReachLaws.{any_found}
+use Rattle.mir_ir.specs.declared.body.Bodies.{Bodies}
 
 some_same : {A : Type 0} {a b : A} → Some a ≡ Some b → a ≡ b
 some_same e = cc
 
--- ---- what is so of each element of a list
-
-pub each_of : {A : Type 0} (P : A → Type 0) (xs : List A) → ((i : ℕ) (x : A) → slice_get xs i ≡ Some x → P x) → Each P xs
-each_of P [] h = tt
-each_of P (x ∷ xs) h = (h 0 x refl, each_of P xs (λ i y e. h (suc i) y e))
-
-value_number : value_name.0 ≡ 2 ^ 63 + 2 ^ 62
-unfolding value_name
-value_number = refl
+-- ---- types of locals
 
 scalar : (t : Ty) → IsBuilt t → sim.IsScalar t
 scalar (int k) h = tt
 scalar bool h = tt
 scalar (tuple no_tys) h = tt
 scalar _ h = absurd h
-
-names : (b : Body) → LocalsAreNamed b → sim.AreNamesOfLocals b
-names b named = record { apart = named.apart; none_is_new = λ x n is e. named.none_is_new x n is (e ∙ value_number) }
-
-speaks : (b : Body) (c : Contract) → ContractSpeaks b c → sim.SpeaksOf b c
-speaks b c h = record {
-  count = h.count;
-  apart = h.apart;
-  no_local = h.no_local;
-  none_is_new = λ i n is e. h.none_is_new i n is (e ∙ value_number);
-  before = each_of (λ (t : Term). (x : Name) → free x t ≡ true → sim.IsOneOf x c.params) c.pre h.before;
-  over = each_of (λ (t : Term). (x : Name) → free x t ≡ true → (x.0 ≡ c.answer.0 → ⊥) → sim.IsOneOf x c.params) c.post h.over;
-}
 
 -- ---- heads
 
@@ -69,8 +46,8 @@ not_true false h = refl
 same_label : (l m : Label) → l.0 ≡ m.0 → l ≡ m
 same_label l m e = ap (λ (n : ℕ). record { 0 = n }) e
 
-module _ (b : Body) (gone : Initialised) (i : IsInitialised b) (h : HeadsSpeak b gone i) where
-  there : (l : Label) (x : ℕ) → i.at l 0 x ≡ true → is_gone gone l x ≡ true → ⊥
+module _ (b : Body) (gone : Initialised) (i : Labelling) (h : HeadsAreThere b gone i) where
+  there : (l : Label) (x : ℕ) → i l 0 x ≡ true → is_gone gone l x ≡ true → ⊥
   there l x set is =
       let entry = any_found (λ (e : Point × List Place). (e.0.label.0 == l.0 && e.0.statement == 0) && list_any (is_whole x) e.1) gone.gone is in
       let parts = both_true (entry.1.0.label.0 == l.0 && entry.1.0.statement == 0) (list_any (is_whole x) entry.1.1) entry.3 in
@@ -78,14 +55,18 @@ module _ (b : Body) (gone : Initialised) (i : IsInitialised b) (h : HeadsSpeak b
       let place = any_found (is_whole x) entry.1.1 parts.1 in
       let local = both_true (place.1.local == x) (length place.1.path == 0) place.3 in
       let label : entry.1.0.label ≡ l = same_label entry.1.0.label l (eqb-true entry.1.0.label.0 l.0 here.0) in
-      let unset : i.at entry.1.0.label 0 place.1.local ≡ false = h.there entry.0 place.0 entry.1 place.1 entry.2 place.2 in
-      let at_label : i.at l 0 place.1.local ≡ false = subst (λ (m : Label). i.at m 0 place.1.local ≡ false) label unset in
-      let at_local : i.at l 0 x ≡ false = subst (λ (y : ℕ). i.at l 0 y ≡ false) (eqb-true place.1.local x local.0) at_label in
+      let unset : i entry.1.0.label 0 place.1.local ≡ false = h.there entry.0 place.0 entry.1 place.1 entry.2 place.2 in
+      let at_label : i l 0 place.1.local ≡ false = subst (λ (m : Label). i m 0 place.1.local ≡ false) label unset in
+      let at_local : i l 0 x ≡ false = subst (λ (y : ℕ). i l 0 y ≡ false) (eqb-true place.1.local x local.0) at_label in
       true≢false (sym set ∙ at_local)
+
+  local_alone : (ps : List Name) (L : Type 0) (x : Name) → IsOneOf x [] ⊎ L → IsOneOf x ps ⊎ L
+  local_alone ps L x (inl none) = absurd (let no : None ≡ Some x = none.1 in cc)
+  local_alone ps L x (inr local) = inr local
 
   heads : (c : Contract) → sim.HeadsSpeakOf b c gone i
   heads c = record {
-    over = λ l k head is_block is_head. each_of (λ (t : Term). (x : Name) → free x t ≡ true → sim.IsOneOf x c.params ⊎ sim.IsNameIn b (i.at l 0) x) head.invariants (λ j t is x is_free. inr (h.over l k head is_block is_head j t is x is_free));
+    over = λ l k head is_block is_head j t is x is_free. local_alone c.params (IsNameIn b (i l 0) x) x (h.over l k head is_block is_head j t is x is_free);
     there = λ l x set. not_true (is_gone gone l x) (there l x set);
   }
 
@@ -96,26 +77,33 @@ gone_at [] n g e = absurd cc
 gone_at (h ∷ gones) zero g e = some_same e
 gone_at (h ∷ gones) (suc n) g e = gone_at gones n g e
 
-module _ (table : List (List ℕ)) (fs : List TypedFunction) (bs : List Body) (cs : List Contract) (gones : List Initialised) (lowers : Lowers table fs bs cs gones) where
-  abbrev labelled : (sound : AreSound bs) × ((n : ℕ) (b : Body) (gone : Initialised) (is_body : slice_get bs n ≡ Some b) → slice_get gones n ≡ Some gone → HeadsSpeak b gone (sound n b is_body).1)
+module _ (table : List (List ℕ)) (fs : List TypedFunction) (bs : Bodies) (cs : List Contract) (gones : List Initialised) (lowers : Lowers table fs bs cs gones) where
+  pub sound : AreSound bs
+  sound = bodies_are_sound table fs bs cs gones lowers
+
+  abbrev labelled : (at : ℕ → Labelling) × ((n : ℕ) (b : Body) (gone : Initialised) → slice_get bs.bodies n ≡ Some b → slice_get gones n ≡ Some gone → MeetsMoveRows b (at n) × HeadsAreThere b gone (at n))
   labelled = heads_speak_of_what_is_there table fs bs cs gones lowers
 
-  pub sound : AreSound bs
-  sound = labelled.0
+  abbrev pub labelling : ℕ → Labelling
+  labelling = labelled.0
 
-  pub functions : sim.AreFunctions (program_of bs cs gones) sound
-  unfolding sound
+  pub functions : sim.AreFunctions (program_of bs cs gones) labelling
   functions n b is_body =
       let c = contracts_speak_of_parameters table fs bs cs gones lowers n b is_body in
+      let is_sound = bodies_are_sound table fs bs cs gones lowers n b is_body in
+      let there = labelled.1 n b c.1 is_body c.3 in
       record {
+        number = is_sound.2;
+        typed = is_sound.0;
+        moves = there.0;
         contract = c.0;
         is_contract = c.2;
         simple = record {
-          names = names b (locals_have_names table fs bs cs gones lowers n b is_body);
+          names = (locals_have_names table fs bs cs gones lowers n b is_body).0;
           scalars = λ x ty is. scalar ty (locals_have_built_types table fs bs cs gones lowers n b is_body x ty is);
           laid_out = bodies_are_laid_out table fs bs cs gones lowers n b is_body;
         };
-        speaks = speaks b c.0 c.4;
-        heads = subst (λ (g : Initialised). sim.HeadsSpeakOf b c.0 g (sound n b is_body).1) (sym (gone_at gones n c.1 c.3))
-            (heads b c.1 (sound n b is_body).1 (labelled.1 n b c.1 is_body c.3) c.0);
+        speaks = c.4;
+        heads = subst (λ (g : Initialised). sim.HeadsSpeakOf b c.0 g (labelling n)) (sym (gone_at gones n c.1 c.3))
+            (heads b c.1 (labelling n) there.1 c.0);
       }

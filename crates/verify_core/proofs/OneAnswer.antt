@@ -21,6 +21,7 @@ use Rattle.verify_core.specs.Prepared.{HasItems, IsTypedAs, HaveGoals, HaveFewPa
 use Rattle.verify_core.specs.Verdict.{obligations_in}
 use Rattle.verify_core.proofs.BuiltItems.{one_source, one_error, not_refused, not_few, not_many}
 use Rattle.verify_core.proofs.OneCount.{goals_once, few_obligations_are_not_many, few_paths_are_not_many}
+use Rattle.mir_ir.specs.declared.body.Bodies.{Bodies}
 
 same_ok : {A B : Type 0} {a b : A} → ◌≡◌ {A = Result A B} (Ok a) (Ok b) → a ≡ b
 same_ok e = cc
@@ -59,7 +60,7 @@ module _ (source : List ℕ) where
 
   -- ---- two lowerings
 
-  module _ (t u : List (List ℕ)) (p q : TypedProgram) (bs ds : List Body) (cs es : List Contract) (gones others : List Initialised) (a : IsTypedAs source t p) (b : IsTypedAs source u q)
+  module _ (t u : List (List ℕ)) (p q : TypedProgram) (bs ds : Bodies) (cs es : List Contract) (gones others : List Initialised) (a : IsTypedAs source t p) (b : IsTypedAs source u q)
       (l : LowerTo t p.functions bs cs gones) (m : LowerTo u q.functions ds es others) where
     same_lowering : (bs ≡ ds) × (cs ≡ es) × (gones ≡ others)
     same_lowering =
@@ -68,7 +69,7 @@ module _ (source : List ℕ) where
         programs_lower_in_one_way u q.functions bs ds cs es gones others (subst (λ (r : TypedProgram). LowerTo u r.functions bs cs gones) typed (subst (λ (x : List (List ℕ)). LowerTo x p.functions bs cs gones) tables l)) m
 
   -- a program that lowers to few blocks has no more
-  no_more : (t u : List (List ℕ)) (p q : TypedProgram) (bs : List Body) (cs : List Contract) (gones : List Initialised) → IsTypedAs source t p → IsTypedAs source u q → LowerTo t p.functions bs cs gones → HaveFewBlocks bs → HasMoreBlocks q most_blocks → ⊥
+  no_more : (t u : List (List ℕ)) (p q : TypedProgram) (bs : Bodies) (cs : List Contract) (gones : List Initialised) → IsTypedAs source t p → IsTypedAs source u q → LowerTo t p.functions bs cs gones → HaveFewBlocks bs → HasMoreBlocks q most_blocks → ⊥
   no_more t u p q bs cs gones a b l few more = blocks_are_counted t p bs cs gones most_blocks l few (subst (λ (r : TypedProgram). HasMoreBlocks r most_blocks) (sym (same_typed t u p q a b)) more)
 
   -- ---- limits
@@ -86,7 +87,7 @@ module _ (source : List ℕ) where
     typed_not_many : (t : List (List ℕ)) (p : TypedProgram) (limit : Limit) → IsTypedAs source t p → IsSourceError [] source (errors.Limit limit) → ⊥
     typed_not_many t p limit a is = not_few [] source one_place_at_first a.items limit a.has.spelled a.has.few is
 
-    few_and_many : (t u : List (List ℕ)) (p q : TypedProgram) (bs ds : List Body) (cs es : List Contract) (gones others : List Initialised) → IsTypedAs source t p → IsTypedAs source u q → LowerTo t p.functions bs cs gones
+    few_and_many : (t u : List (List ℕ)) (p q : TypedProgram) (bs ds : Bodies) (cs es : List Contract) (gones others : List Initialised) → IsTypedAs source t p → IsTypedAs source u q → LowerTo t p.functions bs cs gones
         → LowerTo u q.functions ds es others → HaveFewPaths bs → HasManyPaths ds → ⊥
     few_and_many t u p q bs ds cs es gones others a b l m few many =
         few_paths_are_not_many bs few (subst HasManyPaths (sym (same_lowering t u p q bs ds cs es gones others a b l m).0) many)
@@ -118,20 +119,20 @@ module _ (source : List ℕ) where
 
     -- ---- accepted sources
 
-    prepared_not_many : (p : Program) (gs : List FunctionGoals) (t : List (List ℕ)) (q : TypedProgram) (bs : List Body) (cs : List Contract) (gones : List Initialised) → IsPrepared source p → IsTypedAs source t q → LowerTo t q.functions bs cs gones
+    prepared_not_many : (p : Program) (gs : List FunctionGoals) (t : List (List ℕ)) (q : TypedProgram) (bs : Bodies) (cs : List Contract) (gones : List Initialised) → IsPrepared source p → IsTypedAs source t q → LowerTo t q.functions bs cs gones
         → HaveGoals bs cs gones gs → most_obligations < length (obligations_in gs) → ⊥
     prepared_not_many p gs t q bs cs gones h b l have many =
-        let same = same_lowering t p.names q h.typed bs p.bodies.bodies cs p.contracts gones h.gones b h.is_typed l h.lowers in
-        let moved : HaveGoals p.bodies.bodies p.contracts h.gones gs =
-        subst (λ (x : List Initialised). HaveGoals p.bodies.bodies p.contracts x gs) same.2
-        (subst (λ (x : List Contract). HaveGoals p.bodies.bodies x gones gs) same.1 (subst (λ (x : List Body). HaveGoals x cs gones gs) same.0 have)) in
-        few_obligations_are_not_many p.bodies.bodies p.contracts h.gones p.functions gs h.goals h.as_many h.few moved many
+        let same = same_lowering t p.names q h.typed bs p.bodies cs p.contracts gones h.gones b h.is_typed l h.lowers in
+        let moved : HaveGoals p.bodies p.contracts h.gones gs =
+        subst (λ (x : List Initialised). HaveGoals p.bodies p.contracts x gs) same.2
+        (subst (λ (x : List Contract). HaveGoals p.bodies x gones gs) same.1 (subst (λ (x : Bodies). HaveGoals x cs gones gs) same.0 have)) in
+        few_obligations_are_not_many p.bodies p.contracts h.gones p.functions gs h.goals h.as_many h.few moved many
 
     pub prepared_not_past : (p : Program) (limit : Limit) → IsPrepared source p → IsPastLimit source limit → ⊥
     prepared_not_past p _ h (IsPastLimit.bytes long) = omega (arith, short, long)
     prepared_not_past p limit h (IsPastLimit.functions g) = typed_not_many p.names h.typed limit h.is_typed g
-    prepared_not_past p _ h (IsPastLimit.blocks {table} {typed} b more) = no_more p.names table h.typed typed p.bodies.bodies p.contracts h.gones h.is_typed b h.lowers h.blocks more
-    prepared_not_past p _ h (IsPastLimit.paths {table} {typed} {bs} {cs} {gones} b l few many) = few_and_many p.names table h.typed typed p.bodies.bodies bs p.contracts cs h.gones gones h.is_typed b h.lowers l h.paths many
+    prepared_not_past p _ h (IsPastLimit.blocks {table} {typed} b more) = no_more p.names table h.typed typed p.bodies p.contracts h.gones h.is_typed b h.lowers h.blocks more
+    prepared_not_past p _ h (IsPastLimit.paths {table} {typed} {bs} {cs} {gones} b l few many) = few_and_many p.names table h.typed typed p.bodies bs p.contracts cs h.gones gones h.is_typed b h.lowers l h.paths many
     prepared_not_past p _ h (IsPastLimit.obligations {table} {typed} {bs} {cs} {gones} gs b l few paths have many) = prepared_not_many p gs table typed bs cs gones h b l have many
 
   pub prepared_not_refused : (p : Program) (error : SourceError) → IsPrepared source p → IsRefused source error → ⊥
@@ -139,15 +140,15 @@ module _ (source : List ℕ) where
 
   pub one_program : (one other : Program) → IsPrepared source one → IsPrepared source other → one ≡ other
   one_program one other h g =
-      let same = same_lowering one.names other.names h.typed g.typed one.bodies.bodies other.bodies.bodies one.contracts other.contracts h.gones g.gones h.is_typed g.is_typed h.lowers g.lowers in
-      let moved : HaveGoals other.bodies.bodies other.contracts g.gones one.functions =
-      subst (λ (x : List Initialised). HaveGoals other.bodies.bodies other.contracts x one.functions) same.2
-      (subst (λ (x : List Contract). HaveGoals other.bodies.bodies x h.gones one.functions) same.1 (subst (λ (x : List Body). HaveGoals x one.contracts h.gones one.functions) same.0 h.goals)) in
-      let goals : one.functions ≡ other.functions = goals_once other.bodies.bodies other.contracts g.gones one.functions other.functions moved g.goals (h.as_many ∙ ap length same.0 ∙ sym g.as_many) in
+      let same = same_lowering one.names other.names h.typed g.typed one.bodies other.bodies one.contracts other.contracts h.gones g.gones h.is_typed g.is_typed h.lowers g.lowers in
+      let moved : HaveGoals other.bodies other.contracts g.gones one.functions =
+      subst (λ (x : List Initialised). HaveGoals other.bodies other.contracts x one.functions) same.2
+      (subst (λ (x : List Contract). HaveGoals other.bodies x h.gones one.functions) same.1 (subst (λ (x : Bodies). HaveGoals x one.contracts h.gones one.functions) same.0 h.goals)) in
+      let goals : one.functions ≡ other.functions = goals_once other.bodies other.contracts g.gones one.functions other.functions moved g.goals (h.as_many ∙ ap (λ (x : Bodies). length x.bodies) same.0 ∙ sym g.as_many) in
       let names : one.names ≡ other.names = same_tables one.names other.names h.typed g.typed h.is_typed g.is_typed in
       λ i. record {
         names = names i;
-        bodies = record { bodies = same.0 i };
+        bodies = same.0 i;
         contracts = same.1 i;
         functions = goals i;
       }

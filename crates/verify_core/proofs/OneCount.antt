@@ -10,6 +10,7 @@ use Rattle.verify_core.specs.Laws.{GoalsAreOne, FewerAreFront, FewerHaveFewer, G
 use Rattle.verify_core.specs.Prepared.{gone_of, AreGoalsOf, HasGoals, most_paths}
 use Rattle.verify_core.specs.Verdict.{obligations_in}
 use Rattle.verify_core.proofs.OneWalk.{obligations_once}
+use Rattle.mir_ir.specs.declared.body.Bodies.{Bodies}
 
 some_same : {A : Type 0} {a b : A} → Some a ≡ Some b → a ≡ b
 some_same e = cc
@@ -50,7 +51,7 @@ goals_of_once all b c gone g h one other =
       obligations = obligations i;
     }
 
-has_goals_once : (bs : List Body) (cs : List Contract) (gones : List Initialised) (n : ℕ) (g h : FunctionGoals) → HasGoals bs cs gones n g → HasGoals bs cs gones n h → g ≡ h
+has_goals_once : (bs : Bodies) (cs : List Contract) (gones : List Initialised) (n : ℕ) (g h : FunctionGoals) → HasGoals bs cs gones n g → HasGoals bs cs gones n h → g ≡ h
 has_goals_once bs cs gones n g h one other =
     let body : other.body ≡ one.body = some_same (sym other.is_body ∙ one.is_body) in
     let contract : other.contract ≡ one.contract = some_same (sym other.is_contract ∙ one.is_contract) in
@@ -71,7 +72,7 @@ fewer_have_fewer bs cs gones gs others one other fewer =
     omega (arith, ap (λ xs. length (obligations_in xs)) f.1, ap length (in_both gs f.0), length-append (obligations_in gs) (obligations_in f.0))
 
 pub goals_are_of_bodies : GoalsAreOfBodies
-goals_are_of_bodies bs cs gones gs have = no_longer gs bs (λ n g is. ((have n g is).body, (have n g is).is_body))
+goals_are_of_bodies bs cs gones gs have = no_longer gs bs.bodies (λ n g is. ((have n g is).body, (have n g is).is_body))
 
 pub few_obligations_are_not_many : FewObligationsAreNotMany
 few_obligations_are_not_many bs cs gones gs firsts have all few some many =

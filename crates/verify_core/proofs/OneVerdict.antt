@@ -12,6 +12,7 @@ use Rattle.verify_core.specs.declared.goals.FunctionGoals.{FunctionGoals}
 use Rattle.verify_core.specs.Laws.{RefusedAtOneLine, RefusedIsNotAccepted, VerdictIsOne}
 use Rattle.verify_core.specs.Verdict.{IsAccepted, IsRefusedAt, is_for, Settles, Judges, left_item, Tells, IsVerified, AreLines}
 use Rattle.verify_core.proofs.StepsOnce.{refused_once, refused_is_no_proof}
+use Rattle.mir_ir.specs.declared.body.Bodies.{Bodies}
 
 -- ---- the line at which steps are refused
 
@@ -90,7 +91,7 @@ same_lines (l ∷ ls) (k ∷ ks) names flags =
     let here : l ≡ k = same_line l k parts.0 (flags zero l k refl refl) in
     ap (λ (x : FnLine). x ∷ ls) here ∙ ap (λ (xs : List FnLine). k ∷ xs) (same_lines ls ks parts.1 (λ f x y. flags (suc f) x y))
 
-lines_once : (ps : List Proof) (bodies : List Body) (goals : List FunctionGoals) (ls ks : List FnLine) → AreLines ps bodies goals ls → AreLines ps bodies goals ks → ls ≡ ks
+lines_once : (ps : List Proof) (bodies : Bodies) (goals : List FunctionGoals) (ls ks : List FnLine) → AreLines ps bodies goals ls → AreLines ps bodies goals ks → ls ≡ ks
 lines_once ps bodies goals ls ks a b = same_lines ls ks (a.names ∙ sym b.names) (λ f l k is_l is_k. tells_once (IsVerified ps bodies goals f) l.verified k.verified (a.told f l is_l) (b.told f k is_k))
 
 -- ---- the verdict

@@ -7,8 +7,6 @@ use Rattle.logic_term.specs.declared.obligation.Contract.{Contract}
 use Rattle.logic_term.specs.Ty.{Ty}
 use Rattle.mir_ir.specs.declared.place.Operand.{Operand}
 use Rattle.mir_ir.specs.declared.statement.Statement.{Statement}
-use Rattle.mir_ir.specs.declared.terminator.Callee.TheVariants.{Function}
-use Rattle.mir_ir.specs.declared.terminator.FnId.TheVariants.{Body as OfBody}
 use Rattle.mir_ir.specs.declared.terminator.Terminator.{Terminator}
 use Rattle.mir_ir.specs.declared.terminator.TerminatorKind.{TerminatorKind}
 use Rattle.mir_ir.specs.declared.terminator.TerminatorKind.TheVariants.{Goto, If, Call, Return}
@@ -21,6 +19,7 @@ use Rattle.wp_gen.specs.declared.goal.Goal.{Goal}
 use Rattle.wp_gen.specs.Row.{goals_of, commands_of}
 use Rattle.wp_gen.specs.Walk.{Setting, Walks, Arrives, statement, goto, branch, call, return, plain, first, again, numbered, seen_before, each_goal, goals_at_return, goals_of_call, call_commands, head_commands, entry_commands, where_true, where_false}
 use Rattle.verify_core.specs.Laws.{ObligationsAreOne}
+use Rattle.mir_ir.specs.Callees.{contract_at}
 
 some_same : {A : Type 0} {a b : A} → Some a ≡ Some b → a ≡ b
 some_same e = cc
@@ -37,14 +36,14 @@ abbrev Ends : Setting → List Label → Terminator → TerminatorKind → List 
 Ends w heads end (Goto l) gs n = Arrives w heads l gs n
 Ends w heads end (If o on_true on_false) gs n = (one : List Goal) × (i : ℕ) × Arrives w heads on_true one i × (other : List Goal) × (j : ℕ) × Arrives w heads on_false other j
     × (gs ≡ seen_before (where_true w.body o) one ++ seen_before (where_false w.body o) other) × (n ≡ i + j)
-Ends w heads end (Call p c args l) gs n = (after : List Goal) × Arrives w heads l after n × (f : ℕ) × (d : Contract) × (t : Ty) × (c ≡ Function (OfBody f)) × (slice_get w.contracts f ≡ Some d) × (slice_get w.body.locals p.local ≡ Some t)
+Ends w heads end (Call p callee types args l) gs n = (after : List Goal) × Arrives w heads l after n × (d : Contract) × (t : Ty) × (contract_at w.contracts callee ≡ Some d) × (slice_get w.body.locals p.local ≡ Some t)
     × (gs ≡ goals_of_call w.body d end.span args ++ seen_before (call_commands w.body d p.local t args) after)
 Ends w heads end Return gs n = (gs ≡ goals_at_return w.body w.contract) × (n ≡ 1)
 
 at_end : {w : Setting} {heads : List Label} {end : Terminator} {gs : List Goal} {n : ℕ} → Walks w heads [] end gs n → Ends w heads end end.kind gs n
 at_end {w} {heads} {end} {gs} {n} (goto l e a) = subst (λ k. Ends w heads end k gs n) (sym e) a
 at_end {w} {heads} {end} {gs} {n} (branch {gs = one} {hs = other} {n = i} {m = j} o on_true on_false e a b) = subst (λ k. Ends w heads end k gs n) (sym e) (one, i, a, other, j, b, refl, refl)
-at_end {w} {heads} {end} {gs} {n} (call {gs = after} p f args l d t e is_d is_t a) = subst (λ k. Ends w heads end k gs n) (sym e) (after, a, f, d, t, refl, is_d, is_t, refl)
+at_end {w} {heads} {end} {gs} {n} (call {gs = after} p callee types args l d t e is_d is_t a) = subst (λ k. Ends w heads end k gs n) (sym e) (after, a, d, t, is_d, is_t, refl)
 at_end {w} {heads} {end} {gs} {n} (return e) = subst (λ k. Ends w heads end k gs n) (sym e) (refl, refl)
 
 ends_by : {w : Setting} {heads : List Label} {end : Terminator} {gs : List Goal} {n : ℕ} → Walks w heads [] end gs n → (kind : TerminatorKind) → end.kind ≡ kind → Ends w heads end kind gs n
@@ -82,11 +81,6 @@ same_sum : (i i' j j' n : ℕ) → i ≡ i' → j ≡ j' → n ≡ i' + j' → i
 same_sum i i' j j' n e f is = ap (λ k. k + j) e ∙ ap (λ k. i' + k) f ∙ sym is
 
 -- the callee's contract is the one that was found
-same_callee : (cs : List Contract) (f g : ℕ) (d d' : Contract) → Function (OfBody f) ≡ Function (OfBody g) → slice_get cs f ≡ Some d → slice_get cs g ≡ Some d' → d ≡ d'
-same_callee cs f g d d' e is is' =
-    let n : f ≡ g = cc in
-    some_same (sym is ∙ ap (slice_get cs) n ∙ is')
-
 same_call : (b : Body) (at : Span) (x : ℕ) (args : List Operand) (d d' : Contract) (t t' : Ty) (after after' gs : List Goal) → d ≡ d' → t ≡ t' → after ≡ after'
     → gs ≡ goals_of_call b d' at args ++ seen_before (call_commands b d' x t' args) after' → goals_of_call b d at args ++ seen_before (call_commands b d x t args) after ≡ gs
 same_call b at x args d d' t t' after after' gs e f g is =
@@ -105,10 +99,10 @@ mutual
       let r = arrival_once a f.2 in
       let s = arrival_once b f.5 in
       (same_branches w.body o one f.0 other f.3 hs r.0 s.0 f.6, same_sum i f.1 j f.4 m r.1 s.1 f.7)
-  walk_once {w} {end = end} {hs = hs} (call {gs = after} p f args l d t e is_d is_t a) walks =
-      let o = ends_by walks (Call p (Function (OfBody f)) args l) e in
+  walk_once {w} {end = end} {hs = hs} (call {gs = after} p callee types args l d t e is_d is_t a) walks =
+      let o = ends_by walks (Call p callee types args l) e in
       let r = arrival_once a o.1 in
-      (same_call w.body end.span p.local args d o.3 t o.4 after o.0 hs (same_callee w.contracts f o.2 d o.3 o.5 is_d o.6) (some_same (sym is_t ∙ o.7)) r.0 o.8, r.1)
+      (same_call w.body end.span p.local args d o.2 t o.3 after o.0 hs (some_same (sym is_d ∙ o.4)) (some_same (sym is_t ∙ o.5)) r.0 o.6, r.1)
   walk_once (return e) walks =
       let o = ends_by walks Return e in
       (sym o.0, sym o.1)

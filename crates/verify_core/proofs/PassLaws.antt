@@ -29,7 +29,7 @@ use Rattle.type_check.specs.Checked.{checked}
 use Rattle.type_check.specs.WellTyped.{ProgramFits}
 use Rattle.mir_build.specs.declared.lowered.Lowered.{Lowered}
 use Rattle.mir_build.specs.Laws.{Lowers}
-use Rattle.mir_build.specs.Lowering.{LowerTo, IsLowered, HasMoreBlocks, no_functions, and_function}
+use Rattle.mir_build.specs.Lowering.{EachLowersTo, IsLowered, HasMoreBlocks, no_functions, and_function}
 use Rattle.mir_build.specs.Whole.{FailsFor, HaveFewBlocks}
 use Rattle.mir_build.proofs.LawsOfPrograms.{bodies_are_laid_out}
 use Rattle.wp_gen.specs.Paths.{HasPaths, HasMorePaths}
@@ -51,6 +51,9 @@ use Rattle.verify_core.proofs.Assembly.{sound, gone_at}
 use Rattle.verify_core.proofs.JudgeLaws.{in_one_more}
 use Rattle.verify_core.proofs.ReachLaws.{within, got}
 use Rattle.verify_core.proofs.Verified.{typed_program_fits}
+use Rattle.mir_ir.specs.declared.body.Bodies.{Bodies}
+use Rattle.mir_ir.specs.Callees.{contract_at}
+use Rattle.mir_ir.specs.declared.terminator.Callee.{Callee}
 
 some_same : {A : Type 0} {a b : A} → Some a ≡ Some b → a ≡ b
 some_same e = cc
@@ -85,40 +88,40 @@ lowering_refused source table typed (errors.Source e) t fails = absurd fails
 lowering_refused source table typed (errors.Limit l) t (is, more) = subst (λ (m : Limit). IsPastLimit source m) (sym is) (IsPastLimit.blocks t (more (fits_of source table typed t)))
 lowering_refused source table typed errors.NoMemory t fails = tt
 
-pub obligations_refused : (source : List ℕ) (table : List (List ℕ)) (typed : TypedProgram) (l : Lowered) (limit : Limit) → IsTypedAs source table typed → IsLowered table typed l → HaveFewBlocks l.bodies.bodies → HaveFewPaths l.bodies.bodies → IsGoalsError l limit → IsPastLimit source limit
+pub obligations_refused : (source : List ℕ) (table : List (List ℕ)) (typed : TypedProgram) (l : Lowered) (limit : Limit) → IsTypedAs source table typed → IsLowered table typed l → HaveFewBlocks l.bodies → HaveFewPaths l.bodies → IsGoalsError l limit → IsPastLimit source limit
 obligations_refused source table typed l limit t lowered blocks paths (many, is) = subst (λ (m : Limit). IsPastLimit source m) (sym is) (IsPastLimit.obligations many.functions t lowered blocks paths many.goals many.many)
 
 -- ---- bodies that can be walked
 
 module _ (table : List (List ℕ)) where
-  as_many : (fs : List TypedFunction) (bs : List Body) (cs : List Contract) (gones : List Initialised) → LowerTo table fs bs cs gones → (length cs ≡ length bs) × (length gones ≡ length bs)
-  as_many _ _ _ _ no_functions = (refl, refl)
-  as_many _ _ _ _ (and_function owner named lowers rest) = let r = as_many _ _ _ _ rest in (ap suc r.0, ap suc r.1)
+  as_many : (n : ℕ) (fs : List TypedFunction) (bs : List Body) (cs : List Contract) (gones : List Initialised) → EachLowersTo table n fs bs cs gones → (length cs ≡ length bs) × (length gones ≡ length bs)
+  as_many _ _ _ _ _ no_functions = (refl, refl)
+  as_many _ _ _ _ _ (and_function owner named lowers numbered rest) = let r = as_many _ _ _ _ _ rest in (ap suc r.0, ap suc r.1)
 
-  known : (bs : List Body) (cs : List Contract) (b : Body) (p : Place) (f : ℕ) (args : List Operand) (m : Label) (kind : TerminatorKind) → length cs ≡ length bs → EndIsTyped bs b kind → kind ≡ Call p (Function (OfBody f)) args m
-      → ((d : Contract) × (slice_get cs f ≡ Some d)) × ((t : Ty) × (slice_get b.locals p.local ≡ Some t))
-  known bs cs b p f args m kind same typed is =
-      let call : EndIsTyped bs b (Call p (Function (OfBody f)) args m) = subst (λ (k : TerminatorKind). EndIsTyped bs b k) is typed in
-      let inside : f < length cs = subst (λ (k : ℕ). f < k) (sym same) (within bs f call.0.0 call.0.2) in
+  known : (bs : Bodies) (cs : List Contract) (b : Body) (p : Place) (callee : Callee) (types : List Ty) (args : List Operand) (m : Label) (kind : TerminatorKind) → length cs ≡ length bs.bodies → EndIsTyped bs b kind → kind ≡ Call p callee types args m
+      → ((d : Contract) × (contract_at cs callee ≡ Some d)) × ((t : Ty) × (slice_get b.locals p.local ≡ Some t))
+  known bs cs b p (Function (OfBody f)) types args m kind same typed is =
+      let call : EndIsTyped bs b (Call p (Function (OfBody f)) types args m) = subst (λ (k : TerminatorKind). EndIsTyped bs b k) is typed in
+      let inside : f < length cs = subst (λ (k : ℕ). f < k) (sym same) (within bs.bodies f call.0.0 call.0.2) in
       (got cs f inside, (call.0.1, call.0.5.1))
 
   pub walkable : (typed : TypedProgram) (l : Lowered) → IsLowered table typed l → ProgramFits typed → CanWalkAll l
   walkable typed l lowered fits =
-      let lowers : Lowers table typed.functions l.bodies.bodies l.contracts l.gone = record { lowers = lowered; fits = fits } in
-      let sizes = as_many typed.functions l.bodies.bodies l.contracts l.gone lowered in
+      let lowers : Lowers table typed.functions l.bodies l.contracts l.gone = record { lowers = lowered; fits = fits } in
+      let sizes = as_many 0 typed.functions l.bodies.bodies l.contracts l.gone lowered.each in
       record {
         contracts = sizes.0;
         gone = sizes.1;
         walk = λ n b c is_body is_contract. record {
-          laid_out = bodies_are_laid_out table typed.functions l.bodies.bodies l.contracts l.gone lowers n b is_body;
-          calls = λ label k p f args m is_block ends.
-              let found = known l.bodies.bodies l.contracts b p f args m k.end.kind sizes.0 ((sound table typed.functions l.bodies.bodies l.contracts l.gone lowers n b is_body).0.ends label k is_block) ends in
-              record { callee = found.0; answer = found.1 };
+          laid_out = bodies_are_laid_out table typed.functions l.bodies l.contracts l.gone lowers n b is_body;
+          calls = λ label k p callee types args m is_block ends.
+              let found = known l.bodies l.contracts b p callee types args m k.end.kind sizes.0 ((sound table typed.functions l.bodies l.contracts l.gone lowers n b is_body).0.ends label k is_block) ends in
+              record { contract = found.0; answer = found.1 };
         };
       }
 
-  pub laid_out : (typed : TypedProgram) (l : Lowered) → IsLowered table typed l → ProgramFits typed → AreLaidOut l.bodies.bodies
-  laid_out typed l lowered fits n b is = bodies_are_laid_out table typed.functions l.bodies.bodies l.contracts l.gone (record { lowers = lowered; fits = fits }) n b is
+  pub laid_out : (typed : TypedProgram) (l : Lowered) → IsLowered table typed l → ProgramFits typed → AreLaidOut l.bodies
+  laid_out typed l lowered fits n b is = bodies_are_laid_out table typed.functions l.bodies l.contracts l.gone (record { lowers = lowered; fits = fits }) n b is
 
 -- ---- one function more
 
@@ -128,7 +131,7 @@ at_end [] x y (suc n) e = absurd (let none : None ≡ Some y = e in cc)
 at_end (z ∷ xs) x y zero e = inl e
 at_end (z ∷ xs) x y (suc n) e = elim (at_end xs x y n e) [ inl there ↦ inl there | inr (last, is) ↦ inr (ap suc last, is) ]
 
-pub one_more_goals : (bs : List Body) (cs : List Contract) (gones : List Initialised) (gs : List FunctionGoals) (place : ℕ) (g : FunctionGoals) → length gs ≡ place → HaveGoals bs cs gones gs → HasGoals bs cs gones place g → HaveGoals bs cs gones (gs ++ g ∷ [])
+pub one_more_goals : (bs : Bodies) (cs : List Contract) (gones : List Initialised) (gs : List FunctionGoals) (place : ℕ) (g : FunctionGoals) → length gs ≡ place → HaveGoals bs cs gones gs → HasGoals bs cs gones place g → HaveGoals bs cs gones (gs ++ g ∷ [])
 one_more_goals bs cs gones gs place g so_many have has n h e = elim (at_end gs g h n e) [
   | inl there ↦ have n h there
   | inr (last, is) ↦ subst (λ (x : FunctionGoals). HasGoals bs cs gones n x) is (subst (λ (m : ℕ). HasGoals bs cs gones m g) (sym (last ∙ so_many)) has)
@@ -170,7 +173,7 @@ of_walk l n w at os paths are =
     subst (λ (x : Initialised). AreObligations (record { body = w.body; contracts = w.contracts; contract = w.contract; init = x }) 1 os paths) (sym at.gone)
     (subst (λ (xs : List Contract). AreObligations (record { body = w.body; contracts = xs; contract = w.contract; init = gone_of l.gone n }) 1 os paths) (sym at.contracts) are)
 
-pub has_goals : (l : Lowered) (n : ℕ) (w : Setting) (g : FunctionGoals) (os : List Obligation) (paths : ℕ) → IsSettingAt l n w → g.name ≡ w.body.owner → g.obligations ≡ os → AreObligations w 1 os paths → HasGoals l.bodies.bodies l.contracts l.gone n g
+pub has_goals : (l : Lowered) (n : ℕ) (w : Setting) (g : FunctionGoals) (os : List Obligation) (paths : ℕ) → IsSettingAt l n w → g.name ≡ w.body.owner → g.obligations ≡ os → AreObligations w 1 os paths → HasGoals l.bodies l.contracts l.gone n g
 has_goals l n w g os paths at name is are = record {
   body = w.body;
   is_body = at.body;
@@ -183,19 +186,19 @@ has_goals l n w g os paths at name is are = record {
   };
 }
 
-pub no_goals : (bs : List Body) (cs : List Contract) (gones : List Initialised) (gs : List FunctionGoals) → gs ≡ [] → HaveGoals bs cs gones gs
+pub no_goals : (bs : Bodies) (cs : List Contract) (gones : List Initialised) (gs : List FunctionGoals) → gs ≡ [] → HaveGoals bs cs gones gs
 no_goals bs cs gones [] is n g e = absurd (let none : None ≡ Some g = e in cc)
 no_goals bs cs gones (h ∷ gs) is n g e = absurd cc
 
 -- ---- paths
 
-abbrev pub FewBefore : List Body → ℕ → Type 0
-FewBefore bs i = (n : ℕ) (b : Body) → slice_get bs n ≡ Some b → n < i → (m : ℕ) × HasPaths b [] b.entry m × (m ≤ most_paths)
+abbrev pub FewBefore : Bodies → ℕ → Type 0
+FewBefore bs i = (n : ℕ) (b : Body) → slice_get bs.bodies n ≡ Some b → n < i → (m : ℕ) × HasPaths b [] b.entry m × (m ≤ most_paths)
 
-pub few_at_first : (bs : List Body) (i : ℕ) → i ≡ 0 → FewBefore bs i
+pub few_at_first : (bs : Bodies) (i : ℕ) → i ≡ 0 → FewBefore bs i
 few_at_first bs i z n b is inside = absurd (omega arith)
 
-pub few_more : (bs : List Body) (i : ℕ) (b : Body) → slice_get bs i ≡ Some b → (m : ℕ) × HasPaths b [] b.entry m × (m ≤ most_paths) → FewBefore bs i → FewBefore bs (i + 1)
+pub few_more : (bs : Bodies) (i : ℕ) (b : Body) → slice_get bs.bodies i ≡ Some b → (m : ℕ) × HasPaths b [] b.entry m × (m ≤ most_paths) → FewBefore bs i → FewBefore bs (i + 1)
 few_more bs i b is few before n c is_c inside = either (cases_lt n i)
   where
     Few : Type 0
@@ -205,16 +208,16 @@ few_more bs i b is few before n c is_c inside = either (cases_lt n i)
     either (inl below) = before n c is_c below
     either (inr above) =
         let last : n ≡ i = omega arith in
-        let same : b ≡ c = some_same (sym is ∙ subst (λ (k : ℕ). slice_get bs k ≡ Some c) last is_c) in
+        let same : b ≡ c = some_same (sym is ∙ subst (λ (k : ℕ). slice_get bs.bodies k ≡ Some c) last is_c) in
         subst (λ (x : Body). (m : ℕ) × HasPaths x [] x.entry m × (m ≤ most_paths)) same few
 
-pub few_in_all : (bs : List Body) (i : ℕ) → length bs ≤ i → FewBefore bs i → HaveFewPaths bs
-few_in_all bs i past before n b is = before n b is (omega (arith, within bs n b is))
+pub few_in_all : (bs : Bodies) (i : ℕ) → length bs.bodies ≤ i → FewBefore bs i → HaveFewPaths bs
+few_in_all bs i past before n b is = before n b is (omega (arith, within bs.bodies n b is))
 
-pub many_at : (bs : List Body) (i : ℕ) (b : Body) → slice_get bs i ≡ Some b → HasMorePaths b [] b.entry 1025 → HasManyPaths bs
+pub many_at : (bs : Bodies) (i : ℕ) (b : Body) → slice_get bs.bodies i ≡ Some b → HasMorePaths b [] b.entry 1025 → HasManyPaths bs
 many_at bs i b is more = record { place = i; body = b; is_body = is; more = more }
 
-pub paths_refused : (source : List ℕ) (table : List (List ℕ)) (typed : TypedProgram) (l : Lowered) (limit : Limit) → IsTypedAs source table typed → IsLowered table typed l → HaveFewBlocks l.bodies.bodies → IsPathsError l.bodies.bodies limit → IsPastLimit source limit
+pub paths_refused : (source : List ℕ) (table : List (List ℕ)) (typed : TypedProgram) (l : Lowered) (limit : Limit) → IsTypedAs source table typed → IsLowered table typed l → HaveFewBlocks l.bodies → IsPathsError l.bodies limit → IsPastLimit source limit
 paths_refused source table typed l limit t lowered blocks (many, is) = subst (λ (m : Limit). IsPastLimit source m) (sym is) (IsPastLimit.paths t lowered blocks many)
 
 -- ---- sources and proofs
@@ -233,15 +236,15 @@ proofs_refused source proofs p refusals.NoMemory prepared is = tt
 
 -- ---- one function more
 
-pub next_goals : (l : Lowered) (gs after : List FunctionGoals) (place : ℕ) (g : FunctionGoals) → after ≡ gs ++ g ∷ [] → length gs ≡ place → HaveGoals l.bodies.bodies l.contracts l.gone gs → HasGoals l.bodies.bodies l.contracts l.gone place g
-    → HaveGoals l.bodies.bodies l.contracts l.gone after
-next_goals l gs after place g is so_many have has = subst (λ (xs : List FunctionGoals). HaveGoals l.bodies.bodies l.contracts l.gone xs) (sym is) (one_more_goals l.bodies.bodies l.contracts l.gone gs place g so_many have has)
+pub next_goals : (l : Lowered) (gs after : List FunctionGoals) (place : ℕ) (g : FunctionGoals) → after ≡ gs ++ g ∷ [] → length gs ≡ place → HaveGoals l.bodies l.contracts l.gone gs → HasGoals l.bodies l.contracts l.gone place g
+    → HaveGoals l.bodies l.contracts l.gone after
+next_goals l gs after place g is so_many have has = subst (λ (xs : List FunctionGoals). HaveGoals l.bodies l.contracts l.gone xs) (sym is) (one_more_goals l.bodies l.contracts l.gone gs place g so_many have has)
 
 -- ---- the room for obligations
 
 -- what is left after whatever obligations the first functions have
 abbrev pub RoomBefore : Lowered → ℕ → ℕ → Type 0
-RoomBefore l n left = (gs : List FunctionGoals) → HaveGoals l.bodies.bodies l.contracts l.gone gs → length gs ≡ n → left + length (obligations_in gs) ≡ most_obligations
+RoomBefore l n left = (gs : List FunctionGoals) → HaveGoals l.bodies l.contracts l.gone gs → length gs ≡ n → left + length (obligations_in gs) ≡ most_obligations
 
 pub all_room : (l : Lowered) → RoomBefore l 0 most_obligations
 all_room l [] have none = omega arith
@@ -266,7 +269,7 @@ at_last [] x = refl
 at_last (z ∷ front) x = at_last front x
 
 -- the obligations of function n are those of its walk
-of_walk_at : (l : Lowered) (n : ℕ) (w : Setting) (g : FunctionGoals) → IsSettingAt l n w → HasGoals l.bodies.bodies l.contracts l.gone n g → AreSomeObligations w g.obligations
+of_walk_at : (l : Lowered) (n : ℕ) (w : Setting) (g : FunctionGoals) → IsSettingAt l n w → HasGoals l.bodies l.contracts l.gone n g → AreSomeObligations w g.obligations
 of_walk_at l n w g at has =
     let own : AreObligations (record { body = has.body; contracts = l.contracts; contract = has.contract; init = gone_of l.gone n }) 1 g.obligations has.goals.paths = has.goals.are in
     let with_body = subst (λ (b : Body). AreObligations (record { body = b; contracts = l.contracts; contract = has.contract; init = gone_of l.gone n }) 1 g.obligations has.goals.paths) (some_same (sym has.is_body ∙ at.body)) own in
@@ -279,13 +282,13 @@ more_in gs front g is = ap (λ (xs : List FunctionGoals). length (obligations_in
 pub room_before_next : (l : Lowered) (n : ℕ) (w : Setting) (left rest : ℕ) → IsSettingAt l n w → RoomBefore l n left → LeavesRoom (AreSomeObligations w) left (Some rest) → RoomBefore l (n + 1) rest
 room_before_next l n w left rest at before leaves gs have so_many =
     let s = split_last gs n so_many in
-    let front_have : HaveGoals l.bodies.bodies l.contracts l.gone s.0 = λ i g e. have i g (subst (λ (xs : List FunctionGoals). slice_get xs i ≡ Some g) (sym s.2) (before_last s.0 s.1 i g e)) in
-    let last_has : HasGoals l.bodies.bodies l.contracts l.gone n s.1 =
+    let front_have : HaveGoals l.bodies l.contracts l.gone s.0 = λ i g e. have i g (subst (λ (xs : List FunctionGoals). slice_get xs i ≡ Some g) (sym s.2) (before_last s.0 s.1 i g e)) in
+    let last_has : HasGoals l.bodies l.contracts l.gone n s.1 =
     have n s.1 (subst (λ (xs : List FunctionGoals). slice_get xs n ≡ Some s.1) (sym s.2) (subst (λ (i : ℕ). slice_get (s.0 ++ s.1 ∷ []) i ≡ Some s.1) s.3 (at_last s.0 s.1))) in
     omega (arith, more_in gs s.0 s.1 s.2, before s.0 front_have s.3, leaves s.1.obligations (of_walk_at l n w s.1 at last_has))
 
 -- the first functions have some goals
-pub goals_exist : (l : Lowered) (n : ℕ) → CanWalkAll l → n ≤ length l.bodies.bodies → (gs : List FunctionGoals) × HaveGoals l.bodies.bodies l.contracts l.gone gs × (length gs ≡ n)
+pub goals_exist : (l : Lowered) (n : ℕ) → CanWalkAll l → n ≤ length l.bodies.bodies → (gs : List FunctionGoals) × HaveGoals l.bodies l.contracts l.gone gs × (length gs ≡ n)
 goals_exist l zero can within = ([], λ i g e. absurd (let none : None ≡ Some g = e in cc), refl)
 goals_exist l (suc n) can inside =
     let r = goals_exist l n can (omega (arith, inside)) in
@@ -295,18 +298,18 @@ goals_exist l (suc n) can inside =
     let at : IsSettingAt l n w = record { body = b.1; contract = c.1; contracts = refl; gone = refl } in
     let o = have_obligations w 1 (walk_at l n w (can.walk n) at) in
     let g : FunctionGoals = record { name = w.body.owner; obligations = o.0 } in
-    let has : HasGoals l.bodies.bodies l.contracts l.gone n g = has_goals l n w g o.0 o.1 at refl refl o.2 in
-    (r.0 ++ g ∷ [], one_more_goals l.bodies.bodies l.contracts l.gone r.0 n g r.2 r.1 has, length_one_more r.0 g n r.2 ∙ omega arith)
+    let has : HasGoals l.bodies l.contracts l.gone n g = has_goals l n w g o.0 o.1 at refl refl o.2 in
+    (r.0 ++ g ∷ [], one_more_goals l.bodies l.contracts l.gone r.0 n g r.2 r.1 has, length_one_more r.0 g n r.2 ∙ omega arith)
 
 pub too_many : (l : Lowered) (n : ℕ) (w : Setting) (left : ℕ) → CanWalkAll l → n < length l.bodies.bodies → IsSettingAt l n w → RoomBefore l n left → LeavesRoom (AreSomeObligations w) left None → AreTooMany l
 too_many l n w left can inside at before leaves =
     let r = goals_exist l n can (omega (arith, inside)) in
     let o = have_obligations w 1 (walk_at l n w (can.walk n) at) in
     let g : FunctionGoals = record { name = w.body.owner; obligations = o.0 } in
-    let has : HasGoals l.bodies.bodies l.contracts l.gone n g = has_goals l n w g o.0 o.1 at refl refl o.2 in
+    let has : HasGoals l.bodies l.contracts l.gone n g = has_goals l n w g o.0 o.1 at refl refl o.2 in
     record {
       functions = r.0 ++ g ∷ [];
-      goals = one_more_goals l.bodies.bodies l.contracts l.gone r.0 n g r.2 r.1 has;
+      goals = one_more_goals l.bodies l.contracts l.gone r.0 n g r.2 r.1 has;
       many = omega (arith, more_in (r.0 ++ g ∷ []) r.0 g refl, before r.0 r.1 r.2, leaves o.0 (1, o.1, o.2));
     }
 

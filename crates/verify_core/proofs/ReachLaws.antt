@@ -1,18 +1,20 @@
 -- Flags that are unset as long as a function calls one whose flag is not set say which functions reach none that is not proved.
 use Rattle.std.proofs.Common.{◌≡◌, ◌∙◌, refl, sym, ap, subst, ℕ, zero, suc, ◌<◌, ◌⊎◌, inl, inr, Bool, true, false, ◌||◌, List, [], ◌∷◌, length, Option, Some, None, true≢false, arith}
-use Rattle.std.specs.Prelude.{slice_get, slice_set}
+use Rattle.std.specs.Prelude.{option_and_then, slice_get, slice_set}
 use Rattle.std.specs.List.{list_any}
 use Rattle.logic_term.specs.declared.kinds.Label.{Label}
 use Rattle.mir_ir.specs.declared.body.Block.{Block}
 use Rattle.mir_ir.specs.declared.body.Body.{Body}
+use Rattle.logic_term.specs.Ty.{Ty}
 use Rattle.mir_ir.specs.declared.place.Operand.{Operand}
 use Rattle.mir_ir.specs.declared.place.Place.{Place}
-use Rattle.mir_ir.specs.declared.terminator.FnId.TheVariants.{Body as OfBody}
-use Rattle.mir_ir.specs.declared.terminator.Callee.TheVariants.{Function}
+use Rattle.mir_ir.specs.declared.terminator.Callee.{Callee}
 use Rattle.mir_ir.specs.declared.terminator.TerminatorKind.{TerminatorKind}
 use Rattle.mir_ir.specs.declared.terminator.TerminatorKind.TheVariants.{Goto, If, Call, Return}
 use Rattle.verify_core.specs.Flags.{is_unset, end_calls_unset, calls_unset, ReachesOpen, AreJustified, AreSettled, Unsets, set_count}
 use Rattle.prophecy_sim.specs.Programs.{Calls, Reaches}
+use Rattle.mir_ir.specs.declared.body.Bodies.{Bodies}
+use Rattle.mir_ir.specs.Callees.{callee_of}
 
 -- ---- lists
 
@@ -95,36 +97,57 @@ unset_is None h = absurd (true≢false (sym h))
 unset_is (Some true) h = absurd (true≢false (sym h))
 unset_is (Some false) h = refl
 
-record CallsUnset (flags : List Bool) (k : TerminatorKind) : Type 0 where
-  callee : ℕ
+record CallsUnset (bodies : Bodies) (flags : List Bool) (k : TerminatorKind) : Type 0 where
+  number : ℕ
   place : Place
+  callee : Callee
+  types : List Ty
   args : List Operand
   next : Label
-  is : k ≡ Call place (Function (OfBody callee)) args next
-  unset : slice_get flags callee ≡ Some false
+  is : k ≡ Call place callee types args next
+  is_callee : callee_of bodies callee ≡ Some number
+  unset : slice_get flags number ≡ Some false
 
-call_found : (flags : List Bool) (k : TerminatorKind) → end_calls_unset flags k ≡ true → CallsUnset flags k
-call_found flags (Goto l) h = absurd (true≢false (sym h))
-call_found flags (If o l m) h = absurd (true≢false (sym h))
-call_found flags Return h = absurd (true≢false (sym h))
-call_found flags (Call p (Function (OfBody m)) args l) h = record { callee = m; place = p; args = args; next = l; is = refl; unset = unset_is (slice_get flags m) h }
+call_found : (bodies : Bodies) (flags : List Bool) (k : TerminatorKind) → end_calls_unset bodies flags k ≡ true → CallsUnset bodies flags k
+call_found bodies flags (Goto l) h = absurd (true≢false (sym h))
+call_found bodies flags (If o l m) h = absurd (true≢false (sym h))
+call_found bodies flags Return h = absurd (true≢false (sym h))
+call_found bodies flags (Call p callee types args l) h = found (callee_of bodies callee) refl h
+  where
+    found : (o : Option ℕ) → callee_of bodies callee ≡ o → is_unset (option_and_then (slice_get flags) o) ≡ true → CallsUnset bodies flags (Call p callee types args l)
+    found (Some m) is u = record { number = m; place = p; callee = callee; types = types; args = args; next = l; is = refl; is_callee = is; unset = unset_is (slice_get flags m) u }
+    found None is u = absurd (true≢false (sym u))
 
 -- a call first, and then what the callee reaches
-reaches_by : (bodies : List Body) (f g m : ℕ) → Calls bodies f g → Reaches bodies g m → Reaches bodies f m
+reaches_by : (bodies : Bodies) (f g m : ℕ) → Calls bodies f g → Reaches bodies g m → Reaches bodies f m
 reaches_by bodies f g m calls Reaches.itself = Reaches.by_call Reaches.itself calls
 reaches_by bodies f g m calls (Reaches.by_call {n = n} reaches last) = Reaches.by_call (reaches_by bodies f g n calls reaches) last
 
 -- ---- one flag is unset
 
-module _ (bodies : List Body) (proved flags : List Bool) (justified : AreJustified bodies proved flags) (f : ℕ) (b : Body)
-    (is_body : slice_get bodies f ≡ Some b) (set : slice_get flags f ≡ Some true) (calls : calls_unset flags b ≡ true) where
+module _ (bodies : Bodies) (proved flags : List Bool) (justified : AreJustified bodies proved flags) (f : ℕ) (b : Body)
+    (is_body : slice_get bodies.bodies f ≡ Some b) (set : slice_get flags f ≡ Some true) (calls : calls_unset bodies flags b ≡ true) where
   opens : ReachesOpen bodies proved f
   opens =
-      let found = any_found (λ (e : Label × Block). end_calls_unset flags e.1.end.kind) b.blocks calls in
-      let call = call_found flags found.1.1.end.kind found.3 in
-      let beyond = justified.unset call.callee call.unset in
-      let step : Calls bodies f call.callee = record { body = b; is_body = is_body; at = found.0; label = found.1.0; block = found.1.1; is_block = found.2; place = call.place; operands = call.args; next = call.next; is_call = call.is } in
-      record { open_one = beyond.open_one; reaches = reaches_by bodies f call.callee beyond.open_one step beyond.reaches; is_open = beyond.is_open }
+      let found = any_found (λ (e : Label × Block). end_calls_unset bodies flags e.1.end.kind) b.blocks calls in
+      let call = call_found bodies flags found.1.1.end.kind found.3 in
+      let beyond = justified.unset call.number call.unset in
+      let step : Calls bodies f call.number = record {
+        body = b;
+        is_body = is_body;
+        at = found.0;
+        label = found.1.0;
+        block = found.1.1;
+        is_block = found.2;
+        place = call.place;
+        callee = call.callee;
+        types = call.types;
+        operands = call.args;
+        next = call.next;
+        is_call = call.is;
+        is_callee = call.is_callee;
+      } in
+      record { open_one = beyond.open_one; reaches = reaches_by bodies f call.number beyond.open_one step beyond.reaches; is_open = beyond.is_open }
 
   abbrev after : List Bool
   after = slice_set flags f false
@@ -142,20 +165,20 @@ module _ (bodies : List Body) (proved flags : List Bool) (justified : AreJustifi
     unset = λ g e. elim (unset_at g false e) [ inl both ↦ subst (ReachesOpen bodies proved) both.0 opens | inr before ↦ justified.unset g before ];
   }
 
-pub unsets_justified : (bodies : List Body) (proved old new : List Bool) (f : ℕ) (b : Body) (changed : Bool) → slice_get bodies f ≡ Some b → Unsets old new f b changed → AreJustified bodies proved old → AreJustified bodies proved new
+pub unsets_justified : (bodies : Bodies) (proved old new : List Bool) (f : ℕ) (b : Body) (changed : Bool) → slice_get bodies.bodies f ≡ Some b → Unsets bodies old new f b changed → AreJustified bodies proved old → AreJustified bodies proved new
 unsets_justified bodies proved old new f b true is_body (set, calls, is) justified = subst (AreJustified bodies proved) (sym is) (stays_justified bodies proved old justified f b is_body set calls)
 unsets_justified bodies proved old new f b false is_body (same, settled) justified = subst (AreJustified bodies proved) (sym same) justified
 
-pub unsets_fewer : (old new : List Bool) (f : ℕ) (b : Body) → Unsets old new f b true → set_count new < set_count old
-unsets_fewer old new f b (set, calls, is) = rw is (fewer old f set)
+pub unsets_fewer : (bodies : Bodies) (old new : List Bool) (f : ℕ) (b : Body) → Unsets bodies old new f b true → set_count new < set_count old
+unsets_fewer bodies old new f b (set, calls, is) = rw is (fewer old f set)
 
-pub unsets_as_many : (old new : List Bool) (f : ℕ) (b : Body) (changed : Bool) → Unsets old new f b changed → length new ≡ length old
-unsets_as_many old new f b true (set, calls, is) = ap length is ∙ length_same old f false
-unsets_as_many old new f b false (same, settled) = ap length same
+pub unsets_as_many : (bodies : Bodies) (old new : List Bool) (f : ℕ) (b : Body) (changed : Bool) → Unsets bodies old new f b changed → length new ≡ length old
+unsets_as_many bodies old new f b true (set, calls, is) = ap length is ∙ length_same old f false
+unsets_as_many bodies old new f b false (same, settled) = ap length same
 
 -- ---- settled flags
 
-module _ (bodies : List Body) (flags : List Bool) (as_many : length flags ≡ length bodies) (settled : AreSettled bodies flags) where
+module _ (bodies : Bodies) (flags : List Bool) (as_many : length flags ≡ length bodies.bodies) (settled : AreSettled bodies flags) where
   set_or_not : (n : ℕ) → n < length flags → (slice_get flags n ≡ Some true) ⊎ (slice_get flags n ≡ Some false)
   set_or_not n h = which (got flags n h).0 (got flags n h).1
     where
@@ -165,12 +188,12 @@ module _ (bodies : List Body) (flags : List Bool) (as_many : length flags ≡ le
 
   call_settled : (n m : ℕ) → Calls bodies n m → slice_get flags n ≡ Some true → slice_get flags m ≡ Some false → ⊥
   call_settled n m c set unset =
-      let at : end_calls_unset flags c.block.end.kind ≡ true = rw (c.is_call, unset) refl in
-      true≢false (sym (any_at (λ (e : Label × Block). end_calls_unset flags e.1.end.kind) c.body.blocks c.at (c.label, c.block) c.is_block at) ∙ settled n c.body c.is_body set)
+      let at : end_calls_unset bodies flags c.block.end.kind ≡ true = rw (c.is_call, c.is_callee, unset) refl in
+      true≢false (sym (any_at (λ (e : Label × Block). end_calls_unset bodies flags e.1.end.kind) c.body.blocks c.at (c.label, c.block) c.is_block at) ∙ settled n c.body c.is_body set)
 
   pub none_unset : (f m : ℕ) → Reaches bodies f m → slice_get flags f ≡ Some true → slice_get flags m ≡ Some false → ⊥
   none_unset f m Reaches.itself set unset = true≢false (some_same (sym set ∙ unset))
-  none_unset f m (Reaches.by_call {n = n} reaches c) set unset = elim (set_or_not n (subst (λ (k : ℕ). n < k) (sym as_many) (within bodies n c.body c.is_body))) [
+  none_unset f m (Reaches.by_call {n = n} reaches c) set unset = elim (set_or_not n (subst (λ (k : ℕ). n < k) (sym as_many) (within bodies.bodies n c.body c.is_body))) [
     | inl there ↦ call_settled n m c there unset
     | inr there ↦ none_unset f n reaches set there
   ]

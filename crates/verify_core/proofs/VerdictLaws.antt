@@ -10,6 +10,7 @@ use Rattle.verify_core.specs.Judging.{FlagsTell, AreLinesOf}
 use Rattle.prophecy_sim.specs.Programs.{itself}
 use Rattle.verify_core.specs.Verdict.{Tells, IsVerified, AreLines}
 use Rattle.verify_core.proofs.ReachLaws.{within, got, reached_set}
+use Rattle.mir_ir.specs.declared.body.Bodies.{Bodies}
 
 some_same : {A : Type 0} {a b : A} → Some a ≡ Some b → a ≡ b
 some_same e = cc
@@ -36,9 +37,9 @@ get_mapped f [] i x e = absurd cc
 get_mapped f (y ∷ xs) zero x e = ap Some (ap f (some_same e))
 get_mapped f (y ∷ xs) (suc i) x e = get_mapped f xs i x e
 
-module _ (ps : List Proof) (bodies : List Body) (goals : List FunctionGoals) (proved flags : List Bool) (as_many : length goals ≡ length bodies) (told : FlagsTell ps goals proved)
+module _ (ps : List Proof) (bodies : Bodies) (goals : List FunctionGoals) (proved flags : List Bool) (as_many : length goals ≡ length bodies.bodies) (told : FlagsTell ps goals proved)
     (justified : AreJustified bodies proved flags) (settled : AreSettled bodies flags) where
-  flags_as_bodies : length flags ≡ length bodies
+  flags_as_bodies : length flags ≡ length bodies.bodies
   flags_as_bodies = justified.as_many ∙ told.as_many ∙ as_many
 
   flags_as_goals : length goals ≡ length flags
@@ -61,7 +62,7 @@ module _ (ps : List Proof) (bodies : List Body) (goals : List FunctionGoals) (pr
   }
 
 -- at the start a flag says whether the function itself is proved
-pub justified_at_start : (bodies : List Body) (proved : List Bool) → AreJustified bodies proved proved
+pub justified_at_start : (bodies : Bodies) (proved : List Bool) → AreJustified bodies proved proved
 justified_at_start bodies proved = record {
   as_many = refl;
   set = λ f e. e;

@@ -33,8 +33,10 @@ use Rattle.verify_core.specs.declared.goals.FunctionGoals.{FunctionGoals}
 use Rattle.verify_core.specs.declared.program.Program.{Program}
 use Rattle.verify_core.specs.Prepared.{IsPrepared, AreGoalsOf, HaveGoals, gone_of, program_of}
 use Rattle.verify_core.specs.Verdict.{steps_of, IsAccepted, Settles, HasDerivation, Tells, IsVerified, IsVerdict}
-use Rattle.verify_core.proofs.Assembly.{sound, functions}
+use Rattle.verify_core.proofs.Assembly.{sound, labelling, functions}
 use Rattle.verify_core.proofs.ReachLaws.{within, got}
+use Rattle.mir_ir.specs.declared.body.Bodies.{Bodies}
+use Rattle.mir_machine.specs.Code.{code_of}
 
 some_same : {A : Type 0} {a b : A} → Some a ≡ Some b → a ≡ b
 some_same e = cc
@@ -52,10 +54,10 @@ settled_is_true ps o (Settles.proved {p = p} found accepted) = proof_is_sound no
 -- ---- what true obligations are worth
 
 -- the goals of function n, which its obligations are
-goals_at : (bs : List Body) (cs : List Contract) (gones : List Initialised) (gs : List FunctionGoals) → HaveGoals bs cs gones gs → length gs ≡ length bs → (n : ℕ) (b : Body) (c : Contract)
-    → slice_get bs n ≡ Some b → slice_get cs n ≡ Some c → (g : FunctionGoals) × (slice_get gs n ≡ Some g) × AreGoalsOf cs b c (gone_of gones n) g
+goals_at : (bs : Bodies) (cs : List Contract) (gones : List Initialised) (gs : List FunctionGoals) → HaveGoals bs cs gones gs → length gs ≡ length bs.bodies → (n : ℕ) (b : Body) (c : Contract)
+    → slice_get bs.bodies n ≡ Some b → slice_get cs n ≡ Some c → (g : FunctionGoals) × (slice_get gs n ≡ Some g) × AreGoalsOf cs b c (gone_of gones n) g
 goals_at bs cs gones gs have as_many n b c is_b is_c =
-    let found = got gs n (subst (λ (k : ℕ). n < k) (sym as_many) (within bs n b is_b)) in
+    let found = got gs n (subst (λ (k : ℕ). n < k) (sym as_many) (within bs.bodies n b is_b)) in
     let h = have n found.0 found.1 in
     let same_body : h.body ≡ b = some_same (sym h.is_body ∙ is_b) in
     let same_contract : h.contract ≡ c = some_same (sym h.is_contract ∙ is_c) in
@@ -65,27 +67,27 @@ true_goals : (ps : List Proof) (os : List Obligation) → Each (HasDerivation ps
 true_goals ps [] each = tt
 true_goals ps (o ∷ os) (has, each) = (proof_is_sound no_tables o (steps_of has.proof.steps) has.derives, true_goals ps os each)
 
-verified_at : (ps : List Proof) (bodies : List Body) (goals : List FunctionGoals) (f : ℕ) (flag : Bool) → Tells flag (IsVerified ps bodies goals f) → flag ≡ true → IsVerified ps bodies goals f
+verified_at : (ps : List Proof) (bodies : Bodies) (goals : List FunctionGoals) (f : ℕ) (flag : Bool) → Tells flag (IsVerified ps bodies goals f) → flag ≡ true → IsVerified ps bodies goals f
 verified_at ps bodies goals f true tells e = tells
 verified_at ps bodies goals f false tells e = absurd (true≢false (sym e))
 
-lowering : (source : List ℕ) (p : Program) → (prepared : IsPrepared source p) → Lowers p.names prepared.typed.functions p.bodies.bodies p.contracts prepared.gones
+lowering : (source : List ℕ) (p : Program) → (prepared : IsPrepared source p) → Lowers p.names prepared.typed.functions p.bodies p.contracts prepared.gones
 lowering source p prepared = record { lowers = prepared.lowers; fits = typed_program_fits prepared.is_typed.items prepared.typed prepared.is_typed.is_typed }
 
 -- no proper call of a function of an accepted source is stuck
-pub accepted_is_never_stuck : (source : List ℕ) (p : Program) → IsPrepared source p → (Θ : Theory) (f : ℕ) (θ : Tys) (args held : List (Tree (Unit {0}))) (b : Body) (met : List Met) → IsProper Θ p.bodies.bodies f θ args held b met
-    → (n : ℕ) → state_after p.bodies.bodies n (called b f θ args held) ≡ Stuck → ⊥
+pub accepted_is_never_stuck : (source : List ℕ) (p : Program) → IsPrepared source p → (Θ : Theory) (f : ℕ) (θ : Tys) (args held : List (Tree (Unit {0}))) (b : Body) (met : List Met) → IsProper Θ p.bodies f θ args held b met
+    → (n : ℕ) → state_after (code_of p.bodies) n (called b f θ args held) ≡ Stuck → ⊥
 accepted_is_never_stuck source p prepared Θ f θ args held b met proper n =
-    never_stuck Θ p.bodies.bodies (sound p.names prepared.typed.functions p.bodies.bodies p.contracts prepared.gones (lowering source p prepared)) f θ args held b met proper n
+    never_stuck Θ (code_of p.bodies) (sound p.names prepared.typed.functions p.bodies p.contracts prepared.gones (lowering source p prepared)) f θ args held b met proper n
 
 -- each function that the verdict lists as verified is good for its contract
-pub verified_is_good : (source : List ℕ) (p : Program) (ps : List Proof) (v : Verdict) → IsPrepared source p → IsVerdict ps p.bodies.bodies p.functions v
-    → (f : ℕ) (line : FnLine) (c : Contract) → slice_get v.functions f ≡ Some line → line.verified ≡ true → slice_get p.contracts f ≡ Some c → Good nothing_declared p.bodies.bodies f c
+pub verified_is_good : (source : List ℕ) (p : Program) (ps : List Proof) (v : Verdict) → IsPrepared source p → IsVerdict ps p.bodies p.functions v
+    → (f : ℕ) (line : FnLine) (c : Contract) → slice_get v.functions f ≡ Some line → line.verified ≡ true → slice_get p.contracts f ≡ Some c → Good nothing_declared p.bodies f c
 verified_is_good source p ps v prepared verdict f line c is_line verified is_contract =
-    let bodies : List Body = p.bodies.bodies in
+    let bodies : Bodies = p.bodies in
     let lowers = lowering source p prepared in
     let all : IsVerified ps bodies p.functions f = verified_at ps bodies p.functions f line.verified (verdict.lines.told f line is_line) verified in
-    true_makes_good nothing_declared (program_of bodies p.contracts prepared.gones) (sound p.names prepared.typed.functions bodies p.contracts prepared.gones lowers)
+    true_makes_good nothing_declared (program_of bodies p.contracts prepared.gones) (labelling p.names prepared.typed.functions bodies p.contracts prepared.gones lowers)
     (functions p.names prepared.typed.functions bodies p.contracts prepared.gones lowers) f c is_contract
     (λ n b d reaches is_body is_d.
     let g = goals_at bodies p.contracts prepared.gones p.functions prepared.goals prepared.as_many n b d is_body is_d in

@@ -21,6 +21,8 @@ use Rattle.text_core.specs.declared.refusal.SourceError.{SourceError}
 use Rattle.verify_core.specs.declared.program.Program.{Program}
 use Rattle.verify_core.specs.Prepared.{HaveGoals, HaveFewPaths, HasManyPaths, IsPrepared, IsRefused, IsPastLimit, most_bytes, most_obligations}
 use Rattle.verify_core.specs.Verdict.{IsAccepted, IsRefusedAt, IsVerdict, Settles, HasDerivation, obligations_in}
+use Rattle.mir_ir.specs.declared.body.Bodies.{Bodies}
+use Rattle.mir_machine.specs.Code.{code_of}
 
 -- ---- obligations
 
@@ -30,31 +32,31 @@ ObligationsAreOne = (w : Setting) (start n m : ℕ) (os others : List Obligation
 
 -- so many of the first functions have one list of goals
 abbrev pub GoalsAreOne : Type 0
-GoalsAreOne = (bs : List Body) (cs : List Contract) (gones : List Initialised) (gs others : List FunctionGoals) → HaveGoals bs cs gones gs → HaveGoals bs cs gones others → length gs ≡ length others → gs ≡ others
+GoalsAreOne = (bs : Bodies) (cs : List Contract) (gones : List Initialised) (gs others : List FunctionGoals) → HaveGoals bs cs gones gs → HaveGoals bs cs gones others → length gs ≡ length others → gs ≡ others
 
 -- the goals of fewer of the first functions stand at the front of those of more
 abbrev pub FewerAreFront : Type 0
-FewerAreFront = (bs : List Body) (cs : List Contract) (gones : List Initialised) (gs others : List FunctionGoals) → HaveGoals bs cs gones gs → HaveGoals bs cs gones others → length gs ≤ length others → (rest : List FunctionGoals) × (others ≡ gs ++ rest)
+FewerAreFront = (bs : Bodies) (cs : List Contract) (gones : List Initialised) (gs others : List FunctionGoals) → HaveGoals bs cs gones gs → HaveGoals bs cs gones others → length gs ≤ length others → (rest : List FunctionGoals) × (others ≡ gs ++ rest)
 
 -- so they have no more obligations
 abbrev pub FewerHaveFewer : Type 0
-FewerHaveFewer = (bs : List Body) (cs : List Contract) (gones : List Initialised) (gs others : List FunctionGoals) → HaveGoals bs cs gones gs → HaveGoals bs cs gones others → length gs ≤ length others
+FewerHaveFewer = (bs : Bodies) (cs : List Contract) (gones : List Initialised) (gs others : List FunctionGoals) → HaveGoals bs cs gones gs → HaveGoals bs cs gones others → length gs ≤ length others
     → length (obligations_in gs) ≤ length (obligations_in others)
 
 -- there are no more of them than bodies
 abbrev pub GoalsAreOfBodies : Type 0
-GoalsAreOfBodies = (bs : List Body) (cs : List Contract) (gones : List Initialised) (gs : List FunctionGoals) → HaveGoals bs cs gones gs → length gs ≤ length bs
+GoalsAreOfBodies = (bs : Bodies) (cs : List Contract) (gones : List Initialised) (gs : List FunctionGoals) → HaveGoals bs cs gones gs → length gs ≤ length bs.bodies
 
 -- where all functions have few enough obligations, no first functions have too many
 abbrev pub FewObligationsAreNotMany : Type 0
-FewObligationsAreNotMany = (bs : List Body) (cs : List Contract) (gones : List Initialised) (gs firsts : List FunctionGoals) → HaveGoals bs cs gones gs → length gs ≡ length bs → length (obligations_in gs) ≤ most_obligations
+FewObligationsAreNotMany = (bs : Bodies) (cs : List Contract) (gones : List Initialised) (gs firsts : List FunctionGoals) → HaveGoals bs cs gones gs → length gs ≡ length bs.bodies → length (obligations_in gs) ≤ most_obligations
     → HaveGoals bs cs gones firsts → most_obligations < length (obligations_in firsts) → ⊥
 
 -- ---- paths
 
 -- where each body has few enough paths, none has too many
 abbrev pub FewPathsAreNotMany : Type 0
-FewPathsAreNotMany = (bs : List Body) → HaveFewPaths bs → HasManyPaths bs → ⊥
+FewPathsAreNotMany = (bs : Bodies) → HaveFewPaths bs → HasManyPaths bs → ⊥
 
 -- ---- proofs
 
@@ -70,7 +72,7 @@ RefusedIsNotAccepted = (o : Obligation) (steps : List NumberedStep) («end» lin
 
 -- the proofs of a file give the functions of a program one verdict
 abbrev pub VerdictIsOne : Type 0
-VerdictIsOne = (ps : List Proof) (bodies : List Body) (goals : List FunctionGoals) (v other : Verdict) → IsVerdict ps bodies goals v → IsVerdict ps bodies goals other → v ≡ other
+VerdictIsOne = (ps : List Proof) (bodies : Bodies) (goals : List FunctionGoals) (v other : Verdict) → IsVerdict ps bodies goals v → IsVerdict ps bodies goals other → v ≡ other
 
 -- ---- sources
 
@@ -110,5 +112,5 @@ LeftHasNoDerivation = (ps : List Proof) (o : Obligation) (reason : Reason) → S
 -- of an accepted source: after a proper call of any function, verified or not, no state is stuck
 abbrev pub AcceptedIsNeverStuck : Type 0
 AcceptedIsNeverStuck =
-    (source : List ℕ) (p : Program) → IsPrepared source p → (Θ : Theory) (f : ℕ) (θ : Tys) (args held : List (Tree (Unit {0}))) (b : Body) (met : List Met) → IsProper Θ p.bodies.bodies f θ args held b met
-    → (n : ℕ) → after p.bodies.bodies n (called b f θ args held) ≡ Stuck → ⊥
+    (source : List ℕ) (p : Program) → IsPrepared source p → (Θ : Theory) (f : ℕ) (θ : Tys) (args held : List (Tree (Unit {0}))) (b : Body) (met : List Met) → IsProper Θ p.bodies f θ args held b met
+    → (n : ℕ) → after (code_of p.bodies) n (called b f θ args held) ≡ Stuck → ⊥

@@ -21,7 +21,7 @@ most_proof_bytes = 67108864
 
 -- each function that the verdict lists as verified is good for its contract
 abbrev pub AreGood : Program → Verdict → Type 0
-AreGood p v = (f : ℕ) (line : FnLine) (c : Contract) → slice_get v.functions f ≡ Some line → line.verified ≡ true → slice_get p.contracts f ≡ Some c → Good nothing_declared p.bodies.bodies f c
+AreGood p v = (f : ℕ) (line : FnLine) (c : Contract) → slice_get v.functions f ≡ Some line → line.verified ≡ true → slice_get p.contracts f ≡ Some c → Good nothing_declared p.bodies f c
 
 -- the source is accepted, the bytes are a file of proofs, and this is the verdict
 pub record IsVerdictOn (source proofs : List ℕ) (v : Verdict) : Type 0 where
@@ -29,7 +29,7 @@ pub record IsVerdictOn (source proofs : List ℕ) (v : Verdict) : Type 0 where
   pub prepared : IsPrepared source program
   pub file : ProofFile
   pub spelled : SpellsProofs [] proofs file
-  pub is_verdict : IsVerdict file.proofs program.bodies.bodies program.functions v
+  pub is_verdict : IsVerdict file.proofs program.bodies program.functions v
   pub good : AreGood program v
 
 pub data IsPastSomeLimit (source proofs : List ℕ) : Limit → Type 0 where

@@ -11,6 +11,7 @@ use Rattle.wp_gen.specs.Walkable.{CanWalk}
 use Rattle.verify_core.specs.declared.goals.FunctionGoals.{FunctionGoals}
 use Rattle.verify_core.specs.Prepared.{gone_of, HaveGoals, HasManyPaths, most_paths, most_obligations}
 use Rattle.verify_core.specs.Verdict.{obligations_in}
+use Rattle.mir_ir.specs.declared.body.Bodies.{Bodies}
 
 -- the body of this place can be walked, if there is one
 abbrev pub CanWalkAt : Lowered → ℕ → Type 0
@@ -30,7 +31,7 @@ pub record IsSettingAt (l : Lowered) (n : ℕ) (w : Setting) : Type 0 where
   pub gone : w.init ≡ gone_of l.gone n
 
 pub record AreAllGoals (l : Lowered) (gs : List FunctionGoals) : Type 0 where
-  pub goals : HaveGoals l.bodies.bodies l.contracts l.gone gs
+  pub goals : HaveGoals l.bodies l.contracts l.gone gs
   pub as_many : length gs ≡ length l.bodies.bodies
 
 -- whatever obligations all functions have, they are few enough
@@ -40,14 +41,14 @@ HaveFewGoals l = (gs : List FunctionGoals) → AreAllGoals l gs → length (obli
 -- the first functions have too many obligations
 pub record AreTooMany (l : Lowered) : Type 0 where
   pub functions : List FunctionGoals
-  pub goals : HaveGoals l.bodies.bodies l.contracts l.gone functions
+  pub goals : HaveGoals l.bodies l.contracts l.gone functions
   pub many : most_obligations < length (obligations_in functions)
 
 abbrev pub IsGoalsError : Lowered → Limit → Type 0
 IsGoalsError l limit = AreTooMany l × (limit ≡ record { kind = Obligations; counted = most_obligations + 1; bound = most_obligations })
 
-abbrev pub AreLaidOut : List Body → Type 0
-AreLaidOut bs = (n : ℕ) (b : Body) → slice_get bs n ≡ Some b → IsLaidOut b
+abbrev pub AreLaidOut : Bodies → Type 0
+AreLaidOut bs = (n : ℕ) (b : Body) → slice_get bs.bodies n ≡ Some b → IsLaidOut b
 
-abbrev pub IsPathsError : List Body → Limit → Type 0
+abbrev pub IsPathsError : Bodies → Limit → Type 0
 IsPathsError bs l = HasManyPaths bs × (l ≡ record { kind = Paths; counted = most_paths + 1; bound = most_paths })

@@ -23,6 +23,7 @@ use Rattle.verify_core.specs.declared.goals.FunctionGoals.{FunctionGoals}
 use Rattle.verify_core.specs.declared.program.Program.{Program}
 use Rattle.verify_core.specs.Built.{SpellsBuilt, IsSourceError}
 use Rattle.verify_core.specs.Verdict.{obligations_in}
+use Rattle.mir_ir.specs.declared.body.Bodies.{Bodies}
 
 -- ---- bounds
 
@@ -61,7 +62,7 @@ gone_of [] n = record { gone = [] }
 gone_of (g ∷ gones) zero = g
 gone_of (g ∷ gones) (suc n) = gone_of gones n
 
-abbrev pub program_of : List Body → List Contract → List Initialised → sim.Program
+abbrev pub program_of : Bodies → List Contract → List Initialised → sim.Program
 program_of bs cs gones = record { bodies = bs; contracts = cs; gone = gone_of gones }
 
 -- the obligations of a body with its contract
@@ -71,28 +72,28 @@ pub record AreGoalsOf (all : List Contract) (b : Body) (c : Contract) (gone : In
   pub are : AreObligations (record { body = b; contracts = all; contract = c; init = gone }) 1 g.obligations paths
 
 -- function n has these goals
-pub record HasGoals (bs : List Body) (cs : List Contract) (gones : List Initialised) (n : ℕ) (g : FunctionGoals) : Type 0 where
+pub record HasGoals (bs : Bodies) (cs : List Contract) (gones : List Initialised) (n : ℕ) (g : FunctionGoals) : Type 0 where
   pub body : Body
-  pub is_body : slice_get bs n ≡ Some body
+  pub is_body : slice_get bs.bodies n ≡ Some body
   pub contract : Contract
   pub is_contract : slice_get cs n ≡ Some contract
   pub goals : AreGoalsOf cs body contract (gone_of gones n) g
 
 -- the first functions have these goals, in order
-abbrev pub HaveGoals : List Body → List Contract → List Initialised → List FunctionGoals → Type 0
+abbrev pub HaveGoals : Bodies → List Contract → List Initialised → List FunctionGoals → Type 0
 HaveGoals bs cs gones gs = (n : ℕ) (g : FunctionGoals) → slice_get gs n ≡ Some g → HasGoals bs cs gones n g
 
 -- ---- paths
 
 -- each body has at most so many paths
-abbrev pub HaveFewPaths : List Body → Type 0
-HaveFewPaths bs = (n : ℕ) (b : Body) → slice_get bs n ≡ Some b → (m : ℕ) × HasPaths b [] b.entry m × (m ≤ most_paths)
+abbrev pub HaveFewPaths : Bodies → Type 0
+HaveFewPaths bs = (n : ℕ) (b : Body) → slice_get bs.bodies n ≡ Some b → (m : ℕ) × HasPaths b [] b.entry m × (m ≤ most_paths)
 
 -- some body has more
-pub record HasManyPaths (bs : List Body) : Type 0 where
+pub record HasManyPaths (bs : Bodies) : Type 0 where
   pub place : ℕ
   pub body : Body
-  pub is_body : slice_get bs place ≡ Some body
+  pub is_body : slice_get bs.bodies place ≡ Some body
   pub more : HasMorePaths body [] body.entry (most_paths + 1)
 
 -- ---- accepted sources
@@ -102,10 +103,10 @@ pub record IsPrepared (source : List ℕ) (p : Program) : Type 0 where
   pub typed : TypedProgram
   pub is_typed : IsTypedAs source p.names typed
   pub gones : List Initialised
-  pub lowers : LowerTo p.names typed.functions p.bodies.bodies p.contracts gones
-  pub blocks : HaveFewBlocks p.bodies.bodies
-  pub paths : HaveFewPaths p.bodies.bodies
-  pub goals : HaveGoals p.bodies.bodies p.contracts gones p.functions
+  pub lowers : LowerTo p.names typed.functions p.bodies p.contracts gones
+  pub blocks : HaveFewBlocks p.bodies
+  pub paths : HaveFewPaths p.bodies
+  pub goals : HaveGoals p.bodies p.contracts gones p.functions
   pub as_many : length p.functions ≡ length p.bodies.bodies
   pub few : length (obligations_in p.functions) ≤ most_obligations
 
@@ -121,9 +122,9 @@ pub data IsPastLimit (source : List ℕ) : Limit → Type 0 where
   bytes : most_bytes < length source → IsPastLimit source (record { kind = SourceBytes; counted = length source; bound = most_bytes })
   functions : {limit : Limit} → IsSourceError [] source (errors.Limit limit) → IsPastLimit source limit
   blocks : {table : List (List ℕ)} {typed : TypedProgram} → IsTypedAs source table typed → HasMoreBlocks typed most_blocks → IsPastLimit source (record { kind = Blocks; counted = most_blocks + 1; bound = most_blocks })
-  paths : {table : List (List ℕ)} {typed : TypedProgram} {bs : List Body} {cs : List Contract} {gones : List Initialised} → IsTypedAs source table typed → LowerTo table typed.functions bs cs gones → HaveFewBlocks bs → HasManyPaths bs
+  paths : {table : List (List ℕ)} {typed : TypedProgram} {bs : Bodies} {cs : List Contract} {gones : List Initialised} → IsTypedAs source table typed → LowerTo table typed.functions bs cs gones → HaveFewBlocks bs → HasManyPaths bs
       → IsPastLimit source (record { kind = Paths; counted = most_paths + 1; bound = most_paths })
-  obligations : {table : List (List ℕ)} {typed : TypedProgram} {bs : List Body} {cs : List Contract} {gones : List Initialised} (gs : List FunctionGoals) → IsTypedAs source table typed → LowerTo table typed.functions bs cs gones
+  obligations : {table : List (List ℕ)} {typed : TypedProgram} {bs : Bodies} {cs : List Contract} {gones : List Initialised} (gs : List FunctionGoals) → IsTypedAs source table typed → LowerTo table typed.functions bs cs gones
       → HaveFewBlocks bs → HaveFewPaths bs → HaveGoals bs cs gones gs → most_obligations < length (obligations_in gs) → IsPastLimit source (record { kind = Obligations; counted = most_obligations + 1; bound = most_obligations })
 
 -- why a source has no program

@@ -18,6 +18,7 @@ use Rattle.mir_machine.specs.Good.{Each}
 use Rattle.proof_kernel.specs.Derivation.{IsProof}
 use Rattle.verify_core.specs.declared.goals.FunctionGoals.{FunctionGoals}
 use Rattle.prophecy_sim.specs.Programs.{Reaches}
+use Rattle.mir_ir.specs.declared.body.Bodies.{Bodies}
 
 -- ---- one proof
 
@@ -78,7 +79,7 @@ abbrev pub IsProved : List Proof → FunctionGoals → Type 0
 IsProved ps g = Each (HasDerivation ps) g.obligations
 
 -- all that function f may reach is proved
-abbrev pub IsVerified : List Proof → List Body → List FunctionGoals → ℕ → Type 0
+abbrev pub IsVerified : List Proof → Bodies → List FunctionGoals → ℕ → Type 0
 IsVerified ps bodies goals f = (m : ℕ) (g : FunctionGoals) → Reaches bodies f m → slice_get goals m ≡ Some g → IsProved ps g
 
 -- the flag says whether the fact holds
@@ -90,12 +91,12 @@ abbrev pub obligations_in : List FunctionGoals → List Obligation
 obligations_in goals = flat_map (λ g. g.obligations) goals
 
 -- the line of each function says its name, and whether it is verified
-pub record AreLines (ps : List Proof) (bodies : List Body) (goals : List FunctionGoals) (lines : List FnLine) : Type 0 where
+pub record AreLines (ps : List Proof) (bodies : Bodies) (goals : List FunctionGoals) (lines : List FnLine) : Type 0 where
   pub names : map (λ l. l.name) lines ≡ map (λ g. g.name) goals
   pub told : (f : ℕ) (line : FnLine) → slice_get lines f ≡ Some line → Tells line.verified (IsVerified ps bodies goals f)
 
 -- the verdict on the functions of a program, whose goals and bodies stand in one order
-pub record IsVerdict (ps : List Proof) (bodies : List Body) (goals : List FunctionGoals) (v : Verdict) : Type 0 where
+pub record IsVerdict (ps : List Proof) (bodies : Bodies) (goals : List FunctionGoals) (v : Verdict) : Type 0 where
   pub judged : Judges ps (obligations_in goals) v.left v.proved
   pub counted : v.obligations ≡ length (obligations_in goals)
   pub lines : AreLines ps bodies goals v.functions

@@ -12,7 +12,7 @@ use crate::fault::Refusal;
 use crate::goals::FunctionGoals;
 use crate::program::Program;
 use mir_build::{Lowered, lower};
-use mir_ir::Body;
+use mir_ir::Bodies;
 use std::alloc::Global;
 use text_core::{Items, Limit, LimitKind, Names, NoMemory};
 use type_check::{TypedProgram, check};
@@ -34,12 +34,12 @@ fn typed_source(alloc: Global, source: &[u8], names: &mut Names) -> Result<Typed
 }
 
 /// That no body has more than 1,024 paths.
-fn check_all_paths(bodies: &[Body]) -> Result<(), Limit>
+fn check_all_paths(bodies: &Bodies) -> Result<(), Limit>
     requires { AreLaidOut bodies.now }
     ensures ok { OnOk result (HaveFewPaths bodies.now) }
     ensures err { IfErr result (IsPathsError bodies.now) }
 {
-    for body in bodies {
+    for body in bodies.bodies.as_slice() {
         check_paths(body)?;
     }
     Ok(())
@@ -87,7 +87,7 @@ fn function_goals(alloc: Global, lowered: &Lowered, place: usize) -> Result<Func
     requires contracts { place < length lowered.now.contracts }
     requires gone { place < length lowered.now.gone }
     requires walk { CanWalkAt lowered.now place }
-    ensures { IfOk result (HasGoals lowered.now.bodies.bodies lowered.now.contracts lowered.now.gone place) }
+    ensures { IfOk result (HasGoals lowered.now.bodies lowered.now.contracts lowered.now.gone place) }
 {
     let walk = walk_of(lowered, place);
     let obligations = counted_obligations(alloc, &walk, 1)?;
@@ -128,7 +128,7 @@ pub fn prepare(alloc: Global, source: &[u8]) -> Result<Program, Refusal>
     let mut names = Names::new(alloc);
     let typed = typed_source(alloc, source, &mut names)?;
     let lowered = lower(alloc, &typed, &names)?;
-    check_all_paths(lowered.bodies.bodies.as_slice())?;
+    check_all_paths(&lowered.bodies)?;
     check_obligations(&lowered)?;
     let functions = all_goals(alloc, &lowered)?;
     let Lowered {

@@ -7,7 +7,7 @@ use crate::goals::FunctionGoals;
 use crate::judge::judge;
 use crate::reach::settled_flags;
 use crate::table::ProofTable;
-use mir_ir::Body;
+use mir_ir::Bodies;
 use proof_text::Proof;
 use report_out::{FnLine, Verdict};
 use std::alloc::Global;
@@ -37,10 +37,10 @@ fn lines_of(
 pub fn verdict_on(
     alloc: Global,
     functions: &[FunctionGoals],
-    bodies: &[Body],
+    bodies: &Bodies,
     proofs: &[Proof],
 ) -> Result<Verdict, NoMemory>
-    requires { length functions.now ≡ length bodies.now }
+    requires { length functions.now ≡ length bodies.now.bodies }
     ensures { IfOk result (IsVerdict proofs.now bodies.now functions.now) }
 {
     let table = ProofTable::new(alloc, proofs)?;

@@ -47,7 +47,6 @@ pub fn verify(alloc: Global, source: &[u8], proofs: &[u8]) -> Result<Verdict, Re
     let program = prepare(alloc, source)?;
     let file = proofs_of(alloc, proofs)?;
     let functions = program.functions.as_slice();
-    let bodies = program.bodies.bodies.as_slice();
-    let verdict = verdict_on(alloc, functions, bodies, file.proofs.as_slice())?;
+    let verdict = verdict_on(alloc, functions, &program.bodies, file.proofs.as_slice())?;
     Ok(verdict)
 }

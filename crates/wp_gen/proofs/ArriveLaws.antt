@@ -5,6 +5,7 @@ use Rattle.std.specs.Prelude.{slice_get}
 use Rattle.logic_term.specs.declared.kinds.Label.{Label}
 use Rattle.mir_ir.specs.declared.terminator.TerminatorKind.{TerminatorKind}
 use Rattle.mir_ir.specs.declared.terminator.TerminatorKind.TheVariants.{Goto, If, Call}
+use Rattle.logic_term.specs.Ty.{Ty}
 use Rattle.mir_ir.specs.declared.terminator.Callee.{Callee}
 use Rattle.mir_ir.specs.declared.place.Operand.{Operand}
 use Rattle.mir_ir.specs.declared.place.Place.{Place}
@@ -195,5 +196,5 @@ if_names_yes kind o l m e = ap (λ k. among l (targets k)) e ∙ among_here l (m
 pub if_names_no : (kind : TerminatorKind) (o : Operand) (l m : Label) → kind ≡ If o l m → among m (targets kind) ≡ true
 if_names_no kind o l m e = ap (λ k. among m (targets k)) e ∙ among_second l m
 
-pub call_names : (kind : TerminatorKind) (p : Place) (c : Callee) (args : List Operand) (l : Label) → kind ≡ Call p c args l → among l (targets kind) ≡ true
-call_names kind p c args l e = ap (λ k. among l (targets k)) e ∙ among_here l []
+pub call_names : (kind : TerminatorKind) (p : Place) (c : Callee) (types : List Ty) (args : List Operand) (l : Label) → kind ≡ Call p c types args l → among l (targets kind) ≡ true
+call_names kind p c types args l e = ap (λ k. among l (targets k)) e ∙ among_here l []

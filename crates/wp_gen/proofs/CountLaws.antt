@@ -1,5 +1,5 @@
 -- Laws of the number of goals.
-use Rattle.std.proofs.Common.{◌≡◌, ◌∙◌, ◌⊎◌, inl, inr, refl, sym, ap, subst, ℕ, suc, ◌+◌, true, false, true≢false, List, [], ◌∷◌, ◌++◌, length, length-append, map, drop, get_or, Option, Some, None, slice_get, arith}
+use Rattle.std.proofs.Common.{◌≡◌, ◌∙◌, ◌⊎◌, inl, inr, refl, sym, ap, subst, ℕ, suc, ◌+◌, true, false, true≢false, List, [], ◌∷◌, ◌++◌, length, length-append, map, drop, Option, Some, None, arith}
 use Rattle.std.proofs.lemmas.List.{length-map}
 use Rattle.text_core.specs.declared.refusal.Kind.{Kind}
 use Rattle.text_core.specs.declared.refusal.Kind.TheVariants.{InvEntry, InvKept, Ensures}
@@ -8,11 +8,12 @@ use Rattle.logic_term.specs.declared.kinds.Label.{Label}
 use Rattle.logic_term.specs.declared.obligation.Contract.{Contract}
 use Rattle.logic_term.specs.declared.obligation.Obligation.{Obligation}
 use Rattle.logic_term.specs.Term.{Term}
+use Rattle.logic_term.specs.Ty.{Ty}
 use Rattle.mir_ir.specs.declared.place.Operand.{Operand}
 use Rattle.mir_ir.specs.declared.place.Place.{Place}
 use Rattle.mir_ir.specs.declared.statement.Statement.{Statement}
-use Rattle.mir_ir.specs.declared.terminator.Callee.TheVariants.{Function}
-use Rattle.mir_ir.specs.declared.terminator.FnId.TheVariants.{Body as OfBody}
+use Rattle.mir_ir.specs.declared.terminator.Callee.{Callee}
+use Rattle.mir_ir.specs.Callees.{contract_at}
 use Rattle.mir_ir.specs.declared.terminator.Terminator.{Terminator}
 use Rattle.mir_ir.specs.declared.terminator.TerminatorKind.{TerminatorKind}
 use Rattle.mir_ir.specs.declared.terminator.TerminatorKind.TheVariants.{Goto, If, Call, Return}
@@ -27,8 +28,7 @@ use Rattle.wp_gen.specs.Count.{IsRoomLeft, LeavesRoom, goals_within, goals_of_he
 use Rattle.wp_gen.specs.Paths.{passed, MayStand}
 use Rattle.wp_gen.specs.Row.{goals_of, commands_of}
 use Rattle.wp_gen.specs.Walk.{Setting, Walks, Arrives, statement, goto, branch, call, return, plain, first, again, numbered, seen_before, each_goal, goals_at_return, goals_of_call, call_commands, at_answer, at_arguments, goal_before, head_commands, where_true, where_false}
-use Rattle.wp_gen.specs.Walkable.{CanWalk}
-use Rattle.wp_gen.proofs.ArriveLaws.{either, read_there}
+use Rattle.wp_gen.proofs.ArriveLaws.{either}
 use Rattle.wp_gen.proofs.PathLaws.{IsEnteredAt, enters_later, enters_entry}
 
 some_same : {A : Type 0} {a b : A} → Some a ≡ Some b → a ≡ b
@@ -72,14 +72,14 @@ through_statements {w} (statement {st = st} {sts = sts} {gs = gs} rest) =
     (r.0, r.1, after_goals (goals_of w.body st.span st.kind) (commands_of w.body st.kind) gs ∙ omega (arith, r.2))
 through_statements (goto l e a) = (_, goto l e a, omega arith)
 through_statements (branch o on_true on_false e a b) = (_, branch o on_true on_false e a b, omega arith)
-through_statements (call p f args l d t e is_d is_t a) = (_, call p f args l d t e is_d is_t a, omega arith)
+through_statements (call p callee types args l d t e is_d is_t a) = (_, call p callee types args l d t e is_d is_t a, omega arith)
 through_statements (return e) = (_, return e, omega arith)
 
 -- what a block's end has
 abbrev EndHas : Setting → List Label → TerminatorKind → ℕ → Type 0
 EndHas w heads (Goto l) m = (gs : List Goal) × (n : ℕ) × Arrives w heads l gs n × (m ≡ length gs)
 EndHas w heads (If o on_true on_false) m = (gs : List Goal) × (n : ℕ) × Arrives w heads on_true gs n × (hs : List Goal) × (i : ℕ) × Arrives w heads on_false hs i × (m ≡ length gs + length hs)
-EndHas w heads (Call p c args l) m = (gs : List Goal) × (n : ℕ) × Arrives w heads l gs n × (f : ℕ) × (d : Contract) × (c ≡ Function (OfBody f)) × (slice_get w.contracts f ≡ Some d) × (m ≡ length d.pre + length gs)
+EndHas w heads (Call p callee types args l) m = (gs : List Goal) × (n : ℕ) × Arrives w heads l gs n × (d : Contract) × (contract_at w.contracts callee ≡ Some d) × (m ≡ length d.pre + length gs)
 EndHas w heads Return m = m ≡ length (goals_at_return w.body w.contract)
 
 at_end : {w : Setting} {heads : List Label} {end : Terminator} {gs : List Goal} {n : ℕ} → Walks w heads [] end gs n → EndHas w heads end.kind (length gs)
@@ -87,9 +87,9 @@ at_end {w} {heads} {end} {gs} (goto {n = n} l e a) = subst (λ k. EndHas w heads
 at_end {w} {heads} {end} {gs} (branch {gs = one} {hs = other} {n = n} {m = m} o on_true on_false e a b) =
     subst (λ k. EndHas w heads k (length gs)) (sym e)
     (one, n, a, other, m, b, after_goals (seen_before (where_true w.body o) one) (where_false w.body o) other ∙ ap (λ i. i + length other) (length-map one (goal_before (where_true w.body o))))
-at_end {w} {heads} {end} {gs} (call {gs = after} {n = n} p f args l d t e is_d is_t a) =
+at_end {w} {heads} {end} {gs} (call {gs = after} {n = n} p callee types args l d t e is_d is_t a) =
     subst (λ k. EndHas w heads k (length gs)) (sym e)
-    (after, n, a, f, d, refl, is_d, after_goals (goals_of_call w.body d end.span args) (call_commands w.body d p.local t args) after ∙ ap (λ i. i + length after) (requires_goals w.body d end.span args))
+    (after, n, a, d, is_d, after_goals (goals_of_call w.body d end.span args) (call_commands w.body d p.local t args) after ∙ ap (λ i. i + length after) (requires_goals w.body d end.span args))
   where
     requires_goals : (b : Body) (c : Contract) (at : Span) (os : List Operand) → length (goals_of_call b c at os) ≡ length c.pre
     requires_goals b c at os = length-map (map (at_arguments b c os) c.pre) _ ∙ length-map c.pre _
@@ -133,37 +133,25 @@ module _ (w : Setting) (l : Label) (k : Block) where
       let h = kind_is heads m (If o on_true on_false) e has in
       same_room left (length h.0 + length h.3) m None (sym h.6) (none_left left (length h.0) (length h.3) (one h.0 (heads, k, h.1, may, h.2)))
 
-  -- the callee's contract is the one that was found
-  callee_is : (f g : ℕ) (d d' : Contract) → Function (OfBody f) ≡ Function (OfBody g) → slice_get w.contracts f ≡ Some d → slice_get w.contracts g ≡ Some d' → d ≡ d'
-  callee_is f g d d' e is is' =
-      let n : f ≡ g = cc in
-      some_same (sym is ∙ ap (slice_get w.contracts) n ∙ is')
-
-  pub call_leaves : (p : Place) (f : ℕ) (args : List Operand) (next : Label) (d : Contract) (left after : ℕ) (r : Option ℕ) → k.end.kind ≡ Call p (Function (OfBody f)) args next → slice_get w.contracts f ≡ Some d → IsRoomLeft left (length d.pre) (Some after) → LeavesRoom (AreAlong w l next) after r
+  pub call_leaves : (p : Place) (callee : Callee) (types : List Ty) (args : List Operand) (next : Label) (d : Contract) (left after : ℕ) (r : Option ℕ)
+      → k.end.kind ≡ Call p callee types args next → contract_at w.contracts callee ≡ Some d → IsRoomLeft left (length d.pre) (Some after) → LeavesRoom (AreAlong w l next) after r
       → (heads : List Label) (m : ℕ) → MayStand w.body heads l k → EndHas w heads k.end.kind m → IsRoomLeft left m r
-  call_leaves p f args next d left after r e is goals leaves heads m may has =
-      let h = kind_is heads m (Call p (Function (OfBody f)) args next) e has in
-      let same : d ≡ h.4 = callee_is f h.3 d h.4 h.5 is h.6 in
-      same_room left (length d.pre + length h.0) m r (ap (λ (c : Contract). length c.pre + length h.0) same ∙ sym h.7)
+  call_leaves p callee types args next d left after r e is goals leaves heads m may has =
+      let h = kind_is heads m (Call p callee types args next) e has in
+      let same : d ≡ h.3 = some_same (sym is ∙ h.4) in
+      same_room left (length d.pre + length h.0) m r (ap (λ (c : Contract). length c.pre + length h.0) same ∙ sym h.5)
       (both_left left (length d.pre) (length h.0) after r goals (leaves h.0 (heads, k, h.1, may, h.2)))
 
-  pub call_is_full : (p : Place) (f : ℕ) (args : List Operand) (next : Label) (d : Contract) (left : ℕ) → k.end.kind ≡ Call p (Function (OfBody f)) args next → slice_get w.contracts f ≡ Some d → IsRoomLeft left (length d.pre) None
+  pub call_is_full : (p : Place) (callee : Callee) (types : List Ty) (args : List Operand) (next : Label) (d : Contract) (left : ℕ) → k.end.kind ≡ Call p callee types args next → contract_at w.contracts callee ≡ Some d → IsRoomLeft left (length d.pre) None
       → (heads : List Label) (m : ℕ) → MayStand w.body heads l k → EndHas w heads k.end.kind m → IsRoomLeft left m None
-  call_is_full p f args next d left e is goals heads m may has =
-      let h = kind_is heads m (Call p (Function (OfBody f)) args next) e has in
-      let same : d ≡ h.4 = callee_is f h.3 d h.4 h.5 is h.6 in
-      same_room left (length d.pre + length h.0) m None (ap (λ (c : Contract). length c.pre + length h.0) same ∙ sym h.7) (none_left left (length d.pre) (length h.0) goals)
+  call_is_full p callee types args next d left e is goals heads m may has =
+      let h = kind_is heads m (Call p callee types args next) e has in
+      let same : d ≡ h.3 = some_same (sym is ∙ h.4) in
+      same_room left (length d.pre + length h.0) m None (ap (λ (c : Contract). length c.pre + length h.0) same ∙ sym h.5) (none_left left (length d.pre) (length h.0) goals)
 
   pub return_leaves : (left : ℕ) (r : Option ℕ) → k.end.kind ≡ Return → IsRoomLeft left (length (goals_at_return w.body w.contract)) r → (heads : List Label) (m : ℕ) → MayStand w.body heads l k → EndHas w heads k.end.kind m → IsRoomLeft left m r
   return_leaves left r e goals heads m may has =
       same_room left (length (goals_at_return w.body w.contract)) m r (sym (kind_is heads m Return e has)) goals
-
--- the contract that is read for a call
-pub contract_read : (w : Setting) (l : Label) (k : Block) (p : Place) (f : ℕ) (args : List Operand) (next : Label) (d : Contract) → CanWalk w → block_in w.body.blocks l ≡ Some k → k.end.kind ≡ Call p (Function (OfBody f)) args next
-    → slice_get w.contracts f ≡ Some (get_or w.contracts f d)
-contract_read w l k p f args next d can is ends =
-    let known = can.calls l k p f args next is ends in
-    read_there w.contracts f known.callee.0 d known.callee.1
 
 -- ---- arrivals
 

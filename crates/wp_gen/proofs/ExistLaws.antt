@@ -2,8 +2,6 @@
 use Rattle.std.proofs.Common.{◌≡◌, inl, inr, refl, ap, ℕ, zero, suc, ◌+◌, ◌*◌, ◌<◌, ◌≤◌, true, false, cond, List, [], ◌∷◌, Option, Some, None, arith}
 use Rattle.logic_term.specs.declared.kinds.Label.{Label}
 use Rattle.mir_ir.specs.declared.statement.Statement.{Statement}
-use Rattle.mir_ir.specs.declared.terminator.Callee.TheVariants.{Function}
-use Rattle.mir_ir.specs.declared.terminator.FnId.TheVariants.{Body as OfBody}
 use Rattle.mir_ir.specs.declared.terminator.Terminator.{Terminator}
 use Rattle.mir_ir.specs.declared.terminator.TerminatorKind.{TerminatorKind}
 use Rattle.mir_ir.specs.declared.terminator.TerminatorKind.TheVariants.{Goto, If, Call, Return}
@@ -39,10 +37,10 @@ end_has_walk w heads l k can may nearer = by_kind k.end.kind refl
         let a = to on_true (if_names_yes k.end.kind o on_true on_false e) in
         let b = to on_false (if_names_no k.end.kind o on_true on_false e) in
         (_, a.1 + b.1, branch o on_true on_false e a.2 b.2)
-    by_kind (Call p (Function (OfBody f)) args m) e =
-        let a = to m (call_names k.end.kind p (Function (OfBody f)) args m e) in
-        let known = can.calls l k p f args m may.is_block e in
-        (_, a.1, call p f args m known.callee.0 known.answer.0 e known.callee.1 known.answer.1 a.2)
+    by_kind (Call p callee types args m) e =
+        let a = to m (call_names k.end.kind p callee types args m e) in
+        let known = can.calls l k p callee types args m may.is_block e in
+        (_, a.1, call p callee types args m known.contract.0 known.answer.0 e known.contract.1 known.answer.1 a.2)
     by_kind Return e = (_, 1, return e)
 
 -- an arrival has a walk, if each arrival that is nearer than so many has one

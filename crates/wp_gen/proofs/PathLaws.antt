@@ -4,6 +4,7 @@ use Rattle.logic_term.specs.declared.kinds.Label.{Label}
 use Rattle.mir_ir.specs.declared.place.Operand.{Operand}
 use Rattle.mir_ir.specs.declared.place.Place.{Place}
 use Rattle.mir_ir.specs.declared.statement.Statement.{Statement}
+use Rattle.logic_term.specs.Ty.{Ty}
 use Rattle.mir_ir.specs.declared.terminator.Callee.{Callee}
 use Rattle.mir_ir.specs.declared.terminator.Terminator.{Terminator}
 use Rattle.mir_ir.specs.declared.terminator.TerminatorKind.{TerminatorKind}
@@ -29,7 +30,7 @@ may_stop (stopped e) = absurd (true≢false (sym e))
 may_stop (again k h is is_head there) = again k h is is_head there
 may_stop (return k is entered e) = return k is entered e
 may_stop (goto k m is entered e p) = goto k m is entered e (may_stop p)
-may_stop (call k q c args m is entered e p) = call k q c args m is entered e (may_stop p)
+may_stop (call k q c types args m is entered e p) = call k q c types args m is entered e (may_stop p)
 may_stop (branch k o on_true on_false is entered e p q) = branch k o on_true on_false is entered e (may_stop p) (may_stop q)
 
 -- a block that is entered, by its end
@@ -39,7 +40,7 @@ enters early b heads l k n is entered p = by_kind k.end.kind refl p
     by_kind : (kind : TerminatorKind) → k.end.kind ≡ kind → EndPaths early b (passed k.head l heads) kind n → Paths early b heads l n
     by_kind (Goto m) e q = goto k m is entered e q
     by_kind (If o on_true on_false) e (i, j, q, r, s) = subst (Paths early b heads l) (sym s) (branch k o on_true on_false is entered e q r)
-    by_kind (Call pl c args m) e q = call k pl c args m is entered e q
+    by_kind (Call pl c types args m) e q = call k pl c types args m is entered e q
     by_kind Return e q = subst (Paths early b heads l) (sym q) (return k is entered e)
 
 -- ---- counts agree
@@ -54,7 +55,7 @@ passed_once (stopped e) k h is is_head there = absurd (true≢false (sym e))
 passed_once (again k' h' is' is_head' there') k h is is_head there = refl
 passed_once {heads = heads} {l = l} (return k' is' entered e) k h is is_head there = absurd (not_both k k' h l heads _ is is' is_head there entered)
 passed_once {heads = heads} {l = l} (goto k' m is' entered e p) k h is is_head there = absurd (not_both k k' h l heads _ is is' is_head there entered)
-passed_once {heads = heads} {l = l} (call k' q c args m is' entered e p) k h is is_head there = absurd (not_both k k' h l heads _ is is' is_head there entered)
+passed_once {heads = heads} {l = l} (call k' q c types args m is' entered e p) k h is is_head there = absurd (not_both k k' h l heads _ is is' is_head there entered)
 passed_once {heads = heads} {l = l} (branch k' o on_true on_false is' entered e p q) k h is is_head there = absurd (not_both k k' h l heads _ is is' is_head there entered)
 
 -- what follows in a block that is entered
@@ -68,7 +69,7 @@ follows {b} {heads} {l} (return k' is' entered' e) k is entered =
     ends_of b heads l k k' 1 is is' (subst (λ kind. EndPaths false b (passed k'.head l heads) kind 1) (sym e) refl)
 follows {b} {heads} {l} {n} (goto k' m is' entered' e p) k is entered =
     ends_of b heads l k k' n is is' (subst (λ kind. EndPaths false b (passed k'.head l heads) kind n) (sym e) p)
-follows {b} {heads} {l} {n} (call k' q c args m is' entered' e p) k is entered =
+follows {b} {heads} {l} {n} (call k' q c types args m is' entered' e p) k is entered =
     ends_of b heads l k k' n is is' (subst (λ kind. EndPaths false b (passed k'.head l heads) kind n) (sym e) p)
 follows {b} {heads} {l} (branch {n = i} {n' = j} k' o on_true on_false is' entered' e p q) k is entered =
     ends_of b heads l k k' (i + j) is is' (subst (λ kind. EndPaths false b (passed k'.head l heads) kind (i + j)) (sym e) (i, j, p, q, refl))
@@ -81,7 +82,7 @@ at_most (stopped e) q = omega arith
 at_most (again k h is is_head there) q = omega (arith, passed_once q k h is is_head there)
 at_most {b} {heads} {l} {m} (return k is entered e) q = omega (arith, subst (λ kind. EndPaths false b (passed k.head l heads) kind m) e (follows q k is entered))
 at_most {b} {heads} {l} {m} (goto k t is entered e p) q = at_most p (subst (λ kind. EndPaths false b (passed k.head l heads) kind m) e (follows q k is entered))
-at_most {b} {heads} {l} {m} (call k pl c args t is entered e p) q = at_most p (subst (λ kind. EndPaths false b (passed k.head l heads) kind m) e (follows q k is entered))
+at_most {b} {heads} {l} {m} (call k pl c types args t is entered e p) q = at_most p (subst (λ kind. EndPaths false b (passed k.head l heads) kind m) e (follows q k is entered))
 at_most {b} {heads} {l} {m} (branch {n = i} {n' = j} k o on_true on_false is entered e p p') q =
     let f = subst (λ kind. EndPaths false b (passed k.head l heads) kind m) e (follows q k is entered) in
     sums i j m f.0 f.1 (at_most p f.2) (at_most p' f.3) f.4
@@ -96,7 +97,7 @@ mutual
   walk_counted (walk.statement rest) = walk_counted rest
   walk_counted {w} {heads} {n = n} (walk.goto l e arrives) = subst (λ kind. EndPaths false w.body heads kind n) (sym e) (arrival_counted arrives)
   walk_counted {w} {heads} (walk.branch {n = i} {m = j} o on_true on_false e one other) = subst (λ kind. EndPaths false w.body heads kind (i + j)) (sym e) (i, j, arrival_counted one, arrival_counted other, refl)
-  walk_counted {w} {heads} {n = n} (walk.call p f args l d t e is_d is_t arrives) = subst (λ kind. EndPaths false w.body heads kind n) (sym e) (arrival_counted arrives)
+  walk_counted {w} {heads} {n = n} (walk.call p callee types args l d t e is_d is_t arrives) = subst (λ kind. EndPaths false w.body heads kind n) (sym e) (arrival_counted arrives)
   walk_counted {w} {heads} (walk.return e) = subst (λ kind. EndPaths false w.body heads kind 1) (sym e) refl
 
   arrival_counted : {w : Setting} {heads : List Label} {l : Label} {gs : List Goal} {n : ℕ} → Arrives w heads l gs n → Paths false w.body heads l n
@@ -233,8 +234,8 @@ ends_count b l k kind early n is is_kind p heads k' may =
 pub goto_counts : (b : Body) (l : Label) (k : Block) (m : Label) → block_in b.blocks l ≡ Some k → k.end.kind ≡ Goto m → (early : Bool) (n : ℕ) → CountsAlong b l m early n → CountsFrom b l early n
 goto_counts b l k m is is_kind early n counts = ends_count b l k (Goto m) early n is is_kind (λ heads may. counts heads k may)
 
-pub call_counts : (b : Body) (l : Label) (k : Block) (p : Place) (c : Callee) (args : List Operand) (m : Label) → block_in b.blocks l ≡ Some k → k.end.kind ≡ Call p c args m → (early : Bool) (n : ℕ) → CountsAlong b l m early n → CountsFrom b l early n
-call_counts b l k p c args m is is_kind early n counts = ends_count b l k (Call p c args m) early n is is_kind (λ heads may. counts heads k may)
+pub call_counts : (b : Body) (l : Label) (k : Block) (p : Place) (c : Callee) (types : List Ty) (args : List Operand) (m : Label) → block_in b.blocks l ≡ Some k → k.end.kind ≡ Call p c types args m → (early : Bool) (n : ℕ) → CountsAlong b l m early n → CountsFrom b l early n
+call_counts b l k p c types args m is is_kind early n counts = ends_count b l k (Call p c types args m) early n is is_kind (λ heads may. counts heads k may)
 
 pub return_counts : (b : Body) (l : Label) (k : Block) → block_in b.blocks l ≡ Some k → k.end.kind ≡ Return → (early : Bool) (n : ℕ) → n ≡ 1 → CountsFrom b l early n
 return_counts b l k is is_kind early n one = ends_count b l k Return early n is is_kind (λ heads may. one)

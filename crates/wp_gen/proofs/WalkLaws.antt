@@ -7,13 +7,11 @@ use Rattle.logic_term.specs.declared.kinds.Label.{Label}
 use Rattle.logic_term.specs.declared.obligation.Obligation.{Obligation}
 use Rattle.logic_term.specs.Normal.{reduced}
 use Rattle.mir_ir.specs.declared.statement.Statement.{Statement}
+use Rattle.logic_term.specs.Ty.{Ty}
 use Rattle.mir_ir.specs.declared.place.Operand.{Operand}
 use Rattle.mir_ir.specs.declared.place.Place.{Place}
 use Rattle.mir_ir.specs.declared.terminator.Callee.{Callee}
-use Rattle.mir_ir.specs.declared.terminator.Callee.TheVariants.{Function}
-use Rattle.mir_ir.specs.declared.terminator.FnId.TheVariants.{Body as OfBody}
 use Rattle.mir_ir.specs.declared.terminator.Terminator.{Terminator}
-use Rattle.mir_ir.specs.declared.terminator.TerminatorKind.{TerminatorKind}
 use Rattle.mir_ir.specs.declared.terminator.TerminatorKind.TheVariants.{Goto, If, Call, Return}
 use Rattle.mir_ir.specs.declared.body.Block.{Block}
 use Rattle.mir_ir.specs.declared.body.Head.{Head}
@@ -97,18 +95,15 @@ branch_walks w heads end o l l' from true_side back false_side goals all is same
     second = subst (λ s. Adds s goals (seen_before (where_false w.body o) two.goals) all) same
         (subst (λ gs. Adds back.state gs (seen_before (where_false w.body o) two.goals) all) goals_are (over_then [] (where_false w.body o) back false_side two.goals all to_false two.adds))
 
-pub called : (kind : TerminatorKind) (p : Place) (c : Callee) (args : List Operand) (l : Label) (f : ℕ) → kind ≡ Call p c args l → c ≡ Function (OfBody f) → kind ≡ Call p (Function (OfBody f)) args l
-called kind p c args l f is e = is ∙ ap (λ d. Call p d args l) e
-
-pub call_walks : (w : Setting) (heads : List Label) (end : Terminator) (p : Place) (f : ℕ) (args args' : List Operand) (l : Label) (from to : Reached) (all : List Goal) → end.kind ≡ Call p (Function (OfBody f)) args l →
-    args' ≡ args → IsOverCall w end.span p f args' from to → ArrivesOn w heads l to all → WalksOn w heads [] end from all
-call_walks w heads end p f args args' l from to all is same over h =
-    let o : IsOverCall w end.span p f args from to = subst (λ xs. IsOverCall w end.span p f xs from to) same over in
+pub call_walks : (w : Setting) (heads : List Label) (end : Terminator) (p : Place) (callee : Callee) (types : List Ty) (args args' : List Operand) (l : Label) (from to : Reached) (all : List Goal) → end.kind ≡ Call p callee types args l →
+    args' ≡ args → IsOverCall w end.span p callee args' from to → ArrivesOn w heads l to all → WalksOn w heads [] end from all
+call_walks w heads end p callee types args args' l from to all is same over h =
+    let o : IsOverCall w end.span p callee args from to = subst (λ xs. IsOverCall w end.span p callee xs from to) same over in
     record {
-      goals = goals_of_call w.body o.callee end.span args ++ seen_before (call_commands w.body o.callee p.local o.answer args) h.goals;
+      goals = goals_of_call w.body o.contract end.span args ++ seen_before (call_commands w.body o.contract p.local o.answer args) h.goals;
       paths = h.paths;
-      walks = call p f args l o.callee o.answer is o.is_callee o.is_answer h.arrives;
-      adds = over_then (goals_of_call w.body o.callee end.span args) (call_commands w.body o.callee p.local o.answer args) from to h.goals all o.over h.adds;
+      walks = call p callee types args l o.contract o.answer is o.is_contract o.is_answer h.arrives;
+      adds = over_then (goals_of_call w.body o.contract end.span args) (call_commands w.body o.contract p.local o.answer args) from to h.goals all o.over h.adds;
     }
 
 pub return_walks : (w : Setting) (heads : List Label) (end : Terminator) (from : Reached) (all : List Goal) → end.kind ≡ Return →

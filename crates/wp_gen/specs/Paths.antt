@@ -2,6 +2,7 @@
 use Rattle.std.specs.Prelude.{◌≡◌, ℕ, ◌+◌, ◌≤◌, Bool, true, false, List, [], ◌∷◌, Option, Some, None}
 use Rattle.logic_term.specs.declared.kinds.Label.{Label}
 use Rattle.logic_term.specs.declared.obligation.Obligation.{Obligation}
+use Rattle.logic_term.specs.Ty.{Ty}
 use Rattle.mir_ir.specs.declared.place.Operand.{Operand}
 use Rattle.mir_ir.specs.declared.place.Place.{Place}
 use Rattle.mir_ir.specs.declared.terminator.Callee.{Callee}
@@ -32,7 +33,7 @@ pub data Paths (early : Bool) (b : Body) : List Label → Label → ℕ → Type
   again : {heads : List Label} {l : Label} (k : Block) (h : Head) → block_in b.blocks l ≡ Some k → k.head ≡ Some h → among l heads ≡ true → Paths early b heads l 1
   return : {heads : List Label} {l : Label} (k : Block) → block_in b.blocks l ≡ Some k → IsEntered k.head l heads → k.end.kind ≡ Return → Paths early b heads l 1
   goto : {heads : List Label} {l : Label} {n : ℕ} (k : Block) (m : Label) → block_in b.blocks l ≡ Some k → IsEntered k.head l heads → k.end.kind ≡ Goto m → Paths early b (passed k.head l heads) m n → Paths early b heads l n
-  call : {heads : List Label} {l : Label} {n : ℕ} (k : Block) (p : Place) (callee : Callee) (args : List Operand) (m : Label) → block_in b.blocks l ≡ Some k → IsEntered k.head l heads → k.end.kind ≡ Call p callee args m
+  call : {heads : List Label} {l : Label} {n : ℕ} (k : Block) (p : Place) (callee : Callee) (types : List Ty) (args : List Operand) (m : Label) → block_in b.blocks l ≡ Some k → IsEntered k.head l heads → k.end.kind ≡ Call p callee types args m
       → Paths early b (passed k.head l heads) m n → Paths early b heads l n
   branch : {heads : List Label} {l : Label} {n n' : ℕ} (k : Block) (o : Operand) (on_true on_false : Label) → block_in b.blocks l ≡ Some k → IsEntered k.head l heads → k.end.kind ≡ If o on_true on_false
       → Paths early b (passed k.head l heads) on_true n → Paths early b (passed k.head l heads) on_false n' → Paths early b heads l (n + n')
@@ -69,7 +70,7 @@ CountsAlong b l m early n = (heads : List Label) (k : Block) → MayStand b head
 abbrev pub EndPaths : Bool → Body → List Label → TerminatorKind → ℕ → Type 0
 EndPaths early b heads (Goto m) n = Paths early b heads m n
 EndPaths early b heads (If o on_true on_false) n = (i : ℕ) × (j : ℕ) × Paths early b heads on_true i × Paths early b heads on_false j × (n ≡ i + j)
-EndPaths early b heads (Call p callee args m) n = Paths early b heads m n
+EndPaths early b heads (Call p callee types args m) n = Paths early b heads m n
 EndPaths early b heads Return n = n ≡ 1
 
 abbrev pub CountsFrom : Body → Label → Bool → ℕ → Type 0

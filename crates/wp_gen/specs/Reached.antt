@@ -7,7 +7,9 @@ use Rattle.logic_term.specs.Ty.{Ty}
 use Rattle.mir_ir.specs.declared.place.Operand.{Operand}
 use Rattle.mir_ir.specs.declared.place.Place.{Place}
 use Rattle.mir_ir.specs.declared.statement.Statement.{Statement}
+use Rattle.mir_ir.specs.declared.terminator.Callee.{Callee}
 use Rattle.mir_ir.specs.declared.terminator.Terminator.{Terminator}
+use Rattle.mir_ir.specs.Callees.{contract_at}
 use Rattle.wp_gen.specs.declared.command.Command.{Command}
 use Rattle.wp_gen.specs.declared.goal.Goal.{Goal}
 use Rattle.wp_gen.specs.declared.reached.Reached.{Reached}
@@ -38,12 +40,12 @@ pub record Passes (w : Setting) (sts rest : List Statement) (from to : Reached) 
   pub walks : (heads : List Label) (end : Terminator) (all : List Goal) → WalksOn w heads rest end to all → WalksOn w heads sts end from all
 
 -- over a call
-pub record IsOverCall (w : Setting) (at : Span) (p : Place) (f : ℕ) (args : List Operand) (from to : Reached) : Type 0 where
-  pub callee : Contract
-  pub is_callee : slice_get w.contracts f ≡ Some callee
+pub record IsOverCall (w : Setting) (at : Span) (p : Place) (callee : Callee) (args : List Operand) (from to : Reached) : Type 0 where
+  pub contract : Contract
+  pub is_contract : contract_at w.contracts callee ≡ Some contract
   pub answer : Ty
   pub is_answer : slice_get w.body.locals p.local ≡ Some answer
-  pub over : IsOver (goals_of_call w.body callee at args) (call_commands w.body callee p.local answer args) from to
+  pub over : IsOver (goals_of_call w.body contract at args) (call_commands w.body contract p.local answer args) from to
 
 -- the goals of the body with its contract, in normal form
 pub record AreMet (w : Setting) (all : List Goal) : Type 0 where

@@ -19,8 +19,7 @@ use Rattle.mir_ir.specs.declared.place.Operand.TheVariants.{Move}
 use Rattle.mir_ir.specs.declared.statement.Rvalue.{Rvalue}
 use Rattle.mir_ir.specs.declared.statement.Rvalue.TheVariants.{Use, Binary, Neg, Not, Make}
 use Rattle.mir_ir.specs.declared.place.Place.{Place}
-use Rattle.mir_ir.specs.declared.terminator.FnId.TheVariants.{Body as OfBody}
-use Rattle.mir_ir.specs.declared.terminator.Callee.TheVariants.{Function}
+use Rattle.mir_ir.specs.declared.terminator.Callee.{Callee}
 use Rattle.logic_term.specs.declared.obligation.Obligation.{Obligation}
 use Rattle.logic_term.specs.Normal.{reduced}
 use Rattle.mir_ir.specs.declared.statement.Statement.{Statement}
@@ -34,6 +33,7 @@ use Rattle.mir_ir.specs.declared.body.Body.{Body}
 use Rattle.mir_ir.specs.declared.body.Head.{Head}
 use Rattle.mir_ir.specs.declared.body.Initialised.{Initialised}
 use Rattle.mir_ir.specs.Body.{block_in}
+use Rattle.mir_ir.specs.Callees.{contract_at}
 use Rattle.mir_ir.specs.Layout.{among}
 use Rattle.wp_gen.specs.declared.command.Command.{Command}
 use Rattle.wp_gen.specs.declared.command.Command.TheVariants.{Set, Fresh, Assume}
@@ -105,7 +105,7 @@ writes x (Assign p r) = p.local == x || rvalue_moves x r
 writes x (Dead y) = false
 
 abbrev pub end_writes : ℕ → TerminatorKind → Bool
-end_writes x (Call p callee args l) = p.local == x || list_any (moves x) args
+end_writes x (Call p callee types args l) = p.local == x || list_any (moves x) args
 end_writes x (If o on_true on_false) = moves x o
 end_writes x _ = false
 
@@ -184,8 +184,8 @@ mutual
     goto : {heads : List Label} {end : Terminator} {gs : List Goal} {n : ℕ} (l : Label) → end.kind ≡ Goto l → Arrives w heads l gs n → Walks w heads [] end gs n
     branch : {heads : List Label} {end : Terminator} {gs hs : List Goal} {n m : ℕ} (o : Operand) (yes no : Label) → end.kind ≡ If o yes no → Arrives w heads yes gs n → Arrives w heads no hs m
         → Walks w heads [] end (seen_before (where_true w.body o) gs ++ seen_before (where_false w.body o) hs) (n + m)
-    call : {heads : List Label} {end : Terminator} {gs : List Goal} {n : ℕ} (p : Place) (f : ℕ) (args : List Operand) (l : Label) (d : Contract) (t : Ty)
-        → end.kind ≡ Call p (Function (OfBody f)) args l → slice_get w.contracts f ≡ Some d → slice_get w.body.locals p.local ≡ Some t → Arrives w heads l gs n
+    call : {heads : List Label} {end : Terminator} {gs : List Goal} {n : ℕ} (p : Place) (callee : Callee) (types : List Ty) (args : List Operand) (l : Label) (d : Contract) (t : Ty)
+        → end.kind ≡ Call p callee types args l → contract_at w.contracts callee ≡ Some d → slice_get w.body.locals p.local ≡ Some t → Arrives w heads l gs n
         → Walks w heads [] end (goals_of_call w.body d end.span args ++ seen_before (call_commands w.body d p.local t args) gs) n
     return : {heads : List Label} {end : Terminator} → end.kind ≡ Return → Walks w heads [] end (goals_at_return w.body w.contract) 1
 

@@ -1,16 +1,16 @@
 -- Bodies that can be walked, and what the walk looks up.
-use Rattle.std.specs.Prelude.{◌≡◌, ℕ, true, false, List, Some, slice_get}
+use Rattle.std.specs.Prelude.{◌≡◌, true, false, List, Some, slice_get}
 use Rattle.logic_term.specs.declared.kinds.Label.{Label}
 use Rattle.logic_term.specs.declared.obligation.Contract.{Contract}
 use Rattle.logic_term.specs.Ty.{Ty}
 use Rattle.mir_ir.specs.declared.place.Operand.{Operand}
 use Rattle.mir_ir.specs.declared.place.Place.{Place}
-use Rattle.mir_ir.specs.declared.terminator.FnId.TheVariants.{Body as OfBody}
-use Rattle.mir_ir.specs.declared.terminator.Callee.TheVariants.{Function}
+use Rattle.mir_ir.specs.declared.terminator.Callee.{Callee}
 use Rattle.mir_ir.specs.declared.terminator.TerminatorKind.TheVariants.{Call}
 use Rattle.mir_ir.specs.declared.body.Block.{Block}
 use Rattle.mir_ir.specs.declared.body.Head.{Head}
 use Rattle.mir_ir.specs.Body.{block_in}
+use Rattle.mir_ir.specs.Callees.{contract_at}
 use Rattle.mir_ir.specs.Layout.{among, around, IsLaidOut}
 use Rattle.wp_gen.specs.declared.walk.Walk.{Walk}
 use Rattle.wp_gen.specs.Walk.{Setting}
@@ -19,13 +19,13 @@ abbrev pub setting : Walk → Setting
 setting w = record { body = w.body.now; contracts = w.contracts.now; contract = w.contract.now; init = w.init.now }
 
 -- the callee has a contract, and the place a type
-pub record IsKnown (w : Setting) (f : ℕ) (p : Place) : Type 0 where
-  pub callee : (d : Contract) × (slice_get w.contracts f ≡ Some d)
+pub record IsKnown (w : Setting) (callee : Callee) (p : Place) : Type 0 where
+  pub contract : (d : Contract) × (contract_at w.contracts callee ≡ Some d)
   pub answer : (t : Ty) × (slice_get w.body.locals p.local ≡ Some t)
 
 pub record CanWalk (w : Setting) : Type 0 where
   pub laid_out : IsLaidOut w.body
-  pub calls : (l : Label) (k : Block) (p : Place) (f : ℕ) (args : List Operand) (m : Label) → block_in w.body.blocks l ≡ Some k → k.end.kind ≡ Call p (Function (OfBody f)) args m → IsKnown w f p
+  pub calls : (l : Label) (k : Block) (p : Place) (callee : Callee) (types : List Ty) (args : List Operand) (m : Label) → block_in w.body.blocks l ≡ Some k → k.end.kind ≡ Call p callee types args m → IsKnown w callee p
 
 -- each of the first is one of the second
 abbrev pub AllAmong : List Label → List Label → Type 0

@@ -15,7 +15,7 @@ ghost use Rattle.wp_gen.specs.Walkable.{setting, CanWalk};
 use crate::goal::Operation;
 use crate::head::among;
 use crate::row::{is_signed, kind_of_local, operation};
-use crate::walk::{Walk, body_number};
+use crate::walk::{Walk, contract_at};
 use logic_term::{Contract, Label};
 use mir_ir::{Block, Body, Head, Rvalue, Statement, StatementKind, TerminatorKind};
 use source_kinds::IntKind;
@@ -129,9 +129,9 @@ fn from_block(walk: &Walk<'_>, label: Label, room: u32) -> Option<u32>
             let left = along(walk, label, block, *yes, left)?;
             along(walk, label, block, *no, left)
         }
-        TerminatorKind::Call(_, callee, _, next) => {
-            let callee = &walk.contracts[body_number(*callee) as usize];
-            let left = after(left, callee.pre.len())?;
+        TerminatorKind::Call(_, callee, _, _, next) => {
+            let contract = contract_at(walk.contracts, *callee);
+            let left = after(left, contract.pre.len())?;
             along(walk, label, block, *next, left)
         }
         TerminatorKind::Return => after(left, count_of_return(walk.contract)),

@@ -69,7 +69,7 @@ fn end_writes(x: u32, end: &TerminatorKind) -> bool
     ensures { result ≡ end_writes x end.now }
 {
     match end {
-        TerminatorKind::Call(place, _, args, _) => {
+        TerminatorKind::Call(place, _, _, args, _) => {
             place.local == x || any_moves(x, args.as_slice())
         }
         TerminatorKind::Goto(_) => false,

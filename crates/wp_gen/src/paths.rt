@@ -51,7 +51,7 @@ fn from_block(body: &Body, label: Label, room: u32) -> Option<u32>
             let second = along(body, label, block, *no, room - first)?;
             Some(first + second)
         }
-        TerminatorKind::Call(_, _, _, next) => along(body, label, block, *next, room),
+        TerminatorKind::Call(_, _, _, _, next) => along(body, label, block, *next, room),
         TerminatorKind::Return => one_path(room),
     }
 }

@@ -12,9 +12,9 @@ use crate::goal::Goal;
 use crate::row::{goals_of, operand_term};
 use crate::state::State;
 use crate::step::commands_of;
-use crate::walk::Walk;
+use crate::walk::{Walk, contract_at};
 use logic_term::Term;
-use mir_ir::{Body, Operand, Place, Statement};
+use mir_ir::{Body, Callee, Operand, Place, Statement};
 use std::alloc::Global;
 use text_core::{NoMemory, Span};
 
@@ -121,22 +121,22 @@ pub(crate) fn to_false_side(
 
 // ---- calls
 
-/// Over a call of the function.
+/// Over a call.
 pub(crate) fn over_call(
     alloc: Global,
     walk: &Walk<'_>,
     span: Span,
     place: &Place,
-    function: u32,
+    callee: Callee,
     args: &[Operand],
     reached: Reached,
 ) -> Result<Reached, NoMemory>
-    requires { IsKnown (setting walk.now) function place.now }
-    ensures { IfOk result (IsOverCall (setting walk.now) span place.now function args.now reached) }
+    requires { IsKnown (setting walk.now) callee place.now }
+    ensures { IfOk result (IsOverCall (setting walk.now) span place.now callee args.now reached) }
 {
-    let callee = &walk.contracts[function as usize];
+    let contract = contract_at(walk.contracts, callee);
     let ty = &walk.body.locals.as_slice()[place.local as usize];
-    let owed = goals_of_call(alloc, walk.body, callee, span, args)?;
-    let commands = call_commands(alloc, walk.body, callee, place.local, ty, args)?;
+    let owed = goals_of_call(alloc, walk.body, contract, span, args)?;
+    let commands = call_commands(alloc, walk.body, contract, place.local, ty, args)?;
     over(alloc, reached, owed.as_slice(), commands.as_slice())
 }

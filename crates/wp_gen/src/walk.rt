@@ -1,7 +1,9 @@
 //! The walk of a body's paths.
 ghost use Rattle.std.specs.Prelude.{◌≡◌, ◌∷◌, [], false, drop, map, Some, IfOk};
 ghost use Rattle.text_core.specs.declared.refusal.Kind.TheVariants.{InvEntry, InvKept};
+ghost use Rattle.logic_term.specs.declared.obligation.Contract.{Contract as ContractValue};
 ghost use Rattle.mir_ir.specs.Body.{block_in};
+ghost use Rattle.mir_ir.specs.Callees.{contract_at};
 ghost use Rattle.mir_ir.specs.Layout.{among};
 ghost use Rattle.wp_gen.specs.Walk.{at_answer, goals_at_return, each_goal, head_commands};
 ghost use Rattle.wp_gen.specs.Walkable.{setting, CanWalk, MayArrive, MayWalk};
@@ -111,12 +113,13 @@ fn with_label(alloc: Global, first: Label, rest: &[Label]) -> Result<Vec<Label>,
     Ok(all)
 }
 
-/// The number of the body that is called.
-pub(crate) fn body_number(callee: Callee) -> u32
-    ensures { callee ≡ Callee.Function (FnId.Body result) }
+/// The contract by which a call is reasoned about.
+pub(crate) fn contract_at(contracts: &[Contract], callee: Callee) -> &Contract
+    requires { (c : ContractValue) × (contract_at contracts.now callee ≡ Some c) }
+    ensures { contract_at contracts.now callee ≡ Some result.now }
 {
     let Callee::Function(FnId::Body(number)) = callee;
-    number
+    &contracts[number as usize]
 }
 
 /// The goals from a block's end on, behind those that were met.
@@ -143,10 +146,9 @@ fn end_goals(
             let false_side = to_false_side(alloc, walk.body, operand, back)?;
             arrive(alloc, walk, heads, *no, false_side)
         }
-        TerminatorKind::Call(place, callee, args, next) => {
-            let function = body_number(*callee);
+        TerminatorKind::Call(place, callee, _, args, next) => {
             let args = args.as_slice();
-            let after = over_call(alloc, walk, block.end.span, place, function, args, reached)?;
+            let after = over_call(alloc, walk, block.end.span, place, *callee, args, reached)?;
             arrive(alloc, walk, heads, *next, after)
         }
         TerminatorKind::Return => at_return(alloc, walk, reached),

@@ -94,11 +94,10 @@ fn reported(
 ) -> Result<Plan, NoMemory>
     requires short { length source.now ≤ 2 ^ 20 }
     requires as_many { length program.now.functions ≡ length program.now.bodies.bodies }
-    ensures { IfOk result (λ p. (v : VerdictValue) × IsVerdict proofs.now program.now.bodies.bodies program.now.functions v × (p.status ≡ status_of v) × (p.bytes.items ≡ report_of source.now v)) }
+    ensures { IfOk result (λ p. (v : VerdictValue) × IsVerdict proofs.now program.now.bodies program.now.functions v × (p.status ≡ status_of v) × (p.bytes.items ≡ report_of source.now v)) }
 {
     let functions = program.functions.as_slice();
-    let bodies = program.bodies.bodies.as_slice();
-    let verdict = verdict_on(alloc, functions, bodies, proofs)?;
+    let verdict = verdict_on(alloc, functions, &program.bodies, proofs)?;
     let status = if verdict.left.is_empty() { 0 } else { 1 };
     let bytes = report(alloc, &verdict, source)?;
     Ok(Plan { status, bytes })

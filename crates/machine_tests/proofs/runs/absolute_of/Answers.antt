@@ -10,4 +10,4 @@ start-requires-clause-sound c = subst AreSound (sym c.in_ok-bodies.ensures) prog
 pub start-requires-clause-takes_one : goal.start-requires-clause-takes_one
 start-requires-clause-takes_one c =
     let is_x : c.integer.result ≡ Int c.args.x = search rules in
-    program_takes c.in_ok-bodies.bodies.bodies c.args.f c.integer.result c.args.x c.in_ok-bodies.ensures c.requires is_x (fits_i32 c.args.x c.ranges.x)
+    program_takes c.in_ok-bodies.bodies c.args.f c.integer.result c.args.x c.in_ok-bodies.ensures c.requires is_x (fits_i32 c.args.x c.ranges.x)

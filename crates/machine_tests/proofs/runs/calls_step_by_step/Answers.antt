@@ -7,4 +7,4 @@ pub start-requires-clause-sound : goal.start-requires-clause-sound
 start-requires-clause-sound g c = subst AreSound (sym c.in_ok-bodies.ensures) program_sound
 
 pub start-requires-clause-takes_one : goal.start-requires-clause-takes_one
-start-requires-clause-takes_one g c = program_takes c.in_ok-bodies.bodies.bodies 1 c.integer.result _ c.in_ok-bodies.ensures (omega arith) c.integer.ensures refl
+start-requires-clause-takes_one g c = program_takes c.in_ok-bodies.bodies 1 c.integer.result _ c.in_ok-bodies.ensures (omega arith) c.integer.ensures refl

@@ -10,10 +10,10 @@ pub start-requires-clause-sound : goal.start-requires-clause-sound
 start-requires-clause-sound c =
     let n_fits : fits c.args.kind c.args.n ≡ true = search rules in
     let n_wide : FitsSigned w128 c.args.n = search rules in
-    binary_samples c.in_ok-bodies.bodies.bodies _ _ c.copied.result c.args.kind c.args.op c.args.n (simp to_z-of_z at c.in_ok-bodies.ensures) c.operation_ty.ensures c.int.ensures c.copied.ensures n_fits
+    binary_samples c.in_ok-bodies.bodies _ _ c.copied.result c.args.kind c.args.op c.args.n (simp to_z-of_z at c.in_ok-bodies.ensures) c.operation_ty.ensures c.int.ensures c.copied.ensures n_fits
 
 pub start-requires-clause-takes_one : goal.start-requires-clause-takes_one
 start-requires-clause-takes_one c =
     let x_fits : fits c.args.kind c.args.x ≡ true = search rules in
     let is_x : c.integer.result ≡ Int c.args.x = search rules in
-    sample_takes c.in_ok-bodies.bodies.bodies _ _ _ c.integer.result c.args.kind c.args.x c.in_ok-bodies.ensures c.int.ensures is_x x_fits
+    sample_takes c.in_ok-bodies.bodies _ _ _ c.integer.result c.args.kind c.args.x c.in_ok-bodies.ensures c.int.ensures is_x x_fits

@@ -18,11 +18,12 @@ loop-f-preserved c =
     let f = c.f-item.result in
     let within : i < length fs = omega (arith, c.loop-f-test.true, ap length c.as_slice-f-items.ensures) in
     let is : f ≡ get_or fs i f = cc in
+    let number : c.in_ok-body.body.id ≡ 0 + length c.loop-f.bodies = search rules in
     let more : take (i + 1) fs ≡ take i fs ++ f ∷ [] = take_more fs i f within ∙ ap (λ x. take i fs ++ x ∷ []) (sym is) in
     record {
       lowered = λ w.
           let fits = fits_at (signatures fs) fs i f w is within in
-          let step = then_lower _ _ _ _ _ f c.in_ok-body.body c.in_ok-body.own _ (c.loop-f.invariant.lowered w) c.in_ok-body.ensures.named (c.in_ok-body.ensures.lowered (signatures fs) fits) in
+          let step = then_lower _ 0 _ _ _ _ f c.in_ok-body.body c.in_ok-body.own _ (c.loop-f.invariant.lowered w) c.in_ok-body.ensures.named (c.in_ok-body.ensures.lowered (signatures fs) fits) number in
           rw (more, c.in_ok-push.ensures.ok, c.in_ok-push-2.ensures.ok, c.in_ok-contract_of.ensures, c.in_ok-push-3.ensures.ok) step;
       few = rw c.in_ok-push.ensures.ok (All-push (λ (b : Body). length b.blocks ≤ 4096) c.loop-f.bodies c.in_ok-body.body c.loop-f.invariant.few c.in_ok-body.ensures.few);
     }

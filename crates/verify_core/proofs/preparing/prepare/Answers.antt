@@ -14,13 +14,13 @@ returns-in_err-lowered-clause-refused c =
 
 pub check_all_paths-requires : goal.check_all_paths-requires
 check_all_paths-requires c =
-    rw c.as_slice.ensures (laid_out c.typed_source.new.names c.in_ok-typed.typed c.in_ok-lowered.lowered (c.in_ok-lowered.ensures.lowered c.in_ok-typed.ensures.fits) c.in_ok-typed.ensures.fits)
+    laid_out c.typed_source.new.names c.in_ok-typed.typed c.in_ok-lowered.lowered (c.in_ok-lowered.ensures.lowered c.in_ok-typed.ensures.fits) c.in_ok-typed.ensures.fits
 
 pub returns-in_err-check_all_paths-clause-refused : goal.returns-in_err-check_all_paths-clause-refused
 returns-in_err-check_all_paths-clause-refused c =
     let p = err_from_is_err_and c.from_residual-in_err-check_all_paths.result c.from_residual-in_err-check_all_paths.ensures.1 in
     rw (p.1, p.2) (paths_refused c.args.source.now c.typed_source.new.names c.in_ok-typed.typed c.in_ok-lowered.lowered _ c.in_ok-typed.ensures.ok (c.in_ok-lowered.ensures.lowered c.in_ok-typed.ensures.fits) c.in_ok-lowered.ensures.few
-    (rw c.as_slice.ensures at c.in_err-check_all_paths.ensures.err))
+    c.in_err-check_all_paths.ensures.err)
 
 pub check_obligations-requires : goal.check_obligations-requires
 check_obligations-requires c = walkable c.typed_source.new.names c.in_ok-typed.typed c.in_ok-lowered.lowered (c.in_ok-lowered.ensures.lowered c.in_ok-typed.ensures.fits) c.in_ok-typed.ensures.fits
@@ -29,7 +29,7 @@ pub returns-in_err-check_obligations-clause-refused : goal.returns-in_err-check_
 returns-in_err-check_obligations-clause-refused c =
     let p = err_from_is_err_and c.from_residual-in_err-check_obligations.result c.from_residual-in_err-check_obligations.ensures.1 in
     rw (p.1, p.2) (obligations_refused c.args.source.now c.typed_source.new.names c.in_ok-typed.typed c.in_ok-lowered.lowered _ c.in_ok-typed.ensures.ok (c.in_ok-lowered.ensures.lowered
-    c.in_ok-typed.ensures.fits) c.in_ok-lowered.ensures.few (rw c.as_slice.ensures at c.in_ok-check_all_paths.ensures.ok) c.in_err-check_obligations.ensures.err)
+    c.in_ok-typed.ensures.fits) c.in_ok-lowered.ensures.few c.in_ok-check_all_paths.ensures.ok c.in_err-check_obligations.ensures.err)
 
 pub all_goals-requires : goal.all_goals-requires
 all_goals-requires c = walkable c.typed_source.new.names c.in_ok-typed.typed c.in_ok-lowered.lowered (c.in_ok-lowered.ensures.lowered c.in_ok-typed.ensures.fits) c.in_ok-typed.ensures.fits
@@ -41,7 +41,7 @@ returns-clause-ok c = record {
   gones = c.in_ok-lowered.lowered.gone;
   lowers = c.in_ok-lowered.ensures.lowered c.in_ok-typed.ensures.fits;
   blocks = c.in_ok-lowered.ensures.few;
-  paths = rw c.as_slice.ensures at c.in_ok-check_all_paths.ensures.ok;
+  paths = c.in_ok-check_all_paths.ensures.ok;
   goals = c.in_ok-functions.ensures.goals;
   as_many = c.in_ok-functions.ensures.as_many;
   few = c.in_ok-check_obligations.ensures.ok c.in_ok-functions.functions c.in_ok-functions.ensures;

@@ -5,7 +5,7 @@ use Rattle.verify_core.proofs.reach.settled_flags.Given as goal
 abbrev pub invariant-loop : goal.invariant-loop
 invariant-loop l = record {
   justified : AreJustified l.bodies l.fn.proved.items l.flags.items;
-  as_many : length l.flags.items ≡ length l.bodies;
+  as_many : length l.flags.items ≡ length l.bodies.bodies;
 }
 
 abbrev pub decreases-loop : goal.decreases-loop

@@ -19,7 +19,7 @@ returns-clause-ok c =
     let program = c.in_ok-program.program in
     let file = c.in_ok-file.file in
     let verdict = c.in_ok-verdict.verdict in
-    let is : IsVerdict file.proofs program.bodies.bodies program.functions verdict = rw (c.as_slice.ensures, c.as_slice-bodies.ensures, c.as_slice-functions.ensures) at c.in_ok-verdict.ensures in
+    let is : IsVerdict file.proofs program.bodies program.functions verdict = rw (c.as_slice.ensures, c.as_slice-functions.ensures) at c.in_ok-verdict.ensures in
     record {
       program = program;
       prepared = c.in_ok-program.ensures.ok;

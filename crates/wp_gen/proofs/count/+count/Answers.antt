@@ -1,12 +1,10 @@
-use Rattle.std.proofs.Common.{◌∙◌, sym, ap, subst, Some, None, get_or, arith}
-use Rattle.std.proofs.lemmas.Option.{slice_get_within}
+use Rattle.std.proofs.Common.{◌∙◌, sym, ap, subst, Some, None, arith}
 use Rattle.mir_ir.specs.Layout.{among}
 use Rattle.wp_gen.specs.Count.{IsRoomLeft, goals_within}
 use Rattle.wp_gen.specs.Walkable.{setting}
 use Rattle.wp_gen.proofs.ArriveLaws.{goto_names, if_names_yes, if_names_no, call_names}
-use Rattle.wp_gen.proofs.CountLaws.{back_leaves, arrival_is_full, on_leaves, from_here, statements_are_many, goto_leaves, branch_leaves, branch_is_full, call_leaves, call_is_full, return_leaves, contract_read, same_room}
+use Rattle.wp_gen.proofs.CountLaws.{back_leaves, arrival_is_full, on_leaves, from_here, statements_are_many, goto_leaves, branch_leaves, branch_is_full, call_leaves, call_is_full, return_leaves, same_room}
 use Rattle.wp_gen.proofs.PathLaws.{next_block, has_room}
-use Rattle.wp_gen.proofs.WalkLaws.{called}
 use Rattle.wp_gen.proofs.count.+count.Goals as goal
 
 pub along-returns-in_err-left : goal.along-returns-in_err-left
@@ -58,26 +56,19 @@ from_block-along-requires-in-If-2 t c =
     let below = has_room c.args.walk.now.body.now c.args.label c.in-Some.block.now (sym c.in-Some.ensures) in
     (omega (arith, below, c.decreases), (c.requires.can, (sym c.in-Some.ensures, if_names_no c.in-Some.block.now.end.kind c.in-If.field-0 c.in-If.yes c.in-If.no c.in-If.is)))
 
-pub from_block-bounds-walk-body_number : goal.from_block-bounds-walk-body_number
-from_block-bounds-walk-body_number t c =
-    let known = c.requires.can.calls c.args.label c.in-Some.block.now c.in-Call.field-0 c.body_number.result c.in-Call.field-2 c.in-Call.next (sym c.in-Some.ensures)
-    (called c.in-Some.block.now.end.kind c.in-Call.field-0 c.in-Call.callee c.in-Call.field-2 c.in-Call.next c.body_number.result c.in-Call.is c.body_number.ensures) in
-    slice_get_within c.args.walk.now.contracts.now c.body_number.result known.callee.0 known.callee.1
-
 pub from_block-returns-in_err-left-in-Call : goal.from_block-returns-in_err-left-in-Call
 from_block-returns-in_err-left-in-Call t c =
-    let is_call = called c.in-Some.block.now.end.kind c.in-Call.field-0 c.in-Call.callee c.in-Call.field-2 c.in-Call.next c.body_number.result c.in-Call.is c.body_number.ensures in
     rw c.from_residual-in_err-left-in-Call.ensures
     (from_here (setting c.args.walk.now) c.args.label c.in-Some.block.now c.args.room c.in_ok-left.left None (sym c.in-Some.ensures)
     (subst (λ sts. IsRoomLeft c.args.room (goals_within c.args.walk.now.body.now sts) (Some c.in_ok-left.left)) c.as_slice.ensures c.in_ok-left.ensures)
-    (call_is_full (setting c.args.walk.now) c.args.label c.in-Some.block.now c.in-Call.field-0 c.body_number.result c.in-Call.field-2 c.in-Call.next (get_or c.args.walk.now.contracts.now c.body_number.result c.index-walk-body_number.result) c.in_ok-left.left is_call
-    (contract_read (setting c.args.walk.now) c.args.label c.in-Some.block.now c.in-Call.field-0 c.body_number.result c.in-Call.field-2 c.in-Call.next c.index-walk-body_number.result c.requires.can (sym c.in-Some.ensures) is_call)
+    (call_is_full (setting c.args.walk.now) c.args.label c.in-Some.block.now c.in-Call.field-0 c.in-Call.callee c.in-Call.field-2 c.in-Call.field-3 c.in-Call.next c.contract_at-contract.result.now c.in_ok-left.left c.in-Call.is
+    c.contract_at-contract.ensures
     (same_room c.in_ok-left.left _ _ None c.len.ensures c.in_err-left-in-Call.ensures)))
 
 pub from_block-along-requires-in-Call : goal.from_block-along-requires-in-Call
 from_block-along-requires-in-Call t c =
     let below = has_room c.args.walk.now.body.now c.args.label c.in-Some.block.now (sym c.in-Some.ensures) in
-    (omega (arith, below, c.decreases), (c.requires.can, (sym c.in-Some.ensures, call_names c.in-Some.block.now.end.kind c.in-Call.field-0 c.in-Call.callee c.in-Call.field-2 c.in-Call.next c.in-Call.is)))
+    (omega (arith, below, c.decreases), (c.requires.can, (sym c.in-Some.ensures, call_names c.in-Some.block.now.end.kind c.in-Call.field-0 c.in-Call.callee c.in-Call.field-2 c.in-Call.field-3 c.in-Call.next c.in-Call.is)))
 
 pub from_block-returns-in-Goto : goal.from_block-returns-in-Goto
 from_block-returns-in-Goto t c =
@@ -93,12 +84,10 @@ from_block-returns-in_ok-left-in-If t c =
 
 pub from_block-returns-in_ok-left-in-Call : goal.from_block-returns-in_ok-left-in-Call
 from_block-returns-in_ok-left-in-Call t c =
-    let is_call = called c.in-Some.block.now.end.kind c.in-Call.field-0 c.in-Call.callee c.in-Call.field-2 c.in-Call.next c.body_number.result c.in-Call.is c.body_number.ensures in
     from_here (setting c.args.walk.now) c.args.label c.in-Some.block.now c.args.room c.in_ok-left.left c.along-in-Call.result (sym c.in-Some.ensures)
     (subst (λ sts. IsRoomLeft c.args.room (goals_within c.args.walk.now.body.now sts) (Some c.in_ok-left.left)) c.as_slice.ensures c.in_ok-left.ensures)
-    (call_leaves (setting c.args.walk.now) c.args.label c.in-Some.block.now c.in-Call.field-0 c.body_number.result c.in-Call.field-2 c.in-Call.next (get_or
-    c.args.walk.now.contracts.now c.body_number.result c.index-walk-body_number.result) c.in_ok-left.left c.in_ok-left-in-Call.left c.along-in-Call.result is_call
-    (contract_read (setting c.args.walk.now) c.args.label c.in-Some.block.now c.in-Call.field-0 c.body_number.result c.in-Call.field-2 c.in-Call.next c.index-walk-body_number.result c.requires.can (sym c.in-Some.ensures) is_call)
+    (call_leaves (setting c.args.walk.now) c.args.label c.in-Some.block.now c.in-Call.field-0 c.in-Call.callee c.in-Call.field-2 c.in-Call.field-3 c.in-Call.next c.contract_at-contract.result.now c.in_ok-left.left c.in_ok-left-in-Call.left c.along-in-Call.result c.in-Call.is
+    c.contract_at-contract.ensures
     (same_room c.in_ok-left.left _ _ (Some c.in_ok-left-in-Call.left) c.len.ensures c.in_ok-left-in-Call.ensures) c.along-in-Call.ensures)
 
 pub from_block-returns-in-Return : goal.from_block-returns-in-Return

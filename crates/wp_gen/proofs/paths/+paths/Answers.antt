@@ -42,7 +42,7 @@ from_block-along-requires-in-If-2 t c =
 pub from_block-along-requires-in-Call : goal.from_block-along-requires-in-Call
 from_block-along-requires-in-Call t c =
     let below = has_room c.args.body.now c.args.label c.in-Some.block.now (sym c.in-Some.ensures) in
-    (omega (arith, below, c.decreases), (c.requires.laid_out, (sym c.in-Some.ensures, call_names c.in-Some.block.now.end.kind c.in-Call.field-0 c.in-Call.field-1 c.in-Call.field-2 c.in-Call.next c.in-Call.is)))
+    (omega (arith, below, c.decreases), (c.requires.laid_out, (sym c.in-Some.ensures, call_names c.in-Some.block.now.end.kind c.in-Call.field-0 c.in-Call.field-1 c.in-Call.field-2 c.in-Call.field-3 c.in-Call.next c.in-Call.is)))
 
 pub from_block-returns-in-Goto : goal.from_block-returns-in-Goto
 from_block-returns-in-Goto t c =
@@ -69,7 +69,7 @@ from_block-returns-in_ok-second-in-If t c = (
 pub from_block-returns-in-Call : goal.from_block-returns-in-Call
 from_block-returns-in-Call t c =
     count_map c.args.room c.along-in-Call.result
-    (call_counts c.args.body.now c.args.label c.in-Some.block.now c.in-Call.field-0 c.in-Call.field-1 c.in-Call.field-2 c.in-Call.next (sym c.in-Some.ensures) c.in-Call.is) c.along-in-Call.ensures
+    (call_counts c.args.body.now c.args.label c.in-Some.block.now c.in-Call.field-0 c.in-Call.field-1 c.in-Call.field-2 c.in-Call.field-3 c.in-Call.next (sym c.in-Some.ensures) c.in-Call.is) c.along-in-Call.ensures
 
 pub from_block-returns-in-Return : goal.from_block-returns-in-Return
 from_block-returns-in-Return t c =

@@ -2,7 +2,7 @@ use Rattle.std.proofs.Common.{◌∙◌, sym, refl, arith}
 use Rattle.std.proofs.lemmas.Result.{IfOk-weaker}
 use Rattle.wp_gen.specs.Walkable.{setting}
 use Rattle.wp_gen.proofs.ArriveLaws.{next_arrival, goto_names, if_names_yes, if_names_no, call_names}
-use Rattle.wp_gen.proofs.WalkLaws.{goto_walks, branch_walks, called, call_walks, first_arrives, return_walks, again_arrives, plain_arrives, enter_plain}
+use Rattle.wp_gen.proofs.WalkLaws.{goto_walks, branch_walks, call_walks, first_arrives, return_walks, again_arrives, plain_arrives, enter_plain}
 use Rattle.wp_gen.proofs.walk.+walk.Goals as goal
 
 pub end_goals-arrive-requires : goal.end_goals-arrive-requires
@@ -22,13 +22,12 @@ end_goals-arrive-requires-in-If-2 t c =
 
 pub end_goals-arrive-requires-in-Call : goal.end_goals-arrive-requires-in-Call
 end_goals-arrive-requires-in-Call t c =
-    let n = next_arrival (setting c.args.walk.now) c.args.heads.now c.args.label c.args.block.now c.in-Call.next c.requires.can c.requires.here (call_names c.args.block.now.end.kind c.in-Call.place c.in-Call.callee c.in-Call.args c.in-Call.next c.in-Call.is) in
+    let n = next_arrival (setting c.args.walk.now) c.args.heads.now c.args.label c.args.block.now c.in-Call.next c.requires.can c.requires.here (call_names c.args.block.now.end.kind c.in-Call.place c.in-Call.callee c.in-Call.field-2 c.in-Call.args c.in-Call.next c.in-Call.is) in
     (omega (arith, n.1, c.decreases), (c.requires.can, n.0))
 
 pub end_goals-over_call-requires : goal.end_goals-over_call-requires
 end_goals-over_call-requires t c =
-    c.requires.can.calls c.args.label c.args.block.now c.in-Call.place c.body_number-function.result c.in-Call.args c.in-Call.next c.requires.here.is_block
-    (called c.args.block.now.end.kind c.in-Call.place c.in-Call.callee c.in-Call.args c.in-Call.next c.body_number-function.result c.in-Call.is c.body_number-function.ensures)
+    c.requires.can.calls c.args.label c.args.block.now c.in-Call.place c.in-Call.callee c.in-Call.field-2 c.in-Call.args c.in-Call.next c.requires.here.is_block c.in-Call.is
 
 pub end_goals-returns-in-Goto : goal.end_goals-returns-in-Goto
 end_goals-returns-in-Goto t c =
@@ -65,9 +64,9 @@ end_goals-returns-in_ok-false_side-in-If t c =
 pub end_goals-returns-in_ok-after-in-Call : goal.end_goals-returns-in_ok-after-in-Call
 end_goals-returns-in_ok-after-in-Call t c =
     IfOk-weaker c.arrive-in-Call.result _ _
-    (λ v h. call_walks (setting c.args.walk.now) c.args.heads.now c.args.block.now.end c.in-Call.place c.body_number-function.result c.in-Call.args _ c.in-Call.next
+    (λ v h. call_walks (setting c.args.walk.now) c.args.heads.now c.args.block.now.end c.in-Call.place c.in-Call.callee c.in-Call.field-2 c.in-Call.args _ c.in-Call.next
     c.args.reached c.in_ok-after-in-Call.after v.items
-    (called c.args.block.now.end.kind c.in-Call.place c.in-Call.callee c.in-Call.args c.in-Call.next c.body_number-function.result c.in-Call.is c.body_number-function.ensures)
+    c.in-Call.is
     c.as_slice-args.ensures c.in_ok-after-in-Call.ensures h)
     c.arrive-in-Call.ensures
 

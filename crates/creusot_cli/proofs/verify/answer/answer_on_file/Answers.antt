@@ -10,7 +10,7 @@ use Rattle.creusot_cli.proofs.verify.answer.answer_on_file.Goals as goal
 
 pub returns-in-Ok : goal.returns-in-Ok
 returns-in-Ok c =
-    if_ok (λ (p : Plan). (v : Verdict) × IsVerdict c.as_slice.result.now c.args.program.now.bodies.bodies c.args.program.now.functions v × (p.status ≡ status_of v) × (p.bytes.items ≡ report_of c.args.source.now v))
+    if_ok (λ (p : Plan). (v : Verdict) × IsVerdict c.as_slice.result.now c.args.program.now.bodies c.args.program.now.functions v × (p.status ≡ status_of v) × (p.bytes.items ≡ report_of c.args.source.now v))
     (λ (p : Plan). AnswersProofs c.args.source.now c.args.program.now (Some (whole c.args.bytes.now)) p.status p.bytes.items) c.reported.result
     (reported_answers c.args.source.now c.args.program.now (Some (whole c.args.bytes.now)) c.as_slice.result.now
     (given_proofs c.args.bytes.now c.in-Ok.file c.as_slice.result.now c.requires.within c.in-Ok.ensures.ok c.as_slice.ensures)) c.reported.ensures

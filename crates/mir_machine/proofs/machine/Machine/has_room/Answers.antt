@@ -12,13 +12,13 @@ returns-then-not-is_full-clause-ok g c =
     let m = c.self.inside in
     let running : IsRunning (outcome_at m.state m.status) = rw (← c.self.view_is) at c.requires in
     rw (← c.self.view_is)
-    (has_room m.bodies.now.bodies m.state m.status c.self.invariant running (λ full. let none = c.if-not-is_full.ensures.1 full in grind arith))
+    (has_room m.bodies.now m.state m.status c.self.invariant running (λ full. let none = c.if-not-is_full.ensures.1 full in grind arith))
 
 pub returns-clause-limit : goal.returns-clause-limit
 returns-clause-limit g c =
     let m = c.self.inside in
     let running : IsRunning (outcome_at m.state m.status) = rw (← c.self.view_is) at c.requires in
-    let full : IsFull m.bodies.now.bodies m.state = search rules in
-    let deep = is_too_deep m.bodies.now.bodies m.state m.status c.self.invariant running full in
-    let counted : c.frame_count.result + 1 ≡ next_count (at m.bodies.now.bodies (outcome_at m.state m.status)) = omega (arith, deep.1, c.frame_count.ensures.count) in
+    let full : IsFull m.bodies.now m.state = search rules in
+    let deep = is_too_deep m.bodies.now m.state m.status c.self.invariant running full in
+    let counted : c.frame_count.result + 1 ≡ next_count (at m.bodies.now (outcome_at m.state m.status)) = omega (arith, deep.1, c.frame_count.ensures.count) in
     rw (← c.self.view_is) (deep.0, ap (λ n. record { kind = Frames; counted = n; bound = 10000 }) counted)
