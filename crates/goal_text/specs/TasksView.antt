@@ -1,5 +1,5 @@
 -- What is still to be printed, the next task first.
-use Rattle.std.specs.Prelude.{ℕ, ◌+◌, List, [], ◌∷◌, ◌++◌, codes, flat_map, map}
+use Rattle.std.specs.Prelude.{ℕ, ◌+◌, List, [], ◌∷◌, ◌++◌, codes, flat_map, map, reverse}
 use Rattle.text_core.specs.declared.name.Name.{Name}
 use Rattle.logic_term.specs.Term.{Term, Terms, var, lit, truth, apply, bind, no_terms, and_term}
 use Rattle.logic_term.specs.TermView.{terms_of}
@@ -30,6 +30,14 @@ left_text w bs (task.Text text ∷ ts) = text.now ++ left_text w bs ts
 left_text w bs (task.Others us ∷ ts) = after_commas (map (text_in w bs) us.now) ++ left_text w bs ts
 left_text w bs (task.OtherFields numbered fields us ∷ ts) = after_commas (labelled w numbered fields.now (map (text_in w bs) us.now)) ++ left_text w bs ts
 left_text w bs (task.Left ∷ ts) = left_text w (outer bs) ts
+
+-- the text so far with that of the tasks on a stack, of which the last is next
+abbrev pub all_text : Spelling → List ℕ → Around → List Task → List ℕ
+all_text w out bs ts = out ++ left_text w bs (reverse ts)
+
+-- the same with a text before that of the tasks
+abbrev pub with_text : Spelling → List ℕ → List ℕ → Around → List Task → List ℕ
+with_text w out text bs ts = out ++ (text ++ left_text w bs (reverse ts))
 
 -- how much there is to go over
 abbrev mutual

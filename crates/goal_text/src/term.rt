@@ -8,7 +8,7 @@ ghost use Rattle.goal_text.specs.Spelling.{Spelling as Words, labelled};
 ghost use Rattle.goal_text.specs.SpellingView.{spelling_of};
 ghost use Rattle.goal_text.specs.BoundView.{bounds_of};
 ghost use Rattle.goal_text.specs.GoalText.{applied_text, binder_text, fields_text, literal_text, made_text, number_in, text_in, text_of_goal, texts_in, truth_text};
-ghost use Rattle.goal_text.specs.TasksView.{Around, after_commas, left_text, left_load, load, loads};
+ghost use Rattle.goal_text.specs.TasksView.{Around, after_commas, all_text, left_load, load, loads, with_text};
 
 use crate::piece::{binary_bytes, push_numbered, push_text, tuple_end_bytes};
 use crate::sort::{push_sort, suffix_bytes};
@@ -161,7 +161,7 @@ fn print_term<'a>(
     bound: &mut Vec<Bound<'a>>,
     tasks: &mut Vec<Task<'a>>,
 ) -> Result<(), NoMemory>
-    ensures text { OnOk result (out.new.items ++ left_text (spelling_of spelling.now) (bounds_of bound.new.items) (reverse tasks.new.items) ≡ out.old.items ++ (text_in (spelling_of spelling.now) (bounds_of bound.old.items) term.now ++ left_text (spelling_of spelling.now) (bounds_of bound.old.items) (reverse tasks.old.items))) }
+    ensures text { OnOk result (all_text (spelling_of spelling.now) out.new.items (bounds_of bound.new.items) tasks.new.items ≡ with_text (spelling_of spelling.now) out.old.items (text_in (spelling_of spelling.now) (bounds_of bound.old.items) term.now) (bounds_of bound.old.items) tasks.old.items) }
     ensures less { OnOk result (left_load (reverse tasks.new.items) < load term.now + left_load (reverse tasks.old.items)) }
 {
     match term.form() {
@@ -187,7 +187,7 @@ fn print_unary<'a>(
     t: &'a Term,
     tasks: &mut Vec<Task<'a>>,
 ) -> Result<(), NoMemory>
-    ensures text { OnOk result ((w : Words) → (bs : Around) → out.new.items ++ left_text w bs (reverse tasks.new.items) ≡ out.old.items ++ (text_in w bs (one (unary_operator op) t.now) ++ left_text w bs (reverse tasks.old.items))) }
+    ensures text { OnOk result ((w : Words) → (bs : Around) → all_text w out.new.items bs tasks.new.items ≡ with_text w out.old.items (text_in w bs (one (unary_operator op) t.now)) bs tasks.old.items) }
     ensures less { OnOk result (left_load (reverse tasks.new.items) ≤ 1 + load t.now + left_load (reverse tasks.old.items)) }
 {
     let (before, after) = unary_bytes(op);
@@ -216,7 +216,7 @@ fn print_binary<'a>(
     right: &'a Term,
     tasks: &mut Vec<Task<'a>>,
 ) -> Result<(), NoMemory>
-    ensures text { OnOk result ((w : Words) → (bs : Around) → out.new.items ++ left_text w bs (reverse tasks.new.items) ≡ out.old.items ++ (text_in w bs (two (binary_operator op) left.now right.now) ++ left_text w bs (reverse tasks.old.items))) }
+    ensures text { OnOk result ((w : Words) → (bs : Around) → all_text w out.new.items bs tasks.new.items ≡ with_text w out.old.items (text_in w bs (two (binary_operator op) left.now right.now)) bs tasks.old.items) }
     ensures less { OnOk result (left_load (reverse tasks.new.items) ≤ 2 + load left.now + load right.now + left_load (reverse tasks.old.items)) }
 {
     push_text(out, b"(")?;
@@ -238,7 +238,7 @@ fn print_forall<'a>(
     bound: &mut Vec<Bound<'a>>,
     tasks: &mut Vec<Task<'a>>,
 ) -> Result<(), NoMemory>
-    ensures text { OnOk result (out.new.items ++ left_text (spelling_of spelling.now) (bounds_of bound.new.items) (reverse tasks.new.items) ≡ out.old.items ++ (text_in (spelling_of spelling.now) (bounds_of bound.old.items) (forall name sort.now body.now) ++ left_text (spelling_of spelling.now) (bounds_of bound.old.items) (reverse tasks.old.items))) }
+    ensures text { OnOk result (all_text (spelling_of spelling.now) out.new.items (bounds_of bound.new.items) tasks.new.items ≡ with_text (spelling_of spelling.now) out.old.items (text_in (spelling_of spelling.now) (bounds_of bound.old.items) (forall name sort.now body.now)) (bounds_of bound.old.items) tasks.old.items) }
     ensures less { OnOk result (left_load (reverse tasks.new.items) ≤ 2 + load body.now + left_load (reverse tasks.old.items)) }
 {
     bound.push(Bound { name, sort })?;
@@ -258,7 +258,7 @@ fn print_made<'a>(
     parts: &'a [Term],
     tasks: &mut Vec<Task<'a>>,
 ) -> Result<(), NoMemory>
-    ensures text { OnOk result ((bs : Around) → out.new.items ++ left_text (spelling_of spelling.now) bs (reverse tasks.new.items) ≡ out.old.items ++ (made_text (spelling_of spelling.now) ctor (texts_in (spelling_of spelling.now) bs (terms_of parts.now)) ++ left_text (spelling_of spelling.now) bs (reverse tasks.old.items))) }
+    ensures text { OnOk result ((bs : Around) → all_text (spelling_of spelling.now) out.new.items bs tasks.new.items ≡ with_text (spelling_of spelling.now) out.old.items (made_text (spelling_of spelling.now) ctor (texts_in (spelling_of spelling.now) bs (terms_of parts.now))) bs tasks.old.items) }
     ensures less { OnOk result (left_load (reverse tasks.new.items) ≤ 1 + loads (terms_of parts.now) + left_load (reverse tasks.old.items)) }
 {
     match ctor {
@@ -280,7 +280,7 @@ fn print_fields<'a>(
     parts: &'a [Term],
     tasks: &mut Vec<Task<'a>>,
 ) -> Result<(), NoMemory>
-    ensures text { OnOk result ((bs : Around) → out.new.items ++ left_text (spelling_of spelling.now) bs (reverse tasks.new.items) ≡ out.old.items ++ (fields_text (spelling_of spelling.now) fields.now (texts_in (spelling_of spelling.now) bs (terms_of parts.now)) ++ left_text (spelling_of spelling.now) bs (reverse tasks.old.items))) }
+    ensures text { OnOk result ((bs : Around) → all_text (spelling_of spelling.now) out.new.items bs tasks.new.items ≡ with_text (spelling_of spelling.now) out.old.items (fields_text (spelling_of spelling.now) fields.now (texts_in (spelling_of spelling.now) bs (terms_of parts.now))) bs tasks.old.items) }
     ensures less { OnOk result (left_load (reverse tasks.new.items) ≤ 1 + loads (terms_of parts.now) + left_load (reverse tasks.old.items)) }
 {
     let Some((first, others)) = parts.split_first() else {
@@ -304,7 +304,7 @@ fn print_other_fields<'a>(
     terms: &'a [Term],
     tasks: &mut Vec<Task<'a>>,
 ) -> Result<(), NoMemory>
-    ensures text { OnOk result ((bs : Around) → out.new.items ++ left_text (spelling_of spelling.now) bs (reverse tasks.new.items) ≡ out.old.items ++ (after_commas (labelled (spelling_of spelling.now) numbered fields.now (map (text_in (spelling_of spelling.now) bs) terms.now)) ++ left_text (spelling_of spelling.now) bs (reverse tasks.old.items))) }
+    ensures text { OnOk result ((bs : Around) → all_text (spelling_of spelling.now) out.new.items bs tasks.new.items ≡ with_text (spelling_of spelling.now) out.old.items (after_commas (labelled (spelling_of spelling.now) numbered fields.now (map (text_in (spelling_of spelling.now) bs) terms.now))) bs tasks.old.items) }
     ensures less { OnOk result (left_load (reverse tasks.new.items) < loads (terms_of terms.now) + left_load (reverse tasks.old.items)) }
 {
     let Some((first, others)) = terms.split_first() else {
@@ -325,7 +325,7 @@ fn print_parts<'a>(
     after: &'a [u8],
     tasks: &mut Vec<Task<'a>>,
 ) -> Result<(), NoMemory>
-    ensures text { OnOk result ((w : Words) → (bs : Around) → out.new.items ++ left_text w bs (reverse tasks.new.items) ≡ out.old.items ++ ((before.now ++ commas (texts_in w bs (terms_of parts.now)) ++ after.now) ++ left_text w bs (reverse tasks.old.items))) }
+    ensures text { OnOk result ((w : Words) → (bs : Around) → all_text w out.new.items bs tasks.new.items ≡ with_text w out.old.items (before.now ++ commas (texts_in w bs (terms_of parts.now)) ++ after.now) bs tasks.old.items) }
     ensures less { OnOk result (left_load (reverse tasks.new.items) ≤ 1 + loads (terms_of parts.now) + left_load (reverse tasks.old.items)) }
 {
     push_text(out, before)?;
@@ -344,7 +344,7 @@ fn print_others<'a>(
     terms: &'a [Term],
     tasks: &mut Vec<Task<'a>>,
 ) -> Result<(), NoMemory>
-    ensures text { OnOk result ((w : Words) → (bs : Around) → out.new.items ++ left_text w bs (reverse tasks.new.items) ≡ out.old.items ++ (after_commas (map (text_in w bs) terms.now) ++ left_text w bs (reverse tasks.old.items))) }
+    ensures text { OnOk result ((w : Words) → (bs : Around) → all_text w out.new.items bs tasks.new.items ≡ with_text w out.old.items (after_commas (map (text_in w bs) terms.now)) bs tasks.old.items) }
     ensures less { OnOk result (left_load (reverse tasks.new.items) < loads (terms_of terms.now) + left_load (reverse tasks.old.items)) }
 {
     let Some((first, others)) = terms.split_first() else {
