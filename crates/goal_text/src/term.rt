@@ -238,7 +238,8 @@ fn print_forall<'a>(
     bound: &mut Vec<Bound<'a>>,
     tasks: &mut Vec<Task<'a>>,
 ) -> Result<(), NoMemory>
-    ensures text { OnOk result (all_text (spelling_of spelling.now) out.new.items (bounds_of bound.new.items) tasks.new.items ≡ with_text (spelling_of spelling.now) out.old.items (text_in (spelling_of spelling.now) (bounds_of bound.old.items) (forall name sort.now body.now)) (bounds_of bound.old.items) tasks.old.items) }
+    ensures text { OnOk result (all_text (spelling_of spelling.now) out.new.items (bounds_of bound.new.items) tasks.new.items
+        ≡ with_text (spelling_of spelling.now) out.old.items (text_in (spelling_of spelling.now) (bounds_of bound.old.items) (forall name sort.now body.now)) (bounds_of bound.old.items) tasks.old.items) }
     ensures less { OnOk result (left_load (reverse tasks.new.items) ≤ 2 + load body.now + left_load (reverse tasks.old.items)) }
 {
     bound.push(Bound { name, sort })?;
@@ -280,7 +281,8 @@ fn print_fields<'a>(
     parts: &'a [Term],
     tasks: &mut Vec<Task<'a>>,
 ) -> Result<(), NoMemory>
-    ensures text { OnOk result ((bs : Around) → all_text (spelling_of spelling.now) out.new.items bs tasks.new.items ≡ with_text (spelling_of spelling.now) out.old.items (fields_text (spelling_of spelling.now) fields.now (texts_in (spelling_of spelling.now) bs (terms_of parts.now))) bs tasks.old.items) }
+    ensures text { OnOk result ((bs : Around) → all_text (spelling_of spelling.now) out.new.items bs tasks.new.items
+        ≡ with_text (spelling_of spelling.now) out.old.items (fields_text (spelling_of spelling.now) fields.now (texts_in (spelling_of spelling.now) bs (terms_of parts.now))) bs tasks.old.items) }
     ensures less { OnOk result (left_load (reverse tasks.new.items) ≤ 1 + loads (terms_of parts.now) + left_load (reverse tasks.old.items)) }
 {
     let Some((first, others)) = parts.split_first() else {
@@ -304,7 +306,8 @@ fn print_other_fields<'a>(
     terms: &'a [Term],
     tasks: &mut Vec<Task<'a>>,
 ) -> Result<(), NoMemory>
-    ensures text { OnOk result ((bs : Around) → all_text (spelling_of spelling.now) out.new.items bs tasks.new.items ≡ with_text (spelling_of spelling.now) out.old.items (after_commas (labelled (spelling_of spelling.now) numbered fields.now (map (text_in (spelling_of spelling.now) bs) terms.now))) bs tasks.old.items) }
+    ensures text { OnOk result ((bs : Around) → all_text (spelling_of spelling.now) out.new.items bs tasks.new.items
+        ≡ with_text (spelling_of spelling.now) out.old.items (after_commas (labelled (spelling_of spelling.now) numbered fields.now (map (text_in (spelling_of spelling.now) bs) terms.now))) bs tasks.old.items) }
     ensures less { OnOk result (left_load (reverse tasks.new.items) < loads (terms_of terms.now) + left_load (reverse tasks.old.items)) }
 {
     let Some((first, others)) = terms.split_first() else {

@@ -18,12 +18,7 @@ fn top(alloc: Global, count: usize, stack: &mut Vec<Ty>) -> Result<Vec<Ty>, NoMe
     Ok(parts)
 }
 
-fn declared(
-    alloc: Global,
-    id: u32,
-    count: usize,
-    stack: &mut Vec<Ty>,
-) -> Result<Ty, NoMemory> {
+fn declared(alloc: Global, id: u32, count: usize, stack: &mut Vec<Ty>) -> Result<Ty, NoMemory> {
     let parts = top(alloc, count, stack)?;
     Ty::compound(alloc, CompoundTy::Adt(AdtId(id), Vec::new(alloc), parts))
 }

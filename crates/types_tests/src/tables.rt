@@ -48,13 +48,22 @@ fn at_types(alloc: Global, row: (&[u8], &[u8], &[u8])) -> Result<bool, NoMemory>
 
 #[test]
 fn names_of_types(rt: HostRuntime) {
-    assert!(rt; refuses_a_double(rt.alloc()).unwrap_or(false), "a double name is taken");
-    assert!(rt; finds_by_name(rt.alloc()).unwrap_or(false), "a name is not found");
+    assert!(rt;
+        refuses_a_double(rt.alloc()).unwrap_or(false),
+        "a double name is taken"
+    );
+    assert!(rt;
+        finds_by_name(rt.alloc()).unwrap_or(false),
+        "a name is not found"
+    );
 }
 
 #[test]
 fn types_at_types(rt: HostRuntime) {
     for row in APPLIED {
-        assert!(rt; at_types(rt.alloc(), row).unwrap_or(false), "a type at types is another");
+        assert!(rt;
+            at_types(rt.alloc(), row).unwrap_or(false),
+            "a type at types is another"
+        );
     }
 }
