@@ -1,5 +1,5 @@
 """Writes a source and its proofs: many functions of sums with bounds, or of loops and calls; one function of many additions
-in a row; or a long source that is refused at its last token, at its last word, or at its first item."""
+in a row; a contract or a body of many operators in one another; or a long source that is refused at its last token, at its last word, or at its first item."""
 import sys
 
 
@@ -39,6 +39,26 @@ def additions(count):
     return f"fn f(x: u64) -> u64 {{ x{' + x' * count} }}\n", ""
 
 
+def nested(leaf, count):
+    """A sum of so many operators in one another, 250 of them at each level of parentheses."""
+    text = leaf
+    while count > 0:
+        here = min(count, 250)
+        text = f"({text}{' + 1' * here})"
+        count -= here
+    return text
+
+
+def deep_term(count):
+    """A contract with so many operators in one another."""
+    return f"#[requires({nested('0', count)} == x@)]\nfn f(x: i32) {{ }}\n", ""
+
+
+def deep_code(count):
+    """A body with so many additions in one another."""
+    return f"fn f(x: u64) -> u64 {{ {nested('x', count)} }}\n", ""
+
+
 LINE = "    let x = y + 1 + 2 + 3 + 4;\n"
 
 
@@ -58,7 +78,7 @@ def not_built_source(size):
 
 
 def texts_of(kind, count):
-    made = {"additions": additions, "long": long_source, "no_token": no_token_source, "not_built": not_built_source}
+    made = {"additions": additions, "deep_term": deep_term, "deep_code": deep_code, "long": long_source, "no_token": no_token_source, "not_built": not_built_source}
     if kind in made:
         return [made[kind](count)]
     function = {"sums": sum_function, "loops": loop_function}[kind]

@@ -1,6 +1,6 @@
 -- What is true of each program that lowers: it lowers in one way, and where it fits, the conditions hold under which true obligations
 -- make its bodies good.
-use Rattle.std.specs.Prelude.{◌≡◌, ℕ, ◌+◌, ◌^◌, ◌≤◌, true, false, List, length, drop, Some, slice_get, []}
+use Rattle.std.specs.Prelude.{◌≡◌, ℕ, ◌≤◌, false, List, length, drop, Some, slice_get, []}
 use Rattle.std.specs.List.{All}
 use Rattle.text_core.specs.declared.name.Name.{Name}
 use Rattle.logic_term.specs.declared.kinds.Label.{Label}
@@ -14,7 +14,7 @@ use Rattle.mir_ir.specs.declared.body.Point.{Point}
 use Rattle.mir_ir.specs.declared.place.Place.{Place}
 use Rattle.mir_ir.specs.Body.{block_in}
 use Rattle.mir_ir.specs.Layout.{IsLaidOut}
-use Rattle.mir_ir.specs.WellFormed.{AreSound, Labelling, Locals, MeetsMoveRows}
+use Rattle.mir_ir.specs.WellFormed.{AreSound, Labelling, MeetsMoveRows}
 use Rattle.type_check.specs.declared.program.TypedFunction.{TypedFunction}
 use Rattle.type_check.specs.declared.program.TypedProgram.{TypedProgram}
 use Rattle.type_check.specs.VariableNames.{variable_name, answer_name}

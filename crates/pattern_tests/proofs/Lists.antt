@@ -1,6 +1,6 @@
 -- Types of lists, and patterns of lists.
-use Rattle.std.proofs.Common.{◌≡◌, refl, sym, ap, ◌∙◌, subst, ℕ, zero, suc, ◌+◌, ◌<◌, ◌≤◌, Option, Some, List, [], ◌∷◌, ◌++◌, length, get_or, slice_get, take, map, take_all, arith}
-use Rattle.logic_term.specs.Pattern.{Pat, no_pats, and_pat}
+use Rattle.std.proofs.Common.{◌≡◌, refl, sym, ap, ◌∙◌, subst, ℕ, zero, suc, ◌+◌, ◌<◌, ◌≤◌, Some, List, [], ◌∷◌, ◌++◌, length, get_or, slice_get, take, map, take_all, arith}
+use Rattle.logic_term.specs.Pattern.{Pat}
 use Rattle.logic_term.specs.PatternView.{pats_of}
 use Rattle.logic_term.specs.Theory.{field_ty, fields_of, variant_of}
 use Rattle.logic_term.specs.declared.declaration.AdtDecl.{AdtDecl}
@@ -8,7 +8,7 @@ use Rattle.logic_term.specs.declared.declaration.FieldDecl.{FieldDecl}
 use Rattle.logic_term.specs.declared.declaration.VariantDecl.{VariantDecl}
 use Rattle.logic_term.specs.declared.kinds.AdtId.{AdtId}
 use Rattle.logic_term.specs.Sort.{Declarations, instance, instances, nth_ty}
-use Rattle.logic_term.specs.Ty.{Ty, Tys, math_int, no_tys, and_ty}
+use Rattle.logic_term.specs.Ty.{Ty, Tys, math_int, and_ty}
 use Rattle.logic_term.specs.TyView.{tys_of}
 use Rattle.pat_check.specs.Typed.{fields_in, IsPat, ArePats, AllPats}
 

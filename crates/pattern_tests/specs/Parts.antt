@@ -1,5 +1,5 @@
 -- The types that are found for the parts of a value.
-use Rattle.std.specs.Prelude.{◌≡◌, Option, Some, None, List}
+use Rattle.std.specs.Prelude.{◌≡◌, Option, Some, None}
 use Rattle.logic_term.specs.declared.kinds.Ctor.{Ctor}
 use Rattle.logic_term.specs.Sort.{Declarations, instances}
 use Rattle.logic_term.specs.Ty.{Ty, Tys}

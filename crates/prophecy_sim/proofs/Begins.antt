@@ -16,7 +16,7 @@ use Rattle.logic_term.proofs.Alike.{yes_alike}
 use Rattle.logic_term.proofs.FreeLaw.{coincide_free}
 use Rattle.logic_term.proofs.CanonicalLaw.{reduced_means}
 use Rattle.mir_ir.specs.declared.body.Body.{Body}
-use Rattle.mir_ir.specs.WellFormed.{IsTyped, Locals, OperandHas, EndIsTyped, Within, taken, CanTake, CanEnd, Carries, run, OperandsHave, PlaceHas, CanTakeAll, all_taken, with, Labelling, MeetsMoveRows}
+use Rattle.mir_ir.specs.WellFormed.{IsTyped, taken, Labelling, MeetsMoveRows}
 use Rattle.mir_machine.specs.Frame.{Frame}
 use Rattle.mir_machine.specs.Step.{entered}
 use Rattle.mir_machine.specs.Good.{Each, named}

@@ -2,7 +2,6 @@
 use Rattle.std.proofs.Common.{◌≡◌, ◌∙◌, ◌⊎◌, inl, inr, refl, sym, ap, subst, ℕ, zero, suc, Bool, true, false, List, [], ◌∷◌, map, Option, None, Some, slice_get}
 use Rattle.std.specs.List.{find}
 use Rattle.logic_term.specs.declared.obligation.Obligation.{Obligation}
-use Rattle.mir_ir.specs.declared.body.Body.{Body}
 use Rattle.proof_text.specs.declared.proof.Proof.{Proof}
 use Rattle.report_out.specs.declared.verdict.FnLine.{FnLine}
 use Rattle.report_out.specs.declared.verdict.LeftItem.{LeftItem}

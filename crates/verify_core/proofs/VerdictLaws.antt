@@ -1,7 +1,6 @@
 -- The lines of a verdict tell which functions are verified.
 use Rattle.std.proofs.Common.{◌≡◌, ◌∙◌, refl, sym, ap, subst, ℕ, zero, suc, ◌+◌, ◌<◌, Bool, true, false, List, [], ◌∷◌, ◌++◌, length, map, take, get_or, Some, slice_get}
 use Rattle.std.proofs.lemmas.List.{take_more}
-use Rattle.mir_ir.specs.declared.body.Body.{Body}
 use Rattle.proof_text.specs.declared.proof.Proof.{Proof}
 use Rattle.report_out.specs.declared.verdict.FnLine.{FnLine}
 use Rattle.verify_core.specs.declared.goals.FunctionGoals.{FunctionGoals}

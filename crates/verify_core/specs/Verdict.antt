@@ -13,7 +13,6 @@ use Rattle.report_out.specs.declared.verdict.Reason.TheVariants.{Missing, Proof 
 use Rattle.report_out.specs.declared.verdict.LeftItem.{LeftItem}
 use Rattle.report_out.specs.declared.verdict.Verdict.{Verdict}
 use Rattle.report_out.specs.declared.verdict.FnLine.{FnLine}
-use Rattle.mir_ir.specs.declared.body.Body.{Body}
 use Rattle.mir_machine.specs.Good.{Each}
 use Rattle.proof_kernel.specs.Derivation.{IsProof}
 use Rattle.verify_core.specs.declared.goals.FunctionGoals.{FunctionGoals}

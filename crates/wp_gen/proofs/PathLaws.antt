@@ -15,7 +15,7 @@ use Rattle.mir_ir.specs.declared.body.Head.{Head}
 use Rattle.mir_ir.specs.Body.{block_in}
 use Rattle.mir_ir.specs.Layout.{among, targets, place_of, around_of, Leads, on, back, IsLaidOut}
 use Rattle.wp_gen.specs.declared.goal.Goal.{Goal}
-use Rattle.wp_gen.specs.Walk.{Setting, Walks, Arrives, AreObligations}
+use Rattle.wp_gen.specs.Walk.{Setting, Walks, Arrives}
 use Rattle.wp_gen.specs.Walk as walk
 use Rattle.wp_gen.specs.Walkable.{AllAmong}
 use Rattle.wp_gen.specs.Paths.{IsEntered, passed, Paths, stopped, again, return, goto, call, branch, CountsAgree, WalksAreCounted, MayStand, CountsAlong, EndPaths, CountsFrom, IsCount}

@@ -1,4 +1,4 @@
-use Rattle.std.specs.Prelude.{◌≡◌, ◌++◌, ◌∷◌, codes, reverse}
+use Rattle.std.specs.Prelude.{◌≡◌, ◌++◌, codes, reverse}
 use Rattle.std.proofs.lemmas.Result.{on_ok_weaker}
 use Rattle.logic_term.specs.TermView.{terms_of}
 use Rattle.goal_text.specs.GoalText.{texts_in}

@@ -1,6 +1,5 @@
-use Rattle.std.proofs.Common.{rules, ◌≡◌, ◌∙◌, sym, arith}
 use Rattle.pat_check.specs.Typed.{fields_in}
-use Rattle.pattern_tests.proofs.Lists.{are_pats_more, are_pats_taken}
+use Rattle.pattern_tests.proofs.Lists.{are_pats_more}
 use Rattle.pattern_tests.proofs.typing.+pattern.Goals as goal
 
 pub are_parts-loop-i-preserved : goal.are_parts-loop-i-preserved

@@ -1,6 +1,5 @@
-use Rattle.std.proofs.Common.{rules, ◌≡◌, ◌∙◌, sym, arith}
 use Rattle.pat_check.specs.Typed.{fields_in}
-use Rattle.pattern_tests.proofs.Lists.{all_pats_more, all_pats_taken}
+use Rattle.pattern_tests.proofs.Lists.{all_pats_more}
 use Rattle.pattern_tests.proofs.typing.are_patterns.Goals as goal
 
 pub loop-i-preserved : goal.loop-i-preserved
