@@ -7,27 +7,11 @@ use Rattle.logic_term.specs.declared.declaration.AdtDecl.{AdtDecl}
 use Rattle.logic_term.specs.declared.declaration.FieldDecl.{FieldDecl}
 use Rattle.logic_term.specs.declared.declaration.VariantDecl.{VariantDecl}
 use Rattle.logic_term.specs.declared.kinds.AdtId.{AdtId}
-use Rattle.logic_term.specs.Sort.{Declarations, instance, instances, nth_ty}
-use Rattle.logic_term.specs.Ty.{Ty, Tys, math_int, and_ty}
+use Rattle.logic_term.specs.Sort.{Declarations, instance, instances}
+use Rattle.logic_term.specs.Ty.{Ty, Tys}
 use Rattle.logic_term.specs.TyView.{tys_of}
+use Rattle.rs_types.proofs.Lists.{instances_front}
 use Rattle.pat_check.specs.Typed.{fields_in, IsPat, ArePats, AllPats}
-
-pub nth_there : (ts : List Ty) (i : ℕ) (t : Ty) → t ≡ get_or ts i t → i < length ts → nth_ty (tys_of ts) i ≡ t
-nth_there [] i t e l = absurd (omega arith)
-nth_there (u ∷ ts) zero t e l = sym e
-nth_there (u ∷ ts) (suc i) t e l = nth_there ts i t e (omega arith)
-
-pub nth_past : (ts : List Ty) (i : ℕ) → length ts ≤ i → nth_ty (tys_of ts) i ≡ math_int
-nth_past [] i l = refl
-nth_past (u ∷ ts) zero l = absurd (omega arith)
-nth_past (u ∷ ts) (suc i) l = nth_past ts i (omega arith)
-
-pub instances_listed : (θ : Tys) (ts : List Ty) → tys_of (map (instance θ) ts) ≡ instances θ (tys_of ts)
-instances_listed θ [] = refl
-instances_listed θ (t ∷ ts) = ap (and_ty (instance θ t)) (instances_listed θ ts)
-
-pub instances_front : (θ : Tys) (n : ℕ) (ts us : List Ty) → us ≡ map (instance θ) (take n ts) → length ts ≤ n → tys_of us ≡ instances θ (tys_of ts)
-instances_front θ n ts us e l = ap tys_of (e ∙ ap (map (instance θ)) (take_all n ts l)) ∙ instances_listed θ ts
 
 -- ---- patterns
 

@@ -4,7 +4,6 @@
 pub mod answers;
 #[cfg(test)]
 mod build;
-pub mod instances;
 #[cfg(test)]
 mod tables;
 pub mod texts;

@@ -4,10 +4,10 @@ ghost use Rattle.logic_term.specs.PatternView.{pats_of};
 ghost use Rattle.pat_check.specs.Typed.{fields_in, core, integers, is_integer, IsPat, ArePats, AllPats};
 ghost use Rattle.pattern_tests.specs.Parts.{HasParts, HasFields};
 
-use crate::instances::instance;
 use logic_term::{
     AdtDecl, AdtId, CompoundTy, Ctor, PatNode, Ty, TyNode, TyUnary, TypedPat, copy_types,
 };
+use rs_types::applied;
 use source_kinds::IntKind;
 use std::alloc::Global;
 use text_core::NoMemory;
@@ -74,7 +74,7 @@ fn fields_of(
     let fields = variant.fields.as_slice();
     let mut made = Vec::with_capacity(alloc, fields.len())?;
     for i in 0..fields.len() {
-        made.push(instance(alloc, types, &fields[i].ty)?)?;
+        made.push(applied(alloc, types, &fields[i].ty)?)?;
     }
     Ok(Some(made))
 }

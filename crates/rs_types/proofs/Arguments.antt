@@ -1,7 +1,8 @@
 -- The arguments of a declared type, one after another.
-use Rattle.std.proofs.Common.{◌≡◌, ℕ, zero, suc, ◌+◌, ◌<◌, ◌&&◌, ◌||◌, Bool, true, false, List, [], ◌∷◌, length, drop, get_or, refl, sym, ap, ◌∙◌, arith}
+use Rattle.std.proofs.Common.{◌≡◌, ℕ, zero, suc, ◌+◌, ◌<◌, ◌&&◌, Bool, true, false, List, [], ◌∷◌, length, drop, get_or, refl, sym, ap, ◌∙◌, arith}
 use Rattle.logic_term.specs.Ty.{Ty, Tys, no_tys, and_ty}
 use Rattle.logic_term.specs.TyView.{tys_of}
+use Rattle.rs_types.proofs.Tests.{first_off, or_left}
 use Rattle.rs_types.specs.Holding.{Rows, argument_stands, stands}
 
 module _ (rows : Rows) (p a : ℕ → Bool) where
@@ -13,16 +14,9 @@ module _ (rows : Rows) (p a : ℕ → Bool) where
   past_all zero ts = none_count ts
   past_all (suc k) ts = none_count ts
 
-  or_first : (b c : Bool) → b ≡ false → (b || c) ≡ c
-  or_first true c e = absurd (apart e)
-    where
-      apart : true ≡ false → ⊥
-      apart q = grind (arith, q)
-  or_first false c e = refl
-
   at_head : (held : List Bool) (t : Ty) (ts : Tys) → (get_or held 0 false && stands rows p a t) ≡ false → argument_stands rows p a held (and_ty t ts) ≡ argument_stands rows p a (drop 1 held) ts
   at_head [] t ts e = sym (none_count ts)
-  at_head (h ∷ held) t ts e = or_first (h && stands rows p a t) (argument_stands rows p a held ts) e
+  at_head (h ∷ held) t ts e = first_off (h && stands rows p a t) (argument_stands rows p a held ts) e
 
   after_one : (held : List Bool) (ts : List Ty) (i : ℕ) (t : Ty) → t ≡ get_or ts i t → i < length ts → (get_or held i false && stands rows p a t) ≡ false
       → argument_stands rows p a (drop i held) (tys_of (drop i ts)) ≡ argument_stands rows p a (drop (suc i) held) (tys_of (drop (suc i) ts))
@@ -37,14 +31,6 @@ module _ (rows : Rows) (p a : ℕ → Bool) where
   next_argument held ts i t e l off =
       let more : suc i ≡ i + 1 = grind arith in
       after_one held ts i t e l off ∙ ap (λ k. argument_stands rows p a (drop k held) (tys_of (drop k ts))) more
-
-  or_left : (b c : Bool) → b ≡ true → (b || c) ≡ true
-  or_left true c e = refl
-  or_left false c e = grind (arith, e)
-
-  or_right : (b c : Bool) → c ≡ true → (b || c) ≡ true
-  or_right true c e = refl
-  or_right false c e = e
 
   none_there : (t : Ty) → (get_or [] 0 false && stands rows p a t) ≡ true → ⊥
   none_there t e = grind (arith, e)

@@ -28,3 +28,7 @@ not_false false e = absurd (true≢false e)
 pub not_true : (b : Bool) → not b ≡ true → b ≡ false
 not_true true e = absurd (true≢false (sym e))
 not_true false e = refl
+
+pub first_off : (b c : Bool) → b ≡ false → (b || c) ≡ c
+first_off true c e = absurd (true≢false e)
+first_off false c e = refl

@@ -28,9 +28,10 @@ fn argument(alloc: Global, types: &[Ty], number: u32) -> Result<Ty, NoMemory>
     Ok(Ty::math_int())
 }
 
+/// The same at these types.
 #[cycle(applied)]
 #[tactic(auto, using(crate::proofs::Lists::each_smaller))]
-fn applied(alloc: Global, types: &[Ty], t: &Ty) -> Result<Ty, NoMemory>
+pub fn applied(alloc: Global, types: &[Ty], t: &Ty) -> Result<Ty, NoMemory>
     ensures { IfOk result (λ u. u ≡ instance (tys_of types.now) t.now) }
 {
     let node = match &t.node {

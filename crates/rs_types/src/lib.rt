@@ -8,6 +8,6 @@ mod laws;
 mod standing;
 mod table;
 
-pub use applying::apply;
+pub use applying::{applied, apply};
 pub use laws::{a_cycle_is_endless, ranked_types_are_bounded};
 pub use table::AdtTable;

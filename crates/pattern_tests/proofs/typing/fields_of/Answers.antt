@@ -8,10 +8,10 @@ use Rattle.pattern_tests.proofs.typing.fields_of.Goals as goal
 
 pub loop-i-preserved : goal.loop-i-preserved
 loop-i-preserved c =
-    let pushed : c.push.new.self.items ≡ c.loop-i.made.items ++ c.in_ok-instance.field-0 ∷ [] = search rules in
+    let pushed : c.push.new.self.items ≡ c.loop-i.made.items ++ c.in_ok-applied.field-0 ∷ [] = search rules in
     field_more
-    (tys_of c.args.types.now) c.loop-i.i c.as_slice-fields.result.now c.index-fields-i.result c.in_ok-instance.field-0
-    c.loop-i.made.items c.push.new.self.items c.index-fields-i.is c.loop-i-test.true (c.in_ok-instance.ensures ∙ ap (λ f. instance (tys_of c.args.types.now) f.ty) (sym c.index-fields-i.is)) c.loop-i.invariant pushed
+    (tys_of c.args.types.now) c.loop-i.i c.as_slice-fields.result.now c.index-fields-i.result c.in_ok-applied.field-0
+    c.loop-i.made.items c.push.new.self.items c.index-fields-i.is c.loop-i-test.true (c.in_ok-applied.ensures ∙ ap (λ f. instance (tys_of c.args.types.now) f.ty) (sym c.index-fields-i.is)) c.loop-i.invariant pushed
 
 pub returns : goal.returns
 returns c =
