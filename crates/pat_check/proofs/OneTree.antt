@@ -67,7 +67,7 @@ Looks ds ps k D (test q w) = (ks : List Known) × (Ds : List Decision) × AreBra
 
 looks : (ds : List AdtDecl) (ps : List Pat) (k : Known) (D : Decision) → IsTree ds ps k D → Looks ds ps k D (next 0 ps k)
 looks ds ps k D (is_leaf {k = k1} {n} {p} e) = subst (Looks ds ps k D) (sym e) refl
-looks ds ps k D (is_node {k = k1} {q} {w} {ks} {Ds} {D = D1} e are trees node) = subst (Looks ds ps k D) (sym e) (ks, Ds, are, trees, node)
+looks ds ps k D (is_node {k = k1} {q} {w} {ks} {Ds} {D = subtree} e are trees node) = subst (Looks ds ps k D) (sym e) (ks, Ds, are, trees, node)
 
 abbrev pub LooksAll : List AdtDecl → List Pat → List Known → List Decision → Type 0
 LooksAll ds ps [] Ds = Ds ≡ []
@@ -75,12 +75,12 @@ LooksAll ds ps (k ∷ ks) Ds = (D : Decision) × (Es : List Decision) × (Ds ≡
 
 looks_all : (ds : List AdtDecl) (ps : List Pat) (ks : List Known) (Ds : List Decision) → AreTrees ds ps ks Ds → LooksAll ds ps ks Ds
 looks_all ds ps ks Ds no_trees = refl
-looks_all ds ps ks Ds (and_tree {k = x} {ks = xs} {D = D1} {Ds = Es} tree trees) = (D1, Es, refl, tree, trees)
+looks_all ds ps ks Ds (and_tree {k = x} {ks = xs} {D = subtree} {Ds = Es} tree trees) = (subtree, Es, refl, tree, trees)
 
 mutual
   pub tree_one : (ds : List AdtDecl) (ps : List Pat) (k : Known) (D E : Decision) → IsTree ds ps k D → IsTree ds ps k E → D ≡ E
   tree_one ds ps k D E (is_leaf {k = k1} {n} {p} e) f = sym (subst (Looks ds ps k E) e (looks ds ps k E f))
-  tree_one ds ps k D E (is_node {k = k1} {q} {w} {ks} {Ds} {D = D1} e are trees node) f =
+  tree_one ds ps k D E (is_node {k = k1} {q} {w} {ks} {Ds} {D = subtree} e are trees node) f =
       let l = subst (Looks ds ps k E) e (looks ds ps k E f) in
       let same : l.0 ≡ ks = branches_one ds k q w l.0 ks l.2 are in
       let all : Ds ≡ l.1 = trees_one ds ps ks Ds l.1 trees (subst (λ ls. AreTrees ds ps ls l.1) same l.3) in
@@ -88,6 +88,6 @@ mutual
 
   trees_one : (ds : List AdtDecl) (ps : List Pat) (ks : List Known) (Ds Es : List Decision) → AreTrees ds ps ks Ds → AreTrees ds ps ks Es → Ds ≡ Es
   trees_one ds ps ks Ds Es no_trees f = sym (looks_all ds ps [] Es f)
-  trees_one ds ps ks Ds Es (and_tree {k = x} {ks = xs} {D = D1} {Ds = Fs} tree trees) f =
+  trees_one ds ps ks Ds Es (and_tree {k = x} {ks = xs} {D = subtree} {Ds = Fs} tree trees) f =
       let l = looks_all ds ps (x ∷ xs) Es f in
-      (λ i. tree_one ds ps x D1 l.0 tree l.3 i ∷ trees_one ds ps xs Fs l.1 trees l.4 i) ∙ sym l.2
+      (λ i. tree_one ds ps x subtree l.0 tree l.3 i ∷ trees_one ds ps xs Fs l.1 trees l.4 i) ∙ sym l.2

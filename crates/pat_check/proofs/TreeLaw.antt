@@ -132,11 +132,11 @@ mutual
   pub tree_right : (ds : List AdtDecl) (ps : List Pat) (t : Ty) (θ : Tys) (v : Value) → AllPats (fields_in ds) ps t → HasSort (fields_in ds) v (instance θ t) → (k : Known) (D : Decision)
       → IsTree ds ps k D → IsKnown (fields_in ds) k t → agrees k v ≡ true → Right ps D v
   tree_right ds ps t θ v h hv k D (is_leaf {k = k1} {n} {p} e) g a = sym (row_first 0 ps k n p v e a)
-  tree_right ds ps t θ v h hv k D (is_node {k = k1} {q} {w} {ks} {Ds} {D = D1} e are trees node) g a =
+  tree_right ds ps t θ v h hv k D (is_node {k = k1} {q} {w} {ks} {Ds} {D = subtree} e are trees node) g a =
       let b = branching ds ps t k q w ks h g e are in
       node_right ds ps t θ v k q w ks Ds D hv a (test_spot (fields_in ds) 0 ps k t q w h g e) are node (trees_right ds ps t θ v h hv k ks Ds trees b.go)
 
   trees_right : (ds : List AdtDecl) (ps : List Pat) (t : Ty) (θ : Tys) (v : Value) → AllPats (fields_in ds) ps t → HasSort (fields_in ds) v (instance θ t)
       → (k : Known) (ks : List Known) (Ds : List Decision) → AreTrees ds ps ks Ds → AllGo (fields_in ds) ps t k ks → EachRight ps v ks Ds
   trees_right ds ps t θ v h hv k ks Ds no_trees g = tt
-  trees_right ds ps t θ v h hv k ks Ds (and_tree {k = x} {ks = xs} {D = D1} {Ds = Es} tree trees) g = (λ a. tree_right ds ps t θ v h hv x D1 tree g.0.known a, trees_right ds ps t θ v h hv k xs Es trees g.1)
+  trees_right ds ps t θ v h hv k ks Ds (and_tree {k = x} {ks = xs} {D = subtree} {Ds = Es} tree trees) g = (λ a. tree_right ds ps t θ v h hv x subtree tree g.0.known a, trees_right ds ps t θ v h hv k xs Es trees g.1)
