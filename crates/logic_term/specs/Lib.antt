@@ -1,4 +1,7 @@
 pub mod Canonical
+pub mod Context
+pub mod ContextFalls
+pub mod ContextView
 pub mod Erased
 pub mod Free
 pub mod Laws

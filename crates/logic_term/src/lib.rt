@@ -3,7 +3,9 @@
 
 mod build;
 mod canonical;
+mod context;
 mod declaration;
+mod goal;
 mod kinds;
 mod laws;
 mod obligation;
@@ -14,7 +16,9 @@ mod term;
 mod ty;
 
 pub use canonical::is_one_of;
+pub use context::{Context, Entry};
 pub use declaration::{AdtDecl, FieldDecl, VariantDecl};
+pub use goal::Goal;
 pub use kinds::{
     AdtId, Ctor, FnKind, Label, Label2, LogicFn, Region, TermBinary, TermUnary, TraitId, TyUnary,
 };

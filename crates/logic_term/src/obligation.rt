@@ -1,3 +1,4 @@
+use crate::goal::Goal;
 use crate::kinds::TraitId;
 use crate::term::Term;
 use crate::ty::{FnBound, Ty};
@@ -43,5 +44,5 @@ pub struct Obligation {
     /// The type parameters of the owner's item.
     pub params: Items<(Name, Bounds)>,
     /// Closed, of sort `bool`, in normal form.
-    pub goal: Term,
+    pub goal: Goal,
 }

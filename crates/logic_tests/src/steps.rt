@@ -1,6 +1,6 @@
 ghost use Rattle.std.specs.Prelude.{◌≡◌, ◌+◌, ◌<◌, IfOk, OnOk};
 
-use logic_term::{Label2, Obligation, Term, Ty};
+use logic_term::{Goal, Label2, Obligation, Term, Ty};
 use proof_kernel::{Kernel, Multiple, Reference, Step, StepError, Tables};
 use source_kinds::IntKind;
 use std::alloc::Global;
@@ -20,7 +20,7 @@ fn obligation(alloc: Global, goal: Term) -> Result<Obligation, NoMemory> {
         span: Span { start: 0, end: 0 },
         from: None,
         params: Items::new(alloc),
-        goal,
+        goal: Goal::of(alloc, goal)?,
     })
 }
 

@@ -442,7 +442,10 @@ fn expect_all(rt: &impl Abort, made: &[Obligation], wanted: &[(Kind, u32)]) {
 /// Whether the goal of the obligation at the place is this formula.
 fn is_goal(alloc: Global, made: &[Obligation], at: usize, wanted: &Term) -> Result<bool, NoMemory> {
     match made.get(at) {
-        Some(obligation) => obligation.goal.same_up_to_names(alloc, wanted),
+        Some(obligation) => {
+            let goal = obligation.goal.term(alloc)?;
+            goal.same_up_to_names(alloc, wanted)
+        }
         None => Ok(false),
     }
 }

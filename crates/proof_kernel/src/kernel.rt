@@ -260,7 +260,7 @@ impl<'a> Kernel<'a> {
         let q = Sequent {
             vars: Items::new(alloc),
             hyps: Items::new(alloc),
-            goal: goal.goal.share()?,
+            goal: goal.goal.term(alloc)?,
         };
         let stack = one_premise(alloc, q)?;
         let scope = Scope {

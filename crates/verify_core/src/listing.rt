@@ -16,7 +16,8 @@ fn listed(alloc: Global, names: &Names, obligation: &Obligation) -> Result<Liste
 {
     // Sources declare no types yet.
     let spelling = Spelling { adts: &[], names };
-    let goal = goal_text(alloc, &spelling, &obligation.goal)?;
+    let term = obligation.goal.term(alloc)?;
+    let goal = goal_text(alloc, &spelling, &term)?;
     Ok(ListedItem {
         number: obligation.number,
         kind: obligation.kind,

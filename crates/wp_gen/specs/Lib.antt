@@ -1,6 +1,4 @@
 pub mod Command
-pub mod ContextFalls
-pub mod ContextView
 pub mod Count
 pub mod Limits
 pub mod Paths

@@ -2,27 +2,22 @@
 -- what stands before a goal, the last entry first. A goal is its formula with the terms for its names, closed by these entries.
 use Rattle.std.specs.Prelude.{◌≡◌, ℕ, suc, ◌+◌, ◌^◌, ◌≤◌, ◌<◌, true, List, [], ◌∷◌, ◌++◌, map, None}
 use Rattle.text_core.specs.declared.name.Name.{Name}
+use Rattle.logic_term.specs.Context.{closed}
 use Rattle.logic_term.specs.declared.obligation.Obligation.{Obligation}
 use Rattle.logic_term.specs.declared.subst.Replacement.{Replacement}
 use Rattle.logic_term.specs.Free.{free}
 use Rattle.logic_term.specs.Normal.{reduced}
 use Rattle.logic_term.specs.Placed.{Placing, itself, placed}
 use Rattle.logic_term.specs.Subst.{above, look, put_reduced}
-use Rattle.logic_term.specs.Term.{Term, var, implies, forall}
+use Rattle.logic_term.specs.Term.{Term, var}
 use Rattle.wp_gen.specs.declared.command.Command.{Command}
 use Rattle.wp_gen.specs.declared.command.Command.TheVariants.{Set, Fresh, Assume}
-use Rattle.wp_gen.specs.declared.context.Entry.{Entry}
-use Rattle.wp_gen.specs.declared.context.Entry.TheVariants.{Variable, Known}
+use Rattle.logic_term.specs.declared.context.Entry.{Entry}
+use Rattle.logic_term.specs.declared.context.Entry.TheVariants.{Variable, Known}
 use Rattle.wp_gen.specs.declared.goal.Goal.{Goal}
 use Rattle.wp_gen.specs.Command.{before_all}
 
 -- ---- states
-
--- the goal behind these entries, the last one first
-abbrev pub closed : List Entry → Term → Term
-closed [] φ = φ
-closed (Variable x s ∷ es) φ = closed es (forall x s φ)
-closed (Known a ∷ es) φ = closed es (implies a φ)
 
 pub record State : Type 0 where
   -- the terms of names, the first entry of a name counting

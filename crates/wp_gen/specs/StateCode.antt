@@ -4,8 +4,8 @@ use Rattle.std.proofs.Common.{refl}
 use Rattle.std.specs.Coded.{Coded, code_by, coded×, coded_ℕ, coded_list}
 use Rattle.logic_term.specs.contracts.subst.Replacement as replacements
 use Rattle.logic_term.specs.declared.subst.Replacement.{Replacement}
-use Rattle.wp_gen.specs.contracts.context.Entry as entries
-use Rattle.wp_gen.specs.declared.context.Entry.{Entry}
+use Rattle.logic_term.specs.contracts.context.Entry as entries
+use Rattle.logic_term.specs.declared.context.Entry.{Entry}
 use Rattle.wp_gen.specs.State.{State}
 
 abbrev pub coded_state : Coded State

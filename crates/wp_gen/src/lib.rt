@@ -3,7 +3,6 @@
 
 mod call;
 mod command;
-mod context;
 mod count;
 mod formulas;
 mod goal;

@@ -9,7 +9,7 @@ ghost use Rattle.wp_gen.specs.Walkable.{setting, CanWalk};
 use crate::call::with_assumed;
 use crate::command::Command;
 use crate::count::{OBLIGATIONS, room_after};
-use crate::goal::Goal;
+use crate::goal::MetGoal;
 use crate::paths::check_paths;
 use crate::reached::Reached;
 use crate::row::name_of;
@@ -71,7 +71,7 @@ fn entry_commands(alloc: Global, body: &Body, contract: &Contract) -> Result<Vec
 }
 
 /// The goals of a body with its contract, closed at its entry and in normal form.
-fn goals(alloc: Global, walk: &Walk<'_>) -> Result<Vec<Goal>, NoMemory>
+fn goals(alloc: Global, walk: &Walk<'_>) -> Result<Vec<MetGoal>, NoMemory>
     requires { CanWalk (setting walk.now) }
     ensures { IfOk result (λ v. AreMet (setting walk.now) v.items) }
 {
@@ -81,14 +81,15 @@ fn goals(alloc: Global, walk: &Walk<'_>) -> Result<Vec<Goal>, NoMemory>
     goals_from_entry(alloc, walk, Reached { state, goals })
 }
 
-fn obligation(alloc: Global, owner: &Text, number: u32, goal: Goal) -> Result<Obligation, NoMemory>
+fn obligation(
+    alloc: Global,
+    owner: &Text,
+    number: u32,
+    goal: MetGoal,
+) -> Result<Obligation, NoMemory>
     ensures { IfOk result (λ o. o ∷ [] ≡ listed owner.now number (goal ∷ [])) }
 {
-    let Goal {
-        kind,
-        span,
-        formula,
-    } = goal;
+    let MetGoal { kind, span, goal } = goal;
     let owner = owner.copy(alloc)?;
     Ok(Obligation {
         owner,
@@ -97,7 +98,7 @@ fn obligation(alloc: Global, owner: &Text, number: u32, goal: Goal) -> Result<Ob
         span,
         from: None,
         params: Items::new(alloc),
-        goal: formula,
+        goal,
     })
 }
 
@@ -106,7 +107,7 @@ fn listed(
     alloc: Global,
     owner: &Text,
     first: u32,
-    goals: Vec<Goal>,
+    goals: Vec<MetGoal>,
 ) -> Result<Vec<Obligation>, NoMemory>
     ensures { IfOk result (λ v. v.items ≡ listed owner.now first goals.items) }
 {

@@ -8,7 +8,7 @@ ghost use Rattle.wp_gen.specs.Reached.{IsOver, IsOverCall, Passes};
 
 use crate::call::{call_commands, goals_of_call};
 use crate::command::Command;
-use crate::goal::Goal;
+use crate::goal::{Goal, MetGoal};
 use crate::row::{goals_of, operand_term};
 use crate::state::State;
 use crate::step::commands_of;
@@ -18,20 +18,20 @@ use mir_ir::{Body, Callee, Operand, Place, Statement};
 use std::alloc::Global;
 use text_core::{NoMemory, Span};
 
-/// Where a walk stands, and the goals that it has met, each closed and in normal form.
+/// Where a walk stands, and the goals that it has met.
 #[derive(Drop)]
 pub(crate) struct Reached {
     pub(crate) state: State,
-    pub(crate) goals: Vec<Goal>,
+    pub(crate) goals: Vec<MetGoal>,
 }
 
 /// The goals at the state, behind others.
 pub(crate) fn with_goals_at(
     alloc: Global,
     state: &State,
-    first: Vec<Goal>,
+    first: Vec<MetGoal>,
     owed: &[Goal],
-) -> Result<Vec<Goal>, NoMemory>
+) -> Result<Vec<MetGoal>, NoMemory>
     ensures { IfOk result (λ v. Adds state.now first.items owed.now v.items) }
 {
     let mut all = first;

@@ -5,9 +5,8 @@ ghost use Rattle.logic_term.specs.Subst.{above};
 ghost use Rattle.wp_gen.specs.State.{first_new, start, made, after, goal_at, IsBelow, Leads, IsGoalAt};
 
 use crate::command::Command;
-use crate::context::{Context, Entry};
-use crate::goal::Goal;
-use logic_term::{Replacement, Term, Ty, reduce};
+use crate::goal::{Goal, MetGoal};
+use logic_term::{Context, Entry, Replacement, Term, Ty};
 use std::alloc::Global;
 use std::marker::Model;
 use text_core::{Name, NoMemory};
@@ -177,25 +176,25 @@ impl State {
         Ok(state)
     }
 
-    /// The formula as a goal at this state, closed and in normal form.
-    fn closed(&self, alloc: Global, formula: &Term) -> Result<Term, NoMemory>
-        ensures is { IfOk result (λ t. t ≡ reduced (goal_at self.now formula.now)) }
-        ensures below { IfOk result (λ t. above formula.now ≤ first_new) }
+    /// The formula as a goal at this state, behind what stands before it.
+    fn closed(&self, alloc: Global, formula: &Term) -> Result<logic_term::Goal, NoMemory>
+        ensures is { IfOk result (λ g. g ≡ reduced (goal_at self.now formula.now)) }
+        ensures below { IfOk result (λ g. above formula.now ≤ first_new) }
     {
         let made = self.made(alloc, formula)?;
-        let closed = self.context.close(alloc, made)?;
-        reduce(alloc, &closed)
+        let context = self.context.share()?;
+        Ok(logic_term::Goal::new(context, made))
     }
 
-    /// The goal at this state, closed and in normal form.
-    pub(crate) fn goal(&self, alloc: Global, goal: &Goal) -> Result<Goal, NoMemory>
+    /// The goal at this state.
+    pub(crate) fn goal(&self, alloc: Global, goal: &Goal) -> Result<MetGoal, NoMemory>
         ensures { IfOk result (λ g. IsGoalAt self.now goal.now g) }
     {
-        let formula = self.closed(alloc, &goal.formula)?;
-        Ok(Goal {
+        let closed = self.closed(alloc, &goal.formula)?;
+        Ok(MetGoal {
             kind: goal.kind,
             span: goal.span,
-            formula,
+            goal: closed,
         })
     }
 }

@@ -11,7 +11,7 @@ ghost use Rattle.wp_gen.specs.State.{Adds};
 ghost use Rattle.wp_gen.specs.Reached.{IsOver, WalksOn, ArrivesOn};
 
 use crate::formulas::each_goal;
-use crate::goal::Goal;
+use crate::goal::{Goal, MetGoal};
 use crate::head::{among, head_commands};
 use crate::reached::{
     Reached, over, over_call, over_statements, to_false_side, to_true_side, with_goals_at,
@@ -65,7 +65,7 @@ fn goals_at_return(alloc: Global, body: &Body, contract: &Contract) -> Result<Ve
 }
 
 /// The goals of a return, behind those that were met.
-fn at_return(alloc: Global, walk: &Walk<'_>, reached: Reached) -> Result<Vec<Goal>, NoMemory>
+fn at_return(alloc: Global, walk: &Walk<'_>, reached: Reached) -> Result<Vec<MetGoal>, NoMemory>
     ensures { IfOk result (λ v. Adds reached.state reached.goals.items (goals_at_return walk.now.body.now walk.now.contract.now) v.items) }
 {
     let owed = goals_at_return(alloc, walk.body, walk.contract)?;
@@ -92,7 +92,7 @@ fn enter_loop(
 }
 
 /// The goals of an arrival at a head that was passed: each invariant.
-fn arrive_again(alloc: Global, head: &Head, reached: Reached) -> Result<Vec<Goal>, NoMemory>
+fn arrive_again(alloc: Global, head: &Head, reached: Reached) -> Result<Vec<MetGoal>, NoMemory>
     ensures { IfOk result (λ v. Adds reached.state reached.goals.items (each_goal InvKept head.now.invariants head.now.spans) v.items) }
 {
     let invariants = head.invariants.as_slice();
@@ -131,7 +131,7 @@ fn end_goals(
     label: Label,
     block: &Block,
     reached: Reached,
-) -> Result<Vec<Goal>, NoMemory>
+) -> Result<Vec<MetGoal>, NoMemory>
     requires can { CanWalk (setting walk.now) }
     requires here { MayWalk (setting walk.now) heads.now label block.now }
     ensures { IfOk result (λ v. WalksOn (setting walk.now) heads.now [] block.now.end reached v.items) }
@@ -164,7 +164,7 @@ fn block_goals(
     label: Label,
     block: &Block,
     reached: Reached,
-) -> Result<Vec<Goal>, NoMemory>
+) -> Result<Vec<MetGoal>, NoMemory>
     requires can { CanWalk (setting walk.now) }
     requires here { MayWalk (setting walk.now) heads.now label block.now }
     ensures { IfOk result (λ v. WalksOn (setting walk.now) heads.now block.now.statements block.now.end reached v.items) }
@@ -183,7 +183,7 @@ fn first_arrival(
     block: &Block,
     head: &Head,
     reached: Reached,
-) -> Result<Vec<Goal>, NoMemory>
+) -> Result<Vec<MetGoal>, NoMemory>
     requires can { CanWalk (setting walk.now) }
     requires here { MayArrive (setting walk.now) heads.now label }
     requires block { block_in walk.now.body.now.blocks label ≡ Some block.now }
@@ -204,7 +204,7 @@ fn arrive(
     heads: &[Label],
     label: Label,
     reached: Reached,
-) -> Result<Vec<Goal>, NoMemory>
+) -> Result<Vec<MetGoal>, NoMemory>
     requires can { CanWalk (setting walk.now) }
     requires here { MayArrive (setting walk.now) heads.now label }
     ensures { IfOk result (λ v. ArrivesOn (setting walk.now) heads.now label reached v.items) }
@@ -228,7 +228,7 @@ pub(crate) fn goals_from_entry(
     alloc: Global,
     walk: &Walk<'_>,
     reached: Reached,
-) -> Result<Vec<Goal>, NoMemory>
+) -> Result<Vec<MetGoal>, NoMemory>
     requires { CanWalk (setting walk.now) }
     ensures { IfOk result (λ v. ArrivesOn (setting walk.now) [] walk.now.body.now.entry reached v.items) }
 {

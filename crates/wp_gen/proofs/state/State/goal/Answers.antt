@@ -3,4 +3,4 @@ use Rattle.wp_gen.proofs.Ahead.{goal_is}
 use Rattle.wp_gen.proofs.state.State.goal.Goals as goal
 
 pub returns : goal.returns
-returns c = goal_is c.args.self.now c.args.goal.now _ c.in_ok-formula.formula c.in_ok-formula.ensures.below c.in_ok-formula.ensures.is refl
+returns c = goal_is c.args.self.now c.args.goal.now _ c.in_ok-closed.closed c.in_ok-closed.ensures.below c.in_ok-closed.ensures.is refl

@@ -1,10 +1,10 @@
 -- What stands before the last entry is shorter.
 use Rattle.std.specs.Prelude.{◌≤◌, max, length}
 use Rattle.std.proofs.Common.{arith}
-use Rattle.wp_gen.specs.ContextView.{entries_of}
-use Rattle.wp_gen.specs.declared.context.Link.{Link}
-use Rattle.wp_gen.specs.declared.context.Link.TheVariants as link
-use Rattle.wp_gen.specs.declared.context.Context.TheDeep.{deep-Link}
+use Rattle.logic_term.specs.ContextView.{entries_of}
+use Rattle.logic_term.specs.declared.context.Link.{Link}
+use Rattle.logic_term.specs.declared.context.Link.TheVariants as link
+use Rattle.logic_term.specs.declared.context.Context.TheDeep.{deep-Link}
 
 pub falls : (n : Link) → max (deep-Link n) 0 ≤ length (entries_of n)
 falls link.Start = omega arith
