@@ -3,7 +3,7 @@ use proof_kernel::{LinAnswer, Multiple, Reference, Sequent, certifies};
 use source_kinds::ArithOp;
 use std::alloc::Global;
 use std::test::Fail;
-use text_core::{Items, Name, NoMemory};
+use text_core::{Name, NoMemory};
 
 const MAX: i128 = i128::MAX;
 
@@ -75,10 +75,7 @@ fn is_at_most(alloc: Global, t: Term, bound: i128) -> Result<Term, NoMemory> {
 
 /// From the hypothesis the goal.
 fn sequent(alloc: Global, hyp: Term, goal: Term) -> Result<Sequent, NoMemory> {
-    let mut hyps = Items::new(alloc);
-    hyps.push((HYP, hyp))?;
-    let vars = Items::new(alloc);
-    Ok(Sequent { vars, hyps, goal })
+    Sequent::new(alloc, goal)?.assuming(alloc, HYP, hyp)
 }
 
 /// What the negated goal, once, and the hypothesis, so often, come to.

@@ -1,9 +1,9 @@
-use logic_term::{Label2, Sort, Term, Ty};
+use logic_term::{Label2, Term, Ty};
 use proof_kernel::{LinAnswer, Multiple, Reference, Sequent, certifies};
 use source_kinds::{ArithOp, IntKind};
 use std::alloc::Global;
 use std::test::Fail;
-use text_core::{Items, Name, NoMemory};
+use text_core::{Name, NoMemory};
 
 const MAX: i128 = i128::MAX;
 
@@ -39,20 +39,13 @@ fn label(part: u32) -> Label2 {
     Label2 { step: 1, part }
 }
 
-fn sorts(alloc: Global) -> Result<Items<(Name, Sort)>, NoMemory> {
-    let mut vars = Items::new(alloc);
-    vars.push((X, Ty::int(IntKind::I32)))?;
-    vars.push((Y, Ty::math_int()))?;
-    Ok(vars)
-}
-
 /// The hypotheses have the labels 1.1 and 1.2.
 fn sequent(alloc: Global, one: Term, two: Term, goal: Term) -> Result<Sequent, NoMemory> {
-    let mut hyps = Items::new(alloc);
-    hyps.push((label(1), one))?;
-    hyps.push((label(2), two))?;
-    let vars = sorts(alloc)?;
-    Ok(Sequent { vars, hyps, goal })
+    let q = Sequent::new(alloc, goal)?;
+    let q = q.declaring(alloc, X, Ty::int(IntKind::I32))?;
+    let q = q.declaring(alloc, Y, Ty::math_int())?;
+    let q = q.assuming(alloc, label(1), one)?;
+    q.assuming(alloc, label(2), two)
 }
 
 fn multiple(by: i128, of: Reference) -> Multiple {

@@ -1,19 +1,17 @@
 -- Taking off what leads a goal.
-use Rattle.std.proofs.Common.{◌≡◌, ℕ, ◌+◌, ◌<◌, ◌≤◌, ◌||◌, Bool, true, false, List, [], ◌∷◌, ◌++◌, max, length, get_or, take, drop, drop-cons, Some, None, refl, sym, ◌∙◌, ap, subst, add-one, arith, true≢false}
+use Rattle.std.proofs.Common.{◌≡◌, ℕ, ◌+◌, ◌<◌, ◌≤◌, Bool, true, false, List, [], ◌∷◌, length, get_or, drop, drop-cons, Some, None, refl, sym, ◌∙◌, ap, subst, add-one, arith}
 use Rattle.std.proofs.lemmas.List.{drop_all}
-use Rattle.std.proofs.Math.Seq.{take-suc}
 use Rattle.std.specs.Prelude.{◌↔◌, Option, Result, Ok, Err, IfOk, MatchOption}
 use Rattle.text_core.specs.declared.name.Name.{Name}
 use Rattle.text_core.specs.declared.fault.NoMemory.{NoMemory}
-use Rattle.logic_term.specs.declared.kinds.Label2.{Label2}
 use Rattle.logic_term.specs.declared.subst.Renaming.{Renaming}
 use Rattle.logic_term.specs.Canonical.{is_one_of, above_free}
 use Rattle.logic_term.specs.Free.{free}
 use Rattle.logic_term.specs.Subst.{renamed}
 use Rattle.logic_term.specs.Term.{Term, is_implication, is_quantified}
 use Rattle.logic_term.proofs.CanonicalLaw.{free_below}
-use Rattle.proof_kernel.specs.declared.sequent.Sequent.{Sequent}
-use Rattle.proof_kernel.specs.Rules.{free_in_hyps, with_goal, IsNew, AreNew, TakesOff, TakesSome, Intros}
+use Rattle.proof_kernel.specs.Sequent.{Sequent}
+use Rattle.proof_kernel.specs.Rules.{with_goal, IsNew, AreNew, TakesOff, TakesSome, Intros}
 use Rattle.proof_kernel.proofs.Taken.{taken, other_ends, none_left, takes_off_computed, computed_takes_off}
 
 -- ---- names that are new
@@ -24,23 +22,6 @@ not_true false n = refl
 
 pub not_free_above : (x : Name) (t : Term) → above_free [] t ≤ x.0 → free x t ≡ false
 not_free_above x t l = not_true (free x t) (λ e. let k : x.0 < above_free [] t = free_below [] t x e refl in absurd (omega arith))
-
-both_free : (x : Name) (hs : List (Label2 × Term)) (h : Label2 × Term) → free_in_hyps x hs ≡ false → free x h.1 ≡ false → free_in_hyps x (hs ++ h ∷ []) ≡ false
-both_free x [] h e f = ap (λ b. b || false) f
-both_free x (g ∷ hs) h e f = by (free x g.1) e (λ k. both_free x hs h k f)
-  where
-    by : (b : Bool) → (b || free_in_hyps x hs) ≡ false → (free_in_hyps x hs ≡ false → free_in_hyps x (hs ++ h ∷ []) ≡ false) → (b || free_in_hyps x (hs ++ h ∷ [])) ≡ false
-    by true e later = absurd (true≢false e)
-    by false e later = later e
-
--- one hypothesis more
-pub above_next : (m n k i : ℕ) (hs : List (Label2 × Term)) (h : Label2 × Term) (goal : Term) → h ≡ get_or hs i h → i < length hs → k ≡ above_free [] h.1 → n ≡ max m k
-    → ((x : Name) → m ≤ x.0 → (free_in_hyps x (take i hs) ≡ false) × (free x goal ≡ false)) → (x : Name) → n ≤ x.0 → (free_in_hyps x (take (i + 1) hs) ≡ false) × (free x goal ≡ false)
-above_next m n k i hs h goal is l e most so_far x b =
-    let before = so_far x (omega arith) in
-    let here : free x h.1 ≡ false = not_free_above x h.1 (omega arith) in
-    let taken_more : take (i + 1) hs ≡ take i hs ++ h ∷ [] = ap (λ j. take j hs) (add-one i) ∙ take-suc hs i h l ∙ ap (λ g. take i hs ++ g ∷ []) (sym is) in
-    (ap (free_in_hyps x) taken_more ∙ both_free x (take i hs) h before.0 here, before.1)
 
 -- ---- one name after the other
 

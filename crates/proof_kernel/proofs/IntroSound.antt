@@ -20,7 +20,7 @@ use Rattle.logic_term.proofs.Coincide.{with_same}
 use Rattle.logic_term.proofs.FreeLaw.{coincide_free, same_name, same_test, or_left, or_right}
 use Rattle.logic_term.proofs.PlacedLaw.{with_terms_means}
 use Rattle.logic_term.proofs.Truth.{holds_implies, holds_forall}
-use Rattle.proof_kernel.specs.declared.sequent.Sequent.{Sequent}
+use Rattle.proof_kernel.specs.Sequent.{Sequent}
 use Rattle.proof_kernel.specs.Sequent.{InSorts, AllHold, IsTrueAt}
 use Rattle.proof_kernel.specs.Intro.{assuming, declaring}
 use Rattle.proof_kernel.specs.Rules.{label, sort_of, free_in_hyps, with_goal, IsNew, AreNew, Intros}

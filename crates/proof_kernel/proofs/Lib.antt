@@ -18,6 +18,7 @@ pub mod LinearRefs
 pub mod LinearSound
 pub mod LinearTable
 pub mod LinearTotal
+pub mod LocalLaw
 pub mod Monomials
 pub mod Once
 pub mod PolynomialSteps

@@ -8,7 +8,7 @@ use Rattle.proof_kernel.specs.declared.linear.Form.{Form}
 use Rattle.proof_kernel.specs.declared.linear.LinAnswer.{LinAnswer}
 use Rattle.proof_kernel.specs.declared.linear.LinAnswer.TheVariants.{Closes, TooWide, Fails}
 use Rattle.proof_kernel.specs.declared.linear.Sides.{Sides}
-use Rattle.proof_kernel.specs.declared.sequent.Sequent.{Sequent}
+use Rattle.proof_kernel.specs.Sequent.{Sequent}
 use Rattle.proof_kernel.specs.declared.step.Multiple.{Multiple}
 use Rattle.proof_kernel.specs.LinArith.{HasRisingAtoms, IsCertificate, IsNarrow, IsFirstWide}
 use Rattle.proof_kernel.specs.Polynomial.{Monomial}

@@ -1,7 +1,7 @@
 -- The rows of references, one more at a time.
 use Rattle.std.proofs.Common.{◌≡◌, ℕ, zero, suc, ◌+◌, ◌<◌, List, [], ◌∷◌, ◌++◌, length, take, map, get_or, Some, None, refl, sym, ◌∙◌, ap, ap₂, subst, arith, add-one}
 use Rattle.std.proofs.lemmas.List.{map-append}
-use Rattle.proof_kernel.specs.declared.sequent.Sequent.{Sequent}
+use Rattle.proof_kernel.specs.Sequent.{Sequent}
 use Rattle.proof_kernel.specs.declared.step.Multiple.{Multiple}
 use Rattle.proof_kernel.specs.declared.linear.Sides.{Sides}
 use Rattle.proof_kernel.specs.LinearRows.{difference}

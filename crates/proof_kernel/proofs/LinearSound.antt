@@ -15,7 +15,7 @@ use Rattle.logic_term.proofs.CanonicalLaw.{canonical_means}
 use Rattle.logic_term.proofs.SameLaw.{same_term_equal, equal_same_term}
 use Rattle.logic_term.proofs.Truth.{Exactly, holds_less, holds_at_most, holds_not, holds_equal_exactly}
 use Rattle.logic_term.proofs.Unique.{single, has_value}
-use Rattle.proof_kernel.specs.declared.sequent.Sequent.{Sequent}
+use Rattle.proof_kernel.specs.Sequent.{Sequent}
 use Rattle.proof_kernel.specs.declared.step.Multiple.{Multiple}
 use Rattle.proof_kernel.specs.declared.step.Reference.{Reference}
 use Rattle.proof_kernel.specs.declared.step.Reference.TheVariants.{Goal, Hyp, Back}

@@ -15,7 +15,7 @@ use Rattle.logic_term.proofs.Alike.{alike_same}
 use Rattle.logic_term.proofs.FreeLaw.{same_name, same_test}
 use Rattle.logic_term.proofs.SortLaw.{int_value}
 use Rattle.logic_term.proofs.Truth.{holds_and, holds_at_most, computes_model}
-use Rattle.proof_kernel.specs.declared.sequent.Sequent.{Sequent}
+use Rattle.proof_kernel.specs.Sequent.{Sequent}
 use Rattle.proof_kernel.specs.Sequent.{InSorts, AllHold, IsTrueAt, AllTrueAt}
 use Rattle.proof_kernel.specs.Rules.{same_label, hypothesis, sort_of, with_goal, conjuncts, lower_bound, upper_bound, ranged}
 

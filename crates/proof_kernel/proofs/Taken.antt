@@ -7,7 +7,7 @@ use Rattle.logic_term.specs.declared.subst.Renaming.{Renaming}
 use Rattle.logic_term.specs.Subst.{renamed}
 use Rattle.logic_term.specs.Term.{implied, every, Term, apply, bind, no_terms, and_term, implies, forall, is_implication, is_quantified}
 use Rattle.logic_term.specs.Ty.{Ty}
-use Rattle.proof_kernel.specs.declared.sequent.Sequent.{Sequent}
+use Rattle.proof_kernel.specs.Sequent.{Sequent}
 use Rattle.proof_kernel.specs.Intro.{assuming, declaring}
 use Rattle.proof_kernel.specs.Rules.{label, with_goal, Lead, premise, quantifier, led_by, variables, premises, renamings, under_names, TakesOff}
 

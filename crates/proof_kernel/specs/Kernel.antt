@@ -2,7 +2,7 @@
 use Rattle.std.specs.Prelude.{◌≡◌, ◌⊎◌, ℕ, ◌+◌, Bool, true, List, [], ◌∷◌, ◌++◌, Option, Some, None, Result, Err, ◌&&◌, nat_lt}
 use Rattle.std.specs.List.{list_all}
 use Rattle.logic_term.specs.declared.kinds.Label2.{Label2}
-use Rattle.proof_kernel.specs.declared.sequent.Sequent.{Sequent}
+use Rattle.proof_kernel.specs.Sequent.{Sequent}
 use Rattle.proof_kernel.specs.declared.step.Multiple.{Multiple}
 use Rattle.proof_kernel.specs.declared.step.Step.{Step}
 use Rattle.proof_kernel.specs.declared.step.Step.TheVariants.{Lin}

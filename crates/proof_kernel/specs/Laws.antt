@@ -5,7 +5,7 @@ use Rattle.logic_term.specs.declared.kinds.Label2.{Label2}
 use Rattle.logic_term.specs.Meaning.{Structure}
 use Rattle.logic_term.specs.Obligations.{IsTrueObligation}
 use Rattle.logic_term.specs.declared.obligation.Obligation.{Obligation}
-use Rattle.proof_kernel.specs.declared.sequent.Sequent.{Sequent}
+use Rattle.proof_kernel.specs.Sequent.{Sequent}
 use Rattle.proof_kernel.specs.declared.setting.Tables.{Tables}
 use Rattle.proof_kernel.specs.declared.step.Step.{Step}
 use Rattle.proof_kernel.specs.Sequent.{IsTrueAt, AllTrueAt}

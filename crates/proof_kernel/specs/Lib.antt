@@ -7,6 +7,9 @@ pub mod LinArith
 pub mod LinColumns
 pub mod Linear
 pub mod LinearRows
+pub mod LocalContext
+pub mod LocalContextFalls
+pub mod LocalContextView
 pub mod Made
 pub mod Polynomial
 pub mod PolynomialCode
@@ -14,5 +17,6 @@ pub mod Progress
 pub mod ProgressCode
 pub mod Rules
 pub mod Sequent
+pub mod SequentCode
 pub mod Setting
 pub mod Steps

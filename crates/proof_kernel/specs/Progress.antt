@@ -1,6 +1,6 @@
 -- A proof under way.
 use Rattle.std.specs.Prelude.{ℕ, List}
-use Rattle.proof_kernel.specs.declared.sequent.Sequent.{Sequent}
+use Rattle.proof_kernel.specs.Sequent.{Sequent}
 use Rattle.proof_kernel.specs.Setting.{Setting}
 
 pub record Progress : Type 0 where

@@ -5,8 +5,8 @@ use Rattle.text_core.specs.contracts.name.Name as name
 use Rattle.text_core.specs.declared.name.Name.{Name}
 use Rattle.logic_term.specs.contracts.obligation.Bounds as bounds
 use Rattle.logic_term.specs.declared.obligation.Bounds.{Bounds}
-use Rattle.proof_kernel.specs.contracts.sequent.Sequent as sequent
-use Rattle.proof_kernel.specs.declared.sequent.Sequent.{Sequent}
+use Rattle.proof_kernel.specs.SequentCode.{coded_sequent}
+use Rattle.proof_kernel.specs.Sequent.{Sequent}
 use Rattle.proof_kernel.specs.contracts.setting.Tables as tables
 use Rattle.proof_kernel.specs.declared.setting.Tables.{Tables}
 use Rattle.proof_kernel.specs.Setting.{Setting}
@@ -22,7 +22,7 @@ coded_setting =
 
 abbrev pub coded_progress : Coded Progress
 coded_progress =
-    code_by ((Setting × ℕ) × List Sequent) (coded× (coded× coded_setting coded_ℕ) (coded_list sequent.the_row.coded))
+    code_by ((Setting × ℕ) × List Sequent) (coded× (coded× coded_setting coded_ℕ) (coded_list coded_sequent))
     (λ k. ((k.setting, k.step), k.left))
     (λ p. record { setting = p.0.0; step = p.0.1; left = p.1 })
     (λ _. refl)

@@ -11,7 +11,7 @@ use Rattle.logic_term.specs.Free.{free}
 use Rattle.logic_term.specs.declared.subst.Renaming.{Renaming}
 use Rattle.logic_term.specs.Canonical.{is_one_of}
 use Rattle.logic_term.specs.Subst.{renamed}
-use Rattle.proof_kernel.specs.declared.sequent.Sequent.{Sequent}
+use Rattle.proof_kernel.specs.Sequent.{Sequent}
 
 -- ---- labels, variables and hypotheses
 

@@ -1,4 +1,4 @@
--- The truth of sequents.
+-- Sequents, and their truth.
 use Rattle.std.specs.Prelude.{List, [], ◌∷◌}
 use Rattle.text_core.specs.declared.name.Name.{Name}
 use Rattle.logic_term.specs.Ty.{Ty}
@@ -8,7 +8,12 @@ use Rattle.logic_term.specs.Theory.{declared}
 use Rattle.logic_term.specs.Meaning.{Structure, Env, Holds}
 use Rattle.logic_term.specs.declared.kinds.Label2.{Label2}
 use Rattle.logic_term.specs.declared.obligation.Obligation.{Obligation}
-use Rattle.proof_kernel.specs.declared.sequent.Sequent.{Sequent}
+
+-- variables with their sorts, labelled hypotheses, and a goal
+pub record Sequent : Type 0 where
+  pub vars : List (Name × Ty)
+  pub hyps : List (Label2 × Term)
+  pub goal : Term
 
 -- each variable has a value of its sort
 abbrev pub InSorts : Structure → List (Name × Ty) → Env → Type 0

@@ -1,37 +1,24 @@
 //! The step that takes off what leads a goal.
-ghost use Rattle.std.specs.Prelude.{◌≡◌, ◌↔◌, ◌≤◌, ℕ, List, ◌∷◌, ◌++◌, ◌+◌, [], None, Some, IfOk, OnOk, IsTrue, MatchOption, false};
+ghost use Rattle.std.specs.Prelude.{◌≡◌, ◌↔◌, ◌≤◌, ℕ, List, ◌∷◌, ◌++◌, ◌+◌, [], None, Some, IfOk, IsTrue, MatchOption, false};
 ghost use Rattle.text_core.specs.declared.name.Name.{Name};
 ghost use Rattle.logic_term.specs.Subst.{renamed};
-ghost use Rattle.proof_kernel.specs.declared.sequent.Sequent.{Sequent};
+ghost use Rattle.proof_kernel.specs.Sequent.{Sequent};
 ghost use Rattle.proof_kernel.specs.Rules.{label, sort_of, with_goal, AreNew, IsNew, TakesOff, Intros, TakesSome};
 ghost use Rattle.proof_kernel.specs.Intro.{assuming, declaring, IsAbove};
 
-use crate::sequent::{Sequent, sort_of_var};
+use crate::sequent::Sequent;
 use logic_term::{Label2, Renaming, Sort, Term, TermBinary, TermForm, is_one_of};
 use std::alloc::Global;
 use text_core::{Name, NoMemory};
 
 // ---- new names
 
-/// A number past all names that are free in the sequent.
-fn above_free(alloc: Global, q: &Sequent) -> Result<u64, NoMemory>
-    ensures { IfOk result (λ n. IsAbove n q.now) }
-{
-    let mut most = q.goal.above_free(alloc)?;
-    let hyps = q.hyps.as_slice();
-    for i in 0..hyps.len() {
-        let hyp = &hyps[i];
-        most = most.max(hyp.1.above_free(alloc)?);
-    }
-    Ok(most)
-}
-
 /// Whether the name is no variable of the sequent and free nowhere in it. What is past `above` is free nowhere.
 fn is_new(alloc: Global, name: Name, q: &Sequent, above: u64) -> Result<bool, NoMemory>
     requires { IsAbove above q.now }
     ensures { IfOk result (λ b. IsTrue b ↔ IsNew name q.now) }
 {
-    if sort_of_var(name, q.vars.as_slice()).is_some() {
+    if q.sort_of(name).is_some() {
         return Ok(false);
     }
     if above <= name.0 {
@@ -44,7 +31,7 @@ fn is_new(alloc: Global, name: Name, q: &Sequent, above: u64) -> Result<bool, No
 fn are_new(alloc: Global, names: &[Name], q: &Sequent) -> Result<bool, NoMemory>
     ensures { IfOk result (λ b. IsTrue b ↔ AreNew names.now q.now) }
 {
-    let above = above_free(alloc, q)?;
+    let above = q.above_free(alloc)?;
     for i in 0..names.len() {
         if !is_new(alloc, names[i], q, above)? || is_one_of(names[i], &names[i + 1..]) {
             return Ok(false);
@@ -66,37 +53,28 @@ struct Taken {
 
 impl Taken {
     /// One more hypothesis of the step.
-    fn assume(&mut self, alloc: Global, step: u32, premise: &Term) -> Result<(), NoMemory>
-        ensures q { OnOk result (self.new.q ≡ assuming self.old.q (label step self.old.part) (renamed self.old.bound.items premise.now)) }
-        ensures bound { OnOk result (self.new.bound.items ≡ self.old.bound.items) }
-        ensures part { OnOk result (self.new.part ≡ self.old.part + 1) }
+    fn assume(self, alloc: Global, step: u32, premise: &Term) -> Result<Taken, NoMemory>
+        ensures q { IfOk result (λ taken. taken.q ≡ assuming self.q (label step self.part) (renamed self.bound.items premise.now)) }
+        ensures bound { IfOk result (λ taken. taken.bound.items ≡ self.bound.items) }
+        ensures part { IfOk result (λ taken. taken.part ≡ self.part + 1) }
     {
-        let hyp = premise.renamed(alloc, &mut self.bound)?;
-        let label = Label2 {
-            step,
-            part: self.part,
-        };
-        self.part = self.part.checked_add(1).ok_or(NoMemory)?;
-        self.q.hyps.push((label, hyp))?;
-        Ok(())
+        let Taken { q, mut bound, part } = self;
+        let hyp = premise.renamed(alloc, &mut bound)?;
+        let q = q.assuming(alloc, Label2 { step, part }, hyp)?;
+        let part = part.checked_add(1).ok_or(NoMemory)?;
+        Ok(Taken { q, bound, part })
     }
 
     /// One more variable, for a quantifier over `from`.
-    fn declare(
-        &mut self,
-        alloc: Global,
-        name: Name,
-        from: Name,
-        sort: &Sort,
-    ) -> Result<(), NoMemory>
-        ensures q { OnOk result (self.new.q ≡ declaring self.old.q name sort.now) }
-        ensures bound { OnOk result (self.new.bound.items ≡ self.old.bound.items ++ record { from = from; to = name } ∷ []) }
-        ensures part { OnOk result (self.new.part ≡ self.old.part) }
+    fn declare(self, alloc: Global, name: Name, from: Name, sort: &Sort) -> Result<Taken, NoMemory>
+        ensures q { IfOk result (λ taken. taken.q ≡ declaring self.q name sort.now) }
+        ensures bound { IfOk result (λ taken. taken.bound.items ≡ self.bound.items ++ record { from = from; to = name } ∷ []) }
+        ensures part { IfOk result (λ taken. taken.part ≡ self.part) }
     {
-        let sort = sort.copy(alloc)?;
-        self.q.vars.push((name, sort))?;
-        self.bound.push(Renaming { from, to: name })?;
-        Ok(())
+        let Taken { q, mut bound, part } = self;
+        let q = q.declaring(alloc, name, sort.copy(alloc)?)?;
+        bound.push(Renaming { from, to: name })?;
+        Ok(Taken { q, bound, part })
     }
 
     /// The sequent, with what is left of the goal.
@@ -108,12 +86,7 @@ impl Taken {
             mut bound,
             part: _,
         } = self;
-        let goal = goal.renamed(alloc, &mut bound)?;
-        Ok(Sequent {
-            vars: q.vars,
-            hyps: q.hyps,
-            goal,
-        })
+        q.with_goal(goal.renamed(alloc, &mut bound)?)
     }
 }
 
@@ -124,21 +97,21 @@ fn take(alloc: Global, step: u32, names: &[Name], q: &Sequent) -> Result<Option<
         (λ r. TakesOff step names.now q.now r)) }
 {
     let mut left = Taken {
-        q: q.copy(alloc)?,
+        q: q.share()?,
         bound: Vec::new(alloc),
         part: 1,
     };
-    let mut goal = &q.goal;
+    let mut goal = q.goal();
     let mut used: usize = 0;
     let mut leads = true;
     while leads {
         match goal.form() {
             TermForm::Binary(TermBinary::Implies, premise, rest) => {
-                left.assume(alloc, step, premise)?;
+                left = left.assume(alloc, step, premise)?;
                 goal = rest;
             }
             TermForm::Forall(from, sort, body) if used < names.len() => {
-                left.declare(alloc, names[used], from, sort)?;
+                left = left.declare(alloc, names[used], from, sort)?;
                 used += 1;
                 goal = body;
             }
@@ -156,7 +129,7 @@ fn take(alloc: Global, step: u32, names: &[Name], q: &Sequent) -> Result<Option<
 fn takes_some(names: &[Name], q: &Sequent) -> bool
     ensures { IsTrue result ↔ TakesSome names.now q.now }
 {
-    !names.is_empty() || q.goal.is_implication()
+    !names.is_empty() || q.goal().is_implication()
 }
 
 /// The premise of a step that takes off what leads the goal, with these names for the quantifiers; `None` exactly where no such step applies.

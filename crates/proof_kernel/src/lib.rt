@@ -6,6 +6,7 @@ mod kernel;
 mod laws;
 mod lin_arith;
 mod linear;
+mod local_context;
 mod polynomial;
 mod rules;
 mod sequent;

@@ -9,9 +9,9 @@ use crate::lin_arith::{CertAnswer, Part, Row, check_certificate};
 use crate::polynomial::{
     Polynomial, Summand, coefficient, copy_monomial, polynomial, same_monomial, subtracted,
 };
-use crate::sequent::{Sequent, hypothesis_of, sort_of_var};
+use crate::sequent::Sequent;
 use crate::step::{Multiple, Reference};
-use logic_term::{Sort, Term, TermBinary, TermForm, TermUnary, TyNode};
+use logic_term::{Term, TermBinary, TermForm, TermUnary, TyNode};
 use std::alloc::Global;
 use text_core::{Items, Name, NoMemory};
 
@@ -57,21 +57,21 @@ fn greater<'a>(upper: &'a Term, lower: &'a Term) -> Sides<'a>
 // ---- the rows of formulas
 
 /// Whether the variable has the sort `Int`.
-fn is_integer_var(vars: &[(Name, Sort)], name: Name) -> bool
-    ensures { result ≡ is_math_int_var (sort_of name vars.now) }
+fn is_integer_var(q: &Sequent, name: Name) -> bool
+    ensures { result ≡ is_math_int_var (sort_of name q.now.vars) }
 {
-    match sort_of_var(name, vars) {
+    match q.sort_of(name) {
         Some(sort) => matches!(sort.node, TyNode::MathInt),
         None => false,
     }
 }
 
 /// Whether the term has the sort `Int`.
-fn is_integer(vars: &[(Name, Sort)], t: &Term) -> bool
-    ensures { result ≡ is_integer vars.now t.now }
+fn is_integer(q: &Sequent, t: &Term) -> bool
+    ensures { result ≡ is_integer q.now.vars t.now }
 {
     match t.form() {
-        TermForm::Var(name) => is_integer_var(vars, name),
+        TermForm::Var(name) => is_integer_var(q, name),
         TermForm::Lit(_, sort) => matches!(sort.node, TyNode::MathInt),
         TermForm::Unary(TermUnary::Model | TermUnary::Negative, _)
         | TermForm::Binary(TermBinary::Arith(_), _, _) => true,
@@ -80,24 +80,24 @@ fn is_integer(vars: &[(Name, Sort)], t: &Term) -> bool
 }
 
 /// The row of a hypothesis; an equality gives one of integers alone.
-fn row_of<'a>(vars: &[(Name, Sort)], t: &'a Term) -> Option<Sides<'a>>
-    ensures { option_map difference result ≡ row_of vars.now t.now }
+fn row_of<'a>(q: &Sequent, t: &'a Term) -> Option<Sides<'a>>
+    ensures { option_map difference result ≡ row_of q.now.vars t.now }
 {
     match t.form() {
         TermForm::Binary(TermBinary::AtMost, a, b) => Some(at_least(b, a)),
         TermForm::Binary(TermBinary::Less, a, b) => Some(greater(b, a)),
-        TermForm::Binary(TermBinary::Equal, a, b) if is_integer(vars, a) => Some(at_least(b, a)),
+        TermForm::Binary(TermBinary::Equal, a, b) if is_integer(q, a) => Some(at_least(b, a)),
         TermForm::Unary(TermUnary::Not, denied) => row_of_goal(denied),
         _ => None,
     }
 }
 
 /// The row of an equality of integers the other way round.
-fn row_back<'a>(vars: &[(Name, Sort)], t: &'a Term) -> Option<Sides<'a>>
-    ensures { option_map difference result ≡ row_back vars.now t.now }
+fn row_back<'a>(q: &Sequent, t: &'a Term) -> Option<Sides<'a>>
+    ensures { option_map difference result ≡ row_back q.now.vars t.now }
 {
     match t.form() {
-        TermForm::Binary(TermBinary::Equal, a, b) if is_integer(vars, a) => Some(at_least(a, b)),
+        TermForm::Binary(TermBinary::Equal, a, b) if is_integer(q, a) => Some(at_least(a, b)),
         _ => None,
     }
 }
@@ -117,13 +117,9 @@ fn referred(q: &Sequent, of: Reference) -> Option<Sides<'_>>
     ensures { option_map difference result ≡ referred q.now of }
 {
     match of {
-        Reference::Goal => row_of_goal(&q.goal),
-        Reference::Hyp(label) => {
-            row_of(q.vars.as_slice(), hypothesis_of(label, q.hyps.as_slice())?)
-        }
-        Reference::Back(label) => {
-            row_back(q.vars.as_slice(), hypothesis_of(label, q.hyps.as_slice())?)
-        }
+        Reference::Goal => row_of_goal(q.goal()),
+        Reference::Hyp(label) => row_of(q, q.hypothesis(label)?),
+        Reference::Back(label) => row_back(q, q.hypothesis(label)?),
     }
 }
 

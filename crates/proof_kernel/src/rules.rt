@@ -6,7 +6,7 @@ ghost use Rattle.logic_term.specs.Canonical.{SameUpToNames};
 ghost use Rattle.logic_term.specs.Term.{Term as Tree, is_conjunction};
 ghost use Rattle.proof_kernel.specs.Rules.{hypothesis, sort_of, with_goal, conjuncts, lower_bound, upper_bound, ranged};
 
-use crate::sequent::{Sequent, hypothesis_of, sort_of_var};
+use crate::sequent::Sequent;
 use logic_term::{Label2, Term, TyNode};
 use source_kinds::IntKind;
 use std::alloc::Global;
@@ -16,9 +16,9 @@ use text_core::{Name, NoMemory};
 pub fn is_hypothesis(alloc: Global, label: Label2, q: &Sequent) -> Result<bool, NoMemory>
     ensures { IfOk result (λ b. IsTrue b ↔ ((h : Tree) × (hypothesis label q.now.hyps ≡ Some h) × SameUpToNames h q.now.goal)) }
 {
-    match hypothesis_of(label, q.hyps.as_slice()) {
+    match q.hypothesis(label) {
         None => Ok(false),
-        Some(h) => h.same_up_to_names(alloc, &q.goal),
+        Some(h) => h.same_up_to_names(alloc, q.goal()),
     }
 }
 
@@ -53,7 +53,7 @@ fn with_each_goal(alloc: Global, q: &Sequent, goals: &[Term]) -> Result<Vec<Sequ
     let mut premises = Vec::with_capacity(alloc, goals.len())?;
     for i in 0..goals.len() {
         let goal = goals[i].share()?;
-        premises.push(q.with_goal(alloc, goal)?)?;
+        premises.push(q.with_goal(goal)?)?;
     }
     Ok(premises)
 }
@@ -64,10 +64,10 @@ pub fn split(alloc: Global, q: &Sequent) -> Result<Option<Vec<Sequent>>, NoMemor
         (is_conjunction q.now.goal ≡ false)
         (λ premises. (is_conjunction q.now.goal ≡ true) × (premises.items ≡ map (with_goal q.now) (conjuncts q.now.goal)))) }
 {
-    if !q.goal.is_conjunction() {
+    if !q.goal().is_conjunction() {
         return Ok(None);
     }
-    let goals = conjuncts_of(alloc, &q.goal)?;
+    let goals = conjuncts_of(alloc, q.goal())?;
     let premises = with_each_goal(alloc, q, goals.as_slice())?;
     Ok(Some(premises))
 }
@@ -90,14 +90,6 @@ fn upper_bound_of(alloc: Global, kind: IntKind, name: Name) -> Result<Term, NoMe
     Term::at_most(alloc, model, highest)
 }
 
-/// The sequent with one more hypothesis.
-fn with_hyp(mut q: Sequent, label: Label2, hyp: Term) -> Result<Sequent, NoMemory>
-    ensures { IfOk result (λ r. r ≡ record { vars = q.vars; hyps = q.hyps ++ (label, hyp) ∷ []; goal = q.goal }) }
-{
-    q.hyps.push((label, hyp))?;
-    Ok(q)
-}
-
 fn with_bounds(
     alloc: Global,
     step: u32,
@@ -109,8 +101,9 @@ fn with_bounds(
 {
     let lower = lower_bound_of(alloc, kind, name)?;
     let upper = upper_bound_of(alloc, kind, name)?;
-    let q = with_hyp(q.copy(alloc)?, Label2 { step, part: 1 }, lower)?;
-    with_hyp(q, Label2 { step, part: 2 }, upper)
+    let q = q.share()?;
+    let q = q.assuming(alloc, Label2 { step, part: 1 }, lower)?;
+    q.assuming(alloc, Label2 { step, part: 2 }, upper)
 }
 
 /// The sequent with the bounds of the variable; `None` exactly where it is no variable of a machine type.
@@ -119,7 +112,7 @@ pub fn range(alloc: Global, step: u32, name: Name, q: &Sequent) -> Result<Option
         ((k : IntKind) → sort_of name q.now.vars ≢ Some (int k))
         (λ p. (k : IntKind) × (sort_of name q.now.vars ≡ Some (int k)) × (p ≡ ranged step k name q.now))) }
 {
-    match sort_of_var(name, q.vars.as_slice()) {
+    match q.sort_of(name) {
         None => Ok(None),
         Some(sort) => match &sort.node {
             TyNode::Int(kind) => {

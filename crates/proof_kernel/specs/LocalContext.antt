@@ -1,0 +1,18 @@
+-- The variables and the hypotheses of a local context, of which the last entry stands first, in the order in which they came.
+use Rattle.std.specs.Prelude.{List, [], ◌∷◌, ◌++◌}
+use Rattle.text_core.specs.declared.name.Name.{Name}
+use Rattle.logic_term.specs.declared.kinds.Label2.{Label2}
+use Rattle.logic_term.specs.Ty.{Ty}
+use Rattle.logic_term.specs.Term.{Term}
+use Rattle.proof_kernel.specs.declared.local_context.LocalEntry.{LocalEntry}
+use Rattle.proof_kernel.specs.declared.local_context.LocalEntry.TheVariants.{Variable, Hypothesis}
+
+abbrev pub variables_in : List LocalEntry → List (Name × Ty)
+variables_in [] = []
+variables_in (Variable x s ∷ es) = variables_in es ++ (x, s) ∷ []
+variables_in (Hypothesis l h ∷ es) = variables_in es
+
+abbrev pub hypotheses_in : List LocalEntry → List (Label2 × Term)
+hypotheses_in [] = []
+hypotheses_in (Variable x s ∷ es) = hypotheses_in es
+hypotheses_in (Hypothesis l h ∷ es) = hypotheses_in es ++ (l, h) ∷ []

@@ -1,0 +1,206 @@
+//! The local context of a sequent: its variables and its hypotheses.
+ghost use Rattle.std.specs.Prelude.{◌≡◌, ◌≤◌, ◌∷◌, [], IfOk, MatchOption, false};
+ghost use Rattle.std.specs.Option.{option_copied};
+ghost use Rattle.text_core.specs.declared.name.Name.{Name};
+ghost use Rattle.logic_term.specs.Canonical.{above_free};
+ghost use Rattle.proof_kernel.specs.Rules.{hypothesis, sort_of, free_in_hyps};
+ghost use Rattle.proof_kernel.specs.LocalContext.{variables_in, hypotheses_in};
+
+use logic_term::{Label2, Sort, Term};
+use std::alloc::Global;
+use std::marker::Model;
+use std::rc::Rc;
+use text_core::{Name, NoMemory};
+
+/// A variable with its sort, or a hypothesis with its label.
+#[derive(Drop)]
+pub(crate) enum LocalEntry {
+    Variable(Name, Sort),
+    Hypothesis(Label2, Term),
+}
+
+/// The variables and the hypotheses of a sequent, shared with the premises that have them too. Contracts see the list of the entries,
+/// the last one first.
+#[cycle(local_context)]
+pub(crate) struct LocalContext {
+    link: Rc<LocalLink>,
+}
+
+/// The last entry, and those before it.
+#[cycle(local_context)]
+#[derive(Drop)]
+pub(crate) enum LocalLink {
+    Start,
+    After(LocalEntry, LocalContext),
+}
+
+impl Model for LocalContext {
+    ghost use Rattle.std.specs.Prelude.{List, length};
+    ghost use Rattle.std.specs.Coded.{coded_list};
+    ghost use Rattle.proof_kernel.specs.contracts.local_context.LocalEntry as entries;
+    ghost use Rattle.proof_kernel.specs.declared.local_context.LocalEntry.{LocalEntry as EntryValue};
+
+    ghost Value = { List EntryValue };
+
+    ghost coded = { coded_list entries.the_row.coded };
+
+    ghost use Rattle.proof_kernel.specs.LocalContextView.{entries_of};
+
+    ghost view = { λ c. entries_of c.link.value };
+
+    ghost size = { length };
+
+    ghost use Rattle.proof_kernel.specs.LocalContextFalls.{falls};
+
+    ghost size_decreases = { λ a h. falls a.link.value };
+}
+
+// By a loop, so that a long context does not run out of stack.
+impl Drop for LocalContext {
+    fn drop(mut self) {
+        loop {
+            let LocalContext { link } = self;
+            match Rc::into_inner(link) {
+                Some(LocalLink::After(_, before)) => self = before,
+                Some(LocalLink::Start) | None => return,
+            }
+        }
+    }
+}
+
+/// The sort of the variable, where the entry is this one.
+fn sort_at(entry: &LocalEntry, name: Name) -> Option<&Sort>
+    ensures { option_copied result ≡ sort_of name (variables_in (entry.now ∷ [])) }
+{
+    match entry {
+        LocalEntry::Variable(other, sort) if name.0 == other.0 => Some(sort),
+        _ => None,
+    }
+}
+
+/// The hypothesis of the label, where the entry is this one.
+fn hypothesis_at(entry: &LocalEntry, label: Label2) -> Option<&Term>
+    ensures { option_copied result ≡ hypothesis label (hypotheses_in (entry.now ∷ [])) }
+{
+    match entry {
+        LocalEntry::Hypothesis(other, hyp)
+            if label.step == other.step && label.part == other.part => { Some(hyp) }
+        _ => None,
+    }
+}
+
+/// Whether the name is free in the entry's hypothesis.
+fn is_free_at(alloc: Global, entry: &LocalEntry, name: Name) -> Result<bool, NoMemory>
+    ensures { IfOk result (λ b. b ≡ free_in_hyps name (hypotheses_in (entry.now ∷ []))) }
+{
+    match entry {
+        LocalEntry::Variable(_, _) => Ok(false),
+        LocalEntry::Hypothesis(_, hyp) => hyp.free_in(alloc, name),
+    }
+}
+
+/// A number past all names that are free in the entry's hypothesis, and at least the other number.
+#[tactic(auto, using(crate::proofs::IntroLaw::not_free_above))]
+fn above_entry(alloc: Global, entry: &LocalEntry, most: u64) -> Result<u64, NoMemory>
+    ensures most { IfOk result (λ n. most ≤ n) }
+    ensures above { IfOk result (λ n. (x : Name) → n ≤ x.0 → free_in_hyps x (hypotheses_in (entry.now ∷ [])) ≡ false) }
+{
+    match entry {
+        LocalEntry::Variable(_, _) => Ok(most),
+        LocalEntry::Hypothesis(_, hyp) => Ok(most.max(hyp.above_free(alloc)?)),
+    }
+}
+
+impl LocalContext {
+    /// No entries.
+    pub(crate) fn new(alloc: Global) -> Result<LocalContext, NoMemory>
+        ensures { IfOk result (λ c. c ≡ []) }
+    {
+        let link = Rc::new(alloc, LocalLink::Start)?;
+        Ok(LocalContext { link })
+    }
+
+    /// The same entries, shared. Want of memory is answered where they are shared too often to be counted.
+    pub(crate) fn share(&self) -> Result<LocalContext, NoMemory>
+        ensures { IfOk result (λ c. c ≡ self.now) }
+    {
+        let link = self.link.clone()?;
+        Ok(LocalContext { link })
+    }
+
+    /// One more entry, behind the others.
+    pub(crate) fn and(self, alloc: Global, entry: LocalEntry) -> Result<LocalContext, NoMemory>
+        ensures { IfOk result (λ c. c ≡ entry ∷ self) }
+    {
+        let link = Rc::new(alloc, LocalLink::After(entry, self))?;
+        Ok(LocalContext { link })
+    }
+
+    /// The last entry, and what stands before it.
+    fn last(&self) -> Option<(&LocalEntry, &LocalContext)>
+        ensures { MatchOption result (self.now ≡ []) (λ p. self.now ≡ p.0.now ∷ p.1.now) }
+    {
+        match &*self.link {
+            LocalLink::Start => None,
+            LocalLink::After(entry, before) => Some((entry, before)),
+        }
+    }
+
+    /// The sort of the variable; `None` exactly where it is not declared.
+    pub(crate) fn sort_of(&self, name: Name) -> Option<&Sort>
+        ensures { option_copied result ≡ sort_of name (variables_in self.now) }
+    {
+        let mut here = self;
+        let mut found = None;
+        while let Some((entry, before)) = here.last() {
+            if let Some(sort) = sort_at(entry, name) {
+                found = Some(sort);
+            }
+            here = before;
+        }
+        found
+    }
+
+    /// The hypothesis of the label; `None` exactly where there is none.
+    pub(crate) fn hypothesis(&self, label: Label2) -> Option<&Term>
+        ensures { option_copied result ≡ hypothesis label (hypotheses_in self.now) }
+    {
+        let mut here = self;
+        let mut found = None;
+        while let Some((entry, before)) = here.last() {
+            if let Some(hyp) = hypothesis_at(entry, label) {
+                found = Some(hyp);
+            }
+            here = before;
+        }
+        found
+    }
+
+    /// Whether the name is free in a hypothesis.
+    pub(crate) fn is_free(&self, alloc: Global, name: Name) -> Result<bool, NoMemory>
+        ensures { IfOk result (λ b. b ≡ free_in_hyps name (hypotheses_in self.now)) }
+    {
+        let mut here = self;
+        while let Some((entry, before)) = here.last() {
+            if is_free_at(alloc, entry, name)? {
+                return Ok(true);
+            }
+            here = before;
+        }
+        Ok(false)
+    }
+
+    /// A number past all names that are free in the hypotheses, and at least the other number.
+    pub(crate) fn above(&self, alloc: Global, least: u64) -> Result<u64, NoMemory>
+        ensures least { IfOk result (λ n. least ≤ n) }
+        ensures above { IfOk result (λ n. (x : Name) → n ≤ x.0 → free_in_hyps x (hypotheses_in self.now) ≡ false) }
+    {
+        let mut here = self;
+        let mut most = least;
+        while let Some((entry, before)) = here.last() {
+            most = above_entry(alloc, entry, most)?;
+            here = before;
+        }
+        Ok(most)
+    }
+}
