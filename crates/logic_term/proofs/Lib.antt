@@ -2,8 +2,10 @@ pub mod Alike
 pub mod Bound
 pub mod CanonicalLaw
 pub mod Coincide
+pub mod Depths
 pub mod Erased
 pub mod FreeLaw
+pub mod GoalLaw
 pub mod Made
 pub mod Pairs
 pub mod PlacedLaw

@@ -1,7 +1,8 @@
 //! What stands before a formula: variables, and what is known.
-ghost use Rattle.std.specs.Prelude.{◌≡◌, ◌∷◌, [], IfOk};
-ghost use Rattle.logic_term.specs.Context.{closed};
+ghost use Rattle.std.specs.Prelude.{◌≡◌, ◌∷◌, [], IfOk, MatchOption};
+ghost use Rattle.logic_term.specs.Context.{closed, count_variables, numbers, numbered_term};
 
+use crate::subst::Replacement;
 use crate::term::Term;
 use crate::ty::Ty;
 use std::alloc::Global;
@@ -116,5 +117,57 @@ impl Context {
             here = before;
         }
         Ok(all)
+    }
+
+    /// The last entry, and what stands before it.
+    pub fn last(&self) -> Option<(&Entry, &Context)>
+        ensures { MatchOption result (self.now ≡ []) (λ p. self.now ≡ p.0.now ∷ p.1.now) }
+    {
+        match &*self.link {
+            Link::Start => None,
+            Link::After(entry, before) => Some((entry, before)),
+        }
+    }
+
+    /// How many variables there are.
+    pub fn count_variables(&self) -> Result<u64, NoMemory>
+        ensures { IfOk result (λ n. n ≡ count_variables self.now) }
+    {
+        let mut count: u64 = 0;
+        let mut here = self;
+        while let Some((entry, before)) = here.last() {
+            if let Entry::Variable(_, _) = entry {
+                count = count.checked_add(1).ok_or(NoMemory)?;
+            }
+            here = before;
+        }
+        Ok(count)
+    }
+
+    /// Each variable's number in place of its name, the last one first.
+    fn numbers(&self, alloc: Global) -> Result<Vec<Replacement>, NoMemory>
+        ensures { IfOk result (λ v. v.items ≡ numbers self.now) }
+    {
+        let mut all = Vec::new(alloc);
+        let mut left = self.count_variables()?;
+        let mut here = self;
+        while let Some((entry, before)) = here.last() {
+            if let Entry::Variable(name, _) = entry {
+                left -= 1;
+                let by = Term::var(alloc, Name(left))?;
+                all.push(Replacement { name: *name, by })?;
+            }
+            here = before;
+        }
+        Ok(all)
+    }
+
+    /// The term behind the entries in normal form, with numbers for their variables, and its bound names numbered from there on.
+    pub fn numbered_term(&self, alloc: Global, t: &Term) -> Result<Term, NoMemory>
+        ensures { IfOk result (λ r. r ≡ numbered_term self.now t.now) }
+    {
+        let numbers = self.numbers(alloc)?;
+        let next = self.count_variables()?;
+        t.placed(alloc, true, next, numbers.as_slice())
     }
 }

@@ -1,6 +1,6 @@
 //! Goals: formulas behind what stands before them.
-ghost use Rattle.std.specs.Prelude.{◌≡◌, IfOk};
-ghost use Rattle.logic_term.specs.Context.{closed};
+ghost use Rattle.std.specs.Prelude.{◌≡◌, IfOk, MatchOption};
+ghost use Rattle.logic_term.specs.Context.{closed, IsOpened};
 ghost use Rattle.logic_term.specs.Normal.{reduced};
 
 use crate::context::Context;
@@ -63,5 +63,21 @@ impl Goal {
         let formula = self.formula.share()?;
         let closed = self.context.close(alloc, formula)?;
         reduce(alloc, &closed)
+    }
+
+    /// What stands before the formula in the closed formula, shared, and the formula there, both with numbers for the variables. No known
+    /// formula is made for it. `None` where names are free in the goal.
+    pub fn opened(&self, alloc: Global) -> Result<Option<(Context, Term)>, NoMemory>
+        ensures { IfOk result (λ o. MatchOption o (Unit {0}) (λ p. IsOpened self.now p.0 p.1)) }
+    {
+        let formula = self.formula.share()?;
+        let closed = self.context.close(alloc, formula)?;
+        let above = closed.above_free(alloc)?;
+        if above > 0 {
+            return Ok(None);
+        }
+        let formula = self.context.numbered_term(alloc, &self.formula)?;
+        let context = self.context.share()?;
+        Ok(Some((context, formula)))
     }
 }

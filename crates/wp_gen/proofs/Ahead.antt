@@ -9,7 +9,7 @@ use Rattle.logic_term.specs.Placed.{Placing, itself, put, name_at, placed}
 use Rattle.logic_term.specs.Subst.{above, look, placing}
 use Rattle.logic_term.specs.Term.{Term, var, forall, implies}
 use Rattle.logic_term.proofs.Coincide.{free_above}
-use Rattle.wp_gen.proofs.Depths.{Denotes, denotes_at, free_placed, placed_twice, put_counts, same_reducts}
+use Rattle.logic_term.proofs.Depths.{Denotes, denotes_at, free_placed, placed_twice, put_counts, same_reducts}
 use Rattle.logic_term.proofs.FreeLaw.{same_test}
 use Rattle.wp_gen.specs.declared.command.Command.{Command}
 use Rattle.wp_gen.specs.declared.command.Command.TheVariants.{Set, Fresh, Assume}

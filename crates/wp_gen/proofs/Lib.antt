@@ -7,5 +7,4 @@ pub mod GoalLists
 pub mod WalkLaws
 pub mod ArriveLaws
 pub mod CountLaws
-pub mod Depths
 pub mod ExistLaws

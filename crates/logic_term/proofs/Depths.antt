@@ -269,3 +269,16 @@ pub same_reducts : (t u : Term) → ((n : ℕ) → placed true n itself t ≡ pl
 same_reducts t u h =
     let n : ℕ = max (above_free [] t) (above_free [] u) in
     reduced_at t n (omega arith) ∙ ap canonical (h n) ∙ sym (reduced_at u n (omega arith))
+
+-- ---- terms without free names
+
+at_zero : (t : Term) → above_free [] t ≡ 0 → above_free [] (placed true 0 itself t) ≡ 0
+at_zero t none =
+    let within : above_free [] (placed true 0 itself t) ≤ above_free [] t = not_above (placed true 0 itself t) t (λ x e. same_name_free t x (free_placed true t 0 itself x e)) in
+    omega arith
+
+pub reduced_closed : (t : Term) → above_free [] t ≡ 0 → reduced t ≡ placed true 0 itself t
+reduced_closed t none = reduced_at t 0 (omega arith) ∙ reduct_canonical t 0 (omega arith) ∙ ap (λ k. placed true k itself t) (at_zero t none)
+
+pub closed_above : (t : Term) → above_free [] t ≡ 0 → above_free [] (reduced t) ≡ 0
+closed_above t none = ap (above_free []) (reduced_closed t none) ∙ at_zero t none
