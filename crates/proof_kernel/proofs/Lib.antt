@@ -21,6 +21,7 @@ pub mod LinearTotal
 pub mod LocalLaw
 pub mod Monomials
 pub mod Once
+pub mod OpenedLaw
 pub mod PolynomialSteps
 pub mod PolynomialValue
 pub mod Sound

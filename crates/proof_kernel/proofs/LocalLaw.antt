@@ -47,7 +47,7 @@ sort_seen x e here es all found at is here_is h =
 
 -- ---- hypotheses
 
-hypothesis_more : (l : Label2) (hs gs : List (Label2 × Term)) → hypothesis l (hs ++ gs) ≡ or_else (hypothesis l hs) (hypothesis l gs)
+pub hypothesis_more : (l : Label2) (hs gs : List (Label2 × Term)) → hypothesis l (hs ++ gs) ≡ or_else (hypothesis l hs) (hypothesis l gs)
 hypothesis_more l [] gs = refl
 hypothesis_more l (h ∷ hs) gs = by_head (same_label l h.0) h.1 (hypothesis l (hs ++ gs)) (hypothesis l hs) (hypothesis l gs) (hypothesis_more l hs gs)
 
@@ -64,7 +64,7 @@ hypothesis_seen l e here es all found at is here_is h =
 
 -- ---- free names
 
-free_more : (x : Name) (hs gs : List (Label2 × Term)) → free_in_hyps x (hs ++ gs) ≡ (free_in_hyps x hs || free_in_hyps x gs)
+pub free_more : (x : Name) (hs gs : List (Label2 × Term)) → free_in_hyps x (hs ++ gs) ≡ (free_in_hyps x hs || free_in_hyps x gs)
 free_more x [] gs = refl
 free_more x (h ∷ hs) gs = by (free x h.1) (free_more x hs gs)
   where
@@ -72,11 +72,11 @@ free_more x (h ∷ hs) gs = by (free x h.1) (free_more x hs gs)
     by true e = refl
     by false e = e
 
-or_false : (a b : Bool) → b ≡ false → (a || b) ≡ a
+pub or_false : (a b : Bool) → b ≡ false → (a || b) ≡ a
 or_false true b e = refl
 or_false false b e = e
 
-or_true : (a b : Bool) → b ≡ true → (a || b) ≡ true
+pub or_true : (a b : Bool) → b ≡ true → (a || b) ≡ true
 or_true true b e = refl
 or_true false b e = e
 

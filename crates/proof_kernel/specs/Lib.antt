@@ -11,6 +11,7 @@ pub mod LocalContext
 pub mod LocalContextFalls
 pub mod LocalContextView
 pub mod Made
+pub mod Opened
 pub mod Polynomial
 pub mod PolynomialCode
 pub mod Progress

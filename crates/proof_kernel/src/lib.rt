@@ -7,6 +7,7 @@ mod laws;
 mod lin_arith;
 mod linear;
 mod local_context;
+mod opened;
 mod polynomial;
 mod rules;
 mod sequent;

@@ -1,0 +1,123 @@
+//! What is known before the formula of a goal, as hypotheses under names. Each of them is made where it is looked up.
+ghost use Rattle.std.specs.Prelude.{◌≡◌, ◌≤◌, IfOk, false};
+ghost use Rattle.text_core.specs.declared.name.Name.{Name};
+ghost use Rattle.proof_kernel.specs.Opened.{count_known, known_under, opened_hypotheses, renames_from};
+ghost use Rattle.proof_kernel.specs.Rules.{hypothesis, free_in_hyps};
+
+use logic_term::{Context, Entry, Label2, Renaming, Term};
+use std::alloc::Global;
+use text_core::{Items, Name, NoMemory};
+
+/// What stands before the formula of a goal, with names for its variables. What is known there are the hypotheses of the step.
+#[derive(Drop)]
+pub(crate) struct Opened {
+    pub(crate) step: u32,
+    pub(crate) names: Items<Name>,
+    pub(crate) context: Context,
+}
+
+/// How many formulas are known.
+fn count_known(context: &Context) -> Result<u32, NoMemory>
+    ensures { IfOk result (λ n. n ≡ count_known context.now) }
+{
+    let mut count: u32 = 0;
+    let mut here = context;
+    while let Some((entry, before)) = here.last() {
+        if let Entry::Known(_) = entry {
+            count = count.checked_add(1).ok_or(NoMemory)?;
+        }
+        here = before;
+    }
+    Ok(count)
+}
+
+/// So many numbers, from 0 on, get the names at their places.
+fn renames(alloc: Global, count: u64, names: &[Name]) -> Result<Vec<Renaming>, NoMemory>
+    ensures { IfOk result (λ v. v.items ≡ renames_from 0 count names.now) }
+{
+    let mut all = Vec::new(alloc);
+    let mut number: u64 = 0;
+    for i in 0..names.len() {
+        if number == count {
+            return Ok(all);
+        }
+        all.push(Renaming {
+            from: Name(number),
+            to: names[i],
+        })?;
+        number += 1;
+    }
+    Ok(all)
+}
+
+/// The known formula behind the entries, under the names.
+pub(crate) fn known_under(
+    alloc: Global,
+    names: &[Name],
+    before: &Context,
+    known: &Term,
+) -> Result<Term, NoMemory>
+    ensures { IfOk result (λ t. t ≡ known_under names.now before.now known.now) }
+{
+    let numbered = before.numbered_term(alloc, known)?;
+    let mut bound = renames(alloc, before.count_variables()?, names)?;
+    numbered.renamed(alloc, &mut bound)
+}
+
+impl Opened {
+    /// The hypothesis of the label.
+    pub(crate) fn hypothesis(&self, alloc: Global, label: Label2) -> Result<Option<Term>, NoMemory>
+        ensures { IfOk result (λ o. o ≡ hypothesis label (opened_hypotheses self.now.step self.now.names self.now.context)) }
+    {
+        if label.step != self.step {
+            return Ok(None);
+        }
+        let mut part = count_known(&self.context)?;
+        let mut here = &self.context;
+        while let Some((entry, before)) = here.last() {
+            if let Entry::Known(known) = entry {
+                if part == label.part {
+                    let hyp = known_under(alloc, self.names.as_slice(), before, known)?;
+                    return Ok(Some(hyp));
+                }
+                part -= 1;
+            }
+            here = before;
+        }
+        Ok(None)
+    }
+
+    /// Whether the name is free in a hypothesis.
+    pub(crate) fn is_free(&self, alloc: Global, name: Name) -> Result<bool, NoMemory>
+        ensures { IfOk result (λ b. b ≡ free_in_hyps name (opened_hypotheses self.now.step self.now.names self.now.context)) }
+    {
+        let mut here = &self.context;
+        while let Some((entry, before)) = here.last() {
+            if let Entry::Known(known) = entry {
+                let hyp = known_under(alloc, self.names.as_slice(), before, known)?;
+                if hyp.free_in(alloc, name)? {
+                    return Ok(true);
+                }
+            }
+            here = before;
+        }
+        Ok(false)
+    }
+
+    /// A number past all names that are free in the hypotheses, and at least the other number.
+    pub(crate) fn above(&self, alloc: Global, least: u64) -> Result<u64, NoMemory>
+        ensures least { IfOk result (λ n. least ≤ n) }
+        ensures above { IfOk result (λ n. (x : Name) → n ≤ x.0 → free_in_hyps x (opened_hypotheses self.now.step self.now.names self.now.context) ≡ false) }
+    {
+        let mut most = least;
+        let mut here = &self.context;
+        while let Some((entry, before)) = here.last() {
+            if let Entry::Known(known) = entry {
+                let hyp = known_under(alloc, self.names.as_slice(), before, known)?;
+                most = most.max(hyp.above_free(alloc)?);
+            }
+            here = before;
+        }
+        Ok(most)
+    }
+}
