@@ -12,7 +12,8 @@ use Rattle.logic_term.specs.Term.{Term, is_implication, is_quantified}
 use Rattle.logic_term.proofs.CanonicalLaw.{free_below}
 use Rattle.proof_kernel.specs.Sequent.{Sequent}
 use Rattle.proof_kernel.specs.Rules.{with_goal, IsNew, AreNew, TakesOff, TakesSome, Intros}
-use Rattle.proof_kernel.proofs.Taken.{taken, other_ends, none_left, takes_off_computed, computed_takes_off}
+use Rattle.proof_kernel.specs.Intro.{taken}
+use Rattle.proof_kernel.proofs.Taken.{other_ends, none_left, takes_off_computed, computed_takes_off}
 
 -- ---- names that are new
 

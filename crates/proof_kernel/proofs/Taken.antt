@@ -8,22 +8,8 @@ use Rattle.logic_term.specs.Subst.{renamed}
 use Rattle.logic_term.specs.Term.{implied, every, Term, apply, bind, no_terms, and_term, implies, forall, is_implication, is_quantified}
 use Rattle.logic_term.specs.Ty.{Ty}
 use Rattle.proof_kernel.specs.Sequent.{Sequent}
-use Rattle.proof_kernel.specs.Intro.{assuming, declaring}
+use Rattle.proof_kernel.specs.Intro.{assuming, declaring, by_names, taken}
 use Rattle.proof_kernel.specs.Rules.{label, with_goal, Lead, premise, quantifier, led_by, variables, premises, renamings, under_names, TakesOff}
-
--- what comes of a list of names that is empty, and of one that is not
-abbrev pub by_names : {A : Type 0} → List Name → A → (Name → List Name → A) → A
-by_names [] none some = none
-by_names (x ∷ xs) none some = some x xs
-
--- the sequent q without all that leads its goal, of which t is left. names: for the quantifiers that are left. bound: the names that those
--- before got. k: the number of the next hypothesis of step s
-abbrev pub taken : (s : ℕ) → ℕ → List Name → List Renaming → Term → Sequent → Option Sequent
-taken s k names bound (apply implied (and_term a (and_term b no_terms))) q = taken s (suc k) names bound b (assuming q (label s k) (renamed bound a))
-taken s k names bound (apply implied ts) q = None
-taken s k names bound (bind every y t b) q =
-    by_names names (Some (with_goal q (renamed bound (forall y t b)))) (λ x others. taken s k others (bound ++ record { from = y; to = x } ∷ []) b (declaring q x t))
-taken s k names bound t q = by_names names (Some (with_goal q (renamed bound t))) (λ x others. None)
 
 -- no implication and no quantifier leads the term
 pub other_ends : (s k : ℕ) (names : List Name) (bound : List Renaming) (t : Term) (q : Sequent) → is_implication t ≡ false → is_quantified t ≡ false

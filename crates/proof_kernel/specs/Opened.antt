@@ -1,14 +1,16 @@
 -- What is known before the formula of a goal, as hypotheses under names.
-use Rattle.std.specs.Prelude.{ℕ, zero, suc, List, [], ◌∷◌, ◌++◌, zip}
+use Rattle.std.specs.Prelude.{◌≡◌, ◌≤◌, ℕ, zero, suc, List, [], ◌∷◌, ◌++◌, length, drop, zip}
 use Rattle.text_core.specs.declared.name.Name.{Name}
 use Rattle.logic_term.specs.declared.context.Entry.{Entry}
 use Rattle.logic_term.specs.declared.context.Entry.TheVariants.{Variable, Known}
 use Rattle.logic_term.specs.declared.kinds.Label2.{Label2}
 use Rattle.logic_term.specs.declared.subst.Renaming.{Renaming}
-use Rattle.logic_term.specs.Context.{count_variables, numbered_term}
+use Rattle.logic_term.specs.Context.{closed, count_variables, numbered, numbered_term}
 use Rattle.logic_term.specs.Subst.{renamed}
 use Rattle.logic_term.specs.Term.{Term}
 use Rattle.logic_term.specs.Ty.{Ty}
+use Rattle.proof_kernel.specs.Intro.{taken}
+use Rattle.proof_kernel.specs.Sequent.{Sequent}
 
 -- the sorts of the variables, in their order
 abbrev pub sorts_in : List Entry → List Ty
@@ -41,3 +43,13 @@ opened_hypotheses s names (Known a ∷ es) = opened_hypotheses s names es ++ (re
 -- the variables, under the names
 abbrev pub opened_variables : List Name → List Entry → List (Name × Ty)
 opened_variables names es = zip names (sorts_in es)
+
+-- the sequent with the variables and the known formulas of the entries, under the names
+abbrev pub opened_sequent : ℕ → List Name → List Entry → Term → Sequent
+opened_sequent s names es goal = record { vars = opened_variables names es; hyps = opened_hypotheses s names es; goal = goal }
+
+-- from a goal with nothing before it, numbered entries are taken off at once, where there is a name for each variable
+abbrev pub EntriesAreTakenOff : Type 0
+EntriesAreTakenOff = (s : ℕ) (names : List Name) (es : List Entry) (φ goal : Term) → count_variables es ≤ length names
+    → taken s 1 names [] (closed (numbered es) φ) (record { vars = []; hyps = []; goal = goal })
+    ≡ taken s (suc (count_known es)) (drop (count_variables es) names) (renames_from 0 (count_variables es) names) φ (opened_sequent s names es goal)

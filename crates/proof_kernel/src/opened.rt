@@ -1,12 +1,17 @@
 //! What is known before the formula of a goal, as hypotheses under names. Each of them is made where it is looked up.
 ghost use Rattle.std.specs.Prelude.{◌≡◌, ◌≤◌, IfOk, false};
 ghost use Rattle.text_core.specs.declared.name.Name.{Name};
-ghost use Rattle.proof_kernel.specs.Opened.{count_known, known_under, opened_hypotheses, renames_from};
+ghost use Rattle.proof_kernel.specs.Opened.{EntriesAreTakenOff, count_known, known_under, opened_hypotheses, renames_from};
 ghost use Rattle.proof_kernel.specs.Rules.{hypothesis, free_in_hyps};
 
 use logic_term::{Context, Entry, Label2, Renaming, Term};
 use std::alloc::Global;
 use text_core::{Items, Name, NoMemory};
+
+/// Numbered entries are taken off at once.
+fn entries_are_taken_off()
+    ensures { EntriesAreTakenOff }
+{}
 
 /// What stands before the formula of a goal, with names for its variables. What is known there are the hypotheses of the step.
 #[derive(Drop)]
