@@ -13,13 +13,13 @@ use Rattle.proof_kernel.specs.declared.step.Multiple.{Multiple}
 use Rattle.proof_kernel.specs.declared.step.Reference.{Reference}
 use Rattle.proof_kernel.specs.declared.step.Reference.TheVariants.{Goal, Hyp as Of, Back}
 use Rattle.proof_kernel.specs.declared.step.Step.{Step}
-use Rattle.proof_kernel.specs.Intro.{assuming, declaring}
+use Rattle.proof_kernel.specs.Intro.{assuming, declaring, taken}
 use Rattle.proof_kernel.specs.Rules.{label, same_label, hypothesis, sort_of, with_goal, lower_bound, upper_bound}
 use Rattle.proof_kernel.specs.Linear.{Difference, row_of, row_back, row_if_found, referred, AreRows}
 use Rattle.proof_kernel.specs.Setting.{Setting}
 use Rattle.proof_kernel.specs.Steps.{labels_in, labels_of, new_names, IsLabelOf, IsVariableOf, AddsItsOwn}
 use Rattle.proof_kernel.specs.Derivation.{Gives, by_intro, by_hyp, by_split, by_range, by_lin}
-use Rattle.proof_kernel.proofs.Taken.{taken, takes_off_computed}
+use Rattle.proof_kernel.proofs.Taken.{takes_off_computed}
 
 -- P is so of each item
 abbrev pub Each : {A : Type 0} → (A → Type 0) → List A → Type 0

@@ -22,10 +22,10 @@ use Rattle.logic_term.proofs.PlacedLaw.{with_terms_means}
 use Rattle.logic_term.proofs.Truth.{holds_implies, holds_forall}
 use Rattle.proof_kernel.specs.Sequent.{Sequent}
 use Rattle.proof_kernel.specs.Sequent.{InSorts, AllHold, IsTrueAt}
-use Rattle.proof_kernel.specs.Intro.{assuming, declaring}
+use Rattle.proof_kernel.specs.Intro.{assuming, declaring, taken}
 use Rattle.proof_kernel.specs.Rules.{label, sort_of, free_in_hyps, with_goal, IsNew, AreNew, Intros}
 use Rattle.proof_kernel.proofs.Sound.{sorts_more, hyps_more}
-use Rattle.proof_kernel.proofs.Taken.{taken, takes_off_computed}
+use Rattle.proof_kernel.proofs.Taken.{takes_off_computed}
 
 -- ---- the names that stand for names
 
