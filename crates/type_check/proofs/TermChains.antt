@@ -1,5 +1,5 @@
 -- Down the left operands of chains in terms, and up again.
-use Rattle.std.proofs.Common.{◌≡◌, ◌∙◌, ℕ, suc, ◌≤◌, ◌<◌, max, List, [], ◌∷◌, ◌++◌, refl, ap, sym, Option, Result, Ok, Err, arith}
+use Rattle.std.proofs.Common.{◌≡◌, ◌∙◌, ℕ, suc, ◌≤◌, max, List, [], ◌∷◌, ◌++◌, refl, ap, sym, Option, Result, Ok, Err, arith}
 use Rattle.text_core.specs.declared.fault.PassError.{PassError}
 use Rattle.text_core.specs.declared.refusal.SourceError.{SourceError}
 use Rattle.text_core.specs.declared.span.Span.{Span}
@@ -9,7 +9,6 @@ use Rattle.source_trees.specs.Pterm.{Pterm}
 use Rattle.source_trees.specs.PtermView.{pterm_size, span_of}
 use Rattle.type_check.specs.declared.scope.Variable.{Variable}
 use Rattle.type_check.specs.declared.sorted.SortedTerm.{SortedTerm}
-use Rattle.type_check.specs.declared.term_chain.Connective.{Connective}
 use Rattle.type_check.specs.declared.term_chain.Connective.TheVariants as connective
 use Rattle.type_check.specs.declared.term_chain.TermOperation.{TermOperation}
 use Rattle.type_check.specs.declared.term_chain.TermOperation.TheVariants as operation

@@ -1,4 +1,4 @@
-use Rattle.std.proofs.Common.{rules, ◌≡◌, ◌*◌, ◌+◌, ◌≤◌, arith}
+use Rattle.std.proofs.Common.{rules, ◌≡◌, ◌*◌, ◌+◌, arith}
 use Rattle.type_check.specs.TypedExprView.{typed_size}
 use Rattle.type_check.proofs.Dropped.{args_fall, stmts_fall, stmts_with_fall}
 use Rattle.type_check.proofs.+typed.Goals as goal
