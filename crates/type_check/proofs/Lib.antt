@@ -1,5 +1,7 @@
 pub mod Arguments
 pub mod Bound
+pub mod Chains
+pub mod Dropped
 pub mod Fits
 pub mod Lookups
 pub mod PartByPart
@@ -8,6 +10,7 @@ pub mod Refusing
 pub mod SameTypes
 pub mod Speaking
 pub mod StatementLists
+pub mod TermChains
 pub mod TypedParts
 pub mod Whole
 pub mod WrittenTypes

@@ -1,11 +1,13 @@
 pub mod Answers
 pub mod Causes
+pub mod Chains
 pub mod Checked
 pub mod FirstBad
 pub mod Functions
 pub mod Laws
 pub mod Names
 pub mod Scope
+pub mod TermChains
 pub mod Terms
 pub mod TypedExpr
 pub mod TypedExprCode

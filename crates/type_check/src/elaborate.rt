@@ -1,9 +1,9 @@
-ghost use Rattle.std.specs.Prelude.{◌≡◌, IfOk};
+ghost use Rattle.std.specs.Prelude.{◌≡◌, false, IfOk};
 ghost use Rattle.logic_term.specs.Term.{model, truth};
 ghost use Rattle.logic_term.specs.Ty.{bool, math_int};
-ghost use Rattle.source_trees.specs.Pterm as T;
 ghost use Rattle.source_trees.specs.PtermView.{span_of};
-ghost use Rattle.type_check.specs.Answers.{Answers, AnswersAs, gather, pair};
+ghost use Rattle.type_check.specs.Answers.{Answers, AnswersAs, gather};
+ghost use Rattle.type_check.specs.TermChains.{behind, calculated, connection, has_left};
 ghost use Rattle.type_check.specs.Terms.{sorted, literal, name_term, named_term, answer_term, model_of, formula, number, ordered, is_ordering, ordered_at, compared, elaborated, asserted, assertion};
 ghost use Rattle.type_check.specs.Typing.{invariant_of};
 ghost use Rattle.type_check.specs.VariableNames.{variable_name, answer_name};
@@ -13,13 +13,12 @@ use crate::lists::push_some;
 use crate::refusal::{mismatch, unbuilt, unknown_name};
 use crate::scope::{Variable, find_variable};
 use crate::sorted::SortedTerm;
+use crate::term_chain::{Connective, TermDescent, TermOperation, descend};
 use crate::types::{fits, is_bool, is_math_int, same_ty};
 use crate::written::name_alone;
 use logic_term::{Term, Ty, TyNode};
-use source_kinds::{Comparison, IntKind};
-use source_trees::{
-    Attribute, AttributeNode, BinaryTerm, ClauseKind, Pterm, PtermNode, Segment, UnaryTerm,
-};
+use source_kinds::{ArithOp, Comparison, IntKind};
+use source_trees::{Attribute, AttributeNode, ClauseKind, Pterm, PtermNode, Segment, UnaryTerm};
 use std::alloc::Global;
 use text_core::{Boxed, Name, NoMemory, PassError, Span};
 
@@ -259,7 +258,41 @@ fn compared(
     Ok(formula_of_sort(alloc, ordered(alloc, op, a, b)?)?)
 }
 
-/// The term that a term of a contract becomes, with its sort. `answer` is the type of an answer that it may speak of.
+fn calculated(
+    alloc: Global,
+    op: ArithOp,
+    spans: (Span, Span),
+    a: SortedTerm,
+    b: SortedTerm,
+) -> Result<SortedTerm, PassError>
+    ensures { Answers result (calculated op spans.0 spans.1 a b) }
+{
+    let a = number(spans.0, a)?;
+    let b = number(spans.1, b)?;
+    let value = Term::calculate(alloc, op, a.into_inner(), b.into_inner())?;
+    Ok(number_of_sort(alloc, value)?)
+}
+
+fn connected(
+    alloc: Global,
+    op: Connective,
+    a: Boxed<Term>,
+    b: Boxed<Term>,
+) -> Result<SortedTerm, NoMemory>
+    ensures { IfOk result (λ t. t ≡ sorted bool (connection op a b)) }
+{
+    let a = a.into_inner();
+    let b = b.into_inner();
+    let term = match op {
+        Connective::And => Term::and(alloc, a, b),
+        Connective::Or => Term::or(alloc, a, b),
+        Connective::Implies => Term::implies(alloc, a, b),
+    }?;
+    formula_of_sort(alloc, term)
+}
+
+/// The term that a term of a contract becomes, with its sort. `answer` is the type of an answer that it may speak of. Left operands
+/// are gone down by a loop.
 #[cycle(elaborate)]
 fn elaborate(
     alloc: Global,
@@ -269,14 +302,44 @@ fn elaborate(
 ) -> Result<SortedTerm, PassError>
     ensures { Answers result (elaborated answer.now scope.now t.now) }
 {
+    let TermDescent {
+        mut operations,
+        bottom,
+    } = descend(alloc, t)?;
+    let mut made = elaborate_form(alloc, answer, scope, bottom)?;
+    while let Some(operation) = operations.pop() {
+        made = elaborate_behind(alloc, answer, scope, operation, made)?;
+    }
+    Ok(made)
+}
+
+/// The same of a term that is no operation with a left operand.
+#[cycle(elaborate)]
+fn elaborate_form(
+    alloc: Global,
+    answer: &Option<Ty>,
+    scope: &[Variable],
+    t: &Pterm,
+) -> Result<SortedTerm, PassError>
+    requires { has_left t.now ≡ false }
+    ensures { Answers result (elaborated answer.now scope.now t.now) }
+{
     match &*t.node {
         PtermNode::Int(number, kind) => literal(alloc, *number, *kind, t.span),
         PtermNode::Truth(holds) => Ok(truth_term(alloc, *holds)?),
         PtermNode::Answer(name) => answer_term(alloc, answer, scope, t.span, *name),
         PtermNode::Path(path) => named_term(alloc, scope, t.span, name_alone(path)),
-        PtermNode::Unary(op, a) => elaborate_unary(alloc, answer, scope, t.span, *op, a),
-        PtermNode::Binary(op, a, b) => elaborate_binary(alloc, answer, scope, t.span, *op, a, b),
-        PtermNode::Receiver
+        PtermNode::Unary(UnaryTerm::Neg, a) => {
+            let a = number(span_of(a), elaborate(alloc, answer, scope, a)?)?;
+            Ok(number_of_sort(alloc, Term::negative(alloc, a.into_inner())?)?)
+        }
+        PtermNode::Unary(UnaryTerm::Not, a) => {
+            let a = elaborate_formula(alloc, answer, scope, a)?;
+            Ok(formula_of_sort(alloc, Term::not(alloc, a.into_inner())?)?)
+        }
+        PtermNode::Unary(UnaryTerm::View, _) | PtermNode::Binary(_, _, _) => unreachable!(),
+        PtermNode::Unary(UnaryTerm::Current | UnaryTerm::Final, _)
+        | PtermNode::Receiver
         | PtermNode::MutRef(_, _)
         | PtermNode::Field(_, _)
         | PtermNode::Part(_, _)
@@ -291,91 +354,33 @@ fn elaborate(
     }
 }
 
-/// An operator with its operand.
+/// The operation, whose left operand is elaborated.
 #[cycle(elaborate)]
-fn elaborate_unary(
+fn elaborate_behind(
     alloc: Global,
     answer: &Option<Ty>,
     scope: &[Variable],
-    span: Span,
-    op: UnaryTerm,
-    t: &Pterm,
+    operation: TermOperation<'_>,
+    left: SortedTerm,
 ) -> Result<SortedTerm, PassError>
-    ensures { Answers result (elaborated answer.now scope.now (T.unary span op t.now)) }
+    ensures { Answers result (behind answer.now scope.now operation.entry left) }
 {
-    match op {
-        UnaryTerm::View => model_of(alloc, span_of(t), elaborate(alloc, answer, scope, t)?),
-        UnaryTerm::Neg => {
-            let t = number(span_of(t), elaborate(alloc, answer, scope, t)?)?;
-            Ok(number_of_sort(alloc, Term::negative(alloc, t.into_inner())?)?)
+    match operation {
+        TermOperation::View(t) => model_of(alloc, span_of(t), left),
+        TermOperation::Calculate(op, t, u) => {
+            let right = elaborate(alloc, answer, scope, u)?;
+            calculated(alloc, op, (span_of(t), span_of(u)), left, right)
         }
-        UnaryTerm::Not => {
-            let t = elaborate_formula(alloc, answer, scope, t)?;
-            Ok(formula_of_sort(alloc, Term::not(alloc, t.into_inner())?)?)
+        TermOperation::Compare(op, t, u) => {
+            let right = elaborate(alloc, answer, scope, u)?;
+            compared(alloc, op, (span_of(t), span_of(u)), left, right)
         }
-        UnaryTerm::Current | UnaryTerm::Final => Err(unbuilt(span)),
-    }
-}
-
-/// An operator with its operands.
-#[cycle(elaborate)]
-fn elaborate_binary(
-    alloc: Global,
-    answer: &Option<Ty>,
-    scope: &[Variable],
-    span: Span,
-    op: BinaryTerm,
-    t: &Pterm,
-    u: &Pterm,
-) -> Result<SortedTerm, PassError>
-    ensures { Answers result (elaborated answer.now scope.now (T.binary span op t.now u.now)) }
-{
-    match op {
-        BinaryTerm::Calculate(op) => {
-            let a = elaborate(alloc, answer, scope, t)?;
-            let b = elaborate(alloc, answer, scope, u)?;
-            let a = number(span_of(t), a)?;
-            let b = number(span_of(u), b)?;
-            let value = Term::calculate(alloc, op, a.into_inner(), b.into_inner())?;
-            Ok(number_of_sort(alloc, value)?)
-        }
-        BinaryTerm::Compare(op) => {
-            let a = elaborate(alloc, answer, scope, t)?;
-            let b = elaborate(alloc, answer, scope, u)?;
-            compared(alloc, op, (span_of(t), span_of(u)), a, b)
-        }
-        BinaryTerm::And => {
-            let (a, b) = elaborate_formulas(alloc, answer, scope, t, u)?;
-            let both = Term::and(alloc, a.into_inner(), b.into_inner())?;
-            Ok(formula_of_sort(alloc, both)?)
-        }
-        BinaryTerm::Or => {
-            let (a, b) = elaborate_formulas(alloc, answer, scope, t, u)?;
-            let either = Term::or(alloc, a.into_inner(), b.into_inner())?;
-            Ok(formula_of_sort(alloc, either)?)
-        }
-        BinaryTerm::Implies => {
-            let (a, b) = elaborate_formulas(alloc, answer, scope, t, u)?;
-            let implied = Term::implies(alloc, a.into_inner(), b.into_inner())?;
-            Ok(formula_of_sort(alloc, implied)?)
+        TermOperation::Connect(op, t, u) => {
+            let left = formula(span_of(t), left)?;
+            let right = elaborate_formula(alloc, answer, scope, u)?;
+            Ok(connected(alloc, op, left, right)?)
         }
     }
-}
-
-/// The formulas that two terms become, the first one first.
-#[cycle(elaborate)]
-fn elaborate_formulas(
-    alloc: Global,
-    answer: &Option<Ty>,
-    scope: &[Variable],
-    t: &Pterm,
-    u: &Pterm,
-) -> Result<(Boxed<Term>, Boxed<Term>), PassError>
-    ensures { Answers result (pair (asserted answer.now scope.now t.now) (asserted answer.now scope.now u.now)) }
-{
-    let a = elaborate_formula(alloc, answer, scope, t)?;
-    let b = elaborate_formula(alloc, answer, scope, u)?;
-    Ok((a, b))
 }
 
 /// The formula that a term of a contract becomes.

@@ -2,11 +2,13 @@ ghost use Rattle.std.specs.Prelude.{◌≡◌, OnOk};
 ghost use Rattle.source_trees.specs.Expr as E;
 ghost use Rattle.source_trees.specs.ExprView.{exprs_of as written_exprs, span_of, stmts_of as written_stmts};
 ghost use Rattle.type_check.specs.Answers.{Answers, AnswersAs};
+ghost use Rattle.type_check.specs.Chains.{behind};
 ghost use Rattle.type_check.specs.TypedExprView.{exprs_of};
 ghost use Rattle.type_check.specs.Typing.{callee_of, is_bare, opened, operands, order_of, target_of, typed, typed_args, typed_statement, typed_stmts};
 ghost use Rattle.type_check.specs.WellTyped.{is_arithmetic};
 ghost use Rattle.type_check.specs.Written.{as_name};
 
+use crate::chain::{Descent, Frame, descend, finish, right_of, second_ty};
 use crate::elaborate::invariants_of;
 use crate::heading::{Callee, Heading, find_callee};
 use crate::operands::{Operands, Order, Target};
@@ -27,10 +29,52 @@ use std::alloc::Global;
 use text_core::{PassError, Span};
 
 /// The expression with its type: the expected one, where there is one. What the scope holds is as before where it
-/// answers.
+/// answers. Left operands are gone down by a loop.
+#[cycle(type_expr)]
+pub(crate) fn type_expr(
+    alloc: Global,
+    headings: &[Heading],
+    scope: &mut Vec<Variable>,
+    e: &Expr,
+    expected: &Option<Ty>,
+) -> Result<TypedExpr, PassError>
+    ensures answers { Answers result (typed headings.now scope.old.items e.now expected.now) }
+    ensures kept { OnOk result (scope.new.items ≡ scope.old.items) }
+{
+    let Descent {
+        mut frames,
+        bottom,
+        wanted,
+    } = descend(alloc, e, expected)?;
+    let mut typed = type_form(alloc, headings, scope, bottom, &wanted)?;
+    while let Some(frame) = frames.pop() {
+        typed = type_behind(alloc, headings, scope, frame, typed)?;
+    }
+    Ok(typed)
+}
+
+/// The operation, whose left operand is typed.
+#[cycle(type_expr)]
+fn type_behind(
+    alloc: Global,
+    headings: &[Heading],
+    scope: &mut Vec<Variable>,
+    frame: Frame<'_>,
+    left: TypedExpr,
+) -> Result<TypedExpr, PassError>
+    ensures answers { Answers result (behind headings.now scope.old.items frame.entry left) }
+    ensures kept { OnOk result (scope.new.items ≡ scope.old.items) }
+{
+    let wanted = second_ty(alloc, &frame, &left)?;
+    let right = right_of(&frame.operation);
+    let right = type_expr(alloc, headings, scope, right, &wanted)?;
+    finish(alloc, frame, left, right)
+}
+
+/// The same as `type_expr`, each operand by a call.
 #[cycle(type_expr)]
 #[tactic(auto, using(crate::proofs::Parts::parts))]
-pub(crate) fn type_expr(
+fn type_form(
     alloc: Global,
     headings: &[Heading],
     scope: &mut Vec<Variable>,

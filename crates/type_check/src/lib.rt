@@ -2,6 +2,7 @@
 #![tactic(auto)]
 
 mod assertion;
+mod chain;
 mod checking;
 mod declaring;
 mod elaborate;
@@ -17,6 +18,7 @@ mod refusal;
 mod scope;
 mod sorted;
 mod statements;
+mod term_chain;
 mod typed;
 mod types;
 mod typing;

@@ -1,8 +1,8 @@
-ghost use Rattle.std.specs.Prelude.{◌≡◌};
+ghost use Rattle.std.specs.Prelude.{◌≡◌, ◌<◌, MatchOption};
 ghost use Rattle.type_check.specs.FirstBad.{bad_of, bad_among, bad_in, bad_in_stmts, bad_in_exprs, bad_clause, bad_in_function, first_bad};
 ghost use Rattle.type_check.specs.Names.{or_else};
 ghost use Rattle.type_check.specs.TypedExpr.{done};
-ghost use Rattle.type_check.specs.TypedExprView.{exprs_of, stmts_of};
+ghost use Rattle.type_check.specs.TypedExprView.{exprs_of, stmts_of, typed_size};
 
 use crate::assertion::Assertion;
 use crate::program::{TypedClause, TypedFunction};
@@ -36,10 +36,40 @@ fn bad_among(assertions: &[Assertion]) -> Option<SourceError>
     None
 }
 
-/// The first refusal among the invariants in the expression.
+/// The operands of an operation.
+fn operands_of(e: &TypedExpr) -> Option<(&TypedExpr, &TypedExpr)>
+    ensures bad { MatchOption result (Unit {0}) (λ p. bad_in e.now ≡ or_else (bad_in p.0.now) (bad_in p.1.now)) }
+    ensures left { MatchOption result (Unit {0}) (λ p. typed_size p.0.now < typed_size e.now) }
+    ensures right { MatchOption result (Unit {0}) (λ p. typed_size p.1.now < typed_size e.now) }
+{
+    match &*e.node {
+        TypedNode::Binary(_, a, b) => Some((a, b)),
+        TypedNode::Lazy(_, a, b) => Some((a, b)),
+        TypedNode::AssignValue(a, b) => Some((a, b)),
+        TypedNode::UpdateValue(_, a, b) => Some((a, b)),
+        _ => None,
+    }
+}
+
+/// The first refusal among the invariants in the expression. Left operands are gone down by a loop; what is found further left
+/// stands earlier.
+#[cycle(bad_in)]
+fn bad_in(e: &TypedExpr) -> Option<SourceError>
+    ensures { result ≡ bad_in e.now }
+{
+    let mut bottom = e;
+    let mut found = None;
+    while let Some((left, right)) = operands_of(bottom) {
+        found = earlier(bad_in(right), found);
+        bottom = left;
+    }
+    earlier(bad_in_form(bottom), found)
+}
+
+/// The same, each part by a call.
 #[cycle(bad_in)]
 #[tactic(auto, using(crate::proofs::TypedParts::typed_parts))]
-fn bad_in(e: &TypedExpr) -> Option<SourceError>
+fn bad_in_form(e: &TypedExpr) -> Option<SourceError>
     ensures { result ≡ bad_in e.now }
 {
     match &*e.node {

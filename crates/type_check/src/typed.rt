@@ -1,3 +1,6 @@
+ghost use Rattle.std.specs.Prelude.{◌<◌, IfSome};
+ghost use Rattle.type_check.specs.TypedExprView.{typed_size};
+
 use crate::assertion::Assertion;
 use logic_term::Ty;
 use source_kinds::{BinaryOp, IntKind, LazyOp};
@@ -7,7 +10,6 @@ use text_core::Span;
 /// An expression with its type. A variable is the number of variables that are in scope around its declaration. Contracts
 /// see the tree of specs/TypedExpr.antt.
 #[cycle(typed)]
-#[derive(Drop)]
 pub struct TypedExpr {
     pub ty: Ty,
     /// Where a panic of it stands: the operator's for an operation and a compound assignment, the whole call's for a
@@ -70,4 +72,43 @@ impl Model for TypedExpr {
     ghost use Rattle.type_check.specs.TypedExprFalls.{falls};
 
     ghost size_decreases = { λ a h. falls a.ty a.span a.node.value };
+}
+
+// By a loop down the left operands, since a chain of operations is as deep as it is long.
+impl Drop for TypedExpr {
+    #[cycle(typed)]
+    fn drop(mut self) {
+        loop {
+            match self.into_left() {
+                Some(left) => self = left,
+                None => return,
+            }
+        }
+    }
+}
+
+impl TypedExpr {
+    /// Its left operand, if it has one. All else of it is dropped.
+    #[cycle(typed)]
+    fn into_left(self) -> Option<TypedExpr>
+        ensures { IfSome result (λ left. typed_size left < typed_size self) }
+    {
+        let TypedExpr {
+            ty: _ty,
+            span: _,
+            node,
+        } = self;
+        match Box::into_inner(node) {
+            TypedNode::Neg(left) => Some(left),
+            TypedNode::Not(left) => Some(left),
+            TypedNode::Binary(_, left, _) => Some(left),
+            TypedNode::Lazy(_, left, _) => Some(left),
+            TypedNode::AssignValue(left, _) => Some(left),
+            TypedNode::UpdateValue(_, left, _) => Some(left),
+            TypedNode::Call(_, _args) => None,
+            TypedNode::Block(_stmts) => None,
+            TypedNode::BlockWith(_stmts, _last) => None,
+            _other => None,
+        }
+    }
 }

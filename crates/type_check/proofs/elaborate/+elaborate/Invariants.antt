@@ -1,18 +1,26 @@
-use Rattle.std.proofs.Common.{◌+◌, ◌*◌, max}
+use Rattle.std.proofs.Common.{◌≡◌, ◌≤◌, ◌+◌, ◌*◌, length, Ok}
 use Rattle.source_trees.specs.PtermView.{pterm_size}
+use Rattle.type_check.specs.TermChains.{climbed, operation_size, operations_size}
+use Rattle.type_check.specs.Terms.{elaborated}
 use Rattle.type_check.proofs.elaborate.+elaborate.Given as goal
 
 abbrev pub decreases-elaborate : goal.decreases-elaborate
-decreases-elaborate l = 4 * pterm_size l.t.now
+decreases-elaborate l = 4 * pterm_size l.t.now + 1
+
+abbrev pub decreases-elaborate_form : goal.decreases-elaborate_form
+decreases-elaborate_form l = 4 * pterm_size l.t.now
 
 abbrev pub decreases-elaborate_formula : goal.decreases-elaborate_formula
-decreases-elaborate_formula l = 4 * pterm_size l.t.now + 1
+decreases-elaborate_formula l = 4 * pterm_size l.t.now + 2
 
-abbrev pub decreases-elaborate_formulas : goal.decreases-elaborate_formulas
-decreases-elaborate_formulas l = 4 * max (pterm_size l.t.now) (pterm_size l.u.now) + 2
+abbrev pub decreases-elaborate_behind : goal.decreases-elaborate_behind
+decreases-elaborate_behind l = 4 * operation_size l.operation
 
-abbrev pub decreases-elaborate_unary : goal.decreases-elaborate_unary
-decreases-elaborate_unary l = 4 * pterm_size l.t.now + 2
+abbrev pub invariant-elaborate-loop-operation : goal.invariant-elaborate-loop-operation
+invariant-elaborate-loop-operation l = record {
+  so_far : elaborated l.answer l.scope l.t ≡ climbed l.answer l.scope l.operations.items (Ok l.made);
+  smaller : operations_size l.operations.items ≤ pterm_size l.t;
+}
 
-abbrev pub decreases-elaborate_binary : goal.decreases-elaborate_binary
-decreases-elaborate_binary l = 4 * max (pterm_size l.t.now) (pterm_size l.u.now) + 3
+abbrev pub decreases-elaborate-loop-operation : goal.decreases-elaborate-loop-operation
+decreases-elaborate-loop-operation l = length l.operations.items

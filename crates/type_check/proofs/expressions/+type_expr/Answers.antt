@@ -1,12 +1,16 @@
--- The loop over arguments, what a block leaves in scope, and loops with attributes.
-use Rattle.std.proofs.Common.{◌≡◌, ◌∙◌, Result, Ok, Err, ◌+◌, ◌++◌, [], ◌∷◌, length, take, ap, sym, subst, arith, rules}
+-- Chains, the loop over arguments, what a block leaves in scope, and loops with attributes.
+use Rattle.std.proofs.Common.{◌≡◌, ◌∙◌, Result, Ok, Err, ◌+◌, ◌*◌, ◌++◌, [], ◌∷◌, length, take, ap, sym, subst, arith, rules}
 use Rattle.std.specs.Prelude.{OnOk, slice_get}
 use Rattle.std.proofs.lemmas.Grind.{common_steps}
 use Rattle.std.proofs.lemmas.Result.{err_from_is_err_and}
 use Rattle.source_trees.specs.Expr as E
+use Rattle.source_trees.specs.ExprView.{expr_size}
 use Rattle.type_check.specs.Answers.{Answers, Refuses}
+use Rattle.type_check.specs.Chains.{behind}
 use Rattle.type_check.specs.Typing.{typed}
 use Rattle.type_check.proofs.Arguments.{args_more_all, args_stop_all, args_end}
+use Rattle.type_check.proofs.Chains.{climbed_refuses, sizes_up, up, up_refuses}
+use Rattle.type_check.proofs.PartByPart.{along}
 use Rattle.type_check.proofs.Parts.{loop_seen}
 use Rattle.type_check.proofs.StatementLists.{scope_stays}
 use Rattle.type_check.proofs.expressions.+type_expr.Goals as goal
@@ -14,6 +18,41 @@ use Rattle.type_check.proofs.expressions.+type_expr.Goals as goal
 on_ok : {A F : Type 0} (r : Result A F) (P : Type 0) → P → OnOk r P
 on_ok (Ok a) P p = p
 on_ok (Err f) P p = tt
+
+pub type_expr-returns-in_err-typed-clause-answers : goal.type_expr-returns-in_err-typed-clause-answers
+type_expr-returns-in_err-typed-clause-answers t c =
+    let f = c.in_err-typed.field-0.0 in
+    let p = err_from_is_err_and c.from_residual-in_err-typed.result c.from_residual-in_err-typed.ensures.1 in
+    rw (p.1, p.2)
+    (along f _ _ (c.in_ok-frames.ensures.typed c.args.headings.now c.args.scope.now.items)
+    (climbed_refuses c.args.headings.now c.args.scope.now.items f c.in_ok-frames.field-0.frames.items _ c.in_err-typed.ensures.answers))
+
+pub type_expr-type_behind-requires : goal.type_expr-type_behind-requires
+type_expr-type_behind-requires t c =
+    let measure : 5 * expr_size c.args.e.now + 1 ≡ t = c.decreases in
+    let sizes = sizes_up c.pop.new.self.items c.loop-frame.frames.items c.in-Some.frame _ c.in-Some.ensures.items c.loop-frame.invariant.smaller in
+    (omega (arith, measure, sizes.1), tt)
+
+pub type_expr-returns-in_err-typed-2-clause-answers : goal.type_expr-returns-in_err-typed-2-clause-answers
+type_expr-returns-in_err-typed-2-clause-answers t c =
+    let f = c.in_err-typed-2.field-0.0 in
+    let p = err_from_is_err_and c.from_residual-in_err-typed-2.result c.from_residual-in_err-typed-2.ensures.1 in
+    let refused = subst (λ Γ. Refuses f (behind c.args.headings.now Γ c.in-Some.frame c.loop-frame.typed)) c.loop-frame.invariant.kept c.in_err-typed-2.ensures.answers in
+    rw (p.1, p.2)
+    (along f _ _ c.loop-frame.invariant.so_far
+    (up_refuses c.args.headings.now c.args.scope.now.items f c.pop.new.self.items c.loop-frame.frames.items c.in-Some.frame c.loop-frame.typed c.in-Some.ensures.items refused))
+
+pub type_expr-loop-frame-preserved : goal.type_expr-loop-frame-preserved
+type_expr-loop-frame-preserved t c =
+    let made = subst (λ Γ. behind c.args.headings.now Γ c.in-Some.frame c.loop-frame.typed ≡ Ok c.in_ok-typed-2.typed) c.loop-frame.invariant.kept c.in_ok-typed-2.ensures.answers in
+    let sizes = sizes_up c.pop.new.self.items c.loop-frame.frames.items c.in-Some.frame _ c.in-Some.ensures.items c.loop-frame.invariant.smaller in
+    record {
+      kept = c.in_ok-typed-2.ensures.kept ∙ c.loop-frame.invariant.kept;
+      so_far =
+          c.loop-frame.invariant.so_far
+          ∙ up c.args.headings.now c.args.scope.now.items c.pop.new.self.items c.loop-frame.frames.items c.in-Some.frame c.loop-frame.typed c.in_ok-typed-2.typed c.in-Some.ensures.items made;
+      smaller = sizes.0;
+    }
 
 pub type_args-returns-in_err-arg-clause-answers : goal.type_args-returns-in_err-arg-clause-answers
 type_args-returns-in_err-arg-clause-answers t c =

@@ -1,64 +1,81 @@
-use Rattle.std.proofs.Common.{◌≡◌, ◌+◌, ◌*◌, max, drop}
+use Rattle.std.proofs.Common.{◌≡◌, ◌≤◌, ◌+◌, ◌*◌, max, drop, length, Ok}
 use Rattle.source_trees.specs.ExprView.{expr_size, exprs_size, stmts_size, stmts_of, exprs_of}
-use Rattle.type_check.specs.Typing.{typed_args, typed_stmts}
+use Rattle.type_check.specs.Chains.{climbed, frames_size, right_of}
+use Rattle.type_check.specs.Typing.{typed, typed_args, typed_stmts}
 use Rattle.type_check.proofs.Arguments.{continued as args_continued}
 use Rattle.type_check.proofs.StatementLists.{continued as statements_continued}
 use Rattle.type_check.proofs.expressions.+type_expr.Given as goal
 
 -- each part is smaller; what only hands its parts on is between them and the whole
 abbrev pub decreases-type_expr : goal.decreases-type_expr
-decreases-type_expr l = 4 * expr_size l.e.now
+decreases-type_expr l = 5 * expr_size l.e.now + 1
+
+abbrev pub decreases-type_form : goal.decreases-type_form
+decreases-type_form l = 5 * expr_size l.e.now
+
+abbrev pub decreases-type_behind : goal.decreases-type_behind
+decreases-type_behind l = 5 * expr_size (right_of l.frame.operation) + 2
 
 abbrev pub decreases-type_unary : goal.decreases-type_unary
-decreases-type_unary l = 4 * expr_size l.a.now + 2
+decreases-type_unary l = 5 * expr_size l.a.now + 3
 
 abbrev pub decreases-type_binary : goal.decreases-type_binary
-decreases-type_binary l = 4 * max (expr_size l.a.now) (expr_size l.b.now) + 2
+decreases-type_binary l = 5 * max (expr_size l.a.now) (expr_size l.b.now) + 3
 
 abbrev pub decreases-type_operands : goal.decreases-type_operands
-decreases-type_operands l = 4 * max (expr_size l.a.now) (expr_size l.b.now) + 1
+decreases-type_operands l = 5 * max (expr_size l.a.now) (expr_size l.b.now) + 2
 
 abbrev pub decreases-type_lazy : goal.decreases-type_lazy
-decreases-type_lazy l = 4 * max (expr_size l.left.now) (expr_size l.right.now) + 1
+decreases-type_lazy l = 5 * max (expr_size l.left.now) (expr_size l.right.now) + 2
 
 abbrev pub decreases-type_assign : goal.decreases-type_assign
-decreases-type_assign l = 4 * max (expr_size l.left.now) (expr_size l.value.now) + 2
+decreases-type_assign l = 5 * max (expr_size l.left.now) (expr_size l.value.now) + 3
 
 abbrev pub decreases-type_update : goal.decreases-type_update
-decreases-type_update l = 4 * max (expr_size l.left.now) (expr_size l.value.now) + 2
+decreases-type_update l = 5 * max (expr_size l.left.now) (expr_size l.value.now) + 3
 
 abbrev pub decreases-type_target : goal.decreases-type_target
-decreases-type_target l = 4 * expr_size l.left.now + 1
+decreases-type_target l = 5 * expr_size l.left.now + 2
 
 abbrev pub decreases-type_call : goal.decreases-type_call
-decreases-type_call l = 4 * exprs_size (exprs_of l.args.now) + 1
+decreases-type_call l = 5 * exprs_size (exprs_of l.args.now) + 1
 
 abbrev pub decreases-type_args : goal.decreases-type_args
-decreases-type_args l = 4 * exprs_size (exprs_of l.args.now)
+decreases-type_args l = 5 * exprs_size (exprs_of l.args.now)
 
 abbrev pub decreases-type_block : goal.decreases-type_block
-decreases-type_block l = 4 * stmts_size (stmts_of l.stmts.now) + 1
+decreases-type_block l = 5 * stmts_size (stmts_of l.stmts.now) + 1
 
 abbrev pub decreases-type_block_with : goal.decreases-type_block_with
-decreases-type_block_with l = 4 * max (stmts_size (stmts_of l.stmts.now)) (expr_size l.last.now) + 1
+decreases-type_block_with l = 5 * max (stmts_size (stmts_of l.stmts.now)) (expr_size l.last.now) + 2
 
 abbrev pub decreases-type_statements : goal.decreases-type_statements
-decreases-type_statements l = 4 * stmts_size (stmts_of l.stmts.now)
+decreases-type_statements l = 5 * stmts_size (stmts_of l.stmts.now)
 
 abbrev pub decreases-type_statement : goal.decreases-type_statement
-decreases-type_statement l = 4 * expr_size l.stmt.now.value + 1
+decreases-type_statement l = 5 * expr_size l.stmt.now.value + 2
 
 abbrev pub decreases-type_branch : goal.decreases-type_branch
-decreases-type_branch l = 4 * max (expr_size l.condition.now) (expr_size l.body.now) + 1
+decreases-type_branch l = 5 * max (expr_size l.condition.now) (expr_size l.body.now) + 2
 
 abbrev pub decreases-type_choice : goal.decreases-type_choice
-decreases-type_choice l = 4 * max (expr_size l.condition.now) (max (expr_size l.yes.now) (expr_size l.no.now)) + 1
+decreases-type_choice l = 5 * max (expr_size l.condition.now) (max (expr_size l.yes.now) (expr_size l.no.now)) + 2
 
 abbrev pub decreases-type_while : goal.decreases-type_while
-decreases-type_while l = 4 * max (expr_size l.condition.now) (expr_size l.body.now) + 1
+decreases-type_while l = 5 * max (expr_size l.condition.now) (expr_size l.body.now) + 2
 
 abbrev pub decreases-type_attributed : goal.decreases-type_attributed
-decreases-type_attributed l = 4 * expr_size l.e.now + 1
+decreases-type_attributed l = 5 * expr_size l.e.now + 2
+
+abbrev pub invariant-type_expr-loop-frame : goal.invariant-type_expr-loop-frame
+invariant-type_expr-loop-frame l = record {
+  kept : l.scope.items ≡ l.fn.scope.items;
+  so_far : typed l.headings l.fn.scope.items l.e l.expected ≡ climbed l.headings l.fn.scope.items l.frames.items (Ok l.typed);
+  smaller : frames_size l.frames.items ≤ expr_size l.e;
+}
+
+abbrev pub decreases-type_expr-loop-frame : goal.decreases-type_expr-loop-frame
+decreases-type_expr-loop-frame l = length l.frames.items
 
 abbrev pub invariant-type_args-loop-i : goal.invariant-type_args-loop-i
 invariant-type_args-loop-i l = record {

@@ -1,17 +1,30 @@
-use Rattle.std.proofs.Common.{◌≡◌, drop}
-use Rattle.type_check.specs.FirstBad.{bad_in_exprs, bad_in_stmts}
+use Rattle.std.proofs.Common.{◌≡◌, ◌≤◌, ◌+◌, ◌*◌, drop}
+use Rattle.type_check.specs.FirstBad.{bad_in, bad_in_exprs, bad_in_stmts}
+use Rattle.type_check.specs.Names.{or_else}
 use Rattle.type_check.specs.TypedExpr.{done}
 use Rattle.type_check.specs.TypedExprView.{typed_size, exprs_size, stmts_size, exprs_of, stmts_of}
 use Rattle.type_check.proofs.logic.+bad_in.Given as goal
 
 abbrev pub decreases-bad_in : goal.decreases-bad_in
-decreases-bad_in l = typed_size l.e.now
+decreases-bad_in l = 2 * typed_size l.e.now + 1
+
+abbrev pub decreases-bad_in_form : goal.decreases-bad_in_form
+decreases-bad_in_form l = 2 * typed_size l.e.now
 
 abbrev pub decreases-bad_in_exprs : goal.decreases-bad_in_exprs
-decreases-bad_in_exprs l = exprs_size (exprs_of l.es.now)
+decreases-bad_in_exprs l = 2 * exprs_size (exprs_of l.es.now)
 
 abbrev pub decreases-bad_in_stmts : goal.decreases-bad_in_stmts
-decreases-bad_in_stmts l = stmts_size (stmts_of l.stmts.now done)
+decreases-bad_in_stmts l = 2 * stmts_size (stmts_of l.stmts.now done)
+
+abbrev pub invariant-bad_in-loop-left : goal.invariant-bad_in-loop-left
+invariant-bad_in-loop-left l = record {
+  so_far : bad_in l.e ≡ or_else (bad_in l.bottom) l.found;
+  smaller : typed_size l.bottom ≤ typed_size l.e;
+}
+
+abbrev pub decreases-bad_in-loop-left : goal.decreases-bad_in-loop-left
+decreases-bad_in-loop-left l = typed_size l.bottom
 
 abbrev pub invariant-bad_in_exprs-loop-i : goal.invariant-bad_in_exprs-loop-i
 invariant-bad_in_exprs-loop-i l = bad_in_exprs (exprs_of (drop l.i l.es)) ≡ bad_in_exprs (exprs_of l.es)

@@ -1,0 +1,180 @@
+//! Chains of operations. They group to the left, so that a chain is as deep as it is long: its left operands are gone down by a loop,
+//! and what stands above them waits on a stack.
+ghost use Rattle.std.specs.Prelude.{◌≡◌, ◌≤◌, List, Some, IfOk, MatchOption};
+ghost use Rattle.source_trees.specs.ExprView.{expr_size, span_of};
+ghost use Rattle.type_check.specs.declared.heading.Heading.{Heading};
+ghost use Rattle.type_check.specs.declared.scope.Variable.{Variable};
+ghost use Rattle.type_check.specs.Answers.{Answers};
+ghost use Rattle.type_check.specs.Chains.{GoesLeft, climbed, ended, first_ty, frames_size, left_of, right_of, second_ty, written};
+ghost use Rattle.type_check.specs.Typing.{typed};
+
+use crate::operands::{Operands, Target};
+use crate::scope::Found;
+use crate::typed::TypedExpr;
+use crate::types::is_arithmetic;
+use crate::typing::{given_ty, is_bare, lazy, operated, span_of, spans_at, updated};
+use crate::written::as_name;
+use logic_term::Ty;
+use source_kinds::{BinaryOp, LazyOp};
+use source_trees::{Expr, ExprNode};
+use std::alloc::Global;
+use text_core::{NoMemory, PassError, Span};
+
+/// An operation whose left operand is typed before the right one.
+#[derive(Clone, Copy)]
+pub(crate) enum Operation<'a> {
+    /// The operator with its span, and the operands.
+    Binary(BinaryOp, Span, &'a Expr, &'a Expr),
+    Lazy(LazyOp, &'a Expr, &'a Expr),
+    /// A compound assignment to a value that is no variable's.
+    Update(BinaryOp, Span, &'a Expr, &'a Expr),
+}
+
+/// An operation whose left operand is being typed.
+#[derive(Drop)]
+pub(crate) struct Frame<'a> {
+    /// From its first token to its last.
+    pub(crate) whole: Span,
+    pub(crate) operation: Operation<'a>,
+    /// The type that is expected of it, if one is.
+    pub(crate) expected: Option<Ty>,
+}
+
+/// The operations around an expression, the outermost first, with the expression and the type that is expected of it.
+#[derive(Drop)]
+pub(crate) struct Descent<'a> {
+    pub(crate) frames: Vec<Frame<'a>>,
+    pub(crate) bottom: &'a Expr,
+    pub(crate) wanted: Option<Ty>,
+}
+
+/// The operation that the expression is, if its left operand is typed first.
+fn operation_of(e: &Expr) -> Option<Operation<'_>>
+    ensures written { MatchOption result (Unit {0}) (λ o. written (span_of e.now) o ≡ e.now) }
+    ensures left { MatchOption result (Unit {0}) GoesLeft }
+{
+    match &*e.node {
+        ExprNode::Binary(op, at, a, b) if !is_bare(a) => Some(Operation::Binary(*op, *at, a, b)),
+        ExprNode::Lazy(op, a, b) => Some(Operation::Lazy(*op, a, b)),
+        ExprNode::Update(op, at, a, b) if as_name(a).is_none() => {
+            Some(Operation::Update(*op, *at, a, b))
+        }
+        _ => None,
+    }
+}
+
+fn left_of<'a>(operation: &Operation<'a>) -> &'a Expr
+    ensures { result.now ≡ left_of operation.now }
+{
+    match *operation {
+        Operation::Binary(_, _, a, _) => a,
+        Operation::Lazy(_, a, _) => a,
+        Operation::Update(_, _, a, _) => a,
+    }
+}
+
+pub(crate) fn right_of<'a>(operation: &Operation<'a>) -> &'a Expr
+    ensures { result.now ≡ right_of operation.now }
+{
+    match *operation {
+        Operation::Binary(_, _, _, b) => b,
+        Operation::Lazy(_, _, b) => b,
+        Operation::Update(_, _, _, b) => b,
+    }
+}
+
+fn copied(alloc: Global, ty: &Option<Ty>) -> Result<Option<Ty>, NoMemory>
+    ensures { IfOk result (λ t. t ≡ ty.now) }
+{
+    match ty {
+        None => Ok(None),
+        Some(ty) => Ok(Some(ty.copy(alloc)?)),
+    }
+}
+
+/// The type that is expected of the left operand, where this one is expected of the whole.
+fn first_ty(
+    alloc: Global,
+    operation: &Operation<'_>,
+    expected: &Option<Ty>,
+) -> Result<Option<Ty>, NoMemory>
+    ensures { IfOk result (λ t. t ≡ first_ty operation.now expected.now) }
+{
+    match *operation {
+        Operation::Binary(op, _, _, _) if is_arithmetic(op) => copied(alloc, expected),
+        Operation::Binary(_, _, _, _) | Operation::Update(_, _, _, _) => Ok(None),
+        Operation::Lazy(_, _, _) => Ok(Some(Ty::bool())),
+    }
+}
+
+/// The type that is expected of the right operand.
+pub(crate) fn second_ty(
+    alloc: Global,
+    frame: &Frame<'_>,
+    left: &TypedExpr,
+) -> Result<Option<Ty>, NoMemory>
+    ensures { IfOk result (λ t. t ≡ Some (second_ty frame.now.operation frame.now.expected left.now)) }
+{
+    match first_ty(alloc, &frame.operation, &frame.expected)? {
+        Some(ty) => Ok(Some(ty)),
+        None => given_ty(alloc, left),
+    }
+}
+
+/// Goes down the left operands.
+pub(crate) fn descend<'a>(
+    alloc: Global,
+    e: &'a Expr,
+    expected: &Option<Ty>,
+) -> Result<Descent<'a>, NoMemory>
+    ensures typed { IfOk result (λ d. (σ : List Heading) (Γ : List Variable) → typed σ Γ e.now expected.now ≡ climbed σ Γ d.frames.items (typed σ Γ d.bottom.now d.wanted)) }
+    ensures smaller { IfOk result (λ d. expr_size d.bottom.now ≤ expr_size e.now) }
+    ensures frames { IfOk result (λ d. frames_size d.frames.items ≤ expr_size e.now) }
+{
+    let mut frames = Vec::new(alloc);
+    let mut bottom = e;
+    let mut wanted = copied(alloc, expected)?;
+    while let Some(operation) = operation_of(bottom) {
+        let first = first_ty(alloc, &operation, &wanted)?;
+        let whole = span_of(bottom);
+        bottom = left_of(&operation);
+        frames.push(Frame {
+            whole,
+            operation,
+            expected: wanted,
+        })?;
+        wanted = first;
+    }
+    Ok(Descent {
+        frames,
+        bottom,
+        wanted,
+    })
+}
+
+/// The operation, whose operands are typed.
+pub(crate) fn finish(
+    alloc: Global,
+    frame: Frame<'_>,
+    left: TypedExpr,
+    right: TypedExpr,
+) -> Result<TypedExpr, PassError>
+    ensures { Answers result (ended frame.entry.whole frame.entry.operation frame.entry.expected left right) }
+{
+    let Frame {
+        whole,
+        operation,
+        expected,
+    } = frame;
+    match operation {
+        Operation::Binary(op, at, a, _) => {
+            let spans = spans_at(whole, at, a);
+            operated(alloc, &expected, spans, op, Operands { left, right })
+        }
+        Operation::Lazy(op, _, _) => lazy(alloc, &expected, whole, op, left, right),
+        Operation::Update(op, at, a, _) => {
+            let spans = spans_at(whole, at, a);
+            updated(alloc, &expected, spans, op, Target::Value(left), right)
+        }
+    }
+}
