@@ -20,6 +20,7 @@ pub mod LinearTable
 pub mod LinearTotal
 pub mod Monomials
 pub mod Once
+pub mod Operands
 pub mod PolynomialSteps
 pub mod PolynomialValue
 pub mod Sound
