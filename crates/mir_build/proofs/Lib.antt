@@ -26,3 +26,4 @@ pub mod Rows
 pub mod Rowwise
 pub mod Runs
 pub mod Whole
+pub mod TaskStack

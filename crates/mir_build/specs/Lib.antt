@@ -2,5 +2,6 @@ pub mod Laws
 pub mod Built
 pub mod Lowering
 pub mod Numbered
+pub mod Tasks
 pub mod Text
 pub mod Whole

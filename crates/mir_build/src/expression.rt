@@ -1,8 +1,8 @@
 //! Lowering of expressions: what they add to the text of their body.
-ghost use Rattle.std.specs.Prelude.{◌≡◌, ◌+◌, ◌^◌, ◌≤◌, ◌<◌, ◌∷◌, ◌++◌, [], length, map, OnOk, IfOk, IfErr};
+ghost use Rattle.std.specs.Prelude.{◌≡◌, ◌+◌, ◌^◌, ◌≤◌, ◌<◌, ◌*◌, max, ◌∷◌, ◌++◌, [], length, map, OnOk, IfOk, IfErr};
 ghost use Rattle.std.specs.Option.{option_copied};
-ghost use Rattle.type_check.specs.TypedExpr.{lazy, assign, assign_value, update, update_value, branch, choice, repeat, call};
-ghost use Rattle.type_check.specs.TypedExprView.{ty_of, span_of, stmts_of, exprs_of};
+ghost use Rattle.type_check.specs.TypedExpr.{assign, update, branch, choice, repeat, call};
+ghost use Rattle.type_check.specs.TypedExprView.{ty_of, span_of, stmts_of, exprs_of, typed_size};
 ghost use Rattle.type_check.specs.WellTyped.{unit};
 ghost use Rattle.mir_ir.specs.declared.statement.Rvalue.TheVariants.{Use, Binary};
 ghost use Rattle.mir_ir.specs.declared.terminator.TerminatorKind.TheVariants.{Goto};
@@ -10,11 +10,14 @@ ghost use Rattle.mir_build.specs.Text.{Makes, Turns, Owns};
 ghost use Rattle.mir_build.specs.Lowering.{copied, moved, puts, put_unit, ends, at, at_head, looping, head_of};
 ghost use Rattle.mir_build.specs.Numbered.{into, rest, args, loop_text, between, temporaries, label, labels, labels_of, labels_in, locals, locals_of, locals_in};
 ghost use Rattle.mir_build.specs.Built.{written, around, outside, end_of};
+ghost use Rattle.mir_build.specs.Tasks.{to_do, lazy_text, task_text, behind_labels, behind_locals, task_labels, task_locals, task_size, task_weight, tasks_text, tasks_labels, tasks_locals, tasks_size, tasks_weight};
+ghost use Rattle.mir_build.specs.declared.task.Task.TheVariants.{Lower, Finish};
 ghost use Rattle.mir_build.specs.declared.stop.Stop.TheVariants.{Blocks};
 
 use crate::around::{Around, head_of, local_of, nest};
 use crate::builder::{Builder, copied, moved, whole};
 use crate::stop::Stop;
+use crate::task::{Behind, Pending, Task};
 use logic_term::{Label, Ty};
 use mir_ir::{Callee, FnId, Lit, Operand, Rvalue, Terminator, TerminatorKind};
 use source_kinds::{BinaryOp, LazyOp};
@@ -53,9 +56,9 @@ fn lower_new(alloc: Global, b: &mut Builder, c: &mut Around, e: &TypedExpr) -> R
     Ok(t)
 }
 
-/// Writes the value to local `d`.
+/// Writes the value to local `d`. Left operands are gone down by the loop, since they may be in one another by the thousand.
 #[cycle(lower)]
-#[tactic(auto, using(crate::proofs::Runs::running))]
+#[tactic(auto, using(crate::proofs::Runs::running, crate::proofs::TaskStack::popped))]
 pub(crate) fn lower_into(
     alloc: Global,
     b: &mut Builder,
@@ -70,8 +73,103 @@ pub(crate) fn lower_into(
     ensures most { OnOk result (b.old.labels ≤ 4096 → b.new.labels ≤ 4096) }
     ensures around { OnOk result (around c.new ≡ around c.old) }
 {
+    let mut tasks = Vec::new(alloc);
+    tasks.push(Task::Lower(e, d))?;
+    while let Some(task) = tasks.pop() {
+        do_task(alloc, b, c, task, &mut tasks)?;
+    }
+    Ok(())
+}
+
+#[cycle(lower)]
+#[tactic(auto, using(crate::proofs::Runs::running))]
+fn do_task<'a>(
+    alloc: Global,
+    b: &mut Builder,
+    c: &mut Around,
+    task: Task<'a>,
+    tasks: &mut Vec<Task<'a>>,
+) -> Result<(), Stop>
+    ensures text { OnOk result (written (tasks_text (to_do tasks.new.items) (around c.old) b.new.labels (length b.new.text.locals)) b.new.text
+        ≡ written (task_text task.entry (around c.old) b.old.labels (length b.old.text.locals) ++ tasks_text (to_do tasks.old.items) (around c.old) (b.old.labels + task_labels task.entry) (length b.old.text.locals + task_locals task.entry)) b.old.text) }
+    ensures labels { OnOk result (b.new.labels + tasks_labels (to_do tasks.new.items) ≡ b.old.labels + task_labels task.entry + tasks_labels (to_do tasks.old.items)) }
+    ensures locals { OnOk result (length b.new.text.locals + tasks_locals (to_do tasks.new.items) ≡ length b.old.text.locals + task_locals task.entry + tasks_locals (to_do tasks.old.items)) }
+    ensures limit { IfErr result (λ stop. stop ≡ Blocks → 4096 < b.old.labels + task_labels task.entry) }
+    ensures most { OnOk result (b.old.labels ≤ 4096 → b.new.labels ≤ 4096) }
+    ensures around { OnOk result (around c.new ≡ around c.old) }
+    ensures size { OnOk result (tasks_size (to_do tasks.new.items) ≤ max (task_size task.entry) (tasks_size (to_do tasks.old.items))) }
+    ensures weight { OnOk result (tasks_weight (to_do tasks.new.items) < task_weight task.entry + tasks_weight (to_do tasks.old.items)) }
+{
+    match task {
+        Task::Lower(e, d) => lower_left(alloc, b, c, e, d, tasks),
+        Task::Finish(pending) => lower_behind(alloc, b, c, &pending),
+    }
+}
+
+/// The left operand is next, which goes to a new local, and then the rest of the expression, which goes to local `target`.
+#[tactic(auto, using(crate::proofs::Runs::running, crate::proofs::TaskStack::pushed))]
+fn push_left<'a>(
+    alloc: Global,
+    b: &mut Builder,
+    span: Span,
+    left: &'a TypedExpr,
+    target: u32,
+    behind: Behind<'a>,
+    tasks: &mut Vec<Task<'a>>,
+) -> Result<(), Stop>
+    ensures text { OnOk result (b.new.text ≡ written (Makes (length b.old.text.locals) (ty_of left.entry.now) ∷ []) b.old.text) }
+    ensures labels { OnOk result (b.new.labels ≡ b.old.labels) }
+    ensures locals { OnOk result (length b.new.text.locals ≡ length b.old.text.locals + 1) }
+    ensures limit { IfErr result (λ stop. stop ≡ Blocks → ⊥) }
+    ensures tasks { OnOk result (to_do tasks.new.items ≡ Lower left.entry (length b.old.text.locals) ∷ Finish (record { span = span; operand = length b.old.text.locals; target = target; behind = behind.entry }) ∷ to_do tasks.old.items) }
+{
+    let operand = b.make(alloc, type_of(left))?;
+    tasks.push(Task::Finish(Pending {
+        span,
+        operand,
+        target,
+        behind,
+    }))?;
+    tasks.push(Task::Lower(left, operand))?;
+    Ok(())
+}
+
+/// Lowers the expression, or what of it comes before its left operand, and pushes the rest.
+#[cycle(lower)]
+#[tactic(auto, using(crate::proofs::Runs::running))]
+fn lower_left<'a>(
+    alloc: Global,
+    b: &mut Builder,
+    c: &mut Around,
+    e: &'a TypedExpr,
+    d: u32,
+    tasks: &mut Vec<Task<'a>>,
+) -> Result<(), Stop>
+    ensures text { OnOk result (written (tasks_text (to_do tasks.new.items) (around c.old) b.new.labels (length b.new.text.locals)) b.new.text
+        ≡ written (into e.now (around c.old) b.old.labels (length b.old.text.locals) d ++ tasks_text (to_do tasks.old.items) (around c.old) (b.old.labels + labels e.now) (length b.old.text.locals + locals e.now)) b.old.text) }
+    ensures labels { OnOk result (b.new.labels + tasks_labels (to_do tasks.new.items) ≡ b.old.labels + labels e.now + tasks_labels (to_do tasks.old.items)) }
+    ensures locals { OnOk result (length b.new.text.locals + tasks_locals (to_do tasks.new.items) ≡ length b.old.text.locals + locals e.now + tasks_locals (to_do tasks.old.items)) }
+    ensures limit { IfErr result (λ stop. stop ≡ Blocks → 4096 < b.old.labels + labels e.now) }
+    ensures most { OnOk result (b.old.labels ≤ 4096 → b.new.labels ≤ 4096) }
+    ensures around { OnOk result (around c.new ≡ around c.old) }
+    ensures size { OnOk result (tasks_size (to_do tasks.new.items) ≤ max (typed_size e.now) (tasks_size (to_do tasks.old.items))) }
+    ensures weight { OnOk result (tasks_weight (to_do tasks.new.items) < 2 * typed_size e.now + tasks_weight (to_do tasks.old.items)) }
+{
     let span = e.span;
     match &*e.node {
+        TypedNode::Binary(op, x, y) => {
+            push_left(alloc, b, span, x, d, Behind::Binary(*op, y), tasks)
+        }
+        TypedNode::Lazy(op, x, y) => push_left(alloc, b, span, x, d, Behind::Lazy(*op, y), tasks),
+        TypedNode::AssignValue(to, x) => {
+            let value = lower_new(alloc, b, c, x)?;
+            push_left(alloc, b, span, to, d, Behind::AssignValue(value), tasks)
+        }
+        TypedNode::UpdateValue(op, to, x) => {
+            let value = lower_new(alloc, b, c, x)?;
+            let behind = Behind::UpdateValue(*op, type_of(x), value);
+            push_left(alloc, b, span, to, d, behind, tasks)
+        }
         TypedNode::Int(z, k) => Ok(b.put_constant(alloc, span, d, Lit::Int(*z, *k))?),
         TypedNode::Truth(v) => Ok(b.put_constant(alloc, span, d, Lit::Bool(*v))?),
         TypedNode::Variable(v) => {
@@ -86,23 +184,46 @@ pub(crate) fn lower_into(
             let t = lower_new(alloc, b, c, x)?;
             Ok(b.put(alloc, span, d, Rvalue::Not(copied(alloc, t)))?)
         }
-        TypedNode::Binary(op, x, y) => {
-            let t = lower_new(alloc, b, c, x)?;
-            let u = lower_new(alloc, b, c, y)?;
-            let value = Rvalue::Binary(*op, copied(alloc, t), copied(alloc, u));
-            Ok(b.put(alloc, span, d, value)?)
-        }
-        TypedNode::Lazy(op, x, y) => lower_lazy(alloc, b, c, span, *op, x, y, d),
         TypedNode::Assign(v, x) => lower_assign(alloc, b, c, span, *v, x, d),
-        TypedNode::AssignValue(to, x) => lower_assign_value(alloc, b, c, span, to, x, d),
         TypedNode::Update(op, v, x) => lower_update(alloc, b, c, span, *op, *v, x, d),
-        TypedNode::UpdateValue(op, to, x) => lower_update_value(alloc, b, c, span, *op, to, x, d),
         TypedNode::Call(f, es) => lower_call(alloc, b, c, span, *f, es, d),
         TypedNode::Block(ss) => lower_rest(alloc, b, c, false, span, ss, None, d),
         TypedNode::BlockWith(ss, last) => lower_rest(alloc, b, c, false, span, ss, Some(last), d),
         TypedNode::If(x, y) => lower_branch(alloc, b, c, span, x, y, d),
         TypedNode::IfElse(x, y, z) => lower_choice(alloc, b, c, span, x, y, z, d),
         TypedNode::While(is, x, y) => lower_repeat(alloc, b, c, span, is, x, y, d),
+    }
+}
+
+/// What is left of an expression whose left operand is in its local.
+#[cycle(lower)]
+#[tactic(auto, using(crate::proofs::Runs::running))]
+fn lower_behind(
+    alloc: Global,
+    b: &mut Builder,
+    c: &mut Around,
+    pending: &Pending,
+) -> Result<(), Stop>
+    ensures text { OnOk result (b.new.text ≡ written (task_text (Finish pending.now) (around c.old) b.old.labels (length b.old.text.locals)) b.old.text) }
+    ensures labels { OnOk result (b.new.labels ≡ b.old.labels + behind_labels pending.now.behind) }
+    ensures locals { OnOk result (length b.new.text.locals ≡ length b.old.text.locals + behind_locals pending.now.behind) }
+    ensures limit { IfErr result (λ stop. stop ≡ Blocks → 4096 < b.old.labels + behind_labels pending.now.behind) }
+    ensures most { OnOk result (b.old.labels ≤ 4096 → b.new.labels ≤ 4096) }
+    ensures around { OnOk result (around c.new ≡ around c.old) }
+{
+    let (span, x, d) = (pending.span, pending.operand, pending.target);
+    match pending.behind {
+        Behind::Binary(op, right) => {
+            let y = lower_new(alloc, b, c, right)?;
+            let value = Rvalue::Binary(op, copied(alloc, x), copied(alloc, y));
+            Ok(b.put(alloc, span, d, value)?)
+        }
+        Behind::Lazy(op, right) => lower_lazy(alloc, b, c, span, op, x, right, d),
+        Behind::AssignValue(value) => {
+            b.put(alloc, span, x, Rvalue::Use(moved(alloc, value)))?;
+            Ok(b.put_unit(alloc, span, d)?)
+        }
+        Behind::UpdateValue(op, ty, value) => put_update(alloc, b, span, op, x, ty, value, d),
     }
 }
 
@@ -131,31 +252,6 @@ fn lower_assign(
     Ok(b.put_unit(alloc, span, d)?)
 }
 
-/// An assignment to a value that is no variable's.
-#[cycle(lower)]
-#[tactic(auto, using(crate::proofs::Runs::running))]
-fn lower_assign_value(
-    alloc: Global,
-    b: &mut Builder,
-    c: &mut Around,
-    span: Span,
-    to: &TypedExpr,
-    x: &TypedExpr,
-    d: u32,
-) -> Result<(), Stop>
-    ensures text { OnOk result (b.new.text ≡ written (into (assign_value unit span to.now x.now) (around c.old) b.old.labels (length b.old.text.locals) d) b.old.text) }
-    ensures labels { OnOk result (b.new.labels ≡ b.old.labels + labels (assign_value unit span to.now x.now)) }
-    ensures locals { OnOk result (length b.new.text.locals ≡ length b.old.text.locals + locals (assign_value unit span to.now x.now)) }
-    ensures limit { IfErr result (λ stop. stop ≡ Blocks → 4096 < b.old.labels + labels (assign_value unit span to.now x.now)) }
-    ensures most { OnOk result (b.old.labels ≤ 4096 → b.new.labels ≤ 4096) }
-    ensures around { OnOk result (around c.new ≡ around c.old) }
-{
-    let t = lower_new(alloc, b, c, x)?;
-    let u = lower_new(alloc, b, c, to)?;
-    b.put(alloc, span, u, Rvalue::Use(moved(alloc, t)))?;
-    Ok(b.put_unit(alloc, span, d)?)
-}
-
 /// `v op= value`: the value first.
 #[cycle(lower)]
 #[tactic(auto, using(crate::proofs::Runs::running))]
@@ -179,31 +275,6 @@ fn lower_update(
     let t = lower_new(alloc, b, c, x)?;
     let to = local_of(c.scope.as_slice(), v);
     put_update(alloc, b, span, op, to, type_of(x), t, d)
-}
-
-/// The same of a value that is no variable's.
-#[cycle(lower)]
-#[tactic(auto, using(crate::proofs::Runs::running))]
-fn lower_update_value(
-    alloc: Global,
-    b: &mut Builder,
-    c: &mut Around,
-    span: Span,
-    op: BinaryOp,
-    to: &TypedExpr,
-    x: &TypedExpr,
-    d: u32,
-) -> Result<(), Stop>
-    ensures text { OnOk result (b.new.text ≡ written (into (update_value unit span op to.now x.now) (around c.old) b.old.labels (length b.old.text.locals) d) b.old.text) }
-    ensures labels { OnOk result (b.new.labels ≡ b.old.labels + labels (update_value unit span op to.now x.now)) }
-    ensures locals { OnOk result (length b.new.text.locals ≡ length b.old.text.locals + locals (update_value unit span op to.now x.now)) }
-    ensures limit { IfErr result (λ stop. stop ≡ Blocks → 4096 < b.old.labels + labels (update_value unit span op to.now x.now)) }
-    ensures most { OnOk result (b.old.labels ≤ 4096 → b.new.labels ≤ 4096) }
-    ensures around { OnOk result (around c.new ≡ around c.old) }
-{
-    let t = lower_new(alloc, b, c, x)?;
-    let p = lower_new(alloc, b, c, to)?;
-    put_update(alloc, b, span, op, p, type_of(x), t, d)
 }
 
 /// `to op= value`: the value is in local `t`, and `d` gets the unit.
@@ -231,6 +302,7 @@ fn put_update(
     Ok(())
 }
 
+/// The second operand of `&&` or `||`, where its value is needed; the first one is in local `t`.
 #[cycle(lower)]
 #[tactic(auto, using(crate::proofs::Runs::running))]
 fn lower_lazy(
@@ -239,18 +311,17 @@ fn lower_lazy(
     c: &mut Around,
     span: Span,
     op: LazyOp,
-    x: &TypedExpr,
+    t: u32,
     y: &TypedExpr,
     d: u32,
 ) -> Result<(), Stop>
-    ensures text { OnOk result (b.new.text ≡ written (into (lazy unit span op x.now y.now) (around c.old) b.old.labels (length b.old.text.locals) d) b.old.text) }
-    ensures labels { OnOk result (b.new.labels ≡ b.old.labels + labels (lazy unit span op x.now y.now)) }
-    ensures locals { OnOk result (length b.new.text.locals ≡ length b.old.text.locals + locals (lazy unit span op x.now y.now)) }
-    ensures limit { IfErr result (λ stop. stop ≡ Blocks → 4096 < b.old.labels + labels (lazy unit span op x.now y.now)) }
+    ensures text { OnOk result (b.new.text ≡ written (lazy_text op y.now span t d (around c.old) b.old.labels (length b.old.text.locals)) b.old.text) }
+    ensures labels { OnOk result (b.new.labels ≡ b.old.labels + 3 + labels y.now) }
+    ensures locals { OnOk result (length b.new.text.locals ≡ length b.old.text.locals + locals y.now) }
+    ensures limit { IfErr result (λ stop. stop ≡ Blocks → 4096 < b.old.labels + 3 + labels y.now) }
     ensures most { OnOk result (b.old.labels ≤ 4096 → b.new.labels ≤ 4096) }
     ensures around { OnOk result (around c.new ≡ around c.old) }
 {
-    let t = lower_new(alloc, b, c, x)?;
     let yes = b.take_labels(3)?;
     let no = yes + 1;
     let after = yes + 2;

@@ -10,6 +10,7 @@ mod laws;
 mod lowered;
 mod program;
 mod stop;
+mod task;
 
 pub use laws::{
     blocks_are_counted, lowered_bodies_are_laid_out, lowered_bodies_are_sound,

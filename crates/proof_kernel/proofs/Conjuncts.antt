@@ -1,9 +1,8 @@
--- The conjuncts of what is no conjunction.
-use Rattle.std.specs.Prelude.{◌≡◌, [], ◌∷◌, false}
-use Rattle.std.proofs.Common.{refl}
-use Rattle.logic_term.specs.Term.{both, Term, apply, is_conjunction}
+-- The conjuncts of terms that are left on a stack.
+use Rattle.std.specs.Prelude.{List, [], ◌∷◌, ◌++◌}
+use Rattle.logic_term.specs.Term.{Term}
 use Rattle.proof_kernel.specs.Rules.{conjuncts}
 
-pub single_conjunct : (t : Term) → is_conjunction t ≡ false → conjuncts t ≡ t ∷ []
-single_conjunct (apply both ts) h = cc
-single_conjunct t h = refl
+abbrev pub conjuncts_in : List Term → List Term
+conjuncts_in [] = []
+conjuncts_in (t ∷ ts) = conjuncts t ++ conjuncts_in ts

@@ -23,6 +23,7 @@ pub mod Monomials
 pub mod Once
 pub mod OpenedLaw
 pub mod OpenedTaken
+pub mod Operands
 pub mod PolynomialSteps
 pub mod PolynomialValue
 pub mod Sound

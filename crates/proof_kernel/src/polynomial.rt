@@ -1,12 +1,11 @@
 //! Integer terms as polynomials, multiplied out.
 
-ghost use Rattle.std.specs.Prelude.{◌≡◌, ◌++◌, [], ◌∷◌, pos, IfOk, OnOk, SomeIff};
+ghost use Rattle.std.specs.Prelude.{◌≡◌, ◌++◌, [], ◌∷◌, None, pos, reverse, IfOk, OnOk, SomeIff};
+ghost use Rattle.std.specs.Option.{option_copied};
 ghost use Rattle.logic_term.specs.Canonical.{canonical};
 ghost use Rattle.logic_term.specs.Same.{same_term};
-ghost use Rattle.logic_term.specs.Term.{calculate, negative};
-ghost use Rattle.source_kinds.specs.declared.kinds.ArithOp.TheVariants.{Add, Sub, Mul};
 ghost use Rattle.proof_kernel.specs.Polynomial.{times, stands_in, same_monomial, summand, coefficient, with_summand, next_coefficient, plus, added, opposite_of, opposite, times_of, multiplied, products, polynomial, IsNarrowNumber, AddsNarrowly, AreNarrowSummands, IsNarrowTerm};
-ghost use Rattle.proof_kernel.specs.PolynomialCode.{place, IsNarrowProduct};
+ghost use Rattle.proof_kernel.specs.PolynomialCode.{place, IsNarrowProduct, left_operand, IsWithin, joined_in, JoinsNarrowly};
 
 use logic_term::{Term, TermBinary, TermForm, TermUnary};
 use source_kinds::ArithOp;
@@ -312,66 +311,103 @@ fn atom(alloc: Global, t: &Term) -> Result<Polynomial, NoMemory>
     single(alloc, 1, monomial)
 }
 
+/// A term that is no sum, difference, product or negative.
+fn single_of(alloc: Global, t: &Term) -> Result<Polynomial, NoMemory>
+    ensures narrow { IfOk result (λ p. left_operand t.now ≡ None → IsNarrowTerm t.now) }
+    ensures polynomial { IfOk result (λ p. left_operand t.now ≡ None → p ≡ polynomial t.now) }
+{
+    match t.form() {
+        TermForm::Lit(number, _) => single(alloc, number, Items::new(alloc)),
+        _ => atom(alloc, t),
+    }
+}
+
+/// The first operand of a sum, a difference, a product or a negative.
+fn left_operand(t: &Term) -> Option<&Term>
+    ensures { option_copied result ≡ left_operand t.now }
+{
+    match t.form() {
+        TermForm::Binary(TermBinary::Arith(ArithOp::Add), a, _) => Some(a),
+        TermForm::Binary(TermBinary::Arith(ArithOp::Sub), a, _) => Some(a),
+        TermForm::Binary(TermBinary::Arith(ArithOp::Mul), a, _) => Some(a),
+        TermForm::Unary(TermUnary::Negative, a) => Some(a),
+        _ => None,
+    }
+}
+
+/// Goes down the first operands to the last one, since they may be in one another by the thousand; pushes the terms that they are in.
+fn innermost<'a>(t: &'a Term, around: &mut Vec<&'a Term>) -> Result<&'a Term, NoMemory>
+    requires { around.now.items ≡ [] }
+    ensures last { IfOk result (λ last. left_operand last.now ≡ None) }
+    ensures around { IfOk result (λ last. IsWithin (reverse around.new.items) last.now t.entry.now) }
+{
+    let mut last = t;
+    while let Some(operand) = left_operand(last) {
+        around.push(last)?;
+        last = operand;
+    }
+    Ok(last)
+}
+
 /// The term multiplied out; `None` where a number passes 128 bits.
 #[cycle(polynomial)]
 pub(crate) fn polynomial(alloc: Global, t: &Term) -> Result<Option<Polynomial>, NoMemory>
     ensures { IfOk result (λ found. SomeIff found (IsNarrowTerm t.now) (polynomial t.now)) }
 {
+    let mut around = Vec::new(alloc);
+    let last = innermost(t, &mut around)?;
+    let mut so_far = single_of(alloc, last)?;
+    while let Some(outer) = around.pop() {
+        match joined_in(alloc, so_far, outer)? {
+            Some(more) => so_far = more,
+            None => return Ok(None),
+        }
+    }
+    Ok(Some(so_far))
+}
+
+/// The term multiplied out, whose first operand is; `None` where a number of the rest passes 128 bits.
+#[cycle(polynomial)]
+fn joined_in(alloc: Global, first: Polynomial, t: &Term) -> Result<Option<Polynomial>, NoMemory>
+    ensures { IfOk result (λ found. SomeIff found (JoinsNarrowly t.now first) (joined_in t.now first)) }
+{
     match t.form() {
-        TermForm::Binary(TermBinary::Arith(ArithOp::Add), a, b) => sum(alloc, a, b),
-        TermForm::Binary(TermBinary::Arith(ArithOp::Sub), a, b) => difference(alloc, a, b),
-        TermForm::Binary(TermBinary::Arith(ArithOp::Mul), a, b) => product_of_terms(alloc, a, b),
-        TermForm::Unary(TermUnary::Negative, a) => negative(alloc, a),
-        TermForm::Lit(number, _) => Ok(Some(single(alloc, number, Items::new(alloc))?)),
-        _ => Ok(Some(atom(alloc, t)?)),
+        TermForm::Binary(TermBinary::Arith(ArithOp::Add), _, b) => sum(alloc, first, b),
+        TermForm::Binary(TermBinary::Arith(ArithOp::Sub), _, b) => difference(alloc, first, b),
+        TermForm::Binary(TermBinary::Arith(ArithOp::Mul), _, b) => product_with(alloc, first, b),
+        TermForm::Unary(TermUnary::Negative, _) => {
+            subtracted(alloc, Items::new(alloc), first.as_slice())
+        }
+        _ => Ok(Some(first)),
     }
 }
 
 #[cycle(polynomial)]
-fn sum(alloc: Global, a: &Term, b: &Term) -> Result<Option<Polynomial>, NoMemory>
-    ensures { IfOk result (λ found. SomeIff found (IsNarrowTerm (calculate Add a.now b.now)) (polynomial (calculate Add a.now b.now))) }
+fn sum(alloc: Global, first: Polynomial, b: &Term) -> Result<Option<Polynomial>, NoMemory>
+    ensures { IfOk result (λ found. SomeIff found (IsNarrowTerm b.now × AddsNarrowly first (polynomial b.now)) (added first (polynomial b.now))) }
 {
-    let Some(left) = polynomial(alloc, a)? else {
-        return Ok(None);
-    };
     match polynomial(alloc, b)? {
-        Some(right) => added(alloc, left, right.as_slice()),
+        Some(second) => added(alloc, first, second.as_slice()),
         None => Ok(None),
     }
 }
 
 #[cycle(polynomial)]
-fn difference(alloc: Global, a: &Term, b: &Term) -> Result<Option<Polynomial>, NoMemory>
-    ensures { IfOk result (λ found. SomeIff found (IsNarrowTerm (calculate Sub a.now b.now)) (polynomial (calculate Sub a.now b.now))) }
+fn difference(alloc: Global, first: Polynomial, b: &Term) -> Result<Option<Polynomial>, NoMemory>
+    ensures { IfOk result (λ found. SomeIff found (IsNarrowTerm b.now × AddsNarrowly first (opposite (polynomial b.now))) (added first (opposite (polynomial b.now)))) }
 {
-    let Some(left) = polynomial(alloc, a)? else {
-        return Ok(None);
-    };
     match polynomial(alloc, b)? {
-        Some(right) => subtracted(alloc, left, right.as_slice()),
+        Some(second) => subtracted(alloc, first, second.as_slice()),
         None => Ok(None),
     }
 }
 
 #[cycle(polynomial)]
-fn product_of_terms(alloc: Global, a: &Term, b: &Term) -> Result<Option<Polynomial>, NoMemory>
-    ensures { IfOk result (λ found. SomeIff found (IsNarrowTerm (calculate Mul a.now b.now)) (polynomial (calculate Mul a.now b.now))) }
+fn product_with(alloc: Global, first: Polynomial, b: &Term) -> Result<Option<Polynomial>, NoMemory>
+    ensures { IfOk result (λ found. SomeIff found (IsNarrowTerm b.now × IsNarrowProduct first (polynomial b.now)) (added [] (products first (polynomial b.now)))) }
 {
-    let Some(left) = polynomial(alloc, a)? else {
-        return Ok(None);
-    };
     match polynomial(alloc, b)? {
-        Some(right) => multiplied_out(alloc, left.as_slice(), right.as_slice()),
-        None => Ok(None),
-    }
-}
-
-#[cycle(polynomial)]
-fn negative(alloc: Global, a: &Term) -> Result<Option<Polynomial>, NoMemory>
-    ensures { IfOk result (λ found. SomeIff found (IsNarrowTerm (negative a.now)) (polynomial (negative a.now))) }
-{
-    match polynomial(alloc, a)? {
-        Some(positive) => subtracted(alloc, Items::new(alloc), positive.as_slice()),
+        Some(second) => multiplied_out(alloc, first.as_slice(), second.as_slice()),
         None => Ok(None),
     }
 }

@@ -22,29 +22,23 @@ pub fn is_hypothesis(alloc: Global, label: Label2, q: &Sequent) -> Result<bool, 
     }
 }
 
-fn one_term(alloc: Global, t: &Term) -> Result<Vec<Term>, NoMemory>
-    ensures { IfOk result (λ v. v.items ≡ t.now ∷ []) }
-{
-    let mut all = Vec::with_capacity(alloc, 1)?;
-    all.push(t.share()?)?;
-    Ok(all)
-}
-
-/// The conjuncts of the term, at all levels.
-#[cycle(conjuncts)]
-#[tactic(auto, using(crate::proofs::Conjuncts::single_conjunct))]
+/// The conjuncts of the term, at all levels. They may be in one another by the thousand.
 fn conjuncts_of(alloc: Global, t: &Term) -> Result<Vec<Term>, NoMemory>
     ensures { IfOk result (λ v. v.items ≡ conjuncts t.now) }
 {
-    match t.as_conjunction() {
-        Some((a, b)) => {
-            let mut left = conjuncts_of(alloc, a)?;
-            let mut right = conjuncts_of(alloc, b)?;
-            left.append(&mut right)?;
-            Ok(left)
+    let mut all = Vec::new(alloc);
+    let mut left = Vec::new(alloc);
+    left.push(t)?;
+    while let Some(next) = left.pop() {
+        match next.as_conjunction() {
+            Some((a, b)) => {
+                left.push(b)?;
+                left.push(a)?;
+            }
+            None => all.push(next.share()?)?,
         }
-        None => one_term(alloc, t),
     }
+    Ok(all)
 }
 
 fn with_each_goal(alloc: Global, q: &Sequent, goals: &[Term]) -> Result<Vec<Sequent>, NoMemory>

@@ -1,11 +1,13 @@
 //! Statements and expressions.
 ghost use Rattle.std.specs.Prelude.{◌≡◌};
+ghost use Rattle.std.specs.Option.{option_copied};
 ghost use Rattle.source_trees.specs.Expr as E;
 ghost use Rattle.source_trees.specs.ExprView.{exprs_of, stmts_of, arms_of, field_exprs_of};
 ghost use Rattle.source_forms.specs.declared.form.Form.TheVariants as forms;
 ghost use Rattle.source_forms.specs.Forms.{is_among, here, in_some, in_each, ◌or_else◌};
 ghost use Rattle.source_forms.specs.TypeForms.{unbuilt_type};
 ghost use Rattle.source_forms.specs.ExprForms.{unbuilt_attribute, unbuilt_param, promises_before, unbuilt_kind, unbuilt_condition, panic_form, logical_form, unary_form, borrow_form, call_form, unbuilt_expr, unbuilt_exprs, unbuilt_stmts, unbuilt_arms, unbuilt_field_exprs};
+ghost use Rattle.source_forms.specs.LeftForms.{left_expr, before_expr, behind_expr};
 
 use crate::attributes::{unbuilt_attributes, unbuilt_params};
 use crate::form::{BEFORE_CLOSURE, BEFORE_LOOP, ELSEWHERE, Form, IN_LET};
@@ -149,10 +151,48 @@ fn logical(built: &[Form], span: Span, of: GhostMacro, term: &Pterm) -> Option<u
 
 // ---- expressions
 
-/// The first form in the expression that is not built.
+/// The operand on the left.
+fn left_of(e: &Expr) -> Option<&Expr>
+    ensures { option_copied result ≡ left_expr e.now }
+{
+    match &*e.node {
+        ExprNode::Assign(d, _) => Some(d),
+        ExprNode::Update(_, _, d, _) => Some(d),
+        ExprNode::Lazy(_, d, _) => Some(d),
+        ExprNode::Binary(_, _, d, _) => Some(d),
+        ExprNode::Cast(e, _) => Some(e),
+        ExprNode::Unary(_, _, e) => Some(e),
+        ExprNode::Borrow(_, e) => Some(e),
+        ExprNode::Field(e, _, _) => Some(e),
+        ExprNode::Part(e, _) => Some(e),
+        ExprNode::Method(e, _, _, _) => Some(e),
+        ExprNode::Call(e, _) => Some(e),
+        _ => None,
+    }
+}
+
+/// The first form in the expression that is not built. Operands on the left are gone down by the loop, since they may be in one another
+/// by the thousand: what is behind one of them comes before what is behind the expressions that it is in.
 #[cycle(unbuilt_expr)]
 pub(crate) fn unbuilt_expr(built: &[Form], e: &Expr) -> Option<u64>
     ensures { result ≡ unbuilt_expr (is_among built.now) e.now }
+{
+    let mut e = e;
+    let mut after = None;
+    while let Some(left) = left_of(e) {
+        if let Some(start) = unbuilt_before(built, e) {
+            return Some(start);
+        }
+        after = first_of!(unbuilt_behind(built, e), after);
+        e = left;
+    }
+    first_of!(unbuilt_before(built, e), after)
+}
+
+/// What is before the operand on the left, or all of the expression where there is none.
+#[cycle(unbuilt_expr)]
+fn unbuilt_before(built: &[Form], e: &Expr) -> Option<u64>
+    ensures { result ≡ before_expr (is_among built.now) e.now }
 {
     let span = e.span;
     match &*e.node {
@@ -164,57 +204,51 @@ pub(crate) fn unbuilt_expr(built: &[Form], e: &Expr) -> Option<u64>
         ExprNode::Tuple(parts) => tuple(built, span, parts),
         ExprNode::Block(statements) => block(built, span, statements),
         ExprNode::BlockWith(statements, e) => block_with(built, span, statements, e),
-        ExprNode::If(pattern, condition, body) => {
-            let head = unbuilt_condition(built, Form::If, Form::IfLet, span, pattern);
-            first_of!(head, two(built, condition, body))
-        }
-        ExprNode::IfElse(pattern, condition, yes, no) => {
-            let head = unbuilt_condition(built, Form::If, Form::IfLet, span, pattern);
-            first_of!(head, three(built, condition, yes, no))
-        }
+        ExprNode::If(pattern, test, body) => branch(built, span, pattern, test, body),
+        ExprNode::IfElse(pattern, test, yes, no) => choice(built, span, pattern, test, yes, no),
         ExprNode::Match(e, arms) => matching(built, span, e, arms),
-        ExprNode::While(pattern, condition, body) => {
-            let head = unbuilt_condition(built, Form::While, Form::WhileLet, span, pattern);
-            first_of!(head, two(built, condition, body))
-        }
+        ExprNode::While(pattern, test, body) => repeat(built, span, pattern, test, body),
         ExprNode::Loop(body) => one(built, Form::Loop, span, body),
-        ExprNode::Attributed(attributes, e) => {
-            let promises = unbuilt_promises(built, attributes.as_slice(), e);
-            first_of!(promises, unbuilt_expr(built, e))
-        }
-        ExprNode::Closure(_, _, parameters, ty, body) => {
-            closure(built, span, parameters.as_slice(), ty, body)
-        }
+        ExprNode::Attributed(attributes, e) => attributed(built, attributes.as_slice(), e),
+        ExprNode::Closure(_, _, of, ty, body) => closure(built, span, of.as_slice(), ty, body),
         ExprNode::Return => here(built, Form::Return, span),
         ExprNode::ReturnWith(e) => one(built, Form::Return, span, e),
         ExprNode::Break => here(built, Form::Break, span),
         ExprNode::Continue => here(built, Form::Continue, span),
         ExprNode::Panic(of, _) => here(built, panic_form(*of), span),
         ExprNode::Ghost(of, term) => logical(built, span, *of, term),
-        ExprNode::Assign(d, e) => first_of!(here(built, Form::Assign, span), two(built, d, e)),
-        ExprNode::Update(_, _, d, e) => first_of!(
-            here(built, Form::Update, span),
-            two(built, d, e)
+        ExprNode::Assign(_, _) => here(built, Form::Assign, span),
+        ExprNode::Update(_, _, _, _) => here(built, Form::Update, span),
+        ExprNode::Lazy(_, _, _) => here(built, Form::Lazy, span),
+        ExprNode::Binary(_, _, _, _) => here(built, Form::Binary, span),
+        ExprNode::Cast(_, _) => here(built, Form::Cast, span),
+        ExprNode::Unary(op, _, _) => here(built, unary_form(*op), span),
+        ExprNode::Borrow(mutable, _) => here(built, borrow_form(*mutable), span),
+        ExprNode::Field(_, _, _) => here(built, Form::Field, span),
+        ExprNode::Part(_, _) => here(built, Form::Part, span),
+        ExprNode::Method(_, _, _, _) => here(built, Form::Method, span),
+        ExprNode::Call(e, _) => here(built, call_form(e), span),
+    }
+}
+
+/// What is behind the operand on the left.
+#[cycle(unbuilt_expr)]
+fn unbuilt_behind(built: &[Form], e: &Expr) -> Option<u64>
+    ensures { result ≡ behind_expr (is_among built.now) e.now }
+{
+    match &*e.node {
+        ExprNode::Assign(_, e) => unbuilt_expr(built, e),
+        ExprNode::Update(_, _, _, e) => unbuilt_expr(built, e),
+        ExprNode::Lazy(_, _, e) => unbuilt_expr(built, e),
+        ExprNode::Binary(_, _, _, e) => unbuilt_expr(built, e),
+        ExprNode::Cast(_, ty) => unbuilt_type(built, ty),
+        ExprNode::Field(_, _, types) => unbuilt_types(built, types.as_slice()),
+        ExprNode::Method(_, _, types, arguments) => first_of!(
+            unbuilt_types(built, types.as_slice()),
+            unbuilt_exprs(built, arguments)
         ),
-        ExprNode::Lazy(_, d, e) => first_of!(here(built, Form::Lazy, span), two(built, d, e)),
-        ExprNode::Binary(_, _, d, e) => first_of!(
-            here(built, Form::Binary, span),
-            two(built, d, e)
-        ),
-        ExprNode::Cast(e, ty) => {
-            first_of!(one(built, Form::Cast, span, e), unbuilt_type(built, ty))
-        }
-        ExprNode::Unary(op, _, e) => one(built, unary_form(*op), span, e),
-        ExprNode::Borrow(mutable, e) => one(built, borrow_form(*mutable), span, e),
-        ExprNode::Field(e, _, types) => {
-            let value = one(built, Form::Field, span, e);
-            first_of!(value, unbuilt_types(built, types.as_slice()))
-        }
-        ExprNode::Part(e, _) => one(built, Form::Part, span, e),
-        ExprNode::Method(e, _, types, arguments) => {
-            method(built, span, e, types.as_slice(), arguments)
-        }
-        ExprNode::Call(e, arguments) => call(built, span, e, arguments),
+        ExprNode::Call(_, arguments) => unbuilt_exprs(built, arguments),
+        _ => None,
     }
 }
 
@@ -226,23 +260,68 @@ fn one(built: &[Form], form: Form, span: Span, e: &Expr) -> Option<u64>
     first_of!(here(built, form, span), unbuilt_expr(built, e))
 }
 
-/// Two expressions.
+/// An `if` without `else`.
 #[cycle(unbuilt_expr)]
-fn two(built: &[Form], d: &Expr, e: &Expr) -> Option<u64>
-    ensures { result ≡ (unbuilt_expr (is_among built.now) d.now or_else unbuilt_expr (is_among built.now) e.now) }
-{
-    first_of!(unbuilt_expr(built, d), unbuilt_expr(built, e))
-}
-
-/// Three expressions.
-#[cycle(unbuilt_expr)]
-fn three(built: &[Form], d: &Expr, e: &Expr, f: &Expr) -> Option<u64>
-    ensures { result ≡ (unbuilt_expr (is_among built.now) d.now or_else unbuilt_expr (is_among built.now) e.now or_else unbuilt_expr (is_among built.now) f.now) }
+fn branch(
+    built: &[Form],
+    span: Span,
+    pattern: &Option<Pat>,
+    test: &Expr,
+    body: &Expr,
+) -> Option<u64>
+    ensures { result ≡ unbuilt_expr (is_among built.now) (E.branch span pattern.now test.now body.now) }
 {
     first_of!(
-        unbuilt_expr(built, d),
-        unbuilt_expr(built, e),
-        unbuilt_expr(built, f)
+        unbuilt_condition(built, Form::If, Form::IfLet, span, pattern),
+        unbuilt_expr(built, test),
+        unbuilt_expr(built, body)
+    )
+}
+
+#[cycle(unbuilt_expr)]
+fn choice(
+    built: &[Form],
+    span: Span,
+    pattern: &Option<Pat>,
+    test: &Expr,
+    yes: &Expr,
+    no: &Expr,
+) -> Option<u64>
+    ensures { result ≡ unbuilt_expr (is_among built.now) (E.choice span pattern.now test.now yes.now no.now) }
+{
+    first_of!(
+        unbuilt_condition(built, Form::If, Form::IfLet, span, pattern),
+        unbuilt_expr(built, test),
+        unbuilt_expr(built, yes),
+        unbuilt_expr(built, no)
+    )
+}
+
+#[cycle(unbuilt_expr)]
+fn repeat(
+    built: &[Form],
+    span: Span,
+    pattern: &Option<Pat>,
+    test: &Expr,
+    body: &Expr,
+) -> Option<u64>
+    ensures { result ≡ unbuilt_expr (is_among built.now) (E.repeat span pattern.now test.now body.now) }
+{
+    first_of!(
+        unbuilt_condition(built, Form::While, Form::WhileLet, span, pattern),
+        unbuilt_expr(built, test),
+        unbuilt_expr(built, body)
+    )
+}
+
+/// A loop or a closure with the attributes before it.
+#[cycle(unbuilt_expr)]
+fn attributed(built: &[Form], attributes: &[Attribute], e: &Expr) -> Option<u64>
+    ensures { result ≡ (in_each (unbuilt_attribute (is_among built.now) (promises_before e.now)) attributes.now or_else unbuilt_expr (is_among built.now) e.now) }
+{
+    first_of!(
+        unbuilt_promises(built, attributes, e),
+        unbuilt_expr(built, e)
     )
 }
 
@@ -295,35 +374,6 @@ fn matching(built: &[Form], span: Span, e: &Expr, arms: &[Arm]) -> Option<u64>
         here(built, Form::Match, span),
         unbuilt_expr(built, e),
         unbuilt_arms(built, arms)
-    )
-}
-
-#[cycle(unbuilt_expr)]
-fn call(built: &[Form], span: Span, e: &Expr, arguments: &[Expr]) -> Option<u64>
-    ensures { result ≡ unbuilt_expr (is_among built.now) (E.call span e.now (exprs_of arguments.now)) }
-{
-    first_of!(
-        here(built, call_form(e), span),
-        unbuilt_expr(built, e),
-        unbuilt_exprs(built, arguments)
-    )
-}
-
-#[cycle(unbuilt_expr)]
-fn method(
-    built: &[Form],
-    span: Span,
-    e: &Expr,
-    types: &[TypeTree],
-    arguments: &[Expr],
-) -> Option<u64>
-    ensures { result ≡ (here (is_among built.now) forms.Method span or_else unbuilt_expr (is_among built.now) e.now or_else in_each (unbuilt_type (is_among built.now)) types.now or_else unbuilt_exprs (is_among built.now) (exprs_of arguments.now)) }
-{
-    first_of!(
-        here(built, Form::Method, span),
-        unbuilt_expr(built, e),
-        unbuilt_types(built, types),
-        unbuilt_exprs(built, arguments)
     )
 }
 

@@ -1,17 +1,17 @@
 //! Terms of contracts.
 ghost use Rattle.std.specs.Prelude.{◌≡◌};
+ghost use Rattle.std.specs.Option.{option_copied};
 ghost use Rattle.source_trees.specs.Pterm as T;
 ghost use Rattle.source_trees.specs.PtermView.{terms_of, field_terms_of, arms_of};
 ghost use Rattle.source_forms.specs.Forms.{is_among, here, in_each, ◌or_else◌};
 ghost use Rattle.source_forms.specs.TermForms.{unary_term_form, quantifier_form, unbuilt_binder, unbuilt_term, unbuilt_terms, unbuilt_field_terms, unbuilt_term_arms};
+ghost use Rattle.source_forms.specs.LeftForms.{left_term, before_term, behind_term};
 
 use crate::form::{ELSEWHERE, Form};
 use crate::patterns::unbuilt_pattern;
 use crate::place::here;
 use crate::types::{path_form, unbuilt_path, unbuilt_type};
-use source_trees::{
-    Binder, FieldTerm, Path, Pterm, PtermNode, Quantifier, Segment, TermArm, UnaryTerm,
-};
+use source_trees::{Binder, FieldTerm, Path, Pterm, PtermNode, Quantifier, TermArm, UnaryTerm};
 use text_core::Span;
 
 fn unary_term_form(op: UnaryTerm) -> Form
@@ -55,10 +55,42 @@ fn unbuilt_binders(built: &[Form], binders: &[Binder]) -> Option<u64>
     None
 }
 
-/// The first form in the term that is not built.
+/// The operand on the left.
+fn left_of(term: &Pterm) -> Option<&Pterm>
+    ensures { option_copied result ≡ left_term term.now }
+{
+    match &*term.node {
+        PtermNode::Unary(_, t) => Some(t),
+        PtermNode::Binary(_, t, _) => Some(t),
+        PtermNode::Field(t, _) => Some(t),
+        PtermNode::Part(t, _) => Some(t),
+        PtermNode::Method(t, _, _) => Some(t),
+        _ => None,
+    }
+}
+
+/// The first form in the term that is not built. Operands on the left are gone down by the loop, since they may be in one another by
+/// the thousand: what is behind one of them comes before what is behind the terms that it is in.
 #[cycle(unbuilt_term)]
 pub(crate) fn unbuilt_term(built: &[Form], term: &Pterm) -> Option<u64>
     ensures { result ≡ unbuilt_term (is_among built.now) term.now }
+{
+    let mut term = term;
+    let mut after = None;
+    while let Some(left) = left_of(term) {
+        if let Some(start) = unbuilt_before(built, term) {
+            return Some(start);
+        }
+        after = first_of!(unbuilt_behind(built, term), after);
+        term = left;
+    }
+    first_of!(unbuilt_before(built, term), after)
+}
+
+/// What is before the operand on the left, or all of the term where there is none.
+#[cycle(unbuilt_term)]
+fn unbuilt_before(built: &[Form], term: &Pterm) -> Option<u64>
+    ensures { result ≡ before_term (is_among built.now) term.now }
 {
     let span = term.span;
     match &*term.node {
@@ -67,12 +99,12 @@ pub(crate) fn unbuilt_term(built: &[Form], term: &Pterm) -> Option<u64>
         PtermNode::Answer(_) => here(built, Form::Answer, span),
         PtermNode::Receiver => here(built, Form::SelfTerm, span),
         PtermNode::Path(of) => path(built, span, of),
-        PtermNode::Unary(op, t) => one(built, unary_term_form(*op), span, t),
-        PtermNode::Binary(_, t, u) => two(built, Form::BinaryTerm, span, t, u),
+        PtermNode::Unary(op, _) => here(built, unary_term_form(*op), span),
+        PtermNode::Binary(_, _, _) => here(built, Form::BinaryTerm, span),
         PtermNode::MutRef(t, u) => two(built, Form::MutRefTerm, span, t, u),
-        PtermNode::Field(t, _) => one(built, Form::FieldTerm, span, t),
-        PtermNode::Part(t, _) => one(built, Form::PartTerm, span, t),
-        PtermNode::Method(t, name, arguments) => method(built, span, t, *name, arguments),
+        PtermNode::Field(_, _) => here(built, Form::FieldTerm, span),
+        PtermNode::Part(_, _) => here(built, Form::PartTerm, span),
+        PtermNode::Method(_, _, _) => here(built, Form::MethodTerm, span),
         PtermNode::Call(of, arguments) => call(built, span, of, arguments),
         PtermNode::Literal(of, fields) => literal(built, span, of, fields),
         PtermNode::Tuple(parts) => several(built, Form::TupleTerm, span, parts),
@@ -87,12 +119,16 @@ pub(crate) fn unbuilt_term(built: &[Form], term: &Pterm) -> Option<u64>
     }
 }
 
-/// A form with one part.
+/// What is behind the operand on the left.
 #[cycle(unbuilt_term)]
-fn one(built: &[Form], form: Form, span: Span, t: &Pterm) -> Option<u64>
-    ensures { result ≡ (here (is_among built.now) form span or_else unbuilt_term (is_among built.now) t.now) }
+fn unbuilt_behind(built: &[Form], term: &Pterm) -> Option<u64>
+    ensures { result ≡ behind_term (is_among built.now) term.now }
 {
-    first_of!(here(built, form, span), unbuilt_term(built, t))
+    match &*term.node {
+        PtermNode::Binary(_, _, u) => unbuilt_term(built, u),
+        PtermNode::Method(_, _, arguments) => unbuilt_terms(built, arguments),
+        _ => None,
+    }
 }
 
 /// A form with two parts.
@@ -113,17 +149,6 @@ fn several(built: &[Form], form: Form, span: Span, terms: &[Pterm]) -> Option<u6
     ensures { result ≡ (here (is_among built.now) form span or_else unbuilt_terms (is_among built.now) (terms_of terms.now)) }
 {
     first_of!(here(built, form, span), unbuilt_terms(built, terms))
-}
-
-#[cycle(unbuilt_term)]
-fn method(built: &[Form], span: Span, t: &Pterm, name: Segment, arguments: &[Pterm]) -> Option<u64>
-    ensures { result ≡ unbuilt_term (is_among built.now) (T.method span t.now name (terms_of arguments.now)) }
-{
-    first_of!(
-        here(built, Form::MethodTerm, span),
-        unbuilt_term(built, t),
-        unbuilt_terms(built, arguments)
-    )
 }
 
 #[cycle(unbuilt_term)]

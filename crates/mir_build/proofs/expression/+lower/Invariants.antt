@@ -2,51 +2,68 @@ use Rattle.std.proofs.Common.{◌≡◌, ◌+◌, ◌*◌, ◌++◌, ◌≤◌, 
 use Rattle.std.specs.Option.{option_copied}
 use Rattle.type_check.specs.TypedExprView.{typed_size, stmts_size, stmts_of, exprs_size, exprs_of}
 use Rattle.mir_build.specs.Lowering.{copied}
-use Rattle.mir_build.specs.Numbered.{args, temporaries, labels_in, locals_in}
+use Rattle.mir_build.specs.Numbered.{into, labels, locals, args, temporaries, labels_in, locals_in}
+use Rattle.mir_build.specs.Tasks.{to_do, behind_size, task_size, tasks_text, tasks_labels, tasks_locals, tasks_size, tasks_weight}
 use Rattle.mir_build.specs.Built.{written, around, end_of}
 use Rattle.mir_build.proofs.expression.+lower.Given as goal
 
 abbrev pub decreases-lower_into : goal.decreases-lower_into
-decreases-lower_into l = 4 * typed_size l.e.now
+decreases-lower_into l = 8 * typed_size l.e.now + 2
 
-abbrev pub decreases-lower_new : goal.decreases-lower_new
-decreases-lower_new l = 4 * typed_size l.e.now + 1
+abbrev pub decreases-do_task : goal.decreases-do_task
+decreases-do_task l = 8 * task_size l.task + 1
+
+abbrev pub decreases-lower_left : goal.decreases-lower_left
+decreases-lower_left l = 8 * typed_size l.e.now
+
+abbrev pub decreases-lower_behind : goal.decreases-lower_behind
+decreases-lower_behind l = 8 * behind_size l.pending.now.behind + 4
 
 abbrev pub decreases-lower_lazy : goal.decreases-lower_lazy
-decreases-lower_lazy l = 4 * max (typed_size l.x.now) (typed_size l.y.now) + 3
+decreases-lower_lazy l = 8 * typed_size l.y.now + 3
+
+abbrev pub decreases-lower_new : goal.decreases-lower_new
+decreases-lower_new l = 8 * typed_size l.e.now + 3
 
 abbrev pub decreases-lower_assign : goal.decreases-lower_assign
-decreases-lower_assign l = 4 * typed_size l.x.now + 3
-
-abbrev pub decreases-lower_assign_value : goal.decreases-lower_assign_value
-decreases-lower_assign_value l = 4 * max (typed_size l.to.now) (typed_size l.x.now) + 3
+decreases-lower_assign l = 8 * typed_size l.x.now + 5
 
 abbrev pub decreases-lower_update : goal.decreases-lower_update
-decreases-lower_update l = 4 * typed_size l.x.now + 3
-
-abbrev pub decreases-lower_update_value : goal.decreases-lower_update_value
-decreases-lower_update_value l = 4 * max (typed_size l.to.now) (typed_size l.x.now) + 3
+decreases-lower_update l = 8 * typed_size l.x.now + 5
 
 abbrev pub decreases-lower_branch : goal.decreases-lower_branch
-decreases-lower_branch l = 4 * max (typed_size l.x.now) (typed_size l.y.now) + 3
+decreases-lower_branch l = 8 * max (typed_size l.x.now) (typed_size l.y.now) + 5
 
 abbrev pub decreases-lower_choice : goal.decreases-lower_choice
-decreases-lower_choice l = 4 * max (typed_size l.x.now) (max (typed_size l.y.now) (typed_size l.z.now)) + 3
+decreases-lower_choice l = 8 * max (typed_size l.x.now) (max (typed_size l.y.now) (typed_size l.z.now)) + 5
 
 abbrev pub decreases-lower_repeat : goal.decreases-lower_repeat
-decreases-lower_repeat l = 4 * max (typed_size l.x.now) (typed_size l.y.now) + 3
+decreases-lower_repeat l = 8 * max (typed_size l.x.now) (typed_size l.y.now) + 5
 
 abbrev pub decreases-lower_loop : goal.decreases-lower_loop
-decreases-lower_loop l = 4 * max (typed_size l.x.now) (typed_size l.y.now) + 2
+decreases-lower_loop l = 8 * max (typed_size l.x.now) (typed_size l.y.now) + 4
 
 abbrev pub decreases-lower_call : goal.decreases-lower_call
-decreases-lower_call l = 4 * exprs_size (exprs_of l.es.now) + 3
+decreases-lower_call l = 8 * exprs_size (exprs_of l.es.now) + 5
 
 abbrev pub decreases-lower_args : goal.decreases-lower_args
-decreases-lower_args l = 4 * exprs_size (exprs_of l.es.now)
+decreases-lower_args l = 8 * exprs_size (exprs_of l.es.now)
 
 abbrev pub decreases-lower_rest : goal.decreases-lower_rest
-decreases-lower_rest l = 4 * stmts_size (stmts_of l.statements.now (end_of (option_copied l.last)))
+decreases-lower_rest l = 8 * stmts_size (stmts_of l.statements.now (end_of (option_copied l.last)))
+
+abbrev pub invariant-lower_into-loop-task : goal.invariant-lower_into-loop-task
+invariant-lower_into-loop-task l = record {
+  text : written (tasks_text (to_do l.tasks.items) (around l.c) l.b.labels (length l.b.text.locals)) l.b.text ≡ written (into l.e (around l.initial.c) l.initial.b.labels (length l.initial.b.text.locals) l.d) l.initial.b.text;
+  labels : l.b.labels + tasks_labels (to_do l.tasks.items) ≡ l.initial.b.labels + labels l.e;
+  locals : length l.b.text.locals + tasks_locals (to_do l.tasks.items) ≡ length l.initial.b.text.locals + locals l.e;
+  most : l.initial.b.labels ≤ 4096 → l.b.labels ≤ 4096;
+  around : around l.c ≡ around l.initial.c;
+  size : tasks_size (to_do l.tasks.items) ≤ typed_size l.e;
+}
+
+abbrev pub decreases-lower_into-loop-task : goal.decreases-lower_into-loop-task
+decreases-lower_into-loop-task l = tasks_weight (to_do l.tasks.items)
 
 abbrev pub invariant-lower_args-loop-e : goal.invariant-lower_args-loop-e
 invariant-lower_args-loop-e l = record {

@@ -1,0 +1,27 @@
+-- One step of the walk down operands on the left.
+use Rattle.std.proofs.Common.{◌≡◌, ℕ, ◌+◌, max, List, [], ◌∷◌, ◌++◌, ◌∙◌, ap}
+use Rattle.std.proofs.lemmas.List.{reverse-append}
+use Rattle.mir_build.specs.declared.builder.BodyText.{BodyText}
+use Rattle.mir_build.specs.declared.task.Task.{Task}
+use Rattle.mir_build.specs.Lowering.{Around}
+use Rattle.mir_build.specs.Built.{written}
+use Rattle.mir_build.specs.Tasks.{to_do, task_text, task_labels, task_locals, task_size, tasks_text, tasks_labels, tasks_locals, tasks_size}
+
+pub pushed : (ts : List Task) (t : Task) → to_do (ts ++ t ∷ []) ≡ t ∷ to_do ts
+pushed ts t = reverse-append ts (t ∷ [])
+
+module _ (old rest : List Task) (t : Task) (e : old ≡ rest ++ t ∷ []) where
+  pub popped : to_do old ≡ t ∷ to_do rest
+  popped = ap to_do e ∙ pushed rest t
+
+  pub popped_text : (c : Around) (l u : ℕ) (x : BodyText) → written (tasks_text (to_do old) c l u) x ≡ written (task_text t c l u ++ tasks_text (to_do rest) c (l + task_labels t) (u + task_locals t)) x
+  popped_text c l u x = ap (λ ts. written (tasks_text ts c l u) x) popped
+
+  pub popped_labels : tasks_labels (to_do old) ≡ task_labels t + tasks_labels (to_do rest)
+  popped_labels = ap tasks_labels popped
+
+  pub popped_locals : tasks_locals (to_do old) ≡ task_locals t + tasks_locals (to_do rest)
+  popped_locals = ap tasks_locals popped
+
+  pub popped_size : tasks_size (to_do old) ≡ max (task_size t) (tasks_size (to_do rest))
+  popped_size = ap tasks_size popped

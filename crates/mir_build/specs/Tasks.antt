@@ -1,0 +1,97 @@
+-- A walk down the left operands of an expression, with a stack of what is to be done: the text that is still to be written, with the
+-- numbers that the code gives. Contracts of the code alone speak of it.
+use Rattle.std.specs.Prelude.{ℕ, suc, ◌+◌, ◌*◌, max, List, [], ◌∷◌, ◌++◌, reverse}
+use Rattle.text_core.specs.declared.span.Span.{Span}
+use Rattle.source_kinds.specs.declared.kinds.LazyOp.{LazyOp}
+use Rattle.mir_ir.specs.declared.statement.Rvalue.TheVariants.{Use, Binary}
+use Rattle.mir_ir.specs.declared.terminator.TerminatorKind.TheVariants.{Goto, If}
+use Rattle.type_check.specs.TypedExpr.{TypedExpr}
+use Rattle.type_check.specs.TypedExprView.{ty_of, typed_size}
+use Rattle.mir_build.specs.declared.task.Behind.{Behind}
+use Rattle.mir_build.specs.declared.task.Behind.TheVariants as behind
+use Rattle.mir_build.specs.declared.task.Task.{Task}
+use Rattle.mir_build.specs.declared.task.Task.TheVariants.{Lower, Finish}
+use Rattle.mir_build.specs.Text.{Line, Makes, Turns}
+use Rattle.mir_build.specs.Lowering.{Around, at, puts, put_unit, copied, moved, ends, where_true, where_false}
+use Rattle.mir_build.specs.Numbered.{label, labels, locals, into}
+
+-- ---- behind a left operand, which is in local t
+
+abbrev pub behind_labels : Behind → ℕ
+behind_labels (behind.Binary op b) = labels b.now
+behind_labels (behind.Lazy op b) = 3 + labels b.now
+behind_labels (behind.AssignValue v) = 0
+behind_labels (behind.UpdateValue op ty v) = 0
+
+abbrev pub behind_locals : Behind → ℕ
+behind_locals (behind.Binary op b) = 1 + locals b.now
+behind_locals (behind.Lazy op b) = locals b.now
+behind_locals (behind.AssignValue v) = 0
+behind_locals (behind.UpdateValue op ty v) = 1
+
+-- the text of `&&` or `||`
+abbrev pub lazy_text : LazyOp → TypedExpr → Span → ℕ → ℕ → Around → ℕ → ℕ → List Line
+lazy_text op b s t d c l u =
+    let ys = into b c (l + 3) u d in
+    Turns (ends s (If (copied t) (label l) (label (l + 1)))) (at c (label l)) ∷ (where_true op s d ys
+    ++ Turns (ends s (Goto (label (l + 2)))) (at c (label (l + 1))) ∷ (where_false op s d ys ++ Turns (ends s (Goto (label (l + 2)))) (at c (label (l + 2))) ∷ []))
+
+abbrev pub behind_text : Behind → Span → ℕ → ℕ → Around → ℕ → ℕ → List Line
+behind_text (behind.Binary op b) s t d c l u = Makes u (ty_of b.now) ∷ (into b.now c l (u + 1) u ++ puts s d (Binary op (copied t) (copied u)) ∷ [])
+behind_text (behind.Lazy op b) s t d c l u = lazy_text op b.now s t d c l u
+behind_text (behind.AssignValue v) s t d c l u = puts s t (Use (moved v)) ∷ put_unit s d ∷ []
+behind_text (behind.UpdateValue op ty v) s t d c l u = Makes u ty.now ∷ puts s u (Binary op (copied t) (copied v)) ∷ puts s t (Use (moved u)) ∷ put_unit s d ∷ []
+
+abbrev pub behind_size : Behind → ℕ
+behind_size (behind.Binary op b) = typed_size b.now
+behind_size (behind.Lazy op b) = typed_size b.now
+behind_size (behind.AssignValue v) = 0
+behind_size (behind.UpdateValue op ty v) = 0
+
+-- ---- tasks
+
+abbrev pub task_labels : Task → ℕ
+task_labels (Lower e d) = labels e.now
+task_labels (Finish p) = behind_labels p.behind
+
+abbrev pub task_locals : Task → ℕ
+task_locals (Lower e d) = locals e.now
+task_locals (Finish p) = behind_locals p.behind
+
+abbrev pub task_text : Task → Around → ℕ → ℕ → List Line
+task_text (Lower e d) c l u = into e.now c l u d
+task_text (Finish p) c l u = behind_text p.behind p.span p.operand p.target c l u
+
+-- those on a stack, the next one first
+abbrev pub to_do : List Task → List Task
+to_do ts = reverse ts
+
+abbrev pub tasks_labels : List Task → ℕ
+tasks_labels [] = 0
+tasks_labels (t ∷ ts) = task_labels t + tasks_labels ts
+
+abbrev pub tasks_locals : List Task → ℕ
+tasks_locals [] = 0
+tasks_locals (t ∷ ts) = task_locals t + tasks_locals ts
+
+abbrev pub tasks_text : List Task → Around → ℕ → ℕ → List Line
+tasks_text [] c l u = []
+tasks_text (t ∷ ts) c l u = task_text t c l u ++ tasks_text ts c (l + task_labels t) (u + task_locals t)
+
+-- how deep what is lowered is
+abbrev pub task_size : Task → ℕ
+task_size (Lower e d) = typed_size e.now
+task_size (Finish p) = suc (behind_size p.behind)
+
+abbrev pub tasks_size : List Task → ℕ
+tasks_size [] = 0
+tasks_size (t ∷ ts) = max (task_size t) (tasks_size ts)
+
+-- how much there is to do
+abbrev pub task_weight : Task → ℕ
+task_weight (Lower e d) = 2 * typed_size e.now
+task_weight (Finish p) = 1
+
+abbrev pub tasks_weight : List Task → ℕ
+tasks_weight [] = 0
+tasks_weight (t ∷ ts) = task_weight t + tasks_weight ts

@@ -1,0 +1,36 @@
+//! What is left to do of an expression whose left operands are lowered by a loop.
+
+use logic_term::Ty;
+use source_kinds::{BinaryOp, LazyOp};
+use text_core::Span;
+use type_check::TypedExpr;
+
+/// What an expression does behind its left operand.
+#[derive(Clone, Copy)]
+pub(crate) enum Behind<'a> {
+    /// The right operand.
+    Binary(BinaryOp, &'a TypedExpr),
+    Lazy(LazyOp, &'a TypedExpr),
+    /// The local of the value that is assigned.
+    AssignValue(u32),
+    /// The same, and its type.
+    UpdateValue(BinaryOp, &'a Ty, u32),
+}
+
+/// An expression whose left operand is lowered before the rest of it.
+#[derive(Clone, Copy)]
+pub(crate) struct Pending<'a> {
+    pub(crate) span: Span,
+    /// The local of the left operand.
+    pub(crate) operand: u32,
+    /// The local of the expression.
+    pub(crate) target: u32,
+    pub(crate) behind: Behind<'a>,
+}
+
+#[derive(Clone, Copy)]
+pub(crate) enum Task<'a> {
+    /// The value of the expression goes to the local.
+    Lower(&'a TypedExpr, u32),
+    Finish(Pending<'a>),
+}
