@@ -38,7 +38,7 @@ fn bounded_round(
 
 /// For each declared type whether it is bounded.
 #[tactic(auto, using(crate::proofs::Bounds::falses_long, crate::proofs::Bounds::same_long, crate::proofs::Bounds::none_bounded_yet, crate::proofs::Bounds::still_bounded, crate::proofs::Bounds::less_bounded, crate::proofs::Bounds::first_bounded, crate::proofs::Bounds::rest_endless))]
-fn bounded_types(alloc: Global, decls: &[AdtDecl]) -> Result<Vec<bool>, NoMemory>
+pub(crate) fn bounded_types(alloc: Global, decls: &[AdtDecl]) -> Result<Vec<bool>, NoMemory>
     ensures len { IfOk result (λ v. length v.items ≡ length decls.now) }
     ensures bounded { IfOk result (λ v. (d : ℕ) → get_or v.items d true ≡ true → IsBounded decls.now d) }
     ensures endless { IfOk result (λ v. (d : ℕ) → get_or v.items d true ≡ false → IsEndless decls.now d) }

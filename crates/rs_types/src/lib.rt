@@ -2,11 +2,15 @@
 #![tactic(auto)]
 
 mod applying;
+mod asking;
 mod bounded;
+mod closing;
 mod holding;
 mod laws;
+mod settling;
 mod standing;
 mod table;
+mod weighing;
 
 pub use applying::{applied, apply};
 pub use laws::{a_cycle_is_endless, ranked_types_are_bounded};
