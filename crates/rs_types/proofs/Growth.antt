@@ -31,7 +31,7 @@ pub more_added : (cs mid after : List Case) → Grows cs mid → Grows mid after
 more_added cs mid after g h = record {
   more = g.more ++ h.more;
   is = h.is ∙ ap (λ x. x ++ h.more) g.is ∙ append_assoc cs g.more h.more;
-  new = both_new g.more h.more g.new h.new
+  new = both_new g.more h.more g.new h.new;
 }
 
 pub longer : (cs after : List Case) → Grows cs after → length cs ≤ length after

@@ -196,7 +196,7 @@ module _ (ds : List AdtDecl) where
         let at_c : slice_get (variants_at ds c.adt) k ≡ Some r.0 = subst (λ n. slice_get (variants_at ds n) k ≡ Some r.0) e r.1 in
         let within : AtMost b c.given ts = λ j v q lower_q n. h j v q (omega arith) n in
         let at_fields = subst (λ x. (p : Nests (declared_by ds) w (nth_ty (instances ts x) i)) → height p ≤ b → w ≤ 2 → w ≤ variants_weight References cs c.given (variants_at ds c.adt)) (sym r.2)
-            (λ p l m. variant_nests b cs (up b refl) c.given ts within (variants_at ds c.adt) a k r.0 at_c i w p l m) in
+        (λ p l m. variant_nests b cs (up b refl) c.given ts within (variants_at ds c.adt) a k r.0 at_c i w p l m) in
         subst (λ n. w ≤ n) s (at_fields p (omega arith) m)
 
     whole_cases : (b : ℕ) → ((e : ℕ) → suc e ≡ b → Each (IsWhole e) cs) → (left : List Case) → Each (IsSame References ds cs) left → EachAsked References ds cs left → Each (IsWhole b) left

@@ -204,7 +204,7 @@ module _ (ds : List AdtDecl) (cs values : List Case) (s : Settled question.Refer
     decl = c;
     there = at_index ds d c at l;
     refused = subst (λ o. Judges ds cs s values v bounded is_bounded is_endless d c o) is judged_here;
-    before = λ n x m f. before n x m f
+    before = λ n x m f. before n x m f;
   }
 
 pub all_good : (ds : List AdtDecl) (d : ℕ) → length ds ≤ d → GoodBefore ds d → AreAccepted ds

@@ -1,12 +1,12 @@
 //! Which declared types hold themselves other than in a box.
-ghost use Rattle.std.specs.Prelude.{◌≡◌, ◌<◌, ◌||◌, not, ℕ, IfOk, MatchOption, get_or, length, true, false};
-ghost use Rattle.rs_types.specs.Endless.{IsBounded, IsEndless, IsFirstEndless};
+ghost use Rattle.std.specs.Prelude.{◌≡◌, ◌||◌, not, ℕ, IfOk, get_or, length, true, false};
+ghost use Rattle.rs_types.specs.Endless.{IsBounded, IsEndless};
 ghost use Rattle.rs_types.specs.Growing.{bounded_grown, outside};
 ghost use Rattle.rs_types.specs.Holding.{in_some_variant, none};
 
 use crate::holding::{falses, held_params, same_row};
 use crate::standing::{Wanted, stands_in_variants};
-use logic_term::{AdtDecl, AdtId, VariantDecl};
+use logic_term::{AdtDecl, VariantDecl};
 use std::alloc::Global;
 use text_core::{Items, NoMemory};
 
@@ -52,18 +52,4 @@ pub(crate) fn bounded_types(alloc: Global, decls: &[AdtDecl]) -> Result<Vec<bool
         }
         set = next;
     }
-}
-
-/// The first declared type at which an endless chain of fields without a box begins; `None` exactly where at none.
-pub(crate) fn first_endless(alloc: Global, decls: &[AdtDecl]) -> Result<Option<AdtId>, NoMemory>
-    ensures { IfOk result (λ o. MatchOption o ((d : ℕ) → d < length decls.now → IsBounded decls.now d) (λ id. IsFirstEndless decls.now id.0)) }
-{
-    let bounded = bounded_types(alloc, decls)?;
-    for d in 0..decls.len() {
-        if !bounded[d] {
-            let number = u32::try_from(d).map_err(|_| NoMemory)?;
-            return Ok(Some(AdtId(number)));
-        }
-    }
-    Ok(None)
 }

@@ -1,4 +1,4 @@
-//! The declared types of a program: their table, types at types for their parameters, and which types hold themselves.
+//! The declared types of a program: their table, which are accepted, and types at types for their parameters.
 #![tactic(auto)]
 
 mod applying;

@@ -1,13 +1,11 @@
 //! The table of the declared types.
-ghost use Rattle.std.specs.Prelude.{◌≡◌, ◌∷◌, ◌++◌, [], ◌⊎◌, IfOk, IfErr, OnOk, OnErr, ℕ, ◌<◌, None, length, IsSome, MatchOption};
+ghost use Rattle.std.specs.Prelude.{◌≡◌, ◌∷◌, ◌++◌, [], ◌⊎◌, IfOk, IfErr, OnOk, OnErr, None, length, IsSome};
 ghost use Rattle.std.specs.Option.{option_map};
 ghost use Rattle.text_core.specs.declared.fault.PassError.TheVariants as errors;
 ghost use Rattle.text_core.specs.declared.refusal.SourceError.{SourceError};
 ghost use Rattle.rs_types.specs.Accepted.{AreAccepted, IsFirstRefusal};
-ghost use Rattle.rs_types.specs.Endless.{IsBounded, IsFirstEndless};
 ghost use Rattle.rs_types.specs.Table.{number_of, double_name};
 
-use crate::bounded::first_endless;
 use crate::closing::first_refusal;
 use logic_term::{AdtDecl, AdtId};
 use std::alloc::Global;
@@ -25,7 +23,6 @@ pub struct AdtTable {
 impl Model for AdtTable {
     ghost use Rattle.std.specs.Prelude.{List};
     ghost use Rattle.logic_term.specs.declared.declaration.AdtDecl.{AdtDecl as Decl};
-    ghost use Rattle.rs_types.specs.Endless.{IsBounded, IsFirstEndless};
     ghost use Rattle.rs_types.specs.Table.{HasNumbers};
 
     ghost Value = { List Decl };
@@ -116,13 +113,5 @@ impl AdtTable {
             None => Ok(()),
             Some(error) => Err(PassError::Source(error)),
         }
-    }
-
-    /// The first declared type that holds itself other than in a box, or that holds one that does: an endless chain of fields without a box
-    /// begins at it, type arguments being written out. `None` exactly where there is none.
-    pub fn endless(&self, alloc: Global) -> Result<Option<AdtId>, NoMemory>
-        ensures { IfOk result (λ o. MatchOption o ((d : ℕ) → d < length self.now → IsBounded self.now d) (λ id. IsFirstEndless self.now id.0)) }
-    {
-        first_endless(alloc, self.decls.as_slice())
     }
 }

@@ -14,7 +14,7 @@ loop-i-preserved c =
     let within : c.loop-i.i - 1 < length c.args.fields.now = omega (arith, c.loop-i-test.true, c.loop-i.auto.i) in
     let asked = c.in_ok-ask.ensures {u = tt} in
     let at_field : length c.ask.new.cases.items ≡ length c.loop-i.cases.items → IsAsked c.args.question c.loop-i.cases.items c.args.given.now c.index-fields-i.result.ty =
-        λ e. subst (λ x. IsAsked c.args.question c.loop-i.cases.items c.args.given.now x.ty) (sym c.index-fields-i.is) (asked.asked e) in
+    λ e. subst (λ x. IsAsked c.args.question c.loop-i.cases.items c.args.given.now x.ty) (sym c.index-fields-i.is) (asked.asked e) in
     one_more (λ x. IsAsked c.args.question x c.args.given.now c.index-fields-i.result.ty) c.args.cases.now.items c.loop-i.cases.items c.ask.new.cases.items c.loop-i.invariant.0 c.loop-i.invariant.1 asked.grows at_field
     (λ one rest. next_field c.args.question c.args.cases.now.items c.args.given.now c.args.fields.now (c.loop-i.i - 1) c.index-fields-i.result c.index-fields-i.is within one
     (subst (λ n. AreAsked c.args.question c.args.cases.now.items c.args.given.now (tys_of (map field_ty (drop n c.args.fields.now)))) (sym same) rest))

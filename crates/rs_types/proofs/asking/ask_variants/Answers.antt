@@ -15,7 +15,7 @@ loop-i-preserved c =
     let asked = c.in_ok-ask_fields.ensures {u = tt} in
     let fields : c.as_slice-fields.result.now ≡ c.index-variants-i.result.fields = search rules in
     let at_variant : length c.ask_fields.new.cases.items ≡ length c.loop-i.cases.items → AreAsked c.args.question c.loop-i.cases.items c.args.given.now (field_types c.index-variants-i.result) =
-        λ e. subst (λ x. AreAsked c.args.question c.loop-i.cases.items c.args.given.now (tys_of (map field_ty x))) fields (asked.asked e) in
+    λ e. subst (λ x. AreAsked c.args.question c.loop-i.cases.items c.args.given.now (tys_of (map field_ty x))) fields (asked.asked e) in
     one_more (λ x. AreAsked c.args.question x c.args.given.now (field_types c.index-variants-i.result)) c.args.cases.now.items c.loop-i.cases.items c.ask_fields.new.cases.items c.loop-i.invariant.0 c.loop-i.invariant.1 asked.grows at_variant
     (λ one rest. next_variant c.args.question c.args.cases.now.items c.args.given.now c.args.variants.now (c.loop-i.i - 1) c.index-variants-i.result c.index-variants-i.is within one
     (subst (λ n. AllAsked c.args.question c.args.cases.now.items c.args.given.now (drop n c.args.variants.now)) (sym same) rest))
