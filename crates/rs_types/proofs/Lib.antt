@@ -1,11 +1,17 @@
 pub mod Arguments
 pub mod Bounds
+pub mod Cases
 pub mod Endless
 pub mod Fields
 pub mod Grow
+pub mod Growth
 pub mod Lists
+pub mod Nested
 pub mod Numbers
 pub mod Ranked
+pub mod Refusals
 pub mod Rounds
 pub mod Sound
 pub mod Tests
+pub mod Valued
+pub mod Weighed

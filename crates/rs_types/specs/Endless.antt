@@ -1,5 +1,5 @@
 -- Declared types that hold themselves other than in a box (Rust Reference, "Recursive types": the size of a type is finite).
-use Rattle.std.specs.Prelude.{ℕ, ◌<◌, List, length}
+use Rattle.std.specs.Prelude.{ℕ, List}
 use Rattle.logic_term.specs.Ty.{Tys, adt}
 use Rattle.logic_term.specs.declared.declaration.AdtDecl.{AdtDecl}
 use Rattle.logic_term.specs.declared.kinds.Region.{Region}
@@ -13,9 +13,3 @@ IsBounded ds d = (rs : List Region) (m : ℕ) → Bounded (declared_by ds) (adt 
 -- one begins there, whatever its type arguments are
 abbrev pub IsEndless : List AdtDecl → ℕ → Type 0
 IsEndless ds d = (rs : List Region) (ts : Tys) → Bounded (declared_by ds) (adt (record { 0 = d }) rs ts) → ⊥
-
--- the first of the declared types where one begins
-pub record IsFirstEndless (ds : List AdtDecl) (d : ℕ) : Type 0 where
-  pub there : d < length ds
-  pub endless : IsEndless ds d
-  pub first : (e : ℕ) → e < d → IsBounded ds e

@@ -1,9 +1,15 @@
+pub mod Accepted
 pub mod Applied
 pub mod Bounded
 pub mod Endless
 pub mod Growing
+pub mod Heavy
 pub mod Holding
+pub mod Inhabited
 pub mod Laws
+pub mod Nesting
+pub mod Refused
 pub mod Standing
 pub mod Table
 pub mod Wanting
+pub mod Weighing

@@ -1,12 +1,12 @@
 //! Which declared types hold themselves other than in a box.
-ghost use Rattle.std.specs.Prelude.{◌≡◌, ◌<◌, ◌||◌, not, ℕ, IfOk, MatchOption, get_or, length, true, false};
-ghost use Rattle.rs_types.specs.Endless.{IsBounded, IsEndless, IsFirstEndless};
+ghost use Rattle.std.specs.Prelude.{◌≡◌, ◌||◌, not, ℕ, IfOk, get_or, length, true, false};
+ghost use Rattle.rs_types.specs.Endless.{IsBounded, IsEndless};
 ghost use Rattle.rs_types.specs.Growing.{bounded_grown, outside};
 ghost use Rattle.rs_types.specs.Holding.{in_some_variant, none};
 
 use crate::holding::{falses, held_params, same_row};
 use crate::standing::{Wanted, stands_in_variants};
-use logic_term::{AdtDecl, AdtId, VariantDecl};
+use logic_term::{AdtDecl, VariantDecl};
 use std::alloc::Global;
 use text_core::{Items, NoMemory};
 
@@ -38,7 +38,7 @@ fn bounded_round(
 
 /// For each declared type whether it is bounded.
 #[tactic(auto, using(crate::proofs::Bounds::falses_long, crate::proofs::Bounds::same_long, crate::proofs::Bounds::none_bounded_yet, crate::proofs::Bounds::still_bounded, crate::proofs::Bounds::less_bounded, crate::proofs::Bounds::first_bounded, crate::proofs::Bounds::rest_endless))]
-fn bounded_types(alloc: Global, decls: &[AdtDecl]) -> Result<Vec<bool>, NoMemory>
+pub(crate) fn bounded_types(alloc: Global, decls: &[AdtDecl]) -> Result<Vec<bool>, NoMemory>
     ensures len { IfOk result (λ v. length v.items ≡ length decls.now) }
     ensures bounded { IfOk result (λ v. (d : ℕ) → get_or v.items d true ≡ true → IsBounded decls.now d) }
     ensures endless { IfOk result (λ v. (d : ℕ) → get_or v.items d true ≡ false → IsEndless decls.now d) }
@@ -52,18 +52,4 @@ fn bounded_types(alloc: Global, decls: &[AdtDecl]) -> Result<Vec<bool>, NoMemory
         }
         set = next;
     }
-}
-
-/// The first declared type at which an endless chain of fields without a box begins; `None` exactly where at none.
-pub(crate) fn first_endless(alloc: Global, decls: &[AdtDecl]) -> Result<Option<AdtId>, NoMemory>
-    ensures { IfOk result (λ o. MatchOption o ((d : ℕ) → d < length decls.now → IsBounded decls.now d) (λ id. IsFirstEndless decls.now id.0)) }
-{
-    let bounded = bounded_types(alloc, decls)?;
-    for d in 0..decls.len() {
-        if !bounded[d] {
-            let number = u32::try_from(d).map_err(|_| NoMemory)?;
-            return Ok(Some(AdtId(number)));
-        }
-    }
-    Ok(None)
 }

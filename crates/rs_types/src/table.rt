@@ -1,11 +1,12 @@
 //! The table of the declared types.
-ghost use Rattle.std.specs.Prelude.{◌≡◌, ◌∷◌, ◌++◌, [], ◌⊎◌, IfOk, IfErr, OnOk, OnErr, ℕ, ◌<◌, None, length, IsSome, MatchOption};
+ghost use Rattle.std.specs.Prelude.{◌≡◌, ◌∷◌, ◌++◌, [], ◌⊎◌, IfOk, IfErr, OnOk, OnErr, None, length, IsSome};
 ghost use Rattle.std.specs.Option.{option_map};
 ghost use Rattle.text_core.specs.declared.fault.PassError.TheVariants as errors;
-ghost use Rattle.rs_types.specs.Endless.{IsBounded, IsFirstEndless};
+ghost use Rattle.text_core.specs.declared.refusal.SourceError.{SourceError};
+ghost use Rattle.rs_types.specs.Accepted.{AreAccepted, IsFirstRefusal};
 ghost use Rattle.rs_types.specs.Table.{number_of, double_name};
 
-use crate::bounded::first_endless;
+use crate::closing::first_refusal;
 use logic_term::{AdtDecl, AdtId};
 use std::alloc::Global;
 use std::collections::HashMap;
@@ -22,7 +23,6 @@ pub struct AdtTable {
 impl Model for AdtTable {
     ghost use Rattle.std.specs.Prelude.{List};
     ghost use Rattle.logic_term.specs.declared.declaration.AdtDecl.{AdtDecl as Decl};
-    ghost use Rattle.rs_types.specs.Endless.{IsBounded, IsFirstEndless};
     ghost use Rattle.rs_types.specs.Table.{HasNumbers};
 
     ghost Value = { List Decl };
@@ -97,11 +97,21 @@ impl AdtTable {
     {
         self.decls.as_slice()
     }
-    /// The first declared type that holds itself other than in a box, or that holds one that does: an endless chain of fields without a box
-    /// begins at it, type arguments being written out. `None` exactly where there is none.
-    pub fn endless(&self, alloc: Global) -> Result<Option<AdtId>, NoMemory>
-        ensures { IfOk result (λ o. MatchOption o ((d : ℕ) → d < length self.now → IsBounded self.now d) (λ id. IsFirstEndless self.now id.0)) }
+
+    /// Whether all declared types are accepted.
+    ///
+    /// # Errors
+    ///
+    /// What the first is refused for that is not: E09 at the first of its fields' types in which a reference stands in a reference, fields being
+    /// written out at their type arguments; else E10 at its name, where an endless chain of fields without a box begins at it, or it has no
+    /// value though its type arguments have.
+    pub fn close(&self, alloc: Global) -> Result<(), PassError>
+        ensures ok { OnOk result (AreAccepted self.now) }
+        ensures refused { IfErr result (λ e. (e ≡ errors.NoMemory) ⊎ ((refusal : SourceError) × (e ≡ errors.Source refusal) × IsFirstRefusal self.now refusal)) }
     {
-        first_endless(alloc, self.decls.as_slice())
+        match first_refusal(alloc, self.decls.as_slice())? {
+            None => Ok(()),
+            Some(error) => Err(PassError::Source(error)),
+        }
     }
 }

@@ -54,13 +54,15 @@ pub fn types(alloc: Global, text: &[u8]) -> Result<Vec<Ty>, NoMemory> {
 fn variant(alloc: Global, text: &[u8]) -> Result<VariantDecl, NoMemory> {
     let mut types = types(alloc, text)?;
     let mut fields = Items::new(alloc);
+    let mut start: u32 = 1000;
     for _ in 0..types.len() {
         let ty = types.pop().ok_or(NoMemory)?;
         fields.push(FieldDecl {
             name: Name(0),
             ty,
-            span: Span { start: 0, end: 0 },
+            span: Span { start, end: start },
         })?;
+        start = start.checked_add(1).ok_or(NoMemory)?;
     }
     Ok(VariantDecl {
         name: Name(0),
@@ -68,7 +70,8 @@ fn variant(alloc: Global, text: &[u8]) -> Result<VariantDecl, NoMemory> {
     })
 }
 
-/// A declared type with these variants, each by the types of its fields; its name's span begins at the name's number.
+/// A declared type with these variants, each by the types of its fields; its name's span begins at the name's number, and those of a variant's
+/// fields at 1000 and so on.
 pub fn decl(alloc: Global, name: u32, variants: &[&[u8]]) -> Result<AdtDecl, NoMemory> {
     let mut made = Items::new(alloc);
     for i in 0..variants.len() {

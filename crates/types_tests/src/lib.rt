@@ -4,6 +4,6 @@
 #[cfg(test)]
 mod build;
 #[cfg(test)]
-mod endless;
+mod closing;
 #[cfg(test)]
 mod tables;
