@@ -12,7 +12,6 @@ use text_core::{Items, Span};
 
 /// An expression of program code as it is written. Contracts see the tree of specs/Expr.antt.
 #[cycle(expr)]
-#[derive(Drop)]
 pub struct Expr {
     /// From its first token to its last; that of `(X)` is that of `X`.
     pub span: Span,
@@ -107,6 +106,46 @@ pub struct FieldExpr {
     pub span: Span,
     pub name: Segment,
     pub value: Expr,
+}
+
+// By a loop along the operands on the left, so that a long chain of operators does not run out of stack.
+impl Drop for Expr {
+    #[cycle(expr)]
+    fn drop(mut self) {
+        loop {
+            let Expr { span: _, node } = self;
+            match Box::into_inner(node) {
+                ExprNode::Unary(_, _, e) => self = e,
+                ExprNode::Int(_, _) | ExprNode::Truth(_) | ExprNode::Receiver => return,
+                ExprNode::Path(_path) => return,
+                ExprNode::Literal(_path, _fields) => return,
+                ExprNode::Tuple(_parts) => return,
+                ExprNode::Block(_statements) => return,
+                ExprNode::BlockWith(_others, e) => self = e,
+                ExprNode::If(_pattern, e, _body) => self = e,
+                ExprNode::IfElse(_pattern, e, _yes, _no) => self = e,
+                ExprNode::Match(e, _arms) => self = e,
+                ExprNode::While(_pattern, e, _body) => self = e,
+                ExprNode::Loop(e) => self = e,
+                ExprNode::Attributed(_attributes, e) => self = e,
+                ExprNode::Closure(_, _, _parameters, _ty, e) => self = e,
+                ExprNode::Return | ExprNode::Break | ExprNode::Continue => return,
+                ExprNode::ReturnWith(e) => self = e,
+                ExprNode::Panic(_, _) => return,
+                ExprNode::Ghost(_, _term) => return,
+                ExprNode::Assign(e, _right) => self = e,
+                ExprNode::Update(_, _, e, _right) => self = e,
+                ExprNode::Lazy(_, e, _right) => self = e,
+                ExprNode::Binary(_, _, e, _right) => self = e,
+                ExprNode::Cast(e, _ty) => self = e,
+                ExprNode::Borrow(_, e) => self = e,
+                ExprNode::Field(e, _, _types) => self = e,
+                ExprNode::Part(e, _) => self = e,
+                ExprNode::Method(e, _, _types, _arguments) => self = e,
+                ExprNode::Call(e, _operands) => self = e,
+            }
+        }
+    }
 }
 
 impl Model for Expr {

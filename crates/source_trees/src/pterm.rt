@@ -8,7 +8,6 @@ use text_core::{Name, Span};
 
 /// A term of a contract as it is written. Contracts see the tree of specs/Pterm.antt.
 #[cycle(pterm)]
-#[derive(Drop)]
 pub struct Pterm {
     /// From its first token to its last; that of `(X)` is that of `X`.
     pub span: Span,
@@ -68,6 +67,34 @@ pub struct TermArm {
     pub span: Span,
     pub pattern: Pat,
     pub body: Pterm,
+}
+
+// By a loop along the operands on the left, so that a long chain of operators does not run out of stack.
+impl Drop for Pterm {
+    #[cycle(pterm)]
+    fn drop(mut self) {
+        loop {
+            let Pterm { span: _, node } = self;
+            match Box::into_inner(node) {
+                PtermNode::Unary(_, t) => self = t,
+                PtermNode::Int(_, _) | PtermNode::Truth(_) | PtermNode::Answer(_) => return,
+                PtermNode::Receiver => return,
+                PtermNode::Path(_path) => return,
+                PtermNode::Binary(_, t, _right) => self = t,
+                PtermNode::MutRef(t, _last) => self = t,
+                PtermNode::Field(t, _) => self = t,
+                PtermNode::Part(t, _) => self = t,
+                PtermNode::Method(t, _, _arguments) => self = t,
+                PtermNode::Call(_, _operands) => return,
+                PtermNode::Literal(_, _fields) => return,
+                PtermNode::Tuple(_parts) => return,
+                PtermNode::If(t, _yes, _no) => self = t,
+                PtermNode::Match(t, _arms) => self = t,
+                PtermNode::Quantified(_, _binders, t) => self = t,
+                PtermNode::Predicate(_, _given) => return,
+            }
+        }
+    }
 }
 
 impl Model for Pterm {
