@@ -1,3 +1,6 @@
+ghost use Rattle.std.specs.Prelude.{◌<◌, IfSome};
+ghost use Rattle.source_trees.specs.ExprView.{expr_size};
+
 use crate::attribute::Attribute;
 use crate::operator::{GhostMacro, PanicMacro, UnaryOp};
 use crate::param::Param;
@@ -108,42 +111,42 @@ pub struct FieldExpr {
     pub value: Expr,
 }
 
-// By a loop along the operands on the left, so that a long chain of operators does not run out of stack.
+// By a loop down the left operands, since a chain of operations is as deep as it is long.
 impl Drop for Expr {
     #[cycle(expr)]
     fn drop(mut self) {
         loop {
-            let Expr { span: _, node } = self;
-            match Box::into_inner(node) {
-                ExprNode::Unary(_, _, e) => self = e,
-                ExprNode::Int(_, _) | ExprNode::Truth(_) | ExprNode::Receiver => return,
-                ExprNode::Path(_path) => return,
-                ExprNode::Literal(_path, _fields) => return,
-                ExprNode::Tuple(_parts) => return,
-                ExprNode::Block(_statements) => return,
-                ExprNode::BlockWith(_others, e) => self = e,
-                ExprNode::If(_pattern, e, _body) => self = e,
-                ExprNode::IfElse(_pattern, e, _yes, _no) => self = e,
-                ExprNode::Match(e, _arms) => self = e,
-                ExprNode::While(_pattern, e, _body) => self = e,
-                ExprNode::Loop(e) => self = e,
-                ExprNode::Attributed(_attributes, e) => self = e,
-                ExprNode::Closure(_, _, _parameters, _ty, e) => self = e,
-                ExprNode::Return | ExprNode::Break | ExprNode::Continue => return,
-                ExprNode::ReturnWith(e) => self = e,
-                ExprNode::Panic(_, _) => return,
-                ExprNode::Ghost(_, _term) => return,
-                ExprNode::Assign(e, _right) => self = e,
-                ExprNode::Update(_, _, e, _right) => self = e,
-                ExprNode::Lazy(_, e, _right) => self = e,
-                ExprNode::Binary(_, _, e, _right) => self = e,
-                ExprNode::Cast(e, _ty) => self = e,
-                ExprNode::Borrow(_, e) => self = e,
-                ExprNode::Field(e, _, _types) => self = e,
-                ExprNode::Part(e, _) => self = e,
-                ExprNode::Method(e, _, _types, _arguments) => self = e,
-                ExprNode::Call(e, _operands) => self = e,
+            match self.into_left() {
+                Some(left) => self = left,
+                None => return,
             }
+        }
+    }
+}
+
+impl Expr {
+    /// Its left operand, if it has one. All else of it is dropped.
+    #[cycle(expr)]
+    fn into_left(self) -> Option<Expr>
+        ensures { IfSome result (λ left. expr_size left < expr_size self) }
+    {
+        let Expr { span: _, node } = self;
+        match Box::into_inner(node) {
+            ExprNode::Unary(_, _, left) => Some(left),
+            ExprNode::Binary(_, _, left, _) => Some(left),
+            ExprNode::Lazy(_, left, _) => Some(left),
+            ExprNode::Update(_, _, left, _) => Some(left),
+            ExprNode::Cast(left, _) => Some(left),
+            ExprNode::Field(left, _, _) => Some(left),
+            ExprNode::Part(left, _) => Some(left),
+            ExprNode::Method(left, _, _types, _arguments) => Some(left),
+            ExprNode::Call(left, _arguments) => Some(left),
+            ExprNode::Literal(_path, _fields) => None,
+            ExprNode::Tuple(_parts) => None,
+            ExprNode::Block(_statements) => None,
+            ExprNode::BlockWith(_statements, _last) => None,
+            ExprNode::Match(_value, _arms) => None,
+            _other => None,
         }
     }
 }

@@ -1,3 +1,6 @@
+ghost use Rattle.std.specs.Prelude.{◌<◌, IfSome};
+ghost use Rattle.source_trees.specs.PtermView.{pterm_size};
+
 use crate::binder::Binder;
 use crate::operator::{BinaryTerm, Predicate, Quantifier, UnaryTerm};
 use crate::path::{Number, Path, Segment};
@@ -69,30 +72,38 @@ pub struct TermArm {
     pub body: Pterm,
 }
 
-// By a loop along the operands on the left, so that a long chain of operators does not run out of stack.
+// By a loop down the left operands, since a chain of operations is as deep as it is long.
 impl Drop for Pterm {
     #[cycle(pterm)]
     fn drop(mut self) {
         loop {
-            let Pterm { span: _, node } = self;
-            match Box::into_inner(node) {
-                PtermNode::Unary(_, t) => self = t,
-                PtermNode::Int(_, _) | PtermNode::Truth(_) | PtermNode::Answer(_) => return,
-                PtermNode::Receiver => return,
-                PtermNode::Path(_path) => return,
-                PtermNode::Binary(_, t, _right) => self = t,
-                PtermNode::MutRef(t, _last) => self = t,
-                PtermNode::Field(t, _) => self = t,
-                PtermNode::Part(t, _) => self = t,
-                PtermNode::Method(t, _, _arguments) => self = t,
-                PtermNode::Call(_, _operands) => return,
-                PtermNode::Literal(_, _fields) => return,
-                PtermNode::Tuple(_parts) => return,
-                PtermNode::If(t, _yes, _no) => self = t,
-                PtermNode::Match(t, _arms) => self = t,
-                PtermNode::Quantified(_, _binders, t) => self = t,
-                PtermNode::Predicate(_, _given) => return,
+            match self.into_left() {
+                Some(left) => self = left,
+                None => return,
             }
+        }
+    }
+}
+
+impl Pterm {
+    /// Its left operand, if it has one. All else of it is dropped.
+    #[cycle(pterm)]
+    fn into_left(self) -> Option<Pterm>
+        ensures { IfSome result (λ left. pterm_size left < pterm_size self) }
+    {
+        let Pterm { span: _, node } = self;
+        match Box::into_inner(node) {
+            PtermNode::Unary(_, left) => Some(left),
+            PtermNode::Binary(_, left, _) => Some(left),
+            PtermNode::Field(left, _) => Some(left),
+            PtermNode::Part(left, _) => Some(left),
+            PtermNode::Method(left, _, _arguments) => Some(left),
+            PtermNode::Call(_path, _arguments) => None,
+            PtermNode::Literal(_path, _fields) => None,
+            PtermNode::Tuple(_parts) => None,
+            PtermNode::Match(_value, _arms) => None,
+            PtermNode::Predicate(_, _arguments) => None,
+            _other => None,
         }
     }
 }
