@@ -1,3 +1,6 @@
+ghost use Rattle.std.specs.Prelude.{◌<◌, IfSome};
+ghost use Rattle.source_trees.specs.ExprView.{expr_size};
+
 use crate::attribute::Attribute;
 use crate::operator::{GhostMacro, PanicMacro, UnaryOp};
 use crate::param::Param;
@@ -12,7 +15,6 @@ use text_core::{Items, Span};
 
 /// An expression of program code as it is written. Contracts see the tree of specs/Expr.antt.
 #[cycle(expr)]
-#[derive(Drop)]
 pub struct Expr {
     /// From its first token to its last; that of `(X)` is that of `X`.
     pub span: Span,
@@ -107,6 +109,46 @@ pub struct FieldExpr {
     pub span: Span,
     pub name: Segment,
     pub value: Expr,
+}
+
+// By a loop down the left operands, since a chain of operations is as deep as it is long.
+impl Drop for Expr {
+    #[cycle(expr)]
+    fn drop(mut self) {
+        loop {
+            match self.into_left() {
+                Some(left) => self = left,
+                None => return,
+            }
+        }
+    }
+}
+
+impl Expr {
+    /// Its left operand, if it has one. All else of it is dropped.
+    #[cycle(expr)]
+    fn into_left(self) -> Option<Expr>
+        ensures { IfSome result (λ left. expr_size left < expr_size self) }
+    {
+        let Expr { span: _, node } = self;
+        match Box::into_inner(node) {
+            ExprNode::Unary(_, _, left) => Some(left),
+            ExprNode::Binary(_, _, left, _) => Some(left),
+            ExprNode::Lazy(_, left, _) => Some(left),
+            ExprNode::Update(_, _, left, _) => Some(left),
+            ExprNode::Cast(left, _) => Some(left),
+            ExprNode::Field(left, _, _) => Some(left),
+            ExprNode::Part(left, _) => Some(left),
+            ExprNode::Method(left, _, _types, _arguments) => Some(left),
+            ExprNode::Call(left, _arguments) => Some(left),
+            ExprNode::Literal(_path, _fields) => None,
+            ExprNode::Tuple(_parts) => None,
+            ExprNode::Block(_statements) => None,
+            ExprNode::BlockWith(_statements, _last) => None,
+            ExprNode::Match(_value, _arms) => None,
+            _other => None,
+        }
+    }
 }
 
 impl Model for Expr {

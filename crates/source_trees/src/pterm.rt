@@ -1,3 +1,6 @@
+ghost use Rattle.std.specs.Prelude.{◌<◌, IfSome};
+ghost use Rattle.source_trees.specs.PtermView.{pterm_size};
+
 use crate::binder::Binder;
 use crate::operator::{BinaryTerm, Predicate, Quantifier, UnaryTerm};
 use crate::path::{Number, Path, Segment};
@@ -8,7 +11,6 @@ use text_core::{Name, Span};
 
 /// A term of a contract as it is written. Contracts see the tree of specs/Pterm.antt.
 #[cycle(pterm)]
-#[derive(Drop)]
 pub struct Pterm {
     /// From its first token to its last; that of `(X)` is that of `X`.
     pub span: Span,
@@ -68,6 +70,42 @@ pub struct TermArm {
     pub span: Span,
     pub pattern: Pat,
     pub body: Pterm,
+}
+
+// By a loop down the left operands, since a chain of operations is as deep as it is long.
+impl Drop for Pterm {
+    #[cycle(pterm)]
+    fn drop(mut self) {
+        loop {
+            match self.into_left() {
+                Some(left) => self = left,
+                None => return,
+            }
+        }
+    }
+}
+
+impl Pterm {
+    /// Its left operand, if it has one. All else of it is dropped.
+    #[cycle(pterm)]
+    fn into_left(self) -> Option<Pterm>
+        ensures { IfSome result (λ left. pterm_size left < pterm_size self) }
+    {
+        let Pterm { span: _, node } = self;
+        match Box::into_inner(node) {
+            PtermNode::Unary(_, left) => Some(left),
+            PtermNode::Binary(_, left, _) => Some(left),
+            PtermNode::Field(left, _) => Some(left),
+            PtermNode::Part(left, _) => Some(left),
+            PtermNode::Method(left, _, _arguments) => Some(left),
+            PtermNode::Call(_path, _arguments) => None,
+            PtermNode::Literal(_path, _fields) => None,
+            PtermNode::Tuple(_parts) => None,
+            PtermNode::Match(_value, _arms) => None,
+            PtermNode::Predicate(_, _arguments) => None,
+            _other => None,
+        }
+    }
 }
 
 impl Model for Pterm {

@@ -1,0 +1,2 @@
+pub mod ExprDrops
+pub mod TermDrops
