@@ -1,18 +1,13 @@
+use crate::written::{X, term};
 use goal_text::{Spelling, goal_text};
 use logic_term::{
-    AdtDecl, AdtId, CompoundTy, Ctor, FieldDecl, Region, Sort, Term, Ty, TyNode, TyUnary,
-    VariantDecl,
+    AdtDecl, AdtId, CompoundTy, Ctor, FieldDecl, Region, Term, Ty, TyNode, TyUnary, VariantDecl,
 };
-use source_kinds::{ArithOp, IntKind};
+use source_kinds::IntKind;
 use std::alloc::Global;
-use std::process::Abort;
 use std::test::Fail;
 use text_core::name::{BOX, MEM, NONE, OPTION, SOME, SWAP};
 use text_core::{Items, Name, Names, NoMemory, Span};
-
-const X: Name = Name(70);
-
-const Y: Name = Name(50);
 
 const NOWHERE: Span = Span { start: 0, end: 0 };
 
@@ -26,122 +21,45 @@ fn plain_text(alloc: Global, goal: &Term) -> Result<Vec<u8>, NoMemory> {
     goal_text(alloc, &spelling, goal)
 }
 
-/// The text of the goal is this one.
-fn expect(rt: &impl Abort, alloc: Global, goal: Term, wanted: &[u8]) -> Result<(), NoMemory> {
-    let text = plain_text(alloc, &goal)?;
-    assert!(rt; text.as_slice() == wanted);
-    Ok(())
-}
-
-fn i32_sort() -> Sort {
-    Ty::int(IntKind::I32)
-}
-
-/// `name@ + 1`
-fn successor(alloc: Global, name: Name) -> Result<Term, NoMemory> {
-    let value = Term::model(alloc, Term::var(alloc, name)?)?;
-    Term::calculate(alloc, ArithOp::Add, value, Term::integer(alloc, 1)?)
-}
-
-/// The sum of `x` and 1 is an `i32`.
-fn sum_fits(alloc: Global) -> Result<Term, NoMemory> {
-    let least = Term::integer(alloc, -2147483648)?;
-    let above = Term::at_most(alloc, least, successor(alloc, X)?)?;
-    let greatest = Term::integer(alloc, 2147483647)?;
-    let below = Term::at_most(alloc, successor(alloc, X)?, greatest)?;
-    let both = Term::and(alloc, above, below)?;
-    Term::forall(alloc, X, i32_sort(), both)
-}
-
-/// What is one more than `x` is one more than `x`.
-fn sum_is_sum(alloc: Global) -> Result<Term, NoMemory> {
-    let left = Term::model(alloc, Term::var(alloc, Y)?)?;
-    let given = Term::equal(alloc, left, successor(alloc, X)?)?;
-    let left = Term::model(alloc, Term::var(alloc, Y)?)?;
-    let wanted = Term::equal(alloc, left, successor(alloc, X)?)?;
-    let implied = Term::implies(alloc, given, wanted)?;
-    let inner = Term::forall(alloc, Y, i32_sort(), implied)?;
-    Term::forall(alloc, X, i32_sort(), inner)
-}
-
-#[test]
-fn goals_of_a_sum(rt: HostRuntime) -> Result<(), Fail> {
-    let alloc = rt.alloc();
-    let fits =
-        b"(forall<v1: i32> (((-2147483648) <= (v1@ + 1)) && ((v1@ + 1) <= 2147483647)))".as_slice();
-    expect(&rt, alloc, sum_fits(alloc)?, fits)?;
-    let is_sum =
-        b"(forall<v1: i32> (forall<v2: i32> ((v2@ == (v1@ + 1)) ==> (v2@ == (v1@ + 1)))))".as_slice();
-    expect(&rt, alloc, sum_is_sum(alloc)?, is_sum)?;
-    Ok(())
-}
-
-fn one(alloc: Global) -> Result<Term, NoMemory> {
-    Term::integer(alloc, 1)
-}
-
-fn minus_two(alloc: Global) -> Result<Term, NoMemory> {
-    Term::integer(alloc, -2)
-}
-
-const ARITHMETIC: [(ArithOp, &[u8]); 5] = [
-    (ArithOp::Add, b"(1 + (-2))"),
-    (ArithOp::Sub, b"(1 - (-2))"),
-    (ArithOp::Mul, b"(1 * (-2))"),
-    (ArithOp::Div, b"(1 / (-2))"),
-    (ArithOp::Rem, b"(1 % (-2))"),
+/// Texts of terms (`written`), and what is printed of them.
+const FORMULAS: [(&[u8], &[u8]); 16] = [
+    (
+        b"X&lL+@x1l+@x1H",
+        b"(forall<v1: i32> (((-2147483648) <= (v1@ + 1)) && ((v1@ + 1) <= 2147483647)))",
+    ),
+    (
+        b"XY>=@y+@x1=@y+@x1",
+        b"(forall<v1: i32> (forall<v2: i32> ((v2@ == (v1@ + 1)) ==> (v2@ == (v1@ + 1)))))",
+    ),
+    (b"+1m", b"(1 + (-2))"),
+    (b"-1m", b"(1 - (-2))"),
+    (b"*1m", b"(1 * (-2))"),
+    (b"/1m", b"(1 / (-2))"),
+    (b"%1m", b"(1 % (-2))"),
+    (b"_1", b"(-1)"),
+    (b"<1m", b"(1 < (-2))"),
+    (b"l1m", b"(1 <= (-2))"),
+    (b"=1m", b"(1 == (-2))"),
+    (b"!T", b"(!true)"),
+    (b"&TF", b"(true && false)"),
+    (b"|TF", b"(true || false)"),
+    (b">TF", b"(true ==> false)"),
+    // Two binders of one name, with a name that is not bound within.
+    (b"XB=xy", b"(forall<v1: i32> (forall<v2: bool> (v2 == v0)))"),
 ];
 
+fn is_printed(alloc: Global, row: (&[u8], &[u8])) -> Result<bool, NoMemory> {
+    let text = plain_text(alloc, &term(alloc, row.0)?)?;
+    Ok(text.as_slice() == row.1)
+}
+
 #[test]
-fn arithmetic(rt: HostRuntime) -> Result<(), Fail> {
-    let alloc = rt.alloc();
-    for (op, wanted) in ARITHMETIC {
-        let goal = Term::calculate(alloc, op, one(alloc)?, minus_two(alloc)?)?;
-        expect(&rt, alloc, goal, wanted)?;
+fn formulas(rt: HostRuntime) -> Result<(), Fail> {
+    let mut at = 0u32;
+    for row in FORMULAS {
+        assert!(rt; is_printed(rt.alloc(), row)?, "row {at}");
+        at = at.wrapping_add(1);
     }
-    Ok(())
-}
-
-#[test]
-fn operators_of_numbers(rt: HostRuntime) -> Result<(), Fail> {
-    let alloc = rt.alloc();
-    expect(&rt, alloc, Term::negative(alloc, one(alloc)?)?, b"(-1)")?;
-    expect(
-        &rt,
-        alloc,
-        Term::less(alloc, one(alloc)?, minus_two(alloc)?)?,
-        b"(1 < (-2))",
-    )?;
-    expect(
-        &rt,
-        alloc,
-        Term::at_most(alloc, one(alloc)?, minus_two(alloc)?)?,
-        b"(1 <= (-2))",
-    )?;
-    expect(
-        &rt,
-        alloc,
-        Term::equal(alloc, one(alloc)?, minus_two(alloc)?)?,
-        b"(1 == (-2))",
-    )?;
-    Ok(())
-}
-
-#[test]
-fn operators_of_truths(rt: HostRuntime) -> Result<(), Fail> {
-    let alloc = rt.alloc();
-    expect(
-        &rt,
-        alloc,
-        Term::not(alloc, Term::truth(alloc, true)?)?,
-        b"(!true)",
-    )?;
-    let both = Term::and(alloc, Term::truth(alloc, true)?, Term::truth(alloc, false)?)?;
-    expect(&rt, alloc, both, b"(true && false)")?;
-    let either = Term::or(alloc, Term::truth(alloc, true)?, Term::truth(alloc, false)?)?;
-    expect(&rt, alloc, either, b"(true || false)")?;
-    let implied = Term::implies(alloc, Term::truth(alloc, true)?, Term::truth(alloc, false)?)?;
-    expect(&rt, alloc, implied, b"(true ==> false)")?;
     Ok(())
 }
 
@@ -167,24 +85,8 @@ fn literals(rt: HostRuntime) -> Result<(), Fail> {
     let alloc = rt.alloc();
     for (number, kind, wanted) in LITERALS {
         let literal = Term::lit(alloc, number, Ty::int(kind))?;
-        expect(&rt, alloc, literal, wanted)?;
+        assert!(rt; plain_text(alloc, &literal)?.as_slice() == wanted);
     }
-    Ok(())
-}
-
-/// Two binders of one name, with a name that is not bound within.
-#[test]
-fn inner_binder_counts(rt: HostRuntime) -> Result<(), Fail> {
-    let alloc = rt.alloc();
-    let equal = Term::equal(alloc, Term::var(alloc, X)?, Term::var(alloc, Y)?)?;
-    let inner = Term::forall(alloc, X, Ty::bool(), equal)?;
-    let goal = Term::forall(alloc, X, i32_sort(), inner)?;
-    expect(
-        &rt,
-        alloc,
-        goal,
-        b"(forall<v1: i32> (forall<v2: bool> (v2 == v0)))",
-    )?;
     Ok(())
 }
 
@@ -230,68 +132,32 @@ fn sorts(alloc: Global, count: usize) -> Result<Vec<Ty>, NoMemory> {
     Ok(sorts)
 }
 
-/// `bool` within another type.
-fn around_bool(alloc: Global, op: TyUnary) -> Result<Ty, NoMemory> {
-    Ty::compound(alloc, CompoundTy::Unary(op, Ty::bool()))
-}
-
 const TUPLES: [(usize, &[u8]); 3] = [
     (0, b"(forall<v1: ()> true)"),
     (1, b"(forall<v1: (Int,)> true)"),
     (2, b"(forall<v1: (Int, bool)> true)"),
 ];
 
+/// `bool` within another type.
+const AROUND: [(TyUnary, &[u8]); 5] = [
+    (TyUnary::Boxed, b"(forall<v1: Box<bool>> true)"),
+    (TyUnary::Shared(Region(1)), b"(forall<v1: &bool> true)"),
+    (TyUnary::Unique(Region(1)), b"(forall<v1: &mut bool> true)"),
+    (TyUnary::View, b"(forall<v1: View<bool>> true)"),
+    (TyUnary::Snapshot, b"(forall<v1: Snapshot<bool>> true)"),
+];
+
 #[test]
-fn tuple_sorts(rt: HostRuntime) -> Result<(), Fail> {
+fn sorts_of_sorts(rt: HostRuntime) -> Result<(), Fail> {
     let alloc = rt.alloc();
     for (parts, wanted) in TUPLES {
         let node = TyNode::Tuple(sorts(alloc, parts)?);
-        expect_sort(&rt, alloc, Ty { node }, wanted)?;
+        assert!(rt; sort_text(alloc, Ty { node })?.as_slice() == wanted);
     }
-    Ok(())
-}
-
-/// `true` for each value of the sort is this text.
-fn expect_sort(rt: &impl Abort, alloc: Global, sort: Ty, wanted: &[u8]) -> Result<(), NoMemory> {
-    let text = sort_text(alloc, sort)?;
-    assert!(rt; text.as_slice() == wanted);
-    Ok(())
-}
-
-#[test]
-fn sorts_around_a_sort(rt: HostRuntime) -> Result<(), Fail> {
-    let alloc = rt.alloc();
-    let region = Region(1);
-    expect_sort(
-        &rt,
-        alloc,
-        around_bool(alloc, TyUnary::Boxed)?,
-        b"(forall<v1: Box<bool>> true)",
-    )?;
-    expect_sort(
-        &rt,
-        alloc,
-        around_bool(alloc, TyUnary::Shared(region))?,
-        b"(forall<v1: &bool> true)",
-    )?;
-    expect_sort(
-        &rt,
-        alloc,
-        around_bool(alloc, TyUnary::Unique(region))?,
-        b"(forall<v1: &mut bool> true)",
-    )?;
-    expect_sort(
-        &rt,
-        alloc,
-        around_bool(alloc, TyUnary::View)?,
-        b"(forall<v1: View<bool>> true)",
-    )?;
-    expect_sort(
-        &rt,
-        alloc,
-        around_bool(alloc, TyUnary::Snapshot)?,
-        b"(forall<v1: Snapshot<bool>> true)",
-    )?;
+    for (op, wanted) in AROUND {
+        let sort = Ty::compound(alloc, CompoundTy::Unary(op, Ty::bool()))?;
+        assert!(rt; sort_text(alloc, sort)?.as_slice() == wanted);
+    }
     Ok(())
 }
 

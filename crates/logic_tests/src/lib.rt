@@ -8,8 +8,6 @@ mod depth;
 #[cfg(test)]
 mod goals;
 #[cfg(test)]
-mod products;
-#[cfg(test)]
 mod proof_files;
 #[cfg(test)]
 mod rows;
@@ -17,3 +15,5 @@ mod rows;
 mod steps;
 #[cfg(test)]
 mod terms;
+#[cfg(test)]
+mod written;

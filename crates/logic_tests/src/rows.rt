@@ -1,197 +1,125 @@
-use logic_term::{Label2, Term, Ty};
+use crate::written::{X, Y, term};
+use logic_term::{Label2, Ty};
+use proof_kernel::LinAnswer::{Closes, Fails, TooWide};
+use proof_kernel::Reference::{Back, Goal, Hyp};
 use proof_kernel::{LinAnswer, Multiple, Reference, Sequent, certifies};
-use source_kinds::{ArithOp, IntKind};
+use source_kinds::IntKind;
 use std::alloc::Global;
 use std::test::Fail;
-use text_core::{Name, NoMemory};
+use text_core::NoMemory;
+
+const ONE: Label2 = Label2 { step: 1, part: 1 };
+
+const TWO: Label2 = Label2 { step: 1, part: 2 };
+
+/// No hypothesis has this label.
+const NO_LABEL: Label2 = Label2 { step: 1, part: 3 };
 
 const MAX: i128 = i128::MAX;
 
-const LOW: i128 = -2147483648;
-
-/// An `i32`.
-const X: Name = Name(0);
-/// An `Int`.
-const Y: Name = Name(1);
-
-/// `x@`.
-fn x(alloc: Global) -> Result<Term, NoMemory> {
-    Term::model(alloc, Term::var(alloc, X)?)
-}
-
-fn y(alloc: Global) -> Result<Term, NoMemory> {
-    Term::var(alloc, Y)
-}
-
-fn sum(alloc: Global, a: Term, b: Term) -> Result<Term, NoMemory> {
-    Term::calculate(alloc, ArithOp::Add, a, b)
-}
-
-fn less(alloc: Global, one: i128, other: i128) -> Result<Term, NoMemory> {
-    Term::less(
-        alloc,
-        Term::integer(alloc, one)?,
-        Term::integer(alloc, other)?,
-    )
-}
-
-fn label(part: u32) -> Label2 {
-    Label2 { step: 1, part }
-}
-
-/// The hypotheses have the labels 1.1 and 1.2.
-fn sequent(alloc: Global, one: Term, two: Term, goal: Term) -> Result<Sequent, NoMemory> {
-    let q = Sequent::new(alloc, goal)?;
-    let q = q.declaring(alloc, X, Ty::int(IntKind::I32))?;
-    let q = q.declaring(alloc, Y, Ty::math_int())?;
-    let q = q.assuming(alloc, label(1), one)?;
-    q.assuming(alloc, label(2), two)
-}
-
-fn multiple(by: i128, of: Reference) -> Multiple {
-    Multiple { by, of }
-}
-
-/// So many times the goal's row, that of the first hypothesis, and that of the second.
-fn times(by: [i128; 3]) -> [Multiple; 3] {
-    let [goal, one, two] = by;
-    [
-        multiple(goal, Reference::Goal),
-        multiple(one, Reference::Hyp(label(1))),
-        multiple(two, Reference::Hyp(label(2))),
-    ]
-}
-
-fn at_least_low(alloc: Global, t: Term) -> Result<Term, NoMemory> {
-    Term::at_most(alloc, Term::integer(alloc, LOW)?, t)
-}
-
-/// `x@ + 1`.
-fn successor(alloc: Global) -> Result<Term, NoMemory> {
-    let t = x(alloc)?;
-    sum(alloc, t, Term::integer(alloc, 1)?)
-}
+/// Two hypotheses, 1.1 and 1.2, a goal, how often each row is taken, and what they come to.
+type Row = ([&'static [u8]; 3], &'static [(i128, Reference)], LinAnswer);
 
 /// From -2147483648 <= x@ and x@ < 100 that -2147483648 <= x@ + 1: x + 2147483648, 99 - x, and -x - 2147483650 for the goal.
-fn lower_bound(alloc: Global) -> Result<Sequent, NoMemory> {
-    let t = x(alloc)?;
-    let one = at_least_low(alloc, t)?;
-    let t = x(alloc)?;
-    let two = Term::less(alloc, t, Term::integer(alloc, 100)?)?;
-    let t = successor(alloc)?;
-    let goal = at_least_low(alloc, t)?;
-    sequent(alloc, one, two, goal)
-}
-
-const BOUNDS: [([i128; 3], LinAnswer); 4] = [
-    ([1, 1, 0], LinAnswer::Closes),
-    ([1, 0, 1], LinAnswer::Fails),
-    ([-1, -1, 0], LinAnswer::Fails),
-    ([MAX, MAX, 0], LinAnswer::TooWide),
-];
-
-#[test]
-fn bounds(rt: HostRuntime) -> Result<(), Fail> {
-    let q = lower_bound(rt.alloc())?;
-    for (by, want) in BOUNDS {
-        let got = certifies(rt.alloc(), &q, &times(by))?;
-        assert!(rt; got == want, "{} times the goal", by[0]);
-    }
-    Ok(())
-}
+const BOUNDS: [&[u8]; 3] = [b"lL@x", b"<@xc", b"lL+@x1"];
 
 /// From x = x, of machine integers, and a formula without a row, that 2 < 3.
-fn without_rows(alloc: Global) -> Result<Sequent, NoMemory> {
-    let one = Term::equal(alloc, Term::var(alloc, X)?, Term::var(alloc, X)?)?;
-    let goal = less(alloc, 2, 3)?;
-    sequent(alloc, one, Term::truth(alloc, true)?, goal)
-}
-
-/// What has no row closes nothing, whatever the multipliers.
-#[test]
-fn references_without_a_row(rt: HostRuntime) -> Result<(), Fail> {
-    let q = without_rows(rt.alloc())?;
-    let goal = multiple(1, Reference::Goal);
-    for (at, of) in [
-        (0, Reference::Hyp(label(1))),
-        (1, Reference::Back(label(1))),
-        (2, Reference::Hyp(label(2))),
-        (3, Reference::Hyp(label(3))),
-    ] {
-        let got = certifies(rt.alloc(), &q, &[goal, multiple(0, of)])?;
-        assert!(rt; got == LinAnswer::Fails, "row {at}");
-    }
-    Ok(())
-}
-
-/// x@ is not below y.
-fn not_below(alloc: Global) -> Result<Term, NoMemory> {
-    let t = x(alloc)?;
-    let below = Term::less(alloc, t, y(alloc)?)?;
-    Term::not(alloc, below)
-}
+const NO_ROWS: [&[u8]; 3] = [b"=xx", b"T", b"<23"];
 
 /// From y = 5, which is y - 5 or 5 - y, and x - y, that 4 < x@: 4 - x for the goal.
-fn equality(alloc: Global) -> Result<Sequent, NoMemory> {
-    let one = Term::equal(alloc, y(alloc)?, Term::integer(alloc, 5)?)?;
-    let two = not_below(alloc)?;
-    let t = x(alloc)?;
-    let goal = Term::less(alloc, Term::integer(alloc, 4)?, t)?;
-    sequent(alloc, one, two, goal)
+const EQUALITY: [&[u8]; 3] = [b"=y5", b"!<@xy", b"<4@x"];
+
+/// From y + y <= 4, which is 4 - 2y, that y, written in a long way, is below 3: y - 3 for the goal. In the other a number passes 128 bits.
+const REPEATED: [&[u8]; 3] = [b"l+yy4", b"l+M1y", b"<_-y+yy3"];
+
+const LINEAR: [Row; 13] = [
+    (BOUNDS, &[(1, Goal), (1, Hyp(ONE)), (0, Hyp(TWO))], Closes),
+    (BOUNDS, &[(1, Goal), (0, Hyp(ONE)), (1, Hyp(TWO))], Fails),
+    (BOUNDS, &[(-1, Goal), (-1, Hyp(ONE))], Fails),
+    (BOUNDS, &[(MAX, Goal), (MAX, Hyp(ONE))], TooWide),
+    // What has no row closes nothing, whatever the multipliers.
+    (NO_ROWS, &[(1, Goal), (0, Hyp(ONE))], Fails),
+    (NO_ROWS, &[(1, Goal), (0, Back(ONE))], Fails),
+    (NO_ROWS, &[(1, Goal), (0, Hyp(TWO))], Fails),
+    (NO_ROWS, &[(1, Goal), (0, Hyp(NO_LABEL))], Fails),
+    (
+        EQUALITY,
+        &[(1, Goal), (1, Hyp(TWO)), (1, Back(ONE))],
+        Closes,
+    ),
+    (EQUALITY, &[(1, Goal), (1, Hyp(TWO)), (1, Hyp(ONE))], Fails),
+    (EQUALITY, &[(1, Goal), (1, Hyp(TWO)), (1, Back(TWO))], Fails),
+    (REPEATED, &[(2, Goal), (1, Hyp(ONE))], Closes),
+    (
+        REPEATED,
+        &[(2, Goal), (1, Hyp(ONE)), (0, Hyp(TWO))],
+        TooWide,
+    ),
+];
+
+/// From x@ <= 5, which is 5 - x, that 2 * x@ <= 10: 2x - 11 for the goal.
+const DOUBLED: [&[u8]; 3] = [b"l@x5", b"T", b"l*2@xt"];
+
+/// From x@ * y@ <= 10, which is 10 - xy, that (x@ + 1) * y@ <= 10 + y@: xy - 11 for the goal.
+const MULTIPLIED: [&[u8]; 3] = [b"l*@x@yt", b"T", b"l*+@x1@y+t@y"];
+
+const PRODUCTS: [Row; 13] = [
+    (DOUBLED, &[(1, Goal), (2, Hyp(ONE))], Closes),
+    (DOUBLED, &[(1, Goal), (1, Hyp(ONE))], Fails),
+    (MULTIPLIED, &[(1, Goal), (1, Hyp(ONE))], Closes),
+    (MULTIPLIED, &[(1, Goal), (2, Hyp(ONE))], Fails),
+    // 2 * 3
+    ([b"T", b"T", b"l*236"], &[(1, Goal)], Closes),
+    ([b"T", b"T", b"l*235"], &[(1, Goal)], Fails),
+    // Monomials are the same whatever the order of their factors.
+    ([b"T", b"T", b"l*@x@y*@y@x"], &[(1, Goal)], Closes),
+    ([b"T", b"T", b"l*@x@x*@y@x"], &[(1, Goal)], Fails),
+    // by * (MAX * x@) <= 0
+    ([b"T", b"T", b"l*1*M@x0"], &[(1, Goal)], Fails),
+    ([b"T", b"T", b"l*2*M@x0"], &[(1, Goal)], TooWide),
+    // (x@ + MAX) * (x@ + 1) <= 0, in which x has the coefficient 1, and then MAX more.
+    ([b"T", b"T", b"l*+@xM+@x10"], &[(1, Goal)], TooWide),
+    // Atoms are compared up to bound names: one binds z, and the other w.
+    ([b"T", b"T", b"l@Z=zx@W=wx"], &[(1, Goal)], Closes),
+    ([b"T", b"T", b"l@Z=zx@W=wy"], &[(1, Goal)], Fails),
+];
+
+/// The variables are an `i32` and an `Int`.
+fn sequent(alloc: Global, texts: [&[u8]; 3]) -> Result<Sequent, NoMemory> {
+    let [one, two, goal] = texts;
+    let q = Sequent::new(alloc, term(alloc, goal)?)?;
+    let q = q.declaring(alloc, X, Ty::int(IntKind::I32))?;
+    let q = q.declaring(alloc, Y, Ty::math_int())?;
+    let q = q.assuming(alloc, ONE, term(alloc, one)?)?;
+    q.assuming(alloc, TWO, term(alloc, two)?)
 }
 
-/// Equalities of integers both ways, and what is denied.
+fn comes_to(alloc: Global, row: Row) -> Result<bool, NoMemory> {
+    let (texts, times, want) = row;
+    let mut multiples = Vec::with_capacity(alloc, times.len())?;
+    for (by, of) in times {
+        multiples.push(Multiple { by: *by, of: *of })?;
+    }
+    let q = sequent(alloc, texts)?;
+    Ok(certifies(alloc, &q, multiples.as_slice())? == want)
+}
+
 #[test]
-fn both_ways(rt: HostRuntime) -> Result<(), Fail> {
-    let q = equality(rt.alloc())?;
-    let [goal, _, denied] = times([1, 0, 1]);
-    for (at, of, want) in [
-        (0, Reference::Back(label(1)), LinAnswer::Closes),
-        (1, Reference::Hyp(label(1)), LinAnswer::Fails),
-        (2, Reference::Back(label(2)), LinAnswer::Fails),
-    ] {
-        let got = certifies(rt.alloc(), &q, &[goal, denied, multiple(1, of)])?;
-        assert!(rt; got == want, "row {at}");
+fn linear_rows(rt: HostRuntime) -> Result<(), Fail> {
+    let mut at = 0u32;
+    for row in LINEAR {
+        assert!(rt; comes_to(rt.alloc(), row)?, "row {at}");
+        at = at.wrapping_add(1);
     }
     Ok(())
 }
 
-/// -(y - (y + y)).
-fn turned(alloc: Global) -> Result<Term, NoMemory> {
-    let t = sum(alloc, y(alloc)?, y(alloc)?)?;
-    let t = Term::calculate(alloc, ArithOp::Sub, y(alloc)?, t)?;
-    Term::negative(alloc, t)
-}
-
-/// MAX + 1 <= y.
-fn past_the_width(alloc: Global) -> Result<Term, NoMemory> {
-    let t = sum(alloc, Term::integer(alloc, MAX)?, Term::integer(alloc, 1)?)?;
-    Term::at_most(alloc, t, y(alloc)?)
-}
-
-/// From y + y <= 4, which is 4 - 2y, that y, written in a long way, is below 3: y - 3 for the goal.
-fn repeated(alloc: Global) -> Result<Sequent, NoMemory> {
-    let t = sum(alloc, y(alloc)?, y(alloc)?)?;
-    let one = Term::at_most(alloc, t, Term::integer(alloc, 4)?)?;
-    let two = past_the_width(alloc)?;
-    let t = turned(alloc)?;
-    let goal = Term::less(alloc, t, Term::integer(alloc, 3)?)?;
-    sequent(alloc, one, two, goal)
-}
-
-/// An atom that stands twice in a term.
 #[test]
-fn an_atom_stands_twice(rt: HostRuntime) -> Result<(), Fail> {
-    let q = repeated(rt.alloc())?;
-    let [goal, one, _] = times([2, 1, 0]);
-    assert!(rt; certifies(rt.alloc(), &q, &[goal, one])? == LinAnswer::Closes);
-    Ok(())
-}
-
-/// A number that passes 128 bits within a term, of which no multiple is taken.
-#[test]
-fn a_term_is_too_wide(rt: HostRuntime) -> Result<(), Fail> {
-    let q = repeated(rt.alloc())?;
-    assert!(rt; certifies(rt.alloc(), &q, &times([2, 1, 0]))? == LinAnswer::TooWide);
+fn products(rt: HostRuntime) -> Result<(), Fail> {
+    let mut at = 0u32;
+    for row in PRODUCTS {
+        assert!(rt; comes_to(rt.alloc(), row)?, "row {at}");
+        at = at.wrapping_add(1);
+    }
     Ok(())
 }

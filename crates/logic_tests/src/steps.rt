@@ -1,16 +1,12 @@
 ghost use Rattle.std.specs.Prelude.{◌≡◌, ◌+◌, ◌<◌, IfOk, OnOk};
 
+use crate::written::{X, Y, term};
 use logic_term::{Goal, Label2, Obligation, Term, Ty};
 use proof_kernel::{Kernel, Multiple, Reference, Step, StepError, Tables};
 use source_kinds::IntKind;
 use std::alloc::Global;
 use std::test::Fail;
-use text_core::{Items, Kind, Name, NoMemory, Span, Text};
-
-/// An `i32`.
-const X: Name = Name(1000);
-
-const Y: Name = Name(1001);
+use text_core::{Items, Kind, NoMemory, Span, Text};
 
 fn obligation(alloc: Global, goal: Term) -> Result<Obligation, NoMemory> {
     Ok(Obligation {
@@ -24,15 +20,10 @@ fn obligation(alloc: Global, goal: Term) -> Result<Obligation, NoMemory> {
     })
 }
 
-/// `x@` is below this.
-fn is_below(alloc: Global, bound: i128) -> Result<Term, NoMemory> {
-    let value = Term::model(alloc, Term::var(alloc, X)?)?;
-    Term::less(alloc, value, Term::integer(alloc, bound)?)
-}
-
-/// For each `x` of `i32`: where `x@` is below 100, the goal.
-fn below_gives(alloc: Global, goal: Term) -> Result<Obligation, NoMemory> {
-    let body = Term::implies(alloc, is_below(alloc, 100)?, goal)?;
+/// For each `x` of `i32`: where `x@` is below 100, the goal of the text.
+fn below_gives(alloc: Global, goal: &[u8]) -> Result<Obligation, NoMemory> {
+    let below = term(alloc, b"<@xc")?;
+    let body = Term::implies(alloc, below, term(alloc, goal)?)?;
     obligation(alloc, Term::forall(alloc, X, Ty::int(IntKind::I32), body)?)
 }
 
@@ -62,7 +53,7 @@ fn second<'a>(
 }
 
 /// Why this is refused as the second step, if it is.
-fn refusal(alloc: Global, goal: Term, step: &Step) -> Result<Option<StepError>, NoMemory> {
+fn refusal(alloc: Global, goal: &[u8], step: &Step) -> Result<Option<StepError>, NoMemory> {
     let obligation = below_gives(alloc, goal)?;
     let tables = Tables::new(alloc);
     Ok(second(alloc, &obligation, &tables, step).err())
@@ -84,7 +75,7 @@ fn lin(alloc: Global, by: i128) -> Result<Step, NoMemory> {
 #[test]
 fn a_whole_proof(rt: HostRuntime) -> Result<(), Fail> {
     let alloc = rt.alloc();
-    let obligation = below_gives(alloc, is_below(alloc, 100)?)?;
+    let obligation = below_gives(alloc, b"<@xc")?;
     let tables = Tables::new(alloc);
     let mut kernel = Kernel::new(alloc, &obligation, &tables)?;
     let intro = Step::Intro(Items::from_slice(alloc, &[Y])?);
@@ -97,8 +88,7 @@ fn a_whole_proof(rt: HostRuntime) -> Result<(), Fail> {
 #[test]
 fn split_leaves_two(rt: HostRuntime) -> Result<(), Fail> {
     let alloc = rt.alloc();
-    let goal = Term::and(alloc, is_below(alloc, 100)?, is_below(alloc, 101)?)?;
-    let obligation = below_gives(alloc, goal)?;
+    let obligation = below_gives(alloc, b"&<@xc<@xe")?;
     let tables = Tables::new(alloc);
     let mut kernel = second(alloc, &obligation, &tables, &Step::Split)?;
     apply(&mut kernel, alloc, &Step::Hyp(Label2 { step: 1, part: 1 }))?;
@@ -111,7 +101,7 @@ fn split_leaves_two(rt: HostRuntime) -> Result<(), Fail> {
 #[test]
 fn range_adds_two_hypotheses(rt: HostRuntime) -> Result<(), Fail> {
     let alloc = rt.alloc();
-    let obligation = below_gives(alloc, is_below(alloc, 100)?)?;
+    let obligation = below_gives(alloc, b"<@xc")?;
     let tables = Tables::new(alloc);
     let kernel = second(alloc, &obligation, &tables, &Step::Range(X))?;
     let q = kernel.first().ok_or("closed")?;
@@ -122,7 +112,7 @@ fn range_adds_two_hypotheses(rt: HostRuntime) -> Result<(), Fail> {
 #[test]
 fn lin_closes(rt: HostRuntime) -> Result<(), Fail> {
     let alloc = rt.alloc();
-    let obligation = below_gives(alloc, is_below(alloc, 101)?)?;
+    let obligation = below_gives(alloc, b"<@xe")?;
     let tables = Tables::new(alloc);
     let kernel = second(alloc, &obligation, &tables, &lin(alloc, 1)?)?;
     assert!(rt; kernel.closed());
@@ -132,7 +122,7 @@ fn lin_closes(rt: HostRuntime) -> Result<(), Fail> {
 #[test]
 fn a_number_is_too_wide(rt: HostRuntime) -> Result<(), Fail> {
     let alloc = rt.alloc();
-    let refused = refusal(alloc, is_below(alloc, 101)?, &lin(alloc, i128::MAX)?)?;
+    let refused = refusal(alloc, b"<@xe", &lin(alloc, i128::MAX)?)?;
     assert!(rt; matches!(refused, Some(StepError::TooWide { step: 2 })));
     Ok(())
 }
@@ -140,7 +130,7 @@ fn a_number_is_too_wide(rt: HostRuntime) -> Result<(), Fail> {
 #[test]
 fn no_rule_fits(rt: HostRuntime) -> Result<(), Fail> {
     let alloc = rt.alloc();
-    let refused = refusal(alloc, is_below(alloc, 101)?, &Step::Split)?;
+    let refused = refusal(alloc, b"<@xe", &Step::Split)?;
     assert!(rt; matches!(refused, Some(StepError::RuleFails { step: 2 })));
     Ok(())
 }
@@ -149,7 +139,7 @@ fn no_rule_fits(rt: HostRuntime) -> Result<(), Fail> {
 fn a_step_cites_itself(rt: HostRuntime) -> Result<(), Fail> {
     let alloc = rt.alloc();
     let own = Step::Hyp(Label2 { step: 2, part: 1 });
-    let refused = refusal(alloc, is_below(alloc, 100)?, &own)?;
+    let refused = refusal(alloc, b"<@xc", &own)?;
     assert!(rt; matches!(refused, Some(StepError::UnknownStep { step: 2 })));
     Ok(())
 }

@@ -1,3 +1,4 @@
+use crate::written::{X, Y, term};
 use logic_term::{
     AdtId, CompoundTy, Ctor, Region, Renaming, Replacement, Term, Ty, TyNode, reduce,
 };
@@ -5,10 +6,6 @@ use source_kinds::{ArithOp, IntKind};
 use std::alloc::Global;
 use std::test::Fail;
 use text_core::{Name, NoMemory};
-
-const X: Name = Name(5);
-
-const Y: Name = Name(7);
 
 /// `Tree<'1, (u8, last)>`
 fn tree_of(alloc: Global, last: TyNode) -> Result<Ty, NoMemory> {
@@ -21,19 +18,6 @@ fn tree_of(alloc: Global, last: TyNode) -> Result<Ty, NoMemory> {
     })?;
     let regions = Vec::from_slice(alloc, &[Region(1)])?;
     Ty::compound(alloc, CompoundTy::Adt(AdtId(3), regions, types))
-}
-
-/// `forall bound: i32. left == bound`
-fn all_equal(alloc: Global, left: Name, bound: Name) -> Result<Term, NoMemory> {
-    let body = Term::equal(alloc, Term::var(alloc, left)?, Term::var(alloc, bound)?)?;
-    Term::forall(alloc, bound, Ty::int(IntKind::I32), body)
-}
-
-/// `forall bound: i32. bound@ <= most`
-fn all_at_most(alloc: Global, bound: Name, most: i128) -> Result<Term, NoMemory> {
-    let left = Term::model(alloc, Term::var(alloc, bound)?)?;
-    let body = Term::at_most(alloc, left, Term::integer(alloc, most)?)?;
-    Term::forall(alloc, bound, Ty::int(IntKind::I32), body)
 }
 
 const RANGES: [(IntKind, i128, i128); 5] = [
@@ -87,7 +71,7 @@ fn is_shared(alloc: Global, t: &Term) -> Result<bool, NoMemory> {
 #[test]
 fn names_in_terms(rt: HostRuntime) -> Result<(), Fail> {
     let alloc = rt.alloc();
-    let t = all_equal(alloc, X, Y)?;
+    let t = term(alloc, b"Y=xy")?;
     assert!(rt; is_shared(alloc, &t)?);
     assert!(rt; t.above(alloc)? == 8);
     for (name, free) in [(X, true), (Y, false), (Name(8), false)] {
@@ -110,30 +94,20 @@ fn becomes(
 #[test]
 fn no_name_is_captured(rt: HostRuntime) -> Result<(), Fail> {
     let alloc = rt.alloc();
-    let t = all_equal(alloc, X, Y)?;
-    let wanted = all_equal(alloc, Y, Name(8))?;
+    let t = term(alloc, b"Y=xy")?;
+    let bound = Term::equal(alloc, Term::var(alloc, Y)?, Term::var(alloc, Name(8))?)?;
+    let wanted = Term::forall(alloc, Name(8), Ty::int(IntKind::I32), bound)?;
     assert!(rt; becomes(alloc, &t, X, &Term::var(alloc, Y)?, &wanted)?);
     Ok(())
-}
-
-/// Whether `forall x. x@ <= 1` and `forall y. y@ <= most` are the same up to the names that they bind.
-fn same_bounds(alloc: Global, most: i128) -> Result<bool, NoMemory> {
-    let other = all_at_most(alloc, Y, most)?;
-    all_at_most(alloc, X, 1)?.same_up_to_names(alloc, &other)
 }
 
 #[test]
 fn bound_names(rt: HostRuntime) -> Result<(), Fail> {
     let alloc = rt.alloc();
-    assert!(rt; same_bounds(alloc, 1)?);
-    assert!(rt; !same_bounds(alloc, 2)?);
+    let t = term(alloc, b"Xl@x1")?;
+    assert!(rt; t.same_up_to_names(alloc, &term(alloc, b"Yl@y1")?)?);
+    assert!(rt; !t.same_up_to_names(alloc, &term(alloc, b"Yl@y2")?)?);
     Ok(())
-}
-
-/// `left + x@`
-fn sum_of(alloc: Global, left: Term) -> Result<Term, NoMemory> {
-    let right = Term::model(alloc, Term::var(alloc, X)?)?;
-    Term::calculate(alloc, ArithOp::Add, left, right)
 }
 
 fn reduces(alloc: Global, t: &Term, wanted: &Term) -> Result<bool, NoMemory> {
@@ -145,9 +119,8 @@ fn reduces(alloc: Global, t: &Term, wanted: &Term) -> Result<bool, NoMemory> {
 fn normal_form(rt: HostRuntime) -> Result<(), Fail> {
     let alloc = rt.alloc();
     let one = Term::model(alloc, Term::lit(alloc, 1, Ty::int(IntKind::I32))?)?;
-    let sum = sum_of(alloc, one)?;
-    let wanted = sum_of(alloc, Term::integer(alloc, 1)?)?;
-    assert!(rt; reduces(alloc, &sum, &wanted)?);
+    let sum = Term::calculate(alloc, ArithOp::Add, one, term(alloc, b"@x")?)?;
+    assert!(rt; reduces(alloc, &sum, &term(alloc, b"+1@x")?)?);
     Ok(())
 }
 
@@ -209,7 +182,7 @@ fn names_change_places(rt: HostRuntime) -> Result<(), Fail> {
 #[test]
 fn what_leads(rt: HostRuntime) -> Result<(), Fail> {
     let alloc = rt.alloc();
-    let all = all_at_most(alloc, X, 1)?;
+    let all = term(alloc, b"Xl@x1")?;
     assert!(rt; all.as_forall().is_some() && all.as_implication().is_none());
     let known = Term::implies(alloc, all.share()?, all)?;
     assert!(rt; known.as_implication().is_some() && known.as_forall().is_none());

@@ -1,0 +1,133 @@
+//! Terms of short texts, an operator standing before its parts.
+use logic_term::{Term, Ty};
+use source_kinds::{ArithOp, IntKind};
+use std::alloc::Global;
+use text_core::{Name, NoMemory};
+
+/// The names `x`, `y`, `z` and `w`.
+pub const X: Name = Name(5);
+
+pub const Y: Name = Name(7);
+
+pub const Z: Name = Name(3);
+
+pub const W: Name = Name(9);
+
+fn variable(letter: u8) -> Option<Name> {
+    Some(match letter {
+        b'x' => X,
+        b'y' => Y,
+        b'z' => Z,
+        b'w' => W,
+        _ => return None,
+    })
+}
+
+/// A digit; `t`, `c` and `e` for 10, 100 and 101, `m` for -2, `L` and `H` for the bounds of `i32`, and `M` for the largest of 128 bits.
+fn number(letter: u8) -> Option<i128> {
+    Some(match letter {
+        b'0'..=b'9' => i128::from(letter - b'0'),
+        b't' => 10,
+        b'c' => 100,
+        b'e' => 101,
+        b'm' => -2,
+        b'L' => -2147483648,
+        b'H' => 2147483647,
+        b'M' => i128::MAX,
+        _ => return None,
+    })
+}
+
+/// What stands alone: a name, a number, `T` and `F`.
+fn leaf(alloc: Global, letter: u8) -> Result<Option<Term>, NoMemory> {
+    if let Some(name) = variable(letter) {
+        return Ok(Some(Term::var(alloc, name)?));
+    }
+    if let Some(number) = number(letter) {
+        return Ok(Some(Term::integer(alloc, number)?));
+    }
+    match letter {
+        b'T' => Ok(Some(Term::truth(alloc, true)?)),
+        b'F' => Ok(Some(Term::truth(alloc, false)?)),
+        _ => Ok(None),
+    }
+}
+
+/// `X` and `Y`: for each `i32`; `B`: for each truth value `x`; `Z` and `W`: for each integer.
+fn quantified(alloc: Global, letter: u8, body: Term) -> Result<Term, NoMemory> {
+    match letter {
+        b'X' => Term::forall(alloc, X, Ty::int(IntKind::I32), body),
+        b'Y' => Term::forall(alloc, Y, Ty::int(IntKind::I32), body),
+        b'B' => Term::forall(alloc, X, Ty::bool(), body),
+        b'Z' => Term::forall(alloc, Z, Ty::math_int(), body),
+        b'W' => Term::forall(alloc, W, Ty::math_int(), body),
+        _ => Err(NoMemory),
+    }
+}
+
+/// `@` for the model, `_` for the negative, `!`, and quantifiers.
+fn unary(alloc: Global, letter: u8, t: Term) -> Result<Term, NoMemory> {
+    match letter {
+        b'@' => Term::model(alloc, t),
+        b'_' => Term::negative(alloc, t),
+        b'!' => Term::not(alloc, t),
+        _ => quantified(alloc, letter, t),
+    }
+}
+
+fn arithmetic(letter: u8) -> Option<ArithOp> {
+    Some(match letter {
+        b'+' => ArithOp::Add,
+        b'-' => ArithOp::Sub,
+        b'*' => ArithOp::Mul,
+        b'/' => ArithOp::Div,
+        b'%' => ArithOp::Rem,
+        _ => return None,
+    })
+}
+
+/// The operators of arithmetic, `<`, `l` for at most, `=`, `&`, `|`, and `>` for an implication.
+fn binary(alloc: Global, letter: u8, a: Term, b: Term) -> Result<Term, NoMemory> {
+    if let Some(op) = arithmetic(letter) {
+        return Term::calculate(alloc, op, a, b);
+    }
+    match letter {
+        b'<' => Term::less(alloc, a, b),
+        b'l' => Term::at_most(alloc, a, b),
+        b'=' => Term::equal(alloc, a, b),
+        b'&' => Term::and(alloc, a, b),
+        b'|' => Term::or(alloc, a, b),
+        b'>' => Term::implies(alloc, a, b),
+        _ => Err(NoMemory),
+    }
+}
+
+fn is_binary(letter: u8) -> bool {
+    matches!(
+        letter,
+        b'+' | b'-' | b'*' | b'/' | b'%' | b'<' | b'l' | b'=' | b'&' | b'|' | b'>'
+    )
+}
+
+/// The term that begins with the letter, its parts on top, the first one topmost.
+fn made(alloc: Global, letter: u8, stack: &mut Vec<Term>) -> Result<Term, NoMemory> {
+    if let Some(t) = leaf(alloc, letter)? {
+        return Ok(t);
+    }
+    let a = stack.pop().ok_or(NoMemory)?;
+    if !is_binary(letter) {
+        return unary(alloc, letter, a);
+    }
+    let b = stack.pop().ok_or(NoMemory)?;
+    binary(alloc, letter, a, b)
+}
+
+/// The term of the text.
+pub fn term(alloc: Global, text: &[u8]) -> Result<Term, NoMemory> {
+    let mut stack = Vec::with_capacity(alloc, text.len())?;
+    for i in 0..text.len() {
+        let t = made(alloc, text[text.len() - 1 - i], &mut stack)?;
+        stack.push(t)?;
+    }
+    stack.pop().ok_or(NoMemory)
+}
