@@ -73,9 +73,9 @@ fn on_operand(
 ) -> Result<Expr, NoMemory>
     ensures { IfOk result (λ e. e ≡ on_operand start attributes expr) }
 {
-    let Expr { span, node } = expr;
+    let (span, node) = expr.into_parts();
     let whole = across(start, span);
-    match taken_apart(Box::into_inner(node)) {
+    match taken_apart(node) {
         Ok((operand, suffix)) => {
             let operand = on_operand(alloc, start, attributes, operand)?;
             applied(alloc, whole, operand, suffix)

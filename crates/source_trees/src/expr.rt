@@ -1,5 +1,5 @@
-ghost use Rattle.std.specs.Prelude.{◌<◌, IfSome};
-ghost use Rattle.source_trees.specs.ExprView.{expr_size};
+ghost use Rattle.std.specs.Prelude.{◌≡◌, ◌<◌, IfSome};
+ghost use Rattle.source_trees.specs.ExprView.{expr_of, expr_size};
 
 use crate::attribute::Attribute;
 use crate::operator::{GhostMacro, PanicMacro, UnaryOp};
@@ -125,6 +125,14 @@ impl Drop for Expr {
 }
 
 impl Expr {
+    /// Its span, and what it is at its top.
+    pub fn into_parts(self) -> (Span, ExprNode)
+        ensures { expr_of result.0 result.1 ≡ self }
+    {
+        let Expr { span, node } = self;
+        (span, Box::into_inner(node))
+    }
+
     /// Its left operand, if it has one. All else of it is dropped.
     #[cycle(expr)]
     fn into_left(self) -> Option<Expr>
