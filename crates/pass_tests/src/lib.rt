@@ -2,6 +2,8 @@
 #![tactic(auto)]
 
 #[cfg(test)]
+mod depth;
+#[cfg(test)]
 mod functions;
 #[cfg(test)]
 mod lowering;
