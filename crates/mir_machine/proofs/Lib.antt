@@ -2,6 +2,7 @@ pub mod Coming
 pub mod Depths
 pub mod GivenTypes
 pub mod NeverStuck
+pub mod Places
 pub mod Scalars
 pub mod Shown
 pub mod Stepping

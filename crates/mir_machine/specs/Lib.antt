@@ -8,6 +8,7 @@ pub mod Halt
 pub mod Laws
 pub mod Memory
 pub mod NextView
+pub mod Places
 pub mod Reads
 pub mod Run
 pub mod RunCode

@@ -8,6 +8,7 @@ mod frame;
 mod halt;
 mod laws;
 mod machine;
+mod memory;
 mod next;
 mod operands;
 mod outcome;
