@@ -8,4 +8,5 @@ pub mod Shown
 pub mod Stepping
 pub mod TakenOperands
 pub mod Tried
+pub mod Undoing
 pub mod Wholes

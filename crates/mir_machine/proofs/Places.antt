@@ -161,7 +161,7 @@ frame_at-behind f bs n other =
 set_frame-running : {K : Type 0} (f g : Frame K) (fs : State K) (n : ℕ) → n ≡ length fs → set_frame (f ∷ fs) n g ≡ g ∷ fs
 set_frame-running f g fs n e = ap (λ b. cond b (g ∷ fs) (f ∷ set_frame fs n g)) (eq-eqb n (length fs) e)
 
-set_end : {A : Type 0} (xs : List A) (x y : A) (n : ℕ) → n ≡ length xs → slice_set (xs ++ x ∷ []) n y ≡ xs ++ y ∷ []
+pub set_end : {A : Type 0} (xs : List A) (x y : A) (n : ℕ) → n ≡ length xs → slice_set (xs ++ x ∷ []) n y ≡ xs ++ y ∷ []
 set_end [] x y zero h = refl
 set_end [] x y (suc n) h = absurd (omega arith)
 set_end (z ∷ xs) x y zero h = absurd (omega arith)

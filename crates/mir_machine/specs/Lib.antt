@@ -15,6 +15,7 @@ pub mod RunCode
 pub mod RunView
 pub mod ScalarView
 pub mod Step
+pub mod Taken
 pub mod Tree
 pub mod TreeCode
 pub mod TreeFalls

@@ -16,6 +16,7 @@ mod run_error;
 mod running;
 mod scalar;
 mod spot;
+mod taken;
 mod tree;
 
 pub use args::Args;

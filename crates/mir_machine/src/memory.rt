@@ -3,6 +3,7 @@ ghost use Rattle.mir_machine.specs.Halt.{Comes};
 ghost use Rattle.mir_machine.specs.Memory.{child, tree_in, put_in, frame_at, tree_at, put_at, down, onward, spot_of};
 ghost use Rattle.mir_ir.specs.declared.place.Proj.TheVariants.{Deref};
 ghost use Rattle.mir_machine.specs.Places.{tree_in_list, put_in_list, put_in_frame, in_variant};
+ghost use Rattle.mir_machine.specs.Taken.{statement_of};
 ghost use Rattle.mir_machine.specs.Try.{need};
 ghost use Rattle.mir_machine.specs.TreeView.{pointer_of};
 
@@ -132,6 +133,7 @@ pub fn tree_at<'a>(state: &'a State, at: &Spot) -> Result<&'a Tree, Halt>
 fn put_in_frame(frame: &mut Frame, at: &Spot, tree: Tree) -> Result<Tree, Halt>
     ensures old { Comes result (tree_in_list frame.old.locals at.now.local at.now.path) (λ t. t) }
     ensures new { Comes result (put_in_frame frame.old at.now tree) (λ _. frame.new) }
+    ensures stays { frame.new.statement ≡ frame.old.statement }
     ensures memory { result ≢ Err Halt.NoMemory }
 {
     put_in_list(&mut frame.locals, at.local, at.path.as_slice(), tree)
@@ -141,6 +143,7 @@ fn put_in_frame(frame: &mut Frame, at: &Spot, tree: Tree) -> Result<Tree, Halt>
 pub fn put_at(state: &mut State, at: &Spot, tree: Tree) -> Result<Tree, Halt>
     ensures old { Comes result (tree_at state.old at.now) (λ t. t) }
     ensures new { Comes result (put_at state.old at.now tree) (λ _. state.new) }
+    ensures stays { statement_of state.new ≡ statement_of state.old }
     ensures memory { result ≢ Err Halt.NoMemory }
 {
     let count = state.behind.len();
