@@ -40,7 +40,8 @@ fn fit(kind: Option<IntKind>, span: Span, exact: Option<i128>) -> Result<Tree, H
     }
 }
 
-fn truth(b: bool) -> Tree
+/// The tree of a truth value.
+pub fn truth(b: bool) -> Tree
     ensures { result ≡ Truth b }
 {
     Tree {

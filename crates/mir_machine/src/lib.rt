@@ -16,6 +16,7 @@ mod run_error;
 mod running;
 mod scalar;
 mod spot;
+mod statements;
 mod taken;
 mod tree;
 

@@ -17,7 +17,8 @@ use std::alloc::Global;
 use std::mem;
 use text_core::{Items, NoMemory};
 
-fn nth(trees: &[Tree], n: u32) -> Result<&Tree, Halt>
+/// Tree n of a list.
+pub fn nth(trees: &[Tree], n: u32) -> Result<&Tree, Halt>
     ensures tree { Comes result (need (slice_get trees.now n)) (λ t. t.now) }
     ensures memory { result ≢ Err Halt.NoMemory }
 {

@@ -40,7 +40,7 @@ fn kind_of_ground(ty: &Ty) -> Option<IntKind>
 }
 
 /// The integer kind of a type, at types for the type parameters.
-fn kind_of(ty: &Ty, types: &[Ty]) -> Option<IntKind>
+pub fn kind_of(ty: &Ty, types: &[Ty]) -> Option<IntKind>
     ensures { result ≡ kind_of (instance (tys_of types.now) ty.now) }
 {
     match &ty.node {

@@ -8,6 +8,7 @@ ghost use Rattle.mir_machine.specs.Try.{Yields};
 ghost use Rattle.mir_machine.specs.Tree.{Tree as Shape, Gone};
 ghost use Rattle.mir_machine.specs.Taken.{take_one, take_more, IsEven, Undoes, GoesBack, put_back, statement_of};
 
+use crate::entry::gone;
 use crate::frame::State;
 use crate::halt::Halt;
 use crate::memory::{put_at, spot_of, tree_at};
@@ -58,14 +59,6 @@ fn literal(lit: Lit) -> Tree
         Lit::Bool(b) => TreeNode::Bool(b),
     };
     Tree { node }
-}
-
-fn gone() -> Tree
-    ensures { result ≡ Gone }
-{
-    Tree {
-        node: TreeNode::Gone,
-    }
 }
 
 /// The tree itself, where there is one.
