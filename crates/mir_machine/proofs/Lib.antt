@@ -5,6 +5,7 @@ pub mod NeverStuck
 pub mod Places
 pub mod Scalars
 pub mod Shown
+pub mod Returns
 pub mod RightSides
 pub mod Stepping
 pub mod TakenOperands

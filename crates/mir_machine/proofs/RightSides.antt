@@ -1,11 +1,15 @@
 -- Right sides, by the trees of their operands.
-use Rattle.std.proofs.Common.{◌≡◌, ◌∙◌, refl, sym, ap, subst, Result, Bool, ℤ, List, [], ◌∷◌, ◌++◌, append_assoc, slice_get, Option, None}
+use Rattle.std.proofs.Common.{◌≡◌, ◌∙◌, refl, sym, ap, subst, Result, Bool, cond, ℤ, List, [], ◌∷◌, ◌++◌, append_assoc, slice_get, Option, None}
 use Rattle.text_core.specs.declared.refusal.Cause.{Cause}
 use Rattle.text_core.specs.declared.span.Span.{Span}
 use Rattle.source_kinds.specs.declared.kinds.IntKind.{IntKind}
 use Rattle.source_kinds.specs.declared.kinds.BinaryOp.{BinaryOp}
-use Rattle.logic_term.specs.Ty.{Ty}
-use Rattle.mir_ir.specs.Body.{whole}
+use Rattle.logic_term.specs.Ty.{Ty, Tys}
+use Rattle.logic_term.specs.declared.kinds.Label.{Label}
+use Rattle.mir_ir.specs.Body.{whole, place_ty, kind_in}
+use Rattle.mir_ir.specs.declared.body.Body.{Body}
+use Rattle.mir_ir.specs.declared.statement.StatementKind.{StatementKind}
+use Rattle.mir_ir.specs.declared.statement.StatementKind.TheVariants.{Assign, Dead}
 use Rattle.mir_ir.specs.declared.place.Place.{Place}
 use Rattle.mir_ir.specs.declared.place.Proj.{Proj}
 use Rattle.mir_ir.specs.declared.place.Operand.{Operand}
@@ -16,12 +20,12 @@ use Rattle.mir_machine.specs.declared.halt.Halt.{Halt}
 use Rattle.mir_machine.specs.declared.halt.Halt.TheVariants as halt
 use Rattle.mir_machine.specs.Halt.{Stops, Comes}
 use Rattle.mir_machine.specs.Try.{Try, Yields, Panics, Sticks, ◌>>=◌, need}
-use Rattle.mir_machine.specs.Tree.{Tree, Int, Truth, Made, Boxed, Shared, Unique, Gone, trees_of}
+use Rattle.mir_machine.specs.Tree.{Tree, Int, Truth, Made, Boxed, Shared, Unique, Gone}
 use Rattle.mir_machine.specs.Frame.{State}
 use Rattle.mir_machine.specs.Memory.{spot_of, put_at, write}
-use Rattle.mir_machine.specs.Step.{operand, operands, rvalue, binary, negated, inverted, truth_of}
+use Rattle.mir_machine.specs.Step.{operand, operands, rvalue, binary, negated, inverted, truth_of, at_label, past, statement_step}
 use Rattle.mir_machine.specs.FrameStep.{scalar}
-use Rattle.mir_machine.specs.Taken.{take_one, take_more, operands_of, value_of, assigned}
+use Rattle.mir_machine.specs.Taken.{take_one, take_more, operands_of, value_of, assigned, changed, branched}
 use Rattle.mir_machine.proofs.Coming.{stops_then}
 use Rattle.mir_machine.proofs.Undoing.{yields_same}
 use Rattle.mir_machine.proofs.Wholes.{then_then, then_same}
@@ -285,3 +289,52 @@ put_goes s s₁ s' ts us t at kind span r p none e is_t is_at goes = assigned-at
 pub written_stops : (h : Halt) (s s₁ : S) (ts us : List T) (t : T) (kind : Option IntKind) (span : Span) (r : Rvalue) (p : Place) → ts ≡ [] → take_more s ts (operands_of r) ≡ Yields (s₁, us) → value_of kind span r us ≡ Yields t → Stops h (spot_of s₁ p) → Stops h (assigned s kind span r p)
 written_stops h s s₁ ts us t kind span r p none e is_t stops =
     subst (Stops h) (sym (assigned-taken s s₁ ts us kind span r p none e ∙ ap (λ (m : Try T). m >>= λ t. write s₁ p t) is_t)) (stops_then h (spot_of s₁ p) (λ at. put_at s₁ at t) stops)
+
+-- ---- statements
+
+statement-row : (b : Body) (θ : Tys) (s : S) (span : Span) (kind : StatementKind) → statement_step b θ s span kind ≡ (changed b θ s span kind >>= past)
+statement-row b θ s span (Assign p r) =
+    let write_it : One → Try S = λ q. write q.0 p q.1 in
+    sym (then_then (rvalue s (kind_in (place_ty b θ p)) span r) write_it past)
+statement-row b θ s span (Dead x) = refl
+
+pub statement_stops : (h : Halt) (b : Body) (θ : Tys) (s : S) (span : Span) (kind : StatementKind) → Stops h (changed b θ s span kind) → Stops h (statement_step b θ s span kind)
+statement_stops h b θ s span kind e = subst (Stops h) (sym (statement-row b θ s span kind)) (stops_then h (changed b θ s span kind) past e)
+
+pub statement_goes : (b : Body) (θ : Tys) (s s₁ s' : S) (span : Span) (kind : StatementKind) → changed b θ s span kind ≡ Yields s₁ → past s₁ ≡ Yields s' → statement_step b θ s span kind ≡ Yields s'
+statement_goes b θ s s₁ s' span kind e h = statement-row b θ s span kind ∙ ap (λ (m : Try S). m >>= past) e ∙ h
+
+-- ---- choices
+
+known_one : (m : Try One) (us : List T) (s₁ : S) (g : One → Try S) → (m >>= added []) ≡ Yields (s₁, us) → (m >>= g) ≡ (need (slice_get us 0) >>= λ t. g (s₁, t))
+known_one (Panics c p) us s₁ g e = absurd (cc)
+known_one Sticks us s₁ g e = absurd (cc)
+known_one (Yields r) us s₁ g e =
+    let pair = same_taken (r.0, r.1 ∷ []) (s₁, us) e in
+    ap (λ (q : Several). need (slice_get q.1 0) >>= λ t. g (q.0, t)) pair
+
+abbrev chosen : Label → Label → One → Try S
+chosen on_true on_false r = truth_of r.1 >>= λ b. at_label (cond b on_true on_false) r.0
+
+branch_known : (s s₁ : S) (ts us : List T) (o : Operand) (on_true on_false : Label) → ts ≡ [] → take_one s ts o ≡ Yields (s₁, us) → branched s o on_true on_false ≡ (need (slice_get us 0) >>= λ t. chosen on_true on_false (s₁, t))
+branch_known s s₁ ts us o on_true on_false none e = known_one (operand s o) us s₁ (chosen on_true on_false) (ap (λ vs. take_one s vs o) (sym none) ∙ e)
+
+pub branch_stops : (h : Halt) (s : S) (ts : List T) (o : Operand) (on_true on_false : Label) → Stops h (take_one s ts o) → Stops h (branched s o on_true on_false)
+branch_stops h s ts o on_true on_false e =
+    let shown : One → Several = λ r. (r.0, ts ++ r.1 ∷ []) in
+    stops_with h (operand s o) shown (chosen on_true on_false) e
+
+pub branch_gone : (h : Halt) (s s₁ : S) (ts us : List T) (o : Operand) (on_true on_false : Label) → ts ≡ [] → take_one s ts o ≡ Yields (s₁, us) → Stops h (need (slice_get us 0)) → Stops h (branched s o on_true on_false)
+branch_gone h s s₁ ts us o on_true on_false none e stops =
+    subst (Stops h) (sym (branch_known s s₁ ts us o on_true on_false none e)) (stops_then h (need (slice_get us 0)) (λ t. chosen on_true on_false (s₁, t)) stops)
+
+pub branch_untrue : (h : Halt) (s s₁ : S) (ts us : List T) (t : T) (o : Operand) (on_true on_false : Label) → ts ≡ [] → take_one s ts o ≡ Yields (s₁, us) → need (slice_get us 0) ≡ Yields t → Stops h (truth_of t) → Stops h (branched s o on_true on_false)
+branch_untrue h s s₁ ts us t o on_true on_false none e is_t stops =
+    subst (Stops h) (sym (branch_known s s₁ ts us o on_true on_false none e ∙ ap (λ (m : Try T). m >>= λ t. chosen on_true on_false (s₁, t)) is_t))
+    (stops_then h (truth_of t) (λ b. at_label (cond b on_true on_false) s₁) stops)
+
+pub branch_goes : (s s₁ s' : S) (ts us : List T) (t : T) (b : Bool) (o : Operand) (on_true on_false to : Label) → ts ≡ [] → take_one s ts o ≡ Yields (s₁, us) → need (slice_get us 0) ≡ Yields t → truth_of t ≡ Yields b → to ≡ cond b on_true on_false → at_label to s₁ ≡ Yields s'
+    → branched s o on_true on_false ≡ Yields s'
+branch_goes s s₁ s' ts us t b o on_true on_false to none e is_t is_b is_to goes =
+    branch_known s s₁ ts us o on_true on_false none e ∙ ap (λ (m : Try T). m >>= λ t. chosen on_true on_false (s₁, t)) is_t
+    ∙ ap (λ (m : Try Bool). m >>= λ b. at_label (cond b on_true on_false) s₁) is_b ∙ ap (λ l. at_label l s₁) (sym is_to) ∙ goes

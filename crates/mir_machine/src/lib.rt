@@ -3,6 +3,7 @@
 
 mod args;
 mod arithmetic;
+mod ends;
 mod entry;
 mod frame;
 mod halt;

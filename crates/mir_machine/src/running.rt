@@ -239,7 +239,7 @@ fn step_frame(alloc: Global, bodies: &Bodies, frame: &mut Frame) -> Result<Next,
 }
 
 /// The block in which the frame stands.
-fn block_of<'a>(bodies: &'a Bodies, frame: &Frame) -> Option<&'a Block>
+pub fn block_of<'a>(bodies: &'a Bodies, frame: &Frame) -> Option<&'a Block>
     ensures { option_copied result ≡ frame_block bodies.now frame.now }
 {
     bodies

@@ -1,11 +1,11 @@
-ghost use Rattle.std.specs.Prelude.{◌≡◌, ◌≢◌, [], Err, OnOk, slice_get};
+ghost use Rattle.std.specs.Prelude.{◌≡◌, ◌≢◌, ◌<◌, ◌^◌, [], Err, OnOk, slice_get};
 ghost use Rattle.logic_term.specs.TyView.{tys_of};
 ghost use Rattle.mir_ir.specs.Body.{kind_in, place_ty};
 ghost use Rattle.mir_machine.specs.Halt.{Comes};
 ghost use Rattle.mir_machine.specs.Memory.{write};
-ghost use Rattle.mir_machine.specs.Step.{binary, negated, truth_of};
-ghost use Rattle.mir_machine.specs.Try.{need};
-ghost use Rattle.mir_machine.specs.Taken.{take_more, operands_of, value_of, assigned, IsEven, GoesBack, statement_of};
+ghost use Rattle.mir_machine.specs.Step.{binary, negated, truth_of, past, statement_step};
+ghost use Rattle.mir_machine.specs.Try.{Yields, need};
+ghost use Rattle.mir_machine.specs.Taken.{take_more, operands_of, value_of, assigned, changed, types_of, IsEven, GoesBack, statement_of};
 
 use crate::arithmetic::{negate, operate, truth, truth_of};
 use crate::entry::gone;
@@ -17,11 +17,11 @@ use crate::scalar::scalar_of;
 use crate::taken::{Taken, take, take_all};
 use crate::tree::{Tree, TreeNode};
 use logic_term::Ty;
-use mir_ir::{Body, Place, Rvalue};
+use mir_ir::{Body, Place, Rvalue, Statement, StatementKind};
 use source_kinds::{BinaryOp, IntKind};
 use std::alloc::Global;
 use std::mem;
-use text_core::Span;
+use text_core::{Items, Span};
 
 /// The kind of the integers of a place; of a whole local alone it is known.
 #[tactic(auto, using(crate::proofs::RightSides::no_whole))]
@@ -166,5 +166,62 @@ fn assign(
     let trees = mem::replace(&mut taken.trees, Vec::new(alloc));
     let tree = value_of(kind, span, rvalue, trees)?;
     put_at(state, &at?, tree)?;
+    Ok(())
+}
+
+/// Does what a statement says; the running frame stands still.
+fn change(
+    alloc: Global,
+    body: &Body,
+    state: &mut State,
+    taken: &mut Taken,
+    statement: &Statement,
+) -> Result<(), Halt>
+    requires even { IsEven taken.old }
+    requires empty { taken.old.trees.items ≡ [] }
+    ensures changes { Comes result (changed body.now (types_of state.old) state.old statement.now.span statement.now.kind) (λ _. state.new) }
+    ensures err { result ≡ Err Halt.NoMemory → GoesBack taken.old state.old taken.new state.new }
+    ensures stays { statement_of state.new ≡ statement_of state.old }
+{
+    match &statement.kind {
+        StatementKind::Assign(place, rvalue) => {
+            let kind = kind_of_place(body, &state.running.types, place);
+            assign(alloc, state, taken, kind, statement.span, place, rvalue)
+        }
+        StatementKind::Dead(x) => {
+            let place = Place {
+                local: *x,
+                path: Items::new(alloc),
+            };
+            write(alloc, state, &place, gone())
+        }
+    }
+}
+
+/// The running frame goes on to its next statement.
+fn pass(state: &mut State)
+    requires { statement_of state.old < 2 ^ 63 }
+    ensures { past state.old ≡ Yields state.new }
+{
+    state.running.statement += 1;
+}
+
+/// Runs a statement.
+#[tactic(auto, using(crate::proofs::RightSides::statement_stops, crate::proofs::RightSides::statement_goes))]
+pub fn run_statement(
+    alloc: Global,
+    body: &Body,
+    state: &mut State,
+    taken: &mut Taken,
+    statement: &Statement,
+) -> Result<(), Halt>
+    requires even { IsEven taken.old }
+    requires empty { taken.old.trees.items ≡ [] }
+    requires within { statement_of state.old < 2 ^ 63 }
+    ensures runs { Comes result (statement_step body.now (types_of state.old) state.old statement.now.span statement.now.kind) (λ _. state.new) }
+    ensures err { result ≡ Err Halt.NoMemory → GoesBack taken.old state.old taken.new state.new }
+{
+    change(alloc, body, state, taken, statement)?;
+    pass(state);
     Ok(())
 }

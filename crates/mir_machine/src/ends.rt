@@ -1,0 +1,82 @@
+ghost use Rattle.std.specs.Prelude.{◌≡◌, ◌≢◌, [], Err, cond};
+ghost use Rattle.mir_machine.specs.Halt.{Comes};
+ghost use Rattle.mir_machine.specs.Step.{at_label};
+ghost use Rattle.mir_machine.specs.Taken.{branched, waiting, given, IsEven, GoesBack};
+ghost use Rattle.mir_machine.specs.Try.{Yields};
+
+use crate::frame::State;
+use crate::halt::Halt;
+use crate::memory::{nth, put_at, spot_of};
+use crate::running::block_of;
+use crate::spot::Spot;
+use crate::statements::truth_on;
+use crate::taken::{Taken, take};
+use crate::tree::Tree;
+use logic_term::Label;
+use mir_ir::{Bodies, Operand, TerminatorKind};
+use std::alloc::Global;
+
+/// Where a frame waits for the answer of a call: the spot of the answer, and the block that comes after the call.
+#[derive(Drop)]
+pub struct Waiting {
+    pub at: Spot,
+    pub next: Label,
+}
+
+/// The running frame goes on at the start of the block.
+fn go_to(state: &mut State, label: Label)
+    ensures { at_label label state.old ≡ Yields state.new }
+{
+    state.running.label = label;
+    state.running.statement = 0;
+}
+
+fn chosen(holds: bool, yes: Label, no: Label) -> Label
+    ensures { result ≡ cond holds yes no }
+{
+    if holds { yes } else { no }
+}
+
+/// Goes on at one of two blocks.
+#[tactic(auto, using(crate::proofs::RightSides::branch_stops, crate::proofs::RightSides::branch_gone, crate::proofs::RightSides::branch_untrue, crate::proofs::RightSides::branch_goes))]
+fn branch(
+    alloc: Global,
+    state: &mut State,
+    taken: &mut Taken,
+    condition: &Operand,
+    yes: Label,
+    no: Label,
+) -> Result<(), Halt>
+    requires even { IsEven taken.old }
+    requires empty { taken.old.trees.items ≡ [] }
+    ensures goes { Comes result (branched state.old condition.now yes no) (λ _. state.new) }
+    ensures err { result ≡ Err Halt.NoMemory → GoesBack taken.old state.old taken.new state.new }
+{
+    take(alloc, state, taken, condition)?;
+    let holds = truth_on(nth(&taken.trees, 0)?)?;
+    go_to(state, chosen(holds, yes, no));
+    Ok(())
+}
+
+/// Where the running frame waits for an answer.
+fn find_waiting(alloc: Global, bodies: &Bodies, state: &State) -> Result<Waiting, Halt>
+    ensures { Comes result (waiting bodies.now state.now) (λ w. w) }
+{
+    let block = block_of(bodies, &state.running).ok_or(Halt::Stuck)?;
+    let TerminatorKind::Call(place, _, _, _, next) = &block.end.kind else {
+        return Err(Halt::Stuck);
+    };
+    let at = spot_of(alloc, state, place)?;
+    Ok(Waiting { at, next: *next })
+}
+
+/// Gives the answer to the frame that waits for it.
+#[tactic(auto, using(crate::proofs::Returns::give_stops, crate::proofs::Returns::give_goes))]
+fn give(state: &mut State, waiting: &Waiting, answer: Tree) -> Result<(), Halt>
+    ensures gives { Comes result (given state.old waiting.now answer) (λ _. state.new) }
+    ensures memory { result ≢ Err Halt.NoMemory }
+{
+    put_at(state, &waiting.at, answer)?;
+    go_to(state, waiting.next);
+    Ok(())
+}
