@@ -1,5 +1,6 @@
 -- Answers, and the frames that wait for them.
-use Rattle.std.proofs.Common.{◌≡◌, ◌∙◌, refl, sym, ap, ◌∷◌, slice_get}
+use Rattle.std.proofs.Common.{◌≡◌, ◌∙◌, refl, sym, ap, subst, [], ◌∷◌, ◌++◌, length, reverse, slice_get}
+use Rattle.std.proofs.lemmas.List.{length-reverse}
 use Rattle.mir_ir.specs.declared.terminator.TerminatorKind.{TerminatorKind}
 use Rattle.mir_ir.specs.declared.terminator.TerminatorKind.TheVariants.{Goto, If, Call, Return}
 use Rattle.mir_ir.specs.declared.body.Block.{Block}
@@ -13,10 +14,12 @@ use Rattle.mir_machine.specs.Halt.{Stops}
 use Rattle.mir_machine.specs.Try.{Try, Yields, ◌>>=◌, need}
 use Rattle.mir_machine.specs.Tree.{Tree}
 use Rattle.mir_machine.specs.Frame.{Frame, State}
-use Rattle.mir_machine.specs.Memory.{put_at, spot_of}
-use Rattle.mir_machine.specs.Step.{at_label, Outcome, Running, answered, come_back}
+use Rattle.mir_machine.specs.Memory.{put_at, spot_of, is_there}
+use Rattle.mir_machine.specs.Step.{at_label, Outcome, Running, answered, come_back, leave}
 use Rattle.mir_machine.specs.Taken.{waiting_at, waiting, given}
 use Rattle.mir_machine.proofs.Coming.{stops_then}
+use Rattle.mir_machine.proofs.Stepping.{last_first}
+use Rattle.mir_machine.proofs.Undoing.{same_there}
 use Rattle.mir_machine.proofs.Wholes.{then_then, then_same}
 
 abbrev T : Type 0
@@ -59,3 +62,36 @@ come_back-row bodies t f g fs =
     then_same (at_block b) answers (λ k. waits k >>= last) (λ k. ap (λ (m : Try S). m >>= go_on) (answered-row s t k.end.kind) ∙ then_then (waits k) (take_answer s t) go_on)
     ∙ sym (then_then (at_block b) waits last))
     ∙ sym (then_then (need (slice_get bodies.bodies f.function)) (λ b. at_block b >>= waits) last)
+
+-- ---- the end of the running frame
+
+ended-row : (bodies : Bodies) (f : Frame (Unit {0})) (fs : S) (t u : T) → need (slice_get f.locals 0) ≡ Yields t → is_there t ≡ Yields u → leave bodies (f ∷ fs) ≡ come_back bodies u fs
+ended-row bodies f fs t u is_t is_u =
+    ap (λ (m : Try T). m >>= λ t. is_there t >>= λ t'. come_back bodies t' fs) is_t ∙ ap (λ (m : Try T). m >>= λ t'. come_back bodies t' fs) is_u
+
+pub no_local : (h : Halt) (bodies : Bodies) (f : Frame (Unit {0})) (fs : S) → Stops h (need (slice_get f.locals 0)) → Stops h (leave bodies (f ∷ fs))
+no_local h bodies f fs e = stops_then h (need (slice_get f.locals 0)) (λ t. is_there t >>= λ t'. come_back bodies t' fs) e
+
+pub no_answer : (h : Halt) (bodies : Bodies) (f : Frame (Unit {0})) (fs : S) (t : T) → need (slice_get f.locals 0) ≡ Yields t → Stops h (is_there t) → Stops h (leave bodies (f ∷ fs))
+no_answer h bodies f fs t is_t e =
+    subst (Stops h) (sym (ap (λ (m : Try T). m >>= λ t. is_there t >>= λ t'. come_back bodies t' fs) is_t)) (stops_then h (is_there t) (λ t'. come_back bodies t' fs) e)
+
+behind_row : (bodies : Bodies) (t : T) (f : Frame (Unit {0})) (fs : S) → (length fs ≡ 0 → ⊥) → come_back bodies t (f ∷ fs) ≡ (waiting bodies (f ∷ fs) >>= λ w. given (f ∷ fs) w t >>= go_on)
+behind_row bodies t f [] some = absurd (some refl)
+behind_row bodies t f (g ∷ fs) some = come_back-row bodies t f g fs
+
+-- where a frame is behind the one that ended, which waits at the spot, and behind it there is another
+waits_row : (bodies : Bodies) (f g : Frame (Unit {0})) (xs ys : S) (w : Waiting) (t u : T) → xs ≡ ys ++ g ∷ [] → (length ys ≡ 0 → ⊥) → need (slice_get f.locals 0) ≡ Yields t → is_there t ≡ Yields u → waiting bodies (g ∷ reverse ys) ≡ Yields w
+    → leave bodies (f ∷ reverse xs) ≡ (given (g ∷ reverse ys) w t >>= go_on)
+waits_row bodies f g xs ys w t u is some is_t is_u is_w =
+    ended-row bodies f (reverse xs) t u is_t is_u ∙ ap (come_back bodies u) (last_first xs ys g is) ∙ behind_row bodies u g (reverse ys) (λ e. some (sym (length-reverse ys) ∙ e))
+    ∙ ap (λ (m : Try Waiting). m >>= λ w. given (g ∷ reverse ys) w u >>= go_on) is_w ∙ ap (λ v. given (g ∷ reverse ys) w v >>= go_on) (sym (same_there t u is_u))
+
+pub leave_stops : (h : Halt) (bodies : Bodies) (f g : Frame (Unit {0})) (xs ys : S) (w : Waiting) (t u : T) → xs ≡ ys ++ g ∷ [] → (length ys ≡ 0 → ⊥) → need (slice_get f.locals 0) ≡ Yields t → is_there t ≡ Yields u → waiting bodies (g ∷ reverse ys) ≡ Yields w
+    → Stops h (given (g ∷ reverse ys) w t) → Stops h (leave bodies (f ∷ reverse xs))
+leave_stops h bodies f g xs ys w t u is some is_t is_u is_w e =
+    subst (Stops h) (sym (waits_row bodies f g xs ys w t u is some is_t is_u is_w)) (stops_then h (given (g ∷ reverse ys) w t) go_on e)
+
+pub leave_goes : (bodies : Bodies) (f g : Frame (Unit {0})) (xs ys s' : S) (w : Waiting) (t u : T) → xs ≡ ys ++ g ∷ [] → (length ys ≡ 0 → ⊥) → need (slice_get f.locals 0) ≡ Yields t → is_there t ≡ Yields u → waiting bodies (g ∷ reverse ys) ≡ Yields w
+    → given (g ∷ reverse ys) w t ≡ Yields s' → leave bodies (f ∷ reverse xs) ≡ Yields (Running s')
+leave_goes bodies f g xs ys s' w t u is some is_t is_u is_w e = waits_row bodies f g xs ys w t u is some is_t is_u is_w ∙ ap (λ (m : Try S). m >>= go_on) e

@@ -241,7 +241,7 @@ set_pushed {A} xs ys g y n is_ys is_n =
     let at : n - 1 ≡ length xs = omega (arith, ap length is_ys, length-append xs (g ∷ [])) in
     ap (λ i. slice_set ys i y) at ∙ ap (λ zs. slice_set zs (length xs) y) is_ys ∙ set_end xs g y (length xs) refl
 
-same_there : (t u : T) → is_there t ≡ Yields u → t ≡ u
+pub same_there : (t u : T) → is_there t ≡ Yields u → t ≡ u
 same_there (Int z) u e = yields_same (Int z) u e
 same_there (Truth b) u e = yields_same (Truth b) u e
 same_there (Made c ts) u e = yields_same (Made c ts) u e

@@ -1,6 +1,7 @@
 ghost use Rattle.std.specs.Prelude.{◌≡◌, ◌≢◌, [], Err, cond};
 ghost use Rattle.mir_machine.specs.Halt.{Comes};
-ghost use Rattle.mir_machine.specs.Step.{at_label};
+ghost use Rattle.mir_machine.specs.Run.{outcome_of_step};
+ghost use Rattle.mir_machine.specs.Step.{at_label, leave};
 ghost use Rattle.mir_machine.specs.Taken.{branched, waiting, given, IsEven, GoesBack};
 ghost use Rattle.mir_machine.specs.Try.{Yields};
 
@@ -9,12 +10,13 @@ use crate::halt::Halt;
 use crate::memory::{nth, put_at, spot_of};
 use crate::running::block_of;
 use crate::spot::Spot;
-use crate::statements::truth_on;
-use crate::taken::{Taken, take};
+use crate::statements::{first_of, truth_on};
+use crate::taken::{Taken, is_there, take};
 use crate::tree::Tree;
 use logic_term::Label;
 use mir_ir::{Bodies, Operand, TerminatorKind};
 use std::alloc::Global;
+use std::mem;
 
 /// Where a frame waits for the answer of a call: the spot of the answer, and the block that comes after the call.
 #[derive(Drop)]
@@ -79,4 +81,33 @@ fn give(state: &mut State, waiting: &Waiting, answer: Tree) -> Result<(), Halt>
     put_at(state, &waiting.at, answer)?;
     go_to(state, waiting.next);
     Ok(())
+}
+
+/// The running frame has ended, with its local 0 as the answer; `Some` with it where the run returns. For want of memory
+/// nothing changes.
+pub fn leave(alloc: Global, bodies: &Bodies, state: &mut State) -> Result<Option<Tree>, Halt>
+    ensures leaves { Comes result (leave bodies.now state.old) (outcome_of_step state.new) }
+    ensures err { result ≡ Err Halt.NoMemory → state.new ≡ state.old }
+{
+    is_there(nth(&state.running.locals, 0)?)?;
+    let Some(caller) = state.behind.pop() else {
+        return Err(Halt::Stuck);
+    };
+    let ended = mem::replace(&mut state.running, caller);
+    if state.behind.is_empty() {
+        return Ok(Some(first_of(ended.locals)?));
+    }
+    match find_waiting(alloc, bodies, state) {
+        Ok(waiting) => {
+            give(state, &waiting, first_of(ended.locals)?)?;
+            Ok(None)
+        }
+        Err(refused) => {
+            let caller = mem::replace(&mut state.running, ended);
+            let Ok(()) = state.behind.push(caller) else {
+                unreachable!()
+            };
+            Err(refused)
+        }
+    }
 }

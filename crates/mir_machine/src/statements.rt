@@ -78,7 +78,7 @@ fn operate_on(
 }
 
 /// The first tree, by itself.
-fn first_of(trees: Vec<Tree>) -> Result<Tree, Halt>
+pub fn first_of(trees: Vec<Tree>) -> Result<Tree, Halt>
     ensures first { Comes result (need (slice_get trees.items 0)) (λ t. t) }
     ensures memory { result ≢ Err Halt.NoMemory }
 {

@@ -62,7 +62,7 @@ fn literal(lit: Lit) -> Tree
 }
 
 /// The tree itself, where there is one.
-fn is_there(tree: &Tree) -> Result<&Tree, Halt>
+pub fn is_there(tree: &Tree) -> Result<&Tree, Halt>
     ensures tree { Comes result (is_there tree.now) (λ t. t.now) }
     ensures memory { result ≢ Err Halt.NoMemory }
 {
