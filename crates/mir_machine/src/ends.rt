@@ -1,11 +1,14 @@
-ghost use Rattle.std.specs.Prelude.{◌≡◌, ◌≢◌, [], Err, cond};
+ghost use Rattle.std.specs.Prelude.{◌≡◌, ◌≢◌, ◌∷◌, ◌++◌, [], Err, OnOk, OnErr, cond, replicate};
+ghost use Rattle.mir_machine.specs.Frame.{State as Frames};
 ghost use Rattle.mir_machine.specs.Halt.{Comes};
+ghost use Rattle.mir_machine.specs.Tree.{Gone};
 ghost use Rattle.mir_machine.specs.Run.{outcome_of_step};
 ghost use Rattle.mir_machine.specs.Step.{at_label, leave};
 ghost use Rattle.mir_machine.specs.Taken.{branched, waiting, given, IsEven, GoesBack};
 ghost use Rattle.mir_machine.specs.Try.{Yields};
 
-use crate::frame::State;
+use crate::entry::gone;
+use crate::frame::{Frame, State};
 use crate::halt::Halt;
 use crate::memory::{nth, put_at, spot_of};
 use crate::running::block_of;
@@ -17,6 +20,7 @@ use logic_term::Label;
 use mir_ir::{Bodies, Operand, TerminatorKind};
 use std::alloc::Global;
 use std::mem;
+use text_core::NoMemory;
 
 /// Where a frame waits for the answer of a call: the spot of the answer, and the block that comes after the call.
 #[derive(Drop)]
@@ -110,4 +114,28 @@ pub fn leave(alloc: Global, bodies: &Bodies, state: &mut State) -> Result<Option
             Err(refused)
         }
     }
+}
+
+/// The new frame runs before the one that ran. For want of memory nothing changes.
+fn enter(state: &mut State, frame: Frame) -> Result<(), NoMemory>
+    ensures ok { OnOk result (state.new ≡ frame ∷ state.old) }
+    ensures err { OnErr result (state.new ≡ state.old) }
+{
+    state.behind.push(frame)?;
+    let last = state.behind.len() - 1;
+    mem::swap(&mut state.running, &mut state.behind[last]);
+    Ok(())
+}
+
+/// Adds so many trees that are gone.
+#[tactic(auto, using(crate::proofs::Undoing::same_taken, crate::proofs::Undoing::back_along))]
+fn add_gone(taken: &mut Taken, count: usize) -> Result<(), NoMemory>
+    requires { IsEven taken.old }
+    ensures trees { OnOk result (taken.new.trees.items ≡ taken.old.trees.items ++ replicate count Gone) }
+    ensures back { (s : Frames (Unit {0})) → GoesBack taken.old s taken.new s }
+{
+    for _ in 0..count {
+        taken.add(gone())?;
+    }
+    Ok(())
 }

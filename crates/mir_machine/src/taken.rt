@@ -39,10 +39,11 @@ impl Taken {
 
     /// Adds a tree that left no spot. What goes back stays the same.
     #[tactic(auto, using(crate::proofs::Undoing::same_taken, crate::proofs::Undoing::more_trees, crate::proofs::Undoing::one_more))]
-    fn add(&mut self, tree: Tree) -> Result<(), NoMemory>
+    pub fn add(&mut self, tree: Tree) -> Result<(), NoMemory>
         requires { IsEven self.old }
         ensures trees { OnOk result (self.new.trees.items ≡ self.old.trees.items ++ tree ∷ []) }
         ensures left { OnOk result (self.new.left.items ≡ self.old.left.items ++ None ∷ []) }
+        ensures even { OnOk result (IsEven self.new) }
         ensures back { (s : Frames (Unit {0})) → GoesBack self.old s self.new s }
     {
         self.trees.push(tree)?;
