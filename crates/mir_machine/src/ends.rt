@@ -4,7 +4,7 @@ ghost use Rattle.mir_machine.specs.Halt.{Comes};
 ghost use Rattle.mir_machine.specs.Tree.{Gone};
 ghost use Rattle.mir_machine.specs.Run.{outcome_of_step};
 ghost use Rattle.mir_machine.specs.Step.{at_label, leave};
-ghost use Rattle.mir_machine.specs.Taken.{branched, waiting, given, IsEven, GoesBack};
+ghost use Rattle.mir_machine.specs.Taken.{branched, called_from, waiting, given, IsEven, GoesBack};
 ghost use Rattle.mir_machine.specs.Try.{Yields};
 
 use crate::entry::gone;
@@ -14,10 +14,10 @@ use crate::memory::{nth, put_at, spot_of};
 use crate::running::block_of;
 use crate::spot::Spot;
 use crate::statements::{first_of, truth_on};
-use crate::taken::{Taken, is_there, take};
+use crate::taken::{Taken, is_there, take, take_all};
 use crate::tree::Tree;
 use logic_term::Label;
-use mir_ir::{Bodies, Operand, TerminatorKind};
+use mir_ir::{Bodies, Callee, Operand, TerminatorKind};
 use std::alloc::Global;
 use std::mem;
 use text_core::NoMemory;
@@ -137,5 +137,37 @@ fn add_gone(taken: &mut Taken, count: usize) -> Result<(), NoMemory>
     for _ in 0..count {
         taken.add(gone())?;
     }
+    Ok(())
+}
+
+/// A call: its frame runs before the others, with the operands as its parameters and nothing in all other locals.
+fn call(
+    alloc: Global,
+    bodies: &Bodies,
+    state: &mut State,
+    taken: &mut Taken,
+    callee: Callee,
+    operands: &[Operand],
+) -> Result<(), Halt>
+    requires even { IsEven taken.old }
+    requires empty { taken.old.trees.items ≡ [] }
+    ensures calls { Comes result (called_from bodies.now state.old callee operands.now) (λ _. state.new) }
+    ensures err { result ≡ Err Halt.NoMemory → GoesBack taken.old state.old taken.new state.new }
+{
+    taken.add(gone())?;
+    take_all(alloc, state, taken, operands)?;
+    let number = bodies.callee_of(callee).ok_or(Halt::Stuck)?;
+    let body = bodies.bodies.get(number as usize).ok_or(Halt::Stuck)?;
+    let others = body.locals.len().saturating_sub(taken.trees.len());
+    add_gone(taken, others)?;
+    let frame = Frame {
+        function: number,
+        types: Vec::new(alloc),
+        label: body.entry,
+        statement: 0,
+        locals: Vec::new(alloc),
+    };
+    enter(state, frame)?;
+    state.running.locals = mem::replace(&mut taken.trees, Vec::new(alloc));
     Ok(())
 }
