@@ -1,14 +1,13 @@
+pub mod BlockEnds
 pub mod Coming
 pub mod Depths
 pub mod GivenTypes
 pub mod NeverStuck
 pub mod Places
-pub mod Scalars
 pub mod Shown
 pub mod Returns
 pub mod RightSides
 pub mod Stepping
-pub mod TakenOperands
 pub mod Tried
 pub mod Undoing
 pub mod Wholes

@@ -24,7 +24,7 @@ use Rattle.mir_machine.specs.Tree.{Tree, Int, Truth, Made, Boxed, Shared, Unique
 use Rattle.mir_machine.specs.Frame.{State}
 use Rattle.mir_machine.specs.Memory.{spot_of, put_at, write}
 use Rattle.mir_machine.specs.Step.{operand, operands, rvalue, binary, negated, inverted, truth_of, at_label, past, statement_step}
-use Rattle.mir_machine.specs.FrameStep.{scalar}
+use Rattle.mir_machine.specs.ScalarView.{scalar}
 use Rattle.mir_machine.specs.Taken.{take_one, take_more, operands_of, value_of, assigned, changed, branched}
 use Rattle.mir_machine.proofs.Coming.{stops_then}
 use Rattle.mir_machine.proofs.Undoing.{yields_same}

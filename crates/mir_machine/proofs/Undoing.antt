@@ -186,6 +186,17 @@ same_taken old new s is_trees is_left = record {
   };
 }
 
+-- where nothing is taken
+pub none_taken : (old new : Taken) (s s' : S) → new ≡ old → s' ≡ s → GoesBack old s new s'
+none_taken old new s s' is_same is_state = subst (λ q. GoesBack old s new q) (sym is_state) (same_taken old new s (ap (λ (t : Taken). t.trees.items) is_same) (ap (λ (t : Taken). t.left.items) is_same))
+
+-- before anything is taken, nothing goes back
+pub undoes_none : (taken : Taken) (s : S) → taken.trees.items ≡ [] → taken.left.items ≡ [] → Undoes taken s s
+undoes_none taken s no_trees_yet no_left_yet = record {
+  within = omega (arith, ap length no_trees_yet, ap length no_left_yet);
+  leads = ap (λ ls. undone ls taken.trees.items s) no_left_yet;
+}
+
 pub more_trees : (old new : Taken) (s : S) (t : T) → IsEven old → new.trees.items ≡ old.trees.items ++ t ∷ [] → new.left.items ≡ old.left.items → GoesBack old s new s
 more_trees old new s t even is_trees is_left = record {
   back = λ s₀ h. record {

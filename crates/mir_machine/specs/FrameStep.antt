@@ -1,6 +1,6 @@
 -- A step of the running frame by itself, where all places are whole locals: the rows of Step.antt then read and write its
 -- locals alone, and a return those of the frame that called it.
-use Rattle.std.specs.Prelude.{◌≡◌, ℕ, ◌+◌, Bool, cond, List, [], ◌∷◌, Option, Some, None, option_and_then, slice_get, slice_set}
+use Rattle.std.specs.Prelude.{◌≡◌, ℕ, ◌+◌, cond, List, [], ◌∷◌, Option, Some, None, option_and_then, slice_get, slice_set}
 use Rattle.text_core.specs.declared.span.Span.{Span}
 use Rattle.logic_term.specs.declared.kinds.Ctor.{Ctor}
 use Rattle.source_kinds.specs.declared.kinds.IntKind.{IntKind}
@@ -20,7 +20,7 @@ use Rattle.mir_ir.specs.declared.terminator.Terminator.{Terminator}
 use Rattle.mir_ir.specs.declared.body.Block.{Block}
 use Rattle.mir_ir.specs.declared.body.Body.{Body}
 use Rattle.mir_machine.specs.Try.{Try, Yields, Sticks, ◌>>=◌, need}
-use Rattle.mir_machine.specs.Tree.{Tree, Int, Truth, Made, Gone, trees_of}
+use Rattle.mir_machine.specs.Tree.{Tree, Made, Gone, trees_of}
 use Rattle.mir_machine.specs.Frame.{Frame, State}
 use Rattle.mir_ir.specs.Body.{block_in, place_ty, kind_in}
 use Rattle.mir_machine.specs.Memory.{is_there}
@@ -106,24 +106,6 @@ evaluate ls kind span (Not o) = do
   t ← inverted x
   Yields (ls₁, t)
 evaluate ls kind span (Make c os) = make_tree ls c os
-
--- an integer or a truth value
-abbrev pub scalar : {K : Type 0} → Tree K → Try (Tree K)
-scalar (Int z) = Yields (Int z)
-scalar (Truth b) = Yields (Truth b)
-scalar _ = Sticks
-
-abbrev pub take_scalar : {K : Type 0} → List (Tree K) → Operand → Try (Left K)
-take_scalar ls o = do
-  (ls₁, t) ← take_operand ls o
-  u ← scalar t
-  Yields (ls₁, u)
-
-abbrev pub take_truth : {K : Type 0} → List (Tree K) → Operand → Try (List (Tree K) × Bool)
-take_truth ls o = do
-  (ls₁, t) ← take_scalar ls o
-  b ← truth_of t
-  Yields (ls₁, b)
 
 abbrev pub put_local : {K : Type 0} → List (Tree K) → ℕ → Tree K → Try (List (Tree K))
 put_local ls x t = need (slice_get ls x) >>= λ u. Yields (slice_set ls x t)

@@ -7,7 +7,6 @@ pub mod Good
 pub mod Halt
 pub mod Laws
 pub mod Memory
-pub mod NextView
 pub mod Places
 pub mod Reads
 pub mod Run

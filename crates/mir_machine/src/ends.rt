@@ -3,7 +3,8 @@ ghost use Rattle.mir_machine.specs.Frame.{State as Frames};
 ghost use Rattle.mir_machine.specs.Halt.{Comes};
 ghost use Rattle.mir_machine.specs.Tree.{Gone};
 ghost use Rattle.mir_machine.specs.Run.{outcome_of_step};
-ghost use Rattle.mir_machine.specs.Step.{at_label, leave};
+ghost use Rattle.mir_machine.specs.Code.{code_of};
+ghost use Rattle.mir_machine.specs.Step.{at_label, leave, end_step};
 ghost use Rattle.mir_machine.specs.Taken.{branched, called_from, waiting, given, IsEven, GoesBack};
 ghost use Rattle.mir_machine.specs.Try.{Yields};
 
@@ -170,4 +171,35 @@ fn call(
     enter(state, frame)?;
     state.running.locals = mem::replace(&mut taken.trees, Vec::new(alloc));
     Ok(())
+}
+
+/// The end of a block; `Some` with the answer where the run returns.
+#[tactic(auto, using(crate::proofs::BlockEnds::choice_stops, crate::proofs::BlockEnds::choice_goes, crate::proofs::BlockEnds::call_stops, crate::proofs::BlockEnds::call_goes, crate::proofs::BlockEnds::jump_goes, crate::proofs::Undoing::none_taken))]
+pub fn end_block(
+    alloc: Global,
+    bodies: &Bodies,
+    state: &mut State,
+    taken: &mut Taken,
+    end: &TerminatorKind,
+) -> Result<Option<Tree>, Halt>
+    requires even { IsEven taken.old }
+    requires empty { taken.old.trees.items ≡ [] }
+    ensures ends { Comes result (end_step (code_of bodies.now) state.old end.now) (outcome_of_step state.new) }
+    ensures err { result ≡ Err Halt.NoMemory → GoesBack taken.old state.old taken.new state.new }
+{
+    match end {
+        TerminatorKind::Goto(label) => {
+            go_to(state, *label);
+            Ok(None)
+        }
+        TerminatorKind::If(condition, yes, no) => {
+            branch(alloc, state, taken, condition, *yes, *no)?;
+            Ok(None)
+        }
+        TerminatorKind::Call(_, callee, _, operands, _) => {
+            call(alloc, bodies, state, taken, *callee, operands.as_slice())?;
+            Ok(None)
+        }
+        TerminatorKind::Return => leave(alloc, bodies, state),
+    }
 }

@@ -10,14 +10,13 @@ mod halt;
 mod laws;
 mod machine;
 mod memory;
-mod next;
-mod operands;
 mod outcome;
 mod run_error;
 mod running;
 mod scalar;
 mod spot;
 mod statements;
+mod steps;
 mod taken;
 mod tree;
 
