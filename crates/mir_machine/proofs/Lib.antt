@@ -1,6 +1,7 @@
 pub mod BlockEnds
 pub mod Coming
 pub mod Depths
+pub mod FrameCounts
 pub mod GivenTypes
 pub mod NeverStuck
 pub mod Places

@@ -1,14 +1,10 @@
 -- The code's list of frames, and what each step of a machine keeps.
-use Rattle.std.proofs.Common.{◌≡◌, ◌∙◌, refl, ap, subst, ℕ, zero, suc, ◌-◌, ◌≤◌, List, [], ◌∷◌, ◌++◌, length, reverse, get_or, slice_set, Some, None, slice_get, arith}
+use Rattle.std.proofs.Common.{◌≡◌, ◌∙◌, refl, ap, subst, ℕ, zero, suc, ◌-◌, List, [], ◌∷◌, ◌++◌, length, reverse, get_or, slice_set, arith}
 use Rattle.std.proofs.lemmas.List.{length-append, reverse-append}
-use Rattle.mir_ir.specs.declared.body.Block.{Block}
-use Rattle.mir_ir.specs.declared.body.Body.{Body}
-use Rattle.mir_ir.specs.Body.{block_in}
-use Rattle.mir_machine.specs.Try.{Try, Sticks, ◌>>=◌, need}
+use Rattle.mir_machine.specs.Try.{Try, Sticks}
 use Rattle.mir_machine.specs.Tree.{Tree}
-use Rattle.mir_machine.specs.Frame.{Frame, State}
+use Rattle.mir_machine.specs.Frame.{State}
 use Rattle.mir_machine.specs.Step.{Outcome, Running, outcome_of, try_step, next, after_from}
-use Rattle.mir_machine.specs.FrameStep.{FrameEnd, frame_end, frame_row, frame_step}
 use Rattle.mir_machine.specs.Run.{Run, IsSafe}
 use Rattle.mir_ir.specs.declared.body.Bodies.{Bodies}
 use Rattle.mir_machine.specs.Code.{Code, code_of}
@@ -18,22 +14,6 @@ T = Tree (Unit {0})
 
 abbrev Frames : Type 0
 Frames = State (Unit {0})
-
--- ---- the running frame
-
-pub frame_step-at : {K : Type 0} (code : Code K) (f : Frame K) (b : Body) (k : Block) → slice_get code.program.bodies f.function ≡ Some b → block_in b.blocks f.label ≡ Some k → frame_step code f ≡ frame_row code b f k.end (slice_get k.statements f.statement)
-frame_step-at {K} code f b k is_body is_block =
-    let at_block : Body → Block → Try (FrameEnd K) = λ c d. frame_row code c f d.end (slice_get d.statements f.statement) in
-    ap (λ o. need o >>= λ c. need (block_in c.blocks f.label) >>= at_block c) is_body ∙ ap (λ o. need o >>= at_block b) is_block
-
-none_past : {A : Type 0} (xs : List A) (i : ℕ) → length xs ≤ i → slice_get xs i ≡ None
-none_past [] i h = refl
-none_past (x ∷ xs) zero h = absurd (omega arith)
-none_past (x ∷ xs) (suc i) h = none_past xs i (omega arith)
-
--- a frame at a block's end
-pub frame_step-end : {K : Type 0} (code : Code K) (f : Frame K) (b : Body) (k : Block) → slice_get code.program.bodies f.function ≡ Some b → block_in b.blocks f.label ≡ Some k → length k.statements ≤ f.statement → frame_step code f ≡ frame_end code f k.end.kind
-frame_step-end code f b k is_body is_block past = frame_step-at code f b k is_body is_block ∙ ap (frame_row code b f k.end) (none_past k.statements f.statement past)
 
 -- ---- calls and returns in the code's list of frames, in which the last stands first behind the running one
 
@@ -64,7 +44,7 @@ after_next code zero o = refl
 after_next code (suc n) o = ap (next code) (after_next code n o)
 
 pub safe_next : (m : Run) → IsSafe m → IsSafe (record m { outcome = next (code_of m.bodies) m.outcome })
-safe_next m h = (h.0, λ n e. h.1 (suc n) (after_next (code_of m.bodies) n m.outcome ∙ e))
+safe_next m h = λ n e. h (suc n) (after_next (code_of m.bodies) n m.outcome ∙ e)
 
 abbrev pub at : Bodies → Outcome (Unit {0}) → Run
 at bodies o = record { bodies = bodies; outcome = o }
@@ -73,4 +53,4 @@ pub safe_step : (bodies : Bodies) (s : Frames) (t : Try (Outcome (Unit {0}))) �
 safe_step bodies s t h e = subst (λ o. IsSafe (at bodies o)) (ap outcome_of e) (safe_next (at bodies (Running s)) h)
 
 pub never_sticks : (bodies : Bodies) (s : Frames) → IsSafe (at bodies (Running s)) → try_step (code_of bodies) s ≡ Sticks → ⊥
-never_sticks bodies s h e = h.1 1 (ap outcome_of e)
+never_sticks bodies s h e = h 1 (ap outcome_of e)

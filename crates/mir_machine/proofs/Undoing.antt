@@ -91,7 +91,7 @@ slice_set-back [] i x y e = refl
 slice_set-back (z ∷ xs) zero x y e = ap (λ w. w ∷ xs) (cc)
 slice_set-back (z ∷ xs) (suc i) x y e = ap (λ ws. z ∷ ws) (slice_set-back xs i x y e)
 
-set_frame-length : {K : Type 0} (s : State K) (n : ℕ) (g : Frame K) → length (set_frame s n g) ≡ length s
+pub set_frame-length : {K : Type 0} (s : State K) (n : ℕ) (g : Frame K) → length (set_frame s n g) ≡ length s
 set_frame-length [] n g = refl
 set_frame-length {K} (f ∷ fs) n g = by (n == length fs) (set_frame-length fs n g)
   where

@@ -1,6 +1,6 @@
 -- A step of the running frame by itself, where all places are whole locals: the rows of Step.antt then read and write its
 -- locals alone, and a return those of the frame that called it.
-use Rattle.std.specs.Prelude.{◌≡◌, ℕ, ◌+◌, cond, List, [], ◌∷◌, Option, Some, None, option_and_then, slice_get, slice_set}
+use Rattle.std.specs.Prelude.{◌≡◌, ℕ, ◌+◌, cond, List, [], ◌∷◌, Option, Some, None, slice_get, slice_set}
 use Rattle.text_core.specs.declared.span.Span.{Span}
 use Rattle.logic_term.specs.declared.kinds.Ctor.{Ctor}
 use Rattle.source_kinds.specs.declared.kinds.IntKind.{IntKind}
@@ -27,6 +27,7 @@ use Rattle.mir_machine.specs.Memory.{is_there}
 use Rattle.mir_machine.specs.Step.{literal, binary, negated, inverted, truth_of, callee_frame, Outcome, Running, come_back}
 use Rattle.mir_ir.specs.declared.body.Bodies.{Bodies}
 use Rattle.mir_machine.specs.Code.{Code}
+use Rattle.mir_machine.specs.Depth.{frame_block}
 
 -- ---- whole locals
 
@@ -160,10 +161,6 @@ settled bodies fs (Calls f g) = Yields (Running (g ∷ f ∷ fs))
 settled bodies fs (Answers t) = come_back bodies t fs
 
 -- ---- the frame that waits for an answer
-
--- the block in which a frame stands
-abbrev pub frame_block : {K : Type 0} → Bodies → Frame K → Option Block
-frame_block bodies f = option_and_then (λ b. block_in b.blocks f.label) (slice_get bodies.bodies f.function)
 
 abbrev pub resumed_at : {K : Type 0} → Tree K → Frame K → TerminatorKind → Try (Frame K)
 resumed_at t f (Call p callee types os l) = put_local f.locals p.local t >>= λ ls. Yields (starting f ls l)

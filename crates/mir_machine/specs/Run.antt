@@ -13,7 +13,6 @@ use Rattle.mir_machine.specs.Typed.{Met}
 use Rattle.mir_machine.specs.Tree.{Tree}
 use Rattle.mir_machine.specs.Frame.{State}
 use Rattle.mir_machine.specs.Step.{Outcome, Running, Returned, Panicked, Stuck, after_from}
-use Rattle.mir_machine.specs.FrameStep.{AllNameWholes}
 use Rattle.mir_ir.specs.declared.body.Bodies.{Bodies}
 use Rattle.mir_machine.specs.Code.{code_of}
 
@@ -84,4 +83,4 @@ NeverStuck bodies o = (n : ℕ) → after_from (code_of bodies) n o ≢ Stuck
 
 -- what each machine keeps
 abbrev pub IsSafe : Run → Type 0
-IsSafe m = AllNameWholes m.bodies × NeverStuck m.bodies m.outcome
+IsSafe m = NeverStuck m.bodies m.outcome

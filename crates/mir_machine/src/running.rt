@@ -2,8 +2,7 @@ ghost use Rattle.std.specs.Prelude.{◌≡◌, ◌<◌, ◌^◌, IsTrue, ◌↔�
 ghost use Rattle.logic_term.specs.Sort.{instance};
 ghost use Rattle.logic_term.specs.TyView.{tys_of};
 ghost use Rattle.mir_ir.specs.Body.{kind_of};
-ghost use Rattle.mir_machine.specs.Depth.{StandsAtCall, IsFull, frames_behind};
-ghost use Rattle.mir_machine.specs.FrameStep.{frame_block};
+ghost use Rattle.mir_machine.specs.Depth.{frame_block, StandsAtCall, IsFull, frames_behind};
 ghost use Rattle.std.specs.Option.{option_copied};
 
 use crate::frame::{Frame, State};
