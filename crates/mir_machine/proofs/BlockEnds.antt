@@ -19,7 +19,7 @@ use Rattle.mir_machine.specs.Code.{code_of}
 use Rattle.mir_machine.specs.Step.{operand, operands, truth_of, callee_frame, at_label, Outcome, Running, end_step, row, try_step}
 use Rattle.mir_machine.specs.Taken.{branched, called_from}
 use Rattle.mir_machine.proofs.Coming.{stops_then}
-use Rattle.mir_machine.proofs.Wholes.{then_then, then_same}
+use Rattle.mir_machine.proofs.Tried.{then_then, then_same}
 
 abbrev T : Type 0
 T = Tree (Unit {0})

@@ -3,6 +3,7 @@ pub mod Coming
 pub mod Depths
 pub mod FrameCounts
 pub mod GivenTypes
+pub mod Locals
 pub mod NeverStuck
 pub mod Places
 pub mod Shown
@@ -11,4 +12,3 @@ pub mod RightSides
 pub mod Stepping
 pub mod Tried
 pub mod Undoing
-pub mod Wholes

@@ -21,7 +21,7 @@ use Rattle.mir_machine.specs.Frame.{Frame, State}
 use Rattle.mir_machine.specs.Memory.{child, tree_in, put_in, frame_at, set_frame, tree_at, put_at, onward, walk, spot_of}
 use Rattle.mir_machine.specs.Places.{tree_in_list, put_in_list, put_in_frame}
 use Rattle.mir_machine.proofs.Coming.{stops_then, comes_then, comes_along}
-use Rattle.mir_machine.proofs.Wholes.{then_then, then_same}
+use Rattle.mir_machine.proofs.Tried.{then_then, then_same}
 
 abbrev T : Type 0
 T = Tree (Unit {0})

@@ -20,7 +20,7 @@ use Rattle.mir_machine.specs.Taken.{waiting_at, waiting, given}
 use Rattle.mir_machine.proofs.Coming.{stops_then}
 use Rattle.mir_machine.proofs.Stepping.{last_first}
 use Rattle.mir_machine.proofs.Undoing.{same_there}
-use Rattle.mir_machine.proofs.Wholes.{then_then, then_same}
+use Rattle.mir_machine.proofs.Tried.{then_then, then_same}
 
 abbrev T : Type 0
 T = Tree (Unit {0})

@@ -28,7 +28,7 @@ use Rattle.mir_machine.specs.ScalarView.{scalar}
 use Rattle.mir_machine.specs.Taken.{take_one, take_more, operands_of, value_of, assigned, changed, branched}
 use Rattle.mir_machine.proofs.Coming.{stops_then}
 use Rattle.mir_machine.proofs.Undoing.{yields_same}
-use Rattle.mir_machine.proofs.Wholes.{then_then, then_same}
+use Rattle.mir_machine.proofs.Tried.{then_then, then_same}
 
 abbrev T : Type 0
 T = Tree (Unit {0})

@@ -14,7 +14,7 @@ use Rattle.mir_machine.specs.Frame.{Frame, State}
 use Rattle.mir_machine.specs.Memory.{child, with_child, tree_in, put_in, frame_at, set_frame, tree_at, put_at, spot_of, is_there, read, write}
 use Rattle.mir_machine.specs.Taken.{take_one, put_back, undone, IsEven, Undoes, GoesBack}
 use Rattle.mir_machine.proofs.Places.{set_end}
-use Rattle.mir_machine.proofs.Wholes.{then_then}
+use Rattle.mir_machine.proofs.Tried.{then_then}
 
 -- ---- what a part of a step that yields has come through
 

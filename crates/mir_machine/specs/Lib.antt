@@ -2,7 +2,6 @@ pub mod Code
 pub mod Depth
 pub mod Frame
 pub mod FrameCode
-pub mod FrameStep
 pub mod Good
 pub mod Halt
 pub mod Laws
