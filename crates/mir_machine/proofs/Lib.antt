@@ -1,10 +1,14 @@
+pub mod BlockEnds
 pub mod Coming
 pub mod Depths
+pub mod FrameCounts
 pub mod GivenTypes
+pub mod Locals
 pub mod NeverStuck
-pub mod Scalars
+pub mod Places
 pub mod Shown
+pub mod Returns
+pub mod RightSides
 pub mod Stepping
-pub mod TakenOperands
 pub mod Tried
-pub mod Wholes
+pub mod Undoing

@@ -44,15 +44,16 @@ use Rattle.mir_machine.specs.Frame.{Frame, State}
 use Rattle.mir_ir.specs.Body.{block_in, whole, place_ty, kind_of, kind_in, answer_ty}
 use Rattle.mir_machine.specs.Memory.{is_there}
 use Rattle.mir_machine.specs.Step.{try_step, fit, divide, of_integers, of_truths, binary, negated, inverted, truth_of, literal, callee_frame, Outcome, Running, Returned, Panicked, Stuck, outcome_of, step, next, after_from, after, entered, come_back}
-use Rattle.mir_machine.specs.FrameStep.{IsWhole, ReadsWholes, NamesWholes, AreWhole, EndNamesWholes, AllNameWholes, Left, local_tree, take_operand, take_operands, evaluate, put_local, run_local}
-use Rattle.mir_machine.specs.FrameStep.{FrameEnd, Stays, Calls, Answers, starting, frame_end, frame_row, frame_step, settled, frame_block, resumed_at, resumed}
+use Rattle.mir_machine.proofs.Locals.{IsWhole, ReadsWholes, NamesWholes, AreWhole, EndNamesWholes, AllNameWholes, Left, local_tree, take_operand, take_operands, evaluate, put_local, run_local}
+use Rattle.mir_machine.proofs.Locals.{FrameEnd, Stays, Calls, Answers, starting, frame_end, frame_row, frame_step, settled, resumed_at, resumed}
 use Rattle.mir_ir.specs.WellFormed.{PlaceHas, LitHas, OperandHas, OperandsHave, operation_ty, IsEquality, OperationHas, RvalueHas, StatementIsTyped, EndIsTyped, IsTyped, Locals, without, with}
 use Rattle.mir_ir.specs.WellFormed.{CanTake, taken, CanTakeAll, all_taken, CanEvaluate, evaluated, CanRun, run, CanEnd, Carries, Within, parameters, AreSound}
 use Rattle.mir_machine.specs.Typed.{Met, Typed, AreTyped, is_int, is_truth, is_tuple, is_adt, is_closure, is_boxed, is_shared, is_unique, none_typed, more_typed}
 use Rattle.mir_machine.specs.Good.{called, IsProper}
 use Rattle.mir_machine.specs.Run.{IsSafe}
+use Rattle.mir_machine.specs.Depth.{frame_block}
 use Rattle.mir_machine.proofs.Tried.{Goes, goes_then}
-use Rattle.mir_machine.proofs.Wholes.{try_step-whole, come_back-whole}
+use Rattle.mir_machine.proofs.Locals.{try_step-whole, come_back-whole}
 use Rattle.mir_ir.specs.declared.body.Bodies.{Bodies}
 use Rattle.mir_machine.specs.Code.{Code, code_of}
 
@@ -751,4 +752,4 @@ answer_shape Θ code sound f θ args held b met proper n s t e =
     subst (λ types. Shape (answer_ty b types) t) (sym (no_types_for_none θ proper.ground)) (subst (λ d. Shape (answer_ty d no_tys) t) (some_same (sym is_c ∙ proper.of)) shape)
 
 pub safe_call : (Θ : Theory) (bodies : Bodies) → AreSound bodies → (f : ℕ) (θ : Tys) (args held : List (Tree (Unit {0}))) (b : Body) (met : List Met) → IsProper Θ bodies f θ args held b met → IsSafe (record { bodies = bodies; outcome = Running (called b f θ args held) })
-safe_call Θ bodies sound f θ args held b met proper = (sound_wholes bodies sound, never_stuck Θ (code_of bodies) sound f θ args held b met proper)
+safe_call Θ bodies sound f θ args held b met proper = never_stuck Θ (code_of bodies) sound f θ args held b met proper

@@ -27,7 +27,7 @@ use Rattle.mir_machine.specs.Frame.{State}
 use Rattle.mir_ir.specs.Body.{kind_in, place_ty}
 use Rattle.mir_machine.specs.Memory.{is_there}
 use Rattle.mir_machine.specs.Step.{fit, divide, of_integers, same_truth, of_truths, binary, negated, inverted, literal}
-use Rattle.mir_machine.specs.FrameStep.{Left, local_tree, take_operand, take_operands, evaluate, put_local, run_local}
+use Rattle.mir_machine.proofs.Locals.{Left, local_tree, take_operand, take_operands, evaluate, put_local, run_local}
 use Rattle.mir_machine.specs.Reads.{View, Reads, ReadsAll, of_lent, of_int, of_truth, of_made, of_none}
 use Rattle.mir_machine.specs.Good.{not_lent}
 use Rattle.mir_machine.proofs.Tried.{Quiet, quiet_then, quiet_need}

@@ -1,6 +1,26 @@
--- What holds of each value that a part of a step may come to.
+-- One part of a step after another, and what holds of each value that a part may come to.
 use Rattle.std.proofs.Common.{◌≡◌, refl, Option, Some, None}
 use Rattle.mir_machine.specs.Try.{Try, Yields, Panics, Sticks, ◌>>=◌, need}
+
+-- ---- one part of a step after another
+
+pub then_then : {A B C : Type 0} (m : Try A) (k : A → Try B) (l : B → Try C) → ((m >>= k) >>= l) ≡ (m >>= λ a. k a >>= l)
+then_then (Yields a) k l = refl
+then_then (Panics c s) k l = refl
+then_then Sticks k l = refl
+
+pub then_same : {A B : Type 0} (m : Try A) (k l : A → Try B) → ((a : A) → k a ≡ l a) → (m >>= k) ≡ (m >>= l)
+then_same (Yields a) k l h = h a
+then_same (Panics c s) k l h = refl
+then_same Sticks k l h = refl
+
+-- where only the value that comes counts
+pub then_known : {A B : Type 0} (m : Try A) (k l : A → Try B) → ((a : A) → m ≡ Yields a → k a ≡ l a) → (m >>= k) ≡ (m >>= l)
+then_known (Yields a) k l h = h a refl
+then_known (Panics c s) k l h = refl
+then_known Sticks k l h = refl
+
+-- ---- what holds of each value that may come
 
 -- the value that comes, if one comes, has P; and it does not stick
 abbrev pub Goes : {A : Type 0} → (A → Type 0) → Try A → Type 0

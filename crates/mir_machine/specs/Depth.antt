@@ -1,5 +1,5 @@
 -- How many frames a run has. The machine's definition bounds no number of them; a machine that runs many steps does.
-use Rattle.std.specs.Prelude.{◌≡◌, ℕ, ◌<◌, ◌≤◌, [], ◌∷◌, Some, length}
+use Rattle.std.specs.Prelude.{◌≡◌, ℕ, ◌<◌, ◌≤◌, [], ◌∷◌, Option, Some, option_and_then, slice_get, length}
 use Rattle.text_core.specs.declared.refusal.LimitKind.TheVariants.{Frames}
 use Rattle.mir_ir.specs.declared.terminator.TerminatorKind.{TerminatorKind}
 use Rattle.mir_ir.specs.declared.terminator.TerminatorKind.TheVariants.{Goto, If, Call, Return}
@@ -7,10 +7,10 @@ use Rattle.mir_ir.specs.declared.body.Block.{Block}
 use Rattle.mir_machine.specs.declared.run_error.RunError.{RunError}
 use Rattle.mir_machine.specs.declared.run_error.RunError.TheVariants as run_error
 use Rattle.mir_machine.specs.Frame.{Frame, State}
-use Rattle.mir_machine.specs.FrameStep.{frame_block}
 use Rattle.mir_machine.specs.Step.{Outcome, Running, Returned, Panicked, Stuck, next}
 use Rattle.mir_machine.specs.Run.{Run, ran}
 use Rattle.mir_ir.specs.declared.body.Bodies.{Bodies}
+use Rattle.mir_ir.specs.Body.{block_in}
 use Rattle.mir_machine.specs.Code.{code_of}
 
 abbrev pub IsCall : TerminatorKind → Type 0
@@ -18,6 +18,10 @@ IsCall (Goto l) = ⊥
 IsCall (If o on_true on_false) = ⊥
 IsCall (Call p callee types os l) = Unit {0}
 IsCall Return = ⊥
+
+-- the block in which a frame stands
+abbrev pub frame_block : {K : Type 0} → Bodies → Frame K → Option Block
+frame_block bodies f = option_and_then (λ b. block_in b.blocks f.label) (slice_get bodies.bodies f.function)
 
 -- the frame's next step is a call
 abbrev pub StandsAtCall : Bodies → Frame (Unit {0}) → Type 0

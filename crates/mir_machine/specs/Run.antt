@@ -1,5 +1,5 @@
 -- What contracts see of a machine: the bodies that it runs, and what its run has come to.
-use Rattle.std.specs.Prelude.{◌≡◌, ◌≢◌, ℕ, ◌<◌, ◌≤◌, List, [], ◌∷◌, Option, Some, None, slice_get}
+use Rattle.std.specs.Prelude.{◌≡◌, ◌≢◌, ℕ, ◌<◌, ◌≤◌, List, Option, Some, None, slice_get}
 use Rattle.mir_ir.specs.declared.body.Body.{Body}
 use Rattle.mir_ir.specs.declared.terminator.FnId.{FnId}
 use Rattle.mir_ir.specs.declared.terminator.FnId.TheVariants as fn_id
@@ -11,9 +11,8 @@ use Rattle.logic_term.specs.TyView.{tys_of}
 use Rattle.mir_machine.specs.Good.{called, IsProper}
 use Rattle.mir_machine.specs.Typed.{Met}
 use Rattle.mir_machine.specs.Tree.{Tree}
-use Rattle.mir_machine.specs.Frame.{Frame, State}
+use Rattle.mir_machine.specs.Frame.{State}
 use Rattle.mir_machine.specs.Step.{Outcome, Running, Returned, Panicked, Stuck, after_from}
-use Rattle.mir_machine.specs.FrameStep.{AllNameWholes}
 use Rattle.mir_ir.specs.declared.body.Bodies.{Bodies}
 use Rattle.mir_machine.specs.Code.{code_of}
 
@@ -78,20 +77,10 @@ abbrev pub outcome_of_step : State (Unit {0}) → Option (Tree (Unit {0})) → O
 outcome_of_step s None = Running s
 outcome_of_step s (Some t) = Returned s t
 
--- the frames behind the running one
-abbrev pub behind : State (Unit {0}) → State (Unit {0})
-behind [] = []
-behind (f ∷ fs) = fs
-
--- the frame g before the frame that ran, which waits with these locals
-abbrev pub with_callee : State (Unit {0}) → Frame (Unit {0}) → List (Tree (Unit {0})) → State (Unit {0})
-with_callee [] g ls = []
-with_callee (f ∷ fs) g ls = g ∷ record f { locals = ls } ∷ fs
-
 -- no number of steps leads to a state where no row applies
 abbrev pub NeverStuck : Bodies → Outcome (Unit {0}) → Type 0
 NeverStuck bodies o = (n : ℕ) → after_from (code_of bodies) n o ≢ Stuck
 
 -- what each machine keeps
 abbrev pub IsSafe : Run → Type 0
-IsSafe m = AllNameWholes m.bodies × NeverStuck m.bodies m.outcome
+IsSafe m = NeverStuck m.bodies m.outcome

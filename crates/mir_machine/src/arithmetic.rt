@@ -4,7 +4,7 @@ ghost use Rattle.std.specs.Option.{SomeIff};
 ghost use Rattle.source_kinds.specs.Range.{fits};
 ghost use Rattle.mir_machine.specs.Tree.{Int, Truth};
 ghost use Rattle.mir_machine.specs.Halt.{Comes};
-ghost use Rattle.mir_machine.specs.Step.{fit, divide, arithmetic, of_integers, same_truth, of_truths, binary, negated, inverted, truth_of};
+ghost use Rattle.mir_machine.specs.Step.{fit, divide, arithmetic, of_integers, same_truth, of_truths, binary, negated, truth_of};
 ghost use Rattle.mir_machine.specs.ScalarView.{scalar_tree};
 
 use crate::halt::Halt;
@@ -40,7 +40,8 @@ fn fit(kind: Option<IntKind>, span: Span, exact: Option<i128>) -> Result<Tree, H
     }
 }
 
-fn truth(b: bool) -> Tree
+/// The tree of a truth value.
+pub fn truth(b: bool) -> Tree
     ensures { result ≡ Truth b }
 {
     Tree {
@@ -157,12 +158,4 @@ pub fn truth_of(a: Scalar) -> Result<bool, Halt>
         Scalar::Int(_) => Err(Halt::Stuck),
         Scalar::Truth(b) => Ok(b),
     }
-}
-
-/// The value of `!a`.
-pub fn invert(a: Scalar) -> Result<Tree, Halt>
-    ensures exact { Comes result (inverted (scalar_tree a)) (λ t. t) }
-    ensures memory { result ≢ Err Halt.NoMemory }
-{
-    Ok(truth(!truth_of(a)?))
 }

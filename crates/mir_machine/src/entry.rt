@@ -13,7 +13,8 @@ use mir_ir::{Bodies, Body};
 use std::alloc::Global;
 use text_core::NoMemory;
 
-fn gone() -> Tree
+/// What a move leaves.
+pub fn gone() -> Tree
     ensures { result ≡ Gone }
 {
     Tree {

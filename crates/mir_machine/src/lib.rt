@@ -3,18 +3,21 @@
 
 mod args;
 mod arithmetic;
+mod ends;
 mod entry;
 mod frame;
 mod halt;
 mod laws;
 mod machine;
-mod next;
-mod operands;
+mod memory;
 mod outcome;
 mod run_error;
 mod running;
 mod scalar;
 mod spot;
+mod statements;
+mod steps;
+mod taken;
 mod tree;
 
 pub use args::Args;

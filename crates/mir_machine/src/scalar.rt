@@ -1,12 +1,11 @@
 ghost use Rattle.std.specs.Prelude.{◌≡◌, ◌≢◌};
 ghost use Rattle.mir_machine.specs.Halt.{Comes};
-ghost use Rattle.mir_machine.specs.FrameStep.{scalar};
-ghost use Rattle.mir_machine.specs.ScalarView.{scalar_tree};
+ghost use Rattle.mir_machine.specs.ScalarView.{scalar, scalar_tree};
 
 use crate::halt::Halt;
 use crate::tree::{Tree, TreeNode};
 
-/// An operand of an operator, which is taken without memory.
+/// An operand of an operator.
 #[derive(Clone, Copy)]
 pub enum Scalar {
     Int(i128),

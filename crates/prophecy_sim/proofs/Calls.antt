@@ -15,7 +15,7 @@ use Rattle.logic_term.proofs.Truth.{Exactly}
 use Rattle.mir_ir.specs.declared.place.Operand.{Operand}
 use Rattle.mir_ir.specs.declared.body.Body.{Body}
 use Rattle.mir_machine.specs.Try.{Try, Yields, ◌>>=◌}
-use Rattle.mir_machine.specs.FrameStep.{take_operand, take_operands}
+use Rattle.mir_machine.proofs.Locals.{take_operand, take_operands}
 use Rattle.mir_machine.specs.Good.{Each}
 use Rattle.mir_machine.proofs.Shown.{Shows, Store, Agrees, Leaves, operand_value, operand-shows}
 use Rattle.mir_machine.proofs.Tried.{Quiet, quiet_then}

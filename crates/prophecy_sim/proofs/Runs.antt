@@ -46,8 +46,9 @@ use Rattle.mir_ir.specs.WellFormed.{OperandHas, EndIsTyped, IsTyped, Locals, Wit
 use Rattle.mir_machine.specs.Try.{Yields, ◌>>=◌, need}
 use Rattle.mir_machine.specs.Tree.{Truth}
 use Rattle.mir_machine.specs.Frame.{Frame}
+use Rattle.mir_machine.specs.Depth.{frame_block}
 use Rattle.mir_machine.specs.Step.{truth_of, callee_frame, entered}
-use Rattle.mir_machine.specs.FrameStep.{Left, local_tree, take_operand, run_local, FrameEnd, Stays, Calls, Answers, starting, frame_end, frame_row, frame_step, take_operands, put_local, frame_block, resumed_at, resumed}
+use Rattle.mir_machine.proofs.Locals.{Left, local_tree, take_operand, run_local, FrameEnd, Stays, Calls, Answers, starting, frame_end, frame_row, frame_step, take_operands, put_local, resumed_at, resumed}
 use Rattle.mir_machine.proofs.NeverStuck.{Fits, Keeps, fits_within, take_goes, get_past, AreShaped, AreArguments, operands_go, put_goes, local_goes, Shape}
 use Rattle.mir_machine.proofs.Shown.{Shows, Store, Agrees, Leaves, operand_value, operand-shows, local-shows, stored, agrees_set}
 use Rattle.mir_machine.proofs.Tried.{Quiet, quiet_then, quiet_need}

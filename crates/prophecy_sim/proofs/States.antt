@@ -16,9 +16,9 @@ use Rattle.prophecy_sim.specs.Programs.{Program, AreFunctions, Reaches, by_call,
 use Rattle.prophecy_sim.proofs.Values.{T}
 use Rattle.prophecy_sim.proofs.Arguments.{values_of}
 use Rattle.mir_machine.specs.Try.{Try, Yields, Panics, Sticks}
-use Rattle.mir_machine.specs.FrameStep.{FrameEnd, Stays, Calls, Answers, frame_step, settled, resumed}
+use Rattle.mir_machine.proofs.Locals.{FrameEnd, Stays, Calls, Answers, frame_step, settled, resumed}
 use Rattle.mir_machine.proofs.Tried.{Quiet, quiet_then}
-use Rattle.mir_machine.proofs.Wholes.{try_step-whole, come_back-whole}
+use Rattle.mir_machine.proofs.Locals.{try_step-whole, come_back-whole}
 use Rattle.prophecy_sim.proofs.Runs.{Standing, IsAnswer, GoesOn, EndsFine, frame_comes}
 use Rattle.prophecy_sim.proofs.Begins.{begins}
 use Rattle.mir_ir.specs.declared.body.Bodies.{Bodies}

@@ -16,7 +16,7 @@ use Rattle.mir_ir.specs.declared.statement.StatementKind.TheVariants.{Assign, De
 use Rattle.mir_ir.specs.declared.body.Body.{Body}
 use Rattle.mir_ir.specs.WellFormed.{with, StatementIsTyped, IsTyped, Locals, without, taken, all_taken, evaluated, CanRun, run}
 use Rattle.mir_machine.specs.Try.{Try, Yields, Panics, Sticks}
-use Rattle.mir_machine.specs.FrameStep.{run_local}
+use Rattle.mir_machine.proofs.Locals.{run_local}
 use Rattle.mir_machine.proofs.NeverStuck.{Fits, run_goes}
 use Rattle.mir_machine.proofs.Shown.{Store, Agrees, stored, rvalue_value, assign-shows, dead-shows}
 use Rattle.mir_machine.proofs.Tried.{Goes, Quiet, quiet_weaker}
