@@ -115,7 +115,8 @@ fn range_adds_two_hypotheses(rt: HostRuntime) -> Result<(), Fail> {
     let tables = Tables::new(alloc);
     let kernel = second(alloc, &obligation, &tables, &Step::Range(X))?;
     let q = kernel.first().ok_or("closed")?;
-    assert!(rt; q.hypothesis(Label2 { step: 2, part: 2 }).is_some());
+    let bound = q.hypothesis(alloc, Label2 { step: 2, part: 2 })?;
+    assert!(rt; bound.is_some());
     Ok(())
 }
 
