@@ -1,6 +1,6 @@
 ghost use Rattle.std.specs.Prelude.{◌≡◌, ◌+◌, ◌<◌, IfOk, OnOk};
 
-use logic_term::{Goal, Label2, Obligation, Term, Ty};
+use logic_term::{Context, Entry, Goal, Label2, Obligation, Term, Ty};
 use proof_kernel::{Kernel, Multiple, Reference, Step, StepError, Tables};
 use source_kinds::IntKind;
 use std::alloc::Global;
@@ -85,6 +85,23 @@ fn lin(alloc: Global, by: i128) -> Result<Step, NoMemory> {
 fn a_whole_proof(rt: HostRuntime) -> Result<(), Fail> {
     let alloc = rt.alloc();
     let obligation = below_gives(alloc, is_below(alloc, 100)?)?;
+    let tables = Tables::new(alloc);
+    let mut kernel = Kernel::new(alloc, &obligation, &tables)?;
+    let intro = Step::Intro(Items::from_slice(alloc, &[Y])?);
+    apply(&mut kernel, alloc, &intro)?;
+    apply(&mut kernel, alloc, &Step::Hyp(Label2 { step: 1, part: 1 }))?;
+    assert!(rt; kernel.closed());
+    Ok(())
+}
+
+#[test]
+fn an_entry_is_a_hypothesis(rt: HostRuntime) -> Result<(), Fail> {
+    let alloc = rt.alloc();
+    let context = Context::new(alloc)?;
+    let context = context.and(alloc, Entry::Variable(X, Ty::int(IntKind::I32)))?;
+    let context = context.and(alloc, Entry::Known(is_below(alloc, 100)?))?;
+    let mut obligation = obligation(alloc, Term::truth(alloc, true)?)?;
+    obligation.goal = Goal::new(context, is_below(alloc, 100)?);
     let tables = Tables::new(alloc);
     let mut kernel = Kernel::new(alloc, &obligation, &tables)?;
     let intro = Step::Intro(Items::from_slice(alloc, &[Y])?);
