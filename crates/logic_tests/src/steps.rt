@@ -1,7 +1,7 @@
 ghost use Rattle.std.specs.Prelude.{◌≡◌, ◌+◌, ◌<◌, IfOk, OnOk};
 
 use crate::written::{X, Y, term};
-use logic_term::{Goal, Label2, Obligation, Term, Ty};
+use logic_term::{Context, Entry, Goal, Label2, Obligation, Term, Ty};
 use proof_kernel::{Kernel, Multiple, Reference, Step, StepError, Tables};
 use source_kinds::IntKind;
 use std::alloc::Global;
@@ -86,6 +86,23 @@ fn a_whole_proof(rt: HostRuntime) -> Result<(), Fail> {
 }
 
 #[test]
+fn an_entry_is_a_hypothesis(rt: HostRuntime) -> Result<(), Fail> {
+    let alloc = rt.alloc();
+    let context = Context::new(alloc)?;
+    let context = context.and(alloc, Entry::Variable(X, Ty::int(IntKind::I32)))?;
+    let context = context.and(alloc, Entry::Known(term(alloc, b"<@xc")?))?;
+    let mut obligation = obligation(alloc, Term::truth(alloc, true)?)?;
+    obligation.goal = Goal::new(context, term(alloc, b"<@xc")?);
+    let tables = Tables::new(alloc);
+    let mut kernel = Kernel::new(alloc, &obligation, &tables)?;
+    let intro = Step::Intro(Items::from_slice(alloc, &[Y])?);
+    apply(&mut kernel, alloc, &intro)?;
+    apply(&mut kernel, alloc, &Step::Hyp(Label2 { step: 1, part: 1 }))?;
+    assert!(rt; kernel.closed());
+    Ok(())
+}
+
+#[test]
 fn split_leaves_two(rt: HostRuntime) -> Result<(), Fail> {
     let alloc = rt.alloc();
     let obligation = below_gives(alloc, b"&<@xc<@xe")?;
@@ -105,7 +122,8 @@ fn range_adds_two_hypotheses(rt: HostRuntime) -> Result<(), Fail> {
     let tables = Tables::new(alloc);
     let kernel = second(alloc, &obligation, &tables, &Step::Range(X))?;
     let q = kernel.first().ok_or("closed")?;
-    assert!(rt; q.hypothesis(Label2 { step: 2, part: 2 }).is_some());
+    let bound = q.hypothesis(alloc, Label2 { step: 2, part: 2 })?;
+    assert!(rt; bound.is_some());
     Ok(())
 }
 

@@ -1,5 +1,5 @@
 -- Taking off what leads a goal.
-use Rattle.std.proofs.Common.{◌≡◌, ℕ, ◌+◌, ◌<◌, ◌≤◌, Bool, true, false, List, [], ◌∷◌, length, get_or, drop, drop-cons, Some, None, refl, sym, ◌∙◌, ap, subst, add-one, arith}
+use Rattle.std.proofs.Common.{◌≡◌, ℕ, ◌+◌, ◌<◌, ◌≤◌, Bool, true, false, List, [], ◌∷◌, length, get_or, drop, drop-cons, Some, None, refl, sym, ◌∙◌, ap, ap₂, subst, add-one, arith, true≢false}
 use Rattle.std.proofs.lemmas.List.{drop_all}
 use Rattle.std.specs.Prelude.{◌↔◌, Option, Result, Ok, Err, IfOk, MatchOption}
 use Rattle.text_core.specs.declared.name.Name.{Name}
@@ -8,11 +8,14 @@ use Rattle.logic_term.specs.declared.subst.Renaming.{Renaming}
 use Rattle.logic_term.specs.Canonical.{is_one_of, above_free}
 use Rattle.logic_term.specs.Free.{free}
 use Rattle.logic_term.specs.Subst.{renamed}
-use Rattle.logic_term.specs.Term.{Term, is_implication, is_quantified}
+use Rattle.logic_term.specs.Term.{Term, two, implies, is_implication, is_quantified}
+use Rattle.logic_term.specs.TermOperator.{binary_operator}
+use Rattle.logic_term.specs.declared.kinds.TermBinary.{TermBinary}
+use Rattle.logic_term.specs.declared.kinds.TermBinary.TheVariants.{Implies}
 use Rattle.logic_term.proofs.CanonicalLaw.{free_below}
 use Rattle.proof_kernel.specs.Sequent.{Sequent}
-use Rattle.proof_kernel.specs.Rules.{with_goal, IsNew, AreNew, TakesOff, TakesSome, Intros}
-use Rattle.proof_kernel.specs.Intro.{taken}
+use Rattle.proof_kernel.specs.Rules.{label, with_goal, IsNew, AreNew, TakesOff, TakesSome, Intros}
+use Rattle.proof_kernel.specs.Intro.{assuming, taken}
 use Rattle.proof_kernel.proofs.Taken.{other_ends, none_left, takes_off_computed, computed_takes_off}
 
 -- ---- names that are new
@@ -46,6 +49,18 @@ pub record Taking (s : ℕ) (names : List Name) (first : Sequent) (used k : ℕ)
   pub within : used ≤ length names
   pub same : taken s 1 names [] first.goal first ≡ taken s k (drop used names) bound t q
   pub ends : leads ≡ false → (is_implication t ≡ false) × (used < length names → is_quantified t ≡ false)
+
+pub premise_leads : (op : TermBinary) (t a b : Term) → op ≡ Implies → two (binary_operator op) a b ≡ t → t ≡ implies a b
+premise_leads op t a b is e = sym e ∙ ap (λ o. two (binary_operator o) a b) is
+
+-- one more premise is taken off
+pub premise_taken : (s : ℕ) (names : List Name) (first : Sequent) (used k j : ℕ) (bound more : List Renaming) (t a b : Term) (q r : Sequent) (leads on : Bool) → Taking s names first used k bound t q leads → t ≡ implies a b
+    → r ≡ assuming q (label s k) (renamed bound a) → more ≡ bound → j ≡ k + 1 → on ≡ true → Taking s names first used j more b r on
+premise_taken s names first used k j bound more t a b q r leads on h is assumes same next goes_on = record {
+  within = h.within;
+  same = h.same ∙ ap (λ g. taken s k (drop used names) bound g q) is ∙ ap₂ (λ i p. taken s i (drop used names) bound b p) (sym (next ∙ add-one k)) (sym assumes) ∙ ap (λ bs. taken s j (drop used names) bs b r) (sym same);
+  ends = λ e. absurd (true≢false (sym goes_on ∙ e));
+}
 
 -- a name is left, and nothing leads for which it could be: so no result is
 pub none_taken : (s : ℕ) (names : List Name) (first : Sequent) (used k : ℕ) (bound : List Renaming) (t : Term) (q : Sequent) (leads : Bool) (d : Name) → Taking s names first used k bound t q leads → leads ≡ false → used < length names

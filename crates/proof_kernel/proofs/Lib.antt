@@ -22,6 +22,7 @@ pub mod LocalLaw
 pub mod Monomials
 pub mod Once
 pub mod OpenedLaw
+pub mod OpenedStart
 pub mod OpenedTaken
 pub mod Operands
 pub mod PolynomialSteps

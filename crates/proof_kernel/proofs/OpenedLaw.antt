@@ -2,13 +2,11 @@
 use Rattle.std.proofs.Common.{◌≡◌, ℕ, zero, suc, ◌+◌, ◌-◌, ◌<◌, ◌≤◌, ◌==◌, ◌&&◌, ◌||◌, Bool, true, false, List, [], ◌∷◌, ◌++◌, Option, Some, None, length, get_or, drop, drop-cons, add-one, append_assoc, append-nil, refl, sym, ◌∙◌, ap, ap₂, arith}
 use Rattle.std.proofs.lemmas.List.{drop_all}
 use Rattle.logic_term.specs.declared.subst.Renaming.{Renaming}
-use Rattle.std.specs.Prelude.{if◌then◌else◌}
 use Rattle.std.proofs.lemmas.Bool.Decides.{nat_tests}
 use Rattle.text_core.specs.declared.name.Name.{Name}
 use Rattle.logic_term.specs.declared.context.Entry.{Entry}
 use Rattle.logic_term.specs.declared.context.Entry.TheVariants.{Variable, Known}
 use Rattle.logic_term.specs.declared.kinds.Label2.{Label2}
-use Rattle.logic_term.specs.Canonical.{above_free}
 use Rattle.logic_term.specs.Free.{free}
 use Rattle.logic_term.specs.Term.{Term}
 use Rattle.proof_kernel.specs.Opened.{count_known, known_under, opened_hypotheses, renames_from}

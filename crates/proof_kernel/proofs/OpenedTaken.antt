@@ -1,20 +1,18 @@
 -- Numbered entries, taken off at once.
-use Rattle.std.proofs.Common.{◌≡◌, ℕ, zero, suc, ◌+◌, ◌<◌, ◌≤◌, List, [], ◌∷◌, ◌++◌, length, get_or, drop, drop-cons, add-one, refl, sym, ◌∙◌, ap, ap₂, arith}
+use Rattle.std.proofs.Common.{◌≡◌, ℕ, zero, suc, ◌+◌, ◌<◌, List, [], ◌∷◌, ◌++◌, length, get_or, drop, drop-cons, add-one, refl, sym, ◌∙◌, ap, ap₂, arith}
 use Rattle.std.specs.Prelude.{zip}
 use Rattle.std.proofs.lemmas.List.{length-append}
 use Rattle.text_core.specs.declared.name.Name.{Name}
 use Rattle.logic_term.specs.declared.context.Entry.{Entry}
 use Rattle.logic_term.specs.declared.context.Entry.TheVariants.{Variable, Known}
-use Rattle.logic_term.specs.declared.kinds.Label2.{Label2}
-use Rattle.logic_term.specs.declared.subst.Renaming.{Renaming}
-use Rattle.logic_term.specs.Context.{closed, count_variables, numbered, numbered_term}
+use Rattle.logic_term.specs.Context.{count_variables, numbered_term}
 use Rattle.logic_term.specs.Term.{Term, implies, forall}
 use Rattle.logic_term.specs.Ty.{Ty}
 use Rattle.proof_kernel.specs.Intro.{taken}
 use Rattle.proof_kernel.specs.Opened.{sorts_in, count_known, renames_from, opened_hypotheses, opened_sequent, EntriesAreTakenOff}
 use Rattle.proof_kernel.specs.Sequent.{Sequent}
 
-zip_none : (names : List Name) (ss : List Ty) → ss ≡ [] → zip names ss ≡ []
+pub zip_none : (names : List Name) (ss : List Ty) → ss ≡ [] → zip names ss ≡ []
 zip_none [] ss e = refl
 zip_none (x ∷ xs) [] e = refl
 zip_none (x ∷ xs) (s ∷ ss) e = absurd (cc)
@@ -24,7 +22,7 @@ zip_more [] ss t d l = absurd (omega arith)
 zip_more (x ∷ xs) [] t d l = ap (λ ps. (x, t) ∷ ps) (zip_none xs [] refl)
 zip_more (x ∷ xs) (s ∷ ss) t d l = ap (λ ps. (x, s) ∷ ps) (zip_more xs ss t d (omega arith))
 
-sorts_length : (es : List Entry) → length (sorts_in es) ≡ count_variables es
+pub sorts_length : (es : List Entry) → length (sorts_in es) ≡ count_variables es
 sorts_length [] = refl
 sorts_length (Variable x s ∷ es) = length-append (sorts_in es) (s ∷ []) ∙ add-one (length (sorts_in es)) ∙ ap suc (sorts_length es)
 sorts_length (Known a ∷ es) = sorts_length es

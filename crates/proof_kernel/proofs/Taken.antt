@@ -1,5 +1,5 @@
 -- What leads a goal, taken off one lead after the other; this gives exactly what the relation says.
-use Rattle.std.proofs.Common.{◌≡◌, ℕ, suc, ◌+◌, false, List, [], ◌∷◌, ◌++◌, map, length, Option, Some, None, refl, sym, ◌∙◌, ap, ap₂, add-one, append_assoc, append-nil, true≢false}
+use Rattle.std.proofs.Common.{◌≡◌, ℕ, suc, ◌+◌, false, List, [], ◌∷◌, ◌++◌, map, length, Some, None, refl, sym, ◌∙◌, ap, ap₂, add-one, append_assoc, append-nil, true≢false}
 use Rattle.std.specs.List.{enumerate_from}
 use Rattle.text_core.specs.declared.name.Name.{Name}
 use Rattle.logic_term.specs.declared.kinds.Label2.{Label2}
@@ -26,7 +26,7 @@ none_left s k bound t q e = refl
 
 -- ---- what the relation says, where some is taken off already
 
-abbrev sequent : List (Name × Ty) → List (Label2 × Term) → Term → Sequent
+abbrev pub sequent : List (Name × Ty) → List (Label2 × Term) → Term → Sequent
 sequent vs hs t = record { vars = vs; hyps = hs; goal = t }
 
 same_sequent : {us vs : List (Name × Ty)} {gs hs : List (Label2 × Term)} {a b : Term} → us ≡ vs → gs ≡ hs → a ≡ b → Some (sequent us gs a) ≡ Some (sequent vs hs b)

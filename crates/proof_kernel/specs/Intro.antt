@@ -1,5 +1,5 @@
 -- What is seen of names, and what is added to a sequent, while what leads the goal is taken off.
-use Rattle.std.specs.Prelude.{◌≡◌, ℕ, suc, ◌≤◌, false, List, [], ◌∷◌, ◌++◌, Option, Some, None}
+use Rattle.std.specs.Prelude.{◌≡◌, ℕ, suc, ◌≤◌, false, List, [], ◌∷◌, ◌++◌, length, drop, Option, Some, None}
 use Rattle.text_core.specs.declared.name.Name.{Name}
 use Rattle.logic_term.specs.declared.kinds.Label2.{Label2}
 use Rattle.logic_term.specs.Free.{free}
@@ -35,3 +35,8 @@ taken s k names bound (apply implied ts) q = None
 taken s k names bound (bind every y t b) q =
     by_names names (Some (with_goal q (renamed bound (forall y t b)))) (λ x others. taken s k others (bound ++ record { from = y; to = x } ∷ []) b (declaring q x t))
 taken s k names bound t q = by_names names (Some (with_goal q (renamed bound t))) (λ x others. None)
+
+-- with as many of the names used, what is left to be taken off gives what the whole gives
+pub record TakesOn (s : ℕ) (names : List Name) (first : Sequent) (used k : ℕ) (bound : List Renaming) (t : Term) (q : Sequent) : Type 0 where
+  pub within : used ≤ length names
+  pub same : taken s 1 names [] first.goal first ≡ taken s k (drop used names) bound t q

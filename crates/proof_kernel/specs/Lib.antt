@@ -19,5 +19,6 @@ pub mod ProgressCode
 pub mod Rules
 pub mod Sequent
 pub mod SequentCode
+pub mod SequentGoalView
 pub mod Setting
 pub mod Steps

@@ -1,5 +1,5 @@
 -- The rows of the step of linear arithmetic over a table of monomials.
-use Rattle.std.specs.Prelude.{◌≡◌, ◌↔◌, ℕ, suc, ◌||◌, Bool, true, false, List, [], ◌∷◌, ◌++◌, if◌then◌else◌}
+use Rattle.std.specs.Prelude.{◌≡◌, ◌↔◌, ℕ, suc, ◌||◌, Bool, true, false, List, [], ◌∷◌, ◌++◌, Option, Some, if◌then◌else◌}
 use Rattle.proof_kernel.specs.declared.lin_arith.Part.{Part}
 use Rattle.proof_kernel.specs.declared.lin_arith.Row.{Row}
 use Rattle.proof_kernel.specs.declared.linear.Form.{Form}
@@ -7,13 +7,24 @@ use Rattle.proof_kernel.specs.declared.linear.LinAnswer.{LinAnswer}
 use Rattle.proof_kernel.specs.declared.linear.LinAnswer.TheVariants.{Closes, TooWide}
 use Rattle.proof_kernel.specs.declared.linear.Sides.{Sides}
 use Rattle.proof_kernel.specs.declared.polynomial.Summand.{Summand}
+use Rattle.logic_term.specs.Term.{Term}
 use Rattle.proof_kernel.specs.declared.step.Multiple.{Multiple}
+use Rattle.proof_kernel.specs.declared.step.Reference.{Reference}
+use Rattle.proof_kernel.specs.declared.step.Reference.TheVariants.{Goal, Hyp, Back}
+use Rattle.proof_kernel.specs.Rules.{hypothesis}
+use Rattle.proof_kernel.specs.Sequent.{Sequent}
 use Rattle.proof_kernel.specs.Polynomial.{Monomial, coefficient, opposite, polynomial, same_monomial, AddsNarrowly, IsNarrowTerm}
 use Rattle.proof_kernel.specs.Linear.{Difference, row_polynomial, row_constant, AreNarrow, Refutes}
 
 -- the difference of two borrowed terms
 abbrev pub difference : Sides → Difference
 difference s = record { upper = s.upper.now; lower = s.lower.now; gap = s.gap }
+
+-- the formula that is referred to
+abbrev pub cited : Sequent → Reference → Option Term
+cited q Goal = Some q.goal
+cited q (Hyp l) = hypothesis l q.hyps
+cited q (Back l) = hypothesis l q.hyps
 
 -- what is at least 0
 abbrev pub form_of : Difference → Form

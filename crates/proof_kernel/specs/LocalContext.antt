@@ -4,15 +4,18 @@ use Rattle.text_core.specs.declared.name.Name.{Name}
 use Rattle.logic_term.specs.declared.kinds.Label2.{Label2}
 use Rattle.logic_term.specs.Ty.{Ty}
 use Rattle.logic_term.specs.Term.{Term}
+use Rattle.proof_kernel.specs.Opened.{opened_hypotheses}
 use Rattle.proof_kernel.specs.declared.local_context.LocalEntry.{LocalEntry}
-use Rattle.proof_kernel.specs.declared.local_context.LocalEntry.TheVariants.{Variable, Hypothesis}
+use Rattle.proof_kernel.specs.declared.local_context.LocalEntry.TheVariants.{Variable, Hypothesis, Opened}
 
 abbrev pub variables_in : List LocalEntry → List (Name × Ty)
 variables_in [] = []
 variables_in (Variable x s ∷ es) = variables_in es ++ (x, s) ∷ []
 variables_in (Hypothesis l h ∷ es) = variables_in es
+variables_in (Opened o ∷ es) = variables_in es
 
 abbrev pub hypotheses_in : List LocalEntry → List (Label2 × Term)
 hypotheses_in [] = []
 hypotheses_in (Variable x s ∷ es) = hypotheses_in es
 hypotheses_in (Hypothesis l h ∷ es) = hypotheses_in es ++ (l, h) ∷ []
+hypotheses_in (Opened o ∷ es) = hypotheses_in es ++ opened_hypotheses o.step o.names o.context

@@ -48,6 +48,10 @@ opened_variables names es = zip names (sorts_in es)
 abbrev pub opened_sequent : ℕ → List Name → List Entry → Term → Sequent
 opened_sequent s names es goal = record { vars = opened_variables names es; hyps = opened_hypotheses s names es; goal = goal }
 
+-- the sequent with the known formulas, under the names, as hypotheses
+abbrev pub assuming_opened : Sequent → ℕ → List Name → List Entry → Sequent
+assuming_opened q s names es = record { vars = q.vars; hyps = q.hyps ++ opened_hypotheses s names es; goal = q.goal }
+
 -- from a goal with nothing before it, numbered entries are taken off at once, where there is a name for each variable
 abbrev pub EntriesAreTakenOff : Type 0
 EntriesAreTakenOff = (s : ℕ) (names : List Name) (es : List Entry) (φ goal : Term) → count_variables es ≤ length names

@@ -257,7 +257,7 @@ impl<'a> Kernel<'a> {
     ) -> Result<Kernel<'a>, NoMemory>
         ensures { IfOk result (λ k. k ≡ begun tables.now goal.now) }
     {
-        let q = Sequent::new(alloc, goal.goal.term(alloc)?)?;
+        let q = Sequent::whole(alloc, goal.goal.share()?)?;
         let stack = one_premise(alloc, q)?;
         let scope = Scope {
             tables,

@@ -2,7 +2,7 @@
 
 ghost use Rattle.std.specs.Prelude.{◌≡◌, ◌↔◌, ◌<◌, ◌^◌, List, [], ◌∷◌, ◌++◌, length, map, All, IfOk, OnOk, SomeIff, MatchOption, option_map};
 ghost use Rattle.proof_kernel.specs.Linear.{Difference, row_polynomial, is_math_int_var, is_integer, row_of, row_back, row_of_goal, referred, AreRows, Certifies, PassesWidth, at_least, greater, IsNarrowDifference};
-ghost use Rattle.proof_kernel.specs.LinearRows.{difference, form_of, IsNarrowGap, is_one, is_in, with_monomial, with_monomials, with_all_monomials, parts_from, row_over, IsOutcomeOf};
+ghost use Rattle.proof_kernel.specs.LinearRows.{cited, difference, form_of, IsNarrowGap, is_one, is_in, with_monomial, with_monomials, with_all_monomials, parts_from, row_over, IsOutcomeOf};
 ghost use Rattle.proof_kernel.specs.Rules.{sort_of};
 
 use crate::lin_arith::{CertAnswer, Part, Row, check_certificate};
@@ -113,27 +113,59 @@ fn row_of_goal(t: &Term) -> Option<Sides<'_>>
     }
 }
 
-fn referred(q: &Sequent, of: Reference) -> Option<Sides<'_>>
-    ensures { option_map difference result ≡ referred q.now of }
+/// The formula that is referred to; `None` where there is none.
+fn cited(alloc: Global, q: &Sequent, of: Reference) -> Result<Option<Term>, NoMemory>
+    ensures { IfOk result (λ o. o ≡ cited q.now of) }
 {
     match of {
-        Reference::Goal => row_of_goal(q.goal()),
-        Reference::Hyp(label) => row_of(q, q.hypothesis(label)?),
-        Reference::Back(label) => row_back(q, q.hypothesis(label)?),
+        Reference::Goal => Ok(Some(q.goal(alloc)?)),
+        Reference::Hyp(label) | Reference::Back(label) => q.hypothesis(alloc, label),
     }
 }
 
-/// The rows' sides; `None` where a reference gives no row.
-fn sides_of<'a>(
+/// The formulas that are referred to.
+fn all_cited(
     alloc: Global,
-    q: &'a Sequent,
+    q: &Sequent,
     multiples: &[Multiple],
-) -> Result<Option<Vec<Sides<'a>>>, NoMemory>
-    ensures { IfOk result (λ found. MatchOption found ((ds : List Difference) → ¬ AreRows q.now multiples.now ds) (λ v. AreRows q.now multiples.now (map difference v.items))) }
+) -> Result<Vec<Option<Term>>, NoMemory>
+    ensures { IfOk result (λ v. v.items ≡ map (λ m. cited q.now m.of) multiples.now) }
 {
     let mut all = Vec::new(alloc);
     for multiple in multiples {
-        match referred(q, multiple.of) {
+        all.push(cited(alloc, q, multiple.of)?)?;
+    }
+    Ok(all)
+}
+
+/// The row of a reference, from the formula that it refers to.
+fn referred<'a>(q: &Sequent, of: Reference, formula: &'a Option<Term>) -> Option<Sides<'a>>
+    requires { formula.now ≡ cited q.now of }
+    ensures { option_map difference result ≡ referred q.now of }
+{
+    match formula {
+        None => None,
+        Some(t) => match of {
+            Reference::Goal => row_of_goal(t),
+            Reference::Hyp(_) => row_of(q, t),
+            Reference::Back(_) => row_back(q, t),
+        },
+    }
+}
+
+/// The rows' sides, from the formulas that the references refer to; `None` where a reference gives no row.
+fn sides_of<'a>(
+    alloc: Global,
+    q: &Sequent,
+    multiples: &[Multiple],
+    formulas: &'a [Option<Term>],
+) -> Result<Option<Vec<Sides<'a>>>, NoMemory>
+    requires { formulas.now ≡ map (λ m. cited q.now m.of) multiples.now }
+    ensures { IfOk result (λ found. MatchOption found ((ds : List Difference) → ¬ AreRows q.now multiples.now ds) (λ v. AreRows q.now multiples.now (map difference v.items))) }
+{
+    let mut all = Vec::new(alloc);
+    for i in 0..multiples.len() {
+        match referred(q, multiples[i].of, &formulas[i]) {
             Some(sides) => all.push(sides)?,
             None => return Ok(None),
         }
@@ -316,7 +348,8 @@ pub fn certifies(alloc: Global, q: &Sequent, multiples: &[Multiple]) -> Result<L
     ensures wide { IfOk result (λ answer. (answer ≡ LinAnswer.TooWide) ↔ PassesWidth q.now multiples.now) }
     ensures fails { IfOk result (λ answer. (answer ≡ LinAnswer.Fails) ↔ (¬ Certifies q.now multiples.now × ¬ PassesWidth q.now multiples.now)) }
 {
-    match sides_of(alloc, q, multiples)? {
+    let formulas = all_cited(alloc, q, multiples)?;
+    match sides_of(alloc, q, multiples, formulas.as_slice())? {
         Some(all) => outcome(alloc, all.as_slice(), multiples),
         None => Ok(LinAnswer::Fails),
     }

@@ -1,22 +1,24 @@
 //! The local context of a sequent: its variables and its hypotheses.
-ghost use Rattle.std.specs.Prelude.{◌≡◌, ◌≤◌, ◌∷◌, [], IfOk, MatchOption, false};
-ghost use Rattle.std.specs.Option.{option_copied};
+ghost use Rattle.std.specs.Prelude.{◌≡◌, ◌↔◌, ◌≤◌, ◌∷◌, [], IfOk, IsTrue, MatchOption, Some, None, if◌then◌else◌, false};
+ghost use Rattle.std.specs.Option.{option_copied, option_or};
 ghost use Rattle.text_core.specs.declared.name.Name.{Name};
 ghost use Rattle.logic_term.specs.Canonical.{above_free};
 ghost use Rattle.proof_kernel.specs.Rules.{hypothesis, sort_of, free_in_hyps};
 ghost use Rattle.proof_kernel.specs.LocalContext.{variables_in, hypotheses_in};
 
+use crate::opened::Opened;
 use logic_term::{Label2, Sort, Term};
 use std::alloc::Global;
 use std::marker::Model;
 use std::rc::Rc;
 use text_core::{Name, NoMemory};
 
-/// A variable with its sort, or a hypothesis with its label.
+/// A variable with its sort, a hypothesis with its label, or the hypotheses of a context that was taken off under names.
 #[derive(Drop)]
 pub(crate) enum LocalEntry {
     Variable(Name, Sort),
     Hypothesis(Label2, Term),
+    Opened(Opened),
 }
 
 /// The variables and the hypotheses of a sequent, shared with the premises that have them too. Contracts see the list of the entries,
@@ -78,28 +80,50 @@ fn sort_at(entry: &LocalEntry, name: Name) -> Option<&Sort>
     }
 }
 
-/// The hypothesis of the label, where the entry is this one.
-fn hypothesis_at(entry: &LocalEntry, label: Label2) -> Option<&Term>
-    ensures { option_copied result ≡ hypothesis label (hypotheses_in (entry.now ∷ [])) }
+fn shared_if(alloc: Global, holds: bool, hyp: &Term) -> Result<Option<Term>, NoMemory>
+    ensures { IfOk result (λ o. o ≡ (if holds then Some hyp.now else None)) }
 {
-    match entry {
-        LocalEntry::Hypothesis(other, hyp)
-            if label.step == other.step && label.part == other.part => { Some(hyp) }
-        _ => None,
+    if holds {
+        let hyp = hyp.share()?;
+        Ok(Some(hyp))
+    } else {
+        Ok(None)
     }
 }
 
-/// Whether the name is free in the entry's hypothesis.
+/// The hypothesis of the label, where the entry has it.
+fn hypothesis_at(alloc: Global, entry: &LocalEntry, label: Label2) -> Result<Option<Term>, NoMemory>
+    ensures { IfOk result (λ o. o ≡ hypothesis label (hypotheses_in (entry.now ∷ []))) }
+{
+    match entry {
+        LocalEntry::Variable(_, _) => Ok(None),
+        LocalEntry::Hypothesis(other, hyp) => {
+            let same = label.step == other.step && label.part == other.part;
+            shared_if(alloc, same, hyp)
+        }
+        LocalEntry::Opened(opened) => opened.hypothesis(alloc, label),
+    }
+}
+
+/// The hypothesis of the earlier entry, where both have one.
+fn first_of(earlier: Option<Term>, later: Option<Term>) -> Option<Term>
+    ensures { result ≡ option_or earlier later }
+{
+    earlier.or(later)
+}
+
+/// Whether the name is free in the entry's hypotheses.
 fn is_free_at(alloc: Global, entry: &LocalEntry, name: Name) -> Result<bool, NoMemory>
     ensures { IfOk result (λ b. b ≡ free_in_hyps name (hypotheses_in (entry.now ∷ []))) }
 {
     match entry {
         LocalEntry::Variable(_, _) => Ok(false),
         LocalEntry::Hypothesis(_, hyp) => hyp.free_in(alloc, name),
+        LocalEntry::Opened(opened) => opened.is_free(alloc, name),
     }
 }
 
-/// A number past all names that are free in the entry's hypothesis, and at least the other number.
+/// A number past all names that are free in the entry's hypotheses, and at least the other number.
 #[tactic(auto, using(crate::proofs::IntroLaw::not_free_above))]
 fn above_entry(alloc: Global, entry: &LocalEntry, most: u64) -> Result<u64, NoMemory>
     ensures most { IfOk result (λ n. most ≤ n) }
@@ -108,6 +132,7 @@ fn above_entry(alloc: Global, entry: &LocalEntry, most: u64) -> Result<u64, NoMe
     match entry {
         LocalEntry::Variable(_, _) => Ok(most),
         LocalEntry::Hypothesis(_, hyp) => Ok(most.max(hyp.above_free(alloc)?)),
+        LocalEntry::Opened(opened) => opened.above(alloc, most),
     }
 }
 
@@ -146,6 +171,13 @@ impl LocalContext {
         }
     }
 
+    /// Whether there are no entries.
+    pub(crate) fn is_empty(&self) -> bool
+        ensures { IsTrue result ↔ (self.now ≡ []) }
+    {
+        self.last().is_none()
+    }
+
     /// The sort of the variable; `None` exactly where it is not declared.
     pub(crate) fn sort_of(&self, name: Name) -> Option<&Sort>
         ensures { option_copied result ≡ sort_of name (variables_in self.now) }
@@ -162,18 +194,17 @@ impl LocalContext {
     }
 
     /// The hypothesis of the label; `None` exactly where there is none.
-    pub(crate) fn hypothesis(&self, label: Label2) -> Option<&Term>
-        ensures { option_copied result ≡ hypothesis label (hypotheses_in self.now) }
+    pub(crate) fn hypothesis(&self, alloc: Global, label: Label2) -> Result<Option<Term>, NoMemory>
+        ensures { IfOk result (λ o. o ≡ hypothesis label (hypotheses_in self.now)) }
     {
         let mut here = self;
         let mut found = None;
         while let Some((entry, before)) = here.last() {
-            if let Some(hyp) = hypothesis_at(entry, label) {
-                found = Some(hyp);
-            }
+            let seen = hypothesis_at(alloc, entry, label)?;
+            found = first_of(seen, found);
             here = before;
         }
-        found
+        Ok(found)
     }
 
     /// Whether the name is free in a hypothesis.

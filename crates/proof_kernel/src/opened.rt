@@ -1,10 +1,10 @@
 //! What is known before the formula of a goal, as hypotheses under names. Each of them is made where it is looked up.
-ghost use Rattle.std.specs.Prelude.{◌≡◌, ◌≤◌, IfOk, false};
+ghost use Rattle.std.specs.Prelude.{◌≡◌, ◌≤◌, reverse, IfOk, false};
 ghost use Rattle.text_core.specs.declared.name.Name.{Name};
-ghost use Rattle.proof_kernel.specs.Opened.{EntriesAreTakenOff, count_known, known_under, opened_hypotheses, renames_from};
+ghost use Rattle.proof_kernel.specs.Opened.{EntriesAreTakenOff, count_known, known_under, opened_hypotheses, renames_from, sorts_in};
 ghost use Rattle.proof_kernel.specs.Rules.{hypothesis, free_in_hyps};
 
-use logic_term::{Context, Entry, Label2, Renaming, Term};
+use logic_term::{Context, Entry, Label2, Renaming, Sort, Term};
 use std::alloc::Global;
 use text_core::{Items, Name, NoMemory};
 
@@ -22,7 +22,7 @@ pub(crate) struct Opened {
 }
 
 /// How many formulas are known.
-fn count_known(context: &Context) -> Result<u32, NoMemory>
+pub(crate) fn count_known(context: &Context) -> Result<u32, NoMemory>
     ensures { IfOk result (λ n. n ≡ count_known context.now) }
 {
     let mut count: u32 = 0;
@@ -36,8 +36,23 @@ fn count_known(context: &Context) -> Result<u32, NoMemory>
     Ok(count)
 }
 
+/// The sorts of the variables, the last one first.
+pub(crate) fn sorts_of(alloc: Global, context: &Context) -> Result<Vec<Sort>, NoMemory>
+    ensures { IfOk result (λ v. reverse v.items ≡ sorts_in context.now) }
+{
+    let mut sorts = Vec::new(alloc);
+    let mut here = context;
+    while let Some((entry, before)) = here.last() {
+        if let Entry::Variable(_, sort) = entry {
+            sorts.push(sort.copy(alloc)?)?;
+        }
+        here = before;
+    }
+    Ok(sorts)
+}
+
 /// So many numbers, from 0 on, get the names at their places.
-fn renames(alloc: Global, count: u64, names: &[Name]) -> Result<Vec<Renaming>, NoMemory>
+pub(crate) fn renames(alloc: Global, count: u64, names: &[Name]) -> Result<Vec<Renaming>, NoMemory>
     ensures { IfOk result (λ v. v.items ≡ renames_from 0 count names.now) }
 {
     let mut all = Vec::new(alloc);

@@ -16,9 +16,12 @@ use text_core::{Name, NoMemory};
 pub fn is_hypothesis(alloc: Global, label: Label2, q: &Sequent) -> Result<bool, NoMemory>
     ensures { IfOk result (λ b. IsTrue b ↔ ((h : Tree) × (hypothesis label q.now.hyps ≡ Some h) × SameUpToNames h q.now.goal)) }
 {
-    match q.hypothesis(label) {
+    match q.hypothesis(alloc, label)? {
         None => Ok(false),
-        Some(h) => h.same_up_to_names(alloc, q.goal()),
+        Some(h) => {
+            let goal = q.goal(alloc)?;
+            h.same_up_to_names(alloc, &goal)
+        }
     }
 }
 
@@ -58,10 +61,11 @@ pub fn split(alloc: Global, q: &Sequent) -> Result<Option<Vec<Sequent>>, NoMemor
         (is_conjunction q.now.goal ≡ false)
         (λ premises. (is_conjunction q.now.goal ≡ true) × (premises.items ≡ map (with_goal q.now) (conjuncts q.now.goal)))) }
 {
-    if !q.goal().is_conjunction() {
+    let goal = q.goal(alloc)?;
+    if !goal.is_conjunction() {
         return Ok(None);
     }
-    let goals = conjuncts_of(alloc, q.goal())?;
+    let goals = conjuncts_of(alloc, &goal)?;
     let premises = with_each_goal(alloc, q, goals.as_slice())?;
     Ok(Some(premises))
 }

@@ -1,11 +1,15 @@
-ghost use Rattle.std.specs.Prelude.{◌≡◌, ◌↔◌, ◌++◌, ◌∷◌, [], IfOk, IsTrue, false};
+ghost use Rattle.std.specs.Prelude.{◌≡◌, ◌↔◌, ◌++◌, ◌∷◌, [], IfOk, IsTrue, MatchOption, false};
 ghost use Rattle.std.specs.Option.{option_copied};
+ghost use Rattle.logic_term.specs.Context.{IsOpened};
 ghost use Rattle.logic_term.specs.Free.{free};
 ghost use Rattle.proof_kernel.specs.Rules.{hypothesis, sort_of, free_in_hyps, with_goal};
 ghost use Rattle.proof_kernel.specs.Intro.{assuming, declaring, IsAbove};
+ghost use Rattle.proof_kernel.specs.Opened.{assuming_opened};
+ghost use Rattle.proof_kernel.specs.SequentGoalView.{goal_of};
 
 use crate::local_context::{LocalContext, LocalEntry};
-use logic_term::{Label2, Sort, Term};
+use crate::opened::Opened;
+use logic_term::{Context, Goal, Label2, Sort, Term};
 use std::alloc::Global;
 use std::marker::Model;
 use text_core::{Name, NoMemory};
@@ -15,19 +19,48 @@ use text_core::{Name, NoMemory};
 #[derive(Drop)]
 pub struct Sequent {
     context: LocalContext,
-    goal: Term,
+    goal: SequentGoal,
+}
+
+/// The goal of a sequent.
+#[derive(Drop)]
+enum SequentGoal {
+    /// That of an obligation, of which nothing is taken off.
+    Whole(Goal),
+    Made(Term),
+}
+
+impl SequentGoal {
+    fn share(&self) -> Result<SequentGoal, NoMemory>
+        ensures { IfOk result (λ g. g ≡ self.now) }
+    {
+        match self {
+            SequentGoal::Whole(goal) => Ok(SequentGoal::Whole(goal.share()?)),
+            SequentGoal::Made(term) => Ok(SequentGoal::Made(term.share()?)),
+        }
+    }
+
+    fn term(&self, alloc: Global) -> Result<Term, NoMemory>
+        ensures { IfOk result (λ t. t ≡ goal_of self.now) }
+    {
+        match self {
+            SequentGoal::Whole(goal) => goal.term(alloc),
+            SequentGoal::Made(term) => term.share(),
+        }
+    }
 }
 
 impl Model for Sequent {
     ghost use Rattle.proof_kernel.specs.Sequent.{Sequent as SequentValue};
     ghost use Rattle.proof_kernel.specs.SequentCode.{coded_sequent};
     ghost use Rattle.proof_kernel.specs.LocalContext.{variables_in, hypotheses_in};
+    ghost use Rattle.proof_kernel.specs.SequentGoalView.{goal_of};
 
     ghost Value = { SequentValue };
 
     ghost coded = { coded_sequent };
 
-    ghost view = { λ q. record { vars = variables_in q.context; hyps = hypotheses_in q.context; goal = q.goal } };
+    ghost view = { λ q. record { vars = variables_in q.context; hyps = hypotheses_in q.context; goal = goal_of q.goal } };
 }
 
 impl Sequent {
@@ -36,6 +69,16 @@ impl Sequent {
         ensures { IfOk result (λ q. q ≡ record { vars = []; hyps = []; goal = goal }) }
     {
         let context = LocalContext::new(alloc)?;
+        let goal = SequentGoal::Made(goal);
+        Ok(Sequent { context, goal })
+    }
+
+    /// The goal of an obligation, with no variable and no hypothesis.
+    pub(crate) fn whole(alloc: Global, goal: Goal) -> Result<Sequent, NoMemory>
+        ensures { IfOk result (λ q. q ≡ record { vars = []; hyps = []; goal = goal }) }
+    {
+        let context = LocalContext::new(alloc)?;
+        let goal = SequentGoal::Whole(goal);
         Ok(Sequent { context, goal })
     }
 
@@ -66,25 +109,49 @@ impl Sequent {
         Ok(Sequent { context, goal })
     }
 
+    /// The sequent with the hypotheses of what was opened.
+    pub(crate) fn assuming_opened(self, alloc: Global, opened: Opened) -> Result<Sequent, NoMemory>
+        ensures { IfOk result (λ q. q ≡ assuming_opened self opened.step opened.names opened.context) }
+    {
+        let Sequent { context, goal } = self;
+        let context = context.and(alloc, LocalEntry::Opened(opened))?;
+        Ok(Sequent { context, goal })
+    }
+
     /// The same variables and hypotheses with another goal.
     pub(crate) fn with_goal(&self, goal: Term) -> Result<Sequent, NoMemory>
         ensures { IfOk result (λ q. q ≡ with_goal self.now goal) }
     {
         let context = self.context.share()?;
+        let goal = SequentGoal::Made(goal);
         Ok(Sequent { context, goal })
     }
 
-    pub fn goal(&self) -> &Term
-        ensures { result.now ≡ self.now.goal }
+    pub fn goal(&self, alloc: Global) -> Result<Term, NoMemory>
+        ensures { IfOk result (λ t. t ≡ self.now.goal) }
     {
-        &self.goal
+        self.goal.term(alloc)
+    }
+
+    /// What stands before the formula of the goal, and the formula, both with numbers for the variables. `None` where the goal is no
+    /// obligation's, where there are variables or hypotheses, and where names are free in the goal.
+    pub(crate) fn opened(&self, alloc: Global) -> Result<Option<(Context, Term)>, NoMemory>
+        ensures { IfOk result (λ o. MatchOption o (Unit {0}) (λ p. (self.now.vars ≡ []) × (self.now.hyps ≡ []) × IsOpened self.now.goal p.0 p.1)) }
+    {
+        if !self.context.is_empty() {
+            return Ok(None);
+        }
+        match &self.goal {
+            SequentGoal::Whole(goal) => goal.opened(alloc),
+            SequentGoal::Made(_) => Ok(None),
+        }
     }
 
     /// The hypothesis of the label; `None` exactly where there is none.
-    pub fn hypothesis(&self, label: Label2) -> Option<&Term>
-        ensures { option_copied result ≡ hypothesis label self.now.hyps }
+    pub fn hypothesis(&self, alloc: Global, label: Label2) -> Result<Option<Term>, NoMemory>
+        ensures { IfOk result (λ o. o ≡ hypothesis label self.now.hyps) }
     {
-        self.context.hypothesis(label)
+        self.context.hypothesis(alloc, label)
     }
 
     /// The sort of the variable; `None` exactly where it is not declared.
@@ -98,7 +165,8 @@ impl Sequent {
     pub(crate) fn above_free(&self, alloc: Global) -> Result<u64, NoMemory>
         ensures { IfOk result (λ n. IsAbove n self.now) }
     {
-        let least = self.goal.above_free(alloc)?;
+        let goal = self.goal.term(alloc)?;
+        let least = goal.above_free(alloc)?;
         let all = self.context.above(alloc, least)?;
         Ok(all)
     }
@@ -110,7 +178,8 @@ impl Sequent {
         if self.context.is_free(alloc, name)? {
             return Ok(false);
         }
-        let is_in_goal = self.goal.free_in(alloc, name)?;
+        let goal = self.goal.term(alloc)?;
+        let is_in_goal = goal.free_in(alloc, name)?;
         Ok(!is_in_goal)
     }
 }

@@ -5,10 +5,7 @@ use text_core::{Code, PassError, SourceError};
 
 /// Declared types, each by its variants, and what they are refused for: the code, and the start of its span. Names start at 100 and so on, the
 /// types of a variant's fields at 1000 and so on.
-type Row = (
-    &'static [&'static [&'static [u8]]],
-    Option<(Code, u32)>,
-);
+type Row = (&'static [&'static [&'static [u8]]], Option<(Code, u32)>);
 
 /// `Option<T>` stands first in many rows, and `List<T> { Nil, Cons(T, Box<List<T>>) }` second where it is needed.
 const RECURSIVE: [Row; 20] = [
@@ -78,10 +75,7 @@ const NESTED: [Row; 14] = [
     // struct P<T> { q: Q<&T> } struct Q<T> { t: T } struct V { p: P<u8> }
     (&[&[b"B&0"], &[b"0"], &[b"Au"]], None),
     // struct P<T> { q: Q<&T> } struct Q<T> { t: T } struct V { p: P<&u8> }
-    (
-        &[&[b"B&0"], &[b"0"], &[b"A&u"]],
-        Some((Code::E09, 1000)),
-    ),
+    (&[&[b"B&0"], &[b"0"], &[b"A&u"]], Some((Code::E09, 1000))),
     // struct A { b: (u8, B) } struct B { a: &A }: within A a reference to an A stands
     (&[&[b"tub"], &[b"&a"]], Some((Code::E09, 1000))),
     // struct S { r: &&u8, s: S }: its fields come before itself

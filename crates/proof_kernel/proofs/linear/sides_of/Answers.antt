@@ -5,9 +5,9 @@ use Rattle.proof_kernel.proofs.linear.sides_of.Goals as goal
 
 pub returns-in-None : goal.returns-in-None
 returns-in-None c = λ ds r.
-    no_rows c.args.q.now c.args.multiples.now c.loop-multiple.multiple-index (record { by = pos 0; of = Goal }) ds c.loop-multiple-test.true (c.in-None.ensures {u = tt}) r
+    no_rows c.args.q.now c.args.multiples.now c.loop-i.i (record { by = pos 0; of = Goal }) ds c.loop-i-test.true (c.in-None.ensures {u = tt}) r
 
-pub loop-multiple-preserved : goal.loop-multiple-preserved
-loop-multiple-preserved c =
-    rows_more c.args.q.now c.args.multiples.now c.loop-multiple.multiple-index (record { by = pos 0; of = Goal }) c.loop-multiple.all.items c.push.new.self.items
-    c.in-Some.sides c.loop-multiple-test.true (c.in-Some.ensures {u = tt}) c.loop-multiple.invariant (c.in_ok-push-in-Some.ensures {u = tt}).items
+pub loop-i-preserved : goal.loop-i-preserved
+loop-i-preserved c =
+    rows_more c.args.q.now c.args.multiples.now c.loop-i.i (record { by = pos 0; of = Goal }) c.loop-i.all.items c.push.new.self.items
+    c.in-Some.sides c.loop-i-test.true (c.in-Some.ensures {u = tt}) c.loop-i.invariant (c.in_ok-push-in-Some.ensures {u = tt}).items
