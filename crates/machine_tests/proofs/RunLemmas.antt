@@ -21,7 +21,8 @@ use Rattle.mir_ir.specs.declared.statement.Statement.{Statement}
 use Rattle.mir_ir.specs.declared.body.Block.{Block}
 use Rattle.mir_ir.specs.declared.body.Body.{Body}
 use Rattle.mir_ir.specs.Body.{block_in}
-use Rattle.mir_ir.specs.WellFormed.{HasBlock, operation_ty, IsSigned, RvalueHas, StatementIsTyped, EndIsTyped, IsTyped, Locals, without, with, CanEvaluate, evaluated, CanRun, run, CanEnd, Carries, Within, parameters, IsInitialised, AreSound}
+use Rattle.mir_ir.specs.WellFormed.{HasBlock, operation_ty, IsSigned, RvalueHas, StatementIsTyped, EndIsTyped, IsTyped, Locals, without, with, Within, parameters, IsInitialised, AreSound}
+use Rattle.mir_ir.proofs.Taking.{rows_together, CanEvaluate, evaluated, CanRun, run, CanEnd, Carries}
 use Rattle.mir_machine.specs.Tree.{Tree, Int, Truth, trees_of}
 use Rattle.mir_machine.specs.Frame.{State}
 use Rattle.mir_machine.specs.Step.{whole}
@@ -95,12 +96,12 @@ body_sound bodies b sets f numbered h = (
   },
   (
     λ l i. sets l.0 i,
-    record {
+    rows_together b (λ l i. sets l.0 i) (record {
       entry = h.entry;
       statements = λ l k i st is_block is_statement. ((at l k i st is_block is_statement).1, (at l k i st is_block is_statement).2);
       ends = λ l k is_block. (found l k is_block).can_end;
       edges = λ l k is_block. (found l k is_block).carries;
-    },
+    }),
   ),
   numbered,
 )

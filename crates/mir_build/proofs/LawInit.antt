@@ -7,7 +7,8 @@ use Rattle.mir_ir.specs.declared.body.Body.{Body}
 use Rattle.mir_ir.specs.declared.statement.Statement.{Statement}
 use Rattle.mir_ir.specs.declared.terminator.TerminatorKind.TheVariants.{Return}
 use Rattle.mir_ir.specs.Body.{block_in}
-use Rattle.mir_ir.specs.WellFormed.{Locals, CanRun, run, CanEnd, Carries, Within, parameters, Labelling, MeetsMoveRows}
+use Rattle.mir_ir.specs.WellFormed.{Locals, Within, parameters, Labelling, MeetsMoveRows}
+use Rattle.mir_ir.proofs.Taking.{rows_together, CanRun, run, CanEnd, Carries}
 use Rattle.mir_build.specs.Text.{Title, Line, Open, fresh, longer, owned}
 use Rattle.mir_build.specs.Lowering.{ends}
 use Rattle.text_core.specs.declared.span.Span.{Span}
@@ -176,7 +177,7 @@ module _ (b : Body) (start : Label → Locals) (fits : EachBlock (BlockFits star
   unfolding sets
   labelling = record {
     at = sets;
-    moves = record {
+    moves = rows_together b sets (record {
       entry = entry;
       statements = λ l k i st e f. (
         subst (λ S. CanRun S st.kind) (sym (at_block l k i e)) (can_run_at k.statements i st (start l) (fit l k e).can_run f),
@@ -184,6 +185,6 @@ module _ (b : Body) (start : Label → Locals) (fits : EachBlock (BlockFits star
       );
       ends = λ l k e. subst (λ S. CanEnd S k.end.kind) (at_end l k e) (fit l k e).can_end;
       edges = λ l k e. subst (λ S. Carries start S k.end.kind) (at_end l k e) (fit l k e).carries;
-    };
+    });
     starts = λ l. refl;
   }

@@ -7,7 +7,8 @@ use Rattle.mir_ir.specs.declared.body.Head.{Head}
 use Rattle.mir_ir.specs.declared.terminator.FnId.TheVariants as fn_id
 use Rattle.mir_ir.specs.declared.terminator.Callee.TheVariants.{Function}
 use Rattle.mir_ir.specs.declared.terminator.TerminatorKind.TheVariants.{Goto, If, Call}
-use Rattle.mir_ir.specs.WellFormed.{Locals, with, CanTakeAll, all_taken, Within}
+use Rattle.mir_ir.specs.WellFormed.{Locals, with, Within}
+use Rattle.mir_ir.proofs.Taking.{CanTakeAll, all_taken}
 use Rattle.mir_build.specs.Text.{Line, Makes, Turns, Owns, made}
 use Rattle.mir_build.specs.Lowering.{numbers, Around, at, at_head, ends, copied, whole, put_unit}
 use Rattle.mir_build.proofs.Numbers.{count, labels_begun}

@@ -13,7 +13,8 @@ use Rattle.mir_ir.specs.declared.statement.StatementKind.TheVariants.{Assign, De
 use Rattle.mir_ir.specs.declared.terminator.Terminator.{Terminator}
 use Rattle.mir_ir.specs.declared.terminator.TerminatorKind.{TerminatorKind}
 use Rattle.mir_ir.specs.declared.terminator.TerminatorKind.TheVariants.{Goto, If, Call, Return}
-use Rattle.mir_ir.specs.WellFormed.{Locals, with, without, taken, CanTake, CanTakeAll, all_taken, CanEvaluate, evaluated, CanRun, run, CanEnd, Carries, Within}
+use Rattle.mir_ir.specs.WellFormed.{Locals, with, without, Within}
+use Rattle.mir_ir.proofs.Taking.{taken, CanTake, CanTakeAll, all_taken, CanEvaluate, evaluated, CanRun, run, CanEnd, Carries}
 use Rattle.mir_build.specs.Text.{Title, Line, Puts, Makes, Turns, Owns, begun}
 use Rattle.mir_build.proofs.Numbers.{count, labels_begun}
 use Rattle.mir_build.proofs.LawLists.{begun-append}

@@ -1,7 +1,7 @@
 -- Which bodies are typed, and in which each local that is read is initialised. The rules are those of the Rust Reference:
 -- "Variables" and "Move and copy types" (what is initialised), "Operator expressions" (which operands an operator takes), "Tuple
 -- expressions" (`()`), "if expressions" (the condition is a bool) and "Call expressions" (the callee's parameters and answer).
-use Rattle.std.specs.Prelude.{◌≡◌, ℕ, ◌+◌, ◌≤◌, ◌==◌, nat_lt, Bool, true, false, ◌&&◌, cond, List, [], ◌∷◌, length, take, drop, Some, slice_get}
+use Rattle.std.specs.Prelude.{◌≡◌, ℕ, ◌+◌, ◌≤◌, ◌==◌, nat_lt, Bool, true, false, ◌&&◌, cond, List, [], ◌∷◌, ◌++◌, length, take, drop, Some, slice_get}
 use Rattle.logic_term.specs.declared.kinds.Label.{Label}
 use Rattle.source_kinds.specs.declared.kinds.IntKind.{IntKind}
 use Rattle.source_kinds.specs.declared.kinds.IntKind.TheVariants.{I8, I16, I32, I64, Isize}
@@ -28,6 +28,8 @@ use Rattle.mir_ir.specs.declared.body.Body.{Body}
 use Rattle.mir_ir.specs.declared.body.Bodies.{Bodies}
 use Rattle.mir_ir.specs.Body.{block_in}
 use Rattle.mir_ir.specs.Callees.{callee_body}
+use Rattle.mir_ir.specs.Layout.{among, targets}
+use Rattle.mir_ir.specs.Acts.{Act, reads, takes, writes, dies, acts_of, acts_of_end, acts_along}
 
 -- ---- types
 
@@ -136,64 +138,30 @@ without x set y = cond (y == x) false (set y)
 abbrev pub with : ℕ → Locals → Locals
 with x set y = cond (y == x) true (set y)
 
--- the locals that the operand reads are in the set
-abbrev pub CanTake : Locals → Operand → Type 0
-CanTake set (Copy p) = set p.local ≡ true
-CanTake set (Move p) = set p.local ≡ true
-CanTake set (Const l) = Unit {0}
+-- what is copied or moved has a value
+abbrev pub CanDo : Locals → Act → Type 0
+CanDo there (reads p) = there p.local ≡ true
+CanDo there (takes p) = there p.local ≡ true
+CanDo there (writes p) = Unit {0}
+CanDo there (dies x) = Unit {0}
 
-abbrev pub taken : Operand → Locals → Locals
-taken (Copy p) set = set
-taken (Move p) set = without p.local set
-taken (Const l) set = set
+abbrev pub done : Act → Locals → Locals
+done (reads p) there = there
+done (takes p) there = without p.local there
+done (writes p) there = with p.local there
+done (dies x) there = without x there
 
--- the operands one after another, from the left
-abbrev pub CanTakeAll : Locals → List Operand → Type 0
-CanTakeAll set [] = Unit {0}
-CanTakeAll set (o ∷ os) = CanTake set o × CanTakeAll (taken o set) os
+-- one after another
+abbrev pub CanDoAll : Locals → List Act → Type 0
+CanDoAll there [] = Unit {0}
+CanDoAll there (a ∷ rest) = CanDo there a × CanDoAll (done a there) rest
 
-abbrev pub all_taken : List Operand → Locals → Locals
-all_taken [] set = set
-all_taken (o ∷ os) set = all_taken os (taken o set)
-
-abbrev pub CanEvaluate : Locals → Rvalue → Type 0
-CanEvaluate set (Use o) = CanTake set o
-CanEvaluate set (Binary op x y) = CanTake set x × CanTake (taken x set) y
-CanEvaluate set (Neg o) = CanTake set o
-CanEvaluate set (Not o) = CanTake set o
-CanEvaluate set (Make c os) = CanTakeAll set os
-
-abbrev pub evaluated : Rvalue → Locals → Locals
-evaluated (Use o) set = taken o set
-evaluated (Binary op x y) set = taken y (taken x set)
-evaluated (Neg o) set = taken o set
-evaluated (Not o) set = taken o set
-evaluated (Make c os) set = all_taken os set
-
-abbrev pub CanRun : Locals → StatementKind → Type 0
-CanRun set (Assign p r) = CanEvaluate set r
-CanRun set (Dead x) = Unit {0}
-
-abbrev pub run : StatementKind → Locals → Locals
-run (Assign p r) set = with p.local (evaluated r set)
-run (Dead x) set = without x set
-
-abbrev pub CanEnd : Locals → TerminatorKind → Type 0
-CanEnd set (Goto l) = Unit {0}
-CanEnd set (If o on_true on_false) = CanTake set o
-CanEnd set (Call p callee types os l) = CanTakeAll set os
-CanEnd set Return = set 0 ≡ true
+abbrev pub all_done : List Act → Locals → Locals
+all_done [] there = there
+all_done (a ∷ rest) there = all_done rest (done a there)
 
 abbrev pub Within : Locals → Locals → Type 0
 Within small large = (x : ℕ) → small x ≡ true → large x ≡ true
-
--- along each edge from a block's end: what is initialised where the next block starts is so at the end; after a call its place
--- is initialised too
-abbrev pub Carries : (Label → Locals) → Locals → TerminatorKind → Type 0
-Carries starts set (Goto l) = Within (starts l) set
-Carries starts set (If o on_true on_false) = Within (starts on_true) (taken o set) × Within (starts on_false) (taken o set)
-Carries starts set (Call p callee types os l) = Within (starts l) (with p.local (all_taken os set))
-Carries starts set Return = Unit {0}
 
 -- at entry exactly the parameters are initialised
 abbrev pub parameters : Body → Locals
@@ -203,12 +171,15 @@ parameters b x = nat_lt 0 x && nat_lt x (b.params + 1)
 abbrev pub Labelling : Type 0
 Labelling = Label → ℕ → Locals
 
--- the sets have only locals that are surely initialised there
+-- the sets have only locals that are surely initialised there: what a statement, an end or an edge uses is in the set before it, and what
+-- is in the set behind it is so by what it does
 pub record MeetsMoveRows (b : Body) (at : Labelling) : Type 0 where
   pub entry : Within (at b.entry 0) (parameters b)
-  pub statements : (l : Label) (k : Block) (i : ℕ) (st : Statement) → block_in b.blocks l ≡ Some k → slice_get k.statements i ≡ Some st → CanRun (at l i) st.kind × Within (at l (i + 1)) (run st.kind (at l i))
-  pub ends : (l : Label) (k : Block) → block_in b.blocks l ≡ Some k → CanEnd (at l (length k.statements)) k.end.kind
-  pub edges : (l : Label) (k : Block) → block_in b.blocks l ≡ Some k → Carries (λ l'. at l' 0) (at l (length k.statements)) k.end.kind
+  pub statements : (l : Label) (k : Block) (i : ℕ) (st : Statement) → block_in b.blocks l ≡ Some k → slice_get k.statements i ≡ Some st
+      → CanDoAll (at l i) (acts_of st.kind) × Within (at l (i + 1)) (all_done (acts_of st.kind) (at l i))
+  pub ends : (l : Label) (k : Block) → block_in b.blocks l ≡ Some k → CanDoAll (at l (length k.statements)) (acts_of_end k.end.kind)
+  pub edges : (l m : Label) (k : Block) → block_in b.blocks l ≡ Some k → among m (targets k.end.kind) ≡ true
+      → Within (at m 0) (all_done (acts_of_end k.end.kind ++ acts_along k.end.kind) (at l (length k.statements)))
 
 -- some labelling does so
 abbrev pub IsInitialised : Body → Type 0

@@ -47,7 +47,8 @@ use Rattle.mir_machine.specs.Step.{try_step, fit, divide, of_integers, of_truths
 use Rattle.mir_machine.proofs.Locals.{IsWhole, ReadsWholes, NamesWholes, AreWhole, EndNamesWholes, AllNameWholes, Left, local_tree, take_operand, take_operands, evaluate, put_local, run_local}
 use Rattle.mir_machine.proofs.Locals.{FrameEnd, Stays, Calls, Answers, starting, frame_end, frame_row, frame_step, settled, resumed_at, resumed}
 use Rattle.mir_ir.specs.WellFormed.{PlaceHas, LitHas, OperandHas, OperandsHave, operation_ty, IsEquality, OperationHas, RvalueHas, StatementIsTyped, EndIsTyped, IsTyped, Locals, without, with}
-use Rattle.mir_ir.specs.WellFormed.{CanTake, taken, CanTakeAll, all_taken, CanEvaluate, evaluated, CanRun, run, CanEnd, Carries, Within, parameters, AreSound}
+use Rattle.mir_ir.specs.WellFormed.{Within, parameters, AreSound}
+use Rattle.mir_ir.proofs.Taking.{row_by_row, CanTake, taken, CanTakeAll, all_taken, CanEvaluate, evaluated, CanRun, run, CanEnd, Carries}
 use Rattle.mir_machine.specs.Typed.{Met, Typed, AreTyped, is_int, is_truth, is_tuple, is_adt, is_closure, is_boxed, is_shared, is_unique, none_typed, more_typed}
 use Rattle.mir_machine.specs.Good.{called, IsProper}
 use Rattle.mir_machine.specs.Run.{IsSafe}
@@ -542,7 +543,7 @@ module _ {K : Type 0} (code : Code K) (sound : AreSound code.program) (f : Frame
   statement_goes st e =
       let ready = sound f.function r.body r.is_body in
       let set = ready.1.0 f.label f.statement in
-      let rows = ready.1.1.statements f.label r.block f.statement st r.is_block e in
+      let rows = (row_by_row r.body ready.1.0 ready.1.1).statements f.label r.block f.statement st r.is_block e in
       goes_then (Fits r.body f.types (run st.kind set)) Well (run_local r.body f.types f.locals st.span st.kind) (λ ls. Yields (Stays (record f { locals = ls; statement = f.statement + 1 })))
       (run_goes r.body f.types set f.locals st.span st.kind r.fitting (ready.0.statements f.label r.block f.statement st r.is_block e) rows.0)
       (λ ls h. (
@@ -618,8 +619,9 @@ module _ {K : Type 0} (code : Code K) (sound : AreSound code.program) (f : Frame
   row_goes (Some st) e = statement_goes st e
   row_goes None e =
       let ready = sound f.function r.body r.is_body in
+      let rows = row_by_row r.body ready.1.0 ready.1.1 in
       let at_end : f.statement ≡ length r.block.statements = omega (arith, get_past r.block.statements f.statement e, r.within) in
-      end_goes r.block.end.kind refl (subst (λ i. Fits r.body f.types (ready.1.0 f.label i) f.locals) at_end r.fitting) (ready.0.ends f.label r.block r.is_block) (ready.1.1.ends f.label r.block r.is_block) (ready.1.1.edges f.label r.block r.is_block)
+      end_goes r.block.end.kind refl (subst (λ i. Fits r.body f.types (ready.1.0 f.label i) f.locals) at_end r.fitting) (ready.0.ends f.label r.block r.is_block) (rows.ends f.label r.block r.is_block) (rows.edges f.label r.block r.is_block)
 
 pub frame_goes : {K : Type 0} (code : Code K) (sound : AreSound code.program) (f : Frame K) → Ready code.program sound f → Goes (EndsWell code.program sound f.function) (frame_step code f)
 frame_goes {K} code sound f r =
@@ -640,7 +642,7 @@ resumed_goes {K} bodies sound f n t w (c, is_callee, shape) =
     let end_set : Locals = both.1.0 f.label (length w.block.statements) in
     let found : frame_block bodies f ≡ Some w.block = ap (option_and_then (λ b. block_in b.blocks f.label)) w.is_body ∙ w.is_block in
     let typed : EndIsTyped bodies w.body (Call p (Function (fn_id.Body n)) types os l) = subst (EndIsTyped bodies w.body) w.calls (both.0.ends f.label w.block w.is_block) in
-    let carries : Carries starts end_set (Call p (Function (fn_id.Body n)) types os l) = subst (Carries starts end_set) w.calls (both.1.1.edges f.label w.block w.is_block) in
+    let carries : Carries starts end_set (Call p (Function (fn_id.Body n)) types os l) = subst (Carries starts end_set) w.calls ((row_by_row w.body both.1.0 both.1.1).edges f.label w.block w.is_block) in
     let Fine : Frame K → Type 0 = λ g. Ready bodies sound g × (g.function ≡ f.function) in
     subst (λ (o : Option Block). Goes Fine (need o >>= λ k. resumed_at t f k.end.kind)) (sym found)
     (subst (λ end. Goes Fine (resumed_at t f end)) (sym w.calls) (with_typed typed carries))

@@ -33,7 +33,8 @@ use Rattle.mir_ir.specs.declared.statement.Rvalue.TheVariants.{Use, Binary, Neg,
 use Rattle.mir_ir.specs.declared.statement.StatementKind.TheVariants.{Assign}
 use Rattle.mir_ir.specs.declared.body.Body.{Body}
 use Rattle.mir_ir.specs.Body.{whole, place_ty, kind_of, kind_in}
-use Rattle.mir_ir.specs.WellFormed.{PlaceHas, OperandHas, operation_ty, IsEquality, OperationHas, RvalueHas, Locals, CanTake, CanEvaluate, IsTyped}
+use Rattle.mir_ir.specs.WellFormed.{PlaceHas, OperandHas, operation_ty, IsEquality, OperationHas, RvalueHas, Locals, IsTyped}
+use Rattle.mir_ir.proofs.Taking.{CanTake, CanEvaluate}
 use Rattle.mir_machine.specs.Step.{same_truth}
 use Rattle.mir_machine.proofs.NeverStuck.{Fits}
 use Rattle.mir_machine.proofs.Shown.{Store, Agrees, operand_value, operation_value, applied, IsInRange, InKind, opposite, rvalue_value, RvalueIsInRange}

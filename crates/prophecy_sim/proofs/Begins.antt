@@ -16,7 +16,8 @@ use Rattle.logic_term.proofs.Alike.{yes_alike}
 use Rattle.logic_term.proofs.FreeLaw.{coincide_free}
 use Rattle.logic_term.proofs.CanonicalLaw.{reduced_means}
 use Rattle.mir_ir.specs.declared.body.Body.{Body}
-use Rattle.mir_ir.specs.WellFormed.{IsTyped, taken, Labelling, MeetsMoveRows}
+use Rattle.mir_ir.specs.WellFormed.{IsTyped, Labelling, MeetsMoveRows}
+use Rattle.mir_ir.proofs.Taking.{RowByRow, row_by_row, taken}
 use Rattle.mir_machine.specs.Frame.{Frame}
 use Rattle.mir_machine.specs.Step.{entered}
 use Rattle.mir_machine.specs.Good.{Each, named}
@@ -82,8 +83,8 @@ module _ (Θ : Theory) (program : Program) (labelling : ℕ → Labelling) (func
   abbrev initialised : Labelling
   initialised = labelling fn
 
-  abbrev move_rows : MeetsMoveRows b initialised
-  move_rows = own.moves
+  abbrev move_rows : RowByRow b initialised
+  move_rows = row_by_row b initialised own.moves
 
   abbrev param_list : List Ty
   param_list = take b.params (drop 1 b.locals)

@@ -21,7 +21,8 @@ use Rattle.mir_machine.proofs.Shown.{Shows, Store, Agrees, Leaves, operand_value
 use Rattle.mir_machine.proofs.Tried.{Quiet, quiet_then}
 use Rattle.wp_gen.specs.Walk.{entries, all_at}
 use Rattle.wp_gen.proofs.Commands.{GoalsHold}
-use Rattle.mir_ir.specs.WellFormed.{OperandsHave, Locals, taken, CanTakeAll, IsTyped}
+use Rattle.mir_ir.specs.WellFormed.{OperandsHave, Locals, IsTyped}
+use Rattle.mir_ir.proofs.Taking.{taken, CanTakeAll}
 use Rattle.mir_machine.specs.Good.{named}
 use Rattle.logic_term.proofs.Coincide.{with_same}
 use Rattle.logic_term.specs.Theory.{Theory}

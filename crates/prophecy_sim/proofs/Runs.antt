@@ -42,7 +42,8 @@ use Rattle.mir_ir.specs.declared.body.Block.{Block}
 use Rattle.mir_ir.specs.declared.body.Body.{Body}
 use Rattle.mir_ir.specs.declared.body.Head.{Head}
 use Rattle.mir_ir.specs.Body.{block_in, answer_ty}
-use Rattle.mir_ir.specs.WellFormed.{OperandHas, EndIsTyped, IsTyped, Locals, Within, taken, CanTake, CanEnd, Carries, run, OperandsHave, PlaceHas, CanTakeAll, all_taken, with, Labelling, MeetsMoveRows}
+use Rattle.mir_ir.specs.WellFormed.{OperandHas, EndIsTyped, IsTyped, Locals, Within, OperandsHave, PlaceHas, with, Labelling, MeetsMoveRows}
+use Rattle.mir_ir.proofs.Taking.{RowByRow, row_by_row, taken, CanTake, CanEnd, Carries, run, CanTakeAll, all_taken}
 use Rattle.mir_machine.specs.Try.{Yields, ◌>>=◌, need}
 use Rattle.mir_machine.specs.Tree.{Truth}
 use Rattle.mir_machine.specs.Frame.{Frame}
@@ -146,8 +147,8 @@ module _ (Θ : Theory) (program : Program) (labelling : ℕ → Labelling) (func
   abbrev initialised : Labelling
   initialised = labelling fn
 
-  abbrev move_rows : MeetsMoveRows b initialised
-  move_rows = own.moves
+  abbrev move_rows : RowByRow b initialised
+  move_rows = row_by_row b initialised own.moves
 
   -- the names outside of the body have the values that they had at the entry
   abbrev pub KeepsOutside : Env → Type 0

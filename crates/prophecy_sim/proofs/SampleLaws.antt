@@ -24,7 +24,8 @@ use Rattle.mir_ir.specs.declared.body.Body.{Body}
 use Rattle.mir_ir.specs.declared.body.Head.{Head}
 use Rattle.mir_ir.specs.Body.{block_in}
 use Rattle.mir_ir.specs.Layout.{among, targets, Leads, on, back}
-use Rattle.mir_ir.specs.WellFormed.{HasBlock, StatementIsTyped, EndIsTyped, IsTyped, Locals, with, CanRun, run, CanEnd, Carries, Within, parameters, Labelling, MeetsMoveRows}
+use Rattle.mir_ir.specs.WellFormed.{HasBlock, StatementIsTyped, EndIsTyped, IsTyped, Locals, with, Within, parameters, Labelling, MeetsMoveRows}
+use Rattle.mir_ir.proofs.Taking.{rows_together, CanRun, run, CanEnd, Carries}
 use Rattle.wp_gen.specs.Row.{value_name}
 use Rattle.wp_gen.specs.Walk.{is_gone, statement, goto, branch, call, return, plain, first, again}
 use Rattle.prophecy_sim.specs.Programs.{IsScalar, IsSimple, HeadsSpeakOf, AreFunctions, HasTrueObligations, setting, IsFunction}
@@ -112,12 +113,12 @@ module _ (b : Body) (sets : ℕ → ℕ → Locals) (blocks_sound : EachBlock (B
   }
 
   moves_of : Within (sets b.entry.0 0) (parameters b) → MeetsMoveRows b (by_number sets)
-  moves_of entry = record {
+  moves_of entry = rows_together b (by_number sets) (record {
     entry = entry;
     statements = λ l k i st is at. ((statement_sound l k i st is at).1, (statement_sound l k i st is at).2);
     ends = λ l k is. (sound_at l k is).can_end;
     edges = λ l k is. (sound_at l k is).carries;
-  }
+  })
 
 -- both locals
 abbrev both : Locals

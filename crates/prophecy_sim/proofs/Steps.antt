@@ -14,7 +14,8 @@ use Rattle.mir_ir.specs.declared.statement.Rvalue.TheVariants.{Use, Binary, Neg,
 use Rattle.mir_ir.specs.declared.statement.StatementKind.{StatementKind}
 use Rattle.mir_ir.specs.declared.statement.StatementKind.TheVariants.{Assign, Dead}
 use Rattle.mir_ir.specs.declared.body.Body.{Body}
-use Rattle.mir_ir.specs.WellFormed.{with, StatementIsTyped, IsTyped, Locals, without, taken, all_taken, evaluated, CanRun, run}
+use Rattle.mir_ir.specs.WellFormed.{with, StatementIsTyped, IsTyped, Locals, without}
+use Rattle.mir_ir.proofs.Taking.{taken, all_taken, evaluated, CanRun, run}
 use Rattle.mir_machine.specs.Try.{Try, Yields, Panics, Sticks}
 use Rattle.mir_machine.proofs.Locals.{run_local}
 use Rattle.mir_machine.proofs.NeverStuck.{Fits, run_goes}

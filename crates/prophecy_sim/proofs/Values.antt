@@ -16,7 +16,8 @@ use Rattle.mir_ir.specs.declared.place.Lit.TheVariants as lit
 use Rattle.mir_ir.specs.declared.place.Operand.{Operand}
 use Rattle.mir_ir.specs.declared.place.Operand.TheVariants.{Copy, Move, Const}
 use Rattle.mir_ir.specs.declared.body.Body.{Body}
-use Rattle.mir_ir.specs.WellFormed.{OperandHas, Locals, CanTake, taken, IsTyped}
+use Rattle.mir_ir.specs.WellFormed.{OperandHas, Locals, IsTyped}
+use Rattle.mir_ir.proofs.Taking.{CanTake, taken}
 use Rattle.mir_machine.specs.Tree.{Tree}
 use Rattle.mir_machine.proofs.NeverStuck.{Shape, Fits}
 use Rattle.mir_machine.proofs.Shown.{Shows, Store, Agrees, operand_value}
