@@ -6,6 +6,7 @@ pub mod Fields
 pub mod Grow
 pub mod Growth
 pub mod Lists
+pub mod PartByPart
 pub mod Nested
 pub mod Numbers
 pub mod Ranked

@@ -1,8 +1,7 @@
 -- How many references stand in one another, by cases.
-use Rattle.std.proofs.Common.{◌≡◌, ℕ, zero, suc, ◌+◌, ◌<◌, ◌≤◌, min, max, Bool, true, false, List, [], ◌∷◌, ◌++◌, get_or, length, map, Option, Some, None, slice_get, ◌⊎◌, inl, inr, refl, sym, ap, ◌∙◌, subst, true≢false, arith}
+use Rattle.std.proofs.Common.{◌≡◌, ℕ, zero, suc, ◌<◌, ◌≤◌, min, max, Bool, true, false, List, [], ◌∷◌, get_or, map, Some, slice_get, ◌⊎◌, inl, inr, refl, sym, subst, arith}
 use Rattle.logic_term.specs.Sort.{Declarations, instance, instances, nth_ty}
 use Rattle.logic_term.specs.Ty.{Ty, Tys, int, bool, math_int, tuple, adt, boxed, shared, unique, param, closure, viewed, snapshot, no_tys, and_ty}
-use Rattle.logic_term.specs.TyView.{tys_of}
 use Rattle.logic_term.specs.declared.declaration.AdtDecl.{AdtDecl}
 use Rattle.logic_term.specs.declared.declaration.VariantDecl.{VariantDecl}
 use Rattle.logic_term.specs.declared.kinds.AdtId.{AdtId}
@@ -11,7 +10,7 @@ use Rattle.rs_types.specs.declared.weighing.Case.{Case}
 use Rattle.rs_types.specs.declared.weighing.Question.TheVariants.{References}
 use Rattle.rs_types.specs.Growing.{declared_by}
 use Rattle.rs_types.specs.Nesting.{Nests, no_nests, shared_nests, unique_nests, tuple_nests, boxed_nests, snapshot_nests, closure_nests, adt_nests}
-use Rattle.rs_types.specs.Weighing.{known, is_among, weight, all_weights, weights, variants_weight, variants_in, variants_at, field_types, reweighed, IsAsked, AreAsked, AllAsked, EachAsked, AreNew, Grows, roots_from, ComesOf, at_first, round, Settled}
+use Rattle.rs_types.specs.Weighing.{known, is_among, weight, all_weights, weights, variants_weight, variants_at, field_types, reweighed, IsAsked, AreAsked, AllAsked, EachAsked, roots_from, ComesOf, at_first, round}
 use Rattle.rs_types.proofs.Cases.{Each, each_of_both, each_new, found, unknown, order, fields_are, fields_at, roots_new, IsSame, all_same}
 
 -- ---- fewer

@@ -4,20 +4,18 @@ use Rattle.std.proofs.lemmas.Bool.Decides.{nat_tests}
 use Rattle.text_core.specs.declared.refusal.SourceError.{SourceError}
 use Rattle.text_core.specs.declared.span.Span.{Span}
 use Rattle.logic_term.specs.Theory.{field_ty}
-use Rattle.logic_term.specs.Ty.{Ty, Tys}
 use Rattle.logic_term.specs.TyView.{tys_of}
 use Rattle.logic_term.specs.declared.declaration.AdtDecl.{AdtDecl}
 use Rattle.logic_term.specs.declared.declaration.FieldDecl.{FieldDecl}
 use Rattle.logic_term.specs.declared.declaration.VariantDecl.{VariantDecl}
 use Rattle.rs_types.specs.declared.weighing.Case.{Case}
 use Rattle.rs_types.specs.declared.weighing.Question.TheVariants as question
-use Rattle.rs_types.specs.Accepted.{all_fields, nested_reference, recursive, AreAccepted, AreFlat, IsGood, IsNestedAmong, nested_first, nested_later, IsRefusal, refused_field, refused_type, IsFirstRefusal}
+use Rattle.rs_types.specs.Accepted.{all_fields, nested_reference, AreAccepted, AreFlat, IsGood, IsNestedAmong, nested_first, nested_later, IsRefusal, refused_field, refused_type, IsFirstRefusal}
 use Rattle.rs_types.specs.Endless.{IsBounded, IsEndless}
-use Rattle.rs_types.specs.Growing.{declared_by}
 use Rattle.rs_types.specs.Heavy.{nested_at}
 use Rattle.rs_types.specs.Inhabited.{IsEmpty}
-use Rattle.rs_types.specs.Refused.{refused_at, refused_by, unless_good}
-use Rattle.rs_types.specs.Weighing.{known, weight, field_types, variants_at, variants_in, AllAsked, AreAsked, Settled}
+use Rattle.rs_types.specs.Refused.{refused_at, refused_by}
+use Rattle.rs_types.specs.Weighing.{known, weight, variants_in, AllAsked, AreAsked, Settled}
 use Rattle.rs_types.proofs.Weighed.{empty_by, flat_by, inhabited_by, nested_by, root_asked}
 
 -- ---- fields of several variants

@@ -1,12 +1,10 @@
 -- Which declared types have a value, by cases.
-use Rattle.std.proofs.Common.{◌≡◌, ℕ, zero, suc, pos, ◌+◌, ◌<◌, ◌≤◌, min, max, Bool, true, false, List, [], ◌∷◌, ◌++◌, get_or, length, map, Option, Some, None, slice_get, ◌⊎◌, inl, inr, refl, sym, ap, ◌∙◌, subst, true≢false, arith}
+use Rattle.std.proofs.Common.{◌≡◌, ℕ, zero, suc, pos, ◌<◌, ◌≤◌, min, max, Bool, true, false, List, [], ◌∷◌, get_or, map, Some, slice_get, ◌⊎◌, inl, inr, refl, sym, subst, arith}
 use Rattle.source_kinds.specs.declared.kinds.IntKind.{IntKind}
 use Rattle.source_kinds.specs.declared.kinds.IntKind.TheVariants as kinds
 use Rattle.source_kinds.specs.Range.{fits}
 use Rattle.logic_term.specs.Sort.{Declarations, HasSort, HaveSorts, of_int, of_math_int, of_bool, of_tuple, of_adt, of_closure, of_boxed, of_shared, of_snapshot, of_unique, of_none, of_more, instance, instances, nth_ty}
-use Rattle.logic_term.specs.Theory.{fields_of, variant_of, field_ty}
 use Rattle.logic_term.specs.Ty.{Ty, Tys, int, bool, math_int, tuple, adt, boxed, shared, unique, param, closure, viewed, snapshot, no_tys, and_ty}
-use Rattle.logic_term.specs.TyView.{tys_of}
 use Rattle.logic_term.specs.Value.{Value, Values, Number, Flag, Made, Pair, no_values, and_value}
 use Rattle.logic_term.specs.declared.declaration.AdtDecl.{AdtDecl}
 use Rattle.logic_term.specs.declared.declaration.VariantDecl.{VariantDecl}
@@ -18,7 +16,7 @@ use Rattle.rs_types.specs.declared.weighing.Case.{Case}
 use Rattle.rs_types.specs.declared.weighing.Question.TheVariants as question
 use Rattle.rs_types.specs.Growing.{declared_by}
 use Rattle.rs_types.specs.Inhabited.{HasValue}
-use Rattle.rs_types.specs.Weighing.{known, is_among, weight, all_weights, weights, variants_weight, variants_in, variants_at, field_types, reweighed, IsAsked, AreAsked, AllAsked, EachAsked, AreNew, Grows, roots_from, ComesOf, at_first, round, Settled}
+use Rattle.rs_types.specs.Weighing.{known, is_among, weight, all_weights, weights, variants_weight, variants_at, field_types, reweighed, IsAsked, AreAsked, AllAsked, EachAsked, roots_from, ComesOf, at_first, round}
 use Rattle.rs_types.proofs.Cases.{Each, each_of_both, each_new, found, unknown, order, fields_are, fields_at, roots_new, IsSame, all_same}
 
 -- ---- types at hand

@@ -2,14 +2,14 @@
 use Rattle.std.proofs.Common.{◌≡◌, ℕ, zero, suc, ◌+◌, ◌<◌, ◌≤◌, ◌==◌, ◌&&◌, ◌||◌, Bool, true, false, List, [], ◌∷◌, ◌++◌, get_or, length, map, refl, sym, ap, ◌∙◌, subst, true≢false, arith}
 use Rattle.std.proofs.lemmas.Bool.Decides.{nat_tests}
 use Rattle.logic_term.specs.Sort.{nth_ty, instance}
-use Rattle.logic_term.specs.Ty.{Ty, Tys, adt}
+use Rattle.logic_term.specs.Ty.{Ty, adt}
 use Rattle.logic_term.specs.declared.declaration.AdtDecl.{AdtDecl}
 use Rattle.rs_types.specs.declared.weighing.Case.{Case}
 use Rattle.rs_types.specs.declared.weighing.Question.{Question}
 use Rattle.rs_types.specs.declared.weighing.Question.TheVariants as question
 use Rattle.rs_types.specs.Growing.{declared_by}
 use Rattle.rs_types.specs.Inhabited.{HasValue, IsInhabited, IsEmpty}
-use Rattle.rs_types.specs.Nesting.{Nests, no_nests, HoldNone, IsFlat, IsNested}
+use Rattle.rs_types.specs.Nesting.{Nests, no_nests, IsFlat, IsNested}
 use Rattle.rs_types.specs.Weighing.{is_case, known, is_among, weight, variants_at, reweighed, IsAsked, AllAsked, EachAsked, roots_from, ComesOf, at_first, round, Settled}
 use Rattle.rs_types.proofs.Cases.{Each, found}
 use Rattle.rs_types.proofs.Nested as nested

@@ -1,6 +1,6 @@
 -- Which declared types are accepted, and where the first that is not is refused: in the order of their numbers, of each the types of its fields
 -- in order, and then the type itself.
-use Rattle.std.specs.Prelude.{◌≡◌, ℕ, ◌<◌, List, [], ◌∷◌, ◌++◌, length, Option, Some, None, slice_get, ◌⊎◌}
+use Rattle.std.specs.Prelude.{◌≡◌, ℕ, ◌<◌, List, [], ◌∷◌, ◌++◌, Some, None, slice_get, ◌⊎◌}
 use Rattle.text_core.specs.declared.refusal.Code.TheVariants.{E09, E10}
 use Rattle.text_core.specs.declared.refusal.SourceError.{SourceError}
 use Rattle.text_core.specs.declared.span.Span.{Span}

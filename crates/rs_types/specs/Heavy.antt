@@ -1,5 +1,5 @@
 -- Fields whose types weigh too much, by cases.
-use Rattle.std.specs.Prelude.{ℕ, ◌<◌, Bool, List, [], ◌∷◌, Option, Some, None, nat_lt, if◌then◌else◌}
+use Rattle.std.specs.Prelude.{List, [], ◌∷◌, Option, Some, None, nat_lt, if◌then◌else◌}
 use Rattle.text_core.specs.declared.span.Span.{Span}
 use Rattle.logic_term.specs.declared.declaration.FieldDecl.{FieldDecl}
 use Rattle.rs_types.specs.declared.weighing.Case.{Case}

@@ -7,6 +7,7 @@ pub mod Heavy
 pub mod Holding
 pub mod Inhabited
 pub mod Laws
+pub mod Meant
 pub mod Nesting
 pub mod Refused
 pub mod Standing

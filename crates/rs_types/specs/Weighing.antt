@@ -1,6 +1,6 @@
 -- What declared types weigh at what their type arguments weigh, found in rounds. A weight is 1 where a type has a value and else 0; or it is how
 -- many references stand in one another in it, 2 at most.
-use Rattle.std.specs.Prelude.{◌≡◌, ℕ, suc, ◌==◌, ◌&&◌, ◌||◌, min, max, Bool, true, false, List, [], ◌∷◌, ◌++◌, get_or, length, map, Option, Some, None, slice_get, if◌then◌else◌}
+use Rattle.std.specs.Prelude.{◌≡◌, ℕ, suc, ◌==◌, ◌&&◌, ◌||◌, min, max, Bool, true, false, List, [], ◌∷◌, ◌++◌, get_or, map, Option, Some, None, slice_get, if◌then◌else◌}
 use Rattle.logic_term.specs.Ty.{Ty, Tys, int, bool, math_int, tuple, adt, boxed, shared, unique, param, closure, viewed, snapshot, no_tys, and_ty}
 use Rattle.logic_term.specs.Theory.{field_ty}
 use Rattle.logic_term.specs.TyView.{tys_of}

@@ -1,4 +1,4 @@
-//! The declared types of a program: their table, which are accepted, and types at types for their parameters.
+//! The declared types of a program: their table, which are accepted, what a written type means, and types at types for their parameters.
 #![tactic(auto)]
 
 mod applying;
@@ -7,11 +7,15 @@ mod bounded;
 mod closing;
 mod holding;
 mod laws;
+mod meaning;
 mod settling;
 mod standing;
 mod table;
 mod weighing;
+mod written;
 
 pub use applying::{applied, apply};
 pub use laws::{a_cycle_is_endless, ranked_types_are_bounded};
+pub use meaning::meant;
 pub use table::AdtTable;
+pub use written::{ArgumentList, Elision, TypeName, TypeScope};

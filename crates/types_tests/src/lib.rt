@@ -6,4 +6,6 @@ mod build;
 #[cfg(test)]
 mod closing;
 #[cfg(test)]
+mod meaning;
+#[cfg(test)]
 mod tables;

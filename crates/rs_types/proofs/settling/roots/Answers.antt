@@ -1,5 +1,4 @@
 use Rattle.std.proofs.Common.{rules, ◌≡◌, []}
-use Rattle.rs_types.proofs.Cases.{case_at}
 use Rattle.rs_types.proofs.Growth.{one_root_more}
 use Rattle.rs_types.proofs.settling.roots.Goals as goal
 

@@ -1,4 +1,3 @@
-use Rattle.rs_types.proofs.Weighed as weighed
 use Rattle.std.proofs.Common.{◌≡◌, drop, length}
 use Rattle.rs_types.specs.Weighing.{same_weights}
 use Rattle.rs_types.proofs.weighing.same_weights.Given as goal
