@@ -1,5 +1,5 @@
 -- One statement of a block, and the end of one binding.
-use Rattle.std.proofs.Common.{◌≡◌, refl, ap, sym, ◌∙◌, ℕ, zero, suc, ◌+◌, ◌<◌, ◌≤◌, max, Bool, true, false, List, [], ◌∷◌, ◌++◌, append_assoc, append-nil, length, drop, take, get_or, add-one, drop-cons, arith}
+use Rattle.std.proofs.Common.{◌≡◌, refl, ap, sym, ◌∙◌, ℕ, zero, suc, ◌+◌, ◌<◌, ◌≤◌, max, Bool, true, false, List, [], ◌∷◌, ◌++◌, append_assoc, append-nil, length, drop, get_or, add-one, drop-cons, arith}
 use Rattle.std.proofs.lemmas.List.{drop-append-le}
 use Rattle.text_core.specs.declared.span.Span.{Span}
 use Rattle.type_check.specs.TypedExpr.{TypedExpr, TypedStmts, bind, run}
@@ -8,7 +8,7 @@ use Rattle.type_check.specs.declared.typed.TypedStmt.{TypedStmt}
 use Rattle.mir_build.specs.declared.builder.BodyText.{BodyText}
 use Rattle.mir_build.specs.Text.{Line, Makes}
 use Rattle.mir_build.specs.Lowering.{Around, binds, dies_in}
-use Rattle.mir_build.specs.Numbered.{into, rest, labels, labels_of, locals, locals_of}
+use Rattle.mir_build.specs.Numbered.{into, rest, labels, locals}
 use Rattle.mir_build.specs.Built.{written}
 use Rattle.mir_build.specs.Bindings.{all_die, left_of}
 use Rattle.mir_build.proofs.Runs.{written-append}

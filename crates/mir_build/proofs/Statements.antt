@@ -1,14 +1,13 @@
 -- The loop over the statements of a block: one more statement, and the end.
-use Rattle.std.proofs.Common.{◌≡◌, refl, ap, sym, ◌∙◌, subst, ℕ, ◌+◌, ◌<◌, ◌≤◌, Bool, true, false, List, [], ◌∷◌, ◌++◌, length, take, drop, get_or, length-append, arith}
+use Rattle.std.proofs.Common.{◌≡◌, refl, ap, sym, ◌∙◌, subst, ℕ, ◌+◌, ◌<◌, ◌≤◌, Bool, true, false, List, [], ◌∷◌, length, take, drop, get_or, length-append, arith}
 use Rattle.std.proofs.lemmas.List.{drop_all, take-append-le}
 use Rattle.text_core.specs.declared.span.Span.{Span}
 use Rattle.type_check.specs.TypedExpr.{TypedExpr, TypedStmts}
-use Rattle.type_check.specs.TypedExprView.{ty_of, stmt_of, stmts_of}
+use Rattle.type_check.specs.TypedExprView.{stmt_of, stmts_of}
 use Rattle.type_check.specs.declared.typed.TypedStmt.{TypedStmt}
 use Rattle.mir_build.specs.declared.builder.BodyText.{BodyText}
-use Rattle.mir_build.specs.Text.{Line, Makes}
 use Rattle.mir_build.specs.Lowering.{Around, binds}
-use Rattle.mir_build.specs.Numbered.{into, rest, labels, labels_of, locals, locals_of}
+use Rattle.mir_build.specs.Numbered.{rest, labels, labels_of, locals, locals_of}
 use Rattle.mir_build.specs.Built.{written}
 use Rattle.mir_build.specs.Bindings.{all_die, left_of}
 use Rattle.mir_build.proofs.Runs.{written-append}
