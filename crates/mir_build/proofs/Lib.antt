@@ -14,6 +14,7 @@ pub mod LawLocals
 pub mod LawContracts
 pub mod LawHeads
 pub mod LawsOfPrograms
+pub mod Bindings
 pub mod BodyTexts
 pub mod Clauses
 pub mod Following
@@ -24,6 +25,7 @@ pub mod Order
 pub mod Parts
 pub mod Rows
 pub mod Rowwise
+pub mod Statements
 pub mod Runs
 pub mod Whole
 pub mod TaskStack

@@ -1,5 +1,6 @@
 pub mod Laws
 pub mod Built
+pub mod Bindings
 pub mod Lowering
 pub mod Numbered
 pub mod Tasks

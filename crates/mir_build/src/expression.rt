@@ -1,5 +1,5 @@
 //! Lowering of expressions: what they add to the text of their body.
-ghost use Rattle.std.specs.Prelude.{◌≡◌, ◌+◌, ◌^◌, ◌≤◌, ◌<◌, ◌*◌, max, ◌∷◌, ◌++◌, [], length, map, OnOk, IfOk, IfErr};
+ghost use Rattle.std.specs.Prelude.{◌≡◌, ◌+◌, ◌^◌, ◌≤◌, ◌<◌, ◌*◌, max, ◌∷◌, ◌++◌, [], length, take, drop, map, OnOk, IfOk, IfErr};
 ghost use Rattle.std.specs.Option.{option_copied};
 ghost use Rattle.type_check.specs.TypedExpr.{assign, update, branch, choice, repeat, call};
 ghost use Rattle.type_check.specs.TypedExprView.{ty_of, span_of, stmts_of, exprs_of, typed_size};
@@ -7,9 +7,10 @@ ghost use Rattle.type_check.specs.WellTyped.{unit};
 ghost use Rattle.mir_ir.specs.declared.statement.Rvalue.TheVariants.{Use, Binary};
 ghost use Rattle.mir_ir.specs.declared.terminator.TerminatorKind.TheVariants.{Goto};
 ghost use Rattle.mir_build.specs.Text.{Makes, Turns, Owns};
-ghost use Rattle.mir_build.specs.Lowering.{copied, moved, puts, put_unit, ends, at, at_head, looping, head_of};
+ghost use Rattle.mir_build.specs.Lowering.{copied, moved, puts, put_unit, ends, dies_in, at, at_head, looping, head_of};
 ghost use Rattle.mir_build.specs.Numbered.{into, rest, args, loop_text, between, temporaries, label, labels, labels_of, labels_in, locals, locals_of, locals_in};
 ghost use Rattle.mir_build.specs.Built.{written, around, outside, end_of};
+ghost use Rattle.mir_build.specs.Bindings.{all_die};
 ghost use Rattle.mir_build.specs.Tasks.{to_do, lazy_text, task_text, behind_labels, behind_locals, task_labels, task_locals, task_size, task_weight, tasks_text, tasks_labels, tasks_locals, tasks_size, tasks_weight};
 ghost use Rattle.mir_build.specs.declared.task.Task.TheVariants.{Lower, Finish};
 ghost use Rattle.mir_build.specs.declared.stop.Stop.TheVariants.{Blocks};
@@ -562,7 +563,7 @@ fn lower_args(
 
 /// The statements of a block and its last expression. Bindings end with the block, but for the outermost block of a body.
 #[cycle(lower)]
-#[tactic(auto, using(crate::proofs::Runs::running))]
+#[tactic(auto, using(crate::proofs::Runs::running, crate::proofs::Bindings::statement_smaller, crate::proofs::Bindings::end_smaller))]
 pub(crate) fn lower_rest(
     alloc: Global,
     b: &mut Builder,
@@ -580,21 +581,54 @@ pub(crate) fn lower_rest(
     ensures most { OnOk result (b.old.labels ≤ 4096 → b.new.labels ≤ 4096) }
     ensures around { OnOk result (around c.new ≡ around c.old) }
 {
-    let Some((first, others)) = statements.split_first() else {
-        return match last {
-            None => Ok(b.put_unit(alloc, span, d)?),
-            Some(value) => lower_into(alloc, b, c, value, d),
-        };
-    };
-    let t = lower_new(alloc, b, c, &first.value)?;
-    if !first.binds {
-        return lower_rest(alloc, b, c, outer, span, others, last, d);
+    let before = c.scope.len();
+    for statement in statements {
+        let t = lower_new(alloc, b, c, &statement.value)?;
+        if statement.binds {
+            c.scope.push(t)?;
+        }
     }
-    c.scope.push(t)?;
-    lower_rest(alloc, b, c, outer, span, others, last, d)?;
-    c.scope.pop();
-    if !outer {
-        b.kill(span, t)?;
+    match last {
+        None => b.put_unit(alloc, span, d)?,
+        Some(value) => lower_into(alloc, b, c, value, d)?,
+    }
+    end_bindings(b, c, outer, span, before)?;
+    Ok(())
+}
+
+/// Ends the bindings of a block around which so many variables are in scope, the last one first. Those of the outermost block of a body
+/// only go out of scope.
+#[tactic(auto, using(crate::proofs::Runs::running))]
+fn end_bindings(
+    b: &mut Builder,
+    c: &mut Around,
+    outer: bool,
+    span: Span,
+    before: usize,
+) -> Result<(), NoMemory>
+    ensures text { OnOk result (b.new.text ≡ written (all_die outer span (drop before c.old.scope.items)) b.old.text) }
+    ensures labels { OnOk result (b.new.labels ≡ b.old.labels) }
+    ensures locals { OnOk result (length b.new.text.locals ≡ length b.old.text.locals) }
+    ensures scope { OnOk result (c.new.scope.items ≡ take before c.old.scope.items) }
+    ensures loops { OnOk result (c.new.loops ≡ c.old.loops) }
+{
+    while c.scope.len() > before {
+        let Some(local) = c.scope.pop() else {
+            return Ok(());
+        };
+        end_binding(b, outer, span, local)?;
     }
     Ok(())
+}
+
+/// The binding of the local ends, but not one of the outermost block of a body.
+fn end_binding(b: &mut Builder, outer: bool, span: Span, local: u32) -> Result<(), NoMemory>
+    ensures text { OnOk result (b.new.text ≡ written (dies_in outer span local) b.old.text) }
+    ensures labels { OnOk result (b.new.labels ≡ b.old.labels) }
+    ensures locals { OnOk result (length b.new.text.locals ≡ length b.old.text.locals) }
+{
+    if outer {
+        return Ok(());
+    }
+    b.kill(span, local)
 }

@@ -1,8 +1,14 @@
-use Rattle.std.proofs.Common.{◌∙◌, ap, sym, length, arith, append_assoc}
-use Rattle.mir_build.specs.Built.{written}
+use Rattle.std.proofs.Common.{◌≡◌, ℕ, Bool, true, false, List, ◌∙◌, ap, sym, length, arith, append_assoc}
+use Rattle.std.specs.Option.{option_copied}
+use Rattle.type_check.specs.TypedExpr.{done, last}
+use Rattle.mir_build.specs.Lowering.{Around, binds}
+use Rattle.mir_build.specs.Numbered.{rest}
+use Rattle.mir_build.specs.Built.{written, around, end_of}
 use Rattle.mir_build.specs.Tasks.{to_do, tasks_text}
 use Rattle.mir_build.proofs.TaskStack.{popped_text, popped_labels, popped_locals, popped_size}
 use Rattle.mir_build.proofs.Runs.{running, args_at}
+use Rattle.mir_build.proofs.Statements.{around_behind, text_on, labels_at, locals_at, text_end, within_on, front_on, loops_on}
+use Rattle.mir_build.proofs.expression.+lower.Goals.{lower_rest-then-statement+in_ok-push, lower_rest-else-statement, lower_rest-in-None+in_ok-put_unit-in-None, lower_rest-in-Some+in_ok-lower_into-in-Some}
 use Rattle.mir_build.proofs.expression.+lower.Goals as goal
 
 pub lower_args-loop-e-preserved : goal.lower_args-loop-e-preserved
@@ -28,3 +34,61 @@ lower_into-loop-task-preserved t c =
       around = c.in_ok-do_task.ensures.around ∙ c.loop-task.invariant.around;
       size = omega (arith, size, c.in_ok-do_task.ensures.size, c.loop-task.invariant.size);
     }
+
+pub lower_rest-loop-statement-preserved : goal.lower_rest-loop-statement-preserved
+lower_rest-loop-statement-preserved t c =
+    let ss = c.args.statements.now in
+    let i = c.loop-statement.statement-index in
+    let st = c.statement-item.result in
+    let end = end_of (option_copied c.args.last) in
+    let n = c.len-before.result in
+    let x = c.in_ok-t.t in
+    let old = around c.loop-statement.c in
+    let known = c.loop-statement.invariant in
+    let which : (b : Bool) × (st.binds ≡ b) × (around c.if-statement.c ≡ around_behind b old x) = elim c.if-statement.branch [
+      | lower_rest-then-statement+in_ok-push w ↦ (
+        true,
+        w.if-statement.true,
+        ap around w.c-is
+            ∙ ap (λ (xs : List ℕ). let r : Around = record { scope = xs; loops = c.lower_new.new.c.loops.items } in r) w.in_ok-push.ensures.items ∙ ap (λ (a : Around). binds a x) c.in_ok-t.ensures.around,
+      )
+      | lower_rest-else-statement w ↦ (false, w.if-statement.false, ap around w.c-is ∙ c.in_ok-t.ensures.around)
+    ] in
+    let b = which.0 in
+    let e = which.1 in
+    let q = c.statement-item.is in
+    let h = c.loop-statement-test.true in
+    record {
+      text =
+          text_on ss i st end q h b e c.args.outer c.args.span n old (around c.if-statement.c) c.loop-statement.b.labels c.lower_new.new.b.labels x c.args.d c.loop-statement.b.text c.lower_new.new.b.text known.before which.2
+          c.in_ok-t.ensures.labels c.in_ok-t.ensures.number c.in_ok-t.ensures.locals c.in_ok-t.ensures.text
+          ∙ known.text;
+      labels = omega (arith, labels_at ss i st end q h b e, c.in_ok-t.ensures.labels, known.labels);
+      locals = omega (arith, locals_at ss i st end q h b e, c.in_ok-t.ensures.locals, known.locals);
+      most = λ m. c.in_ok-t.ensures.most (known.most m);
+      before = within_on b old x n known.before (around c.if-statement.c) which.2;
+      scope = front_on b old x n known.before (around c.if-statement.c) which.2 ∙ known.scope;
+      loops = loops_on b old x n known.before (around c.if-statement.c) which.2 ∙ known.loops;
+    }
+
+pub lower_rest-returns-clause-text : goal.lower_rest-returns-clause-text
+lower_rest-returns-clause-text t c =
+    let end = end_of (option_copied c.args.last) in
+    let old = around c.loop-statement.c in
+    let text = c.loop-statement.b.text in
+    let l = c.loop-statement.b.labels in
+    let which : (c.match-last.b.text ≡ written (rest end c.args.outer c.args.span old l (length text.locals) c.args.d) text) × (around c.match-last.c ≡ old) = elim c.match-last.branch [
+      | lower_rest-in-None+in_ok-put_unit-in-None w ↦
+          let z : end ≡ done = ap (λ o. end_of (option_copied o)) w.in-None.is in (
+            (λ j. (w.b-is j).text) ∙ w.in_ok-put_unit-in-None.ensures.text ∙ (λ j. written (rest (sym z j) c.args.outer c.args.span old l (length text.locals) c.args.d) text),
+            ap around w.c-is,
+          )
+      | lower_rest-in-Some+in_ok-lower_into-in-Some w ↦
+          let z : end ≡ last w.in-Some.value.now = ap (λ o. end_of (option_copied o)) w.in-Some.is in (
+            (λ j. (w.b-is j).text) ∙ w.in_ok-lower_into-in-Some.ensures.text ∙ (λ j. written (rest (sym z j) c.args.outer c.args.span old l (length text.locals) c.args.d) text),
+            ap around w.c-is ∙ w.in_ok-lower_into-in-Some.ensures.around,
+          )
+    ] in
+    text_end c.args.statements.now c.loop-statement.statement-index end c.args.outer c.args.span c.len-before.result old (around c.match-last.c) l (length text.locals) c.args.d text c.match-last.b.text c.end_bindings.new.b.text
+    c.loop-statement-test.false which.1 which.0 c.in_ok-end_bindings.ensures.text
+    ∙ c.loop-statement.invariant.text

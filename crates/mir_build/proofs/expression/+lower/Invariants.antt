@@ -1,10 +1,11 @@
-use Rattle.std.proofs.Common.{◌≡◌, ◌+◌, ◌*◌, ◌++◌, ◌≤◌, max, drop, length, map}
+use Rattle.std.proofs.Common.{◌≡◌, ◌+◌, ◌*◌, ◌++◌, ◌≤◌, max, take, drop, length, map}
 use Rattle.std.specs.Option.{option_copied}
 use Rattle.type_check.specs.TypedExprView.{typed_size, stmts_size, stmts_of, exprs_size, exprs_of}
 use Rattle.mir_build.specs.Lowering.{copied}
-use Rattle.mir_build.specs.Numbered.{into, labels, locals, args, temporaries, labels_in, locals_in}
+use Rattle.mir_build.specs.Numbered.{into, rest, labels, locals, args, temporaries, labels_of, locals_of, labels_in, locals_in}
 use Rattle.mir_build.specs.Tasks.{to_do, behind_size, task_size, tasks_text, tasks_labels, tasks_locals, tasks_size, tasks_weight}
 use Rattle.mir_build.specs.Built.{written, around, end_of}
+use Rattle.mir_build.specs.Bindings.{left_of}
 use Rattle.mir_build.proofs.expression.+lower.Given as goal
 
 abbrev pub decreases-lower_into : goal.decreases-lower_into
@@ -74,3 +75,17 @@ invariant-lower_args-loop-e l = record {
   around : around l.c ≡ around l.initial.c;
   operands : l.all ++ map copied (temporaries (exprs_of (drop l.e-index l.es)) (length l.b.text.locals)) ≡ map copied (temporaries (exprs_of l.es) (length l.initial.b.text.locals));
 }
+
+abbrev pub invariant-lower_rest-loop-statement : goal.invariant-lower_rest-loop-statement
+invariant-lower_rest-loop-statement l =
+    let left = stmts_of (drop l.statement-index l.statements) (end_of (option_copied l.last)) in
+    let all = stmts_of l.statements (end_of (option_copied l.last)) in
+    record {
+      text : written (left_of left l.outer l.span l.before (around l.c) l.b.labels (length l.b.text.locals) l.d) l.b.text ≡ written (rest all l.outer l.span (around l.initial.c) l.initial.b.labels (length l.initial.b.text.locals) l.d) l.initial.b.text;
+      labels : l.b.labels + labels_of left ≡ l.initial.b.labels + labels_of all;
+      locals : length l.b.text.locals + locals_of left ≡ length l.initial.b.text.locals + locals_of all;
+      most : l.initial.b.labels ≤ 4096 → l.b.labels ≤ 4096;
+      before : l.before ≤ length l.c.scope.items;
+      scope : take l.before l.c.scope.items ≡ l.initial.c.scope.items;
+      loops : l.c.loops.items ≡ l.initial.c.loops.items;
+    }
