@@ -15,7 +15,7 @@ use Rattle.mir_machine.specs.Good.{Each}
 use Rattle.wp_gen.specs.Command.{by_set, by_fresh, by_assume, MovesAll, none, more}
 use Rattle.wp_gen.specs.Row.{name_of}
 use Rattle.wp_gen.specs.Walk.{parameters, stored, assumed}
-use Rattle.prophecy_sim.proofs.Steps.{decide}
+use Rattle.prophecy_sim.proofs.Lists.{decide}
 
 module _ (S : Structure) where
   same_point : (ρ : Env) (x y : Name) → with_value ρ x (ρ x) y ≡ ρ y

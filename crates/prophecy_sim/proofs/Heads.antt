@@ -19,9 +19,8 @@ use Rattle.wp_gen.specs.Command.{by_fresh, MovesAll, none, more}
 use Rattle.wp_gen.specs.Row.{name_of}
 use Rattle.wp_gen.specs.Walk.{is_in_loop, writes, end_writes, block_writes, loop_writes, picked, renewed}
 use Rattle.mir_ir.specs.Names.{LocalsAreNamed}
-use Rattle.prophecy_sim.proofs.Values.{named_as}
-use Rattle.prophecy_sim.proofs.Steps.{decide}
-use Rattle.prophecy_sim.proofs.Lists.{get_first}
+use Rattle.prophecy_sim.proofs.Setup.{named_as}
+use Rattle.prophecy_sim.proofs.Lists.{decide, get_first}
 
 -- ---- what a loop writes
 
