@@ -1,0 +1,4 @@
+pub mod Ahead
+pub mod Commands
+pub mod Operations
+pub mod Quotients

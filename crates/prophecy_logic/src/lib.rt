@@ -1,0 +1,14 @@
+//! What the code of a body says of values: the row of each statement and edge, the tree of rows of a body's walk, and path states.
+#![tactic(auto)]
+
+mod command;
+mod goal;
+mod operation;
+mod state;
+mod touch;
+
+pub use command::Command;
+pub use goal::{Goal, MetGoal};
+pub use operation::{Compared, Operation};
+pub use state::State;
+pub use touch::Touch;
