@@ -1,5 +1,6 @@
 pub mod Command
 pub mod Graph
+pub mod Laws
 pub mod Loop
 pub mod Prefix
 pub mod Row

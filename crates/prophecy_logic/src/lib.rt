@@ -3,12 +3,14 @@
 
 mod command;
 mod goal;
+mod laws;
 mod operation;
 mod state;
 mod touch;
 
 pub use command::Command;
 pub use goal::{Goal, MetGoal};
+pub use laws::{goals_are_seen_before, prefixes_have_goals, walks_are_one, walks_exist};
 pub use operation::{Compared, Operation};
 pub use state::State;
 pub use touch::Touch;
