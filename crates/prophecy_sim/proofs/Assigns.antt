@@ -37,15 +37,15 @@ use Rattle.mir_ir.specs.WellFormed.{PlaceHas, OperandHas, operation_ty, IsEquali
 use Rattle.mir_machine.specs.Step.{same_truth}
 use Rattle.prophecy_sim.proofs.Operations.{operation_value, applied, IsInRange, InKind, opposite}
 use Rattle.prophecy_sim.proofs.Operands.{operand_value, rvalue_value, RvalueIsInRange, operand_means, new_value, can_before}
-use Rattle.wp_gen.specs.declared.command.Command.TheVariants.{Set}
-use Rattle.wp_gen.specs.declared.step.Compared.{Compared as Kinds}
-use Rattle.wp_gen.specs.declared.step.Compared.TheVariants.{Truths, Integers}
-use Rattle.wp_gen.specs.Command.{MovesAll, none, more, by_set}
-use Rattle.wp_gen.specs.Row.{value_name, name_of, operand_term, operand_ty, integer_term, is_signed, in_range, not_zero, not_least_by_minus_one, compared_ty, comparison}
-use Rattle.wp_gen.specs.Row.{operation, overflow, division, if_signed, goals_of_kind, goals_of, new_integer, of_comparison, of_operation, of_rvalue, commands_of}
-use Rattle.wp_gen.proofs.Commands.{GoalsHold}
-use Rattle.wp_gen.proofs.Operations.{says_exactly, not_exactly, new_moves, range_fits, divisor_not_zero, not_least_there}
-use Rattle.wp_gen.proofs.Quotients.{quotient_fits, remainder_fits}
+use Rattle.prophecy_logic.specs.declared.command.Command.TheVariants.{Set}
+use Rattle.prophecy_logic.specs.declared.operation.Compared.{Compared as Kinds}
+use Rattle.prophecy_logic.specs.declared.operation.Compared.TheVariants.{Truths, Integers}
+use Rattle.prophecy_logic.specs.Command.{MovesAll, none, more, by_set}
+use Rattle.prophecy_logic.specs.Row.{value_name, name_of, operand_term, operand_ty, integer_term, is_signed, in_range, not_zero, not_least_by_minus_one, compared_ty, comparison}
+use Rattle.prophecy_logic.specs.Row.{operation, overflow, division, if_signed, goals_of_kind, goals_of, new_integer, of_comparison, of_operation, of_rvalue, commands_of}
+use Rattle.prophecy_logic.proofs.Commands.{GoalsHold}
+use Rattle.prophecy_logic.proofs.Operations.{says_exactly, not_exactly, new_moves, range_fits, divisor_not_zero, not_least_there}
+use Rattle.prophecy_logic.proofs.Quotients.{quotient_fits, remainder_fits}
 
 -- ---- kinds
 

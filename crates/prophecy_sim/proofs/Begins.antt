@@ -20,11 +20,14 @@ use Rattle.mir_machine.specs.Frame.{Frame, State}
 use Rattle.mir_machine.specs.Step.{entered}
 use Rattle.mir_machine.specs.Good.{Each, named}
 use Rattle.mir_machine.proofs.NeverStuck.{AreShaped, fits_within, entered_fits}
-use Rattle.wp_gen.specs.declared.goal.Goal.{Goal}
-use Rattle.wp_gen.specs.Command.{MovesAll}
-use Rattle.wp_gen.specs.Row.{name_of}
-use Rattle.wp_gen.specs.Walk.{entry_commands, parameters, numbered}
-use Rattle.wp_gen.proofs.Commands.{GoalsHold, goals_moved, then_moves}
+use Rattle.prophecy_logic.specs.declared.goal.Goal.{Goal}
+use Rattle.prophecy_logic.specs.Command.{MovesAll}
+use Rattle.prophecy_logic.specs.Row.{name_of}
+use Rattle.prophecy_logic.specs.Graph.{numbered, goals_of_walk}
+use Rattle.prophecy_logic.specs.Prefix.{entry}
+use Rattle.prophecy_logic.specs.Walk.{entry_commands, parameters, met}
+use Rattle.prophecy_logic.proofs.Commands.{GoalsHold, goals_moved, then_moves}
+use Rattle.prophecy_logic.proofs.Prefixes.{goals_are_seen_before}
 use Rattle.prophecy_sim.specs.Programs.{HasTrueObligations}
 use Rattle.prophecy_sim.proofs.Lists.{get_append, get_first}
 use Rattle.prophecy_sim.proofs.Setup.{Setup, FunctionOf, S, bodies, declarations, own, walked, local_named, scalar_params}
@@ -111,10 +114,11 @@ module _ {K : Type 0} (s : Setup K) (f : FunctionOf s) (proved : HasTrueObligati
     enters : MovesAll (S s) (entry_commands b c) ρ₀ set.env
     enters = then_moves (S s) (then_moves (S s) given.1 (assumed_move (S s) c.pre given.0 (same_hold (S s) c.pre ρ₀ given.0 (λ x. sym (given.2 x)) pre))) set.moves
 
-    goals_there : GoalsHold (S s) set.env proved.are.are_goals.inner
+    goals_there : GoalsHold (S s) set.env (met proved.are.walk)
     goals_there =
-        let before : GoalsHold (S s) ρ₀ proved.are.goals = goals_hold (S s) b.owner proved.first proved.are.goals ρ₀ refl (λ o e. subst (Each (IsTrueObligation s.theory)) (proved.are.are_numbered ∙ sym e) proved.all_true) in
-        goals_moved (S s) proved.are.are_goals.inner enters (subst (GoalsHold (S s) ρ₀) proved.are.are_goals.closed before)
+        let before : GoalsHold (S s) ρ₀ (goals_of_walk (walked s f) proved.are.walk) =
+            goals_hold (S s) b.owner proved.first (goals_of_walk (walked s f) proved.are.walk) ρ₀ refl (λ o e. subst (Each (IsTrueObligation s.theory)) (proved.are.are_numbered ∙ sym e) proved.all_true) in
+        goals_moved (S s) (met proved.are.walk) enters (subst (GoalsHold (S s) ρ₀) (goals_are_seen_before (entry_commands b c) proved.are.walk) before)
 
     abbrev at_entry : Frame K
     at_entry = entered b f.number no_tys args
@@ -138,12 +142,13 @@ module _ {K : Type 0} (s : Setup K) (f : FunctionOf s) (proved : HasTrueObligati
         is_below : (parameter_locals b) (suc i) ≡ true → i < b.params
         is_below q = let h = ltb-true (suc i) (b.params + 1) (and_right (nat_lt 0 (suc i)) (nat_lt (suc i) (b.params + 1)) q) in omega arith
 
-    comes : Coming s f ρ₀ b.entry at_entry.locals
+    comes : Coming s f ρ₀ [] b.entry at_entry.locals
     comes = record {
       fitting = fits_within b no_tys (initialised b.entry 0) (parameter_locals b) at_entry.locals (own s f).moves.entry (entered_fits (bodies s) b f.number no_tys args (own s f).typed (count, shaped));
       env = set.env;
       agrees = agree_within b (initialised b.entry 0) (parameter_locals b) at_entry.locals set.env (own s f).moves.entry entry_agrees;
       keeps = λ n out. set.kept n (λ j l q. out.0 (1 + j) (name_of b (1 + j)) (name_at (1 + j) (room j l)) q) ∙ given.2 n;
+      came = record { commands = entry_commands b c; prefix = entry; moves = enters };
     }
 
     way : Reached s f ρ₀ (initialised b.entry 0) comes.env [] b.entry
@@ -152,7 +157,7 @@ module _ {K : Type 0} (s : Setup K) (f : FunctionOf s) (proved : HasTrueObligati
 
     entry_stands : (st : State K) (frame : ℕ) → Standing s f ρ₀ st frame at_entry
     unfolding comes
-    entry_stands st frame = arrived s f ρ₀ proved.are.are_goals.arrives st frame at_entry at_entry.locals refl refl comes way goals_there
+    entry_stands st frame = arrived s f ρ₀ proved.are.arrives st frame at_entry at_entry.locals refl refl comes way goals_there
 
   -- a frame that begins a call whose `requires` are true stands
   pub begins : (ρ : Env) (g : Frame K) → Begun s f ρ g → (st : State K) (frame : ℕ) → Standing s f ρ st frame g

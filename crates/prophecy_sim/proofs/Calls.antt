@@ -18,9 +18,9 @@ use Rattle.mir_ir.specs.declared.place.Operand.{Operand}
 use Rattle.mir_ir.specs.declared.body.Body.{Body}
 use Rattle.mir_ir.specs.WellFormed.{OperandsHave}
 use Rattle.mir_machine.specs.Good.{Each, named}
-use Rattle.wp_gen.specs.Row.{value_name, name_of, operand_term}
-use Rattle.wp_gen.specs.Walk.{entries, all_at}
-use Rattle.wp_gen.proofs.Commands.{GoalsHold}
+use Rattle.prophecy_logic.specs.Row.{value_name, name_of, operand_term}
+use Rattle.prophecy_logic.specs.Walk.{entries, all_at}
+use Rattle.prophecy_logic.proofs.Commands.{GoalsHold}
 use Rattle.prophecy_sim.proofs.Operands.{operand_values, operand_means, new_value}
 
 -- ---- values for names, all at once

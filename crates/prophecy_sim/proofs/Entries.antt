@@ -12,9 +12,10 @@ use Rattle.logic_term.proofs.Coincide.{with_same, with_other}
 use Rattle.logic_term.proofs.FreeLaw.{same_name}
 use Rattle.mir_ir.specs.declared.body.Body.{Body}
 use Rattle.mir_machine.specs.Good.{Each}
-use Rattle.wp_gen.specs.Command.{by_set, by_fresh, by_assume, MovesAll, none, more}
-use Rattle.wp_gen.specs.Row.{name_of}
-use Rattle.wp_gen.specs.Walk.{parameters, stored, assumed}
+use Rattle.prophecy_logic.specs.Command.{by_set, by_fresh, by_assume, MovesAll, none, more}
+use Rattle.prophecy_logic.specs.Row.{name_of}
+use Rattle.prophecy_logic.specs.Command.{assumed}
+use Rattle.prophecy_logic.specs.Walk.{parameters, stored}
 use Rattle.prophecy_sim.proofs.Lists.{decide}
 
 module _ (S : Structure) where

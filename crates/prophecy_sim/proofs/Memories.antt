@@ -11,11 +11,15 @@ use Rattle.mir_ir.specs.declared.body.Head.{Head}
 use Rattle.mir_ir.specs.Body.{block_in}
 use Rattle.mir_ir.specs.Layout.{among, around, place_of, Leads, on, back}
 use Rattle.mir_ir.specs.WellFormed.{Locals}
-use Rattle.wp_gen.specs.declared.goal.Goal.{Goal}
-use Rattle.wp_gen.specs.Walk.{seen_before, loop_writes, head_commands, Walks}
-use Rattle.wp_gen.specs.Walkable.{AllAmong}
-use Rattle.wp_gen.proofs.Commands.{GoalsHold}
-use Rattle.wp_gen.specs.Row.{name_of}
+use Rattle.prophecy_logic.specs.Graph.{Setting, start_of, Within}
+use Rattle.prophecy_logic.specs.Prefix.{At, arrival, Prefix}
+use Rattle.prophecy_logic.specs.declared.command.Command.{Command}
+use Rattle.prophecy_logic.specs.Command.{MovesAll}
+use Rattle.prophecy_logic.specs.Loop.{loop_writes, head_commands}
+use Rattle.prophecy_logic.specs.Walk.{seen_before, Walk, met}
+use Rattle.prophecy_logic.specs.Walkable.{AllAmong}
+use Rattle.prophecy_logic.proofs.Commands.{GoalsHold, then_moves}
+use Rattle.prophecy_logic.specs.Row.{name_of}
 use Rattle.prophecy_sim.proofs.Setup.{Setup, FunctionOf, S, walked, IsOutside}
 
 -- ---- lists of labels
@@ -120,6 +124,15 @@ module _ {K : Type 0} (s : Setup K) (f : FunctionOf s) (ρ₀ : Env) where
   abbrev pub AreBehind : List Label → Label → Type 0
   AreBehind heads l = (h : Label) → among h heads ≡ true → place_of b.blocks h ≤ place_of b.blocks l
 
+  -- a prefix leads there, and its commands lead from the environment at the entry to this one
+  pub record Came (w : Setting) (heads : List Label) (at : At) (ρ : Env) : Type 0 where
+    pub commands : List Command
+    pub prefix : Prefix w heads at commands
+    pub moves : MovesAll (S s) commands ρ₀ ρ
+
+  pub came_on : {w : Setting} {heads inner : List Label} {at next : At} {ρ σ : Env} (c : Came w heads at ρ) (cs : List Command) → Prefix w inner next (c.commands ++ cs) → MovesAll (S s) cs ρ σ → Came w inner next σ
+  came_on c cs prefix moves = record { commands = c.commands ++ cs; prefix = prefix; moves = then_moves (S s) c.moves moves }
+
   -- the head of a loop that the run is in, where the locals of the set are initialised: what stood when it was first come to on this
   -- path, and what the loop has left since then
   pub record Passed (l : Label) (outer : List Label) (set : Locals) (ρ : Env) : Type 0 where
@@ -128,15 +141,16 @@ module _ {K : Type 0} (s : Setup K) (f : FunctionOf s) (ρ₀ : Env) where
     pub head : Head
     pub is_head : block.head ≡ Some head
     pub nest : block.nest ≡ outer ++ l ∷ []
+    pub heads : List Label
+    pub fresh : among l heads ≡ false
+    pub within : AllAmong block.nest (l ∷ heads)
+    pub behind : AreBehind (l ∷ heads) l
     pub env : Env
     pub keeps : KeepsOutside env
-    pub heads : List Label
-    pub within : AllAmong block.nest heads
-    pub behind : AreBehind heads l
-    pub goals : List Goal
-    pub paths : ℕ
-    pub walks : Walks (walked s f) heads block.statements block.end goals paths
-    pub hold : GoalsHold (S s) env (seen_before (head_commands b (walked s f).init l head) goals)
+    pub came : Came (walked s f) heads (arrival l) env
+    pub walk : Walk
+    pub walks : Within (walked s f) (l ∷ heads) (start_of l) walk
+    pub hold : GoalsHold (S s) env (seen_before (head_commands b (walked s f).init l head) (met walk))
     pub unchanged : (x : ℕ) (ty : Ty) → loop_writes b l x ≡ false → set x ≡ true → slice_get b.locals x ≡ Some ty → ρ (name_of b x) ≡ env (name_of b x)
 
   pub data Memories (set : Locals) (ρ : Env) : List Label → Type 0 where
@@ -154,13 +168,14 @@ module _ {K : Type 0} (s : Setup K) (f : FunctionOf s) (ρ₀ : Env) where
     head = p.head;
     is_head = p.is_head;
     nest = p.nest;
-    env = p.env;
-    keeps = p.keeps;
     heads = p.heads;
+    fresh = p.fresh;
     within = p.within;
     behind = p.behind;
-    goals = p.goals;
-    paths = p.paths;
+    env = p.env;
+    keeps = p.keeps;
+    came = p.came;
+    walk = p.walk;
     walks = p.walks;
     hold = p.hold;
     unchanged = λ x ty e inside is_ty. let was = keeps x ty e inside is_ty in was.1 ∙ p.unchanged x ty e was.0 is_ty;

@@ -28,7 +28,7 @@ use Rattle.mir_machine.specs.Memory.{is_there}
 use Rattle.mir_machine.specs.Step.{binary, negated, inverted, literal}
 use Rattle.mir_machine.proofs.Locals.{Left, local_tree, take_operand, take_operands, evaluate, put_local, run_local}
 use Rattle.mir_machine.proofs.Tried.{Quiet, quiet_then, quiet_need}
-use Rattle.wp_gen.specs.Row.{value_name, name_of, operand_term}
+use Rattle.prophecy_logic.specs.Row.{value_name, name_of, operand_term}
 use Rattle.prophecy_sim.proofs.Scalars.{Shows, AllShow, int_shows, truth_shows, empty_shows}
 use Rattle.prophecy_sim.proofs.Operations.{applied, InKind, IsInRange, opposite, binary_shows, negated_shows, inverted_shows}
 

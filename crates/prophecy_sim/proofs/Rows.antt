@@ -31,7 +31,7 @@ use Rattle.mir_ir.specs.declared.body.Body.{Body}
 use Rattle.mir_ir.specs.Body.{block_in}
 use Rattle.mir_ir.specs.Layout.{among, targets}
 use Rattle.mir_ir.specs.Names.{IsOneOf}
-use Rattle.mir_ir.specs.WellFormed.{EndIsTyped, Locals, Labelling, Within, taken, CanEnd, Carries, run, OperandsHave, CanTakeAll, all_taken}
+use Rattle.mir_ir.specs.WellFormed.{EndIsTyped, Locals, Labelling, Within as Within_set, taken, CanEnd, Carries, run, OperandsHave, CanTakeAll, all_taken}
 use Rattle.mir_machine.specs.Tree.{Tree}
 use Rattle.mir_machine.specs.Frame.{Frame, State}
 use Rattle.mir_machine.specs.Good.{Each, named, here}
@@ -42,11 +42,15 @@ use Rattle.mir_machine.specs.Try.{Yields, ◌>>=◌, need}
 use Rattle.mir_machine.proofs.Locals.{Left, local_tree, take_operand, take_operands, run_local, FrameEnd, Stays, Calls, Answers, starting, frame_end, frame_row, frame_step}
 use Rattle.mir_machine.proofs.NeverStuck.{Fits, Keeps, fits_within, take_goes, get_past, AreShaped, AreArguments, operands_go, local_goes, Shape}
 use Rattle.mir_machine.proofs.Tried.{Quiet, quiet_then}
-use Rattle.wp_gen.specs.declared.goal.Goal.{Goal}
-use Rattle.wp_gen.specs.Command.{by_assume, none, more}
-use Rattle.wp_gen.specs.Row.{operand_term, goals_of, commands_of, name_of}
-use Rattle.wp_gen.specs.Walk.{loop_writes, writes, seen_before, goals_at_return, where_true, where_false, Walks, statement, goto, branch, call, return, Arrives, at_answer, at_arguments, goals_of_call, call_commands}
-use Rattle.wp_gen.proofs.Commands.{GoalsHold, goals_moved, goals_first, goals_rest}
+use Rattle.prophecy_logic.specs.declared.goal.Goal.{Goal}
+use Rattle.prophecy_logic.specs.Command.{by_assume, none, more}
+use Rattle.prophecy_logic.specs.Row.{operand_term, goals_of, commands_of, name_of}
+use Rattle.prophecy_logic.specs.Graph.{IsBefore, IsAtEnd, Ends, goto, branch, call, return, Arrives}
+use Rattle.prophecy_logic.specs.Prefix.{arrival, within, over_statement, along_goto, to_true_side, to_false_side}
+use Rattle.prophecy_logic.specs.Loop.{loop_writes, writes}
+use Rattle.prophecy_logic.specs.Walk.{seen_before, goals_at_return, where_true, where_false, at_answer, at_arguments, goals_of_call, call_commands, Walk, met}
+use Rattle.prophecy_logic.proofs.Commands.{GoalsHold, goals_moved, goals_first, goals_rest}
+use Rattle.prophecy_logic.proofs.Steps.{over_statement as passes, to_end}
 use Rattle.prophecy_sim.specs.Programs.{Calls as CallsBody}
 use Rattle.prophecy_sim.proofs.Lists.{drop_get, drop_none, found_block, same_head, same_rest, get_first, each_of, decide}
 use Rattle.prophecy_sim.proofs.Setup.{Setup, FunctionOf, S, bodies, declarations, own, walked, params_outside}
@@ -54,10 +58,10 @@ use Rattle.prophecy_sim.proofs.Scalars.{Shows, AllShow, shows_truth, shaped_type
 use Rattle.prophecy_sim.proofs.Operands.{operand_value, operand_values, operand_means, taken_before, all_taken_before, Agree, agree_within, Leaves, LeavesAll, local_shows, take_shows, take_all_shows}
 use Rattle.prophecy_sim.proofs.Calls.{overlay, overlay_named, AsMany, as_many, as_many_operands, with_terms_mean, all_hold, all_exactly}
 use Rattle.prophecy_sim.proofs.Heads.{loop_writes_statement}
-use Rattle.prophecy_sim.proofs.Memories.{among_first, among_second, AreBehind, Memories, memories_kept, Reached, reached}
-use Rattle.wp_gen.specs.Walkable.{AllAmong}
+use Rattle.prophecy_sim.proofs.Memories.{among_first, among_second, AreBehind, Came, came_on, Memories, memories_kept, Reached, reached}
+use Rattle.prophecy_logic.specs.Walkable.{AllAmong}
 use Rattle.prophecy_sim.proofs.Stands.{stands_fit, stands_agree, they_stand}
-use Rattle.prophecy_sim.proofs.Standing.{Standing, arrived, each_holds}
+use Rattle.prophecy_sim.proofs.Standing.{point_of, Standing, arrived, each_holds}
 use Rattle.prophecy_sim.proofs.Steps.{quiet_both, After, statement_quiet}
 use Rattle.prophecy_sim.proofs.Waits.{first_ty, params_length, IsAnswer, Waiting}
 
@@ -97,19 +101,6 @@ module _ {K : Type 0} (s : Setup K) where
     EndsFine fs (Calls g h) = CallsFine fs g h
     EndsFine fs (Answers t) = IsAnswer s fs f ρ₀ t
 
-    -- the walk of a statement and of what comes after it
-    walk_statement : {heads : List Label} {xs : List Statement} {end : Terminator} {gs : List Goal} {n : ℕ} → Walks (walked s f) heads xs end gs n → (st : Statement) (sts : List Statement) → xs ≡ st ∷ sts →
-        (hs : List Goal) × (gs ≡ goals_of b st.span st.kind ++ seen_before (commands_of b st.kind) hs) × Walks (walked s f) heads sts end hs n
-    walk_statement {heads} (statement {end = end} {gs = hs} {n = n} rest) st sts e = (
-      hs,
-      ap (λ (x : Statement). goals_of b x.span x.kind ++ seen_before (commands_of b x.kind) hs) (same_head e),
-      subst (λ (ys : List Statement). Walks (walked s f) heads ys end hs n) (same_rest e) rest,
-    )
-    walk_statement (goto l e a) st sts q = absurd (cc)
-    walk_statement (branch o l m e a c) st sts q = absurd (cc)
-    walk_statement (call p callee types args l d t e fd ft a) st sts q = absurd (cc)
-    walk_statement (return e) st sts q = absurd (cc)
-
     module _ (fs : State K) (g : Frame K) (st : Standing s f ρ₀ (g ∷ fs) (length fs) g) where
       abbrev ρ : Env
       ρ = st.env
@@ -117,27 +108,31 @@ module _ {K : Type 0} (s : Setup K) where
       abbrev end_set : Locals
       end_set = initialised g.label (length st.block.statements)
 
-      abbrev Ends : FrameEnd K → Type 0
-      Ends = EndsFine fs
+      abbrev EndsWell : FrameEnd K → Type 0
+      EndsWell = EndsFine fs
+
+      -- the frame stands at the end of its block
+      here_ends : g.statement ≡ length st.block.statements → IsAtEnd b (point_of g) st.block.end
+      here_ends is_last = record { block = st.block; is_block = st.is_block; is_last = is_last; is_end = refl }
 
       -- ---- edges
 
       -- the ways on from the block, where no more is initialised than at its end
       abbrev Ways : List Label → Type 0
-      Ways heads = (l : Label) → among l (targets st.block.end.kind) ≡ true → Within (initialised l 0) end_set → Reached s f ρ₀ (initialised l 0) ρ heads l
+      Ways heads = (l : Label) → among l (targets st.block.end.kind) ≡ true → Within_set (initialised l 0) end_set → Reached s f ρ₀ (initialised l 0) ρ heads l
 
       -- the frame goes on with these locals at the block
-      goes_on : {heads : List Label} {gs : List Goal} {n : ℕ} (l : Label) (set : Locals) (ls : List (Tree K)) → Arrives (walked s f) heads l gs n → GoalsHold (S s) ρ gs → Fits b no_tys set ls → Agree b set ls ρ → Within (initialised l 0) set →
+      goes_on : {heads : List Label} {v : Walk} (l : Label) (set : Locals) (ls : List (Tree K)) → Arrives (walked s f) heads l v → Came s f ρ₀ (walked s f) heads (arrival l) ρ → GoalsHold (S s) ρ (met v) → Fits b no_tys set ls → Agree b set ls ρ → Within_set (initialised l 0) set →
           Reached s f ρ₀ (initialised l 0) ρ heads l → Standing s f ρ₀ (starting g ls l ∷ fs) (length fs) (starting g ls l)
-      goes_on l set ls arrives hold fitting agrees w way =
+      goes_on l set ls arrives came hold fitting agrees w way =
           arrived s f ρ₀ arrives (starting g ls l ∷ fs) (length fs) g ls st.function st.types
-          (record { fitting = fits_within b no_tys (initialised l 0) set ls w fitting; env = ρ; agrees = agree_within b (initialised l 0) set ls ρ w agrees; keeps = st.keeps })
+          (record { fitting = fits_within b no_tys (initialised l 0) set ls w fitting; env = ρ; agrees = agree_within b (initialised l 0) set ls ρ w agrees; keeps = st.keeps; came = came })
           way hold
 
-      branch_comes : {heads : List Label} {gs hs : List Goal} {n m : ℕ} (o : Operand) (l r : Label) → st.block.end.kind ≡ If o l r → Arrives (walked s f) heads l gs n → Arrives (walked s f) heads r hs m →
-          GoalsHold (S s) ρ (seen_before (where_true b o) gs ++ seen_before (where_false b o) hs) → Fits b no_tys end_set g.locals → Agree b end_set g.locals ρ → Ways heads → Quiet Ends (frame_end s.code g (If o l r))
-      branch_comes {gs = gs} {hs = hs} o l r kind to_l to_r hold fitting agrees ways =
-          quiet_then (λ (x : Left K). Keeps b no_tys (taken o end_set) bool x × Leaves b (taken o end_set) ρ value x) Ends (take_operand g.locals o) (λ x. truth_of x.1 >>= λ c. Yields (Stays (starting g x.0 (cond c l r))))
+      branch_comes : {heads : List Label} {u v : Walk} (o : Operand) (l r : Label) → st.block.end.kind ≡ If o l r → Arrives (walked s f) heads l u → Arrives (walked s f) heads r v → Came s f ρ₀ (walked s f) heads (within (point_of g)) ρ → IsAtEnd b (point_of g) st.block.end →
+          GoalsHold (S s) ρ (seen_before (where_true b o) (met u) ++ seen_before (where_false b o) (met v)) → Fits b no_tys end_set g.locals → Agree b end_set g.locals ρ → Ways heads → Quiet EndsWell (frame_end s.code g (If o l r))
+      branch_comes {heads} {u} {v} o l r kind to_l to_r came at_end hold fitting agrees ways =
+          quiet_then (λ (x : Left K). Keeps b no_tys (taken o end_set) bool x × Leaves b (taken o end_set) ρ value x) EndsWell (take_operand g.locals o) (λ x. truth_of x.1 >>= λ c. Yields (Stays (starting g x.0 (cond c l r))))
           (quiet_both (Keeps b no_tys (taken o end_set) bool) (Leaves b (taken o end_set) ρ value) (take_operand g.locals o)
           (take_goes b no_tys end_set g.locals o bool fitting has.0 can) (take_shows b end_set g.locals ρ o bool has.0 can agrees))
           (λ x kept. by_truth x.0 x.1 kept.0.0 kept.1.0 kept.0.1 kept.1.1)
@@ -157,27 +152,27 @@ module _ {K : Type 0} (s : Setup K) where
           exactly : Exactly (Means (S s) (operand_term b o) ρ) value
           exactly = operand_means (S s) b ρ o
 
-          to_end : (m : Label) → Within (initialised m 0) (taken o end_set) → Within (initialised m 0) end_set
+          to_end : (m : Label) → Within_set (initialised m 0) (taken o end_set) → Within_set (initialised m 0) end_set
           to_end m w x inside = taken_before o end_set x (w x inside)
 
-          first_goals : GoalsHold (S s) ρ (seen_before (where_true b o) gs)
-          first_goals = goals_first (S s) ρ (seen_before (where_true b o) gs) (seen_before (where_false b o) hs) hold
+          first_goals : GoalsHold (S s) ρ (seen_before (where_true b o) (met u))
+          first_goals = goals_first (S s) ρ (seen_before (where_true b o) (met u)) (seen_before (where_false b o) (met v)) hold
 
-          rest_goals : GoalsHold (S s) ρ (seen_before (where_false b o) hs)
-          rest_goals = goals_rest (S s) ρ (seen_before (where_true b o) gs) (seen_before (where_false b o) hs) hold
+          rest_goals : GoalsHold (S s) ρ (seen_before (where_false b o) (met v))
+          rest_goals = goals_rest (S s) ρ (seen_before (where_true b o) (met u)) (seen_before (where_false b o) (met v)) hold
 
           of_truth : (ls : List (Tree K)) (c : Bool) → Fits b no_tys (taken o end_set) ls → Agree b (taken o end_set) ls ρ → value ≡ Flag c → Standing s f ρ₀ (starting g ls (cond c l r) ∷ fs) (length fs) (starting g ls (cond c l r))
           of_truth ls true fitted agreed is =
-              let known : Holds (S s) (operand_term b o) ρ = (yes_flag (Means (S s) (operand_term b o) ρ) true (subst (λ v. Exactly (Means (S s) (operand_term b o) ρ) v) is exactly)).1 refl in
-              goes_on l (taken o end_set) ls to_l (goals_moved (S s) gs (more (by_assume known) none) first_goals) fitted agreed carries.0 (ways l (subst (λ x. among l (targets x) ≡ true) (sym kind) (among_first l (r ∷ []))) (to_end l carries.0))
+              let known : Holds (S s) (operand_term b o) ρ = (yes_flag (Means (S s) (operand_term b o) ρ) true (subst (λ w. Exactly (Means (S s) (operand_term b o) ρ) w) is exactly)).1 refl in
+              goes_on l (taken o end_set) ls to_l (came_on s f ρ₀ came (where_true b o) (to_true_side st.block.end o l r came.prefix at_end kind) (more (by_assume known) none)) (goals_moved (S s) (met u) (more (by_assume known) none) first_goals) fitted agreed carries.0 (ways l (subst (λ x. among l (targets x) ≡ true) (sym kind) (among_first l (r ∷ []))) (to_end l carries.0))
           of_truth ls false fitted agreed is =
-              let denied : Holds (S s) (operand_term b o) ρ → ⊥ = λ h. not_true ((yes_flag (Means (S s) (operand_term b o) ρ) false (subst (λ v. Exactly (Means (S s) (operand_term b o) ρ) v) is exactly)).0 h) in
+              let denied : Holds (S s) (operand_term b o) ρ → ⊥ = λ h. not_true ((yes_flag (Means (S s) (operand_term b o) ρ) false (subst (λ w. Exactly (Means (S s) (operand_term b o) ρ) w) is exactly)).0 h) in
               let known : Holds (S s) (terms.not (operand_term b o)) ρ = (holds_not (S s) (operand_term b o) ρ).1 denied in
-              goes_on r (taken o end_set) ls to_r (goals_moved (S s) hs (more (by_assume known) none) rest_goals) fitted agreed carries.1 (ways r (subst (λ x. among r (targets x) ≡ true) (sym kind) (among_second l r)) (to_end r carries.1))
+              goes_on r (taken o end_set) ls to_r (came_on s f ρ₀ came (where_false b o) (to_false_side st.block.end o l r came.prefix at_end kind) (more (by_assume known) none)) (goals_moved (S s) (met v) (more (by_assume known) none) rest_goals) fitted agreed carries.1 (ways r (subst (λ x. among r (targets x) ≡ true) (sym kind) (among_second l r)) (to_end r carries.1))
 
-          by_truth : (ls : List (Tree K)) (t : Tree K) → Fits b no_tys (taken o end_set) ls → Agree b (taken o end_set) ls ρ → Shape bool t → Shows t value → Quiet Ends (truth_of t >>= λ d. Yields (Stays (starting g ls (cond d l r))))
+          by_truth : (ls : List (Tree K)) (t : Tree K) → Fits b no_tys (taken o end_set) ls → Agree b (taken o end_set) ls ρ → Shape bool t → Shows t value → Quiet EndsWell (truth_of t >>= λ d. Yields (Stays (starting g ls (cond d l r))))
           by_truth ls t fitted agreed (there, (c, is)) shows =
-              subst (λ (u : Tree K). Quiet Ends (truth_of u >>= λ d. Yields (Stays (starting g ls (cond d l r))))) (sym is)
+              subst (λ (u : Tree K). Quiet EndsWell (truth_of u >>= λ d. Yields (Stays (starting g ls (cond d l r))))) (sym is)
               (of_truth ls c fitted agreed (shows_truth c value (subst (λ (u : Tree K). Shows u value) is shows)))
 
       -- ---- the return
@@ -203,9 +198,9 @@ module _ {K : Type 0} (s : Setup K) where
           at_name x q (inr d) =
               with_other ρ (own s f).contract.answer x (ρ (name_of b 0)) d ∙ st.keeps x (params_outside s f x (over.0 x q d)) ∙ sym (with_other ρ₀ (own s f).contract.answer x (ρ (name_of b 0)) d)
 
-      return_comes : GoalsHold (S s) ρ (goals_at_return b (own s f).contract) → Fits b no_tys end_set g.locals → Agree b end_set g.locals ρ → end_set 0 ≡ true → Quiet Ends (frame_end s.code g Return)
+      return_comes : GoalsHold (S s) ρ (goals_at_return b (own s f).contract) → Fits b no_tys end_set g.locals → Agree b end_set g.locals ρ → end_set 0 ≡ true → Quiet EndsWell (frame_end s.code g Return)
       return_comes hold fitting agrees there =
-          quiet_then (λ t. Shape (instance no_tys answer.0) t × Shows t (ρ (name_of b 0))) Ends (local_tree g.locals 0) (λ t. Yields (Answers t))
+          quiet_then (λ t. Shape (instance no_tys answer.0) t × Shows t (ρ (name_of b 0))) EndsWell (local_tree g.locals 0) (λ t. Yields (Answers t))
           (quiet_both (Shape (instance no_tys answer.0)) (λ t. Shows t (ρ (name_of b 0))) (local_tree g.locals 0)
           (local_goes b no_tys end_set g.locals 0 answer.0 fitting answer.1 there) (local_shows b end_set g.locals ρ 0 answer.0 answer.1 there agrees))
           (λ t h. record {
@@ -219,9 +214,9 @@ module _ {K : Type 0} (s : Setup K) where
 
       -- ---- calls
 
-      module _ {heads : List Label} {gs : List Goal} {paths : ℕ} (p : Place) (n : ℕ) (types : List Ty) (os : List Operand) (l : Label) (d : Contract) (t : Ty) (at : Span) (kind : st.block.end.kind ≡ Call p (Function (OfBody n)) types os l)
-          (is_d : slice_get s.contracts n ≡ Some d) (is_t : slice_get b.locals p.local ≡ Some t) (arrives : Arrives (walked s f) heads l gs paths)
-          (hold : GoalsHold (S s) ρ (goals_of_call b d at os ++ seen_before (call_commands b d p.local t os) gs))
+      module _ {heads : List Label} {v : Walk} (p : Place) (n : ℕ) (types : List Ty) (os : List Operand) (l : Label) (d : Contract) (t : Ty) (at : Span) (kind : st.block.end.kind ≡ Call p (Function (OfBody n)) types os l)
+          (is_d : slice_get s.contracts n ≡ Some d) (is_t : slice_get b.locals p.local ≡ Some t) (arrives : Arrives (walked s f) heads l v) (came : Came s f ρ₀ (walked s f) heads (within (point_of g)) ρ) (is_last : g.statement ≡ length st.block.statements)
+          (hold : GoalsHold (S s) ρ (goals_of_call b d at os ++ seen_before (call_commands b d p.local t os) (met v)))
           (fitting : Fits b no_tys end_set g.locals) (agrees : Agree b end_set g.locals ρ) (nested : Memories s f ρ₀ end_set ρ st.block.nest) (enclosing : AllAmong st.block.nest heads) (behind : AreBehind s f ρ₀ heads g.label) where
         abbrev ended : EndIsTyped (bodies s) b (Call p (Function (OfBody n)) types os l)
         ended = subst (EndIsTyped (bodies s) b) kind ((own s f).typed.ends g.label st.block st.is_block)
@@ -247,8 +242,8 @@ module _ {K : Type 0} (s : Setup K) where
         same_contract : d ≡ (own s callee).contract
         same_contract = same_Some _ _ (sym is_d ∙ (own s callee).is_contract)
 
-        goals_here : GoalsHold (S s) ρ (goals_of_call b (own s callee).contract at os ++ seen_before (call_commands b (own s callee).contract p.local t os) gs)
-        goals_here = subst (λ (e : Contract). GoalsHold (S s) ρ (goals_of_call b e at os ++ seen_before (call_commands b e p.local t os) gs)) same_contract hold
+        goals_here : GoalsHold (S s) ρ (goals_of_call b (own s callee).contract at os ++ seen_before (call_commands b (own s callee).contract p.local t os) (met v))
+        goals_here = subst (λ (e : Contract). GoalsHold (S s) ρ (goals_of_call b e at os ++ seen_before (call_commands b e p.local t os) (met v))) same_contract hold
 
         -- the environment in which the callee is called
         abbrev called_in : Env
@@ -256,7 +251,7 @@ module _ {K : Type 0} (s : Setup K) where
 
         -- the goals of what is left, behind the call
         abbrev behind_goals : List Goal
-        behind_goals = seen_before (call_commands b (own s callee).contract p.local t os) gs
+        behind_goals = seen_before (call_commands b (own s callee).contract p.local t os) (met v)
 
         count : AsMany (own s callee).contract.params values
         count = as_many b ρ (own s callee).contract.params os ((own s callee).speaks.count ∙ sym (params_length callee.body (own s callee).typed.answers) ∙ sym (as_many_operands b os param_types have))
@@ -308,6 +303,7 @@ module _ {K : Type 0} (s : Setup K) where
             types = st.types;
             block = st.block;
             is_block = st.is_block;
+            is_last = is_last;
             place = p;
             type_arguments = types;
             operands = os;
@@ -320,8 +316,8 @@ module _ {K : Type 0} (s : Setup K) where
             keeps = st.keeps;
             begun = refl;
             heads = heads;
-            goals = gs;
-            paths = paths;
+            came = came;
+            walk = v;
             arrives = arrives;
             hold = goals_rest (S s) ρ (goals_of_call b (own s callee).contract at os) behind_goals goals_here;
             nested = memories_kept s f ρ₀ nested (λ h a x ty e inside is_x. (all_taken_before os end_set x inside, refl));
@@ -330,39 +326,41 @@ module _ {K : Type 0} (s : Setup K) where
           };
         }
 
-        call_comes : Quiet Ends (frame_end s.code g (Call p (Function (OfBody n)) types os l))
+        call_comes : Quiet EndsWell (frame_end s.code g (Call p (Function (OfBody n)) types os l))
         call_comes =
-            quiet_then (λ (a : List (Tree K) × List (Tree K)). AreArguments b no_tys set param_types a × LeavesAll b set ρ values a) Ends (take_operands g.locals os)
+            quiet_then (λ (a : List (Tree K) × List (Tree K)). AreArguments b no_tys set param_types a × LeavesAll b set ρ values a) EndsWell (take_operands g.locals os)
             (λ a. callee_frame (bodies s) (Function (OfBody n)) a.1 >>= λ h. Yields (Calls (record g { locals = a.0 }) h))
             (quiet_both (AreArguments b no_tys set param_types) (LeavesAll b set ρ values) (take_operands g.locals os)
             (operands_go b no_tys end_set g.locals os param_types fitting have can)
             (take_all_shows b end_set g.locals ρ os param_types have can agrees))
-            (λ a h. subst (λ (o : Option Body). Quiet Ends ((need o >>= λ x. Yields (entered x n no_tys a.1)) >>= λ g'. Yields (Calls (record g { locals = a.0 }) g'))) (sym ended.0.2)
+            (λ a h. subst (λ (o : Option Body). Quiet EndsWell ((need o >>= λ x. Yields (entered x n no_tys a.1)) >>= λ g'. Yields (Calls (record g { locals = a.0 }) g'))) (sym ended.0.2)
             (calls_fine a.0 a.1 h.0.0 h.0.1 h.1.0 h.1.1))
 
       -- ---- the end of a block, where its statements are done
 
-      end_comes : {heads : List Label} {xs : List Statement} {end : Terminator} {gs : List Goal} {n : ℕ} → Walks (walked s f) heads xs end gs n → xs ≡ [] → end ≡ st.block.end → GoalsHold (S s) ρ gs →
-          Fits b no_tys end_set g.locals → Agree b end_set g.locals ρ → Memories s f ρ₀ end_set ρ st.block.nest → AllAmong st.block.nest heads → AreBehind s f ρ₀ heads g.label → Ways heads → Quiet Ends (frame_end s.code g end.kind)
-      end_comes (statement rest) e is hold fitting agrees nested enclosing behind ways = absurd (cc)
-      end_comes {end = end} (goto l q arrives) e is hold fitting agrees nested enclosing behind ways =
+      end_comes : {heads : List Label} {end : Terminator} {v : Walk} → Ends (walked s f) heads end v → end ≡ st.block.end → g.statement ≡ length st.block.statements → Came s f ρ₀ (walked s f) heads (within (point_of g)) ρ → GoalsHold (S s) ρ (met v) →
+          Fits b no_tys end_set g.locals → Agree b end_set g.locals ρ → Memories s f ρ₀ end_set ρ st.block.nest → AllAmong st.block.nest heads → AreBehind s f ρ₀ heads g.label → Ways heads → Quiet EndsWell (frame_end s.code g end.kind)
+      end_comes (goto l q arrives) is is_last came hold fitting agrees nested enclosing behind ways =
           let kind : st.block.end.kind ≡ Goto l = ap (λ (x : Terminator). x.kind) (sym is) ∙ q in
-          let carries : Within (initialised l 0) end_set = subst (Carries (λ m. initialised m 0) end_set) kind ((own s f).moves.edges g.label st.block st.is_block) in
-          subst (λ k. Quiet Ends (frame_end s.code g k)) (sym q) (goes_on l end_set g.locals arrives hold fitting agrees carries (ways l (subst (λ x. among l (targets x) ≡ true) (sym kind) (among_first l [])) carries))
-      end_comes {end = end} (branch o l r q to_l to_r) e is hold fitting agrees nested enclosing behind ways =
-          subst (λ k. Quiet Ends (frame_end s.code g k)) (sym q) (branch_comes o l r (ap (λ (x : Terminator). x.kind) (sym is) ∙ q) to_l to_r hold fitting agrees ways)
-      end_comes {end = end} (call p (Function (OfBody n)) types os l d t q is_d is_t arrives) e is hold fitting agrees nested enclosing behind ways =
-          subst (λ k. Quiet Ends (frame_end s.code g k)) (sym q) (call_comes p n types os l d t end.span (ap (λ (x : Terminator). x.kind) (sym is) ∙ q) is_d is_t arrives hold fitting agrees nested enclosing behind)
-      end_comes {end = end} (return q) e is hold fitting agrees nested enclosing behind ways =
+          let carries : Within_set (initialised l 0) end_set = subst (Carries (λ m. initialised m 0) end_set) kind ((own s f).moves.edges g.label st.block st.is_block) in
+          subst (λ k. Quiet EndsWell (frame_end s.code g k)) (sym q)
+          (goes_on l end_set g.locals arrives (record { commands = came.commands; prefix = along_goto st.block.end l came.prefix (here_ends is_last) kind; moves = came.moves }) hold fitting agrees carries
+          (ways l (subst (λ x. among l (targets x) ≡ true) (sym kind) (among_first l [])) carries))
+      end_comes (branch o l r q to_l to_r) is is_last came hold fitting agrees nested enclosing behind ways =
+          subst (λ k. Quiet EndsWell (frame_end s.code g k)) (sym q) (branch_comes o l r (ap (λ (x : Terminator). x.kind) (sym is) ∙ q) to_l to_r came (here_ends is_last) hold fitting agrees ways)
+      end_comes {end = end} (call p (Function (OfBody n)) types os l d t q is_d is_t arrives) is is_last came hold fitting agrees nested enclosing behind ways =
+          subst (λ k. Quiet EndsWell (frame_end s.code g k)) (sym q)
+          (call_comes p n types os l d t end.span (ap (λ (x : Terminator). x.kind) (sym is) ∙ q) is_d is_t arrives came is_last hold fitting agrees nested enclosing behind)
+      end_comes (return q) is is_last came hold fitting agrees nested enclosing behind ways =
           let kind : st.block.end.kind ≡ Return = ap (λ (x : Terminator). x.kind) (sym is) ∙ q in
           let can : end_set 0 ≡ true = subst (CanEnd end_set) kind ((own s f).moves.ends g.label st.block st.is_block) in
-          subst (λ k. Quiet Ends (frame_end s.code g k)) (sym q) (return_comes hold fitting agrees can)
+          subst (λ k. Quiet EndsWell (frame_end s.code g k)) (sym q) (return_comes (goals_first (S s) ρ (goals_at_return b (own s f).contract) [] hold) fitting agrees can)
 
-      at_end : slice_get st.block.statements g.statement ≡ None → Quiet Ends (frame_row s.code b g st.block.end None)
+      at_end : slice_get st.block.statements g.statement ≡ None → Quiet EndsWell (frame_row s.code b g st.block.end None)
       at_end e =
-          let here : g.statement ≡ length st.block.statements = omega (arith, get_past st.block.statements g.statement e, st.within) in
+          let here : g.statement ≡ length st.block.statements = omega (arith, get_past st.block.statements g.statement e, st.in_block) in
           let nested : Memories s f ρ₀ end_set ρ st.block.nest = subst (λ i. Memories s f ρ₀ (initialised g.label i) ρ st.block.nest) here st.nested in
-          end_comes st.walks (drop_none st.block.statements g.statement e) refl st.hold
+          end_comes (to_end st.walks st.block.end (here_ends here)) refl here st.came st.hold
           (subst (λ i. Fits b no_tys (initialised g.label i) g.locals) here (stands_fit s f st.stands))
           (subst (λ i. Agree b (initialised g.label i) g.locals ρ) here (stands_agree s f st.stands))
           nested st.enclosing st.behind
@@ -370,16 +368,17 @@ module _ {K : Type 0} (s : Setup K) where
 
       -- ---- statements
 
-      at_statement : (x : Statement) → slice_get st.block.statements g.statement ≡ Some x → Quiet Ends (frame_row s.code b g st.block.end (Some x))
+      at_statement : (x : Statement) → slice_get st.block.statements g.statement ≡ Some x → Quiet EndsWell (frame_row s.code b g st.block.end (Some x))
       at_statement x e =
-          let split = walk_statement st.walks x (drop (g.statement + 1) st.block.statements) (drop_get st.block.statements g.statement x e) in
-          let after : List Goal = seen_before (commands_of b x.kind) split.0 in
-          let hold : GoalsHold (S s) ρ (goals_of b x.span x.kind ++ after) = subst (GoalsHold (S s) ρ) split.1 st.hold in
+          let before : IsBefore b (point_of g) x = record { block = st.block; is_block = st.is_block; is_statement = e } in
+          let split = passes st.walks x before in
+          let after : List Goal = seen_before (commands_of b x.kind) (met split.rest) in
+          let hold : GoalsHold (S s) ρ (goals_of b x.span x.kind ++ after) = subst (λ u. GoalsHold (S s) ρ (met u)) split.is st.hold in
           let rows = (own s f).moves.statements g.label st.block g.statement x st.is_block e in
           let set = initialised g.label g.statement in
           let next = initialised g.label (g.statement + 1) in
-          subst (λ θ. Quiet Ends (run_local b θ g.locals x.span x.kind >>= λ ls. Yields (Stays (record g { locals = ls; statement = g.statement + 1 })))) (sym st.types)
-          (quiet_then (After s f x.kind set ρ) Ends (run_local b no_tys g.locals x.span x.kind) (λ ls. Yields (Stays (record g { locals = ls; statement = g.statement + 1 })))
+          subst (λ θ. Quiet EndsWell (run_local b θ g.locals x.span x.kind >>= λ ls. Yields (Stays (record g { locals = ls; statement = g.statement + 1 })))) (sym st.types)
+          (quiet_then (After s f x.kind set ρ) EndsWell (run_local b no_tys g.locals x.span x.kind) (λ ls. Yields (Stays (record g { locals = ls; statement = g.statement + 1 })))
           (statement_quiet s f x.kind set g.locals ρ x.span ((own s f).typed.statements g.label st.block g.statement x st.is_block e) rows.0 (stands_fit s f st.stands) (stands_agree s f st.stands)
           (goals_first (S s) ρ (goals_of b x.span x.kind) after hold))
           (λ ls a. record {
@@ -387,15 +386,15 @@ module _ {K : Type 0} (s : Setup K) where
             types = st.types;
             block = st.block;
             is_block = st.is_block;
-            within = omega (arith, slice_get_within st.block.statements g.statement x e);
+            in_block = omega (arith, slice_get_within st.block.statements g.statement x e);
             env = a.env;
             stands = they_stand s f (record g { locals = ls; statement = g.statement + 1 } ∷ fs) (length fs) (fits_within b no_tys next (run x.kind set) ls rows.1 a.fitting) (agree_within b next (run x.kind set) ls a.env rows.1 a.agrees);
             keeps = λ n outside. a.elsewhere n outside ∙ st.keeps n outside;
             heads = st.heads;
-            goals = split.0;
-            paths = st.paths;
-            walks = split.2;
-            hold = goals_moved (S s) split.0 a.moves (goals_rest (S s) ρ (goals_of b x.span x.kind) after hold);
+            came = came_on s f ρ₀ st.came (commands_of b x.kind) (over_statement x st.came.prefix before) a.moves;
+            walk = split.rest;
+            walks = split.walks;
+            hold = goals_moved (S s) (met split.rest) a.moves (goals_rest (S s) ρ (goals_of b x.span x.kind) after hold);
             nested = memories_kept s f ρ₀ st.nested (λ h inside y ty unwritten is_in is_y. a.others y ty (not_written h y inside unwritten) (rows.1 y is_in) is_y);
             enclosing = st.enclosing;
             behind = st.behind;
@@ -408,13 +407,13 @@ module _ {K : Type 0} (s : Setup K) where
               by_test true q = absurd (true≢false (sym (loop_writes_statement b h g.label st.block g.statement x y st.is_block inside e q) ∙ unwritten))
               by_test false q = q
 
-      row_comes : (o : Option Statement) → slice_get st.block.statements g.statement ≡ o → Quiet Ends (frame_row s.code b g st.block.end o)
+      row_comes : (o : Option Statement) → slice_get st.block.statements g.statement ≡ o → Quiet EndsWell (frame_row s.code b g st.block.end o)
       row_comes (Some x) e = at_statement x e
       row_comes None e = at_end e
 
       pub frame_comes : Quiet (EndsFine fs) (frame_step s.code g)
       frame_comes =
           let found : slice_get (bodies s).bodies g.function ≡ Some b = subst (λ n. slice_get (bodies s).bodies n ≡ Some b) (sym st.function) f.is_body in
-          subst (λ (o : Option Body). Quiet Ends (need o >>= λ c. need (block_in c.blocks g.label) >>= λ d. frame_row s.code c g d.end (slice_get d.statements g.statement))) (sym found)
-          (subst (λ (o : Option Block). Quiet Ends (need o >>= λ d. frame_row s.code b g d.end (slice_get d.statements g.statement))) (sym st.is_block)
+          subst (λ (o : Option Body). Quiet EndsWell (need o >>= λ c. need (block_in c.blocks g.label) >>= λ d. frame_row s.code c g d.end (slice_get d.statements g.statement))) (sym found)
+          (subst (λ (o : Option Block). Quiet EndsWell (need o >>= λ d. frame_row s.code b g d.end (slice_get d.statements g.statement))) (sym st.is_block)
           (row_comes (slice_get st.block.statements g.statement) refl))

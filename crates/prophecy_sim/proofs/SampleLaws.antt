@@ -25,8 +25,9 @@ use Rattle.mir_ir.specs.declared.body.Head.{Head}
 use Rattle.mir_ir.specs.Body.{block_in}
 use Rattle.mir_ir.specs.Layout.{among, targets, Leads, on, back}
 use Rattle.mir_ir.specs.WellFormed.{HasBlock, StatementIsTyped, EndIsTyped, IsTyped, Locals, with, CanRun, run, CanEnd, Carries, Within, parameters, Labelling, MeetsMoveRows}
-use Rattle.wp_gen.specs.Row.{value_name}
-use Rattle.wp_gen.specs.Walk.{is_gone, statement, goto, branch, call, return, plain, first, again}
+use Rattle.prophecy_logic.specs.Row.{value_name}
+use Rattle.prophecy_logic.specs.Graph.{by_statement, by_end, goto, branch, call, return, plain, first, again}
+use Rattle.prophecy_logic.specs.Loop.{is_gone}
 use Rattle.prophecy_sim.specs.Programs.{IsScalar, IsSimple, HeadsSpeakOf, AreFunctions, HasTrueObligations, setting, IsFunction}
 use Rattle.prophecy_sim.specs.Sample.{label, whole, name, head, cleared, caller, is_false, program, SampleIsSound, SampleIsTrue, SampleIsGood}
 use Rattle.prophecy_sim.proofs.GoodBody.{good}
@@ -359,20 +360,15 @@ true_obligations : (Θ : Theory) → HasTrueObligations Θ (setting program 0 cl
 true_obligations Θ = record {
   first = 1;
   obligations = _;
-  paths = _;
   are = record {
-    goals = _;
-    are_goals = record {
-      inner = _;
-      arrives = plain _ refl refl (statement (goto (label 1) refl (
-          first _ head refl refl refl (
-          branch (Copy (whole 0)) (label 2) (label 3) refl
-          (plain _ refl refl (statement (goto (label 1) refl (again _ head refl refl refl))))
-          (plain _ refl refl (return refl))
-          )
-          )));
-      closed = refl;
-    };
+    walk = _;
+    arrives = plain _ refl refl (by_statement _ (record { block = _; is_block = refl; is_statement = refl }) (by_end _ (record { block = _; is_block = refl; is_last = refl; is_end = refl }) (goto (label 1) refl (
+        first _ head refl refl refl (
+        by_end _ (record { block = _; is_block = refl; is_last = refl; is_end = refl }) (branch (Copy (whole 0)) (label 2) (label 3) refl
+        (plain _ refl refl (by_statement _ (record { block = _; is_block = refl; is_statement = refl }) (by_end _ (record { block = _; is_block = refl; is_last = refl; is_end = refl }) (goto (label 1) refl (again _ head refl refl refl)))))
+        (plain _ refl refl (by_end _ (record { block = _; is_block = refl; is_last = refl; is_end = refl }) (return refl))))
+        )
+        ))));
     are_numbered = refl;
   };
   all_true = (
@@ -390,14 +386,9 @@ unfolding value_name
 caller_true_obligations Θ = record {
   first = 1;
   obligations = _;
-  paths = _;
   are = record {
-    goals = _;
-    are_goals = record {
-      inner = _;
-      arrives = plain _ refl refl (call (whole 0) (Function (OfBody 0)) [] (Copy (whole 1) ∷ []) (label 1) is_false bool refl refl refl (plain _ refl refl (return refl)));
-      closed = refl;
-    };
+    walk = _;
+    arrives = plain _ refl refl (by_end _ (record { block = _; is_block = refl; is_last = refl; is_end = refl }) (call (whole 0) (Function (OfBody 0)) [] (Copy (whole 1) ∷ []) (label 1) is_false bool refl refl refl (plain _ refl refl (by_end _ (record { block = _; is_block = refl; is_last = refl; is_end = refl }) (return refl)))));
     are_numbered = refl;
   };
   all_true = (λ θ i ρ. as_reduced _ _ ρ (is_true _ (λ w sort. is_true _ (λ v fits. is_true _ (λ known. known)))), tt);

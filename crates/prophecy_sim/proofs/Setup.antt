@@ -15,8 +15,8 @@ use Rattle.mir_ir.specs.Names.{IsOneOf, new_number}
 use Rattle.mir_ir.specs.WellFormed.{AreSound, Labelling}
 use Rattle.mir_machine.specs.Code.{Code}
 use Rattle.mir_machine.specs.declared.spot.Spot.{Spot}
-use Rattle.wp_gen.specs.Row.{value_name, or_value_name, name_of}
-use Rattle.wp_gen.specs.Walk.{Setting}
+use Rattle.prophecy_logic.specs.Row.{value_name, or_value_name, name_of}
+use Rattle.prophecy_logic.specs.Graph.{Setting}
 use Rattle.prophecy_sim.specs.Programs.{Program, setting, IsFunction, AreFunctions}
 use Rattle.prophecy_sim.proofs.Lists.{get_first, get_taken, get_behind}
 use Rattle.prophecy_sim.proofs.Scalars.{AreScalar}

@@ -1,6 +1,5 @@
 -- A frame that stands in its body, and its arrival at a block.
 use Rattle.std.proofs.Common.{◌≡◌, ◌∙◌, ◌⊎◌, inl, inr, refl, sym, ap, subst, ℕ, ◌≤◌, ◌&&◌, pos, Bool, true, false, cond, List, [], ◌∷◌, ◌++◌, length, drop, Option, Some, None, slice_get, true≢false, arith}
-use Rattle.std.specs.Prelude.{not as flip}
 use Rattle.std.proofs.lemmas.Option.{same_Some}
 use Rattle.text_core.specs.declared.name.Name.{Name}
 use Rattle.text_core.specs.declared.refusal.Kind.{Kind}
@@ -31,11 +30,18 @@ use Rattle.mir_machine.specs.Frame.{Frame, State}
 use Rattle.mir_machine.specs.Good.{Each}
 use Rattle.mir_machine.proofs.Locals.{starting}
 use Rattle.mir_machine.proofs.NeverStuck.{Fits}
-use Rattle.wp_gen.specs.declared.goal.Goal.{Goal}
-use Rattle.wp_gen.specs.Row.{name_of}
-use Rattle.wp_gen.specs.Walk.{loop_writes, is_gone, is_renewed, head_commands, each_goal, seen_before, Walks, Arrives, plain, first, again}
-use Rattle.wp_gen.specs.Walkable.{AllAmong}
-use Rattle.wp_gen.proofs.Commands.{GoalsHold, goals_moved, goals_first, goals_rest, then_moves}
+use Rattle.prophecy_logic.specs.declared.goal.Goal.{Goal}
+use Rattle.prophecy_logic.specs.Row.{name_of}
+use Rattle.mir_ir.specs.declared.body.Point.{Point}
+use Rattle.prophecy_logic.specs.Command.{MovesAll}
+use Rattle.prophecy_logic.specs.Graph.{Within, Arrives, plain, first, again}
+use Rattle.prophecy_logic.specs.Prefix.{arrival, within, into_block, into_head}
+use Rattle.prophecy_logic.specs.Loop.{loop_writes, is_gone, touched_there, head_commands}
+use Rattle.prophecy_logic.specs.declared.touch.Touch.{Touch}
+use Rattle.prophecy_logic.specs.declared.touch.Touch.TheVariants.{Untouched, Whole}
+use Rattle.prophecy_logic.specs.Walk.{each_goal, goals_at_entry, goals_after_turn, seen_before, Walk, met}
+use Rattle.prophecy_logic.specs.Walkable.{AllAmong}
+use Rattle.prophecy_logic.proofs.Commands.{GoalsHold, goals_moved, goals_first, goals_rest, then_moves}
 use Rattle.prophecy_sim.specs.Programs.{IsScalar}
 use Rattle.prophecy_sim.proofs.Lists.{each_of}
 use Rattle.prophecy_sim.proofs.Setup.{Setup, FunctionOf, S, declarations, own, walked, local_named, local_of, named_as, params_outside}
@@ -43,8 +49,8 @@ use Rattle.prophecy_sim.proofs.Scalars.{Shows}
 use Rattle.prophecy_sim.proofs.Operands.{Agree}
 use Rattle.prophecy_sim.proofs.Stands.{Stands, they_stand, local_sort}
 use Rattle.prophecy_sim.proofs.Entries.{assumed_move}
-use Rattle.prophecy_sim.proofs.Heads.{Renewed, renewed_move}
-use Rattle.prophecy_sim.proofs.Memories.{among_first, among_more, among_head, among_either, KeepsOutside, AreBehind, Passed, passed_kept, Memories, one_more, memories_kept, Reached, onward, backward}
+use Rattle.prophecy_sim.proofs.Heads.{Renewed, renewed_move, not_whole}
+use Rattle.prophecy_sim.proofs.Memories.{among_first, among_more, among_head, among_either, KeepsOutside, AreBehind, Came, came_on, Passed, passed_kept, Memories, one_more, memories_kept, Reached, onward, backward}
 
 -- one formula for each goal
 pub each_holds : (S₀ : Structure) (kind : Kind) (ts : List Term) (spans : List Span) (ρ : Env) → GoalsHold S₀ ρ (each_goal kind ts spans) → Each (λ t. Holds S₀ t ρ) ts
@@ -86,10 +92,12 @@ ty_is : (o : Option Ty) (ty : Ty) → o ≡ Some ty → ty_or o ≡ ty
 unfolding ty_or
 ty_is o ty e = ap ty_or e
 
-not_both : (p q : Bool) → q ≡ false → (p && flip q) ≡ false → p ≡ false
-not_both true true e f = e
-not_both true false e f = f
-not_both false q e f = refl
+-- what is there at a head and is not touched is not written
+not_touched : (gone writes : Bool) → gone ≡ false → cond gone Untouched (cond writes Whole Untouched) ≡ Untouched → writes ≡ false
+not_touched true true e f = absurd (true≢false e)
+not_touched true false e f = refl
+not_touched false true e f = absurd (not_whole (sym f))
+not_touched false false e f = refl
 
 -- ---- blocks
 
@@ -111,6 +119,10 @@ still l heads outer h m e = elim (among_either m l outer e) [
   | inr q ↦ subst (λ k. among k (l ∷ heads) ≡ true) q (among_first l heads)
 ]
 
+-- where a frame stands in its code
+abbrev pub point_of : {K : Type 0} → Frame K → Point
+point_of g = record { label = g.label; statement = g.statement }
+
 -- f: a function; ρ₀: the environment in which its call began
 module _ {K : Type 0} (s : Setup K) (f : FunctionOf s) (ρ₀ : Env) where
   abbrev b : Body
@@ -119,37 +131,38 @@ module _ {K : Type 0} (s : Setup K) (f : FunctionOf s) (ρ₀ : Env) where
   abbrev initialised : Labelling
   initialised = s.labelling f.number
 
-  -- in the state frame g, of this number, stands in the function's code: an environment stands for its locals, in which the goals of what
-  -- is left of a walk hold
+  -- in the state frame g, of this number, stands in the function's code: a prefix leads there, whose end's environment stands for its
+  -- locals, and in which the goals of what is left of a walk hold
   pub record Standing (st : State K) (frame : ℕ) (g : Frame K) : Type 0 where
     pub function : g.function ≡ f.number
     pub types : g.types ≡ no_tys
     pub block : Block
     pub is_block : block_in b.blocks g.label ≡ Some block
-    pub within : g.statement ≤ length block.statements
+    pub in_block : g.statement ≤ length block.statements
     pub env : Env
     pub stands : Stands s f st frame (initialised g.label g.statement) g.locals env
     pub keeps : KeepsOutside s f ρ₀ env
     pub heads : List Label
-    pub goals : List Goal
-    pub paths : ℕ
-    pub walks : Walks (walked s f) heads (drop g.statement block.statements) block.end goals paths
-    pub hold : GoalsHold (S s) env goals
+    pub came : Came s f ρ₀ (walked s f) heads (within (point_of g)) env
+    pub walk : Walk
+    pub walks : Within (walked s f) heads (point_of g) walk
+    pub hold : GoalsHold (S s) env (met walk)
     -- what is remembered of the loops around
     pub nested : Memories s f ρ₀ (initialised g.label g.statement) env block.nest
     pub enclosing : AllAmong block.nest heads
     pub behind : AreBehind s f ρ₀ heads g.label
 
-  -- what stands where a frame with these locals comes to the block
-  pub record Coming (l : Label) (ls : List (Tree K)) : Type 0 where
+  -- what stands where a frame with these locals comes to the block, these heads being passed
+  pub record Coming (heads : List Label) (l : Label) (ls : List (Tree K)) : Type 0 where
     pub fitting : Fits b no_tys (initialised l 0) ls
     pub env : Env
     pub agrees : Agree b (initialised l 0) ls env
     pub keeps : KeepsOutside s f ρ₀ env
+    pub came : Came s f ρ₀ (walked s f) heads (arrival l) env
 
   -- ---- at the head of a loop
 
-  module _ (l : Label) (ls : List (Tree K)) (c : Coming l ls) (outer : List Label) (p : Passed s f ρ₀ l outer (initialised l 0) c.env) where
+  module _ (heads : List Label) (l : Label) (ls : List (Tree K)) (c : Coming heads l ls) (outer : List Label) (p : Passed s f ρ₀ l outer (initialised l 0) c.env) where
     -- the local has the value that the run has, or any
     new_value : ℕ → Value
     new_value x = cond (initialised l 0 x) (c.env (name_of b x)) (default_of (ty_or (slice_get b.locals x)))
@@ -169,21 +182,21 @@ module _ {K : Type 0} (s : Setup K) (f : FunctionOf s) (ρ₀ : Env) where
         by_test true e = subst (λ v. HasSort (declarations s) v (instance no_tys ty)) (sym (there_value x e)) (local_sort s f (initialised l 0) ls c.env c.fitting c.agrees x ty is_ty e)
         by_test false e = subst (λ v. HasSort (declarations s) v (instance no_tys ty)) (sym (gone_value x e ∙ ap default_of (ty_is (slice_get b.locals x) ty is_ty))) (default_sort (declarations s) ty ((own s f).simple.scalars x ty is_ty))
 
-    abbrev again_env : Renewed (S s) b (own s f).simple.names (own s f).typed.named (is_renewed b (walked s f).init l) new_value p.env
-    again_env = renewed_move (S s) b (own s f).simple.names (own s f).typed.named (is_renewed b (walked s f).init l) new_value p.env (λ x ty t is_ty. new_sort x ty is_ty)
+    abbrev again_env : Renewed (S s) b (own s f).simple.names (own s f).typed.named (touched_there b (walked s f).init l) new_value p.env
+    again_env = renewed_move (S s) b (own s f).simple.names (own s f).typed.named (touched_there b (walked s f).init l) new_value p.env (λ x ty t is_ty. new_sort x ty is_ty)
 
     -- what is initialised has the value that it had
     head_same : (y : ℕ) (ty : Ty) → initialised l 0 y ≡ true → slice_get b.locals y ≡ Some ty → again_env.env (name_of b y) ≡ c.env (name_of b y)
-    head_same y ty inside is_ty = by_test (is_renewed b (walked s f).init l y) refl
+    head_same y ty inside is_ty = by_test (touched_there b (walked s f).init l y) refl
       where
         named : slice_get b.names y ≡ Some (name_of b y)
         named = local_named s f y ty is_ty
 
-        by_test : (t : Bool) → is_renewed b (walked s f).init l y ≡ t → again_env.env (name_of b y) ≡ c.env (name_of b y)
-        by_test true q = again_env.there y (name_of b y) q named ∙ there_value y inside
-        by_test false q =
-            let unwritten : loop_writes b l y ≡ false = not_both (loop_writes b l y) (is_gone (walked s f).init l y) ((own s f).heads.there l y inside) q in
-            again_env.others (name_of b y) (λ x m renewed is_m same. true≢false (sym renewed ∙ ap (is_renewed b (walked s f).init l) ((own s f).simple.names.apart x y m (name_of b y) is_m named (sym same)) ∙ q))
+        by_test : (t : Touch) → touched_there b (walked s f).init l y ≡ t → again_env.env (name_of b y) ≡ c.env (name_of b y)
+        by_test Whole q = again_env.there y (name_of b y) q named ∙ there_value y inside
+        by_test Untouched q =
+            let unwritten : loop_writes b l y ≡ false = not_touched (is_gone (walked s f).init l y) (loop_writes b l y) ((own s f).heads.there l y inside) q in
+            again_env.others (name_of b y) (λ x m renewed is_m same. not_whole (sym (sym renewed ∙ ap (touched_there b (walked s f).init l) ((own s f).simple.names.apart x y m (name_of b y) is_m named (sym same)) ∙ q)))
             ∙ sym (p.unchanged y ty unwritten inside is_ty)
 
     head_agrees : Agree b (initialised l 0) ls again_env.env
@@ -202,23 +215,26 @@ module _ {K : Type 0} (s : Setup K) (f : FunctionOf s) (ρ₀ : Env) where
             let ty = local_of s f y x e in
             subst (λ n. c.env n ≡ again_env.env n) (named_as b y x e) (sym (head_same y ty.0 inside ty.1))
 
+    head_moves : Each (λ t. Holds (S s) t c.env) p.head.invariants → MovesAll (S s) (head_commands b (walked s f).init l p.head) p.env again_env.env
+    head_moves invariants = then_moves (S s) again_env.moves (assumed_move (S s) p.head.invariants again_env.env (invariants_there p.head.invariants
+        (each_of (λ (t : Term). (x : Name) → free x t ≡ true → IsOneOf x (own s f).contract.params ⊎ IsNameIn b (initialised l 0) x) p.head.invariants ((own s f).heads.over l p.block p.head p.is_block p.is_head))
+        invariants))
+
     pub at_head : (st : State K) (frame : ℕ) (g : Frame K) → g.function ≡ f.number → g.types ≡ no_tys → Memories s f ρ₀ (initialised l 0) c.env outer → Each (λ t. Holds (S s) t c.env) p.head.invariants → Standing st frame (starting g ls l)
     at_head st frame g function types ms invariants = record {
       function = function;
       types = types;
       block = p.block;
       is_block = p.is_block;
-      within = omega arith;
+      in_block = omega arith;
       env = again_env.env;
       stands = they_stand s f st frame c.fitting head_agrees;
       keeps = head_keeps;
-      heads = p.heads;
-      goals = p.goals;
-      paths = p.paths;
+      heads = l ∷ p.heads;
+      came = came_on s f ρ₀ p.came (head_commands b (walked s f).init l p.head) (into_head p.block p.head p.came.prefix p.is_block p.is_head p.fresh) (head_moves invariants);
+      walk = p.walk;
       walks = p.walks;
-      hold = goals_moved (S s) p.goals (then_moves (S s) again_env.moves (assumed_move (S s) p.head.invariants again_env.env (invariants_there p.head.invariants
-          (each_of (λ (t : Term). (x : Name) → free x t ≡ true → IsOneOf x (own s f).contract.params ⊎ IsNameIn b (initialised l 0) x) p.head.invariants ((own s f).heads.over l p.block p.head p.is_block p.is_head))
-          invariants))) p.hold;
+      hold = goals_moved (S s) (met p.walk) (head_moves invariants) p.hold;
       nested = subst (Memories s f ρ₀ (initialised l 0) again_env.env) (sym p.nest)
           (one_more (memories_kept s f ρ₀ ms (λ k a x ty e inside is_ty. (inside, head_same x ty inside is_ty)))
           (passed_kept s f ρ₀ l outer (initialised l 0) (initialised l 0) c.env again_env.env (λ x ty e inside is_ty. (inside, head_same x ty inside is_ty)) p));
@@ -238,9 +254,9 @@ module _ {K : Type 0} (s : Setup K) (f : FunctionOf s) (ρ₀ : Env) where
   ]
 
   -- the frame stands where it arrives, in each state
-  pub arrived : {heads : List Label} {l : Label} {gs : List Goal} {n : ℕ} → Arrives (walked s f) heads l gs n → (st : State K) (frame : ℕ) (g : Frame K) (ls : List (Tree K)) → g.function ≡ f.number → g.types ≡ no_tys → (c : Coming l ls)
-      → Reached s f ρ₀ (initialised l 0) c.env heads l → GoalsHold (S s) c.env gs → Standing st frame (starting g ls l)
-  arrived {heads} {l} {gs} {n} (plain k is_block none_there walks) st frame g ls function types c (onward to outer is_to is_around ms sub behind fresh) hold =
+  pub arrived : {heads : List Label} {l : Label} {v : Walk} → Arrives (walked s f) heads l v → (st : State K) (frame : ℕ) (g : Frame K) (ls : List (Tree K)) → g.function ≡ f.number → g.types ≡ no_tys → (c : Coming heads l ls)
+      → Reached s f ρ₀ (initialised l 0) c.env heads l → GoalsHold (S s) c.env (met v) → Standing st frame (starting g ls l)
+  arrived {heads} {l} {v} (plain k is_block none_there walks) st frame g ls function types c (onward to outer is_to is_around ms sub behind fresh) hold =
       let same : to ≡ k = some_same_block k to l is_block is_to in
       let nest : k.nest ≡ outer = plain_nest k l outer (subst (λ x. around l x outer) same is_around) none_there in
       record {
@@ -248,13 +264,13 @@ module _ {K : Type 0} (s : Setup K) (f : FunctionOf s) (ρ₀ : Env) where
         types = types;
         block = k;
         is_block = is_block;
-        within = omega arith;
+        in_block = omega arith;
         env = c.env;
         stands = they_stand s f st frame c.fitting c.agrees;
         keeps = c.keeps;
         heads = heads;
-        goals = gs;
-        paths = n;
+        came = record { commands = c.came.commands; prefix = into_block k c.came.prefix is_block none_there; moves = c.came.moves };
+        walk = v;
         walks = walks;
         hold = hold;
         nested = subst (Memories s f ρ₀ (initialised l 0) c.env) (sym nest) ms;
@@ -263,32 +279,33 @@ module _ {K : Type 0} (s : Setup K) (f : FunctionOf s) (ρ₀ : Env) where
       }
   arrived {l = l} (plain k is_block none_there walks) st frame g ls function types c (backward to h outer is_to is_head a ms p) hold =
       absurd (none_some k h none_there (subst (λ (x : Block). x.head ≡ Some h) (some_same_block k to l is_block is_to) is_head))
-  arrived {heads} {l} (first {gs = gs} {n = n} k h is_block e fresh_l walks) st frame g ls function types c (onward to outer is_to is_around ms sub behind fresh) hold =
+  arrived {heads} {l} (first {v = u} k h is_block e fresh_l walks) st frame g ls function types c (onward to outer is_to is_around ms sub behind fresh) hold =
       let same : to ≡ k = some_same_block k to l is_block is_to in
       let nest : k.nest ≡ outer ++ l ∷ [] = head_nest k l outer h (subst (λ x. around l x outer) same is_around) e in
-      let invariants : List Goal = each_goal InvEntry h.invariants h.spans in
-      let after : List Goal = seen_before (head_commands b (walked s f).init l h) gs in
+      let invariants : List Goal = goals_at_entry h in
+      let after : List Goal = seen_before (head_commands b (walked s f).init l h) (met u) in
       let p : Passed s f ρ₀ l outer (initialised l 0) c.env = record {
         block = k;
         is_block = is_block;
         head = h;
         is_head = e;
         nest = nest;
+        heads = heads;
+        fresh = fresh_l;
         env = c.env;
         keeps = c.keeps;
-        heads = l ∷ heads;
+        came = c.came;
         within = subst (λ xs. AllAmong xs (l ∷ heads)) (sym nest) (still l heads outer sub);
         behind = still_behind l heads behind;
-        goals = gs;
-        paths = n;
+        walk = u;
         walks = walks;
         hold = goals_rest (S s) c.env invariants after hold;
         unchanged = λ x ty q inside is_ty. refl;
       } in
-      at_head l ls c outer p st frame g function types ms (each_holds (S s) InvEntry h.invariants h.spans c.env (goals_first (S s) c.env invariants after hold))
+      at_head heads l ls c outer p st frame g function types ms (each_holds (S s) InvEntry h.invariants h.spans c.env (goals_first (S s) c.env invariants after hold))
   arrived {heads} {l} (first k h is_block e fresh_l walks) st frame g ls function types c (backward to h' outer is_to is_head a ms p) hold = absurd (false_true (among l heads) fresh_l a)
-  arrived (again k h is_block e passed) st frame g ls function types c (onward to outer is_to is_around ms sub behind fresh) hold = absurd (fresh passed)
-  arrived {l = l} (again k h is_block e passed) st frame g ls function types c (backward to h' outer is_to is_head a ms p) hold =
+  arrived {heads} (again k h is_block e passed) st frame g ls function types c (onward to outer is_to is_around ms sub behind fresh) hold = absurd (fresh passed)
+  arrived {heads} {l} (again k h is_block e passed) st frame g ls function types c (backward to h' outer is_to is_head a ms p) hold =
       let same : p.block ≡ k = some_same_block k p.block l is_block p.is_block in
       let head : h ≡ p.head = same_Some _ _ (sym e ∙ subst (λ (x : Block). x.head ≡ Some p.head) same p.is_head) in
-      at_head l ls c outer p st frame g function types ms (subst (λ (x : Head). Each (λ t. Holds (S s) t c.env) x.invariants) head (each_holds (S s) InvKept h.invariants h.spans c.env hold))
+      at_head heads l ls c outer p st frame g function types ms (subst (λ (x : Head). Each (λ t. Holds (S s) t c.env) x.invariants) head (each_holds (S s) InvKept h.invariants h.spans c.env (goals_first (S s) c.env (goals_after_turn h) [] hold)))

@@ -17,7 +17,7 @@ use Rattle.mir_machine.specs.Reads.{Owner, Reads}
 use Rattle.mir_machine.specs.Typed.{Typed}
 use Rattle.mir_machine.specs.Good.{not_lent}
 use Rattle.mir_machine.proofs.NeverStuck.{Fits, typed_shape}
-use Rattle.wp_gen.specs.Row.{name_of}
+use Rattle.prophecy_logic.specs.Row.{name_of}
 use Rattle.prophecy_sim.proofs.Setup.{Setup, FunctionOf, declarations, own}
 use Rattle.prophecy_sim.proofs.Scalars.{shaped_typed, shaped_sort, typed_shows}
 use Rattle.prophecy_sim.proofs.Operands.{operand_value, Agree}

@@ -13,10 +13,10 @@ use Rattle.mir_machine.specs.Try.{Try, Yields, Panics, Sticks}
 use Rattle.mir_machine.proofs.Locals.{run_local}
 use Rattle.mir_machine.proofs.NeverStuck.{Fits, run_goes}
 use Rattle.mir_machine.proofs.Tried.{Goes, Quiet, quiet_weaker}
-use Rattle.wp_gen.specs.Command.{MovesAll, none}
-use Rattle.wp_gen.specs.Row.{name_of, goals_of, commands_of}
-use Rattle.wp_gen.specs.Walk.{rvalue_moves, writes}
-use Rattle.wp_gen.proofs.Commands.{GoalsHold}
+use Rattle.prophecy_logic.specs.Command.{MovesAll, none}
+use Rattle.prophecy_logic.specs.Row.{name_of, goals_of, commands_of}
+use Rattle.prophecy_logic.specs.Loop.{rvalue_moves, writes}
+use Rattle.prophecy_logic.proofs.Commands.{GoalsHold}
 use Rattle.prophecy_sim.proofs.Setup.{Setup, FunctionOf, S, local_named, apart_from, not_new, IsOutside}
 use Rattle.prophecy_sim.proofs.Operands.{Agree, evaluated_before, with_before, without_before, assign_shows, dead_shows}
 use Rattle.prophecy_sim.proofs.Stands.{operand_sort}

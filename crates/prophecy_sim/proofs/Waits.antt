@@ -39,12 +39,14 @@ use Rattle.mir_machine.specs.Try.{Yields, ◌>>=◌, need}
 use Rattle.mir_machine.proofs.Locals.{put_local, resumed_at, resumed, starting}
 use Rattle.mir_machine.proofs.NeverStuck.{Fits, Shape, fits_within, put_goes, typed_shape}
 use Rattle.mir_machine.proofs.Tried.{Quiet, quiet_then}
-use Rattle.wp_gen.specs.declared.goal.Goal.{Goal}
-use Rattle.wp_gen.specs.Command.{by_fresh, by_set, none, more, MovesAll}
-use Rattle.wp_gen.specs.Row.{operand_term, value_name, name_of}
-use Rattle.wp_gen.specs.Walk.{Arrives, moves as moves_out, loop_writes, end_writes, seen_before, call_commands, at_arguments_and_answer}
-use Rattle.wp_gen.specs.Walkable.{AllAmong}
-use Rattle.wp_gen.proofs.Commands.{GoalsHold, goals_moved, then_moves}
+use Rattle.prophecy_logic.specs.Command.{by_fresh, by_set, none, more, MovesAll}
+use Rattle.prophecy_logic.specs.Row.{operand_term, value_name, name_of}
+use Rattle.prophecy_logic.specs.Graph.{Arrives}
+use Rattle.prophecy_logic.specs.Prefix.{within, over_call}
+use Rattle.prophecy_logic.specs.Loop.{moves as moves_out, loop_writes, end_writes}
+use Rattle.prophecy_logic.specs.Walk.{seen_before, call_commands, at_arguments_and_answer, Walk, met}
+use Rattle.prophecy_logic.specs.Walkable.{AllAmong}
+use Rattle.prophecy_logic.proofs.Commands.{GoalsHold, goals_moved, then_moves}
 use Rattle.prophecy_sim.proofs.Lists.{decide, each_of}
 use Rattle.prophecy_sim.proofs.Setup.{Setup, FunctionOf, S, bodies, declarations, own, walked, local_named, apart_from, not_new}
 use Rattle.prophecy_sim.proofs.Scalars.{Shows, shaped_shows, shaped_sort}
@@ -52,9 +54,9 @@ use Rattle.prophecy_sim.proofs.Operands.{operand_values, Agree, agree_within, wi
 use Rattle.prophecy_sim.proofs.Calls.{overlay, overlay_named, AsMany, as_many, as_many_operands, new_values, AreExactly, with_terms_mean, all_exactly}
 use Rattle.prophecy_sim.proofs.Entries.{assumed_move}
 use Rattle.prophecy_sim.proofs.Heads.{or_first, loop_writes_end}
-use Rattle.prophecy_sim.proofs.Memories.{among_first, KeepsOutside, AreBehind, Memories, memories_kept, Reached, reached}
+use Rattle.prophecy_sim.proofs.Memories.{among_first, KeepsOutside, AreBehind, Came, came_on, Memories, memories_kept, Reached, reached}
 use Rattle.prophecy_sim.proofs.Stands.{Stands, stands_fit, stands_agree, stands_elsewhere}
-use Rattle.prophecy_sim.proofs.Standing.{Standing, arrived}
+use Rattle.prophecy_sim.proofs.Standing.{point_of, Standing, arrived}
 use Rattle.prophecy_sim.proofs.Steps.{quiet_both, other_number}
 
 pub first_ty : (ts : List Ty) (ty : Ty) → slice_get ts 0 ≡ Some ty → nth_ty (tys_of ts) 0 ≡ ty
@@ -86,6 +88,7 @@ module _ {K : Type 0} (s : Setup K) where
       pub types : g.types ≡ no_tys
       pub block : Block
       pub is_block : block_in b.blocks g.label ≡ Some block
+      pub is_last : g.statement ≡ length block.statements
       pub place : Place
       pub type_arguments : List Ty
       pub operands : List Operand
@@ -100,10 +103,10 @@ module _ {K : Type 0} (s : Setup K) where
       pub begun : ρ ≡ named (own s callee).contract.params (operand_values b env operands)
       -- the goals of what is left hold behind each answer
       pub heads : List Label
-      pub goals : List Goal
-      pub paths : ℕ
-      pub arrives : Arrives (walked s f) heads next goals paths
-      pub hold : GoalsHold (S s) env (seen_before (call_commands b (own s callee).contract place.local answer operands) goals)
+      pub came : Came s f ρ₀ (walked s f) heads (within (point_of g)) env
+      pub walk : Walk
+      pub arrives : Arrives (walked s f) heads next walk
+      pub hold : GoalsHold (S s) env (seen_before (call_commands b (own s callee).contract place.local answer operands) (met walk))
       pub nested : Memories s f ρ₀ (all_taken operands (initialised g.label (length block.statements))) env block.nest
       pub enclosing : AllAmong block.nest heads
       pub behind : AreBehind s f ρ₀ heads g.label
@@ -115,6 +118,7 @@ module _ {K : Type 0} (s : Setup K) where
       types = w.types;
       block = w.block;
       is_block = w.is_block;
+      is_last = w.is_last;
       place = w.place;
       type_arguments = w.type_arguments;
       operands = w.operands;
@@ -127,8 +131,8 @@ module _ {K : Type 0} (s : Setup K) where
       keeps = w.keeps;
       begun = w.begun;
       heads = w.heads;
-      goals = w.goals;
-      paths = w.paths;
+      came = w.came;
+      walk = w.walk;
       arrives = w.arrives;
       hold = w.hold;
       nested = w.nested;
@@ -250,9 +254,11 @@ module _ {K : Type 0} (s : Setup K) where
             env = with_place;
             agrees = agree_within b (initialised w.next 0) (with p.local set) ls with_place carried agrees;
             keeps = λ n out. with_other with_new (name_of b p.local) n v (out.0 p.local (name_of b p.local) (local_named s f p.local w.answer w.is_answer)) ∙ with_other w.env value_name n v out.1 ∙ w.keeps n out;
+            came = came_on s f ρ₀ w.came (call_commands b d p.local w.answer os)
+                (over_call w.block.end p (Function (OfBody callee.number)) w.type_arguments os w.next d w.answer w.came.prefix (record { block = w.block; is_block = w.is_block; is_last = w.is_last; is_end = refl }) w.is_call (own s callee).is_contract w.is_answer) moves;
           })
           way
-          (goals_moved (S s) w.goals moves w.hold)
+          (goals_moved (S s) (met w.walk) moves w.hold)
 
       -- with an answer that meets the callee's contract the frame stands again
       pub answer_comes : (fs : State K) → Quiet (λ h. Standing s f ρ₀ (h ∷ fs) (length fs) h) (resumed (bodies s) t g)

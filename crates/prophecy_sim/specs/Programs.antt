@@ -15,7 +15,8 @@ use Rattle.mir_ir.specs.declared.body.Body.{Body}
 use Rattle.mir_ir.specs.Callees.{callee_of}
 use Rattle.mir_ir.specs.WellFormed.{IsTyped, Labelling, MeetsMoveRows}
 use Rattle.mir_machine.specs.Good.{Each, Good}
-use Rattle.wp_gen.specs.Walk.{Setting, AreObligations, is_gone}
+use Rattle.prophecy_logic.specs.Graph.{Setting, AreObligations}
+use Rattle.prophecy_logic.specs.Loop.{is_gone}
 use Rattle.mir_ir.specs.declared.body.Initialised.{Initialised}
 use Rattle.mir_ir.specs.Layout.{IsLaidOut}
 use Rattle.mir_ir.specs.declared.body.Bodies.{Bodies}
@@ -70,8 +71,7 @@ AreFunctions p labelling = (n : ℕ) (b : Body) → slice_get p.bodies.bodies n 
 pub record HasTrueObligations (Θ : Theory) (w : Setting) : Type 0 where
   pub first : ℕ
   pub obligations : List Obligation
-  pub paths : ℕ
-  pub are : AreObligations w first obligations paths
+  pub are : AreObligations w first obligations
   pub all_true : Each (IsTrueObligation Θ) obligations
 
 -- ---- what a function may reach
