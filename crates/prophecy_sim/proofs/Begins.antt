@@ -19,7 +19,7 @@ use Rattle.mir_machine.specs.Tree.{Tree, Gone}
 use Rattle.mir_machine.specs.Frame.{Frame, State}
 use Rattle.mir_machine.specs.Step.{entered}
 use Rattle.mir_machine.specs.Good.{Each, named}
-use Rattle.mir_machine.proofs.NeverStuck.{AreShaped, fits_within, entered_fits}
+use Rattle.mir_machine.proofs.NeverStuck.{AreShaped, typed_args, fits_within, entered_fits}
 use Rattle.prophecy_logic.specs.declared.goal.Goal.{Goal}
 use Rattle.prophecy_logic.specs.Command.{MovesAll}
 use Rattle.prophecy_logic.specs.Row.{name_of}
@@ -31,14 +31,14 @@ use Rattle.prophecy_logic.proofs.Prefixes.{goals_are_seen_before}
 use Rattle.prophecy_sim.specs.Programs.{HasTrueObligations}
 use Rattle.prophecy_sim.proofs.Lists.{get_append, get_first}
 use Rattle.prophecy_sim.proofs.Setup.{Setup, FunctionOf, S, bodies, declarations, own, walked, local_named, scalar_params}
-use Rattle.prophecy_sim.proofs.Scalars.{Shows, AllShow, shaped_sort}
+use Rattle.prophecy_sim.proofs.Scalars.{Shows, AllShow, all_shown, shaped_sort}
 use Rattle.prophecy_sim.proofs.Arguments.{argument_shows}
 use Rattle.prophecy_sim.proofs.Operands.{Agree, agree_within}
 use Rattle.prophecy_sim.proofs.Entries.{AreSorted, parameters_move, assumed_move, Stored, stored_move}
 use Rattle.prophecy_sim.proofs.Memories.{Reached, onward, none_around}
 use Rattle.prophecy_sim.proofs.Standing.{Standing, Coming, arrived}
 use Rattle.prophecy_sim.proofs.Waits.{params_length}
-use Rattle.prophecy_sim.proofs.Rows.{Begun}
+use Rattle.prophecy_sim.proofs.Ends.{Begun}
 
 and_right : (p q : Bool) → (p && q) ≡ true → q ≡ true
 and_right true q e = e
@@ -117,7 +117,7 @@ module _ {K : Type 0} (s : Setup K) (f : FunctionOf s) (proved : HasTrueObligati
     goals_there : GoalsHold (S s) set.env (met proved.are.walk)
     goals_there =
         let before : GoalsHold (S s) ρ₀ (goals_of_walk (walked s f) proved.are.walk) =
-            goals_hold (S s) b.owner proved.first (goals_of_walk (walked s f) proved.are.walk) ρ₀ refl (λ o e. subst (Each (IsTrueObligation s.theory)) (proved.are.are_numbered ∙ sym e) proved.all_true) in
+        goals_hold (S s) b.owner proved.first (goals_of_walk (walked s f) proved.are.walk) ρ₀ refl (λ o e. subst (Each (IsTrueObligation s.theory)) (proved.are.are_numbered ∙ sym e) proved.all_true) in
         goals_moved (S s) (met proved.are.walk) enters (subst (GoalsHold (S s) ρ₀) (goals_are_seen_before (entry_commands b c) proved.are.walk) before)
 
     abbrev at_entry : Frame K
@@ -160,8 +160,9 @@ module _ {K : Type 0} (s : Setup K) (f : FunctionOf s) (proved : HasTrueObligati
     entry_stands st frame = arrived s f ρ₀ proved.are.arrives st frame at_entry at_entry.locals refl refl comes way goals_there
 
   -- a frame that begins a call whose `requires` are true stands
-  pub begins : (ρ : Env) (g : Frame K) → Begun s f ρ g → (st : State K) (frame : ℕ) → Standing s f ρ st frame g
-  begins ρ g begun st frame =
+  pub begins : (ρ : Env) (g : Frame K) (st : State K) → Begun s st f ρ g → (frame : ℕ) → Standing s f ρ st frame g
+  begins ρ g st begun frame =
+      let shaped = typed_args (declarations s) st no_tys begun.args param_list [] begun.typed in
       let pre = subst (λ σ. Each (λ t. Holds (S s) t σ) c.pre) begun.is_env begun.pre in
-      let stands = entry_stands begun.args begun.count begun.shaped begun.values begun.shows pre st frame in
+      let stands = entry_stands begun.args shaped.0 shaped.1 begun.values (all_shown begun.args param_list shaped.0 shaped.1 (scalar_params s f) begun.reads) pre st frame in
       subst (λ σ. Standing s f σ st frame g) (sym begun.is_env) (subst (Standing s f (named c.params begun.values) st frame) (sym begun.is_frame) stands)

@@ -23,7 +23,7 @@ use Rattle.prophecy_sim.proofs.Lists.{get_first}
 use Rattle.prophecy_sim.proofs.Setup.{Setup, FunctionOf, program as program_of, bodies, sound, declarations, own, scalar_params}
 use Rattle.prophecy_sim.proofs.Scalars.{AllShow, all_values, all_read, shaped_shows}
 use Rattle.prophecy_sim.proofs.Waits.{first_ty, IsAnswer}
-use Rattle.prophecy_sim.proofs.Rows.{Begun}
+use Rattle.prophecy_sim.proofs.Ends.{Begun}
 use Rattle.prophecy_sim.proofs.Begins.{begins}
 use Rattle.prophecy_sim.proofs.States.{OutcomeFine, run_fine}
 
@@ -112,21 +112,20 @@ module _ {K : Type 0} (s : Setup K) (f : FunctionOf s) (proved : AreProvedFrom s
     abbrev Fine : Outcome K → Type 0
     Fine = OutcomeFine s f proved ρ₀
 
-    begun : Begun s f ρ₀ (entered b f.number no_tys args)
+    begun : Begun s (start no_tys args held) f ρ₀ (entered b f.number no_tys args)
     begun = record {
       args = args;
       is_frame = refl;
-      count = shaped.0;
-      shaped = shaped.1;
+      typed = proper.typed;
       values = values.0;
-      shows = values.1;
+      reads = all_read false (start no_tys args held) s.final Plain here 0 args values.0 values.1;
       is_env = refl;
       pre = meets (λ at. nothing) values.0 tt (all_read false (start no_tys args held) (λ k at. nothing) Plain here 0 args values.0 values.1);
     }
 
     starts : Fine (Running (start no_tys args held))
     starts = (
-      record { function = f; reached = itself; env = ρ₀; standing = begins s f (proved f.number b c itself f.is_body (own s f).is_contract) ρ₀ (entered b f.number no_tys args) begun (start no_tys args held) 1 },
+      record { function = f; reached = itself; env = ρ₀; standing = begins s f (proved f.number b c itself f.is_body (own s f).is_contract) ρ₀ (entered b f.number no_tys args) (start no_tys args held) begun 1 },
       (refl, refl),
     )
 

@@ -1,7 +1,9 @@
 pub mod Arguments
 pub mod Assigns
 pub mod Begins
+pub mod Called
 pub mod Calls
+pub mod Ends
 pub mod Entries
 pub mod GoodBody
 pub mod Heads

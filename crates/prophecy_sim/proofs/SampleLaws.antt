@@ -388,7 +388,8 @@ caller_true_obligations Θ = record {
   obligations = _;
   are = record {
     walk = _;
-    arrives = plain _ refl refl (by_end _ (record { block = _; is_block = refl; is_last = refl; is_end = refl }) (call (whole 0) (Function (OfBody 0)) [] (Copy (whole 1) ∷ []) (label 1) is_false bool refl refl refl (plain _ refl refl (by_end _ (record { block = _; is_block = refl; is_last = refl; is_end = refl }) (return refl)))));
+    arrives = plain _ refl refl (by_end _ (record { block = _; is_block = refl; is_last = refl; is_end = refl }) (call (whole 0) (Function (OfBody 0)) [] (Copy (whole 1) ∷ []) (label 1) is_false bool refl refl refl
+        (plain _ refl refl (by_end _ (record { block = _; is_block = refl; is_last = refl; is_end = refl }) (return refl)))));
     are_numbered = refl;
   };
   all_true = (λ θ i ρ. as_reduced _ _ ρ (is_true _ (λ w sort. is_true _ (λ v fits. is_true _ (λ known. known)))), tt);

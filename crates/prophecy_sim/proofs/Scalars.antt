@@ -3,7 +3,8 @@ use Rattle.std.proofs.Common.{◌≡◌, refl, sym, ap, subst, ℕ, suc, ℤ, Bo
 use Rattle.std.proofs.lemmas.Option.{same_Some}
 use Rattle.logic_term.specs.declared.kinds.Ctor.{Ctor}
 use Rattle.logic_term.specs.declared.kinds.Ctor.TheVariants.{Tuple}
-use Rattle.logic_term.specs.Sort.{Declarations, HasSort, instance, of_int as int_sort, of_bool as bool_sort, of_tuple as tuple_sort, of_none as none_sort}
+use Rattle.logic_term.specs.Sort.{Declarations, HasSort, instance, of_int as int_sort, of_bool as bool_sort, of_tuple as tuple_sort, of_none as none_sort, instances}
+use Rattle.logic_term.specs.TyView.{tys_of}
 use Rattle.logic_term.specs.Ty.{Ty, int, bool, tuple, no_tys, unit_ty}
 use Rattle.logic_term.specs.Value.{Value, Values, Number, Flag, nothing, no_values, and_value}
 use Rattle.logic_term.specs.Value as value
@@ -11,7 +12,7 @@ use Rattle.mir_machine.specs.declared.spot.Spot.{Spot}
 use Rattle.mir_machine.specs.Tree.{Tree, Int, Truth, Made, no_trees, trees_of}
 use Rattle.mir_machine.specs.Frame.{State}
 use Rattle.mir_machine.specs.Reads.{View, Owner, Reads, ReadsAll, of_lent, of_int, of_truth, of_made, of_none, of_more}
-use Rattle.mir_machine.specs.Typed.{Met, Typed, is_int, is_truth, is_tuple, none_typed}
+use Rattle.mir_machine.specs.Typed.{Met, Typed, is_int, is_truth, is_tuple, none_typed, AreTyped, more_typed}
 use Rattle.mir_machine.specs.Good.{here, not_lent}
 use Rattle.mir_machine.proofs.NeverStuck.{Shape, AreShaped, typed_shape}
 use Rattle.prophecy_sim.specs.Programs.{IsScalar}
@@ -108,6 +109,26 @@ all_read gaps s final w at n (t ∷ ts) (and_value v vs) h = of_more (h.0 gaps s
 
 abbrev pub AreScalar : List Ty → Type 0
 AreScalar tys = (i : ℕ) (ty : Ty) → slice_get tys i ≡ Some ty → IsScalar ty
+
+-- what is read of the trees they show
+pub all_shown : {K : Type 0} {gaps : Bool} {s : State K} {final : K → Spot → Value} {w : View K} {at : Spot} {n : ℕ} {vs : Values} (ts : List (Tree K)) (tys : List Ty) → length ts ≡ length tys → AreShaped no_tys ts tys → AreScalar tys →
+    ReadsAll gaps s final not_lent w at n (trees_of ts) vs → AllShow ts vs
+all_shown [] tys count shaped scalars of_none = tt
+all_shown (t ∷ ts) [] count shaped scalars h = absurd (omega arith)
+all_shown (t ∷ ts) (ty ∷ tys) count shaped scalars (of_more {v = v} h hs) =
+    let first = shaped 0 ty refl in (
+      shaped_shows ty t v (scalars 0 ty refl) (subst (λ u. Shape (instance no_tys ty) u) (sym (same_Some _ _ first.1)) first.2) h,
+      all_shown ts tys (omega arith) (λ n u e. shaped (suc n) u e) (λ i u e. scalars (suc i) u e) hs,
+    )
+
+pub all_typed : {K : Type 0} (Δ : Declarations) (s : State K) (ts : List (Tree K)) (tys : List Ty) → length ts ≡ length tys → AreShaped no_tys ts tys → AreScalar tys → AreTyped Δ s (trees_of ts) (instances no_tys (tys_of tys)) []
+all_typed Δ s [] [] count shaped scalars = none_typed
+all_typed Δ s [] (ty ∷ tys) count shaped scalars = absurd (omega arith)
+all_typed Δ s (t ∷ ts) [] count shaped scalars = absurd (omega arith)
+all_typed Δ s (t ∷ ts) (ty ∷ tys) count shaped scalars =
+    let first = shaped 0 ty refl in
+    more_typed (shaped_typed Δ s ty t (scalars 0 ty refl) (subst (λ u. Shape (instance no_tys ty) u) (sym (same_Some _ _ first.1)) first.2))
+    (all_typed Δ s ts tys (omega arith) (λ n u e. shaped (suc n) u e) (λ i u e. scalars (suc i) u e))
 
 pub all_values : {K : Type 0} (ts : List (Tree K)) (tys : List Ty) → length ts ≡ length tys → AreShaped no_tys ts tys → AreScalar tys → (vs : Values) × AllShow ts vs
 all_values [] tys count shaped scalars = (no_values, tt)

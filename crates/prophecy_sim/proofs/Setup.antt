@@ -1,11 +1,13 @@
 -- What the simulation is about: a program on the machine, and one of its functions.
-use Rattle.std.proofs.Common.{◌≡◌, ◌∙◌, sym, ap, ℕ, suc, List, Some, slice_get, take, drop, arith}
+use Rattle.std.proofs.Common.{◌≡◌, ◌∙◌, sym, ap, ℕ, suc, List, Some, slice_get, take, drop, arith, true}
 use Rattle.std.proofs.lemmas.Option.{slice_get_within}
 use Rattle.text_core.specs.declared.name.Name.{Name}
 use Rattle.logic_term.specs.declared.obligation.Contract.{Contract}
 use Rattle.logic_term.specs.Meaning.{Structure, structure_of}
 use Rattle.logic_term.specs.Sort.{Declarations}
 use Rattle.logic_term.specs.Theory.{Theory, declared}
+use Rattle.logic_term.specs.Free.{free}
+use Rattle.logic_term.specs.Term.{Term}
 use Rattle.logic_term.specs.Ty.{Ty, no_tys}
 use Rattle.logic_term.specs.Value.{Value}
 use Rattle.mir_ir.specs.declared.body.Bodies.{Bodies}
@@ -39,6 +41,13 @@ not_value_name n other e = other e
 
 pub named_as : (b : Body) (x : ℕ) (n : Name) → slice_get b.names x ≡ Some n → name_of b x ≡ n
 named_as b x n e = ap or_value_name e
+
+-- what a `requires` speaks of, and what an `ensures` speaks of
+abbrev pub OverParams : Contract → Term → Type 0
+OverParams c t = (x : Name) → free x t ≡ true → IsOneOf x c.params
+
+abbrev pub OverAnswer : Contract → Term → Type 0
+OverAnswer c t = (x : Name) → free x t ≡ true → (x.0 ≡ c.answer.0 → ⊥) → IsOneOf x c.params
 
 -- the name is of no local, and not that of new values
 abbrev pub IsOutside : Body → Name → Type 0

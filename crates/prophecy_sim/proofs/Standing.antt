@@ -1,5 +1,5 @@
 -- A frame that stands in its body, and its arrival at a block.
-use Rattle.std.proofs.Common.{◌≡◌, ◌∙◌, ◌⊎◌, inl, inr, refl, sym, ap, subst, ℕ, ◌≤◌, ◌&&◌, pos, Bool, true, false, cond, List, [], ◌∷◌, ◌++◌, length, drop, Option, Some, None, slice_get, true≢false, arith}
+use Rattle.std.proofs.Common.{◌≡◌, ◌∙◌, ◌⊎◌, inl, inr, refl, sym, ap, subst, ℕ, ◌≤◌, pos, Bool, true, false, cond, List, [], ◌∷◌, ◌++◌, length, drop, Option, Some, None, slice_get, true≢false, arith}
 use Rattle.std.proofs.lemmas.Option.{same_Some}
 use Rattle.text_core.specs.declared.name.Name.{Name}
 use Rattle.text_core.specs.declared.refusal.Kind.{Kind}
@@ -205,7 +205,11 @@ module _ {K : Type 0} (s : Setup K) (f : FunctionOf s) (ρ₀ : Env) where
     head_keeps : KeepsOutside s f ρ₀ again_env.env
     head_keeps n out = again_env.others n (λ x m renewed is_m same. out.0 x m is_m same) ∙ p.keeps n out
 
-    invariants_there : (ts : List Term) → Each (λ (t : Term). (x : Name) → free x t ≡ true → IsOneOf x (own s f).contract.params ⊎ IsNameIn b (initialised l 0) x) ts → Each (λ t. Holds (S s) t c.env) ts → Each (λ t. Holds (S s) t again_env.env) ts
+    -- the formula speaks of parameters, and of what is initialised here
+    abbrev OverHead : Term → Type 0
+    OverHead t = (x : Name) → free x t ≡ true → IsOneOf x (own s f).contract.params ⊎ IsNameIn b (initialised l 0) x
+
+    invariants_there : (ts : List Term) → Each OverHead ts → Each (λ t. Holds (S s) t c.env) ts → Each (λ t. Holds (S s) t again_env.env) ts
     invariants_there [] over h = tt
     invariants_there (t ∷ ts) over h = ((yes_alike _ _ (coincide_free (S s) t c.env again_env.env (λ x f. at_name x (over.0 x f)))).0 h.0, invariants_there ts over.1 h.1)
       where
@@ -217,7 +221,7 @@ module _ {K : Type 0} (s : Setup K) (f : FunctionOf s) (ρ₀ : Env) where
 
     head_moves : Each (λ t. Holds (S s) t c.env) p.head.invariants → MovesAll (S s) (head_commands b (walked s f).init l p.head) p.env again_env.env
     head_moves invariants = then_moves (S s) again_env.moves (assumed_move (S s) p.head.invariants again_env.env (invariants_there p.head.invariants
-        (each_of (λ (t : Term). (x : Name) → free x t ≡ true → IsOneOf x (own s f).contract.params ⊎ IsNameIn b (initialised l 0) x) p.head.invariants ((own s f).heads.over l p.block p.head p.is_block p.is_head))
+        (each_of OverHead p.head.invariants ((own s f).heads.over l p.block p.head p.is_block p.is_head))
         invariants))
 
     pub at_head : (st : State K) (frame : ℕ) (g : Frame K) → g.function ≡ f.number → g.types ≡ no_tys → Memories s f ρ₀ (initialised l 0) c.env outer → Each (λ t. Holds (S s) t c.env) p.head.invariants → Standing st frame (starting g ls l)

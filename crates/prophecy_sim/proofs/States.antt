@@ -12,7 +12,8 @@ use Rattle.prophecy_sim.specs.Programs.{Reaches, by_call, AreProvedFrom, HasTrue
 use Rattle.prophecy_sim.proofs.Setup.{Setup, FunctionOf, program, bodies, sound, own, walked}
 use Rattle.prophecy_sim.proofs.Standing.{Standing}
 use Rattle.prophecy_sim.proofs.Waits.{IsAnswer, Waiting, waiting_elsewhere, answer_comes}
-use Rattle.prophecy_sim.proofs.Rows.{EndsFine, CallsFine, frame_comes}
+use Rattle.prophecy_sim.proofs.Ends.{EndsFine, CallsFine}
+use Rattle.prophecy_sim.proofs.Rows.{frame_comes}
 use Rattle.prophecy_sim.proofs.Begins.{begins}
 
 module _ {K : Type 0} (s : Setup K) (top : FunctionOf s) (proved : AreProvedFrom s.theory (program s) top.number) (top_env : Env) where
@@ -71,7 +72,7 @@ module _ {K : Type 0} (s : Setup K) (top : FunctionOf s) (proved : AreProvedFrom
   called f ρ reached st g h [] c stacked = absurd stacked
   called f ρ reached st g h (k ∷ fs) c stacked =
       let reached' : Reaches (bodies s) top.number c.callee.number = by_call reached c.calls in (
-        record { function = c.callee; reached = reached'; env = c.env; standing = begins s c.callee (obligations_of c.callee reached') c.env h c.begun (h ∷ g ∷ k ∷ fs) (length (g ∷ k ∷ fs)) },
+        record { function = c.callee; reached = reached'; env = c.env; standing = begins s c.callee (obligations_of c.callee reached') c.env h (h ∷ g ∷ k ∷ fs) c.begun (length (g ∷ k ∷ fs)) },
         (record { function = f; reached = reached; env = ρ; waiting = c.waiting }, stacked_elsewhere st (h ∷ g ∷ k ∷ fs) f ρ (k ∷ fs) stacked),
       )
 

@@ -27,7 +27,6 @@ use Rattle.mir_ir.specs.declared.body.Block.{Block}
 use Rattle.mir_ir.specs.declared.body.Body.{Body}
 use Rattle.mir_ir.specs.Body.{block_in, answer_ty}
 use Rattle.mir_ir.specs.Layout.{among, targets}
-use Rattle.mir_ir.specs.Names.{IsOneOf}
 use Rattle.mir_ir.specs.WellFormed.{OperandsHave, EndIsTyped, Carries, Locals, Labelling, Within, all_taken, with}
 use Rattle.mir_machine.specs.Tree.{Tree}
 use Rattle.mir_machine.specs.Frame.{Frame, State}
@@ -48,7 +47,7 @@ use Rattle.prophecy_logic.specs.Walk.{seen_before, call_commands, at_arguments_a
 use Rattle.prophecy_logic.specs.Walkable.{AllAmong}
 use Rattle.prophecy_logic.proofs.Commands.{GoalsHold, goals_moved, then_moves}
 use Rattle.prophecy_sim.proofs.Lists.{decide, each_of}
-use Rattle.prophecy_sim.proofs.Setup.{Setup, FunctionOf, S, bodies, declarations, own, walked, local_named, apart_from, not_new}
+use Rattle.prophecy_sim.proofs.Setup.{Setup, FunctionOf, S, bodies, declarations, own, walked, local_named, apart_from, not_new, OverAnswer}
 use Rattle.prophecy_sim.proofs.Scalars.{Shows, shaped_shows, shaped_sort}
 use Rattle.prophecy_sim.proofs.Operands.{operand_values, Agree, agree_within, with_before, put_shows}
 use Rattle.prophecy_sim.proofs.Calls.{overlay, overlay_named, AsMany, as_many, as_many_operands, new_values, AreExactly, with_terms_mean, all_exactly}
@@ -203,7 +202,7 @@ module _ {K : Type 0} (s : Setup K) where
       all_new : AreExactly (S s) (var value_name ∷ operand_terms) (and_value v (operand_values b w.env os)) with_new
       all_new = (new_exactly, subst (λ vs. AreExactly (S s) operand_terms vs with_new) (new_values b (not_new s f) w.env v os (take c.params (drop 1 c.locals)) have) (all_exactly (S s) b with_new os))
 
-      posts_there : (ts : List Term) → Each (λ (q : Term). (x : Name) → free x q ≡ true → (x.0 ≡ d.answer.0 → ⊥) → IsOneOf x d.params) ts → Each (λ q. Holds (S s) q (with_value ρ d.answer v)) ts → Each (λ q. Holds (S s) q with_new) (map (at_arguments_and_answer b d os) ts)
+      posts_there : (ts : List Term) → Each (OverAnswer d) ts → Each (λ q. Holds (S s) q (with_value ρ d.answer v)) ts → Each (λ q. Holds (S s) q with_new) (map (at_arguments_and_answer b d os) ts)
       posts_there [] over h = tt
       posts_there (q ∷ ts) over h =
           let vs : Values = and_value v (operand_values b w.env os) in
@@ -223,7 +222,7 @@ module _ {K : Type 0} (s : Setup K) where
 
       moves : MovesAll (S s) (call_commands b d p.local w.answer os) w.env with_place
       moves = more (by_fresh v sort) (then_moves (S s) (assumed_move (S s) (map (at_arguments_and_answer b d os) d.post) with_new (posts_there d.post
-          (each_of (λ (q : Term). (x : Name) → free x q ≡ true → (x.0 ≡ d.answer.0 → ⊥) → IsOneOf x d.params) d.post (own s callee).speaks.over) a.posts)) (more (by_set v new_exactly) none))
+          (each_of (OverAnswer d) d.post (own s callee).speaks.over) a.posts)) (more (by_set v new_exactly) none))
 
       -- ---- the frame goes on
 
