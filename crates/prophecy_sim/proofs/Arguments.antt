@@ -20,7 +20,8 @@ rest_apart x xs h i j y z e f q = pred (h (suc i) (suc j) y z e f q)
     pred p = omega arith
 
 -- the tree of an argument shows the value of its parameter's name
-pub argument_shows : {K : Type 0} (xs : List Name) (ts : List (Tree K)) (vs : Values) → AreApart xs → AllShow ts vs → (i : ℕ) (x : Name) (t : Tree K) → slice_get xs i ≡ Some x → slice_get ts i ≡ Some t → Shows t (named xs vs x)
+pub argument_shows : {K : Type 0} (xs : List Name) (ts : List (Tree K)) (vs : Values) → AreApart xs → AllShow ts vs → (i : ℕ) (x : Name) (t : Tree K) → slice_get xs i ≡ Some x →
+    slice_get ts i ≡ Some t → Shows t (named xs vs x)
 argument_shows [] ts vs apart h i x t e q = absurd (cc)
 argument_shows (y ∷ xs) [] vs apart h i x t e q = absurd (cc)
 argument_shows (y ∷ xs) (u ∷ ts) no_values apart h i x t e q = absurd h

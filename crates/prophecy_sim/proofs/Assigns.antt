@@ -86,7 +86,8 @@ ty_of b (Const (lit.Bool c)) ty h = ap Some (sym h)
 
 module _ (S₀ : Structure) where
   -- an equality has the truth value that says whether the values are the same
-  equal_exactly : (s t : Term) (ρ : Env) (v w : Value) (c : Bool) → Exactly (Means S₀ s ρ) v → Exactly (Means S₀ t ρ) w → (c ≡ true → v ≡ w) → (v ≡ w → c ≡ true) → Exactly (Means S₀ (is_equal s t) ρ) (Flag c)
+  equal_exactly : (s t : Term) (ρ : Env) (v w : Value) (c : Bool) → Exactly (Means S₀ s ρ) v → Exactly (Means S₀ t ρ) w → (c ≡ true → v ≡ w) → (v ≡ w → c ≡ true) →
+      Exactly (Means S₀ (is_equal s t) ρ) (Flag c)
   equal_exactly s t ρ v w c e g f h = says_exactly _ c (decided c f h)
     where
       decided : (c : Bool) → (c ≡ true → v ≡ w) → (v ≡ w → c ≡ true) → Decided c ((x y : Value) → Means S₀ s ρ x → Means S₀ t ρ y → Sure (x ≡ y))
@@ -94,7 +95,8 @@ module _ (S₀ : Structure) where
       decided false f h = λ same. from _ _ e v refl (λ p. from _ _ g w refl (λ q. same v w p q (λ r. true≢false (sym (h r)))))
 
   -- where the type has no negative integers, the divisor is not -1
-  not_least : (k : IntKind) (span : Span) (s t : Term) (ρ : Env) (y z : ℤ) → fits k z ≡ true → Computes S₀ s ρ y → Computes S₀ t ρ z → GoalsHold S₀ ρ (if_signed k (overflow span (not_least_by_minus_one k s t) ∷ [])) →
+  not_least : (k : IntKind) (span : Span) (s t : Term) (ρ : Env) (y z : ℤ) → fits k z ≡ true → Computes S₀ s ρ y → Computes S₀ t ρ z →
+      GoalsHold S₀ ρ (if_signed k (overflow span (not_least_by_minus_one k s t) ∷ [])) →
       y ≡ lowest k → z ≡ negsuc 0 → ⊥
   unfolding is_signed
   not_least I8 span s t ρ y z f c d h = not_least_there S₀ I8 s t ρ y z c d h.0
@@ -146,7 +148,8 @@ module _ (Θ : Theory) (b : Body) (not_new : (x : ℕ) (t : Ty) → slice_get b.
     -- ---- the two forms of commands
 
     -- the place's name is set to a term that has the value
-    set_assigned : (r : Rvalue) (t : Term) → RvalueIsInRange b (kind_in (place_ty b no_tys p)) ρ r → commands_of b (Assign p r) ≡ Set (name_of b p.local) t ∷ [] → Exactly (Means W t ρ) (rvalue_value b ρ r) → Assigned ρ p r
+    set_assigned : (r : Rvalue) (t : Term) → RvalueIsInRange b (kind_in (place_ty b no_tys p)) ρ r → commands_of b (Assign p r) ≡ Set (name_of b p.local) t ∷ [] →
+        Exactly (Means W t ρ) (rvalue_value b ρ r) → Assigned ρ p r
     set_assigned r t fine is e =
         let w : Value = rvalue_value b ρ r in
         let x : Name = name_of b p.local in
@@ -190,7 +193,8 @@ module _ (Θ : Theory) (b : Body) (not_new : (x : ℕ) (t : Ty) → slice_get b.
         set_assigned (Not o) (not_term (operand_term b o)) tt refl
         (subst (λ c. Exactly (Means W (not_term (operand_term b o)) ρ) (Flag (not c))) (sym (ap flag_of v.1)) (not_exactly W (operand_term b o) ρ v.0 (operand_exactly ρ o (Flag v.0) v.1)))
 
-    neg_assigned : (o : Operand) (ty : Ty) (k : IntKind) → PlaceHas b p ty → ty ≡ int k → OperandHas b o (int k) → Has (int k) (operand_value b ρ o) → GoalsHold W ρ (goals_of b span (Assign p (Neg o))) → Assigned ρ p (Neg o)
+    neg_assigned : (o : Operand) (ty : Ty) (k : IntKind) → PlaceHas b p ty → ty ≡ int k → OperandHas b o (int k) → Has (int k) (operand_value b ρ o) →
+        GoalsHold W ρ (goals_of b span (Assign p (Neg o))) → Assigned ρ p (Neg o)
     neg_assigned o ty k place is has sort goals =
         let v = int_sort (declared Θ) k (operand_value b ρ o) sort in
         let y : ℤ = integer_of (operand_value b ρ o) in
@@ -258,7 +262,8 @@ module _ (Θ : Theory) (b : Body) (not_new : (x : ℕ) (t : Ty) → slice_get b.
 
         module _ (place : kind_in (place_ty b no_tys p) ≡ Some k) (local : kind_in (slice_get b.locals p.local) ≡ Some k) (fits_y : fits k y ≡ true) (fits_z : fits k z ≡ true) where
           -- the exact integer of an operation, in an environment in which the operands have these values
-          exact_computes : (σ : Env) (a : ArithOp) → operand_value b σ o ≡ Number y → operand_value b σ q ≡ Number z → Computes W (calculate a (integer_term b o) (integer_term b q)) σ (calculated a y z)
+          exact_computes : (σ : Env) (a : ArithOp) → operand_value b σ o ≡ Number y → operand_value b σ q ≡ Number z →
+              Computes W (calculate a (integer_term b o) (integer_term b q)) σ (calculated a y z)
           exact_computes σ a at_y at_z = computes_calculate W a (integer_term b o) (integer_term b q) σ y z (operand_computes σ o y at_y) (operand_computes σ q z at_z)
 
           overflow_fits : (a : ArithOp) → GoalsHold W ρ (overflow span (in_range k (calculate a (integer_term b o) (integer_term b q))) ∷ []) → fits k (calculated a y z) ≡ true
@@ -274,7 +279,8 @@ module _ (Θ : Theory) (b : Body) (not_new : (x : ℕ) (t : Ty) → slice_get b.
               (subst (λ v. IsInRange (Some k) op (integer_of v) (integer_of (operand_value b ρ q))) (sym is_y) (subst (λ w. IsInRange (Some k) op y (integer_of w)) (sym is_z) h))
 
           -- an operation whose exact integer is known and is of the type
-          known_assigned : (op : BinaryOp) (a : ArithOp) (x : ℤ) → IsInRange (Some k) op y z → of_rvalue b (Some k) p.local (Binary op o q) ≡ new_integer b k p.local (calculate a (integer_term b o) (integer_term b q)) →
+          known_assigned : (op : BinaryOp) (a : ArithOp) (x : ℤ) → IsInRange (Some k) op y z →
+              of_rvalue b (Some k) p.local (Binary op o q) ≡ new_integer b k p.local (calculate a (integer_term b o) (integer_term b q)) →
               operation_value op y z ≡ Number x → calculated a y z ≡ x → fits k x ≡ true → Assigned ρ p (Binary op o q)
           known_assigned op a x fine is value there f =
               let ρ₁ : Env = with_value ρ value_name (Number x) in
@@ -291,7 +297,8 @@ module _ (Θ : Theory) (b : Body) (not_new : (x : ℕ) (t : Ty) → slice_get b.
           mul_assigned : GoalsHold W ρ (goals_of b span (Assign p (Binary Mul o q))) → Assigned ρ p (Binary Mul o q)
           mul_assigned h = let f = overflow_fits arith_op.Mul (goals_there Mul h) in known_assigned Mul arith_op.Mul (calculated arith_op.Mul y z) f refl refl refl f
 
-          divisor_there : GoalsHold W ρ (division span (not_zero (integer_term b q)) ∷ if_signed k (overflow span (not_least_by_minus_one k (integer_term b o) (integer_term b q)) ∷ [])) → (int_eq z (pos 0) ≡ false) × (fits k (int_div y z) ≡ true)
+          divisor_there : GoalsHold W ρ (division span (not_zero (integer_term b q)) ∷ if_signed k (overflow span (not_least_by_minus_one k (integer_term b o) (integer_term b q)) ∷ [])) →
+              (int_eq z (pos 0) ≡ false) × (fits k (int_div y z) ≡ true)
           divisor_there h = (
             not_equal z (pos 0) (divisor_not_zero W (integer_term b q) ρ z second h.0),
             quotient_fits k y z fits_y fits_z (not_least W k span (integer_term b o) (integer_term b q) ρ y z fits_z first second h.1),
@@ -321,7 +328,8 @@ module _ (Θ : Theory) (b : Body) (not_new : (x : ℕ) (t : Ty) → slice_get b.
 
       -- ---- by the operator
 
-      integers_assigned : (op : BinaryOp) (ty : Ty) (k : IntKind) → PlaceHas b p ty → OperandHas b o (int k) → OperandHas b q (int k) → ty ≡ operation_ty op k → Has (int k) (operand_value b ρ o) → Has (int k) (operand_value b ρ q) →
+      integers_assigned : (op : BinaryOp) (ty : Ty) (k : IntKind) → PlaceHas b p ty → OperandHas b o (int k) → OperandHas b q (int k) → ty ≡ operation_ty op k → Has (int k) (operand_value b ρ o) →
+          Has (int k) (operand_value b ρ q) →
           GoalsHold W ρ (goals_of b span (Assign p (Binary op o q))) → Assigned ρ p (Binary op o q)
       integers_assigned op ty k place has_o has_q is sort_o sort_q goals = by_operator op is goals
         where
@@ -358,7 +366,8 @@ module _ (Θ : Theory) (b : Body) (not_new : (x : ℕ) (t : Ty) → slice_get b.
           by_operator Ne h = truth_ne_assigned v.0 w.0 has_o v.1 w.1
           by_operator _ h = absurd h
 
-      binary_assigned : (op : BinaryOp) (ty of : Ty) → PlaceHas b p ty → OperandHas b o of → OperandHas b q of → OperationHas op of ty → Has (instance no_tys of) (operand_value b ρ o) → Has (instance no_tys of) (operand_value b ρ q) →
+      binary_assigned : (op : BinaryOp) (ty of : Ty) → PlaceHas b p ty → OperandHas b o of → OperandHas b q of → OperationHas op of ty → Has (instance no_tys of) (operand_value b ρ o) →
+          Has (instance no_tys of) (operand_value b ρ q) →
           GoalsHold W ρ (goals_of b span (Assign p (Binary op o q))) → Assigned ρ p (Binary op o q)
       binary_assigned op ty (int k) place has_o has_q is sort_o sort_q goals = integers_assigned op ty k place has_o has_q is sort_o sort_q goals
       binary_assigned op ty bool place has_o has_q is sort_o sort_q goals = truths_assigned op has_o is.0 sort_o sort_q
@@ -367,7 +376,8 @@ module _ (Θ : Theory) (b : Body) (not_new : (x : ℕ) (t : Ty) → slice_get b.
     -- ---- right sides
 
     -- what can be taken has a value of its type
-    pub assigned : (set : Locals) (r : Rvalue) (ty : Ty) → PlaceHas b p ty → RvalueHas b r ty → CanEvaluate set r → ((o : Operand) (of : Ty) → OperandHas b o of → CanTake set o → HasSort (declared Θ) (operand_value b ρ o) (instance no_tys of)) →
+    pub assigned : (set : Locals) (r : Rvalue) (ty : Ty) → PlaceHas b p ty → RvalueHas b r ty → CanEvaluate set r →
+        ((o : Operand) (of : Ty) → OperandHas b o of → CanTake set o → HasSort (declared Θ) (operand_value b ρ o) (instance no_tys of)) →
         GoalsHold W ρ (goals_of b span (Assign p r)) → Assigned ρ p r
     assigned set (Use o) ty place has can sorts goals = use_assigned o
     assigned set (Binary op o q) ty place has can sorts goals =

@@ -27,7 +27,7 @@ use Rattle.mir_machine.specs.Step.{callee_frame, entered}
 use Rattle.mir_machine.specs.Try.{Yields, ◌>>=◌, need}
 use Rattle.mir_machine.proofs.Locals.{take_operands, FrameEnd, Calls, frame_end}
 use Rattle.mir_machine.proofs.NeverStuck.{Fits, AreShaped, AreArguments, operands_go}
-use Rattle.mir_machine.proofs.Tried.{Quiet, quiet_then}
+use Rattle.mir_machine.proofs.Tried.{Quiet, quiet_then, quiet_both}
 use Rattle.prophecy_logic.specs.declared.goal.Goal.{Goal}
 use Rattle.prophecy_logic.specs.Row.{operand_term}
 use Rattle.prophecy_logic.specs.Graph.{Arrives}
@@ -43,7 +43,6 @@ use Rattle.prophecy_sim.proofs.Memories.{AreBehind, Came, Memories, memories_kep
 use Rattle.prophecy_logic.specs.Walkable.{AllAmong}
 use Rattle.prophecy_sim.proofs.Stands.{they_stand}
 use Rattle.prophecy_sim.proofs.Standing.{point_of, Standing}
-use Rattle.prophecy_sim.proofs.Steps.{quiet_both}
 use Rattle.prophecy_sim.proofs.Ends.{CallsFine, EndsFine}
 use Rattle.prophecy_sim.proofs.Waits.{params_length}
 
@@ -116,7 +115,8 @@ module _ {K : Type 0} (s : Setup K) (f : FunctionOf s) (ρ₀ : Env) (fs : State
     here_is : (i : ℕ) × (m : Label) × (slice_get b.blocks i ≡ Some (m, st.block))
     here_is = found_block b.blocks g.label st.block st.is_block
 
-    calls_fine : (ls args : List (Tree K)) → Fits b no_tys set ls → (length args ≡ length param_types) × AreShaped no_tys args param_types → Agree b set ls ρ → AllShow args values → CallsFine s f ρ₀ fs (record g { locals = ls }) (entered callee.body n no_tys args)
+    calls_fine : (ls args : List (Tree K)) → Fits b no_tys set ls → (length args ≡ length param_types) × AreShaped no_tys args param_types → Agree b set ls ρ → AllShow args values →
+        CallsFine s f ρ₀ fs (record g { locals = ls }) (entered callee.body n no_tys args)
     calls_fine ls args fitted shaped agreed shows = record {
       callee = callee;
       calls = record {

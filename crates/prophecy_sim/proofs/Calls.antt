@@ -59,7 +59,8 @@ as_many_operands b (o ∷ os) [] have = absurd have
 as_many_operands b (o ∷ os) (ty ∷ tys) have = ap suc (as_many_operands b os tys have.1)
 
 -- a new value changes no operand, where no local has its name
-pub new_values : (b : Body) → ((x : ℕ) (ty : Ty) → slice_get b.locals x ≡ Some ty → (name_of b x).0 ≡ value_name.0 → ⊥) → (ρ : Env) (w : Value) (os : List Operand) (tys : List Ty) → OperandsHave b os tys → operand_values b (with_value ρ value_name w) os ≡ operand_values b ρ os
+pub new_values : (b : Body) → ((x : ℕ) (ty : Ty) → slice_get b.locals x ≡ Some ty → (name_of b x).0 ≡ value_name.0 → ⊥) → (ρ : Env) (w : Value) (os : List Operand) (tys : List Ty) →
+    OperandsHave b os tys → operand_values b (with_value ρ value_name w) os ≡ operand_values b ρ os
 new_values b not_new ρ w [] tys have = refl
 new_values b not_new ρ w (o ∷ os) [] have = absurd have
 new_values b not_new ρ w (o ∷ os) (ty ∷ tys) have = ap₂ and_value (new_value b not_new ρ w o ty have.0) (new_values b not_new ρ w os tys have.1)
@@ -72,7 +73,8 @@ module _ (S : Structure) where
   AreExactly (t ∷ ts) (and_value v vs) ρ = Exactly (Means S t ρ) v × AreExactly ts vs ρ
   AreExactly _ _ ρ = ⊥
 
-  stands_next : (n : ℕ) (u : Term) (σ : List Replacement) (ρ τ : Env) (v : Value) (x : Name) (b : Bool) → above u ≤ n → Exactly (Means S u ρ) v → (above (look σ x) ≤ n) × Alike (Means S (look σ x) ρ) (λ w. w ≡ τ x) →
+  stands_next : (n : ℕ) (u : Term) (σ : List Replacement) (ρ τ : Env) (v : Value) (x : Name) (b : Bool) → above u ≤ n → Exactly (Means S u ρ) v →
+      (above (look σ x) ≤ n) × Alike (Means S (look σ x) ρ) (λ w. w ≡ τ x) →
       (above (cond b u (look σ x)) ≤ n) × Alike (Means S (cond b u (look σ x)) ρ) (λ w. w ≡ cond b v (τ x))
   stands_next n u σ ρ τ v x true l e h = (l, e)
   stands_next n u σ ρ τ v x false l e h = h

@@ -30,7 +30,7 @@ use Rattle.mir_machine.specs.Step.{truth_of, entered}
 use Rattle.mir_machine.specs.Try.{Yields, ◌>>=◌}
 use Rattle.mir_machine.proofs.Locals.{Left, local_tree, take_operand, FrameEnd, Stays, Calls, Answers, starting, frame_end}
 use Rattle.mir_machine.proofs.NeverStuck.{Fits, Keeps, fits_within, take_goes, local_goes, Shape}
-use Rattle.mir_machine.proofs.Tried.{Quiet, quiet_then}
+use Rattle.mir_machine.proofs.Tried.{Quiet, quiet_then, quiet_both}
 use Rattle.prophecy_logic.specs.Command.{by_assume, none, more, MovesAll}
 use Rattle.prophecy_logic.specs.Row.{operand_term, name_of}
 use Rattle.prophecy_logic.specs.Graph.{IsAtEnd, Arrives}
@@ -44,7 +44,6 @@ use Rattle.prophecy_sim.proofs.Scalars.{Shows, shows_truth, shaped_typed}
 use Rattle.prophecy_sim.proofs.Operands.{operand_value, operand_means, taken_before, Agree, agree_within, Leaves, local_shows, take_shows}
 use Rattle.prophecy_sim.proofs.Memories.{among_first, among_second, Came, came_on, Reached}
 use Rattle.prophecy_sim.proofs.Standing.{point_of, Standing, arrived, each_holds}
-use Rattle.prophecy_sim.proofs.Steps.{quiet_both}
 use Rattle.prophecy_sim.proofs.Waits.{first_ty, IsAnswer, Waiting}
 
 not_true : false ≡ true → ⊥
@@ -104,14 +103,16 @@ module _ {K : Type 0} (s : Setup K) where
       Ways heads = (l : Label) → among l (targets st.block.end.kind) ≡ true → Within_set (initialised l 0) end_set → Reached s f ρ₀ (initialised l 0) ρ heads l
 
       -- the frame goes on with these locals at the block
-      pub goes_on : {heads : List Label} {v : Walk} (l : Label) (set : Locals) (ls : List (Tree K)) → Arrives (walked s f) heads l v → Came s f ρ₀ (walked s f) heads (arrival l) ρ → GoalsHold (S s) ρ (met v) → Fits b no_tys set ls → Agree b set ls ρ → Within_set (initialised l 0) set →
+      pub goes_on : {heads : List Label} {v : Walk} (l : Label) (set : Locals) (ls : List (Tree K)) → Arrives (walked s f) heads l v → Came s f ρ₀ (walked s f) heads (arrival l) ρ →
+          GoalsHold (S s) ρ (met v) → Fits b no_tys set ls → Agree b set ls ρ → Within_set (initialised l 0) set →
           Reached s f ρ₀ (initialised l 0) ρ heads l → Standing s f ρ₀ (starting g ls l ∷ fs) (length fs) (starting g ls l)
       goes_on l set ls arrives came hold fitting agrees w way =
           arrived s f ρ₀ arrives (starting g ls l ∷ fs) (length fs) g ls st.function st.types
           (record { fitting = fits_within b no_tys (initialised l 0) set ls w fitting; env = ρ; agrees = agree_within b (initialised l 0) set ls ρ w agrees; keeps = st.keeps; came = came })
           way hold
 
-      pub branch_comes : {heads : List Label} {u v : Walk} (o : Operand) (l r : Label) → st.block.end.kind ≡ If o l r → Arrives (walked s f) heads l u → Arrives (walked s f) heads r v → Came s f ρ₀ (walked s f) heads (within (point_of g)) ρ → IsAtEnd b (point_of g) st.block.end →
+      pub branch_comes : {heads : List Label} {u v : Walk} (o : Operand) (l r : Label) → st.block.end.kind ≡ If o l r → Arrives (walked s f) heads l u → Arrives (walked s f) heads r v →
+          Came s f ρ₀ (walked s f) heads (within (point_of g)) ρ → IsAtEnd b (point_of g) st.block.end →
           GoalsHold (S s) ρ (seen_before (where_true b o) (met u) ++ seen_before (where_false b o) (met v)) → Fits b no_tys end_set g.locals → Agree b end_set g.locals ρ → Ways heads → Quiet EndsWell (frame_end s.code g (If o l r))
       branch_comes {heads} {u} {v} o l r kind to_l to_r came at_end hold fitting agrees ways =
           quiet_then (λ (x : Left K). Keeps b no_tys (taken o end_set) bool x × Leaves b (taken o end_set) ρ value x) EndsWell (take_operand g.locals o) (λ x. truth_of x.1 >>= λ c. Yields (Stays (starting g x.0 (cond c l r))))
@@ -143,7 +144,8 @@ module _ {K : Type 0} (s : Setup K) where
           rest_goals : GoalsHold (S s) ρ (seen_before (where_false b o) (met v))
           rest_goals = goals_rest (S s) ρ (seen_before (where_true b o) (met u)) (seen_before (where_false b o) (met v)) hold
 
-          of_truth : (ls : List (Tree K)) (c : Bool) → Fits b no_tys (taken o end_set) ls → Agree b (taken o end_set) ls ρ → value ≡ Flag c → Standing s f ρ₀ (starting g ls (cond c l r) ∷ fs) (length fs) (starting g ls (cond c l r))
+          of_truth : (ls : List (Tree K)) (c : Bool) → Fits b no_tys (taken o end_set) ls → Agree b (taken o end_set) ls ρ → value ≡ Flag c →
+              Standing s f ρ₀ (starting g ls (cond c l r) ∷ fs) (length fs) (starting g ls (cond c l r))
           of_truth ls true fitted agreed is =
               let known : Holds (S s) (operand_term b o) ρ = (yes_flag (Means (S s) (operand_term b o) ρ) true (subst (λ w. Exactly (Means (S s) (operand_term b o) ρ) w) is exactly)).1 refl in
               let moves : MovesAll (S s) (where_true b o) ρ ρ = more (by_assume known) none in
@@ -156,7 +158,8 @@ module _ {K : Type 0} (s : Setup K) where
               goes_on r (taken o end_set) ls to_r (came_on s f ρ₀ came (where_false b o) (to_false_side st.block.end o l r came.prefix at_end kind) moves) (goals_moved (S s) (met v) moves rest_goals) fitted agreed carries.1
               (ways r (subst (λ x. among r (targets x) ≡ true) (sym kind) (among_second l r)) (to_end r carries.1))
 
-          by_truth : (ls : List (Tree K)) (t : Tree K) → Fits b no_tys (taken o end_set) ls → Agree b (taken o end_set) ls ρ → Shape bool t → Shows t value → Quiet EndsWell (truth_of t >>= λ d. Yields (Stays (starting g ls (cond d l r))))
+          by_truth : (ls : List (Tree K)) (t : Tree K) → Fits b no_tys (taken o end_set) ls → Agree b (taken o end_set) ls ρ → Shape bool t → Shows t value →
+              Quiet EndsWell (truth_of t >>= λ d. Yields (Stays (starting g ls (cond d l r))))
           by_truth ls t fitted agreed (there, (c, is)) shows =
               subst (λ (u : Tree K). Quiet EndsWell (truth_of u >>= λ d. Yields (Stays (starting g ls (cond d l r))))) (sym is)
               (of_truth ls c fitted agreed (shows_truth c value (subst (λ (u : Tree K). Shows u value) is shows)))
@@ -184,7 +187,8 @@ module _ {K : Type 0} (s : Setup K) where
           at_name x q (inr d) =
               with_other ρ (own s f).contract.answer x (ρ (name_of b 0)) d ∙ st.keeps x (params_outside s f x (over.0 x q d)) ∙ sym (with_other ρ₀ (own s f).contract.answer x (ρ (name_of b 0)) d)
 
-      pub return_comes : GoalsHold (S s) ρ (goals_at_return b (own s f).contract) → Fits b no_tys end_set g.locals → Agree b end_set g.locals ρ → end_set 0 ≡ true → Quiet EndsWell (frame_end s.code g Return)
+      pub return_comes : GoalsHold (S s) ρ (goals_at_return b (own s f).contract) → Fits b no_tys end_set g.locals → Agree b end_set g.locals ρ → end_set 0 ≡ true →
+          Quiet EndsWell (frame_end s.code g Return)
       return_comes hold fitting agrees there =
           quiet_then (λ t. Shape (instance no_tys answer.0) t × Shows t (ρ (name_of b 0))) EndsWell (local_tree g.locals 0) (λ t. Yields (Answers t))
           (quiet_both (Shape (instance no_tys answer.0)) (λ t. Shows t (ρ (name_of b 0))) (local_tree g.locals 0)

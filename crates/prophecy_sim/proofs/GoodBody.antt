@@ -78,7 +78,8 @@ first_is t u ts us e = cc
 others_are : (t u : Ty) (ts us : Tys) → and_ty t ts ≡ and_ty u us → ts ≡ us
 others_are t u ts us e = cc
 
-none_met_all : {K : Type 0} (Δ : Declarations) (s : State K) (tys : List Ty) {ts : Trees K} {of : Tys} {met : List Met} → AreTyped Δ s ts of met → of ≡ instances no_tys (tys_of tys) → ((i : ℕ) (ty : Ty) → slice_get tys i ≡ Some ty → IsScalar ty) → met ≡ []
+none_met_all : {K : Type 0} (Δ : Declarations) (s : State K) (tys : List Ty) {ts : Trees K} {of : Tys} {met : List Met} → AreTyped Δ s ts of met → of ≡ instances no_tys (tys_of tys) →
+    ((i : ℕ) (ty : Ty) → slice_get tys i ≡ Some ty → IsScalar ty) → met ≡ []
 none_met_all Δ s tys none_typed e scalars = refl
 none_met_all Δ s [] (more_typed h hs) e scalars = absurd (cc)
 none_met_all Δ s (sc ∷ tys) (more_typed {t = t} {ty = ty} {tys = vs} {first = first} {rest = rest} h hs) e scalars =

@@ -47,12 +47,14 @@ any_block : (p : Block → Bool) (bs : List (Label × Block)) (l : Label) (k : B
 any_block p [] l k e h = absurd (cc)
 any_block p (c ∷ bs) l k e h = by_test (λ q. any_block p bs l k q h) (c.0.0 == l.0) e
   where
-    by_test : (block_in bs l ≡ Some k → list_any (λ (d : Label × Block). p d.1) bs ≡ true) → (t : Bool) → cond t (Some c.1) (block_in bs l) ≡ Some k → (p c.1 || list_any (λ (d : Label × Block). p d.1) bs) ≡ true
+    by_test : (block_in bs l ≡ Some k → list_any (λ (d : Label × Block). p d.1) bs ≡ true) → (t : Bool) → cond t (Some c.1) (block_in bs l) ≡ Some k →
+        (p c.1 || list_any (λ (d : Label × Block). p d.1) bs) ≡ true
     by_test rest true q = let same : c.1 ≡ k = cc in or_first (p c.1) (list_any (λ (d : Label × Block). p d.1) bs) (ap p same ∙ h)
     by_test rest false q = or_second (p c.1) (list_any (λ (d : Label × Block). p d.1) bs) (rest q)
 
 -- a block of the loop writes what its statements write
-pub loop_writes_statement : (b : Body) (h l : Label) (k : Block) (i : ℕ) (st : Statement) (x : ℕ) → block_in b.blocks l ≡ Some k → among h k.nest ≡ true → slice_get k.statements i ≡ Some st → writes x st.kind ≡ true → loop_writes b h x ≡ true
+pub loop_writes_statement : (b : Body) (h l : Label) (k : Block) (i : ℕ) (st : Statement) (x : ℕ) → block_in b.blocks l ≡ Some k → among h k.nest ≡ true → slice_get k.statements i ≡ Some st →
+    writes x st.kind ≡ true → loop_writes b h x ≡ true
 loop_writes_statement b h l k i st x is_k inside is_st w =
     any_block (λ c. is_in_loop h c && block_writes x c) b.blocks l k is_k
     (and_both (is_in_loop h k) (block_writes x k) inside
@@ -115,7 +117,8 @@ module _ (S : Structure) (b : Body) (named : LocalsAreNamed b) (count : length b
         by_place x n le lt px e (inr d) = rest.there x n (omega (arith, d)) (omega arith) px e
 
     -- local m has its value, and later ones do not touch its name
-    given : p m ≡ Whole → (n₀ : Name) → slice_get b.names m ≡ Some n₀ → HasSort (declared S.theory) (val m) (instance S.types t) → RenewedFrom p val (m + 1) ts (with_value ρ (name_of b m) (val m)) → RenewedFrom p val m (t ∷ ts) ρ
+    given : p m ≡ Whole → (n₀ : Name) → slice_get b.names m ≡ Some n₀ → HasSort (declared S.theory) (val m) (instance S.types t) →
+        RenewedFrom p val (m + 1) ts (with_value ρ (name_of b m) (val m)) → RenewedFrom p val m (t ∷ ts) ρ
     given is_m n₀ e₀ sort rest = record {
       env = rest.env;
       moves = subst (λ c. MovesAll S (renewal b c m t ++ renewals b p (m + 1) ts) ρ rest.env) (sym is_m) (more (by_fresh (val m) sort) rest.moves);
@@ -152,7 +155,8 @@ module _ (S : Structure) (b : Body) (named : LocalsAreNamed b) (count : length b
       by_test rest Whole e = given p val m t ts ρ e name_at.0 name_at.1 (sorts m t e is_t) (rest (with_value ρ (name_of b m) (val m)))
       by_test rest Untouched e = passed p val m t ts ρ e (rest ρ)
 
-  pub renewed_move : (p : ℕ → Touch) (val : ℕ → Value) (ρ : Env) → ((x : ℕ) (ty : Ty) → p x ≡ Whole → slice_get b.locals x ≡ Some ty → HasSort (declared S.theory) (val x) (instance S.types ty)) → Renewed p val ρ
+  pub renewed_move : (p : ℕ → Touch) (val : ℕ → Value) (ρ : Env) → ((x : ℕ) (ty : Ty) → p x ≡ Whole → slice_get b.locals x ≡ Some ty → HasSort (declared S.theory) (val x) (instance S.types ty)) →
+      Renewed p val ρ
   renewed_move p val ρ sorts =
       let all = renewed_from p val sorts 0 b.locals ρ (λ i. ap (slice_get b.locals) (from_none i)) in
       record {

@@ -130,7 +130,8 @@ module _ {K : Type 0} (s : Setup K) (f : FunctionOf s) (ρ₀ : Env) where
     pub prefix : Prefix w heads at commands
     pub moves : MovesAll (S s) commands ρ₀ ρ
 
-  pub came_on : {w : Setting} {heads inner : List Label} {at next : At} {ρ σ : Env} (c : Came w heads at ρ) (cs : List Command) → Prefix w inner next (c.commands ++ cs) → MovesAll (S s) cs ρ σ → Came w inner next σ
+  pub came_on : {w : Setting} {heads inner : List Label} {at next : At} {ρ σ : Env} (c : Came w heads at ρ) (cs : List Command) → Prefix w inner next (c.commands ++ cs) → MovesAll (S s) cs ρ σ →
+      Came w inner next σ
   came_on c cs prefix moves = record { commands = c.commands ++ cs; prefix = prefix; moves = then_moves (S s) c.moves moves }
 
   -- the head of a loop that the run is in, where the locals of the set are initialised: what stood when it was first come to on this
@@ -204,8 +205,10 @@ module _ {K : Type 0} (s : Setup K) (f : FunctionOf s) (ρ₀ : Env) where
 
   -- how the run has come to a block, where these heads were passed
   pub data Reached (set : Locals) (ρ : Env) (heads : List Label) (l : Label) : Type 0 where
-    onward : (to : Block) (outer : List Label) → block_in b.blocks l ≡ Some to → around l to outer → Memories set ρ outer → AllAmong outer heads → AreBehind heads l → (among l heads ≡ true → ⊥) → Reached set ρ heads l
-    backward : (to : Block) (h : Head) (outer : List Label) → block_in b.blocks l ≡ Some to → to.head ≡ Some h → among l heads ≡ true → Memories set ρ outer → Passed l outer set ρ → Reached set ρ heads l
+    onward : (to : Block) (outer : List Label) → block_in b.blocks l ≡ Some to → around l to outer → Memories set ρ outer → AllAmong outer heads → AreBehind heads l → (among l heads ≡ true → ⊥) →
+        Reached set ρ heads l
+    backward : (to : Block) (h : Head) (outer : List Label) → block_in b.blocks l ≡ Some to → to.head ≡ Some h → among l heads ≡ true → Memories set ρ outer → Passed l outer set ρ →
+        Reached set ρ heads l
 
   too_far : (m n : ℕ) → m ≤ n → n < m → ⊥
   too_far m n h g = absurd (omega arith)

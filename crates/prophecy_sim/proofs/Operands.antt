@@ -70,7 +70,8 @@ operand_means S b ρ (Const (lit.Int z k)) = alike_same _
 operand_means S b ρ (Const (lit.Bool c)) = alike_same _
 
 -- a new value changes no operand, where no local has its name
-pub new_value : (b : Body) → ((x : ℕ) (ty : Ty) → slice_get b.locals x ≡ Some ty → (name_of b x).0 ≡ value_name.0 → ⊥) → (ρ : Env) (w : Value) (o : Operand) (ty : Ty) → OperandHas b o ty → operand_value b (with_value ρ value_name w) o ≡ operand_value b ρ o
+pub new_value : (b : Body) → ((x : ℕ) (ty : Ty) → slice_get b.locals x ≡ Some ty → (name_of b x).0 ≡ value_name.0 → ⊥) → (ρ : Env) (w : Value) (o : Operand) (ty : Ty) → OperandHas b o ty →
+    operand_value b (with_value ρ value_name w) o ≡ operand_value b ρ o
 new_value b not_new ρ w (Copy p) ty has = with_other ρ value_name (name_of b p.local) w (not_new p.local ty has.1)
 new_value b not_new ρ w (Move p) ty has = with_other ρ value_name (name_of b p.local) w (not_new p.local ty has.1)
 new_value b not_new ρ w (Const l) ty has = refl
@@ -135,7 +136,8 @@ module _ {K : Type 0} (b : Body) where
       (get_set ls x Gone y t e)
 
   -- local x has the tree, and its name the value
-  pub agree_set : (set : Locals) (ls : List (Tree K)) (ρ σ : Env) (x : ℕ) (u : Tree K) → Agree set ls ρ → Shows u (σ (name_of b x)) → ((y : ℕ) (ty : Ty) → slice_get b.locals y ≡ Some ty → (y ≡ x → ⊥) → σ (name_of b y) ≡ ρ (name_of b y)) →
+  pub agree_set : (set : Locals) (ls : List (Tree K)) (ρ σ : Env) (x : ℕ) (u : Tree K) → Agree set ls ρ → Shows u (σ (name_of b x)) →
+      ((y : ℕ) (ty : Ty) → slice_get b.locals y ≡ Some ty → (y ≡ x → ⊥) → σ (name_of b y) ≡ ρ (name_of b y)) →
       Agree (with x set) (slice_set ls x u) σ
   agree_set set ls ρ σ x u h shows others y ty t inside is_ty e =
       ⊎_elim
@@ -158,14 +160,16 @@ module _ {K : Type 0} (b : Body) where
   there P (Unique k at) h = h
   there P Gone h = tt
 
-  pub local_shows : (set : Locals) (ls : List (Tree K)) (ρ : Env) (x : ℕ) (ty : Ty) → slice_get b.locals x ≡ Some ty → set x ≡ true → Agree set ls ρ → Quiet (λ t. Shows t (ρ (name_of b x))) (local_tree ls x)
+  pub local_shows : (set : Locals) (ls : List (Tree K)) (ρ : Env) (x : ℕ) (ty : Ty) → slice_get b.locals x ≡ Some ty → set x ≡ true → Agree set ls ρ →
+      Quiet (λ t. Shows t (ρ (name_of b x))) (local_tree ls x)
   local_shows set ls ρ x ty is_ty inside h = quiet_need (λ t. Shows t (ρ (name_of b x))) (slice_get ls x) is_there (λ t e. there (λ u. Shows u (ρ (name_of b x))) t (h x ty t inside is_ty e))
 
   literal_shows : (l : Lit) → Shows {K = K} (literal l) (literal_value l)
   literal_shows (lit.Int z k) = int_shows K z
   literal_shows (lit.Bool c) = truth_shows K c
 
-  pub take_shows : (set : Locals) (ls : List (Tree K)) (ρ : Env) (o : Operand) (ty : Ty) → OperandHas b o ty → CanTake set o → Agree set ls ρ → Quiet (Leaves (taken o set) ρ (operand_value b ρ o)) (take_operand ls o)
+  pub take_shows : (set : Locals) (ls : List (Tree K)) (ρ : Env) (o : Operand) (ty : Ty) → OperandHas b o ty → CanTake set o → Agree set ls ρ →
+      Quiet (Leaves (taken o set) ρ (operand_value b ρ o)) (take_operand ls o)
   take_shows set ls ρ (Copy p) ty has can h =
       quiet_then (λ t. Shows t (ρ (name_of b p.local))) (Leaves set ρ (ρ (name_of b p.local))) (local_tree ls p.local) (λ t. Yields (ls, t)) (local_shows set ls ρ p.local ty has.1 can h) (λ t shows. (h, shows))
   take_shows set ls ρ (Move p) ty has can h =
@@ -177,7 +181,8 @@ module _ {K : Type 0} (b : Body) where
   abbrev pub LeavesAll : Locals → Env → Values → List (Tree K) × List (Tree K) → Type 0
   LeavesAll set ρ vs r = Agree set r.0 ρ × AllShow r.1 vs
 
-  pub take_all_shows : (set : Locals) (ls : List (Tree K)) (ρ : Env) (os : List Operand) (tys : List Ty) → OperandsHave b os tys → CanTakeAll set os → Agree set ls ρ → Quiet (LeavesAll (all_taken os set) ρ (operand_values b ρ os)) (take_operands ls os)
+  pub take_all_shows : (set : Locals) (ls : List (Tree K)) (ρ : Env) (os : List Operand) (tys : List Ty) → OperandsHave b os tys → CanTakeAll set os → Agree set ls ρ →
+      Quiet (LeavesAll (all_taken os set) ρ (operand_values b ρ os)) (take_operands ls os)
   take_all_shows set ls ρ [] tys have can h = (h, tt)
   take_all_shows set ls ρ (o ∷ os) [] have can h = absurd have
   take_all_shows set ls ρ (o ∷ os) (ty ∷ tys) have can h =
@@ -198,7 +203,8 @@ module _ {K : Type 0} (b : Body) where
       quiet_then (Leaves (taken o set) ρ (operand_value b ρ o)) (Leaves (taken o set) ρ v) (take_operand ls o) (λ l. make l.1 >>= λ t. Yields (l.0, t)) (take_shows set ls ρ o ty has can h)
       (λ l leaves. quiet_then (λ t. Shows t v) (Leaves (taken o set) ρ v) (make l.1) (λ t. Yields (l.0, t)) (go l.1 leaves.1) (λ t shows. (leaves.0, shows)))
 
-  evaluate_shows : (set : Locals) (ls : List (Tree K)) (ρ : Env) (kind : Option IntKind) (span : Span) (r : Rvalue) (ty : Ty) → RvalueHas b r ty → CanEvaluate set r → Agree set ls ρ → RvalueIsInRange b kind ρ r →
+  evaluate_shows : (set : Locals) (ls : List (Tree K)) (ρ : Env) (kind : Option IntKind) (span : Span) (r : Rvalue) (ty : Ty) → RvalueHas b r ty → CanEvaluate set r → Agree set ls ρ →
+      RvalueIsInRange b kind ρ r →
       Quiet (Leaves (evaluated r set) ρ (rvalue_value b ρ r)) (evaluate ls kind span r)
   evaluate_shows set ls ρ kind span (Use o) ty has can h in_range = take_shows set ls ρ o ty has can h
   evaluate_shows set ls ρ kind span (Binary op x y) ty (of, has_x, has_y, op_has) can h in_range =
@@ -219,12 +225,14 @@ module _ {K : Type 0} (b : Body) where
 
   -- ---- statements
 
-  pub put_shows : (set : Locals) (ls : List (Tree K)) (ρ σ : Env) (x : ℕ) (u : Tree K) → Agree set ls ρ → Shows u (σ (name_of b x)) → ((y : ℕ) (ty : Ty) → slice_get b.locals y ≡ Some ty → (y ≡ x → ⊥) → σ (name_of b y) ≡ ρ (name_of b y)) →
+  pub put_shows : (set : Locals) (ls : List (Tree K)) (ρ σ : Env) (x : ℕ) (u : Tree K) → Agree set ls ρ → Shows u (σ (name_of b x)) →
+      ((y : ℕ) (ty : Ty) → slice_get b.locals y ≡ Some ty → (y ≡ x → ⊥) → σ (name_of b y) ≡ ρ (name_of b y)) →
       Quiet (λ ls'. Agree (with x set) ls' σ) (put_local ls x u)
   put_shows set ls ρ σ x u h shows others = quiet_need (λ ls'. Agree (with x set) ls' σ) (slice_get ls x) (λ t. Yields (slice_set ls x u)) (λ t e. agree_set set ls ρ σ x u h shows others)
 
   -- in the second environment the place's name has the value of the right side in the first
-  pub assign_shows : (θ : Tys) (set : Locals) (ls : List (Tree K)) (ρ σ : Env) (span : Span) (p : Place) (r : Rvalue) (ty : Ty) → RvalueHas b r ty → CanEvaluate set r → Agree set ls ρ → RvalueIsInRange b (kind_in (place_ty b θ p)) ρ r →
+  pub assign_shows : (θ : Tys) (set : Locals) (ls : List (Tree K)) (ρ σ : Env) (span : Span) (p : Place) (r : Rvalue) (ty : Ty) → RvalueHas b r ty → CanEvaluate set r → Agree set ls ρ →
+      RvalueIsInRange b (kind_in (place_ty b θ p)) ρ r →
       σ (name_of b p.local) ≡ rvalue_value b ρ r → ((y : ℕ) (ty : Ty) → slice_get b.locals y ≡ Some ty → (y ≡ p.local → ⊥) → σ (name_of b y) ≡ ρ (name_of b y)) →
       Quiet (λ ls'. Agree (run (Assign p r) set) ls' σ) (run_local b θ ls span (Assign p r))
   assign_shows θ set ls ρ σ span p r ty has can h in_range value others =

@@ -101,7 +101,8 @@ module _ (K : Type 0) where
   truths_show Ge a b = tt
 
   -- the trees of the operands show these values
-  pub binary_shows : (kind : Option IntKind) (span : Span) (op : BinaryOp) (t u : Tree K) (v w : Value) → Shows t v → Shows u w → IsInRange kind op (integer_of v) (integer_of w) → Quiet (Has (applied op v w)) (binary kind span op t u)
+  pub binary_shows : (kind : Option IntKind) (span : Span) (op : BinaryOp) (t u : Tree K) (v w : Value) → Shows t v → Shows u w → IsInRange kind op (integer_of v) (integer_of w) →
+      Quiet (Has (applied op v w)) (binary kind span op t u)
   binary_shows kind span op (Int a) (Int b) v w shows_a shows_b h =
       let is_a : v ≡ Number a = shows_int a v shows_a in
       let is_b : w ≡ Number b = shows_int b w shows_b in
@@ -129,7 +130,8 @@ module _ (K : Type 0) where
   binary_shows kind span op (Unique k at) u v w shows_a shows_b h = tt
   binary_shows kind span op Gone u v w shows_a shows_b h = tt
 
-  pub negated_shows : (kind : Option IntKind) (span : Span) (t : Tree K) (v : Value) → Shows t v → InKind kind (λ k. fits k (opposite v) ≡ true) → Quiet (Has (Number (opposite v))) (negated kind span t)
+  pub negated_shows : (kind : Option IntKind) (span : Span) (t : Tree K) (v : Value) → Shows t v → InKind kind (λ k. fits k (opposite v) ≡ true) →
+      Quiet (Has (Number (opposite v))) (negated kind span t)
   negated_shows kind span (Int a) v shows h =
       let is : v ≡ Number a = shows_int a v shows in
       subst (λ x. Quiet (Has (Number (neg_ℤ x))) (negated {K = K} kind span (Int a))) (sym (ap integer_of is))

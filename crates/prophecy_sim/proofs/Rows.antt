@@ -57,7 +57,8 @@ module _ {K : Type 0} (s : Setup K) (f : FunctionOf s) (ρ₀ : Env) (fs : State
 
   -- ---- the end of a block, where its statements are done
 
-  end_comes : {heads : List Label} {end : Terminator} {v : Walk} → Ends (walked s f) heads end v → end ≡ st.block.end → g.statement ≡ length st.block.statements → Came s f ρ₀ (walked s f) heads (within (point_of g)) ρ → GoalsHold (S s) ρ (met v) →
+  end_comes : {heads : List Label} {end : Terminator} {v : Walk} → Ends (walked s f) heads end v → end ≡ st.block.end → g.statement ≡ length st.block.statements →
+      Came s f ρ₀ (walked s f) heads (within (point_of g)) ρ → GoalsHold (S s) ρ (met v) →
       Fits b no_tys end_set g.locals → Agree b end_set g.locals ρ → Memories s f ρ₀ end_set ρ st.block.nest → AllAmong st.block.nest heads → AreBehind s f ρ₀ heads g.label → Ways s f ρ₀ fs g st heads → Quiet EndsWell (frame_end s.code g end.kind)
   end_comes (goto l q arrives) is is_last came hold fitting agrees nested enclosing behind ways =
       let kind : st.block.end.kind ≡ Goto l = ap (λ (x : Terminator). x.kind) (sym is) ∙ q in

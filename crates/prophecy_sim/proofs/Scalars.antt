@@ -34,7 +34,8 @@ reads_truth (of_truth e) = refl
 no_parts : {K : Type 0} {gaps : Bool} {s : State K} {final : K → Spot → Value} {w : View K} {at : Spot} {n : ℕ} {vs : Values} → ReadsAll gaps s final not_lent w at n no_trees vs → vs ≡ no_values
 no_parts of_none = refl
 
-reads_empty : {K : Type 0} {gaps : Bool} {s : State K} {final : K → Spot → Value} {w : View K} {at : Spot} {c : Ctor} {v : Value} → Reads gaps s final not_lent w at (Made c no_trees) v → v ≡ value.Made c no_values
+reads_empty : {K : Type 0} {gaps : Bool} {s : State K} {final : K → Spot → Value} {w : View K} {at : Spot} {c : Ctor} {v : Value} → Reads gaps s final not_lent w at (Made c no_trees) v →
+    v ≡ value.Made c no_values
 reads_empty (of_lent e) = absurd (cc)
 reads_empty (of_made {c = c} e parts) = ap (λ vs. value.Made c vs) (no_parts parts)
 
@@ -56,7 +57,8 @@ shows_truth b v h = reads_truth (h false [] (λ k at. nothing) Owner here)
 shows_empty : {K : Type 0} (c : Ctor) (v : Value) → Shows {K = K} (Made c no_trees) v → v ≡ value.Made c no_values
 shows_empty c v h = reads_empty (h false [] (λ k at. nothing) Owner here)
 
-pub shaped_shows : {K : Type 0} {gaps : Bool} {s : State K} {final : K → Spot → Value} {w : View K} {at : Spot} (ty : Ty) (t : Tree K) (v : Value) → IsScalar ty → Shape (instance no_tys ty) t → Reads gaps s final not_lent w at t v → Shows t v
+pub shaped_shows : {K : Type 0} {gaps : Bool} {s : State K} {final : K → Spot → Value} {w : View K} {at : Spot} (ty : Ty) (t : Tree K) (v : Value) → IsScalar ty → Shape (instance no_tys ty) t →
+    Reads gaps s final not_lent w at t v → Shows t v
 shaped_shows {K} {gaps} {s} {final} {w} {at} (int k) t v scalar (there, (z, is, f)) h =
     subst (λ u. Shows u v) (sym is) (subst (λ x. Shows {K = K} (Int z) x) (sym (reads_int (subst (λ u. Reads gaps s final not_lent w at u v) is h))) (int_shows K z))
 shaped_shows {K} {gaps} {s} {final} {w} {at} bool t v scalar (there, (b, is)) h =
@@ -90,7 +92,8 @@ pub typed_elsewhere : {K : Type 0} (Δ : Declarations) (s u : State K) (ty : Ty)
 typed_elsewhere Δ s u ty t met scalar h = shaped_typed Δ u ty t scalar (typed_shape Δ s t (instance no_tys ty) met h)
 
 -- what is typed in a state and reads as a value there shows it
-pub typed_shows : {K : Type 0} {gaps : Bool} {final : K → Spot → Value} {w : View K} {at : Spot} (Δ : Declarations) (s : State K) (ty : Ty) (t : Tree K) (v : Value) → IsScalar ty → Typed Δ s t (instance no_tys ty) [] → Reads gaps s final not_lent w at t v → Shows t v
+pub typed_shows : {K : Type 0} {gaps : Bool} {final : K → Spot → Value} {w : View K} {at : Spot} (Δ : Declarations) (s : State K) (ty : Ty) (t : Tree K) (v : Value) → IsScalar ty →
+    Typed Δ s t (instance no_tys ty) [] → Reads gaps s final not_lent w at t v → Shows t v
 typed_shows Δ s ty t v scalar typed h = shaped_shows ty t v scalar (typed_shape Δ s t (instance no_tys ty) [] typed) h
 
 -- ---- lists
@@ -101,7 +104,8 @@ AllShow [] no_values = Unit {0}
 AllShow (t ∷ ts) (and_value v vs) = Shows t v × AllShow ts vs
 AllShow _ _ = ⊥
 
-pub all_read : {K : Type 0} (gaps : Bool) (s : State K) (final : K → Spot → Value) (w : View K) (at : Spot) (n : ℕ) (ts : List (Tree K)) (vs : Values) → AllShow ts vs → ReadsAll gaps s final not_lent w at n (trees_of ts) vs
+pub all_read : {K : Type 0} (gaps : Bool) (s : State K) (final : K → Spot → Value) (w : View K) (at : Spot) (n : ℕ) (ts : List (Tree K)) (vs : Values) → AllShow ts vs →
+    ReadsAll gaps s final not_lent w at n (trees_of ts) vs
 all_read gaps s final w at n [] no_values h = of_none
 all_read gaps s final w at n [] (and_value v vs) h = absurd h
 all_read gaps s final w at n (t ∷ ts) no_values h = absurd h
@@ -111,7 +115,8 @@ abbrev pub AreScalar : List Ty → Type 0
 AreScalar tys = (i : ℕ) (ty : Ty) → slice_get tys i ≡ Some ty → IsScalar ty
 
 -- what is read of the trees they show
-pub all_shown : {K : Type 0} {gaps : Bool} {s : State K} {final : K → Spot → Value} {w : View K} {at : Spot} {n : ℕ} {vs : Values} (ts : List (Tree K)) (tys : List Ty) → length ts ≡ length tys → AreShaped no_tys ts tys → AreScalar tys →
+pub all_shown : {K : Type 0} {gaps : Bool} {s : State K} {final : K → Spot → Value} {w : View K} {at : Spot} {n : ℕ} {vs : Values} (ts : List (Tree K)) (tys : List Ty) → length ts ≡ length tys →
+    AreShaped no_tys ts tys → AreScalar tys →
     ReadsAll gaps s final not_lent w at n (trees_of ts) vs → AllShow ts vs
 all_shown [] tys count shaped scalars of_none = tt
 all_shown (t ∷ ts) [] count shaped scalars h = absurd (omega arith)
@@ -121,7 +126,8 @@ all_shown (t ∷ ts) (ty ∷ tys) count shaped scalars (of_more {v = v} h hs) =
       all_shown ts tys (omega arith) (λ n u e. shaped (suc n) u e) (λ i u e. scalars (suc i) u e) hs,
     )
 
-pub all_typed : {K : Type 0} (Δ : Declarations) (s : State K) (ts : List (Tree K)) (tys : List Ty) → length ts ≡ length tys → AreShaped no_tys ts tys → AreScalar tys → AreTyped Δ s (trees_of ts) (instances no_tys (tys_of tys)) []
+pub all_typed : {K : Type 0} (Δ : Declarations) (s : State K) (ts : List (Tree K)) (tys : List Ty) → length ts ≡ length tys → AreShaped no_tys ts tys → AreScalar tys →
+    AreTyped Δ s (trees_of ts) (instances no_tys (tys_of tys)) []
 all_typed Δ s [] [] count shaped scalars = none_typed
 all_typed Δ s [] (ty ∷ tys) count shaped scalars = absurd (omega arith)
 all_typed Δ s (t ∷ ts) [] count shaped scalars = absurd (omega arith)

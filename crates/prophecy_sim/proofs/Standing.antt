@@ -224,7 +224,8 @@ module _ {K : Type 0} (s : Setup K) (f : FunctionOf s) (ρ₀ : Env) where
         (each_of OverHead p.head.invariants ((own s f).heads.over l p.block p.head p.is_block p.is_head))
         invariants))
 
-    pub at_head : (st : State K) (frame : ℕ) (g : Frame K) → g.function ≡ f.number → g.types ≡ no_tys → Memories s f ρ₀ (initialised l 0) c.env outer → Each (λ t. Holds (S s) t c.env) p.head.invariants → Standing st frame (starting g ls l)
+    pub at_head : (st : State K) (frame : ℕ) (g : Frame K) → g.function ≡ f.number → g.types ≡ no_tys → Memories s f ρ₀ (initialised l 0) c.env outer →
+        Each (λ t. Holds (S s) t c.env) p.head.invariants → Standing st frame (starting g ls l)
     at_head st frame g function types ms invariants = record {
       function = function;
       types = types;
@@ -258,7 +259,8 @@ module _ {K : Type 0} (s : Setup K) (f : FunctionOf s) (ρ₀ : Env) where
   ]
 
   -- the frame stands where it arrives, in each state
-  pub arrived : {heads : List Label} {l : Label} {v : Walk} → Arrives (walked s f) heads l v → (st : State K) (frame : ℕ) (g : Frame K) (ls : List (Tree K)) → g.function ≡ f.number → g.types ≡ no_tys → (c : Coming heads l ls)
+  pub arrived : {heads : List Label} {l : Label} {v : Walk} → Arrives (walked s f) heads l v → (st : State K) (frame : ℕ) (g : Frame K) (ls : List (Tree K)) → g.function ≡ f.number →
+      g.types ≡ no_tys → (c : Coming heads l ls)
       → Reached s f ρ₀ (initialised l 0) c.env heads l → GoalsHold (S s) c.env (met v) → Standing st frame (starting g ls l)
   arrived {heads} {l} {v} (plain k is_block none_there walks) st frame g ls function types c (onward to outer is_to is_around ms sub behind fresh) hold =
       let same : to ≡ k = some_same_block k to l is_block is_to in

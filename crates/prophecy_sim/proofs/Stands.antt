@@ -56,12 +56,14 @@ module _ {K : Type 0} (s : Setup K) (f : FunctionOf s) where
 
   -- ---- values have their sorts
 
-  pub local_sort : (set : Locals) (ls : List (Tree K)) (ρ : Env) → Fits b no_tys set ls → Agree b set ls ρ → (x : ℕ) (ty : Ty) → slice_get b.locals x ≡ Some ty → set x ≡ true → HasSort (declarations s) (ρ (name_of b x)) (instance no_tys ty)
+  pub local_sort : (set : Locals) (ls : List (Tree K)) (ρ : Env) → Fits b no_tys set ls → Agree b set ls ρ → (x : ℕ) (ty : Ty) → slice_get b.locals x ≡ Some ty → set x ≡ true →
+      HasSort (declarations s) (ρ (name_of b x)) (instance no_tys ty)
   local_sort set ls ρ fitting agrees x ty is_ty inside =
       let t = fitting.slot x ty is_ty in
       shaped_sort (declarations s) ty t.0 (ρ (name_of b x)) ((own s f).simple.scalars x ty is_ty) (fitting.shaped x ty t.0 inside is_ty t.1) (agrees x ty t.0 inside is_ty t.1)
 
-  pub operand_sort : (set : Locals) (ls : List (Tree K)) (ρ : Env) → Fits b no_tys set ls → Agree b set ls ρ → (o : Operand) (ty : Ty) → OperandHas b o ty → CanTake set o → HasSort (declarations s) (operand_value b ρ o) (instance no_tys ty)
+  pub operand_sort : (set : Locals) (ls : List (Tree K)) (ρ : Env) → Fits b no_tys set ls → Agree b set ls ρ → (o : Operand) (ty : Ty) → OperandHas b o ty → CanTake set o →
+      HasSort (declarations s) (operand_value b ρ o) (instance no_tys ty)
   operand_sort set ls ρ fitting agrees (Copy p) ty has can = local_sort set ls ρ fitting agrees p.local ty has.1 can
   operand_sort set ls ρ fitting agrees (Move p) ty has can = local_sort set ls ρ fitting agrees p.local ty has.1 can
   operand_sort set ls ρ fitting agrees (Const (lit.Int z k)) ty has can = subst (λ t. HasSort (declarations s) (Number z) (instance no_tys t)) (sym has.0) (of_int has.1)

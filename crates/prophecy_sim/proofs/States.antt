@@ -76,7 +76,8 @@ module _ {K : Type 0} (s : Setup K) (top : FunctionOf s) (proved : AreProvedFrom
         (record { function = f; reached = reached; env = ρ; waiting = c.waiting }, stacked_elsewhere st (h ∷ g ∷ k ∷ fs) f ρ (k ∷ fs) stacked),
       )
 
-  settled_fine : (st : State K) (f : FunctionOf s) (ρ : Env) → Reaches (bodies s) top.number f.number → (fs : State K) → Stacked st f ρ fs → (e : FrameEnd K) → EndsFine s f ρ fs e → Quiet OutcomeFine (settled (bodies s) fs e)
+  settled_fine : (st : State K) (f : FunctionOf s) (ρ : Env) → Reaches (bodies s) top.number f.number → (fs : State K) → Stacked st f ρ fs → (e : FrameEnd K) → EndsFine s f ρ fs e →
+      Quiet OutcomeFine (settled (bodies s) fs e)
   settled_fine st f ρ reached fs h (Stays g) standing = (record { function = f; reached = reached; env = ρ; standing = standing }, stacked_elsewhere st (g ∷ fs) f ρ fs h)
   settled_fine st f ρ reached fs h (Calls g k) c = called f ρ reached st g k fs c h
   settled_fine st f ρ reached fs h (Answers t) a = answered st f ρ t fs a h

@@ -9,10 +9,9 @@ use Rattle.mir_ir.specs.declared.statement.StatementKind.TheVariants.{Assign, De
 use Rattle.mir_ir.specs.declared.body.Body.{Body}
 use Rattle.mir_ir.specs.WellFormed.{StatementIsTyped, Locals, without, evaluated, CanRun, run}
 use Rattle.mir_machine.specs.Tree.{Tree}
-use Rattle.mir_machine.specs.Try.{Try, Yields, Panics, Sticks}
 use Rattle.mir_machine.proofs.Locals.{run_local}
 use Rattle.mir_machine.proofs.NeverStuck.{Fits, run_goes}
-use Rattle.mir_machine.proofs.Tried.{Goes, Quiet, quiet_weaker}
+use Rattle.mir_machine.proofs.Tried.{Quiet, quiet_weaker, quiet_both}
 use Rattle.prophecy_logic.specs.Command.{MovesAll, none}
 use Rattle.prophecy_logic.specs.Row.{name_of, goals_of, commands_of}
 use Rattle.prophecy_logic.specs.Loop.{rvalue_moves, writes}
@@ -21,11 +20,6 @@ use Rattle.prophecy_sim.proofs.Setup.{Setup, FunctionOf, S, local_named, apart_f
 use Rattle.prophecy_sim.proofs.Operands.{Agree, evaluated_before, with_before, without_before, assign_shows, dead_shows}
 use Rattle.prophecy_sim.proofs.Stands.{operand_sort}
 use Rattle.prophecy_sim.proofs.Assigns.{assigned}
-
-pub quiet_both : {A : Type 0} (P Q : A → Type 0) (m : Try A) → Goes P m → Quiet Q m → Quiet (λ a. P a × Q a) m
-quiet_both P Q (Yields a) g q = (g, q)
-quiet_both P Q (Panics c s) g q = q
-quiet_both P Q Sticks g q = absurd g
 
 neither_first : (c d : Bool) → (c || d) ≡ false → c ≡ false
 neither_first true d e = absurd (true≢false e)
@@ -48,7 +42,8 @@ module _ {K : Type 0} (s : Setup K) (f : FunctionOf s) where
     -- what is not written and is initialised was so before, with the value that it has
     pub others : (x : ℕ) (ty : Ty) → writes x kind ≡ false → run kind set x ≡ true → slice_get b.locals x ≡ Some ty → (set x ≡ true) × (env (name_of b x) ≡ ρ (name_of b x))
 
-  pub statement_quiet : (kind : StatementKind) (set : Locals) (ls : List (Tree K)) (ρ : Env) (span : Span) → StatementIsTyped b kind → CanRun set kind → Fits b no_tys set ls → Agree b set ls ρ → GoalsHold (S s) ρ (goals_of b span kind) →
+  pub statement_quiet : (kind : StatementKind) (set : Locals) (ls : List (Tree K)) (ρ : Env) (span : Span) → StatementIsTyped b kind → CanRun set kind → Fits b no_tys set ls → Agree b set ls ρ →
+      GoalsHold (S s) ρ (goals_of b span kind) →
       Quiet (After kind set ρ) (run_local b no_tys ls span kind)
   statement_quiet (Assign p r) set ls ρ span (ty, has, rhas) can fitting agrees goals =
       let l = assigned s.theory b (not_new s f) ρ span p set r ty has rhas can (operand_sort s f set ls ρ fitting agrees) goals in

@@ -37,7 +37,7 @@ use Rattle.mir_machine.specs.Typed.{Typed}
 use Rattle.mir_machine.specs.Try.{Yields, ◌>>=◌, need}
 use Rattle.mir_machine.proofs.Locals.{put_local, resumed_at, resumed, starting}
 use Rattle.mir_machine.proofs.NeverStuck.{Fits, Shape, fits_within, put_goes, typed_shape}
-use Rattle.mir_machine.proofs.Tried.{Quiet, quiet_then}
+use Rattle.mir_machine.proofs.Tried.{Quiet, quiet_then, quiet_both}
 use Rattle.prophecy_logic.specs.Command.{by_fresh, by_set, none, more, MovesAll}
 use Rattle.prophecy_logic.specs.Row.{operand_term, value_name, name_of}
 use Rattle.prophecy_logic.specs.Graph.{Arrives}
@@ -56,7 +56,7 @@ use Rattle.prophecy_sim.proofs.Heads.{or_first, loop_writes_end}
 use Rattle.prophecy_sim.proofs.Memories.{among_first, KeepsOutside, AreBehind, Came, came_on, Memories, memories_kept, Reached, reached}
 use Rattle.prophecy_sim.proofs.Stands.{Stands, stands_fit, stands_agree, stands_elsewhere}
 use Rattle.prophecy_sim.proofs.Standing.{point_of, Standing, arrived}
-use Rattle.prophecy_sim.proofs.Steps.{quiet_both, other_number}
+use Rattle.prophecy_sim.proofs.Steps.{other_number}
 
 pub first_ty : (ts : List Ty) (ty : Ty) → slice_get ts 0 ≡ Some ty → nth_ty (tys_of ts) 0 ≡ ty
 first_ty [] ty e = absurd (cc)
@@ -210,7 +210,8 @@ module _ {K : Type 0} (s : Setup K) where
           (yes_alike _ _ (coincide_free (S s) q (with_value ρ d.answer v) (overlay (d.answer ∷ d.params) vs with_new) (λ x e. at_name x e (decide x.0 d.answer.0)))).0 h.0 in
           ((yes_alike _ _ (with_terms_mean (S s) (d.answer ∷ d.params) (var value_name ∷ operand_terms) vs with_new q all_new)).1 before, posts_there ts over.1 h.1)
         where
-          at_name : (x : Name) → free x q ≡ true → (x.0 ≡ d.answer.0) ⊎ (x.0 ≡ d.answer.0 → ⊥) → with_value ρ d.answer v x ≡ with_value (overlay d.params (operand_values b w.env os) with_new) d.answer v x
+          at_name : (x : Name) → free x q ≡ true → (x.0 ≡ d.answer.0) ⊎ (x.0 ≡ d.answer.0 → ⊥) →
+              with_value ρ d.answer v x ≡ with_value (overlay d.params (operand_values b w.env os) with_new) d.answer v x
           at_name x e (inl r) =
               let is : x ≡ d.answer = same_name x d.answer r in
               ap (λ y. with_value ρ d.answer v y) is ∙ with_same ρ d.answer v ∙ sym (with_same (overlay d.params (operand_values b w.env os) with_new) d.answer v)
@@ -230,7 +231,8 @@ module _ {K : Type 0} (s : Setup K) where
       other_name y ty is_y other =
           with_other with_new (name_of b p.local) (name_of b y) v (apart_from s f p.local y w.answer ty w.is_answer is_y other) ∙ with_other w.env value_name (name_of b y) v (not_new s f y ty is_y)
 
-      unwritten : (l : Label) → among l w.block.nest ≡ true → (x : ℕ) (ty : Ty) → loop_writes b l x ≡ false → with p.local set x ≡ true → slice_get b.locals x ≡ Some ty → (set x ≡ true) × (with_place (name_of b x) ≡ w.env (name_of b x))
+      unwritten : (l : Label) → among l w.block.nest ≡ true → (x : ℕ) (ty : Ty) → loop_writes b l x ≡ false → with p.local set x ≡ true → slice_get b.locals x ≡ Some ty →
+          (set x ≡ true) × (with_place (name_of b x) ≡ w.env (name_of b x))
       unwritten l inside x ty not_there is_in is_x = by_test (p.local == x) refl
         where
           by_test : (e : Bool) → (p.local == x) ≡ e → (set x ≡ true) × (with_place (name_of b x) ≡ w.env (name_of b x))
@@ -245,7 +247,8 @@ module _ {K : Type 0} (s : Setup K) where
           (memories_kept s f ρ₀ w.nested (λ l inside x ty e is_in is_x. unwritten l inside x ty e (carried x is_in) is_x)) w.enclosing w.behind
           ((own s f).simple.laid_out.edges g.label w.next w.block w.is_block (subst (λ k. among w.next (targets k) ≡ true) (sym w.is_call) (among_first w.next [])))
 
-      after : (fs : State K) (ls : List (Tree K)) → Fits b no_tys (with p.local set) ls → Agree b (with p.local set) ls with_place → Standing s f ρ₀ (starting g ls w.next ∷ fs) (length fs) (starting g ls w.next)
+      after : (fs : State K) (ls : List (Tree K)) → Fits b no_tys (with p.local set) ls → Agree b (with p.local set) ls with_place →
+          Standing s f ρ₀ (starting g ls w.next ∷ fs) (length fs) (starting g ls w.next)
       after fs ls fitting agrees =
           arrived s f ρ₀ w.arrives (starting g ls w.next ∷ fs) (length fs) g ls w.function w.types
           (record {
