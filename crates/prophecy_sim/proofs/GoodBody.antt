@@ -19,6 +19,7 @@ use Rattle.mir_machine.specs.Typed.{Met, Typed, AreTyped, is_int, is_truth, is_t
 use Rattle.mir_machine.specs.Good.{Each, IsProper, IsFine, Good, MeetsRequires, MeetsEnsures, Supply, named, called, here}
 use Rattle.mir_machine.proofs.NeverStuck.{Shape, AreShaped, typed_args, never_stuck, no_types_for_none, answer_shape}
 use Rattle.prophecy_sim.specs.Programs.{IsScalar, IsSimple, Program, IsFunction, AreFunctions, itself, AreProvedFrom, TrueObligationsMakeGood}
+use Rattle.prophecy_sim.specs.declared.node.Node.TheVariants.{Function}
 use Rattle.prophecy_sim.proofs.Values.{T}
 use Rattle.prophecy_sim.proofs.Arguments.{value_of, plain_reads, values_of, AllPlain, all_read, shaped_all, typed_answer}
 use Rattle.prophecy_sim.proofs.Lists.{get_taken, get_behind, get_first}
@@ -88,7 +89,7 @@ none_met_all Δ s (sc ∷ tys) (more_typed {t = t} {ty = ty} {tys = vs} {first =
     (none_met_all Δ s tys hs (others_are ty (instance no_tys sc) vs (instances no_tys (tys_of tys)) e) (λ i u q. scalars (suc i) u q))
 
 module _ (Θ : Theory) (program : Program) (labelling : ℕ → Labelling) (functions : AreFunctions program labelling)
-    (fn : ℕ) (proved : AreProvedFrom Θ program fn) (b : Body) (is_body : slice_get program.bodies.bodies fn ≡ Some b) where
+    (fn : ℕ) (proved : AreProvedFrom Θ program (Function fn)) (b : Body) (is_body : slice_get program.bodies.bodies fn ≡ Some b) where
   abbrev bodies : Bodies
   bodies = program.bodies
 

@@ -12,7 +12,8 @@ use Rattle.mir_machine.specs.Frame.{Frame, State}
 use Rattle.mir_machine.specs.Step.{Outcome, Running, Returned, Panicked, Stuck, outcome_of, try_step, step, next, after_from, come_back}
 use Rattle.mir_machine.specs.Good.{Each, named}
 use Rattle.mir_machine.proofs.NeverStuck.{sound_wholes}
-use Rattle.prophecy_sim.specs.Programs.{Program, AreFunctions, Reaches, by_call, AreProvedFrom}
+use Rattle.prophecy_sim.specs.Programs.{Program, AreFunctions, Reaches, by_call, by_use, AreProvedFrom}
+use Rattle.prophecy_sim.specs.declared.node.Node.TheVariants.{Function}
 use Rattle.prophecy_sim.proofs.Values.{T}
 use Rattle.prophecy_sim.proofs.Arguments.{values_of}
 use Rattle.mir_machine.specs.Try.{Try, Yields, Panics, Sticks}
@@ -26,7 +27,7 @@ use Rattle.mir_machine.specs.Code.{code_of}
 use Rattle.prophecy_sim.proofs.Functions.{sound_of}
 
 module _ (Θ : Theory) (program : Program) (labelling : ℕ → Labelling) (functions : AreFunctions program labelling)
-    (top : ℕ) (proved : AreProvedFrom Θ program top) (top_contract : Contract) (top_env : Env) (out : Frame (Unit {0})) where
+    (top : ℕ) (proved : AreProvedFrom Θ program (Function top)) (top_contract : Contract) (top_env : Env) (out : Frame (Unit {0})) where
   abbrev bodies : Bodies
   bodies = program.bodies
 
@@ -43,7 +44,7 @@ module _ (Θ : Theory) (program : Program) (labelling : ℕ → Labelling) (func
   -- the frame stands in a call of a function that began in the environment
   pub record Standing_in (f : Frame (Unit {0})) : Type 0 where
     pub function : ℕ
-    pub reached : Reaches program.bodies top function
+    pub reached : Reaches program.bodies (Function top) (Function function)
     pub body : Body
     pub is_body : slice_get program.bodies.bodies function ≡ Some body
     pub env : Env
@@ -52,7 +53,7 @@ module _ (Θ : Theory) (program : Program) (labelling : ℕ → Labelling) (func
   -- the frame goes on with each answer of the function that it called
   pub record Waiting (f : Frame (Unit {0})) (n : ℕ) (c : Contract) (ρ : Env) : Type 0 where
     pub function : ℕ
-    pub reached : Reaches program.bodies top function
+    pub reached : Reaches program.bodies (Function top) (Function function)
     pub body : Body
     pub is_body : slice_get program.bodies.bodies function ≡ Some body
     pub env : Env
@@ -86,11 +87,11 @@ module _ (Θ : Theory) (program : Program) (labelling : ℕ → Labelling) (func
       (quiet_then (Standing Θ program labelling functions w.function w.body w.is_body w.env) OutcomeFine (resumed bodies t f) (λ k. Yields (Running (k ∷ g ∷ fs))) (w.goes_on t a)
       (λ k standing. (record { function = w.function; reached = w.reached; body = w.body; is_body = w.is_body; env = w.env; standing = standing }, h)))
 
-  settled_fine : (n : ℕ) → Reaches program.bodies top n → (b : Body) (is_body : slice_get program.bodies.bodies n ≡ Some b) (ρ : Env) (fs : State (Unit {0})) → Stacked n (contract_of n b is_body) ρ fs → (e : FrameEnd (Unit {0}))
+  settled_fine : (n : ℕ) → Reaches program.bodies (Function top) (Function n) → (b : Body) (is_body : slice_get program.bodies.bodies n ≡ Some b) (ρ : Env) (fs : State (Unit {0})) → Stacked n (contract_of n b is_body) ρ fs → (e : FrameEnd (Unit {0}))
       → EndsFine Θ program labelling functions n b is_body ρ e → Quiet OutcomeFine (settled bodies fs e)
   settled_fine n reached b is_body ρ fs h (Stays f) standing = (record { function = n; reached = reached; body = b; is_body = is_body; env = ρ; standing = standing }, h)
   settled_fine n reached b is_body ρ fs h (Calls f g) (e, of_f, calls, goes_on) =
-      let reached' : Reaches program.bodies top e.function = by_call reached calls in
+      let reached' : Reaches program.bodies (Function top) (Function e.function) = by_use reached (by_call calls) in
       let own = functions e.function e.body e.is_body in
       let same : e.contract ≡ own.contract = same_Some _ _ (sym e.is_contract ∙ own.is_contract) in
       let pre = subst (λ (d : Contract). Each (λ (t : Term). Holds (structure_of Θ no_tys) t (named d.params (values_of e.args))) d.pre) same e.pre in
