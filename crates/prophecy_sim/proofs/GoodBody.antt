@@ -19,6 +19,7 @@ use Rattle.mir_machine.specs.Good.{IsProper, IsFine, MeetsRequires, MeetsEnsures
 use Rattle.mir_machine.specs.Code.{code_of}
 use Rattle.mir_machine.proofs.NeverStuck.{AreShaped, typed_args, typed_shape, never_stuck, no_types_for_none}
 use Rattle.prophecy_sim.specs.Programs.{IsScalar, itself, AreProvedFrom, TrueObligationsMakeGood}
+use Rattle.prophecy_sim.specs.declared.node.Node.TheVariants.{Function}
 use Rattle.prophecy_sim.proofs.Lists.{get_first}
 use Rattle.prophecy_sim.proofs.Setup.{Setup, FunctionOf, program as program_of, bodies, sound, declarations, own, scalar_params}
 use Rattle.prophecy_sim.proofs.Scalars.{AllShow, all_values, all_read, shaped_shows}
@@ -86,7 +87,7 @@ none_met_all Δ s (sc ∷ tys) (more_typed {t = t} {ty = ty} {tys = vs} {first =
     ap₂ (λ xs ys. xs ++ ys) (none_met Δ s t ty first h sc (first_is ty (instance no_tys sc) vs (instances no_tys (tys_of tys)) e) (scalars 0 sc refl))
     (none_met_all Δ s tys hs (others_are ty (instance no_tys sc) vs (instances no_tys (tys_of tys)) e) (λ i u q. scalars (suc i) u q))
 
-module _ {K : Type 0} (s : Setup K) (f : FunctionOf s) (proved : AreProvedFrom s.theory (program_of s) f.number) where
+module _ {K : Type 0} (s : Setup K) (f : FunctionOf s) (proved : AreProvedFrom s.theory (program_of s) (Function f.number)) where
   abbrev b : Body
   b = f.body
 

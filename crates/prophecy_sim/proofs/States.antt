@@ -8,7 +8,8 @@ use Rattle.mir_machine.specs.Try.{Try, Yields, Panics, Sticks}
 use Rattle.mir_machine.proofs.Locals.{FrameEnd, Stays, Calls, Answers, frame_step, settled, resumed, try_step-whole, come_back-whole}
 use Rattle.mir_machine.proofs.NeverStuck.{sound_wholes}
 use Rattle.mir_machine.proofs.Tried.{Quiet, quiet_then}
-use Rattle.prophecy_sim.specs.Programs.{Reaches, by_call, AreProvedFrom, HasTrueObligations}
+use Rattle.prophecy_sim.specs.Programs.{Reaches, by_call, by_use, AreProvedFrom, HasTrueObligations}
+use Rattle.prophecy_sim.specs.declared.node.Node.TheVariants.{Function}
 use Rattle.prophecy_sim.proofs.Setup.{Setup, FunctionOf, program, bodies, sound, own, walked}
 use Rattle.prophecy_sim.proofs.Standing.{Standing}
 use Rattle.prophecy_sim.proofs.Waits.{IsAnswer, Waiting, waiting_elsewhere, answer_comes}
@@ -16,18 +17,18 @@ use Rattle.prophecy_sim.proofs.Ends.{EndsFine, CallsFine}
 use Rattle.prophecy_sim.proofs.Rows.{frame_comes}
 use Rattle.prophecy_sim.proofs.Begins.{begins}
 
-module _ {K : Type 0} (s : Setup K) (top : FunctionOf s) (proved : AreProvedFrom s.theory (program s) top.number) (top_env : Env) where
+module _ {K : Type 0} (s : Setup K) (top : FunctionOf s) (proved : AreProvedFrom s.theory (program s) (Function top.number)) (top_env : Env) where
   -- the frame stands in a call of a function that the first call may reach
   pub record Runs (st : State K) (frame : ℕ) (g : Frame K) : Type 0 where
     pub function : FunctionOf s
-    pub reached : Reaches (bodies s) top.number function.number
+    pub reached : Reaches (bodies s) (Function top.number) (Function function.number)
     pub env : Env
     pub standing : Standing s function env st frame g
 
   -- the frame waits for the answer of a call that began in the environment
   pub record Waits (st : State K) (frame : ℕ) (g : Frame K) (callee : FunctionOf s) (ρ : Env) : Type 0 where
     pub function : FunctionOf s
-    pub reached : Reaches (bodies s) top.number function.number
+    pub reached : Reaches (bodies s) (Function top.number) (Function function.number)
     pub env : Env
     pub waiting : Waiting s function env st frame g callee ρ
 
@@ -47,7 +48,7 @@ module _ {K : Type 0} (s : Setup K) (top : FunctionOf s) (proved : AreProvedFrom
   OutcomeFine (Panicked cause span) = ⊥
   OutcomeFine Stuck = Unit {0}
 
-  obligations_of : (f : FunctionOf s) → Reaches (bodies s) top.number f.number → HasTrueObligations s.theory (walked s f)
+  obligations_of : (f : FunctionOf s) → Reaches (bodies s) (Function top.number) (Function f.number) → HasTrueObligations s.theory (walked s f)
   obligations_of f reached = proved f.number f.body (own s f).contract reached f.is_body (own s f).is_contract
 
   -- frames that wait in one state wait in another
@@ -68,15 +69,15 @@ module _ {K : Type 0} (s : Setup K) (top : FunctionOf s) (proved : AreProvedFrom
       (answer_comes s w.function w.env st (length (h ∷ fs)) g f ρ w.waiting (g ∷ h ∷ fs) t a (h ∷ fs))
       (λ k standing. (record { function = w.function; reached = w.reached; env = w.env; standing = standing }, stacked_elsewhere st (k ∷ h ∷ fs) w.function w.env (h ∷ fs) rest)))
 
-  called : (f : FunctionOf s) (ρ : Env) → Reaches (bodies s) top.number f.number → (st : State K) (g h : Frame K) (fs : State K) → CallsFine s f ρ fs g h → Stacked st f ρ fs → StateFine (h ∷ g ∷ fs)
+  called : (f : FunctionOf s) (ρ : Env) → Reaches (bodies s) (Function top.number) (Function f.number) → (st : State K) (g h : Frame K) (fs : State K) → CallsFine s f ρ fs g h → Stacked st f ρ fs → StateFine (h ∷ g ∷ fs)
   called f ρ reached st g h [] c stacked = absurd stacked
   called f ρ reached st g h (k ∷ fs) c stacked =
-      let reached' : Reaches (bodies s) top.number c.callee.number = by_call reached c.calls in (
+      let reached' : Reaches (bodies s) (Function top.number) (Function c.callee.number) = by_use reached (by_call c.calls) in (
         record { function = c.callee; reached = reached'; env = c.env; standing = begins s c.callee (obligations_of c.callee reached') c.env h (h ∷ g ∷ k ∷ fs) c.begun (length (g ∷ k ∷ fs)) },
         (record { function = f; reached = reached; env = ρ; waiting = c.waiting }, stacked_elsewhere st (h ∷ g ∷ k ∷ fs) f ρ (k ∷ fs) stacked),
       )
 
-  settled_fine : (st : State K) (f : FunctionOf s) (ρ : Env) → Reaches (bodies s) top.number f.number → (fs : State K) → Stacked st f ρ fs → (e : FrameEnd K) → EndsFine s f ρ fs e →
+  settled_fine : (st : State K) (f : FunctionOf s) (ρ : Env) → Reaches (bodies s) (Function top.number) (Function f.number) → (fs : State K) → Stacked st f ρ fs → (e : FrameEnd K) → EndsFine s f ρ fs e →
       Quiet OutcomeFine (settled (bodies s) fs e)
   settled_fine st f ρ reached fs h (Stays g) standing = (record { function = f; reached = reached; env = ρ; standing = standing }, stacked_elsewhere st (g ∷ fs) f ρ fs h)
   settled_fine st f ρ reached fs h (Calls g k) c = called f ρ reached st g k fs c h
