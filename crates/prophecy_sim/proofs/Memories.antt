@@ -117,6 +117,7 @@ module _ {K : Type 0} (s : Setup K) (f : FunctionOf s) (ρ₀ : Env) where
   abbrev b : Body
   b = f.body
 
+  -- the names that are none of the body's have the values that they had at the entry
   abbrev pub KeepsOutside : Env → Type 0
   KeepsOutside ρ = (n : Name) → IsOutside b n → ρ n ≡ ρ₀ n
 

@@ -131,8 +131,8 @@ module _ {K : Type 0} (s : Setup K) (f : FunctionOf s) (ρ₀ : Env) where
   abbrev initialised : Labelling
   initialised = s.labelling f.number
 
-  -- in the state frame g, of this number, stands in the function's code: a prefix leads there, whose end's environment stands for its
-  -- locals, and in which the goals of what is left of a walk hold
+  -- in the state frame g, of this number, stands in the function's code: a prefix leads there, to an environment that stands for its
+  -- locals and in which the goals of what is left of a walk hold
   pub record Standing (st : State K) (frame : ℕ) (g : Frame K) : Type 0 where
     pub function : g.function ≡ f.number
     pub types : g.types ≡ no_tys

@@ -30,7 +30,8 @@ module _ {K : Type 0} (s : Setup K) (f : FunctionOf s) where
   abbrev b : Body
   b = f.body
 
-  -- in the state, in the frame of this number; what is gone in a part of a tree reads as any value
+  -- in the state these locals of the frame of this number stand in the environment, as far as they are in the set; a part of a tree that
+  -- is gone reads as any value
   pub record Stands (st : State K) (frame : ℕ) (set : Locals) (ls : List (Tree K)) (ρ : Env) : Type 0 where
     pub slot : (x : ℕ) (ty : Ty) → slice_get b.locals x ≡ Some ty → (t : Tree K) × (slice_get ls x ≡ Some t)
     pub typed : (x : ℕ) (ty : Ty) (t : Tree K) → set x ≡ true → slice_get b.locals x ≡ Some ty → slice_get ls x ≡ Some t → Typed (declarations s) st t (instance no_tys ty) []

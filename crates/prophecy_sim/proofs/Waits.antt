@@ -100,7 +100,7 @@ module _ {K : Type 0} (s : Setup K) where
       pub keeps : KeepsOutside s f ρ₀ env
       -- the call began with the values of the operands
       pub begun : ρ ≡ named (own s callee).contract.params (operand_values b env operands)
-      -- the goals of what is left hold behind each answer
+      -- a prefix leads to the call, and behind the call's commands the goals of what is left hold
       pub heads : List Label
       pub came : Came s f ρ₀ (walked s f) heads (within (point_of g)) env
       pub walk : Walk
