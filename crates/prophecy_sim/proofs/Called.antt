@@ -147,30 +147,32 @@ module _ {K : Type 0} (s : Setup K) (f : FunctionOf s) (ρ₀ : Env) (fs : State
             (all_hold (S s) Requires at (map (at_arguments b (own s callee).contract os) (own s callee).contract.pre) ρ (goals_first (S s) ρ (goals_of_call b (own s callee).contract at os) behind_goals goals_here));
       };
       waiting = record {
-        function = st.function;
-        types = st.types;
-        block = st.block;
-        is_block = st.is_block;
-        is_last = is_last;
-        place = p;
-        type_arguments = types;
-        operands = os;
-        next = l;
-        is_call = kind;
-        answer = t;
-        is_answer = is_t;
-        env = ρ;
+        call = record {
+          function = st.function;
+          types = st.types;
+          block = st.block;
+          is_block = st.is_block;
+          is_last = is_last;
+          place = p;
+          type_arguments = types;
+          operands = os;
+          next = l;
+          is_call = kind;
+          answer = t;
+          is_answer = is_t;
+          env = ρ;
+          keeps = st.keeps;
+          begun = refl;
+          heads = heads;
+          came = came;
+          walk = v;
+          arrives = arrives;
+          hold = goals_rest (S s) ρ (goals_of_call b (own s callee).contract at os) behind_goals goals_here;
+          nested = memories_kept s f ρ₀ nested (λ h a x ty e inside is_x. (all_taken_before os end_set x inside, refl));
+          enclosing = enclosing;
+          behind = behind;
+        };
         stands = they_stand s f (entered callee.body n no_tys args ∷ record g { locals = ls } ∷ fs) (length fs) fitted agreed;
-        keeps = st.keeps;
-        begun = refl;
-        heads = heads;
-        came = came;
-        walk = v;
-        arrives = arrives;
-        hold = goals_rest (S s) ρ (goals_of_call b (own s callee).contract at os) behind_goals goals_here;
-        nested = memories_kept s f ρ₀ nested (λ h a x ty e inside is_x. (all_taken_before os end_set x inside, refl));
-        enclosing = enclosing;
-        behind = behind;
       };
     }
 

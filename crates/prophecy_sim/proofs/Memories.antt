@@ -135,9 +135,8 @@ module _ {K : Type 0} (s : Setup K) (f : FunctionOf s) (ρ₀ : Env) where
       Came w inner next σ
   came_on c cs prefix moves = record { commands = c.commands ++ cs; prefix = prefix; moves = then_moves (S s) c.moves moves }
 
-  -- the head of a loop that the run is in, where the locals of the set are initialised: what stood when it was first come to on this
-  -- path, and what the loop has left since then
-  pub record Passed (l : Label) (outer : List Label) (set : Locals) (ρ : Env) : Type 0 where
+  -- what stood when the head of a loop that the run is in was first come to on this path
+  pub record FirstCome (l : Label) (outer : List Label) : Type 0 where
     pub block : Block
     pub is_block : block_in b.blocks l ≡ Some block
     pub head : Head
@@ -153,7 +152,11 @@ module _ {K : Type 0} (s : Setup K) (f : FunctionOf s) (ρ₀ : Env) where
     pub walk : Walk
     pub walks : Within (walked s f) (l ∷ heads) (start_of l) walk
     pub hold : GoalsHold (S s) env (seen_before (head_commands b (walked s f).init l head) (met walk))
-    pub unchanged : (x : ℕ) (ty : Ty) → loop_writes b l x ≡ false → set x ≡ true → slice_get b.locals x ≡ Some ty → ρ (name_of b x) ≡ env (name_of b x)
+
+  -- the loop has left alone, since then, what it does not write and what is in the set
+  pub record Passed (l : Label) (outer : List Label) (set : Locals) (ρ : Env) : Type 0 where
+    pub first : FirstCome l outer
+    pub unchanged : (x : ℕ) (ty : Ty) → loop_writes b l x ≡ false → set x ≡ true → slice_get b.locals x ≡ Some ty → ρ (name_of b x) ≡ first.env (name_of b x)
 
   pub data Memories (set : Locals) (ρ : Env) : List Label → Type 0 where
     none_around : Memories set ρ []
@@ -164,24 +167,7 @@ module _ {K : Type 0} (s : Setup K) (f : FunctionOf s) (ρ₀ : Env) where
   Keeps l before ρ after σ = (x : ℕ) (ty : Ty) → loop_writes b l x ≡ false → after x ≡ true → slice_get b.locals x ≡ Some ty → (before x ≡ true) × (σ (name_of b x) ≡ ρ (name_of b x))
 
   pub passed_kept : (l : Label) (outer : List Label) (before after : Locals) (ρ σ : Env) → Keeps l before ρ after σ → Passed l outer before ρ → Passed l outer after σ
-  passed_kept l outer before after ρ σ keeps p = record {
-    block = p.block;
-    is_block = p.is_block;
-    head = p.head;
-    is_head = p.is_head;
-    nest = p.nest;
-    heads = p.heads;
-    fresh = p.fresh;
-    within = p.within;
-    behind = p.behind;
-    env = p.env;
-    keeps = p.keeps;
-    came = p.came;
-    walk = p.walk;
-    walks = p.walks;
-    hold = p.hold;
-    unchanged = λ x ty e inside is_ty. let was = keeps x ty e inside is_ty in was.1 ∙ p.unchanged x ty e was.0 is_ty;
-  }
+  passed_kept l outer before after ρ σ keeps p = record { first = p.first; unchanged = λ x ty e inside is_ty. let was = keeps x ty e inside is_ty in was.1 ∙ p.unchanged x ty e was.0 is_ty }
 
   pub memories_kept : {before after : Locals} {ρ σ : Env} {nest : List Label} → Memories before ρ nest → ((l : Label) → among l nest ≡ true → Keeps l before ρ after σ) → Memories after σ nest
   memories_kept none_around keeps = none_around

@@ -182,8 +182,8 @@ module _ {K : Type 0} (s : Setup K) (f : FunctionOf s) (ρ₀ : Env) where
         by_test true e = subst (λ v. HasSort (declarations s) v (instance no_tys ty)) (sym (there_value x e)) (local_sort s f (initialised l 0) ls c.env c.fitting c.agrees x ty is_ty e)
         by_test false e = subst (λ v. HasSort (declarations s) v (instance no_tys ty)) (sym (gone_value x e ∙ ap default_of (ty_is (slice_get b.locals x) ty is_ty))) (default_sort (declarations s) ty ((own s f).simple.scalars x ty is_ty))
 
-    abbrev again_env : Renewed (S s) b (own s f).simple.names (own s f).typed.named (touched_there b (walked s f).init l) new_value p.env
-    again_env = renewed_move (S s) b (own s f).simple.names (own s f).typed.named (touched_there b (walked s f).init l) new_value p.env (λ x ty t is_ty. new_sort x ty is_ty)
+    abbrev again_env : Renewed (S s) b (own s f).simple.names (own s f).typed.named (touched_there b (walked s f).init l) new_value p.first.env
+    again_env = renewed_move (S s) b (own s f).simple.names (own s f).typed.named (touched_there b (walked s f).init l) new_value p.first.env (λ x ty t is_ty. new_sort x ty is_ty)
 
     -- what is initialised has the value that it had
     head_same : (y : ℕ) (ty : Ty) → initialised l 0 y ≡ true → slice_get b.locals y ≡ Some ty → again_env.env (name_of b y) ≡ c.env (name_of b y)
@@ -203,7 +203,7 @@ module _ {K : Type 0} (s : Setup K) (f : FunctionOf s) (ρ₀ : Env) where
     head_agrees y ty t inside is_ty e = subst (Shows t) (sym (head_same y ty inside is_ty)) (c.agrees y ty t inside is_ty e)
 
     head_keeps : KeepsOutside s f ρ₀ again_env.env
-    head_keeps n out = again_env.others n (λ x m renewed is_m same. out.0 x m is_m same) ∙ p.keeps n out
+    head_keeps n out = again_env.others n (λ x m renewed is_m same. out.0 x m is_m same) ∙ p.first.keeps n out
 
     -- the formula speaks of parameters, and of what is initialised here
     abbrev OverHead : Term → Type 0
@@ -219,32 +219,32 @@ module _ {K : Type 0} (s : Setup K) (f : FunctionOf s) (ρ₀ : Env) where
             let ty = local_of s f y x e in
             subst (λ n. c.env n ≡ again_env.env n) (named_as b y x e) (sym (head_same y ty.0 inside ty.1))
 
-    head_moves : Each (λ t. Holds (S s) t c.env) p.head.invariants → MovesAll (S s) (head_commands b (walked s f).init l p.head) p.env again_env.env
-    head_moves invariants = then_moves (S s) again_env.moves (assumed_move (S s) p.head.invariants again_env.env (invariants_there p.head.invariants
-        (each_of OverHead p.head.invariants ((own s f).heads.over l p.block p.head p.is_block p.is_head))
+    head_moves : Each (λ t. Holds (S s) t c.env) p.first.head.invariants → MovesAll (S s) (head_commands b (walked s f).init l p.first.head) p.first.env again_env.env
+    head_moves invariants = then_moves (S s) again_env.moves (assumed_move (S s) p.first.head.invariants again_env.env (invariants_there p.first.head.invariants
+        (each_of OverHead p.first.head.invariants ((own s f).heads.over l p.first.block p.first.head p.first.is_block p.first.is_head))
         invariants))
 
     pub at_head : (st : State K) (frame : ℕ) (g : Frame K) → g.function ≡ f.number → g.types ≡ no_tys → Memories s f ρ₀ (initialised l 0) c.env outer →
-        Each (λ t. Holds (S s) t c.env) p.head.invariants → Standing st frame (starting g ls l)
+        Each (λ t. Holds (S s) t c.env) p.first.head.invariants → Standing st frame (starting g ls l)
     at_head st frame g function types ms invariants = record {
       function = function;
       types = types;
-      block = p.block;
-      is_block = p.is_block;
+      block = p.first.block;
+      is_block = p.first.is_block;
       in_block = omega arith;
       env = again_env.env;
       stands = they_stand s f st frame c.fitting head_agrees;
       keeps = head_keeps;
-      heads = l ∷ p.heads;
-      came = came_on s f ρ₀ p.came (head_commands b (walked s f).init l p.head) (into_head p.block p.head p.came.prefix p.is_block p.is_head p.fresh) (head_moves invariants);
-      walk = p.walk;
-      walks = p.walks;
-      hold = goals_moved (S s) (met p.walk) (head_moves invariants) p.hold;
-      nested = subst (Memories s f ρ₀ (initialised l 0) again_env.env) (sym p.nest)
+      heads = l ∷ p.first.heads;
+      came = came_on s f ρ₀ p.first.came (head_commands b (walked s f).init l p.first.head) (into_head p.first.block p.first.head p.first.came.prefix p.first.is_block p.first.is_head p.first.fresh) (head_moves invariants);
+      walk = p.first.walk;
+      walks = p.first.walks;
+      hold = goals_moved (S s) (met p.first.walk) (head_moves invariants) p.first.hold;
+      nested = subst (Memories s f ρ₀ (initialised l 0) again_env.env) (sym p.first.nest)
           (one_more (memories_kept s f ρ₀ ms (λ k a x ty e inside is_ty. (inside, head_same x ty inside is_ty)))
           (passed_kept s f ρ₀ l outer (initialised l 0) (initialised l 0) c.env again_env.env (λ x ty e inside is_ty. (inside, head_same x ty inside is_ty)) p));
-      enclosing = p.within;
-      behind = p.behind;
+      enclosing = p.first.within;
+      behind = p.first.behind;
     }
 
   -- ---- arrivals
@@ -291,27 +291,29 @@ module _ {K : Type 0} (s : Setup K) (f : FunctionOf s) (ρ₀ : Env) where
       let invariants : List Goal = goals_at_entry h in
       let after : List Goal = seen_before (head_commands b (walked s f).init l h) (met u) in
       let p : Passed s f ρ₀ l outer (initialised l 0) c.env = record {
-        block = k;
-        is_block = is_block;
-        head = h;
-        is_head = e;
-        nest = nest;
-        heads = heads;
-        fresh = fresh_l;
-        env = c.env;
-        keeps = c.keeps;
-        came = c.came;
-        within = subst (λ xs. AllAmong xs (l ∷ heads)) (sym nest) (still l heads outer sub);
-        behind = still_behind l heads behind;
-        walk = u;
-        walks = walks;
-        hold = goals_rest (S s) c.env invariants after hold;
+        first = record {
+          block = k;
+          is_block = is_block;
+          head = h;
+          is_head = e;
+          nest = nest;
+          heads = heads;
+          fresh = fresh_l;
+          env = c.env;
+          keeps = c.keeps;
+          came = c.came;
+          within = subst (λ xs. AllAmong xs (l ∷ heads)) (sym nest) (still l heads outer sub);
+          behind = still_behind l heads behind;
+          walk = u;
+          walks = walks;
+          hold = goals_rest (S s) c.env invariants after hold;
+        };
         unchanged = λ x ty q inside is_ty. refl;
       } in
       at_head heads l ls c outer p st frame g function types ms (each_holds (S s) InvEntry h.invariants h.spans c.env (goals_first (S s) c.env invariants after hold))
   arrived {heads} {l} (first k h is_block e fresh_l walks) st frame g ls function types c (backward to h' outer is_to is_head a ms p) hold = absurd (false_true (among l heads) fresh_l a)
   arrived {heads} (again k h is_block e passed) st frame g ls function types c (onward to outer is_to is_around ms sub behind fresh) hold = absurd (fresh passed)
   arrived {heads} {l} (again k h is_block e passed) st frame g ls function types c (backward to h' outer is_to is_head a ms p) hold =
-      let same : p.block ≡ k = some_same_block k p.block l is_block p.is_block in
-      let head : h ≡ p.head = same_Some _ _ (sym e ∙ subst (λ (x : Block). x.head ≡ Some p.head) same p.is_head) in
+      let same : p.first.block ≡ k = some_same_block k p.first.block l is_block p.first.is_block in
+      let head : h ≡ p.first.head = same_Some _ _ (sym e ∙ subst (λ (x : Block). x.head ≡ Some p.first.head) same p.first.is_head) in
       at_head heads l ls c outer p st frame g function types ms (subst (λ (x : Head). Each (λ t. Holds (S s) t c.env) x.invariants) head (each_holds (S s) InvKept h.invariants h.spans c.env (goals_first (S s) c.env (goals_after_turn h) [] hold)))

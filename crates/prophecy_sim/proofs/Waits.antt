@@ -81,8 +81,8 @@ module _ {K : Type 0} (s : Setup K) where
     abbrev initialised : Labelling
     initialised = s.labelling f.number
 
-    -- in the state frame g, of this number, stands at its call of a function, which has taken the operands; the call began in ρ
-    pub record Waiting (st : State K) (frame : ℕ) (g : Frame K) (callee : FunctionOf s) (ρ : Env) : Type 0 where
+    -- frame g has called a function, which took the operands; the call began in ρ
+    pub record HasCalled (g : Frame K) (callee : FunctionOf s) (ρ : Env) : Type 0 where
       pub function : g.function ≡ f.number
       pub types : g.types ≡ no_tys
       pub block : Block
@@ -96,7 +96,6 @@ module _ {K : Type 0} (s : Setup K) where
       pub answer : Ty
       pub is_answer : slice_get b.locals place.local ≡ Some answer
       pub env : Env
-      pub stands : Stands s f st frame (all_taken operands (initialised g.label (length block.statements))) g.locals env
       pub keeps : KeepsOutside s f ρ₀ env
       -- the call began with the values of the operands
       pub begun : ρ ≡ named (own s callee).contract.params (operand_values b env operands)
@@ -110,34 +109,14 @@ module _ {K : Type 0} (s : Setup K) where
       pub enclosing : AllAmong block.nest heads
       pub behind : AreBehind s f ρ₀ heads g.label
 
+    -- it waits for the answer: in the state, where it has this number, its locals stand in the environment
+    pub record Waiting (st : State K) (frame : ℕ) (g : Frame K) (callee : FunctionOf s) (ρ : Env) : Type 0 where
+      pub call : HasCalled g callee ρ
+      pub stands : Stands s f st frame (all_taken call.operands (initialised g.label (length call.block.statements))) g.locals call.env
+
     -- it waits in each state, as its locals refer to no other frame
     pub waiting_elsewhere : {st : State K} {frame : ℕ} {g : Frame K} {callee : FunctionOf s} {ρ : Env} (u : State K) (at : ℕ) → Waiting st frame g callee ρ → Waiting u at g callee ρ
-    waiting_elsewhere u at w = record {
-      function = w.function;
-      types = w.types;
-      block = w.block;
-      is_block = w.is_block;
-      is_last = w.is_last;
-      place = w.place;
-      type_arguments = w.type_arguments;
-      operands = w.operands;
-      next = w.next;
-      is_call = w.is_call;
-      answer = w.answer;
-      is_answer = w.is_answer;
-      env = w.env;
-      stands = stands_elsewhere s f u at w.stands;
-      keeps = w.keeps;
-      begun = w.begun;
-      heads = w.heads;
-      came = w.came;
-      walk = w.walk;
-      arrives = w.arrives;
-      hold = w.hold;
-      nested = w.nested;
-      enclosing = w.enclosing;
-      behind = w.behind;
-    }
+    waiting_elsewhere u at w = record { call = w.call; stands = stands_elsewhere s f u at w.stands }
 
     -- ---- an answer
 
@@ -149,28 +128,28 @@ module _ {K : Type 0} (s : Setup K) where
       d = (own s callee).contract
 
       abbrev os : List Operand
-      os = w.operands
+      os = w.call.operands
 
       abbrev p : Place
-      p = w.place
+      p = w.call.place
 
       abbrev v : Value
       v = a.value
 
       abbrev set : Locals
-      set = all_taken os (initialised g.label (length w.block.statements))
+      set = all_taken os (initialised g.label (length w.call.block.statements))
 
       abbrev operand_terms : List Term
       operand_terms = map (operand_term b) os
 
       abbrev with_new : Env
-      with_new = with_value w.env value_name v
+      with_new = with_value w.call.env value_name v
 
       abbrev with_place : Env
       with_place = with_value with_new (name_of b p.local) v
 
-      abbrev ended : EndIsTyped (bodies s) b (Call p (Function (OfBody callee.number)) w.type_arguments os w.next)
-      ended = subst (EndIsTyped (bodies s) b) w.is_call ((own s f).typed.ends g.label w.block w.is_block)
+      abbrev ended : EndIsTyped (bodies s) b (Call p (Function (OfBody callee.number)) w.call.type_arguments os w.call.next)
+      ended = subst (EndIsTyped (bodies s) b) w.call.is_call ((own s f).typed.ends g.label w.call.block w.call.is_block)
 
       -- the callee's body is that which the call's types speak of
       same_body : ended.0.0 ≡ c
@@ -179,98 +158,98 @@ module _ {K : Type 0} (s : Setup K) where
       have : OperandsHave b os (take c.params (drop 1 c.locals))
       have = subst (λ (x : Body). OperandsHave b os (take x.params (drop 1 x.locals))) same_body ended.0.3
 
-      first_local : slice_get c.locals 0 ≡ Some w.answer
-      first_local = subst (λ (x : Body). slice_get x.locals 0 ≡ Some w.answer) same_body (ended.0.4 ∙ sym ended.0.5.1 ∙ w.is_answer)
+      first_local : slice_get c.locals 0 ≡ Some w.call.answer
+      first_local = subst (λ (x : Body). slice_get x.locals 0 ≡ Some w.call.answer) same_body (ended.0.4 ∙ sym ended.0.5.1 ∙ w.call.is_answer)
 
-      shape : Shape (instance no_tys w.answer) t
-      shape = subst (λ ty. Shape (instance no_tys ty) t) (first_ty c.locals w.answer first_local) (typed_shape (declarations s) now t (answer_ty c no_tys) [] a.typed)
+      shape : Shape (instance no_tys w.call.answer) t
+      shape = subst (λ ty. Shape (instance no_tys ty) t) (first_ty c.locals w.call.answer first_local) (typed_shape (declarations s) now t (answer_ty c no_tys) [] a.typed)
 
       shows : Shows t v
-      shows = shaped_shows w.answer t v ((own s f).simple.scalars p.local w.answer w.is_answer) shape a.reads
+      shows = shaped_shows w.call.answer t v ((own s f).simple.scalars p.local w.call.answer w.call.is_answer) shape a.reads
 
-      sort : HasSort (declarations s) v (instance no_tys w.answer)
-      sort = shaped_sort (declarations s) w.answer t v ((own s f).simple.scalars p.local w.answer w.is_answer) shape shows
+      sort : HasSort (declarations s) v (instance no_tys w.call.answer)
+      sort = shaped_sort (declarations s) w.call.answer t v ((own s f).simple.scalars p.local w.call.answer w.call.is_answer) shape shows
 
       -- ---- the commands of the call
 
-      count : AsMany d.params (operand_values b w.env os)
-      count = as_many b w.env d.params os ((own s callee).speaks.count ∙ sym (params_length c (own s callee).typed.answers) ∙ sym (as_many_operands b os (take c.params (drop 1 c.locals)) have))
+      count : AsMany d.params (operand_values b w.call.env os)
+      count = as_many b w.call.env d.params os ((own s callee).speaks.count ∙ sym (params_length c (own s callee).typed.answers) ∙ sym (as_many_operands b os (take c.params (drop 1 c.locals)) have))
 
       new_exactly : Exactly (Means (S s) (var value_name) with_new) v
-      new_exactly = subst (λ x. Exactly (Means (S s) (var value_name) with_new) x) (with_same w.env value_name v) (alike_same _)
+      new_exactly = subst (λ x. Exactly (Means (S s) (var value_name) with_new) x) (with_same w.call.env value_name v) (alike_same _)
 
-      all_new : AreExactly (S s) (var value_name ∷ operand_terms) (and_value v (operand_values b w.env os)) with_new
-      all_new = (new_exactly, subst (λ vs. AreExactly (S s) operand_terms vs with_new) (new_values b (not_new s f) w.env v os (take c.params (drop 1 c.locals)) have) (all_exactly (S s) b with_new os))
+      all_new : AreExactly (S s) (var value_name ∷ operand_terms) (and_value v (operand_values b w.call.env os)) with_new
+      all_new = (new_exactly, subst (λ vs. AreExactly (S s) operand_terms vs with_new) (new_values b (not_new s f) w.call.env v os (take c.params (drop 1 c.locals)) have) (all_exactly (S s) b with_new os))
 
       posts_there : (ts : List Term) → Each (OverAnswer d) ts → Each (λ q. Holds (S s) q (with_value ρ d.answer v)) ts → Each (λ q. Holds (S s) q with_new) (map (at_arguments_and_answer b d os) ts)
       posts_there [] over h = tt
       posts_there (q ∷ ts) over h =
-          let vs : Values = and_value v (operand_values b w.env os) in
+          let vs : Values = and_value v (operand_values b w.call.env os) in
           let before : Holds (S s) q (overlay (d.answer ∷ d.params) vs with_new) =
           (yes_alike _ _ (coincide_free (S s) q (with_value ρ d.answer v) (overlay (d.answer ∷ d.params) vs with_new) (λ x e. at_name x e (decide x.0 d.answer.0)))).0 h.0 in
           ((yes_alike _ _ (with_terms_mean (S s) (d.answer ∷ d.params) (var value_name ∷ operand_terms) vs with_new q all_new)).1 before, posts_there ts over.1 h.1)
         where
           at_name : (x : Name) → free x q ≡ true → (x.0 ≡ d.answer.0) ⊎ (x.0 ≡ d.answer.0 → ⊥) →
-              with_value ρ d.answer v x ≡ with_value (overlay d.params (operand_values b w.env os) with_new) d.answer v x
+              with_value ρ d.answer v x ≡ with_value (overlay d.params (operand_values b w.call.env os) with_new) d.answer v x
           at_name x e (inl r) =
               let is : x ≡ d.answer = same_name x d.answer r in
-              ap (λ y. with_value ρ d.answer v y) is ∙ with_same ρ d.answer v ∙ sym (with_same (overlay d.params (operand_values b w.env os) with_new) d.answer v)
-              ∙ sym (ap (λ y. with_value (overlay d.params (operand_values b w.env os) with_new) d.answer v y) is)
+              ap (λ y. with_value ρ d.answer v y) is ∙ with_same ρ d.answer v ∙ sym (with_same (overlay d.params (operand_values b w.call.env os) with_new) d.answer v)
+              ∙ sym (ap (λ y. with_value (overlay d.params (operand_values b w.call.env os) with_new) d.answer v y) is)
           at_name x e (inr r) =
               let one = over.0 x e r in
-              with_other ρ d.answer x v r ∙ ap (λ (σ : Env). σ x) w.begun ∙ sym (overlay_named d.params (operand_values b w.env os) with_new one.0 x one.1 count)
-              ∙ sym (with_other (overlay d.params (operand_values b w.env os) with_new) d.answer x v r)
+              with_other ρ d.answer x v r ∙ ap (λ (σ : Env). σ x) w.call.begun ∙ sym (overlay_named d.params (operand_values b w.call.env os) with_new one.0 x one.1 count)
+              ∙ sym (with_other (overlay d.params (operand_values b w.call.env os) with_new) d.answer x v r)
 
-      moves : MovesAll (S s) (call_commands b d p.local w.answer os) w.env with_place
+      moves : MovesAll (S s) (call_commands b d p.local w.call.answer os) w.call.env with_place
       moves = more (by_fresh v sort) (then_moves (S s) (assumed_move (S s) (map (at_arguments_and_answer b d os) d.post) with_new (posts_there d.post
           (each_of (OverAnswer d) d.post (own s callee).speaks.over) a.posts)) (more (by_set v new_exactly) none))
 
       -- ---- the frame goes on
 
-      other_name : (y : ℕ) (ty : Ty) → slice_get b.locals y ≡ Some ty → (y ≡ p.local → ⊥) → with_place (name_of b y) ≡ w.env (name_of b y)
+      other_name : (y : ℕ) (ty : Ty) → slice_get b.locals y ≡ Some ty → (y ≡ p.local → ⊥) → with_place (name_of b y) ≡ w.call.env (name_of b y)
       other_name y ty is_y other =
-          with_other with_new (name_of b p.local) (name_of b y) v (apart_from s f p.local y w.answer ty w.is_answer is_y other) ∙ with_other w.env value_name (name_of b y) v (not_new s f y ty is_y)
+          with_other with_new (name_of b p.local) (name_of b y) v (apart_from s f p.local y w.call.answer ty w.call.is_answer is_y other) ∙ with_other w.call.env value_name (name_of b y) v (not_new s f y ty is_y)
 
-      unwritten : (l : Label) → among l w.block.nest ≡ true → (x : ℕ) (ty : Ty) → loop_writes b l x ≡ false → with p.local set x ≡ true → slice_get b.locals x ≡ Some ty →
-          (set x ≡ true) × (with_place (name_of b x) ≡ w.env (name_of b x))
+      unwritten : (l : Label) → among l w.call.block.nest ≡ true → (x : ℕ) (ty : Ty) → loop_writes b l x ≡ false → with p.local set x ≡ true → slice_get b.locals x ≡ Some ty →
+          (set x ≡ true) × (with_place (name_of b x) ≡ w.call.env (name_of b x))
       unwritten l inside x ty not_there is_in is_x = by_test (p.local == x) refl
         where
-          by_test : (e : Bool) → (p.local == x) ≡ e → (set x ≡ true) × (with_place (name_of b x) ≡ w.env (name_of b x))
-          by_test true e = absurd (true≢false (sym (loop_writes_end b l g.label w.block x w.is_block inside (ap (end_writes x) w.is_call ∙ or_first (p.local == x) (list_any (moves_out x) os) e)) ∙ not_there))
+          by_test : (e : Bool) → (p.local == x) ≡ e → (set x ≡ true) × (with_place (name_of b x) ≡ w.call.env (name_of b x))
+          by_test true e = absurd (true≢false (sym (loop_writes_end b l g.label w.call.block x w.call.is_block inside (ap (end_writes x) w.call.is_call ∙ or_first (p.local == x) (list_any (moves_out x) os) e)) ∙ not_there))
           by_test false e = (with_before p.local set x (other_number p.local x e) is_in, other_name x ty is_x (λ q. true≢false (sym (eq-eqb p.local x (sym q)) ∙ e)))
 
-      abbrev carried : Within (initialised w.next 0) (with p.local set)
-      carried = subst (Carries (λ l. initialised l 0) (initialised g.label (length w.block.statements))) w.is_call ((own s f).moves.edges g.label w.block w.is_block)
+      abbrev carried : Within (initialised w.call.next 0) (with p.local set)
+      carried = subst (Carries (λ l. initialised l 0) (initialised g.label (length w.call.block.statements))) w.call.is_call ((own s f).moves.edges g.label w.call.block w.call.is_block)
 
-      way : Reached s f ρ₀ (initialised w.next 0) with_place w.heads w.next
-      way = reached s f ρ₀ (initialised w.next 0) with_place w.heads g.label w.next w.block
-          (memories_kept s f ρ₀ w.nested (λ l inside x ty e is_in is_x. unwritten l inside x ty e (carried x is_in) is_x)) w.enclosing w.behind
-          ((own s f).simple.laid_out.edges g.label w.next w.block w.is_block (subst (λ k. among w.next (targets k) ≡ true) (sym w.is_call) (among_first w.next [])))
+      way : Reached s f ρ₀ (initialised w.call.next 0) with_place w.call.heads w.call.next
+      way = reached s f ρ₀ (initialised w.call.next 0) with_place w.call.heads g.label w.call.next w.call.block
+          (memories_kept s f ρ₀ w.call.nested (λ l inside x ty e is_in is_x. unwritten l inside x ty e (carried x is_in) is_x)) w.call.enclosing w.call.behind
+          ((own s f).simple.laid_out.edges g.label w.call.next w.call.block w.call.is_block (subst (λ k. among w.call.next (targets k) ≡ true) (sym w.call.is_call) (among_first w.call.next [])))
 
       after : (fs : State K) (ls : List (Tree K)) → Fits b no_tys (with p.local set) ls → Agree b (with p.local set) ls with_place →
-          Standing s f ρ₀ (starting g ls w.next ∷ fs) (length fs) (starting g ls w.next)
+          Standing s f ρ₀ (starting g ls w.call.next ∷ fs) (length fs) (starting g ls w.call.next)
       after fs ls fitting agrees =
-          arrived s f ρ₀ w.arrives (starting g ls w.next ∷ fs) (length fs) g ls w.function w.types
+          arrived s f ρ₀ w.call.arrives (starting g ls w.call.next ∷ fs) (length fs) g ls w.call.function w.call.types
           (record {
-            fitting = fits_within b no_tys (initialised w.next 0) (with p.local set) ls carried fitting;
+            fitting = fits_within b no_tys (initialised w.call.next 0) (with p.local set) ls carried fitting;
             env = with_place;
-            agrees = agree_within b (initialised w.next 0) (with p.local set) ls with_place carried agrees;
-            keeps = λ n out. with_other with_new (name_of b p.local) n v (out.0 p.local (name_of b p.local) (local_named s f p.local w.answer w.is_answer)) ∙ with_other w.env value_name n v out.1 ∙ w.keeps n out;
-            came = came_on s f ρ₀ w.came (call_commands b d p.local w.answer os)
-                (over_call w.block.end p (Function (OfBody callee.number)) w.type_arguments os w.next d w.answer w.came.prefix (record { block = w.block; is_block = w.is_block; is_last = w.is_last; is_end = refl }) w.is_call (own s callee).is_contract w.is_answer) moves;
+            agrees = agree_within b (initialised w.call.next 0) (with p.local set) ls with_place carried agrees;
+            keeps = λ n out. with_other with_new (name_of b p.local) n v (out.0 p.local (name_of b p.local) (local_named s f p.local w.call.answer w.call.is_answer)) ∙ with_other w.call.env value_name n v out.1 ∙ w.call.keeps n out;
+            came = came_on s f ρ₀ w.call.came (call_commands b d p.local w.call.answer os)
+                (over_call w.call.block.end p (Function (OfBody callee.number)) w.call.type_arguments os w.call.next d w.call.answer w.call.came.prefix (record { block = w.call.block; is_block = w.call.is_block; is_last = w.call.is_last; is_end = refl }) w.call.is_call (own s callee).is_contract w.call.is_answer) moves;
           })
           way
-          (goals_moved (S s) (met w.walk) moves w.hold)
+          (goals_moved (S s) (met w.call.walk) moves w.call.hold)
 
       -- with an answer that meets the callee's contract the frame stands again
       pub answer_comes : (fs : State K) → Quiet (λ h. Standing s f ρ₀ (h ∷ fs) (length fs) h) (resumed (bodies s) t g)
       answer_comes fs =
           let Fine : Frame K → Type 0 = λ h. Standing s f ρ₀ (h ∷ fs) (length fs) h in
-          let found : frame_block (bodies s) g ≡ Some w.block = ap (option_and_then (λ x. block_in x.blocks g.label)) (subst (λ n. slice_get (bodies s).bodies n ≡ Some b) (sym w.function) f.is_body) ∙ w.is_block in
+          let found : frame_block (bodies s) g ≡ Some w.call.block = ap (option_and_then (λ x. block_in x.blocks g.label)) (subst (λ n. slice_get (bodies s).bodies n ≡ Some b) (sym w.call.function) f.is_body) ∙ w.call.is_block in
           subst (λ (o : Option Block). Quiet Fine (need o >>= λ k. resumed_at t g k.end.kind)) (sym found)
-          (subst (λ k. Quiet Fine (resumed_at t g k)) (sym w.is_call)
-          (quiet_then (λ ls. Fits b no_tys (with p.local set) ls × Agree b (with p.local set) ls with_place) Fine (put_local g.locals p.local t) (λ ls. Yields (starting g ls w.next))
+          (subst (λ k. Quiet Fine (resumed_at t g k)) (sym w.call.is_call)
+          (quiet_then (λ ls. Fits b no_tys (with p.local set) ls × Agree b (with p.local set) ls with_place) Fine (put_local g.locals p.local t) (λ ls. Yields (starting g ls w.call.next))
           (quiet_both (Fits b no_tys (with p.local set)) (λ ls. Agree b (with p.local set) ls with_place) (put_local g.locals p.local t)
-          (put_goes b no_tys set g.locals p.local w.answer t w.is_answer shape (stands_fit s f w.stands))
-          (put_shows b set g.locals w.env with_place p.local t (stands_agree s f w.stands) (subst (Shows t) (sym (with_same with_new (name_of b p.local) v)) shows) other_name))
+          (put_goes b no_tys set g.locals p.local w.call.answer t w.call.is_answer shape (stands_fit s f w.stands))
+          (put_shows b set g.locals w.call.env with_place p.local t (stands_agree s f w.stands) (subst (Shows t) (sym (with_same with_new (name_of b p.local) v)) shows) other_name))
           (λ ls h. after fs ls h.0 h.1)))
