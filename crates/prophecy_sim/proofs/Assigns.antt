@@ -238,13 +238,15 @@ module _ (Θ : Theory) (b : Body) (not_new : (x : ℕ) (t : Ty) → slice_get b.
         value_there op = ap₂ (applied op) is_y is_z
 
         same_integers : Exactly (Means W (is_equal (integer_term b o) (integer_term b q)) ρ) (Flag (int_eq y z))
-        same_integers = equal_exactly W (integer_term b o) (integer_term b q) ρ (Number y) (Number z) (int_eq y z) first second (λ e. ap Number ((Decides-int_eq y z).0 e)) (λ e. (Decides-int_eq y z).1 (ap integer_of e))
+        same_integers = equal_exactly W (integer_term b o) (integer_term b q) ρ (Number y) (Number z) (int_eq y z) first second (λ e. ap Number ((Decides-int_eq y z).0 e))
+            (λ e. (Decides-int_eq y z).1 (ap integer_of e))
 
         eq_assigned : Assigned ρ p (Binary Eq o q)
         eq_assigned = compared_assigned Eq Integers (Flag (int_eq y z)) integers refl tt (value_there Eq) same_integers
 
         ne_assigned : Assigned ρ p (Binary Ne o q)
-        ne_assigned = compared_assigned Ne Integers (Flag (not (int_eq y z))) integers refl tt (value_there Ne) (not_exactly W (is_equal (integer_term b o) (integer_term b q)) ρ (int_eq y z) same_integers)
+        ne_assigned = compared_assigned Ne Integers (Flag (not (int_eq y z))) integers refl tt (value_there Ne)
+            (not_exactly W (is_equal (integer_term b o) (integer_term b q)) ρ (int_eq y z) same_integers)
 
         lt_assigned : Assigned ρ p (Binary Lt o q)
         lt_assigned = compared_assigned Lt Integers (Flag (int_lt y z)) integers refl tt (value_there Lt) (of_two_exactly (compared int_lt) _ _ (Number y) (Number z) first second)
@@ -324,7 +326,8 @@ module _ (Θ : Theory) (b : Body) (not_new : (x : ℕ) (t : Ty) → slice_get b.
         truth_eq_assigned = compared_assigned Eq Truths (Flag (same_truth c d)) truths refl tt (ap₂ (applied Eq) is_c is_d) same_truths
 
         truth_ne_assigned : Assigned ρ p (Binary Ne o q)
-        truth_ne_assigned = compared_assigned Ne Truths (Flag (not (same_truth c d))) truths refl tt (ap₂ (applied Ne) is_c is_d) (not_exactly W (is_equal (operand_term b o) (operand_term b q)) ρ (same_truth c d) same_truths)
+        truth_ne_assigned = compared_assigned Ne Truths (Flag (not (same_truth c d))) truths refl tt (ap₂ (applied Ne) is_c is_d)
+            (not_exactly W (is_equal (operand_term b o) (operand_term b q)) ρ (same_truth c d) same_truths)
 
       -- ---- by the operator
 

@@ -88,7 +88,8 @@ module _ {K : Type 0} (s : Setup K) (f : FunctionOf s) (proved : HasTrueObligati
 
   -- ---- the entry
 
-  module _ (args : List (Tree K)) (count : length args ≡ length param_list) (shaped : AreShaped no_tys args param_list) (values : Values) (shows : AllShow args values) (pre : Each (λ t. Holds (S s) t (named c.params values)) c.pre) where
+  module _ (args : List (Tree K)) (count : length args ≡ length param_list) (shaped : AreShaped no_tys args param_list) (values : Values) (shows : AllShow args values)
+      (pre : Each (λ t. Holds (S s) t (named c.params values)) c.pre) where
     abbrev ρ₀ : Env
     ρ₀ = named c.params values
 
@@ -117,7 +118,8 @@ module _ {K : Type 0} (s : Setup K) (f : FunctionOf s) (proved : HasTrueObligati
     goals_there : GoalsHold (S s) set.env (met proved.are.walk)
     goals_there =
         let before : GoalsHold (S s) ρ₀ (goals_of_walk (walked s f) proved.are.walk) =
-        goals_hold (S s) b.owner proved.first (goals_of_walk (walked s f) proved.are.walk) ρ₀ refl (λ o e. subst (Each (IsTrueObligation s.theory)) (proved.are.are_numbered ∙ sym e) proved.all_true) in
+        goals_hold (S s) b.owner proved.first (goals_of_walk (walked s f) proved.are.walk) ρ₀ refl
+        (λ o e. subst (Each (IsTrueObligation s.theory)) (proved.are.are_numbered ∙ sym e) proved.all_true) in
         goals_moved (S s) (met proved.are.walk) enters (subst (GoalsHold (S s) ρ₀) (goals_are_seen_before (entry_commands b c) proved.are.walk) before)
 
     abbrev at_entry : Frame K
@@ -144,7 +146,8 @@ module _ {K : Type 0} (s : Setup K) (f : FunctionOf s) (proved : HasTrueObligati
 
     comes : Coming s f ρ₀ [] b.entry at_entry.locals
     comes = record {
-      fitting = fits_within b no_tys (initialised b.entry 0) (parameter_locals b) at_entry.locals (own s f).moves.entry (entered_fits (bodies s) b f.number no_tys args (own s f).typed (count, shaped));
+      fitting = fits_within b no_tys (initialised b.entry 0) (parameter_locals b) at_entry.locals (own s f).moves.entry
+          (entered_fits (bodies s) b f.number no_tys args (own s f).typed (count, shaped));
       env = set.env;
       agrees = agree_within b (initialised b.entry 0) (parameter_locals b) at_entry.locals set.env (own s f).moves.entry entry_agrees;
       keeps = λ n out. set.kept n (λ j l q. out.0 (1 + j) (name_of b (1 + j)) (name_at (1 + j) (room j l)) q) ∙ given.2 n;

@@ -115,7 +115,8 @@ module _ {K : Type 0} (s : Setup K) where
           Came s f ρ₀ (walked s f) heads (within (point_of g)) ρ → IsAtEnd b (point_of g) st.block.end →
           GoalsHold (S s) ρ (seen_before (where_true b o) (met u) ++ seen_before (where_false b o) (met v)) → Fits b no_tys end_set g.locals → Agree b end_set g.locals ρ → Ways heads → Quiet EndsWell (frame_end s.code g (If o l r))
       branch_comes {heads} {u} {v} o l r kind to_l to_r came at_end hold fitting agrees ways =
-          quiet_then (λ (x : Left K). Keeps b no_tys (taken o end_set) bool x × Leaves b (taken o end_set) ρ value x) EndsWell (take_operand g.locals o) (λ x. truth_of x.1 >>= λ c. Yields (Stays (starting g x.0 (cond c l r))))
+          quiet_then (λ (x : Left K). Keeps b no_tys (taken o end_set) bool x × Leaves b (taken o end_set) ρ value x) EndsWell (take_operand g.locals o)
+          (λ x. truth_of x.1 >>= λ c. Yields (Stays (starting g x.0 (cond c l r))))
           (quiet_both (Keeps b no_tys (taken o end_set) bool) (Leaves b (taken o end_set) ρ value) (take_operand g.locals o)
           (take_goes b no_tys end_set g.locals o bool fitting has.0 can) (take_shows b end_set g.locals ρ o bool has.0 can agrees))
           (λ x kept. by_truth x.0 x.1 kept.0.0 kept.1.0 kept.0.1 kept.1.1)
@@ -149,13 +150,15 @@ module _ {K : Type 0} (s : Setup K) where
           of_truth ls true fitted agreed is =
               let known : Holds (S s) (operand_term b o) ρ = (yes_flag (Means (S s) (operand_term b o) ρ) true (subst (λ w. Exactly (Means (S s) (operand_term b o) ρ) w) is exactly)).1 refl in
               let moves : MovesAll (S s) (where_true b o) ρ ρ = more (by_assume known) none in
-              goes_on l (taken o end_set) ls to_l (came_on s f ρ₀ came (where_true b o) (to_true_side st.block.end o l r came.prefix at_end kind) moves) (goals_moved (S s) (met u) moves first_goals) fitted agreed carries.0
+              goes_on l (taken o end_set) ls to_l (came_on s f ρ₀ came (where_true b o) (to_true_side st.block.end o l r came.prefix at_end kind) moves)
+              (goals_moved (S s) (met u) moves first_goals) fitted agreed carries.0
               (ways l (subst (λ x. among l (targets x) ≡ true) (sym kind) (among_first l (r ∷ []))) (to_end l carries.0))
           of_truth ls false fitted agreed is =
               let denied : Holds (S s) (operand_term b o) ρ → ⊥ = λ h. not_true ((yes_flag (Means (S s) (operand_term b o) ρ) false (subst (λ w. Exactly (Means (S s) (operand_term b o) ρ) w) is exactly)).0 h) in
               let known : Holds (S s) (terms.not (operand_term b o)) ρ = (holds_not (S s) (operand_term b o) ρ).1 denied in
               let moves : MovesAll (S s) (where_false b o) ρ ρ = more (by_assume known) none in
-              goes_on r (taken o end_set) ls to_r (came_on s f ρ₀ came (where_false b o) (to_false_side st.block.end o l r came.prefix at_end kind) moves) (goals_moved (S s) (met v) moves rest_goals) fitted agreed carries.1
+              goes_on r (taken o end_set) ls to_r (came_on s f ρ₀ came (where_false b o) (to_false_side st.block.end o l r came.prefix at_end kind) moves)
+              (goals_moved (S s) (met v) moves rest_goals) fitted agreed carries.1
               (ways r (subst (λ x. among r (targets x) ≡ true) (sym kind) (among_second l r)) (to_end r carries.1))
 
           by_truth : (ls : List (Tree K)) (t : Tree K) → Fits b no_tys (taken o end_set) ls → Agree b (taken o end_set) ls ρ → Shape bool t → Shows t value →
@@ -194,7 +197,8 @@ module _ {K : Type 0} (s : Setup K) where
           (quiet_both (Shape (instance no_tys answer.0)) (λ t. Shows t (ρ (name_of b 0))) (local_tree g.locals 0)
           (local_goes b no_tys end_set g.locals 0 answer.0 fitting answer.1 there) (local_shows b end_set g.locals ρ 0 answer.0 answer.1 there agrees))
           (λ t h. record {
-            typed = subst (λ ty. Typed (declarations s) fs t ty []) (sym (ap (instance no_tys) (first_ty b.locals answer.0 answer.1))) (shaped_typed (declarations s) fs answer.0 t ((own s f).simple.scalars 0 answer.0 answer.1) h.0);
+            typed = subst (λ ty. Typed (declarations s) fs t ty []) (sym (ap (instance no_tys) (first_ty b.locals answer.0 answer.1)))
+                (shaped_typed (declarations s) fs answer.0 t ((own s f).simple.scalars 0 answer.0 answer.1) h.0);
             value = ρ (name_of b 0);
             reads = h.1 false fs s.final Plain here;
             posts = posts_hold (own s f).contract.post

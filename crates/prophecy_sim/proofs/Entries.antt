@@ -78,7 +78,8 @@ module _ (S : Structure) where
           env = rest.env;
           moves = more (by_set (ρ x) (alike_same _)) rest.moves;
           here = λ i y e. at_index rest i y e;
-          kept = λ n h. rest.kept n (λ j l q. h (suc j) (omega arith) (q ∙ ap (λ k. (name_of b k).0) (one_on m j))) ∙ with_other ρ at_m n (ρ x) (λ q. h 0 (omega arith) (q ∙ sym (ap (λ k. (name_of b k).0) (no_more m))));
+          kept = λ n h. rest.kept n (λ j l q. h (suc j) (omega arith) (q ∙ ap (λ k. (name_of b k).0) (one_on m j))) ∙ with_other ρ at_m n (ρ x)
+              (λ q. h 0 (omega arith) (q ∙ sym (ap (λ k. (name_of b k).0) (no_more m))));
         }
       where
         pred : {k l : ℕ} → suc k ≡ suc l → k ≡ l

@@ -143,7 +143,8 @@ module _ {K : Type 0} (s : Setup K) (f : FunctionOf s) (proved : AreProvedFrom s
           result = a.value;
           finals = tt;
           reads = all_read false (start no_tys args held) (λ k at. nothing) Plain here 0 args values.0 values.1;
-          result_reads = shaped_shows answer.0 t a.value ((own s f).simple.scalars 0 answer.0 answer.1) (typed_shape (declarations s) st t (instance no_tys answer.0) [] typed) a.reads false st (λ k. fill) Plain here;
+          result_reads = shaped_shows answer.0 t a.value ((own s f).simple.scalars 0 answer.0 answer.1) (typed_shape (declarations s) st t (instance no_tys answer.0) [] typed) a.reads false st
+              (λ k. fill) Plain here;
           holds = a.posts;
         }
 
@@ -154,13 +155,15 @@ module _ {K : Type 0} (s : Setup K) (f : FunctionOf s) (proved : AreProvedFrom s
     fine_of (Returned st t) a alive = ([], a.typed, λ fill sup. ensures_met st t fill a)
 
     call_fine : (n : ℕ) → IsFine s.theory no_tys c (answer_ty b no_tys) (start no_tys args held) args [] (after s.code n (start no_tys args held))
-    call_fine n = fine_of (after s.code n (start no_tys args held)) (run_fine s f proved ρ₀ n (Running (start no_tys args held)) starts) (never_stuck s.theory s.code (sound s) f.number no_tys args held b [] proper n)
+    call_fine n = fine_of (after s.code n (start no_tys args held)) (run_fine s f proved ρ₀ n (Running (start no_tys args held)) starts)
+        (never_stuck s.theory s.code (sound s) f.number no_tys args held b [] proper n)
 
   -- ---- every proper call
 
   abbrev CallIsFine : Tys → List (Tree K) → List (Tree K) → List Met → ℕ → Type 0
   CallIsFine θ args held met n =
-      IsProper s.theory (bodies s) f.number θ args held b met → MeetsRequires s.theory θ c (start θ args held) args met → IsFine s.theory θ c (answer_ty b θ) (start θ args held) args met (after s.code n (start θ args held))
+      IsProper s.theory (bodies s) f.number θ args held b met → MeetsRequires s.theory θ c (start θ args held) args met → IsFine s.theory θ c (answer_ty b θ) (start θ args held) args met
+      (after s.code n (start θ args held))
 
   at_none : (args held : List (Tree K)) (met : List Met) (n : ℕ) → CallIsFine no_tys args held met n
   at_none args held met n proper meets =

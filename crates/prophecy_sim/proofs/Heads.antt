@@ -123,7 +123,8 @@ module _ (S : Structure) (b : Body) (named : LocalsAreNamed b) (count : length b
       env = rest.env;
       moves = subst (λ c. MovesAll S (renewal b c m t ++ renewals b p (m + 1) ts) ρ rest.env) (sym is_m) (more (by_fresh (val m) sort) rest.moves);
       there = λ x n le lt px e. by_place x n le lt px e (decide x m);
-      others = λ n h. rest.others n (λ x k le px e q. h x k (omega arith) px e q) ∙ with_other ρ (name_of b m) n (val m) (λ q. h m n₀ (omega arith) is_m e₀ (q ∙ ap (λ (z : Name). z.0) (named_as b m n₀ e₀)));
+      others = λ n h. rest.others n (λ x k le px e q. h x k (omega arith) px e q) ∙ with_other ρ (name_of b m) n (val m)
+          (λ q. h m n₀ (omega arith) is_m e₀ (q ∙ ap (λ (z : Name). z.0) (named_as b m n₀ e₀)));
     }
       where
         no_later : (x : ℕ) → m + 1 ≤ x → m ≡ x → ⊥

@@ -171,9 +171,11 @@ module _ {K : Type 0} (b : Body) where
   pub take_shows : (set : Locals) (ls : List (Tree K)) (ρ : Env) (o : Operand) (ty : Ty) → OperandHas b o ty → CanTake set o → Agree set ls ρ →
       Quiet (Leaves (taken o set) ρ (operand_value b ρ o)) (take_operand ls o)
   take_shows set ls ρ (Copy p) ty has can h =
-      quiet_then (λ t. Shows t (ρ (name_of b p.local))) (Leaves set ρ (ρ (name_of b p.local))) (local_tree ls p.local) (λ t. Yields (ls, t)) (local_shows set ls ρ p.local ty has.1 can h) (λ t shows. (h, shows))
+      quiet_then (λ t. Shows t (ρ (name_of b p.local))) (Leaves set ρ (ρ (name_of b p.local))) (local_tree ls p.local) (λ t. Yields (ls, t)) (local_shows set ls ρ p.local ty has.1 can h)
+      (λ t shows. (h, shows))
   take_shows set ls ρ (Move p) ty has can h =
-      quiet_then (λ t. Shows t (ρ (name_of b p.local))) (Leaves (without p.local set) ρ (ρ (name_of b p.local))) (local_tree ls p.local) (λ t. Yields (slice_set ls p.local Gone, t)) (local_shows set ls ρ p.local ty has.1 can h)
+      quiet_then (λ t. Shows t (ρ (name_of b p.local))) (Leaves (without p.local set) ρ (ρ (name_of b p.local))) (local_tree ls p.local) (λ t. Yields (slice_set ls p.local Gone, t))
+      (local_shows set ls ρ p.local ty has.1 can h)
       (λ t shows. (agree_gone set ls ρ p.local h, shows))
   take_shows set ls ρ (Const l) ty has can h = (h, literal_shows l)
 
@@ -237,7 +239,8 @@ module _ {K : Type 0} (b : Body) where
       Quiet (λ ls'. Agree (run (Assign p r) set) ls' σ) (run_local b θ ls span (Assign p r))
   assign_shows θ set ls ρ σ span p r ty has can h in_range value others =
       let kind = kind_in (place_ty b θ p) in
-      quiet_then (Leaves (evaluated r set) ρ (rvalue_value b ρ r)) (λ ls'. Agree (run (Assign p r) set) ls' σ) (evaluate ls kind span r) (λ l. put_local l.0 p.local l.1) (evaluate_shows set ls ρ kind span r ty has can h in_range)
+      quiet_then (Leaves (evaluated r set) ρ (rvalue_value b ρ r)) (λ ls'. Agree (run (Assign p r) set) ls' σ) (evaluate ls kind span r) (λ l. put_local l.0 p.local l.1)
+      (evaluate_shows set ls ρ kind span r ty has can h in_range)
       (λ l leaves. put_shows (evaluated r set) l.0 ρ σ p.local l.1 leaves.0 (subst (Shows l.1) (sym value) leaves.1) others)
 
   pub dead_shows : (θ : Tys) (set : Locals) (ls : List (Tree K)) (ρ : Env) (span : Span) (x : ℕ) → Agree set ls ρ → Quiet (λ ls'. Agree (without x set) ls' ρ) (run_local b θ ls span (Dead x))

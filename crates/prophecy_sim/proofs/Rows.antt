@@ -108,7 +108,8 @@ module _ {K : Type 0} (s : Setup K) (f : FunctionOf s) (ρ₀ : Env) (fs : State
         is_block = st.is_block;
         in_block = omega (arith, slice_get_within st.block.statements g.statement x e);
         env = a.env;
-        stands = they_stand s f (record g { locals = ls; statement = g.statement + 1 } ∷ fs) (length fs) (fits_within b no_tys next (run x.kind set) ls rows.1 a.fitting) (agree_within b next (run x.kind set) ls a.env rows.1 a.agrees);
+        stands = they_stand s f (record g { locals = ls; statement = g.statement + 1 } ∷ fs) (length fs) (fits_within b no_tys next (run x.kind set) ls rows.1 a.fitting)
+            (agree_within b next (run x.kind set) ls a.env rows.1 a.agrees);
         keeps = λ n outside. a.elsewhere n outside ∙ st.keeps n outside;
         heads = st.heads;
         came = came_on s f ρ₀ st.came (commands_of b x.kind) (over_statement x st.came.prefix before) a.moves;

@@ -311,7 +311,8 @@ heads_speak = record {
     of_head (suc j) t e x f = absurd (cc)
 
     speaks_there : (h : Head) → Some head ≡ Some h → (j : ℕ) (t : Term) → slice_get h.invariants j ≡ Some t → (x : Name) → free x t ≡ true → IsOneOf x is_false.params ⊎ IsNameIn cleared (sets 1 0) x
-    speaks_there h e = subst (λ (g : Head). (j : ℕ) (t : Term) → slice_get g.invariants j ≡ Some t → (x : Name) → free x t ≡ true → IsOneOf x is_false.params ⊎ IsNameIn cleared (sets 1 0) x) (same_Some _ _ e) of_head
+    speaks_there h e = subst (λ (g : Head). (j : ℕ) (t : Term) → slice_get g.invariants j ≡ Some t → (x : Name) → free x t ≡ true → IsOneOf x is_false.params ⊎ IsNameIn cleared (sets 1 0) x)
+        (same_Some _ _ e) of_head
 
 caller_heads_speak : HeadsSpeakOf caller is_false (program.gone 1) (by_number caller_sets)
 caller_heads_speak = record {
@@ -396,8 +397,10 @@ caller_true_obligations Θ = record {
 }
 
 pub sample_true : SampleIsTrue
-sample_true Θ zero b c e f = subst (λ d. HasTrueObligations Θ (setting program 0 b d)) (same_Some _ _ f) (subst (λ d. HasTrueObligations Θ (setting program 0 d is_false)) (same_Some _ _ e) (true_obligations Θ))
-sample_true Θ (suc zero) b c e f = subst (λ d. HasTrueObligations Θ (setting program 1 b d)) (same_Some _ _ f) (subst (λ d. HasTrueObligations Θ (setting program 1 d is_false)) (same_Some _ _ e) (caller_true_obligations Θ))
+sample_true Θ zero b c e f = subst (λ d. HasTrueObligations Θ (setting program 0 b d)) (same_Some _ _ f)
+    (subst (λ d. HasTrueObligations Θ (setting program 0 d is_false)) (same_Some _ _ e) (true_obligations Θ))
+sample_true Θ (suc zero) b c e f = subst (λ d. HasTrueObligations Θ (setting program 1 b d)) (same_Some _ _ f)
+    (subst (λ d. HasTrueObligations Θ (setting program 1 d is_false)) (same_Some _ _ e) (caller_true_obligations Θ))
 sample_true Θ (suc (suc n)) b c e f = absurd (no_more n b e)
 
 -- ---- the law of these conditions

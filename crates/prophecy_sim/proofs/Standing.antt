@@ -180,7 +180,8 @@ module _ {K : Type 0} (s : Setup K) (f : FunctionOf s) (ρ₀ : Env) where
       where
         by_test : (t : Bool) → initialised l 0 x ≡ t → HasSort (declarations s) (new_value x) (instance no_tys ty)
         by_test true e = subst (λ v. HasSort (declarations s) v (instance no_tys ty)) (sym (there_value x e)) (local_sort s f (initialised l 0) ls c.env c.fitting c.agrees x ty is_ty e)
-        by_test false e = subst (λ v. HasSort (declarations s) v (instance no_tys ty)) (sym (gone_value x e ∙ ap default_of (ty_is (slice_get b.locals x) ty is_ty))) (default_sort (declarations s) ty ((own s f).simple.scalars x ty is_ty))
+        by_test false e = subst (λ v. HasSort (declarations s) v (instance no_tys ty)) (sym (gone_value x e ∙ ap default_of (ty_is (slice_get b.locals x) ty is_ty)))
+            (default_sort (declarations s) ty ((own s f).simple.scalars x ty is_ty))
 
     abbrev again_env : Renewed (S s) b (own s f).simple.names (own s f).typed.named (touched_there b (walked s f).init l) new_value p.first.env
     again_env = renewed_move (S s) b (own s f).simple.names (own s f).typed.named (touched_there b (walked s f).init l) new_value p.first.env (λ x ty t is_ty. new_sort x ty is_ty)
@@ -236,7 +237,8 @@ module _ {K : Type 0} (s : Setup K) (f : FunctionOf s) (ρ₀ : Env) where
       stands = they_stand s f st frame c.fitting head_agrees;
       keeps = head_keeps;
       heads = l ∷ p.first.heads;
-      came = came_on s f ρ₀ p.first.came (head_commands b (walked s f).init l p.first.head) (into_head p.first.block p.first.head p.first.came.prefix p.first.is_block p.first.is_head p.first.fresh) (head_moves invariants);
+      came = came_on s f ρ₀ p.first.came (head_commands b (walked s f).init l p.first.head)
+          (into_head p.first.block p.first.head p.first.came.prefix p.first.is_block p.first.is_head p.first.fresh) (head_moves invariants);
       walk = p.first.walk;
       walks = p.first.walks;
       hold = goals_moved (S s) (met p.first.walk) (head_moves invariants) p.first.hold;

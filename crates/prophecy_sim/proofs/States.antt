@@ -69,7 +69,8 @@ module _ {K : Type 0} (s : Setup K) (top : FunctionOf s) (proved : AreProvedFrom
       (answer_comes s w.function w.env st (length (h ∷ fs)) g f ρ w.waiting (g ∷ h ∷ fs) t a (h ∷ fs))
       (λ k standing. (record { function = w.function; reached = w.reached; env = w.env; standing = standing }, stacked_elsewhere st (k ∷ h ∷ fs) w.function w.env (h ∷ fs) rest)))
 
-  called : (f : FunctionOf s) (ρ : Env) → Reaches (bodies s) (Function top.number) (Function f.number) → (st : State K) (g h : Frame K) (fs : State K) → CallsFine s f ρ fs g h → Stacked st f ρ fs → StateFine (h ∷ g ∷ fs)
+  called : (f : FunctionOf s) (ρ : Env) → Reaches (bodies s) (Function top.number) (Function f.number) → (st : State K) (g h : Frame K)
+      (fs : State K) → CallsFine s f ρ fs g h → Stacked st f ρ fs → StateFine (h ∷ g ∷ fs)
   called f ρ reached st g h [] c stacked = absurd stacked
   called f ρ reached st g h (k ∷ fs) c stacked =
       let reached' : Reaches (bodies s) (Function top.number) (Function c.callee.number) = by_use reached (by_call c.calls) in (
@@ -77,7 +78,8 @@ module _ {K : Type 0} (s : Setup K) (top : FunctionOf s) (proved : AreProvedFrom
         (record { function = f; reached = reached; env = ρ; waiting = c.waiting }, stacked_elsewhere st (h ∷ g ∷ k ∷ fs) f ρ (k ∷ fs) stacked),
       )
 
-  settled_fine : (st : State K) (f : FunctionOf s) (ρ : Env) → Reaches (bodies s) (Function top.number) (Function f.number) → (fs : State K) → Stacked st f ρ fs → (e : FrameEnd K) → EndsFine s f ρ fs e →
+  settled_fine : (st : State K) (f : FunctionOf s) (ρ : Env) → Reaches (bodies s) (Function top.number) (Function f.number) → (fs : State K) → Stacked st f ρ fs →
+      (e : FrameEnd K) → EndsFine s f ρ fs e →
       Quiet OutcomeFine (settled (bodies s) fs e)
   settled_fine st f ρ reached fs h (Stays g) standing = (record { function = f; reached = reached; env = ρ; standing = standing }, stacked_elsewhere st (g ∷ fs) f ρ fs h)
   settled_fine st f ρ reached fs h (Calls g k) c = called f ρ reached st g k fs c h

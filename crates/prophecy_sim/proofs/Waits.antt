@@ -208,7 +208,8 @@ module _ {K : Type 0} (s : Setup K) where
 
       other_name : (y : ℕ) (ty : Ty) → slice_get b.locals y ≡ Some ty → (y ≡ p.local → ⊥) → with_place (name_of b y) ≡ w.call.env (name_of b y)
       other_name y ty is_y other =
-          with_other with_new (name_of b p.local) (name_of b y) v (apart_from s f p.local y w.call.answer ty w.call.is_answer is_y other) ∙ with_other w.call.env value_name (name_of b y) v (not_new s f y ty is_y)
+          with_other with_new (name_of b p.local) (name_of b y) v (apart_from s f p.local y w.call.answer ty w.call.is_answer is_y other) ∙ with_other w.call.env value_name (name_of b y) v
+          (not_new s f y ty is_y)
 
       unwritten : (l : Label) → among l w.call.block.nest ≡ true → (x : ℕ) (ty : Ty) → loop_writes b l x ≡ false → with p.local set x ≡ true → slice_get b.locals x ≡ Some ty →
           (set x ≡ true) × (with_place (name_of b x) ≡ w.call.env (name_of b x))
@@ -234,7 +235,8 @@ module _ {K : Type 0} (s : Setup K) where
             fitting = fits_within b no_tys (initialised w.call.next 0) (with p.local set) ls carried fitting;
             env = with_place;
             agrees = agree_within b (initialised w.call.next 0) (with p.local set) ls with_place carried agrees;
-            keeps = λ n out. with_other with_new (name_of b p.local) n v (out.0 p.local (name_of b p.local) (local_named s f p.local w.call.answer w.call.is_answer)) ∙ with_other w.call.env value_name n v out.1 ∙ w.call.keeps n out;
+            keeps = λ n out. with_other with_new (name_of b p.local) n v (out.0 p.local (name_of b p.local) (local_named s f p.local w.call.answer w.call.is_answer))
+                ∙ with_other w.call.env value_name n v out.1 ∙ w.call.keeps n out;
             came = came_on s f ρ₀ w.call.came (call_commands b d p.local w.call.answer os)
                 (over_call w.call.block.end p (Function (OfBody callee.number)) w.call.type_arguments os w.call.next d w.call.answer w.call.came.prefix (record { block = w.call.block; is_block = w.call.is_block; is_last = w.call.is_last; is_end = refl }) w.call.is_call (own s callee).is_contract w.call.is_answer) moves;
           })
