@@ -12,6 +12,7 @@ pub mod Memories
 pub mod Operands
 pub mod Operations
 pub mod Rows
+pub mod SampleConditions
 pub mod SampleLaws
 pub mod Scalars
 pub mod Setup
