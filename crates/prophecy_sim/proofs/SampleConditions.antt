@@ -17,6 +17,7 @@ use Rattle.mir_ir.specs.Body.{block_in}
 use Rattle.mir_ir.specs.Layout.{among, targets, Leads, on, back}
 use Rattle.mir_ir.specs.WellFormed.{HasBlock, StatementIsTyped, EndIsTyped, IsTyped, Locals, with, CanRun, run, CanEnd, Carries, Within, parameters, Labelling, MeetsMoveRows}
 use Rattle.prophecy_logic.specs.Loop.{is_gone}
+use Rattle.mir_machine.specs.Good.{Each}
 use Rattle.prophecy_sim.specs.Programs.{IsScalar, IsSimple, HeadsSpeakOf, AreFunctions, IsFunction}
 use Rattle.prophecy_sim.specs.Sample.{label, name, head, cleared, caller, is_false, program, SampleIsSound}
 use Rattle.mir_ir.specs.Names.{IsOneOf, IsNameIn, ContractSpeaks, new_number}
@@ -250,15 +251,11 @@ speaks = record {
     is_below : (m : ℕ) → m ≡ 10 → m < 200
     is_below m e = omega arith
 
-    at_answer : (x : Name) → ((x.0 == 11) || false) ≡ true → x.0 ≡ 11
-    at_answer x f = eqb-true x.0 11 (first_of (x.0 == 11) f)
-      where
-        first_of : (t : Bool) → (t || false) ≡ true → t ≡ true
-        first_of true e = refl
-        first_of false e = e
+    at_answer : (x : Name) → Each (λ t. free x t ≡ true → x.0 ≡ 11) is_false.post
+    at_answer x = ((λ f. grind (arith, nat_tests, f)), tt)
 
     post_over : (j : ℕ) (t : Term) → slice_get is_false.post j ≡ Some t → (x : Name) → free x t ≡ true → (x.0 ≡ 11 → ⊥) → IsOneOf x is_false.params
-    post_over zero t e x f d = absurd (d (at_answer x (subst (λ (u : Term). free x u ≡ true) (sym (same_Some _ _ e)) f)))
+    post_over zero t e x f d = absurd (d ((at_answer x).0 (subst (λ (u : Term). free x u ≡ true) (sym (same_Some _ _ e)) f)))
     post_over (suc j) t e x f d = absurd (cc)
 
 caller_speaks : ContractSpeaks caller is_false
