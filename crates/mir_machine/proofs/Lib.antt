@@ -6,7 +6,6 @@ pub mod GivenTypes
 pub mod Locals
 pub mod NeverStuck
 pub mod Places
-pub mod Shown
 pub mod Returns
 pub mod RightSides
 pub mod Stepping

@@ -108,15 +108,6 @@ IsOf _ t = Unit {0}
 abbrev pub Shape : {K : Type 0} → Ty → Tree K → Type 0
 Shape ty t = IsThere t × IsOf ty t
 
-pub int_typed : {K : Type 0} (Δ : Declarations) (s : State K) (t : Tree K) (k : IntKind) → Shape (int k) t → Typed Δ s t (int k) []
-int_typed Δ s t k (there, (z, is, e)) = subst (λ u. Typed Δ s u (int k) []) (sym is) (is_int e)
-
-pub bool_typed : {K : Type 0} (Δ : Declarations) (s : State K) (t : Tree K) → Shape bool t → Typed Δ s t bool []
-bool_typed Δ s t (there, (b, is)) = subst (λ u. Typed Δ s u bool []) (sym is) is_truth
-
-pub unit_typed : {K : Type 0} (Δ : Declarations) (s : State K) (t : Tree K) → Shape unit_ty t → Typed Δ s t unit_ty []
-unit_typed Δ s t (there, is) = subst (λ u. Typed Δ s u unit_ty []) (sym is) (is_tuple none_typed)
-
 no_parts : {K : Type 0} (Δ : Declarations) (s : State K) (ts : Trees K) (met : List Met) → AreTyped Δ s ts no_tys met → ts ≡ no_trees
 no_parts Δ s ts met none_typed = refl
 
@@ -745,13 +736,6 @@ alive_free bodies sound top o h e = subst (Alive bodies sound top) e h
 pub never_stuck : {K : Type 0} (Θ : Theory) (code : Code K) → AreSound code.program → (f : ℕ) (θ : Tys) (args held : List (Tree K)) (b : Body) (met : List Met) → IsProper Θ code.program f θ args held b met → (n : ℕ) → after code n (called b f θ args held) ≡ Stuck → ⊥
 never_stuck Θ code sound f θ args held b met proper n =
     alive_free code.program sound f (after code n (called b f θ args held)) (call_alive Θ code sound f θ args held b met proper n)
-
--- its answer has the shape of the answer's type
-pub answer_shape : {K : Type 0} (Θ : Theory) (code : Code K) → AreSound code.program → (f : ℕ) (θ : Tys) (args held : List (Tree K)) (b : Body) (met : List Met) → IsProper Θ code.program f θ args held b met → (n : ℕ) (s : State K) (t : Tree K)
-    → after code n (called b f θ args held) ≡ Returned s t → Shape (answer_ty b θ) t
-answer_shape Θ code sound f θ args held b met proper n s t e =
-    let (c, is_c, shape) = subst (Alive code.program sound f) e (call_alive Θ code sound f θ args held b met proper n) in
-    subst (λ types. Shape (answer_ty b types) t) (sym (no_types_for_none θ proper.ground)) (subst (λ d. Shape (answer_ty d no_tys) t) (some_same (sym is_c ∙ proper.of)) shape)
 
 pub safe_call : (Θ : Theory) (bodies : Bodies) → AreSound bodies → (f : ℕ) (θ : Tys) (args held : List (Tree (Unit {0}))) (b : Body) (met : List Met) → IsProper Θ bodies f θ args held b met → IsSafe (record { bodies = bodies; outcome = Running (called b f θ args held) })
 safe_call Θ bodies sound f θ args held b met proper = never_stuck Θ (code_of bodies) sound f θ args held b met proper

@@ -53,8 +53,8 @@ quiet_weaker P Q (Yields a) h go = go a h
 quiet_weaker P Q (Panics c s) h go = h
 quiet_weaker P Q Sticks h go = tt
 
--- what neither sticks nor panics yields
-pub yields_both : {A : Type 0} (P Q : A → Type 0) (m : Try A) → Goes P m → Quiet Q m → (a : A) × (m ≡ Yields a) × P a × Q a
-yields_both P Q (Yields a) g q = (a, refl, g, q)
-yields_both P Q (Panics c s) g q = absurd q
-yields_both P Q Sticks g q = absurd g
+-- where it does not stick either
+pub quiet_both : {A : Type 0} (P Q : A → Type 0) (m : Try A) → Goes P m → Quiet Q m → Quiet (λ a. P a × Q a) m
+quiet_both P Q (Yields a) g q = (g, q)
+quiet_both P Q (Panics c s) g q = q
+quiet_both P Q Sticks g q = absurd g

@@ -12,10 +12,11 @@ use Rattle.logic_term.proofs.Coincide.{with_same, with_other}
 use Rattle.logic_term.proofs.FreeLaw.{same_name}
 use Rattle.mir_ir.specs.declared.body.Body.{Body}
 use Rattle.mir_machine.specs.Good.{Each}
-use Rattle.wp_gen.specs.Command.{by_set, by_fresh, by_assume, MovesAll, none, more}
-use Rattle.wp_gen.specs.Row.{name_of}
-use Rattle.wp_gen.specs.Walk.{parameters, stored, assumed}
-use Rattle.prophecy_sim.proofs.Steps.{decide}
+use Rattle.prophecy_logic.specs.Command.{by_set, by_fresh, by_assume, MovesAll, none, more}
+use Rattle.prophecy_logic.specs.Row.{name_of}
+use Rattle.prophecy_logic.specs.Command.{assumed}
+use Rattle.prophecy_logic.specs.Walk.{parameters, stored}
+use Rattle.prophecy_sim.proofs.Lists.{decide}
 
 module _ (S : Structure) where
   same_point : (ρ : Env) (x y : Name) → with_value ρ x (ρ x) y ≡ ρ y
@@ -77,7 +78,8 @@ module _ (S : Structure) where
           env = rest.env;
           moves = more (by_set (ρ x) (alike_same _)) rest.moves;
           here = λ i y e. at_index rest i y e;
-          kept = λ n h. rest.kept n (λ j l q. h (suc j) (omega arith) (q ∙ ap (λ k. (name_of b k).0) (one_on m j))) ∙ with_other ρ at_m n (ρ x) (λ q. h 0 (omega arith) (q ∙ sym (ap (λ k. (name_of b k).0) (no_more m))));
+          kept = λ n h. rest.kept n (λ j l q. h (suc j) (omega arith) (q ∙ ap (λ k. (name_of b k).0) (one_on m j))) ∙ with_other ρ at_m n (ρ x)
+              (λ q. h 0 (omega arith) (q ∙ sym (ap (λ k. (name_of b k).0) (no_more m))));
         }
       where
         pred : {k l : ℕ} → suc k ≡ suc l → k ≡ l

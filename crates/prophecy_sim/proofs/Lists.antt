@@ -1,11 +1,19 @@
 -- Elements of lists, and of their fronts and rests.
-use Rattle.std.proofs.Common.{◌≡◌, refl, ap, subst, ℕ, zero, suc, ◌+◌, ◌<◌, ◌==◌, Bool, true, false, cond, List, [], ◌∷◌, length, map, take, drop, Some, None, arith}
+use Rattle.std.proofs.Common.{◌≡◌, ◌∙◌, ◌⊎◌, inl, inr, refl, sym, ap, subst, eq-eqb, true≢false, ℕ, zero, suc, ◌+◌, ◌<◌, ◌==◌, Bool, true, false, cond, List, [], ◌∷◌, ◌++◌, length, map, take, drop, Some, None, arith}
+use Rattle.std.proofs.lemmas.Bool.{eqb-true}
 use Rattle.std.proofs.lemmas.Option.{same_Some}
 use Rattle.std.specs.Prelude.{slice_get}
 use Rattle.logic_term.specs.declared.kinds.Label.{Label}
 use Rattle.mir_ir.specs.declared.body.Block.{Block}
 use Rattle.mir_ir.specs.Body.{block_in}
 use Rattle.mir_machine.specs.Good.{Each}
+
+pub decide : (m n : ℕ) → (m ≡ n) ⊎ (m ≡ n → ⊥)
+decide m n = by_test (m == n) refl
+  where
+    by_test : (t : Bool) → (m == n) ≡ t → (m ≡ n) ⊎ (m ≡ n → ⊥)
+    by_test true e = inl (eqb-true m n e)
+    by_test false e = inr (λ q. true≢false (sym (eq-eqb m n q) ∙ e))
 
 -- what is so of each element, by its place
 pub each_of : {A : Type 0} (P : A → Type 0) (xs : List A) → ((i : ℕ) (x : A) → slice_get xs i ≡ Some x → P x) → Each P xs
@@ -47,6 +55,11 @@ get_taken (y ∷ xs) (suc p) (suc n) x e = get_taken xs p n x e
 pub get_behind : {A : Type 0} (xs : List A) (n : ℕ) (x : A) → slice_get (drop 1 xs) n ≡ Some x → slice_get xs (suc n) ≡ Some x
 get_behind [] n x e = absurd (cc)
 get_behind (y ∷ xs) n x e = e
+
+pub get_append : {A : Type 0} (xs ys : List A) (n : ℕ) (x : A) → slice_get xs n ≡ Some x → slice_get (xs ++ ys) n ≡ Some x
+get_append [] ys n x e = absurd (cc)
+get_append (z ∷ xs) ys zero x e = e
+get_append (z ∷ xs) ys (suc n) x e = get_append xs ys n x e
 
 pub length_map : {A B : Type 0} (f : A → B) (xs : List A) → length (map f xs) ≡ length xs
 length_map f [] = refl

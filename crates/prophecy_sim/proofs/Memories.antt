@@ -1,22 +1,26 @@
 -- What is remembered of the heads of the loops around a block.
-use Rattle.std.proofs.Common.{◌≡◌, ◌∙◌, ◌⊎◌, inl, inr, refl, sym, ap, subst, ℕ, ◌<◌, ◌≤◌, ◌==◌, ◌||◌, Bool, true, false, List, [], ◌∷◌, ◌++◌, Some, arith}
+use Rattle.std.proofs.Common.{◌≡◌, ◌∙◌, ◌⊎◌, inl, inr, refl, sym, ap, subst, ℕ, ◌<◌, ◌≤◌, ◌==◌, ◌||◌, Bool, true, false, List, [], ◌∷◌, ◌++◌, Some, slice_get, arith}
 use Rattle.std.proofs.lemmas.Bool.{eqb-true}
 use Rattle.logic_term.specs.declared.kinds.Label.{Label}
 use Rattle.logic_term.specs.Meaning.{Env}
-use Rattle.logic_term.specs.Theory.{Theory}
+use Rattle.logic_term.specs.Ty.{Ty}
 use Rattle.text_core.specs.declared.name.Name.{Name}
 use Rattle.mir_ir.specs.declared.body.Block.{Block}
+use Rattle.mir_ir.specs.declared.body.Body.{Body}
 use Rattle.mir_ir.specs.declared.body.Head.{Head}
 use Rattle.mir_ir.specs.Body.{block_in}
 use Rattle.mir_ir.specs.Layout.{among, around, place_of, Leads, on, back}
-use Rattle.mir_ir.specs.WellFormed.{Labelling}
-use Rattle.mir_machine.proofs.Shown.{Store}
-use Rattle.wp_gen.specs.declared.goal.Goal.{Goal}
-use Rattle.wp_gen.specs.Walk.{Setting, seen_before, loop_writes, head_commands, Walks}
-use Rattle.wp_gen.specs.Walkable.{AllAmong}
-use Rattle.wp_gen.proofs.Commands.{GoalsHold}
-use Rattle.prophecy_sim.proofs.Values.{Matches}
-use Rattle.prophecy_sim.proofs.Steps.{at_no, IsOutside}
+use Rattle.mir_ir.specs.WellFormed.{Locals}
+use Rattle.prophecy_logic.specs.Graph.{Setting, start_of, Within}
+use Rattle.prophecy_logic.specs.Prefix.{At, arrival, Prefix}
+use Rattle.prophecy_logic.specs.declared.command.Command.{Command}
+use Rattle.prophecy_logic.specs.Command.{MovesAll}
+use Rattle.prophecy_logic.specs.Loop.{loop_writes, head_commands}
+use Rattle.prophecy_logic.specs.Walk.{seen_before, Walk, met}
+use Rattle.prophecy_logic.specs.Walkable.{AllAmong}
+use Rattle.prophecy_logic.proofs.Commands.{GoalsHold, then_moves}
+use Rattle.prophecy_logic.specs.Row.{name_of}
+use Rattle.prophecy_sim.proofs.Setup.{Setup, FunctionOf, S, walked, IsOutside}
 
 -- ---- lists of labels
 
@@ -109,95 +113,99 @@ both_empty (x ∷ xs) ys e = absurd (cc)
 
 -- ---- heads
 
-module _ (Θ : Theory) (w : Setting) (i : Labelling) (ρ₀ : Env) where
-  abbrev pub KeepsParams : Env → Type 0
-  KeepsParams ρ = (n : Name) → IsOutside Θ w.body n → ρ n ≡ ρ₀ n
+module _ {K : Type 0} (s : Setup K) (f : FunctionOf s) (ρ₀ : Env) where
+  abbrev b : Body
+  b = f.body
+
+  -- the names that are none of the body's have the values that they had at the entry
+  abbrev pub KeepsOutside : Env → Type 0
+  KeepsOutside ρ = (n : Name) → IsOutside b n → ρ n ≡ ρ₀ n
 
   -- none of the heads comes behind the block of the label
   abbrev pub AreBehind : List Label → Label → Type 0
-  AreBehind heads l = (h : Label) → among h heads ≡ true → place_of w.body.blocks h ≤ place_of w.body.blocks l
+  AreBehind heads l = (h : Label) → among h heads ≡ true → place_of b.blocks h ≤ place_of b.blocks l
 
-  -- the head of a loop that the run is in: what stood when it was first come to on this path, and what the loop has left since then
-  pub record Passed (l : Label) (outer : List Label) (σ : Store) : Type 0 where
+  -- a prefix leads there, and its commands lead from the environment at the entry to this one
+  pub record Came (w : Setting) (heads : List Label) (at : At) (ρ : Env) : Type 0 where
+    pub commands : List Command
+    pub prefix : Prefix w heads at commands
+    pub moves : MovesAll (S s) commands ρ₀ ρ
+
+  pub came_on : {w : Setting} {heads inner : List Label} {at next : At} {ρ σ : Env} (c : Came w heads at ρ) (cs : List Command) → Prefix w inner next (c.commands ++ cs) → MovesAll (S s) cs ρ σ →
+      Came w inner next σ
+  came_on c cs prefix moves = record { commands = c.commands ++ cs; prefix = prefix; moves = then_moves (S s) c.moves moves }
+
+  -- what stood when the head of a loop that the run is in was first come to on this path
+  pub record FirstCome (l : Label) (outer : List Label) : Type 0 where
     pub block : Block
-    pub is_block : block_in w.body.blocks l ≡ Some block
+    pub is_block : block_in b.blocks l ≡ Some block
     pub head : Head
     pub is_head : block.head ≡ Some head
     pub nest : block.nest ≡ outer ++ l ∷ []
-    pub env : Env
-    pub store : Store
-    pub matches : Matches w.body (i l 0) store env
-    pub keeps : KeepsParams env
     pub heads : List Label
-    pub within : AllAmong block.nest heads
-    pub behind : AreBehind heads l
-    pub goals : List Goal
-    pub paths : ℕ
-    pub walks : Walks w heads block.statements block.end goals paths
-    pub hold : GoalsHold (at_no Θ w.body) env (seen_before (head_commands w.body w.init l head) goals)
-    pub unchanged : (x : ℕ) → loop_writes w.body l x ≡ false → i l 0 x ≡ true → σ x ≡ store x
+    pub fresh : among l heads ≡ false
+    pub within : AllAmong block.nest (l ∷ heads)
+    pub behind : AreBehind (l ∷ heads) l
+    pub env : Env
+    pub keeps : KeepsOutside env
+    pub came : Came (walked s f) heads (arrival l) env
+    pub walk : Walk
+    pub walks : Within (walked s f) (l ∷ heads) (start_of l) walk
+    pub hold : GoalsHold (S s) env (seen_before (head_commands b (walked s f).init l head) (met walk))
 
-  pub data Memories (σ : Store) : List Label → Type 0 where
-    none_around : Memories σ []
-    one_more : {outer : List Label} {l : Label} → Memories σ outer → Passed l outer σ → Memories σ (outer ++ l ∷ [])
+  -- the loop has left alone, since then, what it does not write and what is in the set
+  pub record Passed (l : Label) (outer : List Label) (set : Locals) (ρ : Env) : Type 0 where
+    pub first : FirstCome l outer
+    pub unchanged : (x : ℕ) (ty : Ty) → loop_writes b l x ≡ false → set x ≡ true → slice_get b.locals x ≡ Some ty → ρ (name_of b x) ≡ first.env (name_of b x)
 
-  -- no loop around writes where the stores differ
-  passed_kept : (l : Label) (outer : List Label) (σ τ : Store) → ((x : ℕ) → loop_writes w.body l x ≡ false → τ x ≡ σ x) → Passed l outer σ → Passed l outer τ
-  passed_kept l outer σ τ same p = record {
-    block = p.block;
-    is_block = p.is_block;
-    head = p.head;
-    is_head = p.is_head;
-    nest = p.nest;
-    env = p.env;
-    store = p.store;
-    matches = p.matches;
-    keeps = p.keeps;
-    heads = p.heads;
-    within = p.within;
-    behind = p.behind;
-    goals = p.goals;
-    paths = p.paths;
-    walks = p.walks;
-    hold = p.hold;
-    unchanged = λ x e inside. same x e ∙ p.unchanged x e inside;
-  }
+  pub data Memories (set : Locals) (ρ : Env) : List Label → Type 0 where
+    none_around : Memories set ρ []
+    one_more : {outer : List Label} {l : Label} → Memories set ρ outer → Passed l outer set ρ → Memories set ρ (outer ++ l ∷ [])
 
-  pub memories_kept : {σ τ : Store} {nest : List Label} → Memories σ nest → ((l : Label) (x : ℕ) → among l nest ≡ true → loop_writes w.body l x ≡ false → τ x ≡ σ x) → Memories τ nest
-  memories_kept none_around same = none_around
-  memories_kept {σ} {τ} (one_more {outer = outer} {l = l} m p) same =
-      one_more (memories_kept m (λ k x a e. same k x (among_front k outer (l ∷ []) a) e)) (passed_kept l outer σ τ (λ x e. same l x (among_last l outer) e) p)
+  -- a local that the loop does not write and that is initialised was so before, and its name has the value that it had
+  abbrev pub Keeps : Label → Locals → Env → Locals → Env → Type 0
+  Keeps l before ρ after σ = (x : ℕ) (ty : Ty) → loop_writes b l x ≡ false → after x ≡ true → slice_get b.locals x ≡ Some ty → (before x ≡ true) × (σ (name_of b x) ≡ ρ (name_of b x))
 
-  pub memories_front : {σ : Store} {nest : List Label} → Memories σ nest → (outer inner : List Label) → nest ≡ outer ++ inner → Memories σ outer
-  memories_front {σ} none_around outer inner e = subst (Memories σ) (sym (both_empty outer inner e)) none_around
-  memories_front {σ} (one_more {outer = o} {l = l} m p) outer [] e = subst (Memories σ) (e ∙ append_none outer) (one_more m p)
-  memories_front {σ} (one_more {outer = o} {l = l} m p) outer (x ∷ inner) e =
+  pub passed_kept : (l : Label) (outer : List Label) (before after : Locals) (ρ σ : Env) → Keeps l before ρ after σ → Passed l outer before ρ → Passed l outer after σ
+  passed_kept l outer before after ρ σ keeps p = record { first = p.first; unchanged = λ x ty e inside is_ty. let was = keeps x ty e inside is_ty in was.1 ∙ p.unchanged x ty e was.0 is_ty }
+
+  pub memories_kept : {before after : Locals} {ρ σ : Env} {nest : List Label} → Memories before ρ nest → ((l : Label) → among l nest ≡ true → Keeps l before ρ after σ) → Memories after σ nest
+  memories_kept none_around keeps = none_around
+  memories_kept {before} {after} {ρ} {σ} (one_more {outer = outer} {l = l} m p) keeps =
+      one_more (memories_kept m (λ k a. keeps k (among_front k outer (l ∷ []) a))) (passed_kept l outer before after ρ σ (keeps l (among_last l outer)) p)
+
+  pub memories_front : {set : Locals} {ρ : Env} {nest : List Label} → Memories set ρ nest → (outer inner : List Label) → nest ≡ outer ++ inner → Memories set ρ outer
+  memories_front {set} {ρ} none_around outer inner e = subst (Memories set ρ) (sym (both_empty outer inner e)) none_around
+  memories_front {set} {ρ} (one_more {outer = o} {l = l} m p) outer [] e = subst (Memories set ρ) (e ∙ append_none outer) (one_more m p)
+  memories_front {set} {ρ} (one_more {outer = o} {l = l} m p) outer (x ∷ inner) e =
       let last = last_of x inner in
       memories_front m outer last.0 (snoc_same o (outer ++ last.0) l last.1 (e ∙ ap (λ xs. outer ++ xs) last.2 ∙ sym (append_assoc outer last.0 (last.1 ∷ []))))
 
-  pub memories_find : {σ : Store} {nest : List Label} → Memories σ nest → (l : Label) → among l nest ≡ true → (outer : List Label) × Memories σ outer × Passed l outer σ
+  pub memories_find : {set : Locals} {ρ : Env} {nest : List Label} → Memories set ρ nest → (l : Label) → among l nest ≡ true → (outer : List Label) × Memories set ρ outer × Passed l outer set ρ
   memories_find none_around l e = absurd (cc)
-  memories_find {σ} (one_more {outer = o} {l = m} ms p) l e = elim (among_either l m o e) [
+  memories_find {set} {ρ} (one_more {outer = o} {l = m} ms p) l e = elim (among_either l m o e) [
     | inl a ↦ memories_find ms l a
-    | inr q ↦ (o, ms, subst (λ k. Passed k o σ) q p)
+    | inr q ↦ (o, ms, subst (λ k. Passed k o set ρ) q p)
   ]
 
   -- ---- edges
 
   -- how the run has come to a block, where these heads were passed
-  pub data Reached (σ : Store) (heads : List Label) (l : Label) : Type 0 where
-    onward : (to : Block) (outer : List Label) → block_in w.body.blocks l ≡ Some to → around l to outer → Memories σ outer → AllAmong outer heads → AreBehind heads l → (among l heads ≡ true → ⊥) → Reached σ heads l
-    backward : (to : Block) (h : Head) (outer : List Label) → block_in w.body.blocks l ≡ Some to → to.head ≡ Some h → among l heads ≡ true → Memories σ outer → Passed l outer σ → Reached σ heads l
+  pub data Reached (set : Locals) (ρ : Env) (heads : List Label) (l : Label) : Type 0 where
+    onward : (to : Block) (outer : List Label) → block_in b.blocks l ≡ Some to → around l to outer → Memories set ρ outer → AllAmong outer heads → AreBehind heads l → (among l heads ≡ true → ⊥) →
+        Reached set ρ heads l
+    backward : (to : Block) (h : Head) (outer : List Label) → block_in b.blocks l ≡ Some to → to.head ≡ Some h → among l heads ≡ true → Memories set ρ outer → Passed l outer set ρ →
+        Reached set ρ heads l
 
   too_far : (m n : ℕ) → m ≤ n → n < m → ⊥
   too_far m n h g = absurd (omega arith)
 
-  pub reached : (σ : Store) (heads : List Label) (l m : Label) (k : Block) → Memories σ k.nest → AllAmong k.nest heads → AreBehind heads l → Leads w.body l k m → Reached σ heads m
-  reached σ heads l m k ms within behind (on to is_to further enters) =
+  pub reached : (set : Locals) (ρ : Env) (heads : List Label) (l m : Label) (k : Block) → Memories set ρ k.nest → AllAmong k.nest heads → AreBehind heads l → Leads b l k m → Reached set ρ heads m
+  reached set ρ heads l m k ms within behind (on to is_to further enters) =
       onward to enters.outer is_to enters.is_around (memories_front ms enters.outer enters.inner enters.within)
       (λ h a. within h (subst (λ xs. among h xs ≡ true) (sym enters.within) (among_front h enters.outer enters.inner a)))
       (λ h a. omega (arith, behind h a, further))
-      (λ a. too_far (place_of w.body.blocks m) (place_of w.body.blocks l) (behind m a) further)
-  reached σ heads l m k ms within behind (back to h is_to is_head a) =
+      (λ a. too_far (place_of b.blocks m) (place_of b.blocks l) (behind m a) further)
+  reached set ρ heads l m k ms within behind (back to h is_to is_head a) =
       let found = memories_find ms m a in
       backward to h found.0 is_to is_head (within m a) found.1 found.2

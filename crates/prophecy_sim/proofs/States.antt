@@ -1,134 +1,108 @@
--- Runs of a program: the frames of a stack, each waiting for the answer of the call that it made.
-use Rattle.std.proofs.Common.{◌≡◌, ◌∙◌, sym, subst, ℕ, zero, suc, [], ◌∷◌, Some, slice_get}
-use Rattle.std.proofs.lemmas.Option.{same_Some}
-use Rattle.logic_term.specs.declared.obligation.Contract.{Contract}
-use Rattle.logic_term.specs.Meaning.{Env, Holds, structure_of}
-use Rattle.logic_term.specs.Theory.{Theory}
-use Rattle.logic_term.specs.Term.{Term}
-use Rattle.logic_term.specs.Ty.{no_tys}
-use Rattle.mir_ir.specs.declared.body.Body.{Body}
-use Rattle.mir_ir.specs.WellFormed.{AreSound, Labelling}
+-- Runs of a program: the frames of a state, each waiting for the answer of the call that it made.
+use Rattle.std.proofs.Common.{◌≡◌, sym, subst, ℕ, zero, suc, [], ◌∷◌, length}
+use Rattle.logic_term.specs.Meaning.{Env}
 use Rattle.mir_machine.specs.Frame.{Frame, State}
 use Rattle.mir_machine.specs.Step.{Outcome, Running, Returned, Panicked, Stuck, outcome_of, try_step, step, next, after_from, come_back}
-use Rattle.mir_machine.specs.Good.{Each, named}
-use Rattle.mir_machine.proofs.NeverStuck.{sound_wholes}
-use Rattle.prophecy_sim.specs.Programs.{Program, AreFunctions, Reaches, by_call, AreProvedFrom}
-use Rattle.prophecy_sim.proofs.Values.{T}
-use Rattle.prophecy_sim.proofs.Arguments.{values_of}
+use Rattle.mir_machine.specs.Tree.{Tree}
 use Rattle.mir_machine.specs.Try.{Try, Yields, Panics, Sticks}
-use Rattle.mir_machine.proofs.Locals.{FrameEnd, Stays, Calls, Answers, frame_step, settled, resumed}
+use Rattle.mir_machine.proofs.Locals.{FrameEnd, Stays, Calls, Answers, frame_step, settled, resumed, try_step-whole, come_back-whole}
+use Rattle.mir_machine.proofs.NeverStuck.{sound_wholes}
 use Rattle.mir_machine.proofs.Tried.{Quiet, quiet_then}
-use Rattle.mir_machine.proofs.Locals.{try_step-whole, come_back-whole}
-use Rattle.prophecy_sim.proofs.Runs.{Standing, IsAnswer, GoesOn, EndsFine, frame_comes}
+use Rattle.prophecy_sim.specs.Programs.{Reaches, by_call, by_use, AreProvedFrom, HasTrueObligations}
+use Rattle.prophecy_sim.specs.declared.node.Node.TheVariants.{Function}
+use Rattle.prophecy_sim.proofs.Setup.{Setup, FunctionOf, program, bodies, sound, own, walked}
+use Rattle.prophecy_sim.proofs.Standing.{Standing}
+use Rattle.prophecy_sim.proofs.Waits.{IsAnswer, Waiting, waiting_elsewhere, answer_comes}
+use Rattle.prophecy_sim.proofs.Ends.{EndsFine, CallsFine}
+use Rattle.prophecy_sim.proofs.Rows.{frame_comes}
 use Rattle.prophecy_sim.proofs.Begins.{begins}
-use Rattle.mir_ir.specs.declared.body.Bodies.{Bodies}
-use Rattle.mir_machine.specs.Code.{code_of}
-use Rattle.prophecy_sim.proofs.Functions.{sound_of}
 
-module _ (Θ : Theory) (program : Program) (labelling : ℕ → Labelling) (functions : AreFunctions program labelling)
-    (top : ℕ) (proved : AreProvedFrom Θ program top) (top_contract : Contract) (top_env : Env) (out : Frame (Unit {0})) where
-  abbrev bodies : Bodies
-  bodies = program.bodies
-
-  abbrev sound : AreSound bodies
-  sound = sound_of program labelling functions
-
-  -- the contract of the function
-  abbrev contract_of : (n : ℕ) (b : Body) → slice_get program.bodies.bodies n ≡ Some b → Contract
-  contract_of n b is_body = (functions n b is_body).contract
-
-  abbrev Answer : ℕ → Contract → Env → T → Type 0
-  Answer = IsAnswer Θ program.bodies
-
-  -- the frame stands in a call of a function that began in the environment
-  pub record Standing_in (f : Frame (Unit {0})) : Type 0 where
-    pub function : ℕ
-    pub reached : Reaches program.bodies top function
-    pub body : Body
-    pub is_body : slice_get program.bodies.bodies function ≡ Some body
+module _ {K : Type 0} (s : Setup K) (top : FunctionOf s) (proved : AreProvedFrom s.theory (program s) (Function top.number)) (top_env : Env) where
+  -- the frame stands in a call of a function that the first call may reach
+  pub record Runs (st : State K) (frame : ℕ) (g : Frame K) : Type 0 where
+    pub function : FunctionOf s
+    pub reached : Reaches (bodies s) (Function top.number) (Function function.number)
     pub env : Env
-    pub standing : Standing Θ program labelling functions function body is_body env f
+    pub standing : Standing s function env st frame g
 
-  -- the frame goes on with each answer of the function that it called
-  pub record Waiting (f : Frame (Unit {0})) (n : ℕ) (c : Contract) (ρ : Env) : Type 0 where
-    pub function : ℕ
-    pub reached : Reaches program.bodies top function
-    pub body : Body
-    pub is_body : slice_get program.bodies.bodies function ≡ Some body
+  -- the frame waits for the answer of a call that began in the environment
+  pub record Waits (st : State K) (frame : ℕ) (g : Frame K) (callee : FunctionOf s) (ρ : Env) : Type 0 where
+    pub function : FunctionOf s
+    pub reached : Reaches (bodies s) (Function top.number) (Function function.number)
     pub env : Env
-    pub goes_on : GoesOn Θ program labelling functions function body is_body env f n c ρ
+    pub waiting : Waiting s function env st frame g callee ρ
 
-  -- the frames behind a call of function n, which began in the environment
-  abbrev pub Stacked : ℕ → Contract → Env → State (Unit {0}) → Type 0
-  Stacked n c ρ [] = ⊥
-  Stacked n c ρ (o ∷ []) = (o ≡ out) × ((t : T) → Answer n c ρ t → Answer top top_contract top_env t)
-  Stacked n c ρ (f ∷ g ∷ fs) = (w : Waiting f n c ρ) × Stacked w.function (contract_of w.function w.body w.is_body) w.env (g ∷ fs)
+  -- in the state these frames stand behind a call of the function, which began in the environment; the first call is that of the outside
+  abbrev pub Stacked : State K → FunctionOf s → Env → State K → Type 0
+  Stacked st f ρ [] = ⊥
+  Stacked st f ρ (out ∷ []) = (f ≡ top) × (ρ ≡ top_env)
+  Stacked st f ρ (g ∷ h ∷ fs) = (w : Waits st (length (h ∷ fs)) g f ρ) × Stacked st w.function w.env (h ∷ fs)
 
-  abbrev pub StateFine : State (Unit {0}) → Type 0
+  abbrev pub StateFine : State K → Type 0
   StateFine [] = ⊥
-  StateFine (f ∷ fs) = (r : Standing_in f) × Stacked r.function (contract_of r.function r.body r.is_body) r.env fs
+  StateFine (g ∷ fs) = (r : Runs (g ∷ fs) (length fs) g) × Stacked (g ∷ fs) r.function r.env fs
 
-  abbrev pub OutcomeFine : Outcome (Unit {0}) → Type 0
-  OutcomeFine (Running s) = StateFine s
-  OutcomeFine (Returned s t) = Answer top top_contract top_env t
+  abbrev pub OutcomeFine : Outcome K → Type 0
+  OutcomeFine (Running st) = StateFine st
+  OutcomeFine (Returned st t) = IsAnswer s st top top_env t
   OutcomeFine (Panicked cause span) = ⊥
   OutcomeFine Stuck = Unit {0}
 
-  deeper : (n : ℕ) (c : Contract) (ρ : Env) (f : Frame (Unit {0})) (fs : State (Unit {0})) (w : Waiting f n c ρ) → Stacked w.function (contract_of w.function w.body w.is_body) w.env fs → Stacked n c ρ (f ∷ fs)
-  deeper n c ρ f [] w h = absurd h
-  deeper n c ρ f (g ∷ fs) w h = (w, h)
+  obligations_of : (f : FunctionOf s) → Reaches (bodies s) (Function top.number) (Function f.number) → HasTrueObligations s.theory (walked s f)
+  obligations_of f reached = proved f.number f.body (own s f).contract reached f.is_body (own s f).is_contract
 
-  back_fine : (n : ℕ) (c : Contract) (ρ : Env) (t : T) (fs : State (Unit {0})) → Answer n c ρ t → Stacked n c ρ fs → Quiet OutcomeFine (come_back bodies t fs)
-  back_fine n c ρ t [] a h = absurd h
-  back_fine n c ρ t (o ∷ []) a h = h.1 t a
-  back_fine n c ρ t (f ∷ g ∷ fs) a (w, h) =
-      subst (Quiet OutcomeFine) (sym (come_back-whole bodies t f g fs (sound_wholes bodies sound)))
-      (quiet_then (Standing Θ program labelling functions w.function w.body w.is_body w.env) OutcomeFine (resumed bodies t f) (λ k. Yields (Running (k ∷ g ∷ fs))) (w.goes_on t a)
-      (λ k standing. (record { function = w.function; reached = w.reached; body = w.body; is_body = w.is_body; env = w.env; standing = standing }, h)))
+  -- frames that wait in one state wait in another
+  stacked_elsewhere : (st u : State K) (f : FunctionOf s) (ρ : Env) (fs : State K) → Stacked st f ρ fs → Stacked u f ρ fs
+  stacked_elsewhere st u f ρ [] h = h
+  stacked_elsewhere st u f ρ (out ∷ []) h = h
+  stacked_elsewhere st u f ρ (g ∷ h ∷ fs) (w, rest) = (
+    record { function = w.function; reached = w.reached; env = w.env; waiting = waiting_elsewhere s w.function w.env u (length (h ∷ fs)) w.waiting },
+    stacked_elsewhere st u w.function w.env (h ∷ fs) rest,
+  )
 
-  settled_fine : (n : ℕ) → Reaches program.bodies top n → (b : Body) (is_body : slice_get program.bodies.bodies n ≡ Some b) (ρ : Env) (fs : State (Unit {0})) → Stacked n (contract_of n b is_body) ρ fs → (e : FrameEnd (Unit {0}))
-      → EndsFine Θ program labelling functions n b is_body ρ e → Quiet OutcomeFine (settled bodies fs e)
-  settled_fine n reached b is_body ρ fs h (Stays f) standing = (record { function = n; reached = reached; body = b; is_body = is_body; env = ρ; standing = standing }, h)
-  settled_fine n reached b is_body ρ fs h (Calls f g) (e, of_f, calls, goes_on) =
-      let reached' : Reaches program.bodies top e.function = by_call reached calls in
-      let own = functions e.function e.body e.is_body in
-      let same : e.contract ≡ own.contract = same_Some _ _ (sym e.is_contract ∙ own.is_contract) in
-      let pre = subst (λ (d : Contract). Each (λ (t : Term). Holds (structure_of Θ no_tys) t (named d.params (values_of e.args))) d.pre) same e.pre in
-      let start = begins Θ program labelling functions e.function e.body e.is_body (proved e.function e.body own.contract reached' e.is_body own.is_contract) e.args e.shaped pre in
-      let ρ' : Env = named own.contract.params (values_of e.args) in
-      let waiting : Waiting f e.function own.contract ρ' = record {
-        function = n;
-        reached = reached;
-        body = b;
-        is_body = is_body;
-        env = ρ;
-        goes_on = subst (λ (d : Contract). GoesOn Θ program labelling functions n b is_body ρ f e.function d (named d.params (values_of e.args))) same goes_on;
-      } in (
-        record { function = e.function; reached = reached'; body = e.body; is_body = e.is_body; env = ρ'; standing = subst (Standing Θ program labelling functions e.function e.body e.is_body ρ') (sym e.is_frame) start },
-        deeper e.function own.contract ρ' f fs waiting h,
+  answered : (st : State K) (f : FunctionOf s) (ρ : Env) (t : Tree K) (fs : State K) → IsAnswer s fs f ρ t → Stacked st f ρ fs → Quiet OutcomeFine (come_back (bodies s) t fs)
+  answered st f ρ t [] a h = absurd h
+  answered st f ρ t (out ∷ []) a h = subst (λ k. IsAnswer s (out ∷ []) k top_env t) h.0 (subst (λ σ. IsAnswer s (out ∷ []) f σ t) h.1 a)
+  answered st f ρ t (g ∷ h ∷ fs) a (w, rest) =
+      subst (Quiet OutcomeFine) (sym (come_back-whole (bodies s) t g h fs (sound_wholes (bodies s) (sound s))))
+      (quiet_then (λ k. Standing s w.function w.env (k ∷ h ∷ fs) (length (h ∷ fs)) k) OutcomeFine (resumed (bodies s) t g) (λ k. Yields (Running (k ∷ h ∷ fs)))
+      (answer_comes s w.function w.env st (length (h ∷ fs)) g f ρ w.waiting (g ∷ h ∷ fs) t a (h ∷ fs))
+      (λ k standing. (record { function = w.function; reached = w.reached; env = w.env; standing = standing }, stacked_elsewhere st (k ∷ h ∷ fs) w.function w.env (h ∷ fs) rest)))
+
+  called : (f : FunctionOf s) (ρ : Env) → Reaches (bodies s) (Function top.number) (Function f.number) → (st : State K) (g h : Frame K)
+      (fs : State K) → CallsFine s f ρ fs g h → Stacked st f ρ fs → StateFine (h ∷ g ∷ fs)
+  called f ρ reached st g h [] c stacked = absurd stacked
+  called f ρ reached st g h (k ∷ fs) c stacked =
+      let reached' : Reaches (bodies s) (Function top.number) (Function c.callee.number) = by_use reached (by_call c.calls) in (
+        record { function = c.callee; reached = reached'; env = c.env; standing = begins s c.callee (obligations_of c.callee reached') c.env h (h ∷ g ∷ k ∷ fs) c.begun (length (g ∷ k ∷ fs)) },
+        (record { function = f; reached = reached; env = ρ; waiting = c.waiting }, stacked_elsewhere st (h ∷ g ∷ k ∷ fs) f ρ (k ∷ fs) stacked),
       )
-  settled_fine n reached b is_body ρ fs h (Answers t) a = back_fine n (contract_of n b is_body) ρ t fs a h
 
-  of_try : (m : Try (Outcome (Unit {0}))) → Quiet OutcomeFine m → OutcomeFine (outcome_of m)
+  settled_fine : (st : State K) (f : FunctionOf s) (ρ : Env) → Reaches (bodies s) (Function top.number) (Function f.number) → (fs : State K) → Stacked st f ρ fs →
+      (e : FrameEnd K) → EndsFine s f ρ fs e →
+      Quiet OutcomeFine (settled (bodies s) fs e)
+  settled_fine st f ρ reached fs h (Stays g) standing = (record { function = f; reached = reached; env = ρ; standing = standing }, stacked_elsewhere st (g ∷ fs) f ρ fs h)
+  settled_fine st f ρ reached fs h (Calls g k) c = called f ρ reached st g k fs c h
+  settled_fine st f ρ reached fs h (Answers t) a = answered st f ρ t fs a h
+
+  of_try : (m : Try (Outcome K)) → Quiet OutcomeFine m → OutcomeFine (outcome_of m)
   of_try (Yields o) h = h
   of_try (Panics cause span) h = absurd h
   of_try Sticks h = tt
 
-  step_fine : (s : State (Unit {0})) → StateFine s → OutcomeFine (step (code_of bodies) s)
+  step_fine : (st : State K) → StateFine st → OutcomeFine (step s.code st)
   step_fine [] h = absurd h
-  step_fine (f ∷ fs) (r, h) =
-      of_try (try_step (code_of bodies) (f ∷ fs))
-      (subst (Quiet OutcomeFine) (sym (try_step-whole (code_of bodies) f fs (sound_wholes bodies sound)))
-      (quiet_then (EndsFine Θ program labelling functions r.function r.body r.is_body r.env) OutcomeFine (frame_step (code_of bodies) f) (settled bodies fs)
-      (frame_comes Θ program labelling functions r.function r.body r.is_body r.env f r.standing)
-      (settled_fine r.function r.reached r.body r.is_body r.env fs h)))
+  step_fine (g ∷ fs) (r, h) =
+      of_try (try_step s.code (g ∷ fs))
+      (subst (Quiet OutcomeFine) (sym (try_step-whole s.code g fs (sound_wholes (bodies s) (sound s))))
+      (quiet_then (EndsFine s r.function r.env fs) OutcomeFine (frame_step s.code g) (settled (bodies s) fs) (frame_comes s r.function r.env fs g r.standing) (settled_fine (g ∷ fs) r.function r.env r.reached fs h)))
 
-  next_fine : (o : Outcome (Unit {0})) → OutcomeFine o → OutcomeFine (next (code_of bodies) o)
-  next_fine (Running s) h = step_fine s h
-  next_fine (Returned s t) h = h
+  next_fine : (o : Outcome K) → OutcomeFine o → OutcomeFine (next s.code o)
+  next_fine (Running st) h = step_fine st h
+  next_fine (Returned st t) h = h
   next_fine (Panicked cause span) h = h
   next_fine Stuck h = h
 
-  pub run_fine : (n : ℕ) (o : Outcome (Unit {0})) → OutcomeFine o → OutcomeFine (after_from (code_of bodies) n o)
+  pub run_fine : (n : ℕ) (o : Outcome K) → OutcomeFine o → OutcomeFine (after_from s.code n o)
   run_fine zero o h = h
-  run_fine (suc n) o h = next_fine (after_from (code_of bodies) n o) (run_fine n o h)
+  run_fine (suc n) o h = next_fine (after_from s.code n o) (run_fine n o h)

@@ -15,11 +15,14 @@ use Rattle.mir_ir.specs.declared.body.Body.{Body}
 use Rattle.mir_ir.specs.Callees.{callee_of}
 use Rattle.mir_ir.specs.WellFormed.{IsTyped, Labelling, MeetsMoveRows}
 use Rattle.mir_machine.specs.Good.{Each, Good}
-use Rattle.wp_gen.specs.Walk.{Setting, AreObligations, is_gone}
+use Rattle.prophecy_logic.specs.Graph.{Setting, AreObligations}
+use Rattle.prophecy_logic.specs.Loop.{is_gone}
 use Rattle.mir_ir.specs.declared.body.Initialised.{Initialised}
 use Rattle.mir_ir.specs.Layout.{IsLaidOut}
 use Rattle.mir_ir.specs.declared.body.Bodies.{Bodies}
 use Rattle.mir_ir.specs.Names.{LocalsAreNamed, ContractSpeaks, HeadsSpeak}
+use Rattle.prophecy_sim.specs.declared.node.Node.{Node}
+use Rattle.prophecy_sim.specs.declared.node.Node.TheVariants.{Function}
 
 -- an integer type, `bool`, or the type of `()`
 abbrev pub IsScalar : Ty → Type 0
@@ -70,11 +73,10 @@ AreFunctions p labelling = (n : ℕ) (b : Body) → slice_get p.bodies.bodies n 
 pub record HasTrueObligations (Θ : Theory) (w : Setting) : Type 0 where
   pub first : ℕ
   pub obligations : List Obligation
-  pub paths : ℕ
-  pub are : AreObligations w first obligations paths
+  pub are : AreObligations w first obligations
   pub all_true : Each (IsTrueObligation Θ) obligations
 
--- ---- what a function may reach
+-- ---- what may be reached
 
 -- some block of body n ends with a call of function m
 pub record Calls (bodies : Bodies) (n m : ℕ) : Type 0 where
@@ -92,17 +94,21 @@ pub record Calls (bodies : Bodies) (n m : ℕ) : Type 0 where
   pub is_call : block.end.kind ≡ Call place callee types operands next
   pub is_callee : callee_of bodies callee ≡ Some m
 
--- what function f may reach by calls: the least set with f that is closed under them
-pub data Reaches (bodies : Bodies) (f : ℕ) : ℕ → Type 0 where
-  itself : Reaches bodies f f
-  by_call : {n m : ℕ} → Reaches bodies f n → Calls bodies n m → Reaches bodies f m
+-- the first node uses the second, so it rests on what the second owes
+pub data Uses (bodies : Bodies) : Node → Node → Type 0 where
+  by_call : {n m : ℕ} → Calls bodies n m → Uses bodies (Function n) (Function m)
 
--- the obligations of each function that f may reach are true
-abbrev pub AreProvedFrom : Theory → Program → ℕ → Type 0
-AreProvedFrom Θ p f = (n : ℕ) (b : Body) (d : Contract) → Reaches p.bodies f n → slice_get p.bodies.bodies n ≡ Some b → slice_get p.contracts n ≡ Some d
+-- what may be reached from a node: the least set with it that is closed under uses
+pub data Reaches (bodies : Bodies) (from : Node) : Node → Type 0 where
+  itself : Reaches bodies from from
+  by_use : {n m : Node} → Reaches bodies from n → Uses bodies n m → Reaches bodies from m
+
+-- the obligations of each function that may be reached from the node are true
+abbrev pub AreProvedFrom : Theory → Program → Node → Type 0
+AreProvedFrom Θ p from = (n : ℕ) (b : Body) (d : Contract) → Reaches p.bodies from (Function n) → slice_get p.bodies.bodies n ≡ Some b → slice_get p.contracts n ≡ Some d
     → HasTrueObligations Θ (setting p n b d)
 
 -- a function is good where all obligations of the functions that it may reach are true, whatever the declared types are
 abbrev pub TrueObligationsMakeGood : Type 0
 TrueObligationsMakeGood = (Θ : Theory) (p : Program) (labelling : ℕ → Labelling) → AreFunctions p labelling
-    → (f : ℕ) (c : Contract) → slice_get p.contracts f ≡ Some c → AreProvedFrom Θ p f → Good Θ p.bodies f c
+    → (f : ℕ) (c : Contract) → slice_get p.contracts f ≡ Some c → AreProvedFrom Θ p (Function f) → Good Θ p.bodies f c

@@ -5,14 +5,14 @@ use Rattle.std.proofs.lemmas.List.{drop_more, drop_all, append-nil, append_assoc
 use Rattle.text_core.specs.declared.refusal.Kind.{Kind}
 use Rattle.text_core.specs.declared.span.Span.{Span}
 use Rattle.logic_term.specs.Term.{Term}
-use Rattle.wp_gen.specs.declared.goal.Goal.{Goal}
+use Rattle.prophecy_logic.specs.declared.goal.Goal.{Goal}
 use Rattle.text_core.specs.declared.name.Name.{Name}
 use Rattle.logic_term.specs.declared.subst.Replacement.{Replacement}
 use Rattle.logic_term.specs.declared.obligation.Obligation.{Obligation}
 use Rattle.logic_term.specs.Ty.{Ty}
-use Rattle.wp_gen.specs.declared.command.Command.{Command}
-use Rattle.wp_gen.specs.State.{listed}
-use Rattle.wp_gen.specs.Walk.{first_span, each_goal, entries, parameters}
+use Rattle.prophecy_logic.specs.declared.command.Command.{Command}
+use Rattle.prophecy_logic.specs.State.{listed}
+use Rattle.prophecy_logic.specs.Walk.{first_span, each_goal, entries, parameters}
 
 shorter : (m n i : ℕ) → min m n ≤ i → (m ≤ i) ⊎ (n ≤ i)
 shorter m n i h = elim (cases_lt i m) [ inl below ↦ inr (omega arith) | inr above ↦ inl above ]

@@ -1,10 +1,4 @@
-pub mod Ahead
-pub mod Commands
 pub mod PathLaws
-pub mod Quotients
-pub mod Operations
 pub mod GoalLists
 pub mod WalkLaws
-pub mod ArriveLaws
 pub mod CountLaws
-pub mod ExistLaws

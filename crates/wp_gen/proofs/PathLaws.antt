@@ -3,7 +3,6 @@ use Rattle.std.proofs.Common.{◌≡◌, ◌∙◌, inl, inr, refl, sym, ap, sub
 use Rattle.logic_term.specs.declared.kinds.Label.{Label}
 use Rattle.mir_ir.specs.declared.place.Operand.{Operand}
 use Rattle.mir_ir.specs.declared.place.Place.{Place}
-use Rattle.mir_ir.specs.declared.statement.Statement.{Statement}
 use Rattle.logic_term.specs.Ty.{Ty}
 use Rattle.mir_ir.specs.declared.terminator.Callee.{Callee}
 use Rattle.mir_ir.specs.declared.terminator.Terminator.{Terminator}
@@ -12,17 +11,16 @@ use Rattle.mir_ir.specs.declared.terminator.TerminatorKind.TheVariants.{Goto, If
 use Rattle.mir_ir.specs.declared.body.Block.{Block}
 use Rattle.mir_ir.specs.declared.body.Body.{Body}
 use Rattle.mir_ir.specs.declared.body.Head.{Head}
+use Rattle.mir_ir.specs.declared.body.Point.{Point}
 use Rattle.mir_ir.specs.Body.{block_in}
 use Rattle.mir_ir.specs.Layout.{among, targets, place_of, around_of, Leads, on, back, IsLaidOut}
-use Rattle.wp_gen.specs.declared.goal.Goal.{Goal}
-use Rattle.wp_gen.specs.Walk.{Setting, Walks, Arrives}
-use Rattle.wp_gen.specs.Walk as walk
-use Rattle.wp_gen.specs.Walkable.{AllAmong}
+use Rattle.prophecy_logic.specs.Graph.{Setting, Within, Ends, Arrives}
+use Rattle.prophecy_logic.specs.Graph as walk
+use Rattle.prophecy_logic.specs.Walk.{Walk, paths}
+use Rattle.prophecy_logic.specs.Walkable.{AllAmong}
 use Rattle.wp_gen.specs.Paths.{IsEntered, passed, Paths, stopped, again, return, goto, call, branch, CountsAgree, WalksAreCounted, MayStand, CountsAlong, EndPaths, CountsFrom, IsCount}
-use Rattle.wp_gen.proofs.ArriveLaws.{either, or_true, among_append, among_front, same_label, room, found_place}
-
-some_same : {A : Type 0} {a b : A} → Some a ≡ Some b → a ≡ b
-some_same e = cc
+use Rattle.prophecy_logic.proofs.Steps.{some_same}
+use Rattle.prophecy_logic.proofs.ArriveLaws.{either, or_true, among_append, among_front, same_label, room, found_place}
 
 -- a count that is exact may also have stopped
 pub may_stop : {b : Body} {heads : List Label} {l : Label} {n : ℕ} → Paths false b heads l n → Paths true b heads l n
@@ -93,22 +91,27 @@ counts_agree b heads l m n exact more = at_most more exact
 -- ---- the walk's paths
 
 mutual
-  walk_counted : {w : Setting} {heads : List Label} {sts : List Statement} {end : Terminator} {gs : List Goal} {n : ℕ} → Walks w heads sts end gs n → EndPaths false w.body heads end.kind n
-  walk_counted (walk.statement rest) = walk_counted rest
-  walk_counted {w} {heads} {n = n} (walk.goto l e arrives) = subst (λ kind. EndPaths false w.body heads kind n) (sym e) (arrival_counted arrives)
-  walk_counted {w} {heads} (walk.branch {n = i} {m = j} o on_true on_false e one other) = subst (λ kind. EndPaths false w.body heads kind (i + j)) (sym e) (i, j, arrival_counted one, arrival_counted other, refl)
-  walk_counted {w} {heads} {n = n} (walk.call p callee types args l d t e is_d is_t arrives) = subst (λ kind. EndPaths false w.body heads kind n) (sym e) (arrival_counted arrives)
-  walk_counted {w} {heads} (walk.return e) = subst (λ kind. EndPaths false w.body heads kind 1) (sym e) refl
+  within_counted : {w : Setting} {heads : List Label} {p : Point} {v : Walk} → Within w heads p v → (k : Block) → block_in w.body.blocks p.label ≡ Some k → EndPaths false w.body heads k.end.kind (paths v)
+  within_counted (walk.by_statement st at r) k is = within_counted r k is
+  within_counted {w} {heads} {v = v} (walk.by_end end at e) k is =
+      subst (λ (t : Terminator). EndPaths false w.body heads t.kind (paths v)) (sym at.is_end ∙ ap (λ (j : Block). j.end) (some_same (sym at.is_block ∙ is))) (end_counted e)
 
-  arrival_counted : {w : Setting} {heads : List Label} {l : Label} {gs : List Goal} {n : ℕ} → Arrives w heads l gs n → Paths false w.body heads l n
-  arrival_counted {w} {heads} {l} {n = n} (walk.plain k is no_head walks) =
-      enters false w.body heads l k n is (subst (λ o. IsEntered o l heads) (sym no_head) tt) (subst (λ o. EndPaths false w.body (passed o l heads) k.end.kind n) (sym no_head) (walk_counted walks))
-  arrival_counted {w} {heads} {l} {n = n} (walk.first k h is is_head not_passed walks) =
-      enters false w.body heads l k n is (subst (λ o. IsEntered o l heads) (sym is_head) not_passed) (subst (λ o. EndPaths false w.body (passed o l heads) k.end.kind n) (sym is_head) (walk_counted walks))
+  end_counted : {w : Setting} {heads : List Label} {end : Terminator} {v : Walk} → Ends w heads end v → EndPaths false w.body heads end.kind (paths v)
+  end_counted {w} {heads} {v = v} (walk.goto l e a) = subst (λ kind. EndPaths false w.body heads kind (paths v)) (sym e) (arrival_counted a)
+  end_counted {w} {heads} {v = v} (walk.branch {u = a} {v = b} o on_true on_false e to_a to_b) =
+      subst (λ kind. EndPaths false w.body heads kind (paths v)) (sym e) (paths a, paths b, arrival_counted to_a, arrival_counted to_b, refl)
+  end_counted {w} {heads} {v = v} (walk.call p callee types args l d t e is_d is_t a) = subst (λ kind. EndPaths false w.body heads kind (paths v)) (sym e) (arrival_counted a)
+  end_counted {w} {heads} {v = v} (walk.return e) = subst (λ kind. EndPaths false w.body heads kind (paths v)) (sym e) refl
+
+  arrival_counted : {w : Setting} {heads : List Label} {l : Label} {v : Walk} → Arrives w heads l v → Paths false w.body heads l (paths v)
+  arrival_counted {w} {heads} {l} {v = v} (walk.plain k is no_head r) =
+      enters false w.body heads l k (paths v) is (subst (λ o. IsEntered o l heads) (sym no_head) tt) (subst (λ o. EndPaths false w.body (passed o l heads) k.end.kind (paths v)) (sym no_head) (within_counted r k is))
+  arrival_counted {w} {heads} {l} {v = v} (walk.first k h is is_head not_passed r) =
+      enters false w.body heads l k (paths v) is (subst (λ o. IsEntered o l heads) (sym is_head) not_passed) (subst (λ o. EndPaths false w.body (passed o l heads) k.end.kind (paths v)) (sym is_head) (within_counted r k is))
   arrival_counted (walk.again k h is is_head there) = again k h is is_head there
 
 pub walks_are_counted : WalksAreCounted
-walks_are_counted w m n os are = arrival_counted are.are_goals.arrives
+walks_are_counted w v a = arrival_counted a
 
 -- ---- along an edge
 

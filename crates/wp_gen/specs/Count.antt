@@ -6,11 +6,11 @@ use Rattle.mir_ir.specs.declared.statement.Statement.{Statement}
 use Rattle.mir_ir.specs.declared.body.Block.{Block}
 use Rattle.mir_ir.specs.declared.body.Body.{Body}
 use Rattle.mir_ir.specs.declared.body.Head.{Head}
-use Rattle.wp_gen.specs.declared.goal.Goal.{Goal}
+use Rattle.prophecy_logic.specs.Graph.{Setting, start_of, Within, Arrives, AreObligations}
+use Rattle.prophecy_logic.specs.Row.{goals_of}
+use Rattle.prophecy_logic.specs.Walk.{Walk, stop, row, fork}
+use Rattle.prophecy_logic.specs.Walkable.{CanWalk}
 use Rattle.wp_gen.specs.Paths.{MayStand}
-use Rattle.wp_gen.specs.Row.{goals_of}
-use Rattle.wp_gen.specs.Walk.{Setting, Walks, Arrives, AreObligations}
-use Rattle.wp_gen.specs.Walkable.{CanWalk}
 
 -- so much is left of the room after so many; none where there are more
 abbrev pub IsRoomLeft : ℕ → ℕ → Option ℕ → Type 0
@@ -20,6 +20,16 @@ IsRoomLeft room many None = room < many
 -- what is left after any such list
 abbrev pub LeavesRoom : {A : Type 0} → (List A → Type 0) → ℕ → Option ℕ → Type 0
 LeavesRoom Is room left = (xs : List _) → Is xs → IsRoomLeft room (length xs) left
+
+-- how many goals a walk has
+abbrev pub count : Walk → ℕ
+count stop = 0
+count (row gs cs v) = length gs + count v
+count (fork a b) = count a + count b
+
+-- what is left after the goals of any such walk
+abbrev pub LeavesRoomBehind : (Walk → Type 0) → ℕ → Option ℕ → Type 0
+LeavesRoomBehind Is room left = (v : Walk) → Is v → IsRoomLeft room (count v) left
 
 -- how many goals these statements have
 abbrev pub goals_within : Body → List Statement → ℕ
@@ -31,18 +41,18 @@ abbrev pub goals_of_head : Option Head → ℕ
 goals_of_head None = 0
 goals_of_head (Some h) = length h.invariants
 
--- the goals from a block's first statement on, along whatever way it was reached
-abbrev pub AreFrom : Setting → Label → List Goal → Type 0
-AreFrom w l gs = (heads : List Label) × (k : Block) × (n : ℕ) × MayStand w.body heads l k × Walks w heads k.statements k.end gs n
+-- what is left of a walk from a block's first statement on, along whatever way it was reached
+abbrev pub IsFrom : Setting → Label → Walk → Type 0
+IsFrom w l v = (heads : List Label) × (k : Block) × MayStand w.body heads l k × Within w heads (start_of l) v
 
--- the goals along the edge from the block of l to m
-abbrev pub AreAlong : Setting → Label → Label → List Goal → Type 0
-AreAlong w l m gs = (heads : List Label) × (k : Block) × (n : ℕ) × MayStand w.body heads l k × Arrives w heads m gs n
+-- what is left of it along the edge from the block of l to m
+abbrev pub IsAlong : Setting → Label → Label → Walk → Type 0
+IsAlong w l m v = (heads : List Label) × (k : Block) × MayStand w.body heads l k × Arrives w heads m v
 
 -- the obligations of the body, from some number on
 abbrev pub AreSomeObligations : Setting → List Obligation → Type 0
-AreSomeObligations w os = (m : ℕ) × (n : ℕ) × AreObligations w m os n
+AreSomeObligations w os = (m : ℕ) × AreObligations w m os
 
 -- each body that can be walked has obligations
 abbrev pub HaveObligations : Type 0
-HaveObligations = (w : Setting) (m : ℕ) → CanWalk w → (os : List Obligation) × (n : ℕ) × AreObligations w m os n
+HaveObligations = (w : Setting) (m : ℕ) → CanWalk w → (os : List Obligation) × AreObligations w m os

@@ -1,10 +1,5 @@
-pub mod Command
 pub mod Count
 pub mod Limits
 pub mod Paths
 pub mod Reached
-pub mod Row
-pub mod State
-pub mod StateCode
-pub mod Walk
-pub mod Walkable
+pub mod Setting

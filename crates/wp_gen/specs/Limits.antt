@@ -6,8 +6,9 @@ use Rattle.text_core.specs.declared.refusal.Limit.{Limit}
 use Rattle.text_core.specs.declared.refusal.LimitKind.TheVariants.{Paths, Obligations}
 use Rattle.logic_term.specs.declared.obligation.Obligation.{Obligation}
 use Rattle.wp_gen.specs.Count.{AreSomeObligations}
-use Rattle.wp_gen.specs.Paths.{HasPaths, HasMorePaths}
-use Rattle.wp_gen.specs.Walk.{Setting, AreObligations}
+use Rattle.wp_gen.specs.Paths.{HasMorePaths}
+use Rattle.prophecy_logic.specs.Graph.{Setting, AreObligations}
+use Rattle.prophecy_logic.specs.Walk.{paths}
 
 abbrev pub most_paths : ℕ
 most_paths = 1024
@@ -17,11 +18,8 @@ most_obligations = 1000000
 
 -- these are the obligations of the body from a number on, and neither they nor its paths are too many
 pub record HasFewObligations (w : Setting) (first : ℕ) (os : List Obligation) : Type 0 where
-  pub walked : ℕ
-  pub are : AreObligations w first os walked
-  pub paths : ℕ
-  pub have : HasPaths w.body [] w.body.entry paths
-  pub few_paths : paths ≤ most_paths
+  pub are : AreObligations w first os
+  pub few_paths : paths are.walk ≤ most_paths
   pub few : length os ≤ most_obligations
 
 -- the body has too many paths, or whatever obligations it has are too many

@@ -1,7 +1,6 @@
 -- The complete paths of a body, as the walk takes them: each ends at a return, or at a second arrival at a head.
 use Rattle.std.specs.Prelude.{◌≡◌, ℕ, ◌+◌, ◌≤◌, Bool, true, false, List, [], ◌∷◌, Option, Some, None}
 use Rattle.logic_term.specs.declared.kinds.Label.{Label}
-use Rattle.logic_term.specs.declared.obligation.Obligation.{Obligation}
 use Rattle.logic_term.specs.Ty.{Ty}
 use Rattle.mir_ir.specs.declared.place.Operand.{Operand}
 use Rattle.mir_ir.specs.declared.place.Place.{Place}
@@ -13,8 +12,9 @@ use Rattle.mir_ir.specs.declared.body.Body.{Body}
 use Rattle.mir_ir.specs.declared.body.Head.{Head}
 use Rattle.mir_ir.specs.Body.{block_in}
 use Rattle.mir_ir.specs.Layout.{among, place_of}
-use Rattle.wp_gen.specs.Walk.{Setting, AreObligations}
-use Rattle.wp_gen.specs.Walkable.{AllAmong}
+use Rattle.prophecy_logic.specs.Graph.{Setting, Arrives}
+use Rattle.prophecy_logic.specs.Walk.{Walk, paths}
+use Rattle.prophecy_logic.specs.Walkable.{AllAmong}
 
 -- the block is no head that was passed
 abbrev pub IsEntered : Option Head → Label → List Label → Type 0
@@ -50,9 +50,9 @@ HasMorePaths = Paths true
 abbrev pub CountsAgree : Type 0
 CountsAgree = (b : Body) (heads : List Label) (l : Label) (m n : ℕ) → HasPaths b heads l m → HasMorePaths b heads l n → n ≤ m
 
--- the number of paths of the walk that makes the obligations is the count
+-- the walk that makes the obligations has as many ends as are counted
 abbrev pub WalksAreCounted : Type 0
-WalksAreCounted = (w : Setting) (m n : ℕ) (os : List Obligation) → AreObligations w m os n → HasPaths w.body [] w.body.entry n
+WalksAreCounted = (w : Setting) (v : Walk) → Arrives w [] w.body.entry v → HasPaths w.body [] w.body.entry (paths v)
 
 -- ---- counting from a block on, along whatever way it was reached
 

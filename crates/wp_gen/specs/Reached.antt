@@ -8,36 +8,37 @@ use Rattle.mir_ir.specs.declared.place.Operand.{Operand}
 use Rattle.mir_ir.specs.declared.place.Place.{Place}
 use Rattle.mir_ir.specs.declared.statement.Statement.{Statement}
 use Rattle.mir_ir.specs.declared.terminator.Callee.{Callee}
-use Rattle.mir_ir.specs.declared.terminator.Terminator.{Terminator}
+use Rattle.mir_ir.specs.declared.body.Block.{Block}
+use Rattle.mir_ir.specs.declared.body.Body.{Body}
+use Rattle.mir_ir.specs.Body.{block_in}
 use Rattle.mir_ir.specs.Callees.{contract_at}
-use Rattle.wp_gen.specs.declared.command.Command.{Command}
-use Rattle.wp_gen.specs.declared.goal.Goal.{Goal}
+use Rattle.prophecy_logic.specs.declared.command.Command.{Command}
+use Rattle.prophecy_logic.specs.declared.goal.Goal.{Goal}
+use Rattle.prophecy_logic.specs.Graph.{Setting, start_of, Within, Arrives, goals_of_walk}
+use Rattle.prophecy_logic.specs.State.{Adds, Leads, closed_goals}
+use Rattle.prophecy_logic.specs.Walk.{goals_of_call, call_commands, Walk, met}
 use Rattle.wp_gen.specs.declared.reached.Reached.{Reached}
-use Rattle.wp_gen.specs.State.{Adds, Leads, met}
-use Rattle.wp_gen.specs.Walk.{Setting, Walks, Arrives, AreGoals, goals_of_call, call_commands}
 
 -- the walk comes from the first place to the second over a row with these goals and commands
 pub record IsOver (gs : List Goal) (cs : List Command) (from to : Reached) : Type 0 where
   pub goals : Adds from.state from.goals.items gs to.goals.items
   pub state : Leads from.state cs to.state
 
--- from the first statement on, all goals are those that were met, and behind them those of the walk
-pub record WalksOn (w : Setting) (heads : List Label) (sts : List Statement) (end : Terminator) (from : Reached) (all : List Goal) : Type 0 where
-  pub goals : List Goal
-  pub paths : ℕ
-  pub walks : Walks w heads sts end goals paths
-  pub adds : Adds from.state from.goals.items goals all
+-- all goals are those that were met, and behind them those of what is left of the walk
+pub record GoesOn (IsLeft : Walk → Type 0) (from : Reached) (all : List Goal) : Type 0 where
+  pub left : Walk
+  pub is_left : IsLeft left
+  pub adds : Adds from.state from.goals.items (met left) all
 
--- the same from the arrival at a block on
-pub record ArrivesOn (w : Setting) (heads : List Label) (l : Label) (from : Reached) (all : List Goal) : Type 0 where
-  pub goals : List Goal
-  pub paths : ℕ
-  pub arrives : Arrives w heads l goals paths
-  pub adds : Adds from.state from.goals.items goals all
+-- the statements are those of the block of the label
+pub record AreStatements (b : Body) (l : Label) (sts : List Statement) : Type 0 where
+  pub block : Block
+  pub is_block : block_in b.blocks l ≡ Some block
+  pub are : block.statements ≡ sts
 
--- over these statements, from the first place to the second
-pub record Passes (w : Setting) (sts rest : List Statement) (from to : Reached) : Type 0 where
-  pub walks : (heads : List Label) (end : Terminator) (all : List Goal) → WalksOn w heads rest end to all → WalksOn w heads sts end from all
+-- over the first n statements of the block of the label, from the first place to the second
+pub record Passes (w : Setting) (l : Label) (n : ℕ) (from to : Reached) : Type 0 where
+  pub walks : (heads : List Label) (all : List Goal) → GoesOn (Within w heads (record { label = l; statement = n })) to all → GoesOn (Within w heads (start_of l)) from all
 
 -- over a call
 pub record IsOverCall (w : Setting) (at : Span) (p : Place) (callee : Callee) (args : List Operand) (from to : Reached) : Type 0 where
@@ -49,7 +50,6 @@ pub record IsOverCall (w : Setting) (at : Span) (p : Place) (callee : Callee) (a
 
 -- the goals of the body with its contract, in normal form
 pub record AreMet (w : Setting) (all : List Goal) : Type 0 where
-  pub goals : List Goal
-  pub paths : ℕ
-  pub are : AreGoals w goals paths
-  pub are_met : all ≡ met [] goals
+  pub walk : Walk
+  pub arrives : Arrives w [] w.body.entry walk
+  pub are_met : all ≡ closed_goals [] (goals_of_walk w walk)

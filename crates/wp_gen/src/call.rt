@@ -1,15 +1,15 @@
 //! Calls: the callee's contract at the arguments.
 ghost use Rattle.std.specs.Prelude.{◌≡◌, ◌∷◌, [], ◌++◌, map, IfOk};
-ghost use Rattle.wp_gen.specs.Row.{operand_term};
+ghost use Rattle.prophecy_logic.specs.Row.{operand_term};
 ghost use Rattle.logic_term.specs.Subst.{with_terms};
-ghost use Rattle.wp_gen.specs.Walk.{entries, at_arguments, at_arguments_and_answer, goals_of_call, call_commands, assumed};
+ghost use Rattle.prophecy_logic.specs.Command.{assumed};
+ghost use Rattle.prophecy_logic.specs.Walk.{entries, at_arguments, at_arguments_and_answer, goals_of_call, call_commands};
 
-use crate::command::Command;
 use crate::formulas::all_at;
-use crate::goal::Goal;
 use crate::row::{name_of, operand_terms, value_name};
 use logic_term::{Contract, Replacement, Term, Ty};
 use mir_ir::{Body, Operand};
+use prophecy_logic::{Command, Goal};
 use std::alloc::Global;
 use text_core::{Kind, Name, NoMemory, Span};
 

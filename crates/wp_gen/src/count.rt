@@ -7,17 +7,18 @@ ghost use Rattle.mir_ir.specs.declared.body.Block.{Block as BlockValue};
 ghost use Rattle.mir_ir.specs.declared.body.Body.{Body as BodyValue};
 ghost use Rattle.mir_ir.specs.Body.{block_in};
 ghost use Rattle.mir_ir.specs.Layout.{among, targets};
-ghost use Rattle.wp_gen.specs.Count.{IsRoomLeft, LeavesRoom, goals_within, goals_of_head, AreFrom, AreAlong, AreSomeObligations};
-ghost use Rattle.wp_gen.specs.Row.{goals_of, goals_of_kind};
-ghost use Rattle.wp_gen.specs.Walk.{each_goal, goals_at_return};
-ghost use Rattle.wp_gen.specs.Walkable.{setting, CanWalk};
+ghost use Rattle.wp_gen.specs.Count.{IsRoomLeft, LeavesRoom, LeavesRoomBehind, goals_within, goals_of_head, IsFrom, IsAlong, AreSomeObligations};
+ghost use Rattle.prophecy_logic.specs.Row.{goals_of, goals_of_kind};
+ghost use Rattle.prophecy_logic.specs.Walk.{each_goal, goals_at_return};
+ghost use Rattle.prophecy_logic.specs.Walkable.{CanWalk};
+ghost use Rattle.wp_gen.specs.Setting.{setting};
 
-use crate::goal::Operation;
 use crate::head::among;
 use crate::row::{is_signed, kind_of_local, operation};
 use crate::walk::{Walk, contract_at};
 use logic_term::{Contract, Label};
 use mir_ir::{Block, Body, Head, Rvalue, Statement, StatementKind, TerminatorKind};
+use prophecy_logic::Operation;
 use source_kinds::IntKind;
 
 /// The most obligations of a source.
@@ -103,7 +104,7 @@ fn along(walk: &Walk<'_>, from: Label, block: &Block, to: Label, room: u32) -> O
     requires can { CanWalk (setting walk.now) }
     requires here { block_in walk.now.body.now.blocks from ≡ Some block.now }
     requires edge { among to (targets block.now.end.kind) ≡ true }
-    ensures { LeavesRoom (AreAlong (setting walk.now) from to) room result }
+    ensures { LeavesRoomBehind (IsAlong (setting walk.now) from to) room result }
 {
     let left = after_arrival(walk.body, to, room)?;
     if among(to, block.nest.as_slice()) {
@@ -117,7 +118,7 @@ fn along(walk: &Walk<'_>, from: Label, block: &Block, to: Label, room: u32) -> O
 fn from_block(walk: &Walk<'_>, label: Label, room: u32) -> Option<u32>
     requires can { CanWalk (setting walk.now) }
     requires there { (k : BlockValue) × (block_in walk.now.body.now.blocks label ≡ Some k) }
-    ensures { LeavesRoom (AreFrom (setting walk.now) label) room result }
+    ensures { LeavesRoomBehind (IsFrom (setting walk.now) label) room result }
 {
     let Some(block) = walk.body.block(label) else {
         unreachable!()

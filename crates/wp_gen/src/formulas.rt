@@ -1,9 +1,9 @@
 //! Goals from formulas.
 ghost use Rattle.std.specs.Prelude.{◌≡◌, drop, IfOk};
-ghost use Rattle.wp_gen.specs.Walk.{first_span, each_goal, all_at};
+ghost use Rattle.prophecy_logic.specs.Walk.{first_span, each_goal, all_at};
 
-use crate::goal::Goal;
 use logic_term::Term;
+use prophecy_logic::Goal;
 use std::alloc::Global;
 use text_core::{Kind, NoMemory, Span};
 

@@ -1,17 +1,18 @@
-//! Loop heads: what a loop writes, or moves out of, has new values there.
+//! Loop heads: what a loop touches has new values there.
 ghost use Rattle.std.specs.Prelude.{◌≡◌, ◌∷◌, [], ◌++◌, ◌==◌, ◌||◌, ◌&&◌, map, length, IfOk};
 ghost use Rattle.std.specs.List.{list_any};
 ghost use Rattle.mir_ir.specs.Layout.{among};
-ghost use Rattle.wp_gen.specs.Walk.{is_in_loop, moves, rvalue_moves, writes, end_writes, block_writes, loop_writes, is_whole, is_gone, is_renewed, picked, renewed, assumed, head_commands};
+ghost use Rattle.prophecy_logic.specs.Command.{assumed};
+ghost use Rattle.prophecy_logic.specs.Loop.{is_in_loop, moves, rvalue_moves, writes, end_writes, block_writes, loop_writes, touched, touched_there, is_whole, is_gone, renewal, renewals, head_commands};
 
 use crate::call::with_assumed;
-use crate::command::Command;
 use crate::row::name_of;
 use logic_term::{Label, Ty};
 use mir_ir::{
     Block, Body, Head, Initialised, Operand, Place, Point, Rvalue, Statement, StatementKind,
     TerminatorKind,
 };
+use prophecy_logic::{Command, Touch};
 use std::alloc::Global;
 use text_core::{Items, NoMemory};
 
@@ -142,10 +143,46 @@ fn is_gone(init: &Initialised, label: Label, x: u32) -> bool
         .any(|entry| is_gone_at(label, x, entry.0, &entry.1))
 }
 
-fn is_renewed(body: &Body, init: &Initialised, head: Label, x: u32) -> bool
-    ensures { result ≡ is_renewed body.now init.now head x }
+/// What the loop of the head does to the local.
+fn touched(body: &Body, head: Label, x: u32) -> Touch
+    ensures { result ≡ touched body.now head x }
 {
-    loop_writes(body, head, x) && !is_gone(init, head, x)
+    if loop_writes(body, head, x) {
+        Touch::Whole
+    } else {
+        Touch::Untouched
+    }
+}
+
+/// What the loop of the head does to the local, as far as it is there at the head.
+fn touched_there(body: &Body, init: &Initialised, head: Label, x: u32) -> Touch
+    ensures { result ≡ touched_there body.now init.now head x }
+{
+    if is_gone(init, head, x) {
+        return Touch::Untouched;
+    }
+    touched(body, head, x)
+}
+
+/// What a head does to a local of the type, behind other commands.
+fn with_renewal(
+    alloc: Global,
+    first: Vec<Command>,
+    body: &Body,
+    touch: Touch,
+    x: u32,
+    ty: &Ty,
+) -> Result<Vec<Command>, NoMemory>
+    ensures { IfOk result (λ v. v.items ≡ first.items ++ renewal body.now touch x ty.now) }
+{
+    match touch {
+        Touch::Untouched => Ok(first),
+        Touch::Whole => {
+            let mut all = first;
+            all.push(Command::Fresh(name_of(body, x), ty.copy(alloc)?))?;
+            Ok(all)
+        }
+    }
 }
 
 /// The commands at a loop head.
@@ -161,9 +198,8 @@ pub(crate) fn head_commands(
     let mut commands = Vec::new(alloc);
     let mut x: u32 = 0;
     for ty in body.locals.as_slice() {
-        if is_renewed(body, init, label, x) {
-            commands.push(Command::Fresh(name_of(body, x), ty.copy(alloc)?))?;
-        }
+        let touch = touched_there(body, init, label, x);
+        commands = with_renewal(alloc, commands, body, touch, x, ty)?;
         x = x.checked_add(1).ok_or(NoMemory)?;
     }
     with_assumed(alloc, commands, head.invariants.as_slice())

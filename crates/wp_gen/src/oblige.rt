@@ -1,22 +1,22 @@
 //! The obligations of a body.
-ghost use Rattle.std.specs.Prelude.{◌≡◌, ◌∷◌, [], ◌++◌, ℕ, IfOk, IfErr, drop};
-ghost use Rattle.wp_gen.specs.Walk.{parameters, stored, entry_commands, AreObligations};
-ghost use Rattle.wp_gen.specs.State.{listed};
+ghost use Rattle.std.specs.Prelude.{◌≡◌, ◌∷◌, [], ◌++◌, IfOk, IfErr, drop};
+ghost use Rattle.prophecy_logic.specs.Graph.{AreObligations};
+ghost use Rattle.prophecy_logic.specs.Walk.{parameters, stored, entry_commands};
+ghost use Rattle.prophecy_logic.specs.State.{listed};
 ghost use Rattle.wp_gen.specs.Reached.{AreMet};
 ghost use Rattle.wp_gen.specs.Limits.{HasFewObligations, RefusesWalk};
-ghost use Rattle.wp_gen.specs.Walkable.{setting, CanWalk};
+ghost use Rattle.prophecy_logic.specs.Walkable.{CanWalk};
+ghost use Rattle.wp_gen.specs.Setting.{setting};
 
 use crate::call::with_assumed;
-use crate::command::Command;
 use crate::count::{OBLIGATIONS, room_after};
-use crate::goal::MetGoal;
 use crate::paths::check_paths;
 use crate::reached::Reached;
 use crate::row::name_of;
-use crate::state::State;
 use crate::walk::{Walk, goals_from_entry};
 use logic_term::{Contract, Obligation, Term, Ty};
 use mir_ir::Body;
+use prophecy_logic::{Command, MetGoal, State};
 use std::alloc::Global;
 use text_core::{Items, Limit, LimitKind, Name, NoMemory, PassError, Text};
 
@@ -129,7 +129,7 @@ pub fn counted_obligations(
     first: u32,
 ) -> Result<Vec<Obligation>, NoMemory>
     requires { CanWalk (setting walk.now) }
-    ensures { IfOk result (λ v. (n : ℕ) × AreObligations (setting walk.now) first v.items n) }
+    ensures { IfOk result (λ v. AreObligations (setting walk.now) first v.items) }
 {
     let goals = goals(alloc, walk)?;
     listed(alloc, &walk.body.owner, first, goals)

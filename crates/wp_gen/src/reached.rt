@@ -1,20 +1,19 @@
 //! Where a walk stands, and how it comes over rows.
-ghost use Rattle.std.specs.Prelude.{[], IfOk};
-ghost use Rattle.wp_gen.specs.Row.{goals_of, commands_of};
-ghost use Rattle.wp_gen.specs.Walk.{where_true, where_false};
-ghost use Rattle.wp_gen.specs.Walkable.{setting, IsKnown};
-ghost use Rattle.wp_gen.specs.State.{Adds};
-ghost use Rattle.wp_gen.specs.Reached.{IsOver, IsOverCall, Passes};
+ghost use Rattle.std.specs.Prelude.{[], length, IfOk};
+ghost use Rattle.prophecy_logic.specs.Row.{goals_of, commands_of};
+ghost use Rattle.prophecy_logic.specs.Walk.{where_true, where_false};
+ghost use Rattle.prophecy_logic.specs.Walkable.{IsKnown};
+ghost use Rattle.wp_gen.specs.Setting.{setting};
+ghost use Rattle.prophecy_logic.specs.State.{Adds};
+ghost use Rattle.wp_gen.specs.Reached.{AreStatements, IsOver, IsOverCall, Passes};
 
 use crate::call::{call_commands, goals_of_call};
-use crate::command::Command;
-use crate::goal::{Goal, MetGoal};
 use crate::row::{goals_of, operand_term};
-use crate::state::State;
 use crate::step::commands_of;
 use crate::walk::{Walk, contract_at};
-use logic_term::Term;
+use logic_term::{Label, Term};
 use mir_ir::{Body, Callee, Operand, Place, Statement};
+use prophecy_logic::{Command, Goal, MetGoal, State};
 use std::alloc::Global;
 use text_core::{NoMemory, Span};
 
@@ -71,14 +70,16 @@ fn over_statement(
     over(alloc, reached, owed.as_slice(), commands.as_slice())
 }
 
-/// Over the statements, in order.
+/// Over the statements of the block of the label, in order.
 pub(crate) fn over_statements(
     alloc: Global,
     walk: &Walk<'_>,
+    label: Label,
     statements: &[Statement],
     reached: Reached,
 ) -> Result<Reached, NoMemory>
-    ensures { IfOk result (Passes (setting walk.now) statements.now [] reached) }
+    requires { AreStatements walk.now.body.now label statements.now }
+    ensures { IfOk result (Passes (setting walk.now) label (length statements.now) reached) }
 {
     let mut here = reached;
     for statement in statements {

@@ -3,11 +3,11 @@ ghost use Rattle.std.specs.Prelude.{◌≡◌, ◌∷◌, [], ◌++◌, map, IfO
 ghost use Rattle.logic_term.specs.Ty.{math_int};
 ghost use Rattle.logic_term.specs.Term.{is_at_most, is_equal, lit};
 ghost use Rattle.mir_ir.specs.Body.{kind_of, kind_in};
-ghost use Rattle.wp_gen.specs.Row.{value_name, name_of, operand_term, integer_term, in_range, is_signed, not_zero, not_least_by_minus_one, operation, division, overflow, if_signed, goals_of_operation, goals_of_kind, goals_of};
+ghost use Rattle.prophecy_logic.specs.Row.{value_name, name_of, operand_term, integer_term, in_range, is_signed, not_zero, not_least_by_minus_one, operation, division, overflow, if_signed, goals_of_operation, goals_of_kind, goals_of};
 
-use crate::goal::{Goal, Operation};
 use logic_term::{Term, Ty, TyNode};
 use mir_ir::{Body, Lit, Operand, Rvalue, StatementKind};
+use prophecy_logic::{Goal, Operation};
 use source_kinds::{ArithOp, BinaryOp, IntKind};
 use std::alloc::Global;
 use text_core::{Kind, Name, NoMemory, Span};
@@ -15,7 +15,7 @@ use text_core::{Kind, Name, NoMemory, Span};
 // ---- names and operands
 
 /// The name of a new value, which no local and no contract has.
-#[tactic(auto, unfolding(crate::specs::Row::value_name))]
+#[tactic(auto, unfolding(prophecy_logic::specs::Row::value_name))]
 pub(crate) fn value_name() -> Name
     ensures { result ≡ value_name }
 {
@@ -103,7 +103,7 @@ fn equals(alloc: Global, t: Term, number: i128) -> Result<Term, NoMemory>
     Term::equal(alloc, t, number)
 }
 
-#[tactic(auto, unfolding(crate::specs::Row::in_range))]
+#[tactic(auto, unfolding(prophecy_logic::specs::Row::in_range))]
 fn in_range(alloc: Global, kind: IntKind, number: &Term) -> Result<Term, NoMemory>
     ensures { IfOk result (λ t. t ≡ in_range kind number.now) }
 {
@@ -112,7 +112,7 @@ fn in_range(alloc: Global, kind: IntKind, number: &Term) -> Result<Term, NoMemor
     Term::and(alloc, above, below)
 }
 
-#[tactic(auto, unfolding(crate::specs::Row::is_signed))]
+#[tactic(auto, unfolding(prophecy_logic::specs::Row::is_signed))]
 pub(crate) fn is_signed(kind: IntKind) -> bool
     ensures { result ≡ is_signed kind }
 {
@@ -122,7 +122,7 @@ pub(crate) fn is_signed(kind: IntKind) -> bool
     }
 }
 
-#[tactic(auto, unfolding(crate::specs::Row::not_zero))]
+#[tactic(auto, unfolding(prophecy_logic::specs::Row::not_zero))]
 fn not_zero(alloc: Global, divisor: Term) -> Result<Term, NoMemory>
     ensures { IfOk result (λ t. t ≡ not_zero divisor) }
 {
@@ -130,7 +130,7 @@ fn not_zero(alloc: Global, divisor: Term) -> Result<Term, NoMemory>
     Term::not(alloc, zero)
 }
 
-#[tactic(auto, unfolding(crate::specs::Row::not_least_by_minus_one))]
+#[tactic(auto, unfolding(prophecy_logic::specs::Row::not_least_by_minus_one))]
 fn not_least_by_minus_one(alloc: Global, kind: IntKind, a: Term, b: Term) -> Result<Term, NoMemory>
     ensures { IfOk result (λ t. t ≡ not_least_by_minus_one kind a b) }
 {

@@ -2,15 +2,14 @@
 ghost use Rattle.std.specs.Prelude.{◌≡◌, ◌∷◌, [], IfOk, Some, None, Option, slice_get};
 ghost use Rattle.logic_term.specs.Term.{model, var, is_less, is_at_most, is_equal};
 ghost use Rattle.mir_ir.specs.Body.{kind_in};
-ghost use Rattle.wp_gen.specs.Row.{name_of, operand_term, operand_ty, integer_term, compared_ty, equality, comparison, of_arithmetic, of_comparison, operation, new_integer, of_operation, of_negation, of_rvalue, commands_of};
+ghost use Rattle.prophecy_logic.specs.Row.{name_of, operand_term, operand_ty, integer_term, compared_ty, equality, comparison, of_arithmetic, of_comparison, operation, new_integer, of_operation, of_negation, of_rvalue, commands_of};
 
-use crate::command::Command;
-use crate::goal::Operation;
 use crate::row::{
     integer_term, kind_of_local, name_of, operand_term, operand_terms, operation, value_name,
 };
 use logic_term::{Term, Ty, TyNode};
 use mir_ir::{Body, Lit, Operand, Rvalue, StatementKind};
+use prophecy_logic::{Command, Compared, Operation};
 use source_kinds::{ArithOp, BinaryOp, IntKind};
 use std::alloc::Global;
 use text_core::{Name, NoMemory};
@@ -49,13 +48,6 @@ fn new_integer(
     commands.push(Command::Assume(known))?;
     commands.push(Command::Set(name_of(body, x), Term::var(alloc, value)?))?;
     Ok(commands)
-}
-
-/// What is compared: two truth values, or two integers.
-#[derive(Clone, Copy)]
-pub enum Compared {
-    Truths,
-    Integers,
 }
 
 fn compared_of(ty: &Ty) -> Compared

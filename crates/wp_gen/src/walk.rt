@@ -1,17 +1,18 @@
 //! The walk of a body's paths.
 ghost use Rattle.std.specs.Prelude.{◌≡◌, ◌∷◌, [], false, drop, map, Some, IfOk};
-ghost use Rattle.text_core.specs.declared.refusal.Kind.TheVariants.{InvEntry, InvKept};
 ghost use Rattle.logic_term.specs.declared.obligation.Contract.{Contract as ContractValue};
 ghost use Rattle.mir_ir.specs.Body.{block_in};
 ghost use Rattle.mir_ir.specs.Callees.{contract_at};
 ghost use Rattle.mir_ir.specs.Layout.{among};
-ghost use Rattle.wp_gen.specs.Walk.{at_answer, goals_at_return, each_goal, head_commands};
-ghost use Rattle.wp_gen.specs.Walkable.{setting, CanWalk, MayArrive, MayWalk};
-ghost use Rattle.wp_gen.specs.State.{Adds};
-ghost use Rattle.wp_gen.specs.Reached.{IsOver, WalksOn, ArrivesOn};
+ghost use Rattle.prophecy_logic.specs.Graph.{start_of, Within, Ends, Arrives};
+ghost use Rattle.prophecy_logic.specs.Loop.{head_commands};
+ghost use Rattle.prophecy_logic.specs.Walk.{at_answer, goals_at_return, goals_at_entry, goals_after_turn};
+ghost use Rattle.prophecy_logic.specs.Walkable.{CanWalk, MayArrive, MayWalk};
+ghost use Rattle.wp_gen.specs.Setting.{setting};
+ghost use Rattle.prophecy_logic.specs.State.{Adds};
+ghost use Rattle.wp_gen.specs.Reached.{IsOver, GoesOn};
 
 use crate::formulas::each_goal;
-use crate::goal::{Goal, MetGoal};
 use crate::head::{among, head_commands};
 use crate::reached::{
     Reached, over, over_call, over_statements, to_false_side, to_true_side, with_goals_at,
@@ -19,6 +20,7 @@ use crate::reached::{
 use crate::row::name_of;
 use logic_term::{Contract, Label, Term};
 use mir_ir::{Block, Body, Callee, FnId, Head, Initialised, TerminatorKind};
+use prophecy_logic::{Goal, MetGoal};
 use std::alloc::Global;
 use text_core::{Kind, NoMemory, Span};
 
@@ -83,7 +85,7 @@ fn enter_loop(
     head: &Head,
     reached: Reached,
 ) -> Result<Reached, NoMemory>
-    ensures { IfOk result (IsOver (each_goal InvEntry head.now.invariants head.now.spans) (head_commands walk.now.body.now walk.now.init.now label head.now) reached) }
+    ensures { IfOk result (IsOver (goals_at_entry head.now) (head_commands walk.now.body.now walk.now.init.now label head.now) reached) }
 {
     let invariants = head.invariants.as_slice();
     let owed = each_goal(alloc, Kind::InvEntry, invariants, head.spans.as_slice())?;
@@ -93,7 +95,7 @@ fn enter_loop(
 
 /// The goals of an arrival at a head that was passed: each invariant.
 fn arrive_again(alloc: Global, head: &Head, reached: Reached) -> Result<Vec<MetGoal>, NoMemory>
-    ensures { IfOk result (λ v. Adds reached.state reached.goals.items (each_goal InvKept head.now.invariants head.now.spans) v.items) }
+    ensures { IfOk result (λ v. Adds reached.state reached.goals.items (goals_after_turn head.now) v.items) }
 {
     let invariants = head.invariants.as_slice();
     let owed = each_goal(alloc, Kind::InvKept, invariants, head.spans.as_slice())?;
@@ -134,7 +136,7 @@ fn end_goals(
 ) -> Result<Vec<MetGoal>, NoMemory>
     requires can { CanWalk (setting walk.now) }
     requires here { MayWalk (setting walk.now) heads.now label block.now }
-    ensures { IfOk result (λ v. WalksOn (setting walk.now) heads.now [] block.now.end reached v.items) }
+    ensures { IfOk result (λ v. GoesOn (Ends (setting walk.now) heads.now block.now.end) reached v.items) }
 {
     match &block.end.kind {
         TerminatorKind::Goto(next) => arrive(alloc, walk, heads, *next, reached),
@@ -167,9 +169,9 @@ fn block_goals(
 ) -> Result<Vec<MetGoal>, NoMemory>
     requires can { CanWalk (setting walk.now) }
     requires here { MayWalk (setting walk.now) heads.now label block.now }
-    ensures { IfOk result (λ v. WalksOn (setting walk.now) heads.now block.now.statements block.now.end reached v.items) }
+    ensures { IfOk result (λ v. GoesOn (Within (setting walk.now) heads.now (start_of label)) reached v.items) }
 {
-    let end = over_statements(alloc, walk, block.statements.as_slice(), reached)?;
+    let end = over_statements(alloc, walk, label, block.statements.as_slice(), reached)?;
     end_goals(alloc, walk, heads, label, block, end)
 }
 
@@ -189,7 +191,7 @@ fn first_arrival(
     requires block { block_in walk.now.body.now.blocks label ≡ Some block.now }
     requires head { block.now.head ≡ Some head.now }
     requires not_passed { among label heads.now ≡ false }
-    ensures { IfOk result (λ v. ArrivesOn (setting walk.now) heads.now label reached v.items) }
+    ensures { IfOk result (λ v. GoesOn (Arrives (setting walk.now) heads.now label) reached v.items) }
 {
     let inside = enter_loop(alloc, walk, label, head, reached)?;
     let passed = with_label(alloc, label, heads)?;
@@ -207,7 +209,7 @@ fn arrive(
 ) -> Result<Vec<MetGoal>, NoMemory>
     requires can { CanWalk (setting walk.now) }
     requires here { MayArrive (setting walk.now) heads.now label }
-    ensures { IfOk result (λ v. ArrivesOn (setting walk.now) heads.now label reached v.items) }
+    ensures { IfOk result (λ v. GoesOn (Arrives (setting walk.now) heads.now label) reached v.items) }
 {
     let Some(block) = walk.body.block(label) else {
         unreachable!()
@@ -230,7 +232,7 @@ pub(crate) fn goals_from_entry(
     reached: Reached,
 ) -> Result<Vec<MetGoal>, NoMemory>
     requires { CanWalk (setting walk.now) }
-    ensures { IfOk result (λ v. ArrivesOn (setting walk.now) [] walk.now.body.now.entry reached v.items) }
+    ensures { IfOk result (λ v. GoesOn (Arrives (setting walk.now) [] walk.now.body.now.entry) reached v.items) }
 {
     arrive(alloc, walk, &[], walk.body.entry, reached)
 }

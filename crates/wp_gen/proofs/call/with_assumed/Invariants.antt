@@ -1,5 +1,5 @@
 use Rattle.std.proofs.Common.{◌≡◌, ◌++◌, take}
-use Rattle.wp_gen.specs.Walk.{assumed}
+use Rattle.prophecy_logic.specs.Command.{assumed}
 use Rattle.wp_gen.proofs.call.with_assumed.Given as goal
 
 abbrev pub invariant-loop-term : goal.invariant-loop-term

@@ -1,5 +1,5 @@
 use Rattle.std.proofs.Common.{◌≡◌, ◌++◌, drop}
-use Rattle.wp_gen.specs.Walk.{entries}
+use Rattle.prophecy_logic.specs.Walk.{entries}
 use Rattle.wp_gen.proofs.call.with_entries.Given as goal
 
 abbrev pub invariant-loop-i : goal.invariant-loop-i

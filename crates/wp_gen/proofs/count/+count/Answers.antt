@@ -1,8 +1,8 @@
 use Rattle.std.proofs.Common.{◌∙◌, sym, ap, subst, Some, None, arith}
 use Rattle.mir_ir.specs.Layout.{among}
 use Rattle.wp_gen.specs.Count.{IsRoomLeft, goals_within}
-use Rattle.wp_gen.specs.Walkable.{setting}
-use Rattle.wp_gen.proofs.ArriveLaws.{goto_names, if_names_yes, if_names_no, call_names}
+use Rattle.wp_gen.specs.Setting.{setting}
+use Rattle.prophecy_logic.proofs.ArriveLaws.{goto_names, if_names_yes, if_names_no, call_names}
 use Rattle.wp_gen.proofs.CountLaws.{back_leaves, arrival_is_full, on_leaves, from_here, statements_are_many, goto_leaves, branch_leaves, branch_is_full, call_leaves, call_is_full, return_leaves, same_room}
 use Rattle.wp_gen.proofs.PathLaws.{next_block, has_room}
 use Rattle.wp_gen.proofs.count.+count.Goals as goal

@@ -1,4 +1,4 @@
-use Rattle.wp_gen.specs.Walkable.{setting}
+use Rattle.wp_gen.specs.Setting.{setting}
 use Rattle.wp_gen.proofs.CountLaws.{entry_leaves, entry_is_full}
 use Rattle.wp_gen.proofs.count.room_after.Goals as goal
 

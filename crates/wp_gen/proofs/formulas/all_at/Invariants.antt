@@ -1,5 +1,5 @@
 use Rattle.std.proofs.Common.{◌≡◌, take}
-use Rattle.wp_gen.specs.Walk.{all_at}
+use Rattle.prophecy_logic.specs.Walk.{all_at}
 use Rattle.wp_gen.proofs.formulas.all_at.Given as goal
 
 abbrev pub invariant-loop-term : goal.invariant-loop-term

@@ -1,5 +1,5 @@
 use Rattle.std.proofs.Common.{◌≡◌, ◌++◌, drop}
-use Rattle.wp_gen.specs.Walk.{each_goal}
+use Rattle.prophecy_logic.specs.Walk.{each_goal}
 use Rattle.wp_gen.proofs.formulas.each_goal.Given as goal
 
 abbrev pub invariant-loop-i : goal.invariant-loop-i

@@ -1,4 +1,4 @@
-use Rattle.wp_gen.proofs.ExistLaws.{have_obligations}
+use Rattle.wp_gen.proofs.CountLaws.{have_obligations}
 use Rattle.wp_gen.proofs.laws.obligations_exist.Goals as goal
 
 pub returns : goal.returns

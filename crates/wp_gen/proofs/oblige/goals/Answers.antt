@@ -1,5 +1,5 @@
 use Rattle.std.proofs.lemmas.Result.{IfOk-weaker}
-use Rattle.wp_gen.specs.Walkable.{setting}
+use Rattle.wp_gen.specs.Setting.{setting}
 use Rattle.wp_gen.proofs.WalkLaws.{entered}
 use Rattle.wp_gen.proofs.oblige.goals.Goals as goal
 

@@ -1,5 +1,5 @@
 use Rattle.std.proofs.Common.{◌≡◌, ◌+◌, length}
-use Rattle.wp_gen.specs.State.{listed}
+use Rattle.prophecy_logic.specs.State.{listed}
 use Rattle.wp_gen.proofs.oblige.listed.Given as goal
 
 abbrev pub invariant-loop-goal : goal.invariant-loop-goal

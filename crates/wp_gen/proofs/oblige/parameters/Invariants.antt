@@ -1,5 +1,5 @@
 use Rattle.std.proofs.Common.{◌≡◌, ◌++◌, drop}
-use Rattle.wp_gen.specs.Walk.{parameters}
+use Rattle.prophecy_logic.specs.Walk.{parameters}
 use Rattle.wp_gen.proofs.oblige.parameters.Given as goal
 
 abbrev pub invariant-loop-i : goal.invariant-loop-i

@@ -1,5 +1,5 @@
 use Rattle.std.proofs.Common.{◌≡◌, ◌+◌, ◌++◌, drop}
-use Rattle.wp_gen.specs.Walk.{stored}
+use Rattle.prophecy_logic.specs.Walk.{stored}
 use Rattle.wp_gen.proofs.oblige.with_stored.Given as goal
 
 abbrev pub invariant-loop-name : goal.invariant-loop-name

@@ -1,6 +1,6 @@
 use Rattle.std.proofs.Common.{◌∙◌, refl, sym, ap, arith}
 use Rattle.mir_ir.specs.Layout.{among}
-use Rattle.wp_gen.proofs.ArriveLaws.{goto_names, if_names_yes, if_names_no, call_names}
+use Rattle.prophecy_logic.proofs.ArriveLaws.{goto_names, if_names_yes, if_names_no, call_names}
 use Rattle.wp_gen.proofs.PathLaws.{count_map, back_counts, on_counts, next_block, has_room, goto_counts, call_counts, return_counts, both_count, first_is_many, second_is_many}
 use Rattle.wp_gen.proofs.paths.+paths.Goals as goal
 

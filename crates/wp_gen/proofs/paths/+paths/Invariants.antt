@@ -1,5 +1,5 @@
 use Rattle.std.proofs.Common.{◌-◌, ◌*◌}
-use Rattle.wp_gen.proofs.ArriveLaws.{room}
+use Rattle.prophecy_logic.proofs.ArriveLaws.{room}
 use Rattle.wp_gen.proofs.paths.+paths.Given as goal
 
 abbrev pub decreases-along : goal.decreases-along

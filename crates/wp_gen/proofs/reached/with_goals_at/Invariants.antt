@@ -1,5 +1,5 @@
 use Rattle.std.proofs.Common.{take}
-use Rattle.wp_gen.specs.State.{Adds}
+use Rattle.prophecy_logic.specs.State.{Adds}
 use Rattle.wp_gen.proofs.reached.with_goals_at.Given as goal
 
 abbrev pub invariant-loop-goal : goal.invariant-loop-goal

@@ -1,5 +1,5 @@
 use Rattle.std.proofs.Common.{◌≡◌, take, map}
-use Rattle.wp_gen.specs.Row.{operand_term}
+use Rattle.prophecy_logic.specs.Row.{operand_term}
 use Rattle.wp_gen.proofs.row.operand_terms.Given as goal
 
 abbrev pub invariant-loop-arg : goal.invariant-loop-arg

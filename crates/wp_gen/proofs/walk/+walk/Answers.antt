@@ -1,8 +1,8 @@
 use Rattle.std.proofs.Common.{◌∙◌, sym, refl, arith}
 use Rattle.std.proofs.lemmas.Result.{IfOk-weaker}
-use Rattle.wp_gen.specs.Walkable.{setting}
-use Rattle.wp_gen.proofs.ArriveLaws.{next_arrival, goto_names, if_names_yes, if_names_no, call_names}
-use Rattle.wp_gen.proofs.WalkLaws.{goto_walks, branch_walks, call_walks, first_arrives, return_walks, again_arrives, plain_arrives, enter_plain}
+use Rattle.wp_gen.specs.Setting.{setting}
+use Rattle.prophecy_logic.proofs.ArriveLaws.{next_arrival, goto_names, if_names_yes, if_names_no, call_names}
+use Rattle.wp_gen.proofs.WalkLaws.{block_walks, goto_walks, branch_walks, call_walks, first_arrives, return_walks, again_arrives, plain_arrives, enter_plain}
 use Rattle.wp_gen.proofs.walk.+walk.Goals as goal
 
 pub end_goals-arrive-requires : goal.end_goals-arrive-requires
@@ -76,3 +76,10 @@ first_arrival-returns t c =
     (λ v h. first_arrives (setting c.args.walk.now) c.args.heads.now c.as_slice.result.now c.args.label c.args.block.now c.args.head.now c.args.reached c.in_ok-inside.inside v.items
     c.requires.block c.requires.head c.requires.not_passed (c.as_slice.ensures.value ∙ c.in_ok-passed.ensures) c.in_ok-inside.ensures h)
     c.block_goals.ensures
+
+pub block_goals-returns : goal.block_goals-returns
+block_goals-returns t c =
+    IfOk-weaker c.end_goals.result _ _
+    (λ v h. block_walks (setting c.args.walk.now) c.args.heads.now c.args.label c.args.block.now _ c.args.reached c.in_ok-end.end v.items
+    c.requires.here.is_block c.as_slice.ensures c.in_ok-end.ensures h)
+    c.end_goals.ensures

@@ -1,5 +1,5 @@
 use Rattle.std.proofs.Common.{◌+◌, ◌*◌}
-use Rattle.wp_gen.proofs.ArriveLaws.{room, arrival_measure}
+use Rattle.prophecy_logic.proofs.ArriveLaws.{room, arrival_measure}
 use Rattle.wp_gen.proofs.walk.+walk.Given as goal
 
 abbrev pub decreases-arrive : goal.decreases-arrive

@@ -1,5 +1,5 @@
 use Rattle.std.proofs.Common.{◌≡◌, take, map}
-use Rattle.wp_gen.specs.Walk.{at_answer}
+use Rattle.prophecy_logic.specs.Walk.{at_answer}
 use Rattle.wp_gen.proofs.walk.at_answers.Given as goal
 
 abbrev pub invariant-loop-term : goal.invariant-loop-term

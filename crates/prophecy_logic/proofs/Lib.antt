@@ -1,0 +1,9 @@
+pub mod Ahead
+pub mod ArriveLaws
+pub mod Commands
+pub mod Exists
+pub mod OneWalk
+pub mod Operations
+pub mod Prefixes
+pub mod Quotients
+pub mod Steps

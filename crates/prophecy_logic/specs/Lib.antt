@@ -1,0 +1,10 @@
+pub mod Command
+pub mod Graph
+pub mod Laws
+pub mod Loop
+pub mod Prefix
+pub mod Row
+pub mod State
+pub mod StateCode
+pub mod Walk
+pub mod Walkable

@@ -1,0 +1,191 @@
+-- A call: the frame waits at it, and the callee's frame begins as the callee's contract says.
+use Rattle.std.proofs.Common.{◌≡◌, ◌∙◌, refl, sym, subst, ℕ, false, List, [], ◌∷◌, ◌++◌, length, drop, take, map, Option, Some, slice_get}
+use Rattle.std.proofs.lemmas.Option.{same_Some}
+use Rattle.text_core.specs.declared.name.Name.{Name}
+use Rattle.text_core.specs.declared.refusal.Kind.TheVariants.{Requires}
+use Rattle.text_core.specs.declared.span.Span.{Span}
+use Rattle.logic_term.specs.declared.kinds.Label.{Label}
+use Rattle.logic_term.specs.declared.obligation.Contract.{Contract}
+use Rattle.logic_term.specs.Term.{Term}
+use Rattle.logic_term.specs.Meaning.{Env, Holds}
+use Rattle.logic_term.specs.Ty.{Ty, no_tys}
+use Rattle.logic_term.specs.Value.{Values}
+use Rattle.logic_term.proofs.Alike.{yes_alike}
+use Rattle.logic_term.proofs.FreeLaw.{coincide_free}
+use Rattle.mir_ir.specs.declared.place.Operand.{Operand}
+use Rattle.mir_ir.specs.declared.place.Place.{Place}
+use Rattle.mir_ir.specs.declared.terminator.Callee.TheVariants.{Function}
+use Rattle.mir_ir.specs.declared.terminator.FnId.TheVariants.{Body as OfBody}
+use Rattle.mir_ir.specs.declared.terminator.TerminatorKind.TheVariants.{Call}
+use Rattle.mir_ir.specs.declared.body.Body.{Body}
+use Rattle.mir_ir.specs.WellFormed.{EndIsTyped, Locals, Labelling, OperandsHave}
+use Rattle.mir_ir.proofs.Taking.{CanEnd, CanTakeAll, all_taken}
+use Rattle.mir_machine.specs.Tree.{Tree}
+use Rattle.mir_machine.specs.Frame.{Frame, State}
+use Rattle.mir_machine.specs.Good.{Each, named, here}
+use Rattle.mir_machine.specs.Reads.{Plain}
+use Rattle.mir_machine.specs.Step.{callee_frame, entered}
+use Rattle.mir_machine.specs.Try.{Yields, ◌>>=◌, need}
+use Rattle.mir_machine.proofs.Locals.{take_operands, FrameEnd, Calls, frame_end}
+use Rattle.mir_machine.proofs.NeverStuck.{Fits, AreShaped, AreArguments, operands_go}
+use Rattle.mir_machine.proofs.Tried.{Quiet, quiet_then, quiet_both}
+use Rattle.prophecy_logic.specs.declared.goal.Goal.{Goal}
+use Rattle.prophecy_logic.specs.Row.{operand_term}
+use Rattle.prophecy_logic.specs.Graph.{Arrives}
+use Rattle.prophecy_logic.specs.Prefix.{within}
+use Rattle.prophecy_logic.specs.Walk.{seen_before, at_arguments, goals_of_call, call_commands, Walk, met}
+use Rattle.prophecy_logic.proofs.Commands.{GoalsHold, goals_first, goals_rest}
+use Rattle.prophecy_sim.proofs.Lists.{found_block, each_of}
+use Rattle.prophecy_sim.proofs.Setup.{Setup, FunctionOf, move_rows, S, bodies, declarations, own, walked, scalar_params, OverParams}
+use Rattle.prophecy_sim.proofs.Scalars.{AllShow, all_read, all_typed}
+use Rattle.prophecy_sim.proofs.Operands.{operand_values, all_taken_before, Agree, LeavesAll, take_all_shows}
+use Rattle.prophecy_sim.proofs.Calls.{overlay, overlay_named, AsMany, as_many, as_many_operands, with_terms_mean, all_hold, all_exactly}
+use Rattle.prophecy_sim.proofs.Memories.{AreBehind, Came, Memories, memories_kept}
+use Rattle.prophecy_logic.specs.Walkable.{AllAmong}
+use Rattle.prophecy_sim.proofs.Stands.{they_stand}
+use Rattle.prophecy_sim.proofs.Standing.{point_of, Standing}
+use Rattle.prophecy_sim.proofs.Ends.{CallsFine, EndsFine}
+use Rattle.prophecy_sim.proofs.Waits.{params_length}
+
+module _ {K : Type 0} (s : Setup K) (f : FunctionOf s) (ρ₀ : Env) (fs : State K) (g : Frame K) (st : Standing s f ρ₀ (g ∷ fs) (length fs) g) where
+  abbrev b : Body
+  b = f.body
+
+  abbrev initialised : Labelling
+  initialised = s.labelling f.number
+
+  abbrev ρ : Env
+  ρ = st.env
+
+  abbrev end_set : Locals
+  end_set = initialised g.label (length st.block.statements)
+
+  abbrev EndsWell : FrameEnd K → Type 0
+  EndsWell = EndsFine s f ρ₀ fs
+
+  module _ {heads : List Label} {v : Walk} (p : Place) (n : ℕ) (types : List Ty) (os : List Operand) (l : Label) (d : Contract) (t : Ty) (at : Span)
+      (kind : st.block.end.kind ≡ Call p (Function (OfBody n)) types os l)
+      (is_d : slice_get s.contracts n ≡ Some d) (is_t : slice_get b.locals p.local ≡ Some t) (arrives : Arrives (walked s f) heads l v)
+      (came : Came s f ρ₀ (walked s f) heads (within (point_of g)) ρ) (is_last : g.statement ≡ length st.block.statements)
+      (hold : GoalsHold (S s) ρ (goals_of_call b d at os ++ seen_before (call_commands b d p.local t os) (met v)))
+      (fitting : Fits b no_tys end_set g.locals) (agrees : Agree b end_set g.locals ρ) (nested : Memories s f ρ₀ end_set ρ st.block.nest) (enclosing : AllAmong st.block.nest heads)
+      (behind : AreBehind s f ρ₀ heads g.label) where
+    abbrev ended : EndIsTyped (bodies s) b (Call p (Function (OfBody n)) types os l)
+    ended = subst (EndIsTyped (bodies s) b) kind ((own s f).typed.ends g.label st.block st.is_block)
+
+    abbrev callee : FunctionOf s
+    callee = record { number = n; body = ended.0.0; is_body = ended.0.2 }
+
+    abbrev can : CanTakeAll end_set os
+    can = subst (CanEnd end_set) kind ((move_rows s f).ends g.label st.block st.is_block)
+
+    abbrev param_types : List Ty
+    param_types = take callee.body.params (drop 1 callee.body.locals)
+
+    abbrev have : OperandsHave b os param_types
+    have = ended.0.3
+
+    abbrev values : Values
+    values = operand_values b ρ os
+
+    abbrev set : Locals
+    set = all_taken os end_set
+
+    same_contract : d ≡ (own s callee).contract
+    same_contract = same_Some _ _ (sym is_d ∙ (own s callee).is_contract)
+
+    goals_here : GoalsHold (S s) ρ (goals_of_call b (own s callee).contract at os ++ seen_before (call_commands b (own s callee).contract p.local t os) (met v))
+    goals_here = subst (λ (e : Contract). GoalsHold (S s) ρ (goals_of_call b e at os ++ seen_before (call_commands b e p.local t os) (met v))) same_contract hold
+
+    -- the environment in which the callee is called
+    abbrev called_in : Env
+    called_in = named (own s callee).contract.params values
+
+    -- the goals of what is left, behind the call
+    abbrev behind_goals : List Goal
+    behind_goals = seen_before (call_commands b (own s callee).contract p.local t os) (met v)
+
+    count : AsMany (own s callee).contract.params values
+    count = as_many b ρ (own s callee).contract.params os ((own s callee).speaks.count ∙ sym (params_length callee.body (own s callee).typed.answers) ∙ sym (as_many_operands b os param_types have))
+
+    pre_hold : (ts : List Term) → Each (OverParams (own s callee).contract) ts →
+        Each (λ q. Holds (S s) q ρ) (map (at_arguments b (own s callee).contract os) ts) → Each (λ q. Holds (S s) q called_in) ts
+    pre_hold [] over h = tt
+    pre_hold (q ∷ ts) over h =
+        let params : List Name = (own s callee).contract.params in
+        let there : Holds (S s) q (overlay params values ρ) = (yes_alike _ _ (with_terms_mean (S s) params (map (operand_term b) os) values ρ q (all_exactly (S s) b ρ os))).0 h.0 in
+        ((yes_alike _ _ (coincide_free (S s) q (overlay params values ρ) called_in (λ x e. let one = over.0 x e in overlay_named params values ρ one.0 x one.1 count))).0 there, pre_hold ts over.1 h.1)
+
+    here_is : (i : ℕ) × (m : Label) × (slice_get b.blocks i ≡ Some (m, st.block))
+    here_is = found_block b.blocks g.label st.block st.is_block
+
+    calls_fine : (ls args : List (Tree K)) → Fits b no_tys set ls → (length args ≡ length param_types) × AreShaped no_tys args param_types → Agree b set ls ρ → AllShow args values →
+        CallsFine s f ρ₀ fs (record g { locals = ls }) (entered callee.body n no_tys args)
+    calls_fine ls args fitted shaped agreed shows = record {
+      callee = callee;
+      calls = record {
+        body = b;
+        is_body = f.is_body;
+        at = here_is.0;
+        label = here_is.1;
+        block = st.block;
+        is_block = here_is.2;
+        place = p;
+        callee = Function (OfBody n);
+        types = types;
+        operands = os;
+        next = l;
+        is_call = kind;
+        is_callee = refl;
+      };
+      env = called_in;
+      begun = record {
+        args = args;
+        is_frame = refl;
+        typed = all_typed (declarations s) (entered callee.body n no_tys args ∷ record g { locals = ls } ∷ fs) args param_types shaped.0 shaped.1 (scalar_params s callee);
+        values = values;
+        reads = all_read false (entered callee.body n no_tys args ∷ record g { locals = ls } ∷ fs) s.final Plain here 0 args values shows;
+        is_env = refl;
+        pre = pre_hold (own s callee).contract.pre
+            (each_of (OverParams (own s callee).contract) (own s callee).contract.pre (own s callee).speaks.before)
+            (all_hold (S s) Requires at (map (at_arguments b (own s callee).contract os) (own s callee).contract.pre) ρ (goals_first (S s) ρ (goals_of_call b (own s callee).contract at os) behind_goals goals_here));
+      };
+      waiting = record {
+        call = record {
+          function = st.function;
+          types = st.types;
+          block = st.block;
+          is_block = st.is_block;
+          is_last = is_last;
+          place = p;
+          type_arguments = types;
+          operands = os;
+          next = l;
+          is_call = kind;
+          answer = t;
+          is_answer = is_t;
+          env = ρ;
+          keeps = st.keeps;
+          begun = refl;
+          heads = heads;
+          came = came;
+          walk = v;
+          arrives = arrives;
+          hold = goals_rest (S s) ρ (goals_of_call b (own s callee).contract at os) behind_goals goals_here;
+          nested = memories_kept s f ρ₀ nested (λ h a x ty e inside is_x. (all_taken_before os end_set x inside, refl));
+          enclosing = enclosing;
+          behind = behind;
+        };
+        stands = they_stand s f (entered callee.body n no_tys args ∷ record g { locals = ls } ∷ fs) (length fs) fitted agreed;
+      };
+    }
+
+    pub call_comes : Quiet EndsWell (frame_end s.code g (Call p (Function (OfBody n)) types os l))
+    call_comes =
+        quiet_then (λ (a : List (Tree K) × List (Tree K)). AreArguments b no_tys set param_types a × LeavesAll b set ρ values a) EndsWell (take_operands g.locals os)
+        (λ a. callee_frame (bodies s) (Function (OfBody n)) a.1 >>= λ h. Yields (Calls (record g { locals = a.0 }) h))
+        (quiet_both (AreArguments b no_tys set param_types) (LeavesAll b set ρ values) (take_operands g.locals os)
+        (operands_go b no_tys end_set g.locals os param_types fitting have can)
+        (take_all_shows b end_set g.locals ρ os param_types have can agrees))
+        (λ a h. subst (λ (o : Option Body). Quiet EndsWell ((need o >>= λ x. Yields (entered x n no_tys a.1)) >>= λ g'. Yields (Calls (record g { locals = a.0 }) g'))) (sym ended.0.2)
+        (calls_fine a.0 a.1 h.0.0 h.0.1 h.1.0 h.1.1))
