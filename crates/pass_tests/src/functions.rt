@@ -142,7 +142,7 @@ const BUILT: [(&'static [u8], usize); 3] = [
 /// The text is accepted, with so many functions.
 fn is_accepted(alloc: Global, text: &[u8], functions: usize) -> bool {
     match prepare(alloc, text) {
-        Ok(program) => program.functions.len() == functions,
+        Ok(program) => program.bodies.bodies.len() == functions,
         Err(_) => false,
     }
 }

@@ -1,140 +1,125 @@
--- One more obligation, and the obligations of one more function.
-use Rattle.std.proofs.Common.{◌≡◌, ◌∙◌, refl, sym, ap, subst, ℕ, zero, suc, ◌+◌, ◌<◌, ◌≤◌, Bool, true, false, List, [], ◌∷◌, ◌++◌, length, take, get_or, Option, None, Some, append_assoc, add-one, arith}
-use Rattle.std.specs.Prelude.{slice_get}
-use Rattle.std.proofs.lemmas.List.{take_more, take_all, append-nil, length-append}
+-- One more obligation.
+use Rattle.std.proofs.Common.{◌≡◌, ◌∙◌, refl, sym, ap, subst, ℕ, zero, suc, ◌+◌, ◌<◌, ◌≤◌, ◌⊎◌, inl, inr, Bool, true, false, List, [], ◌∷◌, ◌++◌, length, map, take, get_or, Option, None, Some, add-one}
+use Rattle.std.specs.Prelude.{slice_get, slice_set}
+use Rattle.std.proofs.lemmas.List.{take_more, take_all, length-map, map-append}
 use Rattle.logic_term.specs.declared.obligation.Obligation.{Obligation}
+use Rattle.mir_ir.specs.declared.body.Body.{Body}
+use Rattle.mir_machine.specs.Good.{Each}
+use Rattle.proof_kernel.specs.declared.setting.Tables.{Tables}
 use Rattle.proof_text.specs.declared.proof.Proof.{Proof}
-use Rattle.report_out.specs.declared.verdict.LeftItem.{LeftItem}
+use Rattle.prophecy_sim.specs.declared.node.Node.{Node}
+use Rattle.prophecy_sim.specs.declared.node.Node.TheVariants.{Function}
 use Rattle.report_out.specs.declared.verdict.Reason.{Reason}
-use Rattle.verify_core.specs.declared.goals.FunctionGoals.{FunctionGoals}
 use Rattle.verify_core.specs.declared.judge.Judged.{Judged}
-use Rattle.verify_core.specs.Judging.{JudgesMore, JudgesFunction, FlagsTell, HasJudged}
-use Rattle.verify_core.specs.Verdict.{Settles, Judges, IsProved, Tells, left_item, obligations_in}
-use Rattle.verify_core.specs.VerdictWords.{Tallies}
-use Rattle.verify_core.proofs.ReachLaws.{within}
+use Rattle.verify_core.specs.declared.owed.Owed.{Owed}
+use Rattle.verify_core.specs.Judging.{Tallies, FlagsTell, HasJudged, without_flag}
+use Rattle.verify_core.specs.Owed.{same_node, obligations_in, owed_by}
+use Rattle.verify_core.specs.Verdict.{Settles, HasDerivation, Judges, IsProved, Tells}
+use Rattle.verify_core.proofs.OwedLaws.{itself_is, other_is_not, each_both, each_front, each_behind, owed_in_both}
+use Rattle.verify_core.proofs.ReachLaws.{same_or_other, get_other, get_same, got, length_same, within}
 use Rattle.verify_core.proofs.RunLaws.{one_more_proved, one_more_left}
-use Rattle.verify_core.proofs.SettledLaws.{all_derived, none_left_over}
+use Rattle.verify_core.proofs.SettledLaws.{settled_derives, left_underived}
 
 some_same : {A : Type 0} {a b : A} → Some a ≡ Some b → a ≡ b
 some_same e = cc
 
+-- ---- the flags
+
+module _ (T : Tables) (ps : List Proof) (os : List Owed) where
+  abbrev Derived : List Obligation → Type 0
+  Derived qs = Each (HasDerivation T ps) qs
+
+  -- what a node owes is proved where it was, and what is added is
+  more_proved : (n : Node) (o : Owed) → IsProved T ps os n → Derived (owed_by n (o ∷ [])) → IsProved T ps (os ++ o ∷ []) n
+  more_proved n o proved own = subst Derived (sym (owed_in_both n os (o ∷ []))) (each_both (HasDerivation T ps) (owed_by n os) (owed_by n (o ∷ [])) proved own)
+
+  split_proved : (n : Node) (o : Owed) → IsProved T ps (os ++ o ∷ []) n → Derived (owed_by n os ++ owed_by n (o ∷ []))
+  split_proved n o proved = subst Derived (owed_in_both n os (o ∷ [])) proved
+
+  less_proved : (n : Node) (o : Owed) → IsProved T ps (os ++ o ∷ []) n → IsProved T ps os n
+  less_proved n o proved = each_front (HasDerivation T ps) (owed_by n os) (owed_by n (o ∷ [])) (split_proved n o proved)
+
+  -- an obligation that adds nothing that has no derivation
+  still_tells : (n : Node) (o : Owed) (flag : Bool) → Derived (owed_by n (o ∷ [])) → Tells flag (IsProved T ps os n) → Tells flag (IsProved T ps (os ++ o ∷ []) n)
+  still_tells n o true own told = more_proved n o told own
+  still_tells n o false own told = λ proved. told (less_proved n o proved)
+
+  if_derived : (n : Node) (o : Owed) (b : Bool) → same_node n o.by ≡ b → HasDerivation T ps o.obligation → Derived (owed_by n (o ∷ []))
+  if_derived n o true same has = rw same (has, tt)
+  if_derived n o false same has = rw same tt
+
+  -- a node with an obligation that has no derivation is not proved
+  own_open : (n : Node) (o : Owed) → same_node n o.by ≡ true → (HasDerivation T ps o.obligation → ⊥) → IsProved T ps (os ++ o ∷ []) n → ⊥
+  own_open n o same none proved =
+      let own : Derived (owed_by n (o ∷ [])) = each_behind (HasDerivation T ps) (owed_by n os) (owed_by n (o ∷ [])) (split_proved n o proved) in
+      let one : Derived (o.obligation ∷ []) = rw same at own in
+      none one.0
+
+  flags_of_proved : (many : ℕ) (o : Owed) (flags : List Bool) → HasDerivation T ps o.obligation → FlagsTell T ps os many flags → FlagsTell T ps (os ++ o ∷ []) many flags
+  flags_of_proved many o flags has told = record {
+    as_many = told.as_many;
+    tell = λ f flag is. still_tells (Function f) o flag (if_derived (Function f) o (same_node (Function f) o.by) refl has) (told.tell f flag is);
+  }
+
+  flags_of_left : (many : ℕ) (by : Node) (o : Owed) (flags : List Bool) → o.by ≡ by → (HasDerivation T ps o.obligation → ⊥) → FlagsTell T ps os many flags → FlagsTell T ps (os ++ o ∷ []) many (without_flag by flags)
+  flags_of_left many (Function k) o flags of none told = record {
+    as_many = length_same flags k false ∙ told.as_many;
+    tell = λ f flag is. at f flag is (same_or_other k f);
+  }
+    where
+      not_set : (f : ℕ) (flag was : Bool) → k ≡ f → slice_get flags f ≡ Some was → slice_get (slice_set flags k false) f ≡ Some flag → flag ≡ false
+      not_set f flag was same before is =
+          some_same (sym is ∙ subst (λ (i : ℕ). slice_get (slice_set flags k false) i ≡ Some false) same (get_same flags k false was (subst (λ (i : ℕ). slice_get flags i ≡ Some was) (sym same) before)))
+
+      inside : (f : ℕ) (flag : Bool) → slice_get (slice_set flags k false) f ≡ Some flag → f < length flags
+      inside f flag is = subst (λ (n : ℕ). f < n) (length_same flags k false) (within (slice_set flags k false) f flag is)
+
+      at : (f : ℕ) (flag : Bool) → slice_get (slice_set flags k false) f ≡ Some flag → (k ≡ f) ⊎ (k ≡ f → ⊥) → Tells flag (IsProved T ps (os ++ o ∷ []) (Function f))
+      at f flag is (inl same) =
+          let was = got flags f (inside f flag is) in
+          let unset : flag ≡ false = not_set f flag was.0 same was.1 is in
+          let own : same_node (Function f) o.by ≡ true = ap (same_node (Function f)) of ∙ subst (λ (i : ℕ). same_node (Function i) (Function k) ≡ true) same (itself_is k) in
+          subst (λ (b : Bool). Tells b (IsProved T ps (os ++ o ∷ []) (Function f))) (sym unset) (own_open (Function f) o own none)
+      at f flag is (inr other) =
+          let before : slice_get flags f ≡ Some flag = sym (get_other flags k f false other) ∙ is in
+          let not_own : same_node (Function f) o.by ≡ false = ap (same_node (Function f)) of ∙ other_is_not f k (λ e. other (sym e)) in
+          still_tells (Function f) o flag (rw not_own tt) (told.tell f flag before)
+
 -- ---- one more obligation
 
-pub none_more : (ps : List Proof) (left : List LeftItem) → JudgesMore ps [] left left 0
-none_more ps left = record { own = []; added = sym (append-nil left); judges = Judges.none }
+in_one_more : (os : List Owed) (o : Owed) → obligations_in (os ++ o ∷ []) ≡ obligations_in os ++ o.obligation ∷ []
+in_one_more os o = map-append (λ (x : Owed). x.obligation) os (o ∷ [])
 
-more : (ps : List Proof) (os : List Obligation) (o : Obligation) (reason : Option Reason) (start old new : List LeftItem) (before after : ℕ) →
-    JudgesMore ps os start old before → Settles ps o reason → Tallies o reason old new before after → JudgesMore ps (os ++ o ∷ []) start new after
-more ps os o None start old new before after judges settles tallies = record {
-  own = judges.own;
-  added = tallies.0 ∙ judges.added;
-  judges = rw (tallies.1, add-one) (one_more_proved judges.judges settles);
+settled : (T : Tables) (ps : List Proof) (os : List Owed) (many : ℕ) (o : Owed) (r : Option Reason) (before after : Judged) → HasJudged T ps os many before → Settles T ps o.obligation r → Tallies o r before after → HasJudged T ps (os ++ o ∷ []) many after
+settled T ps os many o None before after has settles (left, proved, flags) = record {
+  judges = rw (in_one_more os o, left, proved, add-one) (one_more_proved has.judges settles);
+  flags = subst (FlagsTell T ps (os ++ o ∷ []) many) (sym flags) (flags_of_proved T ps os many o before.flags.items (settled_derives T ps o.obligation settles) has.flags);
 }
-more ps os o (Some r) start old new before after judges settles tallies = record {
-  own = judges.own ++ left_item o r ∷ [];
-  added = tallies.0 ∙ ap (λ (xs : List LeftItem). xs ++ left_item o r ∷ []) judges.added ∙ append_assoc start judges.own (left_item o r ∷ []);
-  judges = rw tallies.1 (one_more_left judges.judges settles);
+settled T ps os many o (Some r) before after has settles (left, proved, flags) = record {
+  judges = rw (in_one_more os o, left, proved) (one_more_left has.judges settles);
+  flags = subst (FlagsTell T ps (os ++ o ∷ []) many) (sym flags) (flags_of_left T ps os many o.by o before.flags.items refl (left_underived T ps o.obligation r settles) has.flags);
 }
 
-pub judges_more : (ps : List Proof) (os : List Obligation) (i : ℕ) (o : Obligation) (reason : Option Reason) (start old new : List LeftItem) (before after : ℕ) →
-    i < length os → o ≡ get_or os i o → JudgesMore ps (take i os) start old before → Settles ps o reason → Tallies o reason old new before after → JudgesMore ps (take (i + 1) os) start new after
-judges_more ps os i o reason start old new before after below is judges settles tallies =
-    subst (λ (xs : List Obligation). JudgesMore ps xs start new after) (sym (take_more os i o below ∙ ap (λ (x : Obligation). take i os ++ x ∷ []) (sym is)))
-    (more ps (take i os) o reason start old new before after judges settles tallies)
+pub one_more_judged : (T : Tables) (ps : List Proof) (os : List Owed) (many i : ℕ) (o : Owed) (r : Option Reason) (before after : Judged) → i < length os → o ≡ get_or os i o
+    → HasJudged T ps (take i os) many before → Settles T ps o.obligation r → Tallies o r before after → HasJudged T ps (take (i + 1) os) many after
+one_more_judged T ps os many i o r before after below is has settles tallies =
+    subst (λ (qs : List Owed). HasJudged T ps qs many after) (sym (take_more os i o below ∙ ap (λ (x : Owed). take i os ++ x ∷ []) (sym is))) (settled T ps (take i os) many o r before after has settles tallies)
 
-pub judges_all : (ps : List Proof) (os : List Obligation) (i : ℕ) (start left : List LeftItem) (n : ℕ) → length os ≤ i → JudgesMore ps (take i os) start left n → JudgesMore ps os start left n
-judges_all ps os i start left n past judges = subst (λ (xs : List Obligation). JudgesMore ps xs start left n) (take_all i os past) judges
+-- ---- all of them
 
--- ---- lists of judged obligations
+all_true : (bodies : List Body) (f : ℕ) (flag : Bool) → slice_get (map (λ (b : Body). true) bodies) f ≡ Some flag → flag ≡ true
+all_true [] f flag is = absurd (let e : None ≡ Some flag = is in cc)
+all_true (b ∷ bodies) zero flag is = sym (some_same is)
+all_true (b ∷ bodies) (suc f) flag is = all_true bodies f flag is
 
-joined : {ps : List Proof} {os qs : List Obligation} {left more : List LeftItem} {n m : ℕ} → Judges ps os left n → Judges ps qs more m → Judges ps (os ++ qs) (left ++ more) (n + m)
-joined {m = m} Judges.none rest = rw (zero_plus m) rest
-  where
-    zero_plus : (m : ℕ) → 0 + m ≡ m
-    zero_plus m = omega arith
-joined {ps = ps} {os = o ∷ os} {qs = qs} {left = left} {more = more} {m = m} (Judges.proved {n = n} settles first) rest =
-    subst (λ (k : ℕ). Judges ps (o ∷ (os ++ qs)) (left ++ more) k) (suc_plus n m) (Judges.proved settles (joined first rest))
-  where
-    suc_plus : (n m : ℕ) → suc (n + m) ≡ suc n + m
-    suc_plus n m = omega arith
-joined (Judges.left settles first) rest = Judges.left settles (joined first rest)
-
-pub in_one_more : (goals : List FunctionGoals) (g : FunctionGoals) → obligations_in (goals ++ g ∷ []) ≡ obligations_in goals ++ g.obligations
-in_one_more [] g = append-nil g.obligations
-in_one_more (h ∷ goals) g = ap (λ (xs : List Obligation). h.obligations ++ xs) (in_one_more goals g) ∙ sym (append_assoc h.obligations (obligations_in goals) g.obligations)
-
--- ---- the flag of one more function
-
-own_of : (before own : List LeftItem) → length (before ++ own) ≡ length before → own ≡ []
-own_of before [] e = refl
-own_of before (x ∷ own) e = absurd (omega (arith, e, length-append before (x ∷ own)))
-
-pub flag_tells : (ps : List Proof) (g : FunctionGoals) (before after : List LeftItem) (n : ℕ) (flag : Bool) → JudgesMore ps g.obligations before after n
-    → (flag ≡ true → length after ≡ length before) → (flag ≡ false → length after ≡ length before → ⊥) → Tells flag (IsProved ps g)
-flag_tells ps g before after n true judges same other =
-    all_derived ps g.obligations judges.own n judges.judges (own_of before judges.own (ap length (sym judges.added) ∙ same refl))
-flag_tells ps g before after n false judges same other = λ proved.
-    let none : judges.own ≡ [] = none_left_over ps g.obligations judges.own n judges.judges proved in
-    other refl (ap length (judges.added ∙ ap (λ (xs : List LeftItem). before ++ xs) none ∙ append-nil before))
-
-get_within : {A : Type 0} (xs : List A) (y : A) (i : ℕ) (x : A) → slice_get (xs ++ y ∷ []) i ≡ Some x → i < length xs → slice_get xs i ≡ Some x
-get_within [] y i x e h = absurd (omega arith)
-get_within (z ∷ xs) y zero x e h = e
-get_within (z ∷ xs) y (suc i) x e h = get_within xs y i x e (omega arith)
-
-get_last : {A : Type 0} (xs : List A) (y : A) (x : A) → slice_get (xs ++ y ∷ []) (length xs) ≡ Some x → y ≡ x
-get_last [] y x e = some_same e
-get_last (z ∷ xs) y x e = get_last xs y x e
-
-data Place (i n : ℕ) : Type 0 where
-  inside : i < n → Place i n
-  last : i ≡ n → Place i n
-
-place : (i n : ℕ) → i < suc n → Place i n
-place zero zero h = last refl
-place zero (suc n) h = inside (omega arith)
-place (suc i) zero h = absurd (omega arith)
-place (suc i) (suc n) h = elim (place i n (omega arith)) [ inside a ↦ inside (omega arith) | last e ↦ last (ap suc e) ]
-
-one_longer : {A : Type 0} (xs : List A) (y : A) → length (xs ++ y ∷ []) ≡ suc (length xs)
-one_longer [] y = refl
-one_longer (x ∷ xs) y = ap suc (one_longer xs y)
-
-pub flags_more : (ps : List Proof) (goals : List FunctionGoals) (g : FunctionGoals) (flags : List Bool) (flag : Bool) → FlagsTell ps goals flags → Tells flag (IsProved ps g) → FlagsTell ps (goals ++ g ∷ []) (flags ++ flag ∷ [])
-flags_more ps goals g flags flag told tells = record {
-  as_many = one_longer flags flag ∙ ap suc told.as_many ∙ sym (one_longer goals g);
-  tell = λ f h b is set. at f h b is set (place f (length goals) (subst (λ (k : ℕ). f < k) (one_longer goals g) (within (goals ++ g ∷ []) f h is)));
-}
-  where
-    at : (f : ℕ) (h : FunctionGoals) (b : Bool) → slice_get (goals ++ g ∷ []) f ≡ Some h → slice_get (flags ++ flag ∷ []) f ≡ Some b → Place f (length goals) → Tells b (IsProved ps h)
-    at f h b is set (inside a) = told.tell f h b (get_within goals g f h is a) (get_within flags flag f b set (subst (λ (k : ℕ). f < k) (sym told.as_many) a))
-    at f h b is set (last e) =
-        let same_goals : g ≡ h = get_last goals g h (subst (λ (k : ℕ). slice_get (goals ++ g ∷ []) k ≡ Some h) e is) in
-        let same_flag : flag ≡ b = get_last flags flag b (subst (λ (k : ℕ). slice_get (flags ++ flag ∷ []) k ≡ Some b) (e ∙ sym told.as_many) set) in
-        subst (λ (c : Bool). Tells c (IsProved ps h)) same_flag (subst (λ (d : FunctionGoals). Tells flag (IsProved ps d)) same_goals tells)
-
-pub function_judged : (ps : List Proof) (g : FunctionGoals) (before after : Judged) (own_proved : ℕ) (flag : Bool) →
-    JudgesMore ps g.obligations before.left.items after.left.items own_proved → after.proved ≡ before.proved + own_proved → after.obligations ≡ before.obligations + length g.obligations
-    → after.flags.items ≡ before.flags.items ++ flag ∷ [] → Tells flag (IsProved ps g) → JudgesFunction ps g before after
-function_judged ps g before after n flag judges proved counted flags tells goals has = record {
-  judges = rw (in_one_more goals g, judges.added, proved) (joined has.judges judges.judges);
-  counted = counted ∙ ap (λ (k : ℕ). k + length g.obligations) has.counted ∙ sym (length-append (obligations_in goals) g.obligations) ∙ ap length (sym (in_one_more goals g));
-  flags = subst (FlagsTell ps (goals ++ g ∷ [])) (sym flags) (flags_more ps goals g before.flags.items flag has.flags tells);
-}
-
--- ---- all functions
-
-pub none_judged : (ps : List Proof) (j : Judged) → j.left.items ≡ [] → j.proved ≡ 0 → j.obligations ≡ 0 → j.flags.items ≡ [] → HasJudged ps [] j
-none_judged ps j left proved obligations flags = record {
+pub none_judged : (T : Tables) (ps : List Proof) (bodies : List Body) (j : Judged) → j.left.items ≡ [] → j.proved ≡ 0 → j.flags.items ≡ map (λ _. true) bodies → HasJudged T ps [] (length bodies) j
+none_judged T ps bodies j left proved flags = record {
   judges = rw (left, proved) Judges.none;
-  counted = obligations;
-  flags = record { as_many = ap length flags; tell = λ f g flag is set. absurd (let e : None ≡ Some g = is in cc) };
+  flags = record {
+    as_many = ap length flags ∙ length-map bodies (λ _. true);
+    tell = λ f flag is. subst (λ (b : Bool). Tells b (IsProved T ps [] (Function f))) (sym (all_true bodies f flag (subst (λ (xs : List Bool). slice_get xs f ≡ Some flag) flags is))) tt;
+  };
 }
 
-pub one_more_judged : (ps : List Proof) (goals : List FunctionGoals) (i : ℕ) (g : FunctionGoals) (before after : Judged) → i < length goals → g ≡ get_or goals i g
-    → HasJudged ps (take i goals) before → JudgesFunction ps g before after → HasJudged ps (take (i + 1) goals) after
-one_more_judged ps goals i g before after below is has function =
-    subst (λ (gs : List FunctionGoals). HasJudged ps gs after) (sym (take_more goals i g below ∙ ap (λ (x : FunctionGoals). take i goals ++ x ∷ []) (sym is))) (function (take i goals) has)
-
-pub all_judged : (ps : List Proof) (goals : List FunctionGoals) (i : ℕ) (j : Judged) → length goals ≤ i → HasJudged ps (take i goals) j → HasJudged ps goals j
-all_judged ps goals i j past has = subst (λ (gs : List FunctionGoals). HasJudged ps gs j) (take_all i goals past) has
+pub all_judged : (T : Tables) (ps : List Proof) (os : List Owed) (many i : ℕ) (j : Judged) → length os ≤ i → HasJudged T ps (take i os) many j → HasJudged T ps os many j
+all_judged T ps os many i j past has = subst (λ (qs : List Owed). HasJudged T ps qs many j) (take_all i os past) has

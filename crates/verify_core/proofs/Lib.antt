@@ -5,6 +5,8 @@ pub mod OneAnswer
 pub mod OneCount
 pub mod OneVerdict
 pub mod OneWalk
+mod OwedLaws
+mod OwedOnce
 mod PassLaws
 mod ReachLaws
 mod RoundLaws

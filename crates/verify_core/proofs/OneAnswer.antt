@@ -13,14 +13,19 @@ use Rattle.type_check.specs.Checked.{checked}
 use Rattle.mir_build.specs.Lowering.{LowerTo, HasMoreBlocks}
 use Rattle.mir_build.specs.Whole.{HaveFewBlocks}
 use Rattle.mir_build.proofs.OneBody.{programs_lower_in_one_way, blocks_are_counted}
-use Rattle.verify_core.specs.declared.goals.FunctionGoals.{FunctionGoals}
+use Rattle.proof_kernel.specs.declared.setting.Tables.{Tables}
+use Rattle.verify_core.specs.declared.owed.Owed.{Owed}
 use Rattle.verify_core.specs.declared.program.Program.{Program}
 use Rattle.verify_core.specs.Built.{IsSourceError}
-use Rattle.verify_core.specs.Prepared.{HasItems, IsTypedAs, HaveGoals, HaveFewPaths, HasManyPaths, IsPrepared, IsRefused, IsPastLimit, most_bytes, most_blocks, most_obligations}
-use Rattle.verify_core.specs.Verdict.{obligations_in}
+use Rattle.verify_core.specs.Prepared.{HasItems, IsTypedAs, FunctionsOwe, HaveFewPaths, HasManyPaths, IsPrepared, IsRefused, IsPastLimit, most_bytes, most_blocks, most_obligations}
 use Rattle.verify_core.proofs.BuiltItems.{one_source, one_error, not_refused, not_few, not_many}
-use Rattle.verify_core.proofs.OneCount.{goals_once, few_obligations_are_not_many, few_paths_are_not_many}
+use Rattle.verify_core.proofs.OneCount.{few_paths_are_not_many}
+use Rattle.verify_core.proofs.OwedOnce.{owed_is_one, few_obligations_are_not_many}
 use Rattle.mir_ir.specs.declared.body.Bodies.{Bodies}
+
+-- the tables of a program with these bodies
+abbrev tables_at : Bodies → Tables
+tables_at bodies = record { adts = bodies.decls }
 
 same_ok : {A B : Type 0} {a b : A} → ◌≡◌ {A = Result A B} (Ok a) (Ok b) → a ≡ b
 same_ok e = cc
@@ -80,7 +85,7 @@ module _ (source : List ℕ) where
     refused_not_past error limit (IsRefused.by_types {items = items} has is) (IsPastLimit.functions many) = not_few [] source one_place_at_first items limit has.spelled has.few many
     refused_not_past error _ r (IsPastLimit.blocks {table} {typed} a more) = typed_not_refused table typed error a r
     refused_not_past error _ r (IsPastLimit.paths {table} {typed} a l few many) = typed_not_refused table typed error a r
-    refused_not_past error _ r (IsPastLimit.obligations {table} {typed} gs a l few paths have many) = typed_not_refused table typed error a r
+    refused_not_past error _ r (IsPastLimit.obligations {table} {typed} a l few paths have many) = typed_not_refused table typed error a r
 
     -- what is typed has not too many functions
     typed_not_many : (t : List (List ℕ)) (p : TypedProgram) (limit : Limit) → IsTypedAs source t p → IsSourceError [] source (errors.Limit limit) → ⊥
@@ -97,42 +102,42 @@ module _ (source : List ℕ) where
     one_limit one other (IsPastLimit.functions h) (IsPastLimit.functions g) = h.is ∙ sym g.is
     one_limit one _ (IsPastLimit.functions h) (IsPastLimit.blocks {table} {typed} a more) = absurd (typed_not_many table typed one a h)
     one_limit one _ (IsPastLimit.functions h) (IsPastLimit.paths {table} {typed} a l few many) = absurd (typed_not_many table typed one a h)
-    one_limit one _ (IsPastLimit.functions h) (IsPastLimit.obligations {table} {typed} gs a l few paths have many) = absurd (typed_not_many table typed one a h)
+    one_limit one _ (IsPastLimit.functions h) (IsPastLimit.obligations {table} {typed} a l few paths have many) = absurd (typed_not_many table typed one a h)
     one_limit _ _ (IsPastLimit.blocks a more) (IsPastLimit.bytes long) = absurd (omega (arith, short, long))
     one_limit _ other (IsPastLimit.blocks {table} {typed} a more) (IsPastLimit.functions g) = absurd (typed_not_many table typed other a g)
     one_limit _ _ (IsPastLimit.blocks a more) (IsPastLimit.blocks b also) = refl
     one_limit _ _ (IsPastLimit.blocks {table = t} {typed = p} a more) (IsPastLimit.paths {table = u} {typed = q} {bs} {cs} {gones} b l few many) = absurd (no_more u t q p bs cs gones b a l few more)
-    one_limit _ _ (IsPastLimit.blocks {table = t} {typed = p} a more) (IsPastLimit.obligations {table = u} {typed = q} {bs} {cs} {gones} gs b l few paths have many) = absurd (no_more u t q p bs cs gones b a l few more)
+    one_limit _ _ (IsPastLimit.blocks {table = t} {typed = p} a more) (IsPastLimit.obligations {table = u} {typed = q} {bs} {cs} {gones} b l few paths have many) = absurd (no_more u t q p bs cs gones b a l few more)
     one_limit _ _ (IsPastLimit.paths a l few many) (IsPastLimit.bytes long) = absurd (omega (arith, short, long))
     one_limit _ other (IsPastLimit.paths {table} {typed} a l few many) (IsPastLimit.functions g) = absurd (typed_not_many table typed other a g)
     one_limit _ _ (IsPastLimit.paths {table = t} {typed = p} {bs} {cs} {gones} a l few many) (IsPastLimit.blocks {table = u} {typed = q} b more) = absurd (no_more t u p q bs cs gones a b l few more)
     one_limit _ _ (IsPastLimit.paths a l few many) (IsPastLimit.paths b m less more) = refl
-    one_limit _ _ (IsPastLimit.paths {table = t} {typed = p} {bs} {cs} {gones} a l few many) (IsPastLimit.obligations {table = u} {typed = q} {bs = ds} {cs = es} {gones = others} gs b m less paths have more) =
+    one_limit _ _ (IsPastLimit.paths {table = t} {typed = p} {bs} {cs} {gones} a l few many) (IsPastLimit.obligations {table = u} {typed = q} {bs = ds} {cs = es} {gones = others} b m less paths have more) =
         absurd (few_and_many u t q p ds bs es cs others gones b a m l paths many)
-    one_limit _ _ (IsPastLimit.obligations gs a l few paths have many) (IsPastLimit.bytes long) = absurd (omega (arith, short, long))
-    one_limit _ other (IsPastLimit.obligations {table} {typed} gs a l few paths have many) (IsPastLimit.functions g) = absurd (typed_not_many table typed other a g)
-    one_limit _ _ (IsPastLimit.obligations {table = t} {typed = p} {bs} {cs} {gones} gs a l few paths have many) (IsPastLimit.blocks {table = u} {typed = q} b more) = absurd (no_more t u p q bs cs gones a b l few more)
-    one_limit _ _ (IsPastLimit.obligations {table = t} {typed = p} {bs} {cs} {gones} gs a l few paths have many) (IsPastLimit.paths {table = u} {typed = q} {bs = ds} {cs = es} {gones = others} b m less more) =
+    one_limit _ _ (IsPastLimit.obligations a l few paths have many) (IsPastLimit.bytes long) = absurd (omega (arith, short, long))
+    one_limit _ other (IsPastLimit.obligations {table} {typed} a l few paths have many) (IsPastLimit.functions g) = absurd (typed_not_many table typed other a g)
+    one_limit _ _ (IsPastLimit.obligations {table = t} {typed = p} {bs} {cs} {gones} a l few paths have many) (IsPastLimit.blocks {table = u} {typed = q} b more) = absurd (no_more t u p q bs cs gones a b l few more)
+    one_limit _ _ (IsPastLimit.obligations {table = t} {typed = p} {bs} {cs} {gones} a l few paths have many) (IsPastLimit.paths {table = u} {typed = q} {bs = ds} {cs = es} {gones = others} b m less more) =
         absurd (few_and_many t u p q bs ds cs es gones others a b l m paths more)
-    one_limit _ _ (IsPastLimit.obligations gs a l few paths have many) (IsPastLimit.obligations hs b m less ways had more) = refl
+    one_limit _ _ (IsPastLimit.obligations a l few paths have many) (IsPastLimit.obligations b m less ways had more) = refl
 
     -- ---- accepted sources
 
-    prepared_not_many : (p : Program) (gs : List FunctionGoals) (t : List (List ℕ)) (q : TypedProgram) (bs : Bodies) (cs : List Contract) (gones : List Initialised) → IsPrepared source p → IsTypedAs source t q → LowerTo t q.functions bs cs gones
-        → HaveGoals bs cs gones gs → most_obligations < length (obligations_in gs) → ⊥
-    prepared_not_many p gs t q bs cs gones h b l have many =
+    prepared_not_many : (p : Program) (many : ℕ) (owed : List Owed) (t : List (List ℕ)) (q : TypedProgram) (bs : Bodies) (cs : List Contract) (gones : List Initialised) → IsPrepared source p → IsTypedAs source t q → LowerTo t q.functions bs cs gones
+        → FunctionsOwe bs cs gones many owed → most_obligations < length owed → ⊥
+    prepared_not_many p many owed t q bs cs gones h b l owe more =
         let same = same_lowering t p.names q h.typed bs p.bodies cs p.contracts gones h.gones b h.is_typed l h.lowers in
-        let moved : HaveGoals p.bodies p.contracts h.gones gs =
-        subst (λ (x : List Initialised). HaveGoals p.bodies p.contracts x gs) same.2
-        (subst (λ (x : List Contract). HaveGoals p.bodies x gones gs) same.1 (subst (λ (x : Bodies). HaveGoals x cs gones gs) same.0 have)) in
-        few_obligations_are_not_many p.bodies p.contracts h.gones p.functions gs h.goals h.as_many h.few moved many
+        let moved : FunctionsOwe p.bodies p.contracts h.gones many owed =
+        subst (λ (x : List Initialised). FunctionsOwe p.bodies p.contracts x many owed) same.2
+        (subst (λ (x : List Contract). FunctionsOwe p.bodies x gones many owed) same.1 (subst (λ (x : Bodies). FunctionsOwe x cs gones many owed) same.0 owe)) in
+        few_obligations_are_not_many p.bodies p.contracts h.gones many p.obligations owed h.owed h.few moved more
 
     pub prepared_not_past : (p : Program) (limit : Limit) → IsPrepared source p → IsPastLimit source limit → ⊥
     prepared_not_past p _ h (IsPastLimit.bytes long) = omega (arith, short, long)
     prepared_not_past p limit h (IsPastLimit.functions g) = typed_not_many p.names h.typed limit h.is_typed g
     prepared_not_past p _ h (IsPastLimit.blocks {table} {typed} b more) = no_more p.names table h.typed typed p.bodies p.contracts h.gones h.is_typed b h.lowers h.blocks more
     prepared_not_past p _ h (IsPastLimit.paths {table} {typed} {bs} {cs} {gones} b l few many) = few_and_many p.names table h.typed typed p.bodies bs p.contracts cs h.gones gones h.is_typed b h.lowers l h.paths many
-    prepared_not_past p _ h (IsPastLimit.obligations {table} {typed} {bs} {cs} {gones} gs b l few paths have many) = prepared_not_many p gs table typed bs cs gones h b l have many
+    prepared_not_past p _ h (IsPastLimit.obligations {table} {typed} {bs} {cs} {gones} {many} {owed} b l few paths owe more) = prepared_not_many p many owed table typed bs cs gones h b l owe more
 
   pub prepared_not_refused : (p : Program) (error : SourceError) → IsPrepared source p → IsRefused source error → ⊥
   prepared_not_refused p error h r = typed_not_refused p.names h.typed error h.is_typed r
@@ -140,14 +145,18 @@ module _ (source : List ℕ) where
   pub one_program : (one other : Program) → IsPrepared source one → IsPrepared source other → one ≡ other
   one_program one other h g =
       let same = same_lowering one.names other.names h.typed g.typed one.bodies other.bodies one.contracts other.contracts h.gones g.gones h.is_typed g.is_typed h.lowers g.lowers in
-      let moved : HaveGoals other.bodies other.contracts g.gones one.functions =
-      subst (λ (x : List Initialised). HaveGoals other.bodies other.contracts x one.functions) same.2
-      (subst (λ (x : List Contract). HaveGoals other.bodies x h.gones one.functions) same.1 (subst (λ (x : Bodies). HaveGoals x one.contracts h.gones one.functions) same.0 h.goals)) in
-      let goals : one.functions ≡ other.functions = goals_once other.bodies other.contracts g.gones one.functions other.functions moved g.goals (h.as_many ∙ ap (λ (x : Bodies). length x.bodies) same.0 ∙ sym g.as_many) in
+      let moved : FunctionsOwe other.bodies other.contracts g.gones (length one.bodies.bodies) one.obligations =
+      subst (λ (x : List Initialised). FunctionsOwe other.bodies other.contracts x (length one.bodies.bodies) one.obligations) same.2
+      (subst (λ (x : List Contract). FunctionsOwe other.bodies x h.gones (length one.bodies.bodies) one.obligations) same.1
+      (subst (λ (x : Bodies). FunctionsOwe x one.contracts h.gones (length one.bodies.bodies) one.obligations) same.0 h.owed)) in
+      let as_many : FunctionsOwe other.bodies other.contracts g.gones (length other.bodies.bodies) one.obligations = subst (λ (n : ℕ). FunctionsOwe other.bodies other.contracts g.gones n one.obligations) (ap (λ (x : Bodies). length x.bodies) same.0) moved in
+      let obligations : one.obligations ≡ other.obligations = owed_is_one other.bodies other.contracts g.gones (length other.bodies.bodies) one.obligations other.obligations as_many g.owed in
+      let tables : one.tables ≡ other.tables = h.tables ∙ ap tables_at same.0 ∙ sym g.tables in
       let names : one.names ≡ other.names = same_tables one.names other.names h.typed g.typed h.is_typed g.is_typed in
       λ i. record {
         names = names i;
         bodies = same.0 i;
         contracts = same.1 i;
-        functions = goals i;
+        tables = tables i;
+        obligations = obligations i;
       }

@@ -1,9 +1,10 @@
 -- What each pass needs, it is given; and where a pass refuses, the source is refused for a cause.
-use Rattle.std.proofs.Common.{◌≡◌, ◌∙◌, refl, sym, ap, subst, ℕ, zero, suc, ◌+◌, ◌<◌, ◌≤◌, ◌⊎◌, inl, inr, List, [], ◌∷◌, ◌++◌, length, get_or, Some, None, Ok, slice_get, arith}
+use Rattle.std.proofs.Common.{◌≡◌, ◌∙◌, refl, sym, ap, subst, ℕ, zero, suc, ◌+◌, ◌<◌, ◌≤◌, ◌⊎◌, inl, inr, List, [], ◌++◌, length, get_or, Some, None, Ok, slice_get, add-one, arith}
 use Rattle.std.proofs.lemmas.Bool.{cases_lt}
-use Rattle.std.proofs.lemmas.List.{length-append}
+use Rattle.std.proofs.lemmas.List.{length-append, length-map}
 use Rattle.std.proofs.lemmas.Option.{slice_get_read}
 use Rattle.text_core.specs.declared.refusal.Limit.{Limit}
+use Rattle.logic_term.specs.declared.declaration.AdtDecl.{AdtDecl}
 use Rattle.logic_term.specs.declared.kinds.Label.{Label}
 use Rattle.logic_term.specs.declared.obligation.Contract.{Contract}
 use Rattle.logic_term.specs.declared.obligation.Obligation.{Obligation}
@@ -17,6 +18,8 @@ use Rattle.mir_ir.specs.declared.terminator.Callee.TheVariants.{Function}
 use Rattle.mir_ir.specs.declared.terminator.TerminatorKind.{TerminatorKind}
 use Rattle.mir_ir.specs.declared.terminator.TerminatorKind.TheVariants.{Call}
 use Rattle.mir_ir.specs.WellFormed.{EndIsTyped}
+use Rattle.proof_kernel.specs.declared.setting.Tables.{Tables}
+use Rattle.proof_kernel.specs.Setting.{no_tables}
 use Rattle.text_core.specs.declared.fault.PassError.{PassError}
 use Rattle.text_core.specs.declared.fault.PassError.TheVariants as errors
 use Rattle.source_words.specs.Words.{GivesNames}
@@ -34,21 +37,21 @@ use Rattle.mir_build.specs.Whole.{FailsFor, HaveFewBlocks}
 use Rattle.mir_build.proofs.LawsOfPrograms.{bodies_are_laid_out}
 use Rattle.wp_gen.specs.Paths.{HasPaths, HasMorePaths}
 use Rattle.wp_gen.specs.Count.{LeavesRoom, AreSomeObligations}
-use Rattle.wp_gen.specs.Walk.{Setting, AreObligations}
+use Rattle.wp_gen.specs.Walk.{Setting}
 use Rattle.wp_gen.proofs.ExistLaws.{have_obligations}
 use Rattle.wp_gen.specs.Walkable.{CanWalk}
 use Rattle.verify_core.specs.declared.fault.Refusal.{Refusal}
 use Rattle.verify_core.specs.declared.fault.Refusal.TheVariants as refusals
-use Rattle.verify_core.specs.declared.goals.FunctionGoals.{FunctionGoals}
+use Rattle.prophecy_sim.specs.declared.node.Node.TheVariants.{Function as OfFunction}
+use Rattle.verify_core.specs.declared.owed.Owed.{Owed}
 use Rattle.verify_core.specs.Built.{SpellsBuilt, IsSourceError}
 use Rattle.verify_core.specs.OnSource.{IsPastSomeLimit, RefusesProofs, Refuses}
-use Rattle.verify_core.specs.Passes.{CanWalkAt, CanWalkAll, AreLaidOut, HaveFewGoals, IsSettingAt, AreTooMany, IsGoalsError, IsPathsError}
+use Rattle.verify_core.specs.Passes.{CanWalkAt, CanWalkAll, AddsOwed, AreLaidOut, HaveFewGoals, IsSettingAt, AreTooMany, IsGoalsError, IsPathsError}
 use Rattle.verify_core.specs.declared.program.Program.{Program}
-use Rattle.verify_core.specs.Prepared.{HasItems, IsPrepared, IsTypedAs, gone_of, HasGoals, HaveGoals, HasManyPaths, HaveFewPaths, IsPastLimit, IsRefused, RefusesSource, most_paths, most_obligations}
+use Rattle.verify_core.specs.Prepared.{HasItems, IsPrepared, IsTypedAs, gone_of, AreOfWalk, FunctionOwes, FunctionsOwe, HasManyPaths, HaveFewPaths, IsPastLimit, IsRefused, RefusesSource, most_paths, most_obligations}
 use Rattle.verify_core.specs.Refusals.{refusal_of}
-use Rattle.verify_core.specs.Verdict.{obligations_in}
+use Rattle.verify_core.specs.Owed.{owing}
 use Rattle.verify_core.proofs.Assembly.{sound, gone_at}
-use Rattle.verify_core.proofs.JudgeLaws.{in_one_more}
 use Rattle.verify_core.proofs.ReachLaws.{within, got}
 use Rattle.verify_core.proofs.Verified.{typed_program_fits}
 use Rattle.mir_ir.specs.declared.body.Bodies.{Bodies}
@@ -89,7 +92,16 @@ lowering_refused source table typed (errors.Limit l) t (is, more) = subst (λ (m
 lowering_refused source table typed errors.NoMemory t fails = tt
 
 pub obligations_refused : (source : List ℕ) (table : List (List ℕ)) (typed : TypedProgram) (l : Lowered) (limit : Limit) → IsTypedAs source table typed → IsLowered table typed l → HaveFewBlocks l.bodies → HaveFewPaths l.bodies → IsGoalsError l limit → IsPastLimit source limit
-obligations_refused source table typed l limit t lowered blocks paths (many, is) = subst (λ (m : Limit). IsPastLimit source m) (sym is) (IsPastLimit.obligations many.functions t lowered blocks paths many.goals many.many)
+obligations_refused source table typed l limit t lowered blocks paths (many, is) = subst (λ (m : Limit). IsPastLimit source m) (sym is) (IsPastLimit.obligations t lowered blocks paths many.owe many.many)
+
+-- ---- declarations
+
+abbrev with_types : List AdtDecl → Tables
+with_types adts = record { adts = adts }
+
+-- so far a program declares nothing
+pub tables_are : (table : List (List ℕ)) (typed : TypedProgram) (l : Lowered) (T : Tables) → IsLowered table typed l → T ≡ no_tables → T ≡ record { adts = l.bodies.decls }
+tables_are table typed l T lowered is = is ∙ ap with_types (sym lowered.decls)
 
 -- ---- bodies that can be walked
 
@@ -112,6 +124,7 @@ module _ (table : List (List ℕ)) where
       record {
         contracts = sizes.0;
         gone = sizes.1;
+        numbered = λ n b is_body. (sound table typed.functions l.bodies l.contracts l.gone lowers n b is_body).2;
         walk = λ n b c is_body is_contract. record {
           laid_out = bodies_are_laid_out table typed.functions l.bodies l.contracts l.gone lowers n b is_body;
           calls = λ label k p callee types args m is_block ends.
@@ -122,26 +135,6 @@ module _ (table : List (List ℕ)) where
 
   pub laid_out : (typed : TypedProgram) (l : Lowered) → IsLowered table typed l → ProgramFits typed → AreLaidOut l.bodies
   laid_out typed l lowered fits n b is = bodies_are_laid_out table typed.functions l.bodies l.contracts l.gone (record { lowers = lowered; fits = fits }) n b is
-
--- ---- one function more
-
-at_end : {A : Type 0} (xs : List A) (x y : A) (n : ℕ) → slice_get (xs ++ x ∷ []) n ≡ Some y → (slice_get xs n ≡ Some y) ⊎ ((n ≡ length xs) × (x ≡ y))
-at_end [] x y zero e = inr (refl, some_same e)
-at_end [] x y (suc n) e = absurd (let none : None ≡ Some y = e in cc)
-at_end (z ∷ xs) x y zero e = inl e
-at_end (z ∷ xs) x y (suc n) e = elim (at_end xs x y n e) [ inl there ↦ inl there | inr (last, is) ↦ inr (ap suc last, is) ]
-
-pub one_more_goals : (bs : Bodies) (cs : List Contract) (gones : List Initialised) (gs : List FunctionGoals) (place : ℕ) (g : FunctionGoals) → length gs ≡ place → HaveGoals bs cs gones gs → HasGoals bs cs gones place g → HaveGoals bs cs gones (gs ++ g ∷ [])
-one_more_goals bs cs gones gs place g so_many have has n h e = elim (at_end gs g h n e) [
-  | inl there ↦ have n h there
-  | inr (last, is) ↦ subst (λ (x : FunctionGoals). HasGoals bs cs gones n x) is (subst (λ (m : ℕ). HasGoals bs cs gones m g) (sym (last ∙ so_many)) has)
-]
-
-pub length_one_more : {A : Type 0} (xs : List A) (x : A) (n : ℕ) → length xs ≡ n → length (xs ++ x ∷ []) ≡ n + 1
-length_one_more xs x n e = length-append xs (x ∷ []) ∙ ap (λ (k : ℕ). k + 1) e
-
-pub many_more : (gs : List FunctionGoals) (g : FunctionGoals) (many : ℕ) → many ≡ length (obligations_in gs) → many + length g.obligations ≡ length (obligations_in (gs ++ g ∷ []))
-many_more gs g many e = ap (λ (k : ℕ). k + length g.obligations) e ∙ sym (length-append (obligations_in gs) g.obligations) ∙ ap length (sym (in_one_more gs g))
 
 -- ---- one function
 
@@ -163,32 +156,34 @@ walk_at l n w can at =
     (subst (λ (xs : List Contract). CanWalk (record { body = w.body; contracts = xs; contract = w.contract; init = gone_of l.gone n })) (sym at.contracts) (can w.body w.contract at.body at.contract))
 
 -- obligations of the walk are those of the function, and the other way round
-of_function : (l : Lowered) (n : ℕ) (w : Setting) → IsSettingAt l n w → (os : List Obligation) (paths : ℕ) → AreObligations w 1 os paths → AreObligations (record { body = w.body; contracts = l.contracts; contract = w.contract; init = gone_of l.gone n }) 1 os paths
-of_function l n w at os paths are =
-    subst (λ (x : Initialised). AreObligations (record { body = w.body; contracts = l.contracts; contract = w.contract; init = x }) 1 os paths) at.gone
-    (subst (λ (xs : List Contract). AreObligations (record { body = w.body; contracts = xs; contract = w.contract; init = w.init }) 1 os paths) at.contracts are)
+same_setting : (l : Lowered) (n : ℕ) (w : Setting) → IsSettingAt l n w → w ≡ record { body = w.body; contracts = l.contracts; contract = w.contract; init = gone_of l.gone n }
+same_setting l n w at = λ i. record {
+  body = w.body;
+  contracts = at.contracts i;
+  contract = w.contract;
+  init = at.gone i;
+}
 
-of_walk : (l : Lowered) (n : ℕ) (w : Setting) → IsSettingAt l n w → (os : List Obligation) (paths : ℕ) → AreObligations (record { body = w.body; contracts = l.contracts; contract = w.contract; init = gone_of l.gone n }) 1 os paths → AreObligations w 1 os paths
-of_walk l n w at os paths are =
-    subst (λ (x : Initialised). AreObligations (record { body = w.body; contracts = w.contracts; contract = w.contract; init = x }) 1 os paths) (sym at.gone)
-    (subst (λ (xs : List Contract). AreObligations (record { body = w.body; contracts = xs; contract = w.contract; init = gone_of l.gone n }) 1 os paths) (sym at.contracts) are)
-
-pub has_goals : (l : Lowered) (n : ℕ) (w : Setting) (g : FunctionGoals) (os : List Obligation) (paths : ℕ) → IsSettingAt l n w → g.name ≡ w.body.owner → g.obligations ≡ os → AreObligations w 1 os paths → HasGoals l.bodies l.contracts l.gone n g
-has_goals l n w g os paths at name is are = record {
+function_owes : (l : Lowered) (n : ℕ) (w : Setting) (os : List Obligation) → IsSettingAt l n w → AreOfWalk w os → FunctionOwes l.bodies l.contracts l.gone n os
+function_owes l n w os at are = record {
   body = w.body;
   is_body = at.body;
   contract = w.contract;
   is_contract = at.contract;
-  goals = record {
-    name = name;
-    paths = paths;
-    are = subst (λ (xs : List Obligation). AreObligations (record { body = w.body; contracts = l.contracts; contract = w.contract; init = gone_of l.gone n }) 1 xs paths) (sym is) (of_function l n w at os paths are);
-  };
+  of_walk = subst (λ (v : Setting). AreOfWalk v os) (same_setting l n w at) are;
 }
 
-pub no_goals : (bs : Bodies) (cs : List Contract) (gones : List Initialised) (gs : List FunctionGoals) → gs ≡ [] → HaveGoals bs cs gones gs
-no_goals bs cs gones [] is n g e = absurd (let none : None ≡ Some g = e in cc)
-no_goals bs cs gones (h ∷ gs) is n g e = absurd cc
+of_walk_at : (l : Lowered) (n : ℕ) (w : Setting) (os : List Obligation) → IsSettingAt l n w → FunctionOwes l.bodies l.contracts l.gone n os → AreOfWalk w os
+of_walk_at l n w os at owes =
+    let own : AreOfWalk (record { body = owes.body; contracts = l.contracts; contract = owes.contract; init = gone_of l.gone n }) os = owes.of_walk in
+    let with_body = subst (λ (b : Body). AreOfWalk (record { body = b; contracts = l.contracts; contract = owes.contract; init = gone_of l.gone n }) os) (some_same (sym owes.is_body ∙ at.body)) own in
+    let with_contract = subst (λ (c : Contract). AreOfWalk (record { body = w.body; contracts = l.contracts; contract = c; init = gone_of l.gone n }) os) (some_same (sym owes.is_contract ∙ at.contract)) with_body in
+    subst (λ (v : Setting). AreOfWalk v os) (sym (same_setting l n w at)) with_contract
+
+-- the walk's obligations, as those of the function that has this number
+pub adds_owed : (l : Lowered) (n : ℕ) (w : Setting) (os : List Obligation) (before after : List Owed) → CanWalkAll l → IsSettingAt l n w → AreOfWalk w os → after ≡ before ++ owing (OfFunction w.body.id) os → AddsOwed l n before after
+adds_owed l n w os before after can at are is =
+    (os, function_owes l n w os at are, is ∙ ap (λ (k : ℕ). before ++ owing (OfFunction k) os) (can.numbered n w.body at.body))
 
 -- ---- paths
 
@@ -236,82 +231,66 @@ proofs_refused source proofs p refusals.NoMemory prepared is = tt
 
 -- ---- one function more
 
-pub next_goals : (l : Lowered) (gs after : List FunctionGoals) (place : ℕ) (g : FunctionGoals) → after ≡ gs ++ g ∷ [] → length gs ≡ place → HaveGoals l.bodies l.contracts l.gone gs → HasGoals l.bodies l.contracts l.gone place g
-    → HaveGoals l.bodies l.contracts l.gone after
-next_goals l gs after place g is so_many have has = subst (λ (xs : List FunctionGoals). HaveGoals l.bodies l.contracts l.gone xs) (sym is) (one_more_goals l.bodies l.contracts l.gone gs place g so_many have has)
+pub one_more_owes : (l : Lowered) (n : ℕ) (before after : List Owed) → FunctionsOwe l.bodies l.contracts l.gone n before → AddsOwed l n before after → FunctionsOwe l.bodies l.contracts l.gone (n + 1) after
+one_more_owes l n before after owe (os, own, is) = rw (add-one, is) (FunctionsOwe.and_function owe own)
+
+pub all_owe : (l : Lowered) (n : ℕ) (owed : List Owed) → length l.bodies.bodies ≤ n → n ≤ length l.bodies.bodies → FunctionsOwe l.bodies l.contracts l.gone n owed → FunctionsOwe l.bodies l.contracts l.gone (length l.bodies.bodies) owed
+all_owe l n owed past within_all owe =
+    let same : n ≡ length l.bodies.bodies = omega arith in
+    subst (λ (k : ℕ). FunctionsOwe l.bodies l.contracts l.gone k owed) same owe
 
 -- ---- the room for obligations
 
 -- what is left after whatever obligations the first functions have
 abbrev pub RoomBefore : Lowered → ℕ → ℕ → Type 0
-RoomBefore l n left = (gs : List FunctionGoals) → HaveGoals l.bodies l.contracts l.gone gs → length gs ≡ n → left + length (obligations_in gs) ≡ most_obligations
+RoomBefore l n left = (owed : List Owed) → FunctionsOwe l.bodies l.contracts l.gone n owed → left + length owed ≡ most_obligations
 
 pub all_room : (l : Lowered) → RoomBefore l 0 most_obligations
-all_room l [] have none = omega arith
-all_room l (g ∷ gs) have none = absurd (omega (arith, none))
+all_room l _ FunctionsOwe.none = omega arith
 
--- the last of one more
-split_last : {A : Type 0} (xs : List A) (n : ℕ) → length xs ≡ n + 1 → (front : List A) × (x : A) × (xs ≡ front ++ x ∷ []) × (length front ≡ n)
-split_last [] n e = absurd (omega (arith, e))
-split_last (x ∷ []) n e = ([], x, refl, omega (arith, e))
-split_last (x ∷ y ∷ xs) zero e = absurd (omega (arith, e))
-split_last (x ∷ y ∷ xs) (suc n) e =
-    let r = split_last (y ∷ xs) n (omega (arith, e)) in
-    (x ∷ r.0, r.1, ap (λ ys. x ∷ ys) r.2, omega (arith, r.3))
+more_in : (front : List Owed) (n : ℕ) (os : List Obligation) → length (front ++ owing (OfFunction n) os) ≡ length front + length os
+more_in front n os = length-append front (owing (OfFunction n) os) ∙ ap (λ (k : ℕ). length front + k) (length-map os (λ (o : Obligation). record { by = OfFunction n; obligation = o }))
 
-before_last : {A : Type 0} (front : List A) (x : A) (n : ℕ) (y : A) → slice_get front n ≡ Some y → slice_get (front ++ x ∷ []) n ≡ Some y
-before_last [] x n y e = absurd cc
-before_last (z ∷ front) x zero y e = e
-before_last (z ∷ front) x (suc n) y e = before_last front x n y e
+some_obligations : (w : Setting) (os : List Obligation) → AreOfWalk w os → AreSomeObligations w os
+some_obligations w os (paths, are) = (1, paths, are)
 
-at_last : {A : Type 0} (front : List A) (x : A) → slice_get (front ++ x ∷ []) (length front) ≡ Some x
-at_last [] x = refl
-at_last (z ∷ front) x = at_last front x
-
--- the obligations of function n are those of its walk
-of_walk_at : (l : Lowered) (n : ℕ) (w : Setting) (g : FunctionGoals) → IsSettingAt l n w → HasGoals l.bodies l.contracts l.gone n g → AreSomeObligations w g.obligations
-of_walk_at l n w g at has =
-    let own : AreObligations (record { body = has.body; contracts = l.contracts; contract = has.contract; init = gone_of l.gone n }) 1 g.obligations has.goals.paths = has.goals.are in
-    let with_body = subst (λ (b : Body). AreObligations (record { body = b; contracts = l.contracts; contract = has.contract; init = gone_of l.gone n }) 1 g.obligations has.goals.paths) (some_same (sym has.is_body ∙ at.body)) own in
-    let with_contract = subst (λ (c : Contract). AreObligations (record { body = w.body; contracts = l.contracts; contract = c; init = gone_of l.gone n }) 1 g.obligations has.goals.paths) (some_same (sym has.is_contract ∙ at.contract)) with_body in
-    (1, has.goals.paths, of_walk l n w at g.obligations has.goals.paths with_contract)
-
-more_in : (gs front : List FunctionGoals) (g : FunctionGoals) → gs ≡ front ++ g ∷ [] → length (obligations_in gs) ≡ length (obligations_in front) + length g.obligations
-more_in gs front g is = ap (λ (xs : List FunctionGoals). length (obligations_in xs)) is ∙ sym (many_more front g (length (obligations_in front)) refl)
+room_behind : (l : Lowered) (n : ℕ) (w : Setting) (left rest : ℕ) → IsSettingAt l n w → RoomBefore l n left → LeavesRoom (AreSomeObligations w) left (Some rest) → RoomBefore l (suc n) rest
+room_behind l n w left rest at before leaves _ (FunctionsOwe.and_function {owed} {os} first own) =
+    omega (arith, more_in owed n os, before owed first, leaves os (some_obligations w os (of_walk_at l n w os at own)))
 
 pub room_before_next : (l : Lowered) (n : ℕ) (w : Setting) (left rest : ℕ) → IsSettingAt l n w → RoomBefore l n left → LeavesRoom (AreSomeObligations w) left (Some rest) → RoomBefore l (n + 1) rest
-room_before_next l n w left rest at before leaves gs have so_many =
-    let s = split_last gs n so_many in
-    let front_have : HaveGoals l.bodies l.contracts l.gone s.0 = λ i g e. have i g (subst (λ (xs : List FunctionGoals). slice_get xs i ≡ Some g) (sym s.2) (before_last s.0 s.1 i g e)) in
-    let last_has : HasGoals l.bodies l.contracts l.gone n s.1 =
-    have n s.1 (subst (λ (xs : List FunctionGoals). slice_get xs n ≡ Some s.1) (sym s.2) (subst (λ (i : ℕ). slice_get (s.0 ++ s.1 ∷ []) i ≡ Some s.1) s.3 (at_last s.0 s.1))) in
-    omega (arith, more_in gs s.0 s.1 s.2, before s.0 front_have s.3, leaves s.1.obligations (of_walk_at l n w s.1 at last_has))
+room_before_next l n w left rest at before leaves = rw add-one (room_behind l n w left rest at before leaves)
 
--- the first functions have some goals
-pub goals_exist : (l : Lowered) (n : ℕ) → CanWalkAll l → n ≤ length l.bodies.bodies → (gs : List FunctionGoals) × HaveGoals l.bodies l.contracts l.gone gs × (length gs ≡ n)
-goals_exist l zero can within = ([], λ i g e. absurd (let none : None ≡ Some g = e in cc), refl)
-goals_exist l (suc n) can inside =
-    let r = goals_exist l n can (omega (arith, inside)) in
+-- the function of this place owes something
+owes_some : (l : Lowered) (n : ℕ) (w : Setting) → CanWalkAll l → IsSettingAt l n w → (os : List Obligation) × AreOfWalk w os
+owes_some l n w can at =
+    let o = have_obligations w 1 (walk_at l n w (can.walk n) at) in
+    (o.0, (o.1, o.2))
+
+-- the first functions owe something
+owe_some : (l : Lowered) (n : ℕ) → CanWalkAll l → n ≤ length l.bodies.bodies → (owed : List Owed) × FunctionsOwe l.bodies l.contracts l.gone n owed
+owe_some l zero can within = ([], FunctionsOwe.none)
+owe_some l (suc n) can inside =
+    let r = owe_some l n can (omega (arith, inside)) in
     let b = got l.bodies.bodies n (omega (arith, inside)) in
     let c = got l.contracts n (omega (arith, inside, can.contracts)) in
     let w : Setting = record { body = b.0; contracts = l.contracts; contract = c.0; init = gone_of l.gone n } in
     let at : IsSettingAt l n w = record { body = b.1; contract = c.1; contracts = refl; gone = refl } in
-    let o = have_obligations w 1 (walk_at l n w (can.walk n) at) in
-    let g : FunctionGoals = record { name = w.body.owner; obligations = o.0 } in
-    let has : HasGoals l.bodies l.contracts l.gone n g = has_goals l n w g o.0 o.1 at refl refl o.2 in
-    (r.0 ++ g ∷ [], one_more_goals l.bodies l.contracts l.gone r.0 n g r.2 r.1 has, length_one_more r.0 g n r.2 ∙ omega arith)
+    let o = owes_some l n w can at in
+    (r.0 ++ owing (OfFunction n) o.0, FunctionsOwe.and_function r.1 (function_owes l n w o.0 at o.1))
 
 pub too_many : (l : Lowered) (n : ℕ) (w : Setting) (left : ℕ) → CanWalkAll l → n < length l.bodies.bodies → IsSettingAt l n w → RoomBefore l n left → LeavesRoom (AreSomeObligations w) left None → AreTooMany l
 too_many l n w left can inside at before leaves =
-    let r = goals_exist l n can (omega (arith, inside)) in
-    let o = have_obligations w 1 (walk_at l n w (can.walk n) at) in
-    let g : FunctionGoals = record { name = w.body.owner; obligations = o.0 } in
-    let has : HasGoals l.bodies l.contracts l.gone n g = has_goals l n w g o.0 o.1 at refl refl o.2 in
+    let r = owe_some l n can (omega (arith, inside)) in
+    let o = owes_some l n w can at in
     record {
-      functions = r.0 ++ g ∷ [];
-      goals = one_more_goals l.bodies l.contracts l.gone r.0 n g r.2 r.1 has;
-      many = omega (arith, more_in (r.0 ++ g ∷ []) r.0 g refl, before r.0 r.1 r.2, leaves o.0 (1, o.1, o.2));
+      functions = suc n;
+      owed = r.0 ++ owing (OfFunction n) o.0;
+      owe = FunctionsOwe.and_function r.1 (function_owes l n w o.0 at o.1);
+      many = omega (arith, more_in r.0 n o.0, before r.0 r.1, leaves o.0 (some_obligations w o.0 o.1));
     }
 
 pub few_goals : (l : Lowered) (n left : ℕ) → length l.bodies.bodies ≤ n → n ≤ length l.bodies.bodies → RoomBefore l n left → HaveFewGoals l
-few_goals l n left past within_all before gs are = omega (arith, before gs are.goals (omega (arith, are.as_many, past, within_all)))
+few_goals l n left past within_all before owed are =
+    let same : length l.bodies.bodies ≡ n = omega arith in
+    omega (arith, before owed (subst (λ (k : ℕ). FunctionsOwe l.bodies l.contracts l.gone k owed) same are))

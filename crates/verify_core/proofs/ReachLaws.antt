@@ -12,7 +12,9 @@ use Rattle.mir_ir.specs.declared.terminator.Callee.{Callee}
 use Rattle.mir_ir.specs.declared.terminator.TerminatorKind.{TerminatorKind}
 use Rattle.mir_ir.specs.declared.terminator.TerminatorKind.TheVariants.{Goto, If, Call, Return}
 use Rattle.verify_core.specs.Flags.{is_unset, end_calls_unset, calls_unset, ReachesOpen, AreJustified, AreSettled, Unsets, set_count}
-use Rattle.prophecy_sim.specs.Programs.{Calls, Reaches}
+use Rattle.prophecy_sim.specs.declared.node.Node.{Node}
+use Rattle.prophecy_sim.specs.declared.node.Node.TheVariants.{Function}
+use Rattle.prophecy_sim.specs.Programs.{Calls, Uses, by_call, Reaches}
 use Rattle.mir_ir.specs.declared.body.Bodies.{Bodies}
 use Rattle.mir_ir.specs.Callees.{callee_of}
 
@@ -30,19 +32,19 @@ same_or_other zero (suc j) = inr (λ e. absurd (omega arith))
 same_or_other (suc i) zero = inr (λ e. absurd (omega arith))
 same_or_other (suc i) (suc j) = elim (same_or_other i j) [ inl e ↦ inl (ap suc e) | inr other ↦ inr (λ e. other (omega arith)) ]
 
-get_other : (xs : List Bool) (i j : ℕ) (b : Bool) → (i ≡ j → ⊥) → slice_get (slice_set xs i b) j ≡ slice_get xs j
+pub get_other : (xs : List Bool) (i j : ℕ) (b : Bool) → (i ≡ j → ⊥) → slice_get (slice_set xs i b) j ≡ slice_get xs j
 get_other [] i j b other = refl
 get_other (x ∷ xs) zero zero b other = absurd (other refl)
 get_other (x ∷ xs) zero (suc j) b other = refl
 get_other (x ∷ xs) (suc i) zero b other = refl
 get_other (x ∷ xs) (suc i) (suc j) b other = get_other xs i j b (λ e. other (ap suc e))
 
-get_same : (xs : List Bool) (i : ℕ) (b x : Bool) → slice_get xs i ≡ Some x → slice_get (slice_set xs i b) i ≡ Some b
+pub get_same : (xs : List Bool) (i : ℕ) (b x : Bool) → slice_get xs i ≡ Some x → slice_get (slice_set xs i b) i ≡ Some b
 get_same [] i b x e = absurd (none_is_not e)
 get_same (y ∷ xs) zero b x e = refl
 get_same (y ∷ xs) (suc i) b x e = get_same xs i b x e
 
-length_same : (xs : List Bool) (i : ℕ) (b : Bool) → length (slice_set xs i b) ≡ length xs
+pub length_same : (xs : List Bool) (i : ℕ) (b : Bool) → length (slice_set xs i b) ≡ length xs
 length_same [] i b = refl
 length_same (x ∷ xs) zero b = refl
 length_same (x ∷ xs) (suc i) b = ap suc (length_same xs i b)
@@ -118,10 +120,10 @@ call_found bodies flags (Call p callee types args l) h = found (callee_of bodies
     found (Some m) is u = record { number = m; place = p; callee = callee; types = types; args = args; next = l; is = refl; is_callee = is; unset = unset_is (slice_get flags m) u }
     found None is u = absurd (true≢false (sym u))
 
--- a call first, and then what the callee reaches
-reaches_by : (bodies : Bodies) (f g m : ℕ) → Calls bodies f g → Reaches bodies g m → Reaches bodies f m
-reaches_by bodies f g m calls Reaches.itself = Reaches.by_call Reaches.itself calls
-reaches_by bodies f g m calls (Reaches.by_call {n = n} reaches last) = Reaches.by_call (reaches_by bodies f g n calls reaches) last
+-- what is used first, and then what that reaches
+reaches_by : (bodies : Bodies) (f g m : Node) → Uses bodies f g → Reaches bodies g m → Reaches bodies f m
+reaches_by bodies f g m uses Reaches.itself = Reaches.by_use Reaches.itself uses
+reaches_by bodies f g m uses (Reaches.by_use {n = n} reaches last) = Reaches.by_use (reaches_by bodies f g n uses reaches) last
 
 -- ---- one flag is unset
 
@@ -147,7 +149,7 @@ module _ (bodies : Bodies) (proved flags : List Bool) (justified : AreJustified 
         is_call = call.is;
         is_callee = call.is_callee;
       } in
-      record { open_one = beyond.open_one; reaches = reaches_by bodies f call.number beyond.open_one step beyond.reaches; is_open = beyond.is_open }
+      record { open_one = beyond.open_one; reaches = reaches_by bodies (Function f) (Function call.number) (Function beyond.open_one) (by_call step) beyond.reaches; is_open = beyond.is_open }
 
   abbrev after : List Bool
   after = slice_set flags f false
@@ -191,12 +193,26 @@ module _ (bodies : Bodies) (flags : List Bool) (as_many : length flags ≡ lengt
       let at : end_calls_unset bodies flags c.block.end.kind ≡ true = rw (c.is_call, c.is_callee, unset) refl in
       true≢false (sym (any_at (λ (e : Label × Block). end_calls_unset bodies flags e.1.end.kind) c.body.blocks c.at (c.label, c.block) c.is_block at) ∙ settled n c.body c.is_body set)
 
-  pub none_unset : (f m : ℕ) → Reaches bodies f m → slice_get flags f ≡ Some true → slice_get flags m ≡ Some false → ⊥
-  none_unset f m Reaches.itself set unset = true≢false (some_same (sym set ∙ unset))
-  none_unset f m (Reaches.by_call {n = n} reaches c) set unset = elim (set_or_not n (subst (λ (k : ℕ). n < k) (sym as_many) (within bodies.bodies n c.body c.is_body))) [
-    | inl there ↦ call_settled n m c there unset
+  -- the flag of the function
+  abbrev IsFlag : Bool → Node → Type 0
+  IsFlag flag (Function n) = slice_get flags n ≡ Some flag
+
+  use_settled : (n m : Node) → Uses bodies n m → IsFlag true n → IsFlag false m → ⊥
+  use_settled _ _ (Uses.by_call {n} {m} c) set unset = call_settled n m c set unset
+
+  -- a node that uses another has a flag
+  flag_of_user : (n m : Node) → Uses bodies n m → IsFlag true n ⊎ IsFlag false n
+  flag_of_user _ _ (Uses.by_call {n} {m} c) = set_or_not n (subst (λ (k : ℕ). n < k) (sym as_many) (within bodies.bodies n c.body c.is_body))
+
+  not_both : (n : Node) → IsFlag true n → IsFlag false n → ⊥
+  not_both (Function n) set unset = true≢false (some_same (sym set ∙ unset))
+
+  none_unset : (f m : Node) → Reaches bodies f m → IsFlag true f → IsFlag false m → ⊥
+  none_unset f m Reaches.itself set unset = not_both f set unset
+  none_unset f m (Reaches.by_use {n = n} reaches uses) set unset = elim (flag_of_user n m uses) [
+    | inl there ↦ use_settled n m uses there unset
     | inr there ↦ none_unset f n reaches set there
   ]
 
-  pub reached_set : (f m : ℕ) → Reaches bodies f m → slice_get flags f ≡ Some true → m < length flags → slice_get flags m ≡ Some true
-  reached_set f m reaches set h = elim (set_or_not m h) [ inl there ↦ there | inr there ↦ absurd (none_unset f m reaches set there) ]
+  pub reached_set : (f m : ℕ) → Reaches bodies (Function f) (Function m) → slice_get flags f ≡ Some true → m < length flags → slice_get flags m ≡ Some true
+  reached_set f m reaches set h = elim (set_or_not m h) [ inl there ↦ there | inr there ↦ absurd (none_unset (Function f) (Function m) reaches set there) ]

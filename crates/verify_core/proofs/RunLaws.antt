@@ -5,15 +5,14 @@ use Rattle.std.proofs.lemmas.List.{take_more, take_all, map-append}
 use Rattle.logic_term.specs.declared.obligation.Obligation.{Obligation}
 use Rattle.proof_kernel.specs.declared.setting.Tables.{Tables}
 use Rattle.proof_kernel.specs.declared.step.Step.{Step}
-use Rattle.proof_kernel.specs.Accepts.{Does, Runs, none, more, begun, RefusesFrom, here, later, «open»}
+use Rattle.proof_kernel.specs.Accepts.{Accepts, Does, Runs, none, more, begun, RefusesFrom, here, later, «open»}
 use Rattle.proof_kernel.specs.Progress.{Progress}
-use Rattle.proof_kernel.specs.Setting.{no_tables}
 use Rattle.proof_text.specs.declared.proof.NumberedStep.{NumberedStep}
 use Rattle.proof_text.specs.declared.proof.Proof.{Proof}
 use Rattle.report_out.specs.declared.verdict.Reason.{Reason}
 use Rattle.report_out.specs.declared.verdict.Reason.TheVariants.{Proof as Refused}
 use Rattle.report_out.specs.declared.verdict.LeftItem.{LeftItem}
-use Rattle.verify_core.specs.Verdict.{steps_of, line_behind, IsAccepted, IsRefusedAt, is_for, Settles, Judges, left_item}
+use Rattle.verify_core.specs.Verdict.{steps_of, line_behind, IsRefusedAt, is_for, Settles, Judges, left_item}
 use Rattle.verify_core.specs.VerdictWords.{Checks}
 
 -- ---- the steps of a proof
@@ -22,15 +21,15 @@ one_more_step : {k m l : Progress} {steps : List Step} (step : Step) → Runs k 
 one_more_step step none does = more does none
 one_more_step step (more first rest) does = more first (one_more_step step rest does)
 
-pub begins : (T : Tables) (o : Obligation) (k : Progress) → T ≡ no_tables → k ≡ begun T o → Runs (begun no_tables o) [] k
-begins T o k t e = subst (λ (p : Progress). Runs (begun no_tables o) [] p) (sym (e ∙ ap (λ (u : Tables). begun u o) t)) none
+pub begins : (T : Tables) (o : Obligation) (k : Progress) → k ≡ begun T o → Runs (begun T o) [] k
+begins T o k e = subst (λ (p : Progress). Runs (begun T o) [] p) (sym e) none
 
-pub goes_on : (o : Obligation) (steps : List NumberedStep) (i : ℕ) (n : NumberedStep) (k m : Progress) →
-    i < length steps → n ≡ get_or steps i n → Runs (begun no_tables o) (steps_of (take i steps)) k → Does k n.step m → Runs (begun no_tables o) (steps_of (take (i + 1) steps)) m
-goes_on o steps i n k m within is runs does =
+pub goes_on : (T : Tables) (o : Obligation) (steps : List NumberedStep) (i : ℕ) (n : NumberedStep) (k m : Progress) →
+    i < length steps → n ≡ get_or steps i n → Runs (begun T o) (steps_of (take i steps)) k → Does k n.step m → Runs (begun T o) (steps_of (take (i + 1) steps)) m
+goes_on T o steps i n k m within is runs does =
     let taken : take (i + 1) steps ≡ take i steps ++ n ∷ [] = take_more steps i n within ∙ ap (λ (x : NumberedStep). take i steps ++ x ∷ []) (sym is) in
     let as_steps : steps_of (take (i + 1) steps) ≡ steps_of (take i steps) ++ n.step ∷ [] = ap steps_of taken ∙ map-append (λ (n : NumberedStep). n.step) (take i steps) (n ∷ []) in
-    subst (λ (ss : List Step). Runs (begun no_tables o) ss m) (sym as_steps) (one_more_step n.step runs does)
+    subst (λ (ss : List Step). Runs (begun T o) ss m) (sym as_steps) (one_more_step n.step runs does)
 
 split_at : (xs : List NumberedStep) (i : ℕ) (x : NumberedStep) → i < length xs → x ≡ get_or xs i x → (rest : List NumberedStep) × (xs ≡ take i xs ++ x ∷ rest)
 split_at [] i x within is = absurd (omega arith)
@@ -56,51 +55,51 @@ line_of_end : (ns : List NumberedStep) («end» : ℕ) → «end» ≡ line_behi
 line_of_end [] «end» = refl
 line_of_end (x ∷ ns) «end» = line_of_end ns «end»
 
-refused_behind : (o : Obligation) (ns : List NumberedStep) (n : NumberedStep) (rest : List NumberedStep) («end» : ℕ) (k : Progress) →
-    Runs (begun no_tables o) (steps_of ns) k → ((after : Progress) → Does k n.step after → ⊥) → IsRefusedAt o (ns ++ n ∷ rest) «end» n.line
-refused_behind o ns n rest «end» k runs never = record {
+refused_behind : (T : Tables) (o : Obligation) (ns : List NumberedStep) (n : NumberedStep) (rest : List NumberedStep) («end» : ℕ) (k : Progress) →
+    Runs (begun T o) (steps_of ns) k → ((after : Progress) → Does k n.step after → ⊥) → IsRefusedAt T o (ns ++ n ∷ rest) «end» n.line
+refused_behind T o ns n rest «end» k runs never = record {
   done = length (steps_of ns);
-  refuses = subst (λ (ss : List Step). RefusesFrom (begun no_tables o) ss (length (steps_of ns))) (sym (map-append (λ (n : NumberedStep). n.step) ns (n ∷ rest))) (refused_step n.step (steps_of rest) runs never);
+  refuses = subst (λ (ss : List Step). RefusesFrom (begun T o) ss (length (steps_of ns))) (sym (map-append (λ (n : NumberedStep). n.step) ns (n ∷ rest))) (refused_step n.step (steps_of rest) runs never);
   is_line = line_of_step ns n rest «end»;
 }
 
-pub refused_there : (o : Obligation) (steps : List NumberedStep) («end» i : ℕ) (n : NumberedStep) (k : Progress) →
-    i < length steps → n ≡ get_or steps i n → Runs (begun no_tables o) (steps_of (take i steps)) k → ((after : Progress) → Does k n.step after → ⊥) → IsRefusedAt o steps «end» n.line
-refused_there o steps «end» i n k within is runs never =
+pub refused_there : (T : Tables) (o : Obligation) (steps : List NumberedStep) («end» i : ℕ) (n : NumberedStep) (k : Progress) →
+    i < length steps → n ≡ get_or steps i n → Runs (begun T o) (steps_of (take i steps)) k → ((after : Progress) → Does k n.step after → ⊥) → IsRefusedAt T o steps «end» n.line
+refused_there T o steps «end» i n k within is runs never =
     let found = split_at steps i n within is in
-    subst (λ (ns : List NumberedStep). IsRefusedAt o ns «end» n.line) (sym found.1) (refused_behind o (take i steps) n found.0 «end» k runs never)
+    subst (λ (ns : List NumberedStep). IsRefusedAt T o ns «end» n.line) (sym found.1) (refused_behind T o (take i steps) n found.0 «end» k runs never)
 
-all_run : (o : Obligation) (steps : List NumberedStep) (i : ℕ) (k : Progress) → length steps ≤ i → Runs (begun no_tables o) (steps_of (take i steps)) k → Runs (begun no_tables o) (steps_of steps) k
-all_run o steps i k past runs = subst (λ (ns : List NumberedStep). Runs (begun no_tables o) (steps_of ns) k) (take_all i steps past) runs
+all_run : (T : Tables) (o : Obligation) (steps : List NumberedStep) (i : ℕ) (k : Progress) → length steps ≤ i → Runs (begun T o) (steps_of (take i steps)) k → Runs (begun T o) (steps_of steps) k
+all_run T o steps i k past runs = subst (λ (ns : List NumberedStep). Runs (begun T o) (steps_of ns) k) (take_all i steps past) runs
 
-pub accepted : (o : Obligation) (steps : List NumberedStep) (i : ℕ) (k : Progress) → length steps ≤ i → Runs (begun no_tables o) (steps_of (take i steps)) k → k.left ≡ [] → IsAccepted o steps
-accepted o steps i k past runs closed = record { last = k; runs = all_run o steps i k past runs; closed = closed }
+pub accepted : (T : Tables) (o : Obligation) (steps : List NumberedStep) (i : ℕ) (k : Progress) → length steps ≤ i → Runs (begun T o) (steps_of (take i steps)) k → k.left ≡ [] → Accepts T o (steps_of steps)
+accepted T o steps i k past runs closed = record { last = k; runs = all_run T o steps i k past runs; closed = closed }
 
-pub left_open : (o : Obligation) (steps : List NumberedStep) («end» i : ℕ) (k : Progress) → length steps ≤ i → Runs (begun no_tables o) (steps_of (take i steps)) k → (k.left ≡ [] → ⊥) → IsRefusedAt o steps «end» «end»
-left_open o steps «end» i k past runs is_open = record { done = length (steps_of steps); refuses = refused_end (all_run o steps i k past runs) is_open; is_line = line_of_end steps «end» }
+pub left_open : (T : Tables) (o : Obligation) (steps : List NumberedStep) («end» i : ℕ) (k : Progress) → length steps ≤ i → Runs (begun T o) (steps_of (take i steps)) k → (k.left ≡ [] → ⊥) → IsRefusedAt T o steps «end» «end»
+left_open T o steps «end» i k past runs is_open = record { done = length (steps_of steps); refuses = refused_end (all_run T o steps i k past runs) is_open; is_line = line_of_end steps «end» }
 
 -- ---- one obligation
 
-pub proof_accepted : (ps : List Proof) (o : Obligation) (p : Proof) (steps : List NumberedStep) (r : Option ℕ) →
-    find (is_for o) ps ≡ Some p → steps ≡ p.steps → Checks o steps p.«end» r → r ≡ None → Settles ps o None
-proof_accepted ps o p steps r found is checks is_none =
-    let at : Checks o steps p.«end» None = subst (λ (x : Option ℕ). Checks o steps p.«end» x) is_none checks in
-    Settles.proved found (subst (λ (ns : List NumberedStep). IsAccepted o ns) is at)
+pub proof_accepted : (T : Tables) (ps : List Proof) (o : Obligation) (p : Proof) (steps : List NumberedStep) (r : Option ℕ) →
+    find (is_for o) ps ≡ Some p → steps ≡ p.steps → Checks T o steps p.«end» r → r ≡ None → Settles T ps o None
+proof_accepted T ps o p steps r found is checks is_none =
+    let at : Checks T o steps p.«end» None = subst (λ (x : Option ℕ). Checks T o steps p.«end» x) is_none checks in
+    Settles.proved found (subst (λ (ns : List NumberedStep). Accepts T o (steps_of ns)) is at)
 
-pub proof_refused : (ps : List Proof) (o : Obligation) (p : Proof) (steps : List NumberedStep) (r : Option ℕ) (line : ℕ) →
-    find (is_for o) ps ≡ Some p → steps ≡ p.steps → Checks o steps p.«end» r → r ≡ Some line → Settles ps o (Some (Refused line))
-proof_refused ps o p steps r line found is checks some =
-    let at : Checks o steps p.«end» (Some line) = subst (λ (x : Option ℕ). Checks o steps p.«end» x) some checks in
-    Settles.refused found (subst (λ (ns : List NumberedStep). IsRefusedAt o ns p.«end» line) is at)
+pub proof_refused : (T : Tables) (ps : List Proof) (o : Obligation) (p : Proof) (steps : List NumberedStep) (r : Option ℕ) (line : ℕ) →
+    find (is_for o) ps ≡ Some p → steps ≡ p.steps → Checks T o steps p.«end» r → r ≡ Some line → Settles T ps o (Some (Refused line))
+proof_refused T ps o p steps r line found is checks some =
+    let at : Checks T o steps p.«end» (Some line) = subst (λ (x : Option ℕ). Checks T o steps p.«end» x) some checks in
+    Settles.refused found (subst (λ (ns : List NumberedStep). IsRefusedAt T o ns p.«end» line) is at)
 
 -- ---- all of them
 
-pub one_more_proved : {ps : List Proof} {os : List Obligation} {left : List LeftItem} {n : ℕ} {o : Obligation} → Judges ps os left n → Settles ps o None → Judges ps (os ++ o ∷ []) left (suc n)
+pub one_more_proved : {T : Tables} {ps : List Proof} {os : List Obligation} {left : List LeftItem} {n : ℕ} {o : Obligation} → Judges T ps os left n → Settles T ps o None → Judges T ps (os ++ o ∷ []) left (suc n)
 one_more_proved Judges.none s = Judges.proved s Judges.none
 one_more_proved (Judges.proved first rest) s = Judges.proved first (one_more_proved rest s)
 one_more_proved (Judges.left first rest) s = Judges.left first (one_more_proved rest s)
 
-pub one_more_left : {ps : List Proof} {os : List Obligation} {left : List LeftItem} {n : ℕ} {o : Obligation} {r : Reason} → Judges ps os left n → Settles ps o (Some r) → Judges ps (os ++ o ∷ []) (left ++ left_item o r ∷ []) n
+pub one_more_left : {T : Tables} {ps : List Proof} {os : List Obligation} {left : List LeftItem} {n : ℕ} {o : Obligation} {r : Reason} → Judges T ps os left n → Settles T ps o (Some r) → Judges T ps (os ++ o ∷ []) (left ++ left_item o r ∷ []) n
 one_more_left Judges.none s = Judges.left s Judges.none
 one_more_left (Judges.proved first rest) s = Judges.proved first (one_more_left rest s)
 one_more_left (Judges.left first rest) s = Judges.left first (one_more_left rest s)

@@ -3,48 +3,43 @@ use Rattle.std.proofs.Common.{◌≡◌, ◌∙◌, refl, sym, subst, ℕ, List,
 use Rattle.std.specs.Prelude.{◌↔◌}
 use Rattle.logic_term.specs.declared.obligation.Obligation.{Obligation}
 use Rattle.mir_machine.specs.Good.{Each}
-use Rattle.proof_kernel.specs.Derivation.{IsProof}
-use Rattle.proof_kernel.specs.Setting.{no_tables}
+use Rattle.proof_kernel.specs.Accepts.{Accepts}
+use Rattle.proof_kernel.specs.declared.setting.Tables.{Tables}
 use Rattle.proof_kernel.proofs.AcceptLaw.{accepts_proofs}
-use Rattle.proof_text.specs.declared.proof.NumberedStep.{NumberedStep}
 use Rattle.proof_text.specs.declared.proof.Proof.{Proof}
 use Rattle.report_out.specs.declared.verdict.LeftItem.{LeftItem}
 use Rattle.report_out.specs.declared.verdict.Reason.{Reason}
-use Rattle.verify_core.specs.Verdict.{steps_of, IsAccepted, Settles, HasDerivation, Judges}
+use Rattle.verify_core.specs.Verdict.{steps_of, Settles, HasDerivation, Judges}
 use Rattle.verify_core.proofs.StepsOnce.{refused_is_no_proof}
-use Rattle.verify_core.proofs.Verified.{accepted_is_proof}
 
 -- ---- obligations
 
-proof_is_accepted : (o : Obligation) (steps : List NumberedStep) → IsProof no_tables o (steps_of steps) → IsAccepted o steps
-proof_is_accepted o steps proof = (accepts_proofs no_tables o (steps_of steps)).1 proof
-
-pub settled_derives : (ps : List Proof) (o : Obligation) → Settles ps o None → HasDerivation ps o
-settled_derives ps o (Settles.proved {p = p} found accepted) = record { proof = p; is_for_it = found; derives = accepted_is_proof o p.steps accepted }
+pub settled_derives : (T : Tables) (ps : List Proof) (o : Obligation) → Settles T ps o None → HasDerivation T ps o
+settled_derives T ps o (Settles.proved {p = p} found accepted) = record { proof = p; is_for_it = found; derives = (accepts_proofs T o (steps_of p.steps)).0 accepted }
 
 some_proof : (p q : Proof) → Some p ≡ Some q → p ≡ q
 some_proof p q e = cc
 
-pub left_underived : (ps : List Proof) (o : Obligation) (r : Reason) → Settles ps o (Some r) → HasDerivation ps o → ⊥
-left_underived ps o r (Settles.missing none) has = absurd (let e : None ≡ Some has.proof = sym none ∙ has.is_for_it in cc)
-left_underived ps o r (Settles.refused {p = p} {line = line} found refused) has =
+pub left_underived : (T : Tables) (ps : List Proof) (o : Obligation) (r : Reason) → Settles T ps o (Some r) → HasDerivation T ps o → ⊥
+left_underived T ps o r (Settles.missing none) has = absurd (let e : None ≡ Some has.proof = sym none ∙ has.is_for_it in cc)
+left_underived T ps o r (Settles.refused {p = p} {line = line} found refused) has =
     let same : has.proof ≡ p = some_proof has.proof p (sym has.is_for_it ∙ found) in
-    let accepted : IsAccepted o has.proof.steps = proof_is_accepted o has.proof.steps has.derives in
-    refused_is_no_proof o p.steps p.«end» line refused (subst (λ (q : Proof). IsAccepted o q.steps) same accepted)
+    let accepted : Accepts T o (steps_of has.proof.steps) = (accepts_proofs T o (steps_of has.proof.steps)).1 has.derives in
+    refused_is_no_proof T o p.steps p.«end» line refused (subst (λ (q : Proof). Accepts T o (steps_of q.steps)) same accepted)
 
 not_empty : (x : LeftItem) (xs : List LeftItem) → (x ∷ xs) ≡ [] → ⊥
 not_empty x xs e = absurd cc
 
-pub all_derived : (ps : List Proof) (os : List Obligation) (left : List LeftItem) (n : ℕ) → Judges ps os left n → left ≡ [] → Each (HasDerivation ps) os
-all_derived ps [] left n judged e = tt
-all_derived ps (o ∷ os) left n (Judges.proved settled rest) e = (settled_derives ps o settled, all_derived ps os left _ rest e)
-all_derived ps (o ∷ os) (i ∷ left) n (Judges.left settled rest) e = absurd (not_empty i left e)
+pub all_derived : (T : Tables) (ps : List Proof) (os : List Obligation) (left : List LeftItem) (n : ℕ) → Judges T ps os left n → left ≡ [] → Each (HasDerivation T ps) os
+all_derived T ps [] left n judged e = tt
+all_derived T ps (o ∷ os) left n (Judges.proved settled rest) e = (settled_derives T ps o settled, all_derived T ps os left _ rest e)
+all_derived T ps (o ∷ os) (i ∷ left) n (Judges.left settled rest) e = absurd (not_empty i left e)
 
-pub none_left_over : (ps : List Proof) (os : List Obligation) (left : List LeftItem) (n : ℕ) → Judges ps os left n → Each (HasDerivation ps) os → left ≡ []
-none_left_over ps [] left n Judges.none each = refl
-none_left_over ps (o ∷ os) left n (Judges.proved settled rest) each = none_left_over ps os left _ rest each.1
-none_left_over ps (o ∷ os) left n (Judges.left {r = r} settled rest) each = absurd (left_underived ps o r settled each.0)
+pub none_left_over : (T : Tables) (ps : List Proof) (os : List Obligation) (left : List LeftItem) (n : ℕ) → Judges T ps os left n → Each (HasDerivation T ps) os → left ≡ []
+none_left_over T ps [] left n Judges.none each = refl
+none_left_over T ps (o ∷ os) left n (Judges.proved settled rest) each = none_left_over T ps os left _ rest each.1
+none_left_over T ps (o ∷ os) left n (Judges.left {r = r} settled rest) each = absurd (left_underived T ps o r settled each.0)
 
 -- nothing is left exactly where each obligation has a derivation
-pub left_exactly : (ps : List Proof) (os : List Obligation) (left : List LeftItem) (n : ℕ) → Judges ps os left n → (left ≡ []) ↔ Each (HasDerivation ps) os
-left_exactly ps os left n judged = (all_derived ps os left n judged, none_left_over ps os left n judged)
+pub left_exactly : (T : Tables) (ps : List Proof) (os : List Obligation) (left : List LeftItem) (n : ℕ) → Judges T ps os left n → (left ≡ []) ↔ Each (HasDerivation T ps) os
+left_exactly T ps os left n judged = (all_derived T ps os left n judged, none_left_over T ps os left n judged)

@@ -5,6 +5,7 @@ use Rattle.mir_ir.specs.declared.body.Body.{Body}
 use Rattle.mir_ir.specs.declared.terminator.Callee.{Callee}
 use Rattle.mir_ir.specs.declared.terminator.TerminatorKind.{TerminatorKind}
 use Rattle.mir_ir.specs.declared.terminator.TerminatorKind.TheVariants.{Call}
+use Rattle.prophecy_sim.specs.declared.node.Node.TheVariants.{Function}
 use Rattle.prophecy_sim.specs.Programs.{Reaches}
 use Rattle.mir_ir.specs.declared.body.Bodies.{Bodies}
 use Rattle.mir_ir.specs.Callees.{callee_of}
@@ -28,7 +29,7 @@ calls_unset bodies flags b = list_any (λ e. end_calls_unset bodies flags e.1.en
 -- some function that f may reach is not proved
 pub record ReachesOpen (bodies : Bodies) (proved : List Bool) (f : ℕ) : Type 0 where
   pub open_one : ℕ
-  pub reaches : Reaches bodies f open_one
+  pub reaches : Reaches bodies (Function f) (Function open_one)
   pub is_open : slice_get proved open_one ≡ Some false
 
 -- a flag is set only where the function is proved, and unset only where it may reach one that is not

@@ -15,12 +15,14 @@ use Rattle.proof_text.specs.declared.proof.Proof.{Proof}
 use Rattle.report_out.specs.declared.verdict.Reason.{Reason}
 use Rattle.report_out.specs.declared.verdict.Verdict.{Verdict}
 use Rattle.wp_gen.specs.Walk.{Setting, AreObligations}
-use Rattle.verify_core.specs.declared.goals.FunctionGoals.{FunctionGoals}
+use Rattle.proof_kernel.specs.declared.setting.Tables.{Tables}
+use Rattle.proof_kernel.specs.Accepts.{Accepts}
+use Rattle.verify_core.specs.declared.owed.Owed.{Owed}
 use Rattle.text_core.specs.declared.refusal.Limit.{Limit}
 use Rattle.text_core.specs.declared.refusal.SourceError.{SourceError}
 use Rattle.verify_core.specs.declared.program.Program.{Program}
-use Rattle.verify_core.specs.Prepared.{HaveGoals, HaveFewPaths, HasManyPaths, IsPrepared, IsRefused, IsPastLimit, most_bytes, most_obligations}
-use Rattle.verify_core.specs.Verdict.{IsAccepted, IsRefusedAt, IsVerdict, Settles, HasDerivation, obligations_in}
+use Rattle.verify_core.specs.Prepared.{FunctionsOwe, HaveFewPaths, HasManyPaths, IsPrepared, IsRefused, IsPastLimit, most_bytes, most_obligations}
+use Rattle.verify_core.specs.Verdict.{steps_of, IsRefusedAt, IsVerdict, Settles, HasDerivation}
 use Rattle.mir_ir.specs.declared.body.Bodies.{Bodies}
 use Rattle.mir_machine.specs.Code.{code_of}
 
@@ -30,27 +32,26 @@ use Rattle.mir_machine.specs.Code.{code_of}
 abbrev pub ObligationsAreOne : Type 0
 ObligationsAreOne = (w : Setting) (start n m : ℕ) (os others : List Obligation) → AreObligations w start os n → AreObligations w start others m → (os ≡ others) × (n ≡ m)
 
--- so many of the first functions have one list of goals
-abbrev pub GoalsAreOne : Type 0
-GoalsAreOne = (bs : Bodies) (cs : List Contract) (gones : List Initialised) (gs others : List FunctionGoals) → HaveGoals bs cs gones gs → HaveGoals bs cs gones others → length gs ≡ length others → gs ≡ others
+-- so many of the first functions owe one list
+abbrev pub OwedIsOne : Type 0
+OwedIsOne = (bs : Bodies) (cs : List Contract) (gones : List Initialised) (n : ℕ) (os others : List Owed) → FunctionsOwe bs cs gones n os → FunctionsOwe bs cs gones n others → os ≡ others
 
--- the goals of fewer of the first functions stand at the front of those of more
+-- what fewer of the first functions owe stands at the front of what more of them do
 abbrev pub FewerAreFront : Type 0
-FewerAreFront = (bs : Bodies) (cs : List Contract) (gones : List Initialised) (gs others : List FunctionGoals) → HaveGoals bs cs gones gs → HaveGoals bs cs gones others → length gs ≤ length others → (rest : List FunctionGoals) × (others ≡ gs ++ rest)
+FewerAreFront = (bs : Bodies) (cs : List Contract) (gones : List Initialised) (n m : ℕ) (os others : List Owed) → FunctionsOwe bs cs gones n os → FunctionsOwe bs cs gones m others → n ≤ m → (rest : List Owed) × (others ≡ os ++ rest)
 
 -- so they have no more obligations
-abbrev pub FewerHaveFewer : Type 0
-FewerHaveFewer = (bs : Bodies) (cs : List Contract) (gones : List Initialised) (gs others : List FunctionGoals) → HaveGoals bs cs gones gs → HaveGoals bs cs gones others → length gs ≤ length others
-    → length (obligations_in gs) ≤ length (obligations_in others)
+abbrev pub FewerOweFewer : Type 0
+FewerOweFewer = (bs : Bodies) (cs : List Contract) (gones : List Initialised) (n m : ℕ) (os others : List Owed) → FunctionsOwe bs cs gones n os → FunctionsOwe bs cs gones m others → n ≤ m → length os ≤ length others
 
--- there are no more of them than bodies
-abbrev pub GoalsAreOfBodies : Type 0
-GoalsAreOfBodies = (bs : Bodies) (cs : List Contract) (gones : List Initialised) (gs : List FunctionGoals) → HaveGoals bs cs gones gs → length gs ≤ length bs.bodies
+-- no more functions owe than there are bodies
+abbrev pub OwedIsOfBodies : Type 0
+OwedIsOfBodies = (bs : Bodies) (cs : List Contract) (gones : List Initialised) (n : ℕ) (os : List Owed) → FunctionsOwe bs cs gones n os → n ≤ length bs.bodies
 
 -- where all functions have few enough obligations, no first functions have too many
 abbrev pub FewObligationsAreNotMany : Type 0
-FewObligationsAreNotMany = (bs : Bodies) (cs : List Contract) (gones : List Initialised) (gs firsts : List FunctionGoals) → HaveGoals bs cs gones gs → length gs ≡ length bs.bodies → length (obligations_in gs) ≤ most_obligations
-    → HaveGoals bs cs gones firsts → most_obligations < length (obligations_in firsts) → ⊥
+FewObligationsAreNotMany = (bs : Bodies) (cs : List Contract) (gones : List Initialised) (n : ℕ) (os firsts : List Owed) → FunctionsOwe bs cs gones (length bs.bodies) os → length os ≤ most_obligations
+    → FunctionsOwe bs cs gones n firsts → most_obligations < length firsts → ⊥
 
 -- ---- paths
 
@@ -62,17 +63,17 @@ FewPathsAreNotMany = (bs : Bodies) → HaveFewPaths bs → HasManyPaths bs → �
 
 -- steps are refused at one line
 abbrev pub RefusedAtOneLine : Type 0
-RefusedAtOneLine = (o : Obligation) (steps : List NumberedStep) («end» line other : ℕ) → IsRefusedAt o steps «end» line → IsRefusedAt o steps «end» other → line ≡ other
+RefusedAtOneLine = (T : Tables) (o : Obligation) (steps : List NumberedStep) («end» line other : ℕ) → IsRefusedAt T o steps «end» line → IsRefusedAt T o steps «end» other → line ≡ other
 
 -- and at none where they are accepted
 abbrev pub RefusedIsNotAccepted : Type 0
-RefusedIsNotAccepted = (o : Obligation) (steps : List NumberedStep) («end» line : ℕ) → IsAccepted o steps → IsRefusedAt o steps «end» line → ⊥
+RefusedIsNotAccepted = (T : Tables) (o : Obligation) (steps : List NumberedStep) («end» line : ℕ) → Accepts T o (steps_of steps) → IsRefusedAt T o steps «end» line → ⊥
 
 -- ---- the verdict
 
 -- the proofs of a file give the functions of a program one verdict
 abbrev pub VerdictIsOne : Type 0
-VerdictIsOne = (ps : List Proof) (bodies : Bodies) (goals : List FunctionGoals) (v other : Verdict) → IsVerdict ps bodies goals v → IsVerdict ps bodies goals other → v ≡ other
+VerdictIsOne = (ps : List Proof) (p : Program) (v other : Verdict) → IsVerdict ps p v → IsVerdict ps p other → v ≡ other
 
 -- ---- sources
 
@@ -102,10 +103,10 @@ RefusedIsWithinLimits = (source : List ℕ) (error : SourceError) (limit : Limit
 
 -- an obligation that is settled as proved has a derivation among the proofs, and one that is left, for whatever reason, has none
 abbrev pub SettledHasDerivation : Type 0
-SettledHasDerivation = (ps : List Proof) (o : Obligation) → Settles ps o None → HasDerivation ps o
+SettledHasDerivation = (T : Tables) (ps : List Proof) (o : Obligation) → Settles T ps o None → HasDerivation T ps o
 
 abbrev pub LeftHasNoDerivation : Type 0
-LeftHasNoDerivation = (ps : List Proof) (o : Obligation) (reason : Reason) → Settles ps o (Some reason) → HasDerivation ps o → ⊥
+LeftHasNoDerivation = (T : Tables) (ps : List Proof) (o : Obligation) (reason : Reason) → Settles T ps o (Some reason) → HasDerivation T ps o → ⊥
 
 -- ---- runs
 

@@ -1,10 +1,12 @@
 pub mod Built
+pub mod Declarations
 pub mod Firsts
 pub mod Flags
 pub mod Judging
 pub mod Laws
 pub mod Listing
 pub mod OnSource
+pub mod Owed
 pub mod Passes
 pub mod Prepared
 pub mod Refusals

@@ -3,7 +3,6 @@ use Rattle.std.specs.Prelude.{◌≡◌, ℕ, ◌<◌, true, List, [], length, S
 use Rattle.text_core.specs.declared.refusal.LimitKind.TheVariants.{ProofBytes}
 use Rattle.text_core.specs.declared.refusal.Limit.{Limit}
 use Rattle.logic_term.specs.declared.obligation.Contract.{Contract}
-use Rattle.logic_term.specs.Theory.{nothing_declared}
 use Rattle.mir_machine.specs.Good.{Good}
 use Rattle.proof_text.specs.declared.proof.ProofFile.{ProofFile}
 use Rattle.proof_text.specs.ProofTextFile.{SpellsProofs, IsFirstBadLine}
@@ -12,6 +11,7 @@ use Rattle.report_out.specs.declared.verdict.Verdict.{Verdict}
 use Rattle.verify_core.specs.declared.fault.Refusal.{Refusal}
 use Rattle.verify_core.specs.declared.fault.Refusal.TheVariants as refusals
 use Rattle.verify_core.specs.declared.program.Program.{Program}
+use Rattle.verify_core.specs.Declarations.{declared_of}
 use Rattle.verify_core.specs.Prepared.{IsPrepared, IsRefused, IsPastLimit}
 use Rattle.verify_core.specs.Verdict.{IsVerdict}
 
@@ -21,7 +21,7 @@ most_proof_bytes = 67108864
 
 -- each function that the verdict lists as verified is good for its contract
 abbrev pub AreGood : Program → Verdict → Type 0
-AreGood p v = (f : ℕ) (line : FnLine) (c : Contract) → slice_get v.functions f ≡ Some line → line.verified ≡ true → slice_get p.contracts f ≡ Some c → Good nothing_declared p.bodies f c
+AreGood p v = (f : ℕ) (line : FnLine) (c : Contract) → slice_get v.functions f ≡ Some line → line.verified ≡ true → slice_get p.contracts f ≡ Some c → Good (declared_of p) p.bodies f c
 
 -- the source is accepted, the bytes are a file of proofs, and this is the verdict
 pub record IsVerdictOn (source proofs : List ℕ) (v : Verdict) : Type 0 where
@@ -29,7 +29,7 @@ pub record IsVerdictOn (source proofs : List ℕ) (v : Verdict) : Type 0 where
   pub prepared : IsPrepared source program
   pub file : ProofFile
   pub spelled : SpellsProofs [] proofs file
-  pub is_verdict : IsVerdict file.proofs program.bodies program.functions v
+  pub is_verdict : IsVerdict file.proofs program v
   pub good : AreGood program v
 
 pub data IsPastSomeLimit (source proofs : List ℕ) : Limit → Type 0 where

@@ -1,26 +1,29 @@
 -- What the passes over lowered functions need and answer.
-use Rattle.std.specs.Prelude.{◌≡◌, ℕ, ◌+◌, ◌<◌, ◌≤◌, length, List, Some, slice_get}
+use Rattle.std.specs.Prelude.{◌≡◌, ℕ, ◌+◌, ◌<◌, ◌≤◌, ◌++◌, length, List, Some, slice_get}
 use Rattle.text_core.specs.declared.refusal.LimitKind.TheVariants.{Obligations, Paths}
 use Rattle.text_core.specs.declared.refusal.Limit.{Limit}
 use Rattle.logic_term.specs.declared.obligation.Contract.{Contract}
+use Rattle.logic_term.specs.declared.obligation.Obligation.{Obligation}
+use Rattle.prophecy_sim.specs.declared.node.Node.TheVariants.{Function}
 use Rattle.mir_ir.specs.declared.body.Body.{Body}
 use Rattle.mir_ir.specs.Layout.{IsLaidOut}
 use Rattle.mir_build.specs.declared.lowered.Lowered.{Lowered}
 use Rattle.wp_gen.specs.Walk.{Setting}
 use Rattle.wp_gen.specs.Walkable.{CanWalk}
-use Rattle.verify_core.specs.declared.goals.FunctionGoals.{FunctionGoals}
-use Rattle.verify_core.specs.Prepared.{gone_of, HaveGoals, HasManyPaths, most_paths, most_obligations}
-use Rattle.verify_core.specs.Verdict.{obligations_in}
+use Rattle.verify_core.specs.declared.owed.Owed.{Owed}
+use Rattle.verify_core.specs.Owed.{owing}
+use Rattle.verify_core.specs.Prepared.{gone_of, FunctionOwes, FunctionsOwe, HasManyPaths, most_paths, most_obligations}
 use Rattle.mir_ir.specs.declared.body.Bodies.{Bodies}
 
 -- the body of this place can be walked, if there is one
 abbrev pub CanWalkAt : Lowered → ℕ → Type 0
 CanWalkAt l n = (b : Body) (c : Contract) → slice_get l.bodies.bodies n ≡ Some b → slice_get l.contracts n ≡ Some c → CanWalk (record { body = b; contracts = l.contracts; contract = c; init = gone_of l.gone n })
 
--- there are as many contracts and gone places as bodies, and each body can be walked
+-- there are as many contracts and gone places as bodies; each body has its place as its number, and can be walked
 pub record CanWalkAll (l : Lowered) : Type 0 where
   pub contracts : length l.contracts ≡ length l.bodies.bodies
   pub gone : length l.gone ≡ length l.bodies.bodies
+  pub numbered : (n : ℕ) (b : Body) → slice_get l.bodies.bodies n ≡ Some b → b.id ≡ n
   pub walk : (n : ℕ) → CanWalkAt l n
 
 -- what the walk of the function of this place looks up
@@ -30,19 +33,24 @@ pub record IsSettingAt (l : Lowered) (n : ℕ) (w : Setting) : Type 0 where
   pub contracts : w.contracts ≡ l.contracts
   pub gone : w.init ≡ gone_of l.gone n
 
-pub record AreAllGoals (l : Lowered) (gs : List FunctionGoals) : Type 0 where
-  pub goals : HaveGoals l.bodies l.contracts l.gone gs
-  pub as_many : length gs ≡ length l.bodies.bodies
+-- the obligations of function n stand behind the earlier ones
+abbrev pub AddsOwed : Lowered → ℕ → List Owed → List Owed → Type 0
+AddsOwed l n before after = (os : List Obligation) × FunctionOwes l.bodies l.contracts l.gone n os × (after ≡ before ++ owing (Function n) os)
+
+-- all functions owe these
+abbrev pub AreAllOwed : Lowered → List Owed → Type 0
+AreAllOwed l owed = FunctionsOwe l.bodies l.contracts l.gone (length l.bodies.bodies) owed
 
 -- whatever obligations all functions have, they are few enough
 abbrev pub HaveFewGoals : Lowered → Type 0
-HaveFewGoals l = (gs : List FunctionGoals) → AreAllGoals l gs → length (obligations_in gs) ≤ most_obligations
+HaveFewGoals l = (owed : List Owed) → AreAllOwed l owed → length owed ≤ most_obligations
 
 -- the first functions have too many obligations
 pub record AreTooMany (l : Lowered) : Type 0 where
-  pub functions : List FunctionGoals
-  pub goals : HaveGoals l.bodies l.contracts l.gone functions
-  pub many : most_obligations < length (obligations_in functions)
+  pub functions : ℕ
+  pub owed : List Owed
+  pub owe : FunctionsOwe l.bodies l.contracts l.gone functions owed
+  pub many : most_obligations < length owed
 
 abbrev pub IsGoalsError : Lowered → Limit → Type 0
 IsGoalsError l limit = AreTooMany l × (limit ≡ record { kind = Obligations; counted = most_obligations + 1; bound = most_obligations })

@@ -1,13 +1,15 @@
 -- The program of a source, and why a source has none.
-use Rattle.std.specs.Prelude.{◌≡◌, ℕ, ◌+◌, ◌<◌, ◌≤◌, zero, suc, List, [], ◌∷◌, length, Some, slice_get, Ok, Err}
+use Rattle.std.specs.Prelude.{◌≡◌, ℕ, ◌+◌, ◌<◌, ◌≤◌, zero, suc, List, [], ◌∷◌, ◌++◌, length, Some, slice_get, Ok, Err}
 use Rattle.text_core.specs.declared.refusal.Limit.{Limit}
 use Rattle.text_core.specs.declared.refusal.LimitKind.TheVariants.{SourceBytes, Blocks, Paths, Obligations}
 use Rattle.text_core.specs.declared.refusal.SourceError.{SourceError}
 use Rattle.logic_term.specs.declared.obligation.Contract.{Contract}
+use Rattle.logic_term.specs.declared.obligation.Obligation.{Obligation}
 use Rattle.mir_ir.specs.declared.body.Body.{Body}
 use Rattle.mir_ir.specs.declared.body.Initialised.{Initialised}
 use Rattle.wp_gen.specs.Paths.{HasPaths, HasMorePaths}
-use Rattle.wp_gen.specs.Walk.{AreObligations}
+use Rattle.wp_gen.specs.Walk.{Setting, AreObligations}
+use Rattle.prophecy_sim.specs.declared.node.Node.TheVariants.{Function}
 use Rattle.prophecy_sim.specs.Programs as sim
 use Rattle.text_core.specs.declared.fault.PassError.TheVariants as errors
 use Rattle.source_words.specs.Words.{GivesNames}
@@ -19,10 +21,11 @@ use Rattle.mir_build.specs.Lowering.{LowerTo, HasMoreBlocks}
 use Rattle.mir_build.specs.Whole.{HaveFewBlocks}
 use Rattle.verify_core.specs.declared.fault.Refusal.{Refusal}
 use Rattle.verify_core.specs.declared.fault.Refusal.TheVariants as refusals
-use Rattle.verify_core.specs.declared.goals.FunctionGoals.{FunctionGoals}
+use Rattle.verify_core.specs.declared.owed.Owed.{Owed}
 use Rattle.verify_core.specs.declared.program.Program.{Program}
 use Rattle.verify_core.specs.Built.{SpellsBuilt, IsSourceError}
-use Rattle.verify_core.specs.Verdict.{obligations_in}
+use Rattle.verify_core.specs.Declarations.{tables_of}
+use Rattle.verify_core.specs.Owed.{owing}
 use Rattle.mir_ir.specs.declared.body.Bodies.{Bodies}
 
 -- ---- bounds
@@ -54,7 +57,7 @@ pub record IsTypedAs (source : List ℕ) (table : List (List ℕ)) (typed : Type
   pub has : HasItems source table items
   pub is_typed : checked items ≡ Ok typed
 
--- ---- goals
+-- ---- obligations
 
 -- what may be gone in function n; nothing past the end
 abbrev pub gone_of : List Initialised → ℕ → Initialised
@@ -65,23 +68,22 @@ gone_of (g ∷ gones) (suc n) = gone_of gones n
 abbrev pub program_of : Bodies → List Contract → List Initialised → sim.Program
 program_of bs cs gones = record { bodies = bs; contracts = cs; gone = gone_of gones }
 
--- the obligations of a body with its contract
-pub record AreGoalsOf (all : List Contract) (b : Body) (c : Contract) (gone : Initialised) (g : FunctionGoals) : Type 0 where
-  pub name : g.name ≡ b.owner
-  pub paths : ℕ
-  pub are : AreObligations (record { body = b; contracts = all; contract = c; init = gone }) 1 g.obligations paths
+-- the obligations of the walk of a body with its contract, from number 1 on
+abbrev pub AreOfWalk : Setting → List Obligation → Type 0
+AreOfWalk w os = (paths : ℕ) × AreObligations w 1 os paths
 
--- function n has these goals
-pub record HasGoals (bs : Bodies) (cs : List Contract) (gones : List Initialised) (n : ℕ) (g : FunctionGoals) : Type 0 where
+-- function n owes these
+pub record FunctionOwes (bs : Bodies) (cs : List Contract) (gones : List Initialised) (n : ℕ) (os : List Obligation) : Type 0 where
   pub body : Body
   pub is_body : slice_get bs.bodies n ≡ Some body
   pub contract : Contract
   pub is_contract : slice_get cs n ≡ Some contract
-  pub goals : AreGoalsOf cs body contract (gone_of gones n) g
+  pub of_walk : AreOfWalk (record { body = body; contracts = cs; contract = contract; init = gone_of gones n }) os
 
--- the first functions have these goals, in order
-abbrev pub HaveGoals : Bodies → List Contract → List Initialised → List FunctionGoals → Type 0
-HaveGoals bs cs gones gs = (n : ℕ) (g : FunctionGoals) → slice_get gs n ≡ Some g → HasGoals bs cs gones n g
+-- so many functions, the first ones, owe these, one function behind the other
+pub data FunctionsOwe (bs : Bodies) (cs : List Contract) (gones : List Initialised) : ℕ → List Owed → Type 0 where
+  none : FunctionsOwe bs cs gones 0 []
+  and_function : {n : ℕ} {owed : List Owed} {os : List Obligation} → FunctionsOwe bs cs gones n owed → FunctionOwes bs cs gones n os → FunctionsOwe bs cs gones (suc n) (owed ++ owing (Function n) os)
 
 -- ---- paths
 
@@ -106,9 +108,9 @@ pub record IsPrepared (source : List ℕ) (p : Program) : Type 0 where
   pub lowers : LowerTo p.names typed.functions p.bodies p.contracts gones
   pub blocks : HaveFewBlocks p.bodies
   pub paths : HaveFewPaths p.bodies
-  pub goals : HaveGoals p.bodies p.contracts gones p.functions
-  pub as_many : length p.functions ≡ length p.bodies.bodies
-  pub few : length (obligations_in p.functions) ≤ most_obligations
+  pub tables : p.tables ≡ tables_of p
+  pub owed : FunctionsOwe p.bodies p.contracts gones (length p.bodies.bodies) p.obligations
+  pub few : length p.obligations ≤ most_obligations
 
 -- ---- refused sources
 
@@ -124,8 +126,8 @@ pub data IsPastLimit (source : List ℕ) : Limit → Type 0 where
   blocks : {table : List (List ℕ)} {typed : TypedProgram} → IsTypedAs source table typed → HasMoreBlocks typed most_blocks → IsPastLimit source (record { kind = Blocks; counted = most_blocks + 1; bound = most_blocks })
   paths : {table : List (List ℕ)} {typed : TypedProgram} {bs : Bodies} {cs : List Contract} {gones : List Initialised} → IsTypedAs source table typed → LowerTo table typed.functions bs cs gones → HaveFewBlocks bs → HasManyPaths bs
       → IsPastLimit source (record { kind = Paths; counted = most_paths + 1; bound = most_paths })
-  obligations : {table : List (List ℕ)} {typed : TypedProgram} {bs : Bodies} {cs : List Contract} {gones : List Initialised} (gs : List FunctionGoals) → IsTypedAs source table typed → LowerTo table typed.functions bs cs gones
-      → HaveFewBlocks bs → HaveFewPaths bs → HaveGoals bs cs gones gs → most_obligations < length (obligations_in gs) → IsPastLimit source (record { kind = Obligations; counted = most_obligations + 1; bound = most_obligations })
+  obligations : {table : List (List ℕ)} {typed : TypedProgram} {bs : Bodies} {cs : List Contract} {gones : List Initialised} {many : ℕ} {owed : List Owed} → IsTypedAs source table typed → LowerTo table typed.functions bs cs gones
+      → HaveFewBlocks bs → HaveFewPaths bs → FunctionsOwe bs cs gones many owed → most_obligations < length owed → IsPastLimit source (record { kind = Obligations; counted = most_obligations + 1; bound = most_obligations })
 
 -- why a source has no program
 abbrev pub RefusesSource : List ℕ → Refusal → Type 0

@@ -22,20 +22,20 @@ fn take_step(alloc: Global, kernel: &mut Kernel<'_>, step: &Step) -> Result<bool
 }
 
 /// The line at which the kernel refuses the steps of a proof that ends at this line; `None` where they are a proof of
-/// the obligation. Want of memory is answered too where a step's number would pass 32 bits.
+/// the obligation by these tables. Want of memory is answered too where a step's number would pass 32 bits.
 pub(crate) fn refused_line(
     alloc: Global,
     obligation: &Obligation,
+    tables: &Tables,
     steps: &[NumberedStep],
     end: u32,
 ) -> Result<Option<u32>, NoMemory>
-    ensures { IfOk result (Checks obligation.now steps.now end) }
+    ensures { IfOk result (Checks tables.now obligation.now steps.now end) }
 {
     if steps.len() >= u32::MAX as usize - 1 {
         return Err(NoMemory);
     }
-    let tables = Tables::new(alloc);
-    let mut kernel = Kernel::new(alloc, obligation, &tables)?;
+    let mut kernel = Kernel::new(alloc, obligation, tables)?;
     for numbered in steps {
         if !take_step(alloc, &mut kernel, &numbered.step)? {
             return Ok(Some(numbered.line));

@@ -4,14 +4,14 @@ ghost use Rattle.verify_core.specs.Laws.{
   AcceptedIsNotRefused,
   AcceptedIsWithinLimits,
   FewerAreFront,
-  FewerHaveFewer,
+  FewerOweFewer,
   FewObligationsAreNotMany,
   FewPathsAreNotMany,
-  GoalsAreOfBodies,
-  GoalsAreOne,
   LeftHasNoDerivation,
   LimitIsOne,
   ObligationsAreOne,
+  OwedIsOfBodies,
+  OwedIsOne,
   ProgramIsOne,
   RefusalIsOne,
   RefusedAtOneLine,
@@ -26,12 +26,12 @@ pub fn obligations_are_of_one_walk()
     ensures { ObligationsAreOne }
 {}
 
-/// So many of the first functions of a program have one list of goals, which stands at the front of that of more functions.
-pub fn functions_have_one_list_of_goals()
-    ensures one { GoalsAreOne }
+/// So many of the first functions of a program owe one list of obligations, which stands at the front of that of more functions.
+pub fn functions_owe_one_list()
+    ensures one { OwedIsOne }
     ensures front { FewerAreFront }
-    ensures fewer { FewerHaveFewer }
-    ensures of_bodies { GoalsAreOfBodies }
+    ensures fewer { FewerOweFewer }
+    ensures of_bodies { OwedIsOfBodies }
 {}
 
 /// A program whose functions all have few enough obligations is never past the limit on obligations.

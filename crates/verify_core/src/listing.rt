@@ -1,21 +1,22 @@
 //! The list of the obligations of a program.
-ghost use Rattle.std.specs.Prelude.{◌≡◌, ◌+◌, ◌^◌, ◌<◌, ◌++◌, length, map, IfOk};
+ghost use Rattle.std.specs.Prelude.{◌≡◌, ◌+◌, ◌^◌, ◌<◌, length, map, IfOk};
 ghost use Rattle.verify_core.specs.Listing.{listed, list_text};
-ghost use Rattle.verify_core.specs.Verdict.{obligations_in};
+ghost use Rattle.verify_core.specs.Owed.{obligations_in};
 
-use crate::goals::FunctionGoals;
 use crate::program::Program;
 use goal_text::{Spelling, goal_text};
 use logic_term::Obligation;
 use report_out::{ListedItem, listing};
 use std::alloc::Global;
-use text_core::{Names, NoMemory, Text};
+use text_core::{NoMemory, Text};
 
-fn listed(alloc: Global, names: &Names, obligation: &Obligation) -> Result<ListedItem, NoMemory>
-    ensures { IfOk result (λ item. item ≡ listed names.now obligation.now) }
+fn listed(alloc: Global, program: &Program, obligation: &Obligation) -> Result<ListedItem, NoMemory>
+    ensures { IfOk result (λ item. item ≡ listed program.now obligation.now) }
 {
-    // Sources declare no types yet.
-    let spelling = Spelling { adts: &[], names };
+    let spelling = Spelling {
+        adts: program.bodies.decls.as_slice(),
+        names: &program.names,
+    };
     let term = obligation.goal.term(alloc)?;
     let goal = goal_text(alloc, &spelling, &term)?;
     Ok(ListedItem {
@@ -27,32 +28,12 @@ fn listed(alloc: Global, names: &Names, obligation: &Obligation) -> Result<Liste
     })
 }
 
-/// The obligations as they are listed, behind others.
-fn with_listed(
-    alloc: Global,
-    first: Vec<ListedItem>,
-    names: &Names,
-    obligations: &[Obligation],
-) -> Result<Vec<ListedItem>, NoMemory>
-    ensures { IfOk result (λ v. v.items ≡ first.items ++ map (listed names.now) obligations.now) }
-{
-    let mut items = first;
-    for obligation in obligations {
-        items.push(listed(alloc, names, obligation)?)?;
-    }
-    Ok(items)
-}
-
-fn all_listed(
-    alloc: Global,
-    names: &Names,
-    functions: &[FunctionGoals],
-) -> Result<Vec<ListedItem>, NoMemory>
-    ensures { IfOk result (λ v. v.items ≡ map (listed names.now) (obligations_in functions.now)) }
+fn all_listed(alloc: Global, program: &Program) -> Result<Vec<ListedItem>, NoMemory>
+    ensures { IfOk result (λ v. v.items ≡ map (listed program.now) (obligations_in program.now.obligations)) }
 {
     let mut items = Vec::new(alloc);
-    for function in functions {
-        items = with_listed(alloc, items, names, function.obligations.as_slice())?;
+    for owed in program.obligations.as_slice() {
+        items.push(listed(alloc, program, &owed.obligation)?)?;
     }
     Ok(items)
 }
@@ -61,8 +42,8 @@ fn all_listed(
 /// looked at for line numbers alone. Its one error is want of memory.
 pub fn list(alloc: Global, program: &Program, source: &[u8]) -> Result<Vec<u8>, NoMemory>
     requires { length source.now + 1 < 2 ^ 32 }
-    ensures { IfOk result (λ bytes. bytes.items ≡ list_text program.now.names source.now program.now.functions) }
+    ensures { IfOk result (λ bytes. bytes.items ≡ list_text program.now source.now) }
 {
-    let items = all_listed(alloc, &program.names, program.functions.as_slice())?;
+    let items = all_listed(alloc, program)?;
     listing(alloc, items.as_slice(), source)
 }

@@ -1,18 +1,22 @@
 //! The passes over a source.
-ghost use Rattle.std.specs.Prelude.{◌≡◌, ◌+◌, ◌^◌, ◌<◌, ◌≤◌, [], length, IfOk, IfErr, OnOk};
+ghost use Rattle.std.specs.Prelude.{◌≡◌, ◌+◌, ◌^◌, ◌<◌, ◌≤◌, ◌++◌, [], length, IfOk, IfErr, OnOk};
 ghost use Rattle.type_check.specs.WellTyped.{ProgramFits};
 ghost use Rattle.mir_build.specs.Lowering.{IsLowered};
 ghost use Rattle.mir_build.specs.Laws.{Lowers};
-ghost use Rattle.verify_core.specs.Prepared.{IsTypedAs, IsPrepared, HasGoals, HaveFewPaths, RefusesSource};
+ghost use Rattle.verify_core.specs.Prepared.{IsTypedAs, IsPrepared, HaveFewPaths, RefusesSource};
+ghost use Rattle.verify_core.specs.Owed.{owing};
 ghost use Rattle.wp_gen.specs.Walkable.{setting};
-ghost use Rattle.verify_core.specs.Passes.{CanWalkAt, CanWalkAll, AreAllGoals, AreLaidOut, HaveFewGoals, IsSettingAt, IsGoalsError, IsPathsError};
+ghost use Rattle.verify_core.specs.Passes.{CanWalkAll, AddsOwed, AreAllOwed, AreLaidOut, HaveFewGoals, IsSettingAt, IsGoalsError, IsPathsError};
 
 use crate::built::built_items;
 use crate::fault::Refusal;
-use crate::goals::FunctionGoals;
+use crate::owed::Owed;
 use crate::program::Program;
+use logic_term::Obligation;
 use mir_build::{Lowered, lower};
 use mir_ir::Bodies;
+use proof_kernel::Tables;
+use prophecy_sim::Node;
 use std::alloc::Global;
 use text_core::{Items, Limit, LimitKind, Names, NoMemory};
 use type_check::{TypedProgram, check};
@@ -81,32 +85,47 @@ fn check_obligations(lowered: &Lowered) -> Result<(), Limit>
     Ok(())
 }
 
-/// The obligations of the function of this place.
-fn function_goals(alloc: Global, lowered: &Lowered, place: usize) -> Result<FunctionGoals, NoMemory>
-    requires bodies { place < length lowered.now.bodies.bodies }
-    requires contracts { place < length lowered.now.contracts }
-    requires gone { place < length lowered.now.gone }
-    requires walk { CanWalkAt lowered.now place }
-    ensures { IfOk result (HasGoals lowered.now.bodies lowered.now.contracts lowered.now.gone place) }
+/// The obligations as the node owes them, behind others.
+fn with_owing(
+    first: Vec<Owed>,
+    by: Node,
+    obligations: Vec<Obligation>,
+) -> Result<Vec<Owed>, NoMemory>
+    ensures { IfOk result (λ v. v.items ≡ first.items ++ owing by obligations.items) }
+{
+    let mut owed = first;
+    for obligation in obligations {
+        owed.push(Owed { by, obligation })?;
+    }
+    Ok(owed)
+}
+
+/// The obligations of the function of this place, behind those of others.
+fn with_function(
+    alloc: Global,
+    first: Vec<Owed>,
+    lowered: &Lowered,
+    place: usize,
+) -> Result<Vec<Owed>, NoMemory>
+    requires inside { place < length lowered.now.bodies.bodies }
+    requires walk { CanWalkAll lowered.now }
+    ensures { IfOk result (λ v. AddsOwed lowered.now place first.items v.items) }
 {
     let walk = walk_of(lowered, place);
     let obligations = counted_obligations(alloc, &walk, 1)?;
-    Ok(FunctionGoals {
-        name: walk.body.owner.copy(alloc)?,
-        obligations: Items::from_vec(obligations),
-    })
+    Ok(with_owing(first, Node::Function(walk.body.id), obligations)?)
 }
 
 /// The obligations of all functions.
-fn all_goals(alloc: Global, lowered: &Lowered) -> Result<Items<FunctionGoals>, NoMemory>
+fn all_owed(alloc: Global, lowered: &Lowered) -> Result<Items<Owed>, NoMemory>
     requires { CanWalkAll lowered.now }
-    ensures { IfOk result (AreAllGoals lowered.now) }
+    ensures { IfOk result (AreAllOwed lowered.now) }
 {
-    let mut goals = Items::new(alloc);
+    let mut owed = Vec::new(alloc);
     for place in 0..lowered.bodies.bodies.len() {
-        goals.push(function_goals(alloc, lowered, place)?)?;
+        owed = with_function(alloc, owed, lowered, place)?;
     }
-    Ok(goals)
+    Ok(Items::from_vec(owed))
 }
 
 /// The program of a source: its functions as bodies, with their contracts and obligations.
@@ -130,7 +149,7 @@ pub fn prepare(alloc: Global, source: &[u8]) -> Result<Program, Refusal>
     let lowered = lower(alloc, &typed, &names)?;
     check_all_paths(&lowered.bodies)?;
     check_obligations(&lowered)?;
-    let functions = all_goals(alloc, &lowered)?;
+    let obligations = all_owed(alloc, &lowered)?;
     let Lowered {
         bodies,
         contracts,
@@ -140,6 +159,8 @@ pub fn prepare(alloc: Global, source: &[u8]) -> Result<Program, Refusal>
         names,
         bodies,
         contracts,
-        functions,
+        // So far sources declare nothing.
+        tables: Tables::new(alloc),
+        obligations,
     })
 }

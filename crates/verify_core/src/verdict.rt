@@ -2,55 +2,59 @@
 ghost use Rattle.std.specs.Prelude.{◌≡◌, length, map, IfOk};
 ghost use Rattle.verify_core.specs.Verdict.{IsVerdict};
 ghost use Rattle.verify_core.specs.Judging.{AreLinesOf};
+ghost use Rattle.verify_core.specs.Owed.{HaveOwners};
 
-use crate::goals::FunctionGoals;
 use crate::judge::judge;
+use crate::owed::Owed;
+use crate::program::Program;
 use crate::reach::settled_flags;
 use crate::table::ProofTable;
-use mir_ir::Bodies;
+use mir_ir::Body;
 use proof_text::Proof;
 use report_out::{FnLine, Verdict};
 use std::alloc::Global;
 use text_core::{Items, NoMemory};
 
-fn lines_of(
-    alloc: Global,
-    functions: &[FunctionGoals],
-    flags: &[bool],
-) -> Result<Items<FnLine>, NoMemory>
-    requires { length flags.now ≡ length functions.now }
-    ensures { IfOk result (AreLinesOf functions.now flags.now) }
+fn lines_of(alloc: Global, bodies: &[Body], flags: &[bool]) -> Result<Items<FnLine>, NoMemory>
+    requires { length flags.now ≡ length bodies.now }
+    ensures { IfOk result (AreLinesOf bodies.now flags.now) }
 {
     let mut lines = Items::new(alloc);
-    for (at, goals) in functions.iter().enumerate() {
+    for (at, body) in bodies.iter().enumerate() {
         lines.push(FnLine {
-            name: goals.name.copy(alloc)?,
+            name: body.owner.copy(alloc)?,
             verified: flags[at],
         })?;
     }
     Ok(lines)
 }
 
-/// The verdict on the functions, whose bodies stand in the same order, with the proofs of a file: a function is verified where
-/// all obligations of all functions that it may reach by calls are proved. Want of memory is answered too where a count
-/// would pass 32 bits.
-pub fn verdict_on(
-    alloc: Global,
-    functions: &[FunctionGoals],
-    bodies: &Bodies,
-    proofs: &[Proof],
-) -> Result<Verdict, NoMemory>
-    requires { length functions.now ≡ length bodies.now.bodies }
-    ensures { IfOk result (IsVerdict proofs.now bodies.now functions.now) }
+fn count(obligations: &[Owed]) -> Result<u32, NoMemory>
+    ensures { IfOk result (λ n. n ≡ length obligations.now) }
+{
+    match u32::try_from(obligations.len()) {
+        Ok(count) => Ok(count),
+        Err(_) => Err(NoMemory),
+    }
+}
+
+/// The verdict on the functions of the program, each of whose obligations is owed by a function that has a body, with the proofs of a
+/// file: a function is verified where all obligations of all functions that it may reach by calls are proved. Want of memory is
+/// answered too where a count would pass 32 bits.
+pub fn verdict_on(alloc: Global, program: &Program, proofs: &[Proof]) -> Result<Verdict, NoMemory>
+    requires { HaveOwners program.now.bodies program.now.obligations }
+    ensures { IfOk result (IsVerdict proofs.now program.now) }
 {
     let table = ProofTable::new(alloc, proofs)?;
-    let judged = judge(alloc, functions, &table)?;
-    let flags = settled_flags(judged.flags, bodies);
-    let functions = lines_of(alloc, functions, flags.as_slice())?;
+    let owed = program.obligations.as_slice();
+    let bodies = program.bodies.bodies.as_slice();
+    let judged = judge(alloc, owed, bodies, &program.tables, &table)?;
+    let flags = settled_flags(judged.flags, &program.bodies);
+    let functions = lines_of(alloc, bodies, flags.as_slice())?;
     Ok(Verdict {
         functions,
         left: Items::from_vec(judged.left),
-        obligations: judged.obligations,
+        obligations: count(owed)?,
         proved: judged.proved,
     })
 }

@@ -46,7 +46,6 @@ pub fn verify(alloc: Global, source: &[u8], proofs: &[u8]) -> Result<Verdict, Re
 {
     let program = prepare(alloc, source)?;
     let file = proofs_of(alloc, proofs)?;
-    let functions = program.functions.as_slice();
-    let verdict = verdict_on(alloc, functions, &program.bodies, file.proofs.as_slice())?;
+    let verdict = verdict_on(alloc, &program, file.proofs.as_slice())?;
     Ok(verdict)
 }

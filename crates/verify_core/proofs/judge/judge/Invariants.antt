@@ -1,6 +1,6 @@
-use Rattle.std.proofs.Common.{take}
+use Rattle.std.proofs.Common.{length, take}
 use Rattle.verify_core.specs.Judging.{HasJudged}
 use Rattle.verify_core.proofs.judge.judge.Given as goal
 
-abbrev pub invariant-loop-goals : goal.invariant-loop-goals
-invariant-loop-goals l = HasJudged l.proofs (take l.goals-index l.functions) l.judged
+abbrev pub invariant-loop-owed : goal.invariant-loop-owed
+invariant-loop-owed l = HasJudged l.tables l.proofs (take l.owed-index l.obligations) (length l.bodies) l.judged

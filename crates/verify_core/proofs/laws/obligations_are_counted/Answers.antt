@@ -1,4 +1,4 @@
-use Rattle.verify_core.proofs.OneCount.{few_obligations_are_not_many}
+use Rattle.verify_core.proofs.OwedOnce.{few_obligations_are_not_many}
 use Rattle.verify_core.proofs.laws.obligations_are_counted.Goals as goal
 
 pub returns : goal.returns

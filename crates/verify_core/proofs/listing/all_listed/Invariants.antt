@@ -1,7 +1,7 @@
 use Rattle.std.proofs.Common.{◌≡◌, map, take}
 use Rattle.verify_core.specs.Listing.{listed}
-use Rattle.verify_core.specs.Verdict.{obligations_in}
+use Rattle.verify_core.specs.Owed.{obligations_in}
 use Rattle.verify_core.proofs.listing.all_listed.Given as goal
 
-abbrev pub invariant-loop-function : goal.invariant-loop-function
-invariant-loop-function l = l.items.items ≡ map (listed l.names) (obligations_in (take l.function-index l.functions))
+abbrev pub invariant-loop-owed : goal.invariant-loop-owed
+invariant-loop-owed l = l.items.items ≡ map (listed l.program) (obligations_in (take l.owed-index l.program.obligations))

@@ -1,7 +1,7 @@
 use Rattle.std.proofs.Common.{arith}
 use Rattle.std.proofs.lemmas.Result.{err_from_is_err_and}
 use Rattle.verify_core.specs.Prepared.{IsPastLimit}
-use Rattle.verify_core.proofs.PassLaws.{lowering_refused, obligations_refused, paths_refused, walkable, laid_out}
+use Rattle.verify_core.proofs.PassLaws.{lowering_refused, obligations_refused, paths_refused, tables_are, walkable, laid_out}
 use Rattle.verify_core.proofs.preparing.prepare.Goals as goal
 
 pub returns-then-source-gt-SOURCE_BYTES-clause-refused : goal.returns-then-source-gt-SOURCE_BYTES-clause-refused
@@ -31,8 +31,8 @@ returns-in_err-check_obligations-clause-refused c =
     rw (p.1, p.2) (obligations_refused c.args.source.now c.typed_source.new.names c.in_ok-typed.typed c.in_ok-lowered.lowered _ c.in_ok-typed.ensures.ok (c.in_ok-lowered.ensures.lowered
     c.in_ok-typed.ensures.fits) c.in_ok-lowered.ensures.few c.in_ok-check_all_paths.ensures.ok c.in_err-check_obligations.ensures.err)
 
-pub all_goals-requires : goal.all_goals-requires
-all_goals-requires c = walkable c.typed_source.new.names c.in_ok-typed.typed c.in_ok-lowered.lowered (c.in_ok-lowered.ensures.lowered c.in_ok-typed.ensures.fits) c.in_ok-typed.ensures.fits
+pub all_owed-requires : goal.all_owed-requires
+all_owed-requires c = walkable c.typed_source.new.names c.in_ok-typed.typed c.in_ok-lowered.lowered (c.in_ok-lowered.ensures.lowered c.in_ok-typed.ensures.fits) c.in_ok-typed.ensures.fits
 
 pub returns-clause-ok : goal.returns-clause-ok
 returns-clause-ok c = record {
@@ -42,7 +42,7 @@ returns-clause-ok c = record {
   lowers = c.in_ok-lowered.ensures.lowered c.in_ok-typed.ensures.fits;
   blocks = c.in_ok-lowered.ensures.few;
   paths = c.in_ok-check_all_paths.ensures.ok;
-  goals = c.in_ok-functions.ensures.goals;
-  as_many = c.in_ok-functions.ensures.as_many;
-  few = c.in_ok-check_obligations.ensures.ok c.in_ok-functions.functions c.in_ok-functions.ensures;
+  tables = tables_are c.typed_source.new.names c.in_ok-typed.typed c.in_ok-lowered.lowered c.new.result (c.in_ok-lowered.ensures.lowered c.in_ok-typed.ensures.fits) c.new.ensures;
+  owed = c.in_ok-obligations.ensures;
+  few = c.in_ok-check_obligations.ensures.ok c.in_ok-obligations.obligations c.in_ok-obligations.ensures;
 }
