@@ -3,6 +3,7 @@ pub mod ArriveLaws
 pub mod Commands
 pub mod Exists
 pub mod OneWalk
+pub mod Loops
 pub mod Operations
 pub mod Prefixes
 pub mod Quotients

@@ -4,19 +4,14 @@ use Rattle.std.specs.Prelude.{ℕ, ◌+◌, ◌==◌, ◌||◌, ◌&&◌, Bool, 
 use Rattle.std.specs.List.{list_any}
 use Rattle.logic_term.specs.declared.kinds.Label.{Label}
 use Rattle.logic_term.specs.Ty.{Ty}
-use Rattle.mir_ir.specs.declared.place.Operand.{Operand}
-use Rattle.mir_ir.specs.declared.place.Operand.TheVariants.{Move}
 use Rattle.mir_ir.specs.declared.place.Place.{Place}
-use Rattle.mir_ir.specs.declared.statement.Rvalue.{Rvalue}
-use Rattle.mir_ir.specs.declared.statement.Rvalue.TheVariants.{Use, Binary, Neg, Not, Make}
 use Rattle.mir_ir.specs.declared.statement.StatementKind.{StatementKind}
-use Rattle.mir_ir.specs.declared.statement.StatementKind.TheVariants.{Assign, Dead}
 use Rattle.mir_ir.specs.declared.terminator.TerminatorKind.{TerminatorKind}
-use Rattle.mir_ir.specs.declared.terminator.TerminatorKind.TheVariants.{If, Call}
 use Rattle.mir_ir.specs.declared.body.Block.{Block}
 use Rattle.mir_ir.specs.declared.body.Body.{Body}
 use Rattle.mir_ir.specs.declared.body.Head.{Head}
 use Rattle.mir_ir.specs.declared.body.Initialised.{Initialised}
+use Rattle.mir_ir.specs.Acts.{Act, reads, takes, writes, dies, acts_of, acts_of_end, acts_along}
 use Rattle.mir_ir.specs.Layout.{among}
 use Rattle.prophecy_logic.specs.declared.command.Command.{Command}
 use Rattle.prophecy_logic.specs.declared.command.Command.TheVariants.{Fresh}
@@ -31,30 +26,26 @@ use Rattle.prophecy_logic.specs.Row.{name_of}
 abbrev pub is_in_loop : Label → Block → Bool
 is_in_loop l k = among l k.nest
 
--- the operand moves out of the local
-abbrev pub moves : ℕ → Operand → Bool
-moves x (Move p) = p.local == x
-moves x _ = false
+-- the act leaves another value in the local, or, as a move does, none
+abbrev pub touches : ℕ → Act → Bool
+touches x (reads p) = false
+touches x (takes p) = p.local == x
+touches x (writes p) = p.local == x
+touches x (dies y) = false
 
-abbrev pub rvalue_moves : ℕ → Rvalue → Bool
-rvalue_moves x (Use o) = moves x o
-rvalue_moves x (Binary op a b) = moves x a || moves x b
-rvalue_moves x (Neg o) = moves x o
-rvalue_moves x (Not o) = moves x o
-rvalue_moves x (Make c os) = list_any (moves x) os
+-- one of the acts does
+abbrev pub one_touches : ℕ → List Act → Bool
+one_touches x acts = list_any (touches x) acts
 
--- the statement writes the local; a move leaves nothing behind, which is a write too
-abbrev pub writes : ℕ → StatementKind → Bool
-writes x (Assign p r) = p.local == x || rvalue_moves x r
-writes x (Dead y) = false
+-- what a statement does to the local, and a block's end with an edge from it
+abbrev pub statement_touches : ℕ → StatementKind → Bool
+statement_touches x kind = one_touches x (acts_of kind)
 
-abbrev pub end_writes : ℕ → TerminatorKind → Bool
-end_writes x (Call p callee types args l) = p.local == x || list_any (moves x) args
-end_writes x (If o on_true on_false) = moves x o
-end_writes x _ = false
+abbrev pub end_touches : ℕ → TerminatorKind → Bool
+end_touches x kind = one_touches x (acts_of_end kind ++ acts_along kind)
 
 abbrev pub block_writes : ℕ → Block → Bool
-block_writes x k = list_any (λ st. writes x st.kind) k.statements || end_writes x k.end.kind
+block_writes x k = list_any (λ st. statement_touches x st.kind) k.statements || end_touches x k.end.kind
 
 -- some block of the loop writes the local, or moves out of it
 abbrev pub loop_writes : Body → Label → ℕ → Bool

@@ -17,7 +17,7 @@ use Rattle.mir_ir.specs.Body.{block_in}
 use Rattle.mir_ir.specs.Layout.{among}
 use Rattle.prophecy_logic.specs.Command.{by_fresh, MovesAll, none, more}
 use Rattle.prophecy_logic.specs.Row.{name_of}
-use Rattle.prophecy_logic.specs.Loop.{is_in_loop, writes, end_writes, block_writes, loop_writes, renewal, renewals}
+use Rattle.prophecy_logic.specs.Loop.{is_in_loop, statement_touches, end_touches, block_writes, loop_writes, renewal, renewals}
 use Rattle.prophecy_logic.specs.declared.touch.Touch.{Touch}
 use Rattle.prophecy_logic.specs.declared.touch.Touch.TheVariants.{Untouched, Whole}
 use Rattle.mir_ir.specs.Names.{LocalsAreNamed}
@@ -54,19 +54,19 @@ any_block p (c ∷ bs) l k e h = by_test (λ q. any_block p bs l k q h) (c.0.0 =
 
 -- a block of the loop writes what its statements write
 pub loop_writes_statement : (b : Body) (h l : Label) (k : Block) (i : ℕ) (st : Statement) (x : ℕ) → block_in b.blocks l ≡ Some k → among h k.nest ≡ true → slice_get k.statements i ≡ Some st →
-    writes x st.kind ≡ true → loop_writes b h x ≡ true
+    statement_touches x st.kind ≡ true → loop_writes b h x ≡ true
 loop_writes_statement b h l k i st x is_k inside is_st w =
     any_block (λ c. is_in_loop h c && block_writes x c) b.blocks l k is_k
     (and_both (is_in_loop h k) (block_writes x k) inside
-    (or_first (list_any (λ (s : Statement). writes x s.kind) k.statements) (end_writes x k.end.kind)
-    (any_at (λ (s : Statement). writes x s.kind) k.statements i st is_st w)))
+    (or_first (list_any (λ (s : Statement). statement_touches x s.kind) k.statements) (end_touches x k.end.kind)
+    (any_at (λ (s : Statement). statement_touches x s.kind) k.statements i st is_st w)))
 
 -- and what its end writes
-pub loop_writes_end : (b : Body) (h l : Label) (k : Block) (x : ℕ) → block_in b.blocks l ≡ Some k → among h k.nest ≡ true → end_writes x k.end.kind ≡ true → loop_writes b h x ≡ true
+pub loop_writes_end : (b : Body) (h l : Label) (k : Block) (x : ℕ) → block_in b.blocks l ≡ Some k → among h k.nest ≡ true → end_touches x k.end.kind ≡ true → loop_writes b h x ≡ true
 loop_writes_end b h l k x is_k within w =
     any_block (λ c. is_in_loop h c && block_writes x c) b.blocks l k is_k
     (and_both (is_in_loop h k) (block_writes x k) within
-    (or_second (list_any (λ (s : Statement). writes x s.kind) k.statements) (end_writes x k.end.kind) w))
+    (or_second (list_any (λ (s : Statement). statement_touches x s.kind) k.statements) (end_touches x k.end.kind) w))
 
 -- ---- new values
 

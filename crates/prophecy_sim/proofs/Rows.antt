@@ -25,7 +25,7 @@ use Rattle.prophecy_logic.specs.declared.goal.Goal.{Goal}
 use Rattle.prophecy_logic.specs.Row.{goals_of, commands_of}
 use Rattle.prophecy_logic.specs.Graph.{IsBefore, Ends, goto, branch, call, return}
 use Rattle.prophecy_logic.specs.Prefix.{within, over_statement, along_goto}
-use Rattle.prophecy_logic.specs.Loop.{loop_writes, writes}
+use Rattle.prophecy_logic.specs.Loop.{loop_writes, statement_touches}
 use Rattle.prophecy_logic.specs.Walk.{seen_before, goals_at_return, Walk, met}
 use Rattle.prophecy_logic.proofs.Commands.{GoalsHold, goals_moved, goals_first, goals_rest}
 use Rattle.prophecy_logic.proofs.Steps.{over_statement as passes, to_end}
@@ -122,10 +122,10 @@ module _ {K : Type 0} (s : Setup K) (f : FunctionOf s) (ρ₀ : Env) (fs : State
         behind = st.behind;
       }))
     where
-      not_written : (h : Label) (y : ℕ) → among h st.block.nest ≡ true → loop_writes b h y ≡ false → writes y x.kind ≡ false
-      not_written h y inside unwritten = by_test (writes y x.kind) refl
+      not_written : (h : Label) (y : ℕ) → among h st.block.nest ≡ true → loop_writes b h y ≡ false → statement_touches y x.kind ≡ false
+      not_written h y inside unwritten = by_test (statement_touches y x.kind) refl
         where
-          by_test : (t : Bool) → writes y x.kind ≡ t → writes y x.kind ≡ false
+          by_test : (t : Bool) → statement_touches y x.kind ≡ t → statement_touches y x.kind ≡ false
           by_test true q = absurd (true≢false (sym (loop_writes_statement b h g.label st.block g.statement x y st.is_block inside e q) ∙ unwritten))
           by_test false q = q
 

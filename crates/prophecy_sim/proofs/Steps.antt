@@ -15,16 +15,14 @@ use Rattle.mir_machine.proofs.NeverStuck.{Fits, run_goes}
 use Rattle.mir_machine.proofs.Tried.{Quiet, quiet_weaker, quiet_both}
 use Rattle.prophecy_logic.specs.Command.{MovesAll, none}
 use Rattle.prophecy_logic.specs.Row.{name_of, goals_of, commands_of}
-use Rattle.prophecy_logic.specs.Loop.{rvalue_moves, writes}
+use Rattle.prophecy_logic.specs.Loop.{statement_touches}
+use Rattle.prophecy_logic.proofs.Loops.{not_written}
+use Rattle.mir_ir.specs.Acts.{acts_of_rvalue}
 use Rattle.prophecy_logic.proofs.Commands.{GoalsHold}
 use Rattle.prophecy_sim.proofs.Setup.{Setup, FunctionOf, S, local_named, apart_from, not_new, IsOutside}
 use Rattle.prophecy_sim.proofs.Operands.{Agree, evaluated_before, with_before, without_before, assign_shows, dead_shows}
 use Rattle.prophecy_sim.proofs.Stands.{operand_sort}
 use Rattle.prophecy_sim.proofs.Assigns.{assigned}
-
-neither_first : (c d : Bool) → (c || d) ≡ false → c ≡ false
-neither_first true d e = absurd (true≢false e)
-neither_first false d e = refl
 
 pub other_number : (x y : ℕ) → (x == y) ≡ false → (y == x) ≡ false
 other_number x y e = grind arith
@@ -41,7 +39,7 @@ module _ {K : Type 0} (s : Setup K) (f : FunctionOf s) where
     pub moves : MovesAll (S s) (commands_of b kind) ρ env
     pub elsewhere : (n : Name) → IsOutside b n → env n ≡ ρ n
     -- what is not written and is initialised was so before, with the value that it has
-    pub others : (x : ℕ) (ty : Ty) → writes x kind ≡ false → run kind set x ≡ true → slice_get b.locals x ≡ Some ty → (set x ≡ true) × (env (name_of b x) ≡ ρ (name_of b x))
+    pub others : (x : ℕ) (ty : Ty) → statement_touches x kind ≡ false → run kind set x ≡ true → slice_get b.locals x ≡ Some ty → (set x ≡ true) × (env (name_of b x) ≡ ρ (name_of b x))
 
   pub statement_quiet : (kind : StatementKind) (set : Locals) (ls : List (Tree K)) (ρ : Env) (span : Span) → StatementIsTyped b kind → CanRun set kind → Fits b no_tys set ls → Agree b set ls ρ →
       GoalsHold (S s) ρ (goals_of b span kind) →
@@ -61,7 +59,7 @@ module _ {K : Type 0} (s : Setup K) (f : FunctionOf s) where
         moves = l.moves;
         elsewhere = λ n out. l.elsewhere n (out.0 p.local (name_of b p.local) (local_named s f p.local ty has.1)) out.1;
         others = λ x u e inside is_x.
-            let other : (p.local == x) ≡ false = neither_first (p.local == x) (rvalue_moves x r) e in
+            let other : (p.local == x) ≡ false = not_written x (acts_of_rvalue r) p e in
             (evaluated_before r set x (with_before p.local (evaluated r set) x (other_number p.local x other) inside), others x u is_x (λ q. true≢false (sym (eq-eqb p.local x (sym q)) ∙ other)));
       })
   statement_quiet (Dead x) set ls ρ span (ty, is_ty) can fitting agrees goals =

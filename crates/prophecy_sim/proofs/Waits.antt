@@ -43,7 +43,9 @@ use Rattle.prophecy_logic.specs.Command.{by_fresh, by_set, none, more, MovesAll}
 use Rattle.prophecy_logic.specs.Row.{operand_term, value_name, name_of}
 use Rattle.prophecy_logic.specs.Graph.{Arrives}
 use Rattle.prophecy_logic.specs.Prefix.{within, over_call}
-use Rattle.prophecy_logic.specs.Loop.{moves as moves_out, loop_writes, end_writes}
+use Rattle.prophecy_logic.specs.Loop.{loop_writes, end_touches}
+use Rattle.prophecy_logic.proofs.Loops.{is_written}
+use Rattle.mir_ir.specs.Acts.{acts_of_operands}
 use Rattle.prophecy_logic.specs.Walk.{seen_before, call_commands, at_arguments_and_answer, Walk, met}
 use Rattle.prophecy_logic.specs.Walkable.{AllAmong}
 use Rattle.prophecy_logic.proofs.Commands.{GoalsHold, goals_moved, then_moves}
@@ -53,7 +55,7 @@ use Rattle.prophecy_sim.proofs.Scalars.{Shows, shaped_shows, shaped_sort}
 use Rattle.prophecy_sim.proofs.Operands.{operand_values, Agree, agree_within, with_before, put_shows}
 use Rattle.prophecy_sim.proofs.Calls.{overlay, overlay_named, AsMany, as_many, as_many_operands, new_values, AreExactly, with_terms_mean, all_exactly}
 use Rattle.prophecy_sim.proofs.Entries.{assumed_move}
-use Rattle.prophecy_sim.proofs.Heads.{or_first, loop_writes_end}
+use Rattle.prophecy_sim.proofs.Heads.{loop_writes_end}
 use Rattle.prophecy_sim.proofs.Memories.{among_first, KeepsOutside, AreBehind, Came, came_on, Memories, memories_kept, Reached, reached}
 use Rattle.prophecy_sim.proofs.Stands.{Stands, stands_fit, stands_agree, stands_elsewhere}
 use Rattle.prophecy_sim.proofs.Standing.{point_of, Standing, arrived}
@@ -217,7 +219,7 @@ module _ {K : Type 0} (s : Setup K) where
       unwritten l inside x ty not_there is_in is_x = by_test (p.local == x) refl
         where
           by_test : (e : Bool) → (p.local == x) ≡ e → (set x ≡ true) × (with_place (name_of b x) ≡ w.call.env (name_of b x))
-          by_test true e = absurd (true≢false (sym (loop_writes_end b l g.label w.call.block x w.call.is_block inside (ap (end_writes x) w.call.is_call ∙ or_first (p.local == x) (list_any (moves_out x) os) e)) ∙ not_there))
+          by_test true e = absurd (true≢false (sym (loop_writes_end b l g.label w.call.block x w.call.is_block inside (ap (end_touches x) w.call.is_call ∙ is_written x (acts_of_operands os) p e)) ∙ not_there))
           by_test false e = (with_before p.local set x (other_number p.local x e) is_in, other_name x ty is_x (λ q. true≢false (sym (eq-eqb p.local x (sym q)) ∙ e)))
 
       abbrev carried : Within (initialised w.call.next 0) (with p.local set)

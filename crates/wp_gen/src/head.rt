@@ -1,9 +1,10 @@
 //! Loop heads: what a loop touches has new values there.
 ghost use Rattle.std.specs.Prelude.{◌≡◌, ◌∷◌, [], ◌++◌, ◌==◌, ◌||◌, ◌&&◌, map, length, IfOk};
 ghost use Rattle.std.specs.List.{list_any};
+ghost use Rattle.mir_ir.specs.Acts.{acts_of_operand, acts_of_operands, acts_of_rvalue};
 ghost use Rattle.mir_ir.specs.Layout.{among};
 ghost use Rattle.prophecy_logic.specs.Command.{assumed};
-ghost use Rattle.prophecy_logic.specs.Loop.{is_in_loop, moves, rvalue_moves, writes, end_writes, block_writes, loop_writes, touched, touched_there, is_whole, is_gone, renewal, renewals, head_commands};
+ghost use Rattle.prophecy_logic.specs.Loop.{is_in_loop, one_touches, statement_touches, end_touches, block_writes, loop_writes, touched, touched_there, is_whole, is_gone, renewal, renewals, head_commands};
 
 use crate::call::with_assumed;
 use crate::row::name_of;
@@ -29,8 +30,10 @@ fn is_in_loop(head: Label, block: &Block) -> bool
     among(head, block.nest.as_slice())
 }
 
-fn moves(x: u32, operand: &Operand) -> bool
-    ensures { result ≡ moves x operand.now }
+/// Whether the operand moves out of the local.
+#[tactic(auto, using(crate::proofs::Touched::or_false))]
+fn operand_touches(x: u32, operand: &Operand) -> bool
+    ensures { result ≡ one_touches x (acts_of_operand operand.now) }
 {
     match operand {
         Operand::Move(place) => place.local == x,
@@ -39,57 +42,64 @@ fn moves(x: u32, operand: &Operand) -> bool
     }
 }
 
-fn any_moves(x: u32, operands: &[Operand]) -> bool
-    ensures { result ≡ list_any (moves x) operands.now }
+#[tactic(auto, using(crate::proofs::Touched::of_operands))]
+fn operands_touch(x: u32, operands: &[Operand]) -> bool
+    ensures { result ≡ one_touches x (acts_of_operands operands.now) }
 {
-    operands.iter().any(|operand| moves(x, operand))
+    operands.iter().any(|operand| operand_touches(x, operand))
 }
 
-fn rvalue_moves(x: u32, rvalue: &Rvalue) -> bool
-    ensures { result ≡ rvalue_moves x rvalue.now }
+#[tactic(auto, using(crate::proofs::Touched::of_both))]
+fn rvalue_touches(x: u32, rvalue: &Rvalue) -> bool
+    ensures { result ≡ one_touches x (acts_of_rvalue rvalue.now) }
 {
     match rvalue {
-        Rvalue::Use(operand) => moves(x, operand),
-        Rvalue::Binary(_, left, right) => moves(x, left) || moves(x, right),
-        Rvalue::Neg(operand) => moves(x, operand),
-        Rvalue::Not(operand) => moves(x, operand),
-        Rvalue::Make(_, operands) => any_moves(x, operands.as_slice()),
+        Rvalue::Use(operand) => operand_touches(x, operand),
+        Rvalue::Binary(_, left, right) => operand_touches(x, left) || operand_touches(x, right),
+        Rvalue::Neg(operand) => operand_touches(x, operand),
+        Rvalue::Not(operand) => operand_touches(x, operand),
+        Rvalue::Make(_, operands) => operands_touch(x, operands.as_slice()),
     }
 }
 
-fn writes(x: u32, statement: &Statement) -> bool
-    ensures { result ≡ writes x statement.now.kind }
+#[tactic(auto, using(crate::proofs::Touched::of_written))]
+fn statement_touches(x: u32, statement: &Statement) -> bool
+    ensures { result ≡ statement_touches x statement.now.kind }
 {
     match &statement.kind {
-        StatementKind::Assign(place, rvalue) => place.local == x || rvalue_moves(x, rvalue),
+        StatementKind::Assign(place, rvalue) => rvalue_touches(x, rvalue) || place.local == x,
         StatementKind::Dead(_) => false,
     }
 }
 
-fn end_writes(x: u32, end: &TerminatorKind) -> bool
-    ensures { result ≡ end_writes x end.now }
+#[tactic(auto, using(crate::proofs::Touched::of_written, crate::proofs::Touched::nothing_more, crate::proofs::Touched::or_false))]
+fn end_touches(x: u32, end: &TerminatorKind) -> bool
+    ensures { result ≡ end_touches x end.now }
 {
     match end {
         TerminatorKind::Call(place, _, _, args, _) => {
-            place.local == x || any_moves(x, args.as_slice())
+            operands_touch(x, args.as_slice()) || place.local == x
         }
         TerminatorKind::Goto(_) => false,
-        TerminatorKind::If(condition, _, _) => moves(x, condition),
-        TerminatorKind::Return => false,
+        TerminatorKind::If(condition, _, _) => operand_touches(x, condition),
+        // the answer is moved out of local 0
+        TerminatorKind::Return => 0 == x,
     }
 }
 
-fn any_writes(x: u32, statements: &[Statement]) -> bool
-    ensures { result ≡ list_any (λ st. writes x st.kind) statements.now }
+fn one_touches(x: u32, statements: &[Statement]) -> bool
+    ensures { result ≡ list_any (λ st. statement_touches x st.kind) statements.now }
 {
-    statements.iter().any(|statement| writes(x, statement))
+    statements
+        .iter()
+        .any(|statement| statement_touches(x, statement))
 }
 
 fn block_writes(x: u32, block: &Block) -> bool
     ensures { result ≡ block_writes x block.now }
 {
-    let by_statement = any_writes(x, block.statements.as_slice());
-    by_statement || end_writes(x, &block.end.kind)
+    let by_statement = one_touches(x, block.statements.as_slice());
+    by_statement || end_touches(x, &block.end.kind)
 }
 
 fn is_written_in(head: Label, x: u32, block: &Block) -> bool
