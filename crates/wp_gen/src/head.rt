@@ -42,11 +42,16 @@ fn operand_touches(x: u32, operand: &Operand) -> bool
     }
 }
 
-#[tactic(auto, using(crate::proofs::Touched::of_operands))]
+fn any_touches(x: u32, operands: &[Operand]) -> bool
+    ensures { result ≡ list_any (λ o. one_touches x (acts_of_operand o)) operands.now }
+{
+    operands.iter().any(|operand| operand_touches(x, operand))
+}
+
 fn operands_touch(x: u32, operands: &[Operand]) -> bool
     ensures { result ≡ one_touches x (acts_of_operands operands.now) }
 {
-    operands.iter().any(|operand| operand_touches(x, operand))
+    any_touches(x, operands)
 }
 
 #[tactic(auto, using(crate::proofs::Touched::of_both))]
