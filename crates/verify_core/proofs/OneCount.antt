@@ -45,7 +45,7 @@ in_both (g ∷ gs) rest = ap (λ (xs : List Obligation). g.obligations ++ xs) (i
 goals_of_once : (all : List Contract) (b : Body) (c : Contract) (gone : Initialised) (g h : FunctionGoals) → AreGoalsOf all b c gone g → AreGoalsOf all b c gone h → g ≡ h
 goals_of_once all b c gone g h one other =
     let names : g.name ≡ h.name = one.name ∙ sym other.name in
-    let obligations : g.obligations ≡ h.obligations = (obligations_once (record { body = b; contracts = all; contract = c; init = gone }) 1 one.paths other.paths g.obligations h.obligations one.are other.are).0 in
+    let obligations : g.obligations ≡ h.obligations = (obligations_once (record { body = b; contracts = all; contract = c; init = gone }) 1 g.obligations h.obligations one.are other.are).0 in
     λ i. record {
       name = names i;
       obligations = obligations i;

@@ -34,9 +34,9 @@ use Rattle.mir_build.specs.Whole.{FailsFor, HaveFewBlocks}
 use Rattle.mir_build.proofs.LawsOfPrograms.{bodies_are_laid_out}
 use Rattle.wp_gen.specs.Paths.{HasPaths, HasMorePaths}
 use Rattle.wp_gen.specs.Count.{LeavesRoom, AreSomeObligations}
-use Rattle.wp_gen.specs.Walk.{Setting, AreObligations}
-use Rattle.wp_gen.proofs.ExistLaws.{have_obligations}
-use Rattle.wp_gen.specs.Walkable.{CanWalk}
+use Rattle.prophecy_logic.specs.Graph.{Setting, AreObligations}
+use Rattle.wp_gen.proofs.CountLaws.{have_obligations}
+use Rattle.prophecy_logic.specs.Walkable.{CanWalk}
 use Rattle.verify_core.specs.declared.fault.Refusal.{Refusal}
 use Rattle.verify_core.specs.declared.fault.Refusal.TheVariants as refusals
 use Rattle.verify_core.specs.declared.goals.FunctionGoals.{FunctionGoals}
@@ -163,26 +163,25 @@ walk_at l n w can at =
     (subst (λ (xs : List Contract). CanWalk (record { body = w.body; contracts = xs; contract = w.contract; init = gone_of l.gone n })) (sym at.contracts) (can w.body w.contract at.body at.contract))
 
 -- obligations of the walk are those of the function, and the other way round
-of_function : (l : Lowered) (n : ℕ) (w : Setting) → IsSettingAt l n w → (os : List Obligation) (paths : ℕ) → AreObligations w 1 os paths → AreObligations (record { body = w.body; contracts = l.contracts; contract = w.contract; init = gone_of l.gone n }) 1 os paths
-of_function l n w at os paths are =
-    subst (λ (x : Initialised). AreObligations (record { body = w.body; contracts = l.contracts; contract = w.contract; init = x }) 1 os paths) at.gone
-    (subst (λ (xs : List Contract). AreObligations (record { body = w.body; contracts = xs; contract = w.contract; init = w.init }) 1 os paths) at.contracts are)
+of_function : (l : Lowered) (n : ℕ) (w : Setting) → IsSettingAt l n w → (os : List Obligation) → AreObligations w 1 os → AreObligations (record { body = w.body; contracts = l.contracts; contract = w.contract; init = gone_of l.gone n }) 1 os
+of_function l n w at os are =
+    subst (λ (x : Initialised). AreObligations (record { body = w.body; contracts = l.contracts; contract = w.contract; init = x }) 1 os) at.gone
+    (subst (λ (xs : List Contract). AreObligations (record { body = w.body; contracts = xs; contract = w.contract; init = w.init }) 1 os) at.contracts are)
 
-of_walk : (l : Lowered) (n : ℕ) (w : Setting) → IsSettingAt l n w → (os : List Obligation) (paths : ℕ) → AreObligations (record { body = w.body; contracts = l.contracts; contract = w.contract; init = gone_of l.gone n }) 1 os paths → AreObligations w 1 os paths
-of_walk l n w at os paths are =
-    subst (λ (x : Initialised). AreObligations (record { body = w.body; contracts = w.contracts; contract = w.contract; init = x }) 1 os paths) (sym at.gone)
-    (subst (λ (xs : List Contract). AreObligations (record { body = w.body; contracts = xs; contract = w.contract; init = gone_of l.gone n }) 1 os paths) (sym at.contracts) are)
+of_walk : (l : Lowered) (n : ℕ) (w : Setting) → IsSettingAt l n w → (os : List Obligation) → AreObligations (record { body = w.body; contracts = l.contracts; contract = w.contract; init = gone_of l.gone n }) 1 os → AreObligations w 1 os
+of_walk l n w at os are =
+    subst (λ (x : Initialised). AreObligations (record { body = w.body; contracts = w.contracts; contract = w.contract; init = x }) 1 os) (sym at.gone)
+    (subst (λ (xs : List Contract). AreObligations (record { body = w.body; contracts = xs; contract = w.contract; init = gone_of l.gone n }) 1 os) (sym at.contracts) are)
 
-pub has_goals : (l : Lowered) (n : ℕ) (w : Setting) (g : FunctionGoals) (os : List Obligation) (paths : ℕ) → IsSettingAt l n w → g.name ≡ w.body.owner → g.obligations ≡ os → AreObligations w 1 os paths → HasGoals l.bodies l.contracts l.gone n g
-has_goals l n w g os paths at name is are = record {
+pub has_goals : (l : Lowered) (n : ℕ) (w : Setting) (g : FunctionGoals) (os : List Obligation) → IsSettingAt l n w → g.name ≡ w.body.owner → g.obligations ≡ os → AreObligations w 1 os → HasGoals l.bodies l.contracts l.gone n g
+has_goals l n w g os at name is are = record {
   body = w.body;
   is_body = at.body;
   contract = w.contract;
   is_contract = at.contract;
   goals = record {
     name = name;
-    paths = paths;
-    are = subst (λ (xs : List Obligation). AreObligations (record { body = w.body; contracts = l.contracts; contract = w.contract; init = gone_of l.gone n }) 1 xs paths) (sym is) (of_function l n w at os paths are);
+    are = subst (λ (xs : List Obligation). AreObligations (record { body = w.body; contracts = l.contracts; contract = w.contract; init = gone_of l.gone n }) 1 xs) (sym is) (of_function l n w at os are);
   };
 }
 
@@ -271,10 +270,10 @@ at_last (z ∷ front) x = at_last front x
 -- the obligations of function n are those of its walk
 of_walk_at : (l : Lowered) (n : ℕ) (w : Setting) (g : FunctionGoals) → IsSettingAt l n w → HasGoals l.bodies l.contracts l.gone n g → AreSomeObligations w g.obligations
 of_walk_at l n w g at has =
-    let own : AreObligations (record { body = has.body; contracts = l.contracts; contract = has.contract; init = gone_of l.gone n }) 1 g.obligations has.goals.paths = has.goals.are in
-    let with_body = subst (λ (b : Body). AreObligations (record { body = b; contracts = l.contracts; contract = has.contract; init = gone_of l.gone n }) 1 g.obligations has.goals.paths) (some_same (sym has.is_body ∙ at.body)) own in
-    let with_contract = subst (λ (c : Contract). AreObligations (record { body = w.body; contracts = l.contracts; contract = c; init = gone_of l.gone n }) 1 g.obligations has.goals.paths) (some_same (sym has.is_contract ∙ at.contract)) with_body in
-    (1, has.goals.paths, of_walk l n w at g.obligations has.goals.paths with_contract)
+    let own : AreObligations (record { body = has.body; contracts = l.contracts; contract = has.contract; init = gone_of l.gone n }) 1 g.obligations = has.goals.are in
+    let with_body = subst (λ (b : Body). AreObligations (record { body = b; contracts = l.contracts; contract = has.contract; init = gone_of l.gone n }) 1 g.obligations) (some_same (sym has.is_body ∙ at.body)) own in
+    let with_contract = subst (λ (c : Contract). AreObligations (record { body = w.body; contracts = l.contracts; contract = c; init = gone_of l.gone n }) 1 g.obligations) (some_same (sym has.is_contract ∙ at.contract)) with_body in
+    (1, of_walk l n w at g.obligations with_contract)
 
 more_in : (gs front : List FunctionGoals) (g : FunctionGoals) → gs ≡ front ++ g ∷ [] → length (obligations_in gs) ≡ length (obligations_in front) + length g.obligations
 more_in gs front g is = ap (λ (xs : List FunctionGoals). length (obligations_in xs)) is ∙ sym (many_more front g (length (obligations_in front)) refl)
@@ -298,7 +297,7 @@ goals_exist l (suc n) can inside =
     let at : IsSettingAt l n w = record { body = b.1; contract = c.1; contracts = refl; gone = refl } in
     let o = have_obligations w 1 (walk_at l n w (can.walk n) at) in
     let g : FunctionGoals = record { name = w.body.owner; obligations = o.0 } in
-    let has : HasGoals l.bodies l.contracts l.gone n g = has_goals l n w g o.0 o.1 at refl refl o.2 in
+    let has : HasGoals l.bodies l.contracts l.gone n g = has_goals l n w g o.0 at refl refl o.1 in
     (r.0 ++ g ∷ [], one_more_goals l.bodies l.contracts l.gone r.0 n g r.2 r.1 has, length_one_more r.0 g n r.2 ∙ omega arith)
 
 pub too_many : (l : Lowered) (n : ℕ) (w : Setting) (left : ℕ) → CanWalkAll l → n < length l.bodies.bodies → IsSettingAt l n w → RoomBefore l n left → LeavesRoom (AreSomeObligations w) left None → AreTooMany l
@@ -306,11 +305,11 @@ too_many l n w left can inside at before leaves =
     let r = goals_exist l n can (omega (arith, inside)) in
     let o = have_obligations w 1 (walk_at l n w (can.walk n) at) in
     let g : FunctionGoals = record { name = w.body.owner; obligations = o.0 } in
-    let has : HasGoals l.bodies l.contracts l.gone n g = has_goals l n w g o.0 o.1 at refl refl o.2 in
+    let has : HasGoals l.bodies l.contracts l.gone n g = has_goals l n w g o.0 at refl refl o.1 in
     record {
       functions = r.0 ++ g ∷ [];
       goals = one_more_goals l.bodies l.contracts l.gone r.0 n g r.2 r.1 has;
-      many = omega (arith, more_in (r.0 ++ g ∷ []) r.0 g refl, before r.0 r.1 r.2, leaves o.0 (1, o.1, o.2));
+      many = omega (arith, more_in (r.0 ++ g ∷ []) r.0 g refl, before r.0 r.1 r.2, leaves o.0 (1, o.1));
     }
 
 pub few_goals : (l : Lowered) (n left : ℕ) → length l.bodies.bodies ≤ n → n ≤ length l.bodies.bodies → RoomBefore l n left → HaveFewGoals l

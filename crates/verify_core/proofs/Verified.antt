@@ -91,4 +91,4 @@ verified_is_good source p ps v prepared verdict f line c is_line verified is_con
     (functions p.names prepared.typed.functions bodies p.contracts prepared.gones lowers) f c is_contract
     (λ n b d reaches is_body is_d.
     let g = goals_at bodies p.contracts prepared.gones p.functions prepared.goals prepared.as_many n b d is_body is_d in
-    record { first = 1; obligations = g.0.obligations; paths = g.2.paths; are = g.2.are; all_true = true_goals ps g.0.obligations (all n g.0 reaches g.1) })
+    record { first = 1; obligations = g.0.obligations; are = g.2.are; all_true = true_goals ps g.0.obligations (all n g.0 reaches g.1) })

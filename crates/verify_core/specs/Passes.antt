@@ -6,8 +6,8 @@ use Rattle.logic_term.specs.declared.obligation.Contract.{Contract}
 use Rattle.mir_ir.specs.declared.body.Body.{Body}
 use Rattle.mir_ir.specs.Layout.{IsLaidOut}
 use Rattle.mir_build.specs.declared.lowered.Lowered.{Lowered}
-use Rattle.wp_gen.specs.Walk.{Setting}
-use Rattle.wp_gen.specs.Walkable.{CanWalk}
+use Rattle.prophecy_logic.specs.Graph.{Setting}
+use Rattle.prophecy_logic.specs.Walkable.{CanWalk}
 use Rattle.verify_core.specs.declared.goals.FunctionGoals.{FunctionGoals}
 use Rattle.verify_core.specs.Prepared.{gone_of, HaveGoals, HasManyPaths, most_paths, most_obligations}
 use Rattle.verify_core.specs.Verdict.{obligations_in}

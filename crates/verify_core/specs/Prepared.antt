@@ -7,7 +7,7 @@ use Rattle.logic_term.specs.declared.obligation.Contract.{Contract}
 use Rattle.mir_ir.specs.declared.body.Body.{Body}
 use Rattle.mir_ir.specs.declared.body.Initialised.{Initialised}
 use Rattle.wp_gen.specs.Paths.{HasPaths, HasMorePaths}
-use Rattle.wp_gen.specs.Walk.{AreObligations}
+use Rattle.prophecy_logic.specs.Graph.{AreObligations}
 use Rattle.prophecy_sim.specs.Programs as sim
 use Rattle.text_core.specs.declared.fault.PassError.TheVariants as errors
 use Rattle.source_words.specs.Words.{GivesNames}
@@ -68,8 +68,7 @@ program_of bs cs gones = record { bodies = bs; contracts = cs; gone = gone_of go
 -- the obligations of a body with its contract
 pub record AreGoalsOf (all : List Contract) (b : Body) (c : Contract) (gone : Initialised) (g : FunctionGoals) : Type 0 where
   pub name : g.name ≡ b.owner
-  pub paths : ℕ
-  pub are : AreObligations (record { body = b; contracts = all; contract = c; init = gone }) 1 g.obligations paths
+  pub are : AreObligations (record { body = b; contracts = all; contract = c; init = gone }) 1 g.obligations
 
 -- function n has these goals
 pub record HasGoals (bs : Bodies) (cs : List Contract) (gones : List Initialised) (n : ℕ) (g : FunctionGoals) : Type 0 where

@@ -4,7 +4,7 @@ ghost use Rattle.type_check.specs.WellTyped.{ProgramFits};
 ghost use Rattle.mir_build.specs.Lowering.{IsLowered};
 ghost use Rattle.mir_build.specs.Laws.{Lowers};
 ghost use Rattle.verify_core.specs.Prepared.{IsTypedAs, IsPrepared, HasGoals, HaveFewPaths, RefusesSource};
-ghost use Rattle.wp_gen.specs.Walkable.{setting};
+ghost use Rattle.wp_gen.specs.Setting.{setting};
 ghost use Rattle.verify_core.specs.Passes.{CanWalkAt, CanWalkAll, AreAllGoals, AreLaidOut, HaveFewGoals, IsSettingAt, IsGoalsError, IsPathsError};
 
 use crate::built::built_items;

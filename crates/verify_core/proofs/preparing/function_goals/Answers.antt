@@ -1,4 +1,4 @@
-use Rattle.wp_gen.specs.Walkable.{setting}
+use Rattle.wp_gen.specs.Setting.{setting}
 use Rattle.verify_core.proofs.PassLaws.{walk_at, has_goals}
 use Rattle.verify_core.proofs.preparing.function_goals.Goals as goal
 
@@ -7,4 +7,4 @@ counted_obligations-requires c = walk_at c.args.lowered.now c.args.place (settin
 
 pub returns : goal.returns
 returns c =
-    has_goals c.args.lowered.now c.args.place (setting c.walk_of-walk.result) _ _ c.in_ok-obligations.ensures.0 c.walk_of-walk.ensures c.in_ok-copy.ensures c.from_vec.ensures c.in_ok-obligations.ensures.1
+    has_goals c.args.lowered.now c.args.place (setting c.walk_of-walk.result) _ _ c.walk_of-walk.ensures c.in_ok-copy.ensures c.from_vec.ensures c.in_ok-obligations.ensures
