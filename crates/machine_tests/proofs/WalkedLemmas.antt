@@ -15,8 +15,8 @@ use Rattle.mir_ir.specs.declared.body.Body.{Body}
 use Rattle.mir_ir.specs.declared.body.Head.{Head}
 use Rattle.mir_ir.specs.Body.{block_in}
 use Rattle.mir_ir.specs.Layout.{among, targets, around, Leads, on, back}
-use Rattle.wp_gen.specs.Walk.{Setting}
-use Rattle.wp_gen.specs.Walkable.{IsKnown, CanWalk}
+use Rattle.prophecy_logic.specs.Graph.{Setting}
+use Rattle.prophecy_logic.specs.Walkable.{IsKnown, CanWalk}
 use Rattle.machine_tests.specs.Walked.{label, straight, branching, looping, calling, forking, IsForking}
 
 same_label : (l m : Label) → (l.0 == m.0) ≡ true → l ≡ m

@@ -11,7 +11,7 @@ use Rattle.mir_ir.specs.declared.body.Initialised.{Initialised}
 use Rattle.mir_ir.specs.declared.body.Point.{Point}
 use Rattle.mir_ir.specs.declared.place.Place.{Place}
 use Rattle.mir_ir.specs.WellFormed.{AreSound, Labelling, MeetsMoveRows}
-use Rattle.wp_gen.specs.Walk.{is_whole, is_gone}
+use Rattle.prophecy_logic.specs.Loop.{is_whole, is_gone}
 use Rattle.prophecy_sim.specs.Programs as sim
 use Rattle.type_check.specs.declared.program.TypedFunction.{TypedFunction}
 use Rattle.type_check.specs.WellTyped.{IsBuilt}

@@ -7,7 +7,7 @@ use Rattle.mir_ir.specs.declared.body.Bodies.{Bodies}
 use Rattle.mir_ir.specs.declared.body.Body.{Body}
 use Rattle.mir_ir.specs.declared.body.Initialised.{Initialised}
 use Rattle.prophecy_sim.specs.declared.node.Node.TheVariants.{Function}
-use Rattle.wp_gen.specs.Walk.{Setting}
+use Rattle.prophecy_logic.specs.Graph.{Setting}
 use Rattle.verify_core.specs.declared.owed.Owed.{Owed}
 use Rattle.verify_core.specs.Laws.{OwedIsOne, FewerAreFront, FewerOweFewer, OwedIsOfBodies, FewObligationsAreNotMany}
 use Rattle.verify_core.specs.Owed.{owing}
@@ -21,7 +21,7 @@ some_same e = cc
 -- ---- one function
 
 of_walk_once : (w : Setting) (os others : List Obligation) → AreOfWalk w os → AreOfWalk w others → os ≡ others
-of_walk_once w os others (n, one) (m, other) = (obligations_once w 1 n m os others one other).0
+of_walk_once w os others one other = (obligations_once w 1 os others one other).0
 
 module _ (bs : Bodies) (cs : List Contract) (gones : List Initialised) where
   abbrev walk_setting : ℕ → Body → Contract → Setting

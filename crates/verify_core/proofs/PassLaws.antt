@@ -37,9 +37,9 @@ use Rattle.mir_build.specs.Whole.{FailsFor, HaveFewBlocks}
 use Rattle.mir_build.proofs.LawsOfPrograms.{bodies_are_laid_out}
 use Rattle.wp_gen.specs.Paths.{HasPaths, HasMorePaths}
 use Rattle.wp_gen.specs.Count.{LeavesRoom, AreSomeObligations}
-use Rattle.wp_gen.specs.Walk.{Setting}
-use Rattle.wp_gen.proofs.ExistLaws.{have_obligations}
-use Rattle.wp_gen.specs.Walkable.{CanWalk}
+use Rattle.prophecy_logic.specs.Graph.{Setting}
+use Rattle.wp_gen.proofs.CountLaws.{have_obligations}
+use Rattle.prophecy_logic.specs.Walkable.{CanWalk}
 use Rattle.verify_core.specs.declared.fault.Refusal.{Refusal}
 use Rattle.verify_core.specs.declared.fault.Refusal.TheVariants as refusals
 use Rattle.prophecy_sim.specs.declared.node.Node.TheVariants.{Function as OfFunction}
@@ -252,7 +252,7 @@ more_in : (front : List Owed) (n : ℕ) (os : List Obligation) → length (front
 more_in front n os = length-append front (owing (OfFunction n) os) ∙ ap (λ (k : ℕ). length front + k) (length-map os (λ (o : Obligation). record { by = OfFunction n; obligation = o }))
 
 some_obligations : (w : Setting) (os : List Obligation) → AreOfWalk w os → AreSomeObligations w os
-some_obligations w os (paths, are) = (1, paths, are)
+some_obligations w os are = (1, are)
 
 room_behind : (l : Lowered) (n : ℕ) (w : Setting) (left rest : ℕ) → IsSettingAt l n w → RoomBefore l n left → LeavesRoom (AreSomeObligations w) left (Some rest) → RoomBefore l (suc n) rest
 room_behind l n w left rest at before leaves _ (FunctionsOwe.and_function {owed} {os} first own) =
@@ -265,7 +265,7 @@ room_before_next l n w left rest at before leaves = rw add-one (room_behind l n 
 owes_some : (l : Lowered) (n : ℕ) (w : Setting) → CanWalkAll l → IsSettingAt l n w → (os : List Obligation) × AreOfWalk w os
 owes_some l n w can at =
     let o = have_obligations w 1 (walk_at l n w (can.walk n) at) in
-    (o.0, (o.1, o.2))
+    (o.0, o.1)
 
 -- the first functions owe something
 owe_some : (l : Lowered) (n : ℕ) → CanWalkAll l → n ≤ length l.bodies.bodies → (owed : List Owed) × FunctionsOwe l.bodies l.contracts l.gone n owed

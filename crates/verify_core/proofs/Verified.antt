@@ -30,7 +30,7 @@ use Rattle.verify_core.specs.declared.program.Program.{Program}
 use Rattle.verify_core.specs.Declarations.{declared_of}
 use Rattle.verify_core.specs.OnSource.{AreGood}
 use Rattle.verify_core.specs.Owed.{owed_by, HaveOwners}
-use Rattle.wp_gen.specs.Walk.{Setting}
+use Rattle.prophecy_logic.specs.Graph.{Setting}
 use Rattle.verify_core.specs.Prepared.{IsPrepared, AreOfWalk, gone_of, program_of}
 use Rattle.verify_core.specs.Verdict.{steps_of, HasDerivation, Tells, IsVerified, IsVerdict}
 use Rattle.verify_core.proofs.Assembly.{sound, labelling, functions}
@@ -89,8 +89,7 @@ module _ (source : List ℕ) (p : Program) (prepared : IsPrepared source p) wher
       record {
         first = 1;
         obligations = owed_by (Function n) p.obligations;
-        paths = of_walk.0;
-        are = of_walk.1;
+        are = of_walk;
         all_true = subst (λ (T : Tables). Each (IsTrueObligation (theory_of T)) (owed_by (Function n) p.obligations)) prepared.tables (true_goals p.tables ps (owed_by (Function n) p.obligations) proved);
       }
 

@@ -14,7 +14,7 @@ use Rattle.proof_text.specs.declared.proof.NumberedStep.{NumberedStep}
 use Rattle.proof_text.specs.declared.proof.Proof.{Proof}
 use Rattle.report_out.specs.declared.verdict.Reason.{Reason}
 use Rattle.report_out.specs.declared.verdict.Verdict.{Verdict}
-use Rattle.wp_gen.specs.Walk.{Setting, AreObligations}
+use Rattle.prophecy_logic.specs.Graph.{Setting, AreObligations}
 use Rattle.proof_kernel.specs.declared.setting.Tables.{Tables}
 use Rattle.proof_kernel.specs.Accepts.{Accepts}
 use Rattle.verify_core.specs.declared.owed.Owed.{Owed}
@@ -28,9 +28,9 @@ use Rattle.mir_machine.specs.Code.{code_of}
 
 -- ---- obligations
 
--- a body with its contract has one list of obligations from a number on, and one number of paths
+-- a body with its contract has one walk, and one list of obligations from a number on
 abbrev pub ObligationsAreOne : Type 0
-ObligationsAreOne = (w : Setting) (start n m : ℕ) (os others : List Obligation) → AreObligations w start os n → AreObligations w start others m → (os ≡ others) × (n ≡ m)
+ObligationsAreOne = (w : Setting) (start : ℕ) (os others : List Obligation) (one : AreObligations w start os) (other : AreObligations w start others) → (os ≡ others) × (one.walk ≡ other.walk)
 
 -- so many of the first functions owe one list
 abbrev pub OwedIsOne : Type 0

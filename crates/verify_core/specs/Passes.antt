@@ -8,8 +8,8 @@ use Rattle.prophecy_sim.specs.declared.node.Node.TheVariants.{Function}
 use Rattle.mir_ir.specs.declared.body.Body.{Body}
 use Rattle.mir_ir.specs.Layout.{IsLaidOut}
 use Rattle.mir_build.specs.declared.lowered.Lowered.{Lowered}
-use Rattle.wp_gen.specs.Walk.{Setting}
-use Rattle.wp_gen.specs.Walkable.{CanWalk}
+use Rattle.prophecy_logic.specs.Graph.{Setting}
+use Rattle.prophecy_logic.specs.Walkable.{CanWalk}
 use Rattle.verify_core.specs.declared.owed.Owed.{Owed}
 use Rattle.verify_core.specs.Owed.{owing}
 use Rattle.verify_core.specs.Prepared.{gone_of, FunctionOwes, FunctionsOwe, HasManyPaths, most_paths, most_obligations}

@@ -8,7 +8,7 @@ use Rattle.logic_term.specs.declared.obligation.Obligation.{Obligation}
 use Rattle.mir_ir.specs.declared.body.Body.{Body}
 use Rattle.mir_ir.specs.declared.body.Initialised.{Initialised}
 use Rattle.wp_gen.specs.Paths.{HasPaths, HasMorePaths}
-use Rattle.wp_gen.specs.Walk.{Setting, AreObligations}
+use Rattle.prophecy_logic.specs.Graph.{Setting, AreObligations}
 use Rattle.prophecy_sim.specs.declared.node.Node.TheVariants.{Function}
 use Rattle.prophecy_sim.specs.Programs as sim
 use Rattle.text_core.specs.declared.fault.PassError.TheVariants as errors
@@ -70,7 +70,7 @@ program_of bs cs gones = record { bodies = bs; contracts = cs; gone = gone_of go
 
 -- the obligations of the walk of a body with its contract, from number 1 on
 abbrev pub AreOfWalk : Setting → List Obligation → Type 0
-AreOfWalk w os = (paths : ℕ) × AreObligations w 1 os paths
+AreOfWalk w os = AreObligations w 1 os
 
 -- function n owes these
 pub record FunctionOwes (bs : Bodies) (cs : List Contract) (gones : List Initialised) (n : ℕ) (os : List Obligation) : Type 0 where

@@ -21,7 +21,7 @@ ghost use Rattle.verify_core.specs.Laws.{
   VerdictIsOne,
 };
 
-/// A body with its contract has one list of obligations, and one number of paths.
+/// A body with its contract has one walk, and so one list of obligations.
 pub fn obligations_are_of_one_walk()
     ensures { ObligationsAreOne }
 {}

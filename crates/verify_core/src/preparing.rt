@@ -5,7 +5,7 @@ ghost use Rattle.mir_build.specs.Lowering.{IsLowered};
 ghost use Rattle.mir_build.specs.Laws.{Lowers};
 ghost use Rattle.verify_core.specs.Prepared.{IsTypedAs, IsPrepared, HaveFewPaths, RefusesSource};
 ghost use Rattle.verify_core.specs.Owed.{owing};
-ghost use Rattle.wp_gen.specs.Walkable.{setting};
+ghost use Rattle.wp_gen.specs.Setting.{setting};
 ghost use Rattle.verify_core.specs.Passes.{CanWalkAll, AddsOwed, AreAllOwed, AreLaidOut, HaveFewGoals, IsSettingAt, IsGoalsError, IsPathsError};
 
 use crate::built::built_items;

@@ -1,5 +1,5 @@
 use Rattle.std.proofs.Common.{refl, arith}
-use Rattle.wp_gen.specs.Walkable.{setting}
+use Rattle.wp_gen.specs.Setting.{setting}
 use Rattle.verify_core.proofs.PassLaws.{walk_at, all_room, room_before_next, too_many, few_goals}
 use Rattle.verify_core.proofs.preparing.check_obligations.Goals as goal
 

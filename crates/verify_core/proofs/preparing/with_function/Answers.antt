@@ -1,4 +1,4 @@
-use Rattle.wp_gen.specs.Walkable.{setting}
+use Rattle.wp_gen.specs.Setting.{setting}
 use Rattle.verify_core.proofs.PassLaws.{walk_at, adds_owed}
 use Rattle.verify_core.proofs.preparing.with_function.Goals as goal
 
