@@ -1,5 +1,6 @@
 -- Along each lowered text the locals in scope are initialised, and where it ends its own local is too.
-use Rattle.std.proofs.Common.{◌≡◌, refl, ap, sym, ◌∙◌, subst, ℕ, ◌+◌, ◌≤◌, ◌==◌, Bool, true, false, cond, List, [], ◌∷◌, ◌++◌, map, Some, arith}
+use Rattle.std.proofs.Common.{◌≡◌, refl, ap, sym, ◌∙◌, subst, ℕ, ◌+◌, ◌≤◌, ◌==◌, Bool, true, false, cond, List, [], ◌∷◌, ◌++◌, map, Some, arith, true≢false}
+use Rattle.std.proofs.lemmas.Bool.{eqb-true, eq-eqb}
 use Rattle.logic_term.specs.declared.kinds.Label.{Label}
 use Rattle.logic_term.specs.Ty.{Ty}
 use Rattle.text_core.specs.declared.span.Span.{Span}
@@ -7,14 +8,14 @@ use Rattle.mir_ir.specs.declared.body.Head.{Head}
 use Rattle.mir_ir.specs.declared.terminator.FnId.TheVariants as fn_id
 use Rattle.mir_ir.specs.declared.terminator.Callee.TheVariants.{Function}
 use Rattle.mir_ir.specs.declared.terminator.TerminatorKind.TheVariants.{Goto, If, Call}
-use Rattle.mir_ir.specs.WellFormed.{Locals, with, Within}
+use Rattle.mir_ir.specs.WellFormed.{Locals, with, without, Within}
 use Rattle.mir_ir.proofs.Taking.{CanTakeAll, all_taken}
 use Rattle.mir_build.specs.Text.{Line, Makes, Turns, Owns, made}
-use Rattle.mir_build.specs.Lowering.{numbers, Around, at, at_head, ends, copied, whole, put_unit}
+use Rattle.mir_build.specs.Lowering.{numbers, Around, at, at_head, ends, moved, whole, put_unit}
 use Rattle.mir_build.proofs.Numbers.{count, labels_begun}
-use Rattle.mir_build.proofs.LawLists.{Has, here, there, makings-append, count_self}
+use Rattle.mir_build.proofs.LawLists.{Has, here, there, makings-append, count_self, has_count, differs, fewer}
 use Rattle.mir_build.proofs.LawNames.{HoldsAll, HeadFits}
-use Rattle.mir_build.proofs.LawRuns.{with_self, with_more, with_within, HasNone, Runs, stops, puts, makes, turns, owns, runs-append, agree_left, agree_right, labels_in, Laid, labels_in-append, labels_begun-append}
+use Rattle.mir_build.proofs.LawRuns.{with_self, with_more, with_within, kept, HasNone, Runs, stops, puts, makes, turns, owns, runs-append, agree_left, agree_right, labels_in, Laid, labels_in-append, labels_begun-append}
 
 -- ---- what is not in a set
 
@@ -68,6 +69,10 @@ right d set us rest h = record { once = λ x. omega (arith, makings-append x us 
 pub fresh_second : (d t : ℕ) (set : Locals) (ys : List ℕ) → Apart set (d ∷ t ∷ ys) → set t ≡ false
 fresh_second d t set ys h = none set (d ∷ t ∷ ys) h t (omega (arith, count_self t ys))
 
+-- a value that was put into a local and is moved on
+pub given_up : (t : ℕ) (set : Locals) → set t ≡ false → Within set (without t (with t set))
+given_up t set n = kept t set (with t set) n (with_more t set)
+
 -- ---- turns
 
 at_most : (l : Label) (at : Label → Locals) (set now : Locals) → at l ≡ set → Within set now → Within (at l) now
@@ -83,15 +88,15 @@ pub same_set : (set : Locals) → Within set set
 same_set set x h = h
 
 -- two branches that come together
-pub forked : (c : Around) (s : Span) (t : ℕ) (yes' no' after : Label) (set now to : Locals) (ys zs : List Line) → now t ≡ true → Within set now → Laid set ys to → Laid set zs to
-    → Laid now (Turns (ends s (If (copied t) yes' no')) (at c yes') ∷ (ys ++ Turns (ends s (Goto after)) (at c no') ∷ (zs ++ Turns (ends s (Goto after)) (at c after) ∷ []))) to
+pub forked : (c : Around) (s : Span) (t : ℕ) (yes' no' after : Label) (set now to : Locals) (ys zs : List Line) → now t ≡ true → Within set (without t now) → Laid set ys to → Laid set zs to
+    → Laid now (Turns (ends s (If (moved t) yes' no')) (at c yes') ∷ (ys ++ Turns (ends s (Goto after)) (at c no') ∷ (zs ++ Turns (ends s (Goto after)) (at c after) ∷ []))) to
 forked c s t yes' no' after set now to ys zs h w p q = record {
   starts = (yes', set) ∷ (p.starts ++ (no', set) ∷ (q.starts ++ (after, to) ∷ []));
   are = ap (λ ls. yes'.0 ∷ ls) (joined p.starts ((no', set) ∷ (q.starts ++ (after, to) ∷ [])) ys _ p.are (ap (λ ls. no'.0 ∷ ls) (joined q.starts ((after, to) ∷ []) zs _ q.are refl)));
   runs = λ at' g.
       let r = agree_right at' p.starts _ g.1 in
       let a = agree_right at' q.starts _ r.1 in
-      turns h (at_most yes' at' set now g.0 w, at_most no' at' set now r.0 w) tt
+      turns h (at_most yes' at' set (without t now) g.0 w, at_most no' at' set (without t now) r.0 w) tt
       (from_start yes' at' set to _ g.0 (runs-append at' to to _
       (turns tt (at_most after at' to to a.0 (same_set to)) tt
       (from_start no' at' set to _ r.0 (runs-append at' to to _
@@ -101,9 +106,9 @@ forked c s t yes' no' after set now to ys zs h w p q = record {
 }
 
 -- a loop
-pub looped : (c k : Around) (s : Span) (d t u : ℕ) (T U : Ty) (head body after : Label) (hd : Head) (own : List ℕ) (set : Locals) (us vs : List Line) → HeadFits set (Some hd) → HasNone set own → Laid set us (with t set) → Laid set vs (with u set)
-    → Laid set (Turns (ends s (Goto head)) (at_head k head hd) ∷ Makes t T ∷ (us ++ Turns (ends s (If (copied t) body after)) (at k body) ∷ Makes u U ∷ (vs ++ Turns (ends s (Goto head)) (at c after) ∷ Owns head own ∷ put_unit s d ∷ []))) (with d set)
-looped c k s d t u T U head body after hd own set us vs fits n p q = record {
+pub looped : (c k : Around) (s : Span) (d t u : ℕ) (T U : Ty) (head body after : Label) (hd : Head) (own : List ℕ) (set : Locals) (us vs : List Line) → HeadFits set (Some hd) → HasNone set own → set t ≡ false → Laid set us (with t set) → Laid set vs (with u set)
+    → Laid set (Turns (ends s (Goto head)) (at_head k head hd) ∷ Makes t T ∷ (us ++ Turns (ends s (If (moved t) body after)) (at k body) ∷ Makes u U ∷ (vs ++ Turns (ends s (Goto head)) (at c after) ∷ Owns head own ∷ put_unit s d ∷ []))) (with d set)
+looped c k s d t u T U head body after hd own set us vs fits n no_t p q = record {
   starts = (head, set) ∷ (p.starts ++ (body, set) ∷ (q.starts ++ (after, set) ∷ []));
   are = ap (λ ls. head.0 ∷ ls) (joined p.starts ((body, set) ∷ (q.starts ++ (after, set) ∷ [])) us _ p.are (ap (λ ls. body.0 ∷ ls) (joined q.starts ((after, set) ∷ []) vs _ q.are refl)));
   runs = λ at' g.
@@ -111,7 +116,7 @@ looped c k s d t u T U head body after hd own set us vs fits n p q = record {
       let a = agree_right at' q.starts _ r.1 in
       turns tt (at_most head at' set set g.0 (same_set set)) (subst (λ m. HeadFits m (Some hd)) (sym g.0) fits)
       (from_start head at' set (with d set) _ g.0 (makes (runs-append at' (with t set) (with d set) _
-      (turns (with_self t set) (at_most body at' set (with t set) r.0 (with_more t set), at_most after at' set (with t set) a.0 (with_more t set)) tt
+      (turns (with_self t set) (at_most body at' set (without t (with t set)) r.0 (given_up t set no_t), at_most after at' set (without t (with t set)) a.0 (given_up t set no_t)) tt
       (from_start body at' set (with d set) _ r.0 (makes (runs-append at' (with u set) (with d set) _
       (turns tt (at_most head at' set (with u set) g.0 (with_more u set)) tt
       (from_start after at' set (with d set) _ a.0 (owns (subst (λ m. HasNone m own) (sym g.0) n) (puts tt (stops (same_set (with d set)))))))
@@ -134,20 +139,33 @@ with_all_has [] set x h = elim h [ ]
 with_all_has (t ∷ ts) set x here = with_all_more ts (with x set) x (with_self x set)
 with_all_has (t ∷ ts) set x (there h) = with_all_has ts (with t set) x h
 
-can_take_copies : (ts : List ℕ) (set : Locals) → HoldsAll set ts → CanTakeAll set (map copied ts)
-can_take_copies [] set h = tt
-can_take_copies (t ∷ ts) set h = (h t here, can_take_copies ts set (λ x g. h x (there g)))
+-- another local than the one that is moved
+pub still : (t x : ℕ) (set : Locals) → (t == x) ≡ false → set x ≡ true → without t set x ≡ true
+still t x set n h = by_test (x == t) refl
+  where
+    by_test : (b : Bool) → (x == t) ≡ b → cond b false (set x) ≡ true
+    by_test true e = absurd (true≢false (sym (eq-eqb t x (sym (eqb-true x t e))) ∙ n))
+    by_test false e = h
 
-copies_taken : (ts : List ℕ) (set : Locals) → all_taken (map copied ts) set ≡ set
-copies_taken [] set = refl
-copies_taken (t ∷ ts) set = copies_taken ts set
+can_take_moves : (ts : List ℕ) (set : Locals) → HoldsAll set ts → ((x : ℕ) → count x ts ≤ 1) → CanTakeAll set (map moved ts)
+can_take_moves [] set h o = tt
+can_take_moves (t ∷ ts) set h o = (
+  h t here,
+  can_take_moves ts (without t set) (λ x g. still t x set (differs x t ts (o x) (has_count x ts g)) (h x (there g))) (λ x. fewer x t ts (o x)),
+)
 
-pub called : (c : Around) (s : Span) (f d : ℕ) (ts : List ℕ) (after : Label) (set now : Locals) → HoldsAll now ts → Within set now → Laid now (Turns (ends s (Call (whole d) (Function (fn_id.Body f)) [] (map copied ts) after)) (at c after) ∷ []) (with d set)
-called c s f d ts after set now h w = record {
+-- what is moved is not in the smaller set
+moves_taken : (ts : List ℕ) (set now : Locals) → HasNone set ts → Within set now → Within set (all_taken (map moved ts) now)
+moves_taken [] set now n w = w
+moves_taken (t ∷ ts) set now n w = moves_taken ts set (without t now) (λ x g. n x (omega (arith, g))) (kept t set now (n t (count_self t ts)) w)
+
+pub called : (c : Around) (s : Span) (f d : ℕ) (ts : List ℕ) (after : Label) (set now : Locals) → Apart set ts → HoldsAll now ts → Within set now
+    → Laid now (Turns (ends s (Call (whole d) (Function (fn_id.Body f)) [] (map moved ts) after)) (at c after) ∷ []) (with d set)
+called c s f d ts after set now n h w = record {
   starts = (after, with d set) ∷ [];
   are = refl;
   runs = λ at' g.
-      turns (can_take_copies ts now h)
-      (at_most after at' (with d set) (with d (all_taken (map copied ts) now)) g.0 (subst (λ u. Within (with d set) (with d u)) (sym (copies_taken ts now)) (with_within d set now w)))
+      turns (can_take_moves ts now h (λ x. omega (arith, n.once x)))
+      (at_most after at' (with d set) (with d (all_taken (map moved ts) now)) g.0 (with_within d set (all_taken (map moved ts) now) (moves_taken ts set now (none set ts n) w)))
       tt (from_start after at' (with d set) (with d set) [] g.0 (stops (same_set (with d set))));
 }

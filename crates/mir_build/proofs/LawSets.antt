@@ -1,5 +1,6 @@
 -- By induction on the rows: along each lowered text the locals in scope are initialised, and where it ends its own local is too.
-use Rattle.std.proofs.Common.{◌≡◌, ◌⊎◌, inl, inr, refl, ap, sym, ◌∙◌, subst, ℕ, ◌+◌, Bool, true, false, List, [], ◌∷◌, ◌++◌, length, arith, length-append, append-nil}
+use Rattle.std.proofs.Common.{◌≡◌, ◌⊎◌, inl, inr, refl, ap, sym, ◌∙◌, subst, ℕ, ◌+◌, ◌≤◌, ◌==◌, Bool, true, false, List, [], ◌∷◌, ◌++◌, length, arith, length-append, append-nil, true≢false}
+use Rattle.std.proofs.lemmas.Bool.{eqb-true}
 use Rattle.logic_term.specs.declared.kinds.Label.{Label}
 use Rattle.logic_term.specs.Ty.{Ty}
 use Rattle.text_core.specs.declared.span.Span.{Span}
@@ -13,10 +14,11 @@ use Rattle.type_check.specs.WellTyped.{IsWellTyped, StatementsFit, ArgumentsFit}
 use Rattle.mir_build.specs.Text.{Title, Line, Makes, Turns, made}
 use Rattle.mir_build.specs.Lowering.{numbers, Around, looping, binds, head_of, dies_in, where_true, where_false, Into, of_integer, of_truth, of_variable, of_negative, of_denied, of_binary, of_lazy, of_assign}
 use Rattle.mir_build.specs.Lowering.{of_assign_value, of_update, of_update_value, of_call, of_block, of_branch, of_choice, of_repeat, Rest, of_done, of_last, of_bind, of_run, Args, of_none, of_more}
+use Rattle.mir_build.proofs.Numbers.{count}
 use Rattle.mir_build.proofs.LawLists.{Has, here, there, has_get, makings-append, count-append, count_self}
 use Rattle.mir_build.proofs.LawNames.{HoldsAll, head_fits}
 use Rattle.mir_build.proofs.LawRuns.{with_self, with_more, with_within, kept, Runs, stops, runs-append, Laid, laid_stops, laid_puts, laid_makes, laid-append}
-use Rattle.mir_build.proofs.LawLaid.{Apart, none, before, first, second, left, right, fresh_second, same_set, forked, looped, with_all, with_all_more, with_all_has, called, weight_with}
+use Rattle.mir_build.proofs.LawLaid.{Apart, none, before, first, second, left, right, fresh_second, given_up, still, same_set, forked, looped, with_all, with_all_more, with_all_has, called, weight_with}
 
 -- the set has the locals in scope, one for each variable
 pub record Scoped (c : Around) (Γ : List Ty) (set : Locals) : Type 0 where
@@ -55,12 +57,28 @@ in_loop c Γ set head sc = record { count = sc.count; holds = sc.holds }
 ends_with : (d t : ℕ) (set : Locals) → Within (with d set) (with d (with t set))
 ends_with d t set = with_within d set (with t set) (with_more t set)
 
+-- the same, where t is moved on
+moved_on : (d t : ℕ) (set : Locals) → set t ≡ false → Within (with d set) (with d (without t (with t set)))
+moved_on d t set n = with_within d set (without t (with t set)) (given_up t set n)
+
 -- to a local x, from a temporary that is given up, and then the unit
 assigned : (d x t : ℕ) (set now : Locals) → set t ≡ false → Within set now → Within (with d set) (with d (with x (without t now)))
 assigned d x t set now n w = with_within d set (with x (without t now)) (λ y h. with_more x (without t now) y (kept t set now n w y h))
 
 two_more : (t u : ℕ) (set : Locals) → Within set (with u (with t set))
 two_more t u set y h = with_more u (with t set) y (with_more t set y h)
+
+-- the second of two temporaries where the first is moved on
+second_of_two : (t u : ℕ) (set : Locals) → with t set u ≡ false → without t (with u (with t set)) u ≡ true
+second_of_two t u set n = still t u (with u (with t set)) (by_test (t == u) refl) (with_self u (with t set))
+  where
+    by_test : (b : Bool) → (t == u) ≡ b → (t == u) ≡ false
+    by_test true e = absurd (true≢false (sym (subst (λ x. with t set x ≡ true) (eqb-true t u e) (with_self t set)) ∙ n))
+    by_test false e = e
+
+-- and where both are
+two_given_up : (t u : ℕ) (set : Locals) → set t ≡ false → set u ≡ false → Within set (without u (without t (with u (with t set))))
+two_given_up t u set n m = kept u set (without t (with u (with t set))) m (kept t set (with u (with t set)) n (two_more t u set))
 
 -- the first of two temporaries
 first_of_two : (t u : ℕ) (set : Locals) → with u (with t set) t ≡ true
@@ -92,6 +110,14 @@ first_argument t set us vs h = record { once = λ x. omega (arith, makings-appen
 later_arguments : (t : ℕ) (set : Locals) (us vs : List Line) → Apart set (t ∷ numbers (made (us ++ vs))) → Apart (with t set) (numbers (made vs))
 later_arguments t set us vs h = record { once = λ x. omega (arith, makings-append x us vs, weight_with x t set, h.once x) }
 
+-- the temporaries of arguments are made by their text
+temporaries_made : (c : Around) (es : TypedExprs) (ts : List ℕ) (xs : List Line) → Args c es ts xs → (x : ℕ) → count x ts ≤ count x (numbers (made xs))
+temporaries_made c es ts xs of_none x = omega arith
+temporaries_made c es ts xs (of_more {ts = us'} {xs = us} {ys = vs} p q) x = omega (arith, makings-append x us vs, temporaries_made c _ us' vs q x)
+
+temporaries_apart : (c : Around) (es : TypedExprs) (ts : List ℕ) (xs : List Line) → Args c es ts xs → (set : Locals) → Apart set (numbers (made xs)) → Apart set ts
+temporaries_apart c es ts xs p set h = record { once = λ x. omega (arith, temporaries_made c es ts xs p x, h.once x) }
+
 -- the own locals of a loop
 own_apart : (d t u : ℕ) (set : Locals) (us vs rest : List Line) (k : Terminator) (b : Title) (U : Ty) → Apart set (d ∷ t ∷ numbers (made (us ++ Turns k b ∷ Makes u U ∷ (vs ++ rest)))) → Apart set (t ∷ (numbers (made us) ++ u ∷ numbers (made vs)))
 own_apart d t u set us vs rest k b U h = record {
@@ -110,18 +136,21 @@ module _ (σ : List Signature) where
     laid c e d xs (of_variable {v = v} x q) Γ set sc h a = laid_puts _ _ _ _ (sc.holds x (has_get c.scope v x q)) (laid_stops _ _ (same_set (with d set)))
     laid c e d xs (of_negative {t = t} {xs = us} p) Γ set sc h a =
         laid_makes _ _ _ _ _ (laid-append set (with t set) (with d set) us _ (laid c _ t us p Γ set sc h.4 (first d t set us _ a))
-        (laid_puts _ _ _ _ (with_self t set) (laid_stops _ _ (ends_with d t set))))
+        (laid_puts _ _ _ _ (with_self t set) (laid_stops _ _ (moved_on d t set (fresh_second d t set _ a)))))
     laid c e d xs (of_denied {t = t} {xs = us} p) Γ set sc h a =
         laid_makes _ _ _ _ _ (laid-append set (with t set) (with d set) us _ (laid c _ t us p Γ set sc h.2 (first d t set us _ a))
-        (laid_puts _ _ _ _ (with_self t set) (laid_stops _ _ (ends_with d t set))))
+        (laid_puts _ _ _ _ (with_self t set) (laid_stops _ _ (moved_on d t set (fresh_second d t set _ a)))))
     laid c e d xs (of_binary {t = t} {u = u} {xs = us} {ys = vs} p q) Γ set sc h a =
+        let b = second d t set us _ a in
+        let no_u : set u ≡ false = fresh_second d u set _ (before t set _ b) in
         laid_makes _ _ _ _ _ (laid-append set (with t set) (with d set) us _ (laid c _ t us p Γ set sc h.2 (first d t set us _ a))
-        (laid_makes _ _ _ _ _ (laid-append (with t set) (with u (with t set)) (with d set) vs _ (laid c _ u vs q Γ (with t set) (more_scoped c Γ set t sc) h.3 (first d u (with t set) vs _ (second d t set us _ a)))
-        (laid_puts _ _ _ _ (first_of_two t u set, with_self u (with t set)) (laid_stops _ _ (with_within d set (with u (with t set)) (two_more t u set)))))))
+        (laid_makes _ _ _ _ _ (laid-append (with t set) (with u (with t set)) (with d set) vs _ (laid c _ u vs q Γ (with t set) (more_scoped c Γ set t sc) h.3 (first d u (with t set) vs _ b))
+        (laid_puts _ _ _ _ (first_of_two t u set, second_of_two t u set (fresh_second d u (with t set) _ b)) (laid_stops _ _
+        (with_within d set (without u (without t (with u (with t set)))) (two_given_up t u set (fresh_second d t set _ a) no_u)))))))
     laid c e d xs (of_lazy {s = s} {op = op} {t = t} yes' no' after {xs = us} {ys = vs} p q) Γ set sc h a =
         let r = before t set _ (second d t set us _ a) in
         laid_makes _ _ _ _ _ (laid-append set (with t set) (with d set) us _ (laid c _ t us p Γ set sc h.3 (first d t set us _ a))
-        (forked c s t yes' no' after set (with t set) (with d set) (where_true op s d vs) (where_false op s d vs) (with_self t set) (with_more t set)
+        (forked c s t yes' no' after set (with t set) (with d set) (where_true op s d vs) (where_false op s d vs) (with_self t set) (given_up t set (fresh_second d t set _ a))
         (laid_where_true op s d vs set (laid c _ d vs q Γ set sc h.4) (left d set (where_true op s d vs) _ r))
         (laid_where_false op s d vs set (laid c _ d vs q Γ set sc h.4) (left d set (where_false op s d vs) _ (right d set (where_true op s d vs) _ r)))))
     laid c e d xs (of_assign {t = t} x {xs = us} r p) Γ set sc h a =
@@ -133,36 +162,39 @@ module _ (σ : List Signature) where
         (laid_puts _ _ _ _ (first_of_two t u set) (laid_puts _ _ _ _ tt (laid_stops _ _ (assigned d u t set (with u (with t set)) (fresh_second d t set _ a) (two_more t u set))))))))
     laid c e d xs (of_update {v = v} {t = t} x u {xs = us} r p) Γ set sc h a =
         let b : Apart set (d ∷ u ∷ []) = before t set _ (second d t set us _ a) in
+        let now = without t (with t set) in
+        let w : Within set now = given_up t set (fresh_second d t set _ a) in
         laid_makes _ _ _ _ _ (laid-append set (with t set) (with d set) us _ (laid c _ t us p Γ set sc h.3 (first d t set us _ a))
         (laid_makes _ _ _ _ _ (laid_puts _ _ _ _ (with_more t set x (sc.holds x (has_get c.scope v x r)), with_self t set)
-        (laid_puts _ _ _ _ (with_self u (with t set)) (laid_puts _ _ _ _ tt (laid_stops _ _ (assigned d x u set (with u (with t set)) (fresh_second d u set [] b) (two_more t u set))))))))
+        (laid_puts _ _ _ _ (with_self u now) (laid_puts _ _ _ _ tt (laid_stops _ _ (assigned d x u set (with u now) (fresh_second d u set [] b) (λ y g. with_more u now y (w y g)))))))))
     laid c e d xs (of_update_value {t = t} {p = w} u {xs = us} {ys = vs} p q) Γ set sc h a =
         let b = second d t set us _ a in
         let b' : Apart (with w (with t set)) (d ∷ u ∷ []) = second d w (with t set) vs _ b in
         let n : set u ≡ false = fresh_second d u set [] (before t set _ (before w (with t set) _ b')) in
+        let now = without t (with w (with t set)) in
+        let k : Within set now = kept t set (with w (with t set)) (fresh_second d t set _ a) (two_more t w set) in
         laid_makes _ _ _ _ _ (laid-append set (with t set) (with d set) us _ (laid c _ t us p Γ set sc h.4 (first d t set us _ a))
         (laid_makes _ _ _ _ _ (laid-append (with t set) (with w (with t set)) (with d set) vs _ (laid c _ w vs q Γ (with t set) (more_scoped c Γ set t sc) h.3 (first d w (with t set) vs _ b))
         (laid_makes _ _ _ _ _ (laid_puts _ _ _ _ (with_self w (with t set), first_of_two t w set)
-        (laid_puts _ _ _ _ (with_self u (with w (with t set))) (laid_puts _ _ _ _ tt (laid_stops _ _
-        (assigned d w u set (with u (with w (with t set))) n (λ y g. with_more u (with w (with t set)) y (two_more t w set y g)))))))))))
+        (laid_puts _ _ _ _ (with_self u now) (laid_puts _ _ _ _ tt (laid_stops _ _ (assigned d w u set (with u now) n (λ y g. with_more u now y (k y g)))))))))))
     laid c e d xs (of_call {s = s} {f = f} {ts = ts} after {xs = us} p) Γ set sc h a =
         laid-append set (with_all ts set) (with d set) us _ (laid_args c _ ts us p Γ set sc h.0.params h.3 (only_made d set us _ a))
-        (called c s f d ts after set (with_all ts set) (with_all_has ts set) (with_all_more ts set))
+        (called c s f d ts after set (with_all ts set) (temporaries_apart c _ ts us p set (only_made d set us _ a)) (with_all_has ts set) (with_all_more ts set))
     laid c e d xs (of_block r) Γ set sc h a = laid_rest c _ _ _ d xs r Γ set _ sc h a
     laid c e d xs (of_branch {s = s} {t = t} yes' no' after {xs = us} {ys = vs} p q) Γ set sc h a =
         let r = before t set _ (second d t set us _ a) in
         laid_makes _ _ _ _ _ (laid-append set (with t set) (with d set) us _ (laid c _ t us p Γ set sc h.3 (first d t set us _ a))
-        (forked c s t yes' no' after set (with t set) (with d set) vs _ (with_self t set) (with_more t set) (laid c _ d vs q Γ set sc h.4 (left d set vs _ r))
+        (forked c s t yes' no' after set (with t set) (with d set) vs _ (with_self t set) (given_up t set (fresh_second d t set _ a)) (laid c _ d vs q Γ set sc h.4 (left d set vs _ r))
         (laid_puts _ _ _ _ tt (laid_stops _ _ (same_set (with d set))))))
     laid c e d xs (of_choice {s = s} {t = t} yes' no' after {xs = us} {ys = vs} {zs = ws} p q r) Γ set sc h a =
         let b = before t set _ (second d t set us _ a) in
         laid_makes _ _ _ _ _ (laid-append set (with t set) (with d set) us _ (laid c _ t us p Γ set sc h.3 (first d t set us _ a))
-        (forked c s t yes' no' after set (with t set) (with d set) vs ws (with_self t set) (with_more t set) (laid c _ d vs q Γ set sc h.4 (left d set vs _ b))
+        (forked c s t yes' no' after set (with t set) (with d set) vs ws (with_self t set) (given_up t set (fresh_second d t set _ a)) (laid c _ d vs q Γ set sc h.4 (left d set vs _ b))
         (laid c _ d ws r Γ set sc h.5 (left d set ws _ (right d set vs _ b)))))
     laid c e d xs (of_repeat {s = s} {is = is} {t = t} {u = u} head body after {xs = us} {ys = vs} p q) Γ set sc h a =
         let k = looping c head in
         let b = before t set _ (second d t set us _ a) in
-        looped c k s d t u _ _ head body after (head_of c is) _ set us vs (head_fits set c (length Γ) is sc.count sc.holds h.1) (none set _ (own_apart d t u set us vs _ _ _ _ a))
+        looped c k s d t u _ _ head body after (head_of c is) _ set us vs (head_fits set c (length Γ) is sc.count sc.holds h.1) (none set _ (own_apart d t u set us vs _ _ _ _ a)) (fresh_second d t set _ a)
         (laid k _ t us p Γ set (in_loop c Γ set head sc) h.4 (first d t set us _ a))
         (laid k _ u vs q Γ set (in_loop c Γ set head sc) h.5 (first d u set vs _ b))
 

@@ -12,7 +12,7 @@ use Rattle.type_check.specs.TypedExpr.{TypedExpr, TypedStmts, TypedExprs}
 use Rattle.type_check.specs.TypedExprView.{ty_of}
 use Rattle.type_check.specs.WellTyped.{IsBuilt, AllBuilt, IsWellTyped, StatementsFit, ArgumentsFit}
 use Rattle.mir_build.specs.Text.{Line, made}
-use Rattle.mir_build.specs.Lowering.{Around, looping, binds, copied, dies_in, where_true, where_false, Into, of_integer, of_truth, of_variable, of_negative, of_denied, of_binary, of_lazy, of_assign}
+use Rattle.mir_build.specs.Lowering.{Around, looping, binds, moved, dies_in, where_true, where_false, Into, of_integer, of_truth, of_variable, of_negative, of_denied, of_binary, of_lazy, of_assign}
 use Rattle.mir_build.specs.Lowering.{of_assign_value, of_update, of_update_value, of_call, of_block, of_branch, of_choice, of_repeat, Rest, of_done, of_last, of_bind, of_run, Args, of_none, of_more}
 use Rattle.mir_build.proofs.LawNames.{head_fits}
 use Rattle.mir_build.proofs.LawTyped.{operation_has, signed, built_more, built, is_local, AreTyped, typed-append, MadeFits, made_first, made_rest, made_left, made_right, ScopeFits, scope_at, scope_more, scope_length, scope_holds}
@@ -164,7 +164,7 @@ module _ (σ : List Signature) (bodies : Bodies) (b : Body) (callees : (n : ℕ)
         let w = callees f h.0 h.1 in
         let g = typed_args c es ts us p Γ k h.0.params h.3 (made_left b us _ m) in
         step us _ g.0
-        ((w.body, ty, w.is_body, subst (OperandsHave b (map copied ts)) (sym w.params) g.1, w.answer ∙ ap Some (sym h.2), (refl, a), sym (ap length w.ground)), tt, tt)
+        ((w.body, ty, w.is_body, subst (OperandsHave b (map moved ts)) (sym w.params) g.1, w.answer ∙ ap Some (sym h.2), (refl, a), sym (ap length w.ground)), tt, tt)
     typed c e d xs (of_block {ty = ty} r) Γ k h a m = typed_rest c _ _ _ d xs r Γ ty k h a m
     typed c e d xs (of_branch {ty = ty} {e = x} {t = t} yes' no' after {xs = us} {ys = vs} p q) Γ k h a m =
         let at_t = made_first b t _ _ m in
@@ -232,7 +232,7 @@ module _ (σ : List Signature) (bodies : Bodies) (b : Body) (callees : (n : ℕ)
           step us vs (typed c _ t us p Γ k h.0 at_t (made_left b us _ m')) (typed_rest c outer s _ d vs q Γ T k h.1 a (made_right b us _ m')),
         )
 
-    typed_args : (c : Around) (es : TypedExprs) (ts : List ℕ) (xs : List Line) → Args c es ts xs → (Γ : List Ty) → Known b c Γ → (Ts : List Ty) → ArgumentsFit σ Γ es Ts → MadeFits b (made xs) → AreTyped bodies b xs × OperandsHave b (map copied ts) Ts
+    typed_args : (c : Around) (es : TypedExprs) (ts : List ℕ) (xs : List Line) → Args c es ts xs → (Γ : List Ty) → Known b c Γ → (Ts : List Ty) → ArgumentsFit σ Γ es Ts → MadeFits b (made xs) → AreTyped bodies b xs × OperandsHave b (map moved ts) Ts
     typed_args c es ts xs of_none Γ k [] h m = (tt, tt)
     typed_args c es ts xs of_none Γ k (T ∷ Ts) h m = absurd h
     typed_args c es ts xs (of_more p q) Γ k [] h m = absurd h

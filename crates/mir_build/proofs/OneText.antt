@@ -36,23 +36,23 @@ mutual
   one_text c e d xs (of_variable {s = s} {v = v} x q) l t n o = λ i. puts s d (Use (copied (found c.scope v x q i))) ∷ []
   one_text c e d xs (of_negative {s = s} {e = a} {t = t'} {xs = us} p) l t n o =
       let x = one_text c a t' us p l (t + 1) n (order_left (t + 1) us _ o.1) ∙ ap (into a c l (t + 1)) o.0 in
-      λ i. Makes (o.0 i) (ty_of a) ∷ (x i ++ puts s d (Neg (copied (o.0 i))) ∷ [])
+      λ i. Makes (o.0 i) (ty_of a) ∷ (x i ++ puts s d (Neg (moved (o.0 i))) ∷ [])
   one_text c e d xs (of_denied {s = s} {e = a} {t = t'} {xs = us} p) l t n o =
       let x = one_text c a t' us p l (t + 1) n (order_left (t + 1) us _ o.1) ∙ ap (into a c l (t + 1)) o.0 in
-      λ i. Makes (o.0 i) (ty_of a) ∷ (x i ++ puts s d (Not (copied (o.0 i))) ∷ [])
+      λ i. Makes (o.0 i) (ty_of a) ∷ (x i ++ puts s d (Not (moved (o.0 i))) ∷ [])
   one_text c e d xs (of_binary {s = s} {op = op} {a = a} {b = b} {t = t'} {u = u'} {xs = us} {ys = vs} p q) l t n o =
       let x = one_text c a t' us p l (t + 1) (from_left l (named p) (named q) n) (order_left (t + 1) us _ o.1) ∙ ap (into a c l (t + 1)) o.0 in
       let r = behind a c l (t + 1) t us _ x o.1 in
       let u = t + 1 + locals a in
       let y = one_text c b u' vs q (l + labels a) (u + 1) (labels_behind p l (named q) n) (order_left (u + 1) vs _ r.1) ∙ ap (into b c (l + labels a) (u + 1)) r.0 in
-      λ i. Makes (o.0 i) (ty_of a) ∷ (x i ++ Makes (r.0 i) (ty_of b) ∷ (y i ++ puts s d (Binary op (copied (o.0 i)) (copied (r.0 i))) ∷ []))
+      λ i. Makes (o.0 i) (ty_of a) ∷ (x i ++ Makes (r.0 i) (ty_of b) ∷ (y i ++ puts s d (Binary op (moved (o.0 i)) (moved (r.0 i))) ∷ []))
   one_text c e d xs (of_lazy {s = s} {op = op} {a = a} {b = b} {t = t'} yes' no' after {xs = us} {ys = vs} p q) l t n o =
       let m = l + labels a in
       let k = three m yes'.0 no'.0 after.0 (named q) (labels_behind p l (yes'.0 ∷ no'.0 ∷ after.0 ∷ named q) n) in
       let x = one_text c a t' us p l (t + 1) (from_left l (named p) _ n) (order_left (t + 1) us _ o.1) ∙ ap (into a c l (t + 1)) o.0 in
       let u = t + 1 + locals a in
       let y = one_text c b d vs q (m + 3) u k.3 (order_lazy op s d u vs _ _ _ _ (behind a c l (t + 1) t us _ x o.1)) in
-      λ i. Makes (o.0 i) (ty_of a) ∷ (x i ++ Turns (ends s (If (copied (o.0 i)) (label (k.0 i)) (label (k.1 i)))) (at c (label (k.0 i))) ∷ (where_true op s d (y i)
+      λ i. Makes (o.0 i) (ty_of a) ∷ (x i ++ Turns (ends s (If (moved (o.0 i)) (label (k.0 i)) (label (k.1 i)))) (at c (label (k.0 i))) ∷ (where_true op s d (y i)
       ++ Turns (ends s (Goto (label (k.2 i)))) (at c (label (k.1 i))) ∷ (where_false op s d (y i) ++ Turns (ends s (Goto (label (k.2 i)))) (at c (label (k.2 i))) ∷ [])))
   one_text c e d xs (of_assign {s = s} {v = v} {e = a} {t = t'} z {xs = us} q p) l t n o =
       let x = one_text c a t' us p l (t + 1) n (order_left (t + 1) us _ o.1) ∙ ap (into a c l (t + 1)) o.0 in
@@ -66,18 +66,18 @@ mutual
   one_text c e d xs (of_update {s = s} {op = op} {v = v} {e = a} {t = t'} z u' {xs = us} q p) l t n o =
       let x = one_text c a t' us p l (t + 1) n (order_left (t + 1) us _ o.1) ∙ ap (into a c l (t + 1)) o.0 in
       let r = behind a c l (t + 1) t us _ x o.1 in
-      λ i. Makes (o.0 i) (ty_of a) ∷ (x i ++ Makes (r.0 i) (ty_of a) ∷ puts s (r.0 i) (Binary op (copied (found c.scope v z q i)) (copied (o.0 i))) ∷ puts s (found c.scope v z q i) (Use (moved (r.0 i))) ∷ put_unit s d ∷ [])
+      λ i. Makes (o.0 i) (ty_of a) ∷ (x i ++ Makes (r.0 i) (ty_of a) ∷ puts s (r.0 i) (Binary op (copied (found c.scope v z q i)) (moved (o.0 i))) ∷ puts s (found c.scope v z q i) (Use (moved (r.0 i))) ∷ put_unit s d ∷ [])
   one_text c e d xs (of_update_value {s = s} {op = op} {a = b} {e = a} {t = t'} {p = w'} u' {xs = us} {ys = vs} p q) l t n o =
       let x = one_text c a t' us p l (t + 1) (from_left l (named p) (named q) n) (order_left (t + 1) us _ o.1) ∙ ap (into a c l (t + 1)) o.0 in
       let r = behind a c l (t + 1) t us _ x o.1 in
       let w = t + 1 + locals a in
       let y = one_text c b w' vs q (l + labels a) (w + 1) (labels_behind p l (named q) n) (order_left (w + 1) vs _ r.1) ∙ ap (into b c (l + labels a) (w + 1)) r.0 in
       let k = behind b c (l + labels a) (w + 1) w vs _ y r.1 in
-      λ i. Makes (o.0 i) (ty_of a) ∷ (x i ++ Makes (r.0 i) (ty_of b) ∷ (y i ++ Makes (k.0 i) (ty_of a) ∷ puts s (k.0 i) (Binary op (copied (r.0 i)) (copied (o.0 i))) ∷ puts s (r.0 i) (Use (moved (k.0 i))) ∷ put_unit s d ∷ []))
+      λ i. Makes (o.0 i) (ty_of a) ∷ (x i ++ Makes (r.0 i) (ty_of b) ∷ (y i ++ Makes (k.0 i) (ty_of a) ∷ puts s (k.0 i) (Binary op (copied (r.0 i)) (moved (o.0 i))) ∷ puts s (r.0 i) (Use (moved (k.0 i))) ∷ put_unit s d ∷ []))
   one_text c e d xs (of_call {s = s} {f = f} {es = es} {ts = ts} after {xs = us} p) l t n o =
       let w = one_args c es ts us p l t (from_left l (named_args p) _ n) (order_left t us _ o) in
       let k = labels_behind_args p l (after.0 ∷ []) n in
-      λ i. w.1 i ++ Turns (ends s (Call (whole d) (Function (fn_id.Body f)) [] (map copied (w.0 i)) (label (k.0 i)))) (at c (label (k.0 i))) ∷ []
+      λ i. w.1 i ++ Turns (ends s (Call (whole d) (Function (fn_id.Body f)) [] (map moved (w.0 i)) (label (k.0 i)))) (at c (label (k.0 i))) ∷ []
   one_text c e d xs (of_block p) l t n o = one_rest c false _ _ d xs p l t n o
   one_text c e d xs (of_branch {s = s} {e = a} {a = b} {t = t'} yes' no' after {xs = us} {ys = vs} p q) l t n o =
       let m = l + labels a in
@@ -85,7 +85,7 @@ mutual
       let x = one_text c a t' us p l (t + 1) (from_left l (named p) _ n) (order_left (t + 1) us _ o.1) ∙ ap (into a c l (t + 1)) o.0 in
       let u = t + 1 + locals a in
       let y = one_text c b d vs q (m + 3) u k.3 (order_left u vs _ (behind a c l (t + 1) t us _ x o.1)) in
-      λ i. Makes (o.0 i) (ty_of a) ∷ (x i ++ Turns (ends s (If (copied (o.0 i)) (label (k.0 i)) (label (k.1 i)))) (at c (label (k.0 i))) ∷ (y i
+      λ i. Makes (o.0 i) (ty_of a) ∷ (x i ++ Turns (ends s (If (moved (o.0 i)) (label (k.0 i)) (label (k.1 i)))) (at c (label (k.0 i))) ∷ (y i
       ++ Turns (ends s (Goto (label (k.2 i)))) (at c (label (k.1 i))) ∷ put_unit s d ∷ Turns (ends s (Goto (label (k.2 i)))) (at c (label (k.2 i))) ∷ []))
   one_text c e d xs (of_choice {s = s} {e = a} {a = b} {b = b'} {t = t'} yes' no' after {xs = us} {ys = vs} {zs = ws} p q r) l t n o =
       let m = l + labels a in
@@ -95,7 +95,7 @@ mutual
       let g = behind a c l (t + 1) t us _ x o.1 in
       let y = one_text c b d vs q (m + 3) u (from_left (m + 3) (named q) (named r) k.3) (order_left u vs _ g) in
       let z = one_text c b' d ws r (m + 3 + labels b) (u + locals b) (labels_behind q (m + 3) (named r) k.3) (order_left (u + locals b) ws _ (behind b c (m + 3) u d vs _ y g)) in
-      λ i. Makes (o.0 i) (ty_of a) ∷ (x i ++ Turns (ends s (If (copied (o.0 i)) (label (k.0 i)) (label (k.1 i)))) (at c (label (k.0 i))) ∷ (y i
+      λ i. Makes (o.0 i) (ty_of a) ∷ (x i ++ Turns (ends s (If (moved (o.0 i)) (label (k.0 i)) (label (k.1 i)))) (at c (label (k.0 i))) ∷ (y i
       ++ Turns (ends s (Goto (label (k.2 i)))) (at c (label (k.1 i))) ∷ (z i ++ Turns (ends s (Goto (label (k.2 i)))) (at c (label (k.2 i))) ∷ [])))
   one_text c e d xs (of_repeat {s = s} {is = is} {e = a} {b = b} {t = t'} {u = u'} head body after {xs = us} {ys = vs} p q) l t n o =
       let k = three l head.0 body.0 after.0 (named p ++ named q) n in
@@ -106,7 +106,7 @@ mutual
       let y = one_text (looping c head) b u' vs q (l + 3 + labels a) (u + 1) (labels_behind p (l + 3) (named q) k.3) (order_left (u + 1) vs _ r.1) ∙ (λ i. into b (looping c (label (k.0 i))) (l + 3 + labels a) (u + 1) (r.0 i)) in
       let own = (λ i. o.0 i ∷ (numbers (made (x i)) ++ r.0 i ∷ numbers (made (y i)))) ∙ own_locals t (locals a) (locals b) _ _ (numbers_of a inside (l + 3) (t + 1) t) (numbers_of b inside (l + 3 + labels a) (u + 1) u) in
       λ i. Turns (ends s (Goto (label (k.0 i)))) (at_head (looping c (label (k.0 i))) (label (k.0 i)) (head_of c is)) ∷ Makes (o.0 i) (ty_of a) ∷ (x i
-      ++ Turns (ends s (If (copied (o.0 i)) (label (k.1 i)) (label (k.2 i)))) (at (looping c (label (k.0 i))) (label (k.1 i))) ∷ Makes (r.0 i) (ty_of b)
+      ++ Turns (ends s (If (moved (o.0 i)) (label (k.1 i)) (label (k.2 i)))) (at (looping c (label (k.0 i))) (label (k.1 i))) ∷ Makes (r.0 i) (ty_of b)
       ∷ (y i ++ Turns (ends s (Goto (label (k.0 i)))) (at c (label (k.2 i))) ∷ Owns (label (k.0 i)) (own i) ∷ put_unit s d ∷ []))
 
   one_rest : (c : Around) (outer : Bool) (s : Span) (ss : TypedStmts) (d : ℕ) (xs : List Line) (p : Rest c outer s ss d xs) (l t : ℕ) → From l (named_rest p) → InOrder t xs → xs ≡ rest ss outer s c l t d

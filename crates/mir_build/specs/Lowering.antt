@@ -146,30 +146,30 @@ mutual
     of_integer : {c : Around} {ty : Ty} {s : Span} {z : ℤ} {k : IntKind} {d : ℕ} → Into c (integer ty s z k) d (constant s d (lit.Int z k) ∷ [])
     of_truth : {c : Around} {ty : Ty} {s : Span} {b : Bool} {d : ℕ} → Into c (typed.truth ty s b) d (constant s d (lit.Bool b) ∷ [])
     of_variable : {c : Around} {ty : Ty} {s : Span} {v d : ℕ} (x : ℕ) → slice_get c.scope v ≡ Some x → Into c (variable ty s v) d (puts s d (Use (copied x)) ∷ [])
-    of_negative : {c : Around} {ty : Ty} {s : Span} {e : TypedExpr} {d t : ℕ} {xs : List Line} → Into c e t xs → Into c (negative ty s e) d (Makes t (ty_of e) ∷ (xs ++ puts s d (Neg (copied t)) ∷ []))
-    of_denied : {c : Around} {ty : Ty} {s : Span} {e : TypedExpr} {d t : ℕ} {xs : List Line} → Into c e t xs → Into c (denied ty s e) d (Makes t (ty_of e) ∷ (xs ++ puts s d (Not (copied t)) ∷ []))
+    of_negative : {c : Around} {ty : Ty} {s : Span} {e : TypedExpr} {d t : ℕ} {xs : List Line} → Into c e t xs → Into c (negative ty s e) d (Makes t (ty_of e) ∷ (xs ++ puts s d (Neg (moved t)) ∷ []))
+    of_denied : {c : Around} {ty : Ty} {s : Span} {e : TypedExpr} {d t : ℕ} {xs : List Line} → Into c e t xs → Into c (denied ty s e) d (Makes t (ty_of e) ∷ (xs ++ puts s d (Not (moved t)) ∷ []))
     of_binary : {c : Around} {ty : Ty} {s : Span} {op : BinaryOp} {a b : TypedExpr} {d t u : ℕ} {xs ys : List Line} → Into c a t xs → Into c b u ys
-        → Into c (binary ty s op a b) d (Makes t (ty_of a) ∷ (xs ++ Makes u (ty_of b) ∷ (ys ++ puts s d (Binary op (copied t) (copied u)) ∷ [])))
+        → Into c (binary ty s op a b) d (Makes t (ty_of a) ∷ (xs ++ Makes u (ty_of b) ∷ (ys ++ puts s d (Binary op (moved t) (moved u)) ∷ [])))
     of_lazy : {c : Around} {ty : Ty} {s : Span} {op : LazyOp} {a b : TypedExpr} {d t : ℕ} (yes' no' after : Label) {xs ys : List Line} → Into c a t xs → Into c b d ys
-        → Into c (lazy ty s op a b) d (Makes t (ty_of a) ∷ (xs ++ Turns (ends s (If (copied t) yes' no')) (at c yes') ∷ (where_true op s d ys
+        → Into c (lazy ty s op a b) d (Makes t (ty_of a) ∷ (xs ++ Turns (ends s (If (moved t) yes' no')) (at c yes') ∷ (where_true op s d ys
         ++ Turns (ends s (Goto after)) (at c no') ∷ (where_false op s d ys ++ Turns (ends s (Goto after)) (at c after) ∷ []))))
     of_assign : {c : Around} {ty : Ty} {s : Span} {v : ℕ} {e : TypedExpr} {d t : ℕ} (x : ℕ) {xs : List Line} → slice_get c.scope v ≡ Some x → Into c e t xs
         → Into c (assign ty s v e) d (Makes t (ty_of e) ∷ (xs ++ puts s x (Use (moved t)) ∷ put_unit s d ∷ []))
     of_assign_value : {c : Around} {ty : Ty} {s : Span} {a e : TypedExpr} {d t u : ℕ} {xs ys : List Line} → Into c e t xs → Into c a u ys
         → Into c (assign_value ty s a e) d (Makes t (ty_of e) ∷ (xs ++ Makes u (ty_of a) ∷ (ys ++ puts s u (Use (moved t)) ∷ put_unit s d ∷ [])))
     of_update : {c : Around} {ty : Ty} {s : Span} {op : BinaryOp} {v : ℕ} {e : TypedExpr} {d t : ℕ} (x u : ℕ) {xs : List Line} → slice_get c.scope v ≡ Some x → Into c e t xs
-        → Into c (update ty s op v e) d (Makes t (ty_of e) ∷ (xs ++ Makes u (ty_of e) ∷ puts s u (Binary op (copied x) (copied t)) ∷ puts s x (Use (moved u)) ∷ put_unit s d ∷ []))
+        → Into c (update ty s op v e) d (Makes t (ty_of e) ∷ (xs ++ Makes u (ty_of e) ∷ puts s u (Binary op (copied x) (moved t)) ∷ puts s x (Use (moved u)) ∷ put_unit s d ∷ []))
     of_update_value : {c : Around} {ty : Ty} {s : Span} {op : BinaryOp} {a e : TypedExpr} {d t p : ℕ} (u : ℕ) {xs ys : List Line} → Into c e t xs → Into c a p ys
-        → Into c (update_value ty s op a e) d (Makes t (ty_of e) ∷ (xs ++ Makes p (ty_of a) ∷ (ys ++ Makes u (ty_of e) ∷ puts s u (Binary op (copied p) (copied t)) ∷ puts s p (Use (moved u)) ∷ put_unit s d ∷ [])))
+        → Into c (update_value ty s op a e) d (Makes t (ty_of e) ∷ (xs ++ Makes p (ty_of a) ∷ (ys ++ Makes u (ty_of e) ∷ puts s u (Binary op (copied p) (moved t)) ∷ puts s p (Use (moved u)) ∷ put_unit s d ∷ [])))
     of_call : {c : Around} {ty : Ty} {s : Span} {f : ℕ} {es : TypedExprs} {d : ℕ} {ts : List ℕ} (after : Label) {xs : List Line} → Args c es ts xs
-        → Into c (call ty s f es) d (xs ++ Turns (ends s (Call (whole d) (Function (fn_id.Body f)) [] (map copied ts) after)) (at c after) ∷ [])
+        → Into c (call ty s f es) d (xs ++ Turns (ends s (Call (whole d) (Function (fn_id.Body f)) [] (map moved ts) after)) (at c after) ∷ [])
     of_block : {c : Around} {ty : Ty} {s : Span} {ss : TypedStmts} {d : ℕ} {xs : List Line} → Rest c false s ss d xs → Into c (block ty s ss) d xs
     of_branch : {c : Around} {ty : Ty} {s : Span} {e a : TypedExpr} {d t : ℕ} (yes' no' after : Label) {xs ys : List Line} → Into c e t xs → Into c a d ys
-        → Into c (branch ty s e a) d (Makes t (ty_of e) ∷ (xs ++ Turns (ends s (If (copied t) yes' no')) (at c yes') ∷ (ys ++ Turns (ends s (Goto after)) (at c no') ∷ put_unit s d ∷ Turns (ends s (Goto after)) (at c after) ∷ [])))
+        → Into c (branch ty s e a) d (Makes t (ty_of e) ∷ (xs ++ Turns (ends s (If (moved t) yes' no')) (at c yes') ∷ (ys ++ Turns (ends s (Goto after)) (at c no') ∷ put_unit s d ∷ Turns (ends s (Goto after)) (at c after) ∷ [])))
     of_choice : {c : Around} {ty : Ty} {s : Span} {e a b : TypedExpr} {d t : ℕ} (yes' no' after : Label) {xs ys zs : List Line} → Into c e t xs → Into c a d ys → Into c b d zs
-        → Into c (choice ty s e a b) d (Makes t (ty_of e) ∷ (xs ++ Turns (ends s (If (copied t) yes' no')) (at c yes') ∷ (ys ++ Turns (ends s (Goto after)) (at c no') ∷ (zs ++ Turns (ends s (Goto after)) (at c after) ∷ []))))
+        → Into c (choice ty s e a b) d (Makes t (ty_of e) ∷ (xs ++ Turns (ends s (If (moved t) yes' no')) (at c yes') ∷ (ys ++ Turns (ends s (Goto after)) (at c no') ∷ (zs ++ Turns (ends s (Goto after)) (at c after) ∷ []))))
     of_repeat : {c : Around} {ty : Ty} {s : Span} {is : List Assertion} {e b : TypedExpr} {d t u : ℕ} (head body after : Label) {xs ys : List Line} → Into (looping c head) e t xs → Into (looping c head) b u ys
-        → Into c (repeat ty s is e b) d (Turns (ends s (Goto head)) (at_head (looping c head) head (head_of c is)) ∷ Makes t (ty_of e) ∷ (xs ++ Turns (ends s (If (copied t) body after)) (at (looping c head) body) ∷ Makes u (ty_of b)
+        → Into c (repeat ty s is e b) d (Turns (ends s (Goto head)) (at_head (looping c head) head (head_of c is)) ∷ Makes t (ty_of e) ∷ (xs ++ Turns (ends s (If (moved t) body after)) (at (looping c head) body) ∷ Makes u (ty_of b)
         ∷ (ys ++ Turns (ends s (Goto head)) (at c after) ∷ Owns head (t ∷ (numbers (made xs) ++ u ∷ numbers (made ys))) ∷ put_unit s d ∷ [])))
 
   -- the text of a block's statements and of its last expression; whether it is the outermost block of a body

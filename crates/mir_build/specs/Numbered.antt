@@ -98,15 +98,15 @@ abbrev mutual
   into (integer ty s z k) c l t d = constant s d (lit.Int z k) ∷ []
   into (truth ty s b) c l t d = constant s d (lit.Bool b) ∷ []
   into (variable ty s v) c l t d = puts s d (Use (copied (local_of c.scope v))) ∷ []
-  into (negative ty s e) c l t d = Makes t (ty_of e) ∷ (into e c l (t + 1) t ++ puts s d (Neg (copied t)) ∷ [])
-  into (denied ty s e) c l t d = Makes t (ty_of e) ∷ (into e c l (t + 1) t ++ puts s d (Not (copied t)) ∷ [])
+  into (negative ty s e) c l t d = Makes t (ty_of e) ∷ (into e c l (t + 1) t ++ puts s d (Neg (moved t)) ∷ [])
+  into (denied ty s e) c l t d = Makes t (ty_of e) ∷ (into e c l (t + 1) t ++ puts s d (Not (moved t)) ∷ [])
   into (binary ty s op a b) c l t d =
       let u = t + 1 + locals a in
-      Makes t (ty_of a) ∷ (into a c l (t + 1) t ++ Makes u (ty_of b) ∷ (into b c (l + labels a) (u + 1) u ++ puts s d (Binary op (copied t) (copied u)) ∷ []))
+      Makes t (ty_of a) ∷ (into a c l (t + 1) t ++ Makes u (ty_of b) ∷ (into b c (l + labels a) (u + 1) u ++ puts s d (Binary op (moved t) (moved u)) ∷ []))
   into (lazy ty s op a b) c l t d =
       let m = l + labels a in
       let ys = into b c (m + 3) (t + 1 + locals a) d in
-      Makes t (ty_of a) ∷ (into a c l (t + 1) t ++ Turns (ends s (If (copied t) (label m) (label (m + 1)))) (at c (label m)) ∷ (where_true op s d ys
+      Makes t (ty_of a) ∷ (into a c l (t + 1) t ++ Turns (ends s (If (moved t) (label m) (label (m + 1)))) (at c (label m)) ∷ (where_true op s d ys
       ++ Turns (ends s (Goto (label (m + 2)))) (at c (label (m + 1))) ∷ (where_false op s d ys ++ Turns (ends s (Goto (label (m + 2)))) (at c (label (m + 2))) ∷ [])))
   into (assign ty s v e) c l t d = Makes t (ty_of e) ∷ (into e c l (t + 1) t ++ puts s (local_of c.scope v) (Use (moved t)) ∷ put_unit s d ∷ [])
   into (assign_value ty s a e) c l t d =
@@ -115,30 +115,30 @@ abbrev mutual
   into (update ty s op v e) c l t d =
       let x = local_of c.scope v in
       let u = t + 1 + locals e in
-      Makes t (ty_of e) ∷ (into e c l (t + 1) t ++ Makes u (ty_of e) ∷ puts s u (Binary op (copied x) (copied t)) ∷ puts s x (Use (moved u)) ∷ put_unit s d ∷ [])
+      Makes t (ty_of e) ∷ (into e c l (t + 1) t ++ Makes u (ty_of e) ∷ puts s u (Binary op (copied x) (moved t)) ∷ puts s x (Use (moved u)) ∷ put_unit s d ∷ [])
   into (update_value ty s op a e) c l t d =
       let p = t + 1 + locals e in
       let u = p + 1 + locals a in
       Makes t (ty_of e) ∷ (into e c l (t + 1) t ++ Makes p (ty_of a) ∷ (into a c (l + labels e) (p + 1) p
-      ++ Makes u (ty_of e) ∷ puts s u (Binary op (copied p) (copied t)) ∷ puts s p (Use (moved u)) ∷ put_unit s d ∷ []))
+      ++ Makes u (ty_of e) ∷ puts s u (Binary op (copied p) (moved t)) ∷ puts s p (Use (moved u)) ∷ put_unit s d ∷ []))
   into (call ty s f es) c l t d =
       let m = l + labels_in es in
-      args es c l t ++ Turns (ends s (Call (whole d) (Function (fn_id.Body f)) [] (map copied (temporaries es t)) (label m))) (at c (label m)) ∷ []
+      args es c l t ++ Turns (ends s (Call (whole d) (Function (fn_id.Body f)) [] (map moved (temporaries es t)) (label m))) (at c (label m)) ∷ []
   into (block ty s ss) c l t d = rest ss false s c l t d
   into (branch ty s e a) c l t d =
       let m = l + labels e in
-      Makes t (ty_of e) ∷ (into e c l (t + 1) t ++ Turns (ends s (If (copied t) (label m) (label (m + 1)))) (at c (label m)) ∷ (into a c (m + 3) (t + 1 + locals e) d
+      Makes t (ty_of e) ∷ (into e c l (t + 1) t ++ Turns (ends s (If (moved t) (label m) (label (m + 1)))) (at c (label m)) ∷ (into a c (m + 3) (t + 1 + locals e) d
       ++ Turns (ends s (Goto (label (m + 2)))) (at c (label (m + 1))) ∷ put_unit s d ∷ Turns (ends s (Goto (label (m + 2)))) (at c (label (m + 2))) ∷ []))
   into (choice ty s e a b) c l t d =
       let m = l + labels e in
       let u = t + 1 + locals e in
-      Makes t (ty_of e) ∷ (into e c l (t + 1) t ++ Turns (ends s (If (copied t) (label m) (label (m + 1)))) (at c (label m)) ∷ (into a c (m + 3) u d
+      Makes t (ty_of e) ∷ (into e c l (t + 1) t ++ Turns (ends s (If (moved t) (label m) (label (m + 1)))) (at c (label m)) ∷ (into a c (m + 3) u d
       ++ Turns (ends s (Goto (label (m + 2)))) (at c (label (m + 1))) ∷ (into b c (m + 3 + labels a) (u + locals a) d ++ Turns (ends s (Goto (label (m + 2)))) (at c (label (m + 2))) ∷ [])))
   into (repeat ty s is e b) c l t d =
       let inside = looping c (label l) in
       let u = t + 1 + locals e in
       Turns (ends s (Goto (label l))) (at_head inside (label l) (head_of c is)) ∷ Makes t (ty_of e) ∷ (into e inside (l + 3) (t + 1) t
-      ++ Turns (ends s (If (copied t) (label (l + 1)) (label (l + 2)))) (at inside (label (l + 1))) ∷ Makes u (ty_of b)
+      ++ Turns (ends s (If (moved t) (label (l + 1)) (label (l + 2)))) (at inside (label (l + 1))) ∷ Makes u (ty_of b)
       ∷ (into b inside (l + 3 + labels e) (u + 1) u ++ Turns (ends s (Goto (label l))) (at c (label (l + 2))) ∷ Owns (label l) (between t (u + 1 + locals b)) ∷ put_unit s d ∷ []))
 
   pub rest : TypedStmts → Bool → Span → Around → ℕ → ℕ → ℕ → List Line
@@ -155,7 +155,7 @@ abbrev mutual
 abbrev pub loop_text : TypedExpr → TypedExpr → Span → Around → ℕ → ℕ → ℕ → List Line
 loop_text e b s c head l t =
     let u = t + 1 + locals e in
-    Makes t (ty_of e) ∷ (into e c l (t + 1) t ++ Turns (ends s (If (copied t) (label (head + 1)) (label (head + 2)))) (at c (label (head + 1))) ∷ Makes u (ty_of b) ∷ into b c (l + labels e) (u + 1) u)
+    Makes t (ty_of e) ∷ (into e c l (t + 1) t ++ Turns (ends s (If (moved t) (label (head + 1)) (label (head + 2)))) (at c (label (head + 1))) ∷ Makes u (ty_of b) ∷ into b c (l + labels e) (u + 1) u)
 
 -- the text of a body, whose outermost block ends no binding
 abbrev pub body_text : TypedExpr → Around → ℕ → ℕ → List Line

@@ -33,14 +33,14 @@ behind_locals (behind.UpdateValue op ty v) = 1
 abbrev pub lazy_text : LazyOp → TypedExpr → Span → ℕ → ℕ → Around → ℕ → ℕ → List Line
 lazy_text op b s t d c l u =
     let ys = into b c (l + 3) u d in
-    Turns (ends s (If (copied t) (label l) (label (l + 1)))) (at c (label l)) ∷ (where_true op s d ys
+    Turns (ends s (If (moved t) (label l) (label (l + 1)))) (at c (label l)) ∷ (where_true op s d ys
     ++ Turns (ends s (Goto (label (l + 2)))) (at c (label (l + 1))) ∷ (where_false op s d ys ++ Turns (ends s (Goto (label (l + 2)))) (at c (label (l + 2))) ∷ []))
 
 abbrev pub behind_text : Behind → Span → ℕ → ℕ → Around → ℕ → ℕ → List Line
-behind_text (behind.Binary op b) s t d c l u = Makes u (ty_of b.now) ∷ (into b.now c l (u + 1) u ++ puts s d (Binary op (copied t) (copied u)) ∷ [])
+behind_text (behind.Binary op b) s t d c l u = Makes u (ty_of b.now) ∷ (into b.now c l (u + 1) u ++ puts s d (Binary op (moved t) (moved u)) ∷ [])
 behind_text (behind.Lazy op b) s t d c l u = lazy_text op b.now s t d c l u
 behind_text (behind.AssignValue v) s t d c l u = puts s t (Use (moved v)) ∷ put_unit s d ∷ []
-behind_text (behind.UpdateValue op ty v) s t d c l u = Makes u ty.now ∷ puts s u (Binary op (copied t) (copied v)) ∷ puts s t (Use (moved u)) ∷ put_unit s d ∷ []
+behind_text (behind.UpdateValue op ty v) s t d c l u = Makes u ty.now ∷ puts s u (Binary op (copied t) (moved v)) ∷ puts s t (Use (moved u)) ∷ put_unit s d ∷ []
 
 abbrev pub behind_size : Behind → ℕ
 behind_size (behind.Binary op b) = typed_size b.now

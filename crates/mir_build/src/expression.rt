@@ -179,11 +179,11 @@ fn lower_left<'a>(
         }
         TypedNode::Neg(x) => {
             let t = lower_new(alloc, b, c, x)?;
-            Ok(b.put(alloc, span, d, Rvalue::Neg(copied(alloc, t)))?)
+            Ok(b.put(alloc, span, d, Rvalue::Neg(moved(alloc, t)))?)
         }
         TypedNode::Not(x) => {
             let t = lower_new(alloc, b, c, x)?;
-            Ok(b.put(alloc, span, d, Rvalue::Not(copied(alloc, t)))?)
+            Ok(b.put(alloc, span, d, Rvalue::Not(moved(alloc, t)))?)
         }
         TypedNode::Assign(v, x) => lower_assign(alloc, b, c, span, *v, x, d),
         TypedNode::Update(op, v, x) => lower_update(alloc, b, c, span, *op, *v, x, d),
@@ -216,7 +216,7 @@ fn lower_behind(
     match pending.behind {
         Behind::Binary(op, right) => {
             let y = lower_new(alloc, b, c, right)?;
-            let value = Rvalue::Binary(op, copied(alloc, x), copied(alloc, y));
+            let value = Rvalue::Binary(op, moved(alloc, x), moved(alloc, y));
             Ok(b.put(alloc, span, d, value)?)
         }
         Behind::Lazy(op, right) => lower_lazy(alloc, b, c, span, op, x, right, d),
@@ -290,13 +290,13 @@ fn put_update(
     t: u32,
     d: u32,
 ) -> Result<(), Stop>
-    ensures text { OnOk result (b.new.text ≡ written (let u = length b.old.text.locals in Makes u ty.now ∷ puts span u (Binary op (copied to) (copied t)) ∷ puts span to (Use (moved u)) ∷ put_unit span d ∷ []) b.old.text) }
+    ensures text { OnOk result (b.new.text ≡ written (let u = length b.old.text.locals in Makes u ty.now ∷ puts span u (Binary op (copied to) (moved t)) ∷ puts span to (Use (moved u)) ∷ put_unit span d ∷ []) b.old.text) }
     ensures labels { OnOk result (b.new.labels ≡ b.old.labels) }
     ensures locals { OnOk result (length b.new.text.locals ≡ length b.old.text.locals + 1) }
     ensures limit { IfErr result (λ stop. stop ≡ Blocks → ⊥) }
 {
     let u = b.make(alloc, ty)?;
-    let value = Rvalue::Binary(op, copied(alloc, to), copied(alloc, t));
+    let value = Rvalue::Binary(op, copied(alloc, to), moved(alloc, t));
     b.put(alloc, span, u, value)?;
     b.put(alloc, span, to, Rvalue::Use(moved(alloc, u)))?;
     b.put_unit(alloc, span, d)?;
@@ -326,7 +326,7 @@ fn lower_lazy(
     let yes = b.take_labels(3)?;
     let no = yes + 1;
     let after = yes + 2;
-    let test = TerminatorKind::If(copied(alloc, t), Label(yes), Label(no));
+    let test = TerminatorKind::If(moved(alloc, t), Label(yes), Label(no));
     b.turn(alloc, c, span, test, yes)?;
     match op {
         LazyOp::And => {
@@ -368,7 +368,7 @@ fn lower_branch(
     let yes = b.take_labels(3)?;
     let no = yes + 1;
     let after = yes + 2;
-    let test = TerminatorKind::If(copied(alloc, t), Label(yes), Label(no));
+    let test = TerminatorKind::If(moved(alloc, t), Label(yes), Label(no));
     b.turn(alloc, c, span, test, yes)?;
     lower_into(alloc, b, c, y, d)?;
     b.go(alloc, c, span, after, no)?;
@@ -400,7 +400,7 @@ fn lower_choice(
     let yes = b.take_labels(3)?;
     let no = yes + 1;
     let after = yes + 2;
-    let test = TerminatorKind::If(copied(alloc, t), Label(yes), Label(no));
+    let test = TerminatorKind::If(moved(alloc, t), Label(yes), Label(no));
     b.turn(alloc, c, span, test, yes)?;
     lower_into(alloc, b, c, y, d)?;
     b.go(alloc, c, span, after, no)?;
@@ -477,7 +477,7 @@ fn lower_loop(
     ensures around { OnOk result (around c.new ≡ around c.old) }
 {
     let t = lower_new(alloc, b, c, x)?;
-    let test = TerminatorKind::If(copied(alloc, t), Label(head + 1), Label(head + 2));
+    let test = TerminatorKind::If(moved(alloc, t), Label(head + 1), Label(head + 2));
     b.turn(alloc, c, span, test, head + 1)?;
     lower_new(alloc, b, c, y)?;
     Ok(t)
@@ -551,12 +551,12 @@ fn lower_args(
     ensures limit { IfErr result (λ stop. stop ≡ Blocks → 4096 < b.old.labels + labels_in (exprs_of es.now)) }
     ensures most { OnOk result (b.old.labels ≤ 4096 → b.new.labels ≤ 4096) }
     ensures around { OnOk result (around c.new ≡ around c.old) }
-    ensures operands { IfOk result (λ v. v ≡ map copied (temporaries (exprs_of es.now) (length b.old.text.locals))) }
+    ensures operands { IfOk result (λ v. v ≡ map moved (temporaries (exprs_of es.now) (length b.old.text.locals))) }
 {
     let mut all = Items::new(alloc);
     for e in es {
         let t = lower_new(alloc, b, c, e)?;
-        all.push(copied(alloc, t))?;
+        all.push(moved(alloc, t))?;
     }
     Ok(all)
 }

@@ -1,7 +1,7 @@
 use Rattle.std.proofs.Common.{◌≡◌, ◌+◌, ◌*◌, ◌++◌, ◌≤◌, max, take, drop, length, map}
 use Rattle.std.specs.Option.{option_copied}
 use Rattle.type_check.specs.TypedExprView.{typed_size, stmts_size, stmts_of, exprs_size, exprs_of}
-use Rattle.mir_build.specs.Lowering.{copied}
+use Rattle.mir_build.specs.Lowering.{moved}
 use Rattle.mir_build.specs.Numbered.{into, rest, labels, locals, args, temporaries, labels_of, locals_of, labels_in, locals_in}
 use Rattle.mir_build.specs.Tasks.{to_do, behind_size, task_size, tasks_text, tasks_labels, tasks_locals, tasks_size, tasks_weight}
 use Rattle.mir_build.specs.Built.{written, around, end_of}
@@ -73,7 +73,7 @@ invariant-lower_args-loop-e l = record {
   locals : length l.b.text.locals + locals_in (exprs_of (drop l.e-index l.es)) ≡ length l.initial.b.text.locals + locals_in (exprs_of l.es);
   most : l.initial.b.labels ≤ 4096 → l.b.labels ≤ 4096;
   around : around l.c ≡ around l.initial.c;
-  operands : l.all ++ map copied (temporaries (exprs_of (drop l.e-index l.es)) (length l.b.text.locals)) ≡ map copied (temporaries (exprs_of l.es) (length l.initial.b.text.locals));
+  operands : l.all ++ map moved (temporaries (exprs_of (drop l.e-index l.es)) (length l.b.text.locals)) ≡ map moved (temporaries (exprs_of l.es) (length l.initial.b.text.locals));
 }
 
 abbrev pub invariant-lower_rest-loop-statement : goal.invariant-lower_rest-loop-statement
