@@ -23,15 +23,16 @@ use Rattle.verify_core.specs.declared.program.Program.{Program}
 use Rattle.verify_core.specs.Listing.{list_text}
 use Rattle.verify_core.specs.OnSource.{RefusesProofs, most_proof_bytes}
 use Rattle.verify_core.specs.Prepared.{IsPrepared, IsRefused, IsPastLimit, most_bytes}
-use Rattle.verify_core.specs.Verdict.{HasDerivation, IsVerdict, obligations_in}
+use Rattle.verify_core.specs.Owed.{obligations_in}
+use Rattle.verify_core.specs.Verdict.{HasDerivation, IsVerdict}
 use Rattle.verify_core.proofs.SettledLaws.{left_exactly}
 use Rattle.verify_core.proofs.Verified.{verified_is_good}
 use Rattle.creusot_cli.specs.declared.verify.files.ReadFile.{ReadFile}
 use Rattle.creusot_cli.specs.declared.verify.files.Stop.{Stop}
 use Rattle.creusot_cli.specs.declared.verify.files.Stop.TheVariants.{ShelfFailed}
 use Rattle.creusot_cli.specs.declared.verify.answer.Plan.{Plan}
-use Rattle.creusot_cli.specs.Answer.{Fetched, whole, longer, source_limit, proofs_limit, IsProgramOf, AnswersSource, AreProofs, AnswersProofs, status_of}
-use Rattle.creusot_cli.specs.Call.{fetched, HeldAs, IsFetched, IsRead, AreFetched, AreRead, IsProofsWithin, HasProgram, Answers, AnswersWords, ReportsWords, DoesVerb, CannotRead, PlansRefusedProofs}
+use Rattle.creusot_cli.specs.Answer.{Fetched, whole, longer, source_limit, proofs_limit, IsProgramOf, RefusesFetched, AreProofs, AnswersVerify, AnswersList, DoesVerb, status_of}
+use Rattle.creusot_cli.specs.Call.{fetched, HeldAs, IsFetched, IsRead, AreFetched, AreFetchedFor, AreRead, IsProofsWithin, HasProgram, Answers, AnswersWords, ReportsWords, Reports, ListsAll, ReportsVerb, CannotRead, Decides, PlansRefusedProofs}
 
 -- ---- what the source decides
 
@@ -40,25 +41,25 @@ pub if_ok : {A E : Type 0} (P Q : A → Type 0) (r : Result A E) → ((a : A) �
 if_ok P Q (Ok a) f h = f a h
 if_ok P Q (Err e) f h = tt
 
-pub refused_source : (verb : Verb) (source : List ℕ) (error : SourceError) (bytes : List ℕ) → length source ≤ most_bytes → IsRefused source error → bytes ≡ source_error_line source error → AnswersSource verb (whole source) 3 bytes
-refused_source verb source error bytes short refused b = subst (λ (bs : List ℕ). AnswersSource verb (whole source) 3 bs) (sym b) (AnswersSource.source_refused refl short refused)
+pub refused_source : (source : List ℕ) (error : SourceError) (bytes : List ℕ) → length source ≤ most_bytes → IsRefused source error → bytes ≡ source_error_line source error → RefusesFetched (whole source) 3 bytes
+refused_source source error bytes short refused b = subst (λ (bs : List ℕ). RefusesFetched (whole source) 3 bs) (sym b) (RefusesFetched.source_refused refl short refused)
 
-pub past_limit : (verb : Verb) (source : List ℕ) (limit : Limit) → length source ≤ most_bytes → IsPastLimit source limit → (plan : Plan) → (plan.status ≡ 7) × (plan.bytes.items ≡ limit_line limit) →
-    AnswersSource verb (whole source) plan.status plan.bytes.items
-past_limit verb source limit short past plan (status, printed) = rw (status, printed) (AnswersSource.limit_passed refl short past)
+pub past_limit : (source : List ℕ) (limit : Limit) → length source ≤ most_bytes → IsPastLimit source limit → (plan : Plan) → (plan.status ≡ 7) × (plan.bytes.items ≡ limit_line limit) →
+    RefusesFetched (whole source) plan.status plan.bytes.items
+past_limit source limit short past plan (status, printed) = rw (status, printed) (RefusesFetched.limit_passed refl short past)
 
 pub is_program : (source : List ℕ) (p : Program) → length source ≤ most_bytes → IsPrepared source p → IsProgramOf (whole source) source p
 is_program source p short prepared = record { is_whole = refl; short = short; prepared = prepared }
 
-pub listed_answers : (verb : Verb) (source : List ℕ) (p : Program) (plan : Plan) → verb ≡ Listing → length source ≤ most_bytes → IsPrepared source p → (plan.status ≡ 0) × (plan.bytes.items ≡ list_text p.names source p.functions) →
-    AnswersSource verb (whole source) plan.status plan.bytes.items
-listed_answers verb source p plan v short prepared (status, printed) = rw (status, printed) (AnswersSource.listed source p v (is_program source p short prepared))
+pub listed_answers : (verb : Verb) (source : List ℕ) (p : Program) (plan : Plan) → verb ≡ Listing → length source ≤ most_bytes → IsPrepared source p → (plan.status ≡ 0) × (plan.bytes.items ≡ list_text p source) →
+    Decides verb (whole source) plan.status plan.bytes.items
+listed_answers verb source p plan v short prepared (status, printed) = rw (status, printed) (Decides.listed source p v (is_program source p short prepared) AnswersList.listed)
 
 -- ---- what the proofs decide
 
 pub reported_answers : (source : List ℕ) (p : Program) (o : Option Fetched) (proofs : List Proof) → AreProofs o proofs → (plan : Plan) →
-    (v : Verdict) × IsVerdict proofs p.bodies p.functions v × (plan.status ≡ status_of v) × (plan.bytes.items ≡ report_of source v) → AnswersProofs source p o plan.status plan.bytes.items
-reported_answers source p o proofs are plan (v, is, status, printed) = rw (status, printed) (AnswersProofs.reported proofs are is)
+    (v : Verdict) × IsVerdict proofs p v × (plan.status ≡ status_of v) × (plan.bytes.items ≡ report_of source v) → AnswersVerify source p o plan.status plan.bytes.items
+reported_answers source p o proofs are plan (v, is, status, printed) = rw (status, printed) (AnswersVerify.reported proofs are is)
 
 pub given_proofs : (bytes : List ℕ) (file : ProofFile) (proofs : List Proof) → length bytes ≤ most_proof_bytes → SpellsProofs [] bytes file → proofs ≡ file.proofs → AreProofs (Some (whole bytes)) proofs
 given_proofs bytes file proofs short spelled e = rw e (AreProofs.given bytes short spelled)
@@ -68,15 +69,15 @@ absent_proofs o proofs e p = rw (e, p) AreProofs.absent
 
 -- a file of proofs that was read whole is refused for a bad line alone
 pub refused_proofs : (source : List ℕ) (p : Program) (bytes : List ℕ) (r : Refusal) → length bytes ≤ most_proof_bytes → RefusesProofs bytes r → (plan : Plan) → PlansRefusedProofs r plan →
-    AnswersProofs source p (Some (whole bytes)) plan.status plan.bytes.items
+    AnswersVerify source p (Some (whole bytes)) plan.status plan.bytes.items
 refused_proofs source p bytes (refusals.Source error) short refuses plan plans = absurd refuses
-refused_proofs source p bytes (refusals.Proof line) short refuses plan (status, printed) = rw (status, printed) (AnswersProofs.proofs_refused bytes refl short refuses)
+refused_proofs source p bytes (refusals.Proof line) short refuses plan (status, printed) = rw (status, printed) (AnswersVerify.proofs_refused bytes refl short refuses)
 refused_proofs source p bytes (refusals.Limit limit) short (long, is) plan plans = absurd (omega (arith, short, long))
 refused_proofs source p bytes refusals.NoMemory short refuses plan plans = absurd plans
 
 pub long_proofs : (source : List ℕ) (p : Program) (o : Option Fetched) (n : ℕ) → o ≡ Some (longer n) → most_proof_bytes < n → (plan : Plan) → (plan.status ≡ 7) × (plan.bytes.items ≡ limit_line (proofs_limit n)) →
-    AnswersProofs source p o plan.status plan.bytes.items
-long_proofs source p o n e far plan (status, printed) = rw (status, printed) (AnswersProofs.proofs_long e far)
+    AnswersVerify source p o plan.status plan.bytes.items
+long_proofs source p o n e far plan (status, printed) = rw (status, printed) (AnswersVerify.proofs_long e far)
 
 -- ---- what was read
 
@@ -92,12 +93,23 @@ pub program_has : (shelf : Option Files) (a : Asked) (source : List ℕ) (p : Pr
 program_has shelf a source p held is = record { held = held; short = is.short; prepared = is.prepared }
 
 -- the source is whole, and what it decides is answered
-pub source_answers : (shelf : Option Files) (a : Asked) (source : List ℕ) (plan : Plan) → length source ≤ most_bytes → HeldAs shelf a.source (whole source) → AnswersSource a.verb (whole source) plan.status plan.bytes.items →
+pub source_answers : (shelf : Option Files) (a : Asked) (source : List ℕ) (plan : Plan) → length source ≤ most_bytes → HeldAs shelf a.source (whole source) → Decides a.verb (whole source) plan.status plan.bytes.items →
     Answers shelf a plan.status plan.bytes.items
-source_answers shelf a source plan short held answers = Answers.by_source (whole source) (record { held = held; within = short }) answers
+source_answers shelf a source plan short held (Decides.refused refuses) = Answers.by_source (whole source) (record { held = held; within = short }) refuses
+source_answers shelf a source plan short held (Decides.listed bytes p verb is lists) =
+    Answers.by_verb bytes p None
+    (record { held = subst (λ (f : Fetched). HeldAs shelf a.source f) is.is_whole held; short = is.short; prepared = is.prepared })
+    (subst (λ (v : Verb). AreFetchedFor v shelf a.proofs None) (sym verb) refl)
+    (subst (λ (v : Verb). DoesVerb v bytes p None plan.status plan.bytes.items) (sym verb) lists)
+
+-- and so is what the proofs decide
+pub proofs_answer : (shelf : Option Files) (a : Asked) (source : List ℕ) (p : Program) (proofs : Option Fetched) (plan : Plan) → a.verb ≡ Verify → HasProgram shelf a source p → AreFetched shelf a.proofs proofs →
+    AnswersVerify source p proofs plan.status plan.bytes.items → Answers shelf a plan.status plan.bytes.items
+proofs_answer shelf a source p proofs plan verb has read answers =
+    Answers.by_verb source p proofs has (subst (λ (v : Verb). AreFetchedFor v shelf a.proofs proofs) (sym verb) read) (subst (λ (v : Verb). DoesVerb v source p proofs plan.status plan.bytes.items) (sym verb) answers)
 
 pub long_source : (shelf : Option Files) (a : Asked) (n : ℕ) (plan : Plan) → IsFetched shelf a.source most_bytes (longer n) → (plan.status ≡ 7) × (plan.bytes.items ≡ limit_line (source_limit n)) → Answers shelf a plan.status plan.bytes.items
-long_source shelf a n plan at (status, printed) = rw (status, printed) (Answers.by_source (longer n) at (AnswersSource.source_long refl at.within))
+long_source shelf a n plan at (status, printed) = rw (status, printed) (Answers.by_source (longer n) at (RefusesFetched.source_long refl at.within))
 
 -- ---- faults
 
@@ -140,25 +152,18 @@ zero_at : (left : List LeftItem) → left ≡ [] → ◌≡◌ {A = ℕ} (if len
 zero_at [] e = refl
 zero_at (x ∷ xs) e = absurd cc
 
-does_verb : (shelf : Option Files) (a : Asked) (result : ℕ) (before after : Option (List ℕ)) (v : Verb) → a.verb ≡ v → DoesVerb v shelf a result before after → DoesVerb a.verb shelf a result before after
-does_verb shelf a result before after v e does = subst (λ (u : Verb). DoesVerb u shelf a result before after) (sym e) does
-
--- what an answer about the source alone says
-report_source : (shelf : Option Files) (a : Asked) (f : Fetched) (result : ℕ) (before after : Option (List ℕ)) {status : ℕ} {bytes : List ℕ} → IsFetched shelf a.source most_bytes f →
-    AnswersSource a.verb f status bytes → result ≡ status → Appends before after bytes → (result ≡ 0) ⊎ (result ≡ 1) → DoesVerb a.verb shelf a result before after
-report_source shelf a f result before after at (AnswersSource.source_long is far) e added small = absurd (differs result 7 small (omega arith) e)
-report_source shelf a f result before after at (AnswersSource.source_refused is short refused) e added small = absurd (differs result 3 small (omega arith) e)
-report_source shelf a f result before after at (AnswersSource.limit_passed is short past) e added small = absurd (differs result 7 small (omega arith) e)
-report_source shelf a f result before after at (AnswersSource.listed source p verb is) e added small =
-    let held : HeldAs shelf a.source (whole source) = subst (λ (x : Fetched). HeldAs shelf a.source x) is.is_whole at.held in
-    does_verb shelf a result before after Listing verb (record { source = source; program = p; has = record { held = held; short = is.short; prepared = is.prepared }; zero = e; printed = added })
+-- what an answer about a source without a program says
+report_source : (f : Fetched) (result : ℕ) {Q : Type 0} {status : ℕ} {bytes : List ℕ} → RefusesFetched f status bytes → result ≡ status → (result ≡ 0) ⊎ (result ≡ 1) → Q
+report_source f result (RefusesFetched.source_long is far) e small = absurd (differs result 7 small (omega arith) e)
+report_source f result (RefusesFetched.source_refused is short refused) e small = absurd (differs result 3 small (omega arith) e)
+report_source f result (RefusesFetched.limit_passed is short past) e small = absurd (differs result 7 small (omega arith) e)
 
 -- what an answer about the proofs says
-report_proofs : (shelf : Option Files) (a : Asked) (source : List ℕ) (p : Program) (o : Option Fetched) (result : ℕ) (before after : Option (List ℕ)) {status : ℕ} {bytes : List ℕ} → a.verb ≡ Verify →
-    HasProgram shelf a source p → AreFetched shelf a.proofs o → AnswersProofs source p o status bytes → result ≡ status → Appends before after bytes → (result ≡ 0) ⊎ (result ≡ 1) → DoesVerb a.verb shelf a result before after
-report_proofs shelf a source p o result before after verb has read (AnswersProofs.proofs_long is far) e added small = absurd (differs result 7 small (omega arith) e)
-report_proofs shelf a source p o result before after verb has read (AnswersProofs.proofs_refused bytes is short bad) e added small = absurd (differs result 4 small (omega arith) e)
-report_proofs shelf a source p o result before after verb has read (AnswersProofs.reported {v = v} proofs are verdict) e added small = does_verb shelf a result before after Verify verb (record {
+report_proofs : (shelf : Option Files) (a : Asked) (source : List ℕ) (p : Program) (o : Option Fetched) (result : ℕ) (before after : Option (List ℕ)) {status : ℕ} {bytes : List ℕ} →
+    HasProgram shelf a source p → AreFetched shelf a.proofs o → AnswersVerify source p o status bytes → result ≡ status → Appends before after bytes → (result ≡ 0) ⊎ (result ≡ 1) → Reports shelf a result before after
+report_proofs shelf a source p o result before after has read (AnswersVerify.proofs_long is far) e added small = absurd (differs result 7 small (omega arith) e)
+report_proofs shelf a source p o result before after has read (AnswersVerify.proofs_refused bytes is short bad) e added small = absurd (differs result 4 small (omega arith) e)
+report_proofs shelf a source p o result before after has read (AnswersVerify.reported {v = v} proofs are verdict) e added small = record {
   source = source;
   program = p;
   has = has;
@@ -170,19 +175,30 @@ report_proofs shelf a source p o result before after verb has read (AnswersProof
   is_verdict = verdict;
   printed = added;
   complete = complete;
-  good = λ f line c is_line verified is_contract. verified_is_good source p proofs v has.prepared verdict f line c is_line verified is_contract;
-})
+  good = verified_is_good source p has.prepared proofs v verdict;
+}
   where
-    exactly : (v.left ≡ []) ↔ Each (HasDerivation proofs) (obligations_in p.functions)
-    exactly = left_exactly proofs (obligations_in p.functions) v.left v.proved verdict.judged
+    exactly : (v.left ≡ []) ↔ Each (HasDerivation p.tables proofs) (obligations_in p.obligations)
+    exactly = left_exactly p.tables proofs (obligations_in p.obligations) v.left v.proved verdict.judged
 
-    complete : (result ≡ 0) ↔ Each (HasDerivation proofs) (obligations_in p.functions)
+    complete : (result ≡ 0) ↔ Each (HasDerivation p.tables proofs) (obligations_in p.obligations)
     complete = (λ zero_is. exactly.0 (none_left v.left result e zero_is), λ each. e ∙ zero_at v.left (exactly.1 each))
 
+-- what a list says
+report_list : (shelf : Option Files) (a : Asked) (source : List ℕ) (p : Program) (result : ℕ) (before after : Option (List ℕ)) {status : ℕ} {bytes : List ℕ} →
+    HasProgram shelf a source p → AnswersList source p status bytes → result ≡ status → Appends before after bytes → ListsAll shelf a result before after
+report_list shelf a source p result before after has AnswersList.listed e added = record { source = source; program = p; has = has; zero = e; printed = added }
+
+-- by verb
+report_verb : (v : Verb) (shelf : Option Files) (a : Asked) (source : List ℕ) (p : Program) (o : Option Fetched) (result : ℕ) (before after : Option (List ℕ)) (status : ℕ) (bytes : List ℕ) →
+    HasProgram shelf a source p → AreFetchedFor v shelf a.proofs o → DoesVerb v source p o status bytes → result ≡ status → Appends before after bytes → (result ≡ 0) ⊎ (result ≡ 1) → ReportsVerb v shelf a result before after
+report_verb Verify shelf a source p o result before after status bytes has read does e added small = report_proofs shelf a source p o result before after has read does e added small
+report_verb Listing shelf a source p o result before after status bytes has read does e added small = report_list shelf a source p result before after has does e added
+
 report : (shelf : Option Files) (a : Asked) (result : ℕ) (before after : Option (List ℕ)) {status : ℕ} {bytes : List ℕ} →
-    Answers shelf a status bytes → result ≡ status → Appends before after bytes → (result ≡ 0) ⊎ (result ≡ 1) → DoesVerb a.verb shelf a result before after
-report shelf a result before after (Answers.by_source f at answers) e added small = report_source shelf a f result before after at answers e added small
-report shelf a result before after (Answers.by_proofs source p o verb has read answers) e added small = report_proofs shelf a source p o result before after verb has read answers e added small
+    Answers shelf a status bytes → result ≡ status → Appends before after bytes → (result ≡ 0) ⊎ (result ≡ 1) → ReportsVerb a.verb shelf a result before after
+report shelf a result before after (Answers.by_source f at refuses) e added small = report_source f result refuses e small
+report shelf a result before after {status} {bytes} (Answers.by_verb source p proofs has read does) e added small = report_verb a.verb shelf a source p proofs result before after status bytes has read does e added small
 
 pub reports : (shelf : Option Files) (a : Option Asked) (status result : ℕ) (bytes : List ℕ) (before after : Option (List ℕ)) → AnswersWords shelf a status bytes →
     (result ≢ 6 → result ≢ 8 → (result ≡ status) × Appends before after bytes) → (result ≡ 0) ⊎ (result ≡ 1) → ReportsWords shelf a result before after
@@ -201,21 +217,27 @@ zero_or_one (x ∷ xs) s e =
     let one : s ≡ 1 = e ∙ ap (λ (b : Bool). if b then 0 else 1) (some_left x xs) in
     omega arith
 
-source_not_five : (verb : Verb) (f : Fetched) {s : ℕ} {bytes : List ℕ} → AnswersSource verb f s bytes → s ≡ 5 → ⊥
-source_not_five verb f (AnswersSource.source_long is far) e = omega arith
-source_not_five verb f (AnswersSource.source_refused is short refused) e = omega arith
-source_not_five verb f (AnswersSource.limit_passed is short past) e = omega arith
-source_not_five verb f (AnswersSource.listed source p v is) e = omega arith
+source_not_five : (f : Fetched) {s : ℕ} {bytes : List ℕ} → RefusesFetched f s bytes → s ≡ 5 → ⊥
+source_not_five f (RefusesFetched.source_long is far) e = omega arith
+source_not_five f (RefusesFetched.source_refused is short refused) e = omega arith
+source_not_five f (RefusesFetched.limit_passed is short past) e = omega arith
 
-proofs_not_five : (source : List ℕ) (p : Program) (o : Option Fetched) {s : ℕ} {bytes : List ℕ} → AnswersProofs source p o s bytes → s ≡ 5 → ⊥
-proofs_not_five source p o (AnswersProofs.proofs_long is far) e = omega arith
-proofs_not_five source p o (AnswersProofs.proofs_refused bytes is short bad) e = omega arith
-proofs_not_five source p o (AnswersProofs.reported {v} proofs are verdict) e = omega (arith, zero_or_one v.left (status_of v) refl)
+proofs_not_five : (source : List ℕ) (p : Program) (o : Option Fetched) {s : ℕ} {bytes : List ℕ} → AnswersVerify source p o s bytes → s ≡ 5 → ⊥
+proofs_not_five source p o (AnswersVerify.proofs_long is far) e = omega arith
+proofs_not_five source p o (AnswersVerify.proofs_refused bytes is short bad) e = omega arith
+proofs_not_five source p o (AnswersVerify.reported {v} proofs are verdict) e = omega (arith, zero_or_one v.left (status_of v) refl)
+
+list_not_five : (source : List ℕ) (p : Program) {s : ℕ} {bytes : List ℕ} → AnswersList source p s bytes → s ≡ 5 → ⊥
+list_not_five source p AnswersList.listed e = omega arith
+
+verb_not_five : (v : Verb) (source : List ℕ) (p : Program) (o : Option Fetched) (s : ℕ) (bytes : List ℕ) → DoesVerb v source p o s bytes → s ≡ 5 → ⊥
+verb_not_five Verify source p o s bytes does e = proofs_not_five source p o does e
+verb_not_five Listing source p o s bytes does e = list_not_five source p does e
 
 not_five : (shelf : Option Files) (a : Option Asked) (s : ℕ) (bytes : List ℕ) → AnswersWords shelf a s bytes → s ≡ 5 → ⊥
 not_five shelf None s bytes answers e = omega (arith, answers.0)
-not_five shelf (Some a) s bytes (Answers.by_source f at answers) e = source_not_five a.verb f answers e
-not_five shelf (Some a) s bytes (Answers.by_proofs source p o verb has read answers) e = proofs_not_five source p o answers e
+not_five shelf (Some a) s bytes (Answers.by_source f at refuses) e = source_not_five f refuses e
+not_five shelf (Some a) s bytes (Answers.by_verb source p proofs has read does) e = verb_not_five a.verb source p proofs s bytes does e
 
 pub never_five : (shelf : Option Files) (a : Option Asked) (planned result : ℕ) (told : List ℕ) (before after : Option (List ℕ)) → AnswersWords shelf a planned told →
     (result ≢ 6 → result ≢ 8 → (result ≡ planned) × Appends before after told) → result ≡ 5 → ⊥

@@ -12,18 +12,14 @@ use Rattle.report_out.specs.Report.{report_of, source_error_line, proof_error_li
 use Rattle.call_words.specs.declared.request.Verb.{Verb}
 use Rattle.call_words.specs.declared.request.Verb.TheVariants.{Verify, List as Listing}
 use Rattle.verify_core.specs.declared.program.Program.{Program}
-use Rattle.verify_core.specs.Listing.{list_text}
 use Rattle.verify_core.specs.Prepared.{IsPrepared, IsRefused, IsPastLimit, most_bytes}
 use Rattle.verify_core.specs.Verdict.{IsVerdict}
 use Rattle.verify_core.proofs.OneAnswer.{one_refusal, refused_not_past, one_limit, prepared_not_past, prepared_not_refused, one_program}
 use Rattle.verify_core.proofs.OneVerdict.{verdict_once}
-use Rattle.creusot_cli.specs.Answer.{Fetched, whole, longer, source_limit, proofs_limit, IsProgramOf, AnswersSource, AreProofs, AnswersProofs, AnswersOn, AnswersAreOne, status_of}
+use Rattle.creusot_cli.specs.Answer.{Fetched, whole, longer, source_limit, proofs_limit, IsProgramOf, RefusesFetched, AreProofs, AnswersVerify, AnswersList, DoesVerb, AnswersOn, AnswersAreOne, status_of}
 
 abbrev pub Same : ℕ → List ℕ → ℕ → List ℕ → Type 0
 Same s xs t ys = (s ≡ t) × (xs ≡ ys)
-
-other_verb : (v : Verb) → v ≡ Verify → v ≡ Listing → ⊥
-other_verb v h g = cc
 
 -- ---- what was read
 
@@ -55,23 +51,31 @@ same_proofs (Some (whole bytes)) _ _ (AreProofs.given {file} _ short spelled) (A
     ap (λ (x : ProofFile). x.proofs) (spelled_once [] bytes file file₂ one_place_at_first spelled spelled₂)
 
 module _ (source : List ℕ) (p : Program) (proofs : Option Fetched) where
-  one_of_proofs : {s t : ℕ} {xs ys : List ℕ} → AnswersProofs source p proofs s xs → AnswersProofs source p proofs t ys → Same s xs t ys
-  one_of_proofs (AnswersProofs.proofs_long {n = m} e far) (AnswersProofs.proofs_long {n} g beyond) =
+  one_of_proofs : {s t : ℕ} {xs ys : List ℕ} → AnswersVerify source p proofs s xs → AnswersVerify source p proofs t ys → Same s xs t ys
+  one_of_proofs (AnswersVerify.proofs_long {n = m} e far) (AnswersVerify.proofs_long {n} g beyond) =
       let same : m ≡ n = cc in
       (refl, ap (λ (k : ℕ). limit_line (proofs_limit k)) same)
-  one_of_proofs (AnswersProofs.proofs_long e far) (AnswersProofs.proofs_refused bytes g short bad) = absurd cc
-  one_of_proofs (AnswersProofs.proofs_long {n} e far) (AnswersProofs.reported given are is) = absurd (long_not_read proofs n given e are)
-  one_of_proofs (AnswersProofs.proofs_refused bytes e short bad) (AnswersProofs.proofs_long g far) = absurd cc
-  one_of_proofs (AnswersProofs.proofs_refused {line = m} bytes e short bad) (AnswersProofs.proofs_refused {line = n} other g short₂ bad₂) =
+  one_of_proofs (AnswersVerify.proofs_long e far) (AnswersVerify.proofs_refused bytes g short bad) = absurd cc
+  one_of_proofs (AnswersVerify.proofs_long {n} e far) (AnswersVerify.reported given are is) = absurd (long_not_read proofs n given e are)
+  one_of_proofs (AnswersVerify.proofs_refused bytes e short bad) (AnswersVerify.proofs_long g far) = absurd cc
+  one_of_proofs (AnswersVerify.proofs_refused {line = m} bytes e short bad) (AnswersVerify.proofs_refused {line = n} other g short₂ bad₂) =
       let same : bytes ≡ other = cc in
       (refl, ap proof_error_line (one_reading.one_line other m n (subst (λ (x : List ℕ). IsFirstBadLine x m) same bad) bad₂))
-  one_of_proofs (AnswersProofs.proofs_refused {line} bytes e short bad) (AnswersProofs.reported given are is) = absurd (bad_not_read proofs bytes line given e bad are)
-  one_of_proofs (AnswersProofs.reported given are is) (AnswersProofs.proofs_long {n} g far) = absurd (long_not_read proofs n given g are)
-  one_of_proofs (AnswersProofs.reported given are is) (AnswersProofs.proofs_refused {line} bytes g short bad) = absurd (bad_not_read proofs bytes line given g bad are)
-  one_of_proofs (AnswersProofs.reported {v = one} given are is) (AnswersProofs.reported {v = other} given₂ are₂ is₂) =
+  one_of_proofs (AnswersVerify.proofs_refused {line} bytes e short bad) (AnswersVerify.reported given are is) = absurd (bad_not_read proofs bytes line given e bad are)
+  one_of_proofs (AnswersVerify.reported given are is) (AnswersVerify.proofs_long {n} g far) = absurd (long_not_read proofs n given g are)
+  one_of_proofs (AnswersVerify.reported given are is) (AnswersVerify.proofs_refused {line} bytes g short bad) = absurd (bad_not_read proofs bytes line given g bad are)
+  one_of_proofs (AnswersVerify.reported {v = one} given are is) (AnswersVerify.reported {v = other} given₂ are₂ is₂) =
       let e = same_proofs proofs given given₂ are are₂ in
-      let same : one ≡ other = verdict_once given₂ p.bodies p.functions one other (subst (λ (x : List Proof). IsVerdict x p.bodies p.functions one) e is) is₂ in
+      let same : one ≡ other = verdict_once given₂ p one other (subst (λ (x : List Proof). IsVerdict x p one) e is) is₂ in
       (ap status_of same, ap (report_of source) same)
+
+one_of_list : (bytes : List ℕ) (p : Program) {s t : ℕ} {xs ys : List ℕ} → AnswersList bytes p s xs → AnswersList bytes p t ys → Same s xs t ys
+one_of_list bytes p AnswersList.listed AnswersList.listed = (refl, refl)
+
+-- by verb
+one_of_verb : (v : Verb) (bytes : List ℕ) (p : Program) (proofs : Option Fetched) {s t : ℕ} {xs ys : List ℕ} → DoesVerb v bytes p proofs s xs → DoesVerb v bytes p proofs t ys → Same s xs t ys
+one_of_verb Verify bytes p proofs h g = one_of_proofs bytes p proofs h g
+one_of_verb Listing bytes p proofs h g = one_of_list bytes p h g
 
 -- ---- one source
 
@@ -81,11 +85,6 @@ data Found : Type 0 where
   refused : List ℕ → SourceError → Found
   past : List ℕ → Limit → Found
   accepted : List ℕ → Program → Found
-
--- what an answer about an accepted source is
-data OfProgram (verb : Verb) (proofs : Option Fetched) (bytes : List ℕ) (p : Program) (status : ℕ) (printed : List ℕ) : Type 0 where
-  lists : verb ≡ Listing → Same status printed 0 (list_text p.names bytes p.functions) → OfProgram verb proofs bytes p status printed
-  verifies : verb ≡ Verify → AnswersProofs bytes p proofs status printed → OfProgram verb proofs bytes p status printed
 
 module _ (verb : Verb) (source : Fetched) (proofs : Option Fetched) where
   abbrev Finds : Found → Type 0
@@ -98,14 +97,13 @@ module _ (verb : Verb) (source : Fetched) (proofs : Option Fetched) where
   Answering (too_long n) s xs = Same s xs 7 (limit_line (source_limit n))
   Answering (refused bytes error) s xs = Same s xs 3 (source_error_line bytes error)
   Answering (past bytes limit) s xs = Same s xs 7 (limit_line limit)
-  Answering (accepted bytes p) s xs = OfProgram verb proofs bytes p s xs
+  Answering (accepted bytes p) s xs = DoesVerb verb bytes p proofs s xs
 
   parted : {s : ℕ} {xs : List ℕ} → AnswersOn verb source proofs s xs → (f : Found) × Finds f × Answering f s xs
-  parted (AnswersOn.by_source (AnswersSource.source_long {n} e far)) = (too_long n, e, (refl, refl))
-  parted (AnswersOn.by_source (AnswersSource.source_refused {bytes} {error} e short is)) = (refused bytes error, (e, short, is), (refl, refl))
-  parted (AnswersOn.by_source (AnswersSource.limit_passed {bytes} {limit} e short is)) = (past bytes limit, (e, short, is), (refl, refl))
-  parted (AnswersOn.by_source (AnswersSource.listed bytes p v is)) = (accepted bytes p, is, lists v (refl, refl))
-  parted (AnswersOn.by_proofs bytes p v is answers) = (accepted bytes p, is, verifies v answers)
+  parted (AnswersOn.by_source (RefusesFetched.source_long {n} e far)) = (too_long n, e, (refl, refl))
+  parted (AnswersOn.by_source (RefusesFetched.source_refused {bytes} {error} e short is)) = (refused bytes error, (e, short, is), (refl, refl))
+  parted (AnswersOn.by_source (RefusesFetched.limit_passed {bytes} {limit} e short is)) = (past bytes limit, (e, short, is), (refl, refl))
+  parted (AnswersOn.by_verb bytes p is does) = (accepted bytes p, is, does)
 
   same_found : (f g : Found) → Finds f → Finds g → f ≡ g
   same_found (too_long m) (too_long n) h g = ap too_long (one_length source m n h g)
@@ -145,17 +143,11 @@ module _ (verb : Verb) (source : Fetched) (proofs : Option Fetched) where
 
   -- ---- one answer
 
-  of_one_program : (bytes : List ℕ) (p : Program) {s t : ℕ} {xs ys : List ℕ} → OfProgram verb proofs bytes p s xs → OfProgram verb proofs bytes p t ys → Same s xs t ys
-  of_one_program bytes p (lists v h) (lists w g) = (h.0 ∙ sym g.0, h.1 ∙ sym g.1)
-  of_one_program bytes p (lists v h) (verifies w g) = absurd (other_verb verb w v)
-  of_one_program bytes p (verifies v h) (lists w g) = absurd (other_verb verb v w)
-  of_one_program bytes p (verifies v h) (verifies w g) = one_of_proofs bytes p proofs h g
-
   of_one_found : (f : Found) {s t : ℕ} {xs ys : List ℕ} → Answering f s xs → Answering f t ys → Same s xs t ys
   of_one_found (too_long n) h g = (h.0 ∙ sym g.0, h.1 ∙ sym g.1)
   of_one_found (refused bytes error) h g = (h.0 ∙ sym g.0, h.1 ∙ sym g.1)
   of_one_found (past bytes limit) h g = (h.0 ∙ sym g.0, h.1 ∙ sym g.1)
-  of_one_found (accepted bytes p) h g = of_one_program bytes p h g
+  of_one_found (accepted bytes p) h g = one_of_verb verb bytes p proofs h g
 
   one_answer : {s t : ℕ} {xs ys : List ℕ} → AnswersOn verb source proofs s xs → AnswersOn verb source proofs t ys → Same s xs t ys
   one_answer {s} {t} {xs} {ys} h g =

@@ -3,11 +3,13 @@ use Rattle.std.proofs.Common.{◌≡◌, ◌≢◌, ◌∙◌, refl, sym, ap, su
 use Rattle.std.specs.Io.KnownBytes.{Appends}
 use Rattle.io_edge.specs.Shelf.{Files}
 use Rattle.call_words.specs.Asked.{Asked}
+use Rattle.call_words.specs.declared.request.Verb.{Verb}
+use Rattle.call_words.specs.declared.request.Verb.TheVariants.{Verify, List as Listing}
 use Rattle.verify_core.specs.declared.program.Program.{Program}
 use Rattle.verify_core.specs.Prepared.{most_bytes}
 use Rattle.verify_core.specs.OnSource.{most_proof_bytes}
-use Rattle.creusot_cli.specs.Answer.{Fetched, whole, longer, IsProgramOf, AnswersSource, AnswersProofs, AnswersOn}
-use Rattle.creusot_cli.specs.Call.{HeldAs, IsFetched, AreFetched, HasProgram, Answers, AnswersWords}
+use Rattle.creusot_cli.specs.Answer.{Fetched, whole, longer, IsProgramOf, RefusesFetched, DoesVerb, AnswersOn}
+use Rattle.creusot_cli.specs.Call.{HeldAs, IsFetched, AreFetched, AreFetchedFor, HasProgram, Answers, AnswersWords}
 use Rattle.creusot_cli.proofs.OneAnswer.{Same, answers_are_one}
 
 same_some : {A : Type 0} {a b : A} → Some a ≡ Some b → a ≡ b
@@ -46,27 +48,31 @@ module _ (files : Files) where
   same_files (Some name) (Some f) None h g = absurd g
   same_files (Some name) (Some e) (Some f) h g = ap (λ (x : Fetched). Some x) (same_fetched name most_proof_bytes e f h g)
 
+  same_read : (v : Verb) (o : Option (List ℕ)) (f g : Option Fetched) → AreFetchedFor v (Some files) o f → AreFetchedFor v (Some files) o g → f ≡ g
+  same_read Verify o f g h k = same_files o f g h k
+  same_read Listing o f g h k = h ∙ sym k
+
   -- ---- one answer
 
   module _ (a : Asked) where
-    moved : {s : ℕ} {xs : List ℕ} (f g : Fetched) → f ≡ g → AnswersSource a.verb f s xs → AnswersSource a.verb g s xs
-    moved {s} {xs} f g e h = subst (λ (x : Fetched). AnswersSource a.verb x s xs) e h
+    moved : {s : ℕ} {xs : List ℕ} (f g : Fetched) → f ≡ g → RefusesFetched f s xs → RefusesFetched g s xs
+    moved {s} {xs} f g e h = subst (λ (x : Fetched). RefusesFetched x s xs) e h
 
     one_answer : {s t : ℕ} {xs ys : List ℕ} → Answers (Some files) a s xs → Answers (Some files) a t ys → Same s xs t ys
     one_answer {s} {t} {xs} {ys} (Answers.by_source f at h) (Answers.by_source k on g) =
         answers_are_one a.verb k None s t xs ys (AnswersOn.by_source (moved f k (same_fetched a.source most_bytes f k at on) h)) (AnswersOn.by_source g)
-    one_answer {s} {t} {xs} {ys} (Answers.by_source f at h) (Answers.by_proofs source p proofs v has are g) =
+    one_answer {s} {t} {xs} {ys} (Answers.by_source f at h) (Answers.by_verb source p proofs has are g) =
         let e : f ≡ whole source = same_fetched a.source most_bytes f (whole source) at (fetched_source (Some files) a source p has) in
-        answers_are_one a.verb (whole source) proofs s t xs ys (AnswersOn.by_source (moved f (whole source) e h)) (AnswersOn.by_proofs source p v (is_program_of (Some files) a (whole source) source p refl has) g)
-    one_answer {s} {t} {xs} {ys} (Answers.by_proofs source p proofs v has are h) (Answers.by_source k on g) =
+        answers_are_one a.verb (whole source) proofs s t xs ys (AnswersOn.by_source (moved f (whole source) e h)) (AnswersOn.by_verb source p (is_program_of (Some files) a (whole source) source p refl has) g)
+    one_answer {s} {t} {xs} {ys} (Answers.by_verb source p proofs has are h) (Answers.by_source k on g) =
         let e : k ≡ whole source = same_fetched a.source most_bytes k (whole source) on (fetched_source (Some files) a source p has) in
-        answers_are_one a.verb (whole source) proofs s t xs ys (AnswersOn.by_proofs source p v (is_program_of (Some files) a (whole source) source p refl has) h) (AnswersOn.by_source (moved k (whole source) e g))
-    one_answer {s} {t} {xs} {ys} (Answers.by_proofs source p proofs v has are h) (Answers.by_proofs other q others w had had_read g) =
+        answers_are_one a.verb (whole source) proofs s t xs ys (AnswersOn.by_verb source p (is_program_of (Some files) a (whole source) source p refl has) h) (AnswersOn.by_source (moved k (whole source) e g))
+    one_answer {s} {t} {xs} {ys} (Answers.by_verb source p proofs has are h) (Answers.by_verb other q others had had_read g) =
         let e : whole other ≡ whole source = ap whole (same_bytes a.source other source had.held has.held) in
-        let o : proofs ≡ others = same_files a.proofs proofs others are had_read in
+        let o : proofs ≡ others = same_read a.verb a.proofs proofs others are had_read in
         answers_are_one a.verb (whole source) others s t xs ys
-        (AnswersOn.by_proofs source p v (is_program_of (Some files) a (whole source) source p refl has) (subst (λ (x : Option Fetched). AnswersProofs source p x s xs) o h))
-        (AnswersOn.by_proofs other q w (is_program_of (Some files) a (whole source) other q (sym e) had) g)
+        (AnswersOn.by_verb source p (is_program_of (Some files) a (whole source) source p refl has) (subst (λ (x : Option Fetched). DoesVerb a.verb source p x s xs) o h))
+        (AnswersOn.by_verb other q (is_program_of (Some files) a (whole source) other q (sym e) had) g)
 
 -- where the words may ask for nothing
 one_answer_to_words : (files : Files) (a : Option Asked) (s t : ℕ) (xs ys : List ℕ) → AnswersWords (Some files) a s xs → AnswersWords (Some files) a t ys → Same s xs t ys

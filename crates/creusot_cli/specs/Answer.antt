@@ -42,14 +42,13 @@ pub record IsProgramOf (source : Fetched) (bytes : List ℕ) (p : Program) : Typ
   pub short : length bytes ≤ most_bytes
   pub prepared : IsPrepared bytes p
 
--- what the source decides alone
-pub data AnswersSource (verb : Verb) (source : Fetched) : ℕ → List ℕ → Type 0 where
-  source_long : {n : ℕ} → source ≡ longer n → most_bytes < n → AnswersSource verb source 7 (limit_line (source_limit n))
-  source_refused : {bytes : List ℕ} {error : SourceError} → source ≡ whole bytes → length bytes ≤ most_bytes → IsRefused bytes error → AnswersSource verb source 3 (source_error_line bytes error)
-  limit_passed : {bytes : List ℕ} {limit : Limit} → source ≡ whole bytes → length bytes ≤ most_bytes → IsPastLimit bytes limit → AnswersSource verb source 7 (limit_line limit)
-  listed : (bytes : List ℕ) (p : Program) → verb ≡ Listing → IsProgramOf source bytes p → AnswersSource verb source 0 (list_text p.names bytes p.functions)
+-- the source has no program
+pub data RefusesFetched (source : Fetched) : ℕ → List ℕ → Type 0 where
+  source_long : {n : ℕ} → source ≡ longer n → most_bytes < n → RefusesFetched source 7 (limit_line (source_limit n))
+  source_refused : {bytes : List ℕ} {error : SourceError} → source ≡ whole bytes → length bytes ≤ most_bytes → IsRefused bytes error → RefusesFetched source 3 (source_error_line bytes error)
+  limit_passed : {bytes : List ℕ} {limit : Limit} → source ≡ whole bytes → length bytes ≤ most_bytes → IsPastLimit bytes limit → RefusesFetched source 7 (limit_line limit)
 
--- ---- the proofs of an accepted source
+-- ---- `verify` of an accepted source
 
 -- no proofs where no file is named
 pub data AreProofs : Option Fetched → List Proof → Type 0 where
@@ -59,17 +58,27 @@ pub data AreProofs : Option Fetched → List Proof → Type 0 where
 abbrev pub status_of : Verdict → ℕ
 status_of v = if length v.left == 0 then 0 else 1
 
-pub data AnswersProofs (source : List ℕ) (p : Program) (proofs : Option Fetched) : ℕ → List ℕ → Type 0 where
-  proofs_long : {n : ℕ} → proofs ≡ Some (longer n) → most_proof_bytes < n → AnswersProofs source p proofs 7 (limit_line (proofs_limit n))
-  proofs_refused : {line : ℕ} (bytes : List ℕ) → proofs ≡ Some (whole bytes) → length bytes ≤ most_proof_bytes → IsFirstBadLine bytes line → AnswersProofs source p proofs 4 (proof_error_line line)
-  reported : {v : Verdict} (given : List Proof) → AreProofs proofs given → IsVerdict given p.bodies p.functions v → AnswersProofs source p proofs (status_of v) (report_of source v)
+pub data AnswersVerify (source : List ℕ) (p : Program) (proofs : Option Fetched) : ℕ → List ℕ → Type 0 where
+  proofs_long : {n : ℕ} → proofs ≡ Some (longer n) → most_proof_bytes < n → AnswersVerify source p proofs 7 (limit_line (proofs_limit n))
+  proofs_refused : {line : ℕ} (bytes : List ℕ) → proofs ≡ Some (whole bytes) → length bytes ≤ most_proof_bytes → IsFirstBadLine bytes line → AnswersVerify source p proofs 4 (proof_error_line line)
+  reported : {v : Verdict} (given : List Proof) → AreProofs proofs given → IsVerdict given p v → AnswersVerify source p proofs (status_of v) (report_of source v)
 
--- ---- both
+-- ---- `list` of an accepted source
+
+pub data AnswersList (source : List ℕ) (p : Program) : ℕ → List ℕ → Type 0 where
+  listed : AnswersList source p 0 (list_text p source)
+
+-- ---- by verb
+
+-- what the verb answers to an accepted source
+abbrev pub DoesVerb : Verb → List ℕ → Program → Option Fetched → ℕ → List ℕ → Type 0
+DoesVerb Verify source p proofs = AnswersVerify source p proofs
+DoesVerb Listing source p proofs = AnswersList source p
 
 -- a source is looked at before its proofs
 pub data AnswersOn (verb : Verb) (source : Fetched) (proofs : Option Fetched) (status : ℕ) (printed : List ℕ) : Type 0 where
-  by_source : AnswersSource verb source status printed → AnswersOn verb source proofs status printed
-  by_proofs : (bytes : List ℕ) (p : Program) → verb ≡ Verify → IsProgramOf source bytes p → AnswersProofs bytes p proofs status printed → AnswersOn verb source proofs status printed
+  by_source : RefusesFetched source status printed → AnswersOn verb source proofs status printed
+  by_verb : (bytes : List ℕ) (p : Program) → IsProgramOf source bytes p → DoesVerb verb bytes p proofs status printed → AnswersOn verb source proofs status printed
 
 -- of one verb, source and proofs there is one status and one printed text
 abbrev pub AnswersAreOne : Type 0

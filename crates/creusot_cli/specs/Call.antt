@@ -1,15 +1,12 @@
 -- What a call of the program reads, answers and prints.
-use Rattle.std.specs.Prelude.{◌≡◌, ◌⊎◌, ◌↔◌, ℕ, ◌≤◌, true, List, length, Option, None, Some, slice_get}
+use Rattle.std.specs.Prelude.{◌≡◌, ◌⊎◌, ◌↔◌, ℕ, ◌≤◌, List, length, Option, None, Some}
 use Rattle.std.specs.Io.KnownBytes.{Appends}
 use Rattle.std.specs.Option.{option_map}
 use Rattle.text_core.specs.Counts.{Rose}
 use Rattle.io_edge.specs.Shelf.{Files, WhereTold, Holds, HoldsLength}
 use Rattle.io_edge.specs.Sink.{AppendsPrefix}
-use Rattle.logic_term.specs.declared.obligation.Contract.{Contract}
-use Rattle.logic_term.specs.Theory.{nothing_declared}
-use Rattle.mir_machine.specs.Good.{Each, Good}
+use Rattle.mir_machine.specs.Good.{Each}
 use Rattle.proof_text.specs.declared.proof.Proof.{Proof}
-use Rattle.report_out.specs.declared.verdict.FnLine.{FnLine}
 use Rattle.report_out.specs.declared.verdict.Verdict.{Verdict}
 use Rattle.report_out.specs.Report.{report_of, proof_error_line, limit_line, words_error_line}
 use Rattle.call_words.specs.Asked.{Asked}
@@ -19,10 +16,11 @@ use Rattle.verify_core.specs.declared.fault.Refusal.{Refusal}
 use Rattle.verify_core.specs.declared.fault.Refusal.TheVariants as refusals
 use Rattle.verify_core.specs.declared.program.Program.{Program}
 use Rattle.verify_core.specs.Listing.{list_text}
-use Rattle.verify_core.specs.OnSource.{most_proof_bytes}
+use Rattle.verify_core.specs.OnSource.{AreGood, most_proof_bytes}
+use Rattle.verify_core.specs.Owed.{obligations_in}
 use Rattle.verify_core.specs.Prepared.{IsPrepared, most_bytes}
-use Rattle.verify_core.specs.Verdict.{HasDerivation, IsVerdict, obligations_in}
-use Rattle.creusot_cli.specs.Answer.{Fetched, whole, longer, IsWithin, IsProgramOf, AnswersSource, AreProofs, AnswersProofs}
+use Rattle.verify_core.specs.Verdict.{HasDerivation, IsVerdict}
+use Rattle.creusot_cli.specs.Answer.{Fetched, whole, longer, IsWithin, IsProgramOf, RefusesFetched, AreProofs, AnswersList, DoesVerb}
 use Rattle.creusot_cli.specs.declared.verify.files.ReadFile.{ReadFile}
 use Rattle.creusot_cli.specs.declared.verify.files.ReadFile.TheVariants.{Whole, TooLong}
 use Rattle.creusot_cli.specs.declared.verify.answer.Plan.{Plan}
@@ -58,6 +56,11 @@ AreFetched shelf (Some name) (Some f) = IsFetched shelf name most_proof_bytes f
 abbrev pub AreRead : Option Files → Option (List ℕ) → Option ReadFile → Type 0
 AreRead shelf name r = AreFetched shelf name (option_map fetched r)
 
+-- what the verb reads besides the source
+abbrev pub AreFetchedFor : Verb → Option Files → Option (List ℕ) → Option Fetched → Type 0
+AreFetchedFor Verify shelf name proofs = AreFetched shelf name proofs
+AreFetchedFor Listing shelf name proofs = proofs ≡ None
+
 -- the file of proofs was read with its bound
 abbrev pub IsProofsWithin : Option ReadFile → Type 0
 IsProofsWithin None = Unit {0}
@@ -71,10 +74,10 @@ pub record HasProgram (shelf : Option Files) (a : Asked) (source : List ℕ) (p 
   pub short : length source ≤ most_bytes
   pub prepared : IsPrepared source p
 
--- the status and the bytes printed for what is asked; the proofs are read where the source is accepted
+-- the status and the bytes printed for what is asked; proofs are read where the source is accepted
 pub data Answers (shelf : Option Files) (a : Asked) (status : ℕ) (printed : List ℕ) : Type 0 where
-  by_source : (source : Fetched) → IsFetched shelf a.source most_bytes source → AnswersSource a.verb source status printed → Answers shelf a status printed
-  by_proofs : (source : List ℕ) (p : Program) (proofs : Option Fetched) → a.verb ≡ Verify → HasProgram shelf a source p → AreFetched shelf a.proofs proofs → AnswersProofs source p proofs status printed → Answers shelf a status printed
+  by_source : (source : Fetched) → IsFetched shelf a.source most_bytes source → RefusesFetched source status printed → Answers shelf a status printed
+  by_verb : (source : List ℕ) (p : Program) (proofs : Option Fetched) → HasProgram shelf a source p → AreFetchedFor a.verb shelf a.proofs proofs → DoesVerb a.verb source p proofs status printed → Answers shelf a status printed
 
 -- the same where the words may ask for nothing
 abbrev pub AnswersWords : Option Files → Option Asked → ℕ → List ℕ → Type 0
@@ -94,10 +97,10 @@ pub record Reports (shelf : Option Files) (a : Asked) (status : ℕ) (before aft
   pub proofs : List Proof
   pub are_proofs : AreProofs read proofs
   pub verdict : Verdict
-  pub is_verdict : IsVerdict proofs program.bodies program.functions verdict
+  pub is_verdict : IsVerdict proofs program verdict
   pub printed : Appends before after (report_of source verdict)
-  pub complete : (status ≡ 0) ↔ Each (HasDerivation proofs) (obligations_in program.functions)
-  pub good : (f : ℕ) (line : FnLine) (c : Contract) → slice_get verdict.functions f ≡ Some line → line.verified ≡ true → slice_get program.contracts f ≡ Some c → Good nothing_declared program.bodies f c
+  pub complete : (status ≡ 0) ↔ Each (HasDerivation program.tables proofs) (obligations_in program.obligations)
+  pub good : AreGood program verdict
 
 -- the source is accepted, and what is printed is the list of the obligations of its program
 pub record ListsAll (shelf : Option Files) (a : Asked) (status : ℕ) (before after : Option (List ℕ)) : Type 0 where
@@ -105,16 +108,16 @@ pub record ListsAll (shelf : Option Files) (a : Asked) (status : ℕ) (before af
   pub program : Program
   pub has : HasProgram shelf a source program
   pub zero : status ≡ 0
-  pub printed : Appends before after (list_text program.names source program.functions)
+  pub printed : Appends before after (list_text program source)
 
-abbrev pub DoesVerb : Verb → Option Files → Asked → ℕ → Option (List ℕ) → Option (List ℕ) → Type 0
-DoesVerb Verify = Reports
-DoesVerb Listing = ListsAll
+abbrev pub ReportsVerb : Verb → Option Files → Asked → ℕ → Option (List ℕ) → Option (List ℕ) → Type 0
+ReportsVerb Verify = Reports
+ReportsVerb Listing = ListsAll
 
 -- the words name a source, and this is so of it
 abbrev pub ReportsWords : Option Files → Option Asked → ℕ → Option (List ℕ) → Option (List ℕ) → Type 0
 ReportsWords shelf None status before after = ⊥
-ReportsWords shelf (Some a) status before after = DoesVerb a.verb shelf a status before after
+ReportsWords shelf (Some a) status before after = ReportsVerb a.verb shelf a status before after
 
 -- ---- what is printed where not all is
 
@@ -132,9 +135,14 @@ pub data CannotRead (shelf : Option Files) (before after : List ℕ → ℕ) : O
 
 -- ---- parts of the code
 
--- what a source decides alone, or its program, which is to be verified
+-- what is answered to a source before proofs are read: it has no program, or the verb reads none
+pub data Decides (verb : Verb) (source : Fetched) (status : ℕ) (printed : List ℕ) : Type 0 where
+  refused : RefusesFetched source status printed → Decides verb source status printed
+  listed : (bytes : List ℕ) (p : Program) → verb ≡ Listing → IsProgramOf source bytes p → AnswersList bytes p status printed → Decides verb source status printed
+
+-- that, or the program, which is to be verified
 abbrev pub Opens : Verb → List ℕ → Opened → Type 0
-Opens verb source (Answered plan) = AnswersSource verb (whole source) plan.status plan.bytes.items
+Opens verb source (Answered plan) = Decides verb (whole source) plan.status plan.bytes.items
 Opens verb source (Accepted p) = (verb ≡ Verify) × IsProgramOf (whole source) source p
 
 -- the status and the bytes that are printed where proofs are refused for the reason

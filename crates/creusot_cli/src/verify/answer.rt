@@ -5,9 +5,10 @@ ghost use Rattle.report_out.specs.Report.{limit_line, report_of};
 ghost use Rattle.report_out.specs.declared.verdict.Verdict.{Verdict as VerdictValue};
 ghost use Rattle.verify_core.specs.Listing.{list_text};
 ghost use Rattle.verify_core.specs.OnSource.{most_proof_bytes};
+ghost use Rattle.verify_core.specs.Owed.{HaveOwners};
 ghost use Rattle.verify_core.specs.Prepared.{RefusesSource};
 ghost use Rattle.verify_core.specs.Verdict.{IsVerdict};
-ghost use Rattle.creusot_cli.specs.Answer.{IsWithin, AnswersSource, AnswersProofs, whole, status_of};
+ghost use Rattle.creusot_cli.specs.Answer.{IsWithin, RefusesFetched, AnswersVerify, whole, status_of};
 ghost use Rattle.creusot_cli.specs.Call.{Opens, PlansRefusedProofs, IsProofsWithin, fetched};
 
 use crate::verify::files::ReadFile;
@@ -43,22 +44,17 @@ pub(crate) fn plan_of_limit(alloc: Global, limit: Limit) -> Result<Plan, NoMemor
 /// The list of the obligations of the program.
 fn listed(alloc: Global, source: &[u8], program: &Program) -> Result<Plan, NoMemory>
     requires { length source.now ≤ 2 ^ 20 }
-    ensures { IfOk result (λ p. (p.status ≡ 0) × (p.bytes.items ≡ list_text program.now.names source.now program.now.functions)) }
+    ensures { IfOk result (λ p. (p.status ≡ 0) × (p.bytes.items ≡ list_text program.now source.now)) }
 {
     let bytes = list(alloc, program, source)?;
     Ok(Plan { status: 0, bytes })
 }
 
 /// What is printed of a source that is refused for this reason.
-fn plan_of_refusal(
-    alloc: Global,
-    verb: Verb,
-    refusal: Refusal,
-    source: &[u8],
-) -> Result<Plan, NoMemory>
+fn plan_of_refusal(alloc: Global, refusal: Refusal, source: &[u8]) -> Result<Plan, NoMemory>
     requires short { length source.now ≤ 2 ^ 20 }
     requires refuses { RefusesSource source.now refusal }
-    ensures { IfOk result (λ p. AnswersSource verb (whole source.now) p.status p.bytes.items) }
+    ensures { IfOk result (λ p. RefusesFetched (whole source.now) p.status p.bytes.items) }
 {
     match refusal {
         Refusal::Source(error) => {
@@ -81,7 +77,7 @@ pub(crate) fn answer_on_source(alloc: Global, verb: Verb, source: &[u8]) -> Resu
             Verb::Verify => Ok(Opened::Accepted(program)),
             Verb::List => Ok(Opened::Answered(listed(alloc, source, &program)?)),
         },
-        Err(refusal) => Ok(Opened::Answered(plan_of_refusal(alloc, verb, refusal, source)?)),
+        Err(refusal) => Ok(Opened::Answered(plan_of_refusal(alloc, refusal, source)?)),
     }
 }
 
@@ -93,11 +89,10 @@ fn reported(
     proofs: &[Proof],
 ) -> Result<Plan, NoMemory>
     requires short { length source.now ≤ 2 ^ 20 }
-    requires as_many { length program.now.functions ≡ length program.now.bodies.bodies }
-    ensures { IfOk result (λ p. (v : VerdictValue) × IsVerdict proofs.now program.now.bodies program.now.functions v × (p.status ≡ status_of v) × (p.bytes.items ≡ report_of source.now v)) }
+    requires owners { HaveOwners program.now.bodies program.now.obligations }
+    ensures { IfOk result (λ p. (v : VerdictValue) × IsVerdict proofs.now program.now v × (p.status ≡ status_of v) × (p.bytes.items ≡ report_of source.now v)) }
 {
-    let functions = program.functions.as_slice();
-    let verdict = verdict_on(alloc, functions, &program.bodies, proofs)?;
+    let verdict = verdict_on(alloc, program, proofs)?;
     let status = if verdict.left.is_empty() { 0 } else { 1 };
     let bytes = report(alloc, &verdict, source)?;
     Ok(Plan { status, bytes })
@@ -126,9 +121,9 @@ fn answer_on_file(
     bytes: &[u8],
 ) -> Result<Plan, NoMemory>
     requires short { length source.now ≤ 2 ^ 20 }
-    requires as_many { length program.now.functions ≡ length program.now.bodies.bodies }
+    requires owners { HaveOwners program.now.bodies program.now.obligations }
     requires within { length bytes.now ≤ 2 ^ 26 }
-    ensures { IfOk result (λ p. AnswersProofs source.now program.now (Some (whole bytes.now)) p.status p.bytes.items) }
+    ensures { IfOk result (λ p. AnswersVerify source.now program.now (Some (whole bytes.now)) p.status p.bytes.items) }
 {
     match proofs_of(alloc, bytes) {
         Ok(file) => reported(alloc, source, program, file.proofs.as_slice()),
@@ -144,9 +139,9 @@ fn answer_on_read(
     read: &ReadFile,
 ) -> Result<Plan, NoMemory>
     requires short { length source.now ≤ 2 ^ 20 }
-    requires as_many { length program.now.functions ≡ length program.now.bodies.bodies }
+    requires owners { HaveOwners program.now.bodies program.now.obligations }
     requires within { IsWithin most_proof_bytes (fetched read.now) }
-    ensures { IfOk result (λ p. AnswersProofs source.now program.now (Some (fetched read.now)) p.status p.bytes.items) }
+    ensures { IfOk result (λ p. AnswersVerify source.now program.now (Some (fetched read.now)) p.status p.bytes.items) }
 {
     match read {
         ReadFile::Whole(bytes) => answer_on_file(alloc, source, program, bytes.as_slice()),
@@ -169,9 +164,9 @@ pub(crate) fn answer_on_proofs(
     proofs: &Option<ReadFile>,
 ) -> Result<Plan, NoMemory>
     requires short { length source.now ≤ 2 ^ 20 }
-    requires as_many { length program.now.functions ≡ length program.now.bodies.bodies }
+    requires owners { HaveOwners program.now.bodies program.now.obligations }
     requires within { IsProofsWithin proofs.now }
-    ensures { IfOk result (λ p. AnswersProofs source.now program.now (option_map fetched proofs.now) p.status p.bytes.items) }
+    ensures { IfOk result (λ p. AnswersVerify source.now program.now (option_map fetched proofs.now) p.status p.bytes.items) }
 {
     match proofs {
         None => reported(alloc, source, program, Items::new(alloc).as_slice()),

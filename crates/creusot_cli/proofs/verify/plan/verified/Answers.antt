@@ -4,8 +4,9 @@ use Rattle.std.specs.Option.{option_map}
 use Rattle.call_words.specs.Asked.{asked}
 use Rattle.creusot_cli.specs.declared.verify.files.Stop.{Stop}
 use Rattle.creusot_cli.specs.declared.verify.files.Stop.TheVariants.{ShelfFailed}
-use Rattle.creusot_cli.specs.Call.{Answers, fetched}
-use Rattle.creusot_cli.proofs.CallLaws.{cannot_read_proofs, stop_is}
+use Rattle.creusot_cli.specs.Call.{fetched}
+use Rattle.verify_core.proofs.Verified.{owners_of_prepared}
+use Rattle.creusot_cli.proofs.CallLaws.{cannot_read_proofs, proofs_answer, stop_is}
 use Rattle.creusot_cli.proofs.verify.plan.verified.Goals as goal
 
 pub returns-in_err-proofs-clause-failed : goal.returns-in_err-proofs-clause-failed
@@ -16,6 +17,10 @@ returns-in_err-proofs-clause-failed g c = λ e.
     cannot_read_proofs (g.S.Shelf.holds c.args.shelf.now) (g.S.Shelf.read_faults c.args.shelf.now) (g.S.Shelf.read_faults c.read_proofs.new.shelf) (asked c.args.request) c.args.source.now c.args.program.now
     c.requires.verb c.requires.has (c.read_proofs.ensures.failed failed)
 
+pub answer_on_proofs-requires-clause-owners : goal.answer_on_proofs-requires-clause-owners
+answer_on_proofs-requires-clause-owners g c = owners_of_prepared c.args.source.now c.args.program.now c.requires.has.prepared
+
 pub returns-clause-ok : goal.returns-clause-ok
 returns-clause-ok g c =
-    Answers.by_proofs c.args.source.now c.args.program.now (option_map fetched c.in_ok-proofs.proofs) c.requires.verb c.requires.has c.in_ok-proofs.ensures.read c.in_ok-answer_on_proofs.ensures
+    proofs_answer (g.S.Shelf.holds c.args.shelf.now) (asked c.args.request) c.args.source.now c.args.program.now (option_map fetched c.in_ok-proofs.proofs) c.in_ok-answer_on_proofs.field-0
+    c.requires.verb c.requires.has c.in_ok-proofs.ensures.read c.in_ok-answer_on_proofs.ensures
