@@ -241,7 +241,8 @@ module _ {K : Type 0} (s : Setup K) where
             keeps = λ n out. with_other with_new (name_of b p.local) n v (out.0 p.local (name_of b p.local) (local_named s f p.local w.call.answer w.call.is_answer))
                 ∙ with_other w.call.env value_name n v out.1 ∙ w.call.keeps n out;
             came = came_on s f ρ₀ w.call.came (call_commands b d p.local w.call.answer os)
-                (over_call w.call.block.end p (Function (OfBody callee.number)) w.call.type_arguments os w.call.next d w.call.answer w.call.came.prefix (record { block = w.call.block; is_block = w.call.is_block; is_last = w.call.is_last; is_end = refl }) w.call.is_call (own s callee).is_contract w.call.is_answer) moves;
+                (over_call w.call.block.end p (Function (OfBody callee.number)) w.call.type_arguments os w.call.next d w.call.answer w.call.came.prefix
+                (record { block = w.call.block; is_block = w.call.is_block; is_last = w.call.is_last; is_end = refl }) w.call.is_call (own s callee).is_contract w.call.is_answer) moves;
           })
           way
           (goals_moved (S s) (met w.call.walk) moves w.call.hold)

@@ -1,9 +1,9 @@
 //! The type that a written type means.
-ghost use Rattle.std.specs.Prelude.{◌≡◌, ◌∷◌, [], IfOk, slice_get};
+ghost use Rattle.std.specs.Prelude.{◌≡◌, None, IfOk, slice_get};
 ghost use Rattle.source_trees.specs.TypeTreeView.{types_of, type_arguments_of};
-ghost use Rattle.std.specs.Prelude.{None};
 ghost use Rattle.text_core.specs.declared.fault.PassError.TheVariants as errors;
-ghost use Rattle.rs_types.specs.Meant.{scope_of, unknown_name, mismatch, annotation_needed, Answers, place_among, if_known, words, type_named, lifetime_named, elided, all_elided, lifetime_or, alone, in_box, regions_for, declared_at, named_at, self_or, name_or, referring, meant, meant_all, meant_arguments};
+ghost use Rattle.rs_types.specs.Meant.{scope_of, Answers, place_among, if_known, type_named, lifetime_named, elided, all_elided, lifetime_or, alone, in_box, regions_for, declared_at, named_at, self_or, name_or, referring};
+ghost use Rattle.rs_types.specs.Meant.{meant, meant_all, meant_arguments};
 
 use crate::written::{ArgumentList, Elision, TypeName, TypeScope};
 use logic_term::{AdtDecl, AdtId, CompoundTy, Region, Ty, TyNode, TyUnary};
