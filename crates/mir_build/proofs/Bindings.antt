@@ -2,12 +2,13 @@
 use Rattle.std.proofs.Common.{◌≡◌, refl, ap, sym, ◌∙◌, ℕ, zero, suc, ◌+◌, ◌<◌, ◌≤◌, max, Bool, true, false, List, [], ◌∷◌, ◌++◌, append_assoc, append-nil, length, drop, get_or, add-one, drop-cons, arith}
 use Rattle.std.proofs.lemmas.List.{drop-append-le}
 use Rattle.text_core.specs.declared.span.Span.{Span}
+use Rattle.mir_ir.specs.declared.place.Place.{Place}
 use Rattle.type_check.specs.TypedExpr.{TypedExpr, TypedStmts, bind, run}
 use Rattle.type_check.specs.TypedExprView.{ty_of, typed_size, stmts_size, stmt_of, stmts_of}
 use Rattle.type_check.specs.declared.typed.TypedStmt.{TypedStmt}
 use Rattle.mir_build.specs.declared.builder.BodyText.{BodyText}
 use Rattle.mir_build.specs.Text.{Line, Makes}
-use Rattle.mir_build.specs.Lowering.{Around, binds, dies_in}
+use Rattle.mir_build.specs.Lowering.{Around, whole, binds, dies_in}
 use Rattle.mir_build.specs.Numbered.{into, rest, labels, locals}
 use Rattle.mir_build.specs.Built.{written}
 use Rattle.mir_build.specs.Bindings.{all_die, left_of}
@@ -39,12 +40,12 @@ end_smaller (s ∷ ss) end = omega (arith, stmt_size s.binds s.value (stmts_of s
 
 -- ---- the ends of bindings
 
-all_die-append : (outer : Bool) (s : Span) (xs : List ℕ) (x : ℕ) → all_die outer s (xs ++ x ∷ []) ≡ dies_in outer s x ++ all_die outer s xs
-all_die-append outer s [] x = sym (append-nil (dies_in outer s x))
-all_die-append outer s (y ∷ ys) x = ap (λ zs. zs ++ dies_in outer s y) (all_die-append outer s ys x) ∙ append_assoc (dies_in outer s x) (all_die outer s ys) (dies_in outer s y)
+all_die-append : (outer : Bool) (s : Span) (xs : List Place) (x : Place) → all_die outer s (xs ++ x ∷ []) ≡ dies_in outer s x.local ++ all_die outer s xs
+all_die-append outer s [] x = sym (append-nil (dies_in outer s x.local))
+all_die-append outer s (y ∷ ys) x = ap (λ zs. zs ++ dies_in outer s y.local) (all_die-append outer s ys x) ∙ append_assoc (dies_in outer s x.local) (all_die outer s ys) (dies_in outer s y.local)
 
 -- behind the first n variables there is one more
-pub one_more : (outer : Bool) (s : Span) (n : ℕ) (xs : List ℕ) (x : ℕ) → n ≤ length xs → all_die outer s (drop n (xs ++ x ∷ [])) ≡ dies_in outer s x ++ all_die outer s (drop n xs)
+pub one_more : (outer : Bool) (s : Span) (n : ℕ) (xs : List Place) (x : Place) → n ≤ length xs → all_die outer s (drop n (xs ++ x ∷ [])) ≡ dies_in outer s x.local ++ all_die outer s (drop n xs)
 one_more outer s n xs x h = ap (all_die outer s) (drop-append-le n xs (x ∷ []) h) ∙ all_die-append outer s (drop n xs) x
 
 -- ---- one statement
@@ -66,5 +67,5 @@ module _ (outer : Bool) (s : Span) (n : ℕ) (c : Around) (l t d : ℕ) (e : Typ
       let value = value_text e c l t in
       let ys = rest ss outer s (binds c t) (l + labels e) (t + 1 + locals e) d in
       let zs = all_die outer s (drop n c.scope) in
-      ap (λ xs. written xs x) (append_assoc value (ys ++ dies_in outer s t) zs ∙ ap (λ xs. value ++ xs) (append_assoc ys (dies_in outer s t) zs ∙ ap (λ xs. ys ++ xs) (sym (one_more outer s n c.scope t h))))
-      ∙ written-append value (ys ++ all_die outer s (drop n (c.scope ++ t ∷ []))) x
+      ap (λ xs. written xs x) (append_assoc value (ys ++ dies_in outer s t) zs ∙ ap (λ xs. value ++ xs) (append_assoc ys (dies_in outer s t) zs ∙ ap (λ xs. ys ++ xs) (sym (one_more outer s n c.scope (whole t) h))))
+      ∙ written-append value (ys ++ all_die outer s (drop n (c.scope ++ whole t ∷ []))) x

@@ -5,6 +5,7 @@ use Rattle.logic_term.specs.declared.kinds.Label.{Label}
 use Rattle.logic_term.specs.Ty.{Ty}
 use Rattle.mir_ir.specs.declared.body.Body.{Body}
 use Rattle.mir_ir.specs.declared.body.Initialised.{Initialised}
+use Rattle.mir_ir.specs.declared.place.Place.{Place}
 use Rattle.mir_ir.specs.Layout.{IsLaidOut}
 use Rattle.mir_ir.specs.WellFormed.{Locals, with, parameters, IsTyped}
 use Rattle.type_check.specs.declared.program.Signature.{Signature}
@@ -13,7 +14,7 @@ use Rattle.type_check.specs.TypedExpr.{TypedExpr}
 use Rattle.type_check.specs.TypedExprView.{ty_of, span_of}
 use Rattle.type_check.specs.WellTyped.{IsBuilt, IsWellTyped, FunctionFits}
 use Rattle.mir_build.specs.Text.{Title, Line, fresh, begun, made, owned}
-use Rattle.mir_build.specs.Lowering.{numbers, counted, paired, all_locals, local_name, entry_title, around_body, Around, IntoBody, of_outermost, of_other, LowersTo}
+use Rattle.mir_build.specs.Lowering.{numbers, counted, paired, all_locals, local_name, entry_title, around_body, whole, Around, IntoBody, of_outermost, of_other, LowersTo}
 use Rattle.mir_build.proofs.Numbers.{count}
 use Rattle.mir_build.proofs.LawLists.{Has, here, there, has_left, has_right, count-append}
 use Rattle.mir_build.proofs.LawFlow.{Flows, In, flows, flows_rest}
@@ -34,10 +35,14 @@ pub counted_length : {A : Type 0} (n : ℕ) (xs : List A) → length (counted n 
 counted_length n [] = refl
 counted_length n (x ∷ xs) = ap suc (counted_length (n + 1) xs)
 
-has_counted : {A : Type 0} (n : ℕ) (xs : List A) (x : ℕ) → Has x (counted n xs) → (n ≤ x) × (x < n + length xs)
-has_counted n [] x h = elim h [ ]
-has_counted n (y ∷ xs) x here = (omega arith, omega arith)
-has_counted n (y ∷ xs) x (there h) = let w = has_counted (n + 1) xs x h in (omega arith, omega arith)
+counted_places : {A : Type 0} (n : ℕ) (xs : List A) → length (map whole (counted n xs)) ≡ length xs
+counted_places n [] = refl
+counted_places n (x ∷ xs) = ap suc (counted_places (n + 1) xs)
+
+has_places : {A : Type 0} (n : ℕ) (xs : List A) (p : Place) → Has p (map whole (counted n xs)) → (n ≤ p.local) × (p.local < n + length xs)
+has_places n [] p h = elim h [ ]
+has_places n (y ∷ xs) p here = (omega arith, omega arith)
+has_places n (y ∷ xs) p (there h) = let w = has_places (n + 1) xs p h in (omega arith, omega arith)
 
 counts_paired : (n : ℕ) (ts : List Ty) (x : ℕ) → n ≤ x → x < n + length ts → 1 ≤ count x (numbers (paired n ts))
 counts_paired n [] x h g = absurd (omega arith)
@@ -58,9 +63,9 @@ pub has_place : {A : Type 0} (x : A) (xs : List A) → Has x xs → (i : ℕ) ×
 has_place x xs here = (0, refl)
 has_place x xs (there h) = let w = has_place x _ h in (suc w.0, w.1)
 
-fits_paired : (b : Body) (n : ℕ) (ts : List Ty) → MadeFits b (paired n ts) → ScopeFits b (counted n ts) ts
+fits_paired : (b : Body) (n : ℕ) (ts : List Ty) → MadeFits b (paired n ts) → ScopeFits b (map whole (counted n ts)) ts
 fits_paired b n [] m = tt
-fits_paired b n (t ∷ ts) m = (m.fits n t here, fits_paired b (n + 1) ts (record { fits = λ x u h. m.fits x u (there h) }))
+fits_paired b n (t ∷ ts) m = ((refl, m.fits n t here), fits_paired b (n + 1) ts (record { fits = λ x u h. m.fits x u (there h) }))
 
 -- ---- tests
 
@@ -78,9 +83,9 @@ from_parameter p x e = (lower p x e, upper p x e)
 
 -- ---- texts of bodies
 
-text_flows : (c : Around) (e : TypedExpr) (xs : List Line) → IntoBody c e xs → (whole : List Title) → In whole xs → Flows whole [] c.loops c.loops xs
-text_flows c e xs (of_outermost r) whole g = flows_rest c _ _ _ _ xs r whole [] g
-text_flows c e xs (of_other q p) whole g = flows c e _ xs p whole [] g
+text_flows : (c : Around) (e : TypedExpr) (xs : List Line) → IntoBody c e xs → (all : List Title) → In all xs → Flows all [] c.loops c.loops xs
+text_flows c e xs (of_outermost r) all g = flows_rest c _ _ _ _ xs r all [] g
+text_flows c e xs (of_other q p) all g = flows c e _ xs p all [] g
 
 text_laid : (σ : List Signature) (c : Around) (e : TypedExpr) (xs : List Line) → IntoBody c e xs → (Γ : List Ty) (set : Locals) → Scoped c Γ set → IsWellTyped σ Γ e → Apart set (0 ∷ numbers (made xs)) → Laid set xs (with 0 set)
 text_laid σ c e xs (of_outermost {ty = ty} r) Γ set sc h a = laid_rest σ c _ _ _ 0 xs r Γ set ty sc h a
@@ -106,7 +111,7 @@ module _ (owner : List ℕ) (f : TypedFunction) (b : Body) (gone : Initialised) 
   pub text_fits : MadeFits b (made l.text)
   text_fits = record { fits = λ x t h. locals_fit.fits x t (there (has_right (paired 1 f.signature.params) (made l.text) h)) }
 
-  pub scope_fits : ScopeFits b (counted 1 f.signature.params) f.signature.params
+  pub scope_fits : ScopeFits b (map whole (counted 1 f.signature.params)) f.signature.params
   scope_fits = fits_paired b 1 f.signature.params params_fit
 
   pub locals_length : length b.locals ≡ 1 + (length f.signature.params + length (made l.text))
@@ -138,8 +143,8 @@ module _ (owner : List ℕ) (f : TypedFunction) (b : Body) (gone : Initialised) 
 
   scoped : Scoped (around_body f) f.signature.params (parameters b)
   scoped = record {
-    count = sym (counted_length 1 f.signature.params);
-    holds = λ x h. let w = has_counted 1 f.signature.params x h in is_param x w.0 w.1;
+    count = sym (counted_places 1 f.signature.params);
+    holds = λ p h. let w = has_places 1 f.signature.params p h in is_param p.local w.0 w.1;
   }
 
   numbers-append : (ps ms : List (ℕ × Ty)) → numbers (ps ++ ms) ≡ numbers ps ++ numbers ms

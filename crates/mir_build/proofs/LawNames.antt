@@ -8,12 +8,13 @@ use Rattle.logic_term.specs.Subst.{look, subst, substs}
 use Rattle.logic_term.specs.Term.{Term, Terms, var, lit, truth, apply, bind, no_terms, and_term}
 use Rattle.logic_term.proofs.FreeLaw.{same_name}
 use Rattle.mir_ir.specs.declared.body.Head.{Head}
+use Rattle.mir_ir.specs.declared.place.Place.{Place}
 use Rattle.mir_ir.specs.WellFormed.{Locals}
 use Rattle.type_check.specs.declared.assertion.Assertion.{Assertion}
 use Rattle.type_check.specs.declared.assertion.Assertion.TheVariants.{Good, Bad}
 use Rattle.type_check.specs.VariableNames.{variable_name}
 use Rattle.type_check.specs.WellTyped.{SpeaksOf, EachSpeaks}
-use Rattle.mir_build.specs.Lowering.{Around, local_name, formula, formula_span, locals_for, at_locals, head_of}
+use Rattle.mir_build.specs.Lowering.{Around, local_name, formula, formula_span, held, places_for, at_places, head_of}
 use Rattle.mir_build.proofs.LawLists.{Has, has_get}
 
 -- ---- substitution
@@ -63,23 +64,23 @@ mutual
           or_true true e = refl
           or_true false e = e
 
--- ---- locals for variables
+-- ---- places for variables
 
 variable_number : (j i : ℕ) → (variable_name j).0 ≡ (variable_name i).0 → j ≡ i
 unfolding variable_name
 variable_number j i e = omega (arith, e)
 
--- what stands for a variable in scope is the name of its local
-pub look_local : (j : ℕ) (scope : List ℕ) (i k : ℕ) → i < length scope → k ≡ j + i → (x : ℕ) × (slice_get scope i ≡ Some x) × (look (locals_for j scope) (variable_name k) ≡ var (local_name x))
-look_local j [] i k h e = absurd (omega arith)
-look_local j (x ∷ xs) zero k h e =
+-- what stands for a variable in scope is what its place holds
+pub look_place : (j : ℕ) (scope : List Place) (i k : ℕ) → i < length scope → k ≡ j + i → (x : Place) × (slice_get scope i ≡ Some x) × (look (places_for j scope) (variable_name k) ≡ held x)
+look_place j [] i k h e = absurd (omega arith)
+look_place j (x ∷ xs) zero k h e =
     let q : k ≡ j = omega arith in
-    (x, refl, ap (λ c. cond c (var (local_name x)) (look (locals_for (j + 1) xs) (variable_name k))) (eq-eqb (variable_name k).0 (variable_name j).0 (ap (λ n. (variable_name n).0) q)))
-look_local j (x ∷ xs) (suc i) k h e =
-    let w = look_local (j + 1) xs i k (omega arith) (omega arith) in
+    (x, refl, ap (λ c. cond c (held x) (look (places_for (j + 1) xs) (variable_name k))) (eq-eqb (variable_name k).0 (variable_name j).0 (ap (λ n. (variable_name n).0) q)))
+look_place j (x ∷ xs) (suc i) k h e =
+    let w = look_place (j + 1) xs i k (omega arith) (omega arith) in
     (w.0, w.1, by_test ((variable_name k).0 == (variable_name j).0) refl ∙ w.2)
   where
-    by_test : (c : Bool) → ((variable_name k).0 == (variable_name j).0) ≡ c → cond c (var (local_name x)) (look (locals_for (j + 1) xs) (variable_name k)) ≡ look (locals_for (j + 1) xs) (variable_name k)
+    by_test : (c : Bool) → ((variable_name k).0 == (variable_name j).0) ≡ c → cond c (held x) (look (places_for (j + 1) xs) (variable_name k)) ≡ look (places_for (j + 1) xs) (variable_name k)
     by_test true q = let r : k ≡ j = variable_number k j (eqb-true (variable_name k).0 (variable_name j).0 q) in absurd (omega arith)
     by_test false q = refl
 
@@ -88,6 +89,10 @@ look_local j (x ∷ xs) (suc i) k h e =
 -- the set has each of these locals
 abbrev pub HoldsAll : Locals → List ℕ → Type 0
 HoldsAll set xs = (x : ℕ) → Has x xs → set x ≡ true
+
+-- and the local of each of these places
+abbrev pub HoldsPlaces : Locals → List Place → Type 0
+HoldsPlaces set ps = (p : Place) → Has p ps → set p.local ≡ true
 
 -- the name of a local of the set
 abbrev pub IsLocalIn : Locals → Name → Type 0
@@ -102,22 +107,22 @@ abbrev pub HeadFits : Locals → Option Head → Type 0
 HeadFits set None = Unit {0}
 HeadFits set (Some h) = EachFree set h.invariants × (length h.spans ≡ length h.invariants)
 
-free_at_locals : (set : Locals) (scope : List ℕ) (a : Assertion) → HoldsAll set scope → SpeaksOf (length scope) a → (x : Name) → free x (at_locals scope (formula a)) ≡ true → IsLocalIn set x
-free_at_locals set scope (Bad e) holds h x f = absurd (true≢false (sym f))
-free_at_locals set scope (Good s t) holds h x f =
-    let w = comes x _ (locals_for 0 scope) t f in
+free_at_places : (set : Locals) (scope : List Place) (a : Assertion) → HoldsPlaces set scope → SpeaksOf (length scope) a → (x : Name) → free x (at_places scope (formula a)) ≡ true → IsLocalIn set x
+free_at_places set scope (Bad e) holds h x f = absurd (true≢false (sym f))
+free_at_places set scope (Good s t) holds h x f =
+    let w = comes x _ (places_for 0 scope) t f in
     let v = h w.name w.is_free in
-    let l = look_local 0 scope v.0 v.0 v.1 (omega arith) in
-    let is : free x (var (local_name l.0)) ≡ true = carry (λ u. free x u ≡ true) (ap (look (locals_for 0 scope)) v.2 ∙ l.2) w.in_term in
-    (l.0, holds l.0 (has_get scope v.0 l.0 l.1), same_name x (local_name l.0) (eqb-true x.0 (local_name l.0).0 is))
+    let l = look_place 0 scope v.0 v.0 v.1 (omega arith) in
+    let is : free x (held l.0) ≡ true = carry (λ u. free x u ≡ true) (ap (look (places_for 0 scope)) v.2 ∙ l.2) w.in_term in
+    (l.0.local, holds l.0 (has_get scope v.0 l.0 l.1), same_name x (local_name l.0.local) (eqb-true x.0 (local_name l.0.local).0 is))
 
-pub each_free : (set : Locals) (scope : List ℕ) (is : List Assertion) → HoldsAll set scope → EachSpeaks (length scope) is → EachFree set (map (λ a. at_locals scope (formula a)) is)
+pub each_free : (set : Locals) (scope : List Place) (is : List Assertion) → HoldsPlaces set scope → EachSpeaks (length scope) is → EachFree set (map (λ a. at_places scope (formula a)) is)
 each_free set scope [] holds h = tt
-each_free set scope (a ∷ is) holds h = (free_at_locals set scope a holds h.0, each_free set scope is holds h.1)
+each_free set scope (a ∷ is) holds h = (free_at_places set scope a holds h.0, each_free set scope is holds h.1)
 
-lengths : (scope : List ℕ) (is : List Assertion) → length (map formula_span is) ≡ length (map (λ a. at_locals scope (formula a)) is)
+lengths : (scope : List Place) (is : List Assertion) → length (map formula_span is) ≡ length (map (λ a. at_places scope (formula a)) is)
 lengths scope [] = refl
 lengths scope (a ∷ is) = ap suc (lengths scope is)
 
-pub head_fits : (set : Locals) (c : Around) (n : ℕ) (is : List Assertion) → n ≡ length c.scope → HoldsAll set c.scope → EachSpeaks n is → HeadFits set (Some (head_of c is))
+pub head_fits : (set : Locals) (c : Around) (n : ℕ) (is : List Assertion) → n ≡ length c.scope → HoldsPlaces set c.scope → EachSpeaks n is → HeadFits set (Some (head_of c is))
 head_fits set c n is e holds h = (each_free set c.scope is holds (carry (λ m. EachSpeaks m is) e h), lengths c.scope is)

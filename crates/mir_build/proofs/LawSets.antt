@@ -4,6 +4,7 @@ use Rattle.std.proofs.lemmas.Bool.{eqb-true}
 use Rattle.logic_term.specs.declared.kinds.Label.{Label}
 use Rattle.logic_term.specs.Ty.{Ty}
 use Rattle.text_core.specs.declared.span.Span.{Span}
+use Rattle.mir_ir.specs.declared.place.Place.{Place}
 use Rattle.mir_ir.specs.declared.terminator.Terminator.{Terminator}
 use Rattle.mir_ir.specs.WellFormed.{Locals, with, without, Within}
 use Rattle.source_kinds.specs.declared.kinds.LazyOp.{LazyOp}
@@ -12,23 +13,23 @@ use Rattle.type_check.specs.declared.program.Signature.{Signature}
 use Rattle.type_check.specs.TypedExpr.{TypedExpr, TypedStmts, TypedExprs}
 use Rattle.type_check.specs.WellTyped.{IsWellTyped, StatementsFit, ArgumentsFit}
 use Rattle.mir_build.specs.Text.{Title, Line, Makes, Turns, made}
-use Rattle.mir_build.specs.Lowering.{numbers, Around, looping, binds, head_of, dies_in, where_true, where_false, Into, of_integer, of_truth, of_variable, of_negative, of_denied, of_binary, of_lazy, of_assign}
+use Rattle.mir_build.specs.Lowering.{numbers, Around, whole, looping, binds, head_of, dies_in, where_true, where_false, Into, of_integer, of_truth, of_variable, of_negative, of_denied, of_binary, of_lazy, of_assign}
 use Rattle.mir_build.specs.Lowering.{of_assign_value, of_update, of_update_value, of_call, of_block, of_branch, of_choice, of_repeat, Rest, of_done, of_last, of_bind, of_run, Args, of_none, of_more}
 use Rattle.mir_build.proofs.Numbers.{count}
 use Rattle.mir_build.proofs.LawLists.{Has, here, there, has_get, makings-append, count-append, count_self}
-use Rattle.mir_build.proofs.LawNames.{HoldsAll, head_fits}
+use Rattle.mir_build.proofs.LawNames.{HoldsPlaces, head_fits}
 use Rattle.mir_build.proofs.LawRuns.{with_self, with_more, with_within, kept, Runs, stops, runs-append, Laid, laid_stops, laid_puts, laid_makes, laid-append}
 use Rattle.mir_build.proofs.LawLaid.{Apart, none, before, first, second, left, right, fresh_second, given_up, still, same_set, forked, looped, with_all, with_all_more, with_all_has, called, weight_with}
 
--- the set has the locals in scope, one for each variable
+-- the set has the locals of the places in scope, one place for each variable
 pub record Scoped (c : Around) (Γ : List Ty) (set : Locals) : Type 0 where
   pub count : length Γ ≡ length c.scope
-  pub holds : HoldsAll set c.scope
+  pub holds : HoldsPlaces set c.scope
 
 more_scoped : (c : Around) (Γ : List Ty) (set : Locals) (t : ℕ) → Scoped c Γ set → Scoped c Γ (with t set)
-more_scoped c Γ set t sc = record { count = sc.count; holds = λ x h. with_more t set x (sc.holds x h) }
+more_scoped c Γ set t sc = record { count = sc.count; holds = λ p h. with_more t set p.local (sc.holds p h) }
 
-has_last : (xs : List ℕ) (t x : ℕ) → Has x (xs ++ t ∷ []) → Has x xs ⊎ (x ≡ t)
+has_last : (xs : List Place) (t x : Place) → Has x (xs ++ t ∷ []) → Has x xs ⊎ (x ≡ t)
 has_last [] t x here = inr refl
 has_last [] t x (there h) = elim h [ ]
 has_last (y ∷ xs) t x here = inl here
@@ -40,13 +41,13 @@ has_last (y ∷ xs) t x (there h) = by_case (has_last xs t x h)
 
 bound_scoped : (c : Around) (Γ : List Ty) (T : Ty) (set : Locals) (t : ℕ) → Scoped c Γ set → Scoped (binds c t) (Γ ++ T ∷ []) (with t set)
 bound_scoped c Γ T set t sc = record {
-  count = length-append Γ (T ∷ []) ∙ ap (λ n. n + 1) sc.count ∙ sym (length-append c.scope (t ∷ []));
-  holds = λ x h. by_case x (has_last c.scope t x h);
+  count = length-append Γ (T ∷ []) ∙ ap (λ n. n + 1) sc.count ∙ sym (length-append c.scope (whole t ∷ []));
+  holds = λ p h. by_case p (has_last c.scope (whole t) p h);
 }
   where
-    by_case : (x : ℕ) → Has x c.scope ⊎ (x ≡ t) → with t set x ≡ true
-    by_case x (inl g) = with_more t set x (sc.holds x g)
-    by_case x (inr e) = subst (λ y. with t set y ≡ true) (sym e) (with_self t set)
+    by_case : (p : Place) → Has p c.scope ⊎ (p ≡ whole t) → with t set p.local ≡ true
+    by_case p (inl g) = with_more t set p.local (sc.holds p g)
+    by_case p (inr e) = subst (λ (q : Place). with t set q.local ≡ true) (sym e) (with_self t set)
 
 in_loop : (c : Around) (Γ : List Ty) (set : Locals) (head : Label) → Scoped c Γ set → Scoped (looping c head) Γ set
 in_loop c Γ set head sc = record { count = sc.count; holds = sc.holds }
@@ -155,7 +156,7 @@ module _ (σ : List Signature) where
         (laid_where_false op s d vs set (laid c _ d vs q Γ set sc h.4) (left d set (where_false op s d vs) _ (right d set (where_true op s d vs) _ r)))))
     laid c e d xs (of_assign {t = t} x {xs = us} r p) Γ set sc h a =
         laid_makes _ _ _ _ _ (laid-append set (with t set) (with d set) us _ (laid c _ t us p Γ set sc h.2 (first d t set us _ a))
-        (laid_puts _ _ _ _ (with_self t set) (laid_puts _ _ _ _ tt (laid_stops _ _ (assigned d x t set (with t set) (fresh_second d t set _ a) (with_more t set))))))
+        (laid_puts _ _ _ _ (with_self t set) (laid_puts _ _ _ _ tt (laid_stops _ _ (assigned d x.local t set (with t set) (fresh_second d t set _ a) (with_more t set))))))
     laid c e d xs (of_assign_value {t = t} {u = u} {xs = us} {ys = vs} p q) Γ set sc h a =
         laid_makes _ _ _ _ _ (laid-append set (with t set) (with d set) us _ (laid c _ t us p Γ set sc h.3 (first d t set us _ a))
         (laid_makes _ _ _ _ _ (laid-append (with t set) (with u (with t set)) (with d set) vs _ (laid c _ u vs q Γ (with t set) (more_scoped c Γ set t sc) h.2 (first d u (with t set) vs _ (second d t set us _ a)))
@@ -165,8 +166,8 @@ module _ (σ : List Signature) where
         let now = without t (with t set) in
         let w : Within set now = given_up t set (fresh_second d t set _ a) in
         laid_makes _ _ _ _ _ (laid-append set (with t set) (with d set) us _ (laid c _ t us p Γ set sc h.3 (first d t set us _ a))
-        (laid_makes _ _ _ _ _ (laid_puts _ _ _ _ (with_more t set x (sc.holds x (has_get c.scope v x r)), with_self t set)
-        (laid_puts _ _ _ _ (with_self u now) (laid_puts _ _ _ _ tt (laid_stops _ _ (assigned d x u set (with u now) (fresh_second d u set [] b) (λ y g. with_more u now y (w y g)))))))))
+        (laid_makes _ _ _ _ _ (laid_puts _ _ _ _ (with_more t set x.local (sc.holds x (has_get c.scope v x r)), with_self t set)
+        (laid_puts _ _ _ _ (with_self u now) (laid_puts _ _ _ _ tt (laid_stops _ _ (assigned d x.local u set (with u now) (fresh_second d u set [] b) (λ y g. with_more u now y (w y g)))))))))
     laid c e d xs (of_update_value {t = t} {p = w} u {xs = us} {ys = vs} p q) Γ set sc h a =
         let b = second d t set us _ a in
         let b' : Apart (with w (with t set)) (d ∷ u ∷ []) = second d w (with t set) vs _ b in

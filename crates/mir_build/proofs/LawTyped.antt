@@ -7,9 +7,10 @@ use Rattle.source_kinds.specs.declared.kinds.IntKind.{IntKind}
 use Rattle.source_kinds.specs.declared.kinds.IntKind.TheVariants.{I8, I16, I32, I64, Isize}
 use Rattle.logic_term.specs.Ty.{Ty, int, bool}
 use Rattle.mir_ir.specs.declared.body.Body.{Body}
+use Rattle.mir_ir.specs.declared.place.Place.{Place}
 use Rattle.mir_ir.specs.declared.terminator.TerminatorKind.{TerminatorKind}
 use Rattle.mir_ir.specs.declared.terminator.TerminatorKind.TheVariants.{Goto, If, Call, Return}
-use Rattle.mir_ir.specs.WellFormed.{IsSigned, OperandHas, OperationHas, StatementIsTyped, CallIsTyped, Locals}
+use Rattle.mir_ir.specs.WellFormed.{IsSigned, PlaceHas, OperandHas, OperationHas, StatementIsTyped, CallIsTyped, Locals}
 use Rattle.mir_ir.specs.WellFormed as mir
 use Rattle.type_check.specs.declared.program.Signature.{Signature}
 use Rattle.type_check.specs.TypedExpr.{TypedExpr, TypedStmts, integer, truth, variable, negative, denied, binary, lazy, assign, assign_value, update, update_value, call, block, branch, choice, repeat, done, last, bind, run}
@@ -17,7 +18,7 @@ use Rattle.type_check.specs.TypedExprView.{ty_of}
 use Rattle.type_check.specs.WellTyped.{IsBuilt, AllBuilt, IsWellTyped, StatementsFit, operation_ty, is_signed}
 use Rattle.mir_build.specs.Text.{Line, Puts, Makes, Turns, Owns, made}
 use Rattle.mir_build.proofs.LawLists.{Has, here, there, has_left, has_right, made-append}
-use Rattle.mir_build.proofs.LawNames.{HoldsAll, HeadFits}
+use Rattle.mir_build.proofs.LawNames.{HoldsPlaces, HeadFits}
 use Rattle.mir_ir.specs.declared.body.Bodies.{Bodies}
 
 -- ---- operators
@@ -157,34 +158,34 @@ made_right b xs ys m = record { fits = λ y u h. m.fits y u (subst (λ ms. Has (
 
 -- ---- scopes
 
--- the locals have the types of the variables, one for each
-abbrev pub ScopeFits : Body → List ℕ → List Ty → Type 0
+-- the places have the types of the variables, one for each
+abbrev pub ScopeFits : Body → List Place → List Ty → Type 0
 ScopeFits b [] [] = Unit {0}
-ScopeFits b (x ∷ xs) (t ∷ ts) = (slice_get b.locals x ≡ Some t) × ScopeFits b xs ts
+ScopeFits b (p ∷ ps) (t ∷ ts) = PlaceHas b p t × ScopeFits b ps ts
 ScopeFits b _ _ = ⊥
 
-pub scope_at : (b : Body) (xs : List ℕ) (ts : List Ty) (v x : ℕ) (t : Ty) → ScopeFits b xs ts → slice_get xs v ≡ Some x → slice_get ts v ≡ Some t → slice_get b.locals x ≡ Some t
-scope_at b [] [] v x t h e f = absurd (cc)
-scope_at b [] (u ∷ ts) v x t h e f = absurd h
-scope_at b (y ∷ xs) [] v x t h e f = absurd h
-scope_at b (y ∷ xs) (u ∷ ts) zero x t h e f = ap (slice_get b.locals) (sym (some_same e)) ∙ h.0 ∙ f
-scope_at b (y ∷ xs) (u ∷ ts) (suc v) x t h e f = scope_at b xs ts v x t h.1 e f
+pub scope_at : (b : Body) (ps : List Place) (ts : List Ty) (v : ℕ) (p : Place) (t : Ty) → ScopeFits b ps ts → slice_get ps v ≡ Some p → slice_get ts v ≡ Some t → PlaceHas b p t
+scope_at b [] [] v p t h e f = absurd (cc)
+scope_at b [] (u ∷ ts) v p t h e f = absurd h
+scope_at b (q ∷ ps) [] v p t h e f = absurd h
+scope_at b (q ∷ ps) (u ∷ ts) zero p t h e f = subst (λ x. PlaceHas b x t) (some_same e) (subst (PlaceHas b q) (some_same f) h.0)
+scope_at b (q ∷ ps) (u ∷ ts) (suc v) p t h e f = scope_at b ps ts v p t h.1 e f
 
-pub scope_more : (b : Body) (xs : List ℕ) (ts : List Ty) (x : ℕ) (t : Ty) → ScopeFits b xs ts → slice_get b.locals x ≡ Some t → ScopeFits b (xs ++ x ∷ []) (ts ++ t ∷ [])
-scope_more b [] [] x t h e = (e, tt)
-scope_more b [] (u ∷ ts) x t h e = absurd h
-scope_more b (y ∷ xs) [] x t h e = absurd h
-scope_more b (y ∷ xs) (u ∷ ts) x t h e = (h.0, scope_more b xs ts x t h.1 e)
+pub scope_more : (b : Body) (ps : List Place) (ts : List Ty) (p : Place) (t : Ty) → ScopeFits b ps ts → PlaceHas b p t → ScopeFits b (ps ++ p ∷ []) (ts ++ t ∷ [])
+scope_more b [] [] p t h e = (e, tt)
+scope_more b [] (u ∷ ts) p t h e = absurd h
+scope_more b (q ∷ ps) [] p t h e = absurd h
+scope_more b (q ∷ ps) (u ∷ ts) p t h e = (h.0, scope_more b ps ts p t h.1 e)
 
-pub scope_length : (b : Body) (xs : List ℕ) (ts : List Ty) → ScopeFits b xs ts → length ts ≡ length xs
+pub scope_length : (b : Body) (ps : List Place) (ts : List Ty) → ScopeFits b ps ts → length ts ≡ length ps
 scope_length b [] [] h = refl
 scope_length b [] (u ∷ ts) h = absurd h
-scope_length b (y ∷ xs) [] h = absurd h
-scope_length b (y ∷ xs) (u ∷ ts) h = ap suc (scope_length b xs ts h.1)
+scope_length b (q ∷ ps) [] h = absurd h
+scope_length b (q ∷ ps) (u ∷ ts) h = ap suc (scope_length b ps ts h.1)
 
-pub scope_holds : (b : Body) (xs : List ℕ) (ts : List Ty) → ScopeFits b xs ts → HoldsAll (is_local b) xs
-scope_holds b [] [] h x g = elim g [ ]
-scope_holds b [] (u ∷ ts) h x g = absurd h
-scope_holds b (y ∷ xs) [] h x g = absurd h
-scope_holds b (y ∷ xs) (u ∷ ts) h x here = ap is_some h.0
-scope_holds b (y ∷ xs) (u ∷ ts) h x (there g) = scope_holds b xs ts h.1 x g
+pub scope_holds : (b : Body) (ps : List Place) (ts : List Ty) → ScopeFits b ps ts → HoldsPlaces (is_local b) ps
+scope_holds b [] [] h p g = elim g [ ]
+scope_holds b [] (u ∷ ts) h p g = absurd h
+scope_holds b (q ∷ ps) [] h p g = absurd h
+scope_holds b (q ∷ ps) (u ∷ ts) h p here = ap is_some h.0.1
+scope_holds b (q ∷ ps) (u ∷ ts) h p (there g) = scope_holds b ps ts h.1 p g

@@ -12,7 +12,7 @@ use Rattle.type_check.specs.TypedExpr.{TypedExpr, TypedStmts, TypedExprs}
 use Rattle.type_check.specs.TypedExprView.{ty_of}
 use Rattle.type_check.specs.WellTyped.{IsBuilt, AllBuilt, IsWellTyped, StatementsFit, ArgumentsFit}
 use Rattle.mir_build.specs.Text.{Line, made}
-use Rattle.mir_build.specs.Lowering.{Around, looping, binds, moved, dies_in, where_true, where_false, Into, of_integer, of_truth, of_variable, of_negative, of_denied, of_binary, of_lazy, of_assign}
+use Rattle.mir_build.specs.Lowering.{Around, whole, looping, binds, moved, dies_in, where_true, where_false, Into, of_integer, of_truth, of_variable, of_negative, of_denied, of_binary, of_lazy, of_assign}
 use Rattle.mir_build.specs.Lowering.{of_assign_value, of_update, of_update_value, of_call, of_block, of_branch, of_choice, of_repeat, Rest, of_done, of_last, of_bind, of_run, Args, of_none, of_more}
 use Rattle.mir_build.proofs.LawNames.{head_fits}
 use Rattle.mir_build.proofs.LawTyped.{operation_has, signed, built_more, built, is_local, AreTyped, typed-append, MadeFits, made_first, made_rest, made_left, made_right, ScopeFits, scope_at, scope_more, scope_length, scope_holds}
@@ -43,7 +43,7 @@ module _ (σ : List Signature) (bodies : Bodies) (b : Body) (callees : (n : ℕ)
   inner c Γ head k = record { scope = k.scope; built_types = k.built_types }
 
   bound : (c : Around) (Γ : List Ty) (t : ℕ) (T : Ty) → Known b c Γ → At t T → IsBuilt T → Known b (binds c t) (Γ ++ T ∷ [])
-  bound c Γ t T k h g = record { scope = scope_more b c.scope Γ t T k.scope h; built_types = built_more Γ T k.built_types g }
+  bound c Γ t T k h g = record { scope = scope_more b c.scope Γ (whole t) T k.scope (refl, h); built_types = built_more Γ T k.built_types g }
 
   step : (xs ys : List Line) → AreTyped bodies b xs → (AreTyped bodies b ys) → AreTyped bodies b (xs ++ ys)
   step xs ys p q = typed-append bodies b xs ys p q
@@ -64,7 +64,7 @@ module _ (σ : List Signature) (bodies : Bodies) (b : Body) (callees : (n : ℕ)
     pub typed : (c : Around) (e : TypedExpr) (d : ℕ) (xs : List Line) → Into c e d xs → (Γ : List Ty) → Known b c Γ → IsWellTyped σ Γ e → At d (ty_of e) → MadeFits b (made xs) → AreTyped bodies b xs
     typed c e d xs (of_integer {ty = ty}) Γ k h a m = ((ty, (refl, a), h), tt)
     typed c e d xs (of_truth {ty = ty}) Γ k h a m = ((ty, (refl, a), h), tt)
-    typed c e d xs (of_variable {ty = ty} {v = v} x q) Γ k h a m = ((ty, (refl, a), (refl, scope_at b c.scope Γ v x ty k.scope q h)), tt)
+    typed c e d xs (of_variable {ty = ty} {v = v} x q) Γ k h a m = ((ty, (refl, a), scope_at b c.scope Γ v x ty k.scope q h), tt)
     typed c e d xs (of_negative {ty = ty} {e = e'} {t = t} {xs = us} p) Γ k h a m =
         let at_t = made_first b t _ _ m in
         let m' = made_rest b t _ _ m in (
@@ -110,7 +110,7 @@ module _ (σ : List Signature) (bodies : Bodies) (b : Body) (callees : (n : ℕ)
         let m' = made_rest b t _ _ m in (
           built σ answers e' Γ k.built_types h.2,
           step us _ (typed c _ t us p Γ k h.2 at_t (made_left b us _ m'))
-              ((ty_of e', (refl, scope_at b c.scope Γ v x (ty_of e') k.scope r h.1), (refl, at_t)), ((ty, (refl, a), (refl, refl, h.0)), tt)),
+              ((ty_of e', scope_at b c.scope Γ v x (ty_of e') k.scope r h.1, (refl, at_t)), ((ty, (refl, a), (refl, refl, h.0)), tt)),
         )
     typed c e d xs (of_assign_value {ty = ty} {a = x} {e = y} {t = t} {u = u} {xs = us} {ys = vs} p q) Γ k h a m =
         let at_t = made_first b t _ _ m in
@@ -135,8 +135,8 @@ module _ (σ : List Signature) (bodies : Bodies) (b : Body) (callees : (n : ℕ)
           step us _ (typed c _ t us p Γ k h.3 at_t (made_left b us _ m')) (
             g,
             (
-              (ty_of y, (refl, at_u), (ty_of y, (refl, at_x), (refl, at_t), operation_has op (ty_of y) (ty_of y) h.2)),
-              ((ty_of y, (refl, at_x), (refl, at_u)), ((ty, (refl, a), (refl, refl, h.0)), tt)),
+              (ty_of y, (refl, at_u), (ty_of y, at_x, (refl, at_t), operation_has op (ty_of y) (ty_of y) h.2)),
+              ((ty_of y, at_x, (refl, at_u)), ((ty, (refl, a), (refl, refl, h.0)), tt)),
             ),
           ),
         )

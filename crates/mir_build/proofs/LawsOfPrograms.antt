@@ -1,5 +1,5 @@
 -- The laws of programs that lower and fit.
-use Rattle.std.proofs.Common.{◌≡◌, refl, ap, sym, ◌∙◌, subst, ℕ, zero, suc, ◌+◌, List, [], ◌∷◌, take, drop, length, Some, None, slice_get, arith, false, Option}
+use Rattle.std.proofs.Common.{◌≡◌, refl, ap, sym, ◌∙◌, subst, ℕ, zero, suc, ◌+◌, List, [], ◌∷◌, take, drop, map, length, Some, None, slice_get, arith, false, Option}
 use Rattle.logic_term.specs.declared.obligation.Contract.{Contract}
 use Rattle.logic_term.specs.Ty.{Ty}
 use Rattle.mir_ir.specs.declared.body.Body.{Body}
@@ -9,7 +9,7 @@ use Rattle.type_check.specs.declared.program.Signature.{Signature}
 use Rattle.type_check.specs.declared.program.TypedFunction.{TypedFunction}
 use Rattle.type_check.specs.WellTyped.{IsBuilt, FunctionFits, EachFits, signatures}
 use Rattle.mir_build.specs.Laws.{Lowers, HeadsAreThere, BodiesAreSound, BodiesAreLaidOut, LocalsHaveNames, LocalsHaveBuiltTypes, HeadsSpeakOfWhatIsThere, ContractsSpeakOfParameters}
-use Rattle.mir_build.specs.Lowering.{counted, contract_of, LowersTo, EachLowersTo, no_functions, and_function}
+use Rattle.mir_build.specs.Lowering.{counted, whole, contract_of, LowersTo, EachLowersTo, no_functions, and_function}
 use Rattle.mir_build.proofs.LawTyped.{ScopeFits}
 use Rattle.mir_build.proofs.LawTypes.{Callee}
 use Rattle.mir_build.proofs.LawFunction.{answer_fits, scope_fits, body_typed, body_laid_out, start}
@@ -72,11 +72,11 @@ no_shift : (n : ℕ) → n + 0 ≡ n
 no_shift n = omega arith
 
 -- where these types are the locals from number n on, they begin with those of the scope
-starts_with : (b : Body) (ts rest : List Ty) (n : ℕ) → ((i : ℕ) → slice_get b.locals (n + i) ≡ slice_get rest i) → ScopeFits b (counted n ts) ts → take (length ts) rest ≡ ts
+starts_with : (b : Body) (ts rest : List Ty) (n : ℕ) → ((i : ℕ) → slice_get b.locals (n + i) ≡ slice_get rest i) → ScopeFits b (map whole (counted n ts)) ts → take (length ts) rest ≡ ts
 starts_with b [] rest n h s = refl
-starts_with b (t ∷ ts) [] n h s = let e : Some t ≡ None = sym s.0 ∙ ap (slice_get b.locals) (sym (no_shift n)) ∙ h 0 in absurd (cc)
+starts_with b (t ∷ ts) [] n h s = let e : Some t ≡ None = sym s.0.1 ∙ ap (slice_get b.locals) (sym (no_shift n)) ∙ h 0 in absurd (cc)
 starts_with b (t ∷ ts) (r ∷ rs) n h s =
-    let e : r ≡ t = some_same (sym (h 0) ∙ ap (slice_get b.locals) (no_shift n) ∙ s.0) in
+    let e : r ≡ t = some_same (sym (h 0) ∙ ap (slice_get b.locals) (no_shift n) ∙ s.0.1) in
     ap (λ x. x ∷ take (length ts) rs) e ∙ ap (λ xs. t ∷ xs) (starts_with b ts rs (n + 1) (λ i. ap (slice_get b.locals) (shift n i) ∙ h (suc i)) s.1)
 
 drop_one : (xs : List Ty) (i k : ℕ) → k ≡ suc i → slice_get xs k ≡ slice_get (drop 1 xs) i

@@ -2,6 +2,8 @@
 use Rattle.std.proofs.Common.{◌≡◌, refl, ap, sym, ◌∙◌, ℕ, ◌+◌, Bool, true, false, List, [], ◌∷◌, ◌++◌, map, Some, slice_get, arith, true≢false}
 use Rattle.std.proofs.lemmas.Option.{get_or_from_slice_get}
 use Rattle.text_core.specs.declared.span.Span.{Span}
+use Rattle.mir_ir.specs.declared.place.Operand.TheVariants.{Copy}
+use Rattle.mir_ir.specs.declared.place.Place.{Place}
 use Rattle.mir_ir.specs.declared.statement.Rvalue.TheVariants.{Use, Binary, Neg, Not}
 use Rattle.mir_ir.specs.declared.terminator.FnId.TheVariants as fn_id
 use Rattle.mir_ir.specs.declared.terminator.Callee.TheVariants.{Function}
@@ -9,18 +11,18 @@ use Rattle.mir_ir.specs.declared.terminator.TerminatorKind.TheVariants.{Goto, If
 use Rattle.type_check.specs.TypedExpr.{TypedExpr, TypedStmts, TypedExprs, block}
 use Rattle.type_check.specs.TypedExprView.{ty_of}
 use Rattle.mir_build.specs.Text.{Line, Makes, Turns, Owns, made}
-use Rattle.mir_build.specs.Lowering.{Around, binds, looping, at, at_head, head_of, whole, puts, put_unit, copied, moved, ends, dies_in, numbers, where_true, where_false, Into, of_integer, of_truth, of_variable, of_negative, of_denied, of_binary, of_lazy, of_assign}
+use Rattle.mir_build.specs.Lowering.{Around, binds, looping, at, at_head, head_of, whole, puts, puts_at, put_unit, copied, moved, ends, dies_in, numbers, where_true, where_false, Into, of_integer, of_truth, of_variable, of_negative, of_denied, of_binary, of_lazy, of_assign}
 use Rattle.mir_build.specs.Lowering.{of_assign_value, of_update, of_update_value, of_call, of_block, of_branch, of_choice, of_repeat, Rest, of_done, of_last, of_bind, of_run, Args, of_none, of_more, IntoBody, of_outermost, of_other, is_block, named, named_rest, named_args, named_body}
-use Rattle.mir_build.specs.Numbered.{into, rest, args, body_text, labels, locals, locals_in, temporaries, label, local_of}
+use Rattle.mir_build.specs.Numbered.{into, rest, args, body_text, labels, locals, locals_in, temporaries, label, variable_place}
 use Rattle.mir_build.proofs.Numbers.{makings, making, args_making}
 use Rattle.mir_build.proofs.Order.{InOrder, numbers_of}
 use Rattle.mir_build.proofs.Rows.{own_locals}
 use Rattle.mir_build.proofs.Following.{From, from_left, three, order_left, order_right, order_lazy}
 use Rattle.mir_build.proofs.Rowwise.{labels_behind, labels_behind_args}
 
--- the local of a variable in scope
-found : (scope : List ℕ) (v x : ℕ) → slice_get scope v ≡ Some x → x ≡ local_of scope v
-found scope v x q = sym (get_or_from_slice_get scope v x 0 q)
+-- the place of a variable in scope
+found : (scope : List Place) (v : ℕ) (p : Place) → slice_get scope v ≡ Some p → p ≡ variable_place scope v
+found scope v p q = sym (get_or_from_slice_get scope v p (whole 0) q)
 
 -- the locals behind those of an expression's text
 behind : (e : TypedExpr) (c : Around) (l t d : ℕ) (xs ys : List Line) → xs ≡ into e c l t d → InOrder t (xs ++ ys) → InOrder (t + locals e) ys
@@ -33,7 +35,7 @@ mutual
   one_text : (c : Around) (e : TypedExpr) (d : ℕ) (xs : List Line) (p : Into c e d xs) (l t : ℕ) → From l (named p) → InOrder t xs → xs ≡ into e c l t d
   one_text c e d xs of_integer l t n o = refl
   one_text c e d xs of_truth l t n o = refl
-  one_text c e d xs (of_variable {s = s} {v = v} x q) l t n o = λ i. puts s d (Use (copied (found c.scope v x q i))) ∷ []
+  one_text c e d xs (of_variable {s = s} {v = v} x q) l t n o = λ i. puts s d (Use (Copy (found c.scope v x q i))) ∷ []
   one_text c e d xs (of_negative {s = s} {e = a} {t = t'} {xs = us} p) l t n o =
       let x = one_text c a t' us p l (t + 1) n (order_left (t + 1) us _ o.1) ∙ ap (into a c l (t + 1)) o.0 in
       λ i. Makes (o.0 i) (ty_of a) ∷ (x i ++ puts s d (Neg (moved (o.0 i))) ∷ [])
@@ -56,7 +58,7 @@ mutual
       ++ Turns (ends s (Goto (label (k.2 i)))) (at c (label (k.1 i))) ∷ (where_false op s d (y i) ++ Turns (ends s (Goto (label (k.2 i)))) (at c (label (k.2 i))) ∷ [])))
   one_text c e d xs (of_assign {s = s} {v = v} {e = a} {t = t'} z {xs = us} q p) l t n o =
       let x = one_text c a t' us p l (t + 1) n (order_left (t + 1) us _ o.1) ∙ ap (into a c l (t + 1)) o.0 in
-      λ i. Makes (o.0 i) (ty_of a) ∷ (x i ++ puts s (found c.scope v z q i) (Use (moved (o.0 i))) ∷ put_unit s d ∷ [])
+      λ i. Makes (o.0 i) (ty_of a) ∷ (x i ++ puts_at s (found c.scope v z q i) (Use (moved (o.0 i))) ∷ put_unit s d ∷ [])
   one_text c e d xs (of_assign_value {s = s} {a = b} {e = a} {t = t'} {u = u'} {xs = us} {ys = vs} p q) l t n o =
       let x = one_text c a t' us p l (t + 1) (from_left l (named p) (named q) n) (order_left (t + 1) us _ o.1) ∙ ap (into a c l (t + 1)) o.0 in
       let r = behind a c l (t + 1) t us _ x o.1 in
@@ -66,7 +68,7 @@ mutual
   one_text c e d xs (of_update {s = s} {op = op} {v = v} {e = a} {t = t'} z u' {xs = us} q p) l t n o =
       let x = one_text c a t' us p l (t + 1) n (order_left (t + 1) us _ o.1) ∙ ap (into a c l (t + 1)) o.0 in
       let r = behind a c l (t + 1) t us _ x o.1 in
-      λ i. Makes (o.0 i) (ty_of a) ∷ (x i ++ Makes (r.0 i) (ty_of a) ∷ puts s (r.0 i) (Binary op (copied (found c.scope v z q i)) (moved (o.0 i))) ∷ puts s (found c.scope v z q i) (Use (moved (r.0 i))) ∷ put_unit s d ∷ [])
+      λ i. Makes (o.0 i) (ty_of a) ∷ (x i ++ Makes (r.0 i) (ty_of a) ∷ puts s (r.0 i) (Binary op (Copy (found c.scope v z q i)) (moved (o.0 i))) ∷ puts_at s (found c.scope v z q i) (Use (moved (r.0 i))) ∷ put_unit s d ∷ [])
   one_text c e d xs (of_update_value {s = s} {op = op} {a = b} {e = a} {t = t'} {p = w'} u' {xs = us} {ys = vs} p q) l t n o =
       let x = one_text c a t' us p l (t + 1) (from_left l (named p) (named q) n) (order_left (t + 1) us _ o.1) ∙ ap (into a c l (t + 1)) o.0 in
       let r = behind a c l (t + 1) t us _ x o.1 in

@@ -4,27 +4,28 @@ use Rattle.std.specs.List.{slice_get, range_with_len}
 use Rattle.std.proofs.lemmas.Option.{slice_get_within, slice_get-get_or}
 use Rattle.text_core.specs.declared.span.Span.{Span}
 use Rattle.logic_term.specs.Ty.{Ty}
+use Rattle.mir_ir.specs.declared.place.Place.{Place}
 use Rattle.type_check.specs.declared.assertion.Assertion.{Assertion}
 use Rattle.type_check.specs.declared.program.Signature.{Signature}
 use Rattle.type_check.specs.TypedExpr.{TypedExpr, TypedStmts, TypedExprs, integer, truth, variable, negative, denied, binary, lazy, assign, assign_value, update, update_value, call, block, branch, choice, repeat, done, last, bind, run, none, more}
 use Rattle.type_check.specs.TypedExprView.{ty_of}
 use Rattle.type_check.specs.WellTyped.{IsWellTyped, StatementsFit, ArgumentsFit}
-use Rattle.mir_build.specs.Lowering.{Around, binds, looping, Into, of_integer, of_truth, of_variable, of_negative, of_denied, of_binary, of_lazy, of_assign, of_assign_value, of_update, of_update_value, of_call, of_block, of_branch}
+use Rattle.mir_build.specs.Lowering.{Around, whole, binds, looping, Into, of_integer, of_truth, of_variable, of_negative, of_denied, of_binary, of_lazy, of_assign, of_assign_value, of_update, of_update_value, of_call, of_block, of_branch}
 use Rattle.mir_build.specs.Lowering.{of_choice, of_repeat, Rest, of_done, of_last, of_bind, of_run, Args, of_none, of_more, IntoBody, of_outermost, of_other, named, named_rest, named_args, named_body}
 use Rattle.mir_build.specs.Text.{Line}
-use Rattle.mir_build.specs.Numbered.{into, rest, args, body_text, labels, labels_in, locals, temporaries, label, local_of, between}
+use Rattle.mir_build.specs.Numbered.{into, rest, args, body_text, labels, labels_in, locals, temporaries, label, variable_place, between}
 use Rattle.mir_build.proofs.Order.{numbers_of}
 use Rattle.mir_build.proofs.Following.{From, then_three}
 use Rattle.mir_build.proofs.Rowwise.{labels_then, labels_then_args}
 
--- there is a local for each variable
-abbrev pub IsFor : List Ty → List ℕ → Type 0
+-- there is a place for each variable
+abbrev pub IsFor : List Ty → List Place → Type 0
 IsFor Γ scope = length Γ ≡ length scope
 
-in_scope : (Γ : List Ty) (scope : List ℕ) (v : ℕ) (t : Ty) → IsFor Γ scope → slice_get Γ v ≡ Some t → slice_get scope v ≡ Some (local_of scope v)
-in_scope Γ scope v t h e = slice_get-get_or scope v 0 (omega (arith, slice_get_within Γ v t e, h))
+in_scope : (Γ : List Ty) (scope : List Place) (v : ℕ) (t : Ty) → IsFor Γ scope → slice_get Γ v ≡ Some t → slice_get scope v ≡ Some (variable_place scope v)
+in_scope Γ scope v t h e = slice_get-get_or scope v (whole 0) (omega (arith, slice_get_within Γ v t e, h))
 
-one_more : (Γ : List Ty) (scope : List ℕ) (t : Ty) (x : ℕ) → IsFor Γ scope → IsFor (Γ ++ t ∷ []) (scope ++ x ∷ [])
+one_more : (Γ : List Ty) (scope : List Place) (t : Ty) (x : Place) → IsFor Γ scope → IsFor (Γ ++ t ∷ []) (scope ++ x ∷ [])
 one_more Γ scope t x h = omega (arith, length-append Γ (t ∷ []), length-append scope (x ∷ []), h)
 
 range_split : (n a b : ℕ) → range_with_len n (a + b) ≡ range_with_len n a ++ range_with_len (n + a) b
@@ -130,7 +131,7 @@ mutual
       (of_last p.0, p.1)
   rests σ Γ ty (bind e ss) outer s c l t d h w =
       let p = lowers σ Γ e c l (t + 1) t h w.0 in
-      let q = rests σ _ ty ss outer s (binds c t) (l + labels e) (t + 1 + locals e) d (one_more Γ c.scope (ty_of e) t h) w.1 in
+      let q = rests σ _ ty ss outer s (binds c t) (l + labels e) (t + 1 + locals e) d (one_more Γ c.scope (ty_of e) (whole t) h) w.1 in
       (of_bind p.0 q.0, labels_then p.0 l (named_rest q.0) p.1 q.1)
   rests σ Γ ty (run e ss) outer s c l t d h w =
       let p = lowers σ Γ e c l (t + 1) t h w.0 in

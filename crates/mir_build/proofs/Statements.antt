@@ -6,7 +6,7 @@ use Rattle.type_check.specs.TypedExpr.{TypedExpr, TypedStmts}
 use Rattle.type_check.specs.TypedExprView.{stmt_of, stmts_of}
 use Rattle.type_check.specs.declared.typed.TypedStmt.{TypedStmt}
 use Rattle.mir_build.specs.declared.builder.BodyText.{BodyText}
-use Rattle.mir_build.specs.Lowering.{Around, binds}
+use Rattle.mir_build.specs.Lowering.{Around, whole, binds}
 use Rattle.mir_build.specs.Numbered.{rest, labels, labels_of, locals, locals_of}
 use Rattle.mir_build.specs.Built.{written}
 use Rattle.mir_build.specs.Bindings.{all_die, left_of}
@@ -62,14 +62,14 @@ module _ (b : Bool) (c : Around) (t n : ℕ) (h : n ≤ length c.scope) where
   behind_front = by_case b
     where
       by_case : (b : Bool) → take n (around_behind b c t).scope ≡ take n c.scope
-      by_case true = take-append-le n c.scope (t ∷ []) h
+      by_case true = take-append-le n c.scope (whole t ∷ []) h
       by_case false = refl
 
   behind_within : n ≤ length (around_behind b c t).scope
   behind_within = by_case b
     where
       by_case : (b : Bool) → n ≤ length (around_behind b c t).scope
-      by_case true = omega (arith, h, length-append c.scope (t ∷ []))
+      by_case true = omega (arith, h, length-append c.scope (whole t ∷ []))
       by_case false = h
 
   behind_loops : (around_behind b c t).loops ≡ c.loops

@@ -1,6 +1,7 @@
 -- What the builder has written is a lowered body.
 use Rattle.std.proofs.Common.{◌≡◌, refl, ap, sym, ◌∙◌, ℕ, zero, suc, ◌+◌, ◌^◌, ◌<◌, ◌≤◌, List, [], ◌∷◌, ◌++◌, map, get_or, length, length-append, Option, Some, None, append_assoc, append-nil, subst, arith}
 use Rattle.std.specs.List.{slice_get}
+use Rattle.std.proofs.lemmas.List.{length-map}
 use Rattle.std.proofs.lemmas.Option.{slice_get_read}
 use Rattle.text_core.specs.Names.{text_of}
 use Rattle.logic_term.specs.declared.kinds.Label.{Label}
@@ -22,7 +23,7 @@ use Rattle.type_check.specs.WellTyped.{FunctionFits, EachFits, ProgramFits, sign
 use Rattle.mir_build.specs.declared.builder.BodyText.{BodyText}
 use Rattle.mir_build.specs.declared.builder.OpenBlock.{OpenBlock}
 use Rattle.mir_build.specs.Text.{Line, Puts, Makes, Turns, Owns, Open, fresh, longer, close, closed, left_open, made, owned}
-use Rattle.mir_build.specs.Lowering.{numbers, counted, named_body, entry_title, paired, all_locals, gone_at, around_body, LowersTo, EachLowersTo, no_functions, and_function, contract_of, HasMoreBlocks, ends, blocks_in}
+use Rattle.mir_build.specs.Lowering.{numbers, counted, named_body, entry_title, paired, all_locals, gone_at, around_body, whole, LowersTo, EachLowersTo, no_functions, and_function, contract_of, HasMoreBlocks, ends, blocks_in}
 use Rattle.mir_build.specs.Numbered.{labels, label}
 use Rattle.mir_build.specs.Built.{written, ended}
 use Rattle.mir_build.specs.Whole.{text_of_body, built, body_of, FailsFor}
@@ -95,7 +96,7 @@ length-counted n [] = refl
 length-counted n (x ∷ xs) = ap suc (length-counted (n + 1) xs)
 
 is_for : (f : TypedFunction) → length f.signature.params ≡ length (around_body f).scope
-is_for f = sym (length-counted 1 f.signature.params)
+is_for f = sym (length-map (counted 1 f.signature.params) whole ∙ length-counted 1 f.signature.params)
 
 built_parts : (f : TypedFunction) → built f ≡ text_at (closed (fresh (entry_title (label 0))) (text_of_body f)) (left_open (fresh (entry_title (label 0))) (text_of_body f)) (f.signature.answer ∷ (f.signature.params ++ types (text_of_body f))) (map gone_at (owned (text_of_body f)))
 built_parts f = written_parts (text_of_body f) [] (fresh (entry_title (label 0))) (f.signature.answer ∷ f.signature.params) []

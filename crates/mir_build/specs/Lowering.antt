@@ -51,13 +51,17 @@ use Rattle.mir_ir.specs.declared.body.Bodies.{Bodies}
 
 -- ---- what stands around an expression
 
--- the local of each variable in scope, and the heads of the loops around, both the outermost first
+abbrev pub whole : ℕ → Place
+whole x = record { local = x; path = [] }
+
+-- the place of each variable in scope, and the heads of the loops around, both the outermost first
 pub record Around : Type 0 where
-  pub scope : List ℕ
+  pub scope : List Place
   pub loops : List Label
 
+-- a binding is a local of its own
 abbrev pub binds : Around → ℕ → Around
-binds c x = record { scope = c.scope ++ x ∷ []; loops = c.loops }
+binds c x = record { scope = c.scope ++ whole x ∷ []; loops = c.loops }
 
 abbrev pub looping : Around → Label → Around
 looping c head = record { scope = c.scope; loops = c.loops ++ head ∷ [] }
@@ -82,25 +86,29 @@ abbrev pub formula_span : Assertion → Span
 formula_span (Good s t) = s
 formula_span (Bad e) = e.span
 
--- the names of the locals for those of the variables, of which k are before them
-abbrev pub locals_for : ℕ → List ℕ → List Replacement
-locals_for k [] = []
-locals_for k (x ∷ xs) = record { name = variable_name k; by = var (local_name x) } ∷ locals_for (k + 1) xs
+-- what a place holds, as a term. So far places are whole locals
+abbrev pub held : Place → Term
+held p = var (local_name p.local)
 
--- the formula over the names of the locals
-abbrev pub at_locals : List ℕ → Term → Term
-at_locals scope t = with_terms (locals_for 0 scope) t
+-- what the places hold for the names of the variables, of which k are before them
+abbrev pub places_for : ℕ → List Place → List Replacement
+places_for k [] = []
+places_for k (p ∷ ps) = record { name = variable_name k; by = held p } ∷ places_for (k + 1) ps
+
+-- the formula over what the places hold
+abbrev pub at_places : List Place → Term → Term
+at_places scope t = with_terms (places_for 0 scope) t
 
 abbrev pub head_of : Around → List Assertion → Head
-head_of c is = record { invariants = map (λ a. at_locals c.scope (formula a)) is; spans = map formula_span is }
+head_of c is = record { invariants = map (λ a. at_places c.scope (formula a)) is; spans = map formula_span is }
 
 -- ---- lines
 
-abbrev pub whole : ℕ → Place
-whole x = record { local = x; path = [] }
+abbrev pub puts_at : Span → Place → Rvalue → Line
+puts_at s p r = Puts (record { span = s; kind = Assign p r })
 
 abbrev pub puts : Span → ℕ → Rvalue → Line
-puts s d r = Puts (record { span = s; kind = Assign (whole d) r })
+puts s d r = puts_at s (whole d) r
 
 abbrev pub constant : Span → ℕ → Lit → Line
 constant s d v = puts s d (Use (Const v))
@@ -145,7 +153,7 @@ mutual
   pub data Into : Around → TypedExpr → ℕ → List Line → Type 0 where
     of_integer : {c : Around} {ty : Ty} {s : Span} {z : ℤ} {k : IntKind} {d : ℕ} → Into c (integer ty s z k) d (constant s d (lit.Int z k) ∷ [])
     of_truth : {c : Around} {ty : Ty} {s : Span} {b : Bool} {d : ℕ} → Into c (typed.truth ty s b) d (constant s d (lit.Bool b) ∷ [])
-    of_variable : {c : Around} {ty : Ty} {s : Span} {v d : ℕ} (x : ℕ) → slice_get c.scope v ≡ Some x → Into c (variable ty s v) d (puts s d (Use (copied x)) ∷ [])
+    of_variable : {c : Around} {ty : Ty} {s : Span} {v d : ℕ} (p : Place) → slice_get c.scope v ≡ Some p → Into c (variable ty s v) d (puts s d (Use (Copy p)) ∷ [])
     of_negative : {c : Around} {ty : Ty} {s : Span} {e : TypedExpr} {d t : ℕ} {xs : List Line} → Into c e t xs → Into c (negative ty s e) d (Makes t (ty_of e) ∷ (xs ++ puts s d (Neg (moved t)) ∷ []))
     of_denied : {c : Around} {ty : Ty} {s : Span} {e : TypedExpr} {d t : ℕ} {xs : List Line} → Into c e t xs → Into c (denied ty s e) d (Makes t (ty_of e) ∷ (xs ++ puts s d (Not (moved t)) ∷ []))
     of_binary : {c : Around} {ty : Ty} {s : Span} {op : BinaryOp} {a b : TypedExpr} {d t u : ℕ} {xs ys : List Line} → Into c a t xs → Into c b u ys
@@ -153,12 +161,12 @@ mutual
     of_lazy : {c : Around} {ty : Ty} {s : Span} {op : LazyOp} {a b : TypedExpr} {d t : ℕ} (yes' no' after : Label) {xs ys : List Line} → Into c a t xs → Into c b d ys
         → Into c (lazy ty s op a b) d (Makes t (ty_of a) ∷ (xs ++ Turns (ends s (If (moved t) yes' no')) (at c yes') ∷ (where_true op s d ys
         ++ Turns (ends s (Goto after)) (at c no') ∷ (where_false op s d ys ++ Turns (ends s (Goto after)) (at c after) ∷ []))))
-    of_assign : {c : Around} {ty : Ty} {s : Span} {v : ℕ} {e : TypedExpr} {d t : ℕ} (x : ℕ) {xs : List Line} → slice_get c.scope v ≡ Some x → Into c e t xs
-        → Into c (assign ty s v e) d (Makes t (ty_of e) ∷ (xs ++ puts s x (Use (moved t)) ∷ put_unit s d ∷ []))
+    of_assign : {c : Around} {ty : Ty} {s : Span} {v : ℕ} {e : TypedExpr} {d t : ℕ} (p : Place) {xs : List Line} → slice_get c.scope v ≡ Some p → Into c e t xs
+        → Into c (assign ty s v e) d (Makes t (ty_of e) ∷ (xs ++ puts_at s p (Use (moved t)) ∷ put_unit s d ∷ []))
     of_assign_value : {c : Around} {ty : Ty} {s : Span} {a e : TypedExpr} {d t u : ℕ} {xs ys : List Line} → Into c e t xs → Into c a u ys
         → Into c (assign_value ty s a e) d (Makes t (ty_of e) ∷ (xs ++ Makes u (ty_of a) ∷ (ys ++ puts s u (Use (moved t)) ∷ put_unit s d ∷ [])))
-    of_update : {c : Around} {ty : Ty} {s : Span} {op : BinaryOp} {v : ℕ} {e : TypedExpr} {d t : ℕ} (x u : ℕ) {xs : List Line} → slice_get c.scope v ≡ Some x → Into c e t xs
-        → Into c (update ty s op v e) d (Makes t (ty_of e) ∷ (xs ++ Makes u (ty_of e) ∷ puts s u (Binary op (copied x) (moved t)) ∷ puts s x (Use (moved u)) ∷ put_unit s d ∷ []))
+    of_update : {c : Around} {ty : Ty} {s : Span} {op : BinaryOp} {v : ℕ} {e : TypedExpr} {d t : ℕ} (p : Place) (u : ℕ) {xs : List Line} → slice_get c.scope v ≡ Some p → Into c e t xs
+        → Into c (update ty s op v e) d (Makes t (ty_of e) ∷ (xs ++ Makes u (ty_of e) ∷ puts s u (Binary op (Copy p) (moved t)) ∷ puts_at s p (Use (moved u)) ∷ put_unit s d ∷ []))
     of_update_value : {c : Around} {ty : Ty} {s : Span} {op : BinaryOp} {a e : TypedExpr} {d t p : ℕ} (u : ℕ) {xs ys : List Line} → Into c e t xs → Into c a p ys
         → Into c (update_value ty s op a e) d (Makes t (ty_of e) ∷ (xs ++ Makes p (ty_of a) ∷ (ys ++ Makes u (ty_of e) ∷ puts s u (Binary op (copied p) (moved t)) ∷ puts s p (Use (moved u)) ∷ put_unit s d ∷ [])))
     of_call : {c : Around} {ty : Ty} {s : Span} {f : ℕ} {es : TypedExprs} {d : ℕ} {ts : List ℕ} (after : Label) {xs : List Line} → Args c es ts xs
@@ -282,7 +290,7 @@ gone_at g = (record { label = g.0; statement = 0 }, map whole g.1)
 
 -- around the outermost block the parameters are in scope, which are locals from 1 on
 abbrev pub around_body : TypedFunction → Around
-around_body f = record { scope = counted 1 f.signature.params; loops = [] }
+around_body f = record { scope = map whole (counted 1 f.signature.params); loops = [] }
 
 -- the body of a function, and what may be gone where in it: local 0 is the answer, then come the parameters
 pub record LowersTo (owner : List ℕ) (f : TypedFunction) (b : Body) (gone : Initialised) : Type 0 where

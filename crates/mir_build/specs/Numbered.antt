@@ -1,10 +1,12 @@
 -- The text of the rows with the numbers that the code gives: labels from l on, locals from t on. A variable that is not in scope stands
 -- for local 0. Contracts of the code alone speak of it.
-use Rattle.std.specs.Prelude.{ℕ, ◌+◌, ◌-◌, Bool, true, false, List, [], ◌∷◌, ◌++◌, map, slice_index}
+use Rattle.std.specs.Prelude.{ℕ, ◌+◌, ◌-◌, Bool, true, false, List, [], ◌∷◌, ◌++◌, map, get_or}
 use Rattle.std.specs.List.{range_with_len}
 use Rattle.text_core.specs.declared.span.Span.{Span}
 use Rattle.logic_term.specs.declared.kinds.Label.{Label}
 use Rattle.mir_ir.specs.declared.place.Lit.TheVariants as lit
+use Rattle.mir_ir.specs.declared.place.Operand.TheVariants.{Copy}
+use Rattle.mir_ir.specs.declared.place.Place.{Place}
 use Rattle.mir_ir.specs.declared.statement.Rvalue.TheVariants.{Use, Binary, Neg, Not}
 use Rattle.mir_ir.specs.declared.terminator.FnId.TheVariants as fn_id
 use Rattle.mir_ir.specs.declared.terminator.Callee.TheVariants.{Function}
@@ -12,13 +14,13 @@ use Rattle.mir_ir.specs.declared.terminator.TerminatorKind.TheVariants.{Goto, If
 use Rattle.type_check.specs.TypedExpr.{TypedExpr, TypedStmts, TypedExprs, integer, truth, variable, negative, denied, binary, lazy, assign, assign_value, update, update_value, call, block, branch, choice, repeat, done, last, bind, run, none, more}
 use Rattle.type_check.specs.TypedExprView.{ty_of}
 use Rattle.mir_build.specs.Text.{Line, Makes, Turns, Owns}
-use Rattle.mir_build.specs.Lowering.{Around, binds, looping, at, at_head, head_of, whole, puts, constant, put_unit, copied, moved, ends, dies_in, where_true, where_false}
+use Rattle.mir_build.specs.Lowering.{Around, binds, looping, at, at_head, head_of, whole, puts, puts_at, constant, put_unit, copied, moved, ends, dies_in, where_true, where_false}
 
 abbrev pub label : ℕ → Label
 label l = record { 0 = l }
 
-abbrev pub local_of : List ℕ → ℕ → ℕ
-local_of scope v = slice_index scope v
+abbrev pub variable_place : List Place → ℕ → Place
+variable_place scope v = get_or scope v (whole 0)
 
 -- the numbers from the first up to the last, which is none of them
 abbrev pub between : ℕ → ℕ → List ℕ
@@ -97,7 +99,7 @@ abbrev mutual
   pub into : TypedExpr → Around → ℕ → ℕ → ℕ → List Line
   into (integer ty s z k) c l t d = constant s d (lit.Int z k) ∷ []
   into (truth ty s b) c l t d = constant s d (lit.Bool b) ∷ []
-  into (variable ty s v) c l t d = puts s d (Use (copied (local_of c.scope v))) ∷ []
+  into (variable ty s v) c l t d = puts s d (Use (Copy (variable_place c.scope v))) ∷ []
   into (negative ty s e) c l t d = Makes t (ty_of e) ∷ (into e c l (t + 1) t ++ puts s d (Neg (moved t)) ∷ [])
   into (denied ty s e) c l t d = Makes t (ty_of e) ∷ (into e c l (t + 1) t ++ puts s d (Not (moved t)) ∷ [])
   into (binary ty s op a b) c l t d =
@@ -108,14 +110,14 @@ abbrev mutual
       let ys = into b c (m + 3) (t + 1 + locals a) d in
       Makes t (ty_of a) ∷ (into a c l (t + 1) t ++ Turns (ends s (If (moved t) (label m) (label (m + 1)))) (at c (label m)) ∷ (where_true op s d ys
       ++ Turns (ends s (Goto (label (m + 2)))) (at c (label (m + 1))) ∷ (where_false op s d ys ++ Turns (ends s (Goto (label (m + 2)))) (at c (label (m + 2))) ∷ [])))
-  into (assign ty s v e) c l t d = Makes t (ty_of e) ∷ (into e c l (t + 1) t ++ puts s (local_of c.scope v) (Use (moved t)) ∷ put_unit s d ∷ [])
+  into (assign ty s v e) c l t d = Makes t (ty_of e) ∷ (into e c l (t + 1) t ++ puts_at s (variable_place c.scope v) (Use (moved t)) ∷ put_unit s d ∷ [])
   into (assign_value ty s a e) c l t d =
       let u = t + 1 + locals e in
       Makes t (ty_of e) ∷ (into e c l (t + 1) t ++ Makes u (ty_of a) ∷ (into a c (l + labels e) (u + 1) u ++ puts s u (Use (moved t)) ∷ put_unit s d ∷ []))
   into (update ty s op v e) c l t d =
-      let x = local_of c.scope v in
+      let p = variable_place c.scope v in
       let u = t + 1 + locals e in
-      Makes t (ty_of e) ∷ (into e c l (t + 1) t ++ Makes u (ty_of e) ∷ puts s u (Binary op (copied x) (moved t)) ∷ puts s x (Use (moved u)) ∷ put_unit s d ∷ [])
+      Makes t (ty_of e) ∷ (into e c l (t + 1) t ++ Makes u (ty_of e) ∷ puts s u (Binary op (Copy p) (moved t)) ∷ puts_at s p (Use (moved u)) ∷ put_unit s d ∷ [])
   into (update_value ty s op a e) c l t d =
       let p = t + 1 + locals e in
       let u = p + 1 + locals a in

@@ -1,31 +1,46 @@
 //! What stands around an expression, and the invariants of a loop there.
 ghost use Rattle.std.specs.Prelude.{◌≡◌, map, IfOk};
 ghost use Rattle.mir_build.specs.Built.{around};
-ghost use Rattle.mir_build.specs.Numbered.{local_of};
-ghost use Rattle.mir_build.specs.Lowering.{local_name, formula, formula_span, locals_for, head_of};
+ghost use Rattle.mir_build.specs.Numbered.{variable_place};
+ghost use Rattle.mir_build.specs.Lowering.{local_name, formula, formula_span, held, places_for, head_of};
 ghost use Rattle.logic_term.specs.Subst.{with_terms};
 ghost use Rattle.type_check.specs.VariableNames.{variable_name, answer_name};
 
+use crate::builder::whole;
 use logic_term::{Label, Replacement, Term};
-use mir_ir::Head;
+use mir_ir::{Head, Place};
 use std::alloc::Global;
 use text_core::{Items, Name, NoMemory, Span};
 use type_check::Assertion;
 
-/// The local of each variable in scope, and the heads of the loops around, both the outermost first.
+/// The place of each variable in scope, and the heads of the loops around, both the outermost first.
 #[derive(Drop)]
 pub(crate) struct Around {
-    pub(crate) scope: Vec<u32>,
+    pub(crate) scope: Vec<Place>,
     pub(crate) loops: Vec<Label>,
 }
 
-/// The local of a variable; 0 for one that is not in scope.
-pub(crate) fn local_of(scope: &[u32], variable: u32) -> u32
-    ensures { result ≡ local_of scope.now variable }
+pub(crate) fn same_place(alloc: Global, place: &Place) -> Result<Place, NoMemory>
+    ensures { IfOk result (λ p. p ≡ place.now) }
+{
+    let path = Items::from_slice(alloc, place.path.as_slice())?;
+    Ok(Place {
+        local: place.local,
+        path,
+    })
+}
+
+/// The place of a variable; local 0 for one that is not in scope.
+pub(crate) fn variable_place(
+    alloc: Global,
+    scope: &[Place],
+    variable: u32,
+) -> Result<Place, NoMemory>
+    ensures { IfOk result (λ p. p ≡ variable_place scope.now variable) }
 {
     match scope.get(variable as usize) {
-        Some(local) => *local,
-        None => 0,
+        Some(place) => same_place(alloc, place),
+        None => Ok(whole(alloc, 0)),
     }
 }
 
@@ -85,14 +100,21 @@ pub(crate) fn formula_span(assertion: &Assertion) -> Span
     }
 }
 
-/// The names of the locals for those of the variables.
-fn locals_for(alloc: Global, scope: &[u32]) -> Result<Vec<Replacement>, NoMemory>
-    ensures { IfOk result (λ v. v.items ≡ locals_for 0 scope.now) }
+/// What a place holds.
+fn held(alloc: Global, place: &Place) -> Result<Term, NoMemory>
+    ensures { IfOk result (λ t. t ≡ held place.now) }
+{
+    Term::var(alloc, local_name(place.local))
+}
+
+/// What the places hold for the names of the variables.
+fn places_for(alloc: Global, scope: &[Place]) -> Result<Vec<Replacement>, NoMemory>
+    ensures { IfOk result (λ v. v.items ≡ places_for 0 scope.now) }
 {
     let mut all = Vec::new(alloc);
     let mut variable: u32 = 0;
-    for x in scope {
-        let by = Term::var(alloc, local_name(*x))?;
+    for place in scope {
+        let by = held(alloc, place)?;
         all.push(Replacement {
             name: variable_name(variable),
             by,
@@ -141,7 +163,7 @@ fn formula_spans(alloc: Global, assertions: &[Assertion]) -> Result<Items<Span>,
 pub(crate) fn head_of(alloc: Global, c: &Around, assertions: &[Assertion]) -> Result<Head, NoMemory>
     ensures { IfOk result (λ h. h ≡ head_of (around c.now) assertions.now) }
 {
-    let sub = locals_for(alloc, c.scope.as_slice())?;
+    let sub = places_for(alloc, c.scope.as_slice())?;
     let invariants = formulas_with_terms(alloc, sub.as_slice(), assertions)?;
     let spans = formula_spans(alloc, assertions)?;
     Ok(Head { invariants, spans })

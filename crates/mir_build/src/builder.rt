@@ -1,7 +1,7 @@
 //! The text of a body that is built so far.
 ghost use Rattle.std.specs.Prelude.{◌≡◌, ◌+◌, ◌<◌, ◌≤◌, ◌∷◌, [], None, length, map, IfOk, IfErr, OnOk};
 ghost use Rattle.mir_build.specs.Text.{Puts, Makes, Turns, Owns};
-ghost use Rattle.mir_build.specs.Lowering.{whole, copied, moved, ends, puts, put_unit, constant, dies, at, entry_title};
+ghost use Rattle.mir_build.specs.Lowering.{whole, moved, ends, puts_at, puts, put_unit, constant, dies, at, entry_title};
 ghost use Rattle.mir_build.specs.Numbered.{between, label};
 ghost use Rattle.mir_build.specs.Built.{written, started, ended, around};
 ghost use Rattle.mir_build.specs.declared.stop.Stop.TheVariants.{Blocks};
@@ -136,12 +136,6 @@ pub(crate) fn whole(alloc: Global, x: u32) -> Place
     }
 }
 
-pub(crate) fn copied(alloc: Global, x: u32) -> Operand
-    ensures { result ≡ copied x }
-{
-    Operand::Copy(whole(alloc, x))
-}
-
 pub(crate) fn moved(alloc: Global, x: u32) -> Operand
     ensures { result ≡ moved x }
 {
@@ -201,6 +195,21 @@ impl Builder {
         self.text.make(ty)
     }
 
+    /// Writes the value to the place.
+    pub(crate) fn put_at(
+        &mut self,
+        span: Span,
+        place: Place,
+        value: Rvalue,
+    ) -> Result<(), NoMemory>
+        ensures text { OnOk result (self.new.text ≡ written (puts_at span place value ∷ []) self.old.text) }
+        ensures locals { OnOk result (length self.new.text.locals ≡ length self.old.text.locals) }
+        ensures labels { self.new.labels ≡ self.old.labels }
+    {
+        let kind = StatementKind::Assign(place, value);
+        self.text.put(Statement { span, kind })
+    }
+
     /// Writes the value to the local.
     pub(crate) fn put(
         &mut self,
@@ -213,8 +222,7 @@ impl Builder {
         ensures locals { OnOk result (length self.new.text.locals ≡ length self.old.text.locals) }
         ensures labels { self.new.labels ≡ self.old.labels }
     {
-        let kind = StatementKind::Assign(whole(alloc, x), value);
-        self.text.put(Statement { span, kind })
+        self.put_at(span, whole(alloc, x), value)
     }
 
     pub(crate) fn put_constant(

@@ -4,10 +4,11 @@ ghost use Rattle.std.specs.Option.{option_copied};
 ghost use Rattle.type_check.specs.TypedExpr.{assign, update, branch, choice, repeat, call};
 ghost use Rattle.type_check.specs.TypedExprView.{ty_of, span_of, stmts_of, exprs_of, typed_size};
 ghost use Rattle.type_check.specs.WellTyped.{unit};
+ghost use Rattle.mir_ir.specs.declared.place.Operand.TheVariants.{Copy};
 ghost use Rattle.mir_ir.specs.declared.statement.Rvalue.TheVariants.{Use, Binary};
 ghost use Rattle.mir_ir.specs.declared.terminator.TerminatorKind.TheVariants.{Goto};
 ghost use Rattle.mir_build.specs.Text.{Makes, Turns, Owns};
-ghost use Rattle.mir_build.specs.Lowering.{copied, moved, puts, put_unit, ends, dies_in, at, at_head, looping, head_of};
+ghost use Rattle.mir_build.specs.Lowering.{moved, puts_at, puts, put_unit, ends, dies_in, at, at_head, looping, head_of};
 ghost use Rattle.mir_build.specs.Numbered.{into, rest, args, loop_text, between, temporaries, label, labels, labels_of, labels_in, locals, locals_of, locals_in};
 ghost use Rattle.mir_build.specs.Built.{written, around, outside, end_of};
 ghost use Rattle.mir_build.specs.Bindings.{all_die};
@@ -15,12 +16,12 @@ ghost use Rattle.mir_build.specs.Tasks.{to_do, lazy_text, task_text, behind_labe
 ghost use Rattle.mir_build.specs.declared.task.Task.TheVariants.{Lower, Finish};
 ghost use Rattle.mir_build.specs.declared.stop.Stop.TheVariants.{Blocks};
 
-use crate::around::{Around, head_of, local_of, nest};
-use crate::builder::{Builder, copied, moved, whole};
+use crate::around::{Around, head_of, nest, same_place, variable_place};
+use crate::builder::{Builder, moved, whole};
 use crate::stop::Stop;
 use crate::task::{Behind, Pending, Task};
 use logic_term::{Label, Ty};
-use mir_ir::{Callee, FnId, Lit, Operand, Rvalue, Terminator, TerminatorKind};
+use mir_ir::{Callee, FnId, Lit, Operand, Place, Rvalue, Terminator, TerminatorKind};
 use source_kinds::{BinaryOp, LazyOp};
 use std::alloc::Global;
 use text_core::{Items, NoMemory, Span};
@@ -174,8 +175,8 @@ fn lower_left<'a>(
         TypedNode::Int(z, k) => Ok(b.put_constant(alloc, span, d, Lit::Int(*z, *k))?),
         TypedNode::Truth(v) => Ok(b.put_constant(alloc, span, d, Lit::Bool(*v))?),
         TypedNode::Variable(v) => {
-            let x = local_of(c.scope.as_slice(), *v);
-            Ok(b.put(alloc, span, d, Rvalue::Use(copied(alloc, x)))?)
+            let place = variable_place(alloc, c.scope.as_slice(), *v)?;
+            Ok(b.put(alloc, span, d, Rvalue::Use(Operand::Copy(place)))?)
         }
         TypedNode::Neg(x) => {
             let t = lower_new(alloc, b, c, x)?;
@@ -224,7 +225,9 @@ fn lower_behind(
             b.put(alloc, span, x, Rvalue::Use(moved(alloc, value)))?;
             Ok(b.put_unit(alloc, span, d)?)
         }
-        Behind::UpdateValue(op, ty, value) => put_update(alloc, b, span, op, x, ty, value, d),
+        Behind::UpdateValue(op, ty, value) => {
+            put_update(alloc, b, span, op, whole(alloc, x), ty, value, d)
+        }
     }
 }
 
@@ -248,8 +251,8 @@ fn lower_assign(
     ensures around { OnOk result (around c.new ≡ around c.old) }
 {
     let t = lower_new(alloc, b, c, x)?;
-    let to = local_of(c.scope.as_slice(), v);
-    b.put(alloc, span, to, Rvalue::Use(moved(alloc, t)))?;
+    let to = variable_place(alloc, c.scope.as_slice(), v)?;
+    b.put_at(span, to, Rvalue::Use(moved(alloc, t)))?;
     Ok(b.put_unit(alloc, span, d)?)
 }
 
@@ -274,7 +277,7 @@ fn lower_update(
     ensures around { OnOk result (around c.new ≡ around c.old) }
 {
     let t = lower_new(alloc, b, c, x)?;
-    let to = local_of(c.scope.as_slice(), v);
+    let to = variable_place(alloc, c.scope.as_slice(), v)?;
     put_update(alloc, b, span, op, to, type_of(x), t, d)
 }
 
@@ -285,20 +288,21 @@ fn put_update(
     b: &mut Builder,
     span: Span,
     op: BinaryOp,
-    to: u32,
+    to: Place,
     ty: &Ty,
     t: u32,
     d: u32,
 ) -> Result<(), Stop>
-    ensures text { OnOk result (b.new.text ≡ written (let u = length b.old.text.locals in Makes u ty.now ∷ puts span u (Binary op (copied to) (moved t)) ∷ puts span to (Use (moved u)) ∷ put_unit span d ∷ []) b.old.text) }
+    ensures text { OnOk result (b.new.text ≡ written (let u = length b.old.text.locals in Makes u ty.now ∷ puts span u (Binary op (Copy to) (moved t)) ∷ puts_at span to (Use (moved u)) ∷ put_unit span d ∷ []) b.old.text) }
     ensures labels { OnOk result (b.new.labels ≡ b.old.labels) }
     ensures locals { OnOk result (length b.new.text.locals ≡ length b.old.text.locals + 1) }
     ensures limit { IfErr result (λ stop. stop ≡ Blocks → ⊥) }
 {
     let u = b.make(alloc, ty)?;
-    let value = Rvalue::Binary(op, copied(alloc, to), moved(alloc, t));
+    let old = Operand::Copy(same_place(alloc, &to)?);
+    let value = Rvalue::Binary(op, old, moved(alloc, t));
     b.put(alloc, span, u, value)?;
-    b.put(alloc, span, to, Rvalue::Use(moved(alloc, u)))?;
+    b.put_at(span, to, Rvalue::Use(moved(alloc, u)))?;
     b.put_unit(alloc, span, d)?;
     Ok(())
 }
@@ -585,7 +589,7 @@ pub(crate) fn lower_rest(
     for statement in statements {
         let t = lower_new(alloc, b, c, &statement.value)?;
         if statement.binds {
-            c.scope.push(t)?;
+            c.scope.push(whole(alloc, t))?;
         }
     }
     match last {
@@ -613,10 +617,10 @@ fn end_bindings(
     ensures loops { OnOk result (c.new.loops ≡ c.old.loops) }
 {
     while c.scope.len() > before {
-        let Some(local) = c.scope.pop() else {
+        let Some(place) = c.scope.pop() else {
             return Ok(());
         };
-        end_binding(b, outer, span, local)?;
+        end_binding(b, outer, span, place.local)?;
     }
     Ok(())
 }

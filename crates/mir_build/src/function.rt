@@ -3,30 +3,30 @@ ghost use Rattle.std.specs.Prelude.{◌≡◌, ℕ, ◌+◌, ◌≤◌, ◌<◌,
 ghost use Rattle.text_core.specs.Names.{text_of};
 ghost use Rattle.type_check.specs.WellTyped.{FunctionFits};
 ghost use Rattle.type_check.specs.declared.program.Signature.{Signature};
-ghost use Rattle.mir_build.specs.Lowering.{counted, local_name, LowersTo};
+ghost use Rattle.mir_build.specs.Lowering.{counted, whole, local_name, LowersTo};
 ghost use Rattle.mir_build.specs.Numbered.{body_text, labels};
 ghost use Rattle.mir_build.specs.Built.{written, around};
 ghost use Rattle.mir_build.specs.Whole.{built, body_of, FailsFor};
 ghost use Rattle.mir_build.specs.declared.stop.Stop.TheVariants.{Blocks};
 
 use crate::around::{Around, local_name};
-use crate::builder::{BodyText, Builder, MOST_BLOCKS};
+use crate::builder::{BodyText, Builder, MOST_BLOCKS, whole};
 use crate::expression::{lower_into, lower_rest, value_span};
 use crate::stop::Stop;
 use logic_term::{Label, Ty};
-use mir_ir::{Body, Initialised, Terminator, TerminatorKind};
+use mir_ir::{Body, Initialised, Place, Terminator, TerminatorKind};
 use std::alloc::Global;
 use text_core::{Items, Limit, LimitKind, Name, Names, NoMemory, PassError, Text};
 use type_check::{Signature, TypedExpr, TypedFunction, TypedNode};
 
-/// The locals that the parameters are. Want of memory is answered too where a number would pass 32 bits.
-fn parameter_locals(alloc: Global, params: &[Ty]) -> Result<Vec<u32>, NoMemory>
-    ensures { IfOk result (λ v. v.items ≡ counted 1 params.now) }
+/// The places of the parameters. Want of memory is answered too where a number would pass 32 bits.
+fn parameter_places(alloc: Global, params: &[Ty]) -> Result<Vec<Place>, NoMemory>
+    ensures { IfOk result (λ v. v.items ≡ map whole (counted 1 params.now)) }
 {
     let mut all = Vec::new(alloc);
     let mut local: u32 = 1;
     for _ty in params {
-        all.push(local)?;
+        all.push(whole(alloc, local))?;
         local = local.checked_add(1).ok_or(NoMemory)?;
     }
     Ok(all)
@@ -84,7 +84,7 @@ fn lower_text(alloc: Global, f: &TypedFunction) -> Result<BodyText, Stop>
     ensures limit { IfErr result (λ stop. stop ≡ Blocks → 4096 < 1 + labels f.now.body) }
 {
     let locals = first_locals(alloc, &f.signature)?;
-    let scope = parameter_locals(alloc, f.signature.params.as_slice())?;
+    let scope = parameter_places(alloc, f.signature.params.as_slice())?;
     let mut c = Around {
         scope,
         loops: Vec::new(alloc),

@@ -1,6 +1,7 @@
-use Rattle.std.proofs.Common.{◌≡◌, ℕ, Bool, true, false, List, ◌∙◌, ap, sym, length, arith, append_assoc}
+use Rattle.std.proofs.Common.{◌≡◌, Bool, true, false, List, [], ◌∷◌, ◌++◌, ◌∙◌, ap, sym, length, arith, append_assoc}
 use Rattle.std.specs.Option.{option_copied}
 use Rattle.type_check.specs.TypedExpr.{done, last}
+use Rattle.mir_ir.specs.declared.place.Place.{Place}
 use Rattle.mir_build.specs.Lowering.{Around, binds}
 use Rattle.mir_build.specs.Numbered.{rest}
 use Rattle.mir_build.specs.Built.{written, around, end_of}
@@ -50,7 +51,8 @@ lower_rest-loop-statement-preserved t c =
         true,
         w.if-statement.true,
         ap around w.c-is
-            ∙ ap (λ (xs : List ℕ). let r : Around = record { scope = xs; loops = c.lower_new.new.c.loops.items } in r) w.in_ok-push.ensures.items ∙ ap (λ (a : Around). binds a x) c.in_ok-t.ensures.around,
+            ∙ ap (λ (xs : List Place). let r : Around = record { scope = xs; loops = c.lower_new.new.c.loops.items } in r) w.in_ok-push.ensures.items
+            ∙ ap (λ (p : Place). let r : Around = record { scope = c.lower_new.new.c.scope.items ++ p ∷ []; loops = c.lower_new.new.c.loops.items } in r) w.whole.ensures ∙ ap (λ (a : Around). binds a x) c.in_ok-t.ensures.around,
       )
       | lower_rest-else-statement w ↦ (false, w.if-statement.false, ap around w.c-is ∙ c.in_ok-t.ensures.around)
     ] in

@@ -12,7 +12,7 @@ loop-span-preserved c =
     let outer = c.args.outer in
     let s = c.args.span in
     let n = c.args.before in
-    let x = c.in-Some.local in
+    let x = c.in-Some.place in
     let left = c.pop.new.self.items in
     let is = c.in-Some.ensures.items in
     let text = c.loop-span.b.text in
@@ -20,7 +20,7 @@ loop-span-preserved c =
     record {
       text =
           ap (λ t. written (all_die outer s (drop n left)) t) c.in_ok-end_binding.ensures.text
-          ∙ sym (written-append (dies_in outer s x) (all_die outer s (drop n left)) text)
+          ∙ sym (written-append (dies_in outer s x.local) (all_die outer s (drop n left)) text)
           ∙ ap (λ xs. written xs text) (sym (one_more outer s n left x within) ∙ ap (λ xs. all_die outer s (drop n xs)) (sym is))
           ∙ c.loop-span.invariant.text;
       labels = c.in_ok-end_binding.ensures.labels ∙ c.loop-span.invariant.labels;
