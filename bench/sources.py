@@ -1,5 +1,5 @@
 """Writes a source and its proofs: many functions of sums with bounds, or of loops and calls; one function of many additions
-in a row; a contract or a body of many operators in one another; or a long source that is refused at its last token, at its last word, or at its first item."""
+in a row, or of statements, with `if`s among them or without; a contract or a body of many operators in one another; or a long source that is refused at its last token, at its last word, or at its first item."""
 import sys
 
 
@@ -37,6 +37,23 @@ def loop_function(k):
 def additions(count):
     """One function of so many additions in a row, without proofs: what is measured is how long its goals take."""
     return f"fn f(x: u64) -> u64 {{ x{' + x' * count} }}\n", ""
+
+
+def statements(count):
+    """One function of so many statements in a row, each with a goal."""
+    return "fn f(x: u64) {\n    let mut y: u64 = x;\n" + "    y = y + 1;\n" * count + "}\n", ""
+
+
+def branches(count):
+    """Ten `if`s, the most that the limit on paths allows, with so many statements before and behind them."""
+    row = "    y = y + 1;\n" * count
+    tests = "    if c { y = y + 1; }\n" * 10
+    return "fn f(c: bool, x: u64) {\n    let mut y: u64 = x;\n" + row + tests + row + "}\n", ""
+
+
+def flat(size):
+    """Some `size` bytes of statements in a row that owe nothing."""
+    return "fn f(x: i32) {\n" + "x;" * (size // 2) + "\n}\n", ""
 
 
 def nested(leaf, count):
@@ -78,7 +95,7 @@ def not_built_source(size):
 
 
 def texts_of(kind, count):
-    made = {"additions": additions, "deep_term": deep_term, "deep_code": deep_code, "long": long_source, "no_token": no_token_source, "not_built": not_built_source}
+    made = {"additions": additions, "statements": statements, "branches": branches, "flat": flat, "deep_term": deep_term, "deep_code": deep_code, "long": long_source, "no_token": no_token_source, "not_built": not_built_source}
     if kind in made:
         return [made[kind](count)]
     function = {"sums": sum_function, "loops": loop_function}[kind]

@@ -196,12 +196,7 @@ impl Builder {
     }
 
     /// Writes the value to the place.
-    pub(crate) fn put_at(
-        &mut self,
-        span: Span,
-        place: Place,
-        value: Rvalue,
-    ) -> Result<(), NoMemory>
+    pub(crate) fn put_at(&mut self, span: Span, place: Place, value: Rvalue) -> Result<(), NoMemory>
         ensures text { OnOk result (self.new.text ≡ written (puts_at span place value ∷ []) self.old.text) }
         ensures locals { OnOk result (length self.new.text.locals ≡ length self.old.text.locals) }
         ensures labels { self.new.labels ≡ self.old.labels }
