@@ -1,5 +1,5 @@
 -- What a call answers, and that what it lists is good.
-use Rattle.std.proofs.Common.{◌≡◌, ◌≢◌, ◌∙◌, ◌⊎◌, ◌↔◌, inl, inr, refl, sym, ap, subst, ℕ, ◌<◌, ◌≤◌, ◌==◌, Bool, false, List, [], ◌∷◌, length, Option, None, Some, Result, Ok, Err, arith}
+use Rattle.std.proofs.Common.{◌≡◌, ◌≢◌, ◌∙◌, ◌⊎◌, ◌↔◌, inl, inr, refl, sym, ap, subst, ℕ, zero, suc, ◌<◌, ◌≤◌, ◌==◌, Bool, false, List, [], ◌∷◌, length, Option, None, Some, Result, Ok, Err, arith}
 use Rattle.std.specs.Prelude.{if◌then◌else◌, IfOk}
 use Rattle.std.specs.Io.KnownBytes.{Appends}
 use Rattle.text_core.specs.Counts.{Rose}
@@ -217,30 +217,65 @@ zero_or_one (x ∷ xs) s e =
     let one : s ≡ 1 = e ∙ ap (λ (b : Bool). if b then 0 else 1) (some_left x xs) in
     omega arith
 
-source_not_five : (f : Fetched) {s : ℕ} {bytes : List ℕ} → RefusesFetched f s bytes → s ≡ 5 → ⊥
-source_not_five f (RefusesFetched.source_long is far) e = omega arith
-source_not_five f (RefusesFetched.source_refused is short refused) e = omega arith
-source_not_five f (RefusesFetched.limit_passed is short past) e = omega arith
+-- the statuses that answers have
+abbrev IsAnswered : ℕ → Type 0
+IsAnswered s = (s ≤ 4) ⊎ (s ≡ 7)
 
-proofs_not_five : (source : List ℕ) (p : Program) (o : Option Fetched) {s : ℕ} {bytes : List ℕ} → AnswersVerify source p o s bytes → s ≡ 5 → ⊥
-proofs_not_five source p o (AnswersVerify.proofs_long is far) e = omega arith
-proofs_not_five source p o (AnswersVerify.proofs_refused bytes is short bad) e = omega arith
-proofs_not_five source p o (AnswersVerify.reported {v} proofs are verdict) e = omega (arith, zero_or_one v.left (status_of v) refl)
+source_status : (f : Fetched) {s : ℕ} {bytes : List ℕ} → RefusesFetched f s bytes → IsAnswered s
+source_status f (RefusesFetched.source_long is far) = inr refl
+source_status f (RefusesFetched.source_refused is short refused) = inl (omega arith)
+source_status f (RefusesFetched.limit_passed is short past) = inr refl
 
-list_not_five : (source : List ℕ) (p : Program) {s : ℕ} {bytes : List ℕ} → AnswersList source p s bytes → s ≡ 5 → ⊥
-list_not_five source p AnswersList.listed e = omega arith
+proofs_status : (source : List ℕ) (p : Program) (o : Option Fetched) {s : ℕ} {bytes : List ℕ} → AnswersVerify source p o s bytes → IsAnswered s
+proofs_status source p o (AnswersVerify.proofs_long is far) = inr refl
+proofs_status source p o (AnswersVerify.proofs_refused bytes is short bad) = inl (omega arith)
+proofs_status source p o (AnswersVerify.reported {v} proofs are verdict) = inl (omega (arith, zero_or_one v.left (status_of v) refl))
 
-verb_not_five : (v : Verb) (source : List ℕ) (p : Program) (o : Option Fetched) (s : ℕ) (bytes : List ℕ) → DoesVerb v source p o s bytes → s ≡ 5 → ⊥
-verb_not_five Verify source p o s bytes does e = proofs_not_five source p o does e
-verb_not_five Listing source p o s bytes does e = list_not_five source p does e
+list_status : (source : List ℕ) (p : Program) {s : ℕ} {bytes : List ℕ} → AnswersList source p s bytes → IsAnswered s
+list_status source p AnswersList.listed = inl (omega arith)
 
-not_five : (shelf : Option Files) (a : Option Asked) (s : ℕ) (bytes : List ℕ) → AnswersWords shelf a s bytes → s ≡ 5 → ⊥
-not_five shelf None s bytes answers e = omega (arith, answers.0)
-not_five shelf (Some a) s bytes (Answers.by_source f at refuses) e = source_not_five f refuses e
-not_five shelf (Some a) s bytes (Answers.by_verb source p proofs has read does) e = verb_not_five a.verb source p proofs s bytes does e
+verb_status : (v : Verb) (source : List ℕ) (p : Program) (o : Option Fetched) (s : ℕ) (bytes : List ℕ) → DoesVerb v source p o s bytes → IsAnswered s
+verb_status Verify source p o s bytes does = proofs_status source p o does
+verb_status Listing source p o s bytes does = list_status source p does
+
+answered_status : (shelf : Option Files) (a : Option Asked) (s : ℕ) (bytes : List ℕ) → AnswersWords shelf a s bytes → IsAnswered s
+answered_status shelf None s bytes answers = inl (omega (arith, answers.0))
+answered_status shelf (Some a) s bytes (Answers.by_source f at refuses) = source_status f refuses
+answered_status shelf (Some a) s bytes (Answers.by_verb source p proofs has read does) = verb_status a.verb source p proofs s bytes does
+
+no_fault : (s n : ℕ) → IsAnswered s → 4 < n → n < 7 → s ≡ n → ⊥
+no_fault s n (inl small) l m e = omega arith
+no_fault s n (inr seven) l m e = omega arith
+
+-- no answer says that the output failed
+pub never_planned_six : (shelf : Option Files) (a : Option Asked) (planned : ℕ) (told : List ℕ) → AnswersWords shelf a planned told → planned ≢ 6
+never_planned_six shelf a planned told answers = λ e. no_fault planned 6 (answered_status shelf a planned told answers) (omega arith) (omega arith) e
 
 pub never_five : (shelf : Option Files) (a : Option Asked) (planned result : ℕ) (told : List ℕ) (before after : Option (List ℕ)) → AnswersWords shelf a planned told →
     (result ≢ 6 → result ≢ 8 → (result ≡ planned) × Appends before after told) → result ≡ 5 → ⊥
 never_five shelf a planned result told before after answers printed e =
     let is = printed (λ six. omega arith) (λ eight. omega arith) in
-    not_five shelf a planned told answers (sym is.0 ∙ e)
+    no_fault planned 5 (answered_status shelf a planned told answers) (omega arith) (omega arith) (sym is.0 ∙ e)
+
+at_most_or : (n m : ℕ) → (n ≤ m) ⊎ (m < n)
+at_most_or zero m = inl (omega arith)
+at_most_or (suc n) zero = inr (omega arith)
+at_most_or (suc n) (suc m) = elim (at_most_or n m) [
+  | inl small ↦ inl (omega (arith, small))
+  | inr large ↦ inr (omega (arith, large))
+]
+
+small_status : (s : ℕ) → IsAnswered s → s ≤ 8
+small_status s (inl small) = omega (arith, small)
+small_status s (inr seven) = omega (arith, seven)
+
+-- each status is one of the table
+pub at_most_eight : (shelf : Option Files) (a : Option Asked) (planned result : ℕ) (told : List ℕ) (before after : Option (List ℕ)) → AnswersWords shelf a planned told →
+    (result ≢ 6 → result ≢ 8 → (result ≡ planned) × Appends before after told) → result ≤ 8
+at_most_eight shelf a planned result told before after answers printed = by_size (at_most_or result 8)
+  where
+    by_size : (result ≤ 8) ⊎ (8 < result) → result ≤ 8
+    by_size (inl small) = small
+    by_size (inr large) =
+        let is = printed (λ six. omega (arith, large, six)) (λ eight. omega (arith, large, eight)) in
+        omega (arith, is.0, small_status planned (answered_status shelf a planned told answers))
