@@ -40,7 +40,7 @@ label n = record { 0 = n }
 -- body n of one parameter, whose first block has label 0
 abbrev pub body_of : ℕ → List Ty → List Name → List (Label × Block) → Body
 body_of id tys names blocks =
-    record { id = id; owner = codes "f"; types = []; params = 1; locals = tys; names = names; outlives = []; entry = label 0; blocks = blocks; span = sample_span }
+    record { id = id; owner = codes "f"; types = []; params = 1; locals = tys; names = names; outlives = []; calls = []; entry = label 0; blocks = blocks; span = sample_span; types_at = [] }
 
 abbrev pub name : ℕ → Name
 name n = record { 0 = n }

@@ -31,7 +31,7 @@ sample_names = record { 0 = 100 } ∷ record { 0 = 101 } ∷ record { 0 = 102 } 
 
 abbrev pub body_of : List Ty → List (Label × Block) → Body
 body_of tys blocks =
-    record { id = 0; owner = codes "f"; types = []; params = 1; locals = tys; names = sample_names; outlives = []; entry = label 0; blocks = blocks; span = end_span }
+    record { id = 0; owner = codes "f"; types = []; params = 1; locals = tys; names = sample_names; outlives = []; calls = []; entry = label 0; blocks = blocks; span = end_span; types_at = [] }
 
 abbrev pub whole : ℕ → Place
 whole x = record { local = x; path = [] }

@@ -39,9 +39,11 @@ fn body_of(alloc: Global, labels: &[u32]) -> Result<Body, NoMemory>
         locals: Items::new(alloc),
         names: Items::new(alloc),
         outlives: Items::new(alloc),
+        calls: Items::new(alloc),
         entry: Label(0),
         blocks,
         span: Span { start: 0, end: 9 },
+        types_at: Items::new(alloc),
     })
 }
 

@@ -4,7 +4,7 @@ ghost use Rattle.machine_tests.specs.Walked.{block_of, body_of, whole, straight,
 
 use logic_term::{Contract, Label, Obligation, Term, Ty, TyNode};
 use mir_ir::{
-    Block, Body, Callee, FnId, Head, Initialised, Lit, Operand, Place, Rvalue, Statement,
+    Block, Body, Callee, Contracts, FnId, Head, Initialised, Lit, Operand, Place, Rvalue, Statement,
     StatementKind, Terminator, TerminatorKind,
 };
 use source_kinds::{ArithOp, BinaryOp, IntKind};
@@ -67,9 +67,11 @@ fn body(alloc: Global, locals: Items<Ty>, blocks: Items<(Label, Block)>) -> Resu
         locals,
         names: Items::from_slice(alloc, &[Name(100), Name(101), Name(102)])?,
         outlives: Items::new(alloc),
+        calls: Items::new(alloc),
         entry: Label(0),
         blocks,
         span: END,
+        types_at: Items::new(alloc),
     })
 }
 
@@ -239,6 +241,14 @@ fn is_small(alloc: Global) -> Result<Term, NoMemory> {
     Term::less(alloc, number, Term::integer(alloc, 100)?)
 }
 
+fn contracts_of(alloc: Global, of: Items<Contract>) -> Contracts {
+    Contracts {
+        of,
+        traits: Items::new(alloc),
+        intrinsics: Items::new(alloc),
+    }
+}
+
 /// `requires x@ < 100`, `ensures result@ == x@ + 1`
 fn contract(alloc: Global) -> Result<Contract, NoMemory> {
     let pre = Span { start: 70, end: 71 };
@@ -288,7 +298,7 @@ fn of_operation(alloc: Global, kind: IntKind, op: BinaryOp) -> Result<Vec<Obliga
     let body = straight(alloc, locals(alloc, kind)?, statements)?;
     let walk = Walk {
         body: &body,
-        contracts: &[],
+        contracts: &contracts_of(alloc, Items::new(alloc)),
         contract: &contract(alloc)?,
         init: &nothing_gone(alloc),
     };
@@ -303,7 +313,7 @@ fn of_branch(alloc: Global) -> Result<Vec<Obligation>, PassError> {
     let body = branching(alloc, types, copied(alloc, 2), yes, no)?;
     let walk = Walk {
         body: &body,
-        contracts: &[],
+        contracts: &contracts_of(alloc, Items::new(alloc)),
         contract: &contract(alloc)?,
         init: &nothing_gone(alloc),
     };
@@ -322,7 +332,7 @@ fn of_loop(alloc: Global) -> Result<Vec<Obligation>, PassError> {
     let body = looping(alloc, types, head, copied(alloc, 2), step)?;
     let walk = Walk {
         body: &body,
-        contracts: &[],
+        contracts: &contracts_of(alloc, Items::new(alloc)),
         contract: &contract(alloc)?,
         init: &nothing_gone(alloc),
     };
@@ -331,13 +341,13 @@ fn of_loop(alloc: Global) -> Result<Vec<Obligation>, PassError> {
 
 /// The obligations of a body that answers what another function answers of x.
 fn of_call(alloc: Global) -> Result<Vec<Obligation>, PassError> {
-    let contracts = one(alloc, contract(alloc)?)?;
+    let contracts = contracts_of(alloc, one(alloc, contract(alloc)?)?);
     let args = one(alloc, copied(alloc, 1))?;
     let (answer, param) = (Ty::int(IntKind::I32), Ty::int(IntKind::I32));
     let body = calling(alloc, answer, param, args)?;
     let walk = Walk {
         body: &body,
-        contracts: contracts.as_slice(),
+        contracts: &contracts,
         contract: &contract(alloc)?,
         init: &nothing_gone(alloc),
     };
@@ -376,7 +386,7 @@ fn room_behind(alloc: Global, posts: u32) -> Result<Option<u32>, NoMemory> {
     let body = eight_paths(alloc)?;
     let walk = Walk {
         body: &body,
-        contracts: &[],
+        contracts: &contracts_of(alloc, Items::new(alloc)),
         contract: &promising(alloc, posts)?,
         init: &nothing_gone(alloc),
     };
@@ -388,7 +398,7 @@ fn limit_of(alloc: Global, posts: u32) -> Result<Option<Limit>, PassError> {
     let body = eight_paths(alloc)?;
     let walk = Walk {
         body: &body,
-        contracts: &[],
+        contracts: &contracts_of(alloc, Items::new(alloc)),
         contract: &promising(alloc, posts)?,
         init: &nothing_gone(alloc),
     };
@@ -404,7 +414,7 @@ fn counted_from(alloc: Global, posts: u32, first: u32) -> Result<Vec<Obligation>
     let body = eight_paths(alloc)?;
     let walk = Walk {
         body: &body,
-        contracts: &[],
+        contracts: &contracts_of(alloc, Items::new(alloc)),
         contract: &promising(alloc, posts)?,
         init: &nothing_gone(alloc),
     };

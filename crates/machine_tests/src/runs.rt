@@ -115,9 +115,11 @@ fn sample(alloc: Global, answer: Ty, param: Ty, value: Rvalue) -> Result<Bodies,
         locals,
         names: Items::from_slice(alloc, &[Name(100), Name(101)])?,
         outlives: Items::new(alloc),
+        calls: Items::new(alloc),
         entry: Label(0),
         blocks: one(alloc, (Label(0), block))?,
         span: SPAN,
+        types_at: Items::new(alloc),
     };
     Ok(of_bodies(alloc, one(alloc, body)?))
 }
@@ -193,9 +195,11 @@ fn absolute(alloc: Global) -> Result<Body, NoMemory>
         locals,
         names: Items::from_slice(alloc, &[Name(100), Name(101), Name(102)])?,
         outlives: Items::new(alloc),
+        calls: Items::new(alloc),
         entry: Label(0),
         blocks,
         span: SPAN,
+        types_at: Items::new(alloc),
     })
 }
 
@@ -224,9 +228,11 @@ fn calling(alloc: Global) -> Result<Body, NoMemory>
         locals,
         names: Items::from_slice(alloc, &[Name(100), Name(101)])?,
         outlives: Items::new(alloc),
+        calls: Items::new(alloc),
         entry: Label(0),
         blocks,
         span: SPAN,
+        types_at: Items::new(alloc),
     })
 }
 

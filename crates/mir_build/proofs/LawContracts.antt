@@ -70,7 +70,7 @@ spans_behind : (rs es : List Assertion) → length (drop (length (map formula rs
 spans_behind rs es =
     omega (arith, length-drop (length (map formula rs)) (map formula_span rs ++ map formula_span es), length-append (map formula_span rs) (map formula_span es), map_length formula rs, map_length formula_span rs, map_length formula_span es, map_length formula es)
 
-module _ (owner : List ℕ) (f : TypedFunction) (b : Body) (gone : Initialised) (l : LowersTo owner f b gone) (σ : List Signature) (fits : FunctionFits σ f) where
+module _ (owner : List ℕ) (f : TypedFunction) (b : Body) (gone : Initialised) {τ : List Signature} (l : LowersTo τ owner f b gone) (σ : List Signature) (fits : FunctionFits σ f) where
   variable_at : (i : ℕ) (x : Name) → slice_get (map variable_name (counted 0 f.signature.params)) i ≡ Some x → (x.0 ≡ (variable_name i).0) × (i ≤ 2 ^ 32)
   variable_at i x e =
       let w = counted_at variable_name 0 f.signature.params i x e in

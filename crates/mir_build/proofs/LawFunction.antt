@@ -98,7 +98,7 @@ module _ (σ : List Signature) (bodies : Bodies) (b : Body) (callees : (n : ℕ)
 
 -- ---- the function's own locals
 
-module _ (owner : List ℕ) (f : TypedFunction) (b : Body) (gone : Initialised) (l : LowersTo owner f b gone) where
+module _ (owner : List ℕ) (f : TypedFunction) (b : Body) (gone : Initialised) {τ : List Signature} (l : LowersTo τ owner f b gone) where
   pub locals_fit : MadeFits b (all_locals f l.text)
   locals_fit = record { fits = λ x t h. let w = has_place (x, t) (all_locals f l.text) h in l.locals w.0 x t w.1 }
 

@@ -181,7 +181,7 @@ text_built bodies b (Makes x t ∷ xs) h = first_built x t (made xs) h.0 (text_b
 text_built bodies b (Turns t k ∷ xs) h = text_built bodies b xs h.2
 text_built bodies b (Owns l ys ∷ xs) h = text_built bodies b xs h
 
-module _ (owner : List ℕ) (f : TypedFunction) (b : Body) (gone : Initialised) (l : LowersTo owner f b gone) where
+module _ (owner : List ℕ) (f : TypedFunction) (b : Body) (gone : Initialised) {τ : List Signature} (l : LowersTo τ owner f b gone) where
   name_at : (x : ℕ) (n : Name) → slice_get b.names x ≡ Some n → (n ≡ local_name x) × (x < length b.locals)
   name_at x n e =
       let w = counted_at local_name 0 b.locals x n (sym (ap (λ ns. slice_get ns x) l.names) ∙ e) in

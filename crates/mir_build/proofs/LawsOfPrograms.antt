@@ -3,6 +3,7 @@ use Rattle.std.proofs.Common.{◌≡◌, refl, ap, sym, ◌∙◌, subst, ℕ, z
 use Rattle.logic_term.specs.declared.obligation.Contract.{Contract}
 use Rattle.logic_term.specs.Ty.{Ty}
 use Rattle.mir_ir.specs.declared.body.Body.{Body}
+use Rattle.mir_ir.specs.declared.body.Contracts.{Contracts}
 use Rattle.mir_ir.specs.declared.body.Initialised.{Initialised}
 use Rattle.mir_ir.specs.WellFormed.{IsTyped, Labelling, MeetsMoveRows}
 use Rattle.type_check.specs.declared.program.Signature.{Signature}
@@ -23,7 +24,7 @@ some_same : {A : Type 0} {a b : A} → Some a ≡ Some b → a ≡ b
 some_same e = cc
 
 -- the function of a place, and its body; the first function has this number
-pub record FunctionAt (first : ℕ) (fs : List TypedFunction) (bs : List Body) (cs : List Contract) (gones : List Initialised) (n : ℕ) (f : TypedFunction) (b : Body) : Type 0 where
+pub record FunctionAt (σ : List Signature) (first : ℕ) (fs : List TypedFunction) (bs : List Body) (cs : List Contract) (gones : List Initialised) (n : ℕ) (f : TypedFunction) (b : Body) : Type 0 where
   pub owner : List ℕ
   pub gone : Initialised
   pub is_function : slice_get fs n ≡ Some f
@@ -31,27 +32,27 @@ pub record FunctionAt (first : ℕ) (fs : List TypedFunction) (bs : List Body) (
   pub is_number : b.id ≡ first + n
   pub is_contract : slice_get cs n ≡ Some (contract_of f)
   pub is_gone : slice_get gones n ≡ Some gone
-  pub lowers : LowersTo owner f b gone
+  pub lowers : LowersTo σ owner f b gone
 
-further : (first : ℕ) (f : TypedFunction) (fs : List TypedFunction) (b : Body) (bs : List Body) (c : Contract) (cs : List Contract) (g : Initialised) (gs : List Initialised) (n : ℕ) (h : TypedFunction) (k : Body)
-    → FunctionAt (suc first) fs bs cs gs n h k → FunctionAt first (f ∷ fs) (b ∷ bs) (c ∷ cs) (g ∷ gs) (suc n) h k
-further first f fs b bs c cs g gs n h k w = record { owner = w.owner; gone = w.gone; is_function = w.is_function; is_body = w.is_body; is_number = omega (arith, w.is_number); is_contract = w.is_contract; is_gone = w.is_gone; lowers = w.lowers }
+further : (σ : List Signature) (first : ℕ) (f : TypedFunction) (fs : List TypedFunction) (b : Body) (bs : List Body) (c : Contract) (cs : List Contract) (g : Initialised) (gs : List Initialised) (n : ℕ) (h : TypedFunction) (k : Body)
+    → FunctionAt σ (suc first) fs bs cs gs n h k → FunctionAt σ first (f ∷ fs) (b ∷ bs) (c ∷ cs) (g ∷ gs) (suc n) h k
+further σ first f fs b bs c cs g gs n h k w = record { owner = w.owner; gone = w.gone; is_function = w.is_function; is_body = w.is_body; is_number = omega (arith, w.is_number); is_contract = w.is_contract; is_gone = w.is_gone; lowers = w.lowers }
 
-pub of_body : (table : List (List ℕ)) (first : ℕ) (fs : List TypedFunction) (bs : List Body) (cs : List Contract) (gones : List Initialised) → EachLowersTo table first fs bs cs gones → (n : ℕ) (b : Body) → slice_get bs n ≡ Some b → (f : TypedFunction) × FunctionAt first fs bs cs gones n f b
-of_body table first fs bs cs gones no_functions n b e = absurd (cc)
-of_body table first fs bs cs gones (and_function {f = f} {b = k} {gone = gone} owner t l d r) zero b e =
-    (f, record { owner = owner; gone = gone; is_function = refl; is_body = e; is_number = ap (λ (m : Body). m.id) (sym (some_same e)) ∙ omega (arith, d); is_contract = refl; is_gone = refl; lowers = subst (λ m. LowersTo owner f m gone) (some_same e) l })
-of_body table first fs bs cs gones (and_function {f = f} {fs = fs'} {b = k} {bs = bs'} {cs = cs'} {gone = gone} {gones = gs'} owner t l d r) (suc n) b e =
-    let w = of_body table (suc first) fs' bs' cs' gs' r n b e in
-    (w.0, further first f fs' k bs' (contract_of f) cs' gone gs' n w.0 b w.1)
+pub of_body : (table : List (List ℕ)) (σ : List Signature) (first : ℕ) (fs : List TypedFunction) (bs : List Body) (cs : List Contract) (gones : List Initialised) → EachLowersTo table σ first fs bs cs gones → (n : ℕ) (b : Body) → slice_get bs n ≡ Some b → (f : TypedFunction) × FunctionAt σ first fs bs cs gones n f b
+of_body table σ first fs bs cs gones no_functions n b e = absurd (cc)
+of_body table σ first fs bs cs gones (and_function {f = f} {b = k} {gone = gone} owner t l d r) zero b e =
+    (f, record { owner = owner; gone = gone; is_function = refl; is_body = e; is_number = ap (λ (m : Body). m.id) (sym (some_same e)) ∙ omega (arith, d); is_contract = refl; is_gone = refl; lowers = subst (λ m. LowersTo σ owner f m gone) (some_same e) l })
+of_body table σ first fs bs cs gones (and_function {f = f} {fs = fs'} {b = k} {bs = bs'} {cs = cs'} {gone = gone} {gones = gs'} owner t l d r) (suc n) b e =
+    let w = of_body table σ (suc first) fs' bs' cs' gs' r n b e in
+    (w.0, further σ first f fs' k bs' (contract_of f) cs' gone gs' n w.0 b w.1)
 
-pub of_function : (table : List (List ℕ)) (first : ℕ) (fs : List TypedFunction) (bs : List Body) (cs : List Contract) (gones : List Initialised) → EachLowersTo table first fs bs cs gones → (n : ℕ) (f : TypedFunction) → slice_get fs n ≡ Some f → (b : Body) × FunctionAt first fs bs cs gones n f b
-of_function table first fs bs cs gones no_functions n f e = absurd (cc)
-of_function table first fs bs cs gones (and_function {f = g} {b = k} {gone = gone} owner t l d r) zero f e =
-    (k, record { owner = owner; gone = gone; is_function = e; is_body = refl; is_number = omega (arith, d); is_contract = ap Some (ap contract_of (some_same e)); is_gone = refl; lowers = subst (λ m. LowersTo owner m k gone) (some_same e) l })
-of_function table first fs bs cs gones (and_function {f = g} {fs = fs'} {b = k} {bs = bs'} {cs = cs'} {gone = gone} {gones = gs'} owner t l d r) (suc n) f e =
-    let w = of_function table (suc first) fs' bs' cs' gs' r n f e in
-    (w.0, further first g fs' k bs' (contract_of g) cs' gone gs' n f w.0 w.1)
+pub of_function : (table : List (List ℕ)) (σ : List Signature) (first : ℕ) (fs : List TypedFunction) (bs : List Body) (cs : List Contract) (gones : List Initialised) → EachLowersTo table σ first fs bs cs gones → (n : ℕ) (f : TypedFunction) → slice_get fs n ≡ Some f → (b : Body) × FunctionAt σ first fs bs cs gones n f b
+of_function table σ first fs bs cs gones no_functions n f e = absurd (cc)
+of_function table σ first fs bs cs gones (and_function {f = g} {b = k} {gone = gone} owner t l d r) zero f e =
+    (k, record { owner = owner; gone = gone; is_function = e; is_body = refl; is_number = omega (arith, d); is_contract = ap Some (ap contract_of (some_same e)); is_gone = refl; lowers = subst (λ m. LowersTo σ owner m k gone) (some_same e) l })
+of_function table σ first fs bs cs gones (and_function {f = g} {fs = fs'} {b = k} {bs = bs'} {cs = cs'} {gone = gone} {gones = gs'} owner t l d r) (suc n) f e =
+    let w = of_function table σ (suc first) fs' bs' cs' gs' r n f e in
+    (w.0, further σ first g fs' k bs' (contract_of g) cs' gone gs' n f w.0 w.1)
 
 pub fits_at : (σ : List Signature) (fs : List TypedFunction) → EachFits σ fs → (n : ℕ) (f : TypedFunction) → slice_get fs n ≡ Some f → FunctionFits σ f
 fits_at σ [] h n f e = absurd (cc)
@@ -86,11 +87,11 @@ drop_one (x ∷ xs) i k e = ap (slice_get (x ∷ xs)) e
 one_on : (i : ℕ) → 1 + i ≡ suc i
 one_on i = omega arith
 
-module _ (table : List (List ℕ)) (fs : List TypedFunction) (bs : Bodies) (cs : List Contract) (gones : List Initialised) (l : Lowers table fs bs cs gones) where
+module _ (table : List (List ℕ)) (fs : List TypedFunction) (bs : Bodies) (cs : Contracts) (gones : List Initialised) (l : Lowers table fs bs cs gones) where
   callee : (n : ℕ) (g : Signature) → slice_get (signatures fs) n ≡ Some g → Callee bs n g
   callee n g e =
       let w = signature_at fs n g e in
-      let v = of_function table 0 fs bs.bodies cs gones l.lowers.each n w.0 w.1 in
+      let v = of_function table (signatures fs) 0 fs bs.bodies cs.of gones l.lowers.each n w.0 w.1 in
       let u = v.1.lowers in
       record {
         body = v.0;
@@ -108,8 +109,8 @@ module _ (table : List (List ℕ)) (fs : List TypedFunction) (bs : Bodies) (cs :
       subst (λ (s : Signature). IsBuilt s.answer) w.2 (fits_at (signatures fs) fs l.fits n w.0 w.1).answer
 
   module _ (n : ℕ) (b : Body) (is_body : slice_get bs.bodies n ≡ Some b) where
-    found : (f : TypedFunction) × FunctionAt 0 fs bs.bodies cs gones n f b
-    found = of_body table 0 fs bs.bodies cs gones l.lowers.each n b is_body
+    found : (f : TypedFunction) × FunctionAt (signatures fs) 0 fs bs.bodies cs.of gones n f b
+    found = of_body table (signatures fs) 0 fs bs.bodies cs.of gones l.lowers.each n b is_body
 
     number : b.id ≡ n
     number = omega (arith, found.1.is_number)
@@ -152,7 +153,7 @@ locals_have_built_types table fs bs cs gones l n b e x t h =
     let w = found table fs bs cs gones l n b e in
     types_built w.1.owner w.0 b w.1.gone w.1.lowers (signatures fs) bs (fit table fs bs cs gones l n b e) (callee table fs bs cs gones l) (answer_built table fs bs cs gones l) x t h
 
-module _ (table : List (List ℕ)) (fs : List TypedFunction) (bs : Bodies) (cs : List Contract) (gones : List Initialised) (l : Lowers table fs bs cs gones) where
+module _ (table : List (List ℕ)) (fs : List TypedFunction) (bs : Bodies) (cs : Contracts) (gones : List Initialised) (l : Lowers table fs bs cs gones) where
   -- the labelling of the body that is found; any where there is none
   abbrev labelling_at : (n : ℕ) (o : Option Body) → slice_get bs.bodies n ≡ o → Labelling
   labelling_at n (Some b) e = (initialised table fs bs cs gones l n b e).0

@@ -9,11 +9,13 @@ use Rattle.mir_ir.specs.declared.body.Block.{Block}
 use Rattle.mir_ir.specs.declared.body.Body.{Body}
 use Rattle.mir_ir.specs.declared.body.Initialised.{Initialised}
 use Rattle.mir_ir.specs.declared.terminator.TerminatorKind.TheVariants.{Return}
+use Rattle.type_check.specs.declared.program.Signature.{Signature}
 use Rattle.type_check.specs.declared.program.TypedFunction.{TypedFunction}
 use Rattle.type_check.specs.TypedExprView.{span_of}
+use Rattle.type_check.specs.WellTyped.{signatures}
 use Rattle.mir_build.specs.Laws.{ProgramsLowerInOneWay, BlocksAreCounted}
 use Rattle.mir_build.specs.Text.{Line, fresh, close, closed, left_open, made, owned}
-use Rattle.mir_build.specs.Lowering.{numbers, counted, paired, all_locals, local_name, entry_title, around_body, gone_at, ends, contract_of, named_body, LowersTo, EachLowersTo, no_functions, and_function}
+use Rattle.mir_build.specs.Lowering.{numbers, calls_of, counted, paired, all_locals, local_name, entry_title, around_body, gone_at, ends, contract_of, named_body, LowersTo, EachLowersTo, no_functions, and_function}
 use Rattle.mir_build.specs.Numbered.{labels, label}
 use Rattle.mir_build.specs.Whole.{text_of_body}
 use Rattle.mir_build.proofs.Numbers.{count, labels_begun, within_once, within_one, within_split, count_begun}
@@ -51,8 +53,8 @@ locals_with f xs = f.signature.answer ∷ (f.signature.params ++ types xs)
 abbrev blocks_with : TypedFunction → Label → List Line → List (Label × Block)
 blocks_with f l xs = closed (fresh (entry_title l)) xs ++ close (left_open (fresh (entry_title l)) xs) (ends (span_of f.body) Return) ∷ []
 
-abbrev the_body : ℕ → List ℕ → TypedFunction → Body
-the_body id owner f = record {
+abbrev the_body : List Signature → ℕ → List ℕ → TypedFunction → Body
+the_body σ id owner f = record {
   id = id;
   owner = owner;
   types = [];
@@ -60,15 +62,17 @@ the_body id owner f = record {
   locals = locals_with f (text_of_body f);
   names = map local_name (counted 0 (locals_with f (text_of_body f)));
   outlives = [];
+  calls = calls_of σ (blocks_with f (label 0) (text_of_body f));
   entry = label 0;
   blocks = blocks_with f (label 0) (text_of_body f);
   span = f.span;
+  types_at = f.types_at;
 }
 
 abbrev the_gone : TypedFunction → Initialised
 the_gone f = record { gone = map gone_at (owned (text_of_body f)) }
 
-module _ (owner : List ℕ) (f : TypedFunction) (b : Body) (gone : Initialised) (l : LowersTo owner f b gone) where
+module _ (σ : List Signature) (owner : List ℕ) (f : TypedFunction) (b : Body) (gone : Initialised) (l : LowersTo σ owner f b gone) where
   labels_from : From 0 (b.entry.0 ∷ named_body l.into)
   labels_from = from_range 0 (b.entry.0 ∷ named_body l.into) l.labels_in_order
 
@@ -105,11 +109,12 @@ module _ (owner : List ℕ) (f : TypedFunction) (b : Body) (gone : Initialised) 
       (λ i t g. l.locals i i t (ap (λ ms. slice_get ms i) all ∙ get_of_paired 0 ts i t g ∙ ap (λ k. Some (k, t)) (place i)))
       ∙ ap (locals_with f) text_is
 
-  body_is : b ≡ the_body b.id owner f
+  body_is : b ≡ the_body σ b.id owner f
   body_is =
       let names_are = l.names ∙ ap (λ ts. map local_name (counted 0 ts)) locals_are in
       let blocks_here : blocks_with f b.entry l.text ≡ blocks_with f (label 0) (text_of_body f) = λ i. blocks_with f (label (entry_is i)) (text_is i) in
       let blocks_are = l.blocks ∙ blocks_here in
+      let calls_are = l.calls ∙ ap (calls_of σ) blocks_are in
       λ i. record {
         id = b.id;
         owner = l.owner_is i;
@@ -118,9 +123,11 @@ module _ (owner : List ℕ) (f : TypedFunction) (b : Body) (gone : Initialised) 
         locals = locals_are i;
         names = names_are i;
         outlives = l.outlives i;
+        calls = calls_are i;
         entry = label (entry_is i);
         blocks = blocks_are i;
         span = l.span i;
+        types_at = l.types_at i;
       }
 
   gone_is : gone ≡ the_gone f
@@ -136,36 +143,38 @@ module _ (owner : List ℕ) (f : TypedFunction) (b : Body) (gone : Initialised) 
 
 -- ---- programs
 
-each_lowers_in_one_way : (table : List (List ℕ)) (n : ℕ) (fs : List TypedFunction) (bs bs' : List Body) (cs cs' : List Contract) (gones gones' : List Initialised)
-    → EachLowersTo table n fs bs cs gones → EachLowersTo table n fs bs' cs' gones' → (bs ≡ bs') × (cs ≡ cs') × (gones ≡ gones')
-each_lowers_in_one_way table n fs bs bs' cs cs' gones gones' no_functions no_functions = (refl, refl, refl)
-each_lowers_in_one_way table n fs bs bs' cs cs' gones gones' (and_function {f = f} {fs = gs} {b = b} {bs = ks} {cs = ds} {gone = g} {gones = hs} o t l d r)
+each_lowers_in_one_way : (table : List (List ℕ)) (σ : List Signature) (n : ℕ) (fs : List TypedFunction) (bs bs' : List Body) (cs cs' : List Contract) (gones gones' : List Initialised)
+    → EachLowersTo table σ n fs bs cs gones → EachLowersTo table σ n fs bs' cs' gones' → (bs ≡ bs') × (cs ≡ cs') × (gones ≡ gones')
+each_lowers_in_one_way table σ n fs bs bs' cs cs' gones gones' no_functions no_functions = (refl, refl, refl)
+each_lowers_in_one_way table σ n fs bs bs' cs cs' gones gones' (and_function {f = f} {fs = gs} {b = b} {bs = ks} {cs = ds} {gone = g} {gones = hs} o t l d r)
     (and_function {b = b'} {bs = ks'} {cs = ds'} {gone = g'} {gones = hs'} o' t' l' d' r') =
     let owners : o ≡ o' = some_same (sym t ∙ t') in
     let ids : b.id ≡ b'.id = d ∙ sym d' in
-    let bodies : b ≡ b' = body_is o f b g l ∙ (λ i. the_body (ids i) (owners i) f) ∙ sym (body_is o' f b' g' l') in
-    let gone : g ≡ g' = gone_is o f b g l ∙ sym (gone_is o' f b' g' l') in
-    let w = each_lowers_in_one_way table (suc n) gs ks ks' ds ds' hs hs' r r' in
+    let bodies : b ≡ b' = body_is σ o f b g l ∙ (λ i. the_body σ (ids i) (owners i) f) ∙ sym (body_is σ o' f b' g' l') in
+    let gone : g ≡ g' = gone_is σ o f b g l ∙ sym (gone_is σ o' f b' g' l') in
+    let w = each_lowers_in_one_way table σ (suc n) gs ks ks' ds ds' hs hs' r r' in
     (λ i. bodies i ∷ w.0 i, λ i. contract_of f ∷ w.1 i, λ i. gone i ∷ w.2 i)
 
 pub programs_lower_in_one_way : ProgramsLowerInOneWay
 programs_lower_in_one_way table fs bs bs' cs cs' gones gones' l l' =
-    let w = each_lowers_in_one_way table 0 fs bs.bodies bs'.bodies cs cs' gones gones' l.each l'.each in
+    let w = each_lowers_in_one_way table (signatures fs) 0 fs bs.bodies bs'.bodies cs.of cs'.of gones gones' l.each l'.each in
     let decls : bs.decls ≡ bs'.decls = l.decls ∙ sym l'.decls in
     let impls : bs.impls ≡ bs'.impls = l.impls ∙ sym l'.impls in
     let closures : bs.closures ≡ bs'.closures = l.closures ∙ sym l'.closures in
-    (λ i. record { bodies = w.0 i; decls = decls i; impls = impls i; closures = closures i }, w.1, w.2)
+    let traits : cs.traits ≡ cs'.traits = l.traits ∙ sym l'.traits in
+    let intrinsics : cs.intrinsics ≡ cs'.intrinsics = l.intrinsics ∙ sym l'.intrinsics in
+    (λ i. record { bodies = w.0 i; decls = decls i; impls = impls i; closures = closures i }, λ i. record { of = w.1 i; traits = traits i; intrinsics = intrinsics i }, w.2)
 
 -- the function at the place has no more blocks
-few_blocks : (table : List (List ℕ)) (first : ℕ) (fs : List TypedFunction) (bs : List Body) (cs : List Contract) (gones : List Initialised) → EachLowersTo table first fs bs cs gones
+few_blocks : (table : List (List ℕ)) (σ : List Signature) (first : ℕ) (fs : List TypedFunction) (bs : List Body) (cs : List Contract) (gones : List Initialised) → EachLowersTo table σ first fs bs cs gones
     → (bound : ℕ) → All (λ (b : Body). length b.blocks ≤ bound) bs → (n : ℕ) (f : TypedFunction) → slice_get fs n ≡ Some f → 1 + labels f.body ≤ bound
-few_blocks table first fs bs cs gones no_functions bound h n f e = absurd (cc)
-few_blocks table first fs bs cs gones (and_function {f = g} {b = b} {bs = ks} {gone = gone} o t l d r) bound h zero f e =
+few_blocks table σ first fs bs cs gones no_functions bound h n f e = absurd (cc)
+few_blocks table σ first fs bs cs gones (and_function {f = g} {b = b} {bs = ks} {gone = gone} o t l d r) bound h zero f e =
     let few : length b.blocks ≤ bound = All-head (λ (k : Body). length k.blocks ≤ bound) b ks h in
-    subst (λ (x : TypedFunction). 1 + labels x.body ≤ bound) (some_same e) (omega (arith, few, blocks_count o g b gone l))
-few_blocks table first fs bs cs gones (and_function {fs = gs} {b = b} {bs = ks} {cs = ds} {gones = hs} o t l d r) bound h (suc n) f e =
-    few_blocks table (suc first) gs ks ds hs r bound (All-tail (λ (k : Body). length k.blocks ≤ bound) b ks h) n f e
+    subst (λ (x : TypedFunction). 1 + labels x.body ≤ bound) (some_same e) (omega (arith, few, blocks_count σ o g b gone l))
+few_blocks table σ first fs bs cs gones (and_function {fs = gs} {b = b} {bs = ks} {cs = ds} {gones = hs} o t l d r) bound h (suc n) f e =
+    few_blocks table σ (suc first) gs ks ds hs r bound (All-tail (λ (k : Body). length k.blocks ≤ bound) b ks h) n f e
 
 pub blocks_are_counted : BlocksAreCounted
 blocks_are_counted table p bs cs gones bound l few h =
-    omega (arith, few_blocks table 0 p.functions bs.bodies cs gones l.each bound few h.place h.function h.is_function, turn_count_body (around_body h.function) h.function.body h.text h.into, h.more)
+    omega (arith, few_blocks table (signatures p.functions) 0 p.functions bs.bodies cs.of gones l.each bound few h.place h.function h.is_function, turn_count_body (around_body h.function) h.function.body h.text h.into, h.more)

@@ -101,7 +101,7 @@ is_for f = sym (length-map (counted 1 f.signature.params) whole ∙ length-count
 built_parts : (f : TypedFunction) → built f ≡ text_at (closed (fresh (entry_title (label 0))) (text_of_body f)) (left_open (fresh (entry_title (label 0))) (text_of_body f)) (f.signature.answer ∷ (f.signature.params ++ types (text_of_body f))) (map gone_at (owned (text_of_body f)))
 built_parts f = written_parts (text_of_body f) [] (fresh (entry_title (label 0))) (f.signature.answer ∷ f.signature.params) []
 
-pub lowered : (σ : List Signature) (id : ℕ) (owner : List ℕ) (f : TypedFunction) → FunctionFits σ f → length (built f).locals < 2 ^ 32 → LowersTo owner f (body_of id owner f (built f)) (record { gone = (built f).gone })
+pub lowered : (σ : List Signature) (id : ℕ) (owner : List ℕ) (f : TypedFunction) → FunctionFits σ f → length (built f).locals < 2 ^ 32 → LowersTo σ owner f (body_of σ id owner f (built f)) (record { gone = (built f).gone })
 lowered σ id owner f w few =
     let text = text_of_body f in
     let parts = built_parts f in
@@ -122,9 +122,11 @@ lowered σ id owner f w few =
       owner_is = refl;
       types = refl;
       outlives = refl;
+      calls = refl;
       params = refl;
       names = refl;
       span = refl;
+      types_at = refl;
       holds_nothing = ap (λ (x : BodyText). x.gone) parts;
     }
 
@@ -137,8 +139,8 @@ closed_turns (Makes n t ∷ xs) o = closed_turns xs o
 closed_turns (Turns e b ∷ xs) o = ap suc (closed_turns xs (fresh b))
 closed_turns (Owns l ys ∷ xs) o = closed_turns xs o
 
-pub blocks_of : (id : ℕ) (owner : List ℕ) (f : TypedFunction) → length (body_of id owner f (built f)).blocks ≡ 1 + labels f.body
-blocks_of id owner f =
+pub blocks_of : (σ : List Signature) (id : ℕ) (owner : List ℕ) (f : TypedFunction) → length (body_of σ id owner f (built f)).blocks ≡ 1 + labels f.body
+blocks_of σ id owner f =
     let text = text_of_body f in
     let e = ap (λ (x : BodyText). length x.blocks) (built_parts f) in
     omega (arith, e, closed_turns text (fresh (entry_title (label 0))), body_turned f.body (around_body f) 1 (1 + length f.signature.params), length-append (built f).blocks (ended (built f).open_block (ends (span_of f.body) Return) ∷ []))
@@ -155,11 +157,11 @@ fits_at σ (g ∷ fs) zero f w q h = rw q w.0
 fits_at σ (g ∷ fs) (suc i) f w q h = fits_at σ fs i f w.1 q (omega arith)
 
 -- one function more
-pub then_lower : (table : List (List ℕ)) (n : ℕ) (fs : List TypedFunction) (bs : List Body) (cs : List Contract) (gs : List Initialised) (f : TypedFunction) (b : Body) (g : Initialised) (owner : List ℕ)
-    → EachLowersTo table n fs bs cs gs → text_of table f.name ≡ Some owner → LowersTo owner f b g → b.id ≡ n + length bs → EachLowersTo table n (fs ++ f ∷ []) (bs ++ b ∷ []) (cs ++ contract_of f ∷ []) (gs ++ g ∷ [])
-then_lower table n fs bs cs gs f b g owner no_functions q w i = and_function owner q w (omega (arith, i)) no_functions
-then_lower table n (h ∷ fs) bs cs gs f b g owner (and_function {bs = ks} other p v d rest) q w i =
-    and_function other p v d (then_lower table (suc n) fs ks _ _ f b g owner rest q w (omega (arith, i)))
+pub then_lower : (table : List (List ℕ)) (σ : List Signature) (n : ℕ) (fs : List TypedFunction) (bs : List Body) (cs : List Contract) (gs : List Initialised) (f : TypedFunction) (b : Body) (g : Initialised) (owner : List ℕ)
+    → EachLowersTo table σ n fs bs cs gs → text_of table f.name ≡ Some owner → LowersTo σ owner f b g → b.id ≡ n + length bs → EachLowersTo table σ n (fs ++ f ∷ []) (bs ++ b ∷ []) (cs ++ contract_of f ∷ []) (gs ++ g ∷ [])
+then_lower table σ n fs bs cs gs f b g owner no_functions q w i = and_function owner q w (omega (arith, i)) no_functions
+then_lower table σ n (h ∷ fs) bs cs gs f b g owner (and_function {bs = ks} other p v d rest) q w i =
+    and_function other p v d (then_lower table σ (suc n) fs ks _ _ f b g owner rest q w (omega (arith, i)))
 
 -- the function at the place has too many blocks
 pub too_many : (p : TypedProgram) (i : ℕ) (f : TypedFunction) → f ≡ get_or p.functions i f → i < length p.functions → 4096 < 1 + labels f.body → ProgramFits p → HasMoreBlocks p 4096
@@ -182,10 +184,10 @@ fails_for P Q (errors.Source e) f h = h
 
 -- ---- what is answered
 
-pub answered : (σ : List Signature) (id : ℕ) (owner : List ℕ) (f : TypedFunction) (x : BodyText) (b : Body) (g : Initialised) → x ≡ built f → b ≡ body_of id owner f x → g ≡ record { gone = x.gone } → length x.locals < 2 ^ 32 → FunctionFits σ f → LowersTo b.owner f b g
+pub answered : (σ : List Signature) (id : ℕ) (owner : List ℕ) (f : TypedFunction) (x : BodyText) (b : Body) (g : Initialised) → x ≡ built f → b ≡ body_of σ id owner f x → g ≡ record { gone = x.gone } → length x.locals < 2 ^ 32 → FunctionFits σ f → LowersTo σ b.owner f b g
 answered σ id owner f x b g p q r few w =
     let small : length (built f).locals < 2 ^ 32 = omega (arith, few, ap (λ (y : BodyText). length y.locals) p) in
     rw (q, r, p) (lowered σ id owner f w small)
 
-pub few_blocks : (id : ℕ) (owner : List ℕ) (f : TypedFunction) (x : BodyText) (b : Body) → x ≡ built f → b ≡ body_of id owner f x → 1 + labels f.body ≤ 4096 → length b.blocks ≤ 4096
-few_blocks id owner f x b p q few = rw (q, p) (omega (arith, few, blocks_of id owner f))
+pub few_blocks : (σ : List Signature) (id : ℕ) (owner : List ℕ) (f : TypedFunction) (x : BodyText) (b : Body) → x ≡ built f → b ≡ body_of σ id owner f x → 1 + labels f.body ≤ 4096 → length b.blocks ≤ 4096
+few_blocks σ id owner f x b p q few = rw (q, p) (omega (arith, few, blocks_of σ id owner f))

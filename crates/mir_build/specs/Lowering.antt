@@ -1,7 +1,8 @@
 -- Lowering: a row for each form of expression, with any labels and temporaries, which a body has in the order of its rows: 0, 1 and so
 -- on. The order of evaluation is that of the Rust Reference: operands from the left, the right side of an assignment before its place,
 -- `&&` and `||` lazily.
-use Rattle.std.specs.Prelude.{◌≡◌, ℕ, suc, ℤ, ◌+◌, ◌^◌, ◌<◌, ◌≤◌, Bool, true, false, List, [], ◌∷◌, ◌++◌, length, map, Some, None, slice_get}
+use Rattle.std.specs.Prelude.{◌≡◌, ℕ, suc, ℤ, ◌+◌, ◌^◌, ◌<◌, ◌≤◌, Bool, true, false, List, [], ◌∷◌, ◌++◌, length, map, Option, Some, None, slice_get}
+use Rattle.std.specs.Option.{option_map}
 use Rattle.std.specs.List.{range_with_len}
 use Rattle.text_core.specs.declared.name.Name.{Name}
 use Rattle.text_core.specs.declared.span.Span.{Span}
@@ -32,12 +33,16 @@ use Rattle.mir_ir.specs.declared.terminator.Callee.TheVariants.{Function}
 use Rattle.mir_ir.specs.declared.terminator.Terminator.{Terminator}
 use Rattle.mir_ir.specs.declared.terminator.TerminatorKind.{TerminatorKind}
 use Rattle.mir_ir.specs.declared.terminator.TerminatorKind.TheVariants.{Goto, If, Call, Return}
+use Rattle.mir_ir.specs.declared.body.Block.{Block}
 use Rattle.mir_ir.specs.declared.body.Body.{Body}
+use Rattle.mir_ir.specs.declared.body.Contracts.{Contracts}
 use Rattle.mir_ir.specs.declared.body.Head.{Head}
 use Rattle.mir_ir.specs.declared.body.Initialised.{Initialised}
 use Rattle.mir_ir.specs.declared.body.Point.{Point}
+use Rattle.mir_ir.specs.declared.body.Signature.{Signature as CallSignature}
 use Rattle.type_check.specs.declared.assertion.Assertion.{Assertion}
 use Rattle.type_check.specs.declared.assertion.Assertion.TheVariants.{Good, Bad}
+use Rattle.type_check.specs.declared.program.Signature.{Signature}
 use Rattle.type_check.specs.declared.program.TypedClause.{TypedClause}
 use Rattle.type_check.specs.declared.program.TypedFunction.{TypedFunction}
 use Rattle.type_check.specs.declared.program.TypedProgram.{TypedProgram}
@@ -46,6 +51,7 @@ use Rattle.type_check.specs.TypedExpr.{TypedExpr, TypedStmts, TypedExprs, intege
 use Rattle.type_check.specs.TypedExpr as typed
 use Rattle.type_check.specs.TypedExprView.{ty_of, span_of}
 use Rattle.type_check.specs.VariableNames.{variable_name, answer_name}
+use Rattle.type_check.specs.WellTyped.{signatures}
 use Rattle.mir_build.specs.Text.{Title, Line, Puts, Makes, Turns, Owns, fresh, close, closed, left_open, begun, made, owned}
 use Rattle.mir_ir.specs.declared.body.Bodies.{Bodies}
 
@@ -292,8 +298,26 @@ gone_at g = (record { label = g.0; statement = 0 }, map whole g.1)
 abbrev pub around_body : TypedFunction → Around
 around_body f = record { scope = map whole (counted 1 f.signature.params); loops = [] }
 
+-- the types of a function, as calls look them up; so far functions have no lifetimes
+abbrev pub types_of_call : Signature → CallSignature
+types_of_call s = record { params = s.params; result = s.answer; outlives = [] }
+
+-- those of the function that a block's end calls, if it calls one
+abbrev pub called : List Signature → TerminatorKind → Option CallSignature
+called σ (Call p (Function (fn_id.Body n)) types os l) = option_map types_of_call (slice_get σ n)
+called σ _ = None
+
+abbrev pub with_call : Label → Option CallSignature → List (Label × CallSignature) → List (Label × CallSignature)
+with_call l None calls = calls
+with_call l (Some s) calls = (l, s) ∷ calls
+
+-- the calls of blocks, with the types of what they call
+abbrev pub calls_of : List Signature → List (Label × Block) → List (Label × CallSignature)
+calls_of σ [] = []
+calls_of σ (k ∷ ks) = with_call k.0 (called σ k.1.end.kind) (calls_of σ ks)
+
 -- the body of a function, and what may be gone where in it: local 0 is the answer, then come the parameters
-pub record LowersTo (owner : List ℕ) (f : TypedFunction) (b : Body) (gone : Initialised) : Type 0 where
+pub record LowersTo (σ : List Signature) (owner : List ℕ) (f : TypedFunction) (b : Body) (gone : Initialised) : Type 0 where
   pub text : List Line
   pub into : IntoBody (around_body f) f.body text
   pub blocks : b.blocks ≡ closed (fresh (entry_title b.entry)) text ++ close (left_open (fresh (entry_title b.entry)) text) (ends (span_of f.body) Return) ∷ []
@@ -309,24 +333,28 @@ pub record LowersTo (owner : List ℕ) (f : TypedFunction) (b : Body) (gone : In
   -- so far functions have no type parameters, and no lifetimes
   pub types : b.types ≡ []
   pub outlives : b.outlives ≡ []
+  pub calls : b.calls ≡ calls_of σ b.blocks
   pub params : b.params ≡ length f.signature.params
   pub names : b.names ≡ map local_name (counted 0 b.locals)
   pub span : b.span ≡ f.span
+  pub types_at : b.types_at ≡ f.types_at
   pub holds_nothing : gone.gone ≡ map gone_at (owned text)
 
 -- the functions from number n on, each with its text, lower to these bodies, contracts and gone places, one for each
-pub data EachLowersTo (table : List (List ℕ)) : ℕ → List TypedFunction → List Body → List Contract → List Initialised → Type 0 where
-  no_functions : {n : ℕ} → EachLowersTo table n [] [] [] []
+pub data EachLowersTo (table : List (List ℕ)) (σ : List Signature) : ℕ → List TypedFunction → List Body → List Contract → List Initialised → Type 0 where
+  no_functions : {n : ℕ} → EachLowersTo table σ n [] [] [] []
   and_function : {n : ℕ} {f : TypedFunction} {fs : List TypedFunction} {b : Body} {bs : List Body} {cs : List Contract} {gone : Initialised} {gones : List Initialised} (owner : List ℕ)
-      → text_of table f.name ≡ Some owner → LowersTo owner f b gone → b.id ≡ n → EachLowersTo table (suc n) fs bs cs gones
-      → EachLowersTo table n (f ∷ fs) (b ∷ bs) (contract_of f ∷ cs) (gone ∷ gones)
+      → text_of table f.name ≡ Some owner → LowersTo σ owner f b gone → b.id ≡ n → EachLowersTo table σ (suc n) fs bs cs gones
+      → EachLowersTo table σ n (f ∷ fs) (b ∷ bs) (contract_of f ∷ cs) (gone ∷ gones)
 
 -- the functions of a program lower to these; so far it declares no types that bodies are looked up with
-pub record LowerTo (table : List (List ℕ)) (fs : List TypedFunction) (bodies : Bodies) (cs : List Contract) (gones : List Initialised) : Type 0 where
-  pub each : EachLowersTo table 0 fs bodies.bodies cs gones
+pub record LowerTo (table : List (List ℕ)) (fs : List TypedFunction) (bodies : Bodies) (cs : Contracts) (gones : List Initialised) : Type 0 where
+  pub each : EachLowersTo table (signatures fs) 0 fs bodies.bodies cs.of gones
   pub decls : bodies.decls ≡ []
   pub impls : bodies.impls ≡ []
   pub closures : bodies.closures ≡ []
+  pub traits : cs.traits ≡ []
+  pub intrinsics : cs.intrinsics ≡ []
 
 -- the program lowers to these, by this table of names
 abbrev pub IsLowered : List (List ℕ) → TypedProgram → Lowered → Type 0

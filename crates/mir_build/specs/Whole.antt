@@ -7,11 +7,12 @@ use Rattle.text_core.specs.declared.fault.PassError.{PassError}
 use Rattle.text_core.specs.declared.fault.PassError.TheVariants as errors
 use Rattle.mir_ir.specs.declared.body.Body.{Body}
 use Rattle.mir_ir.specs.declared.terminator.TerminatorKind.TheVariants.{Return}
+use Rattle.type_check.specs.declared.program.Signature.{Signature}
 use Rattle.type_check.specs.declared.program.TypedFunction.{TypedFunction}
 use Rattle.type_check.specs.TypedExprView.{span_of}
 use Rattle.mir_build.specs.declared.builder.BodyText.{BodyText}
 use Rattle.mir_build.specs.Text.{Line}
-use Rattle.mir_build.specs.Lowering.{around_body, entry_title, counted, local_name, ends}
+use Rattle.mir_build.specs.Lowering.{around_body, entry_title, calls_of, counted, local_name, ends}
 use Rattle.mir_build.specs.Numbered.{body_text, label}
 use Rattle.mir_build.specs.Built.{written, started, ended}
 use Rattle.mir_ir.specs.declared.body.Bodies.{Bodies}
@@ -24,8 +25,8 @@ abbrev pub built : TypedFunction → BodyText
 built f = written (text_of_body f) (started (entry_title (label 0)) (f.signature.answer ∷ f.signature.params))
 
 -- the body of what is built
-abbrev pub body_of : ℕ → List ℕ → TypedFunction → BodyText → Body
-body_of id owner f x = record {
+abbrev pub body_of : List Signature → ℕ → List ℕ → TypedFunction → BodyText → Body
+body_of σ id owner f x = record {
   id = id;
   owner = owner;
   types = [];
@@ -33,9 +34,11 @@ body_of id owner f x = record {
   locals = x.locals;
   names = map local_name (counted 0 x.locals);
   outlives = [];
+  calls = calls_of σ (x.blocks ++ ended x.open_block (ends (span_of f.body) Return) ∷ []);
   entry = label 0;
   blocks = x.blocks ++ ended x.open_block (ends (span_of f.body) Return) ∷ [];
   span = f.span;
+  types_at = f.types_at;
 }
 
 abbrev pub HaveFewBlocks : Bodies → Type 0

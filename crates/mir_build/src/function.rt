@@ -1,9 +1,9 @@
 //! Lowering of functions.
-ghost use Rattle.std.specs.Prelude.{◌≡◌, ℕ, ◌+◌, ◌≤◌, ◌<◌, ◌^◌, ◌∷◌, [], List, length, map, OnOk, IfOk, IfErr};
+ghost use Rattle.std.specs.Prelude.{◌≡◌, ◌+◌, ◌≤◌, ◌<◌, ◌^◌, ◌∷◌, length, map, OnOk, IfOk, IfErr, slice_get};
 ghost use Rattle.text_core.specs.Names.{text_of};
-ghost use Rattle.type_check.specs.WellTyped.{FunctionFits};
-ghost use Rattle.type_check.specs.declared.program.Signature.{Signature};
-ghost use Rattle.mir_build.specs.Lowering.{counted, whole, local_name, LowersTo};
+ghost use Rattle.std.specs.Option.{option_copied};
+ghost use Rattle.type_check.specs.WellTyped.{FunctionFits, signatures};
+ghost use Rattle.mir_build.specs.Lowering.{called, calls_of, counted, whole, local_name, types_of_call, LowersTo};
 ghost use Rattle.mir_build.specs.Numbered.{body_text, labels};
 ghost use Rattle.mir_build.specs.Built.{written, around};
 ghost use Rattle.mir_build.specs.Whole.{built, body_of, FailsFor};
@@ -14,7 +14,10 @@ use crate::builder::{BodyText, Builder, MOST_BLOCKS, whole};
 use crate::expression::{lower_into, lower_rest, value_span};
 use crate::stop::Stop;
 use logic_term::{Label, Ty};
-use mir_ir::{Body, Initialised, Place, Terminator, TerminatorKind};
+use mir_ir::{
+    Block, Body, Callee, FnId, Initialised, Place, Signature as CallSignature, Terminator,
+    TerminatorKind,
+};
 use std::alloc::Global;
 use text_core::{Items, Limit, LimitKind, Name, Names, NoMemory, PassError, Text};
 use type_check::{Signature, TypedExpr, TypedFunction, TypedNode};
@@ -98,15 +101,72 @@ fn lower_text(alloc: Global, f: &TypedFunction) -> Result<BodyText, Stop>
     Ok(text)
 }
 
+/// The types of the function of the number; `None` where there is none.
+fn signature_at(functions: &[TypedFunction], number: u32) -> Option<&Signature>
+    ensures { option_copied result ≡ slice_get (signatures functions.now) number }
+{
+    Some(&functions.get(number as usize)?.signature)
+}
+
+/// The types, as calls look them up.
+fn types_of_call(alloc: Global, signature: &Signature) -> Result<CallSignature, NoMemory>
+    ensures { IfOk result (λ s. s ≡ types_of_call signature.now) }
+{
+    let mut params = Items::new(alloc);
+    for ty in signature.params.as_slice() {
+        params.push(ty.copy(alloc)?)?;
+    }
+    Ok(CallSignature {
+        params,
+        result: signature.answer.copy(alloc)?,
+        outlives: Items::new(alloc),
+    })
+}
+
+/// The types of the function that a block's end calls; `None` where it calls none.
+fn called(
+    alloc: Global,
+    functions: &[TypedFunction],
+    end: &TerminatorKind,
+) -> Result<Option<CallSignature>, NoMemory>
+    ensures { IfOk result (λ s. s ≡ called (signatures functions.now) end.now) }
+{
+    let TerminatorKind::Call(_, Callee::Function(FnId::Body(number)), _, _, _) = end else {
+        return Ok(None);
+    };
+    match signature_at(functions, *number) {
+        None => Ok(None),
+        Some(signature) => Ok(Some(types_of_call(alloc, signature)?)),
+    }
+}
+
+/// The calls of blocks, with the types of what they call.
+fn calls_of(
+    alloc: Global,
+    functions: &[TypedFunction],
+    blocks: &[(Label, Block)],
+) -> Result<Items<(Label, CallSignature)>, NoMemory>
+    ensures { IfOk result (λ v. v ≡ calls_of (signatures functions.now) blocks.now) }
+{
+    let mut all = Items::new(alloc);
+    for block in blocks {
+        if let Some(signature) = called(alloc, functions, &block.1.end.kind)? {
+            all.push((block.0, signature))?;
+        }
+    }
+    Ok(all)
+}
+
 /// The body of what is built, and what may be gone in it. Want of memory is answered too where a number would pass 32 bits.
 fn finish(
     alloc: Global,
+    functions: &[TypedFunction],
     id: u32,
     owner: Text,
     f: &TypedFunction,
     text: BodyText,
 ) -> Result<(Body, Initialised), NoMemory>
-    ensures body { IfOk result (λ r. r.0 ≡ body_of id owner f.now text) }
+    ensures body { IfOk result (λ r. r.0 ≡ body_of (signatures functions.now) id owner f.now text) }
     ensures gone { IfOk result (λ r. r.1 ≡ record { gone = text.gone }) }
     ensures few { OnOk result (length text.locals < 2 ^ 32) }
 {
@@ -125,6 +185,7 @@ fn finish(
         return Err(NoMemory);
     };
     let names = local_names(alloc, locals.as_slice())?;
+    let calls = calls_of(alloc, functions, blocks.as_slice())?;
     let body = Body {
         id,
         owner,
@@ -133,9 +194,11 @@ fn finish(
         locals,
         names,
         outlives: Items::new(alloc),
+        calls,
         entry: Label(0),
         blocks,
         span: f.span,
+        types_at: Items::from_slice(alloc, f.types_at.as_slice())?,
     };
     Ok((body, Initialised { gone }))
 }
@@ -158,11 +221,12 @@ fn refused(stop: Stop) -> PassError
 pub(crate) fn lower_function(
     alloc: Global,
     names: &Names,
+    functions: &[TypedFunction],
     id: u32,
     f: &TypedFunction,
 ) -> Result<(Body, Initialised), PassError>
     ensures named { IfOk result (λ r. text_of names.now f.now.name ≡ Some r.0.owner) }
-    ensures lowered { IfOk result (λ r. (σ : List Signature) → FunctionFits σ f.now → LowersTo r.0.owner f.now r.0 r.1) }
+    ensures lowered { IfOk result (λ r. FunctionFits (signatures functions.now) f.now → LowersTo (signatures functions.now) r.0.owner f.now r.0 r.1) }
     ensures numbered { IfOk result (λ r. r.0.id ≡ id) }
     ensures few { IfOk result (λ r. length r.0.blocks ≤ 4096) }
     ensures limit { IfErr result (FailsFor (4096 < 1 + labels f.now.body)) }
@@ -173,6 +237,6 @@ pub(crate) fn lower_function(
     let owner = Text::from_bytes(alloc, owner.as_bytes())?;
     match lower_text(alloc, f) {
         Err(stop) => Err(refused(stop)),
-        Ok(text) => Ok(finish(alloc, id, owner, f, text)?),
+        Ok(text) => Ok(finish(alloc, functions, id, owner, f, text)?),
     }
 }

@@ -7,7 +7,7 @@ ghost use Rattle.mir_build.specs.Whole.{HaveFewBlocks, FailsFor};
 use crate::contract::contract_of;
 use crate::function::lower_function;
 use crate::lowered::Lowered;
-use mir_ir::Bodies;
+use mir_ir::{Bodies, Contracts};
 use std::alloc::Global;
 use text_core::{Items, Names, PassError};
 use type_check::TypedProgram;
@@ -28,11 +28,12 @@ pub fn lower(alloc: Global, program: &TypedProgram, names: &Names) -> Result<Low
     let mut bodies = Items::new(alloc);
     let mut contracts = Items::new(alloc);
     let mut gone = Items::new(alloc);
-    for f in program.functions.as_slice() {
+    let functions = program.functions.as_slice();
+    for f in functions {
         let Ok(id) = u32::try_from(bodies.len()) else {
             return Err(PassError::NoMemory);
         };
-        let (body, own) = lower_function(alloc, names, id, f)?;
+        let (body, own) = lower_function(alloc, names, functions, id, f)?;
         bodies.push(body)?;
         contracts.push(contract_of(alloc, f)?)?;
         gone.push(own)?;
@@ -44,7 +45,11 @@ pub fn lower(alloc: Global, program: &TypedProgram, names: &Names) -> Result<Low
             impls: Items::new(alloc),
             closures: Items::new(alloc),
         },
-        contracts,
+        contracts: Contracts {
+            of: contracts,
+            traits: Items::new(alloc),
+            intrinsics: Items::new(alloc),
+        },
         gone,
     })
 }

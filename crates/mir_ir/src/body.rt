@@ -1,7 +1,7 @@
 use crate::place::Place;
 use crate::statement::Statement;
 use crate::terminator::{Callee, FnId, Terminator};
-use logic_term::{AdtDecl, Bounds, Label, Region, Term, TraitId, Ty};
+use logic_term::{AdtDecl, Bounds, Contract, Label, Region, Term, TraitId, Ty};
 use text_core::{Items, Name, Span, Text};
 
 /// The head of a loop: the loop's invariants, over the names of the locals, and the span of each.
@@ -29,6 +29,15 @@ pub struct Point {
     pub statement: u32,
 }
 
+/// The types of what is called, over its type parameters and lifetimes.
+#[derive(Drop)]
+pub struct Signature {
+    pub params: Items<Ty>,
+    pub result: Ty,
+    /// The declared bounds of lifetimes: the first outlives the second.
+    pub outlives: Items<(Region, Region)>,
+}
+
 /// The code of a function. Local 0 is the answer; then come the parameters, then all others. There is one name for each
 /// local.
 #[derive(Drop)]
@@ -44,10 +53,14 @@ pub struct Body {
     pub names: Items<Name>,
     /// The declared bounds of lifetimes: the first outlives the second.
     pub outlives: Items<(Region, Region)>,
+    /// The types of what is called, for each block that ends in a call.
+    pub calls: Items<(Label, Signature)>,
     pub entry: Label,
     /// The first block of a label counts.
     pub blocks: Items<(Label, Block)>,
     pub span: Span,
+    /// Where the type of the answer is written, and then those of the parameters.
+    pub types_at: Items<Span>,
 }
 
 impl Body {
@@ -98,6 +111,17 @@ impl Bodies {
         let Callee::Function(FnId::Body(number)) = callee;
         Some(number)
     }
+}
+
+/// The contracts of a program, by which calls are reasoned about.
+#[derive(Drop)]
+pub struct Contracts {
+    /// One for each body.
+    pub of: Items<Contract>,
+    /// For each trait one for each of its methods.
+    pub traits: Items<Items<Contract>>,
+    /// Those of library functions, by their numbers.
+    pub intrinsics: Items<Contract>,
 }
 
 /// For points of a body, the places that may be gone there: those that were moved or never written on some way to the point.

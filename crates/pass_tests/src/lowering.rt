@@ -95,6 +95,7 @@ fn program_of(
         name: OPTION,
         span: byte(1),
         signature: Signature { params, answer },
+        types_at: Items::new(alloc),
         clauses: Items::new(alloc),
         body,
     })?;

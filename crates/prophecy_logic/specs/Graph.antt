@@ -14,6 +14,7 @@ use Rattle.mir_ir.specs.declared.terminator.Terminator.{Terminator}
 use Rattle.mir_ir.specs.declared.terminator.TerminatorKind.TheVariants.{Goto, If, Call, Return}
 use Rattle.mir_ir.specs.declared.body.Block.{Block}
 use Rattle.mir_ir.specs.declared.body.Body.{Body}
+use Rattle.mir_ir.specs.declared.body.Contracts.{Contracts}
 use Rattle.mir_ir.specs.declared.body.Head.{Head}
 use Rattle.mir_ir.specs.declared.body.Initialised.{Initialised}
 use Rattle.mir_ir.specs.declared.body.Point.{Point}
@@ -28,7 +29,7 @@ use Rattle.prophecy_logic.specs.Walk.{goals_at_return, where_true, where_false, 
 -- what the walk of a body looks up: the contracts of all functions, its own, and what may be gone where
 pub record Setting : Type 0 where
   pub body : Body
-  pub contracts : List Contract
+  pub contracts : Contracts
   pub contract : Contract
   pub init : Initialised
 

@@ -65,7 +65,7 @@ module _ {K : Type 0} (s : Setup K) (f : FunctionOf s) (ρ₀ : Env) (fs : State
 
   module _ {heads : List Label} {v : Walk} (p : Place) (n : ℕ) (types : List Ty) (os : List Operand) (l : Label) (d : Contract) (t : Ty) (at : Span)
       (kind : st.block.end.kind ≡ Call p (Function (OfBody n)) types os l)
-      (is_d : slice_get s.contracts n ≡ Some d) (is_t : slice_get b.locals p.local ≡ Some t) (arrives : Arrives (walked s f) heads l v)
+      (is_d : slice_get s.contracts.of n ≡ Some d) (is_t : slice_get b.locals p.local ≡ Some t) (arrives : Arrives (walked s f) heads l v)
       (came : Came s f ρ₀ (walked s f) heads (within (point_of g)) ρ) (is_last : g.statement ≡ length st.block.statements)
       (hold : GoalsHold (S s) ρ (goals_of_call b d at os ++ seen_before (call_commands b d p.local t os) (met v)))
       (fitting : Fits b no_tys end_set g.locals) (agrees : Agree b end_set g.locals ρ) (nested : Memories s f ρ₀ end_set ρ st.block.nest) (enclosing : AllAmong st.block.nest heads)

@@ -12,6 +12,7 @@ use Rattle.logic_term.specs.Ty.{Ty, no_tys}
 use Rattle.logic_term.specs.Value.{Value}
 use Rattle.mir_ir.specs.declared.body.Bodies.{Bodies}
 use Rattle.mir_ir.specs.declared.body.Body.{Body}
+use Rattle.mir_ir.specs.declared.body.Contracts.{Contracts}
 use Rattle.mir_ir.specs.declared.body.Initialised.{Initialised}
 use Rattle.mir_ir.specs.Names.{IsOneOf, new_number}
 use Rattle.mir_ir.proofs.Taking.{RowByRow, row_by_row}
@@ -29,7 +30,7 @@ use Rattle.prophecy_sim.proofs.Scalars.{AreScalar}
 pub record Setup (K : Type 0) : Type 0 where
   pub theory : Theory
   pub code : Code K
-  pub contracts : List Contract
+  pub contracts : Contracts
   pub gone : ℕ → Initialised
   pub labelling : ℕ → Labelling
   pub functions : AreFunctions (record { bodies = code.program; contracts = contracts; gone = gone }) labelling

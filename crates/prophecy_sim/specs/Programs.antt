@@ -12,6 +12,7 @@ use Rattle.mir_ir.specs.declared.terminator.Callee.{Callee}
 use Rattle.mir_ir.specs.declared.terminator.TerminatorKind.TheVariants.{Call}
 use Rattle.mir_ir.specs.declared.body.Block.{Block}
 use Rattle.mir_ir.specs.declared.body.Body.{Body}
+use Rattle.mir_ir.specs.declared.body.Contracts.{Contracts}
 use Rattle.mir_ir.specs.Callees.{callee_of}
 use Rattle.mir_ir.specs.WellFormed.{IsTyped, Labelling, MeetsMoveRows}
 use Rattle.mir_machine.specs.Good.{Each, Good}
@@ -47,7 +48,7 @@ pub record HeadsSpeakOf (b : Body) (c : Contract) (gone : Initialised) (at : Lab
 -- bodies with a contract for each, and what may be gone where in each
 pub record Program : Type 0 where
   pub bodies : Bodies
-  pub contracts : List Contract
+  pub contracts : Contracts
   pub gone : ℕ → Initialised
 
 -- what the walk of function n looks up
@@ -60,7 +61,7 @@ pub record IsFunction (p : Program) (at : Labelling) (n : ℕ) (b : Body) : Type
   pub typed : IsTyped p.bodies b
   pub moves : MeetsMoveRows b at
   pub contract : Contract
-  pub is_contract : slice_get p.contracts n ≡ Some contract
+  pub is_contract : slice_get p.contracts.of n ≡ Some contract
   pub simple : IsSimple b
   pub speaks : ContractSpeaks b contract
   pub heads : HeadsSpeakOf b contract (p.gone n) at
@@ -105,10 +106,10 @@ pub data Reaches (bodies : Bodies) (from : Node) : Node → Type 0 where
 
 -- the obligations of each function that may be reached from the node are true
 abbrev pub AreProvedFrom : Theory → Program → Node → Type 0
-AreProvedFrom Θ p from = (n : ℕ) (b : Body) (d : Contract) → Reaches p.bodies from (Function n) → slice_get p.bodies.bodies n ≡ Some b → slice_get p.contracts n ≡ Some d
+AreProvedFrom Θ p from = (n : ℕ) (b : Body) (d : Contract) → Reaches p.bodies from (Function n) → slice_get p.bodies.bodies n ≡ Some b → slice_get p.contracts.of n ≡ Some d
     → HasTrueObligations Θ (setting p n b d)
 
 -- a function is good where all obligations of the functions that it may reach are true, whatever the declared types are
 abbrev pub TrueObligationsMakeGood : Type 0
 TrueObligationsMakeGood = (Θ : Theory) (p : Program) (labelling : ℕ → Labelling) → AreFunctions p labelling
-    → (f : ℕ) (c : Contract) → slice_get p.contracts f ≡ Some c → AreProvedFrom Θ p (Function f) → Good Θ p.bodies f c
+    → (f : ℕ) (c : Contract) → slice_get p.contracts.of f ≡ Some c → AreProvedFrom Θ p (Function f) → Good Θ p.bodies f c

@@ -60,6 +60,7 @@ cleared = record {
   locals = bool ∷ bool ∷ [];
   names = name 100 ∷ name 101 ∷ [];
   outlives = [];
+  calls = [];
   entry = label 0;
   blocks = (label 0, block_of None [] (assigned 0 (Copy (whole 1)) ∷ []) (Goto (label 1)))
       ∷ (label 1, block_of (Some head) (label 1 ∷ []) [] (If (Copy (whole 0)) (label 2) (label 3)))
@@ -67,6 +68,7 @@ cleared = record {
       ∷ (label 3, block_of None [] [] Return)
       ∷ [];
   span = end_span;
+  types_at = [];
 }
 
 -- the answer is that of the first function at the parameter
@@ -79,11 +81,13 @@ caller = record {
   locals = bool ∷ bool ∷ [];
   names = name 100 ∷ name 101 ∷ [];
   outlives = [];
+  calls = [];
   entry = label 0;
   blocks = (label 0, block_of None [] [] (Call (whole 0) (Function (OfBody 0)) [] (Copy (whole 1) ∷ []) (label 1)))
       ∷ (label 1, block_of None [] [] Return)
       ∷ [];
   span = end_span;
+  types_at = [];
 }
 
 -- the answer is false
@@ -94,7 +98,7 @@ is_false = record { params = name 10 ∷ []; answer = name 11; pre = []; post = 
 abbrev pub program : Program
 program = record {
   bodies = record { bodies = cleared ∷ caller ∷ []; decls = []; impls = []; closures = [] };
-  contracts = is_false ∷ is_false ∷ [];
+  contracts = record { of = is_false ∷ is_false ∷ []; traits = []; intrinsics = [] };
   gone = λ n. record { gone = (record { label = label 0; statement = 0 }, whole 0 ∷ []) ∷ [] };
 }
 
@@ -104,7 +108,7 @@ SampleIsSound = (labelling : ℕ → Labelling) × AreFunctions program labellin
 
 -- the walk of each function comes to an end, and all of its obligations are true, whatever the declared types are
 abbrev pub SampleIsTrue : Type 0
-SampleIsTrue = (Θ : Theory) (n : ℕ) (b : Body) (c : Contract) → slice_get program.bodies.bodies n ≡ Some b → slice_get program.contracts n ≡ Some c → HasTrueObligations Θ (setting program n b c)
+SampleIsTrue = (Θ : Theory) (n : ℕ) (b : Body) (c : Contract) → slice_get program.bodies.bodies n ≡ Some b → slice_get program.contracts.of n ≡ Some c → HasTrueObligations Θ (setting program n b c)
 
 -- so both functions are good, by the law
 abbrev pub SampleIsGood : Type 0

@@ -28,6 +28,8 @@ use Rattle.source_trees.specs.declared.item.Variant.{Variant}
 use Rattle.source_trees.specs.declared.item.VariantFields.{VariantFields}
 use Rattle.source_trees.specs.declared.item.VariantFields.TheVariants as V
 use Rattle.source_trees.specs.declared.path.Segment.{Segment}
+use Rattle.source_trees.specs.TypeTree.{TypeTree}
+use Rattle.source_trees.specs.TypeTreeView.{span_of}
 use Rattle.source_forms.specs.declared.form.TheConstants.{BEFORE_FUNCTION, BEFORE_ITEM}
 use Rattle.source_forms.specs.declared.form.Form.{Form}
 use Rattle.source_forms.specs.declared.form.Form.TheVariants as form
@@ -83,8 +85,12 @@ unbuilt_method F form method =
 
 -- ---- structs and enums
 
+-- the type of a field is one form, whatever stands in it
+unfoldable pub unbuilt_field_type : (Form → Bool) → TypeTree → Option ℕ
+unbuilt_field_type F ty = here F form.FieldType (span_of ty)
+
 unfoldable pub unbuilt_field : (Form → Bool) → Field → Option ℕ
-unbuilt_field F field = unbuilt_type F field.ty
+unbuilt_field F field = unbuilt_field_type F field.ty
 
 abbrev pub unbuilt_fields : (Form → Bool) → Fields → Option ℕ
 unbuilt_fields F L.Unit = None
@@ -93,7 +99,7 @@ unbuilt_fields F (L.Named fields) = in_each (unbuilt_field F) fields
 
 abbrev pub unbuilt_variant_fields : (Form → Bool) → VariantFields → Option ℕ
 unbuilt_variant_fields F V.Unit = None
-unbuilt_variant_fields F (V.Tuple types) = in_each (unbuilt_type F) types
+unbuilt_variant_fields F (V.Tuple types) = in_each (unbuilt_field_type F) types
 unbuilt_variant_fields F (V.Named fields) = in_each (unbuilt_field F) fields
 
 unfoldable pub unbuilt_variant : (Form → Bool) → Variant → Option ℕ

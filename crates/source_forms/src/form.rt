@@ -99,6 +99,8 @@ pub enum Form {
     SelfType,
     /// `Self::ViewTy`
     SelfViewType,
+    /// The type of a field of a struct or an enum, whatever its form is.
+    FieldType,
 
     // ---- patterns of `let`, and patterns in them
     LetAny,

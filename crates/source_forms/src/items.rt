@@ -3,7 +3,7 @@ ghost use Rattle.std.specs.Prelude.{◌≡◌};
 ghost use Rattle.source_forms.specs.Forms.{is_among, here, in_some, in_each};
 ghost use Rattle.source_trees.specs.declared.item.ItemNode.TheVariants as I;
 ghost use Rattle.source_forms.specs.ExprForms.{unbuilt_attribute};
-ghost use Rattle.source_forms.specs.ItemForms.{unbuilt_bound, unbuilt_generic, unbuilt_condition, unbuilt_body, unbuilt_function, unbuilt_method, unbuilt_field, unbuilt_fields, unbuilt_variant, impl_form, unbuilt_impl_item, unbuilt_impl, promises_of, unbuilt_node, unbuilt_item, first_unbuilt};
+ghost use Rattle.source_forms.specs.ItemForms.{unbuilt_bound, unbuilt_generic, unbuilt_condition, unbuilt_body, unbuilt_function, unbuilt_method, unbuilt_field_type, unbuilt_field, unbuilt_fields, unbuilt_variant, impl_form, unbuilt_impl_item, unbuilt_impl, promises_of, unbuilt_node, unbuilt_item, first_unbuilt};
 
 use crate::attributes::{unbuilt_attributes, unbuilt_params};
 use crate::expressions::{unbuilt_answer, unbuilt_expr};
@@ -13,8 +13,8 @@ use crate::terms::unbuilt_term;
 use crate::types::{unbuilt_type, unbuilt_types};
 use source_trees::{
     Attribute, Body, Bound, BoundNode, Condition, ConditionNode, Enum, Field, Fields, Function,
-    GenericNode, GenericParam, Impl, ImplItem, Item, ItemNode, Method, Segment, Struct, Variant,
-    VariantFields,
+    GenericNode, GenericParam, Impl, ImplItem, Item, ItemNode, Method, Segment, Struct, TypeTree,
+    Variant, VariantFields,
 };
 use text_core::Span;
 
@@ -165,12 +165,31 @@ fn unbuilt_methods(built: &[Form], form: Form, methods: &[Method]) -> Option<u64
 
 // ---- structs and enums
 
+#[tactic(auto, unfolding(crate::specs::ItemForms::unbuilt_field_type))]
+fn unbuilt_field_type(built: &[Form], ty: &TypeTree) -> Option<u64>
+    ensures { result ≡ unbuilt_field_type (is_among built.now) ty.now }
+{
+    here(built, Form::FieldType, ty.span)
+}
+
+/// The same of the types of the fields of a variant.
+fn unbuilt_field_types(built: &[Form], types: &[TypeTree]) -> Option<u64>
+    ensures { result ≡ in_each (unbuilt_field_type (is_among built.now)) types.now }
+{
+    for ty in types {
+        if let Some(start) = unbuilt_field_type(built, ty) {
+            return Some(start);
+        }
+    }
+    None
+}
+
 #[tactic(auto, unfolding(crate::specs::ItemForms::unbuilt_field))]
 fn unbuilt_fields(built: &[Form], fields: &[Field]) -> Option<u64>
     ensures { result ≡ in_each (unbuilt_field (is_among built.now)) fields.now }
 {
     for field in fields {
-        if let Some(start) = unbuilt_type(built, &field.ty) {
+        if let Some(start) = unbuilt_field_type(built, &field.ty) {
             return Some(start);
         }
     }
@@ -203,7 +222,7 @@ fn unbuilt_variant(built: &[Form], variant: &Variant) -> Option<u64>
 {
     match &variant.fields {
         VariantFields::Unit => None,
-        VariantFields::Tuple(types) => unbuilt_types(built, types.as_slice()),
+        VariantFields::Tuple(types) => unbuilt_field_types(built, types.as_slice()),
         VariantFields::Named(fields) => unbuilt_fields(built, fields.as_slice()),
     }
 }

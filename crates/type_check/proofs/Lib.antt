@@ -1,5 +1,6 @@
 pub mod Arguments
 pub mod Bound
+pub mod ByRules
 pub mod Chains
 pub mod Dropped
 pub mod Fits

@@ -118,7 +118,7 @@ function_fits σ own as' f g p =
     let cs = bound (gather (clause_of (Some t.0) Γ.0) as') _ g t.2 in
     let e = bound (typed_body σ Γ.0 (Some t.0) own f.body) _ g cs.2 in
     let s = body_sound σ Γ.0 (Some t.0) own f.body e.0 e.1 in
-    let h : TypedFunction = record { name = f.name.name; span = f.name.span; signature = signature_by Γ.0 t.0; clauses = cs.0; body = e.0 } in
+    let h : TypedFunction = record { name = f.name.name; span = f.name.span; signature = signature_by Γ.0 t.0; types_at = types_at f; clauses = cs.0; body = e.0 } in
     let q : h ≡ g = same_ok _ _ e.2 in
     let fits : FunctionFits (signatures_at σ) h = record {
       params = all_built f.params Γ.0 Γ.1;

@@ -15,7 +15,12 @@ use Rattle.source_trees.specs.declared.item.Function.{Function}
 use Rattle.source_trees.specs.declared.item.Item.{Item}
 use Rattle.source_trees.specs.declared.item.ItemNode.{ItemNode}
 use Rattle.source_trees.specs.declared.item.ItemNode.TheVariants as item
+use Rattle.source_trees.specs.declared.param.Param.{Param}
+use Rattle.source_trees.specs.declared.param.ParamNode.{ParamNode}
+use Rattle.source_trees.specs.declared.param.ParamNode.TheVariants as param
 use Rattle.source_trees.specs.Pterm.{Pterm}
+use Rattle.source_trees.specs.TypeTree.{TypeTree}
+use Rattle.source_trees.specs.TypeTreeView.{span_of as type_span}
 use Rattle.type_check.specs.declared.heading.Heading.{Heading}
 use Rattle.type_check.specs.declared.program.ClauseKind.{ClauseKind}
 use Rattle.type_check.specs.declared.program.ClauseKind.TheVariants.{Requires, Ensures}
@@ -92,6 +97,22 @@ clause_of t Γ a = clause_by t Γ a.span a.node
 
 -- ---- functions
 
+-- where the type of a parameter is written
+abbrev pub param_type_at : Span → ParamNode → Span
+param_type_at s (param.Named m x w) = type_span w
+param_type_at s _ = s
+
+abbrev pub param_at : Param → Span
+param_at p = param_type_at p.span p.node
+
+-- where the type of the answer is written: at the name where none is
+abbrev pub answer_at : Span → Option TypeTree → Span
+answer_at s None = s
+answer_at s (Some w) = type_span w
+
+abbrev pub types_at : Function → List Span
+types_at f = answer_at f.name.span f.answer ∷ map param_at f.params
+
 -- a body is a block; own: where the function stands
 abbrev pub typed_body : List Heading → List Variable → Option Ty → Span → Body → Typed
 typed_body σ Γ t own (body.Block e) = typed σ Γ e t
@@ -103,7 +124,7 @@ typed_function σ own as' f = do
   t ← answer_ty f.answer
   cs ← gather (clause_of (Some t) Γ) as'
   e ← typed_body σ Γ (Some t) own f.body
-  Ok (record { name = f.name.name; span = f.name.span; signature = signature_by Γ t; clauses = cs; body = e })
+  Ok (record { name = f.name.name; span = f.name.span; signature = signature_by Γ t; types_at = types_at f; clauses = cs; body = e })
 
 abbrev pub typed_by : List Heading → Span → List Attribute → ItemNode → Result (Option TypedFunction) SourceError
 typed_by σ own as' (item.Function f) = do

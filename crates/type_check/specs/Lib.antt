@@ -6,6 +6,7 @@ pub mod FirstBad
 pub mod Functions
 pub mod Laws
 pub mod Names
+pub mod Rules
 pub mod Scope
 pub mod TermChains
 pub mod Terms

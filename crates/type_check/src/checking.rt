@@ -1,6 +1,6 @@
 ghost use Rattle.std.specs.Prelude.{◌≡◌, IfOk, OnOk};
 ghost use Rattle.type_check.specs.Answers.{Answers, AnswersAs, gather};
-ghost use Rattle.type_check.specs.Checked.{AllGood, checked, clause_of, clause_of_kind, typed_body, typed_function, typed_item};
+ghost use Rattle.type_check.specs.Checked.{AllGood, answer_at, checked, clause_of, clause_of_kind, param_at, typed_body, typed_function, typed_item, types_at};
 ghost use Rattle.type_check.specs.WellTyped.{ProgramFits};
 
 use crate::declaring::{headings_of, signature_of, variables_of};
@@ -17,7 +17,8 @@ use crate::typed::TypedExpr;
 use crate::written::answer_ty;
 use logic_term::Ty;
 use source_trees::{
-    Attribute, AttributeNode, Body, ClauseKind as WrittenKind, Function, Item, ItemNode, Pterm,
+    Attribute, AttributeNode, Body, ClauseKind as WrittenKind, Function, Item, ItemNode, Param,
+    ParamNode, Pterm,
 };
 use std::alloc::Global;
 use text_core::{Items, NoMemory, PassError, Span};
@@ -80,6 +81,38 @@ fn clauses_of(
 
 // ---- functions
 
+/// Where the type of the parameter is written.
+fn param_at(param: &Param) -> Span
+    ensures { result ≡ param_at param.now }
+{
+    match &param.node {
+        ParamNode::Named(_, _, written) => written.span,
+        ParamNode::Receiver(_) | ParamNode::Borrowed(_, _) => param.span,
+    }
+}
+
+/// Where the type of the answer is written: at the name where none is.
+fn answer_at(f: &Function) -> Span
+    ensures { result ≡ answer_at f.now.name.span f.now.answer }
+{
+    match &f.answer {
+        None => f.name.span,
+        Some(written) => written.span,
+    }
+}
+
+/// Where the types of the answer and the parameters are written.
+fn types_at(alloc: Global, f: &Function) -> Result<Items<Span>, NoMemory>
+    ensures { IfOk result (λ v. v ≡ types_at f.now) }
+{
+    let mut all = Items::new(alloc);
+    all.push(answer_at(f))?;
+    for param in f.params.as_slice() {
+        all.push(param_at(param))?;
+    }
+    Ok(all)
+}
+
 /// A block is built as the body of a function, which stands there.
 fn type_body(
     alloc: Global,
@@ -119,6 +152,7 @@ fn type_function(
         name: f.name.name,
         span: f.name.span,
         signature,
+        types_at: types_at(alloc, f)?,
         clauses: Items::from_vec(clauses),
         body,
     })

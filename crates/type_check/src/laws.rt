@@ -3,6 +3,7 @@
 
 ghost use Rattle.type_check.specs.Causes.{RefusalsHaveCauses};
 ghost use Rattle.type_check.specs.Laws.{CheckedProgramsFit, CheckedProgramsAreGood};
+ghost use Rattle.type_check.specs.Rules.{TypedByRules, TypingIsOne};
 
 /// The program that a source comes to fits, and no clause and no invariant of it is refused.
 pub fn checked_programs_fit()
@@ -14,4 +15,10 @@ pub fn checked_programs_fit()
 /// function there, E22 at the name of a variable that is written and is not mutable, or E07.
 pub fn refusals_have_causes()
     ensures { RefusalsHaveCauses }
+{}
+
+/// What an expression comes to in a scope is what it comes to by the rules of typing, one for each form, and by these it comes to one thing.
+pub fn expressions_are_typed_by_rules()
+    ensures typed { TypedByRules }
+    ensures one { TypingIsOne }
 {}

@@ -27,6 +27,6 @@ mod written;
 pub use assertion::Assertion;
 pub use checking::check;
 pub use elaborate::{answer_name, variable_name};
-pub use laws::{checked_programs_fit, refusals_have_causes};
+pub use laws::{checked_programs_fit, expressions_are_typed_by_rules, refusals_have_causes};
 pub use program::{ClauseKind, Signature, TypedClause, TypedFunction, TypedProgram};
 pub use typed::{TypedExpr, TypedNode, TypedStmt};

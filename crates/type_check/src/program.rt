@@ -33,6 +33,8 @@ pub struct TypedFunction {
     /// That of the name.
     pub span: Span,
     pub signature: Signature,
+    /// Where the type of the answer is written, at the name where none is; and then those of the parameters.
+    pub types_at: Items<Span>,
     /// In source order.
     pub clauses: Items<TypedClause>,
     /// The parameters are variables 0, 1 and so on.

@@ -6,6 +6,7 @@ use Rattle.text_core.specs.declared.name.Name.{Name}
 use Rattle.logic_term.specs.declared.kinds.Label.{Label}
 use Rattle.logic_term.specs.declared.obligation.Contract.{Contract}
 use Rattle.logic_term.specs.Ty.{Ty, int, bool, tuple, no_tys}
+use Rattle.mir_ir.specs.declared.body.Contracts.{Contracts}
 use Rattle.mir_ir.specs.declared.body.Body.{Body}
 use Rattle.mir_ir.specs.declared.body.Initialised.{Initialised}
 use Rattle.mir_ir.specs.declared.body.Point.{Point}
@@ -77,7 +78,7 @@ gone_at [] n g e = absurd cc
 gone_at (h ∷ gones) zero g e = some_same e
 gone_at (h ∷ gones) (suc n) g e = gone_at gones n g e
 
-module _ (table : List (List ℕ)) (fs : List TypedFunction) (bs : Bodies) (cs : List Contract) (gones : List Initialised) (lowers : Lowers table fs bs cs gones) where
+module _ (table : List (List ℕ)) (fs : List TypedFunction) (bs : Bodies) (cs : Contracts) (gones : List Initialised) (lowers : Lowers table fs bs cs gones) where
   pub sound : AreSound bs
   sound = bodies_are_sound table fs bs cs gones lowers
 

@@ -4,6 +4,7 @@ use Rattle.text_core.specs.declared.refusal.Limit.{Limit}
 use Rattle.text_core.specs.declared.refusal.SourceError.{SourceError}
 use Rattle.name_tables.proofs.Tables.{one_place_at_first}
 use Rattle.logic_term.specs.declared.obligation.Contract.{Contract}
+use Rattle.mir_ir.specs.declared.body.Contracts.{Contracts}
 use Rattle.mir_ir.specs.declared.body.Initialised.{Initialised}
 use Rattle.text_core.specs.declared.fault.PassError.TheVariants as errors
 use Rattle.source_words.proofs.WordLists.{one_table}
@@ -64,7 +65,7 @@ module _ (source : List ℕ) where
 
   -- ---- two lowerings
 
-  module _ (t u : List (List ℕ)) (p q : TypedProgram) (bs ds : Bodies) (cs es : List Contract) (gones others : List Initialised) (a : IsTypedAs source t p) (b : IsTypedAs source u q)
+  module _ (t u : List (List ℕ)) (p q : TypedProgram) (bs ds : Bodies) (cs es : Contracts) (gones others : List Initialised) (a : IsTypedAs source t p) (b : IsTypedAs source u q)
       (l : LowerTo t p.functions bs cs gones) (m : LowerTo u q.functions ds es others) where
     same_lowering : (bs ≡ ds) × (cs ≡ es) × (gones ≡ others)
     same_lowering =
@@ -73,7 +74,7 @@ module _ (source : List ℕ) where
         programs_lower_in_one_way u q.functions bs ds cs es gones others (subst (λ (r : TypedProgram). LowerTo u r.functions bs cs gones) typed (subst (λ (x : List (List ℕ)). LowerTo x p.functions bs cs gones) tables l)) m
 
   -- a program that lowers to few blocks has no more
-  no_more : (t u : List (List ℕ)) (p q : TypedProgram) (bs : Bodies) (cs : List Contract) (gones : List Initialised) → IsTypedAs source t p → IsTypedAs source u q → LowerTo t p.functions bs cs gones → HaveFewBlocks bs → HasMoreBlocks q most_blocks → ⊥
+  no_more : (t u : List (List ℕ)) (p q : TypedProgram) (bs : Bodies) (cs : Contracts) (gones : List Initialised) → IsTypedAs source t p → IsTypedAs source u q → LowerTo t p.functions bs cs gones → HaveFewBlocks bs → HasMoreBlocks q most_blocks → ⊥
   no_more t u p q bs cs gones a b l few more = blocks_are_counted t p bs cs gones most_blocks l few (subst (λ (r : TypedProgram). HasMoreBlocks r most_blocks) (sym (same_typed t u p q a b)) more)
 
   -- ---- limits
@@ -91,7 +92,7 @@ module _ (source : List ℕ) where
     typed_not_many : (t : List (List ℕ)) (p : TypedProgram) (limit : Limit) → IsTypedAs source t p → IsSourceError [] source (errors.Limit limit) → ⊥
     typed_not_many t p limit a is = not_few [] source one_place_at_first a.items limit a.has.spelled a.has.few is
 
-    few_and_many : (t u : List (List ℕ)) (p q : TypedProgram) (bs ds : Bodies) (cs es : List Contract) (gones others : List Initialised) → IsTypedAs source t p → IsTypedAs source u q → LowerTo t p.functions bs cs gones
+    few_and_many : (t u : List (List ℕ)) (p q : TypedProgram) (bs ds : Bodies) (cs es : Contracts) (gones others : List Initialised) → IsTypedAs source t p → IsTypedAs source u q → LowerTo t p.functions bs cs gones
         → LowerTo u q.functions ds es others → HaveFewPaths bs → HasManyPaths ds → ⊥
     few_and_many t u p q bs ds cs es gones others a b l m few many =
         few_paths_are_not_many bs few (subst HasManyPaths (sym (same_lowering t u p q bs ds cs es gones others a b l m).0) many)
@@ -123,13 +124,13 @@ module _ (source : List ℕ) where
 
     -- ---- accepted sources
 
-    prepared_not_many : (p : Program) (many : ℕ) (owed : List Owed) (t : List (List ℕ)) (q : TypedProgram) (bs : Bodies) (cs : List Contract) (gones : List Initialised) → IsPrepared source p → IsTypedAs source t q → LowerTo t q.functions bs cs gones
+    prepared_not_many : (p : Program) (many : ℕ) (owed : List Owed) (t : List (List ℕ)) (q : TypedProgram) (bs : Bodies) (cs : Contracts) (gones : List Initialised) → IsPrepared source p → IsTypedAs source t q → LowerTo t q.functions bs cs gones
         → FunctionsOwe bs cs gones many owed → most_obligations < length owed → ⊥
     prepared_not_many p many owed t q bs cs gones h b l owe more =
         let same = same_lowering t p.names q h.typed bs p.bodies cs p.contracts gones h.gones b h.is_typed l h.lowers in
         let moved : FunctionsOwe p.bodies p.contracts h.gones many owed =
         subst (λ (x : List Initialised). FunctionsOwe p.bodies p.contracts x many owed) same.2
-        (subst (λ (x : List Contract). FunctionsOwe p.bodies x gones many owed) same.1 (subst (λ (x : Bodies). FunctionsOwe x cs gones many owed) same.0 owe)) in
+        (subst (λ (x : Contracts). FunctionsOwe p.bodies x gones many owed) same.1 (subst (λ (x : Bodies). FunctionsOwe x cs gones many owed) same.0 owe)) in
         few_obligations_are_not_many p.bodies p.contracts h.gones many p.obligations owed h.owed h.few moved more
 
     pub prepared_not_past : (p : Program) (limit : Limit) → IsPrepared source p → IsPastLimit source limit → ⊥
@@ -147,7 +148,7 @@ module _ (source : List ℕ) where
       let same = same_lowering one.names other.names h.typed g.typed one.bodies other.bodies one.contracts other.contracts h.gones g.gones h.is_typed g.is_typed h.lowers g.lowers in
       let moved : FunctionsOwe other.bodies other.contracts g.gones (length one.bodies.bodies) one.obligations =
       subst (λ (x : List Initialised). FunctionsOwe other.bodies other.contracts x (length one.bodies.bodies) one.obligations) same.2
-      (subst (λ (x : List Contract). FunctionsOwe other.bodies x h.gones (length one.bodies.bodies) one.obligations) same.1
+      (subst (λ (x : Contracts). FunctionsOwe other.bodies x h.gones (length one.bodies.bodies) one.obligations) same.1
       (subst (λ (x : Bodies). FunctionsOwe x one.contracts h.gones (length one.bodies.bodies) one.obligations) same.0 h.owed)) in
       let as_many : FunctionsOwe other.bodies other.contracts g.gones (length other.bodies.bodies) one.obligations = subst (λ (n : ℕ). FunctionsOwe other.bodies other.contracts g.gones n one.obligations) (ap (λ (x : Bodies). length x.bodies) same.0) moved in
       let obligations : one.obligations ≡ other.obligations = owed_is_one other.bodies other.contracts g.gones (length other.bodies.bodies) one.obligations other.obligations as_many g.owed in

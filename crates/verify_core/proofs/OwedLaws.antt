@@ -6,6 +6,7 @@ use Rattle.std.proofs.lemmas.List.{append-nil, map-append}
 use Rattle.std.proofs.lemmas.List.Elements.{filter-append}
 use Rattle.logic_term.specs.declared.obligation.Contract.{Contract}
 use Rattle.logic_term.specs.declared.obligation.Obligation.{Obligation}
+use Rattle.mir_ir.specs.declared.body.Contracts.{Contracts}
 use Rattle.mir_ir.specs.declared.body.Bodies.{Bodies}
 use Rattle.mir_ir.specs.declared.body.Initialised.{Initialised}
 use Rattle.mir_machine.specs.Good.{Each}
@@ -71,7 +72,7 @@ owes_nothing bodies n past (o ∷ os) (has, rest) = rw (not_it bodies n o.by pas
 
 -- ---- the functions of a program
 
-module _ (bs : Bodies) (cs : List Contract) (gones : List Initialised) where
+module _ (bs : Bodies) (cs : Contracts) (gones : List Initialised) where
   pub have_owners : {many : ℕ} {owed : List Owed} → FunctionsOwe bs cs gones many owed → HaveOwners bs owed
   have_owners FunctionsOwe.none = tt
   have_owners (FunctionsOwe.and_function {n} {owed} {os} first own) =

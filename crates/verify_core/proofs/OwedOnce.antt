@@ -3,6 +3,7 @@ use Rattle.std.proofs.Common.{◌≡◌, ◌∙◌, refl, sym, ap, subst, ℕ, s
 use Rattle.std.proofs.lemmas.Bool.{cases_lt}
 use Rattle.logic_term.specs.declared.obligation.Contract.{Contract}
 use Rattle.logic_term.specs.declared.obligation.Obligation.{Obligation}
+use Rattle.mir_ir.specs.declared.body.Contracts.{Contracts}
 use Rattle.mir_ir.specs.declared.body.Bodies.{Bodies}
 use Rattle.mir_ir.specs.declared.body.Body.{Body}
 use Rattle.mir_ir.specs.declared.body.Initialised.{Initialised}
@@ -23,7 +24,7 @@ some_same e = cc
 of_walk_once : (w : Setting) (os others : List Obligation) → AreOfWalk w os → AreOfWalk w others → os ≡ others
 of_walk_once w os others one other = (obligations_once w 1 os others one other).0
 
-module _ (bs : Bodies) (cs : List Contract) (gones : List Initialised) where
+module _ (bs : Bodies) (cs : Contracts) (gones : List Initialised) where
   abbrev walk_setting : ℕ → Body → Contract → Setting
   walk_setting n b c = record { body = b; contracts = cs; contract = c; init = gone_of gones n }
 

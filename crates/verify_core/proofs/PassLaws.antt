@@ -9,6 +9,7 @@ use Rattle.logic_term.specs.declared.kinds.Label.{Label}
 use Rattle.logic_term.specs.declared.obligation.Contract.{Contract}
 use Rattle.logic_term.specs.declared.obligation.Obligation.{Obligation}
 use Rattle.logic_term.specs.Ty.{Ty}
+use Rattle.mir_ir.specs.declared.body.Contracts.{Contracts}
 use Rattle.mir_ir.specs.declared.body.Body.{Body}
 use Rattle.mir_ir.specs.declared.body.Initialised.{Initialised}
 use Rattle.mir_ir.specs.declared.place.Operand.{Operand}
@@ -25,11 +26,12 @@ use Rattle.text_core.specs.declared.fault.PassError.TheVariants as errors
 use Rattle.source_words.specs.Words.{GivesNames}
 use Rattle.source_trees.specs.declared.item.Item.{Item}
 use Rattle.rs_syntax.specs.Parsed.{functions_among, most_functions}
+use Rattle.type_check.specs.declared.program.Signature.{Signature}
 use Rattle.type_check.specs.declared.program.TypedFunction.{TypedFunction}
 use Rattle.type_check.specs.declared.program.TypedProgram.{TypedProgram}
 use Rattle.type_check.specs.Answers.{Refuses as TypesRefuse}
 use Rattle.type_check.specs.Checked.{checked}
-use Rattle.type_check.specs.WellTyped.{ProgramFits}
+use Rattle.type_check.specs.WellTyped.{ProgramFits, signatures}
 use Rattle.mir_build.specs.declared.lowered.Lowered.{Lowered}
 use Rattle.mir_build.specs.Laws.{Lowers}
 use Rattle.mir_build.specs.Lowering.{EachLowersTo, IsLowered, HasMoreBlocks, no_functions, and_function}
@@ -106,21 +108,21 @@ tables_are table typed l T lowered is = is ∙ ap with_types (sym lowered.decls)
 -- ---- bodies that can be walked
 
 module _ (table : List (List ℕ)) where
-  as_many : (n : ℕ) (fs : List TypedFunction) (bs : List Body) (cs : List Contract) (gones : List Initialised) → EachLowersTo table n fs bs cs gones → (length cs ≡ length bs) × (length gones ≡ length bs)
-  as_many _ _ _ _ _ no_functions = (refl, refl)
-  as_many _ _ _ _ _ (and_function owner named lowers numbered rest) = let r = as_many _ _ _ _ _ rest in (ap suc r.0, ap suc r.1)
+  as_many : (σ : List Signature) (n : ℕ) (fs : List TypedFunction) (bs : List Body) (cs : List Contract) (gones : List Initialised) → EachLowersTo table σ n fs bs cs gones → (length cs ≡ length bs) × (length gones ≡ length bs)
+  as_many _ _ _ _ _ _ no_functions = (refl, refl)
+  as_many _ _ _ _ _ _ (and_function owner named lowers numbered rest) = let r = as_many _ _ _ _ _ _ rest in (ap suc r.0, ap suc r.1)
 
-  known : (bs : Bodies) (cs : List Contract) (b : Body) (p : Place) (callee : Callee) (types : List Ty) (args : List Operand) (m : Label) (kind : TerminatorKind) → length cs ≡ length bs.bodies → EndIsTyped bs b kind → kind ≡ Call p callee types args m
+  known : (bs : Bodies) (cs : Contracts) (b : Body) (p : Place) (callee : Callee) (types : List Ty) (args : List Operand) (m : Label) (kind : TerminatorKind) → length cs.of ≡ length bs.bodies → EndIsTyped bs b kind → kind ≡ Call p callee types args m
       → ((d : Contract) × (contract_at cs callee ≡ Some d)) × ((t : Ty) × (slice_get b.locals p.local ≡ Some t))
   known bs cs b p (Function (OfBody f)) types args m kind same typed is =
       let call : EndIsTyped bs b (Call p (Function (OfBody f)) types args m) = subst (λ (k : TerminatorKind). EndIsTyped bs b k) is typed in
-      let inside : f < length cs = subst (λ (k : ℕ). f < k) (sym same) (within bs.bodies f call.0.0 call.0.2) in
-      (got cs f inside, (call.0.1, call.0.5.1))
+      let inside : f < length cs.of = subst (λ (k : ℕ). f < k) (sym same) (within bs.bodies f call.0.0 call.0.2) in
+      (got cs.of f inside, (call.0.1, call.0.5.1))
 
   pub walkable : (typed : TypedProgram) (l : Lowered) → IsLowered table typed l → ProgramFits typed → CanWalkAll l
   walkable typed l lowered fits =
       let lowers : Lowers table typed.functions l.bodies l.contracts l.gone = record { lowers = lowered; fits = fits } in
-      let sizes = as_many 0 typed.functions l.bodies.bodies l.contracts l.gone lowered.each in
+      let sizes = as_many (signatures typed.functions) 0 typed.functions l.bodies.bodies l.contracts.of l.gone lowered.each in
       record {
         contracts = sizes.0;
         gone = sizes.1;
@@ -141,7 +143,7 @@ module _ (table : List (List ℕ)) where
 pub read_at : {A : Type 0} (ys xs : List A) (n : ℕ) (x : A) → ys ≡ xs → x ≡ get_or ys n x → n < length xs → slice_get xs n ≡ Some x
 read_at {A} ys xs n x e is inside = slice_get_read xs (length xs) n x refl inside (subst (λ (zs : List A). x ≡ get_or zs n x) e is)
 
-pub setting_at : (l : Lowered) (n : ℕ) (b : Body) (cs : List Contract) (c : Contract) (g : Initialised) → slice_get l.bodies.bodies n ≡ Some b → cs ≡ l.contracts → slice_get l.contracts n ≡ Some c → slice_get l.gone n ≡ Some g
+pub setting_at : (l : Lowered) (n : ℕ) (b : Body) (cs : Contracts) (c : Contract) (g : Initialised) → slice_get l.bodies.bodies n ≡ Some b → cs ≡ l.contracts → slice_get l.contracts.of n ≡ Some c → slice_get l.gone n ≡ Some g
     → IsSettingAt l n (record { body = b; contracts = cs; contract = c; init = g })
 setting_at l n b cs c g is_body same is_contract is_gone = record {
   body = is_body;
@@ -153,7 +155,7 @@ setting_at l n b cs c g is_body same is_contract is_gone = record {
 pub walk_at : (l : Lowered) (n : ℕ) (w : Setting) → CanWalkAt l n → IsSettingAt l n w → CanWalk w
 walk_at l n w can at =
     subst (λ (x : Initialised). CanWalk (record { body = w.body; contracts = w.contracts; contract = w.contract; init = x })) (sym at.gone)
-    (subst (λ (xs : List Contract). CanWalk (record { body = w.body; contracts = xs; contract = w.contract; init = gone_of l.gone n })) (sym at.contracts) (can w.body w.contract at.body at.contract))
+    (subst (λ (xs : Contracts). CanWalk (record { body = w.body; contracts = xs; contract = w.contract; init = gone_of l.gone n })) (sym at.contracts) (can w.body w.contract at.body at.contract))
 
 -- obligations of the walk are those of the function, and the other way round
 same_setting : (l : Lowered) (n : ℕ) (w : Setting) → IsSettingAt l n w → w ≡ record { body = w.body; contracts = l.contracts; contract = w.contract; init = gone_of l.gone n }
@@ -273,7 +275,7 @@ owe_some l zero can within = ([], FunctionsOwe.none)
 owe_some l (suc n) can inside =
     let r = owe_some l n can (omega (arith, inside)) in
     let b = got l.bodies.bodies n (omega (arith, inside)) in
-    let c = got l.contracts n (omega (arith, inside, can.contracts)) in
+    let c = got l.contracts.of n (omega (arith, inside, can.contracts)) in
     let w : Setting = record { body = b.0; contracts = l.contracts; contract = c.0; init = gone_of l.gone n } in
     let at : IsSettingAt l n w = record { body = b.1; contract = c.1; contracts = refl; gone = refl } in
     let o = owes_some l n w can at in

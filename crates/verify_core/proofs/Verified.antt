@@ -73,7 +73,7 @@ module _ (source : List ℕ) (p : Program) (prepared : IsPrepared source p) wher
   walk_setting n b c = record { body = b; contracts = p.contracts; contract = c; init = gone_of prepared.gones n }
 
   -- what function n owes is of the walk of its body
-  owed_of_walk : (n : ℕ) (b : Body) (c : Contract) → slice_get p.bodies.bodies n ≡ Some b → slice_get p.contracts n ≡ Some c → AreOfWalk (walk_setting n b c) (owed_by (Function n) p.obligations)
+  owed_of_walk : (n : ℕ) (b : Body) (c : Contract) → slice_get p.bodies.bodies n ≡ Some b → slice_get p.contracts.of n ≡ Some c → AreOfWalk (walk_setting n b c) (owed_by (Function n) p.obligations)
   owed_of_walk n b c is_b is_c =
       let own = function_owes p.bodies p.contracts prepared.gones prepared.owed n (within p.bodies.bodies n b is_b) in
       let same_body : own.body ≡ b = some_same (sym own.is_body ∙ is_b) in
@@ -82,7 +82,7 @@ module _ (source : List ℕ) (p : Program) (prepared : IsPrepared source p) wher
       (subst (λ (a : Body). AreOfWalk (walk_setting n a own.contract) (owed_by (Function n) p.obligations)) same_body own.of_walk)
 
   -- and true, where it is proved
-  owed_are_true : (ps : List Proof) (n : ℕ) (b : Body) (c : Contract) → slice_get p.bodies.bodies n ≡ Some b → slice_get p.contracts n ≡ Some c → Each (HasDerivation p.tables ps) (owed_by (Function n) p.obligations)
+  owed_are_true : (ps : List Proof) (n : ℕ) (b : Body) (c : Contract) → slice_get p.bodies.bodies n ≡ Some b → slice_get p.contracts.of n ≡ Some c → Each (HasDerivation p.tables ps) (owed_by (Function n) p.obligations)
       → sim.HasTrueObligations (declared_of p) (walk_setting n b c)
   owed_are_true ps n b c is_b is_c proved =
       let of_walk = owed_of_walk n b c is_b is_c in

@@ -2,6 +2,7 @@
 use Rattle.std.specs.Prelude.{◌≡◌, ℕ, ◌<◌, ◌≤◌, Some, None, List, ◌++◌, length}
 use Rattle.logic_term.specs.declared.obligation.Contract.{Contract}
 use Rattle.logic_term.specs.declared.obligation.Obligation.{Obligation}
+use Rattle.mir_ir.specs.declared.body.Contracts.{Contracts}
 use Rattle.mir_ir.specs.declared.body.Body.{Body}
 use Rattle.mir_ir.specs.declared.body.Initialised.{Initialised}
 use Rattle.logic_term.specs.Theory.{Theory}
@@ -34,23 +35,23 @@ ObligationsAreOne = (w : Setting) (start : ℕ) (os others : List Obligation) (o
 
 -- so many of the first functions owe one list
 abbrev pub OwedIsOne : Type 0
-OwedIsOne = (bs : Bodies) (cs : List Contract) (gones : List Initialised) (n : ℕ) (os others : List Owed) → FunctionsOwe bs cs gones n os → FunctionsOwe bs cs gones n others → os ≡ others
+OwedIsOne = (bs : Bodies) (cs : Contracts) (gones : List Initialised) (n : ℕ) (os others : List Owed) → FunctionsOwe bs cs gones n os → FunctionsOwe bs cs gones n others → os ≡ others
 
 -- what fewer of the first functions owe stands at the front of what more of them do
 abbrev pub FewerAreFront : Type 0
-FewerAreFront = (bs : Bodies) (cs : List Contract) (gones : List Initialised) (n m : ℕ) (os others : List Owed) → FunctionsOwe bs cs gones n os → FunctionsOwe bs cs gones m others → n ≤ m → (rest : List Owed) × (others ≡ os ++ rest)
+FewerAreFront = (bs : Bodies) (cs : Contracts) (gones : List Initialised) (n m : ℕ) (os others : List Owed) → FunctionsOwe bs cs gones n os → FunctionsOwe bs cs gones m others → n ≤ m → (rest : List Owed) × (others ≡ os ++ rest)
 
 -- so they have no more obligations
 abbrev pub FewerOweFewer : Type 0
-FewerOweFewer = (bs : Bodies) (cs : List Contract) (gones : List Initialised) (n m : ℕ) (os others : List Owed) → FunctionsOwe bs cs gones n os → FunctionsOwe bs cs gones m others → n ≤ m → length os ≤ length others
+FewerOweFewer = (bs : Bodies) (cs : Contracts) (gones : List Initialised) (n m : ℕ) (os others : List Owed) → FunctionsOwe bs cs gones n os → FunctionsOwe bs cs gones m others → n ≤ m → length os ≤ length others
 
 -- no more functions owe than there are bodies
 abbrev pub OwedIsOfBodies : Type 0
-OwedIsOfBodies = (bs : Bodies) (cs : List Contract) (gones : List Initialised) (n : ℕ) (os : List Owed) → FunctionsOwe bs cs gones n os → n ≤ length bs.bodies
+OwedIsOfBodies = (bs : Bodies) (cs : Contracts) (gones : List Initialised) (n : ℕ) (os : List Owed) → FunctionsOwe bs cs gones n os → n ≤ length bs.bodies
 
 -- where all functions have few enough obligations, no first functions have too many
 abbrev pub FewObligationsAreNotMany : Type 0
-FewObligationsAreNotMany = (bs : Bodies) (cs : List Contract) (gones : List Initialised) (n : ℕ) (os firsts : List Owed) → FunctionsOwe bs cs gones (length bs.bodies) os → length os ≤ most_obligations
+FewObligationsAreNotMany = (bs : Bodies) (cs : Contracts) (gones : List Initialised) (n : ℕ) (os firsts : List Owed) → FunctionsOwe bs cs gones (length bs.bodies) os → length os ≤ most_obligations
     → FunctionsOwe bs cs gones n firsts → most_obligations < length firsts → ⊥
 
 -- ---- paths

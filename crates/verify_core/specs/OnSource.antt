@@ -21,7 +21,7 @@ most_proof_bytes = 67108864
 
 -- each function that the verdict lists as verified is good for its contract
 abbrev pub AreGood : Program → Verdict → Type 0
-AreGood p v = (f : ℕ) (line : FnLine) (c : Contract) → slice_get v.functions f ≡ Some line → line.verified ≡ true → slice_get p.contracts f ≡ Some c → Good (declared_of p) p.bodies f c
+AreGood p v = (f : ℕ) (line : FnLine) (c : Contract) → slice_get v.functions f ≡ Some line → line.verified ≡ true → slice_get p.contracts.of f ≡ Some c → Good (declared_of p) p.bodies f c
 
 -- the source is accepted, the bytes are a file of proofs, and this is the verdict
 pub record IsVerdictOn (source proofs : List ℕ) (v : Verdict) : Type 0 where

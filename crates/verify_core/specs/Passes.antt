@@ -17,11 +17,11 @@ use Rattle.mir_ir.specs.declared.body.Bodies.{Bodies}
 
 -- the body of this place can be walked, if there is one
 abbrev pub CanWalkAt : Lowered → ℕ → Type 0
-CanWalkAt l n = (b : Body) (c : Contract) → slice_get l.bodies.bodies n ≡ Some b → slice_get l.contracts n ≡ Some c → CanWalk (record { body = b; contracts = l.contracts; contract = c; init = gone_of l.gone n })
+CanWalkAt l n = (b : Body) (c : Contract) → slice_get l.bodies.bodies n ≡ Some b → slice_get l.contracts.of n ≡ Some c → CanWalk (record { body = b; contracts = l.contracts; contract = c; init = gone_of l.gone n })
 
 -- there are as many contracts and gone places as bodies; each body has its place as its number, and can be walked
 pub record CanWalkAll (l : Lowered) : Type 0 where
-  pub contracts : length l.contracts ≡ length l.bodies.bodies
+  pub contracts : length l.contracts.of ≡ length l.bodies.bodies
   pub gone : length l.gone ≡ length l.bodies.bodies
   pub numbered : (n : ℕ) (b : Body) → slice_get l.bodies.bodies n ≡ Some b → b.id ≡ n
   pub walk : (n : ℕ) → CanWalkAt l n
@@ -29,7 +29,7 @@ pub record CanWalkAll (l : Lowered) : Type 0 where
 -- what the walk of the function of this place looks up
 pub record IsSettingAt (l : Lowered) (n : ℕ) (w : Setting) : Type 0 where
   pub body : slice_get l.bodies.bodies n ≡ Some w.body
-  pub contract : slice_get l.contracts n ≡ Some w.contract
+  pub contract : slice_get l.contracts.of n ≡ Some w.contract
   pub contracts : w.contracts ≡ l.contracts
   pub gone : w.init ≡ gone_of l.gone n
 

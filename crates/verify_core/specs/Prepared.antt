@@ -6,6 +6,7 @@ use Rattle.text_core.specs.declared.refusal.SourceError.{SourceError}
 use Rattle.logic_term.specs.declared.obligation.Contract.{Contract}
 use Rattle.logic_term.specs.declared.obligation.Obligation.{Obligation}
 use Rattle.mir_ir.specs.declared.body.Body.{Body}
+use Rattle.mir_ir.specs.declared.body.Contracts.{Contracts}
 use Rattle.mir_ir.specs.declared.body.Initialised.{Initialised}
 use Rattle.wp_gen.specs.Paths.{HasPaths, HasMorePaths}
 use Rattle.prophecy_logic.specs.Graph.{Setting, AreObligations}
@@ -65,7 +66,7 @@ gone_of [] n = record { gone = [] }
 gone_of (g ∷ gones) zero = g
 gone_of (g ∷ gones) (suc n) = gone_of gones n
 
-abbrev pub program_of : Bodies → List Contract → List Initialised → sim.Program
+abbrev pub program_of : Bodies → Contracts → List Initialised → sim.Program
 program_of bs cs gones = record { bodies = bs; contracts = cs; gone = gone_of gones }
 
 -- the obligations of the walk of a body with its contract, from number 1 on
@@ -73,15 +74,15 @@ abbrev pub AreOfWalk : Setting → List Obligation → Type 0
 AreOfWalk w os = AreObligations w 1 os
 
 -- function n owes these
-pub record FunctionOwes (bs : Bodies) (cs : List Contract) (gones : List Initialised) (n : ℕ) (os : List Obligation) : Type 0 where
+pub record FunctionOwes (bs : Bodies) (cs : Contracts) (gones : List Initialised) (n : ℕ) (os : List Obligation) : Type 0 where
   pub body : Body
   pub is_body : slice_get bs.bodies n ≡ Some body
   pub contract : Contract
-  pub is_contract : slice_get cs n ≡ Some contract
+  pub is_contract : slice_get cs.of n ≡ Some contract
   pub of_walk : AreOfWalk (record { body = body; contracts = cs; contract = contract; init = gone_of gones n }) os
 
 -- so many functions, the first ones, owe these, one function behind the other
-pub data FunctionsOwe (bs : Bodies) (cs : List Contract) (gones : List Initialised) : ℕ → List Owed → Type 0 where
+pub data FunctionsOwe (bs : Bodies) (cs : Contracts) (gones : List Initialised) : ℕ → List Owed → Type 0 where
   none : FunctionsOwe bs cs gones 0 []
   and_function : {n : ℕ} {owed : List Owed} {os : List Obligation} → FunctionsOwe bs cs gones n owed → FunctionOwes bs cs gones n os → FunctionsOwe bs cs gones (suc n) (owed ++ owing (Function n) os)
 
@@ -124,9 +125,9 @@ pub data IsPastLimit (source : List ℕ) : Limit → Type 0 where
   bytes : most_bytes < length source → IsPastLimit source (record { kind = SourceBytes; counted = length source; bound = most_bytes })
   functions : {limit : Limit} → IsSourceError [] source (errors.Limit limit) → IsPastLimit source limit
   blocks : {table : List (List ℕ)} {typed : TypedProgram} → IsTypedAs source table typed → HasMoreBlocks typed most_blocks → IsPastLimit source (record { kind = Blocks; counted = most_blocks + 1; bound = most_blocks })
-  paths : {table : List (List ℕ)} {typed : TypedProgram} {bs : Bodies} {cs : List Contract} {gones : List Initialised} → IsTypedAs source table typed → LowerTo table typed.functions bs cs gones → HaveFewBlocks bs → HasManyPaths bs
+  paths : {table : List (List ℕ)} {typed : TypedProgram} {bs : Bodies} {cs : Contracts} {gones : List Initialised} → IsTypedAs source table typed → LowerTo table typed.functions bs cs gones → HaveFewBlocks bs → HasManyPaths bs
       → IsPastLimit source (record { kind = Paths; counted = most_paths + 1; bound = most_paths })
-  obligations : {table : List (List ℕ)} {typed : TypedProgram} {bs : Bodies} {cs : List Contract} {gones : List Initialised} {many : ℕ} {owed : List Owed} → IsTypedAs source table typed → LowerTo table typed.functions bs cs gones
+  obligations : {table : List (List ℕ)} {typed : TypedProgram} {bs : Bodies} {cs : Contracts} {gones : List Initialised} {many : ℕ} {owed : List Owed} → IsTypedAs source table typed → LowerTo table typed.functions bs cs gones
       → HaveFewBlocks bs → HaveFewPaths bs → FunctionsOwe bs cs gones many owed → most_obligations < length owed → IsPastLimit source (record { kind = Obligations; counted = most_obligations + 1; bound = most_obligations })
 
 -- why a source has no program

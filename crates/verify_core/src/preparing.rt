@@ -52,14 +52,14 @@ fn check_all_paths(bodies: &Bodies) -> Result<(), Limit>
 /// What the walk of the function of this place looks up.
 fn walk_of(lowered: &Lowered, place: usize) -> Walk<'_>
     requires bodies { place < length lowered.now.bodies.bodies }
-    requires contracts { place < length lowered.now.contracts }
+    requires contracts { place < length lowered.now.contracts.of }
     requires gone { place < length lowered.now.gone }
     ensures { IsSettingAt lowered.now place (setting result) }
 {
     Walk {
         body: &lowered.bodies.bodies.as_slice()[place],
-        contracts: lowered.contracts.as_slice(),
-        contract: &lowered.contracts.as_slice()[place],
+        contracts: &lowered.contracts,
+        contract: &lowered.contracts.of.as_slice()[place],
         init: &lowered.gone.as_slice()[place],
     }
 }

@@ -1,6 +1,5 @@
 use crate::owed::Owed;
-use logic_term::Contract;
-use mir_ir::Bodies;
+use mir_ir::{Bodies, Contracts};
 use proof_kernel::Tables;
 use text_core::{Items, Names};
 
@@ -10,7 +9,7 @@ use text_core::{Items, Names};
 pub struct Program {
     pub names: Names,
     pub bodies: Bodies,
-    pub contracts: Items<Contract>,
+    pub contracts: Contracts,
     pub tables: Tables,
     pub obligations: Items<Owed>,
 }

@@ -19,7 +19,7 @@ use crate::reached::{
 };
 use crate::row::name_of;
 use logic_term::{Contract, Label, Term};
-use mir_ir::{Block, Body, Callee, FnId, Head, Initialised, TerminatorKind};
+use mir_ir::{Block, Body, Callee, Contracts, FnId, Head, Initialised, TerminatorKind};
 use prophecy_logic::{Goal, MetGoal};
 use std::alloc::Global;
 use text_core::{Kind, NoMemory, Span};
@@ -28,7 +28,7 @@ use text_core::{Kind, NoMemory, Span};
 #[derive(Clone, Copy)]
 pub struct Walk<'a> {
     pub body: &'a Body,
-    pub contracts: &'a [Contract],
+    pub contracts: &'a Contracts,
     pub contract: &'a Contract,
     pub init: &'a Initialised,
 }
@@ -116,12 +116,12 @@ fn with_label(alloc: Global, first: Label, rest: &[Label]) -> Result<Vec<Label>,
 }
 
 /// The contract by which a call is reasoned about.
-pub(crate) fn contract_at(contracts: &[Contract], callee: Callee) -> &Contract
+pub(crate) fn contract_at(contracts: &Contracts, callee: Callee) -> &Contract
     requires { (c : ContractValue) × (contract_at contracts.now callee ≡ Some c) }
     ensures { contract_at contracts.now callee ≡ Some result.now }
 {
     let Callee::Function(FnId::Body(number)) = callee;
-    &contracts[number as usize]
+    &contracts.of.as_slice()[number as usize]
 }
 
 /// The goals from a block's end on, behind those that were met.

@@ -23,7 +23,7 @@ loop-f-preserved c =
     record {
       lowered = λ w.
           let fits = fits_at (signatures fs) fs i f w is within in
-          let step = then_lower _ 0 _ _ _ _ f c.in_ok-body.body c.in_ok-body.own _ (c.loop-f.invariant.lowered w) c.in_ok-body.ensures.named (c.in_ok-body.ensures.lowered (signatures fs) fits) number in
+          let step = then_lower _ (signatures fs) 0 _ _ _ _ f c.in_ok-body.body c.in_ok-body.own _ (c.loop-f.invariant.lowered w) c.in_ok-body.ensures.named (c.in_ok-body.ensures.lowered fits) number in
           rw (more, c.in_ok-push.ensures.ok, c.in_ok-push-2.ensures.ok, c.in_ok-contract_of.ensures, c.in_ok-push-3.ensures.ok) step;
       few = rw c.in_ok-push.ensures.ok (All-push (λ (b : Body). length b.blocks ≤ 4096) c.loop-f.bodies c.in_ok-body.body c.loop-f.invariant.few c.in_ok-body.ensures.few);
     }

@@ -1,0 +1,115 @@
+-- Typing by rules: what each form asks of its parts, one after another in source order, and what it comes to itself where they have types
+-- (bidirectional typing, Pierce and Turner 2000). Without an expected type an expression gives one, with one it fits it; a part that is
+-- refused refuses the whole. One equation stands for each form, and no equation looks into a part.
+use Rattle.std.specs.Prelude.{◌≡◌, List, [], ◌∷◌, Option, Some, None, Result, Ok, Err}
+use Rattle.text_core.specs.declared.refusal.SourceError.{SourceError}
+use Rattle.text_core.specs.declared.span.Span.{Span}
+use Rattle.logic_term.specs.Ty.{Ty, bool}
+use Rattle.source_trees.specs.declared.operator.UnaryOp.TheVariants.{Neg, Not}
+use Rattle.source_trees.specs.declared.path.Segment.{Segment}
+use Rattle.source_trees.specs.Expr as E
+use Rattle.source_trees.specs.Expr.{Expr}
+use Rattle.source_trees.specs.ExprView.{span_of}
+use Rattle.type_check.specs.declared.heading.Heading.{Heading}
+use Rattle.type_check.specs.declared.operands.Operands.{Operands}
+use Rattle.type_check.specs.declared.operands.Order.{Order}
+use Rattle.type_check.specs.declared.operands.Order.TheVariants as order
+use Rattle.type_check.specs.declared.operands.Target.{Target}
+use Rattle.type_check.specs.declared.operands.Target.TheVariants as target
+use Rattle.type_check.specs.declared.scope.Variable.{Variable}
+use Rattle.type_check.specs.Answers.{unbuilt, gather}
+use Rattle.type_check.specs.Scope.{found}
+use Rattle.type_check.specs.TypedExpr.{TypedExpr, TypedExprs}
+use Rattle.type_check.specs.TypedExpr as tree
+use Rattle.type_check.specs.TypedExprView.{ty_of, stmts_of}
+use Rattle.type_check.specs.Typing.{Typed, fit, literal, named, negated, is_bare, order_of, operands_of, operated, target_variable, target_ty, assigned, updated, callee_of, first_of, rest_of, called, Opened, opened, declared, behind, typed_stmt, closed, invariant_of, typed}
+use Rattle.type_check.specs.WellTyped.{unit, is_arithmetic}
+use Rattle.type_check.specs.Written.{as_name, name_alone, step_of}
+
+-- what is asked: a part in its scope, at an expected type if there is one, and from its typed tree on what else; or nothing more
+pub data Asks : Type 0 where
+  comes : Typed → Asks
+  part : List Variable → Expr → Option Ty → (TypedExpr → Asks) → Asks
+
+-- something that is no expression, and then what else
+abbrev pub first : {A : Type 0} → Result A SourceError → (A → Asks) → Asks
+first (Ok a) k = k a
+first (Err e) k = comes (Err e)
+
+-- ---- operands
+
+-- each operand in its turn
+abbrev pub operands_in : Order → List Variable → Expr → Expr → (Operands → Asks) → Asks
+operands_in (order.Against t) Γ a b k = part Γ a (Some t) λ x. part Γ b (Some t) λ y. k (operands_of x y)
+operands_in order.SecondGives Γ a b k = part Γ b None λ y. part Γ a (Some (ty_of y)) λ x. k (operands_of x y)
+operands_in order.FirstGives Γ a b k = part Γ a None λ x. part Γ b (Some (ty_of x)) λ y. k (operands_of x y)
+
+-- the left side of an assignment: a variable, which is no part, or else a value
+abbrev pub target_in : List Variable → Expr → Option Segment → (Target → Asks) → Asks
+target_in Γ l (Some x) k = first (target_variable (span_of l) (found x.name Γ)) k
+target_in Γ l None k = part Γ l None λ a. k (target.Value a)
+
+-- ---- lists of parts
+
+-- each argument at the type of its parameter
+abbrev pub each_arg : List Variable → E.Exprs → List Ty → (TypedExprs → Asks) → Asks
+each_arg Γ E.none ts k = k tree.none
+each_arg Γ (E.more e es) ts k = part Γ e (first_of ts) λ a. each_arg Γ es (rest_of ts) λ as'. k (tree.more a as')
+
+-- each statement in the scope that those before it leave
+abbrev pub each_stmt : List Variable → E.Stmts → (Opened → Asks) → Asks
+each_stmt Γ E.no_stmts k = k (opened Γ [])
+each_stmt Γ (E.with_stmt s kind e ss) k = first (step_of kind) λ p. part Γ e p.expected λ a. each_stmt (declared Γ p.declares a) ss λ o. k (behind (typed_stmt p a) o)
+
+-- ---- the rules
+
+abbrev pub rule : List Heading → List Variable → Expr → Option Ty → Asks
+rule σ Γ (E.integer s z k) t = comes (literal t s z k)
+rule σ Γ (E.truth s b) t = comes (fit t s (tree.truth bool s b))
+rule σ Γ (E.path s p) t = comes (named Γ t s (name_alone p.node))
+rule σ Γ (E.unary s Neg o e) t = part Γ e t λ a. comes (negated t s o (span_of e) a)
+rule σ Γ (E.unary s Not o e) t = part Γ e (Some bool) λ a. comes (fit t s (tree.denied bool s a))
+rule σ Γ (E.binary s op o a b) t = operands_in (order_of (is_arithmetic op) t (is_bare a) (is_bare b)) Γ a b λ p. comes (operated t s o (span_of a) op p)
+rule σ Γ (E.lazy s op a b) t = part Γ a (Some bool) λ x. part Γ b (Some bool) λ y. comes (fit t s (tree.lazy bool s op x y))
+rule σ Γ (E.assign s l e) t = target_in Γ l (as_name l) λ d. part Γ e (Some (target_ty d)) λ a. comes (assigned t s (span_of l) d a)
+rule σ Γ (E.update s op o l e) t = target_in Γ l (as_name l) λ d. part Γ e (Some (target_ty d)) λ a. comes (updated t s o (span_of l) op d a)
+rule σ Γ (E.call s f es) t = first (callee_of σ Γ s (as_name f)) λ g. each_arg Γ es g.signature.params λ as'. comes (called t s g as')
+rule σ Γ (E.block s ss) t = each_stmt Γ ss λ o. comes (closed t s (stmts_of o.stmts tree.done))
+rule σ Γ (E.block_with s ss e) t = each_stmt Γ ss λ o. part o.scope e t λ a. comes (closed t s (stmts_of o.stmts (tree.last a)))
+rule σ Γ (E.branch s None c a) t = part Γ c (Some bool) λ x. part Γ a (Some unit) λ y. comes (fit t s (tree.branch unit s x y))
+rule σ Γ (E.choice s None c a b) t = part Γ c (Some bool) λ x. part Γ a t λ y. part Γ b (Some (ty_of y)) λ z. comes (fit t s (tree.choice (ty_of y) s x y z))
+rule σ Γ (E.repeat s None c b) t = part Γ c (Some bool) λ x. part Γ b (Some unit) λ y. comes (fit t s (tree.repeat unit s [] x y))
+-- a loop with its invariants, from the first attribute on
+rule σ Γ (E.attributed s is (E.repeat r None c b)) t = first (gather (invariant_of Γ) is) λ is'. part Γ c (Some bool) λ x. part Γ b (Some unit) λ y. comes (fit t s (tree.repeat unit s is' x y))
+rule σ Γ e t = comes (Err (unbuilt (span_of e)))
+
+-- ---- typing
+
+mutual
+  -- an expression comes to a typed tree or a refusal, by the rule of its form
+  pub data Types (σ : List Heading) : List Variable → Expr → Option Ty → Typed → Type 0 where
+    by_rule : {Γ : List Variable} {e : Expr} {t : Option Ty} {r : Typed} → Comes σ (rule σ Γ e t) r → Types σ Γ e t r
+
+  -- the first part that is refused refuses the whole; else the form itself answers
+  pub data Comes (σ : List Heading) : Asks → Typed → Type 0 where
+    itself : {r : Typed} → Comes σ (comes r) r
+    refused : {Γ : List Variable} {e : Expr} {t : Option Ty} {k : TypedExpr → Asks} {x : SourceError} → Types σ Γ e t (Err x) → Comes σ (part Γ e t k) (Err x)
+    then : {Γ : List Variable} {e : Expr} {t : Option Ty} {k : TypedExpr → Asks} {v : TypedExpr} {r : Typed} → Types σ Γ e t (Ok v) → Comes σ (k v) r → Comes σ (part Γ e t k) r
+
+-- the expression gives a type
+abbrev pub Gives : List Heading → List Variable → Expr → TypedExpr → Type 0
+Gives σ Γ e v = Types σ Γ e None (Ok v)
+
+-- it fits the expected one
+abbrev pub Fits : List Heading → List Variable → Expr → Ty → TypedExpr → Type 0
+Fits σ Γ e t v = Types σ Γ e (Some t) (Ok v)
+
+-- ---- laws
+
+-- what an expression comes to by `typed`, with which the contract of `check` speaks, it comes to by the rules
+abbrev pub TypedByRules : Type 0
+TypedByRules = (σ : List Heading) (Γ : List Variable) (e : Expr) (t : Option Ty) → Types σ Γ e t (typed σ Γ e t)
+
+-- each expression has one outcome
+abbrev pub TypingIsOne : Type 0
+TypingIsOne = (σ : List Heading) (Γ : List Variable) (e : Expr) (t : Option Ty) (r other : Typed) → Types σ Γ e t r → Types σ Γ e t other → r ≡ other
