@@ -30,7 +30,6 @@ use Rattle.type_check.specs.declared.scope.Variable.{Variable}
 use Rattle.type_check.specs.Answers.{◌>>=◌, Answers, absent, each, with_some, gather}
 use Rattle.type_check.specs.Checked.{type_of, signature_by, heading_of, skipped, declares_by, declares, heard, clause_by, clause_of, typed_body, typed_function, typed_by, typed_item, unless, program_of, typed_items, checked, AllGood}
 use Rattle.type_check.specs.FirstBad.{first_bad}
-use Rattle.type_check.specs.Names.{first_double}
 use Rattle.type_check.specs.Terms.{assertion}
 use Rattle.type_check.specs.TypedExpr.{TypedExpr}
 use Rattle.type_check.specs.WellTyped.{IsBuilt, AllBuilt, ClauseSpeaksOf, ClausesSpeak, FunctionFits, EachFits, ProgramFits, signatures}
@@ -173,6 +172,8 @@ item_by_fits σ own as' (item.Function f) o g p q =
     let d : Some k.0 ≡ g = same_ok _ _ k.2 in
     let fits = function_fits σ own as' f k.0 k.1 in
     subst (λ o. ItemFits σ o g) e (subst (ItemFits σ (Some h.0)) d (fits.0, same_signature f k.0.signature h.0.signature fits.1 (heading_is f h.0 h.1)))
+item_by_fits σ own as' (item.Struct s) o g p q = both_none σ (Ok tt) o g p q
+item_by_fits σ own as' (item.Enum e) o g p q = both_none σ (Ok tt) o g p q
 item_by_fits σ own as' item.Use o g p q = both_none σ (skipped as') o g p q
 item_by_fits σ own as' item.ExternCrate o g p q = both_none σ (skipped as') o g p q
 item_by_fits σ own as' n o g p q = absurd (none_declared (skipped as') _ o p)
@@ -208,14 +209,10 @@ accepted None m a p = (refl, p)
 abbrev whole : List TypedFunction → TypedProgram
 whole gs = record { functions = gs }
 
-abbrev passed : List Item → Result TypedProgram SourceError
-passed is = gather declares is >>= typed_items is >>= program_of
-
 pub fits_program : (is : List Item) (p : TypedProgram) → checked is ≡ Ok p → ProgramFits p
 unfolding checked
 fits_program is p h =
-    let c = accepted (first_double is) (passed is) p h in
-    let g = bound (gather declares is >>= typed_items is) program_of p c.1 in
+    let g = bound (gather declares is >>= typed_items is) program_of p h in
     let σ = bound (gather declares is) (typed_items is) g.0 g.1 in
     let d = accepted (first_bad g.0) (yes (whole g.0)) p g.2 in
     let f = items_fit σ.0 is σ.0 g.0 σ.1 σ.2 in
@@ -224,8 +221,7 @@ fits_program is p h =
 pub good_program : (is : List Item) (p : TypedProgram) → checked is ≡ Ok p → AllGood p
 unfolding checked
 good_program is p h =
-    let c = accepted (first_double is) (passed is) p h in
-    let g = bound (gather declares is >>= typed_items is) program_of p c.1 in
+    let g = bound (gather declares is >>= typed_items is) program_of p h in
     let d = accepted (first_bad g.0) (yes (whole g.0)) p g.2 in
     subst AllGood (same_ok _ _ d.1) d.0
 

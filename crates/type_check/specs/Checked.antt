@@ -1,6 +1,6 @@
--- What a source comes to: passes that each go over all items before the next begins. The names of functions and parameters, then
--- what each item declares, then the bodies and contracts of functions, then the formulas of clauses and invariants
--- (Rust Reference, "Items", "Functions", "Attributes"; Creusot, "Contracts").
+-- What a source comes to whose declarations are in order: passes that each go over all items before the next begins. The functions that items
+-- declare, then the bodies and contracts of functions, then the formulas of clauses and invariants (Rust Reference, "Items", "Functions",
+-- "Attributes"; Creusot, "Contracts").
 use Rattle.std.specs.Prelude.{◌≡◌, List, [], ◌∷◌, map, Option, Some, None, Result, Ok, Err}
 use Rattle.text_core.specs.declared.refusal.SourceError.{SourceError}
 use Rattle.text_core.specs.declared.span.Span.{Span}
@@ -31,7 +31,6 @@ use Rattle.type_check.specs.declared.program.TypedProgram.{TypedProgram}
 use Rattle.type_check.specs.declared.scope.Variable.{Variable}
 use Rattle.type_check.specs.Answers.{◌>>=◌, unbuilt, absent, each, gather}
 use Rattle.type_check.specs.FirstBad.{first_bad}
-use Rattle.type_check.specs.Names.{first_double}
 use Rattle.type_check.specs.Terms.{assertion}
 use Rattle.type_check.specs.Typing.{Typed, typed}
 use Rattle.type_check.specs.Written.{answer_ty, param_of}
@@ -63,11 +62,13 @@ abbrev pub skipped : List Attribute → Result (Unit {0}) SourceError
 skipped [] = Ok tt
 skipped (a ∷ as') = skipped_by a.span a.node (skipped as')
 
--- a `use` line declares nothing, and neither does what is no function, which is not built
+-- a `use` line declares nothing, and a declared type no function; traits and impls are not built
 abbrev pub declares_by : Span → List Attribute → ItemNode → Result (Option Heading) SourceError
 declares_by own as' (item.Function f) = do
   h ← heading_of f
   Ok (Some h)
+declares_by own as' (item.Struct s) = Ok None
+declares_by own as' (item.Enum e) = Ok None
 declares_by own as' item.Use = skipped as' >>= λ nothing. Ok None
 declares_by own as' item.ExternCrate = skipped as' >>= λ nothing. Ok None
 declares_by own as' _ = skipped as' >>= λ nothing. Err (unbuilt own)
@@ -149,7 +150,7 @@ abbrev pub typed_items : List Item → List Heading → Result (List TypedFuncti
 typed_items is σ = gather (typed_item σ) is
 
 unfoldable pub checked : List Item → Result TypedProgram SourceError
-checked is = unless (first_double is) (gather declares is >>= typed_items is >>= program_of)
+checked is = gather declares is >>= typed_items is >>= program_of
 
 -- no clause and no invariant is refused
 abbrev pub AllGood : TypedProgram → Type 0

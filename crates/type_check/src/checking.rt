@@ -9,7 +9,6 @@ use crate::expressions::type_expr;
 use crate::heading::Heading;
 use crate::lists::push_some;
 use crate::logic::first_bad;
-use crate::names::first_double;
 use crate::program::{ClauseKind, TypedClause, TypedFunction, TypedProgram};
 use crate::refusal::unbuilt;
 use crate::scope::Variable;
@@ -195,9 +194,6 @@ fn type_items(
 fn passes(alloc: Global, items: &[Item]) -> Result<TypedProgram, PassError>
     ensures { Answers result (checked items.now) }
 {
-    if let Some(error) = first_double(items) {
-        return Err(PassError::Source(error));
-    }
     let headings = headings_of(alloc, items)?;
     let typed = type_items(alloc, headings.as_slice(), items)?;
     if let Some(error) = first_bad(typed.as_slice()) {
@@ -211,8 +207,7 @@ fn passes(alloc: Global, items: &[Item]) -> Result<TypedProgram, PassError>
 /// The functions of the items, with their names resolved and the types of their expressions.
 ///
 /// Errors: passes that each go over all items before the next begins; each refuses the first failing part of the first
-/// failing item. E06 at a name of a function or a parameter that an earlier one has. Then E20 at what an item declares
-/// that is not built. Then, of bodies and contracts, E20 at a form that is not built, and of bodies E05 at a name that is
+/// failing item. E20 at what an item declares that is not built: what is refused by `declare` is not looked for. Then, of bodies and contracts, E20 at a form that is not built, and of bodies E05 at a name that is
 /// not declared, E07 where a type is not the one wanted, and E22 at a variable that is written and not `mut`. Then E05,
 /// E07 and E20 of the terms of clauses and invariants. Never a limit. `NoMemory` also where a number of variables or
 /// functions passes 32 bits.

@@ -95,7 +95,8 @@ fn declares(alloc: Global, item: &Item) -> Result<Option<Heading>, PassError>
             skipped(attributes)?;
             Ok(None)
         }
-        ItemNode::Struct(_) | ItemNode::Enum(_) | ItemNode::Trait(_) | ItemNode::Impl(_) => {
+        ItemNode::Struct(_) | ItemNode::Enum(_) => Ok(None),
+        ItemNode::Trait(_) | ItemNode::Impl(_) => {
             skipped(attributes)?;
             Err(unbuilt(item.own))
         }
