@@ -1,5 +1,6 @@
 -- The laws of programs that lower and fit.
 use Rattle.std.proofs.Common.{◌≡◌, refl, ap, sym, ◌∙◌, subst, ℕ, zero, suc, ◌+◌, List, [], ◌∷◌, take, drop, map, length, Some, None, slice_get, arith, false, Option}
+use Rattle.logic_term.specs.declared.declaration.AdtDecl.{AdtDecl}
 use Rattle.logic_term.specs.declared.obligation.Contract.{Contract}
 use Rattle.logic_term.specs.Ty.{Ty}
 use Rattle.mir_ir.specs.declared.body.Body.{Body}
@@ -87,7 +88,7 @@ drop_one (x ∷ xs) i k e = ap (slice_get (x ∷ xs)) e
 one_on : (i : ℕ) → 1 + i ≡ suc i
 one_on i = omega arith
 
-module _ (table : List (List ℕ)) (fs : List TypedFunction) (bs : Bodies) (cs : Contracts) (gones : List Initialised) (l : Lowers table fs bs cs gones) where
+module _ (table : List (List ℕ)) (ds : List AdtDecl) (fs : List TypedFunction) (bs : Bodies) (cs : Contracts) (gones : List Initialised) (l : Lowers table ds fs bs cs gones) where
   callee : (n : ℕ) (g : Signature) → slice_get (signatures fs) n ≡ Some g → Callee bs n g
   callee n g e =
       let w = signature_at fs n g e in
@@ -134,47 +135,47 @@ module _ (table : List (List ℕ)) (fs : List TypedFunction) (bs : Bodies) (cs :
 -- ---- the laws
 
 pub bodies_are_sound : BodiesAreSound
-bodies_are_sound table fs bs cs gones l n b e =
-    let i = initialised table fs bs cs gones l n b e in
-    (typed table fs bs cs gones l n b e, (i.0, i.1), number table fs bs cs gones l n b e)
+bodies_are_sound table ds fs bs cs gones l n b e =
+    let i = initialised table ds fs bs cs gones l n b e in
+    (typed table ds fs bs cs gones l n b e, (i.0, i.1), number table ds fs bs cs gones l n b e)
 
 pub bodies_are_laid_out : BodiesAreLaidOut
-bodies_are_laid_out table fs bs cs gones l n b e =
-    let w = found table fs bs cs gones l n b e in
+bodies_are_laid_out table ds fs bs cs gones l n b e =
+    let w = found table ds fs bs cs gones l n b e in
     body_laid_out w.1.owner w.0 b w.1.gone w.1.lowers
 
 pub locals_have_names : LocalsHaveNames
-locals_have_names table fs bs cs gones l n b e =
-    let w = found table fs bs cs gones l n b e in
+locals_have_names table ds fs bs cs gones l n b e =
+    let w = found table ds fs bs cs gones l n b e in
     locals_are_named w.1.owner w.0 b w.1.gone w.1.lowers
 
 pub locals_have_built_types : LocalsHaveBuiltTypes
-locals_have_built_types table fs bs cs gones l n b e x t h =
-    let w = found table fs bs cs gones l n b e in
-    types_built w.1.owner w.0 b w.1.gone w.1.lowers (signatures fs) bs (fit table fs bs cs gones l n b e) (callee table fs bs cs gones l) (answer_built table fs bs cs gones l) x t h
+locals_have_built_types table ds fs bs cs gones l n b e x t h =
+    let w = found table ds fs bs cs gones l n b e in
+    types_built w.1.owner w.0 b w.1.gone w.1.lowers (signatures fs) bs (fit table ds fs bs cs gones l n b e) (callee table ds fs bs cs gones l) (answer_built table ds fs bs cs gones l) x t h
 
-module _ (table : List (List ℕ)) (fs : List TypedFunction) (bs : Bodies) (cs : Contracts) (gones : List Initialised) (l : Lowers table fs bs cs gones) where
+module _ (table : List (List ℕ)) (ds : List AdtDecl) (fs : List TypedFunction) (bs : Bodies) (cs : Contracts) (gones : List Initialised) (l : Lowers table ds fs bs cs gones) where
   -- the labelling of the body that is found; any where there is none
   abbrev labelling_at : (n : ℕ) (o : Option Body) → slice_get bs.bodies n ≡ o → Labelling
-  labelling_at n (Some b) e = (initialised table fs bs cs gones l n b e).0
+  labelling_at n (Some b) e = (initialised table ds fs bs cs gones l n b e).0
   labelling_at n None e = λ m i x. false
 
   meets : (n : ℕ) (b : Body) (gone : Initialised) (o : Option Body) (e : slice_get bs.bodies n ≡ o) → o ≡ Some b → slice_get gones n ≡ Some gone → MeetsMoveRows b (labelling_at n o e) × HeadsAreThere b gone (labelling_at n o e)
   meets n b gone None e is g = absurd (cc)
   meets n b gone (Some k) e is g =
-      let w = found table fs bs cs gones l n k e in
-      let i = initialised table fs bs cs gones l n k e in
+      let w = found table ds fs bs cs gones l n k e in
+      let i = initialised table ds fs bs cs gones l n k e in
       let heads : HeadsAreThere k gone i.0 = subst (λ (gg : Initialised). HeadsAreThere k gg i.0) (some_same (sym w.1.is_gone ∙ g)) i.2 in
       subst (λ (c : Body). MeetsMoveRows c i.0 × HeadsAreThere c gone i.0) (some_same is) (i.1, heads)
 
 pub heads_speak_of_what_is_there : HeadsSpeakOfWhatIsThere
-heads_speak_of_what_is_there table fs bs cs gones l = (
-  λ n. labelling_at table fs bs cs gones l n (slice_get bs.bodies n) refl,
-  λ n b gone e g. meets table fs bs cs gones l n b gone (slice_get bs.bodies n) refl e g,
+heads_speak_of_what_is_there table ds fs bs cs gones l = (
+  λ n. labelling_at table ds fs bs cs gones l n (slice_get bs.bodies n) refl,
+  λ n b gone e g. meets table ds fs bs cs gones l n b gone (slice_get bs.bodies n) refl e g,
 )
 
 pub contracts_speak_of_parameters : ContractsSpeakOfParameters
-contracts_speak_of_parameters table fs bs cs gones l n b e =
-    let w = found table fs bs cs gones l n b e in
-    let speaks = contract_speaks w.1.owner w.0 b w.1.gone w.1.lowers (signatures fs) (fit table fs bs cs gones l n b e) in
+contracts_speak_of_parameters table ds fs bs cs gones l n b e =
+    let w = found table ds fs bs cs gones l n b e in
+    let speaks = contract_speaks w.1.owner w.0 b w.1.gone w.1.lowers (signatures fs) (fit table ds fs bs cs gones l n b e) in
     (contract_of w.0, w.1.gone, w.1.is_contract, w.1.is_gone, speaks.0, speaks.1)

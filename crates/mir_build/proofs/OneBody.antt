@@ -156,7 +156,7 @@ each_lowers_in_one_way table σ n fs bs bs' cs cs' gones gones' (and_function {f
     (λ i. bodies i ∷ w.0 i, λ i. contract_of f ∷ w.1 i, λ i. gone i ∷ w.2 i)
 
 pub programs_lower_in_one_way : ProgramsLowerInOneWay
-programs_lower_in_one_way table fs bs bs' cs cs' gones gones' l l' =
+programs_lower_in_one_way table ds fs bs bs' cs cs' gones gones' l l' =
     let w = each_lowers_in_one_way table (signatures fs) 0 fs bs.bodies bs'.bodies cs.of cs'.of gones gones' l.each l'.each in
     let decls : bs.decls ≡ bs'.decls = l.decls ∙ sym l'.decls in
     let impls : bs.impls ≡ bs'.impls = l.impls ∙ sym l'.impls in
@@ -176,5 +176,5 @@ few_blocks table σ first fs bs cs gones (and_function {fs = gs} {b = b} {bs = k
     few_blocks table σ (suc first) gs ks ds hs r bound (All-tail (λ (k : Body). length k.blocks ≤ bound) b ks h) n f e
 
 pub blocks_are_counted : BlocksAreCounted
-blocks_are_counted table p bs cs gones bound l few h =
+blocks_are_counted table ds p bs cs gones bound l few h =
     omega (arith, few_blocks table (signatures p.functions) 0 p.functions bs.bodies cs.of gones l.each bound few h.place h.function h.is_function, turn_count_body (around_body h.function) h.function.body h.text h.into, h.more)

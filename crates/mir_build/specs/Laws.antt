@@ -3,6 +3,7 @@
 use Rattle.std.specs.Prelude.{◌≡◌, ℕ, ◌≤◌, false, List, length, drop, Some, slice_get, []}
 use Rattle.std.specs.List.{All}
 use Rattle.text_core.specs.declared.name.Name.{Name}
+use Rattle.logic_term.specs.declared.declaration.AdtDecl.{AdtDecl}
 use Rattle.logic_term.specs.declared.kinds.Label.{Label}
 use Rattle.logic_term.specs.declared.obligation.Contract.{Contract}
 use Rattle.logic_term.specs.Ty.{Ty}
@@ -43,39 +44,39 @@ pub record EnsuresAreWhole (c : Contract) : Type 0 where
 -- ---- lowering determines what it gives
 
 abbrev pub ProgramsLowerInOneWay : Type 0
-ProgramsLowerInOneWay = (table : List (List ℕ)) (fs : List TypedFunction) (bs bs' : Bodies) (cs cs' : Contracts) (gones gones' : List Initialised)
-    → LowerTo table fs bs cs gones → LowerTo table fs bs' cs' gones' → (bs ≡ bs') × (cs ≡ cs') × (gones ≡ gones')
+ProgramsLowerInOneWay = (table : List (List ℕ)) (ds : List AdtDecl) (fs : List TypedFunction) (bs bs' : Bodies) (cs cs' : Contracts) (gones gones' : List Initialised)
+    → LowerTo table ds fs bs cs gones → LowerTo table ds fs bs' cs' gones' → (bs ≡ bs') × (cs ≡ cs') × (gones ≡ gones')
 
 -- a program has more blocks than the bound only where some body that it lowers to has
 abbrev pub BlocksAreCounted : Type 0
-BlocksAreCounted = (table : List (List ℕ)) (p : TypedProgram) (bs : Bodies) (cs : Contracts) (gones : List Initialised) (bound : ℕ)
-    → LowerTo table p.functions bs cs gones → All (λ (b : Body). length b.blocks ≤ bound) bs.bodies → HasMoreBlocks p bound → ⊥
+BlocksAreCounted = (table : List (List ℕ)) (ds : List AdtDecl) (p : TypedProgram) (bs : Bodies) (cs : Contracts) (gones : List Initialised) (bound : ℕ)
+    → LowerTo table ds p.functions bs cs gones → All (λ (b : Body). length b.blocks ≤ bound) bs.bodies → HasMoreBlocks p bound → ⊥
 
 -- ---- the laws of programs that fit
 
 -- each function lowers to a body, a contract and gone places, and the functions fit
-pub record Lowers (table : List (List ℕ)) (fs : List TypedFunction) (bs : Bodies) (cs : Contracts) (gones : List Initialised) : Type 0 where
-  pub lowers : LowerTo table fs bs cs gones
+pub record Lowers (table : List (List ℕ)) (ds : List AdtDecl) (fs : List TypedFunction) (bs : Bodies) (cs : Contracts) (gones : List Initialised) : Type 0 where
+  pub lowers : LowerTo table ds fs bs cs gones
   pub fits : EachFits (signatures fs) fs
 
 abbrev pub BodiesAreSound : Type 0
-BodiesAreSound = (table : List (List ℕ)) (fs : List TypedFunction) (bs : Bodies) (cs : Contracts) (gones : List Initialised) → Lowers table fs bs cs gones → AreSound bs
+BodiesAreSound = (table : List (List ℕ)) (ds : List AdtDecl) (fs : List TypedFunction) (bs : Bodies) (cs : Contracts) (gones : List Initialised) → Lowers table ds fs bs cs gones → AreSound bs
 
 abbrev pub BodiesAreLaidOut : Type 0
-BodiesAreLaidOut = (table : List (List ℕ)) (fs : List TypedFunction) (bs : Bodies) (cs : Contracts) (gones : List Initialised) → Lowers table fs bs cs gones → (n : ℕ) (b : Body) → slice_get bs.bodies n ≡ Some b → IsLaidOut b
+BodiesAreLaidOut = (table : List (List ℕ)) (ds : List AdtDecl) (fs : List TypedFunction) (bs : Bodies) (cs : Contracts) (gones : List Initialised) → Lowers table ds fs bs cs gones → (n : ℕ) (b : Body) → slice_get bs.bodies n ≡ Some b → IsLaidOut b
 
 abbrev pub LocalsHaveNames : Type 0
-LocalsHaveNames = (table : List (List ℕ)) (fs : List TypedFunction) (bs : Bodies) (cs : Contracts) (gones : List Initialised) → Lowers table fs bs cs gones → (n : ℕ) (b : Body) → slice_get bs.bodies n ≡ Some b → LocalsAreNamed b × LocalsAreNoVariables b
+LocalsHaveNames = (table : List (List ℕ)) (ds : List AdtDecl) (fs : List TypedFunction) (bs : Bodies) (cs : Contracts) (gones : List Initialised) → Lowers table ds fs bs cs gones → (n : ℕ) (b : Body) → slice_get bs.bodies n ≡ Some b → LocalsAreNamed b × LocalsAreNoVariables b
 
 abbrev pub LocalsHaveBuiltTypes : Type 0
-LocalsHaveBuiltTypes = (table : List (List ℕ)) (fs : List TypedFunction) (bs : Bodies) (cs : Contracts) (gones : List Initialised) → Lowers table fs bs cs gones → (n : ℕ) (b : Body) → slice_get bs.bodies n ≡ Some b → (x : ℕ) (t : Ty) → slice_get b.locals x ≡ Some t → IsBuilt t
+LocalsHaveBuiltTypes = (table : List (List ℕ)) (ds : List AdtDecl) (fs : List TypedFunction) (bs : Bodies) (cs : Contracts) (gones : List Initialised) → Lowers table ds fs bs cs gones → (n : ℕ) (b : Body) → slice_get bs.bodies n ≡ Some b → (x : ℕ) (t : Ty) → slice_get b.locals x ≡ Some t → IsBuilt t
 
 -- there are labellings that meet the rows of moves and by which heads speak of what is there
 abbrev pub HeadsSpeakOfWhatIsThere : Type 0
-HeadsSpeakOfWhatIsThere = (table : List (List ℕ)) (fs : List TypedFunction) (bs : Bodies) (cs : Contracts) (gones : List Initialised) → Lowers table fs bs cs gones
+HeadsSpeakOfWhatIsThere = (table : List (List ℕ)) (ds : List AdtDecl) (fs : List TypedFunction) (bs : Bodies) (cs : Contracts) (gones : List Initialised) → Lowers table ds fs bs cs gones
     → (at : ℕ → Labelling) × ((n : ℕ) (b : Body) (gone : Initialised) → slice_get bs.bodies n ≡ Some b → slice_get gones n ≡ Some gone → MeetsMoveRows b (at n) × HeadsAreThere b gone (at n))
 
 -- each body has a contract and gone places
 abbrev pub ContractsSpeakOfParameters : Type 0
-ContractsSpeakOfParameters = (table : List (List ℕ)) (fs : List TypedFunction) (bs : Bodies) (cs : Contracts) (gones : List Initialised) → Lowers table fs bs cs gones
+ContractsSpeakOfParameters = (table : List (List ℕ)) (ds : List AdtDecl) (fs : List TypedFunction) (bs : Bodies) (cs : Contracts) (gones : List Initialised) → Lowers table ds fs bs cs gones
     → (n : ℕ) (b : Body) → slice_get bs.bodies n ≡ Some b → (c : Contract) × (gone : Initialised) × (slice_get cs.of n ≡ Some c) × (slice_get gones n ≡ Some gone) × ContractSpeaks b c × EnsuresAreWhole c

@@ -8,6 +8,7 @@ use Rattle.text_core.specs.declared.name.Name.{Name}
 use Rattle.text_core.specs.declared.span.Span.{Span}
 use Rattle.text_core.specs.Names.{text_of}
 use Rattle.source_kinds.specs.declared.kinds.BinaryOp.{BinaryOp}
+use Rattle.logic_term.specs.declared.declaration.AdtDecl.{AdtDecl}
 use Rattle.logic_term.specs.declared.kinds.Ctor.TheVariants.{Tuple}
 use Rattle.source_kinds.specs.declared.kinds.IntKind.{IntKind}
 use Rattle.logic_term.specs.declared.kinds.Label.{Label}
@@ -347,18 +348,18 @@ pub data EachLowersTo (table : List (List ℕ)) (σ : List Signature) : ℕ → 
       → text_of table f.name ≡ Some owner → LowersTo σ owner f b gone → b.id ≡ n → EachLowersTo table σ (suc n) fs bs cs gones
       → EachLowersTo table σ n (f ∷ fs) (b ∷ bs) (contract_of f ∷ cs) (gone ∷ gones)
 
--- the functions of a program lower to these; so far it declares no types that bodies are looked up with
-pub record LowerTo (table : List (List ℕ)) (fs : List TypedFunction) (bodies : Bodies) (cs : Contracts) (gones : List Initialised) : Type 0 where
+-- the functions of a program that declares these types lower to these; so far it has no impls and no closures
+pub record LowerTo (table : List (List ℕ)) (ds : List AdtDecl) (fs : List TypedFunction) (bodies : Bodies) (cs : Contracts) (gones : List Initialised) : Type 0 where
   pub each : EachLowersTo table (signatures fs) 0 fs bodies.bodies cs.of gones
-  pub decls : bodies.decls ≡ []
+  pub decls : bodies.decls ≡ ds
   pub impls : bodies.impls ≡ []
   pub closures : bodies.closures ≡ []
   pub traits : cs.traits ≡ []
   pub intrinsics : cs.intrinsics ≡ []
 
 -- the program lowers to these, by this table of names
-abbrev pub IsLowered : List (List ℕ) → TypedProgram → Lowered → Type 0
-IsLowered table p l = LowerTo table p.functions l.bodies l.contracts l.gone
+abbrev pub IsLowered : List (List ℕ) → List AdtDecl → TypedProgram → Lowered → Type 0
+IsLowered table ds p l = LowerTo table ds p.functions l.bodies l.contracts l.gone
 
 -- the blocks of a text, the first one included
 abbrev pub blocks_in : List Line → ℕ

@@ -7,12 +7,13 @@ ghost use Rattle.mir_build.specs.Whole.{HaveFewBlocks, FailsFor};
 use crate::contract::contract_of;
 use crate::function::lower_function;
 use crate::lowered::Lowered;
+use logic_term::AdtDecl;
 use mir_ir::{Bodies, Contracts};
 use std::alloc::Global;
 use text_core::{Items, Names, PassError};
 use type_check::TypedProgram;
 
-/// One body for each function, in order, with its contract and what may be gone in it. A program whose names or types do
+/// One body for each function, in order, with its contract and what may be gone in it, and the declared types of the program. A program whose names or types do
 /// not fit has some answer too, of which only the number of blocks is promised.
 ///
 /// # Errors
@@ -20,8 +21,13 @@ use type_check::TypedProgram;
 /// `Limit` where the body of a function would have more than 4,096 blocks. `NoMemory` where memory is refused, where a
 /// number of a function, a local or a parameter would pass 32 bits, and where a function's name has no text in the table. The source
 /// is never refused.
-pub fn lower(alloc: Global, program: &TypedProgram, names: &Names) -> Result<Lowered, PassError>
-    ensures lowered { ProgramFits program.now → IfOk result (λ l. IsLowered names.now program.now l) }
+pub fn lower(
+    alloc: Global,
+    program: &TypedProgram,
+    decls: Items<AdtDecl>,
+    names: &Names,
+) -> Result<Lowered, PassError>
+    ensures lowered { ProgramFits program.now → IfOk result (λ l. IsLowered names.now decls program.now l) }
     ensures few { IfOk result (λ l. HaveFewBlocks l.bodies) }
     ensures limit { IfErr result (FailsFor (ProgramFits program.now → HasMoreBlocks program.now 4096)) }
 {
@@ -41,7 +47,7 @@ pub fn lower(alloc: Global, program: &TypedProgram, names: &Names) -> Result<Low
     Ok(Lowered {
         bodies: Bodies {
             bodies,
-            decls: Items::new(alloc),
+            decls,
             impls: Items::new(alloc),
             closures: Items::new(alloc),
         },

@@ -49,7 +49,7 @@ const NOT_BUILT: [Row; 55] = [
     (b"fn f(x: u7) {}", Code::E20, 8, 10),
     (b"fn f(x: Vec<i32>) {}", Code::E20, 8, 11),
     (b"fn f<T>(x: i8) {}", Code::E20, 4, 5),
-    (b"fn f() {} #[allow(a)] pub enum E {}", Code::E20, 26, 30),
+    (b"fn f() {} #[allow(a)] pub trait T {}", Code::E20, 26, 31),
     (
         b"#[requires(forall<x: Int> x == x)] fn f() {}",
         Code::E20,

@@ -1,14 +1,22 @@
 //! Names and types, from the texts of sources: what is accepted, and which refusal stands where.
 use rs_syntax::parse;
+use source_trees::Item;
 use std::alloc::Global;
 use std::process::Abort;
 use text_core::{Code, Names, PassError};
-use type_check::check;
+use type_check::{check, declare};
 
 /// A source, and the code and the place of its refusal if it is refused.
 type Row = (&'static [u8], Option<(Code, u32, u32)>);
 
-/// Whether the types pass answers so.
+/// The names pass, and then the types pass.
+fn passes(alloc: Global, items: &[Item]) -> Result<(), PassError> {
+    declare(alloc, items)?;
+    check(alloc, items)?;
+    Ok(())
+}
+
+/// Whether these passes answer so.
 fn is_right(alloc: Global, row: &Row) -> bool {
     let source = row.0;
     if source.len() > 1000 {
@@ -18,8 +26,8 @@ fn is_right(alloc: Global, row: &Row) -> bool {
     let Ok(items) = parse(alloc, source, &mut names) else {
         return false;
     };
-    match (check(alloc, items.as_slice()), row.1) {
-        (Ok(_), None) => true,
+    match (passes(alloc, items.as_slice()), row.1) {
+        (Ok(()), None) => true,
         (Err(PassError::Source(error)), Some((code, start, end))) => {
             error.code == code && error.span.start == start && error.span.end == end
         }
@@ -512,7 +520,7 @@ const FORMS_THAT_HAVE_NO_TYPE_YET: [Row; 14] = [
     (b"fn f(x: &i32) {}", Some((Code::E20, 8, 12))),
     (b"fn f() -> () {}", Some((Code::E20, 10, 12))),
     (b"fn f<T>() {}", Some((Code::E20, 4, 7))),
-    (b"struct S;", Some((Code::E20, 0, 9))),
+    (b"trait T {}", Some((Code::E20, 0, 10))),
     (
         b"fn f(x: i32) { if let y = x {} }",
         Some((Code::E20, 15, 30)),

@@ -5,6 +5,7 @@ mod applying;
 mod asking;
 mod bounded;
 mod closing;
+mod copying;
 mod holding;
 mod laws;
 mod meaning;

@@ -7,11 +7,12 @@ ghost use Rattle.rs_types.specs.Accepted.{AreAccepted, IsFirstRefusal};
 ghost use Rattle.rs_types.specs.Table.{number_of, double_name};
 
 use crate::closing::first_refusal;
+use crate::copying::copy_decls;
 use logic_term::{AdtDecl, AdtId};
 use std::alloc::Global;
 use std::collections::HashMap;
 use std::marker::Model;
-use text_core::{Code, Name, NoMemory, PassError, SourceError, Span};
+use text_core::{Code, Items, Name, NoMemory, PassError, SourceError, Span};
 
 /// The declared types of a program, each with a number, its place in the order in which they came. Contracts see their list.
 #[derive(Drop)]
@@ -96,6 +97,21 @@ impl AdtTable {
         ensures { result.now ≡ self.now }
     {
         self.decls.as_slice()
+    }
+
+    /// The declared types in the order of their numbers, once more.
+    pub fn copied(&self, alloc: Global) -> Result<Items<AdtDecl>, NoMemory>
+        ensures { IfOk result (λ v. v ≡ self.now) }
+    {
+        copy_decls(alloc, self.decls.as_slice())
+    }
+
+    /// The declared types in the order of their numbers, in place of the table. Takes no memory.
+    pub fn into_decls(self) -> Items<AdtDecl>
+        ensures { result ≡ self }
+    {
+        let AdtTable { decls, ids: _ids } = self;
+        Items::from_vec(decls)
     }
 
     /// Whether all declared types are accepted.

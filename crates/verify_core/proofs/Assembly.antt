@@ -3,6 +3,7 @@ use Rattle.std.proofs.Common.{◌≡◌, ◌∙◌, refl, sym, ap, subst, ℕ, z
 use Rattle.std.specs.List.{list_any}
 use Rattle.std.proofs.lemmas.Bool.{eqb-true}
 use Rattle.text_core.specs.declared.name.Name.{Name}
+use Rattle.logic_term.specs.declared.declaration.AdtDecl.{AdtDecl}
 use Rattle.logic_term.specs.declared.kinds.Label.{Label}
 use Rattle.logic_term.specs.declared.obligation.Contract.{Contract}
 use Rattle.logic_term.specs.Ty.{Ty, int, bool, tuple, no_tys}
@@ -78,20 +79,20 @@ gone_at [] n g e = absurd cc
 gone_at (h ∷ gones) zero g e = some_same e
 gone_at (h ∷ gones) (suc n) g e = gone_at gones n g e
 
-module _ (table : List (List ℕ)) (fs : List TypedFunction) (bs : Bodies) (cs : Contracts) (gones : List Initialised) (lowers : Lowers table fs bs cs gones) where
+module _ (table : List (List ℕ)) (ds : List AdtDecl) (fs : List TypedFunction) (bs : Bodies) (cs : Contracts) (gones : List Initialised) (lowers : Lowers table ds fs bs cs gones) where
   pub sound : AreSound bs
-  sound = bodies_are_sound table fs bs cs gones lowers
+  sound = bodies_are_sound table ds fs bs cs gones lowers
 
   abbrev labelled : (at : ℕ → Labelling) × ((n : ℕ) (b : Body) (gone : Initialised) → slice_get bs.bodies n ≡ Some b → slice_get gones n ≡ Some gone → MeetsMoveRows b (at n) × HeadsAreThere b gone (at n))
-  labelled = heads_speak_of_what_is_there table fs bs cs gones lowers
+  labelled = heads_speak_of_what_is_there table ds fs bs cs gones lowers
 
   abbrev pub labelling : ℕ → Labelling
   labelling = labelled.0
 
   pub functions : sim.AreFunctions (program_of bs cs gones) labelling
   functions n b is_body =
-      let c = contracts_speak_of_parameters table fs bs cs gones lowers n b is_body in
-      let is_sound = bodies_are_sound table fs bs cs gones lowers n b is_body in
+      let c = contracts_speak_of_parameters table ds fs bs cs gones lowers n b is_body in
+      let is_sound = bodies_are_sound table ds fs bs cs gones lowers n b is_body in
       let there = labelled.1 n b c.1 is_body c.3 in
       record {
         number = is_sound.2;
@@ -100,9 +101,9 @@ module _ (table : List (List ℕ)) (fs : List TypedFunction) (bs : Bodies) (cs :
         contract = c.0;
         is_contract = c.2;
         simple = record {
-          names = (locals_have_names table fs bs cs gones lowers n b is_body).0;
-          scalars = λ x ty is. scalar ty (locals_have_built_types table fs bs cs gones lowers n b is_body x ty is);
-          laid_out = bodies_are_laid_out table fs bs cs gones lowers n b is_body;
+          names = (locals_have_names table ds fs bs cs gones lowers n b is_body).0;
+          scalars = λ x ty is. scalar ty (locals_have_built_types table ds fs bs cs gones lowers n b is_body x ty is);
+          laid_out = bodies_are_laid_out table ds fs bs cs gones lowers n b is_body;
         };
         speaks = c.4;
         heads = subst (λ (g : Initialised). sim.HeadsSpeakOf b c.0 g (labelling n)) (sym (gone_at gones n c.1 c.3))

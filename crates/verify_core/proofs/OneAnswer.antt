@@ -10,7 +10,11 @@ use Rattle.text_core.specs.declared.fault.PassError.TheVariants as errors
 use Rattle.source_words.proofs.WordLists.{one_table}
 use Rattle.source_trees.specs.declared.item.Item.{Item}
 use Rattle.type_check.specs.declared.program.TypedProgram.{TypedProgram}
+use Rattle.rs_types.specs.Checked.{IsFirst}
+use Rattle.rs_types.proofs.OneRefusal.{first_does_not_hold, one_first}
 use Rattle.type_check.specs.Checked.{checked}
+use Rattle.type_check.specs.DeclaredTypes.{declared_types}
+use Rattle.type_check.specs.Declaring.{checks}
 use Rattle.mir_build.specs.Lowering.{LowerTo, HasMoreBlocks}
 use Rattle.mir_build.specs.Whole.{HaveFewBlocks}
 use Rattle.mir_build.proofs.OneBody.{programs_lower_in_one_way, blocks_are_counted}
@@ -18,7 +22,7 @@ use Rattle.proof_kernel.specs.declared.setting.Tables.{Tables}
 use Rattle.verify_core.specs.declared.owed.Owed.{Owed}
 use Rattle.verify_core.specs.declared.program.Program.{Program}
 use Rattle.verify_core.specs.Built.{IsSourceError}
-use Rattle.verify_core.specs.Prepared.{HasItems, IsTypedAs, FunctionsOwe, HaveFewPaths, HasManyPaths, IsPrepared, IsRefused, IsPastLimit, most_bytes, most_blocks, most_obligations}
+use Rattle.verify_core.specs.Prepared.{AreInOrder, HasItems, IsTypedAs, FunctionsOwe, HaveFewPaths, HasManyPaths, IsPrepared, IsRefused, IsPastLimit, most_bytes, most_blocks, most_obligations}
 use Rattle.verify_core.proofs.BuiltItems.{one_source, one_error, not_refused, not_few, not_many}
 use Rattle.verify_core.proofs.OneCount.{few_paths_are_not_many}
 use Rattle.verify_core.proofs.OwedOnce.{owed_is_one, few_obligations_are_not_many}
@@ -54,28 +58,41 @@ module _ (source : List ℕ) where
 
   typed_not_refused : (t : List (List ℕ)) (p : TypedProgram) (error : SourceError) → IsTypedAs source t p → IsRefused source error → ⊥
   typed_not_refused t p error a (IsRefused.by_form is) = not_refused [] source one_place_at_first a.items error a.has.spelled is
-  typed_not_refused t p error a (IsRefused.by_types {table} {items} has is) = ok_err (sym a.is_typed ∙ ap checked (same_items t table a.items items a.has has) ∙ is)
+  typed_not_refused t p error a (IsRefused.by_declarations {table} {items} has first) =
+      first_does_not_hold (declared_types items) (checks items) error (subst AreInOrder (same_items t table a.items items a.has has) a.in_order) first
+  typed_not_refused t p error a (IsRefused.by_types {table} {items} has order is) = ok_err (sym a.is_typed ∙ ap checked (same_items t table a.items items a.has has) ∙ is)
 
   pub one_refusal : (one other : SourceError) → IsRefused source one → IsRefused source other → one ≡ other
   one_refusal one other (IsRefused.by_form h) (IsRefused.by_form g) = one_error [] source one_place_at_first one other h g
-  one_refusal one other (IsRefused.by_form h) (IsRefused.by_types {items = items} has is) = absurd (not_refused [] source one_place_at_first items one has.spelled h)
-  one_refusal one other (IsRefused.by_types {items = items} has is) (IsRefused.by_form g) = absurd (not_refused [] source one_place_at_first items other has.spelled g)
-  one_refusal one other (IsRefused.by_types {table = t} {items = items} has is) (IsRefused.by_types {table = u} {items = others} had was) =
+  one_refusal one other (IsRefused.by_form h) (IsRefused.by_declarations {items = items} has first) = absurd (not_refused [] source one_place_at_first items one has.spelled h)
+  one_refusal one other (IsRefused.by_form h) (IsRefused.by_types {items = items} has order is) = absurd (not_refused [] source one_place_at_first items one has.spelled h)
+  one_refusal one other (IsRefused.by_declarations {items = items} has first) (IsRefused.by_form g) = absurd (not_refused [] source one_place_at_first items other has.spelled g)
+  one_refusal one other (IsRefused.by_declarations {table = t} {items = items} has first) (IsRefused.by_declarations {table = u} {items = others} had second) =
+      one_first (declared_types others) (checks others) one other (subst (λ (is : List Item). IsFirst (declared_types is) (checks is) one) (same_items t u items others has had) first) second
+  one_refusal one other (IsRefused.by_declarations {table = t} {items = items} has first) (IsRefused.by_types {table = u} {items = others} had order is) =
+      absurd (first_does_not_hold (declared_types others) (checks others) one order (subst (λ (is : List Item). IsFirst (declared_types is) (checks is) one) (same_items t u items others has had) first))
+  one_refusal one other (IsRefused.by_types {items = items} has order is) (IsRefused.by_form g) = absurd (not_refused [] source one_place_at_first items other has.spelled g)
+  one_refusal one other (IsRefused.by_types {table = t} {items = items} has order is) (IsRefused.by_declarations {table = u} {items = others} had first) =
+      absurd (first_does_not_hold (declared_types items) (checks items) other order (subst (λ (is : List Item). IsFirst (declared_types is) (checks is) other) (same_items u t others items had has) first))
+  one_refusal one other (IsRefused.by_types {table = t} {items = items} has order is) (IsRefused.by_types {table = u} {items = others} had also was) =
       same_err (sym is ∙ ap checked (same_items t u items others has had) ∙ was)
 
   -- ---- two lowerings
 
   module _ (t u : List (List ℕ)) (p q : TypedProgram) (bs ds : Bodies) (cs es : Contracts) (gones others : List Initialised) (a : IsTypedAs source t p) (b : IsTypedAs source u q)
-      (l : LowerTo t p.functions bs cs gones) (m : LowerTo u q.functions ds es others) where
+      (l : LowerTo t (declared_types a.items) p.functions bs cs gones) (m : LowerTo u (declared_types b.items) q.functions ds es others) where
     same_lowering : (bs ≡ ds) × (cs ≡ es) × (gones ≡ others)
     same_lowering =
         let tables : t ≡ u = same_tables t u p q a b in
         let typed : p ≡ q = same_typed t u p q a b in
-        programs_lower_in_one_way u q.functions bs ds cs es gones others (subst (λ (r : TypedProgram). LowerTo u r.functions bs cs gones) typed (subst (λ (x : List (List ℕ)). LowerTo x p.functions bs cs gones) tables l)) m
+        let items : a.items ≡ b.items = same_items t u a.items b.items a.has b.has in
+        programs_lower_in_one_way u (declared_types b.items) q.functions bs ds cs es gones others
+        (subst (λ (is : List Item). LowerTo u (declared_types is) q.functions bs cs gones) items
+        (subst (λ (r : TypedProgram). LowerTo u (declared_types a.items) r.functions bs cs gones) typed (subst (λ (x : List (List ℕ)). LowerTo x (declared_types a.items) p.functions bs cs gones) tables l))) m
 
   -- a program that lowers to few blocks has no more
-  no_more : (t u : List (List ℕ)) (p q : TypedProgram) (bs : Bodies) (cs : Contracts) (gones : List Initialised) → IsTypedAs source t p → IsTypedAs source u q → LowerTo t p.functions bs cs gones → HaveFewBlocks bs → HasMoreBlocks q most_blocks → ⊥
-  no_more t u p q bs cs gones a b l few more = blocks_are_counted t p bs cs gones most_blocks l few (subst (λ (r : TypedProgram). HasMoreBlocks r most_blocks) (sym (same_typed t u p q a b)) more)
+  no_more : (t u : List (List ℕ)) (p q : TypedProgram) (bs : Bodies) (cs : Contracts) (gones : List Initialised) → (a : IsTypedAs source t p) → (b : IsTypedAs source u q) → LowerTo t (declared_types a.items) p.functions bs cs gones → HaveFewBlocks bs → HasMoreBlocks q most_blocks → ⊥
+  no_more t u p q bs cs gones a b l few more = blocks_are_counted t (declared_types a.items) p bs cs gones most_blocks l few (subst (λ (r : TypedProgram). HasMoreBlocks r most_blocks) (sym (same_typed t u p q a b)) more)
 
   -- ---- limits
 
@@ -83,7 +100,8 @@ module _ (source : List ℕ) where
     pub refused_not_past : (error : SourceError) (limit : Limit) → IsRefused source error → IsPastLimit source limit → ⊥
     refused_not_past error _ r (IsPastLimit.bytes long) = absurd (omega (arith, short, long))
     refused_not_past error limit (IsRefused.by_form h) (IsPastLimit.functions is) = not_many [] source one_place_at_first error limit h is
-    refused_not_past error limit (IsRefused.by_types {items = items} has is) (IsPastLimit.functions many) = not_few [] source one_place_at_first items limit has.spelled has.few many
+    refused_not_past error limit (IsRefused.by_declarations {items = items} has first) (IsPastLimit.functions many) = not_few [] source one_place_at_first items limit has.spelled has.few many
+    refused_not_past error limit (IsRefused.by_types {items = items} has order is) (IsPastLimit.functions many) = not_few [] source one_place_at_first items limit has.spelled has.few many
     refused_not_past error _ r (IsPastLimit.blocks {table} {typed} a more) = typed_not_refused table typed error a r
     refused_not_past error _ r (IsPastLimit.paths {table} {typed} a l few many) = typed_not_refused table typed error a r
     refused_not_past error _ r (IsPastLimit.obligations {table} {typed} a l few paths have many) = typed_not_refused table typed error a r
@@ -92,8 +110,8 @@ module _ (source : List ℕ) where
     typed_not_many : (t : List (List ℕ)) (p : TypedProgram) (limit : Limit) → IsTypedAs source t p → IsSourceError [] source (errors.Limit limit) → ⊥
     typed_not_many t p limit a is = not_few [] source one_place_at_first a.items limit a.has.spelled a.has.few is
 
-    few_and_many : (t u : List (List ℕ)) (p q : TypedProgram) (bs ds : Bodies) (cs es : Contracts) (gones others : List Initialised) → IsTypedAs source t p → IsTypedAs source u q → LowerTo t p.functions bs cs gones
-        → LowerTo u q.functions ds es others → HaveFewPaths bs → HasManyPaths ds → ⊥
+    few_and_many : (t u : List (List ℕ)) (p q : TypedProgram) (bs ds : Bodies) (cs es : Contracts) (gones others : List Initialised) → (a : IsTypedAs source t p) → (b : IsTypedAs source u q) → LowerTo t (declared_types a.items) p.functions bs cs gones
+        → LowerTo u (declared_types b.items) q.functions ds es others → HaveFewPaths bs → HasManyPaths ds → ⊥
     few_and_many t u p q bs ds cs es gones others a b l m few many =
         few_paths_are_not_many bs few (subst HasManyPaths (sym (same_lowering t u p q bs ds cs es gones others a b l m).0) many)
 
@@ -124,7 +142,7 @@ module _ (source : List ℕ) where
 
     -- ---- accepted sources
 
-    prepared_not_many : (p : Program) (many : ℕ) (owed : List Owed) (t : List (List ℕ)) (q : TypedProgram) (bs : Bodies) (cs : Contracts) (gones : List Initialised) → IsPrepared source p → IsTypedAs source t q → LowerTo t q.functions bs cs gones
+    prepared_not_many : (p : Program) (many : ℕ) (owed : List Owed) (t : List (List ℕ)) (q : TypedProgram) (bs : Bodies) (cs : Contracts) (gones : List Initialised) → IsPrepared source p → (b : IsTypedAs source t q) → LowerTo t (declared_types b.items) q.functions bs cs gones
         → FunctionsOwe bs cs gones many owed → most_obligations < length owed → ⊥
     prepared_not_many p many owed t q bs cs gones h b l owe more =
         let same = same_lowering t p.names q h.typed bs p.bodies cs p.contracts gones h.gones b h.is_typed l h.lowers in

@@ -4,6 +4,7 @@ use Rattle.std.proofs.lemmas.Bool.{cases_lt}
 use Rattle.std.proofs.lemmas.List.{length-append, length-map}
 use Rattle.std.proofs.lemmas.Option.{slice_get_read}
 use Rattle.text_core.specs.declared.refusal.Limit.{Limit}
+use Rattle.text_core.specs.declared.refusal.SourceError.{SourceError}
 use Rattle.logic_term.specs.declared.declaration.AdtDecl.{AdtDecl}
 use Rattle.logic_term.specs.declared.kinds.Label.{Label}
 use Rattle.logic_term.specs.declared.obligation.Contract.{Contract}
@@ -20,17 +21,19 @@ use Rattle.mir_ir.specs.declared.terminator.TerminatorKind.{TerminatorKind}
 use Rattle.mir_ir.specs.declared.terminator.TerminatorKind.TheVariants.{Call}
 use Rattle.mir_ir.specs.WellFormed.{EndIsTyped}
 use Rattle.proof_kernel.specs.declared.setting.Tables.{Tables}
-use Rattle.proof_kernel.specs.Setting.{no_tables}
 use Rattle.text_core.specs.declared.fault.PassError.{PassError}
 use Rattle.text_core.specs.declared.fault.PassError.TheVariants as errors
 use Rattle.source_words.specs.Words.{GivesNames}
 use Rattle.source_trees.specs.declared.item.Item.{Item}
 use Rattle.rs_syntax.specs.Parsed.{functions_among, most_functions}
+use Rattle.rs_types.specs.Checked.{IsFirst}
 use Rattle.type_check.specs.declared.program.Signature.{Signature}
 use Rattle.type_check.specs.declared.program.TypedFunction.{TypedFunction}
 use Rattle.type_check.specs.declared.program.TypedProgram.{TypedProgram}
 use Rattle.type_check.specs.Answers.{Refuses as TypesRefuse}
 use Rattle.type_check.specs.Checked.{checked}
+use Rattle.type_check.specs.DeclaredTypes.{declared_types}
+use Rattle.type_check.specs.Declaring.{checks}
 use Rattle.type_check.specs.WellTyped.{ProgramFits, signatures}
 use Rattle.mir_build.specs.declared.lowered.Lowered.{Lowered}
 use Rattle.mir_build.specs.Laws.{Lowers}
@@ -48,9 +51,9 @@ use Rattle.prophecy_sim.specs.declared.node.Node.TheVariants.{Function as OfFunc
 use Rattle.verify_core.specs.declared.owed.Owed.{Owed}
 use Rattle.verify_core.specs.Built.{SpellsBuilt, IsSourceError}
 use Rattle.verify_core.specs.OnSource.{IsPastSomeLimit, RefusesProofs, Refuses}
-use Rattle.verify_core.specs.Passes.{CanWalkAt, CanWalkAll, AddsOwed, AreLaidOut, HaveFewGoals, IsSettingAt, AreTooMany, IsGoalsError, IsPathsError}
+use Rattle.verify_core.specs.Passes.{IsChecked, CanWalkAt, CanWalkAll, AddsOwed, AreLaidOut, HaveFewGoals, IsSettingAt, AreTooMany, IsGoalsError, IsPathsError}
 use Rattle.verify_core.specs.declared.program.Program.{Program}
-use Rattle.verify_core.specs.Prepared.{HasItems, IsPrepared, IsTypedAs, gone_of, AreOfWalk, FunctionOwes, FunctionsOwe, HasManyPaths, HaveFewPaths, IsPastLimit, IsRefused, RefusesSource, most_paths, most_obligations}
+use Rattle.verify_core.specs.Prepared.{AreInOrder, HasItems, IsPrepared, IsTypedAs, gone_of, AreOfWalk, FunctionOwes, FunctionsOwe, HasManyPaths, HaveFewPaths, IsPastLimit, IsRefused, RefusesSource, most_paths, most_obligations}
 use Rattle.verify_core.specs.Refusals.{refusal_of}
 use Rattle.verify_core.specs.Owed.{owing}
 use Rattle.verify_core.proofs.Assembly.{sound, gone_at}
@@ -77,13 +80,25 @@ has_items source old table items same spelled few gives = record {
   gives = subst (λ (t : List (List ℕ)). GivesNames t source table) same gives;
 }
 
-pub types_refused : (source : List ℕ) (table : List (List ℕ)) (items : List Item) (e : PassError) → HasItems source table items → TypesRefuse e (checked items) → RefusesSource source (refusal_of e)
-types_refused source table items (errors.Source e) has is = IsRefused.by_types has is
-types_refused source table items (errors.Limit l) has is = absurd is
-types_refused source table items errors.NoMemory has is = tt
+-- for want of memory, or for the first check that does not hold
+abbrev pub DeclarationsRefuse : List Item → PassError → Type 0
+DeclarationsRefuse items e = (e ≡ errors.NoMemory) ⊎ ((r : SourceError) × (e ≡ errors.Source r) × IsFirst (declared_types items) (checks items) r)
 
-pub typed_as : (source : List ℕ) (table : List (List ℕ)) (items : List Item) (typed : TypedProgram) → HasItems source table items → checked items ≡ Ok typed → IsTypedAs source table typed
-typed_as source table items typed has is = record { items = items; has = has; is_typed = is }
+pub declarations_refused : (source : List ℕ) (table : List (List ℕ)) (items : List Item) (e : PassError) → HasItems source table items → DeclarationsRefuse items e → RefusesSource source (refusal_of e)
+declarations_refused source table items e has (inl is) = rw is tt
+declarations_refused source table items e has (inr (r, is, first)) = rw is (IsRefused.by_declarations has first)
+
+pub types_refused : (source : List ℕ) (table : List (List ℕ)) (items : List Item) (e : PassError) → HasItems source table items → AreInOrder items → TypesRefuse e (checked items) → RefusesSource source (refusal_of e)
+types_refused source table items (errors.Source e) has order is = IsRefused.by_types has order is
+types_refused source table items (errors.Limit l) has order is = absurd is
+types_refused source table items errors.NoMemory has order is = tt
+
+pub typed_as : (source : List ℕ) (table : List (List ℕ)) (items : List Item) (typed : TypedProgram) (ds : List AdtDecl) → HasItems source table items → (ds ≡ declared_types items) × AreInOrder items → checked items ≡ Ok typed → IsChecked source table typed ds
+typed_as source table items typed ds has (same, order) is = record { typed_as = record { items = items; has = has; in_order = order; is_typed = is }; declares = same }
+
+-- what is lowered with the types that the source declares
+abbrev pub lowered_as : (source : List ℕ) (table : List (List ℕ)) (typed : TypedProgram) (ds : List AdtDecl) (l : Lowered) (h : IsChecked source table typed ds) → IsLowered table ds typed l → IsLowered table (declared_types h.typed_as.items) typed l
+lowered_as source table typed ds l h = subst (λ (x : List AdtDecl). IsLowered table x typed l) h.declares
 
 pub fits_of : (source : List ℕ) (table : List (List ℕ)) (typed : TypedProgram) → IsTypedAs source table typed → ProgramFits typed
 fits_of source table typed t = typed_program_fits t.items typed t.is_typed
@@ -93,17 +108,19 @@ lowering_refused source table typed (errors.Source e) t fails = absurd fails
 lowering_refused source table typed (errors.Limit l) t (is, more) = subst (λ (m : Limit). IsPastLimit source m) (sym is) (IsPastLimit.blocks t (more (fits_of source table typed t)))
 lowering_refused source table typed errors.NoMemory t fails = tt
 
-pub obligations_refused : (source : List ℕ) (table : List (List ℕ)) (typed : TypedProgram) (l : Lowered) (limit : Limit) → IsTypedAs source table typed → IsLowered table typed l → HaveFewBlocks l.bodies → HaveFewPaths l.bodies → IsGoalsError l limit → IsPastLimit source limit
-obligations_refused source table typed l limit t lowered blocks paths (many, is) = subst (λ (m : Limit). IsPastLimit source m) (sym is) (IsPastLimit.obligations t lowered blocks paths many.owe many.many)
+pub obligations_refused : (source : List ℕ) (table : List (List ℕ)) (typed : TypedProgram) (ds : List AdtDecl) (l : Lowered) (limit : Limit) → IsChecked source table typed ds → IsLowered table ds typed l → HaveFewBlocks l.bodies → HaveFewPaths l.bodies → IsGoalsError l limit
+    → IsPastLimit source limit
+obligations_refused source table typed ds l limit h lowered blocks paths (many, is) =
+    subst (λ (m : Limit). IsPastLimit source m) (sym is) (IsPastLimit.obligations h.typed_as (lowered_as source table typed ds l h lowered) blocks paths many.owe many.many)
 
 -- ---- declarations
 
 abbrev with_types : List AdtDecl → Tables
 with_types adts = record { adts = adts }
 
--- so far a program declares nothing
-pub tables_are : (table : List (List ℕ)) (typed : TypedProgram) (l : Lowered) (T : Tables) → IsLowered table typed l → T ≡ no_tables → T ≡ record { adts = l.bodies.decls }
-tables_are table typed l T lowered is = is ∙ ap with_types (sym lowered.decls)
+-- the tables have the declared types of the program
+pub tables_are : (table : List (List ℕ)) (ds : List AdtDecl) (typed : TypedProgram) (l : Lowered) (adts : List AdtDecl) → IsLowered table ds typed l → adts ≡ ds → with_types adts ≡ with_types l.bodies.decls
+tables_are table ds typed l adts lowered is = ap with_types (is ∙ sym lowered.decls)
 
 -- ---- bodies that can be walked
 
@@ -119,24 +136,24 @@ module _ (table : List (List ℕ)) where
       let inside : f < length cs.of = subst (λ (k : ℕ). f < k) (sym same) (within bs.bodies f call.0.0 call.0.2) in
       (got cs.of f inside, (call.0.1, call.0.5.1))
 
-  pub walkable : (typed : TypedProgram) (l : Lowered) → IsLowered table typed l → ProgramFits typed → CanWalkAll l
-  walkable typed l lowered fits =
-      let lowers : Lowers table typed.functions l.bodies l.contracts l.gone = record { lowers = lowered; fits = fits } in
+  pub walkable : (ds : List AdtDecl) (typed : TypedProgram) (l : Lowered) → IsLowered table ds typed l → ProgramFits typed → CanWalkAll l
+  walkable ds typed l lowered fits =
+      let lowers : Lowers table ds typed.functions l.bodies l.contracts l.gone = record { lowers = lowered; fits = fits } in
       let sizes = as_many (signatures typed.functions) 0 typed.functions l.bodies.bodies l.contracts.of l.gone lowered.each in
       record {
         contracts = sizes.0;
         gone = sizes.1;
-        numbered = λ n b is_body. (sound table typed.functions l.bodies l.contracts l.gone lowers n b is_body).2;
+        numbered = λ n b is_body. (sound table ds typed.functions l.bodies l.contracts l.gone lowers n b is_body).2;
         walk = λ n b c is_body is_contract. record {
-          laid_out = bodies_are_laid_out table typed.functions l.bodies l.contracts l.gone lowers n b is_body;
+          laid_out = bodies_are_laid_out table ds typed.functions l.bodies l.contracts l.gone lowers n b is_body;
           calls = λ label k p callee types args m is_block ends.
-              let found = known l.bodies l.contracts b p callee types args m k.end.kind sizes.0 ((sound table typed.functions l.bodies l.contracts l.gone lowers n b is_body).0.ends label k is_block) ends in
+              let found = known l.bodies l.contracts b p callee types args m k.end.kind sizes.0 ((sound table ds typed.functions l.bodies l.contracts l.gone lowers n b is_body).0.ends label k is_block) ends in
               record { contract = found.0; answer = found.1 };
         };
       }
 
-  pub laid_out : (typed : TypedProgram) (l : Lowered) → IsLowered table typed l → ProgramFits typed → AreLaidOut l.bodies
-  laid_out typed l lowered fits n b is = bodies_are_laid_out table typed.functions l.bodies l.contracts l.gone (record { lowers = lowered; fits = fits }) n b is
+  pub laid_out : (ds : List AdtDecl) (typed : TypedProgram) (l : Lowered) → IsLowered table ds typed l → ProgramFits typed → AreLaidOut l.bodies
+  laid_out ds typed l lowered fits n b is = bodies_are_laid_out table ds typed.functions l.bodies l.contracts l.gone (record { lowers = lowered; fits = fits }) n b is
 
 -- ---- one function
 
@@ -214,8 +231,9 @@ few_in_all bs i past before n b is = before n b is (omega (arith, within bs.bodi
 pub many_at : (bs : Bodies) (i : ℕ) (b : Body) → slice_get bs.bodies i ≡ Some b → HasMorePaths b [] b.entry 1025 → HasManyPaths bs
 many_at bs i b is more = record { place = i; body = b; is_body = is; more = more }
 
-pub paths_refused : (source : List ℕ) (table : List (List ℕ)) (typed : TypedProgram) (l : Lowered) (limit : Limit) → IsTypedAs source table typed → IsLowered table typed l → HaveFewBlocks l.bodies → IsPathsError l.bodies limit → IsPastLimit source limit
-paths_refused source table typed l limit t lowered blocks (many, is) = subst (λ (m : Limit). IsPastLimit source m) (sym is) (IsPastLimit.paths t lowered blocks many)
+pub paths_refused : (source : List ℕ) (table : List (List ℕ)) (typed : TypedProgram) (ds : List AdtDecl) (l : Lowered) (limit : Limit) → IsChecked source table typed ds → IsLowered table ds typed l → HaveFewBlocks l.bodies → IsPathsError l.bodies limit → IsPastLimit source limit
+paths_refused source table typed ds l limit h lowered blocks (many, is) =
+    subst (λ (m : Limit). IsPastLimit source m) (sym is) (IsPastLimit.paths h.typed_as (lowered_as source table typed ds l h lowered) blocks many)
 
 -- ---- sources and proofs
 

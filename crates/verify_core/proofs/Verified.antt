@@ -11,6 +11,7 @@ use Rattle.mir_machine.specs.Step.{Stuck, after as state_after}
 use Rattle.mir_machine.specs.Tree.{Tree}
 use Rattle.mir_machine.specs.Typed.{Met}
 use Rattle.mir_machine.proofs.NeverStuck.{never_stuck}
+use Rattle.type_check.specs.DeclaredTypes.{declared_types}
 use Rattle.mir_build.specs.Laws.{Lowers}
 use Rattle.prophecy_sim.specs.Programs as sim
 use Rattle.prophecy_sim.proofs.GoodBody.{good as true_makes_good}
@@ -55,14 +56,14 @@ verified_at : (ps : List Proof) (p : Program) (f : ℕ) (flag : Bool) → Tells 
 verified_at ps p f true tells e = tells
 verified_at ps p f false tells e = absurd (true≢false (sym e))
 
-lowering : (source : List ℕ) (p : Program) → (prepared : IsPrepared source p) → Lowers p.names prepared.typed.functions p.bodies p.contracts prepared.gones
+lowering : (source : List ℕ) (p : Program) → (prepared : IsPrepared source p) → Lowers p.names (declared_types prepared.is_typed.items) prepared.typed.functions p.bodies p.contracts prepared.gones
 lowering source p prepared = record { lowers = prepared.lowers; fits = typed_program_fits prepared.is_typed.items prepared.typed prepared.is_typed.is_typed }
 
 -- no proper call of a function of an accepted source is stuck
 pub accepted_is_never_stuck : (source : List ℕ) (p : Program) → IsPrepared source p → (Θ : Theory) (f : ℕ) (θ : Tys) (args held : List (Tree (Unit {0}))) (b : Body) (met : List Met) → IsProper Θ p.bodies f θ args held b met
     → (n : ℕ) → state_after (code_of p.bodies) n (called b f θ args held) ≡ Stuck → ⊥
 accepted_is_never_stuck source p prepared Θ f θ args held b met proper n =
-    never_stuck Θ (code_of p.bodies) (sound p.names prepared.typed.functions p.bodies p.contracts prepared.gones (lowering source p prepared)) f θ args held b met proper n
+    never_stuck Θ (code_of p.bodies) (sound p.names (declared_types prepared.is_typed.items) prepared.typed.functions p.bodies p.contracts prepared.gones (lowering source p prepared)) f θ args held b met proper n
 
 -- each obligation of an accepted source is owed by a function that has a body
 pub owners_of_prepared : (source : List ℕ) (p : Program) → IsPrepared source p → HaveOwners p.bodies p.obligations
@@ -98,6 +99,6 @@ module _ (source : List ℕ) (p : Program) (prepared : IsPrepared source p) wher
   verified_is_good ps v verdict f line c is_line verified is_contract =
       let lowers = lowering source p prepared in
       let all : IsVerified ps p f = verified_at ps p f line.verified (verdict.lines.told f line is_line) verified in
-      true_makes_good (declared_of p) (program_of p.bodies p.contracts prepared.gones) (labelling p.names prepared.typed.functions p.bodies p.contracts prepared.gones lowers)
-      (functions p.names prepared.typed.functions p.bodies p.contracts prepared.gones lowers) f c is_contract
+      true_makes_good (declared_of p) (program_of p.bodies p.contracts prepared.gones) (labelling p.names (declared_types prepared.is_typed.items) prepared.typed.functions p.bodies p.contracts prepared.gones lowers)
+      (functions p.names (declared_types prepared.is_typed.items) prepared.typed.functions p.bodies p.contracts prepared.gones lowers) f c is_contract
       (λ n b d reaches is_body is_d. owed_are_true ps n b d is_body is_d (all (Function n) reaches))

@@ -2,18 +2,26 @@
 use Rattle.std.specs.Prelude.{◌≡◌, ℕ, ◌+◌, ◌<◌, ◌≤◌, ◌++◌, length, List, Some, slice_get}
 use Rattle.text_core.specs.declared.refusal.LimitKind.TheVariants.{Obligations, Paths}
 use Rattle.text_core.specs.declared.refusal.Limit.{Limit}
+use Rattle.logic_term.specs.declared.declaration.AdtDecl.{AdtDecl}
 use Rattle.logic_term.specs.declared.obligation.Contract.{Contract}
 use Rattle.logic_term.specs.declared.obligation.Obligation.{Obligation}
 use Rattle.prophecy_sim.specs.declared.node.Node.TheVariants.{Function}
 use Rattle.mir_ir.specs.declared.body.Body.{Body}
 use Rattle.mir_ir.specs.Layout.{IsLaidOut}
+use Rattle.type_check.specs.declared.program.TypedProgram.{TypedProgram}
+use Rattle.type_check.specs.DeclaredTypes.{declared_types}
 use Rattle.mir_build.specs.declared.lowered.Lowered.{Lowered}
 use Rattle.prophecy_logic.specs.Graph.{Setting}
 use Rattle.prophecy_logic.specs.Walkable.{CanWalk}
 use Rattle.verify_core.specs.declared.owed.Owed.{Owed}
 use Rattle.verify_core.specs.Owed.{owing}
-use Rattle.verify_core.specs.Prepared.{gone_of, FunctionOwes, FunctionsOwe, HasManyPaths, most_paths, most_obligations}
+use Rattle.verify_core.specs.Prepared.{IsTypedAs, gone_of, FunctionOwes, FunctionsOwe, HasManyPaths, most_paths, most_obligations}
 use Rattle.mir_ir.specs.declared.body.Bodies.{Bodies}
+
+-- the source is typed as this program, and declares these types
+pub record IsChecked (source : List ℕ) (table : List (List ℕ)) (typed : TypedProgram) (ds : List AdtDecl) : Type 0 where
+  pub typed_as : IsTypedAs source table typed
+  pub declares : ds ≡ declared_types typed_as.items
 
 -- the body of this place can be walked, if there is one
 abbrev pub CanWalkAt : Lowered → ℕ → Type 0

@@ -17,7 +17,10 @@ use Rattle.source_words.specs.Words.{GivesNames}
 use Rattle.source_trees.specs.declared.item.Item.{Item}
 use Rattle.rs_syntax.specs.Parsed.{functions_among, most_functions}
 use Rattle.type_check.specs.declared.program.TypedProgram.{TypedProgram}
+use Rattle.rs_types.specs.Checked.{AllPass, IsFirst}
 use Rattle.type_check.specs.Checked.{checked}
+use Rattle.type_check.specs.DeclaredTypes.{declared_types}
+use Rattle.type_check.specs.Declaring.{checks}
 use Rattle.mir_build.specs.Lowering.{LowerTo, HasMoreBlocks}
 use Rattle.mir_build.specs.Whole.{HaveFewBlocks}
 use Rattle.verify_core.specs.declared.fault.Refusal.{Refusal}
@@ -45,6 +48,10 @@ most_obligations = 1000000
 
 -- ---- the passes
 
+-- all checks on what the items declare hold
+abbrev pub AreInOrder : List Item → Type 0
+AreInOrder items = AllPass (declared_types items) (checks items)
+
 -- the source spells these items, all forms in them are built, and there are not too many functions; the table, empty before the source is
 -- read, has the names that are in them
 pub record HasItems (source : List ℕ) (table : List (List ℕ)) (items : List Item) : Type 0 where
@@ -52,10 +59,11 @@ pub record HasItems (source : List ℕ) (table : List (List ℕ)) (items : List 
   pub few : functions_among items ≤ most_functions
   pub gives : GivesNames [] source table
 
--- the items of the source have these names and types
+-- the items of the source declare what they may, and have these names and types
 pub record IsTypedAs (source : List ℕ) (table : List (List ℕ)) (typed : TypedProgram) : Type 0 where
   pub items : List Item
   pub has : HasItems source table items
+  pub in_order : AreInOrder items
   pub is_typed : checked items ≡ Ok typed
 
 -- ---- obligations
@@ -106,7 +114,7 @@ pub record IsPrepared (source : List ℕ) (p : Program) : Type 0 where
   pub typed : TypedProgram
   pub is_typed : IsTypedAs source p.names typed
   pub gones : List Initialised
-  pub lowers : LowerTo p.names typed.functions p.bodies p.contracts gones
+  pub lowers : LowerTo p.names (declared_types is_typed.items) typed.functions p.bodies p.contracts gones
   pub blocks : HaveFewBlocks p.bodies
   pub paths : HaveFewPaths p.bodies
   pub tables : p.tables ≡ tables_of p
@@ -115,19 +123,21 @@ pub record IsPrepared (source : List ℕ) (p : Program) : Type 0 where
 
 -- ---- refused sources
 
--- the source is refused for this reason: it is none of the whole grammar, or has a form that is not built; or by names and types
+-- the source is refused for this reason: it is none of the whole grammar, or has a form that is not built; or for what it declares; or by the names
+-- and types of its code and formulas
 pub data IsRefused (source : List ℕ) (error : SourceError) : Type 0 where
   by_form : IsSourceError [] source (errors.Source error) → IsRefused source error
-  by_types : {table : List (List ℕ)} {items : List Item} → HasItems source table items → checked items ≡ Err error → IsRefused source error
+  by_declarations : {table : List (List ℕ)} {items : List Item} → HasItems source table items → IsFirst (declared_types items) (checks items) error → IsRefused source error
+  by_types : {table : List (List ℕ)} {items : List Item} → HasItems source table items → AreInOrder items → checked items ≡ Err error → IsRefused source error
 
 -- a quantity of the source is past its bound, and those that are counted before it are not
 pub data IsPastLimit (source : List ℕ) : Limit → Type 0 where
   bytes : most_bytes < length source → IsPastLimit source (record { kind = SourceBytes; counted = length source; bound = most_bytes })
   functions : {limit : Limit} → IsSourceError [] source (errors.Limit limit) → IsPastLimit source limit
   blocks : {table : List (List ℕ)} {typed : TypedProgram} → IsTypedAs source table typed → HasMoreBlocks typed most_blocks → IsPastLimit source (record { kind = Blocks; counted = most_blocks + 1; bound = most_blocks })
-  paths : {table : List (List ℕ)} {typed : TypedProgram} {bs : Bodies} {cs : Contracts} {gones : List Initialised} → IsTypedAs source table typed → LowerTo table typed.functions bs cs gones → HaveFewBlocks bs → HasManyPaths bs
+  paths : {table : List (List ℕ)} {typed : TypedProgram} {bs : Bodies} {cs : Contracts} {gones : List Initialised} → (h : IsTypedAs source table typed) → LowerTo table (declared_types h.items) typed.functions bs cs gones → HaveFewBlocks bs → HasManyPaths bs
       → IsPastLimit source (record { kind = Paths; counted = most_paths + 1; bound = most_paths })
-  obligations : {table : List (List ℕ)} {typed : TypedProgram} {bs : Bodies} {cs : Contracts} {gones : List Initialised} {many : ℕ} {owed : List Owed} → IsTypedAs source table typed → LowerTo table typed.functions bs cs gones
+  obligations : {table : List (List ℕ)} {typed : TypedProgram} {bs : Bodies} {cs : Contracts} {gones : List Initialised} {many : ℕ} {owed : List Owed} → (h : IsTypedAs source table typed) → LowerTo table (declared_types h.items) typed.functions bs cs gones
       → HaveFewBlocks bs → HaveFewPaths bs → FunctionsOwe bs cs gones many owed → most_obligations < length owed → IsPastLimit source (record { kind = Obligations; counted = most_obligations + 1; bound = most_obligations })
 
 -- why a source has no program

@@ -14,7 +14,14 @@ use std::alloc::Global;
 use text_core::{Code, Items, Names, PassError, SourceError, Span};
 
 /// The forms that are built. Whoever builds a form puts its word here.
-pub(crate) const BUILT: [Form; 31] = [
+pub(crate) const BUILT: [Form; 37] = [
+    // ---- declared types
+    Form::Struct,
+    Form::Enum,
+    Form::LifetimeParameter,
+    Form::TypeParameter,
+    Form::FieldType,
+    Form::Derive,
     // ---- functions
     Form::Function,
     Form::NamedParameter,

@@ -3,10 +3,10 @@ ghost use Rattle.std.specs.Prelude.{◌≡◌, ◌+◌, ◌^◌, ◌<◌, ◌≤
 ghost use Rattle.type_check.specs.WellTyped.{ProgramFits};
 ghost use Rattle.mir_build.specs.Lowering.{IsLowered};
 ghost use Rattle.mir_build.specs.Laws.{Lowers};
-ghost use Rattle.verify_core.specs.Prepared.{IsTypedAs, IsPrepared, HaveFewPaths, RefusesSource};
+ghost use Rattle.verify_core.specs.Prepared.{IsPrepared, HaveFewPaths, RefusesSource};
 ghost use Rattle.verify_core.specs.Owed.{owing};
 ghost use Rattle.wp_gen.specs.Setting.{setting};
-ghost use Rattle.verify_core.specs.Passes.{CanWalkAll, AddsOwed, AreAllOwed, AreLaidOut, HaveFewGoals, IsSettingAt, IsGoalsError, IsPathsError};
+ghost use Rattle.verify_core.specs.Passes.{IsChecked, CanWalkAll, AddsOwed, AreAllOwed, AreLaidOut, HaveFewGoals, IsSettingAt, IsGoalsError, IsPathsError};
 
 use crate::built::built_items;
 use crate::fault::Refusal;
@@ -17,24 +17,31 @@ use mir_build::{Lowered, lower};
 use mir_ir::Bodies;
 use proof_kernel::Tables;
 use prophecy_sim::Node;
+use rs_types::AdtTable;
 use std::alloc::Global;
 use text_core::{Items, Limit, LimitKind, Names, NoMemory};
-use type_check::{TypedProgram, check};
+use type_check::{TypedProgram, check, declare};
 use wp_gen::{OBLIGATIONS, Walk, check_paths, counted_obligations, room_after};
 
 /// The most bytes of a source.
 pub const SOURCE_BYTES: usize = 1 << 20;
 
-/// The functions of a source, their names resolved and their expressions typed.
-fn typed_source(alloc: Global, source: &[u8], names: &mut Names) -> Result<TypedProgram, Refusal>
+/// The functions of a source, their names resolved and their expressions typed, and the types that it declares.
+fn typed_source(
+    alloc: Global,
+    source: &[u8],
+    names: &mut Names,
+) -> Result<(TypedProgram, AdtTable), Refusal>
     requires short { length source.now ≤ 2 ^ 20 }
     requires empty { names.old ≡ [] }
-    ensures ok { IfOk result (IsTypedAs source.now names.new) }
-    ensures fits { IfOk result ProgramFits }
+    ensures ok { IfOk result (λ r. IsChecked source.now names.new r.0 r.1) }
+    ensures fits { IfOk result (λ r. ProgramFits r.0) }
     ensures refused { IfErr result (RefusesSource source.now) }
 {
     let items = built_items(alloc, source, names)?;
-    Ok(check(alloc, items.as_slice())?)
+    let declared = declare(alloc, items.as_slice())?;
+    let typed = check(alloc, items.as_slice())?;
+    Ok((typed, declared.table))
 }
 
 /// That no body has more than 1,024 paths.
@@ -145,8 +152,9 @@ pub fn prepare(alloc: Global, source: &[u8]) -> Result<Program, Refusal>
         }));
     }
     let mut names = Names::new(alloc);
-    let typed = typed_source(alloc, source, &mut names)?;
-    let lowered = lower(alloc, &typed, &names)?;
+    let (typed, table) = typed_source(alloc, source, &mut names)?;
+    let adts = table.copied(alloc)?;
+    let lowered = lower(alloc, &typed, table.into_decls(), &names)?;
     check_all_paths(&lowered.bodies)?;
     check_obligations(&lowered)?;
     let obligations = all_owed(alloc, &lowered)?;
@@ -159,8 +167,7 @@ pub fn prepare(alloc: Global, source: &[u8]) -> Result<Program, Refusal>
         names,
         bodies,
         contracts,
-        // So far sources declare nothing.
-        tables: Tables::new(alloc),
+        tables: Tables { adts },
         obligations,
     })
 }

@@ -176,7 +176,7 @@ fn sources_are_refused_where_they_fail(rt: HostRuntime) -> Result<(), Fail> {
 
 /// Sources with forms that are not built, and what is printed of them.
 const NOT_BUILT: [(&[u8], &[u8]); 23] = [
-    (b"struct S;", b"error E20 0..6 line 1\n"),
+    (b"trait T {}", b"error E20 0..5 line 1\n"),
     (b"fn f<T>() {}", b"error E20 4..5 line 1\n"),
     (b"fn f(x: &u32) {}", b"error E20 8..9 line 1\n"),
     (b"fn f(x: u32) { match x {} }", b"error E20 15..20 line 1\n"),
@@ -189,7 +189,7 @@ const NOT_BUILT: [(&[u8], &[u8]); 23] = [
     ),
     (b"fn f() { return }", b"error E20 9..15 line 1\n"),
     // Behind what is passed over, and attributes at their `#`.
-    (b"use std::mem; pub enum E {}", b"error E20 18..22 line 1\n"),
+    (b"use std::mem; pub trait T {}", b"error E20 18..23 line 1\n"),
     (b"#[invariant(true)] fn f() {}", b"error E20 0..1 line 1\n"),
     (b"#[requires(true)] struct S;", b"error E20 0..1 line 1\n"),
     (
@@ -225,6 +225,58 @@ const NOT_BUILT: [(&[u8], &[u8]); 23] = [
     // The whole grammar first.
     (b"struct S; fn f() { 1 + }", b"error E03 23..24 line 1\n"),
 ];
+
+/// Sources whose declarations are refused, and what is printed of them.
+const BADLY_DECLARED: [(&[u8], &[u8]); 10] = [
+    (b"struct L { n: L }", b"error E10 7..8 line 1\n"),
+    (
+        b"struct S<'a> { r: &'a &'a i32 }",
+        b"error E09 18..29 line 1\n",
+    ),
+    (b"struct A; struct A;", b"error E06 17..18 line 1\n"),
+    (b"fn f() {} fn f() {}", b"error E06 13..14 line 1\n"),
+    (b"struct S { x: T }", b"error E05 14..15 line 1\n"),
+    (b"struct S { r: &i32 }", b"error E08 14..18 line 1\n"),
+    (b"struct S { b: Box }", b"error E07 14..17 line 1\n"),
+    (b"enum E {}", b"error E10 5..6 line 1\n"),
+    // Before all code, in the order of the items.
+    (
+        b"fn f() -> i32 { true }\nstruct A { b: B }\nstruct B { a: A, x: C }",
+        b"error E10 30..31 line 2\n",
+    ),
+    (
+        b"struct S { x: i32 }\nfn f(x: i32) -> i32 { x + true }",
+        b"error E07 46..50 line 2\n",
+    ),
+];
+
+#[test]
+fn declarations_are_refused_where_they_fail(rt: HostRuntime) -> Result<(), Fail> {
+    for (at, (source, printed)) in BADLY_DECLARED.iter().enumerate() {
+        let call = Call::of(source, b"");
+        assert!(rt; call.gives(rt.alloc(), 3, printed)?, "row {at}");
+    }
+    Ok(())
+}
+
+/// Declared types in all forms, before and behind functions over integers.
+const DECLARED: &[u8] = b"#[derive(Clone, Copy)]
+pub struct Point { pub x: i32, pub y: i32 }
+struct Unit;
+fn same(x: i32) -> i32 { x }
+enum List<T> { Nil, Cons(T, Box<List<T>>), Both { one: (T, u8), rest: Box<Self> } }
+struct Shelf<'a, T> { all: &'a mut List<T>, first: Option<&'a Point> }
+fn other(x: bool) -> bool { !x }
+";
+
+#[test]
+fn declared_types_are_taken(rt: HostRuntime) -> Result<(), Fail> {
+    let call = Call::of(DECLARED, b"");
+    let printed =
+        b"verified same\nverified other\nsummary functions 2 verified 2 obligations 0 proved 0\n";
+    assert!(rt; call.gives(rt.alloc(), 0, printed)?);
+    Ok(())
+}
 
 #[test]
 fn forms_that_are_not_built_are_refused(rt: HostRuntime) -> Result<(), Fail> {

@@ -1,5 +1,5 @@
 use Rattle.std.proofs.lemmas.Result.{err_from_is_err_and}
-use Rattle.verify_core.proofs.PassLaws.{items_refused, has_items, types_refused, typed_as}
+use Rattle.verify_core.proofs.PassLaws.{items_refused, has_items, declarations_refused, types_refused, typed_as}
 use Rattle.verify_core.proofs.preparing.typed_source.Goals as goal
 
 pub returns-in_err-items-clause-refused : goal.returns-in_err-items-clause-refused
@@ -7,16 +7,24 @@ returns-in_err-items-clause-refused c =
     let p = err_from_is_err_and c.from_residual.result c.from_residual.ensures.1 in
     rw (p.1, p.2) (items_refused c.args.source.now c.args.names.now c.in_err-items.field-0.0 c.requires.empty c.in_err-items.ensures.refused)
 
-pub returns-in_err-check-clause-refused : goal.returns-in_err-check-clause-refused
-returns-in_err-check-clause-refused c =
-    let p = err_from_is_err_and c.from_residual-in_err-check.result c.from_residual-in_err-check.ensures.1 in
+pub returns-in_err-declared-clause-refused : goal.returns-in_err-declared-clause-refused
+returns-in_err-declared-clause-refused c =
+    let p = err_from_is_err_and c.from_residual-in_err-declared.result c.from_residual-in_err-declared.ensures.1 in
     rw (p.1, p.2)
-    (types_refused c.args.source.now c.built_items.new.names c.in_ok-items.items c.in_err-check.field-0.0
+    (declarations_refused c.args.source.now c.built_items.new.names c.in_ok-items.items c.in_err-declared.field-0.0
     (has_items c.args.source.now c.args.names.now c.built_items.new.names c.in_ok-items.items c.requires.empty c.in_ok-items.ensures.ok c.in_ok-items.ensures.few c.in_ok-items.ensures.names)
-    (rw c.as_slice.ensures at c.in_err-check.ensures.answers))
+    (rw c.as_slice.ensures at c.in_err-declared.ensures.refused))
+
+pub returns-in_err-typed-clause-refused : goal.returns-in_err-typed-clause-refused
+returns-in_err-typed-clause-refused c =
+    let p = err_from_is_err_and c.from_residual-in_err-typed.result c.from_residual-in_err-typed.ensures.1 in
+    rw (p.1, p.2)
+    (types_refused c.args.source.now c.built_items.new.names c.in_ok-items.items c.in_err-typed.field-0.0
+    (has_items c.args.source.now c.args.names.now c.built_items.new.names c.in_ok-items.items c.requires.empty c.in_ok-items.ensures.ok c.in_ok-items.ensures.few c.in_ok-items.ensures.names)
+    (rw c.as_slice.ensures at c.in_ok-declared.ensures.ok.1) (rw c.as_slice-2.ensures at c.in_err-typed.ensures.answers))
 
 pub returns-clause-ok : goal.returns-clause-ok
 returns-clause-ok c =
-    typed_as c.args.source.now c.built_items.new.names c.in_ok-items.items c.in_ok-check.field-0
+    typed_as c.args.source.now c.built_items.new.names c.in_ok-items.items c.in_ok-typed.typed c.in_ok-declared.declared.table
     (has_items c.args.source.now c.args.names.now c.built_items.new.names c.in_ok-items.items c.requires.empty c.in_ok-items.ensures.ok c.in_ok-items.ensures.few c.in_ok-items.ensures.names)
-    (rw c.as_slice.ensures at c.in_ok-check.ensures.answers)
+    (rw c.as_slice.ensures at c.in_ok-declared.ensures.ok) (rw c.as_slice-2.ensures at c.in_ok-typed.ensures.answers)
