@@ -2,6 +2,7 @@ pub mod Arguments
 pub mod Bounds
 pub mod Cases
 pub mod Endless
+pub mod Failing
 pub mod Fields
 pub mod Grow
 pub mod Growth

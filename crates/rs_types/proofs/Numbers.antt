@@ -1,5 +1,5 @@
 -- The numbers of declared types, as declarations come.
-use Rattle.std.proofs.Common.{◌≡◌, ℕ, suc, ◌+◌, ◌==◌, nat_eq, Bool, true, false, cond, List, [], ◌∷◌, ◌++◌, length, take, Option, Some, None, is_some, IsSome, refl, sym, ap, ap₂, ◌∙◌, arith, true≢false}
+use Rattle.std.proofs.Common.{◌≡◌, ℕ, suc, ◌+◌, ◌==◌, nat_eq, Bool, true, false, cond, List, [], ◌∷◌, ◌++◌, length, take, Option, Some, None, is_some, IsSome, refl, sym, ap, ap₂, ◌∙◌, subst, arith, true≢false}
 use Rattle.std.proofs.lemmas.Bool.Decides.{nat_tests}
 use Rattle.std.proofs.lemmas.List.{length-append}
 use Rattle.std.proofs.Math.Seq.{take-append_seam}
@@ -72,3 +72,34 @@ same_fronts a b x y e =
 pub without_last : (ds front : List AdtDecl) (d : AdtDecl) (last : Option AdtDecl) → ds ++ d ∷ [] ≡ front ++ option_to_list last → is_some last ≡ true → front ≡ ds
 without_last ds front d (Some e) same there = same_fronts front ds e d (sym same)
 without_last ds front d None same there = absurd (true≢false (sym there))
+
+-- ---- a name that is there
+
+-- a declaration of another name changes no number
+numbers_kept : (ds : List AdtDecl) (d : AdtDecl) (x : ℕ) → (d.name.0 == x) ≡ false → number_of x (ds ++ d ∷ []) ≡ number_of x ds
+numbers_kept [] d x other = ap (λ b. cond b (Some 0) None) other
+numbers_kept (c ∷ ds) d x other = ap (λ o. cond (c.name.0 == x) (Some 0) (option_map suc o)) (numbers_kept ds d x other)
+
+-- nor does one of a name that is there
+numbers_still : (ds : List AdtDecl) (d : AdtDecl) (x : ℕ) → is_some (number_of x ds) ≡ true → number_of x (ds ++ d ∷ []) ≡ number_of x ds
+numbers_still [] d x there = absurd (true≢false (sym there))
+numbers_still (c ∷ ds) d x there = by (c.name.0 == x) there (λ h. numbers_still ds d x h)
+  where
+    mapped_some : (o : Option ℕ) → is_some (option_map suc o) ≡ is_some o
+    mapped_some None = refl
+    mapped_some (Some n) = refl
+
+    by : (b : Bool) → is_some (cond b (Some 0) (option_map suc (number_of x ds))) ≡ true → (is_some (number_of x ds) ≡ true → number_of x (ds ++ d ∷ []) ≡ number_of x ds)
+        → cond b (Some 0) (option_map suc (number_of x (ds ++ d ∷ []))) ≡ cond b (Some 0) (option_map suc (number_of x ds))
+    by true h more = refl
+    by false h more = ap (option_map suc) (more (sym (mapped_some (number_of x ds)) ∙ h))
+
+same_name : (d x : ℕ) → (d == x) ≡ true → d ≡ x
+same_name d x e = grind (arith, nat_tests)
+
+pub one_behind : {S : Type 0} (ds all : List AdtDecl) (d : AdtDecl) (m : HashMap ℕ AdtId S) → HasNumbers ds m → is_some (number_of d.name.0 ds) ≡ true → all ≡ ds ++ d ∷ [] → HasNumbers all m
+one_behind ds all d m has there is = subst (λ xs. HasNumbers xs m) (sym is) (λ x. has x ∙ sym (by x (d.name.0 == x) refl))
+  where
+    by : (x : ℕ) (b : Bool) → (d.name.0 == x) ≡ b → number_of x (ds ++ d ∷ []) ≡ number_of x ds
+    by x true e = numbers_still ds d x (subst (λ n. is_some (number_of n ds) ≡ true) (same_name d.name.0 x e) there)
+    by x false e = numbers_kept ds d x e

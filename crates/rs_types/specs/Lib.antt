@@ -1,6 +1,7 @@
 pub mod Accepted
 pub mod Applied
 pub mod Bounded
+pub mod Checked
 pub mod Endless
 pub mod Growing
 pub mod Heavy

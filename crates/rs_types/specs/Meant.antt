@@ -19,7 +19,7 @@ use Rattle.logic_term.specs.Ty as types
 use Rattle.logic_term.specs.TyView.{tys_of}
 use Rattle.rs_types.specs.Table.{number_of}
 use Rattle.rs_types.specs.declared.written.Elision.{Elision}
-use Rattle.rs_types.specs.declared.written.Elision.TheVariants.{Refused, Numbered, Erased}
+use Rattle.rs_types.specs.declared.written.Elision.TheVariants.{Refused, Numbered, Erased, Given}
 use Rattle.rs_types.specs.declared.written.TypeName.{TypeName}
 use Rattle.rs_types.specs.declared.written.TypeName.TheVariants as name
 use Rattle.rs_types.specs.declared.written.ArgumentList.{ArgumentList}
@@ -106,11 +106,12 @@ region_or s None = Err (unknown_name s)
 unfoldable pub lifetime_named : Scope → Segment → Result Region SourceError
 lifetime_named Γ l = region_or l.span (place_among l.name Γ.lifetimes)
 
--- the lifetime that a type leaves out: none may be, or each is one of its own, or all are one
+-- the lifetime that a type leaves out: none may be, or each is one of its own, or all are region 0, or all are this one
 abbrev pub elided : Elision → Span → Result (Region × Elision) SourceError
 elided Refused s = Err (annotation_needed s)
 elided (Numbered n) s = Ok (record { 0 = n }, Numbered (n + 1))
 elided Erased s = Ok (record { 0 = 0 }, Erased)
+elided (Given r) s = Ok (r, Given r)
 
 -- so many that are left out
 abbrev pub all_elided : ℕ → Elision → Span → Result (List Region × Elision) SourceError

@@ -2,8 +2,10 @@
 ghost use Rattle.std.specs.Prelude.{◌≡◌, OnOk, length, map, true};
 ghost use Rattle.logic_term.specs.Theory.{field_ty};
 ghost use Rattle.logic_term.specs.TyView.{compound_of, tys_of};
+ghost use Rattle.rs_types.specs.Refused.{CheckIsAsked, ChecksAreAsked};
 ghost use Rattle.rs_types.specs.Weighing.{is_among, variants_at, AllAsked, AreAsked, EachAsked, Grows, IsAsked};
 
+use crate::checks::Check;
 use crate::weighing::{Case, Question, is_among, weights};
 use logic_term::{AdtDecl, CompoundTy, FieldDecl, Ty, TyNode, TyUnary, VariantDecl};
 use std::alloc::Global;
@@ -157,4 +159,55 @@ pub(crate) fn ask_all(
         ask_variants(alloc, question, given, variants, cases)?;
     }
     Ok(())
+}
+
+/// Adds a case for each declared type that stands in the type of the check and has none yet, whatever type arguments are.
+#[tactic(auto, using(crate::proofs::Growth::nothing_added))]
+fn ask_check(
+    alloc: Global,
+    question: Question,
+    check: &Check,
+    cases: &mut Vec<Case>,
+) -> Result<(), NoMemory>
+    ensures grows { OnOk result (Grows cases.old.items cases.new.items) }
+    ensures asked { OnOk result (length cases.new.items ≡ length cases.old.items → CheckIsAsked question cases.old.items check.now) }
+{
+    match check {
+        Check::Flat(_, ty) => ask(alloc, question, &[], ty, cases),
+        Check::Plain(_) | Check::Finite(_, _) => Ok(()),
+    }
+}
+
+#[tactic(auto, using(crate::proofs::Growth::nothing_added, crate::proofs::Growth::more_added, crate::proofs::Growth::on_the_way))]
+fn ask_checks(
+    alloc: Global,
+    question: Question,
+    checks: &[Check],
+    cases: &mut Vec<Case>,
+) -> Result<(), NoMemory>
+    ensures grows { OnOk result (Grows cases.old.items cases.new.items) }
+    ensures asked { OnOk result (length cases.new.items ≡ length cases.old.items → ChecksAreAsked question cases.old.items checks.now) }
+{
+    for i in (0..checks.len()).rev() {
+        ask_check(alloc, question, &checks[i], cases)?;
+    }
+    Ok(())
+}
+
+/// The same for the fields of the cases and for the types of the checks.
+#[tactic(auto, using(crate::proofs::Growth::nothing_added, crate::proofs::Growth::more_added, crate::proofs::Growth::on_the_way))]
+pub(crate) fn ask_for(
+    alloc: Global,
+    question: Question,
+    decls: &[AdtDecl],
+    of: &[Case],
+    checks: &[Check],
+    cases: &mut Vec<Case>,
+) -> Result<(), NoMemory>
+    ensures grows { OnOk result (Grows cases.old.items cases.new.items) }
+    ensures asked { OnOk result (length cases.new.items ≡ length cases.old.items → EachAsked question decls.now cases.old.items of.now) }
+    ensures checks_asked { OnOk result (length cases.new.items ≡ length cases.old.items → ChecksAreAsked question cases.old.items checks.now) }
+{
+    ask_all(alloc, question, decls, of, cases)?;
+    ask_checks(alloc, question, checks, cases)
 }

@@ -4,6 +4,7 @@
 mod applying;
 mod asking;
 mod bounded;
+mod checks;
 mod closing;
 mod copying;
 mod holding;
@@ -16,6 +17,7 @@ mod weighing;
 mod written;
 
 pub use applying::{applied, apply};
+pub use checks::Check;
 pub use laws::{a_cycle_is_endless, ranked_types_are_bounded};
 pub use meaning::meant;
 pub use table::AdtTable;

@@ -111,6 +111,7 @@ fn elided(elision: Elision, span: Span) -> Result<(Region, Elision), PassError>
             Ok((Region(number), Elision::Numbered(next)))
         }
         Elision::Erased => Ok((Region(0), Elision::Erased)),
+        Elision::Given(region) => Ok((region, Elision::Given(region))),
     }
 }
 

@@ -1,8 +1,10 @@
 //! Rounds over cases, until a further one changes nothing.
 ghost use Rattle.std.specs.Prelude.{◌≡◌, IfOk, IsTrue, map};
+ghost use Rattle.rs_types.specs.Refused.{ChecksAreAsked};
 ghost use Rattle.rs_types.specs.Weighing.{reweighed, roots_from, Settled};
 
-use crate::asking::{ask_all, variants_at};
+use crate::asking::{ask_for, variants_at};
+use crate::checks::Check;
 use crate::weighing::{Case, Question, same_weights, variants_weight};
 use logic_term::AdtDecl;
 use std::alloc::Global;
@@ -82,9 +84,31 @@ fn are_same(one: &[Case], other: &[Case]) -> bool
     true
 }
 
-/// What all declared types weigh, at all arguments that matter. Each round but the last adds a case or makes a weight larger, so that memory
-/// is at its end before the number of rounds is.
+/// What all declared types weigh, at all arguments that matter to their fields and to the types of the checks. Each round but the last adds a case
+/// or makes a weight larger, so that memory is at its end before the number of rounds is.
 #[tactic(auto, using(crate::proofs::Growth::one_round, crate::proofs::Growth::settled))]
+pub(crate) fn settled_for(
+    alloc: Global,
+    question: Question,
+    decls: &[AdtDecl],
+    checks: &[Check],
+) -> Result<Vec<Case>, NoMemory>
+    ensures settled { IfOk result (λ v. Settled question decls.now v.items) }
+    ensures asked { IfOk result (λ v. ChecksAreAsked question v.items checks.now) }
+{
+    let mut cases = roots(alloc, decls)?;
+    for _ in 0..u32::MAX {
+        let mut next = all_weighed_again(alloc, question, decls, cases.as_slice())?;
+        ask_for(alloc, question, decls, cases.as_slice(), checks, &mut next)?;
+        if are_same(next.as_slice(), cases.as_slice()) {
+            return Ok(cases);
+        }
+        cases = next;
+    }
+    Err(NoMemory)
+}
+
+/// What all declared types weigh, at all arguments that matter to their fields.
 pub(crate) fn settled(
     alloc: Global,
     question: Question,
@@ -92,14 +116,5 @@ pub(crate) fn settled(
 ) -> Result<Vec<Case>, NoMemory>
     ensures { IfOk result (λ v. Settled question decls.now v.items) }
 {
-    let mut cases = roots(alloc, decls)?;
-    for _ in 0..u32::MAX {
-        let mut next = all_weighed_again(alloc, question, decls, cases.as_slice())?;
-        ask_all(alloc, question, decls, cases.as_slice(), &mut next)?;
-        if are_same(next.as_slice(), cases.as_slice()) {
-            return Ok(cases);
-        }
-        cases = next;
-    }
-    Err(NoMemory)
+    settled_for(alloc, question, decls, &[])
 }

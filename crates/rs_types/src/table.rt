@@ -4,8 +4,10 @@ ghost use Rattle.std.specs.Option.{option_map};
 ghost use Rattle.text_core.specs.declared.fault.PassError.TheVariants as errors;
 ghost use Rattle.text_core.specs.declared.refusal.SourceError.{SourceError};
 ghost use Rattle.rs_types.specs.Accepted.{AreAccepted, IsFirstRefusal};
+ghost use Rattle.rs_types.specs.Checked.{AllPass, IsFirst};
 ghost use Rattle.rs_types.specs.Table.{number_of, double_name};
 
+use crate::checks::{Check, first_failing};
 use crate::closing::first_refusal;
 use crate::copying::copy_decls;
 use logic_term::{AdtDecl, AdtId};
@@ -24,6 +26,7 @@ pub struct AdtTable {
 impl Model for AdtTable {
     ghost use Rattle.std.specs.Prelude.{List};
     ghost use Rattle.logic_term.specs.declared.declaration.AdtDecl.{AdtDecl as Decl};
+    ghost use Rattle.rs_types.specs.Checked.{AllPass, IsFirst};
     ghost use Rattle.rs_types.specs.Table.{HasNumbers};
 
     ghost Value = { List Decl };
@@ -85,6 +88,22 @@ impl AdtTable {
         }
     }
 
+    /// Adds a declared type behind the others and answers its number. Where a type of its name is there, the name means that one as before. For
+    /// want of memory, and where there would be 2^32 types, the table is as before.
+    #[tactic(auto, using(crate::proofs::Numbers::there, crate::proofs::Numbers::not_there, crate::proofs::Numbers::one_behind))]
+    pub fn put(&mut self, decl: AdtDecl) -> Result<AdtId, NoMemory>
+        ensures added { OnOk result (self.new ≡ self.old ++ decl ∷ []) }
+        ensures id { IfOk result (λ id. id.0 ≡ length self.old) }
+        ensures kept { OnErr result (self.new ≡ self.old) }
+    {
+        if self.find(decl.name).is_none() {
+            return self.add(decl).map_err(|_| NoMemory);
+        }
+        let id = AdtId(u32::try_from(self.decls.len()).map_err(|_| NoMemory)?);
+        self.decls.push(decl)?;
+        Ok(id)
+    }
+
     /// The number of the type of this name; `None` exactly where there is none. Takes no memory.
     pub fn find(&self, name: Name) -> Option<AdtId>
         ensures { option_map (λ id. id.0) result ≡ number_of name.0 self.now }
@@ -126,6 +145,21 @@ impl AdtTable {
         ensures refused { IfErr result (λ e. (e ≡ errors.NoMemory) ⊎ ((refusal : SourceError) × (e ≡ errors.Source refusal) × IsFirstRefusal self.now refusal)) }
     {
         match first_refusal(alloc, self.decls.as_slice())? {
+            None => Ok(()),
+            Some(error) => Err(PassError::Source(error)),
+        }
+    }
+
+    /// Whether all of these hold of the declared types.
+    ///
+    /// # Errors
+    ///
+    /// What the first is refused for that does not hold.
+    pub fn meets(&self, alloc: Global, checks: &[Check]) -> Result<(), PassError>
+        ensures ok { OnOk result (AllPass self.now checks.now) }
+        ensures refused { IfErr result (λ e. (e ≡ errors.NoMemory) ⊎ ((refusal : SourceError) × (e ≡ errors.Source refusal) × IsFirst self.now checks.now refusal)) }
+    {
+        match first_failing(alloc, self.decls.as_slice(), checks)? {
             None => Ok(()),
             Some(error) => Err(PassError::Source(error)),
         }

@@ -13,6 +13,8 @@ pub enum Elision {
     Numbered(u32),
     /// All are region 0, as in the body of a function.
     Erased,
+    /// All are this one, as in the answer of a function with one lifetime in its parameters.
+    Given(Region),
 }
 
 /// What the name of a type stands for.
