@@ -7,9 +7,10 @@ pub mod Fields
 pub mod Grow
 pub mod Growth
 pub mod Lists
-pub mod PartByPart
 pub mod Nested
 pub mod Numbers
+pub mod OneRefusal
+pub mod PartByPart
 pub mod Ranked
 pub mod Refusals
 pub mod Rounds
