@@ -32,7 +32,7 @@ use Rattle.mir_machine.proofs.Tried.{then_then, Goes, goes_then}
 use Rattle.mir_machine.proofs.TypedTrees.{has_type_kept, has_shape, has_int, has_truth, has_unit, SameOutside}
 use Rattle.mir_machine.proofs.Operators.{binary_goes, negated_goes, inverted_goes}
 use Rattle.mir_machine.proofs.OperandsFirst.{rvalue-row}
-use Rattle.mir_machine.proofs.Writes.{Written, put_yields, written_elsewhere, written_on, SameTrees, SameElsewhere, at_next, past_yields, whole-path}
+use Rattle.mir_machine.proofs.Writes.{Written, written_apart, put_yields, written_elsewhere, written_on, SameTrees, SameElsewhere, at_next, past_yields, whole-path}
 
 false_true : {P : Type 0} → false ≡ true → P
 false_true e = absurd (cc)
@@ -164,7 +164,7 @@ module _ {K : Type 0} (Δ : Declarations) (b : Body) (θ : Tys) (n : ℕ) (insid
   slot_written {u = u} {t = t} x w h y ty is_ty =
       ⊎_elim
       (λ same. (t, ap (λ z. tree_at u (local_at n z)) same ∙ w.here))
-      (λ other. ((h.slot y ty is_ty).0, w.others (local_at n y) (λ e d. other d) ∙ (h.slot y ty is_ty).1))
+      (λ other. ((h.slot y ty is_ty).0, written_apart w (local_at n y) (λ e d. other d) ∙ (h.slot y ty is_ty).1))
       (apart x y)
 
   pub held_gone : {s u : State K} {ks : List Stop} {set : Locals} (x : ℕ) → Written s (local_at n x) Gone ks u → Held s set → Held u (without x set)
@@ -174,7 +174,7 @@ module _ {K : Type 0} (Δ : Declarations) (b : Body) (θ : Tys) (n : ℕ) (insid
         ⊎_elim
         (λ same. false_true (sym (ap (λ c. cond c false (set y)) (eq-eqb y x same)) ∙ is_in))
         (λ other. has_type_kept u (outside_same s u (written_elsewhere n refl w))
-        (h.typed y ty t (sym (ap (λ c. cond c false (set y)) (ne_eqb y x other)) ∙ is_in) is_ty (sym (w.others (local_at n y) (λ e d. other d)) ∙ e)))
+        (h.typed y ty t (sym (ap (λ c. cond c false (set y)) (ne_eqb y x other)) ∙ is_in) is_ty (sym (written_apart w (local_at n y) (λ e d. other d)) ∙ e)))
         (apart x y);
   }
 
@@ -190,7 +190,7 @@ module _ {K : Type 0} (Δ : Declarations) (b : Body) (θ : Tys) (n : ℕ) (insid
             let ty_is : ty ≡ ty' = same_Some _ _ (sym is_x ∙ subst (λ z. slice_get b.locals z ≡ Some ty') same is_ty) in
             subst (λ v. HasType Δ u (instance θ ty') v) (same_tree t t' is_t) (subst (λ q. HasType Δ u (instance θ q) t) ty_is (has_type_kept u kept typed)))
             (λ other. has_type_kept u kept
-            (h.typed y ty' t' (sym (ap (λ c. cond c true (set y)) (ne_eqb y x other)) ∙ is_in) is_ty (sym (w.others (local_at n y) (λ e d. other d)) ∙ e)))
+            (h.typed y ty' t' (sym (ap (λ c. cond c true (set y)) (ne_eqb y x other)) ∙ is_in) is_ty (sym (written_apart w (local_at n y) (λ e d. other d)) ∙ e)))
             (apart x y);
       }
     where
@@ -245,7 +245,7 @@ module _ {K : Type 0} (Δ : Declarations) (b : Body) (θ : Tys) (n : ℕ) (insid
           stay = w.stay;
           elsewhere = written_elsewhere n refl w;
           is_read = is_t;
-          same = λ x i. w.others (local_at n x) (λ e d. false_true (sym (ap (λ c. cond c false (set x)) (eq-eqb x p.local d)) ∙ i));
+          same = λ x i. written_apart w (local_at n x) (λ e d. false_true (sym (ap (λ c. cond c false (set x)) (eq-eqb x p.local d)) ∙ i));
         };
         held = held_gone p.local w h;
         typed = has_type_kept s' (outside_same s s' (written_elsewhere n refl w)) typed;

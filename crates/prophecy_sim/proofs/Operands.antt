@@ -28,7 +28,7 @@ use Rattle.mir_machine.specs.Step.{binary, negated, inverted, literal}
 use Rattle.mir_machine.specs.Taken.{operands_of, value_of}
 use Rattle.mir_machine.specs.Invariant.{Stop, local_at}
 use Rattle.mir_machine.proofs.Tried.{Quiet}
-use Rattle.mir_machine.proofs.Writes.{Written}
+use Rattle.mir_machine.proofs.Writes.{Written, written_apart}
 use Rattle.mir_machine.proofs.TypedRows.{apart, Took, TookAll, took_none, took_more}
 use Rattle.prophecy_logic.specs.Row.{value_name, name_of, operand_term}
 use Rattle.prophecy_sim.proofs.Scalars.{Shows, AllShow, int_shows, truth_shows, empty_shows}
@@ -130,7 +130,7 @@ module _ {K : Type 0} (b : Body) where
   agree_gone {n = n} set ρ x w h y ty t inside is_ty e =
       ⊎_elim
       (λ same. absurd (true≢false (sym inside ∙ ap (λ c. cond c false (set y)) (eq-eqb y x same))))
-      (λ other. h y ty t (without_before x set y inside) is_ty (sym (w.others (local_at n y) (λ i d. other d)) ∙ e))
+      (λ other. h y ty t (without_before x set y inside) is_ty (sym (written_apart w (local_at n y) (λ i d. other d)) ∙ e))
       (apart x y)
 
   -- local x has the tree, and its name the value
@@ -142,7 +142,7 @@ module _ {K : Type 0} (b : Body) where
       (λ same.
       let is_t : v ≡ t = same_yield v t (sym w.here ∙ sym (ap (λ z. tree_at u (local_at n z)) same) ∙ e) in
       subst (λ z. Shows t (σ (name_of b z))) (sym same) (subst (λ (w : Tree K). Shows w (σ (name_of b x))) is_t shows))
-      (λ other. subst (Shows t) (sym (others y ty is_ty other)) (h y ty t (with_before x set y (ne_eqb y x other) inside) is_ty (sym (w.others (local_at n y) (λ i d. other d)) ∙ e)))
+      (λ other. subst (Shows t) (sym (others y ty is_ty other)) (h y ty t (with_before x set y (ne_eqb y x other) inside) is_ty (sym (written_apart w (local_at n y) (λ i d. other d)) ∙ e)))
       (apart x y)
     where
       same_yield : (v t : Tree K) → Yields v ≡ Yields t → v ≡ t

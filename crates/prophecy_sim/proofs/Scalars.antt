@@ -12,7 +12,7 @@ use Rattle.mir_machine.specs.declared.spot.Spot.{Spot}
 use Rattle.mir_machine.specs.Tree.{Tree, Int, Truth, Made, no_trees, trees_of}
 use Rattle.mir_machine.specs.Frame.{State}
 use Rattle.mir_machine.specs.Reads.{View, Owner, Reads, ReadsAll, of_lent, of_int, of_truth, of_made, of_none, of_more}
-use Rattle.mir_machine.specs.Typed.{Met, Typed, is_int, is_truth, is_tuple, none_typed, AreTyped, more_typed}
+use Rattle.mir_machine.specs.Typed.{Typed, is_int, is_truth, is_tuple, none_typed, AreTyped, more_typed}
 use Rattle.mir_machine.specs.Good.{here, not_lent}
 use Rattle.mir_machine.proofs.TypedTrees.{Shape, has_shape, typed_shape}
 use Rattle.mir_machine.proofs.TypedRows.{AreOf}
