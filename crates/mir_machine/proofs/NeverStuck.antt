@@ -1,741 +1,352 @@
 -- Progress and preservation: a proper call of typed, initialised bodies is never stuck.
-use Rattle.std.proofs.Common.{◌≡◌, ◌∙◌, ◌⊎◌, inl, inr, ⊎_elim, refl, sym, ap, subst, ℕ, zero, suc, ◌+◌, ◌-◌, ◌<◌, ◌≤◌, ◌==◌, nat_lt, ◌&&◌, ℤ, pos, negsuc, neg_ℤ, unsigned_abs, ◌%◌}
-use Rattle.std.proofs.Common.{◌+ℤ◌, ◌-ℤ◌, ◌*ℤ◌, int_div, int_rem, Bool, true, false, cond, List, [], ◌∷◌, ◌++◌, length, take, drop, replicate, Option, Some, None, slice_get, slice_set, eq-eqb, ne_eqb, arith}
-use Rattle.std.proofs.lemmas.Bool.{eqb-true, ltb-true}
-use Rattle.std.proofs.lemmas.List.{length-append, length-replicate, length-take, length-drop}
-use Rattle.std.proofs.lemmas.Option.{slice_get_within}
-use Rattle.std.proofs.Math.Nat.{mod-le}
-use Rattle.std.specs.Option.{option_map}
-use Rattle.std.specs.Prelude.{option_and_then}
-use Rattle.std.specs.Ordering.{int_eq}
-use Rattle.text_core.specs.declared.span.Span.{Span}
-use Rattle.text_core.specs.declared.refusal.Cause.TheVariants.{Overflow, Division}
-use Rattle.source_kinds.specs.declared.kinds.IntKind.{IntKind}
+use Rattle.std.proofs.Common.{◌≡◌, ◌∙◌, refl, sym, ap, subst, ℕ, zero, suc, ◌+◌, ◌≤◌, Bool, true, false, cond, List, [], ◌∷◌, length, take, drop, Option, Some, None, slice_get, arith}
+use Rattle.std.proofs.lemmas.Option.{slice_get_within, same_Some}
 use Rattle.logic_term.specs.declared.kinds.Label.{Label}
-use Rattle.source_kinds.specs.declared.kinds.IntKind.TheVariants.{I8, I16, I32, I64, Isize, U8, U16, U32, U64, Usize}
-use Rattle.source_kinds.specs.declared.kinds.BinaryOp.{BinaryOp}
-use Rattle.source_kinds.specs.declared.kinds.BinaryOp.TheVariants.{Add, Sub, Mul, Div, Rem, Eq, Ne, Lt, Le, Gt, Ge}
-use Rattle.logic_term.specs.declared.kinds.Ctor.TheVariants.{Tuple}
-use Rattle.source_kinds.specs.Range.{fits}
-use Rattle.logic_term.specs.Ty.{Ty, Tys, int, bool, tuple, no_tys, and_ty, unit_ty}
-use Rattle.logic_term.specs.TyView.{tys_of}
+use Rattle.logic_term.specs.Ty.{Ty, Tys, bool, no_tys, and_ty}
 use Rattle.logic_term.specs.Obligations.{how_many}
-use Rattle.logic_term.specs.Sort.{Declarations, instance, instances, nth_ty}
+use Rattle.logic_term.specs.Sort.{Declarations, instance}
 use Rattle.logic_term.specs.Theory.{Theory, declared}
-use Rattle.mir_ir.specs.declared.place.Lit.{Lit}
-use Rattle.mir_ir.specs.declared.place.Lit.TheVariants as lit
 use Rattle.mir_ir.specs.declared.place.Place.{Place}
 use Rattle.mir_ir.specs.declared.place.Operand.{Operand}
-use Rattle.mir_ir.specs.declared.place.Operand.TheVariants.{Copy, Move, Const}
-use Rattle.mir_ir.specs.declared.statement.Rvalue.{Rvalue}
-use Rattle.mir_ir.specs.declared.statement.Rvalue.TheVariants.{Use, Binary, Neg, Not, Make}
-use Rattle.mir_ir.specs.declared.statement.StatementKind.{StatementKind}
-use Rattle.mir_ir.specs.declared.statement.StatementKind.TheVariants.{Assign, Dead}
 use Rattle.mir_ir.specs.declared.statement.Statement.{Statement}
-use Rattle.mir_ir.specs.declared.terminator.FnId.TheVariants as fn_id
-use Rattle.mir_ir.specs.declared.terminator.Callee.TheVariants.{Function}
+use Rattle.mir_ir.specs.declared.terminator.Callee.{Callee}
 use Rattle.mir_ir.specs.declared.terminator.TerminatorKind.{TerminatorKind}
 use Rattle.mir_ir.specs.declared.terminator.TerminatorKind.TheVariants.{Goto, If, Call, Return}
 use Rattle.mir_ir.specs.declared.body.Block.{Block}
 use Rattle.mir_ir.specs.declared.body.Body.{Body}
-use Rattle.mir_machine.specs.Try.{Try, Yields, Panics, Sticks, ◌>>=◌, need}
-use Rattle.mir_machine.specs.Tree.{Tree, Trees, Int, Truth, Made, Gone, no_trees, trees_of}
+use Rattle.mir_ir.specs.declared.body.Bodies.{Bodies}
+use Rattle.mir_ir.specs.Acts.{acts_of_end}
+use Rattle.mir_ir.specs.Body.{answer_ty}
+use Rattle.mir_ir.specs.WellFormed.{HasBlock, EndIsTyped, Locals, Labelling, Within, with, MeetsMoveRows, all_done, AreSound}
+use Rattle.mir_ir.proofs.Taking.{RowByRow, row_by_row, taken, all_taken, operands_done, run, CanEnd, Carries}
+use Rattle.mir_machine.specs.Try.{Try, Yields, Panics, Sticks, ◌>>=◌}
+use Rattle.mir_machine.specs.Tree.{Tree}
 use Rattle.mir_machine.specs.Frame.{Frame, State}
-use Rattle.mir_ir.specs.Body.{block_in, whole, place_ty, kind_of, kind_in, answer_ty}
-use Rattle.mir_machine.specs.Memory.{is_there}
-use Rattle.mir_machine.specs.Step.{try_step, fit, divide, of_integers, of_truths, binary, negated, inverted, truth_of, literal, callee_frame, Outcome, Running, Returned, Panicked, Stuck, outcome_of, step, next, after_from, after, entered, come_back}
-use Rattle.mir_machine.proofs.Locals.{IsWhole, ReadsWholes, NamesWholes, AreWhole, EndNamesWholes, AllNameWholes, Left, local_tree, take_operand, take_operands, evaluate, put_local, run_local}
-use Rattle.mir_machine.proofs.Locals.{FrameEnd, Stays, Calls, Answers, starting, frame_end, frame_row, frame_step, settled, resumed_at, resumed}
-use Rattle.mir_ir.specs.WellFormed.{PlaceHas, LitHas, OperandHas, OperandsHave, operation_ty, IsEquality, OperationHas, RvalueHas, StatementIsTyped, EndIsTyped, IsTyped, Locals, without, with}
-use Rattle.mir_ir.specs.WellFormed.{Within, parameters, AreSound}
-use Rattle.mir_ir.proofs.Taking.{row_by_row, CanTake, taken, CanTakeAll, all_taken, CanEvaluate, evaluated, CanRun, run, CanEnd, Carries}
-use Rattle.mir_machine.specs.Typed.{Met, Typed, AreTyped, is_int, is_truth, is_tuple, is_adt, is_closure, is_boxed, is_shared, is_unique, none_typed, more_typed}
+use Rattle.mir_machine.specs.Memory.{running, tree_at, write}
+use Rattle.mir_machine.specs.Code.{Code, code_of}
+use Rattle.mir_machine.specs.Step.{Outcome, Running, Returned, Panicked, Stuck, outcome_of, statement_step, entered, outside, at_label, come_back, end_step, row, try_step, step, next, after_from, after}
+use Rattle.mir_machine.specs.Typed.{Met}
 use Rattle.mir_machine.specs.Good.{called, IsProper}
 use Rattle.mir_machine.specs.Run.{IsSafe}
-use Rattle.mir_machine.specs.Depth.{frame_block}
+use Rattle.mir_machine.specs.Invariant.{Stop, stop_of, stops, local_at, HasType, HoldsLocals, Behind, from_outside, one_waits, AreLabelled, RunsAt, WaitsAt, StandTyped, IsAnswerOf, IsTypedRun}
 use Rattle.mir_machine.proofs.Tried.{Goes, goes_then}
-use Rattle.mir_machine.proofs.Locals.{try_step-whole, come_back-whole}
-use Rattle.mir_ir.specs.declared.body.Bodies.{Bodies}
-use Rattle.mir_machine.specs.Code.{Code, code_of}
-
--- ---- places are whole locals
-
-operand_whole : (b : Body) (o : Operand) (t : Ty) → OperandHas b o t → IsWhole o
-operand_whole b (Copy p) t h = h.0
-operand_whole b (Move p) t h = h.0
-operand_whole b (Const l) t h = tt
-
-rvalue_wholes : (b : Body) (r : Rvalue) (t : Ty) → RvalueHas b r t → ReadsWholes r
-rvalue_wholes b (Use o) t h = operand_whole b o t h
-rvalue_wholes b (Binary op x y) t (s, hx, hy, e) = (operand_whole b x s hx, operand_whole b y s hy)
-rvalue_wholes b (Neg o) t (k, signed, h, e) = operand_whole b o (int k) h
-rvalue_wholes b (Not o) t (h, e) = operand_whole b o bool h
-rvalue_wholes b (Make c os) t (is_c, none, e) = subst AreWhole (sym none) tt
-
-statement_wholes : (b : Body) (st : StatementKind) → StatementIsTyped b st → NamesWholes st
-statement_wholes b (Assign p r) (t, hp, hr) = (hp.0, rvalue_wholes b r t hr)
-statement_wholes b (Dead x) h = tt
-
-operands_whole : (b : Body) (os : List Operand) (ts : List Ty) → OperandsHave b os ts → AreWhole os
-operands_whole b [] ts h = tt
-operands_whole b (o ∷ os) [] h = absurd h
-operands_whole b (o ∷ os) (t ∷ ts) h = (operand_whole b o t h.0, operands_whole b os ts h.1)
-
-end_wholes : (bodies : Bodies) (b : Body) (end : TerminatorKind) → EndIsTyped bodies b end → EndNamesWholes end
-end_wholes bodies b (Goto l) h = tt
-end_wholes bodies b (If o on_true on_false) h = operand_whole b o bool h.0
-end_wholes bodies b (Call p (Function (fn_id.Body n)) types os l) ((c, t, is_body, have, first, place, as_many), leads) = (place.0, operands_whole b os (take c.params (drop 1 c.locals)) have)
-end_wholes bodies b Return h = tt
-
-pub sound_wholes : (bodies : Bodies) → AreSound bodies → AllNameWholes bodies
-sound_wholes bodies sound f b is_body = record {
-  statements = λ l k i st is_block is_statement. statement_wholes b st.kind ((sound f b is_body).0.statements l k i st is_block is_statement);
-  ends = λ l k is_block. end_wholes bodies b k.end.kind ((sound f b is_body).0.ends l k is_block);
-}
-
--- ---- shapes of trees
-
-abbrev pub IsThere : {K : Type 0} → Tree K → Type 0
-IsThere t = is_there t ≡ Yields t
-
--- an integer of the type, a truth value, or `()`
-abbrev pub IsOf : {K : Type 0} → Ty → Tree K → Type 0
-IsOf (int k) t = (z : ℤ) × (t ≡ Int z) × (fits k z ≡ true)
-IsOf bool t = (b : Bool) × (t ≡ Truth b)
-IsOf (tuple no_tys) t = t ≡ Made Tuple no_trees
-IsOf _ t = Unit {0}
-
-abbrev pub Shape : {K : Type 0} → Ty → Tree K → Type 0
-Shape ty t = IsThere t × IsOf ty t
-
-no_parts : {K : Type 0} (Δ : Declarations) (s : State K) (ts : Trees K) (met : List Met) → AreTyped Δ s ts no_tys met → ts ≡ no_trees
-no_parts Δ s ts met none_typed = refl
-
-tuple_shape : {K : Type 0} (Δ : Declarations) (s : State K) (ts : Trees K) (tys : Tys) (met : List Met) → AreTyped Δ s ts tys met → IsOf (tuple tys) (Made Tuple ts)
-tuple_shape Δ s ts no_tys met h = ap (λ us. Made Tuple us) (no_parts Δ s ts met h)
-tuple_shape Δ s ts (and_ty ty tys) met h = tt
-
-pub typed_shape : {K : Type 0} (Δ : Declarations) (s : State K) (t : Tree K) (ty : Ty) (met : List Met) → Typed Δ s t ty met → Shape ty t
-typed_shape Δ s t ty met (is_int {z} {k} e) = (refl, (z, refl, e))
-typed_shape Δ s t ty met (is_truth {b}) = (refl, (b, refl))
-typed_shape Δ s t ty met (is_tuple {ts} {tys} h) = (refl, tuple_shape Δ s ts tys met h)
-typed_shape Δ s t ty met (is_adt e h) = (refl, tt)
-typed_shape Δ s t ty met (is_closure h) = (refl, tt)
-typed_shape Δ s t ty met (is_boxed h) = (refl, tt)
-typed_shape Δ s t ty met (is_shared e h) = (refl, tt)
-typed_shape Δ s t ty met (is_unique e h) = (refl, tt)
-
--- ---- locals
-
--- the locals of the set are there, with the shape of their types; and there is a slot for each
-pub record Fits {K : Type 0} (b : Body) (θ : Tys) (set : Locals) (ls : List (Tree K)) : Type 0 where
-  pub slot : (x : ℕ) (ty : Ty) → slice_get b.locals x ≡ Some ty → (u : Tree K) × (slice_get ls x ≡ Some u)
-  pub shaped : (x : ℕ) (ty : Ty) (t : Tree K) → set x ≡ true → slice_get b.locals x ≡ Some ty → slice_get ls x ≡ Some t → Shape (instance θ ty) t
-
-get-set_same : {A : Type 0} (ls : List A) (x : ℕ) (u v : A) → slice_get ls x ≡ Some v → slice_get (slice_set ls x u) x ≡ Some u
-get-set_same [] x u v e = absurd (cc)
-get-set_same (l ∷ ls) zero u v e = refl
-get-set_same (l ∷ ls) (suc x) u v e = get-set_same ls x u v e
-
-get-set_other : {A : Type 0} (ls : List A) (x : ℕ) (u : A) (y : ℕ) → (y ≡ x → ⊥) → slice_get (slice_set ls x u) y ≡ slice_get ls y
-get-set_other [] x u y h = refl
-get-set_other (l ∷ ls) zero u zero h = absurd (h refl)
-get-set_other (l ∷ ls) zero u (suc y) h = refl
-get-set_other (l ∷ ls) (suc x) u zero h = refl
-get-set_other (l ∷ ls) (suc x) u (suc y) h = get-set_other ls x u y (λ e. h (ap suc e))
-
-some_same : {A : Type 0} {a b : A} → Some a ≡ Some b → a ≡ b
-some_same e = cc
-
-false≢true : {P : Type 0} → false ≡ true → P
-false≢true e = absurd (cc)
-
-apart : (x y : ℕ) → (y ≡ x) ⊎ (y ≡ x → ⊥)
-apart x y = by_test (y == x) refl
-  where
-    by_test : (t : Bool) → (y == x) ≡ t → (y ≡ x) ⊎ (y ≡ x → ⊥)
-    by_test true e = inl (eqb-true y x e)
-    by_test false e = inr (λ q. false≢true (sym e ∙ eq-eqb y x q))
-
-slot_set : {K : Type 0} (b : Body) (ls : List (Tree K)) (x : ℕ) (u : Tree K) → ((y : ℕ) (ty : Ty) → slice_get b.locals y ≡ Some ty → (w : Tree K) × (slice_get ls y ≡ Some w)) → (y : ℕ) (ty : Ty) → slice_get b.locals y ≡ Some ty → (w : Tree K) × (slice_get (slice_set ls x u) y ≡ Some w)
-slot_set b ls x u slot y ty e =
-    ⊎_elim
-    (λ same. (u, subst (λ z. slice_get (slice_set ls x u) z ≡ Some u) (sym same) (get-set_same ls x u (slot x ty (subst (λ z. slice_get b.locals z ≡ Some ty) same e)).0 (slot x ty (subst (λ z. slice_get b.locals z ≡ Some ty) same e)).1)))
-    (λ other. ((slot y ty e).0, get-set_other ls x u y other ∙ (slot y ty e).1))
-    (apart x y)
-
-fits_gone : {K : Type 0} (b : Body) (θ : Tys) (set : Locals) (ls : List (Tree K)) (x : ℕ) → Fits b θ set ls → Fits b θ (without x set) (slice_set ls x Gone)
-fits_gone {K} b θ set ls x h = record {
-  slot = slot_set b ls x Gone h.slot;
-  shaped = λ y ty t inside e at.
-      ⊎_elim
-      (λ same. false≢true (sym (ap (λ c. cond c false (set y)) (eq-eqb y x same)) ∙ inside))
-      (λ other. h.shaped y ty t (sym (ap (λ c. cond c false (set y)) (ne_eqb y x other)) ∙ inside) e (sym (get-set_other ls x Gone y other) ∙ at))
-      (apart x y);
-}
-
-fits_set : {K : Type 0} (b : Body) (θ : Tys) (set : Locals) (ls : List (Tree K)) (x : ℕ) (ty : Ty) (u : Tree K) → slice_get b.locals x ≡ Some ty → Shape (instance θ ty) u → Fits b θ set ls → Fits b θ (with x set) (slice_set ls x u)
-fits_set {K} b θ set ls x ty u is_ty shape h = record {
-  slot = slot_set b ls x u h.slot;
-  shaped = λ y ty' t inside e at.
-      ⊎_elim
-      (λ same.
-      let is_u : slice_get (slice_set ls x u) y ≡ Some u = subst (λ z. slice_get (slice_set ls x u) z ≡ Some u) (sym same) (get-set_same ls x u (h.slot x ty is_ty).0 (h.slot x ty is_ty).1) in
-      let u_is : u ≡ t = some_same (sym is_u ∙ at) in
-      let ty_is : ty ≡ ty' = some_same (sym is_ty ∙ subst (λ z. slice_get b.locals z ≡ Some ty') same e) in
-      subst (λ w. Shape (instance θ ty') w) u_is (subst (λ q. Shape (instance θ q) u) ty_is shape))
-      (λ other. h.shaped y ty' t (sym (ap (λ c. cond c true (set y)) (ne_eqb y x other)) ∙ inside) e (sym (get-set_other ls x u y other) ∙ at))
-      (apart x y);
-}
-
-pub fits_within : {K : Type 0} (b : Body) (θ : Tys) (small large : Locals) (ls : List (Tree K)) → Within small large → Fits b θ large ls → Fits b θ small ls
-fits_within b θ small large ls w h = record { slot = h.slot; shaped = λ x ty t inside. h.shaped x ty t (w x inside) }
-
--- ---- operands and right sides
-
-abbrev pub Keeps : {K : Type 0} → Body → Tys → Locals → Ty → Left K → Type 0
-Keeps b θ set ty l = Fits b θ set l.0 × Shape (instance θ ty) l.1
-
-pub local_goes : {K : Type 0} (b : Body) (θ : Tys) (set : Locals) (ls : List (Tree K)) (x : ℕ) (ty : Ty) → Fits b θ set ls → slice_get b.locals x ≡ Some ty → set x ≡ true → Goes (Shape (instance θ ty)) (local_tree ls x)
-local_goes b θ set ls x ty h is_ty inside =
-    let u = h.slot x ty is_ty in
-    let shape = h.shaped x ty u.0 inside is_ty u.1 in
-    subst (Goes (Shape (instance θ ty))) (sym (ap (λ o. need o >>= is_there) u.1 ∙ shape.0)) shape
-
-literal_shape : {K : Type 0} (θ : Tys) (l : Lit) (ty : Ty) → LitHas l ty → Shape {K = K} (instance θ ty) (literal l)
-literal_shape {K} θ (lit.Int z k) ty (e, fit) = subst (λ t. Shape {K = K} (instance θ t) (Int z)) (sym e) (refl, (z, refl, fit))
-literal_shape {K} θ (lit.Bool x) ty e = subst (λ t. Shape {K = K} (instance θ t) (Truth x)) (sym e) (refl, (x, refl))
-
-pub take_goes : {K : Type 0} (b : Body) (θ : Tys) (set : Locals) (ls : List (Tree K)) (o : Operand) (ty : Ty) → Fits b θ set ls → OperandHas b o ty → CanTake set o → Goes (Keeps b θ (taken o set) ty) (take_operand ls o)
-take_goes b θ set ls (Copy p) ty h has can =
-    goes_then (Shape (instance θ ty)) (Keeps b θ set ty) (local_tree ls p.local) (λ t. Yields (ls, t)) (local_goes b θ set ls p.local ty h has.1 can) (λ t shape. (h, shape))
-take_goes b θ set ls (Move p) ty h has can =
-    goes_then (Shape (instance θ ty)) (Keeps b θ (without p.local set) ty) (local_tree ls p.local) (λ t. Yields (slice_set ls p.local Gone, t)) (local_goes b θ set ls p.local ty h has.1 can)
-    (λ t shape. (fits_gone b θ set ls p.local h, shape))
-take_goes b θ set ls (Const l) ty h has can = (h, literal_shape θ l ty has)
-
-fit_goes : (K : Type 0) (k : IntKind) (span : Span) (z : ℤ) → Goes (Shape {K = K} (int k)) (fit k span z)
-fit_goes K k span z = by_test (fits k z) refl
-  where
-    by_test : (t : Bool) → fits k z ≡ t → Goes (Shape {K = K} (int k)) (cond t (Yields (Int z)) (Panics Overflow span))
-    by_test true e = (refl, (z, refl, e))
-    by_test false e = tt
-
-divide_goes : (K : Type 0) (k : IntKind) (span : Span) (f : ℤ → ℤ → ℤ) (x y : ℤ) → (int_eq y (pos 0) ≡ false → fits k (int_div x y) ≡ true → fits k (f x y) ≡ true) → Goes (Shape {K = K} (int k)) (divide k span f x y)
-divide_goes K k span f x y fine = by_zero (int_eq y (pos 0)) refl
-  where
-    by_fit : int_eq y (pos 0) ≡ false → (t : Bool) → fits k (int_div x y) ≡ t → Goes (Shape {K = K} (int k)) (cond t (Yields (Int (f x y))) (Panics Overflow span))
-    by_fit n true e = (refl, (f x y, refl, fine n e))
-    by_fit n false e = tt
-
-    by_zero : (t : Bool) → int_eq y (pos 0) ≡ t → Goes (Shape {K = K} (int k)) (cond t (Panics Division span) (cond (fits k (int_div x y)) (Yields (Int (f x y))) (Panics Overflow span)))
-    by_zero true e = tt
-    by_zero false e = by_fit e (fits k (int_div x y)) refl
-
--- what is nearer to 0 fits too
-nearer_pos : (k : IntKind) (a m : ℕ) → m ≤ a → fits k (pos a) ≡ true → fits k (pos m) ≡ true
-nearer_pos I8 a m h e = grind arith
-nearer_pos I16 a m h e = grind arith
-nearer_pos I32 a m h e = grind arith
-nearer_pos I64 a m h e = grind arith
-nearer_pos Isize a m h e = grind arith
-nearer_pos U8 a m h e = grind arith
-nearer_pos U16 a m h e = grind arith
-nearer_pos U32 a m h e = grind arith
-nearer_pos U64 a m h e = grind arith
-nearer_pos Usize a m h e = grind arith
-
-nearer_neg : (k : IntKind) (a m : ℕ) → m ≤ suc a → fits k (negsuc a) ≡ true → fits k (neg_ℤ (pos m)) ≡ true
-nearer_neg I8 a zero h e = refl
-nearer_neg I8 a (suc m) h e = grind arith
-nearer_neg I16 a zero h e = refl
-nearer_neg I16 a (suc m) h e = grind arith
-nearer_neg I32 a zero h e = refl
-nearer_neg I32 a (suc m) h e = grind arith
-nearer_neg I64 a zero h e = refl
-nearer_neg I64 a (suc m) h e = grind arith
-nearer_neg Isize a zero h e = refl
-nearer_neg Isize a (suc m) h e = grind arith
-nearer_neg U8 a zero h e = refl
-nearer_neg U8 a (suc m) h e = grind arith
-nearer_neg U16 a zero h e = refl
-nearer_neg U16 a (suc m) h e = grind arith
-nearer_neg U32 a zero h e = refl
-nearer_neg U32 a (suc m) h e = grind arith
-nearer_neg U64 a zero h e = refl
-nearer_neg U64 a (suc m) h e = grind arith
-nearer_neg Usize a zero h e = refl
-nearer_neg Usize a (suc m) h e = grind arith
-
-rem_fits : (k : IntKind) (x y : ℤ) → fits k x ≡ true → fits k (int_rem x y) ≡ true
-rem_fits k (pos a) y h = nearer_pos k a (a % unsigned_abs y) (mod-le a (unsigned_abs y)) h
-rem_fits k (negsuc a) y h = nearer_neg k a (suc a % unsigned_abs y) (mod-le (suc a) (unsigned_abs y)) h
-
-integers_go : (K : Type 0) (θ : Tys) (k : IntKind) (span : Span) (op : BinaryOp) (x y : ℤ) → fits k x ≡ true → fits k y ≡ true → Goes (Shape {K = K} (instance θ (operation_ty op k))) (of_integers (kind_of (instance θ (operation_ty op k))) span op x y)
-integers_go K θ k span Add x y hx hy = fit_goes K k span (x +ℤ y)
-integers_go K θ k span Sub x y hx hy = fit_goes K k span (x -ℤ y)
-integers_go K θ k span Mul x y hx hy = fit_goes K k span (x *ℤ y)
-integers_go K θ k span Div x y hx hy = divide_goes K k span int_div x y (λ n e. e)
-integers_go K θ k span Rem x y hx hy = divide_goes K k span int_rem x y (λ n e. rem_fits k x y hx)
-integers_go K θ k span Eq x y hx hy = (refl, (_, refl))
-integers_go K θ k span Ne x y hx hy = (refl, (_, refl))
-integers_go K θ k span Lt x y hx hy = (refl, (_, refl))
-integers_go K θ k span Le x y hx hy = (refl, (_, refl))
-integers_go K θ k span Gt x y hx hy = (refl, (_, refl))
-integers_go K θ k span Ge x y hx hy = (refl, (_, refl))
-
-of_two_integers : {K : Type 0} (θ : Tys) (k : IntKind) (span : Span) (op : BinaryOp) (t u : Tree K) → Shape (int k) t → Shape (int k) u → Goes (Shape {K = K} (instance θ (operation_ty op k))) (binary (kind_of (instance θ (operation_ty op k))) span op t u)
-of_two_integers {K} θ k span op t u (there_t, (x, is_x, hx)) (there_u, (y, is_y, hy)) =
-    subst (λ w. Goes (Shape {K = K} (instance θ (operation_ty op k))) (binary (kind_of (instance θ (operation_ty op k))) span op w u)) (sym is_x)
-    (subst (λ w. Goes (Shape {K = K} (instance θ (operation_ty op k))) (binary (kind_of (instance θ (operation_ty op k))) span op (Int x) w)) (sym is_y)
-    (integers_go K θ k span op x y hx hy))
-
-truths_go : (K : Type 0) (op : BinaryOp) (x y : Bool) → IsEquality op → Goes (Shape {K = K} bool) (of_truths op x y)
-truths_go K Eq x y h = (refl, (_, refl))
-truths_go K Ne x y h = (refl, (_, refl))
-truths_go K _ x y h = absurd h
-
-of_two_truths : {K : Type 0} (kind : Option IntKind) (span : Span) (op : BinaryOp) (t u : Tree K) → IsEquality op → Shape bool t → Shape bool u → Goes (Shape {K = K} bool) (binary kind span op t u)
-of_two_truths {K} kind span op t u equality (there_t, (x, is_x)) (there_u, (y, is_y)) =
-    subst (λ w. Goes (Shape {K = K} bool) (binary kind span op w u)) (sym is_x)
-    (subst (λ w. Goes (Shape {K = K} bool) (binary kind span op (Truth x) w)) (sym is_y)
-    (truths_go K op x y equality))
-
--- two operands of the type s
-binary_goes : {K : Type 0} (θ : Tys) (span : Span) (op : BinaryOp) (s ty : Ty) (t u : Tree K) → OperationHas op s ty → Shape (instance θ s) t → Shape (instance θ s) u → Goes (Shape {K = K} (instance θ ty)) (binary (kind_of (instance θ ty)) span op t u)
-binary_goes {K} θ span op (int k) ty t u is_ty shape_t shape_u =
-    subst (λ q. Goes (Shape {K = K} (instance θ q)) (binary (kind_of (instance θ q)) span op t u)) (sym is_ty) (of_two_integers θ k span op t u shape_t shape_u)
-binary_goes {K} θ span op bool ty t u (equality, is_ty) shape_t shape_u =
-    subst (λ q. Goes (Shape {K = K} (instance θ q)) (binary (kind_of (instance θ q)) span op t u)) (sym is_ty) (of_two_truths (kind_of (instance θ bool)) span op t u equality shape_t shape_u)
-binary_goes θ span op _ ty t u h shape_t shape_u = absurd h
-
-negated_goes : {K : Type 0} (k : IntKind) (span : Span) (t : Tree K) → Shape (int k) t → Goes (Shape (int k)) (negated (Some k) span t)
-negated_goes {K} k span t (there, (z, is, e)) = subst (λ w. Goes (Shape {K = K} (int k)) (negated (Some k) span w)) (sym is) (fit_goes K k span (neg_ℤ z))
-
-inverted_goes : {K : Type 0} (t : Tree K) → Shape bool t → Goes (Shape {K = K} bool) (inverted t)
-inverted_goes {K} t (there, (b, is)) = subst (λ w. Goes (Shape {K = K} bool) (inverted w)) (sym is) (refl, (_, refl))
-
--- one operand, and what is made of its tree
-unary_goes : {K : Type 0} (b : Body) (θ : Tys) (set : Locals) (ls : List (Tree K)) (o : Operand) (s ty : Ty) (make : Tree K → Try (Tree K)) → Fits b θ set ls → OperandHas b o s → CanTake set o
-    → ((t : Tree K) → Shape (instance θ s) t → Goes (Shape (instance θ ty)) (make t)) → Goes (Keeps b θ (taken o set) ty) (take_operand ls o >>= λ l. make l.1 >>= λ t. Yields (l.0, t))
-unary_goes {K} b θ set ls o s ty make h has can go =
-    goes_then (Keeps b θ (taken o set) s) (Keeps b θ (taken o set) ty) (take_operand ls o) (λ l. make l.1 >>= λ t. Yields (l.0, t)) (take_goes b θ set ls o s h has can)
-    (λ l kept. goes_then (Shape (instance θ ty)) (Keeps b θ (taken o set) ty) (make l.1) (λ t. Yields (l.0, t)) (go l.1 kept.1) (λ t shape. (kept.0, shape)))
-
-evaluate_goes : {K : Type 0} (b : Body) (θ : Tys) (set : Locals) (ls : List (Tree K)) (span : Span) (r : Rvalue) (ty : Ty) → Fits b θ set ls → RvalueHas b r ty → CanEvaluate set r → Goes (Keeps b θ (evaluated r set) ty) (evaluate ls (kind_of (instance θ ty)) span r)
-evaluate_goes b θ set ls span (Use o) ty h has can = take_goes b θ set ls o ty h has can
-evaluate_goes {K} b θ set ls span (Binary op x y) ty h (s, has_x, has_y, op_has) can =
-    let end : Locals = taken y (taken x set) in
-    let kind : Option IntKind = kind_of (instance θ ty) in
-    let second : Tree K → Left K → Try (Left K) = λ t r. binary kind span op t r.1 >>= λ w. Yields (r.0, w) in
-    let first : Left K → Try (Left K) = λ l. take_operand l.0 y >>= second l.1 in
-    goes_then (Keeps b θ (taken x set) s) (Keeps b θ end ty) (take_operand ls x) first (take_goes b θ set ls x s h has_x can.0)
-    (λ l kept. goes_then (Keeps b θ end s) (Keeps b θ end ty) (take_operand l.0 y) (second l.1) (take_goes b θ (taken x set) l.0 y s kept.0 has_y can.1)
-    (λ r kept'. goes_then (Shape (instance θ ty)) (Keeps b θ end ty) (binary kind span op l.1 r.1) (λ w. Yields (r.0, w)) (binary_goes θ span op s ty l.1 r.1 op_has kept.1 kept'.1) (λ w shape. (kept'.0, shape))))
-evaluate_goes {K} b θ set ls span (Neg o) ty h (k, signed, has, is_ty) can =
-    subst (λ q. Goes (Keeps b θ (taken o set) q) (evaluate ls (kind_of (instance θ q)) span (Neg o))) (sym is_ty)
-    (unary_goes b θ set ls o (int k) (int k) (negated (Some k) span) h has can (negated_goes k span))
-evaluate_goes {K} b θ set ls span (Not o) ty h (has, is_ty) can =
-    subst (λ q. Goes (Keeps b θ (taken o set) q) (evaluate ls (kind_of (instance θ q)) span (Not o))) (sym is_ty)
-    (unary_goes b θ set ls o bool bool inverted h has can inverted_goes)
-evaluate_goes {K} b θ set ls span (Make c os) ty h (is_c, none, is_ty) can =
-    subst (λ q. Goes (Keeps b θ (all_taken os set) q) (evaluate ls (kind_of (instance θ q)) span (Make c os))) (sym is_ty)
-    (subst (λ qs. Goes (Keeps b θ (all_taken qs set) unit_ty) (evaluate ls None span (Make c qs))) (sym none)
-    (subst (λ d. Goes (Keeps b θ set unit_ty) (evaluate ls None span (Make d []))) (sym is_c) (h, (refl, refl))))
-
--- ---- statements
-
-kind_of_place : (b : Body) (θ : Tys) (p : Place) (ty : Ty) → PlaceHas b p ty → kind_in (place_ty b θ p) ≡ kind_of (instance θ ty)
-kind_of_place b θ p ty h =
-    ap (λ ps. kind_in (whole ps (option_map (instance θ) (slice_get b.locals p.local)))) h.0 ∙ ap (λ o. kind_in (option_map (instance θ) o)) h.1
-
-pub put_goes : {K : Type 0} (b : Body) (θ : Tys) (set : Locals) (ls : List (Tree K)) (x : ℕ) (ty : Ty) (t : Tree K) → slice_get b.locals x ≡ Some ty → Shape (instance θ ty) t → Fits b θ set ls → Goes (Fits b θ (with x set)) (put_local ls x t)
-put_goes {K} b θ set ls x ty t is_ty shape h =
-    let u = h.slot x ty is_ty in
-    subst (λ (o : Option (Tree K)). Goes (Fits b θ (with x set)) (need o >>= λ w. Yields (slice_set ls x t))) (sym u.1) (fits_set b θ set ls x ty t is_ty shape h)
-
-gone_goes : {K : Type 0} (b : Body) (θ : Tys) (set : Locals) (ls : List (Tree K)) (x : ℕ) (ty : Ty) → slice_get b.locals x ≡ Some ty → Fits b θ set ls → Goes (Fits b θ (without x set)) (put_local ls x Gone)
-gone_goes {K} b θ set ls x ty is_ty h =
-    let u = h.slot x ty is_ty in
-    subst (λ (o : Option (Tree K)). Goes (Fits b θ (without x set)) (need o >>= λ w. Yields (slice_set ls x Gone))) (sym u.1) (fits_gone b θ set ls x h)
-
-pub run_goes : {K : Type 0} (b : Body) (θ : Tys) (set : Locals) (ls : List (Tree K)) (span : Span) (kind : StatementKind) → Fits b θ set ls → StatementIsTyped b kind → CanRun set kind → Goes (Fits b θ (run kind set)) (run_local b θ ls span kind)
-run_goes {K} b θ set ls span (Assign p r) h (ty, has, typed) can =
-    subst (λ k. Goes (Fits b θ (with p.local (evaluated r set))) (evaluate ls k span r >>= λ l. put_local l.0 p.local l.1)) (sym (kind_of_place b θ p ty has))
-    (goes_then (Keeps b θ (evaluated r set) ty) (Fits b θ (with p.local (evaluated r set))) (evaluate ls (kind_of (instance θ ty)) span r) (λ l. put_local l.0 p.local l.1) (evaluate_goes b θ set ls span r ty h typed can)
-    (λ l kept. put_goes b θ (evaluated r set) l.0 p.local ty l.1 has.1 kept.1 kept.0))
-run_goes b θ set ls span (Dead x) h (ty, is_ty) can = gone_goes b θ set ls x ty is_ty h
-
--- ---- lists
-
-pub get_past : {A : Type 0} (xs : List A) (i : ℕ) → slice_get xs i ≡ None → length xs ≤ i
-get_past [] i e = omega arith
-get_past (x ∷ xs) zero e = absurd (cc)
-get_past (x ∷ xs) (suc i) e = omega (arith, get_past xs i e)
-
-get_first : {A : Type 0} (xs : List A) (i : ℕ) → i < length xs → (x : A) × (slice_get xs i ≡ Some x)
-get_first [] i h = absurd (omega arith)
-get_first (x ∷ xs) zero h = (x, refl)
-get_first (x ∷ xs) (suc i) h = get_first xs i (omega arith)
-
-answer_is : (ts : List Ty) (ty : Ty) → slice_get ts 0 ≡ Some ty → nth_ty (tys_of ts) 0 ≡ ty
-answer_is [] ty e = absurd (cc)
-answer_is (t ∷ ts) ty e = some_same e
-
--- ---- arguments
-
--- each argument has the shape of its type
-abbrev pub AreShaped : {K : Type 0} → Tys → List (Tree K) → List Ty → Type 0
-AreShaped {K} θ args tys = (n : ℕ) (ty : Ty) → slice_get tys n ≡ Some ty → (t : Tree K) × (slice_get args n ≡ Some t) × Shape (instance θ ty) t
-
-shaped_more : {K : Type 0} (θ : Tys) (t : Tree K) (ty : Ty) (args : List (Tree K)) (tys : List Ty) → Shape (instance θ ty) t → AreShaped θ args tys → AreShaped θ (t ∷ args) (ty ∷ tys)
-shaped_more θ t ty args tys h hs zero q e = (t, refl, subst (λ w. Shape (instance θ w) t) (some_same e) h)
-shaped_more θ t ty args tys h hs (suc n) q e = hs n q e
-
-pub typed_args : {K : Type 0} (Δ : Declarations) (s : State K) (θ : Tys) (args : List (Tree K)) (tys : List Ty) (met : List Met) → AreTyped Δ s (trees_of args) (instances θ (tys_of tys)) met → (length args ≡ length tys) × AreShaped θ args tys
-typed_args Δ s θ [] [] met h = (refl, λ n ty e. absurd (cc))
-typed_args Δ s θ [] (ty ∷ tys) met h = elim h [ ]
-typed_args Δ s θ (t ∷ args) [] met h = elim h [ ]
-typed_args Δ s θ (t ∷ args) (ty ∷ tys) met (more_typed {first} {rest} h hs) =
-    let others = typed_args Δ s θ args tys rest hs in
-    (ap suc others.0, shaped_more θ t ty args tys (typed_shape Δ s t (instance θ ty) first h) others.1)
-
-get_take : {A : Type 0} (xs : List A) (p n : ℕ) → n < p → slice_get (take p xs) n ≡ slice_get xs n
-get_take [] zero n h = refl
-get_take [] (suc p) n h = refl
-get_take (x ∷ xs) zero n h = absurd (omega arith)
-get_take (x ∷ xs) (suc p) zero h = refl
-get_take (x ∷ xs) (suc p) (suc n) h = get_take xs p n (omega arith)
-
-get_drop : {A : Type 0} (xs : List A) (n : ℕ) → slice_get (drop 1 xs) n ≡ slice_get xs (suc n)
-get_drop [] n = refl
-get_drop (x ∷ xs) n = refl
-
-get_append : {A : Type 0} (xs ys : List A) (n : ℕ) (x : A) → slice_get xs n ≡ Some x → slice_get (xs ++ ys) n ≡ Some x
-get_append [] ys n x e = absurd (cc)
-get_append (z ∷ xs) ys zero x e = e
-get_append (z ∷ xs) ys (suc n) x e = get_append xs ys n x e
-
-start_length : {K : Type 0} (args : List (Tree K)) (n : ℕ) → length args + 1 ≤ n → length (Gone ∷ (args ++ replicate (n - 1 - length args) Gone)) ≡ n
-start_length {K} args n h = omega (arith, length-append args (replicate (n - 1 - length args) Gone), length-replicate {A = Tree K} (n - 1 - length args) Gone)
-
-params_length : (bodies : Bodies) (b : Body) → IsTyped bodies b → length (take b.params (drop 1 b.locals)) ≡ b.params
-params_length bodies b typed = let h = typed.answers in grind (arith, length-take, length-drop)
-
-and_right : (a b : Bool) → (a && b) ≡ true → b ≡ true
-and_right true b e = e
-and_right false b e = false≢true e
-
--- the operands of a call leave the set without what is moved, and their trees have the shapes of the types
-abbrev pub AreArguments : {K : Type 0} → Body → Tys → Locals → List Ty → List (Tree K) × List (Tree K) → Type 0
-AreArguments b θ set tys r = Fits b θ set r.0 × ((length r.1 ≡ length tys) × AreShaped θ r.1 tys)
-
-pub operands_go : {K : Type 0} (b : Body) (θ : Tys) (set : Locals) (ls : List (Tree K)) (os : List Operand) (tys : List Ty) → Fits b θ set ls → OperandsHave b os tys → CanTakeAll set os → Goes (AreArguments b θ (all_taken os set) tys) (take_operands ls os)
-operands_go b θ set ls [] [] h have can = (h, (refl, λ n ty e. absurd (cc)))
-operands_go b θ set ls [] (ty ∷ tys) h have can = absurd have
-operands_go b θ set ls (o ∷ os) [] h have can = absurd have
-operands_go {K} b θ set ls (o ∷ os) (ty ∷ tys) h have can =
-    let end : Locals = all_taken os (taken o set) in
-    let more : Tree K → List (Tree K) × List (Tree K) → Try (List (Tree K) × List (Tree K)) = λ t r. Yields (r.0, t ∷ r.1) in
-    goes_then (Keeps b θ (taken o set) ty) (AreArguments b θ end (ty ∷ tys)) (take_operand ls o) (λ l. take_operands l.0 os >>= more l.1) (take_goes b θ set ls o ty h have.0 can.0)
-    (λ l kept. goes_then (AreArguments b θ end tys) (AreArguments b θ end (ty ∷ tys)) (take_operands l.0 os) (more l.1) (operands_go b θ (taken o set) l.0 os tys kept.0 have.1 can.1)
-    (λ r args. (args.0, (ap suc args.1.0, shaped_more θ l.1 ty r.1 tys kept.1 args.1.1))))
-
-pub entered_fits : {K : Type 0} (bodies : Bodies) (b : Body) (f : ℕ) (θ : Tys) (args : List (Tree K)) → IsTyped bodies b → (length args ≡ length (take b.params (drop 1 b.locals))) × AreShaped θ args (take b.params (drop 1 b.locals)) → Fits b θ (parameters b) (entered b f θ args).locals
-entered_fits {K} bodies b f θ args typed of_args = record {
-  slot = λ x ty e. get_first (entered b f θ args).locals x (omega (arith, room, slice_get_within b.locals x ty e));
-  shaped = shaped;
-}
-  where
-    tys : List Ty
-    tys = take b.params (drop 1 b.locals)
-
-    count : length args ≡ b.params
-    count = of_args.0 ∙ params_length bodies b typed
-
-    room : length (entered b f θ args).locals ≡ length b.locals
-    room = start_length args (length b.locals) (omega (arith, count, typed.answers))
-
-    shaped : (x : ℕ) (ty : Ty) (t : Tree K) → parameters b x ≡ true → slice_get b.locals x ≡ Some ty → slice_get (entered b f θ args).locals x ≡ Some t → Shape (instance θ ty) t
-    shaped zero ty t inside is_ty is_t = false≢true inside
-    shaped (suc n) ty t inside is_ty is_t =
-        let below : n < b.params = (let h = ltb-true (suc n) (b.params + 1) (and_right (nat_lt 0 (suc n)) (nat_lt (suc n) (b.params + 1)) inside) in omega arith) in
-        let found = of_args.1 n ty (get_take (drop 1 b.locals) b.params n below ∙ get_drop b.locals n ∙ is_ty) in
-        subst (Shape (instance θ ty)) (some_same (sym (get_append args (replicate (length b.locals - 1 - length args) Gone) n found.0 found.1) ∙ is_t)) found.2
-
--- ---- frames
-
--- the frame stands in its body, with locals as the body's labelling says
-pub record Ready {K : Type 0} (bodies : Bodies) (sound : AreSound bodies) (f : Frame K) : Type 0 where
-  pub body : Body
-  pub is_body : slice_get bodies.bodies f.function ≡ Some body
-  pub ground : f.types ≡ no_tys
-  pub block : Block
-  pub is_block : block_in body.blocks f.label ≡ Some block
-  pub within : f.statement ≤ length block.statements
-  pub fitting : Fits body f.types ((sound f.function body is_body).1.0 f.label f.statement) f.locals
-
--- the frame waits at its call of body n, which has taken the operands
-pub record Waits {K : Type 0} (bodies : Bodies) (sound : AreSound bodies) (f : Frame K) (n : ℕ) : Type 0 where
-  pub body : Body
-  pub is_body : slice_get bodies.bodies f.function ≡ Some body
-  pub ground : f.types ≡ no_tys
-  pub block : Block
-  pub is_block : block_in body.blocks f.label ≡ Some block
-  pub place : Place
-  pub types : List Ty
-  pub operands : List Operand
-  pub label : Label
-  pub calls : block.end.kind ≡ Call place (Function (fn_id.Body n)) types operands label
-  pub fitting : Fits body f.types (all_taken operands ((sound f.function body is_body).1.0 f.label (length block.statements))) f.locals
-
--- the tree has the shape of the answer of body n
-abbrev pub IsAnswer : {K : Type 0} → Bodies → ℕ → Tree K → Type 0
-IsAnswer bodies n t = (b : Body) × (slice_get bodies.bodies n ≡ Some b) × Shape (answer_ty b no_tys) t
-
--- the frame of body n is ready for its next step; or it waits, and the frame that it calls is ready; or it answers
-abbrev pub EndsWell : {K : Type 0} (bodies : Bodies) → AreSound bodies → ℕ → FrameEnd K → Type 0
-EndsWell bodies sound n (Stays f) = Ready bodies sound f × (f.function ≡ n)
-EndsWell bodies sound n (Calls f g) = Ready bodies sound g × Waits bodies sound f g.function × (f.function ≡ n)
-EndsWell bodies sound n (Answers t) = IsAnswer bodies n t
-
-ready_entered : {K : Type 0} (bodies : Bodies) (sound : AreSound bodies) (n : ℕ) (b : Body) (args : List (Tree K)) → slice_get bodies.bodies n ≡ Some b
-    → (length args ≡ length (take b.params (drop 1 b.locals))) × AreShaped no_tys args (take b.params (drop 1 b.locals)) → Ready bodies sound (entered b n no_tys args)
-ready_entered bodies sound n b args is_body of_args =
-    let both = sound n b is_body in
-    record {
-      body = b;
-      is_body = is_body;
-      ground = refl;
-      block = both.0.begins.0;
-      is_block = both.0.begins.1;
-      within = omega arith;
-      fitting = fits_within b no_tys (both.1.0 b.entry 0) (parameters b) (entered b n no_tys args).locals both.1.1.entry (entered_fits bodies b n no_tys args both.0 of_args);
-    }
-
--- the frame goes on at the start of a block
-ready_starting : {K : Type 0} (bodies : Bodies) (sound : AreSound bodies) (f : Frame K) (b : Body) (is_body : slice_get bodies.bodies f.function ≡ Some b) (set : Locals) (ls : List (Tree K)) (l : Label) → f.types ≡ no_tys
-    → ((k : Block) × (block_in b.blocks l ≡ Some k)) → Within ((sound f.function b is_body).1.0 l 0) set → Fits b f.types set ls → Ready bodies sound (starting f ls l)
-ready_starting bodies sound f b is_body set ls l ground leads within h = record {
-  body = b;
-  is_body = is_body;
-  ground = ground;
-  block = leads.0;
-  is_block = leads.1;
-  within = omega arith;
-  fitting = fits_within b f.types ((sound f.function b is_body).1.0 l 0) set ls within h;
-}
-
-module _ {K : Type 0} (code : Code K) (sound : AreSound code.program) (f : Frame K) (r : Ready code.program sound f) where
-  abbrev Well : FrameEnd K → Type 0
-  Well = EndsWell code.program sound f.function
-
-  statement_goes : (st : Statement) → slice_get r.block.statements f.statement ≡ Some st → Goes Well (frame_row code r.body f r.block.end (Some st))
-  statement_goes st e =
-      let ready = sound f.function r.body r.is_body in
-      let set = ready.1.0 f.label f.statement in
-      let rows = (row_by_row r.body ready.1.0 ready.1.1).statements f.label r.block f.statement st r.is_block e in
-      goes_then (Fits r.body f.types (run st.kind set)) Well (run_local r.body f.types f.locals st.span st.kind) (λ ls. Yields (Stays (record f { locals = ls; statement = f.statement + 1 })))
-      (run_goes r.body f.types set f.locals st.span st.kind r.fitting (ready.0.statements f.label r.block f.statement st r.is_block e) rows.0)
-      (λ ls h. (
-        record {
-          body = r.body;
-          is_body = r.is_body;
-          ground = r.ground;
-          block = r.block;
-          is_block = r.is_block;
-          within = omega (arith, slice_get_within r.block.statements f.statement st e);
-          fitting = fits_within r.body f.types (ready.1.0 f.label (f.statement + 1)) (run st.kind set) ls rows.1 h;
-        },
-        refl,
-      ))
-
-  -- what is initialised at the block's end
-  abbrev end_set : Locals
-  end_set = (sound f.function r.body r.is_body).1.0 f.label (length r.block.statements)
-
-  goto_goes : (l : Label) → Fits r.body f.types end_set f.locals → EndIsTyped code.program r.body (Goto l) → Carries (λ l'. (sound f.function r.body r.is_body).1.0 l' 0) end_set (Goto l) → Goes Well (frame_end code f (Goto l))
-  goto_goes l h typed carries = (ready_starting code.program sound f r.body r.is_body end_set f.locals l r.ground typed carries h, refl)
-
-  if_goes : (o : Operand) (on_true on_false : Label) → Fits r.body f.types end_set f.locals → EndIsTyped code.program r.body (If o on_true on_false) → CanEnd end_set (If o on_true on_false)
-      → Carries (λ l'. (sound f.function r.body r.is_body).1.0 l' 0) end_set (If o on_true on_false) → Goes Well (frame_end code f (If o on_true on_false))
-  if_goes o on_true on_false h typed can carries =
-      goes_then (Keeps r.body f.types (taken o end_set) bool) Well (take_operand f.locals o) (λ l. truth_of l.1 >>= λ b. Yields (Stays (starting f l.0 (cond b on_true on_false)))) (take_goes r.body f.types end_set f.locals o bool h typed.0 can)
-      (λ l kept. branch l.0 l.1 kept.0 kept.1)
-    where
-      to : (b : Bool) (ls : List (Tree K)) → Fits r.body f.types (taken o end_set) ls → Ready code.program sound (starting f ls (cond b on_true on_false))
-      to true ls fits = ready_starting code.program sound f r.body r.is_body (taken o end_set) ls on_true r.ground typed.1 carries.0 fits
-      to false ls fits = ready_starting code.program sound f r.body r.is_body (taken o end_set) ls on_false r.ground typed.2 carries.1 fits
-
-      branch : (ls : List (Tree K)) (t : Tree K) → Fits r.body f.types (taken o end_set) ls → Shape bool t → Goes Well (truth_of t >>= λ b. Yields (Stays (starting f ls (cond b on_true on_false))))
-      branch ls t fits (there, (b, is)) = subst (λ u. Goes Well (truth_of u >>= λ c. Yields (Stays (starting f ls (cond c on_true on_false))))) (sym is) (to b ls fits, refl)
-
-  call_goes : (p : Place) (n : ℕ) (types : List Ty) (os : List Operand) (l : Label) → r.block.end.kind ≡ Call p (Function (fn_id.Body n)) types os l → Fits r.body f.types end_set f.locals → EndIsTyped code.program r.body (Call p (Function (fn_id.Body n)) types os l)
-      → CanTakeAll end_set os → Goes Well (frame_end code f (Call p (Function (fn_id.Body n)) types os l))
-  call_goes p n types os l is h ((c, t, is_callee, have, first, place, as_many), leads) can =
-      let tys : List Ty = take c.params (drop 1 c.locals) in
-      goes_then (AreArguments r.body f.types (all_taken os end_set) tys) Well (take_operands f.locals os) (λ a. callee_frame code.program (Function (fn_id.Body n)) a.1 >>= λ g. Yields (Calls (record f { locals = a.0 }) g))
-      (operands_go r.body f.types end_set f.locals os tys h have can)
-      (λ a args. subst (λ (o : Option Body). Goes Well ((need o >>= λ b. Yields (entered b n no_tys a.1)) >>= λ g. Yields (Calls (record f { locals = a.0 }) g))) (sym is_callee) (
-        ready_entered code.program sound n c a.1 is_callee (args.1.0, subst (λ θ. AreShaped θ a.1 tys) r.ground args.1.1),
-        record {
-          body = r.body;
-          is_body = r.is_body;
-          ground = r.ground;
-          block = r.block;
-          is_block = r.is_block;
-          place = p;
-          types = types;
-          operands = os;
-          label = l;
-          calls = is;
-          fitting = args.0;
-        },
-        refl,
-      ))
-
-  return_goes : Fits r.body f.types end_set f.locals → end_set 0 ≡ true → Goes Well (frame_end code f Return)
-  return_goes h can =
-      let answer = get_first r.body.locals 0 (omega (arith, (sound f.function r.body r.is_body).0.answers)) in
-      goes_then (Shape (instance f.types answer.0)) Well (local_tree f.locals 0) (λ t. Yields (Answers t)) (local_goes r.body f.types end_set f.locals 0 answer.0 h answer.1 can)
-      (λ t shape. (r.body, r.is_body, subst (λ ty. Shape (instance no_tys ty) t) (sym (answer_is r.body.locals answer.0 answer.1)) (subst (λ θ. Shape (instance θ answer.0) t) r.ground shape)))
-
-  end_goes : (end : TerminatorKind) → r.block.end.kind ≡ end → Fits r.body f.types end_set f.locals → EndIsTyped code.program r.body end → CanEnd end_set end → Carries (λ l'. (sound f.function r.body r.is_body).1.0 l' 0) end_set end → Goes Well (frame_end code f end)
-  end_goes (Goto l) is h typed can carries = goto_goes l h typed carries
-  end_goes (If o on_true on_false) is h typed can carries = if_goes o on_true on_false h typed can carries
-  end_goes (Call p (Function (fn_id.Body n)) types os l) is h typed can carries = call_goes p n types os l is h typed can
-  end_goes Return is h typed can carries = return_goes h can
-
-  row_goes : (o : Option Statement) → slice_get r.block.statements f.statement ≡ o → Goes Well (frame_row code r.body f r.block.end o)
-  row_goes (Some st) e = statement_goes st e
-  row_goes None e =
-      let ready = sound f.function r.body r.is_body in
-      let rows = row_by_row r.body ready.1.0 ready.1.1 in
-      let at_end : f.statement ≡ length r.block.statements = omega (arith, get_past r.block.statements f.statement e, r.within) in
-      end_goes r.block.end.kind refl (subst (λ i. Fits r.body f.types (ready.1.0 f.label i) f.locals) at_end r.fitting) (ready.0.ends f.label r.block r.is_block) (rows.ends f.label r.block r.is_block) (rows.edges f.label r.block r.is_block)
-
-pub frame_goes : {K : Type 0} (code : Code K) (sound : AreSound code.program) (f : Frame K) → Ready code.program sound f → Goes (EndsWell code.program sound f.function) (frame_step code f)
-frame_goes {K} code sound f r =
-    let at_block : Body → Block → Try (FrameEnd K) = λ b k. frame_row code b f k.end (slice_get k.statements f.statement) in
-    subst (Goes (EndsWell code.program sound f.function))
-    (sym (ap (λ o. need o >>= λ b. need (block_in b.blocks f.label) >>= at_block b) r.is_body ∙ ap (λ o. need o >>= at_block r.body) r.is_block))
-    (row_goes code sound f r (slice_get r.block.statements f.statement) refl)
-
--- the frame that waits goes on with an answer of the body that it called
-resumed_goes : {K : Type 0} (bodies : Bodies) (sound : AreSound bodies) (f : Frame K) (n : ℕ) (t : Tree K) → Waits bodies sound f n → IsAnswer bodies n t → Goes (λ g. Ready bodies sound g × (g.function ≡ f.function)) (resumed bodies t f)
-resumed_goes {K} bodies sound f n t w (c, is_callee, shape) =
-    let both = sound f.function w.body w.is_body in
-    let p = w.place in
-    let l = w.label in
-    let types = w.types in
-    let os = w.operands in
-    let starts : Label → Locals = λ l'. both.1.0 l' 0 in
-    let end_set : Locals = both.1.0 f.label (length w.block.statements) in
-    let found : frame_block bodies f ≡ Some w.block = ap (option_and_then (λ b. block_in b.blocks f.label)) w.is_body ∙ w.is_block in
-    let typed : EndIsTyped bodies w.body (Call p (Function (fn_id.Body n)) types os l) = subst (EndIsTyped bodies w.body) w.calls (both.0.ends f.label w.block w.is_block) in
-    let carries : Carries starts end_set (Call p (Function (fn_id.Body n)) types os l) = subst (Carries starts end_set) w.calls ((row_by_row w.body both.1.0 both.1.1).edges f.label w.block w.is_block) in
-    let Fine : Frame K → Type 0 = λ g. Ready bodies sound g × (g.function ≡ f.function) in
-    subst (λ (o : Option Block). Goes Fine (need o >>= λ k. resumed_at t f k.end.kind)) (sym found)
-    (subst (λ end. Goes Fine (resumed_at t f end)) (sym w.calls) (with_typed typed carries))
-  where
-    with_typed : EndIsTyped bodies w.body (Call w.place (Function (fn_id.Body n)) w.types w.operands w.label) →
-        Within ((sound f.function w.body w.is_body).1.0 w.label 0) (with w.place.local (all_taken w.operands ((sound f.function w.body w.is_body).1.0 f.label (length w.block.statements)))) →
-        Goes (λ g. Ready bodies sound g × (g.function ≡ f.function)) (resumed_at t f (Call w.place (Function (fn_id.Body n)) w.types w.operands w.label))
-    with_typed ((d, ty, is_d, have, first, place, as_many), leads) within =
-        let set : Locals = all_taken w.operands ((sound f.function w.body w.is_body).1.0 f.label (length w.block.statements)) in
-        let same : c ≡ d = some_same (sym is_callee ∙ is_d) in
-        let of_ty : Shape (instance no_tys ty) t = subst (λ q. Shape (instance no_tys q) t) (answer_is d.locals ty first) (subst (λ b. Shape (answer_ty b no_tys) t) same shape) in
-        let here : Shape (instance f.types ty) t = subst (λ θ. Shape (instance θ ty) t) (sym w.ground) of_ty in
-        goes_then (Fits w.body f.types (with w.place.local set)) (λ g. Ready bodies sound g × (g.function ≡ f.function)) (put_local f.locals w.place.local t) (λ ls. Yields (starting f ls w.label))
-        (put_goes w.body f.types set f.locals w.place.local ty t place.1 here w.fitting)
-        (λ ls h. (ready_starting bodies sound f w.body w.is_body (with w.place.local set) ls w.label w.ground leads within h, refl))
-
--- ---- states
-
--- a call of body n runs before these frames: each waits at its call, up to the first call, of body `top`, before which the
--- outside stands
-abbrev pub Stacked : {K : Type 0} (bodies : Bodies) → AreSound bodies → ℕ → ℕ → State K → Type 0
-Stacked bodies sound top n [] = ⊥
-Stacked bodies sound top n (out ∷ []) = n ≡ top
-Stacked bodies sound top n (f ∷ g ∷ fs) = Waits bodies sound f n × Stacked bodies sound top f.function (g ∷ fs)
-
-abbrev pub StateAlive : {K : Type 0} (bodies : Bodies) → AreSound bodies → ℕ → State K → Type 0
-StateAlive bodies sound top [] = ⊥
-StateAlive bodies sound top (f ∷ fs) = Ready bodies sound f × Stacked bodies sound top f.function fs
-
--- the call of body `top` runs, or it has ended well
-abbrev pub Alive : {K : Type 0} (bodies : Bodies) → AreSound bodies → ℕ → Outcome K → Type 0
-Alive bodies sound top (Running s) = StateAlive bodies sound top s
-Alive bodies sound top (Returned s t) = IsAnswer bodies top t
-Alive bodies sound top (Panicked cause span) = Unit {0}
-Alive bodies sound top Stuck = ⊥
-
-deeper : {K : Type 0} (bodies : Bodies) (sound : AreSound bodies) (top n : ℕ) (f : Frame K) (fs : State K) → Waits bodies sound f n → Stacked bodies sound top f.function fs → Stacked bodies sound top n (f ∷ fs)
-deeper bodies sound top n f [] waits stacked = absurd stacked
-deeper bodies sound top n f (g ∷ fs) waits stacked = (waits, stacked)
-
-back_alive : {K : Type 0} (bodies : Bodies) (sound : AreSound bodies) (top n : ℕ) (t : Tree K) (fs : State K) → IsAnswer bodies n t → Stacked bodies sound top n fs → Goes (Alive bodies sound top) (come_back bodies t fs)
-back_alive bodies sound top n t [] answer stacked = absurd stacked
-back_alive bodies sound top n t (out ∷ []) answer stacked = subst (λ m. IsAnswer bodies m t) stacked answer
-back_alive {K} bodies sound top n t (f ∷ g ∷ fs) answer (waits, stacked) =
-    subst (Goes (Alive bodies sound top)) (sym (come_back-whole bodies t f g fs (sound_wholes bodies sound)))
-    (goes_then (λ h. Ready bodies sound h × (h.function ≡ f.function)) (Alive bodies sound top) (resumed bodies t f) (λ h. Yields (Running (h ∷ g ∷ fs))) (resumed_goes bodies sound f n t waits answer)
-    (λ h ready. (ready.0, subst (λ m. Stacked bodies sound top m (g ∷ fs)) (sym ready.1) stacked)))
-
-settled_alive : {K : Type 0} (bodies : Bodies) (sound : AreSound bodies) (top n : ℕ) (fs : State K) → Stacked bodies sound top n fs → (e : FrameEnd K) → EndsWell bodies sound n e → Goes (Alive bodies sound top) (settled bodies fs e)
-settled_alive bodies sound top n fs stacked (Stays f) h = (h.0, subst (λ m. Stacked bodies sound top m fs) (sym h.1) stacked)
-settled_alive bodies sound top n fs stacked (Calls f g) h = (h.0, deeper bodies sound top g.function f fs h.1 (subst (λ m. Stacked bodies sound top m fs) (sym h.2) stacked))
-settled_alive bodies sound top n fs stacked (Answers t) h = back_alive bodies sound top n t fs h stacked
-
-of_goes : {K : Type 0} (bodies : Bodies) (sound : AreSound bodies) (top : ℕ) (m : Try (Outcome K)) → Goes (Alive bodies sound top) m → Alive bodies sound top (outcome_of m)
-of_goes bodies sound top (Yields o) h = h
-of_goes bodies sound top (Panics c s) h = tt
-of_goes bodies sound top Sticks h = absurd h
-
-step_alive : {K : Type 0} (code : Code K) (sound : AreSound code.program) (top : ℕ) (s : State K) → StateAlive code.program sound top s → Alive code.program sound top (step code s)
-step_alive code sound top [] h = absurd h
-step_alive code sound top (f ∷ fs) (ready, stacked) =
-    of_goes code.program sound top (try_step code (f ∷ fs))
-    (subst (Goes (Alive code.program sound top)) (sym (try_step-whole code f fs (sound_wholes code.program sound)))
-    (goes_then (EndsWell code.program sound f.function) (Alive code.program sound top) (frame_step code f) (settled code.program fs) (frame_goes code sound f ready) (settled_alive code.program sound top f.function fs stacked)))
-
-pub alive_next : {K : Type 0} (code : Code K) (sound : AreSound code.program) (top : ℕ) (o : Outcome K) → Alive code.program sound top o → Alive code.program sound top (next code o)
-alive_next code sound top (Running s) h = step_alive code sound top s h
-alive_next code sound top (Returned s t) h = h
-alive_next code sound top (Panicked c s) h = tt
-alive_next code sound top Stuck h = absurd h
-
-pub alive_after : {K : Type 0} (code : Code K) (sound : AreSound code.program) (top n : ℕ) (o : Outcome K) → Alive code.program sound top o → Alive code.program sound top (after_from code n o)
-alive_after code sound top zero o h = h
-alive_after code sound top (suc n) o h = alive_next code sound top (after_from code n o) (alive_after code sound top n o h)
-
--- ---- the start
+use Rattle.mir_machine.proofs.TypedTrees.{Shape, has_type_kept, has_shape}
+use Rattle.mir_machine.proofs.TypedRows.{Held, held_within, held_set, Takes, take_yields, take_all_yields, AreOf, are_of_kept, local_read, write_then, Ran, run_goes}
+use Rattle.mir_machine.proofs.Stacks.{behind_some, behind_to, outside_is, Waited, waits_are, held_moved, waits_kept, typed_args, entered_held, get_first, get_past, answer_is}
+use Rattle.mir_machine.proofs.Writes.{SameTrees, SameElsewhere, written_elsewhere, at_next, at_start, label_yields, same_behind, stops_length}
+use Rattle.mir_machine.proofs.EndRows.{callee_found, step-row, goto-row, if-row, call-row, return-row, back-row}
+
+-- ---- a labelling for each body
+
+module _ (bodies : Bodies) (sound : AreSound bodies) where
+  chosen : (f : ℕ) (o : Option Body) → slice_get bodies.bodies f ≡ o → Labelling
+  chosen f (Some b) e = (sound f b e).1.0
+  chosen f None e = λ l i x. false
+
+  chosen_meets : (f : ℕ) (b : Body) (o : Option Body) (e : slice_get bodies.bodies f ≡ o) → o ≡ Some b → MeetsMoveRows b (chosen f o e)
+  unfolding chosen
+  chosen_meets f b (Some c) e is = subst (λ x. MeetsMoveRows x (sound f c e).1.0) (same_Some _ _ is) (sound f c e).1.1
+  chosen_meets f b None e is = absurd (cc)
+
+  pub labelling_of : ℕ → Labelling
+  labelling_of f = chosen f (slice_get bodies.bodies f) refl
+
+  pub are_labelled : AreLabelled bodies labelling_of
+  unfolding labelling_of
+  are_labelled f b is_body = ((sound f b is_body).0, chosen_meets f b (slice_get bodies.bodies f) refl is_body)
 
 -- where there are no type parameters there are no types for them
 pub no_types_for_none : (θ : Tys) → how_many θ ≡ 0 → θ ≡ no_tys
 no_types_for_none no_tys e = refl
 no_types_for_none (and_ty t ts) e = absurd (omega arith)
 
-pub start_alive : {K : Type 0} (Θ : Theory) (bodies : Bodies) (sound : AreSound bodies) (f : ℕ) (θ : Tys) (args held : List (Tree K)) (b : Body) (met : List Met) → IsProper Θ bodies f θ args held b met → Alive bodies sound f (Running (called b f θ args held))
-start_alive {K} Θ bodies sound f θ args held b met proper =
-    let shaped = typed_args (declared Θ) (called b f θ args held) θ args (take b.params (drop 1 b.locals)) met proper.typed in
-    let none = no_types_for_none θ proper.ground in
-    subst (λ types. Alive bodies sound f (Running (called b f types args held))) (sym none)
-    (ready_entered bodies sound f b args proper.of (shaped.0, subst (λ types. AreShaped types args (take b.params (drop 1 b.locals))) none shaped.1), refl)
+-- top: the function that is called from outside
+module _ {K : Type 0} (Δ : Declarations) (code : Code K) (labelling : ℕ → Labelling) (labelled : AreLabelled code.program labelling) (top : ℕ) where
+  abbrev bodies : Bodies
+  bodies = code.program
+
+  abbrev Waits : State K → ℕ → Stop → ℕ → ℕ → Type 0
+  Waits s = WaitsAt Δ bodies labelling s
+
+  abbrev Runs : State K → ℕ → Stop → Type 0
+  Runs s = RunsAt Δ bodies labelling s
+
+  abbrev Fine : Outcome K → Type 0
+  Fine = IsTypedRun Δ bodies labelling top
+
+  move_rows : (f : ℕ) (b : Body) → slice_get bodies.bodies f ≡ Some b → RowByRow b (labelling f)
+  move_rows f b is_body = row_by_row b (labelling f) (labelled f b is_body).1
+
+  stand_typed : (s : State K) (g : Stop) (gs : List Stop) → stops s ≡ g ∷ gs → Runs s (length gs) g → Behind (Waits s) top g.function gs → Fine (Running s)
+  stand_typed s g gs e runs behind = subst (StandTyped Δ bodies labelling top s) (sym e) (runs, behind)
+
+  -- frames wait in a state in which no frame but one was changed that is not among them
+  waiting_in : {s u : State K} {d : ℕ} {gs : List Stop} (n : ℕ) → (n ≡ 0 → ⊥) → length gs ≤ n → SameElsewhere n s u → Behind (Waits s) top d gs → Behind (Waits u) top d gs
+  waiting_in n inside fewer same behind = behind_to n (λ m g c d less w. waits_kept Δ bodies labelling n m g c d inside (λ e. omega (arith, less, e)) same w) fewer behind
+
+  -- ---- an answer
+
+  -- the frame that waits has the answer put, and goes on
+  resumed : (u : State K) (d : ℕ) (t : Tree K) (f h : Frame K) (us : State K) → u ≡ f ∷ h ∷ us → IsAnswerOf Δ bodies labelling u d t → Waited (Waits u) top d (stop_of f) (stops (h ∷ us)) → Goes Fine (come_back bodies t u)
+  resumed u d t f h us is_u answer waited =
+      let w = waited.waits in
+      let g : Stop = stop_of f in
+      let gs : List Stop = stops (h ∷ us) in
+      let n : ℕ = length gs in
+      let b : Body = w.in_body.body in
+      let k : Block = w.in_body.block in
+      let p : Place = w.place in
+      let both = labelled g.function b w.in_body.is_body in
+      let end_set : Locals = labelling g.function g.label (length k.statements) in
+      let set : Locals = all_taken w.operands end_set in
+      let inside : n ≡ 0 → ⊥ = λ e. omega (arith, e) in
+      let typed : EndIsTyped bodies b (Call p w.callee w.types w.operands w.next) = subst (EndIsTyped bodies b) w.is_call (both.0.ends g.label k w.in_body.is_block) in
+      let carries : Within (labelling g.function w.next 0) (with p.local set) =
+      subst (Carries (λ l. labelling g.function l 0) end_set) w.is_call ((move_rows g.function b w.in_body.is_body).edges g.label k w.in_body.is_block) in
+      let found = callee_found bodies w.callee typed.0.0 typed.0.2 in
+      let number : found.0 ≡ d = same_Some _ _ (sym found.1 ∙ w.is_callee) in
+      let same_body : answer.body ≡ typed.0.0 = same_Some _ _ (sym answer.is_body ∙ ap (slice_get bodies.bodies) (sym number) ∙ found.2) in
+      let ty : Ty = typed.0.1 in
+      let of_ty : HasType Δ u (instance no_tys ty) t =
+      subst (λ q. HasType Δ u (instance no_tys q) t) (answer_is typed.0.0.locals ty typed.0.4) (subst (λ x. HasType Δ u (answer_ty x no_tys) t) same_body answer.typed) in
+      let here : HasType Δ u (instance g.types ty) t = subst (λ θ. HasType Δ u (instance θ ty) t) (sym w.in_body.ground) of_ty in
+      let held : Held Δ b g.types n inside u set =
+      subst (Held Δ b g.types n inside u) (operands_done w.operands end_set) (subst (λ e. Held Δ b g.types n inside u (all_done (acts_of_end e) end_set)) w.is_call w.locals) in
+      let slot = held.slot p.local ty typed.0.5.1 in
+      let is_n : running u ≡ n = ap running is_u ∙ sym (stops_length (h ∷ us)) in
+      let (v, is_v, written) = write_then u n p t slot.0 (at_label w.next) (at_start w.next g ∷ gs) is_n typed.0.5.0 slot.1
+      (λ x stay. label_yields x w.next g gs (stay ∙ ap stops is_u)) in
+      let elsewhere : SameElsewhere n u v = written_elsewhere n refl written in
+      let runs : Runs v n (at_start w.next g) = record {
+        in_body = record { body = b; is_body = w.in_body.is_body; ground = w.in_body.ground; block = typed.1.0; is_block = typed.1.1 };
+        within = omega arith;
+        locals = held_within Δ b g.types n inside (labelling g.function w.next 0) (with p.local set) carries (held_set Δ b g.types n inside p.local ty written typed.0.5.1 here held);
+      } in
+      let row_is : come_back bodies t u ≡ Yields (Running v) = ap (come_back bodies t) is_u ∙ back-row bodies t f h us b k p w.callee w.types w.operands w.next w.in_body.is_body w.in_body.is_block w.is_call
+      ∙ ap (λ s. (write s p t >>= at_label w.next) >>= λ x. Yields (Running x)) (sym is_u) ∙ ap (λ (m : Try (State K)). m >>= λ x. Yields (Running x)) is_v in
+      subst (Goes Fine) (sym row_is)
+      (stand_typed v (at_start w.next g) gs written.stay runs (waiting_in n inside (omega arith) elsewhere (subst (λ c. Behind (Waits u) top c gs) (sym w.is_caller) waited.behind)))
+
+  back_goes : (u : State K) (d : ℕ) (t : Tree K) → IsAnswerOf Δ bodies labelling u d t → Behind (Waits u) top d (stops u) → Goes Fine (come_back bodies t u)
+  back_goes [] d t answer behind = absurd (behind_some behind refl)
+  back_goes (out ∷ []) d t answer behind = subst (λ m. IsAnswerOf Δ bodies labelling (out ∷ []) m t) (outside_is behind) answer
+  back_goes (f ∷ h ∷ us) d t answer behind = resumed (f ∷ h ∷ us) d t f h us refl answer (waits_are behind)
+
+  -- ---- a step of the first frame
+
+  module _ (f : Frame K) (fs : State K) (runs : Runs (f ∷ fs) (length (stops fs)) (stop_of f)) (behind : Behind (Waits (f ∷ fs)) top f.function (stops fs)) where
+    abbrev s : State K
+    s = f ∷ fs
+
+    abbrev g : Stop
+    g = stop_of f
+
+    abbrev gs : List Stop
+    gs = stops fs
+
+    abbrev n : ℕ
+    n = length gs
+
+    abbrev b : Body
+    b = runs.in_body.body
+
+    abbrev k : Block
+    k = runs.in_body.block
+
+    inside : n ≡ 0 → ⊥
+    inside e = behind_some behind e
+
+    is_n : running s ≡ n
+    is_n = sym (stops_length fs)
+
+    abbrev Hold : State K → Locals → Type 0
+    Hold u set = HoldsLocals Δ u n b g.types set
+
+    abbrev end_set : Locals
+    end_set = labelling f.function f.label (length k.statements)
+
+    typed_end : EndIsTyped bodies b k.end.kind
+    typed_end = (labelled f.function b runs.in_body.is_body).0.ends f.label k runs.in_body.is_block
+
+    -- the first frame goes on at a stop of its function
+    goes_on : (u : State K) (h : Stop) → h.function ≡ f.function → stops u ≡ h ∷ gs → SameElsewhere n s u → Runs u n h → Fine (Running u)
+    goes_on u h same stay elsewhere runs' =
+        stand_typed u h gs stay runs' (subst (λ m. Behind (Waits u) top m gs) (sym same) (waiting_in n inside (omega arith) elsewhere behind))
+
+    starts_at : (u : State K) (l : Label) (set : Locals) → HasBlock b l → Within (labelling f.function l 0) set → stops u ≡ at_start l g ∷ gs → SameElsewhere n s u → Hold u set → Fine (Running u)
+    starts_at u l set leads w stay elsewhere held = goes_on u (at_start l g) refl stay elsewhere (record {
+      in_body = record { body = b; is_body = runs.in_body.is_body; ground = runs.in_body.ground; block = leads.0; is_block = leads.1 };
+      within = omega arith;
+      locals = held_within Δ b g.types n inside (labelling f.function l 0) set w held;
+    })
+
+    -- with the same trees
+    hold_same : {u v : State K} {set : Locals} → SameTrees u v → Hold u set → Hold v set
+    hold_same same held = held_moved Δ (λ x. same (local_at n x)) (λ at e. same at) held
+
+    statement_goes : (st : Statement) → slice_get k.statements f.statement ≡ Some st → Goes Fine (statement_step b f.types s st.span st.kind >>= λ u. Yields (Running u))
+    statement_goes st e =
+        let rows = (move_rows f.function b runs.in_body.is_body).statements f.label k f.statement st runs.in_body.is_block e in
+        let set : Locals = labelling f.function f.label f.statement in
+        goes_then (Ran Δ b g.types n inside s set st.kind (at_next g ∷ gs)) Fine (statement_step b f.types s st.span st.kind) (λ u. Yields (Running u))
+        (run_goes Δ b g.types n inside s set st.span st.kind g gs is_n refl runs.locals ((labelled f.function b runs.in_body.is_body).0.statements f.label k f.statement st runs.in_body.is_block e) rows.0)
+        (λ u ran. goes_on u (at_next g) refl ran.stay ran.elsewhere (record {
+          in_body = record { body = b; is_body = runs.in_body.is_body; ground = runs.in_body.ground; block = k; is_block = runs.in_body.is_block };
+          within = omega (arith, slice_get_within k.statements f.statement st e);
+          locals = held_within Δ b g.types n inside (labelling f.function f.label (f.statement + 1)) (run st.kind set) rows.1 ran.held;
+        }))
+
+    abbrev Ends : TerminatorKind → Type 0
+    Ends end = Goes Fine (end_step code s end)
+
+    goto_goes : (l : Label) → Hold s end_set → EndIsTyped bodies b (Goto l) → Carries (λ m. labelling f.function m 0) end_set (Goto l) → Ends (Goto l)
+    goto_goes l held typed carries =
+        let (u, is_u, stay, same) = goto-row code s l g gs refl in
+        subst (Goes Fine) (sym is_u) (starts_at u l end_set typed carries stay (λ at d. same at) (hold_same same held))
+
+    if_goes : (o : Operand) (l r : Label) → Hold s end_set → EndIsTyped bodies b (If o l r) → CanEnd end_set (If o l r) → Carries (λ m. labelling f.function m 0) end_set (If o l r) → Ends (If o l r)
+    if_goes o l r held typed can carries = on_truth (has_shape takes.typed)
+      where
+        takes : Takes Δ b g.types n inside s end_set o bool
+        takes = take_yields Δ b g.types n inside s end_set o bool is_n held typed.0 can
+
+        leads : (c : Bool) → HasBlock b (cond c l r) × Within (labelling f.function (cond c l r) 0) (taken o end_set)
+        leads true = (typed.1, carries.0)
+        leads false = (typed.2, carries.1)
+
+        on_truth : Shape bool takes.tree → Ends (If o l r)
+        on_truth (there, (c, is)) =
+            let (u, is_u, stay, same) = if-row code s takes.after o c l r g gs (takes.yields ∙ ap (λ t. Yields (takes.after, t)) is) takes.took.stay in
+            let to = leads c in
+            subst (Goes Fine) (sym is_u) (starts_at u (cond c l r) (taken o end_set) to.0 to.1 stay (λ at d. same at ∙ takes.took.elsewhere at d) (hold_same same takes.held))
+
+    call_goes : (p : Place) (callee : Callee) (types : List Ty) (os : List Operand) (l : Label) → f.statement ≡ length k.statements → k.end.kind ≡ Call p callee types os l → Hold s end_set → EndIsTyped bodies b (Call p callee types os l)
+        → CanEnd end_set (Call p callee types os l) → Ends (Call p callee types os l)
+    call_goes p callee types os l is_last is held ((c, ty, is_c, have, first, place, as_many), to) can =
+        let (m, is_m, is_body) = callee_found bodies callee c is_c in
+        let takes = take_all_yields Δ b g.types n inside s end_set os (take c.params (drop 1 c.locals)) is_n held have can in
+        let u : State K = takes.after in
+        let h : Frame K = entered c m no_tys takes.trees in
+        let v : State K = h ∷ u in
+        let more : length u ≡ suc n = sym (stops_length u) ∙ ap length takes.stay in
+        let same : SameElsewhere (length u) u v = same_behind h u in
+        let other : length u ≡ 0 → ⊥ = λ e. omega (arith, more, e) in
+        let args : AreOf Δ v no_tys takes.trees (take c.params (drop 1 c.locals)) =
+        are_of_kept v (λ at e. same at (λ q. other (sym q ∙ e))) (subst (λ θ. AreOf Δ u θ takes.trees (take c.params (drop 1 c.locals))) runs.in_body.ground takes.typed) in
+        let both = labelled m c is_body in
+        let waiting : Waits v n g f.function m = record {
+          is_caller = refl;
+          in_body = runs.in_body;
+          is_last = is_last;
+          place = p;
+          callee = callee;
+          types = types;
+          operands = os;
+          next = l;
+          is_call = is;
+          is_callee = is_m;
+          locals = subst (λ e. Hold v (all_done (acts_of_end e) end_set)) (sym is) (subst (Hold v) (sym (operands_done os end_set))
+              (held_moved Δ (λ x. same (local_at n x) (λ e. omega (arith, more, e))) (λ at e. same at (λ q. other (sym q ∙ e))) takes.held));
+        } in
+        let begins : Runs v (suc n) (stop_of h) = record {
+          in_body = record { body = c; is_body = is_body; ground = refl; block = both.0.begins.0; is_block = both.0.begins.1 };
+          within = omega arith;
+          locals = held_moved Δ {s = v} (λ x. refl) (λ at e. refl) (subst (λ i. HoldsLocals Δ v i c no_tys (labelling m c.entry 0)) more
+              (let of_entry = entered_held Δ bodies c m no_tys takes.trees u both.0 args in record { slot = of_entry.slot; typed = λ x q t is_in. of_entry.typed x q t (both.1.entry x is_in) }));
+        } in
+        subst (Goes Fine) (sym (call-row code s u p callee types os l takes.trees m c takes.yields is_m is_body))
+        (stand_typed v (stop_of h) (g ∷ gs) (ap (λ ks. stop_of h ∷ ks) takes.stay) begins
+        (one_waits waiting (waiting_in (length u) other (omega (arith, more)) same (waiting_in n inside (omega arith) takes.elsewhere behind))))
+
+    return_goes : Hold s end_set → end_set 0 ≡ true → Ends Return
+    return_goes held can =
+        let answer = get_first b.locals 0 (omega (arith, (labelled f.function b runs.in_body.is_body).0.answers)) in
+        let (t, is_t, there, typed) = local_read Δ b g.types n inside s end_set 0 answer.0 held answer.1 can in
+        let same : SameElsewhere (length fs) s fs = λ at d. sym (same_behind f fs at d) in
+        let as_long : length fs ≡ n = is_n in
+        let other : length fs ≡ 0 → ⊥ = λ e. inside (sym as_long ∙ e) in
+        let typed_there : HasType Δ fs (answer_ty b no_tys) t =
+        subst (λ q. HasType Δ fs (instance no_tys q) t) (sym (answer_is b.locals answer.0 answer.1))
+        (has_type_kept fs (λ at e. same at (λ q. other (sym q ∙ e))) (subst (λ θ. HasType Δ s (instance θ answer.0) t) runs.in_body.ground typed)) in
+        subst (Goes Fine) (sym (return-row code f fs t (ap (λ i. tree_at s (local_at i 0)) as_long ∙ is_t) there))
+        (back_goes fs f.function t (record { body = b; is_body = runs.in_body.is_body; typed = typed_there }) (waiting_in (length fs) other (omega (arith, as_long)) same behind))
+
+    end_goes : f.statement ≡ length k.statements → (end : TerminatorKind) → k.end.kind ≡ end → Hold s end_set → EndIsTyped bodies b end → CanEnd end_set end → Carries (λ m. labelling f.function m 0) end_set end → Ends end
+    end_goes last (Goto l) is held typed can carries = goto_goes l held typed carries
+    end_goes last (If o l r) is held typed can carries = if_goes o l r held typed can carries
+    end_goes last (Call p callee types os l) is held typed can carries = call_goes p callee types os l last is held typed can
+    end_goes last Return is held typed can carries = return_goes held can
+
+    row_goes : (o : Option Statement) → slice_get k.statements f.statement ≡ o → Goes Fine (row code b f.types s k.end o)
+    row_goes (Some st) e = statement_goes st e
+    row_goes None e =
+        let rows = move_rows f.function b runs.in_body.is_body in
+        let last : f.statement ≡ length k.statements = omega (arith, get_past k.statements f.statement e, runs.within) in
+        end_goes last k.end.kind refl (subst (λ i. Hold s (labelling f.function f.label i)) last runs.locals) typed_end (rows.ends f.label k runs.in_body.is_block) (rows.edges f.label k runs.in_body.is_block)
+
+    pub first_goes : Goes Fine (try_step code s)
+    first_goes = subst (Goes Fine) (sym (step-row code f fs b k runs.in_body.is_body runs.in_body.is_block)) (row_goes (slice_get k.statements f.statement) refl)
+
+  -- ---- runs
+
+  of_goes : (m : Try (Outcome K)) → Goes Fine m → Fine (outcome_of m)
+  of_goes (Yields o) h = h
+  of_goes (Panics c s) h = tt
+  of_goes Sticks h = absurd h
+
+  step_typed : (s : State K) → Fine (Running s) → Fine (step code s)
+  step_typed [] h = absurd h
+  step_typed (f ∷ fs) h = of_goes (try_step code (f ∷ fs)) (first_goes f fs h.0 h.1)
+
+  next_typed : (o : Outcome K) → Fine o → Fine (next code o)
+  next_typed (Running s) h = step_typed s h
+  next_typed (Returned s t) h = h
+  next_typed (Panicked c s) h = tt
+  next_typed Stuck h = absurd h
+
+  pub run_typed : (n : ℕ) (o : Outcome K) → Fine o → Fine (after_from code n o)
+  run_typed zero o h = h
+  run_typed (suc n) o h = next_typed (after_from code n o) (run_typed n o h)
+
+-- ---- proper calls
+
+-- a proper call begins typed
+pub call_typed : {K : Type 0} (Θ : Theory) (code : Code K) (labelling : ℕ → Labelling) → AreLabelled code.program labelling → (f : ℕ) (θ : Tys) (args held : List (Tree K)) (b : Body) (met : List Met)
+    → IsProper Θ code.program f θ args held b met
+    → IsTypedRun (declared Θ) code.program labelling f (Running (called b f θ args held))
+call_typed {K} Θ code labelling labelled f θ args held b met proper =
+    let none : θ ≡ no_tys = no_types_for_none θ proper.ground in
+    let both = labelled f b proper.of in
+    let params : List Ty = take b.params (drop 1 b.locals) in
+    let of_args : AreOf (declared Θ) (called b f no_tys args held) no_tys args params =
+    subst (λ types. AreOf (declared Θ) (called b f types args held) types args params) none (typed_args (declared Θ) (called b f θ args held) θ args params met proper.typed proper.outer) in
+    let entry = entered_held (declared Θ) code.program b f no_tys args (outside held ∷ []) both.0 of_args in
+    subst (λ types. IsTypedRun (declared Θ) code.program labelling f (Running (called b f types args held))) (sym none) (
+      record {
+        in_body = record { body = b; is_body = proper.of; ground = refl; block = both.0.begins.0; is_block = both.0.begins.1 };
+        within = omega arith;
+        locals = record { slot = entry.slot; typed = λ x ty t is_in. entry.typed x ty t (both.1.entry x is_in) };
+      },
+      from_outside,
+    )
 
 -- what a proper call of typed, initialised bodies comes to
-pub call_alive : {K : Type 0} (Θ : Theory) (code : Code K) (sound : AreSound code.program) (f : ℕ) (θ : Tys) (args held : List (Tree K)) (b : Body) (met : List Met) → IsProper Θ code.program f θ args held b met → (n : ℕ) → Alive code.program sound f (after code n (called b f θ args held))
-call_alive Θ code sound f θ args held b met proper n =
+pub call_stays_typed : {K : Type 0} (Θ : Theory) (code : Code K) (labelling : ℕ → Labelling) → AreLabelled code.program labelling → (f : ℕ) (θ : Tys) (args held : List (Tree K)) (b : Body) (met : List Met)
+    → IsProper Θ code.program f θ args held b met
+    → (n : ℕ) → IsTypedRun (declared Θ) code.program labelling f (after code n (called b f θ args held))
+call_stays_typed Θ code labelling labelled f θ args held b met proper n =
     let start = Running (called b f θ args held) in
-    alive_after code sound f n start (start_alive Θ code.program sound f θ args held b met proper)
+    run_typed (declared Θ) code labelling labelled f n start (call_typed Θ code labelling labelled f θ args held b met proper)
 
-alive_free : {K : Type 0} (bodies : Bodies) (sound : AreSound bodies) (top : ℕ) (o : Outcome K) → Alive bodies sound top o → o ≡ Stuck → ⊥
-alive_free bodies sound top o h e = subst (Alive bodies sound top) e h
+typed_free : {K : Type 0} (Δ : Declarations) (bodies : Bodies) (labelling : ℕ → Labelling) (top : ℕ) (o : Outcome K) → IsTypedRun Δ bodies labelling top o → o ≡ Stuck → ⊥
+typed_free Δ bodies labelling top o h e = subst (IsTypedRun Δ bodies labelling top) e h
 
 -- it is never stuck
-pub never_stuck : {K : Type 0} (Θ : Theory) (code : Code K) → AreSound code.program → (f : ℕ) (θ : Tys) (args held : List (Tree K)) (b : Body) (met : List Met) → IsProper Θ code.program f θ args held b met → (n : ℕ) → after code n (called b f θ args held) ≡ Stuck → ⊥
+pub never_stuck : {K : Type 0} (Θ : Theory) (code : Code K) → AreSound code.program → (f : ℕ) (θ : Tys) (args held : List (Tree K)) (b : Body) (met : List Met) → IsProper Θ code.program f θ args held b met
+    → (n : ℕ) → after code n (called b f θ args held) ≡ Stuck → ⊥
 never_stuck Θ code sound f θ args held b met proper n =
-    alive_free code.program sound f (after code n (called b f θ args held)) (call_alive Θ code sound f θ args held b met proper n)
+    typed_free (declared Θ) code.program (labelling_of code.program sound) f (after code n (called b f θ args held)) (call_stays_typed Θ code (labelling_of code.program sound) (are_labelled code.program sound) f θ args held b met proper n)
 
-pub safe_call : (Θ : Theory) (bodies : Bodies) → AreSound bodies → (f : ℕ) (θ : Tys) (args held : List (Tree (Unit {0}))) (b : Body) (met : List Met) → IsProper Θ bodies f θ args held b met → IsSafe (record { bodies = bodies; outcome = Running (called b f θ args held) })
+pub safe_call : (Θ : Theory) (bodies : Bodies) → AreSound bodies → (f : ℕ) (θ : Tys) (args held : List (Tree (Unit {0}))) (b : Body) (met : List Met) → IsProper Θ bodies f θ args held b met
+    → IsSafe (record { bodies = bodies; outcome = Running (called b f θ args held) })
 safe_call Θ bodies sound f θ args held b met proper = never_stuck Θ (code_of bodies) sound f θ args held b met proper

@@ -64,7 +64,8 @@ old_made r q path rest n here c ts is is_path is_here h =
     subst (λ x. Comes x (tree_in path here) (λ t. t)) (sym is)
     (comes_along q (tree_in path here) (tree_in_list ts n rest) (λ t. t) (ap (λ p. tree_in p here) is_path ∙ ap (tree_in (n ∷ rest)) is_here ∙ tree_in_made c ts n rest) h)
 
-pub new_made : (r q : Result T Halt) (path rest : List ℕ) (n : ℕ) (u here there : T) (c : Ctor) (ts us : List T) → r ≡ q → path ≡ n ∷ rest → here ≡ Made c (trees_of ts) → there ≡ Made c (trees_of us) → Comes q (put_in_list ts n rest u) (λ _. us) → Comes r (put_in path u here) (λ _. there)
+pub new_made : (r q : Result T Halt) (path rest : List ℕ) (n : ℕ) (u here there : T) (c : Ctor) (ts us : List T) → r ≡ q → path ≡ n ∷ rest → here ≡ Made c (trees_of ts) → there ≡ Made c (trees_of us)
+    → Comes q (put_in_list ts n rest u) (λ _. us) → Comes r (put_in path u here) (λ _. there)
 new_made r q path rest n u here there c ts us is is_path is_here is_there h =
     subst (λ y. Comes y (put_in path u here) (λ _. there)) (sym is)
     (subst (λ x. Comes q (put_in path u here) (λ _. x)) (sym is_there)

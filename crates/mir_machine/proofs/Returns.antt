@@ -87,7 +87,8 @@ waits_row bodies f g xs ys w t u is some is_t is_u is_w =
     ended-row bodies f (reverse xs) t u is_t is_u ∙ ap (come_back bodies u) (last_first xs ys g is) ∙ behind_row bodies u g (reverse ys) (λ e. some (sym (length-reverse ys) ∙ e))
     ∙ ap (λ (m : Try Waiting). m >>= λ w. given (g ∷ reverse ys) w u >>= go_on) is_w ∙ ap (λ v. given (g ∷ reverse ys) w v >>= go_on) (sym (same_there t u is_u))
 
-pub leave_stops : (h : Halt) (bodies : Bodies) (f g : Frame (Unit {0})) (xs ys : S) (w : Waiting) (t u : T) → xs ≡ ys ++ g ∷ [] → (length ys ≡ 0 → ⊥) → need (slice_get f.locals 0) ≡ Yields t → is_there t ≡ Yields u → waiting bodies (g ∷ reverse ys) ≡ Yields w
+pub leave_stops : (h : Halt) (bodies : Bodies) (f g : Frame (Unit {0})) (xs ys : S) (w : Waiting) (t u : T) → xs ≡ ys ++ g ∷ [] → (length ys ≡ 0 → ⊥) → need (slice_get f.locals 0) ≡ Yields t → is_there t ≡ Yields u
+    → waiting bodies (g ∷ reverse ys) ≡ Yields w
     → Stops h (given (g ∷ reverse ys) w t) → Stops h (leave bodies (f ∷ reverse xs))
 leave_stops h bodies f g xs ys w t u is some is_t is_u is_w e =
     subst (Stops h) (sym (waits_row bodies f g xs ys w t u is some is_t is_u is_w)) (stops_then h (given (g ∷ reverse ys) w t) go_on e)

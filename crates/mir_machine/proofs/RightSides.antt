@@ -14,7 +14,6 @@ use Rattle.mir_ir.specs.declared.place.Place.{Place}
 use Rattle.mir_ir.specs.declared.place.Proj.{Proj}
 use Rattle.mir_ir.specs.declared.place.Operand.{Operand}
 use Rattle.mir_ir.specs.declared.statement.Rvalue.{Rvalue}
-use Rattle.mir_ir.specs.declared.statement.Rvalue.TheVariants.{Use, Binary, Neg, Not, Make}
 use Rattle.mir_machine.specs.declared.spot.Spot.{Spot}
 use Rattle.mir_machine.specs.declared.halt.Halt.{Halt}
 use Rattle.mir_machine.specs.declared.halt.Halt.TheVariants as halt
@@ -23,10 +22,11 @@ use Rattle.mir_machine.specs.Try.{Try, Yields, Panics, Sticks, ◌>>=◌, need}
 use Rattle.mir_machine.specs.Tree.{Tree, Int, Truth, Made, Boxed, Shared, Unique, Gone}
 use Rattle.mir_machine.specs.Frame.{State}
 use Rattle.mir_machine.specs.Memory.{spot_of, put_at, write}
-use Rattle.mir_machine.specs.Step.{operand, operands, rvalue, binary, negated, inverted, truth_of, at_label, past, statement_step}
+use Rattle.mir_machine.specs.Step.{operand, operands, rvalue, binary, negated, truth_of, at_label, past, statement_step}
 use Rattle.mir_machine.specs.ScalarView.{scalar}
 use Rattle.mir_machine.specs.Taken.{take_one, take_more, operands_of, value_of, assigned, changed, branched}
 use Rattle.mir_machine.proofs.Coming.{stops_then}
+use Rattle.mir_machine.proofs.OperandsFirst.{rvalue-row}
 use Rattle.mir_machine.proofs.Undoing.{yields_same}
 use Rattle.mir_machine.proofs.Tried.{then_then, then_same}
 
@@ -215,37 +215,6 @@ on_truth r x x' is_x h = subst (λ w. Comes r (truth_of w) (λ b. b)) (sym (same
 
 -- ---- right sides
 
-single_row : (m : Try One) (f : T → Try T) → (m >>= λ r. f r.1 >>= beside r.0) ≡ ((m >>= single) >>= λ q. (need (slice_get q.1 0) >>= f) >>= beside q.0)
-single_row (Yields r) f = refl
-single_row (Panics c p) f = refl
-single_row Sticks f = refl
-
-use_row : (m : Try One) → m ≡ ((m >>= single) >>= λ q. need (slice_get q.1 0) >>= beside q.0)
-use_row (Yields r) = refl
-use_row (Panics c p) = refl
-use_row Sticks = refl
-
-abbrev both : (T → T → Try T) → Several → Try T
-both f q = need (slice_get q.1 0) >>= λ v. need (slice_get q.1 1) >>= f v
-
-second_row : (n : Try One) (x : T) (f : T → T → Try T) → (n >>= λ q. f x q.1 >>= beside q.0) ≡ (((n >>= single) >>= behind x) >>= λ q. both f q >>= beside q.0)
-second_row (Yields r) x f = refl
-second_row (Panics c p) x f = refl
-second_row Sticks x f = refl
-
-pair_row : (m : Try One) (k : S → Try One) (f : T → T → Try T) → (m >>= λ r. k r.0 >>= λ q. f r.1 q.1 >>= beside q.0) ≡ ((m >>= λ r. (k r.0 >>= single) >>= behind r.1) >>= λ q. both f q >>= beside q.0)
-pair_row (Yields r) k f = second_row (k r.0) r.1 f
-pair_row (Panics c p) k f = refl
-pair_row Sticks k f = refl
-
--- a right side takes its operands, and makes its value of their trees
-pub rvalue-row : (s : S) (kind : Option IntKind) (span : Span) (r : Rvalue) → rvalue s kind span r ≡ (operands s (operands_of r) >>= λ q. value_of kind span r q.1 >>= beside q.0)
-rvalue-row s kind span (Use o) = use_row (operand s o)
-rvalue-row s kind span (Binary op a b) = pair_row (operand s a) (λ s₁. operand s₁ b) (binary kind span op)
-rvalue-row s kind span (Neg o) = single_row (operand s o) (negated kind span)
-rvalue-row s kind span (Not o) = single_row (operand s o) inverted
-rvalue-row s kind span (Make c os) = refl
-
 from_none : (m : Try Several) → (m >>= front []) ≡ m
 from_none (Yields r) = refl
 from_none (Panics c p) = refl
@@ -271,22 +240,27 @@ operands_stop h s ts kind span r p none e = subst (Stops h) (sym (assigned-row s
 assigned-taken : (s s₁ : S) (ts us : List T) (kind : Option IntKind) (span : Span) (r : Rvalue) (p : Place) → ts ≡ [] → take_more s ts (operands_of r) ≡ Yields (s₁, us) → assigned s kind span r p ≡ finish kind span r p (s₁, us)
 assigned-taken s s₁ ts us kind span r p none e = assigned-row s kind span r p ∙ ap (λ (m : Try Several). m >>= finish kind span r p) (sym (taken_first s ts (operands_of r) none) ∙ e)
 
-pub value_stops : (h : Halt) (s s₁ : S) (ts us : List T) (kind : Option IntKind) (span : Span) (r : Rvalue) (p : Place) → ts ≡ [] → take_more s ts (operands_of r) ≡ Yields (s₁, us) → Stops h (value_of kind span r us) → Stops h (assigned s kind span r p)
+pub value_stops : (h : Halt) (s s₁ : S) (ts us : List T) (kind : Option IntKind) (span : Span) (r : Rvalue) (p : Place) → ts ≡ [] → take_more s ts (operands_of r) ≡ Yields (s₁, us) → Stops h (value_of kind span r us)
+    → Stops h (assigned s kind span r p)
 value_stops h s s₁ ts us kind span r p none e stops = subst (Stops h) (sym (assigned-taken s s₁ ts us kind span r p none e)) (stops_then h (value_of kind span r us) (λ t. write s₁ p t) stops)
 
-assigned-at : (s s₁ : S) (ts us : List T) (t : T) (at : Spot) (kind : Option IntKind) (span : Span) (r : Rvalue) (p : Place) → ts ≡ [] → take_more s ts (operands_of r) ≡ Yields (s₁, us) → value_of kind span r us ≡ Yields t → spot_of s₁ p ≡ Yields at → assigned s kind span r p ≡ put_at s₁ at t
+assigned-at : (s s₁ : S) (ts us : List T) (t : T) (at : Spot) (kind : Option IntKind) (span : Span) (r : Rvalue) (p : Place) → ts ≡ [] → take_more s ts (operands_of r) ≡ Yields (s₁, us) → value_of kind span r us ≡ Yields t
+    → spot_of s₁ p ≡ Yields at → assigned s kind span r p ≡ put_at s₁ at t
 assigned-at s s₁ ts us t at kind span r p none e is_t is_at =
     assigned-taken s s₁ ts us kind span r p none e ∙ ap (λ (m : Try T). m >>= λ t. write s₁ p t) is_t ∙ ap (λ (m : Try Spot). m >>= λ at. put_at s₁ at t) is_at
 
-pub put_stops : (h : Halt) (s s₁ : S) (ts us : List T) (t : T) (at : Spot) (kind : Option IntKind) (span : Span) (r : Rvalue) (p : Place) → ts ≡ [] → take_more s ts (operands_of r) ≡ Yields (s₁, us) → value_of kind span r us ≡ Yields t → spot_of s₁ p ≡ Yields at
+pub put_stops : (h : Halt) (s s₁ : S) (ts us : List T) (t : T) (at : Spot) (kind : Option IntKind) (span : Span) (r : Rvalue) (p : Place) → ts ≡ [] → take_more s ts (operands_of r) ≡ Yields (s₁, us) → value_of kind span r us ≡ Yields t
+    → spot_of s₁ p ≡ Yields at
     → Stops h (put_at s₁ at t) → Stops h (assigned s kind span r p)
 put_stops h s s₁ ts us t at kind span r p none e is_t is_at stops = subst (Stops h) (sym (assigned-at s s₁ ts us t at kind span r p none e is_t is_at)) stops
 
-pub put_goes : (s s₁ s' : S) (ts us : List T) (t : T) (at : Spot) (kind : Option IntKind) (span : Span) (r : Rvalue) (p : Place) → ts ≡ [] → take_more s ts (operands_of r) ≡ Yields (s₁, us) → value_of kind span r us ≡ Yields t → spot_of s₁ p ≡ Yields at
+pub put_goes : (s s₁ s' : S) (ts us : List T) (t : T) (at : Spot) (kind : Option IntKind) (span : Span) (r : Rvalue) (p : Place) → ts ≡ [] → take_more s ts (operands_of r) ≡ Yields (s₁, us) → value_of kind span r us ≡ Yields t
+    → spot_of s₁ p ≡ Yields at
     → put_at s₁ at t ≡ Yields s' → assigned s kind span r p ≡ Yields s'
 put_goes s s₁ s' ts us t at kind span r p none e is_t is_at goes = assigned-at s s₁ ts us t at kind span r p none e is_t is_at ∙ goes
 
-pub written_stops : (h : Halt) (s s₁ : S) (ts us : List T) (t : T) (kind : Option IntKind) (span : Span) (r : Rvalue) (p : Place) → ts ≡ [] → take_more s ts (operands_of r) ≡ Yields (s₁, us) → value_of kind span r us ≡ Yields t → Stops h (spot_of s₁ p) → Stops h (assigned s kind span r p)
+pub written_stops : (h : Halt) (s s₁ : S) (ts us : List T) (t : T) (kind : Option IntKind) (span : Span) (r : Rvalue) (p : Place) → ts ≡ [] → take_more s ts (operands_of r) ≡ Yields (s₁, us) → value_of kind span r us ≡ Yields t
+    → Stops h (spot_of s₁ p) → Stops h (assigned s kind span r p)
 written_stops h s s₁ ts us t kind span r p none e is_t stops =
     subst (Stops h) (sym (assigned-taken s s₁ ts us kind span r p none e ∙ ap (λ (m : Try T). m >>= λ t. write s₁ p t) is_t)) (stops_then h (spot_of s₁ p) (λ at. put_at s₁ at t) stops)
 
@@ -328,12 +302,14 @@ pub branch_gone : (h : Halt) (s s₁ : S) (ts us : List T) (o : Operand) (on_tru
 branch_gone h s s₁ ts us o on_true on_false none e stops =
     subst (Stops h) (sym (branch_known s s₁ ts us o on_true on_false none e)) (stops_then h (need (slice_get us 0)) (λ t. chosen on_true on_false (s₁, t)) stops)
 
-pub branch_untrue : (h : Halt) (s s₁ : S) (ts us : List T) (t : T) (o : Operand) (on_true on_false : Label) → ts ≡ [] → take_one s ts o ≡ Yields (s₁, us) → need (slice_get us 0) ≡ Yields t → Stops h (truth_of t) → Stops h (branched s o on_true on_false)
+pub branch_untrue : (h : Halt) (s s₁ : S) (ts us : List T) (t : T) (o : Operand) (on_true on_false : Label) → ts ≡ [] → take_one s ts o ≡ Yields (s₁, us) → need (slice_get us 0) ≡ Yields t → Stops h (truth_of t)
+    → Stops h (branched s o on_true on_false)
 branch_untrue h s s₁ ts us t o on_true on_false none e is_t stops =
     subst (Stops h) (sym (branch_known s s₁ ts us o on_true on_false none e ∙ ap (λ (m : Try T). m >>= λ t. chosen on_true on_false (s₁, t)) is_t))
     (stops_then h (truth_of t) (λ b. at_label (cond b on_true on_false) s₁) stops)
 
-pub branch_goes : (s s₁ s' : S) (ts us : List T) (t : T) (b : Bool) (o : Operand) (on_true on_false to : Label) → ts ≡ [] → take_one s ts o ≡ Yields (s₁, us) → need (slice_get us 0) ≡ Yields t → truth_of t ≡ Yields b → to ≡ cond b on_true on_false → at_label to s₁ ≡ Yields s'
+pub branch_goes : (s s₁ s' : S) (ts us : List T) (t : T) (b : Bool) (o : Operand) (on_true on_false to : Label) → ts ≡ [] → take_one s ts o ≡ Yields (s₁, us) → need (slice_get us 0) ≡ Yields t → truth_of t ≡ Yields b
+    → to ≡ cond b on_true on_false → at_label to s₁ ≡ Yields s'
     → branched s o on_true on_false ≡ Yields s'
 branch_goes s s₁ s' ts us t b o on_true on_false to none e is_t is_b is_to goes =
     branch_known s s₁ ts us o on_true on_false none e ∙ ap (λ (m : Try T). m >>= λ t. chosen on_true on_false (s₁, t)) is_t

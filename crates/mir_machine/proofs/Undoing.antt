@@ -42,7 +42,7 @@ set_set no_trees n y d e = refl
 set_set (and_tree t ts) zero y d e = ap (λ u. and_tree u ts) (cc)
 set_set (and_tree t ts) (suc n) y d e = ap (and_tree t) (set_set ts n y d e)
 
-child_set : {K : Type 0} (x : Tree K) (n : ℕ) (y d : Tree K) → child x n ≡ Yields y → child (with_child x n d) n ≡ Yields d
+pub child_set : {K : Type 0} (x : Tree K) (n : ℕ) (y d : Tree K) → child x n ≡ Yields y → child (with_child x n d) n ≡ Yields d
 child_set (Made c ts) n y d e = ap need (nth_set ts n y d (needed (nth_tree ts n) y e))
 child_set (Boxed t) zero y d e = refl
 child_set (Boxed t) (suc n) y d e = absurd (cc)
@@ -81,7 +81,7 @@ put_in-back {K} (n ∷ path) u x x' t e h =
 
 -- ---- lists and frames
 
-get_set : {A : Type 0} (xs : List A) (i : ℕ) (x y : A) → slice_get xs i ≡ Some x → slice_get (slice_set xs i y) i ≡ Some y
+pub get_set : {A : Type 0} (xs : List A) (i : ℕ) (x y : A) → slice_get xs i ≡ Some x → slice_get (slice_set xs i y) i ≡ Some y
 get_set [] i x y e = absurd (cc)
 get_set (z ∷ xs) zero x y e = refl
 get_set (z ∷ xs) (suc i) x y e = get_set xs i x y e
@@ -99,7 +99,7 @@ set_frame-length {K} (f ∷ fs) n g = by (n == length fs) (set_frame-length fs n
     by true rest = refl
     by false rest = omega arith
 
-frame_at-set : {K : Type 0} (s : State K) (n : ℕ) (f g : Frame K) → frame_at s n ≡ Yields f → frame_at (set_frame s n g) n ≡ Yields g
+pub frame_at-set : {K : Type 0} (s : State K) (n : ℕ) (f g : Frame K) → frame_at s n ≡ Yields f → frame_at (set_frame s n g) n ≡ Yields g
 frame_at-set [] n f g e = absurd (cc)
 frame_at-set {K} (h ∷ fs) n f g e = elim (eqb_tells n (length fs)) [
   | inl (is, same) ↦ ap (λ b. frame_at (cond b (g ∷ fs) (h ∷ set_frame fs n g)) n) is ∙ ap (λ b. cond b (Yields g) (frame_at fs n)) is
@@ -236,7 +236,8 @@ undone-start taken ts s s₀ n is_n is_ts h = (
 )
 
 -- where the spot and the tree that are taken off the ends go back
-pub undone-next : (ls ls' : List (Option Spot)) (ts ts' : List T) (l : Option Spot) (r : Option T) (s s' s₀ : S) → ls ≡ ls' ++ l ∷ [] → ts ≡ ts' ++ option_to_list r → (0 < length ts → IsSome r) → ((t : T) (q : S) → r ≡ Some t → put_back s l t ≡ Yields q → s' ≡ q)
+pub undone-next : (ls ls' : List (Option Spot)) (ts ts' : List T) (l : Option Spot) (r : Option T) (s s' s₀ : S) → ls ≡ ls' ++ l ∷ [] → ts ≡ ts' ++ option_to_list r → (0 < length ts → IsSome r) → ((t : T) (q : S) → r ≡ Some t
+    → put_back s l t ≡ Yields q → s' ≡ q)
     → (length ls ≡ length ts) × (undone ls ts s ≡ Yields s₀) → (length ls' ≡ length ts') × (undone ls' ts' s' ≡ Yields s₀)
 undone-next ls ls' ts ts' l None s s' s₀ is_ls is_ts some after h = absurd (false≢true (some (omega (arith, h.0, ap length is_ls, length-append ls' (l ∷ [])))))
 undone-next ls ls' ts ts' l (Some t) s s' s₀ is_ls is_ts some after h =
@@ -261,7 +262,8 @@ same_there (Shared at) u e = yields_same (Shared at) u e
 same_there (Unique k at) u e = yields_same (Unique k at) u e
 same_there Gone u e = absurd (cc)
 
-pub moved : (s s' : S) (p : Place) (at : Spot) (t u v : T) (ts us : List T) → spot_of s p ≡ Yields at → tree_at s at ≡ Yields t → is_there t ≡ Yields u → tree_at s at ≡ Yields v → put_at s at Gone ≡ Yields s' → us ≡ ts ++ v ∷ [] → take_one s ts (Move p) ≡ Yields (s', us)
+pub moved : (s s' : S) (p : Place) (at : Spot) (t u v : T) (ts us : List T) → spot_of s p ≡ Yields at → tree_at s at ≡ Yields t → is_there t ≡ Yields u → tree_at s at ≡ Yields v → put_at s at Gone ≡ Yields s' → us ≡ ts ++ v ∷ []
+    → take_one s ts (Move p) ≡ Yields (s', us)
 moved s s' p at t u v ts us is_at is_t is_u is_v is_s' is_us =
     let same : u ≡ v = sym (same_there t u is_u) ∙ yields_same t v (sym is_t ∙ is_v) in
     let found : read s p ≡ Yields v = ap (λ (m : Try Spot). m >>= λ a. tree_at s a >>= is_there) is_at ∙ ap (λ (m : Try T). m >>= is_there) is_t ∙ is_u ∙ ap Yields same in

@@ -4,6 +4,7 @@ pub mod Frame
 pub mod FrameCode
 pub mod Good
 pub mod Halt
+pub mod Invariant
 pub mod Laws
 pub mod Memory
 pub mod Places

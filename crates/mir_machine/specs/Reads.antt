@@ -31,4 +31,5 @@ mutual
   -- the children from number n on
   pub data ReadsAll {K : Type 0} (gaps : Bool) (s : State K) (final : K → Spot → Value) (lent : View K → Spot → Option Value) : View K → Spot → ℕ → Trees K → Values → Type 0 where
     of_none : {w : View K} {at : Spot} {n : ℕ} → ReadsAll gaps s final lent w at n no_trees no_values
-    of_more : {w : View K} {at : Spot} {n : ℕ} {t : Tree K} {ts : Trees K} {v : Value} {vs : Values} → Reads gaps s final lent w (down at n) t v → ReadsAll gaps s final lent w at (suc n) ts vs → ReadsAll gaps s final lent w at n (and_tree t ts) (and_value v vs)
+    of_more : {w : View K} {at : Spot} {n : ℕ} {t : Tree K} {ts : Trees K} {v : Value} {vs : Values} → Reads gaps s final lent w (down at n) t v → ReadsAll gaps s final lent w at (suc n) ts vs
+        → ReadsAll gaps s final lent w at n (and_tree t ts) (and_value v vs)

@@ -19,7 +19,10 @@ use Rattle.mir_machine.specs.Tree.{Tree, Gone}
 use Rattle.mir_machine.specs.Frame.{Frame, State}
 use Rattle.mir_machine.specs.Step.{entered}
 use Rattle.mir_machine.specs.Good.{Each, named}
-use Rattle.mir_machine.proofs.NeverStuck.{AreShaped, typed_args, fits_within, entered_fits}
+use Rattle.mir_machine.specs.Invariant.{stop_of}
+use Rattle.mir_machine.proofs.Stacks.{typed_args, entered_held}
+use Rattle.mir_machine.proofs.TypedRows.{AreOf}
+use Rattle.mir_machine.proofs.Writes.{first_local, needed}
 use Rattle.prophecy_logic.specs.declared.goal.Goal.{Goal}
 use Rattle.prophecy_logic.specs.Command.{MovesAll}
 use Rattle.prophecy_logic.specs.Row.{name_of}
@@ -31,14 +34,14 @@ use Rattle.prophecy_logic.proofs.Prefixes.{goals_are_seen_before}
 use Rattle.prophecy_sim.specs.Programs.{HasTrueObligations}
 use Rattle.prophecy_sim.proofs.Lists.{get_append, get_first}
 use Rattle.prophecy_sim.proofs.Setup.{Setup, FunctionOf, S, bodies, declarations, own, walked, local_named, scalar_params}
-use Rattle.prophecy_sim.proofs.Scalars.{Shows, AllShow, all_shown, shaped_sort}
+use Rattle.prophecy_sim.proofs.Scalars.{Shows, AreShaped, are_shaped, AllShow, all_shown, shaped_sort}
 use Rattle.prophecy_sim.proofs.Arguments.{argument_shows}
 use Rattle.prophecy_sim.proofs.Operands.{Agree, agree_within}
 use Rattle.prophecy_sim.proofs.Entries.{AreSorted, parameters_move, assumed_move, Stored, stored_move}
 use Rattle.prophecy_sim.proofs.Memories.{Reached, onward, none_around}
 use Rattle.prophecy_sim.proofs.Standing.{Standing, Coming, arrived}
 use Rattle.prophecy_sim.proofs.Waits.{params_length}
-use Rattle.prophecy_sim.proofs.Ends.{Begun}
+use Rattle.prophecy_sim.proofs.Ends.{Begun, with_call}
 
 and_right : (p q : Bool) → (p && q) ≡ true → q ≡ true
 and_right true q e = e
@@ -88,7 +91,7 @@ module _ {K : Type 0} (s : Setup K) (f : FunctionOf s) (proved : HasTrueObligati
 
   -- ---- the entry
 
-  module _ (args : List (Tree K)) (count : length args ≡ length param_list) (shaped : AreShaped no_tys args param_list) (values : Values) (shows : AllShow args values)
+  module _ (args : List (Tree K)) (count : length args ≡ length param_list) (shaped : AreShaped args param_list) (values : Values) (shows : AllShow args values)
       (pre : Each (λ t. Holds (S s) t (named c.params values)) c.pre) where
     abbrev ρ₀ : Env
     ρ₀ = named c.params values
@@ -125,12 +128,12 @@ module _ {K : Type 0} (s : Setup K) (f : FunctionOf s) (proved : HasTrueObligati
     abbrev at_entry : Frame K
     at_entry = entered b f.number no_tys args
 
-    entry_agrees : Agree b (parameter_locals b) at_entry.locals set.env
-    entry_agrees zero ty t inside is_ty is_t = absurd (no inside)
+    entry_shows : (x : ℕ) (ty : Ty) (t : Tree K) → (parameter_locals b) x ≡ true → slice_get b.locals x ≡ Some ty → slice_get at_entry.locals x ≡ Some t → Shows t (set.env (name_of b x))
+    entry_shows zero ty t inside is_ty is_t = absurd (no inside)
       where
         no : (parameter_locals b) 0 ≡ true → ⊥
         no q = cc
-    entry_agrees (suc i) ty t inside is_ty is_t =
+    entry_shows (suc i) ty t inside is_ty is_t =
         let below : i < b.params = is_below inside in
         let x = get_first c.params i (omega (arith, below, (own s f).speaks.count)) in
         let u = get_first args i (omega (arith, below, count, params_length b (own s f).typed.answers)) in
@@ -144,28 +147,37 @@ module _ {K : Type 0} (s : Setup K) (f : FunctionOf s) (proved : HasTrueObligati
         is_below : (parameter_locals b) (suc i) ≡ true → i < b.params
         is_below q = let h = ltb-true (suc i) (b.params + 1) (and_right (nat_lt 0 (suc i)) (nat_lt (suc i) (b.params + 1)) q) in omega arith
 
-    comes : Coming s f ρ₀ [] b.entry at_entry.locals
-    comes = record {
-      fitting = fits_within b no_tys (initialised b.entry 0) (parameter_locals b) at_entry.locals (own s f).moves.entry
-          (entered_fits (bodies s) b f.number no_tys args (own s f).typed (count, shaped));
-      env = set.env;
-      agrees = agree_within b (initialised b.entry 0) (parameter_locals b) at_entry.locals set.env (own s f).moves.entry entry_agrees;
-      keeps = λ n out. set.kept n (λ j l q. out.0 (1 + j) (name_of b (1 + j)) (name_at (1 + j) (room j l)) q) ∙ given.2 n;
-      came = record { commands = entry_commands b c; prefix = entry; moves = enters };
-    }
+    module _ (u : State K) (of_args : AreOf (declarations s) (with_call s f args u) no_tys args param_list) where
+      abbrev st : State K
+      st = with_call s f args u
 
-    way : Reached s f ρ₀ (initialised b.entry 0) comes.env [] b.entry
-    unfolding comes
-    way = onward (own s f).simple.laid_out.entry [] (own s f).simple.laid_out.is_entry (own s f).simple.laid_out.at_entry none_around (λ h a. a) (λ h a. absurd (cc)) (λ a. absurd (cc))
+      entry_agrees : Agree b st (length u) (parameter_locals b) set.env
+      entry_agrees x ty t inside is_ty is_t = entry_shows x ty t inside is_ty (needed (slice_get at_entry.locals x) t (sym (first_local at_entry u x) ∙ is_t))
 
-    entry_stands : (st : State K) (frame : ℕ) → Standing s f ρ₀ st frame at_entry
-    unfolding comes
-    entry_stands st frame = arrived s f ρ₀ proved.are.arrives st frame at_entry at_entry.locals refl refl comes way goals_there
+      comes : Coming s f ρ₀ [] b.entry st (length u)
+      comes = record {
+        held = let entry = entered_held (declarations s) (bodies s) b f.number no_tys args u (own s f).typed of_args in
+            record { slot = entry.slot; typed = λ x ty t inside. entry.typed x ty t ((own s f).moves.entry x inside) };
+        env = set.env;
+        agrees = agree_within b (initialised b.entry 0) (parameter_locals b) st (length u) set.env (own s f).moves.entry entry_agrees;
+        keeps = λ n out. set.kept n (λ j l q. out.0 (1 + j) (name_of b (1 + j)) (name_at (1 + j) (room j l)) q) ∙ given.2 n;
+        came = record { commands = entry_commands b c; prefix = entry; moves = enters };
+      }
 
-  -- a frame that begins a call whose `requires` are true stands
-  pub begins : (ρ : Env) (g : Frame K) (st : State K) → Begun s st f ρ g → (frame : ℕ) → Standing s f ρ st frame g
-  begins ρ g st begun frame =
-      let shaped = typed_args (declarations s) st no_tys begun.args param_list [] begun.typed in
+      way : Reached s f ρ₀ (initialised b.entry 0) comes.env [] b.entry
+      unfolding comes
+      way = onward (own s f).simple.laid_out.entry [] (own s f).simple.laid_out.is_entry (own s f).simple.laid_out.at_entry none_around (λ h a. a) (λ h a. absurd (cc)) (λ a. absurd (cc))
+
+      entry_stands : Standing s f ρ₀ st (length u) (stop_of at_entry)
+      unfolding comes
+      entry_stands = arrived s f ρ₀ proved.are.arrives st (length u) (stop_of at_entry) refl refl comes way goals_there
+
+  -- the frame of a call that begins stands, where its `requires` are true
+  pub begins : (ρ : Env) (args : List (Tree K)) (u : State K) → Begun s (with_call s f args u) f ρ args → Standing s f ρ (with_call s f args u) (length u) (stop_of (entered b f.number no_tys args))
+  begins ρ args u begun =
+      let st : State K = with_call s f args u in
+      let of_args : AreOf (declarations s) st no_tys args param_list = typed_args (declarations s) st no_tys args param_list [] begun.typed tt in
+      let shaped = are_shaped of_args in
       let pre = subst (λ σ. Each (λ t. Holds (S s) t σ) c.pre) begun.is_env begun.pre in
-      let stands = entry_stands begun.args shaped.0 shaped.1 begun.values (all_shown begun.args param_list shaped.0 shaped.1 (scalar_params s f) begun.reads) pre st frame in
-      subst (λ σ. Standing s f σ st frame g) (sym begun.is_env) (subst (Standing s f (named c.params begun.values) st frame) (sym begun.is_frame) stands)
+      subst (λ σ. Standing s f σ st (length u) (stop_of (entered b f.number no_tys args))) (sym begun.is_env)
+      (entry_stands args shaped.0 shaped.1 begun.values (all_shown args param_list shaped.0 shaped.1 (scalar_params s f) begun.reads) pre u of_args)

@@ -1,5 +1,5 @@
 -- A call: the frame waits at it, and the callee's frame begins as the callee's contract says.
-use Rattle.std.proofs.Common.{◌≡◌, ◌∙◌, refl, sym, subst, ℕ, false, List, [], ◌∷◌, ◌++◌, length, drop, take, map, Option, Some, slice_get}
+use Rattle.std.proofs.Common.{◌≡◌, ◌∙◌, refl, sym, ap, subst, ℕ, suc, arith, false, List, [], ◌∷◌, ◌++◌, length, drop, take, map, Some, slice_get}
 use Rattle.std.proofs.lemmas.Option.{same_Some}
 use Rattle.text_core.specs.declared.name.Name.{Name}
 use Rattle.text_core.specs.declared.refusal.Kind.TheVariants.{Requires}
@@ -24,11 +24,13 @@ use Rattle.mir_machine.specs.Tree.{Tree}
 use Rattle.mir_machine.specs.Frame.{Frame, State}
 use Rattle.mir_machine.specs.Good.{Each, named, here}
 use Rattle.mir_machine.specs.Reads.{Plain}
-use Rattle.mir_machine.specs.Step.{callee_frame, entered}
-use Rattle.mir_machine.specs.Try.{Yields, ◌>>=◌, need}
-use Rattle.mir_machine.proofs.Locals.{take_operands, FrameEnd, Calls, frame_end}
-use Rattle.mir_machine.proofs.NeverStuck.{Fits, AreShaped, AreArguments, operands_go}
-use Rattle.mir_machine.proofs.Tried.{Quiet, quiet_then, quiet_both}
+use Rattle.mir_machine.specs.Step.{Outcome, entered, end_step}
+use Rattle.mir_machine.specs.Invariant.{Stop, stop_of, stops, local_at}
+use Rattle.mir_machine.proofs.EndRows.{call-row}
+use Rattle.mir_machine.proofs.Stacks.{held_moved}
+use Rattle.mir_machine.proofs.TypedRows.{take_all_yields}
+use Rattle.mir_machine.proofs.Tried.{Quiet}
+use Rattle.mir_machine.proofs.Writes.{same_behind, stops_length}
 use Rattle.prophecy_logic.specs.declared.goal.Goal.{Goal}
 use Rattle.prophecy_logic.specs.Row.{operand_term}
 use Rattle.prophecy_logic.specs.Graph.{Arrives}
@@ -37,19 +39,29 @@ use Rattle.prophecy_logic.specs.Walk.{seen_before, at_arguments, goals_of_call, 
 use Rattle.prophecy_logic.proofs.Commands.{GoalsHold, goals_first, goals_rest}
 use Rattle.prophecy_sim.proofs.Lists.{found_block, each_of}
 use Rattle.prophecy_sim.proofs.Setup.{Setup, FunctionOf, move_rows, S, bodies, declarations, own, walked, scalar_params, OverParams}
-use Rattle.prophecy_sim.proofs.Scalars.{AllShow, all_read, all_typed}
-use Rattle.prophecy_sim.proofs.Operands.{operand_values, all_taken_before, Agree, LeavesAll, take_all_shows}
+use Rattle.prophecy_sim.proofs.Scalars.{AreShaped, are_shaped, AllShow, all_read, all_typed}
+use Rattle.prophecy_sim.proofs.Operands.{operand_values, all_taken_before, Agree, agree_moved, took_all_agree, took_all_show}
 use Rattle.prophecy_sim.proofs.Calls.{overlay, overlay_named, AsMany, as_many, as_many_operands, with_terms_mean, all_hold, all_exactly}
 use Rattle.prophecy_sim.proofs.Memories.{AreBehind, Came, Memories, memories_kept}
 use Rattle.prophecy_logic.specs.Walkable.{AllAmong}
-use Rattle.prophecy_sim.proofs.Stands.{they_stand}
+use Rattle.prophecy_sim.proofs.Stands.{Holding, they_stand}
 use Rattle.prophecy_sim.proofs.Standing.{point_of, Standing}
-use Rattle.prophecy_sim.proofs.Ends.{CallsFine, EndsFine}
+use Rattle.prophecy_sim.proofs.Ends.{with_call, CallsFine, Continues}
 use Rattle.prophecy_sim.proofs.Waits.{params_length}
 
-module _ {K : Type 0} (s : Setup K) (f : FunctionOf s) (ρ₀ : Env) (fs : State K) (g : Frame K) (st : Standing s f ρ₀ (g ∷ fs) (length fs) g) where
+module _ {K : Type 0} (s : Setup K) (f : FunctionOf s) (ρ₀ : Env) (fr : Frame K) (fs : State K) (inside : length (stops fs) ≡ 0 → ⊥) (st : Standing s f ρ₀ (fr ∷ fs) (length (stops fs)) (stop_of fr))
+    (Fine : Outcome K → Type 0) (continues : Continues s f ρ₀ Fine fr fs) where
   abbrev b : Body
   b = f.body
+
+  abbrev now : State K
+  now = fr ∷ fs
+
+  abbrev g : Stop
+  g = stop_of fr
+
+  abbrev frame : ℕ
+  frame = length (stops fs)
 
   abbrev initialised : Labelling
   initialised = s.labelling f.number
@@ -60,15 +72,12 @@ module _ {K : Type 0} (s : Setup K) (f : FunctionOf s) (ρ₀ : Env) (fs : State
   abbrev end_set : Locals
   end_set = initialised g.label (length st.block.statements)
 
-  abbrev EndsWell : FrameEnd K → Type 0
-  EndsWell = EndsFine s f ρ₀ fs
-
   module _ {heads : List Label} {v : Walk} (p : Place) (n : ℕ) (types : List Ty) (os : List Operand) (l : Label) (d : Contract) (t : Ty) (at : Span)
       (kind : st.block.end.kind ≡ Call p (Function (OfBody n)) types os l)
       (is_d : slice_get s.contracts.of n ≡ Some d) (is_t : slice_get b.locals p.local ≡ Some t) (arrives : Arrives (walked s f) heads l v)
       (came : Came s f ρ₀ (walked s f) heads (within (point_of g)) ρ) (is_last : g.statement ≡ length st.block.statements)
       (hold : GoalsHold (S s) ρ (goals_of_call b d at os ++ seen_before (call_commands b d p.local t os) (met v)))
-      (fitting : Fits b no_tys end_set g.locals) (agrees : Agree b end_set g.locals ρ) (nested : Memories s f ρ₀ end_set ρ st.block.nest) (enclosing : AllAmong st.block.nest heads)
+      (held : Holding s f now frame end_set) (agrees : Agree b now frame end_set ρ) (nested : Memories s f ρ₀ end_set ρ st.block.nest) (enclosing : AllAmong st.block.nest heads)
       (behind : AreBehind s f ρ₀ heads g.label) where
     abbrev ended : EndIsTyped (bodies s) b (Call p (Function (OfBody n)) types os l)
     ended = subst (EndIsTyped (bodies s) b) kind ((own s f).typed.ends g.label st.block st.is_block)
@@ -105,6 +114,9 @@ module _ {K : Type 0} (s : Setup K) (f : FunctionOf s) (ρ₀ : Env) (fs : State
     abbrev behind_goals : List Goal
     behind_goals = seen_before (call_commands b (own s callee).contract p.local t os) (met v)
 
+    abbrev entered_frame : List (Tree K) → Frame K
+    entered_frame args = entered callee.body n no_tys args
+
     count : AsMany (own s callee).contract.params values
     count = as_many b ρ (own s callee).contract.params os ((own s callee).speaks.count ∙ sym (params_length callee.body (own s callee).typed.answers) ∙ sym (as_many_operands b os param_types have))
 
@@ -119,9 +131,9 @@ module _ {K : Type 0} (s : Setup K) (f : FunctionOf s) (ρ₀ : Env) (fs : State
     here_is : (i : ℕ) × (m : Label) × (slice_get b.blocks i ≡ Some (m, st.block))
     here_is = found_block b.blocks g.label st.block st.is_block
 
-    calls_fine : (ls args : List (Tree K)) → Fits b no_tys set ls → (length args ≡ length param_types) × AreShaped no_tys args param_types → Agree b set ls ρ → AllShow args values →
-        CallsFine s f ρ₀ fs (record g { locals = ls }) (entered callee.body n no_tys args)
-    calls_fine ls args fitted shaped agreed shows = record {
+    calls_fine : (u : State K) (args : List (Tree K)) → length u ≡ suc frame → Holding s f u frame set → (length args ≡ length param_types) × AreShaped args param_types → Agree b u frame set ρ → AllShow args values →
+        CallsFine s f ρ₀ u frame g
+    calls_fine u args more held' shaped agreed shows = record {
       callee = callee;
       calls = record {
         body = b;
@@ -139,12 +151,11 @@ module _ {K : Type 0} (s : Setup K) (f : FunctionOf s) (ρ₀ : Env) (fs : State
         is_callee = refl;
       };
       env = called_in;
+      args = args;
       begun = record {
-        args = args;
-        is_frame = refl;
-        typed = all_typed (declarations s) (entered callee.body n no_tys args ∷ record g { locals = ls } ∷ fs) args param_types shaped.0 shaped.1 (scalar_params s callee);
+        typed = all_typed (declarations s) (with_call s callee args u) args param_types shaped.0 shaped.1 (scalar_params s callee);
         values = values;
-        reads = all_read false (entered callee.body n no_tys args ∷ record g { locals = ls } ∷ fs) s.final Plain here 0 args values shows;
+        reads = all_read false (with_call s callee args u) s.final Plain here 0 args values shows;
         is_env = refl;
         pre = pre_hold (own s callee).contract.pre
             (each_of (OverParams (own s callee).contract) (own s callee).contract.pre (own s callee).speaks.before)
@@ -176,16 +187,23 @@ module _ {K : Type 0} (s : Setup K) (f : FunctionOf s) (ρ₀ : Env) (fs : State
           enclosing = enclosing;
           behind = behind;
         };
-        stands = they_stand s f (entered callee.body n no_tys args ∷ record g { locals = ls } ∷ fs) (length fs) fitted agreed;
+        stands = they_stand s f (with_call s callee args u) frame
+            (held_moved (declarations s) (λ x. same_behind (entered_frame args) u (local_at frame x) not_last) (λ at e. same_behind (entered_frame args) u at (λ q. not_first (sym q ∙ e))) held')
+            (agree_moved b u (with_call s callee args u) frame set ρ (λ x. same_behind (entered_frame args) u (local_at frame x) not_last) agreed);
       };
     }
+      where
+        not_last : frame ≡ length u → ⊥
+        not_last e = omega (arith, more, e)
 
-    pub call_comes : Quiet EndsWell (frame_end s.code g (Call p (Function (OfBody n)) types os l))
+        not_first : length u ≡ 0 → ⊥
+        not_first e = omega (arith, more, e)
+
+    pub call_comes : Quiet Fine (end_step s.code now (Call p (Function (OfBody n)) types os l))
+    unfolding calls_fine
     call_comes =
-        quiet_then (λ (a : List (Tree K) × List (Tree K)). AreArguments b no_tys set param_types a × LeavesAll b set ρ values a) EndsWell (take_operands g.locals os)
-        (λ a. callee_frame (bodies s) (Function (OfBody n)) a.1 >>= λ h. Yields (Calls (record g { locals = a.0 }) h))
-        (quiet_both (AreArguments b no_tys set param_types) (LeavesAll b set ρ values) (take_operands g.locals os)
-        (operands_go b no_tys end_set g.locals os param_types fitting have can)
-        (take_all_shows b end_set g.locals ρ os param_types have can agrees))
-        (λ a h. subst (λ (o : Option Body). Quiet EndsWell ((need o >>= λ x. Yields (entered x n no_tys a.1)) >>= λ g'. Yields (Calls (record g { locals = a.0 }) g'))) (sym ended.0.2)
-        (calls_fine a.0 a.1 h.0.0 h.0.1 h.1.0 h.1.1))
+        let takes = take_all_yields (declarations s) b no_tys frame inside now end_set os param_types (sym (stops_length fs)) held have can in
+        let more : length takes.after ≡ suc frame = sym (stops_length takes.after) ∙ ap length takes.stay in
+        let shows : AllShow takes.trees values = took_all_show b ρ param_types have can agrees takes.took in
+        subst (Quiet Fine) (sym (call-row s.code now takes.after p (Function (OfBody n)) types os l takes.trees n callee.body takes.yields refl callee.is_body))
+        (continues.calls takes.after takes.stay takes.elsewhere (calls_fine takes.after takes.trees more takes.held (are_shaped takes.typed) (took_all_agree b ρ agrees takes.took) shows))

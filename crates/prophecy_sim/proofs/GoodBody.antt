@@ -13,16 +13,19 @@ use Rattle.mir_ir.specs.Body.{answer_ty}
 use Rattle.mir_machine.specs.Tree.{Tree, Trees}
 use Rattle.mir_machine.specs.Frame.{State}
 use Rattle.mir_machine.specs.Reads.{Plain}
-use Rattle.mir_machine.specs.Step.{Outcome, Running, Returned, Panicked, Stuck, after, entered}
+use Rattle.mir_machine.specs.Step.{Outcome, Running, Returned, Panicked, Stuck, after, outside}
 use Rattle.mir_machine.specs.Typed.{Met, Typed, AreTyped, is_int, is_truth, is_tuple, is_adt, is_closure, is_boxed, is_shared, is_unique, none_typed, more_typed}
 use Rattle.mir_machine.specs.Good.{IsProper, IsFine, MeetsRequires, MeetsEnsures, Supply, named, called, here}
 use Rattle.mir_machine.specs.Code.{code_of}
-use Rattle.mir_machine.proofs.NeverStuck.{AreShaped, typed_args, typed_shape, never_stuck, no_types_for_none}
+use Rattle.mir_machine.specs.Invariant.{from_outside}
+use Rattle.mir_machine.proofs.NeverStuck.{never_stuck, no_types_for_none}
+use Rattle.mir_machine.proofs.Stacks.{typed_args}
+use Rattle.mir_machine.proofs.TypedTrees.{typed_shape}
 use Rattle.prophecy_sim.specs.Programs.{IsScalar, itself, AreProvedFrom, TrueObligationsMakeGood}
 use Rattle.prophecy_sim.specs.declared.node.Node.TheVariants.{Function}
 use Rattle.prophecy_sim.proofs.Lists.{get_first}
 use Rattle.prophecy_sim.proofs.Setup.{Setup, FunctionOf, program as program_of, bodies, sound, declarations, own, scalar_params}
-use Rattle.prophecy_sim.proofs.Scalars.{AllShow, all_values, all_read, shaped_shows}
+use Rattle.prophecy_sim.proofs.Scalars.{AreShaped, are_shaped, AllShow, all_values, all_read, shaped_shows}
 use Rattle.prophecy_sim.proofs.Waits.{first_ty, IsAnswer}
 use Rattle.prophecy_sim.proofs.Ends.{Begun}
 use Rattle.prophecy_sim.proofs.Begins.{begins}
@@ -102,8 +105,8 @@ module _ {K : Type 0} (s : Setup K) (f : FunctionOf s) (proved : AreProvedFrom s
   start θ args held = called b f.number θ args held
 
   module _ (args held : List (Tree K)) (proper : IsProper s.theory (bodies s) f.number no_tys args held b []) (meets : MeetsRequires s.theory no_tys c (start no_tys args held) args []) where
-    abbrev shaped : (length args ≡ length param_list) × AreShaped no_tys args param_list
-    shaped = typed_args (declarations s) (start no_tys args held) no_tys args param_list [] proper.typed
+    abbrev shaped : (length args ≡ length param_list) × AreShaped args param_list
+    shaped = are_shaped (typed_args (declarations s) (start no_tys args held) no_tys args param_list [] proper.typed proper.outer)
 
     abbrev values : (vs : Values) × AllShow args vs
     values = all_values args param_list shaped.0 shaped.1 (scalar_params s f)
@@ -114,10 +117,8 @@ module _ {K : Type 0} (s : Setup K) (f : FunctionOf s) (proved : AreProvedFrom s
     abbrev Fine : Outcome K → Type 0
     Fine = OutcomeFine s f proved ρ₀
 
-    begun : Begun s (start no_tys args held) f ρ₀ (entered b f.number no_tys args)
+    begun : Begun s (start no_tys args held) f ρ₀ args
     begun = record {
-      args = args;
-      is_frame = refl;
       typed = proper.typed;
       values = values.0;
       reads = all_read false (start no_tys args held) s.final Plain here 0 args values.0 values.1;
@@ -126,10 +127,12 @@ module _ {K : Type 0} (s : Setup K) (f : FunctionOf s) (proved : AreProvedFrom s
     }
 
     starts : Fine (Running (start no_tys args held))
-    starts = (
-      record { function = f; reached = itself; env = ρ₀; standing = begins s f (proved f.number b c itself f.is_body (own s f).is_contract) ρ₀ (entered b f.number no_tys args) (start no_tys args held) begun 1 },
-      (refl, refl),
-    )
+    starts = record {
+      call = record { function = f; env = ρ₀ };
+      reached = itself;
+      standing = begins s f (proved f.number b c itself f.is_body (own s f).is_contract) ρ₀ args (outside held ∷ []) begun;
+      behind = from_outside;
+    }
 
     answer : (ty : Ty) × (slice_get b.locals 0 ≡ Some ty)
     answer = get_first b.locals 0 (omega (arith, (own s f).typed.answers))

@@ -10,17 +10,19 @@ use Rattle.mir_ir.specs.declared.terminator.Callee.TheVariants.{Function}
 use Rattle.mir_ir.specs.declared.terminator.FnId.TheVariants.{Body as OfBody}
 use Rattle.mir_ir.specs.declared.terminator.Terminator.{Terminator}
 use Rattle.mir_ir.specs.declared.terminator.TerminatorKind.TheVariants.{Goto, Return}
-use Rattle.mir_ir.specs.declared.body.Block.{Block}
 use Rattle.mir_ir.specs.declared.body.Body.{Body}
-use Rattle.mir_ir.specs.Body.{block_in}
 use Rattle.mir_ir.specs.Layout.{among, targets}
 use Rattle.mir_ir.specs.WellFormed.{Locals, Labelling, Within as Within_set}
 use Rattle.mir_ir.proofs.Taking.{CanEnd, Carries, run}
 use Rattle.mir_machine.specs.Frame.{Frame, State}
-use Rattle.mir_machine.specs.Try.{Yields, ◌>>=◌, need}
-use Rattle.mir_machine.proofs.Locals.{run_local, FrameEnd, Stays, frame_end, frame_row, frame_step}
-use Rattle.mir_machine.proofs.NeverStuck.{Fits, fits_within, get_past}
+use Rattle.mir_machine.specs.Step.{Outcome, Running, statement_step, end_step, row, try_step}
+use Rattle.mir_machine.specs.Try.{Yields, ◌>>=◌}
+use Rattle.mir_machine.specs.Invariant.{Stop, stop_of, stops, local_at}
+use Rattle.mir_machine.proofs.EndRows.{goto-row, step-row}
+use Rattle.mir_machine.proofs.Stacks.{held_moved, get_past}
+use Rattle.mir_machine.proofs.TypedRows.{held_within}
 use Rattle.mir_machine.proofs.Tried.{Quiet, quiet_then}
+use Rattle.mir_machine.proofs.Writes.{at_next, at_start, stops_length}
 use Rattle.prophecy_logic.specs.declared.goal.Goal.{Goal}
 use Rattle.prophecy_logic.specs.Row.{goals_of, commands_of}
 use Rattle.prophecy_logic.specs.Graph.{IsBefore, Ends, goto, branch, call, return}
@@ -29,20 +31,30 @@ use Rattle.prophecy_logic.specs.Loop.{loop_writes, statement_touches}
 use Rattle.prophecy_logic.specs.Walk.{seen_before, goals_at_return, Walk, met}
 use Rattle.prophecy_logic.proofs.Commands.{GoalsHold, goals_moved, goals_first, goals_rest}
 use Rattle.prophecy_logic.proofs.Steps.{over_statement as passes, to_end}
-use Rattle.prophecy_sim.proofs.Setup.{Setup, FunctionOf, move_rows, S, bodies, own, walked}
-use Rattle.prophecy_sim.proofs.Operands.{Agree, agree_within}
+use Rattle.prophecy_sim.proofs.Setup.{Setup, FunctionOf, move_rows, S, bodies, declarations, own, walked}
+use Rattle.prophecy_sim.proofs.Operands.{Agree, agree_within, agree_moved}
 use Rattle.prophecy_sim.proofs.Heads.{loop_writes_statement}
 use Rattle.prophecy_sim.proofs.Memories.{among_first, AreBehind, Came, came_on, Memories, memories_kept, reached}
 use Rattle.prophecy_logic.specs.Walkable.{AllAmong}
-use Rattle.prophecy_sim.proofs.Stands.{stands_fit, stands_agree, they_stand}
+use Rattle.prophecy_sim.proofs.Stands.{Holding, stands_agree, they_stand}
 use Rattle.prophecy_sim.proofs.Standing.{point_of, Standing}
 use Rattle.prophecy_sim.proofs.Steps.{After, statement_quiet}
-use Rattle.prophecy_sim.proofs.Ends.{EndsFine, Ways, here_ends, goes_on, branch_comes, return_comes}
+use Rattle.prophecy_sim.proofs.Ends.{Continues, Ways, here_ends, goes_on, branch_comes, return_comes}
 use Rattle.prophecy_sim.proofs.Called.{call_comes}
 
-module _ {K : Type 0} (s : Setup K) (f : FunctionOf s) (ρ₀ : Env) (fs : State K) (g : Frame K) (st : Standing s f ρ₀ (g ∷ fs) (length fs) g) where
+module _ {K : Type 0} (s : Setup K) (f : FunctionOf s) (ρ₀ : Env) (fr : Frame K) (fs : State K) (inside : length (stops fs) ≡ 0 → ⊥) (st : Standing s f ρ₀ (fr ∷ fs) (length (stops fs)) (stop_of fr))
+    (Fine : Outcome K → Type 0) (continues : Continues s f ρ₀ Fine fr fs) where
   abbrev b : Body
   b = f.body
+
+  abbrev now : State K
+  now = fr ∷ fs
+
+  abbrev g : Stop
+  g = stop_of fr
+
+  abbrev n : ℕ
+  n = length (stops fs)
 
   abbrev initialised : Labelling
   initialised = s.labelling f.number
@@ -53,43 +65,43 @@ module _ {K : Type 0} (s : Setup K) (f : FunctionOf s) (ρ₀ : Env) (fs : State
   abbrev end_set : Locals
   end_set = initialised g.label (length st.block.statements)
 
-  abbrev EndsWell : FrameEnd K → Type 0
-  EndsWell = EndsFine s f ρ₀ fs
-
   -- ---- the end of a block, where its statements are done
 
   end_comes : {heads : List Label} {end : Terminator} {v : Walk} → Ends (walked s f) heads end v → end ≡ st.block.end → g.statement ≡ length st.block.statements →
       Came s f ρ₀ (walked s f) heads (within (point_of g)) ρ → GoalsHold (S s) ρ (met v) →
-      Fits b no_tys end_set g.locals → Agree b end_set g.locals ρ → Memories s f ρ₀ end_set ρ st.block.nest → AllAmong st.block.nest heads → AreBehind s f ρ₀ heads g.label → Ways s f ρ₀ fs g st heads → Quiet EndsWell (frame_end s.code g end.kind)
-  end_comes (goto l q arrives) is is_last came hold fitting agrees nested enclosing behind ways =
+      Holding s f now n end_set → Agree b now n end_set ρ → Memories s f ρ₀ end_set ρ st.block.nest → AllAmong st.block.nest heads → AreBehind s f ρ₀ heads g.label → Ways s f ρ₀ fr fs inside st heads → Quiet Fine (end_step s.code now end.kind)
+  end_comes (goto l q arrives) is is_last came hold held agrees nested enclosing behind ways =
       let kind : st.block.end.kind ≡ Goto l = ap (λ (x : Terminator). x.kind) (sym is) ∙ q in
       let carries : Within_set (initialised l 0) end_set = subst (Carries (λ m. initialised m 0) end_set) kind ((move_rows s f).edges g.label st.block st.is_block) in
-      subst (λ k. Quiet EndsWell (frame_end s.code g k)) (sym q)
-      (goes_on s f ρ₀ fs g st l end_set g.locals arrives (record { commands = came.commands; prefix = along_goto st.block.end l came.prefix (here_ends s f ρ₀ fs g st is_last) kind; moves = came.moves }) hold fitting agrees carries
-      (ways l (subst (λ x. among l (targets x) ≡ true) (sym kind) (among_first l [])) carries))
-  end_comes (branch o l r q to_l to_r) is is_last came hold fitting agrees nested enclosing behind ways =
-      subst (λ k. Quiet EndsWell (frame_end s.code g k)) (sym q) (branch_comes s f ρ₀ fs g st o l r (ap (λ (x : Terminator). x.kind) (sym is) ∙ q) to_l to_r came (here_ends s f ρ₀ fs g st is_last) hold fitting agrees ways)
-  end_comes {end = end} (call p (Function (OfBody n)) types os l d t q is_d is_t arrives) is is_last came hold fitting agrees nested enclosing behind ways =
-      subst (λ k. Quiet EndsWell (frame_end s.code g k)) (sym q)
-      (call_comes s f ρ₀ fs g st p n types os l d t end.span (ap (λ (x : Terminator). x.kind) (sym is) ∙ q) is_d is_t arrives came is_last hold fitting agrees nested enclosing behind)
-  end_comes (return q) is is_last came hold fitting agrees nested enclosing behind ways =
+      let (v, is_v, stay, same) = goto-row s.code now l g (stops fs) refl in
+      subst (λ k. Quiet Fine (end_step s.code now k)) (sym q) (subst (Quiet Fine) (sym is_v)
+      (continues.stays v (at_start l g) stay (λ at d. same at)
+      (goes_on s f ρ₀ fr fs inside st l end_set v arrives (record { commands = came.commands; prefix = along_goto st.block.end l came.prefix (here_ends s f ρ₀ fr fs inside st is_last) kind; moves = came.moves }) hold
+      (held_moved (declarations s) (λ x. same (local_at n x)) (λ at e. same at) held) (agree_moved b now v n end_set ρ (λ x. same (local_at n x)) agrees) carries
+      (ways l (subst (λ x. among l (targets x) ≡ true) (sym kind) (among_first l [])) carries))))
+  end_comes (branch o l r q to_l to_r) is is_last came hold held agrees nested enclosing behind ways =
+      subst (λ k. Quiet Fine (end_step s.code now k)) (sym q) (branch_comes s f ρ₀ fr fs inside st Fine continues o l r (ap (λ (x : Terminator). x.kind) (sym is) ∙ q) to_l to_r came (here_ends s f ρ₀ fr fs inside st is_last) hold held agrees ways)
+  end_comes {end = end} (call p (Function (OfBody m)) types os l d t q is_d is_t arrives) is is_last came hold held agrees nested enclosing behind ways =
+      subst (λ k. Quiet Fine (end_step s.code now k)) (sym q)
+      (call_comes s f ρ₀ fr fs inside st Fine continues p m types os l d t end.span (ap (λ (x : Terminator). x.kind) (sym is) ∙ q) is_d is_t arrives came is_last hold held agrees nested enclosing behind)
+  end_comes (return q) is is_last came hold held agrees nested enclosing behind ways =
       let kind : st.block.end.kind ≡ Return = ap (λ (x : Terminator). x.kind) (sym is) ∙ q in
       let can : end_set 0 ≡ true = subst (CanEnd end_set) kind ((move_rows s f).ends g.label st.block st.is_block) in
-      subst (λ k. Quiet EndsWell (frame_end s.code g k)) (sym q) (return_comes s f ρ₀ fs g st (goals_first (S s) ρ (goals_at_return b (own s f).contract) [] hold) fitting agrees can)
+      subst (λ k. Quiet Fine (end_step s.code now k)) (sym q) (return_comes s f ρ₀ fr fs inside st Fine continues (goals_first (S s) ρ (goals_at_return b (own s f).contract) [] hold) held agrees can)
 
-  at_end : slice_get st.block.statements g.statement ≡ None → Quiet EndsWell (frame_row s.code b g st.block.end None)
+  at_end : slice_get st.block.statements g.statement ≡ None → Quiet Fine (row s.code b fr.types now st.block.end None)
   at_end e =
       let here : g.statement ≡ length st.block.statements = omega (arith, get_past st.block.statements g.statement e, st.in_block) in
       let nested : Memories s f ρ₀ end_set ρ st.block.nest = subst (λ i. Memories s f ρ₀ (initialised g.label i) ρ st.block.nest) here st.nested in
-      end_comes (to_end st.walks st.block.end (here_ends s f ρ₀ fs g st here)) refl here st.came st.hold
-      (subst (λ i. Fits b no_tys (initialised g.label i) g.locals) here (stands_fit s f st.stands))
-      (subst (λ i. Agree b (initialised g.label i) g.locals ρ) here (stands_agree s f st.stands))
+      end_comes (to_end st.walks st.block.end (here_ends s f ρ₀ fr fs inside st here)) refl here st.came st.hold
+      (subst (λ i. Holding s f now n (initialised g.label i)) here st.stands.held)
+      (subst (λ i. Agree b now n (initialised g.label i) ρ) here (stands_agree s f st.stands))
       nested st.enclosing st.behind
       (λ l a w. reached s f ρ₀ (initialised l 0) ρ st.heads g.label l st.block (memories_kept s f ρ₀ nested (λ h i x ty u inside is_x. (w x inside, refl))) st.enclosing st.behind ((own s f).simple.laid_out.edges g.label l st.block st.is_block a))
 
   -- ---- statements
 
-  at_statement : (x : Statement) → slice_get st.block.statements g.statement ≡ Some x → Quiet EndsWell (frame_row s.code b g st.block.end (Some x))
+  at_statement : (x : Statement) → slice_get st.block.statements g.statement ≡ Some x → Quiet Fine (row s.code b fr.types now st.block.end (Some x))
   at_statement x e =
       let before : IsBefore b (point_of g) x = record { block = st.block; is_block = st.is_block; is_statement = e } in
       let split = passes st.walks x before in
@@ -98,19 +110,19 @@ module _ {K : Type 0} (s : Setup K) (f : FunctionOf s) (ρ₀ : Env) (fs : State
       let rows = (move_rows s f).statements g.label st.block g.statement x st.is_block e in
       let set = initialised g.label g.statement in
       let next = initialised g.label (g.statement + 1) in
-      subst (λ θ. Quiet EndsWell (run_local b θ g.locals x.span x.kind >>= λ ls. Yields (Stays (record g { locals = ls; statement = g.statement + 1 })))) (sym st.types)
-      (quiet_then (After s f x.kind set ρ) EndsWell (run_local b no_tys g.locals x.span x.kind) (λ ls. Yields (Stays (record g { locals = ls; statement = g.statement + 1 })))
-      (statement_quiet s f x.kind set g.locals ρ x.span ((own s f).typed.statements g.label st.block g.statement x st.is_block e) rows.0 (stands_fit s f st.stands) (stands_agree s f st.stands)
+      let P : State K → Type 0 = After s f n inside now x.kind set ρ (at_next g ∷ stops fs) in
+      subst (λ θ. Quiet Fine (statement_step b θ now x.span x.kind >>= λ v. Yields (Running v))) (sym st.types)
+      (quiet_then P Fine (statement_step b no_tys now x.span x.kind) (λ v. Yields (Running v))
+      (statement_quiet s f n inside now x.kind set ρ x.span g (stops fs) (sym (stops_length fs)) refl ((own s f).typed.statements g.label st.block g.statement x st.is_block e) rows.0 st.stands.held (stands_agree s f st.stands)
       (goals_first (S s) ρ (goals_of b x.span x.kind) after hold))
-      (λ ls a. record {
+      (λ v a. continues.stays v (at_next g) a.ran.stay a.ran.elsewhere (record {
         function = st.function;
         types = st.types;
         block = st.block;
         is_block = st.is_block;
         in_block = omega (arith, slice_get_within st.block.statements g.statement x e);
         env = a.env;
-        stands = they_stand s f (record g { locals = ls; statement = g.statement + 1 } ∷ fs) (length fs) (fits_within b no_tys next (run x.kind set) ls rows.1 a.fitting)
-            (agree_within b next (run x.kind set) ls a.env rows.1 a.agrees);
+        stands = they_stand s f v n (held_within (declarations s) b no_tys n inside next (run x.kind set) rows.1 a.ran.held) (agree_within b next (run x.kind set) v n a.env rows.1 a.agrees);
         keeps = λ n outside. a.elsewhere n outside ∙ st.keeps n outside;
         heads = st.heads;
         came = came_on s f ρ₀ st.came (commands_of b x.kind) (over_statement x st.came.prefix before) a.moves;
@@ -120,7 +132,7 @@ module _ {K : Type 0} (s : Setup K) (f : FunctionOf s) (ρ₀ : Env) (fs : State
         nested = memories_kept s f ρ₀ st.nested (λ h inside y ty unwritten is_in is_y. a.others y ty (not_written h y inside unwritten) (rows.1 y is_in) is_y);
         enclosing = st.enclosing;
         behind = st.behind;
-      }))
+      })))
     where
       not_written : (h : Label) (y : ℕ) → among h st.block.nest ≡ true → loop_writes b h y ≡ false → statement_touches y x.kind ≡ false
       not_written h y inside unwritten = by_test (statement_touches y x.kind) refl
@@ -129,13 +141,11 @@ module _ {K : Type 0} (s : Setup K) (f : FunctionOf s) (ρ₀ : Env) (fs : State
           by_test true q = absurd (true≢false (sym (loop_writes_statement b h g.label st.block g.statement x y st.is_block inside e q) ∙ unwritten))
           by_test false q = q
 
-  row_comes : (o : Option Statement) → slice_get st.block.statements g.statement ≡ o → Quiet EndsWell (frame_row s.code b g st.block.end o)
+  row_comes : (o : Option Statement) → slice_get st.block.statements g.statement ≡ o → Quiet Fine (row s.code b fr.types now st.block.end o)
   row_comes (Some x) e = at_statement x e
   row_comes None e = at_end e
 
-  pub frame_comes : Quiet (EndsFine s f ρ₀ fs) (frame_step s.code g)
-  frame_comes =
-      let found : slice_get (bodies s).bodies g.function ≡ Some b = subst (λ n. slice_get (bodies s).bodies n ≡ Some b) (sym st.function) f.is_body in
-      subst (λ (o : Option Body). Quiet EndsWell (need o >>= λ c. need (block_in c.blocks g.label) >>= λ d. frame_row s.code c g d.end (slice_get d.statements g.statement))) (sym found)
-      (subst (λ (o : Option Block). Quiet EndsWell (need o >>= λ d. frame_row s.code b g d.end (slice_get d.statements g.statement))) (sym st.is_block)
-      (row_comes (slice_get st.block.statements g.statement) refl))
+  pub first_comes : Quiet Fine (try_step s.code now)
+  first_comes =
+      subst (Quiet Fine) (sym (step-row s.code fr fs b st.block (subst (λ m. slice_get (bodies s).bodies m ≡ Some b) (sym st.function) f.is_body) st.is_block))
+      (row_comes (slice_get st.block.statements g.statement) refl)

@@ -12,9 +12,10 @@ use Rattle.mir_machine.specs.declared.spot.Spot.{Spot}
 use Rattle.mir_machine.specs.Tree.{Tree, Int, Truth, Made, no_trees, trees_of}
 use Rattle.mir_machine.specs.Frame.{State}
 use Rattle.mir_machine.specs.Reads.{View, Owner, Reads, ReadsAll, of_lent, of_int, of_truth, of_made, of_none, of_more}
-use Rattle.mir_machine.specs.Typed.{Met, Typed, is_int, is_truth, is_tuple, none_typed, AreTyped, more_typed}
+use Rattle.mir_machine.specs.Typed.{Typed, is_int, is_truth, is_tuple, none_typed, AreTyped, more_typed}
 use Rattle.mir_machine.specs.Good.{here, not_lent}
-use Rattle.mir_machine.proofs.NeverStuck.{Shape, AreShaped, typed_shape}
+use Rattle.mir_machine.proofs.TypedTrees.{Shape, has_shape, typed_shape}
+use Rattle.mir_machine.proofs.TypedRows.{AreOf}
 use Rattle.prophecy_sim.specs.Programs.{IsScalar}
 
 -- the tree reads as the value in every state and from every place
@@ -88,15 +89,19 @@ shaped_typed Δ s bool t scalar (there, (b, is)) = subst (λ u. Typed Δ s u boo
 shaped_typed Δ s (tuple no_tys) t scalar (there, is) = subst (λ u. Typed Δ s u unit_ty []) (sym is) (is_tuple none_typed)
 shaped_typed Δ s _ t scalar shape = absurd scalar
 
-pub typed_elsewhere : {K : Type 0} (Δ : Declarations) (s u : State K) (ty : Ty) (t : Tree K) (met : List Met) → IsScalar ty → Typed Δ s t (instance no_tys ty) met → Typed Δ u t (instance no_tys ty) []
-typed_elsewhere Δ s u ty t met scalar h = shaped_typed Δ u ty t scalar (typed_shape Δ s t (instance no_tys ty) met h)
-
 -- what is typed in a state and reads as a value there shows it
 pub typed_shows : {K : Type 0} {gaps : Bool} {final : K → Spot → Value} {w : View K} {at : Spot} (Δ : Declarations) (s : State K) (ty : Ty) (t : Tree K) (v : Value) → IsScalar ty →
     Typed Δ s t (instance no_tys ty) [] → Reads gaps s final not_lent w at t v → Shows t v
 typed_shows Δ s ty t v scalar typed h = shaped_shows ty t v scalar (typed_shape Δ s t (instance no_tys ty) [] typed) h
 
 -- ---- lists
+
+-- each tree has the shape of its type
+abbrev pub AreShaped : {K : Type 0} → List (Tree K) → List Ty → Type 0
+AreShaped {K} ts tys = (n : ℕ) (ty : Ty) → slice_get tys n ≡ Some ty → (t : Tree K) × (slice_get ts n ≡ Some t) × Shape (instance no_tys ty) t
+
+pub are_shaped : {K : Type 0} {Δ : Declarations} {s : State K} {ts : List (Tree K)} {tys : List Ty} → AreOf Δ s no_tys ts tys → (length ts ≡ length tys) × AreShaped ts tys
+are_shaped h = (h.count, λ n ty e. let t = h.each n ty e in (t.0, t.1, has_shape t.2))
 
 -- the trees show the values
 abbrev pub AllShow : {K : Type 0} → List (Tree K) → Values → Type 0
@@ -116,7 +121,7 @@ AreScalar tys = (i : ℕ) (ty : Ty) → slice_get tys i ≡ Some ty → IsScalar
 
 -- what is read of the trees they show
 pub all_shown : {K : Type 0} {gaps : Bool} {s : State K} {final : K → Spot → Value} {w : View K} {at : Spot} {n : ℕ} {vs : Values} (ts : List (Tree K)) (tys : List Ty) → length ts ≡ length tys →
-    AreShaped no_tys ts tys → AreScalar tys →
+    AreShaped ts tys → AreScalar tys →
     ReadsAll gaps s final not_lent w at n (trees_of ts) vs → AllShow ts vs
 all_shown [] tys count shaped scalars of_none = tt
 all_shown (t ∷ ts) [] count shaped scalars h = absurd (omega arith)
@@ -126,7 +131,7 @@ all_shown (t ∷ ts) (ty ∷ tys) count shaped scalars (of_more {v = v} h hs) =
       all_shown ts tys (omega arith) (λ n u e. shaped (suc n) u e) (λ i u e. scalars (suc i) u e) hs,
     )
 
-pub all_typed : {K : Type 0} (Δ : Declarations) (s : State K) (ts : List (Tree K)) (tys : List Ty) → length ts ≡ length tys → AreShaped no_tys ts tys → AreScalar tys →
+pub all_typed : {K : Type 0} (Δ : Declarations) (s : State K) (ts : List (Tree K)) (tys : List Ty) → length ts ≡ length tys → AreShaped ts tys → AreScalar tys →
     AreTyped Δ s (trees_of ts) (instances no_tys (tys_of tys)) []
 all_typed Δ s [] [] count shaped scalars = none_typed
 all_typed Δ s [] (ty ∷ tys) count shaped scalars = absurd (omega arith)
@@ -136,7 +141,7 @@ all_typed Δ s (t ∷ ts) (ty ∷ tys) count shaped scalars =
     more_typed (shaped_typed Δ s ty t (scalars 0 ty refl) (subst (λ u. Shape (instance no_tys ty) u) (sym (same_Some _ _ first.1)) first.2))
     (all_typed Δ s ts tys (omega arith) (λ n u e. shaped (suc n) u e) (λ i u e. scalars (suc i) u e))
 
-pub all_values : {K : Type 0} (ts : List (Tree K)) (tys : List Ty) → length ts ≡ length tys → AreShaped no_tys ts tys → AreScalar tys → (vs : Values) × AllShow ts vs
+pub all_values : {K : Type 0} (ts : List (Tree K)) (tys : List Ty) → length ts ≡ length tys → AreShaped ts tys → AreScalar tys → (vs : Values) × AllShow ts vs
 all_values [] tys count shaped scalars = (no_values, tt)
 all_values (t ∷ ts) [] count shaped scalars = absurd (omega arith)
 all_values (t ∷ ts) (ty ∷ tys) count shaped scalars =

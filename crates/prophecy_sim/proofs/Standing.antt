@@ -25,11 +25,10 @@ use Rattle.mir_ir.specs.Body.{block_in}
 use Rattle.mir_ir.specs.Layout.{among, around, around_of, place_of}
 use Rattle.mir_ir.specs.Names.{IsOneOf, IsNameIn}
 use Rattle.mir_ir.specs.WellFormed.{Labelling}
-use Rattle.mir_machine.specs.Tree.{Tree}
-use Rattle.mir_machine.specs.Frame.{Frame, State}
+use Rattle.mir_machine.specs.Frame.{State}
+use Rattle.mir_machine.specs.Invariant.{Stop}
 use Rattle.mir_machine.specs.Good.{Each}
-use Rattle.mir_machine.proofs.Locals.{starting}
-use Rattle.mir_machine.proofs.NeverStuck.{Fits}
+use Rattle.mir_machine.proofs.Writes.{at_start}
 use Rattle.prophecy_logic.specs.declared.goal.Goal.{Goal}
 use Rattle.prophecy_logic.specs.Row.{name_of}
 use Rattle.mir_ir.specs.declared.body.Point.{Point}
@@ -47,7 +46,7 @@ use Rattle.prophecy_sim.proofs.Lists.{each_of}
 use Rattle.prophecy_sim.proofs.Setup.{Setup, FunctionOf, S, declarations, own, walked, local_named, local_of, named_as, params_outside}
 use Rattle.prophecy_sim.proofs.Scalars.{Shows}
 use Rattle.prophecy_sim.proofs.Operands.{Agree}
-use Rattle.prophecy_sim.proofs.Stands.{Stands, they_stand, local_sort}
+use Rattle.prophecy_sim.proofs.Stands.{Holding, Stands, they_stand, local_sort}
 use Rattle.prophecy_sim.proofs.Entries.{assumed_move}
 use Rattle.prophecy_sim.proofs.Heads.{Renewed, renewed_move, not_whole}
 use Rattle.prophecy_sim.proofs.Memories.{among_first, among_more, among_head, among_either, KeepsOutside, AreBehind, Came, came_on, Passed, passed_kept, Memories, one_more, memories_kept, Reached, onward, backward}
@@ -120,7 +119,7 @@ still l heads outer h m e = elim (among_either m l outer e) [
 ]
 
 -- where a frame stands in its code
-abbrev pub point_of : {K : Type 0} → Frame K → Point
+abbrev pub point_of : Stop → Point
 point_of g = record { label = g.label; statement = g.statement }
 
 -- f: a function; ρ₀: the environment in which its call began
@@ -131,16 +130,16 @@ module _ {K : Type 0} (s : Setup K) (f : FunctionOf s) (ρ₀ : Env) where
   abbrev initialised : Labelling
   initialised = s.labelling f.number
 
-  -- in the state frame g, of this number, stands in the function's code: a prefix leads there, to an environment that stands for its
+  -- in the state the frame of this number stands in the function's code: a prefix leads to its stop g, to an environment that stands for its
   -- locals and in which the goals of what is left of a walk hold
-  pub record Standing (st : State K) (frame : ℕ) (g : Frame K) : Type 0 where
+  pub record Standing (st : State K) (frame : ℕ) (g : Stop) : Type 0 where
     pub function : g.function ≡ f.number
     pub types : g.types ≡ no_tys
     pub block : Block
     pub is_block : block_in b.blocks g.label ≡ Some block
     pub in_block : g.statement ≤ length block.statements
     pub env : Env
-    pub stands : Stands s f st frame (initialised g.label g.statement) g.locals env
+    pub stands : Stands s f st frame (initialised g.label g.statement) env
     pub keeps : KeepsOutside s f ρ₀ env
     pub heads : List Label
     pub came : Came s f ρ₀ (walked s f) heads (within (point_of g)) env
@@ -152,17 +151,17 @@ module _ {K : Type 0} (s : Setup K) (f : FunctionOf s) (ρ₀ : Env) where
     pub enclosing : AllAmong block.nest heads
     pub behind : AreBehind s f ρ₀ heads g.label
 
-  -- what stands where a frame with these locals comes to the block, these heads being passed
-  pub record Coming (heads : List Label) (l : Label) (ls : List (Tree K)) : Type 0 where
-    pub fitting : Fits b no_tys (initialised l 0) ls
+  -- what stands where the frame of this number comes to the block, these heads being passed
+  pub record Coming (heads : List Label) (l : Label) (st : State K) (frame : ℕ) : Type 0 where
+    pub held : Holding s f st frame (initialised l 0)
     pub env : Env
-    pub agrees : Agree b (initialised l 0) ls env
+    pub agrees : Agree b st frame (initialised l 0) env
     pub keeps : KeepsOutside s f ρ₀ env
     pub came : Came s f ρ₀ (walked s f) heads (arrival l) env
 
   -- ---- at the head of a loop
 
-  module _ (heads : List Label) (l : Label) (ls : List (Tree K)) (c : Coming heads l ls) (outer : List Label) (p : Passed s f ρ₀ l outer (initialised l 0) c.env) where
+  module _ (heads : List Label) (l : Label) (st : State K) (frame : ℕ) (c : Coming heads l st frame) (outer : List Label) (p : Passed s f ρ₀ l outer (initialised l 0) c.env) where
     -- the local has the value that the run has, or any
     new_value : ℕ → Value
     new_value x = cond (initialised l 0 x) (c.env (name_of b x)) (default_of (ty_or (slice_get b.locals x)))
@@ -179,7 +178,7 @@ module _ {K : Type 0} (s : Setup K) (f : FunctionOf s) (ρ₀ : Env) where
     new_sort x ty is_ty = by_test (initialised l 0 x) refl
       where
         by_test : (t : Bool) → initialised l 0 x ≡ t → HasSort (declarations s) (new_value x) (instance no_tys ty)
-        by_test true e = subst (λ v. HasSort (declarations s) v (instance no_tys ty)) (sym (there_value x e)) (local_sort s f (initialised l 0) ls c.env c.fitting c.agrees x ty is_ty e)
+        by_test true e = subst (λ v. HasSort (declarations s) v (instance no_tys ty)) (sym (there_value x e)) (local_sort s f st frame (initialised l 0) c.env c.held c.agrees x ty is_ty e)
         by_test false e = subst (λ v. HasSort (declarations s) v (instance no_tys ty)) (sym (gone_value x e ∙ ap default_of (ty_is (slice_get b.locals x) ty is_ty)))
             (default_sort (declarations s) ty ((own s f).simple.scalars x ty is_ty))
 
@@ -200,7 +199,7 @@ module _ {K : Type 0} (s : Setup K) (f : FunctionOf s) (ρ₀ : Env) where
             again_env.others (name_of b y) (λ x m renewed is_m same. not_whole (sym (sym renewed ∙ ap (touched_there b (walked s f).init l) ((own s f).simple.names.apart x y m (name_of b y) is_m named (sym same)) ∙ q)))
             ∙ sym (p.unchanged y ty unwritten inside is_ty)
 
-    head_agrees : Agree b (initialised l 0) ls again_env.env
+    head_agrees : Agree b st frame (initialised l 0) again_env.env
     head_agrees y ty t inside is_ty e = subst (Shows t) (sym (head_same y ty inside is_ty)) (c.agrees y ty t inside is_ty e)
 
     head_keeps : KeepsOutside s f ρ₀ again_env.env
@@ -225,16 +224,16 @@ module _ {K : Type 0} (s : Setup K) (f : FunctionOf s) (ρ₀ : Env) where
         (each_of OverHead p.first.head.invariants ((own s f).heads.over l p.first.block p.first.head p.first.is_block p.first.is_head))
         invariants))
 
-    pub at_head : (st : State K) (frame : ℕ) (g : Frame K) → g.function ≡ f.number → g.types ≡ no_tys → Memories s f ρ₀ (initialised l 0) c.env outer →
-        Each (λ t. Holds (S s) t c.env) p.first.head.invariants → Standing st frame (starting g ls l)
-    at_head st frame g function types ms invariants = record {
+    pub at_head : (g : Stop) → g.function ≡ f.number → g.types ≡ no_tys → Memories s f ρ₀ (initialised l 0) c.env outer →
+        Each (λ t. Holds (S s) t c.env) p.first.head.invariants → Standing st frame (at_start l g)
+    at_head g function types ms invariants = record {
       function = function;
       types = types;
       block = p.first.block;
       is_block = p.first.is_block;
       in_block = omega arith;
       env = again_env.env;
-      stands = they_stand s f st frame c.fitting head_agrees;
+      stands = they_stand s f st frame c.held head_agrees;
       keeps = head_keeps;
       heads = l ∷ p.first.heads;
       came = came_on s f ρ₀ p.first.came (head_commands b (walked s f).init l p.first.head)
@@ -260,11 +259,10 @@ module _ {K : Type 0} (s : Setup K) (f : FunctionOf s) (ρ₀ : Env) where
     | inr a ↦ h m a
   ]
 
-  -- the frame stands where it arrives, in each state
-  pub arrived : {heads : List Label} {l : Label} {v : Walk} → Arrives (walked s f) heads l v → (st : State K) (frame : ℕ) (g : Frame K) (ls : List (Tree K)) → g.function ≡ f.number →
-      g.types ≡ no_tys → (c : Coming heads l ls)
-      → Reached s f ρ₀ (initialised l 0) c.env heads l → GoalsHold (S s) c.env (met v) → Standing st frame (starting g ls l)
-  arrived {heads} {l} {v} (plain k is_block none_there walks) st frame g ls function types c (onward to outer is_to is_around ms sub behind fresh) hold =
+  -- the frame stands where it arrives
+  pub arrived : {heads : List Label} {l : Label} {v : Walk} → Arrives (walked s f) heads l v → (st : State K) (frame : ℕ) (g : Stop) → g.function ≡ f.number → g.types ≡ no_tys → (c : Coming heads l st frame)
+      → Reached s f ρ₀ (initialised l 0) c.env heads l → GoalsHold (S s) c.env (met v) → Standing st frame (at_start l g)
+  arrived {heads} {l} {v} (plain k is_block none_there walks) st frame g function types c (onward to outer is_to is_around ms sub behind fresh) hold =
       let same : to ≡ k = some_same_block k to l is_block is_to in
       let nest : k.nest ≡ outer = plain_nest k l outer (subst (λ x. around l x outer) same is_around) none_there in
       record {
@@ -274,7 +272,7 @@ module _ {K : Type 0} (s : Setup K) (f : FunctionOf s) (ρ₀ : Env) where
         is_block = is_block;
         in_block = omega arith;
         env = c.env;
-        stands = they_stand s f st frame c.fitting c.agrees;
+        stands = they_stand s f st frame c.held c.agrees;
         keeps = c.keeps;
         heads = heads;
         came = record { commands = c.came.commands; prefix = into_block k c.came.prefix is_block none_there; moves = c.came.moves };
@@ -285,9 +283,9 @@ module _ {K : Type 0} (s : Setup K) (f : FunctionOf s) (ρ₀ : Env) where
         enclosing = subst (λ xs. AllAmong xs heads) (sym nest) sub;
         behind = behind;
       }
-  arrived {l = l} (plain k is_block none_there walks) st frame g ls function types c (backward to h outer is_to is_head a ms p) hold =
+  arrived {l = l} (plain k is_block none_there walks) st frame g function types c (backward to h outer is_to is_head a ms p) hold =
       absurd (none_some k h none_there (subst (λ (x : Block). x.head ≡ Some h) (some_same_block k to l is_block is_to) is_head))
-  arrived {heads} {l} (first {v = u} k h is_block e fresh_l walks) st frame g ls function types c (onward to outer is_to is_around ms sub behind fresh) hold =
+  arrived {heads} {l} (first {v = u} k h is_block e fresh_l walks) st frame g function types c (onward to outer is_to is_around ms sub behind fresh) hold =
       let same : to ≡ k = some_same_block k to l is_block is_to in
       let nest : k.nest ≡ outer ++ l ∷ [] = head_nest k l outer h (subst (λ x. around l x outer) same is_around) e in
       let invariants : List Goal = goals_at_entry h in
@@ -312,10 +310,10 @@ module _ {K : Type 0} (s : Setup K) (f : FunctionOf s) (ρ₀ : Env) where
         };
         unchanged = λ x ty q inside is_ty. refl;
       } in
-      at_head heads l ls c outer p st frame g function types ms (each_holds (S s) InvEntry h.invariants h.spans c.env (goals_first (S s) c.env invariants after hold))
-  arrived {heads} {l} (first k h is_block e fresh_l walks) st frame g ls function types c (backward to h' outer is_to is_head a ms p) hold = absurd (false_true (among l heads) fresh_l a)
-  arrived {heads} (again k h is_block e passed) st frame g ls function types c (onward to outer is_to is_around ms sub behind fresh) hold = absurd (fresh passed)
-  arrived {heads} {l} (again k h is_block e passed) st frame g ls function types c (backward to h' outer is_to is_head a ms p) hold =
+      at_head heads l st frame c outer p g function types ms (each_holds (S s) InvEntry h.invariants h.spans c.env (goals_first (S s) c.env invariants after hold))
+  arrived {heads} {l} (first k h is_block e fresh_l walks) st frame g function types c (backward to h' outer is_to is_head a ms p) hold = absurd (false_true (among l heads) fresh_l a)
+  arrived {heads} (again k h is_block e passed) st frame g function types c (onward to outer is_to is_around ms sub behind fresh) hold = absurd (fresh passed)
+  arrived {heads} {l} (again k h is_block e passed) st frame g function types c (backward to h' outer is_to is_head a ms p) hold =
       let same : p.first.block ≡ k = some_same_block k p.first.block l is_block p.first.is_block in
       let head : h ≡ p.first.head = same_Some _ _ (sym e ∙ subst (λ (x : Block). x.head ≡ Some p.first.head) same p.first.is_head) in
-      at_head heads l ls c outer p st frame g function types ms (subst (λ (x : Head). Each (λ t. Holds (S s) t c.env) x.invariants) head (each_holds (S s) InvKept h.invariants h.spans c.env (goals_first (S s) c.env (goals_after_turn h) [] hold)))
+      at_head heads l st frame c outer p g function types ms (subst (λ (x : Head). Each (λ t. Holds (S s) t c.env) x.invariants) head (each_holds (S s) InvKept h.invariants h.spans c.env (goals_first (S s) c.env (goals_after_turn h) [] hold)))

@@ -1,5 +1,5 @@
--- A statement keeps the locals and the environment in agreement.
-use Rattle.std.proofs.Common.{◌≡◌, ◌∙◌, sym, refl, ℕ, ◌==◌, ◌||◌, Bool, true, false, List, Some, slice_get, eq-eqb, true≢false, arith}
+-- A statement keeps the locals of the running frame and the environment in agreement.
+use Rattle.std.proofs.Common.{◌≡◌, ◌∙◌, sym, refl, ℕ, ◌==◌, true, false, List, ◌∷◌, Option, Some, subst, slice_get, eq-eqb, true≢false, arith}
 use Rattle.text_core.specs.declared.name.Name.{Name}
 use Rattle.text_core.specs.declared.span.Span.{Span}
 use Rattle.logic_term.specs.Meaning.{Env}
@@ -7,71 +7,83 @@ use Rattle.logic_term.specs.Ty.{Ty, no_tys}
 use Rattle.mir_ir.specs.declared.statement.StatementKind.{StatementKind}
 use Rattle.mir_ir.specs.declared.statement.StatementKind.TheVariants.{Assign, Dead}
 use Rattle.mir_ir.specs.declared.body.Body.{Body}
-use Rattle.mir_ir.specs.WellFormed.{StatementIsTyped, Locals, without}
+use Rattle.mir_ir.specs.WellFormed.{StatementIsTyped, Locals}
 use Rattle.mir_ir.proofs.Taking.{evaluated, CanRun, run}
-use Rattle.mir_machine.specs.Tree.{Tree}
-use Rattle.mir_machine.proofs.Locals.{run_local}
-use Rattle.mir_machine.proofs.NeverStuck.{Fits, run_goes}
-use Rattle.mir_machine.proofs.Tried.{Quiet, quiet_weaker, quiet_both}
+use Rattle.mir_ir.specs.Body.{kind_in, place_ty}
+use Rattle.source_kinds.specs.declared.kinds.IntKind.{IntKind}
+use Rattle.logic_term.specs.Sort.{instance}
+use Rattle.mir_machine.specs.Try.{◌>>=◌}
+use Rattle.mir_machine.specs.Frame.{State}
+use Rattle.mir_machine.specs.Memory.{running, write}
+use Rattle.mir_machine.specs.Step.{past, statement_step}
+use Rattle.mir_machine.specs.Taken.{value_of}
+use Rattle.mir_machine.specs.Invariant.{Stop, stops, HasType}
+use Rattle.mir_machine.proofs.Tried.{Quiet, quiet_then, quiet_both}
+use Rattle.mir_machine.proofs.TypedRows.{evaluated_is, can_take_all, Ran, assign_yields, assigned_ran, dead_yields, held_gone}
+use Rattle.mir_machine.proofs.Writes.{at_next, written_elsewhere}
 use Rattle.prophecy_logic.specs.Command.{MovesAll, none}
 use Rattle.prophecy_logic.specs.Row.{name_of, goals_of, commands_of}
 use Rattle.prophecy_logic.specs.Loop.{statement_touches}
 use Rattle.prophecy_logic.proofs.Loops.{not_written}
 use Rattle.mir_ir.specs.Acts.{acts_of_rvalue}
 use Rattle.prophecy_logic.proofs.Commands.{GoalsHold}
-use Rattle.prophecy_sim.proofs.Setup.{Setup, FunctionOf, S, local_named, apart_from, not_new, IsOutside}
-use Rattle.prophecy_sim.proofs.Operands.{Agree, evaluated_before, with_before, without_before, assign_shows, dead_shows}
-use Rattle.prophecy_sim.proofs.Stands.{operand_sort}
+use Rattle.prophecy_sim.proofs.Setup.{Setup, FunctionOf, S, declarations, local_named, apart_from, not_new, IsOutside}
+use Rattle.prophecy_sim.proofs.Operands.{rvalue_value, evaluated_before, with_before, without_before, Agree, agree_gone, agree_set, took_all_agree, took_all_show, value_shows}
+use Rattle.prophecy_sim.proofs.Stands.{Holding, operand_sort}
+use Rattle.prophecy_sim.proofs.Scalars.{Shows}
 use Rattle.prophecy_sim.proofs.Assigns.{assigned}
 
 pub other_number : (x y : ℕ) → (x == y) ≡ false → (y == x) ≡ false
 other_number x y e = grind arith
 
-module _ {K : Type 0} (s : Setup K) (f : FunctionOf s) where
+-- n: the number of the running frame
+module _ {K : Type 0} (s : Setup K) (f : FunctionOf s) (n : ℕ) (inside : n ≡ 0 → ⊥) where
   abbrev b : Body
   b = f.body
 
   -- what stands after a statement
-  pub record After (kind : StatementKind) (set : Locals) (ρ : Env) (ls : List (Tree K)) : Type 0 where
-    pub fitting : Fits b no_tys (run kind set) ls
+  pub record After (st : State K) (kind : StatementKind) (set : Locals) (ρ : Env) (ks : List Stop) (v : State K) : Type 0 where
+    pub ran : Ran (declarations s) b no_tys n inside st set kind ks v
     pub env : Env
-    pub agrees : Agree b (run kind set) ls env
+    pub agrees : Agree b v n (run kind set) env
     pub moves : MovesAll (S s) (commands_of b kind) ρ env
-    pub elsewhere : (n : Name) → IsOutside b n → env n ≡ ρ n
+    pub elsewhere : (x : Name) → IsOutside b x → env x ≡ ρ x
     -- what is not written and is initialised was so before, with the value that it has
     pub others : (x : ℕ) (ty : Ty) → statement_touches x kind ≡ false → run kind set x ≡ true → slice_get b.locals x ≡ Some ty → (set x ≡ true) × (env (name_of b x) ≡ ρ (name_of b x))
 
-  pub statement_quiet : (kind : StatementKind) (set : Locals) (ls : List (Tree K)) (ρ : Env) (span : Span) → StatementIsTyped b kind → CanRun set kind → Fits b no_tys set ls → Agree b set ls ρ →
-      GoalsHold (S s) ρ (goals_of b span kind) →
-      Quiet (After kind set ρ) (run_local b no_tys ls span kind)
-  statement_quiet (Assign p r) set ls ρ span (ty, has, rhas) can fitting agrees goals =
-      let l = assigned s.theory b (not_new s f) ρ span p set r ty has rhas can (operand_sort s f set ls ρ fitting agrees) goals in
-      let others : (y : ℕ) (u : Ty) → slice_get b.locals y ≡ Some u → (y ≡ p.local → ⊥) → l.env (name_of b y) ≡ ρ (name_of b y) =
-      λ y u is_y d. l.elsewhere (name_of b y) (apart_from s f p.local y ty u has.1 is_y d) (not_new s f y u is_y) in
-      quiet_weaker (λ ls'. Fits b no_tys (run (Assign p r) set) ls' × Agree b (run (Assign p r) set) ls' l.env) (After (Assign p r) set ρ) (run_local b no_tys ls span (Assign p r))
-      (quiet_both (Fits b no_tys (run (Assign p r) set)) (λ ls'. Agree b (run (Assign p r) set) ls' l.env) (run_local b no_tys ls span (Assign p r))
-      (run_goes b no_tys set ls span (Assign p r) fitting (ty, has, rhas) can)
-      (assign_shows b no_tys set ls ρ l.env span p r ty rhas can agrees l.in_range l.here others))
-      (λ ls' h. record {
-        fitting = h.0;
+  pub statement_quiet : (st : State K) (kind : StatementKind) (set : Locals) (ρ : Env) (span : Span) (g : Stop) (gs : List Stop) → running st ≡ n → stops st ≡ g ∷ gs → StatementIsTyped b kind → CanRun set kind →
+      Holding s f st n set → Agree b st n set ρ → GoalsHold (S s) ρ (goals_of b span kind) →
+      Quiet (After st kind set ρ (at_next g ∷ gs)) (statement_step b no_tys st span kind)
+  statement_quiet st (Assign p r) set ρ span g gs is_n is_stops (ty, has, rhas) can held agrees goals =
+      let a = assign_yields (declarations s) b no_tys n inside st set span p r ty g gs is_n is_stops held has rhas can in
+      let u : State K = a.takes.after in
+      let l = assigned s.theory b (not_new s f) ρ span p set r ty has rhas can (operand_sort s f st n set ρ held agrees) goals in
+      let others : (y : ℕ) (w : Ty) → slice_get b.locals y ≡ Some w → (y ≡ p.local → ⊥) → l.env (name_of b y) ≡ ρ (name_of b y) =
+      λ y w is_y d. l.elsewhere (name_of b y) (apart_from s f p.local y ty w has.1 is_y d) (not_new s f y w is_y) in
+      let kind : Option IntKind = kind_in (place_ty b no_tys p) in
+      let P : State K → Type 0 = After st (Assign p r) set ρ (at_next g ∷ gs) in
+      let shows = took_all_show b ρ a.tys a.have (can_take_all r set can) agrees a.takes.took in
+      let agreed : Agree b u n (evaluated r set) ρ = subst (λ (q : Locals). Agree b u n q ρ) (evaluated_is r set) (took_all_agree b ρ agrees a.takes.took) in
+      subst (Quiet P) (sym a.row)
+      (quiet_then (λ t. HasType (declarations s) u (instance no_tys ty) t × Shows t (rvalue_value b ρ r)) P (value_of kind span r a.takes.trees) (λ t. write u p t >>= past)
+      (quiet_both (HasType (declarations s) u (instance no_tys ty)) (λ t. Shows t (rvalue_value b ρ r)) (value_of kind span r a.takes.trees) a.value (value_shows b ρ kind span r ty a.takes.trees rhas shows l.in_range))
+      (λ t h. let v = a.puts t in subst (Quiet P) (sym v.1) (record {
+        ran = assigned_ran (declarations s) b no_tys n inside a t v.0 has h.0 v.2;
         env = l.env;
-        agrees = h.1;
+        agrees = agree_set b (evaluated r set) ρ l.env p.local v.2 agreed (subst (Shows t) (sym l.here) h.1) others;
         moves = l.moves;
-        elsewhere = λ n out. l.elsewhere n (out.0 p.local (name_of b p.local) (local_named s f p.local ty has.1)) out.1;
-        others = λ x u e inside is_x.
+        elsewhere = λ x out. l.elsewhere x (out.0 p.local (name_of b p.local) (local_named s f p.local ty has.1)) out.1;
+        others = λ x w e is_in is_x.
             let other : (p.local == x) ≡ false = not_written x (acts_of_rvalue r) p e in
-            (evaluated_before r set x (with_before p.local (evaluated r set) x (other_number p.local x other) inside), others x u is_x (λ q. true≢false (sym (eq-eqb p.local x (sym q)) ∙ other)));
-      })
-  statement_quiet (Dead x) set ls ρ span (ty, is_ty) can fitting agrees goals =
-      quiet_weaker (λ ls'. Fits b no_tys (without x set) ls' × Agree b (without x set) ls' ρ) (After (Dead x) set ρ) (run_local b no_tys ls span (Dead x))
-      (quiet_both (Fits b no_tys (without x set)) (λ ls'. Agree b (without x set) ls' ρ) (run_local b no_tys ls span (Dead x))
-      (run_goes b no_tys set ls span (Dead x) fitting (ty, is_ty) can)
-      (dead_shows b no_tys set ls ρ span x agrees))
-      (λ ls' h. record {
-        fitting = h.0;
+            (evaluated_before r set x (with_before p.local (evaluated r set) x (other_number p.local x other) is_in), others x w is_x (λ q. true≢false (sym (eq-eqb p.local x (sym q)) ∙ other)));
+      })))
+  statement_quiet st (Dead x) set ρ span g gs is_n is_stops (ty, is_ty) can held agrees goals =
+      let (v, is_v, w) = dead_yields (declarations s) b no_tys n inside st set span x ty g gs is_n is_stops held is_ty in
+      subst (Quiet (After st (Dead x) set ρ (at_next g ∷ gs))) (sym is_v) (record {
+        ran = record { held = held_gone (declarations s) b no_tys n inside x w held; stay = w.stay; elsewhere = written_elsewhere n refl w };
         env = ρ;
-        agrees = h.1;
+        agrees = agree_gone b set ρ x w agrees;
         moves = none;
-        elsewhere = λ n out. refl;
-        others = λ y u e inside is_y. (without_before x set y inside, refl);
+        elsewhere = λ y out. refl;
+        others = λ y u e is_in is_y. (without_before x set y is_in, refl);
       })

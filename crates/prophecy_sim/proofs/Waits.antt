@@ -1,7 +1,5 @@
 -- A frame that waits for the answer of a call, what a call may answer, and what comes of an answer.
-use Rattle.std.proofs.Common.{◌≡◌, ◌∙◌, ◌⊎◌, inl, inr, refl, sym, ap, subst, ℕ, ◌+◌, ◌≤◌, ◌==◌, Bool, true, false, List, [], ◌∷◌, length, drop, take, map, Option, Some, slice_get, true≢false, eq-eqb, arith}
-use Rattle.std.specs.List.{list_any}
-use Rattle.std.specs.Prelude.{option_and_then}
+use Rattle.std.proofs.Common.{◌≡◌, ◌∙◌, ◌⊎◌, inl, inr, refl, sym, ap, subst, ℕ, ◌+◌, ◌≤◌, ◌==◌, Bool, true, false, List, [], ◌∷◌, length, drop, take, map, Some, slice_get, true≢false, eq-eqb, arith}
 use Rattle.std.proofs.lemmas.List.{length-take, length-drop}
 use Rattle.std.proofs.lemmas.Option.{same_Some}
 use Rattle.text_core.specs.declared.name.Name.{Name}
@@ -31,14 +29,17 @@ use Rattle.mir_ir.specs.WellFormed.{OperandsHave, EndIsTyped, Locals, Labelling,
 use Rattle.mir_ir.proofs.Taking.{Carries, all_taken}
 use Rattle.mir_machine.specs.Tree.{Tree}
 use Rattle.mir_machine.specs.Frame.{Frame, State}
-use Rattle.mir_machine.specs.Depth.{frame_block}
 use Rattle.mir_machine.specs.Good.{Each, named, here, not_lent}
 use Rattle.mir_machine.specs.Reads.{Plain, Reads}
 use Rattle.mir_machine.specs.Typed.{Typed}
-use Rattle.mir_machine.specs.Try.{Yields, ◌>>=◌, need}
-use Rattle.mir_machine.proofs.Locals.{put_local, resumed_at, resumed, starting}
-use Rattle.mir_machine.proofs.NeverStuck.{Fits, Shape, fits_within, put_goes, typed_shape}
-use Rattle.mir_machine.proofs.Tried.{Quiet, quiet_then, quiet_both}
+use Rattle.mir_machine.specs.Try.{Try, Yields, ◌>>=◌}
+use Rattle.mir_machine.specs.Memory.{tree_at}
+use Rattle.mir_machine.specs.Step.{Outcome, Running, at_label, come_back}
+use Rattle.mir_machine.specs.Invariant.{Stop, stop_of, stops, local_at, HasType}
+use Rattle.mir_machine.proofs.EndRows.{back-row}
+use Rattle.mir_machine.proofs.TypedRows.{write_then, held_within, held_set}
+use Rattle.mir_machine.proofs.TypedTrees.{Shape, SameOutside, typed_shape}
+use Rattle.mir_machine.proofs.Writes.{SameElsewhere, at_start, label_yields, written_elsewhere, stops_length}
 use Rattle.prophecy_logic.specs.Command.{by_fresh, by_set, none, more, MovesAll}
 use Rattle.prophecy_logic.specs.Row.{operand_term, value_name, name_of}
 use Rattle.prophecy_logic.specs.Graph.{Arrives}
@@ -52,12 +53,12 @@ use Rattle.prophecy_logic.proofs.Commands.{GoalsHold, goals_moved, then_moves}
 use Rattle.prophecy_sim.proofs.Lists.{decide, each_of}
 use Rattle.prophecy_sim.proofs.Setup.{Setup, FunctionOf, move_rows, S, bodies, declarations, own, walked, local_named, apart_from, not_new, OverAnswer}
 use Rattle.prophecy_sim.proofs.Scalars.{Shows, shaped_shows, shaped_sort}
-use Rattle.prophecy_sim.proofs.Operands.{operand_values, Agree, agree_within, with_before, put_shows}
+use Rattle.prophecy_sim.proofs.Operands.{operand_values, Agree, agree_within, agree_set, with_before}
 use Rattle.prophecy_sim.proofs.Calls.{overlay, overlay_named, AsMany, as_many, as_many_operands, new_values, AreExactly, with_terms_mean, all_exactly}
 use Rattle.prophecy_sim.proofs.Entries.{assumed_move}
 use Rattle.prophecy_sim.proofs.Heads.{loop_writes_end}
 use Rattle.prophecy_sim.proofs.Memories.{among_first, KeepsOutside, AreBehind, Came, came_on, Memories, memories_kept, Reached, reached}
-use Rattle.prophecy_sim.proofs.Stands.{Stands, stands_fit, stands_agree, stands_elsewhere}
+use Rattle.prophecy_sim.proofs.Stands.{Holding, Stands, stands_agree, stands_elsewhere}
 use Rattle.prophecy_sim.proofs.Standing.{point_of, Standing, arrived}
 use Rattle.prophecy_sim.proofs.Steps.{other_number}
 
@@ -85,7 +86,7 @@ module _ {K : Type 0} (s : Setup K) where
     initialised = s.labelling f.number
 
     -- frame g has called a function, which took the operands; the call began in ρ
-    pub record HasCalled (g : Frame K) (callee : FunctionOf s) (ρ : Env) : Type 0 where
+    pub record HasCalled (g : Stop) (callee : FunctionOf s) (ρ : Env) : Type 0 where
       pub function : g.function ≡ f.number
       pub types : g.types ≡ no_tys
       pub block : Block
@@ -113,17 +114,36 @@ module _ {K : Type 0} (s : Setup K) where
       pub behind : AreBehind s f ρ₀ heads g.label
 
     -- it waits for the answer: in the state, where it has this number, its locals stand in the environment
-    pub record Waiting (st : State K) (frame : ℕ) (g : Frame K) (callee : FunctionOf s) (ρ : Env) : Type 0 where
+    pub record Waiting (st : State K) (frame : ℕ) (g : Stop) (callee : FunctionOf s) (ρ : Env) : Type 0 where
       pub call : HasCalled g callee ρ
-      pub stands : Stands s f st frame (all_taken call.operands (initialised g.label (length call.block.statements))) g.locals call.env
+      pub stands : Stands s f st frame (all_taken call.operands (initialised g.label (length call.block.statements))) call.env
 
-    -- it waits in each state, as its locals refer to no other frame
-    pub waiting_elsewhere : {st : State K} {frame : ℕ} {g : Frame K} {callee : FunctionOf s} {ρ : Env} (u : State K) (at : ℕ) → Waiting st frame g callee ρ → Waiting u at g callee ρ
-    waiting_elsewhere u at w = record { call = w.call; stands = stands_elsewhere s f u at w.stands }
+    -- it waits in each state in which its locals and the outside are the same
+    pub waiting_elsewhere : {st : State K} {frame : ℕ} {g : Stop} {callee : FunctionOf s} {ρ : Env} (u : State K) → ((x : ℕ) → tree_at u (local_at frame x) ≡ tree_at st (local_at frame x)) → SameOutside st u →
+        Waiting st frame g callee ρ → Waiting u frame g callee ρ
+    waiting_elsewhere u same outside w = record { call = w.call; stands = stands_elsewhere s f u same outside w.stands }
 
     -- ---- an answer
 
-    module _ (st : State K) (frame : ℕ) (g : Frame K) (callee : FunctionOf s) (ρ : Env) (w : Waiting st frame g callee ρ) (now : State K) (t : Tree K) (a : IsAnswer now callee ρ t) where
+    -- what came of the first frame: it stands, and what is not its own is as it was
+    pub record GoesOn (st : State K) (frame : ℕ) (gs : List Stop) (m : Try (Outcome K)) : Type 0 where
+      pub after : State K
+      pub stop : Stop
+      pub yields : m ≡ Yields (Running after)
+      pub stay : stops after ≡ stop ∷ gs
+      pub elsewhere : SameElsewhere frame st after
+      pub standing : Standing s f ρ₀ after frame stop
+
+    module _ (fr h : Frame K) (us : State K) (callee : FunctionOf s) (ρ : Env) (w : Waiting (fr ∷ h ∷ us) (length (stops (h ∷ us))) (stop_of fr) callee ρ) (t : Tree K) (a : IsAnswer (fr ∷ h ∷ us) callee ρ t) where
+      abbrev st : State K
+      st = fr ∷ h ∷ us
+
+      abbrev g : Stop
+      g = stop_of fr
+
+      abbrev frame : ℕ
+      frame = length (stops (h ∷ us))
+
       abbrev c : Body
       c = callee.body
 
@@ -164,8 +184,14 @@ module _ {K : Type 0} (s : Setup K) where
       first_local : slice_get c.locals 0 ≡ Some w.call.answer
       first_local = subst (λ (x : Body). slice_get x.locals 0 ≡ Some w.call.answer) same_body (ended.0.4 ∙ sym ended.0.5.1 ∙ w.call.is_answer)
 
+      typed_answer : Typed (declarations s) st t (instance no_tys w.call.answer) []
+      typed_answer = subst (λ ty. Typed (declarations s) st t (instance no_tys ty) []) (first_ty c.locals w.call.answer first_local) a.typed
+
       shape : Shape (instance no_tys w.call.answer) t
-      shape = subst (λ ty. Shape (instance no_tys ty) t) (first_ty c.locals w.call.answer first_local) (typed_shape (declarations s) now t (answer_ty c no_tys) [] a.typed)
+      shape = typed_shape (declarations s) st t (instance no_tys w.call.answer) [] typed_answer
+
+      not_outside : frame ≡ 0 → ⊥
+      not_outside e = omega (arith, e)
 
       shows : Shows t v
       shows = shaped_shows w.call.answer t v ((own s f).simple.scalars p.local w.call.answer w.call.is_answer) shape a.reads
@@ -230,16 +256,15 @@ module _ {K : Type 0} (s : Setup K) where
           (memories_kept s f ρ₀ w.call.nested (λ l inside x ty e is_in is_x. unwritten l inside x ty e (carried x is_in) is_x)) w.call.enclosing w.call.behind
           ((own s f).simple.laid_out.edges g.label w.call.next w.call.block w.call.is_block (subst (λ k. among w.call.next (targets k) ≡ true) (sym w.call.is_call) (among_first w.call.next [])))
 
-      after : (fs : State K) (ls : List (Tree K)) → Fits b no_tys (with p.local set) ls → Agree b (with p.local set) ls with_place →
-          Standing s f ρ₀ (starting g ls w.call.next ∷ fs) (length fs) (starting g ls w.call.next)
-      after fs ls fitting agrees =
-          arrived s f ρ₀ w.call.arrives (starting g ls w.call.next ∷ fs) (length fs) g ls w.call.function w.call.types
+      after : (v : State K) → Holding s f v frame (with p.local set) → Agree b v frame (with p.local set) with_place → Standing s f ρ₀ v frame (at_start w.call.next g)
+      after v held agrees =
+          arrived s f ρ₀ w.call.arrives v frame g w.call.function w.call.types
           (record {
-            fitting = fits_within b no_tys (initialised w.call.next 0) (with p.local set) ls carried fitting;
+            held = held_within (declarations s) b no_tys frame not_outside (initialised w.call.next 0) (with p.local set) carried held;
             env = with_place;
-            agrees = agree_within b (initialised w.call.next 0) (with p.local set) ls with_place carried agrees;
-            keeps = λ n out. with_other with_new (name_of b p.local) n v (out.0 p.local (name_of b p.local) (local_named s f p.local w.call.answer w.call.is_answer))
-                ∙ with_other w.call.env value_name n v out.1 ∙ w.call.keeps n out;
+            agrees = agree_within b (initialised w.call.next 0) (with p.local set) v frame with_place carried agrees;
+            keeps = λ n out. with_other with_new (name_of b p.local) n a.value (out.0 p.local (name_of b p.local) (local_named s f p.local w.call.answer w.call.is_answer))
+                ∙ with_other w.call.env value_name n a.value out.1 ∙ w.call.keeps n out;
             came = came_on s f ρ₀ w.call.came (call_commands b d p.local w.call.answer os)
                 (over_call w.call.block.end p (Function (OfBody callee.number)) w.call.type_arguments os w.call.next d w.call.answer w.call.came.prefix
                 (record { block = w.call.block; is_block = w.call.is_block; is_last = w.call.is_last; is_end = refl }) w.call.is_call (own s callee).is_contract w.call.is_answer) moves;
@@ -248,14 +273,19 @@ module _ {K : Type 0} (s : Setup K) where
           (goals_moved (S s) (met w.call.walk) moves w.call.hold)
 
       -- with an answer that meets the callee's contract the frame stands again
-      pub answer_comes : (fs : State K) → Quiet (λ h. Standing s f ρ₀ (h ∷ fs) (length fs) h) (resumed (bodies s) t g)
-      answer_comes fs =
-          let Fine : Frame K → Type 0 = λ h. Standing s f ρ₀ (h ∷ fs) (length fs) h in
-          let found : frame_block (bodies s) g ≡ Some w.call.block = ap (option_and_then (λ x. block_in x.blocks g.label)) (subst (λ n. slice_get (bodies s).bodies n ≡ Some b) (sym w.call.function) f.is_body) ∙ w.call.is_block in
-          subst (λ (o : Option Block). Quiet Fine (need o >>= λ k. resumed_at t g k.end.kind)) (sym found)
-          (subst (λ k. Quiet Fine (resumed_at t g k)) (sym w.call.is_call)
-          (quiet_then (λ ls. Fits b no_tys (with p.local set) ls × Agree b (with p.local set) ls with_place) Fine (put_local g.locals p.local t) (λ ls. Yields (starting g ls w.call.next))
-          (quiet_both (Fits b no_tys (with p.local set)) (λ ls. Agree b (with p.local set) ls with_place) (put_local g.locals p.local t)
-          (put_goes b no_tys set g.locals p.local w.call.answer t w.call.is_answer shape (stands_fit s f w.stands))
-          (put_shows b set g.locals w.call.env with_place p.local t (stands_agree s f w.stands) (subst (Shows t) (sym (with_same with_new (name_of b p.local) v)) shows) other_name))
-          (λ ls h. after fs ls h.0 h.1)))
+      pub answer_comes : GoesOn st frame (stops (h ∷ us)) (come_back (bodies s) t st)
+      answer_comes =
+          let slot = w.stands.held.slot p.local w.call.answer w.call.is_answer in
+          let of_type : HasType (declarations s) st (instance no_tys w.call.answer) t = record { met = []; typed = typed_answer; outer = tt } in
+          let (v₁, is_v, written) = write_then st frame p t slot.0 (at_label w.call.next) (at_start w.call.next g ∷ stops (h ∷ us)) (sym (stops_length (h ∷ us))) ended.0.5.0 slot.1
+          (λ x stay. label_yields x w.call.next g (stops (h ∷ us)) stay) in
+          record {
+            after = v₁;
+            stop = at_start w.call.next g;
+            yields = back-row (bodies s) t fr h us b w.call.block p (Function (OfBody callee.number)) w.call.type_arguments os w.call.next (subst (λ n. slice_get (bodies s).bodies n ≡ Some b) (sym w.call.function) f.is_body)
+                w.call.is_block w.call.is_call ∙ ap (λ (m : Try (State K)). m >>= λ x. Yields (Running x)) is_v;
+            stay = written.stay;
+            elsewhere = written_elsewhere frame refl written;
+            standing = after v₁ (held_set (declarations s) b no_tys frame not_outside p.local w.call.answer written w.call.is_answer of_type w.stands.held)
+                (agree_set b set w.call.env with_place p.local written (stands_agree s f w.stands) (subst (Shows t) (sym (with_same with_new (name_of b p.local) v)) shows) other_name);
+          }
