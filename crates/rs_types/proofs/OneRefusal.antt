@@ -1,5 +1,5 @@
 -- What is refused does not hold, and what a source's types are refused for first is one.
-use Rattle.std.proofs.Common.{◌≡◌, ◌⊎◌, inl, inr, ◌∙◌, sym, ℕ, List, Some, None, pos}
+use Rattle.std.proofs.Common.{◌≡◌, ◌⊎◌, inl, inr, ◌∙◌, sym, ℕ, List, [], Some, None, pos}
 use Rattle.text_core.specs.declared.refusal.SourceError.{SourceError}
 use Rattle.logic_term.specs.Sort.{Declarations, nth_ty, of_math_int}
 use Rattle.logic_term.specs.Ty.{Ty, no_tys, math_int}
@@ -16,7 +16,7 @@ use Rattle.rs_types.specs.Nesting.{Nests, HoldNone, IsFlat, IsNested}
 
 -- without type arguments none holds a reference, and each has a value
 hold_none : (Δ : Declarations) → HoldNone Δ no_tys
-hold_none Δ i ()
+hold_none Δ i n = elim n [ ]
 
 have_values : (Δ : Declarations) (i : ℕ) → HasValue Δ (nth_ty no_tys i)
 have_values Δ i = (Number (pos 0), of_math_int)
@@ -25,8 +25,8 @@ flat_is_not_nested : (Δ : Declarations) (t : Ty) → IsFlat Δ t → IsNested �
 flat_is_not_nested Δ t flat nested = flat no_tys (hold_none Δ) (nested no_tys)
 
 finite_is_not_refused : (ds : List AdtDecl) (d : ℕ) → IsBounded ds d × IsInhabited ds d → IsEndless ds d ⊎ IsEmpty ds d → ⊥
-finite_is_not_refused ds d (bounded, inhabited) (inl endless) = endless _ _ (bounded _ 0)
-finite_is_not_refused ds d (bounded, inhabited) (inr empty) = empty _ no_tys (inhabited _ no_tys (have_values (declared_by ds)))
+finite_is_not_refused ds d (bounded, inhabited) (inl endless) = endless [] no_tys (bounded [] 0)
+finite_is_not_refused ds d (bounded, inhabited) (inr empty) = empty [] no_tys (inhabited [] no_tys (have_values (declared_by ds)))
 
 passed_is_not_refused : (ds : List AdtDecl) (c : Check) (e : SourceError) → Passes ds c → IsRefusedBy ds c e → ⊥
 passed_is_not_refused ds (check.Plain None) e holds refused = refused

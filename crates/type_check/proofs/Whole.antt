@@ -28,7 +28,7 @@ use Rattle.type_check.specs.declared.program.TypedFunction.{TypedFunction}
 use Rattle.type_check.specs.declared.program.TypedProgram.{TypedProgram}
 use Rattle.type_check.specs.declared.scope.Variable.{Variable}
 use Rattle.type_check.specs.Answers.{◌>>=◌, Answers, absent, each, with_some, gather}
-use Rattle.type_check.specs.Checked.{type_of, signature_by, heading_of, skipped, declares_by, declares, heard, clause_by, clause_of, typed_body, typed_function, typed_by, typed_item, unless, program_of, typed_items, checked, AllGood}
+use Rattle.type_check.specs.Checked.{type_of, signature_by, heading_of, skipped, declares_by, declares, heard, clause_by, clause_of, typed_body, typed_function, typed_by, typed_item, types_at, unless, program_of, typed_items, checked, AllGood}
 use Rattle.type_check.specs.FirstBad.{first_bad}
 use Rattle.type_check.specs.Terms.{assertion}
 use Rattle.type_check.specs.TypedExpr.{TypedExpr}
