@@ -17,7 +17,6 @@ use Rattle.mir_ir.specs.Names.{IsOneOf, new_number}
 use Rattle.mir_ir.proofs.Taking.{RowByRow, row_by_row}
 use Rattle.mir_ir.specs.WellFormed.{AreSound, Labelling}
 use Rattle.mir_machine.specs.Code.{Code}
-use Rattle.mir_machine.specs.Invariant.{AreLabelled}
 use Rattle.mir_machine.specs.declared.spot.Spot.{Spot}
 use Rattle.prophecy_logic.specs.Row.{value_name, or_value_name, name_of}
 use Rattle.prophecy_logic.specs.Graph.{Setting}
@@ -71,9 +70,6 @@ module _ {K : Type 0} (s : Setup K) where
 
   abbrev pub sound : AreSound bodies
   sound n b is_body = let f = s.functions n b is_body in (f.typed, (s.labelling n, f.moves), f.number)
-
-  abbrev pub labelled : AreLabelled bodies s.labelling
-  labelled n b is_body = let f = s.functions n b is_body in (f.typed, f.moves)
 
   -- a function of the program
   pub record FunctionOf : Type 0 where
