@@ -1,6 +1,6 @@
 -- What the simulation is about: a program on the machine, and one of its functions.
 use Rattle.std.proofs.Common.{◌≡◌, ◌∙◌, sym, ap, ℕ, suc, List, Some, slice_get, take, drop, arith, true}
-use Rattle.std.proofs.lemmas.Option.{slice_get_within}
+use Rattle.std.proofs.lemmas.Option.{slice_get_within, same_Some}
 use Rattle.text_core.specs.declared.name.Name.{Name}
 use Rattle.logic_term.specs.declared.obligation.Contract.{Contract}
 use Rattle.logic_term.specs.Meaning.{Structure, structure_of}
@@ -13,6 +13,10 @@ use Rattle.logic_term.specs.Value.{Value}
 use Rattle.mir_ir.specs.declared.body.Bodies.{Bodies}
 use Rattle.mir_ir.specs.declared.body.Body.{Body}
 use Rattle.mir_ir.specs.declared.body.Initialised.{Initialised}
+use Rattle.mir_ir.specs.declared.terminator.Callee.{Callee}
+use Rattle.mir_ir.specs.declared.terminator.Callee.TheVariants.{Function}
+use Rattle.mir_ir.specs.declared.terminator.FnId.TheVariants.{Body as OfBody}
+use Rattle.mir_ir.specs.Callees.{callee_of, contract_at}
 use Rattle.mir_ir.specs.Names.{IsOneOf, new_number}
 use Rattle.mir_ir.proofs.Taking.{RowByRow, row_by_row}
 use Rattle.mir_ir.specs.WellFormed.{AreSound, Labelling}
@@ -84,6 +88,10 @@ module _ {K : Type 0} (s : Setup K) where
     -- its rows on moves, form by form
     pub move_rows : RowByRow f.body (s.labelling f.number)
     move_rows = row_by_row f.body (s.labelling f.number) own.moves
+
+    -- the contract by which a call is reasoned about, where the call runs the function
+    pub contract_of : (callee : Callee) → callee_of bodies callee ≡ Some f.number → contract_at s.contracts callee ≡ Some own.contract
+    contract_of (Function (OfBody n)) e = ap (slice_get s.contracts) (same_Some _ _ e) ∙ own.is_contract
 
     -- what the walk of the function looks up
     abbrev pub walked : Setting
