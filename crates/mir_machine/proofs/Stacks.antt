@@ -19,7 +19,8 @@ use Rattle.mir_machine.specs.Good.{Each}
 use Rattle.mir_machine.specs.Invariant.{Stop, local_at, HasType, HoldsLocals, Behind, from_outside, one_waits, WaitsAt}
 use Rattle.mir_machine.proofs.TypedTrees.{has_type_kept, SameOutside, each_front, each_behind}
 use Rattle.mir_machine.proofs.TypedRows.{AreOf, are_of_none, are_of_more}
-use Rattle.mir_machine.proofs.Writes.{SameElsewhere, first_local, needed}
+use Rattle.mir_machine.proofs.Writes.{SameElsewhere, first_local}
+use Rattle.mir_machine.proofs.Undoing.{needed}
 
 -- ---- frames that wait
 

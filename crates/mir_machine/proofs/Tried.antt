@@ -14,12 +14,6 @@ then_same (Yields a) k l h = h a
 then_same (Panics c s) k l h = refl
 then_same Sticks k l h = refl
 
--- where only the value that comes counts
-pub then_known : {A B : Type 0} (m : Try A) (k l : A → Try B) → ((a : A) → m ≡ Yields a → k a ≡ l a) → (m >>= k) ≡ (m >>= l)
-then_known (Yields a) k l h = h a refl
-then_known (Panics c s) k l h = refl
-then_known Sticks k l h = refl
-
 -- ---- what holds of each value that may come
 
 -- the value that comes, if one comes, has P; and it does not stick

@@ -26,7 +26,7 @@ yields_then Sticks k b e = absurd (cc)
 pub yields_same : {A : Type 0} (a b : A) → Yields a ≡ Yields b → a ≡ b
 yields_same a b e = cc
 
-needed : {A : Type 0} (o : Option A) (a : A) → need o ≡ Yields a → o ≡ Some a
+pub needed : {A : Type 0} (o : Option A) (a : A) → need o ≡ Yields a → o ≡ Some a
 needed (Some c) a e = cc
 needed None a e = absurd (cc)
 

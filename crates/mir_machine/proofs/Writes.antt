@@ -6,7 +6,7 @@ use Rattle.mir_machine.specs.declared.spot.Spot.{Spot}
 use Rattle.mir_machine.specs.Try.{Try, Yields, Panics, Sticks, ◌>>=◌, need}
 use Rattle.mir_machine.specs.Tree.{Tree, Trees, Int, Truth, Made, Boxed, Shared, Unique, Gone, no_trees, and_tree, nth_tree, set_nth}
 use Rattle.mir_machine.specs.Frame.{Frame, State}
-use Rattle.mir_machine.specs.Memory.{child, with_child, tree_in, put_in, frame_at, set_frame, tree_at, put_at, running}
+use Rattle.mir_machine.specs.Memory.{child, with_child, tree_in, put_in, frame_at, set_frame, tree_at, put_at}
 use Rattle.mir_ir.specs.declared.place.Place.{Place}
 use Rattle.mir_machine.specs.Step.{past, at_label, whole}
 use Rattle.mir_machine.specs.Good.{begins, overlap}
@@ -104,14 +104,6 @@ stops_set {K} (h ∷ fs) n f g e same = elim (eqb_tells n (length fs)) [
 pub stops_length : {K : Type 0} (s : State K) → length (stops s) ≡ length s
 stops_length [] = refl
 stops_length (f ∷ fs) = ap suc (stops_length fs)
-
--- the number of the running frame is seen from the stops
-pub running_is : {K : Type 0} (s : State K) (g : Stop) (gs : List Stop) → stops s ≡ g ∷ gs → running s ≡ length gs
-running_is [] g gs e = absurd (cc)
-running_is (f ∷ fs) g gs e = sym (stops_length fs) ∙ ap length (behind_first (stop_of f) g (stops fs) gs e)
-  where
-    behind_first : (h g : Stop) (hs gs : List Stop) → h ∷ hs ≡ g ∷ gs → hs ≡ gs
-    behind_first h g hs gs e = cc
 
 -- ---- a write
 
@@ -263,10 +255,6 @@ pub first_local : {K : Type 0} (f : Frame K) (fs : State K) (x : ℕ) → tree_a
 first_local {K} f fs x =
     ap (λ c. cond c (Yields f) (frame_at fs (length fs)) >>= λ f. need (slice_get f.locals x) >>= tree_in []) (eq-eqb (length fs) (length fs) refl)
     ∙ need_same (slice_get f.locals x)
-
-pub needed : {A : Type 0} (o : Option A) (a : A) → need o ≡ Yields a → o ≡ Some a
-needed (Some c) a e = cc
-needed None a e = absurd (cc)
 
 pub whole-path : (p : Place) → p.path ≡ [] → p ≡ whole p.local
 whole-path p e = λ i. record { local = p.local; path = e i }

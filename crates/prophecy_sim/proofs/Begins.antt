@@ -22,7 +22,8 @@ use Rattle.mir_machine.specs.Good.{Each, named}
 use Rattle.mir_machine.specs.Invariant.{stop_of}
 use Rattle.mir_machine.proofs.Stacks.{typed_args, entered_held}
 use Rattle.mir_machine.proofs.TypedRows.{AreOf}
-use Rattle.mir_machine.proofs.Writes.{first_local, needed}
+use Rattle.mir_machine.proofs.Writes.{first_local}
+use Rattle.mir_machine.proofs.Undoing.{needed}
 use Rattle.prophecy_logic.specs.declared.goal.Goal.{Goal}
 use Rattle.prophecy_logic.specs.Command.{MovesAll}
 use Rattle.prophecy_logic.specs.Row.{name_of}

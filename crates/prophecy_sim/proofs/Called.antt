@@ -14,8 +14,8 @@ use Rattle.logic_term.proofs.Alike.{yes_alike}
 use Rattle.logic_term.proofs.FreeLaw.{coincide_free}
 use Rattle.mir_ir.specs.declared.place.Operand.{Operand}
 use Rattle.mir_ir.specs.declared.place.Place.{Place}
-use Rattle.mir_ir.specs.declared.terminator.Callee.TheVariants.{Function}
-use Rattle.mir_ir.specs.declared.terminator.FnId.TheVariants.{Body as OfBody}
+use Rattle.mir_ir.specs.declared.terminator.Callee.{Callee}
+use Rattle.mir_ir.specs.Callees.{callee_of, contract_at}
 use Rattle.mir_ir.specs.declared.terminator.TerminatorKind.TheVariants.{Call}
 use Rattle.mir_ir.specs.declared.body.Body.{Body}
 use Rattle.mir_ir.specs.WellFormed.{EndIsTyped, Locals, Labelling, OperandsHave}
@@ -26,7 +26,7 @@ use Rattle.mir_machine.specs.Good.{Each, named, here}
 use Rattle.mir_machine.specs.Reads.{Plain}
 use Rattle.mir_machine.specs.Step.{Outcome, entered, end_step}
 use Rattle.mir_machine.specs.Invariant.{Stop, stop_of, stops, local_at}
-use Rattle.mir_machine.proofs.EndRows.{call-row}
+use Rattle.mir_machine.proofs.EndRows.{callee_found, call-row}
 use Rattle.mir_machine.proofs.Stacks.{held_moved}
 use Rattle.mir_machine.proofs.TypedRows.{take_all_yields}
 use Rattle.mir_machine.proofs.Tried.{Quiet}
@@ -38,7 +38,7 @@ use Rattle.prophecy_logic.specs.Prefix.{within}
 use Rattle.prophecy_logic.specs.Walk.{seen_before, at_arguments, goals_of_call, call_commands, Walk, met}
 use Rattle.prophecy_logic.proofs.Commands.{GoalsHold, goals_first, goals_rest}
 use Rattle.prophecy_sim.proofs.Lists.{found_block, each_of}
-use Rattle.prophecy_sim.proofs.Setup.{Setup, FunctionOf, move_rows, S, bodies, declarations, own, walked, scalar_params, OverParams}
+use Rattle.prophecy_sim.proofs.Setup.{Setup, FunctionOf, move_rows, S, bodies, declarations, own, contract_of, walked, scalar_params, OverParams}
 use Rattle.prophecy_sim.proofs.Scalars.{AreShaped, are_shaped, AllShow, all_read, all_typed}
 use Rattle.prophecy_sim.proofs.Operands.{operand_values, all_taken_before, Agree, agree_moved, took_all_agree, took_all_show}
 use Rattle.prophecy_sim.proofs.Calls.{overlay, overlay_named, AsMany, as_many, as_many_operands, with_terms_mean, all_hold, all_exactly}
@@ -72,18 +72,21 @@ module _ {K : Type 0} (s : Setup K) (f : FunctionOf s) (ρ₀ : Env) (fr : Frame
   abbrev end_set : Locals
   end_set = initialised g.label (length st.block.statements)
 
-  module _ {heads : List Label} {v : Walk} (p : Place) (n : ℕ) (types : List Ty) (os : List Operand) (l : Label) (d : Contract) (t : Ty) (at : Span)
-      (kind : st.block.end.kind ≡ Call p (Function (OfBody n)) types os l)
-      (is_d : slice_get s.contracts.of n ≡ Some d) (is_t : slice_get b.locals p.local ≡ Some t) (arrives : Arrives (walked s f) heads l v)
+  module _ {heads : List Label} {v : Walk} (p : Place) (target : Callee) (types : List Ty) (os : List Operand) (l : Label) (d : Contract) (t : Ty) (at : Span)
+      (kind : st.block.end.kind ≡ Call p target types os l)
+      (is_d : contract_at s.contracts target ≡ Some d) (is_t : slice_get b.locals p.local ≡ Some t) (arrives : Arrives (walked s f) heads l v)
       (came : Came s f ρ₀ (walked s f) heads (within (point_of g)) ρ) (is_last : g.statement ≡ length st.block.statements)
       (hold : GoalsHold (S s) ρ (goals_of_call b d at os ++ seen_before (call_commands b d p.local t os) (met v)))
       (held : Holding s f now frame end_set) (agrees : Agree b now frame end_set ρ) (nested : Memories s f ρ₀ end_set ρ st.block.nest) (enclosing : AllAmong st.block.nest heads)
       (behind : AreBehind s f ρ₀ heads g.label) where
-    abbrev ended : EndIsTyped (bodies s) b (Call p (Function (OfBody n)) types os l)
+    abbrev ended : EndIsTyped (bodies s) b (Call p target types os l)
     ended = subst (EndIsTyped (bodies s) b) kind ((own s f).typed.ends g.label st.block st.is_block)
 
+    abbrev found : (m : ℕ) × (callee_of (bodies s) target ≡ Some m) × (slice_get (bodies s).bodies m ≡ Some ended.0.0)
+    found = callee_found (bodies s) target ended.0.0 ended.0.2
+
     abbrev callee : FunctionOf s
-    callee = record { number = n; body = ended.0.0; is_body = ended.0.2 }
+    callee = record { number = found.0; body = ended.0.0; is_body = found.2 }
 
     abbrev can : CanTakeAll end_set os
     can = subst (CanEnd end_set) kind ((move_rows s f).ends g.label st.block st.is_block)
@@ -101,7 +104,7 @@ module _ {K : Type 0} (s : Setup K) (f : FunctionOf s) (ρ₀ : Env) (fr : Frame
     set = all_taken os end_set
 
     same_contract : d ≡ (own s callee).contract
-    same_contract = same_Some _ _ (sym is_d ∙ (own s callee).is_contract)
+    same_contract = same_Some _ _ (sym is_d ∙ contract_of s callee target found.1)
 
     goals_here : GoalsHold (S s) ρ (goals_of_call b (own s callee).contract at os ++ seen_before (call_commands b (own s callee).contract p.local t os) (met v))
     goals_here = subst (λ (e : Contract). GoalsHold (S s) ρ (goals_of_call b e at os ++ seen_before (call_commands b e p.local t os) (met v))) same_contract hold
@@ -115,7 +118,7 @@ module _ {K : Type 0} (s : Setup K) (f : FunctionOf s) (ρ₀ : Env) (fr : Frame
     behind_goals = seen_before (call_commands b (own s callee).contract p.local t os) (met v)
 
     abbrev entered_frame : List (Tree K) → Frame K
-    entered_frame args = entered callee.body n no_tys args
+    entered_frame args = entered callee.body callee.number no_tys args
 
     count : AsMany (own s callee).contract.params values
     count = as_many b ρ (own s callee).contract.params os ((own s callee).speaks.count ∙ sym (params_length callee.body (own s callee).typed.answers) ∙ sym (as_many_operands b os param_types have))
@@ -143,12 +146,12 @@ module _ {K : Type 0} (s : Setup K) (f : FunctionOf s) (ρ₀ : Env) (fr : Frame
         block = st.block;
         is_block = here_is.2;
         place = p;
-        callee = Function (OfBody n);
+        callee = target;
         types = types;
         operands = os;
         next = l;
         is_call = kind;
-        is_callee = refl;
+        is_callee = found.1;
       };
       env = called_in;
       args = args;
@@ -172,7 +175,9 @@ module _ {K : Type 0} (s : Setup K) (f : FunctionOf s) (ρ₀ : Env) (fr : Frame
           type_arguments = types;
           operands = os;
           next = l;
+          target = target;
           is_call = kind;
+          is_target = found.1;
           answer = t;
           is_answer = is_t;
           env = ρ;
@@ -199,11 +204,11 @@ module _ {K : Type 0} (s : Setup K) (f : FunctionOf s) (ρ₀ : Env) (fr : Frame
         not_first : length u ≡ 0 → ⊥
         not_first e = omega (arith, more, e)
 
-    pub call_comes : Quiet Fine (end_step s.code now (Call p (Function (OfBody n)) types os l))
+    pub call_comes : Quiet Fine (end_step s.code now (Call p target types os l))
     unfolding calls_fine
     call_comes =
         let takes = take_all_yields (declarations s) b no_tys frame inside now end_set os param_types (sym (stops_length fs)) held have can in
         let more : length takes.after ≡ suc frame = sym (stops_length takes.after) ∙ ap length takes.stay in
         let shows : AllShow takes.trees values = took_all_show b ρ param_types have can agrees takes.took in
-        subst (Quiet Fine) (sym (call-row s.code now takes.after p (Function (OfBody n)) types os l takes.trees n callee.body takes.yields refl callee.is_body))
+        subst (Quiet Fine) (sym (call-row s.code now takes.after p target types os l takes.trees callee.number callee.body takes.yields found.1 callee.is_body))
         (continues.calls takes.after takes.stay takes.elsewhere (calls_fine takes.after takes.trees more takes.held (are_shaped takes.typed) (took_all_agree b ρ agrees takes.took) shows))

@@ -6,8 +6,6 @@ use Rattle.logic_term.specs.declared.kinds.Label.{Label}
 use Rattle.logic_term.specs.Meaning.{Env}
 use Rattle.logic_term.specs.Ty.{no_tys}
 use Rattle.mir_ir.specs.declared.statement.Statement.{Statement}
-use Rattle.mir_ir.specs.declared.terminator.Callee.TheVariants.{Function}
-use Rattle.mir_ir.specs.declared.terminator.FnId.TheVariants.{Body as OfBody}
 use Rattle.mir_ir.specs.declared.terminator.Terminator.{Terminator}
 use Rattle.mir_ir.specs.declared.terminator.TerminatorKind.TheVariants.{Goto, Return}
 use Rattle.mir_ir.specs.declared.body.Body.{Body}
@@ -81,9 +79,9 @@ module _ {K : Type 0} (s : Setup K) (f : FunctionOf s) (ρ₀ : Env) (fr : Frame
       (ways l (subst (λ x. among l (targets x) ≡ true) (sym kind) (among_first l [])) carries))))
   end_comes (branch o l r q to_l to_r) is is_last came hold held agrees nested enclosing behind ways =
       subst (λ k. Quiet Fine (end_step s.code now k)) (sym q) (branch_comes s f ρ₀ fr fs inside st Fine continues o l r (ap (λ (x : Terminator). x.kind) (sym is) ∙ q) to_l to_r came (here_ends s f ρ₀ fr fs inside st is_last) hold held agrees ways)
-  end_comes {end = end} (call p (Function (OfBody m)) types os l d t q is_d is_t arrives) is is_last came hold held agrees nested enclosing behind ways =
+  end_comes {end = end} (call p callee types os l d t q is_d is_t arrives) is is_last came hold held agrees nested enclosing behind ways =
       subst (λ k. Quiet Fine (end_step s.code now k)) (sym q)
-      (call_comes s f ρ₀ fr fs inside st Fine continues p m types os l d t end.span (ap (λ (x : Terminator). x.kind) (sym is) ∙ q) is_d is_t arrives came is_last hold held agrees nested enclosing behind)
+      (call_comes s f ρ₀ fr fs inside st Fine continues p callee types os l d t end.span (ap (λ (x : Terminator). x.kind) (sym is) ∙ q) is_d is_t arrives came is_last hold held agrees nested enclosing behind)
   end_comes (return q) is is_last came hold held agrees nested enclosing behind ways =
       let kind : st.block.end.kind ≡ Return = ap (λ (x : Terminator). x.kind) (sym is) ∙ q in
       let can : end_set 0 ≡ true = subst (CanEnd end_set) kind ((move_rows s f).ends g.label st.block st.is_block) in

@@ -14,7 +14,7 @@ use Rattle.mir_machine.specs.Frame.{State}
 use Rattle.mir_machine.specs.Reads.{View, Owner, Reads, ReadsAll, of_lent, of_int, of_truth, of_made, of_none, of_more}
 use Rattle.mir_machine.specs.Typed.{Typed, is_int, is_truth, is_tuple, none_typed, AreTyped, more_typed}
 use Rattle.mir_machine.specs.Good.{here, not_lent}
-use Rattle.mir_machine.proofs.TypedTrees.{Shape, has_shape, typed_shape}
+use Rattle.mir_machine.proofs.TypedTrees.{Shape, has_shape}
 use Rattle.mir_machine.proofs.TypedRows.{AreOf}
 use Rattle.prophecy_sim.specs.Programs.{IsScalar}
 
@@ -88,11 +88,6 @@ shaped_typed Δ s (int k) t scalar (there, (z, is, f)) = subst (λ u. Typed Δ s
 shaped_typed Δ s bool t scalar (there, (b, is)) = subst (λ u. Typed Δ s u bool []) (sym is) is_truth
 shaped_typed Δ s (tuple no_tys) t scalar (there, is) = subst (λ u. Typed Δ s u unit_ty []) (sym is) (is_tuple none_typed)
 shaped_typed Δ s _ t scalar shape = absurd scalar
-
--- what is typed in a state and reads as a value there shows it
-pub typed_shows : {K : Type 0} {gaps : Bool} {final : K → Spot → Value} {w : View K} {at : Spot} (Δ : Declarations) (s : State K) (ty : Ty) (t : Tree K) (v : Value) → IsScalar ty →
-    Typed Δ s t (instance no_tys ty) [] → Reads gaps s final not_lent w at t v → Shows t v
-typed_shows Δ s ty t v scalar typed h = shaped_shows ty t v scalar (typed_shape Δ s t (instance no_tys ty) [] typed) h
 
 -- ---- lists
 

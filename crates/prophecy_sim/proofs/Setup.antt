@@ -1,6 +1,6 @@
 -- What the simulation is about: a program on the machine, and one of its functions.
 use Rattle.std.proofs.Common.{◌≡◌, ◌∙◌, sym, ap, ℕ, suc, List, Some, slice_get, take, drop, arith, true}
-use Rattle.std.proofs.lemmas.Option.{slice_get_within}
+use Rattle.std.proofs.lemmas.Option.{slice_get_within, same_Some}
 use Rattle.text_core.specs.declared.name.Name.{Name}
 use Rattle.logic_term.specs.declared.obligation.Contract.{Contract}
 use Rattle.logic_term.specs.Meaning.{Structure, structure_of}
@@ -14,11 +14,14 @@ use Rattle.mir_ir.specs.declared.body.Bodies.{Bodies}
 use Rattle.mir_ir.specs.declared.body.Body.{Body}
 use Rattle.mir_ir.specs.declared.body.Contracts.{Contracts}
 use Rattle.mir_ir.specs.declared.body.Initialised.{Initialised}
+use Rattle.mir_ir.specs.declared.terminator.Callee.{Callee}
+use Rattle.mir_ir.specs.declared.terminator.Callee.TheVariants.{Function}
+use Rattle.mir_ir.specs.declared.terminator.FnId.TheVariants.{Body as OfBody}
+use Rattle.mir_ir.specs.Callees.{callee_of, contract_at}
 use Rattle.mir_ir.specs.Names.{IsOneOf, new_number}
 use Rattle.mir_ir.proofs.Taking.{RowByRow, row_by_row}
 use Rattle.mir_ir.specs.WellFormed.{AreSound, Labelling}
 use Rattle.mir_machine.specs.Code.{Code}
-use Rattle.mir_machine.specs.Invariant.{AreLabelled}
 use Rattle.mir_machine.specs.declared.spot.Spot.{Spot}
 use Rattle.prophecy_logic.specs.Row.{value_name, or_value_name, name_of}
 use Rattle.prophecy_logic.specs.Graph.{Setting}
@@ -73,9 +76,6 @@ module _ {K : Type 0} (s : Setup K) where
   abbrev pub sound : AreSound bodies
   sound n b is_body = let f = s.functions n b is_body in (f.typed, (s.labelling n, f.moves), f.number)
 
-  abbrev pub labelled : AreLabelled bodies s.labelling
-  labelled n b is_body = let f = s.functions n b is_body in (f.typed, f.moves)
-
   -- a function of the program
   pub record FunctionOf : Type 0 where
     pub number : ℕ
@@ -89,6 +89,10 @@ module _ {K : Type 0} (s : Setup K) where
     -- its rows on moves, form by form
     pub move_rows : RowByRow f.body (s.labelling f.number)
     move_rows = row_by_row f.body (s.labelling f.number) own.moves
+
+    -- the contract by which a call is reasoned about, where the call runs the function
+    pub contract_of : (callee : Callee) → callee_of bodies callee ≡ Some f.number → contract_at s.contracts callee ≡ Some own.contract
+    contract_of (Function (OfBody n)) e = ap (slice_get s.contracts.of) (same_Some _ _ e) ∙ own.is_contract
 
     -- what the walk of the function looks up
     abbrev pub walked : Setting

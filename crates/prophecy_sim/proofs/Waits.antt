@@ -1,5 +1,6 @@
 -- A frame that waits for the answer of a call, what a call may answer, and what comes of an answer.
 use Rattle.std.proofs.Common.{◌≡◌, ◌∙◌, ◌⊎◌, inl, inr, refl, sym, ap, subst, ℕ, ◌+◌, ◌≤◌, ◌==◌, Bool, true, false, List, [], ◌∷◌, length, drop, take, map, Some, slice_get, true≢false, eq-eqb, arith}
+use Rattle.std.specs.Prelude.{option_and_then}
 use Rattle.std.proofs.lemmas.List.{length-take, length-drop}
 use Rattle.std.proofs.lemmas.Option.{same_Some}
 use Rattle.text_core.specs.declared.name.Name.{Name}
@@ -18,8 +19,8 @@ use Rattle.logic_term.proofs.FreeLaw.{coincide_free, same_name}
 use Rattle.logic_term.proofs.Truth.{Exactly}
 use Rattle.mir_ir.specs.declared.place.Operand.{Operand}
 use Rattle.mir_ir.specs.declared.place.Place.{Place}
-use Rattle.mir_ir.specs.declared.terminator.Callee.TheVariants.{Function}
-use Rattle.mir_ir.specs.declared.terminator.FnId.TheVariants.{Body as OfBody}
+use Rattle.mir_ir.specs.declared.terminator.Callee.{Callee}
+use Rattle.mir_ir.specs.Callees.{callee_of}
 use Rattle.mir_ir.specs.declared.terminator.TerminatorKind.TheVariants.{Call}
 use Rattle.mir_ir.specs.declared.body.Block.{Block}
 use Rattle.mir_ir.specs.declared.body.Body.{Body}
@@ -51,7 +52,7 @@ use Rattle.prophecy_logic.specs.Walk.{seen_before, call_commands, at_arguments_a
 use Rattle.prophecy_logic.specs.Walkable.{AllAmong}
 use Rattle.prophecy_logic.proofs.Commands.{GoalsHold, goals_moved, then_moves}
 use Rattle.prophecy_sim.proofs.Lists.{decide, each_of}
-use Rattle.prophecy_sim.proofs.Setup.{Setup, FunctionOf, move_rows, S, bodies, declarations, own, walked, local_named, apart_from, not_new, OverAnswer}
+use Rattle.prophecy_sim.proofs.Setup.{Setup, FunctionOf, move_rows, S, bodies, declarations, own, contract_of, walked, local_named, apart_from, not_new, OverAnswer}
 use Rattle.prophecy_sim.proofs.Scalars.{Shows, shaped_shows, shaped_sort}
 use Rattle.prophecy_sim.proofs.Operands.{operand_values, Agree, agree_within, agree_set, with_before}
 use Rattle.prophecy_sim.proofs.Calls.{overlay, overlay_named, AsMany, as_many, as_many_operands, new_values, AreExactly, with_terms_mean, all_exactly}
@@ -96,7 +97,9 @@ module _ {K : Type 0} (s : Setup K) where
       pub type_arguments : List Ty
       pub operands : List Operand
       pub next : Label
-      pub is_call : block.end.kind ≡ Call place (Function (OfBody callee.number)) type_arguments operands next
+      pub target : Callee
+      pub is_call : block.end.kind ≡ Call place target type_arguments operands next
+      pub is_target : callee_of (bodies s) target ≡ Some callee.number
       pub answer : Ty
       pub is_answer : slice_get b.locals place.local ≡ Some answer
       pub env : Env
@@ -171,12 +174,12 @@ module _ {K : Type 0} (s : Setup K) where
       abbrev with_place : Env
       with_place = with_value with_new (name_of b p.local) v
 
-      abbrev ended : EndIsTyped (bodies s) b (Call p (Function (OfBody callee.number)) w.call.type_arguments os w.call.next)
+      abbrev ended : EndIsTyped (bodies s) b (Call p w.call.target w.call.type_arguments os w.call.next)
       ended = subst (EndIsTyped (bodies s) b) w.call.is_call ((own s f).typed.ends g.label w.call.block w.call.is_block)
 
       -- the callee's body is that which the call's types speak of
       same_body : ended.0.0 ≡ c
-      same_body = same_Some _ _ (sym ended.0.2 ∙ callee.is_body)
+      same_body = same_Some _ _ (sym ended.0.2 ∙ ap (option_and_then (slice_get (bodies s).bodies)) w.call.is_target ∙ callee.is_body)
 
       have : OperandsHave b os (take c.params (drop 1 c.locals))
       have = subst (λ (x : Body). OperandsHave b os (take x.params (drop 1 x.locals))) same_body ended.0.3
@@ -266,8 +269,8 @@ module _ {K : Type 0} (s : Setup K) where
             keeps = λ n out. with_other with_new (name_of b p.local) n a.value (out.0 p.local (name_of b p.local) (local_named s f p.local w.call.answer w.call.is_answer))
                 ∙ with_other w.call.env value_name n a.value out.1 ∙ w.call.keeps n out;
             came = came_on s f ρ₀ w.call.came (call_commands b d p.local w.call.answer os)
-                (over_call w.call.block.end p (Function (OfBody callee.number)) w.call.type_arguments os w.call.next d w.call.answer w.call.came.prefix
-                (record { block = w.call.block; is_block = w.call.is_block; is_last = w.call.is_last; is_end = refl }) w.call.is_call (own s callee).is_contract w.call.is_answer) moves;
+                (over_call w.call.block.end p w.call.target w.call.type_arguments os w.call.next d w.call.answer w.call.came.prefix
+                (record { block = w.call.block; is_block = w.call.is_block; is_last = w.call.is_last; is_end = refl }) w.call.is_call (contract_of s callee w.call.target w.call.is_target) w.call.is_answer) moves;
           })
           way
           (goals_moved (S s) (met w.call.walk) moves w.call.hold)
@@ -282,7 +285,7 @@ module _ {K : Type 0} (s : Setup K) where
           record {
             after = v₁;
             stop = at_start w.call.next g;
-            yields = back-row (bodies s) t fr h us b w.call.block p (Function (OfBody callee.number)) w.call.type_arguments os w.call.next (subst (λ n. slice_get (bodies s).bodies n ≡ Some b) (sym w.call.function) f.is_body)
+            yields = back-row (bodies s) t fr h us b w.call.block p w.call.target w.call.type_arguments os w.call.next (subst (λ n. slice_get (bodies s).bodies n ≡ Some b) (sym w.call.function) f.is_body)
                 w.call.is_block w.call.is_call ∙ ap (λ (m : Try (State K)). m >>= λ x. Yields (Running x)) is_v;
             stay = written.stay;
             elsewhere = written_elsewhere frame refl written;
