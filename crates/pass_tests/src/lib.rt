@@ -11,3 +11,5 @@ mod lowering;
 mod typing;
 #[cfg(test)]
 mod verdicts;
+#[cfg(test)]
+mod walks;

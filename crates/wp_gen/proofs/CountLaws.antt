@@ -28,9 +28,9 @@ use Rattle.prophecy_logic.specs.Walk.{seen_before, each_goal, goals_at_return, g
 use Rattle.prophecy_logic.proofs.ArriveLaws.{either}
 use Rattle.prophecy_logic.proofs.Exists.{walks_exist}
 use Rattle.prophecy_logic.proofs.Steps.{some_same, ends_by, comes_by}
-use Rattle.wp_gen.specs.Count.{IsRoomLeft, LeavesRoom, LeavesRoomBehind, count, goals_within, goals_of_head, IsFrom, IsAlong, AreSomeObligations, HaveObligations}
+use Rattle.wp_gen.specs.Count.{IsRoomLeft, LeavesRoom, LeavesRoomBehind, count, goals_within, goals_of_head, IsFrom, IsAlong, IsAtEnd, AreSplit, LeavesRoomBefore, AreSomeObligations, HaveObligations}
 use Rattle.wp_gen.specs.Limits.{HasFewObligations, most_paths, most_obligations}
-use Rattle.wp_gen.specs.Paths.{passed, MayStand, HasPaths}
+use Rattle.wp_gen.specs.Paths.{passed, MayStand, HasPaths, last_target}
 use Rattle.wp_gen.proofs.PathLaws.{IsEnteredAt, enters_later, enters_entry, counts_agree, may_stop, walks_are_counted}
 
 -- ---- lengths
@@ -99,14 +99,28 @@ through_statements {w} {heads} {p} {v} (by_end end at e) k is =
       many = omega (arith, ap (goals_within w.body) none);
     }
 
+-- ---- up to the last edge
+
+split_more : (w : Setting) (l : Label) (last : Option Label) (many own : ℕ) (inner v : Walk) → AreSplit w l last many inner → count v ≡ own + count inner → AreSplit w l last (own + many) v
+split_more w l None many own inner v h e = omega (arith, h, e)
+split_more w l (Some m) many own inner v (u, along, h) e = (u, along, omega (arith, h, e))
+
 -- from a block on: its statements, then its end
-pub from_here : (w : Setting) (l : Label) (k : Block) (room left : ℕ) (r : Option ℕ) → block_in w.body.blocks l ≡ Some k → IsRoomLeft room (goals_within w.body k.statements) (Some left)
-    → ((heads : List Label) (v : Walk) → MayStand w.body heads l k → Ends w heads k.end v → IsRoomLeft left (count v) r) → LeavesRoomBehind (IsFrom w l) room r
-from_here w l k room left r is statements ends v (heads, k', may, within) =
-    let same : k' ≡ k = some_same (sym may.is_block ∙ is) in
-    let t = through_statements within k is in
-    same_room room (goals_within w.body k.statements + count t.left) (count v) r (sym t.many)
-    (both_left room (goals_within w.body k.statements) (count t.left) left r statements (ends heads t.left (subst (λ (j : Block). MayStand w.body heads l j) same may) t.ends))
+pub block_before : (w : Setting) (l : Label) (k : Block) (last : Option Label) (room left : ℕ) (r : Option ℕ) → block_in w.body.blocks l ≡ Some k → IsRoomLeft room (goals_within w.body k.statements) (Some left)
+    → LeavesRoomBefore w l last (IsAtEnd w l k) left r → LeavesRoomBefore w l last (IsFrom w l) room r
+block_before w l k last room left None is statements at_end = λ v from.
+    let same : from.1 ≡ k = some_same (sym from.2.is_block ∙ is) in
+    let t = through_statements from.3 k is in
+    same_room room (goals_within w.body k.statements + count t.left) (count v) None (sym t.many)
+    (both_left room (goals_within w.body k.statements) (count t.left) left None statements (at_end t.left (from.0, subst (λ (j : Block). MayStand w.body from.0 l j) same from.2, t.ends)))
+block_before w l k last room left (Some rest) is statements at_end = λ v from.
+    let same : from.1 ≡ k = some_same (sym from.2.is_block ∙ is) in
+    let t = through_statements from.3 k is in
+    let e = at_end t.left (from.0, subst (λ (j : Block). MayStand w.body from.0 l j) same from.2, t.ends) in (
+      goals_within w.body k.statements + e.0,
+      both_left room (goals_within w.body k.statements) e.0 left (Some rest) statements e.1,
+      split_more w l last e.0 (goals_within w.body k.statements) t.left v e.2 t.many,
+    )
 
 -- already the statements are too many
 pub statements_are_many : (w : Setting) (l : Label) (k : Block) (room : ℕ) → block_in w.body.blocks l ≡ Some k → IsRoomLeft room (goals_within w.body k.statements) None → LeavesRoomBehind (IsFrom w l) room None
@@ -115,20 +129,23 @@ statements_are_many w l k room is many v (heads, k', may, within) =
     same_room room (goals_within w.body k.statements + count t.left) (count v) None (sym t.many) (none_left room (goals_within w.body k.statements) (count t.left) many)
 
 module _ (w : Setting) (l : Label) (k : Block) where
-  pub goto_leaves : (next : Label) (left : ℕ) (r : Option ℕ) → k.end.kind ≡ Goto next → LeavesRoomBehind (IsAlong w l next) left r → (heads : List Label) (v : Walk) → MayStand w.body heads l k → Ends w heads k.end v → IsRoomLeft left (count v) r
-  goto_leaves next left r e leaves heads v may ends = leaves v (heads, k, may, ends_by ends (Goto next) e)
+  pub goto_before : (next : Label) (room : ℕ) → k.end.kind ≡ Goto next → LeavesRoomBefore w l (last_target k.end.kind) (IsAtEnd w l k) room (Some room)
+  goto_before next room e = λ v at_end. (
+    0,
+    omega arith,
+    subst (λ kind. AreSplit w l (last_target kind) 0 v) (sym e) (v, (at_end.0, k, at_end.1, ends_by at_end.2 (Goto next) e), omega arith),
+  )
 
-  pub branch_leaves : (o : Operand) (on_true on_false : Label) (left after : ℕ) (r : Option ℕ) → k.end.kind ≡ If o on_true on_false → LeavesRoomBehind (IsAlong w l on_true) left (Some after) → LeavesRoomBehind (IsAlong w l on_false) after r
-      → (heads : List Label) (v : Walk) → MayStand w.body heads l k → Ends w heads k.end v → IsRoomLeft left (count v) r
-  branch_leaves o on_true on_false left after r e one other heads v may ends =
-      let h = ends_by ends (If o on_true on_false) e in
-      same_room left (count h.0 + count h.2) (count v) r (omega (arith, ap count h.4))
-      (both_left left (count h.0) (count h.2) after r (one h.0 (heads, k, may, h.1)) (other h.2 (heads, k, may, h.3)))
-
-  pub branch_is_full : (o : Operand) (on_true on_false : Label) (left : ℕ) → k.end.kind ≡ If o on_true on_false → LeavesRoomBehind (IsAlong w l on_true) left None → (heads : List Label) (v : Walk) → MayStand w.body heads l k → Ends w heads k.end v → IsRoomLeft left (count v) None
-  branch_is_full o on_true on_false left e one heads v may ends =
-      let h = ends_by ends (If o on_true on_false) e in
-      same_room left (count h.0 + count h.2) (count v) None (omega (arith, ap count h.4)) (none_left left (count h.0) (count h.2) (one h.0 (heads, k, may, h.1)))
+  pub branch_before : (o : Operand) (on_true on_false : Label) (room : ℕ) (r : Option ℕ) → k.end.kind ≡ If o on_true on_false → LeavesRoomBehind (IsAlong w l on_true) room r → LeavesRoomBefore w l (last_target k.end.kind) (IsAtEnd w l k) room r
+  branch_before o on_true on_false room (Some left) e one = λ v at_end.
+      let h = ends_by at_end.2 (If o on_true on_false) e in (
+        count h.0,
+        one h.0 (at_end.0, k, at_end.1, h.1),
+        subst (λ kind. AreSplit w l (last_target kind) (count h.0) v) (sym e) (h.2, (at_end.0, k, at_end.1, h.3), omega (arith, ap count h.4)),
+      )
+  branch_before o on_true on_false room None e one = λ v at_end.
+      let h = ends_by at_end.2 (If o on_true on_false) e in
+      same_room room (count h.0 + count h.2) (count v) None (omega (arith, ap count h.4)) (none_left room (count h.0) (count h.2) (one h.0 (at_end.0, k, at_end.1, h.1)))
 
   -- a call has as many goals as the callee's contract has `requires`
   record OverCall (heads : List Label) (next : Label) (d : Contract) (v : Walk) : Type 0 where
@@ -136,7 +153,8 @@ module _ (w : Setting) (l : Label) (k : Block) where
     arrives : Arrives w heads next behind
     many : length d.pre + count behind ≡ count v
 
-  over_call : (p : Place) (callee : Callee) (types : List Ty) (args : List Operand) (next : Label) (d : Contract) → k.end.kind ≡ Call p callee types args next → contract_at w.contracts callee ≡ Some d → (heads : List Label) (v : Walk) → Ends w heads k.end v → OverCall heads next d v
+  over_call : (p : Place) (callee : Callee) (types : List Ty) (args : List Operand) (next : Label) (d : Contract)
+      → k.end.kind ≡ Call p callee types args next → contract_at w.contracts callee ≡ Some d → (heads : List Label) (v : Walk) → Ends w heads k.end v → OverCall heads next d v
   over_call p callee types args next d e is heads v ends =
       let h = ends_by ends (Call p callee types args next) e in
       let same : d ≡ h.2 = some_same (sym is ∙ h.4) in
@@ -146,21 +164,38 @@ module _ (w : Setting) (l : Label) (k : Block) where
         many = omega (arith, ap (λ (c : Contract). length c.pre) same, length_of_call w.body h.2 k.end.span args, ap count h.6);
       }
 
-  pub call_leaves : (p : Place) (callee : Callee) (types : List Ty) (args : List Operand) (next : Label) (d : Contract) (left after : ℕ) (r : Option ℕ)
-      → k.end.kind ≡ Call p callee types args next → contract_at w.contracts callee ≡ Some d → IsRoomLeft left (length d.pre) (Some after) → LeavesRoomBehind (IsAlong w l next) after r
-      → (heads : List Label) (v : Walk) → MayStand w.body heads l k → Ends w heads k.end v → IsRoomLeft left (count v) r
-  call_leaves p callee types args next d left after r e is goals leaves heads v may ends =
-      let h = over_call p callee types args next d e is heads v ends in
-      same_room left (length d.pre + count h.behind) (count v) r h.many (both_left left (length d.pre) (count h.behind) after r goals (leaves h.behind (heads, k, may, h.arrives)))
+  pub call_before : (p : Place) (callee : Callee) (types : List Ty) (args : List Operand) (next : Label) (d : Contract) (room : ℕ) (r : Option ℕ)
+      → k.end.kind ≡ Call p callee types args next → contract_at w.contracts callee ≡ Some d → IsRoomLeft room (length d.pre) r → LeavesRoomBefore w l (last_target k.end.kind) (IsAtEnd w l k) room r
+  call_before p callee types args next d room (Some left) e is goals = λ v at_end.
+      let h = over_call p callee types args next d e is at_end.0 v at_end.2 in (
+        length d.pre,
+        goals,
+        subst (λ kind. AreSplit w l (last_target kind) (length d.pre) v) (sym e) (h.behind, (at_end.0, k, at_end.1, h.arrives), sym h.many),
+      )
+  call_before p callee types args next d room None e is goals = λ v at_end.
+      let h = over_call p callee types args next d e is at_end.0 v at_end.2 in
+      same_room room (length d.pre + count h.behind) (count v) None h.many (none_left room (length d.pre) (count h.behind) goals)
 
-  pub call_is_full : (p : Place) (callee : Callee) (types : List Ty) (args : List Operand) (next : Label) (d : Contract) (left : ℕ) → k.end.kind ≡ Call p callee types args next → contract_at w.contracts callee ≡ Some d → IsRoomLeft left (length d.pre) None
-      → (heads : List Label) (v : Walk) → MayStand w.body heads l k → Ends w heads k.end v → IsRoomLeft left (count v) None
-  call_is_full p callee types args next d left e is goals heads v may ends =
-      let h = over_call p callee types args next d e is heads v ends in
-      same_room left (length d.pre + count h.behind) (count v) None h.many (none_left left (length d.pre) (count h.behind) goals)
+  pub return_before : (room : ℕ) (r : Option ℕ) → k.end.kind ≡ Return → IsRoomLeft room (length (goals_at_return w.body w.contract)) r → LeavesRoomBefore w l (last_target k.end.kind) (IsAtEnd w l k) room r
+  return_before room (Some left) e goals = λ v at_end.
+      let many : count v ≡ length (goals_at_return w.body w.contract) = omega (arith, ap count (ends_by at_end.2 Return e)) in
+      (length (goals_at_return w.body w.contract), goals, subst (λ kind. AreSplit w l (last_target kind) (length (goals_at_return w.body w.contract)) v) (sym e) many)
+  return_before room None e goals = λ v at_end.
+      same_room room (length (goals_at_return w.body w.contract)) (count v) None (omega (arith, ap count (ends_by at_end.2 Return e))) goals
 
-  pub return_leaves : (left : ℕ) (r : Option ℕ) → k.end.kind ≡ Return → IsRoomLeft left (length (goals_at_return w.body w.contract)) r → (heads : List Label) (v : Walk) → MayStand w.body heads l k → Ends w heads k.end v → IsRoomLeft left (count v) r
-  return_leaves left r e goals heads v may ends = same_room left (length (goals_at_return w.body w.contract)) (count v) r (omega (arith, ap count (ends_by ends Return e))) goals
+-- no edge leads on
+pub none_behind : (w : Setting) (l : Label) (last : Option Label) (room left : ℕ) → last ≡ None → LeavesRoomBefore w l last (IsFrom w l) room (Some left) → LeavesRoomBehind (IsFrom w l) room (Some left)
+none_behind w l None room left e before = λ v is. let h = before v is in same_room room h.0 (count v) (Some left) (sym h.2) h.1
+none_behind w l (Some m) room left e before = λ v is. absurd (let some : Some m ≡ None = e in cc)
+
+-- what is along the last edge comes behind
+pub along_behind : (w : Setting) (l m : Label) (last : Option Label) (room left : ℕ) (r : Option ℕ)
+    → last ≡ Some m → LeavesRoomBefore w l last (IsFrom w l) room (Some left) → LeavesRoomBehind (IsAlong w l m) left r → LeavesRoomBehind (IsFrom w l) room r
+along_behind w l m None room left r e before along = λ v is. absurd (let some : None ≡ Some m = e in cc)
+along_behind w l m (Some t) room left r e before along = λ v is.
+    let h = before v is in
+    same_room room (h.0 + count h.2.0) (count v) r (sym h.2.2)
+    (both_left room h.0 (count h.2.0) left r h.1 (along h.2.0 (subst (λ x. IsAlong w l x h.2.0) (some_same e) h.2.1)))
 
 -- ---- arrivals
 
@@ -198,7 +233,8 @@ abbrev AtArrival : Setting → Label → ℕ → Option ℕ → Type 0
 AtArrival w m room r = (k : Block) → block_in w.body.blocks m ≡ Some k → IsRoomLeft room (goals_of_head k.head) r
 
 -- back to a head that was passed
-pub back_leaves : (w : Setting) (l m : Label) (k : Block) (room left : ℕ) → IsLaidOut w.body → block_in w.body.blocks l ≡ Some k → among m (targets k.end.kind) ≡ true → among m k.nest ≡ true → AtArrival w m room (Some left) → LeavesRoomBehind (IsAlong w l m) room (Some left)
+pub back_leaves : (w : Setting) (l m : Label) (k : Block) (room left : ℕ) → IsLaidOut w.body → block_in w.body.blocks l ≡ Some k
+    → among m (targets k.end.kind) ≡ true → among m k.nest ≡ true → AtArrival w m room (Some left) → LeavesRoomBehind (IsAlong w l m) room (Some left)
 back_leaves w l m k room left laid is named in_nest arrival v (heads, k', may, arrives) = by_edge (laid.edges l m k is named)
   where
     was_passed : among m heads ≡ true

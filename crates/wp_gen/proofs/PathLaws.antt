@@ -1,10 +1,6 @@
 -- Laws of the paths of bodies, and the counting of them.
-use Rattle.std.proofs.Common.{◌≡◌, ◌∙◌, inl, inr, refl, sym, ap, subst, ℕ, ◌+◌, ◌-◌, ◌*◌, ◌≤◌, ◌<◌, ◌==◌, ◌||◌, Bool, true, false, true≢false, List, [], ◌∷◌, ◌++◌, Option, Some, None, arith}
+use Rattle.std.proofs.Common.{◌≡◌, ◌∙◌, inl, inr, refl, sym, ap, subst, ℕ, ◌+◌, ◌≤◌, ◌<◌, ◌==◌, ◌||◌, Bool, true, false, true≢false, List, [], ◌∷◌, ◌++◌, Option, Some, None, arith}
 use Rattle.logic_term.specs.declared.kinds.Label.{Label}
-use Rattle.mir_ir.specs.declared.place.Operand.{Operand}
-use Rattle.mir_ir.specs.declared.place.Place.{Place}
-use Rattle.logic_term.specs.Ty.{Ty}
-use Rattle.mir_ir.specs.declared.terminator.Callee.{Callee}
 use Rattle.mir_ir.specs.declared.terminator.Terminator.{Terminator}
 use Rattle.mir_ir.specs.declared.terminator.TerminatorKind.{TerminatorKind}
 use Rattle.mir_ir.specs.declared.terminator.TerminatorKind.TheVariants.{Goto, If, Call, Return}
@@ -18,9 +14,9 @@ use Rattle.prophecy_logic.specs.Graph.{Setting, Within, Ends, Arrives}
 use Rattle.prophecy_logic.specs.Graph as walk
 use Rattle.prophecy_logic.specs.Walk.{Walk, paths}
 use Rattle.prophecy_logic.specs.Walkable.{AllAmong}
-use Rattle.wp_gen.specs.Paths.{IsEntered, passed, Paths, stopped, again, return, goto, call, branch, CountsAgree, WalksAreCounted, MayStand, CountsAlong, EndPaths, CountsFrom, IsCount}
+use Rattle.wp_gen.specs.Paths.{IsEntered, passed, Paths, stopped, again, return, goto, call, branch, CountsAgree, WalksAreCounted, MayStand, CountsAlong, last_target, IsLater, CountsFirst, EndPaths, CountsFrom, IsCount}
 use Rattle.prophecy_logic.proofs.Steps.{some_same}
-use Rattle.prophecy_logic.proofs.ArriveLaws.{either, or_true, among_append, among_front, same_label, room, found_place}
+use Rattle.prophecy_logic.proofs.ArriveLaws.{either, or_true, among_append, among_front, same_label, room, found_place, goto_names, if_names_no, call_names}
 
 -- a count that is exact may also have stopped
 pub may_stop : {b : Body} {heads : List Label} {l : Label} {n : ℕ} → Paths false b heads l n → Paths true b heads l n
@@ -57,7 +53,8 @@ passed_once {heads = heads} {l = l} (call k' q c types args m is' entered e p) k
 passed_once {heads = heads} {l = l} (branch k' o on_true on_false is' entered e p q) k h is is_head there = absurd (not_both k k' h l heads _ is is' is_head there entered)
 
 -- what follows in a block that is entered
-ends_of : (b : Body) (heads : List Label) (l : Label) (k k' : Block) (n : ℕ) → block_in b.blocks l ≡ Some k → block_in b.blocks l ≡ Some k' → EndPaths false b (passed k'.head l heads) k'.end.kind n → EndPaths false b (passed k.head l heads) k.end.kind n
+ends_of : (b : Body) (heads : List Label) (l : Label) (k k' : Block) (n : ℕ) → block_in b.blocks l ≡ Some k → block_in b.blocks l ≡ Some k'
+    → EndPaths false b (passed k'.head l heads) k'.end.kind n → EndPaths false b (passed k.head l heads) k.end.kind n
 ends_of b heads l k k' n is is' p = subst (λ (j : Block). EndPaths false b (passed j.head l heads) j.end.kind n) (some_same (sym is' ∙ is)) p
 
 follows : {b : Body} {heads : List Label} {l : Label} {n : ℕ} → Paths false b heads l n → (k : Block) → block_in b.blocks l ≡ Some k → IsEntered k.head l heads → EndPaths false b (passed k.head l heads) k.end.kind n
@@ -226,35 +223,71 @@ on_counts b l m k laid is named not_in early n counts heads k' may =
     let e = enters_later b l m k heads laid named not_in (subst (λ (j : Block). MayStand b heads l j) same may) in
     enters early b heads m e.block n e.is_block e.is_entered (counts (passed e.block.head m heads) e.block e.stands)
 
+-- a block's end names where its last edge leads
+pub last_named : (kind : TerminatorKind) (m : Label) → last_target kind ≡ Some m → among m (targets kind) ≡ true
+last_named (Goto t) m e = ap (λ x. among x (targets (Goto t))) (sym (some_same e)) ∙ goto_names (Goto t) t refl
+last_named (If o on_true on_false) m e = ap (λ x. among x (targets (If o on_true on_false))) (sym (some_same e)) ∙ if_names_no (If o on_true on_false) o on_true on_false refl
+last_named (Call p c types args t) m e = ap (λ x. among x (targets (Call p c types args t))) (sym (some_same e)) ∙ call_names (Call p c types args t) p c types args t refl
+last_named Return m e = absurd (let some : None ≡ Some m = e in cc)
+
 -- ---- from a block on
 
 -- by the block's end
-pub ends_count : (b : Body) (l : Label) (k : Block) (kind : TerminatorKind) (early : Bool) (n : ℕ) → block_in b.blocks l ≡ Some k → k.end.kind ≡ kind → ((heads : List Label) → MayStand b heads l k → EndPaths early b heads kind n) → CountsFrom b l early n
+pub ends_count : (b : Body) (l : Label) (k : Block) (kind : TerminatorKind) (early : Bool) (n : ℕ) → block_in b.blocks l ≡ Some k → k.end.kind ≡ kind
+    → ((heads : List Label) → MayStand b heads l k → EndPaths early b heads kind n) → CountsFrom b l early n
 ends_count b l k kind early n is is_kind p heads k' may =
     let same : k ≡ k' = some_same (sym is ∙ may.is_block) in
     subst (λ (j : Block). EndPaths early b heads j.end.kind n) same (subst (λ q. EndPaths early b heads q n) (sym is_kind) (p heads (subst (λ (j : Block). MayStand b heads l j) (sym same) may)))
 
-pub goto_counts : (b : Body) (l : Label) (k : Block) (m : Label) → block_in b.blocks l ≡ Some k → k.end.kind ≡ Goto m → (early : Bool) (n : ℕ) → CountsAlong b l m early n → CountsFrom b l early n
-goto_counts b l k m is is_kind early n counts = ends_count b l k (Goto m) early n is is_kind (λ heads may. counts heads k may)
+exact_may : (b : Body) (l m : Label) (early : Bool) (n : ℕ) → CountsAlong b l m false n → CountsAlong b l m early n
+exact_may b l m true n exact heads k may = may_stop (exact heads k may)
+exact_may b l m false n exact heads k may = exact heads k may
 
-pub call_counts : (b : Body) (l : Label) (k : Block) (p : Place) (c : Callee) (types : List Ty) (args : List Operand) (m : Label) → block_in b.blocks l ≡ Some k → k.end.kind ≡ Call p c types args m → (early : Bool) (n : ℕ) → CountsAlong b l m early n → CountsFrom b l early n
-call_counts b l k p c types args m is is_kind early n counts = ends_count b l k (Call p c types args m) early n is is_kind (λ heads may. counts heads k may)
+-- the first side has as many, and along the last edge there are more
+pub last_counts : (b : Body) (l : Label) (k : Block) (m : Label) (first : ℕ) → block_in b.blocks l ≡ Some k → CountsFirst b l k.end.kind false first → last_target k.end.kind ≡ Some m
+    → (early : Bool) (n : ℕ) → CountsAlong b l m early n → CountsFrom b l early (first + n)
+last_counts b l k m first is counted named early n counts = by_kind k.end.kind refl counted named
+  where
+    by_kind : (kind : TerminatorKind) → k.end.kind ≡ kind → CountsFirst b l kind false first → last_target kind ≡ Some m → CountsFrom b l early (first + n)
+    by_kind (Goto t) e none is_last = ends_count b l k (Goto t) early (first + n) is e
+        (λ heads may. subst (λ x. Paths early b heads x (first + n)) (sym (some_same is_last)) (subst (Paths early b heads m) (omega (arith, none)) (counts heads k may)))
+    by_kind (Call p c types args t) e none is_last = ends_count b l k (Call p c types args t) early (first + n) is e
+        (λ heads may. subst (λ x. Paths early b heads x (first + n)) (sym (some_same is_last)) (subst (Paths early b heads m) (omega (arith, none)) (counts heads k may)))
+    by_kind (If o on_true on_false) e one is_last = ends_count b l k (If o on_true on_false) early (first + n) is e
+        (λ heads may. (first, n, exact_may b l on_true early first one heads k may, subst (λ x. Paths early b heads x n) (sym (some_same is_last)) (counts heads k may), refl))
+    by_kind Return e none is_last = absurd (let some : None ≡ Some m = is_last in cc)
 
-pub return_counts : (b : Body) (l : Label) (k : Block) → block_in b.blocks l ≡ Some k → k.end.kind ≡ Return → (early : Bool) (n : ℕ) → n ≡ 1 → CountsFrom b l early n
-return_counts b l k is is_kind early n one = ends_count b l k Return early n is is_kind (λ heads may. one)
+-- no edge leads on
+pub return_counts : (b : Body) (l : Label) (k : Block) (first : ℕ) → block_in b.blocks l ≡ Some k → CountsFirst b l k.end.kind false first → last_target k.end.kind ≡ None → (early : Bool) → CountsFrom b l early (first + 1)
+return_counts b l k first is counted none early = by_kind k.end.kind refl counted none
+  where
+    by_kind : (kind : TerminatorKind) → k.end.kind ≡ kind → CountsFirst b l kind false first → last_target kind ≡ None → CountsFrom b l early (first + 1)
+    by_kind (Goto t) e zero_first f = absurd (let some : Some t ≡ None = f in cc)
+    by_kind (Call p c types args t) e zero_first f = absurd (let some : Some t ≡ None = f in cc)
+    by_kind (If o on_true on_false) e one f = absurd (let some : Some on_false ≡ None = f in cc)
+    by_kind Return e zero_first f = ends_count b l k Return early (first + 1) is e (λ heads may. omega (arith, zero_first))
 
-pub both_count : (b : Body) (l : Label) (k : Block) (o : Operand) (on_true on_false : Label) → block_in b.blocks l ≡ Some k → k.end.kind ≡ If o on_true on_false → (early : Bool) (i j n : ℕ) → n ≡ i + j → CountsAlong b l on_true early i → CountsAlong b l on_false early j → CountsFrom b l early n
-both_count b l k o on_true on_false is is_kind early i j n sum first second = ends_count b l k (If o on_true on_false) early n is is_kind (λ heads may. (i, j, first heads k may, second heads k may, sum))
+-- the path ends behind the block
+pub ends_counts : (b : Body) (l : Label) (k : Block) (first : ℕ) → IsLaidOut b → block_in b.blocks l ≡ Some k → CountsFirst b l k.end.kind false first → IsLater k None → (early : Bool) → CountsFrom b l early (first + 1)
+ends_counts b l k first laid is counted (inl none) early = return_counts b l k first is counted none early
+ends_counts b l k first laid is counted (inr (m, named, there)) early =
+    last_counts b l k m first is counted named early 1 (back_counts b l m k laid is (last_named k.end.kind m named) there early 1 refl)
+
+-- the path goes on to a later block
+pub later_counts : (b : Body) (l : Label) (k : Block) (m : Label) (first : ℕ) → IsLaidOut b → block_in b.blocks l ≡ Some k → CountsFirst b l k.end.kind false first → IsLater k (Some m)
+    → (early : Bool) (n : ℕ) → CountsFrom b m early n → CountsFrom b l early (first + n)
+later_counts b l k m first laid is counted (named, not_in) early n counts =
+    last_counts b l k m first is counted named early n (on_counts b l m k laid is (last_named k.end.kind m named) not_in early n counts)
 
 -- the first side has more than there is room for
-pub first_is_many : (b : Body) (l : Label) (k : Block) (o : Operand) (on_true on_false : Label) (room : ℕ) → block_in b.blocks l ≡ Some k → k.end.kind ≡ If o on_true on_false → CountsAlong b l on_true true (room + 1) → CountsFrom b l true (room + 1)
-first_is_many b l k o on_true on_false room is is_kind first = both_count b l k o on_true on_false is is_kind true (room + 1) 0 (room + 1) (omega arith) first (λ heads j may. stopped refl)
-
--- the second side has more than is left
-pub second_is_many : (b : Body) (l : Label) (k : Block) (o : Operand) (on_true on_false : Label) (room i : ℕ) → block_in b.blocks l ≡ Some k →
-    k.end.kind ≡ If o on_true on_false → i ≤ room → CountsAlong b l on_true false i → CountsAlong b l on_false true (room - i + 1) → CountsFrom b l true (room + 1)
-second_is_many b l k o on_true on_false room i is is_kind within first second =
-    both_count b l k o on_true on_false is is_kind true i (room - i + 1) (room + 1) (omega arith) (λ heads j may. may_stop (first heads j may)) second
+pub first_is_many : (b : Body) (l : Label) (k : Block) (room : ℕ) → block_in b.blocks l ≡ Some k → CountsFirst b l k.end.kind true (room + 1) → CountsFrom b l true (room + 1)
+first_is_many b l k room is counted = by_kind k.end.kind refl counted
+  where
+    by_kind : (kind : TerminatorKind) → k.end.kind ≡ kind → CountsFirst b l kind true (room + 1) → CountsFrom b l true (room + 1)
+    by_kind (Goto t) e none = absurd (omega (arith, none))
+    by_kind (Call p c types args t) e none = absurd (omega (arith, none))
+    by_kind (If o on_true on_false) e first = ends_count b l k (If o on_true on_false) true (room + 1) is e (λ heads may. (room + 1, 0, first heads k may, stopped refl, omega arith))
+    by_kind Return e none = absurd (omega (arith, none))
 
 -- ---- from the entry on
 
@@ -265,12 +298,9 @@ entry_counts b early n laid counts =
 
 -- ---- why the count ends
 
-pub next_block : (b : Body) (l m : Label) (k : Block) → IsLaidOut b → block_in b.blocks l ≡ Some k → among m (targets k.end.kind) ≡ true → among m k.nest ≡ false → ((to : Block) × (block_in b.blocks m ≡ Some to)) × (2 * room b.blocks m < 2 * room b.blocks l - 1)
+pub next_block : (b : Body) (l m : Label) (k : Block) → IsLaidOut b → block_in b.blocks l ≡ Some k → among m (targets k.end.kind) ≡ true → among m k.nest ≡ false → ((to : Block) × (block_in b.blocks m ≡ Some to)) × (room b.blocks m < room b.blocks l)
 next_block b l m k laid is named not_in = by_edge (laid.edges l m k is named)
   where
-    by_edge : Leads b l k m → ((to : Block) × (block_in b.blocks m ≡ Some to)) × (2 * room b.blocks m < 2 * room b.blocks l - 1)
+    by_edge : Leads b l k m → ((to : Block) × (block_in b.blocks m ≡ Some to)) × (room b.blocks m < room b.blocks l)
     by_edge (on to is_to further enters_m) = ((to, is_to), omega (arith, further, found_place b.blocks l k is, found_place b.blocks m to is_to))
     by_edge (back to h is_to is_head there) = absurd (true≢false (sym there ∙ not_in))
-
-pub has_room : (b : Body) (l : Label) (k : Block) → block_in b.blocks l ≡ Some k → 2 * room b.blocks l - 1 < 2 * room b.blocks l
-has_room b l k is = omega (arith, found_place b.blocks l k is)

@@ -1,5 +1,5 @@
 -- Goals of a walk, as they are met on the way.
-use Rattle.std.proofs.Common.{◌≡◌, ◌∙◌, sym, ap, ap₂, subst, ℕ, ◌+◌, ◌*◌, ◌<◌, Some, None, true, false, cond, List, [], ◌∷◌, ◌++◌, length, get_or, refl}
+use Rattle.std.proofs.Common.{◌≡◌, ◌∙◌, sym, ap, ap₂, subst, ℕ, ◌+◌, ◌*◌, ◌<◌, Some, None, Bool, true, false, cond, arith, List, [], ◌∷◌, ◌++◌, length, get_or, refl}
 use Rattle.std.proofs.lemmas.List.{append_assoc, append-nil, map-append}
 use Rattle.std.specs.Prelude.{slice_get}
 use Rattle.std.proofs.lemmas.Option.{slice_get_read}
@@ -16,20 +16,23 @@ use Rattle.mir_ir.specs.declared.terminator.TerminatorKind.TheVariants.{Goto, If
 use Rattle.mir_ir.specs.declared.body.Block.{Block}
 use Rattle.mir_ir.specs.declared.body.Head.{Head}
 use Rattle.mir_ir.specs.Body.{block_in}
-use Rattle.mir_ir.specs.Layout.{among}
+use Rattle.mir_ir.specs.Layout.{among, targets}
 use Rattle.prophecy_logic.specs.declared.command.Command.{Command}
 use Rattle.prophecy_logic.specs.declared.goal.Goal.{Goal}
 use Rattle.prophecy_logic.specs.Graph.{Setting, start_of, Within, by_statement, by_end, Ends, goto, branch, call, return, Arrives, plain, first, again, numbered, AreObligations}
 use Rattle.prophecy_logic.specs.Loop.{head_commands}
 use Rattle.prophecy_logic.specs.Row.{goals_of, commands_of}
 use Rattle.prophecy_logic.specs.State.{State, start, Matches, Leads, closed_goal, closed_goals, Adds, listed}
-use Rattle.prophecy_logic.specs.Walk.{seen_before, goals_at_return, where_true, where_false, goals_at_entry, goals_after_turn, goals_of_call, call_commands, entry_commands, stop, row, fork, met}
-use Rattle.prophecy_logic.specs.Walkable.{MayArrive, MayWalk}
+use Rattle.prophecy_logic.specs.Walk.{seen_before, goals_at_return, where_true, where_false, goals_at_entry, goals_after_turn, goals_of_call, call_commands, entry_commands, Walk, stop, row, fork, met}
+use Rattle.prophecy_logic.specs.Walkable.{CanWalk, MayArrive, MayWalk}
 use Rattle.prophecy_logic.proofs.Ahead.{before_append, begins}
-use Rattle.prophecy_logic.proofs.ArriveLaws.{room, arrival_measure, plain_block}
+use Rattle.prophecy_logic.proofs.ArriveLaws.{room, next_arrival, head_block}
 use Rattle.prophecy_logic.proofs.Prefixes.{goals_are_seen_before}
 use Rattle.wp_gen.specs.declared.reached.Reached.{Reached}
-use Rattle.wp_gen.specs.Reached.{IsOver, GoesOn, AreStatements, Passes, IsOverCall, AreMet}
+use Rattle.wp_gen.specs.declared.reached.Spot.{Spot}
+use Rattle.wp_gen.specs.declared.reached.Next.{Next}
+use Rattle.wp_gen.specs.declared.reached.Next.TheVariants.{On, Done}
+use Rattle.wp_gen.specs.Reached.{IsOver, GoesOn, AreStatements, Passes, IsOverCall, AreMet, blocks_from, ahead, StandsAtEnd, ComesToEnd, LeadsTo, GoesTo}
 
 -- ---- goals of rows
 
@@ -148,14 +151,67 @@ again_arrives w heads l k h from all is is_head passed a = record {
   adds = last_row from.state from.goals.items (goals_after_turn h) all a;
 }
 
-pub plain_arrives : (w : Setting) (heads : List Label) (l : Label) (k : Block) (from : Reached) (all : List Goal) → Some k ≡ block_in w.body.blocks l → k.head ≡ None → GoesOn (Within w heads (start_of l)) from all → GoesOn (Arrives w heads l) from all
+pub plain_arrives : (w : Setting) (heads : List Label) (l : Label) (k : Block) (from : Reached) (all : List Goal) → Some k ≡ block_in w.body.blocks l → k.head ≡ None
+    → GoesOn (Within w heads (start_of l)) from all → GoesOn (Arrives w heads l) from all
 plain_arrives w heads l k from all is no_head h = record { left = h.left; is_left = plain k (sym is) no_head h.is_left; adds = h.adds }
 
--- the walk within a block
-pub enter_plain : (w : Setting) (heads : List Label) (l : Label) (k : Block) → MayArrive w heads l → Some k ≡ block_in w.body.blocks l → k.head ≡ None → (arrival_measure w.body.blocks heads l ≡ 4 * room w.body.blocks l + 3) × MayWalk w heads l k
-enter_plain w heads l k may is no_head =
-    let h = plain_block w heads l k may (sym is) no_head in
-    (ap (λ b. cond b 0 (4 * room w.body.blocks l + 3)) h.0, h.1)
+-- ---- from an arrival to the end of the block
+
+-- at a block that is no head
+pub plain_stands : (w : Setting) (heads : List Label) (l : Label) (k : Block) (from : Reached) (to : Spot) → block_in w.body.blocks l ≡ Some k → k.head ≡ None
+    → StandsAtEnd w (Within w heads (start_of l)) from l k to → StandsAtEnd w (Arrives w heads l) from l k to
+plain_stands w heads l k from to is no_head s = record {
+  is_label = s.is_label;
+  may = s.may;
+  walks = λ all h. plain_arrives w heads l k from all (sym is) no_head (s.walks all h);
+}
+
+-- at a head that was not passed
+pub head_stands : (w : Setting) (heads inner : List Label) (l : Label) (k : Block) (h : Head) (from mid : Reached) (to : Spot) → block_in w.body.blocks l ≡ Some k → k.head ≡ Some h → among l heads ≡ false → inner ≡ l ∷ heads
+    → IsOver (goals_at_entry h) (head_commands w.body w.init l h) from mid → StandsAtEnd w (Within w inner (start_of l)) mid l k to → StandsAtEnd w (Arrives w heads l) from l k to
+head_stands w heads inner l k h from mid to is is_head not_passed inner_is o s = record {
+  is_label = s.is_label;
+  may = s.may;
+  walks = λ all g. first_arrives w heads inner l k h from mid all is is_head not_passed inner_is o (s.walks all g);
+}
+
+pub may_walk_head : (w : Setting) (heads inner : List Label) (l : Label) (k : Block) (h : Head) → MayArrive w heads l → block_in w.body.blocks l ≡ Some k → k.head ≡ Some h → among l heads ≡ false → inner ≡ l ∷ heads → MayWalk w inner l k
+may_walk_head w heads inner l k h may is is_head not_passed inner_is = subst (λ hs. MayWalk w hs l k) (sym inner_is) (head_block w heads l k h may is is_head not_passed)
+
+-- ---- from the end of a block to the next arrival
+
+fewer : (b : Bool) (n m : ℕ) → cond b 0 (4 * n + 3) < 4 * m → cond b 0 n < m
+fewer true n m h = omega (arith, h)
+fewer false n m h = omega (arith, h)
+
+pub next_may : (w : Setting) (heads hs : List Label) (l : Label) (k : Block) (m : Label) → CanWalk w → MayWalk w heads l k
+    → among m (targets k.end.kind) ≡ true → hs ≡ heads → MayArrive w hs m × (ahead w.body.blocks hs m < blocks_from w.body.blocks l)
+next_may w heads hs l k m can may named same = subst (λ xs. MayArrive w xs m × (ahead w.body.blocks xs m < blocks_from w.body.blocks l)) (sym same) both
+  where
+    both : MayArrive w heads m × (ahead w.body.blocks heads m < blocks_from w.body.blocks l)
+    both = let n = next_arrival w heads l k m can may named in (n.0, fewer (among m heads) (room w.body.blocks m) (room w.body.blocks l) n.1)
+
+pub next_leads : (w : Setting) (IsLeft : Walk → Type 0) (from : Reached) (heads : List Label) (l : Label) (k : Block) (m : Label) (to : Spot) → CanWalk w → MayWalk w heads l k → among m (targets k.end.kind) ≡ true
+    → to.heads.items ≡ heads → to.label ≡ m → ((all : List Goal) → GoesOn (Arrives w heads m) to.reached all → GoesOn IsLeft from all) → LeadsTo w IsLeft from (blocks_from w.body.blocks l) to
+next_leads w IsLeft from heads l k m to can may named heads_are is walks =
+    let n = next_may w heads to.heads.items l k m can may named heads_are in
+    record {
+      may = subst (MayArrive w to.heads.items) (sym is) n.0;
+      nearer = subst (λ x. ahead w.body.blocks to.heads.items x < blocks_from w.body.blocks l) (sym is) n.1;
+      walks = λ all h. walks all (subst (λ x. GoesOn (Arrives w heads x) to.reached all) is (subst (λ hs. GoesOn (Arrives w hs to.label) to.reached all) heads_are h));
+    }
+
+-- ---- from an arrival to the next
+
+pub turn_goes : (w : Setting) (from : Spot) (k : Block) (end : Spot) (next : Next) → ComesToEnd w from k (On end) → GoesTo w (Ends w end.heads.items k.end) end.reached (blocks_from w.body.blocks end.label) next
+    → GoesTo w (Arrives w from.heads.items from.label) from.reached (ahead w.body.blocks from.heads.items from.label) next
+turn_goes w from k end (On to) (not_passed, stands) leads = record {
+  may = leads.may;
+  nearer = subst (λ b. ahead w.body.blocks to.heads.items to.label < cond b 0 (blocks_from w.body.blocks from.label)) (sym not_passed)
+      (subst (λ x. ahead w.body.blocks to.heads.items to.label < blocks_from w.body.blocks x) stands.is_label leads.nearer);
+  walks = λ all h. stands.walks all (leads.walks all h);
+}
+turn_goes w from k end (Done all) (not_passed, stands) goes = stands.walks all.items goes
 
 -- ---- the entry
 

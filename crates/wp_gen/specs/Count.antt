@@ -6,7 +6,7 @@ use Rattle.mir_ir.specs.declared.statement.Statement.{Statement}
 use Rattle.mir_ir.specs.declared.body.Block.{Block}
 use Rattle.mir_ir.specs.declared.body.Body.{Body}
 use Rattle.mir_ir.specs.declared.body.Head.{Head}
-use Rattle.prophecy_logic.specs.Graph.{Setting, start_of, Within, Arrives, AreObligations}
+use Rattle.prophecy_logic.specs.Graph.{Setting, start_of, Within, Ends, Arrives, AreObligations}
 use Rattle.prophecy_logic.specs.Row.{goals_of}
 use Rattle.prophecy_logic.specs.Walk.{Walk, stop, row, fork}
 use Rattle.prophecy_logic.specs.Walkable.{CanWalk}
@@ -48,6 +48,20 @@ IsFrom w l v = (heads : List Label) × (k : Block) × MayStand w.body heads l k 
 -- what is left of it along the edge from the block of l to m
 abbrev pub IsAlong : Setting → Label → Label → Walk → Type 0
 IsAlong w l m v = (heads : List Label) × (k : Block) × MayStand w.body heads l k × Arrives w heads m v
+
+-- what is left of it at the end of the block
+abbrev pub IsAtEnd : Setting → Label → Block → Walk → Type 0
+IsAtEnd w l k v = (heads : List Label) × MayStand w.body heads l k × Ends w heads k.end v
+
+-- the goals are so many, and behind them those along the last edge from the block of l, if there is one
+abbrev pub AreSplit : Setting → Label → Option Label → ℕ → Walk → Type 0
+AreSplit w l None many v = count v ≡ many
+AreSplit w l (Some m) many v = (u : Walk) × IsAlong w l m u × (count v ≡ many + count u)
+
+-- what is left of the room after the goals of any such walk but those along the last edge; none where it has more than there is room for
+abbrev pub LeavesRoomBefore : Setting → Label → Option Label → (Walk → Type 0) → ℕ → Option ℕ → Type 0
+LeavesRoomBefore w l last Is room (Some left) = (v : Walk) → Is v → (many : ℕ) × IsRoomLeft room many (Some left) × AreSplit w l last many v
+LeavesRoomBefore w l last Is room None = LeavesRoomBehind Is room None
 
 -- the obligations of the body, from some number on
 abbrev pub AreSomeObligations : Setting → List Obligation → Type 0

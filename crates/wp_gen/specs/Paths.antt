@@ -1,5 +1,5 @@
 -- The complete paths of a body, as the walk takes them: each ends at a return, or at a second arrival at a head.
-use Rattle.std.specs.Prelude.{◌≡◌, ℕ, ◌+◌, ◌≤◌, Bool, true, false, List, [], ◌∷◌, Option, Some, None}
+use Rattle.std.specs.Prelude.{◌≡◌, ◌⊎◌, ℕ, ◌+◌, ◌≤◌, Bool, true, false, List, [], ◌∷◌, Option, Some, None}
 use Rattle.logic_term.specs.declared.kinds.Label.{Label}
 use Rattle.logic_term.specs.Ty.{Ty}
 use Rattle.mir_ir.specs.declared.place.Operand.{Operand}
@@ -65,6 +65,25 @@ pub record MayStand (b : Body) (heads : List Label) (l : Label) (k : Block) : Ty
 -- n paths along the edge from the block of l to m
 abbrev pub CountsAlong : Body → Label → Label → Bool → ℕ → Type 0
 CountsAlong b l m early n = (heads : List Label) (k : Block) → MayStand b heads l k → Paths early b heads m n
+
+-- where the last edge from a block's end leads, the second side of a branch
+abbrev pub last_target : TerminatorKind → Option Label
+last_target (Goto m) = Some m
+last_target (If o on_true on_false) = Some on_false
+last_target (Call p callee types args m) = Some m
+last_target Return = None
+
+-- the last edge leads to a later block, or the path ends: no edge leads on, or it leads back to the head of a loop around the block
+abbrev pub IsLater : Block → Option Label → Type 0
+IsLater k (Some m) = (last_target k.end.kind ≡ Some m) × (among m k.nest ≡ false)
+IsLater k None = (last_target k.end.kind ≡ None) ⊎ ((m : Label) × (last_target k.end.kind ≡ Some m) × (among m k.nest ≡ true))
+
+-- n paths on the first side of a branch, none at another end
+abbrev pub CountsFirst : Body → Label → TerminatorKind → Bool → ℕ → Type 0
+CountsFirst b l (Goto m) early n = n ≡ 0
+CountsFirst b l (If o on_true on_false) early n = CountsAlong b l on_true early n
+CountsFirst b l (Call p callee types args m) early n = n ≡ 0
+CountsFirst b l Return early n = n ≡ 0
 
 -- n paths from the end of a block on
 abbrev pub EndPaths : Bool → Body → List Label → TerminatorKind → ℕ → Type 0

@@ -1,5 +1,5 @@
 -- Where a walk stands, and what it does from there.
-use Rattle.std.specs.Prelude.{◌≡◌, ℕ, List, [], Some, slice_get}
+use Rattle.std.specs.Prelude.{◌≡◌, ℕ, ◌-◌, ◌<◌, cond, false, List, [], length, Some, slice_get}
 use Rattle.text_core.specs.declared.span.Span.{Span}
 use Rattle.logic_term.specs.declared.kinds.Label.{Label}
 use Rattle.logic_term.specs.declared.obligation.Contract.{Contract}
@@ -14,10 +14,15 @@ use Rattle.mir_ir.specs.Body.{block_in}
 use Rattle.mir_ir.specs.Callees.{contract_at}
 use Rattle.prophecy_logic.specs.declared.command.Command.{Command}
 use Rattle.prophecy_logic.specs.declared.goal.Goal.{Goal}
-use Rattle.prophecy_logic.specs.Graph.{Setting, start_of, Within, Arrives, goals_of_walk}
+use Rattle.mir_ir.specs.Layout.{among, place_of}
+use Rattle.prophecy_logic.specs.Graph.{Setting, start_of, Within, Ends, Arrives, goals_of_walk}
 use Rattle.prophecy_logic.specs.State.{Adds, Leads, closed_goals}
 use Rattle.prophecy_logic.specs.Walk.{goals_of_call, call_commands, Walk, met}
+use Rattle.prophecy_logic.specs.Walkable.{MayArrive, MayWalk}
 use Rattle.wp_gen.specs.declared.reached.Reached.{Reached}
+use Rattle.wp_gen.specs.declared.reached.Spot.{Spot}
+use Rattle.wp_gen.specs.declared.reached.Next.{Next}
+use Rattle.wp_gen.specs.declared.reached.Next.TheVariants.{On, Done}
 
 -- the walk comes from the first place to the second over a row with these goals and commands
 pub record IsOver (gs : List Goal) (cs : List Command) (from to : Reached) : Type 0 where
@@ -53,3 +58,35 @@ pub record AreMet (w : Setting) (all : List Goal) : Type 0 where
   pub walk : Walk
   pub arrives : Arrives w [] w.body.entry walk
   pub are_met : all ≡ closed_goals [] (goals_of_walk w walk)
+
+-- ---- from one arrival on a path to the next
+
+-- how many blocks stand from the label's on
+abbrev pub blocks_from : List (Label × Block) → Label → ℕ
+blocks_from bs l = length bs - place_of bs l
+
+-- how many may be ahead of the arrival at the block of the label: none at a head that was passed
+abbrev pub ahead : List (Label × Block) → List Label → Label → ℕ
+ahead bs heads l = cond (among l heads) 0 (blocks_from bs l)
+
+-- the walk stands at the end of the block of the label, and what it goes on with there is what was left
+pub record StandsAtEnd (w : Setting) (IsLeft : Walk → Type 0) (from : Reached) (l : Label) (k : Block) (to : Spot) : Type 0 where
+  pub is_label : to.label ≡ l
+  pub may : MayWalk w to.heads.items l k
+  pub walks : (all : List Goal) → GoesOn (Ends w to.heads.items k.end) to.reached all → GoesOn IsLeft from all
+
+-- from an arrival to the end of the block, or all goals are made
+abbrev pub ComesToEnd : Setting → Spot → Block → Next → Type 0
+ComesToEnd w from k (On to) = (among from.label from.heads.items ≡ false) × StandsAtEnd w (Arrives w from.heads.items from.label) from.reached from.label k to
+ComesToEnd w from k (Done all) = GoesOn (Arrives w from.heads.items from.label) from.reached all.items
+
+-- the walk arrives at a block, with fewer blocks ahead, and what it goes on with there is what was left
+pub record LeadsTo (w : Setting) (IsLeft : Walk → Type 0) (from : Reached) (most : ℕ) (to : Spot) : Type 0 where
+  pub may : MayArrive w to.heads.items to.label
+  pub nearer : ahead w.body.blocks to.heads.items to.label < most
+  pub walks : (all : List Goal) → GoesOn (Arrives w to.heads.items to.label) to.reached all → GoesOn IsLeft from all
+
+-- to another arrival, or all goals are made
+abbrev pub GoesTo : Setting → (Walk → Type 0) → Reached → ℕ → Next → Type 0
+GoesTo w IsLeft from most (On to) = LeadsTo w IsLeft from most to
+GoesTo w IsLeft from most (Done all) = GoesOn IsLeft from all.items

@@ -7,13 +7,15 @@ ghost use Rattle.mir_ir.specs.declared.body.Block.{Block as BlockValue};
 ghost use Rattle.mir_ir.specs.declared.body.Body.{Body as BodyValue};
 ghost use Rattle.mir_ir.specs.Body.{block_in};
 ghost use Rattle.mir_ir.specs.Layout.{among, targets};
-ghost use Rattle.wp_gen.specs.Count.{IsRoomLeft, LeavesRoom, LeavesRoomBehind, goals_within, goals_of_head, IsFrom, IsAlong, AreSomeObligations};
+ghost use Rattle.wp_gen.specs.Count.{IsRoomLeft, LeavesRoom, LeavesRoomBehind, goals_within, goals_of_head, IsFrom, IsAlong, IsAtEnd, LeavesRoomBefore, AreSomeObligations};
 ghost use Rattle.prophecy_logic.specs.Row.{goals_of, goals_of_kind};
 ghost use Rattle.prophecy_logic.specs.Walk.{each_goal, goals_at_return};
 ghost use Rattle.prophecy_logic.specs.Walkable.{CanWalk};
+ghost use Rattle.wp_gen.specs.Paths.{last_target};
 ghost use Rattle.wp_gen.specs.Setting.{setting};
 
 use crate::head::among;
+use crate::paths::last_target;
 use crate::row::{is_signed, kind_of_local, operation};
 use crate::walk::{Walk, contract_at};
 use logic_term::{Contract, Label};
@@ -113,29 +115,59 @@ fn along(walk: &Walk<'_>, from: Label, block: &Block, to: Label, room: u32) -> O
     from_block(walk, to, left)
 }
 
-/// What is left of the room after the goals from the first statement of a block on.
+/// What is left of the room after the goals at the block's end but those along its last edge: of a call, of the first side of a branch, or of
+/// a return.
+#[cycle(count)]
+fn after_end(walk: &Walk<'_>, label: Label, block: &Block, room: u32) -> Option<u32>
+    requires can { CanWalk (setting walk.now) }
+    requires here { block_in walk.now.body.now.blocks label ≡ Some block.now }
+    ensures { LeavesRoomBefore (setting walk.now) label (last_target block.now.end.kind) (IsAtEnd (setting walk.now) label block.now) room result }
+{
+    match &block.end.kind {
+        TerminatorKind::Goto(_) => Some(room),
+        TerminatorKind::If(_, yes, _) => along(walk, label, block, *yes, room),
+        TerminatorKind::Call(_, callee, _, _, _) => {
+            let contract = contract_at(walk.contracts, *callee);
+            after(room, contract.pre.len())
+        }
+        TerminatorKind::Return => after(room, count_of_return(walk.contract)),
+    }
+}
+
+/// What is left of the room after the goals from the first statement of a block to its last edge.
+#[cycle(count)]
+fn after_block(walk: &Walk<'_>, label: Label, block: &Block, room: u32) -> Option<u32>
+    requires can { CanWalk (setting walk.now) }
+    requires here { block_in walk.now.body.now.blocks label ≡ Some block.now }
+    ensures { LeavesRoomBefore (setting walk.now) label (last_target block.now.end.kind) (IsFrom (setting walk.now) label) room result }
+{
+    let left = after_statements(walk.body, block.statements.as_slice(), room)?;
+    after_end(walk, label, block, left)
+}
+
+/// What is left of the room after the goals from the first statement of a block on. Blocks are gone along by a loop, and only the first side
+/// of a branch takes stack.
 #[cycle(count)]
 fn from_block(walk: &Walk<'_>, label: Label, room: u32) -> Option<u32>
     requires can { CanWalk (setting walk.now) }
     requires there { (k : BlockValue) × (block_in walk.now.body.now.blocks label ≡ Some k) }
     ensures { LeavesRoomBehind (IsFrom (setting walk.now) label) room result }
 {
-    let Some(block) = walk.body.block(label) else {
-        unreachable!()
-    };
-    let left = after_statements(walk.body, block.statements.as_slice(), room)?;
-    match &block.end.kind {
-        TerminatorKind::Goto(next) => along(walk, label, block, *next, left),
-        TerminatorKind::If(_, yes, no) => {
-            let left = along(walk, label, block, *yes, left)?;
-            along(walk, label, block, *no, left)
+    let mut here = label;
+    let mut left = room;
+    loop {
+        let Some(block) = walk.body.block(here) else {
+            unreachable!()
+        };
+        left = after_block(walk, here, block, left)?;
+        let Some(next) = last_target(&block.end.kind) else {
+            return Some(left);
+        };
+        left = after_arrival(walk.body, next, left)?;
+        if among(next, block.nest.as_slice()) {
+            return Some(left);
         }
-        TerminatorKind::Call(_, callee, _, _, next) => {
-            let contract = contract_at(walk.contracts, *callee);
-            let left = after(left, contract.pre.len())?;
-            along(walk, label, block, *next, left)
-        }
-        TerminatorKind::Return => after(left, count_of_return(walk.contract)),
+        here = next;
     }
 }
 

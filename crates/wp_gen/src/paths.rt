@@ -1,9 +1,9 @@
 //! How many paths a body has, counted up to the limit.
-ghost use Rattle.std.specs.Prelude.{◌≡◌, ◌≤◌, [], true, Some, IfOk, IfErr};
+ghost use Rattle.std.specs.Prelude.{◌≡◌, ◌+◌, ◌≤◌, [], true, Some, IfOk, IfErr};
 ghost use Rattle.mir_ir.specs.Body.{block_in};
 ghost use Rattle.mir_ir.specs.Layout.{among, targets, IsLaidOut};
 ghost use Rattle.mir_ir.specs.declared.body.Block.{Block as BlockValue};
-ghost use Rattle.wp_gen.specs.Paths.{HasPaths, HasMorePaths, CountsAlong, CountsFrom, IsOne, IsCount};
+ghost use Rattle.wp_gen.specs.Paths.{HasPaths, HasMorePaths, last_target, IsLater, CountsAlong, CountsFirst, CountsFrom, IsOne, IsCount};
 
 use crate::head::among;
 use logic_term::Label;
@@ -13,11 +13,45 @@ use text_core::{Limit, LimitKind};
 /// The most paths that a function may have.
 pub const PATHS: u32 = 1024;
 
+/// Where the last edge from a block's end leads, which is the second side of a branch; nowhere from a return.
+pub(crate) fn last_target(end: &TerminatorKind) -> Option<Label>
+    ensures { result ≡ last_target end.now }
+{
+    match end {
+        TerminatorKind::Goto(next) => Some(*next),
+        TerminatorKind::If(_, _, no) => Some(*no),
+        TerminatorKind::Call(_, _, _, _, next) => Some(*next),
+        TerminatorKind::Return => None,
+    }
+}
+
 /// One path; `None` where there is no room for it.
 fn one_path(room: u32) -> Option<u32>
     ensures { IsCount IsOne room result }
 {
     if room == 0 { None } else { Some(1) }
+}
+
+/// Where a path goes on along the last edge from the block: to a later block, or nowhere, where the path ends.
+fn later(block: &Block) -> Option<Label>
+    ensures { IsLater block.now result }
+{
+    let next = last_target(&block.end.kind)?;
+    if among(next, block.nest.as_slice()) {
+        return None;
+    }
+    Some(next)
+}
+
+/// The number of paths with one more; `None` where it is more than `room`.
+fn with_last(counted: u32, room: u32) -> Option<u32>
+    requires { counted ≤ room }
+    ensures { IsCount (λ early n. n ≡ counted + 1) room result }
+{
+    if counted == room {
+        return None;
+    }
+    Some(counted + 1)
 }
 
 /// The number of paths along the edge from the block to a label that its end names; `None` where it is more than `room`.
@@ -34,25 +68,40 @@ fn along(body: &Body, from: Label, block: &Block, to: Label, room: u32) -> Optio
     from_block(body, to, room)
 }
 
-/// The number of paths on from the block of the label; `None` where it is more than `room`.
+/// The number of paths on the first side of a branch at the end of the block, none at another end; `None` where it is more than `room`.
+#[cycle(paths)]
+fn first_side(body: &Body, label: Label, block: &Block, room: u32) -> Option<u32>
+    requires laid_out { IsLaidOut body.now }
+    requires here { block_in body.now.blocks label ≡ Some block.now }
+    ensures { IsCount (CountsFirst body.now label block.now.end.kind) room result }
+{
+    match &block.end.kind {
+        TerminatorKind::If(_, yes, _) => along(body, label, block, *yes, room),
+        TerminatorKind::Goto(_) => Some(0),
+        TerminatorKind::Call(_, _, _, _, _) => Some(0),
+        TerminatorKind::Return => Some(0),
+    }
+}
+
+/// The number of paths on from the block of the label; `None` where it is more than `room`. Blocks are gone along by a loop, and only the first
+/// side of a branch takes stack.
 #[cycle(paths)]
 fn from_block(body: &Body, label: Label, room: u32) -> Option<u32>
     requires laid_out { IsLaidOut body.now }
     requires there { (k : BlockValue) × (block_in body.now.blocks label ≡ Some k) }
     ensures { IsCount (CountsFrom body.now label) room result }
 {
-    let Some(block) = body.block(label) else {
-        unreachable!()
-    };
-    match &block.end.kind {
-        TerminatorKind::Goto(next) => along(body, label, block, *next, room),
-        TerminatorKind::If(_, yes, no) => {
-            let first = along(body, label, block, *yes, room)?;
-            let second = along(body, label, block, *no, room - first)?;
-            Some(first + second)
-        }
-        TerminatorKind::Call(_, _, _, _, next) => along(body, label, block, *next, room),
-        TerminatorKind::Return => one_path(room),
+    let mut here = label;
+    let mut counted = 0;
+    loop {
+        let Some(block) = body.block(here) else {
+            unreachable!()
+        };
+        counted += first_side(body, here, block, room - counted)?;
+        let Some(next) = later(block) else {
+            return with_last(counted, room);
+        };
+        here = next;
     }
 }
 

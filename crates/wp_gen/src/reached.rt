@@ -24,6 +24,21 @@ pub(crate) struct Reached {
     pub(crate) goals: Vec<MetGoal>,
 }
 
+/// Where a walk comes to the block of the label, or is in it: the heads that it passed, and what it reached.
+#[derive(Drop)]
+pub(crate) struct Spot {
+    pub(crate) heads: Vec<Label>,
+    pub(crate) label: Label,
+    pub(crate) reached: Reached,
+}
+
+/// How a path goes on: from another place, or not, with all goals from where it began.
+#[derive(Drop)]
+pub(crate) enum Next {
+    On(Spot),
+    Done(Vec<MetGoal>),
+}
+
 /// The goals at the state, behind others.
 pub(crate) fn with_goals_at(
     alloc: Global,

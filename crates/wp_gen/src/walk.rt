@@ -6,21 +6,24 @@ ghost use Rattle.mir_ir.specs.Callees.{contract_at};
 ghost use Rattle.mir_ir.specs.Layout.{among};
 ghost use Rattle.prophecy_logic.specs.Graph.{start_of, Within, Ends, Arrives};
 ghost use Rattle.prophecy_logic.specs.Loop.{head_commands};
-ghost use Rattle.prophecy_logic.specs.Walk.{at_answer, goals_at_return, goals_at_entry, goals_after_turn};
+ghost use Rattle.prophecy_logic.specs.Walk.{at_answer, where_false, goals_at_return, goals_at_entry, goals_after_turn};
 ghost use Rattle.prophecy_logic.specs.Walkable.{CanWalk, MayArrive, MayWalk};
 ghost use Rattle.wp_gen.specs.Setting.{setting};
 ghost use Rattle.prophecy_logic.specs.State.{Adds};
-ghost use Rattle.wp_gen.specs.Reached.{IsOver, GoesOn};
+ghost use Rattle.wp_gen.specs.Reached.{IsOver, GoesOn, StandsAtEnd, ComesToEnd, GoesTo, ahead, blocks_from};
 
 use crate::formulas::each_goal;
 use crate::head::{among, head_commands};
 use crate::reached::{
-    Reached, over, over_call, over_statements, to_false_side, to_true_side, with_goals_at,
+    Next, Reached, Spot, over, over_call, over_statements, to_false_side, to_true_side,
+    with_goals_at,
 };
 use crate::row::name_of;
 use logic_term::{Contract, Label, Term};
-use mir_ir::{Block, Body, Callee, Contracts, FnId, Head, Initialised, TerminatorKind};
-use prophecy_logic::{Goal, MetGoal};
+use mir_ir::{
+    Block, Body, Callee, Contracts, FnId, Head, Initialised, Operand, TerminatorKind,
+};
+use prophecy_logic::{Goal, MetGoal, State};
 use std::alloc::Global;
 use text_core::{Kind, NoMemory, Span};
 
@@ -106,12 +109,20 @@ fn arrive_again(alloc: Global, head: &Head, reached: Reached) -> Result<Vec<MetG
 // ---- blocks
 
 /// The label before the others.
-fn with_label(alloc: Global, first: Label, rest: &[Label]) -> Result<Vec<Label>, NoMemory>
-    ensures { IfOk result (λ v. v.items ≡ first ∷ rest.now) }
+fn with_label(first: Label, rest: Vec<Label>) -> Result<Vec<Label>, NoMemory>
+    ensures { IfOk result (λ v. v.items ≡ first ∷ rest.items) }
 {
-    let mut all = Vec::with_capacity(alloc, 1)?;
-    all.push(first)?;
-    all.extend_from_slice(rest)?;
+    let mut all = rest;
+    all.insert(0, first)?;
+    Ok(all)
+}
+
+/// The same labels.
+fn copied(alloc: Global, labels: &[Label]) -> Result<Vec<Label>, NoMemory>
+    ensures { IfOk result (λ v. v.items ≡ labels.now) }
+{
+    let mut all = Vec::with_capacity(alloc, labels.len())?;
+    all.extend_from_slice(labels)?;
     Ok(all)
 }
 
@@ -124,103 +135,181 @@ pub(crate) fn contract_at(contracts: &Contracts, callee: Callee) -> &Contract
     &contracts.of.as_slice()[number as usize]
 }
 
-/// The goals from a block's end on, behind those that were met.
-#[cycle(walk)]
-fn end_goals(
+/// Over the statements of the block, to its end.
+fn through(
     alloc: Global,
     walk: &Walk<'_>,
-    heads: &[Label],
+    heads: Vec<Label>,
     label: Label,
     block: &Block,
     reached: Reached,
-) -> Result<Vec<MetGoal>, NoMemory>
-    requires can { CanWalk (setting walk.now) }
-    requires here { MayWalk (setting walk.now) heads.now label block.now }
-    ensures { IfOk result (λ v. GoesOn (Ends (setting walk.now) heads.now block.now.end) reached v.items) }
+) -> Result<Spot, NoMemory>
+    requires { MayWalk (setting walk.now) heads.items label block.now }
+    ensures { IfOk result (StandsAtEnd (setting walk.now) (Within (setting walk.now) heads.items (start_of label)) reached label block.now) }
 {
-    match &block.end.kind {
-        TerminatorKind::Goto(next) => arrive(alloc, walk, heads, *next, reached),
-        TerminatorKind::If(operand, yes, no) => {
-            let state = reached.state.share(alloc)?;
-            let true_side = to_true_side(alloc, walk.body, operand, reached)?;
-            let goals = arrive(alloc, walk, heads, *yes, true_side)?;
-            let back = Reached { state, goals };
-            let false_side = to_false_side(alloc, walk.body, operand, back)?;
-            arrive(alloc, walk, heads, *no, false_side)
+    let reached = over_statements(alloc, walk, label, block.statements.as_slice(), reached)?;
+    Ok(Spot {
+        heads,
+        label,
+        reached,
+    })
+}
+
+/// From the arrival at a loop head that was not passed to the end of its block.
+fn through_head(
+    alloc: Global,
+    walk: &Walk<'_>,
+    block: &Block,
+    head: &Head,
+    spot: Spot,
+) -> Result<Spot, NoMemory>
+    requires here { MayArrive (setting walk.now) spot.heads.items spot.label }
+    requires block { block_in walk.now.body.now.blocks spot.label ≡ Some block.now }
+    requires head { block.now.head ≡ Some head.now }
+    requires not_passed { among spot.label spot.heads.items ≡ false }
+    ensures { IfOk result (StandsAtEnd (setting walk.now) (Arrives (setting walk.now) spot.heads.items spot.label) spot.reached spot.label block.now) }
+{
+    let Spot {
+        heads,
+        label,
+        reached,
+    } = spot;
+    let inside = enter_loop(alloc, walk, label, head, reached)?;
+    let passed = with_label(label, heads)?;
+    through(alloc, walk, passed, label, block, inside)
+}
+
+/// From the arrival at a block that is no head to its end.
+fn through_plain(
+    alloc: Global,
+    walk: &Walk<'_>,
+    block: &Block,
+    spot: Spot,
+) -> Result<Spot, NoMemory>
+    requires here { MayArrive (setting walk.now) spot.heads.items spot.label }
+    requires block { block_in walk.now.body.now.blocks spot.label ≡ Some block.now }
+    requires no_head { block.now.head ≡ None }
+    ensures { IfOk result (StandsAtEnd (setting walk.now) (Arrives (setting walk.now) spot.heads.items spot.label) spot.reached spot.label block.now) }
+{
+    let Spot {
+        heads,
+        label,
+        reached,
+    } = spot;
+    through(alloc, walk, heads, label, block, reached)
+}
+
+/// From the arrival at a block to its end; or all goals, where the path ends at the arrival.
+fn to_end(alloc: Global, walk: &Walk<'_>, block: &Block, spot: Spot) -> Result<Next, NoMemory>
+    requires here { MayArrive (setting walk.now) spot.heads.items spot.label }
+    requires block { block_in walk.now.body.now.blocks spot.label ≡ Some block.now }
+    ensures { IfOk result (ComesToEnd (setting walk.now) spot block.now) }
+{
+    match &block.head {
+        None => {
+            let end = through_plain(alloc, walk, block, spot)?;
+            Ok(Next::On(end))
         }
-        TerminatorKind::Call(place, callee, _, args, next) => {
-            let args = args.as_slice();
-            let after = over_call(alloc, walk, block.end.span, place, *callee, args, reached)?;
-            arrive(alloc, walk, heads, *next, after)
+        Some(head) => {
+            if among(spot.label, spot.heads.as_slice()) {
+                let goals = arrive_again(alloc, head, spot.reached)?;
+                return Ok(Next::Done(goals));
+            }
+            let end = through_head(alloc, walk, block, head, spot)?;
+            Ok(Next::On(end))
         }
-        TerminatorKind::Return => at_return(alloc, walk, reached),
     }
 }
 
-/// The goals from a block's first statement on, behind those that were met.
-#[cycle(walk)]
-fn block_goals(
+/// To the side of a branch where the operand is not true, with the goals of the other side, which was walked.
+fn to_other_side(
     alloc: Global,
-    walk: &Walk<'_>,
-    heads: &[Label],
-    label: Label,
-    block: &Block,
-    reached: Reached,
-) -> Result<Vec<MetGoal>, NoMemory>
-    requires can { CanWalk (setting walk.now) }
-    requires here { MayWalk (setting walk.now) heads.now label block.now }
-    ensures { IfOk result (λ v. GoesOn (Within (setting walk.now) heads.now (start_of label)) reached v.items) }
+    body: &Body,
+    operand: &Operand,
+    state: State,
+    goals: Vec<MetGoal>,
+) -> Result<Reached, NoMemory>
+    ensures { IfOk result (IsOver [] (where_false body.now operand.now) (record { state = state; goals = goals })) }
 {
-    let end = over_statements(alloc, walk, label, block.statements.as_slice(), reached)?;
-    end_goals(alloc, walk, heads, label, block, end)
+    let back = Reached { state, goals };
+    to_false_side(alloc, body, operand, back)
 }
 
-/// The goals from the arrival at a loop head on that was not passed, behind those that were met.
+/// From the end of a block to the next arrival on the path, the first side of a branch being walked; or all goals, where the path ends.
 #[cycle(walk)]
-fn first_arrival(
-    alloc: Global,
-    walk: &Walk<'_>,
-    heads: &[Label],
-    label: Label,
-    block: &Block,
-    head: &Head,
-    reached: Reached,
-) -> Result<Vec<MetGoal>, NoMemory>
+fn from_end(alloc: Global, walk: &Walk<'_>, block: &Block, spot: Spot) -> Result<Next, NoMemory>
     requires can { CanWalk (setting walk.now) }
-    requires here { MayArrive (setting walk.now) heads.now label }
-    requires block { block_in walk.now.body.now.blocks label ≡ Some block.now }
-    requires head { block.now.head ≡ Some head.now }
-    requires not_passed { among label heads.now ≡ false }
-    ensures { IfOk result (λ v. GoesOn (Arrives (setting walk.now) heads.now label) reached v.items) }
+    requires here { MayWalk (setting walk.now) spot.heads.items spot.label block.now }
+    ensures { IfOk result (GoesTo (setting walk.now) (Ends (setting walk.now) spot.heads.items block.now.end) spot.reached (blocks_from walk.now.body.now.blocks spot.label)) }
 {
-    let inside = enter_loop(alloc, walk, label, head, reached)?;
-    let passed = with_label(alloc, label, heads)?;
-    block_goals(alloc, walk, passed.as_slice(), label, block, inside)
+    let Spot { heads, reached, .. } = spot;
+    match &block.end.kind {
+        TerminatorKind::Goto(next) => Ok(Next::On(Spot {
+            heads,
+            label: *next,
+            reached,
+        })),
+        TerminatorKind::If(operand, yes, no) => {
+            let state = reached.state.share(alloc)?;
+            let true_side = to_true_side(alloc, walk.body, operand, reached)?;
+            let first = Spot {
+                heads: copied(alloc, heads.as_slice())?,
+                label: *yes,
+                reached: true_side,
+            };
+            let goals = arrive(alloc, walk, first)?;
+            let reached = to_other_side(alloc, walk.body, operand, state, goals)?;
+            Ok(Next::On(Spot {
+                heads,
+                label: *no,
+                reached,
+            }))
+        }
+        TerminatorKind::Call(place, callee, _, args, next) => {
+            let args = args.as_slice();
+            let reached = over_call(alloc, walk, block.end.span, place, *callee, args, reached)?;
+            Ok(Next::On(Spot {
+                heads,
+                label: *next,
+                reached,
+            }))
+        }
+        TerminatorKind::Return => {
+            let goals = at_return(alloc, walk, reached)?;
+            Ok(Next::Done(goals))
+        }
+    }
 }
 
-/// The goals from the arrival at a block on, behind those that were met.
+/// From an arrival to the next one on the path; or all goals, where the path ends.
 #[cycle(walk)]
-fn arrive(
-    alloc: Global,
-    walk: &Walk<'_>,
-    heads: &[Label],
-    label: Label,
-    reached: Reached,
-) -> Result<Vec<MetGoal>, NoMemory>
+fn turn(alloc: Global, walk: &Walk<'_>, spot: Spot) -> Result<Next, NoMemory>
     requires can { CanWalk (setting walk.now) }
-    requires here { MayArrive (setting walk.now) heads.now label }
-    ensures { IfOk result (λ v. GoesOn (Arrives (setting walk.now) heads.now label) reached v.items) }
+    requires here { MayArrive (setting walk.now) spot.heads.items spot.label }
+    ensures { IfOk result (GoesTo (setting walk.now) (Arrives (setting walk.now) spot.heads.items spot.label) spot.reached (ahead walk.now.body.now.blocks spot.heads.items spot.label)) }
 {
-    let Some(block) = walk.body.block(label) else {
+    let Some(block) = walk.body.block(spot.label) else {
         unreachable!()
     };
-    match &block.head {
-        None => block_goals(alloc, walk, heads, label, block, reached),
-        Some(head) => {
-            if among(label, heads) {
-                return arrive_again(alloc, head, reached);
-            }
-            first_arrival(alloc, walk, heads, label, block, head, reached)
+    match to_end(alloc, walk, block, spot)? {
+        Next::On(end) => from_end(alloc, walk, block, end),
+        Next::Done(goals) => Ok(Next::Done(goals)),
+    }
+}
+
+/// The goals from the arrival at a block on, behind those that were met. Blocks are walked by a loop; what takes stack is the first side of
+/// a branch, so no more calls are pending than the body has paths.
+#[cycle(walk)]
+fn arrive(alloc: Global, walk: &Walk<'_>, spot: Spot) -> Result<Vec<MetGoal>, NoMemory>
+    requires can { CanWalk (setting walk.now) }
+    requires here { MayArrive (setting walk.now) spot.heads.items spot.label }
+    ensures { IfOk result (λ v. GoesOn (Arrives (setting walk.now) spot.heads.items spot.label) spot.reached v.items) }
+{
+    let mut here = spot;
+    'path: loop {
+        match turn(alloc, walk, here)? {
+            Next::On(next) => here = next,
+            Next::Done(goals) => return Ok(goals),
         }
     }
 }
@@ -234,5 +323,15 @@ pub(crate) fn goals_from_entry(
     requires { CanWalk (setting walk.now) }
     ensures { IfOk result (λ v. GoesOn (Arrives (setting walk.now) [] walk.now.body.now.entry) reached v.items) }
 {
-    arrive(alloc, walk, &[], walk.body.entry, reached)
+    let heads = Vec::new(alloc);
+    let label = walk.body.entry;
+    arrive(
+        alloc,
+        walk,
+        Spot {
+            heads,
+            label,
+            reached,
+        },
+    )
 }

@@ -1,10 +1,11 @@
 use Rattle.std.proofs.Common.{◌∙◌, sym, ap, subst, Some, None, arith}
 use Rattle.mir_ir.specs.Layout.{among}
 use Rattle.wp_gen.specs.Count.{IsRoomLeft, goals_within}
+use Rattle.wp_gen.specs.Paths.{last_target}
 use Rattle.wp_gen.specs.Setting.{setting}
-use Rattle.prophecy_logic.proofs.ArriveLaws.{goto_names, if_names_yes, if_names_no, call_names}
-use Rattle.wp_gen.proofs.CountLaws.{back_leaves, arrival_is_full, on_leaves, from_here, statements_are_many, goto_leaves, branch_leaves, branch_is_full, call_leaves, call_is_full, return_leaves, same_room}
-use Rattle.wp_gen.proofs.PathLaws.{next_block, has_room}
+use Rattle.prophecy_logic.proofs.ArriveLaws.{if_names_yes}
+use Rattle.wp_gen.proofs.CountLaws.{back_leaves, arrival_is_full, on_leaves, block_before, statements_are_many, goto_before, branch_before, call_before, return_before, none_behind, along_behind, same_room}
+use Rattle.wp_gen.proofs.PathLaws.{last_named, next_block}
 use Rattle.wp_gen.proofs.count.+count.Goals as goal
 
 pub along-returns-in_err-left : goal.along-returns-in_err-left
@@ -28,71 +29,77 @@ along-returns t c =
     on_leaves (setting c.args.walk.now) c.args.from c.args.to c.args.block.now c.args.room c.in_ok-left.left c.from_block.result c.requires.can.laid_out c.requires.here c.requires.edge
     (ap (among c.args.to) (sym c.as_slice.ensures) ∙ sym c.among.ensures ∙ c.if-among.false) c.in_ok-left.ensures c.from_block.ensures
 
-pub from_block-returns-in_err-left : goal.from_block-returns-in_err-left
-from_block-returns-in_err-left t c =
+pub after_end-along-requires : goal.after_end-along-requires
+after_end-along-requires t c =
+    (omega (arith, c.decreases), (c.requires.can, (c.requires.here, if_names_yes c.args.block.now.end.kind c.in-If.field-0 c.in-If.yes c.in-If.field-2 c.in-If.is)))
+
+pub after_end-returns-in-Goto : goal.after_end-returns-in-Goto
+after_end-returns-in-Goto t c = goto_before (setting c.args.walk.now) c.args.label c.args.block.now c.in-Goto.field-0 c.args.room c.in-Goto.is
+
+pub after_end-returns-in-If : goal.after_end-returns-in-If
+after_end-returns-in-If t c = branch_before (setting c.args.walk.now) c.args.label c.args.block.now c.in-If.field-0 c.in-If.yes c.in-If.field-2 c.args.room c.along.result c.in-If.is c.along.ensures
+
+pub after_end-returns-in-Call : goal.after_end-returns-in-Call
+after_end-returns-in-Call t c =
+    call_before (setting c.args.walk.now) c.args.label c.args.block.now c.in-Call.field-0 c.in-Call.callee c.in-Call.field-2 c.in-Call.field-3 c.in-Call.field-4 c.contract_at-contract.result.now c.args.room c.after.result c.in-Call.is
+    c.contract_at-contract.ensures (same_room c.args.room _ _ c.after.result c.len.ensures c.after.ensures)
+
+pub after_end-returns-in-Return : goal.after_end-returns-in-Return
+after_end-returns-in-Return t c =
+    return_before (setting c.args.walk.now) c.args.label c.args.block.now c.args.room c.after-in-Return.result c.in-Return.is
+    (same_room c.args.room _ _ c.after-in-Return.result (c.count_of_return.ensures c.args.walk.now.body.now) c.after-in-Return.ensures)
+
+pub after_block-returns-in_err-left : goal.after_block-returns-in_err-left
+after_block-returns-in_err-left t c =
     rw c.from_residual.ensures
-    (statements_are_many (setting c.args.walk.now) c.args.label c.in-Some.block.now c.args.room (sym c.in-Some.ensures)
+    (statements_are_many (setting c.args.walk.now) c.args.label c.args.block.now c.args.room c.requires.here
     (subst (λ sts. IsRoomLeft c.args.room (goals_within c.args.walk.now.body.now sts) None) c.as_slice.ensures c.in_err-left.ensures))
 
-pub from_block-along-requires : goal.from_block-along-requires
-from_block-along-requires t c =
-    let below = has_room c.args.walk.now.body.now c.args.label c.in-Some.block.now (sym c.in-Some.ensures) in
-    (omega (arith, below, c.decreases), (c.requires.can, (sym c.in-Some.ensures, goto_names c.in-Some.block.now.end.kind c.in-Goto.next c.in-Goto.is)))
-
-pub from_block-along-requires-in-If : goal.from_block-along-requires-in-If
-from_block-along-requires-in-If t c =
-    let below = has_room c.args.walk.now.body.now c.args.label c.in-Some.block.now (sym c.in-Some.ensures) in
-    (omega (arith, below, c.decreases), (c.requires.can, (sym c.in-Some.ensures, if_names_yes c.in-Some.block.now.end.kind c.in-If.field-0 c.in-If.yes c.in-If.no c.in-If.is)))
-
-pub from_block-returns-in_err-left-in-If : goal.from_block-returns-in_err-left-in-If
-from_block-returns-in_err-left-in-If t c =
-    rw c.from_residual-in_err-left-in-If.ensures
-    (from_here (setting c.args.walk.now) c.args.label c.in-Some.block.now c.args.room c.in_ok-left.left None (sym c.in-Some.ensures)
+pub after_block-returns : goal.after_block-returns
+after_block-returns t c =
+    block_before (setting c.args.walk.now) c.args.label c.args.block.now _ c.args.room c.in_ok-left.left c.after_end.result c.requires.here
     (subst (λ sts. IsRoomLeft c.args.room (goals_within c.args.walk.now.body.now sts) (Some c.in_ok-left.left)) c.as_slice.ensures c.in_ok-left.ensures)
-    (branch_is_full (setting c.args.walk.now) c.args.label c.in-Some.block.now c.in-If.field-0 c.in-If.yes c.in-If.no c.in_ok-left.left c.in-If.is c.in_err-left-in-If.ensures))
+    c.after_end.ensures
 
-pub from_block-along-requires-in-If-2 : goal.from_block-along-requires-in-If-2
-from_block-along-requires-in-If-2 t c =
-    let below = has_room c.args.walk.now.body.now c.args.label c.in-Some.block.now (sym c.in-Some.ensures) in
-    (omega (arith, below, c.decreases), (c.requires.can, (sym c.in-Some.ensures, if_names_no c.in-Some.block.now.end.kind c.in-If.field-0 c.in-If.yes c.in-If.no c.in-If.is)))
+pub from_block-returns-in_default-last_target : goal.from_block-returns-in_default-last_target
+from_block-returns-in_default-last_target t c =
+    c.loop-block.invariant.leaves (Some c.in_ok-left.left)
+    (none_behind (setting c.args.walk.now) c.loop-block.here (last_target c.in-Some.block.now.end.kind) c.loop-block.left c.in_ok-left.left (sym c.in_default-last_target.ensures) c.in_ok-left.ensures)
 
-pub from_block-returns-in_err-left-in-Call : goal.from_block-returns-in_err-left-in-Call
-from_block-returns-in_err-left-in-Call t c =
-    rw c.from_residual-in_err-left-in-Call.ensures
-    (from_here (setting c.args.walk.now) c.args.label c.in-Some.block.now c.args.room c.in_ok-left.left None (sym c.in-Some.ensures)
-    (subst (λ sts. IsRoomLeft c.args.room (goals_within c.args.walk.now.body.now sts) (Some c.in_ok-left.left)) c.as_slice.ensures c.in_ok-left.ensures)
-    (call_is_full (setting c.args.walk.now) c.args.label c.in-Some.block.now c.in-Call.field-0 c.in-Call.callee c.in-Call.field-2 c.in-Call.field-3 c.in-Call.next c.contract_at-contract.result.now c.in_ok-left.left c.in-Call.is
-    c.contract_at-contract.ensures
-    (same_room c.in_ok-left.left _ _ None c.len.ensures c.in_err-left-in-Call.ensures)))
+pub from_block-returns-in_err-left-2 : goal.from_block-returns-in_err-left-2
+from_block-returns-in_err-left-2 t c =
+    let named = last_named c.in-Some.block.now.end.kind c.in-Some-last_target.next (sym c.in-Some-last_target.ensures) in
+    rw c.from_residual-in_err-left-2.ensures
+    (c.loop-block.invariant.leaves None
+    (along_behind (setting c.args.walk.now) c.loop-block.here c.in-Some-last_target.next (last_target c.in-Some.block.now.end.kind) c.loop-block.left c.in_ok-left.left None (sym c.in-Some-last_target.ensures) c.in_ok-left.ensures
+    (arrival_is_full (setting c.args.walk.now) c.loop-block.here c.in-Some-last_target.next c.in-Some.block.now c.in_ok-left.left c.requires.can.laid_out (sym c.in-Some.ensures) named c.in_err-left-2.ensures)))
 
-pub from_block-along-requires-in-Call : goal.from_block-along-requires-in-Call
-from_block-along-requires-in-Call t c =
-    let below = has_room c.args.walk.now.body.now c.args.label c.in-Some.block.now (sym c.in-Some.ensures) in
-    (omega (arith, below, c.decreases), (c.requires.can, (sym c.in-Some.ensures, call_names c.in-Some.block.now.end.kind c.in-Call.field-0 c.in-Call.callee c.in-Call.field-2 c.in-Call.field-3 c.in-Call.next c.in-Call.is)))
+pub from_block-returns-then-among : goal.from_block-returns-then-among
+from_block-returns-then-among t c =
+    let named = last_named c.in-Some.block.now.end.kind c.in-Some-last_target.next (sym c.in-Some-last_target.ensures) in
+    c.loop-block.invariant.leaves (Some c.in_ok-left-2.left)
+    (along_behind (setting c.args.walk.now) c.loop-block.here c.in-Some-last_target.next (last_target c.in-Some.block.now.end.kind) c.loop-block.left c.in_ok-left.left (Some c.in_ok-left-2.left) (sym c.in-Some-last_target.ensures)
+    c.in_ok-left.ensures
+    (back_leaves (setting c.args.walk.now) c.loop-block.here c.in-Some-last_target.next c.in-Some.block.now c.in_ok-left.left c.in_ok-left-2.left c.requires.can.laid_out (sym c.in-Some.ensures) named
+    (ap (among c.in-Some-last_target.next) (sym c.as_slice.ensures) ∙ sym c.among.ensures ∙ c.if-among.true) c.in_ok-left-2.ensures))
 
-pub from_block-returns-in-Goto : goal.from_block-returns-in-Goto
-from_block-returns-in-Goto t c =
-    from_here (setting c.args.walk.now) c.args.label c.in-Some.block.now c.args.room c.in_ok-left.left c.along.result (sym c.in-Some.ensures)
-    (subst (λ sts. IsRoomLeft c.args.room (goals_within c.args.walk.now.body.now sts) (Some c.in_ok-left.left)) c.as_slice.ensures c.in_ok-left.ensures)
-    (goto_leaves (setting c.args.walk.now) c.args.label c.in-Some.block.now c.in-Goto.next c.in_ok-left.left c.along.result c.in-Goto.is c.along.ensures)
+pub from_block-loop-block-smaller : goal.from_block-loop-block-smaller
+from_block-loop-block-smaller t c =
+    let named = last_named c.in-Some.block.now.end.kind c.in-Some-last_target.next (sym c.in-Some-last_target.ensures) in
+    let n = next_block c.args.walk.now.body.now c.loop-block.here c.in-Some-last_target.next c.in-Some.block.now c.requires.can.laid_out (sym c.in-Some.ensures) named
+    (ap (among c.in-Some-last_target.next) (sym c.as_slice.ensures) ∙ sym c.among.ensures ∙ c.if-among.false) in
+    n.1
 
-pub from_block-returns-in_ok-left-in-If : goal.from_block-returns-in_ok-left-in-If
-from_block-returns-in_ok-left-in-If t c =
-    from_here (setting c.args.walk.now) c.args.label c.in-Some.block.now c.args.room c.in_ok-left.left c.along-in-If-2.result (sym c.in-Some.ensures)
-    (subst (λ sts. IsRoomLeft c.args.room (goals_within c.args.walk.now.body.now sts) (Some c.in_ok-left.left)) c.as_slice.ensures c.in_ok-left.ensures)
-    (branch_leaves (setting c.args.walk.now) c.args.label c.in-Some.block.now c.in-If.field-0 c.in-If.yes c.in-If.no c.in_ok-left.left c.in_ok-left-in-If.left c.along-in-If-2.result c.in-If.is c.in_ok-left-in-If.ensures c.along-in-If-2.ensures)
-
-pub from_block-returns-in_ok-left-in-Call : goal.from_block-returns-in_ok-left-in-Call
-from_block-returns-in_ok-left-in-Call t c =
-    from_here (setting c.args.walk.now) c.args.label c.in-Some.block.now c.args.room c.in_ok-left.left c.along-in-Call.result (sym c.in-Some.ensures)
-    (subst (λ sts. IsRoomLeft c.args.room (goals_within c.args.walk.now.body.now sts) (Some c.in_ok-left.left)) c.as_slice.ensures c.in_ok-left.ensures)
-    (call_leaves (setting c.args.walk.now) c.args.label c.in-Some.block.now c.in-Call.field-0 c.in-Call.callee c.in-Call.field-2 c.in-Call.field-3 c.in-Call.next c.contract_at-contract.result.now c.in_ok-left.left c.in_ok-left-in-Call.left c.along-in-Call.result c.in-Call.is
-    c.contract_at-contract.ensures
-    (same_room c.in_ok-left.left _ _ (Some c.in_ok-left-in-Call.left) c.len.ensures c.in_ok-left-in-Call.ensures) c.along-in-Call.ensures)
-
-pub from_block-returns-in-Return : goal.from_block-returns-in-Return
-from_block-returns-in-Return t c =
-    from_here (setting c.args.walk.now) c.args.label c.in-Some.block.now c.args.room c.in_ok-left.left c.after-in-Return.result (sym c.in-Some.ensures)
-    (subst (λ sts. IsRoomLeft c.args.room (goals_within c.args.walk.now.body.now sts) (Some c.in_ok-left.left)) c.as_slice.ensures c.in_ok-left.ensures)
-    (return_leaves (setting c.args.walk.now) c.args.label c.in-Some.block.now c.in_ok-left.left c.after-in-Return.result c.in-Return.is
-    (same_room c.in_ok-left.left _ _ c.after-in-Return.result (c.count_of_return.ensures c.args.walk.now.body.now) c.after-in-Return.ensures))
+pub from_block-loop-block-preserved : goal.from_block-loop-block-preserved
+from_block-loop-block-preserved t c =
+    let named = last_named c.in-Some.block.now.end.kind c.in-Some-last_target.next (sym c.in-Some-last_target.ensures) in
+    let not_in = ap (among c.in-Some-last_target.next) (sym c.as_slice.ensures) ∙ sym c.among.ensures ∙ c.if-among.false in
+    let n = next_block c.args.walk.now.body.now c.loop-block.here c.in-Some-last_target.next c.in-Some.block.now c.requires.can.laid_out (sym c.in-Some.ensures) named not_in in
+    record {
+      there = n.0;
+      nearer = omega (arith, n.1, c.loop-block.invariant.nearer);
+      leaves = λ r h.
+          c.loop-block.invariant.leaves r
+          (along_behind (setting c.args.walk.now) c.loop-block.here c.in-Some-last_target.next (last_target c.in-Some.block.now.end.kind) c.loop-block.left c.in_ok-left.left r (sym c.in-Some-last_target.ensures) c.in_ok-left.ensures
+          (on_leaves (setting c.args.walk.now) c.loop-block.here c.in-Some-last_target.next c.in-Some.block.now c.in_ok-left.left c.in_ok-left-2.left r c.requires.can.laid_out (sym c.in-Some.ensures) named not_in c.in_ok-left-2.ensures h));
+    }

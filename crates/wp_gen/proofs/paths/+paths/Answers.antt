@@ -1,7 +1,8 @@
-use Rattle.std.proofs.Common.{◌∙◌, refl, sym, ap, arith}
+use Rattle.std.proofs.Common.{◌≡◌, ◌∙◌, refl, sym, ap, subst, ◌+◌, ◌-◌, true, false, arith}
 use Rattle.mir_ir.specs.Layout.{among}
-use Rattle.prophecy_logic.proofs.ArriveLaws.{goto_names, if_names_yes, if_names_no, call_names}
-use Rattle.wp_gen.proofs.PathLaws.{count_map, back_counts, on_counts, next_block, has_room, goto_counts, call_counts, return_counts, both_count, first_is_many, second_is_many}
+use Rattle.prophecy_logic.proofs.ArriveLaws.{if_names_yes}
+use Rattle.wp_gen.specs.Paths.{CountsFirst, CountsFrom}
+use Rattle.wp_gen.proofs.PathLaws.{count_map, back_counts, on_counts, last_named, first_is_many, ends_counts, later_counts, next_block}
 use Rattle.wp_gen.proofs.paths.+paths.Goals as goal
 
 pub along-returns-then-among : goal.along-returns-then-among
@@ -24,53 +25,66 @@ along-returns t c =
     (ap (among c.args.to) (sym c.as_slice.ensures) ∙ sym c.among.ensures ∙ c.if-among.false))
     c.from_block.ensures
 
-pub from_block-along-requires : goal.from_block-along-requires
-from_block-along-requires t c =
-    let below = has_room c.args.body.now c.args.label c.in-Some.block.now (sym c.in-Some.ensures) in
-    (omega (arith, below, c.decreases), (c.requires.laid_out, (sym c.in-Some.ensures, goto_names c.in-Some.block.now.end.kind c.in-Goto.next c.in-Goto.is)))
+pub first_side-along-requires : goal.first_side-along-requires
+first_side-along-requires t c =
+    (omega (arith, c.decreases), (c.requires.laid_out, (c.requires.here, if_names_yes c.args.block.now.end.kind c.in-If.field-0 c.in-If.yes c.in-If.field-2 c.in-If.is)))
 
-pub from_block-along-requires-in-If : goal.from_block-along-requires-in-If
-from_block-along-requires-in-If t c =
-    let below = has_room c.args.body.now c.args.label c.in-Some.block.now (sym c.in-Some.ensures) in
-    (omega (arith, below, c.decreases), (c.requires.laid_out, (sym c.in-Some.ensures, if_names_yes c.in-Some.block.now.end.kind c.in-If.field-0 c.in-If.yes c.in-If.no c.in-If.is)))
+pub first_side-returns-in-If : goal.first_side-returns-in-If
+first_side-returns-in-If t c =
+    count_map c.args.room c.along.result (λ early n counts. subst (λ kind. CountsFirst c.args.body.now c.args.label kind early n) (sym c.in-If.is) counts) c.along.ensures
 
-pub from_block-along-requires-in-If-2 : goal.from_block-along-requires-in-If-2
-from_block-along-requires-in-If-2 t c =
-    let below = has_room c.args.body.now c.args.label c.in-Some.block.now (sym c.in-Some.ensures) in
-    (omega (arith, below, c.decreases), (c.requires.laid_out, (sym c.in-Some.ensures, if_names_no c.in-Some.block.now.end.kind c.in-If.field-0 c.in-If.yes c.in-If.no c.in-If.is)))
+pub first_side-returns-in-Goto : goal.first_side-returns-in-Goto
+first_side-returns-in-Goto t c = (omega arith, subst (λ kind. CountsFirst c.args.body.now c.args.label kind false 0) (sym c.in-Goto.is) refl)
 
-pub from_block-along-requires-in-Call : goal.from_block-along-requires-in-Call
-from_block-along-requires-in-Call t c =
-    let below = has_room c.args.body.now c.args.label c.in-Some.block.now (sym c.in-Some.ensures) in
-    (omega (arith, below, c.decreases), (c.requires.laid_out, (sym c.in-Some.ensures, call_names c.in-Some.block.now.end.kind c.in-Call.field-0 c.in-Call.field-1 c.in-Call.field-2 c.in-Call.field-3 c.in-Call.next c.in-Call.is)))
+pub first_side-returns-in-Call : goal.first_side-returns-in-Call
+first_side-returns-in-Call t c = (omega arith, subst (λ kind. CountsFirst c.args.body.now c.args.label kind false 0) (sym c.in-Call.is) refl)
 
-pub from_block-returns-in-Goto : goal.from_block-returns-in-Goto
-from_block-returns-in-Goto t c =
-    count_map c.args.room c.along.result (goto_counts c.args.body.now c.args.label c.in-Some.block.now c.in-Goto.next (sym c.in-Some.ensures) c.in-Goto.is) c.along.ensures
+pub first_side-returns-in-Return : goal.first_side-returns-in-Return
+first_side-returns-in-Return t c = (omega arith, subst (λ kind. CountsFirst c.args.body.now c.args.label kind false 0) (sym c.in-Return.is) refl)
 
-pub from_block-returns-in_err-first-in-If : goal.from_block-returns-in_err-first-in-If
-from_block-returns-in_err-first-in-If t c =
+pub from_block-loop-block-init : goal.from_block-loop-block-init
+from_block-loop-block-init t c = record {
+  few = omega arith;
+  there = c.requires.there;
+  nearer = omega arith;
+  counts = λ early n h. let e : n ≡ 0 + n = omega arith in subst (λ x. CountsFrom c.args.body.now c.args.label early x) e h;
+}
+
+pub from_block-returns-in_err-counted : goal.from_block-returns-in_err-counted
+from_block-returns-in_err-counted t c =
+    let left = c.args.room - c.loop-block.counted in
+    let sum : c.loop-block.counted + (left + 1) ≡ c.args.room + 1 = omega (arith, c.loop-block.invariant.few) in
     rw c.from_residual.ensures
-    (first_is_many c.args.body.now c.args.label c.in-Some.block.now c.in-If.field-0 c.in-If.yes c.in-If.no c.args.room (sym c.in-Some.ensures) c.in-If.is c.in_err-first-in-If.ensures)
+    (subst (λ x. CountsFrom c.args.body.now c.args.label true x) sum
+    (c.loop-block.invariant.counts true (left + 1) (first_is_many c.args.body.now c.loop-block.here c.in-Some.block.now left (sym c.in-Some.ensures) c.in_err-counted.ensures)))
 
-pub from_block-returns-in_err-second-in-If : goal.from_block-returns-in_err-second-in-If
-from_block-returns-in_err-second-in-If t c =
-    rw c.from_residual-in_err-second-in-If.ensures
-    (second_is_many c.args.body.now c.args.label c.in-Some.block.now c.in-If.field-0 c.in-If.yes c.in-If.no c.args.room c.in_ok-first-in-If.first (sym c.in-Some.ensures) c.in-If.is
-    c.in_ok-first-in-If.ensures.0 c.in_ok-first-in-If.ensures.1 c.in_err-second-in-If.ensures)
+pub from_block-returns-in_default-later : goal.from_block-returns-in_default-later
+from_block-returns-in_default-later t c =
+    count_map {P = λ early n. n ≡ c.loop-block.counted + c.in_ok-counted.field-0 + 1} c.args.room c.with_last.result
+    (λ early n is.
+    let sum : c.loop-block.counted + (c.in_ok-counted.field-0 + 1) ≡ n = omega (arith, is) in
+    subst (λ x. CountsFrom c.args.body.now c.args.label early x) sum
+    (c.loop-block.invariant.counts early (c.in_ok-counted.field-0 + 1)
+    (ends_counts c.args.body.now c.loop-block.here c.in-Some.block.now c.in_ok-counted.field-0 c.requires.laid_out (sym c.in-Some.ensures) c.in_ok-counted.ensures.1 c.in_default-later.ensures early)))
+    c.with_last.ensures
 
-pub from_block-returns-in_ok-second-in-If : goal.from_block-returns-in_ok-second-in-If
-from_block-returns-in_ok-second-in-If t c = (
-  omega (arith, c.in_ok-first-in-If.ensures.0, c.in_ok-second-in-If.ensures.0),
-  both_count c.args.body.now c.args.label c.in-Some.block.now c.in-If.field-0 c.in-If.yes c.in-If.no (sym c.in-Some.ensures) c.in-If.is _ c.in_ok-first-in-If.first c.in_ok-second-in-If.second _ refl
-      c.in_ok-first-in-If.ensures.1 c.in_ok-second-in-If.ensures.1,
-)
+pub from_block-loop-block-smaller : goal.from_block-loop-block-smaller
+from_block-loop-block-smaller t c =
+    let named = last_named c.in-Some.block.now.end.kind c.in-Some-later.next c.in-Some-later.ensures.0 in
+    let n = next_block c.args.body.now c.loop-block.here c.in-Some-later.next c.in-Some.block.now c.requires.laid_out (sym c.in-Some.ensures) named c.in-Some-later.ensures.1 in
+    n.1
 
-pub from_block-returns-in-Call : goal.from_block-returns-in-Call
-from_block-returns-in-Call t c =
-    count_map c.args.room c.along-in-Call.result
-    (call_counts c.args.body.now c.args.label c.in-Some.block.now c.in-Call.field-0 c.in-Call.field-1 c.in-Call.field-2 c.in-Call.field-3 c.in-Call.next (sym c.in-Some.ensures) c.in-Call.is) c.along-in-Call.ensures
-
-pub from_block-returns-in-Return : goal.from_block-returns-in-Return
-from_block-returns-in-Return t c =
-    count_map c.args.room c.one_path.result (return_counts c.args.body.now c.args.label c.in-Some.block.now (sym c.in-Some.ensures) c.in-Return.is) c.one_path.ensures
+pub from_block-loop-block-preserved : goal.from_block-loop-block-preserved
+from_block-loop-block-preserved t c =
+    let named = last_named c.in-Some.block.now.end.kind c.in-Some-later.next c.in-Some-later.ensures.0 in
+    let n = next_block c.args.body.now c.loop-block.here c.in-Some-later.next c.in-Some.block.now c.requires.laid_out (sym c.in-Some.ensures) named c.in-Some-later.ensures.1 in
+    record {
+      few = omega (arith, c.in_ok-counted.ensures.0, c.loop-block.invariant.few);
+      there = n.0;
+      nearer = omega (arith, n.1, c.loop-block.invariant.nearer);
+      counts = λ early m h.
+          let sum : c.loop-block.counted + (c.in_ok-counted.field-0 + m) ≡ c.loop-block.counted + c.in_ok-counted.field-0 + m = omega arith in
+          subst (λ x. CountsFrom c.args.body.now c.args.label early x) sum
+          (c.loop-block.invariant.counts early (c.in_ok-counted.field-0 + m)
+          (later_counts c.args.body.now c.loop-block.here c.in-Some.block.now c.in-Some-later.next c.in_ok-counted.field-0 c.requires.laid_out (sym c.in-Some.ensures) c.in_ok-counted.ensures.1 c.in-Some-later.ensures early m h));
+    }

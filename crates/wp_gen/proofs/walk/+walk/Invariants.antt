@@ -1,15 +1,26 @@
-use Rattle.std.proofs.Common.{◌+◌, ◌*◌}
-use Rattle.prophecy_logic.proofs.ArriveLaws.{room, arrival_measure}
+use Rattle.std.proofs.Common.{◌+◌, ◌*◌, ◌≤◌, List}
+use Rattle.prophecy_logic.specs.declared.goal.Goal.{Goal}
+use Rattle.prophecy_logic.specs.Graph.{Arrives}
+use Rattle.prophecy_logic.specs.Walkable.{MayArrive}
+use Rattle.wp_gen.specs.Reached.{GoesOn, ahead, blocks_from}
+use Rattle.wp_gen.specs.Setting.{setting}
 use Rattle.wp_gen.proofs.walk.+walk.Given as goal
 
 abbrev pub decreases-arrive : goal.decreases-arrive
-decreases-arrive l = arrival_measure l.walk.now.body.now.blocks l.heads.now l.label
+decreases-arrive l = 3 * ahead l.walk.now.body.now.blocks l.spot.heads.items l.spot.label + 2
 
-abbrev pub decreases-block_goals : goal.decreases-block_goals
-decreases-block_goals l = 4 * room l.walk.now.body.now.blocks l.label + 1
+abbrev pub decreases-turn : goal.decreases-turn
+decreases-turn l = 3 * ahead l.walk.now.body.now.blocks l.spot.heads.items l.spot.label + 1
 
-abbrev pub decreases-end_goals : goal.decreases-end_goals
-decreases-end_goals l = 4 * room l.walk.now.body.now.blocks l.label
+abbrev pub decreases-from_end : goal.decreases-from_end
+decreases-from_end l = 3 * blocks_from l.walk.now.body.now.blocks l.spot.label
 
-abbrev pub decreases-first_arrival : goal.decreases-first_arrival
-decreases-first_arrival l = 4 * room l.walk.now.body.now.blocks l.label + 2
+abbrev pub invariant-arrive-path : goal.invariant-arrive-path
+invariant-arrive-path l = record {
+  may : MayArrive (setting l.walk) l.here.heads.items l.here.label;
+  nearer : ahead l.walk.body.now.blocks l.here.heads.items l.here.label ≤ ahead l.walk.body.now.blocks l.fn.spot.heads.items l.fn.spot.label;
+  walks : (all : List Goal) → GoesOn (Arrives (setting l.walk) l.here.heads.items l.here.label) l.here.reached all → GoesOn (Arrives (setting l.walk) l.fn.spot.heads.items l.fn.spot.label) l.fn.spot.reached all;
+}
+
+abbrev pub decreases-arrive-path : goal.decreases-arrive-path
+decreases-arrive-path l = ahead l.walk.body.now.blocks l.here.heads.items l.here.label
