@@ -1,6 +1,8 @@
+pub mod Accepting
 pub mod Arguments
 pub mod Bound
 pub mod Chains
+pub mod Declaration
 pub mod Dropped
 pub mod Fits
 pub mod Lookups
