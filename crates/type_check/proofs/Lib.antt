@@ -1,7 +1,9 @@
+pub mod Accepting
 pub mod Arguments
 pub mod Bound
 pub mod ByRules
 pub mod Chains
+pub mod Declaration
 pub mod Dropped
 pub mod Fits
 pub mod Lookups

@@ -2,6 +2,8 @@ pub mod Answers
 pub mod Causes
 pub mod Chains
 pub mod Checked
+pub mod DeclaredTypes
+pub mod Declaring
 pub mod FirstBad
 pub mod Functions
 pub mod Laws

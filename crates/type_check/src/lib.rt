@@ -4,10 +4,15 @@
 mod assertion;
 mod chain;
 mod checking;
+mod checks;
+mod declarations;
 mod declaring;
+mod double;
 mod elaborate;
 mod expressions;
+mod fields;
 mod heading;
+mod heads;
 mod laws;
 mod lists;
 mod logic;
@@ -26,6 +31,7 @@ mod written;
 
 pub use assertion::Assertion;
 pub use checking::check;
+pub use declarations::{Declared, declare};
 pub use elaborate::{answer_name, variable_name};
 pub use laws::{checked_programs_fit, expressions_are_typed_by_rules, refusals_have_causes};
 pub use program::{ClauseKind, Signature, TypedClause, TypedFunction, TypedProgram};

@@ -6,6 +6,8 @@ mod build;
 #[cfg(test)]
 mod closing;
 #[cfg(test)]
+mod declaring;
+#[cfg(test)]
 mod meaning;
 #[cfg(test)]
 mod tables;
