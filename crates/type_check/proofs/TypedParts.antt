@@ -3,7 +3,7 @@ use Rattle.std.proofs.Common.{◌≡◌, ◌∙◌, ℕ, zero, suc, ◌+◌, ◌
 use Rattle.text_core.specs.declared.refusal.SourceError.{SourceError}
 use Rattle.type_check.specs.declared.typed.TypedStmt.{TypedStmt}
 use Rattle.type_check.specs.FirstBad.{bad_in, bad_in_stmts, bad_in_exprs}
-use Rattle.type_check.specs.Names.{or_else}
+use Rattle.type_check.specs.Answers.{or_else}
 use Rattle.type_check.specs.TypedExpr.{TypedExpr, TypedStmts, done, last, bind, run}
 use Rattle.type_check.specs.TypedExprFalls.{each_smaller}
 use Rattle.type_check.specs.TypedExprView.{typed_size, stmts_size, exprs_of, stmt_of, stmts_of}

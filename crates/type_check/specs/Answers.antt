@@ -24,6 +24,11 @@ unbuilt s = record { code = E20; span = s; other = None }
 abbrev pub not_mutable : Span → SourceError
 not_mutable s = record { code = E22; span = s; other = None }
 
+-- the first of two
+abbrev pub or_else : Option SourceError → Option SourceError → Option SourceError
+or_else (Some e) m = Some e
+or_else None m = m
+
 -- ---- one part after another
 
 infixl 10 ◌>>=◌

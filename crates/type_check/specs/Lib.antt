@@ -7,7 +7,6 @@ pub mod Declaring
 pub mod FirstBad
 pub mod Functions
 pub mod Laws
-pub mod Names
 pub mod Rules
 pub mod Scope
 pub mod TermChains

@@ -2,7 +2,7 @@
 ghost use Rattle.std.specs.Prelude.{◌≡◌, IfOk, Some, None};
 ghost use Rattle.type_check.specs.Answers.{double_name, unknown_name, unbuilt};
 ghost use Rattle.type_check.specs.Declaring.{is_among, double_in, double_of, named, type_name, maker_name, value_name, may_stand, stray, stray_before, unknown_in, bound_among, parameter_refusal, parameters_refusal, generics_of, head_refusal};
-ghost use Rattle.type_check.specs.Names.{or_else};
+ghost use Rattle.type_check.specs.Answers.{or_else};
 
 use crate::heads::{lifetime_name, lifetimes_of, parameter_name};
 use crate::lists::push_some;

@@ -16,7 +16,6 @@ mod heads;
 mod laws;
 mod lists;
 mod logic;
-mod names;
 mod operands;
 mod program;
 mod refusal;

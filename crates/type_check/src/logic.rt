@@ -1,6 +1,6 @@
 ghost use Rattle.std.specs.Prelude.{◌≡◌, ◌<◌, MatchOption};
 ghost use Rattle.type_check.specs.FirstBad.{bad_of, bad_among, bad_in, bad_in_stmts, bad_in_exprs, bad_clause, bad_in_function, first_bad};
-ghost use Rattle.type_check.specs.Names.{or_else};
+ghost use Rattle.type_check.specs.Answers.{or_else};
 ghost use Rattle.type_check.specs.TypedExpr.{done};
 ghost use Rattle.type_check.specs.TypedExprView.{exprs_of, stmts_of, typed_size};
 

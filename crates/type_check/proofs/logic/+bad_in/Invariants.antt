@@ -1,6 +1,6 @@
 use Rattle.std.proofs.Common.{◌≡◌, ◌≤◌, ◌+◌, ◌*◌, drop}
 use Rattle.type_check.specs.FirstBad.{bad_in, bad_in_exprs, bad_in_stmts}
-use Rattle.type_check.specs.Names.{or_else}
+use Rattle.type_check.specs.Answers.{or_else}
 use Rattle.type_check.specs.TypedExpr.{done}
 use Rattle.type_check.specs.TypedExprView.{typed_size, exprs_size, stmts_size, exprs_of, stmts_of}
 use Rattle.type_check.proofs.logic.+bad_in.Given as goal
