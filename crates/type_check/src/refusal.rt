@@ -1,6 +1,6 @@
 ghost use Rattle.std.specs.Prelude.{◌≡◌, None};
 ghost use Rattle.text_core.specs.declared.fault.PassError.TheVariants as fault;
-ghost use Rattle.type_check.specs.Answers.{unknown_name, double_name, mismatch, unbuilt, not_mutable};
+ghost use Rattle.type_check.specs.Answers.{unknown_name, mismatch, unbuilt, not_mutable};
 
 use text_core::{Code, PassError, SourceError, Span};
 
@@ -19,13 +19,6 @@ pub(crate) fn unknown_name(span: Span) -> PassError
     ensures { result ≡ fault.Source (unknown_name span) }
 {
     refusal(Code::E05, span)
-}
-
-/// A name that is declared before.
-pub(crate) fn double_name(span: Span) -> PassError
-    ensures { result ≡ fault.Source (double_name span) }
-{
-    refusal(Code::E06, span)
 }
 
 /// A type that is not the one wanted.
