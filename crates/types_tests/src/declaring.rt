@@ -3,6 +3,7 @@ use rs_syntax::parse;
 use std::alloc::Global;
 use std::process::Abort;
 use std::test::Fail;
+use text_core::name::OPTION;
 use text_core::{Code, Names, PassError};
 use type_check::declare;
 
@@ -171,4 +172,33 @@ const SIGNATURES: [Row; 11] = [
 #[test]
 fn signatures_are_refused(rt: HostRuntime) {
     expect(&rt, rt.alloc(), &SIGNATURES);
+}
+
+/// `Option` stands before the items, which have the numbers behind it.
+fn table_is_right(alloc: Global) -> bool {
+    let mut names = Names::new(alloc);
+    let source = b"struct A(i32); #[derive(Copy)] enum B<'a, T> { X { r: &'a T } }";
+    let Ok(items) = parse(alloc, source, &mut names) else {
+        return false;
+    };
+    let Ok(declared) = declare(alloc, items.as_slice()) else {
+        return false;
+    };
+    let decls = declared.table.decls();
+    let option = decls
+        .get(0)
+        .is_some_and(|it| it.name.0 == OPTION.0 && it.params == 1);
+    let first = decls
+        .get(1)
+        .is_some_and(|it| it.is_struct && !it.copy && it.params == 0);
+    let second = decls
+        .get(2)
+        .is_some_and(|it| !it.is_struct && it.copy && it.regions == 1);
+    decls.len() == 3 && option && first && second
+}
+
+#[test]
+fn declared_types_have_numbers(rt: HostRuntime) {
+    let right = table_is_right(rt.alloc());
+    assert!(rt; right);
 }
