@@ -1,5 +1,6 @@
 //! The passes over a source.
 ghost use Rattle.std.specs.Prelude.{◌≡◌, ◌+◌, ◌^◌, ◌<◌, ◌≤◌, ◌++◌, [], length, IfOk, IfErr, OnOk};
+ghost use Rattle.type_check.specs.Checked.{AllGood};
 ghost use Rattle.type_check.specs.WellTyped.{ProgramFits};
 ghost use Rattle.mir_build.specs.Lowering.{IsLowered};
 ghost use Rattle.mir_build.specs.Laws.{Lowers};
@@ -36,6 +37,7 @@ fn typed_source(
     requires empty { names.old ≡ [] }
     ensures ok { IfOk result (λ r. IsChecked source.now names.new r.0 r.1) }
     ensures fits { IfOk result (λ r. ProgramFits r.0) }
+    ensures good { IfOk result (λ r. AllGood r.0) }
     ensures refused { IfErr result (RefusesSource source.now) }
 {
     let items = built_items(alloc, source, names)?;
