@@ -1,4 +1,4 @@
-use logic_term::{Label, Term};
+use logic_term::{Label, Term, TyNode};
 use mir_build::{Lowered, lower};
 use mir_ir::{
     Block, Body, Initialised, Rvalue, Statement, StatementKind, Terminator, TerminatorKind,
@@ -7,7 +7,7 @@ use rs_syntax::parse;
 use std::alloc::Global;
 use std::process::Abort;
 use std::test::Fail;
-use text_core::{Name, Names, NoMemory, Span};
+use text_core::{Items, Name, Names, NoMemory, Span};
 use type_check::check;
 
 // ---- sources
@@ -15,6 +15,8 @@ use type_check::check;
 const A_BRANCH: &[u8] = b"fn f(b: bool, x: i32) -> i32 { if b { x + 1 } else { x / 2 } }";
 
 const A_LOOP: &[u8] = b"fn f(b: bool, mut x: i32) { #[invariant(b)] while x != 0 { x = x - 1; } }";
+
+const A_CALL: &[u8] = b"fn g(x: i32) -> bool { true } fn f(y: i32) { g(y); }";
 
 fn lowered(alloc: Global, source: &[u8]) -> Result<Lowered, Fail> {
     if source.len() > 1000 {
@@ -202,5 +204,30 @@ fn the_head_of_a_loop(rt: HostRuntime) -> Result<(), Fail> {
     assert!(rt; has_invariant(rt.alloc(), block)?);
     let gone = made.gone.get(0).ok_or("no gone places")?;
     assert!(rt; has_gone(gone, 8));
+    Ok(())
+}
+
+fn stand_at(spans: &[Span], first: (u32, u32), second: (u32, u32)) -> bool {
+    match spans {
+        [one, other] => (one.start, one.end) == first && (other.start, other.end) == second,
+        _ => false,
+    }
+}
+
+/// What a body calls, and where its types are written: the answer's at the name, where none is.
+#[test]
+fn calls_and_written_types(rt: HostRuntime) -> Result<(), Fail> {
+    let made = lowered(rt.alloc(), A_CALL)?;
+    let callee = made.bodies.bodies.get(0).ok_or("no body")?;
+    let caller = made.bodies.bodies.get(1).ok_or("no second body")?;
+    assert!(rt; callee.calls.is_empty());
+    assert!(rt; stand_at(callee.types_at.as_slice(), (16, 20), (8, 11)));
+    assert!(rt; stand_at(caller.types_at.as_slice(), (33, 34), (38, 41)));
+    assert!(rt; caller.calls.len() == 1);
+    let call = caller.calls.get(0).ok_or("no call")?;
+    assert!(rt; call.0 == Label(0));
+    assert!(rt; call.1.params.len() == 1);
+    assert!(rt; matches!(call.1.result.node, TyNode::Bool));
+    assert!(rt; call.1.outlives.is_empty());
     Ok(())
 }
