@@ -2,4 +2,4 @@ pub mod PathLaws
 pub mod GoalLists
 pub mod WalkLaws
 pub mod CountLaws
-pub mod Touched
+pub mod MarkLaws

@@ -1,21 +1,18 @@
 //! Loop heads: what a loop touches has new values there.
-ghost use Rattle.std.specs.Prelude.{◌≡◌, ◌∷◌, [], ◌++◌, ◌==◌, ◌||◌, ◌&&◌, map, length, IfOk};
-ghost use Rattle.std.specs.List.{list_any};
-ghost use Rattle.mir_ir.specs.Acts.{acts_of_operand, acts_of_operands, acts_of_rvalue};
+ghost use Rattle.std.specs.Prelude.{◌≡◌, ◌++◌, cond, length, IfOk};
 ghost use Rattle.mir_ir.specs.Layout.{among};
 ghost use Rattle.prophecy_logic.specs.Command.{assumed};
-ghost use Rattle.prophecy_logic.specs.Loop.{is_in_loop, one_touches, statement_touches, end_touches, block_writes, loop_writes, touched, touched_there, is_whole, is_gone, renewal, renewals, head_commands};
+ghost use Rattle.prophecy_logic.specs.Loop.{renewal, renewals, head_commands};
+ghost use Rattle.wp_gen.specs.Marks.{touch_by};
 
 use crate::call::with_assumed;
+use crate::marks::{gone_marks, written_marks};
 use crate::row::name_of;
 use logic_term::{Label, Ty};
-use mir_ir::{
-    Block, Body, Head, Initialised, Operand, Place, Point, Rvalue, Statement, StatementKind,
-    TerminatorKind,
-};
+use mir_ir::{Body, Head, Initialised};
 use prophecy_logic::{Command, Touch};
 use std::alloc::Global;
-use text_core::{Items, NoMemory};
+use text_core::NoMemory;
 
 /// Whether the label is one of these.
 pub(crate) fn among(label: Label, labels: &[Label]) -> bool
@@ -24,159 +21,15 @@ pub(crate) fn among(label: Label, labels: &[Label]) -> bool
     labels.iter().any(|other| other.0 == label.0)
 }
 
-fn is_in_loop(head: Label, block: &Block) -> bool
-    ensures { result ≡ is_in_loop head block.now }
+/// What is done to a local that is there if it is written.
+fn touch_of(is_gone: bool, is_written: bool) -> Touch
+    ensures { result ≡ cond is_gone Touch.Untouched (cond is_written Touch.Whole Touch.Untouched) }
 {
-    among(head, block.nest.as_slice())
-}
-
-/// Whether the operand moves out of the local.
-#[tactic(auto, using(crate::proofs::Touched::or_false))]
-fn operand_touches(x: u32, operand: &Operand) -> bool
-    ensures { result ≡ one_touches x (acts_of_operand operand.now) }
-{
-    match operand {
-        Operand::Move(place) => place.local == x,
-        Operand::Copy(_) => false,
-        Operand::Const(_) => false,
-    }
-}
-
-fn any_touches(x: u32, operands: &[Operand]) -> bool
-    ensures { result ≡ list_any (λ o. one_touches x (acts_of_operand o)) operands.now }
-{
-    operands.iter().any(|operand| operand_touches(x, operand))
-}
-
-fn operands_touch(x: u32, operands: &[Operand]) -> bool
-    ensures { result ≡ one_touches x (acts_of_operands operands.now) }
-{
-    any_touches(x, operands)
-}
-
-#[tactic(auto, using(crate::proofs::Touched::of_both))]
-fn rvalue_touches(x: u32, rvalue: &Rvalue) -> bool
-    ensures { result ≡ one_touches x (acts_of_rvalue rvalue.now) }
-{
-    match rvalue {
-        Rvalue::Use(operand) => operand_touches(x, operand),
-        Rvalue::Binary(_, left, right) => operand_touches(x, left) || operand_touches(x, right),
-        Rvalue::Neg(operand) => operand_touches(x, operand),
-        Rvalue::Not(operand) => operand_touches(x, operand),
-        Rvalue::Make(_, operands) => operands_touch(x, operands.as_slice()),
-    }
-}
-
-#[tactic(auto, using(crate::proofs::Touched::of_written))]
-fn statement_touches(x: u32, statement: &Statement) -> bool
-    ensures { result ≡ statement_touches x statement.now.kind }
-{
-    match &statement.kind {
-        StatementKind::Assign(place, rvalue) => rvalue_touches(x, rvalue) || place.local == x,
-        StatementKind::Dead(_) => false,
-    }
-}
-
-#[tactic(auto, using(crate::proofs::Touched::of_written, crate::proofs::Touched::nothing_more, crate::proofs::Touched::or_false))]
-fn end_touches(x: u32, end: &TerminatorKind) -> bool
-    ensures { result ≡ end_touches x end.now }
-{
-    match end {
-        TerminatorKind::Call(place, _, _, args, _) => {
-            operands_touch(x, args.as_slice()) || place.local == x
-        }
-        TerminatorKind::Goto(_) => false,
-        TerminatorKind::If(condition, _, _) => operand_touches(x, condition),
-        // the answer is moved out of local 0
-        TerminatorKind::Return => 0 == x,
-    }
-}
-
-fn one_touches(x: u32, statements: &[Statement]) -> bool
-    ensures { result ≡ list_any (λ st. statement_touches x st.kind) statements.now }
-{
-    statements
-        .iter()
-        .any(|statement| statement_touches(x, statement))
-}
-
-fn block_writes(x: u32, block: &Block) -> bool
-    ensures { result ≡ block_writes x block.now }
-{
-    let by_statement = one_touches(x, block.statements.as_slice());
-    by_statement || end_touches(x, &block.end.kind)
-}
-
-fn is_written_in(head: Label, x: u32, block: &Block) -> bool
-    ensures { result ≡ (is_in_loop head block.now && block_writes x block.now) }
-{
-    is_in_loop(head, block) && block_writes(x, block)
-}
-
-/// Whether some block of the loop of the head writes the local.
-fn loop_writes(body: &Body, head: Label, x: u32) -> bool
-    ensures { result ≡ loop_writes body.now head x }
-{
-    body.blocks
-        .as_slice()
-        .iter()
-        .any(|entry| is_written_in(head, x, &entry.1))
-}
-
-fn is_whole(x: u32, place: &Place) -> bool
-    ensures { result ≡ is_whole x place.now }
-{
-    place.local == x && place.path.len() == 0
-}
-
-fn any_whole(x: u32, places: &[Place]) -> bool
-    ensures { result ≡ list_any (is_whole x) places.now }
-{
-    places.iter().any(|place| is_whole(x, place))
-}
-
-fn is_point(label: Label, point: Point) -> bool
-    ensures { result ≡ (point.label.0 == label.0 && point.statement == 0) }
-{
-    point.label.0 == label.0 && point.statement == 0
-}
-
-fn is_gone_at(label: Label, x: u32, point: Point, places: &Items<Place>) -> bool
-    ensures { result ≡ ((point.label.0 == label.0 && point.statement == 0) && list_any (is_whole x) places.now) }
-{
-    let is_here = is_point(label, point);
-    is_here && any_whole(x, places.as_slice())
-}
-
-/// Whether the local may be wholly gone where the block of the label begins.
-fn is_gone(init: &Initialised, label: Label, x: u32) -> bool
-    ensures { result ≡ is_gone init.now label x }
-{
-    init.gone
-        .as_slice()
-        .iter()
-        .any(|entry| is_gone_at(label, x, entry.0, &entry.1))
-}
-
-/// What the loop of the head does to the local.
-fn touched(body: &Body, head: Label, x: u32) -> Touch
-    ensures { result ≡ touched body.now head x }
-{
-    if loop_writes(body, head, x) {
+    if is_written && !is_gone {
         Touch::Whole
     } else {
         Touch::Untouched
     }
-}
-
-/// What the loop of the head does to the local, as far as it is there at the head.
-fn touched_there(body: &Body, init: &Initialised, head: Label, x: u32) -> Touch
-    ensures { result ≡ touched_there body.now init.now head x }
-{
-    if is_gone(init, head, x) {
-        return Touch::Untouched;
-    }
-    touched(body, head, x)
 }
 
 /// What a head does to a local of the type, behind other commands.
@@ -200,6 +53,28 @@ fn with_renewal(
     }
 }
 
+/// What a head does to all locals, by the marks of those that are gone and of those that are written.
+fn all_renewals(
+    alloc: Global,
+    body: &Body,
+    gone: &[bool],
+    written: &[bool],
+) -> Result<Vec<Command>, NoMemory>
+    requires gone { length gone.now ≡ length body.now.locals }
+    requires written { length written.now ≡ length body.now.locals }
+    ensures { IfOk result (λ v. v.items ≡ renewals body.now (touch_by gone.now written.now) 0 body.now.locals) }
+{
+    let mut commands = Vec::new(alloc);
+    let mut x: u32 = 0;
+    for ty in body.locals.as_slice() {
+        let place = x as usize;
+        let touch = touch_of(gone[place], written[place]);
+        commands = with_renewal(alloc, commands, body, touch, x, ty)?;
+        x = x.checked_add(1).ok_or(NoMemory)?;
+    }
+    Ok(commands)
+}
+
 /// The commands at a loop head.
 pub(crate) fn head_commands(
     alloc: Global,
@@ -210,12 +85,10 @@ pub(crate) fn head_commands(
 ) -> Result<Vec<Command>, NoMemory>
     ensures { IfOk result (λ v. v.items ≡ head_commands body.now init.now label head.now) }
 {
-    let mut commands = Vec::new(alloc);
-    let mut x: u32 = 0;
-    for ty in body.locals.as_slice() {
-        let touch = touched_there(body, init, label, x);
-        commands = with_renewal(alloc, commands, body, touch, x, ty)?;
-        x = x.checked_add(1).ok_or(NoMemory)?;
-    }
+    let gone = gone_marks(alloc, body, init, label)?;
+    let written = written_marks(alloc, body, label)?;
+    let gone_here = gone.as_slice();
+    let written_here = written.as_slice();
+    let commands = all_renewals(alloc, body, gone_here, written_here)?;
     with_assumed(alloc, commands, head.invariants.as_slice())
 }

@@ -6,6 +6,7 @@ mod count;
 mod formulas;
 mod head;
 mod laws;
+mod marks;
 mod oblige;
 mod paths;
 mod reached;
