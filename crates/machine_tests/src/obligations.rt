@@ -4,8 +4,8 @@ ghost use Rattle.machine_tests.specs.Walked.{block_of, body_of, whole, straight,
 
 use logic_term::{Contract, Label, Obligation, Term, Ty, TyNode};
 use mir_ir::{
-    Block, Body, Callee, Contracts, FnId, Head, Initialised, Lit, Operand, Place, Rvalue, Statement,
-    StatementKind, Terminator, TerminatorKind,
+    Block, Body, Callee, Contracts, FnId, Head, Initialised, Lit, Operand, Place, Rvalue,
+    Statement, StatementKind, Terminator, TerminatorKind,
 };
 use source_kinds::{ArithOp, BinaryOp, IntKind};
 use std::alloc::Global;

@@ -6,9 +6,7 @@ mod place;
 mod statement;
 mod terminator;
 
-pub use body::{
-    Block, Bodies, Body, Contracts, Head, ImplBody, Initialised, Point, Signature,
-};
+pub use body::{Block, Bodies, Body, Contracts, Head, ImplBody, Initialised, Point, Signature};
 pub use place::{Lit, Operand, Place, Proj};
 pub use statement::{Rvalue, Statement, StatementKind};
 pub use terminator::{Callee, FnId, Terminator, TerminatorKind};

@@ -92,31 +92,31 @@ module _ (σ : List Heading) where
     types Γ (E.unary s Not o e) t = by_rule (at_part σ Γ e (Some bool) (typed σ Γ e (Some bool)) _ _ (types Γ e (Some bool)) (λ a. itself))
     types Γ (E.binary s op o a b) t = by_rule (at_operands (order_of (is_arithmetic op) t (is_bare a) (is_bare b)) Γ a b _ _ (λ u. types Γ a u) (λ u. types Γ b u) (λ p. itself))
     types Γ (E.lazy s op a b) t = by_rule
-      (at_part σ Γ a (Some bool) (typed σ Γ a (Some bool)) _ _ (types Γ a (Some bool)) (λ x. at_part σ Γ b (Some bool) (typed σ Γ b (Some bool)) _ _ (types Γ b (Some bool)) (λ y. itself)))
+        (at_part σ Γ a (Some bool) (typed σ Γ a (Some bool)) _ _ (types Γ a (Some bool)) (λ x. at_part σ Γ b (Some bool) (typed σ Γ b (Some bool)) _ _ (types Γ b (Some bool)) (λ y. itself)))
     types Γ (E.assign s l e) t = by_rule
-      (at_target Γ l (as_name l) _ _ (λ u. types Γ l u) (λ d. at_part σ Γ e (Some (target_ty d)) (typed σ Γ e (Some (target_ty d))) _ _ (types Γ e (Some (target_ty d))) (λ a. itself)))
+        (at_target Γ l (as_name l) _ _ (λ u. types Γ l u) (λ d. at_part σ Γ e (Some (target_ty d)) (typed σ Γ e (Some (target_ty d))) _ _ (types Γ e (Some (target_ty d))) (λ a. itself)))
     types Γ (E.update s op o l e) t = by_rule
-      (at_target Γ l (as_name l) _ _ (λ u. types Γ l u) (λ d. at_part σ Γ e (Some (target_ty d)) (typed σ Γ e (Some (target_ty d))) _ _ (types Γ e (Some (target_ty d))) (λ a. itself)))
+        (at_target Γ l (as_name l) _ _ (λ u. types Γ l u) (λ d. at_part σ Γ e (Some (target_ty d)) (typed σ Γ e (Some (target_ty d))) _ _ (types Γ e (Some (target_ty d))) (λ a. itself)))
     types Γ (E.call s f es) t = by_rule (at_first σ (callee_of σ Γ s (as_name f)) _ _ (λ g. at_args Γ es g.signature.params _ _ (λ as'. itself)))
     types Γ (E.block s ss) t = by_rule (at_stmts Γ ss _ _ (λ o. itself))
     types Γ (E.block_with s ss e) t = by_rule (at_stmts Γ ss _ _ (λ o. at_part σ o.scope e t (typed σ o.scope e t) _ _ (types o.scope e t) (λ a. itself)))
     types Γ (E.branch s None c a) t = by_rule
-      (at_part σ Γ c (Some bool) (typed σ Γ c (Some bool)) _ _ (types Γ c (Some bool)) (λ x. at_part σ Γ a (Some unit) (typed σ Γ a (Some unit)) _ _ (types Γ a (Some unit)) (λ y. itself)))
+        (at_part σ Γ c (Some bool) (typed σ Γ c (Some bool)) _ _ (types Γ c (Some bool)) (λ x. at_part σ Γ a (Some unit) (typed σ Γ a (Some unit)) _ _ (types Γ a (Some unit)) (λ y. itself)))
     types Γ (E.choice s None c a b) t = by_rule
-      (at_part σ Γ c (Some bool) (typed σ Γ c (Some bool)) _ _ (types Γ c (Some bool)) (λ x. at_part σ Γ a t (typed σ Γ a t) _ _ (types Γ a t)
-      (λ y. at_part σ Γ b (Some (ty_of y)) (typed σ Γ b (Some (ty_of y))) _ _ (types Γ b (Some (ty_of y))) (λ z. itself))))
+        (at_part σ Γ c (Some bool) (typed σ Γ c (Some bool)) _ _ (types Γ c (Some bool)) (λ x. at_part σ Γ a t (typed σ Γ a t) _ _ (types Γ a t)
+        (λ y. at_part σ Γ b (Some (ty_of y)) (typed σ Γ b (Some (ty_of y))) _ _ (types Γ b (Some (ty_of y))) (λ z. itself))))
     types Γ (E.repeat s None c b) t = by_rule
-      (at_part σ Γ c (Some bool) (typed σ Γ c (Some bool)) _ _ (types Γ c (Some bool)) (λ x. at_part σ Γ b (Some unit) (typed σ Γ b (Some unit)) _ _ (types Γ b (Some unit)) (λ y. itself)))
+        (at_part σ Γ c (Some bool) (typed σ Γ c (Some bool)) _ _ (types Γ c (Some bool)) (λ x. at_part σ Γ b (Some unit) (typed σ Γ b (Some unit)) _ _ (types Γ b (Some unit)) (λ y. itself)))
     types Γ (E.attributed s is (E.repeat v None c b)) t = by_rule (at_first σ (gather (invariant_of Γ) is) _ _
-      (λ is'. at_part σ Γ c (Some bool) (typed σ Γ c (Some bool)) _ _ (types Γ c (Some bool)) (λ x. at_part σ Γ b (Some unit) (typed σ Γ b (Some unit)) _ _ (types Γ b (Some unit)) (λ y. itself))))
+        (λ is'. at_part σ Γ c (Some bool) (typed σ Γ c (Some bool)) _ _ (types Γ c (Some bool)) (λ x. at_part σ Γ b (Some unit) (typed σ Γ b (Some unit)) _ _ (types Γ b (Some unit)) (λ y. itself))))
     types Γ e t = by_rule itself
 
     at_stmts : (Γ : List Variable) (ss : E.Stmts) (k : Opened → Asks) (f : Opened → Typed) → Follows σ k f → Comes σ (each_stmt Γ ss k) (typed_stmts σ Γ ss >>= f)
     at_stmts Γ E.no_stmts k f h = h (opened Γ [])
     at_stmts Γ (E.with_stmt s kind e ss) k f h =
         let after : (p : _) (a : TypedExpr) → Comes σ (each_stmt (declared Γ p.declares a) ss (λ o. k (behind (typed_stmt p a) o))) ((typed_stmts σ (declared Γ p.declares a) ss >>= λ o. Ok (behind (typed_stmt p a) o)) >>= f) =
-          λ p a. subst (Comes σ (each_stmt (declared Γ p.declares a) ss (λ o. k (behind (typed_stmt p a) o)))) (sym (assoc (typed_stmts σ (declared Γ p.declares a) ss) (λ o. Ok (behind (typed_stmt p a) o)) f))
-          (at_stmts (declared Γ p.declares a) ss (λ o. k (behind (typed_stmt p a) o)) (λ o. f (behind (typed_stmt p a) o)) (λ o. h (behind (typed_stmt p a) o))) in
+        λ p a. subst (Comes σ (each_stmt (declared Γ p.declares a) ss (λ o. k (behind (typed_stmt p a) o)))) (sym (assoc (typed_stmts σ (declared Γ p.declares a) ss) (λ o. Ok (behind (typed_stmt p a) o)) f))
+        (at_stmts (declared Γ p.declares a) ss (λ o. k (behind (typed_stmt p a) o)) (λ o. f (behind (typed_stmt p a) o)) (λ o. h (behind (typed_stmt p a) o))) in
         subst (Comes σ (each_stmt Γ (E.with_stmt s kind e ss) k)) (sym (assoc (step_of kind) _ f))
         (at_first σ (step_of kind) _ _ (λ p. at_part_in σ Γ e p.expected (typed σ Γ e p.expected) _ _ f (types Γ e p.expected) (λ a. after p a)))
 
@@ -125,7 +125,7 @@ module _ (σ : List Heading) where
     at_args Γ (E.more e es) ts k f h =
         at_part_in σ Γ e (first_of ts) (typed σ Γ e (first_of ts)) _ _ f (types Γ e (first_of ts))
         (λ a. subst (Comes σ (each_arg Γ es (rest_of ts) (λ as'. k (tree.more a as')))) (sym (assoc (typed_args σ Γ es (rest_of ts)) (λ as'. Ok (tree.more a as')) f))
-          (at_args Γ es (rest_of ts) (λ as'. k (tree.more a as')) (λ as'. f (tree.more a as')) (λ as'. h (tree.more a as'))))
+        (at_args Γ es (rest_of ts) (λ as'. k (tree.more a as')) (λ as'. f (tree.more a as')) (λ as'. h (tree.more a as'))))
 
 pub typed_by_rules : TypedByRules
 typed_by_rules σ Γ e t = types σ Γ e t

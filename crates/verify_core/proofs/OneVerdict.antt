@@ -1,5 +1,6 @@
 -- There is one verdict, and steps are refused at one line.
 use Rattle.std.proofs.Common.{◌≡◌, ◌∙◌, ◌⊎◌, inl, inr, refl, sym, ap, subst, ℕ, zero, suc, Bool, true, false, List, [], ◌∷◌, map, Option, None, Some, slice_get}
+use Rattle.std.proofs.Math.Option.{some-injective}
 use Rattle.std.specs.List.{find}
 use Rattle.logic_term.specs.declared.obligation.Obligation.{Obligation}
 use Rattle.proof_kernel.specs.declared.setting.Tables.{Tables}
@@ -46,9 +47,6 @@ settles_once T ps o r s a b = by_one T o (find (is_for o) ps) r s (settled_by T 
 
 -- ---- all of them
 
-some_same : {A : Type 0} {a b : A} → Some a ≡ Some b → a ≡ b
-some_same e = cc
-
 none_is_not : {A : Type 0} {a : A} → None ≡ Some a → ⊥
 none_is_not e = absurd cc
 
@@ -60,7 +58,7 @@ judges_once (Judges.proved a rest) (Judges.proved b more) =
 judges_once {T} {ps} (Judges.proved {o = o} a rest) (Judges.left {r = s} b more) = absurd (none_is_not (settles_once T ps o None (Some s) a b))
 judges_once {T} {ps} (Judges.left {o = o} {r = r} a rest) (Judges.proved b more) = absurd (none_is_not (settles_once T ps o None (Some r) b a))
 judges_once {T} {ps} (Judges.left {o = o} {left = left} {r = r} a rest) (Judges.left {left = others} {r = s} b more) =
-    let reason : r ≡ s = some_same (settles_once T ps o (Some r) (Some s) a b) in
+    let reason : r ≡ s = some-injective _ _ (settles_once T ps o (Some r) (Some s) a b) in
     let rest_is = judges_once rest more in
     (ap (λ (q : Reason). left_item o q ∷ left) reason ∙ ap (λ (xs : List LeftItem). left_item o s ∷ xs) rest_is.0, rest_is.1)
 

@@ -1,5 +1,6 @@
 -- One round over the functions: what holds after some of them.
 use Rattle.std.proofs.Common.{◌≡◌, ◌∙◌, refl, sym, ap, subst, ℕ, zero, suc, ◌+◌, ◌<◌, ◌≤◌, Bool, true, false, List, [], ◌∷◌, length, get_or, Some, slice_get, true≢false, arith}
+use Rattle.std.proofs.Math.Option.{some-injective}
 use Rattle.mir_ir.specs.declared.body.Body.{Body}
 use Rattle.verify_core.specs.Flags.{AreJustified, AreSettled, Unsets, calls_unset, set_count}
 use Rattle.verify_core.proofs.ReachLaws.{unsets_justified, unsets_fewer, unsets_as_many, within}
@@ -12,9 +13,6 @@ pub record Round (bodies : Bodies) (start : List Bool) (many : ℕ) (flags : Lis
   pub fewer : changed ≡ true → set_count flags < set_count start
   pub at_most : set_count flags ≤ set_count start
   pub settled : changed ≡ false → (f : ℕ) (b : Body) → f < many → slice_get bodies.bodies f ≡ Some b → slice_get flags f ≡ Some true → calls_unset bodies flags b ≡ false
-
-some_same : {A : Type 0} {a b : A} → Some a ≡ Some b → a ≡ b
-some_same e = cc
 
 get_of : (bs : List Body) (i : ℕ) (b : Body) → i < length bs → b ≡ get_or bs i b → slice_get bs i ≡ Some b
 get_of [] i b h e = absurd (omega arith)
@@ -63,7 +61,7 @@ none_unset_there bodies start i flags new changed b inside is r (same, settled) 
   settled = λ e f c h at set. elim (which f i h) [
     | before a ↦ r.settled e f c a at set
     | here q ↦
-        let same_body : b ≡ c = some_same (sym (get_of bodies.bodies i b inside is) ∙ subst (λ (k : ℕ). slice_get bodies.bodies k ≡ Some c) q at) in
+        let same_body : b ≡ c = some-injective _ _ (sym (get_of bodies.bodies i b inside is) ∙ subst (λ (k : ℕ). slice_get bodies.bodies k ≡ Some c) q at) in
         subst (λ (x : Body). calls_unset bodies flags x ≡ false) same_body (settled (subst (λ (k : ℕ). slice_get flags k ≡ Some true) q set))
   ];
 })

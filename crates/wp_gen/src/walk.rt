@@ -20,9 +20,7 @@ use crate::reached::{
 };
 use crate::row::name_of;
 use logic_term::{Contract, Label, Term};
-use mir_ir::{
-    Block, Body, Callee, Contracts, FnId, Head, Initialised, Operand, TerminatorKind,
-};
+use mir_ir::{Block, Body, Callee, Contracts, FnId, Head, Initialised, Operand, TerminatorKind};
 use prophecy_logic::{Goal, MetGoal, State};
 use std::alloc::Global;
 use text_core::{Kind, NoMemory, Span};

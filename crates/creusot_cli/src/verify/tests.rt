@@ -189,7 +189,10 @@ const NOT_BUILT: [(&[u8], &[u8]); 23] = [
     ),
     (b"fn f() { return }", b"error E20 9..15 line 1\n"),
     // Behind what is passed over, and attributes at their `#`.
-    (b"use std::mem; pub trait T {}", b"error E20 18..23 line 1\n"),
+    (
+        b"use std::mem; pub trait T {}",
+        b"error E20 18..23 line 1\n",
+    ),
     (b"#[invariant(true)] fn f() {}", b"error E20 0..1 line 1\n"),
     (b"#[requires(true)] struct S;", b"error E20 0..1 line 1\n"),
     (
