@@ -179,7 +179,7 @@ const TERMS: [Row; 7] = [
     ),
 ];
 
-pub(crate) fn push_all(text: &mut Vec<u8>, more: &[u8]) -> Result<(), NoMemory> {
+fn push_all(text: &mut Vec<u8>, more: &[u8]) -> Result<(), NoMemory> {
     for byte in more {
         text.push(*byte)?;
     }

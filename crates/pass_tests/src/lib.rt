@@ -11,5 +11,3 @@ mod lowering;
 mod typing;
 #[cfg(test)]
 mod verdicts;
-#[cfg(test)]
-mod walks;
