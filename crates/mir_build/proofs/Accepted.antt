@@ -8,7 +8,7 @@ use Rattle.type_check.specs.declared.program.ClauseKind.{ClauseKind}
 use Rattle.type_check.specs.declared.program.ClauseKind.TheVariants.{Requires, Ensures}
 use Rattle.type_check.specs.declared.program.TypedClause.{TypedClause}
 use Rattle.type_check.specs.declared.program.TypedFunction.{TypedFunction}
-use Rattle.type_check.specs.Names.{or_else}
+use Rattle.type_check.specs.Answers.{or_else}
 use Rattle.type_check.specs.FirstBad.{bad_of, bad_among, bad_clause, bad_in_function}
 use Rattle.mir_build.specs.Lowering.{Formula, accepted, formulas_of, picked, contract_over, HasContract}
 use Rattle.mir_build.specs.Numbered.{formulas}
