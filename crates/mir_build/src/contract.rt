@@ -26,7 +26,11 @@ fn parameter_names(alloc: Global, params: &[Ty]) -> Result<Items<Name>, NoMemory
 }
 
 /// Puts the clause's formula behind others, where it is of the kind.
-fn push_clause(all: &mut Items<Term>, kind: ClauseKind, clause: &TypedClause) -> Result<(), NoMemory>
+fn push_clause(
+    all: &mut Items<Term>,
+    kind: ClauseKind,
+    clause: &TypedClause,
+) -> Result<(), NoMemory>
     ensures { OnOk result (all.new ≡ all.old ++ map term_of (formulas (picked kind clause.now.kind clause.now.formula []))) }
 {
     match (kind, clause.kind) {
