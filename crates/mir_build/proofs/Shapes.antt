@@ -18,7 +18,7 @@ pub record Keeps (P : Around → List Line → Type 0) : Type 0 where
   pub make : (c : Around) (x : ℕ) (t : Ty) (xs : List Line) → P c xs → P c (Makes x t ∷ xs)
   pub join : (c : Around) (xs ys : List Line) → P c xs → P c ys → P c (xs ++ ys)
   pub called : (c : Around) (s : Span) (f d : ℕ) (ts : List ℕ) (after : Label) → P c (calls c s f d ts after ∷ [])
-  pub tested : (c : Around) (s : Span) (t : ℕ) (yes no after : Label) (xs ys : List Line) → P c xs → P c ys → P c (test c s t yes no after xs ys)
+  pub tested : (c : Around) (s : Span) (t : ℕ) (yes' no' after : Label) (xs ys : List Line) → P c xs → P c ys → P c (test c s t yes' no' after xs ys)
   pub turned : (c : Around) (s : Span) (head body after : Label) (fs : List Formula) (t : ℕ) (T : Ty) (xs : List Line) (u : ℕ) (U : Ty) (ys zs : List Line)
       → P (looping c head) xs → P (looping c head) ys → P c zs → P c (turning c s head body after fs t T xs u U ys zs)
   -- a text with one variable more in scope
@@ -38,9 +38,9 @@ module _ (P : Around → List Line → Type 0) (keeps : Keeps P) where
   made_then : (c : Around) (x : ℕ) (t : Ty) (xs ys : List Line) → P c xs → P c ys → P c (Makes x t ∷ (xs ++ ys))
   made_then c x t xs ys p q = keeps.make c x t _ (keeps.join c xs ys p q)
 
-  of_lazily : (op : LazyOp) (c : Around) (s : Span) (t d : ℕ) (yes no after : Label) (ys : List Line) → P c ys → P c (lazily op c s t d yes no after ys)
-  of_lazily lazy_op.And c s t d yes no after ys p = keeps.tested c s t yes no after ys _ p (one c _)
-  of_lazily lazy_op.Or c s t d yes no after ys p = keeps.tested c s t yes no after _ ys (one c _) p
+  of_lazily : (op : LazyOp) (c : Around) (s : Span) (t d : ℕ) (yes' no' after : Label) (ys : List Line) → P c ys → P c (lazily op c s t d yes' no' after ys)
+  of_lazily lazy_op.And c s t d yes' no' after ys p = keeps.tested c s t yes' no' after ys _ p (one c _)
+  of_lazily lazy_op.Or c s t d yes' no' after ys p = keeps.tested c s t yes' no' after _ ys (one c _) p
 
   of_dying : (outer : Bool) (c : Around) (s : Span) (x : ℕ) → P c (dies_in outer s x)
   of_dying true c s x = keeps.nothing c
