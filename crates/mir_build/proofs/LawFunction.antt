@@ -118,7 +118,7 @@ module _ (owner : List ℕ) (f : TypedFunction) (b : Body) (gone : Initialised) 
   -- ---- layout
 
   pub body_once : Once (labels b.blocks)
-  body_once = subst Once (sym (ap labels l.blocks ∙ labels_of (fresh (entry_title b.entry)) l.text _)) (labels_once owner f b gone l)
+  body_once = subst Once (sym (ap labels l.blocks ∙ labels_of (fresh (entry_title b.entry)) l.text _)) (labels_once τ owner f b gone l)
 
   body_titles : titles b.blocks ≡ entry_title b.entry ∷ begun l.text
   body_titles = ap titles l.blocks ∙ titles_of (fresh (entry_title b.entry)) l.text _
@@ -159,7 +159,7 @@ module _ (owner : List ℕ) (f : TypedFunction) (b : Body) (gone : Initialised) 
     once = λ x.
         let e : count x (numbers (paired 1 f.signature.params ++ made l.text)) ≡ count x (numbers (paired 1 f.signature.params)) + count x (numbers (made l.text)) =
         ap (count x) (numbers-append (paired 1 f.signature.params) (made l.text)) ∙ count-append x (numbers (paired 1 f.signature.params)) (numbers (made l.text)) in
-        omega (arith, e, weight_param x, locals_once owner f b gone l x);
+        omega (arith, e, weight_param x, locals_once τ owner f b gone l x);
   }
 
   -- ---- the labelling
@@ -176,7 +176,7 @@ module _ (owner : List ℕ) (f : TypedFunction) (b : Body) (gone : Initialised) 
 
     starts_once : Once (labels_in starts)
     unfolding starts
-    starts_once = subst Once (sym (ap (λ ls. b.entry.0 ∷ ls) runs_from.are)) (labels_once owner f b gone l)
+    starts_once = subst Once (sym (ap (λ ls. b.entry.0 ∷ ls) runs_from.are)) (labels_once τ owner f b gone l)
 
     agreed : Agree start starts
     unfolding start

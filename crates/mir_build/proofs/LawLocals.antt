@@ -218,7 +218,7 @@ module _ (owner : List ℕ) (f : TypedFunction) (b : Body) (gone : Initialised) 
 
     pub types_built : (x : ℕ) (t : Ty) → slice_get b.locals x ≡ Some t → IsBuilt t
     types_built x t e =
-        let n = each_counts (length b.locals) (numbers (all_locals f l.text)) (numbers_length (all_locals f l.text) ∙ sym l.all) below (locals_once owner f b gone l) x (slice_get_within b.locals x t e) in
+        let n = each_counts (length b.locals) (numbers (all_locals f l.text)) (numbers_length (all_locals f l.text) ∙ sym l.all) below (locals_once τ owner f b gone l) x (slice_get_within b.locals x t e) in
         let w = counted_has x (all_locals f l.text) n in
         let q : w.0 ≡ t = some_same (sym ((locals_fit owner f b gone l).fits x w.0 w.1) ∙ e) in
         subst IsBuilt q (all_built.built x w.0 w.1)

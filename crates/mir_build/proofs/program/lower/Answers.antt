@@ -18,7 +18,7 @@ lower_function-requires c =
     let fs = c.args.program.now.functions in
     let i = c.loop-f.f-index in
     let f = c.f-item.result in
-    let within : i < length fs = omega (arith, c.loop-f-test.true, ap length c.as_slice-f-items.ensures) in
+    let within : i < length fs = omega (arith, c.loop-f-test.true, ap length c.as_slice-functions.ensures) in
     let is : f ≡ get_or fs i f = cc in
     within_scope (signatures fs) f.signature.params f.body (fits_at (signatures fs) fs i f c.requires.fits is within).body
 
@@ -27,7 +27,7 @@ loop-f-preserved c =
     let fs = c.args.program.now.functions in
     let i = c.loop-f.f-index in
     let f = c.f-item.result in
-    let within : i < length fs = omega (arith, c.loop-f-test.true, ap length c.as_slice-f-items.ensures) in
+    let within : i < length fs = omega (arith, c.loop-f-test.true, ap length c.as_slice-functions.ensures) in
     let is : f ≡ get_or fs i f = cc in
     let number : c.in_ok-body.body.id ≡ 0 + length c.loop-f.bodies = search rules in
     let more : take (i + 1) fs ≡ take i fs ++ f ∷ [] = take_more fs i f within ∙ ap (λ x. take i fs ++ x ∷ []) (sym is) in
@@ -46,7 +46,7 @@ returns-in_err-body-clause-limit c =
     let fs = c.args.program.now.functions in
     let i = c.loop-f.f-index in
     let f = c.f-item.result in
-    let within : i < length fs = omega (arith, c.loop-f-test.true, ap length c.as_slice-f-items.ensures) in
+    let within : i < length fs = omega (arith, c.loop-f-test.true, ap length c.as_slice-functions.ensures) in
     let is : f ≡ get_or fs i f = cc in
     let fails : FailsFor (HasMoreBlocks c.args.program.now 4096) c.in_err-body.field-0.0 = fails_for _ _ _ (λ more. too_many c.args.program.now i f is within more c.requires.fits c.requires.good) c.in_err-body.ensures.limit in
     search (rules, fails)
