@@ -2,12 +2,12 @@
 use Rattle.std.proofs.Common.{◌≡◌, refl, ap, sym, ◌∙◌, subst, ℕ, suc, ◌+◌, List, [], ◌∷◌, ◌++◌, length, arith}
 use Rattle.std.specs.List.{range_with_len}
 use Rattle.text_core.specs.declared.span.Span.{Span}
+use Rattle.logic_term.specs.declared.kinds.Label.{Label}
 use Rattle.logic_term.specs.Ty.{Ty}
-use Rattle.mir_ir.specs.declared.terminator.Terminator.{Terminator}
 use Rattle.source_kinds.specs.declared.kinds.LazyOp.{LazyOp}
 use Rattle.source_kinds.specs.declared.kinds.LazyOp.TheVariants.{And, Or}
-use Rattle.mir_build.specs.Text.{Title, Line, Puts, Makes, Turns, Owns, made}
-use Rattle.mir_build.specs.Lowering.{numbers, paired, where_true, where_false}
+use Rattle.mir_build.specs.Text.{Line, Puts, Makes, Turns, Leaves, Owns, made}
+use Rattle.mir_build.specs.Lowering.{Around, numbers, paired, lazily}
 use Rattle.mir_build.proofs.Numbers.{count, makings, within, within_zero, within_split, within_one}
 use Rattle.mir_build.proofs.Order.{InOrder}
 
@@ -70,6 +70,7 @@ in_order_from n [] h = tt
 in_order_from n (Puts s ∷ xs) h = in_order_from n xs h
 in_order_from n (Makes x ty ∷ xs) h = (h.0, in_order_from (n + 1) xs h.1)
 in_order_from n (Turns t b ∷ xs) h = in_order_from n xs h
+in_order_from n (Leaves t ∷ xs) h = in_order_from n xs h
 in_order_from n (Owns l ys ∷ xs) h = in_order_from n xs h
 
 -- behind the parameters
@@ -86,6 +87,7 @@ order_left n [] ys h = tt
 order_left n (Puts s ∷ xs) ys h = order_left n xs ys h
 order_left n (Makes x ty ∷ xs) ys h = (h.0, order_left (n + 1) xs ys h.1)
 order_left n (Turns t b ∷ xs) ys h = order_left n xs ys h
+order_left n (Leaves t ∷ xs) ys h = order_left n xs ys h
 order_left n (Owns l ns ∷ xs) ys h = order_left n xs ys h
 
 pub order_right : (n m : ℕ) (xs ys : List Line) → m ≡ n + makings xs → InOrder n (xs ++ ys) → InOrder m ys
@@ -93,9 +95,10 @@ order_right n m [] ys q h = let e : n ≡ m = omega (arith, q) in subst (λ k. I
 order_right n m (Puts s ∷ xs) ys q h = order_right n m xs ys q h
 order_right n m (Makes x ty ∷ xs) ys q h = order_right (n + 1) m xs ys (omega (arith, q)) h.1
 order_right n m (Turns t b ∷ xs) ys q h = order_right n m xs ys q h
+order_right n m (Leaves t ∷ xs) ys q h = order_right n m xs ys q h
 order_right n m (Owns l ns ∷ xs) ys q h = order_right n m xs ys q h
 
 -- the second operand of `&&` or `||`
-pub order_lazy : (op : LazyOp) (s : Span) (d n : ℕ) (xs : List Line) (t u : Terminator) (b c : Title) → InOrder n (where_true op s d xs ++ Turns t b ∷ (where_false op s d xs ++ Turns u c ∷ [])) → InOrder n xs
-order_lazy And s d n xs t u b c h = order_left n xs _ h
-order_lazy Or s d n xs t u b c h = order_left n xs _ h
+pub order_lazy : (op : LazyOp) (c : Around) (s : Span) (t d n : ℕ) (yes' no' after : Label) (xs : List Line) → InOrder n (lazily op c s t d yes' no' after xs) → InOrder n xs
+order_lazy And c s t d n yes' no' after xs h = order_left n xs _ h
+order_lazy Or c s t d n yes' no' after xs h = order_left n xs _ h

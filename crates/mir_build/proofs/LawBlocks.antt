@@ -10,7 +10,7 @@ use Rattle.mir_ir.specs.declared.terminator.TerminatorKind.{TerminatorKind}
 use Rattle.mir_ir.specs.declared.terminator.TerminatorKind.TheVariants.{Goto, If, Call, Return}
 use Rattle.mir_ir.specs.Layout.{among, targets, Leads, on, back}
 use Rattle.mir_ir.specs.WellFormed.{StatementIsTyped, EndIsTyped, HasBlock}
-use Rattle.mir_build.specs.Text.{Line, Puts, Makes, Turns, Owns, Open, fresh, longer}
+use Rattle.mir_build.specs.Text.{Line, Puts, Makes, Turns, Leaves, Owns, Open, Front, Stands, Nowhere, fresh, longer}
 use Rattle.mir_build.specs.Lowering.{ends}
 use Rattle.mir_build.proofs.LawNames.{HeadFits}
 use Rattle.mir_build.proofs.LawTyped.{EndFits, is_local, AreTyped}
@@ -39,12 +39,22 @@ pub record BlockTyped (bodies : Bodies) (b : Body) (e : Label × Block) : Type 0
   pub end : EndFits bodies b e.1.end.kind
   pub head : HeadFits (is_local b) e.1.head
 
-pub typed_blocks : (bodies : Bodies) (b : Body) (s : Span) (xs : List Line) (o : Open) → AreTyped bodies b xs → AllTyped b o.statements → HeadFits (is_local b) o.title.head → EachBlock (BlockTyped bodies b) (blocks_of o xs (ends s Return))
-typed_blocks bodies b s [] o p h g = (record { statements = h; end = tt; head = g }, tt)
-typed_blocks bodies b s (Puts st ∷ xs) o p h g = typed_blocks bodies b s xs (longer o st) p.1 (all_typed_more b o.statements st h p.0) g
-typed_blocks bodies b s (Makes x t ∷ xs) o p h g = typed_blocks bodies b s xs o p.1 h g
-typed_blocks bodies b s (Turns t k ∷ xs) o p h g = (record { statements = h; end = p.0; head = g }, typed_blocks bodies b s xs (fresh k) p.2 tt p.1)
-typed_blocks bodies b s (Owns l ys ∷ xs) o p h g = typed_blocks bodies b s xs o p h g
+-- where no block is open, nothing has to be typed
+abbrev pub FrontTyped : Body → Front → Type 0
+FrontTyped b (Stands o) = AllTyped b o.statements × HeadFits (is_local b) o.title.head
+FrontTyped b Nowhere = Unit {0}
+
+pub typed_blocks : (bodies : Bodies) (b : Body) (s : Span) (xs : List Line) (o : Front) → AreTyped bodies b xs → FrontTyped b o → EachBlock (BlockTyped bodies b) (blocks_of o xs (ends s Return))
+typed_blocks bodies b s [] (Stands o) p h = (record { statements = h.0; end = tt; head = h.1 }, tt)
+typed_blocks bodies b s [] Nowhere p h = tt
+typed_blocks bodies b s (Puts st ∷ xs) (Stands o) p h = typed_blocks bodies b s xs (longer (Stands o) st) p.1 (all_typed_more b o.statements st h.0 p.0, h.1)
+typed_blocks bodies b s (Puts st ∷ xs) Nowhere p h = typed_blocks bodies b s xs Nowhere p.1 tt
+typed_blocks bodies b s (Makes x t ∷ xs) o p h = typed_blocks bodies b s xs o p.1 h
+typed_blocks bodies b s (Turns t k ∷ xs) (Stands o) p h = (record { statements = h.0; end = p.0; head = h.1 }, typed_blocks bodies b s xs (fresh k) p.2 (tt, p.1))
+typed_blocks bodies b s (Turns t k ∷ xs) Nowhere p h = typed_blocks bodies b s xs (fresh k) p.2 (tt, p.1)
+typed_blocks bodies b s (Leaves t ∷ xs) (Stands o) p h = (record { statements = h.0; end = p.0; head = h.1 }, typed_blocks bodies b s xs Nowhere p.1 tt)
+typed_blocks bodies b s (Leaves t ∷ xs) Nowhere p h = typed_blocks bodies b s xs Nowhere p.1 tt
+typed_blocks bodies b s (Owns l ys ∷ xs) o p h = typed_blocks bodies b s xs o p h
 
 pub has_block : (b : Body) (l : Label) (k : Block) (m : Label) → Leads b l k m → HasBlock b m
 has_block b l k m (on to e p n) = (to, e)

@@ -3,12 +3,12 @@ use Rattle.std.proofs.Common.{◌≡◌, ◌⊎◌, inl, inr, refl, ap, sym, ◌
 use Rattle.text_core.specs.declared.name.Name.{Name}
 use Rattle.logic_term.specs.Free.{free}
 use Rattle.logic_term.specs.Term.{Term}
+use Rattle.logic_term.specs.declared.obligation.Contract.{Contract}
 use Rattle.mir_ir.specs.declared.body.Body.{Body}
 use Rattle.mir_ir.specs.declared.body.Initialised.{Initialised}
 use Rattle.type_check.specs.declared.program.ClauseKind.{ClauseKind}
 use Rattle.type_check.specs.declared.program.ClauseKind.TheVariants.{Requires, Ensures}
 use Rattle.type_check.specs.declared.assertion.Assertion.{Assertion}
-use Rattle.type_check.specs.declared.assertion.Assertion.TheVariants.{Good, Bad}
 use Rattle.type_check.specs.declared.program.Signature.{Signature}
 use Rattle.type_check.specs.declared.program.TypedClause.{TypedClause}
 use Rattle.type_check.specs.declared.program.TypedFunction.{TypedFunction}
@@ -16,7 +16,7 @@ use Rattle.type_check.specs.VariableNames.{variable_name, answer_name}
 use Rattle.type_check.specs.WellTyped.{IsVariable, SpeaksOf, SpeaksOfAnswer, ClauseSpeaksOf, EachSpeaks, ClausesSpeak, FunctionFits}
 use Rattle.mir_build.specs.Laws.{EnsuresAreWhole}
 use Rattle.mir_ir.specs.Names.{ContractSpeaks, IsOneOf}
-use Rattle.mir_build.specs.Lowering.{counted, contract_of, formula, formula_span, formulas_of, picked, LowersTo}
+use Rattle.mir_build.specs.Lowering.{counted, contract_over, HasContract, Formula, accepted, term_of, formula_span, formulas_of, picked, LowersTo}
 use Rattle.mir_build.proofs.LawFunction.{counted_length, locals_length}
 use Rattle.mir_build.proofs.LawLocals.{counted_at, counted_get, local_no_variable, variable_number, variable_no_answer, variable_not_new, small_named}
 
@@ -44,31 +44,23 @@ over_speaks n (c ∷ cs) h = picked_over n c.kind c.formula (formulas_of Ensures
 some_same : {A : Type 0} {a b : A} → Some a ≡ Some b → a ≡ b
 some_same e = cc
 
-formula_before : (n : ℕ) (a : Assertion) → SpeaksOf n a → (x : Name) → free x (formula a) ≡ true → IsVariable n x
-formula_before n (Good s t) h x f = h x f
-formula_before n (Bad e) h x f = absurd (true≢false (sym f))
-
-formula_over : (n : ℕ) (a : Assertion) → SpeaksOfAnswer n a → (x : Name) → free x (formula a) ≡ true → IsVariable n x ⊎ (x ≡ answer_name)
-formula_over n (Good s t) h x f = h x f
-formula_over n (Bad e) h x f = absurd (true≢false (sym f))
-
-before_at : (n : ℕ) (as' : List Assertion) → EachSpeaks n as' → (j : ℕ) (t : Term) → slice_get (map formula as') j ≡ Some t → (x : Name) → free x t ≡ true → IsVariable n x
+before_at : (n : ℕ) (fs : List Formula) → EachSpeaks n (map accepted fs) → (j : ℕ) (t : Term) → slice_get (map term_of fs) j ≡ Some t → (x : Name) → free x t ≡ true → IsVariable n x
 before_at n [] h j t e x f = absurd (cc)
-before_at n (a ∷ as') h zero t e x f = formula_before n a h.0 x (subst (λ u. free x u ≡ true) (sym (some_same e)) f)
-before_at n (a ∷ as') h (suc j) t e x f = before_at n as' h.1 j t e x f
+before_at n (a ∷ fs) h zero t e x f = h.0 x (subst (λ u. free x u ≡ true) (sym (some_same e)) f)
+before_at n (a ∷ fs) h (suc j) t e x f = before_at n fs h.1 j t e x f
 
-over_at : (n : ℕ) (as' : List Assertion) → EachSpeaksOfAnswer n as' → (j : ℕ) (t : Term) → slice_get (map formula as') j ≡ Some t → (x : Name) → free x t ≡ true → IsVariable n x ⊎ (x ≡ answer_name)
+over_at : (n : ℕ) (fs : List Formula) → EachSpeaksOfAnswer n (map accepted fs) → (j : ℕ) (t : Term) → slice_get (map term_of fs) j ≡ Some t → (x : Name) → free x t ≡ true → IsVariable n x ⊎ (x ≡ answer_name)
 over_at n [] h j t e x f = absurd (cc)
-over_at n (a ∷ as') h zero t e x f = formula_over n a h.0 x (subst (λ u. free x u ≡ true) (sym (some_same e)) f)
-over_at n (a ∷ as') h (suc j) t e x f = over_at n as' h.1 j t e x f
+over_at n (a ∷ fs) h zero t e x f = h.0 x (subst (λ u. free x u ≡ true) (sym (some_same e)) f)
+over_at n (a ∷ fs) h (suc j) t e x f = over_at n fs h.1 j t e x f
 
 map_length : {A B : Type 0} (g : A → B) (xs : List A) → length (map g xs) ≡ length xs
 map_length g [] = refl
 map_length g (x ∷ xs) = ap suc (map_length g xs)
 
-spans_behind : (rs es : List Assertion) → length (drop (length (map formula rs)) (map formula_span rs ++ map formula_span es)) ≡ length (map formula es)
+spans_behind : (rs es : List Formula) → length (drop (length (map term_of rs)) (map formula_span rs ++ map formula_span es)) ≡ length (map term_of es)
 spans_behind rs es =
-    omega (arith, length-drop (length (map formula rs)) (map formula_span rs ++ map formula_span es), length-append (map formula_span rs) (map formula_span es), map_length formula rs, map_length formula_span rs, map_length formula_span es, map_length formula es)
+    omega (arith, length-drop (length (map term_of rs)) (map formula_span rs ++ map formula_span es), length-append (map formula_span rs) (map formula_span es), map_length term_of rs, map_length formula_span rs, map_length formula_span es, map_length term_of es)
 
 module _ (owner : List ℕ) (f : TypedFunction) (b : Body) (gone : Initialised) (l : LowersTo owner f b gone) (σ : List Signature) (fits : FunctionFits σ f) where
   variable_at : (i : ℕ) (x : Name) → slice_get (map variable_name (counted 0 f.signature.params)) i ≡ Some x → (x.0 ≡ (variable_name i).0) × (i ≤ 2 ^ 32)
@@ -86,18 +78,26 @@ module _ (owner : List ℕ) (f : TypedFunction) (b : Body) (gone : Initialised) 
   or_answer x n (inl h) = one_of x h
   or_answer x n (inr e) = absurd (n (ap (λ (z : Name). z.0) e))
 
-  pub contract_speaks : ContractSpeaks b (contract_of f) × EnsuresAreWhole (contract_of f)
-  contract_speaks = (
+  over_formulas : (before behind : List Formula) → EachSpeaks (length f.signature.params) (map accepted before) → EachSpeaksOfAnswer (length f.signature.params) (map accepted behind)
+      → ContractSpeaks b (contract_over f before behind) × EnsuresAreWhole (contract_over f before behind)
+  over_formulas before behind speaks answers = (
     record {
       count = map_length variable_name (counted 0 f.signature.params) ∙ counted_length 0 f.signature.params ∙ sym l.params;
       apart = λ i j x y e g q. variable_number i j (sym (variable_at i x e).0 ∙ q ∙ (variable_at j y g).0);
       no_local = λ i x n m e g q. local_no_variable x i (small_named owner f b gone l x m g).1 (sym (small_named owner f b gone l x m g).0 ∙ sym q ∙ (variable_at i n e).0);
       none_is_new = λ i n e q. variable_not_new i (variable_at i n e).1 (sym (variable_at i n e).0 ∙ q);
-      before = λ j t e x h. one_of x (before_at (length f.signature.params) (formulas_of Requires f.clauses) (before_speaks (length f.signature.params) f.clauses fits.clauses) j t e x h);
-      over = λ j t e x h n. or_answer x n (over_at (length f.signature.params) (formulas_of Ensures f.clauses) (over_speaks (length f.signature.params) f.clauses fits.clauses) j t e x h);
+      before = λ j t e x h. one_of x (before_at (length f.signature.params) before speaks j t e x h);
+      over = λ j t e x h n. or_answer x n (over_at (length f.signature.params) behind answers j t e x h);
     },
     record {
       no_answer = λ i n e q. variable_no_answer i (variable_at i n e).1 (sym (variable_at i n e).0 ∙ q);
-      spans = spans_behind (formulas_of Requires f.clauses) (formulas_of Ensures f.clauses);
+      spans = spans_behind before behind;
     },
   )
+
+  pub contract_speaks : (c : Contract) → HasContract f c → ContractSpeaks b c × EnsuresAreWhole c
+  contract_speaks c h =
+      let n = length f.signature.params in
+      let speaks : EachSpeaks n (map accepted h.before) = subst (λ as'. EachSpeaks n as') h.are_before (before_speaks n f.clauses fits.clauses) in
+      let answers : EachSpeaksOfAnswer n (map accepted h.behind) = subst (λ as'. EachSpeaksOfAnswer n as') h.are_behind (over_speaks n f.clauses fits.clauses) in
+      subst (λ (d : Contract). ContractSpeaks b d × EnsuresAreWhole d) (sym h.is) (over_formulas h.before h.behind speaks answers)

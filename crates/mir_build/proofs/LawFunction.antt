@@ -17,7 +17,7 @@ use Rattle.mir_build.specs.Text.{Title, Line, fresh, begun, made, owned}
 use Rattle.mir_build.specs.Lowering.{numbers, counted, paired, all_locals, local_name, entry_title, around_body, whole, Around, IntoBody, of_outermost, of_other, LowersTo}
 use Rattle.mir_build.proofs.Numbers.{count}
 use Rattle.mir_build.proofs.LawLists.{Has, here, there, has_left, has_right, count-append}
-use Rattle.mir_build.proofs.LawFlow.{Flows, In, flows, flows_rest}
+use Rattle.mir_build.proofs.LawFlow.{flows}
 use Rattle.mir_build.proofs.LawLayout.{titles, labels, titles_of, labels_of, Flowing, flowing_of, Once, laid_out}
 use Rattle.mir_build.proofs.LawRuns.{with_self, Runs, Agree, labels_in, Laid, HasNone}
 use Rattle.mir_build.proofs.LawLaid.{weight, Apart}
@@ -83,10 +83,6 @@ from_parameter p x e = (lower p x e, upper p x e)
 
 -- ---- texts of bodies
 
-text_flows : (c : Around) (e : TypedExpr) (xs : List Line) → IntoBody c e xs → (all : List Title) → In all xs → Flows all [] c.loops c.loops xs
-text_flows c e xs (of_outermost r) all g = flows_rest c _ _ _ _ xs r all [] g
-text_flows c e xs (of_other q p) all g = flows c e _ xs p all [] g
-
 text_laid : (σ : List Signature) (c : Around) (e : TypedExpr) (xs : List Line) → IntoBody c e xs → (Γ : List Ty) (set : Locals) → Scoped c Γ set → IsWellTyped σ Γ e → Apart set (0 ∷ numbers (made xs)) → Laid set xs (with 0 set)
 text_laid σ c e xs (of_outermost {ty = ty} r) Γ set sc h a = laid_rest σ c _ _ _ 0 xs r Γ set ty sc h a
 text_laid σ c e xs (of_other q p) Γ set sc h a = laid σ c e 0 xs p Γ set sc h a
@@ -130,7 +126,7 @@ module _ (owner : List ℕ) (f : TypedFunction) (b : Body) (gone : Initialised) 
   body_flows : Flowing (titles b.blocks) b.blocks
   body_flows = subst (Flowing (titles b.blocks)) (sym l.blocks)
       (flowing_of (titles b.blocks) _ refl [] [] l.text
-      (text_flows (around_body f) f.body l.text l.into (titles b.blocks) (λ t h. subst (λ bs. Has t bs) (sym body_titles) (there h)))
+      (flows (around_body f) f.body l.text l.into (titles b.blocks) [] (λ t h. subst (λ bs. Has t bs) (sym body_titles) (there h)))
       (fresh (entry_title b.entry)) refl)
 
   pub body_laid_out : IsLaidOut b
@@ -213,7 +209,7 @@ module _ (owner : List ℕ) (f : TypedFunction) (b : Body) (gone : Initialised) 
         (record { scope = scope_fits; built_types = fits.params }) fits.body (answer_fits ∙ ap Some (sym fits.of_answer)) text_fits
 
     pub blocks_typed : EachBlock (BlockTyped bodies b) b.blocks
-    blocks_typed = subst (EachBlock (BlockTyped bodies b)) (sym l.blocks) (typed_blocks bodies b (span_of f.body) l.text (fresh (entry_title b.entry)) lines_typed tt tt)
+    blocks_typed = subst (EachBlock (BlockTyped bodies b)) (sym l.blocks) (typed_blocks bodies b (span_of f.body) l.text (fresh (entry_title b.entry)) lines_typed (tt, tt))
 
     map_length : {A B : Type 0} (g : A → B) (xs : List A) → length (map g xs) ≡ length xs
     map_length g [] = refl

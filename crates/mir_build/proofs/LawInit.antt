@@ -5,17 +5,18 @@ use Rattle.logic_term.specs.declared.kinds.Label.{Label}
 use Rattle.mir_ir.specs.declared.body.Block.{Block}
 use Rattle.mir_ir.specs.declared.body.Body.{Body}
 use Rattle.mir_ir.specs.declared.statement.Statement.{Statement}
+use Rattle.mir_ir.specs.declared.terminator.Terminator.{Terminator}
 use Rattle.mir_ir.specs.declared.terminator.TerminatorKind.TheVariants.{Return}
 use Rattle.mir_ir.specs.Body.{block_in}
 use Rattle.mir_ir.specs.WellFormed.{Locals, Within, parameters, Labelling, MeetsMoveRows}
 use Rattle.mir_ir.proofs.Taking.{rows_together, CanRun, run, CanEnd, Carries}
-use Rattle.mir_build.specs.Text.{Title, Line, Open, fresh, longer, owned}
+use Rattle.mir_build.specs.Text.{Title, Line, Open, Front, Stands, Nowhere, fresh, more_of, longer, finished, owned}
 use Rattle.mir_build.specs.Lowering.{ends}
 use Rattle.text_core.specs.declared.span.Span.{Span}
 use Rattle.mir_build.proofs.Numbers.{count}
 use Rattle.mir_build.proofs.LawLists.{Has, here, there, differs, count_self}
 use Rattle.mir_build.proofs.LawNames.{HeadFits}
-use Rattle.mir_build.proofs.LawRuns.{HasNone, Runs, stops, puts, makes, turns, owns, Agree, labels_in}
+use Rattle.mir_build.proofs.LawRuns.{HasNone, everything, Runs, stops, puts, makes, turns, leaves, owns, Agree, labels_in}
 use Rattle.mir_build.proofs.LawLayout.{blocks_of, Once, rest_once}
 
 -- ---- the set of a label
@@ -95,27 +96,37 @@ abbrev pub EachBlock : (Label × Block → Type 0) → List (Label × Block) →
 EachBlock P [] = Unit {0}
 EachBlock P (e ∷ es) = P e × EachBlock P es
 
+-- where no block is open, nothing has to fit
+abbrev FrontFits : (Label → Locals) → Front → Locals → Type 0
+FrontFits start (Stands o) set = OpenFits start o set
+FrontFits start Nowhere set = Unit {0}
+
 module _ (start : Label → Locals) where
-  longer_fits : (o : Open) (set : Locals) (s : Statement) → OpenFits start o set → CanRun set s.kind → OpenFits start (longer o s) (run s.kind set)
-  longer_fits o set s f h = record {
+  more_fits : (o : Open) (set : Locals) (s : Statement) → OpenFits start o set → CanRun set s.kind → OpenFits start (more_of o s) (run s.kind set)
+  more_fits o set s f h = record {
     now = ap (run s.kind) f.now ∙ sym (after_one_more o.statements s (start o.title.label));
     can_run = can_run_more o.statements s (start o.title.label) f.can_run (subst (λ S. CanRun S s.kind) f.now h);
     head = f.head;
   }
 
-  fresh_fits : (b : Title) → HeadFits (start b.label) b.head → OpenFits start (fresh b) (start b.label)
+  fresh_fits : (b : Title) → HeadFits (start b.label) b.head → FrontFits start (fresh b) (start b.label)
   fresh_fits b h = record { now = refl; can_run = tt; head = h }
 
+  -- the open block with its end
+  ended_fits : (o : Open) (set : Locals) (t : Terminator) → OpenFits start o set → CanEnd set t.kind → Carries start set t.kind → BlockFits start (finished o t)
+  ended_fits o set t f h g = record { can_run = f.can_run; can_end = subst (λ S. CanEnd S t.kind) f.now h; carries = subst (λ S. Carries start S t.kind) f.now g; head = f.head }
+
   -- where the text ends with the answer initialised, each block fits
-  blocks_fit : (s : Span) (to : Locals) → to 0 ≡ true → (set : Locals) (xs : List Line) → Runs start set xs to → (o : Open) → OpenFits start o set → EachBlock (BlockFits start) (blocks_of o xs (ends s Return))
-  blocks_fit s to z set xs (stops w) o f =
-      (record { can_run = f.can_run; can_end = subst (λ (S : Locals). S 0 ≡ true) f.now (w 0 z); carries = tt; head = f.head }, tt)
-  blocks_fit s to z set xs (puts {s = st} h p) o f = blocks_fit s to z (run st.kind set) _ p (longer o st) (longer_fits o set st f h)
+  blocks_fit : (s : Span) (to : Locals) → to 0 ≡ true → (set : Locals) (xs : List Line) → Runs start set xs to → (o : Front) → FrontFits start o set → EachBlock (BlockFits start) (blocks_of o xs (ends s Return))
+  blocks_fit s to z set xs (stops w) (Stands o) f = (ended_fits o set (ends s Return) f (w 0 z) tt, tt)
+  blocks_fit s to z set xs (stops w) Nowhere f = tt
+  blocks_fit s to z set xs (puts {s = st} h p) (Stands o) f = blocks_fit s to z (run st.kind set) _ p (longer (Stands o) st) (more_fits o set st f h)
+  blocks_fit s to z set xs (puts {s = st} h p) Nowhere f = blocks_fit s to z (run st.kind set) _ p Nowhere tt
   blocks_fit s to z set xs (makes p) o f = blocks_fit s to z set _ p o f
-  blocks_fit s to z set xs (turns {t = t} {b = b} h g k p) o f = (
-    record { can_run = f.can_run; can_end = subst (λ S. CanEnd S t.kind) f.now h; carries = subst (λ S. Carries start S t.kind) f.now g; head = f.head },
-    blocks_fit s to z (start b.label) _ p (fresh b) (fresh_fits b k),
-  )
+  blocks_fit s to z set xs (turns {t = t} {b = b} h g k p) (Stands o) f = (ended_fits o set t f h g, blocks_fit s to z (start b.label) _ p (fresh b) (fresh_fits b k))
+  blocks_fit s to z set xs (turns {t = t} {b = b} h g k p) Nowhere f = blocks_fit s to z (start b.label) _ p (fresh b) (fresh_fits b k)
+  blocks_fit s to z set xs (leaves {t = t} h g p) (Stands o) f = (ended_fits o set t f h g, blocks_fit s to z everything _ p Nowhere tt)
+  blocks_fit s to z set xs (leaves {t = t} h g p) Nowhere f = blocks_fit s to z everything _ p Nowhere tt
   blocks_fit s to z set xs (owns h p) o f = blocks_fit s to z set _ p o f
 
   pub begun_fits : (s : Span) (to : Locals) → to 0 ≡ true → (b : Title) (xs : List Line) → Runs start (start b.label) xs to → HeadFits (start b.label) b.head → EachBlock (BlockFits start) (blocks_of (fresh b) xs (ends s Return))
@@ -127,6 +138,7 @@ module _ (start : Label → Locals) where
   owned_not_there to set xs (puts {s = st} g p) e h = owned_not_there to (run st.kind set) _ p e h
   owned_not_there to set xs (makes p) e h = owned_not_there to set _ p e h
   owned_not_there to set xs (turns {b = b} g k f p) e h = owned_not_there to (start b.label) _ p e h
+  owned_not_there to set xs (leaves g k p) e h = owned_not_there to everything _ p e h
   owned_not_there to set xs (owns {l = l} {ys = ys} {xs = zs} n p) e h = by_case e (owned zs) h (owned_not_there to set zs p e)
     where
       by_case : (e : Label × List ℕ) (es : List (Label × List ℕ)) → Has e ((l, ys) ∷ es) → (Has e es → HasNone (start e.0) e.1) → HasNone (start e.0) e.1

@@ -8,14 +8,14 @@ use Rattle.mir_ir.specs.declared.body.Head.{Head}
 use Rattle.mir_ir.specs.declared.terminator.Terminator.{Terminator}
 use Rattle.mir_ir.specs.Body.{block_in}
 use Rattle.mir_ir.specs.Layout.{among, targets, place_of, around_of, Enters, Leads, on, back, IsLaidOut}
-use Rattle.mir_build.specs.Text.{Title, Line, Puts, Makes, Turns, Owns, Open, fresh, longer, close, closed, left_open, begun}
+use Rattle.mir_build.specs.Text.{Title, Line, Puts, Makes, Turns, Leaves, Owns, Front, Stands, Nowhere, fresh, longer, closed, begun}
 use Rattle.mir_build.proofs.Numbers.{count}
 use Rattle.mir_build.proofs.LawLists.{Has, here, there, differs, fewer, count_self}
-use Rattle.mir_build.proofs.LawFlow.{To, onward, back as backward, ToEach, Flows, at_end, puts, makes, turns, owns}
+use Rattle.mir_build.proofs.LawFlow.{To, onward, back as backward, ToEach, Flows, at_end, puts, makes, turns, leaves, owns}
 
--- the blocks of the text, the last of which ends so
-abbrev pub blocks_of : Open → List Line → Terminator → List (Label × Block)
-blocks_of o xs t = closed o xs ++ close (left_open o xs) t ∷ []
+-- the blocks of the text, behind which the open one ends so
+abbrev pub blocks_of : Front → List Line → Terminator → List (Label × Block)
+blocks_of o xs t = closed o (xs ++ Leaves t ∷ [])
 
 abbrev pub title_of : Label × Block → Title
 title_of e = record { label = e.0; nest = e.1.nest; head = e.1.head }
@@ -26,34 +26,57 @@ titles bs = map title_of bs
 abbrev pub labels : List (Label × Block) → List ℕ
 labels bs = map (λ (e : Label × Block). e.0.0) bs
 
-pub titles_of : (o : Open) (xs : List Line) (t : Terminator) → titles (blocks_of o xs t) ≡ o.title ∷ begun xs
-titles_of o [] t = refl
-titles_of o (Puts s ∷ xs) t = titles_of (longer o s) xs t
+-- the title of the open block
+abbrev pub in_front : Front → List Title
+in_front (Stands o) = o.title ∷ []
+in_front Nowhere = []
+
+pub titles_of : (o : Front) (xs : List Line) (t : Terminator) → titles (blocks_of o xs t) ≡ in_front o ++ begun xs
+titles_of (Stands o) [] t = refl
+titles_of Nowhere [] t = refl
+titles_of (Stands o) (Puts s ∷ xs) t = titles_of (longer (Stands o) s) xs t
+titles_of Nowhere (Puts s ∷ xs) t = titles_of Nowhere xs t
 titles_of o (Makes x u ∷ xs) t = titles_of o xs t
-titles_of o (Turns u b ∷ xs) t = ap (λ bs. o.title ∷ bs) (titles_of (fresh b) xs t)
+titles_of (Stands o) (Turns u b ∷ xs) t = ap (λ bs. o.title ∷ bs) (titles_of (fresh b) xs t)
+titles_of Nowhere (Turns u b ∷ xs) t = titles_of (fresh b) xs t
+titles_of (Stands o) (Leaves u ∷ xs) t = ap (λ bs. o.title ∷ bs) (titles_of Nowhere xs t)
+titles_of Nowhere (Leaves u ∷ xs) t = titles_of Nowhere xs t
 titles_of o (Owns l ys ∷ xs) t = titles_of o xs t
 
-pub labels_of : (o : Open) (xs : List Line) (t : Terminator) → labels (blocks_of o xs t) ≡ o.title.label.0 ∷ map (λ (b : Title). b.label.0) (begun xs)
-labels_of o [] t = refl
-labels_of o (Puts s ∷ xs) t = labels_of (longer o s) xs t
-labels_of o (Makes x u ∷ xs) t = labels_of o xs t
-labels_of o (Turns u b ∷ xs) t = ap (λ bs. o.title.label.0 ∷ bs) (labels_of (fresh b) xs t)
-labels_of o (Owns l ys ∷ xs) t = labels_of o xs t
+labels_of_titles : (bs : List (Label × Block)) → labels bs ≡ map (λ (b : Title). b.label.0) (titles bs)
+labels_of_titles [] = refl
+labels_of_titles (e ∷ bs) = ap (λ ls. e.0.0 ∷ ls) (labels_of_titles bs)
+
+pub labels_of : (o : Front) (xs : List Line) (t : Terminator) → labels (blocks_of o xs t) ≡ map (λ (b : Title). b.label.0) (in_front o ++ begun xs)
+labels_of o xs t = labels_of_titles (blocks_of o xs t) ∙ ap (λ bs. map (λ (b : Title). b.label.0) bs) (titles_of o xs t)
 
 -- each end leads from its block as `To` says
 abbrev pub Flowing : List Title → List (Label × Block) → Type 0
 Flowing whole [] = Unit {0}
 Flowing whole (e ∷ es) = ToEach whole e.1.nest (titles es) (targets e.1.end.kind) × Flowing whole es
 
-pub flowing_of : (whole : List Title) (t : Terminator) → targets t.kind ≡ [] → (from to : List Label) (xs : List Line) → Flows whole [] from to xs → (o : Open) → from ≡ o.title.nest → Flowing whole (blocks_of o xs t)
-flowing_of whole t q from to xs at_end o s = (subst (λ ls. ToEach whole o.title.nest [] ls) (sym q) tt, tt)
-flowing_of whole t q from to xs (puts {s = st} p) o s = flowing_of whole t q from to _ p (longer o st) s
+-- the open block is in these loops
+abbrev pub IsIn : List Label → Front → Type 0
+IsIn ls (Stands o) = ls ≡ o.title.nest
+IsIn ls Nowhere = Unit {0}
+
+pub flowing_of : (whole : List Title) (t : Terminator) → targets t.kind ≡ [] → (from to : List Label) (xs : List Line) → Flows whole [] from to xs → (o : Front) → IsIn from o → Flowing whole (blocks_of o xs t)
+flowing_of whole t q from to xs at_end (Stands o) s = (subst (λ ls. ToEach whole o.title.nest [] ls) (sym q) tt, tt)
+flowing_of whole t q from to xs at_end Nowhere s = tt
+flowing_of whole t q from to xs (puts {s = st} p) (Stands o) s = flowing_of whole t q from to _ p (longer (Stands o) st) s
+flowing_of whole t q from to xs (puts {s = st} p) Nowhere s = flowing_of whole t q from to _ p Nowhere tt
 flowing_of whole t q from to xs (makes p) o s = flowing_of whole t q from to _ p o s
-flowing_of whole t q from to xs (turns {t = u} {b = b} {xs = ys} e p) o s = (
+flowing_of whole t q from to xs (turns {t = u} {b = b} {xs = ys} e p) (Stands o) s = (
   subst (λ ns. ToEach whole ns (titles (blocks_of (fresh b) ys t)) (targets u.kind)) s
       (subst (λ bs. ToEach whole from bs (targets u.kind)) (ap (λ bs. b ∷ bs) (append-nil (begun ys)) ∙ sym (titles_of (fresh b) ys t)) e),
   flowing_of whole t q b.nest to ys p (fresh b) refl,
 )
+flowing_of whole t q from to xs (turns {t = u} {b = b} {xs = ys} e p) Nowhere s = flowing_of whole t q b.nest to ys p (fresh b) refl
+flowing_of whole t q from to xs (leaves {t = u} {xs = ys} e p) (Stands o) s = (
+  subst (λ ns. ToEach whole ns (titles (blocks_of Nowhere ys t)) (targets u.kind)) s (subst (λ bs. ToEach whole from bs (targets u.kind)) (append-nil (begun ys) ∙ sym (titles_of Nowhere ys t)) e),
+  flowing_of whole t q from to ys p Nowhere tt,
+)
+flowing_of whole t q from to xs (leaves e p) Nowhere s = flowing_of whole t q from to _ p Nowhere tt
 flowing_of whole t q from to xs (owns p) o s = flowing_of whole t q from to _ p o s
 
 -- ---- labels that begin one block each

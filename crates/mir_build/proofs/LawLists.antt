@@ -2,7 +2,7 @@
 use Rattle.std.proofs.Common.{◌≡◌, refl, ap, sym, ◌∙◌, subst, ℕ, zero, suc, ◌+◌, ◌≤◌, ◌==◌, Bool, true, false, cond, List, [], ◌∷◌, ◌++◌, map, Some, slice_get, arith}
 use Rattle.std.proofs.lemmas.Bool.{eqb-true, eq-eqb}
 use Rattle.logic_term.specs.Ty.{Ty}
-use Rattle.mir_build.specs.Text.{Line, Puts, Makes, Turns, Owns, begun, made}
+use Rattle.mir_build.specs.Text.{Line, Puts, Makes, Turns, Leaves, Owns, begun, made}
 use Rattle.mir_build.specs.Lowering.{numbers}
 use Rattle.mir_build.proofs.Numbers.{count}
 
@@ -35,6 +35,7 @@ begun-append [] ys = refl
 begun-append (Puts s ∷ xs) ys = begun-append xs ys
 begun-append (Makes x t ∷ xs) ys = begun-append xs ys
 begun-append (Turns t b ∷ xs) ys = ap (λ bs. b ∷ bs) (begun-append xs ys)
+begun-append (Leaves t ∷ xs) ys = begun-append xs ys
 begun-append (Owns l zs ∷ xs) ys = begun-append xs ys
 
 pub made-append : (xs ys : List Line) → made (xs ++ ys) ≡ made xs ++ made ys
@@ -42,6 +43,7 @@ made-append [] ys = refl
 made-append (Puts s ∷ xs) ys = made-append xs ys
 made-append (Makes x t ∷ xs) ys = ap (λ ms. (x, t) ∷ ms) (made-append xs ys)
 made-append (Turns t b ∷ xs) ys = made-append xs ys
+made-append (Leaves t ∷ xs) ys = made-append xs ys
 made-append (Owns l zs ∷ xs) ys = made-append xs ys
 
 -- ---- how often

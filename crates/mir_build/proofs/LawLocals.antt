@@ -13,7 +13,7 @@ use Rattle.type_check.specs.VariableNames.{variable_name, answer_name}
 use Rattle.type_check.specs.WellTyped.{IsBuilt, AllBuilt, FunctionFits}
 use Rattle.mir_build.specs.Laws.{LocalsAreNoVariables}
 use Rattle.mir_ir.specs.Names.{LocalsAreNamed, new_number}
-use Rattle.mir_build.specs.Text.{Line, Puts, Makes, Turns, Owns, made}
+use Rattle.mir_build.specs.Text.{Line, Puts, Makes, Turns, Leaves, Owns, made}
 use Rattle.mir_build.specs.Lowering.{numbers, counted, paired, all_locals, local_name, LowersTo}
 use Rattle.mir_build.proofs.Numbers.{count}
 use Rattle.mir_build.proofs.LawLists.{Has, here, there}
@@ -179,6 +179,7 @@ text_built bodies b [] h = none_built
 text_built bodies b (Puts s ∷ xs) h = text_built bodies b xs h.1
 text_built bodies b (Makes x t ∷ xs) h = first_built x t (made xs) h.0 (text_built bodies b xs h.1)
 text_built bodies b (Turns t k ∷ xs) h = text_built bodies b xs h.2
+text_built bodies b (Leaves t ∷ xs) h = text_built bodies b xs h.1
 text_built bodies b (Owns l ys ∷ xs) h = text_built bodies b xs h
 
 module _ (owner : List ℕ) (f : TypedFunction) (b : Body) (gone : Initialised) (l : LowersTo owner f b gone) where

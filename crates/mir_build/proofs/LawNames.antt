@@ -11,10 +11,9 @@ use Rattle.mir_ir.specs.declared.body.Head.{Head}
 use Rattle.mir_ir.specs.declared.place.Place.{Place}
 use Rattle.mir_ir.specs.WellFormed.{Locals}
 use Rattle.type_check.specs.declared.assertion.Assertion.{Assertion}
-use Rattle.type_check.specs.declared.assertion.Assertion.TheVariants.{Good, Bad}
 use Rattle.type_check.specs.VariableNames.{variable_name}
 use Rattle.type_check.specs.WellTyped.{SpeaksOf, EachSpeaks}
-use Rattle.mir_build.specs.Lowering.{Around, local_name, formula, formula_span, held, places_for, at_places, head_of}
+use Rattle.mir_build.specs.Lowering.{Around, Formula, accepted, local_name, formula_span, held, places_for, invariant_of, head_of}
 use Rattle.mir_build.proofs.LawLists.{Has, has_get}
 
 -- ---- substitution
@@ -107,22 +106,23 @@ abbrev pub HeadFits : Locals → Option Head → Type 0
 HeadFits set None = Unit {0}
 HeadFits set (Some h) = EachFree set h.invariants × (length h.spans ≡ length h.invariants)
 
-free_at_places : (set : Locals) (scope : List Place) (a : Assertion) → HoldsPlaces set scope → SpeaksOf (length scope) a → (x : Name) → free x (at_places scope (formula a)) ≡ true → IsLocalIn set x
-free_at_places set scope (Bad e) holds h x f = absurd (true≢false (sym f))
-free_at_places set scope (Good s t) holds h x f =
-    let w = comes x _ (places_for 0 scope) t f in
+free_at_places : (set : Locals) (scope : List Place) (a : Formula) → HoldsPlaces set scope → SpeaksOf (length scope) (accepted a) → (x : Name) → free x (invariant_of scope a) ≡ true → IsLocalIn set x
+free_at_places set scope a holds h x f =
+    let w = comes x _ (places_for 0 scope) a.term f in
     let v = h w.name w.is_free in
     let l = look_place 0 scope v.0 v.0 v.1 (omega arith) in
     let is : free x (held l.0) ≡ true = carry (λ u. free x u ≡ true) (ap (look (places_for 0 scope)) v.2 ∙ l.2) w.in_term in
     (l.0.local, holds l.0 (has_get scope v.0 l.0 l.1), same_name x (local_name l.0.local) (eqb-true x.0 (local_name l.0.local).0 is))
 
-pub each_free : (set : Locals) (scope : List Place) (is : List Assertion) → HoldsPlaces set scope → EachSpeaks (length scope) is → EachFree set (map (λ a. at_places scope (formula a)) is)
+pub each_free : (set : Locals) (scope : List Place) (fs : List Formula) → HoldsPlaces set scope → EachSpeaks (length scope) (map accepted fs) → EachFree set (map (invariant_of scope) fs)
 each_free set scope [] holds h = tt
-each_free set scope (a ∷ is) holds h = (free_at_places set scope a holds h.0, each_free set scope is holds h.1)
+each_free set scope (a ∷ fs) holds h = (free_at_places set scope a holds h.0, each_free set scope fs holds h.1)
 
-lengths : (scope : List Place) (is : List Assertion) → length (map formula_span is) ≡ length (map (λ a. at_places scope (formula a)) is)
+lengths : (scope : List Place) (fs : List Formula) → length (map formula_span fs) ≡ length (map (invariant_of scope) fs)
 lengths scope [] = refl
-lengths scope (a ∷ is) = ap suc (lengths scope is)
+lengths scope (a ∷ fs) = ap suc (lengths scope fs)
 
-pub head_fits : (set : Locals) (c : Around) (n : ℕ) (is : List Assertion) → n ≡ length c.scope → HoldsPlaces set c.scope → EachSpeaks n is → HeadFits set (Some (head_of c is))
-head_fits set c n is e holds h = (each_free set c.scope is holds (carry (λ m. EachSpeaks m is) e h), lengths c.scope is)
+pub head_fits : (set : Locals) (c : Around) (n : ℕ) (is : List Assertion) (fs : List Formula) → is ≡ map accepted fs → n ≡ length c.scope → HoldsPlaces set c.scope → EachSpeaks n is → HeadFits set (Some (head_of c fs))
+head_fits set c n is fs q e holds h =
+    let speaks : EachSpeaks (length c.scope) (map accepted fs) = carry (λ xs. EachSpeaks (length c.scope) xs) q (carry (λ m. EachSpeaks m is) e h) in
+    (each_free set c.scope fs holds speaks, lengths c.scope fs)

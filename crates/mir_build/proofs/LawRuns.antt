@@ -15,7 +15,7 @@ use Rattle.mir_ir.specs.declared.terminator.TerminatorKind.{TerminatorKind}
 use Rattle.mir_ir.specs.declared.terminator.TerminatorKind.TheVariants.{Goto, If, Call, Return}
 use Rattle.mir_ir.specs.WellFormed.{Locals, with, without, Within}
 use Rattle.mir_ir.proofs.Taking.{taken, CanTake, CanTakeAll, all_taken, CanEvaluate, evaluated, CanRun, run, CanEnd, Carries}
-use Rattle.mir_build.specs.Text.{Title, Line, Puts, Makes, Turns, Owns, begun}
+use Rattle.mir_build.specs.Text.{Title, Line, Puts, Makes, Turns, Leaves, Owns, begun}
 use Rattle.mir_build.proofs.Numbers.{count, labels_begun}
 use Rattle.mir_build.proofs.LawLists.{begun-append}
 use Rattle.mir_build.proofs.LawNames.{HeadFits}
@@ -118,6 +118,10 @@ carries at Return small large w h = tt
 abbrev pub HasNone : Locals → List ℕ → Type 0
 HasNone set xs = (x : ℕ) → 1 ≤ count x xs → set x ≡ false
 
+-- behind what leaves, where nothing runs
+abbrev pub everything : Locals
+everything x = true
+
 -- from the first set the text can run, and then at least the second is initialised; a block begins with the set of its label, of
 -- which the invariants speak, and in which the loop's own locals are not
 pub data Runs (at : Label → Locals) : Locals → List Line → Locals → Type 0 where
@@ -125,6 +129,7 @@ pub data Runs (at : Label → Locals) : Locals → List Line → Locals → Type
   puts : {s : Statement} {set to : Locals} {xs : List Line} → CanRun set s.kind → Runs at (run s.kind set) xs to → Runs at set (Puts s ∷ xs) to
   makes : {x : ℕ} {t : Ty} {set to : Locals} {xs : List Line} → Runs at set xs to → Runs at set (Makes x t ∷ xs) to
   turns : {t : Terminator} {b : Title} {set to : Locals} {xs : List Line} → CanEnd set t.kind → Carries at set t.kind → HeadFits (at b.label) b.head → Runs at (at b.label) xs to → Runs at set (Turns t b ∷ xs) to
+  leaves : {t : Terminator} {set to : Locals} {xs : List Line} → CanEnd set t.kind → Carries at set t.kind → Runs at everything xs to → Runs at set (Leaves t ∷ xs) to
   owns : {l : Label} {ys : List ℕ} {set to : Locals} {xs : List Line} → HasNone (at l) ys → Runs at set xs to → Runs at set (Owns l ys ∷ xs) to
 
 module _ (at : Label → Locals) where
@@ -133,6 +138,7 @@ module _ (at : Label → Locals) where
   runs_more small to xs (puts {s = s} h p) large w = puts (can_run s.kind small large w h) (runs_more (run s.kind small) to _ p (run s.kind large) (run_within s.kind small large w))
   runs_more small to xs (makes p) large w = makes (runs_more small to _ p large w)
   runs_more small to xs (turns {t = t} h g f p) large w = turns (can_end t.kind small large w h) (carries at t.kind small large w g) f p
+  runs_more small to xs (leaves {t = t} h g p) large w = leaves (can_end t.kind small large w h) (carries at t.kind small large w g) p
   runs_more small to xs (owns h p) large w = owns h (runs_more small to _ p large w)
 
   pub runs-append : (mid to : Locals) (ys : List Line) → Runs at mid ys to → (set : Locals) (xs : List Line) → Runs at set xs mid → Runs at set (xs ++ ys) to
@@ -140,6 +146,7 @@ module _ (at : Label → Locals) where
   runs-append mid to ys q set xs (puts {s = s} h p) = puts h (runs-append mid to ys q (run s.kind set) _ p)
   runs-append mid to ys q set xs (makes p) = makes (runs-append mid to ys q set _ p)
   runs-append mid to ys q set xs (turns {b = b} h g f p) = turns h g f (runs-append mid to ys q (at b.label) _ p)
+  runs-append mid to ys q set xs (leaves h g p) = leaves h g (runs-append mid to ys q everything _ p)
   runs-append mid to ys q set xs (owns h p) = owns h (runs-append mid to ys q set _ p)
 
 -- ---- sets for the labels that a text begins

@@ -4,6 +4,7 @@ use Rattle.std.proofs.lemmas.Bool.{eqb-true}
 use Rattle.logic_term.specs.declared.kinds.Label.{Label}
 use Rattle.logic_term.specs.Ty.{Ty}
 use Rattle.text_core.specs.declared.span.Span.{Span}
+use Rattle.mir_ir.specs.declared.place.Lit.{Lit}
 use Rattle.mir_ir.specs.declared.place.Place.{Place}
 use Rattle.mir_ir.specs.declared.terminator.Terminator.{Terminator}
 use Rattle.mir_ir.specs.WellFormed.{Locals, with, without, Within}
@@ -13,7 +14,7 @@ use Rattle.type_check.specs.declared.program.Signature.{Signature}
 use Rattle.type_check.specs.TypedExpr.{TypedExpr, TypedStmts, TypedExprs}
 use Rattle.type_check.specs.WellTyped.{IsWellTyped, StatementsFit, ArgumentsFit}
 use Rattle.mir_build.specs.Text.{Title, Line, Makes, Turns, made}
-use Rattle.mir_build.specs.Lowering.{numbers, Around, whole, looping, binds, head_of, dies_in, where_true, where_false, Into, of_integer, of_truth, of_variable, of_negative, of_denied, of_binary, of_lazy, of_assign}
+use Rattle.mir_build.specs.Lowering.{numbers, Around, whole, looping, binds, head_of, dies_in, constant, lazily, Into, of_integer, of_truth, of_variable, of_negative, of_denied, of_binary, of_lazy, of_assign}
 use Rattle.mir_build.specs.Lowering.{of_assign_value, of_update, of_update_value, of_call, of_block, of_branch, of_choice, of_repeat, Rest, of_done, of_last, of_bind, of_run, Args, of_none, of_more}
 use Rattle.mir_build.proofs.Numbers.{count}
 use Rattle.mir_build.proofs.LawLists.{Has, here, there, has_get, makings-append, count-append, count_self}
@@ -85,13 +86,13 @@ two_given_up t u set n m = kept u set (without t (with u (with t set))) m (kept 
 first_of_two : (t u : ℕ) (set : Locals) → with u (with t set) t ≡ true
 first_of_two t u set = with_more u (with t set) t (with_self t set)
 
-laid_where_true : (op : LazyOp) (s : Span) (d : ℕ) (ys : List Line) (set : Locals) → (Apart set (d ∷ numbers (made ys)) → Laid set ys (with d set)) → Apart set (d ∷ numbers (made (where_true op s d ys))) → Laid set (where_true op s d ys) (with d set)
-laid_where_true lazy_op.And s d ys set p a = p a
-laid_where_true lazy_op.Or s d ys set p a = laid_puts _ _ _ _ tt (laid_stops _ _ (same_set (with d set)))
+laid_constant : (s : Span) (d : ℕ) (v : Lit) (set : Locals) → Laid set (constant s d v ∷ []) (with d set)
+laid_constant s d v set = laid_puts _ _ _ _ tt (laid_stops _ _ (same_set (with d set)))
 
-laid_where_false : (op : LazyOp) (s : Span) (d : ℕ) (ys : List Line) (set : Locals) → (Apart set (d ∷ numbers (made ys)) → Laid set ys (with d set)) → Apart set (d ∷ numbers (made (where_false op s d ys))) → Laid set (where_false op s d ys) (with d set)
-laid_where_false lazy_op.And s d ys set p a = laid_puts _ _ _ _ tt (laid_stops _ _ (same_set (with d set)))
-laid_where_false lazy_op.Or s d ys set p a = p a
+laid_lazily : (op : LazyOp) (c : Around) (s : Span) (t d : ℕ) (yes' no' after : Label) (ys : List Line) (set now : Locals) → now t ≡ true → Within set (without t now) → (Apart set (d ∷ numbers (made ys)) → Laid set ys (with d set))
+    → Apart set (d ∷ numbers (made (lazily op c s t d yes' no' after ys))) → Laid now (lazily op c s t d yes' no' after ys) (with d set)
+laid_lazily lazy_op.And c s t d yes' no' after ys set now h w p a = forked c s t yes' no' after set now (with d set) ys _ h w (p (left d set ys _ a)) (laid_constant s d _ set)
+laid_lazily lazy_op.Or c s t d yes' no' after ys set now h w p a = forked c s t yes' no' after set now (with d set) _ ys h w (laid_constant s d _ set) (p (left d set ys _ a))
 
 laid_dies : (outer : Bool) (s : Span) (d t : ℕ) (set : Locals) → (with d set) t ≡ false → Laid (with d (with t set)) (dies_in outer s t) (with d set)
 laid_dies true s d t set n = laid_stops _ _ (ends_with d t set)
@@ -151,9 +152,7 @@ module _ (σ : List Signature) where
     laid c e d xs (of_lazy {s = s} {op = op} {t = t} yes' no' after {xs = us} {ys = vs} p q) Γ set sc h a =
         let r = before t set _ (second d t set us _ a) in
         laid_makes _ _ _ _ _ (laid-append set (with t set) (with d set) us _ (laid c _ t us p Γ set sc h.3 (first d t set us _ a))
-        (forked c s t yes' no' after set (with t set) (with d set) (where_true op s d vs) (where_false op s d vs) (with_self t set) (given_up t set (fresh_second d t set _ a))
-        (laid_where_true op s d vs set (laid c _ d vs q Γ set sc h.4) (left d set (where_true op s d vs) _ r))
-        (laid_where_false op s d vs set (laid c _ d vs q Γ set sc h.4) (left d set (where_false op s d vs) _ (right d set (where_true op s d vs) _ r)))))
+        (laid_lazily op c s t d yes' no' after vs set (with t set) (with_self t set) (given_up t set (fresh_second d t set _ a)) (laid c _ d vs q Γ set sc h.4) r))
     laid c e d xs (of_assign {t = t} x {xs = us} r p) Γ set sc h a =
         laid_makes _ _ _ _ _ (laid-append set (with t set) (with d set) us _ (laid c _ t us p Γ set sc h.2 (first d t set us _ a))
         (laid_puts _ _ _ _ (with_self t set) (laid_puts _ _ _ _ tt (laid_stops _ _ (assigned d x.local t set (with t set) (fresh_second d t set _ a) (with_more t set))))))
@@ -192,10 +191,10 @@ module _ (σ : List Signature) where
         laid_makes _ _ _ _ _ (laid-append set (with t set) (with d set) us _ (laid c _ t us p Γ set sc h.3 (first d t set us _ a))
         (forked c s t yes' no' after set (with t set) (with d set) vs ws (with_self t set) (given_up t set (fresh_second d t set _ a)) (laid c _ d vs q Γ set sc h.4 (left d set vs _ b))
         (laid c _ d ws r Γ set sc h.5 (left d set ws _ (right d set vs _ b)))))
-    laid c e d xs (of_repeat {s = s} {is = is} {t = t} {u = u} head body after {xs = us} {ys = vs} p q) Γ set sc h a =
+    laid c e d xs (of_repeat {s = s} {is = is} {t = t} {u = u} head body after fs {xs = us} {ys = vs} g p q) Γ set sc h a =
         let k = looping c head in
         let b = before t set _ (second d t set us _ a) in
-        looped c k s d t u _ _ head body after (head_of c is) _ set us vs (head_fits set c (length Γ) is sc.count sc.holds h.1) (none set _ (own_apart d t u set us vs _ _ _ _ a)) (fresh_second d t set _ a)
+        looped c k s d t u _ _ head body after (head_of c fs) _ set us vs (head_fits set c (length Γ) is fs g sc.count sc.holds h.1) (none set _ (own_apart d t u set us vs _ _ _ _ a)) (fresh_second d t set _ a)
         (laid k _ t us p Γ set (in_loop c Γ set head sc) h.4 (first d t set us _ a))
         (laid k _ u vs q Γ set (in_loop c Γ set head sc) h.5 (first d u set vs _ b))
 

@@ -16,7 +16,7 @@ use Rattle.type_check.specs.declared.program.Signature.{Signature}
 use Rattle.type_check.specs.TypedExpr.{TypedExpr, TypedStmts, integer, truth, variable, negative, denied, binary, lazy, assign, assign_value, update, update_value, call, block, branch, choice, repeat, done, last, bind, run}
 use Rattle.type_check.specs.TypedExprView.{ty_of}
 use Rattle.type_check.specs.WellTyped.{IsBuilt, AllBuilt, IsWellTyped, StatementsFit, operation_ty, is_signed}
-use Rattle.mir_build.specs.Text.{Line, Puts, Makes, Turns, Owns, made}
+use Rattle.mir_build.specs.Text.{Line, Puts, Makes, Turns, Leaves, Owns, made}
 use Rattle.mir_build.proofs.LawLists.{Has, here, there, has_left, has_right, made-append}
 use Rattle.mir_build.proofs.LawNames.{HoldsPlaces, HeadFits}
 use Rattle.mir_ir.specs.declared.body.Bodies.{Bodies}
@@ -131,6 +131,7 @@ AreTyped bodies b [] = Unit {0}
 AreTyped bodies b (Puts s ∷ xs) = StatementIsTyped b s.kind × AreTyped bodies b xs
 AreTyped bodies b (Makes x t ∷ xs) = IsBuilt t × AreTyped bodies b xs
 AreTyped bodies b (Turns t k ∷ xs) = EndFits bodies b t.kind × HeadFits (is_local b) k.head × AreTyped bodies b xs
+AreTyped bodies b (Leaves t ∷ xs) = EndFits bodies b t.kind × AreTyped bodies b xs
 AreTyped bodies b (Owns l ys ∷ xs) = AreTyped bodies b xs
 
 pub typed-append : (bodies : Bodies) (b : Body) (xs ys : List Line) → AreTyped bodies b xs → AreTyped bodies b ys → AreTyped bodies b (xs ++ ys)
@@ -138,6 +139,7 @@ typed-append bodies b [] ys p q = q
 typed-append bodies b (Puts s ∷ xs) ys p q = (p.0, typed-append bodies b xs ys p.1 q)
 typed-append bodies b (Makes x t ∷ xs) ys p q = (p.0, typed-append bodies b xs ys p.1 q)
 typed-append bodies b (Turns t k ∷ xs) ys p q = (p.0, p.1, typed-append bodies b xs ys p.2 q)
+typed-append bodies b (Leaves t ∷ xs) ys p q = (p.0, typed-append bodies b xs ys p.1 q)
 typed-append bodies b (Owns l zs ∷ xs) ys p q = typed-append bodies b xs ys p q
 
 -- locals with their types

@@ -4,6 +4,7 @@ use Rattle.logic_term.specs.declared.kinds.Label.{Label}
 use Rattle.logic_term.specs.Ty.{Ty, bool}
 use Rattle.text_core.specs.declared.span.Span.{Span}
 use Rattle.mir_ir.specs.declared.body.Body.{Body}
+use Rattle.mir_ir.specs.declared.place.Lit.TheVariants as lit
 use Rattle.mir_ir.specs.WellFormed.{OperandsHave}
 use Rattle.source_kinds.specs.declared.kinds.LazyOp.{LazyOp}
 use Rattle.source_kinds.specs.declared.kinds.LazyOp.TheVariants as lazy_op
@@ -12,7 +13,7 @@ use Rattle.type_check.specs.TypedExpr.{TypedExpr, TypedStmts, TypedExprs}
 use Rattle.type_check.specs.TypedExprView.{ty_of}
 use Rattle.type_check.specs.WellTyped.{IsBuilt, AllBuilt, IsWellTyped, StatementsFit, ArgumentsFit}
 use Rattle.mir_build.specs.Text.{Line, made}
-use Rattle.mir_build.specs.Lowering.{Around, whole, looping, binds, moved, dies_in, where_true, where_false, Into, of_integer, of_truth, of_variable, of_negative, of_denied, of_binary, of_lazy, of_assign}
+use Rattle.mir_build.specs.Lowering.{Around, whole, looping, binds, moved, dies_in, constant, put_unit, test, lazily, Into, of_integer, of_truth, of_variable, of_negative, of_denied, of_binary, of_lazy, of_assign}
 use Rattle.mir_build.specs.Lowering.{of_assign_value, of_update, of_update_value, of_call, of_block, of_branch, of_choice, of_repeat, Rest, of_done, of_last, of_bind, of_run, Args, of_none, of_more}
 use Rattle.mir_build.proofs.LawNames.{head_fits}
 use Rattle.mir_build.proofs.LawTyped.{operation_has, signed, built_more, built, is_local, AreTyped, typed-append, MadeFits, made_first, made_rest, made_left, made_right, ScopeFits, scope_at, scope_more, scope_length, scope_holds}
@@ -48,13 +49,15 @@ module _ (σ : List Signature) (bodies : Bodies) (b : Body) (callees : (n : ℕ)
   step : (xs ys : List Line) → AreTyped bodies b xs → (AreTyped bodies b ys) → AreTyped bodies b (xs ++ ys)
   step xs ys p q = typed-append bodies b xs ys p q
 
-  typed_where_true : (op : LazyOp) (s : Span) (d : ℕ) (ys : List Line) → At d bool → (MadeFits b (made ys) → AreTyped bodies b ys) → MadeFits b (made (where_true op s d ys)) → AreTyped bodies b (where_true op s d ys)
-  typed_where_true lazy_op.And s d ys h p m = p m
-  typed_where_true lazy_op.Or s d ys h p m = ((bool, (refl, h), refl), tt)
+  typed_test : (c : Around) (s : Span) (t : ℕ) (yes' no' after : Label) (ys zs : List Line) → At t bool → (MadeFits b (made ys) → AreTyped bodies b ys) → (MadeFits b (made zs) → AreTyped bodies b zs)
+      → MadeFits b (made (test c s t yes' no' after ys zs)) → AreTyped bodies b (test c s t yes' no' after ys zs)
+  typed_test c s t yes' no' after ys zs h p q m =
+      ((refl, h), tt, step ys _ (p (made_left b ys _ m)) (tt, tt, step zs _ (q (made_left b zs _ (made_right b ys _ m))) (tt, tt, tt)))
 
-  typed_where_false : (op : LazyOp) (s : Span) (d : ℕ) (ys : List Line) → At d bool → (MadeFits b (made ys) → AreTyped bodies b ys) → MadeFits b (made (where_false op s d ys)) → AreTyped bodies b (where_false op s d ys)
-  typed_where_false lazy_op.And s d ys h p m = ((bool, (refl, h), refl), tt)
-  typed_where_false lazy_op.Or s d ys h p m = p m
+  typed_lazily : (op : LazyOp) (c : Around) (s : Span) (t d : ℕ) (yes' no' after : Label) (ys : List Line) → At t bool → At d bool → (MadeFits b (made ys) → AreTyped bodies b ys)
+      → MadeFits b (made (lazily op c s t d yes' no' after ys)) → AreTyped bodies b (lazily op c s t d yes' no' after ys)
+  typed_lazily lazy_op.And c s t d yes' no' after ys h g p m = typed_test c s t yes' no' after ys (constant s d (lit.Bool false) ∷ []) h p (λ n. ((bool, (refl, g), refl), tt)) m
+  typed_lazily lazy_op.Or c s t d yes' no' after ys h g p m = typed_test c s t yes' no' after (constant s d (lit.Bool true) ∷ []) ys h (λ n. ((bool, (refl, g), refl), tt)) p m
 
   typed_dies : (outer : Bool) (s : Span) (t : ℕ) (T : Ty) → At t T → AreTyped bodies b (dies_in outer s t)
   typed_dies true s t T h = tt
@@ -93,17 +96,10 @@ module _ (σ : List Signature) (bodies : Bodies) (b : Body) (callees : (n : ℕ)
     typed c e d xs (of_lazy {s = s} {op = op} {a = x} {t = t} yes' no' after {xs = us} {ys = vs} p q) Γ k h a m =
         let at_t = made_first b t _ _ m in
         let m' = made_rest b t _ _ m in
-        let n = made_right b us _ m' in
-        let n' = made_right b (where_true op s d vs) _ n in
         let at_d = at_type d _ _ a h.0 in
         let g : MadeFits b (made vs) → AreTyped bodies b vs = typed c _ d vs q Γ k h.4 (at_type d _ _ at_d (sym h.2)) in (
           built σ answers x Γ k.built_types h.3,
-          step us _ (typed c _ t us p Γ k h.3 at_t (made_left b us _ m')) (
-            (refl, at_type t _ _ at_t h.1),
-            tt,
-            step (where_true op s d vs) _ (typed_where_true op s d vs at_d g (made_left b (where_true op s d vs) _ n))
-                (tt, tt, step (where_false op s d vs) _ (typed_where_false op s d vs at_d g (made_left b (where_false op s d vs) _ n')) (tt, tt, tt)),
-          ),
+          step us _ (typed c _ t us p Γ k h.3 at_t (made_left b us _ m')) (typed_lazily op c s t d yes' no' after vs (at_type t _ _ at_t h.1) at_d g (made_right b us _ m')),
         )
     typed c e d xs (of_assign {ty = ty} {v = v} {e = e'} {t = t} x {xs = us} r p) Γ k h a m =
         let at_t = made_first b t _ _ m in
@@ -166,39 +162,28 @@ module _ (σ : List Signature) (bodies : Bodies) (b : Body) (callees : (n : ℕ)
         step us _ g.0
         ((w.body, ty, w.is_body, subst (OperandsHave b (map moved ts)) (sym w.params) g.1, w.answer ∙ ap Some (sym h.2), (refl, a), sym (ap length w.ground)), tt, tt)
     typed c e d xs (of_block {ty = ty} r) Γ k h a m = typed_rest c _ _ _ d xs r Γ ty k h a m
-    typed c e d xs (of_branch {ty = ty} {e = x} {t = t} yes' no' after {xs = us} {ys = vs} p q) Γ k h a m =
+    typed c e d xs (of_branch {ty = ty} {s = s} {e = x} {t = t} yes' no' after {xs = us} {ys = vs} p q) Γ k h a m =
         let at_t = made_first b t _ _ m in
-        let m' = made_rest b t _ _ m in
-        let n = made_right b us _ m' in (
+        let m' = made_rest b t _ _ m in (
           built σ answers x Γ k.built_types h.3,
-          step us _ (typed c _ t us p Γ k h.3 at_t (made_left b us _ m')) (
-            (refl, at_type t _ _ at_t h.1),
-            tt,
-            step vs _ (typed c _ d vs q Γ k h.4 (at_type d _ _ a (h.0 ∙ sym h.2)) (made_left b vs _ n))
-                (tt, tt, ((ty, (refl, a), (refl, refl, h.0)), (tt, tt, tt))),
-          ),
+          step us _ (typed c _ t us p Γ k h.3 at_t (made_left b us _ m'))
+              (typed_test c s t yes' no' after vs (put_unit s d ∷ []) (at_type t _ _ at_t h.1) (typed c _ d vs q Γ k h.4 (at_type d _ _ a (h.0 ∙ sym h.2))) (λ n. ((ty, (refl, a), (refl, refl, h.0)), tt)) (made_right b us _ m')),
         )
-    typed c e d xs (of_choice {ty = ty} {e = x} {t = t} yes' no' after {xs = us} {ys = vs} {zs = ws} p q r) Γ k h a m =
+    typed c e d xs (of_choice {ty = ty} {s = s} {e = x} {t = t} yes' no' after {xs = us} {ys = vs} {zs = ws} p q r) Γ k h a m =
         let at_t = made_first b t _ _ m in
-        let m' = made_rest b t _ _ m in
-        let n = made_right b us _ m' in
-        let n' = made_right b vs _ n in (
+        let m' = made_rest b t _ _ m in (
           built σ answers x Γ k.built_types h.3,
-          step us _ (typed c _ t us p Γ k h.3 at_t (made_left b us _ m')) (
-            (refl, at_type t _ _ at_t h.0),
-            tt,
-            step vs _ (typed c _ d vs q Γ k h.4 (at_type d _ _ a (sym h.1)) (made_left b vs _ n))
-                (tt, tt, step ws _ (typed c _ d ws r Γ k h.5 (at_type d _ _ a (sym h.2)) (made_left b ws _ n')) (tt, tt, tt)),
-          ),
+          step us _ (typed c _ t us p Γ k h.3 at_t (made_left b us _ m'))
+              (typed_test c s t yes' no' after vs ws (at_type t _ _ at_t h.0) (typed c _ d vs q Γ k h.4 (at_type d _ _ a (sym h.1))) (typed c _ d ws r Γ k h.5 (at_type d _ _ a (sym h.2))) (made_right b us _ m')),
         )
-    typed c e d xs (of_repeat {ty = ty} {is = is} {e = x} {b = y} {t = t} {u = u} head body after {xs = us} {ys = vs} p q) Γ k h a m =
+    typed c e d xs (of_repeat {ty = ty} {is = is} {e = x} {b = y} {t = t} {u = u} head body after fs {xs = us} {ys = vs} g p q) Γ k h a m =
         let at_t = made_first b t _ _ m in
         let m' = made_rest b t _ _ m in
         let n = made_right b us _ m' in
         let at_u = made_first b u _ _ n in
         let n' = made_rest b u _ _ n in (
           tt,
-          head_fits (is_local b) c (length Γ) is (scope_length b c.scope Γ k.scope) (scope_holds b c.scope Γ k.scope) h.1,
+          head_fits (is_local b) c (length Γ) is fs g (scope_length b c.scope Γ k.scope) (scope_holds b c.scope Γ k.scope) h.1,
           (
             built σ answers x Γ k.built_types h.4,
             step us _ (typed (looping c head) _ t us p Γ (inner c Γ head k) h.4 at_t (made_left b us _ m')) (

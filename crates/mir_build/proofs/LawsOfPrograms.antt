@@ -9,7 +9,7 @@ use Rattle.type_check.specs.declared.program.Signature.{Signature}
 use Rattle.type_check.specs.declared.program.TypedFunction.{TypedFunction}
 use Rattle.type_check.specs.WellTyped.{IsBuilt, FunctionFits, EachFits, signatures}
 use Rattle.mir_build.specs.Laws.{Lowers, HeadsAreThere, BodiesAreSound, BodiesAreLaidOut, LocalsHaveNames, LocalsHaveBuiltTypes, HeadsSpeakOfWhatIsThere, ContractsSpeakOfParameters}
-use Rattle.mir_build.specs.Lowering.{counted, whole, contract_of, LowersTo, EachLowersTo, no_functions, and_function}
+use Rattle.mir_build.specs.Lowering.{counted, whole, HasContract, LowersTo, EachLowersTo, no_functions, and_function}
 use Rattle.mir_build.proofs.LawTyped.{ScopeFits}
 use Rattle.mir_build.proofs.LawTypes.{Callee}
 use Rattle.mir_build.proofs.LawFunction.{answer_fits, scope_fits, body_typed, body_laid_out, start}
@@ -29,29 +29,31 @@ pub record FunctionAt (first : ℕ) (fs : List TypedFunction) (bs : List Body) (
   pub is_function : slice_get fs n ≡ Some f
   pub is_body : slice_get bs n ≡ Some b
   pub is_number : b.id ≡ first + n
-  pub is_contract : slice_get cs n ≡ Some (contract_of f)
+  pub contract : Contract
+  pub is_contract : slice_get cs n ≡ Some contract
+  pub has_contract : HasContract f contract
   pub is_gone : slice_get gones n ≡ Some gone
   pub lowers : LowersTo owner f b gone
 
 further : (first : ℕ) (f : TypedFunction) (fs : List TypedFunction) (b : Body) (bs : List Body) (c : Contract) (cs : List Contract) (g : Initialised) (gs : List Initialised) (n : ℕ) (h : TypedFunction) (k : Body)
     → FunctionAt (suc first) fs bs cs gs n h k → FunctionAt first (f ∷ fs) (b ∷ bs) (c ∷ cs) (g ∷ gs) (suc n) h k
-further first f fs b bs c cs g gs n h k w = record { owner = w.owner; gone = w.gone; is_function = w.is_function; is_body = w.is_body; is_number = omega (arith, w.is_number); is_contract = w.is_contract; is_gone = w.is_gone; lowers = w.lowers }
+further first f fs b bs c cs g gs n h k w = record { owner = w.owner; gone = w.gone; is_function = w.is_function; is_body = w.is_body; is_number = omega (arith, w.is_number); contract = w.contract; is_contract = w.is_contract; has_contract = w.has_contract; is_gone = w.is_gone; lowers = w.lowers }
 
 pub of_body : (table : List (List ℕ)) (first : ℕ) (fs : List TypedFunction) (bs : List Body) (cs : List Contract) (gones : List Initialised) → EachLowersTo table first fs bs cs gones → (n : ℕ) (b : Body) → slice_get bs n ≡ Some b → (f : TypedFunction) × FunctionAt first fs bs cs gones n f b
 of_body table first fs bs cs gones no_functions n b e = absurd (cc)
-of_body table first fs bs cs gones (and_function {f = f} {b = k} {gone = gone} owner t l d r) zero b e =
-    (f, record { owner = owner; gone = gone; is_function = refl; is_body = e; is_number = ap (λ (m : Body). m.id) (sym (some_same e)) ∙ omega (arith, d); is_contract = refl; is_gone = refl; lowers = subst (λ m. LowersTo owner f m gone) (some_same e) l })
-of_body table first fs bs cs gones (and_function {f = f} {fs = fs'} {b = k} {bs = bs'} {cs = cs'} {gone = gone} {gones = gs'} owner t l d r) (suc n) b e =
+of_body table first fs bs cs gones (and_function {f = f} {b = k} {c = c} {gone = gone} owner t l h d r) zero b e =
+    (f, record { owner = owner; gone = gone; is_function = refl; is_body = e; is_number = ap (λ (m : Body). m.id) (sym (some_same e)) ∙ omega (arith, d); contract = c; is_contract = refl; has_contract = h; is_gone = refl; lowers = subst (λ m. LowersTo owner f m gone) (some_same e) l })
+of_body table first fs bs cs gones (and_function {f = f} {fs = fs'} {b = k} {bs = bs'} {c = c} {cs = cs'} {gone = gone} {gones = gs'} owner t l h d r) (suc n) b e =
     let w = of_body table (suc first) fs' bs' cs' gs' r n b e in
-    (w.0, further first f fs' k bs' (contract_of f) cs' gone gs' n w.0 b w.1)
+    (w.0, further first f fs' k bs' c cs' gone gs' n w.0 b w.1)
 
 pub of_function : (table : List (List ℕ)) (first : ℕ) (fs : List TypedFunction) (bs : List Body) (cs : List Contract) (gones : List Initialised) → EachLowersTo table first fs bs cs gones → (n : ℕ) (f : TypedFunction) → slice_get fs n ≡ Some f → (b : Body) × FunctionAt first fs bs cs gones n f b
 of_function table first fs bs cs gones no_functions n f e = absurd (cc)
-of_function table first fs bs cs gones (and_function {f = g} {b = k} {gone = gone} owner t l d r) zero f e =
-    (k, record { owner = owner; gone = gone; is_function = e; is_body = refl; is_number = omega (arith, d); is_contract = ap Some (ap contract_of (some_same e)); is_gone = refl; lowers = subst (λ m. LowersTo owner m k gone) (some_same e) l })
-of_function table first fs bs cs gones (and_function {f = g} {fs = fs'} {b = k} {bs = bs'} {cs = cs'} {gone = gone} {gones = gs'} owner t l d r) (suc n) f e =
+of_function table first fs bs cs gones (and_function {f = g} {b = k} {c = c} {gone = gone} owner t l h d r) zero f e =
+    (k, record { owner = owner; gone = gone; is_function = e; is_body = refl; is_number = omega (arith, d); contract = c; is_contract = refl; has_contract = subst (λ m. HasContract m c) (some_same e) h; is_gone = refl; lowers = subst (λ m. LowersTo owner m k gone) (some_same e) l })
+of_function table first fs bs cs gones (and_function {f = g} {fs = fs'} {b = k} {bs = bs'} {c = c} {cs = cs'} {gone = gone} {gones = gs'} owner t l h d r) (suc n) f e =
     let w = of_function table (suc first) fs' bs' cs' gs' r n f e in
-    (w.0, further first g fs' k bs' (contract_of g) cs' gone gs' n f w.0 w.1)
+    (w.0, further first g fs' k bs' c cs' gone gs' n f w.0 w.1)
 
 pub fits_at : (σ : List Signature) (fs : List TypedFunction) → EachFits σ fs → (n : ℕ) (f : TypedFunction) → slice_get fs n ≡ Some f → FunctionFits σ f
 fits_at σ [] h n f e = absurd (cc)
@@ -175,5 +177,5 @@ heads_speak_of_what_is_there table fs bs cs gones l = (
 pub contracts_speak_of_parameters : ContractsSpeakOfParameters
 contracts_speak_of_parameters table fs bs cs gones l n b e =
     let w = found table fs bs cs gones l n b e in
-    let speaks = contract_speaks w.1.owner w.0 b w.1.gone w.1.lowers (signatures fs) (fit table fs bs cs gones l n b e) in
-    (contract_of w.0, w.1.gone, w.1.is_contract, w.1.is_gone, speaks.0, speaks.1)
+    let speaks = contract_speaks w.1.owner w.0 b w.1.gone w.1.lowers (signatures fs) (fit table fs bs cs gones l n b e) w.1.contract w.1.has_contract in
+    (w.1.contract, w.1.gone, w.1.is_contract, w.1.is_gone, speaks.0, speaks.1)

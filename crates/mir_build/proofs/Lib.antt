@@ -1,3 +1,5 @@
+pub mod Accepted
+pub mod Arguments
 pub mod LawLists
 pub mod LawFlow
 pub mod LawLayout
@@ -27,5 +29,7 @@ pub mod Rows
 pub mod Rowwise
 pub mod Statements
 pub mod Runs
+pub mod Scopes
+pub mod Shapes
 pub mod Whole
 pub mod TaskStack

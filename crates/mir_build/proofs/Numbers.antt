@@ -4,7 +4,7 @@ use Rattle.std.proofs.lemmas.Bool.Decides.{nat_tests}
 use Rattle.text_core.specs.declared.span.Span.{Span}
 use Rattle.source_kinds.specs.declared.kinds.LazyOp.TheVariants.{And, Or}
 use Rattle.type_check.specs.TypedExpr.{TypedExpr, TypedStmts, TypedExprs, integer, truth, variable, negative, denied, binary, lazy, assign, assign_value, update, update_value, call, block, branch, choice, repeat, done, last, bind, run, none, more}
-use Rattle.mir_build.specs.Text.{Title, Line, Puts, Makes, Turns, Owns, begun, made}
+use Rattle.mir_build.specs.Text.{Title, Line, Puts, Makes, Turns, Leaves, Owns, begun, made}
 use Rattle.mir_build.specs.Lowering.{Around, binds, looping, dies_in}
 use Rattle.mir_build.specs.Numbered.{into, rest, args, labels, labels_of, labels_in, locals, locals_of, locals_in, label}
 
@@ -69,6 +69,7 @@ begins x [] = 0
 begins x (Puts s ∷ xs) = begins x xs
 begins x (Makes y ty ∷ xs) = begins x xs
 begins x (Turns t b ∷ xs) = is x b.label.0 + begins x xs
+begins x (Leaves t ∷ xs) = begins x xs
 begins x (Owns l ys ∷ xs) = begins x xs
 
 pub begins-append : (x : ℕ) (xs ys : List Line) → begins x (xs ++ ys) ≡ begins x xs + begins x ys
@@ -76,6 +77,7 @@ begins-append x [] ys = omega arith
 begins-append x (Puts s ∷ xs) ys = begins-append x xs ys
 begins-append x (Makes y ty ∷ xs) ys = begins-append x xs ys
 begins-append x (Turns t b ∷ xs) ys = omega (arith, begins-append x xs ys)
+begins-append x (Leaves t ∷ xs) ys = begins-append x xs ys
 begins-append x (Owns l ns ∷ xs) ys = begins-append x xs ys
 
 no_begins : (x : ℕ) (outer : Bool) (s : Span) (t : ℕ) → begins x (dies_in outer s t) ≡ 0
@@ -135,6 +137,7 @@ count_begun l [] = refl
 count_begun l (Puts s ∷ xs) = count_begun l xs
 count_begun l (Makes x ty ∷ xs) = count_begun l xs
 count_begun l (Turns t b ∷ xs) = ap (λ n. is l b.label.0 + n) (count_begun l xs)
+count_begun l (Leaves t ∷ xs) = count_begun l xs
 count_begun l (Owns m ys ∷ xs) = count_begun l xs
 
 -- ---- how many blocks
@@ -147,6 +150,7 @@ turns-append [] ys = omega arith
 turns-append (Puts s ∷ xs) ys = turns-append xs ys
 turns-append (Makes y ty ∷ xs) ys = turns-append xs ys
 turns-append (Turns t b ∷ xs) ys = omega (arith, turns-append xs ys)
+turns-append (Leaves t ∷ xs) ys = turns-append xs ys
 turns-append (Owns l ns ∷ xs) ys = turns-append xs ys
 
 pub no_turns : (outer : Bool) (s : Span) (t : ℕ) → turns (dies_in outer s t) ≡ 0
@@ -193,6 +197,7 @@ makings-append [] ys = omega arith
 makings-append (Puts s ∷ xs) ys = makings-append xs ys
 makings-append (Makes y ty ∷ xs) ys = omega (arith, makings-append xs ys)
 makings-append (Turns t b ∷ xs) ys = makings-append xs ys
+makings-append (Leaves t ∷ xs) ys = makings-append xs ys
 makings-append (Owns l ns ∷ xs) ys = makings-append xs ys
 
 none_made : (outer : Bool) (s : Span) (t : ℕ) → makings (dies_in outer s t) ≡ 0

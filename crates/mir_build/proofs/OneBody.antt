@@ -12,10 +12,11 @@ use Rattle.mir_ir.specs.declared.terminator.TerminatorKind.TheVariants.{Return}
 use Rattle.type_check.specs.declared.program.TypedFunction.{TypedFunction}
 use Rattle.type_check.specs.TypedExprView.{span_of}
 use Rattle.mir_build.specs.Laws.{ProgramsLowerInOneWay, BlocksAreCounted}
-use Rattle.mir_build.specs.Text.{Line, fresh, close, closed, left_open, made, owned}
-use Rattle.mir_build.specs.Lowering.{numbers, counted, paired, all_locals, local_name, entry_title, around_body, gone_at, ends, contract_of, named_body, LowersTo, EachLowersTo, no_functions, and_function}
+use Rattle.mir_build.specs.Text.{Line, Leaves, fresh, closed, made, owned}
+use Rattle.mir_build.specs.Lowering.{numbers, counted, paired, all_locals, local_name, entry_title, around_body, gone_at, ends, named_body, LowersTo, EachLowersTo, no_functions, and_function}
 use Rattle.mir_build.specs.Numbered.{labels, label}
 use Rattle.mir_build.specs.Whole.{text_of_body}
+use Rattle.mir_build.proofs.Accepted.{contract_is}
 use Rattle.mir_build.proofs.Numbers.{count, labels_begun, within_once, within_one, within_split, count_begun}
 use Rattle.mir_build.proofs.Order.{InOrder}
 use Rattle.mir_build.proofs.Following.{From, from_range, from_count, behind_paired, in_order_from}
@@ -49,7 +50,7 @@ abbrev locals_with : TypedFunction → List Line → List Ty
 locals_with f xs = f.signature.answer ∷ (f.signature.params ++ types xs)
 
 abbrev blocks_with : TypedFunction → Label → List Line → List (Label × Block)
-blocks_with f l xs = closed (fresh (entry_title l)) xs ++ close (left_open (fresh (entry_title l)) xs) (ends (span_of f.body) Return) ∷ []
+blocks_with f l xs = closed (fresh (entry_title l)) (xs ++ Leaves (ends (span_of f.body) Return) ∷ [])
 
 abbrev the_body : ℕ → List ℕ → TypedFunction → Body
 the_body id owner f = record {
@@ -130,23 +131,22 @@ module _ (owner : List ℕ) (f : TypedFunction) (b : Body) (gone : Initialised) 
 
   blocks_count : length b.blocks ≡ 1 + labels f.body
   blocks_count =
-      let o = fresh (entry_title b.entry) in
-      let e : length (blocks_with f b.entry l.text) ≡ length (closed o l.text) + 1 = length-append (closed o l.text) (close (left_open o l.text) (ends (span_of f.body) Return) ∷ []) in
-      omega (arith, ap length l.blocks, e, closed_turns l.text o, turn_count_body (around_body f) f.body l.text l.into)
+      omega (arith, ap length l.blocks, closed_turns l.text (fresh (entry_title b.entry)) (ends (span_of f.body) Return), turn_count_body (around_body f) f.body l.text l.into)
 
 -- ---- programs
 
 each_lowers_in_one_way : (table : List (List ℕ)) (n : ℕ) (fs : List TypedFunction) (bs bs' : List Body) (cs cs' : List Contract) (gones gones' : List Initialised)
     → EachLowersTo table n fs bs cs gones → EachLowersTo table n fs bs' cs' gones' → (bs ≡ bs') × (cs ≡ cs') × (gones ≡ gones')
 each_lowers_in_one_way table n fs bs bs' cs cs' gones gones' no_functions no_functions = (refl, refl, refl)
-each_lowers_in_one_way table n fs bs bs' cs cs' gones gones' (and_function {f = f} {fs = gs} {b = b} {bs = ks} {cs = ds} {gone = g} {gones = hs} o t l d r)
-    (and_function {b = b'} {bs = ks'} {cs = ds'} {gone = g'} {gones = hs'} o' t' l' d' r') =
+each_lowers_in_one_way table n fs bs bs' cs cs' gones gones' (and_function {f = f} {fs = gs} {b = b} {bs = ks} {c = c} {cs = ds} {gone = g} {gones = hs} o t l h d r)
+    (and_function {b = b'} {bs = ks'} {c = c'} {cs = ds'} {gone = g'} {gones = hs'} o' t' l' h' d' r') =
     let owners : o ≡ o' = some_same (sym t ∙ t') in
     let ids : b.id ≡ b'.id = d ∙ sym d' in
     let bodies : b ≡ b' = body_is o f b g l ∙ (λ i. the_body (ids i) (owners i) f) ∙ sym (body_is o' f b' g' l') in
+    let contract : c ≡ c' = contract_is f c h ∙ sym (contract_is f c' h') in
     let gone : g ≡ g' = gone_is o f b g l ∙ sym (gone_is o' f b' g' l') in
     let w = each_lowers_in_one_way table (suc n) gs ks ks' ds ds' hs hs' r r' in
-    (λ i. bodies i ∷ w.0 i, λ i. contract_of f ∷ w.1 i, λ i. gone i ∷ w.2 i)
+    (λ i. bodies i ∷ w.0 i, λ i. contract i ∷ w.1 i, λ i. gone i ∷ w.2 i)
 
 pub programs_lower_in_one_way : ProgramsLowerInOneWay
 programs_lower_in_one_way table fs bs bs' cs cs' gones gones' l l' =
@@ -160,10 +160,10 @@ programs_lower_in_one_way table fs bs bs' cs cs' gones gones' l l' =
 few_blocks : (table : List (List ℕ)) (first : ℕ) (fs : List TypedFunction) (bs : List Body) (cs : List Contract) (gones : List Initialised) → EachLowersTo table first fs bs cs gones
     → (bound : ℕ) → All (λ (b : Body). length b.blocks ≤ bound) bs → (n : ℕ) (f : TypedFunction) → slice_get fs n ≡ Some f → 1 + labels f.body ≤ bound
 few_blocks table first fs bs cs gones no_functions bound h n f e = absurd (cc)
-few_blocks table first fs bs cs gones (and_function {f = g} {b = b} {bs = ks} {gone = gone} o t l d r) bound h zero f e =
+few_blocks table first fs bs cs gones (and_function {f = g} {b = b} {bs = ks} {gone = gone} o t l c d r) bound h zero f e =
     let few : length b.blocks ≤ bound = All-head (λ (k : Body). length k.blocks ≤ bound) b ks h in
     subst (λ (x : TypedFunction). 1 + labels x.body ≤ bound) (some_same e) (omega (arith, few, blocks_count o g b gone l))
-few_blocks table first fs bs cs gones (and_function {fs = gs} {b = b} {bs = ks} {cs = ds} {gones = hs} o t l d r) bound h (suc n) f e =
+few_blocks table first fs bs cs gones (and_function {fs = gs} {b = b} {bs = ks} {cs = ds} {gones = hs} o t l c d r) bound h (suc n) f e =
     few_blocks table (suc first) gs ks ds hs r bound (All-tail (λ (k : Body). length k.blocks ≤ bound) b ks h) n f e
 
 pub blocks_are_counted : BlocksAreCounted

@@ -11,11 +11,12 @@ use Rattle.mir_ir.specs.declared.terminator.TerminatorKind.TheVariants.{Goto, If
 use Rattle.type_check.specs.TypedExpr.{TypedExpr, TypedStmts, TypedExprs, block}
 use Rattle.type_check.specs.TypedExprView.{ty_of}
 use Rattle.mir_build.specs.Text.{Line, Makes, Turns, Owns, made}
-use Rattle.mir_build.specs.Lowering.{Around, binds, looping, at, at_head, head_of, whole, puts, puts_at, put_unit, copied, moved, ends, dies_in, numbers, where_true, where_false, Into, of_integer, of_truth, of_variable, of_negative, of_denied, of_binary, of_lazy, of_assign}
+use Rattle.mir_build.specs.Lowering.{Around, binds, looping, at, at_head, head_of, whole, puts, puts_at, put_unit, copied, moved, ends, dies_in, numbers, lazily, Into, of_integer, of_truth, of_variable, of_negative, of_denied, of_binary, of_lazy, of_assign}
 use Rattle.mir_build.specs.Lowering.{of_assign_value, of_update, of_update_value, of_call, of_block, of_branch, of_choice, of_repeat, Rest, of_done, of_last, of_bind, of_run, Args, of_none, of_more, IntoBody, of_outermost, of_other, is_block, named, named_rest, named_args, named_body}
 use Rattle.mir_build.specs.Numbered.{into, rest, args, body_text, labels, locals, locals_in, temporaries, label, variable_place}
 use Rattle.mir_build.proofs.Numbers.{makings, making, args_making}
 use Rattle.mir_build.proofs.Order.{InOrder, numbers_of}
+use Rattle.mir_build.proofs.Accepted.{formulas_are}
 use Rattle.mir_build.proofs.Rows.{own_locals}
 use Rattle.mir_build.proofs.Following.{From, from_left, three, order_left, order_right, order_lazy}
 use Rattle.mir_build.proofs.Rowwise.{labels_behind, labels_behind_args}
@@ -53,9 +54,8 @@ mutual
       let k = three m yes'.0 no'.0 after.0 (named q) (labels_behind p l (yes'.0 ∷ no'.0 ∷ after.0 ∷ named q) n) in
       let x = one_text c a t' us p l (t + 1) (from_left l (named p) _ n) (order_left (t + 1) us _ o.1) ∙ ap (into a c l (t + 1)) o.0 in
       let u = t + 1 + locals a in
-      let y = one_text c b d vs q (m + 3) u k.3 (order_lazy op s d u vs _ _ _ _ (behind a c l (t + 1) t us _ x o.1)) in
-      λ i. Makes (o.0 i) (ty_of a) ∷ (x i ++ Turns (ends s (If (moved (o.0 i)) (label (k.0 i)) (label (k.1 i)))) (at c (label (k.0 i))) ∷ (where_true op s d (y i)
-      ++ Turns (ends s (Goto (label (k.2 i)))) (at c (label (k.1 i))) ∷ (where_false op s d (y i) ++ Turns (ends s (Goto (label (k.2 i)))) (at c (label (k.2 i))) ∷ [])))
+      let y = one_text c b d vs q (m + 3) u k.3 (order_lazy op c s t' d u yes' no' after vs (behind a c l (t + 1) t us _ x o.1)) in
+      λ i. Makes (o.0 i) (ty_of a) ∷ (x i ++ lazily op c s (o.0 i) d (label (k.0 i)) (label (k.1 i)) (label (k.2 i)) (y i))
   one_text c e d xs (of_assign {s = s} {v = v} {e = a} {t = t'} z {xs = us} q p) l t n o =
       let x = one_text c a t' us p l (t + 1) n (order_left (t + 1) us _ o.1) ∙ ap (into a c l (t + 1)) o.0 in
       λ i. Makes (o.0 i) (ty_of a) ∷ (x i ++ puts_at s (found c.scope v z q i) (Use (moved (o.0 i))) ∷ put_unit s d ∷ [])
@@ -99,7 +99,8 @@ mutual
       let z = one_text c b' d ws r (m + 3 + labels b) (u + locals b) (labels_behind q (m + 3) (named r) k.3) (order_left (u + locals b) ws _ (behind b c (m + 3) u d vs _ y g)) in
       λ i. Makes (o.0 i) (ty_of a) ∷ (x i ++ Turns (ends s (If (moved (o.0 i)) (label (k.0 i)) (label (k.1 i)))) (at c (label (k.0 i))) ∷ (y i
       ++ Turns (ends s (Goto (label (k.2 i)))) (at c (label (k.1 i))) ∷ (z i ++ Turns (ends s (Goto (label (k.2 i)))) (at c (label (k.2 i))) ∷ [])))
-  one_text c e d xs (of_repeat {s = s} {is = is} {e = a} {b = b} {t = t'} {u = u'} head body after {xs = us} {ys = vs} p q) l t n o =
+  one_text c e d xs (of_repeat {s = s} {is = is} {e = a} {b = b} {t = t'} {u = u'} head body after fs {xs = us} {ys = vs} g p q) l t n o =
+      let f = formulas_are is fs g in
       let k = three l head.0 body.0 after.0 (named p ++ named q) n in
       let inside = looping c (label l) in
       let x = one_text (looping c head) a t' us p (l + 3) (t + 1) (from_left (l + 3) (named p) (named q) k.3) (order_left (t + 1) us _ o.1) ∙ (λ i. into a (looping c (label (k.0 i))) (l + 3) (t + 1) (o.0 i)) in
@@ -107,7 +108,7 @@ mutual
       let u = t + 1 + locals a in
       let y = one_text (looping c head) b u' vs q (l + 3 + labels a) (u + 1) (labels_behind p (l + 3) (named q) k.3) (order_left (u + 1) vs _ r.1) ∙ (λ i. into b (looping c (label (k.0 i))) (l + 3 + labels a) (u + 1) (r.0 i)) in
       let own = (λ i. o.0 i ∷ (numbers (made (x i)) ++ r.0 i ∷ numbers (made (y i)))) ∙ own_locals t (locals a) (locals b) _ _ (numbers_of a inside (l + 3) (t + 1) t) (numbers_of b inside (l + 3 + labels a) (u + 1) u) in
-      λ i. Turns (ends s (Goto (label (k.0 i)))) (at_head (looping c (label (k.0 i))) (label (k.0 i)) (head_of c is)) ∷ Makes (o.0 i) (ty_of a) ∷ (x i
+      λ i. Turns (ends s (Goto (label (k.0 i)))) (at_head (looping c (label (k.0 i))) (label (k.0 i)) (head_of c (f i))) ∷ Makes (o.0 i) (ty_of a) ∷ (x i
       ++ Turns (ends s (If (moved (o.0 i)) (label (k.1 i)) (label (k.2 i)))) (at (looping c (label (k.0 i))) (label (k.1 i))) ∷ Makes (r.0 i) (ty_of b)
       ∷ (y i ++ Turns (ends s (Goto (label (k.0 i)))) (at c (label (k.2 i))) ∷ Owns (label (k.0 i)) (own i) ∷ put_unit s d ∷ []))
 

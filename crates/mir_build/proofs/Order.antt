@@ -4,7 +4,7 @@ use Rattle.std.specs.List.{range_with_len}
 use Rattle.text_core.specs.declared.span.Span.{Span}
 use Rattle.source_kinds.specs.declared.kinds.LazyOp.TheVariants.{And, Or}
 use Rattle.type_check.specs.TypedExpr.{TypedExpr, TypedStmts, TypedExprs, integer, truth, variable, negative, denied, binary, lazy, assign, assign_value, update, update_value, call, block, branch, choice, repeat, done, last, bind, run, none, more}
-use Rattle.mir_build.specs.Text.{Line, Puts, Makes, Turns, Owns, made}
+use Rattle.mir_build.specs.Text.{Line, Puts, Makes, Turns, Leaves, Owns, made}
 use Rattle.mir_build.specs.Lowering.{Around, binds, dies_in, numbers}
 use Rattle.mir_build.specs.Numbered.{into, rest, args, labels, locals}
 use Rattle.mir_build.proofs.Numbers.{makings, making}
@@ -15,6 +15,7 @@ InOrder n [] = Unit {0}
 InOrder n (Puts s ∷ xs) = InOrder n xs
 InOrder n (Makes x ty ∷ xs) = (x ≡ n) × InOrder (n + 1) xs
 InOrder n (Turns t b ∷ xs) = InOrder n xs
+InOrder n (Leaves t ∷ xs) = InOrder n xs
 InOrder n (Owns l ys ∷ xs) = InOrder n xs
 
 same_order : (m n : ℕ) (xs : List Line) → m ≡ n → InOrder m xs → InOrder n xs
@@ -25,6 +26,7 @@ then_in_order n m [] ys q h k = same_order m n ys (omega (arith, q)) k
 then_in_order n m (Puts s ∷ xs) ys q h k = then_in_order n m xs ys q h k
 then_in_order n m (Makes x ty ∷ xs) ys q h k = (h.0, then_in_order (n + 1) m xs ys (omega (arith, q)) h.1 k)
 then_in_order n m (Turns t b ∷ xs) ys q h k = then_in_order n m xs ys q h k
+then_in_order n m (Leaves t ∷ xs) ys q h k = then_in_order n m xs ys q h k
 then_in_order n m (Owns l ns ∷ xs) ys q h k = then_in_order n m xs ys q h k
 
 -- behind the text of an expression, which makes locals from t on
@@ -71,6 +73,7 @@ numbers_in_order n [] h = refl
 numbers_in_order n (Puts s ∷ xs) h = numbers_in_order n xs h
 numbers_in_order n (Makes x ty ∷ xs) h = ap (λ y. y ∷ numbers (made xs)) h.0 ∙ ap (λ ys. n ∷ ys) (numbers_in_order (n + 1) xs h.1)
 numbers_in_order n (Turns t b ∷ xs) h = numbers_in_order n xs h
+numbers_in_order n (Leaves t ∷ xs) h = numbers_in_order n xs h
 numbers_in_order n (Owns l ys ∷ xs) h = numbers_in_order n xs h
 
 pub numbers_of : (e : TypedExpr) (c : Around) (l t d : ℕ) → numbers (made (into e c l t d)) ≡ range_with_len t (locals e)

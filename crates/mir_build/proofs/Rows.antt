@@ -1,5 +1,5 @@
--- Where each variable is in scope, the numbered text is a text of the rows, which name their labels in order.
-use Rattle.std.proofs.Common.{◌≡◌, refl, ap, sym, ℕ, zero, suc, ◌+◌, ◌-◌, Bool, true, false, List, [], ◌∷◌, ◌++◌, length, length-append, Some, arith}
+-- Where each variable is in scope and no invariant is refused, the numbered text is a text of the rows, which name their labels in order.
+use Rattle.std.proofs.Common.{◌≡◌, refl, ap, sym, ℕ, zero, suc, ◌+◌, ◌-◌, Bool, true, false, List, [], ◌∷◌, ◌++◌, length, length-append, map, Option, Some, None, arith}
 use Rattle.std.specs.List.{slice_get, range_with_len}
 use Rattle.std.proofs.lemmas.Option.{slice_get_within, slice_get-get_or}
 use Rattle.text_core.specs.declared.span.Span.{Span}
@@ -9,11 +9,14 @@ use Rattle.type_check.specs.declared.assertion.Assertion.{Assertion}
 use Rattle.type_check.specs.declared.program.Signature.{Signature}
 use Rattle.type_check.specs.TypedExpr.{TypedExpr, TypedStmts, TypedExprs, integer, truth, variable, negative, denied, binary, lazy, assign, assign_value, update, update_value, call, block, branch, choice, repeat, done, last, bind, run, none, more}
 use Rattle.type_check.specs.TypedExprView.{ty_of}
+use Rattle.type_check.specs.FirstBad.{bad_among, bad_in, bad_in_stmts, bad_in_exprs}
+use Rattle.type_check.specs.Names.{or_else}
 use Rattle.type_check.specs.WellTyped.{IsWellTyped, StatementsFit, ArgumentsFit}
-use Rattle.mir_build.specs.Lowering.{Around, whole, binds, looping, Into, of_integer, of_truth, of_variable, of_negative, of_denied, of_binary, of_lazy, of_assign, of_assign_value, of_update, of_update_value, of_call, of_block, of_branch}
+use Rattle.mir_build.specs.Lowering.{Around, accepted, whole, binds, looping, Into, of_integer, of_truth, of_variable, of_negative, of_denied, of_binary, of_lazy, of_assign, of_assign_value, of_update, of_update_value, of_call, of_block, of_branch}
 use Rattle.mir_build.specs.Lowering.{of_choice, of_repeat, Rest, of_done, of_last, of_bind, of_run, Args, of_none, of_more, IntoBody, of_outermost, of_other, named, named_rest, named_args, named_body}
 use Rattle.mir_build.specs.Text.{Line}
-use Rattle.mir_build.specs.Numbered.{into, rest, args, body_text, labels, labels_in, locals, temporaries, label, variable_place, between}
+use Rattle.mir_build.specs.Numbered.{formulas, into, rest, args, body_text, labels, labels_in, locals, temporaries, label, variable_place, between}
+use Rattle.mir_build.proofs.Accepted.{first_none, second_none, all_accepted}
 use Rattle.mir_build.proofs.Order.{numbers_of}
 use Rattle.mir_build.proofs.Following.{From, then_three}
 use Rattle.mir_build.proofs.Rowwise.{labels_then, labels_then_args}
@@ -52,104 +55,105 @@ abbrev pub ArgsLowered : Around → TypedExprs → List ℕ → ℕ → List Lin
 ArgsLowered c es ts l xs = (p : Args c es ts xs) × From l (named_args p)
 
 -- a loop, by its condition and its body
-looped : (ty : Ty) (s : Span) (is : List Assertion) (e b : TypedExpr) (c : Around) (l t d : ℕ) → Lowered (looping c (label l)) e t (l + 3) (into e (looping c (label l)) (l + 3) (t + 1) t)
+looped : (ty : Ty) (s : Span) (is : List Assertion) (e b : TypedExpr) (c : Around) (l t d : ℕ) → is ≡ map accepted (formulas is) → Lowered (looping c (label l)) e t (l + 3) (into e (looping c (label l)) (l + 3) (t + 1) t)
     → Lowered (looping c (label l)) b (t + 1 + locals e) (l + 3 + labels e) (into b (looping c (label l)) (l + 3 + labels e) (t + 1 + locals e + 1) (t + 1 + locals e))
     → Lowered c (repeat ty s is e b) d l (into (repeat ty s is e b) c l t d)
-looped ty s is e b c l t d p q =
-    let row : Lowered c (repeat ty s is e b) d l _ = (of_repeat (label l) (label (l + 1)) (label (l + 2)) p.0 q.0, then_three l (named p.0 ++ named q.0) (labels_then p.0 (l + 3) (named q.0) p.1 q.1)) in
+looped ty s is e b c l t d g p q =
+    let row : Lowered c (repeat ty s is e b) d l _ = (of_repeat (label l) (label (l + 1)) (label (l + 2)) (formulas is) g p.0 q.0, then_three l (named p.0 ++ named q.0) (labels_then p.0 (l + 3) (named q.0) p.1 q.1)) in
     let own = own_locals t (locals e) (locals b) _ _ (numbers_of e (looping c (label l)) (l + 3) (t + 1) t) (numbers_of b (looping c (label l)) (l + 3 + labels e) (t + 1 + locals e + 1) (t + 1 + locals e)) in
     rw own at row
 
 mutual
-  pub lowers : (σ : List Signature) (Γ : List Ty) (e : TypedExpr) (c : Around) (l t d : ℕ) → IsFor Γ c.scope → IsWellTyped σ Γ e → Lowered c e d l (into e c l t d)
-  lowers σ Γ (integer ty s z k) c l t d h w = (of_integer, tt)
-  lowers σ Γ (truth ty s b) c l t d h w = (of_truth, tt)
-  lowers σ Γ (variable ty s v) c l t d h w = (of_variable _ (in_scope Γ c.scope v ty h w), tt)
-  lowers σ Γ (negative ty s e) c l t d h w =
-      let p = lowers σ Γ e c l (t + 1) t h w.4 in
+  pub lowers : (σ : List Signature) (Γ : List Ty) (e : TypedExpr) (c : Around) (l t d : ℕ) → IsFor Γ c.scope → IsWellTyped σ Γ e → bad_in e ≡ None → Lowered c e d l (into e c l t d)
+  lowers σ Γ (integer ty s z k) c l t d h w g = (of_integer, tt)
+  lowers σ Γ (truth ty s b) c l t d h w g = (of_truth, tt)
+  lowers σ Γ (variable ty s v) c l t d h w g = (of_variable _ (in_scope Γ c.scope v ty h w), tt)
+  lowers σ Γ (negative ty s e) c l t d h w g =
+      let p = lowers σ Γ e c l (t + 1) t h w.4 g in
       (of_negative p.0, p.1)
-  lowers σ Γ (denied ty s e) c l t d h w =
-      let p = lowers σ Γ e c l (t + 1) t h w.2 in
+  lowers σ Γ (denied ty s e) c l t d h w g =
+      let p = lowers σ Γ e c l (t + 1) t h w.2 g in
       (of_denied p.0, p.1)
-  lowers σ Γ (binary ty s op a b) c l t d h w =
+  lowers σ Γ (binary ty s op a b) c l t d h w g =
       let u = t + 1 + locals a in
-      let p = lowers σ Γ a c l (t + 1) t h w.2 in
-      let q = lowers σ Γ b c (l + labels a) (u + 1) u h w.3 in
+      let p = lowers σ Γ a c l (t + 1) t h w.2 (first_none (bad_in a) (bad_in b) g) in
+      let q = lowers σ Γ b c (l + labels a) (u + 1) u h w.3 (second_none (bad_in a) (bad_in b) g) in
       (of_binary p.0 q.0, labels_then p.0 l (named q.0) p.1 q.1)
-  lowers σ Γ (lazy ty s op a b) c l t d h w =
+  lowers σ Γ (lazy ty s op a b) c l t d h w g =
       let m = l + labels a in
-      let p = lowers σ Γ a c l (t + 1) t h w.3 in
-      let q = lowers σ Γ b c (m + 3) (t + 1 + locals a) d h w.4 in
+      let p = lowers σ Γ a c l (t + 1) t h w.3 (first_none (bad_in a) (bad_in b) g) in
+      let q = lowers σ Γ b c (m + 3) (t + 1 + locals a) d h w.4 (second_none (bad_in a) (bad_in b) g) in
       (of_lazy (label m) (label (m + 1)) (label (m + 2)) p.0 q.0, labels_then p.0 l (m ∷ (m + 1) ∷ (m + 2) ∷ named q.0) p.1 (then_three m (named q.0) q.1))
-  lowers σ Γ (assign ty s v e) c l t d h w =
-      let p = lowers σ Γ e c l (t + 1) t h w.2 in
+  lowers σ Γ (assign ty s v e) c l t d h w g =
+      let p = lowers σ Γ e c l (t + 1) t h w.2 g in
       (of_assign _ (in_scope Γ c.scope v _ h w.1) p.0, p.1)
-  lowers σ Γ (assign_value ty s a e) c l t d h w =
+  lowers σ Γ (assign_value ty s a e) c l t d h w g =
       let u = t + 1 + locals e in
-      let p = lowers σ Γ e c l (t + 1) t h w.3 in
-      let q = lowers σ Γ a c (l + labels e) (u + 1) u h w.2 in
+      let p = lowers σ Γ e c l (t + 1) t h w.3 (second_none (bad_in a) (bad_in e) g) in
+      let q = lowers σ Γ a c (l + labels e) (u + 1) u h w.2 (first_none (bad_in a) (bad_in e) g) in
       (of_assign_value p.0 q.0, labels_then p.0 l (named q.0) p.1 q.1)
-  lowers σ Γ (update ty s op v e) c l t d h w =
-      let p = lowers σ Γ e c l (t + 1) t h w.3 in
+  lowers σ Γ (update ty s op v e) c l t d h w g =
+      let p = lowers σ Γ e c l (t + 1) t h w.3 g in
       (of_update _ _ (in_scope Γ c.scope v _ h w.1) p.0, p.1)
-  lowers σ Γ (update_value ty s op a e) c l t d h w =
+  lowers σ Γ (update_value ty s op a e) c l t d h w g =
       let u = t + 1 + locals e in
-      let p = lowers σ Γ e c l (t + 1) t h w.4 in
-      let q = lowers σ Γ a c (l + labels e) (u + 1) u h w.3 in
+      let p = lowers σ Γ e c l (t + 1) t h w.4 (second_none (bad_in a) (bad_in e) g) in
+      let q = lowers σ Γ a c (l + labels e) (u + 1) u h w.3 (first_none (bad_in a) (bad_in e) g) in
       (of_update_value _ p.0 q.0, labels_then p.0 l (named q.0) p.1 q.1)
-  lowers σ Γ (call ty s f es) c l t d h w =
+  lowers σ Γ (call ty s f es) c l t d h w g =
       let m = l + labels_in es in
-      let p = arguments σ Γ es c l t _ h w.3 in
+      let p = arguments σ Γ es c l t _ h w.3 g in
       (of_call (label m) p.0, labels_then_args p.0 l (m ∷ []) p.1 (refl, tt))
-  lowers σ Γ (block ty s ss) c l t d h w =
-      let p = rests σ Γ ty ss false s c l t d h w in
+  lowers σ Γ (block ty s ss) c l t d h w g =
+      let p = rests σ Γ ty ss false s c l t d h w g in
       (of_block p.0, p.1)
-  lowers σ Γ (branch ty s e a) c l t d h w =
+  lowers σ Γ (branch ty s e a) c l t d h w g =
       let m = l + labels e in
-      let p = lowers σ Γ e c l (t + 1) t h w.3 in
-      let q = lowers σ Γ a c (m + 3) (t + 1 + locals e) d h w.4 in
+      let p = lowers σ Γ e c l (t + 1) t h w.3 (first_none (bad_in e) (bad_in a) g) in
+      let q = lowers σ Γ a c (m + 3) (t + 1 + locals e) d h w.4 (second_none (bad_in e) (bad_in a) g) in
       (of_branch (label m) (label (m + 1)) (label (m + 2)) p.0 q.0, labels_then p.0 l (m ∷ (m + 1) ∷ (m + 2) ∷ named q.0) p.1 (then_three m (named q.0) q.1))
-  lowers σ Γ (choice ty s e a b) c l t d h w =
+  lowers σ Γ (choice ty s e a b) c l t d h w g =
       let m = l + labels e in
       let u = t + 1 + locals e in
-      let p = lowers σ Γ e c l (t + 1) t h w.3 in
-      let q = lowers σ Γ a c (m + 3) u d h w.4 in
-      let r = lowers σ Γ b c (m + 3 + labels a) (u + locals a) d h w.5 in
+      let p = lowers σ Γ e c l (t + 1) t h w.3 (first_none (bad_in e) (or_else (bad_in a) (bad_in b)) g) in
+      let q = lowers σ Γ a c (m + 3) u d h w.4 (first_none (bad_in a) (bad_in b) (second_none (bad_in e) (or_else (bad_in a) (bad_in b)) g)) in
+      let r = lowers σ Γ b c (m + 3 + labels a) (u + locals a) d h w.5 (second_none (bad_in a) (bad_in b) (second_none (bad_in e) (or_else (bad_in a) (bad_in b)) g)) in
       let ns = named q.0 ++ named r.0 in
       (of_choice (label m) (label (m + 1)) (label (m + 2)) p.0 q.0 r.0, labels_then p.0 l (m ∷ (m + 1) ∷ (m + 2) ∷ ns) p.1 (then_three m ns (labels_then q.0 (m + 3) (named r.0) q.1 r.1)))
-  lowers σ Γ (repeat ty s is e b) c l t d h w =
+  lowers σ Γ (repeat ty s is e b) c l t d h w g =
       let inside = looping c (label l) in
       let u = t + 1 + locals e in
-      let p = lowers σ Γ e inside (l + 3) (t + 1) t h w.4 in
-      let q = lowers σ Γ b inside (l + 3 + labels e) (u + 1) u h w.5 in
-      looped ty s is e b c l t d p q
+      let p = lowers σ Γ e inside (l + 3) (t + 1) t h w.4 (first_none (bad_in e) (bad_in b) (second_none (bad_among is) (or_else (bad_in e) (bad_in b)) g)) in
+      let q = lowers σ Γ b inside (l + 3 + labels e) (u + 1) u h w.5 (second_none (bad_in e) (bad_in b) (second_none (bad_among is) (or_else (bad_in e) (bad_in b)) g)) in
+      looped ty s is e b c l t d (all_accepted is (first_none (bad_among is) (or_else (bad_in e) (bad_in b)) g)) p q
 
-  pub rests : (σ : List Signature) (Γ : List Ty) (ty : Ty) (ss : TypedStmts) (outer : Bool) (s : Span) (c : Around) (l t d : ℕ) → IsFor Γ c.scope → StatementsFit σ Γ ty ss → RestLowered c outer s ss d l (rest ss outer s c l t d)
-  rests σ Γ ty done outer s c l t d h w = (of_done, tt)
-  rests σ Γ ty (last e) outer s c l t d h w =
-      let p = lowers σ Γ e c l t d h w.1 in
+  pub rests : (σ : List Signature) (Γ : List Ty) (ty : Ty) (ss : TypedStmts) (outer : Bool) (s : Span) (c : Around) (l t d : ℕ) → IsFor Γ c.scope → StatementsFit σ Γ ty ss → bad_in_stmts ss ≡ None
+      → RestLowered c outer s ss d l (rest ss outer s c l t d)
+  rests σ Γ ty done outer s c l t d h w g = (of_done, tt)
+  rests σ Γ ty (last e) outer s c l t d h w g =
+      let p = lowers σ Γ e c l t d h w.1 g in
       (of_last p.0, p.1)
-  rests σ Γ ty (bind e ss) outer s c l t d h w =
-      let p = lowers σ Γ e c l (t + 1) t h w.0 in
-      let q = rests σ _ ty ss outer s (binds c t) (l + labels e) (t + 1 + locals e) d (one_more Γ c.scope (ty_of e) (whole t) h) w.1 in
+  rests σ Γ ty (bind e ss) outer s c l t d h w g =
+      let p = lowers σ Γ e c l (t + 1) t h w.0 (first_none (bad_in e) (bad_in_stmts ss) g) in
+      let q = rests σ _ ty ss outer s (binds c t) (l + labels e) (t + 1 + locals e) d (one_more Γ c.scope (ty_of e) (whole t) h) w.1 (second_none (bad_in e) (bad_in_stmts ss) g) in
       (of_bind p.0 q.0, labels_then p.0 l (named_rest q.0) p.1 q.1)
-  rests σ Γ ty (run e ss) outer s c l t d h w =
-      let p = lowers σ Γ e c l (t + 1) t h w.0 in
-      let q = rests σ Γ ty ss outer s c (l + labels e) (t + 1 + locals e) d h w.1 in
+  rests σ Γ ty (run e ss) outer s c l t d h w g =
+      let p = lowers σ Γ e c l (t + 1) t h w.0 (first_none (bad_in e) (bad_in_stmts ss) g) in
+      let q = rests σ Γ ty ss outer s c (l + labels e) (t + 1 + locals e) d h w.1 (second_none (bad_in e) (bad_in_stmts ss) g) in
       (of_run p.0 q.0, labels_then p.0 l (named_rest q.0) p.1 q.1)
 
-  arguments : (σ : List Signature) (Γ : List Ty) (es : TypedExprs) (c : Around) (l t : ℕ) (ts : List Ty) → IsFor Γ c.scope → ArgumentsFit σ Γ es ts → ArgsLowered c es (temporaries es t) l (args es c l t)
-  arguments σ Γ none c l t ts h w = (of_none, tt)
-  arguments σ Γ (more e es) c l t [] h w = absurd w
-  arguments σ Γ (more e es) c l t (ty ∷ ts) h w =
-      let p = lowers σ Γ e c l (t + 1) t h w.1 in
-      let q = arguments σ Γ es c (l + labels e) (t + 1 + locals e) ts h w.2 in
+  arguments : (σ : List Signature) (Γ : List Ty) (es : TypedExprs) (c : Around) (l t : ℕ) (ts : List Ty) → IsFor Γ c.scope → ArgumentsFit σ Γ es ts → bad_in_exprs es ≡ None → ArgsLowered c es (temporaries es t) l (args es c l t)
+  arguments σ Γ none c l t ts h w g = (of_none, tt)
+  arguments σ Γ (more e es) c l t [] h w g = absurd w
+  arguments σ Γ (more e es) c l t (ty ∷ ts) h w g =
+      let p = lowers σ Γ e c l (t + 1) t h w.1 (first_none (bad_in e) (bad_in_exprs es) g) in
+      let q = arguments σ Γ es c (l + labels e) (t + 1 + locals e) ts h w.2 (second_none (bad_in e) (bad_in_exprs es) g) in
       (of_more p.0 q.0, labels_then p.0 l (named_args q.0) p.1 q.1)
 
-pub lowers_body : (σ : List Signature) (Γ : List Ty) (e : TypedExpr) (c : Around) (l t : ℕ) → IsFor Γ c.scope → IsWellTyped σ Γ e → (p : IntoBody c e (body_text e c l t)) × From l (named_body p)
-lowers_body σ Γ (block ty s ss) c l t h w =
-    let p = rests σ Γ ty ss true s c l t 0 h w in
+pub lowers_body : (σ : List Signature) (Γ : List Ty) (e : TypedExpr) (c : Around) (l t : ℕ) → IsFor Γ c.scope → IsWellTyped σ Γ e → bad_in e ≡ None → (p : IntoBody c e (body_text e c l t)) × From l (named_body p)
+lowers_body σ Γ (block ty s ss) c l t h w g =
+    let p = rests σ Γ ty ss true s c l t 0 h w g in
     (of_outermost p.0, p.1)
-lowers_body σ Γ e c l t h w =
-    let p = lowers σ Γ e c l t 0 h w in
+lowers_body σ Γ e c l t h w g =
+    let p = lowers σ Γ e c l t 0 h w g in
     (of_other refl p.0, p.1)

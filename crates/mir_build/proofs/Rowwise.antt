@@ -1,11 +1,12 @@
 -- By the rows: how many labels a text's rows name, and how many blocks it begins.
 use Rattle.std.proofs.Common.{◌≡◌, refl, ℕ, ◌+◌, Bool, List, [], ◌∷◌, ◌++◌, length, length-append, arith}
 use Rattle.text_core.specs.declared.span.Span.{Span}
+use Rattle.logic_term.specs.declared.kinds.Label.{Label}
 use Rattle.source_kinds.specs.declared.kinds.LazyOp.{LazyOp}
 use Rattle.source_kinds.specs.declared.kinds.LazyOp.TheVariants.{And, Or}
 use Rattle.type_check.specs.TypedExpr.{TypedExpr, TypedStmts, TypedExprs}
 use Rattle.mir_build.specs.Text.{Line}
-use Rattle.mir_build.specs.Lowering.{Around, where_true, where_false, Into, of_integer, of_truth, of_variable, of_negative, of_denied, of_binary, of_lazy, of_assign, of_assign_value, of_update, of_update_value, of_call, of_block}
+use Rattle.mir_build.specs.Lowering.{Around, lazily, Into, of_integer, of_truth, of_variable, of_negative, of_denied, of_binary, of_lazy, of_assign, of_assign_value, of_update, of_update_value, of_call, of_block}
 use Rattle.mir_build.specs.Lowering.{of_branch, of_choice, of_repeat, Rest, of_done, of_last, of_bind, of_run, Args, of_none, of_more, IntoBody, of_outermost, of_other, named, named_rest, named_args}
 use Rattle.mir_build.specs.Numbered.{labels, labels_of, labels_in}
 use Rattle.mir_build.proofs.Following.{From, from_right, from_both}
@@ -30,7 +31,7 @@ mutual
   name_count c e d xs (of_block p) = name_count_rest c _ _ _ _ _ p
   name_count c e d xs (of_branch yes' no' after p q) = omega (arith, length-append (named p) (yes'.0 ∷ no'.0 ∷ after.0 ∷ named q), name_count c _ _ _ p, name_count c _ _ _ q)
   name_count c e d xs (of_choice yes' no' after p q r) = omega (arith, length-append (named p) (yes'.0 ∷ no'.0 ∷ after.0 ∷ (named q ++ named r)), length-append (named q) (named r), name_count c _ _ _ p, name_count c _ _ _ q, name_count c _ _ _ r)
-  name_count c e d xs (of_repeat head body after p q) = omega (arith, length-append (named p) (named q), name_count _ _ _ _ p, name_count _ _ _ _ q)
+  name_count c e d xs (of_repeat head body after fs g p q) = omega (arith, length-append (named p) (named q), name_count _ _ _ _ p, name_count _ _ _ _ q)
 
   name_count_rest : (c : Around) (outer : Bool) (s : Span) (ss : TypedStmts) (d : ℕ) (xs : List Line) (p : Rest c outer s ss d xs) → length (named_rest p) ≡ labels_of ss
   name_count_rest c outer s ss d xs of_done = refl
@@ -57,9 +58,9 @@ labels_then_args {c} {es} {ts} {xs} p l ns h k = from_both l (l + labels_in es) 
 
 -- ---- blocks
 
-turns_lazy : (op : LazyOp) (s : Span) (d : ℕ) (xs : List Line) → turns (where_true op s d xs) + turns (where_false op s d xs) ≡ turns xs
-turns_lazy And s d xs = omega arith
-turns_lazy Or s d xs = omega arith
+turns_lazy : (op : LazyOp) (c : Around) (s : Span) (t d : ℕ) (yes' no' after : Label) (xs : List Line) → turns (lazily op c s t d yes' no' after xs) ≡ 3 + turns xs
+turns_lazy And c s t d yes' no' after xs = simp turns-append (omega arith)
+turns_lazy Or c s t d yes' no' after xs = simp turns-append (omega arith)
 
 mutual
   turn_count : (c : Around) (e : TypedExpr) (d : ℕ) (xs : List Line) → Into c e d xs → turns xs ≡ labels e
@@ -69,7 +70,7 @@ mutual
   turn_count c e d xs (of_negative p) = simp turns-append (omega (arith, turn_count c _ _ _ p))
   turn_count c e d xs (of_denied p) = simp turns-append (omega (arith, turn_count c _ _ _ p))
   turn_count c e d xs (of_binary p q) = simp turns-append (omega (arith, turn_count c _ _ _ p, turn_count c _ _ _ q))
-  turn_count c e d xs (of_lazy {s = s} {op = op} yes' no' after {ys = vs} p q) = simp turns-append (omega (arith, turns_lazy op s d vs, turn_count c _ _ _ p, turn_count c _ _ _ q))
+  turn_count c e d xs (of_lazy {s = s} {op = op} {t = t} yes' no' after {ys = vs} p q) = simp turns-append (omega (arith, turns_lazy op c s t d yes' no' after vs, turn_count c _ _ _ p, turn_count c _ _ _ q))
   turn_count c e d xs (of_assign x q p) = simp turns-append (omega (arith, turn_count c _ _ _ p))
   turn_count c e d xs (of_assign_value p q) = simp turns-append (omega (arith, turn_count c _ _ _ p, turn_count c _ _ _ q))
   turn_count c e d xs (of_update x u q p) = simp turns-append (omega (arith, turn_count c _ _ _ p))
@@ -78,7 +79,7 @@ mutual
   turn_count c e d xs (of_block p) = turn_count_rest c _ _ _ _ _ p
   turn_count c e d xs (of_branch yes' no' after p q) = simp turns-append (omega (arith, turn_count c _ _ _ p, turn_count c _ _ _ q))
   turn_count c e d xs (of_choice yes' no' after p q r) = simp turns-append (omega (arith, turn_count c _ _ _ p, turn_count c _ _ _ q, turn_count c _ _ _ r))
-  turn_count c e d xs (of_repeat head body after p q) = simp turns-append (omega (arith, turn_count _ _ _ _ p, turn_count _ _ _ _ q))
+  turn_count c e d xs (of_repeat head body after fs g p q) = simp turns-append (omega (arith, turn_count _ _ _ _ p, turn_count _ _ _ _ q))
 
   turn_count_rest : (c : Around) (outer : Bool) (s : Span) (ss : TypedStmts) (d : ℕ) (xs : List Line) → Rest c outer s ss d xs → turns xs ≡ labels_of ss
   turn_count_rest c outer s ss d xs of_done = refl

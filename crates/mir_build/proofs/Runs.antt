@@ -6,14 +6,16 @@ use Rattle.type_check.specs.TypedExpr.{TypedExpr, more}
 use Rattle.type_check.specs.TypedExprView.{exprs_of}
 use Rattle.type_check.specs.TypedExprFalls.{each_smaller}
 use Rattle.mir_build.specs.declared.builder.BodyText.{BodyText}
-use Rattle.mir_build.specs.Text.{Line, Puts, Makes, Turns, Owns}
+use Rattle.mir_build.specs.Text.{Line, Puts, Makes, Turns, Leaves, Owns}
 use Rattle.mir_build.specs.Built.{written}
+use Rattle.mir_build.proofs.Arguments.{each_reaches}
 
 pub written-append : (xs ys : List Line) (x : BodyText) → written (xs ++ ys) x ≡ written ys (written xs x)
 written-append [] ys x = refl
 written-append (Puts s ∷ xs) ys x = written-append xs ys _
 written-append (Makes n t ∷ xs) ys x = written-append xs ys _
 written-append (Turns e b ∷ xs) ys x = written-append xs ys _
+written-append (Leaves e ∷ xs) ys x = written-append xs ys _
 written-append (Owns l ns ∷ xs) ys x = written-append xs ys _
 
 args_at_suc : (es : List TypedExpr) (i : ℕ) (d : TypedExpr) → i < length es → exprs_of (drop i es) ≡ more (get_or es i d) (exprs_of (drop (i + 1) es))
@@ -29,4 +31,4 @@ take_front xs x =
     let n : length (xs ++ x ∷ []) - 1 ≡ length xs = omega (arith, length-append xs (x ∷ [])) in
     rw n (take-append_seam xs (x ∷ []))
 
-pub ruleset running = (written-append, take_front, each_smaller)
+pub ruleset running = (written-append, take_front, each_smaller, each_reaches)

@@ -5,7 +5,7 @@ use Rattle.mir_build.specs.declared.builder.BodyText.{BodyText}
 use Rattle.mir_build.specs.declared.task.Task.{Task}
 use Rattle.mir_build.specs.Lowering.{Around}
 use Rattle.mir_build.specs.Built.{written}
-use Rattle.mir_build.specs.Tasks.{to_do, task_text, task_labels, task_locals, task_size, tasks_text, tasks_labels, tasks_locals, tasks_size}
+use Rattle.mir_build.specs.Tasks.{to_do, task_text, task_labels, task_locals, task_size, task_reach, tasks_text, tasks_labels, tasks_locals, tasks_size, tasks_reach}
 
 pub pushed : (ts : List Task) (t : Task) → to_do (ts ++ t ∷ []) ≡ t ∷ to_do ts
 pushed ts t = reverse-append ts (t ∷ [])
@@ -22,6 +22,9 @@ module _ (old rest : List Task) (t : Task) (e : old ≡ rest ++ t ∷ []) where
 
   pub popped_locals : tasks_locals (to_do old) ≡ task_locals t + tasks_locals (to_do rest)
   popped_locals = ap tasks_locals popped
+
+  pub popped_reach : tasks_reach (to_do old) ≡ max (task_reach t) (tasks_reach (to_do rest))
+  popped_reach = ap tasks_reach popped
 
   pub popped_size : tasks_size (to_do old) ≡ max (task_size t) (tasks_size (to_do rest))
   popped_size = ap tasks_size popped

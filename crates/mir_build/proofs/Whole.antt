@@ -9,24 +9,30 @@ use Rattle.logic_term.specs.declared.obligation.Contract.{Contract}
 use Rattle.logic_term.specs.Ty.{Ty}
 use Rattle.text_core.specs.declared.fault.PassError.{PassError}
 use Rattle.text_core.specs.declared.fault.PassError.TheVariants as errors
-use Rattle.mir_ir.specs.declared.body.Block.{Block}
+use Rattle.mir_ir.specs.declared.body.Block.{Block as BasicBlock}
 use Rattle.mir_ir.specs.declared.body.Body.{Body}
 use Rattle.mir_ir.specs.declared.body.Initialised.{Initialised}
 use Rattle.mir_ir.specs.declared.body.Point.{Point}
 use Rattle.mir_ir.specs.declared.place.Place.{Place}
+use Rattle.mir_ir.specs.declared.statement.Statement.{Statement}
+use Rattle.mir_ir.specs.declared.terminator.Terminator.{Terminator}
 use Rattle.mir_ir.specs.declared.terminator.TerminatorKind.TheVariants.{Return}
 use Rattle.type_check.specs.declared.program.Signature.{Signature}
 use Rattle.type_check.specs.declared.program.TypedFunction.{TypedFunction}
 use Rattle.type_check.specs.TypedExprView.{span_of}
 use Rattle.type_check.specs.declared.program.TypedProgram.{TypedProgram}
+use Rattle.type_check.specs.Checked.{AllGood}
+use Rattle.type_check.specs.FirstBad.{bad_in, bad_clause, bad_in_function, first_bad}
 use Rattle.type_check.specs.WellTyped.{FunctionFits, EachFits, ProgramFits, signatures}
 use Rattle.mir_build.specs.declared.builder.BodyText.{BodyText}
-use Rattle.mir_build.specs.declared.builder.OpenBlock.{OpenBlock}
-use Rattle.mir_build.specs.Text.{Line, Puts, Makes, Turns, Owns, Open, fresh, longer, close, closed, left_open, made, owned}
-use Rattle.mir_build.specs.Lowering.{numbers, counted, named_body, entry_title, paired, all_locals, gone_at, around_body, whole, LowersTo, EachLowersTo, no_functions, and_function, contract_of, HasMoreBlocks, ends, blocks_in}
+use Rattle.mir_build.specs.declared.builder.Front.{Front as BuiltFront}
+use Rattle.mir_build.specs.declared.builder.Front.TheVariants.{Block, Nowhere as BuiltNowhere}
+use Rattle.mir_build.specs.Text.{Line, Puts, Makes, Turns, Leaves, Owns, Front, Stands, Nowhere, fresh, longer, close, closed, made, owned}
+use Rattle.mir_build.specs.Lowering.{numbers, counted, named_body, entry_title, paired, all_locals, gone_at, around_body, whole, LowersTo, EachLowersTo, no_functions, and_function, HasContract, HasMoreBlocks, ends, blocks_in}
 use Rattle.mir_build.specs.Numbered.{labels, label}
-use Rattle.mir_build.specs.Built.{written, ended}
+use Rattle.mir_build.specs.Built.{written, grown, ended}
 use Rattle.mir_build.specs.Whole.{text_of_body, built, body_of, FailsFor}
+use Rattle.mir_build.proofs.Accepted.{first_none, second_none}
 use Rattle.mir_build.proofs.Numbers.{turns}
 use Rattle.mir_build.proofs.Following.{From, range_from, paired_from}
 use Rattle.mir_build.proofs.Order.{InOrder}
@@ -35,23 +41,55 @@ use Rattle.mir_build.proofs.BodyTexts.{body_turned, body_in_order}
 
 -- ---- the parts of what is written
 
-abbrev as_open : Open → OpenBlock
-as_open o = record { label = o.title.label; nest = o.title.nest; head = o.title.head; statements = o.statements }
+abbrev as_front : Front → BuiltFront
+as_front (Stands o) = Block (record { label = o.title.label; nest = o.title.nest; head = o.title.head; statements = o.statements })
+as_front Nowhere = BuiltNowhere
 
--- a text whose open block is this one
-abbrev text_at : List (Label × Block) → Open → List Ty → List (Point × List Place) → BodyText
-text_at bs o ts gs = record { blocks = bs; open_block = as_open o; locals = ts; gone = gs }
+-- a text with this front
+abbrev text_at : List (Label × BasicBlock) → Front → List Ty → List (Point × List Place) → BodyText
+text_at bs o ts gs = record { blocks = bs; front = as_front o; locals = ts; gone = gs }
+
+as_longer : (o : Front) (s : Statement) → grown (as_front o) s ≡ as_front (longer o s)
+as_longer (Stands o) s = refl
+as_longer Nowhere s = refl
+
+as_ended : (o : Front) (t : Terminator) → ended (as_front o) t ≡ close o t
+as_ended (Stands o) t = refl
+as_ended Nowhere t = refl
+
+-- the front behind a text
+abbrev behind : Front → List Line → Front
+behind o [] = o
+behind o (Puts s ∷ xs) = behind (longer o s) xs
+behind o (Makes x t ∷ xs) = behind o xs
+behind o (Turns t b ∷ xs) = behind (fresh b) xs
+behind o (Leaves t ∷ xs) = behind Nowhere xs
+behind o (Owns l ys ∷ xs) = behind o xs
+
+-- the end of the front is the last of the blocks
+closed_end : (xs : List Line) (o : Front) (t : Terminator) → closed o (xs ++ Leaves t ∷ []) ≡ closed o xs ++ close (behind o xs) t
+closed_end [] o t = append-nil (close o t)
+closed_end (Puts s ∷ xs) o t = closed_end xs (longer o s) t
+closed_end (Makes x u ∷ xs) o t = closed_end xs o t
+closed_end (Turns u b ∷ xs) o t = ap (λ bs. close o u ++ bs) (closed_end xs (fresh b) t) ∙ sym (append_assoc (close o u) (closed (fresh b) xs) (close (behind (fresh b) xs) t))
+closed_end (Leaves u ∷ xs) o t = ap (λ bs. close o u ++ bs) (closed_end xs Nowhere t) ∙ sym (append_assoc (close o u) (closed Nowhere xs) (close (behind Nowhere xs) t))
+closed_end (Owns l ys ∷ xs) o t = closed_end xs o t
 
 abbrev pub types : List Line → List Ty
 types xs = map (λ (x : ℕ × Ty). x.1) (made xs)
 
-written_parts : (xs : List Line) (bs : List (Label × Block)) (o : Open) (ts : List Ty) (gs : List (Point × List Place))
-    → written xs (text_at bs o ts gs) ≡ text_at (bs ++ closed o xs) (left_open o xs) (ts ++ types xs) (gs ++ map gone_at (owned xs))
+written_parts : (xs : List Line) (bs : List (Label × BasicBlock)) (o : Front) (ts : List Ty) (gs : List (Point × List Place))
+    → written xs (text_at bs o ts gs) ≡ text_at (bs ++ closed o xs) (behind o xs) (ts ++ types xs) (gs ++ map gone_at (owned xs))
 written_parts [] bs o ts gs = λ i. text_at (sym (append-nil bs) i) o (sym (append-nil ts) i) (sym (append-nil gs) i)
-written_parts (Puts s ∷ xs) bs o ts gs = written_parts xs bs (longer o s) ts gs
-written_parts (Makes n t ∷ xs) bs o ts gs = written_parts xs bs o (ts ++ t ∷ []) gs ∙ ap (λ us. text_at (bs ++ closed o xs) (left_open o xs) us (gs ++ map gone_at (owned xs))) (append_assoc ts (t ∷ []) (types xs))
-written_parts (Turns e b ∷ xs) bs o ts gs = written_parts xs (bs ++ close o e ∷ []) (fresh b) ts gs ∙ ap (λ cs. text_at cs (left_open (fresh b) xs) (ts ++ types xs) (gs ++ map gone_at (owned xs))) (append_assoc bs (close o e ∷ []) (closed (fresh b) xs))
-written_parts (Owns l ys ∷ xs) bs o ts gs = written_parts xs bs o ts (gs ++ gone_at (l, ys) ∷ []) ∙ ap (λ hs. text_at (bs ++ closed o xs) (left_open o xs) (ts ++ types xs) hs) (append_assoc gs (gone_at (l, ys) ∷ []) (map gone_at (owned xs)))
+written_parts (Puts s ∷ xs) bs o ts gs = (λ i. written xs (record { blocks = bs; front = as_longer o s i; locals = ts; gone = gs })) ∙ written_parts xs bs (longer o s) ts gs
+written_parts (Makes n t ∷ xs) bs o ts gs = written_parts xs bs o (ts ++ t ∷ []) gs ∙ ap (λ us. text_at (bs ++ closed o xs) (behind o xs) us (gs ++ map gone_at (owned xs))) (append_assoc ts (t ∷ []) (types xs))
+written_parts (Turns e b ∷ xs) bs o ts gs =
+    (λ i. written xs (record { blocks = bs ++ as_ended o e i; front = as_front (fresh b); locals = ts; gone = gs })) ∙ written_parts xs (bs ++ close o e) (fresh b) ts gs
+    ∙ ap (λ cs. text_at cs (behind (fresh b) xs) (ts ++ types xs) (gs ++ map gone_at (owned xs))) (append_assoc bs (close o e) (closed (fresh b) xs))
+written_parts (Leaves e ∷ xs) bs o ts gs =
+    (λ i. written xs (record { blocks = bs ++ as_ended o e i; front = BuiltNowhere; locals = ts; gone = gs })) ∙ written_parts xs (bs ++ close o e) Nowhere ts gs
+    ∙ ap (λ cs. text_at cs (behind Nowhere xs) (ts ++ types xs) (gs ++ map gone_at (owned xs))) (append_assoc bs (close o e) (closed Nowhere xs))
+written_parts (Owns l ys ∷ xs) bs o ts gs = written_parts xs bs o ts (gs ++ gone_at (l, ys) ∷ []) ∙ ap (λ hs. text_at (bs ++ closed o xs) (behind o xs) (ts ++ types xs) hs) (append_assoc gs (gone_at (l, ys) ∷ []) (map gone_at (owned xs)))
 
 -- ---- locals
 
@@ -60,6 +98,7 @@ made_paired n [] h = refl
 made_paired n (Puts s ∷ xs) h = made_paired n xs h
 made_paired n (Makes x t ∷ xs) h = ap (λ y. (y, t) ∷ made xs) h.0 ∙ ap (λ ys. (n, t) ∷ ys) (made_paired (n + 1) xs h.1)
 made_paired n (Turns e b ∷ xs) h = made_paired n xs h
+made_paired n (Leaves e ∷ xs) h = made_paired n xs h
 made_paired n (Owns l ys ∷ xs) h = made_paired n xs h
 
 paired-append : (n m : ℕ) (ss ts : List Ty) → m ≡ n + length ss → paired n (ss ++ ts) ≡ paired n ss ++ paired m ts
@@ -98,22 +137,29 @@ length-counted n (x ∷ xs) = ap suc (length-counted (n + 1) xs)
 is_for : (f : TypedFunction) → length f.signature.params ≡ length (around_body f).scope
 is_for f = sym (length-map (counted 1 f.signature.params) whole ∙ length-counted 1 f.signature.params)
 
-built_parts : (f : TypedFunction) → built f ≡ text_at (closed (fresh (entry_title (label 0))) (text_of_body f)) (left_open (fresh (entry_title (label 0))) (text_of_body f)) (f.signature.answer ∷ (f.signature.params ++ types (text_of_body f))) (map gone_at (owned (text_of_body f)))
+built_parts : (f : TypedFunction) → built f ≡ text_at (closed (fresh (entry_title (label 0))) (text_of_body f)) (behind (fresh (entry_title (label 0))) (text_of_body f)) (f.signature.answer ∷ (f.signature.params ++ types (text_of_body f))) (map gone_at (owned (text_of_body f)))
 built_parts f = written_parts (text_of_body f) [] (fresh (entry_title (label 0))) (f.signature.answer ∷ f.signature.params) []
 
-pub lowered : (σ : List Signature) (id : ℕ) (owner : List ℕ) (f : TypedFunction) → FunctionFits σ f → length (built f).locals < 2 ^ 32 → LowersTo owner f (body_of id owner f (built f)) (record { gone = (built f).gone })
-lowered σ id owner f w few =
+-- the blocks of what is built, when it has left
+blocks_are : (f : TypedFunction) (t : Terminator) → (built f).blocks ++ ended (built f).front t ≡ closed (fresh (entry_title (label 0))) (text_of_body f ++ Leaves t ∷ [])
+blocks_are f t =
+    let o = fresh (entry_title (label 0)) in
+    let text = text_of_body f in
+    ap (λ (x : BodyText). x.blocks ++ ended x.front t) (built_parts f) ∙ ap (λ bs. closed o text ++ bs) (as_ended (behind o text) t) ∙ sym (closed_end text o t)
+
+pub lowered : (σ : List Signature) (id : ℕ) (owner : List ℕ) (f : TypedFunction) → FunctionFits σ f → bad_in f.body ≡ None → length (built f).locals < 2 ^ 32 → LowersTo owner f (body_of id owner f (built f)) (record { gone = (built f).gone })
+lowered σ id owner f w g few =
     let text = text_of_body f in
     let parts = built_parts f in
     let order = body_in_order f.body (around_body f) 1 (1 + length f.signature.params) in
-    let row = lowers_body σ f.signature.params f.body (around_body f) 1 (1 + length f.signature.params) (is_for f) w.body in
+    let row = lowers_body σ f.signature.params f.body (around_body f) 1 (1 + length f.signature.params) (is_for f) w.body g in
     let all = locals_paired f text order in
     let ts : List Ty = f.signature.answer ∷ (f.signature.params ++ types text) in
     let same : (built f).locals ≡ ts = ap (λ (x : BodyText). x.locals) parts in
     record {
       text = text;
       into = row.0;
-      blocks = ap (λ (x : BodyText). x.blocks ++ ended x.open_block (ends (span_of f.body) Return) ∷ []) parts;
+      blocks = blocks_are f (ends (span_of f.body) Return);
       labels_in_order = range_from 0 (0 ∷ named_body row.0) (refl, row.1);
       locals_in_order = range_from 0 (numbers (all_locals f text)) (subst (λ ms. From 0 (numbers ms)) (sym all) (paired_from 0 ts));
       locals = λ i x t h. ap (λ us. slice_get us x) same ∙ get_at ts i x t (sym (ap (λ ys. slice_get ys i) all) ∙ h);
@@ -130,18 +176,30 @@ lowered σ id owner f w few =
 
 -- ---- how many blocks
 
-pub closed_turns : (xs : List Line) (o : Open) → length (closed o xs) ≡ turns xs
-closed_turns [] o = refl
-closed_turns (Puts s ∷ xs) o = closed_turns xs (longer o s)
-closed_turns (Makes n t ∷ xs) o = closed_turns xs o
-closed_turns (Turns e b ∷ xs) o = ap suc (closed_turns xs (fresh b))
-closed_turns (Owns l ys ∷ xs) o = closed_turns xs o
+abbrev pub standing : Front → ℕ
+standing (Stands o) = 1
+standing Nowhere = 0
+
+close_count : (o : Front) (t : Terminator) (bs : List (Label × BasicBlock)) → length (close o t ++ bs) ≡ standing o + length bs
+close_count (Stands o) t bs = omega arith
+close_count Nowhere t bs = omega arith
+
+standing_on : (o : Front) (s : Statement) → standing (longer o s) ≡ standing o
+standing_on (Stands o) s = refl
+standing_on Nowhere s = refl
+
+pub closed_turns : (xs : List Line) (o : Front) (t : Terminator) → length (closed o (xs ++ Leaves t ∷ [])) ≡ standing o + turns xs
+closed_turns [] o t = omega (arith, close_count o t [])
+closed_turns (Puts s ∷ xs) o t = omega (arith, closed_turns xs (longer o s) t, standing_on o s)
+closed_turns (Makes n u ∷ xs) o t = closed_turns xs o t
+closed_turns (Turns e b ∷ xs) o t = omega (arith, close_count o e (closed (fresh b) (xs ++ Leaves t ∷ [])), closed_turns xs (fresh b) t)
+closed_turns (Leaves e ∷ xs) o t = omega (arith, close_count o e (closed Nowhere (xs ++ Leaves t ∷ [])), closed_turns xs Nowhere t)
+closed_turns (Owns l ys ∷ xs) o t = closed_turns xs o t
 
 pub blocks_of : (id : ℕ) (owner : List ℕ) (f : TypedFunction) → length (body_of id owner f (built f)).blocks ≡ 1 + labels f.body
 blocks_of id owner f =
-    let text = text_of_body f in
-    let e = ap (λ (x : BodyText). length x.blocks) (built_parts f) in
-    omega (arith, e, closed_turns text (fresh (entry_title (label 0))), body_turned f.body (around_body f) 1 (1 + length f.signature.params), length-append (built f).blocks (ended (built f).open_block (ends (span_of f.body) Return) ∷ []))
+    let end = ends (span_of f.body) Return in
+    omega (arith, ap length (blocks_are f end), closed_turns (text_of_body f) (fresh (entry_title (label 0))) end, body_turned f.body (around_body f) 1 (1 + length f.signature.params))
 
 pub more_blocks : (f : TypedFunction) → 4096 < 1 + labels f.body → 4096 < blocks_in (text_of_body f)
 more_blocks f h = omega (arith, h, body_turned f.body (around_body f) 1 (1 + length f.signature.params))
@@ -154,16 +212,28 @@ fits_at σ [] i f w q h = absurd (omega arith)
 fits_at σ (g ∷ fs) zero f w q h = rw q w.0
 fits_at σ (g ∷ fs) (suc i) f w q h = fits_at σ fs i f w.1 q (omega arith)
 
+-- none of its formulas is refused
+pub good_at : (fs : List TypedFunction) (i : ℕ) (f : TypedFunction) → first_bad fs ≡ None → f ≡ get_or fs i f → i < length fs → bad_in_function f ≡ None
+good_at [] i f w q h = absurd (omega arith)
+good_at (g ∷ fs) zero f w q h = rw q (first_none (bad_in_function g) (first_bad fs) w)
+good_at (g ∷ fs) (suc i) f w q h = good_at fs i f (second_none (bad_in_function g) (first_bad fs) w) q (omega arith)
+
+pub clauses_good : (f : TypedFunction) → bad_in_function f ≡ None → bad_clause f.clauses ≡ None
+clauses_good f e = first_none (bad_clause f.clauses) (bad_in f.body) e
+
+pub body_good : (f : TypedFunction) → bad_in_function f ≡ None → bad_in f.body ≡ None
+body_good f e = second_none (bad_clause f.clauses) (bad_in f.body) e
+
 -- one function more
-pub then_lower : (table : List (List ℕ)) (n : ℕ) (fs : List TypedFunction) (bs : List Body) (cs : List Contract) (gs : List Initialised) (f : TypedFunction) (b : Body) (g : Initialised) (owner : List ℕ)
-    → EachLowersTo table n fs bs cs gs → text_of table f.name ≡ Some owner → LowersTo owner f b g → b.id ≡ n + length bs → EachLowersTo table n (fs ++ f ∷ []) (bs ++ b ∷ []) (cs ++ contract_of f ∷ []) (gs ++ g ∷ [])
-then_lower table n fs bs cs gs f b g owner no_functions q w i = and_function owner q w (omega (arith, i)) no_functions
-then_lower table n (h ∷ fs) bs cs gs f b g owner (and_function {bs = ks} other p v d rest) q w i =
-    and_function other p v d (then_lower table (suc n) fs ks _ _ f b g owner rest q w (omega (arith, i)))
+pub then_lower : (table : List (List ℕ)) (n : ℕ) (fs : List TypedFunction) (bs : List Body) (cs : List Contract) (gs : List Initialised) (f : TypedFunction) (b : Body) (c : Contract) (g : Initialised) (owner : List ℕ)
+    → EachLowersTo table n fs bs cs gs → text_of table f.name ≡ Some owner → LowersTo owner f b g → HasContract f c → b.id ≡ n + length bs → EachLowersTo table n (fs ++ f ∷ []) (bs ++ b ∷ []) (cs ++ c ∷ []) (gs ++ g ∷ [])
+then_lower table n fs bs cs gs f b c g owner no_functions q w k i = and_function owner q w k (omega (arith, i)) no_functions
+then_lower table n (h ∷ fs) bs cs gs f b c g owner (and_function {bs = ks} other p v l d rest) q w k i =
+    and_function other p v l d (then_lower table (suc n) fs ks _ _ f b c g owner rest q w k (omega (arith, i)))
 
 -- the function at the place has too many blocks
-pub too_many : (p : TypedProgram) (i : ℕ) (f : TypedFunction) → f ≡ get_or p.functions i f → i < length p.functions → 4096 < 1 + labels f.body → ProgramFits p → HasMoreBlocks p 4096
-too_many p i f q h more w =
+pub too_many : (p : TypedProgram) (i : ℕ) (f : TypedFunction) → f ≡ get_or p.functions i f → i < length p.functions → 4096 < 1 + labels f.body → ProgramFits p → AllGood p → HasMoreBlocks p 4096
+too_many p i f q h more w g =
     let σ = signatures p.functions in
     let fits = fits_at σ p.functions i f w q h in
     record {
@@ -171,7 +241,7 @@ too_many p i f q h more w =
       place = i;
       is_function = slice_get_read p.functions (length p.functions) i f refl h q;
       text = text_of_body f;
-      into = (lowers_body σ f.signature.params f.body (around_body f) 1 (1 + length f.signature.params) (is_for f) fits.body).0;
+      into = (lowers_body σ f.signature.params f.body (around_body f) 1 (1 + length f.signature.params) (is_for f) fits.body (body_good f (good_at p.functions i f g q h))).0;
       more = more_blocks f more;
     }
 
@@ -182,10 +252,11 @@ fails_for P Q (errors.Source e) f h = h
 
 -- ---- what is answered
 
-pub answered : (σ : List Signature) (id : ℕ) (owner : List ℕ) (f : TypedFunction) (x : BodyText) (b : Body) (g : Initialised) → x ≡ built f → b ≡ body_of id owner f x → g ≡ record { gone = x.gone } → length x.locals < 2 ^ 32 → FunctionFits σ f → LowersTo b.owner f b g
-answered σ id owner f x b g p q r few w =
+pub answered : (σ : List Signature) (id : ℕ) (owner : List ℕ) (f : TypedFunction) (x : BodyText) (b : Body) (g : Initialised) → x ≡ built f → b ≡ body_of id owner f x → g ≡ record { gone = x.gone }
+    → length x.locals < 2 ^ 32 → FunctionFits σ f → bad_in f.body ≡ None → LowersTo b.owner f b g
+answered σ id owner f x b g p q r few w k =
     let small : length (built f).locals < 2 ^ 32 = omega (arith, few, ap (λ (y : BodyText). length y.locals) p) in
-    rw (q, r, p) (lowered σ id owner f w small)
+    rw (q, r, p) (lowered σ id owner f w k small)
 
 pub few_blocks : (id : ℕ) (owner : List ℕ) (f : TypedFunction) (x : BodyText) (b : Body) → x ≡ built f → b ≡ body_of id owner f x → 1 + labels f.body ≤ 4096 → length b.blocks ≤ 4096
 few_blocks id owner f x b p q few = rw (q, p) (omega (arith, few, blocks_of id owner f))

@@ -3,6 +3,7 @@ pub mod Built
 pub mod Bindings
 pub mod Lowering
 pub mod Numbered
+pub mod Reach
 pub mod Tasks
 pub mod Text
 pub mod Whole

@@ -13,7 +13,7 @@ use Rattle.logic_term.specs.declared.kinds.Label.{Label}
 use Rattle.logic_term.specs.declared.obligation.Contract.{Contract}
 use Rattle.logic_term.specs.declared.subst.Replacement.{Replacement}
 use Rattle.logic_term.specs.Subst.{with_terms}
-use Rattle.logic_term.specs.Term.{Term, var, truth}
+use Rattle.logic_term.specs.Term.{Term, var}
 use Rattle.logic_term.specs.Ty.{Ty}
 use Rattle.source_kinds.specs.declared.kinds.LazyOp.{LazyOp}
 use Rattle.source_kinds.specs.declared.kinds.LazyOp.TheVariants as lazy_op
@@ -37,7 +37,7 @@ use Rattle.mir_ir.specs.declared.body.Head.{Head}
 use Rattle.mir_ir.specs.declared.body.Initialised.{Initialised}
 use Rattle.mir_ir.specs.declared.body.Point.{Point}
 use Rattle.type_check.specs.declared.assertion.Assertion.{Assertion}
-use Rattle.type_check.specs.declared.assertion.Assertion.TheVariants.{Good, Bad}
+use Rattle.type_check.specs.declared.assertion.Assertion.TheVariants.{Good}
 use Rattle.type_check.specs.declared.program.TypedClause.{TypedClause}
 use Rattle.type_check.specs.declared.program.TypedFunction.{TypedFunction}
 use Rattle.type_check.specs.declared.program.TypedProgram.{TypedProgram}
@@ -46,7 +46,7 @@ use Rattle.type_check.specs.TypedExpr.{TypedExpr, TypedStmts, TypedExprs, intege
 use Rattle.type_check.specs.TypedExpr as typed
 use Rattle.type_check.specs.TypedExprView.{ty_of, span_of}
 use Rattle.type_check.specs.VariableNames.{variable_name, answer_name}
-use Rattle.mir_build.specs.Text.{Title, Line, Puts, Makes, Turns, Owns, fresh, close, closed, left_open, begun, made, owned}
+use Rattle.mir_build.specs.Text.{Title, Line, Puts, Makes, Turns, Leaves, Owns, fresh, closed, begun, made, owned}
 use Rattle.mir_ir.specs.declared.body.Bodies.{Bodies}
 
 -- ---- what stands around an expression
@@ -78,13 +78,19 @@ at_head c l h = record { label = l; nest = c.loops; head = Some h }
 unfoldable pub local_name : ℕ → Name
 local_name x = record { 0 = 2 ^ 63 + x }
 
-abbrev pub formula : Assertion → Term
-formula (Good s t) = t
-formula (Bad e) = truth false
+-- a formula that is not refused, and its span
+pub record Formula : Type 0 where
+  pub span : Span
+  pub term : Term
 
-abbrev pub formula_span : Assertion → Span
-formula_span (Good s t) = s
-formula_span (Bad e) = e.span
+abbrev pub term_of : Formula → Term
+term_of f = f.term
+
+abbrev pub formula_span : Formula → Span
+formula_span f = f.span
+
+abbrev pub accepted : Formula → Assertion
+accepted f = Good f.span f.term
 
 -- what a place holds, as a term. So far places are whole locals
 abbrev pub held : Place → Term
@@ -99,8 +105,11 @@ places_for k (p ∷ ps) = record { name = variable_name k; by = held p } ∷ pla
 abbrev pub at_places : List Place → Term → Term
 at_places scope t = with_terms (places_for 0 scope) t
 
-abbrev pub head_of : Around → List Assertion → Head
-head_of c is = record { invariants = map (λ a. at_places c.scope (formula a)) is; spans = map formula_span is }
+abbrev pub invariant_of : List Place → Formula → Term
+invariant_of scope f = at_places scope f.term
+
+abbrev pub head_of : Around → List Formula → Head
+head_of c fs = record { invariants = map (invariant_of c.scope) fs; spans = map formula_span fs }
 
 -- ---- lines
 
@@ -137,14 +146,34 @@ dies_in false s x = dies s x ∷ []
 abbrev pub numbers : List (ℕ × Ty) → List ℕ
 numbers xs = map (λ x. x.0) xs
 
--- what `&&` and `||` do where the first operand is true, and where it is false
-abbrev pub where_true : LazyOp → Span → ℕ → List Line → List Line
-where_true lazy_op.And s d ys = ys
-where_true lazy_op.Or s d ys = constant s d (lit.Bool true) ∷ []
+-- ---- shapes of texts
 
-abbrev pub where_false : LazyOp → Span → ℕ → List Line → List Line
-where_false lazy_op.And s d ys = constant s d (lit.Bool false) ∷ []
-where_false lazy_op.Or s d ys = ys
+-- a new local of the type, and what writes it
+abbrev pub made_by : ℕ → Ty → List Line → List Line
+made_by t ty xs = Makes t ty ∷ xs
+
+-- an edge that is always taken, and the block of the label
+abbrev pub goes : Around → Span → (to next : Label) → Line
+goes c s to next = Turns (ends s (Goto to)) (at c next)
+
+-- the value of a local, which is moved, says which of two texts is run; behind both the next block begins
+abbrev pub test : Around → Span → ℕ → (yes no after : Label) → List Line → List Line → List Line
+test c s t yes' no' after xs ys = Turns (ends s (If (moved t) yes' no')) (at c yes') ∷ (xs ++ goes c s after no' ∷ (ys ++ goes c s after after ∷ []))
+
+-- a function is called with what is in the temporaries, which are moved; its answer goes to d
+abbrev pub calls : Around → Span → (f d : ℕ) → List ℕ → Label → Line
+calls c s f d ts after = Turns (ends s (Call (whole d) (Function (fn_id.Body f)) [] (map moved ts) after)) (at c after)
+
+-- a loop: at its head what writes the condition t, then what writes the body's value u, from which it turns back; zs stands behind it
+abbrev pub turning : Around → Span → (head body after : Label) → List Formula → ℕ → Ty → List Line → ℕ → Ty → List Line → List Line → List Line
+turning c s head body after fs t T xs u U ys zs =
+    Turns (ends s (Goto head)) (at_head (looping c head) head (head_of c fs)) ∷ (made_by t T xs ++ Turns (ends s (If (moved t) body after)) (at (looping c head) body)
+    ∷ (made_by u U ys ++ goes c s head after ∷ Owns head (t ∷ (numbers (made xs) ++ u ∷ numbers (made ys))) ∷ zs))
+
+-- the second operand of `&&` or `||` is evaluated only where the first, which is in t, leaves the value open
+abbrev pub lazily : LazyOp → Around → Span → (t d : ℕ) → (yes no after : Label) → List Line → List Line
+lazily lazy_op.And c s t d yes' no' after ys = test c s t yes' no' after ys (constant s d (lit.Bool false) ∷ [])
+lazily lazy_op.Or c s t d yes' no' after ys = test c s t yes' no' after (constant s d (lit.Bool true) ∷ []) ys
 
 -- ---- rows
 
@@ -154,44 +183,42 @@ mutual
     of_integer : {c : Around} {ty : Ty} {s : Span} {z : ℤ} {k : IntKind} {d : ℕ} → Into c (integer ty s z k) d (constant s d (lit.Int z k) ∷ [])
     of_truth : {c : Around} {ty : Ty} {s : Span} {b : Bool} {d : ℕ} → Into c (typed.truth ty s b) d (constant s d (lit.Bool b) ∷ [])
     of_variable : {c : Around} {ty : Ty} {s : Span} {v d : ℕ} (p : Place) → slice_get c.scope v ≡ Some p → Into c (variable ty s v) d (puts s d (Use (Copy p)) ∷ [])
-    of_negative : {c : Around} {ty : Ty} {s : Span} {e : TypedExpr} {d t : ℕ} {xs : List Line} → Into c e t xs → Into c (negative ty s e) d (Makes t (ty_of e) ∷ (xs ++ puts s d (Neg (moved t)) ∷ []))
-    of_denied : {c : Around} {ty : Ty} {s : Span} {e : TypedExpr} {d t : ℕ} {xs : List Line} → Into c e t xs → Into c (denied ty s e) d (Makes t (ty_of e) ∷ (xs ++ puts s d (Not (moved t)) ∷ []))
+    of_negative : {c : Around} {ty : Ty} {s : Span} {e : TypedExpr} {d t : ℕ} {xs : List Line} → Into c e t xs → Into c (negative ty s e) d (made_by t (ty_of e) xs ++ puts s d (Neg (moved t)) ∷ [])
+    of_denied : {c : Around} {ty : Ty} {s : Span} {e : TypedExpr} {d t : ℕ} {xs : List Line} → Into c e t xs → Into c (denied ty s e) d (made_by t (ty_of e) xs ++ puts s d (Not (moved t)) ∷ [])
     of_binary : {c : Around} {ty : Ty} {s : Span} {op : BinaryOp} {a b : TypedExpr} {d t u : ℕ} {xs ys : List Line} → Into c a t xs → Into c b u ys
-        → Into c (binary ty s op a b) d (Makes t (ty_of a) ∷ (xs ++ Makes u (ty_of b) ∷ (ys ++ puts s d (Binary op (moved t) (moved u)) ∷ [])))
+        → Into c (binary ty s op a b) d (made_by t (ty_of a) xs ++ (made_by u (ty_of b) ys ++ puts s d (Binary op (moved t) (moved u)) ∷ []))
     of_lazy : {c : Around} {ty : Ty} {s : Span} {op : LazyOp} {a b : TypedExpr} {d t : ℕ} (yes' no' after : Label) {xs ys : List Line} → Into c a t xs → Into c b d ys
-        → Into c (lazy ty s op a b) d (Makes t (ty_of a) ∷ (xs ++ Turns (ends s (If (moved t) yes' no')) (at c yes') ∷ (where_true op s d ys
-        ++ Turns (ends s (Goto after)) (at c no') ∷ (where_false op s d ys ++ Turns (ends s (Goto after)) (at c after) ∷ []))))
+        → Into c (lazy ty s op a b) d (made_by t (ty_of a) xs ++ lazily op c s t d yes' no' after ys)
     of_assign : {c : Around} {ty : Ty} {s : Span} {v : ℕ} {e : TypedExpr} {d t : ℕ} (p : Place) {xs : List Line} → slice_get c.scope v ≡ Some p → Into c e t xs
-        → Into c (assign ty s v e) d (Makes t (ty_of e) ∷ (xs ++ puts_at s p (Use (moved t)) ∷ put_unit s d ∷ []))
+        → Into c (assign ty s v e) d (made_by t (ty_of e) xs ++ puts_at s p (Use (moved t)) ∷ put_unit s d ∷ [])
     of_assign_value : {c : Around} {ty : Ty} {s : Span} {a e : TypedExpr} {d t u : ℕ} {xs ys : List Line} → Into c e t xs → Into c a u ys
-        → Into c (assign_value ty s a e) d (Makes t (ty_of e) ∷ (xs ++ Makes u (ty_of a) ∷ (ys ++ puts s u (Use (moved t)) ∷ put_unit s d ∷ [])))
+        → Into c (assign_value ty s a e) d (made_by t (ty_of e) xs ++ (made_by u (ty_of a) ys ++ puts s u (Use (moved t)) ∷ put_unit s d ∷ []))
     of_update : {c : Around} {ty : Ty} {s : Span} {op : BinaryOp} {v : ℕ} {e : TypedExpr} {d t : ℕ} (p : Place) (u : ℕ) {xs : List Line} → slice_get c.scope v ≡ Some p → Into c e t xs
-        → Into c (update ty s op v e) d (Makes t (ty_of e) ∷ (xs ++ Makes u (ty_of e) ∷ puts s u (Binary op (Copy p) (moved t)) ∷ puts_at s p (Use (moved u)) ∷ put_unit s d ∷ []))
+        → Into c (update ty s op v e) d (made_by t (ty_of e) xs ++ (made_by u (ty_of e) (puts s u (Binary op (Copy p) (moved t)) ∷ []) ++ puts_at s p (Use (moved u)) ∷ put_unit s d ∷ []))
     of_update_value : {c : Around} {ty : Ty} {s : Span} {op : BinaryOp} {a e : TypedExpr} {d t p : ℕ} (u : ℕ) {xs ys : List Line} → Into c e t xs → Into c a p ys
-        → Into c (update_value ty s op a e) d (Makes t (ty_of e) ∷ (xs ++ Makes p (ty_of a) ∷ (ys ++ Makes u (ty_of e) ∷ puts s u (Binary op (copied p) (moved t)) ∷ puts s p (Use (moved u)) ∷ put_unit s d ∷ [])))
-    of_call : {c : Around} {ty : Ty} {s : Span} {f : ℕ} {es : TypedExprs} {d : ℕ} {ts : List ℕ} (after : Label) {xs : List Line} → Args c es ts xs
-        → Into c (call ty s f es) d (xs ++ Turns (ends s (Call (whole d) (Function (fn_id.Body f)) [] (map moved ts) after)) (at c after) ∷ [])
+        → Into c (update_value ty s op a e) d (made_by t (ty_of e) xs ++ (made_by p (ty_of a) ys ++ (made_by u (ty_of e) (puts s u (Binary op (copied p) (moved t)) ∷ []) ++ puts s p (Use (moved u)) ∷ put_unit s d ∷ [])))
+    of_call : {c : Around} {ty : Ty} {s : Span} {f : ℕ} {es : TypedExprs} {d : ℕ} {ts : List ℕ} (after : Label) {xs : List Line} → Args c es ts xs → Into c (call ty s f es) d (xs ++ calls c s f d ts after ∷ [])
     of_block : {c : Around} {ty : Ty} {s : Span} {ss : TypedStmts} {d : ℕ} {xs : List Line} → Rest c false s ss d xs → Into c (block ty s ss) d xs
     of_branch : {c : Around} {ty : Ty} {s : Span} {e a : TypedExpr} {d t : ℕ} (yes' no' after : Label) {xs ys : List Line} → Into c e t xs → Into c a d ys
-        → Into c (branch ty s e a) d (Makes t (ty_of e) ∷ (xs ++ Turns (ends s (If (moved t) yes' no')) (at c yes') ∷ (ys ++ Turns (ends s (Goto after)) (at c no') ∷ put_unit s d ∷ Turns (ends s (Goto after)) (at c after) ∷ [])))
+        → Into c (branch ty s e a) d (made_by t (ty_of e) xs ++ test c s t yes' no' after ys (put_unit s d ∷ []))
     of_choice : {c : Around} {ty : Ty} {s : Span} {e a b : TypedExpr} {d t : ℕ} (yes' no' after : Label) {xs ys zs : List Line} → Into c e t xs → Into c a d ys → Into c b d zs
-        → Into c (choice ty s e a b) d (Makes t (ty_of e) ∷ (xs ++ Turns (ends s (If (moved t) yes' no')) (at c yes') ∷ (ys ++ Turns (ends s (Goto after)) (at c no') ∷ (zs ++ Turns (ends s (Goto after)) (at c after) ∷ []))))
-    of_repeat : {c : Around} {ty : Ty} {s : Span} {is : List Assertion} {e b : TypedExpr} {d t u : ℕ} (head body after : Label) {xs ys : List Line} → Into (looping c head) e t xs → Into (looping c head) b u ys
-        → Into c (repeat ty s is e b) d (Turns (ends s (Goto head)) (at_head (looping c head) head (head_of c is)) ∷ Makes t (ty_of e) ∷ (xs ++ Turns (ends s (If (moved t) body after)) (at (looping c head) body) ∷ Makes u (ty_of b)
-        ∷ (ys ++ Turns (ends s (Goto head)) (at c after) ∷ Owns head (t ∷ (numbers (made xs) ++ u ∷ numbers (made ys))) ∷ put_unit s d ∷ [])))
+        → Into c (choice ty s e a b) d (made_by t (ty_of e) xs ++ test c s t yes' no' after ys zs)
+    of_repeat : {c : Around} {ty : Ty} {s : Span} {is : List Assertion} {e b : TypedExpr} {d t u : ℕ} (head body after : Label) (fs : List Formula) {xs ys : List Line}
+        → is ≡ map accepted fs → Into (looping c head) e t xs → Into (looping c head) b u ys
+        → Into c (repeat ty s is e b) d (turning c s head body after fs t (ty_of e) xs u (ty_of b) ys (put_unit s d ∷ []))
 
   -- the text of a block's statements and of its last expression; whether it is the outermost block of a body
   pub data Rest : Around → Bool → Span → TypedStmts → ℕ → List Line → Type 0 where
     of_done : {c : Around} {outer : Bool} {s : Span} {d : ℕ} → Rest c outer s done d (put_unit s d ∷ [])
     of_last : {c : Around} {outer : Bool} {s : Span} {e : TypedExpr} {d : ℕ} {xs : List Line} → Into c e d xs → Rest c outer s (last e) d xs
     of_bind : {c : Around} {outer : Bool} {s : Span} {e : TypedExpr} {ss : TypedStmts} {d t : ℕ} {xs ys : List Line} → Into c e t xs → Rest (binds c t) outer s ss d ys
-        → Rest c outer s (bind e ss) d (Makes t (ty_of e) ∷ (xs ++ (ys ++ dies_in outer s t)))
-    of_run : {c : Around} {outer : Bool} {s : Span} {e : TypedExpr} {ss : TypedStmts} {d t : ℕ} {xs ys : List Line} → Into c e t xs → Rest c outer s ss d ys → Rest c outer s (run e ss) d (Makes t (ty_of e) ∷ (xs ++ ys))
+        → Rest c outer s (bind e ss) d (made_by t (ty_of e) xs ++ (ys ++ dies_in outer s t))
+    of_run : {c : Around} {outer : Bool} {s : Span} {e : TypedExpr} {ss : TypedStmts} {d t : ℕ} {xs ys : List Line} → Into c e t xs → Rest c outer s ss d ys → Rest c outer s (run e ss) d (made_by t (ty_of e) xs ++ ys)
 
   -- the text that writes each argument to a temporary
   pub data Args : Around → TypedExprs → List ℕ → List Line → Type 0 where
     of_none : {c : Around} → Args c none [] []
-    of_more : {c : Around} {e : TypedExpr} {es : TypedExprs} {t : ℕ} {ts : List ℕ} {xs ys : List Line} → Into c e t xs → Args c es ts ys → Args c (more e es) (t ∷ ts) (Makes t (ty_of e) ∷ (xs ++ ys))
+    of_more : {c : Around} {e : TypedExpr} {es : TypedExprs} {t : ℕ} {ts : List ℕ} {xs ys : List Line} → Into c e t xs → Args c es ts ys → Args c (more e es) (t ∷ ts) (made_by t (ty_of e) xs ++ ys)
 
 abbrev pub is_block : TypedExpr → Bool
 is_block (block ty s ss) = true
@@ -223,7 +250,7 @@ abbrev mutual
   named (of_block p) = named_rest p
   named (of_branch yes' no' after p q) = named p ++ yes'.0 ∷ no'.0 ∷ after.0 ∷ named q
   named (of_choice yes' no' after p q r) = named p ++ yes'.0 ∷ no'.0 ∷ after.0 ∷ (named q ++ named r)
-  named (of_repeat head body after p q) = head.0 ∷ body.0 ∷ after.0 ∷ (named p ++ named q)
+  named (of_repeat head body after fs g p q) = head.0 ∷ body.0 ∷ after.0 ∷ (named p ++ named q)
 
   pub named_rest : {c : Around} {outer : Bool} {s : Span} {ss : TypedStmts} {d : ℕ} {xs : List Line} → Rest c outer s ss d xs → List ℕ
   named_rest of_done = []
@@ -261,16 +288,24 @@ abbrev pub formulas_of : ClauseKind → List TypedClause → List Assertion
 formulas_of k [] = []
 formulas_of k (c ∷ cs) = picked k c.kind c.formula (formulas_of k cs)
 
--- the contract is over the names of the variables that the parameters are
-abbrev pub contract_of : TypedFunction → Contract
-contract_of f = record {
+-- over the names of the variables that the parameters are
+abbrev pub contract_over : TypedFunction → List Formula → List Formula → Contract
+contract_over f before behind = record {
   params = map variable_name (counted 0 f.signature.params);
   answer = answer_name;
-  pre = map formula (formulas_of Requires f.clauses);
-  post = map formula (formulas_of Ensures f.clauses);
+  pre = map term_of before;
+  post = map term_of behind;
   variants = [];
-  spans = map formula_span (formulas_of Requires f.clauses) ++ map formula_span (formulas_of Ensures f.clauses);
+  spans = map formula_span before ++ map formula_span behind;
 }
+
+-- the contract of a function, none of whose clauses is refused
+pub record HasContract (f : TypedFunction) (c : Contract) : Type 0 where
+  pub before : List Formula
+  pub behind : List Formula
+  pub are_before : formulas_of Requires f.clauses ≡ map accepted before
+  pub are_behind : formulas_of Ensures f.clauses ≡ map accepted behind
+  pub is : c ≡ contract_over f before behind
 
 abbrev pub entry_title : Label → Title
 entry_title l = record { label = l; nest = []; head = None }
@@ -296,7 +331,8 @@ around_body f = record { scope = map whole (counted 1 f.signature.params); loops
 pub record LowersTo (owner : List ℕ) (f : TypedFunction) (b : Body) (gone : Initialised) : Type 0 where
   pub text : List Line
   pub into : IntoBody (around_body f) f.body text
-  pub blocks : b.blocks ≡ closed (fresh (entry_title b.entry)) text ++ close (left_open (fresh (entry_title b.entry)) text) (ends (span_of f.body) Return) ∷ []
+  -- behind its text the body returns
+  pub blocks : b.blocks ≡ closed (fresh (entry_title b.entry)) (text ++ Leaves (ends (span_of f.body) Return) ∷ [])
   -- the entry has label 0, and the rows name the labels 1, 2 and so on
   pub labels_in_order : AreInOrder (b.entry.0 ∷ named_body into)
   -- the answer is local 0, and the parameters and the locals that the text makes are the locals 1, 2 and so on
@@ -317,9 +353,9 @@ pub record LowersTo (owner : List ℕ) (f : TypedFunction) (b : Body) (gone : In
 -- the functions from number n on, each with its text, lower to these bodies, contracts and gone places, one for each
 pub data EachLowersTo (table : List (List ℕ)) : ℕ → List TypedFunction → List Body → List Contract → List Initialised → Type 0 where
   no_functions : {n : ℕ} → EachLowersTo table n [] [] [] []
-  and_function : {n : ℕ} {f : TypedFunction} {fs : List TypedFunction} {b : Body} {bs : List Body} {cs : List Contract} {gone : Initialised} {gones : List Initialised} (owner : List ℕ)
-      → text_of table f.name ≡ Some owner → LowersTo owner f b gone → b.id ≡ n → EachLowersTo table (suc n) fs bs cs gones
-      → EachLowersTo table n (f ∷ fs) (b ∷ bs) (contract_of f ∷ cs) (gone ∷ gones)
+  and_function : {n : ℕ} {f : TypedFunction} {fs : List TypedFunction} {b : Body} {bs : List Body} {c : Contract} {cs : List Contract} {gone : Initialised} {gones : List Initialised} (owner : List ℕ)
+      → text_of table f.name ≡ Some owner → LowersTo owner f b gone → HasContract f c → b.id ≡ n → EachLowersTo table (suc n) fs bs cs gones
+      → EachLowersTo table n (f ∷ fs) (b ∷ bs) (c ∷ cs) (gone ∷ gones)
 
 -- the functions of a program lower to these; so far it declares no types that bodies are looked up with
 pub record LowerTo (table : List (List ℕ)) (fs : List TypedFunction) (bodies : Bodies) (cs : List Contract) (gones : List Initialised) : Type 0 where

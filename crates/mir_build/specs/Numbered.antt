@@ -1,5 +1,5 @@
--- The text of the rows with the numbers that the code gives: labels from l on, locals from t on. A variable that is not in scope stands
--- for local 0. Contracts of the code alone speak of it.
+-- The text of the rows with the numbers that the code gives: labels from l on, locals from t on. Contracts of the code alone speak of it,
+-- where each variable is in scope.
 use Rattle.std.specs.Prelude.{ℕ, ◌+◌, ◌-◌, Bool, true, false, List, [], ◌∷◌, ◌++◌, map, get_or}
 use Rattle.std.specs.List.{range_with_len}
 use Rattle.text_core.specs.declared.span.Span.{Span}
@@ -11,10 +11,12 @@ use Rattle.mir_ir.specs.declared.statement.Rvalue.TheVariants.{Use, Binary, Neg,
 use Rattle.mir_ir.specs.declared.terminator.FnId.TheVariants as fn_id
 use Rattle.mir_ir.specs.declared.terminator.Callee.TheVariants.{Function}
 use Rattle.mir_ir.specs.declared.terminator.TerminatorKind.TheVariants.{Goto, If, Call}
+use Rattle.type_check.specs.declared.assertion.Assertion.{Assertion}
+use Rattle.type_check.specs.declared.assertion.Assertion.TheVariants.{Good, Bad}
 use Rattle.type_check.specs.TypedExpr.{TypedExpr, TypedStmts, TypedExprs, integer, truth, variable, negative, denied, binary, lazy, assign, assign_value, update, update_value, call, block, branch, choice, repeat, done, last, bind, run, none, more}
 use Rattle.type_check.specs.TypedExprView.{ty_of}
 use Rattle.mir_build.specs.Text.{Line, Makes, Turns, Owns}
-use Rattle.mir_build.specs.Lowering.{Around, binds, looping, at, at_head, head_of, whole, puts, puts_at, constant, put_unit, copied, moved, ends, dies_in, where_true, where_false}
+use Rattle.mir_build.specs.Lowering.{Around, Formula, binds, looping, at, at_head, head_of, whole, puts, puts_at, constant, put_unit, copied, moved, ends, dies_in, lazily}
 
 abbrev pub label : ℕ → Label
 label l = record { 0 = l }
@@ -25,6 +27,12 @@ variable_place scope v = get_or scope v (whole 0)
 -- the numbers from the first up to the last, which is none of them
 abbrev pub between : ℕ → ℕ → List ℕ
 between m n = range_with_len m (n - m)
+
+-- the formulas among assertions: where none is refused, all of them
+abbrev pub formulas : List Assertion → List Formula
+formulas [] = []
+formulas (Good s t ∷ as') = record { span = s; term = t } ∷ formulas as'
+formulas (Bad e ∷ as') = formulas as'
 
 -- ---- how many blocks the text begins
 
@@ -108,8 +116,7 @@ abbrev mutual
   into (lazy ty s op a b) c l t d =
       let m = l + labels a in
       let ys = into b c (m + 3) (t + 1 + locals a) d in
-      Makes t (ty_of a) ∷ (into a c l (t + 1) t ++ Turns (ends s (If (moved t) (label m) (label (m + 1)))) (at c (label m)) ∷ (where_true op s d ys
-      ++ Turns (ends s (Goto (label (m + 2)))) (at c (label (m + 1))) ∷ (where_false op s d ys ++ Turns (ends s (Goto (label (m + 2)))) (at c (label (m + 2))) ∷ [])))
+      Makes t (ty_of a) ∷ (into a c l (t + 1) t ++ lazily op c s t d (label m) (label (m + 1)) (label (m + 2)) ys)
   into (assign ty s v e) c l t d = Makes t (ty_of e) ∷ (into e c l (t + 1) t ++ puts_at s (variable_place c.scope v) (Use (moved t)) ∷ put_unit s d ∷ [])
   into (assign_value ty s a e) c l t d =
       let u = t + 1 + locals e in
@@ -139,7 +146,7 @@ abbrev mutual
   into (repeat ty s is e b) c l t d =
       let inside = looping c (label l) in
       let u = t + 1 + locals e in
-      Turns (ends s (Goto (label l))) (at_head inside (label l) (head_of c is)) ∷ Makes t (ty_of e) ∷ (into e inside (l + 3) (t + 1) t
+      Turns (ends s (Goto (label l))) (at_head inside (label l) (head_of c (formulas is))) ∷ Makes t (ty_of e) ∷ (into e inside (l + 3) (t + 1) t
       ++ Turns (ends s (If (moved t) (label (l + 1)) (label (l + 2)))) (at inside (label (l + 1))) ∷ Makes u (ty_of b)
       ∷ (into b inside (l + 3 + labels e) (u + 1) u ++ Turns (ends s (Goto (label l))) (at c (label (l + 2))) ∷ Owns (label l) (between t (u + 1 + locals b)) ∷ put_unit s d ∷ []))
 

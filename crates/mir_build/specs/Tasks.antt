@@ -4,16 +4,16 @@ use Rattle.std.specs.Prelude.{ℕ, suc, ◌+◌, ◌*◌, max, List, [], ◌∷�
 use Rattle.text_core.specs.declared.span.Span.{Span}
 use Rattle.source_kinds.specs.declared.kinds.LazyOp.{LazyOp}
 use Rattle.mir_ir.specs.declared.statement.Rvalue.TheVariants.{Use, Binary}
-use Rattle.mir_ir.specs.declared.terminator.TerminatorKind.TheVariants.{Goto, If}
 use Rattle.type_check.specs.TypedExpr.{TypedExpr}
 use Rattle.type_check.specs.TypedExprView.{ty_of, typed_size}
 use Rattle.mir_build.specs.declared.task.Behind.{Behind}
 use Rattle.mir_build.specs.declared.task.Behind.TheVariants as behind
 use Rattle.mir_build.specs.declared.task.Task.{Task}
 use Rattle.mir_build.specs.declared.task.Task.TheVariants.{Lower, Finish}
-use Rattle.mir_build.specs.Text.{Line, Makes, Turns}
-use Rattle.mir_build.specs.Lowering.{Around, at, puts, put_unit, copied, moved, ends, where_true, where_false}
+use Rattle.mir_build.specs.Text.{Line, Makes}
+use Rattle.mir_build.specs.Lowering.{Around, puts, put_unit, copied, moved, lazily}
 use Rattle.mir_build.specs.Numbered.{label, labels, locals, into}
+use Rattle.mir_build.specs.Reach.{reach}
 
 -- ---- behind a left operand, which is in local t
 
@@ -31,10 +31,7 @@ behind_locals (behind.UpdateValue op ty v) = 1
 
 -- the text of `&&` or `||`
 abbrev pub lazy_text : LazyOp → TypedExpr → Span → ℕ → ℕ → Around → ℕ → ℕ → List Line
-lazy_text op b s t d c l u =
-    let ys = into b c (l + 3) u d in
-    Turns (ends s (If (moved t) (label l) (label (l + 1)))) (at c (label l)) ∷ (where_true op s d ys
-    ++ Turns (ends s (Goto (label (l + 2)))) (at c (label (l + 1))) ∷ (where_false op s d ys ++ Turns (ends s (Goto (label (l + 2)))) (at c (label (l + 2))) ∷ []))
+lazy_text op b s t d c l u = lazily op c s t d (label l) (label (l + 1)) (label (l + 2)) (into b c (l + 3) u d)
 
 abbrev pub behind_text : Behind → Span → ℕ → ℕ → Around → ℕ → ℕ → List Line
 behind_text (behind.Binary op b) s t d c l u = Makes u (ty_of b.now) ∷ (into b.now c l (u + 1) u ++ puts s d (Binary op (moved t) (moved u)) ∷ [])
@@ -47,6 +44,12 @@ behind_size (behind.Binary op b) = typed_size b.now
 behind_size (behind.Lazy op b) = typed_size b.now
 behind_size (behind.AssignValue v) = 0
 behind_size (behind.UpdateValue op ty v) = 0
+
+abbrev pub behind_reach : Behind → ℕ
+behind_reach (behind.Binary op b) = reach b.now
+behind_reach (behind.Lazy op b) = reach b.now
+behind_reach (behind.AssignValue v) = 0
+behind_reach (behind.UpdateValue op ty v) = 0
 
 -- ---- tasks
 
@@ -86,6 +89,15 @@ task_size (Finish p) = suc (behind_size p.behind)
 abbrev pub tasks_size : List Task → ℕ
 tasks_size [] = 0
 tasks_size (t ∷ ts) = max (task_size t) (tasks_size ts)
+
+-- how many variables have to be in scope
+abbrev pub task_reach : Task → ℕ
+task_reach (Lower e d) = reach e.now
+task_reach (Finish p) = behind_reach p.behind
+
+abbrev pub tasks_reach : List Task → ℕ
+tasks_reach [] = 0
+tasks_reach (t ∷ ts) = max (task_reach t) (tasks_reach ts)
 
 -- how much there is to do
 abbrev pub task_weight : Task → ℕ

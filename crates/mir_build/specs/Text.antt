@@ -21,6 +21,8 @@ pub data Line : Type 0 where
   Makes : ℕ → Ty → Line
   -- the open block's end, and a new block right behind it
   Turns : Terminator → Title → Line
+  -- the open block's end, and no block behind it
+  Leaves : Terminator → Line
   -- the loop of the head has these locals of its own: they hold nothing where a turn of it begins
   Owns : Label → List ℕ → Line
 
@@ -28,29 +30,39 @@ pub record Open : Type 0 where
   pub title : Title
   pub statements : List Statement
 
-abbrev pub fresh : Title → Open
-fresh b = record { title = b; statements = [] }
+-- the block that is open; behind what leaves there is none, and what stands there is in no block
+pub data Front : Type 0 where
+  Stands : Open → Front
+  Nowhere : Front
 
-abbrev pub longer : Open → Statement → Open
-longer o s = record { title = o.title; statements = o.statements ++ s ∷ [] }
+abbrev pub begin : Title → Open
+begin b = record { title = b; statements = [] }
 
-abbrev pub close : Open → Terminator → Label × Block
-close o t = (o.title.label, record { head = o.title.head; nest = o.title.nest; statements = o.statements; end = t })
+abbrev pub fresh : Title → Front
+fresh b = Stands (begin b)
 
--- the blocks that a text closes, and the block that it leaves open
-abbrev pub closed : Open → List Line → List (Label × Block)
+abbrev pub more_of : Open → Statement → Open
+more_of o s = record { title = o.title; statements = o.statements ++ s ∷ [] }
+
+abbrev pub longer : Front → Statement → Front
+longer (Stands o) s = Stands (more_of o s)
+longer Nowhere s = Nowhere
+
+abbrev pub finished : Open → Terminator → Label × Block
+finished o t = (o.title.label, record { head = o.title.head; nest = o.title.nest; statements = o.statements; end = t })
+
+abbrev pub close : Front → Terminator → List (Label × Block)
+close (Stands o) t = finished o t ∷ []
+close Nowhere t = []
+
+-- the blocks that a text closes
+abbrev pub closed : Front → List Line → List (Label × Block)
 closed o [] = []
 closed o (Puts s ∷ xs) = closed (longer o s) xs
 closed o (Makes x t ∷ xs) = closed o xs
-closed o (Turns t b ∷ xs) = close o t ∷ closed (fresh b) xs
+closed o (Turns t b ∷ xs) = close o t ++ closed (fresh b) xs
+closed o (Leaves t ∷ xs) = close o t ++ closed Nowhere xs
 closed o (Owns l ys ∷ xs) = closed o xs
-
-abbrev pub left_open : Open → List Line → Open
-left_open o [] = o
-left_open o (Puts s ∷ xs) = left_open (longer o s) xs
-left_open o (Makes x t ∷ xs) = left_open o xs
-left_open o (Turns t b ∷ xs) = left_open (fresh b) xs
-left_open o (Owns l ys ∷ xs) = left_open o xs
 
 -- the blocks that a text begins
 abbrev pub begun : List Line → List Title
@@ -58,6 +70,7 @@ begun [] = []
 begun (Puts s ∷ xs) = begun xs
 begun (Makes x t ∷ xs) = begun xs
 begun (Turns t b ∷ xs) = b ∷ begun xs
+begun (Leaves t ∷ xs) = begun xs
 begun (Owns l ys ∷ xs) = begun xs
 
 -- the locals that it makes, with their types
@@ -66,6 +79,7 @@ made [] = []
 made (Puts s ∷ xs) = made xs
 made (Makes x t ∷ xs) = (x, t) ∷ made xs
 made (Turns t b ∷ xs) = made xs
+made (Leaves t ∷ xs) = made xs
 made (Owns l ys ∷ xs) = made xs
 
 -- the locals that loops have of their own
@@ -74,4 +88,5 @@ owned [] = []
 owned (Puts s ∷ xs) = owned xs
 owned (Makes x t ∷ xs) = owned xs
 owned (Turns t b ∷ xs) = owned xs
+owned (Leaves t ∷ xs) = owned xs
 owned (Owns l ys ∷ xs) = (l, ys) ∷ owned xs

@@ -5,14 +5,16 @@ use Rattle.text_core.specs.declared.refusal.Limit.{Limit}
 use Rattle.text_core.specs.declared.refusal.LimitKind.TheVariants.{Blocks}
 use Rattle.text_core.specs.declared.fault.PassError.{PassError}
 use Rattle.text_core.specs.declared.fault.PassError.TheVariants as errors
+use Rattle.logic_term.specs.declared.obligation.Contract.{Contract}
 use Rattle.mir_ir.specs.declared.body.Body.{Body}
 use Rattle.mir_ir.specs.declared.terminator.TerminatorKind.TheVariants.{Return}
+use Rattle.type_check.specs.declared.program.ClauseKind.TheVariants.{Requires, Ensures}
 use Rattle.type_check.specs.declared.program.TypedFunction.{TypedFunction}
 use Rattle.type_check.specs.TypedExprView.{span_of}
 use Rattle.mir_build.specs.declared.builder.BodyText.{BodyText}
 use Rattle.mir_build.specs.Text.{Line}
-use Rattle.mir_build.specs.Lowering.{around_body, entry_title, counted, local_name, ends}
-use Rattle.mir_build.specs.Numbered.{body_text, label}
+use Rattle.mir_build.specs.Lowering.{around_body, entry_title, counted, local_name, ends, formulas_of, contract_over}
+use Rattle.mir_build.specs.Numbered.{body_text, label, formulas}
 use Rattle.mir_build.specs.Built.{written, started, ended}
 use Rattle.mir_ir.specs.declared.body.Bodies.{Bodies}
 
@@ -34,9 +36,12 @@ body_of id owner f x = record {
   names = map local_name (counted 0 x.locals);
   outlives = [];
   entry = label 0;
-  blocks = x.blocks ++ ended x.open_block (ends (span_of f.body) Return) ∷ [];
+  blocks = x.blocks ++ ended x.front (ends (span_of f.body) Return);
   span = f.span;
 }
+
+abbrev pub contract_of : TypedFunction → Contract
+contract_of f = contract_over f (formulas (formulas_of Requires f.clauses)) (formulas (formulas_of Ensures f.clauses))
 
 abbrev pub HaveFewBlocks : Bodies → Type 0
 HaveFewBlocks bs = All (λ (b : Body). length b.blocks ≤ 4096) bs.bodies

@@ -1,12 +1,10 @@
 //! What stands around an expression, and the invariants of a loop there.
-ghost use Rattle.std.specs.Prelude.{◌≡◌, map, IfOk};
-ghost use Rattle.mir_build.specs.Built.{around};
-ghost use Rattle.mir_build.specs.Numbered.{variable_place};
-ghost use Rattle.mir_build.specs.Lowering.{local_name, formula, formula_span, held, places_for, head_of};
-ghost use Rattle.logic_term.specs.Subst.{with_terms};
+ghost use Rattle.std.specs.Prelude.{◌≡◌, ◌∷◌, ◌++◌, [], ◌<◌, length, map, IfOk, OnOk};
+ghost use Rattle.mir_build.specs.Built.{around, term_with};
+ghost use Rattle.mir_build.specs.Numbered.{variable_place, formulas};
+ghost use Rattle.mir_build.specs.Lowering.{local_name, term_of, formula_span, held, places_for, head_of};
 ghost use Rattle.type_check.specs.VariableNames.{variable_name, answer_name};
 
-use crate::builder::whole;
 use logic_term::{Label, Replacement, Term};
 use mir_ir::{Head, Place};
 use std::alloc::Global;
@@ -30,17 +28,18 @@ pub(crate) fn same_place(alloc: Global, place: &Place) -> Result<Place, NoMemory
     })
 }
 
-/// The place of a variable; local 0 for one that is not in scope.
+/// The place of a variable in scope.
 pub(crate) fn variable_place(
     alloc: Global,
     scope: &[Place],
     variable: u32,
 ) -> Result<Place, NoMemory>
+    requires { variable < length scope.now }
     ensures { IfOk result (λ p. p ≡ variable_place scope.now variable) }
 {
     match scope.get(variable as usize) {
         Some(place) => same_place(alloc, place),
-        None => Ok(whole(alloc, 0)),
+        None => unreachable!(),
     }
 }
 
@@ -82,21 +81,23 @@ pub(crate) fn answer_name() -> Name
 
 // ---- formulas
 
-pub(crate) fn formula(alloc: Global, assertion: &Assertion) -> Result<Term, NoMemory>
-    ensures { IfOk result (λ t. t ≡ formula assertion.now) }
+/// Puts the formula behind others.
+pub(crate) fn push_formula(all: &mut Items<Term>, assertion: &Assertion) -> Result<(), NoMemory>
+    ensures { OnOk result (all.new ≡ all.old ++ map term_of (formulas (assertion.now ∷ []))) }
 {
     match assertion {
-        Assertion::Good(_, term) => term.share(),
-        Assertion::Bad(_) => Term::truth(alloc, false),
+        Assertion::Good(_, term) => all.push(term.share()?),
+        Assertion::Bad(_) => Ok(()),
     }
 }
 
-pub(crate) fn formula_span(assertion: &Assertion) -> Span
-    ensures { result ≡ formula_span assertion.now }
+/// Puts the span of the formula behind others.
+pub(crate) fn push_span(all: &mut Items<Span>, assertion: &Assertion) -> Result<(), NoMemory>
+    ensures { OnOk result (all.new ≡ all.old ++ map formula_span (formulas (assertion.now ∷ []))) }
 {
     match assertion {
-        Assertion::Good(span, _) => *span,
-        Assertion::Bad(error) => error.span,
+        Assertion::Good(span, _) => all.push(*span),
+        Assertion::Bad(_) => Ok(()),
     }
 }
 
@@ -124,44 +125,50 @@ fn places_for(alloc: Global, scope: &[Place]) -> Result<Vec<Replacement>, NoMemo
     Ok(all)
 }
 
-fn formula_with_terms(
+/// Puts the formula, with terms for names, behind others.
+fn push_with_terms(
     alloc: Global,
+    all: &mut Items<Term>,
     sub: &[Replacement],
     assertion: &Assertion,
-) -> Result<Term, NoMemory>
-    ensures { IfOk result (λ t. t ≡ with_terms sub.now (formula assertion.now)) }
+) -> Result<(), NoMemory>
+    ensures { OnOk result (all.new ≡ all.old ++ map (term_with sub.now) (formulas (assertion.now ∷ []))) }
 {
-    let term = formula(alloc, assertion)?;
-    term.with(alloc, sub)
+    match assertion {
+        Assertion::Good(_, term) => all.push(term.with(alloc, sub)?),
+        Assertion::Bad(_) => Ok(()),
+    }
 }
 
+#[tactic(auto, using(crate::proofs::Clauses::invariants_from))]
 fn formulas_with_terms(
     alloc: Global,
     sub: &[Replacement],
     assertions: &[Assertion],
 ) -> Result<Items<Term>, NoMemory>
-    ensures { IfOk result (λ v. v ≡ map (λ a. with_terms sub.now (formula a)) assertions.now) }
+    ensures { IfOk result (λ v. v ≡ map (term_with sub.now) (formulas assertions.now)) }
 {
     let mut all = Items::new(alloc);
     for assertion in assertions {
-        all.push(formula_with_terms(alloc, sub, assertion)?)?;
+        push_with_terms(alloc, &mut all, sub, assertion)?;
     }
     Ok(all)
 }
 
+#[tactic(auto, using(crate::proofs::Clauses::invariant_spans_from))]
 fn formula_spans(alloc: Global, assertions: &[Assertion]) -> Result<Items<Span>, NoMemory>
-    ensures { IfOk result (λ v. v ≡ map formula_span assertions.now) }
+    ensures { IfOk result (λ v. v ≡ map formula_span (formulas assertions.now)) }
 {
     let mut all = Items::new(alloc);
     for assertion in assertions {
-        all.push(formula_span(assertion))?;
+        push_span(&mut all, assertion)?;
     }
     Ok(all)
 }
 
 /// The head of a loop with these invariants, which speak of the variables in scope.
 pub(crate) fn head_of(alloc: Global, c: &Around, assertions: &[Assertion]) -> Result<Head, NoMemory>
-    ensures { IfOk result (λ h. h ≡ head_of (around c.now) assertions.now) }
+    ensures { IfOk result (λ h. h ≡ head_of (around c.now) (formulas assertions.now)) }
 {
     let sub = places_for(alloc, c.scope.as_slice())?;
     let invariants = formulas_with_terms(alloc, sub.as_slice(), assertions)?;

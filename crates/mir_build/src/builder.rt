@@ -1,9 +1,9 @@
 //! The text of a body that is built so far.
-ghost use Rattle.std.specs.Prelude.{◌≡◌, ◌+◌, ◌<◌, ◌≤◌, ◌∷◌, [], None, length, map, IfOk, IfErr, OnOk};
-ghost use Rattle.mir_build.specs.Text.{Puts, Makes, Turns, Owns};
+ghost use Rattle.std.specs.Prelude.{◌≡◌, ◌+◌, ◌<◌, ◌≤◌, ◌∷◌, ◌++◌, [], None, length, map, IfOk, IfErr, OnOk};
+ghost use Rattle.mir_build.specs.Text.{Puts, Makes, Turns, Leaves, Owns};
 ghost use Rattle.mir_build.specs.Lowering.{whole, moved, ends, puts_at, puts, put_unit, constant, dies, at, entry_title};
 ghost use Rattle.mir_build.specs.Numbered.{between, label};
-ghost use Rattle.mir_build.specs.Built.{written, started, ended, around};
+ghost use Rattle.mir_build.specs.Built.{written, started, block_with, ended, around};
 ghost use Rattle.mir_build.specs.declared.stop.Stop.TheVariants.{Blocks};
 ghost use Rattle.mir_ir.specs.declared.terminator.TerminatorKind.TheVariants.{Goto};
 
@@ -27,11 +27,19 @@ pub(crate) struct OpenBlock {
     pub(crate) statements: Items<Statement>,
 }
 
+/// Where statements go.
+#[derive(Drop)]
+pub(crate) enum Front {
+    Block(OpenBlock),
+    /// Behind what leaves: what stands here is in no block.
+    Nowhere,
+}
+
 /// The closed blocks and the open one; the types of the locals, by number; and what may be gone at the heads of loops.
 #[derive(Drop)]
 pub(crate) struct BodyText {
     pub(crate) blocks: Items<(Label, Block)>,
-    pub(crate) open_block: OpenBlock,
+    pub(crate) front: Front,
     pub(crate) locals: Items<Ty>,
     pub(crate) gone: Items<(Point, Items<Place>)>,
 }
@@ -39,7 +47,7 @@ pub(crate) struct BodyText {
 impl OpenBlock {
     /// The block with its end.
     pub(crate) fn close(self, end: Terminator) -> (Label, Block)
-        ensures { result ≡ ended self end }
+        ensures { result ≡ block_with self end }
     {
         let OpenBlock {
             label,
@@ -57,6 +65,21 @@ impl OpenBlock {
     }
 }
 
+impl Front {
+    /// Puts the open block, with its end, behind the others.
+    fn close(self, end: Terminator, blocks: &mut Items<(Label, Block)>) -> Result<(), NoMemory>
+        ensures { OnOk result (blocks.new ≡ blocks.old ++ ended self end) }
+    {
+        match self {
+            Front::Block(block) => blocks.push(block.close(end)),
+            Front::Nowhere => {
+                drop(end);
+                Ok(())
+            }
+        }
+    }
+}
+
 impl BodyText {
     /// Nothing but these locals, and the first block, which is open.
     pub(crate) fn start(alloc: Global, entry: Label, locals: Items<Ty>) -> BodyText
@@ -64,12 +87,12 @@ impl BodyText {
     {
         BodyText {
             blocks: Items::new(alloc),
-            open_block: OpenBlock {
+            front: Front::Block(OpenBlock {
                 label: entry,
                 nest: Items::new(alloc),
                 head: None,
                 statements: Items::new(alloc),
-            },
+            }),
             locals,
             gone: Items::new(alloc),
         }
@@ -78,7 +101,13 @@ impl BodyText {
     pub(crate) fn put(&mut self, statement: Statement) -> Result<(), NoMemory>
         ensures { OnOk result (self.new ≡ written (Puts statement ∷ []) self.old) }
     {
-        self.open_block.statements.push(statement)
+        match &mut self.front {
+            Front::Block(block) => block.statements.push(statement),
+            Front::Nowhere => {
+                drop(statement);
+                Ok(())
+            }
+        }
     }
 
     /// A new local of the type.
@@ -110,8 +139,16 @@ impl BodyText {
             head,
             statements: Items::new(alloc),
         };
-        let done = mem::replace(&mut self.open_block, next);
-        self.blocks.push(done.close(end))
+        let done = mem::replace(&mut self.front, Front::Block(next));
+        done.close(end, &mut self.blocks)
+    }
+
+    /// Closes the open block, and opens none.
+    pub(crate) fn leave(&mut self, end: Terminator) -> Result<(), NoMemory>
+        ensures { OnOk result (self.new ≡ written (Leaves end ∷ []) self.old) }
+    {
+        let done = mem::replace(&mut self.front, Front::Nowhere);
+        done.close(end, &mut self.blocks)
     }
 
     /// At the head the locals from the first on hold nothing.

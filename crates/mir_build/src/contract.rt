@@ -2,9 +2,11 @@
 ghost use Rattle.std.specs.Prelude.{◌≡◌, [], ◌++◌, map, IfOk, OnOk};
 ghost use Rattle.type_check.specs.VariableNames.{variable_name};
 ghost use Rattle.type_check.specs.declared.program.ClauseKind.TheVariants.{Requires, Ensures};
-ghost use Rattle.mir_build.specs.Lowering.{counted, formula, formula_span, formulas_of, picked, contract_of};
+ghost use Rattle.mir_build.specs.Lowering.{counted, term_of, formula_span, formulas_of, picked};
+ghost use Rattle.mir_build.specs.Numbered.{formulas};
+ghost use Rattle.mir_build.specs.Whole.{contract_of};
 
-use crate::around::{answer_name, formula, formula_span, variable_name};
+use crate::around::{answer_name, push_formula, push_span, variable_name};
 use logic_term::{Contract, Term, Ty};
 use std::alloc::Global;
 use text_core::{Items, Name, NoMemory, Span};
@@ -24,17 +26,16 @@ fn parameter_names(alloc: Global, params: &[Ty]) -> Result<Items<Name>, NoMemory
 }
 
 /// Puts the clause's formula behind others, where it is of the kind.
-fn push_formula(
-    alloc: Global,
+fn push_clause(
     all: &mut Items<Term>,
     kind: ClauseKind,
     clause: &TypedClause,
 ) -> Result<(), NoMemory>
-    ensures { OnOk result (all.new ≡ all.old ++ map formula (picked kind clause.now.kind clause.now.formula [])) }
+    ensures { OnOk result (all.new ≡ all.old ++ map term_of (formulas (picked kind clause.now.kind clause.now.formula []))) }
 {
     match (kind, clause.kind) {
-        (ClauseKind::Requires, ClauseKind::Requires) => all.push(formula(alloc, &clause.formula)?),
-        (ClauseKind::Ensures, ClauseKind::Ensures) => all.push(formula(alloc, &clause.formula)?),
+        (ClauseKind::Requires, ClauseKind::Requires) => push_formula(all, &clause.formula),
+        (ClauseKind::Ensures, ClauseKind::Ensures) => push_formula(all, &clause.formula),
         (ClauseKind::Requires, ClauseKind::Ensures) => Ok(()),
         (ClauseKind::Ensures, ClauseKind::Requires) => Ok(()),
     }
@@ -47,22 +48,26 @@ fn formulas_of(
     kind: ClauseKind,
     clauses: &[TypedClause],
 ) -> Result<Items<Term>, NoMemory>
-    ensures { IfOk result (λ v. v ≡ map formula (formulas_of kind clauses.now)) }
+    ensures { IfOk result (λ v. v ≡ map term_of (formulas (formulas_of kind clauses.now))) }
 {
     let mut all = Items::new(alloc);
     for clause in clauses {
-        push_formula(alloc, &mut all, kind, clause)?;
+        push_clause(&mut all, kind, clause)?;
     }
     Ok(all)
 }
 
 /// Puts the span of the clause's formula behind others, where it is of the kind.
-fn push_span(all: &mut Items<Span>, kind: ClauseKind, clause: &TypedClause) -> Result<(), NoMemory>
-    ensures { OnOk result (all.new ≡ all.old ++ map formula_span (picked kind clause.now.kind clause.now.formula [])) }
+fn push_clause_span(
+    all: &mut Items<Span>,
+    kind: ClauseKind,
+    clause: &TypedClause,
+) -> Result<(), NoMemory>
+    ensures { OnOk result (all.new ≡ all.old ++ map formula_span (formulas (picked kind clause.now.kind clause.now.formula []))) }
 {
     match (kind, clause.kind) {
-        (ClauseKind::Requires, ClauseKind::Requires) => all.push(formula_span(&clause.formula)),
-        (ClauseKind::Ensures, ClauseKind::Ensures) => all.push(formula_span(&clause.formula)),
+        (ClauseKind::Requires, ClauseKind::Requires) => push_span(all, &clause.formula),
+        (ClauseKind::Ensures, ClauseKind::Ensures) => push_span(all, &clause.formula),
         (ClauseKind::Requires, ClauseKind::Ensures) => Ok(()),
         (ClauseKind::Ensures, ClauseKind::Requires) => Ok(()),
     }
@@ -75,10 +80,10 @@ fn push_spans(
     kind: ClauseKind,
     clauses: &[TypedClause],
 ) -> Result<(), NoMemory>
-    ensures { OnOk result (all.new ≡ all.old ++ map formula_span (formulas_of kind clauses.now)) }
+    ensures { OnOk result (all.new ≡ all.old ++ map formula_span (formulas (formulas_of kind clauses.now))) }
 {
     for clause in clauses {
-        push_span(all, kind, clause)?;
+        push_clause_span(all, kind, clause)?;
     }
     Ok(())
 }

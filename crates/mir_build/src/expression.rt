@@ -9,10 +9,12 @@ ghost use Rattle.mir_ir.specs.declared.statement.Rvalue.TheVariants.{Use, Binary
 ghost use Rattle.mir_ir.specs.declared.terminator.TerminatorKind.TheVariants.{Goto};
 ghost use Rattle.mir_build.specs.Text.{Makes, Turns, Owns};
 ghost use Rattle.mir_build.specs.Lowering.{moved, puts_at, puts, put_unit, ends, dies_in, at, at_head, looping, head_of};
-ghost use Rattle.mir_build.specs.Numbered.{into, rest, args, loop_text, between, temporaries, label, labels, labels_of, labels_in, locals, locals_of, locals_in};
+ghost use Rattle.mir_build.specs.Numbered.{formulas, into, rest, args, loop_text, between, temporaries, label, labels, labels_of, labels_in, locals, locals_of, locals_in};
+ghost use Rattle.mir_build.specs.Reach.{reach, reach_of, reach_in};
 ghost use Rattle.mir_build.specs.Built.{written, around, outside, end_of};
 ghost use Rattle.mir_build.specs.Bindings.{all_die};
-ghost use Rattle.mir_build.specs.Tasks.{to_do, lazy_text, task_text, behind_labels, behind_locals, task_labels, task_locals, task_size, task_weight, tasks_text, tasks_labels, tasks_locals, tasks_size, tasks_weight};
+ghost use Rattle.mir_build.specs.Tasks.{to_do, lazy_text, behind_labels, behind_locals, behind_reach, task_text, task_labels, task_locals, task_size, task_reach, task_weight};
+ghost use Rattle.mir_build.specs.Tasks.{tasks_text, tasks_labels, tasks_locals, tasks_size, tasks_reach, tasks_weight};
 ghost use Rattle.mir_build.specs.declared.task.Task.TheVariants.{Lower, Finish};
 ghost use Rattle.mir_build.specs.declared.stop.Stop.TheVariants.{Blocks};
 
@@ -45,6 +47,7 @@ pub(crate) fn value_span(e: &TypedExpr) -> Span
 #[cycle(lower)]
 #[tactic(auto, using(crate::proofs::Runs::running))]
 fn lower_new(alloc: Global, b: &mut Builder, c: &mut Around, e: &TypedExpr) -> Result<u32, Stop>
+    requires scope { reach e.now ≤ length c.old.scope.items }
     ensures number { IfOk result (λ t. t ≡ length b.old.text.locals) }
     ensures text { IfOk result (λ t. b.new.text ≡ written (Makes t (ty_of e.now) ∷ into e.now (around c.old) b.old.labels (t + 1) t) b.old.text) }
     ensures labels { OnOk result (b.new.labels ≡ b.old.labels + labels e.now) }
@@ -52,6 +55,7 @@ fn lower_new(alloc: Global, b: &mut Builder, c: &mut Around, e: &TypedExpr) -> R
     ensures limit { IfErr result (λ stop. stop ≡ Blocks → 4096 < b.old.labels + labels e.now) }
     ensures most { OnOk result (b.old.labels ≤ 4096 → b.new.labels ≤ 4096) }
     ensures around { OnOk result (around c.new ≡ around c.old) }
+    ensures count { OnOk result (length c.new.scope.items ≡ length c.old.scope.items) }
 {
     let t = b.make(alloc, type_of(e))?;
     lower_into(alloc, b, c, e, t)?;
@@ -68,12 +72,14 @@ pub(crate) fn lower_into(
     e: &TypedExpr,
     d: u32,
 ) -> Result<(), Stop>
+    requires scope { reach e.now ≤ length c.old.scope.items }
     ensures text { OnOk result (b.new.text ≡ written (into e.now (around c.old) b.old.labels (length b.old.text.locals) d) b.old.text) }
     ensures labels { OnOk result (b.new.labels ≡ b.old.labels + labels e.now) }
     ensures locals { OnOk result (length b.new.text.locals ≡ length b.old.text.locals + locals e.now) }
     ensures limit { IfErr result (λ stop. stop ≡ Blocks → 4096 < b.old.labels + labels e.now) }
     ensures most { OnOk result (b.old.labels ≤ 4096 → b.new.labels ≤ 4096) }
     ensures around { OnOk result (around c.new ≡ around c.old) }
+    ensures count { OnOk result (length c.new.scope.items ≡ length c.old.scope.items) }
 {
     let mut tasks = Vec::new(alloc);
     tasks.push(Task::Lower(e, d))?;
@@ -92,6 +98,7 @@ fn do_task<'a>(
     task: Task<'a>,
     tasks: &mut Vec<Task<'a>>,
 ) -> Result<(), Stop>
+    requires scope { task_reach task ≤ length c.old.scope.items }
     ensures text { OnOk result (written (tasks_text (to_do tasks.new.items) (around c.old) b.new.labels (length b.new.text.locals)) b.new.text
         ≡ written (task_text task.entry (around c.old) b.old.labels (length b.old.text.locals) ++ tasks_text (to_do tasks.old.items) (around c.old) (b.old.labels + task_labels task.entry) (length b.old.text.locals + task_locals task.entry)) b.old.text) }
     ensures labels { OnOk result (b.new.labels + tasks_labels (to_do tasks.new.items) ≡ b.old.labels + task_labels task.entry + tasks_labels (to_do tasks.old.items)) }
@@ -99,7 +106,9 @@ fn do_task<'a>(
     ensures limit { IfErr result (λ stop. stop ≡ Blocks → 4096 < b.old.labels + task_labels task.entry) }
     ensures most { OnOk result (b.old.labels ≤ 4096 → b.new.labels ≤ 4096) }
     ensures around { OnOk result (around c.new ≡ around c.old) }
+    ensures count { OnOk result (length c.new.scope.items ≡ length c.old.scope.items) }
     ensures size { OnOk result (tasks_size (to_do tasks.new.items) ≤ max (task_size task.entry) (tasks_size (to_do tasks.old.items))) }
+    ensures reach { OnOk result (tasks_reach (to_do tasks.new.items) ≤ max (task_reach task.entry) (tasks_reach (to_do tasks.old.items))) }
     ensures weight { OnOk result (tasks_weight (to_do tasks.new.items) < task_weight task.entry + tasks_weight (to_do tasks.old.items)) }
 {
     match task {
@@ -147,6 +156,7 @@ fn lower_left<'a>(
     d: u32,
     tasks: &mut Vec<Task<'a>>,
 ) -> Result<(), Stop>
+    requires scope { reach e.now ≤ length c.old.scope.items }
     ensures text { OnOk result (written (tasks_text (to_do tasks.new.items) (around c.old) b.new.labels (length b.new.text.locals)) b.new.text
         ≡ written (into e.now (around c.old) b.old.labels (length b.old.text.locals) d ++ tasks_text (to_do tasks.old.items) (around c.old) (b.old.labels + labels e.now) (length b.old.text.locals + locals e.now)) b.old.text) }
     ensures labels { OnOk result (b.new.labels + tasks_labels (to_do tasks.new.items) ≡ b.old.labels + labels e.now + tasks_labels (to_do tasks.old.items)) }
@@ -154,7 +164,9 @@ fn lower_left<'a>(
     ensures limit { IfErr result (λ stop. stop ≡ Blocks → 4096 < b.old.labels + labels e.now) }
     ensures most { OnOk result (b.old.labels ≤ 4096 → b.new.labels ≤ 4096) }
     ensures around { OnOk result (around c.new ≡ around c.old) }
+    ensures count { OnOk result (length c.new.scope.items ≡ length c.old.scope.items) }
     ensures size { OnOk result (tasks_size (to_do tasks.new.items) ≤ max (typed_size e.now) (tasks_size (to_do tasks.old.items))) }
+    ensures reach { OnOk result (tasks_reach (to_do tasks.new.items) ≤ max (reach e.now) (tasks_reach (to_do tasks.old.items))) }
     ensures weight { OnOk result (tasks_weight (to_do tasks.new.items) < 2 * typed_size e.now + tasks_weight (to_do tasks.old.items)) }
 {
     let span = e.span;
@@ -206,12 +218,14 @@ fn lower_behind(
     c: &mut Around,
     pending: &Pending,
 ) -> Result<(), Stop>
+    requires scope { behind_reach pending.now.behind ≤ length c.old.scope.items }
     ensures text { OnOk result (b.new.text ≡ written (task_text (Finish pending.now) (around c.old) b.old.labels (length b.old.text.locals)) b.old.text) }
     ensures labels { OnOk result (b.new.labels ≡ b.old.labels + behind_labels pending.now.behind) }
     ensures locals { OnOk result (length b.new.text.locals ≡ length b.old.text.locals + behind_locals pending.now.behind) }
     ensures limit { IfErr result (λ stop. stop ≡ Blocks → 4096 < b.old.labels + behind_labels pending.now.behind) }
     ensures most { OnOk result (b.old.labels ≤ 4096 → b.new.labels ≤ 4096) }
     ensures around { OnOk result (around c.new ≡ around c.old) }
+    ensures count { OnOk result (length c.new.scope.items ≡ length c.old.scope.items) }
 {
     let (span, x, d) = (pending.span, pending.operand, pending.target);
     match pending.behind {
@@ -243,12 +257,14 @@ fn lower_assign(
     x: &TypedExpr,
     d: u32,
 ) -> Result<(), Stop>
+    requires scope { max (v + 1) (reach x.now) ≤ length c.old.scope.items }
     ensures text { OnOk result (b.new.text ≡ written (into (assign unit span v x.now) (around c.old) b.old.labels (length b.old.text.locals) d) b.old.text) }
     ensures labels { OnOk result (b.new.labels ≡ b.old.labels + labels (assign unit span v x.now)) }
     ensures locals { OnOk result (length b.new.text.locals ≡ length b.old.text.locals + locals (assign unit span v x.now)) }
     ensures limit { IfErr result (λ stop. stop ≡ Blocks → 4096 < b.old.labels + labels (assign unit span v x.now)) }
     ensures most { OnOk result (b.old.labels ≤ 4096 → b.new.labels ≤ 4096) }
     ensures around { OnOk result (around c.new ≡ around c.old) }
+    ensures count { OnOk result (length c.new.scope.items ≡ length c.old.scope.items) }
 {
     let t = lower_new(alloc, b, c, x)?;
     let to = variable_place(alloc, c.scope.as_slice(), v)?;
@@ -269,12 +285,14 @@ fn lower_update(
     x: &TypedExpr,
     d: u32,
 ) -> Result<(), Stop>
+    requires scope { max (v + 1) (reach x.now) ≤ length c.old.scope.items }
     ensures text { OnOk result (b.new.text ≡ written (into (update unit span op v x.now) (around c.old) b.old.labels (length b.old.text.locals) d) b.old.text) }
     ensures labels { OnOk result (b.new.labels ≡ b.old.labels + labels (update unit span op v x.now)) }
     ensures locals { OnOk result (length b.new.text.locals ≡ length b.old.text.locals + locals (update unit span op v x.now)) }
     ensures limit { IfErr result (λ stop. stop ≡ Blocks → 4096 < b.old.labels + labels (update unit span op v x.now)) }
     ensures most { OnOk result (b.old.labels ≤ 4096 → b.new.labels ≤ 4096) }
     ensures around { OnOk result (around c.new ≡ around c.old) }
+    ensures count { OnOk result (length c.new.scope.items ≡ length c.old.scope.items) }
 {
     let t = lower_new(alloc, b, c, x)?;
     let to = variable_place(alloc, c.scope.as_slice(), v)?;
@@ -320,12 +338,14 @@ fn lower_lazy(
     y: &TypedExpr,
     d: u32,
 ) -> Result<(), Stop>
+    requires scope { reach y.now ≤ length c.old.scope.items }
     ensures text { OnOk result (b.new.text ≡ written (lazy_text op y.now span t d (around c.old) b.old.labels (length b.old.text.locals)) b.old.text) }
     ensures labels { OnOk result (b.new.labels ≡ b.old.labels + 3 + labels y.now) }
     ensures locals { OnOk result (length b.new.text.locals ≡ length b.old.text.locals + locals y.now) }
     ensures limit { IfErr result (λ stop. stop ≡ Blocks → 4096 < b.old.labels + 3 + labels y.now) }
     ensures most { OnOk result (b.old.labels ≤ 4096 → b.new.labels ≤ 4096) }
     ensures around { OnOk result (around c.new ≡ around c.old) }
+    ensures count { OnOk result (length c.new.scope.items ≡ length c.old.scope.items) }
 {
     let yes = b.take_labels(3)?;
     let no = yes + 1;
@@ -361,12 +381,14 @@ fn lower_branch(
     y: &TypedExpr,
     d: u32,
 ) -> Result<(), Stop>
+    requires scope { max (reach x.now) (reach y.now) ≤ length c.old.scope.items }
     ensures text { OnOk result (b.new.text ≡ written (into (branch unit span x.now y.now) (around c.old) b.old.labels (length b.old.text.locals) d) b.old.text) }
     ensures labels { OnOk result (b.new.labels ≡ b.old.labels + labels (branch unit span x.now y.now)) }
     ensures locals { OnOk result (length b.new.text.locals ≡ length b.old.text.locals + locals (branch unit span x.now y.now)) }
     ensures limit { IfErr result (λ stop. stop ≡ Blocks → 4096 < b.old.labels + labels (branch unit span x.now y.now)) }
     ensures most { OnOk result (b.old.labels ≤ 4096 → b.new.labels ≤ 4096) }
     ensures around { OnOk result (around c.new ≡ around c.old) }
+    ensures count { OnOk result (length c.new.scope.items ≡ length c.old.scope.items) }
 {
     let t = lower_new(alloc, b, c, x)?;
     let yes = b.take_labels(3)?;
@@ -393,12 +415,14 @@ fn lower_choice(
     z: &TypedExpr,
     d: u32,
 ) -> Result<(), Stop>
+    requires scope { max (reach x.now) (max (reach y.now) (reach z.now)) ≤ length c.old.scope.items }
     ensures text { OnOk result (b.new.text ≡ written (into (choice unit span x.now y.now z.now) (around c.old) b.old.labels (length b.old.text.locals) d) b.old.text) }
     ensures labels { OnOk result (b.new.labels ≡ b.old.labels + labels (choice unit span x.now y.now z.now)) }
     ensures locals { OnOk result (length b.new.text.locals ≡ length b.old.text.locals + locals (choice unit span x.now y.now z.now)) }
     ensures limit { IfErr result (λ stop. stop ≡ Blocks → 4096 < b.old.labels + labels (choice unit span x.now y.now z.now)) }
     ensures most { OnOk result (b.old.labels ≤ 4096 → b.new.labels ≤ 4096) }
     ensures around { OnOk result (around c.new ≡ around c.old) }
+    ensures count { OnOk result (length c.new.scope.items ≡ length c.old.scope.items) }
 {
     let t = lower_new(alloc, b, c, x)?;
     let yes = b.take_labels(3)?;
@@ -422,10 +446,11 @@ fn enter_loop(
     invariants: &[Assertion],
     head: u32,
 ) -> Result<(), NoMemory>
-    ensures text { OnOk result (b.new.text ≡ written (Turns (ends span (Goto (label head))) (at_head (looping (around c.old) (label head)) (label head) (head_of (around c.old) invariants.now)) ∷ []) b.old.text) }
+    ensures text { OnOk result (b.new.text ≡ written (Turns (ends span (Goto (label head))) (at_head (looping (around c.old) (label head)) (label head) (head_of (around c.old) (formulas invariants.now))) ∷ []) b.old.text) }
     ensures locals { OnOk result (length b.new.text.locals ≡ length b.old.text.locals) }
     ensures labels { b.new.labels ≡ b.old.labels }
     ensures around { OnOk result (around c.new ≡ looping (around c.old) (label head)) }
+    ensures count { OnOk result (length c.new.scope.items ≡ length c.old.scope.items) }
 {
     let at_head = head_of(alloc, c, invariants)?;
     c.loops.push(Label(head))?;
@@ -452,6 +477,7 @@ fn leave_loop(
     ensures locals { OnOk result (length b.new.text.locals ≡ length b.old.text.locals) }
     ensures labels { b.new.labels ≡ b.old.labels }
     ensures around { around c.new ≡ outside (around c.old) }
+    ensures count { length c.new.scope.items ≡ length c.old.scope.items }
 {
     c.loops.pop();
     b.go(alloc, c, span, head, after)?;
@@ -471,7 +497,8 @@ fn lower_loop(
     x: &TypedExpr,
     y: &TypedExpr,
 ) -> Result<u32, Stop>
-    requires { head + 2 < 2 ^ 32 }
+    requires small { head + 2 < 2 ^ 32 }
+    requires scope { max (reach x.now) (reach y.now) ≤ length c.old.scope.items }
     ensures first { IfOk result (λ t. t ≡ length b.old.text.locals) }
     ensures text { OnOk result (b.new.text ≡ written (loop_text x.now y.now span (around c.old) head b.old.labels (length b.old.text.locals)) b.old.text) }
     ensures labels { OnOk result (b.new.labels ≡ b.old.labels + labels x.now + labels y.now) }
@@ -479,6 +506,7 @@ fn lower_loop(
     ensures limit { IfErr result (λ stop. stop ≡ Blocks → 4096 < b.old.labels + labels x.now + labels y.now) }
     ensures most { OnOk result (b.old.labels ≤ 4096 → b.new.labels ≤ 4096) }
     ensures around { OnOk result (around c.new ≡ around c.old) }
+    ensures count { OnOk result (length c.new.scope.items ≡ length c.old.scope.items) }
 {
     let t = lower_new(alloc, b, c, x)?;
     let test = TerminatorKind::If(moved(alloc, t), Label(head + 1), Label(head + 2));
@@ -499,12 +527,14 @@ fn lower_repeat(
     y: &TypedExpr,
     d: u32,
 ) -> Result<(), Stop>
+    requires scope { max (reach x.now) (reach y.now) ≤ length c.old.scope.items }
     ensures text { OnOk result (b.new.text ≡ written (into (repeat unit span invariants.now x.now y.now) (around c.old) b.old.labels (length b.old.text.locals) d) b.old.text) }
     ensures labels { OnOk result (b.new.labels ≡ b.old.labels + labels (repeat unit span invariants.now x.now y.now)) }
     ensures locals { OnOk result (length b.new.text.locals ≡ length b.old.text.locals + locals (repeat unit span invariants.now x.now y.now)) }
     ensures limit { IfErr result (λ stop. stop ≡ Blocks → 4096 < b.old.labels + labels (repeat unit span invariants.now x.now y.now)) }
     ensures most { OnOk result (b.old.labels ≤ 4096 → b.new.labels ≤ 4096) }
     ensures around { OnOk result (around c.new ≡ around c.old) }
+    ensures count { OnOk result (length c.new.scope.items ≡ length c.old.scope.items) }
 {
     let head = b.take_labels(3)?;
     enter_loop(alloc, b, c, span, invariants, head)?;
@@ -524,12 +554,14 @@ fn lower_call(
     es: &[TypedExpr],
     d: u32,
 ) -> Result<(), Stop>
+    requires scope { reach_in (exprs_of es.now) ≤ length c.old.scope.items }
     ensures text { OnOk result (b.new.text ≡ written (into (call unit span f (exprs_of es.now)) (around c.old) b.old.labels (length b.old.text.locals) d) b.old.text) }
     ensures labels { OnOk result (b.new.labels ≡ b.old.labels + labels (call unit span f (exprs_of es.now))) }
     ensures locals { OnOk result (length b.new.text.locals ≡ length b.old.text.locals + locals (call unit span f (exprs_of es.now))) }
     ensures limit { IfErr result (λ stop. stop ≡ Blocks → 4096 < b.old.labels + labels (call unit span f (exprs_of es.now))) }
     ensures most { OnOk result (b.old.labels ≤ 4096 → b.new.labels ≤ 4096) }
     ensures around { OnOk result (around c.new ≡ around c.old) }
+    ensures count { OnOk result (length c.new.scope.items ≡ length c.old.scope.items) }
 {
     let operands = lower_args(alloc, b, c, es)?;
     let after = b.take_labels(1)?;
@@ -549,12 +581,14 @@ fn lower_args(
     c: &mut Around,
     es: &[TypedExpr],
 ) -> Result<Items<Operand>, Stop>
+    requires scope { reach_in (exprs_of es.now) ≤ length c.old.scope.items }
     ensures text { OnOk result (b.new.text ≡ written (args (exprs_of es.now) (around c.old) b.old.labels (length b.old.text.locals)) b.old.text) }
     ensures labels { OnOk result (b.new.labels ≡ b.old.labels + labels_in (exprs_of es.now)) }
     ensures locals { OnOk result (length b.new.text.locals ≡ length b.old.text.locals + locals_in (exprs_of es.now)) }
     ensures limit { IfErr result (λ stop. stop ≡ Blocks → 4096 < b.old.labels + labels_in (exprs_of es.now)) }
     ensures most { OnOk result (b.old.labels ≤ 4096 → b.new.labels ≤ 4096) }
     ensures around { OnOk result (around c.new ≡ around c.old) }
+    ensures count { OnOk result (length c.new.scope.items ≡ length c.old.scope.items) }
     ensures operands { IfOk result (λ v. v ≡ map moved (temporaries (exprs_of es.now) (length b.old.text.locals))) }
 {
     let mut all = Items::new(alloc);
@@ -567,7 +601,7 @@ fn lower_args(
 
 /// The statements of a block and its last expression. Bindings end with the block, but for the outermost block of a body.
 #[cycle(lower)]
-#[tactic(auto, using(crate::proofs::Runs::running, crate::proofs::Bindings::statement_smaller, crate::proofs::Bindings::end_smaller))]
+#[tactic(auto, using(crate::proofs::Runs::running, crate::proofs::Bindings::statement_smaller, crate::proofs::Bindings::end_smaller, crate::proofs::Scopes::statement_reaches, crate::proofs::Scopes::end_reaches))]
 pub(crate) fn lower_rest(
     alloc: Global,
     b: &mut Builder,
@@ -578,12 +612,14 @@ pub(crate) fn lower_rest(
     last: Option<&TypedExpr>,
     d: u32,
 ) -> Result<(), Stop>
+    requires scope { reach_of (stmts_of statements.now (end_of (option_copied last))) ≤ length c.old.scope.items }
     ensures text { OnOk result (b.new.text ≡ written (rest (stmts_of statements.now (end_of (option_copied last.entry))) outer span (around c.old) b.old.labels (length b.old.text.locals) d) b.old.text) }
     ensures labels { OnOk result (b.new.labels ≡ b.old.labels + labels_of (stmts_of statements.now (end_of (option_copied last.entry)))) }
     ensures locals { OnOk result (length b.new.text.locals ≡ length b.old.text.locals + locals_of (stmts_of statements.now (end_of (option_copied last.entry)))) }
     ensures limit { IfErr result (λ stop. stop ≡ Blocks → 4096 < b.old.labels + labels_of (stmts_of statements.now (end_of (option_copied last.entry)))) }
     ensures most { OnOk result (b.old.labels ≤ 4096 → b.new.labels ≤ 4096) }
     ensures around { OnOk result (around c.new ≡ around c.old) }
+    ensures count { OnOk result (length c.new.scope.items ≡ length c.old.scope.items) }
 {
     let before = c.scope.len();
     for statement in statements {

@@ -1,10 +1,12 @@
 //! Lowering of functions.
-ghost use Rattle.std.specs.Prelude.{◌≡◌, ℕ, ◌+◌, ◌≤◌, ◌<◌, ◌^◌, ◌∷◌, [], List, length, map, OnOk, IfOk, IfErr};
+ghost use Rattle.std.specs.Prelude.{◌≡◌, ℕ, ◌+◌, ◌≤◌, ◌<◌, ◌^◌, ◌∷◌, [], None, List, length, map, OnOk, IfOk, IfErr};
 ghost use Rattle.text_core.specs.Names.{text_of};
+ghost use Rattle.type_check.specs.FirstBad.{bad_in};
 ghost use Rattle.type_check.specs.WellTyped.{FunctionFits};
 ghost use Rattle.type_check.specs.declared.program.Signature.{Signature};
 ghost use Rattle.mir_build.specs.Lowering.{counted, whole, local_name, LowersTo};
 ghost use Rattle.mir_build.specs.Numbered.{body_text, labels};
+ghost use Rattle.mir_build.specs.Reach.{reach};
 ghost use Rattle.mir_build.specs.Built.{written, around};
 ghost use Rattle.mir_build.specs.Whole.{built, body_of, FailsFor};
 ghost use Rattle.mir_build.specs.declared.stop.Stop.TheVariants.{Blocks};
@@ -21,7 +23,8 @@ use type_check::{Signature, TypedExpr, TypedFunction, TypedNode};
 
 /// The places of the parameters. Want of memory is answered too where a number would pass 32 bits.
 fn parameter_places(alloc: Global, params: &[Ty]) -> Result<Vec<Place>, NoMemory>
-    ensures { IfOk result (λ v. v.items ≡ map whole (counted 1 params.now)) }
+    ensures places { IfOk result (λ v. v.items ≡ map whole (counted 1 params.now)) }
+    ensures count { IfOk result (λ v. length v.items ≡ length params.now) }
 {
     let mut all = Vec::new(alloc);
     let mut local: u32 = 1;
@@ -65,6 +68,7 @@ fn lower_outermost(
     c: &mut Around,
     e: &TypedExpr,
 ) -> Result<(), Stop>
+    requires { reach e.now ≤ length c.old.scope.items }
     ensures text { OnOk result (b.new.text ≡ written (body_text e.now (around c.old) b.old.labels (length b.old.text.locals)) b.old.text) }
     ensures labels { OnOk result (b.new.labels ≡ b.old.labels + labels e.now) }
     ensures limit { IfErr result (λ stop. stop ≡ Blocks → 4096 < b.old.labels + labels e.now) }
@@ -79,6 +83,7 @@ fn lower_outermost(
 
 /// The text of a function's body.
 fn lower_text(alloc: Global, f: &TypedFunction) -> Result<BodyText, Stop>
+    requires { reach f.now.body ≤ length f.now.signature.params }
     ensures text { IfOk result (λ x. x ≡ built f.now) }
     ensures few { OnOk result (1 + labels f.now.body ≤ 4096) }
     ensures limit { IfErr result (λ stop. stop ≡ Blocks → 4096 < 1 + labels f.now.body) }
@@ -110,17 +115,18 @@ fn finish(
     ensures gone { IfOk result (λ r. r.1 ≡ record { gone = text.gone }) }
     ensures few { OnOk result (length text.locals < 2 ^ 32) }
 {
-    let BodyText {
-        mut blocks,
-        open_block,
-        locals,
-        gone,
-    } = text;
     let end = Terminator {
         span: value_span(&f.body),
         kind: TerminatorKind::Return,
     };
-    blocks.push(open_block.close(end))?;
+    let mut text = text;
+    text.leave(end)?;
+    let BodyText {
+        blocks,
+        front: _,
+        locals,
+        gone,
+    } = text;
     let Ok(params) = u32::try_from(f.signature.params.len()) else {
         return Err(NoMemory);
     };
@@ -161,8 +167,9 @@ pub(crate) fn lower_function(
     id: u32,
     f: &TypedFunction,
 ) -> Result<(Body, Initialised), PassError>
+    requires { reach f.now.body ≤ length f.now.signature.params }
     ensures named { IfOk result (λ r. text_of names.now f.now.name ≡ Some r.0.owner) }
-    ensures lowered { IfOk result (λ r. (σ : List Signature) → FunctionFits σ f.now → LowersTo r.0.owner f.now r.0 r.1) }
+    ensures lowered { IfOk result (λ r. (σ : List Signature) → FunctionFits σ f.now → bad_in f.now.body ≡ None → LowersTo r.0.owner f.now r.0 r.1) }
     ensures numbered { IfOk result (λ r. r.0.id ≡ id) }
     ensures few { IfOk result (λ r. length r.0.blocks ≤ 4096) }
     ensures limit { IfErr result (FailsFor (4096 < 1 + labels f.now.body)) }

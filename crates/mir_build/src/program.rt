@@ -1,5 +1,6 @@
 //! Lowering of programs.
 ghost use Rattle.std.specs.Prelude.{IfOk, IfErr};
+ghost use Rattle.type_check.specs.Checked.{AllGood};
 ghost use Rattle.type_check.specs.WellTyped.{ProgramFits};
 ghost use Rattle.mir_build.specs.Lowering.{IsLowered, HasMoreBlocks};
 ghost use Rattle.mir_build.specs.Whole.{HaveFewBlocks, FailsFor};
@@ -12,8 +13,7 @@ use std::alloc::Global;
 use text_core::{Items, Names, PassError};
 use type_check::TypedProgram;
 
-/// One body for each function, in order, with its contract and what may be gone in it. A program whose names or types do
-/// not fit has some answer too, of which only the number of blocks is promised.
+/// One body for each function of an accepted program, in order, with its contract and what may be gone in it.
 ///
 /// # Errors
 ///
@@ -21,9 +21,11 @@ use type_check::TypedProgram;
 /// number of a function, a local or a parameter would pass 32 bits, and where a function's name has no text in the table. The source
 /// is never refused.
 pub fn lower(alloc: Global, program: &TypedProgram, names: &Names) -> Result<Lowered, PassError>
-    ensures lowered { ProgramFits program.now → IfOk result (λ l. IsLowered names.now program.now l) }
+    requires fits { ProgramFits program.now }
+    requires good { AllGood program.now }
+    ensures lowered { IfOk result (IsLowered names.now program.now) }
     ensures few { IfOk result (λ l. HaveFewBlocks l.bodies) }
-    ensures limit { IfErr result (FailsFor (ProgramFits program.now → HasMoreBlocks program.now 4096)) }
+    ensures limit { IfErr result (FailsFor (HasMoreBlocks program.now 4096)) }
 {
     let mut bodies = Items::new(alloc);
     let mut contracts = Items::new(alloc);

@@ -6,7 +6,8 @@ use Rattle.mir_build.specs.Lowering.{Around, binds}
 use Rattle.mir_build.specs.Numbered.{rest}
 use Rattle.mir_build.specs.Built.{written, around, end_of}
 use Rattle.mir_build.specs.Tasks.{to_do, tasks_text}
-use Rattle.mir_build.proofs.TaskStack.{popped_text, popped_labels, popped_locals, popped_size}
+use Rattle.mir_build.proofs.Scopes.{next_reaches}
+use Rattle.mir_build.proofs.TaskStack.{popped_text, popped_labels, popped_locals, popped_size, popped_reach}
 use Rattle.mir_build.proofs.Runs.{running, args_at}
 use Rattle.mir_build.proofs.Statements.{around_behind, text_on, labels_at, locals_at, text_end, within_on, front_on, loops_on}
 use Rattle.mir_build.proofs.expression.+lower.Goals.{lower_rest-then-statement+in_ok-push, lower_rest-else-statement, lower_rest-in-None+in_ok-put_unit-in-None, lower_rest-in-Some+in_ok-lower_into-in-Some}
@@ -15,7 +16,7 @@ use Rattle.mir_build.proofs.expression.+lower.Goals as goal
 pub lower_args-loop-e-preserved : goal.lower_args-loop-e-preserved
 lower_args-loop-e-preserved t c =
     let e = args_at _ _ _ c.e-item.is c.loop-e-test.true in
-    record { text = grind (arith, running, e); labels = grind (arith, e); locals = grind (arith, e); most = λ h. grind (arith, c.in_ok-t.ensures.most, c.loop-e.invariant.most); around = c.in_ok-t.ensures.around ∙ c.loop-e.invariant.around; operands = grind (arith, append_assoc, e) }
+    record { text = grind (arith, running, e); labels = grind (arith, e); locals = grind (arith, e); most = λ h. grind (arith, c.in_ok-t.ensures.most, c.loop-e.invariant.most); around = c.in_ok-t.ensures.around ∙ c.loop-e.invariant.around; count = c.in_ok-t.ensures.count ∙ c.loop-e.invariant.count; operands = grind (arith, append_assoc, e) }
 
 pub lower_into-loop-task-preserved : goal.lower_into-loop-task-preserved
 lower_into-loop-task-preserved t c =
@@ -25,6 +26,7 @@ lower_into-loop-task-preserved t c =
     let labels = popped_labels old rest c.in-Some.task is in
     let locals = popped_locals old rest c.in-Some.task is in
     let size = popped_size old rest c.in-Some.task is in
+    let reach = popped_reach old rest c.in-Some.task is in
     record {
       text =
           ap (λ a. written (tasks_text (to_do c.do_task.new.tasks.items) a c.do_task.new.b.labels (length c.do_task.new.b.text.locals)) c.do_task.new.b.text) c.in_ok-do_task.ensures.around
@@ -33,7 +35,9 @@ lower_into-loop-task-preserved t c =
       locals = omega (arith, locals, c.in_ok-do_task.ensures.locals, c.loop-task.invariant.locals);
       most = λ h. c.in_ok-do_task.ensures.most (c.loop-task.invariant.most h);
       around = c.in_ok-do_task.ensures.around ∙ c.loop-task.invariant.around;
+      count = c.in_ok-do_task.ensures.count ∙ c.loop-task.invariant.count;
       size = omega (arith, size, c.in_ok-do_task.ensures.size, c.loop-task.invariant.size);
+      reach = omega (arith, reach, c.in_ok-do_task.ensures.reach, c.loop-task.invariant.reach);
     }
 
 pub lower_rest-loop-statement-preserved : goal.lower_rest-loop-statement-preserved
@@ -69,6 +73,7 @@ lower_rest-loop-statement-preserved t c =
       locals = omega (arith, locals_at ss i st end q h b e, c.in_ok-t.ensures.locals, known.locals);
       most = λ m. c.in_ok-t.ensures.most (known.most m);
       before = within_on b old x n known.before (around c.if-statement.c) which.2;
+      reach = next_reaches ss i st end q h b e old (around c.if-statement.c) x which.2 known.reach;
       scope = front_on b old x n known.before (around c.if-statement.c) which.2 ∙ known.scope;
       loops = loops_on b old x n known.before (around c.if-statement.c) which.2 ∙ known.loops;
     }

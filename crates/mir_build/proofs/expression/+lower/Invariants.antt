@@ -3,7 +3,8 @@ use Rattle.std.specs.Option.{option_copied}
 use Rattle.type_check.specs.TypedExprView.{typed_size, stmts_size, stmts_of, exprs_size, exprs_of}
 use Rattle.mir_build.specs.Lowering.{moved}
 use Rattle.mir_build.specs.Numbered.{into, rest, labels, locals, args, temporaries, labels_of, locals_of, labels_in, locals_in}
-use Rattle.mir_build.specs.Tasks.{to_do, behind_size, task_size, tasks_text, tasks_labels, tasks_locals, tasks_size, tasks_weight}
+use Rattle.mir_build.specs.Tasks.{to_do, behind_size, task_size, tasks_text, tasks_labels, tasks_locals, tasks_size, tasks_reach, tasks_weight}
+use Rattle.mir_build.specs.Reach.{reach, reach_of}
 use Rattle.mir_build.specs.Built.{written, around, end_of}
 use Rattle.mir_build.specs.Bindings.{left_of}
 use Rattle.mir_build.proofs.expression.+lower.Given as goal
@@ -60,7 +61,9 @@ invariant-lower_into-loop-task l = record {
   locals : length l.b.text.locals + tasks_locals (to_do l.tasks.items) ≡ length l.initial.b.text.locals + locals l.e;
   most : l.initial.b.labels ≤ 4096 → l.b.labels ≤ 4096;
   around : around l.c ≡ around l.initial.c;
+  count : length l.c.scope.items ≡ length l.initial.c.scope.items;
   size : tasks_size (to_do l.tasks.items) ≤ typed_size l.e;
+  reach : tasks_reach (to_do l.tasks.items) ≤ reach l.e;
 }
 
 abbrev pub decreases-lower_into-loop-task : goal.decreases-lower_into-loop-task
@@ -73,6 +76,7 @@ invariant-lower_args-loop-e l = record {
   locals : length l.b.text.locals + locals_in (exprs_of (drop l.e-index l.es)) ≡ length l.initial.b.text.locals + locals_in (exprs_of l.es);
   most : l.initial.b.labels ≤ 4096 → l.b.labels ≤ 4096;
   around : around l.c ≡ around l.initial.c;
+  count : length l.c.scope.items ≡ length l.initial.c.scope.items;
   operands : l.all ++ map moved (temporaries (exprs_of (drop l.e-index l.es)) (length l.b.text.locals)) ≡ map moved (temporaries (exprs_of l.es) (length l.initial.b.text.locals));
 }
 
@@ -86,6 +90,7 @@ invariant-lower_rest-loop-statement l =
       locals : length l.b.text.locals + locals_of left ≡ length l.initial.b.text.locals + locals_of all;
       most : l.initial.b.labels ≤ 4096 → l.b.labels ≤ 4096;
       before : l.before ≤ length l.c.scope.items;
+      reach : reach_of left ≤ length l.c.scope.items;
       scope : take l.before l.c.scope.items ≡ l.initial.c.scope.items;
       loops : l.c.loops.items ≡ l.initial.c.loops.items;
     }

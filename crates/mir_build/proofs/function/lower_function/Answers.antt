@@ -4,7 +4,7 @@ use Rattle.mir_build.proofs.function.lower_function.Goals as goal
 pub returns-in_ok-finish-in-Ok-clause-lowered : goal.returns-in_ok-finish-in-Ok-clause-lowered
 returns-in_ok-finish-in-Ok-clause-lowered c =
     let done = c.in_ok-finish-in-Ok in
-    λ σ w. answered σ c.args.id c.in_ok-owner.owner c.args.f.now c.in-Ok.text done.field-0.0 done.field-0.1 c.in-Ok.ensures.text done.ensures.body done.ensures.gone done.ensures.few w
+    λ σ w g. answered σ c.args.id c.in_ok-owner.owner c.args.f.now c.in-Ok.text done.field-0.0 done.field-0.1 c.in-Ok.ensures.text done.ensures.body done.ensures.gone done.ensures.few w g
 
 pub returns-in_ok-finish-in-Ok-clause-few : goal.returns-in_ok-finish-in-Ok-clause-few
 returns-in_ok-finish-in-Ok-clause-few c =

@@ -1,12 +1,11 @@
 use Rattle.std.proofs.Common.{◌≤◌, length, take}
 use Rattle.std.specs.List.{All}
 use Rattle.mir_ir.specs.declared.body.Body.{Body}
-use Rattle.type_check.specs.WellTyped.{ProgramFits}
 use Rattle.mir_build.specs.Lowering.{EachLowersTo}
 use Rattle.mir_build.proofs.program.lower.Given as goal
 
 abbrev pub invariant-loop-f : goal.invariant-loop-f
 invariant-loop-f l = record {
-  lowered : ProgramFits l.fn.program → EachLowersTo l.fn.names 0 (take l.f-index l.fn.program.functions) l.bodies l.contracts l.gone;
+  lowered : EachLowersTo l.fn.names 0 (take l.f-index l.fn.program.functions) l.bodies l.contracts l.gone;
   few : All (λ (b : Body). length b.blocks ≤ 4096) l.bodies;
 }

@@ -1,0 +1,68 @@
+-- Formulas that are not refused.
+use Rattle.std.proofs.Common.{◌≡◌, refl, ap, sym, ◌∙◌, List, [], ◌∷◌, map, Option, Some, None}
+use Rattle.text_core.specs.declared.refusal.SourceError.{SourceError}
+use Rattle.logic_term.specs.declared.obligation.Contract.{Contract}
+use Rattle.type_check.specs.declared.assertion.Assertion.{Assertion}
+use Rattle.type_check.specs.declared.assertion.Assertion.TheVariants.{Good, Bad}
+use Rattle.type_check.specs.declared.program.ClauseKind.{ClauseKind}
+use Rattle.type_check.specs.declared.program.ClauseKind.TheVariants.{Requires, Ensures}
+use Rattle.type_check.specs.declared.program.TypedClause.{TypedClause}
+use Rattle.type_check.specs.declared.program.TypedFunction.{TypedFunction}
+use Rattle.type_check.specs.Names.{or_else}
+use Rattle.type_check.specs.FirstBad.{bad_of, bad_among, bad_clause, bad_in_function}
+use Rattle.mir_build.specs.Lowering.{Formula, accepted, formulas_of, picked, contract_over, HasContract}
+use Rattle.mir_build.specs.Numbered.{formulas}
+use Rattle.mir_build.specs.Whole.{contract_of}
+
+-- ---- nothing is refused
+
+pub first_none : (a b : Option SourceError) → or_else a b ≡ None → a ≡ None
+first_none None b e = refl
+first_none (Some x) b e = absurd (cc)
+
+pub second_none : (a b : Option SourceError) → or_else a b ≡ None → b ≡ None
+second_none None b e = e
+second_none (Some x) b e = absurd (cc)
+
+-- ---- the formulas of assertions
+
+formulas_accepted : (fs : List Formula) → formulas (map accepted fs) ≡ fs
+formulas_accepted [] = refl
+formulas_accepted (f ∷ fs) = ap (λ gs. f ∷ gs) (formulas_accepted fs)
+
+pub formulas_are : (as' : List Assertion) (fs : List Formula) → as' ≡ map accepted fs → fs ≡ formulas as'
+formulas_are as' fs e = sym (ap formulas e ∙ formulas_accepted fs)
+
+pub all_accepted : (as' : List Assertion) → bad_among as' ≡ None → as' ≡ map accepted (formulas as')
+all_accepted [] e = refl
+all_accepted (Good s t ∷ as') e = ap (λ bs. Good s t ∷ bs) (all_accepted as' e)
+all_accepted (Bad x ∷ as') e = absurd (cc)
+
+-- ---- contracts
+
+bad_picked : (k l : ClauseKind) (a : Assertion) (rest : List Assertion) → bad_of a ≡ None → bad_among rest ≡ None → bad_among (picked k l a rest) ≡ None
+bad_picked Requires Requires (Good s t) rest e g = g
+bad_picked Requires Requires (Bad x) rest e g = absurd (cc)
+bad_picked Requires Ensures a rest e g = g
+bad_picked Ensures Requires a rest e g = g
+bad_picked Ensures Ensures (Good s t) rest e g = g
+bad_picked Ensures Ensures (Bad x) rest e g = absurd (cc)
+
+none_bad : (k : ClauseKind) (cs : List TypedClause) → bad_clause cs ≡ None → bad_among (formulas_of k cs) ≡ None
+none_bad k [] e = refl
+none_bad k (c ∷ cs) e = bad_picked k c.kind c.formula (formulas_of k cs) (first_none (bad_of c.formula) (bad_clause cs) e) (none_bad k cs (second_none (bad_of c.formula) (bad_clause cs) e))
+
+pub has_contract : (f : TypedFunction) → bad_clause f.clauses ≡ None → HasContract f (contract_of f)
+has_contract f e = record {
+  before = formulas (formulas_of Requires f.clauses);
+  behind = formulas (formulas_of Ensures f.clauses);
+  are_before = all_accepted (formulas_of Requires f.clauses) (none_bad Requires f.clauses e);
+  are_behind = all_accepted (formulas_of Ensures f.clauses) (none_bad Ensures f.clauses e);
+  is = refl;
+}
+
+pub contract_is : (f : TypedFunction) (c : Contract) → HasContract f c → c ≡ contract_of f
+contract_is f c h =
+    let before = formulas_are (formulas_of Requires f.clauses) h.before h.are_before in
+    let behind = formulas_are (formulas_of Ensures f.clauses) h.behind h.are_behind in
+    h.is ∙ (λ i. contract_over f (before i) (behind i))

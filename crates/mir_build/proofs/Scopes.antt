@@ -1,0 +1,69 @@
+-- How many variables have to be in scope around an expression.
+use Rattle.std.proofs.Common.{◌≡◌, refl, ap, sym, ◌∙◌, get_or, ℕ, zero, suc, ◌+◌, ◌-◌, ◌<◌, ◌≤◌, max, Bool, true, false, List, [], ◌∷◌, ◌++◌, drop, length, length-append, cond, arith}
+use Rattle.std.proofs.lemmas.List.{drop_all}
+use Rattle.std.proofs.lemmas.Option.{slice_get_within}
+use Rattle.logic_term.specs.Ty.{Ty}
+use Rattle.type_check.specs.declared.program.Signature.{Signature}
+use Rattle.type_check.specs.declared.typed.TypedStmt.{TypedStmt}
+use Rattle.type_check.specs.TypedExpr.{TypedExpr, TypedStmts, TypedExprs, integer, truth, variable, negative, denied, binary, lazy, assign, assign_value, update, update_value, call, block, branch, choice, repeat, done, last, bind, run, none, more}
+use Rattle.type_check.specs.TypedExprView.{ty_of, stmt_of, stmts_of, exprs_of}
+use Rattle.type_check.specs.WellTyped.{IsWellTyped, StatementsFit, ArgumentsFit}
+use Rattle.mir_build.specs.Lowering.{Around, whole}
+use Rattle.mir_build.specs.Reach.{reach, reach_of, reach_in}
+use Rattle.mir_build.proofs.Bindings.{stmts_at}
+use Rattle.mir_build.proofs.Statements.{around_behind}
+
+-- ---- what fits reaches no further than its scope
+
+mutual
+  pub within_scope : (σ : List Signature) (Γ : List Ty) (e : TypedExpr) → IsWellTyped σ Γ e → reach e ≤ length Γ
+  within_scope σ Γ (integer ty s z k) w = omega arith
+  within_scope σ Γ (truth ty s b) w = omega arith
+  within_scope σ Γ (variable ty s v) w = omega (arith, slice_get_within Γ v ty w)
+  within_scope σ Γ (negative ty s e) w = within_scope σ Γ e w.4
+  within_scope σ Γ (denied ty s e) w = within_scope σ Γ e w.2
+  within_scope σ Γ (binary ty s op a b) w = omega (arith, within_scope σ Γ a w.2, within_scope σ Γ b w.3)
+  within_scope σ Γ (lazy ty s op a b) w = omega (arith, within_scope σ Γ a w.3, within_scope σ Γ b w.4)
+  within_scope σ Γ (assign ty s v e) w = omega (arith, slice_get_within Γ v (ty_of e) w.1, within_scope σ Γ e w.2)
+  within_scope σ Γ (assign_value ty s a e) w = omega (arith, within_scope σ Γ a w.2, within_scope σ Γ e w.3)
+  within_scope σ Γ (update ty s op v e) w = omega (arith, slice_get_within Γ v (ty_of e) w.1, within_scope σ Γ e w.3)
+  within_scope σ Γ (update_value ty s op a e) w = omega (arith, within_scope σ Γ a w.3, within_scope σ Γ e w.4)
+  within_scope σ Γ (call ty s f es) w = arguments_within σ Γ es w.0.params w.3
+  within_scope σ Γ (block ty s ss) w = statements_within σ Γ ty ss w
+  within_scope σ Γ (branch ty s e a) w = omega (arith, within_scope σ Γ e w.3, within_scope σ Γ a w.4)
+  within_scope σ Γ (choice ty s e a b) w = omega (arith, within_scope σ Γ e w.3, within_scope σ Γ a w.4, within_scope σ Γ b w.5)
+  within_scope σ Γ (repeat ty s is e b) w = omega (arith, within_scope σ Γ e w.4, within_scope σ Γ b w.5)
+
+  statements_within : (σ : List Signature) (Γ : List Ty) (ty : Ty) (ss : TypedStmts) → StatementsFit σ Γ ty ss → reach_of ss ≤ length Γ
+  statements_within σ Γ ty done w = omega arith
+  statements_within σ Γ ty (last e) w = within_scope σ Γ e w.1
+  statements_within σ Γ ty (bind e ss) w = omega (arith, within_scope σ Γ e w.0, statements_within σ (Γ ++ ty_of e ∷ []) ty ss w.1, length-append Γ (ty_of e ∷ []))
+  statements_within σ Γ ty (run e ss) w = omega (arith, within_scope σ Γ e w.0, statements_within σ Γ ty ss w.1)
+
+  arguments_within : (σ : List Signature) (Γ : List Ty) (es : TypedExprs) (ts : List Ty) → ArgumentsFit σ Γ es ts → reach_in es ≤ length Γ
+  arguments_within σ Γ none ts w = omega arith
+  arguments_within σ Γ (more e es) [] w = absurd w
+  arguments_within σ Γ (more e es) (t ∷ ts) w = omega (arith, within_scope σ Γ e w.1, arguments_within σ Γ es ts w.2)
+
+-- ---- parts of lists
+
+reach_on : (b : Bool) (e : TypedExpr) (ss : TypedStmts) → reach e ≤ reach_of (stmt_of b e ss)
+reach_on true e ss = omega arith
+reach_on false e ss = omega arith
+
+pub statement_reaches : (ss : List TypedStmt) (i : ℕ) (s : TypedStmt) (end : TypedStmts) → s ≡ get_or ss i s → i < length ss → reach s.value ≤ reach_of (stmts_of (drop i ss) end)
+statement_reaches ss i s end q h = rw (stmts_at ss i s s.binds end q h refl) (reach_on s.binds s.value (stmts_of (drop (i + 1) ss) end))
+
+pub end_reaches : (ss : List TypedStmt) (i : ℕ) (end : TypedStmts) → length ss ≤ i → reach_of (stmts_of (drop i ss) end) ≡ reach_of end
+end_reaches ss i end h = ap (λ xs. reach_of (stmts_of xs end)) (drop_all i ss h)
+
+behind_statement : (b : Bool) (c : Around) (t : ℕ) (e : TypedExpr) (ss : TypedStmts) → reach_of (stmt_of b e ss) ≤ length c.scope → reach_of ss ≤ length (around_behind b c t).scope
+behind_statement true c t e ss h = omega (arith, h, length-append c.scope (whole t ∷ []))
+behind_statement false c t e ss h = omega (arith, h)
+
+-- behind the i-th statement
+pub next_reaches : (ss : List TypedStmt) (i : ℕ) (st : TypedStmt) (end : TypedStmts) → st ≡ get_or ss i st → i < length ss → (b : Bool) → st.binds ≡ b → (c around : Around) (t : ℕ) → around ≡ around_behind b c t
+    → reach_of (stmts_of (drop i ss) end) ≤ length c.scope → reach_of (stmts_of (drop (i + 1) ss) end) ≤ length around.scope
+next_reaches ss i st end q h b e c around t a n =
+    let k : reach_of (stmt_of b st.value (stmts_of (drop (i + 1) ss) end)) ≤ length c.scope = omega (arith, ap reach_of (stmts_at ss i st b end q h e), n) in
+    omega (arith, behind_statement b c t st.value (stmts_of (drop (i + 1) ss) end) k, ap (λ (x : Around). length x.scope) a)

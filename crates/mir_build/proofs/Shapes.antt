@@ -1,0 +1,83 @@
+-- A property of texts that each shape keeps holds of every text that is lowered.
+use Rattle.std.proofs.Common.{ℕ, Bool, true, false, List, [], ◌∷◌, ◌++◌}
+use Rattle.logic_term.specs.declared.kinds.Label.{Label}
+use Rattle.logic_term.specs.Ty.{Ty}
+use Rattle.text_core.specs.declared.span.Span.{Span}
+use Rattle.mir_ir.specs.declared.statement.Statement.{Statement}
+use Rattle.source_kinds.specs.declared.kinds.LazyOp.{LazyOp}
+use Rattle.source_kinds.specs.declared.kinds.LazyOp.TheVariants as lazy_op
+use Rattle.type_check.specs.TypedExpr.{TypedExpr, TypedStmts, TypedExprs}
+use Rattle.mir_build.specs.Text.{Line, Puts, Makes}
+use Rattle.mir_build.specs.Lowering.{Around, Formula, binds, looping, dies_in, test, calls, turning, lazily, Into, of_integer, of_truth, of_variable, of_negative, of_denied, of_binary, of_lazy, of_assign, of_assign_value}
+use Rattle.mir_build.specs.Lowering.{of_update, of_update_value, of_call, of_block, of_branch, of_choice, of_repeat, Rest, of_done, of_last, of_bind, of_run, Args, of_none, of_more, IntoBody, of_outermost, of_other}
+
+-- the property holds of what a shape makes where it holds of its parts
+pub record Keeps (P : Around → List Line → Type 0) : Type 0 where
+  pub nothing : (c : Around) → P c []
+  pub put : (c : Around) (s : Statement) (xs : List Line) → P c xs → P c (Puts s ∷ xs)
+  pub make : (c : Around) (x : ℕ) (t : Ty) (xs : List Line) → P c xs → P c (Makes x t ∷ xs)
+  pub join : (c : Around) (xs ys : List Line) → P c xs → P c ys → P c (xs ++ ys)
+  pub called : (c : Around) (s : Span) (f d : ℕ) (ts : List ℕ) (after : Label) → P c (calls c s f d ts after ∷ [])
+  pub tested : (c : Around) (s : Span) (t : ℕ) (yes' no' after : Label) (xs ys : List Line) → P c xs → P c ys → P c (test c s t yes' no' after xs ys)
+  pub turned : (c : Around) (s : Span) (head body after : Label) (fs : List Formula) (t : ℕ) (T : Ty) (xs : List Line) (u : ℕ) (U : Ty) (ys zs : List Line)
+      → P (looping c head) xs → P (looping c head) ys → P c zs → P c (turning c s head body after fs t T xs u U ys zs)
+  -- a text with one variable more in scope
+  pub bound : (c : Around) (t : ℕ) (xs : List Line) → P (binds c t) xs → P c xs
+
+module _ (P : Around → List Line → Type 0) (keeps : Keeps P) where
+  one : (c : Around) (s : Statement) → P c (Puts s ∷ [])
+  one c s = keeps.put c s [] (keeps.nothing c)
+
+  two : (c : Around) (s t : Statement) → P c (Puts s ∷ Puts t ∷ [])
+  two c s t = keeps.put c s _ (one c t)
+
+  three : (c : Around) (s t u : Statement) → P c (Puts s ∷ Puts t ∷ Puts u ∷ [])
+  three c s t u = keeps.put c s _ (two c t u)
+
+  -- a local that a text writes, and what stands behind it
+  made_then : (c : Around) (x : ℕ) (t : Ty) (xs ys : List Line) → P c xs → P c ys → P c (Makes x t ∷ (xs ++ ys))
+  made_then c x t xs ys p q = keeps.make c x t _ (keeps.join c xs ys p q)
+
+  of_lazily : (op : LazyOp) (c : Around) (s : Span) (t d : ℕ) (yes' no' after : Label) (ys : List Line) → P c ys → P c (lazily op c s t d yes' no' after ys)
+  of_lazily lazy_op.And c s t d yes' no' after ys p = keeps.tested c s t yes' no' after ys _ p (one c _)
+  of_lazily lazy_op.Or c s t d yes' no' after ys p = keeps.tested c s t yes' no' after _ ys (one c _) p
+
+  of_dying : (outer : Bool) (c : Around) (s : Span) (x : ℕ) → P c (dies_in outer s x)
+  of_dying true c s x = keeps.nothing c
+  of_dying false c s x = one c _
+
+  mutual
+    of_text : (c : Around) (e : TypedExpr) (d : ℕ) (xs : List Line) → Into c e d xs → P c xs
+    of_text c e d xs of_integer = one c _
+    of_text c e d xs of_truth = one c _
+    of_text c e d xs (of_variable x q) = one c _
+    of_text c e d xs (of_negative {xs = us} p) = made_then c _ _ us _ (of_text c _ _ us p) (one c _)
+    of_text c e d xs (of_denied {xs = us} p) = made_then c _ _ us _ (of_text c _ _ us p) (one c _)
+    of_text c e d xs (of_binary {xs = us} {ys = vs} p q) = made_then c _ _ us _ (of_text c _ _ us p) (made_then c _ _ vs _ (of_text c _ _ vs q) (one c _))
+    of_text c e d xs (of_lazy {s = s} {op = op} {t = t} yes' no' after {xs = us} {ys = vs} p q) = made_then c _ _ us _ (of_text c _ _ us p) (of_lazily op c s t d yes' no' after vs (of_text c _ _ vs q))
+    of_text c e d xs (of_assign x {xs = us} r p) = made_then c _ _ us _ (of_text c _ _ us p) (two c _ _)
+    of_text c e d xs (of_assign_value {xs = us} {ys = vs} p q) = made_then c _ _ us _ (of_text c _ _ us p) (made_then c _ _ vs _ (of_text c _ _ vs q) (two c _ _))
+    of_text c e d xs (of_update x u {xs = us} r p) = made_then c _ _ us _ (of_text c _ _ us p) (keeps.make c u _ _ (three c _ _ _))
+    of_text c e d xs (of_update_value u {xs = us} {ys = vs} p q) = made_then c _ _ us _ (of_text c _ _ us p) (made_then c _ _ vs _ (of_text c _ _ vs q) (keeps.make c u _ _ (three c _ _ _)))
+    of_text c e d xs (of_call after {xs = us} p) = keeps.join c us _ (of_args c _ _ us p) (keeps.called c _ _ _ _ after)
+    of_text c e d xs (of_block p) = of_rest c _ _ _ _ xs p
+    of_text c e d xs (of_branch {s = s} {t = t} yes' no' after {xs = us} {ys = vs} p q) = made_then c _ _ us _ (of_text c _ _ us p) (keeps.tested c s t yes' no' after vs _ (of_text c _ _ vs q) (one c _))
+    of_text c e d xs (of_choice {s = s} {t = t} yes' no' after {xs = us} {ys = vs} {zs = ws} p q r) =
+        made_then c _ _ us _ (of_text c _ _ us p) (keeps.tested c s t yes' no' after vs ws (of_text c _ _ vs q) (of_text c _ _ ws r))
+    of_text c e d xs (of_repeat {s = s} {t = t} {u = u} head body after fs {xs = us} {ys = vs} g p q) =
+        keeps.turned c s head body after fs t _ us u _ vs _ (of_text (looping c head) _ _ us p) (of_text (looping c head) _ _ vs q) (one c _)
+
+    of_rest : (c : Around) (outer : Bool) (s : Span) (ss : TypedStmts) (d : ℕ) (xs : List Line) → Rest c outer s ss d xs → P c xs
+    of_rest c outer s ss d xs of_done = one c _
+    of_rest c outer s ss d xs (of_last p) = of_text c _ _ xs p
+    of_rest c outer s ss d xs (of_bind {t = t} {xs = us} {ys = vs} p q) =
+        made_then c _ _ us _ (of_text c _ _ us p) (keeps.join c vs _ (keeps.bound c t vs (of_rest (binds c t) _ _ _ _ vs q)) (of_dying outer c s t))
+    of_rest c outer s ss d xs (of_run {xs = us} {ys = vs} p q) = made_then c _ _ us vs (of_text c _ _ us p) (of_rest c _ _ _ _ vs q)
+
+    of_args : (c : Around) (es : TypedExprs) (ts : List ℕ) (xs : List Line) → Args c es ts xs → P c xs
+    of_args c es ts xs of_none = keeps.nothing c
+    of_args c es ts xs (of_more {xs = us} {ys = vs} p q) = made_then c _ _ us vs (of_text c _ _ us p) (of_args c _ _ vs q)
+
+  pub of_body : (c : Around) (e : TypedExpr) (xs : List Line) → IntoBody c e xs → P c xs
+  of_body c e xs (of_outermost p) = of_rest c _ _ _ _ xs p
+  of_body c e xs (of_other q p) = of_text c e _ xs p

@@ -1,0 +1,33 @@
+-- How many variables have to be in scope around an expression, so that each that it names is there. Contracts of the code alone speak of it.
+use Rattle.std.specs.Prelude.{ℕ, ◌+◌, ◌-◌, max}
+use Rattle.type_check.specs.TypedExpr.{TypedExpr, TypedStmts, TypedExprs, integer, truth, variable, negative, denied, binary, lazy, assign, assign_value, update, update_value, call, block, branch, choice, repeat, done, last, bind, run, none, more}
+
+abbrev mutual
+  pub reach : TypedExpr → ℕ
+  reach (integer ty s z k) = 0
+  reach (truth ty s b) = 0
+  reach (variable ty s v) = v + 1
+  reach (negative ty s e) = reach e
+  reach (denied ty s e) = reach e
+  reach (binary ty s op a b) = max (reach a) (reach b)
+  reach (lazy ty s op a b) = max (reach a) (reach b)
+  reach (assign ty s v e) = max (v + 1) (reach e)
+  reach (assign_value ty s a e) = max (reach a) (reach e)
+  reach (update ty s op v e) = max (v + 1) (reach e)
+  reach (update_value ty s op a e) = max (reach a) (reach e)
+  reach (call ty s f es) = reach_in es
+  reach (block ty s ss) = reach_of ss
+  reach (branch ty s e a) = max (reach e) (reach a)
+  reach (choice ty s e a b) = max (reach e) (max (reach a) (reach b))
+  reach (repeat ty s is e b) = max (reach e) (reach b)
+
+  pub reach_of : TypedStmts → ℕ
+  reach_of done = 0
+  reach_of (last e) = reach e
+  -- behind a binding there is one variable more
+  reach_of (bind e ss) = max (reach e) (reach_of ss - 1)
+  reach_of (run e ss) = max (reach e) (reach_of ss)
+
+  pub reach_in : TypedExprs → ℕ
+  reach_in none = 0
+  reach_in (more e es) = max (reach e) (reach_in es)
