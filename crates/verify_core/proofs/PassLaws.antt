@@ -86,9 +86,9 @@ typed_as source table items typed has is = record { items = items; has = has; is
 pub fits_of : (source : List ℕ) (table : List (List ℕ)) (typed : TypedProgram) → IsTypedAs source table typed → ProgramFits typed
 fits_of source table typed t = typed_program_fits t.items typed t.is_typed
 
-pub lowering_refused : (source : List ℕ) (table : List (List ℕ)) (typed : TypedProgram) (e : PassError) → IsTypedAs source table typed → FailsFor (ProgramFits typed → HasMoreBlocks typed 4096) e → RefusesSource source (refusal_of e)
+pub lowering_refused : (source : List ℕ) (table : List (List ℕ)) (typed : TypedProgram) (e : PassError) → IsTypedAs source table typed → FailsFor (HasMoreBlocks typed 4096) e → RefusesSource source (refusal_of e)
 lowering_refused source table typed (errors.Source e) t fails = absurd fails
-lowering_refused source table typed (errors.Limit l) t (is, more) = subst (λ (m : Limit). IsPastLimit source m) (sym is) (IsPastLimit.blocks t (more (fits_of source table typed t)))
+lowering_refused source table typed (errors.Limit l) t (is, more) = subst (λ (m : Limit). IsPastLimit source m) (sym is) (IsPastLimit.blocks t more)
 lowering_refused source table typed errors.NoMemory t fails = tt
 
 pub obligations_refused : (source : List ℕ) (table : List (List ℕ)) (typed : TypedProgram) (l : Lowered) (limit : Limit) → IsTypedAs source table typed → IsLowered table typed l → HaveFewBlocks l.bodies → HaveFewPaths l.bodies → IsGoalsError l limit → IsPastLimit source limit
@@ -108,7 +108,7 @@ tables_are table typed l T lowered is = is ∙ ap with_types (sym lowered.decls)
 module _ (table : List (List ℕ)) where
   as_many : (n : ℕ) (fs : List TypedFunction) (bs : List Body) (cs : List Contract) (gones : List Initialised) → EachLowersTo table n fs bs cs gones → (length cs ≡ length bs) × (length gones ≡ length bs)
   as_many _ _ _ _ _ no_functions = (refl, refl)
-  as_many _ _ _ _ _ (and_function owner named lowers numbered rest) = let r = as_many _ _ _ _ _ rest in (ap suc r.0, ap suc r.1)
+  as_many _ _ _ _ _ (and_function owner named lowers contract numbered rest) = let r = as_many _ _ _ _ _ rest in (ap suc r.0, ap suc r.1)
 
   known : (bs : Bodies) (cs : List Contract) (b : Body) (p : Place) (callee : Callee) (types : List Ty) (args : List Operand) (m : Label) (kind : TerminatorKind) → length cs ≡ length bs.bodies → EndIsTyped bs b kind → kind ≡ Call p callee types args m
       → ((d : Contract) × (contract_at cs callee ≡ Some d)) × ((t : Ty) × (slice_get b.locals p.local ≡ Some t))

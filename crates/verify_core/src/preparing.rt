@@ -1,5 +1,6 @@
 //! The passes over a source.
 ghost use Rattle.std.specs.Prelude.{◌≡◌, ◌+◌, ◌^◌, ◌<◌, ◌≤◌, ◌++◌, [], length, IfOk, IfErr, OnOk};
+ghost use Rattle.type_check.specs.Checked.{AllGood};
 ghost use Rattle.type_check.specs.WellTyped.{ProgramFits};
 ghost use Rattle.mir_build.specs.Lowering.{IsLowered};
 ghost use Rattle.mir_build.specs.Laws.{Lowers};
@@ -31,6 +32,7 @@ fn typed_source(alloc: Global, source: &[u8], names: &mut Names) -> Result<Typed
     requires empty { names.old ≡ [] }
     ensures ok { IfOk result (IsTypedAs source.now names.new) }
     ensures fits { IfOk result ProgramFits }
+    ensures good { IfOk result AllGood }
     ensures refused { IfErr result (RefusesSource source.now) }
 {
     let items = built_items(alloc, source, names)?;

@@ -14,35 +14,35 @@ returns-in_err-lowered-clause-refused c =
 
 pub check_all_paths-requires : goal.check_all_paths-requires
 check_all_paths-requires c =
-    laid_out c.typed_source.new.names c.in_ok-typed.typed c.in_ok-lowered.lowered (c.in_ok-lowered.ensures.lowered c.in_ok-typed.ensures.fits) c.in_ok-typed.ensures.fits
+    laid_out c.typed_source.new.names c.in_ok-typed.typed c.in_ok-lowered.lowered c.in_ok-lowered.ensures.lowered c.in_ok-typed.ensures.fits
 
 pub returns-in_err-check_all_paths-clause-refused : goal.returns-in_err-check_all_paths-clause-refused
 returns-in_err-check_all_paths-clause-refused c =
     let p = err_from_is_err_and c.from_residual-in_err-check_all_paths.result c.from_residual-in_err-check_all_paths.ensures.1 in
-    rw (p.1, p.2) (paths_refused c.args.source.now c.typed_source.new.names c.in_ok-typed.typed c.in_ok-lowered.lowered _ c.in_ok-typed.ensures.ok (c.in_ok-lowered.ensures.lowered c.in_ok-typed.ensures.fits) c.in_ok-lowered.ensures.few
+    rw (p.1, p.2) (paths_refused c.args.source.now c.typed_source.new.names c.in_ok-typed.typed c.in_ok-lowered.lowered _ c.in_ok-typed.ensures.ok c.in_ok-lowered.ensures.lowered c.in_ok-lowered.ensures.few
     c.in_err-check_all_paths.ensures.err)
 
 pub check_obligations-requires : goal.check_obligations-requires
-check_obligations-requires c = walkable c.typed_source.new.names c.in_ok-typed.typed c.in_ok-lowered.lowered (c.in_ok-lowered.ensures.lowered c.in_ok-typed.ensures.fits) c.in_ok-typed.ensures.fits
+check_obligations-requires c = walkable c.typed_source.new.names c.in_ok-typed.typed c.in_ok-lowered.lowered c.in_ok-lowered.ensures.lowered c.in_ok-typed.ensures.fits
 
 pub returns-in_err-check_obligations-clause-refused : goal.returns-in_err-check_obligations-clause-refused
 returns-in_err-check_obligations-clause-refused c =
     let p = err_from_is_err_and c.from_residual-in_err-check_obligations.result c.from_residual-in_err-check_obligations.ensures.1 in
-    rw (p.1, p.2) (obligations_refused c.args.source.now c.typed_source.new.names c.in_ok-typed.typed c.in_ok-lowered.lowered _ c.in_ok-typed.ensures.ok (c.in_ok-lowered.ensures.lowered
-    c.in_ok-typed.ensures.fits) c.in_ok-lowered.ensures.few c.in_ok-check_all_paths.ensures.ok c.in_err-check_obligations.ensures.err)
+    rw (p.1, p.2) (obligations_refused c.args.source.now c.typed_source.new.names c.in_ok-typed.typed c.in_ok-lowered.lowered _ c.in_ok-typed.ensures.ok c.in_ok-lowered.ensures.lowered
+    c.in_ok-lowered.ensures.few c.in_ok-check_all_paths.ensures.ok c.in_err-check_obligations.ensures.err)
 
 pub all_owed-requires : goal.all_owed-requires
-all_owed-requires c = walkable c.typed_source.new.names c.in_ok-typed.typed c.in_ok-lowered.lowered (c.in_ok-lowered.ensures.lowered c.in_ok-typed.ensures.fits) c.in_ok-typed.ensures.fits
+all_owed-requires c = walkable c.typed_source.new.names c.in_ok-typed.typed c.in_ok-lowered.lowered c.in_ok-lowered.ensures.lowered c.in_ok-typed.ensures.fits
 
 pub returns-clause-ok : goal.returns-clause-ok
 returns-clause-ok c = record {
   typed = c.in_ok-typed.typed;
   is_typed = c.in_ok-typed.ensures.ok;
   gones = c.in_ok-lowered.lowered.gone;
-  lowers = c.in_ok-lowered.ensures.lowered c.in_ok-typed.ensures.fits;
+  lowers = c.in_ok-lowered.ensures.lowered;
   blocks = c.in_ok-lowered.ensures.few;
   paths = c.in_ok-check_all_paths.ensures.ok;
-  tables = tables_are c.typed_source.new.names c.in_ok-typed.typed c.in_ok-lowered.lowered c.new.result (c.in_ok-lowered.ensures.lowered c.in_ok-typed.ensures.fits) c.new.ensures;
+  tables = tables_are c.typed_source.new.names c.in_ok-typed.typed c.in_ok-lowered.lowered c.new.result c.in_ok-lowered.ensures.lowered c.new.ensures;
   owed = c.in_ok-obligations.ensures;
   few = c.in_ok-check_obligations.ensures.ok c.in_ok-obligations.obligations c.in_ok-obligations.ensures;
 }
