@@ -17,6 +17,7 @@ use Rattle.mir_build.proofs.LawTyped.{EndFits, is_local, AreTyped}
 use Rattle.mir_build.proofs.LawLayout.{blocks_of}
 use Rattle.mir_build.proofs.LawInit.{EachBlock}
 use Rattle.mir_ir.specs.declared.body.Bodies.{Bodies}
+use Rattle.mir_build.proofs.Basics.{some_same}
 
 abbrev pub AllTyped : Body → List Statement → Type 0
 AllTyped b [] = Unit {0}
@@ -25,9 +26,6 @@ AllTyped b (s ∷ sts) = StatementIsTyped b s.kind × AllTyped b sts
 all_typed_more : (b : Body) (sts : List Statement) (s : Statement) → AllTyped b sts → StatementIsTyped b s.kind → AllTyped b (sts ++ s ∷ [])
 all_typed_more b [] s h g = (g, tt)
 all_typed_more b (u ∷ sts) s h g = (h.0, all_typed_more b sts s h.1 g)
-
-some_same : {A : Type 0} {a b : A} → Some a ≡ Some b → a ≡ b
-some_same e = cc
 
 pub typed_at : (b : Body) (sts : List Statement) (i : ℕ) (s : Statement) → AllTyped b sts → slice_get sts i ≡ Some s → StatementIsTyped b s.kind
 typed_at b [] i s h e = absurd (cc)

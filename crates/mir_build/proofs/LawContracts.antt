@@ -19,6 +19,7 @@ use Rattle.mir_ir.specs.Names.{ContractSpeaks, IsOneOf}
 use Rattle.mir_build.specs.Lowering.{counted, contract_over, HasContract, Formula, accepted, term_of, formula_span, formulas_of, picked, LowersTo}
 use Rattle.mir_build.proofs.LawFunction.{counted_length, locals_length}
 use Rattle.mir_build.proofs.LawLocals.{counted_at, counted_get, local_no_variable, variable_number, variable_no_answer, variable_not_new, small_named}
+use Rattle.mir_build.proofs.Basics.{some_same}
 
 -- the formulas speak of the first n variables, or of the answer
 abbrev pub EachSpeaksOfAnswer : ℕ → List Assertion → Type 0
@@ -40,9 +41,6 @@ before_speaks n (c ∷ cs) h = picked_before n c.kind c.formula (formulas_of Req
 over_speaks : (n : ℕ) (cs : List TypedClause) → ClausesSpeak n cs → EachSpeaksOfAnswer n (formulas_of Ensures cs)
 over_speaks n [] h = tt
 over_speaks n (c ∷ cs) h = picked_over n c.kind c.formula (formulas_of Ensures cs) h.0 (over_speaks n cs h.1)
-
-some_same : {A : Type 0} {a b : A} → Some a ≡ Some b → a ≡ b
-some_same e = cc
 
 before_at : (n : ℕ) (fs : List Formula) → EachSpeaks n (map accepted fs) → (j : ℕ) (t : Term) → slice_get (map term_of fs) j ≡ Some t → (x : Name) → free x t ≡ true → IsVariable n x
 before_at n [] h j t e x f = absurd (cc)

@@ -31,9 +31,7 @@ use Rattle.mir_build.proofs.LawBlocks.{BlockTyped}
 use Rattle.mir_build.proofs.LawFunction.{start, start_fits, owned_absent, body_labelling, blocks_typed}
 use Rattle.mir_build.proofs.LawLocals.{local_number, named}
 use Rattle.mir_ir.specs.declared.body.Bodies.{Bodies}
-
-some_same : {A : Type 0} {a b : A} → Some a ≡ Some b → a ≡ b
-some_same e = cc
+use Rattle.mir_build.proofs.Basics.{some_same}
 
 free_at : (set : Locals) (ts : List Term) (j : ℕ) (t : Term) → EachFree set ts → slice_get ts j ≡ Some t → (x : Name) → free x t ≡ true → IsLocalIn set x
 free_at set [] j t h e x f = absurd (cc)

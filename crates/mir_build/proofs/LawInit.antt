@@ -18,6 +18,7 @@ use Rattle.mir_build.proofs.LawLists.{Has, here, there, differs, count_self}
 use Rattle.mir_build.proofs.LawNames.{HeadFits}
 use Rattle.mir_build.proofs.LawRuns.{HasNone, everything, Runs, stops, puts, makes, turns, leaves, owns, Agree, labels_in}
 use Rattle.mir_build.proofs.LawLayout.{blocks_of, Once, rest_once}
+use Rattle.mir_build.proofs.Basics.{some_same}
 
 -- ---- the set of a label
 
@@ -64,9 +65,6 @@ can_run_more (s ∷ sts) st set h g = (h.0, can_run_more sts st (run s.kind set)
 all_is_some : (sts : List Statement) (set : Locals) → after_some (length sts) sts set ≡ after_all sts set
 all_is_some [] set = refl
 all_is_some (st ∷ sts) set = all_is_some sts (run st.kind set)
-
-some_same : {A : Type 0} {a b : A} → Some a ≡ Some b → a ≡ b
-some_same e = cc
 
 can_run_at : (sts : List Statement) (i : ℕ) (st : Statement) (set : Locals) → CanRunAll set sts → slice_get sts i ≡ Some st → CanRun (after_some i sts set) st.kind
 can_run_at [] i st set h e = absurd (cc)

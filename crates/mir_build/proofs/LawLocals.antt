@@ -22,11 +22,9 @@ use Rattle.mir_build.proofs.LawTypes.{Callee}
 use Rattle.mir_build.proofs.OneBody.{locals_once}
 use Rattle.mir_build.proofs.LawFunction.{locals_fit, lines_typed}
 use Rattle.mir_ir.specs.declared.body.Bodies.{Bodies}
+use Rattle.mir_build.proofs.Basics.{some_same}
 
 -- ---- names by number
-
-some_same : {A : Type 0} {a b : A} → Some a ≡ Some b → a ≡ b
-some_same e = cc
 
 shift : (m i : ℕ) → (m + 1) + i ≡ m + suc i
 shift m i = omega arith

@@ -20,6 +20,7 @@ use Rattle.mir_build.specs.Text.{Line, Puts, Makes, Turns, Leaves, Owns, made}
 use Rattle.mir_build.proofs.LawLists.{Has, here, there, has_left, has_right, made-append}
 use Rattle.mir_build.proofs.LawNames.{HoldsPlaces, HeadFits}
 use Rattle.mir_ir.specs.declared.body.Bodies.{Bodies}
+use Rattle.mir_build.proofs.Basics.{some_same}
 
 -- ---- operators
 
@@ -35,9 +36,6 @@ operation_on_ints Lt k t e = cc
 operation_on_ints Le k t e = cc
 operation_on_ints Gt k t e = cc
 operation_on_ints Ge k t e = cc
-
-some_same : {A : Type 0} {a b : A} → Some a ≡ Some b → a ≡ b
-some_same e = cc
 
 operation_on_bools : (op : BinaryOp) (t : Ty) → operation_ty op bool ≡ Some t → mir.IsEquality op × (t ≡ bool)
 operation_on_bools Eq t e = (tt, sym (some_same e))

@@ -20,9 +20,7 @@ use Rattle.mir_build.proofs.LawContracts.{contract_speaks}
 use Rattle.mir_build.proofs.LawHeads.{labelled, heads_speak}
 use Rattle.mir_ir.specs.declared.body.Bodies.{Bodies}
 use Rattle.mir_build.proofs.LawInit.{IsLabelled}
-
-some_same : {A : Type 0} {a b : A} → Some a ≡ Some b → a ≡ b
-some_same e = cc
+use Rattle.mir_build.proofs.Basics.{some_same}
 
 -- the function of a place, and its body; the first function has this number
 pub record FunctionAt (σ : List Signature) (first : ℕ) (fs : List TypedFunction) (bs : List Body) (cs : List Contract) (gones : List Initialised) (n : ℕ) (f : TypedFunction) (b : Body) : Type 0 where

@@ -26,9 +26,7 @@ use Rattle.mir_build.proofs.BodyTexts.{body_once}
 use Rattle.mir_build.proofs.Rowwise.{turn_count_body}
 use Rattle.mir_build.proofs.OneText.{one_body_text}
 use Rattle.mir_build.proofs.Whole.{types, locals_paired, length-paired, closed_turns}
-
-some_same : {A : Type 0} {a b : A} → Some a ≡ Some b → a ≡ b
-some_same e = cc
+use Rattle.mir_build.proofs.Basics.{some_same}
 
 -- ---- lists with the same elements
 

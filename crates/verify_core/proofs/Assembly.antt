@@ -1,6 +1,5 @@
 -- A program whose functions fit meets the conditions under which true obligations make functions good.
 use Rattle.std.proofs.Common.{◌≡◌, ◌∙◌, refl, sym, ap, subst, ℕ, zero, suc, ◌==◌, ◌&&◌, ◌⊎◌, inr, Bool, true, false, List, [], ◌∷◌, length, Some, slice_get, true≢false, inl, None}
-use Rattle.std.proofs.Math.Option.{some-injective}
 use Rattle.std.specs.List.{list_any}
 use Rattle.std.proofs.lemmas.Bool.{eqb-true}
 use Rattle.text_core.specs.declared.name.Name.{Name}
@@ -24,6 +23,7 @@ use Rattle.mir_build.proofs.LawsOfPrograms.{bodies_are_sound, bodies_are_laid_ou
 use Rattle.verify_core.specs.Prepared.{gone_of, program_of}
 use Rattle.verify_core.proofs.ReachLaws.{any_found}
 use Rattle.mir_ir.specs.declared.body.Bodies.{Bodies}
+use Rattle.verify_core.proofs.Basics.{some_same}
 
 -- ---- types of locals
 
@@ -74,7 +74,7 @@ module _ (b : Body) (gone : Initialised) (i : Labelling) (h : HeadsAreThere b go
 
 pub gone_at : (gones : List Initialised) (n : ℕ) (g : Initialised) → slice_get gones n ≡ Some g → gone_of gones n ≡ g
 gone_at [] n g e = absurd cc
-gone_at (h ∷ gones) zero g e = some-injective _ _ e
+gone_at (h ∷ gones) zero g e = some_same e
 gone_at (h ∷ gones) (suc n) g e = gone_at gones n g e
 
 module _ (table : List (List ℕ)) (ds : List AdtDecl) (fs : List TypedFunction) (bs : Bodies) (cs : Contracts) (gones : List Initialised) (lowers : Lowers table ds fs bs cs gones) where

@@ -1,6 +1,5 @@
 -- One more obligation.
 use Rattle.std.proofs.Common.{◌≡◌, ◌∙◌, refl, sym, ap, subst, ℕ, zero, suc, ◌+◌, ◌<◌, ◌≤◌, ◌⊎◌, inl, inr, Bool, true, false, List, [], ◌∷◌, ◌++◌, length, map, take, get_or, Option, None, Some, add-one}
-use Rattle.std.proofs.Math.Option.{some-injective}
 use Rattle.std.specs.Prelude.{slice_get, slice_set}
 use Rattle.std.proofs.lemmas.List.{take_more, take_all, length-map, map-append}
 use Rattle.logic_term.specs.declared.obligation.Obligation.{Obligation}
@@ -20,6 +19,7 @@ use Rattle.verify_core.proofs.OwedLaws.{itself_is, other_is_not, each_both, each
 use Rattle.verify_core.proofs.ReachLaws.{same_or_other, get_other, get_same, got, length_same, within}
 use Rattle.verify_core.proofs.RunLaws.{one_more_proved, one_more_left}
 use Rattle.verify_core.proofs.SettledLaws.{settled_derives, left_underived}
+use Rattle.verify_core.proofs.Basics.{some_same}
 
 -- ---- the flags
 
@@ -67,7 +67,7 @@ module _ (T : Tables) (ps : List Proof) (os : List Owed) where
     where
       not_set : (f : ℕ) (flag was : Bool) → k ≡ f → slice_get flags f ≡ Some was → slice_get (slice_set flags k false) f ≡ Some flag → flag ≡ false
       not_set f flag was same before is =
-          some-injective _ _ (sym is ∙ subst (λ (i : ℕ). slice_get (slice_set flags k false) i ≡ Some false) same (get_same flags k false was (subst (λ (i : ℕ). slice_get flags i ≡ Some was) (sym same) before)))
+          some_same (sym is ∙ subst (λ (i : ℕ). slice_get (slice_set flags k false) i ≡ Some false) same (get_same flags k false was (subst (λ (i : ℕ). slice_get flags i ≡ Some was) (sym same) before)))
 
       inside : (f : ℕ) (flag : Bool) → slice_get (slice_set flags k false) f ≡ Some flag → f < length flags
       inside f flag is = subst (λ (n : ℕ). f < n) (length_same flags k false) (within (slice_set flags k false) f flag is)
@@ -107,7 +107,7 @@ one_more_judged T ps os many i o r before after below is has settles tallies =
 
 all_true : (bodies : List Body) (f : ℕ) (flag : Bool) → slice_get (map (λ (b : Body). true) bodies) f ≡ Some flag → flag ≡ true
 all_true [] f flag is = absurd (let e : None ≡ Some flag = is in cc)
-all_true (b ∷ bodies) zero flag is = sym (some-injective _ _ is)
+all_true (b ∷ bodies) zero flag is = sym (some_same is)
 all_true (b ∷ bodies) (suc f) flag is = all_true bodies f flag is
 
 pub none_judged : (T : Tables) (ps : List Proof) (bodies : List Body) (j : Judged) → j.left.items ≡ [] → j.proved ≡ 0 → j.flags.items ≡ map (λ _. true) bodies → HasJudged T ps [] (length bodies) j

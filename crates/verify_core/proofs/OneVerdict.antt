@@ -1,6 +1,5 @@
 -- There is one verdict, and steps are refused at one line.
 use Rattle.std.proofs.Common.{◌≡◌, ◌∙◌, ◌⊎◌, inl, inr, refl, sym, ap, subst, ℕ, zero, suc, Bool, true, false, List, [], ◌∷◌, map, Option, None, Some, slice_get}
-use Rattle.std.proofs.Math.Option.{some-injective}
 use Rattle.std.specs.List.{find}
 use Rattle.logic_term.specs.declared.obligation.Obligation.{Obligation}
 use Rattle.proof_kernel.specs.declared.setting.Tables.{Tables}
@@ -14,6 +13,7 @@ use Rattle.verify_core.specs.declared.program.Program.{Program}
 use Rattle.verify_core.specs.Laws.{RefusedAtOneLine, RefusedIsNotAccepted, VerdictIsOne}
 use Rattle.verify_core.specs.Verdict.{steps_of, IsRefusedAt, is_for, Settles, Judges, left_item, Tells, IsVerified, AreLines}
 use Rattle.verify_core.proofs.StepsOnce.{refused_once, refused_is_no_proof}
+use Rattle.verify_core.proofs.Basics.{some_same}
 
 -- ---- the line at which steps are refused
 
@@ -58,7 +58,7 @@ judges_once (Judges.proved a rest) (Judges.proved b more) =
 judges_once {T} {ps} (Judges.proved {o = o} a rest) (Judges.left {r = s} b more) = absurd (none_is_not (settles_once T ps o None (Some s) a b))
 judges_once {T} {ps} (Judges.left {o = o} {r = r} a rest) (Judges.proved b more) = absurd (none_is_not (settles_once T ps o None (Some r) b a))
 judges_once {T} {ps} (Judges.left {o = o} {left = left} {r = r} a rest) (Judges.left {left = others} {r = s} b more) =
-    let reason : r ≡ s = some-injective _ _ (settles_once T ps o (Some r) (Some s) a b) in
+    let reason : r ≡ s = some_same (settles_once T ps o (Some r) (Some s) a b) in
     let rest_is = judges_once rest more in
     (ap (λ (q : Reason). left_item o q ∷ left) reason ∙ ap (λ (xs : List LeftItem). left_item o s ∷ xs) rest_is.0, rest_is.1)
 

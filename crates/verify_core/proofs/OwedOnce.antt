@@ -1,6 +1,5 @@
 -- So many of the first functions owe one list, and few obligations are not many.
 use Rattle.std.proofs.Common.{◌≡◌, ◌∙◌, refl, sym, ap, subst, ℕ, suc, ◌+◌, ◌<◌, ◌≤◌, ◌⊎◌, inl, inr, List, [], ◌++◌, length, length-append, append-nil, append_assoc, Some, arith}
-use Rattle.std.proofs.Math.Option.{some-injective}
 use Rattle.std.proofs.lemmas.Bool.{cases_lt}
 use Rattle.logic_term.specs.declared.obligation.Contract.{Contract}
 use Rattle.logic_term.specs.declared.obligation.Obligation.{Obligation}
@@ -16,6 +15,7 @@ use Rattle.verify_core.specs.Owed.{owing}
 use Rattle.verify_core.specs.Prepared.{gone_of, AreOfWalk, FunctionOwes, FunctionsOwe}
 use Rattle.verify_core.proofs.OneWalk.{obligations_once}
 use Rattle.verify_core.proofs.ReachLaws.{within}
+use Rattle.verify_core.proofs.Basics.{some_same}
 
 -- ---- one function
 
@@ -28,8 +28,8 @@ module _ (bs : Bodies) (cs : Contracts) (gones : List Initialised) where
 
   function_owes_once : (n : ℕ) (os others : List Obligation) → FunctionOwes bs cs gones n os → FunctionOwes bs cs gones n others → os ≡ others
   function_owes_once n os others one other =
-      let body : other.body ≡ one.body = some-injective _ _ (sym other.is_body ∙ one.is_body) in
-      let contract : other.contract ≡ one.contract = some-injective _ _ (sym other.is_contract ∙ one.is_contract) in
+      let body : other.body ≡ one.body = some_same (sym other.is_body ∙ one.is_body) in
+      let contract : other.contract ≡ one.contract = some_same (sym other.is_contract ∙ one.is_contract) in
       let moved : AreOfWalk (walk_setting n one.body one.contract) others = subst (λ (c : Contract). AreOfWalk (walk_setting n one.body c) others) contract
       (subst (λ (b : Body). AreOfWalk (walk_setting n b other.contract) others) body other.of_walk) in
       of_walk_once (walk_setting n one.body one.contract) os others one.of_walk moved

@@ -1,6 +1,5 @@
 -- What each pass needs, it is given; and where a pass refuses, the source is refused for a cause.
 use Rattle.std.proofs.Common.{◌≡◌, ◌∙◌, refl, sym, ap, subst, ℕ, zero, suc, ◌+◌, ◌<◌, ◌≤◌, ◌⊎◌, inl, inr, List, [], ◌++◌, length, get_or, Some, None, Ok, slice_get, add-one, arith}
-use Rattle.std.proofs.Math.Option.{some-injective}
 use Rattle.std.proofs.lemmas.Bool.{cases_lt}
 use Rattle.std.proofs.lemmas.List.{length-append, length-map}
 use Rattle.std.proofs.lemmas.Option.{slice_get_read}
@@ -63,6 +62,7 @@ use Rattle.verify_core.proofs.Verified.{typed_program_fits}
 use Rattle.mir_ir.specs.declared.body.Bodies.{Bodies}
 use Rattle.mir_ir.specs.Callees.{contract_at}
 use Rattle.mir_ir.specs.declared.terminator.Callee.{Callee}
+use Rattle.verify_core.proofs.Basics.{some_same}
 
 -- ---- refusals
 
@@ -193,8 +193,8 @@ function_owes l n w os at are = record {
 of_walk_at : (l : Lowered) (n : ℕ) (w : Setting) (os : List Obligation) → IsSettingAt l n w → FunctionOwes l.bodies l.contracts l.gone n os → AreOfWalk w os
 of_walk_at l n w os at owes =
     let own : AreOfWalk (record { body = owes.body; contracts = l.contracts; contract = owes.contract; init = gone_of l.gone n }) os = owes.of_walk in
-    let with_body = subst (λ (b : Body). AreOfWalk (record { body = b; contracts = l.contracts; contract = owes.contract; init = gone_of l.gone n }) os) (some-injective _ _ (sym owes.is_body ∙ at.body)) own in
-    let with_contract = subst (λ (c : Contract). AreOfWalk (record { body = w.body; contracts = l.contracts; contract = c; init = gone_of l.gone n }) os) (some-injective _ _ (sym owes.is_contract ∙ at.contract)) with_body in
+    let with_body = subst (λ (b : Body). AreOfWalk (record { body = b; contracts = l.contracts; contract = owes.contract; init = gone_of l.gone n }) os) (some_same (sym owes.is_body ∙ at.body)) own in
+    let with_contract = subst (λ (c : Contract). AreOfWalk (record { body = w.body; contracts = l.contracts; contract = c; init = gone_of l.gone n }) os) (some_same (sym owes.is_contract ∙ at.contract)) with_body in
     subst (λ (v : Setting). AreOfWalk v os) (sym (same_setting l n w at)) with_contract
 
 -- the walk's obligations, as those of the function that has this number
@@ -220,7 +220,7 @@ few_more bs i b is few before n c is_c inside = either (cases_lt n i)
     either (inl below) = before n c is_c below
     either (inr above) =
         let last : n ≡ i = omega arith in
-        let same : b ≡ c = some-injective _ _ (sym is ∙ subst (λ (k : ℕ). slice_get bs.bodies k ≡ Some c) last is_c) in
+        let same : b ≡ c = some_same (sym is ∙ subst (λ (k : ℕ). slice_get bs.bodies k ≡ Some c) last is_c) in
         subst (λ (x : Body). (m : ℕ) × HasPaths x [] x.entry m × (m ≤ most_paths)) same few
 
 pub few_in_all : (bs : Bodies) (i : ℕ) → length bs.bodies ≤ i → FewBefore bs i → HaveFewPaths bs

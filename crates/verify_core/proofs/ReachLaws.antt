@@ -1,6 +1,5 @@
 -- Flags that are unset as long as a function calls one whose flag is not set say which functions reach none that is not proved.
 use Rattle.std.proofs.Common.{◌≡◌, ◌∙◌, refl, sym, ap, subst, ℕ, zero, suc, ◌<◌, ◌⊎◌, inl, inr, Bool, true, false, ◌||◌, List, [], ◌∷◌, length, Option, Some, None, true≢false, arith}
-use Rattle.std.proofs.Math.Option.{some-injective}
 use Rattle.std.specs.Prelude.{option_and_then, slice_get, slice_set}
 use Rattle.std.specs.List.{list_any}
 use Rattle.logic_term.specs.declared.kinds.Label.{Label}
@@ -18,6 +17,7 @@ use Rattle.prophecy_sim.specs.declared.node.Node.TheVariants.{Function}
 use Rattle.prophecy_sim.specs.Programs.{Calls, Uses, by_call, Reaches}
 use Rattle.mir_ir.specs.declared.body.Bodies.{Bodies}
 use Rattle.mir_ir.specs.Callees.{callee_of}
+use Rattle.verify_core.proofs.Basics.{some_same}
 
 -- ---- lists
 
@@ -59,7 +59,7 @@ got (x ∷ xs) (suc i) h = got xs i (omega arith)
 
 any_at : {A : Type 0} (p : A → Bool) (xs : List A) (i : ℕ) (x : A) → slice_get xs i ≡ Some x → p x ≡ true → list_any p xs ≡ true
 any_at p [] i x e h = absurd (none_is_not e)
-any_at p (y ∷ xs) zero x e h = rw (some-injective _ _ e, h) refl
+any_at p (y ∷ xs) zero x e h = rw (some_same e, h) refl
 any_at p (y ∷ xs) (suc i) x e h = either (p y) (any_at p xs i x e h)
   where
     either : (b : Bool) {c : Bool} → c ≡ true → (b || c) ≡ true
@@ -86,7 +86,7 @@ any_found {A} p (x ∷ xs) h = here (p x) refl h (λ rest. any_found p xs rest)
 fewer : (flags : List Bool) (f : ℕ) → slice_get flags f ≡ Some true → set_count (slice_set flags f false) < set_count flags
 fewer [] f e = absurd (none_is_not e)
 fewer (true ∷ flags) zero e = omega arith
-fewer (false ∷ flags) zero e = absurd (true≢false (sym (some-injective _ _ e)))
+fewer (false ∷ flags) zero e = absurd (true≢false (sym (some_same e)))
 fewer (true ∷ flags) (suc f) e = omega (arith, fewer flags f e)
 fewer (false ∷ flags) (suc f) e = fewer flags f e
 
@@ -154,7 +154,7 @@ module _ (bodies : Bodies) (proved flags : List Bool) (justified : AreJustified 
 
   unset_at : (g : ℕ) (flag : Bool) → slice_get after g ≡ Some flag → ((f ≡ g) × (flag ≡ false)) ⊎ (slice_get flags g ≡ Some flag)
   unset_at g flag e = elim (same_or_other f g) [
-    | inl same ↦ inl (same, some-injective _ _ (sym e ∙ subst (λ (i : ℕ). slice_get after i ≡ Some false) same (get_same flags f false true set)))
+    | inl same ↦ inl (same, some_same (sym e ∙ subst (λ (i : ℕ). slice_get after i ≡ Some false) same (get_same flags f false true set)))
     | inr other ↦ inr (sym (get_other flags f g false other) ∙ e)
   ]
 
@@ -203,7 +203,7 @@ module _ (bodies : Bodies) (flags : List Bool) (as_many : length flags ≡ lengt
   flag_of_user _ _ (Uses.by_call {n} {m} c) = set_or_not n (subst (λ (k : ℕ). n < k) (sym as_many) (within bodies.bodies n c.body c.is_body))
 
   not_both : (n : Node) → IsFlag true n → IsFlag false n → ⊥
-  not_both (Function n) set unset = true≢false (some-injective _ _ (sym set ∙ unset))
+  not_both (Function n) set unset = true≢false (some_same (sym set ∙ unset))
 
   none_unset : (f m : Node) → Reaches bodies f m → IsFlag true f → IsFlag false m → ⊥
   none_unset f m Reaches.itself set unset = not_both f set unset

@@ -1,10 +1,10 @@
 -- One round over the functions: what holds after some of them.
 use Rattle.std.proofs.Common.{◌≡◌, ◌∙◌, refl, sym, ap, subst, ℕ, zero, suc, ◌+◌, ◌<◌, ◌≤◌, Bool, true, false, List, [], ◌∷◌, length, get_or, Some, slice_get, true≢false, arith}
-use Rattle.std.proofs.Math.Option.{some-injective}
 use Rattle.mir_ir.specs.declared.body.Body.{Body}
 use Rattle.verify_core.specs.Flags.{AreJustified, AreSettled, Unsets, calls_unset, set_count}
 use Rattle.verify_core.proofs.ReachLaws.{unsets_justified, unsets_fewer, unsets_as_many, within}
 use Rattle.mir_ir.specs.declared.body.Bodies.{Bodies}
+use Rattle.verify_core.proofs.Basics.{some_same}
 
 -- the first so many functions were looked at, from the flags of the start on; whether a flag was unset
 pub record Round (bodies : Bodies) (start : List Bool) (many : ℕ) (flags : List Bool) (changed : Bool) : Type 0 where
@@ -61,7 +61,7 @@ none_unset_there bodies start i flags new changed b inside is r (same, settled) 
   settled = λ e f c h at set. elim (which f i h) [
     | before a ↦ r.settled e f c a at set
     | here q ↦
-        let same_body : b ≡ c = some-injective _ _ (sym (get_of bodies.bodies i b inside is) ∙ subst (λ (k : ℕ). slice_get bodies.bodies k ≡ Some c) q at) in
+        let same_body : b ≡ c = some_same (sym (get_of bodies.bodies i b inside is) ∙ subst (λ (k : ℕ). slice_get bodies.bodies k ≡ Some c) q at) in
         subst (λ (x : Body). calls_unset bodies flags x ≡ false) same_body (settled (subst (λ (k : ℕ). slice_get flags k ≡ Some true) q set))
   ];
 })

@@ -1,6 +1,5 @@
 -- The lines of a verdict tell which functions are verified.
 use Rattle.std.proofs.Common.{◌≡◌, ◌∙◌, refl, sym, ap, subst, ℕ, zero, suc, ◌+◌, ◌<◌, ◌≤◌, ◌⊎◌, inl, inr, Bool, true, false, List, [], ◌∷◌, ◌++◌, length, map, take, get_or, Some, slice_get}
-use Rattle.std.proofs.Math.Option.{some-injective}
 use Rattle.std.proofs.lemmas.Bool.{cases_lt}
 use Rattle.std.proofs.lemmas.List.{take_more}
 use Rattle.logic_term.specs.declared.obligation.Obligation.{Obligation}
@@ -19,6 +18,7 @@ use Rattle.verify_core.specs.Owed.{HaveOwners}
 use Rattle.verify_core.specs.Verdict.{HasDerivation, IsProved, Tells, IsVerified, AreLines}
 use Rattle.verify_core.proofs.OwedLaws.{owes_nothing}
 use Rattle.verify_core.proofs.ReachLaws.{reached_set}
+use Rattle.verify_core.proofs.Basics.{some_same}
 
 -- ---- the loop that makes the lines
 
@@ -39,7 +39,7 @@ one_more_line bodies flags i b flag lines line inside is inside_flags is_flag na
 
 get_mapped : {A B : Type 0} (f : A → B) (xs : List A) (i : ℕ) (x : A) → slice_get xs i ≡ Some x → slice_get (map f xs) i ≡ Some (f x)
 get_mapped f [] i x e = absurd cc
-get_mapped f (y ∷ xs) zero x e = ap Some (ap f (some-injective _ _ e))
+get_mapped f (y ∷ xs) zero x e = ap Some (ap f (some_same e))
 get_mapped f (y ∷ xs) (suc i) x e = get_mapped f xs i x e
 
 module _ (ps : List Proof) (p : Program) (owners : HaveOwners p.bodies p.obligations) (proved flags : List Bool) (told : FlagsTell p.tables ps p.obligations (length p.bodies.bodies) proved)

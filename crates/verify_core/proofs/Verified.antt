@@ -1,6 +1,5 @@
 -- What is derived is true; and each function that is verified is good.
 use Rattle.std.proofs.Common.{◌≡◌, sym, subst, ℕ, Bool, true, false, List, [], ◌∷◌, Some, slice_get, ◌∙◌, true≢false}
-use Rattle.std.proofs.Math.Option.{some-injective}
 use Rattle.logic_term.specs.declared.obligation.Contract.{Contract}
 use Rattle.logic_term.specs.declared.obligation.Obligation.{Obligation}
 use Rattle.mir_ir.specs.declared.body.Body.{Body}
@@ -39,6 +38,7 @@ use Rattle.verify_core.proofs.Assembly.{sound, labelling, functions}
 use Rattle.verify_core.proofs.OwedLaws.{have_owners, function_owes}
 use Rattle.verify_core.proofs.ReachLaws.{within}
 use Rattle.mir_machine.specs.Code.{code_of}
+use Rattle.verify_core.proofs.Basics.{some_same}
 
 -- what passes the types fits
 pub typed_program_fits : (items : List Item) (p : TypedProgram) → checked items ≡ Ok p → ProgramFits p
@@ -75,8 +75,8 @@ module _ (source : List ℕ) (p : Program) (prepared : IsPrepared source p) wher
   owed_of_walk : (n : ℕ) (b : Body) (c : Contract) → slice_get p.bodies.bodies n ≡ Some b → slice_get p.contracts.of n ≡ Some c → AreOfWalk (walk_setting n b c) (owed_by (Function n) p.obligations)
   owed_of_walk n b c is_b is_c =
       let own = function_owes p.bodies p.contracts prepared.gones prepared.owed n (within p.bodies.bodies n b is_b) in
-      let same_body : own.body ≡ b = some-injective _ _ (sym own.is_body ∙ is_b) in
-      let same_contract : own.contract ≡ c = some-injective _ _ (sym own.is_contract ∙ is_c) in
+      let same_body : own.body ≡ b = some_same (sym own.is_body ∙ is_b) in
+      let same_contract : own.contract ≡ c = some_same (sym own.is_contract ∙ is_c) in
       subst (λ (d : Contract). AreOfWalk (walk_setting n b d) (owed_by (Function n) p.obligations)) same_contract
       (subst (λ (a : Body). AreOfWalk (walk_setting n a own.contract) (owed_by (Function n) p.obligations)) same_body own.of_walk)
 
