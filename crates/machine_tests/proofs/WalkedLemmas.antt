@@ -114,7 +114,7 @@ looping_can_walk w tys h o sts is =
       ),
     ))
 
-pub calling_can_walk : (w : Setting) (ty : Ty) (tys : List Ty) (args : List Operand) (c : Contract) → w.body ≡ calling ty tys args → slice_get w.contracts 0 ≡ Some c → CanWalk w
+pub calling_can_walk : (w : Setting) (ty : Ty) (tys : List Ty) (args : List Operand) (c : Contract) → w.body ≡ calling ty tys args → slice_get w.contracts.of 0 ≡ Some c → CanWalk w
 calling_can_walk w ty tys args c is has =
     with_body w (calling ty tys args) is
     (can_walk (record w { body = calling ty tys args }) _ refl refl (

@@ -241,7 +241,9 @@ fn is_small(alloc: Global) -> Result<Term, NoMemory> {
     Term::less(alloc, number, Term::integer(alloc, 100)?)
 }
 
-fn contracts_of(alloc: Global, of: Items<Contract>) -> Contracts {
+fn contracts_of(alloc: Global, of: Items<Contract>) -> Contracts
+    ensures { result.of ≡ of }
+{
     Contracts {
         of,
         traits: Items::new(alloc),
