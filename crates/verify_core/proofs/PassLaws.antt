@@ -94,6 +94,9 @@ types_refused source table items errors.NoMemory has order is = tt
 pub typed_as : (source : List ℕ) (table : List (List ℕ)) (items : List Item) (typed : TypedProgram) (ds : List AdtDecl) → HasItems source table items → (ds ≡ declared_types items) × AreInOrder items → checked items ≡ Ok typed → IsChecked source table typed ds
 typed_as source table items typed ds has (same, order) is = record { typed_as = record { items = items; has = has; in_order = order; is_typed = is }; declares = same }
 
+pub lowered_with : (table : List (List ℕ)) (ds es : List AdtDecl) (typed : TypedProgram) (l : Lowered) → ds ≡ es → IsLowered table ds typed l → IsLowered table es typed l
+lowered_with table ds es typed l same lowered = subst (λ (x : List AdtDecl). IsLowered table x typed l) same lowered
+
 -- what is lowered with the types that the source declares
 abbrev pub lowered_as : (source : List ℕ) (table : List (List ℕ)) (typed : TypedProgram) (ds : List AdtDecl) (l : Lowered) (h : IsChecked source table typed ds) → IsLowered table ds typed l → IsLowered table (declared_types h.typed_as.items) typed l
 lowered_as source table typed ds l h = subst (λ (x : List AdtDecl). IsLowered table x typed l) h.declares
