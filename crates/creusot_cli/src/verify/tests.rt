@@ -274,7 +274,7 @@ fn other(x: bool) -> bool { !x }
 
 #[test]
 fn declared_types_are_taken(rt: HostRuntime) -> Result<(), Fail> {
-    let call = Call::of(DECLARED, b"");
+    let call = Call::of(DECLARED, b"creusot-proofs 1\n");
     let printed =
         b"verified same\nverified other\nsummary functions 2 verified 2 obligations 0 proved 0\n";
     assert!(rt; call.gives(rt.alloc(), 0, printed)?);
