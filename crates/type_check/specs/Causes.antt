@@ -1,6 +1,6 @@
 -- Why program code is refused: E05 at a name that means nothing there, E22 at the name of a variable that is written and is not `mut`, a type
 -- that is not the one wanted, or a form that is not built.
-use Rattle.std.specs.Prelude.{◌≡◌, ◌⊎◌, false, List, Option, Some, None, Ok, Err}
+use Rattle.std.specs.Prelude.{◌≡◌, ◌⊎◌, false, List, Option, Some, None, Ok, Err, slice_get}
 use Rattle.text_core.specs.declared.name.Name.{Name}
 use Rattle.text_core.specs.declared.refusal.SourceError.{SourceError}
 use Rattle.text_core.specs.declared.span.Span.{Span}
@@ -18,7 +18,7 @@ use Rattle.type_check.specs.Answers.{unknown_name, mismatch, unbuilt, not_mutabl
 use Rattle.type_check.specs.Functions.{callee}
 use Rattle.type_check.specs.Scope.{found}
 use Rattle.type_check.specs.TypedExpr.{TypedExpr}
-use Rattle.type_check.specs.Typing.{Opened, declared, typed, typed_stmts}
+use Rattle.type_check.specs.Typing.{Opened, declared, is_mutable, typed, typed_stmts}
 use Rattle.type_check.specs.Written.{as_name, name_alone, step_of}
 
 abbrev pub IsMismatch : SourceError → Type 0
@@ -33,16 +33,16 @@ IsUnknown Γ x s e = (e ≡ unknown_name s) × (found x Γ ≡ None)
 
 -- the variable of the name is not mutable
 abbrev pub IsConstant : List Variable → Name → Span → SourceError → Type 0
-IsConstant Γ x s e = (v : Found) × (found x Γ ≡ Some v) × (v.mutable ≡ false) × (e ≡ not_mutable s)
+IsConstant Γ x s e = (v : Found) × (found x Γ ≡ Some v) × (is_mutable (slice_get Γ v.place) ≡ false) × (e ≡ not_mutable s)
 
 -- a path that is no name alone is not built
 abbrev pub IsNotRead : List Variable → Span → Option Segment → SourceError → Type 0
 IsNotRead Γ s None e = e ≡ unbuilt s
 IsNotRead Γ s (Some x) e = IsUnknown Γ x.name s e
 
--- the left side of an assignment is such a name
+-- the left side of an assignment is the name of such a variable
 abbrev pub IsNotWritten : List Variable → Expr → SourceError → Type 0
-IsNotWritten Γ l e = (x : Segment) × (as_name l ≡ Some x) × (IsUnknown Γ x.name (span_of l) e ⊎ IsConstant Γ x.name (span_of l) e)
+IsNotWritten Γ l e = (x : Segment) × (as_name l ≡ Some x) × IsConstant Γ x.name (span_of l) e
 
 -- what is called is no name alone, or a name that no function has there; the span is that of the call
 abbrev pub IsNotCalled : List Heading → List Variable → Span → Option Segment → SourceError → Type 0

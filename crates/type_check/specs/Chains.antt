@@ -9,7 +9,6 @@ use Rattle.type_check.specs.declared.chain.Frame.{Frame}
 use Rattle.type_check.specs.declared.chain.Operation.{Operation}
 use Rattle.type_check.specs.declared.chain.Operation.TheVariants as operation
 use Rattle.type_check.specs.declared.heading.Heading.{Heading}
-use Rattle.type_check.specs.declared.operands.Target.TheVariants as target
 use Rattle.type_check.specs.declared.scope.Variable.{Variable}
 use Rattle.type_check.specs.Answers.{◌>>=◌}
 use Rattle.type_check.specs.TypedExpr.{TypedExpr}
@@ -17,7 +16,6 @@ use Rattle.type_check.specs.TypedExpr as tree
 use Rattle.type_check.specs.TypedExprView.{ty_of}
 use Rattle.type_check.specs.Typing.{Typed, fit, is_bare, operands_of, operated, typed, updated}
 use Rattle.type_check.specs.WellTyped.{is_arithmetic}
-use Rattle.type_check.specs.Written.{as_name}
 
 -- the expression that the operation is
 abbrev pub written : Span → Operation → Expr
@@ -39,7 +37,7 @@ right_of (operation.Update op o a b) = b.now
 abbrev pub GoesLeft : Operation → Type 0
 GoesLeft (operation.Binary op o a b) = is_bare a.now ≡ false
 GoesLeft (operation.Lazy op a b) = Unit {0}
-GoesLeft (operation.Update op o a b) = as_name a.now ≡ None
+GoesLeft (operation.Update op o a b) = Unit {0}
 
 -- the types of the operands, where this one is expected of the whole
 abbrev pub first_ty : Operation → Option Ty → Option Ty
@@ -55,14 +53,14 @@ abbrev pub second_ty : Operation → Option Ty → TypedExpr → Ty
 second_ty o t e = ty_or (first_ty o t) e
 
 -- of these operands
-abbrev pub ended : Span → Operation → Option Ty → TypedExpr → TypedExpr → Typed
-ended s (operation.Binary op o a b) t x y = operated t s o (span_of a.now) op (operands_of x y)
-ended s (operation.Lazy op a b) t x y = fit t s (tree.lazy bool s op x y)
-ended s (operation.Update op o a b) t x y = updated t s o (span_of a.now) op (target.Value x) y
+abbrev pub ended : List Variable → Span → Operation → Option Ty → TypedExpr → TypedExpr → Typed
+ended Γ s (operation.Binary op o a b) t x y = operated t s o (span_of a.now) op (operands_of x y)
+ended Γ s (operation.Lazy op a b) t x y = fit t s (tree.lazy bool s op x y)
+ended Γ s (operation.Update op o a b) t x y = updated Γ t s o (span_of a.now) op x y
 
 -- what the operation comes to behind its left operand
 abbrev pub finished : List Heading → List Variable → Span → Operation → Option Ty → TypedExpr → Typed
-finished σ Γ s o t x = typed σ Γ (right_of o) (Some (second_ty o t x)) >>= ended s o t x
+finished σ Γ s o t x = typed σ Γ (right_of o) (Some (second_ty o t x)) >>= ended Γ s o t x
 
 abbrev pub behind : List Heading → List Variable → Frame → TypedExpr → Typed
 behind σ Γ f = finished σ Γ f.whole f.operation f.expected

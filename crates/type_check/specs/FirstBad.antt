@@ -6,7 +6,7 @@ use Rattle.type_check.specs.declared.assertion.Assertion.TheVariants.{Good, Bad}
 use Rattle.type_check.specs.declared.program.TypedClause.{TypedClause}
 use Rattle.type_check.specs.declared.program.TypedFunction.{TypedFunction}
 use Rattle.type_check.specs.Answers.{or_else}
-use Rattle.type_check.specs.TypedExpr.{TypedExpr, TypedStmts, TypedExprs, integer, truth, variable, negative, denied, binary, lazy, assign, assign_value, update, update_value, call, block, branch, choice, repeat, done, last, bind, run, none, more}
+use Rattle.type_check.specs.TypedExpr.{TypedExpr, TypedStmts, TypedExprs, integer, truth, variable, negative, denied, binary, lazy, assign, update, call, block, branch, choice, repeat, done, last, bind, run, none, more}
 
 abbrev pub bad_of : Assertion → Option SourceError
 bad_of (Good s t) = None
@@ -25,10 +25,8 @@ abbrev mutual
   bad_in (denied t s e) = bad_in e
   bad_in (binary t s op a b) = or_else (bad_in a) (bad_in b)
   bad_in (lazy t s op a b) = or_else (bad_in a) (bad_in b)
-  bad_in (assign t s x e) = bad_in e
-  bad_in (assign_value t s a e) = or_else (bad_in a) (bad_in e)
-  bad_in (update t s op x e) = bad_in e
-  bad_in (update_value t s op a e) = or_else (bad_in a) (bad_in e)
+  bad_in (assign t s a e) = or_else (bad_in a) (bad_in e)
+  bad_in (update t s op a e) = or_else (bad_in a) (bad_in e)
   bad_in (call t s f es) = bad_in_exprs es
   bad_in (block t s ss) = bad_in_stmts ss
   bad_in (branch t s c a) = or_else (bad_in c) (bad_in a)

@@ -14,15 +14,12 @@ use Rattle.type_check.specs.declared.heading.Heading.{Heading}
 use Rattle.type_check.specs.declared.operands.Operands.{Operands}
 use Rattle.type_check.specs.declared.operands.Order.{Order}
 use Rattle.type_check.specs.declared.operands.Order.TheVariants as order
-use Rattle.type_check.specs.declared.operands.Target.{Target}
-use Rattle.type_check.specs.declared.operands.Target.TheVariants as target
 use Rattle.type_check.specs.declared.scope.Variable.{Variable}
 use Rattle.type_check.specs.Answers.{unbuilt, gather}
-use Rattle.type_check.specs.Scope.{found}
 use Rattle.type_check.specs.TypedExpr.{TypedExpr, TypedExprs}
 use Rattle.type_check.specs.TypedExpr as tree
 use Rattle.type_check.specs.TypedExprView.{ty_of, stmts_of}
-use Rattle.type_check.specs.Typing.{Typed, fit, literal, named, negated, is_bare, order_of, operands_of, operated, target_variable, target_ty, assigned, updated, callee_of, first_of, rest_of, called, Opened, opened, declared, behind, typed_stmt, closed, invariant_of, typed}
+use Rattle.type_check.specs.Typing.{Typed, fit, literal, named, negated, is_bare, order_of, operands_of, operated, assigned, updated, callee_of, first_of, rest_of, called, Opened, opened, declared, behind, typed_stmt, closed, invariant_of, typed}
 use Rattle.type_check.specs.WellTyped.{unit, is_arithmetic}
 use Rattle.type_check.specs.Written.{as_name, name_alone, step_of}
 
@@ -43,11 +40,6 @@ abbrev pub operands_in : Order → List Variable → Expr → Expr → (Operands
 operands_in (order.Against t) Γ a b k = part Γ a (Some t) λ x. part Γ b (Some t) λ y. k (operands_of x y)
 operands_in order.SecondGives Γ a b k = part Γ b None λ y. part Γ a (Some (ty_of y)) λ x. k (operands_of x y)
 operands_in order.FirstGives Γ a b k = part Γ a None λ x. part Γ b (Some (ty_of x)) λ y. k (operands_of x y)
-
--- the left side of an assignment: a variable, which is no part, or else a value
-abbrev pub target_in : List Variable → Expr → Option Segment → (Target → Asks) → Asks
-target_in Γ l (Some x) k = first (target_variable (span_of l) (found x.name Γ)) k
-target_in Γ l None k = part Γ l None λ a. k (target.Value a)
 
 -- ---- lists of parts
 
@@ -71,8 +63,8 @@ rule σ Γ (E.unary s Neg o e) t = part Γ e t λ a. comes (negated t s o (span_
 rule σ Γ (E.unary s Not o e) t = part Γ e (Some bool) λ a. comes (fit t s (tree.denied bool s a))
 rule σ Γ (E.binary s op o a b) t = operands_in (order_of (is_arithmetic op) t (is_bare a) (is_bare b)) Γ a b λ p. comes (operated t s o (span_of a) op p)
 rule σ Γ (E.lazy s op a b) t = part Γ a (Some bool) λ x. part Γ b (Some bool) λ y. comes (fit t s (tree.lazy bool s op x y))
-rule σ Γ (E.assign s l e) t = target_in Γ l (as_name l) λ d. part Γ e (Some (target_ty d)) λ a. comes (assigned t s (span_of l) d a)
-rule σ Γ (E.update s op o l e) t = target_in Γ l (as_name l) λ d. part Γ e (Some (target_ty d)) λ a. comes (updated t s o (span_of l) op d a)
+rule σ Γ (E.assign s l e) t = part Γ l None λ a. part Γ e (Some (ty_of a)) λ b. comes (assigned Γ t s (span_of l) a b)
+rule σ Γ (E.update s op o l e) t = part Γ l None λ a. part Γ e (Some (ty_of a)) λ b. comes (updated Γ t s o (span_of l) op a b)
 rule σ Γ (E.call s f es) t = first (callee_of σ Γ s (as_name f)) λ g. each_arg Γ es g.signature.params λ as'. comes (called t s g as')
 rule σ Γ (E.block s ss) t = each_stmt Γ ss λ o. comes (closed t s (stmts_of o.stmts tree.done))
 rule σ Γ (E.block_with s ss e) t = each_stmt Γ ss λ o. part o.scope e t λ a. comes (closed t s (stmts_of o.stmts (tree.last a)))

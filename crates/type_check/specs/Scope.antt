@@ -6,7 +6,7 @@ use Rattle.type_check.specs.declared.scope.Found.{Found}
 
 -- the variable, by how many are in scope around its declaration
 abbrev pub at_place : ℕ → Variable → Found
-at_place k v = record { place = k; ty = v.ty; mutable = v.mutable }
+at_place k v = record { place = k; ty = v.ty }
 
 -- the last variable of the name counts
 abbrev pub found_from : Option Found → ℕ → Name → List Variable → Option Found

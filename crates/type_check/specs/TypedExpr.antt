@@ -17,11 +17,9 @@ mutual
     denied : Ty → Span → TypedExpr → TypedExpr
     binary : Ty → Span → BinaryOp → TypedExpr → TypedExpr → TypedExpr
     lazy : Ty → Span → LazyOp → TypedExpr → TypedExpr → TypedExpr
-    assign : Ty → Span → ℕ → TypedExpr → TypedExpr
-    -- to a value that is no variable's
-    assign_value : Ty → Span → TypedExpr → TypedExpr → TypedExpr
-    update : Ty → Span → BinaryOp → ℕ → TypedExpr → TypedExpr
-    update_value : Ty → Span → BinaryOp → TypedExpr → TypedExpr → TypedExpr
+    -- what is assigned to, and the value
+    assign : Ty → Span → TypedExpr → TypedExpr → TypedExpr
+    update : Ty → Span → BinaryOp → TypedExpr → TypedExpr → TypedExpr
     -- a function of the program, by its place
     call : Ty → Span → ℕ → TypedExprs → TypedExpr
     block : Ty → Span → TypedStmts → TypedExpr

@@ -9,7 +9,7 @@ use Rattle.logic_term.specs.TyCode.{coded_ty}
 use Rattle.source_kinds.specs.contracts.kinds.LazyOp as lazy_op
 use Rattle.type_check.specs.contracts.assertion.Assertion as assertion
 use base.Stored.{Gv, gnil, gnum, gcons, num}
-use Rattle.type_check.specs.TypedExpr.{TypedExpr, integer, truth, variable, negative, denied, binary, lazy, assign, assign_value, update, update_value, call, block, branch, choice, repeat, TypedStmts, done, last, bind, run, TypedExprs, none, more}
+use Rattle.type_check.specs.TypedExpr.{TypedExpr, integer, truth, variable, negative, denied, binary, lazy, assign, update, call, block, branch, choice, repeat, TypedStmts, done, last, bind, run, TypedExprs, none, more}
 
 abbrev pub head : Gv → Gv
 head gnil = gnil
@@ -33,15 +33,13 @@ abbrev mutual
   typed_code (denied a0 a1 a2) = gcons (gnum 4) (gcons (coded_ty.code a0) (gcons (span.the_row.coded.code a1) (typed_code a2)))
   typed_code (binary a0 a1 a2 a3 a4) = gcons (gnum 5) (gcons (coded_ty.code a0) (gcons (span.the_row.coded.code a1) (gcons (binary_op.the_row.coded.code a2) (gcons (typed_code a3) (typed_code a4)))))
   typed_code (lazy a0 a1 a2 a3 a4) = gcons (gnum 6) (gcons (coded_ty.code a0) (gcons (span.the_row.coded.code a1) (gcons (lazy_op.the_row.coded.code a2) (gcons (typed_code a3) (typed_code a4)))))
-  typed_code (assign a0 a1 a2 a3) = gcons (gnum 7) (gcons (coded_ty.code a0) (gcons (span.the_row.coded.code a1) (gcons (coded_ℕ.code a2) (typed_code a3))))
-  typed_code (assign_value a0 a1 a2 a3) = gcons (gnum 8) (gcons (coded_ty.code a0) (gcons (span.the_row.coded.code a1) (gcons (typed_code a2) (typed_code a3))))
-  typed_code (update a0 a1 a2 a3 a4) = gcons (gnum 9) (gcons (coded_ty.code a0) (gcons (span.the_row.coded.code a1) (gcons (binary_op.the_row.coded.code a2) (gcons (coded_ℕ.code a3) (typed_code a4)))))
-  typed_code (update_value a0 a1 a2 a3 a4) = gcons (gnum 10) (gcons (coded_ty.code a0) (gcons (span.the_row.coded.code a1) (gcons (binary_op.the_row.coded.code a2) (gcons (typed_code a3) (typed_code a4)))))
-  typed_code (call a0 a1 a2 a3) = gcons (gnum 11) (gcons (coded_ty.code a0) (gcons (span.the_row.coded.code a1) (gcons (coded_ℕ.code a2) (exprs_code a3))))
-  typed_code (block a0 a1 a2) = gcons (gnum 12) (gcons (coded_ty.code a0) (gcons (span.the_row.coded.code a1) (stmts_code a2)))
-  typed_code (branch a0 a1 a2 a3) = gcons (gnum 13) (gcons (coded_ty.code a0) (gcons (span.the_row.coded.code a1) (gcons (typed_code a2) (typed_code a3))))
-  typed_code (choice a0 a1 a2 a3 a4) = gcons (gnum 14) (gcons (coded_ty.code a0) (gcons (span.the_row.coded.code a1) (gcons (typed_code a2) (gcons (typed_code a3) (typed_code a4)))))
-  typed_code (repeat a0 a1 a2 a3 a4) = gcons (gnum 15) (gcons (coded_ty.code a0) (gcons (span.the_row.coded.code a1) (gcons ((coded_list assertion.the_row.coded).code a2) (gcons (typed_code a3) (typed_code a4)))))
+  typed_code (assign a0 a1 a2 a3) = gcons (gnum 7) (gcons (coded_ty.code a0) (gcons (span.the_row.coded.code a1) (gcons (typed_code a2) (typed_code a3))))
+  typed_code (update a0 a1 a2 a3 a4) = gcons (gnum 8) (gcons (coded_ty.code a0) (gcons (span.the_row.coded.code a1) (gcons (binary_op.the_row.coded.code a2) (gcons (typed_code a3) (typed_code a4)))))
+  typed_code (call a0 a1 a2 a3) = gcons (gnum 9) (gcons (coded_ty.code a0) (gcons (span.the_row.coded.code a1) (gcons (coded_ℕ.code a2) (exprs_code a3))))
+  typed_code (block a0 a1 a2) = gcons (gnum 10) (gcons (coded_ty.code a0) (gcons (span.the_row.coded.code a1) (stmts_code a2)))
+  typed_code (branch a0 a1 a2 a3) = gcons (gnum 11) (gcons (coded_ty.code a0) (gcons (span.the_row.coded.code a1) (gcons (typed_code a2) (typed_code a3))))
+  typed_code (choice a0 a1 a2 a3 a4) = gcons (gnum 12) (gcons (coded_ty.code a0) (gcons (span.the_row.coded.code a1) (gcons (typed_code a2) (gcons (typed_code a3) (typed_code a4)))))
+  typed_code (repeat a0 a1 a2 a3 a4) = gcons (gnum 13) (gcons (coded_ty.code a0) (gcons (span.the_row.coded.code a1) (gcons ((coded_list assertion.the_row.coded).code a2) (gcons (typed_code a3) (typed_code a4)))))
 
   pub stmts_code : TypedStmts → Gv
   stmts_code done = gcons (gnum 0) gnil
@@ -68,14 +66,9 @@ mutual
       λ i. lazy (coded_ty.inj a0 b0 (ap (λ g. head (tail g)) p) i) (span.the_row.coded.inj a1 b1 (ap (λ g. head (tail (tail g))) p) i) (lazy_op.the_row.coded.inj a2 b2 (ap (λ g. head (tail (tail (tail g)))) p) i)
       (typed_injective a3 b3 (ap (λ g. head (tail (tail (tail (tail g))))) p) i) (typed_injective a4 b4 (ap (λ g. tail (tail (tail (tail (tail g))))) p) i)
   typed_injective (assign a0 a1 a2 a3) (assign b0 b1 b2 b3) p =
-      λ i. assign (coded_ty.inj a0 b0 (ap (λ g. head (tail g)) p) i) (span.the_row.coded.inj a1 b1 (ap (λ g. head (tail (tail g))) p) i) (coded_ℕ.inj a2 b2 (ap (λ g. head (tail (tail (tail g)))) p) i) (typed_injective a3 b3 (ap (λ g. tail (tail (tail (tail g)))) p) i)
-  typed_injective (assign_value a0 a1 a2 a3) (assign_value b0 b1 b2 b3) p =
-      λ i. assign_value (coded_ty.inj a0 b0 (ap (λ g. head (tail g)) p) i) (span.the_row.coded.inj a1 b1 (ap (λ g. head (tail (tail g))) p) i) (typed_injective a2 b2 (ap (λ g. head (tail (tail (tail g)))) p) i) (typed_injective a3 b3 (ap (λ g. tail (tail (tail (tail g)))) p) i)
+      λ i. assign (coded_ty.inj a0 b0 (ap (λ g. head (tail g)) p) i) (span.the_row.coded.inj a1 b1 (ap (λ g. head (tail (tail g))) p) i) (typed_injective a2 b2 (ap (λ g. head (tail (tail (tail g)))) p) i) (typed_injective a3 b3 (ap (λ g. tail (tail (tail (tail g)))) p) i)
   typed_injective (update a0 a1 a2 a3 a4) (update b0 b1 b2 b3 b4) p =
       λ i. update (coded_ty.inj a0 b0 (ap (λ g. head (tail g)) p) i) (span.the_row.coded.inj a1 b1 (ap (λ g. head (tail (tail g))) p) i) (binary_op.the_row.coded.inj a2 b2 (ap (λ g. head (tail (tail (tail g)))) p) i)
-      (coded_ℕ.inj a3 b3 (ap (λ g. head (tail (tail (tail (tail g))))) p) i) (typed_injective a4 b4 (ap (λ g. tail (tail (tail (tail (tail g))))) p) i)
-  typed_injective (update_value a0 a1 a2 a3 a4) (update_value b0 b1 b2 b3 b4) p =
-      λ i. update_value (coded_ty.inj a0 b0 (ap (λ g. head (tail g)) p) i) (span.the_row.coded.inj a1 b1 (ap (λ g. head (tail (tail g))) p) i) (binary_op.the_row.coded.inj a2 b2 (ap (λ g. head (tail (tail (tail g)))) p) i)
       (typed_injective a3 b3 (ap (λ g. head (tail (tail (tail (tail g))))) p) i) (typed_injective a4 b4 (ap (λ g. tail (tail (tail (tail (tail g))))) p) i)
   typed_injective (call a0 a1 a2 a3) (call b0 b1 b2 b3) p =
       λ i. call (coded_ty.inj a0 b0 (ap (λ g. head (tail g)) p) i) (span.the_row.coded.inj a1 b1 (ap (λ g. head (tail (tail g))) p) i) (coded_ℕ.inj a2 b2 (ap (λ g. head (tail (tail (tail g)))) p) i) (exprs_injective a3 b3 (ap (λ g. tail (tail (tail (tail g)))) p) i)

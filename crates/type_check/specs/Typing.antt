@@ -1,7 +1,7 @@
 -- Which variable each name means and which type each expression has, in the form of bidirectional typing (Pierce and Turner
 -- 2000): without an expected type an expression gives one, with one it fits it (Rust Reference, "Operator expressions",
 -- "Call expressions", "Block expressions", "if expressions", "Predicate loops"). What has no row is not built.
-use Rattle.std.specs.Prelude.{ℕ, suc, ℤ, ◌==◌, ◌++◌, Bool, true, false, List, [], ◌∷◌, length, Option, Some, None, Result, Ok, Err, if◌then◌else◌}
+use Rattle.std.specs.Prelude.{ℕ, suc, ℤ, ◌==◌, ◌++◌, Bool, true, false, List, [], ◌∷◌, length, Option, Some, None, Result, Ok, Err, slice_get, if◌then◌else◌}
 use Rattle.text_core.specs.declared.name.Name.{Name}
 use Rattle.text_core.specs.declared.refusal.SourceError.{SourceError}
 use Rattle.text_core.specs.declared.span.Span.{Span}
@@ -26,8 +26,6 @@ use Rattle.type_check.specs.declared.heading.Heading.{Heading}
 use Rattle.type_check.specs.declared.operands.Operands.{Operands}
 use Rattle.type_check.specs.declared.operands.Order.{Order}
 use Rattle.type_check.specs.declared.operands.Order.TheVariants as order
-use Rattle.type_check.specs.declared.operands.Target.{Target}
-use Rattle.type_check.specs.declared.operands.Target.TheVariants as target
 use Rattle.type_check.specs.declared.scope.Declared.{Declared}
 use Rattle.type_check.specs.declared.scope.Found.{Found}
 use Rattle.type_check.specs.declared.scope.Variable.{Variable}
@@ -131,41 +129,33 @@ operated t s o r op p = operation (operation_ty op (ty_of p.left)) t s o r op p
 
 -- ---- assignments
 
-abbrev pub target_variable : Span → Option Found → Result Target SourceError
-target_variable s None = Err (unknown_name s)
-target_variable s (Some v) = Ok (target.Variable v)
+-- a variable is written only where it is mutable
+abbrev pub is_mutable : Option Variable → Bool
+is_mutable None = false
+is_mutable (Some v) = v.mutable
 
-abbrev pub target_value : TypedExpr → Result Target SourceError
-target_value e = Ok (target.Value e)
-
--- what is assigned to, from the left side, and what this is at each expected type
-abbrev pub target_of : List Variable → Span → Option Segment → (Option Ty → Typed) → Result Target SourceError
-target_of Γ s (Some x) left = target_variable s (found x.name Γ)
-target_of Γ s None left = left None >>= target_value
-
-abbrev pub target_ty : Target → Ty
-target_ty (target.Variable v) = v.ty
-target_ty (target.Value e) = ty_of e
+-- what is no variable's may be written: it is lost
+abbrev pub may_write : List Variable → TypedExpr → Bool
+may_write Γ (tree.variable t s x) = is_mutable (slice_get Γ x)
+may_write Γ e = true
 
 abbrev pub if_mutable : Bool → Span → TypedExpr → Typed
 if_mutable b s e = if b then Ok e else Err (not_mutable s)
 
 -- the spans are the expression's and the left side's
-unfoldable pub assigned : Option Ty → Span → Span → Target → TypedExpr → Typed
-assigned t s l (target.Variable v) e = fit t s (tree.assign unit s v.place e) >>= if_mutable v.mutable l
-assigned t s l (target.Value a) e = fit t s (tree.assign_value unit s a e)
+unfoldable pub assigned : List Variable → Option Ty → Span → Span → (target value : TypedExpr) → Typed
+assigned Γ t s l a e = fit t s (tree.assign unit s a e) >>= if_mutable (may_write Γ a) l
 
 abbrev pub is_updated : BinaryOp → Ty → Bool
 is_updated op (int k) = is_arithmetic op
 is_updated op _ = false
 
-abbrev pub update_of : Option Ty → Span → Span → Span → BinaryOp → Target → TypedExpr → Typed
-update_of t s o l op (target.Variable v) e = fit t s (tree.update unit o op v.place e) >>= if_mutable v.mutable l
-update_of t s o l op (target.Value a) e = fit t s (tree.update_value unit o op a e)
+abbrev pub update_of : List Variable → Option Ty → Span → Span → Span → BinaryOp → (target value : TypedExpr) → Typed
+update_of Γ t s o l op a e = fit t s (tree.update unit o op a e) >>= if_mutable (may_write Γ a) l
 
 -- the spans are the expression's, the operator's and the left side's
-unfoldable pub updated : Option Ty → Span → Span → Span → BinaryOp → Target → TypedExpr → Typed
-updated t s o l op a e = if is_updated op (target_ty a) then update_of t s o l op a e else Err (mismatch l)
+unfoldable pub updated : List Variable → Option Ty → Span → Span → Span → BinaryOp → (target value : TypedExpr) → Typed
+updated Γ t s o l op a e = if is_updated op (ty_of a) then update_of Γ t s o l op a e else Err (mismatch l)
 
 -- ---- calls
 
@@ -262,13 +252,13 @@ abbrev mutual
     y ← typed σ Γ b (Some bool)
     fit t s (tree.lazy bool s op x y)
   typed σ Γ (E.assign s l e) t = do
-    a ← target_of Γ (span_of l) (as_name l) (typed σ Γ l)
-    b ← typed σ Γ e (Some (target_ty a))
-    assigned t s (span_of l) a b
+    a ← typed σ Γ l None
+    b ← typed σ Γ e (Some (ty_of a))
+    assigned Γ t s (span_of l) a b
   typed σ Γ (E.update s op o l e) t = do
-    a ← target_of Γ (span_of l) (as_name l) (typed σ Γ l)
-    b ← typed σ Γ e (Some (target_ty a))
-    updated t s o (span_of l) op a b
+    a ← typed σ Γ l None
+    b ← typed σ Γ e (Some (ty_of a))
+    updated Γ t s o (span_of l) op a b
   typed σ Γ (E.call s f es) t = do
     g ← callee_of σ Γ s (as_name f)
     as' ← typed_args σ Γ es g.signature.params

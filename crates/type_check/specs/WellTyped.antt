@@ -17,7 +17,7 @@ use Rattle.type_check.specs.declared.program.Signature.{Signature}
 use Rattle.type_check.specs.declared.program.TypedClause.{TypedClause}
 use Rattle.type_check.specs.declared.program.TypedFunction.{TypedFunction}
 use Rattle.type_check.specs.declared.program.TypedProgram.{TypedProgram}
-use Rattle.type_check.specs.TypedExpr.{TypedExpr, TypedStmts, TypedExprs, integer, truth, variable, negative, denied, binary, lazy, assign, assign_value, update, update_value, call, block, branch, choice, repeat, done, last, bind, run, none, more}
+use Rattle.type_check.specs.TypedExpr.{TypedExpr, TypedStmts, TypedExprs, integer, truth, variable, negative, denied, binary, lazy, assign, update, call, block, branch, choice, repeat, done, last, bind, run, none, more}
 use Rattle.type_check.specs.TypedExprView.{ty_of}
 use Rattle.type_check.specs.VariableNames.{variable_name, answer_name}
 
@@ -98,10 +98,8 @@ abbrev mutual
   IsWellTyped σ Γ (denied t s e) = (t ≡ bool) × IsOf bool e × IsWellTyped σ Γ e
   IsWellTyped σ Γ (binary t s op a b) = (operation_ty op (ty_of a) ≡ Some t) × IsOf (ty_of a) b × IsWellTyped σ Γ a × IsWellTyped σ Γ b
   IsWellTyped σ Γ (lazy t s op a b) = (t ≡ bool) × IsOf bool a × IsOf bool b × IsWellTyped σ Γ a × IsWellTyped σ Γ b
-  IsWellTyped σ Γ (assign t s x e) = (t ≡ unit) × (slice_get Γ x ≡ Some (ty_of e)) × IsWellTyped σ Γ e
-  IsWellTyped σ Γ (assign_value t s a e) = (t ≡ unit) × IsOf (ty_of a) e × IsWellTyped σ Γ a × IsWellTyped σ Γ e
-  IsWellTyped σ Γ (update t s op x e) = (t ≡ unit) × (slice_get Γ x ≡ Some (ty_of e)) × (operation_ty op (ty_of e) ≡ Some (ty_of e)) × IsWellTyped σ Γ e
-  IsWellTyped σ Γ (update_value t s op a e) = (t ≡ unit) × IsOf (ty_of a) e × (operation_ty op (ty_of e) ≡ Some (ty_of e)) × IsWellTyped σ Γ a × IsWellTyped σ Γ e
+  IsWellTyped σ Γ (assign t s a e) = (t ≡ unit) × IsOf (ty_of a) e × IsWellTyped σ Γ a × IsWellTyped σ Γ e
+  IsWellTyped σ Γ (update t s op a e) = (t ≡ unit) × IsOf (ty_of a) e × (operation_ty op (ty_of e) ≡ Some (ty_of e)) × IsWellTyped σ Γ a × IsWellTyped σ Γ e
   IsWellTyped σ Γ (call t s f es) = (g : Signature) × (slice_get σ f ≡ Some g) × (t ≡ g.answer) × ArgumentsFit σ Γ es g.params
   IsWellTyped σ Γ (block t s ss) = StatementsFit σ Γ t ss
   IsWellTyped σ Γ (branch t s c a) = (t ≡ unit) × IsOf bool c × IsOf unit a × IsWellTyped σ Γ c × IsWellTyped σ Γ a

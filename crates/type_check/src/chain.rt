@@ -8,12 +8,11 @@ ghost use Rattle.type_check.specs.Answers.{Answers};
 ghost use Rattle.type_check.specs.Chains.{GoesLeft, climbed, ended, first_ty, frames_size, left_of, right_of, second_ty, written};
 ghost use Rattle.type_check.specs.Typing.{typed};
 
-use crate::operands::{Operands, Target};
-use crate::scope::Found;
+use crate::operands::Operands;
+use crate::scope::Variable;
 use crate::typed::TypedExpr;
 use crate::types::is_arithmetic;
 use crate::typing::{given_ty, is_bare, lazy, operated, span_of, spans_at, updated};
-use crate::written::as_name;
 use logic_term::Ty;
 use source_kinds::{BinaryOp, LazyOp};
 use source_trees::{Expr, ExprNode};
@@ -26,7 +25,7 @@ pub(crate) enum Operation<'a> {
     /// The operator with its span, and the operands.
     Binary(BinaryOp, Span, &'a Expr, &'a Expr),
     Lazy(LazyOp, &'a Expr, &'a Expr),
-    /// A compound assignment to a value that is no variable's.
+    /// A compound assignment: what is assigned to stands on the left.
     Update(BinaryOp, Span, &'a Expr, &'a Expr),
 }
 
@@ -56,9 +55,7 @@ fn operation_of(e: &Expr) -> Option<Operation<'_>>
     match &*e.node {
         ExprNode::Binary(op, at, a, b) if !is_bare(a) => Some(Operation::Binary(*op, *at, a, b)),
         ExprNode::Lazy(op, a, b) => Some(Operation::Lazy(*op, a, b)),
-        ExprNode::Update(op, at, a, b) if as_name(a).is_none() => {
-            Some(Operation::Update(*op, *at, a, b))
-        }
+        ExprNode::Update(op, at, a, b) => Some(Operation::Update(*op, *at, a, b)),
         _ => None,
     }
 }
@@ -155,11 +152,12 @@ pub(crate) fn descend<'a>(
 /// The operation, whose operands are typed.
 pub(crate) fn finish(
     alloc: Global,
+    scope: &[Variable],
     frame: Frame<'_>,
     left: TypedExpr,
     right: TypedExpr,
 ) -> Result<TypedExpr, PassError>
-    ensures { Answers result (ended frame.entry.whole frame.entry.operation frame.entry.expected left right) }
+    ensures { Answers result (ended scope.now frame.entry.whole frame.entry.operation frame.entry.expected left right) }
 {
     let Frame {
         whole,
@@ -174,7 +172,7 @@ pub(crate) fn finish(
         Operation::Lazy(op, _, _) => lazy(alloc, &expected, whole, op, left, right),
         Operation::Update(op, at, a, _) => {
             let spans = spans_at(whole, at, a);
-            updated(alloc, &expected, spans, op, Target::Value(left), right)
+            updated(alloc, scope, &expected, spans, op, left, right)
         }
     }
 }

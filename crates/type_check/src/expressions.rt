@@ -4,22 +4,22 @@ ghost use Rattle.source_trees.specs.ExprView.{exprs_of as written_exprs, span_of
 ghost use Rattle.type_check.specs.Answers.{Answers, AnswersAs};
 ghost use Rattle.type_check.specs.Chains.{behind};
 ghost use Rattle.type_check.specs.TypedExprView.{exprs_of};
-ghost use Rattle.type_check.specs.Typing.{callee_of, is_bare, opened, operands, order_of, target_of, typed, typed_args, typed_statement, typed_stmts};
+ghost use Rattle.type_check.specs.Typing.{callee_of, is_bare, opened, operands, order_of, typed, typed_args, typed_statement, typed_stmts};
 ghost use Rattle.type_check.specs.WellTyped.{is_arithmetic};
 ghost use Rattle.type_check.specs.Written.{as_name};
 
 use crate::chain::{Descent, Frame, descend, finish, right_of, second_ty};
 use crate::elaborate::invariants_of;
 use crate::heading::{Callee, Heading, find_callee};
-use crate::operands::{Operands, Order, Target};
+use crate::operands::{Operands, Order};
 use crate::refusal::{unbuilt, unknown_name};
-use crate::scope::{Variable, find_variable};
+use crate::scope::Variable;
 use crate::statements::{block, block_with, declare};
 use crate::typed::{TypedExpr, TypedStmt};
 use crate::types::is_arithmetic;
 use crate::typing::{
     assigned, branch, called, choice, denied, given_ty, is_bare, lazy, literal, named, negated,
-    operated, order_of, param_ty, repeat, span_of, spans_at, target_ty, truth, updated,
+    operated, order_of, param_ty, repeat, span_of, spans_at, truth, updated,
 };
 use crate::written::{as_name, name_alone, step_of};
 use logic_term::Ty;
@@ -68,7 +68,7 @@ fn type_behind(
     let wanted = second_ty(alloc, &frame, &left)?;
     let right = right_of(&frame.operation);
     let right = type_expr(alloc, headings, scope, right, &wanted)?;
-    finish(alloc, frame, left, right)
+    finish(alloc, scope.as_slice(), frame, left, right)
 }
 
 /// The same as `type_expr`, each operand by a call.
@@ -243,10 +243,18 @@ fn type_assign(
     ensures answers { Answers result (typed headings.now scope.old.items (E.assign whole left.now value.now) expected.now) }
     ensures kept { OnOk result (scope.new.items ≡ scope.old.items) }
 {
-    let target = type_target(alloc, headings, scope, left)?;
-    let wanted = target_ty(alloc, &target)?;
+    let target = type_expr(alloc, headings, scope, left, &None)?;
+    let wanted = given_ty(alloc, &target)?;
     let value = type_expr(alloc, headings, scope, value, &wanted)?;
-    assigned(alloc, expected, whole, span_of(left), target, value)
+    assigned(
+        alloc,
+        scope.as_slice(),
+        expected,
+        whole,
+        span_of(left),
+        target,
+        value,
+    )
 }
 
 /// `left += value` and the like.
@@ -266,11 +274,11 @@ fn type_update(
     ensures answers { Answers result (typed headings.now scope.old.items (E.update whole op operator left.now value.now) expected.now) }
     ensures kept { OnOk result (scope.new.items ≡ scope.old.items) }
 {
-    let target = type_target(alloc, headings, scope, left)?;
-    let wanted = target_ty(alloc, &target)?;
+    let target = type_expr(alloc, headings, scope, left, &None)?;
+    let wanted = given_ty(alloc, &target)?;
     let value = type_expr(alloc, headings, scope, value, &wanted)?;
     let spans = spans_at(whole, operator, left);
-    updated(alloc, expected, spans, op, target, value)
+    updated(alloc, scope.as_slice(), expected, spans, op, target, value)
 }
 
 /// A call.
@@ -460,27 +468,6 @@ fn type_operands(
             let right = type_expr(alloc, headings, scope, b, &wanted)?;
             Ok(Operands { left, right })
         }
-    }
-}
-
-/// What is assigned to, where this is the left side.
-#[cycle(type_expr)]
-#[tactic(auto, using(crate::proofs::Parts::parts))]
-fn type_target(
-    alloc: Global,
-    headings: &[Heading],
-    scope: &mut Vec<Variable>,
-    left: &Expr,
-) -> Result<Target, PassError>
-    ensures answers { Answers result (target_of scope.old.items (span_of left.now) (as_name left.now) (typed headings.now scope.old.items left.now)) }
-    ensures kept { OnOk result (scope.new.items ≡ scope.old.items) }
-{
-    match as_name(left) {
-        Some(name) => match find_variable(alloc, name.name, scope.as_slice())? {
-            Some(found) => Ok(Target::Variable(found)),
-            None => Err(unknown_name(span_of(left))),
-        },
-        None => Ok(Target::Value(type_expr(alloc, headings, scope, left, &None)?)),
     }
 }
 

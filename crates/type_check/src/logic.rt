@@ -45,8 +45,8 @@ fn operands_of(e: &TypedExpr) -> Option<(&TypedExpr, &TypedExpr)>
     match &*e.node {
         TypedNode::Binary(_, a, b) => Some((a, b)),
         TypedNode::Lazy(_, a, b) => Some((a, b)),
-        TypedNode::AssignValue(a, b) => Some((a, b)),
-        TypedNode::UpdateValue(_, a, b) => Some((a, b)),
+        TypedNode::Assign(a, b) => Some((a, b)),
+        TypedNode::Update(_, a, b) => Some((a, b)),
         _ => None,
     }
 }
@@ -80,10 +80,8 @@ fn bad_in_form(e: &TypedExpr) -> Option<SourceError>
         TypedNode::Not(a) => bad_in(a),
         TypedNode::Binary(_, a, b) => earlier(bad_in(a), bad_in(b)),
         TypedNode::Lazy(_, a, b) => earlier(bad_in(a), bad_in(b)),
-        TypedNode::Assign(_, a) => bad_in(a),
-        TypedNode::AssignValue(a, b) => earlier(bad_in(a), bad_in(b)),
-        TypedNode::Update(_, _, a) => bad_in(a),
-        TypedNode::UpdateValue(_, a, b) => earlier(bad_in(a), bad_in(b)),
+        TypedNode::Assign(a, b) => earlier(bad_in(a), bad_in(b)),
+        TypedNode::Update(_, a, b) => earlier(bad_in(a), bad_in(b)),
         TypedNode::Call(_, args) => bad_in_exprs(args),
         TypedNode::Block(stmts) => bad_in_stmts(stmts),
         TypedNode::BlockWith(stmts, last) => earlier(bad_in_stmts(stmts), bad_in(last)),

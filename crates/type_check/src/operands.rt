@@ -1,4 +1,3 @@
-use crate::scope::Found;
 use crate::typed::TypedExpr;
 use logic_term::Ty;
 
@@ -7,14 +6,6 @@ use logic_term::Ty;
 pub(crate) struct Operands {
     pub(crate) left: TypedExpr,
     pub(crate) right: TypedExpr,
-}
-
-/// What is assigned to.
-#[derive(Drop)]
-pub(crate) enum Target {
-    Variable(Found),
-    /// A value that is no variable's.
-    Value(TypedExpr),
 }
 
 /// How the operands of an operation get their types.

@@ -26,7 +26,6 @@ pub(crate) struct Found {
     /// How many variables are in scope around its declaration.
     pub(crate) place: u32,
     pub(crate) ty: Ty,
-    pub(crate) mutable: bool,
 }
 
 /// The variable of the name: the last of the scope, whose outermost variable stands first.
@@ -45,8 +44,7 @@ pub(crate) fn find_variable(
         if name.0 == variable.name.0 {
             let place = u32::try_from(left).map_err(|_| NoMemory)?;
             let ty = variable.ty.copy(alloc)?;
-            let mutable = variable.mutable;
-            return Ok(Some(Found { place, ty, mutable }));
+            return Ok(Some(Found { place, ty }));
         }
     }
     Ok(None)

@@ -30,13 +30,10 @@ pub enum TypedNode {
     Not(TypedExpr),
     Binary(BinaryOp, TypedExpr, TypedExpr),
     Lazy(LazyOp, TypedExpr, TypedExpr),
-    /// To a variable.
-    Assign(u32, TypedExpr),
-    /// To a value that is no variable's: what is assigned is lost.
-    AssignValue(TypedExpr, TypedExpr),
+    /// To the first. Where that is no variable, what is assigned is lost.
+    Assign(TypedExpr, TypedExpr),
     /// `x += e` and the like.
-    Update(BinaryOp, u32, TypedExpr),
-    UpdateValue(BinaryOp, TypedExpr, TypedExpr),
+    Update(BinaryOp, TypedExpr, TypedExpr),
     /// A function of the program, by its place.
     Call(u32, Vec<TypedExpr>),
     Block(Vec<TypedStmt>),
@@ -103,8 +100,8 @@ impl TypedExpr {
             TypedNode::Not(left) => Some(left),
             TypedNode::Binary(_, left, _) => Some(left),
             TypedNode::Lazy(_, left, _) => Some(left),
-            TypedNode::AssignValue(left, _) => Some(left),
-            TypedNode::UpdateValue(_, left, _) => Some(left),
+            TypedNode::Assign(left, _) => Some(left),
+            TypedNode::Update(_, left, _) => Some(left),
             TypedNode::Call(_, _args) => None,
             TypedNode::Block(_stmts) => None,
             TypedNode::BlockWith(_stmts, _last) => None,

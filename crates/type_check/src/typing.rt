@@ -4,12 +4,12 @@ ghost use Rattle.source_trees.specs.ExprView.{span_of};
 ghost use Rattle.type_check.specs.Answers.{Answers};
 ghost use Rattle.type_check.specs.TypedExpr as tree;
 ghost use Rattle.type_check.specs.TypedExprView.{ty_of, typed_of, exprs_of};
-ghost use Rattle.type_check.specs.Typing.{fit, order_of, literal_kind, literal, variable, negated, is_bare, named, operated, target_ty, assigned, updated, called, is_updated};
+ghost use Rattle.type_check.specs.Typing.{fit, order_of, literal_kind, literal, variable, negated, is_bare, named, operated, if_mutable, may_write, assigned, updated, called, is_updated};
 ghost use Rattle.type_check.specs.WellTyped.{unit};
 
 use crate::assertion::Assertion;
 use crate::heading::Callee;
-use crate::operands::{Operands, Order, Target};
+use crate::operands::{Operands, Order};
 use crate::refusal::{mismatch, not_mutable, unbuilt, unknown_name};
 use crate::scope::{Found, Variable, find_variable};
 use crate::typed::{TypedExpr, TypedNode};
@@ -185,85 +185,69 @@ pub(crate) fn operated(
     fit(alloc, expected, spans.whole, ty, span, node)
 }
 
-/// The type of what is assigned to, as one that the right side is checked against.
-pub(crate) fn target_ty(alloc: Global, target: &Target) -> Result<Option<Ty>, NoMemory>
-    ensures { IfOk result (λ t. t ≡ Some (target_ty target.now)) }
+/// Whether the target is a variable that is mutable, or no variable at all.
+fn may_write(scope: &[Variable], target: &TypedExpr) -> bool
+    ensures { result ≡ may_write scope.now target.now }
 {
-    match target {
-        Target::Variable(found) => Ok(Some(found.ty.copy(alloc)?)),
-        Target::Value(e) => given_ty(alloc, e),
+    match &*target.node {
+        TypedNode::Variable(place) => match scope.get(*place as usize) {
+            Some(variable) => variable.mutable,
+            None => false,
+        },
+        _ => true,
+    }
+}
+
+fn if_mutable(may_write: bool, left: Span, e: TypedExpr) -> Result<TypedExpr, PassError>
+    ensures { Answers result (if_mutable may_write left e) }
+{
+    if may_write {
+        Ok(e)
+    } else {
+        Err(not_mutable(left))
     }
 }
 
 #[tactic(auto, unfolding(crate::specs::Typing::assigned))]
 pub(crate) fn assigned(
     alloc: Global,
+    scope: &[Variable],
     expected: &Option<Ty>,
     span: Span,
     left: Span,
-    target: Target,
+    target: TypedExpr,
     value: TypedExpr,
 ) -> Result<TypedExpr, PassError>
-    ensures { Answers result (assigned expected.now span left target value) }
+    ensures { Answers result (assigned scope.now expected.now span left target value) }
 {
+    let may_write = may_write(scope, &target);
     let ty = Ty::unit(alloc);
-    match target {
-        Target::Variable(found) => {
-            let node = TypedNode::Assign(found.place, value);
-            let e = fit(alloc, expected, span, ty, span, node)?;
-            if found.mutable {
-                Ok(e)
-            } else {
-                Err(not_mutable(left))
-            }
-        }
-        Target::Value(lost) => {
-            let node = TypedNode::AssignValue(lost, value);
-            fit(alloc, expected, span, ty, span, node)
-        }
-    }
-}
-
-fn is_target_updated(op: BinaryOp, target: &Target) -> bool
-    ensures { result ≡ is_updated op (target_ty target.now) }
-{
-    match target {
-        Target::Variable(found) => is_updated(op, &found.ty),
-        Target::Value(e) => is_updated(op, ty_of(e)),
-    }
+    let node = TypedNode::Assign(target, value);
+    let e = fit(alloc, expected, span, ty, span, node)?;
+    if_mutable(may_write, left, e)
 }
 
 #[tactic(auto, unfolding(crate::specs::Typing::updated))]
 pub(crate) fn updated(
     alloc: Global,
+    scope: &[Variable],
     expected: &Option<Ty>,
     spans: Spans,
     op: BinaryOp,
-    target: Target,
+    target: TypedExpr,
     value: TypedExpr,
 ) -> Result<TypedExpr, PassError>
-    ensures { Answers result (updated expected.now spans.whole spans.operator spans.first op target value) }
+    ensures { Answers result (updated scope.now expected.now spans.whole spans.operator spans.first op target value) }
 {
-    if !is_target_updated(op, &target) {
+    if !is_updated(op, ty_of(&target)) {
         return Err(mismatch(spans.first));
     }
+    let may_write = may_write(scope, &target);
     let ty = Ty::unit(alloc);
     let span = spans.operator;
-    match target {
-        Target::Variable(found) => {
-            let node = TypedNode::Update(op, found.place, value);
-            let e = fit(alloc, expected, spans.whole, ty, span, node)?;
-            if found.mutable {
-                Ok(e)
-            } else {
-                Err(not_mutable(spans.first))
-            }
-        }
-        Target::Value(lost) => {
-            let node = TypedNode::UpdateValue(op, lost, value);
-            fit(alloc, expected, spans.whole, ty, span, node)
-        }
-    }
+    let node = TypedNode::Update(op, target, value);
+    let e = fit(alloc, expected, spans.whole, ty, span, node)?;
+    if_mutable(may_write, spans.first, e)
 }
 
 #[tactic(auto, unfolding(crate::specs::Typing::called), using(crate::proofs::Arguments::how_many_are))]
