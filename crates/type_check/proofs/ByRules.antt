@@ -3,7 +3,6 @@ use Rattle.std.proofs.Common.{◌≡◌, refl, ap, sym, subst, List, [], ◌∷�
 use Rattle.text_core.specs.declared.refusal.SourceError.{SourceError}
 use Rattle.logic_term.specs.Ty.{Ty, bool}
 use Rattle.source_trees.specs.declared.operator.UnaryOp.TheVariants.{Neg, Not}
-use Rattle.source_trees.specs.declared.path.Segment.{Segment}
 use Rattle.source_trees.specs.Expr as E
 use Rattle.source_trees.specs.Expr.{Expr}
 use Rattle.source_trees.specs.ExprView.{span_of}
@@ -11,18 +10,15 @@ use Rattle.type_check.specs.declared.heading.Heading.{Heading}
 use Rattle.type_check.specs.declared.operands.Operands.{Operands}
 use Rattle.type_check.specs.declared.operands.Order.{Order}
 use Rattle.type_check.specs.declared.operands.Order.TheVariants as order
-use Rattle.type_check.specs.declared.operands.Target.{Target}
-use Rattle.type_check.specs.declared.operands.Target.TheVariants as target
 use Rattle.type_check.specs.declared.scope.Variable.{Variable}
 use Rattle.type_check.specs.Answers.{◌>>=◌, gather}
-use Rattle.type_check.specs.Scope.{found}
 use Rattle.type_check.specs.TypedExpr.{TypedExpr, TypedExprs}
 use Rattle.type_check.specs.TypedExpr as tree
 use Rattle.type_check.specs.TypedExprView.{ty_of, stmts_of}
-use Rattle.type_check.specs.Typing.{Typed, fit, negated, is_bare, order_of, operands_of, operands, operated, target_variable, target_value, target_of, target_ty, assigned, updated, callee_of, first_of, rest_of, called, Opened, opened, declared, behind, typed_stmt, closed, invariant_of, typed, typed_stmts, typed_args}
+use Rattle.type_check.specs.Typing.{Typed, fit, negated, is_bare, order_of, operands_of, operands, operated, assigned, updated, callee_of, first_of, rest_of, called, Opened, opened, declared, behind, typed_stmt, closed, invariant_of, typed, typed_stmts, typed_args}
 use Rattle.type_check.specs.WellTyped.{unit, is_arithmetic}
 use Rattle.type_check.specs.Written.{as_name, step_of}
-use Rattle.type_check.specs.Rules.{Asks, comes, part, first, operands_in, target_in, each_arg, each_stmt, rule, Types, by_rule, Comes, itself, refused, then, TypedByRules, TypingIsOne}
+use Rattle.type_check.specs.Rules.{Asks, comes, part, first, operands_in, each_arg, each_stmt, rule, Types, by_rule, Comes, itself, refused, then, TypedByRules, TypingIsOne}
 
 -- ---- one outcome
 
@@ -82,10 +78,6 @@ module _ (σ : List Heading) where
       at_part_in σ Γ a None (typed σ Γ a None) _ (λ x. typed σ Γ b (Some (ty_of x)) >>= λ y. Ok (operands_of x y)) f (one None)
       (λ x. at_part_in σ Γ b (Some (ty_of x)) (typed σ Γ b (Some (ty_of x))) _ (λ y. Ok (operands_of x y)) f (other (Some (ty_of x))) (λ y. h (operands_of x y)))
 
-  at_target : (Γ : List Variable) (l : Expr) (x : Option Segment) (k : Target → Asks) (f : Target → Typed) → Each Γ l → Follows σ k f → Comes σ (target_in Γ l x k) (target_of Γ (span_of l) x (typed σ Γ l) >>= f)
-  at_target Γ l (Some x) k f left h = at_first σ (target_variable (span_of l) (found x.name Γ)) k f h
-  at_target Γ l None k f left h = at_part_in σ Γ l None (typed σ Γ l None) _ target_value f (left None) (λ a. h (target.Value a))
-
   mutual
     types : (Γ : List Variable) (e : Expr) (t : Option Ty) → Types σ Γ e t (typed σ Γ e t)
     types Γ (E.unary s Neg o e) t = by_rule (at_part σ Γ e t (typed σ Γ e t) _ _ (types Γ e t) (λ a. itself))
@@ -94,9 +86,9 @@ module _ (σ : List Heading) where
     types Γ (E.lazy s op a b) t = by_rule
         (at_part σ Γ a (Some bool) (typed σ Γ a (Some bool)) _ _ (types Γ a (Some bool)) (λ x. at_part σ Γ b (Some bool) (typed σ Γ b (Some bool)) _ _ (types Γ b (Some bool)) (λ y. itself)))
     types Γ (E.assign s l e) t = by_rule
-        (at_target Γ l (as_name l) _ _ (λ u. types Γ l u) (λ d. at_part σ Γ e (Some (target_ty d)) (typed σ Γ e (Some (target_ty d))) _ _ (types Γ e (Some (target_ty d))) (λ a. itself)))
+        (at_part σ Γ l None (typed σ Γ l None) _ _ (types Γ l None) (λ a. at_part σ Γ e (Some (ty_of a)) (typed σ Γ e (Some (ty_of a))) _ _ (types Γ e (Some (ty_of a))) (λ b. itself)))
     types Γ (E.update s op o l e) t = by_rule
-        (at_target Γ l (as_name l) _ _ (λ u. types Γ l u) (λ d. at_part σ Γ e (Some (target_ty d)) (typed σ Γ e (Some (target_ty d))) _ _ (types Γ e (Some (target_ty d))) (λ a. itself)))
+        (at_part σ Γ l None (typed σ Γ l None) _ _ (types Γ l None) (λ a. at_part σ Γ e (Some (ty_of a)) (typed σ Γ e (Some (ty_of a))) _ _ (types Γ e (Some (ty_of a))) (λ b. itself)))
     types Γ (E.call s f es) t = by_rule (at_first σ (callee_of σ Γ s (as_name f)) _ _ (λ g. at_args Γ es g.signature.params _ _ (λ as'. itself)))
     types Γ (E.block s ss) t = by_rule (at_stmts Γ ss _ _ (λ o. itself))
     types Γ (E.block_with s ss e) t = by_rule (at_stmts Γ ss _ _ (λ o. at_part σ o.scope e t (typed σ o.scope e t) _ _ (types o.scope e t) (λ a. itself)))

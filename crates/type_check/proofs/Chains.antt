@@ -3,7 +3,6 @@ use Rattle.std.proofs.Common.{◌≡◌, ◌∙◌, ℕ, suc, ◌≤◌, max, Bo
 use Rattle.std.specs.Prelude.{if◌then◌else◌}
 use Rattle.text_core.specs.declared.fault.PassError.{PassError}
 use Rattle.text_core.specs.declared.span.Span.{Span}
-use Rattle.source_kinds.specs.declared.kinds.BinaryOp.{BinaryOp}
 use Rattle.logic_term.specs.Ty.{Ty}
 use Rattle.source_trees.specs.Expr.{Expr}
 use Rattle.source_trees.specs.ExprView.{expr_size, span_of}
@@ -12,14 +11,12 @@ use Rattle.type_check.specs.declared.chain.Operation.{Operation}
 use Rattle.type_check.specs.declared.chain.Operation.TheVariants as operation
 use Rattle.type_check.specs.declared.heading.Heading.{Heading}
 use Rattle.type_check.specs.declared.operands.Operands.{Operands}
-use Rattle.type_check.specs.declared.operands.Target.{Target}
-use Rattle.type_check.specs.declared.operands.Target.TheVariants as target
 use Rattle.type_check.specs.declared.scope.Variable.{Variable}
 use Rattle.type_check.specs.Answers.{◌>>=◌, Refuses}
 use Rattle.type_check.specs.Chains.{GoesLeft, behind, climbed, finished, first_ty, frames_size, left_of, right_of, ty_or, written}
 use Rattle.type_check.specs.TypedExpr.{TypedExpr}
 use Rattle.type_check.specs.TypedExprView.{ty_of}
-use Rattle.type_check.specs.Typing.{Typed, is_bare, operands, operands_of, operated, order_of, target_of, target_ty, target_value, typed, updated}
+use Rattle.type_check.specs.Typing.{Typed, is_bare, operands, operands_of, operated, order_of, typed}
 use Rattle.type_check.specs.WellTyped.{is_arithmetic}
 use Rattle.type_check.proofs.PartByPart.{along, refuses_then}
 
@@ -40,22 +37,13 @@ operands_left true q (Some t) a b k = both (a (Some t)) (λ x. b (Some t)) k
 operands_left true q None a b k = both (a None) (λ x. b (Some (ty_of x))) k
 operands_left false q t a b k = both (a None) (λ x. b (Some (ty_of x))) k
 
-value : (m : Typed) (k : Target → Typed) → ((m >>= target_value) >>= k) ≡ (m >>= λ x. k (target.Value x))
-value (Ok x) k = refl
-value (Err e) k = refl
-
-abbrev assigned_value : List Heading → List Variable → Span → BinaryOp → Span → Expr → Expr → Option Ty → Target → Typed
-assigned_value σ Γ s op o a b t x = typed σ Γ b (Some (target_ty x)) >>= updated t s o (span_of a) op x
-
 module _ (σ : List Heading) (Γ : List Variable) where
   goes_left : (s : Span) (o : Operation) (t : Option Ty) → GoesLeft o → typed σ Γ (written s o) t ≡ (typed σ Γ (left_of o) (first_ty o t) >>= finished σ Γ s o t)
   goes_left s (operation.Binary op o a b) t h =
       ap (λ p. operands (order_of (is_arithmetic op) t p (is_bare b.now)) (typed σ Γ a.now) (typed σ Γ b.now) >>= operated t s o (span_of a.now) op) h
       ∙ operands_left (is_arithmetic op) (is_bare b.now) t (typed σ Γ a.now) (typed σ Γ b.now) (operated t s o (span_of a.now) op)
   goes_left s (operation.Lazy op a b) t h = refl
-  goes_left s (operation.Update op o a b) t h =
-      ap (λ x. target_of Γ (span_of a.now) x (typed σ Γ a.now) >>= assigned_value σ Γ s op o a.now b.now t) h
-      ∙ value (typed σ Γ a.now None) (assigned_value σ Γ s op o a.now b.now t)
+  goes_left s (operation.Update op o a b) t h = refl
 
   -- ---- frames
 

@@ -23,8 +23,6 @@ use Rattle.type_check.specs.declared.heading.Heading.{Heading}
 use Rattle.type_check.specs.declared.operands.Operands.{Operands}
 use Rattle.type_check.specs.declared.operands.Order.{Order}
 use Rattle.type_check.specs.declared.operands.Order.TheVariants as order
-use Rattle.type_check.specs.declared.operands.Target.{Target}
-use Rattle.type_check.specs.declared.operands.Target.TheVariants as target
 use Rattle.type_check.specs.declared.scope.Declared.{Declared}
 use Rattle.type_check.specs.declared.scope.Found.{Found}
 use Rattle.type_check.specs.declared.scope.Variable.{Variable}
@@ -36,8 +34,8 @@ use Rattle.type_check.specs.TypedExpr.{TypedExpr, TypedStmts, TypedExprs}
 use Rattle.type_check.specs.TypedExpr as tree
 use Rattle.type_check.specs.TypedExprView.{ty_of, stmts_of}
 use Rattle.type_check.specs.Types.{same_ty, is_signed_ty}
-use Rattle.type_check.specs.Typing.{Typed, fit, literal_kind, literal_of, literal, variable_of, variable, named, negated, is_bare, order_of, operands_of, operands, operation, operated, target_variable, target_value, target_of, target_ty, if_mutable, assigned}
-use Rattle.type_check.specs.Typing.{is_updated, update_of, updated, known, callee_of, how_many, first_of, rest_of, called, block_ty, declared, Opened, opened, typed_stmt, behind, closed, invariant_by, invariant_of, typed, typed_stmts, typed_args}
+use Rattle.type_check.specs.Typing.{Typed, fit, literal_kind, literal_of, literal, variable_of, variable, named, negated, is_bare, order_of, operands_of, operands, operation, operated, may_write, if_mutable, writing, assigned}
+use Rattle.type_check.specs.Typing.{is_updated, updated, known, callee_of, how_many, first_of, rest_of, called, block_ty, declared, Opened, opened, typed_stmt, behind, closed, invariant_by, invariant_of, typed, typed_stmts, typed_args}
 use Rattle.type_check.specs.WellTyped.{unit, is_arithmetic, operation_ty, is_signed, IsOf, SpeaksOf, EachSpeaks, IsWellTyped, StatementsFit, ArgumentsFit}
 use Rattle.type_check.specs.Written.{as_name, name_alone, step_of}
 use Rattle.type_check.proofs.Bound.{bound, held, yes, same_ok}
@@ -54,7 +52,7 @@ pub record Sound (σ : List Heading) (Γ : List Variable) (t : Option Ty) (e : T
   pub well : IsWellTyped (signatures_at σ) (types Γ) e
   pub meets : Meets t e
 
-fit_same : (t : Option Ty) (s : Span) (e r : TypedExpr) → fit t s e ≡ Ok r → (e ≡ r) × Meets t e
+pub fit_same : (t : Option Ty) (s : Span) (e r : TypedExpr) → fit t s e ≡ Ok r → (e ≡ r) × Meets t e
 unfolding fit
 fit_same None s e r p = (same_ok _ _ p, tt)
 fit_same (Some t) s e r p =
@@ -118,43 +116,26 @@ operated_sound σ Γ t s o r op p e b h = operation_sound σ Γ (operation_ty op
 
 -- ---- assignments
 
-abbrev pub TargetSound : List Heading → List Variable → Target → Type 0
-TargetSound σ Γ (target.Variable v) = slice_get (types Γ) v.place ≡ Some v.ty
-TargetSound σ Γ (target.Value a) = IsWellTyped (signatures_at σ) (types Γ) a
+-- an assignment that is accepted fits as any other expression
+pub written_fits : (Γ : List Variable) (t : Option Ty) (s l : Span) (a e r : TypedExpr) → writing Γ t s l a e ≡ Ok r → fit t s e ≡ Ok r
+written_fits Γ t s l a e r p =
+    let c = bound (fit t s e) (if_mutable (may_write Γ a) l) r p in
+    c.1 ∙ (held (may_write Γ a) (Ok c.0) (not_mutable l) r c.2).1
 
-mutable_sound : (σ : List Heading) (Γ : List Variable) (t : Option Ty) (s l : Span) (b : Bool) (e r : TypedExpr) → IsWellTyped (signatures_at σ) (types Γ) e → (fit t s e >>= if_mutable b l) ≡ Ok r → Sound σ Γ t r
-mutable_sound σ Γ t s l b e r w p =
-    let c = bound (fit t s e) (if_mutable b l) r p in
-    let d = held b (Ok c.0) (not_mutable l) r c.2 in
-    fit_sound σ Γ t s e r w (c.1 ∙ d.1)
-
--- the value has the type of what is assigned to
-variable_takes : (Γ : List Variable) (v : Found) (e : TypedExpr) → slice_get (types Γ) v.place ≡ Some v.ty → ty_of e ≡ v.ty → slice_get (types Γ) v.place ≡ Some (ty_of e)
-variable_takes Γ v e h q = h ∙ ap Some (sym q)
-
-assigned_sound : (σ : List Heading) (Γ : List Variable) (t : Option Ty) (s l : Span) (a : Target) (e r : TypedExpr) → TargetSound σ Γ a → IsWellTyped (signatures_at σ) (types Γ) e → ty_of e ≡ target_ty a → assigned t s l a e ≡ Ok r → Sound σ Γ t r
+assigned_sound : (σ : List Heading) (Γ : List Variable) (t : Option Ty) (s l : Span) (a e r : TypedExpr) → IsWellTyped (signatures_at σ) (types Γ) a → IsWellTyped (signatures_at σ) (types Γ) e → ty_of e ≡ ty_of a → assigned Γ t s l a e ≡ Ok r → Sound σ Γ t r
 unfolding assigned
-assigned_sound σ Γ t s l (target.Variable v) e r h w q p = mutable_sound σ Γ t s l v.mutable (tree.assign unit s v.place e) r (refl, variable_takes Γ v e h q, w) p
-assigned_sound σ Γ t s l (target.Value a) e r h w q p = fit_sound σ Γ t s (tree.assign_value unit s a e) r (refl, q, h, w) p
+assigned_sound σ Γ t s l a e r h w q p = fit_sound σ Γ t s (tree.assign unit s a e) r (refl, q, h, w) (written_fits Γ t s l a (tree.assign unit s a e) r p)
 
 arithmetic_ty : (op : BinaryOp) (u : Ty) → is_updated op u ≡ true → operation_ty op u ≡ Some u
 arithmetic_ty op (int k) p = let q : is_arithmetic op ≡ true = p in rw q refl
 arithmetic_ty op u p = absurd (cc)
 
-update_sound : (σ : List Heading) (Γ : List Variable) (t : Option Ty) (s o l : Span) (op : BinaryOp) (a : Target) (e r : TypedExpr) → TargetSound σ Γ a → IsWellTyped (signatures_at σ) (types Γ) e → ty_of e ≡ target_ty a
-    → is_updated op (target_ty a) ≡ true → update_of t s o l op a e ≡ Ok r → Sound σ Γ t r
-update_sound σ Γ t s o l op (target.Variable v) e r h w q u p =
-    let g : operation_ty op (ty_of e) ≡ Some (ty_of e) = subst (λ z. operation_ty op z ≡ Some z) (sym q) (arithmetic_ty op v.ty u) in
-    mutable_sound σ Γ t s l v.mutable (tree.update unit o op v.place e) r (refl, variable_takes Γ v e h q, g, w) p
-update_sound σ Γ t s o l op (target.Value a) e r h w q u p =
-    let g : operation_ty op (ty_of e) ≡ Some (ty_of e) = subst (λ z. operation_ty op z ≡ Some z) (sym q) (arithmetic_ty op (ty_of a) u) in
-    fit_sound σ Γ t s (tree.update_value unit o op a e) r (refl, q, g, h, w) p
-
-updated_sound : (σ : List Heading) (Γ : List Variable) (t : Option Ty) (s o l : Span) (op : BinaryOp) (a : Target) (e r : TypedExpr) → TargetSound σ Γ a → IsWellTyped (signatures_at σ) (types Γ) e → ty_of e ≡ target_ty a → updated t s o l op a e ≡ Ok r → Sound σ Γ t r
+updated_sound : (σ : List Heading) (Γ : List Variable) (t : Option Ty) (s o l : Span) (op : BinaryOp) (a e r : TypedExpr) → IsWellTyped (signatures_at σ) (types Γ) a → IsWellTyped (signatures_at σ) (types Γ) e → ty_of e ≡ ty_of a → updated Γ t s o l op a e ≡ Ok r → Sound σ Γ t r
 unfolding updated
 updated_sound σ Γ t s o l op a e r h w q p =
-    let c = held (is_updated op (target_ty a)) (update_of t s o l op a e) (mismatch l) r p in
-    update_sound σ Γ t s o l op a e r h w q c.0 c.1
+    let c = held (is_updated op (ty_of a)) (writing Γ t s l a (tree.update unit o op a e)) (mismatch l) r p in
+    let g : operation_ty op (ty_of e) ≡ Some (ty_of e) = subst (λ z. operation_ty op z ≡ Some z) (sym q) (arithmetic_ty op (ty_of a) c.0) in
+    fit_sound σ Γ t s (tree.update unit o op a e) r (refl, q, g, h, w) (written_fits Γ t s l a (tree.update unit o op a e) r c.1)
 
 -- ---- calls
 
@@ -258,16 +239,6 @@ operands_sound σ Γ order.FirstGives f g p hf hg h =
     let sb = hg (Some (ty_of a.0)) b.0 b.1 in
     both_sound σ Γ a.0 b.0 p (hf None a.0 a.1).well sb.well sb.meets b.2
 
-target_variable_sound : (σ : List Heading) (Γ : List Variable) (s : Span) (o : Option Found) (a : Target) → ((w : Found) → o ≡ Some w → slice_get (types Γ) w.place ≡ Some w.ty) → target_variable s o ≡ Ok a → TargetSound σ Γ a
-target_variable_sound σ Γ s None a h p = absurd (cc)
-target_variable_sound σ Γ s (Some v) a h p = subst (TargetSound σ Γ) (same_ok _ _ p) (h v refl)
-
-target_sound : (σ : List Heading) (Γ : List Variable) (s : Span) (x : Option Segment) (f : Option Ty → Typed) (a : Target) → EachSound σ Γ f → target_of Γ s x f ≡ Ok a → TargetSound σ Γ a
-target_sound σ Γ s (Some x) f a h p = target_variable_sound σ Γ s (found x.name Γ) a (found_type Γ x.name) p
-target_sound σ Γ s None f a h p =
-    let e = bound (f None) target_value a p in
-    subst (TargetSound σ Γ) (same_ok _ _ e.2) (h None e.0 e.1).well
-
 -- what stands behind statements fits in the scope behind them, and all together in that before them
 abbrev pub OpenedSound : List Heading → List Variable → Opened → Type 0
 OpenedSound σ Γ o = (u : Ty) (end : TypedStmts) → StatementsFit (signatures_at σ) (types o.scope) u end → StatementsFit (signatures_at σ) (types Γ) u (stmts_of o.stmts end)
@@ -311,19 +282,15 @@ mutual
       let sy = typed_sound σ Γ b (Some bool) y.0 y.1 in
       fit_sound σ Γ t s (tree.lazy bool s op x.0 y.0) r (refl, sx.meets, sy.meets, sx.well, sy.well) y.2
   typed_sound σ Γ (E.assign s l e) t r p =
-      let a = bound (target_of Γ (span_of l) (as_name l) (typed σ Γ l)) _ r p in
-      let b = bound (typed σ Γ e (Some (target_ty a.0))) _ r a.2 in
-      let sb = typed_sound σ Γ e (Some (target_ty a.0)) b.0 b.1 in
-      assigned_sound σ Γ t s (span_of l) a.0 b.0 r
-      (target_sound σ Γ (span_of l) (as_name l) (typed σ Γ l) a.0 (λ u v h. typed_sound σ Γ l u v h) a.1)
-      sb.well sb.meets b.2
+      let a = bound (typed σ Γ l None) _ r p in
+      let b = bound (typed σ Γ e (Some (ty_of a.0))) _ r a.2 in
+      let sb = typed_sound σ Γ e (Some (ty_of a.0)) b.0 b.1 in
+      assigned_sound σ Γ t s (span_of l) a.0 b.0 r (typed_sound σ Γ l None a.0 a.1).well sb.well sb.meets b.2
   typed_sound σ Γ (E.update s op o l e) t r p =
-      let a = bound (target_of Γ (span_of l) (as_name l) (typed σ Γ l)) _ r p in
-      let b = bound (typed σ Γ e (Some (target_ty a.0))) _ r a.2 in
-      let sb = typed_sound σ Γ e (Some (target_ty a.0)) b.0 b.1 in
-      updated_sound σ Γ t s o (span_of l) op a.0 b.0 r
-      (target_sound σ Γ (span_of l) (as_name l) (typed σ Γ l) a.0 (λ u v h. typed_sound σ Γ l u v h) a.1)
-      sb.well sb.meets b.2
+      let a = bound (typed σ Γ l None) _ r p in
+      let b = bound (typed σ Γ e (Some (ty_of a.0))) _ r a.2 in
+      let sb = typed_sound σ Γ e (Some (ty_of a.0)) b.0 b.1 in
+      updated_sound σ Γ t s o (span_of l) op a.0 b.0 r (typed_sound σ Γ l None a.0 a.1).well sb.well sb.meets b.2
   typed_sound σ Γ (E.call s f es) t r p =
       let g = bound (callee_of σ Γ s (as_name f)) _ r p in
       let as' = bound (typed_args σ Γ es g.0.signature.params) _ r g.2 in

@@ -13,6 +13,7 @@ pub mod Refusing
 pub mod SameTypes
 pub mod Speaking
 pub mod StatementLists
+pub mod Targets
 pub mod TermChains
 pub mod TypedParts
 pub mod Whole

@@ -27,8 +27,6 @@ use Rattle.type_check.specs.declared.heading.Heading.{Heading}
 use Rattle.type_check.specs.declared.operands.Operands.{Operands}
 use Rattle.type_check.specs.declared.operands.Order.{Order}
 use Rattle.type_check.specs.declared.operands.Order.TheVariants as order
-use Rattle.type_check.specs.declared.operands.Target.{Target}
-use Rattle.type_check.specs.declared.operands.Target.TheVariants as target
 use Rattle.type_check.specs.declared.scope.Declared.{Declared}
 use Rattle.type_check.specs.declared.scope.Found.{Found}
 use Rattle.type_check.specs.declared.scope.Variable.{Variable}
@@ -41,11 +39,12 @@ use Rattle.type_check.specs.TypedExpr.{TypedExpr, TypedStmts, TypedExprs}
 use Rattle.type_check.specs.TypedExpr as tree
 use Rattle.type_check.specs.TypedExprView.{ty_of, stmts_of}
 use Rattle.type_check.specs.Types.{same_ty, is_signed_ty}
-use Rattle.type_check.specs.Typing.{Typed, fit, literal_kind, literal_of, literal, variable_of, variable, named, negated, is_bare, order_of, operands_of, operands, operation, operated, target_variable, target_value, target_of, target_ty, if_mutable, assigned}
-use Rattle.type_check.specs.Typing.{is_updated, update_of, updated, known, callee_of, how_many, first_of, rest_of, called, block_ty, declared, behind, typed_stmt, closed, invariant_by, invariant_of, typed, typed_stmts, typed_args}
+use Rattle.type_check.specs.Typing.{Typed, fit, literal_kind, literal_of, literal, variable_of, variable, named, negated, is_bare, order_of, operands_of, operands, operation, operated, may_write, if_mutable, writing, assigned}
+use Rattle.type_check.specs.Typing.{is_updated, updated, known, callee_of, how_many, first_of, rest_of, called, block_ty, declared, behind, typed_stmt, closed, invariant_by, invariant_of, typed, typed_stmts, typed_args}
 use Rattle.type_check.specs.WellTyped.{unit, is_arithmetic, operation_ty}
 use Rattle.type_check.specs.Written.{as_name, name_alone, named_type, type_or, written_type, written_or_none, name_or, declared_by, step_of}
-use Rattle.type_check.proofs.Bound.{bound, yes, same_ok}
+use Rattle.type_check.proofs.Bound.{yes}
+use Rattle.type_check.proofs.Targets.{IsNamed, constant_named, typed_named}
 
 -- where a chain stops: at its first part, or after it
 stop : {A B : Type 0} (m : Result A SourceError) (k : A → Result B SourceError) (e : SourceError) → (m >>= k) ≡ Err e → (m ≡ Err e) ⊎ ((a : A) × (m ≡ Ok a) × (k a ≡ Err e))
@@ -120,89 +119,47 @@ operands_stop order.FirstGives f g e p =
 
 -- ---- assignments
 
--- a left side stops as the name of no variable, or where it is typed
-abbrev pub LeftStops : List Variable → Span → Option Segment → (Option Ty → Typed) → SourceError → Type 0
-LeftStops Γ s x f e = ((y : Segment) × (x ≡ Some y) × IsUnknown Γ y.name s e) ⊎ ((t : Option Ty) × (f t ≡ Err e))
-
-no_variable : (Γ : List Variable) (s : Span) (y : Name) (o : Option Found) (e : SourceError) → found y Γ ≡ o → target_variable s o ≡ Err e → IsUnknown Γ y s e
-no_variable Γ s y None e q p = let r : unknown_name s ≡ e = cc in (sym r, q)
-no_variable Γ s y (Some v) e q p = absurd (cc)
-
-no_error : (a : TypedExpr) (e : SourceError) → target_value a ≡ Err e → ⊥
-no_error a e p = cc
-
-left_stops : (Γ : List Variable) (s : Span) (x : Option Segment) (f : Option Ty → Typed) (e : SourceError) → target_of Γ s x f ≡ Err e → LeftStops Γ s x f e
-left_stops Γ s (Some y) f e p = inl (y, refl, no_variable Γ s y.name (found y.name Γ) e refl p)
-left_stops Γ s None f e p =
-    elim (stop (f None) target_value e p) as (λ _. LeftStops Γ s None f e) [ inl q ↦ inr (None, q) | inr a ↦ absurd (no_error a.0 e a.2) ]
-
--- a target that is a variable is that of the name
-abbrev pub IsNamed : List Variable → Option Segment → Target → Type 0
-IsNamed Γ x (target.Variable v) = (y : Segment) × (x ≡ Some y) × (found y.name Γ ≡ Some v)
-IsNamed Γ x (target.Value a) = Unit {0}
-
-found_named : (Γ : List Variable) (s : Span) (y : Segment) (o : Option Found) (a : Target) → found y.name Γ ≡ o → target_variable s o ≡ Ok a → IsNamed Γ (Some y) a
-found_named Γ s y None a q p = absurd (cc)
-found_named Γ s y (Some v) a q p = subst (IsNamed Γ (Some y)) (same_ok (target.Variable v) a p) (y, refl, q)
-
-left_named : (Γ : List Variable) (s : Span) (x : Option Segment) (f : Option Ty → Typed) (a : Target) → target_of Γ s x f ≡ Ok a → IsNamed Γ x a
-left_named Γ s (Some y) f a p = found_named Γ s y (found y.name Γ) a refl p
-left_named Γ s None f a p =
-    let e = bound (f None) target_value a p in
-    subst (IsNamed Γ None) (same_ok (target.Value e.0) a e.2) tt
-
 -- the written variable is not mutable
-abbrev pub IsFixed : Target → Span → SourceError → Type 0
-IsFixed a l e = (v : Found) × (a ≡ target.Variable v) × (v.mutable ≡ false) × (e ≡ not_mutable l)
+abbrev pub IsFixed : List Variable → TypedExpr → Span → SourceError → Type 0
+IsFixed Γ a l e = (may_write Γ a ≡ false) × (e ≡ not_mutable l)
 
 if_mutable_stops : (b : Bool) (l : Span) (r : TypedExpr) (e : SourceError) → if_mutable b l r ≡ Err e → (b ≡ false) × (e ≡ not_mutable l)
 if_mutable_stops true l r e p = absurd (cc)
 if_mutable_stops false l r e p = let q : not_mutable l ≡ e = cc in (refl, sym q)
 
-fixed_or_mismatch : (t : Option Ty) (s l : Span) (v : Found) (r : TypedExpr) (e : SourceError) → (fit t s r >>= if_mutable v.mutable l) ≡ Err e → IsMismatch e ⊎ IsFixed (target.Variable v) l e
-fixed_or_mismatch t s l v r e p =
-    elim (stop (fit t s r) (if_mutable v.mutable l) e p) as (λ _. IsMismatch e ⊎ IsFixed (target.Variable v) l e) [
+writing_stops : (Γ : List Variable) (t : Option Ty) (s l : Span) (a r : TypedExpr) (e : SourceError) → writing Γ t s l a r ≡ Err e → IsMismatch e ⊎ IsFixed Γ a l e
+writing_stops Γ t s l a r e p =
+    elim (stop (fit t s r) (if_mutable (may_write Γ a) l) e p) as (λ _. IsMismatch e ⊎ IsFixed Γ a l e) [
       | inl q ↦ inl (fit_stops t s r e q)
-      | inr a ↦ (let c = if_mutable_stops v.mutable l a.0 e a.2 in inr (v, refl, c.0, c.1))
+      | inr f ↦ inr (if_mutable_stops (may_write Γ a) l f.0 e f.2)
     ]
 
-assigned_stops : (t : Option Ty) (s l : Span) (a : Target) (r : TypedExpr) (e : SourceError) → assigned t s l a r ≡ Err e → IsMismatch e ⊎ IsFixed a l e
+assigned_stops : (Γ : List Variable) (t : Option Ty) (s l : Span) (a b : TypedExpr) (e : SourceError) → assigned Γ t s l a b ≡ Err e → IsMismatch e ⊎ IsFixed Γ a l e
 unfolding assigned
-assigned_stops t s l (target.Variable v) r e p = fixed_or_mismatch t s l v (tree.assign unit s v.place r) e p
-assigned_stops t s l (target.Value a) r e p = inl (fit_stops t s (tree.assign_value unit s a r) e p)
+assigned_stops Γ t s l a b e p = writing_stops Γ t s l a (tree.assign unit s a b) e p
 
-update_stops : (t : Option Ty) (s o l : Span) (op : BinaryOp) (a : Target) (r : TypedExpr) (e : SourceError) → update_of t s o l op a r ≡ Err e → IsMismatch e ⊎ IsFixed a l e
-update_stops t s o l op (target.Variable v) r e p = fixed_or_mismatch t s l v (tree.update unit o op v.place r) e p
-update_stops t s o l op (target.Value a) r e p = inl (fit_stops t s (tree.update_value unit o op a r) e p)
+updated_at : (u : Bool) (Γ : List Variable) (t : Option Ty) (s l : Span) (a r : TypedExpr) (e : SourceError) → (if u then writing Γ t s l a r else Err (mismatch l)) ≡ Err e → IsMismatch e ⊎ IsFixed Γ a l e
+updated_at true Γ t s l a r e p = writing_stops Γ t s l a r e p
+updated_at false Γ t s l a r e p = let q : mismatch l ≡ e = cc in inl (l, sym q)
 
-updated_at : (b : Bool) (t : Option Ty) (s o l : Span) (op : BinaryOp) (a : Target) (r : TypedExpr) (e : SourceError) → (if b then update_of t s o l op a r else Err (mismatch l)) ≡ Err e → IsMismatch e ⊎ IsFixed a l e
-updated_at true t s o l op a r e p = update_stops t s o l op a r e p
-updated_at false t s o l op a r e p = let q : mismatch l ≡ e = cc in inl (l, sym q)
-
-updated_stops : (t : Option Ty) (s o l : Span) (op : BinaryOp) (a : Target) (r : TypedExpr) (e : SourceError) → updated t s o l op a r ≡ Err e → IsMismatch e ⊎ IsFixed a l e
+updated_stops : (Γ : List Variable) (t : Option Ty) (s o l : Span) (op : BinaryOp) (a b : TypedExpr) (e : SourceError) → updated Γ t s o l op a b ≡ Err e → IsMismatch e ⊎ IsFixed Γ a l e
 unfolding updated
-updated_stops t s o l op a r e p = updated_at (is_updated op (target_ty a)) t s o l op a r e p
+updated_stops Γ t s o l op a b e p = updated_at (is_updated op (ty_of a)) Γ t s l a (tree.update unit o op a b) e p
 
-not_written : (Γ : List Variable) (l : Expr) (a : Target) (e : SourceError) → IsNamed Γ (as_name l) a → IsMismatch e ⊎ IsFixed a (span_of l) e → IsMismatch e ⊎ IsNotWritten Γ l e
+not_written : (Γ : List Variable) (l : Expr) (a : TypedExpr) (e : SourceError) → IsNamed Γ (as_name l) a → IsMismatch e ⊎ IsFixed Γ a (span_of l) e → IsMismatch e ⊎ IsNotWritten Γ l e
 not_written Γ l a e n (inl m) = inl m
-not_written Γ l a e n (inr c) =
-    let d = subst (IsNamed Γ (as_name l)) c.1 n in
-    inr (d.0, d.1, inr (c.0, d.2, c.2, c.3))
-
-at_left : (σ : List Heading) (Γ : List Variable) (l r : Expr) (e : SourceError) → ((t : Option Ty) → typed σ Γ l t ≡ Err e → Causes σ Γ l e) → LeftStops Γ (span_of l) (as_name l) (typed σ Γ l) e → (IsMismatch e ⊎ IsNotWritten Γ l e) ⊎ (Causes σ Γ l e ⊎ Causes σ Γ r e)
-at_left σ Γ l r e h (inl u) = inl (inr (u.0, u.1, inl u.2))
-at_left σ Γ l r e h (inr t) = inr (inl (h t.0 t.1))
+not_written Γ l a e n (inr f) = let c = constant_named Γ (as_name l) a n f.0 in inr (c.0, c.1, (c.2, c.3, c.4, f.1))
 
 -- an assignment stops at its left side, at its right side, or as a whole
-assignment_stops : (σ : List Heading) (Γ : List Variable) (l r : Expr) (k : Target → TypedExpr → Typed) (e : SourceError) → ((a : Target) (b : TypedExpr) → k a b ≡ Err e → IsMismatch e ⊎ IsFixed a (span_of l) e)
-    → ((t : Option Ty) → typed σ Γ l t ≡ Err e → Causes σ Γ l e) → ((t : Option Ty) → typed σ Γ r t ≡ Err e → Causes σ Γ r e) → (target_of Γ (span_of l) (as_name l) (typed σ Γ l) >>= λ a. typed σ Γ r (Some (target_ty a)) >>= k a) ≡ Err e
+assignment_stops : (σ : List Heading) (Γ : List Variable) (l r : Expr) (k : TypedExpr → TypedExpr → Typed) (e : SourceError) → ((a b : TypedExpr) → k a b ≡ Err e → IsMismatch e ⊎ IsFixed Γ a (span_of l) e)
+    → (typed σ Γ l None ≡ Err e → Causes σ Γ l e) → ((t : Option Ty) → typed σ Γ r t ≡ Err e → Causes σ Γ r e) → (typed σ Γ l None >>= λ a. typed σ Γ r (Some (ty_of a)) >>= k a) ≡ Err e
     → (IsMismatch e ⊎ IsNotWritten Γ l e) ⊎ (Causes σ Γ l e ⊎ Causes σ Γ r e)
 assignment_stops σ Γ l r k e hk hl hr p =
-    elim (stop (target_of Γ (span_of l) (as_name l) (typed σ Γ l)) (λ a. typed σ Γ r (Some (target_ty a)) >>= k a) e p) as (λ _. (IsMismatch e ⊎ IsNotWritten Γ l e) ⊎ (Causes σ Γ l e ⊎ Causes σ Γ r e)) [
-      | inl q ↦ at_left σ Γ l r e hl (left_stops Γ (span_of l) (as_name l) (typed σ Γ l) e q)
-      | inr a ↦ elim (stop (typed σ Γ r (Some (target_ty a.0))) (k a.0) e a.2) as (λ _. (IsMismatch e ⊎ IsNotWritten Γ l e) ⊎ (Causes σ Γ l e ⊎ Causes σ Γ r e)) [
-        | inl q ↦ inr (inr (hr (Some (target_ty a.0)) q))
-        | inr b ↦ inl (not_written Γ l a.0 e (left_named Γ (span_of l) (as_name l) (typed σ Γ l) a.0 a.1) (hk a.0 b.0 b.2))
+    elim (stop (typed σ Γ l None) (λ a. typed σ Γ r (Some (ty_of a)) >>= k a) e p) as (λ _. (IsMismatch e ⊎ IsNotWritten Γ l e) ⊎ (Causes σ Γ l e ⊎ Causes σ Γ r e)) [
+      | inl q ↦ inr (inl (hl q))
+      | inr a ↦ elim (stop (typed σ Γ r (Some (ty_of a.0))) (k a.0) e a.2) as (λ _. (IsMismatch e ⊎ IsNotWritten Γ l e) ⊎ (Causes σ Γ l e ⊎ Causes σ Γ r e)) [
+        | inl q ↦ inr (inr (hr (Some (ty_of a.0)) q))
+        | inr b ↦ inl (not_written Γ l a.0 e (typed_named σ Γ l None a.0 a.1) (hk a.0 b.0 b.2))
       ]
     ]
 
@@ -328,11 +285,11 @@ mutual
         ]
       ]
   typed_stops σ Γ (E.assign s l a) t e p =
-      assignment_stops σ Γ l a (assigned t s (span_of l)) e (λ x y q. assigned_stops t s (span_of l) x y e q)
-      (λ u q. typed_stops σ Γ l u e q) (λ u q. typed_stops σ Γ a u e q) p
+      assignment_stops σ Γ l a (assigned Γ t s (span_of l)) e (λ x y q. assigned_stops Γ t s (span_of l) x y e q)
+      (λ q. typed_stops σ Γ l None e q) (λ u q. typed_stops σ Γ a u e q) p
   typed_stops σ Γ (E.update s op o l a) t e p =
-      assignment_stops σ Γ l a (updated t s o (span_of l) op) e (λ x y q. updated_stops t s o (span_of l) op x y e q)
-      (λ u q. typed_stops σ Γ l u e q) (λ u q. typed_stops σ Γ a u e q) p
+      assignment_stops σ Γ l a (updated Γ t s o (span_of l) op) e (λ x y q. updated_stops Γ t s o (span_of l) op x y e q)
+      (λ q. typed_stops σ Γ l None e q) (λ u q. typed_stops σ Γ a u e q) p
   typed_stops σ Γ (E.call s f es) t e p =
       elim (stop (callee_of σ Γ s (as_name f)) _ e p) as (λ _. Causes σ Γ (E.call s f es) e) [
         | inl q ↦ inl (inr (callee_stops σ Γ s (as_name f) e q))

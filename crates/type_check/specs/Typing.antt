@@ -142,20 +142,20 @@ may_write Γ e = true
 abbrev pub if_mutable : Bool → Span → TypedExpr → Typed
 if_mutable b s e = if b then Ok e else Err (not_mutable s)
 
--- the spans are the expression's and the left side's
+-- the whole, which writes this target; the spans are the expression's and the left side's
+abbrev pub writing : List Variable → Option Ty → Span → Span → (target whole : TypedExpr) → Typed
+writing Γ t s l a e = fit t s e >>= if_mutable (may_write Γ a) l
+
 unfoldable pub assigned : List Variable → Option Ty → Span → Span → (target value : TypedExpr) → Typed
-assigned Γ t s l a e = fit t s (tree.assign unit s a e) >>= if_mutable (may_write Γ a) l
+assigned Γ t s l a e = writing Γ t s l a (tree.assign unit s a e)
 
 abbrev pub is_updated : BinaryOp → Ty → Bool
 is_updated op (int k) = is_arithmetic op
 is_updated op _ = false
 
-abbrev pub update_of : List Variable → Option Ty → Span → Span → Span → BinaryOp → (target value : TypedExpr) → Typed
-update_of Γ t s o l op a e = fit t s (tree.update unit o op a e) >>= if_mutable (may_write Γ a) l
-
 -- the spans are the expression's, the operator's and the left side's
 unfoldable pub updated : List Variable → Option Ty → Span → Span → Span → BinaryOp → (target value : TypedExpr) → Typed
-updated Γ t s o l op a e = if is_updated op (ty_of a) then update_of Γ t s o l op a e else Err (mismatch l)
+updated Γ t s o l op a e = if is_updated op (ty_of a) then writing Γ t s l a (tree.update unit o op a e) else Err (mismatch l)
 
 -- ---- calls
 

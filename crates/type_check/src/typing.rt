@@ -109,7 +109,7 @@ fn variable(
 {
     match find_variable(alloc, name, scope)? {
         Some(found) => {
-            let Found { place, ty, .. } = found;
+            let Found { place, ty } = found;
             let node = TypedNode::Variable(place);
             fit(alloc, expected, span, ty, span, node)
         }
@@ -198,10 +198,10 @@ fn may_write(scope: &[Variable], target: &TypedExpr) -> bool
     }
 }
 
-fn if_mutable(may_write: bool, left: Span, e: TypedExpr) -> Result<TypedExpr, PassError>
-    ensures { Answers result (if_mutable may_write left e) }
+fn if_mutable(mutable: bool, left: Span, e: TypedExpr) -> Result<TypedExpr, PassError>
+    ensures { Answers result (if_mutable mutable left e) }
 {
-    if may_write {
+    if mutable {
         Ok(e)
     } else {
         Err(not_mutable(left))
@@ -220,11 +220,11 @@ pub(crate) fn assigned(
 ) -> Result<TypedExpr, PassError>
     ensures { Answers result (assigned scope.now expected.now span left target value) }
 {
-    let may_write = may_write(scope, &target);
+    let mutable = may_write(scope, &target);
     let ty = Ty::unit(alloc);
     let node = TypedNode::Assign(target, value);
     let e = fit(alloc, expected, span, ty, span, node)?;
-    if_mutable(may_write, left, e)
+    if_mutable(mutable, left, e)
 }
 
 #[tactic(auto, unfolding(crate::specs::Typing::updated))]
@@ -242,12 +242,12 @@ pub(crate) fn updated(
     if !is_updated(op, ty_of(&target)) {
         return Err(mismatch(spans.first));
     }
-    let may_write = may_write(scope, &target);
+    let mutable = may_write(scope, &target);
     let ty = Ty::unit(alloc);
     let span = spans.operator;
     let node = TypedNode::Update(op, target, value);
     let e = fit(alloc, expected, spans.whole, ty, span, node)?;
-    if_mutable(may_write, spans.first, e)
+    if_mutable(mutable, spans.first, e)
 }
 
 #[tactic(auto, unfolding(crate::specs::Typing::called), using(crate::proofs::Arguments::how_many_are))]

@@ -29,13 +29,10 @@ abbrev pub decreases-type_lazy : goal.decreases-type_lazy
 decreases-type_lazy l = 5 * max (expr_size l.left.now) (expr_size l.right.now) + 2
 
 abbrev pub decreases-type_assign : goal.decreases-type_assign
-decreases-type_assign l = 5 * max (expr_size l.left.now) (expr_size l.value.now) + 3
+decreases-type_assign l = 5 * max (expr_size l.left.now) (expr_size l.value.now) + 2
 
 abbrev pub decreases-type_update : goal.decreases-type_update
-decreases-type_update l = 5 * max (expr_size l.left.now) (expr_size l.value.now) + 3
-
-abbrev pub decreases-type_target : goal.decreases-type_target
-decreases-type_target l = 5 * expr_size l.left.now + 2
+decreases-type_update l = 5 * max (expr_size l.left.now) (expr_size l.value.now) + 2
 
 abbrev pub decreases-type_call : goal.decreases-type_call
 decreases-type_call l = 5 * exprs_size (exprs_of l.args.now) + 1

@@ -1,0 +1,123 @@
+-- Only a name alone gives a variable.
+use Rattle.std.proofs.Common.{◌≡◌, ◌∙◌, Bool, true, false, List, [], Option, Some, None, Result, Ok, Err, refl, sym, subst}
+use Rattle.std.specs.Prelude.{ℤ, if◌then◌else◌, slice_get}
+use Rattle.text_core.specs.declared.refusal.SourceError.{SourceError}
+use Rattle.text_core.specs.declared.span.Span.{Span}
+use Rattle.source_kinds.specs.declared.kinds.BinaryOp.{BinaryOp}
+use Rattle.source_kinds.specs.declared.kinds.IntKind.{IntKind}
+use Rattle.source_kinds.specs.Range.{fits}
+use Rattle.logic_term.specs.Ty.{Ty, int, bool}
+use Rattle.source_trees.specs.declared.operator.UnaryOp.TheVariants.{Neg, Not}
+use Rattle.source_trees.specs.declared.path.Segment.{Segment}
+use Rattle.source_trees.specs.Expr as E
+use Rattle.source_trees.specs.Expr.{Expr}
+use Rattle.source_trees.specs.ExprView.{span_of}
+use Rattle.text_core.specs.declared.name.Name.{Name}
+use Rattle.type_check.specs.declared.heading.Callee.{Callee}
+use Rattle.type_check.specs.declared.heading.Heading.{Heading}
+use Rattle.type_check.specs.declared.operands.Operands.{Operands}
+use Rattle.type_check.specs.declared.scope.Found.{Found}
+use Rattle.type_check.specs.declared.scope.Variable.{Variable}
+use Rattle.type_check.specs.Answers.{◌>>=◌, mismatch, gather}
+use Rattle.type_check.specs.Scope.{found}
+use Rattle.type_check.specs.TypedExpr.{TypedExpr, TypedStmts, TypedExprs}
+use Rattle.type_check.specs.TypedExpr as tree
+use Rattle.type_check.specs.TypedExprView.{ty_of, stmts_of}
+use Rattle.type_check.specs.Types.{is_signed_ty}
+use Rattle.type_check.specs.Typing.{Typed, fit, literal_kind, literal_of, literal, variable_of, variable, named, negated, is_bare, order_of, operands, operation, operated, is_mutable, may_write, writing, assigned, is_updated, updated}
+use Rattle.type_check.specs.Typing.{callee_of, called, block_ty, closed, invariant_of, typed, typed_stmts, typed_args}
+use Rattle.type_check.specs.WellTyped.{unit, is_arithmetic, operation_ty}
+use Rattle.type_check.specs.Written.{as_name, name_alone}
+use Rattle.type_check.proofs.Bound.{bound, held}
+use Rattle.type_check.proofs.Fits.{fit_same, written_fits}
+
+-- a variable is that of the name
+abbrev pub IsNamed : List Variable → Option Segment → TypedExpr → Type 0
+IsNamed Γ x (tree.variable t s k) = (y : Segment) × (x ≡ Some y) × (v : Found) × (found y.name Γ ≡ Some v) × (v.place ≡ k)
+IsNamed Γ x e = Unit {0}
+
+-- what may not be written is the variable of the name, which is not mutable
+pub constant_named : (Γ : List Variable) (x : Option Segment) (e : TypedExpr) → IsNamed Γ x e → may_write Γ e ≡ false → (y : Segment) × (x ≡ Some y) × (v : Found) × (found y.name Γ ≡ Some v) × (is_mutable (slice_get Γ v.place) ≡ false)
+constant_named Γ x (tree.variable t s k) n f = (n.0, n.1, n.2, n.3, subst (λ j. is_mutable (slice_get Γ j) ≡ false) (sym n.4) f)
+constant_named Γ x e n f = absurd (cc)
+
+-- ---- forms
+
+fit_named : (Γ : List Variable) (x : Option Segment) (t : Option Ty) (s : Span) (e r : TypedExpr) → IsNamed Γ x e → fit t s e ≡ Ok r → IsNamed Γ x r
+fit_named Γ x t s e r n p = subst (IsNamed Γ x) (fit_same t s e r p).0 n
+
+literal_at : (Γ : List Variable) (t : Option Ty) (s : Span) (z : ℤ) (k : Option IntKind) (r : TypedExpr) → literal_of t s z k ≡ Ok r → IsNamed Γ None r
+literal_at Γ t s z None r p = absurd (cc)
+literal_at Γ t s z (Some k) r p = fit_named Γ None t s (tree.integer (int k) s z k) r tt (held (fits k z) (fit t s (tree.integer (int k) s z k)) (mismatch s) r p).1
+
+variable_at : (Γ : List Variable) (t : Option Ty) (s : Span) (y : Segment) (o : Option Found) (r : TypedExpr) → found y.name Γ ≡ o → variable_of t s o ≡ Ok r → IsNamed Γ (Some y) r
+variable_at Γ t s y None r q p = absurd (cc)
+variable_at Γ t s y (Some v) r q p = fit_named Γ (Some y) t s (tree.variable v.ty s v.place) r (y, refl, v, q, refl) p
+
+path_named : (Γ : List Variable) (t : Option Ty) (s : Span) (x : Option Segment) (r : TypedExpr) → named Γ t s x ≡ Ok r → IsNamed Γ x r
+unfolding variable
+path_named Γ t s None r p = absurd (cc)
+path_named Γ t s (Some y) r p = variable_at Γ t s y (found y.name Γ) r refl p
+
+operation_named : (Γ : List Variable) (u t : Option Ty) (s o r : Span) (op : BinaryOp) (p : Operands) (e : TypedExpr) → operation u t s o r op p ≡ Ok e → IsNamed Γ None e
+operation_named Γ None t s o r op p e h = absurd (cc)
+operation_named Γ (Some u) t s o r op p e h = fit_named Γ None t s (tree.binary u o op p.left p.right) e tt h
+
+-- what an expression gives is a variable only where it is a name alone
+pub typed_named : (σ : List Heading) (Γ : List Variable) (e : Expr) (t : Option Ty) (r : TypedExpr) → typed σ Γ e t ≡ Ok r → IsNamed Γ (as_name e) r
+unfolding as_name literal negated operated assigned updated called closed
+typed_named σ Γ (E.integer s z k) t r p = literal_at Γ t s z (literal_kind k t) r p
+typed_named σ Γ (E.truth s b) t r p = fit_named Γ None t s (tree.truth bool s b) r tt p
+typed_named σ Γ (E.path s w) t r p = path_named Γ t s (name_alone w.node) r p
+typed_named σ Γ (E.unary s Neg o e) t r p =
+    let a = bound (typed σ Γ e t) _ r p in
+    fit_named Γ None t s (tree.negative (ty_of a.0) o a.0) r tt (held (is_signed_ty (ty_of a.0)) _ (mismatch (span_of e)) r a.2).1
+typed_named σ Γ (E.unary s Not o e) t r p =
+    let a = bound (typed σ Γ e (Some bool)) _ r p in
+    fit_named Γ None t s (tree.denied bool s a.0) r tt a.2
+typed_named σ Γ (E.binary s op o a b) t r p =
+    let q = bound (operands (order_of (is_arithmetic op) t (is_bare a) (is_bare b)) (typed σ Γ a) (typed σ Γ b)) _ r p in
+    operation_named Γ (operation_ty op (ty_of q.0.left)) t s o (span_of a) op q.0 r q.2
+typed_named σ Γ (E.lazy s op a b) t r p =
+    let x = bound (typed σ Γ a (Some bool)) _ r p in
+    let y = bound (typed σ Γ b (Some bool)) _ r x.2 in
+    fit_named Γ None t s (tree.lazy bool s op x.0 y.0) r tt y.2
+typed_named σ Γ (E.assign s l e) t r p =
+    let a = bound (typed σ Γ l None) _ r p in
+    let b = bound (typed σ Γ e (Some (ty_of a.0))) _ r a.2 in
+    fit_named Γ None t s (tree.assign unit s a.0 b.0) r tt (written_fits Γ t s (span_of l) a.0 (tree.assign unit s a.0 b.0) r b.2)
+typed_named σ Γ (E.update s op o l e) t r p =
+    let a = bound (typed σ Γ l None) _ r p in
+    let b = bound (typed σ Γ e (Some (ty_of a.0))) _ r a.2 in
+    fit_named Γ None t s (tree.update unit o op a.0 b.0) r tt
+    (written_fits Γ t s (span_of l) a.0 (tree.update unit o op a.0 b.0) r (held (is_updated op (ty_of a.0)) _ (mismatch (span_of l)) r b.2).1)
+typed_named σ Γ (E.call s f es) t r p =
+    let g = bound (callee_of σ Γ s (as_name f)) _ r p in
+    let as' = bound (typed_args σ Γ es g.0.signature.params) _ r g.2 in
+    fit_named Γ None t s (tree.call g.0.signature.answer s g.0.place as'.0) r tt (held _ _ (mismatch s) r as'.2).1
+typed_named σ Γ (E.block s ss) t r p =
+    let o = bound (typed_stmts σ Γ ss) _ r p in
+    fit_named Γ None t s (tree.block (block_ty (stmts_of o.0.stmts tree.done)) s (stmts_of o.0.stmts tree.done)) r tt o.2
+typed_named σ Γ (E.block_with s ss e) t r p =
+    let o = bound (typed_stmts σ Γ ss) _ r p in
+    let a = bound (typed σ o.0.scope e t) _ r o.2 in
+    fit_named Γ None t s (tree.block (block_ty (stmts_of o.0.stmts (tree.last a.0))) s (stmts_of o.0.stmts (tree.last a.0))) r tt a.2
+typed_named σ Γ (E.branch s None c a) t r p =
+    let x = bound (typed σ Γ c (Some bool)) _ r p in
+    let y = bound (typed σ Γ a (Some unit)) _ r x.2 in
+    fit_named Γ None t s (tree.branch unit s x.0 y.0) r tt y.2
+typed_named σ Γ (E.choice s None c a b) t r p =
+    let x = bound (typed σ Γ c (Some bool)) _ r p in
+    let y = bound (typed σ Γ a t) _ r x.2 in
+    let z = bound (typed σ Γ b (Some (ty_of y.0))) _ r y.2 in
+    fit_named Γ None t s (tree.choice (ty_of y.0) s x.0 y.0 z.0) r tt z.2
+typed_named σ Γ (E.repeat s None c b) t r p =
+    let x = bound (typed σ Γ c (Some bool)) _ r p in
+    let y = bound (typed σ Γ b (Some unit)) _ r x.2 in
+    fit_named Γ None t s (tree.repeat unit s [] x.0 y.0) r tt y.2
+typed_named σ Γ (E.attributed s is (E.repeat v None c b)) t r p =
+    let is' = bound (gather (invariant_of Γ) is) _ r p in
+    let x = bound (typed σ Γ c (Some bool)) _ r is'.2 in
+    let y = bound (typed σ Γ b (Some unit)) _ r x.2 in
+    fit_named Γ None t s (tree.repeat unit s is'.0 x.0 y.0) r tt y.2
+typed_named σ Γ e t r p = absurd (cc)
