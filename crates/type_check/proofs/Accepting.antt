@@ -1,5 +1,5 @@
 -- Where all checks of a source hold, its declared types are accepted.
-use Rattle.std.proofs.Common.{◌≡◌, ℕ, zero, suc, ◌+◌, Bool, true, false, List, [], ◌∷◌, ◌++◌, length, Option, Some, None, Result, Ok, Err, slice_get, if◌then◌else◌, refl, sym, subst, arith}
+use Rattle.std.proofs.Common.{◌≡◌, ℕ, zero, suc, ◌+◌, Bool, true, false, List, [], ◌∷◌, ◌++◌, length, Some, Result, Ok, Err, slice_get, if◌then◌else◌, refl, sym, subst, arith}
 use Rattle.text_core.specs.declared.name.Name.{Name}
 use Rattle.text_core.specs.declared.refusal.SourceError.{SourceError}
 use Rattle.text_core.specs.declared.span.Span.{Span}
@@ -22,11 +22,10 @@ use Rattle.source_trees.specs.declared.item.VariantFields.{VariantFields}
 use Rattle.source_trees.specs.declared.item.VariantFields.TheVariants as parts
 use Rattle.source_trees.specs.TypeTree.{TypeTree}
 use Rattle.rs_types.specs.Accepted.{all_fields, AreFlat, IsGood, AreAccepted}
-use Rattle.rs_types.specs.Bounded.{Bounded, AllBounded, adt_bounded, none_bounded, more_bounded, params_from}
+use Rattle.rs_types.specs.Bounded.{AllBounded, adt_bounded, none_bounded, more_bounded, params_from}
 use Rattle.rs_types.specs.Checked.{Passes, AllPass}
 use Rattle.rs_types.specs.Endless.{IsBounded}
 use Rattle.rs_types.specs.Growing.{declared_by}
-use Rattle.rs_types.specs.Inhabited.{IsInhabited}
 use Rattle.rs_types.specs.Meant.{Scope, meant}
 use Rattle.rs_types.specs.Nesting.{IsFlat}
 use Rattle.rs_types.specs.declared.checks.Check.{Check}
@@ -35,7 +34,7 @@ use Rattle.rs_types.specs.declared.written.Elision.TheVariants as elision
 use Rattle.rs_types.proofs.Nested.{lower}
 use Rattle.rs_types.proofs.Ranked.{params_bounded}
 use Rattle.type_check.specs.Answers.{with_some}
-use Rattle.type_check.specs.DeclaredTypes.{type_or_unit, fields_from, parts_from, struct_fields, variant_fields, variants_of, item_scope, declared_type, takes, types_from, prelude, heads, first_number, option_type, declares_option, declared_types}
+use Rattle.type_check.specs.DeclaredTypes.{type_or_unit, fields_from, parts_from, struct_fields, variant_fields, variants_of, item_scope, declared_type, takes, types_from, heads, option_type, declares_option, declared_types}
 use Rattle.type_check.specs.Declaring.{check_by, check_of, fields_checks, parts_checks, struct_fields_checks, variant_fields_checks, variants_checks, named, type_name, value_name, node_checks, checks_from, checks}
 
 module _ (ds : List AdtDecl) where

@@ -1,11 +1,10 @@
 -- What an expression comes to, it comes to by the rules; and by the rules to one thing.
-use Rattle.std.proofs.Common.{◌≡◌, refl, ap, sym, subst, List, [], ◌∷◌, Option, Some, None, Result, Ok, Err}
+use Rattle.std.proofs.Common.{◌≡◌, refl, sym, subst, List, [], Option, Some, None, Result, Ok, Err}
 use Rattle.text_core.specs.declared.refusal.SourceError.{SourceError}
 use Rattle.logic_term.specs.Ty.{Ty, bool}
 use Rattle.source_trees.specs.declared.operator.UnaryOp.TheVariants.{Neg, Not}
 use Rattle.source_trees.specs.Expr as E
 use Rattle.source_trees.specs.Expr.{Expr}
-use Rattle.source_trees.specs.ExprView.{span_of}
 use Rattle.type_check.specs.declared.heading.Heading.{Heading}
 use Rattle.type_check.specs.declared.operands.Operands.{Operands}
 use Rattle.type_check.specs.declared.operands.Order.{Order}
@@ -14,8 +13,8 @@ use Rattle.type_check.specs.declared.scope.Variable.{Variable}
 use Rattle.type_check.specs.Answers.{◌>>=◌, gather}
 use Rattle.type_check.specs.TypedExpr.{TypedExpr, TypedExprs}
 use Rattle.type_check.specs.TypedExpr as tree
-use Rattle.type_check.specs.TypedExprView.{ty_of, stmts_of}
-use Rattle.type_check.specs.Typing.{Typed, fit, negated, is_bare, order_of, operands_of, operands, operated, assigned, updated, callee_of, first_of, rest_of, called, Opened, opened, declared, behind, typed_stmt, closed, invariant_of, typed, typed_stmts, typed_args}
+use Rattle.type_check.specs.TypedExprView.{ty_of}
+use Rattle.type_check.specs.Typing.{Typed, is_bare, order_of, operands_of, operands, callee_of, first_of, rest_of, Opened, opened, declared, behind, typed_stmt, invariant_of, typed, typed_stmts, typed_args}
 use Rattle.type_check.specs.WellTyped.{unit, is_arithmetic}
 use Rattle.type_check.specs.Written.{as_name, step_of}
 use Rattle.type_check.specs.Rules.{Asks, comes, part, first, operands_in, each_arg, each_stmt, rule, Types, by_rule, Comes, itself, refused, then, TypedByRules, TypingIsOne}

@@ -1,7 +1,6 @@
 -- Only a name alone gives a variable.
-use Rattle.std.proofs.Common.{◌≡◌, ◌∙◌, Bool, true, false, List, [], Option, Some, None, Result, Ok, Err, refl, sym, subst}
-use Rattle.std.specs.Prelude.{ℤ, if◌then◌else◌, slice_get}
-use Rattle.text_core.specs.declared.refusal.SourceError.{SourceError}
+use Rattle.std.proofs.Common.{◌≡◌, false, List, [], Option, Some, None, Ok, refl, sym, subst}
+use Rattle.std.specs.Prelude.{ℤ, slice_get}
 use Rattle.text_core.specs.declared.span.Span.{Span}
 use Rattle.source_kinds.specs.declared.kinds.BinaryOp.{BinaryOp}
 use Rattle.source_kinds.specs.declared.kinds.IntKind.{IntKind}
@@ -12,19 +11,17 @@ use Rattle.source_trees.specs.declared.path.Segment.{Segment}
 use Rattle.source_trees.specs.Expr as E
 use Rattle.source_trees.specs.Expr.{Expr}
 use Rattle.source_trees.specs.ExprView.{span_of}
-use Rattle.text_core.specs.declared.name.Name.{Name}
-use Rattle.type_check.specs.declared.heading.Callee.{Callee}
 use Rattle.type_check.specs.declared.heading.Heading.{Heading}
 use Rattle.type_check.specs.declared.operands.Operands.{Operands}
 use Rattle.type_check.specs.declared.scope.Found.{Found}
 use Rattle.type_check.specs.declared.scope.Variable.{Variable}
-use Rattle.type_check.specs.Answers.{◌>>=◌, mismatch, gather}
+use Rattle.type_check.specs.Answers.{mismatch, gather}
 use Rattle.type_check.specs.Scope.{found}
 use Rattle.type_check.specs.TypedExpr.{TypedExpr, TypedStmts, TypedExprs}
 use Rattle.type_check.specs.TypedExpr as tree
 use Rattle.type_check.specs.TypedExprView.{ty_of, stmts_of}
 use Rattle.type_check.specs.Types.{is_signed_ty}
-use Rattle.type_check.specs.Typing.{Typed, fit, literal_kind, literal_of, literal, variable_of, variable, named, negated, is_bare, order_of, operands, operation, operated, is_mutable, may_write, writing, assigned, is_updated, updated}
+use Rattle.type_check.specs.Typing.{fit, literal_kind, literal_of, literal, variable_of, variable, named, negated, is_bare, order_of, operands, operation, operated, is_mutable, may_write, assigned, is_updated, updated}
 use Rattle.type_check.specs.Typing.{callee_of, called, block_ty, closed, invariant_of, typed, typed_stmts, typed_args}
 use Rattle.type_check.specs.WellTyped.{unit, is_arithmetic, operation_ty}
 use Rattle.type_check.specs.Written.{as_name, name_alone}

@@ -1,12 +1,10 @@
 -- Typing by rules: what each form asks of its parts, one after another in source order, and what it comes to itself where they have types
 -- (bidirectional typing, Pierce and Turner 2000). Without an expected type an expression gives one, with one it fits it; a part that is
 -- refused refuses the whole. One equation stands for each form, and no equation looks into a part.
-use Rattle.std.specs.Prelude.{◌≡◌, List, [], ◌∷◌, Option, Some, None, Result, Ok, Err}
+use Rattle.std.specs.Prelude.{◌≡◌, List, [], Option, Some, None, Result, Ok, Err}
 use Rattle.text_core.specs.declared.refusal.SourceError.{SourceError}
-use Rattle.text_core.specs.declared.span.Span.{Span}
 use Rattle.logic_term.specs.Ty.{Ty, bool}
 use Rattle.source_trees.specs.declared.operator.UnaryOp.TheVariants.{Neg, Not}
-use Rattle.source_trees.specs.declared.path.Segment.{Segment}
 use Rattle.source_trees.specs.Expr as E
 use Rattle.source_trees.specs.Expr.{Expr}
 use Rattle.source_trees.specs.ExprView.{span_of}

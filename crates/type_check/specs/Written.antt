@@ -1,5 +1,5 @@
 -- Names and types as they are written (Rust Reference, "Paths", "Types"), and what `let` and parameters declare ("Statements", "Functions").
-use Rattle.std.specs.Prelude.{ℕ, ◌==◌, true, false, List, [], ◌∷◌, length, Option, Some, None, Result, Ok, Err, slice_get, if◌then◌else◌}
+use Rattle.std.specs.Prelude.{◌==◌, true, false, List, [], ◌∷◌, length, Option, Some, None, Result, Ok, Err, slice_get, if◌then◌else◌}
 use Rattle.text_core.specs.declared.name.Name.{Name}
 use Rattle.text_core.specs.declared.refusal.SourceError.{SourceError}
 use Rattle.text_core.specs.declared.span.Span.{Span}

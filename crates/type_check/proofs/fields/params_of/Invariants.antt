@@ -1,5 +1,4 @@
 use Rattle.std.proofs.Common.{◌≡◌, ◌-◌}
-use Rattle.logic_term.specs.TyView.{tys_of}
 use Rattle.type_check.proofs.Declaration.{params_behind}
 use Rattle.rs_types.specs.Bounded.{params_from}
 use Rattle.type_check.proofs.fields.params_of.Given as goal
