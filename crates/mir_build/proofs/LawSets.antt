@@ -15,7 +15,7 @@ use Rattle.type_check.specs.TypedExpr.{TypedExpr, TypedStmts, TypedExprs}
 use Rattle.type_check.specs.WellTyped.{IsWellTyped, StatementsFit, ArgumentsFit}
 use Rattle.mir_build.specs.Text.{Title, Line, Makes, Turns, made}
 use Rattle.mir_build.specs.Lowering.{numbers, Around, whole, looping, binds, head_of, dies_in, constant, lazily, Into, of_integer, of_truth, of_variable, of_negative, of_denied, of_binary, of_lazy, of_assign}
-use Rattle.mir_build.specs.Lowering.{of_assign_value, of_update, of_update_value, of_call, of_block, of_branch, of_choice, of_repeat, Rest, of_done, of_last, of_bind, of_run, Args, of_none, of_more}
+use Rattle.mir_build.specs.Lowering.{of_update, of_call, of_block, of_branch, of_choice, of_repeat, Rest, of_done, of_last, of_bind, of_run, Args, of_none, of_more, PlaceOf, of_name, of_temporary}
 use Rattle.mir_build.proofs.Numbers.{count}
 use Rattle.mir_build.proofs.LawLists.{Has, here, there, has_get, makings-append, count-append, count_self}
 use Rattle.mir_build.proofs.LawNames.{HoldsPlaces, head_fits}
@@ -130,6 +130,22 @@ own_apart d t u set us vs rest k b U h = record {
 fewer : (set mid to : Locals) (xs : List Line) → Laid set xs mid → Within to mid → Laid set xs to
 fewer set mid to xs p w = record { starts = p.starts; are = p.are; runs = λ at g. subst (λ ys. Runs at set ys to) (append-nil xs) (runs-append at mid to [] (stops w) set xs (p.runs at g)) }
 
+-- ---- what an assignment writes
+
+-- what is initialised behind its text
+abbrev behind_place : {c : Around} {e : TypedExpr} {x : Place} {xs : List Line} → PlaceOf c e x xs → Locals → Locals
+behind_place (of_name y q) set = set
+behind_place (of_temporary {t = t} n p) set = with t set
+
+place_more : {c : Around} {e : TypedExpr} {x : Place} {xs : List Line} (q : PlaceOf c e x xs) (set : Locals) → Within set (behind_place q set)
+place_more (of_name y q) set = same_set set
+place_more (of_temporary {t = t} n p) set = with_more t set
+
+-- the place holds a value
+place_there : (c : Around) (e : TypedExpr) (x : Place) (xs : List Line) (q : PlaceOf c e x xs) (Γ : List Ty) (set : Locals) → Scoped c Γ set → behind_place q set x.local ≡ true
+place_there c e x xs (of_name {v = v} y q) Γ set sc = sc.holds y (has_get c.scope v y q)
+place_there c e x xs (of_temporary {t = t} n p) Γ set sc = with_self t set
+
 module _ (σ : List Signature) where
   mutual
     pub laid : (c : Around) (e : TypedExpr) (d : ℕ) (xs : List Line) → Into c e d xs → (Γ : List Ty) (set : Locals) → Scoped c Γ set → IsWellTyped σ Γ e → Apart set (d ∷ numbers (made xs)) → Laid set xs (with d set)
@@ -153,30 +169,25 @@ module _ (σ : List Signature) where
         let r = before t set _ (second d t set us _ a) in
         laid_makes _ _ _ _ _ (laid-append set (with t set) (with d set) us _ (laid c _ t us p Γ set sc h.3 (first d t set us _ a))
         (laid_lazily op c s t d yes' no' after vs set (with t set) (with_self t set) (given_up t set (fresh_second d t set _ a)) (laid c _ d vs q Γ set sc h.4) r))
-    laid c e d xs (of_assign {t = t} x {xs = us} r p) Γ set sc h a =
-        laid_makes _ _ _ _ _ (laid-append set (with t set) (with d set) us _ (laid c _ t us p Γ set sc h.2 (first d t set us _ a))
-        (laid_puts _ _ _ _ (with_self t set) (laid_puts _ _ _ _ tt (laid_stops _ _ (assigned d x.local t set (with t set) (fresh_second d t set _ a) (with_more t set))))))
-    laid c e d xs (of_assign_value {t = t} {u = u} {xs = us} {ys = vs} p q) Γ set sc h a =
-        laid_makes _ _ _ _ _ (laid-append set (with t set) (with d set) us _ (laid c _ t us p Γ set sc h.3 (first d t set us _ a))
-        (laid_makes _ _ _ _ _ (laid-append (with t set) (with u (with t set)) (with d set) vs _ (laid c _ u vs q Γ (with t set) (more_scoped c Γ set t sc) h.2 (first d u (with t set) vs _ (second d t set us _ a)))
-        (laid_puts _ _ _ _ (first_of_two t u set) (laid_puts _ _ _ _ tt (laid_stops _ _ (assigned d u t set (with u (with t set)) (fresh_second d t set _ a) (two_more t u set))))))))
-    laid c e d xs (of_update {v = v} {t = t} x u {xs = us} r p) Γ set sc h a =
-        let b : Apart set (d ∷ u ∷ []) = before t set _ (second d t set us _ a) in
-        let now = without t (with t set) in
-        let w : Within set now = given_up t set (fresh_second d t set _ a) in
-        laid_makes _ _ _ _ _ (laid-append set (with t set) (with d set) us _ (laid c _ t us p Γ set sc h.3 (first d t set us _ a))
-        (laid_makes _ _ _ _ _ (laid_puts _ _ _ _ (with_more t set x.local (sc.holds x (has_get c.scope v x r)), with_self t set)
-        (laid_puts _ _ _ _ (with_self u now) (laid_puts _ _ _ _ tt (laid_stops _ _ (assigned d x.local u set (with u now) (fresh_second d u set [] b) (λ y g. with_more u now y (w y g)))))))))
-    laid c e d xs (of_update_value {t = t} {p = w} u {xs = us} {ys = vs} p q) Γ set sc h a =
+    laid c e d xs (of_assign {t = t} {p = x} {xs = us} {ys = vs} p q) Γ set sc h a =
         let b = second d t set us _ a in
-        let b' : Apart (with w (with t set)) (d ∷ u ∷ []) = second d w (with t set) vs _ b in
-        let n : set u ≡ false = fresh_second d u set [] (before t set _ (before w (with t set) _ b')) in
-        let now = without t (with w (with t set)) in
-        let k : Within set now = kept t set (with w (with t set)) (fresh_second d t set _ a) (two_more t w set) in
+        let now = behind_place q (with t set) in
+        let more : Within (with t set) now = place_more q (with t set) in
+        laid_makes _ _ _ _ _ (laid-append set (with t set) (with d set) us _ (laid c _ t us p Γ set sc h.3 (first d t set us _ a))
+        (laid-append (with t set) now (with d set) vs _ (laid_place c _ x vs q Γ (with t set) (more_scoped c Γ set t sc) h.2 (only_made d (with t set) vs _ b))
+        (laid_puts _ _ _ _ (more t (with_self t set)) (laid_puts _ _ _ _ tt (laid_stops _ _ (assigned d x.local t set now (fresh_second d t set _ a) (λ y g. more y (with_more t set y g))))))))
+    laid c e d xs (of_update {t = t} {p = x} u {xs = us} {ys = vs} p q) Γ set sc h a =
+        let b = second d t set us _ a in
+        let scoped = more_scoped c Γ set t sc in
+        let then' = behind_place q (with t set) in
+        let more : Within (with t set) then' = place_more q (with t set) in
+        let n : set u ≡ false = fresh_second d u set [] (before t set _ (right d (with t set) vs _ b)) in
+        let now = without t then' in
+        let w : Within set now = kept t set then' (fresh_second d t set _ a) (λ y g. more y (with_more t set y g)) in
         laid_makes _ _ _ _ _ (laid-append set (with t set) (with d set) us _ (laid c _ t us p Γ set sc h.4 (first d t set us _ a))
-        (laid_makes _ _ _ _ _ (laid-append (with t set) (with w (with t set)) (with d set) vs _ (laid c _ w vs q Γ (with t set) (more_scoped c Γ set t sc) h.3 (first d w (with t set) vs _ b))
-        (laid_makes _ _ _ _ _ (laid_puts _ _ _ _ (with_self w (with t set), first_of_two t w set)
-        (laid_puts _ _ _ _ (with_self u now) (laid_puts _ _ _ _ tt (laid_stops _ _ (assigned d w u set (with u now) n (λ y g. with_more u now y (k y g)))))))))))
+        (laid-append (with t set) then' (with d set) vs _ (laid_place c _ x vs q Γ (with t set) scoped h.3 (only_made d (with t set) vs _ b))
+        (laid_makes _ _ _ _ _ (laid_puts _ _ _ _ (place_there c _ x vs q Γ (with t set) scoped, more t (with_self t set))
+        (laid_puts _ _ _ _ (with_self u now) (laid_puts _ _ _ _ tt (laid_stops _ _ (assigned d x.local u set (with u now) n (λ y g. with_more u now y (w y g))))))))))
     laid c e d xs (of_call {s = s} {f = f} {ts = ts} after {xs = us} p) Γ set sc h a =
         laid-append set (with_all ts set) (with d set) us _ (laid_args c _ ts us p Γ set sc h.0.params h.3 (only_made d set us _ a))
         (called c s f d ts after set (with_all ts set) (temporaries_apart c _ ts us p set (only_made d set us _ a)) (with_all_has ts set) (with_all_more ts set))
@@ -197,6 +208,10 @@ module _ (σ : List Signature) where
         looped c k s d t u _ _ head body after (head_of c fs) _ set us vs (head_fits set c (length Γ) is fs g sc.count sc.holds h.1) (none set _ (own_apart d t u set us vs _ _ _ _ a)) (fresh_second d t set _ a)
         (laid k _ t us p Γ set (in_loop c Γ set head sc) h.4 (first d t set us _ a))
         (laid k _ u vs q Γ set (in_loop c Γ set head sc) h.5 (first d u set vs _ b))
+
+    laid_place : (c : Around) (e : TypedExpr) (x : Place) (xs : List Line) (q : PlaceOf c e x xs) (Γ : List Ty) (set : Locals) → Scoped c Γ set → IsWellTyped σ Γ e → Apart set (numbers (made xs)) → Laid set xs (behind_place q set)
+    laid_place c e x xs (of_name y q) Γ set sc h a = laid_stops _ _ (same_set set)
+    laid_place c e x xs (of_temporary {t = t} {xs = us} n p) Γ set sc h a = laid_makes _ _ _ _ _ (laid c e t us p Γ set sc h a)
 
     pub laid_rest : (c : Around) (outer : Bool) (s : Span) (ss : TypedStmts) (d : ℕ) (xs : List Line) → Rest c outer s ss d xs → (Γ : List Ty) (set : Locals) (T : Ty) → Scoped c Γ set → StatementsFit σ Γ T ss → Apart set (d ∷ numbers (made xs)) → Laid set xs (with d set)
     laid_rest c outer s ss d xs of_done Γ set T sc h a = laid_puts _ _ _ _ tt (laid_stops _ _ (same_set (with d set)))

@@ -13,7 +13,7 @@ use Rattle.mir_ir.specs.declared.terminator.TerminatorKind.TheVariants.{Goto, If
 use Rattle.mir_ir.specs.WellFormed.{IsSigned, PlaceHas, OperandHas, OperationHas, StatementIsTyped, CallIsTyped, Locals}
 use Rattle.mir_ir.specs.WellFormed as mir
 use Rattle.type_check.specs.declared.program.Signature.{Signature}
-use Rattle.type_check.specs.TypedExpr.{TypedExpr, TypedStmts, integer, truth, variable, negative, denied, binary, lazy, assign, assign_value, update, update_value, call, block, branch, choice, repeat, done, last, bind, run}
+use Rattle.type_check.specs.TypedExpr.{TypedExpr, TypedStmts, integer, truth, variable, negative, denied, binary, lazy, assign, update, call, block, branch, choice, repeat, done, last, bind, run}
 use Rattle.type_check.specs.TypedExprView.{ty_of}
 use Rattle.type_check.specs.WellTyped.{IsBuilt, AllBuilt, IsWellTyped, StatementsFit, operation_ty, is_signed}
 use Rattle.mir_build.specs.Text.{Line, Puts, Makes, Turns, Leaves, Owns, made}
@@ -94,10 +94,8 @@ module _ (σ : List Signature) (answers : (n : ℕ) (g : Signature) → slice_ge
     built (denied t s e) Γ b h = subst IsBuilt (sym h.0) tt
     built (binary t s op x y) Γ b h = operation_built op (ty_of x) t h.0
     built (lazy t s op x y) Γ b h = subst IsBuilt (sym h.0) tt
-    built (assign t s x e) Γ b h = subst IsBuilt (sym h.0) tt
-    built (assign_value t s a e) Γ b h = subst IsBuilt (sym h.0) tt
-    built (update t s op x e) Γ b h = subst IsBuilt (sym h.0) tt
-    built (update_value t s op a e) Γ b h = subst IsBuilt (sym h.0) tt
+    built (assign t s a e) Γ b h = subst IsBuilt (sym h.0) tt
+    built (update t s op a e) Γ b h = subst IsBuilt (sym h.0) tt
     built (call t s f es) Γ b h = subst IsBuilt (sym h.2) (answers f h.0 h.1)
     built (block t s ss) Γ b h = built_rest ss Γ b t h
     built (branch t s x a) Γ b h = subst IsBuilt (sym h.0) tt

@@ -5,7 +5,8 @@ use Rattle.logic_term.specs.Ty.{Ty, bool}
 use Rattle.text_core.specs.declared.span.Span.{Span}
 use Rattle.mir_ir.specs.declared.body.Body.{Body}
 use Rattle.mir_ir.specs.declared.place.Lit.TheVariants as lit
-use Rattle.mir_ir.specs.WellFormed.{OperandsHave}
+use Rattle.mir_ir.specs.declared.place.Place.{Place}
+use Rattle.mir_ir.specs.WellFormed.{OperandsHave, PlaceHas}
 use Rattle.source_kinds.specs.declared.kinds.LazyOp.{LazyOp}
 use Rattle.source_kinds.specs.declared.kinds.LazyOp.TheVariants as lazy_op
 use Rattle.type_check.specs.declared.program.Signature.{Signature}
@@ -14,7 +15,7 @@ use Rattle.type_check.specs.TypedExprView.{ty_of}
 use Rattle.type_check.specs.WellTyped.{IsBuilt, AllBuilt, IsWellTyped, StatementsFit, ArgumentsFit}
 use Rattle.mir_build.specs.Text.{Line, made}
 use Rattle.mir_build.specs.Lowering.{Around, whole, looping, binds, moved, dies_in, constant, put_unit, test, lazily, Into, of_integer, of_truth, of_variable, of_negative, of_denied, of_binary, of_lazy, of_assign}
-use Rattle.mir_build.specs.Lowering.{of_assign_value, of_update, of_update_value, of_call, of_block, of_branch, of_choice, of_repeat, Rest, of_done, of_last, of_bind, of_run, Args, of_none, of_more}
+use Rattle.mir_build.specs.Lowering.{of_update, of_call, of_block, of_branch, of_choice, of_repeat, Rest, of_done, of_last, of_bind, of_run, Args, of_none, of_more, PlaceOf, of_name, of_temporary}
 use Rattle.mir_build.proofs.LawNames.{head_fits}
 use Rattle.mir_build.proofs.LawTyped.{operation_has, signed, built_more, built, is_local, AreTyped, typed-append, MadeFits, made_first, made_rest, made_left, made_right, ScopeFits, scope_at, scope_more, scope_length, scope_holds}
 use Rattle.mir_ir.specs.declared.body.Bodies.{Bodies}
@@ -101,60 +102,31 @@ module _ (σ : List Signature) (bodies : Bodies) (b : Body) (callees : (n : ℕ)
           built σ answers x Γ k.built_types h.3,
           step us _ (typed c _ t us p Γ k h.3 at_t (made_left b us _ m')) (typed_lazily op c s t d yes' no' after vs (at_type t _ _ at_t h.1) at_d g (made_right b us _ m')),
         )
-    typed c e d xs (of_assign {ty = ty} {v = v} {e = e'} {t = t} x {xs = us} r p) Γ k h a m =
-        let at_t = made_first b t _ _ m in
-        let m' = made_rest b t _ _ m in (
-          built σ answers e' Γ k.built_types h.2,
-          step us _ (typed c _ t us p Γ k h.2 at_t (made_left b us _ m'))
-              ((ty_of e', scope_at b c.scope Γ v x (ty_of e') k.scope r h.1, (refl, at_t)), ((ty, (refl, a), (refl, refl, h.0)), tt)),
-        )
-    typed c e d xs (of_assign_value {ty = ty} {a = x} {e = y} {t = t} {u = u} {xs = us} {ys = vs} p q) Γ k h a m =
+    typed c e d xs (of_assign {ty = ty} {a = x} {e = y} {t = t} {p = z} {xs = us} {ys = vs} p q) Γ k h a m =
         let at_t = made_first b t _ _ m in
         let m' = made_rest b t _ _ m in
-        let n = made_right b us _ m' in
-        let at_u = made_first b u _ _ n in
-        let n' = made_rest b u _ _ n in (
+        let w = typed_place c x z vs q Γ k h.2 (made_left b vs _ (made_right b us _ m')) in (
           built σ answers y Γ k.built_types h.3,
-          step us _ (typed c _ t us p Γ k h.3 at_t (made_left b us _ m')) (
-            built σ answers x Γ k.built_types h.2,
-            step vs _ (typed c _ u vs q Γ k h.2 at_u (made_left b vs _ n'))
-                ((ty_of x, (refl, at_u), (refl, at_type t _ _ at_t h.1)), ((ty, (refl, a), (refl, refl, h.0)), tt)),
-          ),
+          step us _ (typed c _ t us p Γ k h.3 at_t (made_left b us _ m'))
+              (step vs _ w.0 ((ty_of x, w.1, (refl, at_type t _ _ at_t h.1)), ((ty, (refl, a), (refl, refl, h.0)), tt))),
         )
-    typed c e d xs (of_update {ty = ty} {op = op} {v = v} {e = y} {t = t} x u {xs = us} r p) Γ k h a m =
-        let at_t = made_first b t _ _ m in
-        let m' = made_rest b t _ _ m in
-        let at_u = made_first b u _ _ (made_right b us _ m') in
-        let at_x = scope_at b c.scope Γ v x (ty_of y) k.scope r h.1 in
-        let g = built σ answers y Γ k.built_types h.3 in (
-          g,
-          step us _ (typed c _ t us p Γ k h.3 at_t (made_left b us _ m')) (
-            g,
-            (
-              (ty_of y, (refl, at_u), (ty_of y, at_x, (refl, at_t), operation_has op (ty_of y) (ty_of y) h.2)),
-              ((ty_of y, at_x, (refl, at_u)), ((ty, (refl, a), (refl, refl, h.0)), tt)),
-            ),
-          ),
-        )
-    typed c e d xs (of_update_value {ty = ty} {op = op} {a = x} {e = y} {t = t} {p = w} u {xs = us} {ys = vs} p q) Γ k h a m =
+    typed c e d xs (of_update {ty = ty} {op = op} {a = x} {e = y} {t = t} {p = z} u {xs = us} {ys = vs} p q) Γ k h a m =
         let at_t = made_first b t _ _ m in
         let m' = made_rest b t _ _ m in
         let n = made_right b us _ m' in
-        let at_w = made_first b w _ _ n in
-        let n' = made_rest b w _ _ n in
-        let at_u = made_first b u _ _ (made_right b vs _ n') in
+        let w = typed_place c x z vs q Γ k h.3 (made_left b vs _ n) in
+        let at_u = made_first b u _ _ (made_right b vs _ n) in
         let g = built σ answers y Γ k.built_types h.4 in (
           g,
           step us _ (typed c _ t us p Γ k h.4 at_t (made_left b us _ m')) (
-            built σ answers x Γ k.built_types h.3,
-            step vs _ (typed c _ w vs q Γ k h.3 at_w (made_left b vs _ n')) (
-              g,
-              (
-                (ty_of y, (refl, at_u), (ty_of y, (refl, at_type w _ _ at_w (sym h.1)), (refl, at_t), operation_has op (ty_of y) (ty_of y) h.2)),
-                ((ty_of x, (refl, at_w), (refl, at_type u _ _ at_u h.1)), ((ty, (refl, a), (refl, refl, h.0)), tt)),
+              step vs _ w.0 (
+                g,
+                (
+                  (ty_of y, (refl, at_u), (ty_of y, subst (PlaceHas b z) (sym h.1) w.1, (refl, at_t), operation_has op (ty_of y) (ty_of y) h.2)),
+                  ((ty_of x, w.1, (refl, at_type u _ _ at_u h.1)), ((ty, (refl, a), (refl, refl, h.0)), tt)),
+                ),
+              )
               ),
-            ),
-          ),
         )
     typed c e d xs (of_call {ty = ty} {f = f} {es = es} {ts = ts} after {xs = us} p) Γ k h a m =
         let w = callees f h.0 h.1 in
@@ -197,6 +169,12 @@ module _ (σ : List Signature) (bodies : Bodies) (b : Body) (callees : (n : ℕ)
             ),
           ),
         )
+
+    typed_place : (c : Around) (e : TypedExpr) (x : Place) (xs : List Line) → PlaceOf c e x xs → (Γ : List Ty) → Known b c Γ → IsWellTyped σ Γ e → MadeFits b (made xs) → AreTyped bodies b xs × PlaceHas b x (ty_of e)
+    typed_place c e x xs (of_name {ty = ty} {v = v} y q) Γ k h m = (tt, scope_at b c.scope Γ v y ty k.scope q h)
+    typed_place c e x xs (of_temporary {t = t} {xs = us} n p) Γ k h m =
+        let at_t = made_first b t _ _ m in
+        ((built σ answers e Γ k.built_types h, typed c e t us p Γ k h at_t (made_rest b t _ _ m)), (refl, at_t))
 
     pub typed_rest : (c : Around) (outer : Bool) (s : Span) (ss : TypedStmts) (d : ℕ) (xs : List Line) → Rest c outer s ss d xs → (Γ : List Ty) (T : Ty) → Known b c Γ → StatementsFit σ Γ T ss → At d T → MadeFits b (made xs) → AreTyped bodies b xs
     typed_rest c outer s ss d xs of_done Γ T k h a m = ((T, (refl, a), (refl, refl, h)), tt)

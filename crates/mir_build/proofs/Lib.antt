@@ -32,5 +32,6 @@ pub mod Runs
 pub mod Scopes
 pub mod Shapes
 pub mod Statements
+pub mod Targets
 pub mod TaskStack
 pub mod Whole

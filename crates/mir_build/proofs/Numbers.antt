@@ -3,10 +3,11 @@ use Rattle.std.proofs.Common.{◌≡◌, refl, ap, ℕ, zero, suc, ◌+◌, ◌<
 use Rattle.std.proofs.lemmas.Bool.Decides.{nat_tests}
 use Rattle.text_core.specs.declared.span.Span.{Span}
 use Rattle.source_kinds.specs.declared.kinds.LazyOp.TheVariants.{And, Or}
-use Rattle.type_check.specs.TypedExpr.{TypedExpr, TypedStmts, TypedExprs, integer, truth, variable, negative, denied, binary, lazy, assign, assign_value, update, update_value, call, block, branch, choice, repeat, done, last, bind, run, none, more}
+use Rattle.type_check.specs.TypedExprView.{ty_of}
+use Rattle.type_check.specs.TypedExpr.{TypedExpr, TypedStmts, TypedExprs, integer, truth, variable, negative, denied, binary, lazy, assign, update, call, block, branch, choice, repeat, done, last, bind, run, none, more}
 use Rattle.mir_build.specs.Text.{Title, Line, Puts, Makes, Turns, Leaves, Owns, begun, made}
-use Rattle.mir_build.specs.Lowering.{Around, binds, looping, dies_in}
-use Rattle.mir_build.specs.Numbered.{into, rest, args, labels, labels_of, labels_in, locals, locals_of, locals_in, label}
+use Rattle.mir_build.specs.Lowering.{Around, binds, looping, dies_in, is_place}
+use Rattle.mir_build.specs.Numbered.{temporary_count, temporary_text, into, rest, args, labels, labels_of, labels_in, locals, locals_of, locals_in, label}
 
 -- ---- labels
 
@@ -84,6 +85,11 @@ no_begins : (x : ℕ) (outer : Bool) (s : Span) (t : ℕ) → begins x (dies_in 
 no_begins x true s t = refl
 no_begins x false s t = refl
 
+-- what an assignment writes begins the blocks of its own text
+once_written : (e : TypedExpr) (c : Around) (l t x : ℕ) → begins x (into e c l (t + 1) t) ≡ within l (labels e) x → begins x (temporary_text (is_place e) t (ty_of e) (into e c l (t + 1) t)) ≡ within l (labels e) x
+once_written (variable ty s v) c l t x h = h
+once_written e c l t x h = h
+
 mutual
   pub once : (e : TypedExpr) (c : Around) (l t d x : ℕ) → begins x (into e c l t d) ≡ within l (labels e) x
   once (integer ty s z k) c l t d x = within_zero l x
@@ -94,10 +100,10 @@ mutual
   once (binary ty s op a b) c l t d x = simp begins-append (omega (arith, once a c l (t + 1) t x, once b c (l + labels a) (t + 1 + locals a + 1) (t + 1 + locals a) x, within_split l (labels a) (labels b) _ x refl))
   once (lazy ty s And a b) c l t d x = simp begins-append (omega (arith, once a c l (t + 1) t x, once b c (l + labels a + 3) (t + 1 + locals a) d x, within_split l (labels a + 3) (labels b) (l + labels a + 3) x (omega arith), within_split l (labels a) 3 _ x refl, within_three (l + labels a) x))
   once (lazy ty s Or a b) c l t d x = simp begins-append (omega (arith, once a c l (t + 1) t x, once b c (l + labels a + 3) (t + 1 + locals a) d x, within_split l (labels a + 3) (labels b) (l + labels a + 3) x (omega arith), within_split l (labels a) 3 _ x refl, within_three (l + labels a) x))
-  once (assign ty s v e) c l t d x = simp begins-append (omega (arith, once e c l (t + 1) t x))
-  once (assign_value ty s a e) c l t d x = simp begins-append (omega (arith, once e c l (t + 1) t x, once a c (l + labels e) (t + 1 + locals e + 1) (t + 1 + locals e) x, within_split l (labels e) (labels a) _ x refl))
-  once (update ty s op v e) c l t d x = simp begins-append (omega (arith, once e c l (t + 1) t x))
-  once (update_value ty s op a e) c l t d x = simp begins-append (omega (arith, once e c l (t + 1) t x, once a c (l + labels e) (t + 1 + locals e + 1) (t + 1 + locals e) x, within_split l (labels e) (labels a) _ x refl))
+  once (assign ty s a e) c l t d x =
+      simp begins-append (omega (arith, once e c l (t + 1) t x, once_written a c (l + labels e) (t + 1 + locals e) x (once a c (l + labels e) (t + 1 + locals e + 1) (t + 1 + locals e) x), within_split l (labels e) (labels a) _ x refl))
+  once (update ty s op a e) c l t d x =
+      simp begins-append (omega (arith, once e c l (t + 1) t x, once_written a c (l + labels e) (t + 1 + locals e) x (once a c (l + labels e) (t + 1 + locals e + 1) (t + 1 + locals e) x), within_split l (labels e) (labels a) _ x refl))
   once (call ty s f es) c l t d x = simp begins-append (omega (arith, args_once es c l t x, within_split l (labels_in es) 1 _ x refl, within_one (l + labels_in es) x))
   once (block ty s ss) c l t d x = rest_once ss false s c l t d x
   once (branch ty s e a) c l t d x = simp begins-append (omega (arith, once e c l (t + 1) t x, once a c (l + labels e + 3) (t + 1 + locals e) d x, within_split l (labels e + 3) (labels a) (l + labels e + 3) x (omega arith), within_split l (labels e) 3 _ x refl, within_three (l + labels e) x))
@@ -157,6 +163,10 @@ pub no_turns : (outer : Bool) (s : Span) (t : ℕ) → turns (dies_in outer s t)
 no_turns true s t = refl
 no_turns false s t = refl
 
+turned_written : (e : TypedExpr) (c : Around) (l t : ℕ) → turns (into e c l (t + 1) t) ≡ labels e → turns (temporary_text (is_place e) t (ty_of e) (into e c l (t + 1) t)) ≡ labels e
+turned_written (variable ty s v) c l t h = h
+turned_written e c l t h = h
+
 mutual
   pub turned : (e : TypedExpr) (c : Around) (l t d : ℕ) → turns (into e c l t d) ≡ labels e
   turned (integer ty s z k) c l t d = refl
@@ -167,10 +177,8 @@ mutual
   turned (binary ty s op a b) c l t d = simp turns-append (omega (arith, turned a c l (t + 1) t, turned b c (l + labels a) (t + 1 + locals a + 1) (t + 1 + locals a)))
   turned (lazy ty s And a b) c l t d = simp turns-append (omega (arith, turned a c l (t + 1) t, turned b c (l + labels a + 3) (t + 1 + locals a) d))
   turned (lazy ty s Or a b) c l t d = simp turns-append (omega (arith, turned a c l (t + 1) t, turned b c (l + labels a + 3) (t + 1 + locals a) d))
-  turned (assign ty s v e) c l t d = simp turns-append (omega (arith, turned e c l (t + 1) t))
-  turned (assign_value ty s a e) c l t d = simp turns-append (omega (arith, turned e c l (t + 1) t, turned a c (l + labels e) (t + 1 + locals e + 1) (t + 1 + locals e)))
-  turned (update ty s op v e) c l t d = simp turns-append (omega (arith, turned e c l (t + 1) t))
-  turned (update_value ty s op a e) c l t d = simp turns-append (omega (arith, turned e c l (t + 1) t, turned a c (l + labels e) (t + 1 + locals e + 1) (t + 1 + locals e)))
+  turned (assign ty s a e) c l t d = simp turns-append (omega (arith, turned e c l (t + 1) t, turned_written a c (l + labels e) (t + 1 + locals e) (turned a c (l + labels e) (t + 1 + locals e + 1) (t + 1 + locals e))))
+  turned (update ty s op a e) c l t d = simp turns-append (omega (arith, turned e c l (t + 1) t, turned_written a c (l + labels e) (t + 1 + locals e) (turned a c (l + labels e) (t + 1 + locals e + 1) (t + 1 + locals e))))
   turned (call ty s f es) c l t d = simp turns-append (omega (arith, args_turned es c l t))
   turned (block ty s ss) c l t d = rest_turned ss false s c l t d
   turned (branch ty s e a) c l t d = simp turns-append (omega (arith, turned e c l (t + 1) t, turned a c (l + labels e + 3) (t + 1 + locals e) d))
@@ -204,6 +212,10 @@ none_made : (outer : Bool) (s : Span) (t : ℕ) → makings (dies_in outer s t) 
 none_made true s t = refl
 none_made false s t = refl
 
+making_written : (e : TypedExpr) (c : Around) (l t : ℕ) → makings (into e c l (t + 1) t) ≡ locals e → makings (temporary_text (is_place e) t (ty_of e) (into e c l (t + 1) t)) ≡ temporary_count (is_place e) + locals e
+making_written (variable ty s v) c l t h = omega (arith, h)
+making_written e c l t h = omega (arith, h)
+
 mutual
   pub making : (e : TypedExpr) (c : Around) (l t d : ℕ) → makings (into e c l t d) ≡ locals e
   making (integer ty s z k) c l t d = refl
@@ -214,10 +226,8 @@ mutual
   making (binary ty s op a b) c l t d = simp makings-append (omega (arith, making a c l (t + 1) t, making b c (l + labels a) (t + 1 + locals a + 1) (t + 1 + locals a)))
   making (lazy ty s And a b) c l t d = simp makings-append (omega (arith, making a c l (t + 1) t, making b c (l + labels a + 3) (t + 1 + locals a) d))
   making (lazy ty s Or a b) c l t d = simp makings-append (omega (arith, making a c l (t + 1) t, making b c (l + labels a + 3) (t + 1 + locals a) d))
-  making (assign ty s v e) c l t d = simp makings-append (omega (arith, making e c l (t + 1) t))
-  making (assign_value ty s a e) c l t d = simp makings-append (omega (arith, making e c l (t + 1) t, making a c (l + labels e) (t + 1 + locals e + 1) (t + 1 + locals e)))
-  making (update ty s op v e) c l t d = simp makings-append (omega (arith, making e c l (t + 1) t))
-  making (update_value ty s op a e) c l t d = simp makings-append (omega (arith, making e c l (t + 1) t, making a c (l + labels e) (t + 1 + locals e + 1) (t + 1 + locals e)))
+  making (assign ty s a e) c l t d = simp makings-append (omega (arith, making e c l (t + 1) t, making_written a c (l + labels e) (t + 1 + locals e) (making a c (l + labels e) (t + 1 + locals e + 1) (t + 1 + locals e))))
+  making (update ty s op a e) c l t d = simp makings-append (omega (arith, making e c l (t + 1) t, making_written a c (l + labels e) (t + 1 + locals e) (making a c (l + labels e) (t + 1 + locals e + 1) (t + 1 + locals e))))
   making (call ty s f es) c l t d = simp makings-append (omega (arith, args_making es c l t))
   making (block ty s ss) c l t d = rest_making ss false s c l t d
   making (branch ty s e a) c l t d = simp makings-append (omega (arith, making e c l (t + 1) t, making a c (l + labels e + 3) (t + 1 + locals e) d))
@@ -233,3 +243,7 @@ mutual
   pub args_making : (es : TypedExprs) (c : Around) (l t : ℕ) → makings (args es c l t) ≡ locals_in es
   args_making none c l t = refl
   args_making (more e es) c l t = simp makings-append (omega (arith, making e c l (t + 1) t, args_making es c (l + labels e) (t + 1 + locals e)))
+
+-- what an assignment writes
+pub making_target : (e : TypedExpr) (c : Around) (l t : ℕ) → makings (temporary_text (is_place e) t (ty_of e) (into e c l (t + 1) t)) ≡ temporary_count (is_place e) + locals e
+making_target e c l t = making_written e c l t (making e c l (t + 1) t)

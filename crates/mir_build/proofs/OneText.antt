@@ -11,10 +11,11 @@ use Rattle.mir_ir.specs.declared.terminator.TerminatorKind.TheVariants.{Goto, If
 use Rattle.type_check.specs.TypedExpr.{TypedExpr, TypedStmts, TypedExprs, block}
 use Rattle.type_check.specs.TypedExprView.{ty_of}
 use Rattle.mir_build.specs.Text.{Line, Makes, Turns, Owns, made}
-use Rattle.mir_build.specs.Lowering.{Around, binds, looping, at, at_head, head_of, whole, puts, puts_at, put_unit, copied, moved, ends, dies_in, numbers, lazily, Into, of_integer, of_truth, of_variable, of_negative, of_denied, of_binary, of_lazy, of_assign}
-use Rattle.mir_build.specs.Lowering.{of_assign_value, of_update, of_update_value, of_call, of_block, of_branch, of_choice, of_repeat, Rest, of_done, of_last, of_bind, of_run, Args, of_none, of_more, IntoBody, of_outermost, of_other, is_block, named, named_rest, named_args, named_body}
-use Rattle.mir_build.specs.Numbered.{into, rest, args, body_text, labels, locals, locals_in, temporaries, label, variable_place}
-use Rattle.mir_build.proofs.Numbers.{makings, making, args_making}
+use Rattle.mir_build.specs.Lowering.{Around, binds, looping, at, at_head, head_of, whole, puts, puts_at, put_unit, moved, ends, dies_in, numbers, lazily, Into, of_integer, of_truth, of_variable, of_negative, of_denied, of_binary, of_lazy, of_assign}
+use Rattle.mir_build.specs.Lowering.{of_update, of_call, of_block, of_branch, of_choice, of_repeat, Rest, of_done, of_last, of_bind, of_run, Args, of_none, of_more, PlaceOf, of_name, of_temporary, is_place, IntoBody, of_outermost, of_other, is_block, named, named_place, named_rest, named_args, named_body}
+use Rattle.mir_build.specs.Numbered.{place_of, temporary_count, temporary_text, into, rest, args, body_text, labels, locals, locals_in, temporaries, label, variable_place}
+use Rattle.mir_build.proofs.Numbers.{makings, making, args_making, making_target}
+use Rattle.mir_build.proofs.Targets.{one_temporary_text, whole_temporary}
 use Rattle.mir_build.proofs.Order.{InOrder, numbers_of}
 use Rattle.mir_build.proofs.Accepted.{formulas_are}
 use Rattle.mir_build.proofs.Rows.{own_locals}
@@ -31,6 +32,9 @@ behind e c l t d xs ys q h = order_right t (t + locals e) xs ys (omega (arith, a
 
 behind_args : (es : TypedExprs) (c : Around) (l t : ℕ) (xs ys : List Line) → xs ≡ args es c l t → InOrder t (xs ++ ys) → InOrder (t + locals_in es) ys
 behind_args es c l t xs ys q h = order_right t (t + locals_in es) xs ys (omega (arith, ap makings q, args_making es c l t)) h
+
+behind_target : (e : TypedExpr) (c : Around) (l t : ℕ) (xs ys : List Line) → xs ≡ temporary_text (is_place e) t (ty_of e) (into e c l (t + 1) t) → InOrder t (xs ++ ys) → InOrder (t + temporary_count (is_place e) + locals e) ys
+behind_target e c l t xs ys q h = order_right t (t + temporary_count (is_place e) + locals e) xs ys (omega (arith, ap makings q, making_target e c l t)) h
 
 mutual
   one_text : (c : Around) (e : TypedExpr) (d : ℕ) (xs : List Line) (p : Into c e d xs) (l t : ℕ) → From l (named p) → InOrder t xs → xs ≡ into e c l t d
@@ -56,26 +60,19 @@ mutual
       let u = t + 1 + locals a in
       let y = one_text c b d vs q (m + 3) u k.3 (order_lazy op c s t' d u yes' no' after vs (behind a c l (t + 1) t us _ x o.1)) in
       λ i. Makes (o.0 i) (ty_of a) ∷ (x i ++ lazily op c s (o.0 i) d (label (k.0 i)) (label (k.1 i)) (label (k.2 i)) (y i))
-  one_text c e d xs (of_assign {s = s} {v = v} {e = a} {t = t'} z {xs = us} q p) l t n o =
-      let x = one_text c a t' us p l (t + 1) n (order_left (t + 1) us _ o.1) ∙ ap (into a c l (t + 1)) o.0 in
-      λ i. Makes (o.0 i) (ty_of a) ∷ (x i ++ puts_at s (found c.scope v z q i) (Use (moved (o.0 i))) ∷ put_unit s d ∷ [])
-  one_text c e d xs (of_assign_value {s = s} {a = b} {e = a} {t = t'} {u = u'} {xs = us} {ys = vs} p q) l t n o =
-      let x = one_text c a t' us p l (t + 1) (from_left l (named p) (named q) n) (order_left (t + 1) us _ o.1) ∙ ap (into a c l (t + 1)) o.0 in
+  one_text c e d xs (of_assign {s = s} {a = b} {e = a} {t = t'} {p = z} {xs = us} {ys = vs} p q) l t n o =
+      let x = one_text c a t' us p l (t + 1) (from_left l (named p) (named_place q) n) (order_left (t + 1) us _ o.1) ∙ ap (into a c l (t + 1)) o.0 in
       let r = behind a c l (t + 1) t us _ x o.1 in
       let u = t + 1 + locals a in
-      let y = one_text c b u' vs q (l + labels a) (u + 1) (labels_behind p l (named q) n) (order_left (u + 1) vs _ r.1) ∙ ap (into b c (l + labels a) (u + 1)) r.0 in
-      λ i. Makes (o.0 i) (ty_of a) ∷ (x i ++ Makes (r.0 i) (ty_of b) ∷ (y i ++ puts s (r.0 i) (Use (moved (o.0 i))) ∷ put_unit s d ∷ []))
-  one_text c e d xs (of_update {s = s} {op = op} {v = v} {e = a} {t = t'} z u' {xs = us} q p) l t n o =
-      let x = one_text c a t' us p l (t + 1) n (order_left (t + 1) us _ o.1) ∙ ap (into a c l (t + 1)) o.0 in
+      let y = one_place c b z vs q (l + labels a) u (labels_behind p l (named_place q) n) (order_left u vs _ r) in
+      λ i. Makes (o.0 i) (ty_of a) ∷ (x i ++ (y.1 i ++ puts_at s (y.0 i) (Use (moved (o.0 i))) ∷ put_unit s d ∷ []))
+  one_text c e d xs (of_update {s = s} {op = op} {a = b} {e = a} {t = t'} {p = z} u' {xs = us} {ys = vs} p q) l t n o =
+      let x = one_text c a t' us p l (t + 1) (from_left l (named p) (named_place q) n) (order_left (t + 1) us _ o.1) ∙ ap (into a c l (t + 1)) o.0 in
       let r = behind a c l (t + 1) t us _ x o.1 in
-      λ i. Makes (o.0 i) (ty_of a) ∷ (x i ++ Makes (r.0 i) (ty_of a) ∷ puts s (r.0 i) (Binary op (Copy (found c.scope v z q i)) (moved (o.0 i))) ∷ puts_at s (found c.scope v z q i) (Use (moved (r.0 i))) ∷ put_unit s d ∷ [])
-  one_text c e d xs (of_update_value {s = s} {op = op} {a = b} {e = a} {t = t'} {p = w'} u' {xs = us} {ys = vs} p q) l t n o =
-      let x = one_text c a t' us p l (t + 1) (from_left l (named p) (named q) n) (order_left (t + 1) us _ o.1) ∙ ap (into a c l (t + 1)) o.0 in
-      let r = behind a c l (t + 1) t us _ x o.1 in
-      let w = t + 1 + locals a in
-      let y = one_text c b w' vs q (l + labels a) (w + 1) (labels_behind p l (named q) n) (order_left (w + 1) vs _ r.1) ∙ ap (into b c (l + labels a) (w + 1)) r.0 in
-      let k = behind b c (l + labels a) (w + 1) w vs _ y r.1 in
-      λ i. Makes (o.0 i) (ty_of a) ∷ (x i ++ Makes (r.0 i) (ty_of b) ∷ (y i ++ Makes (k.0 i) (ty_of a) ∷ puts s (k.0 i) (Binary op (copied (r.0 i)) (moved (o.0 i))) ∷ puts s (r.0 i) (Use (moved (k.0 i))) ∷ put_unit s d ∷ []))
+      let u = t + 1 + locals a in
+      let y = one_place c b z vs q (l + labels a) u (labels_behind p l (named_place q) n) (order_left u vs _ r) in
+      let k = behind_target b c (l + labels a) u vs _ y.1 r in
+      λ i. Makes (o.0 i) (ty_of a) ∷ (x i ++ (y.1 i ++ Makes (k.0 i) (ty_of a) ∷ puts s (k.0 i) (Binary op (Copy (y.0 i)) (moved (o.0 i))) ∷ puts_at s (y.0 i) (Use (moved (k.0 i))) ∷ put_unit s d ∷ []))
   one_text c e d xs (of_call {s = s} {f = f} {es = es} {ts = ts} after {xs = us} p) l t n o =
       let w = one_args c es ts us p l t (from_left l (named_args p) _ n) (order_left t us _ o) in
       let k = labels_behind_args p l (after.0 ∷ []) n in
@@ -111,6 +108,13 @@ mutual
       λ i. Turns (ends s (Goto (label (k.0 i)))) (at_head (looping c (label (k.0 i))) (label (k.0 i)) (head_of c (f i))) ∷ Makes (o.0 i) (ty_of a) ∷ (x i
       ++ Turns (ends s (If (moved (o.0 i)) (label (k.1 i)) (label (k.2 i)))) (at (looping c (label (k.0 i))) (label (k.1 i))) ∷ Makes (r.0 i) (ty_of b)
       ∷ (y i ++ Turns (ends s (Goto (label (k.0 i)))) (at c (label (k.2 i))) ∷ Owns (label (k.0 i)) (own i) ∷ put_unit s d ∷ []))
+
+  one_place : (c : Around) (e : TypedExpr) (x : Place) (xs : List Line) (p : PlaceOf c e x xs) (l t : ℕ) → From l (named_place p) → InOrder t xs
+      → (x ≡ place_of c.scope t e) × (xs ≡ temporary_text (is_place e) t (ty_of e) (into e c l (t + 1) t))
+  one_place c e x xs (of_name {v = v} y q) l t n o = (found c.scope v y q, refl)
+  one_place c e x xs (of_temporary {t = t'} {xs = us} k p) l t n o =
+      let y = one_text c e t' us p l (t + 1) n o.1 ∙ ap (into e c l (t + 1)) o.0 in
+      (ap whole o.0 ∙ sym (whole_temporary c.scope t e k), (λ i. Makes (o.0 i) (ty_of e) ∷ y i) ∙ sym (one_temporary_text e t (ty_of e) (into e c l (t + 1) t) k))
 
   one_rest : (c : Around) (outer : Bool) (s : Span) (ss : TypedStmts) (d : ℕ) (xs : List Line) (p : Rest c outer s ss d xs) (l t : ℕ) → From l (named_rest p) → InOrder t xs → xs ≡ rest ss outer s c l t d
   one_rest c outer s ss d xs of_done l t n o = refl

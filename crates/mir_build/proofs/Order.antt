@@ -3,11 +3,12 @@ use Rattle.std.proofs.Common.{◌≡◌, refl, ap, ◌∙◌, ℕ, ◌+◌, Bool
 use Rattle.std.specs.List.{range_with_len}
 use Rattle.text_core.specs.declared.span.Span.{Span}
 use Rattle.source_kinds.specs.declared.kinds.LazyOp.TheVariants.{And, Or}
-use Rattle.type_check.specs.TypedExpr.{TypedExpr, TypedStmts, TypedExprs, integer, truth, variable, negative, denied, binary, lazy, assign, assign_value, update, update_value, call, block, branch, choice, repeat, done, last, bind, run, none, more}
+use Rattle.type_check.specs.TypedExprView.{ty_of}
+use Rattle.type_check.specs.TypedExpr.{TypedExpr, TypedStmts, TypedExprs, integer, truth, variable, negative, denied, binary, lazy, assign, update, call, block, branch, choice, repeat, done, last, bind, run, none, more}
 use Rattle.mir_build.specs.Text.{Line, Puts, Makes, Turns, Leaves, Owns, made}
-use Rattle.mir_build.specs.Lowering.{Around, binds, dies_in, numbers}
-use Rattle.mir_build.specs.Numbered.{into, rest, args, labels, locals}
-use Rattle.mir_build.proofs.Numbers.{makings, making}
+use Rattle.mir_build.specs.Lowering.{Around, binds, dies_in, numbers, is_place}
+use Rattle.mir_build.specs.Numbered.{temporary_count, temporary_text, into, rest, args, labels, locals}
+use Rattle.mir_build.proofs.Numbers.{makings, making, making_target}
 
 -- the locals that the text makes are n, n + 1 and so on
 abbrev pub InOrder : ℕ → List Line → Type 0
@@ -37,6 +38,15 @@ none_in_order : (n : ℕ) (outer : Bool) (s : Span) (t : ℕ) → InOrder n (die
 none_in_order n true s t = tt
 none_in_order n false s t = tt
 
+-- what an assignment writes
+order_written : (e : TypedExpr) (c : Around) (l t : ℕ) → InOrder (t + 1) (into e c l (t + 1) t) → InOrder t (temporary_text (is_place e) t (ty_of e) (into e c l (t + 1) t))
+order_written (variable ty s v) c l t h = tt
+order_written e c l t h = (refl, h)
+
+-- and what stands behind it
+behind_target : (e : TypedExpr) (c : Around) (l t m : ℕ) (ys : List Line) → m ≡ t + temporary_count (is_place e) + locals e → InOrder (t + 1) (into e c l (t + 1) t) → InOrder m ys → InOrder t (temporary_text (is_place e) t (ty_of e) (into e c l (t + 1) t) ++ ys)
+behind_target e c l t m ys q h k = then_in_order t m (temporary_text (is_place e) t (ty_of e) (into e c l (t + 1) t)) ys (omega (arith, making_target e c l t, q)) (order_written e c l t h) k
+
 mutual
   pub in_order : (e : TypedExpr) (c : Around) (l t d : ℕ) → InOrder t (into e c l t d)
   in_order (integer ty s z k) c l t d = tt
@@ -47,10 +57,8 @@ mutual
   in_order (binary ty s op a b) c l t d = (refl, behind a c l (t + 1) t _ _ refl (in_order a c l (t + 1) t) (refl, behind b c _ _ _ _ _ refl (in_order b c _ _ _) tt))
   in_order (lazy ty s And a b) c l t d = (refl, behind a c l (t + 1) t _ _ refl (in_order a c l (t + 1) t) (behind b c _ _ d _ _ refl (in_order b c _ _ d) tt))
   in_order (lazy ty s Or a b) c l t d = (refl, behind a c l (t + 1) t _ _ refl (in_order a c l (t + 1) t) (behind b c _ _ d _ _ refl (in_order b c _ _ d) tt))
-  in_order (assign ty s v e) c l t d = (refl, behind e c l (t + 1) t _ _ refl (in_order e c l (t + 1) t) tt)
-  in_order (assign_value ty s a e) c l t d = (refl, behind e c l (t + 1) t _ _ refl (in_order e c l (t + 1) t) (refl, behind a c _ _ _ _ _ refl (in_order a c _ _ _) tt))
-  in_order (update ty s op v e) c l t d = (refl, behind e c l (t + 1) t _ _ refl (in_order e c l (t + 1) t) (refl, tt))
-  in_order (update_value ty s op a e) c l t d = (refl, behind e c l (t + 1) t _ _ refl (in_order e c l (t + 1) t) (refl, behind a c _ _ _ _ _ refl (in_order a c _ _ _) (refl, tt)))
+  in_order (assign ty s a e) c l t d = (refl, behind e c l (t + 1) t _ _ refl (in_order e c l (t + 1) t) (behind_target a c _ _ _ _ refl (in_order a c _ _ _) tt))
+  in_order (update ty s op a e) c l t d = (refl, behind e c l (t + 1) t _ _ refl (in_order e c l (t + 1) t) (behind_target a c _ _ _ _ refl (in_order a c _ _ _) (refl, tt)))
   in_order (call ty s f es) c l t d = then_in_order t _ (args es c l t) _ refl (args_in_order es c l t) tt
   in_order (block ty s ss) c l t d = rest_in_order ss false s c l t d
   in_order (branch ty s e a) c l t d = (refl, behind e c l (t + 1) t _ _ refl (in_order e c l (t + 1) t) (behind a c _ _ d _ _ refl (in_order a c _ _ d) tt))

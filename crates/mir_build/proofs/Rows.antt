@@ -7,15 +7,15 @@ use Rattle.logic_term.specs.Ty.{Ty}
 use Rattle.mir_ir.specs.declared.place.Place.{Place}
 use Rattle.type_check.specs.declared.assertion.Assertion.{Assertion}
 use Rattle.type_check.specs.declared.program.Signature.{Signature}
-use Rattle.type_check.specs.TypedExpr.{TypedExpr, TypedStmts, TypedExprs, integer, truth, variable, negative, denied, binary, lazy, assign, assign_value, update, update_value, call, block, branch, choice, repeat, done, last, bind, run, none, more}
+use Rattle.type_check.specs.TypedExpr.{TypedExpr, TypedStmts, TypedExprs, integer, truth, variable, negative, denied, binary, lazy, assign, update, call, block, branch, choice, repeat, done, last, bind, run, none, more}
 use Rattle.type_check.specs.TypedExprView.{ty_of}
 use Rattle.type_check.specs.FirstBad.{bad_among, bad_in, bad_in_stmts, bad_in_exprs}
 use Rattle.type_check.specs.Answers.{or_else}
 use Rattle.type_check.specs.WellTyped.{IsWellTyped, StatementsFit, ArgumentsFit}
-use Rattle.mir_build.specs.Lowering.{Around, accepted, whole, binds, looping, Into, of_integer, of_truth, of_variable, of_negative, of_denied, of_binary, of_lazy, of_assign, of_assign_value, of_update, of_update_value, of_call, of_block, of_branch}
-use Rattle.mir_build.specs.Lowering.{of_choice, of_repeat, Rest, of_done, of_last, of_bind, of_run, Args, of_none, of_more, IntoBody, of_outermost, of_other, named, named_rest, named_args, named_body}
+use Rattle.mir_build.specs.Lowering.{is_place, Around, accepted, whole, binds, looping, Into, of_integer, of_truth, of_variable, of_negative, of_denied, of_binary, of_lazy, of_assign, of_update, of_call, of_block, of_branch}
+use Rattle.mir_build.specs.Lowering.{of_choice, of_repeat, Rest, of_done, of_last, of_bind, of_run, Args, of_none, of_more, PlaceOf, of_name, of_temporary, IntoBody, of_outermost, of_other, named, named_place, named_rest, named_args, named_body}
 use Rattle.mir_build.specs.Text.{Line}
-use Rattle.mir_build.specs.Numbered.{formulas, into, rest, args, body_text, labels, labels_in, locals, temporaries, label, variable_place, between}
+use Rattle.mir_build.specs.Numbered.{place_of, temporary_text, formulas, into, rest, args, body_text, labels, labels_in, locals, temporaries, label, variable_place, between}
 use Rattle.mir_build.proofs.Accepted.{first_none, second_none, all_accepted}
 use Rattle.mir_build.proofs.Order.{numbers_of}
 use Rattle.mir_build.proofs.Following.{From, then_three}
@@ -54,6 +54,15 @@ RestLowered c outer s ss d l xs = (p : Rest c outer s ss d xs) × From l (named_
 abbrev pub ArgsLowered : Around → TypedExprs → List ℕ → ℕ → List Line → Type 0
 ArgsLowered c es ts l xs = (p : Args c es ts xs) × From l (named_args p)
 
+abbrev pub PlaceLowered : Around → TypedExpr → Place → ℕ → List Line → Type 0
+PlaceLowered c e x l xs = (p : PlaceOf c e x xs) × From l (named_place p)
+
+-- what an assignment writes
+target : (σ : List Signature) (Γ : List Ty) (e : TypedExpr) (c : Around) (l t : ℕ) → IsFor Γ c.scope → IsWellTyped σ Γ e → Lowered c e t l (into e c l (t + 1) t)
+    → PlaceLowered c e (place_of c.scope t e) l (temporary_text (is_place e) t (ty_of e) (into e c l (t + 1) t))
+target σ Γ (variable ty s v) c l t h w p = (of_name _ (in_scope Γ c.scope v ty h w), tt)
+target σ Γ e c l t h w p = (of_temporary refl p.0, p.1)
+
 -- a loop, by its condition and its body
 looped : (ty : Ty) (s : Span) (is : List Assertion) (e b : TypedExpr) (c : Around) (l t d : ℕ) → is ≡ map accepted (formulas is) → Lowered (looping c (label l)) e t (l + 3) (into e (looping c (label l)) (l + 3) (t + 1) t)
     → Lowered (looping c (label l)) b (t + 1 + locals e) (l + 3 + labels e) (into b (looping c (label l)) (l + 3 + labels e) (t + 1 + locals e + 1) (t + 1 + locals e))
@@ -84,22 +93,16 @@ mutual
       let p = lowers σ Γ a c l (t + 1) t h w.3 (first_none (bad_in a) (bad_in b) g) in
       let q = lowers σ Γ b c (m + 3) (t + 1 + locals a) d h w.4 (second_none (bad_in a) (bad_in b) g) in
       (of_lazy (label m) (label (m + 1)) (label (m + 2)) p.0 q.0, labels_then p.0 l (m ∷ (m + 1) ∷ (m + 2) ∷ named q.0) p.1 (then_three m (named q.0) q.1))
-  lowers σ Γ (assign ty s v e) c l t d h w g =
-      let p = lowers σ Γ e c l (t + 1) t h w.2 g in
-      (of_assign _ (in_scope Γ c.scope v _ h w.1) p.0, p.1)
-  lowers σ Γ (assign_value ty s a e) c l t d h w g =
+  lowers σ Γ (assign ty s a e) c l t d h w g =
       let u = t + 1 + locals e in
       let p = lowers σ Γ e c l (t + 1) t h w.3 (second_none (bad_in a) (bad_in e) g) in
-      let q = lowers σ Γ a c (l + labels e) (u + 1) u h w.2 (first_none (bad_in a) (bad_in e) g) in
-      (of_assign_value p.0 q.0, labels_then p.0 l (named q.0) p.1 q.1)
-  lowers σ Γ (update ty s op v e) c l t d h w g =
-      let p = lowers σ Γ e c l (t + 1) t h w.3 g in
-      (of_update _ _ (in_scope Γ c.scope v _ h w.1) p.0, p.1)
-  lowers σ Γ (update_value ty s op a e) c l t d h w g =
+      let q = target σ Γ a c (l + labels e) u h w.2 (lowers σ Γ a c (l + labels e) (u + 1) u h w.2 (first_none (bad_in a) (bad_in e) g)) in
+      (of_assign p.0 q.0, labels_then p.0 l (named_place q.0) p.1 q.1)
+  lowers σ Γ (update ty s op a e) c l t d h w g =
       let u = t + 1 + locals e in
       let p = lowers σ Γ e c l (t + 1) t h w.4 (second_none (bad_in a) (bad_in e) g) in
-      let q = lowers σ Γ a c (l + labels e) (u + 1) u h w.3 (first_none (bad_in a) (bad_in e) g) in
-      (of_update_value _ p.0 q.0, labels_then p.0 l (named q.0) p.1 q.1)
+      let q = target σ Γ a c (l + labels e) u h w.3 (lowers σ Γ a c (l + labels e) (u + 1) u h w.3 (first_none (bad_in a) (bad_in e) g)) in
+      (of_update _ p.0 q.0, labels_then p.0 l (named_place q.0) p.1 q.1)
   lowers σ Γ (call ty s f es) c l t d h w g =
       let m = l + labels_in es in
       let p = arguments σ Γ es c l t _ h w.3 g in

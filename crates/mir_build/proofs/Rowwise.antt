@@ -2,12 +2,13 @@
 use Rattle.std.proofs.Common.{◌≡◌, refl, ℕ, ◌+◌, Bool, List, [], ◌∷◌, ◌++◌, length, length-append, arith}
 use Rattle.text_core.specs.declared.span.Span.{Span}
 use Rattle.logic_term.specs.declared.kinds.Label.{Label}
+use Rattle.mir_ir.specs.declared.place.Place.{Place}
 use Rattle.source_kinds.specs.declared.kinds.LazyOp.{LazyOp}
 use Rattle.source_kinds.specs.declared.kinds.LazyOp.TheVariants.{And, Or}
 use Rattle.type_check.specs.TypedExpr.{TypedExpr, TypedStmts, TypedExprs}
 use Rattle.mir_build.specs.Text.{Line}
-use Rattle.mir_build.specs.Lowering.{Around, lazily, Into, of_integer, of_truth, of_variable, of_negative, of_denied, of_binary, of_lazy, of_assign, of_assign_value, of_update, of_update_value, of_call, of_block}
-use Rattle.mir_build.specs.Lowering.{of_branch, of_choice, of_repeat, Rest, of_done, of_last, of_bind, of_run, Args, of_none, of_more, IntoBody, of_outermost, of_other, named, named_rest, named_args}
+use Rattle.mir_build.specs.Lowering.{Around, lazily, Into, of_integer, of_truth, of_variable, of_negative, of_denied, of_binary, of_lazy, of_assign, of_update, of_call, of_block}
+use Rattle.mir_build.specs.Lowering.{of_branch, of_choice, of_repeat, Rest, of_done, of_last, of_bind, of_run, Args, of_none, of_more, PlaceOf, of_name, of_temporary, IntoBody, of_outermost, of_other, named, named_place, named_rest, named_args}
 use Rattle.mir_build.specs.Numbered.{labels, labels_of, labels_in}
 use Rattle.mir_build.proofs.Following.{From, from_right, from_both}
 use Rattle.mir_build.proofs.Numbers.{turns, turns-append, no_turns}
@@ -23,15 +24,17 @@ mutual
   name_count c e d xs (of_denied p) = name_count c _ _ _ p
   name_count c e d xs (of_binary p q) = omega (arith, length-append (named p) (named q), name_count c _ _ _ p, name_count c _ _ _ q)
   name_count c e d xs (of_lazy yes' no' after p q) = omega (arith, length-append (named p) (yes'.0 ∷ no'.0 ∷ after.0 ∷ named q), name_count c _ _ _ p, name_count c _ _ _ q)
-  name_count c e d xs (of_assign x q p) = name_count c _ _ _ p
-  name_count c e d xs (of_assign_value p q) = omega (arith, length-append (named p) (named q), name_count c _ _ _ p, name_count c _ _ _ q)
-  name_count c e d xs (of_update x u q p) = name_count c _ _ _ p
-  name_count c e d xs (of_update_value u p q) = omega (arith, length-append (named p) (named q), name_count c _ _ _ p, name_count c _ _ _ q)
+  name_count c e d xs (of_assign p q) = omega (arith, length-append (named p) (named_place q), name_count c _ _ _ p, name_count_place c _ _ _ q)
+  name_count c e d xs (of_update u p q) = omega (arith, length-append (named p) (named_place q), name_count c _ _ _ p, name_count_place c _ _ _ q)
   name_count c e d xs (of_call after p) = omega (arith, length-append (named_args p) (after.0 ∷ []), name_count_args c _ _ _ p)
   name_count c e d xs (of_block p) = name_count_rest c _ _ _ _ _ p
   name_count c e d xs (of_branch yes' no' after p q) = omega (arith, length-append (named p) (yes'.0 ∷ no'.0 ∷ after.0 ∷ named q), name_count c _ _ _ p, name_count c _ _ _ q)
   name_count c e d xs (of_choice yes' no' after p q r) = omega (arith, length-append (named p) (yes'.0 ∷ no'.0 ∷ after.0 ∷ (named q ++ named r)), length-append (named q) (named r), name_count c _ _ _ p, name_count c _ _ _ q, name_count c _ _ _ r)
   name_count c e d xs (of_repeat head body after fs g p q) = omega (arith, length-append (named p) (named q), name_count _ _ _ _ p, name_count _ _ _ _ q)
+
+  name_count_place : (c : Around) (e : TypedExpr) (x : Place) (xs : List Line) (p : PlaceOf c e x xs) → length (named_place p) ≡ labels e
+  name_count_place c e x xs (of_name y q) = refl
+  name_count_place c e x xs (of_temporary n p) = name_count c _ _ _ p
 
   name_count_rest : (c : Around) (outer : Bool) (s : Span) (ss : TypedStmts) (d : ℕ) (xs : List Line) (p : Rest c outer s ss d xs) → length (named_rest p) ≡ labels_of ss
   name_count_rest c outer s ss d xs of_done = refl
@@ -71,15 +74,17 @@ mutual
   turn_count c e d xs (of_denied p) = simp turns-append (omega (arith, turn_count c _ _ _ p))
   turn_count c e d xs (of_binary p q) = simp turns-append (omega (arith, turn_count c _ _ _ p, turn_count c _ _ _ q))
   turn_count c e d xs (of_lazy {s = s} {op = op} {t = t} yes' no' after {ys = vs} p q) = simp turns-append (omega (arith, turns_lazy op c s t d yes' no' after vs, turn_count c _ _ _ p, turn_count c _ _ _ q))
-  turn_count c e d xs (of_assign x q p) = simp turns-append (omega (arith, turn_count c _ _ _ p))
-  turn_count c e d xs (of_assign_value p q) = simp turns-append (omega (arith, turn_count c _ _ _ p, turn_count c _ _ _ q))
-  turn_count c e d xs (of_update x u q p) = simp turns-append (omega (arith, turn_count c _ _ _ p))
-  turn_count c e d xs (of_update_value u p q) = simp turns-append (omega (arith, turn_count c _ _ _ p, turn_count c _ _ _ q))
+  turn_count c e d xs (of_assign p q) = simp turns-append (omega (arith, turn_count c _ _ _ p, turn_count_place c _ _ _ q))
+  turn_count c e d xs (of_update u p q) = simp turns-append (omega (arith, turn_count c _ _ _ p, turn_count_place c _ _ _ q))
   turn_count c e d xs (of_call after p) = simp turns-append (omega (arith, turn_count_args c _ _ _ p))
   turn_count c e d xs (of_block p) = turn_count_rest c _ _ _ _ _ p
   turn_count c e d xs (of_branch yes' no' after p q) = simp turns-append (omega (arith, turn_count c _ _ _ p, turn_count c _ _ _ q))
   turn_count c e d xs (of_choice yes' no' after p q r) = simp turns-append (omega (arith, turn_count c _ _ _ p, turn_count c _ _ _ q, turn_count c _ _ _ r))
   turn_count c e d xs (of_repeat head body after fs g p q) = simp turns-append (omega (arith, turn_count _ _ _ _ p, turn_count _ _ _ _ q))
+
+  turn_count_place : (c : Around) (e : TypedExpr) (x : Place) (xs : List Line) → PlaceOf c e x xs → turns xs ≡ labels e
+  turn_count_place c e x xs (of_name y q) = refl
+  turn_count_place c e x xs (of_temporary n p) = turn_count c _ _ _ p
 
   turn_count_rest : (c : Around) (outer : Bool) (s : Span) (ss : TypedStmts) (d : ℕ) (xs : List Line) → Rest c outer s ss d xs → turns xs ≡ labels_of ss
   turn_count_rest c outer s ss d xs of_done = refl

@@ -5,7 +5,7 @@ use Rattle.std.proofs.lemmas.Option.{slice_get_within}
 use Rattle.logic_term.specs.Ty.{Ty}
 use Rattle.type_check.specs.declared.program.Signature.{Signature}
 use Rattle.type_check.specs.declared.typed.TypedStmt.{TypedStmt}
-use Rattle.type_check.specs.TypedExpr.{TypedExpr, TypedStmts, TypedExprs, integer, truth, variable, negative, denied, binary, lazy, assign, assign_value, update, update_value, call, block, branch, choice, repeat, done, last, bind, run, none, more}
+use Rattle.type_check.specs.TypedExpr.{TypedExpr, TypedStmts, TypedExprs, integer, truth, variable, negative, denied, binary, lazy, assign, update, call, block, branch, choice, repeat, done, last, bind, run, none, more}
 use Rattle.type_check.specs.TypedExprView.{ty_of, stmt_of, stmts_of, exprs_of}
 use Rattle.type_check.specs.WellTyped.{IsWellTyped, StatementsFit, ArgumentsFit}
 use Rattle.mir_build.specs.Lowering.{Around, whole}
@@ -24,10 +24,8 @@ mutual
   within_scope σ Γ (denied ty s e) w = within_scope σ Γ e w.2
   within_scope σ Γ (binary ty s op a b) w = omega (arith, within_scope σ Γ a w.2, within_scope σ Γ b w.3)
   within_scope σ Γ (lazy ty s op a b) w = omega (arith, within_scope σ Γ a w.3, within_scope σ Γ b w.4)
-  within_scope σ Γ (assign ty s v e) w = omega (arith, slice_get_within Γ v (ty_of e) w.1, within_scope σ Γ e w.2)
-  within_scope σ Γ (assign_value ty s a e) w = omega (arith, within_scope σ Γ a w.2, within_scope σ Γ e w.3)
-  within_scope σ Γ (update ty s op v e) w = omega (arith, slice_get_within Γ v (ty_of e) w.1, within_scope σ Γ e w.3)
-  within_scope σ Γ (update_value ty s op a e) w = omega (arith, within_scope σ Γ a w.3, within_scope σ Γ e w.4)
+  within_scope σ Γ (assign ty s a e) w = omega (arith, within_scope σ Γ a w.2, within_scope σ Γ e w.3)
+  within_scope σ Γ (update ty s op a e) w = omega (arith, within_scope σ Γ a w.3, within_scope σ Γ e w.4)
   within_scope σ Γ (call ty s f es) w = arguments_within σ Γ es w.0.params w.3
   within_scope σ Γ (block ty s ss) w = statements_within σ Γ ty ss w
   within_scope σ Γ (branch ty s e a) w = omega (arith, within_scope σ Γ e w.3, within_scope σ Γ a w.4)

@@ -3,13 +3,14 @@ use Rattle.std.proofs.Common.{ℕ, Bool, true, false, List, [], ◌∷◌, ◌++
 use Rattle.logic_term.specs.declared.kinds.Label.{Label}
 use Rattle.logic_term.specs.Ty.{Ty}
 use Rattle.text_core.specs.declared.span.Span.{Span}
+use Rattle.mir_ir.specs.declared.place.Place.{Place}
 use Rattle.mir_ir.specs.declared.statement.Statement.{Statement}
 use Rattle.source_kinds.specs.declared.kinds.LazyOp.{LazyOp}
 use Rattle.source_kinds.specs.declared.kinds.LazyOp.TheVariants as lazy_op
 use Rattle.type_check.specs.TypedExpr.{TypedExpr, TypedStmts, TypedExprs}
 use Rattle.mir_build.specs.Text.{Line, Puts, Makes}
-use Rattle.mir_build.specs.Lowering.{Around, Formula, binds, looping, dies_in, test, calls, turning, lazily, Into, of_integer, of_truth, of_variable, of_negative, of_denied, of_binary, of_lazy, of_assign, of_assign_value}
-use Rattle.mir_build.specs.Lowering.{of_update, of_update_value, of_call, of_block, of_branch, of_choice, of_repeat, Rest, of_done, of_last, of_bind, of_run, Args, of_none, of_more, IntoBody, of_outermost, of_other}
+use Rattle.mir_build.specs.Lowering.{Around, Formula, binds, looping, dies_in, test, calls, turning, lazily, Into, of_integer, of_truth, of_variable, of_negative, of_denied, of_binary, of_lazy, of_assign}
+use Rattle.mir_build.specs.Lowering.{of_update, of_call, of_block, of_branch, of_choice, of_repeat, Rest, of_done, of_last, of_bind, of_run, Args, of_none, of_more, PlaceOf, of_name, of_temporary, IntoBody, of_outermost, of_other}
 
 -- the property holds of what a shape makes where it holds of its parts
 pub record Keeps (P : Around → List Line → Type 0) : Type 0 where
@@ -55,10 +56,8 @@ module _ (P : Around → List Line → Type 0) (keeps : Keeps P) where
     of_text c e d xs (of_denied {xs = us} p) = made_then c _ _ us _ (of_text c _ _ us p) (one c _)
     of_text c e d xs (of_binary {xs = us} {ys = vs} p q) = made_then c _ _ us _ (of_text c _ _ us p) (made_then c _ _ vs _ (of_text c _ _ vs q) (one c _))
     of_text c e d xs (of_lazy {s = s} {op = op} {t = t} yes' no' after {xs = us} {ys = vs} p q) = made_then c _ _ us _ (of_text c _ _ us p) (of_lazily op c s t d yes' no' after vs (of_text c _ _ vs q))
-    of_text c e d xs (of_assign x {xs = us} r p) = made_then c _ _ us _ (of_text c _ _ us p) (two c _ _)
-    of_text c e d xs (of_assign_value {xs = us} {ys = vs} p q) = made_then c _ _ us _ (of_text c _ _ us p) (made_then c _ _ vs _ (of_text c _ _ vs q) (two c _ _))
-    of_text c e d xs (of_update x u {xs = us} r p) = made_then c _ _ us _ (of_text c _ _ us p) (keeps.make c u _ _ (three c _ _ _))
-    of_text c e d xs (of_update_value u {xs = us} {ys = vs} p q) = made_then c _ _ us _ (of_text c _ _ us p) (made_then c _ _ vs _ (of_text c _ _ vs q) (keeps.make c u _ _ (three c _ _ _)))
+    of_text c e d xs (of_assign {xs = us} {ys = vs} p q) = made_then c _ _ us _ (of_text c _ _ us p) (keeps.join c vs _ (of_place c _ _ vs q) (two c _ _))
+    of_text c e d xs (of_update u {xs = us} {ys = vs} p q) = made_then c _ _ us _ (of_text c _ _ us p) (keeps.join c vs _ (of_place c _ _ vs q) (keeps.make c u _ _ (three c _ _ _)))
     of_text c e d xs (of_call after {xs = us} p) = keeps.join c us _ (of_args c _ _ us p) (keeps.called c _ _ _ _ after)
     of_text c e d xs (of_block p) = of_rest c _ _ _ _ xs p
     of_text c e d xs (of_branch {s = s} {t = t} yes' no' after {xs = us} {ys = vs} p q) = made_then c _ _ us _ (of_text c _ _ us p) (keeps.tested c s t yes' no' after vs _ (of_text c _ _ vs q) (one c _))
@@ -66,6 +65,10 @@ module _ (P : Around → List Line → Type 0) (keeps : Keeps P) where
         made_then c _ _ us _ (of_text c _ _ us p) (keeps.tested c s t yes' no' after vs ws (of_text c _ _ vs q) (of_text c _ _ ws r))
     of_text c e d xs (of_repeat {s = s} {t = t} {u = u} head body after fs {xs = us} {ys = vs} g p q) =
         keeps.turned c s head body after fs t _ us u _ vs _ (of_text (looping c head) _ _ us p) (of_text (looping c head) _ _ vs q) (one c _)
+
+    of_place : (c : Around) (e : TypedExpr) (x : Place) (xs : List Line) → PlaceOf c e x xs → P c xs
+    of_place c e x xs (of_name x' q) = keeps.nothing c
+    of_place c e x xs (of_temporary {xs = us} n p) = keeps.make c _ _ us (of_text c _ _ us p)
 
     of_rest : (c : Around) (outer : Bool) (s : Span) (ss : TypedStmts) (d : ℕ) (xs : List Line) → Rest c outer s ss d xs → P c xs
     of_rest c outer s ss d xs of_done = one c _

@@ -48,7 +48,7 @@ use Rattle.type_check.specs.declared.program.TypedClause.{TypedClause}
 use Rattle.type_check.specs.declared.program.TypedFunction.{TypedFunction}
 use Rattle.type_check.specs.declared.program.TypedProgram.{TypedProgram}
 use Rattle.mir_build.specs.declared.lowered.Lowered.{Lowered}
-use Rattle.type_check.specs.TypedExpr.{TypedExpr, TypedStmts, TypedExprs, integer, variable, negative, denied, binary, lazy, assign, assign_value, update, update_value, call, block, branch, choice, repeat, done, last, bind, run, none, more}
+use Rattle.type_check.specs.TypedExpr.{TypedExpr, TypedStmts, TypedExprs, integer, variable, negative, denied, binary, lazy, assign, update, call, block, branch, choice, repeat, done, last, bind, run, none, more}
 use Rattle.type_check.specs.TypedExpr as typed
 use Rattle.type_check.specs.TypedExprView.{ty_of, span_of}
 use Rattle.type_check.specs.VariableNames.{variable_name, answer_name}
@@ -184,6 +184,11 @@ lazily lazy_op.Or c s t d yes' no' after ys = test c s t yes' no' after (constan
 
 -- ---- rows
 
+-- the expression names a place; so far a variable does
+abbrev pub is_place : TypedExpr → Bool
+is_place (variable ty s v) = true
+is_place _ = false
+
 mutual
   -- the text that writes the value of an expression to a local
   pub data Into : Around → TypedExpr → ℕ → List Line → Type 0 where
@@ -196,14 +201,10 @@ mutual
         → Into c (binary ty s op a b) d (made_by t (ty_of a) xs ++ (made_by u (ty_of b) ys ++ puts s d (Binary op (moved t) (moved u)) ∷ []))
     of_lazy : {c : Around} {ty : Ty} {s : Span} {op : LazyOp} {a b : TypedExpr} {d t : ℕ} (yes' no' after : Label) {xs ys : List Line} → Into c a t xs → Into c b d ys
         → Into c (lazy ty s op a b) d (made_by t (ty_of a) xs ++ lazily op c s t d yes' no' after ys)
-    of_assign : {c : Around} {ty : Ty} {s : Span} {v : ℕ} {e : TypedExpr} {d t : ℕ} (p : Place) {xs : List Line} → slice_get c.scope v ≡ Some p → Into c e t xs
-        → Into c (assign ty s v e) d (made_by t (ty_of e) xs ++ puts_at s p (Use (moved t)) ∷ put_unit s d ∷ [])
-    of_assign_value : {c : Around} {ty : Ty} {s : Span} {a e : TypedExpr} {d t u : ℕ} {xs ys : List Line} → Into c e t xs → Into c a u ys
-        → Into c (assign_value ty s a e) d (made_by t (ty_of e) xs ++ (made_by u (ty_of a) ys ++ puts s u (Use (moved t)) ∷ put_unit s d ∷ []))
-    of_update : {c : Around} {ty : Ty} {s : Span} {op : BinaryOp} {v : ℕ} {e : TypedExpr} {d t : ℕ} (p : Place) (u : ℕ) {xs : List Line} → slice_get c.scope v ≡ Some p → Into c e t xs
-        → Into c (update ty s op v e) d (made_by t (ty_of e) xs ++ (made_by u (ty_of e) (puts s u (Binary op (Copy p) (moved t)) ∷ []) ++ puts_at s p (Use (moved u)) ∷ put_unit s d ∷ []))
-    of_update_value : {c : Around} {ty : Ty} {s : Span} {op : BinaryOp} {a e : TypedExpr} {d t p : ℕ} (u : ℕ) {xs ys : List Line} → Into c e t xs → Into c a p ys
-        → Into c (update_value ty s op a e) d (made_by t (ty_of e) xs ++ (made_by p (ty_of a) ys ++ (made_by u (ty_of e) (puts s u (Binary op (copied p) (moved t)) ∷ []) ++ puts s p (Use (moved u)) ∷ put_unit s d ∷ [])))
+    of_assign : {c : Around} {ty : Ty} {s : Span} {a e : TypedExpr} {d t : ℕ} {p : Place} {xs ys : List Line} → Into c e t xs → PlaceOf c a p ys
+        → Into c (assign ty s a e) d (made_by t (ty_of e) xs ++ (ys ++ puts_at s p (Use (moved t)) ∷ put_unit s d ∷ []))
+    of_update : {c : Around} {ty : Ty} {s : Span} {op : BinaryOp} {a e : TypedExpr} {d t : ℕ} {p : Place} (u : ℕ) {xs ys : List Line} → Into c e t xs → PlaceOf c a p ys
+        → Into c (update ty s op a e) d (made_by t (ty_of e) xs ++ (ys ++ (made_by u (ty_of e) (puts s u (Binary op (Copy p) (moved t)) ∷ []) ++ puts_at s p (Use (moved u)) ∷ put_unit s d ∷ [])))
     of_call : {c : Around} {ty : Ty} {s : Span} {f : ℕ} {es : TypedExprs} {d : ℕ} {ts : List ℕ} (after : Label) {xs : List Line} → Args c es ts xs → Into c (call ty s f es) d (xs ++ calls c s f d ts after ∷ [])
     of_block : {c : Around} {ty : Ty} {s : Span} {ss : TypedStmts} {d : ℕ} {xs : List Line} → Rest c false s ss d xs → Into c (block ty s ss) d xs
     of_branch : {c : Around} {ty : Ty} {s : Span} {e a : TypedExpr} {d t : ℕ} (yes' no' after : Label) {xs ys : List Line} → Into c e t xs → Into c a d ys
@@ -213,6 +214,11 @@ mutual
     of_repeat : {c : Around} {ty : Ty} {s : Span} {is : List Assertion} {e b : TypedExpr} {d t u : ℕ} (head body after : Label) (fs : List Formula) {xs ys : List Line}
         → is ≡ map accepted fs → Into (looping c head) e t xs → Into (looping c head) b u ys
         → Into c (repeat ty s is e b) d (turning c s head body after fs t (ty_of e) xs u (ty_of b) ys (put_unit s d ∷ []))
+
+  -- what an assignment writes, with the text before it: the place of a variable, or a temporary that holds the value, which is lost
+  pub data PlaceOf : Around → TypedExpr → Place → List Line → Type 0 where
+    of_name : {c : Around} {ty : Ty} {s : Span} {v : ℕ} (p : Place) → slice_get c.scope v ≡ Some p → PlaceOf c (variable ty s v) p []
+    of_temporary : {c : Around} {e : TypedExpr} {t : ℕ} {xs : List Line} → is_place e ≡ false → Into c e t xs → PlaceOf c e (whole t) (made_by t (ty_of e) xs)
 
   -- the text of a block's statements and of its last expression; whether it is the outermost block of a body
   pub data Rest : Around → Bool → Span → TypedStmts → ℕ → List Line → Type 0 where
@@ -249,15 +255,17 @@ abbrev mutual
   named (of_denied p) = named p
   named (of_binary p q) = named p ++ named q
   named (of_lazy yes' no' after p q) = named p ++ yes'.0 ∷ no'.0 ∷ after.0 ∷ named q
-  named (of_assign x q p) = named p
-  named (of_assign_value p q) = named p ++ named q
-  named (of_update x u q p) = named p
-  named (of_update_value u p q) = named p ++ named q
+  named (of_assign p q) = named p ++ named_place q
+  named (of_update u p q) = named p ++ named_place q
   named (of_call after p) = named_args p ++ after.0 ∷ []
   named (of_block p) = named_rest p
   named (of_branch yes' no' after p q) = named p ++ yes'.0 ∷ no'.0 ∷ after.0 ∷ named q
   named (of_choice yes' no' after p q r) = named p ++ yes'.0 ∷ no'.0 ∷ after.0 ∷ (named q ++ named r)
   named (of_repeat head body after fs g p q) = head.0 ∷ body.0 ∷ after.0 ∷ (named p ++ named q)
+
+  pub named_place : {c : Around} {e : TypedExpr} {x : Place} {xs : List Line} → PlaceOf c e x xs → List ℕ
+  named_place (of_name x q) = []
+  named_place (of_temporary n p) = named p
 
   pub named_rest : {c : Around} {outer : Bool} {s : Span} {ss : TypedStmts} {d : ℕ} {xs : List Line} → Rest c outer s ss d xs → List ℕ
   named_rest of_done = []

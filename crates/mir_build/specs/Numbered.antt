@@ -4,6 +4,7 @@ use Rattle.std.specs.Prelude.{ℕ, ◌+◌, ◌-◌, Bool, true, false, List, []
 use Rattle.std.specs.List.{range_with_len}
 use Rattle.text_core.specs.declared.span.Span.{Span}
 use Rattle.logic_term.specs.declared.kinds.Label.{Label}
+use Rattle.logic_term.specs.Ty.{Ty}
 use Rattle.mir_ir.specs.declared.place.Lit.TheVariants as lit
 use Rattle.mir_ir.specs.declared.place.Operand.TheVariants.{Copy}
 use Rattle.mir_ir.specs.declared.place.Place.{Place}
@@ -13,10 +14,10 @@ use Rattle.mir_ir.specs.declared.terminator.Callee.TheVariants.{Function}
 use Rattle.mir_ir.specs.declared.terminator.TerminatorKind.TheVariants.{Goto, If, Call}
 use Rattle.type_check.specs.declared.assertion.Assertion.{Assertion}
 use Rattle.type_check.specs.declared.assertion.Assertion.TheVariants.{Good, Bad}
-use Rattle.type_check.specs.TypedExpr.{TypedExpr, TypedStmts, TypedExprs, integer, truth, variable, negative, denied, binary, lazy, assign, assign_value, update, update_value, call, block, branch, choice, repeat, done, last, bind, run, none, more}
+use Rattle.type_check.specs.TypedExpr.{TypedExpr, TypedStmts, TypedExprs, integer, truth, variable, negative, denied, binary, lazy, assign, update, call, block, branch, choice, repeat, done, last, bind, run, none, more}
 use Rattle.type_check.specs.TypedExprView.{ty_of}
 use Rattle.mir_build.specs.Text.{Line, Makes, Turns, Owns}
-use Rattle.mir_build.specs.Lowering.{Around, Formula, binds, looping, at, at_head, head_of, whole, puts, puts_at, constant, put_unit, copied, moved, ends, dies_in, lazily}
+use Rattle.mir_build.specs.Lowering.{Around, Formula, binds, looping, at, at_head, head_of, whole, puts, puts_at, constant, put_unit, moved, ends, dies_in, lazily, is_place}
 
 abbrev pub label : ℕ → Label
 label l = record { 0 = l }
@@ -34,6 +35,23 @@ formulas [] = []
 formulas (Good s t ∷ as') = record { span = s; term = t } ∷ formulas as'
 formulas (Bad e ∷ as') = formulas as'
 
+-- ---- what an assignment writes
+
+-- the place that is written, where t is the temporary of what names no place
+abbrev pub place_of : List Place → ℕ → TypedExpr → Place
+place_of scope t (variable ty s v) = variable_place scope v
+place_of scope t _ = whole t
+
+-- how many temporaries there are: none for what names a place
+abbrev pub temporary_count : Bool → ℕ
+temporary_count true = 0
+temporary_count false = 1
+
+-- the temporary, which the text writes
+abbrev pub temporary_text : Bool → ℕ → Ty → List Line → List Line
+temporary_text true t ty xs = []
+temporary_text false t ty xs = Makes t ty ∷ xs
+
 -- ---- how many blocks the text begins
 
 abbrev mutual
@@ -45,10 +63,8 @@ abbrev mutual
   labels (denied ty s e) = labels e
   labels (binary ty s op a b) = labels a + labels b
   labels (lazy ty s op a b) = labels a + 3 + labels b
-  labels (assign ty s v e) = labels e
-  labels (assign_value ty s a e) = labels e + labels a
-  labels (update ty s op v e) = labels e
-  labels (update_value ty s op a e) = labels e + labels a
+  labels (assign ty s a e) = labels e + labels a
+  labels (update ty s op a e) = labels e + labels a
   labels (call ty s f es) = labels_in es + 1
   labels (block ty s ss) = labels_of ss
   labels (branch ty s e a) = labels e + 3 + labels a
@@ -76,10 +92,8 @@ abbrev mutual
   locals (denied ty s e) = 1 + locals e
   locals (binary ty s op a b) = 1 + locals a + 1 + locals b
   locals (lazy ty s op a b) = 1 + locals a + locals b
-  locals (assign ty s v e) = 1 + locals e
-  locals (assign_value ty s a e) = 1 + locals e + 1 + locals a
-  locals (update ty s op v e) = 1 + locals e + 1
-  locals (update_value ty s op a e) = 1 + locals e + 1 + locals a + 1
+  locals (assign ty s a e) = 1 + locals e + temporary_count (is_place a) + locals a
+  locals (update ty s op a e) = 1 + locals e + temporary_count (is_place a) + locals a + 1
   locals (call ty s f es) = locals_in es
   locals (block ty s ss) = locals_of ss
   locals (branch ty s e a) = 1 + locals e + locals a
@@ -117,19 +131,15 @@ abbrev mutual
       let m = l + labels a in
       let ys = into b c (m + 3) (t + 1 + locals a) d in
       Makes t (ty_of a) ∷ (into a c l (t + 1) t ++ lazily op c s t d (label m) (label (m + 1)) (label (m + 2)) ys)
-  into (assign ty s v e) c l t d = Makes t (ty_of e) ∷ (into e c l (t + 1) t ++ puts_at s (variable_place c.scope v) (Use (moved t)) ∷ put_unit s d ∷ [])
-  into (assign_value ty s a e) c l t d =
+  into (assign ty s a e) c l t d =
       let u = t + 1 + locals e in
-      Makes t (ty_of e) ∷ (into e c l (t + 1) t ++ Makes u (ty_of a) ∷ (into a c (l + labels e) (u + 1) u ++ puts s u (Use (moved t)) ∷ put_unit s d ∷ []))
-  into (update ty s op v e) c l t d =
-      let p = variable_place c.scope v in
+      Makes t (ty_of e) ∷ (into e c l (t + 1) t ++ (temporary_text (is_place a) u (ty_of a) (into a c (l + labels e) (u + 1) u) ++ puts_at s (place_of c.scope u a) (Use (moved t)) ∷ put_unit s d ∷ []))
+  into (update ty s op a e) c l t d =
       let u = t + 1 + locals e in
-      Makes t (ty_of e) ∷ (into e c l (t + 1) t ++ Makes u (ty_of e) ∷ puts s u (Binary op (Copy p) (moved t)) ∷ puts_at s p (Use (moved u)) ∷ put_unit s d ∷ [])
-  into (update_value ty s op a e) c l t d =
-      let p = t + 1 + locals e in
-      let u = p + 1 + locals a in
-      Makes t (ty_of e) ∷ (into e c l (t + 1) t ++ Makes p (ty_of a) ∷ (into a c (l + labels e) (p + 1) p
-      ++ Makes u (ty_of e) ∷ puts s u (Binary op (copied p) (moved t)) ∷ puts s p (Use (moved u)) ∷ put_unit s d ∷ []))
+      let w = u + temporary_count (is_place a) + locals a in
+      let p = place_of c.scope u a in
+      Makes t (ty_of e) ∷ (into e c l (t + 1) t ++ (temporary_text (is_place a) u (ty_of a) (into a c (l + labels e) (u + 1) u)
+      ++ Makes w (ty_of e) ∷ puts s w (Binary op (Copy p) (moved t)) ∷ puts_at s p (Use (moved w)) ∷ put_unit s d ∷ []))
   into (call ty s f es) c l t d =
       let m = l + labels_in es in
       args es c l t ++ Turns (ends s (Call (whole d) (Function (fn_id.Body f)) [] (map moved (temporaries es t)) (label m))) (at c (label m)) ∷ []

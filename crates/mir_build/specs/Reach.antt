@@ -1,6 +1,6 @@
 -- How many variables have to be in scope around an expression, so that each that it names is there. Contracts of the code alone speak of it.
 use Rattle.std.specs.Prelude.{ℕ, ◌+◌, ◌-◌, max}
-use Rattle.type_check.specs.TypedExpr.{TypedExpr, TypedStmts, TypedExprs, integer, truth, variable, negative, denied, binary, lazy, assign, assign_value, update, update_value, call, block, branch, choice, repeat, done, last, bind, run, none, more}
+use Rattle.type_check.specs.TypedExpr.{TypedExpr, TypedStmts, TypedExprs, integer, truth, variable, negative, denied, binary, lazy, assign, update, call, block, branch, choice, repeat, done, last, bind, run, none, more}
 
 abbrev mutual
   pub reach : TypedExpr → ℕ
@@ -11,10 +11,8 @@ abbrev mutual
   reach (denied ty s e) = reach e
   reach (binary ty s op a b) = max (reach a) (reach b)
   reach (lazy ty s op a b) = max (reach a) (reach b)
-  reach (assign ty s v e) = max (v + 1) (reach e)
-  reach (assign_value ty s a e) = max (reach a) (reach e)
-  reach (update ty s op v e) = max (v + 1) (reach e)
-  reach (update_value ty s op a e) = max (reach a) (reach e)
+  reach (assign ty s a e) = max (reach a) (reach e)
+  reach (update ty s op a e) = max (reach a) (reach e)
   reach (call ty s f es) = reach_in es
   reach (block ty s ss) = reach_of ss
   reach (branch ty s e a) = max (reach e) (reach a)

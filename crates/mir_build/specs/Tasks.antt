@@ -20,14 +20,14 @@ use Rattle.mir_build.specs.Reach.{reach}
 abbrev pub behind_labels : Behind → ℕ
 behind_labels (behind.Binary op b) = labels b.now
 behind_labels (behind.Lazy op b) = 3 + labels b.now
-behind_labels (behind.AssignValue v) = 0
-behind_labels (behind.UpdateValue op ty v) = 0
+behind_labels (behind.Assign v) = 0
+behind_labels (behind.Update op ty v) = 0
 
 abbrev pub behind_locals : Behind → ℕ
 behind_locals (behind.Binary op b) = 1 + locals b.now
 behind_locals (behind.Lazy op b) = locals b.now
-behind_locals (behind.AssignValue v) = 0
-behind_locals (behind.UpdateValue op ty v) = 1
+behind_locals (behind.Assign v) = 0
+behind_locals (behind.Update op ty v) = 1
 
 -- the text of `&&` or `||`
 abbrev pub lazy_text : LazyOp → TypedExpr → Span → ℕ → ℕ → Around → ℕ → ℕ → List Line
@@ -36,20 +36,20 @@ lazy_text op b s t d c l u = lazily op c s t d (label l) (label (l + 1)) (label 
 abbrev pub behind_text : Behind → Span → ℕ → ℕ → Around → ℕ → ℕ → List Line
 behind_text (behind.Binary op b) s t d c l u = Makes u (ty_of b.now) ∷ (into b.now c l (u + 1) u ++ puts s d (Binary op (moved t) (moved u)) ∷ [])
 behind_text (behind.Lazy op b) s t d c l u = lazy_text op b.now s t d c l u
-behind_text (behind.AssignValue v) s t d c l u = puts s t (Use (moved v)) ∷ put_unit s d ∷ []
-behind_text (behind.UpdateValue op ty v) s t d c l u = Makes u ty.now ∷ puts s u (Binary op (copied t) (moved v)) ∷ puts s t (Use (moved u)) ∷ put_unit s d ∷ []
+behind_text (behind.Assign v) s t d c l u = puts s t (Use (moved v)) ∷ put_unit s d ∷ []
+behind_text (behind.Update op ty v) s t d c l u = Makes u ty.now ∷ puts s u (Binary op (copied t) (moved v)) ∷ puts s t (Use (moved u)) ∷ put_unit s d ∷ []
 
 abbrev pub behind_size : Behind → ℕ
 behind_size (behind.Binary op b) = typed_size b.now
 behind_size (behind.Lazy op b) = typed_size b.now
-behind_size (behind.AssignValue v) = 0
-behind_size (behind.UpdateValue op ty v) = 0
+behind_size (behind.Assign v) = 0
+behind_size (behind.Update op ty v) = 0
 
 abbrev pub behind_reach : Behind → ℕ
 behind_reach (behind.Binary op b) = reach b.now
 behind_reach (behind.Lazy op b) = reach b.now
-behind_reach (behind.AssignValue v) = 0
-behind_reach (behind.UpdateValue op ty v) = 0
+behind_reach (behind.Assign v) = 0
+behind_reach (behind.Update op ty v) = 0
 
 -- ---- tasks
 

@@ -1,5 +1,5 @@
 //! Lowering of expressions: what they add to the text of their body.
-ghost use Rattle.std.specs.Prelude.{◌≡◌, ◌+◌, ◌^◌, ◌≤◌, ◌<◌, ◌*◌, max, ◌∷◌, ◌++◌, [], length, take, drop, map, OnOk, IfOk, IfErr};
+ghost use Rattle.std.specs.Prelude.{true, ◌≡◌, ◌+◌, ◌^◌, ◌≤◌, ◌<◌, ◌*◌, max, ◌∷◌, ◌++◌, [], length, take, drop, map, OnOk, IfOk, IfErr};
 ghost use Rattle.std.specs.Option.{option_copied};
 ghost use Rattle.type_check.specs.TypedExpr.{assign, update, branch, choice, repeat, call};
 ghost use Rattle.type_check.specs.TypedExprView.{ty_of, span_of, stmts_of, exprs_of, typed_size};
@@ -8,8 +8,8 @@ ghost use Rattle.mir_ir.specs.declared.place.Operand.TheVariants.{Copy};
 ghost use Rattle.mir_ir.specs.declared.statement.Rvalue.TheVariants.{Use, Binary};
 ghost use Rattle.mir_ir.specs.declared.terminator.TerminatorKind.TheVariants.{Goto};
 ghost use Rattle.mir_build.specs.Text.{Makes, Turns, Owns};
-ghost use Rattle.mir_build.specs.Lowering.{moved, puts_at, puts, put_unit, ends, dies_in, at, at_head, looping, head_of};
-ghost use Rattle.mir_build.specs.Numbered.{formulas, into, rest, args, loop_text, between, temporaries, label, labels, labels_of, labels_in, locals, locals_of, locals_in};
+ghost use Rattle.mir_build.specs.Lowering.{moved, puts_at, puts, put_unit, ends, dies_in, at, at_head, looping, head_of, is_place};
+ghost use Rattle.mir_build.specs.Numbered.{formulas, place_of, into, rest, args, loop_text, between, temporaries, label, labels, labels_of, labels_in, locals, locals_of, locals_in};
 ghost use Rattle.mir_build.specs.Reach.{reach, reach_of, reach_in};
 ghost use Rattle.mir_build.specs.Built.{written, around, outside, end_of};
 ghost use Rattle.mir_build.specs.Bindings.{all_die};
@@ -175,15 +175,8 @@ fn lower_left<'a>(
             push_left(alloc, b, span, x, d, Behind::Binary(*op, y), tasks)
         }
         TypedNode::Lazy(op, x, y) => push_left(alloc, b, span, x, d, Behind::Lazy(*op, y), tasks),
-        TypedNode::AssignValue(to, x) => {
-            let value = lower_new(alloc, b, c, x)?;
-            push_left(alloc, b, span, to, d, Behind::AssignValue(value), tasks)
-        }
-        TypedNode::UpdateValue(op, to, x) => {
-            let value = lower_new(alloc, b, c, x)?;
-            let behind = Behind::UpdateValue(*op, type_of(x), value);
-            push_left(alloc, b, span, to, d, behind, tasks)
-        }
+        TypedNode::Assign(to, x) => lower_assign(alloc, b, c, span, to, x, d, tasks),
+        TypedNode::Update(op, to, x) => lower_update(alloc, b, c, span, *op, to, x, d, tasks),
         TypedNode::Int(z, k) => Ok(b.put_constant(alloc, span, d, Lit::Int(*z, *k))?),
         TypedNode::Truth(v) => Ok(b.put_constant(alloc, span, d, Lit::Bool(*v))?),
         TypedNode::Variable(v) => {
@@ -198,8 +191,6 @@ fn lower_left<'a>(
             let t = lower_new(alloc, b, c, x)?;
             Ok(b.put(alloc, span, d, Rvalue::Not(moved(alloc, t)))?)
         }
-        TypedNode::Assign(v, x) => lower_assign(alloc, b, c, span, *v, x, d),
-        TypedNode::Update(op, v, x) => lower_update(alloc, b, c, span, *op, *v, x, d),
         TypedNode::Call(f, es) => lower_call(alloc, b, c, span, *f, es, d),
         TypedNode::Block(ss) => lower_rest(alloc, b, c, false, span, ss, None, d),
         TypedNode::BlockWith(ss, last) => lower_rest(alloc, b, c, false, span, ss, Some(last), d),
@@ -235,68 +226,121 @@ fn lower_behind(
             Ok(b.put(alloc, span, d, value)?)
         }
         Behind::Lazy(op, right) => lower_lazy(alloc, b, c, span, op, x, right, d),
-        Behind::AssignValue(value) => {
-            b.put(alloc, span, x, Rvalue::Use(moved(alloc, value)))?;
-            Ok(b.put_unit(alloc, span, d)?)
-        }
-        Behind::UpdateValue(op, ty, value) => {
+        Behind::Assign(value) => Ok(put_assign(alloc, b, span, whole(alloc, x), value, d)?),
+        Behind::Update(op, ty, value) => {
             put_update(alloc, b, span, op, whole(alloc, x), ty, value, d)
         }
     }
 }
 
-/// `v = value`: the right side first.
+/// Whether the expression names a place, to which a value can be assigned.
+fn is_place(e: &TypedExpr) -> bool
+    ensures { result ≡ is_place e.now }
+{
+    match &*e.node {
+        TypedNode::Variable(_) => true,
+        _ => false,
+    }
+}
+
+/// The place that the expression names.
+fn lower_place(alloc: Global, scope: &[Place], e: &TypedExpr) -> Result<Place, NoMemory>
+    requires place { is_place e.now ≡ true }
+    requires scope { reach e.now ≤ length scope.now }
+    ensures { IfOk result (λ p. p ≡ place_of scope.now 0 e.now) }
+{
+    match &*e.node {
+        TypedNode::Variable(v) => variable_place(alloc, scope, *v),
+        _ => unreachable!(),
+    }
+}
+
+/// `to = value`: the value first. What names no place goes to a temporary.
 #[cycle(lower)]
-#[tactic(auto, using(crate::proofs::Runs::running))]
-fn lower_assign(
+#[tactic(auto, using(crate::proofs::Runs::running, crate::proofs::Targets::targets))]
+fn lower_assign<'a>(
     alloc: Global,
     b: &mut Builder,
     c: &mut Around,
     span: Span,
-    v: u32,
+    to: &'a TypedExpr,
     x: &TypedExpr,
     d: u32,
+    tasks: &mut Vec<Task<'a>>,
 ) -> Result<(), Stop>
-    requires scope { max (v + 1) (reach x.now) ≤ length c.old.scope.items }
-    ensures text { OnOk result (b.new.text ≡ written (into (assign unit span v x.now) (around c.old) b.old.labels (length b.old.text.locals) d) b.old.text) }
-    ensures labels { OnOk result (b.new.labels ≡ b.old.labels + labels (assign unit span v x.now)) }
-    ensures locals { OnOk result (length b.new.text.locals ≡ length b.old.text.locals + locals (assign unit span v x.now)) }
-    ensures limit { IfErr result (λ stop. stop ≡ Blocks → 4096 < b.old.labels + labels (assign unit span v x.now)) }
+    requires scope { max (reach to.now) (reach x.now) ≤ length c.old.scope.items }
+    ensures text { OnOk result (written (tasks_text (to_do tasks.new.items) (around c.old) b.new.labels (length b.new.text.locals)) b.new.text
+        ≡ written (into (assign unit span to.entry.now x.now) (around c.old) b.old.labels (length b.old.text.locals) d ++ tasks_text (to_do tasks.old.items) (around c.old) (b.old.labels + labels (assign unit span to.entry.now x.now)) (length b.old.text.locals + locals (assign unit span to.entry.now x.now))) b.old.text) }
+    ensures labels { OnOk result (b.new.labels + tasks_labels (to_do tasks.new.items) ≡ b.old.labels + labels (assign unit span to.entry.now x.now) + tasks_labels (to_do tasks.old.items)) }
+    ensures locals { OnOk result (length b.new.text.locals + tasks_locals (to_do tasks.new.items) ≡ length b.old.text.locals + locals (assign unit span to.entry.now x.now) + tasks_locals (to_do tasks.old.items)) }
+    ensures limit { IfErr result (λ stop. stop ≡ Blocks → 4096 < b.old.labels + labels (assign unit span to.entry.now x.now)) }
     ensures most { OnOk result (b.old.labels ≤ 4096 → b.new.labels ≤ 4096) }
     ensures around { OnOk result (around c.new ≡ around c.old) }
     ensures count { OnOk result (length c.new.scope.items ≡ length c.old.scope.items) }
+    ensures size { OnOk result (tasks_size (to_do tasks.new.items) ≤ max (typed_size (assign unit span to.entry.now x.now)) (tasks_size (to_do tasks.old.items))) }
+    ensures reach { OnOk result (tasks_reach (to_do tasks.new.items) ≤ max (reach (assign unit span to.entry.now x.now)) (tasks_reach (to_do tasks.old.items))) }
+    ensures weight { OnOk result (tasks_weight (to_do tasks.new.items) < 2 * typed_size (assign unit span to.entry.now x.now) + tasks_weight (to_do tasks.old.items)) }
 {
-    let t = lower_new(alloc, b, c, x)?;
-    let to = variable_place(alloc, c.scope.as_slice(), v)?;
-    b.put_at(span, to, Rvalue::Use(moved(alloc, t)))?;
-    Ok(b.put_unit(alloc, span, d)?)
+    let value = lower_new(alloc, b, c, x)?;
+    if !is_place(to) {
+        return push_left(alloc, b, span, to, d, Behind::Assign(value), tasks);
+    }
+    let place = lower_place(alloc, c.scope.as_slice(), to)?;
+    Ok(put_assign(alloc, b, span, place, value, d)?)
 }
 
-/// `v op= value`: the value first.
+/// `to op= value`, in the same way.
 #[cycle(lower)]
-#[tactic(auto, using(crate::proofs::Runs::running))]
-fn lower_update(
+#[tactic(auto, using(crate::proofs::Runs::running, crate::proofs::Targets::targets))]
+fn lower_update<'a>(
     alloc: Global,
     b: &mut Builder,
     c: &mut Around,
     span: Span,
     op: BinaryOp,
-    v: u32,
-    x: &TypedExpr,
+    to: &'a TypedExpr,
+    x: &'a TypedExpr,
     d: u32,
+    tasks: &mut Vec<Task<'a>>,
 ) -> Result<(), Stop>
-    requires scope { max (v + 1) (reach x.now) ≤ length c.old.scope.items }
-    ensures text { OnOk result (b.new.text ≡ written (into (update unit span op v x.now) (around c.old) b.old.labels (length b.old.text.locals) d) b.old.text) }
-    ensures labels { OnOk result (b.new.labels ≡ b.old.labels + labels (update unit span op v x.now)) }
-    ensures locals { OnOk result (length b.new.text.locals ≡ length b.old.text.locals + locals (update unit span op v x.now)) }
-    ensures limit { IfErr result (λ stop. stop ≡ Blocks → 4096 < b.old.labels + labels (update unit span op v x.now)) }
+    requires scope { max (reach to.now) (reach x.now) ≤ length c.old.scope.items }
+    ensures text { OnOk result (written (tasks_text (to_do tasks.new.items) (around c.old) b.new.labels (length b.new.text.locals)) b.new.text
+        ≡ written (into (update unit span op to.entry.now x.now) (around c.old) b.old.labels (length b.old.text.locals) d ++ tasks_text (to_do tasks.old.items) (around c.old) (b.old.labels + labels (update unit span op to.entry.now x.now)) (length b.old.text.locals + locals (update unit span op to.entry.now x.now))) b.old.text) }
+    ensures labels { OnOk result (b.new.labels + tasks_labels (to_do tasks.new.items) ≡ b.old.labels + labels (update unit span op to.entry.now x.now) + tasks_labels (to_do tasks.old.items)) }
+    ensures locals { OnOk result (length b.new.text.locals + tasks_locals (to_do tasks.new.items) ≡ length b.old.text.locals + locals (update unit span op to.entry.now x.now) + tasks_locals (to_do tasks.old.items)) }
+    ensures limit { IfErr result (λ stop. stop ≡ Blocks → 4096 < b.old.labels + labels (update unit span op to.entry.now x.now)) }
     ensures most { OnOk result (b.old.labels ≤ 4096 → b.new.labels ≤ 4096) }
     ensures around { OnOk result (around c.new ≡ around c.old) }
     ensures count { OnOk result (length c.new.scope.items ≡ length c.old.scope.items) }
+    ensures size { OnOk result (tasks_size (to_do tasks.new.items) ≤ max (typed_size (update unit span op to.entry.now x.now)) (tasks_size (to_do tasks.old.items))) }
+    ensures reach { OnOk result (tasks_reach (to_do tasks.new.items) ≤ max (reach (update unit span op to.entry.now x.now)) (tasks_reach (to_do tasks.old.items))) }
+    ensures weight { OnOk result (tasks_weight (to_do tasks.new.items) < 2 * typed_size (update unit span op to.entry.now x.now) + tasks_weight (to_do tasks.old.items)) }
 {
-    let t = lower_new(alloc, b, c, x)?;
-    let to = variable_place(alloc, c.scope.as_slice(), v)?;
-    put_update(alloc, b, span, op, to, type_of(x), t, d)
+    let value = lower_new(alloc, b, c, x)?;
+    if !is_place(to) {
+        let behind = Behind::Update(op, type_of(x), value);
+        return push_left(alloc, b, span, to, d, behind, tasks);
+    }
+    let place = lower_place(alloc, c.scope.as_slice(), to)?;
+    put_update(alloc, b, span, op, place, type_of(x), value, d)
+}
+
+/// `to = value`: the value is in local `t`, and `d` gets the unit.
+#[tactic(auto, using(crate::proofs::Runs::running))]
+fn put_assign(
+    alloc: Global,
+    b: &mut Builder,
+    span: Span,
+    to: Place,
+    t: u32,
+    d: u32,
+) -> Result<(), NoMemory>
+    ensures text { OnOk result (b.new.text ≡ written (puts_at span to (Use (moved t)) ∷ put_unit span d ∷ []) b.old.text) }
+    ensures labels { OnOk result (b.new.labels ≡ b.old.labels) }
+    ensures locals { OnOk result (length b.new.text.locals ≡ length b.old.text.locals) }
+{
+    b.put_at(span, to, Rvalue::Use(moved(alloc, t)))?;
+    b.put_unit(alloc, span, d)
 }
 
 /// `to op= value`: the value is in local `t`, and `d` gets the unit.

@@ -11,10 +11,10 @@ pub(crate) enum Behind<'a> {
     /// The right operand.
     Binary(BinaryOp, &'a TypedExpr),
     Lazy(LazyOp, &'a TypedExpr),
-    /// The local of the value that is assigned.
-    AssignValue(u32),
-    /// The same, and its type.
-    UpdateValue(BinaryOp, &'a Ty, u32),
+    /// The local of the value that is assigned. The left operand names no place: its value is lost.
+    Assign(u32),
+    /// The same, and the type of the value.
+    Update(BinaryOp, &'a Ty, u32),
 }
 
 /// An expression whose left operand is lowered before the rest of it.

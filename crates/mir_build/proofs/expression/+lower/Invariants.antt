@@ -28,10 +28,10 @@ abbrev pub decreases-lower_new : goal.decreases-lower_new
 decreases-lower_new l = 8 * typed_size l.e.now + 3
 
 abbrev pub decreases-lower_assign : goal.decreases-lower_assign
-decreases-lower_assign l = 8 * typed_size l.x.now + 5
+decreases-lower_assign l = 8 * max (typed_size l.to.now) (typed_size l.x.now) + 5
 
 abbrev pub decreases-lower_update : goal.decreases-lower_update
-decreases-lower_update l = 8 * typed_size l.x.now + 5
+decreases-lower_update l = 8 * max (typed_size l.to.now) (typed_size l.x.now) + 5
 
 abbrev pub decreases-lower_branch : goal.decreases-lower_branch
 decreases-lower_branch l = 8 * max (typed_size l.x.now) (typed_size l.y.now) + 5
