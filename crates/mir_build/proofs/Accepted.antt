@@ -11,7 +11,7 @@ use Rattle.type_check.specs.declared.program.TypedFunction.{TypedFunction}
 use Rattle.type_check.specs.Answers.{or_else}
 use Rattle.type_check.specs.FirstBad.{bad_of, bad_among, bad_clause, bad_in_function}
 use Rattle.mir_build.specs.Lowering.{Formula, accepted, formulas_of, picked, contract_over, HasContract}
-use Rattle.mir_build.specs.Numbered.{formulas}
+use Rattle.mir_build.specs.Numbered.{formula_of}
 use Rattle.mir_build.specs.Whole.{contract_of}
 
 -- ---- nothing is refused
@@ -24,16 +24,22 @@ pub second_none : (a b : Option SourceError) → or_else a b ≡ None → b ≡ 
 second_none None b e = e
 second_none (Some x) b e = absurd (cc)
 
+pub both_none : (a b : Option SourceError) → a ≡ None → b ≡ None → or_else a b ≡ None
+both_none None b e g = g
+both_none (Some x) b e g = absurd (cc)
+
+pub ruleset refusals = (first_none, second_none, both_none)
+
 -- ---- the formulas of assertions
 
-formulas_accepted : (fs : List Formula) → formulas (map accepted fs) ≡ fs
+formulas_accepted : (fs : List Formula) → map formula_of (map accepted fs) ≡ fs
 formulas_accepted [] = refl
 formulas_accepted (f ∷ fs) = ap (λ gs. f ∷ gs) (formulas_accepted fs)
 
-pub formulas_are : (as' : List Assertion) (fs : List Formula) → as' ≡ map accepted fs → fs ≡ formulas as'
-formulas_are as' fs e = sym (ap formulas e ∙ formulas_accepted fs)
+pub formulas_are : (as' : List Assertion) (fs : List Formula) → as' ≡ map accepted fs → fs ≡ map formula_of as'
+formulas_are as' fs e = sym (ap (map formula_of) e ∙ formulas_accepted fs)
 
-pub all_accepted : (as' : List Assertion) → bad_among as' ≡ None → as' ≡ map accepted (formulas as')
+pub all_accepted : (as' : List Assertion) → bad_among as' ≡ None → as' ≡ map accepted (map formula_of as')
 all_accepted [] e = refl
 all_accepted (Good s t ∷ as') e = ap (λ bs. Good s t ∷ bs) (all_accepted as' e)
 all_accepted (Bad x ∷ as') e = absurd (cc)
@@ -54,8 +60,8 @@ none_bad k (c ∷ cs) e = bad_picked k c.kind c.formula (formulas_of k cs) (firs
 
 pub has_contract : (f : TypedFunction) → bad_clause f.clauses ≡ None → HasContract f (contract_of f)
 has_contract f e = record {
-  before = formulas (formulas_of Requires f.clauses);
-  behind = formulas (formulas_of Ensures f.clauses);
+  before = map formula_of (formulas_of Requires f.clauses);
+  behind = map formula_of (formulas_of Ensures f.clauses);
   are_before = all_accepted (formulas_of Requires f.clauses) (none_bad Requires f.clauses e);
   are_behind = all_accepted (formulas_of Ensures f.clauses) (none_bad Ensures f.clauses e);
   is = refl;

@@ -1,14 +1,15 @@
 -- Formulas of lists, from the i-th place on.
-use Rattle.std.proofs.Common.{◌≡◌, ◌<◌, refl, ap, sym, ◌∙◌, get_or, add-one, drop-cons, ℕ, ◌+◌, List, [], ◌∷◌, ◌++◌, drop, length, map}
+use Rattle.std.proofs.Common.{◌≡◌, ◌<◌, refl, ap, sym, ◌∙◌, get_or, add-one, drop-cons, ℕ, zero, suc, ◌+◌, None, arith, List, [], ◌∷◌, ◌++◌, drop, length, map}
 use Rattle.logic_term.specs.declared.subst.Replacement.{Replacement}
 use Rattle.type_check.specs.declared.program.ClauseKind.{ClauseKind}
 use Rattle.type_check.specs.declared.program.ClauseKind.TheVariants.{Requires, Ensures}
 use Rattle.type_check.specs.declared.assertion.Assertion.{Assertion}
-use Rattle.type_check.specs.declared.assertion.Assertion.TheVariants.{Good, Bad}
 use Rattle.type_check.specs.declared.program.TypedClause.{TypedClause}
+use Rattle.type_check.specs.FirstBad.{bad_of, bad_among, bad_clause}
 use Rattle.mir_build.specs.Lowering.{Formula, term_of, formula_span, formulas_of, picked}
-use Rattle.mir_build.specs.Numbered.{formulas}
+use Rattle.mir_build.specs.Numbered.{formula_of}
 use Rattle.mir_build.specs.Built.{term_with}
+use Rattle.mir_build.proofs.Accepted.{first_none, second_none}
 
 drop_at : {A : Type 0} (xs : List A) (i : ℕ) (d : A) → i < length xs → drop i xs ≡ get_or xs i d ∷ drop (i + 1) xs
 drop_at xs i d h = rw (add-one, drop-cons xs i d h) refl
@@ -18,36 +19,48 @@ this_at xs i x q h = drop_at xs i x h ∙ ap (λ y. y ∷ drop (i + 1) xs) (sym 
 
 -- ---- of assertions
 
-first_formula : {B : Type 0} (v : Formula → B) (a : Assertion) (rest : List Assertion) → map v (formulas (a ∷ rest)) ≡ map v (formulas (a ∷ [])) ++ map v (formulas rest)
-first_formula v (Good s t) rest = refl
-first_formula v (Bad e) rest = refl
+module _ (as' : List Assertion) (i : ℕ) (a : Assertion) (q : a ≡ get_or as' i a) (h : i < length as') where
+  mapped_at : {B : Type 0} (v : Formula → B) → map v (map formula_of (drop i as')) ≡ v (formula_of a) ∷ map v (map formula_of (drop (i + 1) as'))
+  mapped_at v = ap (λ bs. map v (map formula_of bs)) (this_at as' i a q h)
 
-from : {B : Type 0} (v : Formula → B) (as' : List Assertion) (i : ℕ) (a : Assertion) → a ≡ get_or as' i a → i < length as' → map v (formulas (drop i as')) ≡ map v (formulas (a ∷ [])) ++ map v (formulas (drop (i + 1) as'))
-from v as' i a q h = ap (λ bs. map v (formulas bs)) (this_at as' i a q h) ∙ first_formula v a (drop (i + 1) as')
+  pub invariants_at : (sub : List Replacement) → map (term_with sub) (map formula_of (drop i as')) ≡ term_with sub (formula_of a) ∷ map (term_with sub) (map formula_of (drop (i + 1) as'))
+  invariants_at sub = mapped_at (term_with sub)
 
-pub invariants_from : (sub : List Replacement) (as' : List Assertion) (i : ℕ) (a : Assertion) → a ≡ get_or as' i a → i < length as'
-    → map (term_with sub) (formulas (drop i as')) ≡ map (term_with sub) (formulas (a ∷ [])) ++ map (term_with sub) (formulas (drop (i + 1) as'))
-invariants_from sub as' i a q h = from (term_with sub) as' i a q h
+  pub invariant_spans_at : map formula_span (map formula_of (drop i as')) ≡ formula_span (formula_of a) ∷ map formula_span (map formula_of (drop (i + 1) as'))
+  invariant_spans_at = mapped_at formula_span
 
-pub invariant_spans_from : (as' : List Assertion) (i : ℕ) (a : Assertion) → a ≡ get_or as' i a → i < length as' → map formula_span (formulas (drop i as')) ≡ map formula_span (formulas (a ∷ [])) ++ map formula_span (formulas (drop (i + 1) as'))
-invariant_spans_from as' i a q h = from formula_span as' i a q h
+among_at : (as' : List Assertion) (i : ℕ) (d : Assertion) → i < length as' → bad_among as' ≡ None → bad_of (get_or as' i d) ≡ None
+among_at [] i d h g = absurd (omega arith)
+among_at (a ∷ as') zero d h g = first_none (bad_of a) (bad_among as') g
+among_at (a ∷ as') (suc i) d h g = among_at as' i d (omega arith) (second_none (bad_of a) (bad_among as') g)
+
+pub formula_good : (as' : List Assertion) (i : ℕ) (a : Assertion) → a ≡ get_or as' i a → i < length as' → bad_among as' ≡ None → bad_of a ≡ None
+formula_good as' i a q h g = ap bad_of q ∙ among_at as' i a h g
 
 -- ---- of clauses
 
-picked_first : {B : Type 0} (v : Formula → B) (k l : ClauseKind) (a : Assertion) (rest : List Assertion) → map v (formulas (picked k l a rest)) ≡ map v (formulas (picked k l a [])) ++ map v (formulas rest)
-picked_first v Requires Requires a rest = first_formula v a rest
+picked_first : {B : Type 0} (v : Formula → B) (k l : ClauseKind) (a : Assertion) (rest : List Assertion) → map v (map formula_of (picked k l a rest)) ≡ map v (map formula_of (picked k l a [])) ++ map v (map formula_of rest)
+picked_first v Requires Requires a rest = refl
 picked_first v Requires Ensures a rest = refl
 picked_first v Ensures Requires a rest = refl
-picked_first v Ensures Ensures a rest = first_formula v a rest
+picked_first v Ensures Ensures a rest = refl
 
-clauses_at : {B : Type 0} (v : Formula → B) (k : ClauseKind) (cs : List TypedClause) (i : ℕ) (c : TypedClause) → c ≡ get_or cs i c → i < length cs
-    → map v (formulas (formulas_of k (drop i cs))) ≡ map v (formulas (picked k c.kind c.formula [])) ++ map v (formulas (formulas_of k (drop (i + 1) cs)))
-clauses_at v k cs i c q h = ap (λ ds. map v (formulas (formulas_of k ds))) (this_at cs i c q h) ∙ picked_first v k c.kind c.formula _
+module _ (k : ClauseKind) (cs : List TypedClause) (i : ℕ) (c : TypedClause) (q : c ≡ get_or cs i c) (h : i < length cs) where
+  clauses_at : {B : Type 0} (v : Formula → B) → map v (map formula_of (formulas_of k (drop i cs))) ≡ map v (map formula_of (picked k c.kind c.formula [])) ++ map v (map formula_of (formulas_of k (drop (i + 1) cs)))
+  clauses_at v = ap (λ ds. map v (map formula_of (formulas_of k ds))) (this_at cs i c q h) ∙ picked_first v k c.kind c.formula _
 
-pub formulas_from : (k : ClauseKind) (cs : List TypedClause) (i : ℕ) (c : TypedClause) → c ≡ get_or cs i c → i < length cs
-    → map term_of (formulas (formulas_of k (drop i cs))) ≡ map term_of (formulas (picked k c.kind c.formula [])) ++ map term_of (formulas (formulas_of k (drop (i + 1) cs)))
-formulas_from k cs i c q h = clauses_at term_of k cs i c q h
+  pub formulas_at : map term_of (map formula_of (formulas_of k (drop i cs))) ≡ map term_of (map formula_of (picked k c.kind c.formula [])) ++ map term_of (map formula_of (formulas_of k (drop (i + 1) cs)))
+  formulas_at = clauses_at term_of
 
-pub spans_from : (k : ClauseKind) (cs : List TypedClause) (i : ℕ) (c : TypedClause) → c ≡ get_or cs i c → i < length cs
-    → map formula_span (formulas (formulas_of k (drop i cs))) ≡ map formula_span (formulas (picked k c.kind c.formula [])) ++ map formula_span (formulas (formulas_of k (drop (i + 1) cs)))
-spans_from k cs i c q h = clauses_at formula_span k cs i c q h
+  pub spans_at : map formula_span (map formula_of (formulas_of k (drop i cs))) ≡ map formula_span (map formula_of (picked k c.kind c.formula [])) ++ map formula_span (map formula_of (formulas_of k (drop (i + 1) cs)))
+  spans_at = clauses_at formula_span
+
+clause_at : (cs : List TypedClause) (i : ℕ) (d : TypedClause) → i < length cs → bad_clause cs ≡ None → bad_of (get_or cs i d).formula ≡ None
+clause_at [] i d h g = absurd (omega arith)
+clause_at (c ∷ cs) zero d h g = first_none (bad_of c.formula) (bad_clause cs) g
+clause_at (c ∷ cs) (suc i) d h g = clause_at cs i d (omega arith) (second_none (bad_of c.formula) (bad_clause cs) g)
+
+pub clause_good : (cs : List TypedClause) (i : ℕ) (c : TypedClause) → c ≡ get_or cs i c → i < length cs → bad_clause cs ≡ None → bad_of c.formula ≡ None
+clause_good cs i c q h g = ap (λ (x : TypedClause). bad_of x.formula) q ∙ clause_at cs i c h g
+
+pub ruleset formulas = (invariants_at, invariant_spans_at, formula_good, formulas_at, spans_at, clause_good)

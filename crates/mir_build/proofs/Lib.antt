@@ -5,6 +5,7 @@ pub mod Bindings
 pub mod BodyTexts
 pub mod Clauses
 pub mod Following
+pub mod Good
 pub mod LawBlocks
 pub mod LawContracts
 pub mod LawFlow

@@ -15,7 +15,7 @@ use Rattle.type_check.specs.WellTyped.{IsWellTyped, StatementsFit, ArgumentsFit}
 use Rattle.mir_build.specs.Lowering.{is_place, Around, accepted, whole, binds, looping, Into, of_integer, of_truth, of_variable, of_negative, of_denied, of_binary, of_lazy, of_assign, of_update, of_call, of_block, of_branch}
 use Rattle.mir_build.specs.Lowering.{of_choice, of_repeat, Rest, of_done, of_last, of_bind, of_run, Args, of_none, of_more, PlaceOf, of_name, of_temporary, IntoBody, of_outermost, of_other, named, named_place, named_rest, named_args, named_body}
 use Rattle.mir_build.specs.Text.{Line}
-use Rattle.mir_build.specs.Numbered.{place_of, temporary_text, formulas, into, rest, args, body_text, labels, labels_in, locals, temporaries, label, variable_place, between}
+use Rattle.mir_build.specs.Numbered.{place_of, temporary_text, formula_of, into, rest, args, body_text, labels, labels_in, locals, temporaries, label, variable_place, between}
 use Rattle.mir_build.proofs.Accepted.{first_none, second_none, all_accepted}
 use Rattle.mir_build.proofs.Order.{numbers_of}
 use Rattle.mir_build.proofs.Following.{From, then_three}
@@ -64,11 +64,11 @@ target σ Γ (variable ty s v) c l t h w p = (of_name _ (in_scope Γ c.scope v t
 target σ Γ e c l t h w p = (of_temporary refl p.0, p.1)
 
 -- a loop, by its condition and its body
-looped : (ty : Ty) (s : Span) (is : List Assertion) (e b : TypedExpr) (c : Around) (l t d : ℕ) → is ≡ map accepted (formulas is) → Lowered (looping c (label l)) e t (l + 3) (into e (looping c (label l)) (l + 3) (t + 1) t)
+looped : (ty : Ty) (s : Span) (is : List Assertion) (e b : TypedExpr) (c : Around) (l t d : ℕ) → is ≡ map accepted (map formula_of is) → Lowered (looping c (label l)) e t (l + 3) (into e (looping c (label l)) (l + 3) (t + 1) t)
     → Lowered (looping c (label l)) b (t + 1 + locals e) (l + 3 + labels e) (into b (looping c (label l)) (l + 3 + labels e) (t + 1 + locals e + 1) (t + 1 + locals e))
     → Lowered c (repeat ty s is e b) d l (into (repeat ty s is e b) c l t d)
 looped ty s is e b c l t d g p q =
-    let row : Lowered c (repeat ty s is e b) d l _ = (of_repeat (label l) (label (l + 1)) (label (l + 2)) (formulas is) g p.0 q.0, then_three l (named p.0 ++ named q.0) (labels_then p.0 (l + 3) (named q.0) p.1 q.1)) in
+    let row : Lowered c (repeat ty s is e b) d l _ = (of_repeat (label l) (label (l + 1)) (label (l + 2)) (map formula_of is) g p.0 q.0, then_three l (named p.0 ++ named q.0) (labels_then p.0 (l + 3) (named q.0) p.1 q.1)) in
     let own = own_locals t (locals e) (locals b) _ _ (numbers_of e (looping c (label l)) (l + 3) (t + 1) t) (numbers_of b (looping c (label l)) (l + 3 + labels e) (t + 1 + locals e + 1) (t + 1 + locals e)) in
     rw own at row
 

@@ -8,6 +8,7 @@ use Rattle.type_check.specs.TypedExprFalls.{each_smaller}
 use Rattle.mir_build.specs.declared.builder.BodyText.{BodyText}
 use Rattle.mir_build.specs.Text.{Line, Puts, Makes, Turns, Leaves, Owns}
 use Rattle.mir_build.specs.Built.{written}
+use Rattle.mir_build.proofs.Accepted.{first_none, second_none, both_none}
 use Rattle.mir_build.proofs.Arguments.{each_reaches}
 
 pub written-append : (xs ys : List Line) (x : BodyText) → written (xs ++ ys) x ≡ written ys (written xs x)
@@ -31,4 +32,4 @@ take_front xs x =
     let n : length (xs ++ x ∷ []) - 1 ≡ length xs = omega (arith, length-append xs (x ∷ [])) in
     rw n (take-append_seam xs (x ∷ []))
 
-pub ruleset running = (written-append, take_front, each_smaller, each_reaches)
+pub ruleset running = (written-append, take_front, each_smaller, each_reaches, first_none, second_none, both_none)

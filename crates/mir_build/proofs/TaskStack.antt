@@ -1,11 +1,12 @@
 -- One step of the walk down operands on the left.
-use Rattle.std.proofs.Common.{◌≡◌, ℕ, ◌+◌, max, List, [], ◌∷◌, ◌++◌, ◌∙◌, ap}
+use Rattle.std.proofs.Common.{◌≡◌, ℕ, ◌+◌, max, List, [], ◌∷◌, ◌++◌, ◌∙◌, ap, sym, None}
 use Rattle.std.proofs.lemmas.List.{reverse-append}
 use Rattle.mir_build.specs.declared.builder.BodyText.{BodyText}
 use Rattle.mir_build.specs.declared.task.Task.{Task}
 use Rattle.mir_build.specs.Lowering.{Around}
 use Rattle.mir_build.specs.Built.{written}
-use Rattle.mir_build.specs.Tasks.{to_do, task_text, task_labels, task_locals, task_size, task_reach, tasks_text, tasks_labels, tasks_locals, tasks_size, tasks_reach}
+use Rattle.mir_build.proofs.Accepted.{first_none, second_none}
+use Rattle.mir_build.specs.Tasks.{to_do, task_text, task_labels, task_locals, task_size, task_reach, tasks_text, tasks_labels, tasks_locals, tasks_size, tasks_reach, task_bad, tasks_bad}
 
 pub pushed : (ts : List Task) (t : Task) → to_do (ts ++ t ∷ []) ≡ t ∷ to_do ts
 pushed ts t = reverse-append ts (t ∷ [])
@@ -28,3 +29,8 @@ module _ (old rest : List Task) (t : Task) (e : old ≡ rest ++ t ∷ []) where
 
   pub popped_size : tasks_size (to_do old) ≡ max (task_size t) (tasks_size (to_do rest))
   popped_size = ap tasks_size popped
+
+  pub popped_good : tasks_bad (to_do old) ≡ None → (task_bad t ≡ None) × (tasks_bad (to_do rest) ≡ None)
+  popped_good h =
+      let both = ap tasks_bad (sym popped) ∙ h in
+      (first_none _ _ both, second_none _ _ both)

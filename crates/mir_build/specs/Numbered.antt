@@ -4,6 +4,7 @@ use Rattle.std.specs.Prelude.{ℕ, ◌+◌, ◌-◌, Bool, true, false, List, []
 use Rattle.std.specs.List.{range_with_len}
 use Rattle.text_core.specs.declared.span.Span.{Span}
 use Rattle.logic_term.specs.declared.kinds.Label.{Label}
+use Rattle.logic_term.specs.Term as term
 use Rattle.logic_term.specs.Ty.{Ty}
 use Rattle.mir_ir.specs.declared.place.Lit.TheVariants as lit
 use Rattle.mir_ir.specs.declared.place.Operand.TheVariants.{Copy}
@@ -29,11 +30,10 @@ variable_place scope v = get_or scope v (whole 0)
 abbrev pub between : ℕ → ℕ → List ℕ
 between m n = range_with_len m (n - m)
 
--- the formulas among assertions: where none is refused, all of them
-abbrev pub formulas : List Assertion → List Formula
-formulas [] = []
-formulas (Good s t ∷ as') = record { span = s; term = t } ∷ formulas as'
-formulas (Bad e ∷ as') = formulas as'
+-- the formula of an assertion that is not refused; of another one nothing is asked
+abbrev pub formula_of : Assertion → Formula
+formula_of (Good s t) = record { span = s; term = t }
+formula_of (Bad e) = record { span = e.span; term = term.truth true }
 
 -- ---- what an assignment writes
 
@@ -156,7 +156,7 @@ abbrev mutual
   into (repeat ty s is e b) c l t d =
       let inside = looping c (label l) in
       let u = t + 1 + locals e in
-      Turns (ends s (Goto (label l))) (at_head inside (label l) (head_of c (formulas is))) ∷ Makes t (ty_of e) ∷ (into e inside (l + 3) (t + 1) t
+      Turns (ends s (Goto (label l))) (at_head inside (label l) (head_of c (map formula_of is))) ∷ Makes t (ty_of e) ∷ (into e inside (l + 3) (t + 1) t
       ++ Turns (ends s (If (moved t) (label (l + 1)) (label (l + 2)))) (at inside (label (l + 1))) ∷ Makes u (ty_of b)
       ∷ (into b inside (l + 3 + labels e) (u + 1) u ++ Turns (ends s (Goto (label l))) (at c (label (l + 2))) ∷ Owns (label l) (between t (u + 1 + locals b)) ∷ put_unit s d ∷ []))
 

@@ -1,9 +1,12 @@
 -- A walk down the left operands of an expression, with a stack of what is to be done: the text that is still to be written, with the
 -- numbers that the code gives. Contracts of the code alone speak of it.
-use Rattle.std.specs.Prelude.{ℕ, suc, ◌+◌, ◌*◌, max, List, [], ◌∷◌, ◌++◌, reverse}
+use Rattle.std.specs.Prelude.{ℕ, suc, ◌+◌, ◌*◌, max, List, [], ◌∷◌, ◌++◌, reverse, Option, None}
+use Rattle.text_core.specs.declared.refusal.SourceError.{SourceError}
 use Rattle.text_core.specs.declared.span.Span.{Span}
 use Rattle.source_kinds.specs.declared.kinds.LazyOp.{LazyOp}
 use Rattle.mir_ir.specs.declared.statement.Rvalue.TheVariants.{Use, Binary}
+use Rattle.type_check.specs.Answers.{or_else}
+use Rattle.type_check.specs.FirstBad.{bad_in}
 use Rattle.type_check.specs.TypedExpr.{TypedExpr}
 use Rattle.type_check.specs.TypedExprView.{ty_of, typed_size}
 use Rattle.mir_build.specs.declared.task.Behind.{Behind}
@@ -50,6 +53,13 @@ behind_reach (behind.Binary op b) = reach b.now
 behind_reach (behind.Lazy op b) = reach b.now
 behind_reach (behind.Assign v) = 0
 behind_reach (behind.Update op ty v) = 0
+
+-- the first formula that is refused
+abbrev pub behind_bad : Behind → Option SourceError
+behind_bad (behind.Binary op b) = bad_in b.now
+behind_bad (behind.Lazy op b) = bad_in b.now
+behind_bad (behind.Assign v) = None
+behind_bad (behind.Update op ty v) = None
 
 -- ---- tasks
 
@@ -98,6 +108,15 @@ task_reach (Finish p) = behind_reach p.behind
 abbrev pub tasks_reach : List Task → ℕ
 tasks_reach [] = 0
 tasks_reach (t ∷ ts) = max (task_reach t) (tasks_reach ts)
+
+-- the first formula that is refused
+abbrev pub task_bad : Task → Option SourceError
+task_bad (Lower e d) = bad_in e.now
+task_bad (Finish p) = behind_bad p.behind
+
+abbrev pub tasks_bad : List Task → Option SourceError
+tasks_bad [] = None
+tasks_bad (t ∷ ts) = or_else (task_bad t) (tasks_bad ts)
 
 -- how much there is to do
 abbrev pub task_weight : Task → ℕ

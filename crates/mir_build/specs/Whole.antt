@@ -15,7 +15,7 @@ use Rattle.type_check.specs.TypedExprView.{span_of}
 use Rattle.mir_build.specs.declared.builder.BodyText.{BodyText}
 use Rattle.mir_build.specs.Text.{Line}
 use Rattle.mir_build.specs.Lowering.{around_body, entry_title, calls_of, counted, local_name, ends, formulas_of, contract_over}
-use Rattle.mir_build.specs.Numbered.{body_text, label, formulas}
+use Rattle.mir_build.specs.Numbered.{body_text, label, formula_of}
 use Rattle.mir_build.specs.Built.{written, started, ended}
 use Rattle.mir_ir.specs.declared.body.Bodies.{Bodies}
 
@@ -44,7 +44,7 @@ body_of σ id owner f x = record {
 }
 
 abbrev pub contract_of : TypedFunction → Contract
-contract_of f = contract_over f (formulas (formulas_of Requires f.clauses)) (formulas (formulas_of Ensures f.clauses))
+contract_of f = contract_over f (map formula_of (formulas_of Requires f.clauses)) (map formula_of (formulas_of Ensures f.clauses))
 
 abbrev pub HaveFewBlocks : Bodies → Type 0
 HaveFewBlocks bs = All (λ (b : Body). length b.blocks ≤ 4096) bs.bodies

@@ -1,7 +1,8 @@
 //! What stands around an expression, and the invariants of a loop there.
-ghost use Rattle.std.specs.Prelude.{◌≡◌, ◌∷◌, ◌++◌, [], ◌<◌, length, map, IfOk, OnOk};
+ghost use Rattle.std.specs.Prelude.{◌≡◌, ◌<◌, None, length, map, IfOk};
+ghost use Rattle.type_check.specs.FirstBad.{bad_of, bad_among};
 ghost use Rattle.mir_build.specs.Built.{around, term_with};
-ghost use Rattle.mir_build.specs.Numbered.{variable_place, formulas};
+ghost use Rattle.mir_build.specs.Numbered.{variable_place, formula_of};
 ghost use Rattle.mir_build.specs.Lowering.{local_name, term_of, formula_span, held, places_for, head_of};
 ghost use Rattle.type_check.specs.VariableNames.{variable_name, answer_name};
 
@@ -81,23 +82,25 @@ pub(crate) fn answer_name() -> Name
 
 // ---- formulas
 
-/// Puts the formula behind others.
-pub(crate) fn push_formula(all: &mut Items<Term>, assertion: &Assertion) -> Result<(), NoMemory>
-    ensures { OnOk result (all.new ≡ all.old ++ map term_of (formulas (assertion.now ∷ []))) }
+/// The term of a formula that is not refused.
+pub(crate) fn term_of(assertion: &Assertion) -> &Term
+    requires { bad_of assertion.now ≡ None }
+    ensures { result.now ≡ term_of (formula_of assertion.now) }
 {
     match assertion {
-        Assertion::Good(_, term) => all.push(term.share()?),
-        Assertion::Bad(_) => Ok(()),
+        Assertion::Good(_, term) => term,
+        Assertion::Bad(_) => unreachable!(),
     }
 }
 
-/// Puts the span of the formula behind others.
-pub(crate) fn push_span(all: &mut Items<Span>, assertion: &Assertion) -> Result<(), NoMemory>
-    ensures { OnOk result (all.new ≡ all.old ++ map formula_span (formulas (assertion.now ∷ []))) }
+/// The span of a formula that is not refused.
+pub(crate) fn formula_span(assertion: &Assertion) -> Span
+    requires { bad_of assertion.now ≡ None }
+    ensures { result ≡ formula_span (formula_of assertion.now) }
 {
     match assertion {
-        Assertion::Good(span, _) => all.push(*span),
-        Assertion::Bad(_) => Ok(()),
+        Assertion::Good(span, _) => *span,
+        Assertion::Bad(_) => unreachable!(),
     }
 }
 
@@ -125,50 +128,39 @@ fn places_for(alloc: Global, scope: &[Place]) -> Result<Vec<Replacement>, NoMemo
     Ok(all)
 }
 
-/// Puts the formula, with terms for names, behind others.
-fn push_with_terms(
-    alloc: Global,
-    all: &mut Items<Term>,
-    sub: &[Replacement],
-    assertion: &Assertion,
-) -> Result<(), NoMemory>
-    ensures { OnOk result (all.new ≡ all.old ++ map (term_with sub.now) (formulas (assertion.now ∷ []))) }
-{
-    match assertion {
-        Assertion::Good(_, term) => all.push(term.with(alloc, sub)?),
-        Assertion::Bad(_) => Ok(()),
-    }
-}
-
-#[tactic(auto, using(crate::proofs::Clauses::invariants_from))]
+/// The formulas, with terms for names.
+#[tactic(auto, using(crate::proofs::Clauses::formulas))]
 fn formulas_with_terms(
     alloc: Global,
     sub: &[Replacement],
     assertions: &[Assertion],
 ) -> Result<Items<Term>, NoMemory>
-    ensures { IfOk result (λ v. v ≡ map (term_with sub.now) (formulas assertions.now)) }
+    requires { bad_among assertions.now ≡ None }
+    ensures { IfOk result (λ v. v ≡ map (term_with sub.now) (map formula_of assertions.now)) }
 {
     let mut all = Items::new(alloc);
     for assertion in assertions {
-        push_with_terms(alloc, &mut all, sub, assertion)?;
+        all.push(term_of(assertion).with(alloc, sub)?)?;
     }
     Ok(all)
 }
 
-#[tactic(auto, using(crate::proofs::Clauses::invariant_spans_from))]
+#[tactic(auto, using(crate::proofs::Clauses::formulas))]
 fn formula_spans(alloc: Global, assertions: &[Assertion]) -> Result<Items<Span>, NoMemory>
-    ensures { IfOk result (λ v. v ≡ map formula_span (formulas assertions.now)) }
+    requires { bad_among assertions.now ≡ None }
+    ensures { IfOk result (λ v. v ≡ map formula_span (map formula_of assertions.now)) }
 {
     let mut all = Items::new(alloc);
     for assertion in assertions {
-        push_span(&mut all, assertion)?;
+        all.push(formula_span(assertion))?;
     }
     Ok(all)
 }
 
 /// The head of a loop with these invariants, which speak of the variables in scope.
 pub(crate) fn head_of(alloc: Global, c: &Around, assertions: &[Assertion]) -> Result<Head, NoMemory>
-    ensures { IfOk result (λ h. h ≡ head_of (around c.now) (formulas assertions.now)) }
+    requires { bad_among assertions.now ≡ None }
+    ensures { IfOk result (λ h. h ≡ head_of (around c.now) (map formula_of assertions.now)) }
 {
     let sub = places_for(alloc, c.scope.as_slice())?;
     let invariants = formulas_with_terms(alloc, sub.as_slice(), assertions)?;

@@ -1,12 +1,13 @@
 //! Contracts of functions, from their clauses.
-ghost use Rattle.std.specs.Prelude.{◌≡◌, [], ◌++◌, map, IfOk, OnOk};
+ghost use Rattle.std.specs.Prelude.{◌≡◌, [], ◌++◌, None, map, IfOk, OnOk};
+ghost use Rattle.type_check.specs.FirstBad.{bad_of, bad_clause};
 ghost use Rattle.type_check.specs.VariableNames.{variable_name};
 ghost use Rattle.type_check.specs.declared.program.ClauseKind.TheVariants.{Requires, Ensures};
 ghost use Rattle.mir_build.specs.Lowering.{counted, term_of, formula_span, formulas_of, picked};
-ghost use Rattle.mir_build.specs.Numbered.{formulas};
+ghost use Rattle.mir_build.specs.Numbered.{formula_of};
 ghost use Rattle.mir_build.specs.Whole.{contract_of};
 
-use crate::around::{answer_name, push_formula, push_span, variable_name};
+use crate::around::{answer_name, formula_span, term_of, variable_name};
 use logic_term::{Contract, Term, Ty};
 use std::alloc::Global;
 use text_core::{Items, Name, NoMemory, Span};
@@ -31,24 +32,26 @@ fn push_clause(
     kind: ClauseKind,
     clause: &TypedClause,
 ) -> Result<(), NoMemory>
-    ensures { OnOk result (all.new ≡ all.old ++ map term_of (formulas (picked kind clause.now.kind clause.now.formula []))) }
+    requires { bad_of clause.now.formula ≡ None }
+    ensures { OnOk result (all.new ≡ all.old ++ map term_of (map formula_of (picked kind clause.now.kind clause.now.formula []))) }
 {
     match (kind, clause.kind) {
-        (ClauseKind::Requires, ClauseKind::Requires) => push_formula(all, &clause.formula),
-        (ClauseKind::Ensures, ClauseKind::Ensures) => push_formula(all, &clause.formula),
+        (ClauseKind::Requires, ClauseKind::Requires) => all.push(term_of(&clause.formula).share()?),
+        (ClauseKind::Ensures, ClauseKind::Ensures) => all.push(term_of(&clause.formula).share()?),
         (ClauseKind::Requires, ClauseKind::Ensures) => Ok(()),
         (ClauseKind::Ensures, ClauseKind::Requires) => Ok(()),
     }
 }
 
 /// The formulas of the clauses of the kind.
-#[tactic(auto, using(crate::proofs::Clauses::formulas_from))]
+#[tactic(auto, using(crate::proofs::Clauses::formulas))]
 fn formulas_of(
     alloc: Global,
     kind: ClauseKind,
     clauses: &[TypedClause],
 ) -> Result<Items<Term>, NoMemory>
-    ensures { IfOk result (λ v. v ≡ map term_of (formulas (formulas_of kind clauses.now))) }
+    requires { bad_clause clauses.now ≡ None }
+    ensures { IfOk result (λ v. v ≡ map term_of (map formula_of (formulas_of kind clauses.now))) }
 {
     let mut all = Items::new(alloc);
     for clause in clauses {
@@ -63,24 +66,26 @@ fn push_clause_span(
     kind: ClauseKind,
     clause: &TypedClause,
 ) -> Result<(), NoMemory>
-    ensures { OnOk result (all.new ≡ all.old ++ map formula_span (formulas (picked kind clause.now.kind clause.now.formula []))) }
+    requires { bad_of clause.now.formula ≡ None }
+    ensures { OnOk result (all.new ≡ all.old ++ map formula_span (map formula_of (picked kind clause.now.kind clause.now.formula []))) }
 {
     match (kind, clause.kind) {
-        (ClauseKind::Requires, ClauseKind::Requires) => push_span(all, &clause.formula),
-        (ClauseKind::Ensures, ClauseKind::Ensures) => push_span(all, &clause.formula),
+        (ClauseKind::Requires, ClauseKind::Requires) => all.push(formula_span(&clause.formula)),
+        (ClauseKind::Ensures, ClauseKind::Ensures) => all.push(formula_span(&clause.formula)),
         (ClauseKind::Requires, ClauseKind::Ensures) => Ok(()),
         (ClauseKind::Ensures, ClauseKind::Requires) => Ok(()),
     }
 }
 
 /// Puts the spans of the formulas of the kind behind others.
-#[tactic(auto, using(crate::proofs::Clauses::spans_from))]
+#[tactic(auto, using(crate::proofs::Clauses::formulas))]
 fn push_spans(
     all: &mut Items<Span>,
     kind: ClauseKind,
     clauses: &[TypedClause],
 ) -> Result<(), NoMemory>
-    ensures { OnOk result (all.new ≡ all.old ++ map formula_span (formulas (formulas_of kind clauses.now))) }
+    requires { bad_clause clauses.now ≡ None }
+    ensures { OnOk result (all.new ≡ all.old ++ map formula_span (map formula_of (formulas_of kind clauses.now))) }
 {
     for clause in clauses {
         push_clause_span(all, kind, clause)?;
@@ -90,6 +95,7 @@ fn push_spans(
 
 /// The contract of a function, over the names of the variables that its parameters are.
 pub(crate) fn contract_of(alloc: Global, f: &TypedFunction) -> Result<Contract, NoMemory>
+    requires { bad_clause f.now.clauses ≡ None }
     ensures { IfOk result (λ c. c ≡ contract_of f.now) }
 {
     let clauses = f.clauses.as_slice();

@@ -1,6 +1,8 @@
 //! Lowering of expressions: what they add to the text of their body.
-ghost use Rattle.std.specs.Prelude.{true, ◌≡◌, ◌+◌, ◌^◌, ◌≤◌, ◌<◌, ◌*◌, max, ◌∷◌, ◌++◌, [], length, take, drop, map, OnOk, IfOk, IfErr};
+ghost use Rattle.std.specs.Prelude.{true, None, ◌≡◌, ◌+◌, ◌^◌, ◌≤◌, ◌<◌, ◌*◌, max, ◌∷◌, ◌++◌, [], length, take, drop, map, OnOk, IfOk, IfErr};
 ghost use Rattle.std.specs.Option.{option_copied};
+ghost use Rattle.type_check.specs.Answers.{or_else};
+ghost use Rattle.type_check.specs.FirstBad.{bad_among, bad_in, bad_in_exprs, bad_in_stmts};
 ghost use Rattle.type_check.specs.TypedExpr.{assign, update, branch, choice, repeat, call};
 ghost use Rattle.type_check.specs.TypedExprView.{ty_of, span_of, stmts_of, exprs_of, typed_size};
 ghost use Rattle.type_check.specs.WellTyped.{unit};
@@ -9,12 +11,12 @@ ghost use Rattle.mir_ir.specs.declared.statement.Rvalue.TheVariants.{Use, Binary
 ghost use Rattle.mir_ir.specs.declared.terminator.TerminatorKind.TheVariants.{Goto};
 ghost use Rattle.mir_build.specs.Text.{Makes, Turns, Owns};
 ghost use Rattle.mir_build.specs.Lowering.{moved, puts_at, puts, put_unit, ends, dies_in, at, at_head, looping, head_of, is_place};
-ghost use Rattle.mir_build.specs.Numbered.{formulas, place_of, into, rest, args, loop_text, between, temporaries, label, labels, labels_of, labels_in, locals, locals_of, locals_in};
+ghost use Rattle.mir_build.specs.Numbered.{formula_of, place_of, into, rest, args, loop_text, between, temporaries, label, labels, labels_of, labels_in, locals, locals_of, locals_in};
 ghost use Rattle.mir_build.specs.Reach.{reach, reach_of, reach_in};
 ghost use Rattle.mir_build.specs.Built.{written, around, outside, end_of};
 ghost use Rattle.mir_build.specs.Bindings.{all_die};
-ghost use Rattle.mir_build.specs.Tasks.{to_do, lazy_text, behind_labels, behind_locals, behind_reach, task_text, task_labels, task_locals, task_size, task_reach, task_weight};
-ghost use Rattle.mir_build.specs.Tasks.{tasks_text, tasks_labels, tasks_locals, tasks_size, tasks_reach, tasks_weight};
+ghost use Rattle.mir_build.specs.Tasks.{to_do, lazy_text, behind_labels, behind_locals, behind_reach, behind_bad, task_text, task_labels, task_locals, task_size, task_reach, task_bad, task_weight};
+ghost use Rattle.mir_build.specs.Tasks.{tasks_text, tasks_labels, tasks_locals, tasks_size, tasks_reach, tasks_bad, tasks_weight};
 ghost use Rattle.mir_build.specs.declared.task.Task.TheVariants.{Lower, Finish};
 ghost use Rattle.mir_build.specs.declared.stop.Stop.TheVariants.{Blocks};
 
@@ -48,6 +50,7 @@ pub(crate) fn value_span(e: &TypedExpr) -> Span
 #[tactic(auto, using(crate::proofs::Runs::running))]
 fn lower_new(alloc: Global, b: &mut Builder, c: &mut Around, e: &TypedExpr) -> Result<u32, Stop>
     requires scope { reach e.now ≤ length c.old.scope.items }
+    requires good { bad_in e.now ≡ None }
     ensures number { IfOk result (λ t. t ≡ length b.old.text.locals) }
     ensures text { IfOk result (λ t. b.new.text ≡ written (Makes t (ty_of e.now) ∷ into e.now (around c.old) b.old.labels (t + 1) t) b.old.text) }
     ensures labels { OnOk result (b.new.labels ≡ b.old.labels + labels e.now) }
@@ -73,6 +76,7 @@ pub(crate) fn lower_into(
     d: u32,
 ) -> Result<(), Stop>
     requires scope { reach e.now ≤ length c.old.scope.items }
+    requires good { bad_in e.now ≡ None }
     ensures text { OnOk result (b.new.text ≡ written (into e.now (around c.old) b.old.labels (length b.old.text.locals) d) b.old.text) }
     ensures labels { OnOk result (b.new.labels ≡ b.old.labels + labels e.now) }
     ensures locals { OnOk result (length b.new.text.locals ≡ length b.old.text.locals + locals e.now) }
@@ -99,6 +103,7 @@ fn do_task<'a>(
     tasks: &mut Vec<Task<'a>>,
 ) -> Result<(), Stop>
     requires scope { task_reach task ≤ length c.old.scope.items }
+    requires good { task_bad task ≡ None }
     ensures text { OnOk result (written (tasks_text (to_do tasks.new.items) (around c.old) b.new.labels (length b.new.text.locals)) b.new.text
         ≡ written (task_text task.entry (around c.old) b.old.labels (length b.old.text.locals) ++ tasks_text (to_do tasks.old.items) (around c.old) (b.old.labels + task_labels task.entry) (length b.old.text.locals + task_locals task.entry)) b.old.text) }
     ensures labels { OnOk result (b.new.labels + tasks_labels (to_do tasks.new.items) ≡ b.old.labels + task_labels task.entry + tasks_labels (to_do tasks.old.items)) }
@@ -109,6 +114,7 @@ fn do_task<'a>(
     ensures count { OnOk result (length c.new.scope.items ≡ length c.old.scope.items) }
     ensures size { OnOk result (tasks_size (to_do tasks.new.items) ≤ max (task_size task.entry) (tasks_size (to_do tasks.old.items))) }
     ensures reach { OnOk result (tasks_reach (to_do tasks.new.items) ≤ max (task_reach task.entry) (tasks_reach (to_do tasks.old.items))) }
+    ensures good { OnOk result (tasks_bad (to_do tasks.old.items) ≡ None → tasks_bad (to_do tasks.new.items) ≡ None) }
     ensures weight { OnOk result (tasks_weight (to_do tasks.new.items) < task_weight task.entry + tasks_weight (to_do tasks.old.items)) }
 {
     match task {
@@ -157,6 +163,7 @@ fn lower_left<'a>(
     tasks: &mut Vec<Task<'a>>,
 ) -> Result<(), Stop>
     requires scope { reach e.now ≤ length c.old.scope.items }
+    requires good { bad_in e.now ≡ None }
     ensures text { OnOk result (written (tasks_text (to_do tasks.new.items) (around c.old) b.new.labels (length b.new.text.locals)) b.new.text
         ≡ written (into e.now (around c.old) b.old.labels (length b.old.text.locals) d ++ tasks_text (to_do tasks.old.items) (around c.old) (b.old.labels + labels e.now) (length b.old.text.locals + locals e.now)) b.old.text) }
     ensures labels { OnOk result (b.new.labels + tasks_labels (to_do tasks.new.items) ≡ b.old.labels + labels e.now + tasks_labels (to_do tasks.old.items)) }
@@ -167,6 +174,7 @@ fn lower_left<'a>(
     ensures count { OnOk result (length c.new.scope.items ≡ length c.old.scope.items) }
     ensures size { OnOk result (tasks_size (to_do tasks.new.items) ≤ max (typed_size e.now) (tasks_size (to_do tasks.old.items))) }
     ensures reach { OnOk result (tasks_reach (to_do tasks.new.items) ≤ max (reach e.now) (tasks_reach (to_do tasks.old.items))) }
+    ensures good { OnOk result (tasks_bad (to_do tasks.old.items) ≡ None → tasks_bad (to_do tasks.new.items) ≡ None) }
     ensures weight { OnOk result (tasks_weight (to_do tasks.new.items) < 2 * typed_size e.now + tasks_weight (to_do tasks.old.items)) }
 {
     let span = e.span;
@@ -210,6 +218,7 @@ fn lower_behind(
     pending: &Pending,
 ) -> Result<(), Stop>
     requires scope { behind_reach pending.now.behind ≤ length c.old.scope.items }
+    requires good { behind_bad pending.now.behind ≡ None }
     ensures text { OnOk result (b.new.text ≡ written (task_text (Finish pending.now) (around c.old) b.old.labels (length b.old.text.locals)) b.old.text) }
     ensures labels { OnOk result (b.new.labels ≡ b.old.labels + behind_labels pending.now.behind) }
     ensures locals { OnOk result (length b.new.text.locals ≡ length b.old.text.locals + behind_locals pending.now.behind) }
@@ -269,6 +278,7 @@ fn lower_assign<'a>(
     tasks: &mut Vec<Task<'a>>,
 ) -> Result<(), Stop>
     requires scope { max (reach to.now) (reach x.now) ≤ length c.old.scope.items }
+    requires good { or_else (bad_in to.now) (bad_in x.now) ≡ None }
     ensures text { OnOk result (written (tasks_text (to_do tasks.new.items) (around c.old) b.new.labels (length b.new.text.locals)) b.new.text
         ≡ written (into (assign unit span to.entry.now x.now) (around c.old) b.old.labels (length b.old.text.locals) d ++ tasks_text (to_do tasks.old.items) (around c.old) (b.old.labels + labels (assign unit span to.entry.now x.now)) (length b.old.text.locals + locals (assign unit span to.entry.now x.now))) b.old.text) }
     ensures labels { OnOk result (b.new.labels + tasks_labels (to_do tasks.new.items) ≡ b.old.labels + labels (assign unit span to.entry.now x.now) + tasks_labels (to_do tasks.old.items)) }
@@ -279,6 +289,7 @@ fn lower_assign<'a>(
     ensures count { OnOk result (length c.new.scope.items ≡ length c.old.scope.items) }
     ensures size { OnOk result (tasks_size (to_do tasks.new.items) ≤ max (typed_size (assign unit span to.entry.now x.now)) (tasks_size (to_do tasks.old.items))) }
     ensures reach { OnOk result (tasks_reach (to_do tasks.new.items) ≤ max (reach (assign unit span to.entry.now x.now)) (tasks_reach (to_do tasks.old.items))) }
+    ensures good { OnOk result (tasks_bad (to_do tasks.old.items) ≡ None → tasks_bad (to_do tasks.new.items) ≡ None) }
     ensures weight { OnOk result (tasks_weight (to_do tasks.new.items) < 2 * typed_size (assign unit span to.entry.now x.now) + tasks_weight (to_do tasks.old.items)) }
 {
     let value = lower_new(alloc, b, c, x)?;
@@ -304,6 +315,7 @@ fn lower_update<'a>(
     tasks: &mut Vec<Task<'a>>,
 ) -> Result<(), Stop>
     requires scope { max (reach to.now) (reach x.now) ≤ length c.old.scope.items }
+    requires good { or_else (bad_in to.now) (bad_in x.now) ≡ None }
     ensures text { OnOk result (written (tasks_text (to_do tasks.new.items) (around c.old) b.new.labels (length b.new.text.locals)) b.new.text
         ≡ written (into (update unit span op to.entry.now x.now) (around c.old) b.old.labels (length b.old.text.locals) d ++ tasks_text (to_do tasks.old.items) (around c.old) (b.old.labels + labels (update unit span op to.entry.now x.now)) (length b.old.text.locals + locals (update unit span op to.entry.now x.now))) b.old.text) }
     ensures labels { OnOk result (b.new.labels + tasks_labels (to_do tasks.new.items) ≡ b.old.labels + labels (update unit span op to.entry.now x.now) + tasks_labels (to_do tasks.old.items)) }
@@ -314,6 +326,7 @@ fn lower_update<'a>(
     ensures count { OnOk result (length c.new.scope.items ≡ length c.old.scope.items) }
     ensures size { OnOk result (tasks_size (to_do tasks.new.items) ≤ max (typed_size (update unit span op to.entry.now x.now)) (tasks_size (to_do tasks.old.items))) }
     ensures reach { OnOk result (tasks_reach (to_do tasks.new.items) ≤ max (reach (update unit span op to.entry.now x.now)) (tasks_reach (to_do tasks.old.items))) }
+    ensures good { OnOk result (tasks_bad (to_do tasks.old.items) ≡ None → tasks_bad (to_do tasks.new.items) ≡ None) }
     ensures weight { OnOk result (tasks_weight (to_do tasks.new.items) < 2 * typed_size (update unit span op to.entry.now x.now) + tasks_weight (to_do tasks.old.items)) }
 {
     let value = lower_new(alloc, b, c, x)?;
@@ -383,6 +396,7 @@ fn lower_lazy(
     d: u32,
 ) -> Result<(), Stop>
     requires scope { reach y.now ≤ length c.old.scope.items }
+    requires good { bad_in y.now ≡ None }
     ensures text { OnOk result (b.new.text ≡ written (lazy_text op y.now span t d (around c.old) b.old.labels (length b.old.text.locals)) b.old.text) }
     ensures labels { OnOk result (b.new.labels ≡ b.old.labels + 3 + labels y.now) }
     ensures locals { OnOk result (length b.new.text.locals ≡ length b.old.text.locals + locals y.now) }
@@ -426,6 +440,7 @@ fn lower_branch(
     d: u32,
 ) -> Result<(), Stop>
     requires scope { max (reach x.now) (reach y.now) ≤ length c.old.scope.items }
+    requires good { or_else (bad_in x.now) (bad_in y.now) ≡ None }
     ensures text { OnOk result (b.new.text ≡ written (into (branch unit span x.now y.now) (around c.old) b.old.labels (length b.old.text.locals) d) b.old.text) }
     ensures labels { OnOk result (b.new.labels ≡ b.old.labels + labels (branch unit span x.now y.now)) }
     ensures locals { OnOk result (length b.new.text.locals ≡ length b.old.text.locals + locals (branch unit span x.now y.now)) }
@@ -460,6 +475,7 @@ fn lower_choice(
     d: u32,
 ) -> Result<(), Stop>
     requires scope { max (reach x.now) (max (reach y.now) (reach z.now)) ≤ length c.old.scope.items }
+    requires good { or_else (bad_in x.now) (or_else (bad_in y.now) (bad_in z.now)) ≡ None }
     ensures text { OnOk result (b.new.text ≡ written (into (choice unit span x.now y.now z.now) (around c.old) b.old.labels (length b.old.text.locals) d) b.old.text) }
     ensures labels { OnOk result (b.new.labels ≡ b.old.labels + labels (choice unit span x.now y.now z.now)) }
     ensures locals { OnOk result (length b.new.text.locals ≡ length b.old.text.locals + locals (choice unit span x.now y.now z.now)) }
@@ -490,7 +506,8 @@ fn enter_loop(
     invariants: &[Assertion],
     head: u32,
 ) -> Result<(), NoMemory>
-    ensures text { OnOk result (b.new.text ≡ written (Turns (ends span (Goto (label head))) (at_head (looping (around c.old) (label head)) (label head) (head_of (around c.old) (formulas invariants.now))) ∷ []) b.old.text) }
+    requires { bad_among invariants.now ≡ None }
+    ensures text { OnOk result (b.new.text ≡ written (Turns (ends span (Goto (label head))) (at_head (looping (around c.old) (label head)) (label head) (head_of (around c.old) (map formula_of invariants.now))) ∷ []) b.old.text) }
     ensures locals { OnOk result (length b.new.text.locals ≡ length b.old.text.locals) }
     ensures labels { b.new.labels ≡ b.old.labels }
     ensures around { OnOk result (around c.new ≡ looping (around c.old) (label head)) }
@@ -543,6 +560,7 @@ fn lower_loop(
 ) -> Result<u32, Stop>
     requires small { head + 2 < 2 ^ 32 }
     requires scope { max (reach x.now) (reach y.now) ≤ length c.old.scope.items }
+    requires good { or_else (bad_in x.now) (bad_in y.now) ≡ None }
     ensures first { IfOk result (λ t. t ≡ length b.old.text.locals) }
     ensures text { OnOk result (b.new.text ≡ written (loop_text x.now y.now span (around c.old) head b.old.labels (length b.old.text.locals)) b.old.text) }
     ensures labels { OnOk result (b.new.labels ≡ b.old.labels + labels x.now + labels y.now) }
@@ -572,6 +590,7 @@ fn lower_repeat(
     d: u32,
 ) -> Result<(), Stop>
     requires scope { max (reach x.now) (reach y.now) ≤ length c.old.scope.items }
+    requires good { or_else (bad_among invariants.now) (or_else (bad_in x.now) (bad_in y.now)) ≡ None }
     ensures text { OnOk result (b.new.text ≡ written (into (repeat unit span invariants.now x.now y.now) (around c.old) b.old.labels (length b.old.text.locals) d) b.old.text) }
     ensures labels { OnOk result (b.new.labels ≡ b.old.labels + labels (repeat unit span invariants.now x.now y.now)) }
     ensures locals { OnOk result (length b.new.text.locals ≡ length b.old.text.locals + locals (repeat unit span invariants.now x.now y.now)) }
@@ -599,6 +618,7 @@ fn lower_call(
     d: u32,
 ) -> Result<(), Stop>
     requires scope { reach_in (exprs_of es.now) ≤ length c.old.scope.items }
+    requires good { bad_in_exprs (exprs_of es.now) ≡ None }
     ensures text { OnOk result (b.new.text ≡ written (into (call unit span f (exprs_of es.now)) (around c.old) b.old.labels (length b.old.text.locals) d) b.old.text) }
     ensures labels { OnOk result (b.new.labels ≡ b.old.labels + labels (call unit span f (exprs_of es.now))) }
     ensures locals { OnOk result (length b.new.text.locals ≡ length b.old.text.locals + locals (call unit span f (exprs_of es.now))) }
@@ -618,7 +638,7 @@ fn lower_call(
 
 /// The values of the arguments, each in a local of its own.
 #[cycle(lower)]
-#[tactic(auto, using(crate::proofs::Runs::running))]
+#[tactic(auto, using(crate::proofs::Runs::running, crate::proofs::Good::each_good))]
 fn lower_args(
     alloc: Global,
     b: &mut Builder,
@@ -626,6 +646,7 @@ fn lower_args(
     es: &[TypedExpr],
 ) -> Result<Items<Operand>, Stop>
     requires scope { reach_in (exprs_of es.now) ≤ length c.old.scope.items }
+    requires good { bad_in_exprs (exprs_of es.now) ≡ None }
     ensures text { OnOk result (b.new.text ≡ written (args (exprs_of es.now) (around c.old) b.old.labels (length b.old.text.locals)) b.old.text) }
     ensures labels { OnOk result (b.new.labels ≡ b.old.labels + labels_in (exprs_of es.now)) }
     ensures locals { OnOk result (length b.new.text.locals ≡ length b.old.text.locals + locals_in (exprs_of es.now)) }
@@ -645,7 +666,7 @@ fn lower_args(
 
 /// The statements of a block and its last expression. Bindings end with the block, but for the outermost block of a body.
 #[cycle(lower)]
-#[tactic(auto, using(crate::proofs::Runs::running, crate::proofs::Bindings::statement_smaller, crate::proofs::Bindings::end_smaller, crate::proofs::Scopes::statement_reaches, crate::proofs::Scopes::end_reaches))]
+#[tactic(auto, using(crate::proofs::Runs::running, crate::proofs::Bindings::statement_smaller, crate::proofs::Bindings::end_smaller, crate::proofs::Scopes::statement_reaches, crate::proofs::Scopes::end_reaches, crate::proofs::Good::statement_good, crate::proofs::Good::end_good))]
 pub(crate) fn lower_rest(
     alloc: Global,
     b: &mut Builder,
@@ -657,6 +678,7 @@ pub(crate) fn lower_rest(
     d: u32,
 ) -> Result<(), Stop>
     requires scope { reach_of (stmts_of statements.now (end_of (option_copied last))) ≤ length c.old.scope.items }
+    requires good { bad_in_stmts (stmts_of statements.now (end_of (option_copied last))) ≡ None }
     ensures text { OnOk result (b.new.text ≡ written (rest (stmts_of statements.now (end_of (option_copied last.entry))) outer span (around c.old) b.old.labels (length b.old.text.locals) d) b.old.text) }
     ensures labels { OnOk result (b.new.labels ≡ b.old.labels + labels_of (stmts_of statements.now (end_of (option_copied last.entry)))) }
     ensures locals { OnOk result (length b.new.text.locals ≡ length b.old.text.locals + locals_of (stmts_of statements.now (end_of (option_copied last.entry)))) }

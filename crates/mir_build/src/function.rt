@@ -71,7 +71,8 @@ fn lower_outermost(
     c: &mut Around,
     e: &TypedExpr,
 ) -> Result<(), Stop>
-    requires { reach e.now ≤ length c.old.scope.items }
+    requires scope { reach e.now ≤ length c.old.scope.items }
+    requires good { bad_in e.now ≡ None }
     ensures text { OnOk result (b.new.text ≡ written (body_text e.now (around c.old) b.old.labels (length b.old.text.locals)) b.old.text) }
     ensures labels { OnOk result (b.new.labels ≡ b.old.labels + labels e.now) }
     ensures limit { IfErr result (λ stop. stop ≡ Blocks → 4096 < b.old.labels + labels e.now) }
@@ -86,7 +87,8 @@ fn lower_outermost(
 
 /// The text of a function's body.
 fn lower_text(alloc: Global, f: &TypedFunction) -> Result<BodyText, Stop>
-    requires { reach f.now.body ≤ length f.now.signature.params }
+    requires scope { reach f.now.body ≤ length f.now.signature.params }
+    requires good { bad_in f.now.body ≡ None }
     ensures text { IfOk result (λ x. x ≡ built f.now) }
     ensures few { OnOk result (1 + labels f.now.body ≤ 4096) }
     ensures limit { IfErr result (λ stop. stop ≡ Blocks → 4096 < 1 + labels f.now.body) }
@@ -231,9 +233,10 @@ pub(crate) fn lower_function(
     id: u32,
     f: &TypedFunction,
 ) -> Result<(Body, Initialised), PassError>
-    requires { reach f.now.body ≤ length f.now.signature.params }
+    requires scope { reach f.now.body ≤ length f.now.signature.params }
+    requires good { bad_in f.now.body ≡ None }
     ensures named { IfOk result (λ r. text_of names.now f.now.name ≡ Some r.0.owner) }
-    ensures lowered { IfOk result (λ r. FunctionFits (signatures functions.now) f.now → bad_in f.now.body ≡ None → LowersTo (signatures functions.now) r.0.owner f.now r.0 r.1) }
+    ensures lowered { IfOk result (λ r. FunctionFits (signatures functions.now) f.now → LowersTo (signatures functions.now) r.0.owner f.now r.0 r.1) }
     ensures numbered { IfOk result (λ r. r.0.id ≡ id) }
     ensures few { IfOk result (λ r. length r.0.blocks ≤ 4096) }
     ensures limit { IfErr result (FailsFor (4096 < 1 + labels f.now.body)) }

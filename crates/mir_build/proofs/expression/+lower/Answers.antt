@@ -7,7 +7,7 @@ use Rattle.mir_build.specs.Numbered.{rest}
 use Rattle.mir_build.specs.Built.{written, around, end_of}
 use Rattle.mir_build.specs.Tasks.{to_do, tasks_text}
 use Rattle.mir_build.proofs.Scopes.{next_reaches}
-use Rattle.mir_build.proofs.TaskStack.{popped_text, popped_labels, popped_locals, popped_size, popped_reach}
+use Rattle.mir_build.proofs.TaskStack.{popped_text, popped_labels, popped_locals, popped_size, popped_reach, popped_good}
 use Rattle.mir_build.proofs.Runs.{running, args_at}
 use Rattle.mir_build.proofs.Statements.{around_behind, text_on, labels_at, locals_at, text_end, within_on, front_on, loops_on}
 use Rattle.mir_build.proofs.expression.+lower.Goals.{lower_rest-then-statement+in_ok-push, lower_rest-else-statement, lower_rest-in-None+in_ok-put_unit-in-None, lower_rest-in-Some+in_ok-lower_into-in-Some}
@@ -38,6 +38,7 @@ lower_into-loop-task-preserved t c =
       count = c.in_ok-do_task.ensures.count ∙ c.loop-task.invariant.count;
       size = omega (arith, size, c.in_ok-do_task.ensures.size, c.loop-task.invariant.size);
       reach = omega (arith, reach, c.in_ok-do_task.ensures.reach, c.loop-task.invariant.reach);
+      good = c.in_ok-do_task.ensures.good (popped_good old rest c.in-Some.task is c.loop-task.invariant.good).1;
     }
 
 pub lower_rest-loop-statement-preserved : goal.lower_rest-loop-statement-preserved

@@ -1,9 +1,9 @@
-use Rattle.std.proofs.Common.{◌≡◌, ◌+◌, ◌*◌, ◌++◌, ◌≤◌, max, take, drop, length, map}
+use Rattle.std.proofs.Common.{◌≡◌, ◌+◌, ◌*◌, ◌++◌, ◌≤◌, None, max, take, drop, length, map}
 use Rattle.std.specs.Option.{option_copied}
 use Rattle.type_check.specs.TypedExprView.{typed_size, stmts_size, stmts_of, exprs_size, exprs_of}
 use Rattle.mir_build.specs.Lowering.{moved}
 use Rattle.mir_build.specs.Numbered.{into, rest, labels, locals, args, temporaries, labels_of, locals_of, labels_in, locals_in}
-use Rattle.mir_build.specs.Tasks.{to_do, behind_size, task_size, tasks_text, tasks_labels, tasks_locals, tasks_size, tasks_reach, tasks_weight}
+use Rattle.mir_build.specs.Tasks.{to_do, behind_size, task_size, tasks_text, tasks_labels, tasks_locals, tasks_size, tasks_reach, tasks_bad, tasks_weight}
 use Rattle.mir_build.specs.Reach.{reach, reach_of}
 use Rattle.mir_build.specs.Built.{written, around, end_of}
 use Rattle.mir_build.specs.Bindings.{left_of}
@@ -64,6 +64,7 @@ invariant-lower_into-loop-task l = record {
   count : length l.c.scope.items ≡ length l.initial.c.scope.items;
   size : tasks_size (to_do l.tasks.items) ≤ typed_size l.e;
   reach : tasks_reach (to_do l.tasks.items) ≤ reach l.e;
+  good : tasks_bad (to_do l.tasks.items) ≡ None;
 }
 
 abbrev pub decreases-lower_into-loop-task : goal.decreases-lower_into-loop-task

@@ -13,6 +13,15 @@ use Rattle.mir_build.proofs.program.lower.Goals as goal
 pub loop-f-init : goal.loop-f-init
 loop-f-init c = record { lowered = rw (c.new-bodies.ensures, c.new-contracts.ensures, c.new-gone.ensures) no_functions; few = rw c.new-bodies.ensures (All-nil _) }
 
+pub contract_of-requires : goal.contract_of-requires
+contract_of-requires c =
+    let fs = c.args.program.now.functions in
+    let i = c.loop-f.f-index in
+    let f = c.f-item.result in
+    let within : i < length fs = omega (arith, c.loop-f-test.true, ap length c.as_slice-functions.ensures) in
+    let is : f ≡ get_or fs i f = cc in
+    clauses_good f (good_at fs i f c.requires.good is within)
+
 pub lower_function-requires : goal.lower_function-requires
 lower_function-requires c =
     let fs = c.args.program.now.functions in
@@ -20,7 +29,7 @@ lower_function-requires c =
     let f = c.f-item.result in
     let within : i < length fs = omega (arith, c.loop-f-test.true, ap length c.as_slice-functions.ensures) in
     let is : f ≡ get_or fs i f = cc in
-    within_scope (signatures fs) f.signature.params f.body (fits_at (signatures fs) fs i f c.requires.fits is within).body
+    record { scope = within_scope (signatures fs) f.signature.params f.body (fits_at (signatures fs) fs i f c.requires.fits is within).body; good = body_good f (good_at fs i f c.requires.good is within) }
 
 pub loop-f-preserved : goal.loop-f-preserved
 loop-f-preserved c =
@@ -35,7 +44,7 @@ loop-f-preserved c =
       lowered =
           let fits = fits_at (signatures fs) fs i f c.requires.fits is within in
           let good = good_at fs i f c.requires.good is within in
-          let lowers = (rw c.as_slice-functions.ensures at c.in_ok-body.ensures.lowered) fits (body_good f good) in
+          let lowers = (rw c.as_slice-functions.ensures at c.in_ok-body.ensures.lowered) fits in
           let step = then_lower _ (signatures fs) 0 _ _ _ _ f c.in_ok-body.body (contract_of f) c.in_ok-body.own _ c.loop-f.invariant.lowered c.in_ok-body.ensures.named lowers (has_contract f (clauses_good f good)) number in
           rw (more, c.in_ok-push.ensures.ok, c.in_ok-push-2.ensures.ok, c.in_ok-contract_of.ensures, c.in_ok-push-3.ensures.ok) step;
       few = rw c.in_ok-push.ensures.ok (All-push (λ (b : Body). length b.blocks ≤ 4096) c.loop-f.bodies c.in_ok-body.body c.loop-f.invariant.few c.in_ok-body.ensures.few);
