@@ -9,7 +9,7 @@ use Rattle.type_check.specs.declared.program.ClauseKind.TheVariants.{Requires, E
 use Rattle.type_check.specs.declared.program.TypedClause.{TypedClause}
 use Rattle.type_check.specs.declared.program.TypedFunction.{TypedFunction}
 use Rattle.type_check.specs.Answers.{or_else}
-use Rattle.type_check.specs.FirstBad.{bad_of, bad_among, bad_clause, bad_in_function}
+use Rattle.type_check.specs.FirstBad.{bad_of, bad_among, bad_clause}
 use Rattle.mir_build.specs.Lowering.{Formula, accepted, formulas_of, picked, contract_over, HasContract}
 use Rattle.mir_build.specs.Numbered.{formula_of}
 use Rattle.mir_build.specs.Whole.{contract_of}

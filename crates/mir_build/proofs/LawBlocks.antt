@@ -10,7 +10,7 @@ use Rattle.mir_ir.specs.declared.terminator.TerminatorKind.{TerminatorKind}
 use Rattle.mir_ir.specs.declared.terminator.TerminatorKind.TheVariants.{Goto, If, Call, Return}
 use Rattle.mir_ir.specs.Layout.{among, targets, Leads, on, back}
 use Rattle.mir_ir.specs.WellFormed.{StatementIsTyped, EndIsTyped, HasBlock}
-use Rattle.mir_build.specs.Text.{Line, Puts, Makes, Turns, Leaves, Owns, Open, Front, Stands, Nowhere, fresh, longer}
+use Rattle.mir_build.specs.Text.{Line, Puts, Makes, Turns, Leaves, Owns, Front, Stands, Nowhere, fresh, longer}
 use Rattle.mir_build.specs.Lowering.{ends}
 use Rattle.mir_build.proofs.LawNames.{HeadFits}
 use Rattle.mir_build.proofs.LawTyped.{EndFits, is_local, AreTyped}

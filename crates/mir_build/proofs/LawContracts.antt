@@ -1,5 +1,5 @@
 -- The contract of a function speaks of its parameters.
-use Rattle.std.proofs.Common.{◌≡◌, ◌⊎◌, inl, inr, refl, ap, sym, ◌∙◌, subst, ℕ, zero, suc, ◌+◌, ◌^◌, ◌≤◌, true, List, [], ◌∷◌, ◌++◌, map, drop, length, Some, slice_get, arith, length-append, length-drop, true≢false}
+use Rattle.std.proofs.Common.{◌≡◌, ◌⊎◌, inl, inr, refl, ap, sym, ◌∙◌, subst, ℕ, zero, suc, ◌+◌, ◌^◌, ◌≤◌, true, List, [], ◌∷◌, ◌++◌, map, drop, length, Some, slice_get, arith, length-append, length-drop}
 use Rattle.text_core.specs.declared.name.Name.{Name}
 use Rattle.logic_term.specs.Free.{free}
 use Rattle.logic_term.specs.Term.{Term}
@@ -13,7 +13,7 @@ use Rattle.type_check.specs.declared.program.Signature.{Signature}
 use Rattle.type_check.specs.declared.program.TypedClause.{TypedClause}
 use Rattle.type_check.specs.declared.program.TypedFunction.{TypedFunction}
 use Rattle.type_check.specs.VariableNames.{variable_name, answer_name}
-use Rattle.type_check.specs.WellTyped.{IsVariable, SpeaksOf, SpeaksOfAnswer, ClauseSpeaksOf, EachSpeaks, ClausesSpeak, FunctionFits}
+use Rattle.type_check.specs.WellTyped.{IsVariable, SpeaksOfAnswer, ClauseSpeaksOf, EachSpeaks, ClausesSpeak, FunctionFits}
 use Rattle.mir_build.specs.Laws.{EnsuresAreWhole}
 use Rattle.mir_ir.specs.Names.{ContractSpeaks, IsOneOf}
 use Rattle.mir_build.specs.Lowering.{counted, contract_over, HasContract, Formula, accepted, term_of, formula_span, formulas_of, picked, LowersTo}

@@ -10,20 +10,19 @@ use Rattle.mir_ir.specs.Layout.{IsLaidOut}
 use Rattle.mir_ir.specs.WellFormed.{Locals, with, parameters, IsTyped}
 use Rattle.type_check.specs.declared.program.Signature.{Signature}
 use Rattle.type_check.specs.declared.program.TypedFunction.{TypedFunction}
-use Rattle.type_check.specs.TypedExpr.{TypedExpr}
-use Rattle.type_check.specs.TypedExprView.{ty_of, span_of}
-use Rattle.type_check.specs.WellTyped.{IsBuilt, IsWellTyped, FunctionFits}
-use Rattle.mir_build.specs.Text.{Title, Line, fresh, begun, made, owned}
-use Rattle.mir_build.specs.Lowering.{numbers, counted, paired, all_locals, local_name, entry_title, around_body, whole, Around, IntoBody, of_outermost, of_other, LowersTo}
+use Rattle.type_check.specs.TypedExprView.{span_of}
+use Rattle.type_check.specs.WellTyped.{IsBuilt, FunctionFits}
+use Rattle.mir_build.specs.Text.{fresh, begun, made, owned}
+use Rattle.mir_build.specs.Lowering.{numbers, counted, paired, all_locals, local_name, entry_title, around_body, whole, LowersTo}
 use Rattle.mir_build.proofs.Numbers.{count}
 use Rattle.mir_build.proofs.LawLists.{Has, here, there, has_left, has_right, count-append}
 use Rattle.mir_build.proofs.LawFlow.{flows}
 use Rattle.mir_build.proofs.LawLayout.{titles, labels, titles_of, labels_of, Flowing, flowing_of, Once, laid_out}
 use Rattle.mir_build.proofs.LawRuns.{with_self, Runs, Agree, labels_in, Laid, HasNone}
 use Rattle.mir_build.proofs.LawLaid.{weight, Apart}
-use Rattle.mir_build.proofs.LawSets.{Scoped, laid, laid_rest}
+use Rattle.mir_build.proofs.LawSets.{Scoped, text_laid}
 use Rattle.mir_build.proofs.LawTyped.{AreTyped, MadeFits, ScopeFits}
-use Rattle.mir_build.proofs.LawTypes.{Callee, Known, typed, typed_rest}
+use Rattle.mir_build.proofs.LawTypes.{Callee, text_typed}
 use Rattle.mir_build.proofs.LawInit.{set_of, agree, EachBlock, BlockFits, begun_fits, owned_not_there, block_at, IsLabelled, labelling}
 use Rattle.mir_build.proofs.OneBody.{labels_once, locals_once}
 use Rattle.mir_build.proofs.LawBlocks.{typed_at, BlockTyped, typed_blocks, has_block, end_typed}
@@ -80,17 +79,6 @@ from_parameter p x e = (lower p x e, upper p x e)
 
     upper : (p x : ℕ) → (nat_lt 0 x && nat_lt x (p + 1)) ≡ true → x < 1 + p
     upper p x e = grind (arith, nat_tests)
-
--- ---- texts of bodies
-
-text_laid : (σ : List Signature) (c : Around) (e : TypedExpr) (xs : List Line) → IntoBody c e xs → (Γ : List Ty) (set : Locals) → Scoped c Γ set → IsWellTyped σ Γ e → Apart set (0 ∷ numbers (made xs)) → Laid set xs (with 0 set)
-text_laid σ c e xs (of_outermost {ty = ty} r) Γ set sc h a = laid_rest σ c _ _ _ 0 xs r Γ set ty sc h a
-text_laid σ c e xs (of_other q p) Γ set sc h a = laid σ c e 0 xs p Γ set sc h a
-
-module _ (σ : List Signature) (bodies : Bodies) (b : Body) (callees : (n : ℕ) (g : Signature) → slice_get σ n ≡ Some g → Callee bodies n g) (answers : (n : ℕ) (g : Signature) → slice_get σ n ≡ Some g → IsBuilt g.answer) where
-  text_typed : (c : Around) (e : TypedExpr) (xs : List Line) → IntoBody c e xs → (Γ : List Ty) → Known b c Γ → IsWellTyped σ Γ e → slice_get b.locals 0 ≡ Some (ty_of e) → MadeFits b (made xs) → AreTyped bodies b xs
-  text_typed c e xs (of_outermost {ty = ty} r) Γ k h a m = typed_rest σ bodies b callees answers c _ _ _ 0 xs r Γ ty k h a m
-  text_typed c e xs (of_other q p) Γ k h a m = typed σ bodies b callees answers c e 0 xs p Γ k h a m
 
 -- ---- the function's own locals
 

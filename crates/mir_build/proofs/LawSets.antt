@@ -1,26 +1,27 @@
--- By induction on the rows: along each lowered text the locals in scope are initialised, and where it ends its own local is too.
-use Rattle.std.proofs.Common.{◌≡◌, ◌⊎◌, inl, inr, refl, ap, sym, ◌∙◌, subst, ℕ, ◌+◌, ◌≤◌, ◌==◌, Bool, true, false, List, [], ◌∷◌, ◌++◌, length, arith, length-append, append-nil, true≢false}
+-- Along each lowered text the locals in scope are initialised, and where it ends its own local is too.
+use Rattle.std.proofs.Common.{◌≡◌, ◌⊎◌, inl, inr, refl, ap, sym, ◌∙◌, subst, ℕ, ◌+◌, ◌≤◌, ◌==◌, Bool, true, false, List, [], ◌∷◌, ◌++◌, map, length, arith, length-append, append-nil, true≢false}
 use Rattle.std.proofs.lemmas.Bool.{eqb-true}
 use Rattle.logic_term.specs.declared.kinds.Label.{Label}
 use Rattle.logic_term.specs.Ty.{Ty}
 use Rattle.text_core.specs.declared.span.Span.{Span}
-use Rattle.mir_ir.specs.declared.place.Lit.{Lit}
+use Rattle.mir_ir.specs.declared.place.Operand.TheVariants.{Copy}
 use Rattle.mir_ir.specs.declared.place.Place.{Place}
+use Rattle.mir_ir.specs.declared.statement.Rvalue.{Rvalue}
+use Rattle.mir_ir.specs.declared.statement.Rvalue.TheVariants.{Use, Binary}
 use Rattle.mir_ir.specs.declared.terminator.Terminator.{Terminator}
 use Rattle.mir_ir.specs.WellFormed.{Locals, with, without, Within}
-use Rattle.source_kinds.specs.declared.kinds.LazyOp.{LazyOp}
-use Rattle.source_kinds.specs.declared.kinds.LazyOp.TheVariants as lazy_op
+use Rattle.source_kinds.specs.declared.kinds.BinaryOp.{BinaryOp}
 use Rattle.type_check.specs.declared.program.Signature.{Signature}
-use Rattle.type_check.specs.TypedExpr.{TypedExpr, TypedStmts, TypedExprs}
-use Rattle.type_check.specs.WellTyped.{IsWellTyped, StatementsFit, ArgumentsFit}
+use Rattle.type_check.specs.TypedExpr.{TypedExpr}
+use Rattle.type_check.specs.WellTyped.{IsWellTyped, EachSpeaks}
 use Rattle.mir_build.specs.Text.{Title, Line, Makes, Turns, made}
-use Rattle.mir_build.specs.Lowering.{numbers, Around, whole, looping, binds, head_of, dies_in, constant, lazily, Into, of_integer, of_truth, of_variable, of_negative, of_denied, of_binary, of_lazy, of_assign}
-use Rattle.mir_build.specs.Lowering.{of_update, of_call, of_block, of_branch, of_choice, of_repeat, Rest, of_done, of_last, of_bind, of_run, Args, of_none, of_more, PlaceOf, of_name, of_temporary}
+use Rattle.mir_build.specs.Lowering.{numbers, Around, Formula, accepted, whole, looping, binds, moved, head_of, dies_in, puts, puts_at, put_unit, made_by, calls, turning, IntoBody}
 use Rattle.mir_build.proofs.Numbers.{count}
 use Rattle.mir_build.proofs.LawLists.{Has, here, there, has_get, makings-append, count-append, count_self}
 use Rattle.mir_build.proofs.LawNames.{HoldsPlaces, head_fits}
 use Rattle.mir_build.proofs.LawRuns.{with_self, with_more, with_within, kept, Runs, stops, runs-append, Laid, laid_stops, laid_puts, laid_makes, laid-append}
-use Rattle.mir_build.proofs.LawLaid.{Apart, none, before, first, second, left, right, fresh_second, given_up, still, same_set, forked, looped, with_all, with_all_more, with_all_has, called, weight_with}
+use Rattle.mir_build.proofs.LawLaid.{weight, Apart, none, before, first, second, left, right, fresh_second, given_up, still, same_set, forked, looped, with_all, with_all_more, with_all_has, called, weight_with}
+use Rattle.mir_build.proofs.TypedShapes.{Takes, of_number, of_bool, of_unit, of_copy, of_minus, of_not, of_operation, KeepsTyped, of_typed_body}
 
 -- the set has the locals of the places in scope, one place for each variable
 pub record Scoped (c : Around) (Γ : List Ty) (set : Locals) : Type 0 where
@@ -86,14 +87,6 @@ two_given_up t u set n m = kept u set (without t (with u (with t set))) m (kept 
 first_of_two : (t u : ℕ) (set : Locals) → with u (with t set) t ≡ true
 first_of_two t u set = with_more u (with t set) t (with_self t set)
 
-laid_constant : (s : Span) (d : ℕ) (v : Lit) (set : Locals) → Laid set (constant s d v ∷ []) (with d set)
-laid_constant s d v set = laid_puts _ _ _ _ tt (laid_stops _ _ (same_set (with d set)))
-
-laid_lazily : (op : LazyOp) (c : Around) (s : Span) (t d : ℕ) (yes' no' after : Label) (ys : List Line) (set now : Locals) → now t ≡ true → Within set (without t now) → (Apart set (d ∷ numbers (made ys)) → Laid set ys (with d set))
-    → Apart set (d ∷ numbers (made (lazily op c s t d yes' no' after ys))) → Laid now (lazily op c s t d yes' no' after ys) (with d set)
-laid_lazily lazy_op.And c s t d yes' no' after ys set now h w p a = forked c s t yes' no' after set now (with d set) ys _ h w (p (left d set ys _ a)) (laid_constant s d _ set)
-laid_lazily lazy_op.Or c s t d yes' no' after ys set now h w p a = forked c s t yes' no' after set now (with d set) _ ys h w (laid_constant s d _ set) (p (left d set ys _ a))
-
 laid_dies : (outer : Bool) (s : Span) (d t : ℕ) (set : Locals) → (with d set) t ≡ false → Laid (with d (with t set)) (dies_in outer s t) (with d set)
 laid_dies true s d t set n = laid_stops _ _ (ends_with d t set)
 laid_dies false s d t set n = laid_puts _ _ _ _ tt (laid_stops _ _ (kept t (with d set) (with d (with t set)) n (ends_with d t set)))
@@ -101,24 +94,6 @@ laid_dies false s d t set n = laid_puts _ _ _ _ tt (laid_stops _ _ (kept t (with
 -- a binding of the row is in no set around, and is not the row's own local
 bound_apart : (d t : ℕ) (set : Locals) (ys : List ℕ) → Apart set (d ∷ t ∷ ys) → (with d set) t ≡ false
 bound_apart d t set ys h = none (with d set) (t ∷ ys) (record { once = λ x. omega (arith, weight_with x d set, h.once x) }) t (count_self t ys)
-
--- arguments
-only_made : (d : ℕ) (set : Locals) (us rest : List Line) → Apart set (d ∷ numbers (made (us ++ rest))) → Apart set (numbers (made us))
-only_made d set us rest h = record { once = λ x. omega (arith, makings-append x us rest, h.once x) }
-
-first_argument : (t : ℕ) (set : Locals) (us vs : List Line) → Apart set (t ∷ numbers (made (us ++ vs))) → Apart set (t ∷ numbers (made us))
-first_argument t set us vs h = record { once = λ x. omega (arith, makings-append x us vs, h.once x) }
-
-later_arguments : (t : ℕ) (set : Locals) (us vs : List Line) → Apart set (t ∷ numbers (made (us ++ vs))) → Apart (with t set) (numbers (made vs))
-later_arguments t set us vs h = record { once = λ x. omega (arith, makings-append x us vs, weight_with x t set, h.once x) }
-
--- the temporaries of arguments are made by their text
-temporaries_made : (c : Around) (es : TypedExprs) (ts : List ℕ) (xs : List Line) → Args c es ts xs → (x : ℕ) → count x ts ≤ count x (numbers (made xs))
-temporaries_made c es ts xs of_none x = omega arith
-temporaries_made c es ts xs (of_more {ts = us'} {xs = us} {ys = vs} p q) x = omega (arith, makings-append x us vs, temporaries_made c _ us' vs q x)
-
-temporaries_apart : (c : Around) (es : TypedExprs) (ts : List ℕ) (xs : List Line) → Args c es ts xs → (set : Locals) → Apart set (numbers (made xs)) → Apart set ts
-temporaries_apart c es ts xs p set h = record { once = λ x. omega (arith, temporaries_made c es ts xs p x, h.once x) }
 
 -- the own locals of a loop
 own_apart : (d t u : ℕ) (set : Locals) (us vs rest : List Line) (k : Terminator) (b : Title) (U : Ty) → Apart set (d ∷ t ∷ numbers (made (us ++ Turns k b ∷ Makes u U ∷ (vs ++ rest)))) → Apart set (t ∷ (numbers (made us) ++ u ∷ numbers (made vs)))
@@ -130,103 +105,145 @@ own_apart d t u set us vs rest k b U h = record {
 fewer : (set mid to : Locals) (xs : List Line) → Laid set xs mid → Within to mid → Laid set xs to
 fewer set mid to xs p w = record { starts = p.starts; are = p.are; runs = λ at g. subst (λ ys. Runs at set ys to) (append-nil xs) (runs-append at mid to [] (stops w) set xs (p.runs at g)) }
 
--- ---- what an assignment writes
+-- ---- temporaries
 
--- what is initialised behind its text
-abbrev behind_place : {c : Around} {e : TypedExpr} {x : Place} {xs : List Line} → PlaceOf c e x xs → Locals → Locals
-behind_place (of_name y q) set = set
-behind_place (of_temporary {t = t} n p) set = with t set
+-- what is initialised where the temporaries hold values
+abbrev pub holding : List (ℕ × Ty) → Locals → Locals
+holding [] set = set
+holding (x ∷ ts) set = with x.0 (holding ts set)
 
-place_more : {c : Around} {e : TypedExpr} {x : Place} {xs : List Line} (q : PlaceOf c e x xs) (set : Locals) → Within set (behind_place q set)
-place_more (of_name y q) set = same_set set
-place_more (of_temporary {t = t} n p) set = with_more t set
+holding_more : (ts : List (ℕ × Ty)) (set : Locals) → Within set (holding ts set)
+holding_more [] set y h = h
+holding_more (x ∷ ts) set y h = with_more x.0 (holding ts set) y (holding_more ts set y h)
 
--- the place holds a value
-place_there : (c : Around) (e : TypedExpr) (x : Place) (xs : List Line) (q : PlaceOf c e x xs) (Γ : List Ty) (set : Locals) → Scoped c Γ set → behind_place q set x.local ≡ true
-place_there c e x xs (of_name {v = v} y q) Γ set sc = sc.holds y (has_get c.scope v y q)
-place_there c e x xs (of_temporary {t = t} n p) Γ set sc = with_self t set
+holding_scoped : (c : Around) (Γ : List Ty) (ts : List (ℕ × Ty)) (set : Locals) → Scoped c Γ set → Scoped c Γ (holding ts set)
+holding_scoped c Γ ts set sc = record { count = sc.count; holds = λ p h. holding_more ts set p.local (sc.holds p h) }
 
-module _ (σ : List Signature) where
-  mutual
-    pub laid : (c : Around) (e : TypedExpr) (d : ℕ) (xs : List Line) → Into c e d xs → (Γ : List Ty) (set : Locals) → Scoped c Γ set → IsWellTyped σ Γ e → Apart set (d ∷ numbers (made xs)) → Laid set xs (with d set)
-    laid c e d xs of_integer Γ set sc h a = laid_puts _ _ _ _ tt (laid_stops _ _ (same_set (with d set)))
-    laid c e d xs of_truth Γ set sc h a = laid_puts _ _ _ _ tt (laid_stops _ _ (same_set (with d set)))
-    laid c e d xs (of_variable {v = v} x q) Γ set sc h a = laid_puts _ _ _ _ (sc.holds x (has_get c.scope v x q)) (laid_stops _ _ (same_set (with d set)))
-    laid c e d xs (of_negative {t = t} {xs = us} p) Γ set sc h a =
-        laid_makes _ _ _ _ _ (laid-append set (with t set) (with d set) us _ (laid c _ t us p Γ set sc h.4 (first d t set us _ a))
-        (laid_puts _ _ _ _ (with_self t set) (laid_stops _ _ (moved_on d t set (fresh_second d t set _ a)))))
-    laid c e d xs (of_denied {t = t} {xs = us} p) Γ set sc h a =
-        laid_makes _ _ _ _ _ (laid-append set (with t set) (with d set) us _ (laid c _ t us p Γ set sc h.2 (first d t set us _ a))
-        (laid_puts _ _ _ _ (with_self t set) (laid_stops _ _ (moved_on d t set (fresh_second d t set _ a)))))
-    laid c e d xs (of_binary {t = t} {u = u} {xs = us} {ys = vs} p q) Γ set sc h a =
-        let b = second d t set us _ a in
-        let no_u : set u ≡ false = fresh_second d u set _ (before t set _ b) in
-        laid_makes _ _ _ _ _ (laid-append set (with t set) (with d set) us _ (laid c _ t us p Γ set sc h.2 (first d t set us _ a))
-        (laid_makes _ _ _ _ _ (laid-append (with t set) (with u (with t set)) (with d set) vs _ (laid c _ u vs q Γ (with t set) (more_scoped c Γ set t sc) h.3 (first d u (with t set) vs _ b))
-        (laid_puts _ _ _ _ (first_of_two t u set, second_of_two t u set (fresh_second d u (with t set) _ b)) (laid_stops _ _
-        (with_within d set (without u (without t (with u (with t set)))) (two_given_up t u set (fresh_second d t set _ a) no_u)))))))
-    laid c e d xs (of_lazy {s = s} {op = op} {t = t} yes' no' after {xs = us} {ys = vs} p q) Γ set sc h a =
-        let r = before t set _ (second d t set us _ a) in
-        laid_makes _ _ _ _ _ (laid-append set (with t set) (with d set) us _ (laid c _ t us p Γ set sc h.3 (first d t set us _ a))
-        (laid_lazily op c s t d yes' no' after vs set (with t set) (with_self t set) (given_up t set (fresh_second d t set _ a)) (laid c _ d vs q Γ set sc h.4) r))
-    laid c e d xs (of_assign {t = t} {p = x} {xs = us} {ys = vs} p q) Γ set sc h a =
-        let b = second d t set us _ a in
-        let now = behind_place q (with t set) in
-        let more : Within (with t set) now = place_more q (with t set) in
-        laid_makes _ _ _ _ _ (laid-append set (with t set) (with d set) us _ (laid c _ t us p Γ set sc h.3 (first d t set us _ a))
-        (laid-append (with t set) now (with d set) vs _ (laid_place c _ x vs q Γ (with t set) (more_scoped c Γ set t sc) h.2 (only_made d (with t set) vs _ b))
-        (laid_puts _ _ _ _ (more t (with_self t set)) (laid_puts _ _ _ _ tt (laid_stops _ _ (assigned d x.local t set now (fresh_second d t set _ a) (λ y g. more y (with_more t set y g))))))))
-    laid c e d xs (of_update {t = t} {p = x} u {xs = us} {ys = vs} p q) Γ set sc h a =
-        let b = second d t set us _ a in
-        let scoped = more_scoped c Γ set t sc in
-        let then' = behind_place q (with t set) in
-        let more : Within (with t set) then' = place_more q (with t set) in
-        let n : set u ≡ false = fresh_second d u set [] (before t set _ (right d (with t set) vs _ b)) in
-        let now = without t then' in
-        let w : Within set now = kept t set then' (fresh_second d t set _ a) (λ y g. more y (with_more t set y g)) in
-        laid_makes _ _ _ _ _ (laid-append set (with t set) (with d set) us _ (laid c _ t us p Γ set sc h.4 (first d t set us _ a))
-        (laid-append (with t set) then' (with d set) vs _ (laid_place c _ x vs q Γ (with t set) scoped h.3 (only_made d (with t set) vs _ b))
-        (laid_makes _ _ _ _ _ (laid_puts _ _ _ _ (place_there c _ x vs q Γ (with t set) scoped, more t (with_self t set))
-        (laid_puts _ _ _ _ (with_self u now) (laid_puts _ _ _ _ tt (laid_stops _ _ (assigned d x.local u set (with u now) n (λ y g. with_more u now y (w y g))))))))))
-    laid c e d xs (of_call {s = s} {f = f} {ts = ts} after {xs = us} p) Γ set sc h a =
-        laid-append set (with_all ts set) (with d set) us _ (laid_args c _ ts us p Γ set sc h.0.params h.3 (only_made d set us _ a))
-        (called c s f d ts after set (with_all ts set) (temporaries_apart c _ ts us p set (only_made d set us _ a)) (with_all_has ts set) (with_all_more ts set))
-    laid c e d xs (of_block r) Γ set sc h a = laid_rest c _ _ _ d xs r Γ set _ sc h a
-    laid c e d xs (of_branch {s = s} {t = t} yes' no' after {xs = us} {ys = vs} p q) Γ set sc h a =
-        let r = before t set _ (second d t set us _ a) in
-        laid_makes _ _ _ _ _ (laid-append set (with t set) (with d set) us _ (laid c _ t us p Γ set sc h.3 (first d t set us _ a))
-        (forked c s t yes' no' after set (with t set) (with d set) vs _ (with_self t set) (given_up t set (fresh_second d t set _ a)) (laid c _ d vs q Γ set sc h.4 (left d set vs _ r))
-        (laid_puts _ _ _ _ tt (laid_stops _ _ (same_set (with d set))))))
-    laid c e d xs (of_choice {s = s} {t = t} yes' no' after {xs = us} {ys = vs} {zs = ws} p q r) Γ set sc h a =
-        let b = before t set _ (second d t set us _ a) in
-        laid_makes _ _ _ _ _ (laid-append set (with t set) (with d set) us _ (laid c _ t us p Γ set sc h.3 (first d t set us _ a))
-        (forked c s t yes' no' after set (with t set) (with d set) vs ws (with_self t set) (given_up t set (fresh_second d t set _ a)) (laid c _ d vs q Γ set sc h.4 (left d set vs _ b))
-        (laid c _ d ws r Γ set sc h.5 (left d set ws _ (right d set vs _ b)))))
-    laid c e d xs (of_repeat {s = s} {is = is} {t = t} {u = u} head body after fs {xs = us} {ys = vs} g p q) Γ set sc h a =
-        let k = looping c head in
-        let b = before t set _ (second d t set us _ a) in
-        looped c k s d t u _ _ head body after (head_of c fs) _ set us vs (head_fits set c (length Γ) is fs g sc.count sc.holds h.1) (none set _ (own_apart d t u set us vs _ _ _ _ a)) (fresh_second d t set _ a)
-        (laid k _ t us p Γ set (in_loop c Γ set head sc) h.4 (first d t set us _ a))
-        (laid k _ u vs q Γ set (in_loop c Γ set head sc) h.5 (first d u set vs _ b))
+weight_holding : (x : ℕ) (ts : List (ℕ × Ty)) (set : Locals) → weight (holding ts set x) ≤ count x (numbers ts) + weight (set x)
+weight_holding x [] set = omega arith
+weight_holding x (t ∷ ts) set = omega (arith, weight_with x t.0 (holding ts set), weight_holding x ts set)
 
-    laid_place : (c : Around) (e : TypedExpr) (x : Place) (xs : List Line) (q : PlaceOf c e x xs) (Γ : List Ty) (set : Locals) → Scoped c Γ set → IsWellTyped σ Γ e → Apart set (numbers (made xs)) → Laid set xs (behind_place q set)
-    laid_place c e x xs (of_name y q) Γ set sc h a = laid_stops _ _ (same_set set)
-    laid_place c e x xs (of_temporary {t = t} {xs = us} n p) Γ set sc h a = laid_makes _ _ _ _ _ (laid c e t us p Γ set sc h a)
+first_apart : (d t : ℕ) (ts : List (ℕ × Ty)) (set : Locals) (us ys : List Line) → Apart set (d ∷ (numbers ts ++ t ∷ numbers (made (us ++ ys)))) → Apart (holding ts set) (t ∷ numbers (made us))
+first_apart d t ts set us ys h = record { once = λ x. omega (arith, weight_holding x ts set, count-append x (numbers ts) (t ∷ numbers (made (us ++ ys))), makings-append x us ys, h.once x) }
 
-    pub laid_rest : (c : Around) (outer : Bool) (s : Span) (ss : TypedStmts) (d : ℕ) (xs : List Line) → Rest c outer s ss d xs → (Γ : List Ty) (set : Locals) (T : Ty) → Scoped c Γ set → StatementsFit σ Γ T ss → Apart set (d ∷ numbers (made xs)) → Laid set xs (with d set)
-    laid_rest c outer s ss d xs of_done Γ set T sc h a = laid_puts _ _ _ _ tt (laid_stops _ _ (same_set (with d set)))
-    laid_rest c outer s ss d xs (of_last p) Γ set T sc h a = laid c _ d xs p Γ set sc h.1 a
-    laid_rest c outer s ss d xs (of_bind {t = t} {xs = us} {ys = vs} p q) Γ set T sc h a =
-        laid_makes _ _ _ _ _ (laid-append set (with t set) (with d set) us _ (laid c _ t us p Γ set sc h.0 (first d t set us _ a))
-        (laid-append (with t set) (with d (with t set)) (with d set) vs _ (laid_rest (binds c t) outer s _ d vs q _ (with t set) T (bound_scoped c Γ _ set t sc) h.1 (left d (with t set) vs _ (second d t set us _ a)))
-        (laid_dies outer s d t set (bound_apart d t set _ a))))
-    laid_rest c outer s ss d xs (of_run {t = t} {xs = us} {ys = vs} p q) Γ set T sc h a =
-        laid_makes _ _ _ _ _ (laid-append set (with t set) (with d set) us _ (laid c _ t us p Γ set sc h.0 (first d t set us _ a))
-        (fewer (with t set) (with d (with t set)) (with d set) vs (laid_rest c outer s _ d vs q Γ (with t set) T (more_scoped c Γ set t sc) h.1 (second d t set us vs a)) (ends_with d t set)))
+rest_apart : (d t : ℕ) (ts : List (ℕ × Ty)) (set : Locals) (us ys : List Line) → Apart set (d ∷ (numbers ts ++ t ∷ numbers (made (us ++ ys)))) → Apart set (d ∷ t ∷ (numbers ts ++ numbers (made ys)))
+rest_apart d t ts set us ys h = record { once = λ x. omega (arith, count-append x (numbers ts) (t ∷ numbers (made (us ++ ys))), count-append x (numbers ts) (numbers (made ys)), makings-append x us ys, h.once x) }
 
-    laid_args : (c : Around) (es : TypedExprs) (ts : List ℕ) (xs : List Line) → Args c es ts xs → (Γ : List Ty) (set : Locals) → Scoped c Γ set → (Ts : List Ty) → ArgumentsFit σ Γ es Ts → Apart set (numbers (made xs)) → Laid set xs (with_all ts set)
-    laid_args c es ts xs of_none Γ set sc Ts h a = laid_stops _ _ (same_set set)
-    laid_args c es ts xs (of_more p q) Γ set sc [] h a = absurd h
-    laid_args c es ts xs (of_more {t = t} {ts = us'} {xs = us} {ys = vs} p q) Γ set sc (T ∷ Ts) h a =
-        laid_makes _ _ _ _ _ (laid-append set (with t set) (with_all us' (with t set)) us vs (laid c _ t us p Γ set sc h.1 (first_argument t set us vs a))
-        (laid_args c _ us' vs q Γ (with t set) (more_scoped c Γ set t sc) Ts h.2 (later_arguments t set us vs a)))
+-- without the temporary, or with it in the set
+without_second : (d t : ℕ) (set : Locals) (ys : List ℕ) → Apart set (d ∷ t ∷ ys) → Apart set (d ∷ ys)
+without_second d t set ys h = record { once = λ x. omega (arith, h.once x) }
+
+second_held : (d t : ℕ) (set : Locals) (ys : List ℕ) → Apart set (d ∷ t ∷ ys) → Apart (with t set) (d ∷ ys)
+second_held d t set ys h = record { once = λ x. omega (arith, weight_with x t set, h.once x) }
+
+behind_first : (d : ℕ) (set : Locals) (ys : List ℕ) → Apart set (d ∷ ys) → Apart set ys
+behind_first d set ys h = record { once = λ x. omega (arith, h.once x) }
+
+-- the first part of a text
+only_made : (set : Locals) (us rest : List Line) → Apart set (numbers (made (us ++ rest))) → Apart set (numbers (made us))
+only_made set us rest h = record { once = λ x. omega (arith, makings-append x us rest, h.once x) }
+
+-- ---- the shapes
+
+-- where the temporaries are initialised besides the set, d is too behind the text
+abbrev pub WritesSet : Around → List Ty → List (ℕ × Ty) → ℕ → Ty → List Line → Type 0
+WritesSet c Γ ts d T xs = (set : Locals) → Scoped c Γ set → Apart set (d ∷ (numbers ts ++ numbers (made xs))) → Laid (holding ts set) xs (with d set)
+
+-- the place is initialised behind the text
+pub record NamesIn (c : Around) (Γ : List Ty) (p : Place) (T : Ty) (xs : List Line) : Type 0 where
+  pub behind : Locals → Locals
+  pub more : (set : Locals) → Within set (behind set)
+  pub there : (set : Locals) → Scoped c Γ set → behind set p.local ≡ true
+  pub laid : (set : Locals) → Scoped c Γ set → Apart set (numbers (made xs)) → Laid set xs (behind set)
+
+-- each argument is initialised behind the text, which makes its temporary
+pub record PassesSet (c : Around) (Γ : List Ty) (ts : List ℕ) (Ts : List Ty) (xs : List Line) : Type 0 where
+  pub counts : (x : ℕ) → count x ts ≤ count x (numbers (made xs))
+  pub laid : (set : Locals) → Scoped c Γ set → Apart set (numbers (made xs)) → Laid set xs (with_all ts set)
+
+laid_put : (c : Around) (Γ : List Ty) (ts : List (ℕ × Ty)) (s : Span) (d : ℕ) (r : Rvalue) (T : Ty) → Takes c Γ ts r T → WritesSet c Γ ts d T (puts s d r ∷ [])
+laid_put c Γ ts s d r T (of_number h) set sc a = laid_puts _ _ _ _ tt (laid_stops _ _ (same_set (with d set)))
+laid_put c Γ ts s d r T (of_bool h) set sc a = laid_puts _ _ _ _ tt (laid_stops _ _ (same_set (with d set)))
+laid_put c Γ ts s d r T (of_unit h) set sc a = laid_puts _ _ _ _ tt (laid_stops _ _ (same_set (with d set)))
+laid_put c Γ ts s d r T (of_copy v p q h) set sc a = laid_puts _ _ _ _ (sc.holds p (has_get c.scope v p q)) (laid_stops _ _ (same_set (with d set)))
+laid_put c Γ ts s d r T (of_minus {t = t} i h e q) set sc a = laid_puts _ _ _ _ (with_self t set) (laid_stops _ _ (moved_on d t set (fresh_second d t set _ a)))
+laid_put c Γ ts s d r T (of_not {t = t} h q) set sc a = laid_puts _ _ _ _ (with_self t set) (laid_stops _ _ (moved_on d t set (fresh_second d t set _ a)))
+laid_put c Γ ts s d r T (of_operation {t = t} {u = u} h e) set sc a =
+    let no_u : set u ≡ false = fresh_second d u set _ a in
+    let no_t : set t ≡ false = fresh_second d t set _ (without_second d u set _ a) in
+    let u_free : with t set u ≡ false = fresh_second d u (with t set) [] (other_held d t u set a) in
+    laid_puts _ _ _ _ (first_of_two t u set, second_of_two t u set u_free) (laid_stops _ _ (with_within d set (without u (without t (with u (with t set)))) (two_given_up t u set no_t no_u)))
+  where
+    other_held : (d t u : ℕ) (set : Locals) → Apart set (d ∷ u ∷ t ∷ []) → Apart (with t set) (d ∷ u ∷ [])
+    other_held d t u set h = record { once = λ x. omega (arith, weight_with x t set, h.once x) }
+
+laid_assigned : (c : Around) (Γ : List Ty) (s : Span) (t : ℕ) (T : Ty) (p : Place) (U : Ty) (d : ℕ) (V : Ty) (xs : List Line) → NamesIn c Γ p U xs → WritesSet c Γ ((t, T) ∷ []) d V (xs ++ puts_at s p (Use (moved t)) ∷ put_unit s d ∷ [])
+laid_assigned c Γ s t T p U d V xs q set sc a =
+    let now = q.behind (with t set) in
+    let more : Within (with t set) now = q.more (with t set) in
+    laid-append (with t set) now (with d set) xs _ (q.laid (with t set) (more_scoped c Γ set t sc) (only_made (with t set) xs _ (behind_first d (with t set) _ (second_held d t set _ a))))
+    (laid_puts _ _ _ _ (more t (with_self t set)) (laid_puts _ _ _ _ tt (laid_stops _ _ (assigned d p.local t set now (fresh_second d t set _ a) (λ y g. more y (with_more t set y g))))))
+
+laid_updated : (c : Around) (Γ : List Ty) (s : Span) (op : BinaryOp) (t u : ℕ) (T : Ty) (p : Place) (U : Ty) (d : ℕ) (V : Ty) (xs : List Line) → NamesIn c Γ p U xs
+    → WritesSet c Γ ((t, T) ∷ []) d V (xs ++ (made_by u T (puts s u (Binary op (Copy p) (moved t)) ∷ []) ++ puts_at s p (Use (moved u)) ∷ put_unit s d ∷ []))
+laid_updated c Γ s op t u T p U d V xs q set sc a =
+    let scoped = more_scoped c Γ set t sc in
+    let held = q.behind (with t set) in
+    let more : Within (with t set) held = q.more (with t set) in
+    let no_u : set u ≡ false = fresh_second d u set [] (right d set xs _ (without_second d t set _ a)) in
+    let now = without t held in
+    let w : Within set now = kept t set held (fresh_second d t set _ a) (λ y g. more y (with_more t set y g)) in
+    laid-append (with t set) held (with d set) xs _ (q.laid (with t set) scoped (only_made (with t set) xs _ (behind_first d (with t set) _ (second_held d t set _ a))))
+    (laid_makes _ _ _ _ _ (laid_puts _ _ _ _ (q.there (with t set) scoped, more t (with_self t set))
+    (laid_puts _ _ _ _ (with_self u now) (laid_puts _ _ _ _ tt (laid_stops _ _ (assigned d p.local u set (with u now) no_u (λ y g. with_more u now y (w y g))))))))
+
+laid_turning : (c : Around) (Γ : List Ty) (s : Span) (head body after : Label) (fs : List Formula) (t : ℕ) (T : Ty) (xs : List Line) (u : ℕ) (U : Ty) (ys : List Line) (d : ℕ) (V : Ty) → EachSpeaks (length Γ) (map accepted fs)
+    → WritesSet (looping c head) Γ [] t T xs → WritesSet (looping c head) Γ [] u U ys → WritesSet c Γ [] d V (turning c s head body after fs t T xs u U ys (put_unit s d ∷ []))
+laid_turning c Γ s head body after fs t T xs u U ys d V h p q set sc a =
+    let inside = in_loop c Γ set head sc in
+    let b = before t set _ (second d t set xs _ a) in
+    looped c (looping c head) s d t u _ _ head body after (head_of c fs) _ set xs ys (head_fits set c (length Γ) (map accepted fs) fs refl sc.count sc.holds h) (none set _ (own_apart d t u set xs ys _ _ _ _ a)) (fresh_second d t set _ a)
+    (p set inside (first d t set xs _ a)) (q set inside (first d u set ys _ b))
+
+laid_call : (c : Around) (Γ : List Ty) (s : Span) (f : ℕ) (ts : List ℕ) (after : Label) (d : ℕ) (T : Ty) (Ts : List Ty) (xs : List Line) → PassesSet c Γ ts Ts xs → WritesSet c Γ [] d T (xs ++ calls c s f d ts after ∷ [])
+laid_call c Γ s f ts after d T Ts xs p set sc a =
+    let b : Apart set (numbers (made xs)) = only_made set xs _ (behind_first d set _ a) in
+    laid-append set (with_all ts set) (with d set) xs _ (p.laid set sc b)
+    (called c s f d ts after set (with_all ts set) (record { once = λ x. omega (arith, p.counts x, b.once x) }) (with_all_has ts set) (with_all_more ts set))
+
+laid_argument : (c : Around) (Γ : List Ty) (t : ℕ) (T U : Ty) (xs : List Line) (ts : List ℕ) (Ts : List Ty) (ys : List Line) → WritesSet c Γ [] t U xs → PassesSet c Γ ts Ts ys → PassesSet c Γ (t ∷ ts) (T ∷ Ts) (made_by t U xs ++ ys)
+laid_argument c Γ t T U xs ts Ts ys p q = record {
+  counts = λ x. omega (arith, makings-append x xs ys, q.counts x);
+  laid = λ set sc a.
+      laid_makes _ _ _ _ _ (laid-append set (with t set) (with_all ts (with t set)) xs ys (p set sc (first_argument t set xs ys a)) (q.laid (with t set) (more_scoped c Γ set t sc) (later_arguments t set xs ys a)));
+}
+  where
+    first_argument : (t : ℕ) (set : Locals) (us vs : List Line) → Apart set (t ∷ numbers (made (us ++ vs))) → Apart set (t ∷ numbers (made us))
+    first_argument t set us vs h = record { once = λ x. omega (arith, makings-append x us vs, h.once x) }
+
+    later_arguments : (t : ℕ) (set : Locals) (us vs : List Line) → Apart set (t ∷ numbers (made (us ++ vs))) → Apart (with t set) (numbers (made vs))
+    later_arguments t set us vs h = record { once = λ x. omega (arith, makings-append x us vs, weight_with x t set, h.once x) }
+
+keeps_sets : (σ : List Signature) → KeepsTyped σ WritesSet NamesIn PassesSet
+keeps_sets σ = record {
+  put = laid_put;
+  made = λ c Γ ts t T xs d U ys p q set sc a.
+      laid_makes _ _ _ _ _ (laid-append (holding ts set) (with t (holding ts set)) (with d set) xs ys (p (holding ts set) (holding_scoped c Γ ts set sc) (first_apart d t ts set xs ys a)) (q set sc (rest_apart d t ts set xs ys a)));
+  left = λ c Γ t T d U xs p set sc a. fewer (with t set) (with d (with t set)) (with d set) xs (p (with t set) (more_scoped c Γ set t sc) (second_held d t set _ a)) (ends_with d t set);
+  bound = λ outer c Γ s t T d U xs p set sc a.
+      laid-append (with t set) (with d (with t set)) (with d set) xs _ (p (with t set) (bound_scoped c Γ T set t sc) (left d (with t set) xs _ (second_held d t set _ a))) (laid_dies outer s d t set (bound_apart d t set _ a));
+  tested = λ c Γ s t T yes' no' after d U xs ys e p q set sc a.
+      let b = without_second d t set _ a in
+      forked c s t yes' no' after set (with t set) (with d set) xs ys (with_self t set) (given_up t set (fresh_second d t set _ a)) (p set sc (left d set xs _ b)) (q set sc (left d set ys _ (right d set xs _ b)));
+  turned = λ c Γ s head body after fs t T xs u U ys d V e v h p q. laid_turning c Γ s head body after fs t T xs u U ys d V h p q;
+  named = λ c Γ v p T q h. record { behind = λ set. set; more = same_set; there = λ set sc. sc.holds p (has_get c.scope v p q); laid = λ set sc a. laid_stops _ _ (same_set set) };
+  temporary = λ c Γ t T xs p. record { behind = with t; more = with_more t; there = λ set sc. with_self t set; laid = λ set sc a. laid_makes _ _ _ _ _ (p set sc a) };
+  assigned = λ c Γ s t T p U d V xs e v q. laid_assigned c Γ s t T p U d V xs q;
+  updated = λ c Γ s op t u T p U d V xs h e v q. laid_updated c Γ s op t u T p U d V xs q;
+  no_arguments = λ c Γ. record { counts = λ x. omega arith; laid = λ set sc a. laid_stops _ _ (same_set set) };
+  argument = λ c Γ t T U xs ts Ts ys e p q. laid_argument c Γ t T U xs ts Ts ys p q;
+  called = λ c Γ s f g ts after d T xs e q p. laid_call c Γ s f ts after d T g.params xs p;
+}
+
+pub text_laid : (σ : List Signature) (c : Around) (e : TypedExpr) (xs : List Line) → IntoBody c e xs → (Γ : List Ty) (set : Locals) → Scoped c Γ set → IsWellTyped σ Γ e → Apart set (0 ∷ numbers (made xs)) → Laid set xs (with 0 set)
+text_laid σ c e xs p Γ set sc h a = of_typed_body σ WritesSet NamesIn PassesSet (keeps_sets σ) c e xs p Γ h set sc a

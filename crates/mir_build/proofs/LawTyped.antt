@@ -1,5 +1,5 @@
 -- Texts whose statements and ends are typed.
-use Rattle.std.proofs.Common.{◌≡◌, refl, ap, sym, ◌∙◌, subst, ℕ, zero, suc, Bool, true, false, List, [], ◌∷◌, ◌++◌, length, Some, slice_get, if◌then◌else◌, true≢false}
+use Rattle.std.proofs.Common.{◌≡◌, refl, ap, sym, subst, ℕ, zero, suc, Bool, true, false, List, [], ◌∷◌, ◌++◌, length, Some, slice_get, if◌then◌else◌, true≢false}
 use Rattle.std.specs.Option.{is_some}
 use Rattle.source_kinds.specs.declared.kinds.BinaryOp.{BinaryOp}
 use Rattle.source_kinds.specs.declared.kinds.BinaryOp.TheVariants.{Add, Sub, Mul, Div, Rem, Eq, Ne, Lt, Le, Gt, Ge}
@@ -12,10 +12,7 @@ use Rattle.mir_ir.specs.declared.terminator.TerminatorKind.{TerminatorKind}
 use Rattle.mir_ir.specs.declared.terminator.TerminatorKind.TheVariants.{Goto, If, Call, Return}
 use Rattle.mir_ir.specs.WellFormed.{IsSigned, PlaceHas, OperandHas, OperationHas, StatementIsTyped, CallIsTyped, Locals}
 use Rattle.mir_ir.specs.WellFormed as mir
-use Rattle.type_check.specs.declared.program.Signature.{Signature}
-use Rattle.type_check.specs.TypedExpr.{TypedExpr, TypedStmts, integer, truth, variable, negative, denied, binary, lazy, assign, update, call, block, branch, choice, repeat, done, last, bind, run}
-use Rattle.type_check.specs.TypedExprView.{ty_of}
-use Rattle.type_check.specs.WellTyped.{IsBuilt, AllBuilt, IsWellTyped, StatementsFit, operation_ty, is_signed}
+use Rattle.type_check.specs.WellTyped.{IsBuilt, AllBuilt, operation_ty, is_signed}
 use Rattle.mir_build.specs.Text.{Line, Puts, Makes, Turns, Leaves, Owns, made}
 use Rattle.mir_build.proofs.LawLists.{Has, here, there, has_left, has_right, made-append}
 use Rattle.mir_build.proofs.LawNames.{HoldsPlaces, HeadFits}
@@ -83,30 +80,6 @@ pub built_at : (ts : List Ty) (i : ℕ) (t : Ty) → AllBuilt ts → slice_get t
 built_at [] i t h e = absurd (cc)
 built_at (u ∷ ts) zero t h e = subst IsBuilt (some_same e) h.0
 built_at (u ∷ ts) (suc i) t h e = built_at ts i t h.1 e
-
-module _ (σ : List Signature) (answers : (n : ℕ) (g : Signature) → slice_get σ n ≡ Some g → IsBuilt g.answer) where
-  mutual
-    pub built : (e : TypedExpr) (Γ : List Ty) → AllBuilt Γ → IsWellTyped σ Γ e → IsBuilt (ty_of e)
-    built (integer t s z k) Γ b h = subst IsBuilt (sym h.0) tt
-    built (truth t s z) Γ b h = subst IsBuilt (sym h) tt
-    built (variable t s x) Γ b h = built_at Γ x t b h
-    built (negative t s e) Γ b h = subst IsBuilt (sym h.2) tt
-    built (denied t s e) Γ b h = subst IsBuilt (sym h.0) tt
-    built (binary t s op x y) Γ b h = operation_built op (ty_of x) t h.0
-    built (lazy t s op x y) Γ b h = subst IsBuilt (sym h.0) tt
-    built (assign t s a e) Γ b h = subst IsBuilt (sym h.0) tt
-    built (update t s op a e) Γ b h = subst IsBuilt (sym h.0) tt
-    built (call t s f es) Γ b h = subst IsBuilt (sym h.2) (answers f h.0 h.1)
-    built (block t s ss) Γ b h = built_rest ss Γ b t h
-    built (branch t s x a) Γ b h = subst IsBuilt (sym h.0) tt
-    built (choice t s x a c) Γ b h = subst IsBuilt h.1 (built a Γ b h.4)
-    built (repeat t s is x a) Γ b h = subst IsBuilt (sym h.0) tt
-
-    built_rest : (ss : TypedStmts) (Γ : List Ty) → AllBuilt Γ → (t : Ty) → StatementsFit σ Γ t ss → IsBuilt t
-    built_rest done Γ b t h = subst IsBuilt (sym h) tt
-    built_rest (last e) Γ b t h = subst IsBuilt h.0 (built e Γ b h.1)
-    built_rest (bind e ss) Γ b t h = built_rest ss (Γ ++ ty_of e ∷ []) (built_more Γ (ty_of e) b (built e Γ b h.0)) t h.1
-    built_rest (run e ss) Γ b t h = built_rest ss Γ b t h.1
 
 -- ---- what is typed
 

@@ -1,24 +1,25 @@
--- By induction on the rows: each lowered text is typed.
+-- Each lowered text is typed.
 use Rattle.std.proofs.Common.{◌≡◌, refl, ap, sym, ◌∙◌, subst, ℕ, Bool, true, false, List, [], ◌∷◌, ◌++◌, map, take, drop, length, Some, slice_get}
 use Rattle.logic_term.specs.declared.kinds.Label.{Label}
 use Rattle.logic_term.specs.Ty.{Ty, bool}
 use Rattle.text_core.specs.declared.span.Span.{Span}
-use Rattle.mir_ir.specs.declared.body.Body.{Body}
-use Rattle.mir_ir.specs.declared.place.Lit.TheVariants as lit
-use Rattle.mir_ir.specs.declared.place.Place.{Place}
-use Rattle.mir_ir.specs.WellFormed.{OperandsHave, PlaceHas}
-use Rattle.source_kinds.specs.declared.kinds.LazyOp.{LazyOp}
-use Rattle.source_kinds.specs.declared.kinds.LazyOp.TheVariants as lazy_op
-use Rattle.type_check.specs.declared.program.Signature.{Signature}
-use Rattle.type_check.specs.TypedExpr.{TypedExpr, TypedStmts, TypedExprs}
-use Rattle.type_check.specs.TypedExprView.{ty_of}
-use Rattle.type_check.specs.WellTyped.{IsBuilt, AllBuilt, IsWellTyped, StatementsFit, ArgumentsFit}
-use Rattle.mir_build.specs.Text.{Line, made}
-use Rattle.mir_build.specs.Lowering.{Around, whole, looping, binds, moved, dies_in, constant, put_unit, test, lazily, Into, of_integer, of_truth, of_variable, of_negative, of_denied, of_binary, of_lazy, of_assign}
-use Rattle.mir_build.specs.Lowering.{of_update, of_call, of_block, of_branch, of_choice, of_repeat, Rest, of_done, of_last, of_bind, of_run, Args, of_none, of_more, PlaceOf, of_name, of_temporary}
-use Rattle.mir_build.proofs.LawNames.{head_fits}
-use Rattle.mir_build.proofs.LawTyped.{operation_has, signed, built_more, built, is_local, AreTyped, typed-append, MadeFits, made_first, made_rest, made_left, made_right, ScopeFits, scope_at, scope_more, scope_length, scope_holds}
 use Rattle.mir_ir.specs.declared.body.Bodies.{Bodies}
+use Rattle.mir_ir.specs.declared.body.Body.{Body}
+use Rattle.mir_ir.specs.declared.place.Operand.TheVariants.{Copy}
+use Rattle.mir_ir.specs.declared.place.Place.{Place}
+use Rattle.mir_ir.specs.declared.statement.Rvalue.{Rvalue}
+use Rattle.mir_ir.specs.declared.statement.Rvalue.TheVariants.{Use, Binary}
+use Rattle.mir_ir.specs.WellFormed.{OperandsHave, PlaceHas, RvalueHas}
+use Rattle.source_kinds.specs.declared.kinds.BinaryOp.{BinaryOp}
+use Rattle.type_check.specs.declared.program.Signature.{Signature}
+use Rattle.type_check.specs.TypedExpr.{TypedExpr}
+use Rattle.type_check.specs.TypedExprView.{ty_of}
+use Rattle.type_check.specs.WellTyped.{IsBuilt, AllBuilt, IsWellTyped, EachSpeaks, operation_ty, unit}
+use Rattle.mir_build.specs.Text.{Line, made}
+use Rattle.mir_build.specs.Lowering.{Around, Formula, accepted, whole, looping, binds, moved, dies_in, puts, puts_at, put_unit, made_by, test, calls, turning, IntoBody}
+use Rattle.mir_build.proofs.LawNames.{head_fits}
+use Rattle.mir_build.proofs.LawTyped.{operation_has, operation_built, signed, built_more, built_at, is_local, AreTyped, typed-append, MadeFits, made_first, made_rest, made_left, made_right, ScopeFits, scope_at, scope_more, scope_length, scope_holds}
+use Rattle.mir_build.proofs.TypedShapes.{Takes, of_number, of_bool, of_unit, of_copy, of_minus, of_not, of_operation, KeepsTyped, of_typed_body}
 
 -- the body of a callee has the types of its signature
 pub record Callee (bodies : Bodies) (n : ℕ) (g : Signature) : Type 0 where
@@ -33,10 +34,34 @@ pub record Known (b : Body) (c : Around) (Γ : List Ty) : Type 0 where
   pub scope : ScopeFits b c.scope Γ
   pub built_types : AllBuilt Γ
 
+-- the types of temporaries are built
+abbrev pub EachBuilt : List (ℕ × Ty) → Type 0
+EachBuilt [] = Unit {0}
+EachBuilt (x ∷ ts) = IsBuilt x.1 × EachBuilt ts
+
+-- the temporaries are locals of their types
+abbrev pub EachAt : Body → List (ℕ × Ty) → Type 0
+EachAt b [] = Unit {0}
+EachAt b (x ∷ ts) = (slice_get b.locals x.0 ≡ Some x.1) × EachAt b ts
+
+-- the text writes a typed value of a built type
+pub record WritesTyped (bodies : Bodies) (b : Body) (c : Around) (Γ : List Ty) (ts : List (ℕ × Ty)) (d : ℕ) (T : Ty) (xs : List Line) : Type 0 where
+  pub built : AllBuilt Γ → EachBuilt ts → IsBuilt T
+  pub typed : Known b c Γ → EachBuilt ts → EachAt b ts → slice_get b.locals d ≡ Some T → MadeFits b (made xs) → AreTyped bodies b xs
+
+abbrev pub NamesTyped : Bodies → Body → Around → List Ty → Place → Ty → List Line → Type 0
+NamesTyped bodies b c Γ p T xs = Known b c Γ → MadeFits b (made xs) → AreTyped bodies b xs × PlaceHas b p T
+
+abbrev pub PassesTyped : Bodies → Body → Around → List Ty → List ℕ → List Ty → List Line → Type 0
+PassesTyped bodies b c Γ ts Ts xs = Known b c Γ → MadeFits b (made xs) → AreTyped bodies b xs × OperandsHave b (map moved ts) Ts
+
 module _ (σ : List Signature) (bodies : Bodies) (b : Body) (callees : (n : ℕ) (g : Signature) → slice_get σ n ≡ Some g → Callee bodies n g) (answers : (n : ℕ) (g : Signature) → slice_get σ n ≡ Some g → IsBuilt g.answer) where
   -- local x has the type
   abbrev At : ℕ → Ty → Type 0
   At x t = slice_get b.locals x ≡ Some t
+
+  abbrev Writes : Around → List Ty → List (ℕ × Ty) → ℕ → Ty → List Line → Type 0
+  Writes c Γ ts d T xs = WritesTyped bodies b c Γ ts d T xs
 
   at_type : (x : ℕ) (t u : Ty) → At x t → t ≡ u → At x u
   at_type x t u h e = h ∙ ap Some e
@@ -44,163 +69,119 @@ module _ (σ : List Signature) (bodies : Bodies) (b : Body) (callees : (n : ℕ)
   inner : (c : Around) (Γ : List Ty) (head : Label) → Known b c Γ → Known b (looping c head) Γ
   inner c Γ head k = record { scope = k.scope; built_types = k.built_types }
 
-  bound : (c : Around) (Γ : List Ty) (t : ℕ) (T : Ty) → Known b c Γ → At t T → IsBuilt T → Known b (binds c t) (Γ ++ T ∷ [])
-  bound c Γ t T k h g = record { scope = scope_more b c.scope Γ (whole t) T k.scope (refl, h); built_types = built_more Γ T k.built_types g }
+  one_more : (c : Around) (Γ : List Ty) (t : ℕ) (T : Ty) → Known b c Γ → At t T → IsBuilt T → Known b (binds c t) (Γ ++ T ∷ [])
+  one_more c Γ t T k h g = record { scope = scope_more b c.scope Γ (whole t) T k.scope (refl, h); built_types = built_more Γ T k.built_types g }
 
-  step : (xs ys : List Line) → AreTyped bodies b xs → (AreTyped bodies b ys) → AreTyped bodies b (xs ++ ys)
-  step xs ys p q = typed-append bodies b xs ys p q
+  is_unit : (T : Ty) → T ≡ unit → IsBuilt T
+  is_unit T e = subst IsBuilt (sym e) tt
 
-  typed_test : (c : Around) (s : Span) (t : ℕ) (yes' no' after : Label) (ys zs : List Line) → At t bool → (MadeFits b (made ys) → AreTyped bodies b ys) → (MadeFits b (made zs) → AreTyped bodies b zs)
-      → MadeFits b (made (test c s t yes' no' after ys zs)) → AreTyped bodies b (test c s t yes' no' after ys zs)
-  typed_test c s t yes' no' after ys zs h p q m =
-      ((refl, h), tt, step ys _ (p (made_left b ys _ m)) (tt, tt, step zs _ (q (made_left b zs _ (made_right b ys _ m))) (tt, tt, tt)))
+  -- ---- the shapes
 
-  typed_lazily : (op : LazyOp) (c : Around) (s : Span) (t d : ℕ) (yes' no' after : Label) (ys : List Line) → At t bool → At d bool → (MadeFits b (made ys) → AreTyped bodies b ys)
-      → MadeFits b (made (lazily op c s t d yes' no' after ys)) → AreTyped bodies b (lazily op c s t d yes' no' after ys)
-  typed_lazily lazy_op.And c s t d yes' no' after ys h g p m = typed_test c s t yes' no' after ys (constant s d (lit.Bool false) ∷ []) h p (λ n. ((bool, (refl, g), refl), tt)) m
-  typed_lazily lazy_op.Or c s t d yes' no' after ys h g p m = typed_test c s t yes' no' after (constant s d (lit.Bool true) ∷ []) ys h (λ n. ((bool, (refl, g), refl), tt)) p m
+  value_built : (c : Around) (Γ : List Ty) (ts : List (ℕ × Ty)) (r : Rvalue) (T : Ty) → Takes c Γ ts r T → AllBuilt Γ → IsBuilt T
+  value_built c Γ ts r T (of_number h) g = subst IsBuilt (sym h.0) tt
+  value_built c Γ ts r T (of_bool h) g = subst IsBuilt (sym h) tt
+  value_built c Γ ts r T (of_unit h) g = is_unit T h
+  value_built c Γ ts r T (of_copy v p q h) g = built_at Γ v T g h
+  value_built c Γ ts r T (of_minus i h g' e) g = subst IsBuilt (sym g') tt
+  value_built c Γ ts r T (of_not h e) g = subst IsBuilt (sym h) tt
+  value_built c Γ ts r T (of_operation {op = op} {T = U} h e) g = operation_built op U T h
+
+  value_typed : (c : Around) (Γ : List Ty) (ts : List (ℕ × Ty)) (r : Rvalue) (T : Ty) → Takes c Γ ts r T → Known b c Γ → EachAt b ts → RvalueHas b r T
+  value_typed c Γ ts r T (of_number h) k a = h
+  value_typed c Γ ts r T (of_bool h) k a = h
+  value_typed c Γ ts r T (of_unit h) k a = (refl, refl, h)
+  value_typed c Γ ts r T (of_copy v p q h) k a = scope_at b c.scope Γ v p T k.scope q h
+  value_typed c Γ ts r T (of_minus {t = t} i h e q) k a = (i, signed i h, (refl, at_type t _ _ a.0 q), e)
+  value_typed c Γ ts r T (of_not {t = t} h q) k a = ((refl, at_type t _ _ a.0 q), h)
+  value_typed c Γ ts r T (of_operation {u = u} {op = op} {T = U} h e) k a = (U, (refl, a.1.0), (refl, at_type u _ _ a.0 e), operation_has op U T h)
 
   typed_dies : (outer : Bool) (s : Span) (t : ℕ) (T : Ty) → At t T → AreTyped bodies b (dies_in outer s t)
   typed_dies true s t T h = tt
   typed_dies false s t T h = ((T, h), tt)
 
-  mutual
-    pub typed : (c : Around) (e : TypedExpr) (d : ℕ) (xs : List Line) → Into c e d xs → (Γ : List Ty) → Known b c Γ → IsWellTyped σ Γ e → At d (ty_of e) → MadeFits b (made xs) → AreTyped bodies b xs
-    typed c e d xs (of_integer {ty = ty}) Γ k h a m = ((ty, (refl, a), h), tt)
-    typed c e d xs (of_truth {ty = ty}) Γ k h a m = ((ty, (refl, a), h), tt)
-    typed c e d xs (of_variable {ty = ty} {v = v} x q) Γ k h a m = ((ty, (refl, a), scope_at b c.scope Γ v x ty k.scope q h), tt)
-    typed c e d xs (of_negative {ty = ty} {e = e'} {t = t} {xs = us} p) Γ k h a m =
-        let at_t = made_first b t _ _ m in
-        let m' = made_rest b t _ _ m in (
-          built σ answers e' Γ k.built_types h.4,
-          step us _ (typed c _ t us p Γ k h.4 at_t (made_left b us _ m')) ((ty, (refl, a), (h.0, signed h.0 h.1, (refl, at_type t _ _ at_t h.3), h.2)), tt),
-        )
-    typed c e d xs (of_denied {ty = ty} {e = e'} {t = t} {xs = us} p) Γ k h a m =
-        let at_t = made_first b t _ _ m in
-        let m' = made_rest b t _ _ m in (
-          built σ answers e' Γ k.built_types h.2,
-          step us _ (typed c _ t us p Γ k h.2 at_t (made_left b us _ m')) ((ty, (refl, a), ((refl, at_type t _ _ at_t h.1), h.0)), tt),
-        )
-    typed c e d xs (of_binary {ty = ty} {op = op} {a = x} {b = y} {t = t} {u = u} {xs = us} {ys = vs} p q) Γ k h a m =
-        let at_t = made_first b t _ _ m in
-        let m' = made_rest b t _ _ m in
-        let n = made_right b us _ m' in
-        let at_u = made_first b u _ _ n in
-        let n' = made_rest b u _ _ n in (
-          built σ answers x Γ k.built_types h.2,
-          step us _ (typed c _ t us p Γ k h.2 at_t (made_left b us _ m')) (
-            built σ answers y Γ k.built_types h.3,
-            step vs _ (typed c _ u vs q Γ k h.3 at_u (made_left b vs _ n'))
-                ((ty, (refl, a), (ty_of x, (refl, at_t), (refl, at_type u _ _ at_u h.1), operation_has op (ty_of x) ty h.0)), tt),
-          ),
-        )
-    typed c e d xs (of_lazy {s = s} {op = op} {a = x} {t = t} yes' no' after {xs = us} {ys = vs} p q) Γ k h a m =
-        let at_t = made_first b t _ _ m in
-        let m' = made_rest b t _ _ m in
-        let at_d = at_type d _ _ a h.0 in
-        let g : MadeFits b (made vs) → AreTyped bodies b vs = typed c _ d vs q Γ k h.4 (at_type d _ _ at_d (sym h.2)) in (
-          built σ answers x Γ k.built_types h.3,
-          step us _ (typed c _ t us p Γ k h.3 at_t (made_left b us _ m')) (typed_lazily op c s t d yes' no' after vs (at_type t _ _ at_t h.1) at_d g (made_right b us _ m')),
-        )
-    typed c e d xs (of_assign {ty = ty} {a = x} {e = y} {t = t} {p = z} {xs = us} {ys = vs} p q) Γ k h a m =
-        let at_t = made_first b t _ _ m in
-        let m' = made_rest b t _ _ m in
-        let w = typed_place c x z vs q Γ k h.2 (made_left b vs _ (made_right b us _ m')) in (
-          built σ answers y Γ k.built_types h.3,
-          step us _ (typed c _ t us p Γ k h.3 at_t (made_left b us _ m'))
-              (step vs _ w.0 ((ty_of x, w.1, (refl, at_type t _ _ at_t h.1)), ((ty, (refl, a), (refl, refl, h.0)), tt))),
-        )
-    typed c e d xs (of_update {ty = ty} {op = op} {a = x} {e = y} {t = t} {p = z} u {xs = us} {ys = vs} p q) Γ k h a m =
-        let at_t = made_first b t _ _ m in
-        let m' = made_rest b t _ _ m in
-        let n = made_right b us _ m' in
-        let w = typed_place c x z vs q Γ k h.3 (made_left b vs _ n) in
-        let at_u = made_first b u _ _ (made_right b vs _ n) in
-        let g = built σ answers y Γ k.built_types h.4 in (
-          g,
-          step us _ (typed c _ t us p Γ k h.4 at_t (made_left b us _ m')) (
-              step vs _ w.0 (
-                g,
-                (
-                  (ty_of y, (refl, at_u), (ty_of y, subst (PlaceHas b z) (sym h.1) w.1, (refl, at_t), operation_has op (ty_of y) (ty_of y) h.2)),
-                  ((ty_of x, w.1, (refl, at_type u _ _ at_u h.1)), ((ty, (refl, a), (refl, refl, h.0)), tt)),
-                ),
-              )
-              ),
-        )
-    typed c e d xs (of_call {ty = ty} {f = f} {es = es} {ts = ts} after {xs = us} p) Γ k h a m =
-        let w = callees f h.0 h.1 in
-        let g = typed_args c es ts us p Γ k h.0.params h.3 (made_left b us _ m) in
-        step us _ g.0
-        ((w.body, ty, w.is_body, subst (OperandsHave b (map moved ts)) (sym w.params) g.1, w.answer ∙ ap Some (sym h.2), (refl, a), sym (ap length w.ground)), tt, tt)
-    typed c e d xs (of_block {ty = ty} r) Γ k h a m = typed_rest c _ _ _ d xs r Γ ty k h a m
-    typed c e d xs (of_branch {ty = ty} {s = s} {e = x} {t = t} yes' no' after {xs = us} {ys = vs} p q) Γ k h a m =
-        let at_t = made_first b t _ _ m in
-        let m' = made_rest b t _ _ m in (
-          built σ answers x Γ k.built_types h.3,
-          step us _ (typed c _ t us p Γ k h.3 at_t (made_left b us _ m'))
-              (typed_test c s t yes' no' after vs (put_unit s d ∷ []) (at_type t _ _ at_t h.1) (typed c _ d vs q Γ k h.4 (at_type d _ _ a (h.0 ∙ sym h.2))) (λ n. ((ty, (refl, a), (refl, refl, h.0)), tt)) (made_right b us _ m')),
-        )
-    typed c e d xs (of_choice {ty = ty} {s = s} {e = x} {t = t} yes' no' after {xs = us} {ys = vs} {zs = ws} p q r) Γ k h a m =
-        let at_t = made_first b t _ _ m in
-        let m' = made_rest b t _ _ m in (
-          built σ answers x Γ k.built_types h.3,
-          step us _ (typed c _ t us p Γ k h.3 at_t (made_left b us _ m'))
-              (typed_test c s t yes' no' after vs ws (at_type t _ _ at_t h.0) (typed c _ d vs q Γ k h.4 (at_type d _ _ a (sym h.1))) (typed c _ d ws r Γ k h.5 (at_type d _ _ a (sym h.2))) (made_right b us _ m')),
-        )
-    typed c e d xs (of_repeat {ty = ty} {is = is} {e = x} {b = y} {t = t} {u = u} head body after fs {xs = us} {ys = vs} g p q) Γ k h a m =
-        let at_t = made_first b t _ _ m in
-        let m' = made_rest b t _ _ m in
-        let n = made_right b us _ m' in
-        let at_u = made_first b u _ _ n in
-        let n' = made_rest b u _ _ n in (
+  unit_typed : (T : Ty) (d : ℕ) (s : Span) → T ≡ unit → At d T → AreTyped bodies b (put_unit s d ∷ [])
+  unit_typed T d s e a = ((T, (refl, a), (refl, refl, e)), tt)
+
+  then_made : (t : ℕ) (T : Ty) (xs ys : List Line) → IsBuilt T → (At t T → MadeFits b (made xs) → AreTyped bodies b xs) → (At t T → MadeFits b (made ys) → AreTyped bodies b ys)
+      → MadeFits b (made (made_by t T xs ++ ys)) → AreTyped bodies b (made_by t T xs ++ ys)
+  then_made t T xs ys g p q m =
+      let at_t = made_first b t _ _ m in
+      let rest = made_rest b t _ _ m in
+      (g, typed-append bodies b xs ys (p at_t (made_left b xs ys rest)) (q at_t (made_right b xs ys rest)))
+
+  typed_test : (c : Around) (s : Span) (t : ℕ) (yes' no' after : Label) (ys zs : List Line) → At t bool → (MadeFits b (made ys) → AreTyped bodies b ys) → (MadeFits b (made zs) → AreTyped bodies b zs)
+      → MadeFits b (made (test c s t yes' no' after ys zs)) → AreTyped bodies b (test c s t yes' no' after ys zs)
+  typed_test c s t yes' no' after ys zs h p q m =
+      ((refl, h), tt, typed-append bodies b ys _ (p (made_left b ys _ m)) (tt, tt, typed-append bodies b zs _ (q (made_left b zs _ (made_right b ys _ m))) (tt, tt, tt)))
+
+  typed_turning : (c : Around) (Γ : List Ty) (s : Span) (head body after : Label) (fs : List Formula) (t : ℕ) (T : Ty) (xs : List Line) (u : ℕ) (U : Ty) (ys : List Line) (d : ℕ) (V : Ty) → T ≡ bool → V ≡ unit → EachSpeaks (length Γ) (map accepted fs)
+      → Writes (looping c head) Γ [] t T xs → Writes (looping c head) Γ [] u U ys → Known b c Γ → At d V → MadeFits b (made (turning c s head body after fs t T xs u U ys (put_unit s d ∷ [])))
+      → AreTyped bodies b (turning c s head body after fs t T xs u U ys (put_unit s d ∷ []))
+  typed_turning c Γ s head body after fs t T xs u U ys d V e v h p q k a m =
+      let inside = inner c Γ head k in (
+        tt,
+        head_fits (is_local b) c (length Γ) (map accepted fs) fs refl (scope_length b c.scope Γ k.scope) (scope_holds b c.scope Γ k.scope) h,
+        then_made t T xs _ (p.built k.built_types tt) (p.typed inside tt tt) (λ at_t n. (
+          (refl, at_type t _ _ at_t e),
           tt,
-          head_fits (is_local b) c (length Γ) is fs g (scope_length b c.scope Γ k.scope) (scope_holds b c.scope Γ k.scope) h.1,
-          (
-            built σ answers x Γ k.built_types h.4,
-            step us _ (typed (looping c head) _ t us p Γ (inner c Γ head k) h.4 at_t (made_left b us _ m')) (
-              (refl, at_type t _ _ at_t h.2),
-              tt,
-              (
-                built σ answers y Γ k.built_types h.5,
-                step vs _ (typed (looping c head) _ u vs q Γ (inner c Γ head k) h.5 at_u (made_left b vs _ n'))
-                    (tt, tt, ((ty, (refl, a), (refl, refl, h.0)), tt)),
-              ),
-            ),
-          ),
-        )
+          then_made u U ys _ (q.built k.built_types tt) (q.typed inside tt tt) (λ at_u l. (tt, tt, unit_typed V d s v a)) n,
+        )) m,
+      )
 
-    typed_place : (c : Around) (e : TypedExpr) (x : Place) (xs : List Line) → PlaceOf c e x xs → (Γ : List Ty) → Known b c Γ → IsWellTyped σ Γ e → MadeFits b (made xs) → AreTyped bodies b xs × PlaceHas b x (ty_of e)
-    typed_place c e x xs (of_name {ty = ty} {v = v} y q) Γ k h m = (tt, scope_at b c.scope Γ v y ty k.scope q h)
-    typed_place c e x xs (of_temporary {t = t} {xs = us} n p) Γ k h m =
-        let at_t = made_first b t _ _ m in
-        ((built σ answers e Γ k.built_types h, typed c e t us p Γ k h at_t (made_rest b t _ _ m)), (refl, at_t))
+  typed_call : (c : Around) (Γ : List Ty) (s : Span) (f : ℕ) (g : Signature) (ts : List ℕ) (after : Label) (d : ℕ) (T : Ty) (xs : List Line) → slice_get σ f ≡ Some g → T ≡ g.answer → PassesTyped bodies b c Γ ts g.params xs
+      → Known b c Γ → At d T → MadeFits b (made (xs ++ calls c s f d ts after ∷ [])) → AreTyped bodies b (xs ++ calls c s f d ts after ∷ [])
+  typed_call c Γ s f g ts after d T xs e q p k a m =
+      let w = callees f g e in
+      let v = p k (made_left b xs _ m) in
+      typed-append bodies b xs _ v.0
+      ((w.body, T, w.is_body, subst (OperandsHave b (map moved ts)) (sym w.params) v.1, w.answer ∙ ap Some (sym q), (refl, a), sym (ap length w.ground)), tt, tt)
 
-    pub typed_rest : (c : Around) (outer : Bool) (s : Span) (ss : TypedStmts) (d : ℕ) (xs : List Line) → Rest c outer s ss d xs → (Γ : List Ty) (T : Ty) → Known b c Γ → StatementsFit σ Γ T ss → At d T → MadeFits b (made xs) → AreTyped bodies b xs
-    typed_rest c outer s ss d xs of_done Γ T k h a m = ((T, (refl, a), (refl, refl, h)), tt)
-    typed_rest c outer s ss d xs (of_last p) Γ T k h a m = typed c _ d xs p Γ k h.1 (at_type d _ _ a (sym h.0)) m
-    typed_rest c outer s ss d xs (of_bind {e = e} {t = t} {xs = us} {ys = vs} p q) Γ T k h a m =
-        let at_t = made_first b t _ _ m in
-        let m' = made_rest b t _ _ m in
-        let n = made_right b us _ m' in
-        let g = built σ answers e Γ k.built_types h.0 in (
-          g,
-          step us _ (typed c _ t us p Γ k h.0 at_t (made_left b us _ m'))
-              (step vs _ (typed_rest (binds c t) outer s _ d vs q (Γ ++ ty_of e ∷ []) T (bound c Γ t (ty_of e) k at_t g) h.1 a (made_left b vs _ n)) (typed_dies outer s t (ty_of e) at_t)),
-        )
-    typed_rest c outer s ss d xs (of_run {e = e} {t = t} {xs = us} {ys = vs} p q) Γ T k h a m =
-        let at_t = made_first b t _ _ m in
-        let m' = made_rest b t _ _ m in (
-          built σ answers e Γ k.built_types h.0,
-          step us vs (typed c _ t us p Γ k h.0 at_t (made_left b us _ m')) (typed_rest c outer s _ d vs q Γ T k h.1 a (made_right b us _ m')),
-        )
+  typed_updated : (c : Around) (Γ : List Ty) (s : Span) (op : BinaryOp) (t u : ℕ) (T : Ty) (p : Place) (U : Ty) (d : ℕ) (V : Ty) (xs : List Line) → operation_ty op T ≡ Some T → T ≡ U → V ≡ unit → NamesTyped bodies b c Γ p U xs
+      → Known b c Γ → IsBuilt T → At t T → At d V → MadeFits b (made (xs ++ (made_by u T (puts s u (Binary op (Copy p) (moved t)) ∷ []) ++ puts_at s p (Use (moved u)) ∷ put_unit s d ∷ [])))
+      → AreTyped bodies b (xs ++ (made_by u T (puts s u (Binary op (Copy p) (moved t)) ∷ []) ++ puts_at s p (Use (moved u)) ∷ put_unit s d ∷ []))
+  typed_updated c Γ s op t u T p U d V xs h e v q k g at_t a m =
+      let w = q k (made_left b xs _ m) in
+      let at_u = made_first b u _ _ (made_right b xs _ m) in
+      typed-append bodies b xs _ w.0 (
+        g,
+        (
+          (T, (refl, at_u), (T, subst (PlaceHas b p) (sym e) w.1, (refl, at_t), operation_has op T T h)),
+          ((U, w.1, (refl, at_type u _ _ at_u e)), unit_typed V d s v a),
+        ),
+      )
 
-    typed_args : (c : Around) (es : TypedExprs) (ts : List ℕ) (xs : List Line) → Args c es ts xs → (Γ : List Ty) → Known b c Γ → (Ts : List Ty) → ArgumentsFit σ Γ es Ts → MadeFits b (made xs) → AreTyped bodies b xs × OperandsHave b (map moved ts) Ts
-    typed_args c es ts xs of_none Γ k [] h m = (tt, tt)
-    typed_args c es ts xs of_none Γ k (T ∷ Ts) h m = absurd h
-    typed_args c es ts xs (of_more p q) Γ k [] h m = absurd h
-    typed_args c es ts xs (of_more {e = e} {t = t} {ts = ts'} {xs = us} {ys = vs} p q) Γ k (T ∷ Ts) h m =
+  keeps_typed : KeepsTyped σ Writes (NamesTyped bodies b) (PassesTyped bodies b)
+  keeps_typed = record {
+    put = λ c Γ ts s d r T h. record { built = λ g ts'. value_built c Γ ts r T h g; typed = λ k g at a m. ((T, (refl, a), value_typed c Γ ts r T h k at), tt) };
+    made = λ c Γ ts t T xs d U ys p q. record {
+      built = λ g h. q.built g (p.built g tt, h);
+      typed = λ k g at a m. let h = p.built k.built_types tt in then_made t T xs ys h (p.typed k tt tt) (λ at_t. q.typed k (h, g) (at_t, at) a) m;
+    };
+    left = λ c Γ t T d U xs p. record { built = λ g h. p.built g tt; typed = λ k g at a m. p.typed k tt tt a m };
+    bound = λ outer c Γ s t T d U xs p. record {
+      built = λ g h. p.built (built_more Γ T g h.0) tt;
+      typed = λ k g at a m. typed-append bodies b xs _ (p.typed (one_more c Γ t T k at.0 g.0) tt tt a (made_left b xs _ m)) (typed_dies outer s t T at.0);
+    };
+    tested = λ c Γ s t T yes' no' after d U xs ys e p q. record {
+      built = λ g h. p.built g tt;
+      typed = λ k g at a m. typed_test c s t yes' no' after xs ys (at_type t _ _ at.0 e) (p.typed k tt tt a) (q.typed k tt tt a) m;
+    };
+    turned = λ c Γ s head body after fs t T xs u U ys d V e v h p q. record { built = λ g ts. is_unit V v; typed = λ k g at a m. typed_turning c Γ s head body after fs t T xs u U ys d V e v h p q k a m };
+    named = λ c Γ v p T q h k m. (tt, scope_at b c.scope Γ v p T k.scope q h);
+    temporary = λ c Γ t T xs p k m. let at_t = made_first b t _ _ m in ((p.built k.built_types tt, p.typed k tt tt at_t (made_rest b t _ _ m)), (refl, at_t));
+    assigned = λ c Γ s t T p U d V xs e v q. record {
+      built = λ g ts. is_unit V v;
+      typed = λ k g at a m. let w = q k (made_left b xs _ m) in typed-append bodies b xs _ w.0 ((U, w.1, (refl, at_type t _ _ at.0 e)), unit_typed V d s v a);
+    };
+    updated = λ c Γ s op t u T p U d V xs h e v q. record { built = λ g ts. is_unit V v; typed = λ k g at a m. typed_updated c Γ s op t u T p U d V xs h e v q k g.0 at.0 a m };
+    no_arguments = λ c Γ k m. (tt, tt);
+    argument = λ c Γ t T U xs ts Ts ys e p q k m.
         let at_t = made_first b t _ _ m in
-        let m' = made_rest b t _ _ m in
-        let w = typed_args c _ ts' vs q Γ k Ts h.2 (made_right b us _ m') in
-        ((built σ answers e Γ k.built_types h.1, step us vs (typed c _ t us p Γ k h.1 at_t (made_left b us _ m')) w.0), ((refl, at_type t _ _ at_t h.0), w.1))
+        let rest = made_rest b t _ _ m in
+        let w = q k (made_right b xs ys rest) in
+        ((p.built k.built_types tt, typed-append bodies b xs ys (p.typed k tt tt at_t (made_left b xs ys rest)) w.0), ((refl, at_type t _ _ at_t e), w.1));
+    called = λ c Γ s f g ts after d T xs e q p. record { built = λ g' ts'. subst IsBuilt (sym q) (answers f g e); typed = λ k g' at a m. typed_call c Γ s f g ts after d T xs e q p k a m };
+  }
+
+  pub text_typed : (c : Around) (e : TypedExpr) (xs : List Line) → IntoBody c e xs → (Γ : List Ty) → Known b c Γ → IsWellTyped σ Γ e → At 0 (ty_of e) → MadeFits b (made xs) → AreTyped bodies b xs
+  text_typed c e xs p Γ k h a m = (of_typed_body σ Writes (NamesTyped bodies b) (PassesTyped bodies b) keeps_typed c e xs p Γ h).typed k tt tt a m

@@ -35,4 +35,5 @@ pub mod Shapes
 pub mod Statements
 pub mod Targets
 pub mod TaskStack
+pub mod TypedShapes
 pub mod Whole

@@ -1,12 +1,12 @@
 -- How many variables have to be in scope around an expression.
-use Rattle.std.proofs.Common.{◌≡◌, refl, ap, sym, ◌∙◌, get_or, ℕ, zero, suc, ◌+◌, ◌-◌, ◌<◌, ◌≤◌, max, Bool, true, false, List, [], ◌∷◌, ◌++◌, drop, length, length-append, cond, arith}
+use Rattle.std.proofs.Common.{◌≡◌, refl, ap, get_or, ℕ, ◌+◌, ◌<◌, ◌≤◌, Bool, true, false, List, [], ◌∷◌, ◌++◌, drop, length, length-append, arith}
 use Rattle.std.proofs.lemmas.List.{drop_all}
 use Rattle.std.proofs.lemmas.Option.{slice_get_within}
 use Rattle.logic_term.specs.Ty.{Ty}
 use Rattle.type_check.specs.declared.program.Signature.{Signature}
 use Rattle.type_check.specs.declared.typed.TypedStmt.{TypedStmt}
 use Rattle.type_check.specs.TypedExpr.{TypedExpr, TypedStmts, TypedExprs, integer, truth, variable, negative, denied, binary, lazy, assign, update, call, block, branch, choice, repeat, done, last, bind, run, none, more}
-use Rattle.type_check.specs.TypedExprView.{ty_of, stmt_of, stmts_of, exprs_of}
+use Rattle.type_check.specs.TypedExprView.{ty_of, stmt_of, stmts_of}
 use Rattle.type_check.specs.WellTyped.{IsWellTyped, StatementsFit, ArgumentsFit}
 use Rattle.mir_build.specs.Lowering.{Around, whole}
 use Rattle.mir_build.specs.Reach.{reach, reach_of, reach_in}

@@ -1,0 +1,113 @@
+-- What the shapes keep holds of the text of each well-typed expression.
+use Rattle.std.proofs.Common.{◌≡◌, sym, ◌∙◌, subst, ℕ, ℤ, Bool, true, List, [], ◌∷◌, ◌++◌, map, length, Some, slice_get}
+use Rattle.text_core.specs.declared.span.Span.{Span}
+use Rattle.logic_term.specs.declared.kinds.Ctor.TheVariants.{Tuple}
+use Rattle.logic_term.specs.declared.kinds.Label.{Label}
+use Rattle.logic_term.specs.Ty.{Ty, int, bool}
+use Rattle.source_kinds.specs.declared.kinds.BinaryOp.{BinaryOp}
+use Rattle.source_kinds.specs.declared.kinds.IntKind.{IntKind}
+use Rattle.source_kinds.specs.declared.kinds.LazyOp.{LazyOp}
+use Rattle.source_kinds.specs.declared.kinds.LazyOp.TheVariants as lazy_op
+use Rattle.source_kinds.specs.Range.{fits}
+use Rattle.mir_ir.specs.declared.place.Lit.TheVariants as lit
+use Rattle.mir_ir.specs.declared.place.Operand.TheVariants.{Copy, Const}
+use Rattle.mir_ir.specs.declared.place.Place.{Place}
+use Rattle.mir_ir.specs.declared.statement.Rvalue.{Rvalue}
+use Rattle.mir_ir.specs.declared.statement.Rvalue.TheVariants.{Use, Binary, Neg, Not, Make}
+use Rattle.type_check.specs.declared.program.Signature.{Signature}
+use Rattle.type_check.specs.TypedExpr.{TypedExpr, TypedStmts, TypedExprs}
+use Rattle.type_check.specs.TypedExprView.{ty_of}
+use Rattle.type_check.specs.WellTyped.{unit, operation_ty, is_signed, EachSpeaks, IsWellTyped, StatementsFit, ArgumentsFit}
+use Rattle.mir_build.specs.Text.{Line}
+use Rattle.mir_build.specs.Lowering.{Around, Formula, accepted, whole, binds, looping, puts, puts_at, put_unit, moved, made_by, dies_in, test, calls, turning, lazily, Into, of_integer, of_truth, of_variable, of_negative, of_denied, of_binary, of_lazy, of_assign}
+use Rattle.mir_build.specs.Lowering.{of_update, of_call, of_block, of_branch, of_choice, of_repeat, Rest, of_done, of_last, of_bind, of_run, Args, of_none, of_more, PlaceOf, of_name, of_temporary, IntoBody, of_outermost, of_other}
+
+-- the temporaries that a value takes, the last one first, with their types, and its own type
+pub data Takes (c : Around) (Γ : List Ty) : List (ℕ × Ty) → Rvalue → Ty → Type 0 where
+  of_number : {z : ℤ} {k : IntKind} {T : Ty} → (T ≡ int k) × (fits k z ≡ true) → Takes c Γ [] (Use (Const (lit.Int z k))) T
+  of_bool : {v : Bool} {T : Ty} → T ≡ bool → Takes c Γ [] (Use (Const (lit.Bool v))) T
+  of_unit : {T : Ty} → T ≡ unit → Takes c Γ [] (Make Tuple []) T
+  of_copy : {T : Ty} (v : ℕ) (p : Place) → slice_get c.scope v ≡ Some p → slice_get Γ v ≡ Some T → Takes c Γ [] (Use (Copy p)) T
+  of_minus : {t : ℕ} {T U : Ty} (k : IntKind) → is_signed k ≡ true → U ≡ int k → T ≡ int k → Takes c Γ ((t, T) ∷ []) (Neg (moved t)) U
+  of_not : {t : ℕ} {T U : Ty} → U ≡ bool → T ≡ bool → Takes c Γ ((t, T) ∷ []) (Not (moved t)) U
+  of_operation : {t u : ℕ} {op : BinaryOp} {T U V : Ty} → operation_ty op T ≡ Some V → U ≡ T → Takes c Γ ((u, U) ∷ (t, T) ∷ []) (Binary op (moved t) (moved u)) V
+
+-- `Writes c Γ ts d T xs` is to say of a text that, where the temporaries hold values, it writes a value of the type to local d; `Names c Γ p T xs`
+-- that the place has the type behind the text; `Passes c Γ ts Ts xs` that the text writes arguments of the types to the temporaries
+pub record KeepsTyped (σ : List Signature) (Writes : Around → List Ty → List (ℕ × Ty) → ℕ → Ty → List Line → Type 0) (Names : Around → List Ty → Place → Ty → List Line → Type 0)
+    (Passes : Around → List Ty → List ℕ → List Ty → List Line → Type 0) : Type 0 where
+  pub put : (c : Around) (Γ : List Ty) (ts : List (ℕ × Ty)) (s : Span) (d : ℕ) (r : Rvalue) (T : Ty) → Takes c Γ ts r T → Writes c Γ ts d T (puts s d r ∷ [])
+  -- one temporary more
+  pub made : (c : Around) (Γ : List Ty) (ts : List (ℕ × Ty)) (t : ℕ) (T : Ty) (xs : List Line) (d : ℕ) (U : Ty) (ys : List Line) → Writes c Γ [] t T xs → Writes c Γ ((t, T) ∷ ts) d U ys → Writes c Γ ts d U (made_by t T xs ++ ys)
+  -- one that nothing takes
+  pub left : (c : Around) (Γ : List Ty) (t : ℕ) (T : Ty) (d : ℕ) (U : Ty) (xs : List Line) → Writes c Γ [] d U xs → Writes c Γ ((t, T) ∷ []) d U xs
+  pub bound : (outer : Bool) (c : Around) (Γ : List Ty) (s : Span) (t : ℕ) (T : Ty) (d : ℕ) (U : Ty) (xs : List Line) → Writes (binds c t) (Γ ++ T ∷ []) [] d U xs → Writes c Γ ((t, T) ∷ []) d U (xs ++ dies_in outer s t)
+  pub tested : (c : Around) (Γ : List Ty) (s : Span) (t : ℕ) (T : Ty) (yes' no' after : Label) (d : ℕ) (U : Ty) (xs ys : List Line) → T ≡ bool → Writes c Γ [] d U xs → Writes c Γ [] d U ys
+      → Writes c Γ ((t, T) ∷ []) d U (test c s t yes' no' after xs ys)
+  pub turned : (c : Around) (Γ : List Ty) (s : Span) (head body after : Label) (fs : List Formula) (t : ℕ) (T : Ty) (xs : List Line) (u : ℕ) (U : Ty) (ys : List Line) (d : ℕ) (V : Ty) → T ≡ bool → V ≡ unit → EachSpeaks (length Γ) (map accepted fs)
+      → Writes (looping c head) Γ [] t T xs → Writes (looping c head) Γ [] u U ys → Writes c Γ [] d V (turning c s head body after fs t T xs u U ys (put_unit s d ∷ []))
+  pub named : (c : Around) (Γ : List Ty) (v : ℕ) (p : Place) (T : Ty) → slice_get c.scope v ≡ Some p → slice_get Γ v ≡ Some T → Names c Γ p T []
+  pub temporary : (c : Around) (Γ : List Ty) (t : ℕ) (T : Ty) (xs : List Line) → Writes c Γ [] t T xs → Names c Γ (whole t) T (made_by t T xs)
+  pub assigned : (c : Around) (Γ : List Ty) (s : Span) (t : ℕ) (T : Ty) (p : Place) (U : Ty) (d : ℕ) (V : Ty) (xs : List Line) → T ≡ U → V ≡ unit → Names c Γ p U xs
+      → Writes c Γ ((t, T) ∷ []) d V (xs ++ puts_at s p (Use (moved t)) ∷ put_unit s d ∷ [])
+  pub updated : (c : Around) (Γ : List Ty) (s : Span) (op : BinaryOp) (t u : ℕ) (T : Ty) (p : Place) (U : Ty) (d : ℕ) (V : Ty) (xs : List Line) → operation_ty op T ≡ Some T → T ≡ U → V ≡ unit → Names c Γ p U xs
+      → Writes c Γ ((t, T) ∷ []) d V (xs ++ (made_by u T (puts s u (Binary op (Copy p) (moved t)) ∷ []) ++ puts_at s p (Use (moved u)) ∷ put_unit s d ∷ []))
+  pub no_arguments : (c : Around) (Γ : List Ty) → Passes c Γ [] [] []
+  pub argument : (c : Around) (Γ : List Ty) (t : ℕ) (T U : Ty) (xs : List Line) (ts : List ℕ) (Ts : List Ty) (ys : List Line) → U ≡ T → Writes c Γ [] t U xs → Passes c Γ ts Ts ys → Passes c Γ (t ∷ ts) (T ∷ Ts) (made_by t U xs ++ ys)
+  pub called : (c : Around) (Γ : List Ty) (s : Span) (f : ℕ) (g : Signature) (ts : List ℕ) (after : Label) (d : ℕ) (T : Ty) (xs : List Line) → slice_get σ f ≡ Some g → T ≡ g.answer → Passes c Γ ts g.params xs
+      → Writes c Γ [] d T (xs ++ calls c s f d ts after ∷ [])
+
+module _ (σ : List Signature) (Writes : Around → List Ty → List (ℕ × Ty) → ℕ → Ty → List Line → Type 0) (Names : Around → List Ty → Place → Ty → List Line → Type 0) (Passes : Around → List Ty → List ℕ → List Ty → List Line → Type 0)
+    (keeps : KeepsTyped σ Writes Names Passes) where
+  -- of the same type
+  as_type : (c : Around) (Γ : List Ty) (d : ℕ) (T U : Ty) (xs : List Line) → T ≡ U → Writes c Γ [] d T xs → Writes c Γ [] d U xs
+  as_type c Γ d T U xs q p = subst (λ V. Writes c Γ [] d V xs) q p
+
+  unit_put : (c : Around) (Γ : List Ty) (s : Span) (d : ℕ) (T : Ty) → T ≡ unit → Writes c Γ [] d T (put_unit s d ∷ [])
+  unit_put c Γ s d T q = keeps.put c Γ [] s d _ T (of_unit q)
+
+  lazily_kept : (op : LazyOp) (c : Around) (Γ : List Ty) (s : Span) (t : ℕ) (T : Ty) (d : ℕ) (U : Ty) (yes' no' after : Label) (xs : List Line) → T ≡ bool → U ≡ bool → Writes c Γ [] d U xs → Writes c Γ ((t, T) ∷ []) d U (lazily op c s t d yes' no' after xs)
+  lazily_kept lazy_op.And c Γ s t T d U yes' no' after xs q r p = keeps.tested c Γ s t T yes' no' after d U xs _ q p (keeps.put c Γ [] s d _ U (of_bool r))
+  lazily_kept lazy_op.Or c Γ s t T d U yes' no' after xs q r p = keeps.tested c Γ s t T yes' no' after d U _ xs q (keeps.put c Γ [] s d _ U (of_bool r)) p
+
+  mutual
+    of_typed : (c : Around) (e : TypedExpr) (d : ℕ) (xs : List Line) → Into c e d xs → (Γ : List Ty) → IsWellTyped σ Γ e → Writes c Γ [] d (ty_of e) xs
+    of_typed c e d xs of_integer Γ h = keeps.put c Γ [] _ d _ _ (of_number h)
+    of_typed c e d xs of_truth Γ h = keeps.put c Γ [] _ d _ _ (of_bool h)
+    of_typed c e d xs (of_variable {v = v} x q) Γ h = keeps.put c Γ [] _ d _ _ (of_copy v x q h)
+    of_typed c e d xs (of_negative {t = t} {xs = us} p) Γ h = keeps.made c Γ [] t _ us d _ _ (of_typed c _ t us p Γ h.4) (keeps.put c Γ _ _ d _ _ (of_minus h.0 h.1 h.2 h.3))
+    of_typed c e d xs (of_denied {t = t} {xs = us} p) Γ h = keeps.made c Γ [] t _ us d _ _ (of_typed c _ t us p Γ h.2) (keeps.put c Γ _ _ d _ _ (of_not h.0 h.1))
+    of_typed c e d xs (of_binary {t = t} {u = u} {xs = us} {ys = vs} p q) Γ h =
+        keeps.made c Γ [] t _ us d _ _ (of_typed c _ t us p Γ h.2) (keeps.made c Γ _ u _ vs d _ _ (of_typed c _ u vs q Γ h.3) (keeps.put c Γ _ _ d _ _ (of_operation h.0 h.1)))
+    of_typed c e d xs (of_lazy {s = s} {op = op} {t = t} yes' no' after {xs = us} {ys = vs} p q) Γ h =
+        keeps.made c Γ [] t _ us d _ _ (of_typed c _ t us p Γ h.3) (lazily_kept op c Γ s t _ d _ yes' no' after vs h.1 h.0 (as_type c Γ d _ _ vs (h.2 ∙ sym h.0) (of_typed c _ d vs q Γ h.4)))
+    of_typed c e d xs (of_assign {s = s} {t = t} {p = x} {xs = us} {ys = vs} p q) Γ h = keeps.made c Γ [] t _ us d _ _ (of_typed c _ t us p Γ h.3) (keeps.assigned c Γ s t _ x _ d _ vs h.1 h.0 (of_place c _ x vs q Γ h.2))
+    of_typed c e d xs (of_update {s = s} {op = op} {t = t} {p = x} u {xs = us} {ys = vs} p q) Γ h = keeps.made c Γ [] t _ us d _ _ (of_typed c _ t us p Γ h.4) (keeps.updated c Γ s op t u _ x _ d _ vs h.2 h.1 h.0 (of_place c _ x vs q Γ h.3))
+    of_typed c e d xs (of_call {s = s} {f = f} {ts = ts} after {xs = us} p) Γ h = keeps.called c Γ s f h.0 ts after d _ us h.1 h.2 (of_args c _ ts us p Γ h.0.params h.3)
+    of_typed c e d xs (of_block p) Γ h = of_rest c _ _ _ d xs p Γ _ h
+    of_typed c e d xs (of_branch {s = s} {t = t} yes' no' after {xs = us} {ys = vs} p q) Γ h =
+        keeps.made c Γ [] t _ us d _ _ (of_typed c _ t us p Γ h.3) (keeps.tested c Γ s t _ yes' no' after d _ vs _ h.1 (as_type c Γ d _ _ vs (h.2 ∙ sym h.0) (of_typed c _ d vs q Γ h.4)) (unit_put c Γ s d _ h.0))
+    of_typed c e d xs (of_choice {s = s} {t = t} yes' no' after {xs = us} {ys = vs} {zs = ws} p q r) Γ h =
+        keeps.made c Γ [] t _ us d _ _ (of_typed c _ t us p Γ h.3) (keeps.tested c Γ s t _ yes' no' after d _ vs ws h.0 (as_type c Γ d _ _ vs h.1 (of_typed c _ d vs q Γ h.4)) (as_type c Γ d _ _ ws h.2 (of_typed c _ d ws r Γ h.5)))
+    of_typed c e d xs (of_repeat {s = s} {t = t} {u = u} head body after fs {xs = us} {ys = vs} g p q) Γ h =
+        keeps.turned c Γ s head body after fs t _ us u _ vs d _ h.2 h.0 (subst (EachSpeaks (length Γ)) g h.1) (of_typed (looping c head) _ t us p Γ h.4) (of_typed (looping c head) _ u vs q Γ h.5)
+
+    of_rest : (c : Around) (outer : Bool) (s : Span) (ss : TypedStmts) (d : ℕ) (xs : List Line) → Rest c outer s ss d xs → (Γ : List Ty) (T : Ty) → StatementsFit σ Γ T ss → Writes c Γ [] d T xs
+    of_rest c outer s ss d xs of_done Γ T h = unit_put c Γ s d T h
+    of_rest c outer s ss d xs (of_last p) Γ T h = as_type c Γ d _ T xs h.0 (of_typed c _ d xs p Γ h.1)
+    of_rest c outer s ss d xs (of_bind {t = t} {xs = us} {ys = vs} p q) Γ T h = keeps.made c Γ [] t _ us d T _ (of_typed c _ t us p Γ h.0) (keeps.bound outer c Γ s t _ d T vs (of_rest (binds c t) outer s _ d vs q _ T h.1))
+    of_rest c outer s ss d xs (of_run {t = t} {xs = us} {ys = vs} p q) Γ T h = keeps.made c Γ [] t _ us d T vs (of_typed c _ t us p Γ h.0) (keeps.left c Γ t _ d T vs (of_rest c outer s _ d vs q Γ T h.1))
+
+    of_args : (c : Around) (es : TypedExprs) (ts : List ℕ) (xs : List Line) → Args c es ts xs → (Γ Ts : List Ty) → ArgumentsFit σ Γ es Ts → Passes c Γ ts Ts xs
+    of_args c es ts xs of_none Γ [] h = keeps.no_arguments c Γ
+    of_args c es ts xs of_none Γ (T ∷ Ts) h = absurd h
+    of_args c es ts xs (of_more p q) Γ [] h = absurd h
+    of_args c es ts xs (of_more {t = t} {ts = us'} {xs = us} {ys = vs} p q) Γ (T ∷ Ts) h = keeps.argument c Γ t T _ us us' Ts vs h.0 (of_typed c _ t us p Γ h.1) (of_args c _ us' vs q Γ Ts h.2)
+
+    of_place : (c : Around) (e : TypedExpr) (x : Place) (xs : List Line) → PlaceOf c e x xs → (Γ : List Ty) → IsWellTyped σ Γ e → Names c Γ x (ty_of e) xs
+    of_place c e x xs (of_name {v = v} y q) Γ h = keeps.named c Γ v y _ q h
+    of_place c e x xs (of_temporary {t = t} {xs = us} n p) Γ h = keeps.temporary c Γ t _ us (of_typed c e t us p Γ h)
+
+  pub of_typed_body : (c : Around) (e : TypedExpr) (xs : List Line) → IntoBody c e xs → (Γ : List Ty) → IsWellTyped σ Γ e → Writes c Γ [] 0 (ty_of e) xs
+  of_typed_body c e xs (of_outermost p) Γ h = of_rest c true _ _ 0 xs p Γ _ h
+  of_typed_body c e xs (of_other q p) Γ h = of_typed c e 0 xs p Γ h
