@@ -4,7 +4,7 @@ ghost use Rattle.machine_tests.specs.Walked.{block_of, body_of, whole, straight,
 
 use logic_term::{Contract, Label, Obligation, Term, Ty, TyNode};
 use mir_ir::{
-    Block, Body, Callee, Contracts, FnId, Head, Initialised, Lit, Operand, Place, Rvalue,
+    Block, Body, Callee, Contracts, FnId, Head, Initialised, Lit, Operand, Place, Resolves, Rvalue,
     Statement, StatementKind, Terminator, TerminatorKind,
 };
 use source_kinds::{ArithOp, BinaryOp, IntKind};
@@ -247,6 +247,7 @@ fn contracts_of(alloc: Global, of: Items<Contract>) -> Contracts
     Contracts {
         of,
         traits: Items::new(alloc),
+        closures: Items::new(alloc),
         intrinsics: Items::new(alloc),
     }
 }
@@ -303,6 +304,8 @@ fn of_operation(alloc: Global, kind: IntKind, op: BinaryOp) -> Result<Vec<Obliga
         contracts: &contracts_of(alloc, Items::new(alloc)),
         contract: &contract(alloc)?,
         init: &nothing_gone(alloc),
+        resolves: &Resolves::none(alloc),
+        decls: &[],
     };
     obligations(alloc, &walk, 1)
 }
@@ -318,6 +321,8 @@ fn of_branch(alloc: Global) -> Result<Vec<Obligation>, PassError> {
         contracts: &contracts_of(alloc, Items::new(alloc)),
         contract: &contract(alloc)?,
         init: &nothing_gone(alloc),
+        resolves: &Resolves::none(alloc),
+        decls: &[],
     };
     obligations(alloc, &walk, 1)
 }
@@ -337,6 +342,8 @@ fn of_loop(alloc: Global) -> Result<Vec<Obligation>, PassError> {
         contracts: &contracts_of(alloc, Items::new(alloc)),
         contract: &contract(alloc)?,
         init: &nothing_gone(alloc),
+        resolves: &Resolves::none(alloc),
+        decls: &[],
     };
     obligations(alloc, &walk, 1)
 }
@@ -352,6 +359,8 @@ fn of_call(alloc: Global) -> Result<Vec<Obligation>, PassError> {
         contracts: &contracts,
         contract: &contract(alloc)?,
         init: &nothing_gone(alloc),
+        resolves: &Resolves::none(alloc),
+        decls: &[],
     };
     obligations(alloc, &walk, 1)
 }
@@ -391,6 +400,8 @@ fn room_behind(alloc: Global, posts: u32) -> Result<Option<u32>, NoMemory> {
         contracts: &contracts_of(alloc, Items::new(alloc)),
         contract: &promising(alloc, posts)?,
         init: &nothing_gone(alloc),
+        resolves: &Resolves::none(alloc),
+        decls: &[],
     };
     Ok(room_after(&walk, OBLIGATIONS))
 }
@@ -403,6 +414,8 @@ fn limit_of(alloc: Global, posts: u32) -> Result<Option<Limit>, PassError> {
         contracts: &contracts_of(alloc, Items::new(alloc)),
         contract: &promising(alloc, posts)?,
         init: &nothing_gone(alloc),
+        resolves: &Resolves::none(alloc),
+        decls: &[],
     };
     match obligations(alloc, &walk, 1) {
         Ok(_) => Ok(None),
@@ -419,6 +432,8 @@ fn counted_from(alloc: Global, posts: u32, first: u32) -> Result<Vec<Obligation>
         contracts: &contracts_of(alloc, Items::new(alloc)),
         contract: &promising(alloc, posts)?,
         init: &nothing_gone(alloc),
+        resolves: &Resolves::none(alloc),
+        decls: &[],
     };
     counted_obligations(alloc, &walk, first)
 }

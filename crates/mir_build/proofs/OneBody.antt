@@ -160,8 +160,9 @@ programs_lower_in_one_way table ds fs bs bs' cs cs' gones gones' l l' =
     let impls : bs.impls ≡ bs'.impls = l.impls ∙ sym l'.impls in
     let closures : bs.closures ≡ bs'.closures = l.closures ∙ sym l'.closures in
     let traits : cs.traits ≡ cs'.traits = l.traits ∙ sym l'.traits in
+    let closure_decls : cs.closures ≡ cs'.closures = l.closure_decls ∙ sym l'.closure_decls in
     let intrinsics : cs.intrinsics ≡ cs'.intrinsics = l.intrinsics ∙ sym l'.intrinsics in
-    (λ i. record { bodies = w.0 i; decls = decls i; impls = impls i; closures = closures i }, λ i. record { of = w.1 i; traits = traits i; intrinsics = intrinsics i }, w.2)
+    (λ i. record { bodies = w.0 i; decls = decls i; impls = impls i; closures = closures i }, λ i. record { of = w.1 i; traits = traits i; closures = closure_decls i; intrinsics = intrinsics i }, w.2)
 
 -- the function at the place has no more blocks
 few_blocks : (table : List (List ℕ)) (σ : List Signature) (first : ℕ) (fs : List TypedFunction) (bs : List Body) (cs : List Contract) (gones : List Initialised) → EachLowersTo table σ first fs bs cs gones

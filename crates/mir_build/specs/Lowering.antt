@@ -399,6 +399,7 @@ pub record LowerTo (table : List (List ℕ)) (ds : List AdtDecl) (fs : List Type
   pub impls : bodies.impls ≡ []
   pub closures : bodies.closures ≡ []
   pub traits : cs.traits ≡ []
+  pub closure_decls : cs.closures ≡ []
   pub intrinsics : cs.intrinsics ≡ []
 
 -- the program lowers to these, by this table of names

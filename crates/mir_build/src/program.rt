@@ -57,6 +57,7 @@ pub fn lower(
         contracts: Contracts {
             of: contracts,
             traits: Items::new(alloc),
+            closures: Items::new(alloc),
             intrinsics: Items::new(alloc),
         },
         gone,

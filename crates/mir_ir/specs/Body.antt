@@ -10,6 +10,7 @@ use Rattle.mir_ir.specs.declared.place.Proj.{Proj}
 use Rattle.mir_ir.specs.declared.place.Place.{Place}
 use Rattle.mir_ir.specs.declared.body.Block.{Block}
 use Rattle.mir_ir.specs.declared.body.Body.{Body}
+use Rattle.mir_ir.specs.declared.body.Resolves.{Resolves}
 
 -- the first block of the label
 abbrev pub block_in : List (Label × Block) → Label → Option Block
@@ -38,3 +39,7 @@ param_tys b θ = instances θ (tys_of (take b.params (drop 1 b.locals)))
 
 abbrev pub answer_ty : Body → Tys → Ty
 answer_ty b θ = instance θ (nth_ty (tys_of b.locals) 0)
+
+-- what ends in a body without references
+abbrev pub no_resolves : Resolves
+no_resolves = record { entry = []; before = []; edges = [] }

@@ -1,7 +1,9 @@
+use crate::closure::ClosureDecl;
 use crate::place::Place;
 use crate::statement::Statement;
 use crate::terminator::{Callee, FnId, Terminator};
 use logic_term::{AdtDecl, Bounds, Contract, Label, Region, Term, TraitId, Ty};
+use std::alloc::Global;
 use text_core::{Items, Name, Span, Text};
 
 /// The head of a loop: the loop's invariants, over the names of the locals, and the span of each.
@@ -120,6 +122,8 @@ pub struct Contracts {
     pub of: Items<Contract>,
     /// For each trait one for each of its methods.
     pub traits: Items<Items<Contract>>,
+    /// The closures, each with its contract.
+    pub closures: Items<ClosureDecl>,
     /// Those of library functions, by their numbers.
     pub intrinsics: Items<Contract>,
 }
@@ -128,4 +132,29 @@ pub struct Contracts {
 #[derive(Drop)]
 pub struct Initialised {
     pub gone: Items<(Point, Items<Place>)>,
+}
+
+/// The places whose references end with the values that they have: at the entry of a body, just before a point, and along an edge from
+/// a point to another.
+#[derive(Drop)]
+pub struct Resolves {
+    pub entry: Items<Place>,
+    pub before: Items<(Point, Place)>,
+    pub edges: Items<(Point, Point, Items<Place>)>,
+}
+
+impl Resolves {
+    ghost use Rattle.std.specs.Prelude.{◌≡◌};
+    ghost use Rattle.mir_ir.specs.Body.{no_resolves};
+
+    /// No places, as in a body without references. Takes no memory.
+    pub fn none(alloc: Global) -> Resolves
+        ensures { result ≡ no_resolves }
+    {
+        Resolves {
+            entry: Items::new(alloc),
+            before: Items::new(alloc),
+            edges: Items::new(alloc),
+        }
+    }
 }

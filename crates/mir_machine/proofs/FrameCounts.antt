@@ -15,14 +15,13 @@ use Rattle.mir_ir.specs.declared.statement.Rvalue.{Rvalue}
 use Rattle.mir_ir.specs.declared.statement.Rvalue.TheVariants.{Use, Binary, Neg, Not, Make}
 use Rattle.mir_ir.specs.declared.statement.StatementKind.{StatementKind}
 use Rattle.mir_ir.specs.declared.statement.StatementKind.TheVariants.{Assign, Dead}
-use Rattle.mir_ir.specs.declared.terminator.FnId.TheVariants as fn_id
 use Rattle.mir_ir.specs.declared.terminator.Callee.{Callee}
-use Rattle.mir_ir.specs.declared.terminator.Callee.TheVariants.{Function}
 use Rattle.mir_ir.specs.declared.terminator.TerminatorKind.{TerminatorKind}
 use Rattle.mir_ir.specs.declared.terminator.TerminatorKind.TheVariants.{Goto, If, Call, Return}
 use Rattle.mir_ir.specs.declared.body.Body.{Body}
 use Rattle.mir_ir.specs.declared.body.Bodies.{Bodies}
 use Rattle.mir_ir.specs.Body.{block_in, place_ty, kind_in}
+use Rattle.mir_ir.specs.Callees.{callee_of}
 use Rattle.mir_machine.specs.declared.spot.Spot.{Spot}
 use Rattle.mir_machine.specs.Try.{Try, Yields, Panics, Sticks, ◌>>=◌, need}
 use Rattle.mir_machine.specs.Tree.{Tree, Trees, Int, Truth, Made, Boxed, Shared, Unique, Gone, nth_tree, trees_of}
@@ -277,7 +276,9 @@ no_call_count code f fs Return other =
     (λ t _. any_then (AtMost (length fs)) (is_there t) (λ t'. come_back code.program t' fs) (λ t' _. come_back_count code.program t' fs))
 
 callee_quiet : (bodies : Bodies) (callee : Callee) (args : List (Tree (Unit {0}))) → NoPanic (callee_frame {K = Unit {0}} bodies callee args)
-callee_quiet bodies (Function (fn_id.Body n)) args = quiet_need (λ a. Unit {0}) (slice_get bodies.bodies n) (λ b. Yields (entered b n no_tys args)) (λ b _. tt)
+callee_quiet bodies callee args =
+    quiet_need (λ a. Unit {0}) (callee_of bodies callee) (λ n. need (slice_get bodies.bodies n) >>= λ b. Yields (entered b n no_tys args))
+    (λ n _. quiet_need (λ a. Unit {0}) (slice_get bodies.bodies n) (λ b. Yields (entered b n no_tys args)) (λ b _. tt))
 
 -- a call does not panic, and makes one frame more
 pub call_count : (code : Code (Unit {0})) (f : Frame (Unit {0})) (fs : S) (end : TerminatorKind) → IsCall end → Quiet (λ o. frame_count o ≡ suc (length fs)) (end_step code (f ∷ fs) end)

@@ -1,6 +1,7 @@
 -- The walk of a body, as a relation between the points of its graph of blocks and trees of rows. A loop head is passed once: at a second
 -- arrival on a path its invariants are goals and the path ends (Floyd 1967; Creusot).
 use Rattle.std.specs.Prelude.{◌≡◌, ℕ, ◌+◌, true, false, List, [], ◌∷◌, length, Some, None, slice_get}
+use Rattle.logic_term.specs.declared.declaration.AdtDecl.{AdtDecl}
 use Rattle.logic_term.specs.declared.kinds.Label.{Label}
 use Rattle.logic_term.specs.declared.obligation.Contract.{Contract}
 use Rattle.logic_term.specs.declared.obligation.Obligation.{Obligation}
@@ -18,6 +19,7 @@ use Rattle.mir_ir.specs.declared.body.Contracts.{Contracts}
 use Rattle.mir_ir.specs.declared.body.Head.{Head}
 use Rattle.mir_ir.specs.declared.body.Initialised.{Initialised}
 use Rattle.mir_ir.specs.declared.body.Point.{Point}
+use Rattle.mir_ir.specs.declared.body.Resolves.{Resolves}
 use Rattle.mir_ir.specs.Body.{block_in}
 use Rattle.mir_ir.specs.Callees.{contract_at}
 use Rattle.mir_ir.specs.Layout.{among}
@@ -26,12 +28,15 @@ use Rattle.prophecy_logic.specs.Loop.{head_commands}
 use Rattle.prophecy_logic.specs.Row.{goals_of, commands_of}
 use Rattle.prophecy_logic.specs.Walk.{goals_at_return, where_true, where_false, goals_at_entry, goals_after_turn, goals_of_call, call_commands, entry_commands, Walk, stop, row, fork, owed}
 
--- what the walk of a body looks up: the contracts of all functions, its own, and what may be gone where
+-- what the walk of a body looks up: the contracts of all functions, its own, what may be gone where, which references end where, and the
+-- declared types. So far no row asks for the last two
 pub record Setting : Type 0 where
   pub body : Body
   pub contracts : Contracts
   pub contract : Contract
   pub init : Initialised
+  pub resolves : Resolves
+  pub decls : List AdtDecl
 
 -- ---- points
 

@@ -13,6 +13,7 @@ use Rattle.mir_ir.specs.declared.terminator.TerminatorKind.TheVariants.{Call}
 use Rattle.mir_ir.specs.declared.body.Block.{Block}
 use Rattle.mir_ir.specs.declared.body.Body.{Body}
 use Rattle.mir_ir.specs.declared.body.Contracts.{Contracts}
+use Rattle.mir_ir.specs.Body.{no_resolves}
 use Rattle.mir_ir.specs.Callees.{callee_of}
 use Rattle.mir_ir.specs.WellFormed.{IsTyped, Labelling, MeetsMoveRows}
 use Rattle.mir_machine.specs.Good.{Each, Good}
@@ -51,9 +52,9 @@ pub record Program : Type 0 where
   pub contracts : Contracts
   pub gone : ℕ → Initialised
 
--- what the walk of function n looks up
+-- what the walk of function n looks up; so far there are no references
 abbrev pub setting : Program → ℕ → Body → Contract → Setting
-setting p n b c = record { body = b; contracts = p.contracts; contract = c; init = p.gone n }
+setting p n b c = record { body = b; contracts = p.contracts; contract = c; init = p.gone n; resolves = no_resolves; decls = p.bodies.decls }
 
 -- body n has its place as its number, is typed and, by this labelling, initialised, and speaks of what is there
 pub record IsFunction (p : Program) (at : Labelling) (n : ℕ) (b : Body) : Type 0 where

@@ -98,7 +98,7 @@ is_false = record { params = name 10 ∷ []; answer = name 11; pre = []; post = 
 abbrev pub program : Program
 program = record {
   bodies = record { bodies = cleared ∷ caller ∷ []; decls = []; impls = []; closures = [] };
-  contracts = record { of = is_false ∷ is_false ∷ []; traits = []; intrinsics = [] };
+  contracts = record { of = is_false ∷ is_false ∷ []; traits = []; closures = []; intrinsics = [] };
   gone = λ n. record { gone = (record { label = label 0; statement = 0 }, whole 0 ∷ []) ∷ [] };
 }
 

@@ -12,7 +12,7 @@ use Rattle.prophecy_logic.specs.Graph.{Setting}
 use Rattle.verify_core.specs.declared.owed.Owed.{Owed}
 use Rattle.verify_core.specs.Laws.{OwedIsOne, FewerAreFront, FewerOweFewer, OwedIsOfBodies, FewObligationsAreNotMany}
 use Rattle.verify_core.specs.Owed.{owing}
-use Rattle.verify_core.specs.Prepared.{gone_of, AreOfWalk, FunctionOwes, FunctionsOwe}
+use Rattle.verify_core.specs.Prepared.{setting_of, AreOfWalk, FunctionOwes, FunctionsOwe}
 use Rattle.verify_core.proofs.OneWalk.{obligations_once}
 use Rattle.verify_core.proofs.ReachLaws.{within}
 use Rattle.verify_core.proofs.Basics.{some_same}
@@ -24,7 +24,7 @@ of_walk_once w os others one other = (obligations_once w 1 os others one other).
 
 module _ (bs : Bodies) (cs : Contracts) (gones : List Initialised) where
   abbrev walk_setting : ℕ → Body → Contract → Setting
-  walk_setting n b c = record { body = b; contracts = cs; contract = c; init = gone_of gones n }
+  walk_setting = setting_of bs cs gones
 
   function_owes_once : (n : ℕ) (os others : List Obligation) → FunctionOwes bs cs gones n os → FunctionOwes bs cs gones n others → os ≡ others
   function_owes_once n os others one other =

@@ -13,6 +13,8 @@ use Rattle.logic_term.specs.Ty.{Ty}
 use Rattle.mir_ir.specs.declared.body.Contracts.{Contracts}
 use Rattle.mir_ir.specs.declared.body.Body.{Body}
 use Rattle.mir_ir.specs.declared.body.Initialised.{Initialised}
+use Rattle.mir_ir.specs.declared.body.Resolves.{Resolves}
+use Rattle.mir_ir.specs.Body.{no_resolves}
 use Rattle.mir_ir.specs.declared.place.Operand.{Operand}
 use Rattle.mir_ir.specs.declared.place.Place.{Place}
 use Rattle.mir_ir.specs.declared.terminator.FnId.TheVariants.{Body as OfBody}
@@ -53,7 +55,7 @@ use Rattle.verify_core.specs.Built.{SpellsBuilt, IsSourceError}
 use Rattle.verify_core.specs.OnSource.{IsPastSomeLimit, RefusesProofs, Refuses}
 use Rattle.verify_core.specs.Passes.{IsChecked, CanWalkAt, CanWalkAll, AddsOwed, AreLaidOut, HaveFewGoals, IsSettingAt, AreTooMany, IsGoalsError, IsPathsError}
 use Rattle.verify_core.specs.declared.program.Program.{Program}
-use Rattle.verify_core.specs.Prepared.{AreInOrder, HasItems, IsPrepared, IsTypedAs, gone_of, AreOfWalk, FunctionOwes, FunctionsOwe, HasManyPaths, HaveFewPaths, IsPastLimit, IsRefused, RefusesSource, most_paths, most_obligations}
+use Rattle.verify_core.specs.Prepared.{AreInOrder, HasItems, IsPrepared, IsTypedAs, setting_of, AreOfWalk, FunctionOwes, FunctionsOwe, HasManyPaths, HaveFewPaths, IsPastLimit, IsRefused, RefusesSource, most_paths, most_obligations}
 use Rattle.verify_core.specs.Refusals.{refusal_of}
 use Rattle.verify_core.specs.Owed.{owing}
 use Rattle.verify_core.proofs.Assembly.{sound, gone_at}
@@ -161,29 +163,31 @@ module _ (table : List (List ℕ)) where
 pub read_at : {A : Type 0} (ys xs : List A) (n : ℕ) (x : A) → ys ≡ xs → x ≡ get_or ys n x → n < length xs → slice_get xs n ≡ Some x
 read_at {A} ys xs n x e is inside = slice_get_read xs (length xs) n x refl inside (subst (λ (zs : List A). x ≡ get_or zs n x) e is)
 
-pub setting_at : (l : Lowered) (n : ℕ) (b : Body) (cs : Contracts) (c : Contract) (g : Initialised) → slice_get l.bodies.bodies n ≡ Some b → cs ≡ l.contracts → slice_get l.contracts.of n ≡ Some c → slice_get l.gone n ≡ Some g
-    → IsSettingAt l n (record { body = b; contracts = cs; contract = c; init = g })
-setting_at l n b cs c g is_body same is_contract is_gone = record {
+pub setting_at : (l : Lowered) (n : ℕ) (b : Body) (cs : Contracts) (c : Contract) (g : Initialised) (r : Resolves) (ds : List AdtDecl) → slice_get l.bodies.bodies n ≡ Some b → cs ≡ l.contracts → slice_get l.contracts.of n ≡ Some c → slice_get l.gone n ≡ Some g
+    → r ≡ no_resolves → ds ≡ l.bodies.decls → IsSettingAt l n (record { body = b; contracts = cs; contract = c; init = g; resolves = r; decls = ds })
+setting_at l n b cs c g r ds is_body same is_contract is_gone is_none are_decls = record {
   body = is_body;
   contract = is_contract;
   contracts = same;
   gone = sym (gone_at l.gone n g is_gone);
+  resolves = is_none;
+  decls = are_decls;
 }
 
-pub walk_at : (l : Lowered) (n : ℕ) (w : Setting) → CanWalkAt l n → IsSettingAt l n w → CanWalk w
-walk_at l n w can at =
-    subst (λ (x : Initialised). CanWalk (record { body = w.body; contracts = w.contracts; contract = w.contract; init = x })) (sym at.gone)
-    (subst (λ (xs : Contracts). CanWalk (record { body = w.body; contracts = xs; contract = w.contract; init = gone_of l.gone n })) (sym at.contracts) (can w.body w.contract at.body at.contract))
-
--- obligations of the walk are those of the function, and the other way round
-same_setting : (l : Lowered) (n : ℕ) (w : Setting) → IsSettingAt l n w → w ≡ record { body = w.body; contracts = l.contracts; contract = w.contract; init = gone_of l.gone n }
+same_setting : (l : Lowered) (n : ℕ) (w : Setting) → IsSettingAt l n w → w ≡ setting_of l.bodies l.contracts l.gone n w.body w.contract
 same_setting l n w at = λ i. record {
   body = w.body;
   contracts = at.contracts i;
   contract = w.contract;
   init = at.gone i;
+  resolves = at.resolves i;
+  decls = at.decls i;
 }
 
+pub walk_at : (l : Lowered) (n : ℕ) (w : Setting) → CanWalkAt l n → IsSettingAt l n w → CanWalk w
+walk_at l n w can at = subst CanWalk (sym (same_setting l n w at)) (can w.body w.contract at.body at.contract)
+
+-- obligations of the walk are those of the function, and the other way round
 function_owes : (l : Lowered) (n : ℕ) (w : Setting) (os : List Obligation) → IsSettingAt l n w → AreOfWalk w os → FunctionOwes l.bodies l.contracts l.gone n os
 function_owes l n w os at are = record {
   body = w.body;
@@ -195,9 +199,9 @@ function_owes l n w os at are = record {
 
 of_walk_at : (l : Lowered) (n : ℕ) (w : Setting) (os : List Obligation) → IsSettingAt l n w → FunctionOwes l.bodies l.contracts l.gone n os → AreOfWalk w os
 of_walk_at l n w os at owes =
-    let own : AreOfWalk (record { body = owes.body; contracts = l.contracts; contract = owes.contract; init = gone_of l.gone n }) os = owes.of_walk in
-    let with_body = subst (λ (b : Body). AreOfWalk (record { body = b; contracts = l.contracts; contract = owes.contract; init = gone_of l.gone n }) os) (some_same (sym owes.is_body ∙ at.body)) own in
-    let with_contract = subst (λ (c : Contract). AreOfWalk (record { body = w.body; contracts = l.contracts; contract = c; init = gone_of l.gone n }) os) (some_same (sym owes.is_contract ∙ at.contract)) with_body in
+    let of : Body → Contract → Setting = setting_of l.bodies l.contracts l.gone n in
+    let with_body = subst (λ (b : Body). AreOfWalk (of b owes.contract) os) (some_same (sym owes.is_body ∙ at.body)) owes.of_walk in
+    let with_contract = subst (λ (c : Contract). AreOfWalk (of w.body c) os) (some_same (sym owes.is_contract ∙ at.contract)) with_body in
     subst (λ (v : Setting). AreOfWalk v os) (sym (same_setting l n w at)) with_contract
 
 -- the walk's obligations, as those of the function that has this number
@@ -295,8 +299,8 @@ owe_some l (suc n) can inside =
     let r = owe_some l n can (omega (arith, inside)) in
     let b = got l.bodies.bodies n (omega (arith, inside)) in
     let c = got l.contracts.of n (omega (arith, inside, can.contracts)) in
-    let w : Setting = record { body = b.0; contracts = l.contracts; contract = c.0; init = gone_of l.gone n } in
-    let at : IsSettingAt l n w = record { body = b.1; contract = c.1; contracts = refl; gone = refl } in
+    let w : Setting = setting_of l.bodies l.contracts l.gone n b.0 c.0 in
+    let at : IsSettingAt l n w = record { body = b.1; contract = c.1; contracts = refl; gone = refl; resolves = refl; decls = refl } in
     let o = owes_some l n w can at in
     (r.0 ++ owing (OfFunction n) o.0, FunctionsOwe.and_function r.1 (function_owes l n w o.0 at o.1))
 

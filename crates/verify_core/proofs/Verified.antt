@@ -32,7 +32,7 @@ use Rattle.verify_core.specs.Declarations.{declared_of}
 use Rattle.verify_core.specs.OnSource.{AreGood}
 use Rattle.verify_core.specs.Owed.{owed_by, HaveOwners}
 use Rattle.prophecy_logic.specs.Graph.{Setting}
-use Rattle.verify_core.specs.Prepared.{IsPrepared, AreOfWalk, gone_of, program_of}
+use Rattle.verify_core.specs.Prepared.{IsPrepared, AreOfWalk, program_of, setting_of}
 use Rattle.verify_core.specs.Verdict.{steps_of, HasDerivation, Tells, IsVerified, IsVerdict}
 use Rattle.verify_core.proofs.Assembly.{sound, labelling, functions}
 use Rattle.verify_core.proofs.OwedLaws.{have_owners, function_owes}
@@ -69,7 +69,7 @@ owners_of_prepared source p prepared = have_owners p.bodies p.contracts prepared
 
 module _ (source : List ℕ) (p : Program) (prepared : IsPrepared source p) where
   abbrev walk_setting : ℕ → Body → Contract → Setting
-  walk_setting n b c = record { body = b; contracts = p.contracts; contract = c; init = gone_of prepared.gones n }
+  walk_setting = setting_of p.bodies p.contracts prepared.gones
 
   -- what function n owes is of the walk of its body
   owed_of_walk : (n : ℕ) (b : Body) (c : Contract) → slice_get p.bodies.bodies n ≡ Some b → slice_get p.contracts.of n ≡ Some c → AreOfWalk (walk_setting n b c) (owed_by (Function n) p.obligations)

@@ -7,6 +7,7 @@ use Rattle.logic_term.specs.declared.obligation.Contract.{Contract}
 use Rattle.logic_term.specs.declared.obligation.Obligation.{Obligation}
 use Rattle.prophecy_sim.specs.declared.node.Node.TheVariants.{Function}
 use Rattle.mir_ir.specs.declared.body.Body.{Body}
+use Rattle.mir_ir.specs.Body.{no_resolves}
 use Rattle.mir_ir.specs.Layout.{IsLaidOut}
 use Rattle.type_check.specs.declared.program.TypedProgram.{TypedProgram}
 use Rattle.type_check.specs.DeclaredTypes.{declared_types}
@@ -15,7 +16,7 @@ use Rattle.prophecy_logic.specs.Graph.{Setting}
 use Rattle.prophecy_logic.specs.Walkable.{CanWalk}
 use Rattle.verify_core.specs.declared.owed.Owed.{Owed}
 use Rattle.verify_core.specs.Owed.{owing}
-use Rattle.verify_core.specs.Prepared.{IsTypedAs, gone_of, FunctionOwes, FunctionsOwe, HasManyPaths, most_paths, most_obligations}
+use Rattle.verify_core.specs.Prepared.{IsTypedAs, gone_of, setting_of, FunctionOwes, FunctionsOwe, HasManyPaths, most_paths, most_obligations}
 use Rattle.mir_ir.specs.declared.body.Bodies.{Bodies}
 
 -- the source is typed as this program, and declares these types
@@ -25,7 +26,7 @@ pub record IsChecked (source : List ℕ) (table : List (List ℕ)) (typed : Type
 
 -- the body of this place can be walked, if there is one
 abbrev pub CanWalkAt : Lowered → ℕ → Type 0
-CanWalkAt l n = (b : Body) (c : Contract) → slice_get l.bodies.bodies n ≡ Some b → slice_get l.contracts.of n ≡ Some c → CanWalk (record { body = b; contracts = l.contracts; contract = c; init = gone_of l.gone n })
+CanWalkAt l n = (b : Body) (c : Contract) → slice_get l.bodies.bodies n ≡ Some b → slice_get l.contracts.of n ≡ Some c → CanWalk (setting_of l.bodies l.contracts l.gone n b c)
 
 -- there are as many contracts and gone places as bodies; each body has its place as its number, and can be walked
 pub record CanWalkAll (l : Lowered) : Type 0 where
@@ -40,6 +41,8 @@ pub record IsSettingAt (l : Lowered) (n : ℕ) (w : Setting) : Type 0 where
   pub contract : slice_get l.contracts.of n ≡ Some w.contract
   pub contracts : w.contracts ≡ l.contracts
   pub gone : w.init ≡ gone_of l.gone n
+  pub resolves : w.resolves ≡ no_resolves
+  pub decls : w.decls ≡ l.bodies.decls
 
 -- the obligations of function n stand behind the earlier ones
 abbrev pub AddsOwed : Lowered → ℕ → List Owed → List Owed → Type 0

@@ -77,6 +77,10 @@ gone_of (g ∷ gones) (suc n) = gone_of gones n
 abbrev pub program_of : Bodies → Contracts → List Initialised → sim.Program
 program_of bs cs gones = record { bodies = bs; contracts = cs; gone = gone_of gones }
 
+-- what the walk of function n looks up
+abbrev pub setting_of : Bodies → Contracts → List Initialised → ℕ → Body → Contract → Setting
+setting_of bs cs gones = sim.setting (program_of bs cs gones)
+
 -- the obligations of the walk of a body with its contract, from number 1 on
 abbrev pub AreOfWalk : Setting → List Obligation → Type 0
 AreOfWalk w os = AreObligations w 1 os
@@ -87,7 +91,7 @@ pub record FunctionOwes (bs : Bodies) (cs : Contracts) (gones : List Initialised
   pub is_body : slice_get bs.bodies n ≡ Some body
   pub contract : Contract
   pub is_contract : slice_get cs.of n ≡ Some contract
-  pub of_walk : AreOfWalk (record { body = body; contracts = cs; contract = contract; init = gone_of gones n }) os
+  pub of_walk : AreOfWalk (setting_of bs cs gones n body contract) os
 
 -- so many functions, the first ones, owe these, one function behind the other
 pub data FunctionsOwe (bs : Bodies) (cs : Contracts) (gones : List Initialised) : ℕ → List Owed → Type 0 where

@@ -4,6 +4,7 @@ ghost use Rattle.type_check.specs.Checked.{AllGood};
 ghost use Rattle.type_check.specs.WellTyped.{ProgramFits};
 ghost use Rattle.mir_build.specs.Lowering.{IsLowered};
 ghost use Rattle.mir_build.specs.Laws.{Lowers};
+ghost use Rattle.mir_ir.specs.Body.{no_resolves};
 ghost use Rattle.verify_core.specs.Prepared.{IsPrepared, HaveFewPaths, RefusesSource};
 ghost use Rattle.verify_core.specs.Owed.{owing};
 ghost use Rattle.wp_gen.specs.Setting.{setting};
@@ -15,7 +16,7 @@ use crate::owed::Owed;
 use crate::program::Program;
 use logic_term::Obligation;
 use mir_build::{Lowered, lower};
-use mir_ir::Bodies;
+use mir_ir::{Bodies, Resolves};
 use proof_kernel::Tables;
 use prophecy_sim::Node;
 use rs_types::AdtTable;
@@ -58,8 +59,9 @@ fn check_all_paths(bodies: &Bodies) -> Result<(), Limit>
     Ok(())
 }
 
-/// What the walk of the function of this place looks up.
-fn walk_of(lowered: &Lowered, place: usize) -> Walk<'_>
+/// What the walk of the function of this place looks up; so far no references end.
+fn walk_of<'a>(lowered: &'a Lowered, resolves: &'a Resolves, place: usize) -> Walk<'a>
+    requires none { resolves.now ≡ no_resolves }
     requires bodies { place < length lowered.now.bodies.bodies }
     requires contracts { place < length lowered.now.contracts.of }
     requires gone { place < length lowered.now.gone }
@@ -70,18 +72,21 @@ fn walk_of(lowered: &Lowered, place: usize) -> Walk<'_>
         contracts: &lowered.contracts,
         contract: &lowered.contracts.of.as_slice()[place],
         init: &lowered.gone.as_slice()[place],
+        resolves,
+        decls: lowered.bodies.decls.as_slice(),
     }
 }
 
 /// That the functions have at most 1,000,000 obligations together, found before one is made.
-fn check_obligations(lowered: &Lowered) -> Result<(), Limit>
+fn check_obligations(alloc: Global, lowered: &Lowered) -> Result<(), Limit>
     requires { CanWalkAll lowered.now }
     ensures ok { OnOk result (HaveFewGoals lowered.now) }
     ensures err { IfErr result (IsGoalsError lowered.now) }
 {
+    let resolves = Resolves::none(alloc);
     let mut left = OBLIGATIONS;
     for place in 0..lowered.bodies.bodies.len() {
-        let walk = walk_of(lowered, place);
+        let walk = walk_of(lowered, &resolves, place);
         let Some(rest) = room_after(&walk, left) else {
             return Err(Limit {
                 kind: LimitKind::Obligations,
@@ -120,7 +125,8 @@ fn with_function(
     requires walk { CanWalkAll lowered.now }
     ensures { IfOk result (λ v. AddsOwed lowered.now place first.items v.items) }
 {
-    let walk = walk_of(lowered, place);
+    let resolves = Resolves::none(alloc);
+    let walk = walk_of(lowered, &resolves, place);
     let obligations = counted_obligations(alloc, &walk, 1)?;
     Ok(with_owing(first, Node::Function(walk.body.id), obligations)?)
 }
@@ -158,7 +164,7 @@ pub fn prepare(alloc: Global, source: &[u8]) -> Result<Program, Refusal>
     let adts = table.copied(alloc)?;
     let lowered = lower(alloc, &typed, table.into_decls(), &names)?;
     check_all_paths(&lowered.bodies)?;
-    check_obligations(&lowered)?;
+    check_obligations(alloc, &lowered)?;
     let obligations = all_owed(alloc, &lowered)?;
     let Lowered {
         bodies,

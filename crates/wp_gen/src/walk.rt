@@ -19,19 +19,24 @@ use crate::reached::{
     with_goals_at,
 };
 use crate::row::name_of;
-use logic_term::{Contract, Label, Term};
-use mir_ir::{Block, Body, Callee, Contracts, FnId, Head, Initialised, Operand, TerminatorKind};
+use logic_term::{AdtDecl, Contract, Label, Term};
+use mir_ir::{
+    Block, Body, Callee, Contracts, FnId, Head, Initialised, Operand, Resolves, TerminatorKind,
+};
 use prophecy_logic::{Goal, MetGoal, State};
 use std::alloc::Global;
 use text_core::{Kind, NoMemory, Span};
 
-/// What the walk of a body looks up: the contracts of all functions, its own, and what may be gone where.
+/// What the walk of a body looks up: the contracts of all functions, its own, what may be gone where, which references end where, and
+/// the declared types. So far nothing reads the last two.
 #[derive(Clone, Copy)]
 pub struct Walk<'a> {
     pub body: &'a Body,
     pub contracts: &'a Contracts,
     pub contract: &'a Contract,
     pub init: &'a Initialised,
+    pub resolves: &'a Resolves,
+    pub decls: &'a [AdtDecl],
 }
 
 // ---- the return
