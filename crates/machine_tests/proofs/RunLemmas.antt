@@ -3,6 +3,7 @@ use Rattle.std.proofs.Common.{◌≡◌, ◌∙◌, refl, sym, ap, subst, ℕ, z
 use Rattle.std.proofs.lemmas.Option.{same_Some}
 use Rattle.std.proofs.lemmas.Bool.{eqb-true}
 use Rattle.std.specs.Int.{w32}
+use Rattle.text_core.specs.declared.refusal.Cause.{Cause}
 use Rattle.source_kinds.specs.declared.kinds.BinaryOp.{BinaryOp}
 use Rattle.source_kinds.specs.declared.kinds.IntKind.{IntKind}
 use Rattle.logic_term.specs.declared.kinds.Ctor.TheVariants.{Tuple}
@@ -28,7 +29,7 @@ use Rattle.mir_machine.specs.Frame.{State}
 use Rattle.mir_machine.specs.Step.{whole}
 use Rattle.mir_machine.specs.Typed.{Met, Typed, AreTyped, is_int, is_truth, none_typed, more_typed}
 use Rattle.mir_machine.specs.Good.{IsProper, called}
-use Rattle.machine_tests.specs.Run.{sample, absolute, calling, alone, program, IsScalarOf, TakesOne}
+use Rattle.machine_tests.specs.Run.{sample, absolute, calling, panicking, alone, program, IsScalarOf, TakesOne}
 use Rattle.mir_ir.specs.declared.body.Bodies.{Bodies}
 
 -- ---- bodies, block by block
@@ -157,6 +158,22 @@ not_sound = sample_sound bool bool (Not (Copy (whole 1))) ((refl, refl), refl) r
 
 pub unit_sound : AreSound (alone (sample unit_ty (int I32) (Make Tuple [])))
 unit_sound = sample_sound unit_ty (int I32) (Make Tuple []) (refl, refl, refl) tt
+
+-- ---- a panic
+
+panicking_sound : (cause : Cause) → AreSound (alone (panicking cause))
+panicking_sound cause (suc f) b e = absurd (cc)
+panicking_sound cause zero b e =
+    let s = panicking cause in
+    subst (λ c. IsTyped (alone s) c × IsInitialised c × (c.id ≡ 0)) (same_Some _ _ e)
+    (body_sound (alone s) s (λ l i. parameters s) 0 refl (record {
+      ground = refl;
+      named = refl;
+      answers = omega arith;
+      begins = (_, refl);
+      entry = λ x h. h;
+      blocks = (record { statements = tt; typed = tt; can_end = tt; carries = tt }, tt);
+    }))
 
 -- ---- the absolute value, and a call of it
 
@@ -306,6 +323,12 @@ sample_takes bodies answer takes r t k x are is_takes is_x x_fits =
 
 pub truth_takes : (bodies : Bodies) (r : Rvalue) (b : Bool) → bodies ≡ alone (sample bool bool r) → TakesOne bodies 0 (Truth b)
 truth_takes bodies r b are = (sample bool bool r, bool, ap (λ (bs : Bodies). slice_get bs.bodies 0) are, refl, tt)
+
+pub panicking_samples : (bodies : Bodies) (cause : Cause) → bodies ≡ alone (panicking cause) → AreSound bodies
+panicking_samples bodies cause are = subst AreSound (sym are) (panicking_sound cause)
+
+pub panicking_takes : (bodies : Bodies) (cause : Cause) (t : Tree (Unit {0})) (x : ℤ) → bodies ≡ alone (panicking cause) → t ≡ Int x → fits I32 x ≡ true → TakesOne bodies 0 t
+panicking_takes bodies cause t x are is_x x_fits = (panicking cause, int I32, ap (λ (bs : Bodies). slice_get bs.bodies 0) are, refl, subst (IsScalarOf (int I32)) (sym is_x) x_fits)
 
 pub program_takes : (bodies : Bodies) (f : ℕ) (t : Tree (Unit {0})) (x : ℤ) → bodies ≡ program → f < 2 → t ≡ Int x → fits I32 x ≡ true → TakesOne bodies f t
 program_takes bodies zero t x are below is_x x_fits = (absolute, int I32, ap (λ (bs : Bodies). slice_get bs.bodies 0) are, refl, subst (IsScalarOf (int I32)) (sym is_x) x_fits)

@@ -3,6 +3,7 @@ use Rattle.std.proofs.Common.{◌≡◌, refl, sym, ap, subst, ◌==◌, ◌||�
 use Rattle.std.proofs.lemmas.Option.{same_Some}
 use Rattle.std.proofs.lemmas.Bool.{eqb-true}
 use Rattle.std.specs.Prelude.{slice_get}
+use Rattle.text_core.specs.declared.refusal.Cause.{Cause}
 use Rattle.logic_term.specs.declared.kinds.Label.{Label}
 use Rattle.logic_term.specs.declared.obligation.Contract.{Contract}
 use Rattle.logic_term.specs.Ty.{Ty}
@@ -17,7 +18,7 @@ use Rattle.mir_ir.specs.Body.{block_in}
 use Rattle.mir_ir.specs.Layout.{among, targets, around, Leads, on, back}
 use Rattle.prophecy_logic.specs.Graph.{Setting}
 use Rattle.prophecy_logic.specs.Walkable.{IsKnown, CanWalk}
-use Rattle.machine_tests.specs.Walked.{label, straight, branching, looping, calling, forking, IsForking}
+use Rattle.machine_tests.specs.Walked.{label, straight, panicking, branching, looping, calling, forking, IsForking}
 
 same_label : (l m : Label) → (l.0 == m.0) ≡ true → l ≡ m
 same_label l m e = ap (λ n. let r : Label = record { 0 = n } in r) (eqb-true l.0 m.0 e)
@@ -82,6 +83,11 @@ pub straight_can_walk : (w : Setting) (tys : List Ty) (sts : List Statement) →
 straight_can_walk w tys sts is =
     with_body w (straight tys sts) is
     (can_walk (record w { body = straight tys sts }) _ refl refl (record { leads = tt; known = tt }, tt))
+
+pub panicking_can_walk : (w : Setting) (tys : List Ty) (cause : Cause) → w.body ≡ panicking tys cause → CanWalk w
+panicking_can_walk w tys cause is =
+    with_body w (panicking tys cause) is
+    (can_walk (record w { body = panicking tys cause }) _ refl refl (record { leads = tt; known = tt }, tt))
 
 pub branching_can_walk : (w : Setting) (tys : List Ty) (o : Operand) (first second : List Statement) → w.body ≡ branching tys o first second → CanWalk w
 branching_can_walk w tys o first second is =

@@ -1,6 +1,7 @@
 -- The bodies that tests run.
 use Rattle.std.specs.Prelude.{◌≡◌, ℕ, pos, true, List, [], ◌∷◌, Some, None, codes, slice_get}
 use Rattle.text_core.specs.declared.name.Name.{Name}
+use Rattle.text_core.specs.declared.refusal.Cause.{Cause}
 use Rattle.text_core.specs.declared.span.Span.{Span}
 use Rattle.source_kinds.specs.declared.kinds.BinaryOp.TheVariants.{Lt}
 use Rattle.source_kinds.specs.declared.kinds.IntKind.TheVariants.{I32}
@@ -16,7 +17,7 @@ use Rattle.mir_ir.specs.declared.statement.Statement.{Statement}
 use Rattle.mir_ir.specs.declared.terminator.FnId.TheVariants as fn_id
 use Rattle.mir_ir.specs.declared.terminator.Callee.TheVariants.{Function}
 use Rattle.mir_ir.specs.declared.terminator.TerminatorKind.{TerminatorKind}
-use Rattle.mir_ir.specs.declared.terminator.TerminatorKind.TheVariants.{Goto, If, Call, Return}
+use Rattle.mir_ir.specs.declared.terminator.TerminatorKind.TheVariants.{Goto, If, Call, Return, Panic}
 use Rattle.mir_ir.specs.declared.body.Block.{Block}
 use Rattle.mir_ir.specs.declared.body.Body.{Body}
 use Rattle.mir_ir.specs.Body.{param_tys}
@@ -68,6 +69,10 @@ calling =
     ∷ (label 1, block_of [] Return)
     ∷ []
     )
+
+-- one block, which panics
+abbrev pub panicking : Cause → Body
+panicking cause = body_of 0 (int I32 ∷ int I32 ∷ []) (name 100 ∷ name 101 ∷ []) ((label 0, block_of [] (Panic cause)) ∷ [])
 
 -- these bodies, and nothing that is declared beside them
 abbrev pub of_bodies : List Body → Bodies

@@ -1,6 +1,7 @@
 -- The bodies that tests use, with their statements left open.
 use Rattle.std.specs.Prelude.{◌≡◌, ℕ, List, [], ◌∷◌, Option, Some, None, codes}
 use Rattle.text_core.specs.declared.name.Name.{Name}
+use Rattle.text_core.specs.declared.refusal.Cause.{Cause}
 use Rattle.text_core.specs.declared.span.Span.{Span}
 use Rattle.logic_term.specs.declared.kinds.Label.{Label}
 use Rattle.logic_term.specs.Ty.{Ty}
@@ -10,7 +11,7 @@ use Rattle.mir_ir.specs.declared.statement.Statement.{Statement}
 use Rattle.mir_ir.specs.declared.terminator.FnId.TheVariants.{Body as OfBody}
 use Rattle.mir_ir.specs.declared.terminator.Callee.TheVariants.{Function}
 use Rattle.mir_ir.specs.declared.terminator.TerminatorKind.{TerminatorKind}
-use Rattle.mir_ir.specs.declared.terminator.TerminatorKind.TheVariants.{Goto, If, Call, Return}
+use Rattle.mir_ir.specs.declared.terminator.TerminatorKind.TheVariants.{Goto, If, Call, Return, Panic}
 use Rattle.mir_ir.specs.declared.body.Block.{Block}
 use Rattle.mir_ir.specs.declared.body.Body.{Body}
 use Rattle.mir_ir.specs.declared.body.Head.{Head}
@@ -39,6 +40,10 @@ whole x = record { local = x; path = [] }
 -- one block, which returns
 abbrev pub straight : List Ty → List Statement → Body
 straight tys sts = body_of tys ((label 0, block_of None [] sts Return) ∷ [])
+
+-- one block, which panics
+abbrev pub panicking : List Ty → Cause → Body
+panicking tys cause = body_of tys ((label 0, block_of None [] [] (Panic cause)) ∷ [])
 
 -- these statements where the operand is true, those where it is false
 abbrev pub branching : List Ty → Operand → List Statement → List Statement → Body

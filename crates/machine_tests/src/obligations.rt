@@ -1,6 +1,6 @@
 ghost use Rattle.std.specs.Prelude.{◌≡◌, ◌<◌, ◌∷◌, [], None, IfOk};
 ghost use Rattle.mir_ir.specs.declared.terminator.TerminatorKind.TheVariants.{If};
-ghost use Rattle.machine_tests.specs.Walked.{block_of, body_of, whole, straight, branching, looping, calling, forking, IsForking};
+ghost use Rattle.machine_tests.specs.Walked.{block_of, body_of, whole, straight, panicking, branching, looping, calling, forking, IsForking};
 
 use logic_term::{Contract, Label, Obligation, Term, Ty, TyNode};
 use mir_ir::{
@@ -11,7 +11,7 @@ use source_kinds::{ArithOp, BinaryOp, IntKind};
 use std::alloc::Global;
 use std::process::Abort;
 use std::test::Fail;
-use text_core::{Items, Kind, Limit, LimitKind, Name, NoMemory, PassError, Span, Text};
+use text_core::{Cause, Items, Kind, Limit, LimitKind, Name, NoMemory, PassError, Span, Text};
 use wp_gen::{OBLIGATIONS, Walk, counted_obligations, obligations, room_after};
 
 /// The parameter, and the answer, in contracts.
@@ -83,6 +83,13 @@ fn straight(
     ensures { IfOk result (λ b. b ≡ straight locals statements) }
 {
     let only = plain(alloc, statements, TerminatorKind::Return);
+    body(alloc, locals, one(alloc, (Label(0), only))?)
+}
+
+fn panicking(alloc: Global, locals: Items<Ty>, cause: Cause) -> Result<Body, NoMemory>
+    ensures { IfOk result (λ b. b ≡ panicking locals cause) }
+{
+    let only = plain(alloc, Items::new(alloc), TerminatorKind::Panic(cause));
     body(alloc, locals, one(alloc, (Label(0), only))?)
 }
 
@@ -310,6 +317,21 @@ fn of_operation(alloc: Global, kind: IntKind, op: BinaryOp) -> Result<Vec<Obliga
     obligations(alloc, &walk, 1)
 }
 
+/// The obligations of a body that panics.
+fn of_panic(alloc: Global) -> Result<Vec<Obligation>, PassError> {
+    let types = locals(alloc, IntKind::I32)?;
+    let body = panicking(alloc, types, Cause::Unreachable)?;
+    let walk = Walk {
+        body: &body,
+        contracts: &contracts_of(alloc, Items::new(alloc)),
+        contract: &contract(alloc)?,
+        init: &nothing_gone(alloc),
+        resolves: &Resolves::none(alloc),
+        decls: &[],
+    };
+    obligations(alloc, &walk, 1)
+}
+
 /// The obligations of a body that adds on one side of a branch and divides on the other.
 fn of_branch(alloc: Global) -> Result<Vec<Obligation>, PassError> {
     let yes = answer_is(alloc, 10, IntKind::U8, BinaryOp::Add)?;
@@ -508,6 +530,16 @@ fn quotients(rt: HostRuntime) -> Result<(), Fail> {
         unsigned.as_slice(),
         &[(Kind::Division, 10), (Kind::Ensures, 80)],
     );
+    Ok(())
+}
+
+#[test]
+fn a_panic_and_its_goal(rt: HostRuntime) -> Result<(), Fail> {
+    let alloc = rt.alloc();
+    let made = of_panic(alloc)?;
+    expect_all(&rt, made.as_slice(), &[(Kind::Unreachable, 90)]);
+    let never = for_small(alloc, Term::truth(alloc, false)?)?;
+    assert!(rt; is_goal(alloc, made.as_slice(), 0, &never)?);
     Ok(())
 }
 

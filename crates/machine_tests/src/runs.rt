@@ -4,7 +4,7 @@ ghost use Rattle.mir_ir.specs.WellFormed.{operation_ty, IsSigned, AreSound};
 ghost use Rattle.mir_ir.specs.declared.place.Operand.TheVariants.{Copy};
 ghost use Rattle.mir_machine.specs.Tree.{Int};
 ghost use Rattle.mir_machine.specs.Step.{whole};
-ghost use Rattle.machine_tests.specs.Run.{assigned, block_of, of_bodies, alone, sample, absolute, calling, program, TakesOne};
+ghost use Rattle.machine_tests.specs.Run.{assigned, block_of, of_bodies, alone, sample, absolute, calling, panicking, program, TakesOne};
 
 use logic_term::{Ctor, Instance, Label, Ty, TyNode};
 use mir_ir::{
@@ -150,6 +150,31 @@ fn start<'a>(
         types: Items::new(alloc),
     };
     Machine::new(alloc, bodies, FnId::Body(f), &instance, args, NoIntrinsics)
+}
+
+/// A body whose one block panics.
+fn panicking(alloc: Global, cause: Cause) -> Result<Bodies, NoMemory>
+    ensures { IfOk result (λ p. p ≡ alone (panicking cause)) }
+{
+    let panics = block(alloc, Items::new(alloc), TerminatorKind::Panic(cause));
+    let mut locals = Items::new(alloc);
+    locals.push(Ty::int(IntKind::I32))?;
+    locals.push(Ty::int(IntKind::I32))?;
+    let body = Body {
+        id: 0,
+        owner: Text::from_bytes(alloc, b"f")?,
+        types: Items::new(alloc),
+        params: 1,
+        locals,
+        names: Items::from_slice(alloc, &[Name(100), Name(101)])?,
+        outlives: Items::new(alloc),
+        calls: Items::new(alloc),
+        entry: Label(0),
+        blocks: one(alloc, (Label(0), panics))?,
+        span: SPAN,
+        types_at: Items::new(alloc),
+    };
+    Ok(of_bodies(alloc, one(alloc, body)?))
 }
 
 // ---- the absolute value, and a call of it
@@ -314,6 +339,17 @@ fn absolute_of(alloc: Global, f: u32, x: i32) -> Result<Came, Fail>
     Ok(answer_of(&machine))
 }
 
+/// Whether a body that panics for the cause does so at its first step, at its end's span, and runs no further.
+fn panics_at_once(alloc: Global, cause: Cause) -> Result<bool, Fail> {
+    let bodies = panicking(alloc, cause)?;
+    let mut machine = start(alloc, &bodies, 0, integer(5))?;
+    machine.step()?;
+    let Outcome::Panicked { cause: came, span } = machine.outcome() else {
+        return Ok(false);
+    };
+    Ok(came == cause && span.start == SPAN.start && machine.run(7)? == 0)
+}
+
 // ---- tests
 
 #[test]
@@ -389,6 +425,13 @@ fn branches_and_calls(rt: HostRuntime) -> Result<(), Fail> {
     assert!(rt; absolute_of(rt.alloc(), 0, -7)? == Came::Integer(7));
     assert!(rt; absolute_of(rt.alloc(), 1, 7)? == Came::Integer(7));
     assert!(rt; absolute_of(rt.alloc(), 1, i32::MIN)? == OVERFLOW);
+    Ok(())
+}
+
+#[test]
+fn a_panic_ends_the_run(rt: HostRuntime) -> Result<(), Fail> {
+    assert!(rt; panics_at_once(rt.alloc(), Cause::Panic)?);
+    assert!(rt; panics_at_once(rt.alloc(), Cause::Unreachable)?);
     Ok(())
 }
 

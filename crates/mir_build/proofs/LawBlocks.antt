@@ -7,7 +7,7 @@ use Rattle.mir_ir.specs.declared.body.Block.{Block}
 use Rattle.mir_ir.specs.declared.body.Body.{Body}
 use Rattle.mir_ir.specs.declared.statement.Statement.{Statement}
 use Rattle.mir_ir.specs.declared.terminator.TerminatorKind.{TerminatorKind}
-use Rattle.mir_ir.specs.declared.terminator.TerminatorKind.TheVariants.{Goto, If, Call, Return}
+use Rattle.mir_ir.specs.declared.terminator.TerminatorKind.TheVariants.{Goto, If, Call, Return, Panic}
 use Rattle.mir_ir.specs.Layout.{among, targets, Leads, on, back}
 use Rattle.mir_ir.specs.WellFormed.{StatementIsTyped, EndIsTyped, HasBlock}
 use Rattle.mir_build.specs.Text.{Line, Puts, Makes, Turns, Leaves, Owns, Front, Stands, Nowhere, fresh, longer}
@@ -73,3 +73,4 @@ end_typed bodies b (Goto l) h g = g l (first_among l [])
 end_typed bodies b (If o l m) h g = (h, g l (first_among l (m ∷ [])), g m (second_among l m))
 end_typed bodies b (Call p f types os l) h g = (h, g l (first_among l []))
 end_typed bodies b Return h g = tt
+end_typed bodies b (Panic cause) h g = tt

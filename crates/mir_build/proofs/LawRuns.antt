@@ -12,7 +12,7 @@ use Rattle.mir_ir.specs.declared.statement.StatementKind.{StatementKind}
 use Rattle.mir_ir.specs.declared.statement.StatementKind.TheVariants.{Assign, Dead}
 use Rattle.mir_ir.specs.declared.terminator.Terminator.{Terminator}
 use Rattle.mir_ir.specs.declared.terminator.TerminatorKind.{TerminatorKind}
-use Rattle.mir_ir.specs.declared.terminator.TerminatorKind.TheVariants.{Goto, If, Call, Return}
+use Rattle.mir_ir.specs.declared.terminator.TerminatorKind.TheVariants.{Goto, If, Call, Return, Panic}
 use Rattle.mir_ir.specs.WellFormed.{Locals, with, without, Within}
 use Rattle.mir_ir.proofs.Taking.{taken, CanTake, CanTakeAll, all_taken, CanEvaluate, evaluated, CanRun, run, CanEnd, Carries}
 use Rattle.mir_build.specs.Text.{Title, Line, Puts, Makes, Turns, Leaves, Owns, begun}
@@ -102,6 +102,7 @@ can_end (Goto l) small large w h = tt
 can_end (If o l m) small large w h = can_take o small large w h
 can_end (Call p f types os l) small large w h = can_take_all os small large w h
 can_end Return small large w h = w 0 h
+can_end (Panic cause) small large w h = tt
 
 carries : (at : Label → Locals) (k : TerminatorKind) (small large : Locals) → Within small large → Carries at small k → Carries at large k
 carries at (Goto l) small large w h = within_trans (at l) small large h w
@@ -111,6 +112,7 @@ carries at (If o l m) small large w h =
 carries at (Call p f types os l) small large w h =
     within_trans (at l) (with p.local (all_taken os small)) (with p.local (all_taken os large)) h (with_within p.local (all_taken os small) (all_taken os large) (all_taken_within os small large w))
 carries at Return small large w h = tt
+carries at (Panic cause) small large w h = tt
 
 -- ---- texts
 

@@ -9,7 +9,7 @@ use Rattle.logic_term.specs.Ty.{Ty, int, bool}
 use Rattle.mir_ir.specs.declared.body.Body.{Body}
 use Rattle.mir_ir.specs.declared.place.Place.{Place}
 use Rattle.mir_ir.specs.declared.terminator.TerminatorKind.{TerminatorKind}
-use Rattle.mir_ir.specs.declared.terminator.TerminatorKind.TheVariants.{Goto, If, Call, Return}
+use Rattle.mir_ir.specs.declared.terminator.TerminatorKind.TheVariants.{Goto, If, Call, Return, Panic}
 use Rattle.mir_ir.specs.WellFormed.{IsSigned, PlaceHas, OperandHas, OperationHas, StatementIsTyped, CallIsTyped, Locals}
 use Rattle.mir_ir.specs.WellFormed as mir
 use Rattle.type_check.specs.WellTyped.{IsBuilt, AllBuilt, operation_ty, is_signed}
@@ -89,6 +89,7 @@ EndFits bodies b (Goto l) = Unit {0}
 EndFits bodies b (If o l m) = OperandHas b o bool
 EndFits bodies b (Call p f types os l) = CallIsTyped bodies b p f types os
 EndFits bodies b Return = Unit {0}
+EndFits bodies b (Panic cause) = Unit {0}
 
 -- the locals of the body
 abbrev pub is_local : Body → Locals

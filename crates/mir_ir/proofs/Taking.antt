@@ -10,14 +10,14 @@ use Rattle.mir_ir.specs.declared.statement.Rvalue.TheVariants.{Use, Binary, Neg,
 use Rattle.mir_ir.specs.declared.statement.StatementKind.{StatementKind}
 use Rattle.mir_ir.specs.declared.statement.StatementKind.TheVariants.{Assign, Dead}
 use Rattle.mir_ir.specs.declared.terminator.TerminatorKind.{TerminatorKind}
-use Rattle.mir_ir.specs.declared.terminator.TerminatorKind.TheVariants.{Goto, If, Call, Return}
+use Rattle.mir_ir.specs.declared.terminator.TerminatorKind.TheVariants.{Goto, If, Call, Return, Panic}
 use Rattle.mir_ir.specs.Layout.{among, targets}
 use Rattle.mir_ir.specs.Acts.{Act, writes, acts_of_operand, acts_of_operands, acts_of_rvalue, acts_of, acts_of_end, acts_along}
 use Rattle.mir_ir.specs.declared.statement.Statement.{Statement}
 use Rattle.mir_ir.specs.declared.body.Block.{Block}
 use Rattle.mir_ir.specs.declared.body.Body.{Body}
 use Rattle.mir_ir.specs.Body.{block_in}
-use Rattle.mir_ir.specs.WellFormed.{Locals, with, without, Within, CanDo, done, CanDoAll, all_done, parameters, Labelling, MeetsMoveRows}
+use Rattle.mir_ir.specs.WellFormed.{Locals, with, without, Within, done, CanDoAll, all_done, parameters, Labelling, MeetsMoveRows}
 
 -- ---- the forms
 
@@ -68,6 +68,7 @@ CanEnd set (Goto l) = Unit {0}
 CanEnd set (If o on_true on_false) = CanTake set o
 CanEnd set (Call p callee types os l) = CanTakeAll set os
 CanEnd set Return = set 0 ≡ true
+CanEnd set (Panic cause) = Unit {0}
 
 -- along each edge from a block's end: what is initialised where the next block starts is so at the end; after a call its place
 -- is initialised too
@@ -76,6 +77,7 @@ Carries starts set (Goto l) = Within (starts l) set
 Carries starts set (If o on_true on_false) = Within (starts on_true) (taken o set) × Within (starts on_false) (taken o set)
 Carries starts set (Call p callee types os l) = Within (starts l) (with p.local (all_taken os set))
 Carries starts set Return = Unit {0}
+Carries starts set (Panic cause) = Unit {0}
 
 -- ---- one list of acts behind another
 
@@ -178,12 +180,14 @@ from_end (Goto l) there h = tt
 from_end (If o on_true on_false) there h = from_operand o there h
 from_end (Call p callee types os l) there h = from_operands os there h
 from_end Return there h = h.0
+from_end (Panic cause) there h = tt
 
 pub to_end : (kind : TerminatorKind) (there : Locals) → CanEnd there kind → CanDoAll there (acts_of_end kind)
 to_end (Goto l) there h = tt
 to_end (If o on_true on_false) there h = to_operand o there h
 to_end (Call p callee types os l) there h = to_operands os there h
 to_end Return there h = (h, tt)
+to_end (Panic cause) there h = tt
 
 -- ---- edges
 
@@ -223,6 +227,7 @@ from_edges (If o on_true on_false) starts there h = (
     last false false e = e
 from_edges (Call p callee types os l) starts there h = within_same (starts l) _ (with p.local (all_taken os there)) (call_done os p.local there (writes p) refl) (h l (itself l []))
 from_edges Return starts there h = tt
+from_edges (Panic cause) starts there h = tt
 
 pub to_edges : (kind : TerminatorKind) (starts : Label → Locals) (there : Locals) → Carries starts there kind → CarriesAll starts there kind
 to_edges (Goto l) starts there h m e = only (l.0 == m.0) refl e
@@ -247,6 +252,7 @@ to_edges (Call p callee types os l) starts there h m e = only (l.0 == m.0) refl 
         (subst (λ (k : Label). Within (starts k) (with p.local (all_taken os there))) (same_label l m same) h)
     only false same e = absurd (cc)
 to_edges Return starts there h m e = absurd (let f : false ≡ true = e in cc)
+to_edges (Panic cause) starts there h m e = absurd (let f : false ≡ true = e in cc)
 
 -- ---- the rows, form by form
 

@@ -10,7 +10,7 @@ use Rattle.mir_ir.specs.declared.statement.Rvalue.TheVariants.{Use, Binary, Neg,
 use Rattle.mir_ir.specs.declared.statement.StatementKind.{StatementKind}
 use Rattle.mir_ir.specs.declared.statement.StatementKind.TheVariants.{Assign, Dead}
 use Rattle.mir_ir.specs.declared.terminator.TerminatorKind.{TerminatorKind}
-use Rattle.mir_ir.specs.declared.terminator.TerminatorKind.TheVariants.{Goto, If, Call, Return}
+use Rattle.mir_ir.specs.declared.terminator.TerminatorKind.TheVariants.{Goto, If, Call, Return, Panic}
 
 pub data Act : Type 0 where
   -- the place's value is copied
@@ -52,6 +52,7 @@ acts_of_end (Goto l) = []
 acts_of_end (If o on_true on_false) = acts_of_operand o
 acts_of_end (Call p callee types os l) = acts_of_operands os
 acts_of_end Return = takes answer_place ∷ []
+acts_of_end (Panic cause) = []
 
 -- along each edge from the end: where a call has answered, its place gets the answer
 abbrev pub acts_along : TerminatorKind → List Act

@@ -4,7 +4,7 @@ use Rattle.std.specs.Prelude.{◌≡◌, ℕ, suc, ◌<◌, ◌==◌, cond, Bool
 use Rattle.std.specs.List.{list_any}
 use Rattle.logic_term.specs.declared.kinds.Label.{Label}
 use Rattle.mir_ir.specs.declared.terminator.TerminatorKind.{TerminatorKind}
-use Rattle.mir_ir.specs.declared.terminator.TerminatorKind.TheVariants.{Goto, If, Call, Return}
+use Rattle.mir_ir.specs.declared.terminator.TerminatorKind.TheVariants.{Goto, If, Call, Return, Panic}
 use Rattle.mir_ir.specs.declared.body.Block.{Block}
 use Rattle.mir_ir.specs.declared.body.Head.{Head}
 use Rattle.mir_ir.specs.declared.body.Body.{Body}
@@ -20,6 +20,7 @@ targets (Goto l) = l ∷ []
 targets (If o l m) = l ∷ m ∷ []
 targets (Call p callee types args l) = l ∷ []
 targets Return = []
+targets (Panic cause) = []
 
 -- the place of the first block of the label
 abbrev pub place_of : List (Label × Block) → Label → ℕ

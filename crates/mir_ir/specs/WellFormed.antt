@@ -22,7 +22,7 @@ use Rattle.mir_ir.specs.declared.statement.StatementKind.TheVariants.{Assign, De
 use Rattle.mir_ir.specs.declared.statement.Statement.{Statement}
 use Rattle.mir_ir.specs.declared.terminator.Callee.{Callee}
 use Rattle.mir_ir.specs.declared.terminator.TerminatorKind.{TerminatorKind}
-use Rattle.mir_ir.specs.declared.terminator.TerminatorKind.TheVariants.{Goto, If, Call, Return}
+use Rattle.mir_ir.specs.declared.terminator.TerminatorKind.TheVariants.{Goto, If, Call, Return, Panic}
 use Rattle.mir_ir.specs.declared.body.Block.{Block}
 use Rattle.mir_ir.specs.declared.body.Body.{Body}
 use Rattle.mir_ir.specs.declared.body.Bodies.{Bodies}
@@ -114,6 +114,7 @@ EndIsTyped bodies b (Goto l) = HasBlock b l
 EndIsTyped bodies b (If o on_true on_false) = OperandHas b o bool × HasBlock b on_true × HasBlock b on_false
 EndIsTyped bodies b (Call p callee types os l) = CallIsTyped bodies b p callee types os × HasBlock b l
 EndIsTyped bodies b Return = Unit {0}
+EndIsTyped bodies b (Panic cause) = Unit {0}
 
 -- b is typed among these bodies
 pub record IsTyped (bodies : Bodies) (b : Body) : Type 0 where

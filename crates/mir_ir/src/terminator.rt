@@ -1,6 +1,6 @@
 use crate::place::{Operand, Place};
 use logic_term::{Label, Ty};
-use text_core::{Items, Span};
+use text_core::{Cause, Items, Span};
 
 /// A function that can be called.
 #[derive(Clone, Copy)]
@@ -23,6 +23,8 @@ pub enum TerminatorKind {
     /// body goes on at the label.
     Call(Place, Callee, Items<Ty>, Items<Operand>, Label),
     Return,
+    /// The run ends with a panic for this cause.
+    Panic(Cause),
 }
 
 // By hand, so that whoever holds one drops it by a call (docs/architecture.md).
@@ -32,7 +34,8 @@ impl Drop for TerminatorKind {
             TerminatorKind::Goto(_)
             | TerminatorKind::If(_, _, _)
             | TerminatorKind::Call(_, _, _, _, _)
-            | TerminatorKind::Return => {}
+            | TerminatorKind::Return
+            | TerminatorKind::Panic(_) => {}
         }
     }
 }

@@ -1,6 +1,7 @@
 -- What the rows of steps, of blocks' ends and of returns yield, where what they look up is known.
 use Rattle.std.proofs.Common.{◌≡◌, ◌∙◌, refl, sym, ap, ℕ, Bool, cond, List, ◌∷◌, length, Option, Some, None, slice_get}
 use Rattle.std.specs.Prelude.{option_and_then}
+use Rattle.text_core.specs.declared.span.Span.{Span}
 use Rattle.logic_term.specs.declared.kinds.Label.{Label}
 use Rattle.logic_term.specs.Ty.{Ty, no_tys}
 use Rattle.mir_ir.specs.declared.place.Place.{Place}
@@ -43,25 +44,25 @@ module _ {K : Type 0} (code : Code K) where
 
   -- ---- ends of blocks
 
-  pub goto-row : (s : State K) (l : Label) (g : Stop) (gs : List Stop) → stops s ≡ g ∷ gs → (v : State K) × (end_step code s (Goto l) ≡ Yields (Running v)) × (stops v ≡ at_start l g ∷ gs) × SameTrees s v
-  goto-row s l g gs e = let (v, is_v, stay, same) = label_yields s l g gs e in (v, ap (λ (m : Try (State K)). m >>= go_on) is_v, stay, same)
+  pub goto-row : (s : State K) (at : Span) (l : Label) (g : Stop) (gs : List Stop) → stops s ≡ g ∷ gs → (v : State K) × (end_step code s at (Goto l) ≡ Yields (Running v)) × (stops v ≡ at_start l g ∷ gs) × SameTrees s v
+  goto-row s at l g gs e = let (v, is_v, stay, same) = label_yields s l g gs e in (v, ap (λ (m : Try (State K)). m >>= go_on) is_v, stay, same)
 
-  pub if-row : (s u : State K) (o : Operand) (c : Bool) (l r : Label) (g : Stop) (gs : List Stop) → operand s o ≡ Yields (u, Truth c) → stops u ≡ g ∷ gs
-      → (v : State K) × (end_step code s (If o l r) ≡ Yields (Running v)) × (stops v ≡ at_start (cond c l r) g ∷ gs) × SameTrees u v
-  if-row s u o c l r g gs taken e =
+  pub if-row : (s u : State K) (at : Span) (o : Operand) (c : Bool) (l r : Label) (g : Stop) (gs : List Stop) → operand s o ≡ Yields (u, Truth c) → stops u ≡ g ∷ gs
+      → (v : State K) × (end_step code s at (If o l r) ≡ Yields (Running v)) × (stops v ≡ at_start (cond c l r) g ∷ gs) × SameTrees u v
+  if-row s u at o c l r g gs taken e =
       let (v, is_v, stay, same) = label_yields u (cond c l r) g gs e in
       (v, ap (λ (m : Try (Taken K)). m >>= λ r'. truth_of r'.1 >>= λ b. at_label (cond b l r) r'.0 >>= go_on) taken ∙ ap (λ (m : Try (State K)). m >>= go_on) is_v, stay, same)
 
-  pub call-row : (s u : State K) (p : Place) (callee : Callee) (types : List Ty) (os : List Operand) (l : Label) (args : List (Tree K)) (m : ℕ) (c : Body) → operands s os ≡ Yields (u, args)
-      → callee_of code.program callee ≡ Some m → slice_get code.program.bodies m ≡ Some c → end_step code s (Call p callee types os l) ≡ Yields (Running (entered c m no_tys args ∷ u))
-  call-row s u p callee types os l args m c taken is_m is_c =
+  pub call-row : (s u : State K) (at : Span) (p : Place) (callee : Callee) (types : List Ty) (os : List Operand) (l : Label) (args : List (Tree K)) (m : ℕ) (c : Body) → operands s os ≡ Yields (u, args)
+      → callee_of code.program callee ≡ Some m → slice_get code.program.bodies m ≡ Some c → end_step code s at (Call p callee types os l) ≡ Yields (Running (entered c m no_tys args ∷ u))
+  call-row s u at p callee types os l args m c taken is_m is_c =
       let run_it : Frame K → Try (Outcome K) = λ f. Yields (Running (f ∷ u)) in
       ap (λ (q : Try (State K × List (Tree K))). q >>= λ r. callee_frame code.program callee r.1 >>= λ f. Yields (Running (f ∷ r.0))) taken
       ∙ ap (λ (o : Option ℕ). (need o >>= λ n. need (slice_get code.program.bodies n) >>= λ b. Yields (entered b n no_tys args)) >>= run_it) is_m
       ∙ ap (λ (o : Option Body). (need o >>= λ b. Yields (entered b m no_tys args)) >>= run_it) is_c
 
-  pub return-row : (f : Frame K) (fs : State K) (t : Tree K) → tree_at (f ∷ fs) (local_at (length fs) 0) ≡ Yields t → is_there t ≡ Yields t → end_step code (f ∷ fs) Return ≡ come_back code.program t fs
-  return-row f fs t is_t there =
+  pub return-row : (f : Frame K) (fs : State K) (at : Span) (t : Tree K) → tree_at (f ∷ fs) (local_at (length fs) 0) ≡ Yields t → is_there t ≡ Yields t → end_step code (f ∷ fs) at Return ≡ come_back code.program t fs
+  return-row f fs at t is_t there =
       ap (λ (m : Try (Tree K)). m >>= λ t. is_there t >>= λ t'. come_back code.program t' fs) (sym (first_local f fs 0) ∙ is_t)
       ∙ ap (λ (m : Try (Tree K)). m >>= λ t'. come_back code.program t' fs) there
 

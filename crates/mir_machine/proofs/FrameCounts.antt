@@ -17,7 +17,7 @@ use Rattle.mir_ir.specs.declared.statement.StatementKind.{StatementKind}
 use Rattle.mir_ir.specs.declared.statement.StatementKind.TheVariants.{Assign, Dead}
 use Rattle.mir_ir.specs.declared.terminator.Callee.{Callee}
 use Rattle.mir_ir.specs.declared.terminator.TerminatorKind.{TerminatorKind}
-use Rattle.mir_ir.specs.declared.terminator.TerminatorKind.TheVariants.{Goto, If, Call, Return}
+use Rattle.mir_ir.specs.declared.terminator.TerminatorKind.TheVariants.{Goto, If, Call, Return, Panic}
 use Rattle.mir_ir.specs.declared.body.Body.{Body}
 use Rattle.mir_ir.specs.declared.body.Bodies.{Bodies}
 use Rattle.mir_ir.specs.Body.{block_in, place_ty, kind_in}
@@ -249,6 +249,7 @@ answered_keeps t s (Call p callee types os l) =
 answered_keeps t s (Goto l) = tt
 answered_keeps t s (If o on_true on_false) = tt
 answered_keeps t s Return = tt
+answered_keeps t s (Panic cause) = tt
 
 come_back_count : (bodies : Bodies) (t : Tree (Unit {0})) (fs : S) → Having (AtMost (length fs)) (come_back bodies t fs)
 come_back_count bodies t [] = tt
@@ -262,18 +263,19 @@ come_back_count bodies t (f ∷ g ∷ fs) =
 
 -- ---- ends of blocks
 
-pub no_call_count : (code : Code (Unit {0})) (f : Frame (Unit {0})) (fs : S) (end : TerminatorKind) → (IsCall end → ⊥) → Having (AtMost (length fs)) (end_step code (f ∷ fs) end)
-no_call_count code f fs (Goto l) other = goes_on f fs (at_label l (f ∷ fs)) (at_label_keeps l (f ∷ fs))
-no_call_count code f fs (If o on_true on_false) other =
+pub no_call_count : (code : Code (Unit {0})) (f : Frame (Unit {0})) (fs : S) (at : Span) (end : TerminatorKind) → (IsCall end → ⊥) → Having (AtMost (length fs)) (end_step code (f ∷ fs) at end)
+no_call_count code f fs at (Goto l) other = goes_on f fs (at_label l (f ∷ fs)) (at_label_keeps l (f ∷ fs))
+no_call_count code f fs at (If o on_true on_false) other =
     let s : S = f ∷ fs in
     let P = AtMost (length fs) in
     having_then (TakenAsMany s) P (operand s o) (λ r. truth_of r.1 >>= λ b. at_label (cond b on_true on_false) r.0 >>= λ s'. Yields (Running s')) (having_of (TakenAsMany s) (operand s o) (operand_keeps s o))
     (λ r e. any_then P (truth_of r.1) (λ b. at_label (cond b on_true on_false) r.0 >>= λ s'. Yields (Running s'))
     (λ b _. goes_on f fs (at_label (cond b on_true on_false) r.0) (having_weaker (AsMany r.0) (AsMany s) (at_label (cond b on_true on_false) r.0) (at_label_keeps (cond b on_true on_false) r.0) (λ q e'. e' ∙ e))))
-no_call_count code f fs (Call p callee types os l) other = absurd (other tt)
-no_call_count code f fs Return other =
+no_call_count code f fs at (Call p callee types os l) other = absurd (other tt)
+no_call_count code f fs at Return other =
     any_then (AtMost (length fs)) (need (slice_get f.locals 0)) (λ t. is_there t >>= λ t'. come_back code.program t' fs)
     (λ t _. any_then (AtMost (length fs)) (is_there t) (λ t'. come_back code.program t' fs) (λ t' _. come_back_count code.program t' fs))
+no_call_count code f fs at (Panic cause) other = tt
 
 callee_quiet : (bodies : Bodies) (callee : Callee) (args : List (Tree (Unit {0}))) → NoPanic (callee_frame {K = Unit {0}} bodies callee args)
 callee_quiet bodies callee args =
@@ -281,22 +283,24 @@ callee_quiet bodies callee args =
     (λ n _. quiet_need (λ a. Unit {0}) (slice_get bodies.bodies n) (λ b. Yields (entered b n no_tys args)) (λ b _. tt))
 
 -- a call does not panic, and makes one frame more
-pub call_count : (code : Code (Unit {0})) (f : Frame (Unit {0})) (fs : S) (end : TerminatorKind) → IsCall end → Quiet (λ o. frame_count o ≡ suc (length fs)) (end_step code (f ∷ fs) end)
-call_count code f fs (Goto l) is = absurd is
-call_count code f fs (If o on_true on_false) is = absurd is
-call_count code f fs (Call p callee types os l) is =
+pub call_count : (code : Code (Unit {0})) (f : Frame (Unit {0})) (fs : S) (at : Span) (end : TerminatorKind) → IsCall end → Quiet (λ o. frame_count o ≡ suc (length fs)) (end_step code (f ∷ fs) at end)
+call_count code f fs at (Goto l) is = absurd is
+call_count code f fs at (If o on_true on_false) is = absurd is
+call_count code f fs at (Call p callee types os l) is =
     let s : S = f ∷ fs in
     quiet_then (TakenAsMany s) (λ o. frame_count o ≡ suc (length fs)) (operands s os) (λ r. callee_frame code.program callee r.1 >>= λ g. Yields (Running (g ∷ r.0))) (operands_keep s os)
     (λ r e. then (λ o. frame_count o ≡ suc (length fs)) (callee_frame code.program callee r.1) (λ g. Yields (Running (g ∷ r.0))) (callee_quiet code.program callee r.1) (λ g. e))
-call_count code f fs Return is = absurd is
+call_count code f fs at Return is = absurd is
+call_count code f fs at (Panic cause) is = absurd is
 
-more_allowed : (code : Code (Unit {0})) (f : Frame (Unit {0})) (fs : S) (end : TerminatorKind) → (IsCall end → ⊥) → Having (AtMost (suc (length fs))) (end_step code (f ∷ fs) end)
-more_allowed code f fs end other = having_weaker (AtMost (length fs)) (AtMost (suc (length fs))) (end_step code (f ∷ fs) end) (no_call_count code f fs end other) (λ o few. omega (arith, few))
+more_allowed : (code : Code (Unit {0})) (f : Frame (Unit {0})) (fs : S) (at : Span) (end : TerminatorKind) → (IsCall end → ⊥) → Having (AtMost (suc (length fs))) (end_step code (f ∷ fs) at end)
+more_allowed code f fs at end other = having_weaker (AtMost (length fs)) (AtMost (suc (length fs))) (end_step code (f ∷ fs) at end) (no_call_count code f fs at end other) (λ o few. omega (arith, few))
 
-pub end_count : (code : Code (Unit {0})) (f : Frame (Unit {0})) (fs : S) (end : TerminatorKind) → Having (AtMost (suc (length fs))) (end_step code (f ∷ fs) end)
-end_count code f fs (Goto l) = more_allowed code f fs (Goto l) (λ h. h)
-end_count code f fs (If o on_true on_false) = more_allowed code f fs (If o on_true on_false) (λ h. h)
-end_count code f fs (Call p callee types os l) =
+pub end_count : (code : Code (Unit {0})) (f : Frame (Unit {0})) (fs : S) (at : Span) (end : TerminatorKind) → Having (AtMost (suc (length fs))) (end_step code (f ∷ fs) at end)
+end_count code f fs at (Goto l) = more_allowed code f fs at (Goto l) (λ h. h)
+end_count code f fs at (If o on_true on_false) = more_allowed code f fs at (If o on_true on_false) (λ h. h)
+end_count code f fs at (Call p callee types os l) =
     let end : TerminatorKind = Call p callee types os l in
-    having_of (AtMost (suc (length fs))) (end_step code (f ∷ fs) end) (quiet_weaker (λ o. frame_count o ≡ suc (length fs)) (AtMost (suc (length fs))) (end_step code (f ∷ fs) end) (call_count code f fs end tt) (λ o e. omega (arith, e)))
-end_count code f fs Return = more_allowed code f fs Return (λ h. h)
+    having_of (AtMost (suc (length fs))) (end_step code (f ∷ fs) at end) (quiet_weaker (λ o. frame_count o ≡ suc (length fs)) (AtMost (suc (length fs))) (end_step code (f ∷ fs) at end) (call_count code f fs at end tt) (λ o e. omega (arith, e)))
+end_count code f fs at Return = more_allowed code f fs at Return (λ h. h)
+end_count code f fs at (Panic cause) = more_allowed code f fs at (Panic cause) (λ h. h)

@@ -11,7 +11,7 @@ use Rattle.mir_ir.specs.declared.place.Operand.{Operand}
 use Rattle.mir_ir.specs.declared.statement.Statement.{Statement}
 use Rattle.mir_ir.specs.declared.terminator.Callee.{Callee}
 use Rattle.mir_ir.specs.declared.terminator.TerminatorKind.{TerminatorKind}
-use Rattle.mir_ir.specs.declared.terminator.TerminatorKind.TheVariants.{Goto, If, Call, Return}
+use Rattle.mir_ir.specs.declared.terminator.TerminatorKind.TheVariants.{Goto, If, Call, Return, Panic}
 use Rattle.mir_ir.specs.declared.body.Block.{Block}
 use Rattle.mir_ir.specs.declared.body.Body.{Body}
 use Rattle.mir_ir.specs.declared.body.Bodies.{Bodies}
@@ -197,11 +197,11 @@ module _ {K : Type 0} (Δ : Declarations) (code : Code K) (labelling : ℕ → L
         }))
 
     abbrev Ends : TerminatorKind → Type 0
-    Ends end = Goes Fine (end_step code s end)
+    Ends end = Goes Fine (end_step code s k.end.span end)
 
     goto_goes : (l : Label) → Hold s end_set → EndIsTyped bodies b (Goto l) → Carries (λ m. labelling f.function m 0) end_set (Goto l) → Ends (Goto l)
     goto_goes l held typed carries =
-        let (u, is_u, stay, same) = goto-row code s l g gs refl in
+        let (u, is_u, stay, same) = goto-row code s k.end.span l g gs refl in
         subst (Goes Fine) (sym is_u) (starts_at u l end_set typed carries stay (λ at d. same at) (hold_same same held))
 
     if_goes : (o : Operand) (l r : Label) → Hold s end_set → EndIsTyped bodies b (If o l r) → CanEnd end_set (If o l r) → Carries (λ m. labelling f.function m 0) end_set (If o l r) → Ends (If o l r)
@@ -216,7 +216,7 @@ module _ {K : Type 0} (Δ : Declarations) (code : Code K) (labelling : ℕ → L
 
         on_truth : Shape bool takes.tree → Ends (If o l r)
         on_truth (there, (c, is)) =
-            let (u, is_u, stay, same) = if-row code s takes.after o c l r g gs (takes.yields ∙ ap (λ t. Yields (takes.after, t)) is) takes.took.stay in
+            let (u, is_u, stay, same) = if-row code s takes.after k.end.span o c l r g gs (takes.yields ∙ ap (λ t. Yields (takes.after, t)) is) takes.took.stay in
             let to = leads c in
             subst (Goes Fine) (sym is_u) (starts_at u (cond c l r) (taken o end_set) to.0 to.1 stay (λ at d. same at ∙ takes.took.elsewhere at d) (hold_same same takes.held))
 
@@ -254,7 +254,7 @@ module _ {K : Type 0} (Δ : Declarations) (code : Code K) (labelling : ℕ → L
           locals = held_moved Δ {s = v} (λ x. refl) (λ at e. refl) (subst (λ i. HoldsLocals Δ v i c no_tys (labelling m c.entry 0)) more
               (let of_entry = entered_held Δ bodies c m no_tys takes.trees u both.0 args in record { slot = of_entry.slot; typed = λ x q t is_in. of_entry.typed x q t (both.1.entry x is_in) }));
         } in
-        subst (Goes Fine) (sym (call-row code s u p callee types os l takes.trees m c takes.yields is_m is_body))
+        subst (Goes Fine) (sym (call-row code s u k.end.span p callee types os l takes.trees m c takes.yields is_m is_body))
         (stand_typed v (stop_of h) (g ∷ gs) (ap (λ ks. stop_of h ∷ ks) takes.stay) begins
         (one_waits waiting (waiting_in (length u) other (omega (arith, more)) same (waiting_in n inside (omega arith) takes.elsewhere behind))))
 
@@ -268,7 +268,7 @@ module _ {K : Type 0} (Δ : Declarations) (code : Code K) (labelling : ℕ → L
         let typed_there : HasType Δ fs (answer_ty b no_tys) t =
         subst (λ q. HasType Δ fs (instance no_tys q) t) (sym (answer_is b.locals answer.0 answer.1))
         (has_type_kept fs (λ at e. same at (λ q. other (sym q ∙ e))) (subst (λ θ. HasType Δ s (instance θ answer.0) t) runs.in_body.ground typed)) in
-        subst (Goes Fine) (sym (return-row code f fs t (ap (λ i. tree_at s (local_at i 0)) as_long ∙ is_t) there))
+        subst (Goes Fine) (sym (return-row code f fs k.end.span t (ap (λ i. tree_at s (local_at i 0)) as_long ∙ is_t) there))
         (back_goes fs f.function t (record { body = b; is_body = runs.in_body.is_body; typed = typed_there }) (waiting_in (length fs) other (omega (arith, as_long)) same behind))
 
     end_goes : f.statement ≡ length k.statements → (end : TerminatorKind) → k.end.kind ≡ end → Hold s end_set → EndIsTyped bodies b end → CanEnd end_set end → Carries (λ m. labelling f.function m 0) end_set end → Ends end
@@ -276,6 +276,7 @@ module _ {K : Type 0} (Δ : Declarations) (code : Code K) (labelling : ℕ → L
     end_goes last (If o l r) is held typed can carries = if_goes o l r held typed can carries
     end_goes last (Call p callee types os l) is held typed can carries = call_goes p callee types os l last is held typed can
     end_goes last Return is held typed can carries = return_goes held can
+    end_goes last (Panic cause) is held typed can carries = tt
 
     row_goes : (o : Option Statement) → slice_get k.statements f.statement ≡ o → Goes Fine (row code b f.types s k.end o)
     row_goes (Some st) e = statement_goes st e

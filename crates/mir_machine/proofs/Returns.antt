@@ -2,7 +2,7 @@
 use Rattle.std.proofs.Common.{◌≡◌, ◌∙◌, refl, sym, ap, subst, [], ◌∷◌, ◌++◌, length, reverse, slice_get}
 use Rattle.std.proofs.lemmas.List.{length-reverse}
 use Rattle.mir_ir.specs.declared.terminator.TerminatorKind.{TerminatorKind}
-use Rattle.mir_ir.specs.declared.terminator.TerminatorKind.TheVariants.{Goto, If, Call, Return}
+use Rattle.mir_ir.specs.declared.terminator.TerminatorKind.TheVariants.{Goto, If, Call, Return, Panic}
 use Rattle.mir_ir.specs.declared.body.Block.{Block}
 use Rattle.mir_ir.specs.declared.body.Body.{Body}
 use Rattle.mir_ir.specs.declared.body.Bodies.{Bodies}
@@ -46,6 +46,7 @@ answered-row : (s : S) (t : T) (end : TerminatorKind) → answered t s end ≡ (
 answered-row s t (Goto l) = refl
 answered-row s t (If o on_true on_false) = refl
 answered-row s t Return = refl
+answered-row s t (Panic cause) = refl
 answered-row s t (Call p callee types os l) =
     let waits : Spot → Try Waiting = λ at. Yields (record { at = at; next = l }) in
     then_then (spot_of s p) (λ at. put_at s at t) (at_label l) ∙ then_same (spot_of s p) (λ at. put_at s at t >>= at_label l) (λ at. waits at >>= take_answer s t) (λ at. refl) ∙ sym (then_then (spot_of s p) waits (take_answer s t))

@@ -2,7 +2,7 @@
 use Rattle.std.specs.Prelude.{◌≡◌, ℕ, ◌<◌, ◌≤◌, [], ◌∷◌, Option, Some, option_and_then, slice_get, length}
 use Rattle.text_core.specs.declared.refusal.LimitKind.TheVariants.{Frames}
 use Rattle.mir_ir.specs.declared.terminator.TerminatorKind.{TerminatorKind}
-use Rattle.mir_ir.specs.declared.terminator.TerminatorKind.TheVariants.{Goto, If, Call, Return}
+use Rattle.mir_ir.specs.declared.terminator.TerminatorKind.TheVariants.{Goto, If, Call, Return, Panic}
 use Rattle.mir_ir.specs.declared.body.Block.{Block}
 use Rattle.mir_machine.specs.declared.run_error.RunError.{RunError}
 use Rattle.mir_machine.specs.declared.run_error.RunError.TheVariants as run_error
@@ -18,6 +18,7 @@ IsCall (Goto l) = ⊥
 IsCall (If o on_true on_false) = ⊥
 IsCall (Call p callee types os l) = Unit {0}
 IsCall Return = ⊥
+IsCall (Panic cause) = ⊥
 
 -- the block in which a frame stands
 abbrev pub frame_block : {K : Type 0} → Bodies → Frame K → Option Block

@@ -24,7 +24,7 @@ use Rattle.mir_ir.specs.declared.statement.StatementKind.TheVariants.{Assign, De
 use Rattle.mir_ir.specs.declared.statement.Statement.{Statement}
 use Rattle.mir_ir.specs.declared.terminator.Callee.{Callee}
 use Rattle.mir_ir.specs.declared.terminator.TerminatorKind.{TerminatorKind}
-use Rattle.mir_ir.specs.declared.terminator.TerminatorKind.TheVariants.{Goto, If, Call, Return}
+use Rattle.mir_ir.specs.declared.terminator.TerminatorKind.TheVariants.{Goto, If, Call, Return, Panic}
 use Rattle.mir_ir.specs.declared.terminator.Terminator.{Terminator}
 use Rattle.mir_ir.specs.declared.body.Body.{Body}
 use Rattle.mir_machine.specs.Try.{Try, Yields, Panics, Sticks, ◌>>=◌, need}
@@ -220,23 +220,24 @@ leave bodies (f ∷ fs) = do
 
 -- ---- ends of blocks
 
-abbrev pub end_step : {K : Type 0} → Code K → State K → TerminatorKind → Try (Outcome K)
-end_step code s (Goto l) = at_label l s >>= λ s'. Yields (Running s')
-end_step code s (If o on_true on_false) = do
+abbrev pub end_step : {K : Type 0} → Code K → State K → Span → TerminatorKind → Try (Outcome K)
+end_step code s span (Goto l) = at_label l s >>= λ s'. Yields (Running s')
+end_step code s span (If o on_true on_false) = do
   (s₁, t) ← operand s o
   b ← truth_of t
   s₂ ← at_label (cond b on_true on_false) s₁
   Yields (Running s₂)
-end_step code s (Call p callee types os l) = do
+end_step code s span (Call p callee types os l) = do
   (s₁, args) ← operands s os
   f ← callee_frame code.program callee args
   Yields (Running (f ∷ s₁))
-end_step code s Return = leave code.program s
+end_step code s span Return = leave code.program s
+end_step code s span (Panic cause) = Panics cause span
 
 -- a block's end comes after its last statement
 abbrev pub row : {K : Type 0} → Code K → Body → Tys → State K → Terminator → Option Statement → Try (Outcome K)
 row code b θ s end (Some st) = statement_step b θ s st.span st.kind >>= λ s'. Yields (Running s')
-row code b θ s end None = end_step code s end.kind
+row code b θ s end None = end_step code s end.span end.kind
 
 abbrev pub try_step : {K : Type 0} → Code K → State K → Try (Outcome K)
 try_step code [] = Sticks

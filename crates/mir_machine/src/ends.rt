@@ -18,7 +18,7 @@ use crate::statements::{first_of, truth_on};
 use crate::taken::{Taken, is_there, take, take_all};
 use crate::tree::Tree;
 use logic_term::Label;
-use mir_ir::{Bodies, Callee, Operand, TerminatorKind};
+use mir_ir::{Bodies, Callee, Operand, Terminator, TerminatorKind};
 use std::alloc::Global;
 use std::mem;
 use text_core::NoMemory;
@@ -180,14 +180,14 @@ pub fn end_block(
     bodies: &Bodies,
     state: &mut State,
     taken: &mut Taken,
-    end: &TerminatorKind,
+    end: &Terminator,
 ) -> Result<Option<Tree>, Halt>
     requires even { IsEven taken.old }
     requires empty { taken.old.trees.items ≡ [] }
-    ensures ends { Comes result (end_step (code_of bodies.now) state.old end.now) (outcome_of_step state.new) }
+    ensures ends { Comes result (end_step (code_of bodies.now) state.old end.now.span end.now.kind) (outcome_of_step state.new) }
     ensures err { result ≡ Err Halt.NoMemory → GoesBack taken.old state.old taken.new state.new }
 {
-    match end {
+    match &end.kind {
         TerminatorKind::Goto(label) => {
             go_to(state, *label);
             Ok(None)
@@ -201,5 +201,6 @@ pub fn end_block(
             Ok(None)
         }
         TerminatorKind::Return => leave(alloc, bodies, state),
+        TerminatorKind::Panic(cause) => Err(Halt::Panics(*cause, end.span)),
     }
 }

@@ -38,7 +38,7 @@ fn try_step(
         run_statement(alloc, body, state, taken, &statements[at])?;
         return Ok(None);
     }
-    end_block(alloc, bodies, state, taken, &block.end.kind)
+    end_block(alloc, bodies, state, taken, &block.end)
 }
 
 /// One step of a state; `Some` with the answer where the run returns. For want of memory nothing changes.

@@ -41,6 +41,7 @@ enum Shape {
     If(u32, u32),
     Return,
     Call,
+    Panic,
 }
 
 fn statement_shape(statement: &Statement) -> Shape {
@@ -60,6 +61,7 @@ fn end_shape(kind: &TerminatorKind) -> Shape {
         TerminatorKind::If(_, yes, no) => Shape::If(yes.0, no.0),
         TerminatorKind::Return => Shape::Return,
         TerminatorKind::Call(_, _, _, _, _) => Shape::Call,
+        TerminatorKind::Panic(_) => Shape::Panic,
     }
 }
 

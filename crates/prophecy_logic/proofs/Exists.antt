@@ -2,13 +2,13 @@
 use Rattle.std.proofs.Common.{◌≡◌, inl, inr, refl, ap, ℕ, zero, suc, ◌+◌, ◌*◌, ◌<◌, ◌≤◌, true, false, cond, List, [], ◌∷◌, length, Option, Some, None, slice_get, arith}
 use Rattle.logic_term.specs.declared.kinds.Label.{Label}
 use Rattle.mir_ir.specs.declared.terminator.TerminatorKind.{TerminatorKind}
-use Rattle.mir_ir.specs.declared.terminator.TerminatorKind.TheVariants.{Goto, If, Call, Return}
+use Rattle.mir_ir.specs.declared.terminator.TerminatorKind.TheVariants.{Goto, If, Call, Return, Panic}
 use Rattle.mir_ir.specs.declared.body.Block.{Block}
 use Rattle.mir_ir.specs.declared.body.Head.{Head}
 use Rattle.mir_ir.specs.declared.body.Point.{Point}
 use Rattle.mir_ir.specs.Body.{block_in}
 use Rattle.mir_ir.specs.Layout.{among, targets}
-use Rattle.prophecy_logic.specs.Graph.{Setting, start_of, behind, Within, by_statement, by_end, Ends, goto, branch, call, return, Arrives, plain, first, again}
+use Rattle.prophecy_logic.specs.Graph.{Setting, start_of, behind, Within, by_statement, by_end, Ends, goto, branch, call, return, panic, Arrives, plain, first, again}
 use Rattle.prophecy_logic.specs.Laws.{WalksExist}
 use Rattle.prophecy_logic.specs.Walk.{Walk}
 use Rattle.prophecy_logic.specs.Walkable.{CanWalk, MayArrive, MayWalk}
@@ -48,6 +48,7 @@ end_has_walk w heads l k can may nearer = by_kind k.end.kind refl
         let known = can.calls l k p callee types args m may.is_block e in
         (_, call p callee types args m known.contract.0 known.answer.0 e known.contract.1 known.answer.1 a.1)
     by_kind Return e = (_, return e)
+    by_kind (Panic cause) e = (_, panic cause e)
 
 -- an arrival has a walk, if each arrival that is nearer than so many has one
 arrival_has_walk : (w : Setting) (heads : List Label) (l : Label) (far : ℕ) → CanWalk w → (may : MayArrive w heads l) → arrival_measure w.body.blocks heads l ≤ far

@@ -6,11 +6,11 @@ use Rattle.logic_term.specs.declared.obligation.Contract.{Contract}
 use Rattle.logic_term.specs.Ty.{Ty}
 use Rattle.mir_ir.specs.declared.place.Operand.{Operand}
 use Rattle.mir_ir.specs.declared.terminator.Terminator.{Terminator}
-use Rattle.mir_ir.specs.declared.terminator.TerminatorKind.TheVariants.{Goto, If, Call, Return}
+use Rattle.mir_ir.specs.declared.terminator.TerminatorKind.TheVariants.{Goto, If, Call, Return, Panic}
 use Rattle.mir_ir.specs.declared.body.Body.{Body}
 use Rattle.mir_ir.specs.declared.body.Point.{Point}
 use Rattle.mir_ir.specs.Layout.{among}
-use Rattle.prophecy_logic.specs.Graph.{Setting, Within, by_statement, by_end, Ends, goto, branch, call, return, Arrives, plain, first, again}
+use Rattle.prophecy_logic.specs.Graph.{Setting, Within, by_statement, by_end, Ends, goto, branch, call, return, panic, Arrives, plain, first, again}
 use Rattle.prophecy_logic.specs.Laws.{WalksAreOne}
 use Rattle.prophecy_logic.specs.Loop.{head_commands}
 use Rattle.prophecy_logic.specs.Row.{goals_of, commands_of}
@@ -40,6 +40,7 @@ mutual
       let o = ends_by other (Call p callee types args l) e in
       same_call w.body end.span p.local args d o.2 t o.3 u o.0 v (some_same (sym is_d ∙ o.4)) (some_same (sym is_t ∙ o.5)) (arrival_once a o.1) o.6
   end_once (return e) other = sym (ends_by other Return e)
+  end_once (panic cause e) other = sym (ends_by other (Panic cause) e)
 
   arrival_once : {w : Setting} {heads : List Label} {l : Label} {u v : Walk} → Arrives w heads l u → Arrives w heads l v → u ≡ v
   arrival_once {heads = heads} {l = l} (plain k is e r) other = within_once r (comes_by other k None (among l heads) is e refl)

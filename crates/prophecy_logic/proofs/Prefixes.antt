@@ -5,17 +5,17 @@ use Rattle.std.proofs.lemmas.List.{map-append}
 use Rattle.std.proofs.lemmas.List.Elements.{Contains-append_left, Contains-append_right, Contains-append_cases}
 use Rattle.logic_term.specs.declared.kinds.Label.{Label}
 use Rattle.mir_ir.specs.declared.terminator.Terminator.{Terminator}
-use Rattle.mir_ir.specs.declared.terminator.TerminatorKind.TheVariants.{Goto, If, Call, Return}
+use Rattle.mir_ir.specs.declared.terminator.TerminatorKind.TheVariants.{Goto, If, Call, Return, Panic}
 use Rattle.mir_ir.specs.declared.body.Point.{Point}
 use Rattle.mir_ir.specs.Layout.{among}
 use Rattle.prophecy_logic.specs.declared.command.Command.{Command}
 use Rattle.prophecy_logic.specs.declared.goal.Goal.{Goal}
-use Rattle.prophecy_logic.specs.Graph.{Setting, start_of, behind, IsAtEnd, Within, by_statement, by_end, Ends, goto, branch, call, return, Arrives, plain, first, again, goals_of_walk}
+use Rattle.prophecy_logic.specs.Graph.{Setting, start_of, behind, IsAtEnd, Within, by_statement, by_end, Ends, goto, branch, call, return, panic, Arrives, plain, first, again, goals_of_walk}
 use Rattle.prophecy_logic.specs.Laws.{PrefixesHaveGoals, GoalsAreSeenBefore}
 use Rattle.prophecy_logic.specs.Loop.{head_commands}
-use Rattle.prophecy_logic.specs.Prefix.{At, arrival, within, Prefix, entry, into_block, into_head, over_statement, along_goto, to_true_side, to_false_side, over_call, IsMet, at_entry, after_turn, at_statement, at_call, at_return, IsGoalOfPrefix, of_prefix}
+use Rattle.prophecy_logic.specs.Prefix.{At, arrival, within, Prefix, entry, into_block, into_head, over_statement, along_goto, to_true_side, to_false_side, over_call, IsMet, at_entry, after_turn, at_statement, at_call, at_return, at_panic, IsGoalOfPrefix, of_prefix}
 use Rattle.prophecy_logic.specs.Row.{goals_of, commands_of}
-use Rattle.prophecy_logic.specs.Walk.{goal_before, seen_before, goals_at_return, where_true, where_false, goals_at_entry, goals_after_turn, goals_of_call, call_commands, Walk, stop, row, fork, owed, met}
+use Rattle.prophecy_logic.specs.Walk.{goal_before, seen_before, goals_at_return, goals_at_panic, where_true, where_false, goals_at_entry, goals_after_turn, goals_of_call, call_commands, Walk, stop, row, fork, owed, met}
 use Rattle.prophecy_logic.proofs.Ahead.{before_append}
 use Rattle.prophecy_logic.proofs.Steps.{some_same, to_end, ends_by, comes_by}
 use Rattle.prophecy_logic.proofs.Steps as steps
@@ -133,6 +133,7 @@ module _ (w : Setting) (tree : Walk) where
       let same_d = some_same (sym is_d ∙ e.4) in
       in_row cs (call_commands w.body e.2 q.local e.3 args) (goals_of_call w.body e.2 end.span args) e.0 v g e.6 (subst (λ c. Contains (goals_of_call w.body c end.span args) g) same_d i)
   met_there heads at cs v g (at_return end here is i) s = in_row cs [] (goals_at_return w.body w.contract) stop v g (ends_by (to_end s end here) Return is) i
+  met_there heads at cs v g (at_panic end cause here is i) s = in_row cs [] (goals_at_panic end.span) stop v g (ends_by (to_end s end here) (Panic cause) is) i
 
   none_is_lost : Arrives w [] w.body.entry tree → (g : Goal) → IsGoalOfPrefix w g → Contains (goals_of_walk w tree) g
   none_is_lost a g (of_prefix {heads = heads} {at = at} {cs = cs} {g = h} x m) =
@@ -169,6 +170,11 @@ module _ (w : Setting) where
     from_end heads end v p cs t (return is) here x h =
         elim (Contains-append_cases (seen_before cs (goals_at_return w.body w.contract)) [] t h) [
           | inl m ↦ found heads (within p) cs (goals_at_return w.body w.contract) t (λ g i. at_return end here is i) x m
+          | inr m ↦ absurd (omega (arith, m.1))
+        ]
+    from_end heads end v p cs t (panic cause is) here x h =
+        elim (Contains-append_cases (seen_before cs (goals_at_panic end.span)) [] t h) [
+          | inl m ↦ found heads (within p) cs (goals_at_panic end.span) t (λ g i. at_panic end cause here is i) x m
           | inr m ↦ absurd (omega (arith, m.1))
         ]
 

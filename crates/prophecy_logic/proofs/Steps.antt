@@ -6,7 +6,7 @@ use Rattle.logic_term.specs.Ty.{Ty}
 use Rattle.mir_ir.specs.declared.statement.Statement.{Statement}
 use Rattle.mir_ir.specs.declared.terminator.Terminator.{Terminator}
 use Rattle.mir_ir.specs.declared.terminator.TerminatorKind.{TerminatorKind}
-use Rattle.mir_ir.specs.declared.terminator.TerminatorKind.TheVariants.{Goto, If, Call, Return}
+use Rattle.mir_ir.specs.declared.terminator.TerminatorKind.TheVariants.{Goto, If, Call, Return, Panic}
 use Rattle.mir_ir.specs.declared.body.Block.{Block}
 use Rattle.mir_ir.specs.declared.body.Body.{Body}
 use Rattle.mir_ir.specs.declared.body.Head.{Head}
@@ -14,10 +14,10 @@ use Rattle.mir_ir.specs.declared.body.Point.{Point}
 use Rattle.mir_ir.specs.Body.{block_in}
 use Rattle.mir_ir.specs.Callees.{contract_at}
 use Rattle.mir_ir.specs.Layout.{among}
-use Rattle.prophecy_logic.specs.Graph.{Setting, start_of, behind, IsBefore, IsAtEnd, Within, by_statement, by_end, Ends, goto, branch, call, return, Arrives, plain, first, again}
+use Rattle.prophecy_logic.specs.Graph.{Setting, start_of, behind, IsBefore, IsAtEnd, Within, by_statement, by_end, Ends, goto, branch, call, return, panic, Arrives, plain, first, again}
 use Rattle.prophecy_logic.specs.Loop.{head_commands}
 use Rattle.prophecy_logic.specs.Row.{goals_of, commands_of}
-use Rattle.prophecy_logic.specs.Walk.{goals_at_return, where_true, where_false, goals_at_entry, goals_after_turn, goals_of_call, call_commands, Walk, stop, row, fork}
+use Rattle.prophecy_logic.specs.Walk.{goals_at_return, goals_at_panic, where_true, where_false, goals_at_entry, goals_after_turn, goals_of_call, call_commands, Walk, stop, row, fork}
 
 pub some_same : {A : Type 0} {a b : A} → Some a ≡ Some b → a ≡ b
 some_same e = cc
@@ -73,12 +73,14 @@ EndsBy w heads end (If o on_true on_false) v = (a : Walk) × Arrives w heads on_
 EndsBy w heads end (Call p callee types args l) v = (u : Walk) × Arrives w heads l u × (d : Contract) × (t : Ty) × (contract_at w.contracts callee ≡ Some d) × (slice_get w.body.locals p.local ≡ Some t)
     × (v ≡ row (goals_of_call w.body d end.span args) (call_commands w.body d p.local t args) u)
 EndsBy w heads end Return v = v ≡ row (goals_at_return w.body w.contract) [] stop
+EndsBy w heads end (Panic cause) v = v ≡ row (goals_at_panic end.span) [] stop
 
 at_end : {w : Setting} {heads : List Label} {end : Terminator} {v : Walk} → Ends w heads end v → EndsBy w heads end end.kind v
 at_end {w} {heads} {end} {v} (goto l e a) = subst (λ k. EndsBy w heads end k v) (sym e) a
 at_end {w} {heads} {end} {v} (branch {u = a} {v = b} o on_true on_false e to_a to_b) = subst (λ k. EndsBy w heads end k v) (sym e) (a, to_a, b, to_b, refl)
 at_end {w} {heads} {end} {v} (call {v = u} p callee types args l d t e is_d is_t a) = subst (λ k. EndsBy w heads end k v) (sym e) (u, a, d, t, is_d, is_t, refl)
 at_end {w} {heads} {end} {v} (return e) = subst (λ k. EndsBy w heads end k v) (sym e) refl
+at_end {w} {heads} {end} {v} (panic cause e) = subst (λ k. EndsBy w heads end k v) (sym e) refl
 
 pub ends_by : {w : Setting} {heads : List Label} {end : Terminator} {v : Walk} → Ends w heads end v → (kind : TerminatorKind) → end.kind ≡ kind → EndsBy w heads end kind v
 ends_by {w} {heads} {end} {v} ends kind e = subst (λ k. EndsBy w heads end k v) e (at_end ends)

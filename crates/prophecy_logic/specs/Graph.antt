@@ -1,6 +1,7 @@
 -- The walk of a body, as a relation between the points of its graph of blocks and trees of rows. A loop head is passed once: at a second
 -- arrival on a path its invariants are goals and the path ends (Floyd 1967; Creusot).
 use Rattle.std.specs.Prelude.{◌≡◌, ℕ, ◌+◌, true, false, List, [], ◌∷◌, length, Some, None, slice_get}
+use Rattle.text_core.specs.declared.refusal.Cause.{Cause}
 use Rattle.logic_term.specs.declared.declaration.AdtDecl.{AdtDecl}
 use Rattle.logic_term.specs.declared.kinds.Label.{Label}
 use Rattle.logic_term.specs.declared.obligation.Contract.{Contract}
@@ -12,7 +13,7 @@ use Rattle.mir_ir.specs.declared.place.Place.{Place}
 use Rattle.mir_ir.specs.declared.statement.Statement.{Statement}
 use Rattle.mir_ir.specs.declared.terminator.Callee.{Callee}
 use Rattle.mir_ir.specs.declared.terminator.Terminator.{Terminator}
-use Rattle.mir_ir.specs.declared.terminator.TerminatorKind.TheVariants.{Goto, If, Call, Return}
+use Rattle.mir_ir.specs.declared.terminator.TerminatorKind.TheVariants.{Goto, If, Call, Return, Panic}
 use Rattle.mir_ir.specs.declared.body.Block.{Block}
 use Rattle.mir_ir.specs.declared.body.Body.{Body}
 use Rattle.mir_ir.specs.declared.body.Contracts.{Contracts}
@@ -26,7 +27,7 @@ use Rattle.mir_ir.specs.Layout.{among}
 use Rattle.prophecy_logic.specs.declared.goal.Goal.{Goal}
 use Rattle.prophecy_logic.specs.Loop.{head_commands}
 use Rattle.prophecy_logic.specs.Row.{goals_of, commands_of}
-use Rattle.prophecy_logic.specs.Walk.{goals_at_return, where_true, where_false, goals_at_entry, goals_after_turn, goals_of_call, call_commands, entry_commands, Walk, stop, row, fork, owed}
+use Rattle.prophecy_logic.specs.Walk.{goals_at_return, goals_at_panic, where_true, where_false, goals_at_entry, goals_after_turn, goals_of_call, call_commands, entry_commands, Walk, stop, row, fork, owed}
 
 -- what the walk of a body looks up: the contracts of all functions, its own, what may be gone where, which references end where, and the
 -- declared types. So far no row asks for the last two
@@ -79,6 +80,7 @@ mutual
         → end.kind ≡ Call p callee types args l → contract_at w.contracts callee ≡ Some d → slice_get w.body.locals p.local ≡ Some t → Arrives w heads l v
         → Ends w heads end (row (goals_of_call w.body d end.span args) (call_commands w.body d p.local t args) v)
     return : {heads : List Label} {end : Terminator} → end.kind ≡ Return → Ends w heads end (row (goals_at_return w.body w.contract) [] stop)
+    panic : {heads : List Label} {end : Terminator} (cause : Cause) → end.kind ≡ Panic cause → Ends w heads end (row (goals_at_panic end.span) [] stop)
 
   -- from the arrival at a block on
   pub data Arrives (w : Setting) : List Label → Label → Walk → Type 0 where

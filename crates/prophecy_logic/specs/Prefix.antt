@@ -1,6 +1,7 @@
 -- Prefixes of a body's paths: each runs from the entry along edges, passes a loop head at most once, and may end with a second arrival at
 -- a head. The goals of a body are those that are met where a prefix ends, each made from the prefix's end backwards.
 use Rattle.std.specs.Prelude.{◌≡◌, true, false, List, [], ◌∷◌, ◌++◌, Contains, Some, None, slice_get}
+use Rattle.text_core.specs.declared.refusal.Cause.{Cause}
 use Rattle.logic_term.specs.declared.kinds.Label.{Label}
 use Rattle.logic_term.specs.declared.obligation.Contract.{Contract}
 use Rattle.logic_term.specs.Ty.{Ty}
@@ -9,7 +10,7 @@ use Rattle.mir_ir.specs.declared.place.Place.{Place}
 use Rattle.mir_ir.specs.declared.statement.Statement.{Statement}
 use Rattle.mir_ir.specs.declared.terminator.Callee.{Callee}
 use Rattle.mir_ir.specs.declared.terminator.Terminator.{Terminator}
-use Rattle.mir_ir.specs.declared.terminator.TerminatorKind.TheVariants.{Goto, If, Call, Return}
+use Rattle.mir_ir.specs.declared.terminator.TerminatorKind.TheVariants.{Goto, If, Call, Return, Panic}
 use Rattle.mir_ir.specs.declared.body.Block.{Block}
 use Rattle.mir_ir.specs.declared.body.Head.{Head}
 use Rattle.mir_ir.specs.declared.body.Point.{Point}
@@ -21,7 +22,7 @@ use Rattle.prophecy_logic.specs.declared.goal.Goal.{Goal}
 use Rattle.prophecy_logic.specs.Graph.{Setting, start_of, behind, IsBefore, IsAtEnd, goals_of_walk}
 use Rattle.prophecy_logic.specs.Loop.{head_commands}
 use Rattle.prophecy_logic.specs.Row.{goals_of, commands_of}
-use Rattle.prophecy_logic.specs.Walk.{Walk, goal_before, goals_at_return, where_true, where_false, goals_at_entry, goals_after_turn, goals_of_call, call_commands, entry_commands}
+use Rattle.prophecy_logic.specs.Walk.{Walk, goal_before, goals_at_return, goals_at_panic, where_true, where_false, goals_at_entry, goals_after_turn, goals_of_call, call_commands, entry_commands}
 
 -- where a prefix ends: at the arrival at a block, or at a point within one
 pub data At : Type 0 where
@@ -52,6 +53,7 @@ pub data IsMet (w : Setting) : List Label → At → Goal → Type 0 where
   at_call : {heads : List Label} {p : Point} {g : Goal} (end : Terminator) (q : Place) (callee : Callee) (types : List Ty) (args : List Operand) (l : Label) (d : Contract) → IsAtEnd w.body p end
       → end.kind ≡ Call q callee types args l → contract_at w.contracts callee ≡ Some d → Contains (goals_of_call w.body d end.span args) g → IsMet w heads (within p) g
   at_return : {heads : List Label} {p : Point} {g : Goal} (end : Terminator) → IsAtEnd w.body p end → end.kind ≡ Return → Contains (goals_at_return w.body w.contract) g → IsMet w heads (within p) g
+  at_panic : {heads : List Label} {p : Point} {g : Goal} (end : Terminator) (cause : Cause) → IsAtEnd w.body p end → end.kind ≡ Panic cause → Contains (goals_at_panic end.span) g → IsMet w heads (within p) g
 
 -- a goal that is met where a prefix ends, closed by the prefix
 pub data IsGoalOfPrefix (w : Setting) : Goal → Type 0 where

@@ -1,14 +1,14 @@
 -- Rows of the ends of blocks and of arrivals at heads; and what is left of a walk, as a tree of rows. The goals of a tree are those that
 -- the walk meets, depth first, each made from the goal backwards to the point at which the walk begins.
-use Rattle.std.specs.Prelude.{ℕ, ◌+◌, List, [], ◌∷◌, ◌++◌, length, map, drop}
+use Rattle.std.specs.Prelude.{ℕ, false, ◌+◌, List, [], ◌∷◌, ◌++◌, length, map, drop}
 use Rattle.text_core.specs.declared.name.Name.{Name}
 use Rattle.text_core.specs.declared.span.Span.{Span}
 use Rattle.text_core.specs.declared.refusal.Kind.{Kind}
-use Rattle.text_core.specs.declared.refusal.Kind.TheVariants.{Ensures, Requires, InvEntry, InvKept}
+use Rattle.text_core.specs.declared.refusal.Kind.TheVariants.{Unreachable, Ensures, Requires, InvEntry, InvKept}
 use Rattle.logic_term.specs.declared.obligation.Contract.{Contract}
 use Rattle.logic_term.specs.declared.subst.Replacement.{Replacement}
 use Rattle.logic_term.specs.Subst.{with_terms, replaced}
-use Rattle.logic_term.specs.Term.{Term, var}
+use Rattle.logic_term.specs.Term.{Term, var, truth}
 use Rattle.logic_term.specs.Term as terms
 use Rattle.logic_term.specs.Ty.{Ty}
 use Rattle.mir_ir.specs.declared.place.Operand.{Operand}
@@ -51,6 +51,12 @@ at_answer b c t = replaced c.answer (var (name_of b 0)) t
 
 abbrev pub goals_at_return : Body → Contract → List Goal
 goals_at_return b c = each_goal Ensures (map (at_answer b c) c.post) (drop (length c.pre) c.spans)
+
+-- ---- the panic
+
+-- no run comes there
+abbrev pub goals_at_panic : Span → List Goal
+goals_at_panic at = record { kind = Unreachable; span = at; formula = truth false } ∷ []
 
 -- ---- branches
 

@@ -204,11 +204,11 @@ module _ {K : Type 0} (s : Setup K) (f : FunctionOf s) (ρ₀ : Env) (fr : Frame
         not_first : length u ≡ 0 → ⊥
         not_first e = omega (arith, more, e)
 
-    pub call_comes : Quiet Fine (end_step s.code now (Call p target types os l))
+    pub call_comes : Quiet Fine (end_step s.code now at (Call p target types os l))
     unfolding calls_fine
     call_comes =
         let takes = take_all_yields (declarations s) b no_tys frame inside now end_set os param_types (sym (stops_length fs)) held have can in
         let more : length takes.after ≡ suc frame = sym (stops_length takes.after) ∙ ap length takes.stay in
         let shows : AllShow takes.trees values = took_all_show b ρ param_types have can agrees takes.took in
-        subst (Quiet Fine) (sym (call-row s.code now takes.after p target types os l takes.trees callee.number callee.body takes.yields found.1 callee.is_body))
+        subst (Quiet Fine) (sym (call-row s.code now takes.after at p target types os l takes.trees callee.number callee.body takes.yields found.1 callee.is_body))
         (continues.calls takes.after takes.stay takes.elsewhere (calls_fine takes.after takes.trees more takes.held (are_shaped takes.typed) (took_all_agree b ρ agrees takes.took) shows))

@@ -2,6 +2,7 @@
 use Rattle.std.proofs.Common.{◌≡◌, ◌∙◌, ◌⊎◌, inl, inr, refl, sym, ap, subst, ℕ, Bool, true, false, cond, List, [], ◌∷◌, ◌++◌, length, drop, map, Some, slice_get, arith}
 use Rattle.text_core.specs.declared.name.Name.{Name}
 use Rattle.text_core.specs.declared.refusal.Kind.TheVariants.{Ensures}
+use Rattle.text_core.specs.declared.span.Span.{Span}
 use Rattle.logic_term.specs.declared.kinds.Label.{Label}
 use Rattle.logic_term.specs.Free.{free}
 use Rattle.logic_term.specs.Term.{Term, var}
@@ -132,10 +133,10 @@ module _ {K : Type 0} (s : Setup K) where
           way hold
 
       module _ (Fine : Outcome K → Type 0) (continues : Continues Fine fr fs) where
-        pub branch_comes : {heads : List Label} {u v : Walk} (o : Operand) (l r : Label) → st.block.end.kind ≡ If o l r → Arrives (walked s f) heads l u → Arrives (walked s f) heads r v →
+        pub branch_comes : {heads : List Label} {u v : Walk} (at : Span) (o : Operand) (l r : Label) → st.block.end.kind ≡ If o l r → Arrives (walked s f) heads l u → Arrives (walked s f) heads r v →
             Came s f ρ₀ (walked s f) heads (within (point_of g)) ρ → IsAtEnd b (point_of g) st.block.end →
-            GoalsHold (S s) ρ (seen_before (where_true b o) (met u) ++ seen_before (where_false b o) (met v)) → Holding s f now n end_set → Agree b now n end_set ρ → Ways heads → Quiet Fine (end_step s.code now (If o l r))
-        branch_comes {heads} {u} {v} o l r kind to_l to_r came at_end hold held agrees ways = by_truth (has_shape takes.typed)
+            GoalsHold (S s) ρ (seen_before (where_true b o) (met u) ++ seen_before (where_false b o) (met v)) → Holding s f now n end_set → Agree b now n end_set ρ → Ways heads → Quiet Fine (end_step s.code now at (If o l r))
+        branch_comes {heads} {u} {v} at o l r kind to_l to_r came at_end hold held agrees ways = by_truth (has_shape takes.typed)
           where
             has : EndIsTyped (bodies s) b (If o l r)
             has = subst (EndIsTyped (bodies s) b) kind ((own s f).typed.ends g.label st.block st.is_block)
@@ -179,9 +180,9 @@ module _ {K : Type 0} (s : Setup K) where
                 (goals_moved (S s) (met v) moves rest_goals) held' agreed carries.1
                 (ways r (subst (λ x. among r (targets x) ≡ true) (sym kind) (among_second l r)) (to_end r carries.1))
 
-            by_truth : Shape bool takes.tree → Quiet Fine (end_step s.code now (If o l r))
+            by_truth : Shape bool takes.tree → Quiet Fine (end_step s.code now at (If o l r))
             by_truth (there, (c, is)) =
-                let (after, is_after, stay, same) = if-row s.code now takes.after o c l r g (stops fs) (takes.yields ∙ ap (λ (t : Tree K). Yields (takes.after, t)) is) takes.took.stay in
+                let (after, is_after, stay, same) = if-row s.code now takes.after at o c l r g (stops fs) (takes.yields ∙ ap (λ (t : Tree K). Yields (takes.after, t)) is) takes.took.stay in
                 let shows : Shows takes.tree value = took_shows b ρ o bool has.0 can agrees takes.took in
                 let is_flag : value ≡ Flag c = shows_truth c value (subst (λ (u : Tree K). Shows u value) is shows) in
                 let held' : Holding s f after n (taken o end_set) = held_moved (declarations s) (λ x. same (local_at n x)) (λ at e. same at) takes.held in
@@ -211,11 +212,11 @@ module _ {K : Type 0} (s : Setup K) where
             at_name x q (inr d) =
                 with_other ρ (own s f).contract.answer x (ρ (name_of b 0)) d ∙ st.keeps x (params_outside s f x (over.0 x q d)) ∙ sym (with_other ρ₀ (own s f).contract.answer x (ρ (name_of b 0)) d)
 
-        pub return_comes : GoalsHold (S s) ρ (goals_at_return b (own s f).contract) → Holding s f now n end_set → Agree b now n end_set ρ → end_set 0 ≡ true → Quiet Fine (end_step s.code now Return)
-        return_comes hold held agrees can =
+        pub return_comes : (at : Span) → GoalsHold (S s) ρ (goals_at_return b (own s f).contract) → Holding s f now n end_set → Agree b now n end_set ρ → end_set 0 ≡ true → Quiet Fine (end_step s.code now at Return)
+        return_comes at hold held agrees can =
             let (t, is_t, there, typed) = local_read (declarations s) b no_tys n inside now end_set 0 answer.0 held answer.1 can in
             let shows : Shows t (ρ (name_of b 0)) = agrees 0 answer.0 t can answer.1 is_t in
-            subst (Quiet Fine) (sym (return-row s.code fr fs t (ap (λ i. tree_at now (local_at i 0)) is_n ∙ is_t) there))
+            subst (Quiet Fine) (sym (return-row s.code fr fs at t (ap (λ i. tree_at now (local_at i 0)) is_n ∙ is_t) there))
             (continues.answers t (record {
               typed = subst (λ ty. Typed (declarations s) fs t ty []) (sym (ap (instance no_tys) (first_ty b.locals answer.0 answer.1)))
                   (shaped_typed (declarations s) fs answer.0 t ((own s f).simple.scalars 0 answer.0 answer.1) (has_shape typed));

@@ -5,6 +5,7 @@ use Rattle.std.proofs.lemmas.Option.{slice_get_within}
 use Rattle.logic_term.specs.declared.kinds.Label.{Label}
 use Rattle.logic_term.specs.Meaning.{Env}
 use Rattle.logic_term.specs.Ty.{no_tys}
+use Rattle.logic_term.proofs.Truth.{holds_false}
 use Rattle.mir_ir.specs.declared.statement.Statement.{Statement}
 use Rattle.mir_ir.specs.declared.terminator.Terminator.{Terminator}
 use Rattle.mir_ir.specs.declared.terminator.TerminatorKind.TheVariants.{Goto, Return}
@@ -23,7 +24,7 @@ use Rattle.mir_machine.proofs.Tried.{Quiet, quiet_then}
 use Rattle.mir_machine.proofs.Writes.{at_next, at_start, stops_length}
 use Rattle.prophecy_logic.specs.declared.goal.Goal.{Goal}
 use Rattle.prophecy_logic.specs.Row.{goals_of, commands_of}
-use Rattle.prophecy_logic.specs.Graph.{IsBefore, Ends, goto, branch, call, return}
+use Rattle.prophecy_logic.specs.Graph.{IsBefore, Ends, goto, branch, call, return, panic}
 use Rattle.prophecy_logic.specs.Prefix.{within, over_statement, along_goto}
 use Rattle.prophecy_logic.specs.Loop.{loop_writes, statement_touches}
 use Rattle.prophecy_logic.specs.Walk.{seen_before, goals_at_return, Walk, met}
@@ -67,25 +68,27 @@ module _ {K : Type 0} (s : Setup K) (f : FunctionOf s) (ρ₀ : Env) (fr : Frame
 
   end_comes : {heads : List Label} {end : Terminator} {v : Walk} → Ends (walked s f) heads end v → end ≡ st.block.end → g.statement ≡ length st.block.statements →
       Came s f ρ₀ (walked s f) heads (within (point_of g)) ρ → GoalsHold (S s) ρ (met v) →
-      Holding s f now n end_set → Agree b now n end_set ρ → Memories s f ρ₀ end_set ρ st.block.nest → AllAmong st.block.nest heads → AreBehind s f ρ₀ heads g.label → Ways s f ρ₀ fr fs inside st heads → Quiet Fine (end_step s.code now end.kind)
-  end_comes (goto l q arrives) is is_last came hold held agrees nested enclosing behind ways =
+      Holding s f now n end_set → Agree b now n end_set ρ → Memories s f ρ₀ end_set ρ st.block.nest → AllAmong st.block.nest heads → AreBehind s f ρ₀ heads g.label → Ways s f ρ₀ fr fs inside st heads → Quiet Fine (end_step s.code now end.span end.kind)
+  end_comes {end = end} (goto l q arrives) is is_last came hold held agrees nested enclosing behind ways =
       let kind : st.block.end.kind ≡ Goto l = ap (λ (x : Terminator). x.kind) (sym is) ∙ q in
       let carries : Within_set (initialised l 0) end_set = subst (Carries (λ m. initialised m 0) end_set) kind ((move_rows s f).edges g.label st.block st.is_block) in
-      let (v, is_v, stay, same) = goto-row s.code now l g (stops fs) refl in
-      subst (λ k. Quiet Fine (end_step s.code now k)) (sym q) (subst (Quiet Fine) (sym is_v)
+      let (v, is_v, stay, same) = goto-row s.code now end.span l g (stops fs) refl in
+      subst (λ k. Quiet Fine (end_step s.code now end.span k)) (sym q) (subst (Quiet Fine) (sym is_v)
       (continues.stays v (at_start l g) stay (λ at d. same at)
       (goes_on s f ρ₀ fr fs inside st l end_set v arrives (record { commands = came.commands; prefix = along_goto st.block.end l came.prefix (here_ends s f ρ₀ fr fs inside st is_last) kind; moves = came.moves }) hold
       (held_moved (declarations s) (λ x. same (local_at n x)) (λ at e. same at) held) (agree_moved b now v n end_set ρ (λ x. same (local_at n x)) agrees) carries
       (ways l (subst (λ x. among l (targets x) ≡ true) (sym kind) (among_first l [])) carries))))
-  end_comes (branch o l r q to_l to_r) is is_last came hold held agrees nested enclosing behind ways =
-      subst (λ k. Quiet Fine (end_step s.code now k)) (sym q) (branch_comes s f ρ₀ fr fs inside st Fine continues o l r (ap (λ (x : Terminator). x.kind) (sym is) ∙ q) to_l to_r came (here_ends s f ρ₀ fr fs inside st is_last) hold held agrees ways)
+  end_comes {end = end} (branch o l r q to_l to_r) is is_last came hold held agrees nested enclosing behind ways =
+      subst (λ k. Quiet Fine (end_step s.code now end.span k)) (sym q) (branch_comes s f ρ₀ fr fs inside st Fine continues end.span o l r (ap (λ (x : Terminator). x.kind) (sym is) ∙ q) to_l to_r came (here_ends s f ρ₀ fr fs inside st is_last) hold held agrees ways)
   end_comes {end = end} (call p callee types os l d t q is_d is_t arrives) is is_last came hold held agrees nested enclosing behind ways =
-      subst (λ k. Quiet Fine (end_step s.code now k)) (sym q)
+      subst (λ k. Quiet Fine (end_step s.code now end.span k)) (sym q)
       (call_comes s f ρ₀ fr fs inside st Fine continues p callee types os l d t end.span (ap (λ (x : Terminator). x.kind) (sym is) ∙ q) is_d is_t arrives came is_last hold held agrees nested enclosing behind)
-  end_comes (return q) is is_last came hold held agrees nested enclosing behind ways =
+  end_comes {end = end} (return q) is is_last came hold held agrees nested enclosing behind ways =
       let kind : st.block.end.kind ≡ Return = ap (λ (x : Terminator). x.kind) (sym is) ∙ q in
       let can : end_set 0 ≡ true = subst (CanEnd end_set) kind ((move_rows s f).ends g.label st.block st.is_block) in
-      subst (λ k. Quiet Fine (end_step s.code now k)) (sym q) (return_comes s f ρ₀ fr fs inside st Fine continues (goals_first (S s) ρ (goals_at_return b (own s f).contract) [] hold) held agrees can)
+      subst (λ k. Quiet Fine (end_step s.code now end.span k)) (sym q) (return_comes s f ρ₀ fr fs inside st Fine continues end.span (goals_first (S s) ρ (goals_at_return b (own s f).contract) [] hold) held agrees can)
+  -- the goal at a panic is false
+  end_comes (panic cause q) is is_last came hold held agrees nested enclosing behind ways = absurd (holds_false (S s) ρ hold.0)
 
   at_end : slice_get st.block.statements g.statement ≡ None → Quiet Fine (row s.code b fr.types now st.block.end None)
   at_end e =

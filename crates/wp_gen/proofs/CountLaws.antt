@@ -1,6 +1,7 @@
 -- Laws of the number of goals.
 use Rattle.std.proofs.Common.{◌≡◌, ◌∙◌, ◌⊎◌, inl, inr, refl, sym, ap, ap₂, subst, ℕ, zero, suc, ◌+◌, ◌≤◌, true, false, List, [], ◌∷◌, ◌++◌, length, length-append, map, drop, Option, Some, None, slice_get, arith}
 use Rattle.std.proofs.lemmas.List.{length-map, drop_all}
+use Rattle.text_core.specs.declared.refusal.Cause.{Cause}
 use Rattle.text_core.specs.declared.refusal.Kind.{Kind}
 use Rattle.text_core.specs.declared.refusal.Kind.TheVariants.{InvEntry, InvKept, Ensures}
 use Rattle.text_core.specs.declared.span.Span.{Span}
@@ -14,7 +15,7 @@ use Rattle.mir_ir.specs.declared.place.Place.{Place}
 use Rattle.mir_ir.specs.declared.statement.Statement.{Statement}
 use Rattle.mir_ir.specs.declared.terminator.Callee.{Callee}
 use Rattle.mir_ir.specs.Callees.{contract_at}
-use Rattle.mir_ir.specs.declared.terminator.TerminatorKind.TheVariants.{Goto, If, Call, Return}
+use Rattle.mir_ir.specs.declared.terminator.TerminatorKind.TheVariants.{Goto, If, Call, Return, Panic}
 use Rattle.mir_ir.specs.declared.body.Block.{Block}
 use Rattle.mir_ir.specs.declared.body.Body.{Body}
 use Rattle.mir_ir.specs.declared.body.Head.{Head}
@@ -182,6 +183,14 @@ module _ (w : Setting) (l : Label) (k : Block) where
       (length (goals_at_return w.body w.contract), goals, subst (λ kind. AreSplit w l (last_target kind) (length (goals_at_return w.body w.contract)) v) (sym e) many)
   return_before room None e goals = λ v at_end.
       same_room room (length (goals_at_return w.body w.contract)) (count v) None (omega (arith, ap count (ends_by at_end.2 Return e))) goals
+
+  pub panic_before : (cause : Cause) (room : ℕ) (r : Option ℕ) → k.end.kind ≡ Panic cause → IsRoomLeft room 1 r → LeavesRoomBefore w l (last_target k.end.kind) (IsAtEnd w l k) room r
+  panic_before cause room (Some left) e goals = λ v at_end.
+      let many : count v ≡ 1 = ap count (ends_by at_end.2 (Panic cause) e) in
+      (1, goals, subst (λ kind. AreSplit w l (last_target kind) 1 v) (sym e) many)
+  panic_before cause room None e goals = λ v at_end.
+      let many : count v ≡ 1 = ap count (ends_by at_end.2 (Panic cause) e) in
+      same_room room 1 (count v) None (sym many) goals
 
 -- no edge leads on
 pub none_behind : (w : Setting) (l : Label) (last : Option Label) (room left : ℕ) → last ≡ None → LeavesRoomBefore w l last (IsFrom w l) room (Some left) → LeavesRoomBehind (IsFrom w l) room (Some left)

@@ -3,7 +3,7 @@ use Rattle.std.proofs.Common.{◌≡◌, ◌∙◌, inl, inr, refl, sym, ap, sub
 use Rattle.logic_term.specs.declared.kinds.Label.{Label}
 use Rattle.mir_ir.specs.declared.terminator.Terminator.{Terminator}
 use Rattle.mir_ir.specs.declared.terminator.TerminatorKind.{TerminatorKind}
-use Rattle.mir_ir.specs.declared.terminator.TerminatorKind.TheVariants.{Goto, If, Call, Return}
+use Rattle.mir_ir.specs.declared.terminator.TerminatorKind.TheVariants.{Goto, If, Call, Return, Panic}
 use Rattle.mir_ir.specs.declared.body.Block.{Block}
 use Rattle.mir_ir.specs.declared.body.Body.{Body}
 use Rattle.mir_ir.specs.declared.body.Head.{Head}
@@ -14,7 +14,7 @@ use Rattle.prophecy_logic.specs.Graph.{Setting, Within, Ends, Arrives}
 use Rattle.prophecy_logic.specs.Graph as walk
 use Rattle.prophecy_logic.specs.Walk.{Walk, paths}
 use Rattle.prophecy_logic.specs.Walkable.{AllAmong}
-use Rattle.wp_gen.specs.Paths.{IsEntered, passed, Paths, stopped, again, return, goto, call, branch, CountsAgree, WalksAreCounted, MayStand, CountsAlong, last_target, IsLater, CountsFirst, EndPaths, CountsFrom, IsCount}
+use Rattle.wp_gen.specs.Paths.{IsEntered, passed, Paths, stopped, again, return, panic, goto, call, branch, CountsAgree, WalksAreCounted, MayStand, CountsAlong, last_target, IsLater, CountsFirst, EndPaths, CountsFrom, IsCount}
 use Rattle.prophecy_logic.proofs.Steps.{some_same}
 use Rattle.prophecy_logic.proofs.ArriveLaws.{either, or_true, among_append, among_front, same_label, room, found_place, goto_names, if_names_no, call_names}
 
@@ -23,6 +23,7 @@ pub may_stop : {b : Body} {heads : List Label} {l : Label} {n : ℕ} → Paths f
 may_stop (stopped e) = absurd (true≢false (sym e))
 may_stop (again k h is is_head there) = again k h is is_head there
 may_stop (return k is entered e) = return k is entered e
+may_stop (panic k cause is entered e) = panic k cause is entered e
 may_stop (goto k m is entered e p) = goto k m is entered e (may_stop p)
 may_stop (call k q c types args m is entered e p) = call k q c types args m is entered e (may_stop p)
 may_stop (branch k o on_true on_false is entered e p q) = branch k o on_true on_false is entered e (may_stop p) (may_stop q)
@@ -36,6 +37,7 @@ enters early b heads l k n is entered p = by_kind k.end.kind refl p
     by_kind (If o on_true on_false) e (i, j, q, r, s) = subst (Paths early b heads l) (sym s) (branch k o on_true on_false is entered e q r)
     by_kind (Call pl c types args m) e q = call k pl c types args m is entered e q
     by_kind Return e q = subst (Paths early b heads l) (sym q) (return k is entered e)
+    by_kind (Panic cause) e q = subst (Paths early b heads l) (sym q) (panic k cause is entered e)
 
 -- ---- counts agree
 
@@ -48,6 +50,7 @@ passed_once : {b : Body} {heads : List Label} {l : Label} {n : ℕ} → Paths fa
 passed_once (stopped e) k h is is_head there = absurd (true≢false (sym e))
 passed_once (again k' h' is' is_head' there') k h is is_head there = refl
 passed_once {heads = heads} {l = l} (return k' is' entered e) k h is is_head there = absurd (not_both k k' h l heads _ is is' is_head there entered)
+passed_once {heads = heads} {l = l} (panic k' cause is' entered e) k h is is_head there = absurd (not_both k k' h l heads _ is is' is_head there entered)
 passed_once {heads = heads} {l = l} (goto k' m is' entered e p) k h is is_head there = absurd (not_both k k' h l heads _ is is' is_head there entered)
 passed_once {heads = heads} {l = l} (call k' q c types args m is' entered e p) k h is is_head there = absurd (not_both k k' h l heads _ is is' is_head there entered)
 passed_once {heads = heads} {l = l} (branch k' o on_true on_false is' entered e p q) k h is is_head there = absurd (not_both k k' h l heads _ is is' is_head there entered)
@@ -61,6 +64,8 @@ follows : {b : Body} {heads : List Label} {l : Label} {n : ℕ} → Paths false 
 follows (stopped e) k is entered = absurd (true≢false (sym e))
 follows {heads = heads} {l = l} (again k' h is' is_head there) k is entered = absurd (not_both k' k h l heads _ is' is is_head there entered)
 follows {b} {heads} {l} (return k' is' entered' e) k is entered =
+    ends_of b heads l k k' 1 is is' (subst (λ kind. EndPaths false b (passed k'.head l heads) kind 1) (sym e) refl)
+follows {b} {heads} {l} (panic k' cause is' entered' e) k is entered =
     ends_of b heads l k k' 1 is is' (subst (λ kind. EndPaths false b (passed k'.head l heads) kind 1) (sym e) refl)
 follows {b} {heads} {l} {n} (goto k' m is' entered' e p) k is entered =
     ends_of b heads l k k' n is is' (subst (λ kind. EndPaths false b (passed k'.head l heads) kind n) (sym e) p)
@@ -76,6 +81,7 @@ at_most : {b : Body} {heads : List Label} {l : Label} {m n : ℕ} → Paths true
 at_most (stopped e) q = omega arith
 at_most (again k h is is_head there) q = omega (arith, passed_once q k h is is_head there)
 at_most {b} {heads} {l} {m} (return k is entered e) q = omega (arith, subst (λ kind. EndPaths false b (passed k.head l heads) kind m) e (follows q k is entered))
+at_most {b} {heads} {l} {m} (panic k cause is entered e) q = omega (arith, subst (λ kind. EndPaths false b (passed k.head l heads) kind m) e (follows q k is entered))
 at_most {b} {heads} {l} {m} (goto k t is entered e p) q = at_most p (subst (λ kind. EndPaths false b (passed k.head l heads) kind m) e (follows q k is entered))
 at_most {b} {heads} {l} {m} (call k pl c types args t is entered e p) q = at_most p (subst (λ kind. EndPaths false b (passed k.head l heads) kind m) e (follows q k is entered))
 at_most {b} {heads} {l} {m} (branch {n = i} {n' = j} k o on_true on_false is entered e p p') q =
@@ -99,6 +105,7 @@ mutual
       subst (λ kind. EndPaths false w.body heads kind (paths v)) (sym e) (paths a, paths b, arrival_counted to_a, arrival_counted to_b, refl)
   end_counted {w} {heads} {v = v} (walk.call p callee types args l d t e is_d is_t a) = subst (λ kind. EndPaths false w.body heads kind (paths v)) (sym e) (arrival_counted a)
   end_counted {w} {heads} {v = v} (walk.return e) = subst (λ kind. EndPaths false w.body heads kind (paths v)) (sym e) refl
+  end_counted {w} {heads} {v = v} (walk.panic cause e) = subst (λ kind. EndPaths false w.body heads kind (paths v)) (sym e) refl
 
   arrival_counted : {w : Setting} {heads : List Label} {l : Label} {v : Walk} → Arrives w heads l v → Paths false w.body heads l (paths v)
   arrival_counted {w} {heads} {l} {v = v} (walk.plain k is no_head r) =
@@ -229,6 +236,7 @@ last_named (Goto t) m e = ap (λ x. among x (targets (Goto t))) (sym (some_same 
 last_named (If o on_true on_false) m e = ap (λ x. among x (targets (If o on_true on_false))) (sym (some_same e)) ∙ if_names_no (If o on_true on_false) o on_true on_false refl
 last_named (Call p c types args t) m e = ap (λ x. among x (targets (Call p c types args t))) (sym (some_same e)) ∙ call_names (Call p c types args t) p c types args t refl
 last_named Return m e = absurd (let some : None ≡ Some m = e in cc)
+last_named (Panic cause) m e = absurd (let some : None ≡ Some m = e in cc)
 
 -- ---- from a block on
 
@@ -256,6 +264,7 @@ last_counts b l k m first is counted named early n counts = by_kind k.end.kind r
     by_kind (If o on_true on_false) e one is_last = ends_count b l k (If o on_true on_false) early (first + n) is e
         (λ heads may. (first, n, exact_may b l on_true early first one heads k may, subst (λ x. Paths early b heads x n) (sym (some_same is_last)) (counts heads k may), refl))
     by_kind Return e none is_last = absurd (let some : None ≡ Some m = is_last in cc)
+    by_kind (Panic cause) e none is_last = absurd (let some : None ≡ Some m = is_last in cc)
 
 -- no edge leads on
 pub return_counts : (b : Body) (l : Label) (k : Block) (first : ℕ) → block_in b.blocks l ≡ Some k → CountsFirst b l k.end.kind false first → last_target k.end.kind ≡ None → (early : Bool) → CountsFrom b l early (first + 1)
@@ -266,6 +275,7 @@ return_counts b l k first is counted none early = by_kind k.end.kind refl counte
     by_kind (Call p c types args t) e zero_first f = absurd (let some : Some t ≡ None = f in cc)
     by_kind (If o on_true on_false) e one f = absurd (let some : Some on_false ≡ None = f in cc)
     by_kind Return e zero_first f = ends_count b l k Return early (first + 1) is e (λ heads may. omega (arith, zero_first))
+    by_kind (Panic cause) e zero_first f = ends_count b l k (Panic cause) early (first + 1) is e (λ heads may. omega (arith, zero_first))
 
 -- the path ends behind the block
 pub ends_counts : (b : Body) (l : Label) (k : Block) (first : ℕ) → IsLaidOut b → block_in b.blocks l ≡ Some k → CountsFirst b l k.end.kind false first → IsLater k None → (early : Bool) → CountsFrom b l early (first + 1)
@@ -288,6 +298,7 @@ first_is_many b l k room is counted = by_kind k.end.kind refl counted
     by_kind (Call p c types args t) e none = absurd (omega (arith, none))
     by_kind (If o on_true on_false) e first = ends_count b l k (If o on_true on_false) true (room + 1) is e (λ heads may. (room + 1, 0, first heads k may, stopped refl, omega arith))
     by_kind Return e none = absurd (omega (arith, none))
+    by_kind (Panic cause) e none = absurd (omega (arith, none))
 
 -- ---- from the entry on
 

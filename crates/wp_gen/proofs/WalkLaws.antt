@@ -3,6 +3,7 @@ use Rattle.std.proofs.Common.{◌≡◌, ◌∙◌, sym, ap, ap₂, subst, ℕ, 
 use Rattle.std.proofs.lemmas.List.{append_assoc, append-nil, map-append}
 use Rattle.std.specs.Prelude.{slice_get}
 use Rattle.std.proofs.lemmas.Option.{slice_get_read}
+use Rattle.text_core.specs.declared.refusal.Cause.{Cause}
 use Rattle.logic_term.specs.declared.kinds.Label.{Label}
 use Rattle.logic_term.specs.declared.obligation.Obligation.{Obligation}
 use Rattle.logic_term.specs.Normal.{reduced}
@@ -12,18 +13,18 @@ use Rattle.mir_ir.specs.declared.place.Operand.{Operand}
 use Rattle.mir_ir.specs.declared.place.Place.{Place}
 use Rattle.mir_ir.specs.declared.terminator.Callee.{Callee}
 use Rattle.mir_ir.specs.declared.terminator.Terminator.{Terminator}
-use Rattle.mir_ir.specs.declared.terminator.TerminatorKind.TheVariants.{Goto, If, Call, Return}
+use Rattle.mir_ir.specs.declared.terminator.TerminatorKind.TheVariants.{Goto, If, Call, Return, Panic}
 use Rattle.mir_ir.specs.declared.body.Block.{Block}
 use Rattle.mir_ir.specs.declared.body.Head.{Head}
 use Rattle.mir_ir.specs.Body.{block_in}
 use Rattle.mir_ir.specs.Layout.{among, targets}
 use Rattle.prophecy_logic.specs.declared.command.Command.{Command}
 use Rattle.prophecy_logic.specs.declared.goal.Goal.{Goal}
-use Rattle.prophecy_logic.specs.Graph.{Setting, start_of, Within, by_statement, by_end, Ends, goto, branch, call, return, Arrives, plain, first, again, numbered, AreObligations}
+use Rattle.prophecy_logic.specs.Graph.{Setting, start_of, Within, by_statement, by_end, Ends, goto, branch, call, return, panic, Arrives, plain, first, again, numbered, AreObligations}
 use Rattle.prophecy_logic.specs.Loop.{head_commands}
 use Rattle.prophecy_logic.specs.Row.{goals_of, commands_of}
 use Rattle.prophecy_logic.specs.State.{State, start, Matches, Leads, closed_goal, closed_goals, Adds, listed}
-use Rattle.prophecy_logic.specs.Walk.{seen_before, goals_at_return, where_true, where_false, goals_at_entry, goals_after_turn, goals_of_call, call_commands, entry_commands, Walk, stop, row, fork, met}
+use Rattle.prophecy_logic.specs.Walk.{seen_before, goals_at_return, goals_at_panic, where_true, where_false, goals_at_entry, goals_after_turn, goals_of_call, call_commands, entry_commands, Walk, stop, row, fork, met}
 use Rattle.prophecy_logic.specs.Walkable.{CanWalk, MayArrive, MayWalk}
 use Rattle.prophecy_logic.proofs.Ahead.{before_append, begins}
 use Rattle.prophecy_logic.proofs.ArriveLaws.{room, next_arrival, head_block}
@@ -129,6 +130,13 @@ return_walks w heads end from all is h = record {
   left = row (goals_at_return w.body w.contract) [] stop;
   is_left = return is;
   adds = last_row from.state from.goals.items (goals_at_return w.body w.contract) all h;
+}
+
+pub panic_walks : (w : Setting) (heads : List Label) (end : Terminator) (cause : Cause) (from : Reached) (all : List Goal) → end.kind ≡ Panic cause → Adds from.state from.goals.items (goals_at_panic end.span) all → GoesOn (Ends w heads end) from all
+panic_walks w heads end cause from all is h = record {
+  left = row (goals_at_panic end.span) [] stop;
+  is_left = panic cause is;
+  adds = last_row from.state from.goals.items (goals_at_panic end.span) all h;
 }
 
 -- ---- arrivals

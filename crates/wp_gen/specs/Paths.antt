@@ -1,12 +1,13 @@
--- The complete paths of a body, as the walk takes them: each ends at a return, or at a second arrival at a head.
+-- The complete paths of a body, as the walk takes them: each ends at a return, at a panic, or at a second arrival at a head.
 use Rattle.std.specs.Prelude.{◌≡◌, ◌⊎◌, ℕ, ◌+◌, ◌≤◌, Bool, true, false, List, [], ◌∷◌, Option, Some, None}
+use Rattle.text_core.specs.declared.refusal.Cause.{Cause}
 use Rattle.logic_term.specs.declared.kinds.Label.{Label}
 use Rattle.logic_term.specs.Ty.{Ty}
 use Rattle.mir_ir.specs.declared.place.Operand.{Operand}
 use Rattle.mir_ir.specs.declared.place.Place.{Place}
 use Rattle.mir_ir.specs.declared.terminator.Callee.{Callee}
 use Rattle.mir_ir.specs.declared.terminator.TerminatorKind.{TerminatorKind}
-use Rattle.mir_ir.specs.declared.terminator.TerminatorKind.TheVariants.{Goto, If, Call, Return}
+use Rattle.mir_ir.specs.declared.terminator.TerminatorKind.TheVariants.{Goto, If, Call, Return, Panic}
 use Rattle.mir_ir.specs.declared.body.Block.{Block}
 use Rattle.mir_ir.specs.declared.body.Body.{Body}
 use Rattle.mir_ir.specs.declared.body.Head.{Head}
@@ -32,6 +33,7 @@ pub data Paths (early : Bool) (b : Body) : List Label → Label → ℕ → Type
   stopped : {heads : List Label} {l : Label} → early ≡ true → Paths early b heads l 0
   again : {heads : List Label} {l : Label} (k : Block) (h : Head) → block_in b.blocks l ≡ Some k → k.head ≡ Some h → among l heads ≡ true → Paths early b heads l 1
   return : {heads : List Label} {l : Label} (k : Block) → block_in b.blocks l ≡ Some k → IsEntered k.head l heads → k.end.kind ≡ Return → Paths early b heads l 1
+  panic : {heads : List Label} {l : Label} (k : Block) (cause : Cause) → block_in b.blocks l ≡ Some k → IsEntered k.head l heads → k.end.kind ≡ Panic cause → Paths early b heads l 1
   goto : {heads : List Label} {l : Label} {n : ℕ} (k : Block) (m : Label) → block_in b.blocks l ≡ Some k → IsEntered k.head l heads → k.end.kind ≡ Goto m → Paths early b (passed k.head l heads) m n → Paths early b heads l n
   call : {heads : List Label} {l : Label} {n : ℕ} (k : Block) (p : Place) (callee : Callee) (types : List Ty) (args : List Operand) (m : Label) → block_in b.blocks l ≡ Some k → IsEntered k.head l heads → k.end.kind ≡ Call p callee types args m
       → Paths early b (passed k.head l heads) m n → Paths early b heads l n
@@ -72,6 +74,7 @@ last_target (Goto m) = Some m
 last_target (If o on_true on_false) = Some on_false
 last_target (Call p callee types args m) = Some m
 last_target Return = None
+last_target (Panic cause) = None
 
 -- the last edge leads to a later block, or the path ends: no edge leads on, or it leads back to the head of a loop around the block
 abbrev pub IsLater : Block → Option Label → Type 0
@@ -84,6 +87,7 @@ CountsFirst b l (Goto m) early n = n ≡ 0
 CountsFirst b l (If o on_true on_false) early n = CountsAlong b l on_true early n
 CountsFirst b l (Call p callee types args m) early n = n ≡ 0
 CountsFirst b l Return early n = n ≡ 0
+CountsFirst b l (Panic cause) early n = n ≡ 0
 
 -- n paths from the end of a block on
 abbrev pub EndPaths : Bool → Body → List Label → TerminatorKind → ℕ → Type 0
@@ -91,6 +95,7 @@ EndPaths early b heads (Goto m) n = Paths early b heads m n
 EndPaths early b heads (If o on_true on_false) n = (i : ℕ) × (j : ℕ) × Paths early b heads on_true i × Paths early b heads on_false j × (n ≡ i + j)
 EndPaths early b heads (Call p callee types args m) n = Paths early b heads m n
 EndPaths early b heads Return n = n ≡ 1
+EndPaths early b heads (Panic cause) n = n ≡ 1
 
 abbrev pub CountsFrom : Body → Label → Bool → ℕ → Type 0
 CountsFrom b l early n = (heads : List Label) (k : Block) → MayStand b heads l k → EndPaths early b heads k.end.kind n

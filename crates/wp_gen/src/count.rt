@@ -115,8 +115,8 @@ fn along(walk: &Walk<'_>, from: Label, block: &Block, to: Label, room: u32) -> O
     from_block(walk, to, left)
 }
 
-/// What is left of the room after the goals at the block's end but those along its last edge: of a call, of the first side of a branch, or of
-/// a return.
+/// What is left of the room after the goals at the block's end but those along its last edge: of a call, of the first side of a branch, of
+/// a return, or of a panic.
 #[cycle(count)]
 fn after_end(walk: &Walk<'_>, label: Label, block: &Block, room: u32) -> Option<u32>
     requires can { CanWalk (setting walk.now) }
@@ -131,6 +131,7 @@ fn after_end(walk: &Walk<'_>, label: Label, block: &Block, room: u32) -> Option<
             after(room, contract.pre.len())
         }
         TerminatorKind::Return => after(room, count_of_return(walk.contract)),
+        TerminatorKind::Panic(_) => after(room, 1),
     }
 }
 

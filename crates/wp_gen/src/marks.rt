@@ -94,6 +94,7 @@ fn mark_end(marks: &mut [bool], end: &TerminatorKind)
             mark(marks, place.local);
         }
         TerminatorKind::Goto(_) => {}
+        TerminatorKind::Panic(_) => {}
         TerminatorKind::If(condition, _, _) => mark_operand(marks, condition),
         // the answer is moved out of local 0
         TerminatorKind::Return => mark(marks, 0),

@@ -13,7 +13,7 @@ use text_core::{Limit, LimitKind};
 /// The most paths that a function may have.
 pub const PATHS: u32 = 1024;
 
-/// Where the last edge from a block's end leads, which is the second side of a branch; nowhere from a return.
+/// Where the last edge from a block's end leads, which is the second side of a branch; nowhere from a return or a panic.
 pub(crate) fn last_target(end: &TerminatorKind) -> Option<Label>
     ensures { result ≡ last_target end.now }
 {
@@ -21,7 +21,7 @@ pub(crate) fn last_target(end: &TerminatorKind) -> Option<Label>
         TerminatorKind::Goto(next) => Some(*next),
         TerminatorKind::If(_, _, no) => Some(*no),
         TerminatorKind::Call(_, _, _, _, next) => Some(*next),
-        TerminatorKind::Return => None,
+        TerminatorKind::Return | TerminatorKind::Panic(_) => None,
     }
 }
 
@@ -80,6 +80,7 @@ fn first_side(body: &Body, label: Label, block: &Block, room: u32) -> Option<u32
         TerminatorKind::Goto(_) => Some(0),
         TerminatorKind::Call(_, _, _, _, _) => Some(0),
         TerminatorKind::Return => Some(0),
+        TerminatorKind::Panic(_) => Some(0),
     }
 }
 
@@ -105,8 +106,8 @@ fn from_block(body: &Body, label: Label, room: u32) -> Option<u32>
     }
 }
 
-/// How many paths the body has. A path is one of the walk that makes the obligations: it begins at the entry, and ends at a return
-/// or at a second arrival at a loop's head. Takes no memory, and looks at no path after the 1,025th.
+/// How many paths the body has. A path is one of the walk that makes the obligations: it begins at the entry, and ends at a return,
+/// at a panic or at a second arrival at a loop's head. Takes no memory, and looks at no path after the 1,025th.
 ///
 /// `Limit` is answered where there are more than 1,024 paths: 1,025 were counted.
 pub fn check_paths(body: &Body) -> Result<u32, Limit>

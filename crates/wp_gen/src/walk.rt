@@ -6,7 +6,7 @@ ghost use Rattle.mir_ir.specs.Callees.{contract_at};
 ghost use Rattle.mir_ir.specs.Layout.{among};
 ghost use Rattle.prophecy_logic.specs.Graph.{start_of, Within, Ends, Arrives};
 ghost use Rattle.prophecy_logic.specs.Loop.{head_commands};
-ghost use Rattle.prophecy_logic.specs.Walk.{at_answer, where_false, goals_at_return, goals_at_entry, goals_after_turn};
+ghost use Rattle.prophecy_logic.specs.Walk.{at_answer, where_false, goals_at_return, goals_at_panic, goals_at_entry, goals_after_turn};
 ghost use Rattle.prophecy_logic.specs.Walkable.{CanWalk, MayArrive, MayWalk};
 ghost use Rattle.wp_gen.specs.Setting.{setting};
 ghost use Rattle.prophecy_logic.specs.State.{Adds};
@@ -77,6 +77,23 @@ fn at_return(alloc: Global, walk: &Walk<'_>, reached: Reached) -> Result<Vec<Met
     ensures { IfOk result (λ v. Adds reached.state reached.goals.items (goals_at_return walk.now.body.now walk.now.contract.now) v.items) }
 {
     let owed = goals_at_return(alloc, walk.body, walk.contract)?;
+    let Reached { state, goals } = reached;
+    with_goals_at(alloc, &state, goals, owed.as_slice())
+}
+
+// ---- the panic
+
+/// The goal at a panic, which no run is to come to, behind those that were met.
+fn at_panic(alloc: Global, span: Span, reached: Reached) -> Result<Vec<MetGoal>, NoMemory>
+    ensures { IfOk result (λ v. Adds reached.state reached.goals.items (goals_at_panic span) v.items) }
+{
+    let never = Goal {
+        kind: Kind::Unreachable,
+        span,
+        formula: Term::truth(alloc, false)?,
+    };
+    let mut owed = Vec::with_capacity(alloc, 1)?;
+    owed.push(never)?;
     let Reached { state, goals } = reached;
     with_goals_at(alloc, &state, goals, owed.as_slice())
 }
@@ -279,6 +296,10 @@ fn from_end(alloc: Global, walk: &Walk<'_>, block: &Block, spot: Spot) -> Result
         }
         TerminatorKind::Return => {
             let goals = at_return(alloc, walk, reached)?;
+            Ok(Next::Done(goals))
+        }
+        TerminatorKind::Panic(_) => {
+            let goals = at_panic(alloc, block.end.span, reached)?;
             Ok(Next::Done(goals))
         }
     }

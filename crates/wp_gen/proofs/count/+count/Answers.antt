@@ -4,7 +4,7 @@ use Rattle.wp_gen.specs.Count.{IsRoomLeft, goals_within}
 use Rattle.wp_gen.specs.Paths.{last_target}
 use Rattle.wp_gen.specs.Setting.{setting}
 use Rattle.prophecy_logic.proofs.ArriveLaws.{if_names_yes}
-use Rattle.wp_gen.proofs.CountLaws.{back_leaves, arrival_is_full, on_leaves, block_before, statements_are_many, goto_before, branch_before, call_before, return_before, none_behind, along_behind, same_room}
+use Rattle.wp_gen.proofs.CountLaws.{back_leaves, arrival_is_full, on_leaves, block_before, statements_are_many, goto_before, branch_before, call_before, return_before, panic_before, none_behind, along_behind, same_room}
 use Rattle.wp_gen.proofs.PathLaws.{last_named, next_block}
 use Rattle.wp_gen.proofs.count.+count.Goals as goal
 
@@ -48,6 +48,10 @@ pub after_end-returns-in-Return : goal.after_end-returns-in-Return
 after_end-returns-in-Return t c =
     return_before (setting c.args.walk.now) c.args.label c.args.block.now c.args.room c.after-in-Return.result c.in-Return.is
     (same_room c.args.room _ _ c.after-in-Return.result (c.count_of_return.ensures c.args.walk.now.body.now) c.after-in-Return.ensures)
+
+pub after_end-returns-in-Panic : goal.after_end-returns-in-Panic
+after_end-returns-in-Panic t c =
+    panic_before (setting c.args.walk.now) c.args.label c.args.block.now c.in-Panic.field-0 c.args.room c.after-in-Panic.result c.in-Panic.is c.after-in-Panic.ensures
 
 pub after_block-returns-in_err-left : goal.after_block-returns-in_err-left
 after_block-returns-in_err-left t c =

@@ -42,6 +42,9 @@ first_side-returns-in-Call t c = (omega arith, subst (λ kind. CountsFirst c.arg
 pub first_side-returns-in-Return : goal.first_side-returns-in-Return
 first_side-returns-in-Return t c = (omega arith, subst (λ kind. CountsFirst c.args.body.now c.args.label kind false 0) (sym c.in-Return.is) refl)
 
+pub first_side-returns-in-Panic : goal.first_side-returns-in-Panic
+first_side-returns-in-Panic t c = (omega arith, subst (λ kind. CountsFirst c.args.body.now c.args.label kind false 0) (sym c.in-Panic.is) refl)
+
 pub from_block-loop-block-init : goal.from_block-loop-block-init
 from_block-loop-block-init t c = record {
   few = omega arith;

@@ -5,7 +5,7 @@ use Rattle.wp_gen.specs.declared.reached.Next.TheVariants.{On}
 use Rattle.wp_gen.specs.Reached.{GoesOn, ComesToEnd}
 use Rattle.wp_gen.specs.Setting.{setting}
 use Rattle.prophecy_logic.proofs.ArriveLaws.{goto_names, if_names_yes, if_names_no, call_names}
-use Rattle.wp_gen.proofs.WalkLaws.{next_may, next_leads, goto_walks, branch_walks, call_walks, return_walks, turn_goes}
+use Rattle.wp_gen.proofs.WalkLaws.{next_may, next_leads, goto_walks, branch_walks, call_walks, return_walks, panic_walks, turn_goes}
 use Rattle.wp_gen.proofs.walk.+walk.Goals as goal
 
 pub from_end-arrive-requires : goal.from_end-arrive-requires
@@ -41,6 +41,10 @@ from_end-returns-in_ok-reached-in-Call t c =
 pub from_end-returns-in_ok-goals-in-Return : goal.from_end-returns-in_ok-goals-in-Return
 from_end-returns-in_ok-goals-in-Return t c =
     return_walks (setting c.args.walk.now) c.args.spot.heads.items c.args.block.now.end c.args.spot.reached c.in_ok-goals-in-Return.goals.items c.in-Return.is c.in_ok-goals-in-Return.ensures
+
+pub from_end-returns-in_ok-goals-in-Panic : goal.from_end-returns-in_ok-goals-in-Panic
+from_end-returns-in_ok-goals-in-Panic t c =
+    panic_walks (setting c.args.walk.now) c.args.spot.heads.items c.args.block.now.end c.in-Panic.field-0 c.args.spot.reached c.in_ok-goals-in-Panic.goals.items c.in-Panic.is c.in_ok-goals-in-Panic.ensures
 
 pub turn-returns-in-On : goal.turn-returns-in-On
 turn-returns-in-On t c =
