@@ -2,8 +2,8 @@ pub mod Accepted
 pub mod Arguments
 pub mod Basics
 pub mod Bindings
-pub mod BodyTexts
 pub mod Clauses
+pub mod Fills
 pub mod Following
 pub mod Good
 pub mod LawBlocks

@@ -22,7 +22,7 @@ use Rattle.mir_build.proofs.Accepted.{contract_is}
 use Rattle.mir_build.proofs.Numbers.{count, labels_begun, within_once, within_one, within_split, count_begun}
 use Rattle.mir_build.proofs.Order.{InOrder}
 use Rattle.mir_build.proofs.Following.{From, from_range, from_count, behind_paired, in_order_from}
-use Rattle.mir_build.proofs.BodyTexts.{body_once}
+use Rattle.mir_build.proofs.Fills.{body_fills}
 use Rattle.mir_build.proofs.Rowwise.{turn_count_body}
 use Rattle.mir_build.proofs.OneText.{one_body_text}
 use Rattle.mir_build.proofs.Whole.{types, locals_paired, length-paired, closed_turns}
@@ -91,7 +91,7 @@ module _ (σ : List Signature) (owner : List ℕ) (f : TypedFunction) (b : Body)
   pub labels_once : (x : ℕ) → count x (b.entry.0 ∷ labels_begun l.text) ≤ 1
   labels_once x =
       let e : count x (b.entry.0 ∷ labels_begun l.text) ≡ count x (0 ∷ labels_begun (text_of_body f)) = λ i. count x (entry_is i ∷ labels_begun (text_is i)) in
-      omega (arith, e, count_begun x (text_of_body f), body_once f.body (around_body f) 1 (1 + length f.signature.params) x, within_split 0 1 (labels f.body) 1 x refl, within_one 0 x, within_once 0 (1 + labels f.body) x)
+      omega (arith, e, count_begun x (text_of_body f), (body_fills f.body (around_body f) 1 (1 + length f.signature.params)).once x, within_split 0 1 (labels f.body) 1 x refl, within_one 0 x, within_once 0 (1 + labels f.body) x)
 
   -- each local is made once
   pub locals_once : (x : ℕ) → count x (numbers (all_locals f l.text)) ≤ 1

@@ -13,10 +13,11 @@ use Rattle.type_check.specs.TypedExprView.{ty_of}
 use Rattle.mir_build.specs.Text.{Line, Makes, Turns, Owns, made}
 use Rattle.mir_build.specs.Lowering.{Around, binds, looping, at, at_head, head_of, whole, puts, puts_at, put_unit, moved, ends, dies_in, numbers, lazily, Into, of_integer, of_truth, of_variable, of_negative, of_denied, of_binary, of_lazy, of_assign}
 use Rattle.mir_build.specs.Lowering.{of_update, of_call, of_block, of_branch, of_choice, of_repeat, Rest, of_done, of_last, of_bind, of_run, Args, of_none, of_more, PlaceOf, of_name, of_temporary, is_place, IntoBody, of_outermost, of_other, is_block, named, named_place, named_rest, named_args, named_body}
-use Rattle.mir_build.specs.Numbered.{place_of, temporary_count, temporary_text, into, rest, args, body_text, labels, locals, locals_in, temporaries, label, variable_place}
-use Rattle.mir_build.proofs.Numbers.{makings, making, args_making, making_target}
+use Rattle.mir_build.specs.Numbered.{place_of, temporary_count, temporary_text, into, rest, args, body_text, labels, locals, temporaries, label, variable_place}
+use Rattle.mir_build.proofs.Numbers.{makings}
+use Rattle.mir_build.proofs.Fills.{fills, target_fills, numbers_of}
 use Rattle.mir_build.proofs.Targets.{one_temporary_text, whole_temporary}
-use Rattle.mir_build.proofs.Order.{InOrder, numbers_of}
+use Rattle.mir_build.proofs.Order.{InOrder}
 use Rattle.mir_build.proofs.Accepted.{formulas_are}
 use Rattle.mir_build.proofs.Rows.{own_locals}
 use Rattle.mir_build.proofs.Following.{From, from_left, three, order_left, order_right, order_lazy}
@@ -28,13 +29,10 @@ found scope v p q = sym (get_or_from_slice_get scope v p (whole 0) q)
 
 -- the locals behind those of an expression's text
 behind : (e : TypedExpr) (c : Around) (l t d : ℕ) (xs ys : List Line) → xs ≡ into e c l t d → InOrder t (xs ++ ys) → InOrder (t + locals e) ys
-behind e c l t d xs ys q h = order_right t (t + locals e) xs ys (omega (arith, ap makings q, making e c l t d)) h
-
-behind_args : (es : TypedExprs) (c : Around) (l t : ℕ) (xs ys : List Line) → xs ≡ args es c l t → InOrder t (xs ++ ys) → InOrder (t + locals_in es) ys
-behind_args es c l t xs ys q h = order_right t (t + locals_in es) xs ys (omega (arith, ap makings q, args_making es c l t)) h
+behind e c l t d xs ys q h = order_right t (t + locals e) xs ys (omega (arith, ap makings q, (fills e c l t d).making)) h
 
 behind_target : (e : TypedExpr) (c : Around) (l t : ℕ) (xs ys : List Line) → xs ≡ temporary_text (is_place e) t (ty_of e) (into e c l (t + 1) t) → InOrder t (xs ++ ys) → InOrder (t + temporary_count (is_place e) + locals e) ys
-behind_target e c l t xs ys q h = order_right t (t + temporary_count (is_place e) + locals e) xs ys (omega (arith, ap makings q, making_target e c l t)) h
+behind_target e c l t xs ys q h = order_right t (t + temporary_count (is_place e) + locals e) xs ys (omega (arith, ap makings q, (target_fills e c l t).making)) h
 
 mutual
   one_text : (c : Around) (e : TypedExpr) (d : ℕ) (xs : List Line) (p : Into c e d xs) (l t : ℕ) → From l (named p) → InOrder t xs → xs ≡ into e c l t d

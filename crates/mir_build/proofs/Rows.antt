@@ -17,7 +17,7 @@ use Rattle.mir_build.specs.Lowering.{of_choice, of_repeat, Rest, of_done, of_las
 use Rattle.mir_build.specs.Text.{Line}
 use Rattle.mir_build.specs.Numbered.{place_of, temporary_text, formula_of, into, rest, args, body_text, labels, labels_in, locals, temporaries, label, variable_place, between}
 use Rattle.mir_build.proofs.Accepted.{first_none, second_none, all_accepted}
-use Rattle.mir_build.proofs.Order.{numbers_of}
+use Rattle.mir_build.proofs.Fills.{numbers_of}
 use Rattle.mir_build.proofs.Following.{From, then_three}
 use Rattle.mir_build.proofs.Rowwise.{labels_then, labels_then_args}
 

@@ -37,7 +37,7 @@ use Rattle.mir_build.proofs.Numbers.{turns}
 use Rattle.mir_build.proofs.Following.{From, range_from, paired_from}
 use Rattle.mir_build.proofs.Order.{InOrder}
 use Rattle.mir_build.proofs.Rows.{lowers_body}
-use Rattle.mir_build.proofs.BodyTexts.{body_turned, body_in_order}
+use Rattle.mir_build.proofs.Fills.{body_fills}
 
 -- ---- the parts of what is written
 
@@ -151,7 +151,7 @@ pub lowered : (σ : List Signature) (id : ℕ) (owner : List ℕ) (f : TypedFunc
 lowered σ id owner f w g few =
     let text = text_of_body f in
     let parts = built_parts f in
-    let order = body_in_order f.body (around_body f) 1 (1 + length f.signature.params) in
+    let order = (body_fills f.body (around_body f) 1 (1 + length f.signature.params)).order in
     let row = lowers_body σ f.signature.params f.body (around_body f) 1 (1 + length f.signature.params) (is_for f) w.body g in
     let all = locals_paired f text order in
     let ts : List Ty = f.signature.answer ∷ (f.signature.params ++ types text) in
@@ -201,10 +201,10 @@ closed_turns (Owns l ys ∷ xs) o t = closed_turns xs o t
 pub blocks_of : (σ : List Signature) (id : ℕ) (owner : List ℕ) (f : TypedFunction) → length (body_of σ id owner f (built f)).blocks ≡ 1 + labels f.body
 blocks_of σ id owner f =
     let end = ends (span_of f.body) Return in
-    omega (arith, ap length (blocks_are f end), closed_turns (text_of_body f) (fresh (entry_title (label 0))) end, body_turned f.body (around_body f) 1 (1 + length f.signature.params))
+    omega (arith, ap length (blocks_are f end), closed_turns (text_of_body f) (fresh (entry_title (label 0))) end, (body_fills f.body (around_body f) 1 (1 + length f.signature.params)).turned)
 
 pub more_blocks : (f : TypedFunction) → 4096 < 1 + labels f.body → 4096 < blocks_in (text_of_body f)
-more_blocks f h = omega (arith, h, body_turned f.body (around_body f) 1 (1 + length f.signature.params))
+more_blocks f h = omega (arith, h, (body_fills f.body (around_body f) 1 (1 + length f.signature.params)).turned)
 
 -- ---- programs
 

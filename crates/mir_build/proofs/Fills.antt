@@ -1,0 +1,152 @@
+-- The numbered text of an expression fills a range of labels, each of which begins one block, and a range of locals, which it makes in order.
+use Rattle.std.proofs.Common.{◌≡◌, refl, ap, ◌∙◌, subst, ℕ, ◌+◌, Bool, true, false, List, [], ◌∷◌, ◌++◌, arith}
+use Rattle.std.specs.List.{range_with_len}
+use Rattle.text_core.specs.declared.span.Span.{Span}
+use Rattle.logic_term.specs.Ty.{Ty}
+use Rattle.mir_ir.specs.declared.body.Head.{Head}
+use Rattle.mir_ir.specs.declared.statement.Statement.{Statement}
+use Rattle.mir_ir.specs.declared.terminator.Terminator.{Terminator}
+use Rattle.source_kinds.specs.declared.kinds.LazyOp.{LazyOp}
+use Rattle.source_kinds.specs.declared.kinds.LazyOp.TheVariants.{And, Or}
+use Rattle.type_check.specs.TypedExpr.{TypedExpr, TypedStmts, TypedExprs, integer, truth, variable, negative, denied, binary, lazy, assign, update, call, block, branch, choice, repeat, done, last, bind, run, none, more}
+use Rattle.type_check.specs.TypedExprView.{ty_of}
+use Rattle.mir_build.specs.Text.{Line, Puts, Makes, Turns, Owns, made}
+use Rattle.mir_build.specs.Lowering.{Around, binds, looping, at, at_head, dies_in, lazily, numbers, is_place}
+use Rattle.mir_build.specs.Numbered.{temporary_count, temporary_text, into, rest, args, body_text, labels, labels_of, labels_in, locals, locals_of, locals_in, label}
+use Rattle.mir_build.proofs.Numbers.{within, within_zero, within_one, within_three, within_split, begins, begins-append, turns, turns-append, makings, makings-append}
+use Rattle.mir_build.proofs.Order.{InOrder, then_in_order, numbers_in_order}
+
+-- the labels from l on, n of them, and the locals from t on, m of them
+pub record Fills (l n t m : ℕ) (xs : List Line) : Type 0 where
+  pub once : (x : ℕ) → begins x xs ≡ within l n x
+  pub turned : turns xs ≡ n
+  pub making : makings xs ≡ m
+  pub order : InOrder t xs
+
+-- ---- the shapes
+
+nothing : (l t : ℕ) → Fills l 0 t 0 []
+nothing l t = record { once = λ x. within_zero l x; turned = refl; making = refl; order = tt }
+
+put : {l n t m : ℕ} (s : Statement) (xs : List Line) → Fills l n t m xs → Fills l n t m (Puts s ∷ xs)
+put s xs p = record { once = p.once; turned = p.turned; making = p.making; order = p.order }
+
+one : (l t : ℕ) (s : Statement) → Fills l 0 t 0 (Puts s ∷ [])
+one l t s = put s [] (nothing l t)
+
+-- a local that nothing but these lines writes
+make : {l n t m : ℕ} (ty : Ty) (xs : List Line) → Fills l n (t + 1) m xs → Fills l n t (1 + m) (Makes t ty ∷ xs)
+make ty xs p = record { once = p.once; turned = p.turned; making = omega (arith, p.making); order = (refl, p.order) }
+
+join : {l n t m n' m' : ℕ} (k u : ℕ) (xs ys : List Line) → k ≡ l + n → u ≡ t + m → Fills l n t m xs → Fills k n' u m' ys → Fills l (n + n') t (m + m') (xs ++ ys)
+join {l} {n} {t} {m} {n'} k u xs ys e f p q = record {
+  once = λ x. omega (arith, begins-append x xs ys, within_split l n n' k x e, p.once x, q.once x);
+  turned = omega (arith, turns-append xs ys, p.turned, q.turned);
+  making = omega (arith, makings-append xs ys, p.making, q.making);
+  order = then_in_order t u xs ys (omega (arith, f, p.making)) p.order q.order;
+}
+
+-- a local that a text writes, and what stands behind it
+made_then : {l n t m n' m' : ℕ} (k u : ℕ) (ty : Ty) (xs ys : List Line) → k ≡ l + n → u ≡ t + 1 + m → Fills l n (t + 1) m xs → Fills k n' u m' ys → Fills l (n + n') t (1 + (m + m')) (Makes t ty ∷ (xs ++ ys))
+made_then k u ty xs ys e f p q = make ty (xs ++ ys) (join k u xs ys e f p q)
+
+-- the same counts
+as_counts : {l t n m n' m' : ℕ} (xs : List Line) → n ≡ n' → m ≡ m' → Fills l n t m xs → Fills l n' t m' xs
+as_counts {l} {t} {n} {m} {n'} {m'} xs e f p = subst (λ k. Fills l n' t k xs) f (subst (λ k. Fills l k t m xs) e p)
+
+turn : (l t : ℕ) (c : Around) (e : Terminator) → Fills l 1 t 0 (Turns e (at c (label l)) ∷ [])
+turn l t c e = record { once = λ x. omega (arith, within_one l x); turned = refl; making = refl; order = tt }
+
+-- two texts between three turns
+forked : {l n t m n' m' : ℕ} (k u : ℕ) (c : Around) (e f g : Terminator) (xs ys : List Line) → k ≡ l + 3 + n → u ≡ t + m → Fills (l + 3) n t m xs → Fills k n' u m' ys
+    → Fills l (3 + (n + n')) t (m + m') (Turns e (at c (label l)) ∷ (xs ++ Turns f (at c (label (l + 1))) ∷ (ys ++ Turns g (at c (label (l + 2))) ∷ [])))
+forked {l} {n} {t} {m} {n'} k u c e f g xs ys q r p p' =
+    let behind = ys ++ Turns g (at c (label (l + 2))) ∷ [] in
+    record {
+      once = λ x. omega (
+        arith,
+        begins-append x xs (Turns f (at c (label (l + 1))) ∷ behind),
+        begins-append x ys (Turns g (at c (label (l + 2))) ∷ []),
+        within_three l x,
+        within_split l 3 (n + n') (l + 3) x refl,
+        within_split (l + 3) n n' k x q,
+        p.once x,
+        p'.once x,
+      );
+      turned = omega (arith, turns-append xs (Turns f (at c (label (l + 1))) ∷ behind), turns-append ys (Turns g (at c (label (l + 2))) ∷ []), p.turned, p'.turned);
+      making = omega (arith, makings-append xs (Turns f (at c (label (l + 1))) ∷ behind), makings-append ys (Turns g (at c (label (l + 2))) ∷ []), p.making, p'.making);
+      order = then_in_order t u xs (Turns f (at c (label (l + 1))) ∷ behind) (omega (arith, r, p.making)) p.order
+          (then_in_order u (u + makings ys) ys (Turns g (at c (label (l + 2))) ∷ []) refl p'.order tt);
+    }
+
+lazily_filled : {l t n m : ℕ} (op : LazyOp) (c : Around) (s : Span) (x d : ℕ) (xs : List Line) → Fills (l + 3) n t m xs → Fills l (3 + n) t m (lazily op c s x d (label l) (label (l + 1)) (label (l + 2)) xs)
+lazily_filled {l} {t} {n} {m} And c s x d xs p = as_counts _ (omega arith) (omega arith) (forked (l + 3 + n) (t + m) c _ _ _ xs _ refl refl p (one (l + 3 + n) (t + m) _))
+lazily_filled {l} {t} {n} {m} Or c s x d xs p = as_counts _ (omega arith) (omega arith) (forked (l + 3) t c _ _ _ _ xs (omega arith) (omega arith) (one (l + 3) t _) p)
+
+-- the condition and the body of a loop
+looped : {l n t m n' m' : ℕ} (k u : ℕ) (c c' : Around) (h : Head) (e f g : Terminator) (T U : Ty) (own : List ℕ) (s : Statement) (xs ys : List Line) → k ≡ l + 3 + n → u ≡ t + 1 + m → Fills (l + 3) n (t + 1) m xs → Fills k n' (u + 1) m' ys
+    → Fills l (3 + (n + n')) t (1 + (m + (1 + m')))
+    (Turns e (at_head c (label l) h) ∷ Makes t T ∷ (xs ++ Turns f (at c (label (l + 1))) ∷ Makes u U ∷ (ys ++ Turns g (at c' (label (l + 2))) ∷ Owns (label l) own ∷ Puts s ∷ [])))
+looped {l} {n} {t} {m} {n'} k u c c' h e f g T U own s xs ys q r p p' =
+    let end = Turns g (at c' (label (l + 2))) ∷ Owns (label l) own ∷ Puts s ∷ [] in
+    let behind = Turns f (at c (label (l + 1))) ∷ Makes u U ∷ (ys ++ end) in
+    record {
+      once = λ x. omega (arith, begins-append x xs behind, begins-append x ys end, within_three l x, within_split l 3 (n + n') (l + 3) x refl, within_split (l + 3) n n' k x q, p.once x, p'.once x);
+      turned = omega (arith, turns-append xs behind, turns-append ys end, p.turned, p'.turned);
+      making = omega (arith, makings-append xs behind, makings-append ys end, p.making, p'.making);
+      order = (refl, then_in_order (t + 1) u xs behind (omega (arith, r, p.making)) p.order (refl, then_in_order (u + 1) (u + 1 + makings ys) ys end refl p'.order tt));
+    }
+
+dying : (l t : ℕ) (outer : Bool) (s : Span) (x : ℕ) → Fills l 0 t 0 (dies_in outer s x)
+dying l t true s x = nothing l t
+dying l t false s x = one l t _
+
+-- what an assignment writes
+target_filled : (e : TypedExpr) (c : Around) (l t : ℕ) → Fills l (labels e) (t + 1) (locals e) (into e c l (t + 1) t) → Fills l (labels e) t (temporary_count (is_place e) + locals e) (temporary_text (is_place e) t (ty_of e) (into e c l (t + 1) t))
+target_filled (variable ty s v) c l t p = nothing l t
+target_filled e c l t p = make (ty_of e) _ p
+
+-- ---- the numbered text
+
+mutual
+  pub fills : (e : TypedExpr) (c : Around) (l t d : ℕ) → Fills l (labels e) t (locals e) (into e c l t d)
+  fills (integer ty s z k) c l t d = one l t _
+  fills (truth ty s b) c l t d = one l t _
+  fills (variable ty s v) c l t d = one l t _
+  fills (negative ty s e) c l t d = as_counts _ (omega arith) (omega arith) (made_then _ _ _ _ _ refl refl (fills e c l (t + 1) t) (one _ _ _))
+  fills (denied ty s e) c l t d = as_counts _ (omega arith) (omega arith) (made_then _ _ _ _ _ refl refl (fills e c l (t + 1) t) (one _ _ _))
+  fills (binary ty s op a b) c l t d = as_counts _ (omega arith) (omega arith) (made_then _ _ _ _ _ refl refl (fills a c l (t + 1) t) (made_then _ _ _ _ _ refl refl (fills b c _ _ _) (one _ _ _)))
+  fills (lazy ty s op a b) c l t d = as_counts _ (omega arith) (omega arith) (made_then _ _ _ _ _ refl refl (fills a c l (t + 1) t) (lazily_filled op c s t d _ (fills b c _ _ d)))
+  fills (assign ty s a e) c l t d =
+      as_counts _ (omega arith) (omega arith) (made_then _ _ _ _ _ refl refl (fills e c l (t + 1) t) (join _ _ _ _ refl refl (target_filled a c _ _ (fills a c _ _ _)) (put _ _ (one _ _ _))))
+  fills (update ty s op a e) c l t d =
+      as_counts _ (omega arith) (omega arith) (made_then _ _ _ _ _ refl refl (fills e c l (t + 1) t) (join _ (t + 1 + locals e + temporary_count (is_place a) + locals a) _ _ refl (omega arith) (target_filled a c _ _ (fills a c _ _ _)) (make _ _ (put _ _ (put _ _ (one _ _ _))))))
+  fills (call ty s f es) c l t d = as_counts _ (omega arith) (omega arith) (join _ _ _ _ refl refl (args_filled es c l t) (turn _ _ c _))
+  fills (block ty s ss) c l t d = rest_filled ss false s c l t d
+  fills (branch ty s e a) c l t d = as_counts _ (omega arith) (omega arith) (made_then _ _ _ _ _ refl refl (fills e c l (t + 1) t) (forked _ _ c _ _ _ _ _ refl refl (fills a c _ _ d) (one _ _ _)))
+  fills (choice ty s e a b) c l t d = as_counts _ (omega arith) (omega arith) (made_then _ _ _ _ _ refl refl (fills e c l (t + 1) t) (forked _ _ c _ _ _ _ _ refl refl (fills a c _ _ d) (fills b c _ _ d)))
+  fills (repeat ty s is e b) c l t d = as_counts _ (omega arith) (omega arith) (looped _ _ (looping c (label l)) c _ _ _ _ _ _ _ _ _ _ refl refl (fills e (looping c (label l)) (l + 3) (t + 1) t) (fills b (looping c (label l)) (l + 3 + labels e) (t + 1 + locals e + 1) (t + 1 + locals e)))
+
+  pub rest_filled : (ss : TypedStmts) (outer : Bool) (s : Span) (c : Around) (l t d : ℕ) → Fills l (labels_of ss) t (locals_of ss) (rest ss outer s c l t d)
+  rest_filled done outer s c l t d = one l t _
+  rest_filled (last e) outer s c l t d = fills e c l t d
+  rest_filled (bind e ss) outer s c l t d =
+      as_counts _ (omega arith) (omega arith) (made_then _ _ _ _ _ refl refl (fills e c l (t + 1) t) (join _ _ _ _ refl refl (rest_filled ss outer s (binds c t) _ _ d) (dying _ _ outer s t)))
+  rest_filled (run e ss) outer s c l t d = as_counts _ (omega arith) (omega arith) (made_then _ _ _ _ _ refl refl (fills e c l (t + 1) t) (rest_filled ss outer s c _ _ d))
+
+  pub args_filled : (es : TypedExprs) (c : Around) (l t : ℕ) → Fills l (labels_in es) t (locals_in es) (args es c l t)
+  args_filled none c l t = nothing l t
+  args_filled (more e es) c l t = as_counts _ (omega arith) (omega arith) (made_then _ _ _ _ _ refl refl (fills e c l (t + 1) t) (args_filled es c _ _))
+
+-- what an assignment writes
+pub target_fills : (e : TypedExpr) (c : Around) (l t : ℕ) → Fills l (labels e) t (temporary_count (is_place e) + locals e) (temporary_text (is_place e) t (ty_of e) (into e c l (t + 1) t))
+target_fills e c l t = target_filled e c l t (fills e c l (t + 1) t)
+
+-- the text of a body
+pub body_fills : (e : TypedExpr) (c : Around) (l t : ℕ) → Fills l (labels e) t (locals e) (body_text e c l t)
+body_fills (block ty s ss) c l t = rest_filled ss true s c l t 0
+body_fills e c l t = fills e c l t 0
+
+-- the numbers of the locals
+pub numbers_of : (e : TypedExpr) (c : Around) (l t d : ℕ) → numbers (made (into e c l t d)) ≡ range_with_len t (locals e)
+numbers_of e c l t d = numbers_in_order t (into e c l t d) (fills e c l t d).order ∙ ap (range_with_len t) (fills e c l t d).making
