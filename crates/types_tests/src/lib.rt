@@ -1,6 +1,8 @@
-//! Tests of the table of declared types.
+//! Tests of the table of declared types, and of assignments.
 #![tactic(auto)]
 
+#[cfg(test)]
+mod assigning;
 #[cfg(test)]
 mod build;
 #[cfg(test)]
