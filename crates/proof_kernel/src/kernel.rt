@@ -99,7 +99,11 @@ fn cites_in_order(number: u32, step: &Step) -> bool
     match step {
         Step::Hyp(label) => is_label_above(number, *label),
         Step::Lin(multiples) => are_in_order(number, multiples.as_slice()),
-        Step::Intro(_) | Step::Split | Step::Range(_) => true,
+        Step::OnHypothesis(_, label) => is_label_above(number, *label),
+        Step::OnTwo(_, first, second) => {
+            is_label_above(number, *first) && is_label_above(number, *second)
+        }
+        Step::Intro(_) | Step::Split | Step::Range(_) | Step::OnGoal(_) => true,
     }
 }
 
@@ -217,6 +221,7 @@ fn made_of(
         Step::Split => by_split(alloc, scope, number, q),
         Step::Range(name) => by_range(alloc, scope, number, *name, q),
         Step::Lin(multiples) => by_lin(alloc, scope, number, multiples, q),
+        Step::OnGoal(_) | Step::OnHypothesis(_, _) | Step::OnTwo(_, _, _) => Ok(Made::Nothing),
     }
 }
 

@@ -23,4 +23,4 @@ pub use lin_arith::{CertAnswer, Part, Row, check_certificate};
 pub use linear::{LinAnswer, certifies};
 pub use sequent::Sequent;
 pub use setting::Tables;
-pub use step::{Multiple, Reference, Step};
+pub use step::{GoalRule, HypothesisRule, Multiple, PairRule, Reference, Step};

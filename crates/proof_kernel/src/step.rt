@@ -19,6 +19,51 @@ pub struct Multiple {
     pub of: Reference,
 }
 
+/// A rule by the form of the goal.
+#[derive(Clone, Copy)]
+pub enum GoalRule {
+    /// An equation of a term with itself, up to bound names; closes.
+    Refl,
+    /// The goal is `true`; closes.
+    Truth,
+    /// The first side of a disjunction.
+    Left,
+    /// The second side of a disjunction.
+    Right,
+    /// A goal `!A`: the hypothesis A, and the goal `false`.
+    Contra,
+    /// By contradiction: the hypothesis `!G`, and the goal `false`.
+    ByContradiction,
+    /// An equation of two formulas: each implies the other.
+    Iff,
+    /// An equation of two integers: each is at most the other.
+    Antisymmetry,
+}
+
+/// A rule by the form of one hypothesis.
+#[derive(Clone, Copy)]
+pub enum HypothesisRule {
+    /// Takes it apart by its form.
+    Cases,
+    /// It is `false`; closes.
+    Absurd,
+    /// Forgets it.
+    Drop,
+    /// Puts it before the goal as a premise.
+    Revert,
+}
+
+/// A rule by the forms of two hypotheses.
+#[derive(Clone, Copy)]
+pub enum PairRule {
+    /// `A ==> B`, and A: adds B.
+    ModusPonens,
+    /// A, and `!A`; closes.
+    Contradiction,
+    /// `a <= b` and `c <= d`: adds `0 <= (b - a) * (d - c)`.
+    Product,
+}
+
 /// A step of a proof. It acts on the first sequent and puts its premises in its place.
 #[derive(Drop)]
 pub enum Step {
@@ -32,4 +77,10 @@ pub enum Step {
     Range(Name),
     /// Linear arithmetic.
     Lin(Items<Multiple>),
+    /// By the form of the goal.
+    OnGoal(GoalRule),
+    /// By the form of the hypothesis.
+    OnHypothesis(HypothesisRule, Label2),
+    /// By the forms of two hypotheses.
+    OnTwo(PairRule, Label2, Label2),
 }
