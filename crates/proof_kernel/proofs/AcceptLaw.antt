@@ -16,7 +16,8 @@ use Rattle.proof_kernel.specs.Derivation.{Gives, Derives, no_step, one_step, IsP
 use Rattle.proof_kernel.specs.Progress.{Progress}
 use Rattle.proof_kernel.specs.Kernel.{is_above, cites_above}
 use Rattle.proof_kernel.specs.Accepts.{Does, Runs, none, more, begun, Accepts, RefusesFrom, here, later, «open», Refuses}
-use Rattle.proof_kernel.proofs.Adds.{Each, Has, each_and, given_adds}
+use Rattle.proof_kernel.proofs.Adds.{given_adds}
+use Rattle.proof_kernel.proofs.Each.{Each, Has, each_and}
 use Rattle.proof_kernel.proofs.KernelLaw.{at}
 use Rattle.proof_kernel.proofs.Once.{applies_once}
 use Rattle.proof_kernel.proofs.Sound.{and_true}

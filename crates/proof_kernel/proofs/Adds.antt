@@ -18,32 +18,10 @@ use Rattle.proof_kernel.specs.Rules.{label, same_label, hypothesis, sort_of, wit
 use Rattle.proof_kernel.specs.Linear.{Difference, row_of, row_back, row_if_found, referred, AreRows}
 use Rattle.proof_kernel.specs.Setting.{Setting}
 use Rattle.proof_kernel.specs.Steps.{labels_in, labels_of, new_names, IsLabelOf, IsVariableOf, AddsItsOwn}
-use Rattle.proof_kernel.specs.Derivation.{Gives, by_intro, by_hyp, by_split, by_range, by_lin}
+use Rattle.proof_kernel.specs.Derivation.{Gives, by_intro, by_hyp, by_split, by_range, by_lin, by_goal, by_hypothesis, by_two}
+use Rattle.proof_kernel.proofs.Each.{Each, Has, each_and, each_of, each_map, contains_itself}
+use Rattle.proof_kernel.proofs.FormsAdd.{goal_has, hypothesis_has, pair_has, hypothesis_there, pair_there}
 use Rattle.proof_kernel.proofs.Taken.{takes_off_computed}
-
--- P is so of each item
-abbrev pub Each : {A : Type 0} → (A → Type 0) → List A → Type 0
-Each P [] = Unit {0}
-Each P (x ∷ xs) = P x × Each P xs
-
-pub each_and : {A : Type 0} (P : A → Type 0) (xs ys : List A) → Each P xs → Each P ys → Each P (xs ++ ys)
-each_and P [] ys a b = b
-each_and P (x ∷ xs) ys a b = (a.0, each_and P xs ys a.1 b)
-
-each_of : {A : Type 0} (P : A → Type 0) (xs : List A) (x : A) → Each P xs → Contains xs x → P x
-each_of P [] x e c = absurd (omega (arith, c.1))
-each_of P (y ∷ ys) x e (zero, within, is) = subst P is e.0
-each_of P (y ∷ ys) x e (suc k, within, is) = each_of P ys x e.1 (k, omega arith, is)
-
-each_map : {A : Type 0} (P Q : A → Type 0) (xs : List A) → ((x : A) → P x → Q x) → Each P xs → Each Q xs
-each_map P Q [] f e = tt
-each_map P Q (x ∷ xs) f e = (f x e.0, each_map P Q xs f e.1)
-
-contains_itself : {A : Type 0} (xs : List A) → Each (Contains xs) xs
-contains_itself [] = tt
-contains_itself (x ∷ xs) = ((zero, omega arith, refl), each_map (Contains xs) (Contains (x ∷ xs)) xs (λ y c. (suc c.0, omega (arith, c.1), c.2)) (contains_itself xs))
-
--- ---- one row a rule
 
 row_found : (row : Term → Option Difference) (o : Option Term) (d : Difference) → row_if_found row o ≡ Some d → (t : Term) × (o ≡ Some t)
 row_found row None d e = absurd (cc)
@@ -58,10 +36,6 @@ rows_there : (q : Sequent) (ms : List Multiple) (ds : List Difference) → AreRo
 rows_there q [] ds r = tt
 rows_there q (m ∷ ms) [] r = absurd r
 rows_there q (m ∷ ms) (d ∷ ds) r = each_and (IsLabelOf q) (labels_in m.of) (flat_map (λ m. labels_in m.of) ms) (reference_there q m.of d r.0) (rows_there q ms ds r.1)
-
--- P is so of the label of each hypothesis, and N of the name of each variable
-abbrev pub Has : (Label2 → Type 0) → (Name → Type 0) → Sequent → Type 0
-Has P N q = Each (λ (h : Label2 × Term). P h.0) q.hyps × Each (λ (v : Name × Ty). N v.0) q.vars
 
 module _ (P : Label2 → Type 0) (N : Name → Type 0) (s : ℕ) (own : (k : ℕ) → P (label s k)) where
   more_hyps : (hs gs : List (Label2 × Term)) → Each (λ (h : Label2 × Term). P h.0) hs → Each (λ (h : Label2 × Term). P h.0) gs → Each (λ (h : Label2 × Term). P h.0) (hs ++ gs)
@@ -92,6 +66,9 @@ module _ (P : Label2 → Type 0) (N : Name → Type 0) (s : ℕ) (own : (k : ℕ
   given_adds w q step ps (by_range {x = x} {k = k} e) new has =
       (tt, ((more_hyps q.hyps ((label s 1, lower_bound k x) ∷ (label s 2, upper_bound k x) ∷ []) has.0 (own 1, (own 2, tt)), has.1), tt))
   given_adds w q step ps (by_lin {ms = ms} c) new has = (rows_there q ms c.rows c.are_rows, tt)
+  given_adds w q step ps (by_goal {r = r} e) new has = (tt, goal_has P N s own q has ps r e)
+  given_adds w q step ps (by_hypothesis {r = r} {l = l} e) new has = ((hypothesis_there s q ps r l e, tt), hypothesis_has P N s own q has ps r l e)
+  given_adds w q step ps (by_two {r = r} {l = l} {m = m} e) new has = let there = pair_there s q ps r l m e in ((there.0, (there.1, tt)), pair_has P N s own q has ps r l m e)
 
 -- ---- so what is added is the step's own
 

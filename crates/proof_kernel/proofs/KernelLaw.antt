@@ -1,5 +1,5 @@
 -- What the kernel finds and does, on lists.
-use Rattle.std.proofs.Common.{◌≡◌, ℕ, List, [], ◌∷◌, ◌++◌, ◌+◌, map, true, reverse, Some, refl, sym, ◌∙◌, ap, subst}
+use Rattle.std.proofs.Common.{◌≡◌, ℕ, List, [], ◌∷◌, ◌++◌, ◌+◌, map, true, reverse, Option, Some, None, refl, sym, ◌∙◌, ap, subst}
 use Rattle.std.specs.Global.{Vec}
 use Rattle.text_core.specs.declared.name.Name.{Name}
 use Rattle.logic_term.specs.declared.kinds.Label2.{Label2}
@@ -10,15 +10,21 @@ use Rattle.logic_term.specs.Canonical.{SameUpToNames}
 use Rattle.proof_kernel.specs.declared.step.Multiple.{Multiple}
 use Rattle.proof_kernel.specs.Sequent.{Sequent}
 use Rattle.proof_kernel.specs.declared.step.Step.{Step}
-use Rattle.proof_kernel.specs.declared.step.Step.TheVariants.{Intro, Hyp, Split, Range, Lin}
+use Rattle.proof_kernel.specs.declared.step.Step.TheVariants.{Intro, Hyp, Split, Range, Lin, OnGoal, OnHypothesis, OnTwo}
 use Rattle.proof_kernel.specs.declared.kernel.Made.{Made}
 use Rattle.proof_kernel.specs.declared.kernel.Made.TheVariants.{Premises, TooWide, Nothing}
 use Rattle.proof_kernel.specs.Setting.{Setting}
 use Rattle.proof_kernel.specs.Progress.{Progress}
 use Rattle.proof_kernel.proofs.Once.{given}
-use Rattle.proof_kernel.specs.Derivation.{Gives, by_intro, by_hyp, by_split, by_range, by_lin}
+use Rattle.proof_kernel.specs.Derivation.{Gives, by_intro, by_hyp, by_split, by_range, by_lin, by_goal, by_hypothesis, by_two}
 use Rattle.proof_kernel.specs.Linear.{Certifies}
-use Rattle.proof_kernel.specs.Rules.{hypothesis, sort_of, with_goal, conjuncts, ranged, Intros, TakesSome}
+use Rattle.proof_kernel.specs.declared.step.GoalRule.{GoalRule}
+use Rattle.proof_kernel.specs.declared.step.HypothesisRule.{HypothesisRule}
+use Rattle.proof_kernel.specs.declared.step.PairRule.{PairRule}
+use Rattle.proof_kernel.specs.GoalRules.{goal_rule}
+use Rattle.proof_kernel.specs.HypothesisRules.{hypothesis_rule}
+use Rattle.proof_kernel.specs.PairRules.{pair_rule}
+use Rattle.proof_kernel.specs.Rules.{Finds, hypothesis, sort_of, with_goal, conjuncts, ranged, Intros, TakesSome}
 use Rattle.proof_kernel.specs.Kernel.{Applies, IsWide}
 use Rattle.proof_kernel.specs.Made.{IsMadeFirst, PassesWidthAt, others_of}
 
@@ -30,6 +36,9 @@ wide_at w q qs (Intro names) s p = absurd p
 wide_at w q qs (Hyp l) s p = absurd p
 wide_at w q qs Split s p = absurd p
 wide_at w q qs (Range x) s p = absurd p
+wide_at w q qs (OnGoal r) s p = absurd p
+wide_at w q qs (OnHypothesis r l) s p = absurd p
+wide_at w q qs (OnTwo r l m) s p = absurd p
 wide_at w q qs (Lin ms) s p = record { first = q; others = qs; multiples = ms; was = refl; is_lin = refl; passes = p }
 
 is_wide : (w : Setting) (left : List Sequent) (step : Step) (s : ℕ) → IsMadeFirst w s left step TooWide → IsWide (at w s left) step
@@ -88,3 +97,32 @@ range_given w s q r x ps p e = subst (λ ps. Gives w s q (Range x) ps) (sym (e �
 
 pub lin_given : (w : Setting) (s : ℕ) (q : Sequent) (ns ms : List Multiple) (ps : List Sequent) → ns ≡ ms → Certifies q ns → ps ≡ [] → Gives w s q (Lin ms) ps
 lin_given w s q ns ms ps n c e = subst (λ l. Gives w s q (Lin ms) l) (sym e) (subst (λ l. Gives w s q (Lin l) []) n (by_lin c))
+
+-- ---- what is found by the form of the goal or of hypotheses
+
+found_is : (r : Option (List Sequent)) (o : Option (Vec Sequent)) (v : Vec Sequent) → o ≡ Some v → Finds r o → r ≡ Some v.items
+found_is r None v e f = absurd (cc)
+found_is r (Some w) v e f = let same : w ≡ v = cc in f ∙ ap (λ (u : Vec Sequent). Some u.items) same
+
+none_is : (r : Option (List Sequent)) (o : Option (Vec Sequent)) (ps : List Sequent) → o ≡ None → Finds r o → r ≡ Some ps → ⊥
+none_is r None ps e f g = absurd (cc)
+none_is r (Some w) ps e f g = absurd (cc)
+
+module _ (w : Setting) (s : ℕ) (q : Sequent) (o : Option (Vec Sequent)) where
+  pub goal_given : (r : GoalRule) (v : Vec Sequent) → o ≡ Some v → Finds (goal_rule r s q) o → Gives w s q (OnGoal r) v.items
+  goal_given r v e f = by_goal (found_is (goal_rule r s q) o v e f)
+
+  pub no_goal : (r : GoalRule) → o ≡ None → Finds (goal_rule r s q) o → (ps : List Sequent) → Gives w s q (OnGoal r) ps → ⊥
+  no_goal r e f ps g = none_is (goal_rule r s q) o ps e f (given w s q (OnGoal r) ps g)
+
+  pub hypothesis_given : (r : HypothesisRule) (l : Label2) (v : Vec Sequent) → o ≡ Some v → Finds (hypothesis_rule r s l q) o → Gives w s q (OnHypothesis r l) v.items
+  hypothesis_given r l v e f = by_hypothesis (found_is (hypothesis_rule r s l q) o v e f)
+
+  pub no_hypothesis : (r : HypothesisRule) (l : Label2) → o ≡ None → Finds (hypothesis_rule r s l q) o → (ps : List Sequent) → Gives w s q (OnHypothesis r l) ps → ⊥
+  no_hypothesis r l e f ps g = none_is (hypothesis_rule r s l q) o ps e f (given w s q (OnHypothesis r l) ps g)
+
+  pub two_given : (r : PairRule) (l m : Label2) (v : Vec Sequent) → o ≡ Some v → Finds (pair_rule r s l m q) o → Gives w s q (OnTwo r l m) v.items
+  two_given r l m v e f = by_two (found_is (pair_rule r s l m q) o v e f)
+
+  pub no_two : (r : PairRule) (l m : Label2) → o ≡ None → Finds (pair_rule r s l m q) o → (ps : List Sequent) → Gives w s q (OnTwo r l m) ps → ⊥
+  no_two r l m e f ps g = none_is (pair_rule r s l m q) o ps e f (given w s q (OnTwo r l m) ps g)

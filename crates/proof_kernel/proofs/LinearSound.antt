@@ -53,13 +53,13 @@ each_map P Q f (t ∷ ts) h = (f t h.0, each_map P Q f ts h.1)
 
 -- ---- comparisons
 
-at_most_true : (x y : ℤ) → int_le x y ≡ true → x ≤ℤ y
+pub at_most_true : (x y : ℤ) → int_le x y ≡ true → x ≤ℤ y
 at_most_true x y e = grind (arith, ints)
 
 less_true : (x y : ℤ) → int_lt x y ≡ true → x <ℤ y
 less_true x y e = grind (arith, ints)
 
-true_at_most : (x y : ℤ) → x ≤ℤ y → int_le x y ≡ true
+pub true_at_most : (x y : ℤ) → x ≤ℤ y → int_le x y ≡ true
 true_at_most x y e = grind (arith, ints)
 
 true_less : (x y : ℤ) → x <ℤ y → int_lt x y ≡ true
@@ -78,7 +78,7 @@ from_some false x d e = absurd (cc)
 
 module _ (S : Structure) (ρ : Env) where
   -- the term has a value, with this integer
-  abbrev IsAt : Term → ℤ → Type 0
+  abbrev pub IsAt : Term → ℤ → Type 0
   IsAt t z = (v : Value) × Means S t ρ v × (integer_of v ≡ z)
 
   of_canonical : (t : Term) (z : ℤ) → IsAt (canonical t) z → Sure (IsAt t z)
@@ -102,12 +102,12 @@ module _ (S : Structure) (ρ : Env) where
   sum_is ν (lit z s) h = λ n. n (Number z, refl, refl)
   sum_is ν t h = of_canonical t (ν (canonical t)) h.0
 
-  exact : (t : Term) (z : ℤ) (p : IsAt t z) → Exactly (Means S t ρ) p.0
+  pub exact : (t : Term) (z : ℤ) (p : IsAt t z) → Exactly (Means S t ρ) p.0
   exact t z p = alike_exactly _ _ (λ v. ((λ q. single S t ρ v p.0 q p.1), (λ e. subst (Means S t ρ) (sym e) p.1)))
 
   -- ---- what a formula says of the integers
 
-  at_most_is : (a b : Term) (x y : ℤ) → IsAt a x → IsAt b y → Holds S (apply at_most (and_term a (and_term b no_terms))) ρ → x ≤ℤ y
+  pub at_most_is : (a b : Term) (x y : ℤ) → IsAt a x → IsAt b y → Holds S (apply at_most (and_term a (and_term b no_terms))) ρ → x ≤ℤ y
   at_most_is a b x y p q h =
       at_most_true x y (sym (ap₂ int_le p.2 q.2) ∙ (holds_at_most S a b ρ p.0 q.0 (exact a x p) (exact b y q)).0 h)
 
@@ -194,7 +194,7 @@ module _ (S : Structure) (ρ : Env) where
 
   -- ---- the certificate
 
-  times_not_negative : (a b : ℤ) → pos 0 ≤ℤ a → pos 0 ≤ℤ b → pos 0 ≤ℤ (a *ℤ b)
+  pub times_not_negative : (a b : ℤ) → pos 0 ≤ℤ a → pos 0 ≤ℤ b → pos 0 ≤ℤ (a *ℤ b)
   times_not_negative (pos m) (pos n) h g = omega (arith, ints)
   times_not_negative (pos m) (negsuc n) h g = absurd (omega (arith, ints))
   times_not_negative (negsuc m) b h g = absurd (omega (arith, ints))

@@ -1,5 +1,5 @@
 -- Looking through a local context, from its last entry back.
-use Rattle.std.proofs.Common.{◌≡◌, ◌||◌, ◌==◌, Bool, true, false, List, [], ◌∷◌, ◌++◌, Option, Some, None, refl, sym, ◌∙◌, ap, true≢false}
+use Rattle.std.proofs.Common.{◌≡◌, ℕ, ◌||◌, ◌==◌, Bool, true, false, cond, List, [], ◌∷◌, ◌++◌, Option, Some, None, refl, sym, ◌∙◌, ap, ap₂, true≢false}
 use Rattle.std.specs.Option.{option_or}
 use Rattle.std.specs.Prelude.{if◌then◌else◌}
 use Rattle.text_core.specs.declared.name.Name.{Name}
@@ -8,10 +8,12 @@ use Rattle.logic_term.specs.Free.{free}
 use Rattle.logic_term.specs.Term.{Term}
 use Rattle.logic_term.specs.Ty.{Ty}
 use Rattle.proof_kernel.specs.declared.local_context.LocalEntry.{LocalEntry}
-use Rattle.proof_kernel.specs.declared.local_context.LocalEntry.TheVariants.{Variable, Hypothesis, Opened}
-use Rattle.proof_kernel.specs.LocalContext.{variables_in, hypotheses_in}
+use Rattle.proof_kernel.specs.declared.local_context.LocalEntry.TheVariants.{Variable, Hypothesis, Opened, Dropped}
+use Rattle.logic_term.proofs.FreeLaw.{same_test}
+use Rattle.proof_kernel.specs.LocalContext.{variables_in, hypotheses_in, drops}
 use Rattle.proof_kernel.specs.Opened.{opened_hypotheses}
-use Rattle.proof_kernel.specs.Rules.{hypothesis, sort_of, free_in_hyps, same_label}
+use Rattle.proof_kernel.specs.Rules.{hypothesis, sort_of, free_in_hyps, same_label, without}
+use Rattle.proof_kernel.proofs.Sound.{and_true}
 
 -- the first of both
 abbrev pub or_else : {A : Type 0} → Option A → Option A → Option A
@@ -42,6 +44,7 @@ sort_found x (Variable y s) es found =
     ap (λ o. or_else o found) (sort_more x (variables_in es) ((y, s) ∷ [])) ∙ or_assoc (sort_of x (variables_in es)) (sort_of x ((y, s) ∷ [])) found
 sort_found x (Hypothesis l h) es found = refl
 sort_found x (Opened o) es found = refl
+sort_found x (Dropped l) es found = refl
 
 pub sort_seen : (x : Name) (e : LocalEntry) (here es : List LocalEntry) (all found at : Option Ty) → here ≡ e ∷ es → at ≡ sort_of x (variables_in (e ∷ []))
     → all ≡ or_else (sort_of x (variables_in here)) found → all ≡ or_else (sort_of x (variables_in es)) (or_else at found)
@@ -54,19 +57,58 @@ pub hypothesis_more : (l : Label2) (hs gs : List (Label2 × Term)) → hypothesi
 hypothesis_more l [] gs = refl
 hypothesis_more l (h ∷ hs) gs = by_head (same_label l h.0) h.1 (hypothesis l (hs ++ gs)) (hypothesis l hs) (hypothesis l gs) (hypothesis_more l hs gs)
 
-pub hypothesis_found : (l : Label2) (e : LocalEntry) (es : List LocalEntry) (found : Option Term)
+same_label_is : (l m : Label2) → same_label l m ≡ true → l ≡ m
+same_label_is l m e =
+    let both = and_true (l.step == m.step) (l.part == m.part) e in
+    let step : l.step ≡ m.step = same_test l.step m.step both.0 in
+    let part : l.part ≡ m.part = same_test l.part m.part both.1 in
+    ap₂ (λ (j k : ℕ). record { step = j; part = k }) step part
+
+-- what is forgotten is not found
+dropped_gone : (l : Label2) (hs : List (Label2 × Term)) → hypothesis l (without l hs) ≡ None
+dropped_gone l [] = refl
+dropped_gone l (h ∷ hs) = gone (dropped_gone l hs) (same_label l h.0) refl
+  where
+    gone : hypothesis l (without l hs) ≡ None → (b : Bool) → same_label l h.0 ≡ b → hypothesis l (cond b (without l hs) (h ∷ without l hs)) ≡ None
+    gone rest true e = rest
+    gone rest false e = rw e rest
+
+-- another one is
+other_kept : (l m : Label2) (hs : List (Label2 × Term)) → same_label l m ≡ false → hypothesis l (without m hs) ≡ hypothesis l hs
+other_kept l m [] d = refl
+other_kept l m (h ∷ hs) d = kept (other_kept l m hs d) (same_label m h.0) refl
+  where
+    passed : (b : Bool) → same_label l h.0 ≡ b → same_label m h.0 ≡ true → (if b then Some h.1 else hypothesis l hs) ≡ hypothesis l hs
+    passed true e f = absurd (true≢false (sym e ∙ ap (λ k. same_label l k) (sym (same_label_is m h.0 f)) ∙ d))
+    passed false e f = refl
+
+    kept : hypothesis l (without m hs) ≡ hypothesis l hs → (b : Bool) → same_label m h.0 ≡ b → hypothesis l (cond b (without m hs) (h ∷ without m hs)) ≡ (if same_label l h.0 then Some h.1 else hypothesis l hs)
+    kept rest true e = rest ∙ sym (passed (same_label l h.0) refl e)
+    kept rest false e = ap (λ o. if same_label l h.0 then Some h.1 else o) rest
+
+pub hypothesis_found : (l : Label2) (e : LocalEntry) (es : List LocalEntry) (found : Option Term) → drops e l ≡ false
     → or_else (hypothesis l (hypotheses_in (e ∷ es))) found ≡ or_else (hypothesis l (hypotheses_in es)) (or_else (hypothesis l (hypotheses_in (e ∷ []))) found)
-hypothesis_found l (Variable y s) es found = refl
-hypothesis_found l (Hypothesis m h) es found =
+hypothesis_found l (Variable y s) es found d = refl
+hypothesis_found l (Dropped m) es found d = ap (λ o. or_else o found) (other_kept l m (hypotheses_in es) d)
+hypothesis_found l (Hypothesis m h) es found d =
     ap (λ o. or_else o found) (hypothesis_more l (hypotheses_in es) ((m, h) ∷ [])) ∙ or_assoc (hypothesis l (hypotheses_in es)) (hypothesis l ((m, h) ∷ [])) found
-hypothesis_found l (Opened p) es found =
+hypothesis_found l (Opened p) es found d =
     let hs = opened_hypotheses p.step p.names p.context in
     ap (λ o. or_else o found) (hypothesis_more l (hypotheses_in es) hs) ∙ or_assoc (hypothesis l (hypotheses_in es)) (hypothesis l hs) found
 
-pub hypothesis_seen : (l : Label2) (e : LocalEntry) (here es : List LocalEntry) (all found at : Option Term) → here ≡ e ∷ es → at ≡ hypothesis l (hypotheses_in (e ∷ []))
+pub hypothesis_seen : (l : Label2) (e : LocalEntry) (here es : List LocalEntry) (all found at : Option Term) → drops e l ≡ false → here ≡ e ∷ es → at ≡ hypothesis l (hypotheses_in (e ∷ []))
     → all ≡ or_else (hypothesis l (hypotheses_in here)) found → all ≡ or_else (hypothesis l (hypotheses_in es)) (or_else at found)
-hypothesis_seen l e here es all found at is here_is h =
-    h ∙ ap (λ hs. or_else (hypothesis l (hypotheses_in hs)) found) is ∙ hypothesis_found l e es found ∙ ap (λ o. or_else (hypothesis l (hypotheses_in es)) (or_else o found)) (sym here_is)
+hypothesis_seen l e here es all found at d is here_is h =
+    h ∙ ap (λ hs. or_else (hypothesis l (hypotheses_in hs)) found) is ∙ hypothesis_found l e es found d ∙ ap (λ o. or_else (hypothesis l (hypotheses_in es)) (or_else o found)) (sym here_is)
+
+gone_at : (l : Label2) (e : LocalEntry) (es : List LocalEntry) → drops e l ≡ true → hypothesis l (hypotheses_in (e ∷ es)) ≡ None
+gone_at l (Dropped m) es d = ap (λ k. hypothesis l (without k (hypotheses_in es))) (sym (same_label_is l m d)) ∙ dropped_gone l (hypotheses_in es)
+gone_at l e es d = absurd (true≢false (sym d))
+
+-- where it is forgotten, what is found behind is all there is
+pub hypothesis_dropped : (l : Label2) (e : LocalEntry) (here es : List LocalEntry) (all found : Option Term) → drops e l ≡ true → here ≡ e ∷ es
+    → all ≡ or_else (hypothesis l (hypotheses_in here)) found → all ≡ found
+hypothesis_dropped l e here es all found d is h = h ∙ ap (λ hs. or_else (hypothesis l (hypotheses_in hs)) found) is ∙ ap (λ o. or_else o found) (gone_at l e es d)
 
 or_is_else : {A : Type 0} (o p : Option A) → option_or o p ≡ or_else o p
 or_is_else (Some x) p = refl
@@ -94,20 +136,3 @@ or_false false b e = e
 pub or_true : (a b : Bool) → b ≡ true → (a || b) ≡ true
 or_true true b e = refl
 or_true false b e = e
-
--- the entry has the name free, or the earlier ones decide
-pub free_here : (x : Name) (e : LocalEntry) (es : List LocalEntry) → free_in_hyps x (hypotheses_in (e ∷ [])) ≡ true → free_in_hyps x (hypotheses_in (e ∷ es)) ≡ true
-free_here x (Variable y s) es h = absurd (true≢false (sym h))
-free_here x (Hypothesis l t) es h = free_more x (hypotheses_in es) ((l, t) ∷ []) ∙ or_true (free_in_hyps x (hypotheses_in es)) _ h
-free_here x (Opened o) es h = free_more x (hypotheses_in es) (opened_hypotheses o.step o.names o.context) ∙ or_true (free_in_hyps x (hypotheses_in es)) _ h
-
-pub free_before : (x : Name) (e : LocalEntry) (es : List LocalEntry) → free_in_hyps x (hypotheses_in (e ∷ [])) ≡ false → free_in_hyps x (hypotheses_in (e ∷ es)) ≡ free_in_hyps x (hypotheses_in es)
-free_before x (Variable y s) es h = refl
-free_before x (Hypothesis l t) es h = free_more x (hypotheses_in es) ((l, t) ∷ []) ∙ or_false (free_in_hyps x (hypotheses_in es)) _ h
-free_before x (Opened o) es h = free_more x (hypotheses_in es) (opened_hypotheses o.step o.names o.context) ∙ or_false (free_in_hyps x (hypotheses_in es)) _ h
-
-pub none_free_before : (x : Name) (e : LocalEntry) (here es : List LocalEntry) → here ≡ e ∷ es → free_in_hyps x (hypotheses_in (e ∷ [])) ≡ false → free_in_hyps x (hypotheses_in here) ≡ free_in_hyps x (hypotheses_in es)
-none_free_before x e here es is h = ap (λ hs. free_in_hyps x (hypotheses_in hs)) is ∙ free_before x e es h
-
-pub some_free_here : (x : Name) (e : LocalEntry) (here es : List LocalEntry) → here ≡ e ∷ es → free_in_hyps x (hypotheses_in (e ∷ [])) ≡ true → free_in_hyps x (hypotheses_in here) ≡ true
-some_free_here x e here es is h = ap (λ hs. free_in_hyps x (hypotheses_in hs)) is ∙ free_here x e es h

@@ -75,13 +75,7 @@ looked_at l s names a es e f =
 
 -- ---- free names
 
-pub known_free : (x : Name) (s : ℕ) (names : List Name) (a : Term) (es : List Entry) → free x (known_under names es a) ≡ true → free_in_hyps x (opened_hypotheses s names (Known a ∷ es)) ≡ true
-known_free x s names a es h = free_more x (opened_hypotheses s names es) _ ∙ or_true (free_in_hyps x (opened_hypotheses s names es)) _ (or_true_left (free x (known_under names es a)) h)
-  where
-    or_true_left : (b : Bool) → b ≡ true → (b || false) ≡ true
-    or_true_left b e = rw (e) refl
-
-pub known_not_free : (x : Name) (s : ℕ) (names : List Name) (a : Term) (es : List Entry) → free x (known_under names es a) ≡ false
+known_not_free : (x : Name) (s : ℕ) (names : List Name) (a : Term) (es : List Entry) → free x (known_under names es a) ≡ false
     → free_in_hyps x (opened_hypotheses s names (Known a ∷ es)) ≡ free_in_hyps x (opened_hypotheses s names es)
 known_not_free x s names a es h = free_more x (opened_hypotheses s names es) _ ∙ or_false (free_in_hyps x (opened_hypotheses s names es)) _ (or_false_left (free x (known_under names es a)) h)
   where
@@ -90,7 +84,7 @@ known_not_free x s names a es h = free_more x (opened_hypotheses s names es) _ �
 
 -- ---- from an entry on
 
-is_known : (here es : List Entry) (e : Entry) (a : Term) → here ≡ e ∷ es → e ≡ Known a → here ≡ Known a ∷ es
+pub is_known : (here es : List Entry) (e : Entry) (a : Term) → here ≡ e ∷ es → e ≡ Known a → here ≡ Known a ∷ es
 is_known here es e a is known = is ∙ ap (λ f. f ∷ es) known
 
 pub past_known : (l : Label2) (s : ℕ) (names : List Name) (here es : List Entry) (e : Entry) (a : Term) (n : ℕ) (o : Option Term) → here ≡ e ∷ es → e ≡ Known a → n ≡ count_known here
@@ -107,11 +101,6 @@ at_known l s names here es e a n o t is known place part step made h =
 
 pub one_less : (here es : List Entry) (e : Entry) (a : Term) (n : ℕ) → here ≡ e ∷ es → e ≡ Known a → n ≡ count_known here → n ≡ suc (count_known es)
 one_less here es e a n is known place = place ∙ ap count_known (is_known here es e a is known)
-
-pub free_at_known : (x : Name) (s : ℕ) (names : List Name) (here es : List Entry) (e : Entry) (a t : Term) → here ≡ e ∷ es → e ≡ Known a → t ≡ known_under names es a → free x t ≡ true
-    → free_in_hyps x (opened_hypotheses s names here) ≡ true
-free_at_known x s names here es e a t is known made h =
-    ap (λ cs. free_in_hyps x (opened_hypotheses s names cs)) (is_known here es e a is known) ∙ known_free x s names a es (ap (free x) (sym made) ∙ h)
 
 pub not_free_at_known : (x : Name) (s : ℕ) (names : List Name) (here es : List Entry) (e : Entry) (a t : Term) → here ≡ e ∷ es → e ≡ Known a → t ≡ known_under names es a → free x t ≡ false
     → free_in_hyps x (opened_hypotheses s names here) ≡ free_in_hyps x (opened_hypotheses s names es)

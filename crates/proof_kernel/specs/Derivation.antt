@@ -1,4 +1,4 @@
--- What each step makes of the first sequent in a setting, one case a rule, and proofs.
+-- What each step makes of the first sequent in a setting, one case a kind of step, and proofs.
 use Rattle.std.specs.Prelude.{◌≡◌, ℕ, suc, true, List, [], ◌∷◌, ◌++◌, map, Some}
 use Rattle.text_core.specs.declared.name.Name.{Name}
 use Rattle.logic_term.specs.declared.kinds.Label2.{Label2}
@@ -12,10 +12,16 @@ use Rattle.proof_kernel.specs.Sequent.{Sequent}
 use Rattle.proof_kernel.specs.declared.setting.Tables.{Tables}
 use Rattle.proof_kernel.specs.declared.step.Multiple.{Multiple}
 use Rattle.proof_kernel.specs.declared.step.Step.{Step}
-use Rattle.proof_kernel.specs.declared.step.Step.TheVariants.{Intro, Hyp, Split, Range, Lin}
+use Rattle.proof_kernel.specs.declared.step.GoalRule.{GoalRule}
+use Rattle.proof_kernel.specs.declared.step.HypothesisRule.{HypothesisRule}
+use Rattle.proof_kernel.specs.declared.step.PairRule.{PairRule}
+use Rattle.proof_kernel.specs.declared.step.Step.TheVariants.{Intro, Hyp, Split, Range, Lin, OnGoal, OnHypothesis, OnTwo}
 use Rattle.proof_kernel.specs.Sequent.{sequent_of}
 use Rattle.proof_kernel.specs.Setting.{Setting, setting_of}
 use Rattle.proof_kernel.specs.Linear.{Certifies}
+use Rattle.proof_kernel.specs.GoalRules.{goal_rule}
+use Rattle.proof_kernel.specs.HypothesisRules.{hypothesis_rule}
+use Rattle.proof_kernel.specs.PairRules.{pair_rule}
 use Rattle.proof_kernel.specs.Rules.{hypothesis, sort_of, with_goal, Intros, TakesSome, conjuncts, ranged}
 
 -- step number s makes these premises of the sequent
@@ -25,6 +31,9 @@ pub data Gives (w : Setting) (s : ℕ) (q : Sequent) : Step → List Sequent →
   by_split : is_conjunction q.goal ≡ true → Gives w s q Split (map (with_goal q) (conjuncts q.goal))
   by_range : {x : Name} {k : IntKind} → sort_of x q.vars ≡ Some (int k) → Gives w s q (Range x) (ranged s k x q ∷ [])
   by_lin : {ms : List Multiple} → Certifies q ms → Gives w s q (Lin ms) []
+  by_goal : {r : GoalRule} {ps : List Sequent} → goal_rule r s q ≡ Some ps → Gives w s q (OnGoal r) ps
+  by_hypothesis : {r : HypothesisRule} {l : Label2} {ps : List Sequent} → hypothesis_rule r s l q ≡ Some ps → Gives w s q (OnHypothesis r l) ps
+  by_two : {r : PairRule} {l m : Label2} {ps : List Sequent} → pair_rule r s l m q ≡ Some ps → Gives w s q (OnTwo r l m) ps
 
 -- what the step cites besides hypotheses is true in the structure; no step cites anything else yet
 abbrev pub CitedAreTrue : Setting → Structure → Step → Type 0
@@ -33,6 +42,9 @@ CitedAreTrue w S (Hyp l) = Unit {0}
 CitedAreTrue w S Split = Unit {0}
 CitedAreTrue w S (Range x) = Unit {0}
 CitedAreTrue w S (Lin ms) = Unit {0}
+CitedAreTrue w S (OnGoal r) = Unit {0}
+CitedAreTrue w S (OnHypothesis r l) = Unit {0}
+CitedAreTrue w S (OnTwo r l m) = Unit {0}
 
 -- the steps, numbered from s, lead from the first sequents to the second; each acts on the first and puts its premises there
 pub data Derives (w : Setting) : ℕ → List Sequent → List Step → List Sequent → Type 0 where

@@ -1,5 +1,8 @@
 pub mod Accepts
 pub mod Derivation
+pub mod Dropped
+pub mod GoalRules
+pub mod HypothesisRules
 pub mod Intro
 pub mod Kernel
 pub mod Laws
@@ -12,6 +15,7 @@ pub mod LocalContextFalls
 pub mod LocalContextView
 pub mod Made
 pub mod Opened
+pub mod PairRules
 pub mod Polynomial
 pub mod PolynomialCode
 pub mod Progress

@@ -1,5 +1,6 @@
 -- What each step makes of the first sequent, one case a rule.
-use Rattle.std.specs.Prelude.{◌≡◌, ℕ, ◌==◌, ◌||◌, ◌&&◌, Bool, true, false, List, [], ◌∷◌, ◌++◌, length, map, zip, Option, Some, None, if◌then◌else◌}
+use Rattle.std.specs.Prelude.{◌≡◌, ℕ, suc, ◌==◌, ◌||◌, ◌&&◌, Bool, true, false, List, [], ◌∷◌, ◌++◌, length, map, zip, Option, Some, None, if◌then◌else◌}
+use Rattle.std.specs.Global.{Vec}
 use Rattle.std.specs.List.{enumerate_from}
 use Rattle.text_core.specs.declared.name.Name.{Name}
 use Rattle.logic_term.specs.declared.kinds.Label2.{Label2}
@@ -9,7 +10,8 @@ use Rattle.source_kinds.specs.Range.{lowest, highest}
 use Rattle.logic_term.specs.Term.{both, Term, var, lit, apply, no_terms, and_term, model, is_at_most, implies, forall, is_implication}
 use Rattle.logic_term.specs.Free.{free}
 use Rattle.logic_term.specs.declared.subst.Renaming.{Renaming}
-use Rattle.logic_term.specs.Canonical.{is_one_of}
+use Rattle.logic_term.specs.Canonical.{is_one_of, canonical}
+use Rattle.logic_term.specs.Same.{same_term}
 use Rattle.logic_term.specs.Subst.{renamed}
 use Rattle.proof_kernel.specs.Sequent.{Sequent}
 
@@ -43,6 +45,40 @@ pub record IsNew (x : Name) (q : Sequent) : Type 0 where
 
 abbrev pub with_goal : Sequent → Term → Sequent
 with_goal q t = record { vars = q.vars; hyps = q.hyps; goal = t }
+
+-- the hypotheses without those of the label
+abbrev pub without : Label2 → List (Label2 × Term) → List (Label2 × Term)
+without l [] = []
+without l (h ∷ hs) = if same_label l h.0 then without l hs else h ∷ without l hs
+
+-- the terms are equal up to the names that they bind, as a truth value
+abbrev pub same_up_to_names : Term → Term → Bool
+same_up_to_names t u = same_term (canonical t) (canonical u)
+
+-- ---- premises
+
+-- the terms as the hypotheses k, k + 1, .. of step s
+abbrev pub labelled : ℕ → ℕ → List Term → List (Label2 × Term)
+labelled s k [] = []
+labelled s k (t ∷ ts) = (label s k, t) ∷ labelled s (suc k) ts
+
+-- the sequent with the terms as the hypotheses 1, 2, .. of step s
+abbrev pub with_hyps : ℕ → Sequent → List Term → Sequent
+with_hyps s q ts = record { vars = q.vars; hyps = q.hyps ++ labelled s 1 ts; goal = q.goal }
+
+-- the sequent without the hypothesis
+abbrev pub dropping : Label2 → Sequent → Sequent
+dropping l q = record { vars = q.vars; hyps = without l q.hyps; goal = q.goal }
+
+-- no premise, where the test holds
+abbrev pub closed_if : Bool → Option (List Sequent)
+closed_if true = Some []
+closed_if false = None
+
+-- the found premises are those that are given
+abbrev pub Finds : Option (List Sequent) → Option (Vec Sequent) → Type 0
+Finds given None = given ≡ None
+Finds given (Some found) = given ≡ Some found.items
 
 -- ---- intro: the quantifiers and premises that lead the goal are taken off
 

@@ -9,7 +9,7 @@ use Rattle.proof_kernel.specs.Sequent.{Sequent}
 use Rattle.proof_kernel.specs.declared.step.Reference.{Reference}
 use Rattle.proof_kernel.specs.declared.step.Reference.TheVariants.{Goal, Hyp as Of, Back}
 use Rattle.proof_kernel.specs.declared.step.Step.{Step}
-use Rattle.proof_kernel.specs.declared.step.Step.TheVariants.{Intro, Hyp, Split, Range, Lin}
+use Rattle.proof_kernel.specs.declared.step.Step.TheVariants.{Intro, Hyp, Split, Range, Lin, OnGoal, OnHypothesis, OnTwo}
 use Rattle.proof_kernel.specs.Rules.{hypothesis, sort_of}
 
 abbrev pub labels_in : Reference → List Label2
@@ -24,6 +24,9 @@ labels_of (Hyp l) = l ∷ []
 labels_of Split = []
 labels_of (Range x) = []
 labels_of (Lin ms) = flat_map (λ m. labels_in m.of) ms
+labels_of (OnGoal r) = []
+labels_of (OnHypothesis r l) = l ∷ []
+labels_of (OnTwo r l m) = l ∷ m ∷ []
 
 -- the names that the step gives to variables of its premises
 abbrev pub new_names : Step → List Name
@@ -32,6 +35,9 @@ new_names (Hyp l) = []
 new_names Split = []
 new_names (Range x) = []
 new_names (Lin ms) = []
+new_names (OnGoal r) = []
+new_names (OnHypothesis r l) = []
+new_names (OnTwo r l m) = []
 
 -- ---- what is there, and what is added
 

@@ -8,12 +8,15 @@ ghost use Rattle.proof_kernel.specs.Made.{IsMade, IsMadeFirst, others_of};
 ghost use Rattle.proof_kernel.specs.Setting.{setting};
 ghost use Rattle.proof_kernel.specs.Steps.{labels_in};
 
+use crate::goal_rules::goal_rule;
+use crate::hypothesis_rules::hypothesis_rule;
 use crate::intro::intro;
 use crate::linear::{LinAnswer, certifies};
-use crate::rules::{is_hypothesis, range, split};
+use crate::pair_rules::pair_rule;
+use crate::rules::{is_hypothesis, one_premise, range, split};
 use crate::sequent::Sequent;
 use crate::setting::{Scope, Tables};
-use crate::step::{Multiple, Reference, Step};
+use crate::step::{GoalRule, HypothesisRule, Multiple, PairRule, Reference, Step};
 use logic_term::{Label2, Obligation};
 use std::alloc::Global;
 use std::marker::Model;
@@ -117,14 +120,6 @@ enum Made {
     Nothing,
 }
 
-fn one_premise(alloc: Global, premise: Sequent) -> Result<Vec<Sequent>, NoMemory>
-    ensures { IfOk result (λ v. v.items ≡ premise ∷ []) }
-{
-    let mut premises = Vec::with_capacity(alloc, 1)?;
-    premises.push(premise)?;
-    Ok(premises)
-}
-
 fn by_intro(
     alloc: Global,
     scope: &Scope<'_>,
@@ -205,6 +200,54 @@ fn by_lin(
     }
 }
 
+fn by_goal(
+    alloc: Global,
+    scope: &Scope<'_>,
+    number: u32,
+    rule: GoalRule,
+    q: &Sequent,
+) -> Result<Made, NoMemory>
+    ensures { IfOk result (λ made. IsMade (setting scope.now) number q.now (kinds.OnGoal rule) made) }
+{
+    match goal_rule(alloc, rule, number, q)? {
+        None => Ok(Made::Nothing),
+        Some(premises) => Ok(Made::Premises(premises)),
+    }
+}
+
+fn by_hypothesis(
+    alloc: Global,
+    scope: &Scope<'_>,
+    number: u32,
+    rule: HypothesisRule,
+    label: Label2,
+    q: &Sequent,
+) -> Result<Made, NoMemory>
+    ensures { IfOk result (λ made. IsMade (setting scope.now) number q.now (kinds.OnHypothesis rule label) made) }
+{
+    match hypothesis_rule(alloc, rule, number, label, q)? {
+        None => Ok(Made::Nothing),
+        Some(premises) => Ok(Made::Premises(premises)),
+    }
+}
+
+fn by_two(
+    alloc: Global,
+    scope: &Scope<'_>,
+    number: u32,
+    rule: PairRule,
+    first: Label2,
+    second: Label2,
+    q: &Sequent,
+) -> Result<Made, NoMemory>
+    ensures { IfOk result (λ made. IsMade (setting scope.now) number q.now (kinds.OnTwo rule first second) made) }
+{
+    match pair_rule(alloc, rule, number, first, second, q)? {
+        None => Ok(Made::Nothing),
+        Some(premises) => Ok(Made::Premises(premises)),
+    }
+}
+
 /// What the step with this number makes of the sequent.
 fn made_of(
     alloc: Global,
@@ -221,7 +264,11 @@ fn made_of(
         Step::Split => by_split(alloc, scope, number, q),
         Step::Range(name) => by_range(alloc, scope, number, *name, q),
         Step::Lin(multiples) => by_lin(alloc, scope, number, multiples, q),
-        Step::OnGoal(_) | Step::OnHypothesis(_, _) | Step::OnTwo(_, _, _) => Ok(Made::Nothing),
+        Step::OnGoal(rule) => by_goal(alloc, scope, number, *rule, q),
+        Step::OnHypothesis(rule, label) => by_hypothesis(alloc, scope, number, *rule, *label, q),
+        Step::OnTwo(rule, first, second) => {
+            by_two(alloc, scope, number, *rule, *first, *second, q)
+        }
     }
 }
 

@@ -1,6 +1,8 @@
 //! The kernel: sequents, the steps of proofs, and what each step makes of a sequent.
 #![tactic(auto)]
 
+mod goal_rules;
+mod hypothesis_rules;
 mod intro;
 mod kernel;
 mod laws;
@@ -8,6 +10,7 @@ mod lin_arith;
 mod linear;
 mod local_context;
 mod opened;
+mod pair_rules;
 mod polynomial;
 mod rules;
 mod sequent;

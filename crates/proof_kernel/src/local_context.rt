@@ -4,21 +4,25 @@ ghost use Rattle.std.specs.Option.{option_copied, option_or};
 ghost use Rattle.text_core.specs.declared.name.Name.{Name};
 ghost use Rattle.logic_term.specs.Canonical.{above_free};
 ghost use Rattle.proof_kernel.specs.Rules.{hypothesis, sort_of, free_in_hyps};
-ghost use Rattle.proof_kernel.specs.LocalContext.{variables_in, hypotheses_in};
+ghost use Rattle.logic_term.specs.Free.{free};
+ghost use Rattle.proof_kernel.specs.Dropped.{free_but_in};
+ghost use Rattle.proof_kernel.specs.LocalContext.{variables_in, hypotheses_in, drops, with_dropped};
 
-use crate::opened::Opened;
+use crate::opened::{Opened, is_dropped};
 use logic_term::{Label2, Sort, Term};
 use std::alloc::Global;
 use std::marker::Model;
 use std::rc::Rc;
 use text_core::{Name, NoMemory};
 
-/// A variable with its sort, a hypothesis with its label, or the hypotheses of a context that was taken off under names.
+/// A variable with its sort, a hypothesis with its label, the hypotheses of a context that was taken off under names, or that the earlier
+/// hypothesis of the label is forgotten.
 #[derive(Drop)]
 pub(crate) enum LocalEntry {
     Variable(Name, Sort),
     Hypothesis(Label2, Term),
     Opened(Opened),
+    Dropped(Label2),
 }
 
 /// The variables and the hypotheses of a sequent, shared with the premises that have them too. Contracts see the list of the entries,
@@ -102,6 +106,17 @@ fn hypothesis_at(alloc: Global, entry: &LocalEntry, label: Label2) -> Result<Opt
             shared_if(alloc, same, hyp)
         }
         LocalEntry::Opened(opened) => opened.hypothesis(alloc, label),
+        LocalEntry::Dropped(_) => Ok(None),
+    }
+}
+
+/// Whether the entry forgets the hypothesis of the label.
+fn drops(entry: &LocalEntry, label: Label2) -> bool
+    ensures { result ≡ drops entry.now label }
+{
+    match entry {
+        LocalEntry::Dropped(other) => label.step == other.step && label.part == other.part,
+        _ => false,
     }
 }
 
@@ -112,15 +127,41 @@ fn first_of(earlier: Option<Term>, later: Option<Term>) -> Option<Term>
     earlier.or(later)
 }
 
-/// Whether the name is free in the entry's hypotheses.
-fn is_free_at(alloc: Global, entry: &LocalEntry, name: Name) -> Result<bool, NoMemory>
-    ensures { IfOk result (λ b. b ≡ free_in_hyps name (hypotheses_in (entry.now ∷ []))) }
+fn is_free_unless(alloc: Global, dropped: bool, hyp: &Term, name: Name) -> Result<bool, NoMemory>
+    ensures { IfOk result (λ b. b ≡ (if dropped then false else free name hyp.now)) }
+{
+    if dropped {
+        return Ok(false);
+    }
+    hyp.free_in(alloc, name)
+}
+
+/// Whether the name is free in the entry's hypotheses but for those of these labels.
+fn is_free_at(
+    alloc: Global,
+    entry: &LocalEntry,
+    name: Name,
+    dropped: &[Label2],
+) -> Result<bool, NoMemory>
+    ensures { IfOk result (λ b. b ≡ free_but_in name dropped.now (hypotheses_in (entry.now ∷ []))) }
 {
     match entry {
-        LocalEntry::Variable(_, _) => Ok(false),
-        LocalEntry::Hypothesis(_, hyp) => hyp.free_in(alloc, name),
-        LocalEntry::Opened(opened) => opened.is_free(alloc, name),
+        LocalEntry::Variable(_, _) | LocalEntry::Dropped(_) => Ok(false),
+        LocalEntry::Hypothesis(label, hyp) => {
+            is_free_unless(alloc, is_dropped(*label, dropped), hyp, name)
+        }
+        LocalEntry::Opened(opened) => opened.is_free(alloc, name, dropped),
     }
+}
+
+/// One more label, where the entry forgets one.
+fn add_dropped(entry: &LocalEntry, dropped: &mut Vec<Label2>) -> Result<(), NoMemory>
+    ensures { IfOk result (λ _. dropped.new.items ≡ with_dropped entry.now dropped.old.items) }
+{
+    if let LocalEntry::Dropped(label) = entry {
+        dropped.push(*label)?;
+    }
+    Ok(())
 }
 
 /// A number past all names that are free in the entry's hypotheses, and at least the other number.
@@ -133,6 +174,7 @@ fn above_entry(alloc: Global, entry: &LocalEntry, most: u64) -> Result<u64, NoMe
         LocalEntry::Variable(_, _) => Ok(most),
         LocalEntry::Hypothesis(_, hyp) => Ok(most.max(hyp.above_free(alloc)?)),
         LocalEntry::Opened(opened) => opened.above(alloc, most),
+        LocalEntry::Dropped(_) => Ok(most),
     }
 }
 
@@ -200,6 +242,9 @@ impl LocalContext {
         let mut here = self;
         let mut found = None;
         while let Some((entry, before)) = here.last() {
+            if drops(entry, label) {
+                return Ok(found);
+            }
             let seen = hypothesis_at(alloc, entry, label)?;
             found = first_of(seen, found);
             here = before;
@@ -212,10 +257,12 @@ impl LocalContext {
         ensures { IfOk result (λ b. b ≡ free_in_hyps name (hypotheses_in self.now)) }
     {
         let mut here = self;
+        let mut dropped = Vec::new(alloc);
         while let Some((entry, before)) = here.last() {
-            if is_free_at(alloc, entry, name)? {
+            if is_free_at(alloc, entry, name, dropped.as_slice())? {
                 return Ok(true);
             }
+            add_dropped(entry, &mut dropped)?;
             here = before;
         }
         Ok(false)

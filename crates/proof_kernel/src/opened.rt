@@ -1,6 +1,8 @@
 //! What is known before the formula of a goal, as hypotheses under names. Each of them is made where it is looked up.
-ghost use Rattle.std.specs.Prelude.{◌≡◌, ◌≤◌, reverse, IfOk, false};
+ghost use Rattle.std.specs.Prelude.{◌≡◌, ◌≤◌, reverse, IfOk, false, if◌then◌else◌};
+ghost use Rattle.logic_term.specs.Free.{free};
 ghost use Rattle.text_core.specs.declared.name.Name.{Name};
+ghost use Rattle.proof_kernel.specs.Dropped.{free_but_in, is_dropped};
 ghost use Rattle.proof_kernel.specs.Opened.{EntriesAreTakenOff, count_known, known_under, opened_hypotheses, renames_from, sorts_in};
 ghost use Rattle.proof_kernel.specs.Rules.{hypothesis, free_in_hyps};
 
@@ -70,6 +72,13 @@ pub(crate) fn renames(alloc: Global, count: u64, names: &[Name]) -> Result<Vec<R
     Ok(all)
 }
 
+/// Whether the label is one of these.
+pub(crate) fn is_dropped(label: Label2, dropped: &[Label2]) -> bool
+    ensures { result ≡ is_dropped label dropped.now }
+{
+    dropped.iter().any(|other| other.step == label.step && other.part == label.part)
+}
+
 /// The known formula behind the entries, under the names.
 pub(crate) fn known_under(
     alloc: Global,
@@ -107,17 +116,43 @@ impl Opened {
         Ok(None)
     }
 
-    /// Whether the name is free in a hypothesis.
-    pub(crate) fn is_free(&self, alloc: Global, name: Name) -> Result<bool, NoMemory>
-        ensures { IfOk result (λ b. b ≡ free_in_hyps name (opened_hypotheses self.now.step self.now.names self.now.context)) }
+    /// Whether the name is free in the known formula behind the entries, unless that is dropped.
+    fn is_free_in_known(
+        &self,
+        alloc: Global,
+        name: Name,
+        dropped: bool,
+        before: &Context,
+        known: &Term,
+    ) -> Result<bool, NoMemory>
+        ensures { IfOk result (λ b. b ≡ (if dropped then false else free name (known_under self.now.names before.now known.now))) }
     {
+        if dropped {
+            return Ok(false);
+        }
+        let hyp = known_under(alloc, self.names.as_slice(), before, known)?;
+        hyp.free_in(alloc, name)
+    }
+
+    /// Whether the name is free in a hypothesis that has none of these labels.
+    pub(crate) fn is_free(
+        &self,
+        alloc: Global,
+        name: Name,
+        dropped: &[Label2],
+    ) -> Result<bool, NoMemory>
+        ensures { IfOk result (λ b. b ≡ free_but_in name dropped.now (opened_hypotheses self.now.step self.now.names self.now.context)) }
+    {
+        let step = self.step;
+        let mut part = count_known(&self.context)?;
         let mut here = &self.context;
         while let Some((entry, before)) = here.last() {
             if let Entry::Known(known) = entry {
-                let hyp = known_under(alloc, self.names.as_slice(), before, known)?;
-                if hyp.free_in(alloc, name)? {
+                let passed = is_dropped(Label2 { step, part }, dropped);
+                if self.is_free_in_known(alloc, name, passed, before, known)? {
                     return Ok(true);
                 }
+                part -= 1;
             }
             here = before;
         }

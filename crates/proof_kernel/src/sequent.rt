@@ -2,7 +2,7 @@ ghost use Rattle.std.specs.Prelude.{◌≡◌, ◌↔◌, ◌++◌, ◌∷◌, [
 ghost use Rattle.std.specs.Option.{option_copied};
 ghost use Rattle.logic_term.specs.Context.{IsOpened};
 ghost use Rattle.logic_term.specs.Free.{free};
-ghost use Rattle.proof_kernel.specs.Rules.{hypothesis, sort_of, free_in_hyps, with_goal};
+ghost use Rattle.proof_kernel.specs.Rules.{hypothesis, sort_of, free_in_hyps, with_goal, dropping};
 ghost use Rattle.proof_kernel.specs.Intro.{assuming, declaring, IsAbove};
 ghost use Rattle.proof_kernel.specs.Opened.{assuming_opened};
 ghost use Rattle.proof_kernel.specs.SequentGoalView.{goal_of};
@@ -124,6 +124,16 @@ impl Sequent {
     {
         let context = self.context.share()?;
         let goal = SequentGoal::Made(goal);
+        Ok(Sequent { context, goal })
+    }
+
+    /// The sequent without the hypothesis of the label.
+    pub(crate) fn dropping(&self, alloc: Global, label: Label2) -> Result<Sequent, NoMemory>
+        ensures { IfOk result (λ q. q ≡ dropping label self.now) }
+    {
+        let context = self.context.share()?;
+        let context = context.and(alloc, LocalEntry::Dropped(label))?;
+        let goal = self.goal.share()?;
         Ok(Sequent { context, goal })
     }
 

@@ -1,5 +1,5 @@
-use Rattle.std.proofs.Common.{◌∙◌, arith}
-use Rattle.proof_kernel.proofs.LocalLaw.{none_free_before}
+use Rattle.std.proofs.Common.{arith}
+use Rattle.proof_kernel.proofs.DroppedLaw.{not_free_before}
 use Rattle.proof_kernel.proofs.local_context.LocalContext.above.Goals as goal
 
 pub loop-entry-preserved : goal.loop-entry-preserved
@@ -7,5 +7,5 @@ loop-entry-preserved c = record {
   least = omega (arith, c.loop-entry.invariant.least, c.in_ok-most.ensures.most);
   above = λ x l free.
       c.loop-entry.invariant.above x (omega (arith, l, c.in_ok-most.ensures.most))
-      (none_free_before x c.in-Some.entry.now c.loop-entry.here.now c.in-Some.before.now c.in-Some.ensures (c.in_ok-most.ensures.above x l) ∙ free);
+      (not_free_before x c.in-Some.entry.now c.loop-entry.here.now c.in-Some.before.now c.in-Some.ensures (c.in_ok-most.ensures.above x l) free);
 }

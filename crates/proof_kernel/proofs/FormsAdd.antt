@@ -1,0 +1,103 @@
+-- What a step by the form of the goal or of hypotheses cites is there, and what it adds is its own.
+use Rattle.std.proofs.Common.{◌≡◌, ℕ, suc, Bool, true, false, cond, List, [], ◌∷◌, ◌++◌, map, Option, Some, None, refl, subst}
+use Rattle.text_core.specs.declared.name.Name.{Name}
+use Rattle.logic_term.specs.declared.kinds.Label2.{Label2}
+use Rattle.logic_term.specs.Term.{Term, truth, not}
+use Rattle.proof_kernel.specs.Sequent.{Sequent}
+use Rattle.proof_kernel.specs.declared.step.GoalRule.{GoalRule}
+use Rattle.proof_kernel.specs.declared.step.GoalRule.TheVariants.{Refl, Truth, Left, Right, Contra, ByContradiction, Iff, Antisymmetry}
+use Rattle.proof_kernel.specs.declared.step.HypothesisRule.{HypothesisRule}
+use Rattle.proof_kernel.specs.declared.step.HypothesisRule.TheVariants.{Cases, Absurd, Drop, Revert}
+use Rattle.proof_kernel.specs.declared.step.PairRule.{PairRule}
+use Rattle.proof_kernel.specs.declared.step.PairRule.TheVariants.{ModusPonens, Contradiction, Product}
+use Rattle.proof_kernel.specs.GoalRules.{is_reflexive, is_true, left_of, right_of, denied_of, to_show, refuting, to_refute, goal_rule}
+use Rattle.proof_kernel.specs.HypothesisRules.{is_false, cases_of, in_cases, on_hypothesis, hypothesis_rule}
+use Rattle.proof_kernel.specs.PairRules.{concluded, is_denied_by, distance, product, adding, on_two, pair_rule}
+use Rattle.proof_kernel.specs.Rules.{label, same_label, hypothesis, without, labelled, with_hyps, closed_if}
+use Rattle.proof_kernel.specs.Steps.{IsLabelOf}
+use Rattle.proof_kernel.proofs.Each.{Each, Has, each_and}
+use Rattle.proof_kernel.proofs.FormsFound.{same_some, one_found, both_found}
+
+-- ---- what is cited
+
+pub hypothesis_there : (s : ℕ) (q : Sequent) (ps : List Sequent) (r : HypothesisRule) (l : Label2) → hypothesis_rule r s l q ≡ Some ps → IsLabelOf q l
+hypothesis_there s q ps r l e = let f = one_found r s l q (hypothesis l q.hyps) ps e in (f.0, f.1)
+
+pub pair_there : (s : ℕ) (q : Sequent) (ps : List Sequent) (r : PairRule) (l m : Label2) → pair_rule r s l m q ≡ Some ps → IsLabelOf q l × IsLabelOf q m
+pair_there s q ps r l m e = let f = both_found r s q (hypothesis l q.hyps) (hypothesis m q.hyps) ps e in ((f.0, f.2), (f.1, f.3))
+
+-- ---- what is added
+
+-- P is so of the labels
+abbrev Labels : (Label2 → Type 0) → List (Label2 × Term) → Type 0
+Labels P hs = Each (λ (h : Label2 × Term). P h.0) hs
+
+without_each : (P : Label2 → Type 0) (l : Label2) (hs : List (Label2 × Term)) → Labels P hs → Labels P (without l hs)
+without_each P l [] e = tt
+without_each P l (h ∷ hs) e = kept (same_label l h.0) (without_each P l hs e.1)
+  where
+    kept : (b : Bool) → Labels P (without l hs) → Labels P (cond b (without l hs) (h ∷ without l hs))
+    kept true r = r
+    kept false r = (e.0, r)
+
+module _ (P : Label2 → Type 0) (N : Name → Type 0) (s : ℕ) (own : (k : ℕ) → P (label s k)) (q : Sequent) (has : Has P N q) (ps : List Sequent) where
+  labels_own : (k : ℕ) (ts : List Term) → Labels P (labelled s k ts)
+  labels_own k [] = tt
+  labels_own k (t ∷ ts) = (own k, labels_own (suc k) ts)
+
+  more_has : (ts : List Term) → Has P N (with_hyps s q ts)
+  more_has ts = (each_and (λ (h : Label2 × Term). P h.0) q.hyps (labelled s 1 ts) has.0 (labels_own 1 ts), has.1)
+
+  these_have : (rs : List Sequent) → Some rs ≡ Some ps → Each (Has P N) rs → Each (Has P N) ps
+  these_have rs e h = subst (Each (Has P N)) (same_some rs ps e) h
+
+  closed_has : (b : Bool) → closed_if b ≡ Some ps → Each (Has P N) ps
+  closed_has true e = these_have [] e tt
+  closed_has false e = absurd (cc)
+
+  to_show_has : (o : Option Term) → to_show q o ≡ Some ps → Each (Has P N) ps
+  to_show_has None e = absurd (cc)
+  to_show_has (Some t) e = these_have _ e (has, tt)
+
+  to_refute_has : (o : Option Term) → to_refute s q o ≡ Some ps → Each (Has P N) ps
+  to_refute_has None e = absurd (cc)
+  to_refute_has (Some t) e = these_have _ e (more_has (t ∷ []), tt)
+
+  pub goal_has : (r : GoalRule) → goal_rule r s q ≡ Some ps → Each (Has P N) ps
+  goal_has Refl e = closed_has (is_reflexive q.goal) e
+  goal_has Truth e = closed_has (is_true q.goal) e
+  goal_has Left e = to_show_has (left_of q.goal) e
+  goal_has Right e = to_show_has (right_of q.goal) e
+  goal_has Contra e = to_refute_has (denied_of q.goal) e
+  goal_has ByContradiction e = these_have _ e (more_has (not q.goal ∷ []), tt)
+  goal_has Iff e = absurd (cc)
+  goal_has Antisymmetry e = absurd (cc)
+
+  all_have : (tss : List (List Term)) → Each (Has P N) (map (with_hyps s q) tss)
+  all_have [] = tt
+  all_have (ts ∷ tss) = (more_has ts, all_have tss)
+
+  in_cases_has : (o : Option (List (List Term))) → in_cases s q o ≡ Some ps → Each (Has P N) ps
+  in_cases_has None e = absurd (cc)
+  in_cases_has (Some tss) e = these_have _ e (all_have tss)
+
+  one_has : (r : HypothesisRule) (l : Label2) (h : Term) → on_hypothesis r s l q h ≡ Some ps → Each (Has P N) ps
+  one_has Cases l h e = in_cases_has (cases_of h) e
+  one_has Absurd l h e = closed_has (is_false h) e
+  one_has Drop l h e = these_have _ e ((without_each P l q.hyps has.0, has.1), tt)
+  one_has Revert l h e = these_have _ e ((without_each P l q.hyps has.0, has.1), tt)
+
+  pub hypothesis_has : (r : HypothesisRule) (l : Label2) → hypothesis_rule r s l q ≡ Some ps → Each (Has P N) ps
+  hypothesis_has r l e = let f = one_found r s l q (hypothesis l q.hyps) ps e in one_has r l f.0 f.2
+
+  adding_has : (o : Option Term) → adding s q o ≡ Some ps → Each (Has P N) ps
+  adding_has None e = absurd (cc)
+  adding_has (Some t) e = these_have _ e (more_has (t ∷ []), tt)
+
+  two_have : (r : PairRule) (h k : Term) → on_two r s q h k ≡ Some ps → Each (Has P N) ps
+  two_have ModusPonens h k e = adding_has (concluded h k) e
+  two_have Contradiction h k e = closed_has (is_denied_by h k) e
+  two_have Product h k e = adding_has (product (distance h) (distance k)) e
+
+  pub pair_has : (r : PairRule) (l m : Label2) → pair_rule r s l m q ≡ Some ps → Each (Has P N) ps
+  pair_has r l m e = let f = both_found r s q (hypothesis l q.hyps) (hypothesis m q.hyps) ps e in two_have r f.0 f.1 f.4

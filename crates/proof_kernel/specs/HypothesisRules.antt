@@ -1,0 +1,68 @@
+-- What a step by the form of a hypothesis gives.
+use Rattle.std.specs.Prelude.{ℕ, Bool, true, false, List, [], ◌∷◌, ◌++◌, map, Option, Some, None}
+use Rattle.logic_term.specs.declared.kinds.Label2.{Label2}
+use Rattle.logic_term.specs.Term.{denied, both, either, implied, Term, truth, apply, no_terms, and_term, not, and, or, implies}
+use Rattle.proof_kernel.specs.Sequent.{Sequent}
+use Rattle.proof_kernel.specs.declared.step.HypothesisRule.{HypothesisRule}
+use Rattle.proof_kernel.specs.declared.step.HypothesisRule.TheVariants.{Cases, Absurd, Drop, Revert}
+use Rattle.proof_kernel.specs.Rules.{hypothesis, conjuncts, with_goal, with_hyps, dropping, closed_if}
+
+abbrev pub is_false : Term → Bool
+is_false (truth false) = true
+is_false t = false
+
+-- ---- cases
+
+abbrev pub is_disjunction : Term → Bool
+is_disjunction (apply either ts) = true
+is_disjunction t = false
+
+-- the disjuncts, at all levels
+abbrev pub disjuncts : Term → List Term
+disjuncts (apply either (and_term a (and_term b no_terms))) = disjuncts a ++ disjuncts b
+disjuncts t = t ∷ []
+
+abbrev pub alone : Term → List Term
+alone t = t ∷ []
+
+-- the denial of the formula, pushed inward by one level
+abbrev pub pushed : Term → Option Term
+pushed (apply both (and_term a (and_term b no_terms))) = Some (or (not a) (not b))
+pushed (apply either (and_term a (and_term b no_terms))) = Some (and (not a) (not b))
+pushed (apply implied (and_term a (and_term b no_terms))) = Some (and a (not b))
+pushed (apply denied (and_term a no_terms)) = Some a
+pushed t = None
+
+-- one case, of this formula alone
+abbrev pub one_case : Option Term → Option (List (List Term))
+one_case None = None
+one_case (Some t) = Some (alone t ∷ [])
+
+-- the formulas of each case, by the form of what is taken apart; one case at least is so where that is true
+abbrev pub cases_of : Term → Option (List (List Term))
+cases_of (apply both (and_term a (and_term b no_terms))) = Some ((conjuncts a ++ conjuncts b) ∷ [])
+cases_of (apply either (and_term a (and_term b no_terms))) = Some (map alone (disjuncts a ++ disjuncts b))
+cases_of (apply implied (and_term a (and_term b no_terms))) = Some (alone (not a) ∷ alone b ∷ [])
+cases_of (apply denied (and_term a no_terms)) = one_case (pushed a)
+cases_of t = None
+
+-- a premise for each case
+abbrev pub in_cases : ℕ → Sequent → Option (List (List Term)) → Option (List Sequent)
+in_cases s q None = None
+in_cases s q (Some cases) = Some (map (with_hyps s q) cases)
+
+-- ---- what step s gives
+
+-- by the rule on the hypothesis h of the label l
+abbrev pub on_hypothesis : HypothesisRule → ℕ → Label2 → Sequent → Term → Option (List Sequent)
+on_hypothesis Cases s l q h = in_cases s q (cases_of h)
+on_hypothesis Absurd s l q h = closed_if (is_false h)
+on_hypothesis Drop s l q h = Some (dropping l q ∷ [])
+on_hypothesis Revert s l q h = Some (with_goal (dropping l q) (implies h q.goal) ∷ [])
+
+abbrev pub if_there : HypothesisRule → ℕ → Label2 → Sequent → Option Term → Option (List Sequent)
+if_there r s l q None = None
+if_there r s l q (Some h) = on_hypothesis r s l q h
+
+abbrev pub hypothesis_rule : HypothesisRule → ℕ → Label2 → Sequent → Option (List Sequent)
+hypothesis_rule r s l q = if_there r s l q (hypothesis l q.hyps)

@@ -1,0 +1,145 @@
+//! The rules by the form of the goal.
+ghost use Rattle.std.specs.Prelude.{◌≡◌, ◌∷◌, [], IfOk};
+ghost use Rattle.std.specs.Option.{option_copied};
+ghost use Rattle.proof_kernel.specs.GoalRules.{is_reflexive, is_true, left_of, right_of, denied_of, to_show, refuting, to_refute, goal_rule};
+ghost use Rattle.proof_kernel.specs.Rules.{Finds};
+ghost use Rattle.proof_kernel.specs.declared.step.GoalRule.TheVariants as rules;
+
+use crate::rules::{are_same, closed_if, one_premise, with_hypothesis};
+use crate::sequent::Sequent;
+use crate::step::GoalRule;
+use logic_term::{Term, TermBinary, TermForm, TermUnary};
+use std::alloc::Global;
+use text_core::NoMemory;
+
+// ---- forms
+
+/// Whether the formula is an equation of a term with itself, up to bound names.
+fn is_reflexive(alloc: Global, t: &Term) -> Result<bool, NoMemory>
+    ensures { IfOk result (λ b. b ≡ is_reflexive t.now) }
+{
+    match t.form() {
+        TermForm::Binary(TermBinary::Equal, a, b) => are_same(alloc, a, b),
+        _ => Ok(false),
+    }
+}
+
+fn is_true(t: &Term) -> bool
+    ensures { result ≡ is_true t.now }
+{
+    match t.form() {
+        TermForm::Truth(holds) => holds,
+        _ => false,
+    }
+}
+
+fn left_of(t: &Term) -> Option<&Term>
+    ensures { option_copied result ≡ left_of t.now }
+{
+    match t.form() {
+        TermForm::Binary(TermBinary::Or, a, _) => Some(a),
+        _ => None,
+    }
+}
+
+fn right_of(t: &Term) -> Option<&Term>
+    ensures { option_copied result ≡ right_of t.now }
+{
+    match t.form() {
+        TermForm::Binary(TermBinary::Or, _, b) => Some(b),
+        _ => None,
+    }
+}
+
+/// What the formula denies.
+fn denied_of(t: &Term) -> Option<&Term>
+    ensures { option_copied result ≡ denied_of t.now }
+{
+    match t.form() {
+        TermForm::Unary(TermUnary::Not, a) => Some(a),
+        _ => None,
+    }
+}
+
+// ---- premises
+
+fn to_show(
+    alloc: Global,
+    q: &Sequent,
+    goal: Option<&Term>,
+) -> Result<Option<Vec<Sequent>>, NoMemory>
+    ensures { IfOk result (λ o. Finds (to_show q.now (option_copied goal.entry)) o) }
+{
+    match goal {
+        None => Ok(None),
+        Some(goal) => {
+            let premise = q.with_goal(goal.share()?)?;
+            let premises = one_premise(alloc, premise)?;
+            Ok(Some(premises))
+        }
+    }
+}
+
+/// The premise with the hypothesis and the goal `false`.
+fn refuting(alloc: Global, step: u32, q: &Sequent, hyp: Term) -> Result<Vec<Sequent>, NoMemory>
+    ensures { IfOk result (λ v. v.items ≡ refuting step q.now hyp ∷ []) }
+{
+    let q = with_hypothesis(alloc, step, q, hyp)?;
+    let goal = Term::truth(alloc, false)?;
+    let premise = q.with_goal(goal)?;
+    one_premise(alloc, premise)
+}
+
+fn to_refute(
+    alloc: Global,
+    step: u32,
+    q: &Sequent,
+    hyp: Option<&Term>,
+) -> Result<Option<Vec<Sequent>>, NoMemory>
+    ensures { IfOk result (λ o. Finds (to_refute step q.now (option_copied hyp.entry)) o) }
+{
+    match hyp {
+        None => Ok(None),
+        Some(hyp) => {
+            let premises = refuting(alloc, step, q, hyp.share()?)?;
+            Ok(Some(premises))
+        }
+    }
+}
+
+// ---- the rules
+
+fn by_contradiction(
+    alloc: Global,
+    step: u32,
+    q: &Sequent,
+    goal: &Term,
+) -> Result<Option<Vec<Sequent>>, NoMemory>
+    requires { goal.now ≡ q.now.goal }
+    ensures { IfOk result (λ o. Finds (goal_rule rules.ByContradiction step q.now) o) }
+{
+    let hyp = Term::not(alloc, goal.share()?)?;
+    let premises = refuting(alloc, step, q, hyp)?;
+    Ok(Some(premises))
+}
+
+/// The premises of step `step`; `None` exactly where the rule does not apply.
+pub fn goal_rule(
+    alloc: Global,
+    rule: GoalRule,
+    step: u32,
+    q: &Sequent,
+) -> Result<Option<Vec<Sequent>>, NoMemory>
+    ensures { IfOk result (λ o. Finds (goal_rule rule step q.now) o) }
+{
+    let goal = q.goal(alloc)?;
+    match rule {
+        GoalRule::Refl => Ok(closed_if(alloc, is_reflexive(alloc, &goal)?)),
+        GoalRule::Truth => Ok(closed_if(alloc, is_true(&goal))),
+        GoalRule::Left => to_show(alloc, q, left_of(&goal)),
+        GoalRule::Right => to_show(alloc, q, right_of(&goal)),
+        GoalRule::Contra => to_refute(alloc, step, q, denied_of(&goal)),
+        GoalRule::ByContradiction => by_contradiction(alloc, step, q, &goal),
+        GoalRule::Iff | GoalRule::Antisymmetry => Ok(None),
+    }
+}

@@ -1,0 +1,231 @@
+//! The rules by the form of one hypothesis.
+ghost use Rattle.std.specs.Prelude.{◌≡◌, ◌∷◌, [], IfOk, MatchOption, map, false};
+ghost use Rattle.logic_term.specs.Term.{not, and, or, implies};
+ghost use Rattle.proof_kernel.specs.HypothesisRules.{is_false, disjuncts, is_disjunction, alone, pushed, one_case, cases_of, in_cases, on_hypothesis, hypothesis_rule};
+ghost use Rattle.proof_kernel.specs.Rules.{conjuncts, dropping, with_goal, with_hyps, Finds};
+
+use crate::rules::{closed_if, conjuncts_of, one_premise, with_hypotheses, with_hypothesis};
+use crate::sequent::Sequent;
+use crate::step::HypothesisRule;
+use logic_term::{Label2, Term, TermBinary, TermForm, TermUnary};
+use std::alloc::Global;
+use text_core::NoMemory;
+
+fn is_false(t: &Term) -> bool
+    ensures { result ≡ is_false t.now }
+{
+    match t.form() {
+        TermForm::Truth(holds) => !holds,
+        _ => false,
+    }
+}
+
+// ---- cases
+
+/// Both sides of a disjunction.
+fn as_disjunction(t: &Term) -> Option<(&Term, &Term)>
+    ensures { MatchOption result (is_disjunction t.now ≡ false) (λ p. t.now ≡ or p.0.now p.1.now) }
+{
+    match t.form() {
+        TermForm::Binary(TermBinary::Or, a, b) => Some((a, b)),
+        _ => None,
+    }
+}
+
+/// The disjuncts of the term, at all levels. They may be in one another by the thousand.
+fn disjuncts_of(alloc: Global, t: &Term) -> Result<Vec<Term>, NoMemory>
+    ensures { IfOk result (λ v. v.items ≡ disjuncts t.now) }
+{
+    let mut all = Vec::new(alloc);
+    let mut left = Vec::new(alloc);
+    left.push(t)?;
+    while let Some(next) = left.pop() {
+        match as_disjunction(next) {
+            Some((a, b)) => {
+                left.push(b)?;
+                left.push(a)?;
+            }
+            None => all.push(next.share()?)?,
+        }
+    }
+    Ok(all)
+}
+
+/// A premise for each formula, which is its hypothesis.
+fn with_each(alloc: Global, step: u32, q: &Sequent, hyps: &[Term]) -> Result<Vec<Sequent>, NoMemory>
+    ensures { IfOk result (λ v. v.items ≡ map (with_hyps step q.now) (map alone hyps.now)) }
+{
+    let mut premises = Vec::with_capacity(alloc, hyps.len())?;
+    for i in 0..hyps.len() {
+        let hyp = hyps[i].share()?;
+        premises.push(with_hypothesis(alloc, step, q, hyp)?)?;
+    }
+    Ok(premises)
+}
+
+fn denied(alloc: Global, t: &Term) -> Result<Term, NoMemory>
+    ensures { IfOk result (λ d. d ≡ not t.now) }
+{
+    let t = t.share()?;
+    Term::not(alloc, t)
+}
+
+/// `!a || !b`
+fn either_denied(alloc: Global, a: &Term, b: &Term) -> Result<Term, NoMemory>
+    ensures { IfOk result (λ t. t ≡ or (not a.now) (not b.now)) }
+{
+    let a = denied(alloc, a)?;
+    let b = denied(alloc, b)?;
+    Term::or(alloc, a, b)
+}
+
+/// `!a && !b`
+fn both_denied(alloc: Global, a: &Term, b: &Term) -> Result<Term, NoMemory>
+    ensures { IfOk result (λ t. t ≡ and (not a.now) (not b.now)) }
+{
+    let a = denied(alloc, a)?;
+    let b = denied(alloc, b)?;
+    Term::and(alloc, a, b)
+}
+
+/// `a && !b`
+fn second_denied(alloc: Global, a: &Term, b: &Term) -> Result<Term, NoMemory>
+    ensures { IfOk result (λ t. t ≡ and a.now (not b.now)) }
+{
+    let a = a.share()?;
+    let b = denied(alloc, b)?;
+    Term::and(alloc, a, b)
+}
+
+/// The denial of the formula, pushed inward by one level.
+fn pushed(alloc: Global, t: &Term) -> Result<Option<Term>, NoMemory>
+    ensures { IfOk result (λ o. o ≡ pushed t.now) }
+{
+    match t.form() {
+        TermForm::Binary(TermBinary::And, a, b) => Ok(Some(either_denied(alloc, a, b)?)),
+        TermForm::Binary(TermBinary::Or, a, b) => Ok(Some(both_denied(alloc, a, b)?)),
+        TermForm::Binary(TermBinary::Implies, a, b) => Ok(Some(second_denied(alloc, a, b)?)),
+        TermForm::Unary(TermUnary::Not, a) => Ok(Some(a.share()?)),
+        _ => Ok(None),
+    }
+}
+
+fn in_one_case(
+    alloc: Global,
+    step: u32,
+    q: &Sequent,
+    hyp: Option<Term>,
+) -> Result<Option<Vec<Sequent>>, NoMemory>
+    ensures { IfOk result (λ o. Finds (in_cases step q.now (one_case hyp)) o) }
+{
+    match hyp {
+        None => Ok(None),
+        Some(hyp) => {
+            let premise = with_hypothesis(alloc, step, q, hyp)?;
+            let premises = one_premise(alloc, premise)?;
+            Ok(Some(premises))
+        }
+    }
+}
+
+/// One premise, with all conjuncts.
+fn by_conjuncts(alloc: Global, step: u32, q: &Sequent, t: &Term) -> Result<Vec<Sequent>, NoMemory>
+    ensures { IfOk result (λ v. v.items ≡ map (with_hyps step q.now) (conjuncts t.now ∷ [])) }
+{
+    let hyps = conjuncts_of(alloc, t)?;
+    let premise = with_hypotheses(alloc, step, q, hyps.as_slice())?;
+    one_premise(alloc, premise)
+}
+
+/// A premise for each disjunct.
+fn by_disjuncts(alloc: Global, step: u32, q: &Sequent, t: &Term) -> Result<Vec<Sequent>, NoMemory>
+    ensures { IfOk result (λ v. v.items ≡ map (with_hyps step q.now) (map alone (disjuncts t.now))) }
+{
+    let hyps = disjuncts_of(alloc, t)?;
+    with_each(alloc, step, q, hyps.as_slice())
+}
+
+/// The premise is false, or the conclusion is true.
+fn by_implication(
+    alloc: Global,
+    step: u32,
+    q: &Sequent,
+    premise: &Term,
+    conclusion: &Term,
+) -> Result<Vec<Sequent>, NoMemory>
+    ensures { IfOk result (λ v. v.items ≡ map (with_hyps step q.now) (alone (not premise.now) ∷ alone conclusion.now ∷ [])) }
+{
+    let mut hyps = Vec::with_capacity(alloc, 2)?;
+    hyps.push(denied(alloc, premise)?)?;
+    hyps.push(conclusion.share()?)?;
+    with_each(alloc, step, q, hyps.as_slice())
+}
+
+/// A premise for each case of the hypothesis.
+fn cases(alloc: Global, step: u32, q: &Sequent, h: &Term) -> Result<Option<Vec<Sequent>>, NoMemory>
+    ensures { IfOk result (λ o. Finds (in_cases step q.now (cases_of h.now)) o) }
+{
+    match h.form() {
+        TermForm::Binary(TermBinary::And, _, _) => Ok(Some(by_conjuncts(alloc, step, q, h)?)),
+        TermForm::Binary(TermBinary::Or, _, _) => Ok(Some(by_disjuncts(alloc, step, q, h)?)),
+        TermForm::Binary(TermBinary::Implies, a, b) => {
+            Ok(Some(by_implication(alloc, step, q, a, b)?))
+        }
+        TermForm::Unary(TermUnary::Not, a) => in_one_case(alloc, step, q, pushed(alloc, a)?),
+        _ => Ok(None),
+    }
+}
+
+// ---- the rules
+
+fn dropping(alloc: Global, label: Label2, q: &Sequent) -> Result<Vec<Sequent>, NoMemory>
+    ensures { IfOk result (λ v. v.items ≡ dropping label q.now ∷ []) }
+{
+    let premise = q.dropping(alloc, label)?;
+    one_premise(alloc, premise)
+}
+
+/// The premise without the hypothesis, which stands before the goal.
+fn reverting(alloc: Global, label: Label2, q: &Sequent, h: &Term) -> Result<Vec<Sequent>, NoMemory>
+    ensures { IfOk result (λ v. v.items ≡ with_goal (dropping label q.now) (implies h.now q.now.goal) ∷ []) }
+{
+    let goal = q.goal(alloc)?;
+    let goal = Term::implies(alloc, h.share()?, goal)?;
+    let premise = q.dropping(alloc, label)?;
+    let premise = premise.with_goal(goal)?;
+    one_premise(alloc, premise)
+}
+
+fn on_hypothesis(
+    alloc: Global,
+    rule: HypothesisRule,
+    step: u32,
+    label: Label2,
+    q: &Sequent,
+    h: &Term,
+) -> Result<Option<Vec<Sequent>>, NoMemory>
+    ensures { IfOk result (λ o. Finds (on_hypothesis rule step label q.now h.now) o) }
+{
+    match rule {
+        HypothesisRule::Cases => cases(alloc, step, q, h),
+        HypothesisRule::Absurd => Ok(closed_if(alloc, is_false(h))),
+        HypothesisRule::Drop => Ok(Some(dropping(alloc, label, q)?)),
+        HypothesisRule::Revert => Ok(Some(reverting(alloc, label, q, h)?)),
+    }
+}
+
+/// The premises of step `step`; `None` exactly where there is no hypothesis of the label, or the rule does not apply to it.
+pub fn hypothesis_rule(
+    alloc: Global,
+    rule: HypothesisRule,
+    step: u32,
+    label: Label2,
+    q: &Sequent,
+) -> Result<Option<Vec<Sequent>>, NoMemory>
+    ensures { IfOk result (λ o. Finds (hypothesis_rule rule step label q.now) o) }
+{
+    match q.hypothesis(alloc, label)? {
+        None => Ok(None),
+        Some(h) => on_hypothesis(alloc, rule, step, label, q, &h),
+    }
+}
