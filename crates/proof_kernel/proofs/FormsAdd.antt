@@ -10,10 +10,10 @@ use Rattle.proof_kernel.specs.declared.step.HypothesisRule.{HypothesisRule}
 use Rattle.proof_kernel.specs.declared.step.HypothesisRule.TheVariants.{Cases, Absurd, Drop, Revert}
 use Rattle.proof_kernel.specs.declared.step.PairRule.{PairRule}
 use Rattle.proof_kernel.specs.declared.step.PairRule.TheVariants.{ModusPonens, Contradiction, Product}
-use Rattle.proof_kernel.specs.GoalRules.{is_reflexive, is_true, left_of, right_of, denied_of, to_show, refuting, to_refute, goal_rule}
+use Rattle.proof_kernel.specs.GoalRules.{is_reflexive, is_true, left_of, right_of, denied_of, both_ways, both_orders, to_show, to_show_all, refuting, to_refute, goal_rule}
 use Rattle.proof_kernel.specs.HypothesisRules.{is_false, cases_of, in_cases, on_hypothesis, hypothesis_rule}
 use Rattle.proof_kernel.specs.PairRules.{concluded, is_denied_by, distance, product, adding, on_two, pair_rule}
-use Rattle.proof_kernel.specs.Rules.{label, same_label, hypothesis, without, labelled, with_hyps, closed_if}
+use Rattle.proof_kernel.specs.Rules.{label, same_label, hypothesis, without, labelled, with_goal, with_hyps, closed_if}
 use Rattle.proof_kernel.specs.Steps.{IsLabelOf}
 use Rattle.proof_kernel.proofs.Each.{Each, Has, each_and}
 use Rattle.proof_kernel.proofs.FormsFound.{same_some, one_found, both_found}
@@ -59,6 +59,14 @@ module _ (P : Label2 → Type 0) (N : Name → Type 0) (s : ℕ) (own : (k : ℕ
   to_show_has None e = absurd (cc)
   to_show_has (Some t) e = these_have _ e (has, tt)
 
+  each_goal_has : (ts : List Term) → Each (Has P N) (map (with_goal q) ts)
+  each_goal_has [] = tt
+  each_goal_has (t ∷ ts) = (has, each_goal_has ts)
+
+  to_show_all_has : (o : Option (List Term)) → to_show_all q o ≡ Some ps → Each (Has P N) ps
+  to_show_all_has None e = absurd (cc)
+  to_show_all_has (Some ts) e = these_have _ e (each_goal_has ts)
+
   to_refute_has : (o : Option Term) → to_refute s q o ≡ Some ps → Each (Has P N) ps
   to_refute_has None e = absurd (cc)
   to_refute_has (Some t) e = these_have _ e (more_has (t ∷ []), tt)
@@ -70,8 +78,8 @@ module _ (P : Label2 → Type 0) (N : Name → Type 0) (s : ℕ) (own : (k : ℕ
   goal_has Right e = to_show_has (right_of q.goal) e
   goal_has Contra e = to_refute_has (denied_of q.goal) e
   goal_has ByContradiction e = these_have _ e (more_has (not q.goal ∷ []), tt)
-  goal_has Iff e = absurd (cc)
-  goal_has Antisymmetry e = absurd (cc)
+  goal_has Iff e = to_show_all_has (both_ways q.vars q.goal) e
+  goal_has Antisymmetry e = to_show_all_has (both_orders q.vars q.goal) e
 
   all_have : (tss : List (List Term)) → Each (Has P N) (map (with_hyps s q) tss)
   all_have [] = tt
@@ -82,7 +90,7 @@ module _ (P : Label2 → Type 0) (N : Name → Type 0) (s : ℕ) (own : (k : ℕ
   in_cases_has (Some tss) e = these_have _ e (all_have tss)
 
   one_has : (r : HypothesisRule) (l : Label2) (h : Term) → on_hypothesis r s l q h ≡ Some ps → Each (Has P N) ps
-  one_has Cases l h e = in_cases_has (cases_of h) e
+  one_has Cases l h e = in_cases_has (cases_of q.vars h) e
   one_has Absurd l h e = closed_has (is_false h) e
   one_has Drop l h e = these_have _ e ((without_each P l q.hyps has.0, has.1), tt)
   one_has Revert l h e = these_have _ e ((without_each P l q.hyps has.0, has.1), tt)

@@ -1,5 +1,5 @@
 -- What a step by the form of hypotheses finds.
-use Rattle.std.proofs.Common.{◌≡◌, ℕ, List, Option, Some, None, refl}
+use Rattle.std.proofs.Common.{◌≡◌, ℕ, Bool, true, false, cond, List, Option, Some, None, refl}
 use Rattle.logic_term.specs.declared.kinds.Label2.{Label2}
 use Rattle.logic_term.specs.Term.{Term}
 use Rattle.proof_kernel.specs.Sequent.{Sequent}
@@ -10,6 +10,10 @@ use Rattle.proof_kernel.specs.PairRules.{on_two, if_both_there}
 
 pub same_some : {A : Type 0} (x y : A) → Some x ≡ Some y → x ≡ y
 same_some x y e = cc
+
+pub picked : {A : Type 0} (b : Bool) (x y : A) → cond b (Some x) None ≡ Some y → (b ≡ true) × (x ≡ y)
+picked true x y e = (refl, same_some x y e)
+picked false x y e = absurd (cc)
 
 pub one_found : (r : HypothesisRule) (s : ℕ) (l : Label2) (q : Sequent) (o : Option Term) (ps : List Sequent) → if_there r s l q o ≡ Some ps
     → (h : Term) × (o ≡ Some h) × (on_hypothesis r s l q h ≡ Some ps)

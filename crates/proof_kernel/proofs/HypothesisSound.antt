@@ -1,17 +1,21 @@
 -- The rules by the form of a hypothesis are sound.
 use Rattle.std.proofs.Common.{◌≡◌, ℕ, suc, Bool, true, false, cond, List, [], ◌∷◌, ◌++◌, map, Option, Some, None, refl, sym, subst}
+use Rattle.text_core.specs.declared.name.Name.{Name}
 use Rattle.logic_term.specs.declared.kinds.Label2.{Label2}
-use Rattle.logic_term.specs.Term.{denied, both, either, implied, Term, truth, apply, no_terms, and_term, not, and, or}
+use Rattle.logic_term.specs.Ty.{Ty}
+use Rattle.logic_term.specs.Term.{denied, equal, both, either, implied, Term, truth, apply, no_terms, and_term, not, and, or}
 use Rattle.logic_term.specs.Meaning.{Structure, Env, Holds}
 use Rattle.logic_term.proofs.Truth.{holds_false, holds_not, holds_and, holds_or, holds_implies}
 use Rattle.proof_kernel.specs.Sequent.{Sequent, InSorts, AllHold, IsTrueAt, AllTrueAt}
 use Rattle.proof_kernel.specs.declared.step.HypothesisRule.{HypothesisRule}
 use Rattle.proof_kernel.specs.declared.step.HypothesisRule.TheVariants.{Cases, Absurd, Drop, Revert}
-use Rattle.proof_kernel.specs.HypothesisRules.{is_false, disjuncts, alone, pushed, one_case, cases_of, in_cases, on_hypothesis, hypothesis_rule}
+use Rattle.proof_kernel.specs.HypothesisRules.{is_false, disjuncts, alone, pushed, one_case, value_cases, denied_cases, cases_of, in_cases, on_hypothesis, hypothesis_rule}
 use Rattle.proof_kernel.specs.Rules.{same_label, hypothesis, without, labelled, with_hyps, conjuncts}
-use Rattle.proof_kernel.proofs.FormsFound.{same_some, one_found}
+use Rattle.proof_kernel.specs.SortTests.{are_formulas}
+use Rattle.proof_kernel.proofs.FormsFound.{same_some, picked, one_found}
 use Rattle.proof_kernel.proofs.GoalSound.{these_true, is_closed}
 use Rattle.proof_kernel.proofs.Sound.{held, hyps_more}
+use Rattle.proof_kernel.proofs.SortValue.{equal_agree, unequal_differ}
 
 module _ (S : Structure) where
   without_hold : (l : Label2) (hs : List (Label2 × Term)) (ρ : Env) → AllHold S hs ρ → AllHold S (without l hs) ρ
@@ -78,18 +82,30 @@ module _ (S : Structure) where
   one_case_fails None tss ρ e f n = absurd (cc)
   one_case_fails (Some t) tss ρ e f n = (subst (λ (c : List (List Term)). NoCase c ρ) (sym (same_some _ tss e)) n).0 (f t refl, tt)
 
-  -- a true formula has a case
-  some_case : (t : Term) (tss : List (List Term)) (ρ : Env) → cases_of t ≡ Some tss → Holds S t ρ → NoCase tss ρ → ⊥
-  some_case (apply both (and_term a (and_term b no_terms))) tss ρ e h n =
-      (subst (λ (c : List (List Term)). NoCase c ρ) (sym (same_some _ tss e)) n).0 (conjuncts_hold (and a b) ρ h)
-  some_case (apply either (and_term a (and_term b no_terms))) tss ρ e h n =
-      disjuncts_fail (or a b) ρ (subst (λ (c : List (List Term)). NoCase c ρ) (sym (same_some _ tss e)) n) h
-  some_case (apply implied (and_term a (and_term b no_terms))) tss ρ e h n =
-      let p = subst (λ (c : List (List Term)). NoCase c ρ) (sym (same_some _ tss e)) n in
-      p.0 ((holds_not S a ρ).1 (λ g. p.1.0 ((holds_implies S a b ρ).0 h g, tt)), tt)
-  some_case (apply denied (and_term a no_terms)) tss ρ e h n =
-      one_case_fails (pushed a) tss ρ e (λ u f. pushed_holds a u ρ f ((holds_not S a ρ).0 h)) n
-  some_case t tss ρ e h n = absurd (cc)
+  module _ (vars : List (Name × Ty)) (ρ : Env) (z : InSorts S vars ρ) where
+    chosen : (tss us : List (List Term)) (b : Bool) → cond b (Some us) None ≡ Some tss → NoCase tss ρ → (b ≡ true) × NoCase us ρ
+    chosen tss us b e n = let p = picked b us tss e in (p.0, subst (λ (c : List (List Term)). NoCase c ρ) (sym p.1) n)
+
+    denied_case : (t : Term) (tss : List (List Term)) → denied_cases vars t ≡ Some tss → (Holds S t ρ → ⊥) → NoCase tss ρ → ⊥
+    denied_case (apply equal (and_term a (and_term b no_terms))) tss e d n =
+        let p = chosen tss (value_cases false a b) (are_formulas vars a b) e n in
+        unequal_differ S vars ρ z a b p.0 d (λ h g. p.1.0 (h, (g, tt))) (λ h g. p.1.1.0 (h, (g, tt)))
+    denied_case t tss e d n = one_case_fails (pushed t) tss ρ e (λ u f. pushed_holds t u ρ f d) n
+
+    -- a true formula has a case
+    some_case : (t : Term) (tss : List (List Term)) → cases_of vars t ≡ Some tss → Holds S t ρ → NoCase tss ρ → ⊥
+    some_case (apply both (and_term a (and_term b no_terms))) tss e h n =
+        (subst (λ (c : List (List Term)). NoCase c ρ) (sym (same_some _ tss e)) n).0 (conjuncts_hold (and a b) ρ h)
+    some_case (apply either (and_term a (and_term b no_terms))) tss e h n =
+        disjuncts_fail (or a b) ρ (subst (λ (c : List (List Term)). NoCase c ρ) (sym (same_some _ tss e)) n) h
+    some_case (apply implied (and_term a (and_term b no_terms))) tss e h n =
+        let p = subst (λ (c : List (List Term)). NoCase c ρ) (sym (same_some _ tss e)) n in
+        p.0 ((holds_not S a ρ).1 (λ g. p.1.0 ((holds_implies S a b ρ).0 h g, tt)), tt)
+    some_case (apply equal (and_term a (and_term b no_terms))) tss e h n =
+        let p = chosen tss (value_cases true a b) (are_formulas vars a b) e n in
+        equal_agree S vars ρ z a b p.0 h (λ f g. p.1.0 (f, (g, tt))) (λ f g. p.1.1.0 (f, (g, tt)))
+    some_case (apply denied (and_term a no_terms)) tss e h n = denied_case a tss e ((holds_not S a ρ).0 h) n
+    some_case t tss e h n = absurd (cc)
 
   module _ (s : ℕ) (q : Sequent) (ps : List Sequent) (h : AllTrueAt S ps) where
     -- where the goal is false, no case is so
@@ -97,12 +113,12 @@ module _ (S : Structure) where
     no_case [] ρ g z k n = tt
     no_case (ts ∷ tss) ρ g z k n = ((λ t. n (g.0 ρ z (hyps_more S q.hyps _ ρ k (labelled_hold s 1 ts ρ t)))), no_case tss ρ g.1 z k n)
 
-    cases_sound : (o : Option (List (List Term))) (t : Term) → cases_of t ≡ o → in_cases s q o ≡ Some ps → (ρ : Env) → InSorts S q.vars ρ → AllHold S q.hyps ρ → Holds S t ρ → Holds S q.goal ρ
+    cases_sound : (o : Option (List (List Term))) (t : Term) → cases_of q.vars t ≡ o → in_cases s q o ≡ Some ps → (ρ : Env) → InSorts S q.vars ρ → AllHold S q.hyps ρ → Holds S t ρ → Holds S q.goal ρ
     cases_sound None t c e ρ z k g = absurd (cc)
-    cases_sound (Some tss) t c e ρ z k g = λ n. some_case t tss ρ c g (no_case tss ρ (these_true S _ ps e h) z k (λ f. f n))
+    cases_sound (Some tss) t c e ρ z k g = λ n. some_case q.vars ρ z t tss c g (no_case tss ρ (these_true S _ ps e h) z k (λ f. f n))
 
     one_sound : (r : HypothesisRule) (l : Label2) (t : Term) → on_hypothesis r s l q t ≡ Some ps → (ρ : Env) → InSorts S q.vars ρ → AllHold S q.hyps ρ → Holds S t ρ → Holds S q.goal ρ
-    one_sound Cases l t e ρ z k g = cases_sound (cases_of t) t refl e ρ z k g
+    one_sound Cases l t e ρ z k g = cases_sound (cases_of q.vars t) t refl e ρ z k g
     one_sound Absurd l t e ρ z k g = absurd (false_fails t ρ (is_closed (is_false t) ps e) g)
     one_sound Drop l t e ρ z k g = (these_true S _ ps e h).0 ρ z (without_hold l q.hyps ρ k)
     one_sound Revert l t e ρ z k g = (holds_implies S t q.goal ρ).0 ((these_true S _ ps e h).0 ρ z (without_hold l q.hyps ρ k)) g

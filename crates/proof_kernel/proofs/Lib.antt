@@ -36,5 +36,6 @@ pub mod Operands
 pub mod PairSound
 pub mod PolynomialSteps
 pub mod PolynomialValue
+pub mod SortValue
 pub mod Sound
 pub mod Taken

@@ -17,14 +17,10 @@ use Rattle.proof_kernel.specs.declared.step.PairRule.{PairRule}
 use Rattle.proof_kernel.specs.declared.step.PairRule.TheVariants.{ModusPonens, Contradiction, Product}
 use Rattle.proof_kernel.specs.PairRules.{concluded, is_denied_by, distance, product, adding, on_two, pair_rule}
 use Rattle.proof_kernel.specs.Rules.{same_up_to_names, hypothesis}
-use Rattle.proof_kernel.proofs.FormsFound.{same_some, both_found}
+use Rattle.proof_kernel.proofs.FormsFound.{same_some, picked, both_found}
 use Rattle.proof_kernel.proofs.GoalSound.{same_names, these_true, is_closed}
 use Rattle.proof_kernel.proofs.LinearSound.{exact, true_at_most, at_most_is, times_not_negative}
 use Rattle.proof_kernel.proofs.Sound.{held, hyps_more}
-
-picked : (b : Bool) (t u : Term) → cond b (Some t) None ≡ Some u → (b ≡ true) × (t ≡ u)
-picked true t u e = (refl, same_some t u e)
-picked false t u e = absurd (cc)
 
 rises : (x y : ℤ) → x ≤ℤ y → pos 0 ≤ℤ (y -ℤ x)
 rises x y l = omega (arith, ints)

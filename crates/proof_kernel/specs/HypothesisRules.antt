@@ -1,10 +1,13 @@
 -- What a step by the form of a hypothesis gives.
-use Rattle.std.specs.Prelude.{ℕ, Bool, true, false, List, [], ◌∷◌, ◌++◌, map, Option, Some, None}
+use Rattle.std.specs.Prelude.{ℕ, Bool, true, false, List, [], ◌∷◌, ◌++◌, map, Option, Some, None, if◌then◌else◌}
+use Rattle.text_core.specs.declared.name.Name.{Name}
 use Rattle.logic_term.specs.declared.kinds.Label2.{Label2}
-use Rattle.logic_term.specs.Term.{denied, both, either, implied, Term, truth, apply, no_terms, and_term, not, and, or, implies}
+use Rattle.logic_term.specs.Ty.{Ty}
+use Rattle.logic_term.specs.Term.{denied, equal, both, either, implied, Term, truth, apply, no_terms, and_term, not, and, or, implies}
 use Rattle.proof_kernel.specs.Sequent.{Sequent}
 use Rattle.proof_kernel.specs.declared.step.HypothesisRule.{HypothesisRule}
 use Rattle.proof_kernel.specs.declared.step.HypothesisRule.TheVariants.{Cases, Absurd, Drop, Revert}
+use Rattle.proof_kernel.specs.SortTests.{are_formulas}
 use Rattle.proof_kernel.specs.Rules.{hypothesis, conjuncts, with_goal, with_hyps, dropping, closed_if}
 
 abbrev pub is_false : Term → Bool
@@ -38,13 +41,27 @@ abbrev pub one_case : Option Term → Option (List (List Term))
 one_case None = None
 one_case (Some t) = Some (alone t ∷ [])
 
+-- both formulas are true or both are false; or just one of them is true
+abbrev pub value_cases : Bool → Term → Term → List (List Term)
+value_cases true a b = (a ∷ b ∷ []) ∷ (not a ∷ not b ∷ []) ∷ []
+value_cases false a b = (a ∷ not b ∷ []) ∷ (not a ∷ b ∷ []) ∷ []
+
+abbrev pub if_formulas : List (Name × Ty) → Bool → Term → Term → Option (List (List Term))
+if_formulas vars same a b = if are_formulas vars a b then Some (value_cases same a b) else None
+
+-- the cases of a denial
+abbrev pub denied_cases : List (Name × Ty) → Term → Option (List (List Term))
+denied_cases vars (apply equal (and_term a (and_term b no_terms))) = if_formulas vars false a b
+denied_cases vars t = one_case (pushed t)
+
 -- the formulas of each case, by the form of what is taken apart; one case at least is so where that is true
-abbrev pub cases_of : Term → Option (List (List Term))
-cases_of (apply both (and_term a (and_term b no_terms))) = Some ((conjuncts a ++ conjuncts b) ∷ [])
-cases_of (apply either (and_term a (and_term b no_terms))) = Some (map alone (disjuncts a ++ disjuncts b))
-cases_of (apply implied (and_term a (and_term b no_terms))) = Some (alone (not a) ∷ alone b ∷ [])
-cases_of (apply denied (and_term a no_terms)) = one_case (pushed a)
-cases_of t = None
+abbrev pub cases_of : List (Name × Ty) → Term → Option (List (List Term))
+cases_of vars (apply both (and_term a (and_term b no_terms))) = Some ((conjuncts a ++ conjuncts b) ∷ [])
+cases_of vars (apply either (and_term a (and_term b no_terms))) = Some (map alone (disjuncts a ++ disjuncts b))
+cases_of vars (apply implied (and_term a (and_term b no_terms))) = Some (alone (not a) ∷ alone b ∷ [])
+cases_of vars (apply equal (and_term a (and_term b no_terms))) = if_formulas vars true a b
+cases_of vars (apply denied (and_term a no_terms)) = denied_cases vars a
+cases_of vars t = None
 
 -- a premise for each case
 abbrev pub in_cases : ℕ → Sequent → Option (List (List Term)) → Option (List Sequent)
@@ -55,7 +72,7 @@ in_cases s q (Some cases) = Some (map (with_hyps s q) cases)
 
 -- by the rule on the hypothesis h of the label l
 abbrev pub on_hypothesis : HypothesisRule → ℕ → Label2 → Sequent → Term → Option (List Sequent)
-on_hypothesis Cases s l q h = in_cases s q (cases_of h)
+on_hypothesis Cases s l q h = in_cases s q (cases_of q.vars h)
 on_hypothesis Absurd s l q h = closed_if (is_false h)
 on_hypothesis Drop s l q h = Some (dropping l q ∷ [])
 on_hypothesis Revert s l q h = Some (with_goal (dropping l q) (implies h q.goal) ∷ [])

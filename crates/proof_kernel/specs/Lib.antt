@@ -25,4 +25,5 @@ pub mod Sequent
 pub mod SequentCode
 pub mod SequentGoalView
 pub mod Setting
+pub mod SortTests
 pub mod Steps

@@ -1,12 +1,14 @@
 //! The rules by the form of the goal.
-ghost use Rattle.std.specs.Prelude.{◌≡◌, ◌∷◌, [], IfOk};
+ghost use Rattle.std.specs.Prelude.{◌≡◌, ◌∷◌, [], Some, IfOk};
+ghost use Rattle.logic_term.specs.Term.{implies, is_at_most, is_equal};
 ghost use Rattle.std.specs.Option.{option_copied};
-ghost use Rattle.proof_kernel.specs.GoalRules.{is_reflexive, is_true, left_of, right_of, denied_of, to_show, refuting, to_refute, goal_rule};
+ghost use Rattle.proof_kernel.specs.GoalRules.{is_reflexive, is_true, left_of, right_of, denied_of, both_ways, both_orders, to_show, to_show_all, refuting, to_refute, goal_rule};
 ghost use Rattle.proof_kernel.specs.Rules.{Finds};
 ghost use Rattle.proof_kernel.specs.declared.step.GoalRule.TheVariants as rules;
 
-use crate::rules::{are_same, closed_if, one_premise, with_hypothesis};
+use crate::rules::{are_same, closed_if, one_premise, with_each_goal, with_hypothesis};
 use crate::sequent::Sequent;
+use crate::sort_tests::{are_formulas, are_integers};
 use crate::step::GoalRule;
 use logic_term::{Term, TermBinary, TermForm, TermUnary};
 use std::alloc::Global;
@@ -107,6 +109,89 @@ fn to_refute(
     }
 }
 
+// ---- equations
+
+fn both_goals(
+    alloc: Global,
+    q: &Sequent,
+    first: Term,
+    second: Term,
+) -> Result<Option<Vec<Sequent>>, NoMemory>
+    ensures { IfOk result (λ o. Finds (to_show_all q.now (Some (first ∷ second ∷ []))) o) }
+{
+    let mut goals = Vec::with_capacity(alloc, 2)?;
+    goals.push(first)?;
+    goals.push(second)?;
+    let premises = with_each_goal(alloc, q, goals.as_slice())?;
+    Ok(Some(premises))
+}
+
+fn implication(alloc: Global, a: &Term, b: &Term) -> Result<Term, NoMemory>
+    ensures { IfOk result (λ t. t ≡ implies a.now b.now) }
+{
+    let a = a.share()?;
+    Term::implies(alloc, a, b.share()?)
+}
+
+fn order(alloc: Global, a: &Term, b: &Term) -> Result<Term, NoMemory>
+    ensures { IfOk result (λ t. t ≡ is_at_most a.now b.now) }
+{
+    let a = a.share()?;
+    Term::at_most(alloc, a, b.share()?)
+}
+
+fn both_ways_of(
+    alloc: Global,
+    q: &Sequent,
+    a: &Term,
+    b: &Term,
+) -> Result<Option<Vec<Sequent>>, NoMemory>
+    ensures { IfOk result (λ o. Finds (to_show_all q.now (both_ways q.now.vars (is_equal a.now b.now))) o) }
+{
+    if !are_formulas(q, a, b) {
+        return Ok(None);
+    }
+    let there = implication(alloc, a, b)?;
+    let back = implication(alloc, b, a)?;
+    both_goals(alloc, q, there, back)
+}
+
+/// Of an equation of formulas: each implies the other.
+fn both_ways(alloc: Global, q: &Sequent, goal: &Term) -> Result<Option<Vec<Sequent>>, NoMemory>
+    ensures { IfOk result (λ o. Finds (to_show_all q.now (both_ways q.now.vars goal.now)) o) }
+{
+    match goal.form() {
+        TermForm::Binary(TermBinary::Equal, a, b) => both_ways_of(alloc, q, a, b),
+        _ => Ok(None),
+    }
+}
+
+fn both_orders_of(
+    alloc: Global,
+    q: &Sequent,
+    a: &Term,
+    b: &Term,
+) -> Result<Option<Vec<Sequent>>, NoMemory>
+    ensures { IfOk result (λ o. Finds (to_show_all q.now (both_orders q.now.vars (is_equal a.now b.now))) o) }
+{
+    if !are_integers(q, a, b) {
+        return Ok(None);
+    }
+    let there = order(alloc, a, b)?;
+    let back = order(alloc, b, a)?;
+    both_goals(alloc, q, there, back)
+}
+
+/// Of an equation of integers: each is at most the other.
+fn both_orders(alloc: Global, q: &Sequent, goal: &Term) -> Result<Option<Vec<Sequent>>, NoMemory>
+    ensures { IfOk result (λ o. Finds (to_show_all q.now (both_orders q.now.vars goal.now)) o) }
+{
+    match goal.form() {
+        TermForm::Binary(TermBinary::Equal, a, b) => both_orders_of(alloc, q, a, b),
+        _ => Ok(None),
+    }
+}
+
 // ---- the rules
 
 fn by_contradiction(
@@ -140,6 +225,7 @@ pub fn goal_rule(
         GoalRule::Right => to_show(alloc, q, right_of(&goal)),
         GoalRule::Contra => to_refute(alloc, step, q, denied_of(&goal)),
         GoalRule::ByContradiction => by_contradiction(alloc, step, q, &goal),
-        GoalRule::Iff | GoalRule::Antisymmetry => Ok(None),
+        GoalRule::Iff => both_ways(alloc, q, &goal),
+        GoalRule::Antisymmetry => both_orders(alloc, q, &goal),
     }
 }

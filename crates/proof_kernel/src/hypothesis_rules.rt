@@ -1,11 +1,12 @@
 //! The rules by the form of one hypothesis.
-ghost use Rattle.std.specs.Prelude.{◌≡◌, ◌∷◌, [], IfOk, MatchOption, map, false};
+ghost use Rattle.std.specs.Prelude.{◌≡◌, ◌∷◌, [], IfOk, MatchOption, map, false, if◌then◌else◌};
 ghost use Rattle.logic_term.specs.Term.{not, and, or, implies};
-ghost use Rattle.proof_kernel.specs.HypothesisRules.{is_false, disjuncts, is_disjunction, alone, pushed, one_case, cases_of, in_cases, on_hypothesis, hypothesis_rule};
+ghost use Rattle.proof_kernel.specs.HypothesisRules.{is_false, disjuncts, is_disjunction, alone, pushed, one_case, if_formulas, denied_cases, cases_of, in_cases, on_hypothesis, hypothesis_rule};
 ghost use Rattle.proof_kernel.specs.Rules.{conjuncts, dropping, with_goal, with_hyps, Finds};
 
 use crate::rules::{closed_if, conjuncts_of, one_premise, with_hypotheses, with_hypothesis};
 use crate::sequent::Sequent;
+use crate::sort_tests::are_formulas;
 use crate::step::HypothesisRule;
 use logic_term::{Label2, Term, TermBinary, TermForm, TermUnary};
 use std::alloc::Global;
@@ -161,9 +162,90 @@ fn by_implication(
     with_each(alloc, step, q, hyps.as_slice())
 }
 
+fn sided(alloc: Global, t: &Term, holds: bool) -> Result<Term, NoMemory>
+    ensures { IfOk result (λ d. d ≡ (if holds then t.now else not t.now)) }
+{
+    if holds { t.share() } else { denied(alloc, t) }
+}
+
+/// The sequent where each of both formulas is true or not, as is said.
+fn where_both_are(
+    alloc: Global,
+    step: u32,
+    q: &Sequent,
+    a: Term,
+    b: Term,
+) -> Result<Sequent, NoMemory>
+    ensures { IfOk result (λ p. p ≡ with_hyps step q.now (a ∷ b ∷ [])) }
+{
+    let q = q.share()?;
+    let q = q.assuming(alloc, Label2 { step, part: 1 }, a)?;
+    q.assuming(alloc, Label2 { step, part: 2 }, b)
+}
+
+fn where_they_are(
+    alloc: Global,
+    step: u32,
+    q: &Sequent,
+    a: &Term,
+    a_holds: bool,
+    b: &Term,
+    b_holds: bool,
+) -> Result<Sequent, NoMemory>
+    ensures { IfOk result (λ p. p ≡ with_hyps step q.now ((if a_holds then a.now else not a.now) ∷ (if b_holds then b.now else not b.now) ∷ [])) }
+{
+    let a = sided(alloc, a, a_holds)?;
+    let b = sided(alloc, b, b_holds)?;
+    where_both_are(alloc, step, q, a, b)
+}
+
+fn two_premises(alloc: Global, first: Sequent, second: Sequent) -> Result<Vec<Sequent>, NoMemory>
+    ensures { IfOk result (λ v. v.items ≡ first ∷ second ∷ []) }
+{
+    let mut premises = Vec::with_capacity(alloc, 2)?;
+    premises.push(first)?;
+    premises.push(second)?;
+    Ok(premises)
+}
+
+/// Two formulas are both true or both false; or just one of them is true.
+fn by_values(
+    alloc: Global,
+    step: u32,
+    q: &Sequent,
+    same: bool,
+    a: &Term,
+    b: &Term,
+) -> Result<Option<Vec<Sequent>>, NoMemory>
+    ensures { IfOk result (λ o. Finds (in_cases step q.now (if_formulas q.now.vars same a.now b.now)) o) }
+{
+    if !are_formulas(q, a, b) {
+        return Ok(None);
+    }
+    let first = where_they_are(alloc, step, q, a, true, b, same)?;
+    let second = where_they_are(alloc, step, q, a, false, b, !same)?;
+    let premises = two_premises(alloc, first, second)?;
+    Ok(Some(premises))
+}
+
+/// A premise for each case of the denial of the formula.
+fn denied_cases(
+    alloc: Global,
+    step: u32,
+    q: &Sequent,
+    t: &Term,
+) -> Result<Option<Vec<Sequent>>, NoMemory>
+    ensures { IfOk result (λ o. Finds (in_cases step q.now (denied_cases q.now.vars t.now)) o) }
+{
+    match t.form() {
+        TermForm::Binary(TermBinary::Equal, a, b) => by_values(alloc, step, q, false, a, b),
+        _ => in_one_case(alloc, step, q, pushed(alloc, t)?),
+    }
+}
+
 /// A premise for each case of the hypothesis.
 fn cases(alloc: Global, step: u32, q: &Sequent, h: &Term) -> Result<Option<Vec<Sequent>>, NoMemory>
-    ensures { IfOk result (λ o. Finds (in_cases step q.now (cases_of h.now)) o) }
+    ensures { IfOk result (λ o. Finds (in_cases step q.now (cases_of q.now.vars h.now)) o) }
 {
     match h.form() {
         TermForm::Binary(TermBinary::And, _, _) => Ok(Some(by_conjuncts(alloc, step, q, h)?)),
@@ -171,7 +253,8 @@ fn cases(alloc: Global, step: u32, q: &Sequent, h: &Term) -> Result<Option<Vec<S
         TermForm::Binary(TermBinary::Implies, a, b) => {
             Ok(Some(by_implication(alloc, step, q, a, b)?))
         }
-        TermForm::Unary(TermUnary::Not, a) => in_one_case(alloc, step, q, pushed(alloc, a)?),
+        TermForm::Binary(TermBinary::Equal, a, b) => by_values(alloc, step, q, true, a, b),
+        TermForm::Unary(TermUnary::Not, a) => denied_cases(alloc, step, q, a),
         _ => Ok(None),
     }
 }

@@ -15,6 +15,7 @@ mod polynomial;
 mod rules;
 mod sequent;
 mod setting;
+mod sort_tests;
 mod step;
 
 pub use kernel::{Kernel, StepError};

@@ -67,7 +67,7 @@ fn is_integer_var(q: &Sequent, name: Name) -> bool
 }
 
 /// Whether the term has the sort `Int`.
-fn is_integer(q: &Sequent, t: &Term) -> bool
+pub(crate) fn is_integer(q: &Sequent, t: &Term) -> bool
     ensures { result ≡ is_integer q.now.vars t.now }
 {
     match t.form() {

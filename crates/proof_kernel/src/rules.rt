@@ -108,7 +108,11 @@ pub(crate) fn conjuncts_of(alloc: Global, t: &Term) -> Result<Vec<Term>, NoMemor
     Ok(all)
 }
 
-fn with_each_goal(alloc: Global, q: &Sequent, goals: &[Term]) -> Result<Vec<Sequent>, NoMemory>
+pub(crate) fn with_each_goal(
+    alloc: Global,
+    q: &Sequent,
+    goals: &[Term],
+) -> Result<Vec<Sequent>, NoMemory>
     ensures { IfOk result (λ v. v.items ≡ map (with_goal q.now) goals.now) }
 {
     let mut premises = Vec::with_capacity(alloc, goals.len())?;
