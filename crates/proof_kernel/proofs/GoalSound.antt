@@ -2,7 +2,7 @@
 use Rattle.std.proofs.Common.{◌≡◌, ℕ, Bool, true, false, List, [], ◌∷◌, map, Option, Some, None, refl, sym, ap, subst}
 use Rattle.logic_term.specs.Term.{denied, equal, either, Term, truth, apply, no_terms, and_term, not, implies, is_at_most}
 use Rattle.logic_term.specs.Canonical.{canonical, SameUpToNames}
-use Rattle.logic_term.specs.Meaning.{Structure, Env, Means, Holds}
+use Rattle.logic_term.specs.Meaning.{Structure, Env, Holds}
 use Rattle.logic_term.proofs.Alike.{sure_map, to}
 use Rattle.logic_term.proofs.CanonicalLaw.{same_up_to_names_means}
 use Rattle.logic_term.proofs.SameLaw.{same_term_equal}

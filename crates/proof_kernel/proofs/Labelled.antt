@@ -1,7 +1,6 @@
 -- Hypotheses that are still to be added, one after the other.
-use Rattle.std.proofs.Common.{◌≡◌, ℕ, suc, ◌+◌, ◌<◌, ◌≤◌, List, [], ◌∷◌, ◌++◌, length, get_or, drop, drop-cons, add-one, append_assoc, append-nil, refl, sym, ◌∙◌, ap, ap₂}
+use Rattle.std.proofs.Common.{◌≡◌, ℕ, suc, ◌+◌, ◌<◌, ◌≤◌, List, [], ◌∷◌, ◌++◌, length, get_or, drop, drop-cons, add-one, append_assoc, append-nil, sym, ◌∙◌, ap, ap₂}
 use Rattle.std.proofs.lemmas.List.{drop_all}
-use Rattle.logic_term.specs.declared.kinds.Label2.{Label2}
 use Rattle.logic_term.specs.Term.{Term}
 use Rattle.proof_kernel.specs.Intro.{assuming}
 use Rattle.proof_kernel.specs.Rules.{label, labelled}

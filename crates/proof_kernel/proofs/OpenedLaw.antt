@@ -11,7 +11,7 @@ use Rattle.logic_term.specs.Free.{free}
 use Rattle.logic_term.specs.Term.{Term}
 use Rattle.proof_kernel.specs.Opened.{count_known, known_under, opened_hypotheses, renames_from}
 use Rattle.proof_kernel.specs.Rules.{hypothesis, free_in_hyps, same_label}
-use Rattle.proof_kernel.proofs.LocalLaw.{or_else, hypothesis_more, free_more, or_false, or_true}
+use Rattle.proof_kernel.proofs.LocalLaw.{or_else, hypothesis_more, free_more, or_false}
 
 -- ---- labels
 

@@ -1,5 +1,5 @@
 -- What passes the tests of the sorts bool and Int has a truth value, or an integer, and what equations of such terms say.
-use Rattle.std.proofs.Common.{◌≡◌, ◌&&◌, Bool, true, false, List, Option, Some, None, refl, sym, ◌∙◌, ap, subst, arith, true≢false}
+use Rattle.std.proofs.Common.{◌≡◌, Bool, true, false, List, Option, Some, None, refl, sym, ◌∙◌, ap, subst, arith, true≢false}
 use Rattle.std.specs.Prelude.{ℤ, neg_ℤ, ◌≤ℤ◌, int_lt, int_le}
 use Rattle.std.proofs.lemmas.Int.{ints}
 use Rattle.text_core.specs.declared.name.Name.{Name}

@@ -1,5 +1,5 @@
 -- What a step by the forms of two hypotheses gives.
-use Rattle.std.specs.Prelude.{ℕ, Bool, true, false, List, [], ◌∷◌, Option, Some, None, pos, if◌then◌else◌}
+use Rattle.std.specs.Prelude.{ℕ, Bool, false, List, [], ◌∷◌, Option, Some, None, pos, if◌then◌else◌}
 use Rattle.source_kinds.specs.declared.kinds.ArithOp.TheVariants.{Sub, Mul}
 use Rattle.logic_term.specs.declared.kinds.Label2.{Label2}
 use Rattle.logic_term.specs.Ty.{math_int}

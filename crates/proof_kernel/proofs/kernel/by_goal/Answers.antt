@@ -1,4 +1,3 @@
-use Rattle.std.proofs.Common.{refl}
 use Rattle.proof_kernel.specs.Setting.{setting}
 use Rattle.proof_kernel.proofs.KernelLaw.{goal_given, no_goal}
 use Rattle.proof_kernel.proofs.kernel.by_goal.Goals as goal

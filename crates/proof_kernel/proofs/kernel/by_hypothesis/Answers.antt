@@ -1,4 +1,3 @@
-use Rattle.std.proofs.Common.{refl}
 use Rattle.proof_kernel.specs.Setting.{setting}
 use Rattle.proof_kernel.proofs.KernelLaw.{hypothesis_given, no_hypothesis}
 use Rattle.proof_kernel.proofs.kernel.by_hypothesis.Goals as goal

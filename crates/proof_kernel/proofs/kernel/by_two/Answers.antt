@@ -1,4 +1,3 @@
-use Rattle.std.proofs.Common.{refl}
 use Rattle.proof_kernel.specs.Setting.{setting}
 use Rattle.proof_kernel.proofs.KernelLaw.{two_given, no_two}
 use Rattle.proof_kernel.proofs.kernel.by_two.Goals as goal

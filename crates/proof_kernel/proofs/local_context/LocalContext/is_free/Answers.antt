@@ -1,4 +1,4 @@
-use Rattle.std.proofs.Common.{◌≡◌, ◌∷◌, [], ◌∙◌, Bool, sym, ap}
+use Rattle.std.proofs.Common.{◌≡◌, ◌∷◌, [], ◌∙◌, sym, ap}
 use Rattle.proof_kernel.specs.Dropped.{free_but_in}
 use Rattle.proof_kernel.specs.LocalContext.{hypotheses_in}
 use Rattle.proof_kernel.proofs.DroppedLaw.{free_without_drops, none_free_before, some_free_here}
