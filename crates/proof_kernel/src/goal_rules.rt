@@ -6,7 +6,7 @@ ghost use Rattle.proof_kernel.specs.GoalRules.{is_reflexive, is_true, left_of, r
 ghost use Rattle.proof_kernel.specs.Rules.{Finds};
 ghost use Rattle.proof_kernel.specs.declared.step.GoalRule.TheVariants as rules;
 
-use crate::rules::{are_same, closed_if, one_premise, with_each_goal, with_hypothesis};
+use crate::rules::{are_same, closed_if, one_premise, two_premises, with_hypothesis};
 use crate::sequent::Sequent;
 use crate::sort_tests::{are_formulas, are_integers};
 use crate::step::GoalRule;
@@ -119,10 +119,9 @@ fn both_goals(
 ) -> Result<Option<Vec<Sequent>>, NoMemory>
     ensures { IfOk result (λ o. Finds (to_show_all q.now (Some (first ∷ second ∷ []))) o) }
 {
-    let mut goals = Vec::with_capacity(alloc, 2)?;
-    goals.push(first)?;
-    goals.push(second)?;
-    let premises = with_each_goal(alloc, q, goals.as_slice())?;
+    let first = q.with_goal(first)?;
+    let second = q.with_goal(second)?;
+    let premises = two_premises(alloc, first, second)?;
     Ok(Some(premises))
 }
 

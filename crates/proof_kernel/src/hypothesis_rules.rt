@@ -1,10 +1,13 @@
 //! The rules by the form of one hypothesis.
-ghost use Rattle.std.specs.Prelude.{◌≡◌, ◌∷◌, [], IfOk, MatchOption, map, false, if◌then◌else◌};
-ghost use Rattle.logic_term.specs.Term.{not, and, or, implies};
+ghost use Rattle.std.specs.Prelude.{◌≡◌, ◌∷◌, [], Some, IfOk, MatchOption, map, false, if◌then◌else◌};
+ghost use Rattle.logic_term.specs.Term.{not, or, implies, two};
+ghost use Rattle.logic_term.specs.TermOperator.{binary_operator};
 ghost use Rattle.proof_kernel.specs.HypothesisRules.{is_false, disjuncts, is_disjunction, alone, pushed, one_case, if_formulas, denied_cases, cases_of, in_cases, on_hypothesis, hypothesis_rule};
 ghost use Rattle.proof_kernel.specs.Rules.{conjuncts, dropping, with_goal, with_hyps, Finds};
 
-use crate::rules::{closed_if, conjuncts_of, one_premise, with_hypotheses, with_hypothesis};
+use crate::rules::{
+    closed_if, conjuncts_of, one_premise, two_premises, with_hypotheses, with_hypothesis,
+};
 use crate::sequent::Sequent;
 use crate::sort_tests::are_formulas;
 use crate::step::HypothesisRule;
@@ -71,31 +74,13 @@ fn denied(alloc: Global, t: &Term) -> Result<Term, NoMemory>
     Term::not(alloc, t)
 }
 
-/// `!a || !b`
-fn either_denied(alloc: Global, a: &Term, b: &Term) -> Result<Term, NoMemory>
-    ensures { IfOk result (λ t. t ≡ or (not a.now) (not b.now)) }
+/// Both joined, the second denied.
+fn joined(alloc: Global, op: TermBinary, a: Term, b: &Term) -> Result<Option<Term>, NoMemory>
+    ensures { IfOk result (λ o. o ≡ Some (two (binary_operator op) a (not b.now))) }
 {
-    let a = denied(alloc, a)?;
     let b = denied(alloc, b)?;
-    Term::or(alloc, a, b)
-}
-
-/// `!a && !b`
-fn both_denied(alloc: Global, a: &Term, b: &Term) -> Result<Term, NoMemory>
-    ensures { IfOk result (λ t. t ≡ and (not a.now) (not b.now)) }
-{
-    let a = denied(alloc, a)?;
-    let b = denied(alloc, b)?;
-    Term::and(alloc, a, b)
-}
-
-/// `a && !b`
-fn second_denied(alloc: Global, a: &Term, b: &Term) -> Result<Term, NoMemory>
-    ensures { IfOk result (λ t. t ≡ and a.now (not b.now)) }
-{
-    let a = a.share()?;
-    let b = denied(alloc, b)?;
-    Term::and(alloc, a, b)
+    let t = Term::binary(alloc, op, a, b)?;
+    Ok(Some(t))
 }
 
 /// The denial of the formula, pushed inward by one level.
@@ -103,9 +88,15 @@ fn pushed(alloc: Global, t: &Term) -> Result<Option<Term>, NoMemory>
     ensures { IfOk result (λ o. o ≡ pushed t.now) }
 {
     match t.form() {
-        TermForm::Binary(TermBinary::And, a, b) => Ok(Some(either_denied(alloc, a, b)?)),
-        TermForm::Binary(TermBinary::Or, a, b) => Ok(Some(both_denied(alloc, a, b)?)),
-        TermForm::Binary(TermBinary::Implies, a, b) => Ok(Some(second_denied(alloc, a, b)?)),
+        TermForm::Binary(TermBinary::And, a, b) => {
+            joined(alloc, TermBinary::Or, denied(alloc, a)?, b)
+        }
+        TermForm::Binary(TermBinary::Or, a, b) => {
+            joined(alloc, TermBinary::And, denied(alloc, a)?, b)
+        }
+        TermForm::Binary(TermBinary::Implies, a, b) => {
+            joined(alloc, TermBinary::And, a.share()?, b)
+        }
         TermForm::Unary(TermUnary::Not, a) => Ok(Some(a.share()?)),
         _ => Ok(None),
     }
@@ -156,10 +147,9 @@ fn by_implication(
 ) -> Result<Vec<Sequent>, NoMemory>
     ensures { IfOk result (λ v. v.items ≡ map (with_hyps step q.now) (alone (not premise.now) ∷ alone conclusion.now ∷ [])) }
 {
-    let mut hyps = Vec::with_capacity(alloc, 2)?;
-    hyps.push(denied(alloc, premise)?)?;
-    hyps.push(conclusion.share()?)?;
-    with_each(alloc, step, q, hyps.as_slice())
+    let first = with_hypothesis(alloc, step, q, denied(alloc, premise)?)?;
+    let second = with_hypothesis(alloc, step, q, conclusion.share()?)?;
+    two_premises(alloc, first, second)
 }
 
 fn sided(alloc: Global, t: &Term, holds: bool) -> Result<Term, NoMemory>
@@ -197,15 +187,6 @@ fn where_they_are(
     let a = sided(alloc, a, a_holds)?;
     let b = sided(alloc, b, b_holds)?;
     where_both_are(alloc, step, q, a, b)
-}
-
-fn two_premises(alloc: Global, first: Sequent, second: Sequent) -> Result<Vec<Sequent>, NoMemory>
-    ensures { IfOk result (λ v. v.items ≡ first ∷ second ∷ []) }
-{
-    let mut premises = Vec::with_capacity(alloc, 2)?;
-    premises.push(first)?;
-    premises.push(second)?;
-    Ok(premises)
 }
 
 /// Two formulas are both true or both false; or just one of them is true.

@@ -36,6 +36,18 @@ pub(crate) fn one_premise(alloc: Global, premise: Sequent) -> Result<Vec<Sequent
     Ok(premises)
 }
 
+pub(crate) fn two_premises(
+    alloc: Global,
+    first: Sequent,
+    second: Sequent,
+) -> Result<Vec<Sequent>, NoMemory>
+    ensures { IfOk result (λ v. v.items ≡ first ∷ second ∷ []) }
+{
+    let mut premises = one_premise(alloc, first)?;
+    premises.push(second)?;
+    Ok(premises)
+}
+
 /// The sequent with the formula as the only hypothesis of the step.
 pub(crate) fn with_hypothesis(
     alloc: Global,
@@ -108,11 +120,7 @@ pub(crate) fn conjuncts_of(alloc: Global, t: &Term) -> Result<Vec<Term>, NoMemor
     Ok(all)
 }
 
-pub(crate) fn with_each_goal(
-    alloc: Global,
-    q: &Sequent,
-    goals: &[Term],
-) -> Result<Vec<Sequent>, NoMemory>
+fn with_each_goal(alloc: Global, q: &Sequent, goals: &[Term]) -> Result<Vec<Sequent>, NoMemory>
     ensures { IfOk result (λ v. v.items ≡ map (with_goal q.now) goals.now) }
 {
     let mut premises = Vec::with_capacity(alloc, goals.len())?;
