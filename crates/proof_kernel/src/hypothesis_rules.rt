@@ -152,13 +152,14 @@ fn by_implication(
     two_premises(alloc, first, second)
 }
 
+/// The formula, or its denial.
 fn sided(alloc: Global, t: &Term, holds: bool) -> Result<Term, NoMemory>
     ensures { IfOk result (λ d. d ≡ (if holds then t.now else not t.now)) }
 {
     if holds { t.share() } else { denied(alloc, t) }
 }
 
-/// The sequent where each of both formulas is true or not, as is said.
+/// The sequent where both formulas are true.
 fn where_both_are(
     alloc: Global,
     step: u32,
@@ -173,6 +174,7 @@ fn where_both_are(
     q.assuming(alloc, Label2 { step, part: 2 }, b)
 }
 
+/// The sequent where each of both formulas is true or not, as is said.
 fn where_they_are(
     alloc: Global,
     step: u32,
