@@ -8,6 +8,7 @@ pub mod LineLaw
 pub mod LineLemmas
 pub mod NameOrder
 pub mod NumeralLemmas
+pub mod RuleLaw
 pub mod StageLemmas
 pub mod StepLaw
 pub mod StepLemmas

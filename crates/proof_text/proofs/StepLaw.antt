@@ -1,19 +1,20 @@
 -- What the line of a step spells, step by step.
-use Rattle.std.proofs.Common.{◌≡◌, ℕ, Bool, true, false, cond, List, [], ◌∷◌, ◌++◌, map, Option, Some, None, refl, sym, ◌∙◌, ap, slice_get, codes, true≢false}
+use Rattle.std.proofs.Common.{◌≡◌, ℕ, Bool, true, false, cond, List, [], ◌∷◌, ◌++◌, map, Option, Some, None, refl, sym, ◌∙◌, ap, slice_get, codes}
 use Rattle.std.specs.Prelude.{is_some, is_none}
 use Rattle.std.specs.List.{list_all}
 use Rattle.std.specs.Str.{bytes_eq, is_utf8}
 use Rattle.std.proofs.lemmas.Slice.Eq.{bytes_eq-Decides}
 use Rattle.proof_kernel.specs.declared.step.Step.{Step}
-use Rattle.proof_kernel.specs.declared.step.Step.TheVariants.{Intro, Hyp, Split, Range, Lin}
+use Rattle.proof_kernel.specs.declared.step.Step.TheVariants.{Intro, Hyp, Split, Range, Lin, OnGoal, OnHypothesis, OnTwo}
 use Rattle.text_core.specs.Names.{words, HaveOnePlace}
 use Rattle.text_core.specs.declared.name.Name.{Name}
 use Rattle.rs_tokens.specs.Tokens.{is_identifier}
 use Rattle.proof_text.specs.ProofTextWords.{◌>>=◌, label_of}
 use Rattle.proof_text.specs.ProofTextLines.{head_of, rest_of, words_of, text_at, identifier_of, multiples_in, word_of, SpellsRest, SpellsParts, SpellsStep, as_word, texts_by, texts_in_line}
-use Rattle.proof_text.specs.ProofTextFile.{is_step, step, line_if, line_by_head, line_of}
+use Rattle.proof_text.specs.ProofTextFile.{is_step, step, line_if, line_by_head, line_of, rule_step_of}
 use Rattle.proof_text.specs.ProofTextLaws.{AlikeStep}
 use Rattle.proof_text.proofs.LineLaw.{is_plain, text_line}
+use Rattle.proof_text.proofs.RuleLaw.{rule_there, goal_head, hypothesis_head, pair_head, rule_part, rule_read}
 
 -- ---- a spelled step has a line
 
@@ -24,21 +25,22 @@ rest_is table rest (Hyp l) h = ap is_some h
 rest_is table rest Split h = ap is_none h
 rest_is table rest (Range x) h = rw (h.1, h.2) refl
 rest_is table rest (Lin ms) h = ap is_some h
+rest_is table rest (OnGoal r) h = (goal_head r).2 rest ∙ ap is_some (rule_read table rest (OnGoal r) h)
+rest_is table rest (OnHypothesis r l) h = (hypothesis_head r).2 rest ∙ ap is_some (rule_read table rest (OnHypothesis r l) h)
+rest_is table rest (OnTwo r l m) h = (pair_head r).2 rest ∙ ap is_some (rule_read table rest (OnTwo r l m) h)
 
 by_word : (s : Step) (rest : Option (List ℕ)) → line_by_head (word_of s) rest ≡ line_if (is_step (word_of s) rest) step
 unfolding line_by_head
-by_word (Intro names) rest = refl
-by_word (Hyp l) rest = refl
-by_word Split rest = refl
-by_word (Range x) rest = refl
-by_word (Lin ms) rest = refl
+by_word (OnGoal r) rest = (goal_head r).1 rest
+by_word (OnHypothesis r l) rest = (hypothesis_head r).1 rest
+by_word (OnTwo r l m) rest = (pair_head r).1 rest
+by_word _ rest = refl
 
 word_plain : (s : Step) → is_plain (word_of s) ≡ true
-word_plain (Intro names) = refl
-word_plain (Hyp l) = refl
-word_plain Split = refl
-word_plain (Range x) = refl
-word_plain (Lin ms) = refl
+word_plain (OnGoal r) = (goal_head r).0
+word_plain (OnHypothesis r l) = (hypothesis_head r).0
+word_plain (OnTwo r l m) = (pair_head r).0
+word_plain _ = refl
 
 pub parts_are : (table : List (List ℕ)) (head : List ℕ) (rest : Option (List ℕ)) (s : Step) → SpellsParts table head rest s → is_step head rest ≡ true
 parts_are table head rest s h = ap (λ w. is_step w rest) h.0 ∙ rest_is table rest s h.1
@@ -87,7 +89,7 @@ Spelled table head rest = (s : Step) × SpellsParts table head rest s
 
 by_words : (table : List (List ℕ)) (head : List ℕ) (rest : Option (List ℕ)) (a b c d e : Bool) → bytes_eq head (codes "intro") ≡ a → bytes_eq head (codes "hyp") ≡ b → bytes_eq head (codes "split") ≡ c →
     bytes_eq head (codes "range") ≡ d → bytes_eq head (codes "lin") ≡ e →
-    cond a (list_all is_identifier (words_of rest)) (cond b (is_some (rest >>= label_of)) (cond c (is_none rest) (cond d (is_some (rest >>= identifier_of)) (cond e (is_some (rest >>= multiples_in)) false)))) ≡ true →
+    cond a (list_all is_identifier (words_of rest)) (cond b (is_some (rest >>= label_of)) (cond c (is_none rest) (cond d (is_some (rest >>= identifier_of)) (cond e (is_some (rest >>= multiples_in)) (is_some (rule_step_of head rest)))))) ≡ true →
     AreNamed table (cond a (words_of rest) (cond b [] (cond c [] (cond d (as_word rest) [])))) → Spelled table head rest
 by_words table head rest true b c d e p q r s t is named =
     let names = names_there table (words_of rest) named in (Intro names.0, (same_head head (codes "intro") p, (is, names.1)))
@@ -95,7 +97,7 @@ by_words table head rest false true c d e p q r s t is named = let l = some_of (
 by_words table head rest false false true d e p q r s t is named = (Split, (same_head head (codes "split") r, none_of rest is))
 by_words table head rest false false false true e p q r s t is named = let x = range_there table rest is named in (Range x.0, (same_head head (codes "range") s, x.1))
 by_words table head rest false false false false true p q r s t is named = let ms = some_of (rest >>= multiples_in) is in (Lin ms.0, (same_head head (codes "lin") t, ms.1))
-by_words table head rest false false false false false p q r s t is named = absurd (cc)
+by_words table head rest false false false false false p q r s t is named = let found = some_of (rule_step_of head rest) is in (found.0, rule_there table head found.0 rest found.1)
 
 parts_there : (table : List (List ℕ)) (head : List ℕ) (rest : Option (List ℕ)) → is_step head rest ≡ true → AreNamed table (texts_by head rest) → Spelled table head rest
 unfolding is_step texts_by
@@ -125,10 +127,8 @@ module _ (old new : List (List ℕ)) (keeps : KeepsTexts old new) where
 
   kept_rest : (rest : Option (List ℕ)) (s : Step) → SpellsRest old rest s → SpellsRest new rest s
   kept_rest rest (Intro names) h = (h.0, kept_names names (words_of rest) h.1)
-  kept_rest rest (Hyp l) h = h
-  kept_rest rest Split h = h
   kept_rest rest (Range x) h = (h.0, h.1, h.2, keeps x.0 h.0 h.3)
-  kept_rest rest (Lin ms) h = h
+  kept_rest rest _ h = h
 
   pub kept_step : (text : List ℕ) (s : Step) → SpellsStep old text s → SpellsStep new text s
   kept_step text s h = (h.0, (h.1.0, kept_rest (rest_of text) s h.1.1))
@@ -136,16 +136,22 @@ module _ (old new : List (List ℕ)) (keeps : KeepsTexts old new) where
 -- ---- a line spells one step
 
 module _ (table other : List (List ℕ)) (rest : Option (List ℕ)) where
-  alike_rest : (s t : Step) → bytes_eq (word_of s) (word_of t) ≡ true → SpellsRest table rest s → SpellsRest other rest t → AlikeStep table other s t
-  alike_rest (Intro ms) (Intro ns) e h k = h.1 ∙ sym k.1
-  alike_rest (Hyp l) (Hyp m) e h k = let same : Some l ≡ Some m = sym h ∙ k in cc
-  alike_rest Split Split e h k = tt
-  alike_rest (Range m) (Range n) e h k = let same : Some h.0 ≡ Some k.0 = sym h.1 ∙ k.1 in h.3 ∙ same ∙ sym k.3
-  alike_rest (Lin ms) (Lin ns) e h k = let same : Some ms ≡ Some ns = sym h ∙ k in cc
-  alike_rest _ _ e h k = absurd (true≢false (sym e))
+  alike_rest : (s t : Step) → bytes_eq (word_of s) (word_of t) ≡ true → rule_part s ≡ rule_part t → SpellsRest table rest s → SpellsRest other rest t → AlikeStep table other s t
+  alike_rest (Intro ms) (Intro ns) e r h k = h.1 ∙ sym k.1
+  alike_rest (Hyp l) (Hyp m) e r h k = let same : Some l ≡ Some m = sym h ∙ k in cc
+  alike_rest Split Split e r h k = tt
+  alike_rest (Range m) (Range n) e r h k = let same : Some h.0 ≡ Some k.0 = sym h.1 ∙ k.1 in h.3 ∙ same ∙ sym k.3
+  alike_rest (Lin ms) (Lin ns) e r h k = let same : Some ms ≡ Some ns = sym h ∙ k in cc
+  alike_rest (OnGoal a) (OnGoal b) e r h k = cc
+  alike_rest (OnHypothesis a l) (OnHypothesis b m) e r h k = (cc, cc)
+  alike_rest (OnTwo a l m) (OnTwo b n o) e r h k = (cc, cc, cc)
+  alike_rest _ _ e r h k = absurd (cc)
 
 pub alike_step : (table other : List (List ℕ)) (text : List ℕ) (s t : Step) → SpellsStep table text s → SpellsStep other text t → AlikeStep table other s t
-alike_step table other text s t h k = alike_rest table other (rest_of text) s t ((bytes_eq-Decides (word_of s) (word_of t)).1 (sym h.1.0 ∙ k.1.0)) h.1.1 k.1.1
+alike_step table other text s t h k =
+    let same : word_of s ≡ word_of t = sym h.1.0 ∙ k.1.0 in
+    alike_rest table other (rest_of text) s t ((bytes_eq-Decides (word_of s) (word_of t)).1 same)
+    (sym (rule_read table (rest_of text) s h.1.1) ∙ (ap (λ w. rule_step_of w (rest_of text)) same ∙ rule_read other (rest_of text) t k.1.1)) h.1.1 k.1.1
 
 module _ (table : List (List ℕ)) (place : HaveOnePlace (words ++ table)) where
   name_once : (m n : Name) (text : List ℕ) → text_at table m ≡ Some text → text_at table n ≡ Some text → m ≡ n
@@ -175,6 +181,9 @@ module _ (table : List (List ℕ)) (place : HaveOnePlace (words ++ table)) where
       let same : Some h.0 ≡ Some k.0 = sym h.1 ∙ k.1 in
       ap Range (name_once m n k.0 (h.3 ∙ same) k.3)
   rest_once rest (Lin ms) (Lin ns) e h k = ap Lin e
+  rest_once rest (OnGoal a) (OnGoal b) e h k = ap OnGoal e
+  rest_once rest (OnHypothesis a l) (OnHypothesis b m) e h k = cc
+  rest_once rest (OnTwo a l m) (OnTwo b n o) e h k = cc
   rest_once rest _ _ e h k = absurd e
 
   pub step_once : (text : List ℕ) (s t : Step) → SpellsStep table text s → SpellsStep table text t → s ≡ t

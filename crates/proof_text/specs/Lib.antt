@@ -4,4 +4,5 @@ pub mod ProofTextFile
 pub mod ProofTextLaws
 pub mod ProofTextLines
 pub mod ProofTextReads
+pub mod ProofTextRules
 pub mod ProofTextWords

@@ -1,17 +1,31 @@
 -- A proof file read from line to line: which lines it has its proofs from, or the number of its first bad line. `ProofFileForm` has the
 -- format; no clause of `read_proofs` cites this file.
-use Rattle.std.specs.Prelude.{◌≡◌, ℕ, ◌+◌, ◌-◌, List, [], ◌∷◌, ◌++◌, length, take, slice_index, slice_index_or, codes, Bool, false, ◌&&◌, ◌||◌, Option, None, Some, is_some, is_none, Result, Ok, Err, ◌==◌, if◌then◌else◌}
+use Rattle.std.specs.Prelude.{◌≡◌, ℕ, ◌+◌, ◌-◌, List, [], ◌∷◌, ◌++◌, length, take, slice_index, slice_index_or, codes, Bool, ◌&&◌, ◌||◌, Option, None, Some, is_some, is_none, Result, Ok, Err, ◌==◌, if◌then◌else◌}
 use Rattle.std.specs.List.{list_all, list_any, slice_split}
 use Rattle.std.specs.Option.{option_map}
 use Rattle.std.specs.Str.{bytes_eq, is_utf8}
 use Rattle.rs_tokens.specs.Tokens.{is_identifier}
 use Rattle.proof_text.specs.declared.proof.NumberedStep.{NumberedStep}
 use Rattle.proof_text.specs.declared.proof.Proof.{Proof}
+use Rattle.logic_term.specs.declared.kinds.Label2.{Label2}
+use Rattle.proof_kernel.specs.declared.step.Step.{Step}
+use Rattle.proof_kernel.specs.declared.step.Step.TheVariants.{OnGoal, OnHypothesis, OnTwo}
 use Rattle.proof_text.specs.ProofTextWords.{◌>>=◌, Each, label_of}
+use Rattle.proof_text.specs.ProofTextRules.{labels_in, goal_rule_of, hypothesis_rule_of, pair_rule_of}
 use Rattle.proof_text.specs.ProofTextLines.{head_of, rest_of, words_of, identifier_of, multiples_in, heading_of, SpellsStep}
 pub use Rattle.proof_text.specs.ProofFileForm.{SpellsProofs, HasNamesOf, IsFirstBadLine}
 
 -- ---- lines
+
+-- the step of a rule with this word, at one label or at two
+abbrev pub at_labels : List ℕ → Label2 → Option Label2 → Option Step
+at_labels head label None = option_map (λ rule. OnHypothesis rule label) (hypothesis_rule_of head)
+at_labels head label (Some other) = option_map (λ rule. OnTwo rule label other) (pair_rule_of head)
+
+-- the step of a rule with this word and this rest
+abbrev pub rule_step_of : List ℕ → Option (List ℕ) → Option Step
+rule_step_of head None = option_map OnGoal (goal_rule_of head)
+rule_step_of head (Some rest) = labels_in rest >>= (λ labels. at_labels head labels.0 labels.1)
 
 -- some step has such a line, in a table where the texts have names
 unfoldable pub is_step : List ℕ → Option (List ℕ) → Bool
@@ -21,7 +35,7 @@ is_step head rest =
     else if bytes_eq head (codes "split") then is_none rest
     else if bytes_eq head (codes "range") then is_some (rest >>= identifier_of)
     else if bytes_eq head (codes "lin") then is_some (rest >>= multiples_in)
-    else false
+    else is_some (rule_step_of head rest)
 
 -- a line after the first
 pub data Line : Type 0 where

@@ -6,6 +6,7 @@ mod laws;
 mod line;
 mod proof;
 mod reader;
+mod rule_words;
 mod step;
 mod table;
 mod word;

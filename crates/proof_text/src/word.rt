@@ -2,6 +2,7 @@ ghost use Rattle.std.specs.Prelude.{◌≡◌, ◌<◌};
 ghost use Rattle.std.specs.Char.{is_ascii_digit};
 ghost use Rattle.std.specs.List.{list_all};
 ghost use Rattle.std.specs.Option.{option_map, option_copied};
+ghost use Rattle.proof_text.specs.ProofTextRules.{labels_in};
 ghost use Rattle.proof_text.specs.ProofTextWords.{is_numeral, number_of, multiplier_of, cut, after_minus, label_of, reference_of, multiple_of};
 
 use logic_term::Label2;
@@ -73,6 +74,16 @@ pub(crate) fn label(word: &str) -> Option<Label2>
     let step = number(step)?;
     let part = number(part)?;
     Some(Label2 { step, part })
+}
+
+/// A label, or two with a space between.
+pub(crate) fn labels(rest: &str) -> Option<(Label2, Option<Label2>)>
+    ensures { result ≡ labels_in rest.now }
+{
+    match cut(rest, ' ') {
+        None => Some((label(rest)?, None)),
+        Some((first, second)) => Some((label(first)?, Some(label(second)?))),
+    }
 }
 
 /// `goal`, a label, or `-` and a label.

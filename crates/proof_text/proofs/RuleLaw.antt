@@ -1,0 +1,136 @@
+-- The words of the rules, both ways.
+use Rattle.std.proofs.Common.{◌≡◌, ℕ, Bool, true, false, cond, List, [], ◌∷◌, Option, Some, None, refl, sym, ◌∙◌, ap, subst}
+use Rattle.std.specs.Prelude.{is_some, Result, IfOk}
+use Rattle.std.specs.Option.{option_map, ok_or}
+use Rattle.std.specs.Str.{bytes_eq}
+use Rattle.std.proofs.lemmas.Slice.Eq.{bytes_eq-Decides}
+use Rattle.logic_term.specs.declared.kinds.Label2.{Label2}
+use Rattle.proof_kernel.specs.declared.step.GoalRule.{GoalRule}
+use Rattle.proof_kernel.specs.declared.step.GoalRule.TheVariants.{Refl}
+use Rattle.proof_kernel.specs.declared.step.HypothesisRule.{HypothesisRule}
+use Rattle.proof_kernel.specs.declared.step.HypothesisRule.TheVariants.{Cases}
+use Rattle.proof_kernel.specs.declared.step.PairRule.{PairRule}
+use Rattle.proof_kernel.specs.declared.step.PairRule.TheVariants.{ModusPonens}
+use Rattle.proof_kernel.specs.declared.step.Step.{Step}
+use Rattle.proof_kernel.specs.declared.step.Step.TheVariants.{Intro, Hyp, Split, Range, Lin, OnGoal, OnHypothesis, OnTwo}
+use Rattle.proof_text.specs.declared.fault.Fault.{Fault}
+use Rattle.proof_text.specs.declared.fault.Fault.TheVariants.{Bad}
+use Rattle.proof_text.specs.ProofTextWords.{◌>>=◌}
+use Rattle.proof_text.specs.ProofTextRules.{goal_word, hypothesis_word, pair_word, labels_in, rule_by, goal_rules, hypothesis_rules, pair_rules, goal_rule_of, hypothesis_rule_of, pair_rule_of}
+use Rattle.proof_text.specs.ProofTextLines.{word_of, SpellsRest, SpellsParts}
+use Rattle.proof_text.specs.ProofTextFile.{is_step, step, line_if, line_by_head, at_labels, rule_step_of}
+use Rattle.proof_text.proofs.LineLaw.{is_plain}
+
+-- ---- a word that is read is the rule's
+
+spelled_by : {R : Type 0} (spell : R → List ℕ) (word : List ℕ) (one rule : R) (found : Option R) (t : Bool) → bytes_eq word (spell one) ≡ t → (found ≡ Some rule → word ≡ spell rule) →
+    cond t (Some one) found ≡ Some rule → word ≡ spell rule
+spelled_by spell word one rule found true is more e = let same : one ≡ rule = cc in (bytes_eq-Decides word (spell one)).0 is ∙ ap spell same
+spelled_by spell word one rule found false is more e = more e
+
+rule_spelled : {R : Type 0} (spell : R → List ℕ) (rules : List R) (word : List ℕ) (rule : R) → rule_by spell rules word ≡ Some rule → word ≡ spell rule
+rule_spelled spell [] word rule e = absurd (cc)
+rule_spelled spell (one ∷ rules) word rule e = spelled_by spell word one rule (rule_by spell rules word) (bytes_eq word (spell one)) refl (rule_spelled spell rules word rule) e
+
+made_by : {R : Type 0} (make : R → Step) (spell : R → List ℕ) (word : List ℕ) (s : Step) (found : Option R) → ((rule : R) → found ≡ Some rule → word ≡ spell rule) → option_map make found ≡ Some s →
+    (rule : R) × (word ≡ spell rule) × (make rule ≡ s)
+made_by make spell word s None spelled e = absurd (cc)
+made_by make spell word s (Some rule) spelled e = (rule, spelled rule refl, cc)
+
+module _ (table : List (List ℕ)) (head : List ℕ) (s : Step) where
+  on_goal : option_map OnGoal (goal_rule_of head) ≡ Some s → SpellsParts table head None s
+  unfolding goal_rule_of
+  on_goal e = let made = made_by OnGoal goal_word head s (goal_rule_of head) (rule_spelled goal_word goal_rules head) e in subst (SpellsParts table head None) made.2 (made.1, refl)
+
+  on_labels : (rest : List ℕ) (label : Label2) (other : Option Label2) → labels_in rest ≡ Some (label, other) → at_labels head label other ≡ Some s → SpellsParts table head (Some rest) s
+  unfolding hypothesis_rule_of pair_rule_of
+  on_labels rest label None is e =
+      let made = made_by (λ rule. OnHypothesis rule label) hypothesis_word head s (hypothesis_rule_of head) (rule_spelled hypothesis_word hypothesis_rules head) e in subst (SpellsParts table head (Some rest)) made.2 (made.1, is)
+  on_labels rest label (Some other) is e =
+      let made = made_by (λ rule. OnTwo rule label other) pair_word head s (pair_rule_of head) (rule_spelled pair_word pair_rules head) e in subst (SpellsParts table head (Some rest)) made.2 (made.1, is)
+
+  by_labels : (rest : List ℕ) (found : Option (Label2 × Option Label2)) → labels_in rest ≡ found → (found >>= (λ labels. at_labels head labels.0 labels.1)) ≡ Some s → SpellsParts table head (Some rest) s
+  by_labels rest None is e = absurd (cc)
+  by_labels rest (Some labels) is e = on_labels rest labels.0 labels.1 is e
+
+  -- the step of such a line is spelled there
+  pub rule_there : (rest : Option (List ℕ)) → rule_step_of head rest ≡ Some s → SpellsParts table head rest s
+  rule_there None e = on_goal e
+  rule_there (Some rest) e = by_labels rest (labels_in rest) refl e
+
+-- what is read of a line of another head is spelled there
+pub rule_line : (table : List (List ℕ)) (head : List ℕ) (rest : Option (List ℕ)) (found : Option Step) (r : Result Step Fault) → found ≡ rule_step_of head rest → r ≡ ok_or found Bad →
+    IfOk r (λ s. SpellsParts table head rest s)
+rule_line table head rest None r is e = subst (λ r. IfOk r (λ s. SpellsParts table head rest s)) (sym e) tt
+rule_line table head rest (Some s) r is e = subst (λ r. IfOk r (λ s. SpellsParts table head rest s)) (sym e) (rule_there table head s rest (sym is))
+
+-- ---- and a rule's word is read as the rule
+
+-- no other line begins with the word
+abbrev IsRuleHead : List ℕ → Type 0
+IsRuleHead word =
+    (is_plain word ≡ true) × ((rest : Option (List ℕ)) → line_by_head word rest ≡ line_if (is_step word rest) step) × ((rest : Option (List ℕ)) → is_step word rest ≡ is_some (rule_step_of word rest))
+
+pub goal_head : (rule : GoalRule) → IsRuleHead (goal_word rule)
+unfolding is_step line_by_head
+goal_head Refl = (refl, λ rest. refl, λ rest. refl)
+goal_head _ = (refl, λ rest. refl, λ rest. refl)
+
+pub hypothesis_head : (rule : HypothesisRule) → IsRuleHead (hypothesis_word rule)
+unfolding is_step line_by_head
+hypothesis_head Cases = (refl, λ rest. refl, λ rest. refl)
+hypothesis_head _ = (refl, λ rest. refl, λ rest. refl)
+
+pub pair_head : (rule : PairRule) → IsRuleHead (pair_word rule)
+unfolding is_step line_by_head
+pair_head ModusPonens = (refl, λ rest. refl, λ rest. refl)
+pair_head _ = (refl, λ rest. refl, λ rest. refl)
+
+goal_found : (rule : GoalRule) → goal_rule_of (goal_word rule) ≡ Some rule
+unfolding goal_rule_of
+goal_found Refl = refl
+goal_found _ = refl
+
+hypothesis_found : (rule : HypothesisRule) → hypothesis_rule_of (hypothesis_word rule) ≡ Some rule
+unfolding hypothesis_rule_of
+hypothesis_found Cases = refl
+hypothesis_found _ = refl
+
+pair_found : (rule : PairRule) → pair_rule_of (pair_word rule) ≡ Some rule
+unfolding pair_rule_of
+pair_found ModusPonens = refl
+pair_found _ = refl
+
+-- ---- a line has one step of a rule, or none
+
+module _ (head : List ℕ) (goal : goal_rule_of head ≡ None) (hypothesis : hypothesis_rule_of head ≡ None) (pair : pair_rule_of head ≡ None) where
+  none_at : (label : Label2) (other : Option Label2) → at_labels head label other ≡ None
+  none_at label None = ap (option_map (λ rule. OnHypothesis rule label)) hypothesis
+  none_at label (Some other) = ap (option_map (λ rule. OnTwo rule label other)) pair
+
+  none_by : (found : Option (Label2 × Option Label2)) → (found >>= (λ labels. at_labels head labels.0 labels.1)) ≡ None
+  none_by None = refl
+  none_by (Some labels) = none_at labels.0 labels.1
+
+  no_rule : (rest : Option (List ℕ)) → rule_step_of head rest ≡ None
+  no_rule None = ap (option_map OnGoal) goal
+  no_rule (Some rest) = none_by (labels_in rest)
+
+-- the step, where it is of a rule
+abbrev pub rule_part : Step → Option Step
+rule_part (Intro names) = None
+rule_part (Hyp label) = None
+rule_part Split = None
+rule_part (Range name) = None
+rule_part (Lin multiples) = None
+rule_part rule = Some rule
+
+pub rule_read : (table : List (List ℕ)) (rest : Option (List ℕ)) (s : Step) → SpellsRest table rest s → rule_step_of (word_of s) rest ≡ rule_part s
+unfolding goal_rule_of hypothesis_rule_of pair_rule_of
+rule_read table rest (OnGoal rule) h = ap (rule_step_of (goal_word rule)) h ∙ ap (option_map OnGoal) (goal_found rule)
+rule_read table None (OnHypothesis rule label) h = absurd (cc)
+rule_read table None (OnTwo rule label other) h = absurd (cc)
+rule_read table (Some rest) (OnHypothesis rule label) h =
+    ap (λ found. found >>= (λ labels. at_labels (hypothesis_word rule) labels.0 labels.1)) h ∙ ap (option_map (λ r. OnHypothesis r label)) (hypothesis_found rule)
+rule_read table (Some rest) (OnTwo rule label other) h = ap (λ found. found >>= (λ labels. at_labels (pair_word rule) labels.0 labels.1)) h ∙ ap (option_map (λ r. OnTwo r label other)) (pair_found rule)
+rule_read table rest s h = no_rule (word_of s) refl refl refl rest

@@ -1,0 +1,73 @@
+-- The words of the rules, and what stands behind them.
+use Rattle.std.specs.Prelude.{ℕ, List, [], ◌∷◌, codes, Option, None, Some, if◌then◌else◌}
+use Rattle.std.specs.Option.{option_map}
+use Rattle.std.specs.Str.{bytes_eq}
+use Rattle.logic_term.specs.declared.kinds.Label2.{Label2}
+use Rattle.proof_kernel.specs.declared.step.GoalRule.{GoalRule}
+use Rattle.proof_kernel.specs.declared.step.GoalRule.TheVariants.{Refl, Truth, Left, Right, Contra, ByContradiction, Iff, Antisymmetry}
+use Rattle.proof_kernel.specs.declared.step.HypothesisRule.{HypothesisRule}
+use Rattle.proof_kernel.specs.declared.step.HypothesisRule.TheVariants.{Cases, Absurd, Drop, Revert}
+use Rattle.proof_kernel.specs.declared.step.PairRule.{PairRule}
+use Rattle.proof_kernel.specs.declared.step.PairRule.TheVariants.{ModusPonens, Contradiction, Product}
+use Rattle.proof_text.specs.ProofTextWords.{◌>>=◌, label_of, cut}
+
+-- ---- the words
+
+abbrev pub goal_word : GoalRule → List ℕ
+goal_word Refl = codes "refl"
+goal_word Truth = codes "true"
+goal_word Left = codes "left"
+goal_word Right = codes "right"
+goal_word Contra = codes "contra"
+goal_word ByContradiction = codes "byc"
+goal_word Iff = codes "iff"
+goal_word Antisymmetry = codes "antisym"
+
+abbrev pub hypothesis_word : HypothesisRule → List ℕ
+hypothesis_word Cases = codes "cases"
+hypothesis_word Absurd = codes "absurd"
+hypothesis_word Drop = codes "drop"
+hypothesis_word Revert = codes "revert"
+
+abbrev pub pair_word : PairRule → List ℕ
+pair_word ModusPonens = codes "mp"
+pair_word Contradiction = codes "absurd"
+pair_word Product = codes "mul"
+
+-- ---- the labels behind them
+
+abbrev pub labels_by : List ℕ → Option (List ℕ × List ℕ) → Option (Label2 × Option Label2)
+labels_by rest None = option_map (λ label. (label, None)) (label_of rest)
+labels_by rest (Some parts) = do
+  first ← label_of parts.0
+  second ← label_of parts.1
+  Some (first, Some second)
+
+-- one label, or two with one space between
+abbrev pub labels_in : List ℕ → Option (Label2 × Option Label2)
+labels_in rest = labels_by rest (cut 32 rest)
+
+-- ---- the words the other way round
+
+-- the first of these rules that has the word
+abbrev pub rule_by : {R : Type 0} → (R → List ℕ) → List R → List ℕ → Option R
+rule_by spell [] word = None
+rule_by spell (rule ∷ rules) word = if bytes_eq word (spell rule) then Some rule else rule_by spell rules word
+
+abbrev pub goal_rules : List GoalRule
+goal_rules = Refl ∷ Truth ∷ Left ∷ Right ∷ Contra ∷ ByContradiction ∷ Iff ∷ Antisymmetry ∷ []
+
+abbrev pub hypothesis_rules : List HypothesisRule
+hypothesis_rules = Cases ∷ Absurd ∷ Drop ∷ Revert ∷ []
+
+abbrev pub pair_rules : List PairRule
+pair_rules = ModusPonens ∷ Contradiction ∷ Product ∷ []
+
+unfoldable pub goal_rule_of : List ℕ → Option GoalRule
+goal_rule_of word = rule_by goal_word goal_rules word
+
+unfoldable pub hypothesis_rule_of : List ℕ → Option HypothesisRule
+hypothesis_rule_of word = rule_by hypothesis_word hypothesis_rules word
+
+unfoldable pub pair_rule_of : List ℕ → Option PairRule
+pair_rule_of word = rule_by pair_word pair_rules word

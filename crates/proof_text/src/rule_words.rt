@@ -1,0 +1,74 @@
+//! The rules that words name.
+ghost use Rattle.std.specs.Prelude.{◌≡◌, List, Some};
+ghost use Rattle.std.specs.Option.{option_copied};
+ghost use Rattle.proof_text.specs.ProofTextFile.{at_labels, rule_step_of};
+ghost use Rattle.proof_text.specs.ProofTextRules.{goal_rule_of, hypothesis_rule_of, pair_rule_of};
+
+use crate::word::labels;
+use logic_term::Label2;
+use proof_kernel::{GoalRule, HypothesisRule, PairRule, Step};
+
+#[tactic(auto, unfolding(crate::specs::ProofTextRules::goal_rule_of))]
+fn goal_rule(word: &str) -> Option<GoalRule>
+    ensures { result ≡ goal_rule_of word.now }
+{
+    match word {
+        "refl" => Some(GoalRule::Refl),
+        "true" => Some(GoalRule::Truth),
+        "left" => Some(GoalRule::Left),
+        "right" => Some(GoalRule::Right),
+        "contra" => Some(GoalRule::Contra),
+        "byc" => Some(GoalRule::ByContradiction),
+        "iff" => Some(GoalRule::Iff),
+        "antisym" => Some(GoalRule::Antisymmetry),
+        _ => None,
+    }
+}
+
+#[tactic(auto, unfolding(crate::specs::ProofTextRules::hypothesis_rule_of))]
+fn hypothesis_rule(word: &str) -> Option<HypothesisRule>
+    ensures { result ≡ hypothesis_rule_of word.now }
+{
+    match word {
+        "cases" => Some(HypothesisRule::Cases),
+        "absurd" => Some(HypothesisRule::Absurd),
+        "drop" => Some(HypothesisRule::Drop),
+        "revert" => Some(HypothesisRule::Revert),
+        _ => None,
+    }
+}
+
+#[tactic(auto, unfolding(crate::specs::ProofTextRules::pair_rule_of))]
+fn pair_rule(word: &str) -> Option<PairRule>
+    ensures { result ≡ pair_rule_of word.now }
+{
+    match word {
+        "mp" => Some(PairRule::ModusPonens),
+        "absurd" => Some(PairRule::Contradiction),
+        "mul" => Some(PairRule::Product),
+        _ => None,
+    }
+}
+
+/// The step of a rule at one label, or at two.
+fn at_labels(head: &str, label: Label2, other: Option<Label2>) -> Option<Step>
+    ensures { result ≡ at_labels head.now label other }
+{
+    match other {
+        None => Some(Step::OnHypothesis(hypothesis_rule(head)?, label)),
+        Some(other) => Some(Step::OnTwo(pair_rule(head)?, label, other)),
+    }
+}
+
+/// The step of a rule, by its word and the rest of the line.
+pub(crate) fn rule_step(head: &str, rest: Option<&str>) -> Option<Step>
+    ensures { result ≡ rule_step_of head.now (option_copied rest.entry) }
+{
+    match rest {
+        None => Some(Step::OnGoal(goal_rule(head)?)),
+        Some(rest) => {
+            let (label, other) = labels(rest)?;
+            at_labels(head, label, other)
+        }
+    }
+}
