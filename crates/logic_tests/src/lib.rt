@@ -12,6 +12,8 @@ mod proof_files;
 #[cfg(test)]
 mod rows;
 #[cfg(test)]
+mod rule_rows;
+#[cfg(test)]
 mod steps;
 #[cfg(test)]
 mod terms;

@@ -254,3 +254,76 @@ fn lines_but_comments_are_utf_8(rt: HostRuntime) {
         assert!(rt; bad_line(rt.alloc(), *bytes) == *want, "row {at}");
     }
 }
+
+/// Words of rules with another rest than theirs, and words of no step.
+const BAD_RULES: [&str; 32] = [
+    "refl 1.1",
+    "true ",
+    "left 1.1",
+    "right x",
+    "contra 1.1",
+    "byc 1.1",
+    "iff 1.1",
+    "antisym 1.1",
+    "cases",
+    "cases 1",
+    "cases 1.1 1.2",
+    "cases 1.1 n",
+    "cases 1.01",
+    "absurd",
+    "absurd goal",
+    "absurd 1.1 1.2 1.3",
+    "absurd 1.1  1.2",
+    "absurd 1.1 ",
+    "drop",
+    "drop 1.1 1.2",
+    "revert",
+    "revert 1.1 1.2",
+    "mp",
+    "mp 1.1",
+    "mp 1.1 1.2 1.3",
+    "mp 1.1 -1.2",
+    "mul 1.1",
+    "mul  1.1 1.2",
+    "mul 1.1 1.2 ",
+    "Refl",
+    "antisymm",
+    "modus 1.1 1.2",
+];
+
+const RULES: [&str; 17] = [
+    "refl",
+    "true",
+    "left",
+    "right",
+    "contra",
+    "byc",
+    "iff",
+    "antisym",
+    "cases 1.1",
+    "absurd 1.1",
+    "drop 0.0",
+    "revert 4294967295.4294967295",
+    "mp 1.1 2.2",
+    "absurd 1.1 1.2",
+    "mul 1.1 1.1",
+    "absurd 0.1",
+    "mp 0.0 0.0",
+];
+
+/// The first bad line of a file in which this is the second step.
+fn bad_line_of_step(alloc: Global, step: &str) -> Result<u32, Fail> {
+    let text = format!(in alloc; "creusot-proofs 1\nproof 1 x\nsplit\n{step}\nend\n")?;
+    Ok(bad_line(alloc, text.as_bytes()))
+}
+
+#[test]
+fn lines_of_rules(rt: HostRuntime) -> Result<(), Fail> {
+    for step in BAD_RULES {
+        assert!(rt; bad_line_of_step(rt.alloc(), step)? == 4, "{step}");
+    }
+    for step in RULES {
+        assert!(rt; bad_line_of_step(rt.alloc(), step)? == 0, "{step}");
+    }
+    Ok(())
+}

@@ -8,7 +8,7 @@ use std::alloc::Global;
 use std::test::Fail;
 use text_core::{Items, Kind, NoMemory, Span, Text};
 
-fn obligation(alloc: Global, goal: Term) -> Result<Obligation, NoMemory> {
+pub(crate) fn obligation(alloc: Global, goal: Term) -> Result<Obligation, NoMemory> {
     Ok(Obligation {
         owner: Text::from_bytes(alloc, b"next")?,
         number: 1,
@@ -28,7 +28,7 @@ fn below_gives(alloc: Global, goal: &[u8]) -> Result<Obligation, NoMemory> {
 }
 
 /// Does a step, of which a test has few.
-fn apply(kernel: &mut Kernel<'_>, alloc: Global, step: &Step) -> Result<(), StepError>
+pub(crate) fn apply(kernel: &mut Kernel<'_>, alloc: Global, step: &Step) -> Result<(), StepError>
     requires { kernel.old.step < 100 }
     ensures { OnOk result (kernel.new.step ≡ kernel.old.step + 1) }
 {

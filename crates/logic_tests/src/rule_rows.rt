@@ -1,0 +1,255 @@
+//! Proofs of one obligation as text, through the kernel. In the goals A is `z < 0`, B is `w < 0` and C is `z <= w`; an operator stands
+//! before its parts, as in `written.rt`.
+ghost use Rattle.std.specs.Prelude.{◌≤◌, ◌<◌, length};
+
+use crate::steps::{apply, obligation};
+use crate::written::term;
+use logic_term::Obligation;
+use proof_kernel::{Kernel, StepError, Tables};
+use proof_text::{NumberedStep, ProofFile, read_proofs};
+use std::alloc::Global;
+use std::process::Abort;
+use std::test::Fail;
+use text_core::Names;
+
+/// The file with these lines as the steps of its one proof.
+fn file_of(alloc: Global, steps: &str) -> Result<ProofFile, Fail> {
+    let text = format!(in alloc; "creusot-proofs 1\nproof 1 next\n{steps}end\n")?;
+    if text.len() > 1000 {
+        return Err("long".into());
+    }
+    let mut names = Names::new(alloc);
+    Ok(read_proofs(alloc, text.as_bytes(), &mut names)?)
+}
+
+/// Whether no sequent is left when the steps are done.
+fn closes(
+    alloc: Global,
+    obligation: &Obligation,
+    tables: &Tables,
+    steps: &[NumberedStep],
+) -> Result<bool, StepError>
+    requires { length steps.now < 90 }
+{
+    let mut kernel = Kernel::new(alloc, obligation, tables)?;
+    for numbered in steps {
+        apply(&mut kernel, alloc, &numbered.step)?;
+    }
+    Ok(kernel.closed())
+}
+
+/// What the steps of the text make of the goal of the text.
+fn outcome(alloc: Global, goal: &str, steps: &str) -> Result<Result<bool, StepError>, Fail> {
+    let file = file_of(alloc, steps)?;
+    let proof = file.proofs.get(0).ok_or("no proof")?;
+    let steps = proof.steps.as_slice();
+    if steps.len() >= 90 {
+        return Err("many steps".into());
+    }
+    let obligation = obligation(alloc, term(alloc, goal.as_bytes())?)?;
+    let tables = Tables::new(alloc);
+    Ok(closes(alloc, &obligation, &tables, steps))
+}
+
+/// The number of the step that no rule fits; 0 where there is none.
+fn refused_at(alloc: Global, goal: &str, steps: &str) -> Result<u32, Fail> {
+    match outcome(alloc, goal, steps)? {
+        Err(StepError::RuleFails { step }) => Ok(step),
+        _ => Ok(0),
+    }
+}
+
+fn is_closed(alloc: Global, goal: &str, steps: &str) -> Result<bool, Fail> {
+    match outcome(alloc, goal, steps)? {
+        Ok(closed) => Ok(closed),
+        Err(_) => Ok(false),
+    }
+}
+
+/// Rules by the form of the goal, which close it.
+const BY_GOAL: [(&str, &str); 12] = [
+    ("ZW=zz", "intro z w\nrefl\n"),
+    ("=X<@xcY<@yc", "refl\n"),
+    ("T", "true\n"),
+    ("ZW><z0|<z0<w0", "intro z w\nleft\nhyp 1.1\n"),
+    ("ZW><w0|<z0<w0", "intro z w\nright\nhyp 1.1\n"),
+    ("ZW><w0||<z0<w0lzw", "intro z w\nleft\nright\nhyp 1.1\n"),
+    ("ZW>lzw||<z0<w0lzw", "intro z w\nright\nhyp 1.1\n"),
+    ("ZW>!<z0!<z0", "intro z w\ncontra\nabsurd 2.1 1.1\n"),
+    ("ZW>F!<z0", "intro z w\ncontra\nhyp 1.1\n"),
+    ("ZW><z0<z0", "intro z w\nbyc\nabsurd 1.1 2.1\n"),
+    ("ZW>!<z0!<z0", "intro z w\nbyc\nabsurd 1.1 2.1\n"),
+    ("ZW>F<z0", "intro z w\nbyc\nhyp 1.1\n"),
+];
+
+/// Goals of another form, or another goal behind the rule, with the step that is refused.
+const NOT_BY_GOAL: [(&str, &str, u32); 15] = [
+    ("ZW=zw", "intro z w\nrefl\n", 2),
+    ("ZWlzz", "intro z w\nrefl\n", 2),
+    ("ZW=zz", "refl\n", 1),
+    ("F", "true\n", 1),
+    ("ZW=zz", "intro z w\ntrue\n", 2),
+    ("ZW><z0|<z0<w0", "intro z w\nright\nhyp 1.1\n", 3),
+    ("ZW><w0|<z0<w0", "intro z w\nleft\nhyp 1.1\n", 3),
+    ("ZW><z0&<z0<w0", "intro z w\nleft\n", 2),
+    ("ZW><z0&<z0<w0", "intro z w\nright\n", 2),
+    ("ZW><z0<z0", "intro z w\ncontra\n", 2),
+    ("ZW>!<z0!<z0", "intro z w\ncontra\nhyp 1.1\n", 3),
+    ("ZW>!<z0!<z0", "intro z w\ncontra\nabsurd 1.1 2.1\n", 3),
+    ("ZW><z0<z0", "intro z w\nbyc\nhyp 1.1\n", 3),
+    ("ZW><z0<z0", "intro z w\nbyc\nabsurd 2.1 1.1\n", 3),
+    ("ZW>F<z0", "byc\nabsurd 1.1 1.1\n", 2),
+];
+
+/// Rules by the form of one hypothesis. Those that take it apart number what they add from 1 in each premise.
+const BY_HYPOTHESIS: [(&str, &str); 19] = [
+    ("ZW>&&<z0<w0lzw<z0", "intro z w\ncases 1.1\nhyp 2.1\n"),
+    ("ZW>&&<z0<w0lzw<w0", "intro z w\ncases 1.1\nhyp 2.2\n"),
+    ("ZW>&&<z0<w0lzwlzw", "intro z w\ncases 1.1\nhyp 2.3\n"),
+    ("ZW>&<z0&<w0lzwlzw", "intro z w\ncases 1.1\nhyp 2.3\n"),
+    ("ZW>&<z0<w0&<z0<w0", "intro z w\ncases 1.1\nhyp 1.1\n"),
+    (
+        "ZW>|<z0<w0|<w0<z0",
+        "intro z w\ncases 1.1\nright\nhyp 2.1\nleft\nhyp 2.1\n",
+    ),
+    (
+        "ZW>||<z0<z0<z0<z0",
+        "intro z w\ncases 1.1\nhyp 2.1\nhyp 2.1\nhyp 2.1\n",
+    ),
+    (
+        "ZW>|<z0|<z0<z0<z0",
+        "intro z w\ncases 1.1\nhyp 2.1\nhyp 2.1\nhyp 2.1\n",
+    ),
+    (
+        "ZW>><z0<w0|!<z0<w0",
+        "intro z w\ncases 1.1\nleft\nhyp 2.1\nright\nhyp 2.1\n",
+    ),
+    ("ZW>!&<z0<w0|!<z0!<w0", "intro z w\ncases 1.1\nhyp 2.1\n"),
+    ("ZW>!|<z0<w0&!<z0!<w0", "intro z w\ncases 1.1\nhyp 2.1\n"),
+    ("ZW>!><z0<w0&<z0!<w0", "intro z w\ncases 1.1\nhyp 2.1\n"),
+    ("ZW>!!<z0<z0", "intro z w\ncases 1.1\nhyp 2.1\n"),
+    (
+        "ZW>!&&<z0<w0lzw|!&<z0<w0!lzw",
+        "intro z w\ncases 1.1\nhyp 2.1\n",
+    ),
+    ("ZW>F<z0", "intro z w\nabsurd 1.1\n"),
+    ("ZW><z0><w0<w0", "intro z w\ndrop 1.1\nhyp 1.2\n"),
+    ("ZW><z0<z0", "intro z w\nrevert 1.1\nintro\nhyp 3.1\n"),
+    ("ZW><z0><w0<w0", "intro z w\nrevert 1.1\nintro\nhyp 1.2\n"),
+    (
+        "ZW><w0><z0<z0",
+        "intro z w\nrevert 1.2\nrevert 1.1\nintro\nhyp 4.2\n",
+    ),
+];
+
+const NOT_BY_HYPOTHESIS: [(&str, &str, u32); 15] = [
+    ("ZW><z0<z0", "intro z w\ncases 1.1\n", 2),
+    ("ZW>!<z0!<z0", "intro z w\ncases 1.1\n", 2),
+    ("ZW>=zw<z0", "intro z w\ncases 1.1\n", 2),
+    ("ZW>T<z0", "intro z w\ncases 1.1\n", 2),
+    ("ZW>&<z0<w0<z0", "intro z w\ncases 1.2\n", 2),
+    ("ZW>&<z0<w0<z0", "intro z w\ncases 1.1\nhyp 2.2\n", 3),
+    (
+        "ZW>|<z0<w0<z0",
+        "intro z w\ncases 1.1\nhyp 2.1\nhyp 2.1\n",
+        4,
+    ),
+    ("ZW>><z0<w0<w0", "intro z w\ncases 1.1\nhyp 2.1\n", 3),
+    ("ZW>T<z0", "intro z w\nabsurd 1.1\n", 2),
+    ("ZW>!<z0<z0", "intro z w\nabsurd 1.1\n", 2),
+    ("ZW><z0<z0", "intro z w\ndrop 1.2\n", 2),
+    ("ZW><z0<z0", "intro z w\ndrop 1.1\nhyp 1.1\n", 3),
+    ("ZW><z0<z0", "intro z w\nrevert 1.2\n", 2),
+    ("ZW><z0<z0", "intro z w\nrevert 1.1\nhyp 1.1\n", 3),
+    ("ZW><z0<z0", "intro z w\nrevert 1.1\nintro\nhyp 1.1\n", 4),
+];
+
+/// Rules by the forms of two hypotheses.
+const BY_TWO: [(&str, &str); 8] = [
+    ("ZW>><z0<w0><z0<w0", "intro z w\nmp 1.1 1.2\nhyp 2.1\n"),
+    ("ZW><z0>><z0<w0<w0", "intro z w\nmp 1.2 1.1\nhyp 2.1\n"),
+    ("ZW>>X<@xclzw>Y<@yclzw", "intro z w\nmp 1.1 1.2\nhyp 2.1\n"),
+    ("ZW><z0>!<z0<w0", "intro z w\nabsurd 1.1 1.2\n"),
+    ("ZW>X<@xc>!Y<@yc<w0", "intro z w\nabsurd 1.1 1.2\n"),
+    ("ZW>lz1>lw2l0*-1z-2w", "intro z w\nmul 1.1 1.2\nhyp 2.1\n"),
+    ("ZW>lz1>lw2l0*-2w-1z", "intro z w\nmul 1.2 1.1\nhyp 2.1\n"),
+    ("ZW>l0zl0*-z0-z0", "intro z w\nmul 1.1 1.1\nhyp 2.1\n"),
+];
+
+const NOT_BY_TWO: [(&str, &str, u32); 11] = [
+    ("ZW>><z0<w0><z0<w0", "intro z w\nmp 1.2 1.1\n", 2),
+    ("ZW>><z0<w0><w0<z0", "intro z w\nmp 1.1 1.2\n", 2),
+    ("ZW>><z0<w0><z0<w0", "intro z w\nmp 1.1 1.3\n", 2),
+    ("ZW>><z0<w0><z0<z0", "intro z w\nmp 1.1 1.2\nhyp 2.1\n", 3),
+    ("ZW><z0>!<z0<w0", "intro z w\nabsurd 1.2 1.1\n", 2),
+    ("ZW><z0>!<w0<w0", "intro z w\nabsurd 1.1 1.2\n", 2),
+    ("ZW>F>!F<w0", "intro z w\nabsurd 1.1 1.1\n", 2),
+    ("ZW><z1>lw2l0*-1z-2w", "intro z w\nmul 1.1 1.2\n", 2),
+    ("ZW>lz1><w2l0*-1z-2w", "intro z w\nmul 1.1 1.2\n", 2),
+    ("ZW>lz1>=w2l0*-1z-2w", "intro z w\nmul 1.1 1.2\n", 2),
+    (
+        "ZW>lz1>lw2l0*-1z-2w",
+        "intro z w\nmul 1.2 1.1\nhyp 2.1\n",
+        3,
+    ),
+];
+
+fn expect_closed(rt: &impl Abort, alloc: Global, rows: &[(&str, &str)]) -> Result<(), Fail> {
+    for (goal, steps) in rows {
+        assert!(rt; is_closed(alloc, *goal, *steps)?, "{goal} by {steps}");
+    }
+    Ok(())
+}
+
+fn expect_refused(rt: &impl Abort, alloc: Global, rows: &[(&str, &str, u32)]) -> Result<(), Fail> {
+    for (goal, steps, step) in rows {
+        assert!(rt;
+            refused_at(alloc, *goal, *steps)? == *step,
+            "{goal} by {steps}"
+        );
+    }
+    Ok(())
+}
+
+#[test]
+fn by_the_form_of_the_goal(rt: HostRuntime) -> Result<(), Fail> {
+    expect_closed(&rt, rt.alloc(), &BY_GOAL)?;
+    expect_refused(&rt, rt.alloc(), &NOT_BY_GOAL)
+}
+
+#[test]
+fn by_the_form_of_a_hypothesis(rt: HostRuntime) -> Result<(), Fail> {
+    expect_closed(&rt, rt.alloc(), &BY_HYPOTHESIS)?;
+    expect_refused(&rt, rt.alloc(), &NOT_BY_HYPOTHESIS)
+}
+
+#[test]
+fn by_the_forms_of_two_hypotheses(rt: HostRuntime) -> Result<(), Fail> {
+    expect_closed(&rt, rt.alloc(), &BY_TWO)?;
+    expect_refused(&rt, rt.alloc(), &NOT_BY_TWO)
+}
+
+/// Steps that cite a label of no step above them.
+const UNKNOWN: [&str; 8] = [
+    "cases 2.1\n",
+    "absurd 3.1\n",
+    "drop 0.1\n",
+    "revert 2.1\n",
+    "mp 2.1 1.1\n",
+    "mp 1.1 2.1\n",
+    "absurd 1.1 0.1\n",
+    "mul 9.1 1.1\n",
+];
+
+#[test]
+fn labels_of_steps_above_alone(rt: HostRuntime) -> Result<(), Fail> {
+    for line in UNKNOWN {
+        let steps = format!(in rt.alloc(); "intro z w\n{line}")?;
+        let refused = outcome(rt.alloc(), "ZW><z0><w0<z0", &steps)?;
+        assert!(rt;
+            matches!(refused, Err(StepError::UnknownStep { step: 2 })),
+            "{line}"
+        );
+    }
+    Ok(())
+}
