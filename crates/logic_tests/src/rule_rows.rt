@@ -67,7 +67,7 @@ fn is_closed(alloc: Global, goal: &str, steps: &str) -> Result<bool, Fail> {
 }
 
 /// Rules by the form of the goal, which close it.
-const BY_GOAL: [(&str, &str); 12] = [
+const BY_GOAL: [(&str, &str); 17] = [
     ("ZW=zz", "intro z w\nrefl\n"),
     ("=X<@xcY<@yc", "refl\n"),
     ("T", "true\n"),
@@ -80,10 +80,21 @@ const BY_GOAL: [(&str, &str); 12] = [
     ("ZW><z0<z0", "intro z w\nbyc\nabsurd 1.1 2.1\n"),
     ("ZW>!<z0!<z0", "intro z w\nbyc\nabsurd 1.1 2.1\n"),
     ("ZW>F<z0", "intro z w\nbyc\nhyp 1.1\n"),
+    (
+        "ZW=&<z0<w0&<w0<z0",
+        "intro z w\niff\nintro\ncases 3.1\nsplit\nhyp 4.2\nhyp 4.1\nintro\ncases 8.1\nsplit\nhyp 9.2\nhyp 9.1\n",
+    ),
+    ("B>x=xT", "intro x\niff\nintro\ntrue\nintro\nhyp 1.1\n"),
+    ("ZW>lzw>lwz=zw", "intro z w\nantisym\nhyp 1.1\nhyp 1.2\n"),
+    ("ZW>lzw>lwz=wz", "intro z w\nantisym\nhyp 1.2\nhyp 1.1\n"),
+    (
+        "XY>l@x@y>l@y@x=@x@y",
+        "intro x y\nantisym\nhyp 1.1\nhyp 1.2\n",
+    ),
 ];
 
 /// Goals of another form, or another goal behind the rule, with the step that is refused.
-const NOT_BY_GOAL: [(&str, &str, u32); 15] = [
+const NOT_BY_GOAL: [(&str, &str, u32); 20] = [
     ("ZW=zw", "intro z w\nrefl\n", 2),
     ("ZWlzz", "intro z w\nrefl\n", 2),
     ("ZW=zz", "refl\n", 1),
@@ -99,10 +110,15 @@ const NOT_BY_GOAL: [(&str, &str, u32); 15] = [
     ("ZW><z0<z0", "intro z w\nbyc\nhyp 1.1\n", 3),
     ("ZW><z0<z0", "intro z w\nbyc\nabsurd 2.1 1.1\n", 3),
     ("ZW>F<z0", "byc\nabsurd 1.1 1.1\n", 2),
+    ("ZW=zw", "intro z w\niff\n", 2),
+    ("ZW=<z0<w0", "intro z w\niff\nintro\nhyp 3.1\n", 4),
+    ("ZW=<z0<w0", "intro z w\nantisym\n", 2),
+    ("XY=xy", "intro x y\nantisym\n", 2),
+    ("ZW>lzw>lwz=zw", "intro z w\nantisym\nhyp 1.2\n", 3),
 ];
 
 /// Rules by the form of one hypothesis. Those that take it apart number what they add from 1 in each premise.
-const BY_HYPOTHESIS: [(&str, &str); 19] = [
+const BY_HYPOTHESIS: [(&str, &str); 23] = [
     ("ZW>&&<z0<w0lzw<z0", "intro z w\ncases 1.1\nhyp 2.1\n"),
     ("ZW>&&<z0<w0lzw<w0", "intro z w\ncases 1.1\nhyp 2.2\n"),
     ("ZW>&&<z0<w0lzwlzw", "intro z w\ncases 1.1\nhyp 2.3\n"),
@@ -140,9 +156,25 @@ const BY_HYPOTHESIS: [(&str, &str); 19] = [
         "ZW><w0><z0<z0",
         "intro z w\nrevert 1.2\nrevert 1.1\nintro\nhyp 4.2\n",
     ),
+    (
+        "ZW>=<z0<w0|<z0!<w0",
+        "intro z w\ncases 1.1\nleft\nhyp 2.1\nright\nhyp 2.2\n",
+    ),
+    (
+        "ZW>=<z0<w0|<w0!<z0",
+        "intro z w\ncases 1.1\nleft\nhyp 2.2\nright\nhyp 2.1\n",
+    ),
+    (
+        "ZW>!=<z0<w0|<z0<w0",
+        "intro z w\ncases 1.1\nleft\nhyp 2.1\nright\nhyp 2.2\n",
+    ),
+    (
+        "ZW>!=<z0<w0|!<w0!<z0",
+        "intro z w\ncases 1.1\nleft\nhyp 2.2\nright\nhyp 2.1\n",
+    ),
 ];
 
-const NOT_BY_HYPOTHESIS: [(&str, &str, u32); 15] = [
+const NOT_BY_HYPOTHESIS: [(&str, &str, u32); 17] = [
     ("ZW><z0<z0", "intro z w\ncases 1.1\n", 2),
     ("ZW>!<z0!<z0", "intro z w\ncases 1.1\n", 2),
     ("ZW>=zw<z0", "intro z w\ncases 1.1\n", 2),
@@ -162,6 +194,12 @@ const NOT_BY_HYPOTHESIS: [(&str, &str, u32); 15] = [
     ("ZW><z0<z0", "intro z w\nrevert 1.2\n", 2),
     ("ZW><z0<z0", "intro z w\nrevert 1.1\nhyp 1.1\n", 3),
     ("ZW><z0<z0", "intro z w\nrevert 1.1\nintro\nhyp 1.1\n", 4),
+    ("ZW>!=zw<z0", "intro z w\ncases 1.1\n", 2),
+    (
+        "ZW>=<z0<w0<z0",
+        "intro z w\ncases 1.1\nhyp 2.1\nhyp 2.1\n",
+        4,
+    ),
 ];
 
 /// Rules by the forms of two hypotheses.
