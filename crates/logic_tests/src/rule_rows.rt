@@ -1,6 +1,6 @@
 //! Proofs of one obligation as text, through the kernel. In the goals A is `z < 0`, B is `w < 0` and C is `z <= w`; an operator stands
 //! before its parts, as in `written.rt`.
-ghost use Rattle.std.specs.Prelude.{◌≤◌, ◌<◌, length};
+ghost use Rattle.std.specs.Prelude.{◌<◌, length};
 
 use crate::steps::{apply, obligation};
 use crate::written::term;
