@@ -69,6 +69,8 @@ abbrev mutual
   Causes σ Γ (E.repeat s None c b) e = IsMismatch e ⊎ (Causes σ Γ c e ⊎ Causes σ Γ b e)
   -- or an attribute before the loop is no invariant
   Causes σ Γ (E.attributed s is (E.repeat r None c b)) e = (IsMismatch e ⊎ IsUnbuilt e) ⊎ (Causes σ Γ c e ⊎ Causes σ Γ b e)
+  -- what panics fits every type
+  Causes σ Γ (E.panic s m text) e = ⊥
   Causes σ Γ a e = e ≡ unbuilt (span_of a)
 
   pub CausesInStmts : List Heading → List Variable → E.Stmts → SourceError → Type 0

@@ -6,7 +6,7 @@ use Rattle.type_check.specs.declared.assertion.Assertion.TheVariants.{Good, Bad}
 use Rattle.type_check.specs.declared.program.TypedClause.{TypedClause}
 use Rattle.type_check.specs.declared.program.TypedFunction.{TypedFunction}
 use Rattle.type_check.specs.Answers.{or_else}
-use Rattle.type_check.specs.TypedExpr.{TypedExpr, TypedStmts, TypedExprs, integer, truth, variable, negative, denied, binary, lazy, assign, update, call, block, branch, choice, repeat, done, last, bind, run, none, more}
+use Rattle.type_check.specs.TypedExpr.{TypedExpr, TypedStmts, TypedExprs, integer, truth, variable, negative, denied, binary, lazy, assign, update, call, block, branch, choice, repeat, panics, done, last, leaving, bind, run, none, more}
 
 abbrev pub bad_of : Assertion → Option SourceError
 bad_of (Good s t) = None
@@ -32,10 +32,12 @@ abbrev mutual
   bad_in (branch t s c a) = or_else (bad_in c) (bad_in a)
   bad_in (choice t s c a b) = or_else (bad_in c) (or_else (bad_in a) (bad_in b))
   bad_in (repeat t s is c b) = or_else (bad_among is) (or_else (bad_in c) (bad_in b))
+  bad_in (panics t s k) = None
 
   pub bad_in_stmts : TypedStmts → Option SourceError
   bad_in_stmts done = None
   bad_in_stmts (last e) = bad_in e
+  bad_in_stmts (leaving e) = bad_in e
   bad_in_stmts (bind e ss) = or_else (bad_in e) (bad_in_stmts ss)
   bad_in_stmts (run e ss) = or_else (bad_in e) (bad_in_stmts ss)
 

@@ -7,6 +7,7 @@ pub mod Declaring
 pub mod FirstBad
 pub mod Functions
 pub mod Laws
+pub mod Leaves
 pub mod Rules
 pub mod Scope
 pub mod TermChains

@@ -17,7 +17,7 @@ use Rattle.type_check.specs.Answers.{unbuilt, gather}
 use Rattle.type_check.specs.TypedExpr.{TypedExpr, TypedExprs}
 use Rattle.type_check.specs.TypedExpr as tree
 use Rattle.type_check.specs.TypedExprView.{ty_of, stmts_of}
-use Rattle.type_check.specs.Typing.{Typed, fit, literal, named, negated, is_bare, order_of, operands_of, operated, assigned, updated, callee_of, first_of, rest_of, called, Opened, opened, declared, behind, typed_stmt, closed, invariant_of, typed}
+use Rattle.type_check.specs.Typing.{Typed, fit, literal, named, negated, is_bare, order_of, operands_of, operated, assigned, updated, callee_of, first_of, rest_of, called, Opened, opened, declared, behind, typed_stmt, without_last, closed, given, chosen, panicked, invariant_of, typed}
 use Rattle.type_check.specs.WellTyped.{unit, is_arithmetic}
 use Rattle.type_check.specs.Written.{as_name, name_alone, step_of}
 
@@ -64,13 +64,14 @@ rule σ Γ (E.lazy s op a b) t = part Γ a (Some bool) λ x. part Γ b (Some boo
 rule σ Γ (E.assign s l e) t = part Γ l None λ a. part Γ e (Some (ty_of a)) λ b. comes (assigned Γ t s (span_of l) a b)
 rule σ Γ (E.update s op o l e) t = part Γ l None λ a. part Γ e (Some (ty_of a)) λ b. comes (updated Γ t s o (span_of l) op a b)
 rule σ Γ (E.call s f es) t = first (callee_of σ Γ s (as_name f)) λ g. each_arg Γ es g.signature.params λ as'. comes (called t s g as')
-rule σ Γ (E.block s ss) t = each_stmt Γ ss λ o. comes (closed t s (stmts_of o.stmts tree.done))
+rule σ Γ (E.block s ss) t = each_stmt Γ ss λ o. comes (closed t s (without_last o.stmts))
 rule σ Γ (E.block_with s ss e) t = each_stmt Γ ss λ o. part o.scope e t λ a. comes (closed t s (stmts_of o.stmts (tree.last a)))
 rule σ Γ (E.branch s None c a) t = part Γ c (Some bool) λ x. part Γ a (Some unit) λ y. comes (fit t s (tree.branch unit s x y))
-rule σ Γ (E.choice s None c a b) t = part Γ c (Some bool) λ x. part Γ a t λ y. part Γ b (Some (ty_of y)) λ z. comes (fit t s (tree.choice (ty_of y) s x y z))
+rule σ Γ (E.choice s None c a b) t = part Γ c (Some bool) λ x. part Γ a t λ y. part Γ b (given t y) λ z. comes (chosen t s x y z)
 rule σ Γ (E.repeat s None c b) t = part Γ c (Some bool) λ x. part Γ b (Some unit) λ y. comes (fit t s (tree.repeat unit s [] x y))
 -- a loop with its invariants, from the first attribute on
 rule σ Γ (E.attributed s is (E.repeat r None c b)) t = first (gather (invariant_of Γ) is) λ is'. part Γ c (Some bool) λ x. part Γ b (Some unit) λ y. comes (fit t s (tree.repeat unit s is' x y))
+rule σ Γ (E.panic s m text) t = comes (panicked t s m)
 rule σ Γ e t = comes (Err (unbuilt (span_of e)))
 
 -- ---- typing

@@ -1,5 +1,6 @@
 -- Expressions with types and resolved names: one constructor for each variant of `TypedNode`, after its type and its span.
 use Rattle.std.specs.Prelude.{ℕ, ℤ, Bool, List}
+use Rattle.text_core.specs.declared.refusal.Cause.{Cause}
 use Rattle.text_core.specs.declared.span.Span.{Span}
 use Rattle.source_kinds.specs.declared.kinds.BinaryOp.{BinaryOp}
 use Rattle.source_kinds.specs.declared.kinds.IntKind.{IntKind}
@@ -27,10 +28,14 @@ mutual
     branch : Ty → Span → TypedExpr → TypedExpr → TypedExpr
     choice : Ty → Span → TypedExpr → TypedExpr → TypedExpr → TypedExpr
     repeat : Ty → Span → List Assertion → TypedExpr → TypedExpr → TypedExpr
+    -- what always panics
+    panics : Ty → Span → Cause → TypedExpr
 
   pub data TypedStmts : Type 0 where
     done : TypedStmts
     last : TypedExpr → TypedStmts
+    -- the value of the last statement, behind which the run does not go on
+    leaving : TypedExpr → TypedStmts
     -- declares the next variable
     bind : TypedExpr → TypedStmts → TypedStmts
     run : TypedExpr → TypedStmts → TypedStmts

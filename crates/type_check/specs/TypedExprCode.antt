@@ -2,6 +2,7 @@
 use Rattle.std.specs.Prelude.{◌≡◌, ℕ}
 use Rattle.std.proofs.Common.{refl, ap, arith}
 use Rattle.std.specs.Coded.{Coded, coded_ℕ, coded_ℤ, coded_bool, coded_list}
+use Rattle.text_core.specs.contracts.refusal.Cause as cause
 use Rattle.text_core.specs.contracts.span.Span as span
 use Rattle.source_kinds.specs.contracts.kinds.BinaryOp as binary_op
 use Rattle.source_kinds.specs.contracts.kinds.IntKind as int_kind
@@ -9,7 +10,7 @@ use Rattle.logic_term.specs.TyCode.{coded_ty}
 use Rattle.source_kinds.specs.contracts.kinds.LazyOp as lazy_op
 use Rattle.type_check.specs.contracts.assertion.Assertion as assertion
 use base.Stored.{Gv, gnil, gnum, gcons, num}
-use Rattle.type_check.specs.TypedExpr.{TypedExpr, integer, truth, variable, negative, denied, binary, lazy, assign, update, call, block, branch, choice, repeat, TypedStmts, done, last, bind, run, TypedExprs, none, more}
+use Rattle.type_check.specs.TypedExpr.{TypedExpr, integer, truth, variable, negative, denied, binary, lazy, assign, update, call, block, branch, choice, repeat, panics, TypedStmts, done, last, leaving, bind, run, TypedExprs, none, more}
 
 abbrev pub head : Gv → Gv
 head gnil = gnil
@@ -40,12 +41,14 @@ abbrev mutual
   typed_code (branch a0 a1 a2 a3) = gcons (gnum 11) (gcons (coded_ty.code a0) (gcons (span.the_row.coded.code a1) (gcons (typed_code a2) (typed_code a3))))
   typed_code (choice a0 a1 a2 a3 a4) = gcons (gnum 12) (gcons (coded_ty.code a0) (gcons (span.the_row.coded.code a1) (gcons (typed_code a2) (gcons (typed_code a3) (typed_code a4)))))
   typed_code (repeat a0 a1 a2 a3 a4) = gcons (gnum 13) (gcons (coded_ty.code a0) (gcons (span.the_row.coded.code a1) (gcons ((coded_list assertion.the_row.coded).code a2) (gcons (typed_code a3) (typed_code a4)))))
+  typed_code (panics a0 a1 a2) = gcons (gnum 14) (gcons (coded_ty.code a0) (gcons (span.the_row.coded.code a1) (cause.the_row.coded.code a2)))
 
   pub stmts_code : TypedStmts → Gv
   stmts_code done = gcons (gnum 0) gnil
   stmts_code (last a0) = gcons (gnum 1) (typed_code a0)
   stmts_code (bind a0 a1) = gcons (gnum 2) (gcons (typed_code a0) (stmts_code a1))
   stmts_code (run a0 a1) = gcons (gnum 3) (gcons (typed_code a0) (stmts_code a1))
+  stmts_code (leaving a0) = gcons (gnum 4) (typed_code a0)
 
   pub exprs_code : TypedExprs → Gv
   exprs_code none = gcons (gnum 0) gnil
@@ -81,6 +84,7 @@ mutual
   typed_injective (repeat a0 a1 a2 a3 a4) (repeat b0 b1 b2 b3 b4) p =
       λ i. repeat (coded_ty.inj a0 b0 (ap (λ g. head (tail g)) p) i) (span.the_row.coded.inj a1 b1 (ap (λ g. head (tail (tail g))) p) i) ((coded_list assertion.the_row.coded).inj a2 b2 (ap (λ g. head (tail (tail (tail g)))) p) i)
       (typed_injective a3 b3 (ap (λ g. head (tail (tail (tail (tail g))))) p) i) (typed_injective a4 b4 (ap (λ g. tail (tail (tail (tail (tail g))))) p) i)
+  typed_injective (panics a0 a1 a2) (panics b0 b1 b2) p = λ i. panics (coded_ty.inj a0 b0 (ap (λ g. head (tail g)) p) i) (span.the_row.coded.inj a1 b1 (ap (λ g. head (tail (tail g))) p) i) (cause.the_row.coded.inj a2 b2 (ap (λ g. tail (tail (tail g))) p) i)
   typed_injective x y p = absurd (omega (arith, ap tag p))
 
   pub stmts_injective : (x y : TypedStmts) → stmts_code x ≡ stmts_code y → x ≡ y
@@ -88,6 +92,7 @@ mutual
   stmts_injective (last a0) (last b0) p = λ i. last (typed_injective a0 b0 (ap (λ g. tail g) p) i)
   stmts_injective (bind a0 a1) (bind b0 b1) p = λ i. bind (typed_injective a0 b0 (ap (λ g. head (tail g)) p) i) (stmts_injective a1 b1 (ap (λ g. tail (tail g)) p) i)
   stmts_injective (run a0 a1) (run b0 b1) p = λ i. run (typed_injective a0 b0 (ap (λ g. head (tail g)) p) i) (stmts_injective a1 b1 (ap (λ g. tail (tail g)) p) i)
+  stmts_injective (leaving a0) (leaving b0) p = λ i. leaving (typed_injective a0 b0 (ap (λ g. tail g) p) i)
   stmts_injective x y p = absurd (omega (arith, ap tag p))
 
   pub exprs_injective : (x y : TypedExprs) → exprs_code x ≡ exprs_code y → x ≡ y

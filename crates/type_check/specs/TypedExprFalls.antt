@@ -4,7 +4,7 @@ use Rattle.std.proofs.Common.{arith, refl}
 use denote.Param.Weighed.{most}
 use Rattle.text_core.specs.declared.span.Span.{Span}
 use Rattle.logic_term.specs.Ty.{Ty}
-use Rattle.type_check.specs.TypedExpr.{TypedExpr, TypedStmts, done, last}
+use Rattle.type_check.specs.TypedExpr.{TypedExpr, TypedStmts, done, last, leaving}
 use Rattle.type_check.specs.TypedExprView.{typed_of, typed_size, stmts_size, exprs_size, stmt_of, stmts_of, exprs_of}
 use Rattle.type_check.specs.declared.typed.TypedStmt.{TypedStmt}
 use Rattle.type_check.specs.declared.typed.TypedNode.{TypedNode}
@@ -44,6 +44,8 @@ falls t s (node.Update a0 a1 a2) = omega arith
 falls t s (node.Call a0 a1) = omega (arith, most_exprs a1.items)
 falls t s (node.Block ss) = omega (arith, most_stmts ss.items done)
 falls t s (node.BlockWith ss e) = omega (arith, most_stmts ss.items (last e))
+falls t s (node.BlockLeaving ss e) = omega (arith, most_stmts ss.items (leaving e))
 falls t s (node.If a0 a1) = omega arith
 falls t s (node.IfElse a0 a1 a2) = omega arith
 falls t s (node.While a0 a1 a2) = omega arith
+falls t s (node.Panic a0) = omega arith

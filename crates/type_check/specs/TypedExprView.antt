@@ -2,7 +2,7 @@
 use Rattle.std.specs.Prelude.{ℕ, suc, max, Bool, true, false, List, [], ◌∷◌}
 use Rattle.text_core.specs.declared.span.Span.{Span}
 use Rattle.logic_term.specs.Ty.{Ty}
-use Rattle.type_check.specs.TypedExpr.{TypedExpr, integer, truth, variable, negative, denied, binary, lazy, assign, update, call, block, branch, choice, repeat, TypedStmts, done, last, bind, run, TypedExprs, none, more}
+use Rattle.type_check.specs.TypedExpr.{TypedExpr, integer, truth, variable, negative, denied, binary, lazy, assign, update, call, block, branch, choice, repeat, panics, TypedStmts, done, last, leaving, bind, run, TypedExprs, none, more}
 use Rattle.type_check.specs.declared.typed.TypedStmt.{TypedStmt}
 use Rattle.type_check.specs.declared.typed.TypedNode.{TypedNode}
 use Rattle.type_check.specs.declared.typed.TypedNode.TheVariants as node
@@ -33,9 +33,11 @@ typed_of t s (node.Update a0 a1 a2) = update t s a0 a1 a2
 typed_of t s (node.Call a0 a1) = call t s a0 (exprs_of a1.items)
 typed_of t s (node.Block ss) = block t s (stmts_of ss.items done)
 typed_of t s (node.BlockWith ss e) = block t s (stmts_of ss.items (last e))
+typed_of t s (node.BlockLeaving ss e) = block t s (stmts_of ss.items (leaving e))
 typed_of t s (node.If a0 a1) = branch t s a0 a1
 typed_of t s (node.IfElse a0 a1 a2) = choice t s a0 a1 a2
 typed_of t s (node.While a0 a1 a2) = repeat t s a0.items a1 a2
+typed_of t s (node.Panic a0) = panics t s a0
 
 abbrev mutual
   pub typed_size : TypedExpr → ℕ
@@ -53,10 +55,12 @@ abbrev mutual
   typed_size (branch a0 a1 a2 a3) = suc (max (typed_size a2) (typed_size a3))
   typed_size (choice a0 a1 a2 a3 a4) = suc (max (typed_size a2) (max (typed_size a3) (typed_size a4)))
   typed_size (repeat a0 a1 a2 a3 a4) = suc (max (typed_size a3) (typed_size a4))
+  typed_size (panics a0 a1 a2) = 1
 
   pub stmts_size : TypedStmts → ℕ
   stmts_size done = 1
   stmts_size (last a0) = suc (typed_size a0)
+  stmts_size (leaving a0) = suc (typed_size a0)
   stmts_size (bind a0 a1) = suc (max (typed_size a0) (stmts_size a1))
   stmts_size (run a0 a1) = suc (max (typed_size a0) (stmts_size a1))
 
@@ -79,6 +83,7 @@ ty_of (block t s a0) = t
 ty_of (branch t s a0 a1) = t
 ty_of (choice t s a0 a1 a2) = t
 ty_of (repeat t s a0 a1 a2) = t
+ty_of (panics t s a0) = t
 
 abbrev pub span_of : TypedExpr → Span
 span_of (integer t s a0 a1) = s
@@ -95,3 +100,4 @@ span_of (block t s a0) = s
 span_of (branch t s a0 a1) = s
 span_of (choice t s a0 a1 a2) = s
 span_of (repeat t s a0 a1 a2) = s
+span_of (panics t s a0) = s

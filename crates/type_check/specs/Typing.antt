@@ -1,8 +1,10 @@
 -- Which variable each name means and which type each expression has, in the form of bidirectional typing (Pierce and Turner
 -- 2000): without an expected type an expression gives one, with one it fits it (Rust Reference, "Operator expressions",
--- "Call expressions", "Block expressions", "if expressions", "Predicate loops"). What has no row is not built.
+-- "Call expressions", "Block expressions", "if expressions", "Predicate loops", "Diverging expressions"). What has no row is not built.
 use Rattle.std.specs.Prelude.{ℕ, suc, ℤ, ◌==◌, ◌++◌, Bool, true, false, List, [], ◌∷◌, length, Option, Some, None, Result, Ok, Err, slice_get, if◌then◌else◌}
 use Rattle.text_core.specs.declared.name.Name.{Name}
+use Rattle.text_core.specs.declared.refusal.Cause.{Cause}
+use Rattle.text_core.specs.declared.refusal.Cause.TheVariants as cause
 use Rattle.text_core.specs.declared.refusal.SourceError.{SourceError}
 use Rattle.text_core.specs.declared.span.Span.{Span}
 use Rattle.source_kinds.specs.declared.kinds.BinaryOp.{BinaryOp}
@@ -15,6 +17,8 @@ use Rattle.source_trees.specs.declared.attribute.AttributeNode.{AttributeNode}
 use Rattle.source_trees.specs.declared.attribute.AttributeNode.TheVariants as A
 use Rattle.source_trees.specs.declared.attribute.ClauseKind.TheVariants.{Invariant}
 use Rattle.source_trees.specs.declared.expr.Stmt.{Stmt}
+use Rattle.source_trees.specs.declared.operator.PanicMacro.{PanicMacro}
+use Rattle.source_trees.specs.declared.operator.PanicMacro.TheVariants.{Panic, Unreachable}
 use Rattle.source_trees.specs.declared.operator.UnaryOp.TheVariants.{Neg, Not}
 use Rattle.source_trees.specs.declared.path.Segment.{Segment}
 use Rattle.source_trees.specs.Expr as E
@@ -33,11 +37,12 @@ use Rattle.type_check.specs.declared.statements.Step.{Step}
 use Rattle.type_check.specs.declared.typed.TypedStmt.{TypedStmt}
 use Rattle.type_check.specs.Answers.{◌>>=◌, unknown_name, mismatch, unbuilt, not_mutable, wanted, gather}
 use Rattle.type_check.specs.Functions.{callee}
+use Rattle.type_check.specs.Leaves.{leaves}
 use Rattle.type_check.specs.Scope.{found}
 use Rattle.type_check.specs.Terms.{assertion}
 use Rattle.type_check.specs.TypedExpr.{TypedExpr, TypedStmts, TypedExprs}
 use Rattle.type_check.specs.TypedExpr as tree
-use Rattle.type_check.specs.TypedExprView.{ty_of, stmts_of}
+use Rattle.type_check.specs.TypedExprView.{ty_of, stmt_of, stmts_of}
 use Rattle.type_check.specs.Types.{same_ty, is_signed_ty}
 use Rattle.type_check.specs.WellTyped.{unit, is_arithmetic, operation_ty}
 use Rattle.type_check.specs.Written.{as_name, name_alone, step_of}
@@ -186,11 +191,18 @@ called t s f es =
 
 -- ---- blocks
 
-abbrev pub block_ty : TypedStmts → Ty
-block_ty tree.done = unit
-block_ty (tree.last e) = ty_of e
-block_ty (tree.bind e ss) = block_ty ss
-block_ty (tree.run e ss) = block_ty ss
+-- what leaves has the type that is asked for: unit where none is
+abbrev pub asked : Option Ty → Ty
+asked None = unit
+asked (Some t) = t
+
+-- the type of a block of these statements, of which t is expected
+abbrev pub block_ty : Option Ty → TypedStmts → Ty
+block_ty t tree.done = unit
+block_ty t (tree.last e) = ty_of e
+block_ty t (tree.leaving e) = asked t
+block_ty t (tree.bind e ss) = block_ty t ss
+block_ty t (tree.run e ss) = block_ty t ss
 
 -- the scope behind a statement of this value
 abbrev pub declared : List Variable → Option Declared → TypedExpr → List Variable
@@ -216,9 +228,40 @@ opened Γ ss = record { scope = Γ; stmts = ss }
 abbrev pub behind : TypedStmt → Opened → Opened
 behind s o = opened o.scope (s ∷ o.stmts)
 
+-- the end of a block without a last expression: its last statement is apart where it leaves
+abbrev pub end_of : TypedStmt → TypedStmts
+end_of s = if leaves s.value then tree.leaving s.value else stmt_of s.binds s.value tree.done
+
+abbrev pub without_last : List TypedStmt → TypedStmts
+without_last [] = tree.done
+without_last (s ∷ []) = end_of s
+without_last (s ∷ ss) = stmt_of s.binds s.value (without_last ss)
+
 -- a block of these statements
 unfoldable pub closed : Option Ty → Span → TypedStmts → Typed
-closed t s ss = fit t s (tree.block (block_ty ss) s ss)
+closed t s ss = fit t s (tree.block (block_ty t ss) s ss)
+
+-- ---- `if` with `else`
+
+-- what is asked of the second side: the type of the first, if that has a value
+abbrev pub given : Option Ty → (first : TypedExpr) → Option Ty
+given t y = if leaves y then t else Some (ty_of y)
+
+-- the type of both sides
+abbrev pub choice_ty : (first second : TypedExpr) → Ty
+choice_ty y z = if leaves y then ty_of z else ty_of y
+
+abbrev pub chosen : Option Ty → Span → (condition first second : TypedExpr) → Typed
+chosen t s x y z = fit t s (tree.choice (choice_ty y z) s x y z)
+
+-- ---- what always panics
+
+abbrev pub cause_of : PanicMacro → Cause
+cause_of Panic = cause.Panic
+cause_of Unreachable = cause.Unreachable
+
+abbrev pub panicked : Option Ty → Span → PanicMacro → Typed
+panicked t s m = Ok (tree.panics (asked t) s (cause_of m))
 
 -- ---- loops
 
@@ -265,7 +308,7 @@ abbrev mutual
     called t s g as'
   typed σ Γ (E.block s ss) t = do
     o ← typed_stmts σ Γ ss
-    closed t s (stmts_of o.stmts tree.done)
+    closed t s (without_last o.stmts)
   typed σ Γ (E.block_with s ss e) t = do
     o ← typed_stmts σ Γ ss
     a ← typed σ o.scope e t
@@ -277,8 +320,8 @@ abbrev mutual
   typed σ Γ (E.choice s None c a b) t = do
     x ← typed σ Γ c (Some bool)
     y ← typed σ Γ a t
-    z ← typed σ Γ b (Some (ty_of y))
-    fit t s (tree.choice (ty_of y) s x y z)
+    z ← typed σ Γ b (given t y)
+    chosen t s x y z
   typed σ Γ (E.repeat s None c b) t = do
     x ← typed σ Γ c (Some bool)
     y ← typed σ Γ b (Some unit)
@@ -289,6 +332,7 @@ abbrev mutual
     x ← typed σ Γ c (Some bool)
     y ← typed σ Γ b (Some unit)
     fit t s (tree.repeat unit s is' x y)
+  typed σ Γ (E.panic s m text) t = panicked t s m
   typed σ Γ e t = Err (unbuilt (span_of e))
 
   pub typed_stmts : List Heading → List Variable → E.Stmts → Result Opened SourceError

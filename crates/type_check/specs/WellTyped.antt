@@ -17,7 +17,8 @@ use Rattle.type_check.specs.declared.program.Signature.{Signature}
 use Rattle.type_check.specs.declared.program.TypedClause.{TypedClause}
 use Rattle.type_check.specs.declared.program.TypedFunction.{TypedFunction}
 use Rattle.type_check.specs.declared.program.TypedProgram.{TypedProgram}
-use Rattle.type_check.specs.TypedExpr.{TypedExpr, TypedStmts, TypedExprs, integer, truth, variable, negative, denied, binary, lazy, assign, update, call, block, branch, choice, repeat, done, last, bind, run, none, more}
+use Rattle.type_check.specs.TypedExpr.{TypedExpr, TypedStmts, TypedExprs, integer, truth, variable, negative, denied, binary, lazy, assign, update, call, block, branch, choice, repeat, panics, done, last, leaving, bind, run, none, more}
+use Rattle.type_check.specs.Leaves.{leaves}
 use Rattle.type_check.specs.TypedExprView.{ty_of}
 use Rattle.type_check.specs.VariableNames.{variable_name, answer_name}
 
@@ -89,6 +90,10 @@ EachSpeaks n (a ∷ as') = SpeaksOf n a × EachSpeaks n as'
 abbrev pub IsOf : Ty → TypedExpr → Type 0
 IsOf t e = ty_of e ≡ t
 
+-- it has the type, or never a value
+abbrev pub IsOfOrLeaves : Ty → TypedExpr → Type 0
+IsOfOrLeaves t e = IsOf t e ⊎ (leaves e ≡ true)
+
 abbrev mutual
   pub IsWellTyped : List Signature → List Ty → TypedExpr → Type 0
   IsWellTyped σ Γ (integer t s z k) = (t ≡ int k) × (fits k z ≡ true)
@@ -103,13 +108,16 @@ abbrev mutual
   IsWellTyped σ Γ (call t s f es) = (g : Signature) × (slice_get σ f ≡ Some g) × (t ≡ g.answer) × ArgumentsFit σ Γ es g.params
   IsWellTyped σ Γ (block t s ss) = StatementsFit σ Γ t ss
   IsWellTyped σ Γ (branch t s c a) = (t ≡ unit) × IsOf bool c × IsOf unit a × IsWellTyped σ Γ c × IsWellTyped σ Γ a
-  IsWellTyped σ Γ (choice t s c a b) = IsOf bool c × IsOf t a × IsOf t b × IsWellTyped σ Γ c × IsWellTyped σ Γ a × IsWellTyped σ Γ b
+  -- a side that leaves fits any type
+  IsWellTyped σ Γ (choice t s c a b) = IsOf bool c × IsOfOrLeaves t a × IsOfOrLeaves t b × IsWellTyped σ Γ c × IsWellTyped σ Γ a × IsWellTyped σ Γ b
   IsWellTyped σ Γ (repeat t s is c b) = (t ≡ unit) × EachSpeaks (length Γ) is × IsOf bool c × IsOf unit b × IsWellTyped σ Γ c × IsWellTyped σ Γ b
+  IsWellTyped σ Γ (panics t s k) = Unit {0}
 
   -- the statements of a block of the type, and its last expression
   pub StatementsFit : List Signature → List Ty → Ty → TypedStmts → Type 0
   StatementsFit σ Γ t done = t ≡ unit
   StatementsFit σ Γ t (last e) = IsOf t e × IsWellTyped σ Γ e
+  StatementsFit σ Γ t (leaving e) = (leaves e ≡ true) × IsWellTyped σ Γ e
   StatementsFit σ Γ t (bind e ss) = IsWellTyped σ Γ e × StatementsFit σ (Γ ++ ty_of e ∷ []) t ss
   StatementsFit σ Γ t (run e ss) = IsWellTyped σ Γ e × StatementsFit σ Γ t ss
 

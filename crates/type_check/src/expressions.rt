@@ -14,12 +14,12 @@ use crate::heading::{Callee, Heading, find_callee};
 use crate::operands::{Operands, Order};
 use crate::refusal::{unbuilt, unknown_name};
 use crate::scope::Variable;
-use crate::statements::{block, block_with, declare};
+use crate::statements::{block_with, declare, whole_block};
 use crate::typed::{TypedExpr, TypedStmt};
 use crate::types::is_arithmetic;
 use crate::typing::{
-    assigned, branch, called, choice, denied, given_ty, is_bare, lazy, literal, named, negated,
-    operated, order_of, param_ty, repeat, span_of, spans_at, truth, updated,
+    assigned, branch, called, choice, denied, given_by, given_ty, is_bare, lazy, literal, named,
+    negated, operated, order_of, panicked, param_ty, repeat, span_of, spans_at, truth, updated,
 };
 use crate::written::{as_name, name_alone, step_of};
 use logic_term::Ty;
@@ -132,6 +132,7 @@ fn type_form(
             attributes.as_slice(),
             e,
         ),
+        ExprNode::Panic(panic, _) => panicked(alloc, expected, whole, *panic),
         ExprNode::Receiver
         | ExprNode::Literal(_, _)
         | ExprNode::Tuple(_)
@@ -145,7 +146,6 @@ fn type_form(
         | ExprNode::ReturnWith(_)
         | ExprNode::Break
         | ExprNode::Continue
-        | ExprNode::Panic(_, _)
         | ExprNode::Ghost(_, _)
         | ExprNode::Cast(_, _)
         | ExprNode::Borrow(_, _)
@@ -319,7 +319,7 @@ fn type_block(
     let around = scope.len();
     let stmts = type_statements(alloc, headings, scope, stmts)?;
     scope.truncate(around);
-    block(alloc, expected, whole, stmts)
+    whole_block(alloc, expected, whole, stmts)
 }
 
 /// A block with a last expression.
@@ -364,7 +364,7 @@ fn type_branch(
     branch(alloc, expected, whole, test, body)
 }
 
-/// `if` with `else`: the first of the two gives the other its type.
+/// `if` with `else`: the first of the two gives the other its type, unless it leaves.
 #[cycle(type_expr)]
 #[tactic(auto, using(crate::proofs::Parts::parts))]
 fn type_choice(
@@ -382,7 +382,7 @@ fn type_choice(
 {
     let condition = type_expr(alloc, headings, scope, condition, &Some(Ty::bool()))?;
     let yes = type_expr(alloc, headings, scope, yes, expected)?;
-    let wanted = given_ty(alloc, &yes)?;
+    let wanted = given_by(alloc, expected, &yes)?;
     let no = type_expr(alloc, headings, scope, no, &wanted)?;
     choice(alloc, expected, whole, condition, yes, no)
 }

@@ -85,11 +85,13 @@ fn bad_in_form(e: &TypedExpr) -> Option<SourceError>
         TypedNode::Call(_, args) => bad_in_exprs(args),
         TypedNode::Block(stmts) => bad_in_stmts(stmts),
         TypedNode::BlockWith(stmts, last) => earlier(bad_in_stmts(stmts), bad_in(last)),
+        TypedNode::BlockLeaving(stmts, last) => earlier(bad_in_stmts(stmts), bad_in(last)),
         TypedNode::If(c, a) => earlier(bad_in(c), bad_in(a)),
         TypedNode::IfElse(c, a, b) => earlier(bad_in(c), earlier(bad_in(a), bad_in(b))),
         TypedNode::While(invariants, c, b) => {
             earlier(bad_among(invariants), earlier(bad_in(c), bad_in(b)))
         }
+        TypedNode::Panic(_) => None,
     }
 }
 

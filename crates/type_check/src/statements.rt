@@ -1,12 +1,13 @@
 ghost use Rattle.std.specs.Prelude.{◌≡◌, OnOk};
 ghost use Rattle.type_check.specs.Answers.{Answers};
-ghost use Rattle.type_check.specs.TypedExpr.{done, last as ends_with};
+ghost use Rattle.type_check.specs.TypedExpr.{done, last as ends_with, leaving};
 ghost use Rattle.type_check.specs.TypedExprView.{stmts_of};
-ghost use Rattle.type_check.specs.Typing.{closed, declared};
+ghost use Rattle.type_check.specs.Typing.{closed, declared, without_last};
 
+use crate::leaving::leaves;
 use crate::scope::{Declared, Variable};
 use crate::typed::{TypedExpr, TypedNode, TypedStmt};
-use crate::typing::{fit, ty_of};
+use crate::typing::{asked, fit, ty_of};
 use logic_term::Ty;
 use std::alloc::Global;
 use text_core::{NoMemory, PassError, Span};
@@ -35,9 +36,9 @@ pub(crate) fn declare(
     Ok(())
 }
 
-/// A block without a last expression.
+/// A block without a last expression, whose last statement, if it has one, does not leave.
 #[tactic(auto, unfolding(crate::specs::Typing::closed), using(crate::proofs::StatementLists::block_ty_after))]
-pub(crate) fn block(
+fn block(
     alloc: Global,
     expected: &Option<Ty>,
     span: Span,
@@ -48,6 +49,54 @@ pub(crate) fn block(
     let ty = Ty::unit(alloc);
     let node = TypedNode::Block(stmts);
     fit(alloc, expected, span, ty, span, node)
+}
+
+/// A block whose last statement has this value, which leaves.
+#[tactic(auto, unfolding(crate::specs::Typing::closed), using(crate::proofs::StatementLists::block_ty_after))]
+fn block_leaving(
+    alloc: Global,
+    expected: &Option<Ty>,
+    span: Span,
+    stmts: Vec<TypedStmt>,
+    last: TypedExpr,
+) -> Result<TypedExpr, PassError>
+    ensures { Answers result (closed expected.now span (stmts_of stmts.items (leaving last))) }
+{
+    let ty = asked(alloc, expected)?;
+    let node = TypedNode::BlockLeaving(stmts, last);
+    fit(alloc, expected, span, ty, span, node)
+}
+
+/// Whether the last of the statements leaves.
+fn last_leaves(stmts: &[TypedStmt]) -> bool
+    ensures { result ≡ ends_leaving stmts.now }
+{
+    match stmts.last() {
+        None => false,
+        Some(stmt) => leaves(&stmt.value),
+    }
+}
+
+/// A block without a last expression.
+#[tactic(auto, using(crate::proofs::StatementLists::last_of))]
+pub(crate) fn whole_block(
+    alloc: Global,
+    expected: &Option<Ty>,
+    span: Span,
+    mut stmts: Vec<TypedStmt>,
+) -> Result<TypedExpr, PassError>
+    ensures { Answers result (closed expected.now span (without_last stmts.items)) }
+{
+    if !last_leaves(&stmts) {
+        return block(alloc, expected, span, stmts);
+    }
+    match stmts.pop() {
+        None => block(alloc, expected, span, stmts),
+        Some(stmt) => {
+            let TypedStmt { binds: _, value } = stmt;
+            block_leaving(alloc, expected, span, stmts, value)
+        }
+    }
 }
 
 /// A block with a last expression.

@@ -5,7 +5,7 @@ use crate::assertion::Assertion;
 use logic_term::Ty;
 use source_kinds::{BinaryOp, IntKind, LazyOp};
 use std::marker::Model;
-use text_core::Span;
+use text_core::{Cause, Span};
 
 /// An expression with its type. A variable is the number of variables that are in scope around its declaration. Contracts
 /// see the tree of specs/TypedExpr.antt.
@@ -38,10 +38,14 @@ pub enum TypedNode {
     Call(u32, Vec<TypedExpr>),
     Block(Vec<TypedStmt>),
     BlockWith(Vec<TypedStmt>, TypedExpr),
+    /// The statements before the last one, and the value of that one, which leaves.
+    BlockLeaving(Vec<TypedStmt>, TypedExpr),
     If(TypedExpr, TypedExpr),
     IfElse(TypedExpr, TypedExpr, TypedExpr),
     /// The invariants, the condition and the body.
     While(Vec<Assertion>, TypedExpr, TypedExpr),
+    /// What always panics.
+    Panic(Cause),
 }
 
 /// A statement: with `binds` it declares the next variable, which is in scope to the end of the block.
@@ -105,6 +109,7 @@ impl TypedExpr {
             TypedNode::Call(_, _args) => None,
             TypedNode::Block(_stmts) => None,
             TypedNode::BlockWith(_stmts, _last) => None,
+            TypedNode::BlockLeaving(_stmts, _last) => None,
             _other => None,
         }
     }

@@ -4,11 +4,12 @@ ghost use Rattle.source_trees.specs.ExprView.{span_of};
 ghost use Rattle.type_check.specs.Answers.{Answers};
 ghost use Rattle.type_check.specs.TypedExpr as tree;
 ghost use Rattle.type_check.specs.TypedExprView.{ty_of, typed_of, exprs_of};
-ghost use Rattle.type_check.specs.Typing.{fit, order_of, literal_kind, literal, variable, negated, is_bare, named, operated, if_mutable, may_write, assigned, updated, called, is_updated};
+ghost use Rattle.type_check.specs.Typing.{fit, order_of, literal_kind, literal, variable, negated, is_bare, named, operated, if_mutable, may_write, assigned, updated, called, is_updated, asked, given, choice_ty, chosen, panicked};
 ghost use Rattle.type_check.specs.WellTyped.{unit};
 
 use crate::assertion::Assertion;
 use crate::heading::Callee;
+use crate::leaving::leaves;
 use crate::operands::{Operands, Order};
 use crate::refusal::{mismatch, not_mutable, unbuilt, unknown_name};
 use crate::scope::{Found, Variable, find_variable};
@@ -16,9 +17,9 @@ use crate::typed::{TypedExpr, TypedNode};
 use crate::types::{fits, is_signed_ty, is_updated, operation_ty, same_ty};
 use logic_term::{Ty, TyNode};
 use source_kinds::{BinaryOp, IntKind, LazyOp};
-use source_trees::{Expr, ExprNode, Segment};
+use source_trees::{Expr, ExprNode, PanicMacro, Segment};
 use std::alloc::Global;
-use text_core::{Name, NoMemory, PassError, Span};
+use text_core::{Cause, Name, NoMemory, PassError, Span};
 
 /// From the expression's first token to its last.
 pub(crate) fn span_of(e: &Expr) -> Span
@@ -309,6 +310,62 @@ pub(crate) fn lazy(
     fit(alloc, expected, span, ty, span, node)
 }
 
+/// The type that is asked of what leaves: unit where none is expected.
+pub(crate) fn asked(alloc: Global, expected: &Option<Ty>) -> Result<Ty, NoMemory>
+    ensures { IfOk result (λ t. t ≡ asked expected.now) }
+{
+    match expected {
+        None => Ok(Ty::unit(alloc)),
+        Some(ty) => ty.copy(alloc),
+    }
+}
+
+/// `panic!` and `unreachable!`, which fit every type.
+pub(crate) fn panicked(
+    alloc: Global,
+    expected: &Option<Ty>,
+    span: Span,
+    panic: PanicMacro,
+) -> Result<TypedExpr, PassError>
+    ensures { Answers result (panicked expected.now span panic) }
+{
+    let ty = asked(alloc, expected)?;
+    let cause = match panic {
+        PanicMacro::Panic => Cause::Panic,
+        PanicMacro::Unreachable => Cause::Unreachable,
+    };
+    let node = Box::new(alloc, TypedNode::Panic(cause))?;
+    Ok(TypedExpr { ty, span, node })
+}
+
+/// The type that is asked of the second side of a choice: that of the first, if that has a value.
+pub(crate) fn given_by(
+    alloc: Global,
+    expected: &Option<Ty>,
+    first: &TypedExpr,
+) -> Result<Option<Ty>, NoMemory>
+    ensures { IfOk result (λ t. t ≡ given expected.now first.now) }
+{
+    if !leaves(first) {
+        return given_ty(alloc, first);
+    }
+    match expected {
+        None => Ok(None),
+        Some(ty) => Ok(Some(ty.copy(alloc)?)),
+    }
+}
+
+/// The type of both sides of a choice.
+fn choice_ty(alloc: Global, first: &TypedExpr, second: &TypedExpr) -> Result<Ty, NoMemory>
+    ensures { IfOk result (λ t. t ≡ choice_ty first.now second.now) }
+{
+    if leaves(first) {
+        ty_of(second).copy(alloc)
+    } else {
+        ty_of(first).copy(alloc)
+    }
+}
+
 /// `if` without `else`.
 pub(crate) fn branch(
     alloc: Global,
@@ -332,9 +389,9 @@ pub(crate) fn choice(
     yes: TypedExpr,
     no: TypedExpr,
 ) -> Result<TypedExpr, PassError>
-    ensures { Answers result (fit expected.now span (tree.choice (ty_of yes) span condition yes no)) }
+    ensures { Answers result (chosen expected.now span condition yes no) }
 {
-    let ty = ty_of(&yes).copy(alloc)?;
+    let ty = choice_ty(alloc, &yes, &no)?;
     let node = TypedNode::IfElse(condition, yes, no);
     fit(alloc, expected, span, ty, span, node)
 }

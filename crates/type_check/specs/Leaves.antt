@@ -1,0 +1,18 @@
+-- Which expressions never have a value, since the run leaves them (Rust Reference, "Diverging expressions", "Divergence").
+use Rattle.std.specs.Prelude.{Bool, true, false, ◌&&◌}
+use Rattle.type_check.specs.TypedExpr.{TypedExpr, TypedStmts, block, choice, panics, done, last, leaving, bind, run}
+
+abbrev mutual
+  pub leaves : TypedExpr → Bool
+  leaves (panics t s k) = true
+  leaves (block t s ss) = leaves_at_end ss
+  leaves (choice t s c a b) = leaves a && leaves b
+  leaves _ = false
+
+  -- a block leaves where its last expression does, or its last statement where it has none
+  pub leaves_at_end : TypedStmts → Bool
+  leaves_at_end done = false
+  leaves_at_end (last e) = leaves e
+  leaves_at_end (leaving e) = true
+  leaves_at_end (bind e ss) = leaves_at_end ss
+  leaves_at_end (run e ss) = leaves_at_end ss
