@@ -1,10 +1,11 @@
 -- Lowering: a row for each form of expression, with any labels and temporaries, which a body has in the order of its rows: 0, 1 and so
 -- on. The order of evaluation is that of the Rust Reference: operands from the left, the right side of an assignment before its place,
 -- `&&` and `||` lazily.
-use Rattle.std.specs.Prelude.{◌≡◌, ℕ, suc, ℤ, ◌+◌, ◌^◌, ◌<◌, ◌≤◌, Bool, true, false, List, [], ◌∷◌, ◌++◌, length, map, Option, Some, None, slice_get}
+use Rattle.std.specs.Prelude.{◌≡◌, ℕ, suc, ℤ, ◌+◌, ◌^◌, ◌<◌, ◌≤◌, ◌&&◌, Bool, true, false, List, [], ◌∷◌, ◌++◌, length, map, Option, Some, None, slice_get}
 use Rattle.std.specs.Option.{option_map}
 use Rattle.std.specs.List.{range_with_len}
 use Rattle.text_core.specs.declared.name.Name.{Name}
+use Rattle.text_core.specs.declared.refusal.Cause.{Cause}
 use Rattle.text_core.specs.declared.span.Span.{Span}
 use Rattle.text_core.specs.Names.{text_of}
 use Rattle.source_kinds.specs.declared.kinds.BinaryOp.{BinaryOp}
@@ -33,7 +34,7 @@ use Rattle.mir_ir.specs.declared.terminator.FnId.TheVariants as fn_id
 use Rattle.mir_ir.specs.declared.terminator.Callee.TheVariants.{Function}
 use Rattle.mir_ir.specs.declared.terminator.Terminator.{Terminator}
 use Rattle.mir_ir.specs.declared.terminator.TerminatorKind.{TerminatorKind}
-use Rattle.mir_ir.specs.declared.terminator.TerminatorKind.TheVariants.{Goto, If, Call, Return}
+use Rattle.mir_ir.specs.declared.terminator.TerminatorKind.TheVariants.{Goto, If, Call, Return, Panic}
 use Rattle.mir_ir.specs.declared.body.Block.{Block}
 use Rattle.mir_ir.specs.declared.body.Body.{Body}
 use Rattle.mir_ir.specs.declared.body.Contracts.{Contracts}
@@ -48,7 +49,8 @@ use Rattle.type_check.specs.declared.program.TypedClause.{TypedClause}
 use Rattle.type_check.specs.declared.program.TypedFunction.{TypedFunction}
 use Rattle.type_check.specs.declared.program.TypedProgram.{TypedProgram}
 use Rattle.mir_build.specs.declared.lowered.Lowered.{Lowered}
-use Rattle.type_check.specs.TypedExpr.{TypedExpr, TypedStmts, TypedExprs, integer, variable, negative, denied, binary, lazy, assign, update, call, block, branch, choice, repeat, done, last, bind, run, none, more}
+use Rattle.type_check.specs.TypedExpr.{TypedExpr, TypedStmts, TypedExprs, integer, variable, negative, denied, binary, lazy, assign, update, call, block, branch, choice, repeat, panics, done, last, leaving, bind, run, none, more}
+use Rattle.type_check.specs.Leaves.{leaves}
 use Rattle.type_check.specs.TypedExpr as typed
 use Rattle.type_check.specs.TypedExprView.{ty_of, span_of}
 use Rattle.type_check.specs.VariableNames.{variable_name, answer_name}
@@ -167,6 +169,10 @@ goes c s to next = Turns (ends s (Goto to)) (at c next)
 abbrev pub test : Around → Span → ℕ → (yes no after : Label) → List Line → List Line → List Line
 test c s t yes' no' after xs ys = Turns (ends s (If (moved t) yes' no')) (at c yes') ∷ (xs ++ goes c s after no' ∷ (ys ++ goes c s after after ∷ []))
 
+-- the same where both texts leave: no block stands behind them. The edge at the end of the first is in no block
+abbrev pub fork : Around → Span → ℕ → (yes no : Label) → List Line → List Line → List Line
+fork c s t yes' no' xs ys = Turns (ends s (If (moved t) yes' no')) (at c yes') ∷ (xs ++ goes c s no' no' ∷ ys)
+
 -- a function is called with what is in the temporaries, which are moved; its answer goes to d
 abbrev pub calls : Around → Span → (f d : ℕ) → List ℕ → Label → Line
 calls c s f d ts after = Turns (ends s (Call (whole d) (Function (fn_id.Body f)) [] (map moved ts) after)) (at c after)
@@ -209,11 +215,14 @@ mutual
     of_block : {c : Around} {ty : Ty} {s : Span} {ss : TypedStmts} {d : ℕ} {xs : List Line} → Rest c false s ss d xs → Into c (block ty s ss) d xs
     of_branch : {c : Around} {ty : Ty} {s : Span} {e a : TypedExpr} {d t : ℕ} (yes' no' after : Label) {xs ys : List Line} → Into c e t xs → Into c a d ys
         → Into c (branch ty s e a) d (made_by t (ty_of e) xs ++ test c s t yes' no' after ys (put_unit s d ∷ []))
-    of_choice : {c : Around} {ty : Ty} {s : Span} {e a b : TypedExpr} {d t : ℕ} (yes' no' after : Label) {xs ys zs : List Line} → Into c e t xs → Into c a d ys → Into c b d zs
+    of_choice : {c : Around} {ty : Ty} {s : Span} {e a b : TypedExpr} {d t : ℕ} (yes' no' after : Label) {xs ys zs : List Line} → leaves a && leaves b ≡ false → Into c e t xs → Into c a d ys → Into c b d zs
         → Into c (choice ty s e a b) d (made_by t (ty_of e) xs ++ test c s t yes' no' after ys zs)
+    of_leaving_choice : {c : Around} {ty : Ty} {s : Span} {e a b : TypedExpr} {d t : ℕ} (yes' no' : Label) {xs ys zs : List Line} → leaves a && leaves b ≡ true → Into c e t xs → Into c a d ys → Into c b d zs
+        → Into c (choice ty s e a b) d (made_by t (ty_of e) xs ++ fork c s t yes' no' ys zs)
     of_repeat : {c : Around} {ty : Ty} {s : Span} {is : List Assertion} {e b : TypedExpr} {d t u : ℕ} (head body after : Label) (fs : List Formula) {xs ys : List Line}
         → is ≡ map accepted fs → Into (looping c head) e t xs → Into (looping c head) b u ys
         → Into c (repeat ty s is e b) d (turning c s head body after fs t (ty_of e) xs u (ty_of b) ys (put_unit s d ∷ []))
+    of_panics : {c : Around} {ty : Ty} {s : Span} {k : Cause} {d : ℕ} → Into c (panics ty s k) d (Leaves (ends s (Panic k)) ∷ [])
 
   -- what an assignment writes, with the text before it: the place of a variable, or a temporary that holds the value, which is lost
   pub data PlaceOf : Around → TypedExpr → Place → List Line → Type 0 where
@@ -224,6 +233,8 @@ mutual
   pub data Rest : Around → Bool → Span → TypedStmts → ℕ → List Line → Type 0 where
     of_done : {c : Around} {outer : Bool} {s : Span} {d : ℕ} → Rest c outer s done d (put_unit s d ∷ [])
     of_last : {c : Around} {outer : Bool} {s : Span} {e : TypedExpr} {d : ℕ} {xs : List Line} → Into c e d xs → Rest c outer s (last e) d xs
+    -- no value comes of it, and nothing stands behind it
+    of_leaving : {c : Around} {outer : Bool} {s : Span} {e : TypedExpr} {d t : ℕ} {xs : List Line} → Into c e t xs → Rest c outer s (leaving e) d (made_by t (ty_of e) xs)
     of_bind : {c : Around} {outer : Bool} {s : Span} {e : TypedExpr} {ss : TypedStmts} {d t : ℕ} {xs ys : List Line} → Into c e t xs → Rest (binds c t) outer s ss d ys
         → Rest c outer s (bind e ss) d (made_by t (ty_of e) xs ++ (ys ++ dies_in outer s t))
     of_run : {c : Around} {outer : Bool} {s : Span} {e : TypedExpr} {ss : TypedStmts} {d t : ℕ} {xs ys : List Line} → Into c e t xs → Rest c outer s ss d ys → Rest c outer s (run e ss) d (made_by t (ty_of e) xs ++ ys)
@@ -260,8 +271,10 @@ abbrev mutual
   named (of_call after p) = named_args p ++ after.0 ∷ []
   named (of_block p) = named_rest p
   named (of_branch yes' no' after p q) = named p ++ yes'.0 ∷ no'.0 ∷ after.0 ∷ named q
-  named (of_choice yes' no' after p q r) = named p ++ yes'.0 ∷ no'.0 ∷ after.0 ∷ (named q ++ named r)
+  named (of_choice yes' no' after n p q r) = named p ++ yes'.0 ∷ no'.0 ∷ after.0 ∷ (named q ++ named r)
+  named (of_leaving_choice yes' no' n p q r) = named p ++ yes'.0 ∷ no'.0 ∷ (named q ++ named r)
   named (of_repeat head body after fs g p q) = head.0 ∷ body.0 ∷ after.0 ∷ (named p ++ named q)
+  named of_panics = []
 
   pub named_place : {c : Around} {e : TypedExpr} {x : Place} {xs : List Line} → PlaceOf c e x xs → List ℕ
   named_place (of_name x q) = []
@@ -270,6 +283,7 @@ abbrev mutual
   pub named_rest : {c : Around} {outer : Bool} {s : Span} {ss : TypedStmts} {d : ℕ} {xs : List Line} → Rest c outer s ss d xs → List ℕ
   named_rest of_done = []
   named_rest (of_last p) = named p
+  named_rest (of_leaving p) = named p
   named_rest (of_bind p q) = named p ++ named_rest q
   named_rest (of_run p q) = named p ++ named_rest q
 

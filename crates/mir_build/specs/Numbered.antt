@@ -1,6 +1,6 @@
 -- The text of the rows with the numbers that the code gives: labels from l on, locals from t on. Contracts of the code alone speak of it,
 -- where each variable is in scope.
-use Rattle.std.specs.Prelude.{ℕ, ◌+◌, ◌-◌, Bool, true, false, List, [], ◌∷◌, ◌++◌, map, get_or}
+use Rattle.std.specs.Prelude.{ℕ, ◌+◌, ◌-◌, ◌&&◌, Bool, true, false, List, [], ◌∷◌, ◌++◌, map, get_or}
 use Rattle.std.specs.List.{range_with_len}
 use Rattle.text_core.specs.declared.span.Span.{Span}
 use Rattle.logic_term.specs.declared.kinds.Label.{Label}
@@ -12,13 +12,14 @@ use Rattle.mir_ir.specs.declared.place.Place.{Place}
 use Rattle.mir_ir.specs.declared.statement.Rvalue.TheVariants.{Use, Binary, Neg, Not}
 use Rattle.mir_ir.specs.declared.terminator.FnId.TheVariants as fn_id
 use Rattle.mir_ir.specs.declared.terminator.Callee.TheVariants.{Function}
-use Rattle.mir_ir.specs.declared.terminator.TerminatorKind.TheVariants.{Goto, If, Call}
+use Rattle.mir_ir.specs.declared.terminator.TerminatorKind.TheVariants.{Goto, If, Call, Panic}
 use Rattle.type_check.specs.declared.assertion.Assertion.{Assertion}
 use Rattle.type_check.specs.declared.assertion.Assertion.TheVariants.{Good, Bad}
-use Rattle.type_check.specs.TypedExpr.{TypedExpr, TypedStmts, TypedExprs, integer, truth, variable, negative, denied, binary, lazy, assign, update, call, block, branch, choice, repeat, done, last, bind, run, none, more}
+use Rattle.type_check.specs.TypedExpr.{TypedExpr, TypedStmts, TypedExprs, integer, truth, variable, negative, denied, binary, lazy, assign, update, call, block, branch, choice, repeat, panics, done, last, leaving, bind, run, none, more}
+use Rattle.type_check.specs.Leaves.{leaves}
 use Rattle.type_check.specs.TypedExprView.{ty_of}
-use Rattle.mir_build.specs.Text.{Line, Makes, Turns, Owns}
-use Rattle.mir_build.specs.Lowering.{Around, Formula, binds, looping, at, at_head, head_of, whole, puts, puts_at, constant, put_unit, moved, ends, dies_in, lazily, is_place}
+use Rattle.mir_build.specs.Text.{Line, Makes, Turns, Leaves, Owns}
+use Rattle.mir_build.specs.Lowering.{Around, Formula, binds, looping, at, at_head, head_of, whole, puts, puts_at, constant, put_unit, moved, ends, dies_in, lazily, test, fork, is_place}
 
 abbrev pub label : ℕ → Label
 label l = record { 0 = l }
@@ -52,6 +53,18 @@ abbrev pub temporary_text : Bool → ℕ → Ty → List Line → List Line
 temporary_text true t ty xs = []
 temporary_text false t ty xs = Makes t ty ∷ xs
 
+-- ---- `if` with `else`
+
+-- the blocks of the sides, and the one behind them unless both leave
+abbrev pub choice_labels : Bool → ℕ
+choice_labels true = 2
+choice_labels false = 3
+
+-- the condition is in t, and the labels are m, m + 1 and, unless both sides leave, m + 2
+abbrev pub choice_text : Bool → Around → Span → (t m : ℕ) → List Line → List Line → List Line
+choice_text true c s t m ys zs = fork c s t (label m) (label (m + 1)) ys zs
+choice_text false c s t m ys zs = test c s t (label m) (label (m + 1)) (label (m + 2)) ys zs
+
 -- ---- how many blocks the text begins
 
 abbrev mutual
@@ -68,12 +81,14 @@ abbrev mutual
   labels (call ty s f es) = labels_in es + 1
   labels (block ty s ss) = labels_of ss
   labels (branch ty s e a) = labels e + 3 + labels a
-  labels (choice ty s e a b) = labels e + 3 + labels a + labels b
+  labels (choice ty s e a b) = labels e + choice_labels (leaves a && leaves b) + labels a + labels b
   labels (repeat ty s is e b) = 3 + labels e + labels b
+  labels (panics ty s k) = 0
 
   pub labels_of : TypedStmts → ℕ
   labels_of done = 0
   labels_of (last e) = labels e
+  labels_of (leaving e) = labels e
   labels_of (bind e ss) = labels e + labels_of ss
   labels_of (run e ss) = labels e + labels_of ss
 
@@ -99,10 +114,12 @@ abbrev mutual
   locals (branch ty s e a) = 1 + locals e + locals a
   locals (choice ty s e a b) = 1 + locals e + locals a + locals b
   locals (repeat ty s is e b) = 1 + locals e + 1 + locals b
+  locals (panics ty s k) = 0
 
   pub locals_of : TypedStmts → ℕ
   locals_of done = 0
   locals_of (last e) = locals e
+  locals_of (leaving e) = 1 + locals e
   locals_of (bind e ss) = 1 + locals e + locals_of ss
   locals_of (run e ss) = 1 + locals e + locals_of ss
 
@@ -150,19 +167,21 @@ abbrev mutual
       ++ Turns (ends s (Goto (label (m + 2)))) (at c (label (m + 1))) ∷ put_unit s d ∷ Turns (ends s (Goto (label (m + 2)))) (at c (label (m + 2))) ∷ []))
   into (choice ty s e a b) c l t d =
       let m = l + labels e in
+      let n = m + choice_labels (leaves a && leaves b) in
       let u = t + 1 + locals e in
-      Makes t (ty_of e) ∷ (into e c l (t + 1) t ++ Turns (ends s (If (moved t) (label m) (label (m + 1)))) (at c (label m)) ∷ (into a c (m + 3) u d
-      ++ Turns (ends s (Goto (label (m + 2)))) (at c (label (m + 1))) ∷ (into b c (m + 3 + labels a) (u + locals a) d ++ Turns (ends s (Goto (label (m + 2)))) (at c (label (m + 2))) ∷ [])))
+      Makes t (ty_of e) ∷ (into e c l (t + 1) t ++ choice_text (leaves a && leaves b) c s t m (into a c n u d) (into b c (n + labels a) (u + locals a) d))
   into (repeat ty s is e b) c l t d =
       let inside = looping c (label l) in
       let u = t + 1 + locals e in
       Turns (ends s (Goto (label l))) (at_head inside (label l) (head_of c (map formula_of is))) ∷ Makes t (ty_of e) ∷ (into e inside (l + 3) (t + 1) t
       ++ Turns (ends s (If (moved t) (label (l + 1)) (label (l + 2)))) (at inside (label (l + 1))) ∷ Makes u (ty_of b)
       ∷ (into b inside (l + 3 + labels e) (u + 1) u ++ Turns (ends s (Goto (label l))) (at c (label (l + 2))) ∷ Owns (label l) (between t (u + 1 + locals b)) ∷ put_unit s d ∷ []))
+  into (panics ty s k) c l t d = Leaves (ends s (Panic k)) ∷ []
 
   pub rest : TypedStmts → Bool → Span → Around → ℕ → ℕ → ℕ → List Line
   rest done outer s c l t d = put_unit s d ∷ []
   rest (last e) outer s c l t d = into e c l t d
+  rest (leaving e) outer s c l t d = Makes t (ty_of e) ∷ into e c l (t + 1) t
   rest (bind e ss) outer s c l t d = Makes t (ty_of e) ∷ (into e c l (t + 1) t ++ (rest ss outer s (binds c t) (l + labels e) (t + 1 + locals e) d ++ dies_in outer s t))
   rest (run e ss) outer s c l t d = Makes t (ty_of e) ∷ (into e c l (t + 1) t ++ rest ss outer s c (l + labels e) (t + 1 + locals e) d)
 

@@ -1,6 +1,6 @@
 -- How many variables have to be in scope around an expression, so that each that it names is there. Contracts of the code alone speak of it.
 use Rattle.std.specs.Prelude.{ℕ, ◌+◌, ◌-◌, max}
-use Rattle.type_check.specs.TypedExpr.{TypedExpr, TypedStmts, TypedExprs, integer, truth, variable, negative, denied, binary, lazy, assign, update, call, block, branch, choice, repeat, done, last, bind, run, none, more}
+use Rattle.type_check.specs.TypedExpr.{TypedExpr, TypedStmts, TypedExprs, integer, truth, variable, negative, denied, binary, lazy, assign, update, call, block, branch, choice, repeat, panics, done, last, leaving, bind, run, none, more}
 
 abbrev mutual
   pub reach : TypedExpr → ℕ
@@ -18,10 +18,12 @@ abbrev mutual
   reach (branch ty s e a) = max (reach e) (reach a)
   reach (choice ty s e a b) = max (reach e) (max (reach a) (reach b))
   reach (repeat ty s is e b) = max (reach e) (reach b)
+  reach (panics ty s k) = 0
 
   pub reach_of : TypedStmts → ℕ
   reach_of done = 0
   reach_of (last e) = reach e
+  reach_of (leaving e) = reach e
   -- behind a binding there is one variable more
   reach_of (bind e ss) = max (reach e) (reach_of ss - 1)
   reach_of (run e ss) = max (reach e) (reach_of ss)
