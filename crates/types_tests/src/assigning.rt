@@ -7,7 +7,7 @@ use text_core::{Code, Names, PassError};
 use type_check::check;
 
 /// A source, and the code and the place of its refusal if it is refused.
-type Row = (&'static [u8], Option<(Code, u32, u32)>);
+pub(crate) type Row = (&'static [u8], Option<(Code, u32, u32)>);
 
 /// Whether the code of the source is answered so.
 fn is_right(alloc: Global, row: &Row) -> bool {
@@ -28,7 +28,7 @@ fn is_right(alloc: Global, row: &Row) -> bool {
     }
 }
 
-fn expect(rt: &impl Abort, alloc: Global, rows: &[Row]) {
+pub(crate) fn expect(rt: &impl Abort, alloc: Global, rows: &[Row]) {
     let mut at = 0u32;
     for row in rows {
         let right = is_right(alloc, row);

@@ -1,4 +1,4 @@
-//! Tests of the table of declared types, and of assignments.
+//! Tests of the table of declared types, of assignments, and of what leaves.
 #![tactic(auto)]
 
 #[cfg(test)]
@@ -9,6 +9,8 @@ mod build;
 mod closing;
 #[cfg(test)]
 mod declaring;
+#[cfg(test)]
+mod leaving;
 #[cfg(test)]
 mod meaning;
 #[cfg(test)]
