@@ -14,7 +14,7 @@ use Rattle.type_check.specs.Answers.{◌>>=◌, gather}
 use Rattle.type_check.specs.TypedExpr.{TypedExpr, TypedExprs}
 use Rattle.type_check.specs.TypedExpr as tree
 use Rattle.type_check.specs.TypedExprView.{ty_of}
-use Rattle.type_check.specs.Typing.{Typed, is_bare, order_of, operands_of, operands, callee_of, first_of, rest_of, Opened, opened, declared, behind, typed_stmt, invariant_of, typed, typed_stmts, typed_args}
+use Rattle.type_check.specs.Typing.{Typed, is_bare, order_of, operands_of, operands, callee_of, first_of, rest_of, Opened, opened, declared, behind, typed_stmt, given, invariant_of, typed, typed_stmts, typed_args}
 use Rattle.type_check.specs.WellTyped.{unit, is_arithmetic}
 use Rattle.type_check.specs.Written.{as_name, step_of}
 use Rattle.type_check.specs.Rules.{Asks, comes, part, first, operands_in, each_arg, each_stmt, rule, Types, by_rule, Comes, itself, refused, then, TypedByRules, TypingIsOne}
@@ -95,7 +95,7 @@ module _ (σ : List Heading) where
         (at_part σ Γ c (Some bool) (typed σ Γ c (Some bool)) _ _ (types Γ c (Some bool)) (λ x. at_part σ Γ a (Some unit) (typed σ Γ a (Some unit)) _ _ (types Γ a (Some unit)) (λ y. itself)))
     types Γ (E.choice s None c a b) t = by_rule
         (at_part σ Γ c (Some bool) (typed σ Γ c (Some bool)) _ _ (types Γ c (Some bool)) (λ x. at_part σ Γ a t (typed σ Γ a t) _ _ (types Γ a t)
-        (λ y. at_part σ Γ b (Some (ty_of y)) (typed σ Γ b (Some (ty_of y))) _ _ (types Γ b (Some (ty_of y))) (λ z. itself))))
+        (λ y. at_part σ Γ b (given t y) (typed σ Γ b (given t y)) _ _ (types Γ b (given t y)) (λ z. itself))))
     types Γ (E.repeat s None c b) t = by_rule
         (at_part σ Γ c (Some bool) (typed σ Γ c (Some bool)) _ _ (types Γ c (Some bool)) (λ x. at_part σ Γ b (Some unit) (typed σ Γ b (Some unit)) _ _ (types Γ b (Some unit)) (λ y. itself)))
     types Γ (E.attributed s is (E.repeat v None c b)) t = by_rule (at_first σ (gather (invariant_of Γ) is) _ _

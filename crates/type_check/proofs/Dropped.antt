@@ -8,7 +8,7 @@ use Rattle.type_check.specs.declared.typed.TypedNode.{TypedNode}
 use Rattle.type_check.specs.declared.typed.TypedNode.TheVariants as node
 use Rattle.type_check.specs.declared.typed.TypedStmt.{TypedStmt}
 use Rattle.type_check.specs.declared.typed.TypedExpr.TheDeep.{size-TypedExpr, size-TypedStmt}
-use Rattle.type_check.specs.TypedExpr.{TypedExpr, TypedStmts, done, last}
+use Rattle.type_check.specs.TypedExpr.{TypedExpr, TypedStmts, done, last, leaving}
 use Rattle.type_check.specs.TypedExprView.{exprs_of, exprs_size, stmt_of, stmts_of, stmts_size, typed_of, typed_size}
 
 stmt_size : (b : Bool) (e : TypedExpr) (ss : TypedStmts) → stmts_size (stmt_of b e ss) ≡ suc (max (typed_size e) (stmts_size ss))
@@ -50,3 +50,9 @@ pub stmts_with_fall : (e : TypedExpr) (t : Ty) (s : Span) (n m : TypedNode) (ss 
 stmts_with_fall e t s n m ss l v d is =
     subst (λ x. most (w_this.weight TypedStmt size-TypedStmt) ss.items + 3 ≤ 3 * (typed_size x + 1)) (seen e t s n m (node.BlockWith ss l) v d is)
     (let h : most (w_this.weight TypedStmt size-TypedStmt) ss.items ≤ 3 * stmts_size (stmts_of ss.items (last l)) + 1 = most_stmts ss.items (last l) in omega (arith, h))
+
+pub stmts_leaving_fall : (e : TypedExpr) (t : Ty) (s : Span) (n m : TypedNode) (ss : Vec TypedStmt Global) (l : TypedExpr) → typed_of t s n ≡ e → m ≡ n → m ≡ node.BlockLeaving ss l
+    → most (w_this.weight TypedStmt size-TypedStmt) ss.items + 3 ≤ 3 * (typed_size e + 1)
+stmts_leaving_fall e t s n m ss l v d is =
+    subst (λ x. most (w_this.weight TypedStmt size-TypedStmt) ss.items + 3 ≤ 3 * (typed_size x + 1)) (seen e t s n m (node.BlockLeaving ss l) v d is)
+    (let h : most (w_this.weight TypedStmt size-TypedStmt) ss.items ≤ 3 * stmts_size (stmts_of ss.items (leaving l)) + 1 = most_stmts ss.items (leaving l) in omega (arith, h))

@@ -1,6 +1,6 @@
 -- What typing gives fits: each part has the type that its place asks for.
-use Rattle.std.proofs.Common.{◌≡◌, ◌∙◌, ℕ, suc, ◌==◌, true, List, [], ◌∷◌, ◌++◌, length, Option, Some, None, Ok, refl, ap, sym, subst, arith}
-use Rattle.std.specs.Prelude.{ℤ, slice_get}
+use Rattle.std.proofs.Common.{◌≡◌, ◌∙◌, inl, inr, ℕ, suc, ◌==◌, Bool, true, false, List, [], ◌∷◌, ◌++◌, length, Option, Some, None, Ok, refl, ap, sym, subst, arith}
+use Rattle.std.specs.Prelude.{ℤ, slice_get, if◌then◌else◌}
 use Rattle.logic_term.proofs.FreeLaw.{same_test}
 use Rattle.text_core.specs.declared.name.Name.{Name}
 use Rattle.text_core.specs.declared.span.Span.{Span}
@@ -12,6 +12,7 @@ use Rattle.source_trees.specs.declared.attribute.Attribute.{Attribute}
 use Rattle.source_trees.specs.declared.attribute.AttributeNode.{AttributeNode}
 use Rattle.source_trees.specs.declared.attribute.AttributeNode.TheVariants as A
 use Rattle.source_trees.specs.declared.attribute.ClauseKind.TheVariants.{Invariant}
+use Rattle.source_trees.specs.declared.operator.PanicMacro.{PanicMacro}
 use Rattle.source_trees.specs.declared.operator.UnaryOp.TheVariants.{Neg, Not}
 use Rattle.source_trees.specs.declared.path.Segment.{Segment}
 use Rattle.source_trees.specs.Expr as E
@@ -25,18 +26,21 @@ use Rattle.type_check.specs.declared.operands.Order.{Order}
 use Rattle.type_check.specs.declared.operands.Order.TheVariants as order
 use Rattle.type_check.specs.declared.scope.Declared.{Declared}
 use Rattle.type_check.specs.declared.scope.Found.{Found}
+use Rattle.type_check.specs.declared.program.Signature.{Signature}
 use Rattle.type_check.specs.declared.scope.Variable.{Variable}
+use Rattle.type_check.specs.declared.typed.TypedStmt.{TypedStmt}
 use Rattle.type_check.specs.Answers.{mismatch, not_mutable, with_some, gather}
 use Rattle.type_check.specs.Functions.{callee}
+use Rattle.type_check.specs.Leaves.{leaves}
 use Rattle.type_check.specs.Scope.{found}
 use Rattle.type_check.specs.Terms.{assertion}
 use Rattle.type_check.specs.TypedExpr.{TypedExpr, TypedStmts, TypedExprs}
 use Rattle.type_check.specs.TypedExpr as tree
-use Rattle.type_check.specs.TypedExprView.{ty_of, stmts_of}
+use Rattle.type_check.specs.TypedExprView.{ty_of, stmt_of, stmts_of}
 use Rattle.type_check.specs.Types.{same_ty, is_signed_ty}
 use Rattle.type_check.specs.Typing.{Typed, fit, literal_kind, literal_of, literal, variable_of, variable, named, negated, is_bare, order_of, operands_of, operands, operation, operated, may_write, if_mutable, writing, assigned}
-use Rattle.type_check.specs.Typing.{is_updated, updated, known, callee_of, how_many, first_of, rest_of, called, block_ty, declared, Opened, opened, typed_stmt, behind, closed, invariant_by, invariant_of, typed, typed_stmts, typed_args}
-use Rattle.type_check.specs.WellTyped.{unit, is_arithmetic, operation_ty, is_signed, IsOf, SpeaksOf, EachSpeaks, IsWellTyped, StatementsFit, ArgumentsFit}
+use Rattle.type_check.specs.Typing.{is_updated, updated, known, callee_of, how_many, first_of, rest_of, called, block_ty, declared, Opened, opened, typed_stmt, behind, without_last, closed, given, choice_ty, cause_of, panicked, invariant_by, invariant_of, typed, typed_stmts, typed_args}
+use Rattle.type_check.specs.WellTyped.{unit, is_arithmetic, operation_ty, is_signed, IsOf, IsOfOrLeaves, SpeaksOf, EachSpeaks, IsWellTyped, StatementsFit, ArgumentsFit}
 use Rattle.type_check.specs.Written.{as_name, name_alone, step_of}
 use Rattle.type_check.proofs.Bound.{bound, held, yes, same_ok}
 use Rattle.type_check.proofs.Lookups.{types, signatures_at, found_type, callee_signature}
@@ -169,9 +173,9 @@ more_args σ Γ (t ∷ ts) e es a b = λ h. (a.meets, a.well, b (omega arith))
 
 -- ---- blocks and loops
 
-closed_sound : (σ : List Heading) (Γ : List Variable) (t : Option Ty) (s : Span) (ss : TypedStmts) (r : TypedExpr) → StatementsFit (signatures_at σ) (types Γ) (block_ty ss) ss → closed t s ss ≡ Ok r → Sound σ Γ t r
+closed_sound : (σ : List Heading) (Γ : List Variable) (t : Option Ty) (s : Span) (ss : TypedStmts) (r : TypedExpr) → StatementsFit (signatures_at σ) (types Γ) (block_ty t ss) ss → closed t s ss ≡ Ok r → Sound σ Γ t r
 unfolding closed
-closed_sound σ Γ t s ss r h p = fit_sound σ Γ t s (tree.block (block_ty ss) s ss) r h p
+closed_sound σ Γ t s ss r h p = fit_sound σ Γ t s (tree.block (block_ty t ss) s ss) r h p
 
 types-append : (Γ : List Variable) (v : Variable) → types (Γ ++ v ∷ []) ≡ types Γ ++ v.ty ∷ []
 types-append [] v = refl
@@ -212,6 +216,18 @@ invariants_speak Γ (a ∷ as') is p =
     subst (EachSpeaks (length (types Γ))) (same_ok _ _ rest.2)
     (joined_speak (length (types Γ)) o.0 rest.0 (attribute_speaks Γ a o.0 o.1) (invariants_speak Γ as' rest.0 rest.1))
 
+-- ---- what leaves
+
+panicked_sound : (σ : List Heading) (Γ : List Variable) (t : Option Ty) (s : Span) (m : PanicMacro) (r : TypedExpr) → panicked t s m ≡ Ok r → Sound σ Γ t r
+panicked_sound σ Γ None s m r p = subst (Sound σ Γ None) (same_ok (tree.panics unit s (cause_of m)) r p) (record { well = tt; meets = tt })
+panicked_sound σ Γ (Some u) s m r p = subst (Sound σ Γ (Some u)) (same_ok (tree.panics u s (cause_of m)) r p) (record { well = tt; meets = refl })
+
+-- the first side of a choice leaves, or gives the second its type
+sides_fit : (t : Option Ty) (y z : TypedExpr) (b : Bool) → leaves y ≡ b → Meets (if b then t else Some (ty_of y)) z
+    → let u = if b then ty_of z else ty_of y in IsOfOrLeaves u y × IsOfOrLeaves u z
+sides_fit t y z true q h = (inr q, inl refl)
+sides_fit t y z false q h = (inl refl, inl h)
+
 -- ---- expressions
 
 -- what typing gives at each expected type is sound
@@ -251,11 +267,32 @@ declared_sound σ Γ None t a o w h = λ u end k. (w, h u end k)
 declared_sound σ Γ (Some d) t a o w h = λ u end k.
     (w, subst (λ ts. StatementsFit (signatures_at σ) ts u (stmts_of o.stmts end)) (types-append Γ (record { name = d.name; ty = ty_of a; mutable = d.mutable })) (h u end k))
 
+-- the same statement before others
+before_fits : (σ : List Signature) (Γ : List Ty) (t : Option Ty) (b : Bool) (e : TypedExpr) (rest other : TypedStmts) → ((Δ : List Ty) → StatementsFit σ Δ unit rest → StatementsFit σ Δ (block_ty t other) other)
+    → StatementsFit σ Γ unit (stmt_of b e rest) → StatementsFit σ Γ (block_ty t (stmt_of b e other)) (stmt_of b e other)
+before_fits σ Γ t true e rest other f h = (h.0, f (Γ ++ ty_of e ∷ []) h.1)
+before_fits σ Γ t false e rest other f h = (h.0, f Γ h.1)
+
+value_fits : (σ : List Signature) (Γ : List Ty) (b : Bool) (e : TypedExpr) → StatementsFit σ Γ unit (stmt_of b e tree.done) → IsWellTyped σ Γ e
+value_fits σ Γ true e h = h.0
+value_fits σ Γ false e h = h.0
+
+end_fits : (σ : List Signature) (Γ : List Ty) (t : Option Ty) (s : TypedStmt) (b : Bool) → leaves s.value ≡ b → StatementsFit σ Γ unit (stmt_of s.binds s.value tree.done)
+    → let end = if b then tree.leaving s.value else stmt_of s.binds s.value tree.done in StatementsFit σ Γ (block_ty t end) end
+end_fits σ Γ t s true q h = (q, value_fits σ Γ s.binds s.value h)
+end_fits σ Γ t s false q h = before_fits σ Γ t s.binds s.value tree.done tree.done (λ Δ k. k) h
+
+-- statements with no last expression fit with the last of them apart, where it leaves
+without_last_fits : (σ : List Signature) (Γ : List Ty) (t : Option Ty) (ss : List TypedStmt) → StatementsFit σ Γ unit (stmts_of ss tree.done) → StatementsFit σ Γ (block_ty t (without_last ss)) (without_last ss)
+without_last_fits σ Γ t [] h = h
+without_last_fits σ Γ t (s ∷ []) h = end_fits σ Γ t s (leaves s.value) refl h
+without_last_fits σ Γ t (s ∷ r ∷ ss) h = before_fits σ Γ t s.binds s.value (stmts_of (r ∷ ss) tree.done) (without_last (r ∷ ss)) (λ Δ k. without_last_fits σ Δ t (r ∷ ss) k) h
+
 -- a block of these statements, with what stands behind them
-block_sound : (σ : List Heading) (Γ : List Variable) (t : Option Ty) (s : Span) (o : Opened) (end : TypedStmts) (r : TypedExpr) → OpenedSound σ Γ o → StatementsFit (signatures_at σ) (types o.scope) (block_ty end) end → closed t s (stmts_of o.stmts end) ≡ Ok r → Sound σ Γ t r
+block_sound : (σ : List Heading) (Γ : List Variable) (t : Option Ty) (s : Span) (o : Opened) (end : TypedStmts) (r : TypedExpr) → OpenedSound σ Γ o → StatementsFit (signatures_at σ) (types o.scope) (block_ty t end) end → closed t s (stmts_of o.stmts end) ≡ Ok r → Sound σ Γ t r
 block_sound σ Γ t s o end r h k p =
     closed_sound σ Γ t s (stmts_of o.stmts end) r
-    (subst (λ u. StatementsFit (signatures_at σ) (types Γ) u (stmts_of o.stmts end)) (sym (block_ty_after o.stmts end)) (h (block_ty end) end k)) p
+    (subst (λ u. StatementsFit (signatures_at σ) (types Γ) u (stmts_of o.stmts end)) (sym (block_ty_after t o.stmts end)) (h (block_ty t end) end k)) p
 
 mutual
   pub typed_sound : (σ : List Heading) (Γ : List Variable) (e : Expr) (t : Option Ty) (r : TypedExpr) → typed σ Γ e t ≡ Ok r → Sound σ Γ t r
@@ -298,7 +335,7 @@ mutual
       (args_sound σ Γ es g.0.signature.params as'.0 as'.1) as'.2
   typed_sound σ Γ (E.block s ss) t r p =
       let o = bound (typed_stmts σ Γ ss) _ r p in
-      block_sound σ Γ t s o.0 tree.done r (stmts_sound σ Γ ss o.0 o.1) refl o.2
+      closed_sound σ Γ t s (without_last o.0.stmts) r (without_last_fits (signatures_at σ) (types Γ) t o.0.stmts (stmts_sound σ Γ ss o.0 o.1 unit tree.done refl)) o.2
   typed_sound σ Γ (E.block_with s ss e) t r p =
       let o = bound (typed_stmts σ Γ ss) _ r p in
       let a = bound (typed σ o.0.scope e t) _ r o.2 in
@@ -312,11 +349,12 @@ mutual
   typed_sound σ Γ (E.choice s None c a b) t r p =
       let x = bound (typed σ Γ c (Some bool)) _ r p in
       let y = bound (typed σ Γ a t) _ r x.2 in
-      let z = bound (typed σ Γ b (Some (ty_of y.0))) _ r y.2 in
+      let z = bound (typed σ Γ b (given t y.0)) _ r y.2 in
       let sx = typed_sound σ Γ c (Some bool) x.0 x.1 in
       let sy = typed_sound σ Γ a t y.0 y.1 in
-      let sz = typed_sound σ Γ b (Some (ty_of y.0)) z.0 z.1 in
-      fit_sound σ Γ t s (tree.choice (ty_of y.0) s x.0 y.0 z.0) r (sx.meets, refl, sz.meets, sx.well, sy.well, sz.well) z.2
+      let sz = typed_sound σ Γ b (given t y.0) z.0 z.1 in
+      let sides = sides_fit t y.0 z.0 (leaves y.0) refl sz.meets in
+      fit_sound σ Γ t s (tree.choice (choice_ty y.0 z.0) s x.0 y.0 z.0) r (sx.meets, sides.0, sides.1, sx.well, sy.well, sz.well) z.2
   typed_sound σ Γ (E.repeat s None c b) t r p =
       let x = bound (typed σ Γ c (Some bool)) _ r p in
       let y = bound (typed σ Γ b (Some unit)) _ r x.2 in
@@ -330,6 +368,7 @@ mutual
       let sx = typed_sound σ Γ c (Some bool) x.0 x.1 in
       let sy = typed_sound σ Γ b (Some unit) y.0 y.1 in
       fit_sound σ Γ t s (tree.repeat unit s is.0 x.0 y.0) r (refl, invariants_speak Γ as' is.0 is.1, sx.meets, sy.meets, sx.well, sy.well) y.2
+  typed_sound σ Γ (E.panic s m text) t r p = panicked_sound σ Γ t s m r p
   typed_sound σ Γ e t r p = absurd (cc)
 
   stmts_sound : (σ : List Heading) (Γ : List Variable) (ss : E.Stmts) (o : Opened) → typed_stmts σ Γ ss ≡ Ok o → OpenedSound σ Γ o

@@ -1,5 +1,6 @@
 pub mod Accepting
 pub mod Arguments
+pub mod BlockEnds
 pub mod Bound
 pub mod ByRules
 pub mod Chains

@@ -40,7 +40,7 @@ use Rattle.type_check.specs.TypedExpr as tree
 use Rattle.type_check.specs.TypedExprView.{ty_of, stmts_of}
 use Rattle.type_check.specs.Types.{same_ty, is_signed_ty}
 use Rattle.type_check.specs.Typing.{Typed, fit, literal_kind, literal_of, literal, variable_of, variable, named, negated, is_bare, order_of, operands_of, operands, operation, operated, may_write, if_mutable, writing, assigned}
-use Rattle.type_check.specs.Typing.{is_updated, updated, known, callee_of, how_many, first_of, rest_of, called, block_ty, declared, behind, typed_stmt, closed, invariant_by, invariant_of, typed, typed_stmts, typed_args}
+use Rattle.type_check.specs.Typing.{is_updated, updated, known, callee_of, how_many, first_of, rest_of, called, asked, block_ty, declared, behind, typed_stmt, without_last, closed, given, choice_ty, cause_of, invariant_by, invariant_of, typed, typed_stmts, typed_args}
 use Rattle.type_check.specs.WellTyped.{unit, is_arithmetic, operation_ty}
 use Rattle.type_check.specs.Written.{as_name, name_alone, named_type, type_or, written_type, written_or_none, name_or, declared_by, step_of}
 use Rattle.type_check.proofs.Bound.{yes}
@@ -179,7 +179,7 @@ called_stops t s f es e p = unheld (how_many es == length f.signature.params) (f
 
 closed_stops : (t : Option Ty) (s : Span) (ss : TypedStmts) (e : SourceError) → closed t s ss ≡ Err e → IsMismatch e
 unfolding closed
-closed_stops t s ss e p = fit_stops t s (tree.block (block_ty ss) s ss) e p
+closed_stops t s ss e p = fit_stops t s (tree.block (block_ty t ss) s ss) e p
 
 not_built : {A : Type 0} (s : Span) (e : SourceError) → ◌≡◌ {A = Result A SourceError} (Err (unbuilt s)) (Err e) → IsUnbuilt e
 not_built s e p = let q : unbuilt s ≡ e = cc in (s, sym q)
@@ -301,7 +301,7 @@ mutual
   typed_stops σ Γ (E.block s ss) t e p =
       elim (stop (typed_stmts σ Γ ss) _ e p) as (λ _. Causes σ Γ (E.block s ss) e) [
         | inl q ↦ inr (stmts_stop σ Γ ss e q)
-        | inr o ↦ inl (closed_stops t s (stmts_of o.0.stmts tree.done) e o.2)
+        | inr o ↦ inl (closed_stops t s (without_last o.0.stmts) e o.2)
       ]
   typed_stops σ Γ (E.block_with s ss a) t e p =
       elim (stop (typed_stmts σ Γ ss) _ e p) as (λ _. Causes σ Γ (E.block_with s ss a) e) [
@@ -324,9 +324,9 @@ mutual
         | inl q ↦ inr (inl (typed_stops σ Γ c (Some bool) e q))
         | inr x ↦ elim (stop (typed σ Γ a t) _ e x.2) as (λ _. Causes σ Γ (E.choice s None c a b) e) [
           | inl q ↦ inr (inr (inl (typed_stops σ Γ a t e q)))
-          | inr y ↦ elim (stop (typed σ Γ b (Some (ty_of y.0))) _ e y.2) as (λ _. Causes σ Γ (E.choice s None c a b) e) [
-            | inl q ↦ inr (inr (inr (typed_stops σ Γ b (Some (ty_of y.0)) e q)))
-            | inr z ↦ inl (fit_stops t s (tree.choice (ty_of y.0) s x.0 y.0 z.0) e z.2)
+          | inr y ↦ elim (stop (typed σ Γ b (given t y.0)) _ e y.2) as (λ _. Causes σ Γ (E.choice s None c a b) e) [
+            | inl q ↦ inr (inr (inr (typed_stops σ Γ b (given t y.0) e q)))
+            | inr z ↦ inl (fit_stops t s (tree.choice (choice_ty y.0 z.0) s x.0 y.0 z.0) e z.2)
           ]
         ]
       ]
@@ -349,6 +349,7 @@ mutual
           ]
         ]
       ]
+  typed_stops σ Γ (E.panic s m text) t e p = no_type (tree.panics (asked t) s (cause_of m)) e p
   typed_stops σ Γ a t e p = let q : unbuilt (span_of a) ≡ e = cc in sym q
 
   stmts_stop : (σ : List Heading) (Γ : List Variable) (ss : E.Stmts) (e : SourceError) → typed_stmts σ Γ ss ≡ Err e → CausesInStmts σ Γ ss e

@@ -1,8 +1,10 @@
 -- The statements of a block, one after another.
-use Rattle.std.proofs.Common.{◌≡◌, ◌∙◌, ℕ, suc, ◌+◌, ◌<◌, Bool, true, false, List, [], ◌∷◌, ◌++◌, length, get_or, take, drop, refl, ap, sym, add-one, drop-cons, append_assoc, append-nil, Option, Some, None, Result, Ok, Err}
+use Rattle.std.proofs.Common.{◌≡◌, ◌∙◌, ℕ, suc, ◌+◌, ◌<◌, Bool, true, false, List, [], ◌∷◌, ◌++◌, length, get_or, take, drop, refl, ap, sym, arith, add-one, drop-cons, append_assoc, append-nil, Option, Some, None, Result, Ok, Err}
+use Rattle.std.specs.Prelude.{◌-◌, if◌then◌else◌, slice_get}
 use Rattle.std.proofs.Math.Seq.{take-append_seam}
 use Rattle.text_core.specs.declared.refusal.SourceError.{SourceError}
 use Rattle.text_core.specs.declared.fault.PassError.{PassError}
+use Rattle.logic_term.specs.Ty.{Ty}
 use Rattle.source_trees.specs.declared.expr.Stmt.{Stmt}
 use Rattle.source_trees.specs.Expr.{Expr, Stmts, no_stmts, with_stmt}
 use Rattle.source_trees.specs.ExprView.{stmts_of}
@@ -12,21 +14,56 @@ use Rattle.type_check.specs.declared.scope.Variable.{Variable}
 use Rattle.type_check.specs.declared.statements.Step.{Step}
 use Rattle.type_check.specs.declared.typed.TypedStmt.{TypedStmt}
 use Rattle.type_check.specs.Answers.{◌>>=◌, Refuses}
-use Rattle.type_check.specs.TypedExpr.{TypedExpr, TypedStmts}
+use Rattle.type_check.specs.Leaves.{leaves, value_leaves, ends_leaving}
+use Rattle.type_check.specs.TypedExpr.{TypedExpr, TypedStmts, done, leaving}
 use Rattle.type_check.specs.TypedExprView.{ty_of, stmt_of as typed_stmt_of, stmts_of as typed_stmts_of}
-use Rattle.type_check.specs.Typing.{Typed, Opened, opened, behind, block_ty, declared, typed, typed_stmt, typed_stmts, typed_statement}
+use Rattle.type_check.specs.Typing.{Typed, Opened, opened, behind, block_ty, declared, end_of, without_last, typed, typed_stmt, typed_stmts, typed_statement}
 use Rattle.type_check.specs.Written.{step_of}
 use Rattle.type_check.proofs.Bound.{bound, same_ok}
 use Rattle.type_check.proofs.PartByPart.{along, refuses_then}
 
-stmt_ty : (b : Bool) (e : TypedExpr) (ss : TypedStmts) → block_ty (typed_stmt_of b e ss) ≡ block_ty ss
-stmt_ty true e ss = refl
-stmt_ty false e ss = refl
+stmt_ty : (t : Option Ty) (b : Bool) (e : TypedExpr) (ss : TypedStmts) → block_ty t (typed_stmt_of b e ss) ≡ block_ty t ss
+stmt_ty t true e ss = refl
+stmt_ty t false e ss = refl
 
 -- a block has the type of what stands after its statements
-pub block_ty_after : (ss : List TypedStmt) (end : TypedStmts) → block_ty (typed_stmts_of ss end) ≡ block_ty end
-block_ty_after [] end = refl
-block_ty_after (s ∷ ss) end = stmt_ty s.binds s.value (typed_stmts_of ss end) ∙ block_ty_after ss end
+pub block_ty_after : (t : Option Ty) (ss : List TypedStmt) (end : TypedStmts) → block_ty t (typed_stmts_of ss end) ≡ block_ty t end
+block_ty_after t [] end = refl
+block_ty_after t (s ∷ ss) end = stmt_ty t s.binds s.value (typed_stmts_of ss end) ∙ block_ty_after t ss end
+
+-- ---- the last statement
+
+-- the last of some statements is the last of those behind the first
+last_behind : (s r : TypedStmt) (ss : List TypedStmt) → slice_get (s ∷ r ∷ ss) (length (s ∷ r ∷ ss) - 1) ≡ slice_get (r ∷ ss) (length (r ∷ ss) - 1)
+last_behind s r ss =
+    let here : length (s ∷ r ∷ ss) - 1 ≡ suc (length ss) = omega arith in
+    let there : length (r ∷ ss) - 1 ≡ length ss = omega arith in
+    rw (here, there) refl
+
+-- the statements of a block whose last one does not leave are no others
+pub last_stays : (ss : List TypedStmt) → ends_leaving ss ≡ false → without_last ss ≡ typed_stmts_of ss done
+last_stays [] h = refl
+last_stays (s ∷ []) h = ap (λ b. if b then leaving s.value else typed_stmt_of s.binds s.value done) h
+last_stays (s ∷ r ∷ ss) h = ap (typed_stmt_of s.binds s.value) (last_stays (r ∷ ss) (ap value_leaves (sym (last_behind s r ss)) ∙ h))
+
+-- the last of them ends the block
+last_ends : (ss : List TypedStmt) (s : TypedStmt) → without_last (ss ++ s ∷ []) ≡ typed_stmts_of ss (end_of s)
+last_ends [] s = refl
+last_ends (r ∷ []) s = refl
+last_ends (r ∷ q ∷ ss) s = ap (typed_stmt_of r.binds r.value) (last_ends (q ∷ ss) s)
+
+last_is : (ss : List TypedStmt) (s : TypedStmt) → slice_get (ss ++ s ∷ []) (length (ss ++ s ∷ []) - 1) ≡ Some s
+last_is [] s = refl
+last_is (r ∷ []) s = refl
+last_is (r ∷ q ∷ ss) s = last_behind r q (ss ++ s ∷ []) ∙ last_is (q ∷ ss) s
+
+-- where the last one leaves, it is apart
+pub last_apart : (all ss : List TypedStmt) (s : TypedStmt) → all ≡ ss ++ s ∷ [] → ends_leaving all ≡ true → without_last all ≡ typed_stmts_of ss (leaving s.value)
+last_apart all ss s q h =
+    let leaves_there : leaves s.value ≡ true = ap value_leaves (sym (last_is ss s)) ∙ ap ends_leaving (sym q) ∙ h in
+    ap without_last q ∙ last_ends ss s ∙ ap (λ b. typed_stmts_of ss (if b then leaving s.value else typed_stmt_of s.binds s.value done)) leaves_there
+
+pub ruleset last_of = (last_stays, last_apart)
 
 -- these statements, and then the others
 abbrev pub onto : List TypedStmt → Opened → Result Opened SourceError

@@ -22,10 +22,10 @@ use Rattle.type_check.specs.TypedExpr as tree
 use Rattle.type_check.specs.TypedExprView.{ty_of, stmts_of}
 use Rattle.type_check.specs.Types.{is_signed_ty}
 use Rattle.type_check.specs.Typing.{fit, literal_kind, literal_of, literal, variable_of, variable, named, negated, is_bare, order_of, operands, operation, operated, is_mutable, may_write, assigned, is_updated, updated}
-use Rattle.type_check.specs.Typing.{callee_of, called, block_ty, closed, invariant_of, typed, typed_stmts, typed_args}
+use Rattle.type_check.specs.Typing.{callee_of, called, asked, block_ty, without_last, closed, given, choice_ty, cause_of, invariant_of, typed, typed_stmts, typed_args}
 use Rattle.type_check.specs.WellTyped.{unit, is_arithmetic, operation_ty}
 use Rattle.type_check.specs.Written.{as_name, name_alone}
-use Rattle.type_check.proofs.Bound.{bound, held}
+use Rattle.type_check.proofs.Bound.{bound, held, same_ok}
 use Rattle.type_check.proofs.Fits.{fit_same, written_fits}
 
 -- a variable is that of the name
@@ -94,11 +94,11 @@ typed_named σ Γ (E.call s f es) t r p =
     fit_named Γ None t s (tree.call g.0.signature.answer s g.0.place as'.0) r tt (held _ _ (mismatch s) r as'.2).1
 typed_named σ Γ (E.block s ss) t r p =
     let o = bound (typed_stmts σ Γ ss) _ r p in
-    fit_named Γ None t s (tree.block (block_ty (stmts_of o.0.stmts tree.done)) s (stmts_of o.0.stmts tree.done)) r tt o.2
+    fit_named Γ None t s (tree.block (block_ty t (without_last o.0.stmts)) s (without_last o.0.stmts)) r tt o.2
 typed_named σ Γ (E.block_with s ss e) t r p =
     let o = bound (typed_stmts σ Γ ss) _ r p in
     let a = bound (typed σ o.0.scope e t) _ r o.2 in
-    fit_named Γ None t s (tree.block (block_ty (stmts_of o.0.stmts (tree.last a.0))) s (stmts_of o.0.stmts (tree.last a.0))) r tt a.2
+    fit_named Γ None t s (tree.block (block_ty t (stmts_of o.0.stmts (tree.last a.0))) s (stmts_of o.0.stmts (tree.last a.0))) r tt a.2
 typed_named σ Γ (E.branch s None c a) t r p =
     let x = bound (typed σ Γ c (Some bool)) _ r p in
     let y = bound (typed σ Γ a (Some unit)) _ r x.2 in
@@ -106,8 +106,8 @@ typed_named σ Γ (E.branch s None c a) t r p =
 typed_named σ Γ (E.choice s None c a b) t r p =
     let x = bound (typed σ Γ c (Some bool)) _ r p in
     let y = bound (typed σ Γ a t) _ r x.2 in
-    let z = bound (typed σ Γ b (Some (ty_of y.0))) _ r y.2 in
-    fit_named Γ None t s (tree.choice (ty_of y.0) s x.0 y.0 z.0) r tt z.2
+    let z = bound (typed σ Γ b (given t y.0)) _ r y.2 in
+    fit_named Γ None t s (tree.choice (choice_ty y.0 z.0) s x.0 y.0 z.0) r tt z.2
 typed_named σ Γ (E.repeat s None c b) t r p =
     let x = bound (typed σ Γ c (Some bool)) _ r p in
     let y = bound (typed σ Γ b (Some unit)) _ r x.2 in
@@ -117,4 +117,5 @@ typed_named σ Γ (E.attributed s is (E.repeat v None c b)) t r p =
     let x = bound (typed σ Γ c (Some bool)) _ r is'.2 in
     let y = bound (typed σ Γ b (Some unit)) _ r x.2 in
     fit_named Γ None t s (tree.repeat unit s is'.0 x.0 y.0) r tt y.2
+typed_named σ Γ (E.panic s m text) t r p = subst (IsNamed Γ None) (same_ok (tree.panics (asked t) s (cause_of m)) r p) tt
 typed_named σ Γ e t r p = absurd (cc)

@@ -4,13 +4,14 @@ use Rattle.text_core.specs.declared.refusal.SourceError.{SourceError}
 use Rattle.type_check.specs.declared.typed.TypedStmt.{TypedStmt}
 use Rattle.type_check.specs.FirstBad.{bad_in, bad_in_stmts, bad_in_exprs}
 use Rattle.type_check.specs.Answers.{or_else}
-use Rattle.type_check.specs.TypedExpr.{TypedExpr, TypedStmts, done, last, bind, run}
+use Rattle.type_check.specs.TypedExpr.{TypedExpr, TypedStmts, done, last, leaving, bind, run}
 use Rattle.type_check.specs.TypedExprFalls.{each_smaller}
 use Rattle.type_check.specs.TypedExprView.{typed_size, stmts_size, exprs_of, stmt_of, stmts_of}
 
 some_size : (ss : TypedStmts) → 1 ≤ stmts_size ss
 some_size done = omega arith
 some_size (last e) = omega arith
+some_size (leaving e) = omega arith
 some_size (bind e ss) = omega arith
 some_size (run e ss) = omega arith
 
@@ -25,6 +26,10 @@ begin_smaller (s ∷ ss) end = omega (arith, begin_smaller ss end, stmt_size s.b
 pub last_smaller : (ss : List TypedStmt) (e : TypedExpr) → typed_size e < stmts_size (stmts_of ss (last e))
 last_smaller [] e = omega arith
 last_smaller (s ∷ ss) e = omega (arith, last_smaller ss e, stmt_size s.binds s.value (stmts_of ss (last e)))
+
+pub leaving_smaller : (ss : List TypedStmt) (e : TypedExpr) → typed_size e < stmts_size (stmts_of ss (leaving e))
+leaving_smaller [] e = omega arith
+leaving_smaller (s ∷ ss) e = omega (arith, leaving_smaller ss e, stmt_size s.binds s.value (stmts_of ss (leaving e)))
 
 smaller : (ss : List TypedStmt) (i : ℕ) (d : TypedStmt) → i < length ss → typed_size (get_or ss i d).value < stmts_size (stmts_of ss done)
 smaller [] i d h = absurd (omega arith)
@@ -51,6 +56,15 @@ bad_at_last (s ∷ ss) e =
     ∙ or_else-assoc (bad_in s.value) (bad_in_stmts (stmts_of ss done)) (bad_in e)
     ∙ ap (λ m. or_else m (bad_in e)) (sym (stmt_bad s.binds s.value (stmts_of ss done)))
 
+-- the statements, and then the last one, which leaves
+pub bad_at_leaving : (ss : List TypedStmt) (e : TypedExpr) → bad_in_stmts (stmts_of ss (leaving e)) ≡ or_else (bad_in_stmts (stmts_of ss done)) (bad_in e)
+bad_at_leaving [] e = refl
+bad_at_leaving (s ∷ ss) e =
+    stmt_bad s.binds s.value (stmts_of ss (leaving e))
+    ∙ ap (or_else (bad_in s.value)) (bad_at_leaving ss e)
+    ∙ or_else-assoc (bad_in s.value) (bad_in_stmts (stmts_of ss done)) (bad_in e)
+    ∙ ap (λ m. or_else m (bad_in e)) (sym (stmt_bad s.binds s.value (stmts_of ss done)))
+
 pub bad_exprs_at : (es : List TypedExpr) (i : ℕ) (e : TypedExpr) → e ≡ get_or es i e → i < length es → bad_in_exprs (exprs_of (drop i es)) ≡ or_else (bad_in e) (bad_in_exprs (exprs_of (drop (i + 1) es)))
 bad_exprs_at es i e q h = rw (add-one, drop-cons es i e h) (ap (λ x. or_else (bad_in x) (bad_in_exprs (exprs_of (drop (suc i) es)))) (sym q))
 
@@ -60,4 +74,4 @@ bad_stmts_at ss i s q h =
     (stmt_bad (get_or ss i s).binds (get_or ss i s).value (stmts_of (drop (suc i) ss) done)
     ∙ ap (λ (x : TypedStmt). or_else (bad_in x.value) (bad_in_stmts (stmts_of (drop (suc i) ss) done))) (sym q))
 
-pub ruleset typed_parts = (each_smaller, begin_smaller, last_smaller, stmt_smaller, bad_at_last, bad_exprs_at, bad_stmts_at)
+pub ruleset typed_parts = (each_smaller, begin_smaller, last_smaller, leaving_smaller, stmt_smaller, bad_at_last, bad_at_leaving, bad_exprs_at, bad_stmts_at)

@@ -1,5 +1,6 @@
 -- Which expressions never have a value, since the run leaves them (Rust Reference, "Diverging expressions", "Divergence").
-use Rattle.std.specs.Prelude.{Bool, true, false, ◌&&◌}
+use Rattle.std.specs.Prelude.{Bool, true, false, ◌&&◌, ◌-◌, List, length, Option, Some, None, slice_get}
+use Rattle.type_check.specs.declared.typed.TypedStmt.{TypedStmt}
 use Rattle.type_check.specs.TypedExpr.{TypedExpr, TypedStmts, block, choice, panics, done, last, leaving, bind, run}
 
 abbrev mutual
@@ -16,3 +17,11 @@ abbrev mutual
   leaves_at_end (leaving e) = true
   leaves_at_end (bind e ss) = leaves_at_end ss
   leaves_at_end (run e ss) = leaves_at_end ss
+
+abbrev pub value_leaves : Option TypedStmt → Bool
+value_leaves None = false
+value_leaves (Some s) = leaves s.value
+
+-- the last of the statements leaves
+abbrev pub ends_leaving : List TypedStmt → Bool
+ends_leaving ss = value_leaves (slice_get ss (length ss - 1))

@@ -5,19 +5,20 @@ use crate::typed::{TypedExpr, TypedNode};
 
 /// Whether the expression never has a value, since the run leaves it.
 #[cycle(leaves)]
+#[tactic(auto, using(crate::proofs::BlockEnds::leaving_parts))]
 pub fn leaves(e: &TypedExpr) -> bool
     ensures { result ≡ leaves e.now }
 {
-    let mut e = e;
+    let mut end = e;
     loop {
-        match &*e.node {
+        match &*end.node {
             TypedNode::Panic(_) | TypedNode::BlockLeaving(_, _) => return true,
-            TypedNode::BlockWith(_, last) => e = last,
+            TypedNode::BlockWith(_, last) => end = last,
             TypedNode::IfElse(_, yes, no) => {
                 if !leaves(yes) {
                     return false;
                 }
-                e = no;
+                end = no;
             }
             _ => return false,
         }

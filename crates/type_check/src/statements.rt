@@ -1,5 +1,6 @@
 ghost use Rattle.std.specs.Prelude.{◌≡◌, OnOk};
 ghost use Rattle.type_check.specs.Answers.{Answers};
+ghost use Rattle.type_check.specs.Leaves.{ends_leaving};
 ghost use Rattle.type_check.specs.TypedExpr.{done, last as ends_with, leaving};
 ghost use Rattle.type_check.specs.TypedExprView.{stmts_of};
 ghost use Rattle.type_check.specs.Typing.{closed, declared, without_last};

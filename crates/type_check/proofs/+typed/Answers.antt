@@ -1,6 +1,6 @@
 use Rattle.std.proofs.Common.{rules, ◌≡◌, ◌*◌, ◌+◌, arith}
 use Rattle.type_check.specs.TypedExprView.{typed_size}
-use Rattle.type_check.proofs.Dropped.{args_fall, stmts_fall, stmts_with_fall}
+use Rattle.type_check.proofs.Dropped.{args_fall, stmts_fall, stmts_leaving_fall, stmts_with_fall}
 use Rattle.type_check.proofs.+typed.Goals as goal
 
 pub typed::TypedExpr::into_left-drop-args-requires : goal.typed::TypedExpr::into_left-drop-args-requires
@@ -18,5 +18,11 @@ typed::TypedExpr::into_left-drop-stmts-requires t c κs =
 pub typed::TypedExpr::into_left-drop-stmts-requires-in-BlockWith : goal.typed::TypedExpr::into_left-drop-stmts-requires-in-BlockWith
 typed::TypedExpr::into_left-drop-stmts-requires-in-BlockWith t c κs =
     let fact = stmts_with_fall c.args.self c.self.inside.ty c.self.inside.span c.self.inside.node.value c.into_inner.result c.in-BlockWith._stmts c.in-BlockWith._last c.self.view_is c.into_inner.ensures c.in-BlockWith.is in
+    let measure : 2 * (3 * (typed_size c.args.self + 1) + 0) + 0 ≡ t = c.decreases in
+    (((omega (arith, fact, measure), tt), tt), search rules)
+
+pub typed::TypedExpr::into_left-drop-stmts-requires-in-BlockLeaving : goal.typed::TypedExpr::into_left-drop-stmts-requires-in-BlockLeaving
+typed::TypedExpr::into_left-drop-stmts-requires-in-BlockLeaving t c κs =
+    let fact = stmts_leaving_fall c.args.self c.self.inside.ty c.self.inside.span c.self.inside.node.value c.into_inner.result c.in-BlockLeaving._stmts c.in-BlockLeaving._last c.self.view_is c.into_inner.ensures c.in-BlockLeaving.is in
     let measure : 2 * (3 * (typed_size c.args.self + 1) + 0) + 0 ≡ t = c.decreases in
     (((omega (arith, fact, measure), tt), tt), search rules)
