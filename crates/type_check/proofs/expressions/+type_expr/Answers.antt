@@ -84,7 +84,7 @@ pub type_block-returns-clause-kept : goal.type_block-returns-clause-kept
 type_block-returns-clause-kept t c =
     let around : c.len-around.result ≡ length c.args.scope.now.items = first_of (search rules, grind (arith, common_steps)) in
     let before = scope_stays c.args.headings.now c.args.scope.now.items c.args.stmts.now c.type_statements.new.scope.items c.in_ok-stmts.stmts.items c.in_ok-stmts.ensures in
-    on_ok c.block.result _ (c.truncate.ensures.items ∙ ap (λ n. take n c.type_statements.new.scope.items) around ∙ before)
+    on_ok c.whole_block.result _ (c.truncate.ensures.items ∙ ap (λ n. take n c.type_statements.new.scope.items) around ∙ before)
 
 pub type_block_with-returns-clause-kept : goal.type_block_with-returns-clause-kept
 type_block_with-returns-clause-kept t c =
