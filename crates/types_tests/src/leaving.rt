@@ -14,9 +14,18 @@ const ANSWERS: [Row; 13] = [
     (b"fn f() -> i32 { { panic!() } }", None),
     (b"fn f() -> i32 { let x = { { panic!(); } }; }", None),
     (b"fn f() -> i32 { { panic!(); } true; 1 }", None),
-    (b"fn f() -> i32 { panic!(); let x = 1; }", Some((Code::E07, 14, 38))),
-    (b"fn f() -> i32 { { panic!(); 1; } }", Some((Code::E07, 16, 32))),
-    (b"fn f() -> i32 { panic!(); true }", Some((Code::E07, 26, 30))),
+    (
+        b"fn f() -> i32 { panic!(); let x = 1; }",
+        Some((Code::E07, 14, 38)),
+    ),
+    (
+        b"fn f() -> i32 { { panic!(); 1; } }",
+        Some((Code::E07, 16, 32)),
+    ),
+    (
+        b"fn f() -> i32 { panic!(); true }",
+        Some((Code::E07, 26, 30)),
+    ),
 ];
 
 /// What panics fits every answer, and so does a block whose last statement or last expression leaves.
@@ -28,14 +37,35 @@ fn answers_that_leave(rt: HostRuntime) {
 const VALUES: [Row; 10] = [
     (b"fn f() { let x: i32 = panic!(); }", None),
     (b"fn f() -> i32 { let x: bool = unreachable!(); 1 }", None),
-    (b"fn f() { let x: i32 = { panic!(); }; let y: i32 = x; }", None),
-    (b"fn f() { let x: i32 = { let y = true; panic!(); }; 1; }", None),
+    (
+        b"fn f() { let x: i32 = { panic!(); }; let y: i32 = x; }",
+        None,
+    ),
+    (
+        b"fn f() { let x: i32 = { let y = true; panic!(); }; 1; }",
+        None,
+    ),
     (b"fn f(mut x: i32) { x = panic!(); }", None),
-    (b"fn g(x: i32, y: bool) -> i32 { x } fn f() -> i32 { g(panic!(), unreachable!()) }", None),
-    (b"fn f() { let x = panic!(); let y: i32 = x; }", Some((Code::E07, 40, 41))),
-    (b"fn f() { let x = { panic!(); }; let y: i32 = x; }", Some((Code::E07, 45, 46))),
-    (b"fn f() { let x = { panic!() }; let y: bool = x; }", Some((Code::E07, 45, 46))),
-    (b"fn g(x: i32) {} fn f() { g(panic!()); g({ panic!(); 1; }) }", Some((Code::E07, 40, 56))),
+    (
+        b"fn g(x: i32, y: bool) -> i32 { x } fn f() -> i32 { g(panic!(), unreachable!()) }",
+        None,
+    ),
+    (
+        b"fn f() { let x = panic!(); let y: i32 = x; }",
+        Some((Code::E07, 40, 41)),
+    ),
+    (
+        b"fn f() { let x = { panic!(); }; let y: i32 = x; }",
+        Some((Code::E07, 45, 46)),
+    ),
+    (
+        b"fn f() { let x = { panic!() }; let y: bool = x; }",
+        Some((Code::E07, 45, 46)),
+    ),
+    (
+        b"fn g(x: i32) {} fn f() { g(panic!()); g({ panic!(); 1; }) }",
+        Some((Code::E07, 40, 56)),
+    ),
 ];
 
 /// A value fits the type that is written; without one it is unit.
@@ -45,18 +75,54 @@ fn values_that_leave(rt: HostRuntime) {
 }
 
 const SIDES: [Row; 12] = [
-    (b"fn f(c: bool) -> i32 { if c { panic!() } else { 1 } }", None),
-    (b"fn f(c: bool) -> i32 { if c { 1 } else { panic!() } }", None),
-    (b"fn f(c: bool) -> i32 { if c { panic!(); } else { 1 } }", None),
-    (b"fn f(c: bool) -> i32 { if c { 1 } else { panic!(); } }", None),
-    (b"fn f(c: bool) -> i32 { if c { panic!() } else { true } }", Some((Code::E07, 48, 52))),
-    (b"fn f(c: bool) { let x = if c { panic!() } else { 5u8 }; let y: u8 = x; }", None),
-    (b"fn f(c: bool) { let x = if c { panic!(); } else { true }; let y: bool = x; }", None),
-    (b"fn f(c: bool) { let x = if c { 5u8 } else { panic!() }; let y: u8 = x; }", None),
-    (b"fn f(c: bool) { let x = if c { panic!() } else { 1 }; let y: i32 = x; }", None),
-    (b"fn f(c: bool) { let x = if c { panic!() } else { 5u8 }; let y: i32 = x; }", Some((Code::E07, 69, 70))),
-    (b"fn f(c: bool) { let x = if c { 1u8 } else { 2i32 }; }", Some((Code::E07, 44, 48))),
-    (b"fn f(c: bool) { let x = if c { panic!(); 1u8 } else { 2i32 }; }", Some((Code::E07, 54, 58))),
+    (
+        b"fn f(c: bool) -> i32 { if c { panic!() } else { 1 } }",
+        None,
+    ),
+    (
+        b"fn f(c: bool) -> i32 { if c { 1 } else { panic!() } }",
+        None,
+    ),
+    (
+        b"fn f(c: bool) -> i32 { if c { panic!(); } else { 1 } }",
+        None,
+    ),
+    (
+        b"fn f(c: bool) -> i32 { if c { 1 } else { panic!(); } }",
+        None,
+    ),
+    (
+        b"fn f(c: bool) -> i32 { if c { panic!() } else { true } }",
+        Some((Code::E07, 48, 52)),
+    ),
+    (
+        b"fn f(c: bool) { let x = if c { panic!() } else { 5u8 }; let y: u8 = x; }",
+        None,
+    ),
+    (
+        b"fn f(c: bool) { let x = if c { panic!(); } else { true }; let y: bool = x; }",
+        None,
+    ),
+    (
+        b"fn f(c: bool) { let x = if c { 5u8 } else { panic!() }; let y: u8 = x; }",
+        None,
+    ),
+    (
+        b"fn f(c: bool) { let x = if c { panic!() } else { 1 }; let y: i32 = x; }",
+        None,
+    ),
+    (
+        b"fn f(c: bool) { let x = if c { panic!() } else { 5u8 }; let y: i32 = x; }",
+        Some((Code::E07, 69, 70)),
+    ),
+    (
+        b"fn f(c: bool) { let x = if c { 1u8 } else { 2i32 }; }",
+        Some((Code::E07, 44, 48)),
+    ),
+    (
+        b"fn f(c: bool) { let x = if c { panic!(); 1u8 } else { 2i32 }; }",
+        Some((Code::E07, 54, 58)),
+    ),
 ];
 
 /// A side that leaves fits, whichever it is, and gives the other no type.
@@ -66,13 +132,31 @@ fn sides_that_leave(rt: HostRuntime) {
 }
 
 const BOTH: [Row; 7] = [
-    (b"fn f(c: bool) -> i32 { if c { panic!() } else { unreachable!() } }", None),
-    (b"fn f(c: bool) -> i32 { if c { panic!(); } else { unreachable!(); } }", None),
-    (b"fn f(c: bool) -> i32 { let x = if c { panic!() } else { panic!() }; }", None),
-    (b"fn f(c: bool) { let x = if c { panic!() } else { panic!() }; let y: i32 = x; }", Some((Code::E07, 74, 75))),
+    (
+        b"fn f(c: bool) -> i32 { if c { panic!() } else { unreachable!() } }",
+        None,
+    ),
+    (
+        b"fn f(c: bool) -> i32 { if c { panic!(); } else { unreachable!(); } }",
+        None,
+    ),
+    (
+        b"fn f(c: bool) -> i32 { let x = if c { panic!() } else { panic!() }; }",
+        None,
+    ),
+    (
+        b"fn f(c: bool) { let x = if c { panic!() } else { panic!() }; let y: i32 = x; }",
+        Some((Code::E07, 74, 75)),
+    ),
     (b"fn f(c: bool) -> i32 { if c { panic!(); } 1 }", None),
-    (b"fn f(c: bool) -> i32 { if c { panic!(); } }", Some((Code::E07, 23, 41))),
-    (b"fn f(c: bool) -> i32 { let x = if c { panic!() } else { unreachable!() }; true }", Some((Code::E07, 74, 78))),
+    (
+        b"fn f(c: bool) -> i32 { if c { panic!(); } }",
+        Some((Code::E07, 23, 41)),
+    ),
+    (
+        b"fn f(c: bool) -> i32 { let x = if c { panic!() } else { unreachable!() }; true }",
+        Some((Code::E07, 74, 78)),
+    ),
 ];
 
 /// Where both sides leave the whole does; an `if` without `else` does not.
@@ -82,14 +166,38 @@ fn whole_choices_that_leave(rt: HostRuntime) {
 }
 
 const CHAINS: [Row; 8] = [
-    (b"fn f(c: bool, d: bool) { let x = if c { panic!() } else if d { panic!() } else { 5u8 }; let y: u8 = x; }", None),
-    (b"fn f(c: bool, d: bool) { let x = if c { panic!() } else if d { 5u8 } else { panic!() }; let y: u8 = x; }", None),
-    (b"fn f(c: bool, d: bool) { let x = if c { 5u8 } else if d { panic!() } else { 5i32 }; }", Some((Code::E07, 76, 80))),
-    (b"fn f(c: bool, d: bool) { let x = if c { panic!() } else if d { 5u8 } else { 5i32 }; }", Some((Code::E07, 76, 80))),
-    (b"fn f(c: bool, d: bool) -> i32 { if c { panic!() } else if d { panic!() } else { panic!() } }", None),
-    (b"fn f(c: bool, d: bool) -> i32 { let x = if c { panic!() } else if d { panic!() } else { panic!() }; }", None),
-    (b"fn f(c: bool, d: bool) -> i32 { let x = if c { panic!() } else if d { 1 } else { panic!() }; }", Some((Code::E07, 30, 94))),
-    (b"fn f(c: bool, d: bool) -> i32 { if c { panic!() } else if d { panic!() } }", Some((Code::E07, 55, 72))),
+    (
+        b"fn f(c: bool, d: bool) { let x = if c { panic!() } else if d { panic!() } else { 5u8 }; let y: u8 = x; }",
+        None,
+    ),
+    (
+        b"fn f(c: bool, d: bool) { let x = if c { panic!() } else if d { 5u8 } else { panic!() }; let y: u8 = x; }",
+        None,
+    ),
+    (
+        b"fn f(c: bool, d: bool) { let x = if c { 5u8 } else if d { panic!() } else { 5i32 }; }",
+        Some((Code::E07, 76, 80)),
+    ),
+    (
+        b"fn f(c: bool, d: bool) { let x = if c { panic!() } else if d { 5u8 } else { 5i32 }; }",
+        Some((Code::E07, 76, 80)),
+    ),
+    (
+        b"fn f(c: bool, d: bool) -> i32 { if c { panic!() } else if d { panic!() } else { panic!() } }",
+        None,
+    ),
+    (
+        b"fn f(c: bool, d: bool) -> i32 { let x = if c { panic!() } else if d { panic!() } else { panic!() }; }",
+        None,
+    ),
+    (
+        b"fn f(c: bool, d: bool) -> i32 { let x = if c { panic!() } else if d { 1 } else { panic!() }; }",
+        Some((Code::E07, 30, 94)),
+    ),
+    (
+        b"fn f(c: bool, d: bool) -> i32 { if c { panic!() } else if d { panic!() } }",
+        Some((Code::E07, 55, 72)),
+    ),
 ];
 
 /// In a chain of `else if` the first side that has a value gives the others its type.
@@ -100,9 +208,18 @@ fn chains_that_leave(rt: HostRuntime) {
 
 const OPERANDS: [Row; 10] = [
     (b"fn f() { let x = -panic!(); }", Some((Code::E07, 18, 26))),
-    (b"fn f() { let x = -{ panic!(); }; }", Some((Code::E07, 18, 31))),
-    (b"fn f() { let x = panic!() + panic!(); }", Some((Code::E07, 17, 25))),
-    (b"fn f() { let x = panic!() + 1; }", Some((Code::E07, 28, 29))),
+    (
+        b"fn f() { let x = -{ panic!(); }; }",
+        Some((Code::E07, 18, 31)),
+    ),
+    (
+        b"fn f() { let x = panic!() + panic!(); }",
+        Some((Code::E07, 17, 25)),
+    ),
+    (
+        b"fn f() { let x = panic!() + 1; }",
+        Some((Code::E07, 28, 29)),
+    ),
     (b"fn f() -> i32 { 1 + panic!() }", None),
     (b"fn f(c: bool) -> bool { c && panic!() }", None),
     (b"fn f(c: bool) { let x: bool = c == panic!(); }", None),
@@ -118,14 +235,38 @@ fn operands_that_leave(rt: HostRuntime) {
 }
 
 const INVARIANTS: [Row; 8] = [
-    (b"fn f(b: bool) -> i32 { #[invariant(b)] while b {} panic!(); }", None),
-    (b"fn f(b: bool) -> i32 { let x = { #[invariant(b)] while b {} panic!() }; }", None),
-    (b"fn f() -> i32 { #[invariant(z)] while false {} panic!(); }", Some((Code::E05, 28, 29))),
-    (b"fn f() -> i32 { let x = { #[invariant(z)] while false {} panic!() }; }", Some((Code::E05, 38, 39))),
-    (b"fn f() -> i32 { let x = { #[invariant(z)] while false {} panic!(); }; }", Some((Code::E05, 38, 39))),
-    (b"fn f() -> i32 { #[invariant(y)] while false {} let x = { #[invariant(z)] while false {} panic!() }; }", Some((Code::E05, 28, 29))),
-    (b"fn f(c: bool) -> i32 { let x = if c { panic!() } else { #[invariant(z)] while false {} panic!() }; }", Some((Code::E05, 68, 69))),
-    (b"fn f() -> i32 { 1; let x = { panic!(); { #[invariant(z)] while false {} panic!(); } }; }", Some((Code::E05, 53, 54))),
+    (
+        b"fn f(b: bool) -> i32 { #[invariant(b)] while b {} panic!(); }",
+        None,
+    ),
+    (
+        b"fn f(b: bool) -> i32 { let x = { #[invariant(b)] while b {} panic!() }; }",
+        None,
+    ),
+    (
+        b"fn f() -> i32 { #[invariant(z)] while false {} panic!(); }",
+        Some((Code::E05, 28, 29)),
+    ),
+    (
+        b"fn f() -> i32 { let x = { #[invariant(z)] while false {} panic!() }; }",
+        Some((Code::E05, 38, 39)),
+    ),
+    (
+        b"fn f() -> i32 { let x = { #[invariant(z)] while false {} panic!(); }; }",
+        Some((Code::E05, 38, 39)),
+    ),
+    (
+        b"fn f() -> i32 { #[invariant(y)] while false {} let x = { #[invariant(z)] while false {} panic!() }; }",
+        Some((Code::E05, 28, 29)),
+    ),
+    (
+        b"fn f(c: bool) -> i32 { let x = if c { panic!() } else { #[invariant(z)] while false {} panic!() }; }",
+        Some((Code::E05, 68, 69)),
+    ),
+    (
+        b"fn f() -> i32 { 1; let x = { panic!(); { #[invariant(z)] while false {} panic!(); } }; }",
+        Some((Code::E05, 53, 54)),
+    ),
 ];
 
 /// Invariants are looked at before the last statement and in it, in source order.
