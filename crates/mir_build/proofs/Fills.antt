@@ -1,5 +1,5 @@
 -- The numbered text of an expression fills a range of labels, each of which begins one block, and a range of locals, which it makes in order.
-use Rattle.std.proofs.Common.{◌≡◌, refl, ap, ◌∙◌, subst, ℕ, ◌+◌, Bool, true, false, List, [], ◌∷◌, ◌++◌, arith}
+use Rattle.std.proofs.Common.{◌≡◌, refl, ap, ◌∙◌, subst, ℕ, ◌+◌, ◌&&◌, Bool, true, false, List, [], ◌∷◌, ◌++◌, arith}
 use Rattle.std.specs.List.{range_with_len}
 use Rattle.text_core.specs.declared.span.Span.{Span}
 use Rattle.logic_term.specs.Ty.{Ty}
@@ -8,12 +8,13 @@ use Rattle.mir_ir.specs.declared.statement.Statement.{Statement}
 use Rattle.mir_ir.specs.declared.terminator.Terminator.{Terminator}
 use Rattle.source_kinds.specs.declared.kinds.LazyOp.{LazyOp}
 use Rattle.source_kinds.specs.declared.kinds.LazyOp.TheVariants.{And, Or}
-use Rattle.type_check.specs.TypedExpr.{TypedExpr, TypedStmts, TypedExprs, integer, truth, variable, negative, denied, binary, lazy, assign, update, call, block, branch, choice, repeat, done, last, bind, run, none, more}
+use Rattle.type_check.specs.TypedExpr.{TypedExpr, TypedStmts, TypedExprs, integer, truth, variable, negative, denied, binary, lazy, assign, update, call, block, branch, choice, repeat, panics, done, last, leaving, bind, run, none, more}
+use Rattle.type_check.specs.Leaves.{leaves}
 use Rattle.type_check.specs.TypedExprView.{ty_of}
-use Rattle.mir_build.specs.Text.{Line, Puts, Makes, Turns, Owns, made}
+use Rattle.mir_build.specs.Text.{Line, Puts, Makes, Turns, Leaves, Owns, made}
 use Rattle.mir_build.specs.Lowering.{Around, binds, looping, at, at_head, dies_in, lazily, numbers, is_place}
-use Rattle.mir_build.specs.Numbered.{temporary_count, temporary_text, into, rest, args, body_text, labels, labels_of, labels_in, locals, locals_of, locals_in, label}
-use Rattle.mir_build.proofs.Numbers.{within, within_zero, within_one, within_three, within_split, begins, begins-append, turns, turns-append, makings, makings-append}
+use Rattle.mir_build.specs.Numbered.{temporary_count, temporary_text, choice_labels, choice_text, into, rest, args, body_text, labels, labels_of, labels_in, locals, locals_of, locals_in, label}
+use Rattle.mir_build.proofs.Numbers.{within, within_zero, within_one, within_two, within_three, within_split, begins, begins-append, turns, turns-append, makings, makings-append}
 use Rattle.mir_build.proofs.Order.{InOrder, then_in_order, numbers_in_order}
 
 -- the labels from l on, n of them, and the locals from t on, m of them
@@ -57,6 +58,21 @@ as_counts {l} {t} {n} {m} {n'} {m'} xs e f p = subst (λ k. Fills l n' t k xs) f
 turn : (l t : ℕ) (c : Around) (e : Terminator) → Fills l 1 t 0 (Turns e (at c (label l)) ∷ [])
 turn l t c e = record { once = λ x. omega (arith, within_one l x); turned = refl; making = refl; order = tt }
 
+left : (l t : ℕ) (e : Terminator) → Fills l 0 t 0 (Leaves e ∷ [])
+left l t e = record { once = λ x. within_zero l x; turned = refl; making = refl; order = tt }
+
+-- two texts behind two turns
+parted : {l n t m n' m' : ℕ} (k u : ℕ) (c : Around) (e f : Terminator) (xs ys : List Line) → k ≡ l + 2 + n → u ≡ t + m → Fills (l + 2) n t m xs → Fills k n' u m' ys
+    → Fills l (2 + (n + n')) t (m + m') (Turns e (at c (label l)) ∷ (xs ++ Turns f (at c (label (l + 1))) ∷ ys))
+parted {l} {n} {t} {m} {n'} k u c e f xs ys q r p p' =
+    let behind = Turns f (at c (label (l + 1))) ∷ ys in
+    record {
+      once = λ x. omega (arith, begins-append x xs behind, within_two l x, within_split l 2 (n + n') (l + 2) x refl, within_split (l + 2) n n' k x q, p.once x, p'.once x);
+      turned = omega (arith, turns-append xs behind, p.turned, p'.turned);
+      making = omega (arith, makings-append xs behind, p.making, p'.making);
+      order = then_in_order t u xs behind (omega (arith, r, p.making)) p.order p'.order;
+    }
+
 -- two texts between three turns
 forked : {l n t m n' m' : ℕ} (k u : ℕ) (c : Around) (e f g : Terminator) (xs ys : List Line) → k ≡ l + 3 + n → u ≡ t + m → Fills (l + 3) n t m xs → Fills k n' u m' ys
     → Fills l (3 + (n + n')) t (m + m') (Turns e (at c (label l)) ∷ (xs ++ Turns f (at c (label (l + 1))) ∷ (ys ++ Turns g (at c (label (l + 2))) ∷ [])))
@@ -78,6 +94,12 @@ forked {l} {n} {t} {m} {n'} k u c e f g xs ys q r p p' =
       order = then_in_order t u xs (Turns f (at c (label (l + 1))) ∷ behind) (omega (arith, r, p.making)) p.order
           (then_in_order u (u + makings ys) ys (Turns g (at c (label (l + 2))) ∷ []) refl p'.order tt);
     }
+
+-- the sides of `if`
+sides_filled : {l n t m n' m' : ℕ} (both : Bool) (k u : ℕ) (c : Around) (s : Span) (x : ℕ) (xs ys : List Line) → k ≡ l + choice_labels both + n → u ≡ t + m → Fills (l + choice_labels both) n t m xs → Fills k n' u m' ys
+    → Fills l (choice_labels both + (n + n')) t (m + m') (choice_text both c s x l xs ys)
+sides_filled true k u c s x xs ys q r p p' = parted k u c _ _ xs ys q r p p'
+sides_filled false k u c s x xs ys q r p p' = forked k u c _ _ _ xs ys q r p p'
 
 lazily_filled : {l t n m : ℕ} (op : LazyOp) (c : Around) (s : Span) (x d : ℕ) (xs : List Line) → Fills (l + 3) n t m xs → Fills l (3 + n) t m (lazily op c s x d (label l) (label (l + 1)) (label (l + 2)) xs)
 lazily_filled {l} {t} {n} {m} And c s x d xs p = as_counts _ (omega arith) (omega arith) (forked (l + 3 + n) (t + m) c _ _ _ xs _ refl refl p (one (l + 3 + n) (t + m) _))
@@ -124,12 +146,14 @@ mutual
   fills (call ty s f es) c l t d = as_counts _ (omega arith) (omega arith) (join _ _ _ _ refl refl (args_filled es c l t) (turn _ _ c _))
   fills (block ty s ss) c l t d = rest_filled ss false s c l t d
   fills (branch ty s e a) c l t d = as_counts _ (omega arith) (omega arith) (made_then _ _ _ _ _ refl refl (fills e c l (t + 1) t) (forked _ _ c _ _ _ _ _ refl refl (fills a c _ _ d) (one _ _ _)))
-  fills (choice ty s e a b) c l t d = as_counts _ (omega arith) (omega arith) (made_then _ _ _ _ _ refl refl (fills e c l (t + 1) t) (forked _ _ c _ _ _ _ _ refl refl (fills a c _ _ d) (fills b c _ _ d)))
+  fills (choice ty s e a b) c l t d = as_counts _ (omega arith) (omega arith) (made_then _ _ _ _ _ refl refl (fills e c l (t + 1) t) (sides_filled (leaves a && leaves b) _ _ c s t _ _ refl refl (fills a c _ _ d) (fills b c _ _ d)))
   fills (repeat ty s is e b) c l t d = as_counts _ (omega arith) (omega arith) (looped _ _ (looping c (label l)) c _ _ _ _ _ _ _ _ _ _ refl refl (fills e (looping c (label l)) (l + 3) (t + 1) t) (fills b (looping c (label l)) (l + 3 + labels e) (t + 1 + locals e + 1) (t + 1 + locals e)))
+  fills (panics ty s k) c l t d = left l t _
 
   pub rest_filled : (ss : TypedStmts) (outer : Bool) (s : Span) (c : Around) (l t d : ℕ) → Fills l (labels_of ss) t (locals_of ss) (rest ss outer s c l t d)
   rest_filled done outer s c l t d = one l t _
   rest_filled (last e) outer s c l t d = fills e c l t d
+  rest_filled (leaving e) outer s c l t d = make (ty_of e) _ (fills e c l (t + 1) t)
   rest_filled (bind e ss) outer s c l t d =
       as_counts _ (omega arith) (omega arith) (made_then _ _ _ _ _ refl refl (fills e c l (t + 1) t) (join _ _ _ _ refl refl (rest_filled ss outer s (binds c t) _ _ d) (dying _ _ outer s t)))
   rest_filled (run e ss) outer s c l t d = as_counts _ (omega arith) (omega arith) (made_then _ _ _ _ _ refl refl (fills e c l (t + 1) t) (rest_filled ss outer s c _ _ d))

@@ -31,6 +31,13 @@ pub from_both : (n m : ℕ) (xs ys : List ℕ) → m ≡ n + length xs → From 
 from_both n m [] ys q h k = same_start m n ys (omega (arith, q)) k
 from_both n m (x ∷ xs) ys q h k = (h.0, from_both (n + 1) m xs ys (omega (arith, q)) h.1 k)
 
+-- the two labels of a row, and those behind them
+pub two : (n x y : ℕ) (ns : List ℕ) → From n (x ∷ y ∷ ns) → (x ≡ n) × (y ≡ n + 1) × From (n + 2) ns
+two n x y ns h = (h.0, h.1.0, same_start (n + 1 + 1) (n + 2) ns (omega arith) h.1.1)
+
+pub then_two : (n : ℕ) (ns : List ℕ) → From (n + 2) ns → From n (n ∷ (n + 1) ∷ ns)
+then_two n ns h = (refl, (refl, same_start (n + 2) (n + 1 + 1) ns (omega arith) h))
+
 -- the three labels of a row, and those behind them
 pub three : (n x y z : ℕ) (ns : List ℕ) → From n (x ∷ y ∷ z ∷ ns) → (x ≡ n) × (y ≡ n + 1) × (z ≡ n + 2) × From (n + 3) ns
 three n x y z ns h = (h.0, h.1.0, omega (arith, h.1.1.0), same_start (n + 1 + 1 + 1) (n + 3) ns (omega arith) h.1.1.1)

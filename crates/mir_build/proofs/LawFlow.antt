@@ -11,7 +11,7 @@ use Rattle.std.specs.Prelude.{ℕ}
 use Rattle.type_check.specs.TypedExpr.{TypedExpr}
 use Rattle.text_core.specs.declared.span.Span.{Span}
 use Rattle.mir_build.specs.Text.{Title, Line, Puts, Makes, Turns, Leaves, Owns, begun}
-use Rattle.mir_build.specs.Lowering.{Around, Formula, looping, at, at_head, head_of, test, turning, IntoBody}
+use Rattle.mir_build.specs.Lowering.{Around, Formula, looping, at, at_head, head_of, test, fork, turning, IntoBody}
 use Rattle.mir_build.proofs.LawLists.{Has, here, there, has_left, has_right, begun-append}
 use Rattle.mir_build.proofs.Shapes.{Keeps, of_body}
 
@@ -87,6 +87,12 @@ flows_test c s t yes' no' after xs ys p q whole outs g =
     (step whole outs _ _ ys _ (λ t h. g t (there h)) (q whole)
     (λ g. turns (same c after here, tt) at_end))))
 
+flows_fork : (c : Around) (s : Span) (t : ℕ) (yes' no' : Label) (xs ys : List Line) → FlowsOn c xs → FlowsOn c ys → FlowsOn c (fork c s t yes' no' xs ys)
+flows_fork c s t yes' no' xs ys p q whole outs g =
+    turns (same c yes' here, (same c no' (there (behind xs _ outs here)), tt))
+    (step whole outs _ _ xs _ (λ t h. g t (there h)) (p whole)
+    (λ g. turns (same c no' here, tt) (q whole outs (λ t h. g t (there h)))))
+
 flows_turning : (c : Around) (s : Span) (head body after : Label) (fs : List Formula) (t : ℕ) (T : Ty) (xs : List Line) (u : ℕ) (U : Ty) (ys zs : List Line)
     → FlowsOn (looping c head) xs → FlowsOn (looping c head) ys → FlowsOn c zs → FlowsOn c (turning c s head body after fs t T xs u U ys zs)
 flows_turning c s head body after fs t T xs u U ys zs p q r whole outs g =
@@ -107,6 +113,8 @@ flow_keeps = record {
   join = flows_join;
   called = λ c s f d ts after whole outs g. turns (same c after here, tt) at_end;
   tested = flows_test;
+  forked = flows_fork;
+  panicked = λ c s k whole outs g. leaves tt at_end;
   turned = flows_turning;
   bound = λ c t xs p. p;
 }

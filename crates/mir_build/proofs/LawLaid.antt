@@ -11,7 +11,7 @@ use Rattle.mir_ir.specs.declared.terminator.TerminatorKind.TheVariants.{Goto, If
 use Rattle.mir_ir.specs.WellFormed.{Locals, with, without, Within}
 use Rattle.mir_ir.proofs.Taking.{CanTakeAll, all_taken}
 use Rattle.mir_build.specs.Text.{Line, Makes, Turns, Owns, made}
-use Rattle.mir_build.specs.Lowering.{numbers, Around, at, at_head, ends, moved, whole, put_unit}
+use Rattle.mir_build.specs.Lowering.{numbers, Around, at, at_head, ends, moved, whole, put_unit, fork}
 use Rattle.mir_build.proofs.Numbers.{count, labels_begun}
 use Rattle.mir_build.proofs.LawLists.{Has, here, there, makings-append, count_self, has_count, differs, fewer}
 use Rattle.mir_build.proofs.LawNames.{HoldsAll, HeadFits}
@@ -103,6 +103,18 @@ forked c s t yes' no' after set now to ys zs h w p q = record {
       (turns tt (at_most after at' to to a.0 (same_set to)) tt (from_start after at' to to [] a.0 (stops (same_set to))))
       set zs (q.runs at' (agree_left at' q.starts _ r.1)))))
       set ys (p.runs at' (agree_left at' p.starts _ g.1))));
+}
+
+-- two branches that leave: no run comes to the edge between them
+pub parted : (c : Around) (s : Span) (t : ℕ) (yes' no' : Label) (set now to : Locals) (ys zs : List Line) → now t ≡ true → Within set (without t now) → Within set to → Laid set ys to → Laid set zs to
+    → Laid now (fork c s t yes' no' ys zs) to
+parted c s t yes' no' set now to ys zs h w v p q = record {
+  starts = (yes', set) ∷ (p.starts ++ (no', set) ∷ q.starts);
+  are = ap (λ ls. yes'.0 ∷ ls) (joined p.starts ((no', set) ∷ q.starts) ys _ p.are (ap (λ ls. no'.0 ∷ ls) q.are));
+  runs = λ at' g.
+      let r = agree_right at' p.starts _ g.1 in
+      turns h (at_most yes' at' set (without t now) g.0 w, at_most no' at' set (without t now) r.0 w) tt
+      (from_start yes' at' set to _ g.0 (runs-append at' to to _ (turns tt (at_most no' at' set to r.0 v) tt (from_start no' at' set to _ r.0 (q.runs at' r.1))) set ys (p.runs at' (agree_left at' p.starts _ g.1))));
 }
 
 -- a loop

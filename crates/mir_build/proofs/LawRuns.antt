@@ -16,6 +16,9 @@ use Rattle.mir_ir.specs.declared.terminator.TerminatorKind.TheVariants.{Goto, If
 use Rattle.mir_ir.specs.WellFormed.{Locals, with, without, Within}
 use Rattle.mir_ir.proofs.Taking.{taken, CanTake, CanTakeAll, all_taken, CanEvaluate, evaluated, CanRun, run, CanEnd, Carries}
 use Rattle.mir_build.specs.Text.{Title, Line, Puts, Makes, Turns, Leaves, Owns, begun}
+use Rattle.mir_build.specs.Lowering.{ends}
+use Rattle.text_core.specs.declared.refusal.Cause.{Cause}
+use Rattle.text_core.specs.declared.span.Span.{Span}
 use Rattle.mir_build.proofs.Numbers.{count, labels_begun}
 use Rattle.mir_build.proofs.LawLists.{begun-append}
 use Rattle.mir_build.proofs.LawNames.{HeadFits}
@@ -193,6 +196,10 @@ laid_puts s set to xs h p = record { starts = p.starts; are = p.are; runs = λ a
 
 pub laid_makes : (x : ℕ) (t : Ty) (set to : Locals) (xs : List Line) → Laid set xs to → Laid set (Makes x t ∷ xs) to
 laid_makes x t set to xs p = record { starts = p.starts; are = p.are; runs = λ at g. makes (p.runs at g) }
+
+-- behind a panic nothing runs
+pub laid_panics : (s : Span) (k : Cause) (set to : Locals) → Laid set (Leaves (ends s (Panic k)) ∷ []) to
+laid_panics s k set to = record { starts = []; are = refl; runs = λ at g. leaves tt tt (stops (λ x h. refl)) }
 
 pub laid-append : (set mid to : Locals) (xs ys : List Line) → Laid set xs mid → Laid mid ys to → Laid set (xs ++ ys) to
 laid-append set mid to xs ys p q = record {

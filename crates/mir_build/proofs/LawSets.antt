@@ -19,8 +19,8 @@ use Rattle.mir_build.specs.Lowering.{numbers, Around, Formula, accepted, whole, 
 use Rattle.mir_build.proofs.Numbers.{count}
 use Rattle.mir_build.proofs.LawLists.{Has, here, there, has_get, makings-append, count-append, count_self}
 use Rattle.mir_build.proofs.LawNames.{HoldsPlaces, head_fits}
-use Rattle.mir_build.proofs.LawRuns.{with_self, with_more, with_within, kept, Runs, stops, runs-append, Laid, laid_stops, laid_puts, laid_makes, laid-append}
-use Rattle.mir_build.proofs.LawLaid.{weight, Apart, none, before, first, second, left, right, fresh_second, given_up, still, same_set, forked, looped, with_all, with_all_more, with_all_has, called, weight_with}
+use Rattle.mir_build.proofs.LawRuns.{with_self, with_more, with_within, kept, Runs, stops, runs-append, Laid, laid_stops, laid_puts, laid_makes, laid_panics, laid-append}
+use Rattle.mir_build.proofs.LawLaid.{weight, Apart, none, before, first, second, left, right, fresh_second, given_up, still, same_set, forked, parted, looped, with_all, with_all_more, with_all_has, called, weight_with}
 use Rattle.mir_build.proofs.TypedShapes.{Takes, of_number, of_bool, of_unit, of_copy, of_minus, of_not, of_operation, KeepsTyped, of_typed_body}
 
 -- the set has the locals of the places in scope, one place for each variable
@@ -230,11 +230,16 @@ keeps_sets σ = record {
   made = λ c Γ ts t T xs d U ys p q set sc a.
       laid_makes _ _ _ _ _ (laid-append (holding ts set) (with t (holding ts set)) (with d set) xs ys (p (holding ts set) (holding_scoped c Γ ts set sc) (first_apart d t ts set xs ys a)) (q set sc (rest_apart d t ts set xs ys a)));
   left = λ c Γ t T d U xs p set sc a. fewer (with t set) (with d (with t set)) (with d set) xs (p (with t set) (more_scoped c Γ set t sc) (second_held d t set _ a)) (ends_with d t set);
+  leaving = λ c Γ t T d U xs p q set sc a. laid_makes _ _ _ _ _ (q set sc (without_second d t set _ a));
+  panicked = λ c Γ s k d T g set sc a. laid_panics s k set (with d set);
   bound = λ outer c Γ s t T d U xs p set sc a.
       laid-append (with t set) (with d (with t set)) (with d set) xs _ (p (with t set) (bound_scoped c Γ T set t sc) (left d (with t set) xs _ (second_held d t set _ a))) (laid_dies outer s d t set (bound_apart d t set _ a));
   tested = λ c Γ s t T yes' no' after d U xs ys e p q set sc a.
       let b = without_second d t set _ a in
       forked c s t yes' no' after set (with t set) (with d set) xs ys (with_self t set) (given_up t set (fresh_second d t set _ a)) (p set sc (left d set xs _ b)) (q set sc (left d set ys _ (right d set xs _ b)));
+  forked = λ c Γ s t T yes' no' d U xs ys e p q set sc a.
+      let b = without_second d t set _ a in
+      parted c s t yes' no' set (with t set) (with d set) xs ys (with_self t set) (given_up t set (fresh_second d t set _ a)) (with_more d set) (p set sc (left d set xs _ b)) (q set sc (right d set xs _ b));
   turned = λ c Γ s head body after fs t T xs u U ys d V e v h p q. laid_turning c Γ s head body after fs t T xs u U ys d V h p q;
   named = λ c Γ v p T q h. record { behind = λ set. set; more = same_set; there = λ set sc. sc.holds p (has_get c.scope v p q); laid = λ set sc a. laid_stops _ _ (same_set set) };
   temporary = λ c Γ t T xs p. record { behind = with t; more = with_more t; there = λ set sc. with_self t set; laid = λ set sc a. laid_makes _ _ _ _ _ (p set sc a) };

@@ -16,7 +16,7 @@ use Rattle.type_check.specs.TypedExpr.{TypedExpr}
 use Rattle.type_check.specs.TypedExprView.{ty_of}
 use Rattle.type_check.specs.WellTyped.{IsBuilt, AllBuilt, IsWellTyped, EachSpeaks, operation_ty, unit}
 use Rattle.mir_build.specs.Text.{Line, made}
-use Rattle.mir_build.specs.Lowering.{Around, Formula, accepted, whole, looping, binds, moved, dies_in, puts, puts_at, put_unit, made_by, test, calls, turning, IntoBody}
+use Rattle.mir_build.specs.Lowering.{Around, Formula, accepted, whole, looping, binds, moved, dies_in, puts, puts_at, put_unit, made_by, test, fork, calls, turning, IntoBody}
 use Rattle.mir_build.proofs.LawNames.{head_fits}
 use Rattle.mir_build.proofs.LawTyped.{operation_has, operation_built, signed, built_more, built_at, is_local, AreTyped, typed-append, MadeFits, made_first, made_rest, made_left, made_right, ScopeFits, scope_at, scope_more, scope_length, scope_holds}
 use Rattle.mir_build.proofs.TypedShapes.{Takes, of_number, of_bool, of_unit, of_copy, of_minus, of_not, of_operation, KeepsTyped, of_typed_body}
@@ -114,6 +114,10 @@ module _ (σ : List Signature) (bodies : Bodies) (b : Body) (callees : (n : ℕ)
   typed_test c s t yes' no' after ys zs h p q m =
       ((refl, h), tt, typed-append bodies b ys _ (p (made_left b ys _ m)) (tt, tt, typed-append bodies b zs _ (q (made_left b zs _ (made_right b ys _ m))) (tt, tt, tt)))
 
+  typed_fork : (c : Around) (s : Span) (t : ℕ) (yes' no' : Label) (ys zs : List Line) → At t bool → (MadeFits b (made ys) → AreTyped bodies b ys) → (MadeFits b (made zs) → AreTyped bodies b zs)
+      → MadeFits b (made (fork c s t yes' no' ys zs)) → AreTyped bodies b (fork c s t yes' no' ys zs)
+  typed_fork c s t yes' no' ys zs h p q m = ((refl, h), tt, typed-append bodies b ys _ (p (made_left b ys _ m)) (tt, tt, q (made_right b ys _ m)))
+
   typed_turning : (c : Around) (Γ : List Ty) (s : Span) (head body after : Label) (fs : List Formula) (t : ℕ) (T : Ty) (xs : List Line) (u : ℕ) (U : Ty) (ys : List Line) (d : ℕ) (V : Ty) → T ≡ bool → V ≡ unit → EachSpeaks (length Γ) (map accepted fs)
       → Writes (looping c head) Γ [] t T xs → Writes (looping c head) Γ [] u U ys → Known b c Γ → At d V → MadeFits b (made (turning c s head body after fs t T xs u U ys (put_unit s d ∷ [])))
       → AreTyped bodies b (turning c s head body after fs t T xs u U ys (put_unit s d ∷ []))
@@ -158,6 +162,8 @@ module _ (σ : List Signature) (bodies : Bodies) (b : Body) (callees : (n : ℕ)
       typed = λ k g at a m. let h = p.built k.built_types tt in then_made t T xs ys h (p.typed k tt tt) (λ at_t. q.typed k (h, g) (at_t, at) a) m;
     };
     left = λ c Γ t T d U xs p. record { built = λ g h. p.built g tt; typed = λ k g at a m. p.typed k tt tt a m };
+    leaving = λ c Γ t T d U xs p q. record { built = q.built; typed = λ k g at a m. (p.built k.built_types tt, q.typed k tt tt a (made_rest b t T (made xs) m)) };
+    panicked = λ c Γ s k d T h. record { built = λ g ts. h; typed = λ k g at a m. (tt, tt) };
     bound = λ outer c Γ s t T d U xs p. record {
       built = λ g h. p.built (built_more Γ T g h.0) tt;
       typed = λ k g at a m. typed-append bodies b xs _ (p.typed (one_more c Γ t T k at.0 g.0) tt tt a (made_left b xs _ m)) (typed_dies outer s t T at.0);
@@ -165,6 +171,10 @@ module _ (σ : List Signature) (bodies : Bodies) (b : Body) (callees : (n : ℕ)
     tested = λ c Γ s t T yes' no' after d U xs ys e p q. record {
       built = λ g h. p.built g tt;
       typed = λ k g at a m. typed_test c s t yes' no' after xs ys (at_type t _ _ at.0 e) (p.typed k tt tt a) (q.typed k tt tt a) m;
+    };
+    forked = λ c Γ s t T yes' no' d U xs ys e p q. record {
+      built = λ g h. p.built g tt;
+      typed = λ k g at a m. typed_fork c s t yes' no' xs ys (at_type t _ _ at.0 e) (p.typed k tt tt a) (q.typed k tt tt a) m;
     };
     turned = λ c Γ s head body after fs t T xs u U ys d V e v h p q. record { built = λ g ts. is_unit V v; typed = λ k g at a m. typed_turning c Γ s head body after fs t T xs u U ys d V e v h p q k a m };
     named = λ c Γ v p T q h k m. (tt, scope_at b c.scope Γ v p T k.scope q h);

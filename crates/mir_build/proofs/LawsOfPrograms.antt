@@ -39,7 +39,8 @@ further : (σ : List Signature) (first : ℕ) (f : TypedFunction) (fs : List Typ
     → FunctionAt σ (suc first) fs bs cs gs n h k → FunctionAt σ first (f ∷ fs) (b ∷ bs) (c ∷ cs) (g ∷ gs) (suc n) h k
 further σ first f fs b bs c cs g gs n h k w = record { owner = w.owner; gone = w.gone; is_function = w.is_function; is_body = w.is_body; is_number = omega (arith, w.is_number); contract = w.contract; is_contract = w.is_contract; has_contract = w.has_contract; is_gone = w.is_gone; lowers = w.lowers }
 
-pub of_body : (table : List (List ℕ)) (σ : List Signature) (first : ℕ) (fs : List TypedFunction) (bs : List Body) (cs : List Contract) (gones : List Initialised) → EachLowersTo table σ first fs bs cs gones → (n : ℕ) (b : Body) → slice_get bs n ≡ Some b → (f : TypedFunction) × FunctionAt σ first fs bs cs gones n f b
+pub of_body : (table : List (List ℕ)) (σ : List Signature) (first : ℕ) (fs : List TypedFunction) (bs : List Body) (cs : List Contract) (gones : List Initialised) → EachLowersTo table σ first fs bs cs gones
+    → (n : ℕ) (b : Body) → slice_get bs n ≡ Some b → (f : TypedFunction) × FunctionAt σ first fs bs cs gones n f b
 of_body table σ first fs bs cs gones no_functions n b e = absurd (cc)
 of_body table σ first fs bs cs gones (and_function {f = f} {b = k} {c = c} {gone = gone} owner t l h d r) zero b e =
     (f, record { owner = owner; gone = gone; is_function = refl; is_body = e; is_number = ap (λ (m : Body). m.id) (sym (some_same e)) ∙ omega (arith, d); contract = c; is_contract = refl; has_contract = h; is_gone = refl; lowers = subst (λ m. LowersTo σ owner f m gone) (some_same e) l })
@@ -47,7 +48,8 @@ of_body table σ first fs bs cs gones (and_function {f = f} {fs = fs'} {b = k} {
     let w = of_body table σ (suc first) fs' bs' cs' gs' r n b e in
     (w.0, further σ first f fs' k bs' c cs' gone gs' n w.0 b w.1)
 
-pub of_function : (table : List (List ℕ)) (σ : List Signature) (first : ℕ) (fs : List TypedFunction) (bs : List Body) (cs : List Contract) (gones : List Initialised) → EachLowersTo table σ first fs bs cs gones → (n : ℕ) (f : TypedFunction) → slice_get fs n ≡ Some f → (b : Body) × FunctionAt σ first fs bs cs gones n f b
+pub of_function : (table : List (List ℕ)) (σ : List Signature) (first : ℕ) (fs : List TypedFunction) (bs : List Body) (cs : List Contract) (gones : List Initialised) → EachLowersTo table σ first fs bs cs gones
+    → (n : ℕ) (f : TypedFunction) → slice_get fs n ≡ Some f → (b : Body) × FunctionAt σ first fs bs cs gones n f b
 of_function table σ first fs bs cs gones no_functions n f e = absurd (cc)
 of_function table σ first fs bs cs gones (and_function {f = g} {b = k} {c = c} {gone = gone} owner t l h d r) zero f e =
     (k, record { owner = owner; gone = gone; is_function = e; is_body = refl; is_number = omega (arith, d); contract = c; is_contract = refl; has_contract = subst (λ m. HasContract m c) (some_same e) h; is_gone = refl; lowers = subst (λ m. LowersTo σ owner m k gone) (some_same e) l })

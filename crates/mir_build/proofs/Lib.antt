@@ -22,6 +22,7 @@ pub mod LawSets
 pub mod LawTyped
 pub mod LawTypes
 pub mod LawsOfPrograms
+pub mod Leaving
 pub mod Numbers
 pub mod OneBody
 pub mod OneText

@@ -35,6 +35,10 @@ pub within_one : (l x : ℕ) → within l 1 x ≡ is x l
 unfolding within
 within_one l x = let q : l + 0 ≡ l = add-zero l in rw q (omega arith)
 
+pub within_two : (l x : ℕ) → within l 2 x ≡ is x l + is x (l + 1)
+unfolding within
+within_two l x = let q : l + 0 ≡ l = add-zero l in rw q (omega arith)
+
 pub within_three : (l x : ℕ) → within l 3 x ≡ is x l + is x (l + 1) + is x (l + 2)
 unfolding within
 within_three l x = let q : l + 0 ≡ l = add-zero l in rw q (omega arith)

@@ -11,16 +11,17 @@ use Rattle.mir_ir.specs.declared.terminator.TerminatorKind.TheVariants.{Goto, If
 use Rattle.type_check.specs.TypedExpr.{TypedExpr, TypedStmts, TypedExprs, block}
 use Rattle.type_check.specs.TypedExprView.{ty_of}
 use Rattle.mir_build.specs.Text.{Line, Makes, Turns, Owns, made}
-use Rattle.mir_build.specs.Lowering.{Around, binds, looping, at, at_head, head_of, whole, puts, puts_at, put_unit, moved, ends, dies_in, numbers, lazily, Into, of_integer, of_truth, of_variable, of_negative, of_denied, of_binary, of_lazy, of_assign}
-use Rattle.mir_build.specs.Lowering.{of_update, of_call, of_block, of_branch, of_choice, of_repeat, Rest, of_done, of_last, of_bind, of_run, Args, of_none, of_more, PlaceOf, of_name, of_temporary, is_place, IntoBody, of_outermost, of_other, is_block, named, named_place, named_rest, named_args, named_body}
-use Rattle.mir_build.specs.Numbered.{place_of, temporary_count, temporary_text, into, rest, args, body_text, labels, locals, temporaries, label, variable_place}
+use Rattle.mir_build.specs.Lowering.{Around, binds, looping, at, at_head, head_of, whole, puts, puts_at, put_unit, moved, ends, dies_in, numbers, lazily, test, fork}
+use Rattle.mir_build.specs.Lowering.{Into, of_integer, of_truth, of_variable, of_negative, of_denied, of_binary, of_lazy, of_assign, of_update, of_call, of_block, of_branch, of_choice, of_leaving_choice, of_repeat, of_panics}
+use Rattle.mir_build.specs.Lowering.{Rest, of_done, of_last, of_leaving, of_bind, of_run, Args, of_none, of_more, PlaceOf, of_name, of_temporary, is_place, IntoBody, of_outermost, of_other, is_block, named, named_place, named_rest, named_args, named_body}
+use Rattle.mir_build.specs.Numbered.{place_of, temporary_count, temporary_text, sides_text, into, rest, args, body_text, labels, locals, temporaries, label, variable_place}
 use Rattle.mir_build.proofs.Numbers.{makings}
 use Rattle.mir_build.proofs.Fills.{fills, target_fills, numbers_of}
 use Rattle.mir_build.proofs.Targets.{one_temporary_text, whole_temporary}
 use Rattle.mir_build.proofs.Order.{InOrder}
 use Rattle.mir_build.proofs.Accepted.{formulas_are}
 use Rattle.mir_build.proofs.Rows.{own_locals}
-use Rattle.mir_build.proofs.Following.{From, from_left, three, order_left, order_right, order_lazy}
+use Rattle.mir_build.proofs.Following.{From, from_left, two, three, order_left, order_right, order_lazy}
 use Rattle.mir_build.proofs.Rowwise.{labels_behind, labels_behind_args}
 
 -- the place of a variable in scope
@@ -84,7 +85,7 @@ mutual
       let y = one_text c b d vs q (m + 3) u k.3 (order_left u vs _ (behind a c l (t + 1) t us _ x o.1)) in
       λ i. Makes (o.0 i) (ty_of a) ∷ (x i ++ Turns (ends s (If (moved (o.0 i)) (label (k.0 i)) (label (k.1 i)))) (at c (label (k.0 i))) ∷ (y i
       ++ Turns (ends s (Goto (label (k.2 i)))) (at c (label (k.1 i))) ∷ put_unit s d ∷ Turns (ends s (Goto (label (k.2 i)))) (at c (label (k.2 i))) ∷ []))
-  one_text c e d xs (of_choice {s = s} {e = a} {a = b} {b = b'} {t = t'} yes' no' after {xs = us} {ys = vs} {zs = ws} p q r) l t n o =
+  one_text c e d xs (of_choice {s = s} {e = a} {a = b} {b = b'} {t = t'} yes' no' after {xs = us} {ys = vs} {zs = ws} k' p q r) l t n o =
       let m = l + labels a in
       let k = three m yes'.0 no'.0 after.0 (named q ++ named r) (labels_behind p l (yes'.0 ∷ no'.0 ∷ after.0 ∷ (named q ++ named r)) n) in
       let x = one_text c a t' us p l (t + 1) (from_left l (named p) _ n) (order_left (t + 1) us _ o.1) ∙ ap (into a c l (t + 1)) o.0 in
@@ -92,8 +93,16 @@ mutual
       let g = behind a c l (t + 1) t us _ x o.1 in
       let y = one_text c b d vs q (m + 3) u (from_left (m + 3) (named q) (named r) k.3) (order_left u vs _ g) in
       let z = one_text c b' d ws r (m + 3 + labels b) (u + locals b) (labels_behind q (m + 3) (named r) k.3) (order_left (u + locals b) ws _ (behind b c (m + 3) u d vs _ y g)) in
-      λ i. Makes (o.0 i) (ty_of a) ∷ (x i ++ Turns (ends s (If (moved (o.0 i)) (label (k.0 i)) (label (k.1 i)))) (at c (label (k.0 i))) ∷ (y i
-      ++ Turns (ends s (Goto (label (k.2 i)))) (at c (label (k.1 i))) ∷ (z i ++ Turns (ends s (Goto (label (k.2 i)))) (at c (label (k.2 i))) ∷ [])))
+      (λ i. Makes (o.0 i) (ty_of a) ∷ (x i ++ test c s (o.0 i) (label (k.0 i)) (label (k.1 i)) (label (k.2 i)) (y i) (z i))) ∙ ap (λ both. Makes t (ty_of a) ∷ (into a c l (t + 1) t ++ sides_text both b b' s t d c m u)) (sym k')
+  one_text c e d xs (of_leaving_choice {s = s} {e = a} {a = b} {b = b'} {t = t'} yes' no' {xs = us} {ys = vs} {zs = ws} k' p q r) l t n o =
+      let m = l + labels a in
+      let k = two m yes'.0 no'.0 (named q ++ named r) (labels_behind p l (yes'.0 ∷ no'.0 ∷ (named q ++ named r)) n) in
+      let x = one_text c a t' us p l (t + 1) (from_left l (named p) _ n) (order_left (t + 1) us _ o.1) ∙ ap (into a c l (t + 1)) o.0 in
+      let u = t + 1 + locals a in
+      let g = behind a c l (t + 1) t us _ x o.1 in
+      let y = one_text c b d vs q (m + 2) u (from_left (m + 2) (named q) (named r) k.2) (order_left u vs _ g) in
+      let z = one_text c b' d ws r (m + 2 + labels b) (u + locals b) (labels_behind q (m + 2) (named r) k.2) (behind b c (m + 2) u d vs _ y g) in
+      (λ i. Makes (o.0 i) (ty_of a) ∷ (x i ++ fork c s (o.0 i) (label (k.0 i)) (label (k.1 i)) (y i) (z i))) ∙ ap (λ both. Makes t (ty_of a) ∷ (into a c l (t + 1) t ++ sides_text both b b' s t d c m u)) (sym k')
   one_text c e d xs (of_repeat {s = s} {is = is} {e = a} {b = b} {t = t'} {u = u'} head body after fs {xs = us} {ys = vs} g p q) l t n o =
       let f = formulas_are is fs g in
       let k = three l head.0 body.0 after.0 (named p ++ named q) n in
@@ -106,6 +115,7 @@ mutual
       λ i. Turns (ends s (Goto (label (k.0 i)))) (at_head (looping c (label (k.0 i))) (label (k.0 i)) (head_of c (f i))) ∷ Makes (o.0 i) (ty_of a) ∷ (x i
       ++ Turns (ends s (If (moved (o.0 i)) (label (k.1 i)) (label (k.2 i)))) (at (looping c (label (k.0 i))) (label (k.1 i))) ∷ Makes (r.0 i) (ty_of b)
       ∷ (y i ++ Turns (ends s (Goto (label (k.0 i)))) (at c (label (k.2 i))) ∷ Owns (label (k.0 i)) (own i) ∷ put_unit s d ∷ []))
+  one_text c e d xs of_panics l t n o = refl
 
   one_place : (c : Around) (e : TypedExpr) (x : Place) (xs : List Line) (p : PlaceOf c e x xs) (l t : ℕ) → From l (named_place p) → InOrder t xs
       → (x ≡ place_of c.scope t e) × (xs ≡ temporary_text (is_place e) t (ty_of e) (into e c l (t + 1) t))
@@ -117,6 +127,9 @@ mutual
   one_rest : (c : Around) (outer : Bool) (s : Span) (ss : TypedStmts) (d : ℕ) (xs : List Line) (p : Rest c outer s ss d xs) (l t : ℕ) → From l (named_rest p) → InOrder t xs → xs ≡ rest ss outer s c l t d
   one_rest c outer s ss d xs of_done l t n o = refl
   one_rest c outer s ss d xs (of_last p) l t n o = one_text c _ d xs p l t n o
+  one_rest c outer s ss d xs (of_leaving {e = a} {t = t'} {xs = us} p) l t n o =
+      let x = one_text c a t' us p l (t + 1) n o.1 ∙ ap (into a c l (t + 1)) o.0 in
+      λ i. Makes (o.0 i) (ty_of a) ∷ x i
   one_rest c outer s ss d xs (of_bind {e = a} {ss = ss'} {t = t'} {xs = us} {ys = vs} p q) l t n o =
       let x = one_text c a t' us p l (t + 1) (from_left l (named p) (named_rest q) n) (order_left (t + 1) us _ o.1) ∙ ap (into a c l (t + 1)) o.0 in
       let u = t + 1 + locals a in

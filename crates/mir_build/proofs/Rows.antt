@@ -1,5 +1,5 @@
 -- Where each variable is in scope and no invariant is refused, the numbered text is a text of the rows, which name their labels in order.
-use Rattle.std.proofs.Common.{◌≡◌, refl, ap, sym, ℕ, zero, suc, ◌+◌, ◌-◌, Bool, true, false, List, [], ◌∷◌, ◌++◌, length, length-append, map, Some, None, arith}
+use Rattle.std.proofs.Common.{◌≡◌, refl, ap, sym, subst, ℕ, zero, suc, ◌+◌, ◌-◌, ◌&&◌, Bool, true, false, List, [], ◌∷◌, ◌++◌, length, length-append, map, Some, None, arith}
 use Rattle.std.specs.List.{slice_get, range_with_len}
 use Rattle.std.proofs.lemmas.Option.{slice_get_within, slice_get-get_or}
 use Rattle.text_core.specs.declared.span.Span.{Span}
@@ -7,18 +7,20 @@ use Rattle.logic_term.specs.Ty.{Ty}
 use Rattle.mir_ir.specs.declared.place.Place.{Place}
 use Rattle.type_check.specs.declared.assertion.Assertion.{Assertion}
 use Rattle.type_check.specs.declared.program.Signature.{Signature}
-use Rattle.type_check.specs.TypedExpr.{TypedExpr, TypedStmts, TypedExprs, integer, truth, variable, negative, denied, binary, lazy, assign, update, call, block, branch, choice, repeat, done, last, bind, run, none, more}
+use Rattle.type_check.specs.TypedExpr.{TypedExpr, TypedStmts, TypedExprs, integer, truth, variable, negative, denied, binary, lazy, assign, update, call, block, branch, choice, repeat, panics, done, last, leaving, bind, run, none, more}
+use Rattle.type_check.specs.Leaves.{leaves}
 use Rattle.type_check.specs.TypedExprView.{ty_of}
 use Rattle.type_check.specs.FirstBad.{bad_among, bad_in, bad_in_stmts, bad_in_exprs}
 use Rattle.type_check.specs.Answers.{or_else}
 use Rattle.type_check.specs.WellTyped.{IsWellTyped, StatementsFit, ArgumentsFit}
 use Rattle.mir_build.specs.Lowering.{is_place, Around, accepted, whole, binds, looping, Into, of_integer, of_truth, of_variable, of_negative, of_denied, of_binary, of_lazy, of_assign, of_update, of_call, of_block, of_branch}
-use Rattle.mir_build.specs.Lowering.{of_choice, of_repeat, Rest, of_done, of_last, of_bind, of_run, Args, of_none, of_more, PlaceOf, of_name, of_temporary, IntoBody, of_outermost, of_other, named, named_place, named_rest, named_args, named_body}
-use Rattle.mir_build.specs.Text.{Line}
-use Rattle.mir_build.specs.Numbered.{place_of, temporary_text, formula_of, into, rest, args, body_text, labels, labels_in, locals, temporaries, label, variable_place, between}
+use Rattle.mir_build.specs.Lowering.{of_choice, of_leaving_choice, of_repeat, of_panics, Rest, of_done, of_last, of_leaving, of_bind, of_run, Args, of_none, of_more, PlaceOf, of_name, of_temporary, IntoBody, of_outermost, of_other, named, named_place, named_rest, named_args, named_body}
+use Rattle.mir_build.specs.Text.{Line, Makes}
+use Rattle.mir_build.specs.Numbered.{place_of, temporary_text, choice_labels, choice_text, formula_of, into, rest, args, body_text, labels, labels_in, locals, temporaries, label, variable_place, between}
 use Rattle.mir_build.proofs.Accepted.{first_none, second_none, all_accepted}
 use Rattle.mir_build.proofs.Fills.{numbers_of}
-use Rattle.mir_build.proofs.Following.{From, then_three}
+use Rattle.mir_build.proofs.Following.{From, then_two, then_three}
+use Rattle.mir_build.proofs.Leaving.{leaving_value}
 use Rattle.mir_build.proofs.Rowwise.{labels_then, labels_then_args}
 
 -- there is a place for each variable
@@ -72,6 +74,18 @@ looped ty s is e b c l t d g p q =
     let own = own_locals t (locals e) (locals b) _ _ (numbers_of e (looping c (label l)) (l + 3) (t + 1) t) (numbers_of b (looping c (label l)) (l + 3 + labels e) (t + 1 + locals e + 1) (t + 1 + locals e)) in
     rw own at row
 
+-- `if` with `else`, by its condition and its sides
+chosen : (both : Bool) (ty : Ty) (s : Span) (e a b : TypedExpr) (c : Around) (l m t d : ℕ) (xs ys zs : List Line) → leaves a && leaves b ≡ both → m ≡ l + labels e → Lowered c e t l xs → Lowered c a d (m + choice_labels both) ys
+    → Lowered c b d (m + choice_labels both + labels a) zs → Lowered c (choice ty s e a b) d l (Makes t (ty_of e) ∷ (xs ++ choice_text both c s t m ys zs))
+chosen true ty s e a b c l m t d xs ys zs n k p q r =
+    let ns = named q.0 ++ named r.0 in
+    let behind : From m (m ∷ (m + 1) ∷ ns) = then_two m ns (labels_then q.0 (m + 2) (named r.0) q.1 r.1) in
+    (of_leaving_choice (label m) (label (m + 1)) n p.0 q.0 r.0, labels_then p.0 l (m ∷ (m + 1) ∷ ns) p.1 (subst (λ i. From i (m ∷ (m + 1) ∷ ns)) k behind))
+chosen false ty s e a b c l m t d xs ys zs n k p q r =
+    let ns = named q.0 ++ named r.0 in
+    let behind : From m (m ∷ (m + 1) ∷ (m + 2) ∷ ns) = then_three m ns (labels_then q.0 (m + 3) (named r.0) q.1 r.1) in
+    (of_choice (label m) (label (m + 1)) (label (m + 2)) n p.0 q.0 r.0, labels_then p.0 l (m ∷ (m + 1) ∷ (m + 2) ∷ ns) p.1 (subst (λ i. From i (m ∷ (m + 1) ∷ (m + 2) ∷ ns)) k behind))
+
 mutual
   pub lowers : (σ : List Signature) (Γ : List Ty) (e : TypedExpr) (c : Around) (l t d : ℕ) → IsFor Γ c.scope → IsWellTyped σ Γ e → bad_in e ≡ None → Lowered c e d l (into e c l t d)
   lowers σ Γ (integer ty s z k) c l t d h w g = (of_integer, tt)
@@ -119,16 +133,18 @@ mutual
       let m = l + labels e in
       let u = t + 1 + locals e in
       let p = lowers σ Γ e c l (t + 1) t h w.3 (first_none (bad_in e) (or_else (bad_in a) (bad_in b)) g) in
-      let q = lowers σ Γ a c (m + 3) u d h w.4 (first_none (bad_in a) (bad_in b) (second_none (bad_in e) (or_else (bad_in a) (bad_in b)) g)) in
-      let r = lowers σ Γ b c (m + 3 + labels a) (u + locals a) d h w.5 (second_none (bad_in a) (bad_in b) (second_none (bad_in e) (or_else (bad_in a) (bad_in b)) g)) in
-      let ns = named q.0 ++ named r.0 in
-      (of_choice (label m) (label (m + 1)) (label (m + 2)) p.0 q.0 r.0, labels_then p.0 l (m ∷ (m + 1) ∷ (m + 2) ∷ ns) p.1 (then_three m ns (labels_then q.0 (m + 3) (named r.0) q.1 r.1)))
+      let both = leaves a && leaves b in
+      let n = m + choice_labels both in
+      let q = lowers σ Γ a c n u d h w.4 (first_none (bad_in a) (bad_in b) (second_none (bad_in e) (or_else (bad_in a) (bad_in b)) g)) in
+      let r = lowers σ Γ b c (n + labels a) (u + locals a) d h w.5 (second_none (bad_in a) (bad_in b) (second_none (bad_in e) (or_else (bad_in a) (bad_in b)) g)) in
+      chosen both ty s e a b c l m t d _ _ _ refl refl p q r
   lowers σ Γ (repeat ty s is e b) c l t d h w g =
       let inside = looping c (label l) in
       let u = t + 1 + locals e in
       let p = lowers σ Γ e inside (l + 3) (t + 1) t h w.4 (first_none (bad_in e) (bad_in b) (second_none (bad_among is) (or_else (bad_in e) (bad_in b)) g)) in
       let q = lowers σ Γ b inside (l + 3 + labels e) (u + 1) u h w.5 (second_none (bad_in e) (bad_in b) (second_none (bad_among is) (or_else (bad_in e) (bad_in b)) g)) in
       looped ty s is e b c l t d (all_accepted is (first_none (bad_among is) (or_else (bad_in e) (bad_in b)) g)) p q
+  lowers σ Γ (panics ty s k) c l t d h w g = (of_panics, tt)
 
   pub rests : (σ : List Signature) (Γ : List Ty) (ty : Ty) (ss : TypedStmts) (outer : Bool) (s : Span) (c : Around) (l t d : ℕ) → IsFor Γ c.scope → StatementsFit σ Γ ty ss → bad_in_stmts ss ≡ None
       → RestLowered c outer s ss d l (rest ss outer s c l t d)
@@ -136,6 +152,9 @@ mutual
   rests σ Γ ty (last e) outer s c l t d h w g =
       let p = lowers σ Γ e c l t d h w.1 g in
       (of_last p.0, p.1)
+  rests σ Γ ty (leaving e) outer s c l t d h w g =
+      let p = lowers σ Γ e c l (t + 1) t h (leaving_value σ Γ ty e w) g in
+      (of_leaving p.0, p.1)
   rests σ Γ ty (bind e ss) outer s c l t d h w g =
       let p = lowers σ Γ e c l (t + 1) t h w.0 (first_none (bad_in e) (bad_in_stmts ss) g) in
       let q = rests σ _ ty ss outer s (binds c t) (l + labels e) (t + 1 + locals e) d (one_more Γ c.scope (ty_of e) (whole t) h) w.1 (second_none (bad_in e) (bad_in_stmts ss) g) in

@@ -2,15 +2,17 @@
 use Rattle.std.proofs.Common.{ℕ, Bool, true, false, List, [], ◌∷◌, ◌++◌}
 use Rattle.logic_term.specs.declared.kinds.Label.{Label}
 use Rattle.logic_term.specs.Ty.{Ty}
+use Rattle.text_core.specs.declared.refusal.Cause.{Cause}
 use Rattle.text_core.specs.declared.span.Span.{Span}
 use Rattle.mir_ir.specs.declared.place.Place.{Place}
 use Rattle.mir_ir.specs.declared.statement.Statement.{Statement}
+use Rattle.mir_ir.specs.declared.terminator.TerminatorKind.TheVariants.{Panic}
 use Rattle.source_kinds.specs.declared.kinds.LazyOp.{LazyOp}
 use Rattle.source_kinds.specs.declared.kinds.LazyOp.TheVariants as lazy_op
 use Rattle.type_check.specs.TypedExpr.{TypedExpr, TypedStmts, TypedExprs}
-use Rattle.mir_build.specs.Text.{Line, Puts, Makes}
-use Rattle.mir_build.specs.Lowering.{Around, Formula, binds, looping, dies_in, test, calls, turning, lazily, Into, of_integer, of_truth, of_variable, of_negative, of_denied, of_binary, of_lazy, of_assign}
-use Rattle.mir_build.specs.Lowering.{of_update, of_call, of_block, of_branch, of_choice, of_repeat, Rest, of_done, of_last, of_bind, of_run, Args, of_none, of_more, PlaceOf, of_name, of_temporary, IntoBody, of_outermost, of_other}
+use Rattle.mir_build.specs.Text.{Line, Puts, Makes, Leaves}
+use Rattle.mir_build.specs.Lowering.{Around, Formula, binds, looping, ends, dies_in, test, fork, calls, turning, lazily, Into, of_integer, of_truth, of_variable, of_negative, of_denied, of_binary, of_lazy, of_assign}
+use Rattle.mir_build.specs.Lowering.{of_update, of_call, of_block, of_branch, of_choice, of_leaving_choice, of_repeat, of_panics, Rest, of_done, of_last, of_leaving, of_bind, of_run, Args, of_none, of_more, PlaceOf, of_name, of_temporary, IntoBody, of_outermost, of_other}
 
 -- the property holds of what a shape makes where it holds of its parts
 pub record Keeps (P : Around → List Line → Type 0) : Type 0 where
@@ -20,6 +22,8 @@ pub record Keeps (P : Around → List Line → Type 0) : Type 0 where
   pub join : (c : Around) (xs ys : List Line) → P c xs → P c ys → P c (xs ++ ys)
   pub called : (c : Around) (s : Span) (f d : ℕ) (ts : List ℕ) (after : Label) → P c (calls c s f d ts after ∷ [])
   pub tested : (c : Around) (s : Span) (t : ℕ) (yes' no' after : Label) (xs ys : List Line) → P c xs → P c ys → P c (test c s t yes' no' after xs ys)
+  pub forked : (c : Around) (s : Span) (t : ℕ) (yes' no' : Label) (xs ys : List Line) → P c xs → P c ys → P c (fork c s t yes' no' xs ys)
+  pub panicked : (c : Around) (s : Span) (k : Cause) → P c (Leaves (ends s (Panic k)) ∷ [])
   pub turned : (c : Around) (s : Span) (head body after : Label) (fs : List Formula) (t : ℕ) (T : Ty) (xs : List Line) (u : ℕ) (U : Ty) (ys zs : List Line)
       → P (looping c head) xs → P (looping c head) ys → P c zs → P c (turning c s head body after fs t T xs u U ys zs)
   -- a text with one variable more in scope
@@ -61,10 +65,13 @@ module _ (P : Around → List Line → Type 0) (keeps : Keeps P) where
     of_text c e d xs (of_call after {xs = us} p) = keeps.join c us _ (of_args c _ _ us p) (keeps.called c _ _ _ _ after)
     of_text c e d xs (of_block p) = of_rest c _ _ _ _ xs p
     of_text c e d xs (of_branch {s = s} {t = t} yes' no' after {xs = us} {ys = vs} p q) = made_then c _ _ us _ (of_text c _ _ us p) (keeps.tested c s t yes' no' after vs _ (of_text c _ _ vs q) (one c _))
-    of_text c e d xs (of_choice {s = s} {t = t} yes' no' after {xs = us} {ys = vs} {zs = ws} p q r) =
+    of_text c e d xs (of_choice {s = s} {t = t} yes' no' after {xs = us} {ys = vs} {zs = ws} n p q r) =
         made_then c _ _ us _ (of_text c _ _ us p) (keeps.tested c s t yes' no' after vs ws (of_text c _ _ vs q) (of_text c _ _ ws r))
+    of_text c e d xs (of_leaving_choice {s = s} {t = t} yes' no' {xs = us} {ys = vs} {zs = ws} n p q r) =
+        made_then c _ _ us _ (of_text c _ _ us p) (keeps.forked c s t yes' no' vs ws (of_text c _ _ vs q) (of_text c _ _ ws r))
     of_text c e d xs (of_repeat {s = s} {t = t} {u = u} head body after fs {xs = us} {ys = vs} g p q) =
         keeps.turned c s head body after fs t _ us u _ vs _ (of_text (looping c head) _ _ us p) (of_text (looping c head) _ _ vs q) (one c _)
+    of_text c e d xs (of_panics {s = s} {k = k}) = keeps.panicked c s k
 
     of_place : (c : Around) (e : TypedExpr) (x : Place) (xs : List Line) → PlaceOf c e x xs → P c xs
     of_place c e x xs (of_name x' q) = keeps.nothing c
@@ -73,6 +80,7 @@ module _ (P : Around → List Line → Type 0) (keeps : Keeps P) where
     of_rest : (c : Around) (outer : Bool) (s : Span) (ss : TypedStmts) (d : ℕ) (xs : List Line) → Rest c outer s ss d xs → P c xs
     of_rest c outer s ss d xs of_done = one c _
     of_rest c outer s ss d xs (of_last p) = of_text c _ _ xs p
+    of_rest c outer s ss d xs (of_leaving {xs = us} p) = keeps.make c _ _ us (of_text c _ _ us p)
     of_rest c outer s ss d xs (of_bind {t = t} {xs = us} {ys = vs} p q) =
         made_then c _ _ us _ (of_text c _ _ us p) (keeps.join c vs _ (keeps.bound c t vs (of_rest (binds c t) _ _ _ _ vs q)) (of_dying outer c s t))
     of_rest c outer s ss d xs (of_run {xs = us} {ys = vs} p q) = made_then c _ _ us vs (of_text c _ _ us p) (of_rest c _ _ _ _ vs q)

@@ -1,5 +1,6 @@
 -- What the shapes keep holds of the text of each well-typed expression.
-use Rattle.std.proofs.Common.{◌≡◌, sym, ◌∙◌, subst, ℕ, ℤ, Bool, true, List, [], ◌∷◌, ◌++◌, map, length, Some, slice_get}
+use Rattle.std.proofs.Common.{◌≡◌, inl, inr, refl, sym, ◌∙◌, subst, true≢false, ℕ, ℤ, Bool, true, false, List, [], ◌∷◌, ◌++◌, map, length, Some, slice_get}
+use Rattle.text_core.specs.declared.refusal.Cause.{Cause}
 use Rattle.text_core.specs.declared.span.Span.{Span}
 use Rattle.logic_term.specs.declared.kinds.Ctor.TheVariants.{Tuple}
 use Rattle.logic_term.specs.declared.kinds.Label.{Label}
@@ -14,13 +15,17 @@ use Rattle.mir_ir.specs.declared.place.Operand.TheVariants.{Copy, Const}
 use Rattle.mir_ir.specs.declared.place.Place.{Place}
 use Rattle.mir_ir.specs.declared.statement.Rvalue.{Rvalue}
 use Rattle.mir_ir.specs.declared.statement.Rvalue.TheVariants.{Use, Binary, Neg, Not, Make}
+use Rattle.mir_ir.specs.declared.terminator.TerminatorKind.TheVariants.{Panic}
 use Rattle.type_check.specs.declared.program.Signature.{Signature}
 use Rattle.type_check.specs.TypedExpr.{TypedExpr, TypedStmts, TypedExprs}
+use Rattle.type_check.specs.Leaves.{leaves, leaves_at_end}
 use Rattle.type_check.specs.TypedExprView.{ty_of}
-use Rattle.type_check.specs.WellTyped.{unit, operation_ty, is_signed, EachSpeaks, IsWellTyped, StatementsFit, ArgumentsFit}
-use Rattle.mir_build.specs.Text.{Line}
-use Rattle.mir_build.specs.Lowering.{Around, Formula, accepted, whole, binds, looping, puts, puts_at, put_unit, moved, made_by, dies_in, test, calls, turning, lazily, Into, of_integer, of_truth, of_variable, of_negative, of_denied, of_binary, of_lazy, of_assign}
-use Rattle.mir_build.specs.Lowering.{of_update, of_call, of_block, of_branch, of_choice, of_repeat, Rest, of_done, of_last, of_bind, of_run, Args, of_none, of_more, PlaceOf, of_name, of_temporary, IntoBody, of_outermost, of_other}
+use Rattle.type_check.specs.WellTyped.{unit, operation_ty, is_signed, IsBuilt, EachSpeaks, IsWellTyped, StatementsFit, ArgumentsFit}
+use Rattle.mir_build.specs.Text.{Line, Leaves}
+use Rattle.mir_build.specs.Lowering.{Around, Formula, accepted, whole, binds, looping, puts, puts_at, put_unit, moved, ends, made_by, dies_in, test, fork, calls, turning, lazily}
+use Rattle.mir_build.specs.Lowering.{Into, of_integer, of_truth, of_variable, of_negative, of_denied, of_binary, of_lazy, of_assign, of_update, of_call, of_block, of_branch, of_choice, of_leaving_choice, of_repeat, of_panics}
+use Rattle.mir_build.specs.Lowering.{Rest, of_done, of_last, of_leaving, of_bind, of_run, Args, of_none, of_more, PlaceOf, of_name, of_temporary, IntoBody, of_outermost, of_other}
+use Rattle.mir_build.proofs.Leaving.{panics_built, leaving_value, leaving_leaves, leaving_built, Serves, itself, at_type, serves_built, last_serves, side_serves, sides_serve}
 
 -- the temporaries that a value takes, the last one first, with their types, and its own type
 pub data Takes (c : Around) (Γ : List Ty) : List (ℕ × Ty) → Rvalue → Ty → Type 0 where
@@ -41,9 +46,15 @@ pub record KeepsTyped (σ : List Signature) (Writes : Around → List Ty → Lis
   pub made : (c : Around) (Γ : List Ty) (ts : List (ℕ × Ty)) (t : ℕ) (T : Ty) (xs : List Line) (d : ℕ) (U : Ty) (ys : List Line) → Writes c Γ [] t T xs → Writes c Γ ((t, T) ∷ ts) d U ys → Writes c Γ ts d U (made_by t T xs ++ ys)
   -- one that nothing takes
   pub left : (c : Around) (Γ : List Ty) (t : ℕ) (T : Ty) (d : ℕ) (U : Ty) (xs : List Line) → Writes c Γ [] d U xs → Writes c Γ ((t, T) ∷ []) d U xs
+  -- one whose value never comes
+  pub leaving : (c : Around) (Γ : List Ty) (t : ℕ) (T : Ty) (d : ℕ) (U : Ty) (xs : List Line) → Writes c Γ [] t T xs → Writes c Γ [] d U xs → Writes c Γ [] d U (made_by t T xs)
+  -- what panics serves for every built type
+  pub panicked : (c : Around) (Γ : List Ty) (s : Span) (k : Cause) (d : ℕ) (T : Ty) → IsBuilt T → Writes c Γ [] d T (Leaves (ends s (Panic k)) ∷ [])
   pub bound : (outer : Bool) (c : Around) (Γ : List Ty) (s : Span) (t : ℕ) (T : Ty) (d : ℕ) (U : Ty) (xs : List Line) → Writes (binds c t) (Γ ++ T ∷ []) [] d U xs → Writes c Γ ((t, T) ∷ []) d U (xs ++ dies_in outer s t)
   pub tested : (c : Around) (Γ : List Ty) (s : Span) (t : ℕ) (T : Ty) (yes' no' after : Label) (d : ℕ) (U : Ty) (xs ys : List Line) → T ≡ bool → Writes c Γ [] d U xs → Writes c Γ [] d U ys
       → Writes c Γ ((t, T) ∷ []) d U (test c s t yes' no' after xs ys)
+  pub forked : (c : Around) (Γ : List Ty) (s : Span) (t : ℕ) (T : Ty) (yes' no' : Label) (d : ℕ) (U : Ty) (xs ys : List Line) → T ≡ bool → Writes c Γ [] d U xs → Writes c Γ [] d U ys
+      → Writes c Γ ((t, T) ∷ []) d U (fork c s t yes' no' xs ys)
   pub turned : (c : Around) (Γ : List Ty) (s : Span) (head body after : Label) (fs : List Formula) (t : ℕ) (T : Ty) (xs : List Line) (u : ℕ) (U : Ty) (ys : List Line) (d : ℕ) (V : Ty) → T ≡ bool → V ≡ unit → EachSpeaks (length Γ) (map accepted fs)
       → Writes (looping c head) Γ [] t T xs → Writes (looping c head) Γ [] u U ys → Writes c Γ [] d V (turning c s head body after fs t T xs u U ys (put_unit s d ∷ []))
   pub named : (c : Around) (Γ : List Ty) (v : ℕ) (p : Place) (T : Ty) → slice_get c.scope v ≡ Some p → slice_get Γ v ≡ Some T → Names c Γ p T []
@@ -59,9 +70,10 @@ pub record KeepsTyped (σ : List Signature) (Writes : Around → List Ty → Lis
 
 module _ (σ : List Signature) (Writes : Around → List Ty → List (ℕ × Ty) → ℕ → Ty → List Line → Type 0) (Names : Around → List Ty → Place → Ty → List Line → Type 0) (Passes : Around → List Ty → List ℕ → List Ty → List Line → Type 0)
     (keeps : KeepsTyped σ Writes Names Passes) where
-  -- of the same type
-  as_type : (c : Around) (Γ : List Ty) (d : ℕ) (T U : Ty) (xs : List Line) → T ≡ U → Writes c Γ [] d T xs → Writes c Γ [] d U xs
-  as_type c Γ d T U xs q p = subst (λ V. Writes c Γ [] d V xs) q p
+  -- what has a value
+  valued : (c : Around) (Γ : List Ty) (b : Bool) (d : ℕ) (T : Ty) (d' : ℕ) (U : Ty) (xs : List Line) → b ≡ false → Serves b d T d' U → Writes c Γ [] d T xs → Writes c Γ [] d' U xs
+  valued c Γ b d T d' U xs n (inl w) p = subst (λ x. Writes c Γ [] x U xs) w.0 (subst (λ V. Writes c Γ [] d V xs) w.1 p)
+  valued c Γ b d T d' U xs n (inr w) p = absurd (true≢false (sym w.0 ∙ n))
 
   unit_put : (c : Around) (Γ : List Ty) (s : Span) (d : ℕ) (T : Ty) → T ≡ unit → Writes c Γ [] d T (put_unit s d ∷ [])
   unit_put c Γ s d T q = keeps.put c Γ [] s d _ T (of_unit q)
@@ -71,43 +83,62 @@ module _ (σ : List Signature) (Writes : Around → List Ty → List (ℕ × Ty)
   lazily_kept lazy_op.Or c Γ s t T d U yes' no' after xs q r p = keeps.tested c Γ s t T yes' no' after d U _ xs q (keeps.put c Γ [] s d _ U (of_bool r)) p
 
   mutual
-    of_typed : (c : Around) (e : TypedExpr) (d : ℕ) (xs : List Line) → Into c e d xs → (Γ : List Ty) → IsWellTyped σ Γ e → Writes c Γ [] d (ty_of e) xs
-    of_typed c e d xs of_integer Γ h = keeps.put c Γ [] _ d _ _ (of_number h)
-    of_typed c e d xs of_truth Γ h = keeps.put c Γ [] _ d _ _ (of_bool h)
-    of_typed c e d xs (of_variable {v = v} x q) Γ h = keeps.put c Γ [] _ d _ _ (of_copy v x q h)
-    of_typed c e d xs (of_negative {t = t} {xs = us} p) Γ h = keeps.made c Γ [] t _ us d _ _ (of_typed c _ t us p Γ h.4) (keeps.put c Γ _ _ d _ _ (of_minus h.0 h.1 h.2 h.3))
-    of_typed c e d xs (of_denied {t = t} {xs = us} p) Γ h = keeps.made c Γ [] t _ us d _ _ (of_typed c _ t us p Γ h.2) (keeps.put c Γ _ _ d _ _ (of_not h.0 h.1))
-    of_typed c e d xs (of_binary {t = t} {u = u} {xs = us} {ys = vs} p q) Γ h =
-        keeps.made c Γ [] t _ us d _ _ (of_typed c _ t us p Γ h.2) (keeps.made c Γ _ u _ vs d _ _ (of_typed c _ u vs q Γ h.3) (keeps.put c Γ _ _ d _ _ (of_operation h.0 h.1)))
-    of_typed c e d xs (of_lazy {s = s} {op = op} {t = t} yes' no' after {xs = us} {ys = vs} p q) Γ h =
-        keeps.made c Γ [] t _ us d _ _ (of_typed c _ t us p Γ h.3) (lazily_kept op c Γ s t _ d _ yes' no' after vs h.1 h.0 (as_type c Γ d _ _ vs (h.2 ∙ sym h.0) (of_typed c _ d vs q Γ h.4)))
-    of_typed c e d xs (of_assign {s = s} {t = t} {p = x} {xs = us} {ys = vs} p q) Γ h = keeps.made c Γ [] t _ us d _ _ (of_typed c _ t us p Γ h.3) (keeps.assigned c Γ s t _ x _ d _ vs h.1 h.0 (of_place c _ x vs q Γ h.2))
-    of_typed c e d xs (of_update {s = s} {op = op} {t = t} {p = x} u {xs = us} {ys = vs} p q) Γ h = keeps.made c Γ [] t _ us d _ _ (of_typed c _ t us p Γ h.4) (keeps.updated c Γ s op t u _ x _ d _ vs h.2 h.1 h.0 (of_place c _ x vs q Γ h.3))
-    of_typed c e d xs (of_call {s = s} {f = f} {ts = ts} after {xs = us} p) Γ h = keeps.called c Γ s f h.0 ts after d _ us h.1 h.2 (of_args c _ ts us p Γ h.0.params h.3)
-    of_typed c e d xs (of_block p) Γ h = of_rest c _ _ _ d xs p Γ _ h
-    of_typed c e d xs (of_branch {s = s} {t = t} yes' no' after {xs = us} {ys = vs} p q) Γ h =
-        keeps.made c Γ [] t _ us d _ _ (of_typed c _ t us p Γ h.3) (keeps.tested c Γ s t _ yes' no' after d _ vs _ h.1 (as_type c Γ d _ _ vs (h.2 ∙ sym h.0) (of_typed c _ d vs q Γ h.4)) (unit_put c Γ s d _ h.0))
-    of_typed c e d xs (of_choice {s = s} {t = t} yes' no' after {xs = us} {ys = vs} {zs = ws} p q r) Γ h =
-        keeps.made c Γ [] t _ us d _ _ (of_typed c _ t us p Γ h.3) (keeps.tested c Γ s t _ yes' no' after d _ vs ws h.0 (as_type c Γ d _ _ vs h.1 (of_typed c _ d vs q Γ h.4)) (as_type c Γ d _ _ ws h.2 (of_typed c _ d ws r Γ h.5)))
-    of_typed c e d xs (of_repeat {s = s} {t = t} {u = u} head body after fs {xs = us} {ys = vs} g p q) Γ h =
-        keeps.turned c Γ s head body after fs t _ us u _ vs d _ h.2 h.0 (subst (EachSpeaks (length Γ)) g h.1) (of_typed (looping c head) _ t us p Γ h.4) (of_typed (looping c head) _ u vs q Γ h.5)
+    of_typed : (c : Around) (e : TypedExpr) (d : ℕ) (xs : List Line) → Into c e d xs → (Γ : List Ty) → IsWellTyped σ Γ e → (d' : ℕ) (U : Ty) → Serves (leaves e) d (ty_of e) d' U → Writes c Γ [] d' U xs
+    of_typed c e d xs of_integer Γ h d' U w = valued c Γ _ d _ d' U _ refl w (keeps.put c Γ [] _ d _ _ (of_number h))
+    of_typed c e d xs of_truth Γ h d' U w = valued c Γ _ d _ d' U _ refl w (keeps.put c Γ [] _ d _ _ (of_bool h))
+    of_typed c e d xs (of_variable {v = v} x q) Γ h d' U w = valued c Γ _ d _ d' U _ refl w (keeps.put c Γ [] _ d _ _ (of_copy v x q h))
+    of_typed c e d xs (of_negative {t = t} {xs = us} p) Γ h d' U w = valued c Γ _ d _ d' U _ refl w (keeps.made c Γ [] t _ us d _ _ (of_typed c _ t us p Γ h.4 t _ itself) (keeps.put c Γ _ _ d _ _ (of_minus h.0 h.1 h.2 h.3)))
+    of_typed c e d xs (of_denied {t = t} {xs = us} p) Γ h d' U w = valued c Γ _ d _ d' U _ refl w (keeps.made c Γ [] t _ us d _ _ (of_typed c _ t us p Γ h.2 t _ itself) (keeps.put c Γ _ _ d _ _ (of_not h.0 h.1)))
+    of_typed c e d xs (of_binary {t = t} {u = u} {xs = us} {ys = vs} p q) Γ h d' U w =
+        valued c Γ _ d _ d' U _ refl w
+        (keeps.made c Γ [] t _ us d _ _ (of_typed c _ t us p Γ h.2 t _ itself) (keeps.made c Γ _ u _ vs d _ _ (of_typed c _ u vs q Γ h.3 u _ itself) (keeps.put c Γ _ _ d _ _ (of_operation h.0 h.1))))
+    of_typed c e d xs (of_lazy {s = s} {op = op} {t = t} yes' no' after {xs = us} {ys = vs} p q) Γ h d' U w =
+        valued c Γ _ d _ d' U _ refl w
+        (keeps.made c Γ [] t _ us d _ _ (of_typed c _ t us p Γ h.3 t _ itself) (lazily_kept op c Γ s t _ d _ yes' no' after vs h.1 h.0 (of_typed c _ d vs q Γ h.4 d _ (at_type (h.2 ∙ sym h.0)))))
+    of_typed c e d xs (of_assign {s = s} {t = t} {p = x} {xs = us} {ys = vs} p q) Γ h d' U w =
+        valued c Γ _ d _ d' U _ refl w (keeps.made c Γ [] t _ us d _ _ (of_typed c _ t us p Γ h.3 t _ itself) (keeps.assigned c Γ s t _ x _ d _ vs h.1 h.0 (of_place c _ x vs q Γ h.2)))
+    of_typed c e d xs (of_update {s = s} {op = op} {t = t} {p = x} u {xs = us} {ys = vs} p q) Γ h d' U w =
+        valued c Γ _ d _ d' U _ refl w (keeps.made c Γ [] t _ us d _ _ (of_typed c _ t us p Γ h.4 t _ itself) (keeps.updated c Γ s op t u _ x _ d _ vs h.2 h.1 h.0 (of_place c _ x vs q Γ h.3)))
+    of_typed c e d xs (of_call {s = s} {f = f} {ts = ts} after {xs = us} p) Γ h d' U w = valued c Γ _ d _ d' U _ refl w (keeps.called c Γ s f h.0 ts after d _ us h.1 h.2 (of_args c _ ts us p Γ h.0.params h.3))
+    of_typed c e d xs (of_block p) Γ h d' U w = of_rest c _ _ _ d xs p Γ _ h d' U w
+    of_typed c e d xs (of_branch {s = s} {t = t} yes' no' after {xs = us} {ys = vs} p q) Γ h d' U w =
+        valued c Γ _ d _ d' U _ refl w
+        (keeps.made c Γ [] t _ us d _ _ (of_typed c _ t us p Γ h.3 t _ itself) (keeps.tested c Γ s t _ yes' no' after d _ vs _ h.1 (of_typed c _ d vs q Γ h.4 d _ (at_type (h.2 ∙ sym h.0))) (unit_put c Γ s d _ h.0)))
+    of_typed c e d xs (of_choice {s = s} {a = a} {b = b} {t = t} yes' no' after {xs = us} {ys = vs} {zs = ws} n p q r) Γ h d' U w =
+        valued c Γ _ d _ d' U _ n w
+        (keeps.made c Γ [] t _ us d _ _ (of_typed c _ t us p Γ h.3 t _ itself)
+        (keeps.tested c Γ s t _ yes' no' after d _ vs ws h.0 (of_typed c _ d vs q Γ h.4 d _ (side_serves a d _ d _ refl refl h.1)) (of_typed c _ d ws r Γ h.5 d _ (side_serves b d _ d _ refl refl h.2))))
+    of_typed c e d xs (of_leaving_choice {s = s} {a = a} {b = b} {t = t} yes' no' {xs = us} {ys = vs} {zs = ws} n p q r) Γ h d' U w =
+        let g = sides_serve a b d _ d' U n h.1 h.2 w in
+        keeps.made c Γ [] t _ us d' U _ (of_typed c _ t us p Γ h.3 t _ itself) (keeps.forked c Γ s t _ yes' no' d' U vs ws h.0 (of_typed c _ d vs q Γ h.4 d' U g.0) (of_typed c _ d ws r Γ h.5 d' U g.1))
+    of_typed c e d xs (of_repeat {s = s} {t = t} {u = u} head body after fs {xs = us} {ys = vs} g p q) Γ h d' U w =
+        valued c Γ _ d _ d' U _ refl w
+        (keeps.turned c Γ s head body after fs t _ us u _ vs d _ h.2 h.0 (subst (EachSpeaks (length Γ)) g h.1) (of_typed (looping c head) _ t us p Γ h.4 t _ itself) (of_typed (looping c head) _ u vs q Γ h.5 u _ itself))
+    of_typed c e d xs (of_panics {ty = T} {s = s} {k = k}) Γ h d' U w = keeps.panicked c Γ s k d' U (serves_built _ d T d' U (panics_built σ Γ T s k h) w)
 
-    of_rest : (c : Around) (outer : Bool) (s : Span) (ss : TypedStmts) (d : ℕ) (xs : List Line) → Rest c outer s ss d xs → (Γ : List Ty) (T : Ty) → StatementsFit σ Γ T ss → Writes c Γ [] d T xs
-    of_rest c outer s ss d xs of_done Γ T h = unit_put c Γ s d T h
-    of_rest c outer s ss d xs (of_last p) Γ T h = as_type c Γ d _ T xs h.0 (of_typed c _ d xs p Γ h.1)
-    of_rest c outer s ss d xs (of_bind {t = t} {xs = us} {ys = vs} p q) Γ T h = keeps.made c Γ [] t _ us d T _ (of_typed c _ t us p Γ h.0) (keeps.bound outer c Γ s t _ d T vs (of_rest (binds c t) outer s _ d vs q _ T h.1))
-    of_rest c outer s ss d xs (of_run {t = t} {xs = us} {ys = vs} p q) Γ T h = keeps.made c Γ [] t _ us d T vs (of_typed c _ t us p Γ h.0) (keeps.left c Γ t _ d T vs (of_rest c outer s _ d vs q Γ T h.1))
+    of_rest : (c : Around) (outer : Bool) (s : Span) (ss : TypedStmts) (d : ℕ) (xs : List Line) → Rest c outer s ss d xs → (Γ : List Ty) (T : Ty) → StatementsFit σ Γ T ss → (d' : ℕ) (U : Ty) → Serves (leaves_at_end ss) d T d' U
+        → Writes c Γ [] d' U xs
+    of_rest c outer s ss d xs of_done Γ T h d' U w = valued c Γ _ d T d' U _ refl w (unit_put c Γ s d T h)
+    of_rest c outer s ss d xs (of_last p) Γ T h d' U w = of_typed c _ d xs p Γ h.1 d' U (last_serves _ d _ T d' U h.0 w)
+    of_rest c outer s ss d xs (of_leaving {e = e} {t = t} {xs = us} p) Γ T h d' U w =
+        let g = leaving_value σ Γ T e h in
+        let never = inr (leaving_leaves σ Γ T e h, serves_built _ d T d' U (leaving_built σ Γ T e h) w) in
+        keeps.leaving c Γ t _ d' U us (of_typed c e t us p Γ g t _ itself) (of_typed c e t us p Γ g d' U never)
+    of_rest c outer s ss d xs (of_bind {t = t} {xs = us} {ys = vs} p q) Γ T h d' U w =
+        keeps.made c Γ [] t _ us d' U _ (of_typed c _ t us p Γ h.0 t _ itself) (keeps.bound outer c Γ s t _ d' U vs (of_rest (binds c t) outer s _ d vs q _ T h.1 d' U w))
+    of_rest c outer s ss d xs (of_run {t = t} {xs = us} {ys = vs} p q) Γ T h d' U w =
+        keeps.made c Γ [] t _ us d' U vs (of_typed c _ t us p Γ h.0 t _ itself) (keeps.left c Γ t _ d' U vs (of_rest c outer s _ d vs q Γ T h.1 d' U w))
 
     of_args : (c : Around) (es : TypedExprs) (ts : List ℕ) (xs : List Line) → Args c es ts xs → (Γ Ts : List Ty) → ArgumentsFit σ Γ es Ts → Passes c Γ ts Ts xs
     of_args c es ts xs of_none Γ [] h = keeps.no_arguments c Γ
     of_args c es ts xs of_none Γ (T ∷ Ts) h = absurd h
     of_args c es ts xs (of_more p q) Γ [] h = absurd h
-    of_args c es ts xs (of_more {t = t} {ts = us'} {xs = us} {ys = vs} p q) Γ (T ∷ Ts) h = keeps.argument c Γ t T _ us us' Ts vs h.0 (of_typed c _ t us p Γ h.1) (of_args c _ us' vs q Γ Ts h.2)
+    of_args c es ts xs (of_more {t = t} {ts = us'} {xs = us} {ys = vs} p q) Γ (T ∷ Ts) h = keeps.argument c Γ t T _ us us' Ts vs h.0 (of_typed c _ t us p Γ h.1 t _ itself) (of_args c _ us' vs q Γ Ts h.2)
 
     of_place : (c : Around) (e : TypedExpr) (x : Place) (xs : List Line) → PlaceOf c e x xs → (Γ : List Ty) → IsWellTyped σ Γ e → Names c Γ x (ty_of e) xs
     of_place c e x xs (of_name {v = v} y q) Γ h = keeps.named c Γ v y _ q h
-    of_place c e x xs (of_temporary {t = t} {xs = us} n p) Γ h = keeps.temporary c Γ t _ us (of_typed c e t us p Γ h)
+    of_place c e x xs (of_temporary {t = t} {xs = us} n p) Γ h = keeps.temporary c Γ t _ us (of_typed c e t us p Γ h t _ itself)
 
   pub of_typed_body : (c : Around) (e : TypedExpr) (xs : List Line) → IntoBody c e xs → (Γ : List Ty) → IsWellTyped σ Γ e → Writes c Γ [] 0 (ty_of e) xs
-  of_typed_body c e xs (of_outermost p) Γ h = of_rest c true _ _ 0 xs p Γ _ h
-  of_typed_body c e xs (of_other q p) Γ h = of_typed c e 0 xs p Γ h
+  of_typed_body c e xs (of_outermost p) Γ h = of_rest c true _ _ 0 xs p Γ _ h 0 _ itself
+  of_typed_body c e xs (of_other q p) Γ h = of_typed c e 0 xs p Γ h 0 _ itself

@@ -1,5 +1,5 @@
 -- What lines do to the text that is built so far.
-use Rattle.std.specs.Prelude.{List, [], ◌∷◌, ◌++◌, ◌-◌, take, length, Option, Some, None}
+use Rattle.std.specs.Prelude.{List, [], ◌∷◌, ◌++◌, ◌-◌, take, length}
 use Rattle.logic_term.specs.declared.kinds.Label.{Label}
 use Rattle.logic_term.specs.declared.subst.Replacement.{Replacement}
 use Rattle.logic_term.specs.Subst.{with_terms}
@@ -8,8 +8,10 @@ use Rattle.logic_term.specs.Ty.{Ty}
 use Rattle.mir_ir.specs.declared.statement.Statement.{Statement}
 use Rattle.mir_ir.specs.declared.terminator.Terminator.{Terminator}
 use Rattle.mir_ir.specs.declared.body.Block.{Block as BasicBlock}
-use Rattle.type_check.specs.TypedExpr.{TypedExpr, TypedStmts, done, last}
+use Rattle.type_check.specs.TypedExpr.{TypedStmts, done, last, leaving}
 use Rattle.mir_build.specs.declared.around.Around.{Around as RustAround}
+use Rattle.mir_build.specs.declared.block_end.BlockEnd.{BlockEnd}
+use Rattle.mir_build.specs.declared.block_end.BlockEnd.TheVariants as block_end
 use Rattle.mir_build.specs.declared.builder.BodyText.{BodyText}
 use Rattle.mir_build.specs.declared.builder.Front.{Front}
 use Rattle.mir_build.specs.declared.builder.Front.TheVariants.{Block, Nowhere}
@@ -56,6 +58,7 @@ abbrev pub term_with : List Replacement → Formula → Term
 term_with sub f = with_terms sub f.term
 
 -- the end of a block's statements
-abbrev pub end_of : Option TypedExpr → TypedStmts
-end_of None = done
-end_of (Some e) = last e
+abbrev pub end_of : BlockEnd → TypedStmts
+end_of block_end.Unit = done
+end_of (block_end.Value e) = last e.now
+end_of (block_end.Leaves e) = leaving e.now

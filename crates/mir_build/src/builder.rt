@@ -324,6 +324,15 @@ impl Builder {
         self.turn(alloc, c, span, TerminatorKind::Goto(Label(to)), next)
     }
 
+    /// Closes the open block, and opens none.
+    pub(crate) fn leave(&mut self, span: Span, kind: TerminatorKind) -> Result<(), NoMemory>
+        ensures text { OnOk result (self.new.text ≡ written (Leaves (ends span kind) ∷ []) self.old.text) }
+        ensures locals { OnOk result (length self.new.text.locals ≡ length self.old.text.locals) }
+        ensures labels { self.new.labels ≡ self.old.labels }
+    {
+        self.text.leave(Terminator { span, kind })
+    }
+
     /// At the head the locals from the first on hold nothing.
     pub(crate) fn own(&mut self, alloc: Global, head: u32, first: u32) -> Result<(), NoMemory>
         ensures text { OnOk result (self.new.text ≡ written (Owns (label head) (between first (length self.old.text.locals)) ∷ []) self.old.text) }

@@ -1,8 +1,8 @@
 //! Lowering of expressions: what they add to the text of their body.
-ghost use Rattle.std.specs.Prelude.{true, None, ◌≡◌, ◌+◌, ◌^◌, ◌≤◌, ◌<◌, ◌*◌, max, ◌∷◌, ◌++◌, [], length, take, drop, map, OnOk, IfOk, IfErr};
-ghost use Rattle.std.specs.Option.{option_copied};
+ghost use Rattle.std.specs.Prelude.{true, false, None, ◌&&◌, ◌≡◌, ◌+◌, ◌^◌, ◌≤◌, ◌<◌, ◌*◌, max, ◌∷◌, ◌++◌, [], length, take, drop, map, OnOk, IfOk, IfErr};
 ghost use Rattle.type_check.specs.Answers.{or_else};
 ghost use Rattle.type_check.specs.FirstBad.{bad_among, bad_in, bad_in_exprs, bad_in_stmts};
+ghost use Rattle.type_check.specs.Leaves.{leaves};
 ghost use Rattle.type_check.specs.TypedExpr.{assign, update, branch, choice, repeat, call};
 ghost use Rattle.type_check.specs.TypedExprView.{ty_of, span_of, stmts_of, exprs_of, typed_size};
 ghost use Rattle.type_check.specs.WellTyped.{unit};
@@ -11,7 +11,7 @@ ghost use Rattle.mir_ir.specs.declared.statement.Rvalue.TheVariants.{Use, Binary
 ghost use Rattle.mir_ir.specs.declared.terminator.TerminatorKind.TheVariants.{Goto};
 ghost use Rattle.mir_build.specs.Text.{Makes, Turns, Owns};
 ghost use Rattle.mir_build.specs.Lowering.{moved, puts_at, puts, put_unit, ends, dies_in, at, at_head, looping, head_of, is_place};
-ghost use Rattle.mir_build.specs.Numbered.{formula_of, place_of, into, rest, args, loop_text, between, temporaries, label, labels, labels_of, labels_in, locals, locals_of, locals_in};
+ghost use Rattle.mir_build.specs.Numbered.{formula_of, into, rest, sides_text, args, loop_text, between, temporaries, label, labels, labels_of, labels_in, locals, locals_of, locals_in};
 ghost use Rattle.mir_build.specs.Reach.{reach, reach_of, reach_in};
 ghost use Rattle.mir_build.specs.Built.{written, around, outside, end_of};
 ghost use Rattle.mir_build.specs.Bindings.{all_die};
@@ -20,7 +20,9 @@ ghost use Rattle.mir_build.specs.Tasks.{tasks_text, tasks_labels, tasks_locals, 
 ghost use Rattle.mir_build.specs.declared.task.Task.TheVariants.{Lower, Finish};
 ghost use Rattle.mir_build.specs.declared.stop.Stop.TheVariants.{Blocks};
 
-use crate::around::{Around, head_of, nest, same_place, variable_place};
+use crate::around::{Around, head_of, nest, variable_place};
+use crate::assignment::{is_place, lower_place, put_assign, put_update};
+use crate::block_end::BlockEnd;
 use crate::builder::{Builder, moved, whole};
 use crate::stop::Stop;
 use crate::task::{Behind, Pending, Task};
@@ -29,7 +31,7 @@ use mir_ir::{Callee, FnId, Lit, Operand, Place, Rvalue, Terminator, TerminatorKi
 use source_kinds::{BinaryOp, LazyOp};
 use std::alloc::Global;
 use text_core::{Items, NoMemory, Span};
-use type_check::{Assertion, TypedExpr, TypedNode, TypedStmt};
+use type_check::{Assertion, TypedExpr, TypedNode, TypedStmt, leaves};
 
 #[tactic(auto, using(crate::proofs::Parts::ty_of_node))]
 pub(crate) fn type_of(e: &TypedExpr) -> &Ty
@@ -165,7 +167,8 @@ fn lower_left<'a>(
     requires scope { reach e.now ≤ length c.old.scope.items }
     requires good { bad_in e.now ≡ None }
     ensures text { OnOk result (written (tasks_text (to_do tasks.new.items) (around c.old) b.new.labels (length b.new.text.locals)) b.new.text
-        ≡ written (into e.now (around c.old) b.old.labels (length b.old.text.locals) d ++ tasks_text (to_do tasks.old.items) (around c.old) (b.old.labels + labels e.now) (length b.old.text.locals + locals e.now)) b.old.text) }
+        ≡ written (into e.now (around c.old) b.old.labels (length b.old.text.locals) d
+        ++ tasks_text (to_do tasks.old.items) (around c.old) (b.old.labels + labels e.now) (length b.old.text.locals + locals e.now)) b.old.text) }
     ensures labels { OnOk result (b.new.labels + tasks_labels (to_do tasks.new.items) ≡ b.old.labels + labels e.now + tasks_labels (to_do tasks.old.items)) }
     ensures locals { OnOk result (length b.new.text.locals + tasks_locals (to_do tasks.new.items) ≡ length b.old.text.locals + locals e.now + tasks_locals (to_do tasks.old.items)) }
     ensures limit { IfErr result (λ stop. stop ≡ Blocks → 4096 < b.old.labels + labels e.now) }
@@ -200,11 +203,17 @@ fn lower_left<'a>(
             Ok(b.put(alloc, span, d, Rvalue::Not(moved(alloc, t)))?)
         }
         TypedNode::Call(f, es) => lower_call(alloc, b, c, span, *f, es, d),
-        TypedNode::Block(ss) => lower_rest(alloc, b, c, false, span, ss, None, d),
-        TypedNode::BlockWith(ss, last) => lower_rest(alloc, b, c, false, span, ss, Some(last), d),
+        TypedNode::Block(ss) => lower_rest(alloc, b, c, false, span, ss, BlockEnd::Unit, d),
+        TypedNode::BlockWith(ss, last) => {
+            lower_rest(alloc, b, c, false, span, ss, BlockEnd::Value(last), d)
+        }
+        TypedNode::BlockLeaving(ss, last) => {
+            lower_rest(alloc, b, c, false, span, ss, BlockEnd::Leaves(last), d)
+        }
         TypedNode::If(x, y) => lower_branch(alloc, b, c, span, x, y, d),
         TypedNode::IfElse(x, y, z) => lower_choice(alloc, b, c, span, x, y, z, d),
         TypedNode::While(is, x, y) => lower_repeat(alloc, b, c, span, is, x, y, d),
+        TypedNode::Panic(cause) => Ok(b.leave(span, TerminatorKind::Panic(*cause))?),
     }
 }
 
@@ -242,28 +251,6 @@ fn lower_behind(
     }
 }
 
-/// Whether the expression names a place, to which a value can be assigned.
-fn is_place(e: &TypedExpr) -> bool
-    ensures { result ≡ is_place e.now }
-{
-    match &*e.node {
-        TypedNode::Variable(_) => true,
-        _ => false,
-    }
-}
-
-/// The place that the expression names.
-fn lower_place(alloc: Global, scope: &[Place], e: &TypedExpr) -> Result<Place, NoMemory>
-    requires place { is_place e.now ≡ true }
-    requires scope { reach e.now ≤ length scope.now }
-    ensures { IfOk result (λ p. p ≡ place_of scope.now 0 e.now) }
-{
-    match &*e.node {
-        TypedNode::Variable(v) => variable_place(alloc, scope, *v),
-        _ => unreachable!(),
-    }
-}
-
 /// `to = value`: the value first. What names no place goes to a temporary.
 #[cycle(lower)]
 #[tactic(auto, using(crate::proofs::Runs::running, crate::proofs::Targets::targets))]
@@ -280,7 +267,8 @@ fn lower_assign<'a>(
     requires scope { max (reach to.now) (reach x.now) ≤ length c.old.scope.items }
     requires good { or_else (bad_in to.now) (bad_in x.now) ≡ None }
     ensures text { OnOk result (written (tasks_text (to_do tasks.new.items) (around c.old) b.new.labels (length b.new.text.locals)) b.new.text
-        ≡ written (into (assign unit span to.entry.now x.now) (around c.old) b.old.labels (length b.old.text.locals) d ++ tasks_text (to_do tasks.old.items) (around c.old) (b.old.labels + labels (assign unit span to.entry.now x.now)) (length b.old.text.locals + locals (assign unit span to.entry.now x.now))) b.old.text) }
+        ≡ written (into (assign unit span to.entry.now x.now) (around c.old) b.old.labels (length b.old.text.locals) d
+        ++ tasks_text (to_do tasks.old.items) (around c.old) (b.old.labels + labels (assign unit span to.entry.now x.now)) (length b.old.text.locals + locals (assign unit span to.entry.now x.now))) b.old.text) }
     ensures labels { OnOk result (b.new.labels + tasks_labels (to_do tasks.new.items) ≡ b.old.labels + labels (assign unit span to.entry.now x.now) + tasks_labels (to_do tasks.old.items)) }
     ensures locals { OnOk result (length b.new.text.locals + tasks_locals (to_do tasks.new.items) ≡ length b.old.text.locals + locals (assign unit span to.entry.now x.now) + tasks_locals (to_do tasks.old.items)) }
     ensures limit { IfErr result (λ stop. stop ≡ Blocks → 4096 < b.old.labels + labels (assign unit span to.entry.now x.now)) }
@@ -317,7 +305,8 @@ fn lower_update<'a>(
     requires scope { max (reach to.now) (reach x.now) ≤ length c.old.scope.items }
     requires good { or_else (bad_in to.now) (bad_in x.now) ≡ None }
     ensures text { OnOk result (written (tasks_text (to_do tasks.new.items) (around c.old) b.new.labels (length b.new.text.locals)) b.new.text
-        ≡ written (into (update unit span op to.entry.now x.now) (around c.old) b.old.labels (length b.old.text.locals) d ++ tasks_text (to_do tasks.old.items) (around c.old) (b.old.labels + labels (update unit span op to.entry.now x.now)) (length b.old.text.locals + locals (update unit span op to.entry.now x.now))) b.old.text) }
+        ≡ written (into (update unit span op to.entry.now x.now) (around c.old) b.old.labels (length b.old.text.locals) d
+        ++ tasks_text (to_do tasks.old.items) (around c.old) (b.old.labels + labels (update unit span op to.entry.now x.now)) (length b.old.text.locals + locals (update unit span op to.entry.now x.now))) b.old.text) }
     ensures labels { OnOk result (b.new.labels + tasks_labels (to_do tasks.new.items) ≡ b.old.labels + labels (update unit span op to.entry.now x.now) + tasks_labels (to_do tasks.old.items)) }
     ensures locals { OnOk result (length b.new.text.locals + tasks_locals (to_do tasks.new.items) ≡ length b.old.text.locals + locals (update unit span op to.entry.now x.now) + tasks_locals (to_do tasks.old.items)) }
     ensures limit { IfErr result (λ stop. stop ≡ Blocks → 4096 < b.old.labels + labels (update unit span op to.entry.now x.now)) }
@@ -336,50 +325,6 @@ fn lower_update<'a>(
     }
     let place = lower_place(alloc, c.scope.as_slice(), to)?;
     put_update(alloc, b, span, op, place, type_of(x), value, d)
-}
-
-/// `to = value`: the value is in local `t`, and `d` gets the unit.
-#[tactic(auto, using(crate::proofs::Runs::running))]
-fn put_assign(
-    alloc: Global,
-    b: &mut Builder,
-    span: Span,
-    to: Place,
-    t: u32,
-    d: u32,
-) -> Result<(), NoMemory>
-    ensures text { OnOk result (b.new.text ≡ written (puts_at span to (Use (moved t)) ∷ put_unit span d ∷ []) b.old.text) }
-    ensures labels { OnOk result (b.new.labels ≡ b.old.labels) }
-    ensures locals { OnOk result (length b.new.text.locals ≡ length b.old.text.locals) }
-{
-    b.put_at(span, to, Rvalue::Use(moved(alloc, t)))?;
-    b.put_unit(alloc, span, d)
-}
-
-/// `to op= value`: the value is in local `t`, and `d` gets the unit.
-#[tactic(auto, using(crate::proofs::Runs::running))]
-fn put_update(
-    alloc: Global,
-    b: &mut Builder,
-    span: Span,
-    op: BinaryOp,
-    to: Place,
-    ty: &Ty,
-    t: u32,
-    d: u32,
-) -> Result<(), Stop>
-    ensures text { OnOk result (b.new.text ≡ written (let u = length b.old.text.locals in Makes u ty.now ∷ puts span u (Binary op (Copy to) (moved t)) ∷ puts_at span to (Use (moved u)) ∷ put_unit span d ∷ []) b.old.text) }
-    ensures labels { OnOk result (b.new.labels ≡ b.old.labels) }
-    ensures locals { OnOk result (length b.new.text.locals ≡ length b.old.text.locals + 1) }
-    ensures limit { IfErr result (λ stop. stop ≡ Blocks → ⊥) }
-{
-    let u = b.make(alloc, ty)?;
-    let old = Operand::Copy(same_place(alloc, &to)?);
-    let value = Rvalue::Binary(op, old, moved(alloc, t));
-    b.put(alloc, span, u, value)?;
-    b.put_at(span, to, Rvalue::Use(moved(alloc, u)))?;
-    b.put_unit(alloc, span, d)?;
-    Ok(())
 }
 
 /// The second operand of `&&` or `||`, where its value is needed; the first one is in local `t`.
@@ -462,6 +407,13 @@ fn lower_branch(
     Ok(())
 }
 
+fn both_leave(x: &TypedExpr, y: &TypedExpr) -> bool
+    ensures { result ≡ (leaves x.now && leaves y.now) }
+{
+    leaves(x) && leaves(y)
+}
+
+/// `if` with `else`.
 #[cycle(lower)]
 #[tactic(auto, using(crate::proofs::Runs::running))]
 fn lower_choice(
@@ -485,6 +437,36 @@ fn lower_choice(
     ensures count { OnOk result (length c.new.scope.items ≡ length c.old.scope.items) }
 {
     let t = lower_new(alloc, b, c, x)?;
+    if both_leave(y, z) {
+        lower_fork(alloc, b, c, span, t, y, z, d)
+    } else {
+        lower_join(alloc, b, c, span, t, y, z, d)
+    }
+}
+
+/// The sides of `if`, behind which there is a block; the condition is in local `t`.
+#[cycle(lower)]
+#[tactic(auto, using(crate::proofs::Runs::running))]
+fn lower_join(
+    alloc: Global,
+    b: &mut Builder,
+    c: &mut Around,
+    span: Span,
+    t: u32,
+    y: &TypedExpr,
+    z: &TypedExpr,
+    d: u32,
+) -> Result<(), Stop>
+    requires scope { max (reach y.now) (reach z.now) ≤ length c.old.scope.items }
+    requires good { or_else (bad_in y.now) (bad_in z.now) ≡ None }
+    ensures text { OnOk result (b.new.text ≡ written (sides_text false y.now z.now span t d (around c.old) b.old.labels (length b.old.text.locals)) b.old.text) }
+    ensures labels { OnOk result (b.new.labels ≡ b.old.labels + 3 + labels y.now + labels z.now) }
+    ensures locals { OnOk result (length b.new.text.locals ≡ length b.old.text.locals + locals y.now + locals z.now) }
+    ensures limit { IfErr result (λ stop. stop ≡ Blocks → 4096 < b.old.labels + 3 + labels y.now + labels z.now) }
+    ensures most { OnOk result (b.old.labels ≤ 4096 → b.new.labels ≤ 4096) }
+    ensures around { OnOk result (around c.new ≡ around c.old) }
+    ensures count { OnOk result (length c.new.scope.items ≡ length c.old.scope.items) }
+{
     let yes = b.take_labels(3)?;
     let no = yes + 1;
     let after = yes + 2;
@@ -495,6 +477,39 @@ fn lower_choice(
     lower_into(alloc, b, c, z, d)?;
     b.go(alloc, c, span, after, after)?;
     Ok(())
+}
+
+/// The same, where both sides leave.
+#[cycle(lower)]
+#[tactic(auto, using(crate::proofs::Runs::running))]
+fn lower_fork(
+    alloc: Global,
+    b: &mut Builder,
+    c: &mut Around,
+    span: Span,
+    t: u32,
+    y: &TypedExpr,
+    z: &TypedExpr,
+    d: u32,
+) -> Result<(), Stop>
+    requires scope { max (reach y.now) (reach z.now) ≤ length c.old.scope.items }
+    requires good { or_else (bad_in y.now) (bad_in z.now) ≡ None }
+    ensures text { OnOk result (b.new.text ≡ written (sides_text true y.now z.now span t d (around c.old) b.old.labels (length b.old.text.locals)) b.old.text) }
+    ensures labels { OnOk result (b.new.labels ≡ b.old.labels + 2 + labels y.now + labels z.now) }
+    ensures locals { OnOk result (length b.new.text.locals ≡ length b.old.text.locals + locals y.now + locals z.now) }
+    ensures limit { IfErr result (λ stop. stop ≡ Blocks → 4096 < b.old.labels + 2 + labels y.now + labels z.now) }
+    ensures most { OnOk result (b.old.labels ≤ 4096 → b.new.labels ≤ 4096) }
+    ensures around { OnOk result (around c.new ≡ around c.old) }
+    ensures count { OnOk result (length c.new.scope.items ≡ length c.old.scope.items) }
+{
+    let yes = b.take_labels(2)?;
+    let no = yes + 1;
+    let test = TerminatorKind::If(moved(alloc, t), Label(yes), Label(no));
+    b.turn(alloc, c, span, test, yes)?;
+    lower_into(alloc, b, c, y, d)?;
+    // No block is open here: this only opens the next one.
+    b.go(alloc, c, span, no, no)?;
+    lower_into(alloc, b, c, z, d)
 }
 
 /// Opens the head of a loop, and goes into the loop.
@@ -664,7 +679,7 @@ fn lower_args(
     Ok(all)
 }
 
-/// The statements of a block and its last expression. Bindings end with the block, but for the outermost block of a body.
+/// The statements of a block and its end. Bindings end with the block, but for the outermost block of a body.
 #[cycle(lower)]
 #[tactic(auto, using(crate::proofs::Runs::running, crate::proofs::Bindings::statement_smaller, crate::proofs::Bindings::end_smaller, crate::proofs::Scopes::statement_reaches, crate::proofs::Scopes::end_reaches, crate::proofs::Good::statement_good, crate::proofs::Good::end_good))]
 pub(crate) fn lower_rest(
@@ -674,15 +689,15 @@ pub(crate) fn lower_rest(
     outer: bool,
     span: Span,
     statements: &[TypedStmt],
-    last: Option<&TypedExpr>,
+    end: BlockEnd<'_>,
     d: u32,
 ) -> Result<(), Stop>
-    requires scope { reach_of (stmts_of statements.now (end_of (option_copied last))) ≤ length c.old.scope.items }
-    requires good { bad_in_stmts (stmts_of statements.now (end_of (option_copied last))) ≡ None }
-    ensures text { OnOk result (b.new.text ≡ written (rest (stmts_of statements.now (end_of (option_copied last.entry))) outer span (around c.old) b.old.labels (length b.old.text.locals) d) b.old.text) }
-    ensures labels { OnOk result (b.new.labels ≡ b.old.labels + labels_of (stmts_of statements.now (end_of (option_copied last.entry)))) }
-    ensures locals { OnOk result (length b.new.text.locals ≡ length b.old.text.locals + locals_of (stmts_of statements.now (end_of (option_copied last.entry)))) }
-    ensures limit { IfErr result (λ stop. stop ≡ Blocks → 4096 < b.old.labels + labels_of (stmts_of statements.now (end_of (option_copied last.entry)))) }
+    requires scope { reach_of (stmts_of statements.now (end_of end)) ≤ length c.old.scope.items }
+    requires good { bad_in_stmts (stmts_of statements.now (end_of end)) ≡ None }
+    ensures text { OnOk result (b.new.text ≡ written (rest (stmts_of statements.now (end_of end.entry)) outer span (around c.old) b.old.labels (length b.old.text.locals) d) b.old.text) }
+    ensures labels { OnOk result (b.new.labels ≡ b.old.labels + labels_of (stmts_of statements.now (end_of end.entry))) }
+    ensures locals { OnOk result (length b.new.text.locals ≡ length b.old.text.locals + locals_of (stmts_of statements.now (end_of end.entry))) }
+    ensures limit { IfErr result (λ stop. stop ≡ Blocks → 4096 < b.old.labels + labels_of (stmts_of statements.now (end_of end.entry))) }
     ensures most { OnOk result (b.old.labels ≤ 4096 → b.new.labels ≤ 4096) }
     ensures around { OnOk result (around c.new ≡ around c.old) }
     ensures count { OnOk result (length c.new.scope.items ≡ length c.old.scope.items) }
@@ -694,9 +709,12 @@ pub(crate) fn lower_rest(
             c.scope.push(whole(alloc, t))?;
         }
     }
-    match last {
-        None => b.put_unit(alloc, span, d)?,
-        Some(value) => lower_into(alloc, b, c, value, d)?,
+    match end {
+        BlockEnd::Unit => b.put_unit(alloc, span, d)?,
+        BlockEnd::Value(value) => lower_into(alloc, b, c, value, d)?,
+        BlockEnd::Leaves(value) => {
+            lower_new(alloc, b, c, value)?;
+        }
     }
     end_bindings(b, c, outer, span, before)?;
     Ok(())

@@ -12,6 +12,7 @@ ghost use Rattle.mir_build.specs.Whole.{built, body_of, FailsFor};
 ghost use Rattle.mir_build.specs.declared.stop.Stop.TheVariants.{Blocks};
 
 use crate::around::{Around, local_name};
+use crate::block_end::BlockEnd;
 use crate::builder::{BodyText, Builder, MOST_BLOCKS, whole};
 use crate::expression::{lower_into, lower_rest, value_span};
 use crate::stop::Stop;
@@ -79,8 +80,13 @@ fn lower_outermost(
     ensures most { OnOk result (b.old.labels ≤ 4096 → b.new.labels ≤ 4096) }
 {
     match &*e.node {
-        TypedNode::Block(ss) => lower_rest(alloc, b, c, true, e.span, ss, None, 0),
-        TypedNode::BlockWith(ss, last) => lower_rest(alloc, b, c, true, e.span, ss, Some(last), 0),
+        TypedNode::Block(ss) => lower_rest(alloc, b, c, true, e.span, ss, BlockEnd::Unit, 0),
+        TypedNode::BlockWith(ss, last) => {
+            lower_rest(alloc, b, c, true, e.span, ss, BlockEnd::Value(last), 0)
+        }
+        TypedNode::BlockLeaving(ss, last) => {
+            lower_rest(alloc, b, c, true, e.span, ss, BlockEnd::Leaves(last), 0)
+        }
         _ => lower_into(alloc, b, c, e, 0),
     }
 }

@@ -2,6 +2,8 @@
 #![tactic(auto)]
 
 mod around;
+mod assignment;
+mod block_end;
 mod builder;
 mod contract;
 mod expression;

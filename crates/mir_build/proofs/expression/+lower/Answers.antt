@@ -1,6 +1,5 @@
 use Rattle.std.proofs.Common.{◌≡◌, Bool, true, false, List, [], ◌∷◌, ◌++◌, ◌∙◌, ap, sym, length, arith, append_assoc}
-use Rattle.std.specs.Option.{option_copied}
-use Rattle.type_check.specs.TypedExpr.{done, last}
+use Rattle.type_check.specs.TypedExpr.{done, last, leaving}
 use Rattle.mir_ir.specs.declared.place.Place.{Place}
 use Rattle.mir_build.specs.Lowering.{Around, binds}
 use Rattle.mir_build.specs.Numbered.{rest}
@@ -9,14 +8,26 @@ use Rattle.mir_build.specs.Tasks.{to_do, tasks_text}
 use Rattle.mir_build.proofs.Scopes.{next_reaches}
 use Rattle.mir_build.proofs.TaskStack.{popped_text, popped_labels, popped_locals, popped_size, popped_reach, popped_good}
 use Rattle.mir_build.proofs.Runs.{running, args_at}
+use Rattle.mir_build.proofs.Bindings.{value_text}
 use Rattle.mir_build.proofs.Statements.{around_behind, text_on, labels_at, locals_at, text_end, within_on, front_on, loops_on}
-use Rattle.mir_build.proofs.expression.+lower.Goals.{lower_rest-then-statement+in_ok-push, lower_rest-else-statement, lower_rest-in-None+in_ok-put_unit-in-None, lower_rest-in-Some+in_ok-lower_into-in-Some}
+use Rattle.mir_build.proofs.expression.+lower.Goals.{lower_rest-then-statement+in_ok-push, lower_rest-else-statement, lower_rest-in-Unit+in_ok-put_unit-in-Unit, lower_rest-in-Value+in_ok-lower_into-in-Value, lower_rest-in-Leaves+in_ok-lower_new-in-Leaves}
 use Rattle.mir_build.proofs.expression.+lower.Goals as goal
+
+pub lower_choice-returns-in_err-t-clause-limit : goal.lower_choice-returns-in_err-t-clause-limit
+lower_choice-returns-in_err-t-clause-limit t c = λ e. omega (arith, c.in_err-t.ensures.limit e)
 
 pub lower_args-loop-e-preserved : goal.lower_args-loop-e-preserved
 lower_args-loop-e-preserved t c =
     let e = args_at _ _ _ c.e-item.is c.loop-e-test.true in
-    record { text = grind (arith, running, e); labels = grind (arith, e); locals = grind (arith, e); most = λ h. grind (arith, c.in_ok-t.ensures.most, c.loop-e.invariant.most); around = c.in_ok-t.ensures.around ∙ c.loop-e.invariant.around; count = c.in_ok-t.ensures.count ∙ c.loop-e.invariant.count; operands = grind (arith, append_assoc, e) }
+    record {
+      text = grind (arith, running, e);
+      labels = grind (arith, e);
+      locals = grind (arith, e);
+      most = λ h. grind (arith, c.in_ok-t.ensures.most, c.loop-e.invariant.most);
+      around = c.in_ok-t.ensures.around ∙ c.loop-e.invariant.around;
+      count = c.in_ok-t.ensures.count ∙ c.loop-e.invariant.count;
+      operands = grind (arith, append_assoc, e);
+    }
 
 pub lower_into-loop-task-preserved : goal.lower_into-loop-task-preserved
 lower_into-loop-task-preserved t c =
@@ -46,7 +57,7 @@ lower_rest-loop-statement-preserved t c =
     let ss = c.args.statements.now in
     let i = c.loop-statement.statement-index in
     let st = c.statement-item.result in
-    let end = end_of (option_copied c.args.last) in
+    let end = end_of c.args.end in
     let n = c.len-before.result in
     let x = c.in_ok-t.t in
     let old = around c.loop-statement.c in
@@ -81,22 +92,28 @@ lower_rest-loop-statement-preserved t c =
 
 pub lower_rest-returns-clause-text : goal.lower_rest-returns-clause-text
 lower_rest-returns-clause-text t c =
-    let end = end_of (option_copied c.args.last) in
+    let end = end_of c.args.end in
     let old = around c.loop-statement.c in
     let text = c.loop-statement.b.text in
     let l = c.loop-statement.b.labels in
-    let which : (c.match-last.b.text ≡ written (rest end c.args.outer c.args.span old l (length text.locals) c.args.d) text) × (around c.match-last.c ≡ old) = elim c.match-last.branch [
-      | lower_rest-in-None+in_ok-put_unit-in-None w ↦
-          let z : end ≡ done = ap (λ o. end_of (option_copied o)) w.in-None.is in (
-            (λ j. (w.b-is j).text) ∙ w.in_ok-put_unit-in-None.ensures.text ∙ (λ j. written (rest (sym z j) c.args.outer c.args.span old l (length text.locals) c.args.d) text),
+    let which : (c.match-end.b.text ≡ written (rest end c.args.outer c.args.span old l (length text.locals) c.args.d) text) × (around c.match-end.c ≡ old) = elim c.match-end.branch [
+      | lower_rest-in-Unit+in_ok-put_unit-in-Unit w ↦
+          let z : end ≡ done = ap end_of w.in-Unit.is in (
+            (λ j. (w.b-is j).text) ∙ w.in_ok-put_unit-in-Unit.ensures.text ∙ (λ j. written (rest (sym z j) c.args.outer c.args.span old l (length text.locals) c.args.d) text),
             ap around w.c-is,
           )
-      | lower_rest-in-Some+in_ok-lower_into-in-Some w ↦
-          let z : end ≡ last w.in-Some.value.now = ap (λ o. end_of (option_copied o)) w.in-Some.is in (
-            (λ j. (w.b-is j).text) ∙ w.in_ok-lower_into-in-Some.ensures.text ∙ (λ j. written (rest (sym z j) c.args.outer c.args.span old l (length text.locals) c.args.d) text),
-            ap around w.c-is ∙ w.in_ok-lower_into-in-Some.ensures.around,
+      | lower_rest-in-Value+in_ok-lower_into-in-Value w ↦
+          let z : end ≡ last w.in-Value.value.now = ap end_of w.in-Value.is in (
+            (λ j. (w.b-is j).text) ∙ w.in_ok-lower_into-in-Value.ensures.text ∙ (λ j. written (rest (sym z j) c.args.outer c.args.span old l (length text.locals) c.args.d) text),
+            ap around w.c-is ∙ w.in_ok-lower_into-in-Value.ensures.around,
+          )
+      | lower_rest-in-Leaves+in_ok-lower_new-in-Leaves w ↦
+          let z : end ≡ leaving w.in-Leaves.value.now = ap end_of w.in-Leaves.is in (
+            (λ j. (w.b-is j).text) ∙ w.in_ok-lower_new-in-Leaves.ensures.text ∙ (λ j. written (value_text w.in-Leaves.value.now old l (w.in_ok-lower_new-in-Leaves.ensures.number j)) text)
+                ∙ (λ j. written (rest (sym z j) c.args.outer c.args.span old l (length text.locals) c.args.d) text),
+            ap around w.c-is ∙ w.in_ok-lower_new-in-Leaves.ensures.around,
           )
     ] in
-    text_end c.args.statements.now c.loop-statement.statement-index end c.args.outer c.args.span c.len-before.result old (around c.match-last.c) l (length text.locals) c.args.d text c.match-last.b.text c.end_bindings.new.b.text
+    text_end c.args.statements.now c.loop-statement.statement-index end c.args.outer c.args.span c.len-before.result old (around c.match-end.c) l (length text.locals) c.args.d text c.match-end.b.text c.end_bindings.new.b.text
     c.loop-statement-test.false which.1 which.0 c.in_ok-end_bindings.ensures.text
     ∙ c.loop-statement.invariant.text

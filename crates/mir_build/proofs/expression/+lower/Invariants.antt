@@ -1,5 +1,4 @@
 use Rattle.std.proofs.Common.{◌≡◌, ◌+◌, ◌*◌, ◌++◌, ◌≤◌, None, max, take, drop, length, map}
-use Rattle.std.specs.Option.{option_copied}
 use Rattle.type_check.specs.TypedExprView.{typed_size, stmts_size, stmts_of, exprs_size, exprs_of}
 use Rattle.mir_build.specs.Lowering.{moved}
 use Rattle.mir_build.specs.Numbered.{into, rest, labels, locals, args, temporaries, labels_of, locals_of, labels_in, locals_in}
@@ -39,6 +38,12 @@ decreases-lower_branch l = 8 * max (typed_size l.x.now) (typed_size l.y.now) + 5
 abbrev pub decreases-lower_choice : goal.decreases-lower_choice
 decreases-lower_choice l = 8 * max (typed_size l.x.now) (max (typed_size l.y.now) (typed_size l.z.now)) + 5
 
+abbrev pub decreases-lower_join : goal.decreases-lower_join
+decreases-lower_join l = 8 * max (typed_size l.y.now) (typed_size l.z.now) + 4
+
+abbrev pub decreases-lower_fork : goal.decreases-lower_fork
+decreases-lower_fork l = 8 * max (typed_size l.y.now) (typed_size l.z.now) + 4
+
 abbrev pub decreases-lower_repeat : goal.decreases-lower_repeat
 decreases-lower_repeat l = 8 * max (typed_size l.x.now) (typed_size l.y.now) + 5
 
@@ -52,7 +57,7 @@ abbrev pub decreases-lower_args : goal.decreases-lower_args
 decreases-lower_args l = 8 * exprs_size (exprs_of l.es.now)
 
 abbrev pub decreases-lower_rest : goal.decreases-lower_rest
-decreases-lower_rest l = 8 * stmts_size (stmts_of l.statements.now (end_of (option_copied l.last)))
+decreases-lower_rest l = 8 * stmts_size (stmts_of l.statements.now (end_of l.end))
 
 abbrev pub invariant-lower_into-loop-task : goal.invariant-lower_into-loop-task
 invariant-lower_into-loop-task l = record {
@@ -83,8 +88,8 @@ invariant-lower_args-loop-e l = record {
 
 abbrev pub invariant-lower_rest-loop-statement : goal.invariant-lower_rest-loop-statement
 invariant-lower_rest-loop-statement l =
-    let left = stmts_of (drop l.statement-index l.statements) (end_of (option_copied l.last)) in
-    let all = stmts_of l.statements (end_of (option_copied l.last)) in
+    let left = stmts_of (drop l.statement-index l.statements) (end_of l.end) in
+    let all = stmts_of l.statements (end_of l.end) in
     record {
       text : written (left_of left l.outer l.span l.before (around l.c) l.b.labels (length l.b.text.locals) l.d) l.b.text ≡ written (rest all l.outer l.span (around l.initial.c) l.initial.b.labels (length l.initial.b.text.locals) l.d) l.initial.b.text;
       labels : l.b.labels + labels_of left ≡ l.initial.b.labels + labels_of all;
