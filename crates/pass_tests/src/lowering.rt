@@ -18,6 +18,14 @@ const A_LOOP: &[u8] = b"fn f(b: bool, mut x: i32) { #[invariant(b)] while x != 0
 
 const A_CALL: &[u8] = b"fn g(x: i32) -> bool { true } fn f(y: i32) { g(y); }";
 
+const ONE_SIDE_LEAVES: &[u8] = b"fn f(b: bool) -> i32 { if b { panic!() } else { 1 } }";
+
+const BOTH_LEAVE: &[u8] = b"fn f(b: bool) -> i32 { if b { panic!() } else { unreachable!() } }";
+
+const THE_LAST_LEAVES: &[u8] = b"fn f() -> i32 { panic!(); }";
+
+const ONE_BEFORE_LEAVES: &[u8] = b"fn f() { panic!(); f(); }";
+
 fn lowered(alloc: Global, source: &[u8]) -> Result<Lowered, Fail> {
     if source.len() > 1000 {
         return Err("too long".into());
@@ -104,9 +112,14 @@ fn expect_shapes(rt: &impl Abort, at: usize, block: &Block, wanted: &[(Shape, u3
     assert!(rt; is_end(&block.end, *end), "the end of block {at}");
 }
 
+/// Whether the body has so many parameters, locals and blocks.
+fn has_parts(body: &Body, params: u32, locals: usize, blocks: usize) -> bool {
+    body.params == params && body.locals.len() == locals && body.blocks.len() == blocks
+}
+
 /// Whether the body has so many parameters and locals, and four blocks.
 fn has_counts(body: &Body, params: u32, locals: usize) -> bool {
-    body.params == params && body.locals.len() == locals && body.blocks.len() == 4
+    has_parts(body, params, locals, 4)
 }
 
 // ---- tests
@@ -231,5 +244,57 @@ fn calls_and_written_types(rt: HostRuntime) -> Result<(), Fail> {
     assert!(rt; call.1.params.len() == 1);
     assert!(rt; matches!(call.1.result.node, TyNode::Bool));
     assert!(rt; call.1.outlives.is_empty());
+    Ok(())
+}
+
+// ---- what leaves
+
+/// Behind the side that leaves no edge leads on.
+#[test]
+fn one_side_leaves(rt: HostRuntime) -> Result<(), Fail> {
+    let made = lowered(rt.alloc(), ONE_SIDE_LEAVES)?;
+    let body = made.bodies.bodies.get(0).ok_or("no body")?;
+    assert!(rt; has_counts(body, 1, 3));
+    let test = [(Shape::Use(2), 26), (Shape::If(1, 2), 23)];
+    expect_block(&rt, body, 0, &[], &test);
+    expect_block(&rt, body, 1, &[], &[(Shape::Panic, 30)]);
+    let no = [(Shape::Use(0), 48), (Shape::Goto(3), 23)];
+    expect_block(&rt, body, 2, &[], &no);
+    expect_block(&rt, body, 3, &[], &[(Shape::Return, 21)]);
+    Ok(())
+}
+
+/// No block stands behind both sides.
+#[test]
+fn both_sides_leave(rt: HostRuntime) -> Result<(), Fail> {
+    let made = lowered(rt.alloc(), BOTH_LEAVE)?;
+    let body = made.bodies.bodies.get(0).ok_or("no body")?;
+    assert!(rt; has_parts(body, 1, 3, 3));
+    let test = [(Shape::Use(2), 26), (Shape::If(1, 2), 23)];
+    expect_block(&rt, body, 0, &[], &test);
+    expect_block(&rt, body, 1, &[], &[(Shape::Panic, 30)]);
+    expect_block(&rt, body, 2, &[], &[(Shape::Panic, 48)]);
+    Ok(())
+}
+
+/// The value that never comes has a local, and the answer is not written.
+#[test]
+fn the_last_statement_leaves(rt: HostRuntime) -> Result<(), Fail> {
+    let made = lowered(rt.alloc(), THE_LAST_LEAVES)?;
+    let body = made.bodies.bodies.get(0).ok_or("no body")?;
+    assert!(rt; has_parts(body, 0, 2, 1));
+    expect_block(&rt, body, 0, &[], &[(Shape::Panic, 16)]);
+    Ok(())
+}
+
+/// What stands behind a panic is in no block until a call begins the next one.
+#[test]
+fn a_statement_before_leaves(rt: HostRuntime) -> Result<(), Fail> {
+    let made = lowered(rt.alloc(), ONE_BEFORE_LEAVES)?;
+    let body = made.bodies.bodies.get(0).ok_or("no body")?;
+    assert!(rt; has_parts(body, 0, 3, 2));
+    expect_block(&rt, body, 0, &[], &[(Shape::Panic, 9)]);
+    let behind = [(Shape::Unit(0), 7), (Shape::Return, 7)];
+    expect_block(&rt, body, 1, &[], &behind);
     Ok(())
 }
