@@ -7,7 +7,7 @@ use Rattle.type_check.specs.declared.program.Signature.{Signature}
 use Rattle.type_check.specs.Leaves.{leaves}
 use Rattle.type_check.specs.TypedExpr.{TypedExpr, panics, leaving}
 use Rattle.type_check.specs.TypedExprView.{ty_of}
-use Rattle.type_check.specs.WellTyped.{IsBuilt, IsOf, IsOfOrLeaves, IsWellTyped, StatementsFit}
+use Rattle.type_check.specs.WellTyped.{IsBuilt, IsOfOrLeaves, IsWellTyped, StatementsFit}
 
 -- ---- trees that fit
 

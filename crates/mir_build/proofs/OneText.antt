@@ -14,7 +14,7 @@ use Rattle.mir_build.specs.Text.{Line, Makes, Turns, Owns, made}
 use Rattle.mir_build.specs.Lowering.{Around, binds, looping, at, at_head, head_of, whole, puts, puts_at, put_unit, moved, ends, dies_in, numbers, lazily, test, fork}
 use Rattle.mir_build.specs.Lowering.{Into, of_integer, of_truth, of_variable, of_negative, of_denied, of_binary, of_lazy, of_assign, of_update, of_call, of_block, of_branch, of_choice, of_leaving_choice, of_repeat, of_panics}
 use Rattle.mir_build.specs.Lowering.{Rest, of_done, of_last, of_leaving, of_bind, of_run, Args, of_none, of_more, PlaceOf, of_name, of_temporary, is_place, IntoBody, of_outermost, of_other, is_block, named, named_place, named_rest, named_args, named_body}
-use Rattle.mir_build.specs.Numbered.{place_of, temporary_count, temporary_text, sides_text, into, rest, args, body_text, labels, locals, temporaries, label, variable_place}
+use Rattle.mir_build.specs.Numbered.{place_of, temporary_count, temporary_text, if_text, into, rest, args, body_text, labels, locals, temporaries, label, variable_place}
 use Rattle.mir_build.proofs.Numbers.{makings}
 use Rattle.mir_build.proofs.Fills.{fills, target_fills, numbers_of}
 use Rattle.mir_build.proofs.Targets.{one_temporary_text, whole_temporary}
@@ -93,7 +93,7 @@ mutual
       let g = behind a c l (t + 1) t us _ x o.1 in
       let y = one_text c b d vs q (m + 3) u (from_left (m + 3) (named q) (named r) k.3) (order_left u vs _ g) in
       let z = one_text c b' d ws r (m + 3 + labels b) (u + locals b) (labels_behind q (m + 3) (named r) k.3) (order_left (u + locals b) ws _ (behind b c (m + 3) u d vs _ y g)) in
-      (λ i. Makes (o.0 i) (ty_of a) ∷ (x i ++ test c s (o.0 i) (label (k.0 i)) (label (k.1 i)) (label (k.2 i)) (y i) (z i))) ∙ ap (λ both. Makes t (ty_of a) ∷ (into a c l (t + 1) t ++ sides_text both b b' s t d c m u)) (sym k')
+      (λ i. Makes (o.0 i) (ty_of a) ∷ (x i ++ test c s (o.0 i) (label (k.0 i)) (label (k.1 i)) (label (k.2 i)) (y i) (z i))) ∙ ap (λ both. if_text both a b b' s d c l t) (sym k')
   one_text c e d xs (of_leaving_choice {s = s} {e = a} {a = b} {b = b'} {t = t'} yes' no' {xs = us} {ys = vs} {zs = ws} k' p q r) l t n o =
       let m = l + labels a in
       let k = two m yes'.0 no'.0 (named q ++ named r) (labels_behind p l (yes'.0 ∷ no'.0 ∷ (named q ++ named r)) n) in
@@ -102,7 +102,7 @@ mutual
       let g = behind a c l (t + 1) t us _ x o.1 in
       let y = one_text c b d vs q (m + 2) u (from_left (m + 2) (named q) (named r) k.2) (order_left u vs _ g) in
       let z = one_text c b' d ws r (m + 2 + labels b) (u + locals b) (labels_behind q (m + 2) (named r) k.2) (behind b c (m + 2) u d vs _ y g) in
-      (λ i. Makes (o.0 i) (ty_of a) ∷ (x i ++ fork c s (o.0 i) (label (k.0 i)) (label (k.1 i)) (y i) (z i))) ∙ ap (λ both. Makes t (ty_of a) ∷ (into a c l (t + 1) t ++ sides_text both b b' s t d c m u)) (sym k')
+      (λ i. Makes (o.0 i) (ty_of a) ∷ (x i ++ fork c s (o.0 i) (label (k.0 i)) (label (k.1 i)) (y i) (z i))) ∙ ap (λ both. if_text both a b b' s d c l t) (sym k')
   one_text c e d xs (of_repeat {s = s} {is = is} {e = a} {b = b} {t = t'} {u = u'} head body after fs {xs = us} {ys = vs} g p q) l t n o =
       let f = formulas_are is fs g in
       let k = three l head.0 body.0 after.0 (named p ++ named q) n in

@@ -189,11 +189,13 @@ abbrev mutual
   args none c l t = []
   args (more e es) c l t = Makes t (ty_of e) ∷ (into e c l (t + 1) t ++ args es c (l + labels e) (t + 1 + locals e))
 
--- the sides of `if`, of whose condition the value is in t
-abbrev pub sides_text : Bool → TypedExpr → TypedExpr → Span → ℕ → ℕ → Around → ℕ → ℕ → List Line
-sides_text both a b s t d c l u =
-    let n = l + choice_labels both in
-    choice_text both c s t l (into a c n u d) (into b c (n + labels a) (u + locals a) d)
+-- the text of `if` with `else`, by whether both sides leave
+abbrev pub if_text : Bool → TypedExpr → TypedExpr → TypedExpr → Span → ℕ → Around → ℕ → ℕ → List Line
+if_text both e a b s d c l t =
+    let m = l + labels e in
+    let n = m + choice_labels both in
+    let u = t + 1 + locals e in
+    Makes t (ty_of e) ∷ (into e c l (t + 1) t ++ choice_text both c s t m (into a c n u d) (into b c (n + labels a) (u + locals a) d))
 
 -- the text of a loop with the head from its condition to the end of its body
 abbrev pub loop_text : TypedExpr → TypedExpr → Span → Around → ℕ → ℕ → ℕ → List Line

@@ -6,12 +6,10 @@ ghost use Rattle.type_check.specs.Leaves.{leaves};
 ghost use Rattle.type_check.specs.TypedExpr.{assign, update, branch, choice, repeat, call};
 ghost use Rattle.type_check.specs.TypedExprView.{ty_of, span_of, stmts_of, exprs_of, typed_size};
 ghost use Rattle.type_check.specs.WellTyped.{unit};
-ghost use Rattle.mir_ir.specs.declared.place.Operand.TheVariants.{Copy};
-ghost use Rattle.mir_ir.specs.declared.statement.Rvalue.TheVariants.{Use, Binary};
 ghost use Rattle.mir_ir.specs.declared.terminator.TerminatorKind.TheVariants.{Goto};
 ghost use Rattle.mir_build.specs.Text.{Makes, Turns, Owns};
-ghost use Rattle.mir_build.specs.Lowering.{moved, puts_at, puts, put_unit, ends, dies_in, at, at_head, looping, head_of, is_place};
-ghost use Rattle.mir_build.specs.Numbered.{formula_of, into, rest, sides_text, args, loop_text, between, temporaries, label, labels, labels_of, labels_in, locals, locals_of, locals_in};
+ghost use Rattle.mir_build.specs.Lowering.{moved, put_unit, ends, dies_in, at, at_head, looping, head_of};
+ghost use Rattle.mir_build.specs.Numbered.{formula_of, into, rest, if_text, args, loop_text, between, temporaries, label, labels, labels_of, labels_in, locals, locals_of, locals_in};
 ghost use Rattle.mir_build.specs.Reach.{reach, reach_of, reach_in};
 ghost use Rattle.mir_build.specs.Built.{written, around, outside, end_of};
 ghost use Rattle.mir_build.specs.Bindings.{all_die};
@@ -436,15 +434,14 @@ fn lower_choice(
     ensures around { OnOk result (around c.new ≡ around c.old) }
     ensures count { OnOk result (length c.new.scope.items ≡ length c.old.scope.items) }
 {
-    let t = lower_new(alloc, b, c, x)?;
     if both_leave(y, z) {
-        lower_fork(alloc, b, c, span, t, y, z, d)
+        lower_fork(alloc, b, c, span, x, y, z, d)
     } else {
-        lower_join(alloc, b, c, span, t, y, z, d)
+        lower_join(alloc, b, c, span, x, y, z, d)
     }
 }
 
-/// The sides of `if`, behind which there is a block; the condition is in local `t`.
+/// `if` with `else`, a side of which has a value: behind it a block stands.
 #[cycle(lower)]
 #[tactic(auto, using(crate::proofs::Runs::running))]
 fn lower_join(
@@ -452,21 +449,22 @@ fn lower_join(
     b: &mut Builder,
     c: &mut Around,
     span: Span,
-    t: u32,
+    x: &TypedExpr,
     y: &TypedExpr,
     z: &TypedExpr,
     d: u32,
 ) -> Result<(), Stop>
-    requires scope { max (reach y.now) (reach z.now) ≤ length c.old.scope.items }
-    requires good { or_else (bad_in y.now) (bad_in z.now) ≡ None }
-    ensures text { OnOk result (b.new.text ≡ written (sides_text false y.now z.now span t d (around c.old) b.old.labels (length b.old.text.locals)) b.old.text) }
-    ensures labels { OnOk result (b.new.labels ≡ b.old.labels + 3 + labels y.now + labels z.now) }
-    ensures locals { OnOk result (length b.new.text.locals ≡ length b.old.text.locals + locals y.now + locals z.now) }
-    ensures limit { IfErr result (λ stop. stop ≡ Blocks → 4096 < b.old.labels + 3 + labels y.now + labels z.now) }
+    requires scope { max (reach x.now) (max (reach y.now) (reach z.now)) ≤ length c.old.scope.items }
+    requires good { or_else (bad_in x.now) (or_else (bad_in y.now) (bad_in z.now)) ≡ None }
+    ensures text { OnOk result (b.new.text ≡ written (if_text false x.now y.now z.now span d (around c.old) b.old.labels (length b.old.text.locals)) b.old.text) }
+    ensures labels { OnOk result (b.new.labels ≡ b.old.labels + labels x.now + 3 + labels y.now + labels z.now) }
+    ensures locals { OnOk result (length b.new.text.locals ≡ length b.old.text.locals + 1 + locals x.now + locals y.now + locals z.now) }
+    ensures limit { IfErr result (λ stop. stop ≡ Blocks → 4096 < b.old.labels + labels x.now + 3 + labels y.now + labels z.now) }
     ensures most { OnOk result (b.old.labels ≤ 4096 → b.new.labels ≤ 4096) }
     ensures around { OnOk result (around c.new ≡ around c.old) }
     ensures count { OnOk result (length c.new.scope.items ≡ length c.old.scope.items) }
 {
+    let t = lower_new(alloc, b, c, x)?;
     let yes = b.take_labels(3)?;
     let no = yes + 1;
     let after = yes + 2;
@@ -487,21 +485,22 @@ fn lower_fork(
     b: &mut Builder,
     c: &mut Around,
     span: Span,
-    t: u32,
+    x: &TypedExpr,
     y: &TypedExpr,
     z: &TypedExpr,
     d: u32,
 ) -> Result<(), Stop>
-    requires scope { max (reach y.now) (reach z.now) ≤ length c.old.scope.items }
-    requires good { or_else (bad_in y.now) (bad_in z.now) ≡ None }
-    ensures text { OnOk result (b.new.text ≡ written (sides_text true y.now z.now span t d (around c.old) b.old.labels (length b.old.text.locals)) b.old.text) }
-    ensures labels { OnOk result (b.new.labels ≡ b.old.labels + 2 + labels y.now + labels z.now) }
-    ensures locals { OnOk result (length b.new.text.locals ≡ length b.old.text.locals + locals y.now + locals z.now) }
-    ensures limit { IfErr result (λ stop. stop ≡ Blocks → 4096 < b.old.labels + 2 + labels y.now + labels z.now) }
+    requires scope { max (reach x.now) (max (reach y.now) (reach z.now)) ≤ length c.old.scope.items }
+    requires good { or_else (bad_in x.now) (or_else (bad_in y.now) (bad_in z.now)) ≡ None }
+    ensures text { OnOk result (b.new.text ≡ written (if_text true x.now y.now z.now span d (around c.old) b.old.labels (length b.old.text.locals)) b.old.text) }
+    ensures labels { OnOk result (b.new.labels ≡ b.old.labels + labels x.now + 2 + labels y.now + labels z.now) }
+    ensures locals { OnOk result (length b.new.text.locals ≡ length b.old.text.locals + 1 + locals x.now + locals y.now + locals z.now) }
+    ensures limit { IfErr result (λ stop. stop ≡ Blocks → 4096 < b.old.labels + labels x.now + 2 + labels y.now + labels z.now) }
     ensures most { OnOk result (b.old.labels ≤ 4096 → b.new.labels ≤ 4096) }
     ensures around { OnOk result (around c.new ≡ around c.old) }
     ensures count { OnOk result (length c.new.scope.items ≡ length c.old.scope.items) }
 {
+    let t = lower_new(alloc, b, c, x)?;
     let yes = b.take_labels(2)?;
     let no = yes + 1;
     let test = TerminatorKind::If(moved(alloc, t), Label(yes), Label(no));

@@ -13,9 +13,6 @@ use Rattle.mir_build.proofs.Statements.{around_behind, text_on, labels_at, local
 use Rattle.mir_build.proofs.expression.+lower.Goals.{lower_rest-then-statement+in_ok-push, lower_rest-else-statement, lower_rest-in-Unit+in_ok-put_unit-in-Unit, lower_rest-in-Value+in_ok-lower_into-in-Value, lower_rest-in-Leaves+in_ok-lower_new-in-Leaves}
 use Rattle.mir_build.proofs.expression.+lower.Goals as goal
 
-pub lower_choice-returns-in_err-t-clause-limit : goal.lower_choice-returns-in_err-t-clause-limit
-lower_choice-returns-in_err-t-clause-limit t c = λ e. omega (arith, c.in_err-t.ensures.limit e)
-
 pub lower_args-loop-e-preserved : goal.lower_args-loop-e-preserved
 lower_args-loop-e-preserved t c =
     let e = args_at _ _ _ c.e-item.is c.loop-e-test.true in

@@ -36,13 +36,13 @@ abbrev pub decreases-lower_branch : goal.decreases-lower_branch
 decreases-lower_branch l = 8 * max (typed_size l.x.now) (typed_size l.y.now) + 5
 
 abbrev pub decreases-lower_choice : goal.decreases-lower_choice
-decreases-lower_choice l = 8 * max (typed_size l.x.now) (max (typed_size l.y.now) (typed_size l.z.now)) + 5
+decreases-lower_choice l = 8 * max (typed_size l.x.now) (max (typed_size l.y.now) (typed_size l.z.now)) + 6
 
 abbrev pub decreases-lower_join : goal.decreases-lower_join
-decreases-lower_join l = 8 * max (typed_size l.y.now) (typed_size l.z.now) + 4
+decreases-lower_join l = 8 * max (typed_size l.x.now) (max (typed_size l.y.now) (typed_size l.z.now)) + 5
 
 abbrev pub decreases-lower_fork : goal.decreases-lower_fork
-decreases-lower_fork l = 8 * max (typed_size l.y.now) (typed_size l.z.now) + 4
+decreases-lower_fork l = 8 * max (typed_size l.x.now) (max (typed_size l.y.now) (typed_size l.z.now)) + 5
 
 abbrev pub decreases-lower_repeat : goal.decreases-lower_repeat
 decreases-lower_repeat l = 8 * max (typed_size l.x.now) (typed_size l.y.now) + 5
