@@ -1,5 +1,5 @@
 -- What typing gives fits: each part has the type that its place asks for.
-use Rattle.std.proofs.Common.{◌≡◌, ◌∙◌, inl, inr, ℕ, suc, ◌==◌, Bool, true, false, List, [], ◌∷◌, ◌++◌, length, Option, Some, None, Ok, refl, ap, sym, subst, arith}
+use Rattle.std.proofs.Common.{◌≡◌, ◌∙◌, inl, inr, ℕ, zero, suc, ◌==◌, Bool, true, false, List, [], ◌∷◌, ◌++◌, length, Option, Some, None, Ok, refl, ap, sym, subst, arith}
 use Rattle.std.specs.Prelude.{ℤ, slice_get, if◌then◌else◌}
 use Rattle.logic_term.proofs.FreeLaw.{same_test}
 use Rattle.text_core.specs.declared.name.Name.{Name}
@@ -15,9 +15,12 @@ use Rattle.source_trees.specs.declared.attribute.ClauseKind.TheVariants.{Invaria
 use Rattle.source_trees.specs.declared.operator.PanicMacro.{PanicMacro}
 use Rattle.source_trees.specs.declared.operator.UnaryOp.TheVariants.{Neg, Not}
 use Rattle.source_trees.specs.declared.path.Segment.{Segment}
+use Rattle.source_trees.specs.declared.statement.StmtKind.{StmtKind}
+use Rattle.source_trees.specs.declared.statement.StmtKind.TheVariants as kind
 use Rattle.source_trees.specs.Expr as E
 use Rattle.source_trees.specs.Expr.{Expr}
 use Rattle.source_trees.specs.ExprView.{span_of}
+use Rattle.source_trees.specs.TypeTree.{TypeTree}
 use Rattle.type_check.specs.declared.assertion.Assertion.{Assertion}
 use Rattle.type_check.specs.declared.heading.Callee.{Callee}
 use Rattle.type_check.specs.declared.heading.Heading.{Heading}
@@ -28,6 +31,7 @@ use Rattle.type_check.specs.declared.scope.Declared.{Declared}
 use Rattle.type_check.specs.declared.scope.Found.{Found}
 use Rattle.type_check.specs.declared.program.Signature.{Signature}
 use Rattle.type_check.specs.declared.scope.Variable.{Variable}
+use Rattle.type_check.specs.declared.statements.Step.{Step}
 use Rattle.type_check.specs.declared.typed.TypedStmt.{TypedStmt}
 use Rattle.type_check.specs.Answers.{mismatch, not_mutable, with_some, gather}
 use Rattle.type_check.specs.Functions.{callee}
@@ -38,15 +42,16 @@ use Rattle.type_check.specs.TypedExpr.{TypedExpr, TypedStmts, TypedExprs}
 use Rattle.type_check.specs.TypedExpr as tree
 use Rattle.type_check.specs.TypedExprView.{ty_of, stmt_of, stmts_of}
 use Rattle.type_check.specs.Types.{same_ty, is_signed_ty}
-use Rattle.type_check.specs.Typing.{Typed, fit, literal_kind, literal_of, literal, variable_of, variable, named, negated, is_bare, order_of, operands_of, operands, operation, operated, may_write, if_mutable, writing, assigned}
-use Rattle.type_check.specs.Typing.{is_updated, updated, known, callee_of, how_many, first_of, rest_of, called, block_ty, declared, Opened, opened, typed_stmt, behind, without_last, closed, given, choice_ty, cause_of, panicked, invariant_by, invariant_of, typed, typed_stmts, typed_args}
-use Rattle.type_check.specs.WellTyped.{unit, is_arithmetic, operation_ty, is_signed, IsOf, IsOfOrLeaves, SpeaksOf, EachSpeaks, IsWellTyped, StatementsFit, ArgumentsFit}
-use Rattle.type_check.specs.Written.{as_name, name_alone, step_of}
+use Rattle.type_check.specs.Typing.{Typed, fit, literal_kind, literal_of, literal, variable_of, variable, named, negated, is_bare, order_without, order_of, operands_of, operands, operation, operated, may_write, if_mutable, writing, assigned}
+use Rattle.type_check.specs.Typing.{is_updated, updated, known, callee_of, how_many, first_of, rest_of, called, block_ty, declared, Opened, opened, typed_stmt, behind, without_last, closed, asked, given, choice_ty, cause_of, panicked, invariant_by, invariant_of, typed, typed_stmts, typed_args}
+use Rattle.type_check.specs.WellTyped.{unit, IsBuilt, AllBuilt, is_arithmetic, is_equality, operation_ty, is_signed, IsOf, IsOfOrLeaves, SpeaksOf, EachSpeaks, IsWellTyped, StatementsFit, ArgumentsFit}
+use Rattle.type_check.specs.Written.{as_name, name_alone, written_type, written_or_none, declared_by, step_of}
 use Rattle.type_check.proofs.Bound.{bound, held, yes, same_ok}
 use Rattle.type_check.proofs.Lookups.{types, signatures_at, found_type, callee_signature}
 use Rattle.type_check.proofs.SameTypes.{equal_types}
 use Rattle.type_check.proofs.Speaking.{assertion_speaks}
-use Rattle.type_check.proofs.StatementLists.{block_ty_after}
+use Rattle.type_check.proofs.StatementLists.{block_ty_after, stmt_ty}
+use Rattle.type_check.proofs.WrittenTypes.{type_built}
 
 abbrev pub Meets : Option Ty → TypedExpr → Type 0
 Meets None e = Unit {0}
@@ -55,6 +60,22 @@ Meets (Some t) e = ty_of e ≡ t
 pub record Sound (σ : List Heading) (Γ : List Variable) (t : Option Ty) (e : TypedExpr) : Type 0 where
   pub well : IsWellTyped (signatures_at σ) (types Γ) e
   pub meets : Meets t e
+  pub built : IsBuilt (ty_of e)
+
+-- what is expected is a built type
+abbrev pub MayAsk : Option Ty → Type 0
+MayAsk None = Unit {0}
+MayAsk (Some t) = IsBuilt t
+
+-- the types that stand around an expression are built: those of functions, and of variables
+pub record Around (σ : List Heading) (Γ : List Variable) : Type 0 where
+  pub functions : (j : ℕ) (g : Signature) → slice_get (signatures_at σ) j ≡ Some g → AllBuilt g.params × IsBuilt g.answer
+  pub variables : AllBuilt (types Γ)
+
+built_at : (ts : List Ty) (j : ℕ) (t : Ty) → AllBuilt ts → slice_get ts j ≡ Some t → IsBuilt t
+built_at [] j t h p = absurd (cc)
+built_at (u ∷ ts) zero t h p = let q : u ≡ t = cc in subst IsBuilt q h.0
+built_at (u ∷ ts) (suc j) t h p = built_at ts j t h.1 p
 
 pub fit_same : (t : Option Ty) (s : Span) (e r : TypedExpr) → fit t s e ≡ Ok r → (e ≡ r) × Meets t e
 unfolding fit
@@ -63,10 +84,10 @@ fit_same (Some t) s e r p =
     let c = held (same_ty (ty_of e) t) (Ok e) (mismatch s) r p in
     (same_ok _ _ c.1, equal_types (ty_of e) t c.0)
 
-fit_sound : (σ : List Heading) (Γ : List Variable) (t : Option Ty) (s : Span) (e r : TypedExpr) → IsWellTyped (signatures_at σ) (types Γ) e → fit t s e ≡ Ok r → Sound σ Γ t r
-fit_sound σ Γ t s e r w p =
+fit_sound : (σ : List Heading) (Γ : List Variable) (t : Option Ty) (s : Span) (e r : TypedExpr) → IsWellTyped (signatures_at σ) (types Γ) e → IsBuilt (ty_of e) → fit t s e ≡ Ok r → Sound σ Γ t r
+fit_sound σ Γ t s e r w b p =
     let c = fit_same t s e r p in
-    subst (Sound σ Γ t) c.0 (record { well = w; meets = c.1 })
+    subst (Sound σ Γ t) c.0 (record { well = w; meets = c.1; built = b })
 
 -- ---- literals and names
 
@@ -74,23 +95,23 @@ literal_at : (σ : List Heading) (Γ : List Variable) (t : Option Ty) (s : Span)
 literal_at σ Γ t s z None r p = absurd (cc)
 literal_at σ Γ t s z (Some k) r p =
     let c = held (fits k z) (fit t s (tree.integer (int k) s z k)) (mismatch s) r p in
-    fit_sound σ Γ t s (tree.integer (int k) s z k) r (refl, c.0) c.1
+    fit_sound σ Γ t s (tree.integer (int k) s z k) r (refl, c.0) tt c.1
 
 literal_sound : (σ : List Heading) (Γ : List Variable) (t : Option Ty) (s : Span) (z : ℤ) (k : Option IntKind) (r : TypedExpr) → literal t s z k ≡ Ok r → Sound σ Γ t r
 unfolding literal
 literal_sound σ Γ t s z k r p = literal_at σ Γ t s z (literal_kind k t) r p
 
-variable_at : (σ : List Heading) (Γ : List Variable) (t : Option Ty) (s : Span) (o : Option Found) (r : TypedExpr) → ((w : Found) → o ≡ Some w → slice_get (types Γ) w.place ≡ Some w.ty) → variable_of t s o ≡ Ok r → Sound σ Γ t r
-variable_at σ Γ t s None r h p = absurd (cc)
-variable_at σ Γ t s (Some v) r h p = fit_sound σ Γ t s (tree.variable v.ty s v.place) r (h v refl) p
+variable_at : (σ : List Heading) (Γ : List Variable) (t : Option Ty) (s : Span) (o : Option Found) (r : TypedExpr) → AllBuilt (types Γ) → ((w : Found) → o ≡ Some w → slice_get (types Γ) w.place ≡ Some w.ty) → variable_of t s o ≡ Ok r → Sound σ Γ t r
+variable_at σ Γ t s None r b h p = absurd (cc)
+variable_at σ Γ t s (Some v) r b h p = fit_sound σ Γ t s (tree.variable v.ty s v.place) r (h v refl) (built_at (types Γ) v.place v.ty b (h v refl)) p
 
-variable_sound : (σ : List Heading) (Γ : List Variable) (t : Option Ty) (s : Span) (x : Name) (r : TypedExpr) → variable Γ t s x ≡ Ok r → Sound σ Γ t r
+variable_sound : (σ : List Heading) (Γ : List Variable) (t : Option Ty) (s : Span) (x : Name) (r : TypedExpr) → AllBuilt (types Γ) → variable Γ t s x ≡ Ok r → Sound σ Γ t r
 unfolding variable
-variable_sound σ Γ t s x r p = variable_at σ Γ t s (found x Γ) r (found_type Γ x) p
+variable_sound σ Γ t s x r b p = variable_at σ Γ t s (found x Γ) r b (found_type Γ x) p
 
-named_sound : (σ : List Heading) (Γ : List Variable) (t : Option Ty) (s : Span) (o : Option Segment) (r : TypedExpr) → named Γ t s o ≡ Ok r → Sound σ Γ t r
-named_sound σ Γ t s None r p = absurd (cc)
-named_sound σ Γ t s (Some x) r p = variable_sound σ Γ t s x.name r p
+named_sound : (σ : List Heading) (Γ : List Variable) (t : Option Ty) (s : Span) (o : Option Segment) (r : TypedExpr) → AllBuilt (types Γ) → named Γ t s o ≡ Ok r → Sound σ Γ t r
+named_sound σ Γ t s None r b p = absurd (cc)
+named_sound σ Γ t s (Some x) r b p = variable_sound σ Γ t s x.name r b p
 
 -- ---- operators
 
@@ -103,16 +124,29 @@ unfolding negated
 negated_sound σ Γ t s o r a e w p =
     let c = held (is_signed_ty (ty_of a)) (fit t s (tree.negative (ty_of a) o a)) (mismatch r) e p in
     let k = signed_int (ty_of a) c.0 in
-    fit_sound σ Γ t s (tree.negative (ty_of a) o a) e (k.0, k.1, k.2, k.2, w) c.1
+    fit_sound σ Γ t s (tree.negative (ty_of a) o a) e (k.0, k.1, k.2, k.2, w) (subst IsBuilt (sym k.2) tt) c.1
 
 pub record BothSound (σ : List Heading) (Γ : List Variable) (p : Operands) : Type 0 where
   pub left : IsWellTyped (signatures_at σ) (types Γ) p.left
   pub right : IsWellTyped (signatures_at σ) (types Γ) p.right
   pub same : IsOf (ty_of p.left) p.right
 
+either_built : (b : Bool) (k : IntKind) → IsBuilt (if b then int k else bool)
+either_built true k = tt
+either_built false k = tt
+
+equality_built : (b : Bool) (u : Ty) → (if b then Some bool else None) ≡ Some u → IsBuilt u
+equality_built true u p = let q : bool ≡ u = cc in subst IsBuilt q tt
+equality_built false u p = absurd (cc)
+
+operation_built : (op : BinaryOp) (t u : Ty) → operation_ty op t ≡ Some u → IsBuilt u
+operation_built op (int k) u p = let q : (if is_arithmetic op then int k else bool) ≡ u = cc in subst IsBuilt q (either_built (is_arithmetic op) k)
+operation_built op bool u p = equality_built (is_equality op) u p
+operation_built op t u p = absurd (cc)
+
 operation_sound : (σ : List Heading) (Γ : List Variable) (u t : Option Ty) (s o r : Span) (op : BinaryOp) (p : Operands) (e : TypedExpr) → operation_ty op (ty_of p.left) ≡ u → BothSound σ Γ p → operation u t s o r op p ≡ Ok e → Sound σ Γ t e
 operation_sound σ Γ None t s o r op p e q b h = absurd (cc)
-operation_sound σ Γ (Some u) t s o r op p e q b h = fit_sound σ Γ t s (tree.binary u o op p.left p.right) e (q, b.same, b.left, b.right) h
+operation_sound σ Γ (Some u) t s o r op p e q b h = fit_sound σ Γ t s (tree.binary u o op p.left p.right) e (q, b.same, b.left, b.right) (operation_built op (ty_of p.left) u q) h
 
 operated_sound : (σ : List Heading) (Γ : List Variable) (t : Option Ty) (s o r : Span) (op : BinaryOp) (p : Operands) (e : TypedExpr) → BothSound σ Γ p → operated t s o r op p ≡ Ok e → Sound σ Γ t e
 unfolding operated
@@ -128,7 +162,7 @@ written_fits Γ t s l a e r p =
 
 assigned_sound : (σ : List Heading) (Γ : List Variable) (t : Option Ty) (s l : Span) (a e r : TypedExpr) → IsWellTyped (signatures_at σ) (types Γ) a → IsWellTyped (signatures_at σ) (types Γ) e → ty_of e ≡ ty_of a → assigned Γ t s l a e ≡ Ok r → Sound σ Γ t r
 unfolding assigned
-assigned_sound σ Γ t s l a e r h w q p = fit_sound σ Γ t s (tree.assign unit s a e) r (refl, q, h, w) (written_fits Γ t s l a (tree.assign unit s a e) r p)
+assigned_sound σ Γ t s l a e r h w q p = fit_sound σ Γ t s (tree.assign unit s a e) r (refl, q, h, w) tt (written_fits Γ t s l a (tree.assign unit s a e) r p)
 
 arithmetic_ty : (op : BinaryOp) (u : Ty) → is_updated op u ≡ true → operation_ty op u ≡ Some u
 arithmetic_ty op (int k) p = let q : is_arithmetic op ≡ true = p in rw q refl
@@ -139,7 +173,7 @@ unfolding updated
 updated_sound σ Γ t s o l op a e r h w q p =
     let c = held (is_updated op (ty_of a)) (writing Γ t s l a (tree.update unit o op a e)) (mismatch l) r p in
     let g : operation_ty op (ty_of e) ≡ Some (ty_of e) = subst (λ z. operation_ty op z ≡ Some z) (sym q) (arithmetic_ty op (ty_of a) c.0) in
-    fit_sound σ Γ t s (tree.update unit o op a e) r (refl, q, g, h, w) (written_fits Γ t s l a (tree.update unit o op a e) r c.1)
+    fit_sound σ Γ t s (tree.update unit o op a e) r (refl, q, g, h, w) tt (written_fits Γ t s l a (tree.update unit o op a e) r c.1)
 
 -- ---- calls
 
@@ -157,11 +191,11 @@ AllSound σ Γ es ts = how_many es ≡ length ts → ArgumentsFit (signatures_at
 same_number : (m n : ℕ) → (m == n) ≡ true → m ≡ n
 same_number m n p = same_test m n p
 
-called_sound : (σ : List Heading) (Γ : List Variable) (t : Option Ty) (s : Span) (f : Callee) (es : TypedExprs) (r : TypedExpr) → slice_get (signatures_at σ) f.place ≡ Some f.signature → AllSound σ Γ es f.signature.params → called t s f es ≡ Ok r → Sound σ Γ t r
+called_sound : (σ : List Heading) (Γ : List Variable) (t : Option Ty) (s : Span) (f : Callee) (es : TypedExprs) (r : TypedExpr) → slice_get (signatures_at σ) f.place ≡ Some f.signature → IsBuilt f.signature.answer → AllSound σ Γ es f.signature.params → called t s f es ≡ Ok r → Sound σ Γ t r
 unfolding called
-called_sound σ Γ t s f es r g h p =
+called_sound σ Γ t s f es r g b h p =
     let c = held (how_many es == length f.signature.params) (fit t s (tree.call f.signature.answer s f.place es)) (mismatch s) r p in
-    fit_sound σ Γ t s (tree.call f.signature.answer s f.place es) r (f.signature, g, refl, h (same_number (how_many es) (length f.signature.params) c.0)) c.1
+    fit_sound σ Γ t s (tree.call f.signature.answer s f.place es) r (f.signature, g, refl, h (same_number (how_many es) (length f.signature.params) c.0)) b c.1
 
 no_args : (σ : List Heading) (Γ : List Variable) (ts : List Ty) → AllSound σ Γ tree.none ts
 no_args σ Γ [] = λ h. tt
@@ -173,9 +207,9 @@ more_args σ Γ (t ∷ ts) e es a b = λ h. (a.meets, a.well, b (omega arith))
 
 -- ---- blocks and loops
 
-closed_sound : (σ : List Heading) (Γ : List Variable) (t : Option Ty) (s : Span) (ss : TypedStmts) (r : TypedExpr) → StatementsFit (signatures_at σ) (types Γ) (block_ty t ss) ss → closed t s ss ≡ Ok r → Sound σ Γ t r
+closed_sound : (σ : List Heading) (Γ : List Variable) (t : Option Ty) (s : Span) (ss : TypedStmts) (r : TypedExpr) → StatementsFit (signatures_at σ) (types Γ) (block_ty t ss) ss → IsBuilt (block_ty t ss) → closed t s ss ≡ Ok r → Sound σ Γ t r
 unfolding closed
-closed_sound σ Γ t s ss r h p = fit_sound σ Γ t s (tree.block (block_ty t ss) s ss) r h p
+closed_sound σ Γ t s ss r h b p = fit_sound σ Γ t s (tree.block (block_ty t ss) s ss) r h b p
 
 types-append : (Γ : List Variable) (v : Variable) → types (Γ ++ v ∷ []) ≡ types Γ ++ v.ty ∷ []
 types-append [] v = refl
@@ -218,42 +252,70 @@ invariants_speak Γ (a ∷ as') is p =
 
 -- ---- what leaves
 
-panicked_sound : (σ : List Heading) (Γ : List Variable) (t : Option Ty) (s : Span) (m : PanicMacro) (r : TypedExpr) → panicked t s m ≡ Ok r → Sound σ Γ t r
-panicked_sound σ Γ None s m r p = subst (Sound σ Γ None) (same_ok (tree.panics unit s (cause_of m)) r p) (record { well = tt; meets = tt })
-panicked_sound σ Γ (Some u) s m r p = subst (Sound σ Γ (Some u)) (same_ok (tree.panics u s (cause_of m)) r p) (record { well = tt; meets = refl })
+asked_built : (t : Option Ty) → MayAsk t → IsBuilt (asked t)
+asked_built None h = tt
+asked_built (Some u) h = h
+
+panicked_sound : (σ : List Heading) (Γ : List Variable) (t : Option Ty) (s : Span) (m : PanicMacro) (r : TypedExpr) → MayAsk t → panicked t s m ≡ Ok r → Sound σ Γ t r
+panicked_sound σ Γ None s m r h p = subst (Sound σ Γ None) (same_ok (tree.panics unit s (cause_of m)) r p) (record { well = tt; meets = tt; built = tt })
+panicked_sound σ Γ (Some u) s m r h p = subst (Sound σ Γ (Some u)) (same_ok (tree.panics u s (cause_of m)) r p) (record { well = h; meets = refl; built = h })
 
 -- the first side of a choice leaves, or gives the second its type
-sides_fit : (t : Option Ty) (y z : TypedExpr) (b : Bool) → leaves y ≡ b → Meets (if b then t else Some (ty_of y)) z
+sides_fit : (t : Option Ty) (y z : TypedExpr) (b : Bool) → leaves y ≡ b → IsBuilt (ty_of z) → Meets (if b then t else Some (ty_of y)) z
     → let u = if b then ty_of z else ty_of y in IsOfOrLeaves u y × IsOfOrLeaves u z
-sides_fit t y z true q h = (inr q, inl refl)
-sides_fit t y z false q h = (inl refl, inl h)
+sides_fit t y z true q k h = (inr (q, k), inl refl)
+sides_fit t y z false q k h = (inl refl, inl h)
+
+given_built : (b : Bool) (t : Option Ty) (u : Ty) → MayAsk t → IsBuilt u → MayAsk (if b then t else Some u)
+given_built true t u h k = h
+given_built false t u h k = k
+
+one_built : (b : Bool) (t u : Ty) → IsBuilt t → IsBuilt u → IsBuilt (if b then t else u)
+one_built true t u h k = h
+one_built false t u h k = k
 
 -- ---- expressions
 
 -- what typing gives at each expected type is sound
 abbrev pub EachSound : List Heading → List Variable → (Option Ty → Typed) → Type 0
-EachSound σ Γ f = (t : Option Ty) (r : TypedExpr) → f t ≡ Ok r → Sound σ Γ t r
+EachSound σ Γ f = (t : Option Ty) (r : TypedExpr) → MayAsk t → f t ≡ Ok r → Sound σ Γ t r
 
 both_sound : (σ : List Heading) (Γ : List Variable) (a b : TypedExpr) (p : Operands) → IsWellTyped (signatures_at σ) (types Γ) a → IsWellTyped (signatures_at σ) (types Γ) b → ty_of b ≡ ty_of a → yes (operands_of a b) ≡ Ok p → BothSound σ Γ p
 both_sound σ Γ a b p wa wb q h = subst (BothSound σ Γ) (same_ok _ _ h) (record { left = wa; right = wb; same = q })
 
-operands_sound : (σ : List Heading) (Γ : List Variable) (o : Order) (f g : Option Ty → Typed) (p : Operands) → EachSound σ Γ f → EachSound σ Γ g → operands o f g ≡ Ok p → BothSound σ Γ p
-operands_sound σ Γ (order.Against t) f g p hf hg h =
+abbrev pub OrderBuilt : Order → Type 0
+OrderBuilt (order.Against t) = IsBuilt t
+OrderBuilt o = Unit {0}
+
+without_built : (p q : Bool) → OrderBuilt (order_without p q)
+without_built true true = tt
+without_built true false = tt
+without_built false q = tt
+
+order_built : (b : Bool) (t : Option Ty) (p q : Bool) → MayAsk t → OrderBuilt (order_of b t p q)
+order_built true (Some t) p q h = h
+order_built true None p q h = without_built p q
+order_built false t p q h = without_built p q
+
+operands_sound : (σ : List Heading) (Γ : List Variable) (o : Order) (f g : Option Ty → Typed) (p : Operands) → OrderBuilt o → EachSound σ Γ f → EachSound σ Γ g → operands o f g ≡ Ok p → BothSound σ Γ p
+operands_sound σ Γ (order.Against t) f g p k hf hg h =
     let a = bound (f (Some t)) _ p h in
     let b = bound (g (Some t)) _ p a.2 in
-    let sa = hf (Some t) a.0 a.1 in
-    let sb = hg (Some t) b.0 b.1 in
+    let sa = hf (Some t) a.0 k a.1 in
+    let sb = hg (Some t) b.0 k b.1 in
     both_sound σ Γ a.0 b.0 p sa.well sb.well (sb.meets ∙ sym sa.meets) b.2
-operands_sound σ Γ order.SecondGives f g p hf hg h =
+operands_sound σ Γ order.SecondGives f g p k hf hg h =
     let b = bound (g None) _ p h in
     let a = bound (f (Some (ty_of b.0))) _ p b.2 in
-    let sa = hf (Some (ty_of b.0)) a.0 a.1 in
-    both_sound σ Γ a.0 b.0 p sa.well (hg None b.0 b.1).well (sym sa.meets) a.2
-operands_sound σ Γ order.FirstGives f g p hf hg h =
+    let sb = hg None b.0 tt b.1 in
+    let sa = hf (Some (ty_of b.0)) a.0 sb.built a.1 in
+    both_sound σ Γ a.0 b.0 p sa.well sb.well (sym sa.meets) a.2
+operands_sound σ Γ order.FirstGives f g p k hf hg h =
     let a = bound (f None) _ p h in
     let b = bound (g (Some (ty_of a.0))) _ p a.2 in
-    let sb = hg (Some (ty_of a.0)) b.0 b.1 in
-    both_sound σ Γ a.0 b.0 p (hf None a.0 a.1).well sb.well sb.meets b.2
+    let sa = hf None a.0 tt a.1 in
+    let sb = hg (Some (ty_of a.0)) b.0 sa.built b.1 in
+    both_sound σ Γ a.0 b.0 p sa.well sb.well sb.meets b.2
 
 -- what stands behind statements fits in the scope behind them, and all together in that before them
 abbrev pub OpenedSound : List Heading → List Variable → Opened → Type 0
@@ -277,113 +339,164 @@ value_fits : (σ : List Signature) (Γ : List Ty) (b : Bool) (e : TypedExpr) →
 value_fits σ Γ true e h = h.0
 value_fits σ Γ false e h = h.0
 
-end_fits : (σ : List Signature) (Γ : List Ty) (t : Option Ty) (s : TypedStmt) (b : Bool) → leaves s.value ≡ b → StatementsFit σ Γ unit (stmt_of s.binds s.value tree.done)
+end_fits : (σ : List Signature) (Γ : List Ty) (t : Option Ty) (s : TypedStmt) (b : Bool) → MayAsk t → leaves s.value ≡ b → StatementsFit σ Γ unit (stmt_of s.binds s.value tree.done)
     → let end = if b then tree.leaving s.value else stmt_of s.binds s.value tree.done in StatementsFit σ Γ (block_ty t end) end
-end_fits σ Γ t s true q h = (q, value_fits σ Γ s.binds s.value h)
-end_fits σ Γ t s false q h = before_fits σ Γ t s.binds s.value tree.done tree.done (λ Δ k. k) h
+end_fits σ Γ t s true k q h = (asked_built t k, q, value_fits σ Γ s.binds s.value h)
+end_fits σ Γ t s false k q h = before_fits σ Γ t s.binds s.value tree.done tree.done (λ Δ k. k) h
 
 -- statements with no last expression fit with the last of them apart, where it leaves
-without_last_fits : (σ : List Signature) (Γ : List Ty) (t : Option Ty) (ss : List TypedStmt) → StatementsFit σ Γ unit (stmts_of ss tree.done) → StatementsFit σ Γ (block_ty t (without_last ss)) (without_last ss)
-without_last_fits σ Γ t [] h = h
-without_last_fits σ Γ t (s ∷ []) h = end_fits σ Γ t s (leaves s.value) refl h
-without_last_fits σ Γ t (s ∷ r ∷ ss) h = before_fits σ Γ t s.binds s.value (stmts_of (r ∷ ss) tree.done) (without_last (r ∷ ss)) (λ Δ k. without_last_fits σ Δ t (r ∷ ss) k) h
+without_last_fits : (σ : List Signature) (Γ : List Ty) (t : Option Ty) (ss : List TypedStmt) → MayAsk t → StatementsFit σ Γ unit (stmts_of ss tree.done) → StatementsFit σ Γ (block_ty t (without_last ss)) (without_last ss)
+without_last_fits σ Γ t [] k h = h
+without_last_fits σ Γ t (s ∷ []) k h = end_fits σ Γ t s (leaves s.value) k refl h
+without_last_fits σ Γ t (s ∷ r ∷ ss) k h = before_fits σ Γ t s.binds s.value (stmts_of (r ∷ ss) tree.done) (without_last (r ∷ ss)) (λ Δ g. without_last_fits σ Δ t (r ∷ ss) k g) h
+
+end_built : (t : Option Ty) (s : TypedStmt) (b : Bool) → MayAsk t → IsBuilt (block_ty t (if b then tree.leaving s.value else stmt_of s.binds s.value tree.done))
+end_built t s true k = asked_built t k
+end_built t s false k = subst IsBuilt (sym (stmt_ty t s.binds s.value tree.done)) tt
+
+without_last_built : (t : Option Ty) (ss : List TypedStmt) → MayAsk t → IsBuilt (block_ty t (without_last ss))
+without_last_built t [] k = tt
+without_last_built t (s ∷ []) k = end_built t s (leaves s.value) k
+without_last_built t (s ∷ r ∷ ss) k = subst IsBuilt (sym (stmt_ty t s.binds s.value (without_last (r ∷ ss)))) (without_last_built t (r ∷ ss) k)
 
 -- a block of these statements, with what stands behind them
-block_sound : (σ : List Heading) (Γ : List Variable) (t : Option Ty) (s : Span) (o : Opened) (end : TypedStmts) (r : TypedExpr) → OpenedSound σ Γ o → StatementsFit (signatures_at σ) (types o.scope) (block_ty t end) end → closed t s (stmts_of o.stmts end) ≡ Ok r → Sound σ Γ t r
-block_sound σ Γ t s o end r h k p =
+block_sound : (σ : List Heading) (Γ : List Variable) (t : Option Ty) (s : Span) (o : Opened) (end : TypedStmts) (r : TypedExpr) → OpenedSound σ Γ o → StatementsFit (signatures_at σ) (types o.scope) (block_ty t end) end → IsBuilt (block_ty t end) → closed t s (stmts_of o.stmts end) ≡ Ok r → Sound σ Γ t r
+block_sound σ Γ t s o end r h k b p =
     closed_sound σ Γ t s (stmts_of o.stmts end) r
-    (subst (λ u. StatementsFit (signatures_at σ) (types Γ) u (stmts_of o.stmts end)) (sym (block_ty_after t o.stmts end)) (h (block_ty t end) end k)) p
+    (subst (λ u. StatementsFit (signatures_at σ) (types Γ) u (stmts_of o.stmts end)) (sym (block_ty_after t o.stmts end)) (h (block_ty t end) end k)) (subst IsBuilt (sym (block_ty_after t o.stmts end)) b) p
+
+-- ---- types of scopes
+
+all_built_append : (ts : List Ty) (t : Ty) → AllBuilt ts → IsBuilt t → AllBuilt (ts ++ t ∷ [])
+all_built_append [] t h k = (k, tt)
+all_built_append (u ∷ ts) t h k = (h.0, all_built_append ts t h.1 k)
+
+declared_built : (σ : List Heading) (Γ : List Variable) (d : Option Declared) (a : TypedExpr) → Around σ Γ → IsBuilt (ty_of a) → Around σ (declared Γ d a)
+declared_built σ Γ None a h k = h
+declared_built σ Γ (Some d) a h k = record {
+  functions = h.functions;
+  variables = subst AllBuilt (sym (types-append Γ (record { name = d.name; ty = ty_of a; mutable = d.mutable }))) (all_built_append (types Γ) (ty_of a) h.variables k);
+}
+
+written_may : (w : Option TypeTree) (t : Option Ty) → written_or_none w ≡ Ok t → MayAsk t
+written_may None t p = subst MayAsk (same_ok _ _ p) tt
+written_may (Some w) t p =
+    let u = bound (written_type w) _ t p in
+    subst MayAsk (same_ok (Some u.0) t u.2) (type_built w u.0 u.1)
+
+step_may : (k : StmtKind) (w : Step) → step_of k ≡ Ok w → MayAsk w.expected
+unfolding step_of
+step_may (kind.Let p w) r q =
+    let x = bound (declared_by p) _ r q in
+    let t = bound (written_or_none w) _ r x.2 in
+    subst (λ (r : Step). MayAsk r.expected) (same_ok (record { declares = Some x.0; expected = t.0 }) r t.2) (written_may w t.0 t.1)
+step_may kind.Run r q = subst (λ (r : Step). MayAsk r.expected) (same_ok (record { declares = None; expected = None }) r q) tt
+step_may kind.Blocklike r q = subst (λ (r : Step). MayAsk r.expected) (same_ok (record { declares = None; expected = Some unit }) r q) tt
+
+first_may : (ts : List Ty) → AllBuilt ts → MayAsk (first_of ts)
+first_may [] h = tt
+first_may (t ∷ ts) h = h.0
+
+rest_built : (ts : List Ty) → AllBuilt ts → AllBuilt (rest_of ts)
+rest_built [] h = tt
+rest_built (t ∷ ts) h = h.1
 
 mutual
-  pub typed_sound : (σ : List Heading) (Γ : List Variable) (e : Expr) (t : Option Ty) (r : TypedExpr) → typed σ Γ e t ≡ Ok r → Sound σ Γ t r
-  typed_sound σ Γ (E.integer s z k) t r p = literal_sound σ Γ t s z k r p
-  typed_sound σ Γ (E.truth s b) t r p = fit_sound σ Γ t s (tree.truth bool s b) r refl p
-  typed_sound σ Γ (E.path s w) t r p = named_sound σ Γ t s (name_alone w.node) r p
-  typed_sound σ Γ (E.unary s Neg o e) t r p =
+  pub typed_sound : (σ : List Heading) (Γ : List Variable) (e : Expr) (t : Option Ty) (r : TypedExpr) → Around σ Γ → MayAsk t → typed σ Γ e t ≡ Ok r → Sound σ Γ t r
+  typed_sound σ Γ (E.integer s z k) t r ho ht p = literal_sound σ Γ t s z k r p
+  typed_sound σ Γ (E.truth s b) t r ho ht p = fit_sound σ Γ t s (tree.truth bool s b) r refl tt p
+  typed_sound σ Γ (E.path s w) t r ho ht p = named_sound σ Γ t s (name_alone w.node) r ho.variables p
+  typed_sound σ Γ (E.unary s Neg o e) t r ho ht p =
       let a = bound (typed σ Γ e t) _ r p in
-      negated_sound σ Γ t s o (span_of e) a.0 r (typed_sound σ Γ e t a.0 a.1).well a.2
-  typed_sound σ Γ (E.unary s Not o e) t r p =
+      negated_sound σ Γ t s o (span_of e) a.0 r (typed_sound σ Γ e t a.0 ho ht a.1).well a.2
+  typed_sound σ Γ (E.unary s Not o e) t r ho ht p =
       let a = bound (typed σ Γ e (Some bool)) _ r p in
-      let sa = typed_sound σ Γ e (Some bool) a.0 a.1 in
-      fit_sound σ Γ t s (tree.denied bool s a.0) r (refl, sa.meets, sa.well) a.2
-  typed_sound σ Γ (E.binary s op o a b) t r p =
+      let sa = typed_sound σ Γ e (Some bool) a.0 ho tt a.1 in
+      fit_sound σ Γ t s (tree.denied bool s a.0) r (refl, sa.meets, sa.well) tt a.2
+  typed_sound σ Γ (E.binary s op o a b) t r ho ht p =
       let q = bound (operands (order_of (is_arithmetic op) t (is_bare a) (is_bare b)) (typed σ Γ a) (typed σ Γ b)) _ r p in
       operated_sound σ Γ t s o (span_of a) op q.0 r
       (operands_sound σ Γ (order_of (is_arithmetic op) t (is_bare a) (is_bare b)) (typed σ Γ a) (typed σ Γ b) q.0
-      (λ u v h. typed_sound σ Γ a u v h) (λ u v h. typed_sound σ Γ b u v h) q.1)
+      (order_built (is_arithmetic op) t (is_bare a) (is_bare b) ht) (λ u v k h. typed_sound σ Γ a u v ho k h) (λ u v k h. typed_sound σ Γ b u v ho k h) q.1)
       q.2
-  typed_sound σ Γ (E.lazy s op a b) t r p =
+  typed_sound σ Γ (E.lazy s op a b) t r ho ht p =
       let x = bound (typed σ Γ a (Some bool)) _ r p in
       let y = bound (typed σ Γ b (Some bool)) _ r x.2 in
-      let sx = typed_sound σ Γ a (Some bool) x.0 x.1 in
-      let sy = typed_sound σ Γ b (Some bool) y.0 y.1 in
-      fit_sound σ Γ t s (tree.lazy bool s op x.0 y.0) r (refl, sx.meets, sy.meets, sx.well, sy.well) y.2
-  typed_sound σ Γ (E.assign s l e) t r p =
+      let sx = typed_sound σ Γ a (Some bool) x.0 ho tt x.1 in
+      let sy = typed_sound σ Γ b (Some bool) y.0 ho tt y.1 in
+      fit_sound σ Γ t s (tree.lazy bool s op x.0 y.0) r (refl, sx.meets, sy.meets, sx.well, sy.well) tt y.2
+  typed_sound σ Γ (E.assign s l e) t r ho ht p =
       let a = bound (typed σ Γ l None) _ r p in
       let b = bound (typed σ Γ e (Some (ty_of a.0))) _ r a.2 in
-      let sb = typed_sound σ Γ e (Some (ty_of a.0)) b.0 b.1 in
-      assigned_sound σ Γ t s (span_of l) a.0 b.0 r (typed_sound σ Γ l None a.0 a.1).well sb.well sb.meets b.2
-  typed_sound σ Γ (E.update s op o l e) t r p =
+      let sa = typed_sound σ Γ l None a.0 ho tt a.1 in
+      let sb = typed_sound σ Γ e (Some (ty_of a.0)) b.0 ho sa.built b.1 in
+      assigned_sound σ Γ t s (span_of l) a.0 b.0 r sa.well sb.well sb.meets b.2
+  typed_sound σ Γ (E.update s op o l e) t r ho ht p =
       let a = bound (typed σ Γ l None) _ r p in
       let b = bound (typed σ Γ e (Some (ty_of a.0))) _ r a.2 in
-      let sb = typed_sound σ Γ e (Some (ty_of a.0)) b.0 b.1 in
-      updated_sound σ Γ t s o (span_of l) op a.0 b.0 r (typed_sound σ Γ l None a.0 a.1).well sb.well sb.meets b.2
-  typed_sound σ Γ (E.call s f es) t r p =
+      let sa = typed_sound σ Γ l None a.0 ho tt a.1 in
+      let sb = typed_sound σ Γ e (Some (ty_of a.0)) b.0 ho sa.built b.1 in
+      updated_sound σ Γ t s o (span_of l) op a.0 b.0 r sa.well sb.well sb.meets b.2
+  typed_sound σ Γ (E.call s f es) t r ho ht p =
       let g = bound (callee_of σ Γ s (as_name f)) _ r p in
       let as' = bound (typed_args σ Γ es g.0.signature.params) _ r g.2 in
-      called_sound σ Γ t s g.0 as'.0 r (called_callee σ Γ s (as_name f) g.0 g.1)
-      (args_sound σ Γ es g.0.signature.params as'.0 as'.1) as'.2
-  typed_sound σ Γ (E.block s ss) t r p =
+      let is = called_callee σ Γ s (as_name f) g.0 g.1 in
+      let b = ho.functions g.0.place g.0.signature is in
+      called_sound σ Γ t s g.0 as'.0 r is b.1 (args_sound σ Γ es g.0.signature.params as'.0 ho b.0 as'.1) as'.2
+  typed_sound σ Γ (E.block s ss) t r ho ht p =
       let o = bound (typed_stmts σ Γ ss) _ r p in
-      closed_sound σ Γ t s (without_last o.0.stmts) r (without_last_fits (signatures_at σ) (types Γ) t o.0.stmts (stmts_sound σ Γ ss o.0 o.1 unit tree.done refl)) o.2
-  typed_sound σ Γ (E.block_with s ss e) t r p =
+      closed_sound σ Γ t s (without_last o.0.stmts) r (without_last_fits (signatures_at σ) (types Γ) t o.0.stmts ht ((stmts_sound σ Γ ss o.0 ho o.1).0 unit tree.done refl)) (without_last_built t o.0.stmts ht) o.2
+  typed_sound σ Γ (E.block_with s ss e) t r ho ht p =
       let o = bound (typed_stmts σ Γ ss) _ r p in
       let a = bound (typed σ o.0.scope e t) _ r o.2 in
-      block_sound σ Γ t s o.0 (tree.last a.0) r (stmts_sound σ Γ ss o.0 o.1) (refl, (typed_sound σ o.0.scope e t a.0 a.1).well) a.2
-  typed_sound σ Γ (E.branch s None c a) t r p =
+      let so = stmts_sound σ Γ ss o.0 ho o.1 in
+      let sa = typed_sound σ o.0.scope e t a.0 so.1 ht a.1 in
+      block_sound σ Γ t s o.0 (tree.last a.0) r so.0 (refl, sa.well) sa.built a.2
+  typed_sound σ Γ (E.branch s None c a) t r ho ht p =
       let x = bound (typed σ Γ c (Some bool)) _ r p in
       let y = bound (typed σ Γ a (Some unit)) _ r x.2 in
-      let sx = typed_sound σ Γ c (Some bool) x.0 x.1 in
-      let sy = typed_sound σ Γ a (Some unit) y.0 y.1 in
-      fit_sound σ Γ t s (tree.branch unit s x.0 y.0) r (refl, sx.meets, sy.meets, sx.well, sy.well) y.2
-  typed_sound σ Γ (E.choice s None c a b) t r p =
+      let sx = typed_sound σ Γ c (Some bool) x.0 ho tt x.1 in
+      let sy = typed_sound σ Γ a (Some unit) y.0 ho tt y.1 in
+      fit_sound σ Γ t s (tree.branch unit s x.0 y.0) r (refl, sx.meets, sy.meets, sx.well, sy.well) tt y.2
+  typed_sound σ Γ (E.choice s None c a b) t r ho ht p =
       let x = bound (typed σ Γ c (Some bool)) _ r p in
       let y = bound (typed σ Γ a t) _ r x.2 in
       let z = bound (typed σ Γ b (given t y.0)) _ r y.2 in
-      let sx = typed_sound σ Γ c (Some bool) x.0 x.1 in
-      let sy = typed_sound σ Γ a t y.0 y.1 in
-      let sz = typed_sound σ Γ b (given t y.0) z.0 z.1 in
-      let sides = sides_fit t y.0 z.0 (leaves y.0) refl sz.meets in
-      fit_sound σ Γ t s (tree.choice (choice_ty y.0 z.0) s x.0 y.0 z.0) r (sx.meets, sides.0, sides.1, sx.well, sy.well, sz.well) z.2
-  typed_sound σ Γ (E.repeat s None c b) t r p =
+      let sx = typed_sound σ Γ c (Some bool) x.0 ho tt x.1 in
+      let sy = typed_sound σ Γ a t y.0 ho ht y.1 in
+      let sz = typed_sound σ Γ b (given t y.0) z.0 ho (given_built (leaves y.0) t (ty_of y.0) ht sy.built) z.1 in
+      let sides = sides_fit t y.0 z.0 (leaves y.0) refl sz.built sz.meets in
+      fit_sound σ Γ t s (tree.choice (choice_ty y.0 z.0) s x.0 y.0 z.0) r (sx.meets, sides.0, sides.1, sx.well, sy.well, sz.well) (one_built (leaves y.0) (ty_of z.0) (ty_of y.0) sz.built sy.built) z.2
+  typed_sound σ Γ (E.repeat s None c b) t r ho ht p =
       let x = bound (typed σ Γ c (Some bool)) _ r p in
       let y = bound (typed σ Γ b (Some unit)) _ r x.2 in
-      let sx = typed_sound σ Γ c (Some bool) x.0 x.1 in
-      let sy = typed_sound σ Γ b (Some unit) y.0 y.1 in
-      fit_sound σ Γ t s (tree.repeat unit s [] x.0 y.0) r (refl, tt, sx.meets, sy.meets, sx.well, sy.well) y.2
-  typed_sound σ Γ (E.attributed s as' (E.repeat v None c b)) t r p =
+      let sx = typed_sound σ Γ c (Some bool) x.0 ho tt x.1 in
+      let sy = typed_sound σ Γ b (Some unit) y.0 ho tt y.1 in
+      fit_sound σ Γ t s (tree.repeat unit s [] x.0 y.0) r (refl, tt, sx.meets, sy.meets, sx.well, sy.well) tt y.2
+  typed_sound σ Γ (E.attributed s as' (E.repeat v None c b)) t r ho ht p =
       let is = bound (gather (invariant_of Γ) as') _ r p in
       let x = bound (typed σ Γ c (Some bool)) _ r is.2 in
       let y = bound (typed σ Γ b (Some unit)) _ r x.2 in
-      let sx = typed_sound σ Γ c (Some bool) x.0 x.1 in
-      let sy = typed_sound σ Γ b (Some unit) y.0 y.1 in
-      fit_sound σ Γ t s (tree.repeat unit s is.0 x.0 y.0) r (refl, invariants_speak Γ as' is.0 is.1, sx.meets, sy.meets, sx.well, sy.well) y.2
-  typed_sound σ Γ (E.panic s m text) t r p = panicked_sound σ Γ t s m r p
-  typed_sound σ Γ e t r p = absurd (cc)
+      let sx = typed_sound σ Γ c (Some bool) x.0 ho tt x.1 in
+      let sy = typed_sound σ Γ b (Some unit) y.0 ho tt y.1 in
+      fit_sound σ Γ t s (tree.repeat unit s is.0 x.0 y.0) r (refl, invariants_speak Γ as' is.0 is.1, sx.meets, sy.meets, sx.well, sy.well) tt y.2
+  typed_sound σ Γ (E.panic s m text) t r ho ht p = panicked_sound σ Γ t s m r ht p
+  typed_sound σ Γ e t r ho ht p = absurd (cc)
 
-  stmts_sound : (σ : List Heading) (Γ : List Variable) (ss : E.Stmts) (o : Opened) → typed_stmts σ Γ ss ≡ Ok o → OpenedSound σ Γ o
-  stmts_sound σ Γ E.no_stmts o p = subst (OpenedSound σ Γ) (same_ok _ _ p) (nothing_opened σ Γ)
-  stmts_sound σ Γ (E.with_stmt s k e ss) o p =
+  stmts_sound : (σ : List Heading) (Γ : List Variable) (ss : E.Stmts) (o : Opened) → Around σ Γ → typed_stmts σ Γ ss ≡ Ok o → OpenedSound σ Γ o × Around σ o.scope
+  stmts_sound σ Γ E.no_stmts o ho p = subst (λ o. OpenedSound σ Γ o × Around σ o.scope) (same_ok (opened Γ []) o p) (nothing_opened σ Γ, ho)
+  stmts_sound σ Γ (E.with_stmt s k e ss) o ho p =
       let w = bound (step_of k) _ o p in
       let a = bound (typed σ Γ e w.0.expected) _ o w.2 in
       let c = bound (typed_stmts σ (declared Γ w.0.declares a.0) ss) _ o a.2 in
-      subst (OpenedSound σ Γ) (same_ok _ _ c.2)
-      (declared_sound σ Γ w.0.declares w.0.expected a.0 c.0 (typed_sound σ Γ e w.0.expected a.0 a.1).well (stmts_sound σ (declared Γ w.0.declares a.0) ss c.0 c.1))
+      let sa = typed_sound σ Γ e w.0.expected a.0 ho (step_may k w.0 w.1) a.1 in
+      let rest = stmts_sound σ (declared Γ w.0.declares a.0) ss c.0 (declared_built σ Γ w.0.declares a.0 ho sa.built) c.1 in
+      subst (λ o. OpenedSound σ Γ o × Around σ o.scope) (same_ok (behind (typed_stmt w.0 a.0) c.0) o c.2) (declared_sound σ Γ w.0.declares w.0.expected a.0 c.0 sa.well rest.0, rest.1)
 
-  args_sound : (σ : List Heading) (Γ : List Variable) (es : E.Exprs) (ts : List Ty) (r : TypedExprs) → typed_args σ Γ es ts ≡ Ok r → AllSound σ Γ r ts
-  args_sound σ Γ E.none ts r p = subst (λ (r : TypedExprs). AllSound σ Γ r ts) (same_ok _ _ p) (no_args σ Γ ts)
-  args_sound σ Γ (E.more e es) ts r p =
+  args_sound : (σ : List Heading) (Γ : List Variable) (es : E.Exprs) (ts : List Ty) (r : TypedExprs) → Around σ Γ → AllBuilt ts → typed_args σ Γ es ts ≡ Ok r → AllSound σ Γ r ts
+  args_sound σ Γ E.none ts r ho hs p = subst (λ (r : TypedExprs). AllSound σ Γ r ts) (same_ok _ _ p) (no_args σ Γ ts)
+  args_sound σ Γ (E.more e es) ts r ho hs p =
       let a = bound (typed σ Γ e (first_of ts)) _ r p in
       let c = bound (typed_args σ Γ es (rest_of ts)) _ r a.2 in
       subst (λ (r : TypedExprs). AllSound σ Γ r ts) (same_ok _ _ c.2)
-      (more_args σ Γ ts a.0 c.0 (typed_sound σ Γ e (first_of ts) a.0 a.1) (args_sound σ Γ es (rest_of ts) c.0 c.1))
+      (more_args σ Γ ts a.0 c.0 (typed_sound σ Γ e (first_of ts) a.0 ho (first_may ts hs) a.1) (args_sound σ Γ es (rest_of ts) c.0 ho (rest_built ts hs) c.1))

@@ -22,7 +22,7 @@ use Rattle.type_check.specs.Written.{step_of}
 use Rattle.type_check.proofs.Bound.{bound, same_ok}
 use Rattle.type_check.proofs.PartByPart.{along, refuses_then}
 
-stmt_ty : (t : Option Ty) (b : Bool) (e : TypedExpr) (ss : TypedStmts) → block_ty t (typed_stmt_of b e ss) ≡ block_ty t ss
+pub stmt_ty : (t : Option Ty) (b : Bool) (e : TypedExpr) (ss : TypedStmts) → block_ty t (typed_stmt_of b e ss) ≡ block_ty t ss
 stmt_ty t true e ss = refl
 stmt_ty t false e ss = refl
 

@@ -1,6 +1,6 @@
 -- A checked program fits, and no formula of it is refused.
-use Rattle.std.proofs.Common.{◌≡◌, ◌∙◌, suc, List, [], ◌∷◌, length, map, Option, Some, None, Result, Ok, Err, refl, ap, ap₂, sym, subst}
-use Rattle.std.specs.Prelude.{IfOk}
+use Rattle.std.proofs.Common.{◌≡◌, ◌∙◌, ℕ, zero, suc, List, [], ◌∷◌, length, map, Option, Some, None, Result, Ok, Err, refl, ap, ap₂, sym, subst}
+use Rattle.std.specs.Prelude.{IfOk, slice_get}
 use Rattle.text_core.specs.declared.refusal.SourceError.{SourceError}
 use Rattle.text_core.specs.declared.span.Span.{Span}
 use Rattle.logic_term.specs.Ty.{Ty}
@@ -35,7 +35,7 @@ use Rattle.type_check.specs.TypedExpr.{TypedExpr}
 use Rattle.type_check.specs.WellTyped.{IsBuilt, AllBuilt, ClauseSpeaksOf, ClausesSpeak, FunctionFits, EachFits, ProgramFits, signatures}
 use Rattle.type_check.specs.Written.{answer_ty, param_by, param_of, written_type}
 use Rattle.type_check.proofs.Bound.{bound, yes, same_ok}
-use Rattle.type_check.proofs.Fits.{Sound, typed_sound}
+use Rattle.type_check.proofs.Fits.{Sound, Around, MayAsk, typed_sound}
 use Rattle.type_check.proofs.Lookups.{types, signatures_at}
 use Rattle.type_check.proofs.Speaking.{assertion_speaks, assertion_speaks_of_answer}
 use Rattle.type_check.proofs.WrittenTypes.{type_built, answer_built}
@@ -101,27 +101,42 @@ clauses_speak u Γ (a ∷ as') cs p =
 
 -- ---- functions
 
-body_sound : (σ : List Heading) (Γ : List Variable) (t : Option Ty) (own : Span) (b : Body) (e : TypedExpr) → typed_body σ Γ t own b ≡ Ok e → Sound σ Γ t e
-body_sound σ Γ t own (body.Block a) e p = typed_sound σ Γ a t e p
-body_sound σ Γ t own b e p = absurd (cc)
+body_sound : (σ : List Heading) (Γ : List Variable) (t : Option Ty) (own : Span) (b : Body) (e : TypedExpr) → Around σ Γ → MayAsk t → typed_body σ Γ t own b ≡ Ok e → Sound σ Γ t e
+body_sound σ Γ t own (body.Block a) e h k p = typed_sound σ Γ a t e h k p
+body_sound σ Γ t own b e h k p = absurd (cc)
+
+-- the types of a function are built
+abbrev HasBuilt : Signature → Type 0
+HasBuilt g = AllBuilt g.params × IsBuilt g.answer
+
+abbrev HeadsBuilt : List Heading → Type 0
+HeadsBuilt [] = Unit {0}
+HeadsBuilt (h ∷ hs) = HasBuilt h.signature × HeadsBuilt hs
+
+heads_at : (hs : List Heading) (j : ℕ) (g : Signature) → HeadsBuilt hs → slice_get (signatures_at hs) j ≡ Some g → HasBuilt g
+heads_at [] j g h p = absurd (cc)
+heads_at (k ∷ hs) zero g h p = let q : k.signature ≡ g = cc in subst HasBuilt q h.0
+heads_at (k ∷ hs) (suc j) g h p = heads_at hs j g h.1 p
 
 -- what a function is typed as fits, and has the signature of the parameters and the answer that are written
 abbrev IsOf : Function → Signature → Type 0
 IsOf f g = (Γ : List Variable) × (t : Ty) × (each param_of f.params ≡ Ok Γ) × (answer_ty f.answer ≡ Ok t) × (g ≡ signature_by Γ t)
 
-function_fits : (σ : List Heading) (own : Span) (as' : List Attribute) (f : Function) (g : TypedFunction) → typed_function σ own as' f ≡ Ok g → FunctionFits (signatures_at σ) g × IsOf f g.signature
+function_fits : (σ : List Heading) (own : Span) (as' : List Attribute) (f : Function) (g : TypedFunction) → HeadsBuilt σ → typed_function σ own as' f ≡ Ok g → FunctionFits (signatures_at σ) g × IsOf f g.signature
 unfolding typed_function
-function_fits σ own as' f g p =
+function_fits σ own as' f g hs p =
     let Γ = bound (each param_of f.params) _ g p in
     let t = bound (answer_ty f.answer) _ g Γ.2 in
     let cs = bound (gather (clause_of (Some t.0) Γ.0) as') _ g t.2 in
     let e = bound (typed_body σ Γ.0 (Some t.0) own f.body) _ g cs.2 in
-    let s = body_sound σ Γ.0 (Some t.0) own f.body e.0 e.1 in
+    let params = all_built f.params Γ.0 Γ.1 in
+    let answer = answer_built f.answer t.0 t.1 in
+    let s = body_sound σ Γ.0 (Some t.0) own f.body e.0 (record { functions = λ j g q. heads_at σ j g hs q; variables = params }) answer e.1 in
     let h : TypedFunction = record { name = f.name.name; span = f.name.span; signature = signature_by Γ.0 t.0; types_at = types_at f; clauses = cs.0; body = e.0 } in
     let q : h ≡ g = same_ok _ _ e.2 in
     let fits : FunctionFits (signatures_at σ) h = record {
-      params = all_built f.params Γ.0 Γ.1;
-      answer = answer_built f.answer t.0 t.1;
+      params = params;
+      answer = answer;
       clauses = subst (λ n. ClausesSpeak n cs.0) (lengths Γ.0) (clauses_speak t.0 Γ.0 as' cs.0 cs.1);
       body = s.well;
       of_answer = s.meets;
@@ -145,6 +160,18 @@ same_signature f g h a b =
     let t : a.1 ≡ b.1 = same_ok _ _ (sym a.3 ∙ b.3) in
     a.4 ∙ ap₂ signature_by Γ t ∙ sym b.4
 
+-- the types of a heading are built
+signature_built : (f : Function) (g : Signature) → IsOf f g → HasBuilt g
+signature_built f g h = subst HasBuilt (sym h.4) (all_built f.params h.0 h.2, answer_built f.answer h.1 h.3)
+
+abbrev SomeBuilt : Option Heading → Type 0
+SomeBuilt None = Unit {0}
+SomeBuilt (Some h) = HasBuilt h.signature
+
+nothing_built : (m : Result (Unit {0}) SourceError) (o : Option Heading) → (m >>= λ nothing. yes {A = Option Heading} None) ≡ Ok o → SomeBuilt o
+nothing_built (Ok u) o p = subst SomeBuilt (same_ok None o p) tt
+nothing_built (Err e) o p = absurd (cc)
+
 -- ---- items
 
 -- an item that declares this heading is typed as this function, which fits
@@ -164,23 +191,45 @@ none_declared : {A : Type 0} (m : Result (Unit {0}) SourceError) (e : SourceErro
 none_declared (Ok u) e o p = cc
 none_declared (Err f) e o p = cc
 
-item_by_fits : (σ : List Heading) (own : Span) (as' : List Attribute) (n : ItemNode) (o : Option Heading) (g : Option TypedFunction) → declares_by own as' n ≡ Ok o → typed_by σ own as' n ≡ Ok g → ItemFits σ o g
-item_by_fits σ own as' (item.Function f) o g p q =
+item_by_fits : (σ : List Heading) (own : Span) (as' : List Attribute) (n : ItemNode) (o : Option Heading) (g : Option TypedFunction) → HeadsBuilt σ → declares_by own as' n ≡ Ok o → typed_by σ own as' n ≡ Ok g → ItemFits σ o g
+item_by_fits σ own as' (item.Function f) o g hs p q =
     let h = bound (heading_of f) _ o p in
     let k = bound (typed_function σ own as' f) _ g q in
     let e : Some h.0 ≡ o = same_ok _ _ h.2 in
     let d : Some k.0 ≡ g = same_ok _ _ k.2 in
-    let fits = function_fits σ own as' f k.0 k.1 in
+    let fits = function_fits σ own as' f k.0 hs k.1 in
     subst (λ o. ItemFits σ o g) e (subst (ItemFits σ (Some h.0)) d (fits.0, same_signature f k.0.signature h.0.signature fits.1 (heading_is f h.0 h.1)))
-item_by_fits σ own as' (item.Struct s) o g p q = both_none σ (Ok tt) o g p q
-item_by_fits σ own as' (item.Enum e) o g p q = both_none σ (Ok tt) o g p q
-item_by_fits σ own as' item.Use o g p q = both_none σ (skipped as') o g p q
-item_by_fits σ own as' item.ExternCrate o g p q = both_none σ (skipped as') o g p q
-item_by_fits σ own as' n o g p q = absurd (none_declared (skipped as') _ o p)
+item_by_fits σ own as' (item.Struct s) o g hs p q = both_none σ (Ok tt) o g p q
+item_by_fits σ own as' (item.Enum e) o g hs p q = both_none σ (Ok tt) o g p q
+item_by_fits σ own as' item.Use o g hs p q = both_none σ (skipped as') o g p q
+item_by_fits σ own as' item.ExternCrate o g hs p q = both_none σ (skipped as') o g p q
+item_by_fits σ own as' n o g hs p q = absurd (none_declared (skipped as') _ o p)
 
-item_fits : (σ : List Heading) (i : Item) (o : Option Heading) (g : Option TypedFunction) → declares i ≡ Ok o → typed_item σ i ≡ Ok g → ItemFits σ o g
+item_fits : (σ : List Heading) (i : Item) (o : Option Heading) (g : Option TypedFunction) → HeadsBuilt σ → declares i ≡ Ok o → typed_item σ i ≡ Ok g → ItemFits σ o g
 unfolding declares
-item_fits σ i o g p q = item_by_fits σ i.own i.attributes i.node o g p q
+item_fits σ i o g hs p q = item_by_fits σ i.own i.attributes i.node o g hs p q
+
+declared_built : (own : Span) (as' : List Attribute) (n : ItemNode) (o : Option Heading) → declares_by own as' n ≡ Ok o → SomeBuilt o
+declared_built own as' (item.Function f) o p =
+    let h = bound (heading_of f) _ o p in
+    subst SomeBuilt (same_ok (Some h.0) o h.2) (signature_built f h.0.signature (heading_is f h.0 h.1))
+declared_built own as' (item.Struct s) o p = nothing_built (Ok tt) o p
+declared_built own as' (item.Enum e) o p = nothing_built (Ok tt) o p
+declared_built own as' item.Use o p = nothing_built (skipped as') o p
+declared_built own as' item.ExternCrate o p = nothing_built (skipped as') o p
+declared_built own as' n o p = absurd (none_declared (skipped as') _ o p)
+
+one_more_built : (o : Option Heading) (hs : List Heading) → SomeBuilt o → HeadsBuilt hs → HeadsBuilt (with_some o hs)
+one_more_built None hs h k = k
+one_more_built (Some g) hs h k = (h, k)
+
+heads_built : (is : List Item) (hs : List Heading) → gather declares is ≡ Ok hs → HeadsBuilt hs
+unfolding declares
+heads_built [] hs p = subst HeadsBuilt (same_ok [] hs p) tt
+heads_built (i ∷ is) hs p =
+    let o = bound (declares i) _ hs p in
+    let os = bound (gather declares is) _ hs o.2 in
+    subst HeadsBuilt (same_ok (with_some o.0 os.0) hs os.2) (one_more_built o.0 os.0 (declared_built i.own i.attributes i.node o.0 o.1) (heads_built is os.0 os.1))
 
 abbrev AllFit : List Heading → List Heading → List TypedFunction → Type 0
 AllFit σ hs gs = EachFits (signatures_at σ) gs × (signatures gs ≡ signatures_at hs)
@@ -190,15 +239,15 @@ joined_fit σ (Some h) (Some g) hs gs a b = ((a.0, b.0), ap₂ (λ (s : Signatur
 joined_fit σ None None hs gs a b = b
 joined_fit σ o g hs gs a b = absurd a
 
-items_fit : (σ : List Heading) (is : List Item) (hs : List Heading) (gs : List TypedFunction) → gather declares is ≡ Ok hs → gather (typed_item σ) is ≡ Ok gs → AllFit σ hs gs
-items_fit σ [] hs gs p q = subst (λ hs. AllFit σ hs gs) (same_ok _ _ p) (subst (AllFit σ []) (same_ok _ _ q) (tt, refl))
-items_fit σ (i ∷ is) hs gs p q =
+items_fit : (σ : List Heading) (is : List Item) (hs : List Heading) (gs : List TypedFunction) → HeadsBuilt σ → gather declares is ≡ Ok hs → gather (typed_item σ) is ≡ Ok gs → AllFit σ hs gs
+items_fit σ [] hs gs b p q = subst (λ hs. AllFit σ hs gs) (same_ok _ _ p) (subst (AllFit σ []) (same_ok _ _ q) (tt, refl))
+items_fit σ (i ∷ is) hs gs b p q =
     let o = bound (declares i) _ hs p in
     let os = bound (gather declares is) _ hs o.2 in
     let g = bound (typed_item σ i) _ gs q in
     let rest = bound (gather (typed_item σ) is) _ gs g.2 in
     subst (λ hs. AllFit σ hs gs) (same_ok _ _ os.2) (subst (AllFit σ (with_some o.0 os.0)) (same_ok _ _ rest.2)
-    (joined_fit σ o.0 g.0 os.0 rest.0 (item_fits σ i o.0 g.0 o.1 g.1) (items_fit σ is os.0 rest.0 os.1 rest.1)))
+    (joined_fit σ o.0 g.0 os.0 rest.0 (item_fits σ i o.0 g.0 b o.1 g.1) (items_fit σ is os.0 rest.0 b os.1 rest.1)))
 
 -- ---- the whole
 
@@ -215,7 +264,7 @@ fits_program is p h =
     let g = bound (gather declares is >>= typed_items is) program_of p h in
     let σ = bound (gather declares is) (typed_items is) g.0 g.1 in
     let d = accepted (first_bad g.0) (yes (whole g.0)) p g.2 in
-    let f = items_fit σ.0 is σ.0 g.0 σ.1 σ.2 in
+    let f = items_fit σ.0 is σ.0 g.0 (heads_built is σ.0 σ.1) σ.1 σ.2 in
     subst ProgramFits (same_ok _ _ d.1) (subst (λ σ. EachFits σ g.0) (sym f.1) f.0)
 
 pub good_program : (is : List Item) (p : TypedProgram) → checked is ≡ Ok p → AllGood p

@@ -90,9 +90,9 @@ EachSpeaks n (a ∷ as') = SpeaksOf n a × EachSpeaks n as'
 abbrev pub IsOf : Ty → TypedExpr → Type 0
 IsOf t e = ty_of e ≡ t
 
--- it has the type, or never a value
+-- it has the type, or never a value, whichever built type is asked
 abbrev pub IsOfOrLeaves : Ty → TypedExpr → Type 0
-IsOfOrLeaves t e = IsOf t e ⊎ (leaves e ≡ true)
+IsOfOrLeaves t e = IsOf t e ⊎ ((leaves e ≡ true) × IsBuilt t)
 
 abbrev mutual
   pub IsWellTyped : List Signature → List Ty → TypedExpr → Type 0
@@ -111,13 +111,13 @@ abbrev mutual
   -- a side that leaves fits any type
   IsWellTyped σ Γ (choice t s c a b) = IsOf bool c × IsOfOrLeaves t a × IsOfOrLeaves t b × IsWellTyped σ Γ c × IsWellTyped σ Γ a × IsWellTyped σ Γ b
   IsWellTyped σ Γ (repeat t s is c b) = (t ≡ unit) × EachSpeaks (length Γ) is × IsOf bool c × IsOf unit b × IsWellTyped σ Γ c × IsWellTyped σ Γ b
-  IsWellTyped σ Γ (panics t s k) = Unit {0}
+  IsWellTyped σ Γ (panics t s k) = IsBuilt t
 
   -- the statements of a block of the type, and its last expression
   pub StatementsFit : List Signature → List Ty → Ty → TypedStmts → Type 0
   StatementsFit σ Γ t done = t ≡ unit
   StatementsFit σ Γ t (last e) = IsOf t e × IsWellTyped σ Γ e
-  StatementsFit σ Γ t (leaving e) = (leaves e ≡ true) × IsWellTyped σ Γ e
+  StatementsFit σ Γ t (leaving e) = IsBuilt t × (leaves e ≡ true) × IsWellTyped σ Γ e
   StatementsFit σ Γ t (bind e ss) = IsWellTyped σ Γ e × StatementsFit σ (Γ ++ ty_of e ∷ []) t ss
   StatementsFit σ Γ t (run e ss) = IsWellTyped σ Γ e × StatementsFit σ Γ t ss
 
