@@ -1,7 +1,7 @@
 ghost use Rattle.std.specs.Prelude.{IfOk};
-ghost use Rattle.proof_kernel.specs.LinArith.{HasRisingAtoms};
+ghost use Rattle.lin_arith.specs.Certificate.{HasRisingAtoms};
 
-use proof_kernel::{CertAnswer, Part, Row, check_certificate};
+use lin_arith::{CertAnswer, Part, Row, check_certificate};
 use std::alloc::Global;
 use std::test::Fail;
 use text_core::{Items, NoMemory};

@@ -15,9 +15,6 @@ pub mod IntroSound
 pub mod KernelLaw
 pub mod Labelled
 pub mod Labels
-pub mod LinLemmas
-pub mod LinSound
-pub mod LinSteps
 pub mod LinearNarrow
 pub mod LinearOutcome
 pub mod LinearParts

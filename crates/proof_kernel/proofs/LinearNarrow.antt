@@ -5,17 +5,17 @@ use Rattle.std.proofs.lemmas.Bool.{cases_lt}
 use Rattle.std.proofs.lemmas.List.{length-map}
 use Rattle.std.proofs.lemmas.List.Elements.{All-nil, All-cons, All-head, All-tail, All-map}
 use Rattle.std.proofs.Math.IntN.{zero-*ℤ}
-use Rattle.proof_kernel.specs.declared.lin_arith.Row.{Row}
-use Rattle.proof_kernel.specs.declared.lin_arith.Column.{Column}
-use Rattle.proof_kernel.specs.declared.lin_arith.Column.TheVariants.{Factors, Constants}
+use Rattle.lin_arith.specs.declared.certificate.Row.{Row}
+use Rattle.lin_arith.specs.declared.certificate.Column.{Column}
+use Rattle.lin_arith.specs.declared.certificate.Column.TheVariants.{Factors, Constants}
 use Rattle.proof_kernel.specs.declared.linear.Form.{Form}
 use Rattle.proof_kernel.specs.declared.step.Multiple.{Multiple}
-use Rattle.proof_kernel.specs.LinArith.{int_sum, factor_of, products, IsNarrowAt, IsNarrow, IsCertificate, HasRisingAtoms}
-use Rattle.proof_kernel.specs.LinColumns.{IsAbsent}
+use Rattle.lin_arith.specs.Certificate.{int_sum, factor_of, products, IsNarrowAt, IsNarrow, IsCertificate, HasRisingAtoms}
+use Rattle.lin_arith.specs.Columns.{IsAbsent}
 use Rattle.proof_kernel.specs.Polynomial.{Monomial, same_monomial}
 use Rattle.proof_kernel.specs.Linear.{Difference, IsNarrowDifference, row_polynomial, row_factor, row_constant, multiples, AreNarrowSums, AreNarrow, Refutes}
 use Rattle.proof_kernel.specs.LinearRows.{form_of, is_in, with_all_monomials, row_over}
-use Rattle.proof_kernel.proofs.LinLemmas.{int_sum-zero, int_sum-take_zero, combination-absent, products-absent}
+use Rattle.lin_arith.proofs.Sums.{int_sum-zero, int_sum-take_zero, combination-absent, products-absent}
 use Rattle.proof_kernel.proofs.LinearTable.{CoversAll, all_covered, coefficient-same, no_one, not_one, place_of, uncovered}
 use Rattle.proof_kernel.proofs.LinearParts.{factor_past, factor_at, atoms_rise}
 

@@ -3,14 +3,14 @@ use Rattle.std.proofs.Common.{◌≡◌, ◌↔◌, ℕ, ◌+◌, ◌<◌, List,
 use Rattle.std.specs.Prelude.{IfOk}
 use Rattle.std.proofs.lemmas.List.{length-map, get_or-map, map-append}
 use Rattle.std.proofs.lemmas.List.Elements.{All-push, All-same}
-use Rattle.proof_kernel.specs.declared.lin_arith.Row.{Row}
+use Rattle.lin_arith.specs.declared.certificate.Row.{Row}
 use Rattle.proof_kernel.specs.declared.linear.Form.{Form}
 use Rattle.proof_kernel.specs.declared.linear.LinAnswer.{LinAnswer}
 use Rattle.proof_kernel.specs.declared.linear.LinAnswer.TheVariants.{Closes, TooWide, Fails}
 use Rattle.proof_kernel.specs.declared.linear.Sides.{Sides}
 use Rattle.proof_kernel.specs.Sequent.{Sequent}
 use Rattle.proof_kernel.specs.declared.step.Multiple.{Multiple}
-use Rattle.proof_kernel.specs.LinArith.{HasRisingAtoms, IsCertificate, IsNarrow, IsFirstWide}
+use Rattle.lin_arith.specs.Certificate.{HasRisingAtoms, IsCertificate, IsNarrow, IsFirstWide}
 use Rattle.proof_kernel.specs.Polynomial.{Monomial}
 use Rattle.proof_kernel.specs.Linear.{Difference, IsNarrowDifference, AreRows, AreNarrow, Refutes, Certifies, PassesWidth}
 use Rattle.proof_kernel.specs.LinearRows.{difference, form_of, with_all_monomials, row_over, IsOutcomeOf}

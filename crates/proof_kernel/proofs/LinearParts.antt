@@ -4,12 +4,12 @@ use Rattle.std.specs.Prelude.{◌^◌, Option, Some, Result, Ok, Err, OkIff}
 use Rattle.std.specs.Result.{result_ok}
 use Rattle.std.proofs.lemmas.List.{take_all}
 use Rattle.std.proofs.Math.IntN.{+ℤ_idr}
-use Rattle.proof_kernel.specs.declared.lin_arith.Part.{Part}
-use Rattle.proof_kernel.specs.LinArith.{factor_of, HasRisingAtoms}
+use Rattle.lin_arith.specs.declared.certificate.Part.{Part}
+use Rattle.lin_arith.specs.Certificate.{factor_of, HasRisingAtoms}
 use Rattle.proof_kernel.specs.declared.linear.Form.{Form}
 use Rattle.proof_kernel.specs.Polynomial.{Monomial, coefficient}
 use Rattle.proof_kernel.specs.LinearRows.{parts_from, row_over}
-use Rattle.proof_kernel.proofs.LinLemmas.{factor_of-same, factor_of-other}
+use Rattle.lin_arith.proofs.Sums.{factor_of-same, factor_of-other}
 
 -- ---- one part more
 

@@ -8,7 +8,7 @@ use Rattle.logic_term.specs.Canonical.{canonical}
 use Rattle.logic_term.specs.Term.{negated, arith as by_op, Term, lit, apply, no_terms, and_term}
 use Rattle.proof_kernel.specs.declared.polynomial.Summand.{Summand}
 use Rattle.proof_kernel.specs.declared.step.Multiple.{Multiple}
-use Rattle.proof_kernel.specs.LinArith.{int_sum}
+use Rattle.lin_arith.specs.Certificate.{int_sum}
 use Rattle.proof_kernel.specs.Polynomial.{Monomial, same_monomial, coefficient, opposite, products, polynomial}
 use Rattle.proof_kernel.specs.Linear.{Difference, row_polynomial, row_factor, row_constant, multiples}
 use Rattle.proof_kernel.proofs.IntRing.{plus_times, one_times, times_one, times_swap, add_step}

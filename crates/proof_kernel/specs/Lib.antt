@@ -6,8 +6,6 @@ pub mod HypothesisRules
 pub mod Intro
 pub mod Kernel
 pub mod Laws
-pub mod LinArith
-pub mod LinColumns
 pub mod Linear
 pub mod LinearRows
 pub mod LocalContext

@@ -8,7 +8,7 @@ use Rattle.proof_kernel.specs.Sequent.{Sequent}
 use Rattle.proof_kernel.specs.declared.step.Multiple.{Multiple}
 use Rattle.proof_kernel.specs.declared.step.Reference.{Reference}
 use Rattle.proof_kernel.specs.declared.step.Reference.TheVariants.{Goal, Hyp, Back}
-use Rattle.proof_kernel.specs.LinArith.{int_sum, IsNarrowAt}
+use Rattle.lin_arith.specs.Certificate.{int_sum, IsNarrowAt}
 use Rattle.proof_kernel.specs.Polynomial.{Monomial, Polynomial, coefficient, added, opposite, polynomial, IsNarrowNumber, AddsNarrowly, IsNarrowTerm}
 use Rattle.proof_kernel.specs.Rules.{hypothesis, sort_of}
 

@@ -1,7 +1,7 @@
 -- The rows of the step of linear arithmetic over a table of monomials.
 use Rattle.std.specs.Prelude.{◌≡◌, ◌↔◌, ℕ, suc, ◌||◌, Bool, true, false, List, [], ◌∷◌, ◌++◌, Option, Some, if◌then◌else◌}
-use Rattle.proof_kernel.specs.declared.lin_arith.Part.{Part}
-use Rattle.proof_kernel.specs.declared.lin_arith.Row.{Row}
+use Rattle.lin_arith.specs.declared.certificate.Part.{Part}
+use Rattle.lin_arith.specs.declared.certificate.Row.{Row}
 use Rattle.proof_kernel.specs.declared.linear.Form.{Form}
 use Rattle.proof_kernel.specs.declared.linear.LinAnswer.{LinAnswer}
 use Rattle.proof_kernel.specs.declared.linear.LinAnswer.TheVariants.{Closes, TooWide}

@@ -6,7 +6,6 @@ mod hypothesis_rules;
 mod intro;
 mod kernel;
 mod laws;
-mod lin_arith;
 mod linear;
 mod local_context;
 mod opened;
@@ -23,7 +22,6 @@ pub use laws::{
     proofs_are_accepted, rules_are_sound, steps_are_refused_once, steps_give_one_result,
     steps_name_their_own, what_is_derived_is_true, wide_is_not_done,
 };
-pub use lin_arith::{CertAnswer, Part, Row, check_certificate};
 pub use linear::{LinAnswer, certifies};
 pub use sequent::Sequent;
 pub use setting::Tables;

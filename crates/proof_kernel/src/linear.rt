@@ -5,12 +5,12 @@ ghost use Rattle.proof_kernel.specs.Linear.{Difference, row_polynomial, is_math_
 ghost use Rattle.proof_kernel.specs.LinearRows.{cited, difference, form_of, IsNarrowGap, is_one, is_in, with_monomial, with_monomials, with_all_monomials, parts_from, row_over, IsOutcomeOf};
 ghost use Rattle.proof_kernel.specs.Rules.{sort_of};
 
-use crate::lin_arith::{CertAnswer, Part, Row, check_certificate};
 use crate::polynomial::{
     Polynomial, Summand, coefficient, copy_monomial, polynomial, same_monomial, subtracted,
 };
 use crate::sequent::Sequent;
 use crate::step::{Multiple, Reference};
+use lin_arith::{CertAnswer, Part, Row, check_certificate};
 use logic_term::{Term, TermBinary, TermForm, TermUnary, TyNode};
 use std::alloc::Global;
 use text_core::{Items, Name, NoMemory};

@@ -1,0 +1,3 @@
+pub mod Farkas
+pub mod Steps
+pub mod Sums

@@ -1,6 +1,0 @@
-use Rattle.std.proofs.Common.{pos, ◌≤ℤ◌}
-use Rattle.std.specs.List.{AllWithin}
-use Rattle.proof_kernel.proofs.lin_arith.first_negative.Given as goal
-
-abbrev pub invariant-loop-row : goal.invariant-loop-row
-invariant-loop-row l = AllWithin (λ m. pos 0 ≤ℤ m) l.mult 0 l.row
