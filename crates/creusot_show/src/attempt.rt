@@ -1,0 +1,65 @@
+//! How far a proof goes.
+ghost use Rattle.std.specs.Prelude.{◌≡◌, ◌≤◌, ◌<◌, ◌+◌, ◌^◌, length, OnOk};
+
+use logic_term::Obligation;
+use proof_kernel::{Kernel, Step, StepError, Tables};
+use proof_text::NumberedStep;
+use std::alloc::Global;
+use text_core::{Items, Name, NoMemory};
+
+/// Does the step; `false` where it is refused, which changes nothing.
+fn takes(alloc: Global, kernel: &mut Kernel<'_>, step: &Step) -> Result<bool, NoMemory>
+    requires { kernel.old.step + 1 < 2 ^ 32 }
+    ensures { OnOk result (kernel.new.step ≤ kernel.old.step + 1) }
+{
+    match kernel.apply(alloc, step) {
+        Ok(()) => Ok(true),
+        Err(StepError::NoMemory) => Err(NoMemory),
+        Err(_) => Ok(false),
+    }
+}
+
+/// The steps up to the first that is refused. Answers how many were done.
+pub(crate) fn steps_done(
+    alloc: Global,
+    kernel: &mut Kernel<'_>,
+    steps: &[NumberedStep],
+) -> Result<usize, NoMemory>
+    requires begun { kernel.old.step ≡ 1 }
+    requires few { length steps.now + 2 < 2 ^ 32 }
+{
+    for i in 0..steps.len() {
+        if !takes(alloc, kernel, &steps[i].step)? {
+            return Ok(i);
+        }
+    }
+    Ok(steps.len())
+}
+
+/// The names that `intro` gave in these steps.
+pub(crate) fn introduced(alloc: Global, steps: &[NumberedStep]) -> Result<Vec<Name>, NoMemory> {
+    let mut names = Vec::new(alloc);
+    for numbered in steps {
+        if let Step::Intro(given) = &numbered.step {
+            names.extend_from_slice(given.as_slice())?;
+        }
+    }
+    Ok(names)
+}
+
+/// A kernel on the obligation, in which its leading quantifiers and premises are taken off under these names, where there
+/// are any.
+pub(crate) fn opened<'a>(
+    alloc: Global,
+    obligation: &'a Obligation,
+    tables: &'a Tables,
+    names: &[Name],
+    any: bool,
+) -> Result<Kernel<'a>, NoMemory> {
+    let mut kernel = Kernel::new(alloc, obligation, tables)?;
+    if any {
+        let step = Step::Intro(Items::from_slice(alloc, names)?);
+        let _taken = takes(alloc, &mut kernel, &step)?;
+    }
+    Ok(kernel)
+}
