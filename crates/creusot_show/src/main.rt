@@ -16,7 +16,7 @@ mod skeleton_page;
 mod tests;
 mod words;
 
-use crate::page::{Page, page};
+use crate::page::{Page, make_page};
 use crate::place::Source;
 use crate::words::{Request, request_of};
 use io_edge::{FileShelf, Shelf, ShelfError};
@@ -105,7 +105,7 @@ fn shown_for<S: Shelf>(alloc: Global, shelf: &mut S, request: Request<'_>) -> Re
         name: request.proofs.unwrap_or(""),
         bytes: &proofs,
     };
-    Ok(page(alloc, request.verb, source, proofs)?)
+    Ok(make_page(alloc, request.verb, source, proofs)?)
 }
 
 fn shown<S: Shelf>(alloc: Global, shelf: &mut S, words: &[String]) -> Result<Page, Stop> {

@@ -87,7 +87,7 @@ fn page_of(
 
 /// What is shown: the page, or why the source or the proof file is refused. Errors and goals are empty where nothing is
 /// wrong. Its one error is want of memory.
-pub(crate) fn page(
+pub(crate) fn make_page(
     alloc: Global,
     verb: Verb,
     source: Source<'_>,

@@ -1,4 +1,4 @@
-use crate::page::{Verb, page};
+use crate::page::{Verb, make_page};
 use crate::place::Source;
 use std::test::Fail;
 
@@ -40,7 +40,7 @@ fn pages_are_byte_for_byte(rt: HostRuntime) -> Result<(), Fail> {
             name: "f.rs",
             bytes,
         };
-        let page = page(rt.alloc(), *verb, source, proofs)?;
+        let page = make_page(rt.alloc(), *verb, source, proofs)?;
         assert!(rt; page.text.as_str() == *expected, "row {at}");
     }
     Ok(())
