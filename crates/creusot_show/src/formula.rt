@@ -1,6 +1,4 @@
 //! Terms as contracts spell them, with the names of variables.
-ghost use Rattle.logic_term.specs.TermView.{term_size, terms_of};
-
 use logic_term::{Sort, Term, TermBinary, TermForm, TermUnary, TyNode};
 use source_kinds::{ArithOp, IntKind};
 use std::alloc::AllocError;
@@ -61,8 +59,9 @@ fn push_name(out: &mut String, names: &Names, name: Name) -> Result<(), AllocErr
     out.push_str(names.text(name).unwrap_or("_"))
 }
 
-/// The parts of a value, each after a comma but the first.
+/// The parts of a value in parentheses, each with a comma behind it.
 #[cycle(formula)]
+#[tactic(auto, using(logic_term::specs::TermFalls::each_smaller))]
 fn push_parts(out: &mut String, names: &Names, parts: &[Term]) -> Result<(), AllocError> {
     out.push('(')?;
     for i in 0..parts.len() {

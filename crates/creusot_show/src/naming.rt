@@ -1,10 +1,13 @@
 //! Names for the variables of a goal: those of the function's parameters, and `v3`, `v4` and so on for others.
-ghost use Rattle.std.specs.Prelude.{◌≤◌, ◌^◌, length};
+ghost use Rattle.std.specs.Prelude.{◌≡◌, ◌≤◌, ◌^◌, [], length};
 
 use logic_term::Term;
 use source_trees::{Function, Item, ItemNode, ParamNode};
 use std::alloc::{AllocError, Global};
 use text_core::{Items, Name, Names, NoMemory, PassError};
+
+/// The most variables that are given names.
+const MOST_NAMES: usize = 1 << 20;
 
 /// The items of a source, with the table of their names.
 #[derive(Drop)]
@@ -83,16 +86,18 @@ pub(crate) fn leads(goal: &Term) -> (usize, bool) {
     }
 }
 
-/// Names for so many variables that lead a goal of the function, in a table of names.
+/// Names for so many variables that lead a goal of the function, in a table of names; not for more than 1,048,576.
 pub(crate) fn names_for(
     alloc: Global,
     words: &Words,
     owner: &[u8],
     count: usize,
     names: &mut Names,
-) -> Result<Vec<Name>, NoMemory> {
+) -> Result<Vec<Name>, NoMemory>
+    requires { names.old ≡ [] }
+{
     let mut given = Vec::new(alloc);
-    for place in 0..count {
+    for place in 0..count.min(MOST_NAMES) {
         let text = words.variable(alloc, owner, place)?;
         given.push(names.intern(alloc, text.as_str())?)?;
     }
