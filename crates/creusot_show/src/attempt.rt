@@ -1,5 +1,7 @@
 //! How far a proof goes.
-ghost use Rattle.std.specs.Prelude.{◌≡◌, ◌≤◌, ◌<◌, ◌+◌, ◌^◌, length, OnOk};
+ghost use Rattle.std.specs.Prelude.{◌≡◌, ◌<◌, ◌+◌, ◌^◌, length, false, IfOk, Ok};
+ghost use Rattle.verify_core.specs.VerdictWords.{TakesStep};
+ghost use Rattle.creusot_show.specs.Attempt.{StopsBehind};
 
 use logic_term::Obligation;
 use proof_kernel::{Kernel, Step, StepError, Tables};
@@ -7,19 +9,22 @@ use proof_text::NumberedStep;
 use std::alloc::Global;
 use text_core::{Items, Name, NoMemory};
 
-/// Does the step; `false` where it is refused, which changes nothing.
+/// Does the step; `false` where it cannot be done, which changes nothing.
 fn takes(alloc: Global, kernel: &mut Kernel<'_>, step: &Step) -> Result<bool, NoMemory>
     requires { kernel.old.step + 1 < 2 ^ 32 }
-    ensures { OnOk result (kernel.new.step ≤ kernel.old.step + 1) }
+    ensures done { IfOk result (TakesStep kernel.old step.now kernel.new) }
+    ensures unchanged { result ≡ Ok false → kernel.new ≡ kernel.old }
 {
     match kernel.apply(alloc, step) {
         Ok(()) => Ok(true),
         Err(StepError::NoMemory) => Err(NoMemory),
-        Err(_) => Ok(false),
+        Err(StepError::UnknownStep { step: _ }) => Ok(false),
+        Err(StepError::TooWide { step: _ }) => Ok(false),
+        Err(StepError::RuleFails { step: _ }) => Ok(false),
     }
 }
 
-/// The steps up to the first that is refused. Answers how many were done.
+/// Does the steps up to the first that cannot be done. Answers how many were done.
 pub(crate) fn steps_done(
     alloc: Global,
     kernel: &mut Kernel<'_>,
@@ -27,6 +32,7 @@ pub(crate) fn steps_done(
 ) -> Result<usize, NoMemory>
     requires begun { kernel.old.step ≡ 1 }
     requires few { length steps.now + 2 < 2 ^ 32 }
+    ensures { IfOk result (StopsBehind kernel.old steps.now kernel.new) }
 {
     for i in 0..steps.len() {
         if !takes(alloc, kernel, &steps[i].step)? {

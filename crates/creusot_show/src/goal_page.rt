@@ -1,5 +1,5 @@
 //! The obligations of a source that are open, each with its place and with the sequent at which its proof ends.
-ghost use Rattle.std.specs.Prelude.{◌<◌, ◌+◌, ◌^◌, length};
+ghost use Rattle.std.specs.Prelude.{◌≡◌, ◌<◌, ◌+◌, ◌^◌, ◌×◌, length, IfSome};
 
 use crate::attempt::{introduced, opened, steps_done};
 use crate::naming::{Words, leads, names_for};
@@ -47,7 +47,9 @@ pub(crate) struct Proofs<'a> {
 
 impl<'a> Proofs<'a> {
     /// The proof of the obligation; `None` where there is none.
-    fn proof_for(&self, obligation: &Obligation) -> Option<&'a Proof> {
+    fn proof_for(&self, obligation: &Obligation) -> Option<&'a Proof>
+        ensures { IfSome result (λ proof. (proof.now.number ≡ obligation.now.number) × (proof.now.owner ≡ obligation.now.owner)) }
+    {
         for proof in self.proofs {
             if proof.number == obligation.number && proof.owner.same(&obligation.owner) {
                 return Some(proof);

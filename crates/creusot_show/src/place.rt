@@ -1,5 +1,5 @@
 //! Places in a source: file, line and column, the line, and a mark under the place.
-ghost use Rattle.std.specs.Prelude.{◌≤◌, length};
+ghost use Rattle.std.specs.Prelude.{◌≡◌, ◌≢◌, ◌<◌, ◌≤◌, ◌-◌, ℕ, get_or, length};
 
 use std::alloc::{AllocError, Global};
 use text_core::Span;
@@ -24,9 +24,11 @@ struct Line<'a> {
     behind: &'a [u8],
 }
 
-/// The first offset from `end` down whose byte before it is a line feed, or 0.
+/// The offset behind the last line feed, or 0.
 fn line_start(bytes: &[u8]) -> usize
-    ensures { result ≤ length bytes.now }
+    ensures within { result ≤ length bytes.now }
+    ensures behind { 0 < result → get_or bytes.now (result - 1) 0 ≡ 10 }
+    ensures last { (i : ℕ) → result ≤ i → i < length bytes.now → get_or bytes.now i 0 ≢ 10 }
 {
     let mut start = bytes.len();
     while start > 0 {
@@ -40,7 +42,9 @@ fn line_start(bytes: &[u8]) -> usize
 
 /// How many bytes stand before the first line feed.
 fn line_length(bytes: &[u8]) -> usize
-    ensures { result ≤ length bytes.now }
+    ensures within { result ≤ length bytes.now }
+    ensures before { result < length bytes.now → get_or bytes.now result 0 ≡ 10 }
+    ensures first { (i : ℕ) → i < result → get_or bytes.now i 0 ≢ 10 }
 {
     for i in 0..bytes.len() {
         if bytes[i] == LINE_FEED {
