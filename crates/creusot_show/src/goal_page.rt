@@ -1,5 +1,5 @@
 //! The obligations of a source that are open, each with its place and with the sequent at which its proof ends.
-ghost use Rattle.std.specs.Prelude.{◌≡◌, ◌<◌, ◌+◌, ◌^◌, ◌×◌, length, IfSome};
+ghost use Rattle.std.specs.Prelude.{◌≡◌, ◌<◌, ◌+◌, ◌^◌, length, IfSome};
 
 use crate::attempt::{introduced, opened, steps_done};
 use crate::naming::{Words, leads, names_for};
