@@ -1,5 +1,5 @@
 -- One more step.
-use Rattle.std.proofs.Common.{◌≡◌, ◌∙◌, refl, sym, ap, subst, ℕ, zero, suc, ◌+◌, ◌<◌, ◌≤◌, List, [], ◌∷◌, ◌++◌, length, take, get_or, Option, Some, slice_get, arith}
+use Rattle.std.proofs.Common.{◌≡◌, ◌∙◌, sym, ap, subst, ℕ, ◌+◌, ◌<◌, ◌≤◌, List, [], ◌∷◌, ◌++◌, length, take, get_or, arith}
 use Rattle.std.proofs.lemmas.List.{take_more, take_all, map-append}
 use Rattle.std.proofs.lemmas.Option.{get_or_from_slice_get, slice_get_within}
 use Rattle.proof_kernel.specs.declared.step.Step.{Step}
@@ -13,22 +13,19 @@ one_more_step : {k m l : Progress} {steps : List Step} (step : Step) → Runs k 
 one_more_step step none does = more does none
 one_more_step step (more first rest) does = more first (one_more_step step rest does)
 
-pub goes_on : (before : Progress) (steps : List NumberedStep) (i : ℕ) (n : NumberedStep) (k m : Progress) →
-    i < length steps → n ≡ get_or steps i n → Runs before (steps_of (take i steps)) k → Does k n.step m → Runs before (steps_of (take (i + 1) steps)) m
-goes_on before steps i n k m within is runs does =
-    let taken : take (i + 1) steps ≡ take i steps ++ n ∷ [] = take_more steps i n within ∙ ap (λ (x : NumberedStep). take i steps ++ x ∷ []) (sym is) in
-    let as_steps : steps_of (take (i + 1) steps) ≡ steps_of (take i steps) ++ n.step ∷ [] = ap steps_of taken ∙ map-append (λ (n : NumberedStep). n.step) (take i steps) (n ∷ []) in
-    subst (λ (ss : List Step). Runs before ss m) (sym as_steps) (one_more_step n.step runs does)
+pub goes_on : (before : Progress) (steps : List NumberedStep) (i : ℕ) (d : NumberedStep) (k m : Progress) →
+    i < length steps → Runs before (steps_of (take i steps)) k → Does k (get_or steps i d).step m → Runs before (steps_of (take (i + 1) steps)) m
+goes_on before steps i d k m within runs does =
+    let as_steps : steps_of (take (i + 1) steps) ≡ steps_of (take i steps) ++ (get_or steps i d).step ∷ [] =
+    ap steps_of (take_more steps i d within) ∙ map-append (λ (n : NumberedStep). n.step) (take i steps) (get_or steps i d ∷ []) in
+    subst (λ (ss : List Step). Runs before ss m) (sym as_steps) (one_more_step (get_or steps i d).step runs does)
 
-got : (steps : List NumberedStep) (i : ℕ) (n m : NumberedStep) → n ≡ get_or steps i n → slice_get steps i ≡ Some m → m ≡ n
-got steps i n m is found = sym (get_or_from_slice_get steps i m n found) ∙ sym is
-
-pub stops_there : (before : Progress) (steps : List NumberedStep) (i : ℕ) (n : NumberedStep) (k : Progress) →
-    n ≡ get_or steps i n → Runs before (steps_of (take i steps)) k → ((next : Progress) → Does k n.step next → ⊥) → StopsBehind before steps k i
-stops_there before steps i n k is runs never = record {
+pub stops_there : (before : Progress) (steps : List NumberedStep) (i : ℕ) (d : NumberedStep) (k m : Progress) →
+    m ≡ k → Runs before (steps_of (take i steps)) k → ((next : Progress) → Does k (get_or steps i d).step next → ⊥) → StopsBehind before steps m i
+stops_there before steps i d k m same runs never = subst (λ (after : Progress). StopsBehind before steps after i) (sym same) (record {
   runs = runs;
-  stops = λ m found. subst (λ (x : NumberedStep). (next : Progress) → Does k x.step next → ⊥) (sym (got steps i n m is found)) never;
-}
+  stops = λ n found. subst (λ (x : NumberedStep). (next : Progress) → Does k x.step next → ⊥) (get_or_from_slice_get steps i n d found) never;
+})
 
 pub stops_at_end : (before : Progress) (steps : List NumberedStep) (i : ℕ) (k : Progress) →
     length steps ≤ i → Runs before (steps_of (take i steps)) k → StopsBehind before steps k (length steps)

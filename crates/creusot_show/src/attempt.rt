@@ -3,14 +3,13 @@ ghost use Rattle.std.specs.Prelude.{◌≡◌, ◌<◌, ◌+◌, ◌^◌, length
 ghost use Rattle.verify_core.specs.VerdictWords.{TakesStep};
 ghost use Rattle.creusot_show.specs.Attempt.{StopsBehind};
 
-use logic_term::Obligation;
-use proof_kernel::{Kernel, Step, StepError, Tables};
+use proof_kernel::{Kernel, Step, StepError};
 use proof_text::NumberedStep;
 use std::alloc::Global;
-use text_core::{Items, Name, NoMemory};
+use text_core::{Name, NoMemory};
 
 /// Does the step; `false` where it cannot be done, which changes nothing.
-fn takes(alloc: Global, kernel: &mut Kernel<'_>, step: &Step) -> Result<bool, NoMemory>
+pub(crate) fn takes(alloc: Global, kernel: &mut Kernel<'_>, step: &Step) -> Result<bool, NoMemory>
     requires { kernel.old.step + 1 < 2 ^ 32 }
     ensures done { IfOk result (TakesStep kernel.old step.now kernel.new) }
     ensures unchanged { result ≡ Ok false → kernel.new ≡ kernel.old }
@@ -51,21 +50,4 @@ pub(crate) fn introduced(alloc: Global, steps: &[NumberedStep]) -> Result<Vec<Na
         }
     }
     Ok(names)
-}
-
-/// A kernel on the obligation, in which its leading quantifiers and premises are taken off under these names, where there
-/// are any.
-pub(crate) fn opened<'a>(
-    alloc: Global,
-    obligation: &'a Obligation,
-    tables: &'a Tables,
-    names: &[Name],
-    any: bool,
-) -> Result<Kernel<'a>, NoMemory> {
-    let mut kernel = Kernel::new(alloc, obligation, tables)?;
-    if any {
-        let step = Step::Intro(Items::from_slice(alloc, names)?);
-        let _taken = takes(alloc, &mut kernel, &step)?;
-    }
-    Ok(kernel)
 }

@@ -1,8 +1,9 @@
 //! The obligations of a source that are open, each with its place and with the sequent at which its proof ends.
 ghost use Rattle.std.specs.Prelude.{◌≡◌, ◌<◌, ◌+◌, ◌^◌, length, IfSome};
 
-use crate::attempt::{introduced, opened, steps_done};
-use crate::naming::{Words, leads, names_for};
+use crate::attempt::{introduced, steps_done};
+use crate::naming::Words;
+use crate::opening::{Intro, push_opened};
 use crate::place::{Source, marked_line, place_text};
 use crate::sequent_page::push_sequent;
 use logic_term::Obligation;
@@ -87,18 +88,17 @@ fn push_unproved(
     accepted: Accepted<'_>,
     obligation: &Obligation,
 ) -> Result<(), NoMemory> {
-    let goal = obligation.goal.term(alloc)?;
-    let (count, any) = leads(&goal);
-    let mut names = Names::new(alloc);
-    let owner = obligation.owner.bytes();
-    let given = names_for(alloc, accepted.words, owner, count, &mut names)?;
-    let kernel = opened(alloc, obligation, &accepted.program.tables, &given, any)?;
+    let intro = Intro::of(alloc, accepted.words, obligation)?;
     push_heading(alloc, out, accepted.source, obligation)?;
     out.push_str("    no proof\n")?;
-    match kernel.first() {
-        Some(q) => push_sequent(alloc, out, &names, q, &given, 2, "    "),
-        None => Ok(()),
-    }
+    push_opened(
+        alloc,
+        out,
+        obligation,
+        &accepted.program.tables,
+        &intro,
+        "    ",
+    )
 }
 
 /// The line of the step that is refused, or of the `end` where sequents are left.

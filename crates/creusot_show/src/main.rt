@@ -8,6 +8,7 @@ mod formula;
 mod goal_page;
 mod hint;
 mod naming;
+mod opening;
 mod page;
 mod place;
 mod sequent_page;

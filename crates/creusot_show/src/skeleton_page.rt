@@ -1,12 +1,10 @@
 //! A proof file to begin with: each obligation with its goal as a comment, and an `intro` with names.
-use crate::attempt::opened;
 use crate::goal_page::{Accepted, kind_text};
-use crate::naming::{leads, names_for};
+use crate::opening::{Intro, push_opened};
 use crate::place::place_text;
-use crate::sequent_page::push_sequent;
 use logic_term::Obligation;
 use std::alloc::Global;
-use text_core::{Name, Names, NoMemory};
+use text_core::NoMemory;
 
 /// `# FILE:LINE:COLUMN: KIND`
 fn push_comment(
@@ -22,27 +20,26 @@ fn push_comment(
 }
 
 /// `intro x y`
-fn push_intro(out: &mut String, names: &Names, given: &[Name]) -> Result<(), NoMemory> {
+fn push_intro(out: &mut String, intro: &Intro) -> Result<(), NoMemory> {
     out.push_str("intro")?;
-    for name in given {
+    for name in &intro.given {
         out.push(' ')?;
-        out.push_str(names.text(*name).unwrap_or("_"))?;
+        out.push_str(intro.names.text(*name).unwrap_or("_"))?;
     }
     Ok(out.push('\n')?)
 }
 
 /// The lines of a proof that is to be written.
 fn push_proof(
+    alloc: Global,
     out: &mut String,
-    names: &Names,
     obligation: &Obligation,
-    owner: &str,
-    given: &[Name],
-    any: bool,
+    intro: &Intro,
 ) -> Result<(), NoMemory> {
+    let owner = String::from_utf8_lossy(alloc, obligation.owner.bytes())?;
     writeln!(out, "proof {} {owner}", obligation.number)?;
-    if any {
-        push_intro(out, names, given)?;
+    if intro.any {
+        push_intro(out, intro)?;
     }
     Ok(out.push_str("end\n")?)
 }
@@ -54,17 +51,17 @@ fn push_obligation(
     accepted: Accepted<'_>,
     obligation: &Obligation,
 ) -> Result<(), NoMemory> {
-    let goal = obligation.goal.term(alloc)?;
-    let (count, any) = leads(&goal);
-    let mut names = Names::new(alloc);
-    let owner = String::from_utf8_lossy(alloc, obligation.owner.bytes())?;
-    let given = names_for(alloc, accepted.words, owner.as_bytes(), count, &mut names)?;
-    let kernel = opened(alloc, obligation, &accepted.program.tables, &given, any)?;
+    let intro = Intro::of(alloc, accepted.words, obligation)?;
     push_comment(alloc, out, accepted, obligation)?;
-    if let Some(q) = kernel.first() {
-        push_sequent(alloc, out, &names, q, &given, 2, "#     ")?;
-    }
-    push_proof(out, &names, obligation, owner.as_str(), &given, any)
+    push_opened(
+        alloc,
+        out,
+        obligation,
+        &accepted.program.tables,
+        &intro,
+        "#     ",
+    )?;
+    push_proof(alloc, out, obligation, &intro)
 }
 
 /// The file: a proof of each obligation, in order.
