@@ -256,7 +256,7 @@ fn lines_but_comments_are_utf_8(rt: HostRuntime) {
 }
 
 /// Words of rules with another rest than theirs, and words of no step.
-const BAD_RULES: [&str; 32] = [
+const BAD_RULES: [&str; 44] = [
     "refl 1.1",
     "true ",
     "left 1.1",
@@ -289,9 +289,21 @@ const BAD_RULES: [&str; 32] = [
     "Refl",
     "antisymm",
     "modus 1.1 1.2",
+    "rewrite",
+    "rewrite goal",
+    "rewrite 1.1 1.2",
+    "rewrite 1.1 in",
+    "rewrite 1.1 in goal",
+    "rewrite 1.1  in 1.2",
+    "rewrite 1.1 in 1.2 ",
+    "rewrite in 1.1",
+    "rewrite <1.1",
+    "rewrite <",
+    "rewrite < < 1.1",
+    "rewrite > 1.1",
 ];
 
-const RULES: [&str; 17] = [
+const RULES: [&str; 21] = [
     "refl",
     "true",
     "left",
@@ -309,6 +321,10 @@ const RULES: [&str; 17] = [
     "mul 1.1 1.1",
     "absurd 0.1",
     "mp 0.0 0.0",
+    "rewrite 1.1",
+    "rewrite 1.1 in 0.2",
+    "rewrite < 1.1",
+    "rewrite < 4294967295.0 in 1.1",
 ];
 
 /// The first bad line of a file in which this is the second step.

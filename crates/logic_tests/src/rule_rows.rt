@@ -232,6 +232,47 @@ const NOT_BY_TWO: [(&str, &str, u32); 11] = [
     ),
 ];
 
+/// Rules that put an equation into the goal, or into a hypothesis.
+const BY_EQUATION: [(&str, &str); 18] = [
+    ("ZW>=zw><w0<z0", "intro z w\nrewrite 1.1\nhyp 1.2\n"),
+    ("ZW>=zw><z0<w0", "intro z w\nrewrite < 1.1\nhyp 1.2\n"),
+    ("ZW>=zw><z0<w0", "intro z w\nrewrite 1.1 in 1.2\nhyp 2.1\n"),
+    ("ZW>=zw><w0<z0", "intro z w\nrewrite < 1.1 in 1.2\nhyp 2.1\n"),
+    // Every occurrence, and what is put is not looked into.
+    ("ZW>=zw=*z+z1*w+w1", "intro z w\nrewrite 1.1\nrefl\n"),
+    ("ZW>=z+z1><*+z1+z10<*zz0", "intro z w\nrewrite 1.1\nhyp 1.2\n"),
+    ("ZW>=+z1w><+w10<++z110", "intro z w\nrewrite 1.1\nhyp 1.2\n"),
+    ("ZW>=z+z1=+z1++z11", "intro z w\nrewrite 1.1 in 1.1\nhyp 2.1\n"),
+    // No occurrence; and a hypothesis that stays.
+    ("ZW>=zw><w0<w0", "intro z w\nrewrite 1.1\nhyp 1.2\n"),
+    ("ZW>=zw><w0<w0", "intro z w\nrewrite 1.1 in 1.2\nhyp 2.1\n"),
+    ("ZW>=zw><z0<z0", "intro z w\nrewrite 1.1 in 1.2\nhyp 1.2\n"),
+    // The normal form.
+    ("X>=xi=@x5", "intro x\nrewrite 1.1\nrefl\n"),
+    ("X>=xi>=@x5=55", "intro x\nrewrite 1.1 in 1.2\nhyp 2.1\n"),
+    // Under quantifiers: what is free alone, nothing captured, and up to bound names.
+    ("ZW>=zw>X<@xwX<@xz", "intro z w\nrewrite 1.1\nhyp 1.2\n"),
+    ("XZ>=z@x>Y<@y@xX<@xz", "intro x z\nrewrite 1.1\nhyp 1.2\n"),
+    ("XZ>=@xz>Y<@y0X<@x0", "intro x z\nrewrite 1.1\nhyp 1.2\n"),
+    ("XZ>=@xz>X<@xzY<@y@x", "intro x z\nrewrite < 1.1 in 1.2\nhyp 2.1\n"),
+    ("ZW>=X<@xc<z0>Y<@yc<z0", "intro z w\nrewrite 1.1 in 1.2\nhyp 2.1\n"),
+];
+
+const NOT_BY_EQUATION: [(&str, &str, u32); 12] = [
+    ("ZW>=zw><z0<w0", "intro z w\nrewrite 1.1\nhyp 1.2\n", 3),
+    ("ZW>=zw><w0<z0", "intro z w\nrewrite < 1.1\nhyp 1.2\n", 3),
+    ("ZW>=zw><z0<w0", "intro z w\nrewrite 1.1 in 1.2\nhyp 1.2\n", 3),
+    ("ZW>=zw><z0<w0", "intro z w\nrewrite 1.1 in 1.2\nhyp 2.2\n", 3),
+    ("ZW>=zw><z0<w0", "intro z w\nrewrite 1.2\n", 2),
+    ("ZW>=zw><z0<w0", "intro z w\nrewrite 1.3\n", 2),
+    ("ZW>=zw><z0<w0", "intro z w\nrewrite 1.1 in 1.3\n", 2),
+    ("ZW>=zw><z0<w0", "intro z w\nrewrite < 1.3 in 1.1\n", 2),
+    ("ZW>lzw><z0<w0", "intro z w\nrewrite 1.1\n", 2),
+    ("ZW>!=zw><z0<w0", "intro z w\nrewrite 1.1\n", 2),
+    ("XZ>=z@x>X<@x@xX<@xz", "intro x z\nrewrite 1.1\nhyp 1.2\n", 3),
+    ("XZ>=@xz>X<z0X<@x0", "intro x z\nrewrite 1.1\nhyp 1.2\n", 3),
+];
+
 fn expect_closed(rt: &impl Abort, alloc: Global, rows: &[(&str, &str)]) -> Result<(), Fail> {
     for (goal, steps) in rows {
         assert!(rt; is_closed(alloc, *goal, *steps)?, "{goal} by {steps}");
@@ -267,8 +308,14 @@ fn by_the_forms_of_two_hypotheses(rt: HostRuntime) -> Result<(), Fail> {
     expect_refused(&rt, rt.alloc(), &NOT_BY_TWO)
 }
 
+#[test]
+fn by_an_equation(rt: HostRuntime) -> Result<(), Fail> {
+    expect_closed(&rt, rt.alloc(), &BY_EQUATION)?;
+    expect_refused(&rt, rt.alloc(), &NOT_BY_EQUATION)
+}
+
 /// Steps that cite a label of no step above them.
-const UNKNOWN: [&str; 8] = [
+const UNKNOWN: [&str; 12] = [
     "cases 2.1\n",
     "absurd 3.1\n",
     "drop 0.1\n",
@@ -277,6 +324,10 @@ const UNKNOWN: [&str; 8] = [
     "mp 1.1 2.1\n",
     "absurd 1.1 0.1\n",
     "mul 9.1 1.1\n",
+    "rewrite 2.1\n",
+    "rewrite 1.1 in 2.1\n",
+    "rewrite < 0.1\n",
+    "rewrite < 1.1 in 0.1\n",
 ];
 
 #[test]

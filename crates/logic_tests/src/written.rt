@@ -38,7 +38,7 @@ fn number(letter: u8) -> Option<i128> {
     })
 }
 
-/// What stands alone: a name, a number, `T` and `F`.
+/// What stands alone: a name, a number, `i` for 5 as an `i32`, `T` and `F`.
 fn leaf(alloc: Global, letter: u8) -> Result<Option<Term>, NoMemory> {
     if let Some(name) = variable(letter) {
         return Ok(Some(Term::var(alloc, name)?));
@@ -47,6 +47,7 @@ fn leaf(alloc: Global, letter: u8) -> Result<Option<Term>, NoMemory> {
         return Ok(Some(Term::integer(alloc, number)?));
     }
     match letter {
+        b'i' => Ok(Some(Term::lit(alloc, 5, Ty::int(IntKind::I32))?)),
         b'T' => Ok(Some(Term::truth(alloc, true)?)),
         b'F' => Ok(Some(Term::truth(alloc, false)?)),
         _ => Ok(None),

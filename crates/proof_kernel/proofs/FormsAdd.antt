@@ -1,5 +1,6 @@
 -- What a step by the form of the goal or of hypotheses cites is there, and what it adds is its own.
-use Rattle.std.proofs.Common.{◌≡◌, ℕ, suc, Bool, true, false, cond, List, [], ◌∷◌, map, Option, Some, None, subst}
+use Rattle.std.proofs.Common.{◌≡◌, ℕ, suc, Bool, true, false, cond, List, [], ◌∷◌, map, Option, Some, None, refl, subst}
+use Rattle.std.specs.Option.{option_map}
 use Rattle.text_core.specs.declared.name.Name.{Name}
 use Rattle.logic_term.specs.declared.kinds.Label2.{Label2}
 use Rattle.logic_term.specs.Term.{Term, not}
@@ -10,13 +11,18 @@ use Rattle.proof_kernel.specs.declared.step.HypothesisRule.{HypothesisRule}
 use Rattle.proof_kernel.specs.declared.step.HypothesisRule.TheVariants.{Cases, Absurd, Drop, Revert}
 use Rattle.proof_kernel.specs.declared.step.PairRule.{PairRule}
 use Rattle.proof_kernel.specs.declared.step.PairRule.TheVariants.{ModusPonens, Contradiction, Product}
+use Rattle.proof_kernel.specs.declared.step.Rewriting.{Rewriting}
+use Rattle.proof_kernel.specs.declared.step.Step.TheVariants.{Rewrite}
+use Rattle.proof_kernel.specs.declared.step.Target.{Target}
+use Rattle.proof_kernel.specs.declared.step.Target.TheVariants as targets
 use Rattle.proof_kernel.specs.GoalRules.{is_reflexive, is_true, left_of, right_of, denied_of, both_ways, both_orders, to_show, to_show_all, to_refute, goal_rule}
 use Rattle.proof_kernel.specs.HypothesisRules.{is_false, cases_of, in_cases, on_hypothesis, hypothesis_rule}
 use Rattle.proof_kernel.specs.PairRules.{concluded, is_denied_by, distance, product, adding, on_two, pair_rule}
+use Rattle.proof_kernel.specs.RewriteRules.{rewritten, changing, rewrite_rule}
 use Rattle.proof_kernel.specs.Rules.{label, same_label, hypothesis, without, labelled, with_goal, with_hyps, closed_if}
-use Rattle.proof_kernel.specs.Steps.{IsLabelOf}
+use Rattle.proof_kernel.specs.Steps.{label_of_target, labels_of, IsLabelOf}
 use Rattle.proof_kernel.proofs.Each.{Each, Has, each_and}
-use Rattle.proof_kernel.proofs.FormsFound.{same_some, one_found, both_found}
+use Rattle.proof_kernel.proofs.FormsFound.{same_some, one_found, both_found, rewriting_found}
 
 -- ---- what is cited
 
@@ -25,6 +31,17 @@ hypothesis_there s q ps r l e = let f = one_found r s l q (hypothesis l q.hyps) 
 
 pub pair_there : (s : ℕ) (q : Sequent) (ps : List Sequent) (r : PairRule) (l m : Label2) → pair_rule r s l m q ≡ Some ps → IsLabelOf q l × IsLabelOf q m
 pair_there s q ps r l m e = let f = both_found r s q (hypothesis l q.hyps) (hypothesis m q.hyps) ps e in ((f.0, f.2), (f.1, f.3))
+
+target_there : (s : ℕ) (q : Sequent) (ps : List Sequent) (to : Target) (f : Term → Term) → changing s q to f ≡ Some ps → Each (IsLabelOf q) (label_of_target to)
+target_there s q ps targets.Goal f e = tt
+target_there s q ps (targets.Hyp l) f e = (added_there (hypothesis l q.hyps) e, tt)
+  where
+    added_there : (o : Option Term) → adding s q (option_map f o) ≡ Some ps → (t : Term) × (o ≡ Some t)
+    added_there None g = absurd (cc)
+    added_there (Some t) g = (t, refl)
+
+pub rewriting_there : (s : ℕ) (q : Sequent) (ps : List Sequent) (r : Rewriting) → rewrite_rule r s q ≡ Some ps → Each (IsLabelOf q) (labels_of (Rewrite r))
+rewriting_there s q ps r e = let f = rewriting_found r s q ps e in ((f.0, f.2), target_there s q ps r.target (rewritten f.1.0 f.1.1) f.4)
 
 -- ---- what is added
 
@@ -109,3 +126,10 @@ module _ (P : Label2 → Type 0) (N : Name → Type 0) (s : ℕ) (own : (k : ℕ
 
   pub pair_has : (r : PairRule) (l m : Label2) → pair_rule r s l m q ≡ Some ps → Each (Has P N) ps
   pair_has r l m e = let f = both_found r s q (hypothesis l q.hyps) (hypothesis m q.hyps) ps e in two_have r f.0 f.1 f.4
+
+  changing_has : (to : Target) (f : Term → Term) → changing s q to f ≡ Some ps → Each (Has P N) ps
+  changing_has targets.Goal f e = these_have _ e (has, tt)
+  changing_has (targets.Hyp l) f e = adding_has (option_map f (hypothesis l q.hyps)) e
+
+  pub rewriting_has : (r : Rewriting) → rewrite_rule r s q ≡ Some ps → Each (Has P N) ps
+  rewriting_has r e = let f = rewriting_found r s q ps e in changing_has r.target (rewritten f.1.0 f.1.1) f.4

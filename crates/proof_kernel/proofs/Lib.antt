@@ -4,6 +4,8 @@ pub mod Conjuncts
 pub mod Derived
 pub mod DroppedLaw
 pub mod Each
+pub mod ExchangeLaw
+pub mod ExchangeWalk
 pub mod FormsAdd
 pub mod FormsFound
 pub mod Found
@@ -33,6 +35,7 @@ pub mod Operands
 pub mod PairSound
 pub mod PolynomialSteps
 pub mod PolynomialValue
+pub mod RewriteSound
 pub mod SortValue
 pub mod Sound
 pub mod Taken

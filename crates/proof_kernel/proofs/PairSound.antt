@@ -66,7 +66,7 @@ module _ (S : Structure) (ρ : Env) where
       λ n. f x refl (λ a. g y refl (λ b. subst (λ (u : Term). Holds S u ρ) (same_some _ t e) (times_is x y a b) n))
 
 module _ (S : Structure) (s : ℕ) (q : Sequent) (ps : List Sequent) (h : AllTrueAt S ps) where
-  adding_sound : (o : Option Term) (ρ : Env) → adding s q o ≡ Some ps → InSorts S q.vars ρ → AllHold S q.hyps ρ → ((t : Term) → o ≡ Some t → Holds S t ρ) → Holds S q.goal ρ
+  pub adding_sound : (o : Option Term) (ρ : Env) → adding s q o ≡ Some ps → InSorts S q.vars ρ → AllHold S q.hyps ρ → ((t : Term) → o ≡ Some t → Holds S t ρ) → Holds S q.goal ρ
   adding_sound None ρ e z k f = absurd (cc)
   adding_sound (Some t) ρ e z k f = (these_true S _ ps e h).0 ρ z (hyps_more S q.hyps _ ρ k (f t refl, tt))
 

@@ -15,13 +15,15 @@ use Rattle.proof_kernel.specs.declared.step.Step.{Step}
 use Rattle.proof_kernel.specs.declared.step.GoalRule.{GoalRule}
 use Rattle.proof_kernel.specs.declared.step.HypothesisRule.{HypothesisRule}
 use Rattle.proof_kernel.specs.declared.step.PairRule.{PairRule}
-use Rattle.proof_kernel.specs.declared.step.Step.TheVariants.{Intro, Hyp, Split, Range, Lin, OnGoal, OnHypothesis, OnTwo}
+use Rattle.proof_kernel.specs.declared.step.Rewriting.{Rewriting}
+use Rattle.proof_kernel.specs.declared.step.Step.TheVariants.{Intro, Hyp, Split, Range, Lin, OnGoal, OnHypothesis, OnTwo, Rewrite}
 use Rattle.proof_kernel.specs.Sequent.{sequent_of}
 use Rattle.proof_kernel.specs.Setting.{Setting, setting_of}
 use Rattle.proof_kernel.specs.Linear.{Certifies}
 use Rattle.proof_kernel.specs.GoalRules.{goal_rule}
 use Rattle.proof_kernel.specs.HypothesisRules.{hypothesis_rule}
 use Rattle.proof_kernel.specs.PairRules.{pair_rule}
+use Rattle.proof_kernel.specs.RewriteRules.{rewrite_rule}
 use Rattle.proof_kernel.specs.Rules.{hypothesis, sort_of, with_goal, Intros, TakesSome, conjuncts, ranged}
 
 -- step number s makes these premises of the sequent
@@ -34,6 +36,7 @@ pub data Gives (w : Setting) (s : ℕ) (q : Sequent) : Step → List Sequent →
   by_goal : {r : GoalRule} {ps : List Sequent} → goal_rule r s q ≡ Some ps → Gives w s q (OnGoal r) ps
   by_hypothesis : {r : HypothesisRule} {l : Label2} {ps : List Sequent} → hypothesis_rule r s l q ≡ Some ps → Gives w s q (OnHypothesis r l) ps
   by_two : {r : PairRule} {l m : Label2} {ps : List Sequent} → pair_rule r s l m q ≡ Some ps → Gives w s q (OnTwo r l m) ps
+  by_rewriting : {r : Rewriting} {ps : List Sequent} → rewrite_rule r s q ≡ Some ps → Gives w s q (Rewrite r) ps
 
 -- what the step cites besides hypotheses is true in the structure; no step cites anything else yet
 abbrev pub CitedAreTrue : Setting → Structure → Step → Type 0
@@ -45,6 +48,7 @@ CitedAreTrue w S (Lin ms) = Unit {0}
 CitedAreTrue w S (OnGoal r) = Unit {0}
 CitedAreTrue w S (OnHypothesis r l) = Unit {0}
 CitedAreTrue w S (OnTwo r l m) = Unit {0}
+CitedAreTrue w S (Rewrite r) = Unit {0}
 
 -- the steps, numbered from s, lead from the first sequents to the second; each acts on the first and puts its premises there
 pub data Derives (w : Setting) : ℕ → List Sequent → List Step → List Sequent → Type 0 where

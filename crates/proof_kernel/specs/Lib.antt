@@ -1,6 +1,8 @@
 pub mod Accepts
 pub mod Derivation
 pub mod Dropped
+pub mod ExchangeSteps
+pub mod Exchanged
 pub mod GoalRules
 pub mod HypothesisRules
 pub mod Intro
@@ -18,6 +20,7 @@ pub mod Polynomial
 pub mod PolynomialCode
 pub mod Progress
 pub mod ProgressCode
+pub mod RewriteRules
 pub mod Rules
 pub mod Sequent
 pub mod SequentCode

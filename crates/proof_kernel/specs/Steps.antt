@@ -9,13 +9,19 @@ use Rattle.proof_kernel.specs.Sequent.{Sequent}
 use Rattle.proof_kernel.specs.declared.step.Reference.{Reference}
 use Rattle.proof_kernel.specs.declared.step.Reference.TheVariants.{Goal, Hyp as Of, Back}
 use Rattle.proof_kernel.specs.declared.step.Step.{Step}
-use Rattle.proof_kernel.specs.declared.step.Step.TheVariants.{Intro, Hyp, Split, Range, Lin, OnGoal, OnHypothesis, OnTwo}
+use Rattle.proof_kernel.specs.declared.step.Target.{Target}
+use Rattle.proof_kernel.specs.declared.step.Target.TheVariants as targets
+use Rattle.proof_kernel.specs.declared.step.Step.TheVariants.{Intro, Hyp, Split, Range, Lin, OnGoal, OnHypothesis, OnTwo, Rewrite}
 use Rattle.proof_kernel.specs.Rules.{hypothesis, sort_of}
 
 abbrev pub labels_in : Reference → List Label2
 labels_in Goal = []
 labels_in (Of l) = l ∷ []
 labels_in (Back l) = l ∷ []
+
+abbrev pub label_of_target : Target → List Label2
+label_of_target targets.Goal = []
+label_of_target (targets.Hyp l) = l ∷ []
 
 -- the labels of the hypotheses that the step cites
 abbrev pub labels_of : Step → List Label2
@@ -27,6 +33,7 @@ labels_of (Lin ms) = flat_map (λ m. labels_in m.of) ms
 labels_of (OnGoal r) = []
 labels_of (OnHypothesis r l) = l ∷ []
 labels_of (OnTwo r l m) = l ∷ m ∷ []
+labels_of (Rewrite r) = r.equation ∷ label_of_target r.target
 
 -- the names that the step gives to variables of its premises
 abbrev pub new_names : Step → List Name
@@ -38,6 +45,7 @@ new_names (Lin ms) = []
 new_names (OnGoal r) = []
 new_names (OnHypothesis r l) = []
 new_names (OnTwo r l m) = []
+new_names (Rewrite r) = []
 
 -- ---- what is there, and what is added
 

@@ -6,17 +6,20 @@ ghost use Rattle.proof_kernel.specs.Accepts.{begun};
 ghost use Rattle.proof_kernel.specs.Kernel.{Applies, CanBeDone, FitsNoRule, IsTooWide, IsWide, NothingApplies, UnlessNoMemory, first_of, is_above, cites_above};
 ghost use Rattle.proof_kernel.specs.Made.{IsMade, IsMadeFirst, others_of};
 ghost use Rattle.proof_kernel.specs.Setting.{setting};
-ghost use Rattle.proof_kernel.specs.Steps.{labels_in};
+ghost use Rattle.proof_kernel.specs.Steps.{labels_in, labels_of};
 
 use crate::goal_rules::goal_rule;
 use crate::hypothesis_rules::hypothesis_rule;
 use crate::intro::intro;
 use crate::linear::{LinAnswer, certifies};
 use crate::pair_rules::pair_rule;
+use crate::rewrite_rules::rewrite_rule;
 use crate::rules::{is_hypothesis, one_premise, range, split};
 use crate::sequent::Sequent;
 use crate::setting::{Scope, Tables};
-use crate::step::{GoalRule, HypothesisRule, Multiple, PairRule, Reference, Step};
+use crate::step::{
+    GoalRule, HypothesisRule, Multiple, PairRule, Reference, Rewriting, Step, Target,
+};
 use logic_term::{Label2, Obligation};
 use std::alloc::Global;
 use std::marker::Model;
@@ -95,6 +98,16 @@ fn are_in_order(step: u32, multiples: &[Multiple]) -> bool
     multiples.iter().all(|m| is_in_order(step, m.of))
 }
 
+fn is_rewriting_in_order(step: u32, rewriting: Rewriting) -> bool
+    ensures { result ≡ list_all (is_above step) (labels_of (kinds.Rewrite rewriting)) }
+{
+    let is_target_above = match rewriting.target {
+        Target::Goal => true,
+        Target::Hyp(label) => is_label_above(step, label),
+    };
+    is_label_above(step, rewriting.equation) && is_target_above
+}
+
 /// Whether each step that the step with this number cites is above it.
 fn cites_in_order(number: u32, step: &Step) -> bool
     ensures { result ≡ cites_above number step.now }
@@ -106,6 +119,7 @@ fn cites_in_order(number: u32, step: &Step) -> bool
         Step::OnTwo(_, first, second) => {
             is_label_above(number, *first) && is_label_above(number, *second)
         }
+        Step::Rewrite(rewriting) => is_rewriting_in_order(number, *rewriting),
         Step::Intro(_) | Step::Split | Step::Range(_) | Step::OnGoal(_) => true,
     }
 }
@@ -248,6 +262,21 @@ fn by_two(
     }
 }
 
+fn by_rewriting(
+    alloc: Global,
+    scope: &Scope<'_>,
+    number: u32,
+    rewriting: Rewriting,
+    q: &Sequent,
+) -> Result<Made, NoMemory>
+    ensures { IfOk result (λ made. IsMade (setting scope.now) number q.now (kinds.Rewrite rewriting) made) }
+{
+    match rewrite_rule(alloc, rewriting, number, q)? {
+        None => Ok(Made::Nothing),
+        Some(premises) => Ok(Made::Premises(premises)),
+    }
+}
+
 /// What the step with this number makes of the sequent.
 fn made_of(
     alloc: Global,
@@ -269,6 +298,7 @@ fn made_of(
         Step::OnTwo(rule, first, second) => {
             by_two(alloc, scope, number, *rule, *first, *second, q)
         }
+        Step::Rewrite(rewriting) => by_rewriting(alloc, scope, number, *rewriting, q),
     }
 }
 

@@ -1,6 +1,7 @@
 //! The kernel: sequents, the steps of proofs, and what each step makes of a sequent.
 #![tactic(auto)]
 
+mod exchange;
 mod goal_rules;
 mod hypothesis_rules;
 mod intro;
@@ -11,6 +12,7 @@ mod local_context;
 mod opened;
 mod pair_rules;
 mod polynomial;
+mod rewrite_rules;
 mod rules;
 mod sequent;
 mod setting;
@@ -25,4 +27,6 @@ pub use laws::{
 pub use linear::{LinAnswer, certifies};
 pub use sequent::Sequent;
 pub use setting::Tables;
-pub use step::{GoalRule, HypothesisRule, Multiple, PairRule, Reference, Step};
+pub use step::{
+    Direction, GoalRule, HypothesisRule, Multiple, PairRule, Reference, Rewriting, Step, Target,
+};

@@ -64,6 +64,31 @@ pub enum PairRule {
     Product,
 }
 
+/// Which side of an equation is replaced by the other.
+#[derive(Clone, Copy)]
+pub enum Direction {
+    /// The first one.
+    Forward,
+    /// The second one.
+    Backward,
+}
+
+/// What a step changes.
+#[derive(Clone, Copy)]
+pub enum Target {
+    Goal,
+    /// A hypothesis, which stays: what it becomes is a new one.
+    Hyp(Label2),
+}
+
+/// Puts the equation, a hypothesis, into the target.
+#[derive(Clone, Copy)]
+pub struct Rewriting {
+    pub direction: Direction,
+    pub equation: Label2,
+    pub target: Target,
+}
+
 /// A step of a proof. It acts on the first sequent and puts its premises in its place.
 #[derive(Drop)]
 pub enum Step {
@@ -83,4 +108,6 @@ pub enum Step {
     OnHypothesis(HypothesisRule, Label2),
     /// By the forms of two hypotheses.
     OnTwo(PairRule, Label2, Label2),
+    /// Puts an equation into the goal, or into a hypothesis.
+    Rewrite(Rewriting),
 }

@@ -5,11 +5,12 @@ use Rattle.std.specs.List.{list_all}
 use Rattle.std.specs.Str.{bytes_eq, is_utf8}
 use Rattle.std.proofs.lemmas.Slice.Eq.{bytes_eq-Decides}
 use Rattle.proof_kernel.specs.declared.step.Step.{Step}
-use Rattle.proof_kernel.specs.declared.step.Step.TheVariants.{Intro, Hyp, Split, Range, Lin, OnGoal, OnHypothesis, OnTwo}
+use Rattle.proof_kernel.specs.declared.step.Step.TheVariants.{Intro, Hyp, Split, Range, Lin, OnGoal, OnHypothesis, OnTwo, Rewrite}
 use Rattle.text_core.specs.Names.{words, HaveOnePlace}
 use Rattle.text_core.specs.declared.name.Name.{Name}
 use Rattle.rs_tokens.specs.Tokens.{is_identifier}
 use Rattle.proof_text.specs.ProofTextWords.{◌>>=◌, label_of}
+use Rattle.proof_text.specs.ProofTextRules.{rewriting_in}
 use Rattle.proof_text.specs.ProofTextLines.{head_of, rest_of, words_of, text_at, identifier_of, multiples_in, word_of, SpellsRest, SpellsParts, SpellsStep, as_word, texts_by, texts_in_line}
 use Rattle.proof_text.specs.ProofTextFile.{is_step, step, line_if, line_by_head, line_of, rule_step_of}
 use Rattle.proof_text.specs.ProofTextLaws.{AlikeStep}
@@ -25,6 +26,7 @@ rest_is table rest (Hyp l) h = ap is_some h
 rest_is table rest Split h = ap is_none h
 rest_is table rest (Range x) h = rw (h.1, h.2) refl
 rest_is table rest (Lin ms) h = ap is_some h
+rest_is table rest (Rewrite r) h = ap is_some h
 rest_is table rest (OnGoal r) h = (goal_head r).2 rest ∙ ap is_some (rule_read table rest (OnGoal r) h)
 rest_is table rest (OnHypothesis r l) h = (hypothesis_head r).2 rest ∙ ap is_some (rule_read table rest (OnHypothesis r l) h)
 rest_is table rest (OnTwo r l m) h = (pair_head r).2 rest ∙ ap is_some (rule_read table rest (OnTwo r l m) h)
@@ -87,23 +89,24 @@ same_head head word e = (bytes_eq-Decides head word).0 e
 abbrev Spelled : List (List ℕ) → List ℕ → Option (List ℕ) → Type 0
 Spelled table head rest = (s : Step) × SpellsParts table head rest s
 
-by_words : (table : List (List ℕ)) (head : List ℕ) (rest : Option (List ℕ)) (a b c d e : Bool) → bytes_eq head (codes "intro") ≡ a → bytes_eq head (codes "hyp") ≡ b → bytes_eq head (codes "split") ≡ c →
-    bytes_eq head (codes "range") ≡ d → bytes_eq head (codes "lin") ≡ e →
-    cond a (list_all is_identifier (words_of rest)) (cond b (is_some (rest >>= label_of)) (cond c (is_none rest) (cond d (is_some (rest >>= identifier_of)) (cond e (is_some (rest >>= multiples_in)) (is_some (rule_step_of head rest)))))) ≡ true →
+by_words : (table : List (List ℕ)) (head : List ℕ) (rest : Option (List ℕ)) (a b c d e f : Bool) → bytes_eq head (codes "intro") ≡ a → bytes_eq head (codes "hyp") ≡ b → bytes_eq head (codes "split") ≡ c →
+    bytes_eq head (codes "range") ≡ d → bytes_eq head (codes "lin") ≡ e → bytes_eq head (codes "rewrite") ≡ f →
+    cond a (list_all is_identifier (words_of rest)) (cond b (is_some (rest >>= label_of)) (cond c (is_none rest) (cond d (is_some (rest >>= identifier_of)) (cond e (is_some (rest >>= multiples_in)) (cond f (is_some (rest >>= rewriting_in)) (is_some (rule_step_of head rest))))))) ≡ true →
     AreNamed table (cond a (words_of rest) (cond b [] (cond c [] (cond d (as_word rest) [])))) → Spelled table head rest
-by_words table head rest true b c d e p q r s t is named =
+by_words table head rest true b c d e f p q r s t u is named =
     let names = names_there table (words_of rest) named in (Intro names.0, (same_head head (codes "intro") p, (is, names.1)))
-by_words table head rest false true c d e p q r s t is named = let l = some_of (rest >>= label_of) is in (Hyp l.0, (same_head head (codes "hyp") q, l.1))
-by_words table head rest false false true d e p q r s t is named = (Split, (same_head head (codes "split") r, none_of rest is))
-by_words table head rest false false false true e p q r s t is named = let x = range_there table rest is named in (Range x.0, (same_head head (codes "range") s, x.1))
-by_words table head rest false false false false true p q r s t is named = let ms = some_of (rest >>= multiples_in) is in (Lin ms.0, (same_head head (codes "lin") t, ms.1))
-by_words table head rest false false false false false p q r s t is named = let found = some_of (rule_step_of head rest) is in (found.0, rule_there table head found.0 rest found.1)
+by_words table head rest false true c d e f p q r s t u is named = let l = some_of (rest >>= label_of) is in (Hyp l.0, (same_head head (codes "hyp") q, l.1))
+by_words table head rest false false true d e f p q r s t u is named = (Split, (same_head head (codes "split") r, none_of rest is))
+by_words table head rest false false false true e f p q r s t u is named = let x = range_there table rest is named in (Range x.0, (same_head head (codes "range") s, x.1))
+by_words table head rest false false false false true f p q r s t u is named = let ms = some_of (rest >>= multiples_in) is in (Lin ms.0, (same_head head (codes "lin") t, ms.1))
+by_words table head rest false false false false false true p q r s t u is named = let found = some_of (rest >>= rewriting_in) is in (Rewrite found.0, (same_head head (codes "rewrite") u, found.1))
+by_words table head rest false false false false false false p q r s t u is named = let found = some_of (rule_step_of head rest) is in (found.0, rule_there table head found.0 rest found.1)
 
 parts_there : (table : List (List ℕ)) (head : List ℕ) (rest : Option (List ℕ)) → is_step head rest ≡ true → AreNamed table (texts_by head rest) → Spelled table head rest
 unfolding is_step texts_by
 parts_there table head rest is named =
-    by_words table head rest (bytes_eq head (codes "intro")) (bytes_eq head (codes "hyp")) (bytes_eq head (codes "split")) (bytes_eq head (codes "range")) (bytes_eq head (codes "lin"))
-    refl refl refl refl refl is named
+    by_words table head rest (bytes_eq head (codes "intro")) (bytes_eq head (codes "hyp")) (bytes_eq head (codes "split")) (bytes_eq head (codes "range")) (bytes_eq head (codes "lin")) (bytes_eq head (codes "rewrite"))
+    refl refl refl refl refl refl is named
 
 pub step_there : (table : List (List ℕ)) (text : List ℕ) → is_utf8 text ≡ true → is_step (head_of text) (rest_of text) ≡ true → AreNamed table (texts_in_line text) → (s : Step) × SpellsStep table text s
 step_there table text u is named = let s = parts_there table (head_of text) (rest_of text) is named in (s.0, (u, s.1))
@@ -142,6 +145,7 @@ module _ (table other : List (List ℕ)) (rest : Option (List ℕ)) where
   alike_rest Split Split e r h k = tt
   alike_rest (Range m) (Range n) e r h k = let same : Some h.0 ≡ Some k.0 = sym h.1 ∙ k.1 in h.3 ∙ same ∙ sym k.3
   alike_rest (Lin ms) (Lin ns) e r h k = let same : Some ms ≡ Some ns = sym h ∙ k in cc
+  alike_rest (Rewrite a) (Rewrite b) e r h k = let same : Some a ≡ Some b = sym h ∙ k in cc
   alike_rest (OnGoal a) (OnGoal b) e r h k = cc
   alike_rest (OnHypothesis a l) (OnHypothesis b m) e r h k = (cc, cc)
   alike_rest (OnTwo a l m) (OnTwo b n o) e r h k = (cc, cc, cc)
@@ -182,6 +186,7 @@ module _ (table : List (List ℕ)) (place : HaveOnePlace (words ++ table)) where
       ap Range (name_once m n k.0 (h.3 ∙ same) k.3)
   rest_once rest (Lin ms) (Lin ns) e h k = ap Lin e
   rest_once rest (OnGoal a) (OnGoal b) e h k = ap OnGoal e
+  rest_once rest (Rewrite a) (Rewrite b) e h k = ap Rewrite e
   rest_once rest (OnHypothesis a l) (OnHypothesis b m) e h k = cc
   rest_once rest (OnTwo a l m) (OnTwo b n o) e h k = cc
   rest_once rest _ _ e h k = absurd e

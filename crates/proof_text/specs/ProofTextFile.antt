@@ -11,7 +11,7 @@ use Rattle.logic_term.specs.declared.kinds.Label2.{Label2}
 use Rattle.proof_kernel.specs.declared.step.Step.{Step}
 use Rattle.proof_kernel.specs.declared.step.Step.TheVariants.{OnGoal, OnHypothesis, OnTwo}
 use Rattle.proof_text.specs.ProofTextWords.{◌>>=◌, Each, label_of}
-use Rattle.proof_text.specs.ProofTextRules.{labels_in, goal_rule_of, hypothesis_rule_of, pair_rule_of}
+use Rattle.proof_text.specs.ProofTextRules.{labels_in, rewriting_in, goal_rule_of, hypothesis_rule_of, pair_rule_of}
 use Rattle.proof_text.specs.ProofTextLines.{head_of, rest_of, words_of, identifier_of, multiples_in, heading_of, SpellsStep}
 pub use Rattle.proof_text.specs.ProofFileForm.{SpellsProofs, HasNamesOf, IsFirstBadLine}
 
@@ -35,6 +35,7 @@ is_step head rest =
     else if bytes_eq head (codes "split") then is_none rest
     else if bytes_eq head (codes "range") then is_some (rest >>= identifier_of)
     else if bytes_eq head (codes "lin") then is_some (rest >>= multiples_in)
+    else if bytes_eq head (codes "rewrite") then is_some (rest >>= rewriting_in)
     else is_some (rule_step_of head rest)
 
 -- a line after the first

@@ -2,7 +2,7 @@
 use Rattle.std.specs.Prelude.{◌≡◌, ◌⊎◌, ℕ, List, ◌++◌, map}
 use Rattle.text_core.specs.Names.{words, HaveOnePlace}
 use Rattle.proof_kernel.specs.declared.step.Step.{Step}
-use Rattle.proof_kernel.specs.declared.step.Step.TheVariants.{Intro, Hyp, Split, Range, Lin, OnGoal, OnHypothesis, OnTwo}
+use Rattle.proof_kernel.specs.declared.step.Step.TheVariants.{Intro, Hyp, Split, Range, Lin, OnGoal, OnHypothesis, OnTwo, Rewrite}
 use Rattle.proof_text.specs.declared.proof.NumberedStep.{NumberedStep}
 use Rattle.proof_text.specs.declared.proof.Proof.{Proof}
 use Rattle.proof_text.specs.declared.proof.ProofFile.{ProofFile}
@@ -22,6 +22,7 @@ AlikeStep table other (Lin ms) (Lin ns) = ms ≡ ns
 AlikeStep table other (OnGoal r) (OnGoal s) = r ≡ s
 AlikeStep table other (OnHypothesis r l) (OnHypothesis s m) = (r ≡ s) × (l ≡ m)
 AlikeStep table other (OnTwo r k l) (OnTwo s m n) = (r ≡ s) × (k ≡ m) × (l ≡ n)
+AlikeStep table other (Rewrite r) (Rewrite s) = r ≡ s
 AlikeStep table other _ _ = ⊥
 
 abbrev pub AlikeProof : List (List ℕ) → List (List ℕ) → Proof → Proof → Type 0

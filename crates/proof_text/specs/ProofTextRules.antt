@@ -9,6 +9,11 @@ use Rattle.proof_kernel.specs.declared.step.HypothesisRule.{HypothesisRule}
 use Rattle.proof_kernel.specs.declared.step.HypothesisRule.TheVariants.{Cases, Absurd, Drop, Revert}
 use Rattle.proof_kernel.specs.declared.step.PairRule.{PairRule}
 use Rattle.proof_kernel.specs.declared.step.PairRule.TheVariants.{ModusPonens, Contradiction, Product}
+use Rattle.proof_kernel.specs.declared.step.Direction.{Direction}
+use Rattle.proof_kernel.specs.declared.step.Direction.TheVariants.{Forward, Backward}
+use Rattle.proof_kernel.specs.declared.step.Rewriting.{Rewriting}
+use Rattle.proof_kernel.specs.declared.step.Target.{Target}
+use Rattle.proof_kernel.specs.declared.step.Target.TheVariants.{Goal, Hyp}
 use Rattle.proof_text.specs.ProofTextWords.{◌>>=◌, label_of, cut}
 
 -- ---- the words
@@ -46,6 +51,34 @@ labels_by rest (Some parts) = do
 -- one label, or two with one space between
 abbrev pub labels_in : List ℕ → Option (Label2 × Option Label2)
 labels_in rest = labels_by rest (cut 32 rest)
+
+-- ---- what stands behind `rewrite`
+
+-- `in K`
+abbrev pub target_of : List ℕ → Option Target
+target_of rest = do
+  parts ← cut 32 rest
+  label ← label_of parts.1
+  if bytes_eq parts.0 (codes "in") then Some (Hyp label) else None
+
+-- `L`, or `L in K`
+abbrev pub put_by : Direction → List ℕ → Option (List ℕ × List ℕ) → Option Rewriting
+put_by direction rest None = option_map (λ label. record { direction = direction; equation = label; target = Goal }) (label_of rest)
+put_by direction rest (Some parts) = do
+  label ← label_of parts.0
+  target ← target_of parts.1
+  Some (record { direction = direction; equation = label; target = target })
+
+abbrev pub put_in : Direction → List ℕ → Option Rewriting
+put_in direction rest = put_by direction rest (cut 32 rest)
+
+-- the same, or `<` and the same
+abbrev pub rewriting_by : List ℕ → Option (List ℕ × List ℕ) → Option Rewriting
+rewriting_by rest None = put_in Forward rest
+rewriting_by rest (Some parts) = if bytes_eq parts.0 (codes "<") then put_in Backward parts.1 else put_in Forward rest
+
+abbrev pub rewriting_in : List ℕ → Option Rewriting
+rewriting_in rest = rewriting_by rest (cut 32 rest)
 
 -- ---- the words the other way round
 

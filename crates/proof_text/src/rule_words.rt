@@ -2,11 +2,11 @@
 ghost use Rattle.std.specs.Prelude.{◌≡◌};
 ghost use Rattle.std.specs.Option.{option_copied};
 ghost use Rattle.proof_text.specs.ProofTextFile.{at_labels, rule_step_of};
-ghost use Rattle.proof_text.specs.ProofTextRules.{goal_rule_of, hypothesis_rule_of, pair_rule_of};
+ghost use Rattle.proof_text.specs.ProofTextRules.{goal_rule_of, hypothesis_rule_of, pair_rule_of, target_of, put_in, rewriting_in};
 
-use crate::word::labels;
+use crate::word::{cut, label, labels};
 use logic_term::Label2;
-use proof_kernel::{GoalRule, HypothesisRule, PairRule, Step};
+use proof_kernel::{Direction, GoalRule, HypothesisRule, PairRule, Rewriting, Step, Target};
 
 #[tactic(auto, unfolding(crate::specs::ProofTextRules::goal_rule_of))]
 fn goal_rule(word: &str) -> Option<GoalRule>
@@ -70,5 +70,43 @@ pub(crate) fn rule_step(head: &str, rest: Option<&str>) -> Option<Step>
             let (label, other) = labels(rest)?;
             at_labels(head, label, other)
         }
+    }
+}
+
+/// `in L`
+fn target(rest: &str) -> Option<Target>
+    ensures { result ≡ target_of rest.now }
+{
+    let (word, hypothesis) = cut(rest, ' ')?;
+    let hypothesis = label(hypothesis)?;
+    if word == "in" {
+        Some(Target::Hyp(hypothesis))
+    } else {
+        None
+    }
+}
+
+/// A label, alone or before `in` and another.
+fn put(direction: Direction, rest: &str) -> Option<Rewriting>
+    ensures { result ≡ put_in direction rest.now }
+{
+    let (equation, target) = match cut(rest, ' ') {
+        None => (label(rest)?, Target::Goal),
+        Some((equation, rest)) => (label(equation)?, target(rest)?),
+    };
+    Some(Rewriting {
+        direction,
+        equation,
+        target,
+    })
+}
+
+/// Which equation is put where, from its first side to its second; the other way round behind `<`.
+pub(crate) fn rewriting(rest: &str) -> Option<Rewriting>
+    ensures { result ≡ rewriting_in rest.now }
+{
+    match cut(rest, ' ') {
+        Some(("<", rest)) => put(Direction::Backward, rest),
+        _ => put(Direction::Forward, rest),
     }
 }

@@ -9,7 +9,7 @@ ghost use Rattle.proof_text.specs.ProofTextFile.{is_step};
 ghost use Rattle.proof_text.specs.ProofTextReads.{Reads, KeepsNames, room_of};
 
 use crate::fault::Fault;
-use crate::rule_words::rule_step;
+use crate::rule_words::{rewriting, rule_step};
 use crate::word::{label, multiple};
 use proof_kernel::{Multiple, Step};
 use rs_tokens::is_identifier;
@@ -134,6 +134,10 @@ pub(crate) fn step(
         }
         "range" => range(alloc, rest.ok_or(Fault::Bad)?, names),
         "lin" => Ok(Step::Lin(lin(alloc, rest.ok_or(Fault::Bad)?)?)),
+        "rewrite" => {
+            let rest = rest.ok_or(Fault::Bad)?;
+            Ok(Step::Rewrite(rewriting(rest).ok_or(Fault::Bad)?))
+        }
         _ => rule_step(head, rest).ok_or(Fault::Bad),
     }
 }
