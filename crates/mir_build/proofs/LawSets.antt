@@ -169,9 +169,9 @@ laid_put c Γ ts s d r T (of_number h) set sc z a = laid_puts _ _ _ _ tt (laid_s
 laid_put c Γ ts s d r T (of_bool h) set sc z a = laid_puts _ _ _ _ tt (laid_stops _ _ (same_set (with d set)))
 laid_put c Γ ts s d r T (of_unit h) set sc z a = laid_puts _ _ _ _ tt (laid_stops _ _ (same_set (with d set)))
 laid_put c Γ ts s d r T (of_copy v p q h) set sc z a = laid_puts _ _ _ _ (sc.holds p (has_get c.scope v p q)) (laid_stops _ _ (same_set (with d set)))
-laid_put c Γ ts s d r T (of_minus {t = t} i h e q) set sc a = laid_puts _ _ _ _ (with_self t set) (laid_stops _ _ (moved_on d t set (fresh_second d t set _ a)))
-laid_put c Γ ts s d r T (of_not {t = t} h q) set sc a = laid_puts _ _ _ _ (with_self t set) (laid_stops _ _ (moved_on d t set (fresh_second d t set _ a)))
-laid_put c Γ ts s d r T (of_operation {t = t} {u = u} h e) set sc a =
+laid_put c Γ ts s d r T (of_minus {t = t} i h e q) set sc z a = laid_puts _ _ _ _ (with_self t set) (laid_stops _ _ (moved_on d t set (fresh_second d t set _ a)))
+laid_put c Γ ts s d r T (of_not {t = t} h q) set sc z a = laid_puts _ _ _ _ (with_self t set) (laid_stops _ _ (moved_on d t set (fresh_second d t set _ a)))
+laid_put c Γ ts s d r T (of_operation {t = t} {u = u} h e) set sc z a =
     let no_u : set u ≡ false = fresh_second d u set _ a in
     let no_t : set t ≡ false = fresh_second d t set _ (without_second d u set _ a) in
     let u_free : with t set u ≡ false = fresh_second d u (with t set) [] (other_held d t u set a) in

@@ -473,9 +473,7 @@ fn type_attributed(
             ),
             Some(_) => Err(unbuilt(whole)),
         },
-        ExprNode::Loop(body) => type_loop(
-            alloc, setting, scope, expected, whole, attributes, body,
-        ),
+        ExprNode::Loop(body) => type_loop(alloc, setting, scope, expected, whole, attributes, body),
         _ => Err(unbuilt(whole)),
     }
 }
