@@ -32,9 +32,9 @@ pub enum CertAnswer {
     Fails(u32),
 }
 
-/// What the rows are added up in: the factors of an atom, or the constants.
+/// What rows are added up in: the factors of an atom, or the constants. What is said of certificates goes by columns.
 #[derive(Clone, Copy)]
-enum Column {
+pub enum Column {
     Factors(u32),
     Constants,
 }

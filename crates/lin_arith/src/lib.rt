@@ -3,4 +3,4 @@
 
 mod certificate;
 
-pub use certificate::{CertAnswer, Part, Row, check_certificate};
+pub use certificate::{CertAnswer, Column, Part, Row, check_certificate};
