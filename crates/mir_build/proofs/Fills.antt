@@ -8,7 +8,7 @@ use Rattle.mir_ir.specs.declared.statement.Statement.{Statement}
 use Rattle.mir_ir.specs.declared.terminator.Terminator.{Terminator}
 use Rattle.source_kinds.specs.declared.kinds.LazyOp.{LazyOp}
 use Rattle.source_kinds.specs.declared.kinds.LazyOp.TheVariants.{And, Or}
-use Rattle.type_check.specs.TypedExpr.{TypedExpr, TypedStmts, TypedExprs, integer, truth, variable, negative, denied, binary, lazy, assign, update, call, block, branch, choice, repeat, panics, done, last, leaving, bind, run, none, more}
+use Rattle.type_check.specs.TypedExpr.{TypedExpr, TypedStmts, TypedExprs, integer, truth, variable, negative, denied, binary, lazy, assign, update, call, block, branch, choice, repeat, panics, returned, endless, done, last, leaving, bind, run, none, more}
 use Rattle.type_check.specs.Leaves.{leaves}
 use Rattle.type_check.specs.TypedExprView.{ty_of}
 use Rattle.mir_build.specs.Text.{Line, Puts, Makes, Turns, Leaves, Owns, made}
@@ -119,6 +119,18 @@ looped {l} {n} {t} {m} {n'} k u c c' h e f g T U own s xs ys q r p p' =
       order = (refl, then_in_order (t + 1) u xs behind (omega (arith, r, p.making)) p.order (refl, then_in_order (u + 1) (u + 1 + makings ys) ys end refl p'.order tt));
     }
 
+-- the body of a loop that is not left
+circled : {l n t m : ℕ} (c : Around) (h : Head) (e f : Terminator) (U : Ty) (own : List ℕ) (ys : List Line) → Fills (l + 1) n (t + 1) m ys
+    → Fills l (1 + n) t (1 + m) (Turns e (at_head c (label l) h) ∷ Makes t U ∷ (ys ++ Leaves f ∷ Owns (label l) own ∷ []))
+circled {l} {n} {t} {m} c h e f U own ys p =
+    let end = Leaves f ∷ Owns (label l) own ∷ [] in
+    record {
+      once = λ x. omega (arith, begins-append x ys end, within_one l x, within_split l 1 n (l + 1) x refl, p.once x);
+      turned = omega (arith, turns-append ys end, p.turned);
+      making = omega (arith, makings-append ys end, p.making);
+      order = (refl, then_in_order (t + 1) (t + 1 + makings ys) ys end refl p.order tt);
+    }
+
 dying : (l t : ℕ) (outer : Bool) (s : Span) (x : ℕ) → Fills l 0 t 0 (dies_in outer s x)
 dying l t true s x = nothing l t
 dying l t false s x = one l t _
@@ -149,6 +161,8 @@ mutual
   fills (choice ty s e a b) c l t d = as_counts _ (omega arith) (omega arith) (made_then _ _ _ _ _ refl refl (fills e c l (t + 1) t) (sides_filled (leaves a && leaves b) _ _ c s t _ _ refl refl (fills a c _ _ d) (fills b c _ _ d)))
   fills (repeat ty s is e b) c l t d = as_counts _ (omega arith) (omega arith) (looped _ _ (looping c (label l)) c _ _ _ _ _ _ _ _ _ _ refl refl (fills e (looping c (label l)) (l + 3) (t + 1) t) (fills b (looping c (label l)) (l + 3 + labels e) (t + 1 + locals e + 1) (t + 1 + locals e)))
   fills (panics ty s k) c l t d = left l t _
+  fills (returned ty s e) c l t d = as_counts _ (omega arith) (omega arith) (join _ _ _ _ refl refl (fills e c l t 0) (left _ _ _))
+  fills (endless ty s is b) c l t d = circled (looping c (label l)) _ _ _ _ _ _ (fills b (looping c (label l)) (l + 1) (t + 1) t)
 
   pub rest_filled : (ss : TypedStmts) (outer : Bool) (s : Span) (c : Around) (l t d : ℕ) → Fills l (labels_of ss) t (locals_of ss) (rest ss outer s c l t d)
   rest_filled done outer s c l t d = one l t _

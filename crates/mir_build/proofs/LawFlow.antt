@@ -11,7 +11,7 @@ use Rattle.std.specs.Prelude.{ℕ}
 use Rattle.type_check.specs.TypedExpr.{TypedExpr}
 use Rattle.text_core.specs.declared.span.Span.{Span}
 use Rattle.mir_build.specs.Text.{Title, Line, Puts, Makes, Turns, Leaves, Owns, begun}
-use Rattle.mir_build.specs.Lowering.{Around, Formula, looping, at, at_head, head_of, test, fork, turning, IntoBody}
+use Rattle.mir_build.specs.Lowering.{Around, Formula, looping, at, at_head, head_of, test, fork, turning, circling, returning, IntoBody}
 use Rattle.mir_build.proofs.LawLists.{Has, here, there, has_left, has_right, begun-append}
 use Rattle.mir_build.proofs.Shapes.{Keeps, of_body}
 
@@ -24,14 +24,14 @@ abbrev pub ToEach : List Title → List Label → List Title → List Label → 
 ToEach whole from later [] = Unit {0}
 ToEach whole from later (l ∷ ls) = To whole from later l × ToEach whole from later ls
 
--- the text leads from the loops of its first line to those of its last; `outs` stand behind it. What stands behind an end that leaves is
--- in the same loops
+-- the text leads from the loops of its first line to those of its last; `outs` stand behind it. Behind an end that leaves
+-- no block is open, so it is in any loops
 pub data Flows (whole outs : List Title) : List Label → List Label → List Line → Type 0 where
   at_end : {from : List Label} → Flows whole outs from from []
   puts : {s : Statement} {from to : List Label} {xs : List Line} → Flows whole outs from to xs → Flows whole outs from to (Puts s ∷ xs)
   makes : {x : ℕ} {t : Ty} {from to : List Label} {xs : List Line} → Flows whole outs from to xs → Flows whole outs from to (Makes x t ∷ xs)
   turns : {t : Terminator} {b : Title} {from to : List Label} {xs : List Line} → ToEach whole from (b ∷ (begun xs ++ outs)) (targets t.kind) → Flows whole outs b.nest to xs → Flows whole outs from to (Turns t b ∷ xs)
-  leaves : {t : Terminator} {from to : List Label} {xs : List Line} → ToEach whole from (begun xs ++ outs) (targets t.kind) → Flows whole outs from to xs → Flows whole outs from to (Leaves t ∷ xs)
+  leaves : {t : Terminator} {from behind to : List Label} {xs : List Line} → ToEach whole from (begun xs ++ outs) (targets t.kind) → Flows whole outs behind to xs → Flows whole outs from to (Leaves t ∷ xs)
   owns : {l : Label} {ys : List ℕ} {from to : List Label} {xs : List Line} → Flows whole outs from to xs → Flows whole outs from to (Owns l ys ∷ xs)
 
 regroup : (xs ys : List Line) (outs : List Title) → begun xs ++ (begun ys ++ outs) ≡ begun (xs ++ ys) ++ outs
@@ -43,8 +43,8 @@ flows-append whole outs ys mid to from xs (puts p) q = puts (flows-append whole 
 flows-append whole outs ys mid to from xs (makes p) q = makes (flows-append whole outs ys mid to from _ p q)
 flows-append whole outs ys mid to from xs (turns {t = t} {b = b} {xs = zs} e p) q =
     turns (subst (λ bs. ToEach whole from (b ∷ bs) (targets t.kind)) (regroup zs ys outs) e) (flows-append whole outs ys mid to b.nest _ p q)
-flows-append whole outs ys mid to from xs (leaves {t = t} {xs = zs} e p) q =
-    leaves (subst (λ bs. ToEach whole from bs (targets t.kind)) (regroup zs ys outs) e) (flows-append whole outs ys mid to from _ p q)
+flows-append whole outs ys mid to from xs (leaves {t = t} {behind = ls} {xs = zs} e p) q =
+    leaves (subst (λ bs. ToEach whole from bs (targets t.kind)) (regroup zs ys outs) e) (flows-append whole outs ys mid to ls _ p q)
 flows-append whole outs ys mid to from xs (owns p) q = owns (flows-append whole outs ys mid to from _ p q)
 
 -- the blocks that the text begins are among these
@@ -105,6 +105,17 @@ flows_turning c s head body after fs t T xs u U ys zs p q r whole outs g =
     (makes (step whole outs k.loops _ ys _ (λ t h. g t (there h)) (q whole)
     (λ g. turns (again _, tt) (owns (r whole outs (λ t h. g t (there h))))))))))
 
+flows_returning : (c : Around) (s : Span) (xs : List Line) → FlowsOn c xs → FlowsOn c (returning s xs)
+flows_returning c s xs p whole outs g = step whole outs c.loops c.loops xs _ g (p whole) (λ g. leaves tt at_end)
+
+flows_circling : (c : Around) (s : Span) (head : Label) (fs : List Formula) (u : ℕ) (U : Ty) (ys : List Line) → FlowsOn (looping c head) ys → FlowsOn c (circling c s head fs u U ys)
+flows_circling c s head fs u U ys p whole outs g =
+    let k : Around = looping c head in
+    let top : Title = at_head k head (head_of c fs) in
+    let again : (later : List Title) → To whole k.loops later head = λ later. back top (head_of c fs) refl (g top here) refl (among_last c.loops head) in
+    turns (onward top refl here c.loops [] refl (sym (append-nil c.loops)), tt)
+    (makes (step whole outs k.loops c.loops ys _ (λ t h. g t (there h)) (p whole) (λ g. leaves (again _, tt) (owns at_end))))
+
 flow_keeps : Keeps FlowsOn
 flow_keeps = record {
   nothing = λ c whole outs g. at_end;
@@ -115,6 +126,8 @@ flow_keeps = record {
   tested = flows_test;
   forked = flows_fork;
   panicked = λ c s k whole outs g. leaves tt at_end;
+  returned = flows_returning;
+  circled = flows_circling;
   turned = flows_turning;
   bound = λ c t xs p. p;
 }

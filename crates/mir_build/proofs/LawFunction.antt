@@ -11,7 +11,7 @@ use Rattle.mir_ir.specs.WellFormed.{Locals, with, parameters, IsTyped}
 use Rattle.type_check.specs.declared.program.Signature.{Signature}
 use Rattle.type_check.specs.declared.program.TypedFunction.{TypedFunction}
 use Rattle.type_check.specs.TypedExprView.{span_of}
-use Rattle.type_check.specs.WellTyped.{IsBuilt, FunctionFits}
+use Rattle.type_check.specs.WellTyped.{IsBuilt, FunctionFits, surroundings_of}
 use Rattle.mir_build.specs.Text.{fresh, begun, made, owned}
 use Rattle.mir_build.specs.Lowering.{numbers, counted, paired, all_locals, local_name, entry_title, around_body, whole, LowersTo}
 use Rattle.mir_build.proofs.Numbers.{count}
@@ -154,7 +154,7 @@ module _ (owner : List ℕ) (f : TypedFunction) (b : Body) (gone : Initialised) 
 
   module _ (σ : List Signature) (fits : FunctionFits σ f) where
     runs_from : Laid (parameters b) l.text (with 0 (parameters b))
-    runs_from = text_laid σ (around_body f) f.body l.text l.into f.signature.params (parameters b) scoped fits.body apart
+    runs_from = text_laid (surroundings_of σ f.signature) (around_body f) f.body l.text l.into f.signature.params (parameters b) scoped fits.body apart
 
     starts : List (Label × Locals)
     starts = (b.entry, parameters b) ∷ runs_from.starts
@@ -193,7 +193,7 @@ module _ (owner : List ℕ) (f : TypedFunction) (b : Body) (gone : Initialised) 
 
   module _ (σ : List Signature) (bodies : Bodies) (fits : FunctionFits σ f) (callees : (n : ℕ) (g : Signature) → slice_get σ n ≡ Some g → Callee bodies n g) (answers : (n : ℕ) (g : Signature) → slice_get σ n ≡ Some g → IsBuilt g.answer) where
     pub lines_typed : AreTyped bodies b l.text
-    lines_typed = text_typed σ bodies b callees answers (around_body f) f.body l.text l.into f.signature.params
+    lines_typed = text_typed (surroundings_of σ f.signature) bodies b callees answers answer_fits (around_body f) f.body l.text l.into f.signature.params
         (record { scope = scope_fits; built_types = fits.params }) fits.body (answer_fits ∙ ap Some (sym fits.of_answer)) text_fits
 
     pub blocks_typed : EachBlock (BlockTyped bodies b) b.blocks

@@ -10,12 +10,12 @@ use Rattle.mir_ir.specs.declared.terminator.Callee.TheVariants.{Function}
 use Rattle.mir_ir.specs.declared.terminator.TerminatorKind.TheVariants.{Goto, If, Call}
 use Rattle.mir_ir.specs.WellFormed.{Locals, with, without, Within}
 use Rattle.mir_ir.proofs.Taking.{CanTakeAll, all_taken}
-use Rattle.mir_build.specs.Text.{Line, Makes, Turns, Owns, made}
+use Rattle.mir_build.specs.Text.{Line, Makes, Turns, Leaves, Owns, made}
 use Rattle.mir_build.specs.Lowering.{numbers, Around, at, at_head, ends, moved, whole, put_unit, fork}
 use Rattle.mir_build.proofs.Numbers.{count, labels_begun}
 use Rattle.mir_build.proofs.LawLists.{Has, here, there, makings-append, count_self, has_count, differs, fewer}
 use Rattle.mir_build.proofs.LawNames.{HoldsAll, HeadFits}
-use Rattle.mir_build.proofs.LawRuns.{with_self, with_more, with_within, kept, HasNone, Runs, stops, puts, makes, turns, owns, runs-append, agree_left, agree_right, labels_in, Laid, labels_in-append, labels_begun-append}
+use Rattle.mir_build.proofs.LawRuns.{with_self, with_more, with_within, kept, HasNone, Runs, stops, puts, makes, turns, leaves, owns, runs-append, agree_left, agree_right, labels_in, Laid, labels_in-append, labels_begun-append}
 
 -- ---- what is not in a set
 
@@ -134,6 +134,19 @@ looped c k s d t u T U head body after hd own set us vs fits n no_t p q = record
       (from_start after at' set (with d set) _ a.0 (owns (subst (λ m. HasNone m own) (sym g.0) n) (puts tt (stops (same_set (with d set)))))))
       set vs (q.runs at' (agree_left at' q.starts _ r.1))))))
       set us (p.runs at' (agree_left at' p.starts _ g.1)))));
+}
+
+-- a loop that is not left
+pub circled : (k : Around) (s : Span) (u : ℕ) (U : Ty) (head : Label) (hd : Head) (own : List ℕ) (set to : Locals) (vs : List Line) → HeadFits set (Some hd) → HasNone set own → Laid set vs (with u set)
+    → Laid set (Turns (ends s (Goto head)) (at_head k head hd) ∷ Makes u U ∷ (vs ++ Leaves (ends s (Goto head)) ∷ Owns head own ∷ [])) to
+circled k s u U head hd own set to vs fits n p = record {
+  starts = (head, set) ∷ (p.starts ++ []);
+  are = ap (λ ls. head.0 ∷ ls) (joined p.starts [] vs _ p.are refl);
+  runs = λ at' g.
+      turns tt (at_most head at' set set g.0 (same_set set)) (subst (λ m. HeadFits m (Some hd)) (sym g.0) fits)
+      (from_start head at' set to _ g.0 (makes (runs-append at' (with u set) to _
+      (leaves tt (at_most head at' set (with u set) g.0 (with_more u set)) (owns (subst (λ m. HasNone m own) (sym g.0) n) (stops (λ x h. refl))))
+      set vs (p.runs at' (agree_left at' p.starts [] g.1)))));
 }
 
 -- ---- calls

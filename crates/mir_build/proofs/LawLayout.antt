@@ -72,11 +72,11 @@ flowing_of whole t q from to xs (turns {t = u} {b = b} {xs = ys} e p) (Stands o)
   flowing_of whole t q b.nest to ys p (fresh b) refl,
 )
 flowing_of whole t q from to xs (turns {t = u} {b = b} {xs = ys} e p) Nowhere s = flowing_of whole t q b.nest to ys p (fresh b) refl
-flowing_of whole t q from to xs (leaves {t = u} {xs = ys} e p) (Stands o) s = (
+flowing_of whole t q from to xs (leaves {t = u} {behind = ls} {xs = ys} e p) (Stands o) s = (
   subst (λ ns. ToEach whole ns (titles (blocks_of Nowhere ys t)) (targets u.kind)) s (subst (λ bs. ToEach whole from bs (targets u.kind)) (append-nil (begun ys) ∙ sym (titles_of Nowhere ys t)) e),
-  flowing_of whole t q from to ys p Nowhere tt,
+  flowing_of whole t q ls to ys p Nowhere tt,
 )
-flowing_of whole t q from to xs (leaves e p) Nowhere s = flowing_of whole t q from to _ p Nowhere tt
+flowing_of whole t q from to xs (leaves {behind = ls} e p) Nowhere s = flowing_of whole t q ls to _ p Nowhere tt
 flowing_of whole t q from to xs (owns p) o s = flowing_of whole t q from to _ p o s
 
 -- ---- labels that begin one block each

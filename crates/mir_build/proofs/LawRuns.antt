@@ -201,6 +201,10 @@ laid_makes x t set to xs p = record { starts = p.starts; are = p.are; runs = λ 
 pub laid_panics : (s : Span) (k : Cause) (set to : Locals) → Laid set (Leaves (ends s (Panic k)) ∷ []) to
 laid_panics s k set to = record { starts = []; are = refl; runs = λ at g. leaves tt tt (stops (λ x h. refl)) }
 
+-- nor behind a return
+pub laid_returns : (s : Span) (set to : Locals) → set 0 ≡ true → Laid set (Leaves (ends s Return) ∷ []) to
+laid_returns s set to h = record { starts = []; are = refl; runs = λ at g. leaves h tt (stops (λ x q. refl)) }
+
 pub laid-append : (set mid to : Locals) (xs ys : List Line) → Laid set xs mid → Laid mid ys to → Laid set (xs ++ ys) to
 laid-append set mid to xs ys p q = record {
   starts = p.starts ++ q.starts;

@@ -13,14 +13,14 @@ use Rattle.mir_ir.specs.WellFormed.{Locals, with, without, Within}
 use Rattle.source_kinds.specs.declared.kinds.BinaryOp.{BinaryOp}
 use Rattle.type_check.specs.declared.program.Signature.{Signature}
 use Rattle.type_check.specs.TypedExpr.{TypedExpr}
-use Rattle.type_check.specs.WellTyped.{IsWellTyped, EachSpeaks}
+use Rattle.type_check.specs.WellTyped.{Surroundings, IsWellTyped, EachSpeaks}
 use Rattle.mir_build.specs.Text.{Title, Line, Makes, Turns, made}
-use Rattle.mir_build.specs.Lowering.{numbers, Around, Formula, accepted, whole, looping, binds, moved, head_of, dies_in, puts, puts_at, put_unit, made_by, calls, turning, IntoBody}
+use Rattle.mir_build.specs.Lowering.{numbers, Around, Formula, accepted, whole, looping, binds, moved, head_of, dies_in, puts, puts_at, put_unit, made_by, calls, turning, circling, IntoBody}
 use Rattle.mir_build.proofs.Numbers.{count}
 use Rattle.mir_build.proofs.LawLists.{Has, here, there, has_get, makings-append, count-append, count_self}
 use Rattle.mir_build.proofs.LawNames.{HoldsPlaces, head_fits}
-use Rattle.mir_build.proofs.LawRuns.{with_self, with_more, with_within, kept, Runs, stops, runs-append, Laid, laid_stops, laid_puts, laid_makes, laid_panics, laid-append}
-use Rattle.mir_build.proofs.LawLaid.{weight, Apart, none, before, first, second, left, right, fresh_second, given_up, still, same_set, forked, parted, looped, with_all, with_all_more, with_all_has, called, weight_with}
+use Rattle.mir_build.proofs.LawRuns.{with_self, with_more, with_within, kept, Runs, stops, runs-append, Laid, laid_stops, laid_puts, laid_makes, laid_panics, laid_returns, laid-append}
+use Rattle.mir_build.proofs.LawLaid.{weight, Apart, none, before, first, second, left, right, fresh_second, given_up, still, same_set, forked, parted, looped, circled, with_all, with_all_more, with_all_has, called, weight_with}
 use Rattle.mir_build.proofs.TypedShapes.{Takes, of_number, of_bool, of_unit, of_copy, of_minus, of_not, of_operation, KeepsTyped, of_typed_body}
 
 -- the set has the locals of the places in scope, one place for each variable
@@ -126,6 +126,9 @@ weight_holding x (t ∷ ts) set = omega (arith, weight_with x t.0 (holding ts se
 first_apart : (d t : ℕ) (ts : List (ℕ × Ty)) (set : Locals) (us ys : List Line) → Apart set (d ∷ (numbers ts ++ t ∷ numbers (made (us ++ ys)))) → Apart (holding ts set) (t ∷ numbers (made us))
 first_apart d t ts set us ys h = record { once = λ x. omega (arith, weight_holding x ts set, count-append x (numbers ts) (t ∷ numbers (made (us ++ ys))), makings-append x us ys, h.once x) }
 
+answer_apart : (t : ℕ) (ts : List (ℕ × Ty)) (set : Locals) (us ys : List Line) → Apart set (0 ∷ (numbers ts ++ t ∷ numbers (made (us ++ ys)))) → Apart (holding ts set) (0 ∷ numbers (made us))
+answer_apart t ts set us ys h = record { once = λ x. omega (arith, weight_holding x ts set, count-append x (numbers ts) (t ∷ numbers (made (us ++ ys))), makings-append x us ys, h.once x) }
+
 rest_apart : (d t : ℕ) (ts : List (ℕ × Ty)) (set : Locals) (us ys : List Line) → Apart set (d ∷ (numbers ts ++ t ∷ numbers (made (us ++ ys)))) → Apart set (d ∷ t ∷ (numbers ts ++ numbers (made ys)))
 rest_apart d t ts set us ys h = record { once = λ x. omega (arith, count-append x (numbers ts) (t ∷ numbers (made (us ++ ys))), count-append x (numbers ts) (numbers (made ys)), makings-append x us ys, h.once x) }
 
@@ -145,30 +148,30 @@ only_made set us rest h = record { once = λ x. omega (arith, makings-append x u
 
 -- ---- the shapes
 
--- where the temporaries are initialised besides the set, d is too behind the text
+-- where the temporaries are initialised besides the set, d is too behind the text; the answer, local 0, is written by what returns
 abbrev pub WritesSet : Around → List Ty → List (ℕ × Ty) → ℕ → Ty → List Line → Type 0
-WritesSet c Γ ts d T xs = (set : Locals) → Scoped c Γ set → Apart set (d ∷ (numbers ts ++ numbers (made xs))) → Laid (holding ts set) xs (with d set)
+WritesSet c Γ ts d T xs = (set : Locals) → Scoped c Γ set → Apart set (0 ∷ (numbers ts ++ numbers (made xs))) → Apart set (d ∷ (numbers ts ++ numbers (made xs))) → Laid (holding ts set) xs (with d set)
 
 -- the place is initialised behind the text
 pub record NamesIn (c : Around) (Γ : List Ty) (p : Place) (T : Ty) (xs : List Line) : Type 0 where
   pub behind : Locals → Locals
   pub more : (set : Locals) → Within set (behind set)
   pub there : (set : Locals) → Scoped c Γ set → behind set p.local ≡ true
-  pub laid : (set : Locals) → Scoped c Γ set → Apart set (numbers (made xs)) → Laid set xs (behind set)
+  pub laid : (set : Locals) → Scoped c Γ set → Apart set (0 ∷ numbers (made xs)) → Laid set xs (behind set)
 
 -- each argument is initialised behind the text, which makes its temporary
 pub record PassesSet (c : Around) (Γ : List Ty) (ts : List ℕ) (Ts : List Ty) (xs : List Line) : Type 0 where
   pub counts : (x : ℕ) → count x ts ≤ count x (numbers (made xs))
-  pub laid : (set : Locals) → Scoped c Γ set → Apart set (numbers (made xs)) → Laid set xs (with_all ts set)
+  pub laid : (set : Locals) → Scoped c Γ set → Apart set (0 ∷ numbers (made xs)) → Laid set xs (with_all ts set)
 
 laid_put : (c : Around) (Γ : List Ty) (ts : List (ℕ × Ty)) (s : Span) (d : ℕ) (r : Rvalue) (T : Ty) → Takes c Γ ts r T → WritesSet c Γ ts d T (puts s d r ∷ [])
-laid_put c Γ ts s d r T (of_number h) set sc a = laid_puts _ _ _ _ tt (laid_stops _ _ (same_set (with d set)))
-laid_put c Γ ts s d r T (of_bool h) set sc a = laid_puts _ _ _ _ tt (laid_stops _ _ (same_set (with d set)))
-laid_put c Γ ts s d r T (of_unit h) set sc a = laid_puts _ _ _ _ tt (laid_stops _ _ (same_set (with d set)))
-laid_put c Γ ts s d r T (of_copy v p q h) set sc a = laid_puts _ _ _ _ (sc.holds p (has_get c.scope v p q)) (laid_stops _ _ (same_set (with d set)))
-laid_put c Γ ts s d r T (of_minus {t = t} i h e q) set sc a = laid_puts _ _ _ _ (with_self t set) (laid_stops _ _ (moved_on d t set (fresh_second d t set _ a)))
-laid_put c Γ ts s d r T (of_not {t = t} h q) set sc a = laid_puts _ _ _ _ (with_self t set) (laid_stops _ _ (moved_on d t set (fresh_second d t set _ a)))
-laid_put c Γ ts s d r T (of_operation {t = t} {u = u} h e) set sc a =
+laid_put c Γ ts s d r T (of_number h) set sc z a = laid_puts _ _ _ _ tt (laid_stops _ _ (same_set (with d set)))
+laid_put c Γ ts s d r T (of_bool h) set sc z a = laid_puts _ _ _ _ tt (laid_stops _ _ (same_set (with d set)))
+laid_put c Γ ts s d r T (of_unit h) set sc z a = laid_puts _ _ _ _ tt (laid_stops _ _ (same_set (with d set)))
+laid_put c Γ ts s d r T (of_copy v p q h) set sc z a = laid_puts _ _ _ _ (sc.holds p (has_get c.scope v p q)) (laid_stops _ _ (same_set (with d set)))
+laid_put c Γ ts s d r T (of_minus {t = t} i h e q) set sc z a = laid_puts _ _ _ _ (with_self t set) (laid_stops _ _ (moved_on d t set (fresh_second d t set _ a)))
+laid_put c Γ ts s d r T (of_not {t = t} h q) set sc z a = laid_puts _ _ _ _ (with_self t set) (laid_stops _ _ (moved_on d t set (fresh_second d t set _ a)))
+laid_put c Γ ts s d r T (of_operation {t = t} {u = u} h e) set sc z a =
     let no_u : set u ≡ false = fresh_second d u set _ a in
     let no_t : set t ≡ false = fresh_second d t set _ (without_second d u set _ a) in
     let u_free : with t set u ≡ false = fresh_second d u (with t set) [] (other_held d t u set a) in
@@ -178,71 +181,84 @@ laid_put c Γ ts s d r T (of_operation {t = t} {u = u} h e) set sc a =
     other_held d t u set h = record { once = λ x. omega (arith, weight_with x t set, h.once x) }
 
 laid_assigned : (c : Around) (Γ : List Ty) (s : Span) (t : ℕ) (T : Ty) (p : Place) (U : Ty) (d : ℕ) (V : Ty) (xs : List Line) → NamesIn c Γ p U xs → WritesSet c Γ ((t, T) ∷ []) d V (xs ++ puts_at s p (Use (moved t)) ∷ put_unit s d ∷ [])
-laid_assigned c Γ s t T p U d V xs q set sc a =
+laid_assigned c Γ s t T p U d V xs q set sc z a =
     let now = q.behind (with t set) in
     let more : Within (with t set) now = q.more (with t set) in
-    laid-append (with t set) now (with d set) xs _ (q.laid (with t set) (more_scoped c Γ set t sc) (only_made (with t set) xs _ (behind_first d (with t set) _ (second_held d t set _ a))))
+    laid-append (with t set) now (with d set) xs _ (q.laid (with t set) (more_scoped c Γ set t sc) (left 0 (with t set) xs _ (second_held 0 t set _ z)))
     (laid_puts _ _ _ _ (more t (with_self t set)) (laid_puts _ _ _ _ tt (laid_stops _ _ (assigned d p.local t set now (fresh_second d t set _ a) (λ y g. more y (with_more t set y g))))))
 
 laid_updated : (c : Around) (Γ : List Ty) (s : Span) (op : BinaryOp) (t u : ℕ) (T : Ty) (p : Place) (U : Ty) (d : ℕ) (V : Ty) (xs : List Line) → NamesIn c Γ p U xs
     → WritesSet c Γ ((t, T) ∷ []) d V (xs ++ (made_by u T (puts s u (Binary op (Copy p) (moved t)) ∷ []) ++ puts_at s p (Use (moved u)) ∷ put_unit s d ∷ []))
-laid_updated c Γ s op t u T p U d V xs q set sc a =
+laid_updated c Γ s op t u T p U d V xs q set sc z a =
     let scoped = more_scoped c Γ set t sc in
     let held = q.behind (with t set) in
     let more : Within (with t set) held = q.more (with t set) in
     let no_u : set u ≡ false = fresh_second d u set [] (right d set xs _ (without_second d t set _ a)) in
     let now = without t held in
     let w : Within set now = kept t set held (fresh_second d t set _ a) (λ y g. more y (with_more t set y g)) in
-    laid-append (with t set) held (with d set) xs _ (q.laid (with t set) scoped (only_made (with t set) xs _ (behind_first d (with t set) _ (second_held d t set _ a))))
+    laid-append (with t set) held (with d set) xs _ (q.laid (with t set) scoped (left 0 (with t set) xs _ (second_held 0 t set _ z)))
     (laid_makes _ _ _ _ _ (laid_puts _ _ _ _ (q.there (with t set) scoped, more t (with_self t set))
     (laid_puts _ _ _ _ (with_self u now) (laid_puts _ _ _ _ tt (laid_stops _ _ (assigned d p.local u set (with u now) no_u (λ y g. with_more u now y (w y g))))))))
 
 laid_turning : (c : Around) (Γ : List Ty) (s : Span) (head body after : Label) (fs : List Formula) (t : ℕ) (T : Ty) (xs : List Line) (u : ℕ) (U : Ty) (ys : List Line) (d : ℕ) (V : Ty) → EachSpeaks (length Γ) (map accepted fs)
     → WritesSet (looping c head) Γ [] t T xs → WritesSet (looping c head) Γ [] u U ys → WritesSet c Γ [] d V (turning c s head body after fs t T xs u U ys (put_unit s d ∷ []))
-laid_turning c Γ s head body after fs t T xs u U ys d V h p q set sc a =
+laid_turning c Γ s head body after fs t T xs u U ys d V h p q set sc z a =
     let inside = in_loop c Γ set head sc in
     let b = before t set _ (second d t set xs _ a) in
+    let y = without_second 0 t set _ z in
     looped c (looping c head) s d t u _ _ head body after (head_of c fs) _ set xs ys (head_fits set c (length Γ) (map accepted fs) fs refl sc.count sc.holds h) (none set _ (own_apart d t u set xs ys _ _ _ _ a)) (fresh_second d t set _ a)
-    (p set inside (first d t set xs _ a)) (q set inside (first d u set ys _ b))
+    (p set inside (left 0 set xs _ y) (first d t set xs _ a)) (q set inside (left 0 set ys _ (without_second 0 u set _ (right 0 set xs _ y))) (first d u set ys _ b))
+
+laid_circling : (c : Around) (Γ : List Ty) (s : Span) (head : Label) (fs : List Formula) (u : ℕ) (U : Ty) (ys : List Line) (d : ℕ) (T : Ty) → EachSpeaks (length Γ) (map accepted fs) → WritesSet (looping c head) Γ [] u U ys
+    → WritesSet c Γ [] d T (circling c s head fs u U ys)
+laid_circling c Γ s head fs u U ys d T h p set sc z a =
+    let own = first d u set ys _ a in
+    circled (looping c head) s u U head (head_of c fs) _ set (with d set) ys (head_fits set c (length Γ) (map accepted fs) fs refl sc.count sc.holds h) (none set _ own)
+    (p set (in_loop c Γ set head sc) (left 0 set ys _ (without_second 0 u set _ z)) own)
 
 laid_call : (c : Around) (Γ : List Ty) (s : Span) (f : ℕ) (ts : List ℕ) (after : Label) (d : ℕ) (T : Ty) (Ts : List Ty) (xs : List Line) → PassesSet c Γ ts Ts xs → WritesSet c Γ [] d T (xs ++ calls c s f d ts after ∷ [])
-laid_call c Γ s f ts after d T Ts xs p set sc a =
+laid_call c Γ s f ts after d T Ts xs p set sc z a =
     let b : Apart set (numbers (made xs)) = only_made set xs _ (behind_first d set _ a) in
-    laid-append set (with_all ts set) (with d set) xs _ (p.laid set sc b)
+    laid-append set (with_all ts set) (with d set) xs _ (p.laid set sc (left 0 set xs _ z))
     (called c s f d ts after set (with_all ts set) (record { once = λ x. omega (arith, p.counts x, b.once x) }) (with_all_has ts set) (with_all_more ts set))
 
 laid_argument : (c : Around) (Γ : List Ty) (t : ℕ) (T U : Ty) (xs : List Line) (ts : List ℕ) (Ts : List Ty) (ys : List Line) → WritesSet c Γ [] t U xs → PassesSet c Γ ts Ts ys → PassesSet c Γ (t ∷ ts) (T ∷ Ts) (made_by t U xs ++ ys)
 laid_argument c Γ t T U xs ts Ts ys p q = record {
   counts = λ x. omega (arith, makings-append x xs ys, q.counts x);
-  laid = λ set sc a.
-      laid_makes _ _ _ _ _ (laid-append set (with t set) (with_all ts (with t set)) xs ys (p set sc (first_argument t set xs ys a)) (q.laid (with t set) (more_scoped c Γ set t sc) (later_arguments t set xs ys a)));
+  laid = λ set sc z.
+      laid_makes _ _ _ _ _ (laid-append set (with t set) (with_all ts (with t set)) xs ys (p set sc (left 0 set xs ys (without_second 0 t set _ z)) (first_argument t set xs ys (behind_first 0 set _ z)))
+      (q.laid (with t set) (more_scoped c Γ set t sc) (right 0 (with t set) xs ys (second_held 0 t set _ z))));
 }
   where
     first_argument : (t : ℕ) (set : Locals) (us vs : List Line) → Apart set (t ∷ numbers (made (us ++ vs))) → Apart set (t ∷ numbers (made us))
     first_argument t set us vs h = record { once = λ x. omega (arith, makings-append x us vs, h.once x) }
 
-    later_arguments : (t : ℕ) (set : Locals) (us vs : List Line) → Apart set (t ∷ numbers (made (us ++ vs))) → Apart (with t set) (numbers (made vs))
-    later_arguments t set us vs h = record { once = λ x. omega (arith, makings-append x us vs, weight_with x t set, h.once x) }
-
-keeps_sets : (σ : List Signature) → KeepsTyped σ WritesSet NamesIn PassesSet
+keeps_sets : (σ : Surroundings) → KeepsTyped σ WritesSet NamesIn PassesSet
 keeps_sets σ = record {
   put = laid_put;
-  made = λ c Γ ts t T xs d U ys p q set sc a.
-      laid_makes _ _ _ _ _ (laid-append (holding ts set) (with t (holding ts set)) (with d set) xs ys (p (holding ts set) (holding_scoped c Γ ts set sc) (first_apart d t ts set xs ys a)) (q set sc (rest_apart d t ts set xs ys a)));
-  left = λ c Γ t T d U xs p set sc a. fewer (with t set) (with d (with t set)) (with d set) xs (p (with t set) (more_scoped c Γ set t sc) (second_held d t set _ a)) (ends_with d t set);
-  leaving = λ c Γ t T d U xs p q set sc a. laid_makes _ _ _ _ _ (q set sc (without_second d t set _ a));
-  panicked = λ c Γ s k d T g set sc a. laid_panics s k set (with d set);
-  bound = λ outer c Γ s t T d U xs p set sc a.
-      laid-append (with t set) (with d (with t set)) (with d set) xs _ (p (with t set) (bound_scoped c Γ T set t sc) (left d (with t set) xs _ (second_held d t set _ a))) (laid_dies outer s d t set (bound_apart d t set _ a));
-  tested = λ c Γ s t T yes' no' after d U xs ys e p q set sc a.
+  made = λ c Γ ts t T xs d U ys p q set sc z a.
+      laid_makes _ _ _ _ _ (laid-append (holding ts set) (with t (holding ts set)) (with d set) xs ys (p (holding ts set) (holding_scoped c Γ ts set sc) (answer_apart t ts set xs ys z) (first_apart d t ts set xs ys a))
+      (q set sc (rest_apart 0 t ts set xs ys z) (rest_apart d t ts set xs ys a)));
+  left = λ c Γ t T d U xs p set sc z a. fewer (with t set) (with d (with t set)) (with d set) xs (p (with t set) (more_scoped c Γ set t sc) (second_held 0 t set _ z) (second_held d t set _ a)) (ends_with d t set);
+  leaving = λ c Γ t T d U xs p q set sc z a. laid_makes _ _ _ _ _ (q set sc (without_second 0 t set _ z) (without_second d t set _ a));
+  panicked = λ c Γ s k d T g set sc z a. laid_panics s k set (with d set);
+  returned = λ c Γ s xs d T g p set sc z a. let y = left 0 set xs _ z in laid-append set (with 0 set) (with d set) xs _ (p set sc y y) (laid_returns s (with 0 set) (with d set) (with_self 0 set));
+  circled = λ c Γ s head fs u U ys d T g h p. laid_circling c Γ s head fs u U ys d T h p;
+  bound = λ outer c Γ s t T d U xs p set sc z a.
+      laid-append (with t set) (with d (with t set)) (with d set) xs _ (p (with t set) (bound_scoped c Γ T set t sc) (left 0 (with t set) xs _ (second_held 0 t set _ z)) (left d (with t set) xs _ (second_held d t set _ a)))
+      (laid_dies outer s d t set (bound_apart d t set _ a));
+  tested = λ c Γ s t T yes' no' after d U xs ys e p q set sc z a.
       let b = without_second d t set _ a in
-      forked c s t yes' no' after set (with t set) (with d set) xs ys (with_self t set) (given_up t set (fresh_second d t set _ a)) (p set sc (left d set xs _ b)) (q set sc (left d set ys _ (right d set xs _ b)));
-  forked = λ c Γ s t T yes' no' d U xs ys e p q set sc a.
+      let y = without_second 0 t set _ z in
+      forked c s t yes' no' after set (with t set) (with d set) xs ys (with_self t set) (given_up t set (fresh_second d t set _ a)) (p set sc (left 0 set xs _ y) (left d set xs _ b))
+      (q set sc (left 0 set ys _ (right 0 set xs _ y)) (left d set ys _ (right d set xs _ b)));
+  forked = λ c Γ s t T yes' no' d U xs ys e p q set sc z a.
       let b = without_second d t set _ a in
-      parted c s t yes' no' set (with t set) (with d set) xs ys (with_self t set) (given_up t set (fresh_second d t set _ a)) (with_more d set) (p set sc (left d set xs _ b)) (q set sc (right d set xs _ b));
+      let y = without_second 0 t set _ z in
+      parted c s t yes' no' set (with t set) (with d set) xs ys (with_self t set) (given_up t set (fresh_second d t set _ a)) (with_more d set) (p set sc (left 0 set xs _ y) (left d set xs _ b)) (q set sc (right 0 set xs _ y) (right d set xs _ b));
   turned = λ c Γ s head body after fs t T xs u U ys d V e v h p q. laid_turning c Γ s head body after fs t T xs u U ys d V h p q;
   named = λ c Γ v p T q h. record { behind = λ set. set; more = same_set; there = λ set sc. sc.holds p (has_get c.scope v p q); laid = λ set sc a. laid_stops _ _ (same_set set) };
-  temporary = λ c Γ t T xs p. record { behind = with t; more = with_more t; there = λ set sc. with_self t set; laid = λ set sc a. laid_makes _ _ _ _ _ (p set sc a) };
+  temporary = λ c Γ t T xs p. record { behind = with t; more = with_more t; there = λ set sc. with_self t set; laid = λ set sc z. laid_makes _ _ _ _ _ (p set sc (without_second 0 t set _ z) (behind_first 0 set _ z)) };
   assigned = λ c Γ s t T p U d V xs e v q. laid_assigned c Γ s t T p U d V xs q;
   updated = λ c Γ s op t u T p U d V xs h e v q. laid_updated c Γ s op t u T p U d V xs q;
   no_arguments = λ c Γ. record { counts = λ x. omega arith; laid = λ set sc a. laid_stops _ _ (same_set set) };
@@ -250,5 +266,5 @@ keeps_sets σ = record {
   called = λ c Γ s f g ts after d T xs e q p. laid_call c Γ s f ts after d T g.params xs p;
 }
 
-pub text_laid : (σ : List Signature) (c : Around) (e : TypedExpr) (xs : List Line) → IntoBody c e xs → (Γ : List Ty) (set : Locals) → Scoped c Γ set → IsWellTyped σ Γ e → Apart set (0 ∷ numbers (made xs)) → Laid set xs (with 0 set)
-text_laid σ c e xs p Γ set sc h a = of_typed_body σ WritesSet NamesIn PassesSet (keeps_sets σ) c e xs p Γ h set sc a
+pub text_laid : (σ : Surroundings) (c : Around) (e : TypedExpr) (xs : List Line) → IntoBody c e xs → (Γ : List Ty) (set : Locals) → Scoped c Γ set → IsWellTyped σ Γ e → Apart set (0 ∷ numbers (made xs)) → Laid set xs (with 0 set)
+text_laid σ c e xs p Γ set sc h a = of_typed_body σ WritesSet NamesIn PassesSet (keeps_sets σ) c e xs p Γ h set sc a a

@@ -14,9 +14,9 @@ use Rattle.source_kinds.specs.declared.kinds.BinaryOp.{BinaryOp}
 use Rattle.type_check.specs.declared.program.Signature.{Signature}
 use Rattle.type_check.specs.TypedExpr.{TypedExpr}
 use Rattle.type_check.specs.TypedExprView.{ty_of}
-use Rattle.type_check.specs.WellTyped.{IsBuilt, AllBuilt, IsWellTyped, EachSpeaks, operation_ty, unit}
+use Rattle.type_check.specs.WellTyped.{Surroundings, IsBuilt, AllBuilt, IsWellTyped, EachSpeaks, operation_ty, unit}
 use Rattle.mir_build.specs.Text.{Line, made}
-use Rattle.mir_build.specs.Lowering.{Around, Formula, accepted, whole, looping, binds, moved, dies_in, puts, puts_at, put_unit, made_by, test, fork, calls, turning, IntoBody}
+use Rattle.mir_build.specs.Lowering.{Around, Formula, accepted, whole, looping, binds, moved, dies_in, puts, puts_at, put_unit, made_by, test, fork, calls, turning, circling, IntoBody}
 use Rattle.mir_build.proofs.LawNames.{head_fits}
 use Rattle.mir_build.proofs.LawTyped.{operation_has, operation_built, signed, built_more, built_at, is_local, AreTyped, typed-append, MadeFits, made_first, made_rest, made_left, made_right, ScopeFits, scope_at, scope_more, scope_length, scope_holds}
 use Rattle.mir_build.proofs.TypedShapes.{Takes, of_number, of_bool, of_unit, of_copy, of_minus, of_not, of_operation, KeepsTyped, of_typed_body}
@@ -55,7 +55,8 @@ NamesTyped bodies b c Γ p T xs = Known b c Γ → MadeFits b (made xs) → AreT
 abbrev pub PassesTyped : Bodies → Body → Around → List Ty → List ℕ → List Ty → List Line → Type 0
 PassesTyped bodies b c Γ ts Ts xs = Known b c Γ → MadeFits b (made xs) → AreTyped bodies b xs × OperandsHave b (map moved ts) Ts
 
-module _ (σ : List Signature) (bodies : Bodies) (b : Body) (callees : (n : ℕ) (g : Signature) → slice_get σ n ≡ Some g → Callee bodies n g) (answers : (n : ℕ) (g : Signature) → slice_get σ n ≡ Some g → IsBuilt g.answer) where
+module _ (σ : Surroundings) (bodies : Bodies) (b : Body) (callees : (n : ℕ) (g : Signature) → slice_get σ.signatures n ≡ Some g → Callee bodies n g)
+    (answers : (n : ℕ) (g : Signature) → slice_get σ.signatures n ≡ Some g → IsBuilt g.answer) (own_answer : slice_get b.locals 0 ≡ Some σ.answer) where
   -- local x has the type
   abbrev At : ℕ → Ty → Type 0
   At x t = slice_get b.locals x ≡ Some t
@@ -132,7 +133,16 @@ module _ (σ : List Signature) (bodies : Bodies) (b : Body) (callees : (n : ℕ)
         )) m,
       )
 
-  typed_call : (c : Around) (Γ : List Ty) (s : Span) (f : ℕ) (g : Signature) (ts : List ℕ) (after : Label) (d : ℕ) (T : Ty) (xs : List Line) → slice_get σ f ≡ Some g → T ≡ g.answer → PassesTyped bodies b c Γ ts g.params xs
+  typed_circling : (c : Around) (Γ : List Ty) (s : Span) (head : Label) (fs : List Formula) (u : ℕ) (U : Ty) (ys : List Line) → EachSpeaks (length Γ) (map accepted fs) → Writes (looping c head) Γ [] u U ys → Known b c Γ
+      → MadeFits b (made (circling c s head fs u U ys)) → AreTyped bodies b (circling c s head fs u U ys)
+  typed_circling c Γ s head fs u U ys h q k m =
+      let rest = made_rest b u _ _ m in (
+        tt,
+        head_fits (is_local b) c (length Γ) (map accepted fs) fs refl (scope_length b c.scope Γ k.scope) (scope_holds b c.scope Γ k.scope) h,
+        (q.built k.built_types tt, typed-append bodies b ys _ (q.typed (inner c Γ head k) tt tt (made_first b u _ _ m) (made_left b ys _ rest)) (tt, tt)),
+      )
+
+  typed_call : (c : Around) (Γ : List Ty) (s : Span) (f : ℕ) (g : Signature) (ts : List ℕ) (after : Label) (d : ℕ) (T : Ty) (xs : List Line) → slice_get σ.signatures f ≡ Some g → T ≡ g.answer → PassesTyped bodies b c Γ ts g.params xs
       → Known b c Γ → At d T → MadeFits b (made (xs ++ calls c s f d ts after ∷ [])) → AreTyped bodies b (xs ++ calls c s f d ts after ∷ [])
   typed_call c Γ s f g ts after d T xs e q p k a m =
       let w = callees f g e in
@@ -164,6 +174,8 @@ module _ (σ : List Signature) (bodies : Bodies) (b : Body) (callees : (n : ℕ)
     left = λ c Γ t T d U xs p. record { built = λ g h. p.built g tt; typed = λ k g at a m. p.typed k tt tt a m };
     leaving = λ c Γ t T d U xs p q. record { built = q.built; typed = λ k g at a m. (p.built k.built_types tt, q.typed k tt tt a (made_rest b t T (made xs) m)) };
     panicked = λ c Γ s k d T h. record { built = λ g ts. h; typed = λ k g at a m. (tt, tt) };
+    returned = λ c Γ s xs d T h p. record { built = λ g ts. h; typed = λ k g at a m. typed-append bodies b xs _ (p.typed k tt tt own_answer (made_left b xs _ m)) (tt, tt) };
+    circled = λ c Γ s head fs u U ys d T h f q. record { built = λ g ts. h; typed = λ k g at a m. typed_circling c Γ s head fs u U ys f q k m };
     bound = λ outer c Γ s t T d U xs p. record {
       built = λ g h. p.built (built_more Γ T g h.0) tt;
       typed = λ k g at a m. typed-append bodies b xs _ (p.typed (one_more c Γ t T k at.0 g.0) tt tt a (made_left b xs _ m)) (typed_dies outer s t T at.0);

@@ -3,24 +3,23 @@ use Rattle.std.proofs.Common.{◌≡◌, ◌⊎◌, inl, inr, refl, sym, ◌∙�
 use Rattle.text_core.specs.declared.refusal.Cause.{Cause}
 use Rattle.text_core.specs.declared.span.Span.{Span}
 use Rattle.logic_term.specs.Ty.{Ty}
-use Rattle.type_check.specs.declared.program.Signature.{Signature}
 use Rattle.type_check.specs.Leaves.{leaves}
 use Rattle.type_check.specs.TypedExpr.{TypedExpr, panics, leaving}
 use Rattle.type_check.specs.TypedExprView.{ty_of}
-use Rattle.type_check.specs.WellTyped.{IsBuilt, IsOfOrLeaves, IsWellTyped, StatementsFit}
+use Rattle.type_check.specs.WellTyped.{Surroundings, IsBuilt, IsOfOrLeaves, IsWellTyped, StatementsFit}
 
 -- ---- trees that fit
 
-pub panics_built : (σ : List Signature) (Γ : List Ty) (T : Ty) (s : Span) (k : Cause) → IsWellTyped σ Γ (panics T s k) → IsBuilt T
+pub panics_built : (σ : Surroundings) (Γ : List Ty) (T : Ty) (s : Span) (k : Cause) → IsWellTyped σ Γ (panics T s k) → IsBuilt T
 panics_built σ Γ T s k h = h
 
-pub leaving_value : (σ : List Signature) (Γ : List Ty) (T : Ty) (e : TypedExpr) → StatementsFit σ Γ T (leaving e) → IsWellTyped σ Γ e
+pub leaving_value : (σ : Surroundings) (Γ : List Ty) (T : Ty) (e : TypedExpr) → StatementsFit σ Γ T (leaving e) → IsWellTyped σ Γ e
 leaving_value σ Γ T e h = h.2
 
-pub leaving_leaves : (σ : List Signature) (Γ : List Ty) (T : Ty) (e : TypedExpr) → StatementsFit σ Γ T (leaving e) → leaves e ≡ true
+pub leaving_leaves : (σ : Surroundings) (Γ : List Ty) (T : Ty) (e : TypedExpr) → StatementsFit σ Γ T (leaving e) → leaves e ≡ true
 leaving_leaves σ Γ T e h = h.1
 
-pub leaving_built : (σ : List Signature) (Γ : List Ty) (T : Ty) (e : TypedExpr) → StatementsFit σ Γ T (leaving e) → IsBuilt T
+pub leaving_built : (σ : Surroundings) (Γ : List Ty) (T : Ty) (e : TypedExpr) → StatementsFit σ Γ T (leaving e) → IsBuilt T
 leaving_built σ Γ T e h = h.0
 
 -- ---- what serves

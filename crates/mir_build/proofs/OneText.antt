@@ -7,12 +7,12 @@ use Rattle.mir_ir.specs.declared.place.Place.{Place}
 use Rattle.mir_ir.specs.declared.statement.Rvalue.TheVariants.{Use, Binary, Neg, Not}
 use Rattle.mir_ir.specs.declared.terminator.FnId.TheVariants as fn_id
 use Rattle.mir_ir.specs.declared.terminator.Callee.TheVariants.{Function}
-use Rattle.mir_ir.specs.declared.terminator.TerminatorKind.TheVariants.{Goto, If, Call}
+use Rattle.mir_ir.specs.declared.terminator.TerminatorKind.TheVariants.{Goto, If, Call, Return}
 use Rattle.type_check.specs.TypedExpr.{TypedExpr, TypedStmts, TypedExprs, block}
 use Rattle.type_check.specs.TypedExprView.{ty_of}
-use Rattle.mir_build.specs.Text.{Line, Makes, Turns, Owns, made}
+use Rattle.mir_build.specs.Text.{Line, Makes, Turns, Leaves, Owns, made}
 use Rattle.mir_build.specs.Lowering.{Around, binds, looping, at, at_head, head_of, whole, puts, puts_at, put_unit, moved, ends, dies_in, numbers, lazily, test, fork}
-use Rattle.mir_build.specs.Lowering.{Into, of_integer, of_truth, of_variable, of_negative, of_denied, of_binary, of_lazy, of_assign, of_update, of_call, of_block, of_branch, of_choice, of_leaving_choice, of_repeat, of_panics}
+use Rattle.mir_build.specs.Lowering.{Into, of_integer, of_truth, of_variable, of_negative, of_denied, of_binary, of_lazy, of_assign, of_update, of_call, of_block, of_branch, of_choice, of_leaving_choice, of_repeat, of_panics, of_returned, of_endless}
 use Rattle.mir_build.specs.Lowering.{Rest, of_done, of_last, of_leaving, of_bind, of_run, Args, of_none, of_more, PlaceOf, of_name, of_temporary, is_place, IntoBody, of_outermost, of_other, is_block, named, named_place, named_rest, named_args, named_body}
 use Rattle.mir_build.specs.Numbered.{place_of, temporary_count, temporary_text, if_text, into, rest, args, body_text, labels, locals, temporaries, label, variable_place}
 use Rattle.mir_build.proofs.Numbers.{makings}
@@ -20,7 +20,7 @@ use Rattle.mir_build.proofs.Fills.{fills, target_fills, numbers_of}
 use Rattle.mir_build.proofs.Targets.{one_temporary_text, whole_temporary}
 use Rattle.mir_build.proofs.Order.{InOrder}
 use Rattle.mir_build.proofs.Accepted.{formulas_are}
-use Rattle.mir_build.proofs.Rows.{own_locals}
+use Rattle.mir_build.proofs.Rows.{own_local, own_locals}
 use Rattle.mir_build.proofs.Following.{From, from_left, two, three, order_left, order_right, order_lazy}
 use Rattle.mir_build.proofs.Rowwise.{labels_behind, labels_behind_args}
 
@@ -116,6 +116,15 @@ mutual
       ++ Turns (ends s (If (moved (o.0 i)) (label (k.1 i)) (label (k.2 i)))) (at (looping c (label (k.0 i))) (label (k.1 i))) ∷ Makes (r.0 i) (ty_of b)
       ∷ (y i ++ Turns (ends s (Goto (label (k.0 i)))) (at c (label (k.2 i))) ∷ Owns (label (k.0 i)) (own i) ∷ put_unit s d ∷ []))
   one_text c e d xs of_panics l t n o = refl
+  one_text c e d xs (of_returned {s = s} {e = a} {xs = us} p) l t n o =
+      let x = one_text c a 0 us p l t n (order_left t us _ o) in
+      λ i. x i ++ Leaves (ends s Return) ∷ []
+  one_text c e d xs (of_endless {s = s} {is = is} {b = b} {u = u'} head fs {ys = vs} g p) l t n o =
+      let f = formulas_are is fs g in
+      let y = one_text (looping c head) b u' vs p (l + 1) (t + 1) n.1 (order_left (t + 1) vs _ o.1) ∙ (λ i. into b (looping c (label (n.0 i))) (l + 1) (t + 1) (o.0 i)) in
+      let own = (λ i. o.0 i ∷ numbers (made (y i))) ∙ own_local t (locals b) _ (numbers_of b (looping c (label l)) (l + 1) (t + 1) t) in
+      λ i. Turns (ends s (Goto (label (n.0 i)))) (at_head (looping c (label (n.0 i))) (label (n.0 i)) (head_of c (f i))) ∷ Makes (o.0 i) (ty_of b)
+      ∷ (y i ++ Leaves (ends s (Goto (label (n.0 i)))) ∷ Owns (label (n.0 i)) (own i) ∷ [])
 
   one_place : (c : Around) (e : TypedExpr) (x : Place) (xs : List Line) (p : PlaceOf c e x xs) (l t : ℕ) → From l (named_place p) → InOrder t xs
       → (x ≡ place_of c.scope t e) × (xs ≡ temporary_text (is_place e) t (ty_of e) (into e c l (t + 1) t))

@@ -24,6 +24,8 @@ ty_of_node t s (node.If a0 a1) = refl
 ty_of_node t s (node.IfElse a0 a1 a2) = refl
 ty_of_node t s (node.While a0 a1 a2) = refl
 ty_of_node t s (node.Panic a0) = refl
+ty_of_node t s (node.Return a0) = refl
+ty_of_node t s (node.Loop a0 a1) = refl
 
 pub span_of_node : (t : Ty) (s : Span) (n : TypedNode) → span_of (typed_of t s n) ≡ s
 span_of_node t s (node.Int a0 a1) = refl
@@ -43,3 +45,5 @@ span_of_node t s (node.If a0 a1) = refl
 span_of_node t s (node.IfElse a0 a1 a2) = refl
 span_of_node t s (node.While a0 a1 a2) = refl
 span_of_node t s (node.Panic a0) = refl
+span_of_node t s (node.Return a0) = refl
+span_of_node t s (node.Loop a0 a1) = refl

@@ -6,15 +6,14 @@ use Rattle.text_core.specs.declared.span.Span.{Span}
 use Rattle.logic_term.specs.Ty.{Ty}
 use Rattle.mir_ir.specs.declared.place.Place.{Place}
 use Rattle.type_check.specs.declared.assertion.Assertion.{Assertion}
-use Rattle.type_check.specs.declared.program.Signature.{Signature}
-use Rattle.type_check.specs.TypedExpr.{TypedExpr, TypedStmts, TypedExprs, integer, truth, variable, negative, denied, binary, lazy, assign, update, call, block, branch, choice, repeat, panics, done, last, leaving, bind, run, none, more}
+use Rattle.type_check.specs.TypedExpr.{TypedExpr, TypedStmts, TypedExprs, integer, truth, variable, negative, denied, binary, lazy, assign, update, call, block, branch, choice, repeat, panics, returned, endless, done, last, leaving, bind, run, none, more}
 use Rattle.type_check.specs.Leaves.{leaves}
 use Rattle.type_check.specs.TypedExprView.{ty_of}
 use Rattle.type_check.specs.FirstBad.{bad_among, bad_in, bad_in_stmts, bad_in_exprs}
 use Rattle.type_check.specs.Answers.{or_else}
-use Rattle.type_check.specs.WellTyped.{IsWellTyped, StatementsFit, ArgumentsFit}
+use Rattle.type_check.specs.WellTyped.{Surroundings, IsWellTyped, StatementsFit, ArgumentsFit}
 use Rattle.mir_build.specs.Lowering.{is_place, Around, accepted, whole, binds, looping, Into, of_integer, of_truth, of_variable, of_negative, of_denied, of_binary, of_lazy, of_assign, of_update, of_call, of_block, of_branch}
-use Rattle.mir_build.specs.Lowering.{of_choice, of_leaving_choice, of_repeat, of_panics, Rest, of_done, of_last, of_leaving, of_bind, of_run, Args, of_none, of_more, PlaceOf, of_name, of_temporary, IntoBody, of_outermost, of_other, named, named_place, named_rest, named_args, named_body}
+use Rattle.mir_build.specs.Lowering.{of_choice, of_leaving_choice, of_repeat, of_panics, of_returned, of_endless, Rest, of_done, of_last, of_leaving, of_bind, of_run, Args, of_none, of_more, PlaceOf, of_name, of_temporary, IntoBody, of_outermost, of_other, named, named_place, named_rest, named_args, named_body}
 use Rattle.mir_build.specs.Text.{Line, Makes}
 use Rattle.mir_build.specs.Numbered.{place_of, temporary_text, choice_labels, choice_text, formula_of, into, rest, args, body_text, labels, labels_in, locals, temporaries, label, variable_place, between}
 use Rattle.mir_build.proofs.Accepted.{first_none, second_none, all_accepted}
@@ -46,6 +45,10 @@ own_locals t a b xs ys p q =
     let n : t + 1 + a + 1 + b - t ≡ suc (a + suc b) = omega arith in
     rw (p, q, n) (ap (λ zs. t ∷ zs) (sym (range_split (t + 1) a (suc b))))
 
+-- the same of a loop without a condition
+pub own_local : (t a : ℕ) (xs : List ℕ) → xs ≡ range_with_len (t + 1) a → t ∷ xs ≡ between t (t + 1 + a)
+own_local t a xs p = let n : t + 1 + a - t ≡ suc a = omega arith in rw (p, n) refl
+
 -- a text of the rows whose labels are l, l + 1 and so on
 abbrev pub Lowered : Around → TypedExpr → ℕ → ℕ → List Line → Type 0
 Lowered c e d l xs = (p : Into c e d xs) × From l (named p)
@@ -60,7 +63,7 @@ abbrev pub PlaceLowered : Around → TypedExpr → Place → ℕ → List Line �
 PlaceLowered c e x l xs = (p : PlaceOf c e x xs) × From l (named_place p)
 
 -- what an assignment writes
-target : (σ : List Signature) (Γ : List Ty) (e : TypedExpr) (c : Around) (l t : ℕ) → IsFor Γ c.scope → IsWellTyped σ Γ e → Lowered c e t l (into e c l (t + 1) t)
+target : (σ : Surroundings) (Γ : List Ty) (e : TypedExpr) (c : Around) (l t : ℕ) → IsFor Γ c.scope → IsWellTyped σ Γ e → Lowered c e t l (into e c l (t + 1) t)
     → PlaceLowered c e (place_of c.scope t e) l (temporary_text (is_place e) t (ty_of e) (into e c l (t + 1) t))
 target σ Γ (variable ty s v) c l t h w p = (of_name _ (in_scope Γ c.scope v ty h w), tt)
 target σ Γ e c l t h w p = (of_temporary refl p.0, p.1)
@@ -72,6 +75,14 @@ looped : (ty : Ty) (s : Span) (is : List Assertion) (e b : TypedExpr) (c : Aroun
 looped ty s is e b c l t d g p q =
     let row : Lowered c (repeat ty s is e b) d l _ = (of_repeat (label l) (label (l + 1)) (label (l + 2)) (map formula_of is) g p.0 q.0, then_three l (named p.0 ++ named q.0) (labels_then p.0 (l + 3) (named q.0) p.1 q.1)) in
     let own = own_locals t (locals e) (locals b) _ _ (numbers_of e (looping c (label l)) (l + 3) (t + 1) t) (numbers_of b (looping c (label l)) (l + 3 + labels e) (t + 1 + locals e + 1) (t + 1 + locals e)) in
+    rw own at row
+
+-- a loop that is not left, by its body
+circled : (ty : Ty) (s : Span) (is : List Assertion) (b : TypedExpr) (c : Around) (l t d : ℕ) → is ≡ map accepted (map formula_of is) → Lowered (looping c (label l)) b t (l + 1) (into b (looping c (label l)) (l + 1) (t + 1) t)
+    → Lowered c (endless ty s is b) d l (into (endless ty s is b) c l t d)
+circled ty s is b c l t d g p =
+    let row : Lowered c (endless ty s is b) d l _ = (of_endless (label l) (map formula_of is) g p.0, (refl, p.1)) in
+    let own = own_local t (locals b) _ (numbers_of b (looping c (label l)) (l + 1) (t + 1) t) in
     rw own at row
 
 -- `if` with `else`, by its condition and its sides
@@ -87,7 +98,7 @@ chosen false ty s e a b c l m t d xs ys zs n k p q r =
     (of_choice (label m) (label (m + 1)) (label (m + 2)) n p.0 q.0 r.0, labels_then p.0 l (m ∷ (m + 1) ∷ (m + 2) ∷ ns) p.1 (subst (λ i. From i (m ∷ (m + 1) ∷ (m + 2) ∷ ns)) k behind))
 
 mutual
-  pub lowers : (σ : List Signature) (Γ : List Ty) (e : TypedExpr) (c : Around) (l t d : ℕ) → IsFor Γ c.scope → IsWellTyped σ Γ e → bad_in e ≡ None → Lowered c e d l (into e c l t d)
+  pub lowers : (σ : Surroundings) (Γ : List Ty) (e : TypedExpr) (c : Around) (l t d : ℕ) → IsFor Γ c.scope → IsWellTyped σ Γ e → bad_in e ≡ None → Lowered c e d l (into e c l t d)
   lowers σ Γ (integer ty s z k) c l t d h w g = (of_integer, tt)
   lowers σ Γ (truth ty s b) c l t d h w g = (of_truth, tt)
   lowers σ Γ (variable ty s v) c l t d h w g = (of_variable _ (in_scope Γ c.scope v ty h w), tt)
@@ -145,8 +156,14 @@ mutual
       let q = lowers σ Γ b inside (l + 3 + labels e) (u + 1) u h w.5 (second_none (bad_in e) (bad_in b) (second_none (bad_among is) (or_else (bad_in e) (bad_in b)) g)) in
       looped ty s is e b c l t d (all_accepted is (first_none (bad_among is) (or_else (bad_in e) (bad_in b)) g)) p q
   lowers σ Γ (panics ty s k) c l t d h w g = (of_panics, tt)
+  lowers σ Γ (returned ty s e) c l t d h w g =
+      let p = lowers σ Γ e c l t 0 h w.2 g in
+      (of_returned p.0, p.1)
+  lowers σ Γ (endless ty s is b) c l t d h w g =
+      let p = lowers σ Γ b (looping c (label l)) (l + 1) (t + 1) t h w.3 (second_none (bad_among is) (bad_in b) g) in
+      circled ty s is b c l t d (all_accepted is (first_none (bad_among is) (bad_in b) g)) p
 
-  pub rests : (σ : List Signature) (Γ : List Ty) (ty : Ty) (ss : TypedStmts) (outer : Bool) (s : Span) (c : Around) (l t d : ℕ) → IsFor Γ c.scope → StatementsFit σ Γ ty ss → bad_in_stmts ss ≡ None
+  pub rests : (σ : Surroundings) (Γ : List Ty) (ty : Ty) (ss : TypedStmts) (outer : Bool) (s : Span) (c : Around) (l t d : ℕ) → IsFor Γ c.scope → StatementsFit σ Γ ty ss → bad_in_stmts ss ≡ None
       → RestLowered c outer s ss d l (rest ss outer s c l t d)
   rests σ Γ ty done outer s c l t d h w g = (of_done, tt)
   rests σ Γ ty (last e) outer s c l t d h w g =
@@ -164,7 +181,7 @@ mutual
       let q = rests σ Γ ty ss outer s c (l + labels e) (t + 1 + locals e) d h w.1 (second_none (bad_in e) (bad_in_stmts ss) g) in
       (of_run p.0 q.0, labels_then p.0 l (named_rest q.0) p.1 q.1)
 
-  arguments : (σ : List Signature) (Γ : List Ty) (es : TypedExprs) (c : Around) (l t : ℕ) (ts : List Ty) → IsFor Γ c.scope → ArgumentsFit σ Γ es ts → bad_in_exprs es ≡ None → ArgsLowered c es (temporaries es t) l (args es c l t)
+  arguments : (σ : Surroundings) (Γ : List Ty) (es : TypedExprs) (c : Around) (l t : ℕ) (ts : List Ty) → IsFor Γ c.scope → ArgumentsFit σ Γ es ts → bad_in_exprs es ≡ None → ArgsLowered c es (temporaries es t) l (args es c l t)
   arguments σ Γ none c l t ts h w g = (of_none, tt)
   arguments σ Γ (more e es) c l t [] h w g = absurd w
   arguments σ Γ (more e es) c l t (ty ∷ ts) h w g =
@@ -172,7 +189,7 @@ mutual
       let q = arguments σ Γ es c (l + labels e) (t + 1 + locals e) ts h w.2 (second_none (bad_in e) (bad_in_exprs es) g) in
       (of_more p.0 q.0, labels_then p.0 l (named_args q.0) p.1 q.1)
 
-pub lowers_body : (σ : List Signature) (Γ : List Ty) (e : TypedExpr) (c : Around) (l t : ℕ) → IsFor Γ c.scope → IsWellTyped σ Γ e → bad_in e ≡ None → (p : IntoBody c e (body_text e c l t)) × From l (named_body p)
+pub lowers_body : (σ : Surroundings) (Γ : List Ty) (e : TypedExpr) (c : Around) (l t : ℕ) → IsFor Γ c.scope → IsWellTyped σ Γ e → bad_in e ≡ None → (p : IntoBody c e (body_text e c l t)) × From l (named_body p)
 lowers_body σ Γ (block ty s ss) c l t h w g =
     let p = rests σ Γ ty ss true s c l t 0 h w g in
     (of_outermost p.0, p.1)

@@ -8,7 +8,7 @@ use Rattle.source_kinds.specs.declared.kinds.LazyOp.TheVariants.{And, Or}
 use Rattle.type_check.specs.TypedExpr.{TypedExpr, TypedStmts, TypedExprs}
 use Rattle.mir_build.specs.Text.{Line}
 use Rattle.mir_build.specs.Lowering.{Around, lazily, Into, of_integer, of_truth, of_variable, of_negative, of_denied, of_binary, of_lazy, of_assign, of_update, of_call, of_block}
-use Rattle.mir_build.specs.Lowering.{of_branch, of_choice, of_leaving_choice, of_repeat, of_panics, Rest, of_done, of_last, of_leaving, of_bind, of_run, Args, of_none, of_more, PlaceOf, of_name, of_temporary, IntoBody, of_outermost, of_other, named, named_place, named_rest, named_args}
+use Rattle.mir_build.specs.Lowering.{of_branch, of_choice, of_leaving_choice, of_repeat, of_panics, of_returned, of_endless, Rest, of_done, of_last, of_leaving, of_bind, of_run, Args, of_none, of_more, PlaceOf, of_name, of_temporary, IntoBody, of_outermost, of_other, named, named_place, named_rest, named_args}
 use Rattle.mir_build.specs.Numbered.{choice_labels, labels, labels_of, labels_in}
 use Rattle.mir_build.proofs.Following.{From, from_right, from_both}
 use Rattle.mir_build.proofs.Numbers.{turns, turns-append, no_turns}
@@ -75,6 +75,12 @@ mutual
       let y = counts _ _ _ _ q in
       (omega (arith, length-append (named p) (named q), x.0, y.0), simp turns-append (omega (arith, x.1, y.1)))
   counts c e d xs of_panics = (refl, refl)
+  counts c e d xs (of_returned p) =
+      let x = counts c _ _ _ p in
+      (x.0, simp turns-append (omega (arith, x.1)))
+  counts c e d xs (of_endless head fs g p) =
+      let x = counts _ _ _ _ p in
+      (omega (arith, x.0), simp turns-append (omega (arith, x.1)))
 
   place_counts : (c : Around) (e : TypedExpr) (x : Place) (xs : List Line) (p : PlaceOf c e x xs) → Counts (labels e) (named_place p) xs
   place_counts c e x xs (of_name y q) = (refl, refl)

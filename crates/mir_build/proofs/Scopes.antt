@@ -3,11 +3,10 @@ use Rattle.std.proofs.Common.{◌≡◌, refl, ap, get_or, ℕ, ◌+◌, ◌<◌
 use Rattle.std.proofs.lemmas.List.{drop_all}
 use Rattle.std.proofs.lemmas.Option.{slice_get_within}
 use Rattle.logic_term.specs.Ty.{Ty}
-use Rattle.type_check.specs.declared.program.Signature.{Signature}
 use Rattle.type_check.specs.declared.typed.TypedStmt.{TypedStmt}
-use Rattle.type_check.specs.TypedExpr.{TypedExpr, TypedStmts, TypedExprs, integer, truth, variable, negative, denied, binary, lazy, assign, update, call, block, branch, choice, repeat, panics, done, last, leaving, bind, run, none, more}
+use Rattle.type_check.specs.TypedExpr.{TypedExpr, TypedStmts, TypedExprs, integer, truth, variable, negative, denied, binary, lazy, assign, update, call, block, branch, choice, repeat, panics, returned, endless, done, last, leaving, bind, run, none, more}
 use Rattle.type_check.specs.TypedExprView.{ty_of, stmt_of, stmts_of}
-use Rattle.type_check.specs.WellTyped.{IsWellTyped, StatementsFit, ArgumentsFit}
+use Rattle.type_check.specs.WellTyped.{Surroundings, IsWellTyped, StatementsFit, ArgumentsFit}
 use Rattle.mir_build.specs.Lowering.{Around, whole}
 use Rattle.mir_build.specs.Reach.{reach, reach_of, reach_in}
 use Rattle.mir_build.proofs.Bindings.{stmts_at}
@@ -17,7 +16,7 @@ use Rattle.mir_build.proofs.Statements.{around_behind}
 -- ---- what fits reaches no further than its scope
 
 mutual
-  pub within_scope : (σ : List Signature) (Γ : List Ty) (e : TypedExpr) → IsWellTyped σ Γ e → reach e ≤ length Γ
+  pub within_scope : (σ : Surroundings) (Γ : List Ty) (e : TypedExpr) → IsWellTyped σ Γ e → reach e ≤ length Γ
   within_scope σ Γ (integer ty s z k) w = omega arith
   within_scope σ Γ (truth ty s b) w = omega arith
   within_scope σ Γ (variable ty s v) w = omega (arith, slice_get_within Γ v ty w)
@@ -33,15 +32,17 @@ mutual
   within_scope σ Γ (choice ty s e a b) w = omega (arith, within_scope σ Γ e w.3, within_scope σ Γ a w.4, within_scope σ Γ b w.5)
   within_scope σ Γ (repeat ty s is e b) w = omega (arith, within_scope σ Γ e w.4, within_scope σ Γ b w.5)
   within_scope σ Γ (panics ty s k) w = omega arith
+  within_scope σ Γ (returned ty s e) w = within_scope σ Γ e w.2
+  within_scope σ Γ (endless ty s is b) w = within_scope σ Γ b w.3
 
-  statements_within : (σ : List Signature) (Γ : List Ty) (ty : Ty) (ss : TypedStmts) → StatementsFit σ Γ ty ss → reach_of ss ≤ length Γ
+  statements_within : (σ : Surroundings) (Γ : List Ty) (ty : Ty) (ss : TypedStmts) → StatementsFit σ Γ ty ss → reach_of ss ≤ length Γ
   statements_within σ Γ ty done w = omega arith
   statements_within σ Γ ty (last e) w = within_scope σ Γ e w.1
   statements_within σ Γ ty (leaving e) w = within_scope σ Γ e (leaving_value σ Γ ty e w)
   statements_within σ Γ ty (bind e ss) w = omega (arith, within_scope σ Γ e w.0, statements_within σ (Γ ++ ty_of e ∷ []) ty ss w.1, length-append Γ (ty_of e ∷ []))
   statements_within σ Γ ty (run e ss) w = omega (arith, within_scope σ Γ e w.0, statements_within σ Γ ty ss w.1)
 
-  arguments_within : (σ : List Signature) (Γ : List Ty) (es : TypedExprs) (ts : List Ty) → ArgumentsFit σ Γ es ts → reach_in es ≤ length Γ
+  arguments_within : (σ : Surroundings) (Γ : List Ty) (es : TypedExprs) (ts : List Ty) → ArgumentsFit σ Γ es ts → reach_in es ≤ length Γ
   arguments_within σ Γ none ts w = omega arith
   arguments_within σ Γ (more e es) [] w = absurd w
   arguments_within σ Γ (more e es) (t ∷ ts) w = omega (arith, within_scope σ Γ e w.1, arguments_within σ Γ es ts w.2)

@@ -11,8 +11,8 @@ use Rattle.source_kinds.specs.declared.kinds.LazyOp.{LazyOp}
 use Rattle.source_kinds.specs.declared.kinds.LazyOp.TheVariants as lazy_op
 use Rattle.type_check.specs.TypedExpr.{TypedExpr, TypedStmts, TypedExprs}
 use Rattle.mir_build.specs.Text.{Line, Puts, Makes, Leaves}
-use Rattle.mir_build.specs.Lowering.{Around, Formula, binds, looping, ends, dies_in, test, fork, calls, turning, lazily, Into, of_integer, of_truth, of_variable, of_negative, of_denied, of_binary, of_lazy, of_assign}
-use Rattle.mir_build.specs.Lowering.{of_update, of_call, of_block, of_branch, of_choice, of_leaving_choice, of_repeat, of_panics, Rest, of_done, of_last, of_leaving, of_bind, of_run, Args, of_none, of_more, PlaceOf, of_name, of_temporary, IntoBody, of_outermost, of_other}
+use Rattle.mir_build.specs.Lowering.{Around, Formula, binds, looping, ends, dies_in, test, fork, calls, turning, circling, returning, lazily, Into, of_integer, of_truth, of_variable, of_negative, of_denied, of_binary, of_lazy, of_assign}
+use Rattle.mir_build.specs.Lowering.{of_update, of_call, of_block, of_branch, of_choice, of_leaving_choice, of_repeat, of_panics, of_returned, of_endless, Rest, of_done, of_last, of_leaving, of_bind, of_run, Args, of_none, of_more, PlaceOf, of_name, of_temporary, IntoBody, of_outermost, of_other}
 
 -- the property holds of what a shape makes where it holds of its parts
 pub record Keeps (P : Around → List Line → Type 0) : Type 0 where
@@ -24,6 +24,8 @@ pub record Keeps (P : Around → List Line → Type 0) : Type 0 where
   pub tested : (c : Around) (s : Span) (t : ℕ) (yes' no' after : Label) (xs ys : List Line) → P c xs → P c ys → P c (test c s t yes' no' after xs ys)
   pub forked : (c : Around) (s : Span) (t : ℕ) (yes' no' : Label) (xs ys : List Line) → P c xs → P c ys → P c (fork c s t yes' no' xs ys)
   pub panicked : (c : Around) (s : Span) (k : Cause) → P c (Leaves (ends s (Panic k)) ∷ [])
+  pub returned : (c : Around) (s : Span) (xs : List Line) → P c xs → P c (returning s xs)
+  pub circled : (c : Around) (s : Span) (head : Label) (fs : List Formula) (u : ℕ) (U : Ty) (ys : List Line) → P (looping c head) ys → P c (circling c s head fs u U ys)
   pub turned : (c : Around) (s : Span) (head body after : Label) (fs : List Formula) (t : ℕ) (T : Ty) (xs : List Line) (u : ℕ) (U : Ty) (ys zs : List Line)
       → P (looping c head) xs → P (looping c head) ys → P c zs → P c (turning c s head body after fs t T xs u U ys zs)
   -- a text with one variable more in scope
@@ -72,6 +74,8 @@ module _ (P : Around → List Line → Type 0) (keeps : Keeps P) where
     of_text c e d xs (of_repeat {s = s} {t = t} {u = u} head body after fs {xs = us} {ys = vs} g p q) =
         keeps.turned c s head body after fs t _ us u _ vs _ (of_text (looping c head) _ _ us p) (of_text (looping c head) _ _ vs q) (one c _)
     of_text c e d xs (of_panics {s = s} {k = k}) = keeps.panicked c s k
+    of_text c e d xs (of_returned {s = s} {xs = us} p) = keeps.returned c s us (of_text c _ _ us p)
+    of_text c e d xs (of_endless {s = s} {u = u} head fs {ys = vs} g p) = keeps.circled c s head fs u _ vs (of_text (looping c head) _ _ vs p)
 
     of_place : (c : Around) (e : TypedExpr) (x : Place) (xs : List Line) → PlaceOf c e x xs → P c xs
     of_place c e x xs (of_name x' q) = keeps.nothing c

@@ -20,10 +20,10 @@ use Rattle.type_check.specs.declared.program.Signature.{Signature}
 use Rattle.type_check.specs.TypedExpr.{TypedExpr, TypedStmts, TypedExprs}
 use Rattle.type_check.specs.Leaves.{leaves, leaves_at_end}
 use Rattle.type_check.specs.TypedExprView.{ty_of}
-use Rattle.type_check.specs.WellTyped.{unit, operation_ty, is_signed, IsBuilt, EachSpeaks, IsWellTyped, StatementsFit, ArgumentsFit}
+use Rattle.type_check.specs.WellTyped.{unit, operation_ty, is_signed, Surroundings, IsBuilt, EachSpeaks, IsWellTyped, StatementsFit, ArgumentsFit}
 use Rattle.mir_build.specs.Text.{Line, Leaves}
-use Rattle.mir_build.specs.Lowering.{Around, Formula, accepted, whole, binds, looping, puts, puts_at, put_unit, moved, ends, made_by, dies_in, test, fork, calls, turning, lazily}
-use Rattle.mir_build.specs.Lowering.{Into, of_integer, of_truth, of_variable, of_negative, of_denied, of_binary, of_lazy, of_assign, of_update, of_call, of_block, of_branch, of_choice, of_leaving_choice, of_repeat, of_panics}
+use Rattle.mir_build.specs.Lowering.{Around, Formula, accepted, whole, binds, looping, puts, puts_at, put_unit, moved, ends, made_by, dies_in, test, fork, calls, turning, circling, returning, lazily}
+use Rattle.mir_build.specs.Lowering.{Into, of_integer, of_truth, of_variable, of_negative, of_denied, of_binary, of_lazy, of_assign, of_update, of_call, of_block, of_branch, of_choice, of_leaving_choice, of_repeat, of_panics, of_returned, of_endless}
 use Rattle.mir_build.specs.Lowering.{Rest, of_done, of_last, of_leaving, of_bind, of_run, Args, of_none, of_more, PlaceOf, of_name, of_temporary, IntoBody, of_outermost, of_other}
 use Rattle.mir_build.proofs.Leaving.{panics_built, leaving_value, leaving_leaves, leaving_built, Serves, itself, at_type, serves_built, last_serves, side_serves, sides_serve}
 
@@ -39,7 +39,7 @@ pub data Takes (c : Around) (Γ : List Ty) : List (ℕ × Ty) → Rvalue → Ty 
 
 -- `Writes c Γ ts d T xs` is to say of a text that, where the temporaries hold values, it writes a value of the type to local d; `Names c Γ p T xs`
 -- that the place has the type behind the text; `Passes c Γ ts Ts xs` that the text writes arguments of the types to the temporaries
-pub record KeepsTyped (σ : List Signature) (Writes : Around → List Ty → List (ℕ × Ty) → ℕ → Ty → List Line → Type 0) (Names : Around → List Ty → Place → Ty → List Line → Type 0)
+pub record KeepsTyped (σ : Surroundings) (Writes : Around → List Ty → List (ℕ × Ty) → ℕ → Ty → List Line → Type 0) (Names : Around → List Ty → Place → Ty → List Line → Type 0)
     (Passes : Around → List Ty → List ℕ → List Ty → List Line → Type 0) : Type 0 where
   pub put : (c : Around) (Γ : List Ty) (ts : List (ℕ × Ty)) (s : Span) (d : ℕ) (r : Rvalue) (T : Ty) → Takes c Γ ts r T → Writes c Γ ts d T (puts s d r ∷ [])
   -- one temporary more
@@ -50,6 +50,10 @@ pub record KeepsTyped (σ : List Signature) (Writes : Around → List Ty → Lis
   pub leaving : (c : Around) (Γ : List Ty) (t : ℕ) (T : Ty) (d : ℕ) (U : Ty) (xs : List Line) → Writes c Γ [] t T xs → Writes c Γ [] d U xs → Writes c Γ [] d U (made_by t T xs)
   -- what panics serves for every built type
   pub panicked : (c : Around) (Γ : List Ty) (s : Span) (k : Cause) (d : ℕ) (T : Ty) → IsBuilt T → Writes c Γ [] d T (Leaves (ends s (Panic k)) ∷ [])
+  -- so does what returns, behind which the answer is in local 0, and a loop that is not left
+  pub returned : (c : Around) (Γ : List Ty) (s : Span) (xs : List Line) (d : ℕ) (T : Ty) → IsBuilt T → Writes c Γ [] 0 σ.answer xs → Writes c Γ [] d T (returning s xs)
+  pub circled : (c : Around) (Γ : List Ty) (s : Span) (head : Label) (fs : List Formula) (u : ℕ) (U : Ty) (ys : List Line) (d : ℕ) (T : Ty) → IsBuilt T → EachSpeaks (length Γ) (map accepted fs)
+      → Writes (looping c head) Γ [] u U ys → Writes c Γ [] d T (circling c s head fs u U ys)
   pub bound : (outer : Bool) (c : Around) (Γ : List Ty) (s : Span) (t : ℕ) (T : Ty) (d : ℕ) (U : Ty) (xs : List Line) → Writes (binds c t) (Γ ++ T ∷ []) [] d U xs → Writes c Γ ((t, T) ∷ []) d U (xs ++ dies_in outer s t)
   pub tested : (c : Around) (Γ : List Ty) (s : Span) (t : ℕ) (T : Ty) (yes' no' after : Label) (d : ℕ) (U : Ty) (xs ys : List Line) → T ≡ bool → Writes c Γ [] d U xs → Writes c Γ [] d U ys
       → Writes c Γ ((t, T) ∷ []) d U (test c s t yes' no' after xs ys)
@@ -65,10 +69,10 @@ pub record KeepsTyped (σ : List Signature) (Writes : Around → List Ty → Lis
       → Writes c Γ ((t, T) ∷ []) d V (xs ++ (made_by u T (puts s u (Binary op (Copy p) (moved t)) ∷ []) ++ puts_at s p (Use (moved u)) ∷ put_unit s d ∷ []))
   pub no_arguments : (c : Around) (Γ : List Ty) → Passes c Γ [] [] []
   pub argument : (c : Around) (Γ : List Ty) (t : ℕ) (T U : Ty) (xs : List Line) (ts : List ℕ) (Ts : List Ty) (ys : List Line) → U ≡ T → Writes c Γ [] t U xs → Passes c Γ ts Ts ys → Passes c Γ (t ∷ ts) (T ∷ Ts) (made_by t U xs ++ ys)
-  pub called : (c : Around) (Γ : List Ty) (s : Span) (f : ℕ) (g : Signature) (ts : List ℕ) (after : Label) (d : ℕ) (T : Ty) (xs : List Line) → slice_get σ f ≡ Some g → T ≡ g.answer → Passes c Γ ts g.params xs
+  pub called : (c : Around) (Γ : List Ty) (s : Span) (f : ℕ) (g : Signature) (ts : List ℕ) (after : Label) (d : ℕ) (T : Ty) (xs : List Line) → slice_get σ.signatures f ≡ Some g → T ≡ g.answer → Passes c Γ ts g.params xs
       → Writes c Γ [] d T (xs ++ calls c s f d ts after ∷ [])
 
-module _ (σ : List Signature) (Writes : Around → List Ty → List (ℕ × Ty) → ℕ → Ty → List Line → Type 0) (Names : Around → List Ty → Place → Ty → List Line → Type 0) (Passes : Around → List Ty → List ℕ → List Ty → List Line → Type 0)
+module _ (σ : Surroundings) (Writes : Around → List Ty → List (ℕ × Ty) → ℕ → Ty → List Line → Type 0) (Names : Around → List Ty → Place → Ty → List Line → Type 0) (Passes : Around → List Ty → List ℕ → List Ty → List Line → Type 0)
     (keeps : KeepsTyped σ Writes Names Passes) where
   -- what has a value
   valued : (c : Around) (Γ : List Ty) (b : Bool) (d : ℕ) (T : Ty) (d' : ℕ) (U : Ty) (xs : List Line) → b ≡ false → Serves b d T d' U → Writes c Γ [] d T xs → Writes c Γ [] d' U xs
@@ -115,6 +119,9 @@ module _ (σ : List Signature) (Writes : Around → List Ty → List (ℕ × Ty)
         valued c Γ _ d _ d' U _ refl w
         (keeps.turned c Γ s head body after fs t _ us u _ vs d _ h.2 h.0 (subst (EachSpeaks (length Γ)) g h.1) (of_typed (looping c head) _ t us p Γ h.4 t _ itself) (of_typed (looping c head) _ u vs q Γ h.5 u _ itself))
     of_typed c e d xs (of_panics {ty = T} {s = s} {k = k}) Γ h d' U w = keeps.panicked c Γ s k d' U (serves_built _ d T d' U (panics_built σ Γ T s k h) w)
+    of_typed c e d xs (of_returned {ty = T} {s = s} {e = a} {xs = us} p) Γ h d' U w = keeps.returned c Γ s us d' U (serves_built _ d T d' U h.0 w) (of_typed c a 0 us p Γ h.2 0 _ (at_type h.1))
+    of_typed c e d xs (of_endless {ty = T} {s = s} {b = b} {u = u} head fs {ys = vs} g p) Γ h d' U w =
+        keeps.circled c Γ s head fs u _ vs d' U (serves_built _ d T d' U h.0 w) (subst (EachSpeaks (length Γ)) g h.1) (of_typed (looping c head) b u vs p Γ h.3 u _ itself)
 
     of_rest : (c : Around) (outer : Bool) (s : Span) (ss : TypedStmts) (d : ℕ) (xs : List Line) → Rest c outer s ss d xs → (Γ : List Ty) (T : Ty) → StatementsFit σ Γ T ss → (d' : ℕ) (U : Ty) → Serves (leaves_at_end ss) d T d' U
         → Writes c Γ [] d' U xs

@@ -49,7 +49,7 @@ use Rattle.type_check.specs.declared.program.TypedClause.{TypedClause}
 use Rattle.type_check.specs.declared.program.TypedFunction.{TypedFunction}
 use Rattle.type_check.specs.declared.program.TypedProgram.{TypedProgram}
 use Rattle.mir_build.specs.declared.lowered.Lowered.{Lowered}
-use Rattle.type_check.specs.TypedExpr.{TypedExpr, TypedStmts, TypedExprs, integer, variable, negative, denied, binary, lazy, assign, update, call, block, branch, choice, repeat, panics, done, last, leaving, bind, run, none, more}
+use Rattle.type_check.specs.TypedExpr.{TypedExpr, TypedStmts, TypedExprs, integer, variable, negative, denied, binary, lazy, assign, update, call, block, branch, choice, repeat, panics, returned, endless, done, last, leaving, bind, run, none, more}
 use Rattle.type_check.specs.Leaves.{leaves}
 use Rattle.type_check.specs.TypedExpr as typed
 use Rattle.type_check.specs.TypedExprView.{ty_of, span_of}
@@ -183,6 +183,15 @@ turning c s head body after fs t T xs u U ys zs =
     Turns (ends s (Goto head)) (at_head (looping c head) head (head_of c fs)) ∷ (made_by t T xs ++ Turns (ends s (If (moved t) body after)) (at (looping c head) body)
     ∷ (made_by u U ys ++ goes c s head after ∷ Owns head (t ∷ (numbers (made xs) ++ u ∷ numbers (made ys))) ∷ zs))
 
+-- a loop that is not left: at its head what writes the body's value u, from which it turns back; no block stands behind it
+abbrev pub circling : Around → Span → (head : Label) → List Formula → ℕ → Ty → List Line → List Line
+circling c s head fs u U ys =
+    Turns (ends s (Goto head)) (at_head (looping c head) head (head_of c fs)) ∷ (made_by u U ys ++ Leaves (ends s (Goto head)) ∷ Owns head (u ∷ numbers (made ys)) ∷ [])
+
+-- the run of the body ends behind what writes its answer
+abbrev pub returning : Span → List Line → List Line
+returning s xs = xs ++ Leaves (ends s Return) ∷ []
+
 -- the second operand of `&&` or `||` is evaluated only where the first, which is in t, leaves the value open
 abbrev pub lazily : LazyOp → Around → Span → (t d : ℕ) → (yes no after : Label) → List Line → List Line
 lazily lazy_op.And c s t d yes' no' after ys = test c s t yes' no' after ys (constant s d (lit.Bool false) ∷ [])
@@ -223,6 +232,10 @@ mutual
         → is ≡ map accepted fs → Into (looping c head) e t xs → Into (looping c head) b u ys
         → Into c (repeat ty s is e b) d (turning c s head body after fs t (ty_of e) xs u (ty_of b) ys (put_unit s d ∷ []))
     of_panics : {c : Around} {ty : Ty} {s : Span} {k : Cause} {d : ℕ} → Into c (panics ty s k) d (Leaves (ends s (Panic k)) ∷ [])
+    -- the answer is in local 0
+    of_returned : {c : Around} {ty : Ty} {s : Span} {e : TypedExpr} {d : ℕ} {xs : List Line} → Into c e 0 xs → Into c (returned ty s e) d (returning s xs)
+    of_endless : {c : Around} {ty : Ty} {s : Span} {is : List Assertion} {b : TypedExpr} {d u : ℕ} (head : Label) (fs : List Formula) {ys : List Line}
+        → is ≡ map accepted fs → Into (looping c head) b u ys → Into c (endless ty s is b) d (circling c s head fs u (ty_of b) ys)
 
   -- what an assignment writes, with the text before it: the place of a variable, or a temporary that holds the value, which is lost
   pub data PlaceOf : Around → TypedExpr → Place → List Line → Type 0 where
@@ -275,6 +288,8 @@ abbrev mutual
   named (of_leaving_choice yes' no' n p q r) = named p ++ yes'.0 ∷ no'.0 ∷ (named q ++ named r)
   named (of_repeat head body after fs g p q) = head.0 ∷ body.0 ∷ after.0 ∷ (named p ++ named q)
   named of_panics = []
+  named (of_returned p) = named p
+  named (of_endless head fs g p) = head.0 ∷ named p
 
   pub named_place : {c : Around} {e : TypedExpr} {x : Place} {xs : List Line} → PlaceOf c e x xs → List ℕ
   named_place (of_name x q) = []

@@ -12,10 +12,10 @@ use Rattle.mir_ir.specs.declared.place.Place.{Place}
 use Rattle.mir_ir.specs.declared.statement.Rvalue.TheVariants.{Use, Binary, Neg, Not}
 use Rattle.mir_ir.specs.declared.terminator.FnId.TheVariants as fn_id
 use Rattle.mir_ir.specs.declared.terminator.Callee.TheVariants.{Function}
-use Rattle.mir_ir.specs.declared.terminator.TerminatorKind.TheVariants.{Goto, If, Call, Panic}
+use Rattle.mir_ir.specs.declared.terminator.TerminatorKind.TheVariants.{Goto, If, Call, Return, Panic}
 use Rattle.type_check.specs.declared.assertion.Assertion.{Assertion}
 use Rattle.type_check.specs.declared.assertion.Assertion.TheVariants.{Good, Bad}
-use Rattle.type_check.specs.TypedExpr.{TypedExpr, TypedStmts, TypedExprs, integer, truth, variable, negative, denied, binary, lazy, assign, update, call, block, branch, choice, repeat, panics, done, last, leaving, bind, run, none, more}
+use Rattle.type_check.specs.TypedExpr.{TypedExpr, TypedStmts, TypedExprs, integer, truth, variable, negative, denied, binary, lazy, assign, update, call, block, branch, choice, repeat, panics, returned, endless, done, last, leaving, bind, run, none, more}
 use Rattle.type_check.specs.Leaves.{leaves}
 use Rattle.type_check.specs.TypedExprView.{ty_of}
 use Rattle.mir_build.specs.Text.{Line, Makes, Turns, Leaves, Owns}
@@ -84,6 +84,8 @@ abbrev mutual
   labels (choice ty s e a b) = labels e + choice_labels (leaves a && leaves b) + labels a + labels b
   labels (repeat ty s is e b) = 3 + labels e + labels b
   labels (panics ty s k) = 0
+  labels (returned ty s e) = labels e
+  labels (endless ty s is b) = 1 + labels b
 
   pub labels_of : TypedStmts → ℕ
   labels_of done = 0
@@ -115,6 +117,8 @@ abbrev mutual
   locals (choice ty s e a b) = 1 + locals e + locals a + locals b
   locals (repeat ty s is e b) = 1 + locals e + 1 + locals b
   locals (panics ty s k) = 0
+  locals (returned ty s e) = locals e
+  locals (endless ty s is b) = 1 + locals b
 
   pub locals_of : TypedStmts → ℕ
   locals_of done = 0
@@ -177,6 +181,11 @@ abbrev mutual
       ++ Turns (ends s (If (moved t) (label (l + 1)) (label (l + 2)))) (at inside (label (l + 1))) ∷ Makes u (ty_of b)
       ∷ (into b inside (l + 3 + labels e) (u + 1) u ++ Turns (ends s (Goto (label l))) (at c (label (l + 2))) ∷ Owns (label l) (between t (u + 1 + locals b)) ∷ put_unit s d ∷ []))
   into (panics ty s k) c l t d = Leaves (ends s (Panic k)) ∷ []
+  into (returned ty s e) c l t d = into e c l t 0 ++ Leaves (ends s Return) ∷ []
+  into (endless ty s is b) c l t d =
+      let inside = looping c (label l) in
+      Turns (ends s (Goto (label l))) (at_head inside (label l) (head_of c (map formula_of is))) ∷ Makes t (ty_of b)
+      ∷ (into b inside (l + 1) (t + 1) t ++ Leaves (ends s (Goto (label l))) ∷ Owns (label l) (between t (t + 1 + locals b)) ∷ [])
 
   pub rest : TypedStmts → Bool → Span → Around → ℕ → ℕ → ℕ → List Line
   rest done outer s c l t d = put_unit s d ∷ []
@@ -202,6 +211,13 @@ abbrev pub loop_text : TypedExpr → TypedExpr → Span → Around → ℕ → �
 loop_text e b s c head l t =
     let u = t + 1 + locals e in
     Makes t (ty_of e) ∷ (into e c l (t + 1) t ++ Turns (ends s (If (moved t) (label (head + 1)) (label (head + 2)))) (at c (label (head + 1))) ∷ Makes u (ty_of b) ∷ into b c (l + labels e) (u + 1) u)
+
+-- the text of `loop`
+abbrev pub endless_text : TypedExpr → List Assertion → Span → Around → ℕ → ℕ → List Line
+endless_text b is s c l t =
+    let inside = looping c (label l) in
+    Turns (ends s (Goto (label l))) (at_head inside (label l) (head_of c (map formula_of is))) ∷ Makes t (ty_of b)
+    ∷ (into b inside (l + 1) (t + 1) t ++ Leaves (ends s (Goto (label l))) ∷ Owns (label l) (between t (t + 1 + locals b)) ∷ [])
 
 -- the text of a body, whose outermost block ends no binding
 abbrev pub body_text : TypedExpr → Around → ℕ → ℕ → List Line

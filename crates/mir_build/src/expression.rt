@@ -6,26 +6,27 @@ ghost use Rattle.type_check.specs.Leaves.{leaves};
 ghost use Rattle.type_check.specs.TypedExpr.{assign, update, branch, choice, repeat, call};
 ghost use Rattle.type_check.specs.TypedExprView.{ty_of, span_of, stmts_of, exprs_of, typed_size};
 ghost use Rattle.type_check.specs.WellTyped.{unit};
-ghost use Rattle.mir_ir.specs.declared.terminator.TerminatorKind.TheVariants.{Goto};
-ghost use Rattle.mir_build.specs.Text.{Makes, Turns, Owns};
-ghost use Rattle.mir_build.specs.Lowering.{moved, put_unit, ends, dies_in, at, at_head, looping, head_of};
-ghost use Rattle.mir_build.specs.Numbered.{formula_of, into, rest, if_text, args, loop_text, between, temporaries, label, labels, labels_of, labels_in, locals, locals_of, locals_in};
+ghost use Rattle.mir_ir.specs.declared.terminator.TerminatorKind.TheVariants.{Return};
+ghost use Rattle.mir_build.specs.Text.{Makes, Leaves};
+ghost use Rattle.mir_build.specs.Lowering.{moved, ends, dies_in};
+ghost use Rattle.mir_build.specs.Numbered.{into, rest, if_text, args, loop_text, endless_text, temporaries, labels, labels_of, labels_in, locals, locals_of, locals_in};
 ghost use Rattle.mir_build.specs.Reach.{reach, reach_of, reach_in};
-ghost use Rattle.mir_build.specs.Built.{written, around, outside, end_of};
+ghost use Rattle.mir_build.specs.Built.{written, around, end_of};
 ghost use Rattle.mir_build.specs.Bindings.{all_die};
 ghost use Rattle.mir_build.specs.Tasks.{to_do, lazy_text, behind_labels, behind_locals, behind_reach, behind_bad, task_text, task_labels, task_locals, task_size, task_reach, task_bad, task_weight};
 ghost use Rattle.mir_build.specs.Tasks.{tasks_text, tasks_labels, tasks_locals, tasks_size, tasks_reach, tasks_bad, tasks_weight};
 ghost use Rattle.mir_build.specs.declared.task.Task.TheVariants.{Lower, Finish};
 ghost use Rattle.mir_build.specs.declared.stop.Stop.TheVariants.{Blocks};
 
-use crate::around::{Around, head_of, nest, variable_place};
+use crate::around::{Around, variable_place};
 use crate::assignment::{is_place, lower_place, put_assign, put_update};
 use crate::block_end::BlockEnd;
 use crate::builder::{Builder, moved, whole};
+use crate::looping::{end_loop, enter_loop, leave_loop};
 use crate::stop::Stop;
 use crate::task::{Behind, Pending, Task};
 use logic_term::{Label, Ty};
-use mir_ir::{Callee, FnId, Lit, Operand, Place, Rvalue, Terminator, TerminatorKind};
+use mir_ir::{Callee, FnId, Lit, Operand, Place, Rvalue, TerminatorKind};
 use source_kinds::{BinaryOp, LazyOp};
 use std::alloc::Global;
 use text_core::{Items, NoMemory, Span};
@@ -212,6 +213,8 @@ fn lower_left<'a>(
         TypedNode::IfElse(x, y, z) => lower_choice(alloc, b, c, span, x, y, z, d),
         TypedNode::While(is, x, y) => lower_repeat(alloc, b, c, span, is, x, y, d),
         TypedNode::Panic(cause) => Ok(b.leave(span, TerminatorKind::Panic(*cause))?),
+        TypedNode::Return(x) => lower_return(alloc, b, c, span, x),
+        TypedNode::Loop(is, x) => lower_endless(alloc, b, c, span, is, x),
     }
 }
 
@@ -511,55 +514,6 @@ fn lower_fork(
     lower_into(alloc, b, c, z, d)
 }
 
-/// Opens the head of a loop, and goes into the loop.
-fn enter_loop(
-    alloc: Global,
-    b: &mut Builder,
-    c: &mut Around,
-    span: Span,
-    invariants: &[Assertion],
-    head: u32,
-) -> Result<(), NoMemory>
-    requires { bad_among invariants.now ≡ None }
-    ensures text { OnOk result (b.new.text ≡ written (Turns (ends span (Goto (label head))) (at_head (looping (around c.old) (label head)) (label head) (head_of (around c.old) (map formula_of invariants.now))) ∷ []) b.old.text) }
-    ensures locals { OnOk result (length b.new.text.locals ≡ length b.old.text.locals) }
-    ensures labels { b.new.labels ≡ b.old.labels }
-    ensures around { OnOk result (around c.new ≡ looping (around c.old) (label head)) }
-    ensures count { OnOk result (length c.new.scope.items ≡ length c.old.scope.items) }
-{
-    let at_head = head_of(alloc, c, invariants)?;
-    c.loops.push(Label(head))?;
-    let nest = nest(alloc, c)?;
-    let kind = TerminatorKind::Goto(Label(head));
-    let end = Terminator { span, kind };
-    b.text.turn(alloc, end, Label(head), nest, Some(at_head))
-}
-
-/// Goes back to the head, leaves the loop, which is the innermost one, and writes the unit to local `d`. The locals from
-/// the first on are the loop's own.
-#[tactic(auto, using(crate::proofs::Runs::running))]
-fn leave_loop(
-    alloc: Global,
-    b: &mut Builder,
-    c: &mut Around,
-    span: Span,
-    head: u32,
-    after: u32,
-    first: u32,
-    d: u32,
-) -> Result<(), NoMemory>
-    ensures text { OnOk result (b.new.text ≡ written (Turns (ends span (Goto (label head))) (at (outside (around c.old)) (label after)) ∷ Owns (label head) (between first (length b.old.text.locals)) ∷ put_unit span d ∷ []) b.old.text) }
-    ensures locals { OnOk result (length b.new.text.locals ≡ length b.old.text.locals) }
-    ensures labels { b.new.labels ≡ b.old.labels }
-    ensures around { around c.new ≡ outside (around c.old) }
-    ensures count { length c.new.scope.items ≡ length c.old.scope.items }
-{
-    c.loops.pop();
-    b.go(alloc, c, span, head, after)?;
-    b.own(alloc, head, first)?;
-    b.put_unit(alloc, span, d)
-}
-
 /// The condition and the body of a loop. Answers the first local of the loop's own.
 #[cycle(lower)]
 #[tactic(auto, using(crate::proofs::Runs::running))]
@@ -617,6 +571,58 @@ fn lower_repeat(
     enter_loop(alloc, b, c, span, invariants, head)?;
     let t = lower_loop(alloc, b, c, span, head, x, y)?;
     leave_loop(alloc, b, c, span, head, head + 2, t, d)?;
+    Ok(())
+}
+
+/// `return`: the answer goes to local 0.
+#[cycle(lower)]
+#[tactic(auto, using(crate::proofs::Runs::running))]
+fn lower_return(
+    alloc: Global,
+    b: &mut Builder,
+    c: &mut Around,
+    span: Span,
+    x: &TypedExpr,
+) -> Result<(), Stop>
+    requires scope { reach x.now ≤ length c.old.scope.items }
+    requires good { bad_in x.now ≡ None }
+    ensures text { OnOk result (b.new.text ≡ written (into x.now (around c.old) b.old.labels (length b.old.text.locals) 0 ++ Leaves (ends span Return) ∷ []) b.old.text) }
+    ensures labels { OnOk result (b.new.labels ≡ b.old.labels + labels x.now) }
+    ensures locals { OnOk result (length b.new.text.locals ≡ length b.old.text.locals + locals x.now) }
+    ensures limit { IfErr result (λ stop. stop ≡ Blocks → 4096 < b.old.labels + labels x.now) }
+    ensures most { OnOk result (b.old.labels ≤ 4096 → b.new.labels ≤ 4096) }
+    ensures around { OnOk result (around c.new ≡ around c.old) }
+    ensures count { OnOk result (length c.new.scope.items ≡ length c.old.scope.items) }
+{
+    lower_into(alloc, b, c, x, 0)?;
+    Ok(b.leave(span, TerminatorKind::Return)?)
+}
+
+/// `loop`, which is not left.
+#[cycle(lower)]
+#[tactic(auto, using(crate::proofs::Runs::running))]
+fn lower_endless(
+    alloc: Global,
+    b: &mut Builder,
+    c: &mut Around,
+    span: Span,
+    invariants: &[Assertion],
+    x: &TypedExpr,
+) -> Result<(), Stop>
+    requires scope { reach x.now ≤ length c.old.scope.items }
+    requires good { or_else (bad_among invariants.now) (bad_in x.now) ≡ None }
+    ensures text { OnOk result (b.new.text ≡ written (endless_text x.now invariants.now span (around c.old) b.old.labels (length b.old.text.locals)) b.old.text) }
+    ensures labels { OnOk result (b.new.labels ≡ b.old.labels + 1 + labels x.now) }
+    ensures locals { OnOk result (length b.new.text.locals ≡ length b.old.text.locals + 1 + locals x.now) }
+    ensures limit { IfErr result (λ stop. stop ≡ Blocks → 4096 < b.old.labels + 1 + labels x.now) }
+    ensures most { OnOk result (b.old.labels ≤ 4096 → b.new.labels ≤ 4096) }
+    ensures around { OnOk result (around c.new ≡ around c.old) }
+    ensures count { OnOk result (length c.new.scope.items ≡ length c.old.scope.items) }
+{
+    let head = b.take_labels(1)?;
+    enter_loop(alloc, b, c, span, invariants, head)?;
+    let t = lower_new(alloc, b, c, x)?;
+    end_loop(alloc, b, c, span, head, t)?;
     Ok(())
 }
 

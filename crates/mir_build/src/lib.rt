@@ -9,6 +9,7 @@ mod contract;
 mod expression;
 mod function;
 mod laws;
+mod looping;
 mod lowered;
 mod program;
 mod stop;

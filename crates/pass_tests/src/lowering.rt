@@ -26,6 +26,21 @@ const THE_LAST_LEAVES: &[u8] = b"fn f() -> i32 { panic!(); }";
 
 const ONE_BEFORE_LEAVES: &[u8] = b"fn f() { panic!(); f(); }";
 
+const AN_EARLY_RETURN: &[u8] = b"fn f(b: bool) -> i32 { if b { return 1; } 2 }";
+
+const A_RETURN_IN_A_LOOP: &[u8] = b"fn f(b: bool) -> i32 { while b { return 1; } 2 }";
+
+const AN_ENDLESS_LOOP: &[u8] =
+    b"fn f(b: bool) -> i32 { #[invariant(b)] loop { if b { return 1; } } }";
+
+const A_LAST_RETURN: &[u8] = b"fn f() -> i32 { return 5; }";
+
+const A_RETURN_AS_VALUE: &[u8] = b"fn f() -> i32 { let x: i32 = return 5; x }";
+
+const A_BARE_RETURN: &[u8] = b"fn f() { return; }";
+
+const AN_EMPTY_LOOP: &[u8] = b"fn f() { loop {} }";
+
 fn lowered(alloc: Global, source: &[u8]) -> Result<Lowered, Fail> {
     if source.len() > 1000 {
         return Err("too long".into());
@@ -296,5 +311,173 @@ fn a_statement_before_leaves(rt: HostRuntime) -> Result<(), Fail> {
     expect_block(&rt, body, 0, &[], &[(Shape::Panic, 9)]);
     let behind = [(Shape::Unit(0), 7), (Shape::Return, 7)];
     expect_block(&rt, body, 1, &[], &behind);
+    Ok(())
+}
+
+// ---- returns, and loops that are not left
+
+/// The answer is written where it is returned, and behind the `if` the other one.
+#[test]
+fn a_return_in_a_branch(rt: HostRuntime) -> Result<(), Fail> {
+    let made = lowered(rt.alloc(), AN_EARLY_RETURN)?;
+    let body = made.bodies.bodies.get(0).ok_or("no body")?;
+    assert!(rt; has_parts(body, 1, 5, 4));
+    expect_block(
+        &rt,
+        body,
+        0,
+        &[],
+        &[(Shape::Use(3), 26), (Shape::If(1, 2), 23)],
+    );
+    expect_block(
+        &rt,
+        body,
+        1,
+        &[],
+        &[(Shape::Use(0), 37), (Shape::Return, 30)],
+    );
+    expect_block(
+        &rt,
+        body,
+        2,
+        &[],
+        &[(Shape::Unit(2), 23), (Shape::Goto(3), 23)],
+    );
+    expect_block(
+        &rt,
+        body,
+        3,
+        &[],
+        &[(Shape::Use(0), 42), (Shape::Return, 21)],
+    );
+    Ok(())
+}
+
+/// From within a loop the body returns.
+#[test]
+fn a_return_in_a_loop(rt: HostRuntime) -> Result<(), Fail> {
+    let made = lowered(rt.alloc(), A_RETURN_IN_A_LOOP)?;
+    let body = made.bodies.bodies.get(0).ok_or("no body")?;
+    assert!(rt; has_parts(body, 1, 6, 4));
+    expect_block(&rt, body, 0, &[], &[(Shape::Goto(1), 23)]);
+    expect_block(
+        &rt,
+        body,
+        1,
+        &[Label(1)],
+        &[(Shape::Use(3), 29), (Shape::If(2, 3), 23)],
+    );
+    expect_block(
+        &rt,
+        body,
+        2,
+        &[Label(1)],
+        &[(Shape::Use(0), 40), (Shape::Return, 33)],
+    );
+    let block = [
+        (Shape::Unit(2), 23),
+        (Shape::Use(0), 45),
+        (Shape::Return, 21),
+    ];
+    expect_block(&rt, body, 3, &[], &block);
+    Ok(())
+}
+
+/// Behind a `loop` no block stands, and its locals hold nothing at its head.
+#[test]
+fn an_endless_loop(rt: HostRuntime) -> Result<(), Fail> {
+    let made = lowered(rt.alloc(), AN_ENDLESS_LOOP)?;
+    let body = made.bodies.bodies.get(0).ok_or("no body")?;
+    assert!(rt; has_parts(body, 1, 5, 5));
+    expect_block(&rt, body, 0, &[], &[(Shape::Goto(1), 23)]);
+    expect_block(
+        &rt,
+        body,
+        1,
+        &[Label(1)],
+        &[(Shape::Use(3), 49), (Shape::If(2, 3), 46)],
+    );
+    expect_block(
+        &rt,
+        body,
+        2,
+        &[Label(1)],
+        &[(Shape::Use(0), 60), (Shape::Return, 53)],
+    );
+    expect_block(
+        &rt,
+        body,
+        3,
+        &[Label(1)],
+        &[(Shape::Unit(2), 46), (Shape::Goto(4), 46)],
+    );
+    expect_block(&rt, body, 4, &[Label(1)], &[(Shape::Goto(1), 23)]);
+    let gone = made.gone.get(0).ok_or("no gone places")?;
+    assert!(rt; has_gone(gone, 3));
+    Ok(())
+}
+
+/// A last statement that returns.
+#[test]
+fn a_last_return(rt: HostRuntime) -> Result<(), Fail> {
+    let made = lowered(rt.alloc(), A_LAST_RETURN)?;
+    let body = made.bodies.bodies.get(0).ok_or("no body")?;
+    assert!(rt; has_parts(body, 0, 2, 1));
+    expect_block(
+        &rt,
+        body,
+        0,
+        &[],
+        &[(Shape::Use(0), 23), (Shape::Return, 16)],
+    );
+    Ok(())
+}
+
+/// A value that returns has a local, which is not written.
+#[test]
+fn a_return_as_value(rt: HostRuntime) -> Result<(), Fail> {
+    let made = lowered(rt.alloc(), A_RETURN_AS_VALUE)?;
+    let body = made.bodies.bodies.get(0).ok_or("no body")?;
+    assert!(rt; has_parts(body, 0, 2, 1));
+    expect_block(
+        &rt,
+        body,
+        0,
+        &[],
+        &[(Shape::Use(0), 36), (Shape::Return, 29)],
+    );
+    Ok(())
+}
+
+/// Without a value the unit is returned.
+#[test]
+fn a_bare_return(rt: HostRuntime) -> Result<(), Fail> {
+    let made = lowered(rt.alloc(), A_BARE_RETURN)?;
+    let body = made.bodies.bodies.get(0).ok_or("no body")?;
+    assert!(rt; has_parts(body, 0, 2, 1));
+    expect_block(
+        &rt,
+        body,
+        0,
+        &[],
+        &[(Shape::Unit(0), 9), (Shape::Return, 9)],
+    );
+    Ok(())
+}
+
+/// A `loop` with nothing in it.
+#[test]
+fn an_empty_loop(rt: HostRuntime) -> Result<(), Fail> {
+    let made = lowered(rt.alloc(), AN_EMPTY_LOOP)?;
+    let body = made.bodies.bodies.get(0).ok_or("no body")?;
+    assert!(rt; has_parts(body, 0, 2, 2));
+    expect_block(&rt, body, 0, &[], &[(Shape::Goto(1), 9)]);
+    expect_block(
+        &rt,
+        body,
+        1,
+        &[Label(1)],
+        &[(Shape::Unit(1), 14), (Shape::Goto(1), 9)],
+    );
     Ok(())
 }

@@ -5,9 +5,9 @@ use Rattle.logic_term.specs.Ty.{Ty}
 use Rattle.text_core.specs.declared.fault.PassError.{PassError}
 use Rattle.source_trees.specs.Expr.{Expr, Exprs, more}
 use Rattle.source_trees.specs.ExprView.{exprs_of as written_exprs}
-use Rattle.type_check.specs.declared.heading.Heading.{Heading}
 use Rattle.type_check.specs.declared.scope.Variable.{Variable}
 use Rattle.type_check.specs.Answers.{◌>>=◌, Refuses}
+use Rattle.type_check.specs.Setting.{Setting}
 use Rattle.type_check.specs.TypedExpr.{TypedExpr, TypedExprs}
 use Rattle.type_check.specs.TypedExpr as tree
 use Rattle.type_check.specs.TypedExprView.{exprs_of}
@@ -27,7 +27,7 @@ abbrev pub and_args : List TypedExpr → TypedExprs → Result TypedExprs Source
 and_args vs end = Ok (onto vs end)
 
 -- what is left, after these arguments
-abbrev pub continued : List Heading → List Variable → List Expr → List Ty → ℕ → List TypedExpr → Result TypedExprs SourceError
+abbrev pub continued : Setting → List Variable → List Expr → List Ty → ℕ → List TypedExpr → Result TypedExprs SourceError
 continued σ Γ es ts i vs = typed_args σ Γ (written_exprs (drop i es)) (drop i ts) >>= and_args vs
 
 onto_more : (vs : List TypedExpr) (v : TypedExpr) (end : TypedExprs) → onto vs (tree.more v end) ≡ onto (vs ++ v ∷ []) end
@@ -64,18 +64,18 @@ one_more : (vs : List TypedExpr) (v : TypedExpr) (m : Result TypedExprs SourceEr
 one_more vs v (Ok r) = ap Ok (onto_more vs v r)
 one_more vs v (Err e) = refl
 
-pub args_start : (σ : List Heading) (Γ : List Variable) (es : List Expr) (ts : List Ty) → typed_args σ Γ (written_exprs es) ts ≡ continued σ Γ es ts 0 []
+pub args_start : (σ : Setting) (Γ : List Variable) (es : List Expr) (ts : List Ty) → typed_args σ Γ (written_exprs es) ts ≡ continued σ Γ es ts 0 []
 args_start σ Γ es ts = nothing_yet (typed_args σ Γ (written_exprs es) ts)
 
-abbrev then_args : List Heading → List Variable → Exprs → List Ty → TypedExpr → Result TypedExprs SourceError
+abbrev then_args : Setting → List Variable → Exprs → List Ty → TypedExpr → Result TypedExprs SourceError
 then_args σ Γ es ts a = typed_args σ Γ es ts >>= one a
 
-next : (σ : List Heading) (Γ : List Variable) (es : List Expr) (ts : List Ty) (i : ℕ) (e : Expr) → e ≡ get_or es i e → i < length es → typed_args σ Γ (written_exprs (drop i es)) (drop i ts) ≡ (typed σ Γ e (slice_get ts i) >>= then_args σ Γ (written_exprs (drop (suc i) es)) (drop (suc i) ts))
+next : (σ : Setting) (Γ : List Variable) (es : List Expr) (ts : List Ty) (i : ℕ) (e : Expr) → e ≡ get_or es i e → i < length es → typed_args σ Γ (written_exprs (drop i es)) (drop i ts) ≡ (typed σ Γ e (slice_get ts i) >>= then_args σ Γ (written_exprs (drop (suc i) es)) (drop (suc i) ts))
 next σ Γ es ts i e q h =
     ap (λ x. typed_args σ Γ x (drop i ts)) (exprs_at es i e q h)
     ∙ ap₂ (λ t us. typed σ Γ e t >>= then_args σ Γ (written_exprs (drop (suc i) es)) us) (first_at ts i) (rest_at ts i)
 
-pub args_more : (σ : List Heading) (Γ : List Variable) (es : List Expr) (ts : List Ty) (i : ℕ) (e : Expr) (vs : List TypedExpr) (v : TypedExpr) → e ≡ get_or es i e → i < length es → typed σ Γ e (slice_get ts i) ≡ Ok v → continued σ Γ es ts i vs ≡ continued σ Γ es ts (i + 1) (vs ++ v ∷ [])
+pub args_more : (σ : Setting) (Γ : List Variable) (es : List Expr) (ts : List Ty) (i : ℕ) (e : Expr) (vs : List TypedExpr) (v : TypedExpr) → e ≡ get_or es i e → i < length es → typed σ Γ e (slice_get ts i) ≡ Ok v → continued σ Γ es ts i vs ≡ continued σ Γ es ts (i + 1) (vs ++ v ∷ [])
 args_more σ Γ es ts i e vs v q h p =
     rw add-one
     (ap (λ m. m >>= and_args vs) (next σ Γ es ts i e q h)
@@ -83,18 +83,18 @@ args_more σ Γ es ts i e vs v q h p =
     ∙ one_more vs v (typed_args σ Γ (written_exprs (drop (suc i) es)) (drop (suc i) ts)))
 
 -- from the start
-pub args_more_all : (σ : List Heading) (Γ : List Variable) (es : List Expr) (ts : List Ty) (i : ℕ) (e : Expr) (vs ws : List TypedExpr) (v : TypedExpr) → e ≡ get_or es i e → i < length es → typed σ Γ e (slice_get ts i) ≡ Ok v
+pub args_more_all : (σ : Setting) (Γ : List Variable) (es : List Expr) (ts : List Ty) (i : ℕ) (e : Expr) (vs ws : List TypedExpr) (v : TypedExpr) → e ≡ get_or es i e → i < length es → typed σ Γ e (slice_get ts i) ≡ Ok v
     → ws ≡ vs ++ v ∷ [] → typed_args σ Γ (written_exprs es) ts ≡ continued σ Γ es ts i vs → typed_args σ Γ (written_exprs es) ts ≡ continued σ Γ es ts (i + 1) ws
 args_more_all σ Γ es ts i e vs ws v q h p pushed r = r ∙ args_more σ Γ es ts i e vs v q h p ∙ ap (continued σ Γ es ts (i + 1)) (sym pushed)
 
-pub args_stop : (f : PassError) (σ : List Heading) (Γ : List Variable) (es : List Expr) (ts : List Ty) (i : ℕ) (e : Expr) (vs : List TypedExpr) → e ≡ get_or es i e → i < length es → Refuses f (typed σ Γ e (slice_get ts i)) → Refuses f (continued σ Γ es ts i vs)
+pub args_stop : (f : PassError) (σ : Setting) (Γ : List Variable) (es : List Expr) (ts : List Ty) (i : ℕ) (e : Expr) (vs : List TypedExpr) → e ≡ get_or es i e → i < length es → Refuses f (typed σ Γ e (slice_get ts i)) → Refuses f (continued σ Γ es ts i vs)
 args_stop f σ Γ es ts i e vs q h p =
     refuses_then f _ (and_args vs)
     (along f _ _ (next σ Γ es ts i e q h)
     (refuses_then f (typed σ Γ e (slice_get ts i)) (then_args σ Γ (written_exprs (drop (suc i) es)) (drop (suc i) ts)) p))
 
 -- from the start
-pub args_stop_all : (f : PassError) (σ : List Heading) (Γ : List Variable) (es : List Expr) (ts : List Ty) (i : ℕ) (e : Expr) (vs : List TypedExpr) → e ≡ get_or es i e → i < length es
+pub args_stop_all : (f : PassError) (σ : Setting) (Γ : List Variable) (es : List Expr) (ts : List Ty) (i : ℕ) (e : Expr) (vs : List TypedExpr) → e ≡ get_or es i e → i < length es
     → typed_args σ Γ (written_exprs es) ts ≡ continued σ Γ es ts i vs → Refuses f (typed σ Γ e (slice_get ts i)) → Refuses f (typed_args σ Γ (written_exprs es) ts)
 args_stop_all f σ Γ es ts i e vs q h r p = along f _ _ r (args_stop f σ Γ es ts i e vs q h p)
 
@@ -102,5 +102,5 @@ drop_all : (es : List Expr) (n : ℕ) → n ≡ length es → drop n es ≡ []
 drop_all [] n q = rw q refl
 drop_all (e ∷ es) n q = rw q (drop_all es (length es) refl)
 
-pub args_end : (σ : List Heading) (Γ : List Variable) (es : List Expr) (ts : List Ty) (n : ℕ) (vs : List TypedExpr) → n ≡ length es → continued σ Γ es ts n vs ≡ Ok (exprs_of vs)
+pub args_end : (σ : Setting) (Γ : List Variable) (es : List Expr) (ts : List Ty) (n : ℕ) (vs : List TypedExpr) → n ≡ length es → continued σ Γ es ts n vs ≡ Ok (exprs_of vs)
 args_end σ Γ es ts n vs q = rw (drop_all es n q) (ap Ok (onto_end vs))

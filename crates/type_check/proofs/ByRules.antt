@@ -5,12 +5,12 @@ use Rattle.logic_term.specs.Ty.{Ty, bool}
 use Rattle.source_trees.specs.declared.operator.UnaryOp.TheVariants.{Neg, Not}
 use Rattle.source_trees.specs.Expr as E
 use Rattle.source_trees.specs.Expr.{Expr}
-use Rattle.type_check.specs.declared.heading.Heading.{Heading}
 use Rattle.type_check.specs.declared.operands.Operands.{Operands}
 use Rattle.type_check.specs.declared.operands.Order.{Order}
 use Rattle.type_check.specs.declared.operands.Order.TheVariants as order
 use Rattle.type_check.specs.declared.scope.Variable.{Variable}
 use Rattle.type_check.specs.Answers.{◌>>=◌, gather}
+use Rattle.type_check.specs.Setting.{Setting}
 use Rattle.type_check.specs.TypedExpr.{TypedExpr, TypedExprs}
 use Rattle.type_check.specs.TypedExpr as tree
 use Rattle.type_check.specs.TypedExprView.{ty_of}
@@ -22,10 +22,10 @@ use Rattle.type_check.specs.Rules.{Asks, comes, part, first, operands_in, each_a
 -- ---- one outcome
 
 mutual
-  types_one : (σ : List Heading) (Γ : List Variable) (e : Expr) (t : Option Ty) (r other : Typed) → Types σ Γ e t r → Types σ Γ e t other → r ≡ other
+  types_one : (σ : Setting) (Γ : List Variable) (e : Expr) (t : Option Ty) (r other : Typed) → Types σ Γ e t r → Types σ Γ e t other → r ≡ other
   types_one σ Γ e t r other (by_rule c) (by_rule d) = comes_one σ (rule σ Γ e t) r other c d
 
-  comes_one : (σ : List Heading) (a : Asks) (r other : Typed) → Comes σ a r → Comes σ a other → r ≡ other
+  comes_one : (σ : Setting) (a : Asks) (r other : Typed) → Comes σ a r → Comes σ a other → r ≡ other
   comes_one σ (comes a) r other itself itself = refl
   comes_one σ (part Γ e t k) r other (refused {x = x} c) (refused {x = y} d) = types_one σ Γ e t (Err x) (Err y) c d
   comes_one σ (part Γ e t k) r other (refused {x = x} c) (then {v = w} d m) = let p : Err x ≡ Ok w = types_one σ Γ e t (Err x) (Ok w) c d in absurd (cc)
@@ -45,23 +45,23 @@ assoc (Ok a) f g = refl
 assoc (Err e) f g = refl
 
 -- what comes of asks, and of a chain that goes on as they do
-abbrev Follows : {A : Type 0} → List Heading → (A → Asks) → (A → Typed) → Type 0
+abbrev Follows : {A : Type 0} → Setting → (A → Asks) → (A → Typed) → Type 0
 Follows {A} σ k f = (a : A) → Comes σ (k a) (f a)
 
-at_first : {A : Type 0} (σ : List Heading) (m : Result A SourceError) (k : A → Asks) (f : A → Typed) → Follows σ k f → Comes σ (first m k) (m >>= f)
+at_first : {A : Type 0} (σ : Setting) (m : Result A SourceError) (k : A → Asks) (f : A → Typed) → Follows σ k f → Comes σ (first m k) (m >>= f)
 at_first σ (Ok a) k f h = h a
 at_first σ (Err e) k f h = itself
 
-at_part : (σ : List Heading) (Γ : List Variable) (e : Expr) (t : Option Ty) (m : Typed) (k : TypedExpr → Asks) (f : TypedExpr → Typed) → Types σ Γ e t m → Follows σ k f → Comes σ (part Γ e t k) (m >>= f)
+at_part : (σ : Setting) (Γ : List Variable) (e : Expr) (t : Option Ty) (m : Typed) (k : TypedExpr → Asks) (f : TypedExpr → Typed) → Types σ Γ e t m → Follows σ k f → Comes σ (part Γ e t k) (m >>= f)
 at_part σ Γ e t (Ok v) k f c h = then c (h v)
 at_part σ Γ e t (Err x) k f c h = refused c
 
 -- the same, where what comes of the part is put into something first
-at_part_in : {A : Type 0} (σ : List Heading) (Γ : List Variable) (e : Expr) (t : Option Ty) (m : Typed) (k : TypedExpr → Asks) (g : TypedExpr → Result A SourceError) (f : A → Typed)
+at_part_in : {A : Type 0} (σ : Setting) (Γ : List Variable) (e : Expr) (t : Option Ty) (m : Typed) (k : TypedExpr → Asks) (g : TypedExpr → Result A SourceError) (f : A → Typed)
     → Types σ Γ e t m → Follows σ k (λ v. g v >>= f) → Comes σ (part Γ e t k) ((m >>= g) >>= f)
 at_part_in σ Γ e t m k g f c h = subst (Comes σ (part Γ e t k)) (sym (assoc m g f)) (at_part σ Γ e t m k (λ v. g v >>= f) c h)
 
-module _ (σ : List Heading) where
+module _ (σ : Setting) where
   -- what an expression comes to in a scope at each expected type
   abbrev Each : List Variable → Expr → Type 0
   Each Γ e = (t : Option Ty) → Types σ Γ e t (typed σ Γ e t)
@@ -88,7 +88,7 @@ module _ (σ : List Heading) where
         (at_part σ Γ l None (typed σ Γ l None) _ _ (types Γ l None) (λ a. at_part σ Γ e (Some (ty_of a)) (typed σ Γ e (Some (ty_of a))) _ _ (types Γ e (Some (ty_of a))) (λ b. itself)))
     types Γ (E.update s op o l e) t = by_rule
         (at_part σ Γ l None (typed σ Γ l None) _ _ (types Γ l None) (λ a. at_part σ Γ e (Some (ty_of a)) (typed σ Γ e (Some (ty_of a))) _ _ (types Γ e (Some (ty_of a))) (λ b. itself)))
-    types Γ (E.call s f es) t = by_rule (at_first σ (callee_of σ Γ s (as_name f)) _ _ (λ g. at_args Γ es g.signature.params _ _ (λ as'. itself)))
+    types Γ (E.call s f es) t = by_rule (at_first σ (callee_of σ.headings Γ s (as_name f)) _ _ (λ g. at_args Γ es g.signature.params _ _ (λ as'. itself)))
     types Γ (E.block s ss) t = by_rule (at_stmts Γ ss _ _ (λ o. itself))
     types Γ (E.block_with s ss e) t = by_rule (at_stmts Γ ss _ _ (λ o. at_part σ o.scope e t (typed σ o.scope e t) _ _ (types o.scope e t) (λ a. itself)))
     types Γ (E.branch s None c a) t = by_rule
@@ -100,6 +100,9 @@ module _ (σ : List Heading) where
         (at_part σ Γ c (Some bool) (typed σ Γ c (Some bool)) _ _ (types Γ c (Some bool)) (λ x. at_part σ Γ b (Some unit) (typed σ Γ b (Some unit)) _ _ (types Γ b (Some unit)) (λ y. itself)))
     types Γ (E.attributed s is (E.repeat v None c b)) t = by_rule (at_first σ (gather (invariant_of Γ) is) _ _
         (λ is'. at_part σ Γ c (Some bool) (typed σ Γ c (Some bool)) _ _ (types Γ c (Some bool)) (λ x. at_part σ Γ b (Some unit) (typed σ Γ b (Some unit)) _ _ (types Γ b (Some unit)) (λ y. itself))))
+    types Γ (E.return_with s e) t = by_rule (at_part σ Γ e (Some σ.answer) (typed σ Γ e (Some σ.answer)) _ _ (types Γ e (Some σ.answer)) (λ a. itself))
+    types Γ (E.endless s b) t = by_rule (at_part σ Γ b (Some unit) (typed σ Γ b (Some unit)) _ _ (types Γ b (Some unit)) (λ x. itself))
+    types Γ (E.attributed s is (E.endless v b)) t = by_rule (at_first σ (gather (invariant_of Γ) is) _ _ (λ is'. at_part σ Γ b (Some unit) (typed σ Γ b (Some unit)) _ _ (types Γ b (Some unit)) (λ x. itself)))
     types Γ e t = by_rule itself
 
     at_stmts : (Γ : List Variable) (ss : E.Stmts) (k : Opened → Asks) (f : Opened → Typed) → Follows σ k f → Comes σ (each_stmt Γ ss k) (typed_stmts σ Γ ss >>= f)

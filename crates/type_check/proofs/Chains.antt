@@ -9,11 +9,11 @@ use Rattle.source_trees.specs.ExprView.{expr_size, span_of}
 use Rattle.type_check.specs.declared.chain.Frame.{Frame}
 use Rattle.type_check.specs.declared.chain.Operation.{Operation}
 use Rattle.type_check.specs.declared.chain.Operation.TheVariants as operation
-use Rattle.type_check.specs.declared.heading.Heading.{Heading}
 use Rattle.type_check.specs.declared.operands.Operands.{Operands}
 use Rattle.type_check.specs.declared.scope.Variable.{Variable}
 use Rattle.type_check.specs.Answers.{◌>>=◌, Refuses}
 use Rattle.type_check.specs.Chains.{GoesLeft, behind, climbed, finished, first_ty, frames_size, left_of, right_of, ty_or, written}
+use Rattle.type_check.specs.Setting.{Setting}
 use Rattle.type_check.specs.TypedExpr.{TypedExpr}
 use Rattle.type_check.specs.TypedExprView.{ty_of}
 use Rattle.type_check.specs.Typing.{Typed, is_bare, operands, operands_of, operated, order_of, typed}
@@ -37,7 +37,7 @@ operands_left true q (Some t) a b k = both (a (Some t)) (λ x. b (Some t)) k
 operands_left true q None a b k = both (a None) (λ x. b (Some (ty_of x))) k
 operands_left false q t a b k = both (a None) (λ x. b (Some (ty_of x))) k
 
-module _ (σ : List Heading) (Γ : List Variable) where
+module _ (σ : Setting) (Γ : List Variable) where
   goes_left : (s : Span) (o : Operation) (t : Option Ty) → GoesLeft o → typed σ Γ (written s o) t ≡ (typed σ Γ (left_of o) (first_ty o t) >>= finished σ Γ s o t)
   goes_left s (operation.Binary op o a b) t h =
       ap (λ p. operands (order_of (is_arithmetic op) t p (is_bare b.now)) (typed σ Γ a.now) (typed σ Γ b.now) >>= operated t s o (span_of a.now) op) h

@@ -37,17 +37,18 @@ use Rattle.type_check.specs.Answers.{mismatch, not_mutable, with_some, gather}
 use Rattle.type_check.specs.Functions.{callee}
 use Rattle.type_check.specs.Leaves.{leaves}
 use Rattle.type_check.specs.Scope.{found}
+use Rattle.type_check.specs.Setting.{Setting}
 use Rattle.type_check.specs.Terms.{assertion}
 use Rattle.type_check.specs.TypedExpr.{TypedExpr, TypedStmts, TypedExprs}
 use Rattle.type_check.specs.TypedExpr as tree
 use Rattle.type_check.specs.TypedExprView.{ty_of, stmt_of, stmts_of}
 use Rattle.type_check.specs.Types.{same_ty, is_signed_ty}
 use Rattle.type_check.specs.Typing.{Typed, fit, literal_kind, literal_of, literal, variable_of, variable, named, negated, is_bare, order_without, order_of, operands_of, operands, operation, operated, may_write, if_mutable, writing, assigned}
-use Rattle.type_check.specs.Typing.{is_updated, updated, known, callee_of, how_many, first_of, rest_of, called, block_ty, declared, Opened, opened, typed_stmt, behind, without_last, closed, asked, given, choice_ty, cause_of, panicked, invariant_by, invariant_of, typed, typed_stmts, typed_args}
-use Rattle.type_check.specs.WellTyped.{unit, IsBuilt, AllBuilt, is_arithmetic, is_equality, operation_ty, is_signed, IsOf, IsOfOrLeaves, SpeaksOf, EachSpeaks, IsWellTyped, StatementsFit, ArgumentsFit}
+use Rattle.type_check.specs.Typing.{is_updated, updated, known, callee_of, how_many, first_of, rest_of, called, block_ty, declared, Opened, opened, typed_stmt, behind, without_last, closed, asked, given, choice_ty, cause_of, panicked, nothing, returned, bare_return, endless, invariant_by, invariant_of, typed, typed_stmts, typed_args}
+use Rattle.type_check.specs.WellTyped.{unit, Surroundings, IsBuilt, AllBuilt, is_arithmetic, is_equality, operation_ty, is_signed, IsOf, IsOfOrLeaves, SpeaksOf, EachSpeaks, IsWellTyped, StatementsFit, ArgumentsFit}
 use Rattle.type_check.specs.Written.{as_name, name_alone, written_type, written_or_none, declared_by, step_of}
 use Rattle.type_check.proofs.Bound.{bound, held, yes, same_ok}
-use Rattle.type_check.proofs.Lookups.{types, signatures_at, found_type, callee_signature}
+use Rattle.type_check.proofs.Lookups.{types, signatures_at, surroundings, found_type, callee_signature}
 use Rattle.type_check.proofs.SameTypes.{equal_types}
 use Rattle.type_check.proofs.Speaking.{assertion_speaks}
 use Rattle.type_check.proofs.StatementLists.{block_ty_after, stmt_ty}
@@ -57,8 +58,8 @@ abbrev pub Meets : Option Ty → TypedExpr → Type 0
 Meets None e = Unit {0}
 Meets (Some t) e = ty_of e ≡ t
 
-pub record Sound (σ : List Heading) (Γ : List Variable) (t : Option Ty) (e : TypedExpr) : Type 0 where
-  pub well : IsWellTyped (signatures_at σ) (types Γ) e
+pub record Sound (σ : Setting) (Γ : List Variable) (t : Option Ty) (e : TypedExpr) : Type 0 where
+  pub well : IsWellTyped (surroundings σ) (types Γ) e
   pub meets : Meets t e
   pub built : IsBuilt (ty_of e)
 
@@ -67,10 +68,11 @@ abbrev pub MayAsk : Option Ty → Type 0
 MayAsk None = Unit {0}
 MayAsk (Some t) = IsBuilt t
 
--- the types that stand around an expression are built: those of functions, and of variables
-pub record Around (σ : List Heading) (Γ : List Variable) : Type 0 where
-  pub functions : (j : ℕ) (g : Signature) → slice_get (signatures_at σ) j ≡ Some g → AllBuilt g.params × IsBuilt g.answer
+-- the types that stand around an expression are built: those of functions, of variables and of the answer
+pub record Around (σ : Setting) (Γ : List Variable) : Type 0 where
+  pub functions : (j : ℕ) (g : Signature) → slice_get (signatures_at σ.headings) j ≡ Some g → AllBuilt g.params × IsBuilt g.answer
   pub variables : AllBuilt (types Γ)
+  pub answer : IsBuilt σ.answer
 
 built_at : (ts : List Ty) (j : ℕ) (t : Ty) → AllBuilt ts → slice_get ts j ≡ Some t → IsBuilt t
 built_at [] j t h p = absurd (cc)
@@ -84,32 +86,32 @@ fit_same (Some t) s e r p =
     let c = held (same_ty (ty_of e) t) (Ok e) (mismatch s) r p in
     (same_ok _ _ c.1, equal_types (ty_of e) t c.0)
 
-fit_sound : (σ : List Heading) (Γ : List Variable) (t : Option Ty) (s : Span) (e r : TypedExpr) → IsWellTyped (signatures_at σ) (types Γ) e → IsBuilt (ty_of e) → fit t s e ≡ Ok r → Sound σ Γ t r
+fit_sound : (σ : Setting) (Γ : List Variable) (t : Option Ty) (s : Span) (e r : TypedExpr) → IsWellTyped (surroundings σ) (types Γ) e → IsBuilt (ty_of e) → fit t s e ≡ Ok r → Sound σ Γ t r
 fit_sound σ Γ t s e r w b p =
     let c = fit_same t s e r p in
     subst (Sound σ Γ t) c.0 (record { well = w; meets = c.1; built = b })
 
 -- ---- literals and names
 
-literal_at : (σ : List Heading) (Γ : List Variable) (t : Option Ty) (s : Span) (z : ℤ) (k : Option IntKind) (r : TypedExpr) → literal_of t s z k ≡ Ok r → Sound σ Γ t r
+literal_at : (σ : Setting) (Γ : List Variable) (t : Option Ty) (s : Span) (z : ℤ) (k : Option IntKind) (r : TypedExpr) → literal_of t s z k ≡ Ok r → Sound σ Γ t r
 literal_at σ Γ t s z None r p = absurd (cc)
 literal_at σ Γ t s z (Some k) r p =
     let c = held (fits k z) (fit t s (tree.integer (int k) s z k)) (mismatch s) r p in
     fit_sound σ Γ t s (tree.integer (int k) s z k) r (refl, c.0) tt c.1
 
-literal_sound : (σ : List Heading) (Γ : List Variable) (t : Option Ty) (s : Span) (z : ℤ) (k : Option IntKind) (r : TypedExpr) → literal t s z k ≡ Ok r → Sound σ Γ t r
+literal_sound : (σ : Setting) (Γ : List Variable) (t : Option Ty) (s : Span) (z : ℤ) (k : Option IntKind) (r : TypedExpr) → literal t s z k ≡ Ok r → Sound σ Γ t r
 unfolding literal
 literal_sound σ Γ t s z k r p = literal_at σ Γ t s z (literal_kind k t) r p
 
-variable_at : (σ : List Heading) (Γ : List Variable) (t : Option Ty) (s : Span) (o : Option Found) (r : TypedExpr) → AllBuilt (types Γ) → ((w : Found) → o ≡ Some w → slice_get (types Γ) w.place ≡ Some w.ty) → variable_of t s o ≡ Ok r → Sound σ Γ t r
+variable_at : (σ : Setting) (Γ : List Variable) (t : Option Ty) (s : Span) (o : Option Found) (r : TypedExpr) → AllBuilt (types Γ) → ((w : Found) → o ≡ Some w → slice_get (types Γ) w.place ≡ Some w.ty) → variable_of t s o ≡ Ok r → Sound σ Γ t r
 variable_at σ Γ t s None r b h p = absurd (cc)
 variable_at σ Γ t s (Some v) r b h p = fit_sound σ Γ t s (tree.variable v.ty s v.place) r (h v refl) (built_at (types Γ) v.place v.ty b (h v refl)) p
 
-variable_sound : (σ : List Heading) (Γ : List Variable) (t : Option Ty) (s : Span) (x : Name) (r : TypedExpr) → AllBuilt (types Γ) → variable Γ t s x ≡ Ok r → Sound σ Γ t r
+variable_sound : (σ : Setting) (Γ : List Variable) (t : Option Ty) (s : Span) (x : Name) (r : TypedExpr) → AllBuilt (types Γ) → variable Γ t s x ≡ Ok r → Sound σ Γ t r
 unfolding variable
 variable_sound σ Γ t s x r b p = variable_at σ Γ t s (found x Γ) r b (found_type Γ x) p
 
-named_sound : (σ : List Heading) (Γ : List Variable) (t : Option Ty) (s : Span) (o : Option Segment) (r : TypedExpr) → AllBuilt (types Γ) → named Γ t s o ≡ Ok r → Sound σ Γ t r
+named_sound : (σ : Setting) (Γ : List Variable) (t : Option Ty) (s : Span) (o : Option Segment) (r : TypedExpr) → AllBuilt (types Γ) → named Γ t s o ≡ Ok r → Sound σ Γ t r
 named_sound σ Γ t s None r b p = absurd (cc)
 named_sound σ Γ t s (Some x) r b p = variable_sound σ Γ t s x.name r b p
 
@@ -119,16 +121,16 @@ signed_int : (u : Ty) → is_signed_ty u ≡ true → (k : IntKind) × (is_signe
 signed_int (int k) p = (k, p, refl)
 signed_int u p = absurd (cc)
 
-negated_sound : (σ : List Heading) (Γ : List Variable) (t : Option Ty) (s o r : Span) (a e : TypedExpr) → IsWellTyped (signatures_at σ) (types Γ) a → negated t s o r a ≡ Ok e → Sound σ Γ t e
+negated_sound : (σ : Setting) (Γ : List Variable) (t : Option Ty) (s o r : Span) (a e : TypedExpr) → IsWellTyped (surroundings σ) (types Γ) a → negated t s o r a ≡ Ok e → Sound σ Γ t e
 unfolding negated
 negated_sound σ Γ t s o r a e w p =
     let c = held (is_signed_ty (ty_of a)) (fit t s (tree.negative (ty_of a) o a)) (mismatch r) e p in
     let k = signed_int (ty_of a) c.0 in
     fit_sound σ Γ t s (tree.negative (ty_of a) o a) e (k.0, k.1, k.2, k.2, w) (subst IsBuilt (sym k.2) tt) c.1
 
-pub record BothSound (σ : List Heading) (Γ : List Variable) (p : Operands) : Type 0 where
-  pub left : IsWellTyped (signatures_at σ) (types Γ) p.left
-  pub right : IsWellTyped (signatures_at σ) (types Γ) p.right
+pub record BothSound (σ : Setting) (Γ : List Variable) (p : Operands) : Type 0 where
+  pub left : IsWellTyped (surroundings σ) (types Γ) p.left
+  pub right : IsWellTyped (surroundings σ) (types Γ) p.right
   pub same : IsOf (ty_of p.left) p.right
 
 either_built : (b : Bool) (k : IntKind) → IsBuilt (if b then int k else bool)
@@ -144,11 +146,11 @@ operation_built op (int k) u p = let q : (if is_arithmetic op then int k else bo
 operation_built op bool u p = equality_built (is_equality op) u p
 operation_built op t u p = absurd (cc)
 
-operation_sound : (σ : List Heading) (Γ : List Variable) (u t : Option Ty) (s o r : Span) (op : BinaryOp) (p : Operands) (e : TypedExpr) → operation_ty op (ty_of p.left) ≡ u → BothSound σ Γ p → operation u t s o r op p ≡ Ok e → Sound σ Γ t e
+operation_sound : (σ : Setting) (Γ : List Variable) (u t : Option Ty) (s o r : Span) (op : BinaryOp) (p : Operands) (e : TypedExpr) → operation_ty op (ty_of p.left) ≡ u → BothSound σ Γ p → operation u t s o r op p ≡ Ok e → Sound σ Γ t e
 operation_sound σ Γ None t s o r op p e q b h = absurd (cc)
 operation_sound σ Γ (Some u) t s o r op p e q b h = fit_sound σ Γ t s (tree.binary u o op p.left p.right) e (q, b.same, b.left, b.right) (operation_built op (ty_of p.left) u q) h
 
-operated_sound : (σ : List Heading) (Γ : List Variable) (t : Option Ty) (s o r : Span) (op : BinaryOp) (p : Operands) (e : TypedExpr) → BothSound σ Γ p → operated t s o r op p ≡ Ok e → Sound σ Γ t e
+operated_sound : (σ : Setting) (Γ : List Variable) (t : Option Ty) (s o r : Span) (op : BinaryOp) (p : Operands) (e : TypedExpr) → BothSound σ Γ p → operated t s o r op p ≡ Ok e → Sound σ Γ t e
 unfolding operated
 operated_sound σ Γ t s o r op p e b h = operation_sound σ Γ (operation_ty op (ty_of p.left)) t s o r op p e refl b h
 
@@ -160,7 +162,7 @@ written_fits Γ t s l a e r p =
     let c = bound (fit t s e) (if_mutable (may_write Γ a) l) r p in
     c.1 ∙ (held (may_write Γ a) (Ok c.0) (not_mutable l) r c.2).1
 
-assigned_sound : (σ : List Heading) (Γ : List Variable) (t : Option Ty) (s l : Span) (a e r : TypedExpr) → IsWellTyped (signatures_at σ) (types Γ) a → IsWellTyped (signatures_at σ) (types Γ) e → ty_of e ≡ ty_of a → assigned Γ t s l a e ≡ Ok r → Sound σ Γ t r
+assigned_sound : (σ : Setting) (Γ : List Variable) (t : Option Ty) (s l : Span) (a e r : TypedExpr) → IsWellTyped (surroundings σ) (types Γ) a → IsWellTyped (surroundings σ) (types Γ) e → ty_of e ≡ ty_of a → assigned Γ t s l a e ≡ Ok r → Sound σ Γ t r
 unfolding assigned
 assigned_sound σ Γ t s l a e r h w q p = fit_sound σ Γ t s (tree.assign unit s a e) r (refl, q, h, w) tt (written_fits Γ t s l a (tree.assign unit s a e) r p)
 
@@ -168,7 +170,7 @@ arithmetic_ty : (op : BinaryOp) (u : Ty) → is_updated op u ≡ true → operat
 arithmetic_ty op (int k) p = let q : is_arithmetic op ≡ true = p in rw q refl
 arithmetic_ty op u p = absurd (cc)
 
-updated_sound : (σ : List Heading) (Γ : List Variable) (t : Option Ty) (s o l : Span) (op : BinaryOp) (a e r : TypedExpr) → IsWellTyped (signatures_at σ) (types Γ) a → IsWellTyped (signatures_at σ) (types Γ) e → ty_of e ≡ ty_of a → updated Γ t s o l op a e ≡ Ok r → Sound σ Γ t r
+updated_sound : (σ : Setting) (Γ : List Variable) (t : Option Ty) (s o l : Span) (op : BinaryOp) (a e r : TypedExpr) → IsWellTyped (surroundings σ) (types Γ) a → IsWellTyped (surroundings σ) (types Γ) e → ty_of e ≡ ty_of a → updated Γ t s o l op a e ≡ Ok r → Sound σ Γ t r
 unfolding updated
 updated_sound σ Γ t s o l op a e r h w q p =
     let c = held (is_updated op (ty_of a)) (writing Γ t s l a (tree.update unit o op a e)) (mismatch l) r p in
@@ -185,29 +187,29 @@ called_callee : (σ : List Heading) (Γ : List Variable) (s : Span) (o : Option 
 called_callee σ Γ s None f p = absurd (cc)
 called_callee σ Γ s (Some x) f p = callee_signature σ Γ x.name f (known_callee x.span (callee σ Γ x.name) f p)
 
-abbrev pub AllSound : List Heading → List Variable → TypedExprs → List Ty → Type 0
-AllSound σ Γ es ts = how_many es ≡ length ts → ArgumentsFit (signatures_at σ) (types Γ) es ts
+abbrev pub AllSound : Setting → List Variable → TypedExprs → List Ty → Type 0
+AllSound σ Γ es ts = how_many es ≡ length ts → ArgumentsFit (surroundings σ) (types Γ) es ts
 
 same_number : (m n : ℕ) → (m == n) ≡ true → m ≡ n
 same_number m n p = same_test m n p
 
-called_sound : (σ : List Heading) (Γ : List Variable) (t : Option Ty) (s : Span) (f : Callee) (es : TypedExprs) (r : TypedExpr) → slice_get (signatures_at σ) f.place ≡ Some f.signature → IsBuilt f.signature.answer → AllSound σ Γ es f.signature.params → called t s f es ≡ Ok r → Sound σ Γ t r
+called_sound : (σ : Setting) (Γ : List Variable) (t : Option Ty) (s : Span) (f : Callee) (es : TypedExprs) (r : TypedExpr) → slice_get (signatures_at σ.headings) f.place ≡ Some f.signature → IsBuilt f.signature.answer → AllSound σ Γ es f.signature.params → called t s f es ≡ Ok r → Sound σ Γ t r
 unfolding called
 called_sound σ Γ t s f es r g b h p =
     let c = held (how_many es == length f.signature.params) (fit t s (tree.call f.signature.answer s f.place es)) (mismatch s) r p in
     fit_sound σ Γ t s (tree.call f.signature.answer s f.place es) r (f.signature, g, refl, h (same_number (how_many es) (length f.signature.params) c.0)) b c.1
 
-no_args : (σ : List Heading) (Γ : List Variable) (ts : List Ty) → AllSound σ Γ tree.none ts
+no_args : (σ : Setting) (Γ : List Variable) (ts : List Ty) → AllSound σ Γ tree.none ts
 no_args σ Γ [] = λ h. tt
 no_args σ Γ (t ∷ ts) = λ h. absurd (omega arith)
 
-more_args : (σ : List Heading) (Γ : List Variable) (ts : List Ty) (e : TypedExpr) (es : TypedExprs) → Sound σ Γ (first_of ts) e → AllSound σ Γ es (rest_of ts) → AllSound σ Γ (tree.more e es) ts
+more_args : (σ : Setting) (Γ : List Variable) (ts : List Ty) (e : TypedExpr) (es : TypedExprs) → Sound σ Γ (first_of ts) e → AllSound σ Γ es (rest_of ts) → AllSound σ Γ (tree.more e es) ts
 more_args σ Γ [] e es a b = λ h. absurd (omega arith)
 more_args σ Γ (t ∷ ts) e es a b = λ h. (a.meets, a.well, b (omega arith))
 
 -- ---- blocks and loops
 
-closed_sound : (σ : List Heading) (Γ : List Variable) (t : Option Ty) (s : Span) (ss : TypedStmts) (r : TypedExpr) → StatementsFit (signatures_at σ) (types Γ) (block_ty t ss) ss → IsBuilt (block_ty t ss) → closed t s ss ≡ Ok r → Sound σ Γ t r
+closed_sound : (σ : Setting) (Γ : List Variable) (t : Option Ty) (s : Span) (ss : TypedStmts) (r : TypedExpr) → StatementsFit (surroundings σ) (types Γ) (block_ty t ss) ss → IsBuilt (block_ty t ss) → closed t s ss ≡ Ok r → Sound σ Γ t r
 unfolding closed
 closed_sound σ Γ t s ss r h b p = fit_sound σ Γ t s (tree.block (block_ty t ss) s ss) r h b p
 
@@ -256,9 +258,23 @@ asked_built : (t : Option Ty) → MayAsk t → IsBuilt (asked t)
 asked_built None h = tt
 asked_built (Some u) h = h
 
-panicked_sound : (σ : List Heading) (Γ : List Variable) (t : Option Ty) (s : Span) (m : PanicMacro) (r : TypedExpr) → MayAsk t → panicked t s m ≡ Ok r → Sound σ Γ t r
+panicked_sound : (σ : Setting) (Γ : List Variable) (t : Option Ty) (s : Span) (m : PanicMacro) (r : TypedExpr) → MayAsk t → panicked t s m ≡ Ok r → Sound σ Γ t r
 panicked_sound σ Γ None s m r h p = subst (Sound σ Γ None) (same_ok (tree.panics unit s (cause_of m)) r p) (record { well = tt; meets = tt; built = tt })
 panicked_sound σ Γ (Some u) s m r h p = subst (Sound σ Γ (Some u)) (same_ok (tree.panics u s (cause_of m)) r p) (record { well = h; meets = refl; built = h })
+
+returned_sound : (σ : Setting) (Γ : List Variable) (t : Option Ty) (s : Span) (a r : TypedExpr) → MayAsk t → ty_of a ≡ σ.answer → IsWellTyped (surroundings σ) (types Γ) a → yes (returned t s a) ≡ Ok r → Sound σ Γ t r
+returned_sound σ Γ None s a r h q w p = subst (Sound σ Γ None) (same_ok (tree.returned unit s a) r p) (record { well = (tt, q, w); meets = tt; built = tt })
+returned_sound σ Γ (Some u) s a r h q w p = subst (Sound σ Γ (Some u)) (same_ok (tree.returned u s a) r p) (record { well = (h, q, w); meets = refl; built = h })
+
+bare_return_sound : (σ : Setting) (Γ : List Variable) (t : Option Ty) (s : Span) (r : TypedExpr) → MayAsk t → bare_return σ.answer t s ≡ Ok r → Sound σ Γ t r
+bare_return_sound σ Γ t s r h p =
+    let c = held (same_ty unit σ.answer) (Ok (returned t s (nothing s))) (mismatch s) r p in
+    returned_sound σ Γ t s (nothing s) r h (equal_types unit σ.answer c.0) refl c.1
+
+endless_sound : (σ : Setting) (Γ : List Variable) (t : Option Ty) (s : Span) (is : List Assertion) (b r : TypedExpr) → MayAsk t → EachSpeaks (length (types Γ)) is → ty_of b ≡ unit → IsWellTyped (surroundings σ) (types Γ) b
+    → yes (endless t s is b) ≡ Ok r → Sound σ Γ t r
+endless_sound σ Γ None s is b r h f q w p = subst (Sound σ Γ None) (same_ok (tree.endless unit s is b) r p) (record { well = (tt, f, q, w); meets = tt; built = tt })
+endless_sound σ Γ (Some u) s is b r h f q w p = subst (Sound σ Γ (Some u)) (same_ok (tree.endless u s is b) r p) (record { well = (h, f, q, w); meets = refl; built = h })
 
 -- the first side of a choice leaves, or gives the second its type
 sides_fit : (t : Option Ty) (y z : TypedExpr) (b : Bool) → leaves y ≡ b → IsBuilt (ty_of z) → Meets (if b then t else Some (ty_of y)) z
@@ -277,10 +293,10 @@ one_built false t u h k = k
 -- ---- expressions
 
 -- what typing gives at each expected type is sound
-abbrev pub EachSound : List Heading → List Variable → (Option Ty → Typed) → Type 0
+abbrev pub EachSound : Setting → List Variable → (Option Ty → Typed) → Type 0
 EachSound σ Γ f = (t : Option Ty) (r : TypedExpr) → MayAsk t → f t ≡ Ok r → Sound σ Γ t r
 
-both_sound : (σ : List Heading) (Γ : List Variable) (a b : TypedExpr) (p : Operands) → IsWellTyped (signatures_at σ) (types Γ) a → IsWellTyped (signatures_at σ) (types Γ) b → ty_of b ≡ ty_of a → yes (operands_of a b) ≡ Ok p → BothSound σ Γ p
+both_sound : (σ : Setting) (Γ : List Variable) (a b : TypedExpr) (p : Operands) → IsWellTyped (surroundings σ) (types Γ) a → IsWellTyped (surroundings σ) (types Γ) b → ty_of b ≡ ty_of a → yes (operands_of a b) ≡ Ok p → BothSound σ Γ p
 both_sound σ Γ a b p wa wb q h = subst (BothSound σ Γ) (same_ok _ _ h) (record { left = wa; right = wb; same = q })
 
 abbrev pub OrderBuilt : Order → Type 0
@@ -297,7 +313,7 @@ order_built true (Some t) p q h = h
 order_built true None p q h = without_built p q
 order_built false t p q h = without_built p q
 
-operands_sound : (σ : List Heading) (Γ : List Variable) (o : Order) (f g : Option Ty → Typed) (p : Operands) → OrderBuilt o → EachSound σ Γ f → EachSound σ Γ g → operands o f g ≡ Ok p → BothSound σ Γ p
+operands_sound : (σ : Setting) (Γ : List Variable) (o : Order) (f g : Option Ty → Typed) (p : Operands) → OrderBuilt o → EachSound σ Γ f → EachSound σ Γ g → operands o f g ≡ Ok p → BothSound σ Γ p
 operands_sound σ Γ (order.Against t) f g p k hf hg h =
     let a = bound (f (Some t)) _ p h in
     let b = bound (g (Some t)) _ p a.2 in
@@ -318,34 +334,34 @@ operands_sound σ Γ order.FirstGives f g p k hf hg h =
     both_sound σ Γ a.0 b.0 p sa.well sb.well sb.meets b.2
 
 -- what stands behind statements fits in the scope behind them, and all together in that before them
-abbrev pub OpenedSound : List Heading → List Variable → Opened → Type 0
-OpenedSound σ Γ o = (u : Ty) (end : TypedStmts) → StatementsFit (signatures_at σ) (types o.scope) u end → StatementsFit (signatures_at σ) (types Γ) u (stmts_of o.stmts end)
+abbrev pub OpenedSound : Setting → List Variable → Opened → Type 0
+OpenedSound σ Γ o = (u : Ty) (end : TypedStmts) → StatementsFit (surroundings σ) (types o.scope) u end → StatementsFit (surroundings σ) (types Γ) u (stmts_of o.stmts end)
 
-nothing_opened : (σ : List Heading) (Γ : List Variable) → OpenedSound σ Γ (opened Γ [])
+nothing_opened : (σ : Setting) (Γ : List Variable) → OpenedSound σ Γ (opened Γ [])
 nothing_opened σ Γ u end h = h
 
-declared_sound : (σ : List Heading) (Γ : List Variable) (d : Option Declared) (t : Option Ty) (a : TypedExpr) (o : Opened) → IsWellTyped (signatures_at σ) (types Γ) a → OpenedSound σ (declared Γ d a) o → OpenedSound σ Γ (behind (typed_stmt (record { declares = d; expected = t }) a) o)
+declared_sound : (σ : Setting) (Γ : List Variable) (d : Option Declared) (t : Option Ty) (a : TypedExpr) (o : Opened) → IsWellTyped (surroundings σ) (types Γ) a → OpenedSound σ (declared Γ d a) o → OpenedSound σ Γ (behind (typed_stmt (record { declares = d; expected = t }) a) o)
 declared_sound σ Γ None t a o w h = λ u end k. (w, h u end k)
 declared_sound σ Γ (Some d) t a o w h = λ u end k.
-    (w, subst (λ ts. StatementsFit (signatures_at σ) ts u (stmts_of o.stmts end)) (types-append Γ (record { name = d.name; ty = ty_of a; mutable = d.mutable })) (h u end k))
+    (w, subst (λ ts. StatementsFit (surroundings σ) ts u (stmts_of o.stmts end)) (types-append Γ (record { name = d.name; ty = ty_of a; mutable = d.mutable })) (h u end k))
 
 -- the same statement before others
-before_fits : (σ : List Signature) (Γ : List Ty) (t : Option Ty) (b : Bool) (e : TypedExpr) (rest other : TypedStmts) → ((Δ : List Ty) → StatementsFit σ Δ unit rest → StatementsFit σ Δ (block_ty t other) other)
+before_fits : (σ : Surroundings) (Γ : List Ty) (t : Option Ty) (b : Bool) (e : TypedExpr) (rest other : TypedStmts) → ((Δ : List Ty) → StatementsFit σ Δ unit rest → StatementsFit σ Δ (block_ty t other) other)
     → StatementsFit σ Γ unit (stmt_of b e rest) → StatementsFit σ Γ (block_ty t (stmt_of b e other)) (stmt_of b e other)
 before_fits σ Γ t true e rest other f h = (h.0, f (Γ ++ ty_of e ∷ []) h.1)
 before_fits σ Γ t false e rest other f h = (h.0, f Γ h.1)
 
-value_fits : (σ : List Signature) (Γ : List Ty) (b : Bool) (e : TypedExpr) → StatementsFit σ Γ unit (stmt_of b e tree.done) → IsWellTyped σ Γ e
+value_fits : (σ : Surroundings) (Γ : List Ty) (b : Bool) (e : TypedExpr) → StatementsFit σ Γ unit (stmt_of b e tree.done) → IsWellTyped σ Γ e
 value_fits σ Γ true e h = h.0
 value_fits σ Γ false e h = h.0
 
-end_fits : (σ : List Signature) (Γ : List Ty) (t : Option Ty) (s : TypedStmt) (b : Bool) → MayAsk t → leaves s.value ≡ b → StatementsFit σ Γ unit (stmt_of s.binds s.value tree.done)
+end_fits : (σ : Surroundings) (Γ : List Ty) (t : Option Ty) (s : TypedStmt) (b : Bool) → MayAsk t → leaves s.value ≡ b → StatementsFit σ Γ unit (stmt_of s.binds s.value tree.done)
     → let end = if b then tree.leaving s.value else stmt_of s.binds s.value tree.done in StatementsFit σ Γ (block_ty t end) end
 end_fits σ Γ t s true k q h = (asked_built t k, q, value_fits σ Γ s.binds s.value h)
 end_fits σ Γ t s false k q h = before_fits σ Γ t s.binds s.value tree.done tree.done (λ Δ k. k) h
 
 -- statements with no last expression fit with the last of them apart, where it leaves
-without_last_fits : (σ : List Signature) (Γ : List Ty) (t : Option Ty) (ss : List TypedStmt) → MayAsk t → StatementsFit σ Γ unit (stmts_of ss tree.done) → StatementsFit σ Γ (block_ty t (without_last ss)) (without_last ss)
+without_last_fits : (σ : Surroundings) (Γ : List Ty) (t : Option Ty) (ss : List TypedStmt) → MayAsk t → StatementsFit σ Γ unit (stmts_of ss tree.done) → StatementsFit σ Γ (block_ty t (without_last ss)) (without_last ss)
 without_last_fits σ Γ t [] k h = h
 without_last_fits σ Γ t (s ∷ []) k h = end_fits σ Γ t s (leaves s.value) k refl h
 without_last_fits σ Γ t (s ∷ r ∷ ss) k h = before_fits σ Γ t s.binds s.value (stmts_of (r ∷ ss) tree.done) (without_last (r ∷ ss)) (λ Δ g. without_last_fits σ Δ t (r ∷ ss) k g) h
@@ -360,10 +376,10 @@ without_last_built t (s ∷ []) k = end_built t s (leaves s.value) k
 without_last_built t (s ∷ r ∷ ss) k = subst IsBuilt (sym (stmt_ty t s.binds s.value (without_last (r ∷ ss)))) (without_last_built t (r ∷ ss) k)
 
 -- a block of these statements, with what stands behind them
-block_sound : (σ : List Heading) (Γ : List Variable) (t : Option Ty) (s : Span) (o : Opened) (end : TypedStmts) (r : TypedExpr) → OpenedSound σ Γ o → StatementsFit (signatures_at σ) (types o.scope) (block_ty t end) end → IsBuilt (block_ty t end) → closed t s (stmts_of o.stmts end) ≡ Ok r → Sound σ Γ t r
+block_sound : (σ : Setting) (Γ : List Variable) (t : Option Ty) (s : Span) (o : Opened) (end : TypedStmts) (r : TypedExpr) → OpenedSound σ Γ o → StatementsFit (surroundings σ) (types o.scope) (block_ty t end) end → IsBuilt (block_ty t end) → closed t s (stmts_of o.stmts end) ≡ Ok r → Sound σ Γ t r
 block_sound σ Γ t s o end r h k b p =
     closed_sound σ Γ t s (stmts_of o.stmts end) r
-    (subst (λ u. StatementsFit (signatures_at σ) (types Γ) u (stmts_of o.stmts end)) (sym (block_ty_after t o.stmts end)) (h (block_ty t end) end k)) (subst IsBuilt (sym (block_ty_after t o.stmts end)) b) p
+    (subst (λ u. StatementsFit (surroundings σ) (types Γ) u (stmts_of o.stmts end)) (sym (block_ty_after t o.stmts end)) (h (block_ty t end) end k)) (subst IsBuilt (sym (block_ty_after t o.stmts end)) b) p
 
 -- ---- types of scopes
 
@@ -371,11 +387,12 @@ all_built_append : (ts : List Ty) (t : Ty) → AllBuilt ts → IsBuilt t → All
 all_built_append [] t h k = (k, tt)
 all_built_append (u ∷ ts) t h k = (h.0, all_built_append ts t h.1 k)
 
-declared_built : (σ : List Heading) (Γ : List Variable) (d : Option Declared) (a : TypedExpr) → Around σ Γ → IsBuilt (ty_of a) → Around σ (declared Γ d a)
+declared_built : (σ : Setting) (Γ : List Variable) (d : Option Declared) (a : TypedExpr) → Around σ Γ → IsBuilt (ty_of a) → Around σ (declared Γ d a)
 declared_built σ Γ None a h k = h
 declared_built σ Γ (Some d) a h k = record {
   functions = h.functions;
   variables = subst AllBuilt (sym (types-append Γ (record { name = d.name; ty = ty_of a; mutable = d.mutable }))) (all_built_append (types Γ) (ty_of a) h.variables k);
+  answer = h.answer;
 }
 
 written_may : (w : Option TypeTree) (t : Option Ty) → written_or_none w ≡ Ok t → MayAsk t
@@ -402,7 +419,7 @@ rest_built [] h = tt
 rest_built (t ∷ ts) h = h.1
 
 mutual
-  pub typed_sound : (σ : List Heading) (Γ : List Variable) (e : Expr) (t : Option Ty) (r : TypedExpr) → Around σ Γ → MayAsk t → typed σ Γ e t ≡ Ok r → Sound σ Γ t r
+  pub typed_sound : (σ : Setting) (Γ : List Variable) (e : Expr) (t : Option Ty) (r : TypedExpr) → Around σ Γ → MayAsk t → typed σ Γ e t ≡ Ok r → Sound σ Γ t r
   typed_sound σ Γ (E.integer s z k) t r ho ht p = literal_sound σ Γ t s z k r p
   typed_sound σ Γ (E.truth s b) t r ho ht p = fit_sound σ Γ t s (tree.truth bool s b) r refl tt p
   typed_sound σ Γ (E.path s w) t r ho ht p = named_sound σ Γ t s (name_alone w.node) r ho.variables p
@@ -438,14 +455,14 @@ mutual
       let sb = typed_sound σ Γ e (Some (ty_of a.0)) b.0 ho sa.built b.1 in
       updated_sound σ Γ t s o (span_of l) op a.0 b.0 r sa.well sb.well sb.meets b.2
   typed_sound σ Γ (E.call s f es) t r ho ht p =
-      let g = bound (callee_of σ Γ s (as_name f)) _ r p in
+      let g = bound (callee_of σ.headings Γ s (as_name f)) _ r p in
       let as' = bound (typed_args σ Γ es g.0.signature.params) _ r g.2 in
-      let is = called_callee σ Γ s (as_name f) g.0 g.1 in
+      let is = called_callee σ.headings Γ s (as_name f) g.0 g.1 in
       let b = ho.functions g.0.place g.0.signature is in
       called_sound σ Γ t s g.0 as'.0 r is b.1 (args_sound σ Γ es g.0.signature.params as'.0 ho b.0 as'.1) as'.2
   typed_sound σ Γ (E.block s ss) t r ho ht p =
       let o = bound (typed_stmts σ Γ ss) _ r p in
-      closed_sound σ Γ t s (without_last o.0.stmts) r (without_last_fits (signatures_at σ) (types Γ) t o.0.stmts ht ((stmts_sound σ Γ ss o.0 ho o.1).0 unit tree.done refl)) (without_last_built t o.0.stmts ht) o.2
+      closed_sound σ Γ t s (without_last o.0.stmts) r (without_last_fits (surroundings σ) (types Γ) t o.0.stmts ht ((stmts_sound σ Γ ss o.0 ho o.1).0 unit tree.done refl)) (without_last_built t o.0.stmts ht) o.2
   typed_sound σ Γ (E.block_with s ss e) t r ho ht p =
       let o = bound (typed_stmts σ Γ ss) _ r p in
       let a = bound (typed σ o.0.scope e t) _ r o.2 in
@@ -481,9 +498,23 @@ mutual
       let sy = typed_sound σ Γ b (Some unit) y.0 ho tt y.1 in
       fit_sound σ Γ t s (tree.repeat unit s is.0 x.0 y.0) r (refl, invariants_speak Γ as' is.0 is.1, sx.meets, sy.meets, sx.well, sy.well) tt y.2
   typed_sound σ Γ (E.panic s m text) t r ho ht p = panicked_sound σ Γ t s m r ht p
+  typed_sound σ Γ (E.bare_return s) t r ho ht p = bare_return_sound σ Γ t s r ht p
+  typed_sound σ Γ (E.return_with s e) t r ho ht p =
+      let a = bound (typed σ Γ e (Some σ.answer)) _ r p in
+      let sa = typed_sound σ Γ e (Some σ.answer) a.0 ho ho.answer a.1 in
+      returned_sound σ Γ t s a.0 r ht sa.meets sa.well a.2
+  typed_sound σ Γ (E.endless s b) t r ho ht p =
+      let x = bound (typed σ Γ b (Some unit)) _ r p in
+      let sx = typed_sound σ Γ b (Some unit) x.0 ho tt x.1 in
+      endless_sound σ Γ t s [] x.0 r ht tt sx.meets sx.well x.2
+  typed_sound σ Γ (E.attributed s as' (E.endless v b)) t r ho ht p =
+      let is = bound (gather (invariant_of Γ) as') _ r p in
+      let x = bound (typed σ Γ b (Some unit)) _ r is.2 in
+      let sx = typed_sound σ Γ b (Some unit) x.0 ho tt x.1 in
+      endless_sound σ Γ t s is.0 x.0 r ht (invariants_speak Γ as' is.0 is.1) sx.meets sx.well x.2
   typed_sound σ Γ e t r ho ht p = absurd (cc)
 
-  stmts_sound : (σ : List Heading) (Γ : List Variable) (ss : E.Stmts) (o : Opened) → Around σ Γ → typed_stmts σ Γ ss ≡ Ok o → OpenedSound σ Γ o × Around σ o.scope
+  stmts_sound : (σ : Setting) (Γ : List Variable) (ss : E.Stmts) (o : Opened) → Around σ Γ → typed_stmts σ Γ ss ≡ Ok o → OpenedSound σ Γ o × Around σ o.scope
   stmts_sound σ Γ E.no_stmts o ho p = subst (λ o. OpenedSound σ Γ o × Around σ o.scope) (same_ok (opened Γ []) o p) (nothing_opened σ Γ, ho)
   stmts_sound σ Γ (E.with_stmt s k e ss) o ho p =
       let w = bound (step_of k) _ o p in
@@ -493,7 +524,7 @@ mutual
       let rest = stmts_sound σ (declared Γ w.0.declares a.0) ss c.0 (declared_built σ Γ w.0.declares a.0 ho sa.built) c.1 in
       subst (λ o. OpenedSound σ Γ o × Around σ o.scope) (same_ok (behind (typed_stmt w.0 a.0) c.0) o c.2) (declared_sound σ Γ w.0.declares w.0.expected a.0 c.0 sa.well rest.0, rest.1)
 
-  args_sound : (σ : List Heading) (Γ : List Variable) (es : E.Exprs) (ts : List Ty) (r : TypedExprs) → Around σ Γ → AllBuilt ts → typed_args σ Γ es ts ≡ Ok r → AllSound σ Γ r ts
+  args_sound : (σ : Setting) (Γ : List Variable) (es : E.Exprs) (ts : List Ty) (r : TypedExprs) → Around σ Γ → AllBuilt ts → typed_args σ Γ es ts ≡ Ok r → AllSound σ Γ r ts
   args_sound σ Γ E.none ts r ho hs p = subst (λ (r : TypedExprs). AllSound σ Γ r ts) (same_ok _ _ p) (no_args σ Γ ts)
   args_sound σ Γ (E.more e es) ts r ho hs p =
       let a = bound (typed σ Γ e (first_of ts)) _ r p in

@@ -15,6 +15,8 @@ use Rattle.type_check.specs.declared.scope.Variable.{Variable}
 use Rattle.type_check.specs.Checked.{type_of}
 use Rattle.type_check.specs.Functions.{callee, callee_at, function_from, unless_variable}
 use Rattle.type_check.specs.Scope.{at_place, found, found_from}
+use Rattle.type_check.specs.Setting.{Setting}
+use Rattle.type_check.specs.WellTyped.{Surroundings}
 
 -- the types of the variables in scope
 abbrev pub types : List Variable → List Ty
@@ -25,6 +27,10 @@ signature_at h = h.signature
 
 abbrev pub signatures_at : List Heading → List Signature
 signatures_at σ = map signature_at σ
+
+-- what stands around a body, as its typed tree sees it
+abbrev pub surroundings : Setting → Surroundings
+surroundings σ = record { signatures = signatures_at σ.headings; answer = σ.answer }
 
 better : (P : Found → Type 0) (b : Bool) (f : Found) (best : Option Found) → P f → ((w : Found) → best ≡ Some w → P w) → (w : Found) → (if b then Some f else best) ≡ Some w → P w
 better P true f best here before w p = let q : f ≡ w = cc in subst P q here

@@ -4,7 +4,7 @@ use Rattle.text_core.specs.declared.span.Span.{Span}
 use Rattle.source_trees.specs.declared.expr.ExprNode.{ExprNode}
 use Rattle.source_trees.specs.declared.expr.ExprNode.TheVariants as node
 use Rattle.source_trees.specs.declared.expr.Stmt.{Stmt}
-use Rattle.source_trees.specs.Expr.{Expr, repeat}
+use Rattle.source_trees.specs.Expr.{Expr, repeat, endless}
 use Rattle.source_trees.specs.Pat.{Pat}
 use Rattle.source_trees.specs.ExprView.{expr_of, expr_size, exprs_size, stmts_size, exprs_of, stmts_of}
 
@@ -31,3 +31,7 @@ pub ruleset parts = (each_smaller, stmt_smaller)
 -- an expression that is seen to be a loop without a pattern
 pub loop_seen : (s : Span) (n m : ExprNode) (e : Expr) (o : Option Pat) (c b : Expr) → expr_of s n ≡ e → m ≡ n → m ≡ node.While o c b → o ≡ None → e ≡ repeat s None c b
 loop_seen s n m e o c b v d is q = sym v ∙ ap (expr_of s) (sym d ∙ is ∙ ap (λ o. node.While o c b) q)
+
+-- the same of `loop`
+pub endless_seen : (s : Span) (n m : ExprNode) (e b : Expr) → expr_of s n ≡ e → m ≡ n → m ≡ node.Loop b → e ≡ endless s b
+endless_seen s n m e b v d is = sym v ∙ ap (expr_of s) (sym d ∙ is)

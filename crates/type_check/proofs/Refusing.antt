@@ -35,12 +35,13 @@ use Rattle.type_check.specs.Answers.{◌>>=◌, unknown_name, mismatch, unbuilt,
 use Rattle.type_check.specs.Causes.{IsMismatch, IsUnbuilt, IsUnknown, IsNotRead, IsNotWritten, IsNotCalled, Causes, CausesInStmts, CausesInArgs}
 use Rattle.type_check.specs.Functions.{callee}
 use Rattle.type_check.specs.Scope.{found}
+use Rattle.type_check.specs.Setting.{Setting}
 use Rattle.type_check.specs.TypedExpr.{TypedExpr, TypedStmts, TypedExprs}
 use Rattle.type_check.specs.TypedExpr as tree
 use Rattle.type_check.specs.TypedExprView.{ty_of, stmts_of}
 use Rattle.type_check.specs.Types.{same_ty, is_signed_ty}
 use Rattle.type_check.specs.Typing.{Typed, fit, literal_kind, literal_of, literal, variable_of, variable, named, negated, is_bare, order_of, operands_of, operands, operation, operated, may_write, if_mutable, writing, assigned}
-use Rattle.type_check.specs.Typing.{is_updated, updated, known, callee_of, how_many, first_of, rest_of, called, asked, block_ty, declared, behind, typed_stmt, without_last, closed, given, choice_ty, cause_of, invariant_by, invariant_of, typed, typed_stmts, typed_args}
+use Rattle.type_check.specs.Typing.{is_updated, updated, known, callee_of, how_many, first_of, rest_of, called, asked, block_ty, declared, behind, typed_stmt, without_last, closed, given, choice_ty, cause_of, nothing, returned, endless, invariant_by, invariant_of, typed, typed_stmts, typed_args}
 use Rattle.type_check.specs.WellTyped.{unit, is_arithmetic, operation_ty}
 use Rattle.type_check.specs.Written.{as_name, name_alone, named_type, type_or, written_type, written_or_none, name_or, declared_by, step_of}
 use Rattle.type_check.proofs.Bound.{yes}
@@ -151,7 +152,7 @@ not_written Γ l a e n (inl m) = inl m
 not_written Γ l a e n (inr f) = let c = constant_named Γ (as_name l) a n f.0 in inr (c.0, c.1, (c.2, c.3, c.4, f.1))
 
 -- an assignment stops at its left side, at its right side, or as a whole
-assignment_stops : (σ : List Heading) (Γ : List Variable) (l r : Expr) (k : TypedExpr → TypedExpr → Typed) (e : SourceError) → ((a b : TypedExpr) → k a b ≡ Err e → IsMismatch e ⊎ IsFixed Γ a (span_of l) e)
+assignment_stops : (σ : Setting) (Γ : List Variable) (l r : Expr) (k : TypedExpr → TypedExpr → Typed) (e : SourceError) → ((a b : TypedExpr) → k a b ≡ Err e → IsMismatch e ⊎ IsFixed Γ a (span_of l) e)
     → (typed σ Γ l None ≡ Err e → Causes σ Γ l e) → ((t : Option Ty) → typed σ Γ r t ≡ Err e → Causes σ Γ r e) → (typed σ Γ l None >>= λ a. typed σ Γ r (Some (ty_of a)) >>= k a) ≡ Err e
     → (IsMismatch e ⊎ IsNotWritten Γ l e) ⊎ (Causes σ Γ l e ⊎ Causes σ Γ r e)
 assignment_stops σ Γ l r k e hk hl hr p =
@@ -254,7 +255,7 @@ no_args es e p = cc
 -- ---- expressions
 
 mutual
-  pub typed_stops : (σ : List Heading) (Γ : List Variable) (a : Expr) (t : Option Ty) (e : SourceError) → typed σ Γ a t ≡ Err e → Causes σ Γ a e
+  pub typed_stops : (σ : Setting) (Γ : List Variable) (a : Expr) (t : Option Ty) (e : SourceError) → typed σ Γ a t ≡ Err e → Causes σ Γ a e
   typed_stops σ Γ (E.integer s z k) t e p = literal_stops t s z k e p
   typed_stops σ Γ (E.truth s b) t e p = fit_stops t s (tree.truth bool s b) e p
   typed_stops σ Γ (E.path s w) t e p = named_stops Γ t s (name_alone w.node) e p
@@ -291,8 +292,8 @@ mutual
       assignment_stops σ Γ l a (updated Γ t s o (span_of l) op) e (λ x y q. updated_stops Γ t s o (span_of l) op x y e q)
       (λ q. typed_stops σ Γ l None e q) (λ u q. typed_stops σ Γ a u e q) p
   typed_stops σ Γ (E.call s f es) t e p =
-      elim (stop (callee_of σ Γ s (as_name f)) _ e p) as (λ _. Causes σ Γ (E.call s f es) e) [
-        | inl q ↦ inl (inr (callee_stops σ Γ s (as_name f) e q))
+      elim (stop (callee_of σ.headings Γ s (as_name f)) _ e p) as (λ _. Causes σ Γ (E.call s f es) e) [
+        | inl q ↦ inl (inr (callee_stops σ.headings Γ s (as_name f) e q))
         | inr g ↦ elim (stop (typed_args σ Γ es g.0.signature.params) _ e g.2) as (λ _. Causes σ Γ (E.call s f es) e) [
           | inl q ↦ inr (args_stop σ Γ es g.0.signature.params e q)
           | inr y ↦ inl (inl (called_stops t s g.0 y.0 e y.2))
@@ -350,9 +351,28 @@ mutual
         ]
       ]
   typed_stops σ Γ (E.panic s m text) t e p = no_type (tree.panics (asked t) s (cause_of m)) e p
+  typed_stops σ Γ (E.bare_return s) t e p = unheld (same_ty unit σ.answer) (Ok (returned t s (nothing s))) s e (λ q. absurd (cc)) p
+  typed_stops σ Γ (E.return_with s a) t e p =
+      elim (stop (typed σ Γ a (Some σ.answer)) _ e p) as (λ _. Causes σ Γ (E.return_with s a) e) [
+        | inl q ↦ typed_stops σ Γ a (Some σ.answer) e q
+        | inr x ↦ absurd (no_type (returned t s x.0) e x.2)
+      ]
+  typed_stops σ Γ (E.endless s b) t e p =
+      elim (stop (typed σ Γ b (Some unit)) _ e p) as (λ _. Causes σ Γ (E.endless s b) e) [
+        | inl q ↦ typed_stops σ Γ b (Some unit) e q
+        | inr x ↦ absurd (no_type (endless t s [] x.0) e x.2)
+      ]
+  typed_stops σ Γ (E.attributed s as' (E.endless v b)) t e p =
+      elim (stop (gather (invariant_of Γ) as') _ e p) as (λ _. Causes σ Γ (E.attributed s as' (E.endless v b)) e) [
+        | inl q ↦ inl (invariants_stop Γ as' e q)
+        | inr is ↦ elim (stop (typed σ Γ b (Some unit)) _ e is.2) as (λ _. Causes σ Γ (E.attributed s as' (E.endless v b)) e) [
+          | inl q ↦ inr (typed_stops σ Γ b (Some unit) e q)
+          | inr x ↦ absurd (no_type (endless t s is.0 x.0) e x.2)
+        ]
+      ]
   typed_stops σ Γ a t e p = let q : unbuilt (span_of a) ≡ e = cc in sym q
 
-  stmts_stop : (σ : List Heading) (Γ : List Variable) (ss : E.Stmts) (e : SourceError) → typed_stmts σ Γ ss ≡ Err e → CausesInStmts σ Γ ss e
+  stmts_stop : (σ : Setting) (Γ : List Variable) (ss : E.Stmts) (e : SourceError) → typed_stmts σ Γ ss ≡ Err e → CausesInStmts σ Γ ss e
   stmts_stop σ Γ E.no_stmts e p = absurd (cc)
   stmts_stop σ Γ (E.with_stmt s k a ss) e p =
       elim (stop (step_of k) _ e p) as (λ _. CausesInStmts σ Γ (E.with_stmt s k a ss) e) [
@@ -366,7 +386,7 @@ mutual
         ]
       ]
 
-  args_stop : (σ : List Heading) (Γ : List Variable) (es : E.Exprs) (ts : List Ty) (e : SourceError) → typed_args σ Γ es ts ≡ Err e → CausesInArgs σ Γ es e
+  args_stop : (σ : Setting) (Γ : List Variable) (es : E.Exprs) (ts : List Ty) (e : SourceError) → typed_args σ Γ es ts ≡ Err e → CausesInArgs σ Γ es e
   args_stop σ Γ E.none ts e p = absurd (cc)
   args_stop σ Γ (E.more a es) ts e p =
       elim (stop (typed σ Γ a (first_of ts)) _ e p) as (λ _. CausesInArgs σ Γ (E.more a es) e) [

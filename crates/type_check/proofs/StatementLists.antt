@@ -8,13 +8,13 @@ use Rattle.logic_term.specs.Ty.{Ty}
 use Rattle.source_trees.specs.declared.expr.Stmt.{Stmt}
 use Rattle.source_trees.specs.Expr.{Expr, Stmts, no_stmts, with_stmt}
 use Rattle.source_trees.specs.ExprView.{stmts_of}
-use Rattle.type_check.specs.declared.heading.Heading.{Heading}
 use Rattle.type_check.specs.declared.scope.Declared.{Declared}
 use Rattle.type_check.specs.declared.scope.Variable.{Variable}
 use Rattle.type_check.specs.declared.statements.Step.{Step}
 use Rattle.type_check.specs.declared.typed.TypedStmt.{TypedStmt}
 use Rattle.type_check.specs.Answers.{◌>>=◌, Refuses}
 use Rattle.type_check.specs.Leaves.{leaves, value_leaves, ends_leaving}
+use Rattle.type_check.specs.Setting.{Setting}
 use Rattle.type_check.specs.TypedExpr.{TypedExpr, TypedStmts, done, leaving}
 use Rattle.type_check.specs.TypedExprView.{ty_of, stmt_of as typed_stmt_of, stmts_of as typed_stmts_of}
 use Rattle.type_check.specs.Typing.{Typed, Opened, opened, behind, block_ty, declared, end_of, without_last, typed, typed_stmt, typed_stmts, typed_statement}
@@ -70,14 +70,14 @@ abbrev pub onto : List TypedStmt → Opened → Result Opened SourceError
 onto vs o = Ok (opened o.scope (vs ++ o.stmts))
 
 -- what is left, after these statements
-abbrev pub continued : List Heading → List Variable → List Stmt → List TypedStmt → Result Opened SourceError
+abbrev pub continued : Setting → List Variable → List Stmt → List TypedStmt → Result Opened SourceError
 continued σ Γ ss vs = typed_stmts σ Γ (stmts_of ss) >>= onto vs
 
 nothing_yet : (m : Result Opened SourceError) → m ≡ (m >>= onto [])
 nothing_yet (Ok o) = refl
 nothing_yet (Err e) = refl
 
-pub statements_start : (σ : List Heading) (Γ Γ' : List Variable) (ss : List Stmt) (vs : List TypedStmt) → Γ' ≡ Γ → vs ≡ [] → typed_stmts σ Γ (stmts_of ss) ≡ continued σ Γ' (drop 0 ss) vs
+pub statements_start : (σ : Setting) (Γ Γ' : List Variable) (ss : List Stmt) (vs : List TypedStmt) → Γ' ≡ Γ → vs ≡ [] → typed_stmts σ Γ (stmts_of ss) ≡ continued σ Γ' (drop 0 ss) vs
 statements_start σ Γ Γ' ss vs p q = rw (p, q) (nothing_yet (typed_stmts σ Γ (stmts_of ss)))
 
 -- ---- one statement, and then the others
@@ -85,40 +85,40 @@ statements_start σ Γ Γ' ss vs p q = rw (p, q) (nothing_yet (typed_stmts σ Γ
 abbrev one : TypedStmt → Opened → Result Opened SourceError
 one s o = Ok (behind s o)
 
-abbrev then_rest : List Heading → Stmts → List Variable × TypedStmt → Result Opened SourceError
+abbrev then_rest : Setting → Stmts → List Variable × TypedStmt → Result Opened SourceError
 then_rest σ ss q = typed_stmts σ q.0 ss >>= one q.1
 
-by_value : (σ : List Heading) (Γ : List Variable) (p : Step) (ss : Stmts) (n : Typed)
+by_value : (σ : Setting) (Γ : List Variable) (p : Step) (ss : Stmts) (n : Typed)
     → (n >>= λ a. typed_stmts σ (declared Γ p.declares a) ss >>= λ o. Ok (behind (typed_stmt p a) o)) ≡ ((n >>= λ a. Ok (declared Γ p.declares a, typed_stmt p a)) >>= then_rest σ ss)
 by_value σ Γ p ss (Ok a) = refl
 by_value σ Γ p ss (Err e) = refl
 
-by_step : (σ : List Heading) (Γ : List Variable) (e : Expr) (ss : Stmts) (m : Result Step SourceError)
+by_step : (σ : Setting) (Γ : List Variable) (e : Expr) (ss : Stmts) (m : Result Step SourceError)
     → (m >>= λ p. typed σ Γ e p.expected >>= λ a. typed_stmts σ (declared Γ p.declares a) ss >>= λ o. Ok (behind (typed_stmt p a) o)) ≡ ((m >>= λ p. typed σ Γ e p.expected >>= λ a. Ok (declared Γ p.declares a, typed_stmt p a)) >>= then_rest σ ss)
 by_step σ Γ e ss (Ok p) = by_value σ Γ p ss (typed σ Γ e p.expected)
 by_step σ Γ e ss (Err f) = refl
 
-step : (σ : List Heading) (Γ : List Variable) (s : Stmt) (ss : Stmts) → typed_stmts σ Γ (with_stmt s.span s.kind s.value ss) ≡ (typed_statement σ Γ s >>= then_rest σ ss)
+step : (σ : Setting) (Γ : List Variable) (s : Stmt) (ss : Stmts) → typed_stmts σ Γ (with_stmt s.span s.kind s.value ss) ≡ (typed_statement σ Γ s >>= then_rest σ ss)
 step σ Γ s ss = by_step σ Γ s.value ss (step_of s.kind)
 
 stmts_at : (ss : List Stmt) (i : ℕ) (s : Stmt) → s ≡ get_or ss i s → i < length ss → stmts_of (drop i ss) ≡ with_stmt s.span s.kind s.value (stmts_of (drop (suc i) ss))
 stmts_at ss i s q h = rw (drop-cons ss i s h) (ap (λ (x : Stmt). with_stmt x.span x.kind x.value (stmts_of (drop (suc i) ss))) (sym q))
 
-next : (σ : List Heading) (Γ : List Variable) (ss : List Stmt) (i : ℕ) (s : Stmt) → s ≡ get_or ss i s → i < length ss → typed_stmts σ Γ (stmts_of (drop i ss)) ≡ (typed_statement σ Γ s >>= then_rest σ (stmts_of (drop (suc i) ss)))
+next : (σ : Setting) (Γ : List Variable) (ss : List Stmt) (i : ℕ) (s : Stmt) → s ≡ get_or ss i s → i < length ss → typed_stmts σ Γ (stmts_of (drop i ss)) ≡ (typed_statement σ Γ s >>= then_rest σ (stmts_of (drop (suc i) ss)))
 next σ Γ ss i s q h = ap (typed_stmts σ Γ) (stmts_at ss i s q h) ∙ step σ Γ s (stmts_of (drop (suc i) ss))
 
 one_more : (vs : List TypedStmt) (s : TypedStmt) (m : Result Opened SourceError) → ((m >>= one s) >>= onto vs) ≡ (m >>= onto (vs ++ s ∷ []))
 one_more vs s (Ok o) = ap (λ xs. Ok (opened o.scope xs)) (sym (append_assoc vs (s ∷ []) o.stmts))
 one_more vs s (Err e) = refl
 
-pub statements_more : (σ : List Heading) (Γ Γ' : List Variable) (ss : List Stmt) (i : ℕ) (s : Stmt) (vs : List TypedStmt) (v : TypedStmt) → s ≡ get_or ss i s → i < length ss → typed_statement σ Γ s ≡ Ok (Γ', v) → continued σ Γ (drop i ss) vs ≡ continued σ Γ' (drop (i + 1) ss) (vs ++ v ∷ [])
+pub statements_more : (σ : Setting) (Γ Γ' : List Variable) (ss : List Stmt) (i : ℕ) (s : Stmt) (vs : List TypedStmt) (v : TypedStmt) → s ≡ get_or ss i s → i < length ss → typed_statement σ Γ s ≡ Ok (Γ', v) → continued σ Γ (drop i ss) vs ≡ continued σ Γ' (drop (i + 1) ss) (vs ++ v ∷ [])
 statements_more σ Γ Γ' ss i s vs v q h p =
     rw add-one
     (ap (λ m. m >>= onto vs) (next σ Γ ss i s q h)
     ∙ ap (λ (m : Result (List Variable × TypedStmt) SourceError). (m >>= then_rest σ (stmts_of (drop (suc i) ss))) >>= onto vs) p
     ∙ one_more vs v (typed_stmts σ Γ' (stmts_of (drop (suc i) ss))))
 
-pub statements_stop : (f : PassError) (σ : List Heading) (Γ Γ₀ : List Variable) (ss : List Stmt) (i : ℕ) (s : Stmt) (vs : List TypedStmt) → s ≡ get_or ss i s → i < length ss → typed_stmts σ Γ₀ (stmts_of ss) ≡ continued σ Γ (drop i ss) vs
+pub statements_stop : (f : PassError) (σ : Setting) (Γ Γ₀ : List Variable) (ss : List Stmt) (i : ℕ) (s : Stmt) (vs : List TypedStmt) → s ≡ get_or ss i s → i < length ss → typed_stmts σ Γ₀ (stmts_of ss) ≡ continued σ Γ (drop i ss) vs
     → Refuses f (typed_statement σ Γ s) → Refuses f (typed_stmts σ Γ₀ (stmts_of ss))
 statements_stop f σ Γ Γ₀ ss i s vs q h r p =
     along f _ _ r
@@ -130,7 +130,7 @@ drop_all : (ss : List Stmt) (n : ℕ) → n ≡ length ss → drop n ss ≡ []
 drop_all [] n q = rw q refl
 drop_all (s ∷ ss) n q = rw q (drop_all ss (length ss) refl)
 
-pub statements_end : (σ : List Heading) (Γ : List Variable) (ss : List Stmt) (n : ℕ) (vs : List TypedStmt) → n ≡ length ss → continued σ Γ (drop n ss) vs ≡ Ok (opened Γ vs)
+pub statements_end : (σ : Setting) (Γ : List Variable) (ss : List Stmt) (n : ℕ) (vs : List TypedStmt) → n ≡ length ss → continued σ Γ (drop n ss) vs ≡ Ok (opened Γ vs)
 statements_end σ Γ ss n vs q = rw (drop_all ss n q) (ap (λ xs. Ok (opened Γ xs)) (append-nil vs))
 
 -- ---- what was in scope before stays there
@@ -147,7 +147,7 @@ grown_by Γ Δ (Some d) a g =
 grown_as : (Γ : List Variable) (o : Opened) (s : TypedStmt) (r : Opened) → Grown Γ o.scope → behind s o ≡ r → Grown Γ r.scope
 grown_as Γ o s r g q = (g.0, ap (λ (o : Opened). o.scope) (sym q) ∙ g.1)
 
-grown : (σ : List Heading) (Γ : List Variable) (ss : Stmts) (o : Opened) → typed_stmts σ Γ ss ≡ Ok o → Grown Γ o.scope
+grown : (σ : Setting) (Γ : List Variable) (ss : Stmts) (o : Opened) → typed_stmts σ Γ ss ≡ Ok o → Grown Γ o.scope
 grown σ Γ no_stmts o p = ([], ap (λ (o : Opened). o.scope) (sym (same_ok _ _ p)) ∙ sym (append-nil Γ))
 grown σ Γ (with_stmt s k e ss) o p =
     let w = bound (step_of k) _ o p in
@@ -155,7 +155,7 @@ grown σ Γ (with_stmt s k e ss) o p =
     let r = bound (typed_stmts σ (declared Γ w.0.declares a.0) ss) _ o a.2 in
     grown_as Γ r.0 (typed_stmt w.0 a.0) o (grown_by Γ r.0.scope w.0.declares a.0 (grown σ (declared Γ w.0.declares a.0) ss r.0 r.1)) (same_ok _ _ r.2)
 
-pub scope_stays : (σ : List Heading) (Γ : List Variable) (ss : List Stmt) (Δ : List Variable) (vs : List TypedStmt) → typed_stmts σ Γ (stmts_of ss) ≡ Ok (opened Δ vs) → take (length Γ) Δ ≡ Γ
+pub scope_stays : (σ : Setting) (Γ : List Variable) (ss : List Stmt) (Δ : List Variable) (vs : List TypedStmt) → typed_stmts σ Γ (stmts_of ss) ≡ Ok (opened Δ vs) → take (length Γ) Δ ≡ Γ
 scope_stays σ Γ ss Δ vs p =
     let g = grown σ Γ (stmts_of ss) (opened Δ vs) p in
     ap (take (length Γ)) g.1 ∙ take-append_seam Γ g.0

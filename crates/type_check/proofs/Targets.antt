@@ -11,18 +11,18 @@ use Rattle.source_trees.specs.declared.path.Segment.{Segment}
 use Rattle.source_trees.specs.Expr as E
 use Rattle.source_trees.specs.Expr.{Expr}
 use Rattle.source_trees.specs.ExprView.{span_of}
-use Rattle.type_check.specs.declared.heading.Heading.{Heading}
 use Rattle.type_check.specs.declared.operands.Operands.{Operands}
 use Rattle.type_check.specs.declared.scope.Found.{Found}
 use Rattle.type_check.specs.declared.scope.Variable.{Variable}
 use Rattle.type_check.specs.Answers.{mismatch, gather}
 use Rattle.type_check.specs.Scope.{found}
+use Rattle.type_check.specs.Setting.{Setting}
 use Rattle.type_check.specs.TypedExpr.{TypedExpr, TypedStmts, TypedExprs}
 use Rattle.type_check.specs.TypedExpr as tree
 use Rattle.type_check.specs.TypedExprView.{ty_of, stmts_of}
-use Rattle.type_check.specs.Types.{is_signed_ty}
+use Rattle.type_check.specs.Types.{same_ty, is_signed_ty}
 use Rattle.type_check.specs.Typing.{fit, literal_kind, literal_of, literal, variable_of, variable, named, negated, is_bare, order_of, operands, operation, operated, is_mutable, may_write, assigned, is_updated, updated}
-use Rattle.type_check.specs.Typing.{callee_of, called, asked, block_ty, without_last, closed, given, choice_ty, cause_of, invariant_of, typed, typed_stmts, typed_args}
+use Rattle.type_check.specs.Typing.{callee_of, called, asked, block_ty, without_last, closed, given, choice_ty, cause_of, nothing, returned, endless, invariant_of, typed, typed_stmts, typed_args}
 use Rattle.type_check.specs.WellTyped.{unit, is_arithmetic, operation_ty}
 use Rattle.type_check.specs.Written.{as_name, name_alone}
 use Rattle.type_check.proofs.Bound.{bound, held, same_ok}
@@ -61,7 +61,7 @@ operation_named Γ None t s o r op p e h = absurd (cc)
 operation_named Γ (Some u) t s o r op p e h = fit_named Γ None t s (tree.binary u o op p.left p.right) e tt h
 
 -- what an expression gives is a variable only where it is a name alone
-pub typed_named : (σ : List Heading) (Γ : List Variable) (e : Expr) (t : Option Ty) (r : TypedExpr) → typed σ Γ e t ≡ Ok r → IsNamed Γ (as_name e) r
+pub typed_named : (σ : Setting) (Γ : List Variable) (e : Expr) (t : Option Ty) (r : TypedExpr) → typed σ Γ e t ≡ Ok r → IsNamed Γ (as_name e) r
 unfolding as_name literal negated operated assigned updated called closed
 typed_named σ Γ (E.integer s z k) t r p = literal_at Γ t s z (literal_kind k t) r p
 typed_named σ Γ (E.truth s b) t r p = fit_named Γ None t s (tree.truth bool s b) r tt p
@@ -89,7 +89,7 @@ typed_named σ Γ (E.update s op o l e) t r p =
     fit_named Γ None t s (tree.update unit o op a.0 b.0) r tt
     (written_fits Γ t s (span_of l) a.0 (tree.update unit o op a.0 b.0) r (held (is_updated op (ty_of a.0)) _ (mismatch (span_of l)) r b.2).1)
 typed_named σ Γ (E.call s f es) t r p =
-    let g = bound (callee_of σ Γ s (as_name f)) _ r p in
+    let g = bound (callee_of σ.headings Γ s (as_name f)) _ r p in
     let as' = bound (typed_args σ Γ es g.0.signature.params) _ r g.2 in
     fit_named Γ None t s (tree.call g.0.signature.answer s g.0.place as'.0) r tt (held _ _ (mismatch s) r as'.2).1
 typed_named σ Γ (E.block s ss) t r p =
@@ -118,4 +118,15 @@ typed_named σ Γ (E.attributed s is (E.repeat v None c b)) t r p =
     let y = bound (typed σ Γ b (Some unit)) _ r x.2 in
     fit_named Γ None t s (tree.repeat unit s is'.0 x.0 y.0) r tt y.2
 typed_named σ Γ (E.panic s m text) t r p = subst (IsNamed Γ None) (same_ok (tree.panics (asked t) s (cause_of m)) r p) tt
+typed_named σ Γ (E.bare_return s) t r p = subst (IsNamed Γ None) (same_ok (returned t s (nothing s)) r (held (same_ty unit σ.answer) _ (mismatch s) r p).1) tt
+typed_named σ Γ (E.return_with s e) t r p =
+    let a = bound (typed σ Γ e (Some σ.answer)) _ r p in
+    subst (IsNamed Γ None) (same_ok (returned t s a.0) r a.2) tt
+typed_named σ Γ (E.endless s b) t r p =
+    let x = bound (typed σ Γ b (Some unit)) _ r p in
+    subst (IsNamed Γ None) (same_ok (endless t s [] x.0) r x.2) tt
+typed_named σ Γ (E.attributed s is (E.endless v b)) t r p =
+    let is' = bound (gather (invariant_of Γ) is) _ r p in
+    let x = bound (typed σ Γ b (Some unit)) _ r is'.2 in
+    subst (IsNamed Γ None) (same_ok (endless t s is'.0 x.0) r x.2) tt
 typed_named σ Γ e t r p = absurd (cc)

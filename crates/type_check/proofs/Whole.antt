@@ -30,6 +30,7 @@ use Rattle.type_check.specs.declared.scope.Variable.{Variable}
 use Rattle.type_check.specs.Answers.{◌>>=◌, Answers, absent, each, with_some, gather}
 use Rattle.type_check.specs.Checked.{type_of, signature_by, heading_of, skipped, declares_by, declares, heard, clause_by, clause_of, typed_body, typed_function, typed_by, typed_item, types_at, unless, program_of, typed_items, checked, AllGood}
 use Rattle.type_check.specs.FirstBad.{first_bad}
+use Rattle.type_check.specs.Setting.{Setting}
 use Rattle.type_check.specs.Terms.{assertion}
 use Rattle.type_check.specs.TypedExpr.{TypedExpr}
 use Rattle.type_check.specs.WellTyped.{IsBuilt, AllBuilt, ClauseSpeaksOf, ClausesSpeak, FunctionFits, EachFits, ProgramFits, signatures}
@@ -101,7 +102,7 @@ clauses_speak u Γ (a ∷ as') cs p =
 
 -- ---- functions
 
-body_sound : (σ : List Heading) (Γ : List Variable) (t : Option Ty) (own : Span) (b : Body) (e : TypedExpr) → Around σ Γ → MayAsk t → typed_body σ Γ t own b ≡ Ok e → Sound σ Γ t e
+body_sound : (σ : Setting) (Γ : List Variable) (t : Option Ty) (own : Span) (b : Body) (e : TypedExpr) → Around σ Γ → MayAsk t → typed_body σ Γ t own b ≡ Ok e → Sound σ Γ t e
 body_sound σ Γ t own (body.Block a) e h k p = typed_sound σ Γ a t e h k p
 body_sound σ Γ t own b e h k p = absurd (cc)
 
@@ -128,10 +129,11 @@ function_fits σ own as' f g hs p =
     let Γ = bound (each param_of f.params) _ g p in
     let t = bound (answer_ty f.answer) _ g Γ.2 in
     let cs = bound (gather (clause_of (Some t.0) Γ.0) as') _ g t.2 in
-    let e = bound (typed_body σ Γ.0 (Some t.0) own f.body) _ g cs.2 in
+    let here : Setting = record { headings = σ; answer = t.0 } in
+    let e = bound (typed_body here Γ.0 (Some t.0) own f.body) _ g cs.2 in
     let params = all_built f.params Γ.0 Γ.1 in
     let answer = answer_built f.answer t.0 t.1 in
-    let s = body_sound σ Γ.0 (Some t.0) own f.body e.0 (record { functions = λ j g q. heads_at σ j g hs q; variables = params }) answer e.1 in
+    let s = body_sound here Γ.0 (Some t.0) own f.body e.0 (record { functions = λ j g q. heads_at σ j g hs q; variables = params; answer = answer }) answer e.1 in
     let h : TypedFunction = record { name = f.name.name; span = f.name.span; signature = signature_by Γ.0 t.0; types_at = types_at f; clauses = cs.0; body = e.0 } in
     let q : h ≡ g = same_ok _ _ e.2 in
     let fits : FunctionFits (signatures_at σ) h = record {

@@ -17,6 +17,7 @@ use Rattle.type_check.specs.declared.statements.Step.{Step}
 use Rattle.type_check.specs.Answers.{unknown_name, mismatch, unbuilt, not_mutable}
 use Rattle.type_check.specs.Functions.{callee}
 use Rattle.type_check.specs.Scope.{found}
+use Rattle.type_check.specs.Setting.{Setting}
 use Rattle.type_check.specs.TypedExpr.{TypedExpr}
 use Rattle.type_check.specs.Typing.{Opened, declared, is_mutable, typed, typed_stmts}
 use Rattle.type_check.specs.Written.{as_name, name_alone, step_of}
@@ -51,7 +52,7 @@ IsNotCalled σ Γ s (Some x) e = (e ≡ unknown_name x.span) × (callee σ Γ x.
 
 -- the refusal has its cause at the expression or at a part of it, in the scope of that part
 abbrev mutual
-  pub Causes : List Heading → List Variable → Expr → SourceError → Type 0
+  pub Causes : Setting → List Variable → Expr → SourceError → Type 0
   Causes σ Γ (E.integer s z k) e = IsMismatch e
   Causes σ Γ (E.truth s b) e = IsMismatch e
   Causes σ Γ (E.path s p) e = IsMismatch e ⊎ IsNotRead Γ s (name_alone p.node) e
@@ -61,7 +62,7 @@ abbrev mutual
   Causes σ Γ (E.lazy s op a b) e = IsMismatch e ⊎ (Causes σ Γ a e ⊎ Causes σ Γ b e)
   Causes σ Γ (E.assign s l a) e = (IsMismatch e ⊎ IsNotWritten Γ l e) ⊎ (Causes σ Γ l e ⊎ Causes σ Γ a e)
   Causes σ Γ (E.update s op o l a) e = (IsMismatch e ⊎ IsNotWritten Γ l e) ⊎ (Causes σ Γ l e ⊎ Causes σ Γ a e)
-  Causes σ Γ (E.call s f es) e = (IsMismatch e ⊎ IsNotCalled σ Γ s (as_name f) e) ⊎ CausesInArgs σ Γ es e
+  Causes σ Γ (E.call s f es) e = (IsMismatch e ⊎ IsNotCalled σ.headings Γ s (as_name f) e) ⊎ CausesInArgs σ Γ es e
   Causes σ Γ (E.block s ss) e = IsMismatch e ⊎ CausesInStmts σ Γ ss e
   Causes σ Γ (E.block_with s ss a) e = IsMismatch e ⊎ (CausesInStmts σ Γ ss e ⊎ ((o : Opened) × (typed_stmts σ Γ ss ≡ Ok o) × Causes σ o.scope a e))
   Causes σ Γ (E.branch s None c a) e = IsMismatch e ⊎ (Causes σ Γ c e ⊎ Causes σ Γ a e)
@@ -71,18 +72,23 @@ abbrev mutual
   Causes σ Γ (E.attributed s is (E.repeat r None c b)) e = (IsMismatch e ⊎ IsUnbuilt e) ⊎ (Causes σ Γ c e ⊎ Causes σ Γ b e)
   -- what panics fits every type
   Causes σ Γ (E.panic s m text) e = ⊥
+  -- without a value, the answer's type is unit
+  Causes σ Γ (E.bare_return s) e = IsMismatch e
+  Causes σ Γ (E.return_with s a) e = Causes σ Γ a e
+  Causes σ Γ (E.endless s b) e = Causes σ Γ b e
+  Causes σ Γ (E.attributed s is (E.endless r b)) e = IsUnbuilt e ⊎ Causes σ Γ b e
   Causes σ Γ a e = e ≡ unbuilt (span_of a)
 
-  pub CausesInStmts : List Heading → List Variable → E.Stmts → SourceError → Type 0
+  pub CausesInStmts : Setting → List Variable → E.Stmts → SourceError → Type 0
   CausesInStmts σ Γ E.no_stmts e = ⊥
   -- the pattern or the type of a `let` is not built, or the value is refused, or what stands behind it
   CausesInStmts σ Γ (E.with_stmt s k a ss) e =
       IsUnbuilt e ⊎ (Causes σ Γ a e ⊎ ((p : Step) × (v : TypedExpr) × (step_of k ≡ Ok p) × (typed σ Γ a p.expected ≡ Ok v) × CausesInStmts σ (declared Γ p.declares v) ss e))
 
-  pub CausesInArgs : List Heading → List Variable → E.Exprs → SourceError → Type 0
+  pub CausesInArgs : Setting → List Variable → E.Exprs → SourceError → Type 0
   CausesInArgs σ Γ E.none e = ⊥
   CausesInArgs σ Γ (E.more a es) e = Causes σ Γ a e ⊎ CausesInArgs σ Γ es e
 
 -- a refusal of program code has a cause
 abbrev pub RefusalsHaveCauses : Type 0
-RefusalsHaveCauses = (σ : List Heading) (Γ : List Variable) (a : Expr) (t : Option Ty) (e : SourceError) → typed σ Γ a t ≡ Err e → Causes σ Γ a e
+RefusalsHaveCauses = (σ : Setting) (Γ : List Variable) (a : Expr) (t : Option Ty) (e : SourceError) → typed σ Γ a t ≡ Err e → Causes σ Γ a e

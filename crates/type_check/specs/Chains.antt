@@ -8,9 +8,9 @@ use Rattle.source_trees.specs.ExprView.{expr_size, span_of}
 use Rattle.type_check.specs.declared.chain.Frame.{Frame}
 use Rattle.type_check.specs.declared.chain.Operation.{Operation}
 use Rattle.type_check.specs.declared.chain.Operation.TheVariants as operation
-use Rattle.type_check.specs.declared.heading.Heading.{Heading}
 use Rattle.type_check.specs.declared.scope.Variable.{Variable}
 use Rattle.type_check.specs.Answers.{◌>>=◌}
+use Rattle.type_check.specs.Setting.{Setting}
 use Rattle.type_check.specs.TypedExpr.{TypedExpr}
 use Rattle.type_check.specs.TypedExpr as tree
 use Rattle.type_check.specs.TypedExprView.{ty_of}
@@ -59,14 +59,14 @@ ended Γ s (operation.Lazy op a b) t x y = fit t s (tree.lazy bool s op x y)
 ended Γ s (operation.Update op o a b) t x y = updated Γ t s o (span_of a.now) op x y
 
 -- what the operation comes to behind its left operand
-abbrev pub finished : List Heading → List Variable → Span → Operation → Option Ty → TypedExpr → Typed
+abbrev pub finished : Setting → List Variable → Span → Operation → Option Ty → TypedExpr → Typed
 finished σ Γ s o t x = typed σ Γ (right_of o) (Some (second_ty o t x)) >>= ended Γ s o t x
 
-abbrev pub behind : List Heading → List Variable → Frame → TypedExpr → Typed
+abbrev pub behind : Setting → List Variable → Frame → TypedExpr → Typed
 behind σ Γ f = finished σ Γ f.whole f.operation f.expected
 
 -- what the outermost of these operations comes to, from the left operand of the innermost
-abbrev pub climbed : List Heading → List Variable → List Frame → Typed → Typed
+abbrev pub climbed : Setting → List Variable → List Frame → Typed → Typed
 climbed σ Γ [] m = m
 climbed σ Γ (f ∷ fs) m = climbed σ Γ fs m >>= behind σ Γ f
 

@@ -31,6 +31,7 @@ use Rattle.type_check.specs.declared.program.TypedProgram.{TypedProgram}
 use Rattle.type_check.specs.declared.scope.Variable.{Variable}
 use Rattle.type_check.specs.Answers.{◌>>=◌, unbuilt, absent, each, gather}
 use Rattle.type_check.specs.FirstBad.{first_bad}
+use Rattle.type_check.specs.Setting.{Setting}
 use Rattle.type_check.specs.Terms.{assertion}
 use Rattle.type_check.specs.Typing.{Typed, typed}
 use Rattle.type_check.specs.Written.{answer_ty, param_of}
@@ -115,7 +116,7 @@ abbrev pub types_at : Function → List Span
 types_at f = answer_at f.name.span f.answer ∷ map param_at f.params
 
 -- a body is a block; own: where the function stands
-abbrev pub typed_body : List Heading → List Variable → Option Ty → Span → Body → Typed
+abbrev pub typed_body : Setting → List Variable → Option Ty → Span → Body → Typed
 typed_body σ Γ t own (body.Block e) = typed σ Γ e t
 typed_body σ Γ t own _ = Err (unbuilt own)
 
@@ -124,7 +125,7 @@ typed_function σ own as' f = do
   Γ ← each param_of f.params
   t ← answer_ty f.answer
   cs ← gather (clause_of (Some t) Γ) as'
-  e ← typed_body σ Γ (Some t) own f.body
+  e ← typed_body (record { headings = σ; answer = t }) Γ (Some t) own f.body
   Ok (record { name = f.name.name; span = f.name.span; signature = signature_by Γ t; types_at = types_at f; clauses = cs; body = e })
 
 abbrev pub typed_by : List Heading → Span → List Attribute → ItemNode → Result (Option TypedFunction) SourceError

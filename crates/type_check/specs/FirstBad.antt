@@ -6,7 +6,7 @@ use Rattle.type_check.specs.declared.assertion.Assertion.TheVariants.{Good, Bad}
 use Rattle.type_check.specs.declared.program.TypedClause.{TypedClause}
 use Rattle.type_check.specs.declared.program.TypedFunction.{TypedFunction}
 use Rattle.type_check.specs.Answers.{or_else}
-use Rattle.type_check.specs.TypedExpr.{TypedExpr, TypedStmts, TypedExprs, integer, truth, variable, negative, denied, binary, lazy, assign, update, call, block, branch, choice, repeat, panics, done, last, leaving, bind, run, none, more}
+use Rattle.type_check.specs.TypedExpr.{TypedExpr, TypedStmts, TypedExprs, integer, truth, variable, negative, denied, binary, lazy, assign, update, call, block, branch, choice, repeat, panics, returned, endless, done, last, leaving, bind, run, none, more}
 
 abbrev pub bad_of : Assertion → Option SourceError
 bad_of (Good s t) = None
@@ -33,6 +33,8 @@ abbrev mutual
   bad_in (choice t s c a b) = or_else (bad_in c) (or_else (bad_in a) (bad_in b))
   bad_in (repeat t s is c b) = or_else (bad_among is) (or_else (bad_in c) (bad_in b))
   bad_in (panics t s k) = None
+  bad_in (returned t s e) = bad_in e
+  bad_in (endless t s is b) = or_else (bad_among is) (bad_in b)
 
   pub bad_in_stmts : TypedStmts → Option SourceError
   bad_in_stmts done = None

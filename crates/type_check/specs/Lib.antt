@@ -10,6 +10,7 @@ pub mod Laws
 pub mod Leaves
 pub mod Rules
 pub mod Scope
+pub mod Setting
 pub mod TermChains
 pub mod Terms
 pub mod TypedExpr

@@ -8,16 +8,16 @@ use Rattle.source_trees.specs.declared.operator.UnaryOp.TheVariants.{Neg, Not}
 use Rattle.source_trees.specs.Expr as E
 use Rattle.source_trees.specs.Expr.{Expr}
 use Rattle.source_trees.specs.ExprView.{span_of}
-use Rattle.type_check.specs.declared.heading.Heading.{Heading}
 use Rattle.type_check.specs.declared.operands.Operands.{Operands}
 use Rattle.type_check.specs.declared.operands.Order.{Order}
 use Rattle.type_check.specs.declared.operands.Order.TheVariants as order
 use Rattle.type_check.specs.declared.scope.Variable.{Variable}
 use Rattle.type_check.specs.Answers.{unbuilt, gather}
+use Rattle.type_check.specs.Setting.{Setting}
 use Rattle.type_check.specs.TypedExpr.{TypedExpr, TypedExprs}
 use Rattle.type_check.specs.TypedExpr as tree
 use Rattle.type_check.specs.TypedExprView.{ty_of, stmts_of}
-use Rattle.type_check.specs.Typing.{Typed, fit, literal, named, negated, is_bare, order_of, operands_of, operated, assigned, updated, callee_of, first_of, rest_of, called, Opened, opened, declared, behind, typed_stmt, without_last, closed, given, chosen, panicked, invariant_of, typed}
+use Rattle.type_check.specs.Typing.{Typed, fit, literal, named, negated, is_bare, order_of, operands_of, operated, assigned, updated, callee_of, first_of, rest_of, called, Opened, opened, declared, behind, typed_stmt, without_last, closed, given, chosen, panicked, returned, bare_return, endless, invariant_of, typed}
 use Rattle.type_check.specs.WellTyped.{unit, is_arithmetic}
 use Rattle.type_check.specs.Written.{as_name, name_alone, step_of}
 
@@ -53,7 +53,7 @@ each_stmt Γ (E.with_stmt s kind e ss) k = first (step_of kind) λ p. part Γ e 
 
 -- ---- the rules
 
-abbrev pub rule : List Heading → List Variable → Expr → Option Ty → Asks
+abbrev pub rule : Setting → List Variable → Expr → Option Ty → Asks
 rule σ Γ (E.integer s z k) t = comes (literal t s z k)
 rule σ Γ (E.truth s b) t = comes (fit t s (tree.truth bool s b))
 rule σ Γ (E.path s p) t = comes (named Γ t s (name_alone p.node))
@@ -63,7 +63,7 @@ rule σ Γ (E.binary s op o a b) t = operands_in (order_of (is_arithmetic op) t 
 rule σ Γ (E.lazy s op a b) t = part Γ a (Some bool) λ x. part Γ b (Some bool) λ y. comes (fit t s (tree.lazy bool s op x y))
 rule σ Γ (E.assign s l e) t = part Γ l None λ a. part Γ e (Some (ty_of a)) λ b. comes (assigned Γ t s (span_of l) a b)
 rule σ Γ (E.update s op o l e) t = part Γ l None λ a. part Γ e (Some (ty_of a)) λ b. comes (updated Γ t s o (span_of l) op a b)
-rule σ Γ (E.call s f es) t = first (callee_of σ Γ s (as_name f)) λ g. each_arg Γ es g.signature.params λ as'. comes (called t s g as')
+rule σ Γ (E.call s f es) t = first (callee_of σ.headings Γ s (as_name f)) λ g. each_arg Γ es g.signature.params λ as'. comes (called t s g as')
 rule σ Γ (E.block s ss) t = each_stmt Γ ss λ o. comes (closed t s (without_last o.stmts))
 rule σ Γ (E.block_with s ss e) t = each_stmt Γ ss λ o. part o.scope e t λ a. comes (closed t s (stmts_of o.stmts (tree.last a)))
 rule σ Γ (E.branch s None c a) t = part Γ c (Some bool) λ x. part Γ a (Some unit) λ y. comes (fit t s (tree.branch unit s x y))
@@ -72,35 +72,39 @@ rule σ Γ (E.repeat s None c b) t = part Γ c (Some bool) λ x. part Γ b (Some
 -- a loop with its invariants, from the first attribute on
 rule σ Γ (E.attributed s is (E.repeat r None c b)) t = first (gather (invariant_of Γ) is) λ is'. part Γ c (Some bool) λ x. part Γ b (Some unit) λ y. comes (fit t s (tree.repeat unit s is' x y))
 rule σ Γ (E.panic s m text) t = comes (panicked t s m)
+rule σ Γ (E.bare_return s) t = comes (bare_return σ.answer t s)
+rule σ Γ (E.return_with s e) t = part Γ e (Some σ.answer) λ a. comes (Ok (returned t s a))
+rule σ Γ (E.endless s b) t = part Γ b (Some unit) λ x. comes (Ok (endless t s [] x))
+rule σ Γ (E.attributed s is (E.endless r b)) t = first (gather (invariant_of Γ) is) λ is'. part Γ b (Some unit) λ x. comes (Ok (endless t s is' x))
 rule σ Γ e t = comes (Err (unbuilt (span_of e)))
 
 -- ---- typing
 
 mutual
   -- an expression comes to a typed tree or a refusal, by the rule of its form
-  pub data Types (σ : List Heading) : List Variable → Expr → Option Ty → Typed → Type 0 where
+  pub data Types (σ : Setting) : List Variable → Expr → Option Ty → Typed → Type 0 where
     by_rule : {Γ : List Variable} {e : Expr} {t : Option Ty} {r : Typed} → Comes σ (rule σ Γ e t) r → Types σ Γ e t r
 
   -- the first part that is refused refuses the whole; else the form itself answers
-  pub data Comes (σ : List Heading) : Asks → Typed → Type 0 where
+  pub data Comes (σ : Setting) : Asks → Typed → Type 0 where
     itself : {r : Typed} → Comes σ (comes r) r
     refused : {Γ : List Variable} {e : Expr} {t : Option Ty} {k : TypedExpr → Asks} {x : SourceError} → Types σ Γ e t (Err x) → Comes σ (part Γ e t k) (Err x)
     then : {Γ : List Variable} {e : Expr} {t : Option Ty} {k : TypedExpr → Asks} {v : TypedExpr} {r : Typed} → Types σ Γ e t (Ok v) → Comes σ (k v) r → Comes σ (part Γ e t k) r
 
 -- the expression gives a type
-abbrev pub Gives : List Heading → List Variable → Expr → TypedExpr → Type 0
+abbrev pub Gives : Setting → List Variable → Expr → TypedExpr → Type 0
 Gives σ Γ e v = Types σ Γ e None (Ok v)
 
 -- it fits the expected one
-abbrev pub Fits : List Heading → List Variable → Expr → Ty → TypedExpr → Type 0
+abbrev pub Fits : Setting → List Variable → Expr → Ty → TypedExpr → Type 0
 Fits σ Γ e t v = Types σ Γ e (Some t) (Ok v)
 
 -- ---- laws
 
 -- what an expression comes to by `typed`, with which the contract of `check` speaks, it comes to by the rules
 abbrev pub TypedByRules : Type 0
-TypedByRules = (σ : List Heading) (Γ : List Variable) (e : Expr) (t : Option Ty) → Types σ Γ e t (typed σ Γ e t)
+TypedByRules = (σ : Setting) (Γ : List Variable) (e : Expr) (t : Option Ty) → Types σ Γ e t (typed σ Γ e t)
 
 -- each expression has one outcome
 abbrev pub TypingIsOne : Type 0
-TypingIsOne = (σ : List Heading) (Γ : List Variable) (e : Expr) (t : Option Ty) (r other : Typed) → Types σ Γ e t r → Types σ Γ e t other → r ≡ other
+TypingIsOne = (σ : Setting) (Γ : List Variable) (e : Expr) (t : Option Ty) (r other : Typed) → Types σ Γ e t r → Types σ Γ e t other → r ≡ other

@@ -30,6 +30,10 @@ mutual
     repeat : Ty → Span → List Assertion → TypedExpr → TypedExpr → TypedExpr
     -- what always panics
     panics : Ty → Span → Cause → TypedExpr
+    -- `return` with the answer
+    returned : Ty → Span → TypedExpr → TypedExpr
+    -- `loop` with its invariants
+    endless : Ty → Span → List Assertion → TypedExpr → TypedExpr
 
   pub data TypedStmts : Type 0 where
     done : TypedStmts

@@ -10,7 +10,7 @@ use Rattle.logic_term.specs.TyCode.{coded_ty}
 use Rattle.source_kinds.specs.contracts.kinds.LazyOp as lazy_op
 use Rattle.type_check.specs.contracts.assertion.Assertion as assertion
 use base.Stored.{Gv, gnil, gnum, gcons, num}
-use Rattle.type_check.specs.TypedExpr.{TypedExpr, integer, truth, variable, negative, denied, binary, lazy, assign, update, call, block, branch, choice, repeat, panics, TypedStmts, done, last, leaving, bind, run, TypedExprs, none, more}
+use Rattle.type_check.specs.TypedExpr.{TypedExpr, integer, truth, variable, negative, denied, binary, lazy, assign, update, call, block, branch, choice, repeat, panics, returned, endless, TypedStmts, done, last, leaving, bind, run, TypedExprs, none, more}
 
 abbrev pub head : Gv → Gv
 head gnil = gnil
@@ -42,6 +42,8 @@ abbrev mutual
   typed_code (choice a0 a1 a2 a3 a4) = gcons (gnum 12) (gcons (coded_ty.code a0) (gcons (span.the_row.coded.code a1) (gcons (typed_code a2) (gcons (typed_code a3) (typed_code a4)))))
   typed_code (repeat a0 a1 a2 a3 a4) = gcons (gnum 13) (gcons (coded_ty.code a0) (gcons (span.the_row.coded.code a1) (gcons ((coded_list assertion.the_row.coded).code a2) (gcons (typed_code a3) (typed_code a4)))))
   typed_code (panics a0 a1 a2) = gcons (gnum 14) (gcons (coded_ty.code a0) (gcons (span.the_row.coded.code a1) (cause.the_row.coded.code a2)))
+  typed_code (returned a0 a1 a2) = gcons (gnum 15) (gcons (coded_ty.code a0) (gcons (span.the_row.coded.code a1) (typed_code a2)))
+  typed_code (endless a0 a1 a2 a3) = gcons (gnum 16) (gcons (coded_ty.code a0) (gcons (span.the_row.coded.code a1) (gcons ((coded_list assertion.the_row.coded).code a2) (typed_code a3))))
 
   pub stmts_code : TypedStmts → Gv
   stmts_code done = gcons (gnum 0) gnil
@@ -85,6 +87,10 @@ mutual
       λ i. repeat (coded_ty.inj a0 b0 (ap (λ g. head (tail g)) p) i) (span.the_row.coded.inj a1 b1 (ap (λ g. head (tail (tail g))) p) i) ((coded_list assertion.the_row.coded).inj a2 b2 (ap (λ g. head (tail (tail (tail g)))) p) i)
       (typed_injective a3 b3 (ap (λ g. head (tail (tail (tail (tail g))))) p) i) (typed_injective a4 b4 (ap (λ g. tail (tail (tail (tail (tail g))))) p) i)
   typed_injective (panics a0 a1 a2) (panics b0 b1 b2) p = λ i. panics (coded_ty.inj a0 b0 (ap (λ g. head (tail g)) p) i) (span.the_row.coded.inj a1 b1 (ap (λ g. head (tail (tail g))) p) i) (cause.the_row.coded.inj a2 b2 (ap (λ g. tail (tail (tail g))) p) i)
+  typed_injective (returned a0 a1 a2) (returned b0 b1 b2) p = λ i. returned (coded_ty.inj a0 b0 (ap (λ g. head (tail g)) p) i) (span.the_row.coded.inj a1 b1 (ap (λ g. head (tail (tail g))) p) i) (typed_injective a2 b2 (ap (λ g. tail (tail (tail g))) p) i)
+  typed_injective (endless a0 a1 a2 a3) (endless b0 b1 b2 b3) p =
+      λ i. endless (coded_ty.inj a0 b0 (ap (λ g. head (tail g)) p) i) (span.the_row.coded.inj a1 b1 (ap (λ g. head (tail (tail g))) p) i) ((coded_list assertion.the_row.coded).inj a2 b2 (ap (λ g. head (tail (tail (tail g)))) p) i)
+      (typed_injective a3 b3 (ap (λ g. tail (tail (tail (tail g)))) p) i)
   typed_injective x y p = absurd (omega (arith, ap tag p))
 
   pub stmts_injective : (x y : TypedStmts) → stmts_code x ≡ stmts_code y → x ≡ y

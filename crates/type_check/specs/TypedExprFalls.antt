@@ -49,3 +49,5 @@ falls t s (node.If a0 a1) = omega arith
 falls t s (node.IfElse a0 a1 a2) = omega arith
 falls t s (node.While a0 a1 a2) = omega arith
 falls t s (node.Panic a0) = omega arith
+falls t s (node.Return a0) = omega arith
+falls t s (node.Loop a0 a1) = omega arith

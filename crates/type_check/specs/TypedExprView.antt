@@ -2,7 +2,7 @@
 use Rattle.std.specs.Prelude.{ℕ, suc, max, Bool, true, false, List, [], ◌∷◌}
 use Rattle.text_core.specs.declared.span.Span.{Span}
 use Rattle.logic_term.specs.Ty.{Ty}
-use Rattle.type_check.specs.TypedExpr.{TypedExpr, integer, truth, variable, negative, denied, binary, lazy, assign, update, call, block, branch, choice, repeat, panics, TypedStmts, done, last, leaving, bind, run, TypedExprs, none, more}
+use Rattle.type_check.specs.TypedExpr.{TypedExpr, integer, truth, variable, negative, denied, binary, lazy, assign, update, call, block, branch, choice, repeat, panics, returned, endless, TypedStmts, done, last, leaving, bind, run, TypedExprs, none, more}
 use Rattle.type_check.specs.declared.typed.TypedStmt.{TypedStmt}
 use Rattle.type_check.specs.declared.typed.TypedNode.{TypedNode}
 use Rattle.type_check.specs.declared.typed.TypedNode.TheVariants as node
@@ -38,6 +38,8 @@ typed_of t s (node.If a0 a1) = branch t s a0 a1
 typed_of t s (node.IfElse a0 a1 a2) = choice t s a0 a1 a2
 typed_of t s (node.While a0 a1 a2) = repeat t s a0.items a1 a2
 typed_of t s (node.Panic a0) = panics t s a0
+typed_of t s (node.Return a0) = returned t s a0
+typed_of t s (node.Loop a0 a1) = endless t s a0.items a1
 
 abbrev mutual
   pub typed_size : TypedExpr → ℕ
@@ -56,6 +58,8 @@ abbrev mutual
   typed_size (choice a0 a1 a2 a3 a4) = suc (max (typed_size a2) (max (typed_size a3) (typed_size a4)))
   typed_size (repeat a0 a1 a2 a3 a4) = suc (max (typed_size a3) (typed_size a4))
   typed_size (panics a0 a1 a2) = 1
+  typed_size (returned a0 a1 a2) = suc (typed_size a2)
+  typed_size (endless a0 a1 a2 a3) = suc (typed_size a3)
 
   pub stmts_size : TypedStmts → ℕ
   stmts_size done = 1
@@ -84,6 +88,8 @@ ty_of (branch t s a0 a1) = t
 ty_of (choice t s a0 a1 a2) = t
 ty_of (repeat t s a0 a1 a2) = t
 ty_of (panics t s a0) = t
+ty_of (returned t s a0) = t
+ty_of (endless t s a0 a1) = t
 
 abbrev pub span_of : TypedExpr → Span
 span_of (integer t s a0 a1) = s
@@ -101,3 +107,5 @@ span_of (branch t s a0 a1) = s
 span_of (choice t s a0 a1 a2) = s
 span_of (repeat t s a0 a1 a2) = s
 span_of (panics t s a0) = s
+span_of (returned t s a0) = s
+span_of (endless t s a0 a1) = s

@@ -1,6 +1,6 @@
 -- Which variable each name means and which type each expression has, in the form of bidirectional typing (Pierce and Turner
 -- 2000): without an expected type an expression gives one, with one it fits it (Rust Reference, "Operator expressions",
--- "Call expressions", "Block expressions", "if expressions", "Predicate loops", "Diverging expressions"). What has no row is not built.
+-- "Call expressions", "Block expressions", "if expressions", "Predicate loops", "Infinite loops", "return expressions", "Diverging expressions"). What has no row is not built.
 use Rattle.std.specs.Prelude.{ℕ, suc, ℤ, ◌==◌, ◌++◌, Bool, true, false, List, [], ◌∷◌, length, Option, Some, None, Result, Ok, Err, slice_get, if◌then◌else◌}
 use Rattle.text_core.specs.declared.name.Name.{Name}
 use Rattle.text_core.specs.declared.refusal.Cause.{Cause}
@@ -39,6 +39,7 @@ use Rattle.type_check.specs.Answers.{◌>>=◌, unknown_name, mismatch, unbuilt,
 use Rattle.type_check.specs.Functions.{callee}
 use Rattle.type_check.specs.Leaves.{leaves}
 use Rattle.type_check.specs.Scope.{found}
+use Rattle.type_check.specs.Setting.{Setting}
 use Rattle.type_check.specs.Terms.{assertion}
 use Rattle.type_check.specs.TypedExpr.{TypedExpr, TypedStmts, TypedExprs}
 use Rattle.type_check.specs.TypedExpr as tree
@@ -263,7 +264,25 @@ cause_of Unreachable = cause.Unreachable
 abbrev pub panicked : Option Ty → Span → PanicMacro → Typed
 panicked t s m = Ok (tree.panics (asked t) s (cause_of m))
 
+-- ---- `return`
+
+-- a block without statements
+abbrev pub nothing : Span → TypedExpr
+nothing s = tree.block unit s tree.done
+
+-- `return` with this answer, which fits every type
+abbrev pub returned : Option Ty → Span → TypedExpr → TypedExpr
+returned t s e = tree.returned (asked t) s e
+
+-- without one, where the answer's type is the first
+abbrev pub bare_return : Ty → Option Ty → Span → Typed
+bare_return A t s = wanted (same_ty unit A) s (returned t s (nothing s))
+
 -- ---- loops
+
+-- `loop`, which fits every type
+abbrev pub endless : Option Ty → Span → List Assertion → TypedExpr → TypedExpr
+endless t s is b = tree.endless (asked t) s is b
 
 -- before a loop invariants are built, and no other clause
 abbrev pub invariant_by : List Variable → Span → AttributeNode → Result (Option Assertion) SourceError
@@ -277,7 +296,7 @@ invariant_of Γ a = invariant_by Γ a.span a.node
 -- ---- expressions
 
 abbrev mutual
-  pub typed : List Heading → List Variable → Expr → Option Ty → Typed
+  pub typed : Setting → List Variable → Expr → Option Ty → Typed
   typed σ Γ (E.integer s z k) t = literal t s z k
   typed σ Γ (E.truth s b) t = fit t s (tree.truth bool s b)
   typed σ Γ (E.path s p) t = named Γ t s (name_alone p.node)
@@ -303,7 +322,7 @@ abbrev mutual
     b ← typed σ Γ e (Some (ty_of a))
     updated Γ t s o (span_of l) op a b
   typed σ Γ (E.call s f es) t = do
-    g ← callee_of σ Γ s (as_name f)
+    g ← callee_of σ.headings Γ s (as_name f)
     as' ← typed_args σ Γ es g.signature.params
     called t s g as'
   typed σ Γ (E.block s ss) t = do
@@ -333,9 +352,20 @@ abbrev mutual
     y ← typed σ Γ b (Some unit)
     fit t s (tree.repeat unit s is' x y)
   typed σ Γ (E.panic s m text) t = panicked t s m
+  typed σ Γ (E.bare_return s) t = bare_return σ.answer t s
+  typed σ Γ (E.return_with s e) t = do
+    a ← typed σ Γ e (Some σ.answer)
+    Ok (returned t s a)
+  typed σ Γ (E.endless s b) t = do
+    x ← typed σ Γ b (Some unit)
+    Ok (endless t s [] x)
+  typed σ Γ (E.attributed s is (E.endless r b)) t = do
+    is' ← gather (invariant_of Γ) is
+    x ← typed σ Γ b (Some unit)
+    Ok (endless t s is' x)
   typed σ Γ e t = Err (unbuilt (span_of e))
 
-  pub typed_stmts : List Heading → List Variable → E.Stmts → Result Opened SourceError
+  pub typed_stmts : Setting → List Variable → E.Stmts → Result Opened SourceError
   typed_stmts σ Γ E.no_stmts = Ok (opened Γ [])
   typed_stmts σ Γ (E.with_stmt s k e ss) = do
     p ← step_of k
@@ -344,7 +374,7 @@ abbrev mutual
     Ok (behind (typed_stmt p a) o)
 
   -- arguments for parameters of these types; those past the parameters have any type
-  pub typed_args : List Heading → List Variable → E.Exprs → List Ty → Result TypedExprs SourceError
+  pub typed_args : Setting → List Variable → E.Exprs → List Ty → Result TypedExprs SourceError
   typed_args σ Γ E.none ts = Ok tree.none
   typed_args σ Γ (E.more e es) ts = do
     a ← typed σ Γ e (first_of ts)
@@ -352,7 +382,7 @@ abbrev mutual
     Ok (tree.more a as')
 
 -- a statement, and the scope behind it
-abbrev pub typed_statement : List Heading → List Variable → Stmt → Result (List Variable × TypedStmt) SourceError
+abbrev pub typed_statement : Setting → List Variable → Stmt → Result (List Variable × TypedStmt) SourceError
 typed_statement σ Γ s = do
   p ← step_of s.kind
   a ← typed σ Γ s.value p.expected

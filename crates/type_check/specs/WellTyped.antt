@@ -1,5 +1,5 @@
 -- Typed expressions whose parts fit (Rust Reference, "Operator expressions", "Call expressions", "Block expressions", "if expressions",
--- "Predicate loops"). The variables in scope are a list of their types, the outermost first.
+-- "Predicate loops", "Infinite loops", "return expressions"). The variables in scope are a list of their types, the outermost first.
 use Rattle.std.specs.Prelude.{◌≡◌, ◌⊎◌, ℕ, ◌<◌, Bool, true, false, List, [], ◌∷◌, ◌++◌, length, map, Option, Some, None, slice_get, if◌then◌else◌}
 use Rattle.text_core.specs.declared.name.Name.{Name}
 use Rattle.source_kinds.specs.declared.kinds.BinaryOp.{BinaryOp}
@@ -17,7 +17,7 @@ use Rattle.type_check.specs.declared.program.Signature.{Signature}
 use Rattle.type_check.specs.declared.program.TypedClause.{TypedClause}
 use Rattle.type_check.specs.declared.program.TypedFunction.{TypedFunction}
 use Rattle.type_check.specs.declared.program.TypedProgram.{TypedProgram}
-use Rattle.type_check.specs.TypedExpr.{TypedExpr, TypedStmts, TypedExprs, integer, truth, variable, negative, denied, binary, lazy, assign, update, call, block, branch, choice, repeat, panics, done, last, leaving, bind, run, none, more}
+use Rattle.type_check.specs.TypedExpr.{TypedExpr, TypedStmts, TypedExprs, integer, truth, variable, negative, denied, binary, lazy, assign, update, call, block, branch, choice, repeat, panics, returned, endless, done, last, leaving, bind, run, none, more}
 use Rattle.type_check.specs.Leaves.{leaves}
 use Rattle.type_check.specs.TypedExprView.{ty_of}
 use Rattle.type_check.specs.VariableNames.{variable_name, answer_name}
@@ -87,6 +87,11 @@ EachSpeaks n (a ∷ as') = SpeaksOf n a × EachSpeaks n as'
 
 -- ---- expressions
 
+-- what stands around the body of a function: the signatures of the functions that it may call, and the type of its answer
+pub record Surroundings : Type 0 where
+  pub signatures : List Signature
+  pub answer : Ty
+
 abbrev pub IsOf : Ty → TypedExpr → Type 0
 IsOf t e = ty_of e ≡ t
 
@@ -95,7 +100,7 @@ abbrev pub IsOfOrLeaves : Ty → TypedExpr → Type 0
 IsOfOrLeaves t e = IsOf t e ⊎ ((leaves e ≡ true) × IsBuilt t)
 
 abbrev mutual
-  pub IsWellTyped : List Signature → List Ty → TypedExpr → Type 0
+  pub IsWellTyped : Surroundings → List Ty → TypedExpr → Type 0
   IsWellTyped σ Γ (integer t s z k) = (t ≡ int k) × (fits k z ≡ true)
   IsWellTyped σ Γ (truth t s b) = t ≡ bool
   IsWellTyped σ Γ (variable t s x) = slice_get Γ x ≡ Some t
@@ -105,16 +110,19 @@ abbrev mutual
   IsWellTyped σ Γ (lazy t s op a b) = (t ≡ bool) × IsOf bool a × IsOf bool b × IsWellTyped σ Γ a × IsWellTyped σ Γ b
   IsWellTyped σ Γ (assign t s a e) = (t ≡ unit) × IsOf (ty_of a) e × IsWellTyped σ Γ a × IsWellTyped σ Γ e
   IsWellTyped σ Γ (update t s op a e) = (t ≡ unit) × IsOf (ty_of a) e × (operation_ty op (ty_of e) ≡ Some (ty_of e)) × IsWellTyped σ Γ a × IsWellTyped σ Γ e
-  IsWellTyped σ Γ (call t s f es) = (g : Signature) × (slice_get σ f ≡ Some g) × (t ≡ g.answer) × ArgumentsFit σ Γ es g.params
+  IsWellTyped σ Γ (call t s f es) = (g : Signature) × (slice_get σ.signatures f ≡ Some g) × (t ≡ g.answer) × ArgumentsFit σ Γ es g.params
   IsWellTyped σ Γ (block t s ss) = StatementsFit σ Γ t ss
   IsWellTyped σ Γ (branch t s c a) = (t ≡ unit) × IsOf bool c × IsOf unit a × IsWellTyped σ Γ c × IsWellTyped σ Γ a
   -- a side that leaves fits any type
   IsWellTyped σ Γ (choice t s c a b) = IsOf bool c × IsOfOrLeaves t a × IsOfOrLeaves t b × IsWellTyped σ Γ c × IsWellTyped σ Γ a × IsWellTyped σ Γ b
   IsWellTyped σ Γ (repeat t s is c b) = (t ≡ unit) × EachSpeaks (length Γ) is × IsOf bool c × IsOf unit b × IsWellTyped σ Γ c × IsWellTyped σ Γ b
+  -- what leaves is of any built type
   IsWellTyped σ Γ (panics t s k) = IsBuilt t
+  IsWellTyped σ Γ (returned t s e) = IsBuilt t × IsOf σ.answer e × IsWellTyped σ Γ e
+  IsWellTyped σ Γ (endless t s is b) = IsBuilt t × EachSpeaks (length Γ) is × IsOf unit b × IsWellTyped σ Γ b
 
   -- the statements of a block of the type, and its last expression
-  pub StatementsFit : List Signature → List Ty → Ty → TypedStmts → Type 0
+  pub StatementsFit : Surroundings → List Ty → Ty → TypedStmts → Type 0
   StatementsFit σ Γ t done = t ≡ unit
   StatementsFit σ Γ t (last e) = IsOf t e × IsWellTyped σ Γ e
   StatementsFit σ Γ t (leaving e) = IsBuilt t × (leaves e ≡ true) × IsWellTyped σ Γ e
@@ -122,7 +130,7 @@ abbrev mutual
   StatementsFit σ Γ t (run e ss) = IsWellTyped σ Γ e × StatementsFit σ Γ t ss
 
   -- one argument for each parameter
-  pub ArgumentsFit : List Signature → List Ty → TypedExprs → List Ty → Type 0
+  pub ArgumentsFit : Surroundings → List Ty → TypedExprs → List Ty → Type 0
   ArgumentsFit σ Γ none [] = Unit {0}
   ArgumentsFit σ Γ (more e es) (t ∷ ts) = IsOf t e × IsWellTyped σ Γ e × ArgumentsFit σ Γ es ts
   ArgumentsFit σ Γ _ _ = ⊥
@@ -137,11 +145,15 @@ abbrev pub ClausesSpeak : ℕ → List TypedClause → Type 0
 ClausesSpeak n [] = Unit {0}
 ClausesSpeak n (c ∷ cs) = ClauseSpeaksOf n c.kind c.formula × ClausesSpeak n cs
 
+-- around the body of a function of this signature
+abbrev pub surroundings_of : List Signature → Signature → Surroundings
+surroundings_of σ g = record { signatures = σ; answer = g.answer }
+
 pub record FunctionFits (σ : List Signature) (f : TypedFunction) : Type 0 where
   pub params : AllBuilt f.signature.params
   pub answer : IsBuilt f.signature.answer
   pub clauses : ClausesSpeak (length f.signature.params) f.clauses
-  pub body : IsWellTyped σ f.signature.params f.body
+  pub body : IsWellTyped (surroundings_of σ f.signature) f.signature.params f.body
   pub of_answer : IsOf f.signature.answer f.body
 
 abbrev pub signatures : List TypedFunction → List Signature

@@ -2,10 +2,10 @@
 //! and what stands above them waits on a stack.
 ghost use Rattle.std.specs.Prelude.{◌≡◌, ◌≤◌, List, Some, IfOk, MatchOption};
 ghost use Rattle.source_trees.specs.ExprView.{expr_size, span_of};
-ghost use Rattle.type_check.specs.declared.heading.Heading.{Heading};
 ghost use Rattle.type_check.specs.declared.scope.Variable.{Variable};
 ghost use Rattle.type_check.specs.Answers.{Answers};
 ghost use Rattle.type_check.specs.Chains.{GoesLeft, climbed, ended, first_ty, frames_size, left_of, right_of, second_ty, written};
+ghost use Rattle.type_check.specs.Setting.{Setting};
 ghost use Rattle.type_check.specs.Typing.{typed};
 
 use crate::operands::Operands;
@@ -124,7 +124,7 @@ pub(crate) fn descend<'a>(
     e: &'a Expr,
     expected: &Option<Ty>,
 ) -> Result<Descent<'a>, NoMemory>
-    ensures typed { IfOk result (λ d. (σ : List Heading) (Γ : List Variable) → typed σ Γ e.now expected.now ≡ climbed σ Γ d.frames.items (typed σ Γ d.bottom.now d.wanted)) }
+    ensures typed { IfOk result (λ d. (σ : Setting) (Γ : List Variable) → typed σ Γ e.now expected.now ≡ climbed σ Γ d.frames.items (typed σ Γ d.bottom.now d.wanted)) }
     ensures smaller { IfOk result (λ d. expr_size d.bottom.now ≤ expr_size e.now) }
     ensures frames { IfOk result (λ d. frames_size d.frames.items ≤ expr_size e.now) }
 {

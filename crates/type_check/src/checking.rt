@@ -1,6 +1,7 @@
 ghost use Rattle.std.specs.Prelude.{◌≡◌, IfOk, OnOk};
 ghost use Rattle.type_check.specs.Answers.{Answers, AnswersAs, gather};
 ghost use Rattle.type_check.specs.Checked.{AllGood, answer_at, checked, clause_of, clause_of_kind, param_at, typed_body, typed_function, typed_item, types_at};
+ghost use Rattle.type_check.specs.Setting.{setting_of};
 ghost use Rattle.type_check.specs.WellTyped.{ProgramFits};
 
 use crate::declaring::{headings_of, signature_of, variables_of};
@@ -12,6 +13,7 @@ use crate::logic::first_bad;
 use crate::program::{ClauseKind, TypedClause, TypedFunction, TypedProgram};
 use crate::refusal::unbuilt;
 use crate::scope::Variable;
+use crate::setting::Setting;
 use crate::typed::TypedExpr;
 use crate::written::answer_ty;
 use logic_term::Ty;
@@ -115,17 +117,17 @@ fn types_at(alloc: Global, f: &Function) -> Result<Items<Span>, NoMemory>
 /// A block is built as the body of a function, which stands there.
 fn type_body(
     alloc: Global,
-    headings: &[Heading],
+    setting: &Setting<'_>,
     scope: &mut Vec<Variable>,
     answer: &Option<Ty>,
     own: Span,
     body: &Body,
 ) -> Result<TypedExpr, PassError>
-    ensures answers { Answers result (typed_body headings.now scope.old.items answer.now own body.now) }
+    ensures answers { Answers result (typed_body (setting_of setting.now) scope.old.items answer.now own body.now) }
     ensures kept { OnOk result (scope.new.items ≡ scope.old.items) }
 {
     match body {
-        Body::Block(e) => type_expr(alloc, headings, scope, e, answer),
+        Body::Block(e) => type_expr(alloc, setting, scope, e, answer),
         Body::Term(_) | Body::Missing => Err(unbuilt(own)),
     }
 }
@@ -146,7 +148,11 @@ fn type_function(
     let expected = Some(answer.copy(alloc)?);
     let signature = signature_of(alloc, scope.as_slice(), answer)?;
     let clauses = clauses_of(alloc, &expected, scope.as_slice(), attributes)?;
-    let body = type_body(alloc, headings, &mut scope, &expected, own, &f.body)?;
+    let setting = Setting {
+        headings,
+        answer: &signature.answer,
+    };
+    let body = type_body(alloc, &setting, &mut scope, &expected, own, &f.body)?;
     Ok(TypedFunction {
         name: f.name.name,
         span: f.name.span,

@@ -3,6 +3,7 @@ ghost use Rattle.source_trees.specs.Expr as E;
 ghost use Rattle.source_trees.specs.ExprView.{exprs_of as written_exprs, span_of, stmts_of as written_stmts};
 ghost use Rattle.type_check.specs.Answers.{Answers, AnswersAs};
 ghost use Rattle.type_check.specs.Chains.{behind};
+ghost use Rattle.type_check.specs.Setting.{setting_of};
 ghost use Rattle.type_check.specs.TypedExprView.{exprs_of};
 ghost use Rattle.type_check.specs.Typing.{callee_of, is_bare, opened, operands, order_of, typed, typed_args, typed_statement, typed_stmts};
 ghost use Rattle.type_check.specs.WellTyped.{is_arithmetic};
@@ -14,12 +15,14 @@ use crate::heading::{Callee, Heading, find_callee};
 use crate::operands::{Operands, Order};
 use crate::refusal::{unbuilt, unknown_name};
 use crate::scope::Variable;
+use crate::setting::Setting;
 use crate::statements::{block_with, declare, whole_block};
 use crate::typed::{TypedExpr, TypedStmt};
 use crate::types::is_arithmetic;
 use crate::typing::{
-    assigned, branch, called, choice, denied, given_by, given_ty, is_bare, lazy, literal, named,
-    negated, operated, order_of, panicked, param_ty, repeat, span_of, spans_at, truth, updated,
+    assigned, bare_return, branch, called, choice, denied, endless, given_by, given_ty, is_bare,
+    lazy, literal, named, negated, operated, order_of, panicked, param_ty, repeat, returned,
+    span_of, spans_at, truth, updated,
 };
 use crate::written::{as_name, name_alone, step_of};
 use logic_term::Ty;
@@ -33,12 +36,12 @@ use text_core::{PassError, Span};
 #[cycle(type_expr)]
 pub(crate) fn type_expr(
     alloc: Global,
-    headings: &[Heading],
+    setting: &Setting<'_>,
     scope: &mut Vec<Variable>,
     e: &Expr,
     expected: &Option<Ty>,
 ) -> Result<TypedExpr, PassError>
-    ensures answers { Answers result (typed headings.now scope.old.items e.now expected.now) }
+    ensures answers { Answers result (typed (setting_of setting.now) scope.old.items e.now expected.now) }
     ensures kept { OnOk result (scope.new.items ≡ scope.old.items) }
 {
     let Descent {
@@ -46,9 +49,9 @@ pub(crate) fn type_expr(
         bottom,
         wanted,
     } = descend(alloc, e, expected)?;
-    let mut typed = type_form(alloc, headings, scope, bottom, &wanted)?;
+    let mut typed = type_form(alloc, setting, scope, bottom, &wanted)?;
     while let Some(frame) = frames.pop() {
-        typed = type_behind(alloc, headings, scope, frame, typed)?;
+        typed = type_behind(alloc, setting, scope, frame, typed)?;
     }
     Ok(typed)
 }
@@ -57,17 +60,17 @@ pub(crate) fn type_expr(
 #[cycle(type_expr)]
 fn type_behind(
     alloc: Global,
-    headings: &[Heading],
+    setting: &Setting<'_>,
     scope: &mut Vec<Variable>,
     frame: Frame<'_>,
     left: TypedExpr,
 ) -> Result<TypedExpr, PassError>
-    ensures answers { Answers result (behind headings.now scope.old.items frame.entry left) }
+    ensures answers { Answers result (behind (setting_of setting.now) scope.old.items frame.entry left) }
     ensures kept { OnOk result (scope.new.items ≡ scope.old.items) }
 {
     let wanted = second_ty(alloc, &frame, &left)?;
     let right = right_of(&frame.operation);
-    let right = type_expr(alloc, headings, scope, right, &wanted)?;
+    let right = type_expr(alloc, setting, scope, right, &wanted)?;
     finish(alloc, scope.as_slice(), frame, left, right)
 }
 
@@ -76,12 +79,12 @@ fn type_behind(
 #[tactic(auto, using(crate::proofs::Parts::parts))]
 fn type_form(
     alloc: Global,
-    headings: &[Heading],
+    setting: &Setting<'_>,
     scope: &mut Vec<Variable>,
     e: &Expr,
     expected: &Option<Ty>,
 ) -> Result<TypedExpr, PassError>
-    ensures answers { Answers result (typed headings.now scope.old.items e.now expected.now) }
+    ensures answers { Answers result (typed (setting_of setting.now) scope.old.items e.now expected.now) }
     ensures kept { OnOk result (scope.new.items ≡ scope.old.items) }
 {
     let whole = e.span;
@@ -90,32 +93,32 @@ fn type_form(
         ExprNode::Truth(holds) => truth(alloc, expected, whole, *holds),
         ExprNode::Path(path) => named(alloc, scope.as_slice(), expected, whole, name_alone(path)),
         ExprNode::Unary(op, at, a) => type_unary(
-            alloc, headings, scope, expected, whole, *op, *at, a,
+            alloc, setting, scope, expected, whole, *op, *at, a,
         ),
         ExprNode::Binary(op, at, a, b) => type_binary(
-            alloc, headings, scope, expected, whole, *op, *at, a, b,
+            alloc, setting, scope, expected, whole, *op, *at, a, b,
         ),
-        ExprNode::Lazy(op, a, b) => type_lazy(alloc, headings, scope, expected, whole, *op, a, b),
+        ExprNode::Lazy(op, a, b) => type_lazy(alloc, setting, scope, expected, whole, *op, a, b),
         ExprNode::Assign(left, value) => type_assign(
-            alloc, headings, scope, expected, whole, left, value,
+            alloc, setting, scope, expected, whole, left, value,
         ),
         ExprNode::Update(op, at, left, value) => type_update(
-            alloc, headings, scope, expected, whole, *op, *at, left, value,
+            alloc, setting, scope, expected, whole, *op, *at, left, value,
         ),
-        ExprNode::Call(f, args) => type_call(alloc, headings, scope, expected, whole, f, args),
-        ExprNode::Block(stmts) => type_block(alloc, headings, scope, expected, whole, stmts),
+        ExprNode::Call(f, args) => type_call(alloc, setting, scope, expected, whole, f, args),
+        ExprNode::Block(stmts) => type_block(alloc, setting, scope, expected, whole, stmts),
         ExprNode::BlockWith(stmts, last) => type_block_with(
-            alloc, headings, scope, expected, whole, stmts, last,
+            alloc, setting, scope, expected, whole, stmts, last,
         ),
         ExprNode::If(None, condition, body) => type_branch(
-            alloc, headings, scope, expected, whole, condition, body,
+            alloc, setting, scope, expected, whole, condition, body,
         ),
         ExprNode::IfElse(None, condition, yes, no) => type_choice(
-            alloc, headings, scope, expected, whole, condition, yes, no,
+            alloc, setting, scope, expected, whole, condition, yes, no,
         ),
         ExprNode::While(None, condition, body) => type_while(
             alloc,
-            headings,
+            setting,
             scope,
             expected,
             whole,
@@ -125,14 +128,17 @@ fn type_form(
         ),
         ExprNode::Attributed(attributes, e) => type_attributed(
             alloc,
-            headings,
+            setting,
             scope,
             expected,
             whole,
             attributes.as_slice(),
             e,
         ),
+        ExprNode::Loop(body) => type_loop(alloc, setting, scope, expected, whole, &[], body),
         ExprNode::Panic(panic, _) => panicked(alloc, expected, whole, *panic),
+        ExprNode::Return => bare_return(alloc, setting.answer, expected, whole),
+        ExprNode::ReturnWith(value) => type_return(alloc, setting, scope, expected, whole, value),
         ExprNode::Receiver
         | ExprNode::Literal(_, _)
         | ExprNode::Tuple(_)
@@ -140,10 +146,7 @@ fn type_form(
         | ExprNode::IfElse(Some(_), _, _, _)
         | ExprNode::Match(_, _)
         | ExprNode::While(Some(_), _, _)
-        | ExprNode::Loop(_)
         | ExprNode::Closure(_, _, _, _, _)
-        | ExprNode::Return
-        | ExprNode::ReturnWith(_)
         | ExprNode::Break
         | ExprNode::Continue
         | ExprNode::Ghost(_, _)
@@ -160,7 +163,7 @@ fn type_form(
 #[tactic(auto, using(crate::proofs::Parts::parts))]
 fn type_unary(
     alloc: Global,
-    headings: &[Heading],
+    setting: &Setting<'_>,
     scope: &mut Vec<Variable>,
     expected: &Option<Ty>,
     whole: Span,
@@ -168,16 +171,16 @@ fn type_unary(
     operator: Span,
     a: &Expr,
 ) -> Result<TypedExpr, PassError>
-    ensures answers { Answers result (typed headings.now scope.old.items (E.unary whole op operator a.now) expected.now) }
+    ensures answers { Answers result (typed (setting_of setting.now) scope.old.items (E.unary whole op operator a.now) expected.now) }
     ensures kept { OnOk result (scope.new.items ≡ scope.old.items) }
 {
     match op {
         UnaryOp::Neg => {
-            let operand = type_expr(alloc, headings, scope, a, expected)?;
+            let operand = type_expr(alloc, setting, scope, a, expected)?;
             negated(alloc, expected, spans_at(whole, operator, a), operand)
         }
         UnaryOp::Not => {
-            let operand = type_expr(alloc, headings, scope, a, &Some(Ty::bool()))?;
+            let operand = type_expr(alloc, setting, scope, a, &Some(Ty::bool()))?;
             denied(alloc, expected, whole, operand)
         }
         UnaryOp::Deref => Err(unbuilt(whole)),
@@ -189,7 +192,7 @@ fn type_unary(
 #[tactic(auto, using(crate::proofs::Parts::parts))]
 fn type_binary(
     alloc: Global,
-    headings: &[Heading],
+    setting: &Setting<'_>,
     scope: &mut Vec<Variable>,
     expected: &Option<Ty>,
     whole: Span,
@@ -198,11 +201,11 @@ fn type_binary(
     a: &Expr,
     b: &Expr,
 ) -> Result<TypedExpr, PassError>
-    ensures answers { Answers result (typed headings.now scope.old.items (E.binary whole op operator a.now b.now) expected.now) }
+    ensures answers { Answers result (typed (setting_of setting.now) scope.old.items (E.binary whole op operator a.now b.now) expected.now) }
     ensures kept { OnOk result (scope.new.items ≡ scope.old.items) }
 {
     let order = order_of(alloc, is_arithmetic(op), expected, is_bare(a), is_bare(b))?;
-    let operands = type_operands(alloc, headings, scope, order, a, b)?;
+    let operands = type_operands(alloc, setting, scope, order, a, b)?;
     let spans = spans_at(whole, operator, a);
     operated(alloc, expected, spans, op, operands)
 }
@@ -212,7 +215,7 @@ fn type_binary(
 #[tactic(auto, using(crate::proofs::Parts::parts))]
 fn type_lazy(
     alloc: Global,
-    headings: &[Heading],
+    setting: &Setting<'_>,
     scope: &mut Vec<Variable>,
     expected: &Option<Ty>,
     whole: Span,
@@ -220,11 +223,11 @@ fn type_lazy(
     left: &Expr,
     right: &Expr,
 ) -> Result<TypedExpr, PassError>
-    ensures answers { Answers result (typed headings.now scope.old.items (E.lazy whole op left.now right.now) expected.now) }
+    ensures answers { Answers result (typed (setting_of setting.now) scope.old.items (E.lazy whole op left.now right.now) expected.now) }
     ensures kept { OnOk result (scope.new.items ≡ scope.old.items) }
 {
-    let left = type_expr(alloc, headings, scope, left, &Some(Ty::bool()))?;
-    let right = type_expr(alloc, headings, scope, right, &Some(Ty::bool()))?;
+    let left = type_expr(alloc, setting, scope, left, &Some(Ty::bool()))?;
+    let right = type_expr(alloc, setting, scope, right, &Some(Ty::bool()))?;
     lazy(alloc, expected, whole, op, left, right)
 }
 
@@ -233,19 +236,19 @@ fn type_lazy(
 #[tactic(auto, using(crate::proofs::Parts::parts))]
 fn type_assign(
     alloc: Global,
-    headings: &[Heading],
+    setting: &Setting<'_>,
     scope: &mut Vec<Variable>,
     expected: &Option<Ty>,
     whole: Span,
     left: &Expr,
     value: &Expr,
 ) -> Result<TypedExpr, PassError>
-    ensures answers { Answers result (typed headings.now scope.old.items (E.assign whole left.now value.now) expected.now) }
+    ensures answers { Answers result (typed (setting_of setting.now) scope.old.items (E.assign whole left.now value.now) expected.now) }
     ensures kept { OnOk result (scope.new.items ≡ scope.old.items) }
 {
-    let target = type_expr(alloc, headings, scope, left, &None)?;
+    let target = type_expr(alloc, setting, scope, left, &None)?;
     let wanted = given_ty(alloc, &target)?;
-    let value = type_expr(alloc, headings, scope, value, &wanted)?;
+    let value = type_expr(alloc, setting, scope, value, &wanted)?;
     assigned(
         alloc,
         scope.as_slice(),
@@ -262,7 +265,7 @@ fn type_assign(
 #[tactic(auto, using(crate::proofs::Parts::parts))]
 fn type_update(
     alloc: Global,
-    headings: &[Heading],
+    setting: &Setting<'_>,
     scope: &mut Vec<Variable>,
     expected: &Option<Ty>,
     whole: Span,
@@ -271,12 +274,12 @@ fn type_update(
     left: &Expr,
     value: &Expr,
 ) -> Result<TypedExpr, PassError>
-    ensures answers { Answers result (typed headings.now scope.old.items (E.update whole op operator left.now value.now) expected.now) }
+    ensures answers { Answers result (typed (setting_of setting.now) scope.old.items (E.update whole op operator left.now value.now) expected.now) }
     ensures kept { OnOk result (scope.new.items ≡ scope.old.items) }
 {
-    let target = type_expr(alloc, headings, scope, left, &None)?;
+    let target = type_expr(alloc, setting, scope, left, &None)?;
     let wanted = given_ty(alloc, &target)?;
-    let value = type_expr(alloc, headings, scope, value, &wanted)?;
+    let value = type_expr(alloc, setting, scope, value, &wanted)?;
     let spans = spans_at(whole, operator, left);
     updated(alloc, scope.as_slice(), expected, spans, op, target, value)
 }
@@ -286,19 +289,19 @@ fn type_update(
 #[tactic(auto, using(crate::proofs::Parts::parts))]
 fn type_call(
     alloc: Global,
-    headings: &[Heading],
+    setting: &Setting<'_>,
     scope: &mut Vec<Variable>,
     expected: &Option<Ty>,
     whole: Span,
     f: &Expr,
     args: &[Expr],
 ) -> Result<TypedExpr, PassError>
-    ensures answers { Answers result (typed headings.now scope.old.items (E.call whole f.now (written_exprs args.now)) expected.now) }
+    ensures answers { Answers result (typed (setting_of setting.now) scope.old.items (E.call whole f.now (written_exprs args.now)) expected.now) }
     ensures kept { OnOk result (scope.new.items ≡ scope.old.items) }
 {
-    let callee = callee_of(alloc, headings, scope.as_slice(), whole, as_name(f))?;
+    let callee = callee_of(alloc, setting.headings, scope.as_slice(), whole, as_name(f))?;
     let params = callee.signature.params.as_slice();
-    let args = type_args(alloc, headings, scope, args, params)?;
+    let args = type_args(alloc, setting, scope, args, params)?;
     called(alloc, expected, whole, callee, args)
 }
 
@@ -307,17 +310,17 @@ fn type_call(
 #[tactic(auto, using(crate::proofs::Parts::parts))]
 fn type_block(
     alloc: Global,
-    headings: &[Heading],
+    setting: &Setting<'_>,
     scope: &mut Vec<Variable>,
     expected: &Option<Ty>,
     whole: Span,
     stmts: &[Stmt],
 ) -> Result<TypedExpr, PassError>
-    ensures answers { Answers result (typed headings.now scope.old.items (E.block whole (written_stmts stmts.now)) expected.now) }
+    ensures answers { Answers result (typed (setting_of setting.now) scope.old.items (E.block whole (written_stmts stmts.now)) expected.now) }
     ensures kept { OnOk result (scope.new.items ≡ scope.old.items) }
 {
     let around = scope.len();
-    let stmts = type_statements(alloc, headings, scope, stmts)?;
+    let stmts = type_statements(alloc, setting, scope, stmts)?;
     scope.truncate(around);
     whole_block(alloc, expected, whole, stmts)
 }
@@ -327,19 +330,19 @@ fn type_block(
 #[tactic(auto, using(crate::proofs::Parts::parts))]
 fn type_block_with(
     alloc: Global,
-    headings: &[Heading],
+    setting: &Setting<'_>,
     scope: &mut Vec<Variable>,
     expected: &Option<Ty>,
     whole: Span,
     stmts: &[Stmt],
     last: &Expr,
 ) -> Result<TypedExpr, PassError>
-    ensures answers { Answers result (typed headings.now scope.old.items (E.block_with whole (written_stmts stmts.now) last.now) expected.now) }
+    ensures answers { Answers result (typed (setting_of setting.now) scope.old.items (E.block_with whole (written_stmts stmts.now) last.now) expected.now) }
     ensures kept { OnOk result (scope.new.items ≡ scope.old.items) }
 {
     let around = scope.len();
-    let stmts = type_statements(alloc, headings, scope, stmts)?;
-    let last = type_expr(alloc, headings, scope, last, expected)?;
+    let stmts = type_statements(alloc, setting, scope, stmts)?;
+    let last = type_expr(alloc, setting, scope, last, expected)?;
     scope.truncate(around);
     block_with(alloc, expected, whole, stmts, last)
 }
@@ -349,18 +352,18 @@ fn type_block_with(
 #[tactic(auto, using(crate::proofs::Parts::parts))]
 fn type_branch(
     alloc: Global,
-    headings: &[Heading],
+    setting: &Setting<'_>,
     scope: &mut Vec<Variable>,
     expected: &Option<Ty>,
     whole: Span,
     condition: &Expr,
     body: &Expr,
 ) -> Result<TypedExpr, PassError>
-    ensures answers { Answers result (typed headings.now scope.old.items (E.branch whole None condition.now body.now) expected.now) }
+    ensures answers { Answers result (typed (setting_of setting.now) scope.old.items (E.branch whole None condition.now body.now) expected.now) }
     ensures kept { OnOk result (scope.new.items ≡ scope.old.items) }
 {
-    let test = type_expr(alloc, headings, scope, condition, &Some(Ty::bool()))?;
-    let body = type_expr(alloc, headings, scope, body, &Some(Ty::unit(alloc)))?;
+    let test = type_expr(alloc, setting, scope, condition, &Some(Ty::bool()))?;
+    let body = type_expr(alloc, setting, scope, body, &Some(Ty::unit(alloc)))?;
     branch(alloc, expected, whole, test, body)
 }
 
@@ -369,7 +372,7 @@ fn type_branch(
 #[tactic(auto, using(crate::proofs::Parts::parts))]
 fn type_choice(
     alloc: Global,
-    headings: &[Heading],
+    setting: &Setting<'_>,
     scope: &mut Vec<Variable>,
     expected: &Option<Ty>,
     whole: Span,
@@ -377,13 +380,13 @@ fn type_choice(
     yes: &Expr,
     no: &Expr,
 ) -> Result<TypedExpr, PassError>
-    ensures answers { Answers result (typed headings.now scope.old.items (E.choice whole None condition.now yes.now no.now) expected.now) }
+    ensures answers { Answers result (typed (setting_of setting.now) scope.old.items (E.choice whole None condition.now yes.now no.now) expected.now) }
     ensures kept { OnOk result (scope.new.items ≡ scope.old.items) }
 {
-    let condition = type_expr(alloc, headings, scope, condition, &Some(Ty::bool()))?;
-    let yes = type_expr(alloc, headings, scope, yes, expected)?;
+    let condition = type_expr(alloc, setting, scope, condition, &Some(Ty::bool()))?;
+    let yes = type_expr(alloc, setting, scope, yes, expected)?;
     let wanted = given_by(alloc, expected, &yes)?;
-    let no = type_expr(alloc, headings, scope, no, &wanted)?;
+    let no = type_expr(alloc, setting, scope, no, &wanted)?;
     choice(alloc, expected, whole, condition, yes, no)
 }
 
@@ -392,7 +395,7 @@ fn type_choice(
 #[tactic(auto, using(crate::proofs::Parts::parts))]
 fn type_while(
     alloc: Global,
-    headings: &[Heading],
+    setting: &Setting<'_>,
     scope: &mut Vec<Variable>,
     expected: &Option<Ty>,
     whole: Span,
@@ -400,13 +403,52 @@ fn type_while(
     condition: &Expr,
     body: &Expr,
 ) -> Result<TypedExpr, PassError>
-    ensures answers { Answers result (typed headings.now scope.old.items (E.attributed whole attributes.now (E.repeat whole None condition.now body.now)) expected.now) }
+    ensures answers { Answers result (typed (setting_of setting.now) scope.old.items (E.attributed whole attributes.now (E.repeat whole None condition.now body.now)) expected.now) }
     ensures kept { OnOk result (scope.new.items ≡ scope.old.items) }
 {
     let invariants = invariants_of(alloc, scope.as_slice(), attributes)?;
-    let condition = type_expr(alloc, headings, scope, condition, &Some(Ty::bool()))?;
-    let body = type_expr(alloc, headings, scope, body, &Some(Ty::unit(alloc)))?;
+    let condition = type_expr(alloc, setting, scope, condition, &Some(Ty::bool()))?;
+    let body = type_expr(alloc, setting, scope, body, &Some(Ty::unit(alloc)))?;
     repeat(alloc, expected, whole, invariants, condition, body)
+}
+
+/// `loop` with the attributes before it, which are its invariants.
+#[cycle(type_expr)]
+#[tactic(auto, using(crate::proofs::Parts::parts))]
+fn type_loop(
+    alloc: Global,
+    setting: &Setting<'_>,
+    scope: &mut Vec<Variable>,
+    expected: &Option<Ty>,
+    whole: Span,
+    attributes: &[Attribute],
+    body: &Expr,
+) -> Result<TypedExpr, PassError>
+    ensures answers { Answers result (typed (setting_of setting.now) scope.old.items (E.attributed whole attributes.now (E.endless whole body.now)) expected.now) }
+    ensures kept { OnOk result (scope.new.items ≡ scope.old.items) }
+{
+    let invariants = invariants_of(alloc, scope.as_slice(), attributes)?;
+    let body = type_expr(alloc, setting, scope, body, &Some(Ty::unit(alloc)))?;
+    endless(alloc, expected, whole, invariants, body)
+}
+
+/// `return` with a value.
+#[cycle(type_expr)]
+#[tactic(auto, using(crate::proofs::Parts::parts))]
+fn type_return(
+    alloc: Global,
+    setting: &Setting<'_>,
+    scope: &mut Vec<Variable>,
+    expected: &Option<Ty>,
+    whole: Span,
+    value: &Expr,
+) -> Result<TypedExpr, PassError>
+    ensures answers { Answers result (typed (setting_of setting.now) scope.old.items (E.return_with whole value.now) expected.now) }
+    ensures kept { OnOk result (scope.new.items ≡ scope.old.items) }
+{
+    let wanted = Some(setting.answer.copy(alloc)?);
+    let value = type_expr(alloc, setting, scope, value, &wanted)?;
+    returned(alloc, expected, whole, value)
 }
 
 /// A loop or a closure with attributes before it.
@@ -414,23 +456,24 @@ fn type_while(
 #[tactic(auto, using(crate::proofs::Parts::parts))]
 fn type_attributed(
     alloc: Global,
-    headings: &[Heading],
+    setting: &Setting<'_>,
     scope: &mut Vec<Variable>,
     expected: &Option<Ty>,
     whole: Span,
     attributes: &[Attribute],
     e: &Expr,
 ) -> Result<TypedExpr, PassError>
-    ensures answers { Answers result (typed headings.now scope.old.items (E.attributed whole attributes.now e.now) expected.now) }
+    ensures answers { Answers result (typed (setting_of setting.now) scope.old.items (E.attributed whole attributes.now e.now) expected.now) }
     ensures kept { OnOk result (scope.new.items ≡ scope.old.items) }
 {
     match &*e.node {
         ExprNode::While(pattern, condition, body) => match pattern {
             None => type_while(
-                alloc, headings, scope, expected, whole, attributes, condition, body,
+                alloc, setting, scope, expected, whole, attributes, condition, body,
             ),
             Some(_) => Err(unbuilt(whole)),
         },
+        ExprNode::Loop(body) => type_loop(alloc, setting, scope, expected, whole, attributes, body),
         _ => Err(unbuilt(whole)),
     }
 }
@@ -440,32 +483,32 @@ fn type_attributed(
 #[tactic(auto, using(crate::proofs::Parts::parts))]
 fn type_operands(
     alloc: Global,
-    headings: &[Heading],
+    setting: &Setting<'_>,
     scope: &mut Vec<Variable>,
     order: Order,
     a: &Expr,
     b: &Expr,
 ) -> Result<Operands, PassError>
-    ensures answers { Answers result (operands order (typed headings.now scope.old.items a.now) (typed headings.now scope.old.items b.now)) }
+    ensures answers { Answers result (operands order (typed (setting_of setting.now) scope.old.items a.now) (typed (setting_of setting.now) scope.old.items b.now)) }
     ensures kept { OnOk result (scope.new.items ≡ scope.old.items) }
 {
     match order {
         Order::Against(wanted) => {
             let wanted = Some(wanted);
-            let left = type_expr(alloc, headings, scope, a, &wanted)?;
-            let right = type_expr(alloc, headings, scope, b, &wanted)?;
+            let left = type_expr(alloc, setting, scope, a, &wanted)?;
+            let right = type_expr(alloc, setting, scope, b, &wanted)?;
             Ok(Operands { left, right })
         }
         Order::SecondGives => {
-            let right = type_expr(alloc, headings, scope, b, &None)?;
+            let right = type_expr(alloc, setting, scope, b, &None)?;
             let wanted = given_ty(alloc, &right)?;
-            let left = type_expr(alloc, headings, scope, a, &wanted)?;
+            let left = type_expr(alloc, setting, scope, a, &wanted)?;
             Ok(Operands { left, right })
         }
         Order::FirstGives => {
-            let left = type_expr(alloc, headings, scope, a, &None)?;
+            let left = type_expr(alloc, setting, scope, a, &None)?;
             let wanted = given_ty(alloc, &left)?;
-            let right = type_expr(alloc, headings, scope, b, &wanted)?;
+            let right = type_expr(alloc, setting, scope, b, &wanted)?;
             Ok(Operands { left, right })
         }
     }
@@ -476,18 +519,18 @@ fn type_operands(
 #[tactic(auto, using(crate::proofs::Parts::parts))]
 fn type_args(
     alloc: Global,
-    headings: &[Heading],
+    setting: &Setting<'_>,
     scope: &mut Vec<Variable>,
     args: &[Expr],
     params: &[Ty],
 ) -> Result<Vec<TypedExpr>, PassError>
-    ensures answers { AnswersAs result (typed_args headings.now scope.old.items (written_exprs args.now) params.now) (λ v. exprs_of v.items) }
+    ensures answers { AnswersAs result (typed_args (setting_of setting.now) scope.old.items (written_exprs args.now) params.now) (λ v. exprs_of v.items) }
     ensures kept { OnOk result (scope.new.items ≡ scope.old.items) }
 {
     let mut typed = Vec::with_capacity(alloc, args.len())?;
     for i in 0..args.len() {
         let wanted = param_ty(alloc, params, i)?;
-        let arg = type_expr(alloc, headings, scope, &args[i], &wanted)?;
+        let arg = type_expr(alloc, setting, scope, &args[i], &wanted)?;
         typed.push(arg)?;
     }
     Ok(typed)
@@ -498,15 +541,15 @@ fn type_args(
 #[tactic(auto, using(crate::proofs::Parts::parts))]
 fn type_statements(
     alloc: Global,
-    headings: &[Heading],
+    setting: &Setting<'_>,
     scope: &mut Vec<Variable>,
     stmts: &[Stmt],
 ) -> Result<Vec<TypedStmt>, PassError>
-    ensures { AnswersAs result (typed_stmts headings.now scope.old.items (written_stmts stmts.now)) (λ v. opened scope.new.items v.items) }
+    ensures { AnswersAs result (typed_stmts (setting_of setting.now) scope.old.items (written_stmts stmts.now)) (λ v. opened scope.new.items v.items) }
 {
     let mut typed = Vec::with_capacity(alloc, stmts.len())?;
     for i in 0..stmts.len() {
-        let stmt = type_statement(alloc, headings, scope, &stmts[i])?;
+        let stmt = type_statement(alloc, setting, scope, &stmts[i])?;
         typed.push(stmt)?;
     }
     Ok(typed)
@@ -517,14 +560,14 @@ fn type_statements(
 #[tactic(auto, using(crate::proofs::Parts::parts))]
 fn type_statement(
     alloc: Global,
-    headings: &[Heading],
+    setting: &Setting<'_>,
     scope: &mut Vec<Variable>,
     stmt: &Stmt,
 ) -> Result<TypedStmt, PassError>
-    ensures { AnswersAs result (typed_statement headings.now scope.old.items stmt.now) (λ s. (scope.new.items, s)) }
+    ensures { AnswersAs result (typed_statement (setting_of setting.now) scope.old.items stmt.now) (λ s. (scope.new.items, s)) }
 {
     let step = step_of(alloc, &stmt.kind)?;
-    let value = type_expr(alloc, headings, scope, &stmt.value, &step.expected)?;
+    let value = type_expr(alloc, setting, scope, &stmt.value, &step.expected)?;
     declare(alloc, scope, step.declares, &value)?;
     let binds = step.declares.is_some();
     Ok(TypedStmt { binds, value })

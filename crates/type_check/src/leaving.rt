@@ -12,7 +12,10 @@ pub fn leaves(e: &TypedExpr) -> bool
     let mut end = e;
     loop {
         match &*end.node {
-            TypedNode::Panic(_) | TypedNode::BlockLeaving(_, _) => return true,
+            TypedNode::Panic(_)
+            | TypedNode::Return(_)
+            | TypedNode::Loop(_, _)
+            | TypedNode::BlockLeaving(_, _) => return true,
             TypedNode::BlockWith(_, last) => end = last,
             TypedNode::IfElse(_, yes, no) => {
                 if !leaves(yes) {

@@ -21,6 +21,7 @@ mod operands;
 mod program;
 mod refusal;
 mod scope;
+mod setting;
 mod sorted;
 mod statements;
 mod term_chain;

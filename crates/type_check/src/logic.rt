@@ -92,6 +92,8 @@ fn bad_in_form(e: &TypedExpr) -> Option<SourceError>
             earlier(bad_among(invariants), earlier(bad_in(c), bad_in(b)))
         }
         TypedNode::Panic(_) => None,
+        TypedNode::Return(a) => bad_in(a),
+        TypedNode::Loop(invariants, b) => earlier(bad_among(invariants), bad_in(b)),
     }
 }
 

@@ -46,6 +46,10 @@ pub enum TypedNode {
     While(Vec<Assertion>, TypedExpr, TypedExpr),
     /// What always panics.
     Panic(Cause),
+    /// `return` with the answer.
+    Return(TypedExpr),
+    /// `loop` with its invariants.
+    Loop(Vec<Assertion>, TypedExpr),
 }
 
 /// A statement: with `binds` it declares the next variable, which is in scope to the end of the block.

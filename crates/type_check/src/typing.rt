@@ -1,10 +1,10 @@
-ghost use Rattle.std.specs.Prelude.{◌≡◌, Some, IfOk, slice_get};
+ghost use Rattle.std.specs.Prelude.{◌≡◌, Ok, Some, IfOk, slice_get};
 ghost use Rattle.logic_term.specs.Ty.{bool};
 ghost use Rattle.source_trees.specs.ExprView.{span_of};
 ghost use Rattle.type_check.specs.Answers.{Answers};
 ghost use Rattle.type_check.specs.TypedExpr as tree;
 ghost use Rattle.type_check.specs.TypedExprView.{ty_of, typed_of, exprs_of};
-ghost use Rattle.type_check.specs.Typing.{fit, order_of, literal_kind, literal, variable, negated, is_bare, named, operated, if_mutable, may_write, assigned, updated, called, is_updated, asked, given, choice_ty, chosen, panicked};
+ghost use Rattle.type_check.specs.Typing.{fit, order_of, literal_kind, literal, variable, negated, is_bare, named, operated, if_mutable, may_write, assigned, updated, called, is_updated, asked, given, choice_ty, chosen, panicked, returned, bare_return, endless};
 ghost use Rattle.type_check.specs.WellTyped.{unit};
 
 use crate::assertion::Assertion;
@@ -335,6 +335,53 @@ pub(crate) fn panicked(
         PanicMacro::Unreachable => Cause::Unreachable,
     };
     let node = Box::new(alloc, TypedNode::Panic(cause))?;
+    Ok(TypedExpr { ty, span, node })
+}
+
+/// `return` with this answer, which fits every type.
+pub(crate) fn returned(
+    alloc: Global,
+    expected: &Option<Ty>,
+    span: Span,
+    answer: TypedExpr,
+) -> Result<TypedExpr, PassError>
+    ensures { Answers result (Ok (returned expected.now span answer)) }
+{
+    let ty = asked(alloc, expected)?;
+    let node = Box::new(alloc, TypedNode::Return(answer))?;
+    Ok(TypedExpr { ty, span, node })
+}
+
+/// `return` without a value, where this is the type of the answer.
+pub(crate) fn bare_return(
+    alloc: Global,
+    answer: &Ty,
+    expected: &Option<Ty>,
+    span: Span,
+) -> Result<TypedExpr, PassError>
+    ensures { Answers result (bare_return answer.now expected.now span) }
+{
+    let ty = Ty::unit(alloc);
+    if !same_ty(&ty, answer) {
+        return Err(mismatch(span));
+    }
+    let node = Box::new(alloc, TypedNode::Block(Vec::new(alloc)))?;
+    let nothing = TypedExpr { ty, span, node };
+    returned(alloc, expected, span, nothing)
+}
+
+/// `loop`, which fits every type.
+pub(crate) fn endless(
+    alloc: Global,
+    expected: &Option<Ty>,
+    span: Span,
+    invariants: Vec<Assertion>,
+    body: TypedExpr,
+) -> Result<TypedExpr, PassError>
+    ensures { Answers result (Ok (endless expected.now span invariants.items body)) }
+{
+    let ty = asked(alloc, expected)?;
+    let node = Box::new(alloc, TypedNode::Loop(invariants, body))?;
     Ok(TypedExpr { ty, span, node })
 }
 

@@ -1,4 +1,4 @@
-//! What leaves, from the texts of sources: `panic!` and `unreachable!`, and the blocks and choices that end with them.
+//! What leaves, from the texts of sources: `panic!`, `unreachable!`, `return` and `loop`, and the blocks and choices that end with them.
 use crate::assigning::{Row, expect};
 use std::test::Fail;
 use text_core::Code;
@@ -273,4 +273,116 @@ const INVARIANTS: [Row; 8] = [
 #[test]
 fn invariants_around_what_leaves(rt: HostRuntime) {
     expect(&rt, rt.alloc(), &INVARIANTS);
+}
+
+const RETURNS: [Row; 16] = [
+    (b"fn f() -> i32 { return 5; }", None),
+    (b"fn f() -> i32 { return 5 }", None),
+    (b"fn f() { return; }", None),
+    (b"fn f() { return }", None),
+    (b"fn f() -> u8 { return 5; }", None),
+    (b"fn f() -> u8 { return 256; }", Some((Code::E07, 22, 25))),
+    (b"fn f() -> bool { return 5; }", Some((Code::E07, 24, 25))),
+    (b"fn f() -> i32 { return; }", Some((Code::E07, 16, 22))),
+    (b"fn f() { return 5; }", Some((Code::E07, 16, 17))),
+    (b"fn f(b: bool) -> i32 { if b { return 1; } 2 }", None),
+    (
+        b"fn f(b: bool) -> i32 { if b { return; } 2 }",
+        Some((Code::E07, 30, 36)),
+    ),
+    (b"fn f(b: bool) -> i32 { while b { return 1; } 2 }", None),
+    (
+        b"fn f(b: bool) -> i32 { if b { return true; } 2 }",
+        Some((Code::E07, 37, 41)),
+    ),
+    (b"fn f() -> i32 { return z; }", Some((Code::E05, 23, 24))),
+    (b"fn f() -> i32 { return return 5; }", None),
+    (b"fn f() -> i32 { return panic!(); }", None),
+];
+
+/// A `return` asks of its value the answer's type, and without one that this is unit.
+#[test]
+fn answers_that_are_returned(rt: HostRuntime) {
+    expect(&rt, rt.alloc(), &RETURNS);
+}
+
+const RETURNING: [Row; 10] = [
+    (b"fn f() -> i32 { let x: bool = return 5; }", None),
+    (b"fn f() -> i32 { let x: bool = return 5; 1 }", None),
+    (
+        b"fn f() -> i32 { let x = return 5; let y: i32 = x; y }",
+        Some((Code::E07, 47, 48)),
+    ),
+    (b"fn f() -> i32 { let x = return 5; return 6; }", None),
+    (b"fn f() { let x: i32 = return; }", None),
+    (
+        b"fn f(b: bool) -> i32 { let x = if b { return 1 } else { 5u8 }; let y: u8 = x; 0 }",
+        None,
+    ),
+    (
+        b"fn f(b: bool) -> i32 { let x = if b { 5u8 } else { return 1 }; let y: u8 = x; 0 }",
+        None,
+    ),
+    (
+        b"fn f(b: bool) -> i32 { if b { return 1; } else { return 2; } }",
+        None,
+    ),
+    (
+        b"fn f(b: bool) -> i32 { if b { return 1; } else { return true; } }",
+        Some((Code::E07, 56, 60)),
+    ),
+    (
+        b"fn f() -> i32 { return 5; true }",
+        Some((Code::E07, 26, 30)),
+    ),
+];
+
+/// It fits every type itself, and without an expected one it is unit.
+#[test]
+fn values_that_return(rt: HostRuntime) {
+    expect(&rt, rt.alloc(), &RETURNING);
+}
+
+const LOOPS: [Row; 17] = [
+    (b"fn f() { loop {} }", None),
+    (b"fn f() -> i32 { loop {} }", None),
+    (b"fn f() -> i32 { loop {} 1 }", None),
+    (b"fn f() -> i32 { loop { return 5; } }", None),
+    (b"fn f() -> i32 { loop { return 5 } }", None),
+    (b"fn f() -> i32 { loop { 5 } }", Some((Code::E07, 23, 24))),
+    (b"fn f() -> bool { let x: i32 = loop {}; }", None),
+    (
+        b"fn f() -> bool { let x = loop {}; let y: i32 = x; y }",
+        Some((Code::E07, 47, 48)),
+    ),
+    (
+        b"fn f(b: bool) -> i32 { if b { loop {} } else { 1 } }",
+        None,
+    ),
+    (
+        b"fn f(b: bool) -> i32 { if b { loop {} } else { return 1; } }",
+        None,
+    ),
+    (b"fn f(b: bool) -> i32 { #[invariant(b)] loop {} }", None),
+    (
+        b"fn f(b: bool) -> i32 { #[invariant(b)] #[invariant(true)] loop { return 1; } }",
+        None,
+    ),
+    (
+        b"fn f() -> i32 { #[invariant(z)] loop {} }",
+        Some((Code::E05, 28, 29)),
+    ),
+    (
+        b"fn f() -> i32 { loop { #[invariant(z)] while false {} } }",
+        Some((Code::E05, 35, 36)),
+    ),
+    (b"fn f() -> i32 { loop { z; } }", Some((Code::E05, 23, 24))),
+    (b"fn f() { loop { break; } }", Some((Code::E20, 16, 21))),
+    (b"fn f() { loop { continue; } }", Some((Code::E20, 16, 24))),
+];
+
+/// A `loop` leaves, and its body is unit.
+#[test]
+fn loops_that_are_not_left(rt: HostRuntime) {
+    expect(&rt, rt.alloc(), &LOOPS);
 }

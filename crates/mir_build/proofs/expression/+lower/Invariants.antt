@@ -50,6 +50,12 @@ decreases-lower_repeat l = 8 * max (typed_size l.x.now) (typed_size l.y.now) + 5
 abbrev pub decreases-lower_loop : goal.decreases-lower_loop
 decreases-lower_loop l = 8 * max (typed_size l.x.now) (typed_size l.y.now) + 4
 
+abbrev pub decreases-lower_return : goal.decreases-lower_return
+decreases-lower_return l = 8 * typed_size l.x.now + 3
+
+abbrev pub decreases-lower_endless : goal.decreases-lower_endless
+decreases-lower_endless l = 8 * typed_size l.x.now + 4
+
 abbrev pub decreases-lower_call : goal.decreases-lower_call
 decreases-lower_call l = 8 * exprs_size (exprs_of l.es.now) + 5
 

@@ -2,7 +2,7 @@ use Rattle.std.proofs.Common.{◌≡◌, ◌+◌, ◌<◌, ◌≤◌, [], ◌∷
 use Rattle.std.proofs.lemmas.List.{take_more}
 use Rattle.std.proofs.lemmas.List.Elements.{All-nil, All-push}
 use Rattle.mir_ir.specs.declared.body.Body.{Body}
-use Rattle.type_check.specs.WellTyped.{signatures}
+use Rattle.type_check.specs.WellTyped.{signatures, surroundings_of}
 use Rattle.mir_build.specs.Lowering.{HasMoreBlocks, no_functions}
 use Rattle.mir_build.specs.Whole.{FailsFor, contract_of}
 use Rattle.mir_build.proofs.Accepted.{has_contract}
@@ -29,7 +29,7 @@ lower_function-requires c =
     let f = c.f-item.result in
     let within : i < length fs = omega (arith, c.loop-f-test.true, ap length c.as_slice-functions.ensures) in
     let is : f ≡ get_or fs i f = cc in
-    record { scope = within_scope (signatures fs) f.signature.params f.body (fits_at (signatures fs) fs i f c.requires.fits is within).body; good = body_good f (good_at fs i f c.requires.good is within) }
+    record { scope = within_scope (surroundings_of (signatures fs) f.signature) f.signature.params f.body (fits_at (signatures fs) fs i f c.requires.fits is within).body; good = body_good f (good_at fs i f c.requires.good is within) }
 
 pub loop-f-preserved : goal.loop-f-preserved
 loop-f-preserved c =

@@ -1,14 +1,14 @@
 use Rattle.std.proofs.Common.{◌≡◌, ◌≤◌, List}
 use Rattle.source_trees.specs.ExprView.{expr_size}
-use Rattle.type_check.specs.declared.heading.Heading.{Heading}
 use Rattle.type_check.specs.declared.scope.Variable.{Variable}
 use Rattle.type_check.specs.Chains.{climbed, frames_size}
+use Rattle.type_check.specs.Setting.{Setting}
 use Rattle.type_check.specs.Typing.{typed}
 use Rattle.type_check.proofs.chain.descend.Given as goal
 
 abbrev pub invariant-loop-operation : goal.invariant-loop-operation
 invariant-loop-operation l = record {
-  typed : (σ : List Heading) (Γ : List Variable) → typed σ Γ l.e l.expected ≡ climbed σ Γ l.frames.items (typed σ Γ l.bottom l.wanted);
+  typed : (σ : Setting) (Γ : List Variable) → typed σ Γ l.e l.expected ≡ climbed σ Γ l.frames.items (typed σ Γ l.bottom l.wanted);
   smaller : expr_size l.bottom ≤ expr_size l.e;
   frames : frames_size l.frames.items ≤ expr_size l.e;
 }

@@ -7,11 +7,12 @@ use Rattle.source_trees.specs.Expr as E
 use Rattle.source_trees.specs.ExprView.{expr_size}
 use Rattle.type_check.specs.Answers.{Answers, Refuses}
 use Rattle.type_check.specs.Chains.{behind}
+use Rattle.type_check.specs.Setting.{setting_of}
 use Rattle.type_check.specs.Typing.{typed}
 use Rattle.type_check.proofs.Arguments.{args_more_all, args_stop_all, args_end}
 use Rattle.type_check.proofs.Chains.{climbed_refuses, sizes_up, up, up_refuses}
 use Rattle.type_check.proofs.PartByPart.{along}
-use Rattle.type_check.proofs.Parts.{loop_seen}
+use Rattle.type_check.proofs.Parts.{endless_seen, loop_seen}
 use Rattle.type_check.proofs.StatementLists.{scope_stays}
 use Rattle.type_check.proofs.expressions.+type_expr.Goals as goal
 
@@ -24,8 +25,8 @@ type_expr-returns-in_err-typed-clause-answers t c =
     let f = c.in_err-typed.field-0.0 in
     let p = err_from_is_err_and c.from_residual-in_err-typed.result c.from_residual-in_err-typed.ensures.1 in
     rw (p.1, p.2)
-    (along f _ _ (c.in_ok-frames.ensures.typed c.args.headings.now c.args.scope.now.items)
-    (climbed_refuses c.args.headings.now c.args.scope.now.items f c.in_ok-frames.field-0.frames.items _ c.in_err-typed.ensures.answers))
+    (along f _ _ (c.in_ok-frames.ensures.typed (setting_of c.args.setting.now) c.args.scope.now.items)
+    (climbed_refuses (setting_of c.args.setting.now) c.args.scope.now.items f c.in_ok-frames.field-0.frames.items _ c.in_err-typed.ensures.answers))
 
 pub type_expr-type_behind-requires : goal.type_expr-type_behind-requires
 type_expr-type_behind-requires t c =
@@ -37,20 +38,20 @@ pub type_expr-returns-in_err-typed-2-clause-answers : goal.type_expr-returns-in_
 type_expr-returns-in_err-typed-2-clause-answers t c =
     let f = c.in_err-typed-2.field-0.0 in
     let p = err_from_is_err_and c.from_residual-in_err-typed-2.result c.from_residual-in_err-typed-2.ensures.1 in
-    let refused = subst (λ Γ. Refuses f (behind c.args.headings.now Γ c.in-Some.frame c.loop-frame.typed)) c.loop-frame.invariant.kept c.in_err-typed-2.ensures.answers in
+    let refused = subst (λ Γ. Refuses f (behind (setting_of c.args.setting.now) Γ c.in-Some.frame c.loop-frame.typed)) c.loop-frame.invariant.kept c.in_err-typed-2.ensures.answers in
     rw (p.1, p.2)
     (along f _ _ c.loop-frame.invariant.so_far
-    (up_refuses c.args.headings.now c.args.scope.now.items f c.pop.new.self.items c.loop-frame.frames.items c.in-Some.frame c.loop-frame.typed c.in-Some.ensures.items refused))
+    (up_refuses (setting_of c.args.setting.now) c.args.scope.now.items f c.pop.new.self.items c.loop-frame.frames.items c.in-Some.frame c.loop-frame.typed c.in-Some.ensures.items refused))
 
 pub type_expr-loop-frame-preserved : goal.type_expr-loop-frame-preserved
 type_expr-loop-frame-preserved t c =
-    let made = subst (λ Γ. behind c.args.headings.now Γ c.in-Some.frame c.loop-frame.typed ≡ Ok c.in_ok-typed-2.typed) c.loop-frame.invariant.kept c.in_ok-typed-2.ensures.answers in
+    let made = subst (λ Γ. behind (setting_of c.args.setting.now) Γ c.in-Some.frame c.loop-frame.typed ≡ Ok c.in_ok-typed-2.typed) c.loop-frame.invariant.kept c.in_ok-typed-2.ensures.answers in
     let sizes = sizes_up c.pop.new.self.items c.loop-frame.frames.items c.in-Some.frame _ c.in-Some.ensures.items c.loop-frame.invariant.smaller in
     record {
       kept = c.in_ok-typed-2.ensures.kept ∙ c.loop-frame.invariant.kept;
       so_far =
           c.loop-frame.invariant.so_far
-          ∙ up c.args.headings.now c.args.scope.now.items c.pop.new.self.items c.loop-frame.frames.items c.in-Some.frame c.loop-frame.typed c.in_ok-typed-2.typed c.in-Some.ensures.items made;
+          ∙ up (setting_of c.args.setting.now) c.args.scope.now.items c.pop.new.self.items c.loop-frame.frames.items c.in-Some.frame c.loop-frame.typed c.in_ok-typed-2.typed c.in-Some.ensures.items made;
       smaller = sizes.0;
     }
 
@@ -58,42 +59,47 @@ pub type_args-returns-in_err-arg-clause-answers : goal.type_args-returns-in_err-
 type_args-returns-in_err-arg-clause-answers t c =
     let f = c.in_err-arg.field-0.0 in
     let p = err_from_is_err_and c.from_residual-in_err-arg.result c.from_residual-in_err-arg.ensures.1 in
-    let wanted = subst (λ w. Refuses f (typed c.args.headings.now c.loop-i.scope.items c.index-args-i.result w)) c.in_ok-wanted.ensures c.in_err-arg.ensures.answers in
-    let refused = subst (λ Γ. Refuses f (typed c.args.headings.now Γ c.index-args-i.result (slice_get c.args.params.now c.loop-i.i))) c.loop-i.invariant.kept wanted in
+    let wanted = subst (λ w. Refuses f (typed (setting_of c.args.setting.now) c.loop-i.scope.items c.index-args-i.result w)) c.in_ok-wanted.ensures c.in_err-arg.ensures.answers in
+    let refused = subst (λ Γ. Refuses f (typed (setting_of c.args.setting.now) Γ c.index-args-i.result (slice_get c.args.params.now c.loop-i.i))) c.loop-i.invariant.kept wanted in
     rw (p.1, p.2)
-    (args_stop_all f c.args.headings.now c.args.scope.now.items c.args.args.now c.args.params.now c.loop-i.i c.index-args-i.result c.loop-i.typed.items
+    (args_stop_all f (setting_of c.args.setting.now) c.args.scope.now.items c.args.args.now c.args.params.now c.loop-i.i c.index-args-i.result c.loop-i.typed.items
     c.index-args-i.is c.loop-i-test.true c.loop-i.invariant.so_far refused)
 
 pub type_args-loop-i-preserved : goal.type_args-loop-i-preserved
 type_args-loop-i-preserved t c =
     let pushed : c.push.new.self.items ≡ c.loop-i.typed.items ++ c.in_ok-arg.arg ∷ [] = first_of (search rules, grind (arith, common_steps)) in
-    let wanted = subst (λ w. typed c.args.headings.now c.loop-i.scope.items c.index-args-i.result w ≡ Ok c.in_ok-arg.arg) c.in_ok-wanted.ensures c.in_ok-arg.ensures.answers in
-    let typed_at = subst (λ Γ. typed c.args.headings.now Γ c.index-args-i.result (slice_get c.args.params.now c.loop-i.i) ≡ Ok c.in_ok-arg.arg) c.loop-i.invariant.kept wanted in
+    let wanted = subst (λ w. typed (setting_of c.args.setting.now) c.loop-i.scope.items c.index-args-i.result w ≡ Ok c.in_ok-arg.arg) c.in_ok-wanted.ensures c.in_ok-arg.ensures.answers in
+    let typed_at = subst (λ Γ. typed (setting_of c.args.setting.now) Γ c.index-args-i.result (slice_get c.args.params.now c.loop-i.i) ≡ Ok c.in_ok-arg.arg) c.loop-i.invariant.kept wanted in
     record {
       kept = subst (λ Γ. c.type_expr.new.scope.items ≡ Γ) c.loop-i.invariant.kept c.in_ok-arg.ensures.kept;
-      so_far = args_more_all c.args.headings.now c.args.scope.now.items c.args.args.now c.args.params.now c.loop-i.i c.index-args-i.result c.loop-i.typed.items c.push.new.self.items c.in_ok-arg.arg
+      so_far = args_more_all (setting_of c.args.setting.now) c.args.scope.now.items c.args.args.now c.args.params.now c.loop-i.i c.index-args-i.result c.loop-i.typed.items c.push.new.self.items c.in_ok-arg.arg
           c.index-args-i.is c.loop-i-test.true typed_at pushed c.loop-i.invariant.so_far;
     }
 
 pub type_args-returns-clause-answers : goal.type_args-returns-clause-answers
 type_args-returns-clause-answers t c =
     c.loop-i.invariant.so_far
-    ∙ args_end c.args.headings.now c.args.scope.now.items c.args.args.now c.args.params.now c.loop-i.i c.loop-i.typed.items (omega arith)
+    ∙ args_end (setting_of c.args.setting.now) c.args.scope.now.items c.args.args.now c.args.params.now c.loop-i.i c.loop-i.typed.items (omega arith)
 
 pub type_block-returns-clause-kept : goal.type_block-returns-clause-kept
 type_block-returns-clause-kept t c =
     let around : c.len-around.result ≡ length c.args.scope.now.items = first_of (search rules, grind (arith, common_steps)) in
-    let before = scope_stays c.args.headings.now c.args.scope.now.items c.args.stmts.now c.type_statements.new.scope.items c.in_ok-stmts.stmts.items c.in_ok-stmts.ensures in
+    let before = scope_stays (setting_of c.args.setting.now) c.args.scope.now.items c.args.stmts.now c.type_statements.new.scope.items c.in_ok-stmts.stmts.items c.in_ok-stmts.ensures in
     on_ok c.whole_block.result _ (c.truncate.ensures.items ∙ ap (λ n. take n c.type_statements.new.scope.items) around ∙ before)
 
 pub type_block_with-returns-clause-kept : goal.type_block_with-returns-clause-kept
 type_block_with-returns-clause-kept t c =
     let around : c.len-around.result ≡ length c.args.scope.now.items = first_of (search rules, grind (arith, common_steps)) in
-    let before = scope_stays c.args.headings.now c.args.scope.now.items c.args.stmts.now c.type_statements.new.scope.items c.in_ok-stmts.stmts.items c.in_ok-stmts.ensures in
+    let before = scope_stays (setting_of c.args.setting.now) c.args.scope.now.items c.args.stmts.now c.type_statements.new.scope.items c.in_ok-stmts.stmts.items c.in_ok-stmts.ensures in
     on_ok c.block_with.result _
     (c.truncate.ensures.items ∙ ap (λ Γ. take c.len-around.result Γ) c.in_ok-last.ensures.kept ∙ ap (λ n. take n c.type_statements.new.scope.items) around ∙ before)
 
 pub type_attributed-returns-in-None-clause-answers : goal.type_attributed-returns-in-None-clause-answers
 type_attributed-returns-in-None-clause-answers t c =
     let is = loop_seen c.e.inside.span c.e.inside.node.value c.deref.result.now c.args.e.now c.in-While.pattern c.in-While.condition c.in-While.body c.e.view_is c.deref.ensures c.in-While.is c.in-None.is in
-    subst (λ e. Answers c.type_while.result (typed c.args.headings.now c.args.scope.now.items (E.attributed c.args.whole c.args.attributes.now e) c.args.expected.now)) (sym is) c.type_while.ensures.answers
+    subst (λ e. Answers c.type_while.result (typed (setting_of c.args.setting.now) c.args.scope.now.items (E.attributed c.args.whole c.args.attributes.now e) c.args.expected.now)) (sym is) c.type_while.ensures.answers
+
+pub type_attributed-returns-in-Loop-clause-answers : goal.type_attributed-returns-in-Loop-clause-answers
+type_attributed-returns-in-Loop-clause-answers t c =
+    let is = endless_seen c.e.inside.span c.e.inside.node.value c.deref.result.now c.args.e.now c.in-Loop.body c.e.view_is c.deref.ensures c.in-Loop.is in
+    subst (λ e. Answers c.type_loop.result (typed (setting_of c.args.setting.now) c.args.scope.now.items (E.attributed c.args.whole c.args.attributes.now e) c.args.expected.now)) (sym is) c.type_loop.ensures.answers

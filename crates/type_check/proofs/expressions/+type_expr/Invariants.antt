@@ -1,6 +1,7 @@
 use Rattle.std.proofs.Common.{◌≡◌, ◌≤◌, ◌+◌, ◌*◌, max, drop, length, Ok}
 use Rattle.source_trees.specs.ExprView.{expr_size, exprs_size, stmts_size, stmts_of, exprs_of}
 use Rattle.type_check.specs.Chains.{climbed, frames_size, right_of}
+use Rattle.type_check.specs.Setting.{setting_of}
 use Rattle.type_check.specs.Typing.{typed, typed_args, typed_stmts}
 use Rattle.type_check.proofs.Arguments.{continued as args_continued}
 use Rattle.type_check.proofs.StatementLists.{continued as statements_continued}
@@ -61,13 +62,19 @@ decreases-type_choice l = 5 * max (expr_size l.condition.now) (max (expr_size l.
 abbrev pub decreases-type_while : goal.decreases-type_while
 decreases-type_while l = 5 * max (expr_size l.condition.now) (expr_size l.body.now) + 2
 
+abbrev pub decreases-type_loop : goal.decreases-type_loop
+decreases-type_loop l = 5 * expr_size l.body.now + 2
+
+abbrev pub decreases-type_return : goal.decreases-type_return
+decreases-type_return l = 5 * expr_size l.value.now + 2
+
 abbrev pub decreases-type_attributed : goal.decreases-type_attributed
 decreases-type_attributed l = 5 * expr_size l.e.now + 2
 
 abbrev pub invariant-type_expr-loop-frame : goal.invariant-type_expr-loop-frame
 invariant-type_expr-loop-frame l = record {
   kept : l.scope.items ≡ l.fn.scope.items;
-  so_far : typed l.headings l.fn.scope.items l.e l.expected ≡ climbed l.headings l.fn.scope.items l.frames.items (Ok l.typed);
+  so_far : typed (setting_of l.setting) l.fn.scope.items l.e l.expected ≡ climbed (setting_of l.setting) l.fn.scope.items l.frames.items (Ok l.typed);
   smaller : frames_size l.frames.items ≤ expr_size l.e;
 }
 
@@ -77,8 +84,8 @@ decreases-type_expr-loop-frame l = length l.frames.items
 abbrev pub invariant-type_args-loop-i : goal.invariant-type_args-loop-i
 invariant-type_args-loop-i l = record {
   kept : l.scope.items ≡ l.fn.scope.items;
-  so_far : typed_args l.headings l.fn.scope.items (exprs_of l.args) l.params ≡ args_continued l.headings l.fn.scope.items l.args l.params l.i l.typed.items;
+  so_far : typed_args (setting_of l.setting) l.fn.scope.items (exprs_of l.args) l.params ≡ args_continued (setting_of l.setting) l.fn.scope.items l.args l.params l.i l.typed.items;
 }
 
 abbrev pub invariant-type_statements-loop-i : goal.invariant-type_statements-loop-i
-invariant-type_statements-loop-i l = typed_stmts l.headings l.fn.scope.items (stmts_of l.stmts) ≡ statements_continued l.headings l.scope.items (drop l.i l.stmts) l.typed.items
+invariant-type_statements-loop-i l = typed_stmts (setting_of l.setting) l.fn.scope.items (stmts_of l.stmts) ≡ statements_continued (setting_of l.setting) l.scope.items (drop l.i l.stmts) l.typed.items
