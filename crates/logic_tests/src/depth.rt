@@ -2,9 +2,7 @@
 use crate::steps::{apply, obligation};
 use goal_text::{Spelling, goal_text};
 use logic_term::{Label2, Obligation, Sort, Term, Ty};
-use proof_kernel::{
-    Direction, GoalRule, Kernel, Rewriting, Step, StepError, Tables, Target,
-};
+use proof_kernel::{Direction, GoalRule, Kernel, Rewriting, Step, StepError, Tables, Target};
 use source_kinds::ArithOp;
 use std::alloc::Global;
 use std::test::Fail;

@@ -237,12 +237,21 @@ const BY_EQUATION: [(&str, &str); 18] = [
     ("ZW>=zw><w0<z0", "intro z w\nrewrite 1.1\nhyp 1.2\n"),
     ("ZW>=zw><z0<w0", "intro z w\nrewrite < 1.1\nhyp 1.2\n"),
     ("ZW>=zw><z0<w0", "intro z w\nrewrite 1.1 in 1.2\nhyp 2.1\n"),
-    ("ZW>=zw><w0<z0", "intro z w\nrewrite < 1.1 in 1.2\nhyp 2.1\n"),
+    (
+        "ZW>=zw><w0<z0",
+        "intro z w\nrewrite < 1.1 in 1.2\nhyp 2.1\n",
+    ),
     // Every occurrence, and what is put is not looked into.
     ("ZW>=zw=*z+z1*w+w1", "intro z w\nrewrite 1.1\nrefl\n"),
-    ("ZW>=z+z1><*+z1+z10<*zz0", "intro z w\nrewrite 1.1\nhyp 1.2\n"),
+    (
+        "ZW>=z+z1><*+z1+z10<*zz0",
+        "intro z w\nrewrite 1.1\nhyp 1.2\n",
+    ),
     ("ZW>=+z1w><+w10<++z110", "intro z w\nrewrite 1.1\nhyp 1.2\n"),
-    ("ZW>=z+z1=+z1++z11", "intro z w\nrewrite 1.1 in 1.1\nhyp 2.1\n"),
+    (
+        "ZW>=z+z1=+z1++z11",
+        "intro z w\nrewrite 1.1 in 1.1\nhyp 2.1\n",
+    ),
     // No occurrence; and a hypothesis that stays.
     ("ZW>=zw><w0<w0", "intro z w\nrewrite 1.1\nhyp 1.2\n"),
     ("ZW>=zw><w0<w0", "intro z w\nrewrite 1.1 in 1.2\nhyp 2.1\n"),
@@ -254,22 +263,40 @@ const BY_EQUATION: [(&str, &str); 18] = [
     ("ZW>=zw>X<@xwX<@xz", "intro z w\nrewrite 1.1\nhyp 1.2\n"),
     ("XZ>=z@x>Y<@y@xX<@xz", "intro x z\nrewrite 1.1\nhyp 1.2\n"),
     ("XZ>=@xz>Y<@y0X<@x0", "intro x z\nrewrite 1.1\nhyp 1.2\n"),
-    ("XZ>=@xz>X<@xzY<@y@x", "intro x z\nrewrite < 1.1 in 1.2\nhyp 2.1\n"),
-    ("ZW>=X<@xc<z0>Y<@yc<z0", "intro z w\nrewrite 1.1 in 1.2\nhyp 2.1\n"),
+    (
+        "XZ>=@xz>X<@xzY<@y@x",
+        "intro x z\nrewrite < 1.1 in 1.2\nhyp 2.1\n",
+    ),
+    (
+        "ZW>=X<@xc<z0>Y<@yc<z0",
+        "intro z w\nrewrite 1.1 in 1.2\nhyp 2.1\n",
+    ),
 ];
 
 const NOT_BY_EQUATION: [(&str, &str, u32); 12] = [
     ("ZW>=zw><z0<w0", "intro z w\nrewrite 1.1\nhyp 1.2\n", 3),
     ("ZW>=zw><w0<z0", "intro z w\nrewrite < 1.1\nhyp 1.2\n", 3),
-    ("ZW>=zw><z0<w0", "intro z w\nrewrite 1.1 in 1.2\nhyp 1.2\n", 3),
-    ("ZW>=zw><z0<w0", "intro z w\nrewrite 1.1 in 1.2\nhyp 2.2\n", 3),
+    (
+        "ZW>=zw><z0<w0",
+        "intro z w\nrewrite 1.1 in 1.2\nhyp 1.2\n",
+        3,
+    ),
+    (
+        "ZW>=zw><z0<w0",
+        "intro z w\nrewrite 1.1 in 1.2\nhyp 2.2\n",
+        3,
+    ),
     ("ZW>=zw><z0<w0", "intro z w\nrewrite 1.2\n", 2),
     ("ZW>=zw><z0<w0", "intro z w\nrewrite 1.3\n", 2),
     ("ZW>=zw><z0<w0", "intro z w\nrewrite 1.1 in 1.3\n", 2),
     ("ZW>=zw><z0<w0", "intro z w\nrewrite < 1.3 in 1.1\n", 2),
     ("ZW>lzw><z0<w0", "intro z w\nrewrite 1.1\n", 2),
     ("ZW>!=zw><z0<w0", "intro z w\nrewrite 1.1\n", 2),
-    ("XZ>=z@x>X<@x@xX<@xz", "intro x z\nrewrite 1.1\nhyp 1.2\n", 3),
+    (
+        "XZ>=z@x>X<@x@xX<@xz",
+        "intro x z\nrewrite 1.1\nhyp 1.2\n",
+        3,
+    ),
     ("XZ>=@xz>X<z0X<@x0", "intro x z\nrewrite 1.1\nhyp 1.2\n", 3),
 ];
 

@@ -51,7 +51,6 @@ mutual
 module _ (S : Structure) (h : Exchange) (n : ℕ) (E : Env → Type 0)
     (right : (ρ : Env) → E ρ → (k : ℕ) → n ≤ k → (t u : Term) → h k t ≡ Some u → Alike (Means S t ρ) (Means S u ρ))
     (closed : (ρ : Env) (x : Name) (w : Value) → E ρ → n ≤ x.0 → E (with_value ρ x w)) where
-
   chosen : (k : ℕ) → n ≤ k → (t u : Term) (ρ : Env) → E ρ → Alike (Means S t ρ) (Means S u ρ) → Alike (Means S t ρ) (Means S (or_else (h k t) u) ρ)
   chosen k l t u ρ e m = at (h k t) refl
     where

@@ -1,6 +1,6 @@
 -- One step of the walk that exchanges subterms.
-use Rattle.std.proofs.Common.{◌≡◌, ℕ, suc, ◌+◌, ◌*◌, ◌<◌, List, [], ◌∷◌, ◌++◌, length, map, Option, Some, None, refl, sym, ◌∙◌, ap, arith}
-use Rattle.std.proofs.lemmas.List.{append-nil, append_assoc, length-map}
+use Rattle.std.proofs.Common.{◌≡◌, ℕ, suc, ◌+◌, ◌-◌, ◌*◌, ◌<◌, ◌≤◌, List, [], ◌∷◌, ◌++◌, length, drop, get_or, map, Option, Some, None, refl, sym, ◌∙◌, ap, ap₂, arith}
+use Rattle.std.proofs.lemmas.List.{append-nil, append_assoc, drop_more, length-map}
 use Rattle.logic_term.specs.Tasks.{with_last}
 use Rattle.logic_term.specs.Term.{Term, Terms, var, lit, truth, apply, bind, no_terms, and_term}
 use Rattle.logic_term.specs.TermView.{terms_of}
@@ -46,6 +46,16 @@ module _ (h : Exchange) where
       ∙ ap (λ ss. after h ss us) (append_assoc (map (enter (depth_in n t)) (parts t)) (remake t ∷ []) rest)
       ∙ entered_all (depth_in n t) (parts t) (remake t ∷ rest) us
       ∙ ap (after h rest) (last_at (with_parts t) (length (parts t)) us new (length-map (parts t) (exchanged h (depth_in n t))) ∙ ap (λ v. us ++ v ∷ []) (sym (below n t e)))
+
+one_off : (ts : List Term) (i : ℕ) (t : Term) → 0 < i → i ≤ length ts → t ≡ get_or ts (i - 1) t → drop (i - 1) ts ≡ t ∷ drop i ts
+one_off ts i t l m e =
+    let back : i - 1 + 1 ≡ i = omega (arith, l) in
+    drop_more ts (i - 1) t (omega (arith, l, m)) ∙ ap₂ (λ u k. u ∷ drop k ts) (sym e) back
+
+-- one more of the terms stands on the stack
+pub all_pushed : (n : ℕ) (ts : List Term) (i : ℕ) (t : Term) (new old rest : List Step) → 0 < i → i ≤ length ts → t ≡ get_or ts (i - 1) t → new ≡ enter n t ∷ old
+    → old ≡ map (enter n) (drop i ts) ++ rest → new ≡ map (enter n) (drop (i - 1) ts) ++ rest
+all_pushed n ts i t new old rest l m e f g = f ∙ ap (λ ss. enter n t ∷ ss) g ∙ sym (ap (λ us. map (enter n) us ++ rest) (one_off ts i t l m e))
 
 pub none_last : (f : List Term → Term) (ts : List Term) → with_last f 0 ts ≡ ts ++ f [] ∷ []
 none_last f ts = ap (with_last f 0) (sym (append-nil ts)) ∙ last_at f 0 ts [] refl
