@@ -1,5 +1,5 @@
 -- How far a proof goes.
-use Rattle.std.specs.Prelude.{◌≡◌, ℕ, List, Option, Some, take, slice_get}
+use Rattle.std.specs.Prelude.{◌≡◌, ℕ, List, Some, take, slice_get}
 use Rattle.proof_kernel.specs.Accepts.{Does, Runs}
 use Rattle.proof_kernel.specs.Progress.{Progress}
 use Rattle.proof_text.specs.declared.proof.NumberedStep.{NumberedStep}

@@ -15,7 +15,8 @@ const PAGES: [(Verb, &[u8], &str); 5] = [
     (
         Verb::Goals,
         b"fn quo(x: i32, y: i32) -> i32 { x / y }\n",
-        "f.rs:1:35: division, obligation 1 of quo\n    fn quo(x: i32, y: i32) -> i32 { x / y }\n                                      ^\n    f.proofs:4: the proof stops here, at\n    x: i32\n    y: i32\n    |- !(y@ == 0)\n\nf.rs:1:35: overflow, obligation 2 of quo\n    fn quo(x: i32, y: i32) -> i32 { x / y }\n                                      ^\n    no proof\n    x: i32\n    y: i32\n    |- !((x@ == -2147483648) && (y@ == -1))\n",
+        "f.rs:1:35: division, obligation 1 of quo\n    fn quo(x: i32, y: i32) -> i32 { x / y }\n                                      ^\n    f.proofs:4: the proof stops here, at\n    x: i32\n    y: i32\n    |- !(y@ == 0)\n\n\
+         f.rs:1:35: overflow, obligation 2 of quo\n    fn quo(x: i32, y: i32) -> i32 { x / y }\n                                      ^\n    no proof\n    x: i32\n    y: i32\n    |- !((x@ == -2147483648) && (y@ == -1))\n",
     ),
     (
         Verb::Goals,
