@@ -11,7 +11,6 @@ use Rattle.mir_ir.specs.declared.statement.Rvalue.TheVariants.{Use, Binary}
 use Rattle.mir_ir.specs.declared.terminator.Terminator.{Terminator}
 use Rattle.mir_ir.specs.WellFormed.{Locals, with, without, Within}
 use Rattle.source_kinds.specs.declared.kinds.BinaryOp.{BinaryOp}
-use Rattle.type_check.specs.declared.program.Signature.{Signature}
 use Rattle.type_check.specs.TypedExpr.{TypedExpr}
 use Rattle.type_check.specs.WellTyped.{Surroundings, IsWellTyped, EachSpeaks}
 use Rattle.mir_build.specs.Text.{Title, Line, Makes, Turns, made}
