@@ -90,15 +90,25 @@ fn target(rest: &str) -> Option<Target>
 fn put(direction: Direction, rest: &str) -> Option<Rewriting>
     ensures { result ≡ put_in direction rest.now }
 {
-    let (equation, target) = match cut(rest, ' ') {
-        None => (label(rest)?, Target::Goal),
-        Some((equation, rest)) => (label(equation)?, target(rest)?),
-    };
-    Some(Rewriting {
-        direction,
-        equation,
-        target,
-    })
+    match cut(rest, ' ') {
+        None => {
+            let equation = label(rest)?;
+            Some(Rewriting {
+                direction,
+                equation,
+                target: Target::Goal,
+            })
+        }
+        Some((first, second)) => {
+            let equation = label(first)?;
+            let target = target(second)?;
+            Some(Rewriting {
+                direction,
+                equation,
+                target,
+            })
+        }
+    }
 }
 
 /// Which equation is put where, from its first side to its second; the other way round behind `<`.
@@ -106,7 +116,13 @@ pub(crate) fn rewriting(rest: &str) -> Option<Rewriting>
     ensures { result ≡ rewriting_in rest.now }
 {
     match cut(rest, ' ') {
-        Some(("<", rest)) => put(Direction::Backward, rest),
-        _ => put(Direction::Forward, rest),
+        None => put(Direction::Forward, rest),
+        Some((word, others)) => {
+            if word == "<" {
+                put(Direction::Backward, others)
+            } else {
+                put(Direction::Forward, rest)
+            }
+        }
     }
 }
