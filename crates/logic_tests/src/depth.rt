@@ -10,14 +10,17 @@ use text_core::{Items, Name, Names, NoMemory};
 
 const DEPTH: u64 = 100000;
 
+/// Of the terms into which an equation is put.
+const PUT_DEPTH: u64 = 20000;
+
 fn integers() -> Sort {
     Ty::math_int()
 }
 
-/// `((0 + n) + n) + ..`
-fn deep_left(alloc: Global, number: i128) -> Result<Term, NoMemory> {
+/// `((0 + n) + n) + ..`, so many times.
+fn deep_left(alloc: Global, number: i128, times: u64) -> Result<Term, NoMemory> {
     let mut t = Term::integer(alloc, 0)?;
-    for _ in 0..DEPTH {
+    for _ in 0..times {
         t = Term::calculate(alloc, ArithOp::Add, t, Term::integer(alloc, number)?)?;
     }
     Ok(t)
@@ -52,7 +55,9 @@ fn is_gone_over(alloc: Global, t: &Term) -> Result<bool, NoMemory> {
 fn deep_equation(alloc: Global) -> Result<Term, NoMemory> {
     let one = Term::integer(alloc, 1)?;
     let two = Term::integer(alloc, 2)?;
-    let deep = Term::equal(alloc, deep_left(alloc, 1)?, deep_left(alloc, 2)?)?;
+    let ones = deep_left(alloc, 1, PUT_DEPTH)?;
+    let twos = deep_left(alloc, 2, PUT_DEPTH)?;
+    let deep = Term::equal(alloc, ones, twos)?;
     Term::implies(alloc, Term::equal(alloc, one, two)?, deep)
 }
 
@@ -83,7 +88,7 @@ fn text_length(alloc: Global, t: &Term) -> Result<usize, NoMemory> {
 #[test]
 fn deep_on_the_left(rt: HostRuntime) -> Result<(), Fail> {
     let alloc = rt.alloc();
-    let t = deep_left(alloc, 1)?;
+    let t = deep_left(alloc, 1, DEPTH)?;
     assert!(rt; is_gone_over(alloc, &t)?);
     assert!(rt; text_length(alloc, &t)? == 600001);
     Ok(())
