@@ -10,15 +10,16 @@ use Rattle.logic_term.proofs.CanonicalLaw.{same_up_to_names_means}
 use Rattle.proof_kernel.specs.Sequent.{Sequent}
 use Rattle.proof_kernel.specs.declared.setting.Tables.{Tables}
 use Rattle.proof_kernel.specs.declared.step.Step.{Step}
-use Rattle.proof_kernel.specs.declared.step.Step.TheVariants.{Intro, Hyp, Split, Range, Lin, OnGoal, OnHypothesis, OnTwo, Rewrite}
+use Rattle.proof_kernel.specs.declared.step.Step.TheVariants.{Intro, Hyp, Split, Range, Lin, OnGoal, OnHypothesis, OnTwo, Rewrite, OnTerm}
 use Rattle.proof_kernel.specs.Sequent.{IsTrueAt, AllTrueAt}
 use Rattle.proof_kernel.specs.Setting.{Setting, IsStructureOf, setting_of, theory_of}
-use Rattle.proof_kernel.specs.Derivation.{Gives, by_intro, by_hyp, by_split, by_range, by_lin, by_goal, by_hypothesis, by_two, by_rewriting, CitedAreTrue, Derives, no_step, one_step, IsProof}
+use Rattle.proof_kernel.specs.Derivation.{Gives, by_intro, by_hyp, by_split, by_range, by_lin, by_goal, by_hypothesis, by_two, by_rewriting, by_term, CitedAreTrue, Derives, no_step, one_step, IsProof}
 use Rattle.proof_kernel.proofs.Sound.{held, conjuncts_sound, ranged_sound}
 use Rattle.proof_kernel.proofs.GoalSound.{goal_sound}
 use Rattle.proof_kernel.proofs.HypothesisSound.{hypothesis_sound}
 use Rattle.proof_kernel.proofs.PairSound.{pair_sound}
 use Rattle.proof_kernel.proofs.RewriteSound.{rewrite_sound}
+use Rattle.proof_kernel.proofs.TermSound.{term_sound}
 use Rattle.proof_kernel.proofs.IntroSound.{intros_sound}
 use Rattle.proof_kernel.proofs.LinearSound.{certifies_sound}
 
@@ -37,6 +38,7 @@ nothing_cited w S (OnGoal r) = tt
 nothing_cited w S (OnHypothesis r l) = tt
 nothing_cited w S (OnTwo r l m) = tt
 nothing_cited w S (Rewrite r) = tt
+nothing_cited w S (OnTerm r t) = tt
 
 module _ (w : Setting) (S : Structure) (is : IsStructureOf w S) where
   pub gives_sound : (s : ℕ) (q : Sequent) (step : Step) (ps : List Sequent) → Gives w s q step ps → CitedAreTrue w S step → AllTrueAt S ps → IsTrueAt S q
@@ -49,6 +51,7 @@ module _ (w : Setting) (S : Structure) (is : IsStructureOf w S) where
   gives_sound s q step ps (by_hypothesis {r = r} {l = l} e) cited h = hypothesis_sound S s q ps h r l e
   gives_sound s q step ps (by_two {r = r} {l = l} {m = m} e) cited h = pair_sound S s q ps h r l m e
   gives_sound s q step ps (by_rewriting {r = r} e) cited h = rewrite_sound S s q ps h r e
+  gives_sound s q step ps (by_term {r = r} {t = t} e) cited h = term_sound S s q ps h r t e
 
   both_true : (ps qs : List Sequent) → AllTrueAt S (ps ++ qs) → AllTrueAt S ps × AllTrueAt S qs
   both_true [] qs h = (tt, h)

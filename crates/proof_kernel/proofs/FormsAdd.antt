@@ -18,6 +18,10 @@ use Rattle.proof_kernel.specs.declared.step.Target.TheVariants as targets
 use Rattle.proof_kernel.specs.GoalRules.{is_reflexive, is_true, left_of, right_of, denied_of, both_ways, both_orders, to_show, to_show_all, to_refute, goal_rule}
 use Rattle.proof_kernel.specs.HypothesisRules.{is_false, cases_of, in_cases, on_hypothesis, hypothesis_rule}
 use Rattle.proof_kernel.specs.PairRules.{concluded, is_denied_by, distance, product, adding, on_two, pair_rule}
+use Rattle.source_trees.specs.Pterm.{Pterm}
+use Rattle.proof_kernel.specs.declared.step.TermRule.{TermRule}
+use Rattle.proof_kernel.specs.declared.step.TermRule.TheVariants.{Cut, On}
+use Rattle.proof_kernel.specs.TermRules.{formula_at, on_formula, by_formula, term_rule}
 use Rattle.proof_kernel.specs.RewriteRules.{rewritten, changing, rewrite_rule}
 use Rattle.proof_kernel.specs.Rules.{label, same_label, hypothesis, without, labelled, with_goal, with_hyps, closed_if}
 use Rattle.proof_kernel.specs.Steps.{label_of_target, labels_of, IsLabelOf}
@@ -133,3 +137,14 @@ module _ (P : Label2 → Type 0) (N : Name → Type 0) (s : ℕ) (own : (k : ℕ
 
   pub rewriting_has : (r : Rewriting) → rewrite_rule r s q ≡ Some ps → Each (Has P N) ps
   rewriting_has r e = let f = rewriting_found r s q ps e in changing_has r.target (rewritten f.1.0 f.1.1) f.4
+
+  on_formula_has : (r : TermRule) (f : Term) → Each (Has P N) (on_formula r s q f)
+  on_formula_has Cut f = (has, (more_has (f ∷ []), tt))
+  on_formula_has On f = (more_has (f ∷ []), (more_has (not f ∷ []), tt))
+
+  by_formula_has : (r : TermRule) (o : Option Term) → by_formula r s q o ≡ Some ps → Each (Has P N) ps
+  by_formula_has r None e = absurd (cc)
+  by_formula_has r (Some f) e = these_have _ e (on_formula_has r f)
+
+  pub term_has : (r : TermRule) (t : Pterm) → term_rule r s q t ≡ Some ps → Each (Has P N) ps
+  term_has r t e = by_formula_has r (formula_at q t) e

@@ -10,22 +10,25 @@ use Rattle.logic_term.specs.Canonical.{SameUpToNames}
 use Rattle.proof_kernel.specs.declared.step.Multiple.{Multiple}
 use Rattle.proof_kernel.specs.Sequent.{Sequent}
 use Rattle.proof_kernel.specs.declared.step.Step.{Step}
-use Rattle.proof_kernel.specs.declared.step.Step.TheVariants.{Intro, Hyp, Split, Range, Lin, OnGoal, OnHypothesis, OnTwo, Rewrite}
+use Rattle.proof_kernel.specs.declared.step.Step.TheVariants.{Intro, Hyp, Split, Range, Lin, OnGoal, OnHypothesis, OnTwo, Rewrite, OnTerm}
 use Rattle.proof_kernel.specs.declared.kernel.Made.{Made}
 use Rattle.proof_kernel.specs.declared.kernel.Made.TheVariants.{Premises, TooWide, Nothing}
 use Rattle.proof_kernel.specs.Setting.{Setting}
 use Rattle.proof_kernel.specs.Progress.{Progress}
 use Rattle.proof_kernel.proofs.Once.{given}
-use Rattle.proof_kernel.specs.Derivation.{Gives, by_intro, by_hyp, by_split, by_range, by_lin, by_goal, by_hypothesis, by_two, by_rewriting}
+use Rattle.proof_kernel.specs.Derivation.{Gives, by_intro, by_hyp, by_split, by_range, by_lin, by_goal, by_hypothesis, by_two, by_rewriting, by_term}
 use Rattle.proof_kernel.specs.Linear.{Certifies}
 use Rattle.proof_kernel.specs.declared.step.GoalRule.{GoalRule}
 use Rattle.proof_kernel.specs.declared.step.HypothesisRule.{HypothesisRule}
 use Rattle.proof_kernel.specs.declared.step.PairRule.{PairRule}
 use Rattle.proof_kernel.specs.declared.step.Rewriting.{Rewriting}
+use Rattle.proof_kernel.specs.declared.step.TermRule.{TermRule}
+use Rattle.source_trees.specs.Pterm.{Pterm}
 use Rattle.proof_kernel.specs.GoalRules.{goal_rule}
 use Rattle.proof_kernel.specs.HypothesisRules.{hypothesis_rule}
 use Rattle.proof_kernel.specs.PairRules.{pair_rule}
 use Rattle.proof_kernel.specs.RewriteRules.{rewrite_rule}
+use Rattle.proof_kernel.specs.TermRules.{term_rule}
 use Rattle.proof_kernel.specs.Rules.{Finds, hypothesis, sort_of, with_goal, conjuncts, ranged, Intros, TakesSome}
 use Rattle.proof_kernel.specs.Kernel.{Applies, IsWide}
 use Rattle.proof_kernel.specs.Made.{IsMadeFirst, PassesWidthAt, others_of}
@@ -42,6 +45,7 @@ wide_at w q qs (OnGoal r) s p = absurd p
 wide_at w q qs (OnHypothesis r l) s p = absurd p
 wide_at w q qs (OnTwo r l m) s p = absurd p
 wide_at w q qs (Rewrite r) s p = absurd p
+wide_at w q qs (OnTerm r t) s p = absurd p
 wide_at w q qs (Lin ms) s p = record { first = q; others = qs; multiples = ms; was = refl; is_lin = refl; passes = p }
 
 is_wide : (w : Setting) (left : List Sequent) (step : Step) (s : ℕ) → IsMadeFirst w s left step TooWide → IsWide (at w s left) step
@@ -135,3 +139,9 @@ module _ (w : Setting) (s : ℕ) (q : Sequent) (o : Option (Vec Sequent)) where
 
   pub no_rewriting : (r : Rewriting) → o ≡ None → Finds (rewrite_rule r s q) o → (ps : List Sequent) → Gives w s q (Rewrite r) ps → ⊥
   no_rewriting r e f ps g = none_is (rewrite_rule r s q) o ps e f (given w s q (Rewrite r) ps g)
+
+  pub term_given : (r : TermRule) (t : Pterm) (v : Vec Sequent) → o ≡ Some v → Finds (term_rule r s q t) o → Gives w s q (OnTerm r t) v.items
+  term_given r t v e f = by_term (found_is (term_rule r s q t) o v e f)
+
+  pub no_term : (r : TermRule) (t : Pterm) → o ≡ None → Finds (term_rule r s q t) o → (ps : List Sequent) → Gives w s q (OnTerm r t) ps → ⊥
+  no_term r t e f ps g = none_is (term_rule r s q t) o ps e f (given w s q (OnTerm r t) ps g)

@@ -39,3 +39,4 @@ pub mod RewriteSound
 pub mod SortValue
 pub mod Sound
 pub mod Taken
+pub mod TermSound

@@ -28,3 +28,4 @@ pub mod SequentGoalView
 pub mod Setting
 pub mod SortTests
 pub mod Steps
+pub mod TermRules

@@ -11,7 +11,7 @@ use Rattle.proof_kernel.specs.declared.step.Reference.TheVariants.{Goal, Hyp as 
 use Rattle.proof_kernel.specs.declared.step.Step.{Step}
 use Rattle.proof_kernel.specs.declared.step.Target.{Target}
 use Rattle.proof_kernel.specs.declared.step.Target.TheVariants as targets
-use Rattle.proof_kernel.specs.declared.step.Step.TheVariants.{Intro, Hyp, Split, Range, Lin, OnGoal, OnHypothesis, OnTwo, Rewrite}
+use Rattle.proof_kernel.specs.declared.step.Step.TheVariants.{Intro, Hyp, Split, Range, Lin, OnGoal, OnHypothesis, OnTwo, Rewrite, OnTerm}
 use Rattle.proof_kernel.specs.Rules.{hypothesis, sort_of}
 
 abbrev pub labels_in : Reference → List Label2
@@ -34,6 +34,7 @@ labels_of (OnGoal r) = []
 labels_of (OnHypothesis r l) = l ∷ []
 labels_of (OnTwo r l m) = l ∷ m ∷ []
 labels_of (Rewrite r) = r.equation ∷ label_of_target r.target
+labels_of (OnTerm r t) = []
 
 -- the names that the step gives to variables of its premises
 abbrev pub new_names : Step → List Name
@@ -46,6 +47,7 @@ new_names (OnGoal r) = []
 new_names (OnHypothesis r l) = []
 new_names (OnTwo r l m) = []
 new_names (Rewrite r) = []
+new_names (OnTerm r t) = []
 
 -- ---- what is there, and what is added
 

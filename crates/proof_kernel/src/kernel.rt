@@ -14,13 +14,15 @@ use crate::intro::intro;
 use crate::linear::{LinAnswer, certifies};
 use crate::pair_rules::pair_rule;
 use crate::rewrite_rules::rewrite_rule;
+use crate::term_rules::term_rule;
 use crate::rules::{is_hypothesis, one_premise, range, split};
 use crate::sequent::Sequent;
 use crate::setting::{Scope, Tables};
 use crate::step::{
-    GoalRule, HypothesisRule, Multiple, PairRule, Reference, Rewriting, Step, Target,
+    GoalRule, HypothesisRule, Multiple, PairRule, Reference, Rewriting, Step, Target, TermRule,
 };
 use logic_term::{Label2, Obligation};
+use source_trees::Pterm;
 use std::alloc::Global;
 use std::marker::Model;
 use text_core::{Items, Name, NoMemory};
@@ -120,7 +122,11 @@ fn cites_in_order(number: u32, step: &Step) -> bool
             is_label_above(number, *first) && is_label_above(number, *second)
         }
         Step::Rewrite(rewriting) => is_rewriting_in_order(number, *rewriting),
-        Step::Intro(_) | Step::Split | Step::Range(_) | Step::OnGoal(_) => true,
+        Step::Intro(_)
+        | Step::Split
+        | Step::Range(_)
+        | Step::OnGoal(_)
+        | Step::OnTerm(_, _) => true,
     }
 }
 
@@ -277,6 +283,22 @@ fn by_rewriting(
     }
 }
 
+fn by_term(
+    alloc: Global,
+    scope: &Scope<'_>,
+    number: u32,
+    rule: TermRule,
+    t: &Pterm,
+    q: &Sequent,
+) -> Result<Made, NoMemory>
+    ensures { IfOk result (λ made. IsMade (setting scope.now) number q.now (kinds.OnTerm rule t.now) made) }
+{
+    match term_rule(alloc, rule, number, t, q)? {
+        None => Ok(Made::Nothing),
+        Some(premises) => Ok(Made::Premises(premises)),
+    }
+}
+
 /// What the step with this number makes of the sequent.
 fn made_of(
     alloc: Global,
@@ -299,6 +321,7 @@ fn made_of(
             by_two(alloc, scope, number, *rule, *first, *second, q)
         }
         Step::Rewrite(rewriting) => by_rewriting(alloc, scope, number, *rewriting, q),
+        Step::OnTerm(rule, t) => by_term(alloc, scope, number, *rule, t, q),
     }
 }
 

@@ -18,6 +18,7 @@ mod sequent;
 mod setting;
 mod sort_tests;
 mod step;
+mod term_rules;
 
 pub use kernel::{Kernel, StepError};
 pub use laws::{

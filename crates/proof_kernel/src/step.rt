@@ -1,4 +1,5 @@
 use logic_term::Label2;
+use source_trees::Pterm;
 use text_core::{Items, Name};
 
 /// What a linear step takes a row from.
@@ -51,6 +52,8 @@ pub enum HypothesisRule {
     Drop,
     /// Puts it before the goal as a premise.
     Revert,
+    /// `a@ == b@` of one machine type: adds `a == b`.
+    Back,
 }
 
 /// A rule by the forms of two hypotheses.
@@ -62,6 +65,15 @@ pub enum PairRule {
     Contradiction,
     /// `a <= b` and `c <= d`: adds `0 <= (b - a) * (d - c)`.
     Product,
+}
+
+/// A rule by a term, which is elaborated at the first sequent.
+#[derive(Clone, Copy)]
+pub enum TermRule {
+    /// A formula is shown, and is a hypothesis from there on.
+    Cut,
+    /// A formula is true, and then false.
+    On,
 }
 
 /// Which side of an equation is replaced by the other.
@@ -110,4 +122,6 @@ pub enum Step {
     OnTwo(PairRule, Label2, Label2),
     /// Puts an equation into the goal, or into a hypothesis.
     Rewrite(Rewriting),
+    /// By a term.
+    OnTerm(TermRule, Pterm),
 }

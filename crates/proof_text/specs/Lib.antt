@@ -5,4 +5,5 @@ pub mod ProofTextLaws
 pub mod ProofTextLines
 pub mod ProofTextReads
 pub mod ProofTextRules
+pub mod ProofTextTerms
 pub mod ProofTextWords

@@ -8,12 +8,13 @@ use Rattle.std.specs.Option.{option_map}
 use Rattle.std.specs.Str.{bytes_eq, is_utf8}
 use Rattle.proof_kernel.specs.declared.step.Multiple.{Multiple}
 use Rattle.proof_kernel.specs.declared.step.Step.{Step}
-use Rattle.proof_kernel.specs.declared.step.Step.TheVariants.{Intro, Hyp, Split, Range, Lin, OnGoal, OnHypothesis, OnTwo, Rewrite}
+use Rattle.proof_kernel.specs.declared.step.Step.TheVariants.{Intro, Hyp, Split, Range, Lin, OnGoal, OnHypothesis, OnTwo, Rewrite, OnTerm}
 use Rattle.text_core.specs.Names.{words}
 use Rattle.text_core.specs.declared.name.Name.{Name}
 use Rattle.rs_tokens.specs.Tokens.{is_identifier}
 use Rattle.proof_text.specs.ProofTextWords.{◌>>=◌, number_of, label_of, multiple_of, cut}
-use Rattle.proof_text.specs.ProofTextRules.{goal_word, hypothesis_word, pair_word, labels_in, rewriting_in}
+use Rattle.proof_text.specs.ProofTextRules.{goal_word, hypothesis_word, pair_word, term_word, labels_in, rewriting_in}
+use Rattle.proof_text.specs.ProofTextTerms.{SpellsWholeTerm}
 
 -- ---- a line
 
@@ -66,6 +67,7 @@ word_of (OnGoal rule) = goal_word rule
 word_of (OnHypothesis rule label) = hypothesis_word rule
 word_of (OnTwo rule label other) = pair_word rule
 word_of (Rewrite rewriting) = codes "rewrite"
+word_of (OnTerm rule t) = term_word rule
 
 -- the rest of its line, under the table's names
 abbrev pub SpellsRest : List (List ℕ) → Option (List ℕ) → Step → Type 0
@@ -78,6 +80,7 @@ SpellsRest table rest (OnGoal rule) = rest ≡ None
 SpellsRest table rest (OnHypothesis rule label) = (rest >>= labels_in) ≡ Some (label, None)
 SpellsRest table rest (OnTwo rule label other) = (rest >>= labels_in) ≡ Some (label, Some other)
 SpellsRest table rest (Rewrite rewriting) = (rest >>= rewriting_in) ≡ Some rewriting
+SpellsRest table rest (OnTerm rule t) = (text : List ℕ) × (rest ≡ Some text) × SpellsWholeTerm table text t
 
 -- the head and the rest spell the step
 abbrev pub SpellsParts : List (List ℕ) → List ℕ → Option (List ℕ) → Step → Type 0

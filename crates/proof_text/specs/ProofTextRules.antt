@@ -6,7 +6,7 @@ use Rattle.logic_term.specs.declared.kinds.Label2.{Label2}
 use Rattle.proof_kernel.specs.declared.step.GoalRule.{GoalRule}
 use Rattle.proof_kernel.specs.declared.step.GoalRule.TheVariants.{Refl, Truth, Left, Right, Contra, ByContradiction, Iff, Antisymmetry}
 use Rattle.proof_kernel.specs.declared.step.HypothesisRule.{HypothesisRule}
-use Rattle.proof_kernel.specs.declared.step.HypothesisRule.TheVariants.{Cases, Absurd, Drop, Revert}
+use Rattle.proof_kernel.specs.declared.step.HypothesisRule.TheVariants.{Cases, Absurd, Drop, Revert, Back}
 use Rattle.proof_kernel.specs.declared.step.PairRule.{PairRule}
 use Rattle.proof_kernel.specs.declared.step.PairRule.TheVariants.{ModusPonens, Contradiction, Product}
 use Rattle.proof_kernel.specs.declared.step.Direction.{Direction}
@@ -14,6 +14,8 @@ use Rattle.proof_kernel.specs.declared.step.Direction.TheVariants.{Forward, Back
 use Rattle.proof_kernel.specs.declared.step.Rewriting.{Rewriting}
 use Rattle.proof_kernel.specs.declared.step.Target.{Target}
 use Rattle.proof_kernel.specs.declared.step.Target.TheVariants.{Goal, Hyp}
+use Rattle.proof_kernel.specs.declared.step.TermRule.{TermRule}
+use Rattle.proof_kernel.specs.declared.step.TermRule.TheVariants.{Cut, On}
 use Rattle.proof_text.specs.ProofTextWords.{◌>>=◌, label_of, cut}
 
 -- ---- the words
@@ -33,11 +35,16 @@ hypothesis_word Cases = codes "cases"
 hypothesis_word Absurd = codes "absurd"
 hypothesis_word Drop = codes "drop"
 hypothesis_word Revert = codes "revert"
+hypothesis_word Back = codes "back"
 
 abbrev pub pair_word : PairRule → List ℕ
 pair_word ModusPonens = codes "mp"
 pair_word Contradiction = codes "absurd"
 pair_word Product = codes "mul"
+
+abbrev pub term_word : TermRule → List ℕ
+term_word Cut = codes "cut"
+term_word On = codes "on"
 
 -- ---- the labels behind them
 

@@ -1,0 +1,5 @@
+use Rattle.logic_elab.proofs.SameSorts.{same_ty_is}
+use Rattle.logic_elab.proofs.sorts.same_ty.Goals as goal
+
+pub returns : goal.returns
+returns c = same_ty_is c.args.t.now c.args.u.now c.same.result c.same.ensures

@@ -1,0 +1,21 @@
+-- What a source is refused for, how parts come one after another, and how the code's answers stand for what a definition comes to.
+use Rattle.std.specs.Prelude.{Bool, None, Result, Ok, Err, if◌then◌else◌}
+use Rattle.text_core.specs.declared.refusal.Code.TheVariants.{E20}
+use Rattle.text_core.specs.declared.refusal.SourceError.{SourceError}
+use Rattle.text_core.specs.declared.span.Span.{Span}
+pub use Rattle.rs_types.specs.Meant.{◌>>=◌, unknown_name, mismatch, Refuses, Answers}
+
+-- a form that is not built
+abbrev pub unbuilt : Span → SourceError
+unbuilt s = record { code = E20; span = s; other = None }
+
+-- the value where the test holds, else a type that is not the one wanted
+abbrev pub wanted : {A : Type 0} → Bool → Span → A → Result A SourceError
+wanted b s a = if b then Ok a else Err (mismatch s)
+
+-- two parts, the first one first
+abbrev pub pair : {A B : Type 0} → Result A SourceError → Result B SourceError → Result (A × B) SourceError
+pair one other = do
+  a ← one
+  b ← other
+  Ok (a, b)

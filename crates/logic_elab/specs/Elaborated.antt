@@ -1,0 +1,139 @@
+-- The terms that the terms of contracts become, with their sorts (Pearlite, Creusot). Literals without suffix and all
+-- arithmetic are of the unbounded integers.
+use Rattle.std.specs.Prelude.{ℤ, Bool, true, false, [], Option, Some, None, Result, Ok, Err, if◌then◌else◌}
+use Rattle.text_core.specs.declared.name.Name.{Name}
+use Rattle.text_core.specs.declared.refusal.SourceError.{SourceError}
+use Rattle.text_core.specs.declared.span.Span.{Span}
+use Rattle.source_kinds.specs.declared.kinds.IntKind.{IntKind}
+use Rattle.source_kinds.specs.Range.{fits}
+use Rattle.logic_term.specs.Term.{Term, var, lit, truth as truth_term, model, negative as negative_term, not as not_term, calculate, is_less, is_at_most, is_equal, and as and_term, or as or_term, implies as implies_term}
+use Rattle.logic_term.specs.Ty.{Ty, int, bool, math_int}
+use Rattle.source_kinds.specs.declared.kinds.Comparison.{Comparison}
+use Rattle.source_kinds.specs.declared.kinds.Comparison.TheVariants.{Eq, Ne, Lt, Le, Gt, Ge}
+use Rattle.source_trees.specs.declared.operator.BinaryTerm.TheVariants.{Implies, Or, And, Compare, Calculate}
+use Rattle.source_trees.specs.declared.operator.UnaryTerm.TheVariants.{Neg, Not, View}
+use Rattle.source_trees.specs.declared.path.Segment.{Segment}
+use Rattle.source_trees.specs.Pterm as T
+use Rattle.source_trees.specs.Pterm.{Pterm}
+use Rattle.source_trees.specs.PtermView.{span_of}
+use Rattle.logic_elab.specs.declared.sorted.SortedTerm.{SortedTerm}
+use Rattle.logic_elab.specs.Answers.{◌>>=◌, unknown_name, mismatch, unbuilt, wanted, pair}
+use Rattle.logic_elab.specs.Scope.{Scope}
+use Rattle.logic_elab.specs.Sorts.{same_ty, is_math_int, is_bool}
+use Rattle.logic_elab.specs.declared.scope.Symbol.{Symbol}
+use Rattle.source_trees.specs.declared.path.PathNode.{PathNode}
+use Rattle.source_trees.specs.declared.path.PathNode.TheVariants.{Names}
+
+abbrev pub sorted : Ty → Term → SortedTerm
+sorted s t = record { sort = s; term = t }
+
+unfoldable pub literal : Span → ℤ → Option IntKind → Result SortedTerm SourceError
+literal s z None = Ok (sorted math_int (lit z math_int))
+literal s z (Some k) = wanted (fits k z) s (sorted (int k) (lit z (int k)))
+
+-- a path that is a name alone
+unfoldable pub name_alone : PathNode → Option Segment
+name_alone (Names first [] []) = Some first
+name_alone _ = None
+
+abbrev pub symbol_term : Symbol → SortedTerm
+symbol_term x = sorted x.sort (var x.name)
+
+abbrev pub symbol_or : Span → Option Symbol → Result SortedTerm SourceError
+symbol_or s None = Err (unknown_name s)
+symbol_or s (Some x) = Ok (symbol_term x)
+
+abbrev pub name_term : Scope → Span → Name → Result SortedTerm SourceError
+name_term Γ s x = symbol_or s (Γ.variable x)
+
+abbrev pub named_term : Scope → Span → Option Segment → Result SortedTerm SourceError
+named_term Γ s None = Err (unbuilt s)
+named_term Γ s (Some x) = name_term Γ s x.name
+
+-- `result` by its name: the answer, where it is spoken of; else a variable as each other name
+abbrev pub answer_or : Scope → Span → Name → Option Symbol → Result SortedTerm SourceError
+answer_or Γ s x None = name_term Γ s x
+answer_or Γ s x (Some a) = Ok (symbol_term a)
+
+abbrev pub answer_term : Scope → Span → Name → Result SortedTerm SourceError
+answer_term Γ s x = answer_or Γ s x Γ.answer
+
+-- the unbounded integer of a machine integer
+abbrev pub model_of_sort : Ty → Span → Term → Result SortedTerm SourceError
+model_of_sort (int k) s t = Ok (sorted math_int (model t))
+model_of_sort _ s t = Err (mismatch s)
+
+unfoldable pub model_of : Span → SortedTerm → Result SortedTerm SourceError
+model_of s a = model_of_sort a.sort s a.term
+
+-- a term that has to be a formula, of an unbounded integer
+unfoldable pub formula : Span → SortedTerm → Result Term SourceError
+formula s a = wanted (is_bool a.sort) s a.term
+
+unfoldable pub number : Span → SortedTerm → Result Term SourceError
+number s a = wanted (is_math_int a.sort) s a.term
+
+abbrev pub ordered : Comparison → Term → Term → Term
+ordered Lt t u = is_less t u
+ordered Le t u = is_at_most t u
+ordered Gt t u = is_less u t
+ordered Ge t u = is_at_most u t
+ordered Eq t u = is_equal t u
+ordered Ne t u = not_term (is_equal t u)
+
+abbrev pub is_ordering : Comparison → Bool
+is_ordering Eq = false
+is_ordering Ne = false
+is_ordering _ = true
+
+-- integers of one sort, by their unbounded integers
+abbrev pub ordered_at : Ty → Comparison → Span → Term → Term → Result SortedTerm SourceError
+ordered_at math_int op s t u = Ok (sorted bool (ordered op t u))
+ordered_at (int k) op s t u = Ok (sorted bool (ordered op (model t) (model u)))
+ordered_at _ op s t u = Err (mismatch s)
+
+-- the spans are those of the two terms
+unfoldable pub compared : Comparison → Span → Span → SortedTerm → SortedTerm → Result SortedTerm SourceError
+compared op s r a b =
+    if same_ty b.sort a.sort then
+    (if is_ordering op then ordered_at a.sort op s a.term b.term else Ok (sorted bool (ordered op a.term b.term)))
+    else Err (mismatch r)
+
+abbrev pub connected : (Term → Term → Term) → Term × Term → Result SortedTerm SourceError
+connected op p = Ok (sorted bool (op p.0 p.1))
+
+-- the term over what its names mean; what has no row is not built
+abbrev pub elaborated : Scope → Pterm → Result SortedTerm SourceError
+elaborated Γ (T.integer s z k) = literal s z k
+elaborated Γ (T.truth s b) = Ok (sorted bool (truth_term b))
+elaborated Γ (T.answer s x) = answer_term Γ s x
+elaborated Γ (T.path s p) = named_term Γ s (name_alone p.node)
+elaborated Γ (T.unary s View t) = do
+  a ← elaborated Γ t
+  model_of (span_of t) a
+elaborated Γ (T.unary s Neg t) = do
+  a ← elaborated Γ t
+  x ← number (span_of t) a
+  Ok (sorted math_int (negative_term x))
+elaborated Γ (T.unary s Not t) = do
+  a ← elaborated Γ t
+  p ← formula (span_of t) a
+  Ok (sorted bool (not_term p))
+elaborated Γ (T.binary s (Calculate op) t u) = do
+  a ← elaborated Γ t
+  b ← elaborated Γ u
+  x ← number (span_of t) a
+  y ← number (span_of u) b
+  Ok (sorted math_int (calculate op x y))
+elaborated Γ (T.binary s (Compare op) t u) = do
+  a ← elaborated Γ t
+  b ← elaborated Γ u
+  compared op (span_of t) (span_of u) a b
+elaborated Γ (T.binary s And t u) = pair (elaborated Γ t >>= formula (span_of t)) (elaborated Γ u >>= formula (span_of u)) >>= connected and_term
+elaborated Γ (T.binary s Or t u) = pair (elaborated Γ t >>= formula (span_of t)) (elaborated Γ u >>= formula (span_of u)) >>= connected or_term
+elaborated Γ (T.binary s Implies t u) = pair (elaborated Γ t >>= formula (span_of t)) (elaborated Γ u >>= formula (span_of u)) >>= connected implies_term
+elaborated Γ t = Err (unbuilt (span_of t))
+
+-- a term that is a formula
+abbrev pub asserted : Scope → Pterm → Result Term SourceError
+asserted Γ t = elaborated Γ t >>= formula (span_of t)

@@ -1,0 +1,392 @@
+ghost use Rattle.std.specs.Prelude.{◌≡◌, false, IfOk};
+ghost use Rattle.logic_term.specs.Term.{model, truth};
+ghost use Rattle.logic_term.specs.Ty.{bool, math_int};
+ghost use Rattle.source_trees.specs.PtermView.{span_of};
+ghost use Rattle.logic_elab.specs.Answers.{Answers};
+ghost use Rattle.logic_elab.specs.Chains.{behind, calculated, connection, has_left};
+ghost use Rattle.logic_elab.specs.Elaborated.{sorted, literal, name_alone, symbol_term, symbol_or, name_term, named_term, answer_term, model_of, formula, number, ordered, is_ordering, ordered_at, compared, elaborated, asserted};
+
+use crate::chain::{Connective, TermDescent, TermOperation, descend};
+use crate::refusal::{mismatch, unbuilt, unknown_name};
+use crate::scope::{Symbol, TermScope};
+use crate::sorted::SortedTerm;
+use crate::sorts::{fits, is_bool, is_math_int, same_ty};
+use logic_term::{Term, Ty, TyNode};
+use source_kinds::{ArithOp, Comparison, IntKind};
+use source_trees::{Path, PathNode, Pterm, PtermNode, Segment, UnaryTerm};
+use std::alloc::Global;
+use text_core::{Boxed, Name, NoMemory, PassError, Span};
+
+/// From the term's first token to its last.
+fn span_of(t: &Pterm) -> Span
+    ensures { result ≡ span_of t.now }
+{
+    t.span
+}
+
+fn of_sort(alloc: Global, sort: Ty, term: Term) -> Result<SortedTerm, NoMemory>
+    ensures { IfOk result (λ t. t ≡ sorted sort term) }
+{
+    let term = Boxed::new(alloc, term)?;
+    Ok(SortedTerm { sort, term })
+}
+
+fn formula_of_sort(alloc: Global, term: Term) -> Result<SortedTerm, NoMemory>
+    ensures { IfOk result (λ t. t ≡ sorted bool term) }
+{
+    of_sort(alloc, Ty::bool(), term)
+}
+
+fn truth_term(alloc: Global, holds: bool) -> Result<SortedTerm, NoMemory>
+    ensures { IfOk result (λ t. t ≡ sorted bool (truth holds)) }
+{
+    let term = Term::truth(alloc, holds)?;
+    formula_of_sort(alloc, term)
+}
+
+fn number_of_sort(alloc: Global, term: Term) -> Result<SortedTerm, NoMemory>
+    ensures { IfOk result (λ t. t ≡ sorted math_int term) }
+{
+    of_sort(alloc, Ty::math_int(), term)
+}
+
+#[tactic(auto, unfolding(crate::specs::Elaborated::literal))]
+fn literal(
+    alloc: Global,
+    number: i128,
+    kind: Option<IntKind>,
+    span: Span,
+) -> Result<SortedTerm, PassError>
+    ensures { Answers result (literal span number kind) }
+{
+    match kind {
+        None => {
+            let term = Term::integer(alloc, number)?;
+            Ok(number_of_sort(alloc, term)?)
+        }
+        Some(kind) if fits(kind, number) => {
+            let term = Term::lit(alloc, number, Ty::int(kind))?;
+            Ok(of_sort(alloc, Ty::int(kind), term)?)
+        }
+        Some(_) => Err(mismatch(span)),
+    }
+}
+
+/// The name that the path is, if it is one alone.
+#[tactic(auto, unfolding(crate::specs::Elaborated::name_alone))]
+fn name_alone(path: &Path) -> Option<Segment>
+    ensures { result ≡ name_alone path.now.node }
+{
+    match &path.node {
+        PathNode::Names(first, others, types) if others.is_empty() && types.is_empty() => {
+            Some(*first)
+        }
+        _ => None,
+    }
+}
+
+/// The variable as a term.
+fn symbol_term(alloc: Global, symbol: Symbol) -> Result<SortedTerm, NoMemory>
+    ensures { IfOk result (λ t. t ≡ symbol_term symbol) }
+{
+    let Symbol { name, sort } = symbol;
+    let term = Term::var(alloc, name)?;
+    of_sort(alloc, sort, term)
+}
+
+fn symbol_or(alloc: Global, span: Span, symbol: Option<Symbol>) -> Result<SortedTerm, PassError>
+    ensures { Answers result (symbol_or span symbol) }
+{
+    match symbol {
+        Some(symbol) => Ok(symbol_term(alloc, symbol)?),
+        None => Err(unknown_name(span)),
+    }
+}
+
+fn name_term<S: TermScope>(
+    alloc: Global,
+    scope: &S,
+    span: Span,
+    name: Name,
+) -> Result<SortedTerm, PassError>
+    ensures { Answers result (name_term (S.scope scope.now) span name) }
+{
+    let symbol = scope.variable(alloc, name)?;
+    symbol_or(alloc, span, symbol)
+}
+
+/// A name as a term.
+fn named_term<S: TermScope>(
+    alloc: Global,
+    scope: &S,
+    span: Span,
+    name: Option<Segment>,
+) -> Result<SortedTerm, PassError>
+    ensures { Answers result (named_term (S.scope scope.now) span name) }
+{
+    match name {
+        None => Err(unbuilt(span)),
+        Some(name) => name_term(alloc, scope, span, name.name),
+    }
+}
+
+/// `result`: the answer where it is spoken of, else a variable.
+fn answer_term<S: TermScope>(
+    alloc: Global,
+    scope: &S,
+    span: Span,
+    name: Name,
+) -> Result<SortedTerm, PassError>
+    ensures { Answers result (answer_term (S.scope scope.now) span name) }
+{
+    match scope.answer(alloc)? {
+        Some(symbol) => Ok(symbol_term(alloc, symbol)?),
+        None => name_term(alloc, scope, span, name),
+    }
+}
+
+/// `t@`
+#[tactic(auto, unfolding(crate::specs::Elaborated::model_of))]
+fn model_of(alloc: Global, span: Span, t: SortedTerm) -> Result<SortedTerm, PassError>
+    ensures { Answers result (model_of span t) }
+{
+    let SortedTerm { sort, term } = t;
+    match &sort.node {
+        TyNode::Int(_) => {
+            let model = Term::model(alloc, term.into_inner())?;
+            Ok(number_of_sort(alloc, model)?)
+        }
+        _ => Err(mismatch(span)),
+    }
+}
+
+#[tactic(auto, unfolding(crate::specs::Elaborated::formula))]
+fn formula(span: Span, t: SortedTerm) -> Result<Boxed<Term>, PassError>
+    ensures { Answers result (formula span t) }
+{
+    let SortedTerm { sort, term } = t;
+    if is_bool(&sort) {
+        Ok(term)
+    } else {
+        Err(mismatch(span))
+    }
+}
+
+#[tactic(auto, unfolding(crate::specs::Elaborated::number))]
+fn number(span: Span, t: SortedTerm) -> Result<Boxed<Term>, PassError>
+    ensures { Answers result (number span t) }
+{
+    let SortedTerm { sort, term } = t;
+    if is_math_int(&sort) {
+        Ok(term)
+    } else {
+        Err(mismatch(span))
+    }
+}
+
+fn ordered(alloc: Global, op: Comparison, a: Boxed<Term>, b: Boxed<Term>) -> Result<Term, NoMemory>
+    ensures { IfOk result (λ t. t ≡ ordered op a b) }
+{
+    let a = a.into_inner();
+    let b = b.into_inner();
+    match op {
+        Comparison::Lt => Term::less(alloc, a, b),
+        Comparison::Le => Term::at_most(alloc, a, b),
+        Comparison::Gt => Term::less(alloc, b, a),
+        Comparison::Ge => Term::at_most(alloc, b, a),
+        Comparison::Eq => Term::equal(alloc, a, b),
+        Comparison::Ne => Term::not(alloc, Term::equal(alloc, a, b)?),
+    }
+}
+
+fn is_ordering(op: Comparison) -> bool
+    ensures { result ≡ is_ordering op }
+{
+    !matches!(op, Comparison::Eq | Comparison::Ne)
+}
+
+/// `t@`, of a machine integer.
+fn modelled(alloc: Global, t: Boxed<Term>) -> Result<Boxed<Term>, NoMemory>
+    ensures { IfOk result (λ m. m ≡ model t) }
+{
+    Boxed::new(alloc, Term::model(alloc, t.into_inner())?)
+}
+
+fn ordered_at(
+    alloc: Global,
+    sort: &Ty,
+    op: Comparison,
+    span: Span,
+    a: Boxed<Term>,
+    b: Boxed<Term>,
+) -> Result<SortedTerm, PassError>
+    ensures { Answers result (ordered_at sort.now op span a b) }
+{
+    match &sort.node {
+        TyNode::MathInt => Ok(formula_of_sort(alloc, ordered(alloc, op, a, b)?)?),
+        TyNode::Int(_) => {
+            let a = modelled(alloc, a)?;
+            let b = modelled(alloc, b)?;
+            Ok(formula_of_sort(alloc, ordered(alloc, op, a, b)?)?)
+        }
+        _ => Err(mismatch(span)),
+    }
+}
+
+#[tactic(auto, unfolding(crate::specs::Elaborated::compared))]
+fn compared(
+    alloc: Global,
+    op: Comparison,
+    spans: (Span, Span),
+    a: SortedTerm,
+    b: SortedTerm,
+) -> Result<SortedTerm, PassError>
+    ensures { Answers result (compared op spans.0 spans.1 a b) }
+{
+    let SortedTerm { sort, term: a } = a;
+    let SortedTerm {
+        sort: other,
+        term: b,
+    } = b;
+    if !same_ty(&other, &sort) {
+        return Err(mismatch(spans.1));
+    }
+    if is_ordering(op) {
+        return ordered_at(alloc, &sort, op, spans.0, a, b);
+    }
+    Ok(formula_of_sort(alloc, ordered(alloc, op, a, b)?)?)
+}
+
+fn calculated(
+    alloc: Global,
+    op: ArithOp,
+    spans: (Span, Span),
+    a: SortedTerm,
+    b: SortedTerm,
+) -> Result<SortedTerm, PassError>
+    ensures { Answers result (calculated op spans.0 spans.1 a b) }
+{
+    let a = number(spans.0, a)?;
+    let b = number(spans.1, b)?;
+    let value = Term::calculate(alloc, op, a.into_inner(), b.into_inner())?;
+    Ok(number_of_sort(alloc, value)?)
+}
+
+fn connected(
+    alloc: Global,
+    op: Connective,
+    a: Boxed<Term>,
+    b: Boxed<Term>,
+) -> Result<SortedTerm, NoMemory>
+    ensures { IfOk result (λ t. t ≡ sorted bool (connection op a b)) }
+{
+    let a = a.into_inner();
+    let b = b.into_inner();
+    let term = match op {
+        Connective::And => Term::and(alloc, a, b),
+        Connective::Or => Term::or(alloc, a, b),
+        Connective::Implies => Term::implies(alloc, a, b),
+    }?;
+    formula_of_sort(alloc, term)
+}
+
+/// The term that a written term becomes where it stands, with its sort (Pearlite, Creusot). Left operands are gone down by a loop.
+///
+/// Errors: `Source` by E05 at a name that means nothing, by E07 at a part that is of another sort, by E20 at a form that is not built;
+/// the first part that is refused refuses the whole. `NoMemory`. Never `Limit`.
+#[cycle(elaborate)]
+pub fn elaborate<S: TermScope>(alloc: Global, scope: &S, t: &Pterm) -> Result<SortedTerm, PassError>
+    ensures { Answers result (elaborated (S.scope scope.now) t.now) }
+{
+    let TermDescent {
+        mut operations,
+        bottom,
+    } = descend(alloc, t)?;
+    let mut made = elaborate_form(alloc, scope, bottom)?;
+    while let Some(operation) = operations.pop() {
+        made = elaborate_behind(alloc, scope, operation, made)?;
+    }
+    Ok(made)
+}
+
+/// The same of a term that is no operation with a left operand.
+#[cycle(elaborate)]
+fn elaborate_form<S: TermScope>(
+    alloc: Global,
+    scope: &S,
+    t: &Pterm,
+) -> Result<SortedTerm, PassError>
+    requires { has_left t.now ≡ false }
+    ensures { Answers result (elaborated (S.scope scope.now) t.now) }
+{
+    match &*t.node {
+        PtermNode::Int(number, kind) => literal(alloc, *number, *kind, t.span),
+        PtermNode::Truth(holds) => Ok(truth_term(alloc, *holds)?),
+        PtermNode::Answer(name) => answer_term(alloc, scope, t.span, *name),
+        PtermNode::Path(path) => named_term(alloc, scope, t.span, name_alone(path)),
+        PtermNode::Unary(UnaryTerm::Neg, a) => {
+            let a = number(span_of(a), elaborate(alloc, scope, a)?)?;
+            Ok(number_of_sort(alloc, Term::negative(alloc, a.into_inner())?)?)
+        }
+        PtermNode::Unary(UnaryTerm::Not, a) => {
+            let a = elaborate_formula(alloc, scope, a)?;
+            Ok(formula_of_sort(alloc, Term::not(alloc, a.into_inner())?)?)
+        }
+        PtermNode::Unary(UnaryTerm::View, _) | PtermNode::Binary(_, _, _) => unreachable!(),
+        PtermNode::Unary(UnaryTerm::Current | UnaryTerm::Final, _)
+        | PtermNode::Receiver
+        | PtermNode::MutRef(_, _)
+        | PtermNode::Field(_, _)
+        | PtermNode::Part(_, _)
+        | PtermNode::Method(_, _, _)
+        | PtermNode::Call(_, _)
+        | PtermNode::Literal(_, _)
+        | PtermNode::Tuple(_)
+        | PtermNode::If(_, _, _)
+        | PtermNode::Match(_, _)
+        | PtermNode::Quantified(_, _, _)
+        | PtermNode::Predicate(_, _) => Err(unbuilt(t.span)),
+    }
+}
+
+/// The operation, whose left operand is elaborated.
+#[cycle(elaborate)]
+fn elaborate_behind<S: TermScope>(
+    alloc: Global,
+    scope: &S,
+    operation: TermOperation<'_>,
+    left: SortedTerm,
+) -> Result<SortedTerm, PassError>
+    ensures { Answers result (behind (S.scope scope.now) operation.entry left) }
+{
+    match operation {
+        TermOperation::View(t) => model_of(alloc, span_of(t), left),
+        TermOperation::Calculate(op, t, u) => {
+            let right = elaborate(alloc, scope, u)?;
+            calculated(alloc, op, (span_of(t), span_of(u)), left, right)
+        }
+        TermOperation::Compare(op, t, u) => {
+            let right = elaborate(alloc, scope, u)?;
+            compared(alloc, op, (span_of(t), span_of(u)), left, right)
+        }
+        TermOperation::Connect(op, t, u) => {
+            let left = formula(span_of(t), left)?;
+            let right = elaborate_formula(alloc, scope, u)?;
+            Ok(connected(alloc, op, left, right)?)
+        }
+    }
+}
+
+/// The formula that a written term becomes.
+///
+/// Errors: those of `elaborate`, and E07 at a term that is no formula.
+#[cycle(elaborate)]
+pub fn elaborate_formula<S: TermScope>(
+    alloc: Global,
+    scope: &S,
+    t: &Pterm,
+) -> Result<Boxed<Term>, PassError>
+    ensures { Answers result (asserted (S.scope scope.now) t.now) }
+{
+    formula(span_of(t), elaborate(alloc, scope, t)?)
+}

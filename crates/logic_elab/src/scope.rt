@@ -1,0 +1,28 @@
+ghost use Rattle.std.specs.Prelude.{◌≡◌, IfOk};
+ghost use Rattle.logic_elab.specs.Scope.{Scope};
+
+use logic_term::Sort;
+use std::alloc::Global;
+use text_core::{Name, NoMemory};
+
+/// A variable of formulas.
+#[derive(Drop)]
+pub struct Symbol {
+    /// The name by which formulas speak of it.
+    pub name: Name,
+    pub sort: Sort,
+}
+
+/// What the names of a term mean where it stands.
+pub trait TermScope {
+    // What each name means, and the word for the answer of a function.
+    ghost scope: { Self → Scope };
+
+    /// The variable that the name means; `None` exactly where it means none.
+    fn variable(&self, alloc: Global, name: Name) -> Result<Option<Symbol>, NoMemory>
+        ensures { IfOk result (λ o. o ≡ (scope self.now).variable name) };
+
+    /// What the word `result` means; `None` exactly where it is a name as each other.
+    fn answer(&self, alloc: Global) -> Result<Option<Symbol>, NoMemory>
+        ensures { IfOk result (λ o. o ≡ (scope self.now).answer) };
+}
