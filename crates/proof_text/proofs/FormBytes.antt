@@ -7,14 +7,13 @@ use Rattle.name_tables.specs.NameTables.{with_names}
 use Rattle.proof_text.specs.declared.proof.Proof.{Proof}
 use Rattle.proof_text.specs.declared.proof.ProofFile.{ProofFile}
 use Rattle.proof_text.specs.ProofTextWords.{Each}
-use Rattle.proof_text.specs.ProofFileForm.{texts_of_lines, HasNoFeed, AreLines, ended, IsFileOf, texts_in, SpellsProofs, BeginsFile, IsFirstBadLine}
+use Rattle.proof_text.specs.ProofFileForm.{LinesName, BytesName, HasNoFeed, AreLines, ended, IsFileOf, SpellsProofs, BeginsFile, IsFirstBadLine}
 use Rattle.proof_text.specs.ProofTextFile.{ProofText, IsProofOf, State, start, between, within, next_state, or_bad, and_then, state_after_all, proofs_at_end, proofs_of_pieces, proofs_of}
 use Rattle.proof_text.proofs.EndLemmas.{last_apart}
 use Rattle.proof_text.proofs.FormRuns.{run_append, form_run}
-use Rattle.proof_text.proofs.FormRead.{proofs_there, form_of, begins, begun}
-use Rattle.proof_text.proofs.StepLaw.{AreNamed}
-use Rattle.proof_text.proofs.KeptNames.{each_named, named_parts}
-use Rattle.proof_text.proofs.NameOrder.{texts_append}
+use Rattle.proof_text.proofs.FormRead.{proofs_there, run_names, form_of, begins, begun}
+use Rattle.proof_text.proofs.KeptNames.{each_named}
+use Rattle.proof_text.proofs.NameOrder.{names_with_none}
 
 -- ---- the text and its lines
 
@@ -118,13 +117,12 @@ record Whole (bytes : List ℕ) (said : List ProofText) : Type 0 where
   are_lines : AreLines lines
   whole : bytes ≡ ended lines
   leads : state_after_all lines start 1 ≡ Ok (between said)
-  texts : (table : List (List ℕ)) → AreNamed table (texts_in bytes) → AreNamed table (texts_of_lines lines)
+  texts : (texts : List (List ℕ)) → LinesName lines texts → BytesName bytes texts
 
-cut_texts : (table : List (List ℕ)) (bytes : List ℕ) (c : Cut bytes) → AreNamed table (texts_in bytes) → AreNamed table (texts_of_lines c.lines)
-cut_texts table bytes c named =
+cut_texts : (bytes : List ℕ) (c : Cut bytes) → c.rest ≡ [] → (texts : List (List ℕ)) → LinesName c.lines texts → BytesName bytes texts
+cut_texts bytes c none texts names =
     let pieces : slice_split is_feed bytes ≡ c.lines ++ c.rest ∷ [] = ap (slice_split is_feed) c.whole ∙ split_lines c.lines c.rest c.are_lines c.no_feed in
-    let texts : texts_in bytes ≡ texts_of_lines c.lines ++ texts_of_lines (c.rest ∷ []) = ap texts_of_lines pieces ∙ texts_append c.lines (c.rest ∷ []) in
-    (named_parts table (texts_of_lines c.lines) (texts_of_lines (c.rest ∷ [])) (subst (AreNamed table) texts named)).0
+    subst (λ (ls : List (List ℕ)). LinesName ls texts) (sym (pieces ∙ ap (λ (r : List ℕ). c.lines ++ r ∷ []) none)) (names_with_none c.lines texts names)
 
 whole_of : (bytes : List ℕ) (said : List ProofText) → proofs_of bytes ≡ Ok said → Whole bytes said
 whole_of bytes said e =
@@ -137,7 +135,7 @@ whole_of bytes said e =
       are_lines = c.are_lines;
       whole = c.whole ∙ (ap (λ r. ended c.lines ++ r) ends.none ∙ append-nil (ended c.lines));
       leads = ends.last;
-      texts = λ table named. cut_texts table bytes c named;
+      texts = λ texts names. cut_texts bytes c ends.none texts names;
     }
 
 pub read_file : (table : List (List ℕ)) (bytes : List ℕ) (said : List ProofText) (proofs : List Proof) → proofs_of bytes ≡ Ok said → Each (IsProofOf table) said proofs → IsFileOf table bytes proofs
@@ -149,9 +147,10 @@ read_file table bytes said proofs e each =
 pub file_there : (old : List (List ℕ)) (bytes : List ℕ) (said : List ProofText) → proofs_of bytes ≡ Ok said → (file : ProofFile) × SpellsProofs old bytes file
 file_there old bytes said e =
     let w = whole_of bytes said e in
-    let table : List (List ℕ) = with_names old (texts_in bytes) in
-    let proofs = proofs_there table w.lines said (w.texts table (each_named old (texts_in bytes))) w.leads in
-    (record { proofs = proofs.0 }, read_file table bytes said proofs.0 e proofs.1)
+    let names = run_names w.lines start (between said) 1 w.leads in
+    let table : List (List ℕ) = with_names old names.0 in
+    let proofs = proofs_there table w.lines names.0 said names.1 (each_named old names.0) w.leads in
+    (record { proofs = proofs.0 }, (names.0, w.texts names.0 names.1, read_file table bytes said proofs.0 e proofs.1))
 
 -- ---- the first bad line
 
@@ -257,7 +256,7 @@ stays_bad xs ys m e = run_append xs ys start 1 ∙ ap (λ r. and_then r (λ t. s
 
 end_by : (bytes : List ℕ) (lines : List (List ℕ)) (rest : List ℕ) (s : State) (r : Result (List ProofText) ℕ) → proofs_of bytes ≡ r → proofs_at_end (length lines + 1) rest s ≡ r → ((table : List (List ℕ)) (proofs : List Proof) → IsFileOf table bytes proofs → ⊥) →
     r ≡ Err (length lines + 1)
-end_by bytes lines rest s (Ok said) is e none = let file = file_there [] bytes said is in absurd (none (with_names [] (texts_in bytes)) file.0.proofs file.1)
+end_by bytes lines rest s (Ok said) is e none = let file = file_there [] bytes said is in absurd (none (with_names [] file.1.0) file.0.proofs file.1.2)
 end_by bytes lines rest s (Err m) is e none = ap Err (sym (bad_end s (length lines + 1) m rest e))
 
 pub read_bad : (bytes : List ℕ) (m : ℕ) → IsFirstBadLine bytes m → proofs_of bytes ≡ Err m

@@ -1,6 +1,7 @@
 -- A text has one reading.
 use Rattle.std.proofs.Common.{◌≡◌, ℕ, List, [], ◌∷◌, ◌++◌, Result, Ok, Err, ◌⊎◌, inl, inr, refl, sym, ◌∙◌, ap, subst}
-use Rattle.std.specs.Prelude.{IfOk, OnOk, IsOk}
+use Rattle.std.specs.Prelude.{IfOk, OnOk, IsOk, ◌==◌}
+use Rattle.std.specs.List.{slice_split}
 use Rattle.text_core.specs.Names.{words, HaveOnePlace}
 use Rattle.name_tables.specs.NameTables.{with_names}
 use Rattle.name_tables.proofs.Tables.{one_place_each}
@@ -10,19 +11,20 @@ use Rattle.proof_text.specs.declared.proof.NumberedStep.{NumberedStep}
 use Rattle.proof_text.specs.declared.proof.Proof.{Proof}
 use Rattle.proof_text.specs.declared.proof.ProofFile.{ProofFile}
 use Rattle.proof_text.specs.ProofTextWords.{Each}
-use Rattle.proof_text.specs.ProofFileForm.{texts_in, IsFileOf, SpellsProofs, IsFirstBadLine}
+use Rattle.proof_text.specs.ProofFileForm.{IsFileOf, SpellsProofs, HasNamesOf, IsFirstBadLine}
 use Rattle.proof_text.specs.ProofTextFile.{StepText, ProofText, IsStepOf, IsProofOf, proofs_of}
 use Rattle.proof_text.specs.ProofTextLaws.{AlikeStep, AlikeProof, HasOneReading, IsSpelledOnce}
 use Rattle.proof_text.proofs.EndLemmas.{ReadsAs}
 use Rattle.proof_text.proofs.FormBytes.{file_read, read_file, file_there, bad_read, read_bad}
 use Rattle.proof_text.proofs.StepLaw.{alike_step, step_once}
+use Rattle.proof_text.proofs.NameOrder.{lines_name_once}
 
 -- ---- what is read has the format
 
 -- what was read from the old table to the new one, and the names that it was given
-pub ok_form : (old new : List (List ℕ)) (bytes : List ℕ) (r : Result ProofFile ProofTextError) → IfOk r (λ file. ReadsAs new bytes file) → OnOk r (new ≡ with_names old (texts_in bytes)) →
+pub ok_form : (old new : List (List ℕ)) (bytes : List ℕ) (r : Result ProofFile ProofTextError) → IfOk r (λ file. ReadsAs new bytes file) → OnOk r (HasNamesOf old bytes new) →
     IfOk r (λ file. SpellsProofs old bytes file)
-ok_form old new bytes (Ok file) h named = subst (λ (table : List (List ℕ)). IsFileOf table bytes file.proofs) named (read_file new bytes h.0 file.proofs h.1 h.2)
+ok_form old new bytes (Ok file) h named = (named.0, named.1, subst (λ (table : List (List ℕ)). IsFileOf table bytes file.proofs) named.2 (read_file new bytes h.0 file.proofs h.1 h.2))
 ok_form old new bytes (Err e) h named = tt
 
 pub none_form : (table : List (List ℕ)) (bytes : List ℕ) (n : ℕ) (proofs : List Proof) → proofs_of bytes ≡ Err n → IsFileOf table bytes proofs → ⊥
@@ -135,11 +137,13 @@ module _ (table : List (List ℕ)) (place : HaveOnePlace (words ++ table)) where
 
 pub spelled_once : IsSpelledOnce
 spelled_once old bytes one other place a b =
-    let table : List (List ℕ) = with_names old (texts_in bytes) in
-    let read = file_read table bytes one.proofs a in
+    let table : List (List ℕ) = with_names old a.0 in
+    let texts : b.0 ≡ a.0 = lines_name_once (slice_split (λ b. b == 10) bytes) b.0 a.0 b.1 a.1 in
+    let second : IsFileOf table bytes other.proofs = subst (λ (ts : List (List ℕ)). IsFileOf (with_names old ts) bytes other.proofs) texts b.2 in
+    let read = file_read table bytes one.proofs a.2 in
     let also : Each (IsProofOf table) read.0 other.proofs =
-    subst (λ (said : List ProofText). Each (IsProofOf table) said other.proofs) (same_said table table bytes one.proofs other.proofs a b) (file_read table bytes other.proofs b).2 in
-    ap (λ ps. record one { proofs = ps }) (proofs_once table (one_place_each old (texts_in bytes) place) read.0 one.proofs other.proofs read.2 also)
+    subst (λ (said : List ProofText). Each (IsProofOf table) said other.proofs) (same_said table table bytes one.proofs other.proofs a.2 second) (file_read table bytes other.proofs second).2 in
+    ap (λ ps. record one { proofs = ps }) (proofs_once table (one_place_each old a.0 place) read.0 one.proofs other.proofs read.2 also)
 
 -- ---- one reading
 

@@ -8,11 +8,12 @@ use Rattle.name_tables.specs.NameTables.{with_names}
 use Rattle.proof_text.specs.declared.proof.NumberedStep.{NumberedStep}
 use Rattle.proof_text.specs.declared.proof.Proof.{Proof}
 use Rattle.proof_text.specs.ProofTextWords.{◌>>=◌, Each}
-use Rattle.proof_text.specs.ProofTextLines.{texts_in_line, IsHeading, IsEnd}
-use Rattle.proof_text.specs.ProofFileForm.{IsComment, StepLines, ProofLines, ProofsLines, key_of, IsOther, NoTwoAlike, HasForm, texts_of_lines, AreLines, BeginsFile}
+use Rattle.proof_text.specs.ProofTextLines.{NamesTexts, IsHeading, IsEnd}
+use Rattle.proof_text.specs.ProofFileForm.{IsComment, StepLines, ProofLines, ProofsLines, key_of, IsOther, NoTwoAlike, HasForm, LinesName, AreLines, BeginsFile}
 use Rattle.proof_text.specs.ProofTextFile.{Line, passed, heading, step, «end», line_of, StepText, ProofText, IsStepOf, IsProofOf, State, start, between, within, is_proved, state_after, next_state, or_bad, and_then, state_after_all}
 use Rattle.proof_text.proofs.LineLaw.{IsKind, line_kind, end_is}
-use Rattle.proof_text.proofs.StepLaw.{AreNamed, step_there}
+use Rattle.proof_text.proofs.StepLaw.{AreNamed, step_there, step_names}
+use Rattle.proof_text.proofs.NameOrder.{header_names, comment_names, heading_names, end_line_names}
 use Rattle.proof_text.proofs.KeptNames.{each_named, named_parts}
 use Rattle.proof_text.proofs.FormRuns.{run_append, said_at, text_key, header, headed_run, form_run}
 
@@ -267,9 +268,9 @@ each_more R [] (b ∷ ys) x y h r = absurd h
 each_more R (a ∷ xs) [] x y h r = absurd h
 
 module _ (table : List (List ℕ)) where
-  step_more : (said : List StepText) (n : ℕ) (text : List ℕ) → IsKind text step → AreNamed table (texts_in_line text) → AreSteps table said → AreSteps table (said ++ record { line = n; text = text } ∷ [])
-  step_more said n text kind named h =
-      let s = step_there table text kind.0 kind.1 named in
+  step_more : (said : List StepText) (n : ℕ) (text : List ℕ) (texts : List (List ℕ)) → IsKind text step → NamesTexts text texts → AreNamed table texts → AreSteps table said → AreSteps table (said ++ record { line = n; text = text } ∷ [])
+  step_more said n text texts kind names named h =
+      let s = step_there table text texts kind.0 kind.1 names named in
       let numbered : NumberedStep = record { line = n; step = s.0 } in
       (h.0 ++ numbered ∷ [], each_more (IsStepOf table) said h.0 (record { line = n; text = text }) numbered h.1 (refl, s.1))
 
@@ -289,39 +290,68 @@ module _ (table : List (List ℕ)) where
   same_spelled : (s t : State) → Some s ≡ Some t → IsSpelled table s → IsSpelled table t
   same_spelled s t e h = let same : s ≡ t = cc in subst (IsSpelled table) same h
 
-  line_spelled : (s t : State) (n : ℕ) (text : List ℕ) (l : Line) → IsKind text l → AreNamed table (texts_in_line text) → IsSpelled table s → state_after s n text l ≡ Some t → IsSpelled table t
-  line_spelled s t n text passed kind named h e = same_spelled s t e h
-  line_spelled (between ps) t n text (heading k o) kind named h e = heading_spelled ps k o (is_proved k o ps) t h e
-  line_spelled (within ps k o done) t n text step kind named h e =
-      same_spelled (within ps k o (done ++ record { line = n; text = text } ∷ [])) t e (h.0, step_more done n text kind named h.1)
-  line_spelled (within ps k o done) t n text «end» kind named h e = same_spelled (between (ps ++ said_at k o done n ∷ [])) t e (proof_more ps k o done n h.0 h.1)
-  line_spelled start t n text (heading k o) kind named h e = absurd (cc)
-  line_spelled start t n text step kind named h e = absurd (cc)
-  line_spelled start t n text «end» kind named h e = absurd (cc)
-  line_spelled (between ps) t n text step kind named h e = absurd (cc)
-  line_spelled (between ps) t n text «end» kind named h e = absurd (cc)
-  line_spelled (within ps k o done) t n text (heading m w) kind named h e = absurd (cc)
+  line_spelled : (s t : State) (n : ℕ) (text : List ℕ) (l : Line) (texts : List (List ℕ)) → IsKind text l → NamesTexts text texts → AreNamed table texts → IsSpelled table s → state_after s n text l ≡ Some t → IsSpelled table t
+  line_spelled s t n text passed texts kind names named h e = same_spelled s t e h
+  line_spelled (between ps) t n text (heading k o) texts kind names named h e = heading_spelled ps k o (is_proved k o ps) t h e
+  line_spelled (within ps k o done) t n text step texts kind names named h e =
+      same_spelled (within ps k o (done ++ record { line = n; text = text } ∷ [])) t e (h.0, step_more done n text texts kind names named h.1)
+  line_spelled (within ps k o done) t n text «end» texts kind names named h e = same_spelled (between (ps ++ said_at k o done n ∷ [])) t e (proof_more ps k o done n h.0 h.1)
+  line_spelled start t n text (heading k o) texts kind names named h e = absurd (cc)
+  line_spelled start t n text step texts kind names named h e = absurd (cc)
+  line_spelled start t n text «end» texts kind names named h e = absurd (cc)
+  line_spelled (between ps) t n text step texts kind names named h e = absurd (cc)
+  line_spelled (between ps) t n text «end» texts kind names named h e = absurd (cc)
+  line_spelled (within ps k o done) t n text (heading m w) texts kind names named h e = absurd (cc)
 
-  said_spelled : (s t : State) (n : ℕ) (text : List ℕ) (l : Option Line) → line_of text ≡ l → AreNamed table (texts_in_line text) → IsSpelled table s → (l >>= state_after s n text) ≡ Some t → IsSpelled table t
-  said_spelled s t n text None is named h e = absurd (cc)
-  said_spelled s t n text (Some l) is named h e = line_spelled s t n text l (line_kind text l is) named h e
+  said_spelled : (s t : State) (n : ℕ) (text : List ℕ) (l : Option Line) (texts : List (List ℕ)) → line_of text ≡ l → NamesTexts text texts → AreNamed table texts → IsSpelled table s → (l >>= state_after s n text) ≡ Some t → IsSpelled table t
+  said_spelled s t n text None texts is names named h e = absurd (cc)
+  said_spelled s t n text (Some l) texts is names named h e = line_spelled s t n text l texts (line_kind text l is) names named h e
 
-  next_spelled : (s t : State) (n : ℕ) (text : List ℕ) → AreNamed table (texts_in_line text) → IsSpelled table s → next_state s n text ≡ Some t → IsSpelled table t
-  next_spelled start t n text named h e = header_spelled (bytes_eq text header) t e
-  next_spelled (between ps) t n text named h e = said_spelled (between ps) t n text (line_of text) refl named h e
-  next_spelled (within ps k o done) t n text named h e = said_spelled (within ps k o done) t n text (line_of text) refl named h e
+  next_spelled : (s t : State) (n : ℕ) (text : List ℕ) (texts : List (List ℕ)) → NamesTexts text texts → AreNamed table texts → IsSpelled table s → next_state s n text ≡ Some t → IsSpelled table t
+  next_spelled start t n text texts names named h e = header_spelled (bytes_eq text header) t e
+  next_spelled (between ps) t n text texts names named h e = said_spelled (between ps) t n text (line_of text) texts refl names named h e
+  next_spelled (within ps k o done) t n text texts names named h e = said_spelled (within ps k o done) t n text (line_of text) texts refl names named h e
 
-  run_spelled : (texts : List (List ℕ)) (s t : State) (n : ℕ) → AreNamed table (texts_of_lines texts) → IsSpelled table s → state_after_all texts s n ≡ Ok t → IsSpelled table t
-  run_spelled [] s t n named h e = let same : s ≡ t = cc in subst (IsSpelled table) same h
-  run_spelled (text ∷ texts) s t n named h e =
+  run_spelled : (texts all : List (List ℕ)) (s t : State) (n : ℕ) → LinesName texts all → AreNamed table all → IsSpelled table s → state_after_all texts s n ≡ Ok t → IsSpelled table t
+  run_spelled [] all s t n names named h e = let same : s ≡ t = cc in subst (IsSpelled table) same h
+  run_spelled (text ∷ texts) all s t n names named h e =
       let first = run_from texts n t (next_state s n text) e in
-      let parts = named_parts table (texts_in_line text) (texts_of_lines texts) named in
-      run_spelled texts first.0 t (n + 1) parts.1 (next_spelled s first.0 n text parts.0 h first.1) first.2
+      let parts = named_parts table names.0 names.1 (subst (AreNamed table) names.4 named) in
+      run_spelled texts names.1 first.0 t (n + 1) names.3 parts.1 (next_spelled s first.0 n text names.0 names.2 parts.0 h first.1) first.2
 
 -- the lines that lead to these proofs spell them, where their texts have names
-pub proofs_there : (table lines : List (List ℕ)) (said : List ProofText) → AreNamed table (texts_of_lines lines) → state_after_all lines start 1 ≡ Ok (between said) →
+pub proofs_there : (table lines texts : List (List ℕ)) (said : List ProofText) → LinesName lines texts → AreNamed table texts → state_after_all lines start 1 ≡ Ok (between said) →
     (proofs : List Proof) × Each (IsProofOf table) said proofs
-proofs_there table lines said named e = run_spelled table lines start (between said) 1 named tt e
+proofs_there table lines texts said names named e = run_spelled table lines texts start (between said) 1 names named tt e
+
+-- ---- the lines that lead somewhere name texts
+
+kind_names : (text : List ℕ) (l : Line) → IsKind text l → (texts : List (List ℕ)) × NamesTexts text texts
+kind_names text passed h = ([], comment_names text h)
+kind_names text (heading number owner) h = ([], heading_names text number owner h)
+kind_names text step h = step_names text h.1
+kind_names text «end» h = ([], end_line_names text h)
+
+header_line : (text : List ℕ) (b : Bool) (t : State) → bytes_eq text header ≡ b → cond b (Some (between [])) None ≡ Some t → (texts : List (List ℕ)) × NamesTexts text texts
+header_line text true t is e = ([], header_names text is)
+header_line text false t is e = absurd (cc)
+
+said_names : (s t : State) (n : ℕ) (text : List ℕ) (l : Option Line) → line_of text ≡ l → (l >>= state_after s n text) ≡ Some t → (texts : List (List ℕ)) × NamesTexts text texts
+said_names s t n text None is e = absurd (cc)
+said_names s t n text (Some l) is e = kind_names text l (line_kind text l is)
+
+next_names : (s t : State) (n : ℕ) (text : List ℕ) → next_state s n text ≡ Some t → (texts : List (List ℕ)) × NamesTexts text texts
+next_names start t n text e = header_line text (bytes_eq text header) t refl e
+next_names (between ps) t n text e = said_names (between ps) t n text (line_of text) refl e
+next_names (within ps k o done) t n text e = said_names (within ps k o done) t n text (line_of text) refl e
+
+pub run_names : (lines : List (List ℕ)) (s t : State) (n : ℕ) → state_after_all lines s n ≡ Ok t → (texts : List (List ℕ)) × LinesName lines texts
+run_names [] s t n e = ([], refl)
+run_names (text ∷ lines) s t n e =
+    let first = run_from lines n t (next_state s n text) e in
+    let own = next_names s first.0 n text first.1 in
+    let others = run_names lines first.0 t (n + 1) first.2 in
+    (own.0 ++ others.0, (own.0, others.0, own.1, others.1, refl))
 
 -- ---- the format
 
@@ -370,8 +400,9 @@ begins lines s e =
     let all : List (List ℕ) = lines ++ f.0 in
     let leads_there : state_after_all all start 1 ≡ Ok (between f.2.0) =
     run_append lines f.0 start 1 ∙ (ap (λ r. and_then r (λ t. state_after_all f.0 t (1 + length lines))) e ∙ f.2.1) in
-    let table : List (List ℕ) = with_names [] (texts_of_lines all) in
-    let spelled = proofs_there table all f.2.0 (each_named [] (texts_of_lines all)) leads_there in
+    let names = run_names all start (between f.2.0) 1 leads_there in
+    let table : List (List ℕ) = with_names [] names.0 in
+    let spelled = proofs_there table all names.0 f.2.0 names.1 (each_named [] names.0) leads_there in
     record {
       more = f.0;
       are_lines = f.1;

@@ -1,5 +1,5 @@
 -- The names that a file gives, line by line.
-use Rattle.std.proofs.Common.{◌≡◌, ℕ, ◌+◌, ◌<◌, ◌≤◌, Bool, true, false, List, [], ◌∷◌, ◌++◌, length, map, take, get_or, codes, Option, Result, Ok, Err, refl, sym, ◌∙◌, ap, append_assoc, Bor, ◌||◌, ◌==◌, true≢false}
+use Rattle.std.proofs.Common.{◌≡◌, ℕ, ◌+◌, ◌<◌, ◌≤◌, Bool, true, false, List, [], ◌∷◌, ◌++◌, length, map, take, get_or, codes, Option, Some, None, Result, Ok, Err, subst, refl, sym, ◌∙◌, ap, append_assoc, Bor, ◌||◌, ◌==◌, true≢false}
 use Rattle.std.specs.Prelude.{OnOk}
 use Rattle.std.specs.List.{slice_split}
 use Rattle.std.specs.Str.{bytes_eq}
@@ -7,13 +7,19 @@ use Rattle.std.proofs.Math.Dec.{eqb}
 use Rattle.std.proofs.lemmas.List.{take_all, take_more, map-append, append-nil}
 use Rattle.std.proofs.lemmas.Slice.Eq.{bytes_eq-Decides}
 use Rattle.name_tables.specs.NameTables.{with_name, with_names}
-use Rattle.name_tables.proofs.Tables.{names_append}
+use Rattle.name_tables.proofs.Tables.{names_append as tables_append}
 use Rattle.proof_text.specs.declared.proof.ProofFile.{ProofFile}
 use Rattle.proof_text.specs.declared.fault.ProofTextError.{ProofTextError}
-use Rattle.proof_text.specs.ProofTextLines.{rest_of, texts_by, texts_in_line}
+use Rattle.proof_kernel.specs.declared.step.TermRule.{TermRule}
+use Rattle.source_words.specs.Words.{GivesNames, identifiers_in}
+use Rattle.term_texts.specs.TermTexts.{NamesOfTerm}
+use Rattle.proof_text.specs.ProofTextRules.{term_rule_of}
+use Rattle.proof_text.specs.ProofTextReads.{GivesTexts}
+use Rattle.proof_text.specs.ProofTextLines.{rest_of, texts_by, NamesByRule, NamesOfParts, NamesTexts, IsHeading, IsEnd}
 use Rattle.proof_text.specs.ProofTextFile.{is_passed}
-use Rattle.proof_text.specs.ProofFileForm.{IsComment, texts_of_lines, texts_in}
+use Rattle.proof_text.specs.ProofFileForm.{IsComment, LinesName, HasNamesOf}
 use Rattle.proof_text.proofs.LineLaw.{more_before, not_empty, hash_is}
+use Rattle.proof_text.proofs.StepLaw.{line_names_once}
 use Rattle.proof_text.proofs.StageLemmas.{now}
 
 -- ---- the words of a line
@@ -24,43 +30,49 @@ pub one_more_named : (old before new : List (List ℕ)) (texts : List (Bor (List
 one_more_named old before new texts i d h so_far more =
     more
     ∙ (ap (λ (ts : List (List ℕ)). with_name ts (now (get_or texts i d))) so_far
-    ∙ (sym (names_append old (map now (take i texts)) (now (get_or texts i d) ∷ []))
+    ∙ (sym (tables_append old (map now (take i texts)) (now (get_or texts i d) ∷ []))
     ∙ ap (with_names old) (sym (map-append now (take i texts) (get_or texts i d ∷ [])) ∙ ap (map now) (sym (take_more texts i d h)))))
 
 -- the first and the last line of a proof name nothing
-pub proof_names : (rest : Option (List ℕ)) → texts_by (codes "proof") rest ≡ []
-unfolding texts_by
+pub proof_names : (rest : Option (List ℕ)) → NamesOfParts (codes "proof") rest []
+unfolding NamesOfParts texts_by term_rule_of
 proof_names rest = refl
 
-pub end_names : (rest : Option (List ℕ)) → texts_by (codes "end") rest ≡ []
-unfolding texts_by
+pub end_names : (rest : Option (List ℕ)) → NamesOfParts (codes "end") rest []
+unfolding NamesOfParts texts_by term_rule_of
 end_names rest = refl
 
-pub none_by : (head word : List ℕ) (rest : Option (List ℕ)) → bytes_eq head word ≡ true → texts_by word rest ≡ [] → texts_by head rest ≡ []
-none_by head word rest e h = ap (λ w. texts_by w rest) ((bytes_eq-Decides head word).0 e) ∙ h
+pub none_by : (head word : List ℕ) (rest : Option (List ℕ)) → bytes_eq head word ≡ true → NamesOfParts word rest [] → NamesOfParts head rest []
+none_by head word rest e h = subst (λ (w : List ℕ). NamesOfParts w rest []) (sym ((bytes_eq-Decides head word).0 e)) h
 
-pub header_names : (text : List ℕ) → bytes_eq text (codes "creusot-proofs 1") ≡ true → texts_in_line text ≡ []
-unfolding texts_by
-header_names text e = ap texts_in_line ((bytes_eq-Decides text (codes "creusot-proofs 1")).0 e)
+pub heading_names : (text : List ℕ) (number : ℕ) (owner : List ℕ) → IsHeading text number owner → NamesTexts text []
+heading_names text number owner h = subst (λ (w : List ℕ). NamesOfParts w (rest_of text) []) (sym h.1) (proof_names (rest_of text))
 
-hash_names : (b : ℕ) (bs : List ℕ) → b ≡ 35 → texts_in_line (b ∷ bs) ≡ []
-unfolding texts_by
+pub end_line_names : (text : List ℕ) → IsEnd text → NamesTexts text []
+unfolding NamesOfParts texts_by term_rule_of
+end_line_names text h = subst (λ (t : List ℕ). NamesTexts t []) (sym h) refl
+
+pub header_names : (text : List ℕ) → bytes_eq text (codes "creusot-proofs 1") ≡ true → NamesTexts text []
+unfolding NamesOfParts texts_by term_rule_of
+header_names text e = subst (λ (t : List ℕ). NamesTexts t []) (sym ((bytes_eq-Decides text (codes "creusot-proofs 1")).0 e)) refl
+
+hash_names : (b : ℕ) (bs : List ℕ) → b ≡ 35 → NamesTexts (b ∷ bs) []
+unfolding NamesOfParts texts_by term_rule_of
 hash_names b bs e =
-    ap (λ c. texts_in_line (c ∷ bs)) e ∙ ap (λ h. texts_by h (rest_of (35 ∷ bs))) (more_before 35 bs refl)
+    subst (λ (c : ℕ). NamesTexts (c ∷ bs) []) (sym e) (subst (λ (h : List ℕ). NamesOfParts h (rest_of (35 ∷ bs)) []) (sym (more_before 35 bs refl)) refl)
 
-pub comment_names : (text : List ℕ) → IsComment text → texts_in_line text ≡ []
-unfolding texts_by
+pub comment_names : (text : List ℕ) → IsComment text → NamesTexts text []
+unfolding NamesOfParts texts_by term_rule_of
 comment_names [] h = refl
 comment_names (b ∷ bs) h = hash_names b bs h
 
-passed_is : (b : ℕ) (bs : List ℕ) (t s : Bool) → (length (b ∷ bs) == 0) ≡ t → (b == 35) ≡ s → (t || s) ≡ true → texts_in_line (b ∷ bs) ≡ []
+passed_is : (b : ℕ) (bs : List ℕ) (t s : Bool) → (length (b ∷ bs) == 0) ≡ t → (b == 35) ≡ s → (t || s) ≡ true → NamesTexts (b ∷ bs) []
 passed_is b bs true s empty hash e = absurd (not_empty b bs empty)
 passed_is b bs false true empty hash e = hash_names b bs (hash_is b hash)
 passed_is b bs false false empty hash e = absurd (true≢false (sym e))
 
-pub passed_names : (text : List ℕ) → is_passed text ≡ true → texts_in_line text ≡ []
-unfolding texts_by
-passed_names [] e = refl
+pub passed_names : (text : List ℕ) → is_passed text ≡ true → NamesTexts text []
+passed_names [] e = comment_names [] tt
 passed_names (b ∷ bs) e = passed_is b bs (length (b ∷ bs) == 0) (b == 35) refl refl e
 
 -- ---- line by line
@@ -73,39 +85,68 @@ pub on_both : {A E : Type 0} {P Q : Type 0} (r : Result A E) → OnOk r P → (P
 on_both (Ok x) p f = f p
 on_both (Err e) p f = tt
 
-pub texts_append : (xs ys : List (List ℕ)) → texts_of_lines (xs ++ ys) ≡ texts_of_lines xs ++ texts_of_lines ys
-texts_append [] ys = refl
-texts_append (x ∷ xs) ys = ap (λ ts. texts_in_line x ++ ts) (texts_append xs ys) ∙ sym (append_assoc (texts_in_line x) (texts_of_lines xs) (texts_of_lines ys))
+-- no text is given a name
+pub gives_none : (Names : List (List ℕ) → Type 0) (old : List (List ℕ)) → Names [] → GivesTexts Names old old
+gives_none Names old h = ([], h, refl)
 
-texts_push : (xs : List (List ℕ)) (x : List ℕ) → texts_of_lines (xs ++ x ∷ []) ≡ texts_of_lines xs ++ texts_in_line x
-texts_push xs x = texts_append xs (x ∷ []) ∙ ap (λ ts. texts_of_lines xs ++ ts) (append-nil (texts_in_line x))
+-- the texts of the rule and of none are those of the line
+pub gives_plain : (head : List ℕ) (rest : Option (List ℕ)) (old new : List (List ℕ)) → None ≡ term_rule_of head → new ≡ with_names old (texts_by head rest) → GivesTexts (NamesOfParts head rest) old new
+unfolding NamesOfParts
+gives_plain head rest old new e h = (texts_by head rest, subst (λ o. NamesByRule o head rest (texts_by head rest)) e refl, h)
+
+pub gives_term : (head rest : List ℕ) (own : Option (List ℕ)) (rule : TermRule) (old new : List (List ℕ)) → Some rule ≡ term_rule_of head → own ≡ Some rest → GivesNames old rest new → GivesTexts (NamesOfParts head own) old new
+unfolding NamesOfParts
+gives_term head rest own rule old new e is g =
+    let texts : List (List ℕ) = identifiers_in rest g.tokens in
+    let names : NamesByRule (Some rule) head (Some rest) texts = record { tokens = g.tokens; are_tokens = g.are_tokens; are = refl } in
+    (texts, subst (λ r. NamesByRule (term_rule_of head) head r texts) (sym is) (subst (λ o. NamesByRule o head (Some rest) texts) e names), g.is)
+
+pub names_append : (xs ys a b : List (List ℕ)) → LinesName xs a → LinesName ys b → LinesName (xs ++ ys) (a ++ b)
+names_append [] ys a b h k = subst (λ (ts : List (List ℕ)). LinesName ys (ts ++ b)) (sym h) k
+names_append (x ∷ xs) ys a b h k =
+    (h.0, h.1 ++ b, h.2, names_append xs ys h.1 b h.3 k, ap (λ ts. ts ++ b) h.4 ∙ append_assoc h.0 h.1 b)
+
+names_push : (xs : List (List ℕ)) (x : List ℕ) (a b : List (List ℕ)) → LinesName xs a → NamesTexts x b → LinesName (xs ++ x ∷ []) (a ++ b)
+names_push xs x a b h k = names_append xs (x ∷ []) a b h (b, [], k, refl, sym (append-nil b))
+
+-- an empty line behind them names nothing
+pub names_with_none : (lines texts : List (List ℕ)) → LinesName lines texts → LinesName (lines ++ [] ∷ []) texts
+names_with_none lines texts h = subst (λ (ts : List (List ℕ)). LinesName (lines ++ [] ∷ []) ts) (append-nil texts) (names_push lines [] texts [] h (comment_names [] tt))
+
+-- lines name one list of texts
+pub lines_name_once : (lines one other : List (List ℕ)) → LinesName lines one → LinesName lines other → one ≡ other
+lines_name_once [] one other a b = a ∙ sym b
+lines_name_once (line ∷ lines) one other a b =
+    let own : a.0 ≡ b.0 = line_names_once line a.0 b.0 a.2 b.2 in
+    let others : a.1 ≡ b.1 = lines_name_once lines a.1 b.1 a.3 b.3 in
+    a.4 ∙ (ap (λ ts. ts ++ a.1) own ∙ (ap (λ ts. b.0 ++ ts) others ∙ sym b.4))
 
 -- one more line
-pub line_named : (old before new : List (List ℕ)) (lines : List (Bor (List ℕ))) (i : ℕ) (d : Bor (List ℕ)) → i < length lines → before ≡ with_names old (texts_of_lines (map now (take i lines))) →
-    new ≡ with_names before (texts_in_line (now (get_or lines i d))) → new ≡ with_names old (texts_of_lines (map now (take (i + 1) lines)))
+pub line_named : (old before new : List (List ℕ)) (lines : List (Bor (List ℕ))) (i : ℕ) (d : Bor (List ℕ)) → i < length lines → GivesTexts (LinesName (map now (take i lines))) old before →
+    GivesTexts (NamesTexts (now (get_or lines i d))) before new → GivesTexts (LinesName (map now (take (i + 1) lines))) old new
 line_named old before new lines i d h so_far more =
     let line : List ℕ = now (get_or lines i d) in
-    more
-    ∙ (ap (λ (ts : List (List ℕ)). with_names ts (texts_in_line line)) so_far
-    ∙ (sym (names_append old (texts_of_lines (map now (take i lines))) (texts_in_line line))
-    ∙ ap (with_names old)
-    (sym (texts_push (map now (take i lines)) line) ∙ ap texts_of_lines (sym (map-append now (take i lines) (get_or lines i d ∷ [])) ∙ ap (map now) (sym (take_more lines i d h))))))
+    let texts : List (List ℕ) = so_far.0 ++ more.0 in
+    let all : map now (take i lines) ++ line ∷ [] ≡ map now (take (i + 1) lines) = sym (map-append now (take i lines) (get_or lines i d ∷ [])) ∙ ap (map now) (sym (take_more lines i d h)) in
+    (
+      texts,
+      subst (λ (ls : List (List ℕ)). LinesName ls texts) all (names_push (map now (take i lines)) line so_far.0 more.0 so_far.1 more.1),
+      more.2 ∙ (ap (λ (ts : List (List ℕ)). with_names ts more.0) so_far.2 ∙ sym (tables_append old so_far.0 more.0)),
+    )
 
 -- all lines
-pub all_named : (old names : List (List ℕ)) (lines : List (Bor (List ℕ))) (at : ℕ) → length lines ≤ at → names ≡ with_names old (texts_of_lines (map now (take at lines))) → names ≡ with_names old (texts_of_lines (map now lines))
-all_named old names lines at h named = named ∙ ap (λ ls. with_names old (texts_of_lines (map now ls))) (take_all at lines h)
+pub all_named : (old names : List (List ℕ)) (lines : List (Bor (List ℕ))) (at : ℕ) → length lines ≤ at → GivesTexts (LinesName (map now (take at lines))) old names → GivesTexts (LinesName (map now lines)) old names
+all_named old names lines at h named = subst (λ (ls : List (Bor (List ℕ))). GivesTexts (LinesName (map now ls)) old names) (take_all at lines h) named
 
 -- an empty rest names nothing
-pub pieces_named : (old new : List (List ℕ)) (pieces lines : List (Bor (List ℕ))) (rest : Bor (List ℕ)) → pieces ≡ lines ++ rest ∷ [] → now rest ≡ [] → new ≡ with_names old (texts_of_lines (map now lines)) →
-    new ≡ with_names old (texts_of_lines (map now pieces))
+pub pieces_named : (old new : List (List ℕ)) (pieces lines : List (Bor (List ℕ))) (rest : Bor (List ℕ)) → pieces ≡ lines ++ rest ∷ [] → now rest ≡ [] → GivesTexts (LinesName (map now lines)) old new →
+    GivesTexts (LinesName (map now pieces)) old new
 pieces_named old new pieces lines rest h e named =
-    named ∙ ap (with_names old)
-    (sym (append-nil (texts_of_lines (map now lines)))
-    ∙ (ap (λ ts. texts_of_lines (map now lines) ++ ts) (sym (ap texts_in_line e ∙ comment_names [] tt))
-    ∙ (sym (texts_push (map now lines) (now rest)) ∙ ap texts_of_lines (sym (ap (map now) h ∙ map-append now lines (rest ∷ []))))))
+    let all : map now lines ++ [] ∷ [] ≡ map now pieces = ap (λ (r : List ℕ). map now lines ++ r ∷ []) (sym e) ∙ (sym (map-append now lines (rest ∷ [])) ∙ ap (map now) (sym h)) in
+    (named.0, subst (λ (ls : List (List ℕ)). LinesName ls named.0) all (names_with_none (map now lines) named.0 named.1), named.2)
 
 -- what the pieces name, the bytes do
-pub named_from : (old new : List (List ℕ)) (bytes : List ℕ) (pieces : List (List ℕ)) (r : Result ProofFile ProofTextError) → pieces ≡ slice_split (λ b. eqb b 10) bytes → OnOk r (new ≡ with_names old (texts_of_lines pieces)) →
-    OnOk r (new ≡ with_names old (texts_in bytes))
-named_from old new bytes pieces (Ok file) is named = named ∙ ap (λ ps. with_names old (texts_of_lines ps)) is
+pub named_from : (old new : List (List ℕ)) (bytes : List ℕ) (pieces : List (List ℕ)) (r : Result ProofFile ProofTextError) → pieces ≡ slice_split (λ b. eqb b 10) bytes → OnOk r (GivesTexts (LinesName pieces) old new) →
+    OnOk r (HasNamesOf old bytes new)
+named_from old new bytes pieces (Ok file) is named = (named.0, subst (λ (ls : List (List ℕ)). LinesName ls named.0) is named.1, named.2)
 named_from old new bytes pieces (Err e) is named = tt

@@ -11,14 +11,16 @@ use Rattle.proof_kernel.specs.declared.step.HypothesisRule.{HypothesisRule}
 use Rattle.proof_kernel.specs.declared.step.HypothesisRule.TheVariants.{Cases}
 use Rattle.proof_kernel.specs.declared.step.PairRule.{PairRule}
 use Rattle.proof_kernel.specs.declared.step.PairRule.TheVariants.{ModusPonens}
+use Rattle.proof_kernel.specs.declared.step.TermRule.{TermRule}
+use Rattle.proof_kernel.specs.declared.step.TermRule.TheVariants.{Cut, On}
 use Rattle.proof_kernel.specs.declared.step.Step.{Step}
-use Rattle.proof_kernel.specs.declared.step.Step.TheVariants.{Intro, Hyp, Split, Range, Lin, OnGoal, OnHypothesis, OnTwo, Rewrite}
+use Rattle.proof_kernel.specs.declared.step.Step.TheVariants.{Intro, Hyp, Split, Range, Lin, OnGoal, OnHypothesis, OnTwo, Rewrite, OnTerm}
 use Rattle.proof_text.specs.declared.fault.Fault.{Fault}
 use Rattle.proof_text.specs.declared.fault.Fault.TheVariants.{Bad}
 use Rattle.proof_text.specs.ProofTextWords.{◌>>=◌}
-use Rattle.proof_text.specs.ProofTextRules.{goal_word, hypothesis_word, pair_word, labels_in, rule_by, goal_rules, hypothesis_rules, pair_rules, goal_rule_of, hypothesis_rule_of, pair_rule_of}
+use Rattle.proof_text.specs.ProofTextRules.{goal_word, hypothesis_word, pair_word, labels_in, rule_by, goal_rules, hypothesis_rules, pair_rules, goal_rule_of, hypothesis_rule_of, pair_rule_of, term_word, term_rules, term_rule_of}
 use Rattle.proof_text.specs.ProofTextLines.{word_of, SpellsRest, SpellsParts}
-use Rattle.proof_text.specs.ProofTextFile.{is_step, step, line_if, line_by_head, at_labels, rule_step_of}
+use Rattle.proof_text.specs.ProofTextFile.{is_step, is_plain_step, step, line_if, line_by_head, at_labels, rule_step_of}
 use Rattle.proof_text.proofs.LineLaw.{is_plain}
 
 -- ---- a word that is read is the rule's
@@ -28,7 +30,7 @@ spelled_by : {R : Type 0} (spell : R → List ℕ) (word : List ℕ) (one rule :
 spelled_by spell word one rule found true is more e = let same : one ≡ rule = cc in (bytes_eq-Decides word (spell one)).0 is ∙ ap spell same
 spelled_by spell word one rule found false is more e = more e
 
-rule_spelled : {R : Type 0} (spell : R → List ℕ) (rules : List R) (word : List ℕ) (rule : R) → rule_by spell rules word ≡ Some rule → word ≡ spell rule
+pub rule_spelled : {R : Type 0} (spell : R → List ℕ) (rules : List R) (word : List ℕ) (rule : R) → rule_by spell rules word ≡ Some rule → word ≡ spell rule
 rule_spelled spell [] word rule e = absurd (cc)
 rule_spelled spell (one ∷ rules) word rule e = spelled_by spell word one rule (rule_by spell rules word) (bytes_eq word (spell one)) refl (rule_spelled spell rules word rule) e
 
@@ -72,17 +74,17 @@ IsRuleHead word =
     (is_plain word ≡ true) × ((rest : Option (List ℕ)) → line_by_head word rest ≡ line_if (is_step word rest) step) × ((rest : Option (List ℕ)) → is_step word rest ≡ is_some (rule_step_of word rest))
 
 pub goal_head : (rule : GoalRule) → IsRuleHead (goal_word rule)
-unfolding is_step line_by_head
+unfolding is_step is_plain_step term_rule_of line_by_head
 goal_head Refl = (refl, λ rest. refl, λ rest. refl)
 goal_head _ = (refl, λ rest. refl, λ rest. refl)
 
 pub hypothesis_head : (rule : HypothesisRule) → IsRuleHead (hypothesis_word rule)
-unfolding is_step line_by_head
+unfolding is_step is_plain_step term_rule_of line_by_head
 hypothesis_head Cases = (refl, λ rest. refl, λ rest. refl)
 hypothesis_head _ = (refl, λ rest. refl, λ rest. refl)
 
 pub pair_head : (rule : PairRule) → IsRuleHead (pair_word rule)
-unfolding is_step line_by_head
+unfolding is_step is_plain_step term_rule_of line_by_head
 pair_head ModusPonens = (refl, λ rest. refl, λ rest. refl)
 pair_head _ = (refl, λ rest. refl, λ rest. refl)
 
@@ -100,6 +102,15 @@ pair_found : (rule : PairRule) → pair_rule_of (pair_word rule) ≡ Some rule
 unfolding pair_rule_of
 pair_found ModusPonens = refl
 pair_found _ = refl
+
+pub term_found : (rule : TermRule) → term_rule_of (term_word rule) ≡ Some rule
+unfolding term_rule_of
+term_found Cut = refl
+term_found On = refl
+
+pub term_spelled : (head : List ℕ) (rule : TermRule) → term_rule_of head ≡ Some rule → head ≡ term_word rule
+unfolding term_rule_of
+term_spelled head rule e = rule_spelled term_word term_rules head rule e
 
 -- ---- a line has one step of a rule, or none
 
@@ -124,6 +135,7 @@ rule_part Split = None
 rule_part (Range name) = None
 rule_part (Lin multiples) = None
 rule_part (Rewrite rewriting) = None
+rule_part (OnTerm rule t) = None
 rule_part rule = Some rule
 
 pub rule_read : (table : List (List ℕ)) (rest : Option (List ℕ)) (s : Step) → SpellsRest table rest s → rule_step_of (word_of s) rest ≡ rule_part s
@@ -134,4 +146,6 @@ rule_read table None (OnTwo rule label other) h = absurd (cc)
 rule_read table (Some rest) (OnHypothesis rule label) h =
     ap (λ found. found >>= (λ labels. at_labels (hypothesis_word rule) labels.0 labels.1)) h ∙ ap (option_map (λ r. OnHypothesis r label)) (hypothesis_found rule)
 rule_read table (Some rest) (OnTwo rule label other) h = ap (λ found. found >>= (λ labels. at_labels (pair_word rule) labels.0 labels.1)) h ∙ ap (option_map (λ r. OnTwo r label other)) (pair_found rule)
+rule_read table rest (OnTerm Cut t) h = no_rule (term_word Cut) refl refl refl rest
+rule_read table rest (OnTerm On t) h = no_rule (term_word On) refl refl refl rest
 rule_read table rest s h = no_rule (word_of s) refl refl refl rest

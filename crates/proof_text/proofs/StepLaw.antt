@@ -1,26 +1,64 @@
 -- What the line of a step spells, step by step.
-use Rattle.std.proofs.Common.{◌≡◌, ℕ, Bool, true, false, cond, List, [], ◌∷◌, ◌++◌, map, Option, Some, None, refl, sym, ◌∙◌, ap, slice_get, codes}
+use Rattle.std.proofs.Common.{◌≡◌, ℕ, Bool, true, false, cond, ◌⊎◌, inl, inr, subst, List, [], ◌∷◌, ◌++◌, map, Option, Some, None, refl, sym, ◌∙◌, ap, slice_get, codes}
 use Rattle.std.specs.Prelude.{is_some, is_none}
 use Rattle.std.specs.List.{list_all}
 use Rattle.std.specs.Str.{bytes_eq, is_utf8}
 use Rattle.std.proofs.lemmas.Slice.Eq.{bytes_eq-Decides}
 use Rattle.proof_kernel.specs.declared.step.Step.{Step}
-use Rattle.proof_kernel.specs.declared.step.Step.TheVariants.{Intro, Hyp, Split, Range, Lin, OnGoal, OnHypothesis, OnTwo, Rewrite}
+use Rattle.proof_kernel.specs.declared.step.TermRule.{TermRule}
+use Rattle.proof_kernel.specs.declared.step.TermRule.TheVariants.{Cut, On}
+use Rattle.proof_kernel.specs.declared.step.Step.TheVariants.{Intro, Hyp, Split, Range, Lin, OnGoal, OnHypothesis, OnTwo, Rewrite, OnTerm}
+use Rattle.source_trees.specs.Pterm.{Pterm}
+use Rattle.term_texts.specs.TermTexts.{SpellsWholeTerm, IsTermText, NamesOfTerm}
+use Rattle.term_texts.proofs.TermChoice.{term_there}
+use Rattle.term_texts.proofs.TermLaw.{is_term_text, spelled_there, names_there, one_naming, kept_term, one_term}
+pub use Rattle.term_texts.proofs.TermLaw.{AreNamed, KeepsTexts}
 use Rattle.text_core.specs.Names.{words, HaveOnePlace}
 use Rattle.text_core.specs.declared.name.Name.{Name}
 use Rattle.rs_tokens.specs.Tokens.{is_identifier}
 use Rattle.proof_text.specs.ProofTextWords.{◌>>=◌, label_of}
-use Rattle.proof_text.specs.ProofTextRules.{rewriting_in}
-use Rattle.proof_text.specs.ProofTextLines.{head_of, rest_of, words_of, text_at, identifier_of, multiples_in, word_of, SpellsRest, SpellsParts, SpellsStep, as_word, texts_by, texts_in_line}
-use Rattle.proof_text.specs.ProofTextFile.{is_step, step, line_if, line_by_head, line_of, rule_step_of}
+use Rattle.proof_text.specs.ProofTextRules.{rewriting_in, term_word, term_rule_of}
+use Rattle.proof_text.specs.ProofTextLines.{head_of, rest_of, words_of, text_at, identifier_of, multiples_in, word_of, SpellsRest, SpellsParts, SpellsStep, as_word, texts_by, NamesInTerm, NamesByRule, NamesOfParts, NamesTexts}
+use Rattle.proof_text.specs.ProofTextFile.{is_plain_step, is_left, is_term, is_term_rest, is_step_by, is_step, step, line_if, line_by_head, line_of, rule_step_of}
 use Rattle.proof_text.specs.ProofTextLaws.{AlikeStep}
 use Rattle.proof_text.proofs.LineLaw.{is_plain, text_line}
-use Rattle.proof_text.proofs.RuleLaw.{rule_there, goal_head, hypothesis_head, pair_head, rule_part, rule_read}
+use Rattle.proof_text.proofs.RuleLaw.{rule_there, goal_head, hypothesis_head, pair_head, term_found, term_spelled, rule_part, rule_read}
+
+-- ---- a text is a term, or is none
+
+term_told : (text : List ℕ) → IsTermText text → is_term text ≡ true
+unfolding is_term
+term_told text is = by (term_there text)
+  where
+    by : (c : IsTermText text ⊎ (IsTermText text → ⊥)) → is_left c ≡ true
+    by (inl here) = refl
+    by (inr never) = absurd (never is)
+
+told_term : (text : List ℕ) → is_term text ≡ true → IsTermText text
+unfolding is_term
+told_term text e = by (term_there text) e
+  where
+    by : (c : IsTermText text ⊎ (IsTermText text → ⊥)) → is_left c ≡ true → IsTermText text
+    by (inl here) e = here
+    by (inr never) e = absurd (cc)
+
+pub not_told : (text : List ℕ) → (IsTermText text → ⊥) → is_term text ≡ false
+unfolding is_term
+not_told text never = by (term_there text)
+  where
+    by : (c : IsTermText text ⊎ (IsTermText text → ⊥)) → is_left c ≡ false
+    by (inl here) = absurd (never here)
+    by (inr no_term) = refl
 
 -- ---- a spelled step has a line
 
-rest_is : (table : List (List ℕ)) (rest : Option (List ℕ)) (s : Step) → SpellsRest table rest s → is_step (word_of s) rest ≡ true
+term_rest : (table : List (List ℕ)) (rest : Option (List ℕ)) (rule : TermRule) (t : Pterm) → SpellsRest table rest (OnTerm rule t) → is_step (term_word rule) rest ≡ true
 unfolding is_step
+term_rest table rest rule t h =
+    ap (λ o. is_step_by o (term_word rule) rest) (term_found rule) ∙ (ap is_term_rest h.1 ∙ term_told h.0 (is_term_text table h.0 t h.2))
+
+rest_is : (table : List (List ℕ)) (rest : Option (List ℕ)) (s : Step) → SpellsRest table rest s → is_step (word_of s) rest ≡ true
+unfolding is_step is_plain_step term_rule_of
 rest_is table rest (Intro names) h = h.0
 rest_is table rest (Hyp l) h = ap is_some h
 rest_is table rest Split h = ap is_none h
@@ -29,6 +67,7 @@ rest_is table rest (Lin ms) h = ap is_some h
 rest_is table rest (Rewrite r) h = ap is_some h
 rest_is table rest (OnGoal r) h = (goal_head r).2 rest ∙ ap is_some (rule_read table rest (OnGoal r) h)
 rest_is table rest (OnHypothesis r l) h = (hypothesis_head r).2 rest ∙ ap is_some (rule_read table rest (OnHypothesis r l) h)
+rest_is table rest (OnTerm r t) h = term_rest table rest r t h
 rest_is table rest (OnTwo r l m) h = (pair_head r).2 rest ∙ ap is_some (rule_read table rest (OnTwo r l m) h)
 
 by_word : (s : Step) (rest : Option (List ℕ)) → line_by_head (word_of s) rest ≡ line_if (is_step (word_of s) rest) step
@@ -36,12 +75,16 @@ unfolding line_by_head
 by_word (OnGoal r) rest = (goal_head r).1 rest
 by_word (OnHypothesis r l) rest = (hypothesis_head r).1 rest
 by_word (OnTwo r l m) rest = (pair_head r).1 rest
+by_word (OnTerm Cut t) rest = refl
+by_word (OnTerm On t) rest = refl
 by_word _ rest = refl
 
 word_plain : (s : Step) → is_plain (word_of s) ≡ true
 word_plain (OnGoal r) = (goal_head r).0
 word_plain (OnHypothesis r l) = (hypothesis_head r).0
 word_plain (OnTwo r l m) = (pair_head r).0
+word_plain (OnTerm Cut t) = refl
+word_plain (OnTerm On t) = refl
 word_plain _ = refl
 
 pub parts_are : (table : List (List ℕ)) (head : List ℕ) (rest : Option (List ℕ)) (s : Step) → SpellsParts table head rest s → is_step head rest ≡ true
@@ -53,11 +96,6 @@ step_line table text s h =
     ∙ (ap (λ w. line_by_head w (rest_of text)) h.1.0 ∙ by_word s (rest_of text) ∙ ap (λ b. line_if b step) (rest_is table (rest_of text) s h.1.1))
 
 -- ---- such a line spells a step
-
--- each of the texts has a name
-abbrev pub AreNamed : List (List ℕ) → List (List ℕ) → Type 0
-AreNamed table [] = Unit {0}
-AreNamed table (text ∷ texts) = ((name : Name) × (text_at table name ≡ Some text)) × AreNamed table texts
 
 names_there : (table texts : List (List ℕ)) → AreNamed table texts → (names : List Name) × (map (text_at table) names ≡ map Some texts)
 names_there table [] h = ([], refl)
@@ -102,20 +140,60 @@ by_words table head rest false false false false true f p q r s t u is named = l
 by_words table head rest false false false false false true p q r s t u is named = let found = some_of (rest >>= rewriting_in) is in (Rewrite found.0, (same_head head (codes "rewrite") u, found.1))
 by_words table head rest false false false false false false p q r s t u is named = let found = some_of (rule_step_of head rest) is in (found.0, rule_there table head found.0 rest found.1)
 
-parts_there : (table : List (List ℕ)) (head : List ℕ) (rest : Option (List ℕ)) → is_step head rest ≡ true → AreNamed table (texts_by head rest) → Spelled table head rest
-unfolding is_step texts_by
-parts_there table head rest is named =
+plain_there : (table : List (List ℕ)) (head : List ℕ) (rest : Option (List ℕ)) → is_plain_step head rest ≡ true → AreNamed table (texts_by head rest) → Spelled table head rest
+unfolding is_plain_step texts_by
+plain_there table head rest is named =
     by_words table head rest (bytes_eq head (codes "intro")) (bytes_eq head (codes "hyp")) (bytes_eq head (codes "split")) (bytes_eq head (codes "range")) (bytes_eq head (codes "lin")) (bytes_eq head (codes "rewrite"))
     refl refl refl refl refl refl is named
 
-pub step_there : (table : List (List ℕ)) (text : List ℕ) → is_utf8 text ≡ true → is_step (head_of text) (rest_of text) ≡ true → AreNamed table (texts_in_line text) → (s : Step) × SpellsStep table text s
-step_there table text u is named = let s = parts_there table (head_of text) (rest_of text) is named in (s.0, (u, s.1))
+term_line : (table : List (List ℕ)) (head : List ℕ) (rest : Option (List ℕ)) (rule : TermRule) (texts : List (List ℕ)) → term_rule_of head ≡ Some rule → is_term_rest rest ≡ true → NamesInTerm rest texts → AreNamed table texts →
+    Spelled table head rest
+term_line table head None rule texts e is names named = absurd (cc)
+term_line table head (Some text) rule texts e is names named =
+    let term : IsTermText text = told_term text is in
+    let t = spelled_there table text term (subst (AreNamed table) (one_naming text texts _ names (names_there text term)) named) in
+    (OnTerm rule t.0, (term_spelled head rule e, (text, refl, t.1)))
+
+by_rule : (table : List (List ℕ)) (head : List ℕ) (rest : Option (List ℕ)) (texts : List (List ℕ)) (o : Option TermRule) → term_rule_of head ≡ o → is_step_by o head rest ≡ true → NamesByRule o head rest texts → AreNamed table texts →
+    Spelled table head rest
+by_rule table head rest texts None e is names named = plain_there table head rest is (subst (AreNamed table) names named)
+by_rule table head rest texts (Some rule) e is names named = term_line table head rest rule texts e is names named
+
+parts_there : (table : List (List ℕ)) (head : List ℕ) (rest : Option (List ℕ)) (texts : List (List ℕ)) → is_step head rest ≡ true → NamesOfParts head rest texts → AreNamed table texts → Spelled table head rest
+unfolding is_step NamesOfParts
+parts_there table head rest texts is names named = by_rule table head rest texts (term_rule_of head) refl is names named
+
+pub step_there : (table : List (List ℕ)) (text : List ℕ) (texts : List (List ℕ)) → is_utf8 text ≡ true → is_step (head_of text) (rest_of text) ≡ true → NamesTexts text texts → AreNamed table texts → (s : Step) × SpellsStep table text s
+step_there table text texts u is names named = let s = parts_there table (head_of text) (rest_of text) texts is names named in (s.0, (u, s.1))
+
+-- ---- what a line names
+
+term_names : (rest : Option (List ℕ)) → is_term_rest rest ≡ true → (texts : List (List ℕ)) × NamesInTerm rest texts
+term_names None is = absurd (cc)
+term_names (Some text) is = let term : IsTermText text = told_term text is in (_, names_there text term)
+
+names_by : (head : List ℕ) (rest : Option (List ℕ)) (o : Option TermRule) → is_step_by o head rest ≡ true → (texts : List (List ℕ)) × NamesByRule o head rest texts
+names_by head rest None is = (texts_by head rest, refl)
+names_by head rest (Some rule) is = term_names rest is
+
+pub step_names : (text : List ℕ) → is_step (head_of text) (rest_of text) ≡ true → (texts : List (List ℕ)) × NamesTexts text texts
+unfolding is_step NamesOfParts
+step_names text is = names_by (head_of text) (rest_of text) (term_rule_of (head_of text)) is
+
+once_in_term : (rest : Option (List ℕ)) (one other : List (List ℕ)) → NamesInTerm rest one → NamesInTerm rest other → one ≡ other
+once_in_term None one other a b = a ∙ sym b
+once_in_term (Some text) one other a b = one_naming text one other a b
+
+once_by : (head : List ℕ) (rest : Option (List ℕ)) (o : Option TermRule) (one other : List (List ℕ)) → NamesByRule o head rest one → NamesByRule o head rest other → one ≡ other
+once_by head rest None one other a b = a ∙ sym b
+once_by head rest (Some rule) one other a b = once_in_term rest one other a b
+
+-- a line names one list of texts
+pub line_names_once : (text : List ℕ) (one other : List (List ℕ)) → NamesTexts text one → NamesTexts text other → one ≡ other
+unfolding NamesOfParts
+line_names_once text one other a b = once_by (head_of text) (rest_of text) (term_rule_of (head_of text)) one other a b
 
 -- ---- in a larger table the same step is spelled
-
--- each text stays where it is
-abbrev pub KeepsTexts : List (List ℕ) → List (List ℕ) → Type 0
-KeepsTexts old new = (k : ℕ) (text : List ℕ) → slice_get (words ++ old) k ≡ Some text → slice_get (words ++ new) k ≡ Some text
 
 module _ (old new : List (List ℕ)) (keeps : KeepsTexts old new) where
   kept_names : (names : List Name) (texts : List (List ℕ)) → map (text_at old) names ≡ map Some texts → map (text_at new) names ≡ map Some texts
@@ -131,6 +209,7 @@ module _ (old new : List (List ℕ)) (keeps : KeepsTexts old new) where
   kept_rest : (rest : Option (List ℕ)) (s : Step) → SpellsRest old rest s → SpellsRest new rest s
   kept_rest rest (Intro names) h = (h.0, kept_names names (words_of rest) h.1)
   kept_rest rest (Range x) h = (h.0, h.1, h.2, keeps x.0 h.0 h.3)
+  kept_rest rest (OnTerm r t) h = (h.0, h.1, kept_term old new keeps h.0 t h.2)
   kept_rest rest _ h = h
 
   pub kept_step : (text : List ℕ) (s : Step) → SpellsStep old text s → SpellsStep new text s
@@ -139,6 +218,15 @@ module _ (old new : List (List ℕ)) (keeps : KeepsTexts old new) where
 -- ---- a line spells one step
 
 module _ (table other : List (List ℕ)) (rest : Option (List ℕ)) where
+  abbrev AlikeTerm : Pterm → Pterm → Type 0
+  AlikeTerm t u = (text : List ℕ) × SpellsWholeTerm table text t × SpellsWholeTerm other text u
+
+  alike_term : (r : TermRule) (t u : Pterm) → SpellsRest table rest (OnTerm r t) → SpellsRest other rest (OnTerm r u) → AlikeTerm t u
+  alike_term r t u h k =
+      let same : Some k.0 ≡ Some h.0 = sym k.1 ∙ h.1 in
+      let text : k.0 ≡ h.0 = cc in
+      (h.0, h.2, subst (λ (x : List ℕ). SpellsWholeTerm other x u) text k.2)
+
   alike_rest : (s t : Step) → bytes_eq (word_of s) (word_of t) ≡ true → rule_part s ≡ rule_part t → SpellsRest table rest s → SpellsRest other rest t → AlikeStep table other s t
   alike_rest (Intro ms) (Intro ns) e r h k = h.1 ∙ sym k.1
   alike_rest (Hyp l) (Hyp m) e r h k = let same : Some l ≡ Some m = sym h ∙ k in cc
@@ -149,6 +237,8 @@ module _ (table other : List (List ℕ)) (rest : Option (List ℕ)) where
   alike_rest (OnGoal a) (OnGoal b) e r h k = cc
   alike_rest (OnHypothesis a l) (OnHypothesis b m) e r h k = (cc, cc)
   alike_rest (OnTwo a l m) (OnTwo b n o) e r h k = (cc, cc, cc)
+  alike_rest (OnTerm Cut t) (OnTerm Cut u) e r h k = (refl, alike_term Cut t u h k)
+  alike_rest (OnTerm On t) (OnTerm On u) e r h k = (refl, alike_term On t u h k)
   alike_rest _ _ e r h k = absurd (cc)
 
 pub alike_step : (table other : List (List ℕ)) (text : List ℕ) (s t : Step) → SpellsStep table text s → SpellsStep other text t → AlikeStep table other s t
@@ -189,6 +279,10 @@ module _ (table : List (List ℕ)) (place : HaveOnePlace (words ++ table)) where
   rest_once rest (Rewrite a) (Rewrite b) e h k = ap Rewrite e
   rest_once rest (OnHypothesis a l) (OnHypothesis b m) e h k = cc
   rest_once rest (OnTwo a l m) (OnTwo b n o) e h k = cc
+  rest_once rest (OnTerm a t) (OnTerm b u) e h k =
+      let rule : a ≡ b = e.0 in
+      let term : t ≡ u = one_term table place e.1.0 t u e.1.1 e.1.2 in
+      cc
   rest_once rest _ _ e h k = absurd e
 
   pub step_once : (text : List ℕ) (s t : Step) → SpellsStep table text s → SpellsStep table text t → s ≡ t

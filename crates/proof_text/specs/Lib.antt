@@ -5,5 +5,4 @@ pub mod ProofTextLaws
 pub mod ProofTextLines
 pub mod ProofTextReads
 pub mod ProofTextRules
-pub mod ProofTextTerms
 pub mod ProofTextWords

@@ -10,7 +10,7 @@ use Rattle.proof_kernel.specs.declared.step.Step.{Step}
 use Rattle.proof_text.specs.declared.proof.NumberedStep.{NumberedStep}
 use Rattle.proof_text.specs.declared.proof.Proof.{Proof}
 use Rattle.proof_text.specs.declared.proof.ProofFile.{ProofFile}
-use Rattle.proof_text.specs.ProofTextLines.{SpellsStep, texts_in_line, IsHeading, IsEnd}
+use Rattle.proof_text.specs.ProofTextLines.{SpellsStep, NamesTexts, IsHeading, IsEnd}
 
 -- ---- the lines of a file
 
@@ -65,10 +65,10 @@ pub record HasForm (table lines : List (List ℕ)) (proofs : List Proof) : Type 
   pub proved : ProofsLines table 2 others proofs
   pub distinct : NoTwoAlike (map key_of proofs)
 
--- the texts that lines name, in order
-abbrev pub texts_of_lines : List (List ℕ) → List (List ℕ)
-texts_of_lines [] = []
-texts_of_lines (line ∷ lines) = texts_in_line line ++ texts_of_lines lines
+-- the lines name these texts, in order
+abbrev pub LinesName : List (List ℕ) → List (List ℕ) → Type 0
+LinesName [] texts = texts ≡ []
+LinesName (line ∷ lines) texts = (own others : List (List ℕ)) × NamesTexts line own × LinesName lines others × (texts ≡ own ++ others)
 
 -- ---- the text of a file
 
@@ -92,17 +92,17 @@ pub record IsFileOf (table : List (List ℕ)) (bytes : List ℕ) (proofs : List 
   pub whole : bytes ≡ ended lines
   pub form : HasForm table lines proofs
 
--- the texts that the lines of the bytes name, in order
-abbrev pub texts_in : List ℕ → List (List ℕ)
-texts_in bytes = texts_of_lines (slice_split (λ b. b == 10) bytes)
+-- the lines of the bytes name these texts, in order
+abbrev pub BytesName : List ℕ → List (List ℕ) → Type 0
+BytesName bytes texts = LinesName (slice_split (λ b. b == 10) bytes) texts
 
 -- the bytes spell the file: a text has the name that the old table gave it, or else the next one, in order of first use
 abbrev pub SpellsProofs : List (List ℕ) → List ℕ → ProofFile → Type 0
-SpellsProofs old bytes file = IsFileOf (with_names old (texts_in bytes)) bytes file.proofs
+SpellsProofs old bytes file = (texts : List (List ℕ)) × BytesName bytes texts × IsFileOf (with_names old texts) bytes file.proofs
 
 -- the new table is the old one with names for the texts that the bytes name
 abbrev pub HasNamesOf : List (List ℕ) → List ℕ → List (List ℕ) → Type 0
-HasNamesOf old bytes new = new ≡ with_names old (texts_in bytes)
+HasNamesOf old bytes new = (texts : List (List ℕ)) × BytesName bytes texts × (new ≡ with_names old texts)
 
 -- ---- the first bad line
 

@@ -1,7 +1,8 @@
 -- A proof file read from line to line: which lines it has its proofs from, or the number of its first bad line. `ProofFileForm` has the
 -- format; no clause of `read_proofs` cites this file.
-use Rattle.std.specs.Prelude.{◌≡◌, ℕ, ◌+◌, ◌-◌, List, [], ◌∷◌, ◌++◌, length, take, slice_index, slice_index_or, codes, Bool, ◌&&◌, ◌||◌, Option, None, Some, is_some, is_none, Result, Ok, Err, ◌==◌, if◌then◌else◌}
+use Rattle.std.specs.Prelude.{◌≡◌, ℕ, ◌+◌, ◌-◌, List, [], ◌∷◌, ◌++◌, length, take, slice_index, slice_index_or, codes, Bool, true, false, ◌⊎◌, ◌&&◌, ◌||◌, Option, None, Some, is_some, is_none, Result, Ok, Err, ◌==◌, if◌then◌else◌}
 use Rattle.std.specs.List.{list_all, list_any, slice_split}
+use Rattle.std.proofs.Common.{inl, inr}
 use Rattle.std.specs.Option.{option_map}
 use Rattle.std.specs.Str.{bytes_eq, is_utf8}
 use Rattle.rs_tokens.specs.Tokens.{is_identifier}
@@ -11,7 +12,9 @@ use Rattle.logic_term.specs.declared.kinds.Label2.{Label2}
 use Rattle.proof_kernel.specs.declared.step.Step.{Step}
 use Rattle.proof_kernel.specs.declared.step.Step.TheVariants.{OnGoal, OnHypothesis, OnTwo}
 use Rattle.proof_text.specs.ProofTextWords.{◌>>=◌, Each, label_of}
-use Rattle.proof_text.specs.ProofTextRules.{labels_in, rewriting_in, goal_rule_of, hypothesis_rule_of, pair_rule_of}
+use Rattle.proof_kernel.specs.declared.step.TermRule.{TermRule}
+use Rattle.term_texts.proofs.TermChoice.{term_there}
+use Rattle.proof_text.specs.ProofTextRules.{labels_in, rewriting_in, goal_rule_of, hypothesis_rule_of, pair_rule_of, term_rule_of}
 use Rattle.proof_text.specs.ProofTextLines.{head_of, rest_of, words_of, identifier_of, multiples_in, heading_of, SpellsStep}
 pub use Rattle.proof_text.specs.ProofFileForm.{SpellsProofs, HasNamesOf, IsFirstBadLine}
 
@@ -27,9 +30,9 @@ abbrev pub rule_step_of : List ℕ → Option (List ℕ) → Option Step
 rule_step_of head None = option_map OnGoal (goal_rule_of head)
 rule_step_of head (Some rest) = labels_in rest >>= (λ labels. at_labels head labels.0 labels.1)
 
--- some step has such a line, in a table where the texts have names
-unfoldable pub is_step : List ℕ → Option (List ℕ) → Bool
-is_step head rest =
+-- some step without a term has such a line, in a table where the texts have names
+unfoldable pub is_plain_step : List ℕ → Option (List ℕ) → Bool
+is_plain_step head rest =
     if bytes_eq head (codes "intro") then list_all is_identifier (words_of rest)
     else if bytes_eq head (codes "hyp") then is_some (rest >>= label_of)
     else if bytes_eq head (codes "split") then is_none rest
@@ -37,6 +40,26 @@ is_step head rest =
     else if bytes_eq head (codes "lin") then is_some (rest >>= multiples_in)
     else if bytes_eq head (codes "rewrite") then is_some (rest >>= rewriting_in)
     else is_some (rule_step_of head rest)
+
+abbrev pub is_left : {A B : Type 0} → A ⊎ B → Bool
+is_left (inl a) = true
+is_left (inr b) = false
+
+-- the text spells a term, in a table where its texts have names: by the law of `term_texts` that each text does or does not
+unfoldable pub is_term : List ℕ → Bool
+is_term text = is_left (term_there text)
+
+abbrev pub is_term_rest : Option (List ℕ) → Bool
+is_term_rest None = false
+is_term_rest (Some rest) = is_term rest
+
+-- some step has such a line, of the rule by a term or of none
+abbrev pub is_step_by : Option TermRule → List ℕ → Option (List ℕ) → Bool
+is_step_by None head rest = is_plain_step head rest
+is_step_by (Some rule) head rest = is_term_rest rest
+
+unfoldable pub is_step : List ℕ → Option (List ℕ) → Bool
+is_step head rest = is_step_by (term_rule_of head) head rest
 
 -- a line after the first
 pub data Line : Type 0 where

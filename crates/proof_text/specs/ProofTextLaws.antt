@@ -2,10 +2,11 @@
 use Rattle.std.specs.Prelude.{◌≡◌, ◌⊎◌, ℕ, List, ◌++◌, map}
 use Rattle.text_core.specs.Names.{words, HaveOnePlace}
 use Rattle.proof_kernel.specs.declared.step.Step.{Step}
-use Rattle.proof_kernel.specs.declared.step.Step.TheVariants.{Intro, Hyp, Split, Range, Lin, OnGoal, OnHypothesis, OnTwo, Rewrite}
+use Rattle.proof_kernel.specs.declared.step.Step.TheVariants.{Intro, Hyp, Split, Range, Lin, OnGoal, OnHypothesis, OnTwo, Rewrite, OnTerm}
 use Rattle.proof_text.specs.declared.proof.NumberedStep.{NumberedStep}
 use Rattle.proof_text.specs.declared.proof.Proof.{Proof}
 use Rattle.proof_text.specs.declared.proof.ProofFile.{ProofFile}
+use Rattle.term_texts.specs.TermTexts.{SpellsWholeTerm}
 use Rattle.proof_text.specs.ProofTextWords.{Each}
 use Rattle.proof_text.specs.ProofTextLines.{text_at}
 use Rattle.proof_text.specs.ProofFileForm.{IsFileOf, SpellsProofs, IsFirstBadLine}
@@ -23,6 +24,7 @@ AlikeStep table other (OnGoal r) (OnGoal s) = r ≡ s
 AlikeStep table other (OnHypothesis r l) (OnHypothesis s m) = (r ≡ s) × (l ≡ m)
 AlikeStep table other (OnTwo r k l) (OnTwo s m n) = (r ≡ s) × (k ≡ m) × (l ≡ n)
 AlikeStep table other (Rewrite r) (Rewrite s) = r ≡ s
+AlikeStep table other (OnTerm r t) (OnTerm s u) = (r ≡ s) × ((text : List ℕ) × SpellsWholeTerm table text t × SpellsWholeTerm other text u)
 AlikeStep table other _ _ = ⊥
 
 abbrev pub AlikeProof : List (List ℕ) → List (List ℕ) → Proof → Proof → Type 0

@@ -9,12 +9,12 @@ use Rattle.std.specs.Str.{bytes_eq, is_utf8}
 use Rattle.proof_kernel.specs.declared.step.Multiple.{Multiple}
 use Rattle.proof_kernel.specs.declared.step.Step.{Step}
 use Rattle.proof_kernel.specs.declared.step.Step.TheVariants.{Intro, Hyp, Split, Range, Lin, OnGoal, OnHypothesis, OnTwo, Rewrite, OnTerm}
-use Rattle.text_core.specs.Names.{words}
-use Rattle.text_core.specs.declared.name.Name.{Name}
 use Rattle.rs_tokens.specs.Tokens.{is_identifier}
 use Rattle.proof_text.specs.ProofTextWords.{◌>>=◌, number_of, label_of, multiple_of, cut}
-use Rattle.proof_text.specs.ProofTextRules.{goal_word, hypothesis_word, pair_word, term_word, labels_in, rewriting_in}
-use Rattle.proof_text.specs.ProofTextTerms.{SpellsWholeTerm}
+use Rattle.proof_kernel.specs.declared.step.TermRule.{TermRule}
+use Rattle.proof_text.specs.ProofTextRules.{goal_word, hypothesis_word, pair_word, term_word, labels_in, rewriting_in, term_rule_of}
+use Rattle.term_texts.specs.TermTexts.{SpellsWholeTerm, NamesOfTerm}
+pub use Rattle.term_texts.specs.TermTexts.{text_at}
 
 -- ---- a line
 
@@ -32,11 +32,6 @@ words_of None = []
 words_of (Some rest) = slice_split (λ b. b == 32) rest
 
 -- ---- the parts of steps
-
--- the text that a name stands for, in the table that was given these texts beside the words of text_core: as `text_of` of text_core
--- says, but also of tables that are too long for a program
-abbrev pub text_at : List (List ℕ) → Name → Option (List ℕ)
-text_at table name = slice_get (words ++ table) name.0
 
 -- owners and names are identifiers of sources
 abbrev pub identifier_of : List ℕ → Option (List ℕ)
@@ -95,7 +90,7 @@ abbrev pub as_word : Option (List ℕ) → List (List ℕ)
 as_word None = []
 as_word (Some rest) = rest ∷ []
 
--- the texts that a line names, in order: those of an `intro` and that of a `range`
+-- the texts that a line of no term names, in order: those of an `intro` and that of a `range`
 unfoldable pub texts_by : List ℕ → Option (List ℕ) → List (List ℕ)
 texts_by head rest =
     if bytes_eq head (codes "intro") then words_of rest
@@ -104,8 +99,22 @@ texts_by head rest =
     else if bytes_eq head (codes "range") then as_word rest
     else []
 
-abbrev pub texts_in_line : List ℕ → List (List ℕ)
-texts_in_line line = texts_by (head_of line) (rest_of line)
+-- the texts that a line of a term names: the identifiers and lifetimes of its rest
+abbrev pub NamesInTerm : Option (List ℕ) → List (List ℕ) → Type 0
+NamesInTerm None texts = texts ≡ []
+NamesInTerm (Some rest) texts = NamesOfTerm rest texts
+
+-- the same of a line that has such a rule, or none
+abbrev pub NamesByRule : Option TermRule → List ℕ → Option (List ℕ) → List (List ℕ) → Type 0
+NamesByRule None head rest texts = texts ≡ texts_by head rest
+NamesByRule (Some rule) head rest texts = NamesInTerm rest texts
+
+unfoldable pub NamesOfParts : List ℕ → Option (List ℕ) → List (List ℕ) → Type 0
+NamesOfParts head rest texts = NamesByRule (term_rule_of head) head rest texts
+
+-- the line names these texts, in order
+abbrev pub NamesTexts : List ℕ → List (List ℕ) → Type 0
+NamesTexts line texts = NamesOfParts (head_of line) (rest_of line) texts
 
 -- ---- the first and the last line of a proof
 

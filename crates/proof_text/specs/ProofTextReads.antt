@@ -2,6 +2,7 @@
 use Rattle.std.specs.Prelude.{◌≡◌, ℕ, ◌+◌, List, [], ◌∷◌, length, Bool, true, false, Option, None, Some, Result, Ok, Err, if◌then◌else◌}
 use Rattle.std.specs.Str.{is_utf8}
 use Rattle.text_core.specs.Names.{text_of}
+use Rattle.name_tables.specs.NameTables.{with_names}
 use Rattle.text_core.specs.declared.name.Name.{Name}
 use Rattle.proof_text.specs.declared.fault.Fault.{Fault}
 use Rattle.proof_text.specs.declared.fault.Fault.TheVariants.{Bad, NoMemory}
@@ -32,6 +33,10 @@ ReadsLines R (Err errors.NoMemory) said = Unit {0}
 -- each name keeps its text
 abbrev pub KeepsNames : List (List ℕ) → List (List ℕ) → Type 0
 KeepsNames old new = (name : Name) (text : List ℕ) → text_of old name ≡ Some text → text_of new name ≡ Some text
+
+-- the new table is the old one with names for texts that are named so
+abbrev pub GivesTexts : (List (List ℕ) → Type 0) → List (List ℕ) → List (List ℕ) → Type 0
+GivesTexts Names old new = (texts : List (List ℕ)) × Names texts × (new ≡ with_names old texts)
 
 -- the line that was read is of this head and rest
 abbrev pub IsHeaded : List (List ℕ) → List ℕ → Option (List ℕ) → Line → code.Line → Type 0

@@ -98,10 +98,13 @@ abbrev pub goal_rules : List GoalRule
 goal_rules = Refl ∷ Truth ∷ Left ∷ Right ∷ Contra ∷ ByContradiction ∷ Iff ∷ Antisymmetry ∷ []
 
 abbrev pub hypothesis_rules : List HypothesisRule
-hypothesis_rules = Cases ∷ Absurd ∷ Drop ∷ Revert ∷ []
+hypothesis_rules = Cases ∷ Absurd ∷ Drop ∷ Revert ∷ Back ∷ []
 
 abbrev pub pair_rules : List PairRule
 pair_rules = ModusPonens ∷ Contradiction ∷ Product ∷ []
+
+abbrev pub term_rules : List TermRule
+term_rules = Cut ∷ On ∷ []
 
 unfoldable pub goal_rule_of : List ℕ → Option GoalRule
 goal_rule_of word = rule_by goal_word goal_rules word
@@ -111,3 +114,6 @@ hypothesis_rule_of word = rule_by hypothesis_word hypothesis_rules word
 
 unfoldable pub pair_rule_of : List ℕ → Option PairRule
 pair_rule_of word = rule_by pair_word pair_rules word
+
+unfoldable pub term_rule_of : List ℕ → Option TermRule
+term_rule_of word = rule_by term_word term_rules word

@@ -1,9 +1,8 @@
 ghost use Rattle.std.specs.Prelude.{◌≡◌, ℕ, ◌+◌, ◌^◌, ◌<◌, ◌≤◌, ◌==◌, List, Option, OnOk, length};
 ghost use Rattle.std.specs.Option.{option_copied, option_map};
-ghost use Rattle.name_tables.specs.NameTables.{with_names};
-ghost use Rattle.proof_text.specs.ProofTextLines.{head_of, rest_of, heading_of, texts_by, texts_in_line};
+ghost use Rattle.proof_text.specs.ProofTextLines.{head_of, rest_of, heading_of, NamesOfParts, NamesTexts};
 ghost use Rattle.proof_text.specs.ProofTextFile.{heading, line_by_head, is_passed, line_of};
-ghost use Rattle.proof_text.specs.ProofTextReads.{Reads, KeepsNames, utf8_of, IsHeaded, IsLineOf, room_of};
+ghost use Rattle.proof_text.specs.ProofTextReads.{Reads, KeepsNames, GivesTexts, utf8_of, IsHeaded, IsLineOf, room_of};
 
 use crate::fault::Fault;
 use crate::step::step;
@@ -44,7 +43,7 @@ fn line_by_head<'a>(
 ) -> Result<Line<'a>, Fault>
     requires { length names.old + room_of (option_copied rest) < 2 ^ 32 }
     ensures said { Reads (IsHeaded names.new head.now (option_copied rest.entry)) result (line_by_head head.now (option_copied rest.entry)) }
-    ensures table { OnOk result (names.new ≡ with_names names.old (texts_by head.now (option_copied rest.entry))) }
+    ensures table { OnOk result (GivesTexts (NamesOfParts head.now (option_copied rest.entry)) names.old names.new) }
     ensures kept { KeepsNames names.old names.new }
     ensures grown { length names.new ≤ length names.old + room_of (option_copied rest.entry) }
 {
@@ -74,7 +73,7 @@ fn parts(text: &str) -> (&str, Option<&str>)
 fn line_of_text<'a>(alloc: Global, text: &'a str, names: &mut Names) -> Result<Line<'a>, Fault>
     requires { length names.old + length text.now < 2 ^ 32 }
     ensures said { Reads (IsHeaded names.new (head_of text.now) (rest_of text.now)) result (line_by_head (head_of text.now) (rest_of text.now)) }
-    ensures table { OnOk result (names.new ≡ with_names names.old (texts_in_line text.now)) }
+    ensures table { OnOk result (GivesTexts (NamesTexts text.now) names.old names.new) }
     ensures kept { KeepsNames names.old names.new }
     ensures grown { length names.new ≤ length names.old + length text.now }
 {
@@ -104,7 +103,7 @@ pub(crate) fn read_line<'a>(
 ) -> Result<Line<'a>, Fault>
     requires { length names.old + length text.now + 1 < 2 ^ 32 }
     ensures said { Reads (IsLineOf names.new text.now) result (line_of text.now) }
-    ensures table { OnOk result (names.new ≡ with_names names.old (texts_in_line text.now)) }
+    ensures table { OnOk result (GivesTexts (NamesTexts text.now) names.old names.new) }
     ensures kept { KeepsNames names.old names.new }
     ensures grown { length names.new ≤ length names.old + length text.now }
 {

@@ -1,14 +1,13 @@
 ghost use Rattle.std.specs.Prelude.{◌≡◌, ℕ, ◌+◌, ◌^◌, ◌<◌, ◌≤◌, ◌==◌, List, [], ◌∷◌, ◌++◌, length, map, codes, IfOk, OnOk, IsOk, IsErrOf, ◌⊎◌};
 ghost use Rattle.std.specs.List.{slice_split};
 ghost use Rattle.std.specs.Str.{bytes_eq};
-ghost use Rattle.name_tables.specs.NameTables.{with_names};
 ghost use Rattle.proof_text.specs.ProofTextWords.{Each};
-ghost use Rattle.proof_text.specs.ProofTextLines.{SpellsStep, texts_in_line};
-ghost use Rattle.proof_text.specs.ProofFileForm.{texts_of_lines, IsFileOf, SpellsProofs, HasNamesOf, IsFirstBadLine};
+ghost use Rattle.proof_text.specs.ProofTextLines.{SpellsStep, NamesTexts};
+ghost use Rattle.proof_text.specs.ProofFileForm.{LinesName, IsFileOf, SpellsProofs, HasNamesOf, IsFirstBadLine};
 ghost use Rattle.proof_text.specs.ProofTextFile.{ProofText, IsProofOf, State, start, is_proved, state_after, next_state, state_after_all, proofs_at_end, proofs_of_pieces};
 ghost use Rattle.proof_text.specs.ProofTextFile.{Line as LineKind, heading, step as a_step, «end»};
 ghost use Rattle.proof_text.specs.declared.proof.Proof.{Proof as OneProof};
-ghost use Rattle.proof_text.specs.ProofTextReads.{Reads, ReadsLines, KeepsNames, IsLineOf, IsStageOf, is_start, total_length};
+ghost use Rattle.proof_text.specs.ProofTextReads.{Reads, ReadsLines, KeepsNames, GivesTexts, IsLineOf, IsStageOf, is_start, total_length};
 
 use crate::fault::{Fault, ProofTextError};
 use crate::line::{Line, read_line};
@@ -177,7 +176,7 @@ fn next<'a>(
 ) -> Result<Stage<'a>, Fault>
     requires { length names.old + length text.now + 1 < 2 ^ 32 }
     ensures said { (s : State) → IsStageOf names.old s stage.entry → Reads (IsStageOf names.new) result (next_state s number text.now) }
-    ensures table { OnOk result (names.new ≡ with_names names.old (texts_in_line text.now)) }
+    ensures table { OnOk result (GivesTexts (NamesTexts text.now) names.old names.new) }
     ensures kept { KeepsNames names.old names.new }
     ensures grown { length names.new ≤ length names.old + length text.now }
 {
@@ -200,7 +199,7 @@ fn after_lines<'a>(
     requires count { length lines.now + 1 < 2 ^ 32 }
     requires room { length names.old + total_length (map (λ line. line.now) lines.now) + 1 < 2 ^ 32 }
     ensures said { ReadsLines (IsStageOf names.new) result (state_after_all (map (λ line. line.now) lines.now) start 1) }
-    ensures table { OnOk result (names.new ≡ with_names names.old (texts_of_lines (map (λ line. line.now) lines.now))) }
+    ensures table { OnOk result (GivesTexts (LinesName (map (λ line. line.now) lines.now)) names.old names.new) }
     ensures kept { KeepsNames names.old names.new }
 {
     let mut stage = Stage::Start;
@@ -247,7 +246,7 @@ fn read_pieces(
     requires count { length pieces.now < 2 ^ 31 }
     requires room { length names.old + total_length (map (λ piece. piece.now) pieces.now) + 1 < 2 ^ 32 }
     ensures read { ReadsLines (λ said file. Each (IsProofOf names.new) said file.proofs) result (proofs_of_pieces (map (λ piece. piece.now) pieces.now)) }
-    ensures table { OnOk result (names.new ≡ with_names names.old (texts_of_lines (map (λ piece. piece.now) pieces.now))) }
+    ensures table { OnOk result (GivesTexts (LinesName (map (λ piece. piece.now) pieces.now)) names.old names.new) }
     ensures kept { KeepsNames names.old names.new }
 {
     let Some((rest, lines)) = pieces.split_last() else {

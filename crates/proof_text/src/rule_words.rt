@@ -2,11 +2,13 @@
 ghost use Rattle.std.specs.Prelude.{◌≡◌};
 ghost use Rattle.std.specs.Option.{option_copied};
 ghost use Rattle.proof_text.specs.ProofTextFile.{at_labels, rule_step_of};
-ghost use Rattle.proof_text.specs.ProofTextRules.{goal_rule_of, hypothesis_rule_of, pair_rule_of, target_of, put_in, rewriting_in};
+ghost use Rattle.proof_text.specs.ProofTextRules.{goal_rule_of, hypothesis_rule_of, pair_rule_of, term_rule_of, target_of, put_in, rewriting_in};
 
 use crate::word::{cut, label, labels};
 use logic_term::Label2;
-use proof_kernel::{Direction, GoalRule, HypothesisRule, PairRule, Rewriting, Step, Target};
+use proof_kernel::{
+    Direction, GoalRule, HypothesisRule, PairRule, Rewriting, Step, Target, TermRule,
+};
 
 #[tactic(auto, unfolding(crate::specs::ProofTextRules::goal_rule_of))]
 fn goal_rule(word: &str) -> Option<GoalRule>
@@ -34,6 +36,7 @@ fn hypothesis_rule(word: &str) -> Option<HypothesisRule>
         "absurd" => Some(HypothesisRule::Absurd),
         "drop" => Some(HypothesisRule::Drop),
         "revert" => Some(HypothesisRule::Revert),
+        "back" => Some(HypothesisRule::Back),
         _ => None,
     }
 }
@@ -46,6 +49,17 @@ fn pair_rule(word: &str) -> Option<PairRule>
         "mp" => Some(PairRule::ModusPonens),
         "absurd" => Some(PairRule::Contradiction),
         "mul" => Some(PairRule::Product),
+        _ => None,
+    }
+}
+
+#[tactic(auto, unfolding(crate::specs::ProofTextRules::term_rule_of))]
+pub(crate) fn term_rule(word: &str) -> Option<TermRule>
+    ensures { result ≡ term_rule_of word.now }
+{
+    match word {
+        "cut" => Some(TermRule::Cut),
+        "on" => Some(TermRule::On),
         _ => None,
     }
 }

@@ -4,16 +4,19 @@ ghost use Rattle.std.specs.Option.{option_copied};
 ghost use Rattle.text_core.specs.Names.{text_of};
 ghost use Rattle.name_tables.specs.NameTables.{with_names};
 ghost use Rattle.rs_tokens.specs.Tokens.{is_identifier};
-ghost use Rattle.proof_text.specs.ProofTextLines.{words_of, multiples_of, multiples_in, SpellsParts, texts_by};
-ghost use Rattle.proof_text.specs.ProofTextFile.{is_step};
-ghost use Rattle.proof_text.specs.ProofTextReads.{Reads, KeepsNames, room_of};
+ghost use Rattle.source_words.specs.Words.{GivesNames};
+ghost use Rattle.proof_text.specs.ProofTextRules.{term_word, term_rule_of};
+ghost use Rattle.proof_text.specs.ProofTextLines.{words_of, multiples_of, multiples_in, SpellsParts, texts_by, NamesOfParts};
+ghost use Rattle.proof_text.specs.ProofTextFile.{is_plain_step, is_term, is_step};
+ghost use Rattle.proof_text.specs.ProofTextReads.{Reads, KeepsNames, GivesTexts, room_of};
 
 use crate::fault::Fault;
-use crate::rule_words::{rewriting, rule_step};
+use crate::rule_words::{rewriting, rule_step, term_rule};
 use crate::word::{label, multiple};
-use proof_kernel::{Multiple, Step};
+use proof_kernel::{Multiple, Step, TermRule};
 use rs_tokens::is_identifier;
 use std::alloc::Global;
+use term_texts::{TermFault, read_whole_term};
 use text_core::{Items, Name, Names, NoMemory};
 
 /// The words between single spaces.
@@ -105,9 +108,29 @@ fn range(alloc: Global, word: &str, names: &mut Names) -> Result<Step, Fault>
     Ok(Step::Range(names.intern(alloc, word)?))
 }
 
-/// A step, by the first word of its line and the rest.
-#[tactic(auto, unfolding(crate::specs::ProofTextFile::is_step, crate::specs::ProofTextLines::texts_by))]
-pub(crate) fn step(
+/// The step of a rule by the term that the rest of the line is.
+fn on_term(
+    alloc: Global,
+    rule: TermRule,
+    rest: &str,
+    names: &mut Names,
+) -> Result<Step, Fault>
+    ensures said { IfOk result (λ step. SpellsParts names.new (term_word rule) (Some rest.now) step) }
+    ensures bad { IsErrOf result Fault.Bad → is_term rest.now ≡ false }
+    ensures table { OnOk result (GivesNames names.old rest.now names.new) }
+    ensures kept { KeepsNames names.old names.new }
+    ensures grown { length names.new ≤ length names.old + length rest.now }
+{
+    match read_whole_term(alloc, rest, names) {
+        Ok(term) => Ok(Step::OnTerm(rule, term)),
+        Err(TermFault::NoTerm) => Err(Fault::Bad),
+        Err(TermFault::NoMemory) => Err(Fault::NoMemory),
+    }
+}
+
+/// A step without a term, by the first word of its line and the rest.
+#[tactic(auto, unfolding(crate::specs::ProofTextFile::is_plain_step, crate::specs::ProofTextLines::texts_by))]
+fn plain_step(
     alloc: Global,
     head: &str,
     rest: Option<&str>,
@@ -115,7 +138,7 @@ pub(crate) fn step(
 ) -> Result<Step, Fault>
     requires { length names.old + room_of (option_copied rest) < 2 ^ 32 }
     ensures said { IfOk result (λ step. SpellsParts names.new head.now (option_copied rest.entry) step) }
-    ensures bad { IsErrOf result Fault.Bad → is_step head.now (option_copied rest.entry) ≡ false }
+    ensures bad { IsErrOf result Fault.Bad → is_plain_step head.now (option_copied rest.entry) ≡ false }
     ensures table { OnOk result (names.new ≡ with_names names.old (texts_by head.now (option_copied rest.entry))) }
     ensures kept { KeepsNames names.old names.new }
     ensures grown { length names.new ≤ length names.old + room_of (option_copied rest.entry) }
@@ -139,5 +162,25 @@ pub(crate) fn step(
             Ok(Step::Rewrite(rewriting(rest).ok_or(Fault::Bad)?))
         }
         _ => rule_step(head, rest).ok_or(Fault::Bad),
+    }
+}
+
+/// A step, by the first word of its line and the rest.
+pub(crate) fn step(
+    alloc: Global,
+    head: &str,
+    rest: Option<&str>,
+    names: &mut Names,
+) -> Result<Step, Fault>
+    requires { length names.old + room_of (option_copied rest) < 2 ^ 32 }
+    ensures said { IfOk result (λ step. SpellsParts names.new head.now (option_copied rest.entry) step) }
+    ensures bad { IsErrOf result Fault.Bad → is_step head.now (option_copied rest.entry) ≡ false }
+    ensures table { OnOk result (GivesTexts (NamesOfParts head.now (option_copied rest.entry)) names.old names.new) }
+    ensures kept { KeepsNames names.old names.new }
+    ensures grown { length names.new ≤ length names.old + room_of (option_copied rest.entry) }
+{
+    match term_rule(head) {
+        Some(rule) => on_term(alloc, rule, rest.ok_or(Fault::Bad)?, names),
+        None => plain_step(alloc, head, rest, names),
     }
 }

@@ -1,8 +1,7 @@
 use Rattle.std.proofs.Common.{◌≡◌, ◌+◌, ◌≤◌, length, map, drop, take}
-use Rattle.name_tables.specs.NameTables.{with_names}
-use Rattle.proof_text.specs.ProofFileForm.{texts_of_lines}
+use Rattle.proof_text.specs.ProofFileForm.{LinesName}
 use Rattle.proof_text.specs.ProofTextFile.{State, start, state_after_all}
-use Rattle.proof_text.specs.ProofTextReads.{KeepsNames, IsStageOf, total_length}
+use Rattle.proof_text.specs.ProofTextReads.{KeepsNames, GivesTexts, IsStageOf, total_length}
 use Rattle.proof_text.proofs.StageLemmas.{now}
 use Rattle.proof_text.proofs.reader.after_lines.Given as goal
 
@@ -10,7 +9,7 @@ use Rattle.proof_text.proofs.reader.after_lines.Given as goal
 abbrev pub invariant-loop-at : goal.invariant-loop-at
 invariant-loop-at l = record {
   said : (s : State) × IsStageOf l.names s l.stage × (state_after_all (map now (drop l.at l.lines)) s (l.at + 1) ≡ state_after_all (map now l.lines) start 1);
-  table : l.names ≡ with_names l.fn.names (texts_of_lines (map now (take l.at l.lines)));
+  table : GivesTexts (LinesName (map now (take l.at l.lines))) l.fn.names l.names;
   kept : KeepsNames l.fn.names l.names;
   room : length l.names + total_length (map now (drop l.at l.lines)) ≤ length l.fn.names + total_length (map now l.lines);
 }

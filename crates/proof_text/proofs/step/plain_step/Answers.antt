@@ -1,6 +1,6 @@
 use Rattle.std.specs.Option.{option_copied}
 use Rattle.proof_text.proofs.RuleLaw.{rule_line}
-use Rattle.proof_text.proofs.step.step.Goals as goal
+use Rattle.proof_text.proofs.step.plain_step.Goals as goal
 
 pub returns-in_default-clause-said : goal.returns-in_default-clause-said
 returns-in_default-clause-said c =

@@ -1,0 +1,3 @@
+pub mod TermChoice
+pub mod TermLaw
+pub mod TokenChoice
