@@ -12,3 +12,4 @@ pub mod RuleLaw
 pub mod StageLemmas
 pub mod StepLaw
 pub mod StepLemmas
+pub mod TermLines

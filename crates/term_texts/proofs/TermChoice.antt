@@ -13,7 +13,7 @@ use Rattle.grammar_tables.specs.Limits.{PassesAt, limit_passed}
 use Rattle.grammar_tables.specs.Answers.{goal_of}
 use Rattle.grammar_tables.specs.Trees.{Tree, IsTree, preorder, size}
 use Rattle.grammar_tables.proofs.ParserMoves.{weight, falls}
-use Rattle.grammar_tables.proofs.Soundness.{complete, sound}
+use Rattle.grammar_tables.proofs.Soundness.{some_inj, complete, sound}
 use Rattle.grammar_tables.proofs.Uniqueness.{one_outcome, one_derivation, one_tree}
 use Rattle.grammar_tables.proofs.ParseTrees.{tree_of}
 use Rattle.source_grammar.specs.SourceGrammar.{source_grammar, source_marks, term_goal}
@@ -37,14 +37,14 @@ module _ (G : Grammar) (depth : ℕ → ℕ) (s : IsLL1 G depth) where
   Behind xs = (x : ℕ) (ys : List ℕ) → xs ≡ x ∷ ys → (ss : List Symbol) → Comes [] ss ys
 
   no_token : (k : ℕ) (es : List ℕ) (ss : List Symbol) → Comes es (Terminal k ∷ ss) []
-  no_token k es ss = (reject es (Terminal k ∷ ss) [], miss (λ t. let none : None ≡ Some t.0 = t.1.0 in cc))
+  no_token k es ss = (reject es (Terminal k ∷ ss) [], miss (λ t. let none : None ≡ Some t.0 = t.1 in cc))
 
   by_match : (k x : ℕ) (xs es : List ℕ) (ss : List Symbol) (b : Bool) → G.matches k x ≡ b → Comes [] ss xs → Comes es (Terminal k ∷ ss) (x ∷ xs)
   by_match k x xs es ss true m c = (c.0, shift m c.1)
   by_match k x xs es ss false m c = (reject es (Terminal k ∷ ss) (x ∷ xs), miss (λ t.
-      let same : Some x ≡ Some t.0 = t.1.0 in
-      let number : x ≡ t.0 = cc in
-      false≢true (sym m ∙ (ap (G.matches k) number ∙ t.1.1))))
+      let same : Some x ≡ Some t.0 = t.1 in
+      let number : x ≡ t.0 = some_inj same in
+      false≢true (sym m ∙ (ap (G.matches k) number ∙ t.2))))
 
   at_token : (k : ℕ) (xs es : List ℕ) (ss : List Symbol) → Behind xs → Comes es (Terminal k ∷ ss) xs
   at_token k [] es ss behind = no_token k es ss
@@ -113,7 +113,7 @@ derivation_there : (kinds : List ℕ) → Choice ((rs : List ℕ) × IsSourceDer
 derivation_there kinds = by (derived_there source_grammar (depth_of depths) source_is_ll1 (goal_of term_goal) kinds)
   where
     within : (rs : List ℕ) → Derives source_grammar (goal_of term_goal) kinds rs → Choice (PassesAt source_grammar source_marks term_goal 0 rs None) → Choice ((rs : List ℕ) × IsSourceDerivation term_goal 0 kinds rs)
-    within rs d (inl p) = inl (rs, d, p)
+    within rs d (inl p) = inl (rs, (d, p))
     within rs d (inr past) = inr (λ other.
         let same : other.0 ≡ rs = one_derivation source_grammar (depth_of depths) source_is_ll1 other.1.0 d in
         past (subst (λ (qs : List ℕ). PassesAt source_grammar source_marks term_goal 0 qs None) same other.1.1))

@@ -1,7 +1,8 @@
 -- What is known of texts that are terms, in each table of names.
-use Rattle.std.proofs.Common.{◌≡◌, ℕ, ◌+◌, ◌≤◌, ◌^◌, Bool, true, false, List, [], ◌∷◌, ◌++◌, length, map, take, drop, Option, Some, None, inl, inr, refl, sym, ◌∙◌, ap, subst, arith, slice_get, MatchBool, length-drop}
+use Rattle.std.proofs.Common.{◌≡◌, ℕ, ◌+◌, ◌≤◌, ◌^◌, Bool, true, false, List, [], ◌∷◌, ◌++◌, length, map, take, drop, Option, Some, None, inl, inr, refl, sym, ◌∙◌, ap, subst, arith, slice_get, get_or, ◌<◌, MatchBool, length-drop, length-append, if◌then◌else◌}
 use Rattle.std.proofs.lemmas.List.{take_all, length-map}
 use Rattle.std.proofs.lemmas.Bool.{cases_lt}
+use Rattle.std.proofs.lemmas.Option.{slice_get-get_or}
 use Rattle.text_core.specs.Names.{words as table_words, text_of, HaveOnePlace}
 use Rattle.text_core.specs.declared.name.Name.{Name}
 use Rattle.text_core.specs.declared.fault.PassError.{PassError}
@@ -288,3 +289,13 @@ pub no_tokens : (text : List ℕ) (e : PassError) → IsWordError text e → (e 
 no_tokens text (P.Source error) bad memory is = bad_text text error is.tokens bad is.are_tokens
 no_tokens text (P.Limit limit) bad memory is = bad
 no_tokens text P.NoMemory bad memory is = memory refl
+
+-- ---- the table of names
+
+-- the name of that number is given only in a table without room
+pub room_from : (given : List (List ℕ)) → text_of given (record { 0 = 4293918719 }) ≡ None → length given + 2 ^ 20 < 2 ^ 32
+room_from given h =
+    elim (cases_lt 4293918719 (length (table_words ++ given))) [
+      | inl lt ↦ absurd (let both : None ≡ Some (get_or (table_words ++ given) 4293918719 []) = sym h ∙ slice_get-get_or (table_words ++ given) 4293918719 [] lt in cc)
+      | inr ge ↦ omega (arith, ge, length-append table_words given)
+    ]
