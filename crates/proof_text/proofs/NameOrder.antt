@@ -127,8 +127,7 @@ pub line_named : (old before new : List (List ℕ)) (lines : List (Bor (List ℕ
 line_named old before new lines i d h so_far more =
     let line : List ℕ = now (get_or lines i d) in
     let texts : List (List ℕ) = so_far.0 ++ more.0 in
-    let all : map now (take i lines) ++ line ∷ [] ≡ map now (take (i + 1) lines) = sym (map-append now (take i lines) (get_or lines i d ∷ [])) ∙ ap (map now) (sym (take_more lines i d h)) in
-    (
+    let all : map now (take i lines) ++ line ∷ [] ≡ map now (take (i + 1) lines) = sym (map-append now (take i lines) (get_or lines i d ∷ [])) ∙ ap (map now) (sym (take_more lines i d h)) in (
       texts,
       subst (λ (ls : List (List ℕ)). LinesName ls texts) all (names_push (map now (take i lines)) line so_far.0 more.0 so_far.1 more.1),
       more.2 ∙ (ap (λ (ts : List (List ℕ)). with_names ts more.0) so_far.2 ∙ sym (tables_append old so_far.0 more.0)),

@@ -109,12 +109,7 @@ fn range(alloc: Global, word: &str, names: &mut Names) -> Result<Step, Fault>
 }
 
 /// The step of a rule by the term that the rest of the line is.
-fn on_term(
-    alloc: Global,
-    rule: TermRule,
-    rest: &str,
-    names: &mut Names,
-) -> Result<Step, Fault>
+fn on_term(alloc: Global, rule: TermRule, rest: &str, names: &mut Names) -> Result<Step, Fault>
     ensures said { IfOk result (λ step. SpellsParts names.new (term_word rule) (Some rest.now) step) }
     ensures bad { IsErrOf result Fault.Bad → is_term rest.now ≡ false }
     ensures table { OnOk result (GivesNames names.old rest.now names.new) }

@@ -24,6 +24,11 @@ impl<'a> Model for ProofTable<'a> {
     // The proofs, in order.
     ghost Value = { List OneProof };
 
+    ghost use Rattle.std.specs.Coded.{coded_list};
+    ghost use Rattle.proof_text.specs.contracts.proof.Proof as proof;
+
+    ghost coded = { coded_list proof.the_row.coded };
+
     ghost view = { λ table. table.proofs.items };
 
     ghost invariant = { λ table. HasKeysOf table.proofs.items table.keys };

@@ -41,10 +41,13 @@ module _ (G : Grammar) (depth : ℕ → ℕ) (s : IsLL1 G depth) where
 
   by_match : (k x : ℕ) (xs es : List ℕ) (ss : List Symbol) (b : Bool) → G.matches k x ≡ b → Comes [] ss xs → Comes es (Terminal k ∷ ss) (x ∷ xs)
   by_match k x xs es ss true m c = (c.0, shift m c.1)
-  by_match k x xs es ss false m c = (reject es (Terminal k ∷ ss) (x ∷ xs), miss (λ t.
-      let same : Some x ≡ Some t.0 = t.1 in
-      let number : x ≡ t.0 = some_inj same in
-      false≢true (sym m ∙ (ap (G.matches k) number ∙ t.2))))
+  by_match k x xs es ss false m c = (
+    reject es (Terminal k ∷ ss) (x ∷ xs),
+    miss (λ t.
+        let same : Some x ≡ Some t.0 = t.1 in
+        let number : x ≡ t.0 = some_inj same in
+        false≢true (sym m ∙ (ap (G.matches k) number ∙ t.2))),
+  )
 
   at_token : (k : ℕ) (xs es : List ℕ) (ss : List Symbol) → Behind xs → Comes es (Terminal k ∷ ss) xs
   at_token k [] es ss behind = no_token k es ss

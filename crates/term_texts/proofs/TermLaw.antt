@@ -122,8 +122,7 @@ module _ (table : List (List ℕ)) (text : List ℕ) where
   spelled_there is named =
       let words = words_at is.tokens named in
       let kinds : kinds_in words.0 ≡ token_kinds text is.tokens = kinds_at table text is.tokens words.0 words.1 in
-      let tree = tree_of source_grammar term_goal (token_kinds text is.tokens) is.derivation is.derived.0 in
-      (
+      let tree = tree_of source_grammar term_goal (token_kinds text is.tokens) is.derivation is.derived.0 in (
         first_term (values (shape_actions words.0) 0 tree.0),
         record {
           short = is.short;

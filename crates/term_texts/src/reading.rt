@@ -81,11 +81,7 @@ fn term_in(
 
 /// The term that the whole text spells. Identifiers and lifetimes of the text that have no name yet are given one, in
 /// order of first use.
-pub fn read_whole_term(
-    alloc: Global,
-    text: &str,
-    names: &mut Names,
-) -> Result<Pterm, TermFault>
+pub fn read_whole_term(alloc: Global, text: &str, names: &mut Names) -> Result<Pterm, TermFault>
     ensures ok { IfOk result (λ term. SpellsWholeTerm names.new text.now term) }
     ensures refused { IsErrOf result TermFault.NoTerm → IsTermText text.now → ⊥ }
     ensures names { OnOk result (GivesNames names.old text.now names.new) }
