@@ -11,7 +11,7 @@ use Rattle.proof_kernel.specs.declared.step.Step.TheVariants.{Intro, Hyp, Split,
 use Rattle.source_trees.specs.Pterm.{Pterm}
 use Rattle.term_texts.specs.TermTexts.{SpellsWholeTerm, IsTermText, NamesOfTerm}
 use Rattle.term_texts.proofs.TermChoice.{term_there}
-use Rattle.term_texts.proofs.TermLaw.{is_term_text, spelled_there, names_there, one_naming, kept_term, one_term}
+use Rattle.term_texts.proofs.TermLaw.{is_term_text, spelled_there, names_there as naming_there, one_naming, kept_term, one_term}
 pub use Rattle.term_texts.proofs.TermLaw.{AreNamed, KeepsTexts}
 use Rattle.text_core.specs.Names.{words, HaveOnePlace}
 use Rattle.text_core.specs.declared.name.Name.{Name}
@@ -151,7 +151,7 @@ term_line : (table : List (List ℕ)) (head : List ℕ) (rest : Option (List ℕ
 term_line table head None rule texts e is names named = absurd (cc)
 term_line table head (Some text) rule texts e is names named =
     let term : IsTermText text = told_term text is in
-    let t = spelled_there table text term (subst (AreNamed table) (one_naming text texts _ names (names_there text term)) named) in
+    let t = spelled_there table text term (subst (AreNamed table) (one_naming text texts _ names (naming_there text term)) named) in
     (OnTerm rule t.0, (term_spelled head rule e, (text, refl, t.1)))
 
 by_rule : (table : List (List ℕ)) (head : List ℕ) (rest : Option (List ℕ)) (texts : List (List ℕ)) (o : Option TermRule) → term_rule_of head ≡ o → is_step_by o head rest ≡ true → NamesByRule o head rest texts → AreNamed table texts →
@@ -170,7 +170,7 @@ step_there table text texts u is names named = let s = parts_there table (head_o
 
 term_names : (rest : Option (List ℕ)) → is_term_rest rest ≡ true → (texts : List (List ℕ)) × NamesInTerm rest texts
 term_names None is = absurd (cc)
-term_names (Some text) is = let term : IsTermText text = told_term text is in (_, names_there text term)
+term_names (Some text) is = let term : IsTermText text = told_term text is in (_, naming_there text term)
 
 names_by : (head : List ℕ) (rest : Option (List ℕ)) (o : Option TermRule) → is_step_by o head rest ≡ true → (texts : List (List ℕ)) × NamesByRule o head rest texts
 names_by head rest None is = (texts_by head rest, refl)
@@ -239,6 +239,10 @@ module _ (table other : List (List ℕ)) (rest : Option (List ℕ)) where
   alike_rest (OnTwo a l m) (OnTwo b n o) e r h k = (cc, cc, cc)
   alike_rest (OnTerm Cut t) (OnTerm Cut u) e r h k = (refl, alike_term Cut t u h k)
   alike_rest (OnTerm On t) (OnTerm On u) e r h k = (refl, alike_term On t u h k)
+  alike_rest s (OnTerm Cut u) e r h k = absurd (cc)
+  alike_rest s (OnTerm On u) e r h k = absurd (cc)
+  alike_rest (OnTerm Cut t) s e r h k = absurd (cc)
+  alike_rest (OnTerm On t) s e r h k = absurd (cc)
   alike_rest _ _ e r h k = absurd (cc)
 
 pub alike_step : (table other : List (List ℕ)) (text : List ℕ) (s t : Step) → SpellsStep table text s → SpellsStep other text t → AlikeStep table other s t

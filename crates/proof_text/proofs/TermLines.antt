@@ -1,17 +1,24 @@
 -- Lines of terms, and other lines of steps, as they are read.
-use Rattle.std.proofs.Common.{◌≡◌, ℕ, Bool, true, false, List, Option, Some, None, Result, Ok, Err, refl, sym, ◌∙◌, ap, subst}
+use Rattle.std.proofs.Common.{◌≡◌, ℕ, Bool, true, false, List, Option, Some, None, Result, Ok, Err, refl, sym, ◌∙◌, ap, subst, Bor}
 use Rattle.std.specs.Prelude.{IfOk, OnOk}
+use Rattle.std.specs.Option.{ok_or, option_copied}
 use Rattle.name_tables.specs.NameTables.{with_names}
 use Rattle.proof_kernel.specs.declared.step.Step.{Step}
 use Rattle.proof_kernel.specs.declared.step.TermRule.{TermRule}
 use Rattle.source_words.specs.Words.{GivesNames}
 use Rattle.proof_text.specs.declared.fault.Fault.{Fault}
+use Rattle.proof_text.specs.declared.fault.Fault.TheVariants.{Bad}
 use Rattle.proof_text.specs.ProofTextRules.{term_word, term_rule_of}
 use Rattle.proof_text.specs.ProofTextLines.{SpellsRest, SpellsParts, texts_by, NamesOfParts}
 use Rattle.proof_text.specs.ProofTextFile.{is_plain_step, is_term, is_term_rest, is_step_by, is_step}
 use Rattle.proof_text.specs.ProofTextReads.{GivesTexts}
 use Rattle.proof_text.proofs.RuleLaw.{term_spelled}
 use Rattle.proof_text.proofs.NameOrder.{gives_plain, gives_term}
+
+-- where a rest is wanted and none is there
+pub none_by_ok : (own : Option (Bor (List ℕ))) (r : Result (Bor (List ℕ)) Fault) (f : Fault) → r ≡ ok_or own Bad → r ≡ Err f → option_copied own ≡ None
+none_by_ok None r f e h = refl
+none_by_ok (Some rest) r f e h = let both : Ok rest ≡ Err f = sym e ∙ h in absurd (cc)
 
 module _ (head : List ℕ) (own : Option (List ℕ)) where
   -- ---- of no rule by a term
