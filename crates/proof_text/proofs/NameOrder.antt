@@ -12,7 +12,6 @@ use Rattle.proof_text.specs.declared.proof.ProofFile.{ProofFile}
 use Rattle.proof_text.specs.declared.fault.ProofTextError.{ProofTextError}
 use Rattle.proof_kernel.specs.declared.step.TermRule.{TermRule}
 use Rattle.source_words.specs.Words.{GivesNames, identifiers_in}
-use Rattle.term_texts.specs.TermTexts.{NamesOfTerm}
 use Rattle.proof_text.specs.ProofTextRules.{term_rule_of}
 use Rattle.proof_text.specs.ProofTextReads.{GivesTexts}
 use Rattle.proof_text.specs.ProofTextLines.{rest_of, texts_by, NamesByRule, NamesOfParts, NamesTexts, IsHeading, IsEnd}

@@ -1,5 +1,5 @@
 -- What the line of a step spells, step by step.
-use Rattle.std.proofs.Common.{◌≡◌, ℕ, Bool, true, false, cond, ◌⊎◌, inl, inr, subst, List, [], ◌∷◌, ◌++◌, map, Option, Some, None, refl, sym, ◌∙◌, ap, slice_get, codes}
+use Rattle.std.proofs.Common.{◌≡◌, ℕ, Bool, true, false, cond, ◌⊎◌, inl, inr, subst, List, [], ◌∷◌, ◌++◌, map, Option, Some, None, refl, sym, ◌∙◌, ap, codes}
 use Rattle.std.specs.Prelude.{is_some, is_none}
 use Rattle.std.specs.List.{list_all}
 use Rattle.std.specs.Str.{bytes_eq, is_utf8}
@@ -9,7 +9,7 @@ use Rattle.proof_kernel.specs.declared.step.TermRule.{TermRule}
 use Rattle.proof_kernel.specs.declared.step.TermRule.TheVariants.{Cut, On}
 use Rattle.proof_kernel.specs.declared.step.Step.TheVariants.{Intro, Hyp, Split, Range, Lin, OnGoal, OnHypothesis, OnTwo, Rewrite, OnTerm}
 use Rattle.source_trees.specs.Pterm.{Pterm}
-use Rattle.term_texts.specs.TermTexts.{SpellsWholeTerm, IsTermText, NamesOfTerm}
+use Rattle.term_texts.specs.TermTexts.{SpellsWholeTerm, IsTermText}
 use Rattle.term_texts.proofs.TermChoice.{term_there}
 use Rattle.term_texts.proofs.TermLaw.{is_term_text, spelled_there, names_there as naming_there, one_naming, kept_term, one_term}
 pub use Rattle.term_texts.proofs.TermLaw.{AreNamed, KeepsTexts}

@@ -2,7 +2,7 @@
 --
 -- A line is a head, its first word, and a rest: the bytes after the space behind the head, where one stands there. The head says of which
 -- kind the line is, and each kind says what its rest is. A rest is split into words only where its kind wants words.
-use Rattle.std.specs.Prelude.{◌≡◌, ℕ, List, [], ◌∷◌, map, codes, true, Option, None, Some, slice_get, if◌then◌else◌, ◌++◌, ◌==◌}
+use Rattle.std.specs.Prelude.{◌≡◌, ℕ, List, [], ◌∷◌, map, codes, true, Option, None, Some, if◌then◌else◌, ◌==◌}
 use Rattle.std.specs.List.{list_all, slice_split, before_first}
 use Rattle.std.specs.Option.{option_map}
 use Rattle.std.specs.Str.{bytes_eq, is_utf8}

@@ -1,5 +1,5 @@
 -- What is known of texts that are terms, in each table of names.
-use Rattle.std.proofs.Common.{◌≡◌, ℕ, ◌+◌, ◌≤◌, ◌^◌, Bool, true, false, List, [], ◌∷◌, ◌++◌, length, map, take, drop, Option, Some, None, inl, inr, refl, sym, ◌∙◌, ap, subst, arith, slice_get, get_or, ◌<◌, MatchBool, length-drop, length-append, if◌then◌else◌}
+use Rattle.std.proofs.Common.{◌≡◌, ℕ, ◌+◌, ◌≤◌, ◌^◌, Bool, true, false, List, [], ◌∷◌, ◌++◌, length, take, drop, Some, None, inl, inr, refl, sym, ◌∙◌, ap, subst, arith, slice_get, get_or, ◌<◌, MatchBool, length-drop, length-append, if◌then◌else◌}
 use Rattle.std.proofs.lemmas.List.{take_all, length-map}
 use Rattle.std.proofs.lemmas.Bool.{cases_lt}
 use Rattle.std.proofs.lemmas.Option.{slice_get-get_or}
@@ -10,16 +10,14 @@ use Rattle.text_core.specs.declared.fault.PassError.TheVariants as P
 use Rattle.text_core.specs.declared.refusal.SourceError.{SourceError}
 use Rattle.text_core.proofs.NamesLemmas.{text_of-Some}
 use Rattle.grammar_tables.specs.declared.parsing.Front.{Front}
-use Rattle.grammar_tables.specs.declared.symbol.Symbol.TheVariants.{Nonterminal}
 use Rattle.grammar_tables.specs.Grammar.{next_kind, Derives}
-use Rattle.grammar_tables.specs.Limits.{PassesAt}
 use Rattle.grammar_tables.specs.Answers.{goal_of}
-use Rattle.grammar_tables.specs.Trees.{Tree, IsTree, preorder, size, values}
+use Rattle.grammar_tables.specs.Trees.{Tree, preorder, values}
 use Rattle.grammar_tables.proofs.ParseTrees.{tree_of}
 use Rattle.grammar_tables.proofs.Uniqueness.{one_derivation, one_tree}
 use Rattle.grammar_tables.specs.First.{depth_of}
-use Rattle.source_grammar.specs.SourceGrammar.{source_grammar, source_marks, term_goal}
-use Rattle.source_grammar.specs.Faults.{IsSourceDerivation, IsSourceFront, IsFrontFault}
+use Rattle.source_grammar.specs.SourceGrammar.{source_grammar, term_goal}
+use Rattle.source_grammar.specs.Faults.{IsSourceDerivation, IsSourceFront}
 use Rattle.source_grammar.specs.declared.fault.SyntaxFault.{SyntaxFault}
 use Rattle.source_grammar.specs.declared.fault.SyntaxFault.TheVariants as fault
 use Rattle.source_grammar.proofs.OneAnswer.{fault_of_all, derived_or_faulty}
@@ -32,12 +30,12 @@ use Rattle.rs_tokens.proofs.OneReading.{one_list}
 use Rattle.source_words.specs.declared.word.Word.{Word}
 use Rattle.source_words.specs.Faults.{kinds_in, error_of}
 use Rattle.source_words.specs.Texts.{text_in}
-use Rattle.source_words.specs.Words.{kind_by, bears_name, value_by, suffix_by, HasName, IsWordOf, AreWordsOf, none, one_more, AreWords, identifiers_in, with_identifier, GivesNames, IsBadText, no_text, bad_token, IsWordError}
+use Rattle.source_words.specs.Words.{kind_by, bears_name, value_by, suffix_by, HasName, AreWordsOf, none, one_more, AreWords, identifiers_in, with_identifier, GivesNames, IsBadText, no_text, bad_token, IsWordError}
 use Rattle.source_words.proofs.TokenCounts.{as_many_words}
 use Rattle.source_words.proofs.WordLists.{one_table}
 use Rattle.pearlite.specs.Cursor.{Standing}
 use Rattle.pearlite.specs.Meaning.{shape_actions}
-use Rattle.pearlite.specs.Parsed.{ReadsTerm, SpellsTerm, IsTermRefusal, IsTermError}
+use Rattle.pearlite.specs.Parsed.{ReadsTerm, SpellsTerm, IsTermError}
 use Rattle.pearlite.specs.Parts.{first_term}
 use Rattle.source_trees.specs.Pterm.{Pterm}
 use Rattle.term_texts.specs.TermTexts.{text_at, HasNameAt, IsWordAt, AreWordsAt, no_word, one_word, SpellsWholeTerm, token_kinds, IsTermText, NamesOfTerm}
