@@ -49,7 +49,7 @@ use Rattle.type_check.specs.WellTyped.{unit, Surroundings, IsBuilt, AllBuilt, is
 use Rattle.type_check.specs.Written.{as_name, name_alone, written_type, written_or_none, declared_by, step_of}
 use Rattle.type_check.proofs.Bound.{bound, held, yes, same_ok}
 use Rattle.type_check.proofs.Lookups.{types, signatures_at, surroundings, found_type, callee_signature}
-use Rattle.type_check.proofs.SameTypes.{equal_types}
+use Rattle.logic_elab.proofs.SameSorts.{equal_types}
 use Rattle.type_check.proofs.Speaking.{assertion_speaks}
 use Rattle.type_check.proofs.StatementLists.{block_ty_after, stmt_ty}
 use Rattle.type_check.proofs.WrittenTypes.{type_built}

@@ -11,11 +11,9 @@ pub mod Lookups
 pub mod PartByPart
 pub mod Parts
 pub mod Refusing
-pub mod SameTypes
 pub mod Speaking
 pub mod StatementLists
 pub mod Targets
-pub mod TermChains
 pub mod TypedParts
 pub mod Whole
 pub mod WrittenTypes

@@ -11,7 +11,6 @@ pub mod Leaves
 pub mod Rules
 pub mod Scope
 pub mod Setting
-pub mod TermChains
 pub mod Terms
 pub mod TypedExpr
 pub mod TypedExprCode
