@@ -71,7 +71,12 @@ pub(crate) fn back_of(alloc: Global, q: &Sequent, h: &Term) -> Result<Option<Ter
     ensures { IfOk result (λ o. o ≡ back_of q.now.vars h.now) }
 {
     match h.form() {
-        TermForm::Binary(TermBinary::Equal, t, u) => equated(alloc, q, modeled_by(t), modeled_by(u)),
+        TermForm::Binary(TermBinary::Equal, t, u) => equated(
+            alloc,
+            q,
+            modeled_by(t),
+            modeled_by(u),
+        ),
         _ => Ok(None),
     }
 }
