@@ -9,7 +9,7 @@ use std::alloc::Global;
 use text_core::NoMemory;
 
 fn if_machine(sort: Option<&Sort>) -> Option<&Sort>
-    ensures { option_copied result ≡ if_machine (option_copied sort) }
+    ensures { option_copied result ≡ if_machine (option_copied sort.entry) }
 {
     match sort {
         Some(sort) if matches!(&sort.node, TyNode::Int(_)) => Some(sort),
@@ -28,9 +28,8 @@ fn machine_sort<'a>(q: &'a Sequent, t: &'a Term) -> Option<&'a Sort>
     }
 }
 
-#[tactic(auto, using(logic_elab::proofs::SameSorts::same_ty_is))]
 fn is_one_sort(s: Option<&Sort>, t: Option<&Sort>) -> bool
-    ensures { result ≡ is_one_sort (option_copied s) (option_copied t) }
+    ensures { result ≡ is_one_sort (option_copied s.entry) (option_copied t.entry) }
 {
     match (s, t) {
         (Some(s), Some(t)) => s.same(t),
