@@ -8,4 +8,6 @@ pub(crate) struct Setting<'a> {
     pub(crate) headings: &'a [Heading],
     /// The type of its answer.
     pub(crate) answer: &'a Ty,
+    /// Whether a loop is around, which `break` and `continue` are for.
+    pub(crate) in_loop: bool,
 }
