@@ -20,6 +20,8 @@ pub or_false : (a b : Bool) → b ≡ false → (a || b) ≡ a
 or_false true b h = refl
 or_false false b h = h
 
+pub ruleset right_parts = (or_true, or_false)
+
 stmt_breaks : (b : Bool) (e : TypedExpr) (ss : TypedStmts) → some_statement_breaks (stmt_of b e ss) ≡ (breaks e || some_statement_breaks ss)
 stmt_breaks true e ss = refl
 stmt_breaks false e ss = refl
@@ -50,5 +52,13 @@ breaks_stmts_at ss i s q h =
     rw (add-one, drop-cons ss i s h)
     (stmt_breaks (get_or ss i s).binds (get_or ss i s).value (stmts_of (drop (suc i) ss) done)
     ∙ ap (λ (x : TypedStmt). breaks x.value || some_statement_breaks (stmts_of (drop (suc i) ss) done)) (sym q))
+
+or_first : (a b : Bool) → a ≡ true → true ≡ (a || b)
+or_first a b h = rw h refl
+
+-- a `break` in one of the statements
+pub break_at : (ss : List TypedStmt) (i : ℕ) (s : TypedStmt) → s ≡ get_or ss i s → i < length ss → breaks s.value ≡ true → some_statement_breaks (stmts_of (drop i ss) done) ≡ some_statement_breaks (stmts_of ss done)
+    → true ≡ some_statement_breaks (stmts_of ss done)
+break_at ss i s q h p r = or_first (breaks s.value) (some_statement_breaks (stmts_of (drop (i + 1) ss) done)) p ∙ sym (breaks_stmts_at ss i s q h) ∙ r
 
 pub ruleset break_parts = (each_smaller, begin_smaller, last_smaller, leaving_smaller, stmt_smaller, breaks_at_last, breaks_at_leaving, breaks_exprs_at, breaks_stmts_at)

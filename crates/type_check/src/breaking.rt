@@ -8,6 +8,7 @@ use crate::typed::{TypedExpr, TypedNode, TypedStmt};
 
 /// Whether a `break` in the expression leaves the loop around it. Left operands are gone down by a loop.
 #[cycle(breaks)]
+#[tactic(auto, using(crate::proofs::BreakParts::right_parts))]
 pub(crate) fn breaks(e: &TypedExpr) -> bool
     ensures { result ≡ breaks e.now }
 {
