@@ -32,7 +32,7 @@ use Rattle.type_check.specs.declared.scope.Found.{Found}
 use Rattle.type_check.specs.declared.scope.Variable.{Variable}
 use Rattle.type_check.specs.declared.statements.Step.{Step}
 use Rattle.type_check.specs.Answers.{◌>>=◌, unknown_name, mismatch, unbuilt, not_mutable, with_some, gather}
-use Rattle.type_check.specs.Causes.{IsMismatch, IsUnbuilt, IsUnknown, IsNotRead, IsNotWritten, IsNotCalled, IsInNoLoop, Causes, CausesInStmts, CausesInArgs}
+use Rattle.type_check.specs.Causes.{IsMismatch, IsUnbuilt, IsUnknown, IsNotRead, IsNotWritten, IsNotCalled, Causes, CausesInStmts, CausesInArgs}
 use Rattle.type_check.specs.Functions.{callee}
 use Rattle.type_check.specs.Scope.{found}
 use Rattle.type_check.specs.Breaks.{breaks}

@@ -21,8 +21,8 @@ use crate::typed::{TypedExpr, TypedNode, TypedStmt};
 use crate::types::is_arithmetic;
 use crate::typing::{
     assigned, bare_return, branch, called, choice, denied, endless, given_by, given_ty, in_a_loop,
-    is_bare, lazy, literal, named, negated, operated, order_of, panicked, param_ty, repeat, returned,
-    span_of, spans_at, truth, updated,
+    is_bare, lazy, literal, named, negated, operated, order_of, panicked, param_ty, repeat,
+    returned, span_of, spans_at, truth, updated,
 };
 use crate::written::{as_name, name_alone, step_of};
 use logic_term::Ty;
