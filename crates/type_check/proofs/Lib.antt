@@ -2,6 +2,7 @@ pub mod Accepting
 pub mod Arguments
 pub mod BlockEnds
 pub mod Bound
+pub mod BreakParts
 pub mod ByRules
 pub mod Chains
 pub mod Declaration

@@ -1,4 +1,5 @@
 pub mod Answers
+pub mod Breaks
 pub mod Causes
 pub mod Chains
 pub mod Checked

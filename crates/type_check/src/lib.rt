@@ -2,6 +2,7 @@
 #![tactic(auto)]
 
 mod assertion;
+mod breaking;
 mod chain;
 mod checking;
 mod checks;
