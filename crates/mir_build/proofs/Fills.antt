@@ -182,7 +182,9 @@ mutual
   fills (block ty s ss) c l t d = rest_filled ss false s c l t d
   fills (branch ty s e a) c l t d = as_counts _ (omega arith) (omega arith) (made_then _ _ _ _ _ refl refl (fills e c l (t + 1) t) (forked _ _ c _ _ _ _ _ refl refl (fills a c _ _ d) (one _ _ _)))
   fills (choice ty s e a b) c l t d = as_counts _ (omega arith) (omega arith) (made_then _ _ _ _ _ refl refl (fills e c l (t + 1) t) (sides_filled (leaves a && leaves b) _ _ c s t _ _ refl refl (fills a c _ _ d) (fills b c _ _ d)))
-  fills (repeat ty s is e b) c l t d = as_counts _ (omega arith) (omega arith) (looped _ _ (looping c (label l) (label (l + 2))) c _ _ _ _ _ _ _ _ _ _ refl refl (fills e (looping c (label l) (label (l + 2))) (l + 3) (t + 1) t) (fills b (looping c (label l) (label (l + 2))) (l + 3 + labels e) (t + 1 + locals e + 1) (t + 1 + locals e)))
+  fills (repeat ty s is e b) c l t d =
+      as_counts _ (omega arith) (omega arith)
+      (looped _ _ (looping c (label l) (label (l + 2))) c _ _ _ _ _ _ _ _ _ _ refl refl (fills e (looping c (label l) (label (l + 2))) (l + 3) (t + 1) t) (fills b (looping c (label l) (label (l + 2))) (l + 3 + labels e) (t + 1 + locals e + 1) (t + 1 + locals e)))
   fills (panics ty s k) c l t d = left l t _
   fills (returned ty s e) c l t d = as_counts _ (omega arith) (omega arith) (join _ _ _ _ refl refl (fills e c l t 0) (left _ _ _))
   fills (endless ty s is b) c l t d = circled (looping c (label l) (label l)) _ _ _ _ _ _ (fills b (looping c (label l) (label l)) (l + 1) (t + 1) t)

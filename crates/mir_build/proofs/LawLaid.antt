@@ -118,7 +118,8 @@ parted c s t yes' no' set now to ys zs h w v p q = record {
 }
 
 -- a loop
-pub looped : {B B' : (Label → Locals) → Type 0} (c k : Around) (s : Span) (d t u : ℕ) (T U : Ty) (head body after : Label) (hd : Head) (own : List ℕ) (set : Locals) (us vs : List Line) → HeadFits set (Some hd) → HasNone set own → set t ≡ false → ((at' : Label → Locals) → at' head ≡ set → at' after ≡ set → B' at') → Laid B' set us (with t set) → Laid B' set vs (with u set)
+pub looped : {B B' : (Label → Locals) → Type 0} (c k : Around) (s : Span) (d t u : ℕ) (T U : Ty) (head body after : Label) (hd : Head) (own : List ℕ) (set : Locals) (us vs : List Line)
+    → HeadFits set (Some hd) → HasNone set own → set t ≡ false → ((at' : Label → Locals) → at' head ≡ set → at' after ≡ set → B' at') → Laid B' set us (with t set) → Laid B' set vs (with u set)
     → Laid B set (Turns (ends s (Goto head)) (at_head k head hd) ∷ Makes t T ∷ (us ++ Turns (ends s (If (moved t) body after)) (at k body) ∷ Makes u U ∷ (vs ++ Turns (ends s (Goto head)) (at c after) ∷ Owns head own ∷ put_unit s d ∷ []))) (with d set)
 looped c k s d t u T U head body after hd own set us vs fits n no_t m p q = record {
   starts = (head, set) ∷ (p.starts ++ (body, set) ∷ (q.starts ++ (after, set) ∷ []));

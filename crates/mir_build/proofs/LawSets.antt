@@ -17,7 +17,7 @@ use Rattle.type_check.specs.WellTyped.{Surroundings, within_loop, IsWellTyped, E
 use Rattle.mir_ir.specs.declared.terminator.TerminatorKind.TheVariants.{Goto}
 use Rattle.mir_build.specs.declared.around.Loop.{Loop}
 use Rattle.mir_build.specs.Text.{Title, Line, Makes, Turns, Leaves, made}
-use Rattle.mir_build.specs.Lowering.{numbers, Around, Formula, accepted, whole, looping, innermost, binds, moved, ends, head_of, dies, dies_in, die_from, puts, puts_at, put_unit, made_by, calls, turning, spinning, circling, IntoBody}
+use Rattle.mir_build.specs.Lowering.{numbers, Around, Formula, accepted, whole, looping, innermost, binds, moved, ends, head_of, dies, dies_in, puts, puts_at, put_unit, made_by, calls, turning, spinning, circling, IntoBody}
 use Rattle.mir_build.proofs.Numbers.{count}
 use Rattle.mir_build.proofs.LawLists.{Has, here, there, has_get, makings-append, count-append, count_self}
 use Rattle.mir_build.proofs.LawNames.{HoldsPlaces, head_fits}

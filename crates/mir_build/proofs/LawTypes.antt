@@ -16,7 +16,6 @@ use Rattle.type_check.specs.TypedExpr.{TypedExpr}
 use Rattle.type_check.specs.TypedExprView.{ty_of}
 use Rattle.type_check.specs.WellTyped.{Surroundings, within_loop, IsBuilt, AllBuilt, IsWellTyped, EachSpeaks, operation_ty, unit}
 use Rattle.mir_ir.specs.declared.terminator.TerminatorKind.TheVariants.{Goto}
-use Rattle.mir_build.specs.declared.around.Loop.{Loop}
 use Rattle.mir_build.specs.Text.{Line, Leaves, made}
 use Rattle.mir_build.specs.Lowering.{Around, Formula, accepted, whole, looping, binds, moved, ends, dies, dies_in, die_from, puts, puts_at, put_unit, made_by, test, fork, calls, turning, spinning, circling, IntoBody}
 use Rattle.mir_build.proofs.LawNames.{head_fits}
