@@ -12,7 +12,7 @@ use Rattle.type_check.specs.TypedExpr.{TypedExpr}
 use Rattle.text_core.specs.declared.span.Span.{Span}
 use Rattle.mir_build.specs.declared.around.Loop.{Loop}
 use Rattle.mir_build.specs.Text.{Title, Line, Puts, Makes, Turns, Leaves, Owns, begun}
-use Rattle.mir_build.specs.Lowering.{Around, Formula, heads, looping, innermost, at, at_head, head_of, test, fork, turning, spinning, circling, returning, IntoBody}
+use Rattle.mir_build.specs.Lowering.{Around, Formula, heads, looping, at, at_head, head_of, test, fork, turning, spinning, circling, returning, IntoBody}
 use Rattle.mir_build.proofs.LawLists.{Has, here, there, has_left, has_right, begun-append}
 use Rattle.mir_build.proofs.Jumps.{innermost_last, heads_more}
 use Rattle.mir_build.proofs.Shapes.{Keeps, of_body}
@@ -128,10 +128,12 @@ module _ (whole : List Title) (c : Around) (head after : Label) where
   out : {later : List Title} → Has (at c after) later → To whole within later after
   out h = onward (at c after) refl h (heads c.loops) (head ∷ []) refl (heads_more c.loops entered)
 
+  -- it is the innermost one: where it is left for stands behind, or it is not left
   in_this : (outs : List Title) → ((later : List Title) → ((t : Title) → Has t outs → Has t later) → To whole within later after) → ((later : List Title) → To whole within later head) → Inside whole outs (looping c head after).loops
   in_this outs p q l e later h =
       subst (λ (m : Loop). To whole within later m.after × To whole within later m.head) (sym (innermost_last c.loops entered l e)) (p later h, q later)
 
+  -- the block behind it stands there
   in_loop : (outs : List Title) → ((later : List Title) → To whole within later head) → Has (at c after) outs → Inside whole outs (looping c head after).loops
   in_loop outs q k = in_this outs (λ later h. out (h (at c after) k)) q
 
