@@ -48,6 +48,7 @@ use Rattle.type_check.specs.declared.program.Signature.{Signature}
 use Rattle.type_check.specs.declared.program.TypedClause.{TypedClause}
 use Rattle.type_check.specs.declared.program.TypedFunction.{TypedFunction}
 use Rattle.type_check.specs.declared.program.TypedProgram.{TypedProgram}
+use Rattle.mir_build.specs.declared.around.Loop.{Loop}
 use Rattle.mir_build.specs.declared.lowered.Lowered.{Lowered}
 use Rattle.type_check.specs.TypedExpr.{TypedExpr, TypedStmts, TypedExprs, integer, variable, negative, denied, binary, lazy, assign, update, call, block, branch, choice, repeat, panics, returned, endless, until_break, break_off, go_on, done, last, leaving, bind, run, none, more}
 use Rattle.type_check.specs.Leaves.{leaves}
@@ -63,13 +64,8 @@ use Rattle.mir_ir.specs.declared.body.Bodies.{Bodies}
 abbrev pub whole : ℕ → Place
 whole x = record { local = x; path = [] }
 
--- a loop around: its head, the block behind it, and how many variables are in scope around it
-pub record Loop : Type 0 where
-  pub head : Label
-  pub after : Label
-  pub depth : ℕ
-
--- the place of each variable in scope, and the loops around, both the outermost first
+-- the place of each variable in scope, and the loops around, both the outermost first. A loop has its head, the block behind it, and
+-- how many variables are in scope around it
 pub record Around : Type 0 where
   pub scope : List Place
   pub loops : List Loop
