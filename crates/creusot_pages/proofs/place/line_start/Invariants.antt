@@ -1,5 +1,5 @@
 use Rattle.std.proofs.Common.{◌≤◌, ◌<◌, ◌≢◌, ℕ, get_or, length}
-use Rattle.creusot_show.proofs.place.line_start.Given as goal
+use Rattle.creusot_pages.proofs.place.line_start.Given as goal
 
 abbrev pub invariant-loop-start : goal.invariant-loop-start
 invariant-loop-start l = record {

@@ -7,7 +7,7 @@ use Rattle.proof_kernel.specs.Accepts.{Does, Runs, none, more}
 use Rattle.proof_kernel.specs.Progress.{Progress}
 use Rattle.proof_text.specs.declared.proof.NumberedStep.{NumberedStep}
 use Rattle.verify_core.specs.Verdict.{steps_of}
-use Rattle.creusot_show.specs.Attempt.{StopsBehind}
+use Rattle.creusot_pages.specs.Attempt.{StopsBehind}
 
 one_more_step : {k m l : Progress} {steps : List Step} (step : Step) → Runs k steps m → Does m step l → Runs k (steps ++ step ∷ []) l
 one_more_step step none does = more does none

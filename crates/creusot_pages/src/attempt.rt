@@ -1,7 +1,7 @@
 //! How far a proof goes.
 ghost use Rattle.std.specs.Prelude.{◌≡◌, ◌<◌, ◌+◌, ◌^◌, length, false, IfOk, Ok};
 ghost use Rattle.verify_core.specs.VerdictWords.{TakesStep};
-ghost use Rattle.creusot_show.specs.Attempt.{StopsBehind};
+ghost use Rattle.creusot_pages.specs.Attempt.{StopsBehind};
 
 use proof_kernel::{Kernel, Step, StepError};
 use proof_text::NumberedStep;

@@ -1,7 +1,7 @@
 use Rattle.std.proofs.Common.{◌∙◌, sym, ap, Err, true≢false}
 use Rattle.proof_kernel.specs.declared.kernel.StepError.{StepError}
 use Rattle.proof_kernel.proofs.Once.{wide_is_not_done}
-use Rattle.creusot_show.proofs.attempt.takes.Goals as goal
+use Rattle.creusot_pages.proofs.attempt.takes.Goals as goal
 
 pub returns-in-Err-UnknownStep-clause-done : goal.returns-in-Err-UnknownStep-clause-done
 returns-in-Err-UnknownStep-clause-done c = λ next does.

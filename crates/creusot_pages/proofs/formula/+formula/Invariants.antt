@@ -1,6 +1,6 @@
 use Rattle.std.proofs.Common.{◌+◌, ◌*◌, max}
 use Rattle.logic_term.specs.TermView.{term_size, terms_of, terms_size}
-use Rattle.creusot_show.proofs.formula.+formula.Given as goal
+use Rattle.creusot_pages.proofs.formula.+formula.Given as goal
 
 abbrev pub decreases-push_formula : goal.decreases-push_formula
 decreases-push_formula l = 3 * term_size l.t.now

@@ -8,9 +8,9 @@ const LINE_FEED: u8 = b'\n';
 
 /// A source with the name of its file.
 #[derive(Clone, Copy)]
-pub(crate) struct Source<'a> {
-    pub(crate) name: &'a str,
-    pub(crate) bytes: &'a [u8],
+pub struct Source<'a> {
+    pub name: &'a str,
+    pub bytes: &'a [u8],
 }
 
 /// A line of a source and where a place begins in it.

@@ -13,7 +13,7 @@ use verify_core::{PROOF_BYTES, Refusal, SOURCE_BYTES, prepare};
 
 /// What is asked for.
 #[derive(Clone, Copy)]
-pub(crate) enum Verb {
+pub enum Verb {
     /// Why the source is refused.
     Errors,
     /// Its open obligations.
@@ -24,10 +24,10 @@ pub(crate) enum Verb {
 
 /// What is printed.
 #[derive(Drop)]
-pub(crate) struct Page {
-    pub(crate) text: String,
+pub struct Page {
+    pub text: String,
     /// Whether something stands in the way of a verdict.
-    pub(crate) finds: bool,
+    pub finds: bool,
 }
 
 /// What the bytes of a proof file hold, with the table of its names.
@@ -87,7 +87,7 @@ fn page_of(
 
 /// What is shown: the page, or why the source or the proof file is refused. Errors and goals are empty where nothing is
 /// wrong. Its one error is want of memory.
-pub(crate) fn make_page(
+pub fn make_page(
     alloc: Global,
     verb: Verb,
     source: Source<'_>,

@@ -1,5 +1,5 @@
-use crate::page::{Verb, make_page};
-use crate::place::Source;
+//! Pages, byte for byte.
+use creusot_pages::{Source, Verb, make_page};
 use std::test::Fail;
 
 const PROOFS: &[u8] = b"creusot-proofs 1\nproof 1 quo\nintro x y\nhyp 1.2\nend\n";

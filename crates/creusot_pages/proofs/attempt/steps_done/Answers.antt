@@ -1,8 +1,8 @@
 use Rattle.std.proofs.Common.{◌∙◌, ℕ, ◌+◌, Bool, Ok, get_or, ap, subst, arith}
 use Rattle.proof_kernel.specs.Accepts.{Does, none}
 use Rattle.verify_core.specs.VerdictWords.{TakesStep}
-use Rattle.creusot_show.proofs.AttemptLaws.{goes_on, stops_there, stops_at_end, done_number}
-use Rattle.creusot_show.proofs.attempt.steps_done.Goals as goal
+use Rattle.creusot_pages.proofs.AttemptLaws.{goes_on, stops_there, stops_at_end, done_number}
+use Rattle.creusot_pages.proofs.attempt.steps_done.Goals as goal
 
 pub loop-i-init : goal.loop-i-init
 loop-i-init c = record { runs = none; number = c.requires.begun }
