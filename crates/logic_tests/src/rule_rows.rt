@@ -39,7 +39,11 @@ fn closes(
 }
 
 /// What the steps of the text make of the goal of the text.
-fn outcome(alloc: Global, goal: &str, steps: &str) -> Result<Result<bool, StepError>, Fail> {
+pub(crate) fn outcome(
+    alloc: Global,
+    goal: &str,
+    steps: &str,
+) -> Result<Result<bool, StepError>, Fail> {
     let file = file_of(alloc, steps)?;
     let proof = file.proofs.get(0).ok_or("no proof")?;
     let steps = proof.steps.as_slice();
@@ -357,15 +361,17 @@ const UNKNOWN: [&str; 12] = [
     "rewrite < 1.1 in 0.1\n",
 ];
 
+/// Whether this as the second step cites a step that is not above it.
+fn is_unknown(alloc: Global, line: &str) -> Result<bool, Fail> {
+    let steps = format!(in alloc; "intro z w\n{line}")?;
+    let refused = outcome(alloc, "ZW><z0><w0<z0", &steps)?;
+    Ok(matches!(refused, Err(StepError::UnknownStep { step: 2 })))
+}
+
 #[test]
 fn labels_of_steps_above_alone(rt: HostRuntime) -> Result<(), Fail> {
-    for line in UNKNOWN {
-        let steps = format!(in rt.alloc(); "intro z w\n{line}")?;
-        let refused = outcome(rt.alloc(), "ZW><z0><w0<z0", &steps)?;
-        assert!(rt;
-            matches!(refused, Err(StepError::UnknownStep { step: 2 })),
-            "{line}"
-        );
+    for line in &UNKNOWN {
+        assert!(rt; is_unknown(rt.alloc(), *line)?, "{line}");
     }
     Ok(())
 }
