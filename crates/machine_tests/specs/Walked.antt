@@ -16,7 +16,6 @@ use Rattle.mir_ir.specs.declared.terminator.TerminatorKind.TheVariants.{Goto, If
 use Rattle.mir_ir.specs.declared.body.Block.{Block}
 use Rattle.mir_ir.specs.declared.body.Body.{Body}
 use Rattle.mir_ir.specs.declared.body.Head.{Head}
-use Rattle.mir_ir.specs.declared.body.Contracts.{Contracts}
 use Rattle.prophecy_logic.specs.Graph.{Setting}
 use Rattle.prophecy_logic.specs.Walkable.{CanWalk}
 
@@ -100,7 +99,3 @@ pub record IsForking (b : Body) : Type 0 where
 -- the body can be walked wherever there is a contract of function 0
 abbrev pub CanBeWalked : Body → Type 0
 CanBeWalked b = (w : Setting) (c : Contract) → w.body ≡ b → slice_get w.contracts.of 0 ≡ Some c → CanWalk w
-
--- one contract, of function 0
-abbrev pub HasOne : Contracts → Type 0
-HasOne cs = (c : Contract) × (cs.of ≡ c ∷ [])

@@ -1,7 +1,7 @@
 //! Obligations of one body of each shape, and how many there may be.
 ghost use Rattle.std.specs.Prelude.{◌≡◌, ◌<◌, ◌∷◌, [], None, IfOk};
 ghost use Rattle.mir_ir.specs.declared.terminator.TerminatorKind.TheVariants.{If};
-ghost use Rattle.machine_tests.specs.Walked.{block_of, body_of, whole, straight, panicking, branching, looping, calling, forking, IsForking, CanBeWalked, HasOne};
+ghost use Rattle.machine_tests.specs.Walked.{block_of, body_of, whole, straight, panicking, branching, looping, calling, forking, IsForking, CanBeWalked};
 
 use goal_text::{Spelling, goal_text};
 use logic_term::{Contract, Label, Obligation, Term, Ty, TyNode};
@@ -274,11 +274,11 @@ fn contract(alloc: Global) -> Result<Boxed<Contract>, NoMemory> {
     promise(alloc, pre, post, &[PRE, POST])
 }
 
-/// That contract alone.
-fn contracts(alloc: Global) -> Result<Boxed<Contracts>, NoMemory>
-    ensures { IfOk result HasOne }
+/// The contract of the one callee.
+fn contracts(alloc: Global, callee: Contract) -> Result<Boxed<Contracts>, NoMemory>
+    ensures { IfOk result (λ cs. cs.of ≡ callee ∷ []) }
 {
-    let of = one(alloc, contract(alloc)?.into_inner())?;
+    let of = one(alloc, callee)?;
     let contracts = Contracts {
         of,
         traits: Items::new(alloc),
@@ -309,16 +309,16 @@ fn nothing_gone(alloc: Global) -> Initialised {
 fn owed(
     alloc: Global,
     body: &Body,
-    contract: &Contract,
+    promises: &Contract,
     counted: Option<u32>,
 ) -> Result<Vec<Obligation>, PassError>
     requires { CanBeWalked body.now }
 {
-    let contracts = contracts(alloc)?;
+    let contracts = contracts(alloc, contract(alloc)?.into_inner())?;
     let walk = Walk {
         body,
         contracts: contracts.get(),
-        contract,
+        contract: promises,
         init: &nothing_gone(alloc),
         resolves: &Resolves::none(alloc),
         decls: &[],
@@ -525,19 +525,19 @@ fn of_eight_paths(
     counted: Option<u32>,
 ) -> Result<Vec<Obligation>, PassError> {
     let body = eight_paths(alloc)?;
-    let contract = promising(alloc, posts)?;
-    owed(alloc, body.get(), contract.get(), counted)
+    let promises = promising(alloc, posts)?;
+    owed(alloc, body.get(), promises.get(), counted)
 }
 
 /// What is left of the room for obligations behind those of eight paths that promise so much each.
 fn room_behind(alloc: Global, posts: u32) -> Result<Option<u32>, NoMemory> {
     let body = eight_paths(alloc)?;
-    let contracts = contracts(alloc)?;
-    let contract = promising(alloc, posts)?;
+    let contracts = contracts(alloc, contract(alloc)?.into_inner())?;
+    let promises = promising(alloc, posts)?;
     let walk = Walk {
         body: body.get(),
         contracts: contracts.get(),
-        contract: contract.get(),
+        contract: promises.get(),
         init: &nothing_gone(alloc),
         resolves: &Resolves::none(alloc),
         decls: &[],

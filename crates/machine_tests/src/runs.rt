@@ -344,11 +344,16 @@ fn negation(alloc: Global, kind: IntKind, x: i128) -> Result<Came, Fail>
     run_of(alloc, bodies.get(), 0, integer(x), 7)
 }
 
-/// The absolute value of x, by body f of the program.
-fn absolute_of(alloc: Global, f: u32, x: i32) -> Result<Came, Fail> {
-    if f >= 2 {
-        return Ok(Came::Nowhere);
-    }
+/// The number of the body that calls the absolute value, or of the absolute value itself.
+fn number_of(calls: bool) -> u32
+    ensures { result < 2 }
+{
+    if calls { 1 } else { 0 }
+}
+
+/// The absolute value of x, by a call of it or by itself.
+fn absolute_of(alloc: Global, calls: bool, x: i32) -> Result<Came, Fail> {
+    let f = number_of(calls);
     let bodies = program(alloc)?;
     run_of(alloc, bodies.get(), f, integer(x as i128), 99)
 }
@@ -449,16 +454,16 @@ fn operators_at_the_ends_of_types(rt: HostRuntime) -> Result<(), Fail> {
 }
 
 /// Bodies of the program with arguments, and what they come to.
-const ABSOLUTES: [(u32, i32, Came); 3] = [
-    (0, -7, Came::Integer(7)),
-    (1, 7, Came::Integer(7)),
-    (1, i32::MIN, OVERFLOW),
+const ABSOLUTES: [(bool, i32, Came); 3] = [
+    (false, -7, Came::Integer(7)),
+    (true, 7, Came::Integer(7)),
+    (true, i32::MIN, OVERFLOW),
 ];
 
 #[test]
 fn branches_and_calls(rt: HostRuntime) -> Result<(), Fail> {
-    for (f, x, wanted) in &ABSOLUTES {
-        let came = absolute_of(rt.alloc(), *f, *x)?;
+    for (calls, x, wanted) in &ABSOLUTES {
+        let came = absolute_of(rt.alloc(), *calls, *x)?;
         assert!(rt; came == *wanted);
     }
     Ok(())

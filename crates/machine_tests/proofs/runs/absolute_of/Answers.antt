@@ -10,4 +10,4 @@ run_of-requires-clause-sound c = subst AreSound (sym (c.get.ensures ∙ c.in_ok-
 pub run_of-requires-clause-takes_one : goal.run_of-requires-clause-takes_one
 run_of-requires-clause-takes_one c =
     let is_x : c.integer.result ≡ Int c.args.x = search rules in
-    program_takes _ c.args.f c.integer.result c.args.x (c.get.ensures ∙ c.in_ok-bodies.ensures) (search rules) is_x (fits_i32 c.args.x c.ranges.x)
+    program_takes _ _ c.integer.result c.args.x (c.get.ensures ∙ c.in_ok-bodies.ensures) c.number_of-f.ensures is_x (fits_i32 c.args.x c.ranges.x)
