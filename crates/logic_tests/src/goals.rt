@@ -56,7 +56,10 @@ fn is_printed(alloc: Global, goal: &Term, wanted: &[u8]) -> Result<bool, NoMemor
 fn formulas(rt: HostRuntime) -> Result<(), Fail> {
     let alloc = rt.alloc();
     for (at, (text, wanted)) in FORMULAS.iter().enumerate() {
-        assert!(rt; is_printed(alloc, &term(alloc, *text)?, *wanted)?, "row {at}");
+        assert!(rt;
+            is_printed(alloc, &term(alloc, *text)?, *wanted)?,
+            "row {at}"
+        );
     }
     Ok(())
 }

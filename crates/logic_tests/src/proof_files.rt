@@ -221,7 +221,10 @@ fn expect_names(
     first: u32,
 ) -> Result<(), Fail> {
     for name in names {
-        let lines = (bad_line_of_name(alloc, *name)?, bad_line_of_owner(alloc, *name)?);
+        let lines = (
+            bad_line_of_name(alloc, *name)?,
+            bad_line_of_owner(alloc, *name)?,
+        );
         assert!(rt; lines.0 == line && lines.1 == first, "{name}");
     }
     Ok(())

@@ -61,7 +61,11 @@ fn plain(alloc: Global, statements: Items<Statement>, kind: TerminatorKind) -> B
     block(None, Items::new(alloc), statements, kind)
 }
 
-fn body(alloc: Global, locals: Items<Ty>, blocks: Items<(Label, Block)>) -> Result<Boxed<Body>, NoMemory>
+fn body(
+    alloc: Global,
+    locals: Items<Ty>,
+    blocks: Items<(Label, Block)>,
+) -> Result<Boxed<Body>, NoMemory>
     ensures { IfOk result (λ b. b ≡ body_of locals blocks) }
 {
     let owner = Text::from_bytes(alloc, b"f")?;
@@ -141,7 +145,12 @@ fn looping(
     body(alloc, locals, blocks)
 }
 
-fn calling(alloc: Global, answer: Ty, param: Ty, args: Items<Operand>) -> Result<Boxed<Body>, NoMemory>
+fn calling(
+    alloc: Global,
+    answer: Ty,
+    param: Ty,
+    args: Items<Operand>,
+) -> Result<Boxed<Body>, NoMemory>
     ensures { IfOk result (λ b. b ≡ calling answer (param ∷ []) args) }
 {
     let place = Place {
@@ -406,10 +415,12 @@ fn made_of(alloc: Global, sample: Sample) -> Result<Vec<Obligation>, PassError> 
 type Owed = (Kind, u32, &'static [u8]);
 
 /// `-2147483648 <= x@ + 1 && x@ + 1 <= 2147483647`
-const IN_RANGE: &[u8] = b"(forall<v1: i32> ((v1@ < 100) ==> (((-2147483648) <= (v1@ + 1)) && ((v1@ + 1) <= 2147483647))))";
+const IN_RANGE: &[u8] =
+    b"(forall<v1: i32> ((v1@ < 100) ==> (((-2147483648) <= (v1@ + 1)) && ((v1@ + 1) <= 2147483647))))";
 
 /// For each value that is `x@ + 1` that it is `x@ + 1`.
-const ANSWERED: &[u8] = b"(forall<v1: i32> ((v1@ < 100) ==> (forall<v2: i32> ((v2@ == (v1@ + 1)) ==> (v2@ == (v1@ + 1))))))";
+const ANSWERED: &[u8] =
+    b"(forall<v1: i32> ((v1@ < 100) ==> (forall<v2: i32> ((v2@ == (v1@ + 1)) ==> (v2@ == (v1@ + 1))))))";
 
 const NEVER: &[u8] = b"(forall<v1: i32> ((v1@ < 100) ==> false))";
 

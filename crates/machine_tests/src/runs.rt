@@ -136,12 +136,7 @@ fn two(alloc: Global, answer: Ty, param: Ty) -> Result<Items<Ty>, NoMemory>
 }
 
 /// The program of one body of one block.
-fn of_block(
-    alloc: Global,
-    answer: Ty,
-    param: Ty,
-    block: Block,
-) -> Result<Boxed<Bodies>, NoMemory>
+fn of_block(alloc: Global, answer: Ty, param: Ty, block: Block) -> Result<Boxed<Bodies>, NoMemory>
     ensures { IfOk result (λ p. p ≡ alone (of_block answer param block)) }
 {
     let blocks = one(alloc, (Label(0), block))?;

@@ -169,32 +169,16 @@ const TERMS: [(&[u8], (u8, u8, u8), u32); 34] = [
     (b"(a)", (b'p', b' ', b' '), 3),
     (b"(a,)", (b',', b' ', b' '), 4),
     (b"()", (b',', b' ', b' '), 2),
-    (
-        b"if a { result } else { self }",
-        (b'?', b'p', b'r'),
-        9,
-    ),
+    (b"if a { result } else { self }", (b'?', b'p', b'r'), 9),
     (
         b"match x { A(_, mut y) => 1, B { z, .. } => 2 }",
         (b'M', b'p', b' '),
         22,
     ),
-    (
-        b"forall<i: Int> 0 <= i ==> i < n",
-        (b'Q', b'>', b' '),
-        13,
-    ),
-    (
-        b"exists<r: &'a mut (T, u8)> true",
-        (b'Q', b't', b' '),
-        14,
-    ),
+    (b"forall<i: Int> 0 <= i ==> i < n", (b'Q', b'>', b' '), 13),
+    (b"exists<r: &'a mut (T, u8)> true", (b'Q', b't', b' '), 14),
     (b"MutRef(a, *b)", (b'm', b'p', b'c'), 7),
-    (
-        b"postcondition_mut(f, (x,), r)",
-        (b'P', b' ', b' '),
-        11,
-    ),
+    (b"postcondition_mut(f, (x,), r)", (b'P', b' ', b' '), 11),
     (b"a) + b", (b'p', b' ', b' '), 1),
     (b"a as u8", (b'p', b' ', b' '), 1),
     (b"a < b < c", (b'=', b'p', b'p'), 3),
@@ -279,18 +263,9 @@ fn has_arguments(alloc: Global, text: &[u8], letters: &[u8]) -> bool {
 const ARGUMENTS: [(&[u8], &[u8]); 5] = [
     (b"forall<x: S> true", b""),
     (b"forall<x: S<'a>> true", b"l"),
-    (
-        b"forall<x: S<u8, (T, U)>> true",
-        b"tt",
-    ),
-    (
-        b"forall<x: S<'a, T, 'b>> true",
-        b"ltl",
-    ),
-    (
-        b"forall<x: S<T, 'a, 'b, U,>> true",
-        b"tllt",
-    ),
+    (b"forall<x: S<u8, (T, U)>> true", b"tt"),
+    (b"forall<x: S<'a, T, 'b>> true", b"ltl"),
+    (b"forall<x: S<T, 'a, 'b, U,>> true", b"tllt"),
 ];
 
 #[test]
