@@ -2,24 +2,10 @@
 //! obligations are open and where their proofs stop, `skeleton SOURCE` a proof file to begin with.
 #![tactic(auto)]
 
-mod attempt;
-mod error_page;
-mod formula;
-mod goal_page;
-mod hint;
-mod naming;
-mod opening;
-mod page;
-mod place;
-mod sequent_page;
-mod skeleton_page;
-#[cfg(test)]
-mod tests;
 mod words;
 
-use crate::page::{Page, make_page};
-use crate::place::Source;
 use crate::words::{Request, request_of};
+use creusot_pages::{Page, Source, make_page};
 use io_edge::{FileShelf, Shelf, ShelfError};
 use std::alloc::{AllocError, Global};
 use std::process::ExitCode;

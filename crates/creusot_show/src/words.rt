@@ -1,7 +1,7 @@
 //! The words of the call.
-use crate::page::Verb;
 use clap::error::ErrorKind;
 use clap::{Arg, ArgMatches, Command};
+use creusot_pages::Verb;
 use std::alloc::Global;
 use text_core::NoMemory;
 

@@ -11,10 +11,10 @@ const MAX: i128 = i128::MAX;
 /// So many times atom 3, so many times atom 7, and a constant.
 type Numbers = [i128; 3];
 
-fn row(alloc: Global, numbers: Numbers) -> Result<Row, NoMemory>
+fn row(alloc: Global, numbers: &Numbers) -> Result<Row, NoMemory>
     ensures { IfOk result HasRisingAtoms }
 {
-    let [x, y, constant] = numbers;
+    let [x, y, constant] = *numbers;
     let parts = Items::from_slice(
         alloc,
         &[Part { atom: 3, factor: x }, Part { atom: 7, factor: y }],
@@ -22,10 +22,13 @@ fn row(alloc: Global, numbers: Numbers) -> Result<Row, NoMemory>
     Ok(Row { parts, constant })
 }
 
-fn answer(alloc: Global, rows: [Numbers; 3], mult: [i128; 3]) -> Result<CertAnswer, NoMemory> {
-    let [one, two, three] = rows;
-    let rows = [row(alloc, one)?, row(alloc, two)?, row(alloc, three)?];
-    Ok(check_certificate(&rows, &mult))
+fn answer(alloc: Global, rows: &[Numbers; 3], mult: &[i128; 3]) -> Result<CertAnswer, NoMemory> {
+    let rows = [
+        row(alloc, &rows[0])?,
+        row(alloc, &rows[1])?,
+        row(alloc, &rows[2])?,
+    ];
+    Ok(check_certificate(&rows, mult))
 }
 
 #[test]
@@ -36,7 +39,8 @@ fn no_rows(rt: HostRuntime) {
 /// 3x - y - 7, 4 - 2x and y.
 #[test]
 fn rows_add_up(rt: HostRuntime) -> Result<(), Fail> {
-    let got = answer(rt.alloc(), [[3, -1, -7], [-2, 0, 4], [0, 1, 0]], [2, 3, 2])?;
+    let rows = &[[3, -1, -7], [-2, 0, 4], [0, 1, 0]];
+    let got = answer(rt.alloc(), rows, &[2, 3, 2])?;
     assert!(rt; matches!(got, CertAnswer::Good));
     Ok(())
 }
@@ -58,8 +62,9 @@ fn fails_at(answer: CertAnswer, row: u32) -> bool {
 
 #[test]
 fn rows_fail(rt: HostRuntime) -> Result<(), Fail> {
-    for (rows, mult, at) in FAILING {
-        assert!(rt; fails_at(answer(rt.alloc(), rows, mult)?, at), "at {at}");
+    for (rows, mult, at) in &FAILING {
+        let got = answer(rt.alloc(), rows, mult)?;
+        assert!(rt; fails_at(got, *at), "at {at}");
     }
     Ok(())
 }
@@ -81,9 +86,9 @@ fn is_too_wide_at(answer: CertAnswer, row: u32) -> bool {
 
 #[test]
 fn numbers_pass_the_width(rt: HostRuntime) -> Result<(), Fail> {
-    for (rows, mult, at) in PASSING {
+    for (rows, mult, at) in &PASSING {
         let got = answer(rt.alloc(), rows, mult)?;
-        assert!(rt; is_too_wide_at(got, at), "at {at}");
+        assert!(rt; is_too_wide_at(got, *at), "at {at}");
     }
     Ok(())
 }

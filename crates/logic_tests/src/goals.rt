@@ -48,17 +48,18 @@ const FORMULAS: [(&[u8], &[u8]); 16] = [
     (b"XB=xy", b"(forall<v1: i32> (forall<v2: bool> (v2 == v0)))"),
 ];
 
-fn is_printed(alloc: Global, row: (&[u8], &[u8])) -> Result<bool, NoMemory> {
-    let text = plain_text(alloc, &term(alloc, row.0)?)?;
-    Ok(text.as_slice() == row.1)
+fn is_printed(alloc: Global, goal: &Term, wanted: &[u8]) -> Result<bool, NoMemory> {
+    Ok(plain_text(alloc, goal)?.as_slice() == wanted)
 }
 
 #[test]
 fn formulas(rt: HostRuntime) -> Result<(), Fail> {
-    let mut at = 0u32;
-    for row in FORMULAS {
-        assert!(rt; is_printed(rt.alloc(), row)?, "row {at}");
-        at = at.wrapping_add(1);
+    let alloc = rt.alloc();
+    for (at, (text, wanted)) in FORMULAS.iter().enumerate() {
+        assert!(rt;
+            is_printed(alloc, &term(alloc, *text)?, *wanted)?,
+            "row {at}"
+        );
     }
     Ok(())
 }
@@ -83,9 +84,9 @@ const LITERALS: [(i128, IntKind, &[u8]); 10] = [
 #[test]
 fn literals(rt: HostRuntime) -> Result<(), Fail> {
     let alloc = rt.alloc();
-    for (number, kind, wanted) in LITERALS {
-        let literal = Term::lit(alloc, number, Ty::int(kind))?;
-        assert!(rt; plain_text(alloc, &literal)?.as_slice() == wanted);
+    for (at, (number, kind, wanted)) in LITERALS.iter().enumerate() {
+        let literal = Term::lit(alloc, *number, Ty::int(*kind))?;
+        assert!(rt; is_printed(alloc, &literal, *wanted)?, "row {at}");
     }
     Ok(())
 }
@@ -110,17 +111,17 @@ const VALUES: [(Ctor, usize, &[u8]); 5] = [
 #[test]
 fn values(rt: HostRuntime) -> Result<(), Fail> {
     let alloc = rt.alloc();
-    for (ctor, parts, wanted) in VALUES {
-        let text = plain_text(alloc, &made(alloc, ctor, parts)?)?;
-        assert!(rt; text.as_slice() == wanted);
+    for (at, (ctor, parts, wanted)) in VALUES.iter().enumerate() {
+        let value = made(alloc, *ctor, *parts)?;
+        assert!(rt; is_printed(alloc, &value, *wanted)?, "row {at}");
     }
     Ok(())
 }
 
-/// `true` for each value of the sort.
-fn sort_text(alloc: Global, sort: Ty) -> Result<Vec<u8>, NoMemory> {
+/// Whether `true` for each value of the sort is printed so.
+fn is_sort(alloc: Global, sort: Ty, wanted: &[u8]) -> Result<bool, NoMemory> {
     let body = Term::truth(alloc, true)?;
-    plain_text(alloc, &Term::forall(alloc, X, sort, body)?)
+    is_printed(alloc, &Term::forall(alloc, X, sort, body)?, wanted)
 }
 
 /// So many sorts.
@@ -148,15 +149,21 @@ const AROUND: [(TyUnary, &[u8]); 5] = [
 ];
 
 #[test]
-fn sorts_of_sorts(rt: HostRuntime) -> Result<(), Fail> {
+fn tuples(rt: HostRuntime) -> Result<(), Fail> {
     let alloc = rt.alloc();
-    for (parts, wanted) in TUPLES {
-        let node = TyNode::Tuple(sorts(alloc, parts)?);
-        assert!(rt; sort_text(alloc, Ty { node })?.as_slice() == wanted);
+    for (parts, wanted) in &TUPLES {
+        let node = TyNode::Tuple(sorts(alloc, *parts)?);
+        assert!(rt; is_sort(alloc, Ty { node }, *wanted)?, "{parts}");
     }
-    for (op, wanted) in AROUND {
-        let sort = Ty::compound(alloc, CompoundTy::Unary(op, Ty::bool()))?;
-        assert!(rt; sort_text(alloc, sort)?.as_slice() == wanted);
+    Ok(())
+}
+
+#[test]
+fn sorts_around_sorts(rt: HostRuntime) -> Result<(), Fail> {
+    let alloc = rt.alloc();
+    for (at, (op, wanted)) in AROUND.iter().enumerate() {
+        let sort = Ty::compound(alloc, CompoundTy::Unary(*op, Ty::bool()))?;
+        assert!(rt; is_sort(alloc, sort, *wanted)?, "row {at}");
     }
     Ok(())
 }
@@ -193,17 +200,50 @@ fn declared(name: Name, variants: Vec<VariantDecl>, is_struct: bool) -> AdtDecl 
     }
 }
 
+/// A struct with two named fields.
+fn a_struct(alloc: Global) -> Result<AdtDecl, NoMemory> {
+    let mut variants = Vec::new(alloc);
+    variants.push(variant(alloc, BOX, &[MEM, SWAP])?)?;
+    Ok(declared(BOX, variants, true))
+}
+
+/// An enum with a variant of a field of this name.
+fn an_enum(alloc: Global, zero: Name) -> Result<AdtDecl, NoMemory> {
+    let mut variants = Vec::new(alloc);
+    variants.push(variant(alloc, NONE, &[])?)?;
+    variants.push(variant(alloc, SOME, &[zero])?)?;
+    Ok(declared(OPTION, variants, false))
+}
+
+/// Declared types, and the names of their parts.
+#[derive(Drop)]
+struct Program {
+    adts: Vec<AdtDecl>,
+    names: Names,
+}
+
 /// A struct with two named fields, and an enum with a variant of a numbered field.
-fn two_types(alloc: Global, zero: Name) -> Result<Vec<AdtDecl>, NoMemory> {
-    let mut of_box = Vec::new(alloc);
-    of_box.push(variant(alloc, BOX, &[MEM, SWAP])?)?;
-    let mut of_option = Vec::new(alloc);
-    of_option.push(variant(alloc, NONE, &[])?)?;
-    of_option.push(variant(alloc, SOME, &[zero])?)?;
+fn two_types(alloc: Global) -> Result<Program, NoMemory> {
+    let mut names = Names::new(alloc);
+    let zero = names.intern(alloc, "0")?;
     let mut adts = Vec::new(alloc);
-    adts.push(declared(BOX, of_box, true))?;
-    adts.push(declared(OPTION, of_option, false))?;
-    Ok(adts)
+    adts.push(a_struct(alloc)?)?;
+    adts.push(an_enum(alloc, zero)?)?;
+    Ok(Program { adts, names })
+}
+
+/// Whether the goal of the program is printed so.
+fn is_printed_in(
+    alloc: Global,
+    program: &Program,
+    goal: &Term,
+    wanted: &[u8],
+) -> Result<bool, NoMemory> {
+    let spelling = Spelling {
+        adts: &program.adts,
+        names: &program.names,
+    };
+    Ok(goal_text(alloc, &spelling, goal)?.as_slice() == wanted)
 }
 
 const DECLARED: [(Ctor, usize, &[u8]); 3] = [
@@ -219,36 +259,28 @@ const DECLARED: [(Ctor, usize, &[u8]); 3] = [
 #[test]
 fn values_of_declared_types(rt: HostRuntime) -> Result<(), Fail> {
     let alloc = rt.alloc();
-    let mut names = Names::new(alloc);
-    let zero = names.intern(alloc, "0")?;
-    let adts = two_types(alloc, zero)?;
-    let spelling = Spelling {
-        adts: &adts,
-        names: &names,
-    };
-    for (ctor, parts, wanted) in DECLARED {
-        let goal = made(alloc, ctor, parts)?;
-        let text = goal_text(alloc, &spelling, &goal)?;
-        assert!(rt; text.as_slice() == wanted);
+    let program = two_types(alloc)?;
+    for (at, (ctor, parts, wanted)) in DECLARED.iter().enumerate() {
+        let goal = made(alloc, *ctor, *parts)?;
+        assert!(rt; is_printed_in(alloc, &program, &goal, *wanted)?, "row {at}");
     }
     Ok(())
+}
+
+/// `true` for each option of two types.
+fn for_options(alloc: Global) -> Result<Term, NoMemory> {
+    let regions = Vec::from_slice(alloc, &[Region(1)])?;
+    let parts = CompoundTy::Adt(AdtId(1), regions, sorts(alloc, 2)?);
+    let sort = Ty::compound(alloc, parts)?;
+    Term::forall(alloc, X, sort, Term::truth(alloc, true)?)
 }
 
 #[test]
 fn declared_sorts(rt: HostRuntime) -> Result<(), Fail> {
     let alloc = rt.alloc();
-    let mut names = Names::new(alloc);
-    let zero = names.intern(alloc, "0")?;
-    let adts = two_types(alloc, zero)?;
-    let spelling = Spelling {
-        adts: &adts,
-        names: &names,
-    };
-    let regions = Vec::from_slice(alloc, &[Region(1)])?;
-    let parts = CompoundTy::Adt(AdtId(1), regions, sorts(alloc, 2)?);
-    let sort = Ty::compound(alloc, parts)?;
-    let goal = Term::forall(alloc, X, sort, Term::truth(alloc, true)?)?;
-    let text = goal_text(alloc, &spelling, &goal)?;
-    assert!(rt; text.as_slice() == b"(forall<v1: Option<Int, bool>> true)".as_slice());
+    let program = two_types(alloc)?;
+    let goal = for_options(alloc)?;
+    let wanted = b"(forall<v1: Option<Int, bool>> true)";
+    assert!(rt; is_printed_in(alloc, &program, &goal, wanted)?);
     Ok(())
 }

@@ -2,6 +2,7 @@ use logic_term::Label2;
 use proof_kernel::{Multiple, Reference, Step};
 use proof_text::{Proof, ProofFile, ProofTextError, read_proofs};
 use std::alloc::Global;
+use std::process::Abort;
 use std::test::Fail;
 use text_core::{Name, Names};
 
@@ -123,11 +124,16 @@ const READ: [&str; 5] = [
     "creusot-proofs 1\nproof 1 x\nend\nproof 1 y\nend\nproof 2 x\nend\n",
 ];
 
+/// The first bad line of each text is this one.
+fn expect_bad(rt: &impl Abort, alloc: Global, texts: &[&str], line: u32) {
+    for text in texts {
+        assert!(rt; bad_line(alloc, text.as_bytes()) == line, "{text}");
+    }
+}
+
 #[test]
 fn what_is_read(rt: HostRuntime) {
-    for text in READ {
-        assert!(rt; bad_line(rt.alloc(), text.as_bytes()) == 0, "{text}");
-    }
+    expect_bad(&rt, rt.alloc(), &READ, 0);
 }
 
 const BAD_LINES: [(&str, u32); 20] = [
@@ -155,8 +161,8 @@ const BAD_LINES: [(&str, u32); 20] = [
 
 #[test]
 fn first_bad_lines(rt: HostRuntime) {
-    for (text, want) in BAD_LINES {
-        assert!(rt; bad_line(rt.alloc(), text.as_bytes()) == want, "{text}");
+    for (text, want) in &BAD_LINES {
+        assert!(rt; bad_line(rt.alloc(), text.as_bytes()) == *want, "{text}");
     }
 }
 
@@ -177,9 +183,7 @@ const BAD_STEPS: [&str; 12] = [
 
 #[test]
 fn bad_steps(rt: HostRuntime) {
-    for text in BAD_STEPS {
-        assert!(rt; bad_line(rt.alloc(), text.as_bytes()) == 6, "{text}");
-    }
+    expect_bad(&rt, rt.alloc(), &BAD_STEPS, 6);
 }
 
 const NAMES: [&str; 7] = [
@@ -208,31 +212,38 @@ fn bad_line_of_owner(alloc: Global, owner: &str) -> Result<u32, Fail> {
     Ok(bad_line(alloc, text.as_bytes()))
 }
 
-#[test]
-fn names_are_identifiers(rt: HostRuntime) -> Result<(), Fail> {
-    for name in NAMES {
-        assert!(rt; bad_line_of_name(rt.alloc(), name)? == 0, "{name}");
-        assert!(rt; bad_line_of_owner(rt.alloc(), name)? == 0, "{name}");
-    }
-    for name in NO_NAMES {
-        assert!(rt; bad_line_of_name(rt.alloc(), name)? == 4, "{name}");
-        assert!(rt; bad_line_of_owner(rt.alloc(), name)? == 2, "{name}");
+/// With such a name the first bad line is `line`, and with such an owner `first`.
+fn expect_names(
+    rt: &impl Abort,
+    alloc: Global,
+    names: &[&str],
+    line: u32,
+    first: u32,
+) -> Result<(), Fail> {
+    for name in names {
+        let lines = (
+            bad_line_of_name(alloc, *name)?,
+            bad_line_of_owner(alloc, *name)?,
+        );
+        assert!(rt; lines.0 == line && lines.1 == first, "{name}");
     }
     Ok(())
+}
+
+#[test]
+fn names_are_identifiers(rt: HostRuntime) -> Result<(), Fail> {
+    expect_names(&rt, rt.alloc(), &NAMES, 0, 0)?;
+    expect_names(&rt, rt.alloc(), &NO_NAMES, 4, 2)
 }
 
 #[test]
 fn a_name_has_at_most_255_bytes(rt: HostRuntime) -> Result<(), Fail> {
     let alloc = rt.alloc();
     let even = "\u{e9}".repeat(alloc, 127)?;
-    assert!(rt; bad_line_of_name(alloc, &even)? == 0);
     let longest = format!(in alloc; "x{even}")?;
-    assert!(rt; bad_line_of_name(alloc, &longest)? == 0);
-    assert!(rt; bad_line_of_owner(alloc, &longest)? == 0);
     let past = format!(in alloc; "xx{even}")?;
-    assert!(rt; bad_line_of_name(alloc, &past)? == 4);
-    assert!(rt; bad_line_of_owner(alloc, &past)? == 2);
-    Ok(())
+    expect_names(&rt, alloc, &[&even, &longest], 0, 0)?;
+    expect_names(&rt, alloc, &[&past], 4, 2)
 }
 
 const LINES_OF_BYTES: [(&[u8], u32); 7] = [
@@ -333,13 +344,16 @@ fn bad_line_of_step(alloc: Global, step: &str) -> Result<u32, Fail> {
     Ok(bad_line(alloc, text.as_bytes()))
 }
 
-#[test]
-fn lines_of_rules(rt: HostRuntime) -> Result<(), Fail> {
-    for step in BAD_RULES {
-        assert!(rt; bad_line_of_step(rt.alloc(), step)? == 4, "{step}");
-    }
-    for step in RULES {
-        assert!(rt; bad_line_of_step(rt.alloc(), step)? == 0, "{step}");
+/// With each as the second step the first bad line is this one.
+fn expect_steps(rt: &impl Abort, alloc: Global, steps: &[&str], line: u32) -> Result<(), Fail> {
+    for step in steps {
+        assert!(rt; bad_line_of_step(alloc, *step)? == line, "{step}");
     }
     Ok(())
+}
+
+#[test]
+fn lines_of_rules(rt: HostRuntime) -> Result<(), Fail> {
+    expect_steps(&rt, rt.alloc(), &BAD_RULES, 4)?;
+    expect_steps(&rt, rt.alloc(), &RULES, 0)
 }

@@ -5,6 +5,7 @@ use proof_kernel::Reference::{Back, Goal, Hyp};
 use proof_kernel::{LinAnswer, Multiple, Reference, Sequent, certifies};
 use source_kinds::IntKind;
 use std::alloc::Global;
+use std::process::Abort;
 use std::test::Fail;
 use text_core::NoMemory;
 
@@ -85,45 +86,44 @@ const PRODUCTS: [Row; 13] = [
 ];
 
 /// The variables are an `i32` and an `Int`.
-fn sequent(alloc: Global, texts: [&[u8]; 3]) -> Result<Sequent, NoMemory> {
-    let [one, two, goal] = texts;
-    let q = Sequent::new(alloc, term(alloc, goal)?)?;
+fn sequent(alloc: Global, texts: &[&[u8]; 3]) -> Result<Sequent, NoMemory> {
+    let q = Sequent::new(alloc, term(alloc, texts[2])?)?;
     let q = q.declaring(alloc, X, Ty::int(IntKind::I32))?;
     let q = q.declaring(alloc, Y, Ty::math_int())?;
-    let q = q.assuming(alloc, ONE, term(alloc, one)?)?;
-    q.assuming(alloc, TWO, term(alloc, two)?)
+    let q = q.assuming(alloc, ONE, term(alloc, texts[0])?)?;
+    q.assuming(alloc, TWO, term(alloc, texts[1])?)
 }
 
-fn comes_to(alloc: Global, row: Row) -> Result<bool, NoMemory> {
-    let (texts, times, want) = row;
+fn multiples(alloc: Global, times: &[(i128, Reference)]) -> Result<Vec<Multiple>, NoMemory> {
     let mut multiples = Vec::with_capacity(alloc, times.len())?;
     for (by, of) in times {
         multiples.push(Multiple { by: *by, of: *of })?;
     }
-    let multiples = multiples.as_slice();
+    Ok(multiples)
+}
+
+fn comes_to(alloc: Global, row: &Row) -> Result<bool, NoMemory> {
+    let multiples = multiples(alloc, row.1)?;
     if multiples.len() > 1000 {
         return Ok(false);
     }
-    let q = sequent(alloc, texts)?;
-    Ok(certifies(alloc, &q, multiples)? == want)
+    let q = sequent(alloc, &row.0)?;
+    Ok(certifies(alloc, &q, &multiples)? == row.2)
+}
+
+fn expect(rt: &impl Abort, alloc: Global, rows: &[Row]) -> Result<(), Fail> {
+    for (at, row) in rows.iter().enumerate() {
+        assert!(rt; comes_to(alloc, row)?, "row {at}");
+    }
+    Ok(())
 }
 
 #[test]
 fn linear_rows(rt: HostRuntime) -> Result<(), Fail> {
-    let mut at = 0u32;
-    for row in LINEAR {
-        assert!(rt; comes_to(rt.alloc(), row)?, "row {at}");
-        at = at.wrapping_add(1);
-    }
-    Ok(())
+    expect(&rt, rt.alloc(), &LINEAR)
 }
 
 #[test]
 fn products(rt: HostRuntime) -> Result<(), Fail> {
-    let mut at = 0u32;
-    for row in PRODUCTS {
-        assert!(rt; comes_to(rt.alloc(), row)?, "row {at}");
-        at = at.wrapping_add(1);
-    }
-    Ok(())
+    expect(&rt, rt.alloc(), &PRODUCTS)
 }

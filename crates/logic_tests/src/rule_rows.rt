@@ -357,15 +357,63 @@ const UNKNOWN: [&str; 12] = [
     "rewrite < 1.1 in 0.1\n",
 ];
 
+/// Whether this as the second step cites a step that is not above it.
+fn is_unknown(alloc: Global, line: &str) -> Result<bool, Fail> {
+    let steps = format!(in alloc; "intro z w\n{line}")?;
+    let refused = outcome(alloc, "ZW><z0><w0<z0", &steps)?;
+    Ok(matches!(refused, Err(StepError::UnknownStep { step: 2 })))
+}
+
 #[test]
 fn labels_of_steps_above_alone(rt: HostRuntime) -> Result<(), Fail> {
-    for line in UNKNOWN {
-        let steps = format!(in rt.alloc(); "intro z w\n{line}")?;
-        let refused = outcome(rt.alloc(), "ZW><z0><w0<z0", &steps)?;
-        assert!(rt;
-            matches!(refused, Err(StepError::UnknownStep { step: 2 })),
-            "{line}"
-        );
+    for line in &UNKNOWN {
+        assert!(rt; is_unknown(rt.alloc(), *line)?, "{line}");
+    }
+    Ok(())
+}
+
+/// What a proof comes to, and at which step it is refused, if it is.
+fn end_of(came: Result<bool, StepError>) -> (&'static str, u32) {
+    match came {
+        Ok(true) => ("closed", 0),
+        Ok(false) => ("open", 0),
+        Err(StepError::UnknownStep { step }) => ("unknown", step),
+        Err(StepError::TooWide { step }) => ("too wide", step),
+        Err(StepError::RuleFails { step }) => ("fails", step),
+        Err(StepError::NoMemory) => ("no memory", 0),
+    }
+}
+
+/// Goals for each `x` of `i32` where `x@` is below 100, with proofs and what they come to.
+const PROOFS: [(&str, &str, &str, u32); 8] = [
+    ("X><@xc<@xc", "intro y\nhyp 1.1\n", "closed", 0),
+    // A split leaves two goals.
+    ("X><@xc&<@xc<@xe", "intro x\nsplit\nhyp 1.1\n", "open", 0),
+    (
+        "X><@xc&<@xc<@xe",
+        "intro x\nsplit\nhyp 1.1\nlin 1:goal 1:1.1\n",
+        "closed",
+        0,
+    ),
+    // The second of the two hypotheses that a range adds.
+    ("X><@xcl@xH", "intro x\nrange x\nhyp 2.2\n", "closed", 0),
+    ("X><@xc<@xe", "intro x\nlin 1:goal 1:1.1\n", "closed", 0),
+    (
+        "X><@xc<@xe",
+        "intro x\nlin 170141183460469231731687303715884105727:goal 170141183460469231731687303715884105727:1.1\n",
+        "too wide",
+        2,
+    ),
+    ("X><@xc<@xe", "intro x\nsplit\n", "fails", 2),
+    // A step that cites itself.
+    ("X><@xc<@xc", "intro x\nhyp 2.1\n", "unknown", 2),
+];
+
+#[test]
+fn short_proofs(rt: HostRuntime) -> Result<(), Fail> {
+    for (goal, steps, word, step) in &PROOFS {
+        let end = end_of(outcome(rt.alloc(), *goal, *steps)?);
+        assert!(rt; end.0 == *word && end.1 == *step, "{goal} by {steps}");
     }
     Ok(())
 }

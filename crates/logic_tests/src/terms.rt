@@ -30,9 +30,9 @@ const RANGES: [(IntKind, i128, i128); 5] = [
 
 #[test]
 fn ranges(rt: HostRuntime) {
-    for (kind, lowest, highest) in RANGES {
-        assert!(rt; kind.lowest() == lowest, "the least is not {lowest}");
-        assert!(rt; kind.highest() == highest, "the greatest is not {highest}");
+    for (kind, lowest, highest) in &RANGES {
+        assert!(rt; kind.lowest() == *lowest, "the least is not {lowest}");
+        assert!(rt; kind.highest() == *highest, "the greatest is not {highest}");
     }
 }
 
@@ -74,8 +74,8 @@ fn names_in_terms(rt: HostRuntime) -> Result<(), Fail> {
     let t = term(alloc, b"Y=xy")?;
     assert!(rt; is_shared(alloc, &t)?);
     assert!(rt; t.above(alloc)? == 8);
-    for (name, free) in [(X, true), (Y, false), (Name(8), false)] {
-        assert!(rt; t.free_in(alloc, name)? == free, "name {}", name.0);
+    for (name, free) in &[(X, true), (Y, false), (Name(8), false)] {
+        assert!(rt; t.free_in(alloc, *name)? == *free, "name {}", name.0);
     }
     Ok(())
 }

@@ -46,33 +46,40 @@ body_of id tys names blocks =
 abbrev pub name : ℕ → Name
 name n = record { 0 = n }
 
+-- one block
+abbrev pub of_block : Ty → Ty → Block → Body
+of_block answer takes k = body_of 0 (answer ∷ takes ∷ []) (name 100 ∷ name 101 ∷ []) ((label 0, k) ∷ [])
+
 -- the right side is the answer
 abbrev pub sample : Ty → Ty → Rvalue → Body
-sample answer takes r = body_of 0 (answer ∷ takes ∷ []) (name 100 ∷ name 101 ∷ []) ((label 0, block_of (assigned 0 r ∷ []) Return) ∷ [])
+sample answer takes r = of_block answer takes (block_of (assigned 0 r ∷ []) Return)
 
 -- of an i32, -x where it is negative, and else x
+abbrev pub tests : Block
+tests = block_of (assigned 2 (Binary Lt (Copy (whole 1)) (Const (lit.Int (pos 0) I32))) ∷ []) (If (Move (whole 2)) (label 1) (label 2))
+
+abbrev pub negates : Block
+negates = block_of (assigned 0 (Neg (Copy (whole 1))) ∷ record { span = sample_span; kind = Dead 1 } ∷ []) (Goto (label 3))
+
+abbrev pub keeps : Block
+keeps = block_of (assigned 0 (Use (Move (whole 1))) ∷ []) (Goto (label 3))
+
+abbrev pub absolute_blocks : List (Label × Block)
+absolute_blocks = (label 0, tests) ∷ (label 1, negates) ∷ (label 2, keeps) ∷ (label 3, block_of [] Return) ∷ []
+
 abbrev pub absolute : Body
-absolute =
-    body_of 0 (int I32 ∷ int I32 ∷ bool ∷ []) (name 100 ∷ name 101 ∷ name 102 ∷ []) (
-    (label 0, block_of (assigned 2 (Binary Lt (Copy (whole 1)) (Const (lit.Int (pos 0) I32))) ∷ []) (If (Move (whole 2)) (label 1) (label 2)))
-    ∷ (label 1, block_of (assigned 0 (Neg (Copy (whole 1))) ∷ record { span = sample_span; kind = Dead 1 } ∷ []) (Goto (label 3)))
-    ∷ (label 2, block_of (assigned 0 (Use (Move (whole 1))) ∷ []) (Goto (label 3)))
-    ∷ (label 3, block_of [] Return)
-    ∷ []
-    )
+absolute = body_of 0 (int I32 ∷ int I32 ∷ bool ∷ []) (name 100 ∷ name 101 ∷ name 102 ∷ []) absolute_blocks
 
 -- what body 0 answers of the argument
+abbrev pub calling_blocks : List (Label × Block)
+calling_blocks = (label 0, block_of [] (Call (whole 0) (Function (fn_id.Body 0)) [] (Copy (whole 1) ∷ []) (label 1))) ∷ (label 1, block_of [] Return) ∷ []
+
 abbrev pub calling : Body
-calling =
-    body_of 1 (int I32 ∷ int I32 ∷ []) (name 100 ∷ name 101 ∷ []) (
-    (label 0, block_of [] (Call (whole 0) (Function (fn_id.Body 0)) [] (Copy (whole 1) ∷ []) (label 1)))
-    ∷ (label 1, block_of [] Return)
-    ∷ []
-    )
+calling = body_of 1 (int I32 ∷ int I32 ∷ []) (name 100 ∷ name 101 ∷ []) calling_blocks
 
 -- one block, which panics
 abbrev pub panicking : Cause → Body
-panicking cause = body_of 0 (int I32 ∷ int I32 ∷ []) (name 100 ∷ name 101 ∷ []) ((label 0, block_of [] (Panic cause)) ∷ [])
+panicking cause = of_block (int I32) (int I32) (block_of [] (Panic cause))
 
 -- these bodies, and nothing that is declared beside them
 abbrev pub of_bodies : List Body → Bodies

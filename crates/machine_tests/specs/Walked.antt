@@ -1,9 +1,10 @@
 -- The bodies that tests use, with their statements left open.
-use Rattle.std.specs.Prelude.{◌≡◌, ℕ, List, [], ◌∷◌, Option, Some, None, codes}
+use Rattle.std.specs.Prelude.{◌≡◌, ℕ, List, [], ◌∷◌, Option, Some, None, codes, slice_get}
 use Rattle.text_core.specs.declared.name.Name.{Name}
 use Rattle.text_core.specs.declared.refusal.Cause.{Cause}
 use Rattle.text_core.specs.declared.span.Span.{Span}
 use Rattle.logic_term.specs.declared.kinds.Label.{Label}
+use Rattle.logic_term.specs.declared.obligation.Contract.{Contract}
 use Rattle.logic_term.specs.Ty.{Ty}
 use Rattle.mir_ir.specs.declared.place.Operand.{Operand}
 use Rattle.mir_ir.specs.declared.place.Place.{Place}
@@ -15,6 +16,8 @@ use Rattle.mir_ir.specs.declared.terminator.TerminatorKind.TheVariants.{Goto, If
 use Rattle.mir_ir.specs.declared.body.Block.{Block}
 use Rattle.mir_ir.specs.declared.body.Body.{Body}
 use Rattle.mir_ir.specs.declared.body.Head.{Head}
+use Rattle.prophecy_logic.specs.Graph.{Setting}
+use Rattle.prophecy_logic.specs.Walkable.{CanWalk}
 
 abbrev pub label : ℕ → Label
 label n = record { 0 = n }
@@ -92,3 +95,7 @@ pub record IsForking (b : Body) : Type 0 where
   pub second : Operand
   pub third : Operand
   pub is : b ≡ forking locals first second third
+
+-- the body can be walked wherever there is a contract of function 0
+abbrev pub CanBeWalked : Body → Type 0
+CanBeWalked b = (w : Setting) (c : Contract) → w.body ≡ b → slice_get w.contracts.of 0 ≡ Some c → CanWalk w

@@ -1,7 +1,9 @@
+//! Obligations of one body of each shape, and how many there may be.
 ghost use Rattle.std.specs.Prelude.{◌≡◌, ◌<◌, ◌∷◌, [], None, IfOk};
 ghost use Rattle.mir_ir.specs.declared.terminator.TerminatorKind.TheVariants.{If};
-ghost use Rattle.machine_tests.specs.Walked.{block_of, body_of, whole, straight, panicking, branching, looping, calling, forking, IsForking};
+ghost use Rattle.machine_tests.specs.Walked.{block_of, body_of, whole, straight, panicking, branching, looping, calling, forking, IsForking, CanBeWalked};
 
+use goal_text::{Spelling, goal_text};
 use logic_term::{Contract, Label, Obligation, Term, Ty, TyNode};
 use mir_ir::{
     Block, Body, Callee, Contracts, FnId, Head, Initialised, Lit, Operand, Place, Resolves, Rvalue,
@@ -9,15 +11,18 @@ use mir_ir::{
 };
 use source_kinds::{ArithOp, BinaryOp, IntKind};
 use std::alloc::Global;
-use std::process::Abort;
 use std::test::Fail;
-use text_core::{Cause, Items, Kind, Limit, LimitKind, Name, NoMemory, PassError, Span, Text};
+use text_core::{
+    Boxed, Cause, Items, Kind, LimitKind, Name, Names, NoMemory, PassError, Span, Text,
+};
 use wp_gen::{OBLIGATIONS, Walk, counted_obligations, obligations, room_after};
 
 /// The parameter, and the answer, in contracts.
 const X: Name = Name(50);
 
 const ANSWER: Name = Name(51);
+
+const PRE: Span = Span { start: 70, end: 71 };
 
 const POST: Span = Span { start: 80, end: 81 };
 
@@ -56,37 +61,44 @@ fn plain(alloc: Global, statements: Items<Statement>, kind: TerminatorKind) -> B
     block(None, Items::new(alloc), statements, kind)
 }
 
-fn body(alloc: Global, locals: Items<Ty>, blocks: Items<(Label, Block)>) -> Result<Body, NoMemory>
+fn body(
+    alloc: Global,
+    locals: Items<Ty>,
+    blocks: Items<(Label, Block)>,
+) -> Result<Boxed<Body>, NoMemory>
     ensures { IfOk result (λ b. b ≡ body_of locals blocks) }
 {
-    Ok(Body {
+    let owner = Text::from_bytes(alloc, b"f")?;
+    let names = Items::from_slice(alloc, &[Name(100), Name(101), Name(102)])?;
+    let body = Body {
         id: 0,
-        owner: Text::from_bytes(alloc, b"f")?,
+        owner,
         types: Items::new(alloc),
         params: 1,
         locals,
-        names: Items::from_slice(alloc, &[Name(100), Name(101), Name(102)])?,
+        names,
         outlives: Items::new(alloc),
         calls: Items::new(alloc),
         entry: Label(0),
         blocks,
         span: END,
         types_at: Items::new(alloc),
-    })
+    };
+    Boxed::new(alloc, body)
 }
 
 fn straight(
     alloc: Global,
     locals: Items<Ty>,
     statements: Items<Statement>,
-) -> Result<Body, NoMemory>
+) -> Result<Boxed<Body>, NoMemory>
     ensures { IfOk result (λ b. b ≡ straight locals statements) }
 {
     let only = plain(alloc, statements, TerminatorKind::Return);
     body(alloc, locals, one(alloc, (Label(0), only))?)
 }
 
-fn panicking(alloc: Global, locals: Items<Ty>, cause: Cause) -> Result<Body, NoMemory>
+fn panicking(alloc: Global, locals: Items<Ty>, cause: Cause) -> Result<Boxed<Body>, NoMemory>
     ensures { IfOk result (λ b. b ≡ panicking locals cause) }
 {
     let only = plain(alloc, Items::new(alloc), TerminatorKind::Panic(cause));
@@ -99,7 +111,7 @@ fn branching(
     operand: Operand,
     yes: Items<Statement>,
     no: Items<Statement>,
-) -> Result<Body, NoMemory>
+) -> Result<Boxed<Body>, NoMemory>
     ensures { IfOk result (λ b. b ≡ branching locals operand yes no) }
 {
     let branch = TerminatorKind::If(operand, Label(1), Label(2));
@@ -115,7 +127,7 @@ fn looping(
     head: Head,
     operand: Operand,
     statements: Items<Statement>,
-) -> Result<Body, NoMemory>
+) -> Result<Boxed<Body>, NoMemory>
     ensures { IfOk result (λ b. b ≡ looping locals head operand statements) }
 {
     let enter = plain(alloc, Items::new(alloc), TerminatorKind::Goto(Label(1)));
@@ -133,7 +145,12 @@ fn looping(
     body(alloc, locals, blocks)
 }
 
-fn calling(alloc: Global, answer: Ty, param: Ty, args: Items<Operand>) -> Result<Body, NoMemory>
+fn calling(
+    alloc: Global,
+    answer: Ty,
+    param: Ty,
+    args: Items<Operand>,
+) -> Result<Boxed<Body>, NoMemory>
     ensures { IfOk result (λ b. b ≡ calling answer (param ∷ []) args) }
 {
     let place = Place {
@@ -166,7 +183,7 @@ fn forking(
     first: Operand,
     second: Operand,
     third: Operand,
-) -> Result<Body, NoMemory>
+) -> Result<Boxed<Body>, NoMemory>
     ensures { IfOk result (λ b. b ≡ forking locals first second third) }
 {
     let mut blocks = one(alloc, (Label(0), fork(alloc, first, Label(1))))?;
@@ -219,27 +236,18 @@ fn answer_is(
     one(alloc, Statement { span, kind })
 }
 
-// ---- formulas
+// ---- contracts
 
 /// `name@`
 fn number_of(alloc: Global, name: Name) -> Result<Term, NoMemory> {
     Term::model(alloc, Term::var(alloc, name)?)
 }
 
-/// `x@ + 1`
-fn next(alloc: Global) -> Result<Term, NoMemory> {
-    Term::calculate(
-        alloc,
-        ArithOp::Add,
-        number_of(alloc, X)?,
-        Term::integer(alloc, 1)?,
-    )
-}
-
-/// `name@ == x@ + 1`
-fn is_next(alloc: Global, name: Name) -> Result<Term, NoMemory> {
-    let number = number_of(alloc, name)?;
-    Term::equal(alloc, number, next(alloc)?)
+/// `answer@ == x@ + 1`
+fn is_next(alloc: Global) -> Result<Term, NoMemory> {
+    let x = number_of(alloc, X)?;
+    let next = Term::calculate(alloc, ArithOp::Add, x, Term::integer(alloc, 1)?)?;
+    Term::equal(alloc, number_of(alloc, ANSWER)?, next)
 }
 
 /// `x@ < 100`
@@ -248,53 +256,57 @@ fn is_small(alloc: Global) -> Result<Term, NoMemory> {
     Term::less(alloc, number, Term::integer(alloc, 100)?)
 }
 
-fn contracts_of(alloc: Global, of: Items<Contract>) -> Contracts
-    ensures { result.of ≡ of }
+/// A contract of one parameter.
+fn promise(
+    alloc: Global,
+    pre: Items<Term>,
+    post: Items<Term>,
+    spans: &[Span],
+) -> Result<Boxed<Contract>, NoMemory> {
+    let params = one(alloc, X)?;
+    let spans = Items::from_slice(alloc, spans)?;
+    let contract = Contract {
+        params,
+        answer: ANSWER,
+        pre,
+        post,
+        variants: Items::new(alloc),
+        spans,
+    };
+    Boxed::new(alloc, contract)
+}
+
+/// `requires x@ < 100`, `ensures result@ == x@ + 1`
+fn contract(alloc: Global) -> Result<Boxed<Contract>, NoMemory> {
+    let pre = one(alloc, is_small(alloc)?)?;
+    let post = one(alloc, is_next(alloc)?)?;
+    promise(alloc, pre, post, &[PRE, POST])
+}
+
+/// The contract of the one callee.
+fn contracts(alloc: Global, callee: Contract) -> Result<Boxed<Contracts>, NoMemory>
+    ensures { IfOk result (λ cs. cs.of ≡ callee ∷ []) }
 {
-    Contracts {
+    let of = one(alloc, callee)?;
+    let contracts = Contracts {
         of,
         traits: Items::new(alloc),
         closures: Items::new(alloc),
         intrinsics: Items::new(alloc),
+    };
+    Boxed::new(alloc, contracts)
+}
+
+/// A contract that promises `true` so many times.
+fn promising(alloc: Global, posts: u32) -> Result<Boxed<Contract>, NoMemory> {
+    let mut post = Items::new(alloc);
+    for _ in 0..posts {
+        post.push(Term::truth(alloc, true)?)?;
     }
+    promise(alloc, Items::new(alloc), post, &[POST])
 }
 
-/// `requires x@ < 100`, `ensures result@ == x@ + 1`
-fn contract(alloc: Global) -> Result<Contract, NoMemory> {
-    let pre = Span { start: 70, end: 71 };
-    Ok(Contract {
-        params: one(alloc, X)?,
-        answer: ANSWER,
-        pre: one(alloc, is_small(alloc)?)?,
-        post: one(alloc, is_next(alloc, ANSWER)?)?,
-        variants: Items::new(alloc),
-        spans: Items::from_slice(alloc, &[pre, POST])?,
-    })
-}
-
-/// For all x of `i32`, `x@ < 100` implies the formula.
-fn for_small(alloc: Global, formula: Term) -> Result<Term, NoMemory> {
-    let known = is_small(alloc)?;
-    let body = Term::implies(alloc, known, formula)?;
-    Term::forall(alloc, X, Ty::int(IntKind::I32), body)
-}
-
-/// `-2147483648 <= x@ + 1 && x@ + 1 <= 2147483647`
-fn next_is_in_range(alloc: Global) -> Result<Term, NoMemory> {
-    let above = Term::at_most(alloc, Term::integer(alloc, -2147483648)?, next(alloc)?)?;
-    let below = Term::at_most(alloc, next(alloc)?, Term::integer(alloc, 2147483647)?)?;
-    Term::and(alloc, above, below)
-}
-
-/// For all values of `i32`, `value@ == x@ + 1` implies `value@ == x@ + 1`.
-fn next_is_answered(alloc: Global) -> Result<Term, NoMemory> {
-    let value = Name(60);
-    let known = is_next(alloc, value)?;
-    let formula = Term::implies(alloc, known, is_next(alloc, value)?)?;
-    Term::forall(alloc, value, Ty::int(IntKind::I32), formula)
-}
-
-// ---- obligations
+// ---- the walk
 
 fn nothing_gone(alloc: Global) -> Initialised {
     Initialised {
@@ -302,111 +314,214 @@ fn nothing_gone(alloc: Global) -> Initialised {
     }
 }
 
-/// The obligations of `answer = x op 1` over the integers of the kind.
+/// The obligations of the body with the contract, from 1 on; or counted from a number on by their caller.
+fn owed(
+    alloc: Global,
+    body: &Body,
+    promises: &Contract,
+    counted: Option<u32>,
+) -> Result<Vec<Obligation>, PassError>
+    requires { CanBeWalked body.now }
+{
+    let contracts = contracts(alloc, contract(alloc)?.into_inner())?;
+    let walk = Walk {
+        body,
+        contracts: contracts.get(),
+        contract: promises,
+        init: &nothing_gone(alloc),
+        resolves: &Resolves::none(alloc),
+        decls: &[],
+    };
+    match counted {
+        None => obligations(alloc, &walk, 1),
+        Some(first) => Ok(counted_obligations(alloc, &walk, first)?),
+    }
+}
+
+/// The obligations of the body, of which the contract is that of its callee.
+fn owed_by(alloc: Global, body: &Body) -> Result<Vec<Obligation>, PassError>
+    requires { CanBeWalked body.now }
+{
+    owed(alloc, body, contract(alloc)?.get(), None)
+}
+
+// ---- a body of each shape
+
+#[derive(Clone, Copy)]
+enum Sample {
+    /// `answer = x op 1` over the integers of the kind.
+    Operation(IntKind, BinaryOp),
+    Panic,
+    /// It adds on one side of a branch and divides on the other.
+    Branch,
+    /// It multiplies in a loop with one invariant.
+    Loop,
+    /// It answers what another function answers of x.
+    Call,
+}
+
 fn of_operation(alloc: Global, kind: IntKind, op: BinaryOp) -> Result<Vec<Obligation>, PassError> {
     let statements = answer_is(alloc, 10, kind, op)?;
     let body = straight(alloc, locals(alloc, kind)?, statements)?;
-    let walk = Walk {
-        body: &body,
-        contracts: &contracts_of(alloc, Items::new(alloc)),
-        contract: &contract(alloc)?,
-        init: &nothing_gone(alloc),
-        resolves: &Resolves::none(alloc),
-        decls: &[],
-    };
-    obligations(alloc, &walk, 1)
+    owed_by(alloc, body.get())
 }
 
-/// The obligations of a body that panics.
 fn of_panic(alloc: Global) -> Result<Vec<Obligation>, PassError> {
     let types = locals(alloc, IntKind::I32)?;
     let body = panicking(alloc, types, Cause::Unreachable)?;
-    let walk = Walk {
-        body: &body,
-        contracts: &contracts_of(alloc, Items::new(alloc)),
-        contract: &contract(alloc)?,
-        init: &nothing_gone(alloc),
-        resolves: &Resolves::none(alloc),
-        decls: &[],
-    };
-    obligations(alloc, &walk, 1)
+    owed_by(alloc, body.get())
 }
 
-/// The obligations of a body that adds on one side of a branch and divides on the other.
 fn of_branch(alloc: Global) -> Result<Vec<Obligation>, PassError> {
     let yes = answer_is(alloc, 10, IntKind::U8, BinaryOp::Add)?;
     let no = answer_is(alloc, 20, IntKind::U8, BinaryOp::Div)?;
     let types = locals(alloc, IntKind::U8)?;
     let body = branching(alloc, types, copied(alloc, 2), yes, no)?;
-    let walk = Walk {
-        body: &body,
-        contracts: &contracts_of(alloc, Items::new(alloc)),
-        contract: &contract(alloc)?,
-        init: &nothing_gone(alloc),
-        resolves: &Resolves::none(alloc),
-        decls: &[],
-    };
-    obligations(alloc, &walk, 1)
+    owed_by(alloc, body.get())
 }
 
-/// The obligations of a loop with one invariant.
+/// One invariant, which is `true`.
+fn head(alloc: Global) -> Result<Head, NoMemory> {
+    let invariants = one(alloc, Term::truth(alloc, true)?)?;
+    let spans = one(alloc, Span { start: 30, end: 31 })?;
+    Ok(Head { invariants, spans })
+}
+
 fn of_loop(alloc: Global) -> Result<Vec<Obligation>, PassError> {
-    let invariant = Span { start: 30, end: 31 };
-    let head = Head {
-        invariants: one(alloc, Term::truth(alloc, true)?)?,
-        spans: one(alloc, invariant)?,
-    };
     let step = answer_is(alloc, 40, IntKind::I32, BinaryOp::Mul)?;
     let types = locals(alloc, IntKind::I32)?;
-    let body = looping(alloc, types, head, copied(alloc, 2), step)?;
-    let walk = Walk {
-        body: &body,
-        contracts: &contracts_of(alloc, Items::new(alloc)),
-        contract: &contract(alloc)?,
-        init: &nothing_gone(alloc),
-        resolves: &Resolves::none(alloc),
-        decls: &[],
-    };
-    obligations(alloc, &walk, 1)
+    let body = looping(alloc, types, head(alloc)?, copied(alloc, 2), step)?;
+    owed_by(alloc, body.get())
 }
 
-/// The obligations of a body that answers what another function answers of x.
 fn of_call(alloc: Global) -> Result<Vec<Obligation>, PassError> {
-    let contracts = contracts_of(alloc, one(alloc, contract(alloc)?)?);
     let args = one(alloc, copied(alloc, 1))?;
     let (answer, param) = (Ty::int(IntKind::I32), Ty::int(IntKind::I32));
     let body = calling(alloc, answer, param, args)?;
-    let walk = Walk {
-        body: &body,
-        contracts: &contracts,
-        contract: &contract(alloc)?,
-        init: &nothing_gone(alloc),
-        resolves: &Resolves::none(alloc),
-        decls: &[],
+    owed_by(alloc, body.get())
+}
+
+fn made_of(alloc: Global, sample: Sample) -> Result<Vec<Obligation>, PassError> {
+    match sample {
+        Sample::Operation(kind, op) => of_operation(alloc, kind, op),
+        Sample::Panic => of_panic(alloc),
+        Sample::Branch => of_branch(alloc),
+        Sample::Loop => of_loop(alloc),
+        Sample::Call => of_call(alloc),
+    }
+}
+
+/// A kind, the first byte, and the goal as text; where there is none, the goal is not looked at.
+type Owed = (Kind, u32, &'static [u8]);
+
+/// `-2147483648 <= x@ + 1 && x@ + 1 <= 2147483647`
+const IN_RANGE: &[u8] =
+    b"(forall<v1: i32> ((v1@ < 100) ==> (((-2147483648) <= (v1@ + 1)) && ((v1@ + 1) <= 2147483647))))";
+
+/// For each value that is `x@ + 1` that it is `x@ + 1`.
+const ANSWERED: &[u8] =
+    b"(forall<v1: i32> ((v1@ < 100) ==> (forall<v2: i32> ((v2@ == (v1@ + 1)) ==> (v2@ == (v1@ + 1))))))";
+
+const NEVER: &[u8] = b"(forall<v1: i32> ((v1@ < 100) ==> false))";
+
+const SMALL: &[u8] = b"(forall<v1: i32> ((v1@ < 100) ==> (v1@ < 100)))";
+
+/// What is owed, in order.
+const SAMPLES: [(Sample, &'static [Owed]); 7] = [
+    (
+        Sample::Operation(IntKind::I32, BinaryOp::Add),
+        &[
+            (Kind::Overflow, 10, IN_RANGE),
+            (Kind::Ensures, 80, ANSWERED),
+        ],
+    ),
+    (
+        Sample::Operation(IntKind::I32, BinaryOp::Div),
+        &[
+            (Kind::Division, 10, b""),
+            (Kind::Overflow, 10, b""),
+            (Kind::Ensures, 80, b""),
+        ],
+    ),
+    (
+        Sample::Operation(IntKind::U32, BinaryOp::Rem),
+        &[(Kind::Division, 10, b""), (Kind::Ensures, 80, b"")],
+    ),
+    (Sample::Panic, &[(Kind::Unreachable, 90, NEVER)]),
+    // The true side comes first.
+    (
+        Sample::Branch,
+        &[
+            (Kind::Overflow, 10, b""),
+            (Kind::Ensures, 80, b""),
+            (Kind::Division, 20, b""),
+            (Kind::Ensures, 80, b""),
+        ],
+    ),
+    (
+        Sample::Loop,
+        &[
+            (Kind::InvEntry, 30, b""),
+            (Kind::Overflow, 40, b""),
+            (Kind::InvKept, 30, b""),
+            (Kind::Ensures, 80, b""),
+        ],
+    ),
+    (
+        Sample::Call,
+        &[(Kind::Requires, 90, SMALL), (Kind::Ensures, 80, b"")],
+    ),
+];
+
+fn text_of(alloc: Global, made: &Obligation) -> Result<Vec<u8>, NoMemory> {
+    let names = Names::new(alloc);
+    let spelling = Spelling {
+        adts: &[],
+        names: &names,
     };
-    obligations(alloc, &walk, 1)
+    goal_text(alloc, &spelling, &made.goal.term(alloc)?)
+}
+
+/// Whether the goal has this text, if there is one.
+fn has_goal(alloc: Global, made: &Obligation, wanted: &[u8]) -> Result<bool, NoMemory> {
+    Ok(wanted.is_empty() || text_of(alloc, made)?.as_slice() == wanted)
+}
+
+/// Whether the obligation has this number, and this kind, first byte and goal.
+fn is_owed(
+    alloc: Global,
+    made: &Obligation,
+    number: usize,
+    wanted: &Owed,
+) -> Result<bool, NoMemory> {
+    let (kind, start, goal) = *wanted;
+    let fits = made.kind == kind && made.span.start == start && made.number as usize == number;
+    Ok(fits && has_goal(alloc, made, goal)?)
+}
+
+/// Whether these are owed, in this order, numbered from 1.
+fn are_owed(alloc: Global, made: &[Obligation], wanted: &[Owed]) -> Result<bool, NoMemory> {
+    for i in 0..made.len().min(wanted.len()) {
+        if !is_owed(alloc, &made[i], i + 1, &wanted[i])? {
+            return Ok(false);
+        }
+    }
+    Ok(made.len() == wanted.len())
+}
+
+#[test]
+fn samples_of_all_shapes(rt: HostRuntime) -> Result<(), Fail> {
+    for (at, (sample, wanted)) in SAMPLES.iter().enumerate() {
+        let made = made_of(rt.alloc(), *sample)?;
+        assert!(rt; are_owed(rt.alloc(), &made, *wanted)?, "row {at}");
+    }
+    Ok(())
 }
 
 // ---- limits
 
-/// A contract that promises `true` so many times.
-fn promising(alloc: Global, posts: u32) -> Result<Contract, NoMemory> {
-    let mut post = Items::new(alloc);
-    for _ in 0..posts {
-        post.push(Term::truth(alloc, true)?)?;
-    }
-    Ok(Contract {
-        params: one(alloc, X)?,
-        answer: ANSWER,
-        pre: Items::new(alloc),
-        post,
-        variants: Items::new(alloc),
-        spans: one(alloc, POST)?,
-    })
-}
-
 /// A body of eight paths, each with what its contract promises.
-fn eight_paths(alloc: Global) -> Result<Body, NoMemory>
+fn eight_paths(alloc: Global) -> Result<Boxed<Body>, NoMemory>
     ensures { IfOk result IsForking }
 {
     let types = locals(alloc, IntKind::U8)?;
@@ -414,13 +529,26 @@ fn eight_paths(alloc: Global) -> Result<Body, NoMemory>
     forking(alloc, types, first, second, third)
 }
 
+/// The obligations of eight paths that promise so much each.
+fn of_eight_paths(
+    alloc: Global,
+    posts: u32,
+    counted: Option<u32>,
+) -> Result<Vec<Obligation>, PassError> {
+    let body = eight_paths(alloc)?;
+    let promises = promising(alloc, posts)?;
+    owed(alloc, body.get(), promises.get(), counted)
+}
+
 /// What is left of the room for obligations behind those of eight paths that promise so much each.
 fn room_behind(alloc: Global, posts: u32) -> Result<Option<u32>, NoMemory> {
     let body = eight_paths(alloc)?;
+    let contracts = contracts(alloc, contract(alloc)?.into_inner())?;
+    let promises = promising(alloc, posts)?;
     let walk = Walk {
-        body: &body,
-        contracts: &contracts_of(alloc, Items::new(alloc)),
-        contract: &promising(alloc, posts)?,
+        body: body.get(),
+        contracts: contracts.get(),
+        contract: promises.get(),
         init: &nothing_gone(alloc),
         resolves: &Resolves::none(alloc),
         decls: &[],
@@ -428,175 +556,34 @@ fn room_behind(alloc: Global, posts: u32) -> Result<Option<u32>, NoMemory> {
     Ok(room_after(&walk, OBLIGATIONS))
 }
 
-/// The limit past which the obligations of eight paths are that promise so much each, if they are.
-fn limit_of(alloc: Global, posts: u32) -> Result<Option<Limit>, PassError> {
-    let body = eight_paths(alloc)?;
-    let walk = Walk {
-        body: &body,
-        contracts: &contracts_of(alloc, Items::new(alloc)),
-        contract: &promising(alloc, posts)?,
-        init: &nothing_gone(alloc),
-        resolves: &Resolves::none(alloc),
-        decls: &[],
-    };
-    match obligations(alloc, &walk, 1) {
-        Ok(_) => Ok(None),
-        Err(PassError::Limit(limit)) => Ok(Some(limit)),
-        Err(error) => Err(error),
-    }
-}
-
-/// The obligations of eight paths that promise so much each, counted from `first` on.
-fn counted_from(alloc: Global, posts: u32, first: u32) -> Result<Vec<Obligation>, NoMemory> {
-    let body = eight_paths(alloc)?;
-    let walk = Walk {
-        body: &body,
-        contracts: &contracts_of(alloc, Items::new(alloc)),
-        contract: &promising(alloc, posts)?,
-        init: &nothing_gone(alloc),
-        resolves: &Resolves::none(alloc),
-        decls: &[],
-    };
-    counted_obligations(alloc, &walk, first)
-}
-
 /// Whether a million obligations are allowed and this is what is said of more.
-fn is_past_a_million(limit: Option<Limit>) -> bool {
-    match limit {
-        Some(limit) => {
+fn is_past_a_million(made: Result<Vec<Obligation>, PassError>) -> bool {
+    match made {
+        Err(PassError::Limit(limit)) => {
             matches!(limit.kind, LimitKind::Obligations)
                 && limit.counted == 1_000_001
                 && limit.bound == 1_000_000
         }
-        None => false,
+        _ => false,
     }
 }
 
-// ---- tests
-
-/// Whether the obligation has this kind, first byte and number.
-fn is_owed(made: &Obligation, kind: Kind, start: u32, number: usize) -> bool {
-    made.kind == kind && made.span.start == start && made.number as usize == number
-}
-
-/// The obligations have these kinds and first bytes, in this order, and are numbered from 1.
-fn expect_all(rt: &impl Abort, made: &[Obligation], wanted: &[(Kind, u32)]) {
-    assert!(rt; made.len() == wanted.len());
-    for i in 0..made.len().min(wanted.len()) {
-        let (kind, start) = wanted[i];
-        assert!(rt; is_owed(&made[i], kind, start, i + 1), "obligation {i}");
-    }
-}
-
-/// Whether the goal of the obligation at the place is this formula.
-fn is_goal(alloc: Global, made: &[Obligation], at: usize, wanted: &Term) -> Result<bool, NoMemory> {
-    match made.get(at) {
-        Some(obligation) => {
-            let goal = obligation.goal.term(alloc)?;
-            goal.same_up_to_names(alloc, wanted)
-        }
-        None => Ok(false),
-    }
-}
-
-#[test]
-fn a_sum_and_its_goals(rt: HostRuntime) -> Result<(), Fail> {
-    let alloc = rt.alloc();
-    let made = of_operation(alloc, IntKind::I32, BinaryOp::Add)?;
-    expect_all(
-        &rt,
-        made.as_slice(),
-        &[(Kind::Overflow, 10), (Kind::Ensures, 80)],
-    );
-    let range = for_small(alloc, next_is_in_range(alloc)?)?;
-    assert!(rt; is_goal(alloc, made.as_slice(), 0, &range)?);
-    let answer = for_small(alloc, next_is_answered(alloc)?)?;
-    assert!(rt; is_goal(alloc, made.as_slice(), 1, &answer)?);
-    Ok(())
-}
-
-#[test]
-fn quotients(rt: HostRuntime) -> Result<(), Fail> {
-    let signed = of_operation(rt.alloc(), IntKind::I32, BinaryOp::Div)?;
-    let wanted = [
-        (Kind::Division, 10),
-        (Kind::Overflow, 10),
-        (Kind::Ensures, 80),
-    ];
-    expect_all(&rt, signed.as_slice(), &wanted);
-    let unsigned = of_operation(rt.alloc(), IntKind::U32, BinaryOp::Rem)?;
-    expect_all(
-        &rt,
-        unsigned.as_slice(),
-        &[(Kind::Division, 10), (Kind::Ensures, 80)],
-    );
-    Ok(())
-}
-
-#[test]
-fn a_panic_and_its_goal(rt: HostRuntime) -> Result<(), Fail> {
-    let alloc = rt.alloc();
-    let made = of_panic(alloc)?;
-    expect_all(&rt, made.as_slice(), &[(Kind::Unreachable, 90)]);
-    let never = for_small(alloc, Term::truth(alloc, false)?)?;
-    assert!(rt; is_goal(alloc, made.as_slice(), 0, &never)?);
-    Ok(())
-}
-
-#[test]
-fn true_side_first(rt: HostRuntime) -> Result<(), Fail> {
-    let made = of_branch(rt.alloc())?;
-    let wanted = [
-        (Kind::Overflow, 10),
-        (Kind::Ensures, 80),
-        (Kind::Division, 20),
-        (Kind::Ensures, 80),
-    ];
-    expect_all(&rt, made.as_slice(), &wanted);
-    Ok(())
-}
-
-#[test]
-fn a_loop_with_its_invariant(rt: HostRuntime) -> Result<(), Fail> {
-    let made = of_loop(rt.alloc())?;
-    let wanted = [
-        (Kind::InvEntry, 30),
-        (Kind::Overflow, 40),
-        (Kind::InvKept, 30),
-        (Kind::Ensures, 80),
-    ];
-    expect_all(&rt, made.as_slice(), &wanted);
-    Ok(())
-}
-
-#[test]
-fn a_call_and_its_requires(rt: HostRuntime) -> Result<(), Fail> {
-    let alloc = rt.alloc();
-    let made = of_call(alloc)?;
-    expect_all(
-        &rt,
-        made.as_slice(),
-        &[(Kind::Requires, 90), (Kind::Ensures, 80)],
-    );
-    let small = for_small(alloc, is_small(alloc)?)?;
-    assert!(rt; is_goal(alloc, made.as_slice(), 0, &small)?);
-    Ok(())
-}
+/// So many promises, and what is left behind them.
+const ROOMS: [(u32, Option<u32>); 3] = [(124_999, Some(8)), (125_000, Some(0)), (125_001, None)];
 
 #[test]
 fn a_million_obligations_are_the_most(rt: HostRuntime) -> Result<(), Fail> {
-    let alloc = rt.alloc();
-    assert!(rt; matches!(room_behind(alloc, 124_999)?, Some(8)));
-    assert!(rt; matches!(room_behind(alloc, 125_000)?, Some(0)));
-    assert!(rt; matches!(room_behind(alloc, 125_001)?, None));
-    assert!(rt; is_past_a_million(limit_of(alloc, 125_001)?));
-    assert!(rt; limit_of(alloc, 2)?.is_none());
+    for (posts, room) in &ROOMS {
+        assert!(rt; room_behind(rt.alloc(), *posts)? == *room, "{posts}");
+    }
+    assert!(rt; is_past_a_million(of_eight_paths(rt.alloc(), 125_001, None)));
+    assert!(rt; of_eight_paths(rt.alloc(), 2, None).is_ok());
     Ok(())
 }
 
 #[test]
 fn obligations_that_are_counted_by_their_caller(rt: HostRuntime) -> Result<(), Fail> {
-    let made = counted_from(rt.alloc(), 2, 1000)?;
+    let made = of_eight_paths(rt.alloc(), 2, Some(1000))?;
     assert!(rt; made.len() == 16);
     for i in 0..made.len().min(16) {
         assert!(rt; made[i].kind == Kind::Ensures && made[i].number as usize == 1000 + i);

@@ -4,7 +4,7 @@ ghost use Rattle.mir_ir.specs.WellFormed.{operation_ty, IsSigned, AreSound};
 ghost use Rattle.mir_ir.specs.declared.place.Operand.TheVariants.{Copy};
 ghost use Rattle.mir_machine.specs.Tree.{Int};
 ghost use Rattle.mir_machine.specs.Step.{whole};
-ghost use Rattle.machine_tests.specs.Run.{assigned, block_of, of_bodies, alone, sample, absolute, calling, panicking, program, TakesOne};
+ghost use Rattle.machine_tests.specs.Run.{assigned, block_of, body_of, of_block, of_bodies, alone, sample, tests, negates, keeps, absolute_blocks, absolute, calling_blocks, calling, panicking, program, TakesOne};
 
 use logic_term::{Ctor, Instance, Label, Ty, TyNode};
 use mir_ir::{
@@ -15,7 +15,7 @@ use mir_machine::{Args, Machine, NoIntrinsics, Outcome, Tree, TreeNode};
 use source_kinds::{BinaryOp, IntKind};
 use std::alloc::Global;
 use std::test::Fail;
-use text_core::{Cause, Items, Name, NoMemory, Span, Text};
+use text_core::{Boxed, Cause, Items, Name, NoMemory, Span, Text};
 
 const SPAN: Span = Span { start: 24, end: 29 };
 
@@ -98,30 +98,60 @@ fn operation_ty(op: BinaryOp, kind: IntKind) -> Ty
     }
 }
 
+/// The body of one parameter with this number, these types of locals, their names, and these blocks.
+fn body(
+    alloc: Global,
+    id: u32,
+    locals: Items<Ty>,
+    names: &[Name],
+    blocks: Items<(Label, Block)>,
+) -> Result<Body, NoMemory>
+    ensures { IfOk result (λ b. b ≡ body_of id locals names.now blocks) }
+{
+    let owner = Text::from_bytes(alloc, b"f")?;
+    let names = Items::from_slice(alloc, names)?;
+    Ok(Body {
+        id,
+        owner,
+        types: Items::new(alloc),
+        params: 1,
+        locals,
+        names,
+        outlives: Items::new(alloc),
+        calls: Items::new(alloc),
+        entry: Label(0),
+        blocks,
+        span: SPAN,
+        types_at: Items::new(alloc),
+    })
+}
+
+/// The types of the answer and of the parameter.
+fn two(alloc: Global, answer: Ty, param: Ty) -> Result<Items<Ty>, NoMemory>
+    ensures { IfOk result (λ types. types ≡ answer ∷ param ∷ []) }
+{
+    let mut types = one(alloc, answer)?;
+    types.push(param)?;
+    Ok(types)
+}
+
+/// The program of one body of one block.
+fn of_block(alloc: Global, answer: Ty, param: Ty, block: Block) -> Result<Boxed<Bodies>, NoMemory>
+    ensures { IfOk result (λ p. p ≡ alone (of_block answer param block)) }
+{
+    let blocks = one(alloc, (Label(0), block))?;
+    let locals = two(alloc, answer, param)?;
+    let body = body(alloc, 0, locals, &[Name(100), Name(101)], blocks)?;
+    Boxed::new(alloc, of_bodies(alloc, one(alloc, body)?))
+}
+
 /// `fn f(x: param) -> answer { value }`
-fn sample(alloc: Global, answer: Ty, param: Ty, value: Rvalue) -> Result<Bodies, NoMemory>
+fn sample(alloc: Global, answer: Ty, param: Ty, value: Rvalue) -> Result<Boxed<Bodies>, NoMemory>
     ensures { IfOk result (λ p. p ≡ alone (sample answer param value)) }
 {
     let statements = one(alloc, assign(alloc, 0, value))?;
     let block = block(alloc, statements, TerminatorKind::Return);
-    let mut locals = Items::new(alloc);
-    locals.push(answer)?;
-    locals.push(param)?;
-    let body = Body {
-        id: 0,
-        owner: Text::from_bytes(alloc, b"f")?,
-        types: Items::new(alloc),
-        params: 1,
-        locals,
-        names: Items::from_slice(alloc, &[Name(100), Name(101)])?,
-        outlives: Items::new(alloc),
-        calls: Items::new(alloc),
-        entry: Label(0),
-        blocks: one(alloc, (Label(0), block))?,
-        span: SPAN,
-        types_at: Items::new(alloc),
-    };
-    Ok(of_bodies(alloc, one(alloc, body)?))
+    of_block(alloc, answer, param, block)
 }
 
 fn integer(z: i128) -> Tree
@@ -153,120 +183,89 @@ fn start<'a>(
 }
 
 /// A body whose one block panics.
-fn panicking(alloc: Global, cause: Cause) -> Result<Bodies, NoMemory>
+fn panicking(alloc: Global, cause: Cause) -> Result<Boxed<Bodies>, NoMemory>
     ensures { IfOk result (λ p. p ≡ alone (panicking cause)) }
 {
     let panics = block(alloc, Items::new(alloc), TerminatorKind::Panic(cause));
-    let mut locals = Items::new(alloc);
-    locals.push(Ty::int(IntKind::I32))?;
-    locals.push(Ty::int(IntKind::I32))?;
-    let body = Body {
-        id: 0,
-        owner: Text::from_bytes(alloc, b"f")?,
-        types: Items::new(alloc),
-        params: 1,
-        locals,
-        names: Items::from_slice(alloc, &[Name(100), Name(101)])?,
-        outlives: Items::new(alloc),
-        calls: Items::new(alloc),
-        entry: Label(0),
-        blocks: one(alloc, (Label(0), panics))?,
-        span: SPAN,
-        types_at: Items::new(alloc),
-    };
-    Ok(of_bodies(alloc, one(alloc, body)?))
+    let (answer, param) = (Ty::int(IntKind::I32), Ty::int(IntKind::I32));
+    of_block(alloc, answer, param, panics)
 }
 
 // ---- the absolute value, and a call of it
 
+/// Whether the parameter is negative.
+fn tests(alloc: Global) -> Result<Block, NoMemory>
+    ensures { IfOk result (λ b. b ≡ tests) }
+{
+    let zero = Operand::Const(Lit::Int(0, IntKind::I32));
+    let value = Rvalue::Binary(BinaryOp::Lt, copied(alloc, 1), zero);
+    let branch = TerminatorKind::If(Operand::Move(place(alloc, 2)), Label(1), Label(2));
+    Ok(block(alloc, one(alloc, assign(alloc, 2, value))?, branch))
+}
+
+fn negates(alloc: Global) -> Result<Block, NoMemory>
+    ensures { IfOk result (λ b. b ≡ negates) }
+{
+    let mut statements = one(alloc, assign(alloc, 0, Rvalue::Neg(copied(alloc, 1))))?;
+    let kind = StatementKind::Dead(1);
+    statements.push(Statement { span: SPAN, kind })?;
+    Ok(block(alloc, statements, TerminatorKind::Goto(Label(3))))
+}
+
+fn keeps(alloc: Global) -> Result<Block, NoMemory>
+    ensures { IfOk result (λ b. b ≡ keeps) }
+{
+    let value = Rvalue::Use(Operand::Move(place(alloc, 1)));
+    let statements = one(alloc, assign(alloc, 0, value))?;
+    Ok(block(alloc, statements, TerminatorKind::Goto(Label(3))))
+}
+
+fn absolute_blocks(alloc: Global) -> Result<Items<(Label, Block)>, NoMemory>
+    ensures { IfOk result (λ bs. bs ≡ absolute_blocks) }
+{
+    let mut blocks = one(alloc, (Label(0), tests(alloc)?))?;
+    blocks.push((Label(1), negates(alloc)?))?;
+    blocks.push((Label(2), keeps(alloc)?))?;
+    blocks.push((Label(3), returning(alloc)))?;
+    Ok(blocks)
+}
+
 fn absolute(alloc: Global) -> Result<Body, NoMemory>
     ensures { IfOk result (λ b. b ≡ absolute) }
 {
-    let zero = Operand::Const(Lit::Int(0, IntKind::I32));
-    let test = assign(
-        alloc,
-        2,
-        Rvalue::Binary(BinaryOp::Lt, copied(alloc, 1), zero),
-    );
-    let branch = TerminatorKind::If(Operand::Move(place(alloc, 2)), Label(1), Label(2));
-    let negate = assign(alloc, 0, Rvalue::Neg(copied(alloc, 1)));
-    let dead = Statement {
-        span: SPAN,
-        kind: StatementKind::Dead(1),
-    };
-    let mut negative = one(alloc, negate)?;
-    negative.push(dead)?;
-    let keep = assign(alloc, 0, Rvalue::Use(Operand::Move(place(alloc, 1))));
-    let mut blocks = Items::new(alloc);
-    blocks.push((Label(0), block(alloc, one(alloc, test)?, branch)))?;
-    blocks.push((
-        Label(1),
-        block(alloc, negative, TerminatorKind::Goto(Label(3))),
-    ))?;
-    blocks.push((
-        Label(2),
-        block(alloc, one(alloc, keep)?, TerminatorKind::Goto(Label(3))),
-    ))?;
-    blocks.push((Label(3), returning(alloc)))?;
-    let mut locals = Items::new(alloc);
-    locals.push(Ty::int(IntKind::I32))?;
-    locals.push(Ty::int(IntKind::I32))?;
+    let mut locals = two(alloc, Ty::int(IntKind::I32), Ty::int(IntKind::I32))?;
     locals.push(Ty { node: TyNode::Bool })?;
-    Ok(Body {
-        id: 0,
-        owner: Text::from_bytes(alloc, b"f")?,
-        types: Items::new(alloc),
-        params: 1,
-        locals,
-        names: Items::from_slice(alloc, &[Name(100), Name(101), Name(102)])?,
-        outlives: Items::new(alloc),
-        calls: Items::new(alloc),
-        entry: Label(0),
-        blocks,
-        span: SPAN,
-        types_at: Items::new(alloc),
-    })
+    let blocks = absolute_blocks(alloc)?;
+    let names = [Name(100), Name(101), Name(102)];
+    body(alloc, 0, locals, &names, blocks)
+}
+
+fn calling_blocks(alloc: Global) -> Result<Items<(Label, Block)>, NoMemory>
+    ensures { IfOk result (λ bs. bs ≡ calling_blocks) }
+{
+    let args = one(alloc, copied(alloc, 1))?;
+    let function = Callee::Function(FnId::Body(0));
+    let to = place(alloc, 0);
+    let call = TerminatorKind::Call(to, function, Items::new(alloc), args, Label(1));
+    let mut blocks = one(alloc, (Label(0), block(alloc, Items::new(alloc), call)))?;
+    blocks.push((Label(1), returning(alloc)))?;
+    Ok(blocks)
 }
 
 fn calling(alloc: Global) -> Result<Body, NoMemory>
     ensures { IfOk result (λ b. b ≡ calling) }
 {
-    let args = one(alloc, copied(alloc, 1))?;
-    let call = TerminatorKind::Call(
-        place(alloc, 0),
-        Callee::Function(FnId::Body(0)),
-        Items::new(alloc),
-        args,
-        Label(1),
-    );
-    let mut blocks = Items::new(alloc);
-    blocks.push((Label(0), block(alloc, Items::new(alloc), call)))?;
-    blocks.push((Label(1), returning(alloc)))?;
-    let mut locals = Items::new(alloc);
-    locals.push(Ty::int(IntKind::I32))?;
-    locals.push(Ty::int(IntKind::I32))?;
-    Ok(Body {
-        id: 1,
-        owner: Text::from_bytes(alloc, b"f")?,
-        types: Items::new(alloc),
-        params: 1,
-        locals,
-        names: Items::from_slice(alloc, &[Name(100), Name(101)])?,
-        outlives: Items::new(alloc),
-        calls: Items::new(alloc),
-        entry: Label(0),
-        blocks,
-        span: SPAN,
-        types_at: Items::new(alloc),
-    })
+    let locals = two(alloc, Ty::int(IntKind::I32), Ty::int(IntKind::I32))?;
+    let blocks = calling_blocks(alloc)?;
+    body(alloc, 1, locals, &[Name(100), Name(101)], blocks)
 }
 
-fn program(alloc: Global) -> Result<Bodies, NoMemory>
+fn program(alloc: Global) -> Result<Boxed<Bodies>, NoMemory>
     ensures { IfOk result (λ p. p ≡ program) }
 {
     let mut bodies = one(alloc, absolute(alloc)?)?;
     bodies.push(calling(alloc)?)?;
-    Ok(of_bodies(alloc, bodies))
+    Boxed::new(alloc, of_bodies(alloc, bodies))
 }
 
 // ---- runs
@@ -296,6 +295,21 @@ fn answer_of(machine: &Machine<NoIntrinsics>) -> Came {
     }
 }
 
+/// What the run comes to in so many steps.
+fn came_in(machine: &mut Machine<NoIntrinsics>, steps: u64) -> Result<Came, Fail> {
+    machine.run(steps)?;
+    Ok(answer_of(machine))
+}
+
+/// What the call of body f at one argument comes to in so many steps.
+fn run_of(alloc: Global, bodies: &Bodies, f: u32, value: Tree, steps: u64) -> Result<Came, Fail>
+    requires sound { AreSound bodies.now }
+    requires takes_one { TakesOne bodies.now f value }
+{
+    let mut machine = start(alloc, bodies, f, value)?;
+    came_in(&mut machine, steps)
+}
+
 fn is_of(kind: IntKind, z: i128) -> bool
     ensures { result ≡ fits kind z }
 {
@@ -310,9 +324,7 @@ fn operation(alloc: Global, kind: IntKind, op: BinaryOp, x: i128, n: i128) -> Re
     let number = Operand::Const(Lit::Int(n, kind));
     let value = Rvalue::Binary(op, copied(alloc, 1), number);
     let bodies = sample(alloc, operation_ty(op, kind), Ty::int(kind), value)?;
-    let mut machine = start(alloc, &bodies, 0, integer(x))?;
-    machine.run(7)?;
-    Ok(answer_of(&machine))
+    run_of(alloc, bodies.get(), 0, integer(x), 7)
 }
 
 /// `-x` over a signed integer type.
@@ -324,25 +336,25 @@ fn negation(alloc: Global, kind: IntKind, x: i128) -> Result<Came, Fail>
     }
     let value = Rvalue::Neg(copied(alloc, 1));
     let bodies = sample(alloc, Ty::int(kind), Ty::int(kind), value)?;
-    let mut machine = start(alloc, &bodies, 0, integer(x))?;
-    machine.run(7)?;
-    Ok(answer_of(&machine))
+    run_of(alloc, bodies.get(), 0, integer(x), 7)
 }
 
-/// The absolute value of x, by body f of the program.
-fn absolute_of(alloc: Global, f: u32, x: i32) -> Result<Came, Fail>
-    requires { f < 2 }
+/// The number of the body that calls the absolute value, or of the absolute value itself.
+fn number_of(calls: bool) -> u32
+    ensures { result < 2 }
 {
-    let bodies = program(alloc)?;
-    let mut machine = start(alloc, &bodies, f, integer(x as i128))?;
-    machine.run(99)?;
-    Ok(answer_of(&machine))
+    if calls { 1 } else { 0 }
 }
 
-/// Whether a body that panics for the cause does so at its first step, at its end's span, and runs no further.
-fn panics_at_once(alloc: Global, cause: Cause) -> Result<bool, Fail> {
-    let bodies = panicking(alloc, cause)?;
-    let mut machine = start(alloc, &bodies, 0, integer(5))?;
+/// The absolute value of x, by a call of it or by itself.
+fn absolute_of(alloc: Global, calls: bool, x: i32) -> Result<Came, Fail> {
+    let f = number_of(calls);
+    let bodies = program(alloc)?;
+    run_of(alloc, bodies.get(), f, integer(x as i128), 99)
+}
+
+/// Whether the run panics for the cause at its first step, at its end's span, and runs no further.
+fn panics_at_once(machine: &mut Machine<NoIntrinsics>, cause: Cause) -> Result<bool, Fail> {
     machine.step()?;
     let Outcome::Panicked { cause: came, span } = machine.outcome() else {
         return Ok(false);
@@ -350,24 +362,40 @@ fn panics_at_once(alloc: Global, cause: Cause) -> Result<bool, Fail> {
     Ok(came == cause && span.start == SPAN.start && machine.run(7)? == 0)
 }
 
+/// The same of a body whose one block panics for the cause.
+fn a_body_panics(alloc: Global, cause: Cause) -> Result<bool, Fail> {
+    let bodies = panicking(alloc, cause)?;
+    let mut machine = start(alloc, bodies.get(), 0, integer(5))?;
+    panics_at_once(&mut machine, cause)
+}
+
 // ---- tests
+
+/// Whether the machine has so many calls that wait, and stands in this block of this function.
+fn stands(machine: &Machine<NoIntrinsics>, waiting: usize, function: u32, label: u32) -> bool {
+    let state = machine.state();
+    state.behind.len() == waiting
+        && state.running.function == function
+        && state.running.label.0 == label
+        && machine.result().is_none()
+}
+
+/// Whether a call of -41 is entered, goes to the block for negative numbers, and comes back with 41.
+fn goes_step_by_step(machine: &mut Machine<NoIntrinsics>) -> Result<bool, Fail> {
+    let begins = stands(machine, 1, 1, 0);
+    machine.step()?;
+    let enters = matches!(machine.outcome(), Outcome::Running) && stands(machine, 2, 0, 0);
+    machine.run(2)?;
+    let branches = stands(machine, 2, 0, 1);
+    let ends = came_in(machine, 99)? == Came::Integer(41) && machine.state().behind.is_empty();
+    Ok(begins && enters && branches && ends && machine.run(7)? == 0)
+}
 
 #[test]
 fn calls_step_by_step(rt: HostRuntime) -> Result<(), Fail> {
     let bodies = program(rt.alloc())?;
-    let mut machine = start(rt.alloc(), &bodies, 1, integer(-41))?;
-    assert!(rt; machine.state().behind.len() == 1);
-    machine.step()?;
-    assert!(rt; matches!(machine.outcome(), Outcome::Running));
-    assert!(rt; machine.state().running.function == 0);
-    assert!(rt; machine.state().behind.len() == 2);
-    machine.run(2)?;
-    assert!(rt; machine.state().running.label.0 == 1);
-    assert!(rt; machine.result().is_none());
-    machine.run(99)?;
-    assert!(rt; answer_of(&machine) == Came::Integer(41));
-    assert!(rt; machine.state().behind.is_empty());
-    assert!(rt; machine.run(7)? == 0);
+    let mut machine = start(rt.alloc(), bodies.get(), 1, integer(-41))?;
+    assert!(rt; goes_step_by_step(&mut machine)?);
     Ok(())
 }
 
@@ -411,51 +439,65 @@ const OPERATIONS: [(IntKind, BinaryOp, i128, i128, Came); 12] = [
 
 #[test]
 fn operators_at_the_ends_of_types(rt: HostRuntime) -> Result<(), Fail> {
-    for (kind, op, x, n, wanted) in OPERATIONS {
-        let came = operation(rt.alloc(), kind, op, x, n)?;
-        assert!(rt; came == wanted, "of {x} and {n}");
+    for (at, (kind, op, x, n, wanted)) in OPERATIONS.iter().enumerate() {
+        let came = operation(rt.alloc(), *kind, *op, *x, *n)?;
+        assert!(rt; came == *wanted, "row {at}");
     }
     assert!(rt; negation(rt.alloc(), IntKind::I8, -128)? == OVERFLOW);
     assert!(rt; negation(rt.alloc(), IntKind::I8, 127)? == Came::Integer(-127));
     Ok(())
 }
 
+/// Bodies of the program with arguments, and what they come to.
+const ABSOLUTES: [(bool, i32, Came); 3] = [
+    (false, -7, Came::Integer(7)),
+    (true, 7, Came::Integer(7)),
+    (true, i32::MIN, OVERFLOW),
+];
+
 #[test]
 fn branches_and_calls(rt: HostRuntime) -> Result<(), Fail> {
-    assert!(rt; absolute_of(rt.alloc(), 0, -7)? == Came::Integer(7));
-    assert!(rt; absolute_of(rt.alloc(), 1, 7)? == Came::Integer(7));
-    assert!(rt; absolute_of(rt.alloc(), 1, i32::MIN)? == OVERFLOW);
+    for (calls, x, wanted) in &ABSOLUTES {
+        let came = absolute_of(rt.alloc(), *calls, *x)?;
+        assert!(rt; came == *wanted);
+    }
     Ok(())
 }
 
 #[test]
 fn a_panic_ends_the_run(rt: HostRuntime) -> Result<(), Fail> {
-    assert!(rt; panics_at_once(rt.alloc(), Cause::Panic)?);
-    assert!(rt; panics_at_once(rt.alloc(), Cause::Unreachable)?);
+    assert!(rt; a_body_panics(rt.alloc(), Cause::Panic)?);
+    assert!(rt; a_body_panics(rt.alloc(), Cause::Unreachable)?);
     Ok(())
+}
+
+/// What `!x` of `true` comes to.
+fn inverse(alloc: Global) -> Result<Came, Fail> {
+    let (answer, param) = (Ty { node: TyNode::Bool }, Ty { node: TyNode::Bool });
+    let value = Rvalue::Not(copied(alloc, 1));
+    let bodies = sample(alloc, answer, param, value)?;
+    let truth = Tree {
+        node: TreeNode::Bool(true),
+    };
+    run_of(alloc, bodies.get(), 0, truth, 7)
 }
 
 #[test]
 fn inverts_a_truth(rt: HostRuntime) -> Result<(), Fail> {
-    let (answer, param) = (Ty { node: TyNode::Bool }, Ty { node: TyNode::Bool });
-    let value = Rvalue::Not(copied(rt.alloc(), 1));
-    let bodies = sample(rt.alloc(), answer, param, value)?;
-    let truth = Tree {
-        node: TreeNode::Bool(true),
-    };
-    let mut machine = start(rt.alloc(), &bodies, 0, truth)?;
-    machine.run(7)?;
-    assert!(rt; answer_of(&machine) == Came::Truth(false));
+    assert!(rt; inverse(rt.alloc())? == Came::Truth(false));
     Ok(())
+}
+
+/// What `()` comes to.
+fn unit(alloc: Global) -> Result<Came, Fail> {
+    let answer = Ty::unit(alloc);
+    let value = Rvalue::Make(Ctor::Tuple, Items::new(alloc));
+    let bodies = sample(alloc, answer, Ty::int(IntKind::I32), value)?;
+    run_of(alloc, bodies.get(), 0, integer(5), 7)
 }
 
 #[test]
 fn makes_the_unit(rt: HostRuntime) -> Result<(), Fail> {
-    let answer = Ty::unit(rt.alloc());
-    let value = Rvalue::Make(Ctor::Tuple, Items::new(rt.alloc()));
-    let bodies = sample(rt.alloc(), answer, Ty::int(IntKind::I32), value)?;
-    let mut machine = start(rt.alloc(), &bodies, 0, integer(5))?;
-    machine.run(7)?;
-    assert!(rt; answer_of(&machine) == Came::Unit);
+    assert!(rt; unit(rt.alloc())? == Came::Unit);
     Ok(())
 }

@@ -1,19 +1,22 @@
 -- The numbered text of an expression fills a range of labels, each of which begins one block, and a range of locals, which it makes in order.
-use Rattle.std.proofs.Common.{◌≡◌, refl, ap, ◌∙◌, subst, ℕ, ◌+◌, ◌&&◌, Bool, true, false, List, [], ◌∷◌, ◌++◌, arith}
+use Rattle.std.proofs.Common.{◌≡◌, refl, ap, sym, ◌∙◌, subst, ℕ, ◌+◌, ◌&&◌, Bool, true, false, List, [], ◌∷◌, ◌++◌, drop, arith}
 use Rattle.std.specs.List.{range_with_len}
 use Rattle.text_core.specs.declared.span.Span.{Span}
+use Rattle.logic_term.specs.declared.kinds.Label.{Label}
 use Rattle.logic_term.specs.Ty.{Ty}
 use Rattle.mir_ir.specs.declared.body.Head.{Head}
+use Rattle.mir_ir.specs.declared.place.Place.{Place}
 use Rattle.mir_ir.specs.declared.statement.Statement.{Statement}
 use Rattle.mir_ir.specs.declared.terminator.Terminator.{Terminator}
 use Rattle.source_kinds.specs.declared.kinds.LazyOp.{LazyOp}
 use Rattle.source_kinds.specs.declared.kinds.LazyOp.TheVariants.{And, Or}
-use Rattle.type_check.specs.TypedExpr.{TypedExpr, TypedStmts, TypedExprs, integer, truth, variable, negative, denied, binary, lazy, assign, update, call, block, branch, choice, repeat, panics, returned, endless, done, last, leaving, bind, run, none, more}
+use Rattle.type_check.specs.TypedExpr.{TypedExpr, TypedStmts, TypedExprs, integer, truth, variable, negative, denied, binary, lazy, assign, update, call, block, branch, choice, repeat, panics, returned, endless, until_break, break_off, go_on, done, last, leaving, bind, run, none, more}
 use Rattle.type_check.specs.Leaves.{leaves}
 use Rattle.type_check.specs.TypedExprView.{ty_of}
 use Rattle.mir_build.specs.Text.{Line, Puts, Makes, Turns, Leaves, Owns, made}
-use Rattle.mir_build.specs.Lowering.{Around, binds, looping, at, at_head, dies_in, lazily, numbers, is_place}
-use Rattle.mir_build.specs.Numbered.{temporary_count, temporary_text, choice_labels, choice_text, into, rest, args, body_text, labels, labels_of, labels_in, locals, locals_of, locals_in, label}
+use Rattle.mir_build.specs.Lowering.{Around, binds, looping, at, at_head, dies, dies_in, lazily, numbers, is_place}
+use Rattle.mir_build.specs.Numbered.{temporary_count, temporary_text, choice_labels, choice_text, loop_at, jump, into, rest, args, body_text, labels, labels_of, labels_in, locals, locals_of, locals_in, label}
+use Rattle.mir_build.proofs.Jumps.{deaths, first_dies_last}
 use Rattle.mir_build.proofs.Numbers.{within, within_zero, within_one, within_two, within_three, within_split, begins, begins-append, turns, turns-append, makings, makings-append}
 use Rattle.mir_build.proofs.Order.{InOrder, then_in_order, numbers_in_order}
 
@@ -131,9 +134,29 @@ circled {l} {n} {t} {m} c h e f U own ys p =
       order = (refl, then_in_order (t + 1) (t + 1 + makings ys) ys end refl p.order tt);
     }
 
+-- the body of a loop that a `break` leaves
+spun : {l n t m : ℕ} (c c' : Around) (h : Head) (e f : Terminator) (U : Ty) (own : List ℕ) (s : Statement) (ys : List Line) → Fills (l + 2) n (t + 1) m ys
+    → Fills l (2 + n) t (1 + m) (Turns e (at_head c (label l) h) ∷ Makes t U ∷ (ys ++ Turns f (at c' (label (l + 1))) ∷ Owns (label l) own ∷ Puts s ∷ []))
+spun {l} {n} {t} {m} c c' h e f U own s ys p =
+    let end = Turns f (at c' (label (l + 1))) ∷ Owns (label l) own ∷ Puts s ∷ [] in
+    record {
+      once = λ x. omega (arith, begins-append x ys end, within_two l x, within_split l 2 n (l + 2) x refl, p.once x);
+      turned = omega (arith, turns-append ys end, p.turned);
+      making = omega (arith, makings-append ys end, p.making);
+      order = (refl, then_in_order (t + 1) (t + 1 + makings ys) ys end refl p.order tt);
+    }
+
 dying : (l t : ℕ) (outer : Bool) (s : Span) (x : ℕ) → Fills l 0 t 0 (dies_in outer s x)
 dying l t true s x = nothing l t
 dying l t false s x = one l t _
+
+all_dying : (l t : ℕ) (s : Span) (ps : List Place) → Fills l 0 t 0 (deaths s ps)
+all_dying l t s [] = nothing l t
+all_dying l t s (p ∷ ps) = subst (λ xs. Fills l 0 t 0 xs) (sym (first_dies_last s p ps)) (as_counts _ refl refl (join l t (deaths s ps) (dies s p.local ∷ []) (omega arith) (omega arith) (all_dying l t s ps) (one l t _)))
+
+-- out of a loop, or back to its head
+jumped : (l t : ℕ) (s : Span) (depth : ℕ) (to : Label) (scope : List Place) → Fills l 0 t 0 (jump s depth to scope)
+jumped l t s depth to scope = as_counts _ refl refl (join l t (deaths s (drop depth scope)) _ (omega arith) (omega arith) (all_dying l t s (drop depth scope)) (left l t _))
 
 -- what an assignment writes
 target_filled : (e : TypedExpr) (c : Around) (l t : ℕ) → Fills l (labels e) (t + 1) (locals e) (into e c l (t + 1) t) → Fills l (labels e) t (temporary_count (is_place e) + locals e) (temporary_text (is_place e) t (ty_of e) (into e c l (t + 1) t))
@@ -159,10 +182,15 @@ mutual
   fills (block ty s ss) c l t d = rest_filled ss false s c l t d
   fills (branch ty s e a) c l t d = as_counts _ (omega arith) (omega arith) (made_then _ _ _ _ _ refl refl (fills e c l (t + 1) t) (forked _ _ c _ _ _ _ _ refl refl (fills a c _ _ d) (one _ _ _)))
   fills (choice ty s e a b) c l t d = as_counts _ (omega arith) (omega arith) (made_then _ _ _ _ _ refl refl (fills e c l (t + 1) t) (sides_filled (leaves a && leaves b) _ _ c s t _ _ refl refl (fills a c _ _ d) (fills b c _ _ d)))
-  fills (repeat ty s is e b) c l t d = as_counts _ (omega arith) (omega arith) (looped _ _ (looping c (label l)) c _ _ _ _ _ _ _ _ _ _ refl refl (fills e (looping c (label l)) (l + 3) (t + 1) t) (fills b (looping c (label l)) (l + 3 + labels e) (t + 1 + locals e + 1) (t + 1 + locals e)))
+  fills (repeat ty s is e b) c l t d =
+      as_counts _ (omega arith) (omega arith)
+      (looped _ _ (looping c (label l) (label (l + 2))) c _ _ _ _ _ _ _ _ _ _ refl refl (fills e (looping c (label l) (label (l + 2))) (l + 3) (t + 1) t) (fills b (looping c (label l) (label (l + 2))) (l + 3 + labels e) (t + 1 + locals e + 1) (t + 1 + locals e)))
   fills (panics ty s k) c l t d = left l t _
   fills (returned ty s e) c l t d = as_counts _ (omega arith) (omega arith) (join _ _ _ _ refl refl (fills e c l t 0) (left _ _ _))
-  fills (endless ty s is b) c l t d = circled (looping c (label l)) _ _ _ _ _ _ (fills b (looping c (label l)) (l + 1) (t + 1) t)
+  fills (endless ty s is b) c l t d = circled (looping c (label l) (label l)) _ _ _ _ _ _ (fills b (looping c (label l) (label l)) (l + 1) (t + 1) t)
+  fills (until_break ty s is b) c l t d = spun (looping c (label l) (label (l + 1))) c _ _ _ _ _ _ _ (fills b (looping c (label l) (label (l + 1))) (l + 2) (t + 1) t)
+  fills (break_off ty s) c l t d = jumped l t s (loop_at c.loops).depth (loop_at c.loops).after c.scope
+  fills (go_on ty s) c l t d = jumped l t s (loop_at c.loops).depth (loop_at c.loops).head c.scope
 
   pub rest_filled : (ss : TypedStmts) (outer : Bool) (s : Span) (c : Around) (l t d : ℕ) → Fills l (labels_of ss) t (locals_of ss) (rest ss outer s c l t d)
   rest_filled done outer s c l t d = one l t _

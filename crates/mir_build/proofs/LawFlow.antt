@@ -1,5 +1,5 @@
 -- Where the ends of blocks lead: forward in the text, out of loops or into one at its head, or back to the head of a loop around.
-use Rattle.std.proofs.Common.{◌≡◌, refl, ap, sym, ◌∙◌, subst, Bool, true, ◌||◌, ◌==◌, List, [], ◌∷◌, ◌++◌, Some, append_assoc, append-nil}
+use Rattle.std.proofs.Common.{◌≡◌, refl, ap, sym, ◌∙◌, subst, Bool, true, ◌||◌, ◌==◌, List, [], ◌∷◌, ◌++◌, length, ◌-◌, Some, slice_get, append_assoc, append-nil}
 use Rattle.std.proofs.lemmas.Bool.{eq-eqb}
 use Rattle.logic_term.specs.declared.kinds.Label.{Label}
 use Rattle.mir_ir.specs.declared.body.Head.{Head}
@@ -10,9 +10,11 @@ use Rattle.logic_term.specs.Ty.{Ty}
 use Rattle.std.specs.Prelude.{ℕ}
 use Rattle.type_check.specs.TypedExpr.{TypedExpr}
 use Rattle.text_core.specs.declared.span.Span.{Span}
+use Rattle.mir_build.specs.declared.around.Loop.{Loop}
 use Rattle.mir_build.specs.Text.{Title, Line, Puts, Makes, Turns, Leaves, Owns, begun}
-use Rattle.mir_build.specs.Lowering.{Around, Formula, looping, at, at_head, head_of, test, fork, turning, circling, returning, IntoBody}
+use Rattle.mir_build.specs.Lowering.{Around, Formula, heads, looping, at, at_head, head_of, test, fork, turning, spinning, circling, returning, IntoBody}
 use Rattle.mir_build.proofs.LawLists.{Has, here, there, has_left, has_right, begun-append}
+use Rattle.mir_build.proofs.Jumps.{innermost_last, heads_more}
 use Rattle.mir_build.proofs.Shapes.{Keeps, of_body}
 
 -- from a block in the loops `from`, the blocks of `later` standing behind it, in a body of the blocks `whole`
@@ -51,19 +53,31 @@ flows-append whole outs ys mid to from xs (owns p) q = owns (flows-append whole 
 abbrev pub In : List Title → List Line → Type 0
 In whole xs = (t : Title) → Has t (begun xs) → Has t whole
 
-step : (whole outs : List Title) (ns to : List Label) (xs ys : List Line) → In whole (xs ++ ys) → ((later : List Title) → In whole xs → Flows whole later ns ns xs) → (In whole ys → Flows whole outs ns to ys) → Flows whole outs ns to (xs ++ ys)
-step whole outs ns to xs ys g p q =
+-- the innermost of these loops is left for what stands behind, and its head begins its next turn
+abbrev pub Inside : List Title → List Title → List Loop → Type 0
+Inside whole outs ls = (l : Loop) → slice_get ls (length ls - 1) ≡ Some l → (later : List Title) → ((t : Title) → Has t outs → Has t later) → To whole (heads ls) later l.after × To whole (heads ls) later l.head
+
+pub in_no_loop : (whole outs : List Title) → Inside whole outs []
+in_no_loop whole outs l e later h = absurd (cc)
+
+step_in : (whole outs : List Title) (ns to : List Label) (xs ys : List Line) → In whole (xs ++ ys) → (In whole xs → Flows whole (begun ys ++ outs) ns ns xs) → (In whole ys → Flows whole outs ns to ys) → Flows whole outs ns to (xs ++ ys)
+step_in whole outs ns to xs ys g p q =
     let left : In whole xs = λ t h. g t (subst (λ bs. Has t bs) (sym (begun-append xs ys)) (has_left (begun xs) (begun ys) h)) in
     let right : In whole ys = λ t h. g t (subst (λ bs. Has t bs) (sym (begun-append xs ys)) (has_right (begun xs) (begun ys) h)) in
-    flows-append whole outs ys ns to ns xs (p (begun ys ++ outs) left) (q right)
+    flows-append whole outs ys ns to ns xs (p left) (q right)
+
+-- the same in these loops
+step : (whole outs : List Title) (ls : List Loop) (to : List Label) (xs ys : List Line) → In whole (xs ++ ys) → Inside whole outs ls → ((later : List Title) → In whole xs → Inside whole later ls → Flows whole later (heads ls) (heads ls) xs)
+    → (In whole ys → Flows whole outs (heads ls) to ys) → Flows whole outs (heads ls) to (xs ++ ys)
+step whole outs ls to xs ys g i p q = step_in whole outs (heads ls) to xs ys g (λ k. p (begun ys ++ outs) k (λ l e later h. i l e later (λ t has. h t (has_right (begun ys) outs has)))) q
 
 -- a block that is begun behind xs
 behind : {b : Title} (xs ys : List Line) (outs : List Title) → Has b (begun ys) → Has b (begun (xs ++ ys) ++ outs)
 behind {b} xs ys outs h = has_left _ outs (subst (λ bs. Has b bs) (sym (begun-append xs ys)) (has_right (begun xs) _ h))
 
 -- a block in the same loops that stands behind
-same : {whole later : List Title} (c : Around) (l : Label) → Has (at c l) later → To whole c.loops later l
-same c l h = onward (at c l) refl h c.loops [] refl (sym (append-nil c.loops))
+same : {whole later : List Title} (c : Around) (l : Label) → Has (at c l) later → To whole (heads c.loops) later l
+same c l h = onward (at c l) refl h (heads c.loops) [] refl (sym (append-nil (heads c.loops)))
 
 among_last : (ls : List Label) (l : Label) → among l (ls ++ l ∷ []) ≡ true
 among_last [] l = ap (λ t. t || among l []) (eq-eqb l.0 l.0 refl)
@@ -74,63 +88,100 @@ among_last (m ∷ ls) l = by_test (m.0 == l.0) (among_last ls l)
     by_test _ e = e
 
 abbrev FlowsOn : Around → List Line → Type 0
-FlowsOn c xs = (whole outs : List Title) → In whole xs → Flows whole outs c.loops c.loops xs
+FlowsOn c xs = (whole outs : List Title) → In whole xs → Inside whole outs c.loops → Flows whole outs (heads c.loops) (heads c.loops) xs
 
 flows_join : (c : Around) (xs ys : List Line) → FlowsOn c xs → FlowsOn c ys → FlowsOn c (xs ++ ys)
-flows_join c xs ys p q whole outs g = step whole outs c.loops c.loops xs ys g (p whole) (q whole outs)
+flows_join c xs ys p q whole outs g i = step whole outs c.loops (heads c.loops) xs ys g i (p whole) (λ k. q whole outs k i)
 
 flows_test : (c : Around) (s : Span) (t : ℕ) (yes' no' after : Label) (xs ys : List Line) → FlowsOn c xs → FlowsOn c ys → FlowsOn c (test c s t yes' no' after xs ys)
-flows_test c s t yes' no' after xs ys p q whole outs g =
+flows_test c s t yes' no' after xs ys p q whole outs g i =
     turns (same c yes' here, (same c no' (there (behind xs _ outs here)), tt))
-    (step whole outs _ _ xs _ (λ t h. g t (there h)) (p whole)
+    (step whole outs c.loops _ xs _ (λ t h. g t (there h)) i (p whole)
     (λ g. turns (same c after (there (behind ys _ outs here)), tt)
-    (step whole outs _ _ ys _ (λ t h. g t (there h)) (q whole)
+    (step whole outs c.loops _ ys _ (λ t h. g t (there h)) i (q whole)
     (λ g. turns (same c after here, tt) at_end))))
 
 flows_fork : (c : Around) (s : Span) (t : ℕ) (yes' no' : Label) (xs ys : List Line) → FlowsOn c xs → FlowsOn c ys → FlowsOn c (fork c s t yes' no' xs ys)
-flows_fork c s t yes' no' xs ys p q whole outs g =
+flows_fork c s t yes' no' xs ys p q whole outs g i =
     turns (same c yes' here, (same c no' (there (behind xs _ outs here)), tt))
-    (step whole outs _ _ xs _ (λ t h. g t (there h)) (p whole)
-    (λ g. turns (same c no' here, tt) (q whole outs (λ t h. g t (there h)))))
+    (step whole outs c.loops _ xs _ (λ t h. g t (there h)) i (p whole)
+    (λ g. turns (same c no' here, tt) (q whole outs (λ t h. g t (there h)) i)))
+
+-- ---- loops
+
+module _ (whole : List Title) (c : Around) (head after : Label) where
+  abbrev entered : Loop
+  entered = record { head = head; after = after; depth = length c.scope }
+
+  abbrev within : List Label
+  within = heads (looping c head after).loops
+
+  -- back to the head
+  again : (fs : List Formula) → Has (at_head (looping c head after) head (head_of c fs)) whole → (later : List Title) → To whole within later head
+  again fs h later = back (at_head (looping c head after) head (head_of c fs)) (head_of c fs) refl h refl (subst (λ ls. among head ls ≡ true) (sym (heads_more c.loops entered)) (among_last (heads c.loops) head))
+
+  -- into the loop
+  enters : {later : List Title} (fs : List Formula) → To whole (heads c.loops) (at_head (looping c head after) head (head_of c fs) ∷ later) head
+  enters fs = onward (at_head (looping c head after) head (head_of c fs)) refl here (heads c.loops) [] (heads_more c.loops entered) (sym (append-nil (heads c.loops)))
+
+  -- out of the loop
+  out : {later : List Title} → Has (at c after) later → To whole within later after
+  out h = onward (at c after) refl h (heads c.loops) (head ∷ []) refl (heads_more c.loops entered)
+
+  -- it is the innermost one: where it is left for stands behind, or it is not left
+  in_this : (outs : List Title) → ((later : List Title) → ((t : Title) → Has t outs → Has t later) → To whole within later after) → ((later : List Title) → To whole within later head) → Inside whole outs (looping c head after).loops
+  in_this outs p q l e later h =
+      subst (λ (m : Loop). To whole within later m.after × To whole within later m.head) (sym (innermost_last c.loops entered l e)) (p later h, q later)
+
+  -- the block behind it stands there
+  in_loop : (outs : List Title) → ((later : List Title) → To whole within later head) → Has (at c after) outs → Inside whole outs (looping c head after).loops
+  in_loop outs q k = in_this outs (λ later h. out (h (at c after) k)) q
 
 flows_turning : (c : Around) (s : Span) (head body after : Label) (fs : List Formula) (t : ℕ) (T : Ty) (xs : List Line) (u : ℕ) (U : Ty) (ys zs : List Line)
-    → FlowsOn (looping c head) xs → FlowsOn (looping c head) ys → FlowsOn c zs → FlowsOn c (turning c s head body after fs t T xs u U ys zs)
-flows_turning c s head body after fs t T xs u U ys zs p q r whole outs g =
-    let k : Around = looping c head in
-    let top : Title = at_head k head (head_of c fs) in
-    let again : (later : List Title) → To whole k.loops later head = λ later. back top (head_of c fs) refl (g top here) refl (among_last c.loops head) in
-    turns (onward top refl here c.loops [] refl (sym (append-nil c.loops)), tt)
-    (makes (step whole outs k.loops _ xs _ (λ t h. g t (there h)) (p whole)
-    (λ g. turns (same k body here, (onward (at c after) refl (there (behind ys _ outs here)) c.loops (head ∷ []) refl refl, tt))
-    (makes (step whole outs k.loops _ ys _ (λ t h. g t (there h)) (q whole)
-    (λ g. turns (again _, tt) (owns (r whole outs (λ t h. g t (there h))))))))))
+    → FlowsOn (looping c head after) xs → FlowsOn (looping c head after) ys → FlowsOn c zs → FlowsOn c (turning c s head body after fs t T xs u U ys zs)
+flows_turning c s head body after fs t T xs u U ys zs p q r whole outs g i =
+    let k : Around = looping c head after in
+    let back = again whole c head after fs (g _ here) in
+    turns (enters whole c head after fs, tt)
+    (makes (step_in whole outs (heads k.loops) _ xs _ (λ t h. g t (there h)) (λ g. p whole _ g (in_loop whole c head after _ back (there (behind ys _ outs here))))
+    (λ g. turns (same k body here, (out whole c head after (there (behind ys _ outs here)), tt))
+    (makes (step_in whole outs (heads k.loops) _ ys _ (λ t h. g t (there h)) (λ g. q whole _ g (in_loop whole c head after _ back here))
+    (λ g. turns (back _, tt) (owns (r whole outs (λ t h. g t (there h)) i))))))))
+
+flows_spinning : (c : Around) (s : Span) (head after : Label) (fs : List Formula) (u : ℕ) (U : Ty) (ys zs : List Line) → FlowsOn (looping c head after) ys → FlowsOn c zs → FlowsOn c (spinning c s head after fs u U ys zs)
+flows_spinning c s head after fs u U ys zs p r whole outs g i =
+    let back = again whole c head after fs (g _ here) in
+    turns (enters whole c head after fs, tt)
+    (makes (step_in whole outs (heads (looping c head after).loops) _ ys _ (λ t h. g t (there h)) (λ g. p whole _ g (in_loop whole c head after _ back here))
+    (λ g. turns (back _, tt) (owns (r whole outs (λ t h. g t (there h)) i)))))
 
 flows_returning : (c : Around) (s : Span) (xs : List Line) → FlowsOn c xs → FlowsOn c (returning s xs)
-flows_returning c s xs p whole outs g = step whole outs c.loops c.loops xs _ g (p whole) (λ g. leaves tt at_end)
+flows_returning c s xs p whole outs g i = step whole outs c.loops (heads c.loops) xs _ g i (p whole) (λ g. leaves tt at_end)
 
-flows_circling : (c : Around) (s : Span) (head : Label) (fs : List Formula) (u : ℕ) (U : Ty) (ys : List Line) → FlowsOn (looping c head) ys → FlowsOn c (circling c s head fs u U ys)
-flows_circling c s head fs u U ys p whole outs g =
-    let k : Around = looping c head in
-    let top : Title = at_head k head (head_of c fs) in
-    let again : (later : List Title) → To whole k.loops later head = λ later. back top (head_of c fs) refl (g top here) refl (among_last c.loops head) in
-    turns (onward top refl here c.loops [] refl (sym (append-nil c.loops)), tt)
-    (makes (step whole outs k.loops c.loops ys _ (λ t h. g t (there h)) (p whole) (λ g. leaves (again _, tt) (owns at_end))))
+flows_circling : (c : Around) (s : Span) (head : Label) (fs : List Formula) (u : ℕ) (U : Ty) (ys : List Line) → FlowsOn (looping c head head) ys → FlowsOn c (circling c s head fs u U ys)
+flows_circling c s head fs u U ys p whole outs g i =
+    let back = again whole c head head fs (g _ here) in
+    turns (enters whole c head head fs, tt)
+    (makes (step_in whole outs (heads (looping c head head).loops) (heads c.loops) ys _ (λ t h. g t (there h)) (λ g. p whole _ g (in_this whole c head head _ (λ later h. back later) back)) (λ g. leaves (back _, tt) (owns at_end))))
 
 flow_keeps : Keeps FlowsOn
 flow_keeps = record {
-  nothing = λ c whole outs g. at_end;
-  put = λ c st xs p whole outs g. puts (p whole outs g);
-  make = λ c x t xs p whole outs g. makes (p whole outs g);
+  nothing = λ c whole outs g i. at_end;
+  put = λ c st xs p whole outs g i. puts (p whole outs g i);
+  make = λ c x t xs p whole outs g i. makes (p whole outs g i);
   join = flows_join;
-  called = λ c s f d ts after whole outs g. turns (same c after here, tt) at_end;
+  called = λ c s f d ts after whole outs g i. turns (same c after here, tt) at_end;
   tested = flows_test;
   forked = flows_fork;
-  panicked = λ c s k whole outs g. leaves tt at_end;
+  panicked = λ c s k whole outs g i. leaves tt at_end;
   returned = flows_returning;
   circled = flows_circling;
   turned = flows_turning;
+  spun = flows_spinning;
+  broken = λ c s l q whole outs g i. leaves ((i l q outs (λ t h. h)).0, tt) at_end;
+  gone_on = λ c s l q whole outs g i. leaves ((i l q outs (λ t h. h)).1, tt) at_end;
   bound = λ c t xs p. p;
 }
 
-pub flows : (c : Around) (e : TypedExpr) (xs : List Line) → IntoBody c e xs → (whole outs : List Title) → In whole xs → Flows whole outs c.loops c.loops xs
+pub flows : (c : Around) (e : TypedExpr) (xs : List Line) → IntoBody c e xs → (whole outs : List Title) → In whole xs → Inside whole outs c.loops → Flows whole outs (heads c.loops) (heads c.loops) xs
 flows c e xs p = of_body FlowsOn flow_keeps c e xs p

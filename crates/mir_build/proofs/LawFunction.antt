@@ -16,11 +16,11 @@ use Rattle.mir_build.specs.Text.{fresh, begun, made, owned}
 use Rattle.mir_build.specs.Lowering.{numbers, counted, paired, all_locals, local_name, entry_title, around_body, whole, LowersTo}
 use Rattle.mir_build.proofs.Numbers.{count}
 use Rattle.mir_build.proofs.LawLists.{Has, here, there, has_left, has_right, count-append}
-use Rattle.mir_build.proofs.LawFlow.{flows}
+use Rattle.mir_build.proofs.LawFlow.{flows, in_no_loop}
 use Rattle.mir_build.proofs.LawLayout.{titles, labels, titles_of, labels_of, Flowing, flowing_of, Once, laid_out}
 use Rattle.mir_build.proofs.LawRuns.{with_self, Runs, Agree, labels_in, Laid, HasNone}
 use Rattle.mir_build.proofs.LawLaid.{weight, Apart}
-use Rattle.mir_build.proofs.LawSets.{Scoped, text_laid}
+use Rattle.mir_build.proofs.LawSets.{Scoped, Meets, no_loops, text_laid}
 use Rattle.mir_build.proofs.LawTyped.{AreTyped, MadeFits, ScopeFits}
 use Rattle.mir_build.proofs.LawTypes.{Callee, text_typed}
 use Rattle.mir_build.proofs.LawInit.{set_of, agree, EachBlock, BlockFits, begun_fits, owned_not_there, block_at, IsLabelled, labelling}
@@ -114,7 +114,7 @@ module _ (owner : List ℕ) (f : TypedFunction) (b : Body) (gone : Initialised) 
   body_flows : Flowing (titles b.blocks) b.blocks
   body_flows = subst (Flowing (titles b.blocks)) (sym l.blocks)
       (flowing_of (titles b.blocks) _ refl [] [] l.text
-      (flows (around_body f) f.body l.text l.into (titles b.blocks) [] (λ t h. subst (λ bs. Has t bs) (sym body_titles) (there h)))
+      (flows (around_body f) f.body l.text l.into (titles b.blocks) [] (λ t h. subst (λ bs. Has t bs) (sym body_titles) (there h)) (in_no_loop (titles b.blocks) []))
       (fresh (entry_title b.entry)) refl)
 
   pub body_laid_out : IsLaidOut b
@@ -125,10 +125,12 @@ module _ (owner : List ℕ) (f : TypedFunction) (b : Body) (gone : Initialised) 
   is_param : (x : ℕ) → 1 ≤ x → x < 1 + length f.signature.params → parameters b x ≡ true
   is_param x h g = is_parameter b.params x h (omega (arith, l.params))
 
-  scoped : Scoped (around_body f) f.signature.params (parameters b)
+  scoped : Scoped (around_body f) f.signature.params (parameters b) (parameters b)
   scoped = record {
     count = sym (counted_places 1 f.signature.params);
     holds = λ p h. let w = has_places 1 f.signature.params p h in is_param p.local w.0 w.1;
+    kept = λ x h. h;
+    apart = λ m e p h. absurd (cc);
   }
 
   numbers-append : (ps ms : List (ℕ × Ty)) → numbers (ps ++ ms) ≡ numbers ps ++ numbers ms
@@ -153,8 +155,8 @@ module _ (owner : List ℕ) (f : TypedFunction) (b : Body) (gone : Initialised) 
   -- ---- the labelling
 
   module _ (σ : List Signature) (fits : FunctionFits σ f) where
-    runs_from : Laid (parameters b) l.text (with 0 (parameters b))
-    runs_from = text_laid (surroundings_of σ f.signature) (around_body f) f.body l.text l.into f.signature.params (parameters b) scoped fits.body apart
+    runs_from : Laid (Meets [] (parameters b)) (parameters b) l.text (with 0 (parameters b))
+    runs_from = text_laid (surroundings_of σ f.signature) false (around_body f) f.body l.text l.into f.signature.params (parameters b) (parameters b) scoped fits.body apart
 
     starts : List (Label × Locals)
     starts = (b.entry, parameters b) ∷ runs_from.starts
@@ -176,7 +178,7 @@ module _ (owner : List ℕ) (f : TypedFunction) (b : Body) (gone : Initialised) 
 
     text_runs : Runs start (parameters b) l.text (with 0 (parameters b))
     unfolding starts
-    text_runs = runs_from.runs start agreed.1
+    text_runs = runs_from.runs start agreed.1 (no_loops (parameters b) start)
 
     pub start_fits : EachBlock (BlockFits start) b.blocks
     start_fits = subst (EachBlock (BlockFits start)) (sym l.blocks)
@@ -193,7 +195,7 @@ module _ (owner : List ℕ) (f : TypedFunction) (b : Body) (gone : Initialised) 
 
   module _ (σ : List Signature) (bodies : Bodies) (fits : FunctionFits σ f) (callees : (n : ℕ) (g : Signature) → slice_get σ n ≡ Some g → Callee bodies n g) (answers : (n : ℕ) (g : Signature) → slice_get σ n ≡ Some g → IsBuilt g.answer) where
     pub lines_typed : AreTyped bodies b l.text
-    lines_typed = text_typed (surroundings_of σ f.signature) bodies b callees answers answer_fits (around_body f) f.body l.text l.into f.signature.params
+    lines_typed = text_typed (surroundings_of σ f.signature) bodies b callees answers answer_fits false (around_body f) f.body l.text l.into f.signature.params
         (record { scope = scope_fits; built_types = fits.params }) fits.body (answer_fits ∙ ap Some (sym fits.of_answer)) text_fits
 
     pub blocks_typed : EachBlock (BlockTyped bodies b) b.blocks

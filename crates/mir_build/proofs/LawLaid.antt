@@ -75,7 +75,7 @@ given_up t set n = kept t set (with t set) n (with_more t set)
 
 -- ---- turns
 
-at_most : (l : Label) (at : Label → Locals) (set now : Locals) → at l ≡ set → Within set now → Within (at l) now
+pub at_most : (l : Label) (at : Label → Locals) (set now : Locals) → at l ≡ set → Within set now → Within (at l) now
 at_most l at set now e w x h = w x (subst (λ (s : Locals). s x ≡ true) e h)
 
 from_start : (l : Label) (at : Label → Locals) (set to : Locals) (xs : List Line) → at l ≡ set → Runs at set xs to → Runs at (at l) xs to
@@ -88,12 +88,12 @@ pub same_set : (set : Locals) → Within set set
 same_set set x h = h
 
 -- two branches that come together
-pub forked : (c : Around) (s : Span) (t : ℕ) (yes' no' after : Label) (set now to : Locals) (ys zs : List Line) → now t ≡ true → Within set (without t now) → Laid set ys to → Laid set zs to
-    → Laid now (Turns (ends s (If (moved t) yes' no')) (at c yes') ∷ (ys ++ Turns (ends s (Goto after)) (at c no') ∷ (zs ++ Turns (ends s (Goto after)) (at c after) ∷ []))) to
+pub forked : {B : (Label → Locals) → Type 0} (c : Around) (s : Span) (t : ℕ) (yes' no' after : Label) (set now to : Locals) (ys zs : List Line) → now t ≡ true → Within set (without t now) → Laid B set ys to → Laid B set zs to
+    → Laid B now (Turns (ends s (If (moved t) yes' no')) (at c yes') ∷ (ys ++ Turns (ends s (Goto after)) (at c no') ∷ (zs ++ Turns (ends s (Goto after)) (at c after) ∷ []))) to
 forked c s t yes' no' after set now to ys zs h w p q = record {
   starts = (yes', set) ∷ (p.starts ++ (no', set) ∷ (q.starts ++ (after, to) ∷ []));
   are = ap (λ ls. yes'.0 ∷ ls) (joined p.starts ((no', set) ∷ (q.starts ++ (after, to) ∷ [])) ys _ p.are (ap (λ ls. no'.0 ∷ ls) (joined q.starts ((after, to) ∷ []) zs _ q.are refl)));
-  runs = λ at' g.
+  runs = λ at' g b.
       let r = agree_right at' p.starts _ g.1 in
       let a = agree_right at' q.starts _ r.1 in
       turns h (at_most yes' at' set (without t now) g.0 w, at_most no' at' set (without t now) r.0 w) tt
@@ -101,52 +101,69 @@ forked c s t yes' no' after set now to ys zs h w p q = record {
       (turns tt (at_most after at' to to a.0 (same_set to)) tt
       (from_start no' at' set to _ r.0 (runs-append at' to to _
       (turns tt (at_most after at' to to a.0 (same_set to)) tt (from_start after at' to to [] a.0 (stops (same_set to))))
-      set zs (q.runs at' (agree_left at' q.starts _ r.1)))))
-      set ys (p.runs at' (agree_left at' p.starts _ g.1))));
+      set zs (q.runs at' (agree_left at' q.starts _ r.1) b))))
+      set ys (p.runs at' (agree_left at' p.starts _ g.1) b)));
 }
 
 -- two branches that leave: no run comes to the edge between them
-pub parted : (c : Around) (s : Span) (t : ℕ) (yes' no' : Label) (set now to : Locals) (ys zs : List Line) → now t ≡ true → Within set (without t now) → Within set to → Laid set ys to → Laid set zs to
-    → Laid now (fork c s t yes' no' ys zs) to
+pub parted : {B : (Label → Locals) → Type 0} (c : Around) (s : Span) (t : ℕ) (yes' no' : Label) (set now to : Locals) (ys zs : List Line) → now t ≡ true → Within set (without t now) → Within set to → Laid B set ys to → Laid B set zs to
+    → Laid B now (fork c s t yes' no' ys zs) to
 parted c s t yes' no' set now to ys zs h w v p q = record {
   starts = (yes', set) ∷ (p.starts ++ (no', set) ∷ q.starts);
   are = ap (λ ls. yes'.0 ∷ ls) (joined p.starts ((no', set) ∷ q.starts) ys _ p.are (ap (λ ls. no'.0 ∷ ls) q.are));
-  runs = λ at' g.
+  runs = λ at' g b.
       let r = agree_right at' p.starts _ g.1 in
       turns h (at_most yes' at' set (without t now) g.0 w, at_most no' at' set (without t now) r.0 w) tt
-      (from_start yes' at' set to _ g.0 (runs-append at' to to _ (turns tt (at_most no' at' set to r.0 v) tt (from_start no' at' set to _ r.0 (q.runs at' r.1))) set ys (p.runs at' (agree_left at' p.starts _ g.1))));
+      (from_start yes' at' set to _ g.0 (runs-append at' to to _ (turns tt (at_most no' at' set to r.0 v) tt (from_start no' at' set to _ r.0 (q.runs at' r.1 b))) set ys (p.runs at' (agree_left at' p.starts _ g.1) b)));
 }
 
 -- a loop
-pub looped : (c k : Around) (s : Span) (d t u : ℕ) (T U : Ty) (head body after : Label) (hd : Head) (own : List ℕ) (set : Locals) (us vs : List Line) → HeadFits set (Some hd) → HasNone set own → set t ≡ false → Laid set us (with t set) → Laid set vs (with u set)
-    → Laid set (Turns (ends s (Goto head)) (at_head k head hd) ∷ Makes t T ∷ (us ++ Turns (ends s (If (moved t) body after)) (at k body) ∷ Makes u U ∷ (vs ++ Turns (ends s (Goto head)) (at c after) ∷ Owns head own ∷ put_unit s d ∷ []))) (with d set)
-looped c k s d t u T U head body after hd own set us vs fits n no_t p q = record {
+pub looped : {B B' : (Label → Locals) → Type 0} (c k : Around) (s : Span) (d t u : ℕ) (T U : Ty) (head body after : Label) (hd : Head) (own : List ℕ) (set : Locals) (us vs : List Line)
+    → HeadFits set (Some hd) → HasNone set own → set t ≡ false → ((at' : Label → Locals) → at' head ≡ set → at' after ≡ set → B' at') → Laid B' set us (with t set) → Laid B' set vs (with u set)
+    → Laid B set (Turns (ends s (Goto head)) (at_head k head hd) ∷ Makes t T ∷ (us ++ Turns (ends s (If (moved t) body after)) (at k body) ∷ Makes u U ∷ (vs ++ Turns (ends s (Goto head)) (at c after) ∷ Owns head own ∷ put_unit s d ∷ []))) (with d set)
+looped c k s d t u T U head body after hd own set us vs fits n no_t m p q = record {
   starts = (head, set) ∷ (p.starts ++ (body, set) ∷ (q.starts ++ (after, set) ∷ []));
   are = ap (λ ls. head.0 ∷ ls) (joined p.starts ((body, set) ∷ (q.starts ++ (after, set) ∷ [])) us _ p.are (ap (λ ls. body.0 ∷ ls) (joined q.starts ((after, set) ∷ []) vs _ q.are refl)));
-  runs = λ at' g.
+  runs = λ at' g b.
       let r = agree_right at' p.starts _ g.1 in
       let a = agree_right at' q.starts _ r.1 in
-      turns tt (at_most head at' set set g.0 (same_set set)) (subst (λ m. HeadFits m (Some hd)) (sym g.0) fits)
+      turns tt (at_most head at' set set g.0 (same_set set)) (subst (λ S. HeadFits S (Some hd)) (sym g.0) fits)
       (from_start head at' set (with d set) _ g.0 (makes (runs-append at' (with t set) (with d set) _
       (turns (with_self t set) (at_most body at' set (without t (with t set)) r.0 (given_up t set no_t), at_most after at' set (without t (with t set)) a.0 (given_up t set no_t)) tt
       (from_start body at' set (with d set) _ r.0 (makes (runs-append at' (with u set) (with d set) _
       (turns tt (at_most head at' set (with u set) g.0 (with_more u set)) tt
-      (from_start after at' set (with d set) _ a.0 (owns (subst (λ m. HasNone m own) (sym g.0) n) (puts tt (stops (same_set (with d set)))))))
-      set vs (q.runs at' (agree_left at' q.starts _ r.1))))))
-      set us (p.runs at' (agree_left at' p.starts _ g.1)))));
+      (from_start after at' set (with d set) _ a.0 (owns (subst (λ S. HasNone S own) (sym g.0) n) (puts tt (stops (same_set (with d set)))))))
+      set vs (q.runs at' (agree_left at' q.starts _ r.1) (m at' g.0 a.0))))))
+      set us (p.runs at' (agree_left at' p.starts _ g.1) (m at' g.0 a.0)))));
 }
 
 -- a loop that is not left
-pub circled : (k : Around) (s : Span) (u : ℕ) (U : Ty) (head : Label) (hd : Head) (own : List ℕ) (set to : Locals) (vs : List Line) → HeadFits set (Some hd) → HasNone set own → Laid set vs (with u set)
-    → Laid set (Turns (ends s (Goto head)) (at_head k head hd) ∷ Makes u U ∷ (vs ++ Leaves (ends s (Goto head)) ∷ Owns head own ∷ [])) to
-circled k s u U head hd own set to vs fits n p = record {
+pub circled : {B B' : (Label → Locals) → Type 0} (k : Around) (s : Span) (u : ℕ) (U : Ty) (head : Label) (hd : Head) (own : List ℕ) (set to : Locals) (vs : List Line) → HeadFits set (Some hd) → HasNone set own → ((at' : Label → Locals) → at' head ≡ set → B' at') → Laid B' set vs (with u set)
+    → Laid B set (Turns (ends s (Goto head)) (at_head k head hd) ∷ Makes u U ∷ (vs ++ Leaves (ends s (Goto head)) ∷ Owns head own ∷ [])) to
+circled k s u U head hd own set to vs fits n m p = record {
   starts = (head, set) ∷ (p.starts ++ []);
   are = ap (λ ls. head.0 ∷ ls) (joined p.starts [] vs _ p.are refl);
-  runs = λ at' g.
-      turns tt (at_most head at' set set g.0 (same_set set)) (subst (λ m. HeadFits m (Some hd)) (sym g.0) fits)
+  runs = λ at' g b.
+      turns tt (at_most head at' set set g.0 (same_set set)) (subst (λ S. HeadFits S (Some hd)) (sym g.0) fits)
       (from_start head at' set to _ g.0 (makes (runs-append at' (with u set) to _
-      (leaves tt (at_most head at' set (with u set) g.0 (with_more u set)) (owns (subst (λ m. HasNone m own) (sym g.0) n) (stops (λ x h. refl))))
-      set vs (p.runs at' (agree_left at' p.starts [] g.1)))));
+      (leaves tt (at_most head at' set (with u set) g.0 (with_more u set)) (owns (subst (λ S. HasNone S own) (sym g.0) n) (stops (λ x h. refl))))
+      set vs (p.runs at' (agree_left at' p.starts [] g.1) (m at' g.0)))));
+}
+
+-- a loop that a `break` leaves
+pub spun : {B B' : (Label → Locals) → Type 0} (c k : Around) (s : Span) (d u : ℕ) (U : Ty) (head after : Label) (hd : Head) (own : List ℕ) (set : Locals) (vs : List Line) → HeadFits set (Some hd) → HasNone set own
+    → ((at' : Label → Locals) → at' head ≡ set → at' after ≡ set → B' at') → Laid B' set vs (with u set)
+    → Laid B set (Turns (ends s (Goto head)) (at_head k head hd) ∷ Makes u U ∷ (vs ++ Turns (ends s (Goto head)) (at c after) ∷ Owns head own ∷ put_unit s d ∷ [])) (with d set)
+spun c k s d u U head after hd own set vs fits n m p = record {
+  starts = (head, set) ∷ (p.starts ++ (after, set) ∷ []);
+  are = ap (λ ls. head.0 ∷ ls) (joined p.starts ((after, set) ∷ []) vs _ p.are refl);
+  runs = λ at' g b.
+      let a = agree_right at' p.starts _ g.1 in
+      turns tt (at_most head at' set set g.0 (same_set set)) (subst (λ S. HeadFits S (Some hd)) (sym g.0) fits)
+      (from_start head at' set (with d set) _ g.0 (makes (runs-append at' (with u set) (with d set) _
+      (turns tt (at_most head at' set (with u set) g.0 (with_more u set)) tt
+      (from_start after at' set (with d set) _ a.0 (owns (subst (λ S. HasNone S own) (sym g.0) n) (puts tt (stops (same_set (with d set)))))))
+      set vs (p.runs at' (agree_left at' p.starts _ g.1) (m at' g.0 a.0)))));
 }
 
 -- ---- calls
@@ -184,12 +201,12 @@ moves_taken : (ts : List ℕ) (set now : Locals) → HasNone set ts → Within s
 moves_taken [] set now n w = w
 moves_taken (t ∷ ts) set now n w = moves_taken ts set (without t now) (λ x g. n x (omega (arith, g))) (kept t set now (n t (count_self t ts)) w)
 
-pub called : (c : Around) (s : Span) (f d : ℕ) (ts : List ℕ) (after : Label) (set now : Locals) → Apart set ts → HoldsAll now ts → Within set now
-    → Laid now (Turns (ends s (Call (whole d) (Function (fn_id.Body f)) [] (map moved ts) after)) (at c after) ∷ []) (with d set)
+pub called : {B : (Label → Locals) → Type 0} (c : Around) (s : Span) (f d : ℕ) (ts : List ℕ) (after : Label) (set now : Locals) → Apart set ts → HoldsAll now ts → Within set now
+    → Laid B now (Turns (ends s (Call (whole d) (Function (fn_id.Body f)) [] (map moved ts) after)) (at c after) ∷ []) (with d set)
 called c s f d ts after set now n h w = record {
   starts = (after, with d set) ∷ [];
   are = refl;
-  runs = λ at' g.
+  runs = λ at' g b.
       turns (can_take_moves ts now h (λ x. omega (arith, n.once x)))
       (at_most after at' (with d set) (with d (all_taken (map moved ts) now)) g.0 (with_within d set (all_taken (map moved ts) now) (moves_taken ts set now (none set ts n) w)))
       tt (from_start after at' (with d set) (with d set) [] g.0 (stops (same_set (with d set))));

@@ -171,11 +171,11 @@ agree_right at (a ∷ as') bs g = agree_right at as' bs g.1
 abbrev pub labels_in : List (Label × Locals) → List ℕ
 labels_in es = map (λ (e : Label × Locals). e.0.0) es
 
--- the text runs from the one set to the other wherever its labels have these sets
-pub record Laid (set : Locals) (xs : List Line) (to : Locals) : Type 0 where
+-- the text runs from the one set to the other wherever its labels have these sets, and those of loops around meet B
+pub record Laid (B : (Label → Locals) → Type 0) (set : Locals) (xs : List Line) (to : Locals) : Type 0 where
   pub starts : List (Label × Locals)
   pub are : labels_in starts ≡ labels_begun xs
-  pub runs : (at : Label → Locals) → Agree at starts → Runs at set xs to
+  pub runs : (at : Label → Locals) → Agree at starts → B at → Runs at set xs to
 
 pub labels_in-append : (as' bs : List (Label × Locals)) → labels_in (as' ++ bs) ≡ labels_in as' ++ labels_in bs
 labels_in-append [] bs = refl
@@ -188,26 +188,30 @@ begun_labels-append (a ∷ as') bs = ap (λ ls. a.label.0 ∷ ls) (begun_labels-
 pub labels_begun-append : (xs ys : List Line) → labels_begun (xs ++ ys) ≡ labels_begun xs ++ labels_begun ys
 labels_begun-append xs ys = ap (λ bs. map (λ (b : Title). b.label.0) bs) (begun-append xs ys) ∙ begun_labels-append (begun xs) (begun ys)
 
-pub laid_stops : (set to : Locals) → Within to set → Laid set [] to
-laid_stops set to w = record { starts = []; are = refl; runs = λ at g. stops w }
+pub laid_stops : {B : (Label → Locals) → Type 0} (set to : Locals) → Within to set → Laid B set [] to
+laid_stops set to w = record { starts = []; are = refl; runs = λ at g b. stops w }
 
-pub laid_puts : (s : Statement) (set to : Locals) (xs : List Line) → CanRun set s.kind → Laid (run s.kind set) xs to → Laid set (Puts s ∷ xs) to
-laid_puts s set to xs h p = record { starts = p.starts; are = p.are; runs = λ at g. puts h (p.runs at g) }
+pub laid_puts : {B : (Label → Locals) → Type 0} (s : Statement) (set to : Locals) (xs : List Line) → CanRun set s.kind → Laid B (run s.kind set) xs to → Laid B set (Puts s ∷ xs) to
+laid_puts s set to xs h p = record { starts = p.starts; are = p.are; runs = λ at g b. puts h (p.runs at g b) }
 
-pub laid_makes : (x : ℕ) (t : Ty) (set to : Locals) (xs : List Line) → Laid set xs to → Laid set (Makes x t ∷ xs) to
-laid_makes x t set to xs p = record { starts = p.starts; are = p.are; runs = λ at g. makes (p.runs at g) }
+pub laid_makes : {B : (Label → Locals) → Type 0} (x : ℕ) (t : Ty) (set to : Locals) (xs : List Line) → Laid B set xs to → Laid B set (Makes x t ∷ xs) to
+laid_makes x t set to xs p = record { starts = p.starts; are = p.are; runs = λ at g b. makes (p.runs at g b) }
 
 -- behind a panic nothing runs
-pub laid_panics : (s : Span) (k : Cause) (set to : Locals) → Laid set (Leaves (ends s (Panic k)) ∷ []) to
-laid_panics s k set to = record { starts = []; are = refl; runs = λ at g. leaves tt tt (stops (λ x h. refl)) }
+pub laid_panics : {B : (Label → Locals) → Type 0} (s : Span) (k : Cause) (set to : Locals) → Laid B set (Leaves (ends s (Panic k)) ∷ []) to
+laid_panics s k set to = record { starts = []; are = refl; runs = λ at g b. leaves tt tt (stops (λ x h. refl)) }
 
 -- nor behind a return
-pub laid_returns : (s : Span) (set to : Locals) → set 0 ≡ true → Laid set (Leaves (ends s Return) ∷ []) to
-laid_returns s set to h = record { starts = []; are = refl; runs = λ at g. leaves h tt (stops (λ x q. refl)) }
+pub laid_returns : {B : (Label → Locals) → Type 0} (s : Span) (set to : Locals) → set 0 ≡ true → Laid B set (Leaves (ends s Return) ∷ []) to
+laid_returns s set to h = record { starts = []; are = refl; runs = λ at g b. leaves h tt (stops (λ x q. refl)) }
 
-pub laid-append : (set mid to : Locals) (xs ys : List Line) → Laid set xs mid → Laid mid ys to → Laid set (xs ++ ys) to
+-- nor behind an edge
+pub laid_goes : {B : (Label → Locals) → Type 0} (s : Span) (l : Label) (base set to : Locals) → Within base set → ((at : Label → Locals) → B at → Within (at l) base) → Laid B set (Leaves (ends s (Goto l)) ∷ []) to
+laid_goes s l base set to w h = record { starts = []; are = refl; runs = λ at g b. leaves tt (within_trans (at l) base set (h at b) w) (stops (λ x q. refl)) }
+
+pub laid-append : {B : (Label → Locals) → Type 0} (set mid to : Locals) (xs ys : List Line) → Laid B set xs mid → Laid B mid ys to → Laid B set (xs ++ ys) to
 laid-append set mid to xs ys p q = record {
   starts = p.starts ++ q.starts;
   are = labels_in-append p.starts q.starts ∙ ap (λ ls. ls ++ labels_in q.starts) p.are ∙ ap (λ ls. labels_begun xs ++ ls) q.are ∙ sym (labels_begun-append xs ys);
-  runs = λ at g. runs-append at mid to ys (q.runs at (agree_right at p.starts q.starts g)) set xs (p.runs at (agree_left at p.starts q.starts g));
+  runs = λ at g b. runs-append at mid to ys (q.runs at (agree_right at p.starts q.starts g) b) set xs (p.runs at (agree_left at p.starts q.starts g) b);
 }

@@ -1,6 +1,7 @@
 -- Along each lowered text the locals in scope are initialised, and where it ends its own local is too.
-use Rattle.std.proofs.Common.{◌≡◌, ◌⊎◌, inl, inr, refl, ap, sym, ◌∙◌, subst, ℕ, ◌+◌, ◌≤◌, ◌==◌, Bool, true, false, List, [], ◌∷◌, ◌++◌, map, length, arith, length-append, append-nil, true≢false}
+use Rattle.std.proofs.Common.{◌≡◌, ◌⊎◌, inl, inr, refl, ap, sym, ◌∙◌, subst, ℕ, ◌+◌, ◌≤◌, ◌==◌, Bool, true, false, List, [], ◌∷◌, ◌++◌, map, drop, length, ◌-◌, Some, slice_get, arith, length-append, append-nil, true≢false}
 use Rattle.std.proofs.lemmas.Bool.{eqb-true}
+use Rattle.std.proofs.lemmas.List.{drop_all}
 use Rattle.logic_term.specs.declared.kinds.Label.{Label}
 use Rattle.logic_term.specs.Ty.{Ty}
 use Rattle.text_core.specs.declared.span.Span.{Span}
@@ -12,46 +13,78 @@ use Rattle.mir_ir.specs.declared.terminator.Terminator.{Terminator}
 use Rattle.mir_ir.specs.WellFormed.{Locals, with, without, Within}
 use Rattle.source_kinds.specs.declared.kinds.BinaryOp.{BinaryOp}
 use Rattle.type_check.specs.TypedExpr.{TypedExpr}
-use Rattle.type_check.specs.WellTyped.{Surroundings, IsWellTyped, EachSpeaks}
-use Rattle.mir_build.specs.Text.{Title, Line, Makes, Turns, made}
-use Rattle.mir_build.specs.Lowering.{numbers, Around, Formula, accepted, whole, looping, binds, moved, head_of, dies_in, puts, puts_at, put_unit, made_by, calls, turning, circling, IntoBody}
+use Rattle.type_check.specs.WellTyped.{Surroundings, within_loop, IsWellTyped, EachSpeaks}
+use Rattle.mir_ir.specs.declared.terminator.TerminatorKind.TheVariants.{Goto}
+use Rattle.mir_build.specs.declared.around.Loop.{Loop}
+use Rattle.mir_build.specs.Text.{Title, Line, Makes, Turns, Leaves, made}
+use Rattle.mir_build.specs.Lowering.{numbers, Around, Formula, accepted, whole, looping, innermost, binds, moved, ends, head_of, dies, dies_in, puts, puts_at, put_unit, made_by, calls, turning, spinning, circling, IntoBody}
 use Rattle.mir_build.proofs.Numbers.{count}
 use Rattle.mir_build.proofs.LawLists.{Has, here, there, has_get, makings-append, count-append, count_self}
 use Rattle.mir_build.proofs.LawNames.{HoldsPlaces, head_fits}
-use Rattle.mir_build.proofs.LawRuns.{with_self, with_more, with_within, kept, Runs, stops, runs-append, Laid, laid_stops, laid_puts, laid_makes, laid_panics, laid_returns, laid-append}
-use Rattle.mir_build.proofs.LawLaid.{weight, Apart, none, before, first, second, left, right, fresh_second, given_up, still, same_set, forked, parted, looped, circled, with_all, with_all_more, with_all_has, called, weight_with}
+use Rattle.mir_build.proofs.LawRuns.{with_self, with_more, with_within, kept, Runs, stops, runs-append, Laid, laid_stops, laid_puts, laid_makes, laid_panics, laid_returns, laid_goes, laid-append}
+use Rattle.mir_build.proofs.LawLaid.{weight, Apart, none, before, first, second, left, right, fresh_second, given_up, still, at_most, same_set, forked, parted, looped, circled, spun, with_all, with_all_more, with_all_has, called, weight_with}
+use Rattle.mir_build.proofs.Jumps.{innermost_last, deaths, first_dies_last, has_last, has_drop_last}
 use Rattle.mir_build.proofs.TypedShapes.{Takes, of_number, of_bool, of_unit, of_copy, of_minus, of_not, of_operation, KeepsTyped, of_typed_body}
 
--- the set has the locals of the places in scope, one place for each variable
-pub record Scoped (c : Around) (Γ : List Ty) (set : Locals) : Type 0 where
+-- the set has the locals of the places in scope, one place for each variable, and what is initialised around the innermost loop, of which
+-- nothing is bound inside
+pub record Scoped (c : Around) (Γ : List Ty) (base set : Locals) : Type 0 where
   pub count : length Γ ≡ length c.scope
   pub holds : HoldsPlaces set c.scope
+  pub kept : Within base set
+  pub apart : (l : Loop) → innermost c ≡ Some l → (p : Place) → Has p (drop l.depth c.scope) → base p.local ≡ false
 
-more_scoped : (c : Around) (Γ : List Ty) (set : Locals) (t : ℕ) → Scoped c Γ set → Scoped c Γ (with t set)
-more_scoped c Γ set t sc = record { count = sc.count; holds = λ p h. with_more t set p.local (sc.holds p h) }
+more_scoped : (c : Around) (Γ : List Ty) (base set : Locals) (t : ℕ) → Scoped c Γ base set → Scoped c Γ base (with t set)
+more_scoped c Γ base set t sc = record { count = sc.count; holds = λ p h. with_more t set p.local (sc.holds p h); kept = λ y h. with_more t set y (sc.kept y h); apart = sc.apart }
 
-has_last : (xs : List Place) (t x : Place) → Has x (xs ++ t ∷ []) → Has x xs ⊎ (x ≡ t)
-has_last [] t x here = inr refl
-has_last [] t x (there h) = elim h [ ]
-has_last (y ∷ xs) t x here = inl here
-has_last (y ∷ xs) t x (there h) = by_case (has_last xs t x h)
+-- what is not in a set is in none within it
+not_within : (small large : Locals) (x : ℕ) → Within small large → large x ≡ false → small x ≡ false
+not_within small large x w n = by_test (small x) refl
   where
-    by_case : Has x xs ⊎ (x ≡ t) → Has x (y ∷ xs) ⊎ (x ≡ t)
-    by_case (inl g) = inl (there g)
-    by_case (inr e) = inr e
+    by_test : (b : Bool) → small x ≡ b → small x ≡ false
+    by_test true e = absurd (true≢false (sym (w x e) ∙ n))
+    by_test false e = e
 
-bound_scoped : (c : Around) (Γ : List Ty) (T : Ty) (set : Locals) (t : ℕ) → Scoped c Γ set → Scoped (binds c t) (Γ ++ T ∷ []) (with t set)
-bound_scoped c Γ T set t sc = record {
+bound_scoped : (c : Around) (Γ : List Ty) (T : Ty) (base set : Locals) (t : ℕ) → set t ≡ false → Scoped c Γ base set → Scoped (binds c t) (Γ ++ T ∷ []) base (with t set)
+bound_scoped c Γ T base set t n sc = record {
   count = length-append Γ (T ∷ []) ∙ ap (λ n. n + 1) sc.count ∙ sym (length-append c.scope (whole t ∷ []));
   holds = λ p h. by_case p (has_last c.scope (whole t) p h);
+  kept = λ y h. with_more t set y (sc.kept y h);
+  apart = λ l e p h. by_end l e p (has_drop_last l.depth c.scope (whole t) p h);
 }
   where
     by_case : (p : Place) → Has p c.scope ⊎ (p ≡ whole t) → with t set p.local ≡ true
     by_case p (inl g) = with_more t set p.local (sc.holds p g)
     by_case p (inr e) = subst (λ (q : Place). with t set q.local ≡ true) (sym e) (with_self t set)
 
-in_loop : (c : Around) (Γ : List Ty) (set : Locals) (head : Label) → Scoped c Γ set → Scoped (looping c head) Γ set
-in_loop c Γ set head sc = record { count = sc.count; holds = sc.holds }
+    by_end : (l : Loop) → innermost c ≡ Some l → (p : Place) → Has p (drop l.depth c.scope) ⊎ (p ≡ whole t) → base p.local ≡ false
+    by_end l e p (inl g) = sc.apart l e p g
+    by_end l e p (inr q) = subst (λ (x : Place). base x.local ≡ false) (sym q) (not_within base set t sc.kept n)
+
+-- in a loop, around which the set is initialised
+in_loop : (c : Around) (Γ : List Ty) (base set : Locals) (head after : Label) → Scoped c Γ base set → Scoped (looping c head after) Γ set set
+in_loop c Γ base set head after sc = record {
+  count = sc.count;
+  holds = sc.holds;
+  kept = same_set set;
+  apart = λ l e p h.
+      let none : drop l.depth c.scope ≡ [] = ap (λ (m : Loop). drop m.depth c.scope) (innermost_last c.loops _ l e) ∙ drop_all (length c.scope) c.scope (omega arith) in
+      absurd (nothing p (subst (λ ps. Has p ps) none h));
+}
+  where
+    nothing : (p : Place) → Has p [] → ⊥
+    nothing p h = elim h [ ]
+
+-- where the innermost loop is left and where it begins, no more is asked to be initialised
+abbrev pub Meets : List Loop → Locals → (Label → Locals) → Type 0
+Meets ls base at = (l : Loop) → slice_get ls (length ls - 1) ≡ Some l → Within (at l.after) base × Within (at l.head) base
+
+pub no_loops : (base : Locals) (at : Label → Locals) → Meets [] base at
+no_loops base at l e = absurd (cc)
+
+entered : (c : Around) (head after : Label) (set : Locals) (at : Label → Locals) → at head ≡ set → at after ≡ set → Meets (looping c head after).loops set at
+entered c head after set at h a l e =
+    subst (λ (m : Loop). Within (at m.after) set × Within (at m.head) set) (sym (innermost_last c.loops _ l e)) (at_most after at set set a (same_set set), at_most head at set set h (same_set set))
 
 -- ---- what a row puts at its end
 
@@ -86,7 +119,7 @@ two_given_up t u set n m = kept u set (without t (with u (with t set))) m (kept 
 first_of_two : (t u : ℕ) (set : Locals) → with u (with t set) t ≡ true
 first_of_two t u set = with_more u (with t set) t (with_self t set)
 
-laid_dies : (outer : Bool) (s : Span) (d t : ℕ) (set : Locals) → (with d set) t ≡ false → Laid (with d (with t set)) (dies_in outer s t) (with d set)
+laid_dies : {B : (Label → Locals) → Type 0} (outer : Bool) (s : Span) (d t : ℕ) (set : Locals) → (with d set) t ≡ false → Laid B (with d (with t set)) (dies_in outer s t) (with d set)
 laid_dies true s d t set n = laid_stops _ _ (ends_with d t set)
 laid_dies false s d t set n = laid_puts _ _ _ _ tt (laid_stops _ _ (kept t (with d set) (with d (with t set)) n (ends_with d t set)))
 
@@ -101,8 +134,33 @@ own_apart d t u set us vs rest k b U h = record {
 }
 
 -- less is surely initialised
-fewer : (set mid to : Locals) (xs : List Line) → Laid set xs mid → Within to mid → Laid set xs to
-fewer set mid to xs p w = record { starts = p.starts; are = p.are; runs = λ at g. subst (λ ys. Runs at set ys to) (append-nil xs) (runs-append at mid to [] (stops w) set xs (p.runs at g)) }
+fewer : {B : (Label → Locals) → Type 0} (set mid to : Locals) (xs : List Line) → Laid B set xs mid → Within to mid → Laid B set xs to
+fewer set mid to xs p w = record { starts = p.starts; are = p.are; runs = λ at g b. subst (λ ys. Runs at set ys to) (append-nil xs) (runs-append at mid to [] (stops w) set xs (p.runs at g b)) }
+
+-- ---- jumps
+
+-- what is left where bindings that are not in the set around have ended
+record Ended (B : (Label → Locals) → Type 0) (s : Span) (ps : List Place) (base set : Locals) : Type 0 where
+  left : Locals
+  kept : Within base left
+  laid : Laid B set (deaths s ps) left
+
+ended : {B : (Label → Locals) → Type 0} (s : Span) (ps : List Place) (base set : Locals) → Within base set → ((p : Place) → Has p ps → base p.local ≡ false) → Ended B s ps base set
+ended s [] base set w h = record { left = set; kept = w; laid = laid_stops _ _ (same_set set) }
+ended {B} s (p ∷ ps) base set w h =
+    let e : Ended B s ps base set = ended s ps base set w (λ q k. h q (there k)) in
+    let left = without p.local e.left in
+    record {
+      left = left;
+      kept = kept p.local base e.left (h p here) e.kept;
+      laid = subst (λ xs. Laid B set xs left) (sym (first_dies_last s p ps)) (laid-append set e.left left (deaths s ps) (dies s p.local ∷ []) e.laid (laid_puts _ _ _ _ tt (laid_stops _ _ (same_set left))));
+    }
+
+laid_jump : {B : (Label → Locals) → Type 0} (s : Span) (ps : List Place) (to : Label) (base set next : Locals) → Within base set → ((p : Place) → Has p ps → base p.local ≡ false) → ((at : Label → Locals) → B at → Within (at to) base)
+    → Laid B set (deaths s ps ++ Leaves (ends s (Goto to)) ∷ []) next
+laid_jump {B} s ps to base set next w h m =
+    let e : Ended B s ps base set = ended s ps base set w h in
+    laid-append set e.left next (deaths s ps) _ e.laid (laid_goes s to base e.left next e.kept m)
 
 -- ---- temporaries
 
@@ -115,8 +173,8 @@ holding_more : (ts : List (ℕ × Ty)) (set : Locals) → Within set (holding ts
 holding_more [] set y h = h
 holding_more (x ∷ ts) set y h = with_more x.0 (holding ts set) y (holding_more ts set y h)
 
-holding_scoped : (c : Around) (Γ : List Ty) (ts : List (ℕ × Ty)) (set : Locals) → Scoped c Γ set → Scoped c Γ (holding ts set)
-holding_scoped c Γ ts set sc = record { count = sc.count; holds = λ p h. holding_more ts set p.local (sc.holds p h) }
+holding_scoped : (c : Around) (Γ : List Ty) (ts : List (ℕ × Ty)) (base set : Locals) → Scoped c Γ base set → Scoped c Γ base (holding ts set)
+holding_scoped c Γ ts base set sc = record { count = sc.count; holds = λ p h. holding_more ts set p.local (sc.holds p h); kept = λ y h. holding_more ts set y (sc.kept y h); apart = sc.apart }
 
 weight_holding : (x : ℕ) (ts : List (ℕ × Ty)) (set : Locals) → weight (holding ts set x) ≤ count x (numbers ts) + weight (set x)
 weight_holding x [] set = omega arith
@@ -149,28 +207,28 @@ only_made set us rest h = record { once = λ x. omega (arith, makings-append x u
 
 -- where the temporaries are initialised besides the set, d is too behind the text; the answer, local 0, is written by what returns
 abbrev pub WritesSet : Around → List Ty → List (ℕ × Ty) → ℕ → Ty → List Line → Type 0
-WritesSet c Γ ts d T xs = (set : Locals) → Scoped c Γ set → Apart set (0 ∷ (numbers ts ++ numbers (made xs))) → Apart set (d ∷ (numbers ts ++ numbers (made xs))) → Laid (holding ts set) xs (with d set)
+WritesSet c Γ ts d T xs = (base set : Locals) → Scoped c Γ base set → Apart set (0 ∷ (numbers ts ++ numbers (made xs))) → Apart set (d ∷ (numbers ts ++ numbers (made xs))) → Laid (Meets c.loops base) (holding ts set) xs (with d set)
 
 -- the place is initialised behind the text
 pub record NamesIn (c : Around) (Γ : List Ty) (p : Place) (T : Ty) (xs : List Line) : Type 0 where
   pub behind : Locals → Locals
   pub more : (set : Locals) → Within set (behind set)
-  pub there : (set : Locals) → Scoped c Γ set → behind set p.local ≡ true
-  pub laid : (set : Locals) → Scoped c Γ set → Apart set (0 ∷ numbers (made xs)) → Laid set xs (behind set)
+  pub there : (base set : Locals) → Scoped c Γ base set → behind set p.local ≡ true
+  pub laid : (base set : Locals) → Scoped c Γ base set → Apart set (0 ∷ numbers (made xs)) → Laid (Meets c.loops base) set xs (behind set)
 
 -- each argument is initialised behind the text, which makes its temporary
 pub record PassesSet (c : Around) (Γ : List Ty) (ts : List ℕ) (Ts : List Ty) (xs : List Line) : Type 0 where
   pub counts : (x : ℕ) → count x ts ≤ count x (numbers (made xs))
-  pub laid : (set : Locals) → Scoped c Γ set → Apart set (0 ∷ numbers (made xs)) → Laid set xs (with_all ts set)
+  pub laid : (base set : Locals) → Scoped c Γ base set → Apart set (0 ∷ numbers (made xs)) → Laid (Meets c.loops base) set xs (with_all ts set)
 
 laid_put : (c : Around) (Γ : List Ty) (ts : List (ℕ × Ty)) (s : Span) (d : ℕ) (r : Rvalue) (T : Ty) → Takes c Γ ts r T → WritesSet c Γ ts d T (puts s d r ∷ [])
-laid_put c Γ ts s d r T (of_number h) set sc z a = laid_puts _ _ _ _ tt (laid_stops _ _ (same_set (with d set)))
-laid_put c Γ ts s d r T (of_bool h) set sc z a = laid_puts _ _ _ _ tt (laid_stops _ _ (same_set (with d set)))
-laid_put c Γ ts s d r T (of_unit h) set sc z a = laid_puts _ _ _ _ tt (laid_stops _ _ (same_set (with d set)))
-laid_put c Γ ts s d r T (of_copy v p q h) set sc z a = laid_puts _ _ _ _ (sc.holds p (has_get c.scope v p q)) (laid_stops _ _ (same_set (with d set)))
-laid_put c Γ ts s d r T (of_minus {t = t} i h e q) set sc z a = laid_puts _ _ _ _ (with_self t set) (laid_stops _ _ (moved_on d t set (fresh_second d t set _ a)))
-laid_put c Γ ts s d r T (of_not {t = t} h q) set sc z a = laid_puts _ _ _ _ (with_self t set) (laid_stops _ _ (moved_on d t set (fresh_second d t set _ a)))
-laid_put c Γ ts s d r T (of_operation {t = t} {u = u} h e) set sc z a =
+laid_put c Γ ts s d r T (of_number h) base set sc z a = laid_puts _ _ _ _ tt (laid_stops _ _ (same_set (with d set)))
+laid_put c Γ ts s d r T (of_bool h) base set sc z a = laid_puts _ _ _ _ tt (laid_stops _ _ (same_set (with d set)))
+laid_put c Γ ts s d r T (of_unit h) base set sc z a = laid_puts _ _ _ _ tt (laid_stops _ _ (same_set (with d set)))
+laid_put c Γ ts s d r T (of_copy v p q h) base set sc z a = laid_puts _ _ _ _ (sc.holds p (has_get c.scope v p q)) (laid_stops _ _ (same_set (with d set)))
+laid_put c Γ ts s d r T (of_minus {t = t} i h e q) base set sc z a = laid_puts _ _ _ _ (with_self t set) (laid_stops _ _ (moved_on d t set (fresh_second d t set _ a)))
+laid_put c Γ ts s d r T (of_not {t = t} h q) base set sc z a = laid_puts _ _ _ _ (with_self t set) (laid_stops _ _ (moved_on d t set (fresh_second d t set _ a)))
+laid_put c Γ ts s d r T (of_operation {t = t} {u = u} h e) base set sc z a =
     let no_u : set u ≡ false = fresh_second d u set _ a in
     let no_t : set t ≡ false = fresh_second d t set _ (without_second d u set _ a) in
     let u_free : with t set u ≡ false = fresh_second d u (with t set) [] (other_held d t u set a) in
@@ -180,53 +238,60 @@ laid_put c Γ ts s d r T (of_operation {t = t} {u = u} h e) set sc z a =
     other_held d t u set h = record { once = λ x. omega (arith, weight_with x t set, h.once x) }
 
 laid_assigned : (c : Around) (Γ : List Ty) (s : Span) (t : ℕ) (T : Ty) (p : Place) (U : Ty) (d : ℕ) (V : Ty) (xs : List Line) → NamesIn c Γ p U xs → WritesSet c Γ ((t, T) ∷ []) d V (xs ++ puts_at s p (Use (moved t)) ∷ put_unit s d ∷ [])
-laid_assigned c Γ s t T p U d V xs q set sc z a =
+laid_assigned c Γ s t T p U d V xs q base set sc z a =
     let now = q.behind (with t set) in
     let more : Within (with t set) now = q.more (with t set) in
-    laid-append (with t set) now (with d set) xs _ (q.laid (with t set) (more_scoped c Γ set t sc) (left 0 (with t set) xs _ (second_held 0 t set _ z)))
+    laid-append (with t set) now (with d set) xs _ (q.laid base (with t set) (more_scoped c Γ base set t sc) (left 0 (with t set) xs _ (second_held 0 t set _ z)))
     (laid_puts _ _ _ _ (more t (with_self t set)) (laid_puts _ _ _ _ tt (laid_stops _ _ (assigned d p.local t set now (fresh_second d t set _ a) (λ y g. more y (with_more t set y g))))))
 
 laid_updated : (c : Around) (Γ : List Ty) (s : Span) (op : BinaryOp) (t u : ℕ) (T : Ty) (p : Place) (U : Ty) (d : ℕ) (V : Ty) (xs : List Line) → NamesIn c Γ p U xs
     → WritesSet c Γ ((t, T) ∷ []) d V (xs ++ (made_by u T (puts s u (Binary op (Copy p) (moved t)) ∷ []) ++ puts_at s p (Use (moved u)) ∷ put_unit s d ∷ []))
-laid_updated c Γ s op t u T p U d V xs q set sc z a =
-    let scoped = more_scoped c Γ set t sc in
+laid_updated c Γ s op t u T p U d V xs q base set sc z a =
+    let scoped = more_scoped c Γ base set t sc in
     let held = q.behind (with t set) in
     let more : Within (with t set) held = q.more (with t set) in
     let no_u : set u ≡ false = fresh_second d u set [] (right d set xs _ (without_second d t set _ a)) in
     let now = without t held in
     let w : Within set now = kept t set held (fresh_second d t set _ a) (λ y g. more y (with_more t set y g)) in
-    laid-append (with t set) held (with d set) xs _ (q.laid (with t set) scoped (left 0 (with t set) xs _ (second_held 0 t set _ z)))
-    (laid_makes _ _ _ _ _ (laid_puts _ _ _ _ (q.there (with t set) scoped, more t (with_self t set))
+    laid-append (with t set) held (with d set) xs _ (q.laid base (with t set) scoped (left 0 (with t set) xs _ (second_held 0 t set _ z)))
+    (laid_makes _ _ _ _ _ (laid_puts _ _ _ _ (q.there base (with t set) scoped, more t (with_self t set))
     (laid_puts _ _ _ _ (with_self u now) (laid_puts _ _ _ _ tt (laid_stops _ _ (assigned d p.local u set (with u now) no_u (λ y g. with_more u now y (w y g))))))))
 
 laid_turning : (c : Around) (Γ : List Ty) (s : Span) (head body after : Label) (fs : List Formula) (t : ℕ) (T : Ty) (xs : List Line) (u : ℕ) (U : Ty) (ys : List Line) (d : ℕ) (V : Ty) → EachSpeaks (length Γ) (map accepted fs)
-    → WritesSet (looping c head) Γ [] t T xs → WritesSet (looping c head) Γ [] u U ys → WritesSet c Γ [] d V (turning c s head body after fs t T xs u U ys (put_unit s d ∷ []))
-laid_turning c Γ s head body after fs t T xs u U ys d V h p q set sc z a =
-    let inside = in_loop c Γ set head sc in
+    → WritesSet (looping c head after) Γ [] t T xs → WritesSet (looping c head after) Γ [] u U ys → WritesSet c Γ [] d V (turning c s head body after fs t T xs u U ys (put_unit s d ∷ []))
+laid_turning c Γ s head body after fs t T xs u U ys d V h p q base set sc z a =
+    let inside = in_loop c Γ base set head after sc in
     let b = before t set _ (second d t set xs _ a) in
     let y = without_second 0 t set _ z in
-    looped c (looping c head) s d t u _ _ head body after (head_of c fs) _ set xs ys (head_fits set c (length Γ) (map accepted fs) fs refl sc.count sc.holds h) (none set _ (own_apart d t u set xs ys _ _ _ _ a)) (fresh_second d t set _ a)
-    (p set inside (left 0 set xs _ y) (first d t set xs _ a)) (q set inside (left 0 set ys _ (without_second 0 u set _ (right 0 set xs _ y))) (first d u set ys _ b))
+    looped c (looping c head after) s d t u _ _ head body after (head_of c fs) _ set xs ys (head_fits set c (length Γ) (map accepted fs) fs refl sc.count sc.holds h) (none set _ (own_apart d t u set xs ys _ _ _ _ a)) (fresh_second d t set _ a) (λ at h e. entered c head after set at h e)
+    (p set set inside (left 0 set xs _ y) (first d t set xs _ a)) (q set set inside (left 0 set ys _ (without_second 0 u set _ (right 0 set xs _ y))) (first d u set ys _ b))
 
-laid_circling : (c : Around) (Γ : List Ty) (s : Span) (head : Label) (fs : List Formula) (u : ℕ) (U : Ty) (ys : List Line) (d : ℕ) (T : Ty) → EachSpeaks (length Γ) (map accepted fs) → WritesSet (looping c head) Γ [] u U ys
+laid_circling : (c : Around) (Γ : List Ty) (s : Span) (head : Label) (fs : List Formula) (u : ℕ) (U : Ty) (ys : List Line) (d : ℕ) (T : Ty) → EachSpeaks (length Γ) (map accepted fs) → WritesSet (looping c head head) Γ [] u U ys
     → WritesSet c Γ [] d T (circling c s head fs u U ys)
-laid_circling c Γ s head fs u U ys d T h p set sc z a =
+laid_circling c Γ s head fs u U ys d T h p base set sc z a =
     let own = first d u set ys _ a in
-    circled (looping c head) s u U head (head_of c fs) _ set (with d set) ys (head_fits set c (length Γ) (map accepted fs) fs refl sc.count sc.holds h) (none set _ own)
-    (p set (in_loop c Γ set head sc) (left 0 set ys _ (without_second 0 u set _ z)) own)
+    circled (looping c head head) s u U head (head_of c fs) _ set (with d set) ys (head_fits set c (length Γ) (map accepted fs) fs refl sc.count sc.holds h) (none set _ own) (λ at h. entered c head head set at h h)
+    (p set set (in_loop c Γ base set head head sc) (left 0 set ys _ (without_second 0 u set _ z)) own)
+
+laid_spinning : (c : Around) (Γ : List Ty) (s : Span) (head after : Label) (fs : List Formula) (u : ℕ) (U : Ty) (ys : List Line) (d : ℕ) (V : Ty) → EachSpeaks (length Γ) (map accepted fs) → WritesSet (looping c head after) Γ [] u U ys
+    → WritesSet c Γ [] d V (spinning c s head after fs u U ys (put_unit s d ∷ []))
+laid_spinning c Γ s head after fs u U ys d V h p base set sc z a =
+    let own = first d u set ys _ a in
+    spun c (looping c head after) s d u U head after (head_of c fs) _ set ys (head_fits set c (length Γ) (map accepted fs) fs refl sc.count sc.holds h) (none set _ own) (λ at h e. entered c head after set at h e)
+    (p set set (in_loop c Γ base set head after sc) (left 0 set ys _ (without_second 0 u set _ z)) own)
 
 laid_call : (c : Around) (Γ : List Ty) (s : Span) (f : ℕ) (ts : List ℕ) (after : Label) (d : ℕ) (T : Ty) (Ts : List Ty) (xs : List Line) → PassesSet c Γ ts Ts xs → WritesSet c Γ [] d T (xs ++ calls c s f d ts after ∷ [])
-laid_call c Γ s f ts after d T Ts xs p set sc z a =
+laid_call c Γ s f ts after d T Ts xs p base set sc z a =
     let b : Apart set (numbers (made xs)) = only_made set xs _ (behind_first d set _ a) in
-    laid-append set (with_all ts set) (with d set) xs _ (p.laid set sc (left 0 set xs _ z))
+    laid-append set (with_all ts set) (with d set) xs _ (p.laid base set sc (left 0 set xs _ z))
     (called c s f d ts after set (with_all ts set) (record { once = λ x. omega (arith, p.counts x, b.once x) }) (with_all_has ts set) (with_all_more ts set))
 
 laid_argument : (c : Around) (Γ : List Ty) (t : ℕ) (T U : Ty) (xs : List Line) (ts : List ℕ) (Ts : List Ty) (ys : List Line) → WritesSet c Γ [] t U xs → PassesSet c Γ ts Ts ys → PassesSet c Γ (t ∷ ts) (T ∷ Ts) (made_by t U xs ++ ys)
 laid_argument c Γ t T U xs ts Ts ys p q = record {
   counts = λ x. omega (arith, makings-append x xs ys, q.counts x);
-  laid = λ set sc z.
-      laid_makes _ _ _ _ _ (laid-append set (with t set) (with_all ts (with t set)) xs ys (p set sc (left 0 set xs ys (without_second 0 t set _ z)) (first_argument t set xs ys (behind_first 0 set _ z)))
-      (q.laid (with t set) (more_scoped c Γ set t sc) (right 0 (with t set) xs ys (second_held 0 t set _ z))));
+  laid = λ base set sc z.
+      laid_makes _ _ _ _ _ (laid-append set (with t set) (with_all ts (with t set)) xs ys (p base set sc (left 0 set xs ys (without_second 0 t set _ z)) (first_argument t set xs ys (behind_first 0 set _ z)))
+      (q.laid base (with t set) (more_scoped c Γ base set t sc) (right 0 (with t set) xs ys (second_held 0 t set _ z))));
 }
   where
     first_argument : (t : ℕ) (set : Locals) (us vs : List Line) → Apart set (t ∷ numbers (made (us ++ vs))) → Apart set (t ∷ numbers (made us))
@@ -235,35 +300,38 @@ laid_argument c Γ t T U xs ts Ts ys p q = record {
 keeps_sets : (σ : Surroundings) → KeepsTyped σ WritesSet NamesIn PassesSet
 keeps_sets σ = record {
   put = laid_put;
-  made = λ c Γ ts t T xs d U ys p q set sc z a.
-      laid_makes _ _ _ _ _ (laid-append (holding ts set) (with t (holding ts set)) (with d set) xs ys (p (holding ts set) (holding_scoped c Γ ts set sc) (answer_apart t ts set xs ys z) (first_apart d t ts set xs ys a))
-      (q set sc (rest_apart 0 t ts set xs ys z) (rest_apart d t ts set xs ys a)));
-  left = λ c Γ t T d U xs p set sc z a. fewer (with t set) (with d (with t set)) (with d set) xs (p (with t set) (more_scoped c Γ set t sc) (second_held 0 t set _ z) (second_held d t set _ a)) (ends_with d t set);
-  leaving = λ c Γ t T d U xs p q set sc z a. laid_makes _ _ _ _ _ (q set sc (without_second 0 t set _ z) (without_second d t set _ a));
-  panicked = λ c Γ s k d T g set sc z a. laid_panics s k set (with d set);
-  returned = λ c Γ s xs d T g p set sc z a. let y = left 0 set xs _ z in laid-append set (with 0 set) (with d set) xs _ (p set sc y y) (laid_returns s (with 0 set) (with d set) (with_self 0 set));
+  made = λ c Γ ts t T xs d U ys p q base set sc z a.
+      laid_makes _ _ _ _ _ (laid-append (holding ts set) (with t (holding ts set)) (with d set) xs ys (p base (holding ts set) (holding_scoped c Γ ts base set sc) (answer_apart t ts set xs ys z) (first_apart d t ts set xs ys a))
+      (q base set sc (rest_apart 0 t ts set xs ys z) (rest_apart d t ts set xs ys a)));
+  left = λ c Γ t T d U xs p base set sc z a. fewer (with t set) (with d (with t set)) (with d set) xs (p base (with t set) (more_scoped c Γ base set t sc) (second_held 0 t set _ z) (second_held d t set _ a)) (ends_with d t set);
+  leaving = λ c Γ t T d U xs p q base set sc z a. laid_makes _ _ _ _ _ (q base set sc (without_second 0 t set _ z) (without_second d t set _ a));
+  panicked = λ c Γ s k d T g base set sc z a. laid_panics s k set (with d set);
+  returned = λ c Γ s xs d T g p base set sc z a. let y = left 0 set xs _ z in laid-append set (with 0 set) (with d set) xs _ (p base set sc y y) (laid_returns s (with 0 set) (with d set) (with_self 0 set));
   circled = λ c Γ s head fs u U ys d T g h p. laid_circling c Γ s head fs u U ys d T h p;
-  bound = λ outer c Γ s t T d U xs p set sc z a.
-      laid-append (with t set) (with d (with t set)) (with d set) xs _ (p (with t set) (bound_scoped c Γ T set t sc) (left 0 (with t set) xs _ (second_held 0 t set _ z)) (left d (with t set) xs _ (second_held d t set _ a)))
+  broken = λ c Γ s l d T g e base set sc z a. laid_jump s (drop l.depth c.scope) l.after base set (with d set) sc.kept (sc.apart l e) (λ at b. (b l e).0);
+  gone_on = λ c Γ s l d T g e base set sc z a. laid_jump s (drop l.depth c.scope) l.head base set (with d set) sc.kept (sc.apart l e) (λ at b. (b l e).1);
+  spun = λ c Γ s head after fs u U ys d V v h p. laid_spinning c Γ s head after fs u U ys d V h p;
+  bound = λ outer c Γ s t T d U xs p base set sc z a.
+      laid-append (with t set) (with d (with t set)) (with d set) xs _ (p base (with t set) (bound_scoped c Γ T base set t (fresh_second d t set _ a) sc) (left 0 (with t set) xs _ (second_held 0 t set _ z)) (left d (with t set) xs _ (second_held d t set _ a)))
       (laid_dies outer s d t set (bound_apart d t set _ a));
-  tested = λ c Γ s t T yes' no' after d U xs ys e p q set sc z a.
+  tested = λ c Γ s t T yes' no' after d U xs ys e p q base set sc z a.
       let b = without_second d t set _ a in
       let y = without_second 0 t set _ z in
-      forked c s t yes' no' after set (with t set) (with d set) xs ys (with_self t set) (given_up t set (fresh_second d t set _ a)) (p set sc (left 0 set xs _ y) (left d set xs _ b))
-      (q set sc (left 0 set ys _ (right 0 set xs _ y)) (left d set ys _ (right d set xs _ b)));
-  forked = λ c Γ s t T yes' no' d U xs ys e p q set sc z a.
+      forked c s t yes' no' after set (with t set) (with d set) xs ys (with_self t set) (given_up t set (fresh_second d t set _ a)) (p base set sc (left 0 set xs _ y) (left d set xs _ b))
+      (q base set sc (left 0 set ys _ (right 0 set xs _ y)) (left d set ys _ (right d set xs _ b)));
+  forked = λ c Γ s t T yes' no' d U xs ys e p q base set sc z a.
       let b = without_second d t set _ a in
       let y = without_second 0 t set _ z in
-      parted c s t yes' no' set (with t set) (with d set) xs ys (with_self t set) (given_up t set (fresh_second d t set _ a)) (with_more d set) (p set sc (left 0 set xs _ y) (left d set xs _ b)) (q set sc (right 0 set xs _ y) (right d set xs _ b));
+      parted c s t yes' no' set (with t set) (with d set) xs ys (with_self t set) (given_up t set (fresh_second d t set _ a)) (with_more d set) (p base set sc (left 0 set xs _ y) (left d set xs _ b)) (q base set sc (right 0 set xs _ y) (right d set xs _ b));
   turned = λ c Γ s head body after fs t T xs u U ys d V e v h p q. laid_turning c Γ s head body after fs t T xs u U ys d V h p q;
-  named = λ c Γ v p T q h. record { behind = λ set. set; more = same_set; there = λ set sc. sc.holds p (has_get c.scope v p q); laid = λ set sc a. laid_stops _ _ (same_set set) };
-  temporary = λ c Γ t T xs p. record { behind = with t; more = with_more t; there = λ set sc. with_self t set; laid = λ set sc z. laid_makes _ _ _ _ _ (p set sc (without_second 0 t set _ z) (behind_first 0 set _ z)) };
+  named = λ c Γ v p T q h. record { behind = λ set. set; more = same_set; there = λ base set sc. sc.holds p (has_get c.scope v p q); laid = λ base set sc a. laid_stops _ _ (same_set set) };
+  temporary = λ c Γ t T xs p. record { behind = with t; more = with_more t; there = λ base set sc. with_self t set; laid = λ base set sc z. laid_makes _ _ _ _ _ (p base set sc (without_second 0 t set _ z) (behind_first 0 set _ z)) };
   assigned = λ c Γ s t T p U d V xs e v q. laid_assigned c Γ s t T p U d V xs q;
   updated = λ c Γ s op t u T p U d V xs h e v q. laid_updated c Γ s op t u T p U d V xs q;
-  no_arguments = λ c Γ. record { counts = λ x. omega arith; laid = λ set sc a. laid_stops _ _ (same_set set) };
+  no_arguments = λ c Γ. record { counts = λ x. omega arith; laid = λ base set sc a. laid_stops _ _ (same_set set) };
   argument = λ c Γ t T U xs ts Ts ys e p q. laid_argument c Γ t T U xs ts Ts ys p q;
   called = λ c Γ s f g ts after d T xs e q p. laid_call c Γ s f ts after d T g.params xs p;
 }
 
-pub text_laid : (σ : Surroundings) (c : Around) (e : TypedExpr) (xs : List Line) → IntoBody c e xs → (Γ : List Ty) (set : Locals) → Scoped c Γ set → IsWellTyped σ Γ e → Apart set (0 ∷ numbers (made xs)) → Laid set xs (with 0 set)
-text_laid σ c e xs p Γ set sc h a = of_typed_body σ WritesSet NamesIn PassesSet (keeps_sets σ) c e xs p Γ h set sc a a
+pub text_laid : (σ : Surroundings) (i : Bool) (c : Around) (e : TypedExpr) (xs : List Line) → IntoBody c e xs → (Γ : List Ty) (base set : Locals) → Scoped c Γ base set → IsWellTyped (within_loop i σ) Γ e → Apart set (0 ∷ numbers (made xs)) → Laid (Meets c.loops base) set xs (with 0 set)
+text_laid σ i c e xs p Γ base set sc h a = of_typed_body σ WritesSet NamesIn PassesSet (keeps_sets σ) i c e xs p Γ h base set sc a a

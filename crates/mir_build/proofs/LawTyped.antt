@@ -155,6 +155,14 @@ scope_length b [] (u ∷ ts) h = absurd h
 scope_length b (q ∷ ps) [] h = absurd h
 scope_length b (q ∷ ps) (u ∷ ts) h = ap suc (scope_length b ps ts h.1)
 
+-- the type of a place in scope
+pub scope_has : (b : Body) (ps : List Place) (ts : List Ty) → ScopeFits b ps ts → (p : Place) → Has p ps → (t : Ty) × (slice_get b.locals p.local ≡ Some t)
+scope_has b [] [] h p g = elim g [ ]
+scope_has b [] (u ∷ ts) h p g = absurd h
+scope_has b (q ∷ ps) [] h p g = absurd h
+scope_has b (q ∷ ps) (u ∷ ts) h p here = (u, h.0.1)
+scope_has b (q ∷ ps) (u ∷ ts) h p (there g) = scope_has b ps ts h.1 p g
+
 pub scope_holds : (b : Body) (ps : List Place) (ts : List Ty) → ScopeFits b ps ts → HoldsPlaces (is_local b) ps
 scope_holds b [] [] h p g = elim g [ ]
 scope_holds b [] (u ∷ ts) h p g = absurd h

@@ -14,11 +14,14 @@ use Rattle.source_kinds.specs.declared.kinds.BinaryOp.{BinaryOp}
 use Rattle.type_check.specs.declared.program.Signature.{Signature}
 use Rattle.type_check.specs.TypedExpr.{TypedExpr}
 use Rattle.type_check.specs.TypedExprView.{ty_of}
-use Rattle.type_check.specs.WellTyped.{Surroundings, IsBuilt, AllBuilt, IsWellTyped, EachSpeaks, operation_ty, unit}
-use Rattle.mir_build.specs.Text.{Line, made}
-use Rattle.mir_build.specs.Lowering.{Around, Formula, accepted, whole, looping, binds, moved, dies_in, puts, puts_at, put_unit, made_by, test, fork, calls, turning, circling, IntoBody}
+use Rattle.type_check.specs.WellTyped.{Surroundings, within_loop, IsBuilt, AllBuilt, IsWellTyped, EachSpeaks, operation_ty, unit}
+use Rattle.mir_ir.specs.declared.terminator.TerminatorKind.TheVariants.{Goto}
+use Rattle.mir_build.specs.Text.{Line, Leaves, made}
+use Rattle.mir_build.specs.Lowering.{Around, Formula, accepted, whole, looping, binds, moved, ends, dies, dies_in, die_from, puts, puts_at, put_unit, made_by, test, fork, calls, turning, spinning, circling, IntoBody}
 use Rattle.mir_build.proofs.LawNames.{head_fits}
-use Rattle.mir_build.proofs.LawTyped.{operation_has, operation_built, signed, built_more, built_at, is_local, AreTyped, typed-append, MadeFits, made_first, made_rest, made_left, made_right, ScopeFits, scope_at, scope_more, scope_length, scope_holds}
+use Rattle.mir_build.proofs.LawTyped.{operation_has, operation_built, signed, built_more, built_at, is_local, AreTyped, typed-append, MadeFits, made_first, made_rest, made_left, made_right, ScopeFits, scope_at, scope_more, scope_length, scope_holds, scope_has}
+use Rattle.mir_build.proofs.LawLists.{Has, here, there}
+use Rattle.mir_build.proofs.Jumps.{deaths, first_dies_last, has_drop}
 use Rattle.mir_build.proofs.TypedShapes.{Takes, of_number, of_bool, of_unit, of_copy, of_minus, of_not, of_operation, KeepsTyped, of_typed_body}
 
 -- the body of a callee has the types of its signature
@@ -67,8 +70,8 @@ module _ (σ : Surroundings) (bodies : Bodies) (b : Body) (callees : (n : ℕ) (
   at_type : (x : ℕ) (t u : Ty) → At x t → t ≡ u → At x u
   at_type x t u h e = h ∙ ap Some e
 
-  inner : (c : Around) (Γ : List Ty) (head : Label) → Known b c Γ → Known b (looping c head) Γ
-  inner c Γ head k = record { scope = k.scope; built_types = k.built_types }
+  inner : (c : Around) (Γ : List Ty) (head after : Label) → Known b c Γ → Known b (looping c head after) Γ
+  inner c Γ head after k = record { scope = k.scope; built_types = k.built_types }
 
   one_more : (c : Around) (Γ : List Ty) (t : ℕ) (T : Ty) → Known b c Γ → At t T → IsBuilt T → Known b (binds c t) (Γ ++ T ∷ [])
   one_more c Γ t T k h g = record { scope = scope_more b c.scope Γ (whole t) T k.scope (refl, h); built_types = built_more Γ T k.built_types g }
@@ -120,10 +123,10 @@ module _ (σ : Surroundings) (bodies : Bodies) (b : Body) (callees : (n : ℕ) (
   typed_fork c s t yes' no' ys zs h p q m = ((refl, h), tt, typed-append bodies b ys _ (p (made_left b ys _ m)) (tt, tt, q (made_right b ys _ m)))
 
   typed_turning : (c : Around) (Γ : List Ty) (s : Span) (head body after : Label) (fs : List Formula) (t : ℕ) (T : Ty) (xs : List Line) (u : ℕ) (U : Ty) (ys : List Line) (d : ℕ) (V : Ty) → T ≡ bool → V ≡ unit → EachSpeaks (length Γ) (map accepted fs)
-      → Writes (looping c head) Γ [] t T xs → Writes (looping c head) Γ [] u U ys → Known b c Γ → At d V → MadeFits b (made (turning c s head body after fs t T xs u U ys (put_unit s d ∷ [])))
+      → Writes (looping c head after) Γ [] t T xs → Writes (looping c head after) Γ [] u U ys → Known b c Γ → At d V → MadeFits b (made (turning c s head body after fs t T xs u U ys (put_unit s d ∷ [])))
       → AreTyped bodies b (turning c s head body after fs t T xs u U ys (put_unit s d ∷ []))
   typed_turning c Γ s head body after fs t T xs u U ys d V e v h p q k a m =
-      let inside = inner c Γ head k in (
+      let inside = inner c Γ head after k in (
         tt,
         head_fits (is_local b) c (length Γ) (map accepted fs) fs refl (scope_length b c.scope Γ k.scope) (scope_holds b c.scope Γ k.scope) h,
         then_made t T xs _ (p.built k.built_types tt) (p.typed inside tt tt) (λ at_t n. (
@@ -133,14 +136,32 @@ module _ (σ : Surroundings) (bodies : Bodies) (b : Body) (callees : (n : ℕ) (
         )) m,
       )
 
-  typed_circling : (c : Around) (Γ : List Ty) (s : Span) (head : Label) (fs : List Formula) (u : ℕ) (U : Ty) (ys : List Line) → EachSpeaks (length Γ) (map accepted fs) → Writes (looping c head) Γ [] u U ys → Known b c Γ
+  typed_circling : (c : Around) (Γ : List Ty) (s : Span) (head : Label) (fs : List Formula) (u : ℕ) (U : Ty) (ys : List Line) → EachSpeaks (length Γ) (map accepted fs) → Writes (looping c head head) Γ [] u U ys → Known b c Γ
       → MadeFits b (made (circling c s head fs u U ys)) → AreTyped bodies b (circling c s head fs u U ys)
   typed_circling c Γ s head fs u U ys h q k m =
       let rest = made_rest b u _ _ m in (
         tt,
         head_fits (is_local b) c (length Γ) (map accepted fs) fs refl (scope_length b c.scope Γ k.scope) (scope_holds b c.scope Γ k.scope) h,
-        (q.built k.built_types tt, typed-append bodies b ys _ (q.typed (inner c Γ head k) tt tt (made_first b u _ _ m) (made_left b ys _ rest)) (tt, tt)),
+        (q.built k.built_types tt, typed-append bodies b ys _ (q.typed (inner c Γ head head k) tt tt (made_first b u _ _ m) (made_left b ys _ rest)) (tt, tt)),
       )
+
+  typed_spinning : (c : Around) (Γ : List Ty) (s : Span) (head after : Label) (fs : List Formula) (u : ℕ) (U : Ty) (ys : List Line) (d : ℕ) (V : Ty) → V ≡ unit → EachSpeaks (length Γ) (map accepted fs)
+      → Writes (looping c head after) Γ [] u U ys → Known b c Γ → At d V → MadeFits b (made (spinning c s head after fs u U ys (put_unit s d ∷ []))) → AreTyped bodies b (spinning c s head after fs u U ys (put_unit s d ∷ []))
+  typed_spinning c Γ s head after fs u U ys d V v h q k a m = (
+    tt,
+    head_fits (is_local b) c (length Γ) (map accepted fs) fs refl (scope_length b c.scope Γ k.scope) (scope_holds b c.scope Γ k.scope) h,
+    then_made u U ys _ (q.built k.built_types tt) (q.typed (inner c Γ head after k) tt tt) (λ at_u l. (tt, tt, unit_typed V d s v a)) m,
+  )
+
+  typed_deaths : (s : Span) (ps : List Place) → ((p : Place) → Has p ps → (T : Ty) × At p.local T) → AreTyped bodies b (deaths s ps)
+  typed_deaths s [] h = tt
+  typed_deaths s (p ∷ ps) h =
+      subst (AreTyped bodies b) (sym (first_dies_last s p ps)) (typed-append bodies b (deaths s ps) (dies s p.local ∷ []) (typed_deaths s ps (λ q k. h q (there k))) (h p here, tt))
+
+  -- what is bound inside of a loop ends, and an edge leads on
+  typed_jump : (c : Around) (Γ : List Ty) (s : Span) (depth : ℕ) (to : Label) → Known b c Γ → AreTyped bodies b (die_from s depth c.scope ++ Leaves (ends s (Goto to)) ∷ [])
+  typed_jump c Γ s depth to k =
+      typed-append bodies b (die_from s depth c.scope) (Leaves (ends s (Goto to)) ∷ []) (typed_deaths s (drop depth c.scope) (λ p h. scope_has b c.scope Γ k.scope p (has_drop depth c.scope h))) (tt, tt)
 
   typed_call : (c : Around) (Γ : List Ty) (s : Span) (f : ℕ) (g : Signature) (ts : List ℕ) (after : Label) (d : ℕ) (T : Ty) (xs : List Line) → slice_get σ.signatures f ≡ Some g → T ≡ g.answer → PassesTyped bodies b c Γ ts g.params xs
       → Known b c Γ → At d T → MadeFits b (made (xs ++ calls c s f d ts after ∷ [])) → AreTyped bodies b (xs ++ calls c s f d ts after ∷ [])
@@ -176,6 +197,9 @@ module _ (σ : Surroundings) (bodies : Bodies) (b : Body) (callees : (n : ℕ) (
     panicked = λ c Γ s k d T h. record { built = λ g ts. h; typed = λ k g at a m. (tt, tt) };
     returned = λ c Γ s xs d T h p. record { built = λ g ts. h; typed = λ k g at a m. typed-append bodies b xs _ (p.typed k tt tt own_answer (made_left b xs _ m)) (tt, tt) };
     circled = λ c Γ s head fs u U ys d T h f q. record { built = λ g ts. h; typed = λ k g at a m. typed_circling c Γ s head fs u U ys f q k m };
+    broken = λ c Γ s l d T h e. record { built = λ g ts. h; typed = λ k g at a m. typed_jump c Γ s l.depth l.after k };
+    gone_on = λ c Γ s l d T h e. record { built = λ g ts. h; typed = λ k g at a m. typed_jump c Γ s l.depth l.head k };
+    spun = λ c Γ s head after fs u U ys d V v h q. record { built = λ g ts. is_unit V v; typed = λ k g at a m. typed_spinning c Γ s head after fs u U ys d V v h q k a m };
     bound = λ outer c Γ s t T d U xs p. record {
       built = λ g h. p.built (built_more Γ T g h.0) tt;
       typed = λ k g at a m. typed-append bodies b xs _ (p.typed (one_more c Γ t T k at.0 g.0) tt tt a (made_left b xs _ m)) (typed_dies outer s t T at.0);
@@ -205,5 +229,5 @@ module _ (σ : Surroundings) (bodies : Bodies) (b : Body) (callees : (n : ℕ) (
     called = λ c Γ s f g ts after d T xs e q p. record { built = λ g' ts'. subst IsBuilt (sym q) (answers f g e); typed = λ k g' at a m. typed_call c Γ s f g ts after d T xs e q p k a m };
   }
 
-  pub text_typed : (c : Around) (e : TypedExpr) (xs : List Line) → IntoBody c e xs → (Γ : List Ty) → Known b c Γ → IsWellTyped σ Γ e → At 0 (ty_of e) → MadeFits b (made xs) → AreTyped bodies b xs
-  text_typed c e xs p Γ k h a m = (of_typed_body σ Writes (NamesTyped bodies b) (PassesTyped bodies b) keeps_typed c e xs p Γ h).typed k tt tt a m
+  pub text_typed : (i : Bool) (c : Around) (e : TypedExpr) (xs : List Line) → IntoBody c e xs → (Γ : List Ty) → Known b c Γ → IsWellTyped (within_loop i σ) Γ e → At 0 (ty_of e) → MadeFits b (made xs) → AreTyped bodies b xs
+  text_typed i c e xs p Γ k h a m = (of_typed_body σ Writes (NamesTyped bodies b) (PassesTyped bodies b) keeps_typed i c e xs p Γ h).typed k tt tt a m

@@ -6,6 +6,7 @@ pub mod Clauses
 pub mod Fills
 pub mod Following
 pub mod Good
+pub mod Jumps
 pub mod LawBlocks
 pub mod LawContracts
 pub mod LawFlow

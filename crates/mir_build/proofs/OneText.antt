@@ -1,5 +1,5 @@
 -- By the rows: a text whose labels and locals are in order is the numbered one.
-use Rattle.std.proofs.Common.{◌≡◌, refl, ap, sym, ◌∙◌, ℕ, ◌+◌, Bool, true, false, List, [], ◌∷◌, ◌++◌, map, Some, slice_get, arith, true≢false}
+use Rattle.std.proofs.Common.{◌≡◌, refl, ap, sym, ◌∙◌, ℕ, ◌+◌, Bool, true, false, List, [], ◌∷◌, ◌++◌, ◌-◌, length, map, Some, slice_get, arith, true≢false}
 use Rattle.std.proofs.lemmas.Option.{get_or_from_slice_get}
 use Rattle.text_core.specs.declared.span.Span.{Span}
 use Rattle.mir_ir.specs.declared.place.Operand.TheVariants.{Copy}
@@ -10,11 +10,12 @@ use Rattle.mir_ir.specs.declared.terminator.Callee.TheVariants.{Function}
 use Rattle.mir_ir.specs.declared.terminator.TerminatorKind.TheVariants.{Goto, If, Call, Return}
 use Rattle.type_check.specs.TypedExpr.{TypedExpr, TypedStmts, TypedExprs, block}
 use Rattle.type_check.specs.TypedExprView.{ty_of}
+use Rattle.mir_build.specs.declared.around.Loop.{Loop}
 use Rattle.mir_build.specs.Text.{Line, Makes, Turns, Leaves, Owns, made}
-use Rattle.mir_build.specs.Lowering.{Around, binds, looping, at, at_head, head_of, whole, puts, puts_at, put_unit, moved, ends, dies_in, numbers, lazily, test, fork}
-use Rattle.mir_build.specs.Lowering.{Into, of_integer, of_truth, of_variable, of_negative, of_denied, of_binary, of_lazy, of_assign, of_update, of_call, of_block, of_branch, of_choice, of_leaving_choice, of_repeat, of_panics, of_returned, of_endless}
+use Rattle.mir_build.specs.Lowering.{Around, binds, looping, at, at_head, head_of, whole, puts, puts_at, put_unit, moved, ends, innermost, dies_in, die_from, numbers, lazily, test, fork}
+use Rattle.mir_build.specs.Lowering.{Into, of_integer, of_truth, of_variable, of_negative, of_denied, of_binary, of_lazy, of_assign, of_update, of_call, of_block, of_branch, of_choice, of_leaving_choice, of_repeat, of_panics, of_returned, of_endless, of_until_break, of_break_off, of_go_on}
 use Rattle.mir_build.specs.Lowering.{Rest, of_done, of_last, of_leaving, of_bind, of_run, Args, of_none, of_more, PlaceOf, of_name, of_temporary, is_place, IntoBody, of_outermost, of_other, is_block, named, named_place, named_rest, named_args, named_body}
-use Rattle.mir_build.specs.Numbered.{place_of, temporary_count, temporary_text, if_text, into, rest, args, body_text, labels, locals, temporaries, label, variable_place}
+use Rattle.mir_build.specs.Numbered.{no_loop, loop_at, place_of, temporary_count, temporary_text, if_text, into, rest, args, body_text, labels, locals, temporaries, label, variable_place}
 use Rattle.mir_build.proofs.Numbers.{makings}
 use Rattle.mir_build.proofs.Fills.{fills, target_fills, numbers_of}
 use Rattle.mir_build.proofs.Targets.{one_temporary_text, whole_temporary}
@@ -27,6 +28,10 @@ use Rattle.mir_build.proofs.Rowwise.{labels_behind, labels_behind_args}
 -- the place of a variable in scope
 found : (scope : List Place) (v : ℕ) (p : Place) → slice_get scope v ≡ Some p → p ≡ variable_place scope v
 found scope v p q = sym (get_or_from_slice_get scope v p (whole 0) q)
+
+-- the innermost loop
+inner : (c : Around) (l : Loop) → innermost c ≡ Some l → l ≡ loop_at c.loops
+inner c l q = sym (get_or_from_slice_get c.loops (length c.loops - 1) l no_loop q)
 
 -- the locals behind those of an expression's text
 behind : (e : TypedExpr) (c : Around) (l t d : ℕ) (xs ys : List Line) → xs ≡ into e c l t d → InOrder t (xs ++ ys) → InOrder (t + locals e) ys
@@ -106,14 +111,14 @@ mutual
   one_text c e d xs (of_repeat {s = s} {is = is} {e = a} {b = b} {t = t'} {u = u'} head body after fs {xs = us} {ys = vs} g p q) l t n o =
       let f = formulas_are is fs g in
       let k = three l head.0 body.0 after.0 (named p ++ named q) n in
-      let inside = looping c (label l) in
-      let x = one_text (looping c head) a t' us p (l + 3) (t + 1) (from_left (l + 3) (named p) (named q) k.3) (order_left (t + 1) us _ o.1) ∙ (λ i. into a (looping c (label (k.0 i))) (l + 3) (t + 1) (o.0 i)) in
+      let inside = looping c (label l) (label (l + 2)) in
+      let x = one_text (looping c head after) a t' us p (l + 3) (t + 1) (from_left (l + 3) (named p) (named q) k.3) (order_left (t + 1) us _ o.1) ∙ (λ i. into a (looping c (label (k.0 i)) (label (k.2 i))) (l + 3) (t + 1) (o.0 i)) in
       let r = behind a inside (l + 3) (t + 1) t us _ x o.1 in
       let u = t + 1 + locals a in
-      let y = one_text (looping c head) b u' vs q (l + 3 + labels a) (u + 1) (labels_behind p (l + 3) (named q) k.3) (order_left (u + 1) vs _ r.1) ∙ (λ i. into b (looping c (label (k.0 i))) (l + 3 + labels a) (u + 1) (r.0 i)) in
+      let y = one_text (looping c head after) b u' vs q (l + 3 + labels a) (u + 1) (labels_behind p (l + 3) (named q) k.3) (order_left (u + 1) vs _ r.1) ∙ (λ i. into b (looping c (label (k.0 i)) (label (k.2 i))) (l + 3 + labels a) (u + 1) (r.0 i)) in
       let own = (λ i. o.0 i ∷ (numbers (made (x i)) ++ r.0 i ∷ numbers (made (y i)))) ∙ own_locals t (locals a) (locals b) _ _ (numbers_of a inside (l + 3) (t + 1) t) (numbers_of b inside (l + 3 + labels a) (u + 1) u) in
-      λ i. Turns (ends s (Goto (label (k.0 i)))) (at_head (looping c (label (k.0 i))) (label (k.0 i)) (head_of c (f i))) ∷ Makes (o.0 i) (ty_of a) ∷ (x i
-      ++ Turns (ends s (If (moved (o.0 i)) (label (k.1 i)) (label (k.2 i)))) (at (looping c (label (k.0 i))) (label (k.1 i))) ∷ Makes (r.0 i) (ty_of b)
+      λ i. Turns (ends s (Goto (label (k.0 i)))) (at_head (looping c (label (k.0 i)) (label (k.2 i))) (label (k.0 i)) (head_of c (f i))) ∷ Makes (o.0 i) (ty_of a) ∷ (x i
+      ++ Turns (ends s (If (moved (o.0 i)) (label (k.1 i)) (label (k.2 i)))) (at (looping c (label (k.0 i)) (label (k.2 i))) (label (k.1 i))) ∷ Makes (r.0 i) (ty_of b)
       ∷ (y i ++ Turns (ends s (Goto (label (k.0 i)))) (at c (label (k.2 i))) ∷ Owns (label (k.0 i)) (own i) ∷ put_unit s d ∷ []))
   one_text c e d xs of_panics l t n o = refl
   one_text c e d xs (of_returned {s = s} {e = a} {xs = us} p) l t n o =
@@ -121,10 +126,19 @@ mutual
       λ i. x i ++ Leaves (ends s Return) ∷ []
   one_text c e d xs (of_endless {s = s} {is = is} {b = b} {u = u'} head fs {ys = vs} g p) l t n o =
       let f = formulas_are is fs g in
-      let y = one_text (looping c head) b u' vs p (l + 1) (t + 1) n.1 (order_left (t + 1) vs _ o.1) ∙ (λ i. into b (looping c (label (n.0 i))) (l + 1) (t + 1) (o.0 i)) in
-      let own = (λ i. o.0 i ∷ numbers (made (y i))) ∙ own_local t (locals b) _ (numbers_of b (looping c (label l)) (l + 1) (t + 1) t) in
-      λ i. Turns (ends s (Goto (label (n.0 i)))) (at_head (looping c (label (n.0 i))) (label (n.0 i)) (head_of c (f i))) ∷ Makes (o.0 i) (ty_of b)
+      let y = one_text (looping c head head) b u' vs p (l + 1) (t + 1) n.1 (order_left (t + 1) vs _ o.1) ∙ (λ i. into b (looping c (label (n.0 i)) (label (n.0 i))) (l + 1) (t + 1) (o.0 i)) in
+      let own = (λ i. o.0 i ∷ numbers (made (y i))) ∙ own_local t (locals b) _ (numbers_of b (looping c (label l) (label l)) (l + 1) (t + 1) t) in
+      λ i. Turns (ends s (Goto (label (n.0 i)))) (at_head (looping c (label (n.0 i)) (label (n.0 i))) (label (n.0 i)) (head_of c (f i))) ∷ Makes (o.0 i) (ty_of b)
       ∷ (y i ++ Leaves (ends s (Goto (label (n.0 i)))) ∷ Owns (label (n.0 i)) (own i) ∷ [])
+  one_text c e d xs (of_until_break {s = s} {is = is} {b = b} {u = u'} head after fs {ys = vs} g p) l t n o =
+      let f = formulas_are is fs g in
+      let k = two l head.0 after.0 (named p) n in
+      let y = one_text (looping c head after) b u' vs p (l + 2) (t + 1) k.2 (order_left (t + 1) vs _ o.1) ∙ (λ i. into b (looping c (label (k.0 i)) (label (k.1 i))) (l + 2) (t + 1) (o.0 i)) in
+      let own = (λ i. o.0 i ∷ numbers (made (y i))) ∙ own_local t (locals b) _ (numbers_of b (looping c (label l) (label (l + 1))) (l + 2) (t + 1) t) in
+      λ i. Turns (ends s (Goto (label (k.0 i)))) (at_head (looping c (label (k.0 i)) (label (k.1 i))) (label (k.0 i)) (head_of c (f i))) ∷ Makes (o.0 i) (ty_of b)
+      ∷ (y i ++ Turns (ends s (Goto (label (k.0 i)))) (at c (label (k.1 i))) ∷ Owns (label (k.0 i)) (own i) ∷ put_unit s d ∷ [])
+  one_text c e d xs (of_break_off {s = s} m q) l t n o = λ i. die_from s (inner c m q i).depth c.scope ++ Leaves (ends s (Goto (inner c m q i).after)) ∷ []
+  one_text c e d xs (of_go_on {s = s} m q) l t n o = λ i. die_from s (inner c m q i).depth c.scope ++ Leaves (ends s (Goto (inner c m q i).head)) ∷ []
 
   one_place : (c : Around) (e : TypedExpr) (x : Place) (xs : List Line) (p : PlaceOf c e x xs) (l t : ℕ) → From l (named_place p) → InOrder t xs
       → (x ≡ place_of c.scope t e) × (xs ≡ temporary_text (is_place e) t (ty_of e) (into e c l (t + 1) t))

@@ -26,6 +26,9 @@ ty_of_node t s (node.While a0 a1 a2) = refl
 ty_of_node t s (node.Panic a0) = refl
 ty_of_node t s (node.Return a0) = refl
 ty_of_node t s (node.Loop a0 a1) = refl
+ty_of_node t s (node.LoopUntilBreak a0 a1) = refl
+ty_of_node t s node.Break = refl
+ty_of_node t s node.Continue = refl
 
 pub span_of_node : (t : Ty) (s : Span) (n : TypedNode) → span_of (typed_of t s n) ≡ s
 span_of_node t s (node.Int a0 a1) = refl
@@ -47,3 +50,6 @@ span_of_node t s (node.While a0 a1 a2) = refl
 span_of_node t s (node.Panic a0) = refl
 span_of_node t s (node.Return a0) = refl
 span_of_node t s (node.Loop a0 a1) = refl
+span_of_node t s (node.LoopUntilBreak a0 a1) = refl
+span_of_node t s node.Break = refl
+span_of_node t s node.Continue = refl

@@ -1,21 +1,22 @@
 -- Where each variable is in scope and no invariant is refused, the numbered text is a text of the rows, which name their labels in order.
-use Rattle.std.proofs.Common.{◌≡◌, refl, ap, sym, subst, ℕ, zero, suc, ◌+◌, ◌-◌, ◌&&◌, Bool, true, false, List, [], ◌∷◌, ◌++◌, length, length-append, map, Some, None, arith}
+use Rattle.std.proofs.Common.{◌≡◌, refl, ap, sym, subst, true≢false, ℕ, zero, suc, ◌+◌, ◌-◌, ◌≤◌, ◌&&◌, Bool, true, false, List, [], ◌∷◌, ◌++◌, length, length-append, map, Some, None, arith}
 use Rattle.std.specs.List.{slice_get, range_with_len}
 use Rattle.std.proofs.lemmas.Option.{slice_get_within, slice_get-get_or}
 use Rattle.text_core.specs.declared.span.Span.{Span}
+use Rattle.logic_term.specs.declared.kinds.Label.{Label}
 use Rattle.logic_term.specs.Ty.{Ty}
 use Rattle.mir_ir.specs.declared.place.Place.{Place}
 use Rattle.type_check.specs.declared.assertion.Assertion.{Assertion}
-use Rattle.type_check.specs.TypedExpr.{TypedExpr, TypedStmts, TypedExprs, integer, truth, variable, negative, denied, binary, lazy, assign, update, call, block, branch, choice, repeat, panics, returned, endless, done, last, leaving, bind, run, none, more}
+use Rattle.type_check.specs.TypedExpr.{TypedExpr, TypedStmts, TypedExprs, integer, truth, variable, negative, denied, binary, lazy, assign, update, call, block, branch, choice, repeat, panics, returned, endless, until_break, break_off, go_on, done, last, leaving, bind, run, none, more}
 use Rattle.type_check.specs.Leaves.{leaves}
 use Rattle.type_check.specs.TypedExprView.{ty_of}
 use Rattle.type_check.specs.FirstBad.{bad_among, bad_in, bad_in_stmts, bad_in_exprs}
 use Rattle.type_check.specs.Answers.{or_else}
-use Rattle.type_check.specs.WellTyped.{Surroundings, IsWellTyped, StatementsFit, ArgumentsFit}
-use Rattle.mir_build.specs.Lowering.{is_place, Around, accepted, whole, binds, looping, Into, of_integer, of_truth, of_variable, of_negative, of_denied, of_binary, of_lazy, of_assign, of_update, of_call, of_block, of_branch}
-use Rattle.mir_build.specs.Lowering.{of_choice, of_leaving_choice, of_repeat, of_panics, of_returned, of_endless, Rest, of_done, of_last, of_leaving, of_bind, of_run, Args, of_none, of_more, PlaceOf, of_name, of_temporary, IntoBody, of_outermost, of_other, named, named_place, named_rest, named_args, named_body}
+use Rattle.type_check.specs.WellTyped.{Surroundings, within_loop, IsWellTyped, StatementsFit, ArgumentsFit}
+use Rattle.mir_build.specs.Lowering.{is_place, Around, accepted, whole, binds, looping, innermost, Into, of_integer, of_truth, of_variable, of_negative, of_denied, of_binary, of_lazy, of_assign, of_update, of_call, of_block, of_branch}
+use Rattle.mir_build.specs.Lowering.{of_choice, of_leaving_choice, of_repeat, of_panics, of_returned, of_endless, of_until_break, of_break_off, of_go_on, Rest, of_done, of_last, of_leaving, of_bind, of_run, Args, of_none, of_more, PlaceOf, of_name, of_temporary, IntoBody, of_outermost, of_other, named, named_place, named_rest, named_args, named_body}
 use Rattle.mir_build.specs.Text.{Line, Makes}
-use Rattle.mir_build.specs.Numbered.{place_of, temporary_text, choice_labels, choice_text, formula_of, into, rest, args, body_text, labels, labels_in, locals, temporaries, label, variable_place, between}
+use Rattle.mir_build.specs.Numbered.{no_loop, loop_at, place_of, temporary_text, choice_labels, choice_text, formula_of, into, rest, args, body_text, labels, labels_in, locals, temporaries, label, variable_place, between}
 use Rattle.mir_build.proofs.Accepted.{first_none, second_none, all_accepted}
 use Rattle.mir_build.proofs.Fills.{numbers_of}
 use Rattle.mir_build.proofs.Following.{From, then_two, then_three}
@@ -38,6 +39,19 @@ range_split n (suc a) b =
     let p : suc a + b ≡ suc (a + b) = omega arith in
     let q : n + suc a ≡ n + 1 + a = omega arith in
     rw (p, q) (ap (λ xs. n ∷ xs) (range_split (n + 1) a b))
+
+-- a loop is around where a jump needs one
+abbrev pub HasLoop : Surroundings → Around → Type 0
+HasLoop σ c = σ.in_loop ≡ true → 1 ≤ length c.loops
+
+pub outside_loops : false ≡ true → ⊥
+outside_loops e = true≢false (sym e)
+
+entered : (c : Around) (head after : Label) → 1 ≤ length (looping c head after).loops
+entered c head after = omega (arith, length-append c.loops (record { head = head; after = after; depth = length c.scope } ∷ []))
+
+innermost_is : (c : Around) → 1 ≤ length c.loops → innermost c ≡ Some (loop_at c.loops)
+innermost_is c h = slice_get-get_or c.loops (length c.loops - 1) no_loop (omega (arith, h))
 
 -- the locals of a loop's own
 pub own_locals : (t a b : ℕ) (xs ys : List ℕ) → xs ≡ range_with_len (t + 1) a → ys ≡ range_with_len (t + 1 + a + 1) b → t ∷ (xs ++ (t + 1 + a) ∷ ys) ≡ between t (t + 1 + a + 1 + b)
@@ -69,20 +83,28 @@ target σ Γ (variable ty s v) c l t h w p = (of_name _ (in_scope Γ c.scope v t
 target σ Γ e c l t h w p = (of_temporary refl p.0, p.1)
 
 -- a loop, by its condition and its body
-looped : (ty : Ty) (s : Span) (is : List Assertion) (e b : TypedExpr) (c : Around) (l t d : ℕ) → is ≡ map accepted (map formula_of is) → Lowered (looping c (label l)) e t (l + 3) (into e (looping c (label l)) (l + 3) (t + 1) t)
-    → Lowered (looping c (label l)) b (t + 1 + locals e) (l + 3 + labels e) (into b (looping c (label l)) (l + 3 + labels e) (t + 1 + locals e + 1) (t + 1 + locals e))
+looped : (ty : Ty) (s : Span) (is : List Assertion) (e b : TypedExpr) (c : Around) (l t d : ℕ) → is ≡ map accepted (map formula_of is) → Lowered (looping c (label l) (label (l + 2))) e t (l + 3) (into e (looping c (label l) (label (l + 2))) (l + 3) (t + 1) t)
+    → Lowered (looping c (label l) (label (l + 2))) b (t + 1 + locals e) (l + 3 + labels e) (into b (looping c (label l) (label (l + 2))) (l + 3 + labels e) (t + 1 + locals e + 1) (t + 1 + locals e))
     → Lowered c (repeat ty s is e b) d l (into (repeat ty s is e b) c l t d)
 looped ty s is e b c l t d g p q =
     let row : Lowered c (repeat ty s is e b) d l _ = (of_repeat (label l) (label (l + 1)) (label (l + 2)) (map formula_of is) g p.0 q.0, then_three l (named p.0 ++ named q.0) (labels_then p.0 (l + 3) (named q.0) p.1 q.1)) in
-    let own = own_locals t (locals e) (locals b) _ _ (numbers_of e (looping c (label l)) (l + 3) (t + 1) t) (numbers_of b (looping c (label l)) (l + 3 + labels e) (t + 1 + locals e + 1) (t + 1 + locals e)) in
+    let own = own_locals t (locals e) (locals b) _ _ (numbers_of e (looping c (label l) (label (l + 2))) (l + 3) (t + 1) t) (numbers_of b (looping c (label l) (label (l + 2))) (l + 3 + labels e) (t + 1 + locals e + 1) (t + 1 + locals e)) in
     rw own at row
 
 -- a loop that is not left, by its body
-circled : (ty : Ty) (s : Span) (is : List Assertion) (b : TypedExpr) (c : Around) (l t d : ℕ) → is ≡ map accepted (map formula_of is) → Lowered (looping c (label l)) b t (l + 1) (into b (looping c (label l)) (l + 1) (t + 1) t)
+circled : (ty : Ty) (s : Span) (is : List Assertion) (b : TypedExpr) (c : Around) (l t d : ℕ) → is ≡ map accepted (map formula_of is) → Lowered (looping c (label l) (label l)) b t (l + 1) (into b (looping c (label l) (label l)) (l + 1) (t + 1) t)
     → Lowered c (endless ty s is b) d l (into (endless ty s is b) c l t d)
 circled ty s is b c l t d g p =
     let row : Lowered c (endless ty s is b) d l _ = (of_endless (label l) (map formula_of is) g p.0, (refl, p.1)) in
-    let own = own_local t (locals b) _ (numbers_of b (looping c (label l)) (l + 1) (t + 1) t) in
+    let own = own_local t (locals b) _ (numbers_of b (looping c (label l) (label l)) (l + 1) (t + 1) t) in
+    rw own at row
+
+-- a loop that a `break` leaves, by its body
+spun : (ty : Ty) (s : Span) (is : List Assertion) (b : TypedExpr) (c : Around) (l t d : ℕ) → is ≡ map accepted (map formula_of is)
+    → Lowered (looping c (label l) (label (l + 1))) b t (l + 2) (into b (looping c (label l) (label (l + 1))) (l + 2) (t + 1) t) → Lowered c (until_break ty s is b) d l (into (until_break ty s is b) c l t d)
+spun ty s is b c l t d g p =
+    let row : Lowered c (until_break ty s is b) d l _ = (of_until_break (label l) (label (l + 1)) (map formula_of is) g p.0, then_two l (named p.0) p.1) in
+    let own = own_local t (locals b) _ (numbers_of b (looping c (label l) (label (l + 1))) (l + 2) (t + 1) t) in
     rw own at row
 
 -- `if` with `else`, by its condition and its sides
@@ -98,101 +120,106 @@ chosen false ty s e a b c l m t d xs ys zs n k p q r =
     (of_choice (label m) (label (m + 1)) (label (m + 2)) n p.0 q.0 r.0, labels_then p.0 l (m ∷ (m + 1) ∷ (m + 2) ∷ ns) p.1 (subst (λ i. From i (m ∷ (m + 1) ∷ (m + 2) ∷ ns)) k behind))
 
 mutual
-  pub lowers : (σ : Surroundings) (Γ : List Ty) (e : TypedExpr) (c : Around) (l t d : ℕ) → IsFor Γ c.scope → IsWellTyped σ Γ e → bad_in e ≡ None → Lowered c e d l (into e c l t d)
-  lowers σ Γ (integer ty s z k) c l t d h w g = (of_integer, tt)
-  lowers σ Γ (truth ty s b) c l t d h w g = (of_truth, tt)
-  lowers σ Γ (variable ty s v) c l t d h w g = (of_variable _ (in_scope Γ c.scope v ty h w), tt)
-  lowers σ Γ (negative ty s e) c l t d h w g =
-      let p = lowers σ Γ e c l (t + 1) t h w.4 g in
+  pub lowers : (σ : Surroundings) (Γ : List Ty) (e : TypedExpr) (c : Around) (l t d : ℕ) → IsFor Γ c.scope → HasLoop σ c → IsWellTyped σ Γ e → bad_in e ≡ None → Lowered c e d l (into e c l t d)
+  lowers σ Γ (integer ty s z k) c l t d h o w g = (of_integer, tt)
+  lowers σ Γ (truth ty s b) c l t d h o w g = (of_truth, tt)
+  lowers σ Γ (variable ty s v) c l t d h o w g = (of_variable _ (in_scope Γ c.scope v ty h w), tt)
+  lowers σ Γ (negative ty s e) c l t d h o w g =
+      let p = lowers σ Γ e c l (t + 1) t h o w.4 g in
       (of_negative p.0, p.1)
-  lowers σ Γ (denied ty s e) c l t d h w g =
-      let p = lowers σ Γ e c l (t + 1) t h w.2 g in
+  lowers σ Γ (denied ty s e) c l t d h o w g =
+      let p = lowers σ Γ e c l (t + 1) t h o w.2 g in
       (of_denied p.0, p.1)
-  lowers σ Γ (binary ty s op a b) c l t d h w g =
+  lowers σ Γ (binary ty s op a b) c l t d h o w g =
       let u = t + 1 + locals a in
-      let p = lowers σ Γ a c l (t + 1) t h w.2 (first_none (bad_in a) (bad_in b) g) in
-      let q = lowers σ Γ b c (l + labels a) (u + 1) u h w.3 (second_none (bad_in a) (bad_in b) g) in
+      let p = lowers σ Γ a c l (t + 1) t h o w.2 (first_none (bad_in a) (bad_in b) g) in
+      let q = lowers σ Γ b c (l + labels a) (u + 1) u h o w.3 (second_none (bad_in a) (bad_in b) g) in
       (of_binary p.0 q.0, labels_then p.0 l (named q.0) p.1 q.1)
-  lowers σ Γ (lazy ty s op a b) c l t d h w g =
+  lowers σ Γ (lazy ty s op a b) c l t d h o w g =
       let m = l + labels a in
-      let p = lowers σ Γ a c l (t + 1) t h w.3 (first_none (bad_in a) (bad_in b) g) in
-      let q = lowers σ Γ b c (m + 3) (t + 1 + locals a) d h w.4 (second_none (bad_in a) (bad_in b) g) in
+      let p = lowers σ Γ a c l (t + 1) t h o w.3 (first_none (bad_in a) (bad_in b) g) in
+      let q = lowers σ Γ b c (m + 3) (t + 1 + locals a) d h o w.4 (second_none (bad_in a) (bad_in b) g) in
       (of_lazy (label m) (label (m + 1)) (label (m + 2)) p.0 q.0, labels_then p.0 l (m ∷ (m + 1) ∷ (m + 2) ∷ named q.0) p.1 (then_three m (named q.0) q.1))
-  lowers σ Γ (assign ty s a e) c l t d h w g =
+  lowers σ Γ (assign ty s a e) c l t d h o w g =
       let u = t + 1 + locals e in
-      let p = lowers σ Γ e c l (t + 1) t h w.3 (second_none (bad_in a) (bad_in e) g) in
-      let q = target σ Γ a c (l + labels e) u h w.2 (lowers σ Γ a c (l + labels e) (u + 1) u h w.2 (first_none (bad_in a) (bad_in e) g)) in
+      let p = lowers σ Γ e c l (t + 1) t h o w.3 (second_none (bad_in a) (bad_in e) g) in
+      let q = target σ Γ a c (l + labels e) u h w.2 (lowers σ Γ a c (l + labels e) (u + 1) u h o w.2 (first_none (bad_in a) (bad_in e) g)) in
       (of_assign p.0 q.0, labels_then p.0 l (named_place q.0) p.1 q.1)
-  lowers σ Γ (update ty s op a e) c l t d h w g =
+  lowers σ Γ (update ty s op a e) c l t d h o w g =
       let u = t + 1 + locals e in
-      let p = lowers σ Γ e c l (t + 1) t h w.4 (second_none (bad_in a) (bad_in e) g) in
-      let q = target σ Γ a c (l + labels e) u h w.3 (lowers σ Γ a c (l + labels e) (u + 1) u h w.3 (first_none (bad_in a) (bad_in e) g)) in
+      let p = lowers σ Γ e c l (t + 1) t h o w.4 (second_none (bad_in a) (bad_in e) g) in
+      let q = target σ Γ a c (l + labels e) u h w.3 (lowers σ Γ a c (l + labels e) (u + 1) u h o w.3 (first_none (bad_in a) (bad_in e) g)) in
       (of_update _ p.0 q.0, labels_then p.0 l (named_place q.0) p.1 q.1)
-  lowers σ Γ (call ty s f es) c l t d h w g =
+  lowers σ Γ (call ty s f es) c l t d h o w g =
       let m = l + labels_in es in
-      let p = arguments σ Γ es c l t _ h w.3 g in
+      let p = arguments σ Γ es c l t _ h o w.3 g in
       (of_call (label m) p.0, labels_then_args p.0 l (m ∷ []) p.1 (refl, tt))
-  lowers σ Γ (block ty s ss) c l t d h w g =
-      let p = rests σ Γ ty ss false s c l t d h w g in
+  lowers σ Γ (block ty s ss) c l t d h o w g =
+      let p = rests σ Γ ty ss false s c l t d h o w g in
       (of_block p.0, p.1)
-  lowers σ Γ (branch ty s e a) c l t d h w g =
+  lowers σ Γ (branch ty s e a) c l t d h o w g =
       let m = l + labels e in
-      let p = lowers σ Γ e c l (t + 1) t h w.3 (first_none (bad_in e) (bad_in a) g) in
-      let q = lowers σ Γ a c (m + 3) (t + 1 + locals e) d h w.4 (second_none (bad_in e) (bad_in a) g) in
+      let p = lowers σ Γ e c l (t + 1) t h o w.3 (first_none (bad_in e) (bad_in a) g) in
+      let q = lowers σ Γ a c (m + 3) (t + 1 + locals e) d h o w.4 (second_none (bad_in e) (bad_in a) g) in
       (of_branch (label m) (label (m + 1)) (label (m + 2)) p.0 q.0, labels_then p.0 l (m ∷ (m + 1) ∷ (m + 2) ∷ named q.0) p.1 (then_three m (named q.0) q.1))
-  lowers σ Γ (choice ty s e a b) c l t d h w g =
+  lowers σ Γ (choice ty s e a b) c l t d h o w g =
       let m = l + labels e in
       let u = t + 1 + locals e in
-      let p = lowers σ Γ e c l (t + 1) t h w.3 (first_none (bad_in e) (or_else (bad_in a) (bad_in b)) g) in
+      let p = lowers σ Γ e c l (t + 1) t h o w.3 (first_none (bad_in e) (or_else (bad_in a) (bad_in b)) g) in
       let both = leaves a && leaves b in
       let n = m + choice_labels both in
-      let q = lowers σ Γ a c n u d h w.4 (first_none (bad_in a) (bad_in b) (second_none (bad_in e) (or_else (bad_in a) (bad_in b)) g)) in
-      let r = lowers σ Γ b c (n + labels a) (u + locals a) d h w.5 (second_none (bad_in a) (bad_in b) (second_none (bad_in e) (or_else (bad_in a) (bad_in b)) g)) in
+      let q = lowers σ Γ a c n u d h o w.4 (first_none (bad_in a) (bad_in b) (second_none (bad_in e) (or_else (bad_in a) (bad_in b)) g)) in
+      let r = lowers σ Γ b c (n + labels a) (u + locals a) d h o w.5 (second_none (bad_in a) (bad_in b) (second_none (bad_in e) (or_else (bad_in a) (bad_in b)) g)) in
       chosen both ty s e a b c l m t d _ _ _ refl refl p q r
-  lowers σ Γ (repeat ty s is e b) c l t d h w g =
-      let inside = looping c (label l) in
+  lowers σ Γ (repeat ty s is e b) c l t d h o w g =
+      let inside = looping c (label l) (label (l + 2)) in
       let u = t + 1 + locals e in
-      let p = lowers σ Γ e inside (l + 3) (t + 1) t h w.4 (first_none (bad_in e) (bad_in b) (second_none (bad_among is) (or_else (bad_in e) (bad_in b)) g)) in
-      let q = lowers σ Γ b inside (l + 3 + labels e) (u + 1) u h w.5 (second_none (bad_in e) (bad_in b) (second_none (bad_among is) (or_else (bad_in e) (bad_in b)) g)) in
+      let p = lowers (within_loop false σ) Γ e inside (l + 3) (t + 1) t h (λ e. absurd (outside_loops e)) w.4 (first_none (bad_in e) (bad_in b) (second_none (bad_among is) (or_else (bad_in e) (bad_in b)) g)) in
+      let q = lowers (within_loop true σ) Γ b inside (l + 3 + labels e) (u + 1) u h (λ e. entered c (label l) (label (l + 2))) w.5 (second_none (bad_in e) (bad_in b) (second_none (bad_among is) (or_else (bad_in e) (bad_in b)) g)) in
       looped ty s is e b c l t d (all_accepted is (first_none (bad_among is) (or_else (bad_in e) (bad_in b)) g)) p q
-  lowers σ Γ (panics ty s k) c l t d h w g = (of_panics, tt)
-  lowers σ Γ (returned ty s e) c l t d h w g =
-      let p = lowers σ Γ e c l t 0 h w.2 g in
+  lowers σ Γ (panics ty s k) c l t d h o w g = (of_panics, tt)
+  lowers σ Γ (returned ty s e) c l t d h o w g =
+      let p = lowers σ Γ e c l t 0 h o w.2 g in
       (of_returned p.0, p.1)
-  lowers σ Γ (endless ty s is b) c l t d h w g =
-      let p = lowers σ Γ b (looping c (label l)) (l + 1) (t + 1) t h w.3 (second_none (bad_among is) (bad_in b) g) in
+  lowers σ Γ (endless ty s is b) c l t d h o w g =
+      let p = lowers (within_loop true σ) Γ b (looping c (label l) (label l)) (l + 1) (t + 1) t h (λ e. entered c (label l) (label l)) w.4 (second_none (bad_among is) (bad_in b) g) in
       circled ty s is b c l t d (all_accepted is (first_none (bad_among is) (bad_in b) g)) p
+  lowers σ Γ (until_break ty s is b) c l t d h o w g =
+      let p = lowers (within_loop true σ) Γ b (looping c (label l) (label (l + 1))) (l + 2) (t + 1) t h (λ e. entered c (label l) (label (l + 1))) w.4 (second_none (bad_among is) (bad_in b) g) in
+      spun ty s is b c l t d (all_accepted is (first_none (bad_among is) (bad_in b) g)) p
+  lowers σ Γ (break_off ty s) c l t d h o w g = (of_break_off (loop_at c.loops) (innermost_is c (o w.1)), tt)
+  lowers σ Γ (go_on ty s) c l t d h o w g = (of_go_on (loop_at c.loops) (innermost_is c (o w.1)), tt)
 
-  pub rests : (σ : Surroundings) (Γ : List Ty) (ty : Ty) (ss : TypedStmts) (outer : Bool) (s : Span) (c : Around) (l t d : ℕ) → IsFor Γ c.scope → StatementsFit σ Γ ty ss → bad_in_stmts ss ≡ None
+  pub rests : (σ : Surroundings) (Γ : List Ty) (ty : Ty) (ss : TypedStmts) (outer : Bool) (s : Span) (c : Around) (l t d : ℕ) → IsFor Γ c.scope → HasLoop σ c → StatementsFit σ Γ ty ss → bad_in_stmts ss ≡ None
       → RestLowered c outer s ss d l (rest ss outer s c l t d)
-  rests σ Γ ty done outer s c l t d h w g = (of_done, tt)
-  rests σ Γ ty (last e) outer s c l t d h w g =
-      let p = lowers σ Γ e c l t d h w.1 g in
+  rests σ Γ ty done outer s c l t d h o w g = (of_done, tt)
+  rests σ Γ ty (last e) outer s c l t d h o w g =
+      let p = lowers σ Γ e c l t d h o w.1 g in
       (of_last p.0, p.1)
-  rests σ Γ ty (leaving e) outer s c l t d h w g =
-      let p = lowers σ Γ e c l (t + 1) t h (leaving_value σ Γ ty e w) g in
+  rests σ Γ ty (leaving e) outer s c l t d h o w g =
+      let p = lowers σ Γ e c l (t + 1) t h o (leaving_value σ Γ ty e w) g in
       (of_leaving p.0, p.1)
-  rests σ Γ ty (bind e ss) outer s c l t d h w g =
-      let p = lowers σ Γ e c l (t + 1) t h w.0 (first_none (bad_in e) (bad_in_stmts ss) g) in
-      let q = rests σ _ ty ss outer s (binds c t) (l + labels e) (t + 1 + locals e) d (one_more Γ c.scope (ty_of e) (whole t) h) w.1 (second_none (bad_in e) (bad_in_stmts ss) g) in
+  rests σ Γ ty (bind e ss) outer s c l t d h o w g =
+      let p = lowers σ Γ e c l (t + 1) t h o w.0 (first_none (bad_in e) (bad_in_stmts ss) g) in
+      let q = rests σ _ ty ss outer s (binds c t) (l + labels e) (t + 1 + locals e) d (one_more Γ c.scope (ty_of e) (whole t) h) o w.1 (second_none (bad_in e) (bad_in_stmts ss) g) in
       (of_bind p.0 q.0, labels_then p.0 l (named_rest q.0) p.1 q.1)
-  rests σ Γ ty (run e ss) outer s c l t d h w g =
-      let p = lowers σ Γ e c l (t + 1) t h w.0 (first_none (bad_in e) (bad_in_stmts ss) g) in
-      let q = rests σ Γ ty ss outer s c (l + labels e) (t + 1 + locals e) d h w.1 (second_none (bad_in e) (bad_in_stmts ss) g) in
+  rests σ Γ ty (run e ss) outer s c l t d h o w g =
+      let p = lowers σ Γ e c l (t + 1) t h o w.0 (first_none (bad_in e) (bad_in_stmts ss) g) in
+      let q = rests σ Γ ty ss outer s c (l + labels e) (t + 1 + locals e) d h o w.1 (second_none (bad_in e) (bad_in_stmts ss) g) in
       (of_run p.0 q.0, labels_then p.0 l (named_rest q.0) p.1 q.1)
 
-  arguments : (σ : Surroundings) (Γ : List Ty) (es : TypedExprs) (c : Around) (l t : ℕ) (ts : List Ty) → IsFor Γ c.scope → ArgumentsFit σ Γ es ts → bad_in_exprs es ≡ None → ArgsLowered c es (temporaries es t) l (args es c l t)
-  arguments σ Γ none c l t ts h w g = (of_none, tt)
-  arguments σ Γ (more e es) c l t [] h w g = absurd w
-  arguments σ Γ (more e es) c l t (ty ∷ ts) h w g =
-      let p = lowers σ Γ e c l (t + 1) t h w.1 (first_none (bad_in e) (bad_in_exprs es) g) in
-      let q = arguments σ Γ es c (l + labels e) (t + 1 + locals e) ts h w.2 (second_none (bad_in e) (bad_in_exprs es) g) in
+  arguments : (σ : Surroundings) (Γ : List Ty) (es : TypedExprs) (c : Around) (l t : ℕ) (ts : List Ty) → IsFor Γ c.scope → HasLoop σ c → ArgumentsFit σ Γ es ts → bad_in_exprs es ≡ None → ArgsLowered c es (temporaries es t) l (args es c l t)
+  arguments σ Γ none c l t ts h o w g = (of_none, tt)
+  arguments σ Γ (more e es) c l t [] h o w g = absurd w
+  arguments σ Γ (more e es) c l t (ty ∷ ts) h o w g =
+      let p = lowers σ Γ e c l (t + 1) t h o w.1 (first_none (bad_in e) (bad_in_exprs es) g) in
+      let q = arguments σ Γ es c (l + labels e) (t + 1 + locals e) ts h o w.2 (second_none (bad_in e) (bad_in_exprs es) g) in
       (of_more p.0 q.0, labels_then p.0 l (named_args q.0) p.1 q.1)
 
-pub lowers_body : (σ : Surroundings) (Γ : List Ty) (e : TypedExpr) (c : Around) (l t : ℕ) → IsFor Γ c.scope → IsWellTyped σ Γ e → bad_in e ≡ None → (p : IntoBody c e (body_text e c l t)) × From l (named_body p)
-lowers_body σ Γ (block ty s ss) c l t h w g =
-    let p = rests σ Γ ty ss true s c l t 0 h w g in
+pub lowers_body : (σ : Surroundings) (Γ : List Ty) (e : TypedExpr) (c : Around) (l t : ℕ) → IsFor Γ c.scope → HasLoop σ c → IsWellTyped σ Γ e → bad_in e ≡ None → (p : IntoBody c e (body_text e c l t)) × From l (named_body p)
+lowers_body σ Γ (block ty s ss) c l t h o w g =
+    let p = rests σ Γ ty ss true s c l t 0 h o w g in
     (of_outermost p.0, p.1)
-lowers_body σ Γ e c l t h w g =
-    let p = lowers σ Γ e c l t 0 h w g in
+lowers_body σ Γ e c l t h o w g =
+    let p = lowers σ Γ e c l t 0 h o w g in
     (of_other refl p.0, p.1)

@@ -1,16 +1,18 @@
 -- By the rows: how many labels a text's rows name, and how many blocks it begins.
-use Rattle.std.proofs.Common.{◌≡◌, refl, ap, ℕ, ◌+◌, Bool, List, [], ◌∷◌, ◌++◌, length, length-append, arith}
+use Rattle.std.proofs.Common.{◌≡◌, refl, ap, ℕ, ◌+◌, Bool, List, [], ◌∷◌, ◌++◌, drop, length, length-append, arith}
 use Rattle.text_core.specs.declared.span.Span.{Span}
 use Rattle.logic_term.specs.declared.kinds.Label.{Label}
 use Rattle.mir_ir.specs.declared.place.Place.{Place}
 use Rattle.source_kinds.specs.declared.kinds.LazyOp.{LazyOp}
 use Rattle.source_kinds.specs.declared.kinds.LazyOp.TheVariants.{And, Or}
 use Rattle.type_check.specs.TypedExpr.{TypedExpr, TypedStmts, TypedExprs}
-use Rattle.mir_build.specs.Text.{Line}
-use Rattle.mir_build.specs.Lowering.{Around, lazily, Into, of_integer, of_truth, of_variable, of_negative, of_denied, of_binary, of_lazy, of_assign, of_update, of_call, of_block}
-use Rattle.mir_build.specs.Lowering.{of_branch, of_choice, of_leaving_choice, of_repeat, of_panics, of_returned, of_endless, Rest, of_done, of_last, of_leaving, of_bind, of_run, Args, of_none, of_more, PlaceOf, of_name, of_temporary, IntoBody, of_outermost, of_other, named, named_place, named_rest, named_args}
+use Rattle.mir_ir.specs.declared.terminator.TerminatorKind.TheVariants.{Goto}
+use Rattle.mir_build.specs.Text.{Line, Leaves}
+use Rattle.mir_build.specs.Lowering.{Around, ends, lazily, Into, of_integer, of_truth, of_variable, of_negative, of_denied, of_binary, of_lazy, of_assign, of_update, of_call, of_block}
+use Rattle.mir_build.specs.Lowering.{of_branch, of_choice, of_leaving_choice, of_repeat, of_panics, of_returned, of_endless, of_until_break, of_break_off, of_go_on, Rest, of_done, of_last, of_leaving, of_bind, of_run, Args, of_none, of_more, PlaceOf, of_name, of_temporary, IntoBody, of_outermost, of_other, named, named_place, named_rest, named_args}
 use Rattle.mir_build.specs.Numbered.{choice_labels, labels, labels_of, labels_in}
 use Rattle.mir_build.proofs.Following.{From, from_right, from_both}
+use Rattle.mir_build.proofs.Jumps.{deaths, no_deaths_turn}
 use Rattle.mir_build.proofs.Numbers.{turns, turns-append, no_turns}
 
 -- ---- counts
@@ -81,6 +83,11 @@ mutual
   counts c e d xs (of_endless head fs g p) =
       let x = counts _ _ _ _ p in
       (omega (arith, x.0), simp turns-append (omega (arith, x.1)))
+  counts c e d xs (of_until_break head after fs g p) =
+      let x = counts _ _ _ _ p in
+      (omega (arith, x.0), simp turns-append (omega (arith, x.1)))
+  counts c e d xs (of_break_off {s = s} l q) = (refl, omega (arith, turns-append (deaths s (drop l.depth c.scope)) (Leaves (ends s (Goto l.after)) ∷ []), no_deaths_turn s (drop l.depth c.scope)))
+  counts c e d xs (of_go_on {s = s} l q) = (refl, omega (arith, turns-append (deaths s (drop l.depth c.scope)) (Leaves (ends s (Goto l.head)) ∷ []), no_deaths_turn s (drop l.depth c.scope)))
 
   place_counts : (c : Around) (e : TypedExpr) (x : Place) (xs : List Line) (p : PlaceOf c e x xs) → Counts (labels e) (named_place p) xs
   place_counts c e x xs (of_name y q) = (refl, refl)

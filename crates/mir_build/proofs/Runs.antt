@@ -1,7 +1,6 @@
 -- A text that is written in parts.
 use Rattle.std.proofs.Common.{◌≡◌, ◌<◌, refl, ap, sym, ◌∙◌, get_or, add-one, drop-cons, ℕ, ◌+◌, ◌-◌, List, [], ◌∷◌, ◌++◌, drop, take, length, length-append, arith}
 use Rattle.std.proofs.Math.Seq.{take-append_seam}
-use Rattle.logic_term.specs.declared.kinds.Label.{Label}
 use Rattle.type_check.specs.TypedExpr.{TypedExpr, more}
 use Rattle.type_check.specs.TypedExprView.{exprs_of}
 use Rattle.type_check.specs.TypedExprFalls.{each_smaller}
@@ -27,7 +26,7 @@ pub args_at : (es : List TypedExpr) (i : ℕ) (e : TypedExpr) → e ≡ get_or e
 args_at es i e q h = args_at_suc es i e h ∙ ap (λ x. more x (exprs_of (drop (i + 1) es))) (sym q)
 
 -- outside a loop that was entered here
-pub take_front : (xs : List Label) (x : Label) → take (length (xs ++ x ∷ []) - 1) (xs ++ x ∷ []) ≡ xs
+pub take_front : {A : Type 0} (xs : List A) (x : A) → take (length (xs ++ x ∷ []) - 1) (xs ++ x ∷ []) ≡ xs
 take_front xs x =
     let n : length (xs ++ x ∷ []) - 1 ≡ length xs = omega (arith, length-append xs (x ∷ [])) in
     rw n (take-append_seam xs (x ∷ []))

@@ -1,18 +1,20 @@
 -- A property of texts that each shape keeps holds of every text that is lowered.
-use Rattle.std.proofs.Common.{ℕ, Bool, true, false, List, [], ◌∷◌, ◌++◌}
+use Rattle.std.proofs.Common.{◌≡◌, sym, subst, ℕ, Bool, true, false, List, [], ◌∷◌, ◌++◌, drop, Some}
 use Rattle.logic_term.specs.declared.kinds.Label.{Label}
 use Rattle.logic_term.specs.Ty.{Ty}
 use Rattle.text_core.specs.declared.refusal.Cause.{Cause}
 use Rattle.text_core.specs.declared.span.Span.{Span}
 use Rattle.mir_ir.specs.declared.place.Place.{Place}
 use Rattle.mir_ir.specs.declared.statement.Statement.{Statement}
-use Rattle.mir_ir.specs.declared.terminator.TerminatorKind.TheVariants.{Panic}
+use Rattle.mir_ir.specs.declared.terminator.TerminatorKind.TheVariants.{Goto, Panic}
 use Rattle.source_kinds.specs.declared.kinds.LazyOp.{LazyOp}
 use Rattle.source_kinds.specs.declared.kinds.LazyOp.TheVariants as lazy_op
 use Rattle.type_check.specs.TypedExpr.{TypedExpr, TypedStmts, TypedExprs}
+use Rattle.mir_build.specs.declared.around.Loop.{Loop}
 use Rattle.mir_build.specs.Text.{Line, Puts, Makes, Leaves}
-use Rattle.mir_build.specs.Lowering.{Around, Formula, binds, looping, ends, dies_in, test, fork, calls, turning, circling, returning, lazily, Into, of_integer, of_truth, of_variable, of_negative, of_denied, of_binary, of_lazy, of_assign}
-use Rattle.mir_build.specs.Lowering.{of_update, of_call, of_block, of_branch, of_choice, of_leaving_choice, of_repeat, of_panics, of_returned, of_endless, Rest, of_done, of_last, of_leaving, of_bind, of_run, Args, of_none, of_more, PlaceOf, of_name, of_temporary, IntoBody, of_outermost, of_other}
+use Rattle.mir_build.specs.Lowering.{Around, Formula, binds, looping, innermost, ends, dies_in, test, fork, calls, turning, spinning, circling, returning, lazily, Into, of_integer, of_truth, of_variable, of_negative, of_denied, of_binary, of_lazy, of_assign}
+use Rattle.mir_build.specs.Lowering.{of_update, of_call, of_block, of_branch, of_choice, of_leaving_choice, of_repeat, of_panics, of_returned, of_endless, of_until_break, of_break_off, of_go_on, Rest, of_done, of_last, of_leaving, of_bind, of_run, Args, of_none, of_more, PlaceOf, of_name, of_temporary, IntoBody, of_outermost, of_other}
+use Rattle.mir_build.proofs.Jumps.{deaths, first_dies_last}
 
 -- the property holds of what a shape makes where it holds of its parts
 pub record Keeps (P : Around → List Line → Type 0) : Type 0 where
@@ -25,9 +27,13 @@ pub record Keeps (P : Around → List Line → Type 0) : Type 0 where
   pub forked : (c : Around) (s : Span) (t : ℕ) (yes' no' : Label) (xs ys : List Line) → P c xs → P c ys → P c (fork c s t yes' no' xs ys)
   pub panicked : (c : Around) (s : Span) (k : Cause) → P c (Leaves (ends s (Panic k)) ∷ [])
   pub returned : (c : Around) (s : Span) (xs : List Line) → P c xs → P c (returning s xs)
-  pub circled : (c : Around) (s : Span) (head : Label) (fs : List Formula) (u : ℕ) (U : Ty) (ys : List Line) → P (looping c head) ys → P c (circling c s head fs u U ys)
+  pub circled : (c : Around) (s : Span) (head : Label) (fs : List Formula) (u : ℕ) (U : Ty) (ys : List Line) → P (looping c head head) ys → P c (circling c s head fs u U ys)
   pub turned : (c : Around) (s : Span) (head body after : Label) (fs : List Formula) (t : ℕ) (T : Ty) (xs : List Line) (u : ℕ) (U : Ty) (ys zs : List Line)
-      → P (looping c head) xs → P (looping c head) ys → P c zs → P c (turning c s head body after fs t T xs u U ys zs)
+      → P (looping c head after) xs → P (looping c head after) ys → P c zs → P c (turning c s head body after fs t T xs u U ys zs)
+  pub spun : (c : Around) (s : Span) (head after : Label) (fs : List Formula) (u : ℕ) (U : Ty) (ys zs : List Line) → P (looping c head after) ys → P c zs → P c (spinning c s head after fs u U ys zs)
+  -- edges of the innermost loop, to behind it and to its head
+  pub broken : (c : Around) (s : Span) (l : Loop) → innermost c ≡ Some l → P c (Leaves (ends s (Goto l.after)) ∷ [])
+  pub gone_on : (c : Around) (s : Span) (l : Loop) → innermost c ≡ Some l → P c (Leaves (ends s (Goto l.head)) ∷ [])
   -- a text with one variable more in scope
   pub bound : (c : Around) (t : ℕ) (xs : List Line) → P (binds c t) xs → P c xs
 
@@ -53,6 +59,10 @@ module _ (P : Around → List Line → Type 0) (keeps : Keeps P) where
   of_dying true c s x = keeps.nothing c
   of_dying false c s x = one c _
 
+  of_deaths : (c : Around) (s : Span) (ps : List Place) → P c (deaths s ps)
+  of_deaths c s [] = keeps.nothing c
+  of_deaths c s (p ∷ ps) = subst (P c) (sym (first_dies_last s p ps)) (keeps.join c (deaths s ps) _ (of_deaths c s ps) (one c _))
+
   mutual
     of_text : (c : Around) (e : TypedExpr) (d : ℕ) (xs : List Line) → Into c e d xs → P c xs
     of_text c e d xs of_integer = one c _
@@ -72,10 +82,13 @@ module _ (P : Around → List Line → Type 0) (keeps : Keeps P) where
     of_text c e d xs (of_leaving_choice {s = s} {t = t} yes' no' {xs = us} {ys = vs} {zs = ws} n p q r) =
         made_then c _ _ us _ (of_text c _ _ us p) (keeps.forked c s t yes' no' vs ws (of_text c _ _ vs q) (of_text c _ _ ws r))
     of_text c e d xs (of_repeat {s = s} {t = t} {u = u} head body after fs {xs = us} {ys = vs} g p q) =
-        keeps.turned c s head body after fs t _ us u _ vs _ (of_text (looping c head) _ _ us p) (of_text (looping c head) _ _ vs q) (one c _)
+        keeps.turned c s head body after fs t _ us u _ vs _ (of_text (looping c head after) _ _ us p) (of_text (looping c head after) _ _ vs q) (one c _)
     of_text c e d xs (of_panics {s = s} {k = k}) = keeps.panicked c s k
     of_text c e d xs (of_returned {s = s} {xs = us} p) = keeps.returned c s us (of_text c _ _ us p)
-    of_text c e d xs (of_endless {s = s} {u = u} head fs {ys = vs} g p) = keeps.circled c s head fs u _ vs (of_text (looping c head) _ _ vs p)
+    of_text c e d xs (of_endless {s = s} {u = u} head fs {ys = vs} g p) = keeps.circled c s head fs u _ vs (of_text (looping c head head) _ _ vs p)
+    of_text c e d xs (of_until_break {s = s} {u = u} head after fs {ys = vs} g p) = keeps.spun c s head after fs u _ vs _ (of_text (looping c head after) _ _ vs p) (one c _)
+    of_text c e d xs (of_break_off {s = s} l q) = keeps.join c (deaths s (drop l.depth c.scope)) _ (of_deaths c s (drop l.depth c.scope)) (keeps.broken c s l q)
+    of_text c e d xs (of_go_on {s = s} l q) = keeps.join c (deaths s (drop l.depth c.scope)) _ (of_deaths c s (drop l.depth c.scope)) (keeps.gone_on c s l q)
 
     of_place : (c : Around) (e : TypedExpr) (x : Place) (xs : List Line) → PlaceOf c e x xs → P c xs
     of_place c e x xs (of_name x' q) = keeps.nothing c

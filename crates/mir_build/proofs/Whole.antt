@@ -36,7 +36,7 @@ use Rattle.mir_build.proofs.Accepted.{first_none, second_none}
 use Rattle.mir_build.proofs.Numbers.{turns}
 use Rattle.mir_build.proofs.Following.{From, range_from, paired_from}
 use Rattle.mir_build.proofs.Order.{InOrder}
-use Rattle.mir_build.proofs.Rows.{lowers_body}
+use Rattle.mir_build.proofs.Rows.{lowers_body, outside_loops}
 use Rattle.mir_build.proofs.Fills.{body_fills}
 
 -- ---- the parts of what is written
@@ -152,7 +152,7 @@ lowered σ id owner f w g few =
     let text = text_of_body f in
     let parts = built_parts f in
     let order = (body_fills f.body (around_body f) 1 (1 + length f.signature.params)).order in
-    let row = lowers_body (surroundings_of σ f.signature) f.signature.params f.body (around_body f) 1 (1 + length f.signature.params) (is_for f) w.body g in
+    let row = lowers_body (surroundings_of σ f.signature) f.signature.params f.body (around_body f) 1 (1 + length f.signature.params) (is_for f) (λ e. absurd (outside_loops e)) w.body g in
     let all = locals_paired f text order in
     let ts : List Ty = f.signature.answer ∷ (f.signature.params ++ types text) in
     let same : (built f).locals ≡ ts = ap (λ (x : BodyText). x.locals) parts in
@@ -243,7 +243,7 @@ too_many p i f q h more w g =
       place = i;
       is_function = slice_get_read p.functions (length p.functions) i f refl h q;
       text = text_of_body f;
-      into = (lowers_body (surroundings_of σ f.signature) f.signature.params f.body (around_body f) 1 (1 + length f.signature.params) (is_for f) fits.body (body_good f (good_at p.functions i f g q h))).0;
+      into = (lowers_body (surroundings_of σ f.signature) f.signature.params f.body (around_body f) 1 (1 + length f.signature.params) (is_for f) (λ e. absurd (outside_loops e)) fits.body (body_good f (good_at p.functions i f g q h))).0;
       more = more_blocks f more;
     }
 

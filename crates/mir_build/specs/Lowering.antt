@@ -1,7 +1,7 @@
 -- Lowering: a row for each form of expression, with any labels and temporaries, which a body has in the order of its rows: 0, 1 and so
 -- on. The order of evaluation is that of the Rust Reference: operands from the left, the right side of an assignment before its place,
 -- `&&` and `||` lazily.
-use Rattle.std.specs.Prelude.{◌≡◌, ℕ, suc, ℤ, ◌+◌, ◌^◌, ◌<◌, ◌≤◌, ◌&&◌, Bool, true, false, List, [], ◌∷◌, ◌++◌, length, map, Option, Some, None, slice_get}
+use Rattle.std.specs.Prelude.{◌≡◌, ℕ, suc, ℤ, ◌+◌, ◌^◌, ◌<◌, ◌≤◌, ◌&&◌, Bool, true, false, ◌-◌, List, [], ◌∷◌, ◌++◌, length, map, drop, reverse, Option, Some, None, slice_get}
 use Rattle.std.specs.Option.{option_map}
 use Rattle.std.specs.List.{range_with_len}
 use Rattle.text_core.specs.declared.name.Name.{Name}
@@ -48,8 +48,9 @@ use Rattle.type_check.specs.declared.program.Signature.{Signature}
 use Rattle.type_check.specs.declared.program.TypedClause.{TypedClause}
 use Rattle.type_check.specs.declared.program.TypedFunction.{TypedFunction}
 use Rattle.type_check.specs.declared.program.TypedProgram.{TypedProgram}
+use Rattle.mir_build.specs.declared.around.Loop.{Loop}
 use Rattle.mir_build.specs.declared.lowered.Lowered.{Lowered}
-use Rattle.type_check.specs.TypedExpr.{TypedExpr, TypedStmts, TypedExprs, integer, variable, negative, denied, binary, lazy, assign, update, call, block, branch, choice, repeat, panics, returned, endless, done, last, leaving, bind, run, none, more}
+use Rattle.type_check.specs.TypedExpr.{TypedExpr, TypedStmts, TypedExprs, integer, variable, negative, denied, binary, lazy, assign, update, call, block, branch, choice, repeat, panics, returned, endless, until_break, break_off, go_on, done, last, leaving, bind, run, none, more}
 use Rattle.type_check.specs.Leaves.{leaves}
 use Rattle.type_check.specs.TypedExpr as typed
 use Rattle.type_check.specs.TypedExprView.{ty_of, span_of}
@@ -63,23 +64,32 @@ use Rattle.mir_ir.specs.declared.body.Bodies.{Bodies}
 abbrev pub whole : ℕ → Place
 whole x = record { local = x; path = [] }
 
--- the place of each variable in scope, and the heads of the loops around, both the outermost first
+-- the place of each variable in scope, and the loops around, both the outermost first. A loop has its head, the block behind it, and
+-- how many variables are in scope around it
 pub record Around : Type 0 where
   pub scope : List Place
-  pub loops : List Label
+  pub loops : List Loop
+
+-- the labels of the heads of loops
+abbrev pub heads : List Loop → List Label
+heads ls = map (λ (l : Loop). l.head) ls
 
 -- a binding is a local of its own
 abbrev pub binds : Around → ℕ → Around
 binds c x = record { scope = c.scope ++ whole x ∷ []; loops = c.loops }
 
-abbrev pub looping : Around → Label → Around
-looping c head = record { scope = c.scope; loops = c.loops ++ head ∷ [] }
+abbrev pub looping : Around → (head after : Label) → Around
+looping c head after = record { scope = c.scope; loops = c.loops ++ record { head = head; after = after; depth = length c.scope } ∷ [] }
 
 abbrev pub at : Around → Label → Title
-at c l = record { label = l; nest = c.loops; head = None }
+at c l = record { label = l; nest = heads c.loops; head = None }
 
 abbrev pub at_head : Around → Label → Head → Title
-at_head c l h = record { label = l; nest = c.loops; head = Some h }
+at_head c l h = record { label = l; nest = heads c.loops; head = Some h }
+
+-- the innermost loop
+abbrev pub innermost : Around → Option Loop
+innermost c = slice_get c.loops (length c.loops - 1)
 
 -- ---- formulas
 
@@ -152,6 +162,10 @@ abbrev pub dies_in : Bool → Span → ℕ → List Line
 dies_in true s x = []
 dies_in false s x = dies s x ∷ []
 
+-- the bindings in scope inside of a loop end, the innermost first
+abbrev pub die_from : Span → ℕ → List Place → List Line
+die_from s depth scope = reverse (map (λ (p : Place). dies s p.local) (drop depth scope))
+
 abbrev pub numbers : List (ℕ × Ty) → List ℕ
 numbers xs = map (λ x. x.0) xs
 
@@ -180,13 +194,19 @@ calls c s f d ts after = Turns (ends s (Call (whole d) (Function (fn_id.Body f))
 -- a loop: at its head what writes the condition t, then what writes the body's value u, from which it turns back; zs stands behind it
 abbrev pub turning : Around → Span → (head body after : Label) → List Formula → ℕ → Ty → List Line → ℕ → Ty → List Line → List Line → List Line
 turning c s head body after fs t T xs u U ys zs =
-    Turns (ends s (Goto head)) (at_head (looping c head) head (head_of c fs)) ∷ (made_by t T xs ++ Turns (ends s (If (moved t) body after)) (at (looping c head) body)
+    Turns (ends s (Goto head)) (at_head (looping c head after) head (head_of c fs)) ∷ (made_by t T xs ++ Turns (ends s (If (moved t) body after)) (at (looping c head after) body)
     ∷ (made_by u U ys ++ goes c s head after ∷ Owns head (t ∷ (numbers (made xs) ++ u ∷ numbers (made ys))) ∷ zs))
 
--- a loop that is not left: at its head what writes the body's value u, from which it turns back; no block stands behind it
+-- a loop that a `break` leaves: at its head what writes the body's value u, from which it turns back; zs stands behind it
+abbrev pub spinning : Around → Span → (head after : Label) → List Formula → ℕ → Ty → List Line → List Line → List Line
+spinning c s head after fs u U ys zs =
+    Turns (ends s (Goto head)) (at_head (looping c head after) head (head_of c fs)) ∷ (made_by u U ys ++ goes c s head after ∷ Owns head (u ∷ numbers (made ys)) ∷ zs)
+
+-- a loop that is not left: at its head what writes the body's value u, from which it turns back; no block stands behind it, and no
+-- `break` names the label behind it
 abbrev pub circling : Around → Span → (head : Label) → List Formula → ℕ → Ty → List Line → List Line
 circling c s head fs u U ys =
-    Turns (ends s (Goto head)) (at_head (looping c head) head (head_of c fs)) ∷ (made_by u U ys ++ Leaves (ends s (Goto head)) ∷ Owns head (u ∷ numbers (made ys)) ∷ [])
+    Turns (ends s (Goto head)) (at_head (looping c head head) head (head_of c fs)) ∷ (made_by u U ys ++ Leaves (ends s (Goto head)) ∷ Owns head (u ∷ numbers (made ys)) ∷ [])
 
 -- the run of the body ends behind what writes its answer
 abbrev pub returning : Span → List Line → List Line
@@ -229,13 +249,18 @@ mutual
     of_leaving_choice : {c : Around} {ty : Ty} {s : Span} {e a b : TypedExpr} {d t : ℕ} (yes' no' : Label) {xs ys zs : List Line} → leaves a && leaves b ≡ true → Into c e t xs → Into c a d ys → Into c b d zs
         → Into c (choice ty s e a b) d (made_by t (ty_of e) xs ++ fork c s t yes' no' ys zs)
     of_repeat : {c : Around} {ty : Ty} {s : Span} {is : List Assertion} {e b : TypedExpr} {d t u : ℕ} (head body after : Label) (fs : List Formula) {xs ys : List Line}
-        → is ≡ map accepted fs → Into (looping c head) e t xs → Into (looping c head) b u ys
+        → is ≡ map accepted fs → Into (looping c head after) e t xs → Into (looping c head after) b u ys
         → Into c (repeat ty s is e b) d (turning c s head body after fs t (ty_of e) xs u (ty_of b) ys (put_unit s d ∷ []))
     of_panics : {c : Around} {ty : Ty} {s : Span} {k : Cause} {d : ℕ} → Into c (panics ty s k) d (Leaves (ends s (Panic k)) ∷ [])
     -- the answer is in local 0
     of_returned : {c : Around} {ty : Ty} {s : Span} {e : TypedExpr} {d : ℕ} {xs : List Line} → Into c e 0 xs → Into c (returned ty s e) d (returning s xs)
     of_endless : {c : Around} {ty : Ty} {s : Span} {is : List Assertion} {b : TypedExpr} {d u : ℕ} (head : Label) (fs : List Formula) {ys : List Line}
-        → is ≡ map accepted fs → Into (looping c head) b u ys → Into c (endless ty s is b) d (circling c s head fs u (ty_of b) ys)
+        → is ≡ map accepted fs → Into (looping c head head) b u ys → Into c (endless ty s is b) d (circling c s head fs u (ty_of b) ys)
+    of_until_break : {c : Around} {ty : Ty} {s : Span} {is : List Assertion} {b : TypedExpr} {d u : ℕ} (head after : Label) (fs : List Formula) {ys : List Line}
+        → is ≡ map accepted fs → Into (looping c head after) b u ys → Into c (until_break ty s is b) d (spinning c s head after fs u (ty_of b) ys (put_unit s d ∷ []))
+    -- what is bound inside of the loop ends before the edge
+    of_break_off : {c : Around} {ty : Ty} {s : Span} {d : ℕ} (l : Loop) → innermost c ≡ Some l → Into c (break_off ty s) d (die_from s l.depth c.scope ++ Leaves (ends s (Goto l.after)) ∷ [])
+    of_go_on : {c : Around} {ty : Ty} {s : Span} {d : ℕ} (l : Loop) → innermost c ≡ Some l → Into c (go_on ty s) d (die_from s l.depth c.scope ++ Leaves (ends s (Goto l.head)) ∷ [])
 
   -- what an assignment writes, with the text before it: the place of a variable, or a temporary that holds the value, which is lost
   pub data PlaceOf : Around → TypedExpr → Place → List Line → Type 0 where
@@ -290,6 +315,9 @@ abbrev mutual
   named of_panics = []
   named (of_returned p) = named p
   named (of_endless head fs g p) = head.0 ∷ named p
+  named (of_until_break head after fs g p) = head.0 ∷ after.0 ∷ named p
+  named (of_break_off l p) = []
+  named (of_go_on l p) = []
 
   pub named_place : {c : Around} {e : TypedExpr} {x : Place} {xs : List Line} → PlaceOf c e x xs → List ℕ
   named_place (of_name x q) = []

@@ -1,6 +1,6 @@
 -- The text of the rows with the numbers that the code gives: labels from l on, locals from t on. Contracts of the code alone speak of it,
 -- where each variable is in scope.
-use Rattle.std.specs.Prelude.{ℕ, ◌+◌, ◌-◌, ◌&&◌, Bool, true, false, List, [], ◌∷◌, ◌++◌, map, get_or}
+use Rattle.std.specs.Prelude.{ℕ, ◌+◌, ◌-◌, ◌&&◌, Bool, true, false, List, [], ◌∷◌, ◌++◌, map, length, get_or}
 use Rattle.std.specs.List.{range_with_len}
 use Rattle.text_core.specs.declared.span.Span.{Span}
 use Rattle.logic_term.specs.declared.kinds.Label.{Label}
@@ -15,11 +15,12 @@ use Rattle.mir_ir.specs.declared.terminator.Callee.TheVariants.{Function}
 use Rattle.mir_ir.specs.declared.terminator.TerminatorKind.TheVariants.{Goto, If, Call, Return, Panic}
 use Rattle.type_check.specs.declared.assertion.Assertion.{Assertion}
 use Rattle.type_check.specs.declared.assertion.Assertion.TheVariants.{Good, Bad}
-use Rattle.type_check.specs.TypedExpr.{TypedExpr, TypedStmts, TypedExprs, integer, truth, variable, negative, denied, binary, lazy, assign, update, call, block, branch, choice, repeat, panics, returned, endless, done, last, leaving, bind, run, none, more}
+use Rattle.type_check.specs.TypedExpr.{TypedExpr, TypedStmts, TypedExprs, integer, truth, variable, negative, denied, binary, lazy, assign, update, call, block, branch, choice, repeat, panics, returned, endless, until_break, break_off, go_on, done, last, leaving, bind, run, none, more}
 use Rattle.type_check.specs.Leaves.{leaves}
 use Rattle.type_check.specs.TypedExprView.{ty_of}
+use Rattle.mir_build.specs.declared.around.Loop.{Loop}
 use Rattle.mir_build.specs.Text.{Line, Makes, Turns, Leaves, Owns}
-use Rattle.mir_build.specs.Lowering.{Around, Formula, binds, looping, at, at_head, head_of, whole, puts, puts_at, constant, put_unit, moved, ends, dies_in, lazily, test, fork, is_place}
+use Rattle.mir_build.specs.Lowering.{Around, Formula, binds, looping, at, at_head, head_of, whole, puts, puts_at, constant, put_unit, moved, ends, dies_in, die_from, lazily, test, fork, is_place}
 
 abbrev pub label : ℕ → Label
 label l = record { 0 = l }
@@ -35,6 +36,19 @@ between m n = range_with_len m (n - m)
 abbrev pub formula_of : Assertion → Formula
 formula_of (Good s t) = record { span = s; term = t }
 formula_of (Bad e) = record { span = e.span; term = term.truth true }
+
+-- ---- the innermost loop
+
+-- where no loop is around, of which no row speaks, this one stands for it
+abbrev pub no_loop : Loop
+no_loop = record { head = label 0; after = label 0; depth = 0 }
+
+abbrev pub loop_at : List Loop → Loop
+loop_at ls = get_or ls (length ls - 1) no_loop
+
+-- what is bound inside of a loop ends, and an edge leads to the label
+abbrev pub jump : Span → ℕ → Label → List Place → List Line
+jump s depth to scope = die_from s depth scope ++ Leaves (ends s (Goto to)) ∷ []
 
 -- ---- what an assignment writes
 
@@ -86,6 +100,9 @@ abbrev mutual
   labels (panics ty s k) = 0
   labels (returned ty s e) = labels e
   labels (endless ty s is b) = 1 + labels b
+  labels (until_break ty s is b) = 2 + labels b
+  labels (break_off ty s) = 0
+  labels (go_on ty s) = 0
 
   pub labels_of : TypedStmts → ℕ
   labels_of done = 0
@@ -119,6 +136,9 @@ abbrev mutual
   locals (panics ty s k) = 0
   locals (returned ty s e) = locals e
   locals (endless ty s is b) = 1 + locals b
+  locals (until_break ty s is b) = 1 + locals b
+  locals (break_off ty s) = 0
+  locals (go_on ty s) = 0
 
   pub locals_of : TypedStmts → ℕ
   locals_of done = 0
@@ -175,7 +195,7 @@ abbrev mutual
       let u = t + 1 + locals e in
       Makes t (ty_of e) ∷ (into e c l (t + 1) t ++ choice_text (leaves a && leaves b) c s t m (into a c n u d) (into b c (n + labels a) (u + locals a) d))
   into (repeat ty s is e b) c l t d =
-      let inside = looping c (label l) in
+      let inside = looping c (label l) (label (l + 2)) in
       let u = t + 1 + locals e in
       Turns (ends s (Goto (label l))) (at_head inside (label l) (head_of c (map formula_of is))) ∷ Makes t (ty_of e) ∷ (into e inside (l + 3) (t + 1) t
       ++ Turns (ends s (If (moved t) (label (l + 1)) (label (l + 2)))) (at inside (label (l + 1))) ∷ Makes u (ty_of b)
@@ -183,9 +203,15 @@ abbrev mutual
   into (panics ty s k) c l t d = Leaves (ends s (Panic k)) ∷ []
   into (returned ty s e) c l t d = into e c l t 0 ++ Leaves (ends s Return) ∷ []
   into (endless ty s is b) c l t d =
-      let inside = looping c (label l) in
+      let inside = looping c (label l) (label l) in
       Turns (ends s (Goto (label l))) (at_head inside (label l) (head_of c (map formula_of is))) ∷ Makes t (ty_of b)
       ∷ (into b inside (l + 1) (t + 1) t ++ Leaves (ends s (Goto (label l))) ∷ Owns (label l) (between t (t + 1 + locals b)) ∷ [])
+  into (until_break ty s is b) c l t d =
+      let inside = looping c (label l) (label (l + 1)) in
+      Turns (ends s (Goto (label l))) (at_head inside (label l) (head_of c (map formula_of is))) ∷ Makes t (ty_of b)
+      ∷ (into b inside (l + 2) (t + 1) t ++ Turns (ends s (Goto (label l))) (at c (label (l + 1))) ∷ Owns (label l) (between t (t + 1 + locals b)) ∷ put_unit s d ∷ [])
+  into (break_off ty s) c l t d = jump s (loop_at c.loops).depth (loop_at c.loops).after c.scope
+  into (go_on ty s) c l t d = jump s (loop_at c.loops).depth (loop_at c.loops).head c.scope
 
   pub rest : TypedStmts → Bool → Span → Around → ℕ → ℕ → ℕ → List Line
   rest done outer s c l t d = put_unit s d ∷ []
@@ -215,9 +241,16 @@ loop_text e b s c head l t =
 -- the text of `loop`
 abbrev pub endless_text : TypedExpr → List Assertion → Span → Around → ℕ → ℕ → List Line
 endless_text b is s c l t =
-    let inside = looping c (label l) in
+    let inside = looping c (label l) (label l) in
     Turns (ends s (Goto (label l))) (at_head inside (label l) (head_of c (map formula_of is))) ∷ Makes t (ty_of b)
     ∷ (into b inside (l + 1) (t + 1) t ++ Leaves (ends s (Goto (label l))) ∷ Owns (label l) (between t (t + 1 + locals b)) ∷ [])
+
+-- the text of a `loop` that a `break` leaves
+abbrev pub broken_text : TypedExpr → List Assertion → Span → Around → ℕ → ℕ → ℕ → List Line
+broken_text b is s c l t d =
+    let inside = looping c (label l) (label (l + 1)) in
+    Turns (ends s (Goto (label l))) (at_head inside (label l) (head_of c (map formula_of is))) ∷ Makes t (ty_of b)
+    ∷ (into b inside (l + 2) (t + 1) t ++ Turns (ends s (Goto (label l))) (at c (label (l + 1))) ∷ Owns (label l) (between t (t + 1 + locals b)) ∷ put_unit s d ∷ [])
 
 -- the text of a body, whose outermost block ends no binding
 abbrev pub body_text : TypedExpr → Around → ℕ → ℕ → List Line

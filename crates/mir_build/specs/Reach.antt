@@ -1,6 +1,6 @@
 -- How many variables have to be in scope around an expression, so that each that it names is there. Contracts of the code alone speak of it.
 use Rattle.std.specs.Prelude.{ℕ, ◌+◌, ◌-◌, max}
-use Rattle.type_check.specs.TypedExpr.{TypedExpr, TypedStmts, TypedExprs, integer, truth, variable, negative, denied, binary, lazy, assign, update, call, block, branch, choice, repeat, panics, returned, endless, done, last, leaving, bind, run, none, more}
+use Rattle.type_check.specs.TypedExpr.{TypedExpr, TypedStmts, TypedExprs, integer, truth, variable, negative, denied, binary, lazy, assign, update, call, block, branch, choice, repeat, panics, returned, endless, until_break, break_off, go_on, done, last, leaving, bind, run, none, more}
 
 abbrev mutual
   pub reach : TypedExpr → ℕ
@@ -21,6 +21,9 @@ abbrev mutual
   reach (panics ty s k) = 0
   reach (returned ty s e) = reach e
   reach (endless ty s is b) = reach b
+  reach (until_break ty s is b) = reach b
+  reach (break_off ty s) = 0
+  reach (go_on ty s) = 0
 
   pub reach_of : TypedStmts → ℕ
   reach_of done = 0

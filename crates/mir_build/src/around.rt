@@ -2,8 +2,8 @@
 ghost use Rattle.std.specs.Prelude.{◌≡◌, ◌<◌, None, length, map, IfOk};
 ghost use Rattle.type_check.specs.FirstBad.{bad_of, bad_among};
 ghost use Rattle.mir_build.specs.Built.{around, term_with};
-ghost use Rattle.mir_build.specs.Numbered.{variable_place, formula_of};
-ghost use Rattle.mir_build.specs.Lowering.{local_name, term_of, formula_span, held, places_for, head_of};
+ghost use Rattle.mir_build.specs.Numbered.{variable_place, formula_of, loop_at};
+ghost use Rattle.mir_build.specs.Lowering.{local_name, term_of, formula_span, held, places_for, heads, head_of};
 ghost use Rattle.type_check.specs.VariableNames.{variable_name, answer_name};
 
 use logic_term::{Label, Replacement, Term};
@@ -12,11 +12,21 @@ use std::alloc::Global;
 use text_core::{Items, Name, NoMemory, Span};
 use type_check::Assertion;
 
-/// The place of each variable in scope, and the heads of the loops around, both the outermost first.
+/// A loop around an expression.
+#[derive(Clone, Copy)]
+pub(crate) struct Loop {
+    pub(crate) head: Label,
+    /// The block behind it; the head where it is not left.
+    pub(crate) after: Label,
+    /// How many variables are in scope around it.
+    pub(crate) depth: usize,
+}
+
+/// The place of each variable in scope, and the loops around, both the outermost first.
 #[derive(Drop)]
 pub(crate) struct Around {
     pub(crate) scope: Vec<Place>,
-    pub(crate) loops: Vec<Label>,
+    pub(crate) loops: Vec<Loop>,
 }
 
 pub(crate) fn same_place(alloc: Global, place: &Place) -> Result<Place, NoMemory>
@@ -46,9 +56,27 @@ pub(crate) fn variable_place(
 
 /// The heads around, as a block has them.
 pub(crate) fn nest(alloc: Global, c: &Around) -> Result<Items<Label>, NoMemory>
-    ensures { IfOk result (λ it. it ≡ (around c.now).loops) }
+    ensures { IfOk result (λ it. it ≡ heads (around c.now).loops) }
 {
-    Items::from_slice(alloc, c.loops.as_slice())
+    let mut all = Items::new(alloc);
+    for inner in c.loops.as_slice() {
+        all.push(inner.head)?;
+    }
+    Ok(all)
+}
+
+/// The innermost loop around. No typed program asks for one where none is, and an answer that no row speaks of stands for it.
+pub(crate) fn innermost(c: &Around) -> Loop
+    ensures { result ≡ loop_at (around c.now).loops }
+{
+    match c.loops.last() {
+        Some(inner) => *inner,
+        None => Loop {
+            head: Label(0),
+            after: Label(0),
+            depth: 0,
+        },
+    }
 }
 
 // ---- names

@@ -9,7 +9,7 @@ ghost use Rattle.type_check.specs.WellTyped.{unit};
 ghost use Rattle.mir_ir.specs.declared.terminator.TerminatorKind.TheVariants.{Return};
 ghost use Rattle.mir_build.specs.Text.{Makes, Leaves};
 ghost use Rattle.mir_build.specs.Lowering.{moved, ends, dies_in};
-ghost use Rattle.mir_build.specs.Numbered.{into, rest, if_text, args, loop_text, endless_text, temporaries, labels, labels_of, labels_in, locals, locals_of, locals_in};
+ghost use Rattle.mir_build.specs.Numbered.{into, rest, if_text, args, loop_text, endless_text, broken_text, temporaries, labels, labels_of, labels_in, locals, locals_of, locals_in};
 ghost use Rattle.mir_build.specs.Reach.{reach, reach_of, reach_in};
 ghost use Rattle.mir_build.specs.Built.{written, around, end_of};
 ghost use Rattle.mir_build.specs.Bindings.{all_die};
@@ -22,6 +22,7 @@ use crate::around::{Around, variable_place};
 use crate::assignment::{is_place, lower_place, put_assign, put_update};
 use crate::block_end::BlockEnd;
 use crate::builder::{Builder, moved, whole};
+use crate::jump::{lower_break, lower_continue};
 use crate::looping::{end_loop, enter_loop, leave_loop};
 use crate::stop::Stop;
 use crate::task::{Behind, Pending, Task};
@@ -215,6 +216,9 @@ fn lower_left<'a>(
         TypedNode::Panic(cause) => Ok(b.leave(span, TerminatorKind::Panic(*cause))?),
         TypedNode::Return(x) => lower_return(alloc, b, c, span, x),
         TypedNode::Loop(is, x) => lower_endless(alloc, b, c, span, is, x),
+        TypedNode::LoopUntilBreak(is, x) => lower_until_break(alloc, b, c, span, is, x, d),
+        TypedNode::Break => Ok(lower_break(b, c, span)?),
+        TypedNode::Continue => Ok(lower_continue(b, c, span)?),
     }
 }
 
@@ -568,7 +572,7 @@ fn lower_repeat(
     ensures count { OnOk result (length c.new.scope.items ≡ length c.old.scope.items) }
 {
     let head = b.take_labels(3)?;
-    enter_loop(alloc, b, c, span, invariants, head)?;
+    enter_loop(alloc, b, c, span, invariants, head, head + 2)?;
     let t = lower_loop(alloc, b, c, span, head, x, y)?;
     leave_loop(alloc, b, c, span, head, head + 2, t, d)?;
     Ok(())
@@ -620,9 +624,38 @@ fn lower_endless(
     ensures count { OnOk result (length c.new.scope.items ≡ length c.old.scope.items) }
 {
     let head = b.take_labels(1)?;
-    enter_loop(alloc, b, c, span, invariants, head)?;
+    enter_loop(alloc, b, c, span, invariants, head, head)?;
     let t = lower_new(alloc, b, c, x)?;
     end_loop(alloc, b, c, span, head, t)?;
+    Ok(())
+}
+
+/// `loop`, which a `break` leaves.
+#[cycle(lower)]
+#[tactic(auto, using(crate::proofs::Runs::running))]
+fn lower_until_break(
+    alloc: Global,
+    b: &mut Builder,
+    c: &mut Around,
+    span: Span,
+    invariants: &[Assertion],
+    x: &TypedExpr,
+    d: u32,
+) -> Result<(), Stop>
+    requires scope { reach x.now ≤ length c.old.scope.items }
+    requires good { or_else (bad_among invariants.now) (bad_in x.now) ≡ None }
+    ensures text { OnOk result (b.new.text ≡ written (broken_text x.now invariants.now span (around c.old) b.old.labels (length b.old.text.locals) d) b.old.text) }
+    ensures labels { OnOk result (b.new.labels ≡ b.old.labels + 2 + labels x.now) }
+    ensures locals { OnOk result (length b.new.text.locals ≡ length b.old.text.locals + 1 + locals x.now) }
+    ensures limit { IfErr result (λ stop. stop ≡ Blocks → 4096 < b.old.labels + 2 + labels x.now) }
+    ensures most { OnOk result (b.old.labels ≤ 4096 → b.new.labels ≤ 4096) }
+    ensures around { OnOk result (around c.new ≡ around c.old) }
+    ensures count { OnOk result (length c.new.scope.items ≡ length c.old.scope.items) }
+{
+    let head = b.take_labels(2)?;
+    enter_loop(alloc, b, c, span, invariants, head, head + 1)?;
+    let t = lower_new(alloc, b, c, x)?;
+    leave_loop(alloc, b, c, span, head, head + 1, t, d)?;
     Ok(())
 }
 

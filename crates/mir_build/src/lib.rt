@@ -8,6 +8,7 @@ mod builder;
 mod contract;
 mod expression;
 mod function;
+mod jump;
 mod laws;
 mod looping;
 mod lowered;

@@ -7,7 +7,7 @@ ghost use Rattle.mir_build.specs.Lowering.{put_unit, ends, at, at_head, looping,
 ghost use Rattle.mir_build.specs.Numbered.{formula_of, between, label};
 ghost use Rattle.mir_build.specs.Built.{written, around, outside};
 
-use crate::around::{Around, head_of, nest};
+use crate::around::{Around, Loop, head_of, nest};
 use crate::builder::Builder;
 use logic_term::Label;
 use mir_ir::{Terminator, TerminatorKind};
@@ -15,7 +15,7 @@ use std::alloc::Global;
 use text_core::{NoMemory, Span};
 use type_check::Assertion;
 
-/// Opens the head of a loop, and goes into the loop.
+/// Opens the head of a loop, behind which the block `after` stands, and goes into the loop.
 pub(crate) fn enter_loop(
     alloc: Global,
     b: &mut Builder,
@@ -23,16 +23,21 @@ pub(crate) fn enter_loop(
     span: Span,
     invariants: &[Assertion],
     head: u32,
+    after: u32,
 ) -> Result<(), NoMemory>
     requires { bad_among invariants.now ≡ None }
-    ensures text { OnOk result (b.new.text ≡ written (Turns (ends span (Goto (label head))) (at_head (looping (around c.old) (label head)) (label head) (head_of (around c.old) (map formula_of invariants.now))) ∷ []) b.old.text) }
+    ensures text { OnOk result (b.new.text ≡ written (Turns (ends span (Goto (label head))) (at_head (looping (around c.old) (label head) (label after)) (label head) (head_of (around c.old) (map formula_of invariants.now))) ∷ []) b.old.text) }
     ensures locals { OnOk result (length b.new.text.locals ≡ length b.old.text.locals) }
     ensures labels { b.new.labels ≡ b.old.labels }
-    ensures around { OnOk result (around c.new ≡ looping (around c.old) (label head)) }
+    ensures around { OnOk result (around c.new ≡ looping (around c.old) (label head) (label after)) }
     ensures count { OnOk result (length c.new.scope.items ≡ length c.old.scope.items) }
 {
     let at_head = head_of(alloc, c, invariants)?;
-    c.loops.push(Label(head))?;
+    c.loops.push(Loop {
+        head: Label(head),
+        after: Label(after),
+        depth: c.scope.len(),
+    })?;
     let nest = nest(alloc, c)?;
     let kind = TerminatorKind::Goto(Label(head));
     let end = Terminator { span, kind };

@@ -1,5 +1,6 @@
 //! The deepest sources: chains of operators on all levels, and all that opens a level in itself. Each goes through all passes and is dropped.
 use std::alloc::Global;
+use std::process::Abort;
 use std::test::Fail;
 use text_core::{Code, NoMemory};
 use verify_core::{Refusal, prepare};
@@ -196,23 +197,28 @@ fn push_level(text: &mut Vec<u8>, link: &[u8], links: usize, close: &[u8]) -> Re
     push_all(text, close)
 }
 
-fn source_of(alloc: Global, parts: [&[u8]; 6], links: usize) -> Result<Vec<u8>, NoMemory> {
-    let [before, open, innermost, link, close, behind] = parts;
+/// So many levels that are opened.
+fn push_levels(text: &mut Vec<u8>, open: &[u8]) -> Result<(), NoMemory> {
+    for _ in 0..LEVELS {
+        push_all(text, open)?;
+    }
+    Ok(())
+}
+
+fn source_of(alloc: Global, parts: &[&[u8]; 6], links: usize) -> Result<Vec<u8>, NoMemory> {
     let mut text = Vec::new(alloc);
-    push_all(&mut text, before)?;
+    push_all(&mut text, parts[0])?;
+    push_levels(&mut text, parts[1])?;
+    push_all(&mut text, parts[2])?;
     for _ in 0..LEVELS {
-        push_all(&mut text, open)?;
+        push_level(&mut text, parts[3], links, parts[4])?;
     }
-    push_all(&mut text, innermost)?;
-    for _ in 0..LEVELS {
-        push_level(&mut text, link, links, close)?;
-    }
-    push_all(&mut text, behind)?;
+    push_all(&mut text, parts[5])?;
     Ok(text)
 }
 
-fn answers(alloc: Global, row: Row) -> Result<bool, NoMemory> {
-    let text = source_of(alloc, row.0, row.1)?;
+fn answers(alloc: Global, row: &Row) -> Result<bool, NoMemory> {
+    let text = source_of(alloc, &row.0, row.1)?;
     Ok(match (prepare(alloc, text.as_slice()), row.2) {
         (Ok(_), Answer::Prepared) => true,
         (Err(Refusal::Source(error)), Answer::Refused(code)) => error.code == code,
@@ -221,22 +227,19 @@ fn answers(alloc: Global, row: Row) -> Result<bool, NoMemory> {
     })
 }
 
-#[test]
-fn deep_code(rt: HostRuntime) -> Result<(), Fail> {
-    let mut at = 0u32;
-    for row in CODE {
-        assert!(rt; answers(rt.alloc(), row)?, "row {at}");
-        at = at.wrapping_add(1);
+fn expect(rt: &impl Abort, alloc: Global, rows: &[Row]) -> Result<(), Fail> {
+    for (at, row) in rows.iter().enumerate() {
+        assert!(rt; answers(alloc, row)?, "row {at}");
     }
     Ok(())
 }
 
 #[test]
+fn deep_code(rt: HostRuntime) -> Result<(), Fail> {
+    expect(&rt, rt.alloc(), &CODE)
+}
+
+#[test]
 fn deep_terms(rt: HostRuntime) -> Result<(), Fail> {
-    let mut at = 0u32;
-    for row in TERMS {
-        assert!(rt; answers(rt.alloc(), row)?, "row {at}");
-        at = at.wrapping_add(1);
-    }
-    Ok(())
+    expect(&rt, rt.alloc(), &TERMS)
 }

@@ -8,12 +8,20 @@ use verify_core::{Refusal, prepare};
 type Row = (&'static [u8], Code, u32, u32);
 
 /// The text is refused with this code and these offsets.
-fn is_refused(alloc: Global, text: &[u8], code: Code, start: u32, end: u32) -> bool {
+fn is_refused(alloc: Global, row: &Row) -> bool {
+    let (text, code, start, end) = *row;
     match prepare(alloc, text) {
         Err(Refusal::Source(error)) => {
             error.code == code && error.span.start == start && error.span.end == end
         }
         _ => false,
+    }
+}
+
+fn expect_refused(rt: &impl Abort, alloc: Global, rows: &[Row]) {
+    for row in rows {
+        let right = is_refused(alloc, row);
+        assert!(rt; right);
     }
 }
 
@@ -149,21 +157,17 @@ fn is_accepted(alloc: Global, text: &[u8], functions: usize) -> bool {
 
 #[test]
 fn texts_outside_the_grammar_are_refused(rt: HostRuntime) {
-    for (text, code, start, end) in OUTSIDE_THE_GRAMMAR {
-        assert!(rt; is_refused(rt.alloc(), text, code, start, end));
-    }
+    expect_refused(&rt, rt.alloc(), &OUTSIDE_THE_GRAMMAR);
 }
 
 #[test]
 fn forms_that_are_not_built_are_refused_at_their_first_token(rt: HostRuntime) {
-    for (text, code, start, end) in NOT_BUILT {
-        assert!(rt; is_refused(rt.alloc(), text, code, start, end));
-    }
+    expect_refused(&rt, rt.alloc(), &NOT_BUILT);
 }
 
 #[test]
 fn functions_of_built_forms_are_accepted(rt: HostRuntime) {
-    for (text, functions) in BUILT {
-        assert!(rt; is_accepted(rt.alloc(), text, functions));
+    for (text, functions) in &BUILT {
+        assert!(rt; is_accepted(rt.alloc(), text, *functions));
     }
 }

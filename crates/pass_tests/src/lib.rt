@@ -8,6 +8,8 @@ mod functions;
 #[cfg(test)]
 mod lowering;
 #[cfg(test)]
+mod printed;
+#[cfg(test)]
 mod typing;
 #[cfg(test)]
 mod verdicts;

@@ -509,9 +509,8 @@ fn formulas_come_behind_all_bodies(rt: HostRuntime) {
     expect(&rt, rt.alloc(), &FORMULAS_COME_BEHIND_ALL_BODIES);
 }
 
-const FORMS_THAT_HAVE_NO_TYPE_YET: [Row; 14] = [
+const FORMS_THAT_HAVE_NO_TYPE_YET: [Row; 13] = [
     (b"fn f(x: i32) { &x; }", Some((Code::E20, 15, 17))),
-    (b"fn f() { loop { break; } }", Some((Code::E20, 16, 21))),
     (b"fn f() { let _ = 1; }", Some((Code::E20, 13, 14))),
     (
         b"fn f() { let x: (i32, bool) = y; }",

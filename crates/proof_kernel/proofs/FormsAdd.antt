@@ -8,7 +8,7 @@ use Rattle.proof_kernel.specs.Sequent.{Sequent}
 use Rattle.proof_kernel.specs.declared.step.GoalRule.{GoalRule}
 use Rattle.proof_kernel.specs.declared.step.GoalRule.TheVariants.{Refl, Truth, Left, Right, Contra, ByContradiction, Iff, Antisymmetry}
 use Rattle.proof_kernel.specs.declared.step.HypothesisRule.{HypothesisRule}
-use Rattle.proof_kernel.specs.declared.step.HypothesisRule.TheVariants.{Cases, Absurd, Drop, Revert}
+use Rattle.proof_kernel.specs.declared.step.HypothesisRule.TheVariants.{Cases, Absurd, Drop, Revert, Back}
 use Rattle.proof_kernel.specs.declared.step.PairRule.{PairRule}
 use Rattle.proof_kernel.specs.declared.step.PairRule.TheVariants.{ModusPonens, Contradiction, Product}
 use Rattle.proof_kernel.specs.declared.step.Rewriting.{Rewriting}
@@ -16,6 +16,7 @@ use Rattle.proof_kernel.specs.declared.step.Step.TheVariants.{Rewrite}
 use Rattle.proof_kernel.specs.declared.step.Target.{Target}
 use Rattle.proof_kernel.specs.declared.step.Target.TheVariants as targets
 use Rattle.proof_kernel.specs.GoalRules.{is_reflexive, is_true, left_of, right_of, denied_of, both_ways, both_orders, to_show, to_show_all, to_refute, goal_rule}
+use Rattle.proof_kernel.specs.BackRule.{back_of}
 use Rattle.proof_kernel.specs.HypothesisRules.{is_false, cases_of, in_cases, on_hypothesis, hypothesis_rule}
 use Rattle.proof_kernel.specs.PairRules.{concluded, is_denied_by, distance, product, adding, on_two, pair_rule}
 use Rattle.source_trees.specs.Pterm.{Pterm}
@@ -110,18 +111,19 @@ module _ (P : Label2 → Type 0) (N : Name → Type 0) (s : ℕ) (own : (k : ℕ
   in_cases_has None e = absurd (cc)
   in_cases_has (Some tss) e = these_have _ e (all_have tss)
 
+  adding_has : (o : Option Term) → adding s q o ≡ Some ps → Each (Has P N) ps
+  adding_has None e = absurd (cc)
+  adding_has (Some t) e = these_have _ e (more_has (t ∷ []), tt)
+
   one_has : (r : HypothesisRule) (l : Label2) (h : Term) → on_hypothesis r s l q h ≡ Some ps → Each (Has P N) ps
   one_has Cases l h e = in_cases_has (cases_of q.vars h) e
   one_has Absurd l h e = closed_has (is_false h) e
   one_has Drop l h e = these_have _ e ((without_each P l q.hyps has.0, has.1), tt)
   one_has Revert l h e = these_have _ e ((without_each P l q.hyps has.0, has.1), tt)
+  one_has Back l h e = adding_has (back_of q.vars h) e
 
   pub hypothesis_has : (r : HypothesisRule) (l : Label2) → hypothesis_rule r s l q ≡ Some ps → Each (Has P N) ps
   hypothesis_has r l e = let f = one_found r s l q (hypothesis l q.hyps) ps e in one_has r l f.0 f.2
-
-  adding_has : (o : Option Term) → adding s q o ≡ Some ps → Each (Has P N) ps
-  adding_has None e = absurd (cc)
-  adding_has (Some t) e = these_have _ e (more_has (t ∷ []), tt)
 
   two_have : (r : PairRule) (h k : Term) → on_two r s q h k ≡ Some ps → Each (Has P N) ps
   two_have ModusPonens h k e = adding_has (concluded h k) e

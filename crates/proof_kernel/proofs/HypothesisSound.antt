@@ -8,12 +8,15 @@ use Rattle.logic_term.specs.Meaning.{Structure, Env, Holds}
 use Rattle.logic_term.proofs.Truth.{holds_false, holds_not, holds_and, holds_or, holds_implies}
 use Rattle.proof_kernel.specs.Sequent.{Sequent, InSorts, AllHold, IsTrueAt, AllTrueAt}
 use Rattle.proof_kernel.specs.declared.step.HypothesisRule.{HypothesisRule}
-use Rattle.proof_kernel.specs.declared.step.HypothesisRule.TheVariants.{Cases, Absurd, Drop, Revert}
+use Rattle.proof_kernel.specs.declared.step.HypothesisRule.TheVariants.{Cases, Absurd, Drop, Revert, Back}
 use Rattle.proof_kernel.specs.HypothesisRules.{is_false, disjuncts, alone, pushed, one_case, value_cases, denied_cases, cases_of, in_cases, on_hypothesis, hypothesis_rule}
 use Rattle.proof_kernel.specs.Rules.{same_label, hypothesis, without, labelled, with_hyps, conjuncts}
+use Rattle.proof_kernel.specs.BackRule.{back_of}
 use Rattle.proof_kernel.specs.SortTests.{are_formulas}
+use Rattle.proof_kernel.proofs.BackSound.{back_holds}
 use Rattle.proof_kernel.proofs.FormsFound.{same_some, picked, one_found}
 use Rattle.proof_kernel.proofs.GoalSound.{these_true, is_closed}
+use Rattle.proof_kernel.proofs.PairSound.{adding_sound}
 use Rattle.proof_kernel.proofs.Sound.{held, hyps_more}
 use Rattle.proof_kernel.proofs.SortValue.{equal_agree, unequal_differ}
 
@@ -122,6 +125,7 @@ module _ (S : Structure) where
     one_sound Absurd l t e ρ z k g = absurd (false_fails t ρ (is_closed (is_false t) ps e) g)
     one_sound Drop l t e ρ z k g = (these_true S _ ps e h).0 ρ z (without_hold l q.hyps ρ k)
     one_sound Revert l t e ρ z k g = (holds_implies S t q.goal ρ).0 ((these_true S _ ps e h).0 ρ z (without_hold l q.hyps ρ k)) g
+    one_sound Back l t e ρ z k g = adding_sound S s q ps h (back_of q.vars t) ρ e z k (λ u is. back_holds S q.vars ρ z t u is g)
 
     pub hypothesis_sound : (r : HypothesisRule) (l : Label2) → hypothesis_rule r s l q ≡ Some ps → IsTrueAt S q
     hypothesis_sound r l e ρ z k = let f = one_found r s l q (hypothesis l q.hyps) ps e in one_sound r l f.0 f.2 ρ z k (held S l q.hyps f.0 ρ f.1 k)

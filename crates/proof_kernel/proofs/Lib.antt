@@ -1,5 +1,6 @@
 pub mod AcceptLaw
 pub mod Adds
+pub mod BackSound
 pub mod Conjuncts
 pub mod Derived
 pub mod DroppedLaw

@@ -14,7 +14,7 @@ use Rattle.proof_kernel.proofs.Sound.{hyps_more}
 module _ (S : Structure) (s : ℕ) (q : Sequent) where
   formula_sound : (r : TermRule) (f : Term) → AllTrueAt S (on_formula r s q f) → IsTrueAt S q
   formula_sound Cut f h ρ z k = h.1.0 ρ z (hyps_more S q.hyps _ ρ k (h.0 ρ z k, tt))
-  formula_sound On f h ρ z k n =
+  formula_sound On f h ρ z k = λ n.
       let fails : Holds S f ρ → ⊥ = λ g. h.0 ρ z (hyps_more S q.hyps _ ρ k (g, tt)) n in
       h.1.0 ρ z (hyps_more S q.hyps _ ρ k ((holds_not S f ρ).1 fails, tt)) n
 

@@ -6,7 +6,9 @@ use Rattle.logic_term.specs.Ty.{Ty}
 use Rattle.logic_term.specs.Term.{denied, equal, both, either, implied, Term, truth, apply, no_terms, and_term, not, and, or, implies}
 use Rattle.proof_kernel.specs.Sequent.{Sequent}
 use Rattle.proof_kernel.specs.declared.step.HypothesisRule.{HypothesisRule}
-use Rattle.proof_kernel.specs.declared.step.HypothesisRule.TheVariants.{Cases, Absurd, Drop, Revert}
+use Rattle.proof_kernel.specs.declared.step.HypothesisRule.TheVariants.{Cases, Absurd, Drop, Revert, Back}
+use Rattle.proof_kernel.specs.BackRule.{back_of}
+use Rattle.proof_kernel.specs.PairRules.{adding}
 use Rattle.proof_kernel.specs.SortTests.{are_formulas}
 use Rattle.proof_kernel.specs.Rules.{hypothesis, conjuncts, with_goal, with_hyps, dropping, closed_if}
 
@@ -76,6 +78,7 @@ on_hypothesis Cases s l q h = in_cases s q (cases_of q.vars h)
 on_hypothesis Absurd s l q h = closed_if (is_false h)
 on_hypothesis Drop s l q h = Some (dropping l q ∷ [])
 on_hypothesis Revert s l q h = Some (with_goal (dropping l q) (implies h q.goal) ∷ [])
+on_hypothesis Back s l q h = adding s q (back_of q.vars h)
 
 abbrev pub if_there : HypothesisRule → ℕ → Label2 → Sequent → Option Term → Option (List Sequent)
 if_there r s l q None = None

@@ -1,4 +1,5 @@
 pub mod Accepts
+pub mod BackRule
 pub mod Derivation
 pub mod Dropped
 pub mod ExchangeSteps

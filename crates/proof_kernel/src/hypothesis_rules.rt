@@ -5,6 +5,8 @@ ghost use Rattle.logic_term.specs.TermOperator.{binary_operator};
 ghost use Rattle.proof_kernel.specs.HypothesisRules.{is_false, disjuncts, is_disjunction, alone, pushed, one_case, if_formulas, denied_cases, cases_of, in_cases, on_hypothesis, hypothesis_rule};
 ghost use Rattle.proof_kernel.specs.Rules.{conjuncts, dropping, with_goal, with_hyps, Finds};
 
+use crate::back_rule::back_of;
+use crate::pair_rules::adding;
 use crate::rules::{
     closed_if, conjuncts_of, one_premise, two_premises, with_hypotheses, with_hypothesis,
 };
@@ -277,6 +279,7 @@ fn on_hypothesis(
         HypothesisRule::Absurd => Ok(closed_if(alloc, is_false(h))),
         HypothesisRule::Drop => Ok(Some(dropping(alloc, label, q)?)),
         HypothesisRule::Revert => Ok(Some(reverting(alloc, label, q, h)?)),
+        HypothesisRule::Back => adding(alloc, step, q, back_of(alloc, q, h)?),
     }
 }
 

@@ -14,13 +14,13 @@ use crate::intro::intro;
 use crate::linear::{LinAnswer, certifies};
 use crate::pair_rules::pair_rule;
 use crate::rewrite_rules::rewrite_rule;
-use crate::term_rules::term_rule;
 use crate::rules::{is_hypothesis, one_premise, range, split};
 use crate::sequent::Sequent;
 use crate::setting::{Scope, Tables};
 use crate::step::{
     GoalRule, HypothesisRule, Multiple, PairRule, Reference, Rewriting, Step, Target, TermRule,
 };
+use crate::term_rules::term_rule;
 use logic_term::{Label2, Obligation};
 use source_trees::Pterm;
 use std::alloc::Global;
@@ -122,11 +122,8 @@ fn cites_in_order(number: u32, step: &Step) -> bool
             is_label_above(number, *first) && is_label_above(number, *second)
         }
         Step::Rewrite(rewriting) => is_rewriting_in_order(number, *rewriting),
-        Step::Intro(_)
-        | Step::Split
-        | Step::Range(_)
-        | Step::OnGoal(_)
-        | Step::OnTerm(_, _) => true,
+        Step::Intro(_) | Step::Split | Step::Range(_) | Step::OnGoal(_) | Step::OnTerm(_, _) =>
+            true,
     }
 }
 

@@ -1,6 +1,7 @@
 //! The kernel: sequents, the steps of proofs, and what each step makes of a sequent.
 #![tactic(auto)]
 
+mod back_rule;
 mod exchange;
 mod goal_rules;
 mod hypothesis_rules;

@@ -83,7 +83,7 @@ fn product(alloc: Global, h: &Term, k: &Term) -> Result<Option<Term>, NoMemory>
 
 // ---- the rules
 
-fn adding(
+pub(crate) fn adding(
     alloc: Global,
     step: u32,
     q: &Sequent,

@@ -45,7 +45,7 @@ fn normal_formula(alloc: Global, t: SortedTerm) -> Result<Option<Term>, NoMemory
     let SortedTerm { sort, term } = t;
     match &sort.node {
         TyNode::Bool => {
-            let formula = reduce(alloc, &*term)?;
+            let formula = reduce(alloc, &term.into_inner())?;
             Ok(Some(formula))
         }
         _ => Ok(None),

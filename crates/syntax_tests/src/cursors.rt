@@ -36,59 +36,30 @@ fn read_at(alloc: Global, text: &[u8], place: u32, levels: u32) -> Answer {
     }
 }
 
+const CURSORS: [(&[u8], u32, u32, Answer); 16] = [
+    (b"a + b ) c", 0, 0, Answer::Term(3)),
+    (b"requires ( x . f > 1 ) ]", 2, 1, Answer::Term(7)),
+    (b"a < b < c", 0, 0, Answer::Term(3)),
+    (b"a < b < c", 2, 0, Answer::Term(5)),
+    (b"a < b < c", 4, 0, Answer::Term(5)),
+    (b"a as u8", 0, 0, Answer::Term(1)),
+    (b"( a )", 1, 64, Answer::Term(2)),
+    (b"( a )", 0, 63, Answer::Term(3)),
+    (b"( a )", 0, 64, Answer::Refused(0, Code::E04, 0)),
+    (b"; ( a )", 1, 64, Answer::Refused(1, Code::E04, 2)),
+    (b"; a + )", 1, 0, Answer::Refused(3, Code::E03, 6)),
+    (b"; a +", 1, 0, Answer::Refused(3, Code::E03, 5)),
+    (b"a", 1, 0, Answer::Refused(1, Code::E03, 1)),
+    (b"; ( a as u8 )", 1, 0, Answer::Refused(3, Code::E20, 6)),
+    (b"; match x { y if", 1, 0, Answer::Refused(5, Code::E20, 14)),
+    (b"; a + type", 1, 0, Answer::Refused(3, Code::E03, 6)),
+];
+
 #[test]
 fn a_cursor_stands_behind_a_term_or_at_the_refused_word(rt: HostRuntime) {
     let alloc = rt.alloc();
-    let cases = [
-        (b"a + b ) c".as_slice(), 0, 0, Answer::Term(3)),
-        (
-            b"requires ( x . f > 1 ) ]".as_slice(),
-            2,
-            1,
-            Answer::Term(7),
-        ),
-        (b"a < b < c".as_slice(), 0, 0, Answer::Term(3)),
-        (b"a < b < c".as_slice(), 2, 0, Answer::Term(5)),
-        (b"a < b < c".as_slice(), 4, 0, Answer::Term(5)),
-        (b"a as u8".as_slice(), 0, 0, Answer::Term(1)),
-        (b"( a )".as_slice(), 1, 64, Answer::Term(2)),
-        (b"( a )".as_slice(), 0, 63, Answer::Term(3)),
-        (b"( a )".as_slice(), 0, 64, Answer::Refused(0, Code::E04, 0)),
-        (
-            b"; ( a )".as_slice(),
-            1,
-            64,
-            Answer::Refused(1, Code::E04, 2),
-        ),
-        (
-            b"; a + )".as_slice(),
-            1,
-            0,
-            Answer::Refused(3, Code::E03, 6),
-        ),
-        (b"; a +".as_slice(), 1, 0, Answer::Refused(3, Code::E03, 5)),
-        (b"a".as_slice(), 1, 0, Answer::Refused(1, Code::E03, 1)),
-        (
-            b"; ( a as u8 )".as_slice(),
-            1,
-            0,
-            Answer::Refused(3, Code::E20, 6),
-        ),
-        (
-            b"; match x { y if".as_slice(),
-            1,
-            0,
-            Answer::Refused(5, Code::E20, 14),
-        ),
-        (
-            b"; a + type".as_slice(),
-            1,
-            0,
-            Answer::Refused(3, Code::E03, 6),
-        ),
-    ];
-    for (text, place, levels, expected) in cases {
-        assert!(rt; read_at(alloc, text, place, levels) == expected);
+    for (text, place, levels, expected) in &CURSORS {
+        assert!(rt; read_at(alloc, *text, *place, *levels) == *expected);
     }
 }
 

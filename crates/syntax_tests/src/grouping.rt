@@ -450,15 +450,15 @@ fn prefixes_and_casts_group_behind_suffixes(rt: HostRuntime) {
 
 #[test]
 fn a_term_ends_before_a_second_comparison(rt: HostRuntime) {
-    for (text, count) in FRONTS {
-        assert!(rt; has_front(rt.alloc(), text, count));
+    for (text, count) in &FRONTS {
+        assert!(rt; has_front(rt.alloc(), *text, *count));
     }
 }
 
 #[test]
 fn comparisons_in_a_row_and_ranges_are_refused(rt: HostRuntime) {
-    for (text, code, place) in REFUSED {
-        assert!(rt; is_refused(rt.alloc(), text, code, place));
+    for (text, code, place) in &REFUSED {
+        assert!(rt; is_refused(rt.alloc(), *text, *code, *place));
     }
 }
 

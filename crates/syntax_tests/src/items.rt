@@ -1,6 +1,6 @@
 use rs_syntax::parse;
 use source_trees::{
-    Body, Expr, ExprNode, Fields, ImplItem, Item, ItemNode, VariantFields, Visibility,
+    Body, Expr, ExprNode, Fields, Function, ImplItem, Item, ItemNode, VariantFields, Visibility,
 };
 use std::alloc::Global;
 use std::process::Abort;
@@ -84,25 +84,23 @@ fn items_of(alloc: Global, text: &[u8]) -> Option<Items<Item>> {
     }
 }
 
-/// The value of the block of the function that the text is, is of these letters and stands there; the block has so many statements.
-fn is_body(
-    alloc: Global,
-    text: &[u8],
-    forms: (u8, u8, u8),
-    span: (u32, u32),
-    count: usize,
-) -> bool {
-    let items = match items_of(alloc, text) {
-        Some(items) => items,
-        None => return false,
-    };
-    let function = match items.as_slice() {
+/// A text that is a function, the letters of the value of its block, where that stands, and how many statements the block has.
+type Row = (&'static [u8], (u8, u8, u8), (u32, u32), usize);
+
+/// The function that the items are.
+fn function_of(items: &[Item]) -> Option<&Function> {
+    match items {
         [only] => match &only.node {
-            ItemNode::Function(function) => function,
-            _ => return false,
+            ItemNode::Function(function) => Some(function),
+            _ => None,
         },
-        _ => return false,
-    };
+        _ => None,
+    }
+}
+
+/// Whether the function's block and its value are those of the row.
+fn has_body(function: &Function, row: &Row) -> bool {
+    let (_, forms, span, count) = *row;
     match &function.body {
         Body::Block(block) => match &*block.node {
             ExprNode::BlockWith(statements, value) => {
@@ -120,265 +118,134 @@ fn is_body(
     }
 }
 
-#[test]
-fn expressions_are_of_all_forms(rt: HostRuntime) {
-    let cases = [
-        (b"fn f() { 1u8 }".as_slice(), (b'i', b' ', b' '), (9, 12), 0),
-        (b"fn f() { -1 }".as_slice(), (b'i', b' ', b' '), (9, 11), 0),
-        (
-            b"fn f() { true }".as_slice(),
-            (b't', b' ', b' '),
-            (9, 13),
-            0,
-        ),
-        (
-            b"fn f() { self }".as_slice(),
-            (b's', b' ', b' '),
-            (9, 13),
-            0,
-        ),
-        (
-            b"fn f() { a::b }".as_slice(),
-            (b'p', b' ', b' '),
-            (9, 13),
-            0,
-        ),
-        (
-            b"fn f() { <T as A>::b }".as_slice(),
-            (b'p', b' ', b' '),
-            (9, 20),
-            0,
-        ),
-        (
-            b"fn f() { S { a, b: 1 } }".as_slice(),
-            (b'{', b' ', b' '),
-            (9, 22),
-            0,
-        ),
-        (
-            b"fn f() { (a,) }".as_slice(),
-            (b',', b' ', b' '),
-            (9, 13),
-            0,
-        ),
-        (
-            b"fn f() { (a) }".as_slice(),
-            (b'p', b' ', b' '),
-            (10, 11),
-            0,
-        ),
-        (
-            b"fn f() { (a + b) * c }".as_slice(),
-            (b'+', b'+', b'p'),
-            (9, 20),
-            0,
-        ),
-        (
-            b"fn f() { a + b * c }".as_slice(),
-            (b'+', b'p', b'+'),
-            (9, 18),
-            0,
-        ),
-        (
-            b"fn f() { a - b - c }".as_slice(),
-            (b'+', b'+', b'p'),
-            (9, 18),
-            0,
-        ),
-        (
-            b"fn f() { a < b && c }".as_slice(),
-            (b'z', b'+', b'p'),
-            (9, 19),
-            0,
-        ),
-        (
-            b"fn f() { a || b && c }".as_slice(),
-            (b'z', b'p', b'z'),
-            (9, 20),
-            0,
-        ),
-        (
-            b"fn f() { a = b = c }".as_slice(),
-            (b'=', b'p', b'='),
-            (9, 18),
-            0,
-        ),
-        (
-            b"fn f() { a += b }".as_slice(),
-            (b'u', b'p', b'p'),
-            (9, 15),
-            0,
-        ),
-        (
-            b"fn f() { a as u8 + b }".as_slice(),
-            (b'+', b'a', b'p'),
-            (9, 20),
-            0,
-        ),
-        (b"fn f() { !a }".as_slice(), (b'-', b'p', b' '), (9, 11), 0),
-        (
-            b"fn f() { -a.b }".as_slice(),
-            (b'-', b'.', b' '),
-            (9, 13),
-            0,
-        ),
-        (
-            b"fn f() { &mut *a }".as_slice(),
-            (b'&', b'-', b' '),
-            (9, 16),
-            0,
-        ),
-        (
-            b"fn f() { a.0.1 }".as_slice(),
-            (b'0', b'0', b' '),
-            (9, 14),
-            0,
-        ),
-        (
-            b"fn f() { a.f::<u8>(b) }".as_slice(),
-            (b'm', b'p', b' '),
-            (9, 21),
-            0,
-        ),
-        (
-            b"fn f() { a(b)(c) }".as_slice(),
-            (b'(', b'(', b' '),
-            (9, 16),
-            0,
-        ),
-    ];
-    for (text, forms, span, count) in cases {
-        assert!(rt; is_body(rt.alloc(), text, forms, span, count));
+fn is_body(alloc: Global, row: &Row) -> bool {
+    match items_of(alloc, row.0) {
+        Some(items) => match function_of(items.as_slice()) {
+            Some(function) => has_body(function, row),
+            None => false,
+        },
+        None => false,
     }
 }
 
+fn expect_bodies(rt: &impl Abort, alloc: Global, rows: &[Row]) {
+    for (at, row) in rows.iter().enumerate() {
+        assert!(rt; is_body(alloc, row), "row {at}");
+    }
+}
+
+const EXPRESSIONS: [Row; 23] = [
+    (b"fn f() { 1u8 }", (b'i', b' ', b' '), (9, 12), 0),
+    (b"fn f() { -1 }", (b'i', b' ', b' '), (9, 11), 0),
+    (b"fn f() { true }", (b't', b' ', b' '), (9, 13), 0),
+    (b"fn f() { self }", (b's', b' ', b' '), (9, 13), 0),
+    (b"fn f() { a::b }", (b'p', b' ', b' '), (9, 13), 0),
+    (b"fn f() { <T as A>::b }", (b'p', b' ', b' '), (9, 20), 0),
+    (b"fn f() { S { a, b: 1 } }", (b'{', b' ', b' '), (9, 22), 0),
+    (b"fn f() { (a,) }", (b',', b' ', b' '), (9, 13), 0),
+    (b"fn f() { (a) }", (b'p', b' ', b' '), (10, 11), 0),
+    (b"fn f() { (a + b) * c }", (b'+', b'+', b'p'), (9, 20), 0),
+    (b"fn f() { a + b * c }", (b'+', b'p', b'+'), (9, 18), 0),
+    (b"fn f() { a - b - c }", (b'+', b'+', b'p'), (9, 18), 0),
+    (b"fn f() { a < b && c }", (b'z', b'+', b'p'), (9, 19), 0),
+    (b"fn f() { a || b && c }", (b'z', b'p', b'z'), (9, 20), 0),
+    (b"fn f() { a = b = c }", (b'=', b'p', b'='), (9, 18), 0),
+    (b"fn f() { a += b }", (b'u', b'p', b'p'), (9, 15), 0),
+    (b"fn f() { a as u8 + b }", (b'+', b'a', b'p'), (9, 20), 0),
+    (b"fn f() { !a }", (b'-', b'p', b' '), (9, 11), 0),
+    (b"fn f() { -a.b }", (b'-', b'.', b' '), (9, 13), 0),
+    (b"fn f() { &mut *a }", (b'&', b'-', b' '), (9, 16), 0),
+    (b"fn f() { a.0.1 }", (b'0', b'0', b' '), (9, 14), 0),
+    (b"fn f() { a.f::<u8>(b) }", (b'm', b'p', b' '), (9, 21), 0),
+    (b"fn f() { a(b)(c) }", (b'(', b'(', b' '), (9, 16), 0),
+];
+
+#[test]
+fn expressions_are_of_all_forms(rt: HostRuntime) {
+    expect_bodies(&rt, rt.alloc(), &EXPRESSIONS);
+}
+
+const STATEMENTS: [Row; 20] = [
+    (b"fn f() { { a } }", (b'b', b'p', b' '), (9, 14), 0),
+    (b"fn f() { {} a }", (b'p', b' ', b' '), (12, 13), 1),
+    (b"fn f() { {}; {} }", (b'B', b' ', b' '), (13, 15), 1),
+    (
+        b"fn f() { let (a, mut b): (u8, T) = c; d; a }",
+        (b'p', b' ', b' '),
+        (41, 42),
+        2,
+    ),
+    (b"fn f() { if a { b } }", (b'I', b'p', b'b'), (9, 19), 0),
+    (
+        b"fn f() { if let a = b {} else if c {} }",
+        (b'E', b'p', b'I'),
+        (9, 37),
+        0,
+    ),
+    (
+        b"fn f() { match a { 1 => b, S { x, .. } => {} _ => c } }",
+        (b'M', b'p', b' '),
+        (9, 53),
+        0,
+    ),
+    (
+        b"fn f() { while a { break } }",
+        (b'W', b'p', b'b'),
+        (9, 26),
+        0,
+    ),
+    (
+        b"fn f() { loop { continue; } }",
+        (b'L', b'B', b' '),
+        (9, 27),
+        0,
+    ),
+    (
+        b"fn f() { #[invariant(a)] #[variant(b)] loop {} }",
+        (b'#', b'L', b' '),
+        (9, 46),
+        0,
+    ),
+    (
+        b"fn f() { 1 + #[invariant(a)] loop {} }",
+        (b'+', b'i', b'#'),
+        (9, 36),
+        0,
+    ),
+    (
+        b"fn f() { move |x: u8, y: T| x }",
+        (b'c', b'p', b' '),
+        (9, 29),
+        0,
+    ),
+    (b"fn f() { || -> u8 { 1 } }", (b'c', b'b', b' '), (9, 23), 0),
+    (
+        b"fn f() { #[requires(a)] |x: u8| -> u8 { x }(1).y + 2 }",
+        (b'+', b'.', b'i'),
+        (9, 52),
+        0,
+    ),
+    (b"fn f() { return }", (b'r', b' ', b' '), (9, 15), 0),
+    (b"fn f() { return a + b }", (b'R', b'+', b' '), (9, 21), 0),
+    (b"fn f() { panic!(\"x\") }", (b'P', b' ', b' '), (9, 20), 0),
+    (b"fn f() { snapshot!(^a) }", (b'G', b' ', b' '), (9, 22), 0),
+    (
+        b"fn f() { match a { b => #[invariant(c)] loop {} d => e } }",
+        (b'M', b'p', b' '),
+        (9, 56),
+        0,
+    ),
+    (
+        b"fn f() { #[invariant(a)] while b {} c }",
+        (b'p', b' ', b' '),
+        (36, 37),
+        1,
+    ),
+];
+
 #[test]
 fn statements_are_of_all_forms(rt: HostRuntime) {
-    let cases = [
-        (
-            b"fn f() { { a } }".as_slice(),
-            (b'b', b'p', b' '),
-            (9, 14),
-            0,
-        ),
-        (
-            b"fn f() { {} a }".as_slice(),
-            (b'p', b' ', b' '),
-            (12, 13),
-            1,
-        ),
-        (
-            b"fn f() { {}; {} }".as_slice(),
-            (b'B', b' ', b' '),
-            (13, 15),
-            1,
-        ),
-        (
-            b"fn f() { let (a, mut b): (u8, T) = c; d; a }".as_slice(),
-            (b'p', b' ', b' '),
-            (41, 42),
-            2,
-        ),
-        (
-            b"fn f() { if a { b } }".as_slice(),
-            (b'I', b'p', b'b'),
-            (9, 19),
-            0,
-        ),
-        (
-            b"fn f() { if let a = b {} else if c {} }".as_slice(),
-            (b'E', b'p', b'I'),
-            (9, 37),
-            0,
-        ),
-        (
-            b"fn f() { match a { 1 => b, S { x, .. } => {} _ => c } }".as_slice(),
-            (b'M', b'p', b' '),
-            (9, 53),
-            0,
-        ),
-        (
-            b"fn f() { while a { break } }".as_slice(),
-            (b'W', b'p', b'b'),
-            (9, 26),
-            0,
-        ),
-        (
-            b"fn f() { loop { continue; } }".as_slice(),
-            (b'L', b'B', b' '),
-            (9, 27),
-            0,
-        ),
-        (
-            b"fn f() { #[invariant(a)] #[variant(b)] loop {} }".as_slice(),
-            (b'#', b'L', b' '),
-            (9, 46),
-            0,
-        ),
-        (
-            b"fn f() { 1 + #[invariant(a)] loop {} }".as_slice(),
-            (b'+', b'i', b'#'),
-            (9, 36),
-            0,
-        ),
-        (
-            b"fn f() { move |x: u8, y: T| x }".as_slice(),
-            (b'c', b'p', b' '),
-            (9, 29),
-            0,
-        ),
-        (
-            b"fn f() { || -> u8 { 1 } }".as_slice(),
-            (b'c', b'b', b' '),
-            (9, 23),
-            0,
-        ),
-        (
-            b"fn f() { #[requires(a)] |x: u8| -> u8 { x }(1).y + 2 }".as_slice(),
-            (b'+', b'.', b'i'),
-            (9, 52),
-            0,
-        ),
-        (
-            b"fn f() { return }".as_slice(),
-            (b'r', b' ', b' '),
-            (9, 15),
-            0,
-        ),
-        (
-            b"fn f() { return a + b }".as_slice(),
-            (b'R', b'+', b' '),
-            (9, 21),
-            0,
-        ),
-        (
-            b"fn f() { panic!(\"x\") }".as_slice(),
-            (b'P', b' ', b' '),
-            (9, 20),
-            0,
-        ),
-        (
-            b"fn f() { snapshot!(^a) }".as_slice(),
-            (b'G', b' ', b' '),
-            (9, 22),
-            0,
-        ),
-        (
-            b"fn f() { match a { b => #[invariant(c)] loop {} d => e } }".as_slice(),
-            (b'M', b'p', b' '),
-            (9, 56),
-            0,
-        ),
-        (
-            b"fn f() { #[invariant(a)] while b {} c }".as_slice(),
-            (b'p', b' ', b' '),
-            (36, 37),
-            1,
-        ),
-    ];
-    for (text, forms, span, count) in cases {
-        assert!(rt; is_body(rt.alloc(), text, forms, span, count));
-    }
+    expect_bodies(&rt, rt.alloc(), &STATEMENTS);
 }
 
 /// A letter for the item, and two numbers of what stands in it.
@@ -412,14 +279,11 @@ fn item_letter(item: &Item) -> (u8, usize, usize) {
     }
 }
 
-/// The last item of the text is of this letter, with these numbers, so many attributes and this visibility.
-fn is_item(
-    alloc: Global,
-    text: &[u8],
-    form: (u8, usize, usize),
-    attributes: usize,
-    visibility: Visibility,
-) -> bool {
+/// A text, the letter and the numbers of its last item, how many attributes that has, and its visibility.
+type ItemRow = (&'static [u8], (u8, usize, usize), usize, Visibility);
+
+fn is_item(alloc: Global, row: &ItemRow) -> bool {
+    let (text, form, attributes, visibility) = *row;
     match items_of(alloc, text) {
         None => false,
         Some(items) => match items.as_slice() {
@@ -437,108 +301,89 @@ fn is_item(
     }
 }
 
+const ITEMS: [ItemRow; 16] = [
+    (
+        b"#![x] fn f<'a: 'b, T: A + Fn(u8) -> T>(mut x: &'a mut T, self) where T: B {}",
+        (b'f', 2, 2),
+        0,
+        Visibility::Private,
+    ),
+    (
+        b"#[requires(a)] #[ensures(result == 1)] pub fn f(&mut self) -> u8 { 1 }",
+        (b'f', 1, 0),
+        2,
+        Visibility::Public,
+    ),
+    (
+        b"#[logic] fn f(x: Int) -> Int { pearlite!{ x } }",
+        (b'f', 1, 0),
+        1,
+        Visibility::Private,
+    ),
+    (b"#[law] fn f();", (b'f', 0, 0), 1, Visibility::Private),
+    (b"struct S;", (b's', 0, 0), 0, Visibility::Private),
+    (
+        b"#[derive(Copy, Clone)] pub(crate) struct S<T>(pub u8, T);",
+        (b't', 1, 2),
+        1,
+        Visibility::Crate,
+    ),
+    (
+        b"struct S { pub a: u8, b: Option<T>, c: (u8, Self) }",
+        (b'n', 0, 3),
+        0,
+        Visibility::Private,
+    ),
+    (b"enum E { A, B(u8) }", (b'u', 2, 0), 0, Visibility::Private),
+    (b"enum E { A(u8, T) }", (b'e', 1, 2), 0, Visibility::Private),
+    (
+        b"enum E<T> { A { x: T }, B }",
+        (b'v', 2, 1),
+        0,
+        Visibility::Private,
+    ),
+    (
+        b"trait A { #[logic] fn f(self); fn g(&self) -> Self::ViewTy; }",
+        (b'T', 2, 0),
+        0,
+        Visibility::Private,
+    ),
+    (
+        b"impl S<u8> { pub fn f() {} fn g() {} }",
+        (b'i', 2, 0),
+        0,
+        Visibility::Private,
+    ),
+    (
+        b"impl<T> A for (T, u8) where T: A, 'a: 'b { fn f() {} }",
+        (b'I', 1, 2),
+        0,
+        Visibility::Private,
+    ),
+    (
+        b"impl View for S { type ViewTy = Int; #[logic] fn view(self) -> Int { 1 } }",
+        (b'V', 2, 0),
+        0,
+        Visibility::Private,
+    ),
+    (
+        b"use creusot_contracts::*;",
+        (b'U', 0, 0),
+        0,
+        Visibility::Private,
+    ),
+    (
+        b"use std::mem; extern crate creusot_contracts;",
+        (b'X', 0, 0),
+        0,
+        Visibility::Private,
+    ),
+];
+
 #[test]
 fn items_are_of_all_forms(rt: HostRuntime) {
-    let cases = [
-        (
-            b"#![x] fn f<'a: 'b, T: A + Fn(u8) -> T>(mut x: &'a mut T, self) where T: B {}".as_slice(),
-            (b'f', 2, 2),
-            0,
-            Visibility::Private,
-        ),
-        (
-            b"#[requires(a)] #[ensures(result == 1)] pub fn f(&mut self) -> u8 { 1 }".as_slice(),
-            (b'f', 1, 0),
-            2,
-            Visibility::Public,
-        ),
-        (
-            b"#[logic] fn f(x: Int) -> Int { pearlite!{ x } }".as_slice(),
-            (b'f', 1, 0),
-            1,
-            Visibility::Private,
-        ),
-        (
-            b"#[law] fn f();".as_slice(),
-            (b'f', 0, 0),
-            1,
-            Visibility::Private,
-        ),
-        (
-            b"struct S;".as_slice(),
-            (b's', 0, 0),
-            0,
-            Visibility::Private,
-        ),
-        (
-            b"#[derive(Copy, Clone)] pub(crate) struct S<T>(pub u8, T);".as_slice(),
-            (b't', 1, 2),
-            1,
-            Visibility::Crate,
-        ),
-        (
-            b"struct S { pub a: u8, b: Option<T>, c: (u8, Self) }".as_slice(),
-            (b'n', 0, 3),
-            0,
-            Visibility::Private,
-        ),
-        (
-            b"enum E { A, B(u8) }".as_slice(),
-            (b'u', 2, 0),
-            0,
-            Visibility::Private,
-        ),
-        (
-            b"enum E { A(u8, T) }".as_slice(),
-            (b'e', 1, 2),
-            0,
-            Visibility::Private,
-        ),
-        (
-            b"enum E<T> { A { x: T }, B }".as_slice(),
-            (b'v', 2, 1),
-            0,
-            Visibility::Private,
-        ),
-        (
-            b"trait A { #[logic] fn f(self); fn g(&self) -> Self::ViewTy; }".as_slice(),
-            (b'T', 2, 0),
-            0,
-            Visibility::Private,
-        ),
-        (
-            b"impl S<u8> { pub fn f() {} fn g() {} }".as_slice(),
-            (b'i', 2, 0),
-            0,
-            Visibility::Private,
-        ),
-        (
-            b"impl<T> A for (T, u8) where T: A, 'a: 'b { fn f() {} }".as_slice(),
-            (b'I', 1, 2),
-            0,
-            Visibility::Private,
-        ),
-        (
-            b"impl View for S { type ViewTy = Int; #[logic] fn view(self) -> Int { 1 } }".as_slice(),
-            (b'V', 2, 0),
-            0,
-            Visibility::Private,
-        ),
-        (
-            b"use creusot_contracts::*;".as_slice(),
-            (b'U', 0, 0),
-            0,
-            Visibility::Private,
-        ),
-        (
-            b"use std::mem; extern crate creusot_contracts;".as_slice(),
-            (b'X', 0, 0),
-            0,
-            Visibility::Private,
-        ),
-    ];
-    for (text, form, attributes, visibility) in cases {
-        assert!(rt; is_item(rt.alloc(), text, form, attributes, visibility));
+    for (at, row) in ITEMS.iter().enumerate() {
+        assert!(rt; is_item(rt.alloc(), row), "row {at}");
     }
 }
 
@@ -556,19 +401,20 @@ fn is_refused(alloc: Global, text: &[u8], code: Code, span: (u32, u32)) -> bool 
     }
 }
 
+const REFUSALS: [(&[u8], Code, (u32, u32)); 3] = [
+    (b"fn f() {} /* a /* b */", Code::E02, (10, 22)),
+    (
+        b"fn f(a: i32, b: i32, c: i32) -> bool { a < b < c }",
+        Code::E03,
+        (45, 46),
+    ),
+    (b"fn f() { unsafe {} }", Code::E20, (9, 15)),
+];
+
 #[test]
 fn refusals_are_those_of_the_whole_grammar(rt: HostRuntime) {
-    let cases = [
-        (b"fn f() {} /* a /* b */".as_slice(), Code::E02, (10, 22)),
-        (
-            b"fn f(a: i32, b: i32, c: i32) -> bool { a < b < c }".as_slice(),
-            Code::E03,
-            (45, 46),
-        ),
-        (b"fn f() { unsafe {} }".as_slice(), Code::E20, (9, 15)),
-    ];
-    for (text, code, span) in cases {
-        assert!(rt; is_refused(rt.alloc(), text, code, span));
+    for (text, code, span) in &REFUSALS {
+        assert!(rt; is_refused(rt.alloc(), *text, *code, *span));
     }
 }
 

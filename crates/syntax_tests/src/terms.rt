@@ -143,82 +143,68 @@ fn is_word(
     }
 }
 
+const TERMS: [(&[u8], (u8, u8, u8), u32); 34] = [
+    (b"a + b * c", (b'+', b'p', b'*'), 5),
+    (b"-a * b", (b'*', b'n', b'p'), 4),
+    (b"a ==> b ==> c", (b'>', b'p', b'>'), 5),
+    (b"a - b - c", (b'-', b'-', b'p'), 5),
+    (b"a || b && c", (b'|', b'p', b'&'), 5),
+    (b"a && b || c", (b'|', b'&', b'p'), 5),
+    (b"a < b + 1", (b'=', b'p', b'+'), 5),
+    (b"(a < b) == c", (b'=', b'=', b'p'), 7),
+    (b"-5", (b'i', b' ', b' '), 2),
+    (b"-(5)", (b'i', b' ', b' '), 4),
+    (b"--5", (b'n', b'i', b' '), 3),
+    (b"!x@", (b'!', b'@', b' '), 3),
+    (b"*x@", (b'c', b'@', b' '), 3),
+    (b"^*x", (b'^', b'c', b' '), 3),
+    (b"x.f.0", (b'0', b'.', b' '), 5),
+    (b"x.f(y).g", (b'.', b'(', b' '), 8),
+    (b"x.f()", (b'(', b'p', b' '), 5),
+    (b"f(x, y,)@", (b'@', b'f', b' '), 8),
+    (b"a::b::<T>(x)", (b'f', b' ', b' '), 10),
+    (b"Vec::<T>::new", (b'p', b' ', b' '), 7),
+    (b"<T as A>::f(self)", (b'f', b' ', b' '), 10),
+    (b"S { f: a, g: b }", (b'{', b' ', b' '), 10),
+    (b"(a)", (b'p', b' ', b' '), 3),
+    (b"(a,)", (b',', b' ', b' '), 4),
+    (b"()", (b',', b' ', b' '), 2),
+    (b"if a { result } else { self }", (b'?', b'p', b'r'), 9),
+    (
+        b"match x { A(_, mut y) => 1, B { z, .. } => 2 }",
+        (b'M', b'p', b' '),
+        22,
+    ),
+    (b"forall<i: Int> 0 <= i ==> i < n", (b'Q', b'>', b' '), 13),
+    (b"exists<r: &'a mut (T, u8)> true", (b'Q', b't', b' '), 14),
+    (b"MutRef(a, *b)", (b'm', b'p', b'c'), 7),
+    (b"postcondition_mut(f, (x,), r)", (b'P', b' ', b' '), 11),
+    (b"a) + b", (b'p', b' ', b' '), 1),
+    (b"a as u8", (b'p', b' ', b' '), 1),
+    (b"a < b < c", (b'=', b'p', b'p'), 3),
+];
+
 #[test]
 fn terms_group_as_the_grammar_says(rt: HostRuntime) {
     let alloc = rt.alloc();
-    let cases = [
-        (b"a + b * c".as_slice(), (b'+', b'p', b'*'), 5),
-        (b"-a * b".as_slice(), (b'*', b'n', b'p'), 4),
-        (b"a ==> b ==> c".as_slice(), (b'>', b'p', b'>'), 5),
-        (b"a - b - c".as_slice(), (b'-', b'-', b'p'), 5),
-        (b"a || b && c".as_slice(), (b'|', b'p', b'&'), 5),
-        (b"a && b || c".as_slice(), (b'|', b'&', b'p'), 5),
-        (b"a < b + 1".as_slice(), (b'=', b'p', b'+'), 5),
-        (b"(a < b) == c".as_slice(), (b'=', b'=', b'p'), 7),
-        (b"-5".as_slice(), (b'i', b' ', b' '), 2),
-        (b"-(5)".as_slice(), (b'i', b' ', b' '), 4),
-        (b"--5".as_slice(), (b'n', b'i', b' '), 3),
-        (b"!x@".as_slice(), (b'!', b'@', b' '), 3),
-        (b"*x@".as_slice(), (b'c', b'@', b' '), 3),
-        (b"^*x".as_slice(), (b'^', b'c', b' '), 3),
-        (b"x.f.0".as_slice(), (b'0', b'.', b' '), 5),
-        (b"x.f(y).g".as_slice(), (b'.', b'(', b' '), 8),
-        (b"x.f()".as_slice(), (b'(', b'p', b' '), 5),
-        (b"f(x, y,)@".as_slice(), (b'@', b'f', b' '), 8),
-        (b"a::b::<T>(x)".as_slice(), (b'f', b' ', b' '), 10),
-        (b"Vec::<T>::new".as_slice(), (b'p', b' ', b' '), 7),
-        (b"<T as A>::f(self)".as_slice(), (b'f', b' ', b' '), 10),
-        (b"S { f: a, g: b }".as_slice(), (b'{', b' ', b' '), 10),
-        (b"(a)".as_slice(), (b'p', b' ', b' '), 3),
-        (b"(a,)".as_slice(), (b',', b' ', b' '), 4),
-        (b"()".as_slice(), (b',', b' ', b' '), 2),
-        (
-            b"if a { result } else { self }".as_slice(),
-            (b'?', b'p', b'r'),
-            9,
-        ),
-        (
-            b"match x { A(_, mut y) => 1, B { z, .. } => 2 }".as_slice(),
-            (b'M', b'p', b' '),
-            22,
-        ),
-        (
-            b"forall<i: Int> 0 <= i ==> i < n".as_slice(),
-            (b'Q', b'>', b' '),
-            13,
-        ),
-        (
-            b"exists<r: &'a mut (T, u8)> true".as_slice(),
-            (b'Q', b't', b' '),
-            14,
-        ),
-        (b"MutRef(a, *b)".as_slice(), (b'm', b'p', b'c'), 7),
-        (
-            b"postcondition_mut(f, (x,), r)".as_slice(),
-            (b'P', b' ', b' '),
-            11,
-        ),
-        (b"a) + b".as_slice(), (b'p', b' ', b' '), 1),
-        (b"a as u8".as_slice(), (b'p', b' ', b' '), 1),
-        (b"a < b < c".as_slice(), (b'=', b'p', b'p'), 3),
-    ];
-    for (text, forms, count) in cases {
-        assert!(rt; is_term(alloc, text, forms, count));
+    for (text, forms, count) in &TERMS {
+        assert!(rt; is_term(alloc, *text, *forms, *count));
     }
 }
+
+const WORDS: [(usize, u8, (u32, u32), (i128, Option<IntKind>)); 4] = [
+    (0, WORD_FORALL, (0, 6), (0, None)),
+    (2, IDENTIFIER, (7, 8), (0, None)),
+    (4, IDENTIFIER, (10, 12), (0, None)),
+    (8, INTEGER, (19, 26), (31, Some(IntKind::U8))),
+];
 
 #[test]
 fn words_have_kinds_and_numbers(rt: HostRuntime) {
     let alloc = rt.alloc();
     let text = b"forall<x: u8> x == 0x1_Fu8 // y".as_slice();
-    let cases = [
-        (0, WORD_FORALL, (0, 6), (0, None)),
-        (2, IDENTIFIER, (7, 8), (0, None)),
-        (4, IDENTIFIER, (10, 12), (0, None)),
-        (8, INTEGER, (19, 26), (31, Some(IntKind::U8))),
-    ];
-    for (number, kind, span, value) in cases {
-        assert!(rt; is_word(alloc, text, number, kind, span, value));
+    for (number, kind, span, value) in &WORDS {
+        assert!(rt; is_word(alloc, text, *number, *kind, *span, *value));
     }
     assert!(rt; word_of_number(alloc, text, 9).is_none());
 }
@@ -274,26 +260,18 @@ fn has_arguments(alloc: Global, text: &[u8], letters: &[u8]) -> bool {
     }
 }
 
+const ARGUMENTS: [(&[u8], &[u8]); 5] = [
+    (b"forall<x: S> true", b""),
+    (b"forall<x: S<'a>> true", b"l"),
+    (b"forall<x: S<u8, (T, U)>> true", b"tt"),
+    (b"forall<x: S<'a, T, 'b>> true", b"ltl"),
+    (b"forall<x: S<T, 'a, 'b, U,>> true", b"tllt"),
+];
+
 #[test]
 fn arguments_of_types_stand_in_their_order(rt: HostRuntime) {
     let alloc = rt.alloc();
-    let cases = [
-        (b"forall<x: S> true".as_slice(), b"".as_slice()),
-        (b"forall<x: S<'a>> true".as_slice(), b"l".as_slice()),
-        (
-            b"forall<x: S<u8, (T, U)>> true".as_slice(),
-            b"tt".as_slice(),
-        ),
-        (
-            b"forall<x: S<'a, T, 'b>> true".as_slice(),
-            b"ltl".as_slice(),
-        ),
-        (
-            b"forall<x: S<T, 'a, 'b, U,>> true".as_slice(),
-            b"tllt".as_slice(),
-        ),
-    ];
-    for (text, letters) in cases {
-        assert!(rt; has_arguments(alloc, text, letters));
+    for (text, letters) in &ARGUMENTS {
+        assert!(rt; has_arguments(alloc, *text, *letters));
     }
 }

@@ -10,7 +10,7 @@ use Rattle.type_check.specs.declared.operands.Order.{Order}
 use Rattle.type_check.specs.declared.operands.Order.TheVariants as order
 use Rattle.type_check.specs.declared.scope.Variable.{Variable}
 use Rattle.type_check.specs.Answers.{◌>>=◌, gather}
-use Rattle.type_check.specs.Setting.{Setting}
+use Rattle.type_check.specs.Setting.{Setting, looping, outside}
 use Rattle.type_check.specs.TypedExpr.{TypedExpr, TypedExprs}
 use Rattle.type_check.specs.TypedExpr as tree
 use Rattle.type_check.specs.TypedExprView.{ty_of}
@@ -23,17 +23,17 @@ use Rattle.type_check.specs.Rules.{Asks, comes, part, first, operands_in, each_a
 
 mutual
   types_one : (σ : Setting) (Γ : List Variable) (e : Expr) (t : Option Ty) (r other : Typed) → Types σ Γ e t r → Types σ Γ e t other → r ≡ other
-  types_one σ Γ e t r other (by_rule c) (by_rule d) = comes_one σ (rule σ Γ e t) r other c d
+  types_one σ Γ e t r other (by_rule c) (by_rule d) = comes_one (rule σ Γ e t) r other c d
 
-  comes_one : (σ : Setting) (a : Asks) (r other : Typed) → Comes σ a r → Comes σ a other → r ≡ other
-  comes_one σ (comes a) r other itself itself = refl
-  comes_one σ (part Γ e t k) r other (refused {x = x} c) (refused {x = y} d) = types_one σ Γ e t (Err x) (Err y) c d
-  comes_one σ (part Γ e t k) r other (refused {x = x} c) (then {v = w} d m) = let p : Err x ≡ Ok w = types_one σ Γ e t (Err x) (Ok w) c d in absurd (cc)
-  comes_one σ (part Γ e t k) r other (then {v = v} c l) (refused {x = y} d) = let p : Ok v ≡ Err y = types_one σ Γ e t (Ok v) (Err y) c d in absurd (cc)
-  comes_one σ (part Γ e t k) r other (then {v = v} c l) (then {v = w} d m) =
+  comes_one : (a : Asks) (r other : Typed) → Comes a r → Comes a other → r ≡ other
+  comes_one (comes a) r other itself itself = refl
+  comes_one (part σ Γ e t k) r other (refused {x = x} c) (refused {x = y} d) = types_one σ Γ e t (Err x) (Err y) c d
+  comes_one (part σ Γ e t k) r other (refused {x = x} c) (then {v = w} d m) = let p : Err x ≡ Ok w = types_one σ Γ e t (Err x) (Ok w) c d in absurd (cc)
+  comes_one (part σ Γ e t k) r other (then {v = v} c l) (refused {x = y} d) = let p : Ok v ≡ Err y = types_one σ Γ e t (Ok v) (Err y) c d in absurd (cc)
+  comes_one (part σ Γ e t k) r other (then {v = v} c l) (then {v = w} d m) =
       let p : Ok v ≡ Ok w = types_one σ Γ e t (Ok v) (Ok w) c d in
       let q : w ≡ v = cc in
-      comes_one σ (k v) r other l (subst (λ u. Comes σ (k u) other) q m)
+      comes_one (k v) r other l (subst (λ u. Comes (k u) other) q m)
 
 pub typing_is_one : TypingIsOne
 typing_is_one σ Γ e t r other c d = types_one σ Γ e t r other c d
@@ -45,81 +45,83 @@ assoc (Ok a) f g = refl
 assoc (Err e) f g = refl
 
 -- what comes of asks, and of a chain that goes on as they do
-abbrev Follows : {A : Type 0} → Setting → (A → Asks) → (A → Typed) → Type 0
-Follows {A} σ k f = (a : A) → Comes σ (k a) (f a)
+abbrev Follows : {A : Type 0} → (A → Asks) → (A → Typed) → Type 0
+Follows {A} k f = (a : A) → Comes (k a) (f a)
 
-at_first : {A : Type 0} (σ : Setting) (m : Result A SourceError) (k : A → Asks) (f : A → Typed) → Follows σ k f → Comes σ (first m k) (m >>= f)
-at_first σ (Ok a) k f h = h a
-at_first σ (Err e) k f h = itself
+at_first : {A : Type 0} (m : Result A SourceError) (k : A → Asks) (f : A → Typed) → Follows k f → Comes (first m k) (m >>= f)
+at_first (Ok a) k f h = h a
+at_first (Err e) k f h = itself
 
-at_part : (σ : Setting) (Γ : List Variable) (e : Expr) (t : Option Ty) (m : Typed) (k : TypedExpr → Asks) (f : TypedExpr → Typed) → Types σ Γ e t m → Follows σ k f → Comes σ (part Γ e t k) (m >>= f)
+at_part : (σ : Setting) (Γ : List Variable) (e : Expr) (t : Option Ty) (m : Typed) (k : TypedExpr → Asks) (f : TypedExpr → Typed) → Types σ Γ e t m → Follows k f → Comes (part σ Γ e t k) (m >>= f)
 at_part σ Γ e t (Ok v) k f c h = then c (h v)
 at_part σ Γ e t (Err x) k f c h = refused c
 
 -- the same, where what comes of the part is put into something first
 at_part_in : {A : Type 0} (σ : Setting) (Γ : List Variable) (e : Expr) (t : Option Ty) (m : Typed) (k : TypedExpr → Asks) (g : TypedExpr → Result A SourceError) (f : A → Typed)
-    → Types σ Γ e t m → Follows σ k (λ v. g v >>= f) → Comes σ (part Γ e t k) ((m >>= g) >>= f)
-at_part_in σ Γ e t m k g f c h = subst (Comes σ (part Γ e t k)) (sym (assoc m g f)) (at_part σ Γ e t m k (λ v. g v >>= f) c h)
+    → Types σ Γ e t m → Follows k (λ v. g v >>= f) → Comes (part σ Γ e t k) ((m >>= g) >>= f)
+at_part_in σ Γ e t m k g f c h = subst (Comes (part σ Γ e t k)) (sym (assoc m g f)) (at_part σ Γ e t m k (λ v. g v >>= f) c h)
 
-module _ (σ : Setting) where
-  -- what an expression comes to in a scope at each expected type
-  abbrev Each : List Variable → Expr → Type 0
-  Each Γ e = (t : Option Ty) → Types σ Γ e t (typed σ Γ e t)
+-- what an expression comes to in a scope at each expected type
+abbrev Each : Setting → List Variable → Expr → Type 0
+Each σ Γ e = (t : Option Ty) → Types σ Γ e t (typed σ Γ e t)
 
-  at_operands : (o : Order) (Γ : List Variable) (a b : Expr) (k : Operands → Asks) (f : Operands → Typed) → Each Γ a → Each Γ b → Follows σ k f → Comes σ (operands_in o Γ a b k) (operands o (typed σ Γ a) (typed σ Γ b) >>= f)
-  at_operands (order.Against t) Γ a b k f one other h =
-      at_part_in σ Γ a (Some t) (typed σ Γ a (Some t)) _ (λ x. typed σ Γ b (Some t) >>= λ y. Ok (operands_of x y)) f (one (Some t))
-      (λ x. at_part_in σ Γ b (Some t) (typed σ Γ b (Some t)) _ (λ y. Ok (operands_of x y)) f (other (Some t)) (λ y. h (operands_of x y)))
-  at_operands order.SecondGives Γ a b k f one other h =
-      at_part_in σ Γ b None (typed σ Γ b None) _ (λ y. typed σ Γ a (Some (ty_of y)) >>= λ x. Ok (operands_of x y)) f (other None)
-      (λ y. at_part_in σ Γ a (Some (ty_of y)) (typed σ Γ a (Some (ty_of y))) _ (λ x. Ok (operands_of x y)) f (one (Some (ty_of y))) (λ x. h (operands_of x y)))
-  at_operands order.FirstGives Γ a b k f one other h =
-      at_part_in σ Γ a None (typed σ Γ a None) _ (λ x. typed σ Γ b (Some (ty_of x)) >>= λ y. Ok (operands_of x y)) f (one None)
-      (λ x. at_part_in σ Γ b (Some (ty_of x)) (typed σ Γ b (Some (ty_of x))) _ (λ y. Ok (operands_of x y)) f (other (Some (ty_of x))) (λ y. h (operands_of x y)))
+at_operands : (σ : Setting) (o : Order) (Γ : List Variable) (a b : Expr) (k : Operands → Asks) (f : Operands → Typed) → Each σ Γ a → Each σ Γ b → Follows k f → Comes (operands_in σ o Γ a b k) (operands o (typed σ Γ a) (typed σ Γ b) >>= f)
+at_operands σ (order.Against t) Γ a b k f one other h =
+    at_part_in σ Γ a (Some t) (typed σ Γ a (Some t)) _ (λ x. typed σ Γ b (Some t) >>= λ y. Ok (operands_of x y)) f (one (Some t))
+    (λ x. at_part_in σ Γ b (Some t) (typed σ Γ b (Some t)) _ (λ y. Ok (operands_of x y)) f (other (Some t)) (λ y. h (operands_of x y)))
+at_operands σ order.SecondGives Γ a b k f one other h =
+    at_part_in σ Γ b None (typed σ Γ b None) _ (λ y. typed σ Γ a (Some (ty_of y)) >>= λ x. Ok (operands_of x y)) f (other None)
+    (λ y. at_part_in σ Γ a (Some (ty_of y)) (typed σ Γ a (Some (ty_of y))) _ (λ x. Ok (operands_of x y)) f (one (Some (ty_of y))) (λ x. h (operands_of x y)))
+at_operands σ order.FirstGives Γ a b k f one other h =
+    at_part_in σ Γ a None (typed σ Γ a None) _ (λ x. typed σ Γ b (Some (ty_of x)) >>= λ y. Ok (operands_of x y)) f (one None)
+    (λ x. at_part_in σ Γ b (Some (ty_of x)) (typed σ Γ b (Some (ty_of x))) _ (λ y. Ok (operands_of x y)) f (other (Some (ty_of x))) (λ y. h (operands_of x y)))
 
-  mutual
-    types : (Γ : List Variable) (e : Expr) (t : Option Ty) → Types σ Γ e t (typed σ Γ e t)
-    types Γ (E.unary s Neg o e) t = by_rule (at_part σ Γ e t (typed σ Γ e t) _ _ (types Γ e t) (λ a. itself))
-    types Γ (E.unary s Not o e) t = by_rule (at_part σ Γ e (Some bool) (typed σ Γ e (Some bool)) _ _ (types Γ e (Some bool)) (λ a. itself))
-    types Γ (E.binary s op o a b) t = by_rule (at_operands (order_of (is_arithmetic op) t (is_bare a) (is_bare b)) Γ a b _ _ (λ u. types Γ a u) (λ u. types Γ b u) (λ p. itself))
-    types Γ (E.lazy s op a b) t = by_rule
-        (at_part σ Γ a (Some bool) (typed σ Γ a (Some bool)) _ _ (types Γ a (Some bool)) (λ x. at_part σ Γ b (Some bool) (typed σ Γ b (Some bool)) _ _ (types Γ b (Some bool)) (λ y. itself)))
-    types Γ (E.assign s l e) t = by_rule
-        (at_part σ Γ l None (typed σ Γ l None) _ _ (types Γ l None) (λ a. at_part σ Γ e (Some (ty_of a)) (typed σ Γ e (Some (ty_of a))) _ _ (types Γ e (Some (ty_of a))) (λ b. itself)))
-    types Γ (E.update s op o l e) t = by_rule
-        (at_part σ Γ l None (typed σ Γ l None) _ _ (types Γ l None) (λ a. at_part σ Γ e (Some (ty_of a)) (typed σ Γ e (Some (ty_of a))) _ _ (types Γ e (Some (ty_of a))) (λ b. itself)))
-    types Γ (E.call s f es) t = by_rule (at_first σ (callee_of σ.headings Γ s (as_name f)) _ _ (λ g. at_args Γ es g.signature.params _ _ (λ as'. itself)))
-    types Γ (E.block s ss) t = by_rule (at_stmts Γ ss _ _ (λ o. itself))
-    types Γ (E.block_with s ss e) t = by_rule (at_stmts Γ ss _ _ (λ o. at_part σ o.scope e t (typed σ o.scope e t) _ _ (types o.scope e t) (λ a. itself)))
-    types Γ (E.branch s None c a) t = by_rule
-        (at_part σ Γ c (Some bool) (typed σ Γ c (Some bool)) _ _ (types Γ c (Some bool)) (λ x. at_part σ Γ a (Some unit) (typed σ Γ a (Some unit)) _ _ (types Γ a (Some unit)) (λ y. itself)))
-    types Γ (E.choice s None c a b) t = by_rule
-        (at_part σ Γ c (Some bool) (typed σ Γ c (Some bool)) _ _ (types Γ c (Some bool)) (λ x. at_part σ Γ a t (typed σ Γ a t) _ _ (types Γ a t)
-        (λ y. at_part σ Γ b (given t y) (typed σ Γ b (given t y)) _ _ (types Γ b (given t y)) (λ z. itself))))
-    types Γ (E.repeat s None c b) t = by_rule
-        (at_part σ Γ c (Some bool) (typed σ Γ c (Some bool)) _ _ (types Γ c (Some bool)) (λ x. at_part σ Γ b (Some unit) (typed σ Γ b (Some unit)) _ _ (types Γ b (Some unit)) (λ y. itself)))
-    types Γ (E.attributed s is (E.repeat v None c b)) t = by_rule (at_first σ (gather (invariant_of Γ) is) _ _
-        (λ is'. at_part σ Γ c (Some bool) (typed σ Γ c (Some bool)) _ _ (types Γ c (Some bool)) (λ x. at_part σ Γ b (Some unit) (typed σ Γ b (Some unit)) _ _ (types Γ b (Some unit)) (λ y. itself))))
-    types Γ (E.return_with s e) t = by_rule (at_part σ Γ e (Some σ.answer) (typed σ Γ e (Some σ.answer)) _ _ (types Γ e (Some σ.answer)) (λ a. itself))
-    types Γ (E.endless s b) t = by_rule (at_part σ Γ b (Some unit) (typed σ Γ b (Some unit)) _ _ (types Γ b (Some unit)) (λ x. itself))
-    types Γ (E.attributed s is (E.endless v b)) t = by_rule (at_first σ (gather (invariant_of Γ) is) _ _ (λ is'. at_part σ Γ b (Some unit) (typed σ Γ b (Some unit)) _ _ (types Γ b (Some unit)) (λ x. itself)))
-    types Γ e t = by_rule itself
+mutual
+  types : (σ : Setting) (Γ : List Variable) (e : Expr) (t : Option Ty) → Types σ Γ e t (typed σ Γ e t)
+  types σ Γ (E.unary s Neg o e) t = by_rule (at_part σ Γ e t (typed σ Γ e t) _ _ (types σ Γ e t) (λ a. itself))
+  types σ Γ (E.unary s Not o e) t = by_rule (at_part σ Γ e (Some bool) (typed σ Γ e (Some bool)) _ _ (types σ Γ e (Some bool)) (λ a. itself))
+  types σ Γ (E.binary s op o a b) t = by_rule (at_operands σ (order_of (is_arithmetic op) t (is_bare a) (is_bare b)) Γ a b _ _ (λ u. types σ Γ a u) (λ u. types σ Γ b u) (λ p. itself))
+  types σ Γ (E.lazy s op a b) t = by_rule
+      (at_part σ Γ a (Some bool) (typed σ Γ a (Some bool)) _ _ (types σ Γ a (Some bool)) (λ x. at_part σ Γ b (Some bool) (typed σ Γ b (Some bool)) _ _ (types σ Γ b (Some bool)) (λ y. itself)))
+  types σ Γ (E.assign s l e) t = by_rule
+      (at_part σ Γ l None (typed σ Γ l None) _ _ (types σ Γ l None) (λ a. at_part σ Γ e (Some (ty_of a)) (typed σ Γ e (Some (ty_of a))) _ _ (types σ Γ e (Some (ty_of a))) (λ b. itself)))
+  types σ Γ (E.update s op o l e) t = by_rule
+      (at_part σ Γ l None (typed σ Γ l None) _ _ (types σ Γ l None) (λ a. at_part σ Γ e (Some (ty_of a)) (typed σ Γ e (Some (ty_of a))) _ _ (types σ Γ e (Some (ty_of a))) (λ b. itself)))
+  types σ Γ (E.call s f es) t = by_rule (at_first (callee_of σ.headings Γ s (as_name f)) _ _ (λ g. at_args σ Γ es g.signature.params _ _ (λ as'. itself)))
+  types σ Γ (E.block s ss) t = by_rule (at_stmts σ Γ ss _ _ (λ o. itself))
+  types σ Γ (E.block_with s ss e) t = by_rule (at_stmts σ Γ ss _ _ (λ o. at_part σ o.scope e t (typed σ o.scope e t) _ _ (types σ o.scope e t) (λ a. itself)))
+  types σ Γ (E.branch s None c a) t = by_rule
+      (at_part σ Γ c (Some bool) (typed σ Γ c (Some bool)) _ _ (types σ Γ c (Some bool)) (λ x. at_part σ Γ a (Some unit) (typed σ Γ a (Some unit)) _ _ (types σ Γ a (Some unit)) (λ y. itself)))
+  types σ Γ (E.choice s None c a b) t = by_rule
+      (at_part σ Γ c (Some bool) (typed σ Γ c (Some bool)) _ _ (types σ Γ c (Some bool)) (λ x. at_part σ Γ a t (typed σ Γ a t) _ _ (types σ Γ a t)
+      (λ y. at_part σ Γ b (given t y) (typed σ Γ b (given t y)) _ _ (types σ Γ b (given t y)) (λ z. itself))))
+  types σ Γ (E.repeat s None c b) t = by_rule
+      (at_part (outside σ) Γ c (Some bool) (typed (outside σ) Γ c (Some bool)) _ _ (types (outside σ) Γ c (Some bool))
+      (λ x. at_part (looping σ) Γ b (Some unit) (typed (looping σ) Γ b (Some unit)) _ _ (types (looping σ) Γ b (Some unit)) (λ y. itself)))
+  types σ Γ (E.attributed s is (E.repeat v None c b)) t = by_rule (at_first (gather (invariant_of Γ) is) _ _
+      (λ is'. at_part (outside σ) Γ c (Some bool) (typed (outside σ) Γ c (Some bool)) _ _ (types (outside σ) Γ c (Some bool))
+      (λ x. at_part (looping σ) Γ b (Some unit) (typed (looping σ) Γ b (Some unit)) _ _ (types (looping σ) Γ b (Some unit)) (λ y. itself))))
+  types σ Γ (E.return_with s e) t = by_rule (at_part σ Γ e (Some σ.answer) (typed σ Γ e (Some σ.answer)) _ _ (types σ Γ e (Some σ.answer)) (λ a. itself))
+  types σ Γ (E.endless s b) t = by_rule (at_part (looping σ) Γ b (Some unit) (typed (looping σ) Γ b (Some unit)) _ _ (types (looping σ) Γ b (Some unit)) (λ x. itself))
+  types σ Γ (E.attributed s is (E.endless v b)) t = by_rule (at_first (gather (invariant_of Γ) is) _ _
+      (λ is'. at_part (looping σ) Γ b (Some unit) (typed (looping σ) Γ b (Some unit)) _ _ (types (looping σ) Γ b (Some unit)) (λ x. itself)))
+  types σ Γ e t = by_rule itself
 
-    at_stmts : (Γ : List Variable) (ss : E.Stmts) (k : Opened → Asks) (f : Opened → Typed) → Follows σ k f → Comes σ (each_stmt Γ ss k) (typed_stmts σ Γ ss >>= f)
-    at_stmts Γ E.no_stmts k f h = h (opened Γ [])
-    at_stmts Γ (E.with_stmt s kind e ss) k f h =
-        let after : (p : _) (a : TypedExpr) → Comes σ (each_stmt (declared Γ p.declares a) ss (λ o. k (behind (typed_stmt p a) o))) ((typed_stmts σ (declared Γ p.declares a) ss >>= λ o. Ok (behind (typed_stmt p a) o)) >>= f) =
-        λ p a. subst (Comes σ (each_stmt (declared Γ p.declares a) ss (λ o. k (behind (typed_stmt p a) o)))) (sym (assoc (typed_stmts σ (declared Γ p.declares a) ss) (λ o. Ok (behind (typed_stmt p a) o)) f))
-        (at_stmts (declared Γ p.declares a) ss (λ o. k (behind (typed_stmt p a) o)) (λ o. f (behind (typed_stmt p a) o)) (λ o. h (behind (typed_stmt p a) o))) in
-        subst (Comes σ (each_stmt Γ (E.with_stmt s kind e ss) k)) (sym (assoc (step_of kind) _ f))
-        (at_first σ (step_of kind) _ _ (λ p. at_part_in σ Γ e p.expected (typed σ Γ e p.expected) _ _ f (types Γ e p.expected) (λ a. after p a)))
+  at_stmts : (σ : Setting) (Γ : List Variable) (ss : E.Stmts) (k : Opened → Asks) (f : Opened → Typed) → Follows k f → Comes (each_stmt σ Γ ss k) (typed_stmts σ Γ ss >>= f)
+  at_stmts σ Γ E.no_stmts k f h = h (opened Γ [])
+  at_stmts σ Γ (E.with_stmt s kind e ss) k f h =
+      let after : (p : _) (a : TypedExpr) → Comes (each_stmt σ (declared Γ p.declares a) ss (λ o. k (behind (typed_stmt p a) o))) ((typed_stmts σ (declared Γ p.declares a) ss >>= λ o. Ok (behind (typed_stmt p a) o)) >>= f) =
+      λ p a. subst (Comes (each_stmt σ (declared Γ p.declares a) ss (λ o. k (behind (typed_stmt p a) o)))) (sym (assoc (typed_stmts σ (declared Γ p.declares a) ss) (λ o. Ok (behind (typed_stmt p a) o)) f))
+      (at_stmts σ (declared Γ p.declares a) ss (λ o. k (behind (typed_stmt p a) o)) (λ o. f (behind (typed_stmt p a) o)) (λ o. h (behind (typed_stmt p a) o))) in
+      subst (Comes (each_stmt σ Γ (E.with_stmt s kind e ss) k)) (sym (assoc (step_of kind) _ f))
+      (at_first (step_of kind) _ _ (λ p. at_part_in σ Γ e p.expected (typed σ Γ e p.expected) _ _ f (types σ Γ e p.expected) (λ a. after p a)))
 
-    at_args : (Γ : List Variable) (es : E.Exprs) (ts : List Ty) (k : TypedExprs → Asks) (f : TypedExprs → Typed) → Follows σ k f → Comes σ (each_arg Γ es ts k) (typed_args σ Γ es ts >>= f)
-    at_args Γ E.none ts k f h = h tree.none
-    at_args Γ (E.more e es) ts k f h =
-        at_part_in σ Γ e (first_of ts) (typed σ Γ e (first_of ts)) _ _ f (types Γ e (first_of ts))
-        (λ a. subst (Comes σ (each_arg Γ es (rest_of ts) (λ as'. k (tree.more a as')))) (sym (assoc (typed_args σ Γ es (rest_of ts)) (λ as'. Ok (tree.more a as')) f))
-        (at_args Γ es (rest_of ts) (λ as'. k (tree.more a as')) (λ as'. f (tree.more a as')) (λ as'. h (tree.more a as'))))
+  at_args : (σ : Setting) (Γ : List Variable) (es : E.Exprs) (ts : List Ty) (k : TypedExprs → Asks) (f : TypedExprs → Typed) → Follows k f → Comes (each_arg σ Γ es ts k) (typed_args σ Γ es ts >>= f)
+  at_args σ Γ E.none ts k f h = h tree.none
+  at_args σ Γ (E.more e es) ts k f h =
+      at_part_in σ Γ e (first_of ts) (typed σ Γ e (first_of ts)) _ _ f (types σ Γ e (first_of ts))
+      (λ a. subst (Comes (each_arg σ Γ es (rest_of ts) (λ as'. k (tree.more a as')))) (sym (assoc (typed_args σ Γ es (rest_of ts)) (λ as'. Ok (tree.more a as')) f))
+      (at_args σ Γ es (rest_of ts) (λ as'. k (tree.more a as')) (λ as'. f (tree.more a as')) (λ as'. h (tree.more a as'))))
 
 pub typed_by_rules : TypedByRules
 typed_by_rules σ Γ e t = types σ Γ e t

@@ -37,19 +37,20 @@ use Rattle.type_check.specs.Answers.{mismatch, not_mutable, with_some, gather}
 use Rattle.type_check.specs.Functions.{callee}
 use Rattle.type_check.specs.Leaves.{leaves}
 use Rattle.type_check.specs.Scope.{found}
-use Rattle.type_check.specs.Setting.{Setting}
+use Rattle.type_check.specs.Breaks.{breaks}
+use Rattle.type_check.specs.Setting.{Setting, within_loop, looping, outside}
 use Rattle.type_check.specs.Terms.{assertion}
 use Rattle.type_check.specs.TypedExpr.{TypedExpr, TypedStmts, TypedExprs}
 use Rattle.type_check.specs.TypedExpr as tree
 use Rattle.type_check.specs.TypedExprView.{ty_of, stmt_of, stmts_of}
 use Rattle.type_check.specs.Types.{same_ty, is_signed_ty}
 use Rattle.type_check.specs.Typing.{Typed, fit, literal_kind, literal_of, literal, variable_of, variable, named, negated, is_bare, order_without, order_of, operands_of, operands, operation, operated, may_write, if_mutable, writing, assigned}
-use Rattle.type_check.specs.Typing.{is_updated, updated, known, callee_of, how_many, first_of, rest_of, called, block_ty, declared, Opened, opened, typed_stmt, behind, without_last, closed, asked, given, choice_ty, cause_of, panicked, nothing, returned, bare_return, endless, invariant_by, invariant_of, typed, typed_stmts, typed_args}
+use Rattle.type_check.specs.Typing.{is_updated, updated, known, callee_of, how_many, first_of, rest_of, called, block_ty, declared, Opened, opened, typed_stmt, behind, without_last, closed, asked, given, choice_ty, cause_of, panicked, nothing, returned, bare_return, endless, in_a_loop, invariant_by, invariant_of, typed, typed_stmts, typed_args}
 use Rattle.type_check.specs.WellTyped.{unit, Surroundings, IsBuilt, AllBuilt, is_arithmetic, is_equality, operation_ty, is_signed, IsOf, IsOfOrLeaves, SpeaksOf, EachSpeaks, IsWellTyped, StatementsFit, ArgumentsFit}
 use Rattle.type_check.specs.Written.{as_name, name_alone, written_type, written_or_none, declared_by, step_of}
 use Rattle.type_check.proofs.Bound.{bound, held, yes, same_ok}
 use Rattle.type_check.proofs.Lookups.{types, signatures_at, surroundings, found_type, callee_signature}
-use Rattle.type_check.proofs.SameTypes.{equal_types}
+use Rattle.logic_elab.proofs.SameSorts.{equal_types}
 use Rattle.type_check.proofs.Speaking.{assertion_speaks}
 use Rattle.type_check.proofs.StatementLists.{block_ty_after, stmt_ty}
 use Rattle.type_check.proofs.WrittenTypes.{type_built}
@@ -271,10 +272,31 @@ bare_return_sound σ Γ t s r h p =
     let c = held (same_ty unit σ.answer) (Ok (returned t s (nothing s))) (mismatch s) r p in
     returned_sound σ Γ t s (nothing s) r h (equal_types unit σ.answer c.0) refl c.1
 
-endless_sound : (σ : Setting) (Γ : List Variable) (t : Option Ty) (s : Span) (is : List Assertion) (b r : TypedExpr) → MayAsk t → EachSpeaks (length (types Γ)) is → ty_of b ≡ unit → IsWellTyped (surroundings σ) (types Γ) b
-    → yes (endless t s is b) ≡ Ok r → Sound σ Γ t r
-endless_sound σ Γ None s is b r h f q w p = subst (Sound σ Γ None) (same_ok (tree.endless unit s is b) r p) (record { well = (tt, f, q, w); meets = tt; built = tt })
-endless_sound σ Γ (Some u) s is b r h f q w p = subst (Sound σ Γ (Some u)) (same_ok (tree.endless u s is b) r p) (record { well = (h, f, q, w); meets = refl; built = h })
+-- a loop that no `break` leaves
+unleft_sound : (σ : Setting) (Γ : List Variable) (t : Option Ty) (s : Span) (is : List Assertion) (b r : TypedExpr) → MayAsk t → breaks b ≡ false → EachSpeaks (length (types Γ)) is → ty_of b ≡ unit
+    → IsWellTyped (surroundings (looping σ)) (types Γ) b → yes (tree.endless (asked t) s is b) ≡ Ok r → Sound σ Γ t r
+unleft_sound σ Γ None s is b r h k f q w p = subst (Sound σ Γ None) (same_ok (tree.endless unit s is b) r p) (record { well = (tt, k, f, q, w); meets = tt; built = tt })
+unleft_sound σ Γ (Some u) s is b r h k f q w p = subst (Sound σ Γ (Some u)) (same_ok (tree.endless u s is b) r p) (record { well = (h, k, f, q, w); meets = refl; built = h })
+
+either_sound : (σ : Setting) (Γ : List Variable) (t : Option Ty) (s : Span) (is : List Assertion) (b r : TypedExpr) (k : Bool) → breaks b ≡ k → MayAsk t → EachSpeaks (length (types Γ)) is → ty_of b ≡ unit
+    → IsWellTyped (surroundings (looping σ)) (types Γ) b → (if k then fit t s (tree.until_break unit s is b) else yes (tree.endless (asked t) s is b)) ≡ Ok r → Sound σ Γ t r
+either_sound σ Γ t s is b r true k h f q w p = fit_sound σ Γ t s (tree.until_break unit s is b) r (refl, k, f, q, w) tt p
+either_sound σ Γ t s is b r false k h f q w p = unleft_sound σ Γ t s is b r h k f q w p
+
+endless_sound : (σ : Setting) (Γ : List Variable) (t : Option Ty) (s : Span) (is : List Assertion) (b r : TypedExpr) → MayAsk t → EachSpeaks (length (types Γ)) is → ty_of b ≡ unit → IsWellTyped (surroundings (looping σ)) (types Γ) b
+    → endless t s is b ≡ Ok r → Sound σ Γ t r
+unfolding endless
+endless_sound σ Γ t s is b r h f q w p = either_sound σ Γ t s is b r (breaks b) refl h f q w p
+
+-- ---- `break` and `continue`
+
+break_sound : (σ : Setting) (Γ : List Variable) (t : Option Ty) (s : Span) (r : TypedExpr) → MayAsk t → in_a_loop σ.in_loop s (tree.break_off (asked t) s) ≡ Ok r → Sound σ Γ t r
+break_sound σ Γ None s r h p = let c = held σ.in_loop (Ok (tree.break_off unit s)) (mismatch s) r p in subst (Sound σ Γ None) (same_ok _ _ c.1) (record { well = (tt, c.0); meets = tt; built = tt })
+break_sound σ Γ (Some u) s r h p = let c = held σ.in_loop (Ok (tree.break_off u s)) (mismatch s) r p in subst (Sound σ Γ (Some u)) (same_ok _ _ c.1) (record { well = (h, c.0); meets = refl; built = h })
+
+continue_sound : (σ : Setting) (Γ : List Variable) (t : Option Ty) (s : Span) (r : TypedExpr) → MayAsk t → in_a_loop σ.in_loop s (tree.go_on (asked t) s) ≡ Ok r → Sound σ Γ t r
+continue_sound σ Γ None s r h p = let c = held σ.in_loop (Ok (tree.go_on unit s)) (mismatch s) r p in subst (Sound σ Γ None) (same_ok _ _ c.1) (record { well = (tt, c.0); meets = tt; built = tt })
+continue_sound σ Γ (Some u) s r h p = let c = held σ.in_loop (Ok (tree.go_on u s)) (mismatch s) r p in subst (Sound σ Γ (Some u)) (same_ok _ _ c.1) (record { well = (h, c.0); meets = refl; built = h })
 
 -- the first side of a choice leaves, or gives the second its type
 sides_fit : (t : Option Ty) (y z : TypedExpr) (b : Bool) → leaves y ≡ b → IsBuilt (ty_of z) → Meets (if b then t else Some (ty_of y)) z
@@ -395,6 +417,10 @@ declared_built σ Γ (Some d) a h k = record {
   answer = h.answer;
 }
 
+-- the types are the same in a loop and in none
+within_built : (b : Bool) (σ : Setting) (Γ : List Variable) → Around σ Γ → Around (within_loop b σ) Γ
+within_built b σ Γ h = record { functions = h.functions; variables = h.variables; answer = h.answer }
+
 written_may : (w : Option TypeTree) (t : Option Ty) → written_or_none w ≡ Ok t → MayAsk t
 written_may None t p = subst MayAsk (same_ok _ _ p) tt
 written_may (Some w) t p =
@@ -485,17 +511,17 @@ mutual
       let sides = sides_fit t y.0 z.0 (leaves y.0) refl sz.built sz.meets in
       fit_sound σ Γ t s (tree.choice (choice_ty y.0 z.0) s x.0 y.0 z.0) r (sx.meets, sides.0, sides.1, sx.well, sy.well, sz.well) (one_built (leaves y.0) (ty_of z.0) (ty_of y.0) sz.built sy.built) z.2
   typed_sound σ Γ (E.repeat s None c b) t r ho ht p =
-      let x = bound (typed σ Γ c (Some bool)) _ r p in
-      let y = bound (typed σ Γ b (Some unit)) _ r x.2 in
-      let sx = typed_sound σ Γ c (Some bool) x.0 ho tt x.1 in
-      let sy = typed_sound σ Γ b (Some unit) y.0 ho tt y.1 in
+      let x = bound (typed (outside σ) Γ c (Some bool)) _ r p in
+      let y = bound (typed (looping σ) Γ b (Some unit)) _ r x.2 in
+      let sx = typed_sound (outside σ) Γ c (Some bool) x.0 (within_built false σ Γ ho) tt x.1 in
+      let sy = typed_sound (looping σ) Γ b (Some unit) y.0 (within_built true σ Γ ho) tt y.1 in
       fit_sound σ Γ t s (tree.repeat unit s [] x.0 y.0) r (refl, tt, sx.meets, sy.meets, sx.well, sy.well) tt y.2
   typed_sound σ Γ (E.attributed s as' (E.repeat v None c b)) t r ho ht p =
       let is = bound (gather (invariant_of Γ) as') _ r p in
-      let x = bound (typed σ Γ c (Some bool)) _ r is.2 in
-      let y = bound (typed σ Γ b (Some unit)) _ r x.2 in
-      let sx = typed_sound σ Γ c (Some bool) x.0 ho tt x.1 in
-      let sy = typed_sound σ Γ b (Some unit) y.0 ho tt y.1 in
+      let x = bound (typed (outside σ) Γ c (Some bool)) _ r is.2 in
+      let y = bound (typed (looping σ) Γ b (Some unit)) _ r x.2 in
+      let sx = typed_sound (outside σ) Γ c (Some bool) x.0 (within_built false σ Γ ho) tt x.1 in
+      let sy = typed_sound (looping σ) Γ b (Some unit) y.0 (within_built true σ Γ ho) tt y.1 in
       fit_sound σ Γ t s (tree.repeat unit s is.0 x.0 y.0) r (refl, invariants_speak Γ as' is.0 is.1, sx.meets, sy.meets, sx.well, sy.well) tt y.2
   typed_sound σ Γ (E.panic s m text) t r ho ht p = panicked_sound σ Γ t s m r ht p
   typed_sound σ Γ (E.bare_return s) t r ho ht p = bare_return_sound σ Γ t s r ht p
@@ -504,14 +530,16 @@ mutual
       let sa = typed_sound σ Γ e (Some σ.answer) a.0 ho ho.answer a.1 in
       returned_sound σ Γ t s a.0 r ht sa.meets sa.well a.2
   typed_sound σ Γ (E.endless s b) t r ho ht p =
-      let x = bound (typed σ Γ b (Some unit)) _ r p in
-      let sx = typed_sound σ Γ b (Some unit) x.0 ho tt x.1 in
+      let x = bound (typed (looping σ) Γ b (Some unit)) _ r p in
+      let sx = typed_sound (looping σ) Γ b (Some unit) x.0 (within_built true σ Γ ho) tt x.1 in
       endless_sound σ Γ t s [] x.0 r ht tt sx.meets sx.well x.2
   typed_sound σ Γ (E.attributed s as' (E.endless v b)) t r ho ht p =
       let is = bound (gather (invariant_of Γ) as') _ r p in
-      let x = bound (typed σ Γ b (Some unit)) _ r is.2 in
-      let sx = typed_sound σ Γ b (Some unit) x.0 ho tt x.1 in
+      let x = bound (typed (looping σ) Γ b (Some unit)) _ r is.2 in
+      let sx = typed_sound (looping σ) Γ b (Some unit) x.0 (within_built true σ Γ ho) tt x.1 in
       endless_sound σ Γ t s is.0 x.0 r ht (invariants_speak Γ as' is.0 is.1) sx.meets sx.well x.2
+  typed_sound σ Γ (E.break_off s) t r ho ht p = break_sound σ Γ t s r ht p
+  typed_sound σ Γ (E.go_on s) t r ho ht p = continue_sound σ Γ t s r ht p
   typed_sound σ Γ e t r ho ht p = absurd (cc)
 
   stmts_sound : (σ : Setting) (Γ : List Variable) (ss : E.Stmts) (o : Opened) → Around σ Γ → typed_stmts σ Γ ss ≡ Ok o → OpenedSound σ Γ o × Around σ o.scope

@@ -2,6 +2,7 @@ pub mod Accepting
 pub mod Arguments
 pub mod BlockEnds
 pub mod Bound
+pub mod BreakParts
 pub mod ByRules
 pub mod Chains
 pub mod Declaration
@@ -11,11 +12,9 @@ pub mod Lookups
 pub mod PartByPart
 pub mod Parts
 pub mod Refusing
-pub mod SameTypes
 pub mod Speaking
 pub mod StatementLists
 pub mod Targets
-pub mod TermChains
 pub mod TypedParts
 pub mod Whole
 pub mod WrittenTypes

@@ -2,7 +2,7 @@
 use Rattle.std.proofs.Common.{◌≡◌, ◌∙◌, ℕ, zero, suc, ◌+◌, ◌<◌, ◌≤◌, List, [], ◌∷◌, ◌++◌, length, get_or, drop, refl, ap, sym, add-one, drop-cons, append_assoc, append-nil, Option, Some, None, Result, Ok, Err, arith}
 use Rattle.text_core.specs.declared.refusal.SourceError.{SourceError}
 use Rattle.text_core.specs.declared.fault.PassError.{PassError}
-use Rattle.text_core.specs.declared.fault.PassError.TheVariants as fault
+pub use Rattle.logic_elab.proofs.Stops.{along, refuses_then}
 use Rattle.type_check.specs.Answers.{◌>>=◌, Refuses, each, with_some, gather}
 
 -- these, and then the others
@@ -21,17 +21,6 @@ drop_all (x ∷ xs) (suc n) h = drop_all xs n (omega arith)
 
 split_at : {A : Type 0} (xs : List A) (i : ℕ) (x : A) → x ≡ get_or xs i x → i < length xs → drop i xs ≡ x ∷ drop (suc i) xs
 split_at xs i x q h = drop-cons xs i x h ∙ ap (λ y. y ∷ drop (suc i) xs) (sym q)
-
--- a stop goes on
-pub along : {A : Type 0} (stop : PassError) (m n : Result A SourceError) → m ≡ n → Refuses stop n → Refuses stop m
-along (fault.Source e) m n q h = q ∙ h
-along (fault.Limit l) m n q h = h
-along fault.NoMemory m n q h = tt
-
-pub refuses_then : {A B : Type 0} (stop : PassError) (m : Result A SourceError) (k : A → Result B SourceError) → Refuses stop m → Refuses stop (m >>= k)
-refuses_then (fault.Source e) m k h = ap (λ n. n >>= k) h
-refuses_then (fault.Limit l) m k h = h
-refuses_then fault.NoMemory m k h = tt
 
 -- ---- each of a list
 

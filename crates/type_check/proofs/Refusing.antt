@@ -35,13 +35,14 @@ use Rattle.type_check.specs.Answers.{◌>>=◌, unknown_name, mismatch, unbuilt,
 use Rattle.type_check.specs.Causes.{IsMismatch, IsUnbuilt, IsUnknown, IsNotRead, IsNotWritten, IsNotCalled, Causes, CausesInStmts, CausesInArgs}
 use Rattle.type_check.specs.Functions.{callee}
 use Rattle.type_check.specs.Scope.{found}
-use Rattle.type_check.specs.Setting.{Setting}
+use Rattle.type_check.specs.Breaks.{breaks}
+use Rattle.type_check.specs.Setting.{Setting, looping, outside}
 use Rattle.type_check.specs.TypedExpr.{TypedExpr, TypedStmts, TypedExprs}
 use Rattle.type_check.specs.TypedExpr as tree
 use Rattle.type_check.specs.TypedExprView.{ty_of, stmts_of}
 use Rattle.type_check.specs.Types.{same_ty, is_signed_ty}
 use Rattle.type_check.specs.Typing.{Typed, fit, literal_kind, literal_of, literal, variable_of, variable, named, negated, is_bare, order_of, operands_of, operands, operation, operated, may_write, if_mutable, writing, assigned}
-use Rattle.type_check.specs.Typing.{is_updated, updated, known, callee_of, how_many, first_of, rest_of, called, asked, block_ty, declared, behind, typed_stmt, without_last, closed, given, choice_ty, cause_of, nothing, returned, endless, invariant_by, invariant_of, typed, typed_stmts, typed_args}
+use Rattle.type_check.specs.Typing.{is_updated, updated, known, callee_of, how_many, first_of, rest_of, called, asked, block_ty, declared, behind, typed_stmt, without_last, closed, given, choice_ty, cause_of, nothing, returned, endless, in_a_loop, invariant_by, invariant_of, typed, typed_stmts, typed_args}
 use Rattle.type_check.specs.WellTyped.{unit, is_arithmetic, operation_ty}
 use Rattle.type_check.specs.Written.{as_name, name_alone, named_type, type_or, written_type, written_or_none, name_or, declared_by, step_of}
 use Rattle.type_check.proofs.Bound.{yes}
@@ -249,6 +250,18 @@ invariants_stop Γ (a ∷ as') e p =
       ]
     ]
 
+endless_at : (k : Bool) (t : Option Ty) (s : Span) (is : List Assertion) (b : TypedExpr) (e : SourceError) → (if k then fit t s (tree.until_break unit s is b) else yes (tree.endless (asked t) s is b)) ≡ Err e → IsMismatch e
+endless_at true t s is b e p = fit_stops t s (tree.until_break unit s is b) e p
+endless_at false t s is b e p = absurd (no_type (tree.endless (asked t) s is b) e p)
+
+endless_stops : (t : Option Ty) (s : Span) (is : List Assertion) (b : TypedExpr) (e : SourceError) → endless t s is b ≡ Err e → IsMismatch e
+unfolding endless
+endless_stops t s is b e p = endless_at (breaks b) t s is b e p
+
+in_no_loop : (k : Bool) (s : Span) (a : TypedExpr) (e : SourceError) → in_a_loop k s a ≡ Err e → (k ≡ false) × (e ≡ mismatch s)
+in_no_loop true s a e p = absurd (no_type a e p)
+in_no_loop false s a e p = let q : mismatch s ≡ e = cc in (refl, sym q)
+
 no_args : (es : TypedExprs) (e : SourceError) → yes es ≡ Err e → ⊥
 no_args es e p = cc
 
@@ -332,20 +345,20 @@ mutual
         ]
       ]
   typed_stops σ Γ (E.repeat s None c b) t e p =
-      elim (stop (typed σ Γ c (Some bool)) _ e p) as (λ _. Causes σ Γ (E.repeat s None c b) e) [
-        | inl q ↦ inr (inl (typed_stops σ Γ c (Some bool) e q))
-        | inr x ↦ elim (stop (typed σ Γ b (Some unit)) _ e x.2) as (λ _. Causes σ Γ (E.repeat s None c b) e) [
-          | inl q ↦ inr (inr (typed_stops σ Γ b (Some unit) e q))
+      elim (stop (typed (outside σ) Γ c (Some bool)) _ e p) as (λ _. Causes σ Γ (E.repeat s None c b) e) [
+        | inl q ↦ inr (inl (typed_stops (outside σ) Γ c (Some bool) e q))
+        | inr x ↦ elim (stop (typed (looping σ) Γ b (Some unit)) _ e x.2) as (λ _. Causes σ Γ (E.repeat s None c b) e) [
+          | inl q ↦ inr (inr (typed_stops (looping σ) Γ b (Some unit) e q))
           | inr y ↦ inl (fit_stops t s (tree.repeat unit s [] x.0 y.0) e y.2)
         ]
       ]
   typed_stops σ Γ (E.attributed s as' (E.repeat v None c b)) t e p =
       elim (stop (gather (invariant_of Γ) as') _ e p) as (λ _. Causes σ Γ (E.attributed s as' (E.repeat v None c b)) e) [
         | inl q ↦ inl (inr (invariants_stop Γ as' e q))
-        | inr is ↦ elim (stop (typed σ Γ c (Some bool)) _ e is.2) as (λ _. Causes σ Γ (E.attributed s as' (E.repeat v None c b)) e) [
-          | inl q ↦ inr (inl (typed_stops σ Γ c (Some bool) e q))
-          | inr x ↦ elim (stop (typed σ Γ b (Some unit)) _ e x.2) as (λ _. Causes σ Γ (E.attributed s as' (E.repeat v None c b)) e) [
-            | inl q ↦ inr (inr (typed_stops σ Γ b (Some unit) e q))
+        | inr is ↦ elim (stop (typed (outside σ) Γ c (Some bool)) _ e is.2) as (λ _. Causes σ Γ (E.attributed s as' (E.repeat v None c b)) e) [
+          | inl q ↦ inr (inl (typed_stops (outside σ) Γ c (Some bool) e q))
+          | inr x ↦ elim (stop (typed (looping σ) Γ b (Some unit)) _ e x.2) as (λ _. Causes σ Γ (E.attributed s as' (E.repeat v None c b)) e) [
+            | inl q ↦ inr (inr (typed_stops (looping σ) Γ b (Some unit) e q))
             | inr y ↦ inl (inl (fit_stops t s (tree.repeat unit s is.0 x.0 y.0) e y.2))
           ]
         ]
@@ -358,18 +371,20 @@ mutual
         | inr x ↦ absurd (no_type (returned t s x.0) e x.2)
       ]
   typed_stops σ Γ (E.endless s b) t e p =
-      elim (stop (typed σ Γ b (Some unit)) _ e p) as (λ _. Causes σ Γ (E.endless s b) e) [
-        | inl q ↦ typed_stops σ Γ b (Some unit) e q
-        | inr x ↦ absurd (no_type (endless t s [] x.0) e x.2)
+      elim (stop (typed (looping σ) Γ b (Some unit)) _ e p) as (λ _. Causes σ Γ (E.endless s b) e) [
+        | inl q ↦ inr (typed_stops (looping σ) Γ b (Some unit) e q)
+        | inr x ↦ inl (endless_stops t s [] x.0 e x.2)
       ]
   typed_stops σ Γ (E.attributed s as' (E.endless v b)) t e p =
       elim (stop (gather (invariant_of Γ) as') _ e p) as (λ _. Causes σ Γ (E.attributed s as' (E.endless v b)) e) [
-        | inl q ↦ inl (invariants_stop Γ as' e q)
-        | inr is ↦ elim (stop (typed σ Γ b (Some unit)) _ e is.2) as (λ _. Causes σ Γ (E.attributed s as' (E.endless v b)) e) [
-          | inl q ↦ inr (typed_stops σ Γ b (Some unit) e q)
-          | inr x ↦ absurd (no_type (endless t s is.0 x.0) e x.2)
+        | inl q ↦ inl (inr (invariants_stop Γ as' e q))
+        | inr is ↦ elim (stop (typed (looping σ) Γ b (Some unit)) _ e is.2) as (λ _. Causes σ Γ (E.attributed s as' (E.endless v b)) e) [
+          | inl q ↦ inr (typed_stops (looping σ) Γ b (Some unit) e q)
+          | inr x ↦ inl (inl (endless_stops t s is.0 x.0 e x.2))
         ]
       ]
+  typed_stops σ Γ (E.break_off s) t e p = in_no_loop σ.in_loop s (tree.break_off (asked t) s) e p
+  typed_stops σ Γ (E.go_on s) t e p = in_no_loop σ.in_loop s (tree.go_on (asked t) s) e p
   typed_stops σ Γ a t e p = let q : unbuilt (span_of a) ≡ e = cc in sym q
 
   stmts_stop : (σ : Setting) (Γ : List Variable) (ss : E.Stmts) (e : SourceError) → typed_stmts σ Γ ss ≡ Err e → CausesInStmts σ Γ ss e

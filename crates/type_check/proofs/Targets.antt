@@ -1,6 +1,6 @@
 -- Only a name alone gives a variable.
-use Rattle.std.proofs.Common.{◌≡◌, false, List, [], Option, Some, None, Ok, refl, sym, subst}
-use Rattle.std.specs.Prelude.{ℤ, slice_get}
+use Rattle.std.proofs.Common.{◌≡◌, Bool, true, false, List, [], Option, Some, None, Ok, refl, sym, subst}
+use Rattle.std.specs.Prelude.{ℤ, slice_get, if◌then◌else◌}
 use Rattle.text_core.specs.declared.span.Span.{Span}
 use Rattle.source_kinds.specs.declared.kinds.BinaryOp.{BinaryOp}
 use Rattle.source_kinds.specs.declared.kinds.IntKind.{IntKind}
@@ -11,12 +11,14 @@ use Rattle.source_trees.specs.declared.path.Segment.{Segment}
 use Rattle.source_trees.specs.Expr as E
 use Rattle.source_trees.specs.Expr.{Expr}
 use Rattle.source_trees.specs.ExprView.{span_of}
+use Rattle.type_check.specs.declared.assertion.Assertion.{Assertion}
 use Rattle.type_check.specs.declared.operands.Operands.{Operands}
 use Rattle.type_check.specs.declared.scope.Found.{Found}
 use Rattle.type_check.specs.declared.scope.Variable.{Variable}
 use Rattle.type_check.specs.Answers.{mismatch, gather}
 use Rattle.type_check.specs.Scope.{found}
-use Rattle.type_check.specs.Setting.{Setting}
+use Rattle.type_check.specs.Breaks.{breaks}
+use Rattle.type_check.specs.Setting.{Setting, looping, outside}
 use Rattle.type_check.specs.TypedExpr.{TypedExpr, TypedStmts, TypedExprs}
 use Rattle.type_check.specs.TypedExpr as tree
 use Rattle.type_check.specs.TypedExprView.{ty_of, stmts_of}
@@ -25,7 +27,7 @@ use Rattle.type_check.specs.Typing.{fit, literal_kind, literal_of, literal, vari
 use Rattle.type_check.specs.Typing.{callee_of, called, asked, block_ty, without_last, closed, given, choice_ty, cause_of, nothing, returned, endless, invariant_of, typed, typed_stmts, typed_args}
 use Rattle.type_check.specs.WellTyped.{unit, is_arithmetic, operation_ty}
 use Rattle.type_check.specs.Written.{as_name, name_alone}
-use Rattle.type_check.proofs.Bound.{bound, held, same_ok}
+use Rattle.type_check.proofs.Bound.{bound, held, yes, same_ok}
 use Rattle.type_check.proofs.Fits.{fit_same, written_fits}
 
 -- a variable is that of the name
@@ -59,6 +61,14 @@ path_named Γ t s (Some y) r p = variable_at Γ t s y (found y.name Γ) r refl p
 operation_named : (Γ : List Variable) (u t : Option Ty) (s o r : Span) (op : BinaryOp) (p : Operands) (e : TypedExpr) → operation u t s o r op p ≡ Ok e → IsNamed Γ None e
 operation_named Γ None t s o r op p e h = absurd (cc)
 operation_named Γ (Some u) t s o r op p e h = fit_named Γ None t s (tree.binary u o op p.left p.right) e tt h
+
+endless_at : (Γ : List Variable) (k : Bool) (t : Option Ty) (s : Span) (is : List Assertion) (b r : TypedExpr) → (if k then fit t s (tree.until_break unit s is b) else yes (tree.endless (asked t) s is b)) ≡ Ok r → IsNamed Γ None r
+endless_at Γ true t s is b r p = fit_named Γ None t s (tree.until_break unit s is b) r tt p
+endless_at Γ false t s is b r p = subst (IsNamed Γ None) (same_ok (tree.endless (asked t) s is b) r p) tt
+
+endless_named : (Γ : List Variable) (t : Option Ty) (s : Span) (is : List Assertion) (b r : TypedExpr) → endless t s is b ≡ Ok r → IsNamed Γ None r
+unfolding endless
+endless_named Γ t s is b r p = endless_at Γ (breaks b) t s is b r p
 
 -- what an expression gives is a variable only where it is a name alone
 pub typed_named : (σ : Setting) (Γ : List Variable) (e : Expr) (t : Option Ty) (r : TypedExpr) → typed σ Γ e t ≡ Ok r → IsNamed Γ (as_name e) r
@@ -109,13 +119,13 @@ typed_named σ Γ (E.choice s None c a b) t r p =
     let z = bound (typed σ Γ b (given t y.0)) _ r y.2 in
     fit_named Γ None t s (tree.choice (choice_ty y.0 z.0) s x.0 y.0 z.0) r tt z.2
 typed_named σ Γ (E.repeat s None c b) t r p =
-    let x = bound (typed σ Γ c (Some bool)) _ r p in
-    let y = bound (typed σ Γ b (Some unit)) _ r x.2 in
+    let x = bound (typed (outside σ) Γ c (Some bool)) _ r p in
+    let y = bound (typed (looping σ) Γ b (Some unit)) _ r x.2 in
     fit_named Γ None t s (tree.repeat unit s [] x.0 y.0) r tt y.2
 typed_named σ Γ (E.attributed s is (E.repeat v None c b)) t r p =
     let is' = bound (gather (invariant_of Γ) is) _ r p in
-    let x = bound (typed σ Γ c (Some bool)) _ r is'.2 in
-    let y = bound (typed σ Γ b (Some unit)) _ r x.2 in
+    let x = bound (typed (outside σ) Γ c (Some bool)) _ r is'.2 in
+    let y = bound (typed (looping σ) Γ b (Some unit)) _ r x.2 in
     fit_named Γ None t s (tree.repeat unit s is'.0 x.0 y.0) r tt y.2
 typed_named σ Γ (E.panic s m text) t r p = subst (IsNamed Γ None) (same_ok (tree.panics (asked t) s (cause_of m)) r p) tt
 typed_named σ Γ (E.bare_return s) t r p = subst (IsNamed Γ None) (same_ok (returned t s (nothing s)) r (held (same_ty unit σ.answer) _ (mismatch s) r p).1) tt
@@ -123,10 +133,12 @@ typed_named σ Γ (E.return_with s e) t r p =
     let a = bound (typed σ Γ e (Some σ.answer)) _ r p in
     subst (IsNamed Γ None) (same_ok (returned t s a.0) r a.2) tt
 typed_named σ Γ (E.endless s b) t r p =
-    let x = bound (typed σ Γ b (Some unit)) _ r p in
-    subst (IsNamed Γ None) (same_ok (endless t s [] x.0) r x.2) tt
+    let x = bound (typed (looping σ) Γ b (Some unit)) _ r p in
+    endless_named Γ t s [] x.0 r x.2
 typed_named σ Γ (E.attributed s is (E.endless v b)) t r p =
     let is' = bound (gather (invariant_of Γ) is) _ r p in
-    let x = bound (typed σ Γ b (Some unit)) _ r is'.2 in
-    subst (IsNamed Γ None) (same_ok (endless t s is'.0 x.0) r x.2) tt
+    let x = bound (typed (looping σ) Γ b (Some unit)) _ r is'.2 in
+    endless_named Γ t s is'.0 x.0 r x.2
+typed_named σ Γ (E.break_off s) t r p = subst (IsNamed Γ None) (same_ok (tree.break_off (asked t) s) r (held σ.in_loop _ (mismatch s) r p).1) tt
+typed_named σ Γ (E.go_on s) t r p = subst (IsNamed Γ None) (same_ok (tree.go_on (asked t) s) r (held σ.in_loop _ (mismatch s) r p).1) tt
 typed_named σ Γ e t r p = absurd (cc)

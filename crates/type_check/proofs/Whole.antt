@@ -1,5 +1,5 @@
 -- A checked program fits, and no formula of it is refused.
-use Rattle.std.proofs.Common.{◌≡◌, ◌∙◌, ℕ, zero, suc, List, [], ◌∷◌, length, map, Option, Some, None, Result, Ok, Err, refl, ap, ap₂, sym, subst}
+use Rattle.std.proofs.Common.{◌≡◌, ◌∙◌, ℕ, zero, suc, false, List, [], ◌∷◌, length, map, Option, Some, None, Result, Ok, Err, refl, ap, ap₂, sym, subst}
 use Rattle.std.specs.Prelude.{IfOk, slice_get}
 use Rattle.text_core.specs.declared.refusal.SourceError.{SourceError}
 use Rattle.text_core.specs.declared.span.Span.{Span}
@@ -129,7 +129,7 @@ function_fits σ own as' f g hs p =
     let Γ = bound (each param_of f.params) _ g p in
     let t = bound (answer_ty f.answer) _ g Γ.2 in
     let cs = bound (gather (clause_of (Some t.0) Γ.0) as') _ g t.2 in
-    let here : Setting = record { headings = σ; answer = t.0 } in
+    let here : Setting = record { headings = σ; answer = t.0; in_loop = false } in
     let e = bound (typed_body here Γ.0 (Some t.0) own f.body) _ g cs.2 in
     let params = all_built f.params Γ.0 Γ.1 in
     let answer = answer_built f.answer t.0 t.1 in

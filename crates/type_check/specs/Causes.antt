@@ -17,7 +17,7 @@ use Rattle.type_check.specs.declared.statements.Step.{Step}
 use Rattle.type_check.specs.Answers.{unknown_name, mismatch, unbuilt, not_mutable}
 use Rattle.type_check.specs.Functions.{callee}
 use Rattle.type_check.specs.Scope.{found}
-use Rattle.type_check.specs.Setting.{Setting}
+use Rattle.type_check.specs.Setting.{Setting, looping, outside}
 use Rattle.type_check.specs.TypedExpr.{TypedExpr}
 use Rattle.type_check.specs.Typing.{Opened, declared, is_mutable, typed, typed_stmts}
 use Rattle.type_check.specs.Written.{as_name, name_alone, step_of}
@@ -50,6 +50,10 @@ abbrev pub IsNotCalled : List Heading → List Variable → Span → Option Segm
 IsNotCalled σ Γ s None e = e ≡ unbuilt s
 IsNotCalled σ Γ s (Some x) e = (e ≡ unknown_name x.span) × (callee σ Γ x.name ≡ None)
 
+-- it stands in no loop
+abbrev pub IsInNoLoop : Setting → Span → SourceError → Type 0
+IsInNoLoop σ s e = (σ.in_loop ≡ false) × (e ≡ mismatch s)
+
 -- the refusal has its cause at the expression or at a part of it, in the scope of that part
 abbrev mutual
   pub Causes : Setting → List Variable → Expr → SourceError → Type 0
@@ -67,16 +71,19 @@ abbrev mutual
   Causes σ Γ (E.block_with s ss a) e = IsMismatch e ⊎ (CausesInStmts σ Γ ss e ⊎ ((o : Opened) × (typed_stmts σ Γ ss ≡ Ok o) × Causes σ o.scope a e))
   Causes σ Γ (E.branch s None c a) e = IsMismatch e ⊎ (Causes σ Γ c e ⊎ Causes σ Γ a e)
   Causes σ Γ (E.choice s None c a b) e = IsMismatch e ⊎ (Causes σ Γ c e ⊎ (Causes σ Γ a e ⊎ Causes σ Γ b e))
-  Causes σ Γ (E.repeat s None c b) e = IsMismatch e ⊎ (Causes σ Γ c e ⊎ Causes σ Γ b e)
+  Causes σ Γ (E.repeat s None c b) e = IsMismatch e ⊎ (Causes (outside σ) Γ c e ⊎ Causes (looping σ) Γ b e)
   -- or an attribute before the loop is no invariant
-  Causes σ Γ (E.attributed s is (E.repeat r None c b)) e = (IsMismatch e ⊎ IsUnbuilt e) ⊎ (Causes σ Γ c e ⊎ Causes σ Γ b e)
+  Causes σ Γ (E.attributed s is (E.repeat r None c b)) e = (IsMismatch e ⊎ IsUnbuilt e) ⊎ (Causes (outside σ) Γ c e ⊎ Causes (looping σ) Γ b e)
   -- what panics fits every type
   Causes σ Γ (E.panic s m text) e = ⊥
   -- without a value, the answer's type is unit
   Causes σ Γ (E.bare_return s) e = IsMismatch e
   Causes σ Γ (E.return_with s a) e = Causes σ Γ a e
-  Causes σ Γ (E.endless s b) e = Causes σ Γ b e
-  Causes σ Γ (E.attributed s is (E.endless r b)) e = IsUnbuilt e ⊎ Causes σ Γ b e
+  -- a loop that is left is unit
+  Causes σ Γ (E.endless s b) e = IsMismatch e ⊎ Causes (looping σ) Γ b e
+  Causes σ Γ (E.attributed s is (E.endless r b)) e = (IsMismatch e ⊎ IsUnbuilt e) ⊎ Causes (looping σ) Γ b e
+  Causes σ Γ (E.break_off s) e = IsInNoLoop σ s e
+  Causes σ Γ (E.go_on s) e = IsInNoLoop σ s e
   Causes σ Γ a e = e ≡ unbuilt (span_of a)
 
   pub CausesInStmts : Setting → List Variable → E.Stmts → SourceError → Type 0

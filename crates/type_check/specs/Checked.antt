@@ -1,7 +1,7 @@
 -- What a source comes to whose declarations are in order: passes that each go over all items before the next begins. The functions that items
 -- declare, then the bodies and contracts of functions, then the formulas of clauses and invariants (Rust Reference, "Items", "Functions",
 -- "Attributes"; Creusot, "Contracts").
-use Rattle.std.specs.Prelude.{◌≡◌, List, [], ◌∷◌, map, Option, Some, None, Result, Ok, Err}
+use Rattle.std.specs.Prelude.{◌≡◌, false, List, [], ◌∷◌, map, Option, Some, None, Result, Ok, Err}
 use Rattle.text_core.specs.declared.refusal.SourceError.{SourceError}
 use Rattle.text_core.specs.declared.span.Span.{Span}
 use Rattle.logic_term.specs.Ty.{Ty}
@@ -125,7 +125,7 @@ typed_function σ own as' f = do
   Γ ← each param_of f.params
   t ← answer_ty f.answer
   cs ← gather (clause_of (Some t) Γ) as'
-  e ← typed_body (record { headings = σ; answer = t }) Γ (Some t) own f.body
+  e ← typed_body (record { headings = σ; answer = t; in_loop = false }) Γ (Some t) own f.body
   Ok (record { name = f.name.name; span = f.name.span; signature = signature_by Γ t; types_at = types_at f; clauses = cs; body = e })
 
 abbrev pub typed_by : List Heading → Span → List Attribute → ItemNode → Result (Option TypedFunction) SourceError

@@ -6,7 +6,7 @@ use Rattle.type_check.specs.declared.assertion.Assertion.TheVariants.{Good, Bad}
 use Rattle.type_check.specs.declared.program.TypedClause.{TypedClause}
 use Rattle.type_check.specs.declared.program.TypedFunction.{TypedFunction}
 use Rattle.type_check.specs.Answers.{or_else}
-use Rattle.type_check.specs.TypedExpr.{TypedExpr, TypedStmts, TypedExprs, integer, truth, variable, negative, denied, binary, lazy, assign, update, call, block, branch, choice, repeat, panics, returned, endless, done, last, leaving, bind, run, none, more}
+use Rattle.type_check.specs.TypedExpr.{TypedExpr, TypedStmts, TypedExprs, integer, truth, variable, negative, denied, binary, lazy, assign, update, call, block, branch, choice, repeat, panics, returned, endless, until_break, break_off, go_on, done, last, leaving, bind, run, none, more}
 
 abbrev pub bad_of : Assertion → Option SourceError
 bad_of (Good s t) = None
@@ -35,6 +35,9 @@ abbrev mutual
   bad_in (panics t s k) = None
   bad_in (returned t s e) = bad_in e
   bad_in (endless t s is b) = or_else (bad_among is) (bad_in b)
+  bad_in (until_break t s is b) = or_else (bad_among is) (bad_in b)
+  bad_in (break_off t s) = None
+  bad_in (go_on t s) = None
 
   pub bad_in_stmts : TypedStmts → Option SourceError
   bad_in_stmts done = None

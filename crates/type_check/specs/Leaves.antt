@@ -1,14 +1,15 @@
 -- Which expressions never have a value, since the run leaves them (Rust Reference, "Diverging expressions", "Divergence").
 use Rattle.std.specs.Prelude.{Bool, true, false, ◌&&◌, ◌-◌, List, length, Option, Some, None, slice_get}
 use Rattle.type_check.specs.declared.typed.TypedStmt.{TypedStmt}
-use Rattle.type_check.specs.TypedExpr.{TypedExpr, TypedStmts, block, choice, panics, returned, endless, done, last, leaving, bind, run}
+use Rattle.type_check.specs.TypedExpr.{TypedExpr, TypedStmts, block, choice, panics, returned, endless, break_off, go_on, done, last, leaving, bind, run}
 
 abbrev mutual
   pub leaves : TypedExpr → Bool
   leaves (panics t s k) = true
   leaves (returned t s e) = true
-  -- no `break` is built yet, by which a run would go on behind the loop
   leaves (endless t s is b) = true
+  leaves (break_off t s) = true
+  leaves (go_on t s) = true
   leaves (block t s ss) = leaves_at_end ss
   leaves (choice t s c a b) = leaves a && leaves b
   leaves _ = false

@@ -1,4 +1,5 @@
 pub mod Answers
+pub mod Breaks
 pub mod Causes
 pub mod Chains
 pub mod Checked
@@ -11,7 +12,6 @@ pub mod Leaves
 pub mod Rules
 pub mod Scope
 pub mod Setting
-pub mod TermChains
 pub mod Terms
 pub mod TypedExpr
 pub mod TypedExprCode

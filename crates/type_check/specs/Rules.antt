@@ -13,18 +13,19 @@ use Rattle.type_check.specs.declared.operands.Order.{Order}
 use Rattle.type_check.specs.declared.operands.Order.TheVariants as order
 use Rattle.type_check.specs.declared.scope.Variable.{Variable}
 use Rattle.type_check.specs.Answers.{unbuilt, gather}
-use Rattle.type_check.specs.Setting.{Setting}
+use Rattle.type_check.specs.Setting.{Setting, looping, outside}
 use Rattle.type_check.specs.TypedExpr.{TypedExpr, TypedExprs}
 use Rattle.type_check.specs.TypedExpr as tree
 use Rattle.type_check.specs.TypedExprView.{ty_of, stmts_of}
-use Rattle.type_check.specs.Typing.{Typed, fit, literal, named, negated, is_bare, order_of, operands_of, operated, assigned, updated, callee_of, first_of, rest_of, called, Opened, opened, declared, behind, typed_stmt, without_last, closed, given, chosen, panicked, returned, bare_return, endless, invariant_of, typed}
+use Rattle.type_check.specs.Typing.{Typed, fit, asked, literal, named, negated, is_bare, order_of, operands_of, operated, assigned, updated, callee_of, first_of, rest_of, called, Opened, opened, declared, behind, typed_stmt, without_last, closed, given, chosen, panicked, returned, bare_return, endless, in_a_loop, invariant_of, typed}
 use Rattle.type_check.specs.WellTyped.{unit, is_arithmetic}
 use Rattle.type_check.specs.Written.{as_name, name_alone, step_of}
 
--- what is asked: a part in its scope, at an expected type if there is one, and from its typed tree on what else; or nothing more
+-- what is asked: a part in its setting and scope, at an expected type if there is one, and from its typed tree on what else; or nothing
+-- more
 pub data Asks : Type 0 where
   comes : Typed → Asks
-  part : List Variable → Expr → Option Ty → (TypedExpr → Asks) → Asks
+  part : Setting → List Variable → Expr → Option Ty → (TypedExpr → Asks) → Asks
 
 -- something that is no expression, and then what else
 abbrev pub first : {A : Type 0} → Result A SourceError → (A → Asks) → Asks
@@ -34,22 +35,22 @@ first (Err e) k = comes (Err e)
 -- ---- operands
 
 -- each operand in its turn
-abbrev pub operands_in : Order → List Variable → Expr → Expr → (Operands → Asks) → Asks
-operands_in (order.Against t) Γ a b k = part Γ a (Some t) λ x. part Γ b (Some t) λ y. k (operands_of x y)
-operands_in order.SecondGives Γ a b k = part Γ b None λ y. part Γ a (Some (ty_of y)) λ x. k (operands_of x y)
-operands_in order.FirstGives Γ a b k = part Γ a None λ x. part Γ b (Some (ty_of x)) λ y. k (operands_of x y)
+abbrev pub operands_in : Setting → Order → List Variable → Expr → Expr → (Operands → Asks) → Asks
+operands_in σ (order.Against t) Γ a b k = part σ Γ a (Some t) λ x. part σ Γ b (Some t) λ y. k (operands_of x y)
+operands_in σ order.SecondGives Γ a b k = part σ Γ b None λ y. part σ Γ a (Some (ty_of y)) λ x. k (operands_of x y)
+operands_in σ order.FirstGives Γ a b k = part σ Γ a None λ x. part σ Γ b (Some (ty_of x)) λ y. k (operands_of x y)
 
 -- ---- lists of parts
 
 -- each argument at the type of its parameter
-abbrev pub each_arg : List Variable → E.Exprs → List Ty → (TypedExprs → Asks) → Asks
-each_arg Γ E.none ts k = k tree.none
-each_arg Γ (E.more e es) ts k = part Γ e (first_of ts) λ a. each_arg Γ es (rest_of ts) λ as'. k (tree.more a as')
+abbrev pub each_arg : Setting → List Variable → E.Exprs → List Ty → (TypedExprs → Asks) → Asks
+each_arg σ Γ E.none ts k = k tree.none
+each_arg σ Γ (E.more e es) ts k = part σ Γ e (first_of ts) λ a. each_arg σ Γ es (rest_of ts) λ as'. k (tree.more a as')
 
 -- each statement in the scope that those before it leave
-abbrev pub each_stmt : List Variable → E.Stmts → (Opened → Asks) → Asks
-each_stmt Γ E.no_stmts k = k (opened Γ [])
-each_stmt Γ (E.with_stmt s kind e ss) k = first (step_of kind) λ p. part Γ e p.expected λ a. each_stmt (declared Γ p.declares a) ss λ o. k (behind (typed_stmt p a) o)
+abbrev pub each_stmt : Setting → List Variable → E.Stmts → (Opened → Asks) → Asks
+each_stmt σ Γ E.no_stmts k = k (opened Γ [])
+each_stmt σ Γ (E.with_stmt s kind e ss) k = first (step_of kind) λ p. part σ Γ e p.expected λ a. each_stmt σ (declared Γ p.declares a) ss λ o. k (behind (typed_stmt p a) o)
 
 -- ---- the rules
 
@@ -57,39 +58,41 @@ abbrev pub rule : Setting → List Variable → Expr → Option Ty → Asks
 rule σ Γ (E.integer s z k) t = comes (literal t s z k)
 rule σ Γ (E.truth s b) t = comes (fit t s (tree.truth bool s b))
 rule σ Γ (E.path s p) t = comes (named Γ t s (name_alone p.node))
-rule σ Γ (E.unary s Neg o e) t = part Γ e t λ a. comes (negated t s o (span_of e) a)
-rule σ Γ (E.unary s Not o e) t = part Γ e (Some bool) λ a. comes (fit t s (tree.denied bool s a))
-rule σ Γ (E.binary s op o a b) t = operands_in (order_of (is_arithmetic op) t (is_bare a) (is_bare b)) Γ a b λ p. comes (operated t s o (span_of a) op p)
-rule σ Γ (E.lazy s op a b) t = part Γ a (Some bool) λ x. part Γ b (Some bool) λ y. comes (fit t s (tree.lazy bool s op x y))
-rule σ Γ (E.assign s l e) t = part Γ l None λ a. part Γ e (Some (ty_of a)) λ b. comes (assigned Γ t s (span_of l) a b)
-rule σ Γ (E.update s op o l e) t = part Γ l None λ a. part Γ e (Some (ty_of a)) λ b. comes (updated Γ t s o (span_of l) op a b)
-rule σ Γ (E.call s f es) t = first (callee_of σ.headings Γ s (as_name f)) λ g. each_arg Γ es g.signature.params λ as'. comes (called t s g as')
-rule σ Γ (E.block s ss) t = each_stmt Γ ss λ o. comes (closed t s (without_last o.stmts))
-rule σ Γ (E.block_with s ss e) t = each_stmt Γ ss λ o. part o.scope e t λ a. comes (closed t s (stmts_of o.stmts (tree.last a)))
-rule σ Γ (E.branch s None c a) t = part Γ c (Some bool) λ x. part Γ a (Some unit) λ y. comes (fit t s (tree.branch unit s x y))
-rule σ Γ (E.choice s None c a b) t = part Γ c (Some bool) λ x. part Γ a t λ y. part Γ b (given t y) λ z. comes (chosen t s x y z)
-rule σ Γ (E.repeat s None c b) t = part Γ c (Some bool) λ x. part Γ b (Some unit) λ y. comes (fit t s (tree.repeat unit s [] x y))
+rule σ Γ (E.unary s Neg o e) t = part σ Γ e t λ a. comes (negated t s o (span_of e) a)
+rule σ Γ (E.unary s Not o e) t = part σ Γ e (Some bool) λ a. comes (fit t s (tree.denied bool s a))
+rule σ Γ (E.binary s op o a b) t = operands_in σ (order_of (is_arithmetic op) t (is_bare a) (is_bare b)) Γ a b λ p. comes (operated t s o (span_of a) op p)
+rule σ Γ (E.lazy s op a b) t = part σ Γ a (Some bool) λ x. part σ Γ b (Some bool) λ y. comes (fit t s (tree.lazy bool s op x y))
+rule σ Γ (E.assign s l e) t = part σ Γ l None λ a. part σ Γ e (Some (ty_of a)) λ b. comes (assigned Γ t s (span_of l) a b)
+rule σ Γ (E.update s op o l e) t = part σ Γ l None λ a. part σ Γ e (Some (ty_of a)) λ b. comes (updated Γ t s o (span_of l) op a b)
+rule σ Γ (E.call s f es) t = first (callee_of σ.headings Γ s (as_name f)) λ g. each_arg σ Γ es g.signature.params λ as'. comes (called t s g as')
+rule σ Γ (E.block s ss) t = each_stmt σ Γ ss λ o. comes (closed t s (without_last o.stmts))
+rule σ Γ (E.block_with s ss e) t = each_stmt σ Γ ss λ o. part σ o.scope e t λ a. comes (closed t s (stmts_of o.stmts (tree.last a)))
+rule σ Γ (E.branch s None c a) t = part σ Γ c (Some bool) λ x. part σ Γ a (Some unit) λ y. comes (fit t s (tree.branch unit s x y))
+rule σ Γ (E.choice s None c a b) t = part σ Γ c (Some bool) λ x. part σ Γ a t λ y. part σ Γ b (given t y) λ z. comes (chosen t s x y z)
+rule σ Γ (E.repeat s None c b) t = part (outside σ) Γ c (Some bool) λ x. part (looping σ) Γ b (Some unit) λ y. comes (fit t s (tree.repeat unit s [] x y))
 -- a loop with its invariants, from the first attribute on
-rule σ Γ (E.attributed s is (E.repeat r None c b)) t = first (gather (invariant_of Γ) is) λ is'. part Γ c (Some bool) λ x. part Γ b (Some unit) λ y. comes (fit t s (tree.repeat unit s is' x y))
+rule σ Γ (E.attributed s is (E.repeat r None c b)) t = first (gather (invariant_of Γ) is) λ is'. part (outside σ) Γ c (Some bool) λ x. part (looping σ) Γ b (Some unit) λ y. comes (fit t s (tree.repeat unit s is' x y))
 rule σ Γ (E.panic s m text) t = comes (panicked t s m)
 rule σ Γ (E.bare_return s) t = comes (bare_return σ.answer t s)
-rule σ Γ (E.return_with s e) t = part Γ e (Some σ.answer) λ a. comes (Ok (returned t s a))
-rule σ Γ (E.endless s b) t = part Γ b (Some unit) λ x. comes (Ok (endless t s [] x))
-rule σ Γ (E.attributed s is (E.endless r b)) t = first (gather (invariant_of Γ) is) λ is'. part Γ b (Some unit) λ x. comes (Ok (endless t s is' x))
+rule σ Γ (E.return_with s e) t = part σ Γ e (Some σ.answer) λ a. comes (Ok (returned t s a))
+rule σ Γ (E.endless s b) t = part (looping σ) Γ b (Some unit) λ x. comes (endless t s [] x)
+rule σ Γ (E.attributed s is (E.endless r b)) t = first (gather (invariant_of Γ) is) λ is'. part (looping σ) Γ b (Some unit) λ x. comes (endless t s is' x)
+rule σ Γ (E.break_off s) t = comes (in_a_loop σ.in_loop s (tree.break_off (asked t) s))
+rule σ Γ (E.go_on s) t = comes (in_a_loop σ.in_loop s (tree.go_on (asked t) s))
 rule σ Γ e t = comes (Err (unbuilt (span_of e)))
 
 -- ---- typing
 
 mutual
   -- an expression comes to a typed tree or a refusal, by the rule of its form
-  pub data Types (σ : Setting) : List Variable → Expr → Option Ty → Typed → Type 0 where
-    by_rule : {Γ : List Variable} {e : Expr} {t : Option Ty} {r : Typed} → Comes σ (rule σ Γ e t) r → Types σ Γ e t r
+  pub data Types : Setting → List Variable → Expr → Option Ty → Typed → Type 0 where
+    by_rule : {σ : Setting} {Γ : List Variable} {e : Expr} {t : Option Ty} {r : Typed} → Comes (rule σ Γ e t) r → Types σ Γ e t r
 
   -- the first part that is refused refuses the whole; else the form itself answers
-  pub data Comes (σ : Setting) : Asks → Typed → Type 0 where
-    itself : {r : Typed} → Comes σ (comes r) r
-    refused : {Γ : List Variable} {e : Expr} {t : Option Ty} {k : TypedExpr → Asks} {x : SourceError} → Types σ Γ e t (Err x) → Comes σ (part Γ e t k) (Err x)
-    then : {Γ : List Variable} {e : Expr} {t : Option Ty} {k : TypedExpr → Asks} {v : TypedExpr} {r : Typed} → Types σ Γ e t (Ok v) → Comes σ (k v) r → Comes σ (part Γ e t k) r
+  pub data Comes : Asks → Typed → Type 0 where
+    itself : {r : Typed} → Comes (comes r) r
+    refused : {σ : Setting} {Γ : List Variable} {e : Expr} {t : Option Ty} {k : TypedExpr → Asks} {x : SourceError} → Types σ Γ e t (Err x) → Comes (part σ Γ e t k) (Err x)
+    then : {σ : Setting} {Γ : List Variable} {e : Expr} {t : Option Ty} {k : TypedExpr → Asks} {v : TypedExpr} {r : Typed} → Types σ Γ e t (Ok v) → Comes (k v) r → Comes (part σ Γ e t k) r
 
 -- the expression gives a type
 abbrev pub Gives : Setting → List Variable → Expr → TypedExpr → Type 0

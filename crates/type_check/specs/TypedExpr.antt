@@ -32,8 +32,13 @@ mutual
     panics : Ty → Span → Cause → TypedExpr
     -- `return` with the answer
     returned : Ty → Span → TypedExpr → TypedExpr
-    -- `loop` with its invariants
+    -- `loop` with its invariants, which no `break` leaves, and which one leaves
     endless : Ty → Span → List Assertion → TypedExpr → TypedExpr
+    until_break : Ty → Span → List Assertion → TypedExpr → TypedExpr
+    -- `break`, to behind the loop around it
+    break_off : Ty → Span → TypedExpr
+    -- `continue`, to the next turn of the loop around it
+    go_on : Ty → Span → TypedExpr
 
   pub data TypedStmts : Type 0 where
     done : TypedStmts

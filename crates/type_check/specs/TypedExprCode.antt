@@ -10,7 +10,7 @@ use Rattle.logic_term.specs.TyCode.{coded_ty}
 use Rattle.source_kinds.specs.contracts.kinds.LazyOp as lazy_op
 use Rattle.type_check.specs.contracts.assertion.Assertion as assertion
 use base.Stored.{Gv, gnil, gnum, gcons, num}
-use Rattle.type_check.specs.TypedExpr.{TypedExpr, integer, truth, variable, negative, denied, binary, lazy, assign, update, call, block, branch, choice, repeat, panics, returned, endless, TypedStmts, done, last, leaving, bind, run, TypedExprs, none, more}
+use Rattle.type_check.specs.TypedExpr.{TypedExpr, integer, truth, variable, negative, denied, binary, lazy, assign, update, call, block, branch, choice, repeat, panics, returned, endless, until_break, break_off, go_on, TypedStmts, done, last, leaving, bind, run, TypedExprs, none, more}
 
 abbrev pub head : Gv → Gv
 head gnil = gnil
@@ -44,6 +44,9 @@ abbrev mutual
   typed_code (panics a0 a1 a2) = gcons (gnum 14) (gcons (coded_ty.code a0) (gcons (span.the_row.coded.code a1) (cause.the_row.coded.code a2)))
   typed_code (returned a0 a1 a2) = gcons (gnum 15) (gcons (coded_ty.code a0) (gcons (span.the_row.coded.code a1) (typed_code a2)))
   typed_code (endless a0 a1 a2 a3) = gcons (gnum 16) (gcons (coded_ty.code a0) (gcons (span.the_row.coded.code a1) (gcons ((coded_list assertion.the_row.coded).code a2) (typed_code a3))))
+  typed_code (until_break a0 a1 a2 a3) = gcons (gnum 19) (gcons (coded_ty.code a0) (gcons (span.the_row.coded.code a1) (gcons ((coded_list assertion.the_row.coded).code a2) (typed_code a3))))
+  typed_code (break_off a0 a1) = gcons (gnum 17) (gcons (coded_ty.code a0) (span.the_row.coded.code a1))
+  typed_code (go_on a0 a1) = gcons (gnum 18) (gcons (coded_ty.code a0) (span.the_row.coded.code a1))
 
   pub stmts_code : TypedStmts → Gv
   stmts_code done = gcons (gnum 0) gnil
@@ -91,6 +94,11 @@ mutual
   typed_injective (endless a0 a1 a2 a3) (endless b0 b1 b2 b3) p =
       λ i. endless (coded_ty.inj a0 b0 (ap (λ g. head (tail g)) p) i) (span.the_row.coded.inj a1 b1 (ap (λ g. head (tail (tail g))) p) i) ((coded_list assertion.the_row.coded).inj a2 b2 (ap (λ g. head (tail (tail (tail g)))) p) i)
       (typed_injective a3 b3 (ap (λ g. tail (tail (tail (tail g)))) p) i)
+  typed_injective (until_break a0 a1 a2 a3) (until_break b0 b1 b2 b3) p =
+      λ i. until_break (coded_ty.inj a0 b0 (ap (λ g. head (tail g)) p) i) (span.the_row.coded.inj a1 b1 (ap (λ g. head (tail (tail g))) p) i) ((coded_list assertion.the_row.coded).inj a2 b2 (ap (λ g. head (tail (tail (tail g)))) p) i)
+      (typed_injective a3 b3 (ap (λ g. tail (tail (tail (tail g)))) p) i)
+  typed_injective (break_off a0 a1) (break_off b0 b1) p = λ i. break_off (coded_ty.inj a0 b0 (ap (λ g. head (tail g)) p) i) (span.the_row.coded.inj a1 b1 (ap (λ g. tail (tail g)) p) i)
+  typed_injective (go_on a0 a1) (go_on b0 b1) p = λ i. go_on (coded_ty.inj a0 b0 (ap (λ g. head (tail g)) p) i) (span.the_row.coded.inj a1 b1 (ap (λ g. tail (tail g)) p) i)
   typed_injective x y p = absurd (omega (arith, ap tag p))
 
   pub stmts_injective : (x y : TypedStmts) → stmts_code x ≡ stmts_code y → x ≡ y

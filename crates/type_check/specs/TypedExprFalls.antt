@@ -51,3 +51,6 @@ falls t s (node.While a0 a1 a2) = omega arith
 falls t s (node.Panic a0) = omega arith
 falls t s (node.Return a0) = omega arith
 falls t s (node.Loop a0 a1) = omega arith
+falls t s (node.LoopUntilBreak a0 a1) = omega arith
+falls t s node.Break = omega arith
+falls t s node.Continue = omega arith

@@ -2,7 +2,7 @@
 use Rattle.std.specs.Prelude.{ℕ, suc, max, Bool, true, false, List, [], ◌∷◌}
 use Rattle.text_core.specs.declared.span.Span.{Span}
 use Rattle.logic_term.specs.Ty.{Ty}
-use Rattle.type_check.specs.TypedExpr.{TypedExpr, integer, truth, variable, negative, denied, binary, lazy, assign, update, call, block, branch, choice, repeat, panics, returned, endless, TypedStmts, done, last, leaving, bind, run, TypedExprs, none, more}
+use Rattle.type_check.specs.TypedExpr.{TypedExpr, integer, truth, variable, negative, denied, binary, lazy, assign, update, call, block, branch, choice, repeat, panics, returned, endless, until_break, break_off, go_on, TypedStmts, done, last, leaving, bind, run, TypedExprs, none, more}
 use Rattle.type_check.specs.declared.typed.TypedStmt.{TypedStmt}
 use Rattle.type_check.specs.declared.typed.TypedNode.{TypedNode}
 use Rattle.type_check.specs.declared.typed.TypedNode.TheVariants as node
@@ -40,6 +40,9 @@ typed_of t s (node.While a0 a1 a2) = repeat t s a0.items a1 a2
 typed_of t s (node.Panic a0) = panics t s a0
 typed_of t s (node.Return a0) = returned t s a0
 typed_of t s (node.Loop a0 a1) = endless t s a0.items a1
+typed_of t s (node.LoopUntilBreak a0 a1) = until_break t s a0.items a1
+typed_of t s node.Break = break_off t s
+typed_of t s node.Continue = go_on t s
 
 abbrev mutual
   pub typed_size : TypedExpr → ℕ
@@ -60,6 +63,9 @@ abbrev mutual
   typed_size (panics a0 a1 a2) = 1
   typed_size (returned a0 a1 a2) = suc (typed_size a2)
   typed_size (endless a0 a1 a2 a3) = suc (typed_size a3)
+  typed_size (until_break a0 a1 a2 a3) = suc (typed_size a3)
+  typed_size (break_off a0 a1) = 1
+  typed_size (go_on a0 a1) = 1
 
   pub stmts_size : TypedStmts → ℕ
   stmts_size done = 1
@@ -90,6 +96,9 @@ ty_of (repeat t s a0 a1 a2) = t
 ty_of (panics t s a0) = t
 ty_of (returned t s a0) = t
 ty_of (endless t s a0 a1) = t
+ty_of (until_break t s a0 a1) = t
+ty_of (break_off t s) = t
+ty_of (go_on t s) = t
 
 abbrev pub span_of : TypedExpr → Span
 span_of (integer t s a0 a1) = s
@@ -109,3 +118,6 @@ span_of (repeat t s a0 a1 a2) = s
 span_of (panics t s a0) = s
 span_of (returned t s a0) = s
 span_of (endless t s a0 a1) = s
+span_of (until_break t s a0 a1) = s
+span_of (break_off t s) = s
+span_of (go_on t s) = s

@@ -1,6 +1,6 @@
 -- Which variable each name means and which type each expression has, in the form of bidirectional typing (Pierce and Turner
 -- 2000): without an expected type an expression gives one, with one it fits it (Rust Reference, "Operator expressions",
--- "Call expressions", "Block expressions", "if expressions", "Predicate loops", "Infinite loops", "return expressions", "Diverging expressions"). What has no row is not built.
+-- "Call expressions", "Block expressions", "if expressions", "Predicate loops", "Infinite loops", "break expressions", "continue expressions", "return expressions", "Diverging expressions"). What has no row is not built.
 use Rattle.std.specs.Prelude.{ℕ, suc, ℤ, ◌==◌, ◌++◌, Bool, true, false, List, [], ◌∷◌, length, Option, Some, None, Result, Ok, Err, slice_get, if◌then◌else◌}
 use Rattle.text_core.specs.declared.name.Name.{Name}
 use Rattle.text_core.specs.declared.refusal.Cause.{Cause}
@@ -37,9 +37,10 @@ use Rattle.type_check.specs.declared.statements.Step.{Step}
 use Rattle.type_check.specs.declared.typed.TypedStmt.{TypedStmt}
 use Rattle.type_check.specs.Answers.{◌>>=◌, unknown_name, mismatch, unbuilt, not_mutable, wanted, gather}
 use Rattle.type_check.specs.Functions.{callee}
+use Rattle.type_check.specs.Breaks.{breaks}
 use Rattle.type_check.specs.Leaves.{leaves}
 use Rattle.type_check.specs.Scope.{found}
-use Rattle.type_check.specs.Setting.{Setting}
+use Rattle.type_check.specs.Setting.{Setting, looping, outside}
 use Rattle.type_check.specs.Terms.{assertion}
 use Rattle.type_check.specs.TypedExpr.{TypedExpr, TypedStmts, TypedExprs}
 use Rattle.type_check.specs.TypedExpr as tree
@@ -280,9 +281,13 @@ bare_return A t s = wanted (same_ty unit A) s (returned t s (nothing s))
 
 -- ---- loops
 
--- `loop`, which fits every type
-abbrev pub endless : Option Ty → Span → List Assertion → TypedExpr → TypedExpr
-endless t s is b = tree.endless (asked t) s is b
+-- `loop`, which has the type unit where a `break` leaves it, and else fits every type
+unfoldable pub endless : Option Ty → Span → List Assertion → TypedExpr → Typed
+endless t s is b = if breaks b then fit t s (tree.until_break unit s is b) else Ok (tree.endless (asked t) s is b)
+
+-- `break` and `continue`, in a loop alone
+abbrev pub in_a_loop : Bool → Span → TypedExpr → Typed
+in_a_loop b s e = wanted b s e
 
 -- before a loop invariants are built, and no other clause
 abbrev pub invariant_by : List Variable → Span → AttributeNode → Result (Option Assertion) SourceError
@@ -342,14 +347,14 @@ abbrev mutual
     z ← typed σ Γ b (given t y)
     chosen t s x y z
   typed σ Γ (E.repeat s None c b) t = do
-    x ← typed σ Γ c (Some bool)
-    y ← typed σ Γ b (Some unit)
+    x ← typed (outside σ) Γ c (Some bool)
+    y ← typed (looping σ) Γ b (Some unit)
     fit t s (tree.repeat unit s [] x y)
   -- a loop with its invariants, from the first attribute on
   typed σ Γ (E.attributed s is (E.repeat r None c b)) t = do
     is' ← gather (invariant_of Γ) is
-    x ← typed σ Γ c (Some bool)
-    y ← typed σ Γ b (Some unit)
+    x ← typed (outside σ) Γ c (Some bool)
+    y ← typed (looping σ) Γ b (Some unit)
     fit t s (tree.repeat unit s is' x y)
   typed σ Γ (E.panic s m text) t = panicked t s m
   typed σ Γ (E.bare_return s) t = bare_return σ.answer t s
@@ -357,12 +362,14 @@ abbrev mutual
     a ← typed σ Γ e (Some σ.answer)
     Ok (returned t s a)
   typed σ Γ (E.endless s b) t = do
-    x ← typed σ Γ b (Some unit)
-    Ok (endless t s [] x)
+    x ← typed (looping σ) Γ b (Some unit)
+    endless t s [] x
   typed σ Γ (E.attributed s is (E.endless r b)) t = do
     is' ← gather (invariant_of Γ) is
-    x ← typed σ Γ b (Some unit)
-    Ok (endless t s is' x)
+    x ← typed (looping σ) Γ b (Some unit)
+    endless t s is' x
+  typed σ Γ (E.break_off s) t = in_a_loop σ.in_loop s (tree.break_off (asked t) s)
+  typed σ Γ (E.go_on s) t = in_a_loop σ.in_loop s (tree.go_on (asked t) s)
   typed σ Γ e t = Err (unbuilt (span_of e))
 
   pub typed_stmts : Setting → List Variable → E.Stmts → Result Opened SourceError

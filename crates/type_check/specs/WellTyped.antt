@@ -17,7 +17,8 @@ use Rattle.type_check.specs.declared.program.Signature.{Signature}
 use Rattle.type_check.specs.declared.program.TypedClause.{TypedClause}
 use Rattle.type_check.specs.declared.program.TypedFunction.{TypedFunction}
 use Rattle.type_check.specs.declared.program.TypedProgram.{TypedProgram}
-use Rattle.type_check.specs.TypedExpr.{TypedExpr, TypedStmts, TypedExprs, integer, truth, variable, negative, denied, binary, lazy, assign, update, call, block, branch, choice, repeat, panics, returned, endless, done, last, leaving, bind, run, none, more}
+use Rattle.type_check.specs.TypedExpr.{TypedExpr, TypedStmts, TypedExprs, integer, truth, variable, negative, denied, binary, lazy, assign, update, call, block, branch, choice, repeat, panics, returned, endless, until_break, break_off, go_on, done, last, leaving, bind, run, none, more}
+use Rattle.type_check.specs.Breaks.{breaks}
 use Rattle.type_check.specs.Leaves.{leaves}
 use Rattle.type_check.specs.TypedExprView.{ty_of}
 use Rattle.type_check.specs.VariableNames.{variable_name, answer_name}
@@ -87,10 +88,22 @@ EachSpeaks n (a ∷ as') = SpeaksOf n a × EachSpeaks n as'
 
 -- ---- expressions
 
--- what stands around the body of a function: the signatures of the functions that it may call, and the type of its answer
+-- what stands around an expression: the signatures of the functions that it may call, the type of the function's answer, and whether a
+-- loop is around
 pub record Surroundings : Type 0 where
   pub signatures : List Signature
   pub answer : Ty
+  pub in_loop : Bool
+
+abbrev pub within_loop : Bool → Surroundings → Surroundings
+within_loop b σ = record { signatures = σ.signatures; answer = σ.answer; in_loop = b }
+
+-- in the body of a loop, and in the condition of a `while`, which is in no loop
+abbrev pub looping : Surroundings → Surroundings
+looping = within_loop true
+
+abbrev pub outside : Surroundings → Surroundings
+outside = within_loop false
 
 abbrev pub IsOf : Ty → TypedExpr → Type 0
 IsOf t e = ty_of e ≡ t
@@ -115,11 +128,14 @@ abbrev mutual
   IsWellTyped σ Γ (branch t s c a) = (t ≡ unit) × IsOf bool c × IsOf unit a × IsWellTyped σ Γ c × IsWellTyped σ Γ a
   -- a side that leaves fits any type
   IsWellTyped σ Γ (choice t s c a b) = IsOf bool c × IsOfOrLeaves t a × IsOfOrLeaves t b × IsWellTyped σ Γ c × IsWellTyped σ Γ a × IsWellTyped σ Γ b
-  IsWellTyped σ Γ (repeat t s is c b) = (t ≡ unit) × EachSpeaks (length Γ) is × IsOf bool c × IsOf unit b × IsWellTyped σ Γ c × IsWellTyped σ Γ b
+  IsWellTyped σ Γ (repeat t s is c b) = (t ≡ unit) × EachSpeaks (length Γ) is × IsOf bool c × IsOf unit b × IsWellTyped (outside σ) Γ c × IsWellTyped (looping σ) Γ b
   -- what leaves is of any built type
   IsWellTyped σ Γ (panics t s k) = IsBuilt t
   IsWellTyped σ Γ (returned t s e) = IsBuilt t × IsOf σ.answer e × IsWellTyped σ Γ e
-  IsWellTyped σ Γ (endless t s is b) = IsBuilt t × EachSpeaks (length Γ) is × IsOf unit b × IsWellTyped σ Γ b
+  IsWellTyped σ Γ (endless t s is b) = IsBuilt t × (breaks b ≡ false) × EachSpeaks (length Γ) is × IsOf unit b × IsWellTyped (looping σ) Γ b
+  IsWellTyped σ Γ (until_break t s is b) = (t ≡ unit) × (breaks b ≡ true) × EachSpeaks (length Γ) is × IsOf unit b × IsWellTyped (looping σ) Γ b
+  IsWellTyped σ Γ (break_off t s) = IsBuilt t × (σ.in_loop ≡ true)
+  IsWellTyped σ Γ (go_on t s) = IsBuilt t × (σ.in_loop ≡ true)
 
   -- the statements of a block of the type, and its last expression
   pub StatementsFit : Surroundings → List Ty → Ty → TypedStmts → Type 0
@@ -147,7 +163,7 @@ ClausesSpeak n (c ∷ cs) = ClauseSpeaksOf n c.kind c.formula × ClausesSpeak n 
 
 -- around the body of a function of this signature
 abbrev pub surroundings_of : List Signature → Signature → Surroundings
-surroundings_of σ g = record { signatures = σ; answer = g.answer }
+surroundings_of σ g = record { signatures = σ; answer = g.answer; in_loop = false }
 
 pub record FunctionFits (σ : List Signature) (f : TypedFunction) : Type 0 where
   pub params : AllBuilt f.signature.params

@@ -22,14 +22,10 @@ use Rattle.source_trees.specs.TypeTreeView.{span_of as type_span}
 use Rattle.type_check.specs.declared.scope.Declared.{Declared}
 use Rattle.type_check.specs.declared.scope.Variable.{Variable}
 use Rattle.type_check.specs.declared.statements.Step.{Step}
+pub use Rattle.logic_elab.specs.Elaborated.{name_alone}
 use Rattle.type_check.specs.Answers.{◌>>=◌, unbuilt}
 
 -- ---- names
-
--- a path that is a name alone
-unfoldable pub name_alone : PathNode → Option Segment
-name_alone (Names first [] []) = Some first
-name_alone _ = None
 
 -- the name that the expression is, if it is one alone
 unfoldable pub as_name : E.Expr → Option Segment

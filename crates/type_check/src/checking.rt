@@ -151,6 +151,7 @@ fn type_function(
     let setting = Setting {
         headings,
         answer: &signature.answer,
+        in_loop: false,
     };
     let body = type_body(alloc, &setting, &mut scope, &expected, own, &f.body)?;
     Ok(TypedFunction {

@@ -17,12 +17,12 @@ use crate::refusal::{unbuilt, unknown_name};
 use crate::scope::Variable;
 use crate::setting::Setting;
 use crate::statements::{block_with, declare, whole_block};
-use crate::typed::{TypedExpr, TypedStmt};
+use crate::typed::{TypedExpr, TypedNode, TypedStmt};
 use crate::types::is_arithmetic;
 use crate::typing::{
-    assigned, bare_return, branch, called, choice, denied, endless, given_by, given_ty, is_bare,
-    lazy, literal, named, negated, operated, order_of, panicked, param_ty, repeat, returned,
-    span_of, spans_at, truth, updated,
+    assigned, bare_return, branch, called, choice, denied, endless, given_by, given_ty, in_a_loop,
+    is_bare, lazy, literal, named, negated, operated, order_of, panicked, param_ty, repeat,
+    returned, span_of, spans_at, truth, updated,
 };
 use crate::written::{as_name, name_alone, step_of};
 use logic_term::Ty;
@@ -139,6 +139,14 @@ fn type_form(
         ExprNode::Panic(panic, _) => panicked(alloc, expected, whole, *panic),
         ExprNode::Return => bare_return(alloc, setting.answer, expected, whole),
         ExprNode::ReturnWith(value) => type_return(alloc, setting, scope, expected, whole, value),
+        ExprNode::Break => in_a_loop(alloc, setting.in_loop, expected, whole, TypedNode::Break),
+        ExprNode::Continue => in_a_loop(
+            alloc,
+            setting.in_loop,
+            expected,
+            whole,
+            TypedNode::Continue,
+        ),
         ExprNode::Receiver
         | ExprNode::Literal(_, _)
         | ExprNode::Tuple(_)
@@ -147,8 +155,6 @@ fn type_form(
         | ExprNode::Match(_, _)
         | ExprNode::While(Some(_), _, _)
         | ExprNode::Closure(_, _, _, _, _)
-        | ExprNode::Break
-        | ExprNode::Continue
         | ExprNode::Ghost(_, _)
         | ExprNode::Cast(_, _)
         | ExprNode::Borrow(_, _)
@@ -407,8 +413,10 @@ fn type_while(
     ensures kept { OnOk result (scope.new.items ≡ scope.old.items) }
 {
     let invariants = invariants_of(alloc, scope.as_slice(), attributes)?;
-    let condition = type_expr(alloc, setting, scope, condition, &Some(Ty::bool()))?;
-    let body = type_expr(alloc, setting, scope, body, &Some(Ty::unit(alloc)))?;
+    let outside = setting.within(false);
+    let condition = type_expr(alloc, &outside, scope, condition, &Some(Ty::bool()))?;
+    let inside = setting.within(true);
+    let body = type_expr(alloc, &inside, scope, body, &Some(Ty::unit(alloc)))?;
     repeat(alloc, expected, whole, invariants, condition, body)
 }
 
@@ -428,7 +436,8 @@ fn type_loop(
     ensures kept { OnOk result (scope.new.items ≡ scope.old.items) }
 {
     let invariants = invariants_of(alloc, scope.as_slice(), attributes)?;
-    let body = type_expr(alloc, setting, scope, body, &Some(Ty::unit(alloc)))?;
+    let inside = setting.within(true);
+    let body = type_expr(alloc, &inside, scope, body, &Some(Ty::unit(alloc)))?;
     endless(alloc, expected, whole, invariants, body)
 }
 

@@ -15,6 +15,8 @@ pub fn leaves(e: &TypedExpr) -> bool
             TypedNode::Panic(_)
             | TypedNode::Return(_)
             | TypedNode::Loop(_, _)
+            | TypedNode::Break
+            | TypedNode::Continue
             | TypedNode::BlockLeaving(_, _) => return true,
             TypedNode::BlockWith(_, last) => end = last,
             TypedNode::IfElse(_, yes, no) => {

@@ -2,6 +2,7 @@
 #![tactic(auto)]
 
 mod assertion;
+mod breaking;
 mod chain;
 mod checking;
 mod checks;
@@ -22,9 +23,7 @@ mod program;
 mod refusal;
 mod scope;
 mod setting;
-mod sorted;
 mod statements;
-mod term_chain;
 mod typed;
 mod types;
 mod typing;

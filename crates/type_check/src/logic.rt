@@ -1,4 +1,5 @@
-ghost use Rattle.std.specs.Prelude.{◌≡◌, ◌<◌, MatchOption};
+ghost use Rattle.std.specs.Prelude.{◌≡◌, ◌<◌, ◌||◌, MatchOption};
+ghost use Rattle.type_check.specs.Breaks.{breaks};
 ghost use Rattle.type_check.specs.FirstBad.{bad_of, bad_among, bad_in, bad_in_stmts, bad_in_exprs, bad_clause, bad_in_function, first_bad};
 ghost use Rattle.type_check.specs.Answers.{or_else};
 ghost use Rattle.type_check.specs.TypedExpr.{done};
@@ -37,8 +38,9 @@ fn bad_among(assertions: &[Assertion]) -> Option<SourceError>
 }
 
 /// The operands of an operation.
-fn operands_of(e: &TypedExpr) -> Option<(&TypedExpr, &TypedExpr)>
+pub(crate) fn operands_of(e: &TypedExpr) -> Option<(&TypedExpr, &TypedExpr)>
     ensures bad { MatchOption result (Unit {0}) (λ p. bad_in e.now ≡ or_else (bad_in p.0.now) (bad_in p.1.now)) }
+    ensures breaks { MatchOption result (Unit {0}) (λ p. breaks e.now ≡ (breaks p.0.now || breaks p.1.now)) }
     ensures left { MatchOption result (Unit {0}) (λ p. typed_size p.0.now < typed_size e.now) }
     ensures right { MatchOption result (Unit {0}) (λ p. typed_size p.1.now < typed_size e.now) }
 {
@@ -94,6 +96,9 @@ fn bad_in_form(e: &TypedExpr) -> Option<SourceError>
         TypedNode::Panic(_) => None,
         TypedNode::Return(a) => bad_in(a),
         TypedNode::Loop(invariants, b) => earlier(bad_among(invariants), bad_in(b)),
+        TypedNode::LoopUntilBreak(invariants, b) => earlier(bad_among(invariants), bad_in(b)),
+        TypedNode::Break => None,
+        TypedNode::Continue => None,
     }
 }
 

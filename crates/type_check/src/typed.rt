@@ -48,8 +48,14 @@ pub enum TypedNode {
     Panic(Cause),
     /// `return` with the answer.
     Return(TypedExpr),
-    /// `loop` with its invariants.
+    /// `loop` with its invariants, which no `break` leaves.
     Loop(Vec<Assertion>, TypedExpr),
+    /// `loop` with its invariants, which a `break` leaves.
+    LoopUntilBreak(Vec<Assertion>, TypedExpr),
+    /// To behind the loop around it.
+    Break,
+    /// To the next turn of the loop around it.
+    Continue,
 }
 
 /// A statement: with `binds` it declares the next variable, which is in scope to the end of the block.

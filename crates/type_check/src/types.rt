@@ -1,6 +1,6 @@
 ghost use Rattle.std.specs.Prelude.{◌≡◌};
 ghost use Rattle.source_kinds.specs.Range.{fits};
-ghost use Rattle.type_check.specs.Types.{same_ty, is_bool, is_math_int, is_signed_ty};
+ghost use Rattle.type_check.specs.Types.{same_ty, is_bool, is_signed_ty};
 ghost use Rattle.type_check.specs.Typing.{is_updated};
 ghost use Rattle.type_check.specs.WellTyped.{is_arithmetic, is_equality, operation_ty};
 
@@ -18,12 +18,6 @@ pub(crate) fn is_bool(t: &Ty) -> bool
     ensures { result ≡ is_bool t.now }
 {
     matches!(&t.node, TyNode::Bool)
-}
-
-pub(crate) fn is_math_int(t: &Ty) -> bool
-    ensures { result ≡ is_math_int t.now }
-{
-    matches!(&t.node, TyNode::MathInt)
 }
 
 /// Whether the integer is one of the type.

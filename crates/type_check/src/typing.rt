@@ -4,10 +4,11 @@ ghost use Rattle.source_trees.specs.ExprView.{span_of};
 ghost use Rattle.type_check.specs.Answers.{Answers};
 ghost use Rattle.type_check.specs.TypedExpr as tree;
 ghost use Rattle.type_check.specs.TypedExprView.{ty_of, typed_of, exprs_of};
-ghost use Rattle.type_check.specs.Typing.{fit, order_of, literal_kind, literal, variable, negated, is_bare, named, operated, if_mutable, may_write, assigned, updated, called, is_updated, asked, given, choice_ty, chosen, panicked, returned, bare_return, endless};
+ghost use Rattle.type_check.specs.Typing.{fit, order_of, literal_kind, literal, variable, negated, is_bare, named, operated, if_mutable, may_write, assigned, updated, called, is_updated, asked, given, choice_ty, chosen, panicked, returned, bare_return, endless, in_a_loop};
 ghost use Rattle.type_check.specs.WellTyped.{unit};
 
 use crate::assertion::Assertion;
+use crate::breaking::breaks;
 use crate::heading::Callee;
 use crate::leaving::leaves;
 use crate::operands::{Operands, Order};
@@ -370,7 +371,8 @@ pub(crate) fn bare_return(
     returned(alloc, expected, span, nothing)
 }
 
-/// `loop`, which fits every type.
+/// `loop`, which has the type unit where a `break` leaves it, and else fits every type.
+#[tactic(auto, unfolding(crate::specs::Typing::endless))]
 pub(crate) fn endless(
     alloc: Global,
     expected: &Option<Ty>,
@@ -378,10 +380,33 @@ pub(crate) fn endless(
     invariants: Vec<Assertion>,
     body: TypedExpr,
 ) -> Result<TypedExpr, PassError>
-    ensures { Answers result (Ok (endless expected.now span invariants.items body)) }
+    ensures { Answers result (endless expected.now span invariants.items body) }
 {
+    if breaks(&body) {
+        let ty = Ty::unit(alloc);
+        let node = TypedNode::LoopUntilBreak(invariants, body);
+        return fit(alloc, expected, span, ty, span, node);
+    }
     let ty = asked(alloc, expected)?;
     let node = Box::new(alloc, TypedNode::Loop(invariants, body))?;
+    Ok(TypedExpr { ty, span, node })
+}
+
+/// `break` or `continue`, which fits every type where a loop is around.
+pub(crate) fn in_a_loop(
+    alloc: Global,
+    in_loop: bool,
+    expected: &Option<Ty>,
+    span: Span,
+    node: TypedNode,
+) -> Result<TypedExpr, PassError>
+    ensures { Answers result (in_a_loop in_loop span (typed_of (asked expected.now) span node)) }
+{
+    if !in_loop {
+        return Err(mismatch(span));
+    }
+    let ty = asked(alloc, expected)?;
+    let node = Box::new(alloc, node)?;
     Ok(TypedExpr { ty, span, node })
 }
 

@@ -343,7 +343,7 @@ fn values_that_return(rt: HostRuntime) {
     expect(&rt, rt.alloc(), &RETURNING);
 }
 
-const LOOPS: [Row; 17] = [
+const LOOPS: [Row; 15] = [
     (b"fn f() { loop {} }", None),
     (b"fn f() -> i32 { loop {} }", None),
     (b"fn f() -> i32 { loop {} 1 }", None),
@@ -377,8 +377,6 @@ const LOOPS: [Row; 17] = [
         Some((Code::E05, 35, 36)),
     ),
     (b"fn f() -> i32 { loop { z; } }", Some((Code::E05, 23, 24))),
-    (b"fn f() { loop { break; } }", Some((Code::E20, 16, 21))),
-    (b"fn f() { loop { continue; } }", Some((Code::E20, 16, 24))),
 ];
 
 /// A `loop` leaves, and its body is unit.

@@ -1,8 +1,10 @@
-//! Tests of the table of declared types, of assignments, and of what leaves.
+//! Tests of the table of declared types, of assignments, of what leaves, and of `break` and `continue`.
 #![tactic(auto)]
 
 #[cfg(test)]
 mod assigning;
+#[cfg(test)]
+mod breaking;
 #[cfg(test)]
 mod build;
 #[cfg(test)]

@@ -1,5 +1,6 @@
+use Rattle.std.proofs.Common.{◌∙◌}
 use Rattle.machine_tests.proofs.WalkedLemmas.{straight_can_walk}
 use Rattle.machine_tests.proofs.obligations.of_operation.Goals as goal
 
-pub obligations-requires : goal.obligations-requires
-obligations-requires c = straight_can_walk _ _ _ c.in_ok-body.ensures
+pub owed_by-requires : goal.owed_by-requires
+owed_by-requires c = λ w k is has. straight_can_walk w _ _ (is ∙ c.get.ensures ∙ c.in_ok-body.ensures)

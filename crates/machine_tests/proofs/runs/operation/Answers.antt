@@ -1,4 +1,4 @@
-use Rattle.std.proofs.Common.{◌≡◌, FitsSigned, true, rules}
+use Rattle.std.proofs.Common.{◌≡◌, ◌∙◌, FitsSigned, true, rules}
 use Rattle.std.proofs.lemmas.Int.{to_z-of_z}
 use Rattle.std.specs.Int.{w128}
 use Rattle.source_kinds.specs.Range.{fits}
@@ -6,14 +6,14 @@ use Rattle.mir_machine.specs.Tree.{Int}
 use Rattle.machine_tests.proofs.RunLemmas.{binary_samples, sample_takes}
 use Rattle.machine_tests.proofs.runs.operation.Goals as goal
 
-pub start-requires-clause-sound : goal.start-requires-clause-sound
-start-requires-clause-sound c =
+pub run_of-requires-clause-sound : goal.run_of-requires-clause-sound
+run_of-requires-clause-sound c =
     let n_fits : fits c.args.kind c.args.n ≡ true = search rules in
     let n_wide : FitsSigned w128 c.args.n = search rules in
-    binary_samples c.in_ok-bodies.bodies _ _ c.copied.result c.args.kind c.args.op c.args.n (simp to_z-of_z at c.in_ok-bodies.ensures) c.operation_ty.ensures c.int.ensures c.copied.ensures n_fits
+    binary_samples _ _ _ c.copied.result c.args.kind c.args.op c.args.n (c.get.ensures ∙ (simp to_z-of_z at c.in_ok-bodies.ensures)) c.operation_ty.ensures c.int.ensures c.copied.ensures n_fits
 
-pub start-requires-clause-takes_one : goal.start-requires-clause-takes_one
-start-requires-clause-takes_one c =
+pub run_of-requires-clause-takes_one : goal.run_of-requires-clause-takes_one
+run_of-requires-clause-takes_one c =
     let x_fits : fits c.args.kind c.args.x ≡ true = search rules in
     let is_x : c.integer.result ≡ Int c.args.x = search rules in
-    sample_takes c.in_ok-bodies.bodies _ _ _ c.integer.result c.args.kind c.args.x c.in_ok-bodies.ensures c.int.ensures is_x x_fits
+    sample_takes _ _ _ _ c.integer.result c.args.kind c.args.x (c.get.ensures ∙ c.in_ok-bodies.ensures) c.int.ensures is_x x_fits

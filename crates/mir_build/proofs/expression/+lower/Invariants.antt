@@ -56,6 +56,9 @@ decreases-lower_return l = 8 * typed_size l.x.now + 3
 abbrev pub decreases-lower_endless : goal.decreases-lower_endless
 decreases-lower_endless l = 8 * typed_size l.x.now + 4
 
+abbrev pub decreases-lower_until_break : goal.decreases-lower_until_break
+decreases-lower_until_break l = 8 * typed_size l.x.now + 4
+
 abbrev pub decreases-lower_call : goal.decreases-lower_call
 decreases-lower_call l = 8 * exprs_size (exprs_of l.es.now) + 5
 

@@ -1,4 +1,4 @@
-use Rattle.type_check.proofs.SameTypes.{same_ty_is}
+use Rattle.logic_elab.proofs.SameSorts.{same_ty_is}
 use Rattle.type_check.proofs.types.same_ty.Goals as goal
 
 pub returns : goal.returns

@@ -1,0 +1,21 @@
+use Rattle.std.proofs.Common.{◌+◌, ◌*◌, max}
+use Rattle.logic_term.specs.TermView.{term_size, terms_of, terms_size}
+use Rattle.creusot_pages.proofs.formula.+formula.Given as goal
+
+abbrev pub decreases-push_formula : goal.decreases-push_formula
+decreases-push_formula l = 3 * term_size l.t.now
+
+abbrev pub decreases-push_part : goal.decreases-push_part
+decreases-push_part l = 3 * term_size l.t.now + 1
+
+abbrev pub decreases-push_unary : goal.decreases-push_unary
+decreases-push_unary l = 3 * term_size l.a.now + 2
+
+abbrev pub decreases-push_binary : goal.decreases-push_binary
+decreases-push_binary l = 3 * max (term_size l.a.now) (term_size l.b.now) + 2
+
+abbrev pub decreases-push_forall : goal.decreases-push_forall
+decreases-push_forall l = 3 * term_size l.body.now + 2
+
+abbrev pub decreases-push_parts : goal.decreases-push_parts
+decreases-push_parts l = 3 * terms_size (terms_of l.parts.now)

@@ -1,0 +1,107 @@
+//! Bodies as words, without their operands: what a body is lowered to is compared as one text.
+//! The first line has the owner, and how many parameters and locals there are. Each further line is a block: its label, the heads of the
+//! loops around it, and the invariants of a head, each with its span; then its statements with the locals that they write, and its end
+//! with the labels that it leads to, each with its first byte.
+use logic_term::{Label, Term, TermForm};
+use mir_ir::{Block, Body, Head, Rvalue, Statement, StatementKind, Terminator, TerminatorKind};
+use std::alloc::AllocError;
+use text_core::Span;
+
+/// What a statement is, and the local that it writes.
+fn statement_words(kind: &StatementKind) -> (&'static str, u32) {
+    match kind {
+        StatementKind::Assign(place, Rvalue::Use(_)) => ("use", place.local),
+        StatementKind::Assign(place, Rvalue::Binary(_, _, _)) => ("binary", place.local),
+        StatementKind::Assign(place, Rvalue::Make(_, _)) => ("make", place.local),
+        StatementKind::Assign(place, Rvalue::Neg(_)) => ("negate", place.local),
+        StatementKind::Assign(place, Rvalue::Not(_)) => ("not", place.local),
+        StatementKind::Dead(local) => ("dead", *local),
+    }
+}
+
+fn push_statements(out: &mut String, statements: &[Statement]) -> Result<(), AllocError> {
+    for statement in statements {
+        let (word, local) = statement_words(&statement.kind);
+        let start = statement.span.start;
+        write!(out, " {word} {local} @{start},")?;
+    }
+    Ok(())
+}
+
+/// What an end is, and the labels that it leads to.
+fn end_words(kind: &TerminatorKind) -> (&'static str, Option<Label>, Option<Label>) {
+    match kind {
+        TerminatorKind::Goto(label) => ("goto", Some(*label), None),
+        TerminatorKind::If(_, yes, no) => ("if", Some(*yes), Some(*no)),
+        TerminatorKind::Return => ("return", None, None),
+        TerminatorKind::Call(_, _, _, _, label) => ("call", Some(*label), None),
+        TerminatorKind::Panic(_) => ("panic", None, None),
+    }
+}
+
+fn push_label(out: &mut String, label: Option<Label>) -> Result<(), AllocError> {
+    match label {
+        Some(Label(number)) => write!(out, " {number}"),
+        None => Ok(()),
+    }
+}
+
+fn push_end(out: &mut String, end: &Terminator) -> Result<(), AllocError> {
+    let (word, first, second) = end_words(&end.kind);
+    let start = end.span.start;
+    write!(out, " {word}")?;
+    push_label(out, first)?;
+    push_label(out, second)?;
+    write!(out, " @{start}\n")
+}
+
+fn push_nest(out: &mut String, nest: &[Label]) -> Result<(), AllocError> {
+    for label in nest {
+        out.push_str(" in")?;
+        push_label(out, Some(*label))?;
+    }
+    Ok(())
+}
+
+/// An invariant, which is a local or another formula.
+fn push_invariant(out: &mut String, invariant: &Term, at: Span) -> Result<(), AllocError> {
+    let Span { start, end } = at;
+    match invariant.form() {
+        TermForm::Var(name) => {
+            let number = name.0;
+            write!(out, " keeps {number} @{start}-{end}")
+        }
+        _ => write!(out, " keeps a formula @{start}-{end}"),
+    }
+}
+
+/// The invariants, each with its span; an invariant without a span, or a span without one, has no words.
+fn push_head(out: &mut String, head: &Head) -> Result<(), AllocError> {
+    for (invariant, at) in head.invariants.as_slice().iter().zip(head.spans.as_slice()) {
+        push_invariant(out, invariant, *at)?;
+    }
+    Ok(())
+}
+
+fn push_block(out: &mut String, label: u32, block: &Block) -> Result<(), AllocError> {
+    write!(out, "{label}")?;
+    push_nest(out, block.nest.as_slice())?;
+    if let Some(head) = &block.head {
+        push_head(out, head)?;
+    }
+    out.push(':')?;
+    push_statements(out, block.statements.as_slice())?;
+    push_end(out, &block.end)
+}
+
+/// The body in words.
+pub(crate) fn push_body(out: &mut String, body: &Body) -> Result<(), AllocError> {
+    let owner = std::str::from_utf8(body.owner.bytes()).unwrap_or("_");
+    let params = body.params;
+    let locals = body.locals.len();
+    write!(out, "{owner} {params} {locals}\n")?;
+    for (label, block) in body.blocks.as_slice() {
+        push_block(out, label.0, block)?;
+    }
+    Ok(())
+}
