@@ -6,7 +6,7 @@ use Rattle.name_tables.specs.NameTables.{with_names}
 use Rattle.name_tables.proofs.Tables.{one_place_at_first}
 use Rattle.proof_text.specs.declared.proof.Proof.{Proof}
 use Rattle.proof_text.specs.declared.proof.ProofFile.{ProofFile}
-use Rattle.proof_text.specs.ProofFileForm.{IsFirstBadLine, texts_in}
+use Rattle.proof_text.specs.ProofFileForm.{IsFirstBadLine}
 use Rattle.proof_text.proofs.FormLaw.{one_reading, spelled_once}
 use Rattle.report_out.specs.Report.{report_of, source_error_line, proof_error_line, limit_line}
 use Rattle.call_words.specs.declared.request.Verb.{Verb}
@@ -42,7 +42,7 @@ bad_not_read : (o : Option Fetched) (bytes : List ℕ) (line : ℕ) (given : Lis
 bad_not_read _ bytes line _ e bad AreProofs.absent = cc
 bad_not_read _ bytes line _ e bad (AreProofs.given {file} other short spelled) =
     let same : bytes ≡ other = cc in
-    one_reading.not_both (with_names [] (texts_in other)) other file.proofs line spelled (subst (λ (x : List ℕ). IsFirstBadLine x line) same bad)
+    one_reading.not_both (with_names [] spelled.0) other file.proofs line spelled.2 (subst (λ (x : List ℕ). IsFirstBadLine x line) same bad)
 
 same_proofs : (o : Option Fetched) (one other : List Proof) → AreProofs o one → AreProofs o other → one ≡ other
 same_proofs None _ _ AreProofs.absent AreProofs.absent = refl

@@ -267,7 +267,7 @@ fn lines_but_comments_are_utf_8(rt: HostRuntime) {
 }
 
 /// Words of rules with another rest than theirs, and words of no step.
-const BAD_RULES: [&str; 44] = [
+const BAD_RULES: [&str; 52] = [
     "refl 1.1",
     "true ",
     "left 1.1",
@@ -312,9 +312,17 @@ const BAD_RULES: [&str; 44] = [
     "rewrite <",
     "rewrite < < 1.1",
     "rewrite > 1.1",
+    "cut",
+    "cut ",
+    "cut z <",
+    "cut z; w",
+    "on",
+    "on )",
+    "back",
+    "back 1.1 1.2",
 ];
 
-const RULES: [&str; 21] = [
+const RULES: [&str; 24] = [
     "refl",
     "true",
     "left",
@@ -336,6 +344,9 @@ const RULES: [&str; 21] = [
     "rewrite 1.1 in 0.2",
     "rewrite < 1.1",
     "rewrite < 4294967295.0 in 1.1",
+    "cut z@ < 0",
+    "on !(a && b) || f(c).d",
+    "back 1.1",
 ];
 
 /// The first bad line of a file in which this is the second step.

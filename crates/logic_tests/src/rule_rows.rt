@@ -317,6 +317,50 @@ fn expect_refused(rt: &impl Abort, alloc: Global, rows: &[(&str, &str, u32)]) ->
     Ok(())
 }
 
+// ---- by a term, and back to machine integers
+
+const BY_TERM: [(&str, &str); 8] = [
+    ("ZW><z0<z0", "intro z w\ncut z < 0\nhyp 1.1\nhyp 2.1\n"),
+    (
+        "ZW><z0<z0",
+        "intro z w\ncut !(z < 0) ==> w < z\nintro\nabsurd 1.1 3.1\nhyp 1.1\n",
+    ),
+    (
+        "ZW>=zw><z0<w0",
+        "intro z w\ncut w < 0\nrewrite < 1.1\nhyp 1.2\nhyp 2.1\n",
+    ),
+    (
+        "XY>=@xc>=@ycT",
+        "intro x y\ncut x@ + 0 == y@\nantisym\nlin 1:goal 1:1.1 1:-1.2\nlin 1:goal 1:-1.1 1:1.2\ntrue\n",
+    ),
+    (
+        "Z|<z0!<z0",
+        "intro z\non z < 0\nleft\nhyp 2.1\nright\nhyp 2.1\n",
+    ),
+    (
+        "Z|<z0!<z0",
+        "intro z\non z /* a comment */ < 0\nleft\nhyp 2.1\nright\nhyp 2.1\n",
+    ),
+    ("XY>=@x@y=xy", "intro x y\nback 1.1\nhyp 2.1\n"),
+    ("XY>=@x@y=yx", "intro x y\nback 1.1\nrewrite 2.1\nrefl\n"),
+];
+
+const NOT_BY_TERM: [(&str, &str, u32); 11] = [
+    // No formula, a name of no variable, other sorts.
+    ("ZW><z0<z0", "intro z w\ncut z\n", 2),
+    ("ZW><z0<z0", "intro z w\ncut q < 0\n", 2),
+    ("XZ><z0<z0", "intro x z\ncut x < z\n", 2),
+    ("ZW><z0<z0", "intro z w\non z + 1\n", 2),
+    // What is cut is to be shown first, and what is taken for true is no fact of the other case.
+    ("ZW><z0<z0", "intro z w\ncut w < 0\nhyp 1.1\n", 3),
+    ("ZW><z0<z0", "intro z w\non w < 0\nhyp 1.1\nhyp 2.1\n", 4),
+    ("ZW>=zw=zw", "intro z w\nback 1.1\n", 2),
+    ("XY><@x@yT", "intro x y\nback 1.1\n", 2),
+    ("XY>=xyT", "intro x y\nback 1.1\n", 2),
+    ("XZ>=@xzT", "intro x z\nback 1.1\n", 2),
+    ("XY>=@x@yT", "intro x y\nback 1.2\n", 2),
+];
+
 #[test]
 fn by_the_form_of_the_goal(rt: HostRuntime) -> Result<(), Fail> {
     expect_closed(&rt, rt.alloc(), &BY_GOAL)?;
@@ -339,6 +383,12 @@ fn by_the_forms_of_two_hypotheses(rt: HostRuntime) -> Result<(), Fail> {
 fn by_an_equation(rt: HostRuntime) -> Result<(), Fail> {
     expect_closed(&rt, rt.alloc(), &BY_EQUATION)?;
     expect_refused(&rt, rt.alloc(), &NOT_BY_EQUATION)
+}
+
+#[test]
+fn by_a_term(rt: HostRuntime) -> Result<(), Fail> {
+    expect_closed(&rt, rt.alloc(), &BY_TERM)?;
+    expect_refused(&rt, rt.alloc(), &NOT_BY_TERM)
 }
 
 /// Steps that cite a label of no step above them.
