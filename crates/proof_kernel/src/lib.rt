@@ -31,4 +31,5 @@ pub use sequent::Sequent;
 pub use setting::Tables;
 pub use step::{
     Direction, GoalRule, HypothesisRule, Multiple, PairRule, Reference, Rewriting, Step, Target,
+    TermRule,
 };
