@@ -6,6 +6,8 @@ mod depth;
 #[cfg(test)]
 mod functions;
 #[cfg(test)]
+mod leaving_loops;
+#[cfg(test)]
 mod lowering;
 #[cfg(test)]
 mod printed;

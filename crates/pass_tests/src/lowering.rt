@@ -30,7 +30,7 @@ fn lowered(alloc: Global, source: &[u8]) -> Result<Lowered, Fail> {
 // ---- bodies
 
 /// A source, and its body in the words of `printed`.
-type Row = (&'static [u8], &'static str);
+pub(crate) type Row = (&'static [u8], &'static str);
 
 /// A branch and a loop.
 const BRANCHES_AND_LOOPS: [Row; 2] = [
@@ -147,7 +147,7 @@ fn has_words(alloc: Global, source: &[u8], wanted: &str) -> Result<bool, Fail> {
     Ok(text.as_str() == wanted)
 }
 
-fn expect(rt: &impl Abort, alloc: Global, rows: &[Row]) -> Result<(), Fail> {
+pub(crate) fn expect(rt: &impl Abort, alloc: Global, rows: &[Row]) -> Result<(), Fail> {
     for (source, wanted) in rows {
         assert!(rt; has_words(alloc, source, wanted)?, "{wanted}");
     }
