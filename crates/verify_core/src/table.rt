@@ -26,6 +26,11 @@ impl<'a> Model for ProofTable<'a> {
     // The proofs, in order.
     ghost Value = { List OneProof };
 
+    ghost use Rattle.std.specs.Coded.{coded_list};
+    ghost use Rattle.proof_text.specs.contracts.proof.Proof as proof;
+
+    ghost coded = { coded_list proof.the_row.coded };
+
     ghost view = { λ table. table.proofs.now };
 
     ghost invariant = { λ table. HasFirsts table.proofs.now table.firsts };
