@@ -1,6 +1,6 @@
 -- Whether a `break` leaves the loop around an expression (Rust Reference, "break expressions").
 use Rattle.std.specs.Prelude.{Bool, true, false, ◌||◌}
-use Rattle.type_check.specs.TypedExpr.{TypedExpr, TypedStmts, TypedExprs, negative, denied, binary, lazy, assign, update, call, block, branch, choice, returned, break_off, done, last, leaving, bind, run, none, more}
+use Rattle.type_check.specs.TypedExpr.{TypedExpr, TypedStmts, TypedExprs, negative, denied, binary, lazy, assign, update, call, make, part, block, branch, choice, returned, break_off, done, last, leaving, bind, run, none, more}
 
 -- a `break` stands in the expression, and in no loop of its own; a condition of a `while` has none
 abbrev mutual
@@ -13,6 +13,8 @@ abbrev mutual
   breaks (assign t s a e) = breaks a || breaks e
   breaks (update t s op a e) = breaks a || breaks e
   breaks (call t s f es) = some_breaks es
+  breaks (make t s c es) = some_breaks es
+  breaks (part t s e n) = breaks e
   breaks (block t s ss) = some_statement_breaks ss
   breaks (branch t s c a) = breaks c || breaks a
   breaks (choice t s c a b) = breaks c || (breaks a || breaks b)

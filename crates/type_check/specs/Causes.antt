@@ -1,11 +1,12 @@
 -- Why program code is refused: E05 at a name that means nothing there, E22 at the name of a variable that is written and is not `mut`, a type
 -- that is not the one wanted, or a form that is not built.
-use Rattle.std.specs.Prelude.{◌≡◌, ◌⊎◌, false, List, Option, Some, None, Ok, Err, slice_get}
+use Rattle.std.specs.Prelude.{◌≡◌, ◌⊎◌, ℕ, false, List, Option, Some, None, Ok, Err, slice_get}
 use Rattle.text_core.specs.declared.name.Name.{Name}
 use Rattle.text_core.specs.declared.refusal.SourceError.{SourceError}
 use Rattle.text_core.specs.declared.span.Span.{Span}
 use Rattle.logic_term.specs.Ty.{Ty}
 use Rattle.source_trees.specs.declared.operator.UnaryOp.TheVariants.{Neg, Not}
+use Rattle.source_trees.specs.declared.path.Number.{Number}
 use Rattle.source_trees.specs.declared.path.Segment.{Segment}
 use Rattle.source_trees.specs.Expr as E
 use Rattle.source_trees.specs.Expr.{Expr}
@@ -19,7 +20,9 @@ use Rattle.type_check.specs.Functions.{callee}
 use Rattle.type_check.specs.Scope.{found}
 use Rattle.type_check.specs.Setting.{Setting, looping, outside}
 use Rattle.type_check.specs.TypedExpr.{TypedExpr}
-use Rattle.type_check.specs.Typing.{Opened, declared, is_mutable, typed, typed_stmts}
+use Rattle.type_check.specs.TypedExprView.{ty_of}
+use Rattle.type_check.specs.Typing.{Opened, declared, is_mutable, part_number, typed, typed_stmts}
+use Rattle.type_check.specs.WellTyped.{part_ty}
 use Rattle.type_check.specs.Written.{as_name, name_alone, step_of}
 
 abbrev pub IsMismatch : SourceError → Type 0
@@ -41,9 +44,14 @@ abbrev pub IsNotRead : List Variable → Span → Option Segment → SourceError
 IsNotRead Γ s None e = e ≡ unbuilt s
 IsNotRead Γ s (Some x) e = IsUnknown Γ x.name s e
 
--- the left side of an assignment is the name of such a variable
+-- the name at the root of the parts
+abbrev pub root_name : Expr → Option Segment
+root_name (E.part s e k) = root_name e
+root_name e = as_name e
+
+-- the left side of an assignment is the name of such a variable, or a part of it
 abbrev pub IsNotWritten : List Variable → Expr → SourceError → Type 0
-IsNotWritten Γ l e = (x : Segment) × (as_name l ≡ Some x) × IsConstant Γ x.name (span_of l) e
+IsNotWritten Γ l e = (x : Segment) × (root_name l ≡ Some x) × IsConstant Γ x.name (span_of l) e
 
 -- what is called is no name alone, or a name that no function has there; the span is that of the call
 abbrev pub IsNotCalled : List Heading → List Variable → Span → Option Segment → SourceError → Type 0
@@ -53,6 +61,10 @@ IsNotCalled σ Γ s (Some x) e = (e ≡ unknown_name x.span) × (callee σ Γ x.
 -- it stands in no loop
 abbrev pub IsInNoLoop : Setting → Span → SourceError → Type 0
 IsInNoLoop σ s e = (σ.in_loop ≡ false) × (e ≡ mismatch s)
+
+-- the value has no part of the number
+abbrev pub IsNoPart : Setting → List Variable → Expr → Number → SourceError → Type 0
+IsNoPart σ Γ a k e = (v : TypedExpr) × (typed σ Γ a None ≡ Ok v) × ((n : ℕ) → part_number k ≡ Some n → part_ty (ty_of v) n ≡ None) × (e ≡ unknown_name k.span)
 
 -- the refusal has its cause at the expression or at a part of it, in the scope of that part
 abbrev mutual
@@ -67,6 +79,9 @@ abbrev mutual
   Causes σ Γ (E.assign s l a) e = (IsMismatch e ⊎ IsNotWritten Γ l e) ⊎ (Causes σ Γ l e ⊎ Causes σ Γ a e)
   Causes σ Γ (E.update s op o l a) e = (IsMismatch e ⊎ IsNotWritten Γ l e) ⊎ (Causes σ Γ l e ⊎ Causes σ Γ a e)
   Causes σ Γ (E.call s f es) e = (IsMismatch e ⊎ IsNotCalled σ.headings Γ s (as_name f) e) ⊎ CausesInArgs σ Γ es e
+  Causes σ Γ (E.tuple s es) e = IsMismatch e ⊎ CausesInArgs σ Γ es e
+  -- the number is that of no part
+  Causes σ Γ (E.part s a k) e = (IsMismatch e ⊎ IsNoPart σ Γ a k e) ⊎ Causes σ Γ a e
   Causes σ Γ (E.block s ss) e = IsMismatch e ⊎ CausesInStmts σ Γ ss e
   Causes σ Γ (E.block_with s ss a) e = IsMismatch e ⊎ (CausesInStmts σ Γ ss e ⊎ ((o : Opened) × (typed_stmts σ Γ ss ≡ Ok o) × Causes σ o.scope a e))
   Causes σ Γ (E.branch s None c a) e = IsMismatch e ⊎ (Causes σ Γ c e ⊎ Causes σ Γ a e)

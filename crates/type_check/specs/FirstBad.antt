@@ -6,7 +6,7 @@ use Rattle.type_check.specs.declared.assertion.Assertion.TheVariants.{Good, Bad}
 use Rattle.type_check.specs.declared.program.TypedClause.{TypedClause}
 use Rattle.type_check.specs.declared.program.TypedFunction.{TypedFunction}
 use Rattle.type_check.specs.Answers.{or_else}
-use Rattle.type_check.specs.TypedExpr.{TypedExpr, TypedStmts, TypedExprs, integer, truth, variable, negative, denied, binary, lazy, assign, update, call, block, branch, choice, repeat, panics, returned, endless, until_break, break_off, go_on, done, last, leaving, bind, run, none, more}
+use Rattle.type_check.specs.TypedExpr.{TypedExpr, TypedStmts, TypedExprs, integer, truth, variable, negative, denied, binary, lazy, assign, update, call, make, part, block, branch, choice, repeat, panics, returned, endless, until_break, break_off, go_on, done, last, leaving, bind, run, none, more}
 
 abbrev pub bad_of : Assertion → Option SourceError
 bad_of (Good s t) = None
@@ -28,6 +28,8 @@ abbrev mutual
   bad_in (assign t s a e) = or_else (bad_in a) (bad_in e)
   bad_in (update t s op a e) = or_else (bad_in a) (bad_in e)
   bad_in (call t s f es) = bad_in_exprs es
+  bad_in (make t s c es) = bad_in_exprs es
+  bad_in (part t s e n) = bad_in e
   bad_in (block t s ss) = bad_in_stmts ss
   bad_in (branch t s c a) = or_else (bad_in c) (bad_in a)
   bad_in (choice t s c a b) = or_else (bad_in c) (or_else (bad_in a) (bad_in b))

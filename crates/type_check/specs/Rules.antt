@@ -17,7 +17,7 @@ use Rattle.type_check.specs.Setting.{Setting, looping, outside}
 use Rattle.type_check.specs.TypedExpr.{TypedExpr, TypedExprs}
 use Rattle.type_check.specs.TypedExpr as tree
 use Rattle.type_check.specs.TypedExprView.{ty_of, stmts_of}
-use Rattle.type_check.specs.Typing.{Typed, fit, asked, literal, named, negated, is_bare, order_of, operands_of, operated, assigned, updated, callee_of, first_of, rest_of, called, Opened, opened, declared, behind, typed_stmt, without_last, closed, given, chosen, panicked, returned, bare_return, endless, in_a_loop, invariant_of, typed}
+use Rattle.type_check.specs.Typing.{Typed, fit, asked, literal, named, negated, is_bare, order_of, operands_of, operated, assigned, updated, callee_of, first_of, rest_of, called, parts_of, tupled, parted, Opened, opened, declared, behind, typed_stmt, without_last, closed, given, chosen, panicked, returned, bare_return, endless, in_a_loop, invariant_of, typed}
 use Rattle.type_check.specs.WellTyped.{unit, is_arithmetic}
 use Rattle.type_check.specs.Written.{as_name, name_alone, step_of}
 
@@ -65,6 +65,8 @@ rule σ Γ (E.lazy s op a b) t = part σ Γ a (Some bool) λ x. part σ Γ b (So
 rule σ Γ (E.assign s l e) t = part σ Γ l None λ a. part σ Γ e (Some (ty_of a)) λ b. comes (assigned Γ t s (span_of l) a b)
 rule σ Γ (E.update s op o l e) t = part σ Γ l None λ a. part σ Γ e (Some (ty_of a)) λ b. comes (updated Γ t s o (span_of l) op a b)
 rule σ Γ (E.call s f es) t = first (callee_of σ.headings Γ s (as_name f)) λ g. each_arg σ Γ es g.signature.params λ as'. comes (called t s g as')
+rule σ Γ (E.tuple s es) t = each_arg σ Γ es (parts_of t) λ as'. comes (tupled t s as')
+rule σ Γ (E.part s e k) t = part σ Γ e None λ a. comes (parted t s k a)
 rule σ Γ (E.block s ss) t = each_stmt σ Γ ss λ o. comes (closed t s (without_last o.stmts))
 rule σ Γ (E.block_with s ss e) t = each_stmt σ Γ ss λ o. part σ o.scope e t λ a. comes (closed t s (stmts_of o.stmts (tree.last a)))
 rule σ Γ (E.branch s None c a) t = part σ Γ c (Some bool) λ x. part σ Γ a (Some unit) λ y. comes (fit t s (tree.branch unit s x y))

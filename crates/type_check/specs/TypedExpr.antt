@@ -4,6 +4,7 @@ use Rattle.text_core.specs.declared.refusal.Cause.{Cause}
 use Rattle.text_core.specs.declared.span.Span.{Span}
 use Rattle.source_kinds.specs.declared.kinds.BinaryOp.{BinaryOp}
 use Rattle.source_kinds.specs.declared.kinds.IntKind.{IntKind}
+use Rattle.logic_term.specs.declared.kinds.Ctor.{Ctor}
 use Rattle.logic_term.specs.Ty.{Ty}
 use Rattle.source_kinds.specs.declared.kinds.LazyOp.{LazyOp}
 use Rattle.type_check.specs.declared.assertion.Assertion.{Assertion}
@@ -23,6 +24,10 @@ mutual
     update : Ty → Span → BinaryOp → TypedExpr → TypedExpr → TypedExpr
     -- a function of the program, by its place
     call : Ty → Span → ℕ → TypedExprs → TypedExpr
+    -- a value that is made of these parts
+    make : Ty → Span → Ctor → TypedExprs → TypedExpr
+    -- part n of a tuple, from 0
+    part : Ty → Span → TypedExpr → ℕ → TypedExpr
     block : Ty → Span → TypedStmts → TypedExpr
     -- `if` without `else`
     branch : Ty → Span → TypedExpr → TypedExpr → TypedExpr

@@ -7,10 +7,11 @@ use Rattle.text_core.specs.contracts.span.Span as span
 use Rattle.source_kinds.specs.contracts.kinds.BinaryOp as binary_op
 use Rattle.source_kinds.specs.contracts.kinds.IntKind as int_kind
 use Rattle.logic_term.specs.TyCode.{coded_ty}
+use Rattle.logic_term.specs.contracts.kinds.Ctor as ctor
 use Rattle.source_kinds.specs.contracts.kinds.LazyOp as lazy_op
 use Rattle.type_check.specs.contracts.assertion.Assertion as assertion
 use base.Stored.{Gv, gnil, gnum, gcons, num}
-use Rattle.type_check.specs.TypedExpr.{TypedExpr, integer, truth, variable, negative, denied, binary, lazy, assign, update, call, block, branch, choice, repeat, panics, returned, endless, until_break, break_off, go_on, TypedStmts, done, last, leaving, bind, run, TypedExprs, none, more}
+use Rattle.type_check.specs.TypedExpr.{TypedExpr, integer, truth, variable, negative, denied, binary, lazy, assign, update, call, make, part, block, branch, choice, repeat, panics, returned, endless, until_break, break_off, go_on, TypedStmts, done, last, leaving, bind, run, TypedExprs, none, more}
 
 abbrev pub head : Gv → Gv
 head gnil = gnil
@@ -37,6 +38,8 @@ abbrev mutual
   typed_code (assign a0 a1 a2 a3) = gcons (gnum 7) (gcons (coded_ty.code a0) (gcons (span.the_row.coded.code a1) (gcons (typed_code a2) (typed_code a3))))
   typed_code (update a0 a1 a2 a3 a4) = gcons (gnum 8) (gcons (coded_ty.code a0) (gcons (span.the_row.coded.code a1) (gcons (binary_op.the_row.coded.code a2) (gcons (typed_code a3) (typed_code a4)))))
   typed_code (call a0 a1 a2 a3) = gcons (gnum 9) (gcons (coded_ty.code a0) (gcons (span.the_row.coded.code a1) (gcons (coded_ℕ.code a2) (exprs_code a3))))
+  typed_code (make a0 a1 a2 a3) = gcons (gnum 20) (gcons (coded_ty.code a0) (gcons (span.the_row.coded.code a1) (gcons (ctor.the_row.coded.code a2) (exprs_code a3))))
+  typed_code (part a0 a1 a2 a3) = gcons (gnum 21) (gcons (coded_ty.code a0) (gcons (span.the_row.coded.code a1) (gcons (typed_code a2) (coded_ℕ.code a3))))
   typed_code (block a0 a1 a2) = gcons (gnum 10) (gcons (coded_ty.code a0) (gcons (span.the_row.coded.code a1) (stmts_code a2)))
   typed_code (branch a0 a1 a2 a3) = gcons (gnum 11) (gcons (coded_ty.code a0) (gcons (span.the_row.coded.code a1) (gcons (typed_code a2) (typed_code a3))))
   typed_code (choice a0 a1 a2 a3 a4) = gcons (gnum 12) (gcons (coded_ty.code a0) (gcons (span.the_row.coded.code a1) (gcons (typed_code a2) (gcons (typed_code a3) (typed_code a4)))))
@@ -80,6 +83,10 @@ mutual
       (typed_injective a3 b3 (ap (λ g. head (tail (tail (tail (tail g))))) p) i) (typed_injective a4 b4 (ap (λ g. tail (tail (tail (tail (tail g))))) p) i)
   typed_injective (call a0 a1 a2 a3) (call b0 b1 b2 b3) p =
       λ i. call (coded_ty.inj a0 b0 (ap (λ g. head (tail g)) p) i) (span.the_row.coded.inj a1 b1 (ap (λ g. head (tail (tail g))) p) i) (coded_ℕ.inj a2 b2 (ap (λ g. head (tail (tail (tail g)))) p) i) (exprs_injective a3 b3 (ap (λ g. tail (tail (tail (tail g)))) p) i)
+  typed_injective (make a0 a1 a2 a3) (make b0 b1 b2 b3) p =
+      λ i. make (coded_ty.inj a0 b0 (ap (λ g. head (tail g)) p) i) (span.the_row.coded.inj a1 b1 (ap (λ g. head (tail (tail g))) p) i) (ctor.the_row.coded.inj a2 b2 (ap (λ g. head (tail (tail (tail g)))) p) i) (exprs_injective a3 b3 (ap (λ g. tail (tail (tail (tail g)))) p) i)
+  typed_injective (part a0 a1 a2 a3) (part b0 b1 b2 b3) p =
+      λ i. part (coded_ty.inj a0 b0 (ap (λ g. head (tail g)) p) i) (span.the_row.coded.inj a1 b1 (ap (λ g. head (tail (tail g))) p) i) (typed_injective a2 b2 (ap (λ g. head (tail (tail (tail g)))) p) i) (coded_ℕ.inj a3 b3 (ap (λ g. tail (tail (tail (tail g)))) p) i)
   typed_injective (block a0 a1 a2) (block b0 b1 b2) p = λ i. block (coded_ty.inj a0 b0 (ap (λ g. head (tail g)) p) i) (span.the_row.coded.inj a1 b1 (ap (λ g. head (tail (tail g))) p) i) (stmts_injective a2 b2 (ap (λ g. tail (tail (tail g))) p) i)
   typed_injective (branch a0 a1 a2 a3) (branch b0 b1 b2 b3) p =
       λ i. branch (coded_ty.inj a0 b0 (ap (λ g. head (tail g)) p) i) (span.the_row.coded.inj a1 b1 (ap (λ g. head (tail (tail g))) p) i) (typed_injective a2 b2 (ap (λ g. head (tail (tail (tail g)))) p) i) (typed_injective a3 b3 (ap (λ g. tail (tail (tail (tail g)))) p) i)

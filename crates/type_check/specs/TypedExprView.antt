@@ -2,7 +2,7 @@
 use Rattle.std.specs.Prelude.{ℕ, suc, max, Bool, true, false, List, [], ◌∷◌}
 use Rattle.text_core.specs.declared.span.Span.{Span}
 use Rattle.logic_term.specs.Ty.{Ty}
-use Rattle.type_check.specs.TypedExpr.{TypedExpr, integer, truth, variable, negative, denied, binary, lazy, assign, update, call, block, branch, choice, repeat, panics, returned, endless, until_break, break_off, go_on, TypedStmts, done, last, leaving, bind, run, TypedExprs, none, more}
+use Rattle.type_check.specs.TypedExpr.{TypedExpr, integer, truth, variable, negative, denied, binary, lazy, assign, update, call, make, part, block, branch, choice, repeat, panics, returned, endless, until_break, break_off, go_on, TypedStmts, done, last, leaving, bind, run, TypedExprs, none, more}
 use Rattle.type_check.specs.declared.typed.TypedStmt.{TypedStmt}
 use Rattle.type_check.specs.declared.typed.TypedNode.{TypedNode}
 use Rattle.type_check.specs.declared.typed.TypedNode.TheVariants as node
@@ -31,6 +31,8 @@ typed_of t s (node.Lazy a0 a1 a2) = lazy t s a0 a1 a2
 typed_of t s (node.Assign a0 a1) = assign t s a0 a1
 typed_of t s (node.Update a0 a1 a2) = update t s a0 a1 a2
 typed_of t s (node.Call a0 a1) = call t s a0 (exprs_of a1.items)
+typed_of t s (node.Make a0 a1) = make t s a0 (exprs_of a1.items)
+typed_of t s (node.Part a0 a1) = part t s a0 a1
 typed_of t s (node.Block ss) = block t s (stmts_of ss.items done)
 typed_of t s (node.BlockWith ss e) = block t s (stmts_of ss.items (last e))
 typed_of t s (node.BlockLeaving ss e) = block t s (stmts_of ss.items (leaving e))
@@ -56,6 +58,8 @@ abbrev mutual
   typed_size (assign a0 a1 a2 a3) = suc (max (typed_size a2) (typed_size a3))
   typed_size (update a0 a1 a2 a3 a4) = suc (max (typed_size a3) (typed_size a4))
   typed_size (call a0 a1 a2 a3) = suc (exprs_size a3)
+  typed_size (make a0 a1 a2 a3) = suc (exprs_size a3)
+  typed_size (part a0 a1 a2 a3) = suc (typed_size a2)
   typed_size (block a0 a1 a2) = suc (stmts_size a2)
   typed_size (branch a0 a1 a2 a3) = suc (max (typed_size a2) (typed_size a3))
   typed_size (choice a0 a1 a2 a3 a4) = suc (max (typed_size a2) (max (typed_size a3) (typed_size a4)))
@@ -89,6 +93,8 @@ ty_of (lazy t s a0 a1 a2) = t
 ty_of (assign t s a0 a1) = t
 ty_of (update t s a0 a1 a2) = t
 ty_of (call t s a0 a1) = t
+ty_of (make t s a0 a1) = t
+ty_of (part t s a0 a1) = t
 ty_of (block t s a0) = t
 ty_of (branch t s a0 a1) = t
 ty_of (choice t s a0 a1 a2) = t
@@ -111,6 +117,8 @@ span_of (lazy t s a0 a1 a2) = s
 span_of (assign t s a0 a1) = s
 span_of (update t s a0 a1 a2) = s
 span_of (call t s a0 a1) = s
+span_of (make t s a0 a1) = s
+span_of (part t s a0 a1) = s
 span_of (block t s a0) = s
 span_of (branch t s a0 a1) = s
 span_of (choice t s a0 a1 a2) = s

@@ -1,7 +1,7 @@
 -- Which variable each name means and which type each expression has, in the form of bidirectional typing (Pierce and Turner
 -- 2000): without an expected type an expression gives one, with one it fits it (Rust Reference, "Operator expressions",
--- "Call expressions", "Block expressions", "if expressions", "Predicate loops", "Infinite loops", "break expressions", "continue expressions", "return expressions", "Diverging expressions"). What has no row is not built.
-use Rattle.std.specs.Prelude.{ℕ, suc, ℤ, ◌==◌, ◌++◌, Bool, true, false, List, [], ◌∷◌, length, Option, Some, None, Result, Ok, Err, slice_get, if◌then◌else◌}
+-- "Call expressions", "Tuple expressions", "Tuple indexing expressions", "Block expressions", "if expressions", "Predicate loops", "Infinite loops", "break expressions", "continue expressions", "return expressions", "Diverging expressions"). What has no row is not built.
+use Rattle.std.specs.Prelude.{ℕ, suc, ℤ, pos, ◌==◌, ◌++◌, Bool, true, false, List, [], ◌∷◌, length, Option, Some, None, Result, Ok, Err, slice_get, if◌then◌else◌}
 use Rattle.text_core.specs.declared.name.Name.{Name}
 use Rattle.text_core.specs.declared.refusal.Cause.{Cause}
 use Rattle.text_core.specs.declared.refusal.Cause.TheVariants as cause
@@ -11,7 +11,8 @@ use Rattle.source_kinds.specs.declared.kinds.BinaryOp.{BinaryOp}
 use Rattle.source_kinds.specs.declared.kinds.IntKind.{IntKind}
 use Rattle.source_kinds.specs.declared.kinds.IntKind.TheVariants.{I32}
 use Rattle.source_kinds.specs.Range.{fits}
-use Rattle.logic_term.specs.Ty.{Ty, int, bool}
+use Rattle.logic_term.specs.declared.kinds.Ctor.TheVariants.{Tuple}
+use Rattle.logic_term.specs.Ty.{Ty, Tys, int, bool, tuple, no_tys, and_ty}
 use Rattle.source_trees.specs.declared.attribute.Attribute.{Attribute}
 use Rattle.source_trees.specs.declared.attribute.AttributeNode.{AttributeNode}
 use Rattle.source_trees.specs.declared.attribute.AttributeNode.TheVariants as A
@@ -20,6 +21,7 @@ use Rattle.source_trees.specs.declared.expr.Stmt.{Stmt}
 use Rattle.source_trees.specs.declared.operator.PanicMacro.{PanicMacro}
 use Rattle.source_trees.specs.declared.operator.PanicMacro.TheVariants.{Panic, Unreachable}
 use Rattle.source_trees.specs.declared.operator.UnaryOp.TheVariants.{Neg, Not}
+use Rattle.source_trees.specs.declared.path.Number.{Number}
 use Rattle.source_trees.specs.declared.path.Segment.{Segment}
 use Rattle.source_trees.specs.Expr as E
 use Rattle.source_trees.specs.Expr.{Expr}
@@ -46,7 +48,7 @@ use Rattle.type_check.specs.TypedExpr.{TypedExpr, TypedStmts, TypedExprs}
 use Rattle.type_check.specs.TypedExpr as tree
 use Rattle.type_check.specs.TypedExprView.{ty_of, stmt_of, stmts_of}
 use Rattle.type_check.specs.Types.{same_ty, is_signed_ty}
-use Rattle.type_check.specs.WellTyped.{unit, is_arithmetic, operation_ty}
+use Rattle.type_check.specs.WellTyped.{unit, is_arithmetic, operation_ty, part_ty, tys_of_exprs}
 use Rattle.type_check.specs.Written.{as_name, name_alone, step_of}
 
 abbrev pub Typed : Type 0
@@ -136,7 +138,7 @@ operated t s o r op p = operation (operation_ty op (ty_of p.left)) t s o r op p
 
 -- ---- assignments
 
--- a variable is written only where it is mutable
+-- a variable, or a part of it, is written only where it is mutable
 abbrev pub is_mutable : Option Variable → Bool
 is_mutable None = false
 is_mutable (Some v) = v.mutable
@@ -144,6 +146,7 @@ is_mutable (Some v) = v.mutable
 -- what is no variable's may be written: it is lost
 abbrev pub may_write : List Variable → TypedExpr → Bool
 may_write Γ (tree.variable t s x) = is_mutable (slice_get Γ x)
+may_write Γ (tree.part t s e n) = may_write Γ e
 may_write Γ e = true
 
 abbrev pub if_mutable : Bool → Span → TypedExpr → Typed
@@ -190,6 +193,40 @@ rest_of (t ∷ ts) = ts
 unfoldable pub called : Option Ty → Span → Callee → TypedExprs → Typed
 called t s f es =
     if how_many es == length f.signature.params then fit t s (tree.call f.signature.answer s f.place es) else Err (mismatch s)
+
+-- ---- tuples
+
+abbrev pub listed : Tys → List Ty
+listed no_tys = []
+listed (and_ty t ts) = t ∷ listed ts
+
+-- the types that are expected of the parts of a tuple
+abbrev pub parts_of : Option Ty → List Ty
+parts_of (Some (tuple ts)) = listed ts
+parts_of _ = []
+
+unfoldable pub tupled : Option Ty → Span → TypedExprs → Typed
+tupled t s es = fit t s (tree.make (tuple (tys_of_exprs es)) s Tuple es)
+
+-- a number with a type at its end is that of no part
+abbrev pub number_by : Option IntKind → ℤ → Option ℕ
+number_by None (pos n) = Some n
+number_by _ _ = None
+
+abbrev pub part_number : Number → Option ℕ
+part_number k = number_by k.suffix k.value
+
+abbrev pub part_of_ty : Option Ty → Span → Span → TypedExpr → ℕ → Option Ty → Typed
+part_of_ty t s o a n None = Err (unknown_name o)
+part_of_ty t s o a n (Some u) = fit t s (tree.part u s a n)
+
+abbrev pub part_at : Option Ty → Span → Span → TypedExpr → Option ℕ → Typed
+part_at t s o a None = Err (unknown_name o)
+part_at t s o a (Some n) = part_of_ty t s o a n (part_ty (ty_of a) n)
+
+-- the part of this number, which has a span of its own
+unfoldable pub parted : Option Ty → Span → Number → TypedExpr → Typed
+parted t s k a = part_at t s k.span a (part_number k)
 
 -- ---- blocks
 
@@ -330,6 +367,12 @@ abbrev mutual
     g ← callee_of σ.headings Γ s (as_name f)
     as' ← typed_args σ Γ es g.signature.params
     called t s g as'
+  typed σ Γ (E.tuple s es) t = do
+    as' ← typed_args σ Γ es (parts_of t)
+    tupled t s as'
+  typed σ Γ (E.part s e k) t = do
+    a ← typed σ Γ e None
+    parted t s k a
   typed σ Γ (E.block s ss) t = do
     o ← typed_stmts σ Γ ss
     closed t s (without_last o.stmts)

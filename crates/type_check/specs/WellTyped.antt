@@ -1,6 +1,6 @@
--- Typed expressions whose parts fit (Rust Reference, "Operator expressions", "Call expressions", "Block expressions", "if expressions",
+-- Typed expressions whose parts fit (Rust Reference, "Operator expressions", "Call expressions", "Tuple expressions", "Tuple indexing expressions", "Block expressions", "if expressions",
 -- "Predicate loops", "Infinite loops", "return expressions"). The variables in scope are a list of their types, the outermost first.
-use Rattle.std.specs.Prelude.{◌≡◌, ◌⊎◌, ℕ, ◌<◌, Bool, true, false, List, [], ◌∷◌, ◌++◌, length, map, Option, Some, None, slice_get, if◌then◌else◌}
+use Rattle.std.specs.Prelude.{◌≡◌, ◌⊎◌, ℕ, zero, suc, ◌<◌, Bool, true, false, List, [], ◌∷◌, ◌++◌, length, map, Option, Some, None, slice_get, if◌then◌else◌}
 use Rattle.text_core.specs.declared.name.Name.{Name}
 use Rattle.source_kinds.specs.declared.kinds.BinaryOp.{BinaryOp}
 use Rattle.source_kinds.specs.declared.kinds.BinaryOp.TheVariants.{Add, Sub, Mul, Div, Rem, Eq, Ne}
@@ -8,7 +8,9 @@ use Rattle.source_kinds.specs.declared.kinds.IntKind.{IntKind}
 use Rattle.source_kinds.specs.declared.kinds.IntKind.TheVariants.{I8, I16, I32, I64, Isize}
 use Rattle.logic_term.specs.Free.{free}
 use Rattle.source_kinds.specs.Range.{fits}
-use Rattle.logic_term.specs.Ty.{Ty, int, bool, tuple, no_tys, unit_ty}
+use Rattle.logic_term.specs.declared.kinds.Ctor.{Ctor}
+use Rattle.logic_term.specs.declared.kinds.Ctor.TheVariants.{Tuple}
+use Rattle.logic_term.specs.Ty.{Ty, Tys, int, bool, tuple, no_tys, and_ty, unit_ty}
 use Rattle.type_check.specs.declared.program.ClauseKind.{ClauseKind}
 use Rattle.type_check.specs.declared.program.ClauseKind.TheVariants.{Requires, Ensures}
 use Rattle.type_check.specs.declared.assertion.Assertion.{Assertion}
@@ -17,7 +19,7 @@ use Rattle.type_check.specs.declared.program.Signature.{Signature}
 use Rattle.type_check.specs.declared.program.TypedClause.{TypedClause}
 use Rattle.type_check.specs.declared.program.TypedFunction.{TypedFunction}
 use Rattle.type_check.specs.declared.program.TypedProgram.{TypedProgram}
-use Rattle.type_check.specs.TypedExpr.{TypedExpr, TypedStmts, TypedExprs, integer, truth, variable, negative, denied, binary, lazy, assign, update, call, block, branch, choice, repeat, panics, returned, endless, until_break, break_off, go_on, done, last, leaving, bind, run, none, more}
+use Rattle.type_check.specs.TypedExpr.{TypedExpr, TypedStmts, TypedExprs, integer, truth, variable, negative, denied, binary, lazy, assign, update, call, make, part, block, branch, choice, repeat, panics, returned, endless, until_break, break_off, go_on, done, last, leaving, bind, run, none, more}
 use Rattle.type_check.specs.Breaks.{breaks}
 use Rattle.type_check.specs.Leaves.{leaves}
 use Rattle.type_check.specs.TypedExprView.{ty_of}
@@ -26,12 +28,40 @@ use Rattle.type_check.specs.VariableNames.{variable_name, answer_name}
 abbrev pub unit : Ty
 unit = unit_ty
 
--- the types that are built: the machine integers, the truth values and unit
-abbrev pub IsBuilt : Ty → Type 0
-IsBuilt (int k) = Unit {0}
-IsBuilt bool = Unit {0}
-IsBuilt (tuple no_tys) = Unit {0}
-IsBuilt _ = ⊥
+-- the types that are built: the machine integers, the truth values, and tuples of built types
+abbrev mutual
+  pub IsBuilt : Ty → Type 0
+  IsBuilt (int k) = Unit {0}
+  IsBuilt bool = Unit {0}
+  IsBuilt (tuple ts) = PartsAreBuilt ts
+  IsBuilt _ = ⊥
+
+  pub PartsAreBuilt : Tys → Type 0
+  PartsAreBuilt no_tys = Unit {0}
+  PartsAreBuilt (and_ty t ts) = IsBuilt t × PartsAreBuilt ts
+
+-- ---- tuples
+
+-- the types of expressions
+abbrev pub tys_of_exprs : TypedExprs → Tys
+tys_of_exprs none = no_tys
+tys_of_exprs (more e es) = and_ty (ty_of e) (tys_of_exprs es)
+
+-- so far tuples alone are made of parts
+abbrev pub MakesOf : Ctor → Tys → Ty → Type 0
+MakesOf Tuple ts t = t ≡ tuple ts
+MakesOf _ ts t = ⊥
+
+-- the type of this number among the types, from 0
+abbrev pub nth_part : Tys → ℕ → Option Ty
+nth_part no_tys n = None
+nth_part (and_ty t ts) zero = Some t
+nth_part (and_ty t ts) (suc n) = nth_part ts n
+
+-- the type of part n of a value of the type (Rust Reference, "Tuple indexing expressions")
+abbrev pub part_ty : Ty → ℕ → Option Ty
+part_ty (tuple ts) n = nth_part ts n
+part_ty _ n = None
 
 -- ---- operators
 
@@ -124,6 +154,8 @@ abbrev mutual
   IsWellTyped σ Γ (assign t s a e) = (t ≡ unit) × IsOf (ty_of a) e × IsWellTyped σ Γ a × IsWellTyped σ Γ e
   IsWellTyped σ Γ (update t s op a e) = (t ≡ unit) × IsOf (ty_of a) e × (operation_ty op (ty_of e) ≡ Some (ty_of e)) × IsWellTyped σ Γ a × IsWellTyped σ Γ e
   IsWellTyped σ Γ (call t s f es) = (g : Signature) × (slice_get σ.signatures f ≡ Some g) × (t ≡ g.answer) × ArgumentsFit σ Γ es g.params
+  IsWellTyped σ Γ (make t s c es) = MakesOf c (tys_of_exprs es) t × PartsFit σ Γ es
+  IsWellTyped σ Γ (part t s e n) = (part_ty (ty_of e) n ≡ Some t) × IsWellTyped σ Γ e
   IsWellTyped σ Γ (block t s ss) = StatementsFit σ Γ t ss
   IsWellTyped σ Γ (branch t s c a) = (t ≡ unit) × IsOf bool c × IsOf unit a × IsWellTyped σ Γ c × IsWellTyped σ Γ a
   -- a side that leaves fits any type
@@ -150,6 +182,10 @@ abbrev mutual
   ArgumentsFit σ Γ none [] = Unit {0}
   ArgumentsFit σ Γ (more e es) (t ∷ ts) = IsOf t e × IsWellTyped σ Γ e × ArgumentsFit σ Γ es ts
   ArgumentsFit σ Γ _ _ = ⊥
+
+  pub PartsFit : Surroundings → List Ty → TypedExprs → Type 0
+  PartsFit σ Γ none = Unit {0}
+  PartsFit σ Γ (more e es) = IsWellTyped σ Γ e × PartsFit σ Γ es
 
 -- ---- functions
 

@@ -5,7 +5,7 @@ use Rattle.text_core.specs.declared.refusal.SourceError.{SourceError}
 use Rattle.text_core.specs.declared.span.Span.{Span}
 use Rattle.source_kinds.specs.declared.kinds.IntKind.{IntKind}
 use Rattle.source_kinds.specs.declared.kinds.IntKind.TheVariants.{I8, I16, I32, I64, Isize, U8, U16, U32, U64, Usize}
-use Rattle.logic_term.specs.Ty.{Ty, int, bool, unit_ty}
+use Rattle.logic_term.specs.Ty.{Ty, Tys, int, bool, tuple, no_tys, and_ty, unit_ty}
 use Rattle.source_trees.specs.declared.param.Param.{Param}
 use Rattle.source_trees.specs.declared.param.ParamNode.{ParamNode}
 use Rattle.source_trees.specs.declared.param.ParamNode.TheVariants as param
@@ -50,9 +50,20 @@ abbrev pub type_or : Span → Option Ty → Result Ty SourceError
 type_or s None = Err (unbuilt s)
 type_or s (Some t) = Ok t
 
-unfoldable pub written_type : W.TypeTree → Result Ty SourceError
-written_type (W.named s x W.no_arguments) = type_or s (named_type x.name)
-written_type w = Err (unbuilt (type_span w))
+abbrev mutual
+  pub written_type : W.TypeTree → Result Ty SourceError
+  written_type (W.named s x W.no_arguments) = type_or s (named_type x.name)
+  written_type (W.tuple s ws) = do
+    ts ← written_types ws
+    Ok (tuple ts)
+  written_type w = Err (unbuilt (type_span w))
+
+  pub written_types : W.Types → Result Tys SourceError
+  written_types W.none = Ok no_tys
+  written_types (W.more w ws) = do
+    t ← written_type w
+    ts ← written_types ws
+    Ok (and_ty t ts)
 
 -- the written type, if there is one
 abbrev pub written_or_none : Option W.TypeTree → Result (Option Ty) SourceError

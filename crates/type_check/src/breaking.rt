@@ -37,6 +37,8 @@ fn form_breaks(e: &TypedExpr) -> bool
         TypedNode::Assign(a, b) => breaks(a) || breaks(b),
         TypedNode::Update(_, a, b) => breaks(a) || breaks(b),
         TypedNode::Call(_, args) => some_breaks(args),
+        TypedNode::Make(_, parts) => some_breaks(parts),
+        TypedNode::Part(a, _) => breaks(a),
         TypedNode::Block(stmts) => some_statement_breaks(stmts),
         TypedNode::BlockWith(stmts, last) => some_statement_breaks(stmts) || breaks(last),
         TypedNode::BlockLeaving(stmts, last) => some_statement_breaks(stmts) || breaks(last),

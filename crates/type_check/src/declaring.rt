@@ -21,7 +21,7 @@ pub(crate) fn variables_of(alloc: Global, params: &[Param]) -> Result<Vec<Variab
 {
     let mut variables = Vec::with_capacity(alloc, params.len())?;
     for param in params {
-        variables.push(param_of(param)?)?;
+        variables.push(param_of(alloc, param)?)?;
     }
     Ok(variables)
 }

@@ -17,6 +17,7 @@ use crate::refusal::{unbuilt, unknown_name};
 use crate::scope::Variable;
 use crate::setting::Setting;
 use crate::statements::{block_with, declare, whole_block};
+use crate::tuples::{parted, parts_of, tupled};
 use crate::typed::{TypedExpr, TypedNode, TypedStmt};
 use crate::types::is_arithmetic;
 use crate::typing::{
@@ -27,7 +28,7 @@ use crate::typing::{
 use crate::written::{as_name, name_alone, step_of};
 use logic_term::Ty;
 use source_kinds::{BinaryOp, LazyOp};
-use source_trees::{Attribute, Expr, ExprNode, Segment, Stmt, UnaryOp};
+use source_trees::{Attribute, Expr, ExprNode, Number, Segment, Stmt, UnaryOp};
 use std::alloc::Global;
 use text_core::{PassError, Span};
 
@@ -106,6 +107,10 @@ fn type_form(
             alloc, setting, scope, expected, whole, *op, *at, left, value,
         ),
         ExprNode::Call(f, args) => type_call(alloc, setting, scope, expected, whole, f, args),
+        ExprNode::Tuple(parts) => type_tuple(alloc, setting, scope, expected, whole, parts),
+        ExprNode::Part(value, number) => type_part(
+            alloc, setting, scope, expected, whole, value, number,
+        ),
         ExprNode::Block(stmts) => type_block(alloc, setting, scope, expected, whole, stmts),
         ExprNode::BlockWith(stmts, last) => type_block_with(
             alloc, setting, scope, expected, whole, stmts, last,
@@ -149,7 +154,6 @@ fn type_form(
         ),
         ExprNode::Receiver
         | ExprNode::Literal(_, _)
-        | ExprNode::Tuple(_)
         | ExprNode::If(Some(_), _, _)
         | ExprNode::IfElse(Some(_), _, _, _)
         | ExprNode::Match(_, _)
@@ -159,7 +163,6 @@ fn type_form(
         | ExprNode::Cast(_, _)
         | ExprNode::Borrow(_, _)
         | ExprNode::Field(_, _, _)
-        | ExprNode::Part(_, _)
         | ExprNode::Method(_, _, _, _) => Err(unbuilt(whole)),
     }
 }
@@ -521,6 +524,43 @@ fn type_operands(
             Ok(Operands { left, right })
         }
     }
+}
+
+/// `(a, b)`.
+#[cycle(type_expr)]
+#[tactic(auto, using(crate::proofs::Parts::parts))]
+fn type_tuple(
+    alloc: Global,
+    setting: &Setting<'_>,
+    scope: &mut Vec<Variable>,
+    expected: &Option<Ty>,
+    whole: Span,
+    parts: &[Expr],
+) -> Result<TypedExpr, PassError>
+    ensures answers { Answers result (typed (setting_of setting.now) scope.old.items (E.tuple whole (written_exprs parts.now)) expected.now) }
+    ensures kept { OnOk result (scope.new.items ≡ scope.old.items) }
+{
+    let parts = type_args(alloc, setting, scope, parts, parts_of(expected))?;
+    tupled(alloc, expected, whole, parts)
+}
+
+/// `a.0`.
+#[cycle(type_expr)]
+#[tactic(auto, using(crate::proofs::Parts::parts))]
+fn type_part(
+    alloc: Global,
+    setting: &Setting<'_>,
+    scope: &mut Vec<Variable>,
+    expected: &Option<Ty>,
+    whole: Span,
+    value: &Expr,
+    number: &Number,
+) -> Result<TypedExpr, PassError>
+    ensures answers { Answers result (typed (setting_of setting.now) scope.old.items (E.part whole value.now number.now) expected.now) }
+    ensures kept { OnOk result (scope.new.items ≡ scope.old.items) }
+{
+    let value = type_expr(alloc, setting, scope, value, &None)?;
+    parted(alloc, expected, whole, number, value)
 }
 
 /// Arguments for parameters of these types.

@@ -24,6 +24,7 @@ mod refusal;
 mod scope;
 mod setting;
 mod statements;
+mod tuples;
 mod typed;
 mod types;
 mod typing;

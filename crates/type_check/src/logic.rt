@@ -85,6 +85,8 @@ fn bad_in_form(e: &TypedExpr) -> Option<SourceError>
         TypedNode::Assign(a, b) => earlier(bad_in(a), bad_in(b)),
         TypedNode::Update(_, a, b) => earlier(bad_in(a), bad_in(b)),
         TypedNode::Call(_, args) => bad_in_exprs(args),
+        TypedNode::Make(_, parts) => bad_in_exprs(parts),
+        TypedNode::Part(a, _) => bad_in(a),
         TypedNode::Block(stmts) => bad_in_stmts(stmts),
         TypedNode::BlockWith(stmts, last) => earlier(bad_in_stmts(stmts), bad_in(last)),
         TypedNode::BlockLeaving(stmts, last) => earlier(bad_in_stmts(stmts), bad_in(last)),

@@ -2,7 +2,7 @@ ghost use Rattle.std.specs.Prelude.{◌<◌, IfSome};
 ghost use Rattle.type_check.specs.TypedExprView.{typed_size};
 
 use crate::assertion::Assertion;
-use logic_term::Ty;
+use logic_term::{Ctor, Ty};
 use source_kinds::{BinaryOp, IntKind, LazyOp};
 use std::marker::Model;
 use text_core::{Cause, Span};
@@ -36,6 +36,10 @@ pub enum TypedNode {
     Update(BinaryOp, TypedExpr, TypedExpr),
     /// A function of the program, by its place.
     Call(u32, Vec<TypedExpr>),
+    /// A value that is made of these parts.
+    Make(Ctor, Vec<TypedExpr>),
+    /// The part of this number, from 0, of a tuple.
+    Part(TypedExpr, u32),
     Block(Vec<TypedStmt>),
     BlockWith(Vec<TypedStmt>, TypedExpr),
     /// The statements before the last one, and the value of that one, which leaves.
@@ -116,7 +120,9 @@ impl TypedExpr {
             TypedNode::Lazy(_, left, _) => Some(left),
             TypedNode::Assign(left, _) => Some(left),
             TypedNode::Update(_, left, _) => Some(left),
+            TypedNode::Part(left, _) => Some(left),
             TypedNode::Call(_, _args) => None,
+            TypedNode::Make(_, _parts) => None,
             TypedNode::Block(_stmts) => None,
             TypedNode::BlockWith(_stmts, _last) => None,
             TypedNode::BlockLeaving(_stmts, _last) => None,

@@ -187,7 +187,9 @@ pub(crate) fn operated(
     fit(alloc, expected, spans.whole, ty, span, node)
 }
 
-/// Whether the target is a variable that is mutable, or no variable at all.
+/// Whether the target is a variable that is mutable, a part of one, or no variable at all.
+#[cycle(may_write)]
+#[tactic(auto, using(crate::proofs::TypedParts::typed_parts))]
 fn may_write(scope: &[Variable], target: &TypedExpr) -> bool
     ensures { result ≡ may_write scope.now target.now }
 {
@@ -196,6 +198,7 @@ fn may_write(scope: &[Variable], target: &TypedExpr) -> bool
             Some(variable) => variable.mutable,
             None => false,
         },
+        TypedNode::Part(whole, _) => may_write(scope, whole),
         _ => true,
     }
 }

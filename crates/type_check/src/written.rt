@@ -1,12 +1,14 @@
 //! Names and types as they are written, and what `let` and parameters declare.
 ghost use Rattle.std.specs.Prelude.{◌≡◌, slice_get};
-ghost use Rattle.type_check.specs.Answers.{Answers};
-ghost use Rattle.type_check.specs.Written.{name_alone, as_name, named_type, written_type, written_or_none, answer_ty, param_of, name_or, declared_by, step_of};
+ghost use Rattle.logic_term.specs.TyView.{tys_of};
+ghost use Rattle.source_trees.specs.TypeTreeView.{types_of};
+ghost use Rattle.type_check.specs.Answers.{Answers, AnswersAs};
+ghost use Rattle.type_check.specs.Written.{name_alone, as_name, named_type, written_type, written_types, written_or_none, answer_ty, param_of, name_or, declared_by, step_of};
 
 use crate::refusal::unbuilt;
 use crate::scope::{Declared, Variable};
 use crate::statements::Step;
-use logic_term::Ty;
+use logic_term::{Ty, TyNode};
 use source_kinds::IntKind;
 use source_trees::{
     Expr, ExprNode, Param, ParamNode, Pat, PatNode, Path, PathNode, Segment, StmtKind, TypeNode,
@@ -77,9 +79,10 @@ fn named_type(name: Name) -> Option<Ty>
     }
 }
 
-/// The types of integers and `bool` are built.
-#[tactic(auto, unfolding(crate::specs::Written::written_type), using(crate::proofs::WrittenTypes::with_arguments))]
-fn written_type(written: &TypeTree) -> Result<Ty, PassError>
+/// The types of integers, `bool` and tuples of built types are built.
+#[cycle(written_type)]
+#[tactic(auto, using(crate::proofs::WrittenTypes::with_arguments, crate::proofs::WrittenTypes::type_parts))]
+fn written_type(alloc: Global, written: &TypeTree) -> Result<Ty, PassError>
     ensures { Answers result (written_type written.now) }
 {
     let span = written.span;
@@ -93,20 +96,36 @@ fn written_type(written: &TypeTree) -> Result<Ty, PassError>
                 None => Err(unbuilt(span)),
             }
         }
-        TypeNode::Tuple(_)
-        | TypeNode::Reference(_, _, _)
-        | TypeNode::SelfType
-        | TypeNode::SelfView => Err(unbuilt(span)),
+        TypeNode::Tuple(parts) => {
+            let types = written_types(alloc, parts)?;
+            let node = TyNode::Tuple(types);
+            Ok(Ty { node })
+        }
+        TypeNode::Reference(_, _, _) | TypeNode::SelfType | TypeNode::SelfView => {
+            Err(unbuilt(span))
+        }
     }
 }
 
+#[cycle(written_type)]
+#[tactic(auto, using(crate::proofs::WrittenTypes::type_parts))]
+fn written_types(alloc: Global, written: &[TypeTree]) -> Result<Vec<Ty>, PassError>
+    ensures { AnswersAs result (written_types (types_of written.now)) (λ v. tys_of v.items) }
+{
+    let mut types = Vec::with_capacity(alloc, written.len())?;
+    for i in 0..written.len() {
+        types.push(written_type(alloc, &written[i])?)?;
+    }
+    Ok(types)
+}
+
 /// The written type, if there is one.
-fn written_or_none(written: &Option<TypeTree>) -> Result<Option<Ty>, PassError>
+fn written_or_none(alloc: Global, written: &Option<TypeTree>) -> Result<Option<Ty>, PassError>
     ensures { Answers result (written_or_none written.now) }
 {
     match written {
         None => Ok(None),
-        Some(written) => Ok(Some(written_type(written)?)),
+        Some(written) => Ok(Some(written_type(alloc, written)?)),
     }
 }
 
@@ -116,7 +135,7 @@ pub(crate) fn answer_ty(alloc: Global, written: &Option<TypeTree>) -> Result<Ty,
 {
     match written {
         None => Ok(Ty::unit(alloc)),
-        Some(written) => written_type(written),
+        Some(written) => written_type(alloc, written),
     }
 }
 
@@ -124,13 +143,13 @@ pub(crate) fn answer_ty(alloc: Global, written: &Option<TypeTree>) -> Result<Ty,
 
 /// The variable that a parameter declares: a name with its type is built.
 #[tactic(auto, unfolding(crate::specs::Written::param_of))]
-pub(crate) fn param_of(param: &Param) -> Result<Variable, PassError>
+pub(crate) fn param_of(alloc: Global, param: &Param) -> Result<Variable, PassError>
     ensures { Answers result (param_of param.now) }
 {
     match &param.node {
         ParamNode::Named(mutable, name, written) => Ok(Variable {
             name: name.name,
-            ty: written_type(written)?,
+            ty: written_type(alloc, written)?,
             mutable: *mutable,
         }),
         ParamNode::Receiver(_) | ParamNode::Borrowed(_, _) => Err(unbuilt(param.span)),
@@ -181,7 +200,7 @@ pub(crate) fn step_of(alloc: Global, kind: &StmtKind) -> Result<Step, PassError>
     match kind {
         StmtKind::Let(pattern, written) => {
             let declares = Some(declared_by(pattern)?);
-            let expected = written_or_none(written)?;
+            let expected = written_or_none(alloc, written)?;
             Ok(Step { declares, expected })
         }
         StmtKind::Run => Ok(Step {
