@@ -34,11 +34,11 @@ onto_more : (vs : List TypedExpr) (v : TypedExpr) (end : TypedExprs) → onto vs
 onto_more [] v end = refl
 onto_more (w ∷ vs) v end = ap (tree.more w) (onto_more vs v end)
 
-onto_end : (vs : List TypedExpr) → onto vs tree.none ≡ exprs_of vs
+pub onto_end : (vs : List TypedExpr) → onto vs tree.none ≡ exprs_of vs
 onto_end [] = refl
 onto_end (v ∷ vs) = ap (tree.more v) (onto_end vs)
 
-nothing_yet : (m : Result TypedExprs SourceError) → m ≡ (m >>= and_args [])
+pub nothing_yet : (m : Result TypedExprs SourceError) → m ≡ (m >>= and_args [])
 nothing_yet (Ok r) = refl
 nothing_yet (Err e) = refl
 
@@ -57,10 +57,10 @@ rest_at (t ∷ ts) (suc i) = rest_at ts i
 exprs_at : (es : List Expr) (i : ℕ) (e : Expr) → e ≡ get_or es i e → i < length es → written_exprs (drop i es) ≡ more e (written_exprs (drop (suc i) es))
 exprs_at es i e q h = rw (drop-cons es i e h) (ap (λ x. more x (written_exprs (drop (suc i) es))) (sym q))
 
-abbrev one : TypedExpr → TypedExprs → Result TypedExprs SourceError
+abbrev pub one : TypedExpr → TypedExprs → Result TypedExprs SourceError
 one v r = Ok (tree.more v r)
 
-one_more : (vs : List TypedExpr) (v : TypedExpr) (m : Result TypedExprs SourceError) → ((m >>= one v) >>= and_args vs) ≡ (m >>= and_args (vs ++ v ∷ []))
+pub one_more : (vs : List TypedExpr) (v : TypedExpr) (m : Result TypedExprs SourceError) → ((m >>= one v) >>= and_args vs) ≡ (m >>= and_args (vs ++ v ∷ []))
 one_more vs v (Ok r) = ap Ok (onto_more vs v r)
 one_more vs v (Err e) = refl
 

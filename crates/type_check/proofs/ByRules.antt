@@ -1,6 +1,8 @@
 -- What an expression comes to, it comes to by the rules; and by the rules to one thing.
 use Rattle.std.proofs.Common.{◌≡◌, refl, sym, subst, List, [], Option, Some, None, Result, Ok, Err}
 use Rattle.text_core.specs.declared.refusal.SourceError.{SourceError}
+use Rattle.text_core.specs.declared.span.Span.{Span}
+use Rattle.logic_term.specs.declared.declaration.FieldDecl.{FieldDecl}
 use Rattle.logic_term.specs.Ty.{Ty, bool}
 use Rattle.source_trees.specs.declared.operator.UnaryOp.TheVariants.{Neg, Not}
 use Rattle.source_trees.specs.Expr as E
@@ -14,10 +16,10 @@ use Rattle.type_check.specs.Setting.{Setting, looping, outside}
 use Rattle.type_check.specs.TypedExpr.{TypedExpr, TypedExprs}
 use Rattle.type_check.specs.TypedExpr as tree
 use Rattle.type_check.specs.TypedExprView.{ty_of}
-use Rattle.type_check.specs.Typing.{Typed, is_bare, order_of, operands_of, operands, callee_of, first_of, rest_of, Opened, opened, declared, behind, typed_stmt, given, invariant_of, parts_of, typed, typed_stmts, typed_args}
+use Rattle.type_check.specs.Typing.{Typed, is_bare, order_of, operands_of, operands, callee_of, first_of, rest_of, Opened, opened, declared, behind, typed_stmt, given, invariant_of, parts_of, Maker, maker_of, next_field, fields_behind, no_field_left, typed, typed_stmts, typed_args, typed_fields}
 use Rattle.type_check.specs.WellTyped.{unit, is_arithmetic}
-use Rattle.type_check.specs.Written.{as_name, step_of}
-use Rattle.type_check.specs.Rules.{Asks, comes, part, first, operands_in, each_arg, each_stmt, rule, Types, by_rule, Comes, itself, refused, then, TypedByRules, TypingIsOne}
+use Rattle.type_check.specs.Written.{as_name, name_alone, step_of}
+use Rattle.type_check.specs.Rules.{Asks, comes, part, first, operands_in, each_arg, each_field, each_stmt, rule, Types, by_rule, Comes, itself, refused, then, TypedByRules, TypingIsOne}
 
 -- ---- one outcome
 
@@ -90,6 +92,8 @@ mutual
   types σ Γ (E.call s f es) t = by_rule (at_first (callee_of σ.headings Γ s (as_name f)) _ _ (λ g. at_args σ Γ es g.signature.params _ _ (λ as'. itself)))
   types σ Γ (E.tuple s es) t = by_rule (at_args σ Γ es (parts_of t) _ _ (λ as'. itself))
   types σ Γ (E.part s e k) t = by_rule (at_part σ Γ e None (typed σ Γ e None) _ _ (types σ Γ e None) (λ a. itself))
+  types σ Γ (E.field s e x []) t = by_rule (at_part σ Γ e None (typed σ Γ e None) _ _ (types σ Γ e None) (λ a. itself))
+  types σ Γ (E.literal s p fs) t = by_rule (at_first (maker_of σ.types t s (name_alone p.node)) _ _ (λ m. at_fields σ Γ s m m.fields fs _ _ (λ as'. itself)))
   types σ Γ (E.block s ss) t = by_rule (at_stmts σ Γ ss _ _ (λ o. itself))
   types σ Γ (E.block_with s ss e) t = by_rule (at_stmts σ Γ ss _ _ (λ o. at_part σ o.scope e t (typed σ o.scope e t) _ _ (types σ o.scope e t) (λ a. itself)))
   types σ Γ (E.branch s None c a) t = by_rule
@@ -115,8 +119,8 @@ mutual
       let after : (p : _) (a : TypedExpr) → Comes (each_stmt σ (declared Γ p.declares a) ss (λ o. k (behind (typed_stmt p a) o))) ((typed_stmts σ (declared Γ p.declares a) ss >>= λ o. Ok (behind (typed_stmt p a) o)) >>= f) =
       λ p a. subst (Comes (each_stmt σ (declared Γ p.declares a) ss (λ o. k (behind (typed_stmt p a) o)))) (sym (assoc (typed_stmts σ (declared Γ p.declares a) ss) (λ o. Ok (behind (typed_stmt p a) o)) f))
       (at_stmts σ (declared Γ p.declares a) ss (λ o. k (behind (typed_stmt p a) o)) (λ o. f (behind (typed_stmt p a) o)) (λ o. h (behind (typed_stmt p a) o))) in
-      subst (Comes (each_stmt σ Γ (E.with_stmt s kind e ss) k)) (sym (assoc (step_of kind) _ f))
-      (at_first (step_of kind) _ _ (λ p. at_part_in σ Γ e p.expected (typed σ Γ e p.expected) _ _ f (types σ Γ e p.expected) (λ a. after p a)))
+      subst (Comes (each_stmt σ Γ (E.with_stmt s kind e ss) k)) (sym (assoc (step_of σ.types kind) _ f))
+      (at_first (step_of σ.types kind) _ _ (λ p. at_part_in σ Γ e p.expected (typed σ Γ e p.expected) _ _ f (types σ Γ e p.expected) (λ a. after p a)))
 
   at_args : (σ : Setting) (Γ : List Variable) (es : E.Exprs) (ts : List Ty) (k : TypedExprs → Asks) (f : TypedExprs → Typed) → Follows k f → Comes (each_arg σ Γ es ts k) (typed_args σ Γ es ts >>= f)
   at_args σ Γ E.none ts k f h = h tree.none
@@ -124,6 +128,16 @@ mutual
       at_part_in σ Γ e (first_of ts) (typed σ Γ e (first_of ts)) _ _ f (types σ Γ e (first_of ts))
       (λ a. subst (Comes (each_arg σ Γ es (rest_of ts) (λ as'. k (tree.more a as')))) (sym (assoc (typed_args σ Γ es (rest_of ts)) (λ as'. Ok (tree.more a as')) f))
       (at_args σ Γ es (rest_of ts) (λ as'. k (tree.more a as')) (λ as'. f (tree.more a as')) (λ as'. h (tree.more a as'))))
+
+  at_fields : (σ : Setting) (Γ : List Variable) (s : Span) (m : Maker) (left : List FieldDecl) (fs : E.FieldExprs) (k : TypedExprs → Asks) (f : TypedExprs → Typed) → Follows k f
+      → Comes (each_field σ Γ s m left fs k) (typed_fields σ Γ s m left fs >>= f)
+  at_fields σ Γ s m left E.no_fields k f h = at_first (no_field_left s left) k f h
+  at_fields σ Γ s m left (E.with_field r x e fs) k f h =
+      let after : (u : Ty) (a : TypedExpr) → Comes (each_field σ Γ s m (fields_behind left) fs (λ as'. k (tree.more a as'))) ((typed_fields σ Γ s m (fields_behind left) fs >>= λ as'. Ok (tree.more a as')) >>= f) =
+      λ u a. subst (Comes (each_field σ Γ s m (fields_behind left) fs (λ as'. k (tree.more a as')))) (sym (assoc (typed_fields σ Γ s m (fields_behind left) fs) (λ as'. Ok (tree.more a as')) f))
+      (at_fields σ Γ s m (fields_behind left) fs (λ as'. k (tree.more a as')) (λ as'. f (tree.more a as')) (λ as'. h (tree.more a as'))) in
+      subst (Comes (each_field σ Γ s m left (E.with_field r x e fs) k)) (sym (assoc (next_field σ.types m left x) _ f))
+      (at_first (next_field σ.types m left x) _ _ (λ u. at_part_in σ Γ e (Some u) (typed σ Γ e (Some u)) _ _ f (types σ Γ e (Some u)) (λ a. after u a)))
 
 pub typed_by_rules : TypedByRules
 typed_by_rules σ Γ e t = types σ Γ e t

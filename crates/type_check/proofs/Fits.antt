@@ -1,5 +1,5 @@
 -- What typing gives fits: each part has the type that its place asks for.
-use Rattle.std.proofs.Common.{◌≡◌, ◌∙◌, inl, inr, ℕ, zero, suc, ◌==◌, Bool, true, false, List, [], ◌∷◌, ◌++◌, length, Option, Some, None, Ok, refl, ap, sym, subst, arith}
+use Rattle.std.proofs.Common.{◌≡◌, ◌∙◌, inl, inr, ℕ, zero, suc, ◌==◌, Bool, true, false, List, [], ◌∷◌, ◌++◌, length, Option, Some, None, Ok, Err, map, refl, ap, ap₂, sym, subst, arith}
 use Rattle.std.specs.Prelude.{ℤ, slice_get, if◌then◌else◌}
 use Rattle.logic_term.proofs.FreeLaw.{same_test}
 use Rattle.text_core.specs.declared.name.Name.{Name}
@@ -7,8 +7,16 @@ use Rattle.text_core.specs.declared.span.Span.{Span}
 use Rattle.source_kinds.specs.declared.kinds.BinaryOp.{BinaryOp}
 use Rattle.source_kinds.specs.declared.kinds.IntKind.{IntKind}
 use Rattle.source_kinds.specs.Range.{fits}
-use Rattle.logic_term.specs.declared.kinds.Ctor.TheVariants.{Tuple}
-use Rattle.logic_term.specs.Ty.{Ty, Tys, int, bool, tuple, no_tys, and_ty}
+use Rattle.logic_term.specs.declared.declaration.AdtDecl.{AdtDecl}
+use Rattle.logic_term.specs.declared.declaration.FieldDecl.{FieldDecl}
+use Rattle.logic_term.specs.declared.declaration.VariantDecl.{VariantDecl}
+use Rattle.logic_term.specs.declared.kinds.AdtId.{AdtId}
+use Rattle.logic_term.specs.declared.kinds.Ctor.TheVariants.{Tuple, Variant}
+use Rattle.logic_term.specs.Sort.{instances}
+use Rattle.logic_term.specs.Theory.{declared as decls, field_ty, fields_of, variant_of}
+use Rattle.logic_term.specs.Ty.{Ty, Tys, int, bool, tuple, adt, no_tys, and_ty}
+use Rattle.logic_term.specs.TyView.{tys_of}
+use Rattle.rs_types.specs.Table.{number_of}
 use Rattle.source_trees.specs.declared.attribute.Attribute.{Attribute}
 use Rattle.source_trees.specs.declared.attribute.AttributeNode.{AttributeNode}
 use Rattle.source_trees.specs.declared.attribute.AttributeNode.TheVariants as A
@@ -35,7 +43,8 @@ use Rattle.type_check.specs.declared.program.Signature.{Signature}
 use Rattle.type_check.specs.declared.scope.Variable.{Variable}
 use Rattle.type_check.specs.declared.statements.Step.{Step}
 use Rattle.type_check.specs.declared.typed.TypedStmt.{TypedStmt}
-use Rattle.type_check.specs.Answers.{mismatch, not_mutable, with_some, gather}
+use Rattle.text_core.specs.declared.refusal.SourceError.{SourceError}
+use Rattle.type_check.specs.Answers.{mismatch, unbuilt, unknown_name, not_mutable, with_some, gather}
 use Rattle.type_check.specs.Functions.{callee}
 use Rattle.type_check.specs.Leaves.{leaves}
 use Rattle.type_check.specs.Scope.{found}
@@ -45,16 +54,19 @@ use Rattle.type_check.specs.Terms.{assertion}
 use Rattle.type_check.specs.TypedExpr.{TypedExpr, TypedStmts, TypedExprs}
 use Rattle.type_check.specs.TypedExpr as tree
 use Rattle.type_check.specs.TypedExprView.{ty_of, stmt_of, stmts_of}
-use Rattle.type_check.specs.Types.{same_ty, is_signed_ty}
+use Rattle.type_check.specs.Types.{same_ty, is_signed_ty, is_built}
 use Rattle.type_check.specs.Typing.{Typed, fit, literal_kind, literal_of, literal, variable_of, variable, named, negated, is_bare, order_without, order_of, operands_of, operands, operation, operated, may_write, if_mutable, writing, assigned}
-use Rattle.type_check.specs.Typing.{is_updated, updated, known, callee_of, how_many, first_of, rest_of, called, block_ty, declared, Opened, opened, typed_stmt, behind, without_last, closed, asked, given, choice_ty, cause_of, panicked, nothing, returned, bare_return, endless, in_a_loop, invariant_by, invariant_of, listed, parts_of, tupled, part_number, part_of_ty, part_at, parted, typed, typed_stmts, typed_args}
-use Rattle.type_check.specs.WellTyped.{unit, Surroundings, IsBuilt, PartsAreBuilt, AllBuilt, nth_part, part_ty, tys_of_exprs, PartsFit, is_arithmetic, is_equality, operation_ty, is_signed, IsOf, IsOfOrLeaves, SpeaksOf, EachSpeaks, IsWellTyped, StatementsFit, ArgumentsFit}
+use Rattle.type_check.specs.Typing.{is_updated, updated, known, callee_of, how_many, first_of, rest_of, called, block_ty, declared, Opened, opened, typed_stmt, behind, without_last, closed, asked, given, choice_ty, cause_of, panicked, nothing, returned, bare_return, endless, in_a_loop, invariant_by, invariant_of, listed, parts_of, tupled, is_boxed, part_number, part_if, field_of, part_by, parted, selected, typed, typed_stmts, typed_args, typed_fields}
+use Rattle.type_check.specs.Typing.{Maker, arguments_for, maker_by, maker_first, maker_if, maker_at, maker_of, not_next, built_field, next_field, fields_behind, no_field_left, literal_made}
+use Rattle.type_check.specs.WellTyped.{unit, Surroundings, IsBuilt, PartsAreBuilt, AllBuilt, field_at, part_ty, tys_of_exprs, PartsFit, is_arithmetic, is_equality, operation_ty, is_signed, IsOf, IsOfOrLeaves, SpeaksOf, EachSpeaks, IsWellTyped, StatementsFit, ArgumentsFit}
 use Rattle.type_check.specs.Written.{as_name, name_alone, written_type, written_or_none, declared_by, step_of}
 use Rattle.type_check.proofs.Bound.{bound, held, yes, same_ok}
 use Rattle.type_check.proofs.Lookups.{types, signatures_at, surroundings, found_type, callee_signature}
 use Rattle.logic_elab.proofs.SameSorts.{equal_types}
 use Rattle.type_check.proofs.Speaking.{assertion_speaks}
 use Rattle.type_check.proofs.StatementLists.{block_ty_after, stmt_ty}
+use Rattle.type_check.proofs.BuiltTypes.{built_is_built}
+use Rattle.type_check.proofs.FoundParts.{field_has_type, number_has_type}
 use Rattle.type_check.proofs.WrittenTypes.{type_built}
 
 abbrev pub Meets : Option Ty → TypedExpr → Type 0
@@ -230,27 +242,94 @@ tupled_sound : (σ : Setting) (Γ : List Variable) (t : Option Ty) (s : Span) (e
 unfolding tupled
 tupled_sound σ Γ t s es r h p = fit_sound σ Γ t s (tree.make (tuple (tys_of_exprs es)) s Tuple es) r (refl, h.0) h.1 p
 
-nth_built : (ts : Tys) (n : ℕ) (u : Ty) → PartsAreBuilt ts → nth_part ts n ≡ Some u → IsBuilt u
-nth_built no_tys n u h p = absurd (cc)
-nth_built (and_ty t ts) zero u h p = let q : t ≡ u = cc in subst IsBuilt q h.0
-nth_built (and_ty t ts) (suc n) u h p = nth_built ts n u h.1 p
+-- neither is an answer
+pub no_part : (b : Bool) (e f : SourceError) (r : TypedExpr) → (if b then Err e else Err f) ≡ Ok r → ⊥
+no_part true e f r q = cc
+no_part false e f r q = cc
 
-part_built : (t : Ty) (n : ℕ) (u : Ty) → IsBuilt t → part_ty t n ≡ Some u → IsBuilt u
-part_built (tuple ts) n u h p = nth_built ts n u h p
-part_built t n u h p = absurd (cc)
+part_sound : (σ : Setting) (Γ : List Variable) (t : Option Ty) (s o : Span) (a : TypedExpr) (p : Option (ℕ × Ty)) (r : TypedExpr) → IsWellTyped (surroundings σ) (types Γ) a → ((q : ℕ × Ty) → p ≡ Some q → part_ty σ.types (ty_of a) q.0 ≡ Some q.1)
+    → part_by σ.types t s o a p ≡ Ok r → Sound σ Γ t r
+part_sound σ Γ t s o a None r w h q = absurd (no_part (is_boxed (ty_of a)) (unbuilt s) (unknown_name o) r q)
+part_sound σ Γ t s o a (Some p) r w h q =
+    let c = held (is_built σ.types p.1) (fit t s (tree.part p.1 s a p.0)) (unbuilt s) r q in
+    fit_sound σ Γ t s (tree.part p.1 s a p.0) r (h p refl, w) (built_is_built σ.types p.1 c.0) c.1
 
-part_sound : (σ : Setting) (Γ : List Variable) (t : Option Ty) (s o : Span) (a : TypedExpr) (n : ℕ) (u : Option Ty) (r : TypedExpr) → IsWellTyped (surroundings σ) (types Γ) a → IsBuilt (ty_of a) → part_ty (ty_of a) n ≡ u
-    → part_of_ty t s o a n u ≡ Ok r → Sound σ Γ t r
-part_sound σ Γ t s o a n None r w b q p = absurd (cc)
-part_sound σ Γ t s o a n (Some u) r w b q p = fit_sound σ Γ t s (tree.part u s a n) r (q, w) (part_built (ty_of a) n u b q) p
-
-number_sound : (σ : Setting) (Γ : List Variable) (t : Option Ty) (s o : Span) (a : TypedExpr) (n : Option ℕ) (r : TypedExpr) → IsWellTyped (surroundings σ) (types Γ) a → IsBuilt (ty_of a) → part_at t s o a n ≡ Ok r → Sound σ Γ t r
-number_sound σ Γ t s o a None r w b p = absurd (cc)
-number_sound σ Γ t s o a (Some n) r w b p = part_sound σ Γ t s o a n (part_ty (ty_of a) n) r w b refl p
-
-parted_sound : (σ : Setting) (Γ : List Variable) (t : Option Ty) (s : Span) (k : Number) (a r : TypedExpr) → IsWellTyped (surroundings σ) (types Γ) a → IsBuilt (ty_of a) → parted t s k a ≡ Ok r → Sound σ Γ t r
+parted_sound : (σ : Setting) (Γ : List Variable) (t : Option Ty) (s : Span) (k : Number) (a r : TypedExpr) → IsWellTyped (surroundings σ) (types Γ) a → parted σ.types t s k a ≡ Ok r → Sound σ Γ t r
 unfolding parted
-parted_sound σ Γ t s k a r w b p = number_sound σ Γ t s k.span a (part_number k) r w b p
+parted_sound σ Γ t s k a r w p = part_sound σ Γ t s k.span a (part_if σ.types (ty_of a) (part_number k)) r w (λ q h. number_has_type σ.types (ty_of a) (part_number k) q h) p
+
+selected_sound : (σ : Setting) (Γ : List Variable) (t : Option Ty) (s : Span) (x : Segment) (a r : TypedExpr) → IsWellTyped (surroundings σ) (types Γ) a → selected σ.types t s x a ≡ Ok r → Sound σ Γ t r
+unfolding selected
+selected_sound σ Γ t s x a r w p = part_sound σ Γ t s x.span a (field_of σ.types x.name (ty_of a)) r w (λ q h. field_has_type σ.types x.name (ty_of a) q h) p
+
+-- ---- struct literals
+
+-- the struct is declared with these fields, and its type is built
+pub record IsMaker (σ : Setting) (m : Maker) : Type 0 where
+  pub built : IsBuilt (adt m.number [] m.arguments)
+  pub declares : decls (record { adts = σ.types }) m.number 0 ≡ Some (tys_of (map field_ty m.fields))
+
+maker_built : (σ : Setting) (s : Span) (d : AdtId) (fs : List FieldDecl) (ts : Option Tys) (m : Maker) → decls (record { adts = σ.types }) d 0 ≡ Some (tys_of (map field_ty fs)) → maker_by σ.types s d fs ts ≡ Ok m → IsMaker σ m
+maker_built σ s d fs None m h p = absurd (cc)
+maker_built σ s d fs (Some ts) m h p =
+    let made : Maker = record { number = d; arguments = ts; fields = fs } in
+    let c = held (is_built σ.types (adt d [] ts)) (Ok made) (unbuilt s) m p in
+    subst (IsMaker σ) (same_ok made m c.1) (record { built = built_is_built σ.types (adt d [] ts) c.0; declares = h })
+
+maker_in_first : (σ : Setting) (t : Option Ty) (s : Span) (x : Segment) (n : ℕ) (d : AdtDecl) (v : Option VariantDecl) (m : Maker) → slice_get σ.types n ≡ Some d → slice_get d.variants 0 ≡ v → maker_first σ.types t s x n d v ≡ Ok m → IsMaker σ m
+maker_in_first σ t s x n d None m h q p = absurd (cc)
+maker_in_first σ t s x n d (Some v) m h q p =
+    maker_built σ s (record { 0 = n }) v.fields (arguments_for d.params n t) m (ap (λ o. fields_of (variant_of o 0)) h ∙ ap fields_of q) p
+
+maker_in : (σ : Setting) (t : Option Ty) (s : Span) (x : Segment) (n : ℕ) (o : Option AdtDecl) (m : Maker) → slice_get σ.types n ≡ o → maker_if σ.types t s x n o ≡ Ok m → IsMaker σ m
+maker_in σ t s x n None m h p = absurd (cc)
+maker_in σ t s x n (Some d) m h p =
+    maker_in_first σ t s x n d (slice_get d.variants 0) m h refl (held d.is_struct (maker_first σ.types t s x n d (slice_get d.variants 0)) (unknown_name x.span) m p).1
+
+maker_named : (σ : Setting) (t : Option Ty) (s : Span) (x : Segment) (n : Option ℕ) (m : Maker) → maker_at σ.types t s x n ≡ Ok m → IsMaker σ m
+maker_named σ t s x None m p = absurd (cc)
+maker_named σ t s x (Some n) m p = maker_in σ t s x n (slice_get σ.types n) m refl p
+
+maker_sound : (σ : Setting) (t : Option Ty) (s : Span) (o : Option Segment) (m : Maker) → maker_of σ.types t s o ≡ Ok m → IsMaker σ m
+maker_sound σ t s None m p = absurd (cc)
+maker_sound σ t s (Some x) m p = maker_named σ t s x (number_of x.name.0 σ.types) m p
+
+-- the next field has the type
+pub record IsNext (m : Maker) (left : List FieldDecl) (u : Ty) : Type 0 where
+  pub field : FieldDecl
+  pub is : left ≡ field ∷ fields_behind left
+  pub type : u ≡ field_at m.arguments field
+  pub built : IsBuilt u
+
+next_sound : (ds : List AdtDecl) (m : Maker) (left : List FieldDecl) (x : Segment) (u : Ty) → next_field ds m left x ≡ Ok u → IsNext m left u
+next_sound ds m [] x u p = absurd (cc)
+next_sound ds m (f ∷ fs) x u p =
+    let c = held (f.name.0 == x.name.0) (built_field ds x (field_at m.arguments f)) (not_next m.fields (f ∷ fs) x) u p in
+    let b = held (is_built ds (field_at m.arguments f)) (Ok (field_at m.arguments f)) (unbuilt x.span) u c.1 in
+    let e : field_at m.arguments f ≡ u = same_ok _ _ b.1 in
+    record { field = f; is = refl; type = sym e; built = subst IsBuilt e (built_is_built ds (field_at m.arguments f) b.0) }
+
+-- the parts fit, and have the types of the fields
+pub record FieldsSound (σ : Setting) (Γ : List Variable) (m : Maker) (left : List FieldDecl) (es : TypedExprs) : Type 0 where
+  pub fit : PartsFit (surroundings σ) (types Γ) es
+  pub types_are : tys_of_exprs es ≡ instances m.arguments (tys_of (map field_ty left))
+
+none_left : (σ : Setting) (Γ : List Variable) (s : Span) (m : Maker) (left : List FieldDecl) (r : TypedExprs) → no_field_left s left ≡ Ok r → FieldsSound σ Γ m left r
+none_left σ Γ s m [] r p = subst (FieldsSound σ Γ m []) (same_ok _ _ p) (record { fit = tt; types_are = refl })
+none_left σ Γ s m (f ∷ fs) r p = absurd (cc)
+
+one_field : (σ : Setting) (Γ : List Variable) (m : Maker) (left : List FieldDecl) (u : Ty) (a : TypedExpr) (es : TypedExprs) → IsNext m left u → IsWellTyped (surroundings σ) (types Γ) a → ty_of a ≡ u → FieldsSound σ Γ m (fields_behind left) es
+    → FieldsSound σ Γ m left (tree.more a es)
+one_field σ Γ m left u a es n w q rest = record {
+  fit = (w, rest.fit);
+  types_are = ap₂ and_ty (q ∙ n.type) rest.types_are ∙ ap (λ fs. instances m.arguments (tys_of (map field_ty fs))) (sym n.is);
+}
+
+literal_sound_of : (σ : Setting) (Γ : List Variable) (t : Option Ty) (s : Span) (m : Maker) (es : TypedExprs) (r : TypedExpr) → IsMaker σ m → FieldsSound σ Γ m m.fields es → literal_made t s m es ≡ Ok r → Sound σ Γ t r
+unfolding literal_made
+literal_sound_of σ Γ t s m es r h k p =
+    fit_sound σ Γ t s (tree.make (adt m.number [] m.arguments) s (Variant m.number 0) es) r
+    (record { arguments = m.arguments; fields = tys_of (map field_ty m.fields); is = refl; declares = h.declares; parts = k.types_are }, k.fit) h.built p
 
 -- ---- blocks and loops
 
@@ -465,20 +544,20 @@ declared_built σ Γ (Some d) a h k = record {
 within_built : (b : Bool) (σ : Setting) (Γ : List Variable) → Around σ Γ → Around (within_loop b σ) Γ
 within_built b σ Γ h = record { functions = h.functions; variables = h.variables; answer = h.answer }
 
-written_may : (w : Option TypeTree) (t : Option Ty) → written_or_none w ≡ Ok t → MayAsk t
-written_may None t p = subst MayAsk (same_ok _ _ p) tt
-written_may (Some w) t p =
-    let u = bound (written_type w) _ t p in
-    subst MayAsk (same_ok (Some u.0) t u.2) (type_built w u.0 u.1)
+written_may : (ds : List AdtDecl) (w : Option TypeTree) (t : Option Ty) → written_or_none ds w ≡ Ok t → MayAsk t
+written_may ds None t p = subst MayAsk (same_ok _ _ p) tt
+written_may ds (Some w) t p =
+    let u = bound (written_type ds w) _ t p in
+    subst MayAsk (same_ok (Some u.0) t u.2) (type_built ds w u.0 u.1)
 
-step_may : (k : StmtKind) (w : Step) → step_of k ≡ Ok w → MayAsk w.expected
+step_may : (ds : List AdtDecl) (k : StmtKind) (w : Step) → step_of ds k ≡ Ok w → MayAsk w.expected
 unfolding step_of
-step_may (kind.Let p w) r q =
+step_may ds (kind.Let p w) r q =
     let x = bound (declared_by p) _ r q in
-    let t = bound (written_or_none w) _ r x.2 in
-    subst (λ (r : Step). MayAsk r.expected) (same_ok (record { declares = Some x.0; expected = t.0 }) r t.2) (written_may w t.0 t.1)
-step_may kind.Run r q = subst (λ (r : Step). MayAsk r.expected) (same_ok (record { declares = None; expected = None }) r q) tt
-step_may kind.Blocklike r q = subst (λ (r : Step). MayAsk r.expected) (same_ok (record { declares = None; expected = Some unit }) r q) tt
+    let t = bound (written_or_none ds w) _ r x.2 in
+    subst (λ (r : Step). MayAsk r.expected) (same_ok (record { declares = Some x.0; expected = t.0 }) r t.2) (written_may ds w t.0 t.1)
+step_may ds kind.Run r q = subst (λ (r : Step). MayAsk r.expected) (same_ok (record { declares = None; expected = None }) r q) tt
+step_may ds kind.Blocklike r q = subst (λ (r : Step). MayAsk r.expected) (same_ok (record { declares = None; expected = Some unit }) r q) tt
 
 first_may : (ts : List Ty) → AllBuilt ts → MayAsk (first_of ts)
 first_may [] h = tt
@@ -536,7 +615,15 @@ mutual
   typed_sound σ Γ (E.part s e k) t r ho ht p =
       let a = bound (typed σ Γ e None) _ r p in
       let sa = typed_sound σ Γ e None a.0 ho tt a.1 in
-      parted_sound σ Γ t s k a.0 r sa.well sa.built a.2
+      parted_sound σ Γ t s k a.0 r sa.well a.2
+  typed_sound σ Γ (E.field s e x []) t r ho ht p =
+      let a = bound (typed σ Γ e None) _ r p in
+      let sa = typed_sound σ Γ e None a.0 ho tt a.1 in
+      selected_sound σ Γ t s x a.0 r sa.well a.2
+  typed_sound σ Γ (E.literal s w fs) t r ho ht p =
+      let m = bound (maker_of σ.types t s (name_alone w.node)) _ r p in
+      let as' = bound (typed_fields σ Γ s m.0 m.0.fields fs) _ r m.2 in
+      literal_sound_of σ Γ t s m.0 as'.0 r (maker_sound σ t s (name_alone w.node) m.0 m.1) (fields_sound σ Γ s m.0 m.0.fields fs as'.0 ho as'.1) as'.2
   typed_sound σ Γ (E.block s ss) t r ho ht p =
       let o = bound (typed_stmts σ Γ ss) _ r p in
       closed_sound σ Γ t s (without_last o.0.stmts) r (without_last_fits (surroundings σ) (types Γ) t o.0.stmts ht ((stmts_sound σ Γ ss o.0 ho o.1).0 unit tree.done refl)) (without_last_built t o.0.stmts ht) o.2
@@ -596,10 +683,10 @@ mutual
   stmts_sound : (σ : Setting) (Γ : List Variable) (ss : E.Stmts) (o : Opened) → Around σ Γ → typed_stmts σ Γ ss ≡ Ok o → OpenedSound σ Γ o × Around σ o.scope
   stmts_sound σ Γ E.no_stmts o ho p = subst (λ o. OpenedSound σ Γ o × Around σ o.scope) (same_ok (opened Γ []) o p) (nothing_opened σ Γ, ho)
   stmts_sound σ Γ (E.with_stmt s k e ss) o ho p =
-      let w = bound (step_of k) _ o p in
+      let w = bound (step_of σ.types k) _ o p in
       let a = bound (typed σ Γ e w.0.expected) _ o w.2 in
       let c = bound (typed_stmts σ (declared Γ w.0.declares a.0) ss) _ o a.2 in
-      let sa = typed_sound σ Γ e w.0.expected a.0 ho (step_may k w.0 w.1) a.1 in
+      let sa = typed_sound σ Γ e w.0.expected a.0 ho (step_may σ.types k w.0 w.1) a.1 in
       let rest = stmts_sound σ (declared Γ w.0.declares a.0) ss c.0 (declared_built σ Γ w.0.declares a.0 ho sa.built) c.1 in
       subst (λ o. OpenedSound σ Γ o × Around σ o.scope) (same_ok (behind (typed_stmt w.0 a.0) c.0) o c.2) (declared_sound σ Γ w.0.declares w.0.expected a.0 c.0 sa.well rest.0, rest.1)
 
@@ -619,3 +706,13 @@ mutual
       let sa = typed_sound σ Γ e (first_of ts) a.0 ho (first_may ts hs) a.1 in
       let rest = parts_sound σ Γ es (rest_of ts) c.0 ho (rest_built ts hs) c.1 in
       subst (PartsSound σ Γ) (same_ok _ _ c.2) ((sa.well, rest.0), (sa.built, rest.1))
+
+  fields_sound : (σ : Setting) (Γ : List Variable) (s : Span) (m : Maker) (left : List FieldDecl) (fs : E.FieldExprs) (r : TypedExprs) → Around σ Γ → typed_fields σ Γ s m left fs ≡ Ok r → FieldsSound σ Γ m left r
+  fields_sound σ Γ s m left E.no_fields r ho p = none_left σ Γ s m left r p
+  fields_sound σ Γ s m left (E.with_field w x e fs) r ho p =
+      let u = bound (next_field σ.types m left x) _ r p in
+      let a = bound (typed σ Γ e (Some u.0)) _ r u.2 in
+      let c = bound (typed_fields σ Γ s m (fields_behind left) fs) _ r a.2 in
+      let n = next_sound σ.types m left x u.0 u.1 in
+      let sa = typed_sound σ Γ e (Some u.0) a.0 ho n.built a.1 in
+      subst (FieldsSound σ Γ m left) (same_ok _ _ c.2) (one_field σ Γ m left u.0 a.0 c.0 n sa.well sa.meets (fields_sound σ Γ s m (fields_behind left) fs c.0 ho c.1))

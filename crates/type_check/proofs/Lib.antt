@@ -4,9 +4,12 @@ pub mod BlockEnds
 pub mod Bound
 pub mod BreakParts
 pub mod ByRules
+pub mod BuiltTypes
 pub mod Chains
 pub mod Declaration
 pub mod Dropped
+pub mod FieldParts
+pub mod FoundParts
 pub mod Fits
 pub mod Lookups
 pub mod PartByPart

@@ -30,7 +30,7 @@ signatures_at σ = map signature_at σ
 
 -- what stands around a body, as its typed tree sees it
 abbrev pub surroundings : Setting → Surroundings
-surroundings σ = record { signatures = signatures_at σ.headings; answer = σ.answer; in_loop = σ.in_loop }
+surroundings σ = record { types = σ.types; signatures = signatures_at σ.headings; answer = σ.answer; in_loop = σ.in_loop }
 
 better : (P : Found → Type 0) (b : Bool) (f : Found) (best : Option Found) → P f → ((w : Found) → best ≡ Some w → P w) → (w : Found) → (if b then Some f else best) ≡ Some w → P w
 better P true f best here before w p = let q : f ≡ w = cc in subst P q here

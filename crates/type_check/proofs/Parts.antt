@@ -6,6 +6,7 @@ use Rattle.source_trees.specs.declared.expr.ExprNode.TheVariants as node
 use Rattle.source_trees.specs.declared.expr.Stmt.{Stmt}
 use Rattle.source_trees.specs.Expr.{Expr, repeat, endless}
 use Rattle.source_trees.specs.Pat.{Pat}
+use Rattle.type_check.proofs.FieldParts.{field_smaller}
 use Rattle.source_trees.specs.ExprView.{expr_of, expr_size, exprs_size, stmts_size, exprs_of, stmts_of}
 
 smaller : (es : List Expr) (i : ℕ) (d : Expr) → i < length es → expr_size (get_or es i d) < exprs_size (exprs_of es)
@@ -24,7 +25,7 @@ value_smaller (s ∷ ss) (suc i) d h = omega (arith, value_smaller ss i d (omega
 pub stmt_smaller : (ss : List Stmt) (i : ℕ) (s : Stmt) → s ≡ get_or ss i s → i < length ss → expr_size s.value < stmts_size (stmts_of ss)
 stmt_smaller ss i s q h = let f : Stmt → ℕ = λ s. expr_size s.value in omega (arith, ap f q, value_smaller ss i s h)
 
-pub ruleset parts = (each_smaller, stmt_smaller)
+pub ruleset parts = (each_smaller, stmt_smaller, field_smaller)
 
 -- ---- loops
 

@@ -1,5 +1,5 @@
 -- Refusals of program code have causes.
-use Rattle.std.proofs.Common.{◌≡◌, ◌⊎◌, inl, inr, ℕ, ◌==◌, Bool, true, false, List, [], ◌∷◌, length, Option, Some, None, Result, Ok, Err, refl, ap, sym, subst}
+use Rattle.std.proofs.Common.{◌≡◌, ◌⊎◌, inl, inr, ℕ, ◌==◌, Bool, true, false, List, [], ◌∷◌, length, Option, Some, None, Result, Ok, Err, refl, ap, sym}
 use Rattle.std.specs.Prelude.{ℤ, if◌then◌else◌}
 use Rattle.text_core.specs.declared.name.Name.{Name}
 use Rattle.text_core.specs.declared.refusal.SourceError.{SourceError}
@@ -7,8 +7,10 @@ use Rattle.text_core.specs.declared.span.Span.{Span}
 use Rattle.source_kinds.specs.declared.kinds.BinaryOp.{BinaryOp}
 use Rattle.source_kinds.specs.declared.kinds.IntKind.{IntKind}
 use Rattle.source_kinds.specs.Range.{fits}
-use Rattle.logic_term.specs.declared.kinds.Ctor.TheVariants.{Tuple}
-use Rattle.logic_term.specs.Ty.{Ty, int, bool, tuple, and_ty}
+use Rattle.logic_term.specs.declared.declaration.AdtDecl.{AdtDecl}
+use Rattle.logic_term.specs.declared.declaration.FieldDecl.{FieldDecl}
+use Rattle.logic_term.specs.declared.kinds.Ctor.TheVariants.{Tuple, Variant}
+use Rattle.logic_term.specs.Ty.{Ty, int, bool, tuple, adt}
 use Rattle.source_trees.specs.declared.attribute.Attribute.{Attribute}
 use Rattle.source_trees.specs.declared.attribute.AttributeNode.{AttributeNode}
 use Rattle.source_trees.specs.declared.attribute.AttributeNode.TheVariants as A
@@ -34,7 +36,7 @@ use Rattle.type_check.specs.declared.scope.Found.{Found}
 use Rattle.type_check.specs.declared.scope.Variable.{Variable}
 use Rattle.type_check.specs.declared.statements.Step.{Step}
 use Rattle.type_check.specs.Answers.{◌>>=◌, unknown_name, mismatch, unbuilt, not_mutable, with_some, gather}
-use Rattle.type_check.specs.Causes.{IsMismatch, IsUnbuilt, IsUnknown, IsNotRead, IsNotWritten, IsNotCalled, IsNoPart, root_name, Causes, CausesInStmts, CausesInArgs}
+use Rattle.type_check.specs.Causes.{IsMismatch, IsUnbuilt, IsUnknown, IsNotRead, IsNotWritten, IsNotCalled, IsNoPart, IsNoField, IsNoType, root_name, Causes, CausesInStmts, CausesInArgs, CausesInFields}
 use Rattle.type_check.specs.Functions.{callee}
 use Rattle.type_check.specs.Scope.{found}
 use Rattle.type_check.specs.Breaks.{breaks}
@@ -42,11 +44,11 @@ use Rattle.type_check.specs.Setting.{Setting, looping, outside}
 use Rattle.type_check.specs.TypedExpr.{TypedExpr, TypedStmts, TypedExprs}
 use Rattle.type_check.specs.TypedExpr as tree
 use Rattle.type_check.specs.TypedExprView.{ty_of, stmts_of}
-use Rattle.type_check.specs.Types.{same_ty, is_signed_ty}
+use Rattle.type_check.specs.Types.{same_ty, is_signed_ty, is_built}
 use Rattle.type_check.specs.Typing.{Typed, fit, literal_kind, literal_of, literal, variable_of, variable, named, negated, is_bare, order_of, operands_of, operands, operation, operated, may_write, if_mutable, writing, assigned}
-use Rattle.type_check.specs.Typing.{is_updated, updated, known, callee_of, how_many, first_of, rest_of, called, asked, block_ty, declared, behind, typed_stmt, without_last, closed, given, choice_ty, cause_of, nothing, returned, endless, in_a_loop, invariant_by, invariant_of, parts_of, tupled, part_number, part_of_ty, part_at, parted, typed, typed_stmts, typed_args}
-use Rattle.type_check.specs.WellTyped.{unit, is_arithmetic, operation_ty, part_ty, tys_of_exprs}
-use Rattle.type_check.specs.Written.{as_name, name_alone, named_type, type_or, written_type, written_types, written_or_none, name_or, declared_by, step_of}
+use Rattle.type_check.specs.Typing.{is_updated, updated, known, callee_of, how_many, first_of, rest_of, called, asked, block_ty, declared, behind, typed_stmt, without_last, closed, given, choice_ty, cause_of, nothing, returned, endless, in_a_loop, invariant_by, invariant_of, parts_of, tupled, is_boxed, part_number, part_if, field_of, part_by, parted, selected, Maker, maker_of, next_field, fields_behind, literal_made, typed, typed_stmts, typed_args, typed_fields}
+use Rattle.type_check.specs.WellTyped.{unit, is_arithmetic, operation_ty, tys_of_exprs}
+use Rattle.type_check.specs.Written.{as_name, name_alone, written_type, written_or_none, name_or, declared_by, step_of}
 use Rattle.type_check.proofs.Bound.{yes}
 use Rattle.type_check.proofs.Targets.{IsNamed, constant_named, typed_named}
 
@@ -191,25 +193,38 @@ tupled_stops : (t : Option Ty) (s : Span) (es : TypedExprs) (e : SourceError) �
 unfolding tupled
 tupled_stops t s es e p = fit_stops t s (tree.make (tuple (tys_of_exprs es)) s Tuple es) e p
 
--- the number is that of no part
-abbrev IsLacking : Span → TypedExpr → Option ℕ → SourceError → Type 0
-IsLacking o a n e = ((m : ℕ) → n ≡ Some m → part_ty (ty_of a) m ≡ None) × (e ≡ unknown_name o)
+abbrev refused_by : SourceError → Typed
+refused_by e = Err e
 
-lacking : (o : Span) (a : TypedExpr) (n : ℕ) (e : SourceError) → part_ty (ty_of a) n ≡ None → e ≡ unknown_name o → IsLacking o a (Some n) e
-lacking o a n e q p = (λ m is. let same : n ≡ m = cc in subst (λ k. part_ty (ty_of a) k ≡ None) same q, p)
+-- nothing is found
+abbrev IsLacking : Span → Option (ℕ × Ty) → SourceError → Type 0
+IsLacking o p e = (p ≡ None) × (e ≡ unknown_name o)
 
-part_stops : (t : Option Ty) (s o : Span) (a : TypedExpr) (n : ℕ) (u : Option Ty) (e : SourceError) → part_ty (ty_of a) n ≡ u → part_of_ty t s o a n u ≡ Err e → IsMismatch e ⊎ IsLacking o a (Some n) e
-part_stops t s o a n None e q p = let r : unknown_name o ≡ e = cc in inr (lacking o a n e q (sym r))
-part_stops t s o a n (Some u) e q p = inl (fit_stops t s (tree.part u s a n) e p)
+nothing_found : (b : Bool) (s o : Span) (e : SourceError) → (if b then refused_by (unbuilt s) else Err (unknown_name o)) ≡ Err e → IsUnbuilt e ⊎ IsLacking o None e
+nothing_found true s o e p = let q : unbuilt s ≡ e = cc in inl (s, sym q)
+nothing_found false s o e p = let q : unknown_name o ≡ e = cc in inr (refl, sym q)
 
-number_stops : (t : Option Ty) (s o : Span) (a : TypedExpr) (n : Option ℕ) (e : SourceError) → part_at t s o a n ≡ Err e → IsMismatch e ⊎ IsLacking o a n e
-number_stops t s o a None e p = let r : unknown_name o ≡ e = cc in inr (λ m is. absurd (cc), sym r)
-number_stops t s o a (Some n) e p = part_stops t s o a n (part_ty (ty_of a) n) e refl p
+found_stops : (b : Bool) (s : Span) (m : Typed) (e : SourceError) → (m ≡ Err e → IsMismatch e) → (if b then m else Err (unbuilt s)) ≡ Err e → IsMismatch e ⊎ IsUnbuilt e
+found_stops true s m e h p = inl (h p)
+found_stops false s m e h p = let q : unbuilt s ≡ e = cc in inr (s, sym q)
 
-parted_stops : (σ : Setting) (Γ : List Variable) (a : Expr) (t : Option Ty) (s : Span) (k : Number) (v : TypedExpr) (e : SourceError) → typed σ Γ a None ≡ Ok v → parted t s k v ≡ Err e → IsMismatch e ⊎ IsNoPart σ Γ a k e
+part_stops : (ds : List AdtDecl) (t : Option Ty) (s o : Span) (a : TypedExpr) (p : Option (ℕ × Ty)) (e : SourceError) → part_by ds t s o a p ≡ Err e → (IsMismatch e ⊎ IsUnbuilt e) ⊎ IsLacking o p e
+part_stops ds t s o a None e q = elim (nothing_found (is_boxed (ty_of a)) s o e q) as (λ _. (IsMismatch e ⊎ IsUnbuilt e) ⊎ IsLacking o None e) [ inl u ↦ inl (inr u) | inr l ↦ inr l ]
+part_stops ds t s o a (Some p) e q = inl (found_stops (is_built ds p.1) s (fit t s (tree.part p.1 s a p.0)) e (fit_stops t s (tree.part p.1 s a p.0) e) q)
+
+parted_stops : (σ : Setting) (Γ : List Variable) (a : Expr) (t : Option Ty) (s : Span) (k : Number) (v : TypedExpr) (e : SourceError) → typed σ Γ a None ≡ Ok v → parted σ.types t s k v ≡ Err e → (IsMismatch e ⊎ IsUnbuilt e) ⊎ IsNoPart σ Γ a k e
 unfolding parted
 parted_stops σ Γ a t s k v e is p =
-    elim (number_stops t s k.span v (part_number k) e p) as (λ _. IsMismatch e ⊎ IsNoPart σ Γ a k e) [ inl m ↦ inl m | inr l ↦ inr (v, is, l.0, l.1) ]
+    elim (part_stops σ.types t s k.span v (part_if σ.types (ty_of v) (part_number k)) e p) as (λ _. (IsMismatch e ⊎ IsUnbuilt e) ⊎ IsNoPart σ Γ a k e) [ inl m ↦ inl m | inr l ↦ inr (v, is, l.0, l.1) ]
+
+selected_stops : (σ : Setting) (Γ : List Variable) (a : Expr) (t : Option Ty) (s : Span) (x : Segment) (v : TypedExpr) (e : SourceError) → typed σ Γ a None ≡ Ok v → selected σ.types t s x v ≡ Err e → (IsMismatch e ⊎ IsUnbuilt e) ⊎ IsNoField σ Γ a x e
+unfolding selected
+selected_stops σ Γ a t s x v e is p =
+    elim (part_stops σ.types t s x.span v (field_of σ.types x.name (ty_of v)) e p) as (λ _. (IsMismatch e ⊎ IsUnbuilt e) ⊎ IsNoField σ Γ a x e) [ inl m ↦ inl m | inr l ↦ inr (v, is, l.0, l.1) ]
+
+literal_stops_of : (t : Option Ty) (s : Span) (m : Maker) (es : TypedExprs) (e : SourceError) → literal_made t s m es ≡ Err e → IsMismatch e
+unfolding literal_made
+literal_stops_of t s m es e p = fit_stops t s (tree.make (adt m.number [] m.arguments) s (Variant m.number 0) es) e p
 
 not_built : {A : Type 0} (s : Span) (e : SourceError) → ◌≡◌ {A = Result A SourceError} (Err (unbuilt s)) (Err e) → IsUnbuilt e
 not_built s e p = let q : unbuilt s ≡ e = cc in (s, sym q)
@@ -219,29 +234,14 @@ not_built s e p = let q : unbuilt s ≡ e = cc in (s, sym q)
 no_type : {A : Type 0} (a : A) (e : SourceError) → yes a ≡ Err e → ⊥
 no_type a e p = cc
 
-type_or_stops : (s : Span) (o : Option Ty) (e : SourceError) → type_or s o ≡ Err e → IsUnbuilt e
-type_or_stops s None e p = not_built {A = Ty} s e p
-type_or_stops s (Some t) e p = absurd (no_type t e p)
+-- a `let` without a pattern that is refused is refused for its type
+abbrev IsType : List AdtDecl → Option W.TypeTree → SourceError → Type 0
+IsType ds w e = (v : W.TypeTree) × (w ≡ Some v) × (written_type ds v ≡ Err e)
 
-mutual
-  type_stops : (w : W.TypeTree) (e : SourceError) → written_type w ≡ Err e → IsUnbuilt e
-  type_stops (W.named s x W.no_arguments) e p = type_or_stops s (named_type x.name) e p
-  type_stops (W.tuple s ws) e p =
-      elim (stop (written_types ws) _ e p) as (λ _. IsUnbuilt e) [ inl q ↦ types_stop ws e q | inr ts ↦ absurd (no_type (tuple ts.0) e ts.2) ]
-  type_stops w e p = not_built {A = Ty} _ e p
-
-  types_stop : (ws : W.Types) (e : SourceError) → written_types ws ≡ Err e → IsUnbuilt e
-  types_stop W.none e p = absurd (cc)
-  types_stop (W.more w ws) e p =
-      elim (stop (written_type w) _ e p) as (λ _. IsUnbuilt e) [
-        | inl q ↦ type_stops w e q
-        | inr t ↦ elim (stop (written_types ws) _ e t.2) as (λ _. IsUnbuilt e) [ inl q ↦ types_stop ws e q | inr ts ↦ absurd (no_type (and_ty t.0 ts.0) e ts.2) ]
-      ]
-
-some_type_stops : (w : Option W.TypeTree) (e : SourceError) → written_or_none w ≡ Err e → IsUnbuilt e
-some_type_stops None e p = absurd (cc)
-some_type_stops (Some w) e p =
-    elim (stop (written_type w) _ e p) as (λ _. IsUnbuilt e) [ inl q ↦ type_stops w e q | inr t ↦ absurd (no_type (Some t.0) e t.2) ]
+some_type_stops : (ds : List AdtDecl) (w : Option W.TypeTree) (e : SourceError) → written_or_none ds w ≡ Err e → IsType ds w e
+some_type_stops ds None e p = absurd (cc)
+some_type_stops ds (Some w) e p =
+    elim (stop (written_type ds w) _ e p) as (λ _. IsType ds (Some w) e) [ inl q ↦ (w, refl, q) | inr t ↦ absurd (no_type (Some t.0) e t.2) ]
 
 name_stops : (s : Span) (o : Option Segment) (e : SourceError) → name_or s o ≡ Err e → IsUnbuilt e
 name_stops s None e p = not_built {A = Declared} s e p
@@ -253,18 +253,18 @@ pattern_stops (P.mutable s x) e p = absurd (cc)
 pattern_stops (P.path s w) e p = name_stops s (name_alone w.node) e p
 pattern_stops w e p = not_built {A = Declared} _ e p
 
-step_stops : (k : StmtKind) (e : SourceError) → step_of k ≡ Err e → IsUnbuilt e
+step_stops : (σ : Setting) (k : StmtKind) (e : SourceError) → step_of σ.types k ≡ Err e → IsUnbuilt e ⊎ IsNoType σ k e
 unfolding step_of
-step_stops (kind.Let w t) e p =
-    elim (stop (declared_by w) _ e p) as (λ _. IsUnbuilt e) [
-      | inl q ↦ pattern_stops w e q
-      | inr x ↦ elim (stop (written_or_none t) _ e x.2) as (λ _. IsUnbuilt e) [
-        | inl q ↦ some_type_stops t e q
+step_stops σ (kind.Let w t) e p =
+    elim (stop (declared_by w) _ e p) as (λ _. IsUnbuilt e ⊎ IsNoType σ (kind.Let w t) e) [
+      | inl q ↦ inl (pattern_stops w e q)
+      | inr x ↦ elim (stop (written_or_none σ.types t) _ e x.2) as (λ _. IsUnbuilt e ⊎ IsNoType σ (kind.Let w t) e) [
+        | inl q ↦ inr (some_type_stops σ.types t e q)
         | inr u ↦ (let step : Step = record { declares = Some x.0; expected = u.0 } in absurd (no_type step e u.2))
       ]
     ]
-step_stops kind.Run e p = absurd (cc)
-step_stops kind.Blocklike e p = absurd (cc)
+step_stops σ kind.Run e p = absurd (cc)
+step_stops σ kind.Blocklike e p = absurd (cc)
 
 -- ---- loops
 
@@ -360,6 +360,19 @@ mutual
         | inl q ↦ inr (typed_stops σ Γ a None e q)
         | inr v ↦ inl (parted_stops σ Γ a t s k v.0 e v.1 v.2)
       ]
+  typed_stops σ Γ (E.field s a x []) t e p =
+      elim (stop (typed σ Γ a None) _ e p) as (λ _. Causes σ Γ (E.field s a x []) e) [
+        | inl q ↦ inr (typed_stops σ Γ a None e q)
+        | inr v ↦ inl (selected_stops σ Γ a t s x v.0 e v.1 v.2)
+      ]
+  typed_stops σ Γ (E.literal s w fs) t e p =
+      elim (stop (maker_of σ.types t s (name_alone w.node)) _ e p) as (λ _. Causes σ Γ (E.literal s w fs) e) [
+        | inl q ↦ inl (inr (t, q))
+        | inr m ↦ elim (stop (typed_fields σ Γ s m.0 m.0.fields fs) _ e m.2) as (λ _. Causes σ Γ (E.literal s w fs) e) [
+          | inl q ↦ inr (m.0, fields_stop σ Γ s m.0 m.0.fields fs e q)
+          | inr y ↦ inl (inl (literal_stops_of t s m.0 y.0 e y.2))
+        ]
+      ]
   typed_stops σ Γ (E.block s ss) t e p =
       elim (stop (typed_stmts σ Γ ss) _ e p) as (λ _. Causes σ Γ (E.block s ss) e) [
         | inl q ↦ inr (stmts_stop σ Γ ss e q)
@@ -438,8 +451,8 @@ mutual
   stmts_stop : (σ : Setting) (Γ : List Variable) (ss : E.Stmts) (e : SourceError) → typed_stmts σ Γ ss ≡ Err e → CausesInStmts σ Γ ss e
   stmts_stop σ Γ E.no_stmts e p = absurd (cc)
   stmts_stop σ Γ (E.with_stmt s k a ss) e p =
-      elim (stop (step_of k) _ e p) as (λ _. CausesInStmts σ Γ (E.with_stmt s k a ss) e) [
-        | inl q ↦ inl (step_stops k e q)
+      elim (stop (step_of σ.types k) _ e p) as (λ _. CausesInStmts σ Γ (E.with_stmt s k a ss) e) [
+        | inl q ↦ inl (step_stops σ k e q)
         | inr w ↦ elim (stop (typed σ Γ a w.0.expected) _ e w.2) as (λ _. CausesInStmts σ Γ (E.with_stmt s k a ss) e) [
           | inl q ↦ inr (inl (typed_stops σ Γ a w.0.expected e q))
           | inr x ↦ elim (stop (typed_stmts σ (declared Γ w.0.declares x.0) ss) _ e x.2) as (λ _. CausesInStmts σ Γ (E.with_stmt s k a ss) e) [
@@ -457,5 +470,19 @@ mutual
         | inr x ↦ elim (stop (typed_args σ Γ es (rest_of ts)) _ e x.2) as (λ _. CausesInArgs σ Γ (E.more a es) e) [
           | inl q ↦ inr (args_stop σ Γ es (rest_of ts) e q)
           | inr y ↦ absurd (no_args (tree.more x.0 y.0) e y.2)
+        ]
+      ]
+
+  fields_stop : (σ : Setting) (Γ : List Variable) (s : Span) (m : Maker) (left : List FieldDecl) (fs : E.FieldExprs) (e : SourceError) → typed_fields σ Γ s m left fs ≡ Err e → CausesInFields σ Γ s m left fs e
+  fields_stop σ Γ s m left E.no_fields e p = p
+  fields_stop σ Γ s m left (E.with_field w x a fs) e p =
+      elim (stop (next_field σ.types m left x) _ e p) as (λ _. CausesInFields σ Γ s m left (E.with_field w x a fs) e) [
+        | inl q ↦ inl q
+        | inr u ↦ elim (stop (typed σ Γ a (Some u.0)) _ e u.2) as (λ _. CausesInFields σ Γ s m left (E.with_field w x a fs) e) [
+          | inl q ↦ inr (inl (typed_stops σ Γ a (Some u.0) e q))
+          | inr v ↦ elim (stop (typed_fields σ Γ s m (fields_behind left) fs) _ e v.2) as (λ _. CausesInFields σ Γ s m left (E.with_field w x a fs) e) [
+            | inl q ↦ inr (inr (fields_stop σ Γ s m (fields_behind left) fs e q))
+            | inr y ↦ absurd (no_args (tree.more v.0 y.0) e y.2)
+          ]
         ]
       ]

@@ -99,7 +99,7 @@ by_step σ Γ e ss (Ok p) = by_value σ Γ p ss (typed σ Γ e p.expected)
 by_step σ Γ e ss (Err f) = refl
 
 step : (σ : Setting) (Γ : List Variable) (s : Stmt) (ss : Stmts) → typed_stmts σ Γ (with_stmt s.span s.kind s.value ss) ≡ (typed_statement σ Γ s >>= then_rest σ ss)
-step σ Γ s ss = by_step σ Γ s.value ss (step_of s.kind)
+step σ Γ s ss = by_step σ Γ s.value ss (step_of σ.types s.kind)
 
 stmts_at : (ss : List Stmt) (i : ℕ) (s : Stmt) → s ≡ get_or ss i s → i < length ss → stmts_of (drop i ss) ≡ with_stmt s.span s.kind s.value (stmts_of (drop (suc i) ss))
 stmts_at ss i s q h = rw (drop-cons ss i s h) (ap (λ (x : Stmt). with_stmt x.span x.kind x.value (stmts_of (drop (suc i) ss))) (sym q))
@@ -150,7 +150,7 @@ grown_as Γ o s r g q = (g.0, ap (λ (o : Opened). o.scope) (sym q) ∙ g.1)
 grown : (σ : Setting) (Γ : List Variable) (ss : Stmts) (o : Opened) → typed_stmts σ Γ ss ≡ Ok o → Grown Γ o.scope
 grown σ Γ no_stmts o p = ([], ap (λ (o : Opened). o.scope) (sym (same_ok _ _ p)) ∙ sym (append-nil Γ))
 grown σ Γ (with_stmt s k e ss) o p =
-    let w = bound (step_of k) _ o p in
+    let w = bound (step_of σ.types k) _ o p in
     let a = bound (typed σ Γ e w.0.expected) _ o w.2 in
     let r = bound (typed_stmts σ (declared Γ w.0.declares a.0) ss) _ o a.2 in
     grown_as Γ r.0 (typed_stmt w.0 a.0) o (grown_by Γ r.0.scope w.0.declares a.0 (grown σ (declared Γ w.0.declares a.0) ss r.0 r.1)) (same_ok _ _ r.2)

@@ -1,12 +1,13 @@
 -- Only a name alone gives a variable, and only parts of it give parts of one.
-use Rattle.std.proofs.Common.{◌≡◌, Bool, true, false, List, [], Option, Some, None, Ok, refl, sym, subst}
+use Rattle.std.proofs.Common.{◌≡◌, Bool, true, false, List, [], Option, Some, None, Ok, Err, refl, sym, subst}
 use Rattle.std.specs.Prelude.{ℕ, ℤ, slice_get, if◌then◌else◌}
 use Rattle.text_core.specs.declared.span.Span.{Span}
 use Rattle.source_kinds.specs.declared.kinds.BinaryOp.{BinaryOp}
 use Rattle.source_kinds.specs.declared.kinds.IntKind.{IntKind}
 use Rattle.source_kinds.specs.Range.{fits}
-use Rattle.logic_term.specs.declared.kinds.Ctor.TheVariants.{Tuple}
-use Rattle.logic_term.specs.Ty.{Ty, int, bool, tuple}
+use Rattle.logic_term.specs.declared.declaration.AdtDecl.{AdtDecl}
+use Rattle.logic_term.specs.declared.kinds.Ctor.TheVariants.{Tuple, Variant}
+use Rattle.logic_term.specs.Ty.{Ty, int, bool, tuple, adt}
 use Rattle.source_trees.specs.declared.operator.UnaryOp.TheVariants.{Neg, Not}
 use Rattle.source_trees.specs.declared.path.Segment.{Segment}
 use Rattle.source_trees.specs.Expr as E
@@ -16,21 +17,21 @@ use Rattle.type_check.specs.declared.assertion.Assertion.{Assertion}
 use Rattle.type_check.specs.declared.operands.Operands.{Operands}
 use Rattle.type_check.specs.declared.scope.Found.{Found}
 use Rattle.type_check.specs.declared.scope.Variable.{Variable}
-use Rattle.type_check.specs.Answers.{mismatch, gather}
+use Rattle.type_check.specs.Answers.{mismatch, unbuilt, unknown_name, gather}
 use Rattle.type_check.specs.Scope.{found}
 use Rattle.type_check.specs.Breaks.{breaks}
 use Rattle.type_check.specs.Setting.{Setting, looping, outside}
 use Rattle.type_check.specs.TypedExpr.{TypedExpr, TypedStmts, TypedExprs}
 use Rattle.type_check.specs.TypedExpr as tree
 use Rattle.type_check.specs.TypedExprView.{ty_of, stmts_of}
-use Rattle.type_check.specs.Types.{same_ty, is_signed_ty}
+use Rattle.type_check.specs.Types.{same_ty, is_signed_ty, is_built}
 use Rattle.type_check.specs.Typing.{fit, literal_kind, literal_of, literal, variable_of, variable, named, negated, is_bare, order_of, operands, operation, operated, is_mutable, may_write, assigned, is_updated, updated}
-use Rattle.type_check.specs.Typing.{callee_of, called, asked, block_ty, without_last, closed, given, choice_ty, cause_of, nothing, returned, endless, invariant_of, parts_of, tupled, part_number, part_of_ty, part_at, parted, typed, typed_stmts, typed_args}
+use Rattle.type_check.specs.Typing.{callee_of, called, asked, block_ty, without_last, closed, given, choice_ty, cause_of, nothing, returned, endless, invariant_of, parts_of, tupled, is_boxed, part_number, part_if, field_of, part_by, parted, selected, maker_of, literal_made, typed, typed_stmts, typed_args, typed_fields}
 use Rattle.type_check.specs.Causes.{root_name}
-use Rattle.type_check.specs.WellTyped.{unit, is_arithmetic, operation_ty, part_ty, tys_of_exprs}
+use Rattle.type_check.specs.WellTyped.{unit, is_arithmetic, operation_ty, tys_of_exprs}
 use Rattle.type_check.specs.Written.{as_name, name_alone}
 use Rattle.type_check.proofs.Bound.{bound, held, yes, same_ok}
-use Rattle.type_check.proofs.Fits.{fit_same, written_fits}
+use Rattle.type_check.proofs.Fits.{fit_same, no_part, written_fits}
 
 -- a variable is that of the name
 abbrev pub IsNamed : List Variable → Option Segment → TypedExpr → Type 0
@@ -74,17 +75,13 @@ endless_named : (Γ : List Variable) (t : Option Ty) (s : Span) (is : List Asser
 unfolding endless
 endless_named Γ t s is b r p = endless_at Γ (breaks b) t s is b r p
 
-part_named : (Γ : List Variable) (x : Option Segment) (t : Option Ty) (s o : Span) (a : TypedExpr) (n : ℕ) (u : Option Ty) (r : TypedExpr) → IsNamed Γ x a → part_of_ty t s o a n u ≡ Ok r → IsNamed Γ x r
-part_named Γ x t s o a n None r h p = absurd (cc)
-part_named Γ x t s o a n (Some u) r h p = fit_named Γ x t s (tree.part u s a n) r h p
-
-number_named : (Γ : List Variable) (x : Option Segment) (t : Option Ty) (s o : Span) (a : TypedExpr) (n : Option ℕ) (r : TypedExpr) → IsNamed Γ x a → part_at t s o a n ≡ Ok r → IsNamed Γ x r
-number_named Γ x t s o a None r h p = absurd (cc)
-number_named Γ x t s o a (Some n) r h p = part_named Γ x t s o a n (part_ty (ty_of a) n) r h p
+part_named : (ds : List AdtDecl) (Γ : List Variable) (x : Option Segment) (t : Option Ty) (s o : Span) (a : TypedExpr) (p : Option (ℕ × Ty)) (r : TypedExpr) → IsNamed Γ x a → part_by ds t s o a p ≡ Ok r → IsNamed Γ x r
+part_named ds Γ x t s o a None r h q = absurd (no_part (is_boxed (ty_of a)) (unbuilt s) (unknown_name o) r q)
+part_named ds Γ x t s o a (Some p) r h q = fit_named Γ x t s (tree.part p.1 s a p.0) r h (held (is_built ds p.1) (fit t s (tree.part p.1 s a p.0)) (unbuilt s) r q).1
 
 -- what an expression gives is a variable, or a part of one, only where a name is at its root
 pub typed_named : (σ : Setting) (Γ : List Variable) (e : Expr) (t : Option Ty) (r : TypedExpr) → typed σ Γ e t ≡ Ok r → IsNamed Γ (root_name e) r
-unfolding as_name literal negated operated assigned updated called closed tupled parted
+unfolding as_name literal negated operated assigned updated called closed tupled parted selected literal_made
 typed_named σ Γ (E.integer s z k) t r p = literal_at Γ t s z (literal_kind k t) r p
 typed_named σ Γ (E.truth s b) t r p = fit_named Γ None t s (tree.truth bool s b) r tt p
 typed_named σ Γ (E.path s w) t r p = path_named Γ t s (name_alone w.node) r p
@@ -119,7 +116,14 @@ typed_named σ Γ (E.tuple s es) t r p =
     fit_named Γ None t s (tree.make (tuple (tys_of_exprs as'.0)) s Tuple as'.0) r tt as'.2
 typed_named σ Γ (E.part s e k) t r p =
     let a = bound (typed σ Γ e None) _ r p in
-    number_named Γ (root_name e) t s k.span a.0 (part_number k) r (typed_named σ Γ e None a.0 a.1) a.2
+    part_named σ.types Γ (root_name e) t s k.span a.0 (part_if σ.types (ty_of a.0) (part_number k)) r (typed_named σ Γ e None a.0 a.1) a.2
+typed_named σ Γ (E.field s e x []) t r p =
+    let a = bound (typed σ Γ e None) _ r p in
+    part_named σ.types Γ (root_name e) t s x.span a.0 (field_of σ.types x.name (ty_of a.0)) r (typed_named σ Γ e None a.0 a.1) a.2
+typed_named σ Γ (E.literal s w fs) t r p =
+    let m = bound (maker_of σ.types t s (name_alone w.node)) _ r p in
+    let as' = bound (typed_fields σ Γ s m.0 m.0.fields fs) _ r m.2 in
+    fit_named Γ None t s (tree.make (adt m.0.number [] m.0.arguments) s (Variant m.0.number 0) as'.0) r tt as'.2
 typed_named σ Γ (E.block s ss) t r p =
     let o = bound (typed_stmts σ Γ ss) _ r p in
     fit_named Γ None t s (tree.block (block_ty t (without_last o.0.stmts)) s (without_last o.0.stmts)) r tt o.2

@@ -1,13 +1,17 @@
 -- Why program code is refused: E05 at a name that means nothing there, E22 at the name of a variable that is written and is not `mut`, a type
 -- that is not the one wanted, or a form that is not built.
-use Rattle.std.specs.Prelude.{◌≡◌, ◌⊎◌, ℕ, false, List, Option, Some, None, Ok, Err, slice_get}
+use Rattle.std.specs.Prelude.{◌≡◌, ◌⊎◌, false, List, [], Option, Some, None, Ok, Err, slice_get}
 use Rattle.text_core.specs.declared.name.Name.{Name}
 use Rattle.text_core.specs.declared.refusal.SourceError.{SourceError}
 use Rattle.text_core.specs.declared.span.Span.{Span}
+use Rattle.logic_term.specs.declared.declaration.FieldDecl.{FieldDecl}
 use Rattle.logic_term.specs.Ty.{Ty}
 use Rattle.source_trees.specs.declared.operator.UnaryOp.TheVariants.{Neg, Not}
 use Rattle.source_trees.specs.declared.path.Number.{Number}
 use Rattle.source_trees.specs.declared.path.Segment.{Segment}
+use Rattle.source_trees.specs.declared.statement.StmtKind.{StmtKind}
+use Rattle.source_trees.specs.declared.statement.StmtKind.TheVariants.{Let}
+use Rattle.source_trees.specs.TypeTree.{TypeTree}
 use Rattle.source_trees.specs.Expr as E
 use Rattle.source_trees.specs.Expr.{Expr}
 use Rattle.source_trees.specs.ExprView.{span_of}
@@ -21,9 +25,8 @@ use Rattle.type_check.specs.Scope.{found}
 use Rattle.type_check.specs.Setting.{Setting, looping, outside}
 use Rattle.type_check.specs.TypedExpr.{TypedExpr}
 use Rattle.type_check.specs.TypedExprView.{ty_of}
-use Rattle.type_check.specs.Typing.{Opened, declared, is_mutable, part_number, typed, typed_stmts}
-use Rattle.type_check.specs.WellTyped.{part_ty}
-use Rattle.type_check.specs.Written.{as_name, name_alone, step_of}
+use Rattle.type_check.specs.Typing.{Opened, declared, is_mutable, part_number, part_if, field_of, Maker, maker_of, next_field, fields_behind, no_field_left, typed, typed_stmts}
+use Rattle.type_check.specs.Written.{as_name, name_alone, step_of, written_type}
 
 abbrev pub IsMismatch : SourceError → Type 0
 IsMismatch e = (s : Span) × (e ≡ mismatch s)
@@ -47,6 +50,7 @@ IsNotRead Γ s (Some x) e = IsUnknown Γ x.name s e
 -- the name at the root of the parts
 abbrev pub root_name : Expr → Option Segment
 root_name (E.part s e k) = root_name e
+root_name (E.field s e x []) = root_name e
 root_name e = as_name e
 
 -- the left side of an assignment is the name of such a variable, or a part of it
@@ -64,7 +68,24 @@ IsInNoLoop σ s e = (σ.in_loop ≡ false) × (e ≡ mismatch s)
 
 -- the value has no part of the number
 abbrev pub IsNoPart : Setting → List Variable → Expr → Number → SourceError → Type 0
-IsNoPart σ Γ a k e = (v : TypedExpr) × (typed σ Γ a None ≡ Ok v) × ((n : ℕ) → part_number k ≡ Some n → part_ty (ty_of v) n ≡ None) × (e ≡ unknown_name k.span)
+IsNoPart σ Γ a k e = (v : TypedExpr) × (typed σ Γ a None ≡ Ok v) × (part_if σ.types (ty_of v) (part_number k) ≡ None) × (e ≡ unknown_name k.span)
+
+-- the value has no field of the name
+abbrev pub IsNoField : Setting → List Variable → Expr → Segment → SourceError → Type 0
+IsNoField σ Γ a x e = (v : TypedExpr) × (typed σ Γ a None ≡ Ok v) × (field_of σ.types x.name (ty_of v) ≡ None) × (e ≡ unknown_name x.span)
+
+-- a literal makes no such struct, or its type arguments are not found
+abbrev pub IsNotMade : Setting → Option Ty → Span → Option Segment → SourceError → Type 0
+IsNotMade σ t s o e = maker_of σ.types t s o ≡ Err e
+
+-- the type that a `let` has
+abbrev pub written_in : StmtKind → Option TypeTree
+written_in (Let p w) = w
+written_in _ = None
+
+-- it is refused
+abbrev pub IsNoType : Setting → StmtKind → SourceError → Type 0
+IsNoType σ k e = (w : TypeTree) × (written_in k ≡ Some w) × (written_type σ.types w ≡ Err e)
 
 -- the refusal has its cause at the expression or at a part of it, in the scope of that part
 abbrev mutual
@@ -81,7 +102,9 @@ abbrev mutual
   Causes σ Γ (E.call s f es) e = (IsMismatch e ⊎ IsNotCalled σ.headings Γ s (as_name f) e) ⊎ CausesInArgs σ Γ es e
   Causes σ Γ (E.tuple s es) e = IsMismatch e ⊎ CausesInArgs σ Γ es e
   -- the number is that of no part
-  Causes σ Γ (E.part s a k) e = (IsMismatch e ⊎ IsNoPart σ Γ a k e) ⊎ Causes σ Γ a e
+  Causes σ Γ (E.part s a k) e = ((IsMismatch e ⊎ IsUnbuilt e) ⊎ IsNoPart σ Γ a k e) ⊎ Causes σ Γ a e
+  Causes σ Γ (E.field s a x []) e = ((IsMismatch e ⊎ IsUnbuilt e) ⊎ IsNoField σ Γ a x e) ⊎ Causes σ Γ a e
+  Causes σ Γ (E.literal s p fs) e = (IsMismatch e ⊎ ((t : Option Ty) × IsNotMade σ t s (name_alone p.node) e)) ⊎ ((m : Maker) × CausesInFields σ Γ s m m.fields fs e)
   Causes σ Γ (E.block s ss) e = IsMismatch e ⊎ CausesInStmts σ Γ ss e
   Causes σ Γ (E.block_with s ss a) e = IsMismatch e ⊎ (CausesInStmts σ Γ ss e ⊎ ((o : Opened) × (typed_stmts σ Γ ss ≡ Ok o) × Causes σ o.scope a e))
   Causes σ Γ (E.branch s None c a) e = IsMismatch e ⊎ (Causes σ Γ c e ⊎ Causes σ Γ a e)
@@ -103,13 +126,18 @@ abbrev mutual
 
   pub CausesInStmts : Setting → List Variable → E.Stmts → SourceError → Type 0
   CausesInStmts σ Γ E.no_stmts e = ⊥
-  -- the pattern or the type of a `let` is not built, or the value is refused, or what stands behind it
+  -- the pattern of a `let` is not built, or its type is refused, or the value is refused, or what stands behind it
   CausesInStmts σ Γ (E.with_stmt s k a ss) e =
-      IsUnbuilt e ⊎ (Causes σ Γ a e ⊎ ((p : Step) × (v : TypedExpr) × (step_of k ≡ Ok p) × (typed σ Γ a p.expected ≡ Ok v) × CausesInStmts σ (declared Γ p.declares v) ss e))
+      (IsUnbuilt e ⊎ IsNoType σ k e) ⊎ (Causes σ Γ a e ⊎ ((p : Step) × (v : TypedExpr) × (step_of σ.types k ≡ Ok p) × (typed σ Γ a p.expected ≡ Ok v) × CausesInStmts σ (declared Γ p.declares v) ss e))
 
   pub CausesInArgs : Setting → List Variable → E.Exprs → SourceError → Type 0
   CausesInArgs σ Γ E.none e = ⊥
   CausesInArgs σ Γ (E.more a es) e = Causes σ Γ a e ⊎ CausesInArgs σ Γ es e
+
+  -- a field is missing at the end, or a name is not that of the next field, or a value is refused
+  pub CausesInFields : Setting → List Variable → Span → Maker → List FieldDecl → E.FieldExprs → SourceError → Type 0
+  CausesInFields σ Γ s m left E.no_fields e = no_field_left s left ≡ Err e
+  CausesInFields σ Γ s m left (E.with_field r x a fs) e = (next_field σ.types m left x ≡ Err e) ⊎ (Causes σ Γ a e ⊎ CausesInFields σ Γ s m (fields_behind left) fs e)
 
 -- a refusal of program code has a cause
 abbrev pub RefusalsHaveCauses : Type 0

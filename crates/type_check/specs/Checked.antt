@@ -1,9 +1,10 @@
--- What a source comes to whose declarations are in order: passes that each go over all items before the next begins. The functions that items
+-- What a source that declares these types comes to, whose declarations are in order: passes that each go over all items before the next begins. The functions that items
 -- declare, then the bodies and contracts of functions, then the formulas of clauses and invariants (Rust Reference, "Items", "Functions",
 -- "Attributes"; Creusot, "Contracts").
 use Rattle.std.specs.Prelude.{◌≡◌, false, List, [], ◌∷◌, map, Option, Some, None, Result, Ok, Err}
 use Rattle.text_core.specs.declared.refusal.SourceError.{SourceError}
 use Rattle.text_core.specs.declared.span.Span.{Span}
+use Rattle.logic_term.specs.declared.declaration.AdtDecl.{AdtDecl}
 use Rattle.logic_term.specs.Ty.{Ty}
 use Rattle.source_trees.specs.declared.attribute.Attribute.{Attribute}
 use Rattle.source_trees.specs.declared.attribute.AttributeNode.{AttributeNode}
@@ -46,11 +47,11 @@ abbrev pub signature_by : List Variable → Ty → Signature
 signature_by Γ t = record { params = map type_of Γ; answer = t }
 
 -- without type parameters and without conditions
-unfoldable pub heading_of : Function → Result Heading SourceError
-heading_of f = do
+unfoldable pub heading_of : List AdtDecl → Function → Result Heading SourceError
+heading_of ds f = do
   none ← absent f.generics_span
-  Γ ← each param_of f.params
-  t ← answer_ty f.answer
+  Γ ← each (param_of ds) f.params
+  t ← answer_ty ds f.answer
   none ← absent f.conditions_span
   Ok (record { name = f.name.name; signature = signature_by Γ t })
 
@@ -64,18 +65,18 @@ skipped [] = Ok tt
 skipped (a ∷ as') = skipped_by a.span a.node (skipped as')
 
 -- a `use` line declares nothing, and a declared type no function; traits and impls are not built
-abbrev pub declares_by : Span → List Attribute → ItemNode → Result (Option Heading) SourceError
-declares_by own as' (item.Function f) = do
-  h ← heading_of f
+abbrev pub declares_by : List AdtDecl → Span → List Attribute → ItemNode → Result (Option Heading) SourceError
+declares_by ds own as' (item.Function f) = do
+  h ← heading_of ds f
   Ok (Some h)
-declares_by own as' (item.Struct s) = Ok None
-declares_by own as' (item.Enum e) = Ok None
-declares_by own as' item.Use = skipped as' >>= λ nothing. Ok None
-declares_by own as' item.ExternCrate = skipped as' >>= λ nothing. Ok None
-declares_by own as' _ = skipped as' >>= λ nothing. Err (unbuilt own)
+declares_by ds own as' (item.Struct s) = Ok None
+declares_by ds own as' (item.Enum e) = Ok None
+declares_by ds own as' item.Use = skipped as' >>= λ nothing. Ok None
+declares_by ds own as' item.ExternCrate = skipped as' >>= λ nothing. Ok None
+declares_by ds own as' _ = skipped as' >>= λ nothing. Err (unbuilt own)
 
-unfoldable pub declares : Item → Result (Option Heading) SourceError
-declares i = declares_by i.own i.attributes i.node
+unfoldable pub declares : List AdtDecl → Item → Result (Option Heading) SourceError
+declares ds i = declares_by ds i.own i.attributes i.node
 
 -- ---- contracts
 
@@ -120,22 +121,22 @@ abbrev pub typed_body : Setting → List Variable → Option Ty → Span → Bod
 typed_body σ Γ t own (body.Block e) = typed σ Γ e t
 typed_body σ Γ t own _ = Err (unbuilt own)
 
-unfoldable pub typed_function : List Heading → Span → List Attribute → Function → Result TypedFunction SourceError
-typed_function σ own as' f = do
-  Γ ← each param_of f.params
-  t ← answer_ty f.answer
+unfoldable pub typed_function : List AdtDecl → List Heading → Span → List Attribute → Function → Result TypedFunction SourceError
+typed_function ds σ own as' f = do
+  Γ ← each (param_of ds) f.params
+  t ← answer_ty ds f.answer
   cs ← gather (clause_of (Some t) Γ) as'
-  e ← typed_body (record { headings = σ; answer = t; in_loop = false }) Γ (Some t) own f.body
+  e ← typed_body (record { types = ds; headings = σ; answer = t; in_loop = false }) Γ (Some t) own f.body
   Ok (record { name = f.name.name; span = f.name.span; signature = signature_by Γ t; types_at = types_at f; clauses = cs; body = e })
 
-abbrev pub typed_by : List Heading → Span → List Attribute → ItemNode → Result (Option TypedFunction) SourceError
-typed_by σ own as' (item.Function f) = do
-  g ← typed_function σ own as' f
+abbrev pub typed_by : List AdtDecl → List Heading → Span → List Attribute → ItemNode → Result (Option TypedFunction) SourceError
+typed_by ds σ own as' (item.Function f) = do
+  g ← typed_function ds σ own as' f
   Ok (Some g)
-typed_by σ own as' _ = Ok None
+typed_by ds σ own as' _ = Ok None
 
-abbrev pub typed_item : List Heading → Item → Result (Option TypedFunction) SourceError
-typed_item σ i = typed_by σ i.own i.attributes i.node
+abbrev pub typed_item : List AdtDecl → List Heading → Item → Result (Option TypedFunction) SourceError
+typed_item ds σ i = typed_by ds σ i.own i.attributes i.node
 
 -- ---- the whole
 
@@ -147,11 +148,11 @@ abbrev pub program_of : List TypedFunction → Result TypedProgram SourceError
 program_of gs = unless (first_bad gs) (Ok (record { functions = gs }))
 
 -- the functions of items that declare these
-abbrev pub typed_items : List Item → List Heading → Result (List TypedFunction) SourceError
-typed_items is σ = gather (typed_item σ) is
+abbrev pub typed_items : List AdtDecl → List Item → List Heading → Result (List TypedFunction) SourceError
+typed_items ds is σ = gather (typed_item ds σ) is
 
-unfoldable pub checked : List Item → Result TypedProgram SourceError
-checked is = gather declares is >>= typed_items is >>= program_of
+unfoldable pub checked : List AdtDecl → List Item → Result TypedProgram SourceError
+checked ds is = gather (declares ds) is >>= typed_items ds is >>= program_of
 
 -- no clause and no invariant is refused
 abbrev pub AllGood : TypedProgram → Type 0

@@ -202,10 +202,6 @@ abbrev pub signature_checks : Scope → Option TypeTree → List Name → Elisio
 signature_checks Γ answer seen m [] = answer_checks Γ m answer
 signature_checks Γ answer seen m (p ∷ ps) = (param_checks Γ seen m p).0 ++ signature_checks Γ answer (seen ++ with_some (param_name p.node) []) (param_checks Γ seen m p).1 ps
 
--- no lifetime and no type parameter of a function is built
-abbrev pub function_scope : List AdtDecl → Scope
-function_scope hs = record { declared = hs; lifetimes = []; parameters = []; self_ty = None; has_int = false }
-
 abbrev pub function_checks : List AdtDecl → Function → List Check
 function_checks hs f =
     check.Plain (standing f.generics_span) ∷ signature_checks (function_scope hs) f.answer [] (elision.Numbered 0) f.params ++ check.Plain (standing f.conditions_span) ∷ []

@@ -1,5 +1,6 @@
 -- What holds of every source.
 use Rattle.std.specs.Prelude.{◌≡◌, List, Ok}
+use Rattle.logic_term.specs.declared.declaration.AdtDecl.{AdtDecl}
 use Rattle.source_trees.specs.declared.item.Item.{Item}
 use Rattle.type_check.specs.declared.program.TypedProgram.{TypedProgram}
 use Rattle.type_check.specs.Checked.{AllGood, checked}
@@ -7,8 +8,8 @@ use Rattle.type_check.specs.WellTyped.{ProgramFits}
 
 -- the program that a source comes to fits
 abbrev pub CheckedProgramsFit : Type 0
-CheckedProgramsFit = (is : List Item) (p : TypedProgram) → checked is ≡ Ok p → ProgramFits p
+CheckedProgramsFit = (ds : List AdtDecl) (is : List Item) (p : TypedProgram) → checked ds is ≡ Ok p → ProgramFits ds p
 
 -- and no formula of it is refused
 abbrev pub CheckedProgramsAreGood : Type 0
-CheckedProgramsAreGood = (is : List Item) (p : TypedProgram) → checked is ≡ Ok p → AllGood p
+CheckedProgramsAreGood = (ds : List AdtDecl) (is : List Item) (p : TypedProgram) → checked ds is ≡ Ok p → AllGood p

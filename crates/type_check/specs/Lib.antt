@@ -9,6 +9,7 @@ pub mod FirstBad
 pub mod Functions
 pub mod Laws
 pub mod Leaves
+pub mod Literals
 pub mod Plain
 pub mod Rules
 pub mod Scope

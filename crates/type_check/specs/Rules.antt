@@ -3,6 +3,8 @@
 -- refused refuses the whole. One equation stands for each form, and no equation looks into a part.
 use Rattle.std.specs.Prelude.{◌≡◌, List, [], Option, Some, None, Result, Ok, Err}
 use Rattle.text_core.specs.declared.refusal.SourceError.{SourceError}
+use Rattle.text_core.specs.declared.span.Span.{Span}
+use Rattle.logic_term.specs.declared.declaration.FieldDecl.{FieldDecl}
 use Rattle.logic_term.specs.Ty.{Ty, bool}
 use Rattle.source_trees.specs.declared.operator.UnaryOp.TheVariants.{Neg, Not}
 use Rattle.source_trees.specs.Expr as E
@@ -17,7 +19,7 @@ use Rattle.type_check.specs.Setting.{Setting, looping, outside}
 use Rattle.type_check.specs.TypedExpr.{TypedExpr, TypedExprs}
 use Rattle.type_check.specs.TypedExpr as tree
 use Rattle.type_check.specs.TypedExprView.{ty_of, stmts_of}
-use Rattle.type_check.specs.Typing.{Typed, fit, asked, literal, named, negated, is_bare, order_of, operands_of, operated, assigned, updated, callee_of, first_of, rest_of, called, parts_of, tupled, parted, Opened, opened, declared, behind, typed_stmt, without_last, closed, given, chosen, panicked, returned, bare_return, endless, in_a_loop, invariant_of, typed}
+use Rattle.type_check.specs.Typing.{Typed, fit, asked, literal, named, negated, is_bare, order_of, operands_of, operated, assigned, updated, callee_of, first_of, rest_of, called, parts_of, tupled, parted, selected, Maker, maker_of, next_field, fields_behind, no_field_left, literal_made, Opened, opened, declared, behind, typed_stmt, without_last, closed, given, chosen, panicked, returned, bare_return, endless, in_a_loop, invariant_of, typed}
 use Rattle.type_check.specs.WellTyped.{unit, is_arithmetic}
 use Rattle.type_check.specs.Written.{as_name, name_alone, step_of}
 
@@ -47,10 +49,15 @@ abbrev pub each_arg : Setting → List Variable → E.Exprs → List Ty → (Typ
 each_arg σ Γ E.none ts k = k tree.none
 each_arg σ Γ (E.more e es) ts k = part σ Γ e (first_of ts) λ a. each_arg σ Γ es (rest_of ts) λ as'. k (tree.more a as')
 
+-- each field of a literal at its type, these being left
+abbrev pub each_field : Setting → List Variable → Span → Maker → List FieldDecl → E.FieldExprs → (TypedExprs → Asks) → Asks
+each_field σ Γ s m left E.no_fields k = first (no_field_left s left) k
+each_field σ Γ s m left (E.with_field r x e fs) k = first (next_field σ.types m left x) λ u. part σ Γ e (Some u) λ a. each_field σ Γ s m (fields_behind left) fs λ as'. k (tree.more a as')
+
 -- each statement in the scope that those before it leave
 abbrev pub each_stmt : Setting → List Variable → E.Stmts → (Opened → Asks) → Asks
 each_stmt σ Γ E.no_stmts k = k (opened Γ [])
-each_stmt σ Γ (E.with_stmt s kind e ss) k = first (step_of kind) λ p. part σ Γ e p.expected λ a. each_stmt σ (declared Γ p.declares a) ss λ o. k (behind (typed_stmt p a) o)
+each_stmt σ Γ (E.with_stmt s kind e ss) k = first (step_of σ.types kind) λ p. part σ Γ e p.expected λ a. each_stmt σ (declared Γ p.declares a) ss λ o. k (behind (typed_stmt p a) o)
 
 -- ---- the rules
 
@@ -66,7 +73,9 @@ rule σ Γ (E.assign s l e) t = part σ Γ l None λ a. part σ Γ e (Some (ty_o
 rule σ Γ (E.update s op o l e) t = part σ Γ l None λ a. part σ Γ e (Some (ty_of a)) λ b. comes (updated Γ t s o (span_of l) op a b)
 rule σ Γ (E.call s f es) t = first (callee_of σ.headings Γ s (as_name f)) λ g. each_arg σ Γ es g.signature.params λ as'. comes (called t s g as')
 rule σ Γ (E.tuple s es) t = each_arg σ Γ es (parts_of t) λ as'. comes (tupled t s as')
-rule σ Γ (E.part s e k) t = part σ Γ e None λ a. comes (parted t s k a)
+rule σ Γ (E.part s e k) t = part σ Γ e None λ a. comes (parted σ.types t s k a)
+rule σ Γ (E.field s e x []) t = part σ Γ e None λ a. comes (selected σ.types t s x a)
+rule σ Γ (E.literal s p fs) t = first (maker_of σ.types t s (name_alone p.node)) λ m. each_field σ Γ s m m.fields fs λ as'. comes (literal_made t s m as')
 rule σ Γ (E.block s ss) t = each_stmt σ Γ ss λ o. comes (closed t s (without_last o.stmts))
 rule σ Γ (E.block_with s ss e) t = each_stmt σ Γ ss λ o. part σ o.scope e t λ a. comes (closed t s (stmts_of o.stmts (tree.last a)))
 rule σ Γ (E.branch s None c a) t = part σ Γ c (Some bool) λ x. part σ Γ a (Some unit) λ y. comes (fit t s (tree.branch unit s x y))

@@ -1,7 +1,7 @@
 -- Which variable each name means and which type each expression has, in the form of bidirectional typing (Pierce and Turner
 -- 2000): without an expected type an expression gives one, with one it fits it (Rust Reference, "Operator expressions",
--- "Call expressions", "Tuple expressions", "Tuple indexing expressions", "Block expressions", "if expressions", "Predicate loops", "Infinite loops", "break expressions", "continue expressions", "return expressions", "Diverging expressions"). What has no row is not built.
-use Rattle.std.specs.Prelude.{ℕ, suc, ℤ, pos, ◌==◌, ◌++◌, Bool, true, false, List, [], ◌∷◌, length, Option, Some, None, Result, Ok, Err, slice_get, if◌then◌else◌}
+-- "Call expressions", "Tuple expressions", "Tuple indexing expressions", "Field access expressions", "Struct expressions", "Block expressions", "if expressions", "Predicate loops", "Infinite loops", "break expressions", "continue expressions", "return expressions", "Diverging expressions"). What has no row is not built.
+use Rattle.std.specs.Prelude.{ℕ, zero, suc, ℤ, pos, ◌==◌, ◌++◌, Bool, true, false, List, [], ◌∷◌, length, Option, Some, None, Result, Ok, Err, slice_get, if◌then◌else◌}
 use Rattle.text_core.specs.declared.name.Name.{Name}
 use Rattle.text_core.specs.declared.refusal.Cause.{Cause}
 use Rattle.text_core.specs.declared.refusal.Cause.TheVariants as cause
@@ -11,8 +11,13 @@ use Rattle.source_kinds.specs.declared.kinds.BinaryOp.{BinaryOp}
 use Rattle.source_kinds.specs.declared.kinds.IntKind.{IntKind}
 use Rattle.source_kinds.specs.declared.kinds.IntKind.TheVariants.{I32}
 use Rattle.source_kinds.specs.Range.{fits}
-use Rattle.logic_term.specs.declared.kinds.Ctor.TheVariants.{Tuple}
-use Rattle.logic_term.specs.Ty.{Ty, Tys, int, bool, tuple, no_tys, and_ty}
+use Rattle.logic_term.specs.declared.declaration.AdtDecl.{AdtDecl}
+use Rattle.logic_term.specs.declared.declaration.FieldDecl.{FieldDecl}
+use Rattle.logic_term.specs.declared.declaration.VariantDecl.{VariantDecl}
+use Rattle.logic_term.specs.declared.kinds.AdtId.{AdtId}
+use Rattle.logic_term.specs.declared.kinds.Ctor.TheVariants.{Tuple, Variant}
+use Rattle.logic_term.specs.Ty.{Ty, Tys, int, bool, tuple, adt, boxed, no_tys, and_ty}
+use Rattle.rs_types.specs.Table.{number_of}
 use Rattle.source_trees.specs.declared.attribute.Attribute.{Attribute}
 use Rattle.source_trees.specs.declared.attribute.AttributeNode.{AttributeNode}
 use Rattle.source_trees.specs.declared.attribute.AttributeNode.TheVariants as A
@@ -37,7 +42,7 @@ use Rattle.type_check.specs.declared.scope.Found.{Found}
 use Rattle.type_check.specs.declared.scope.Variable.{Variable}
 use Rattle.type_check.specs.declared.statements.Step.{Step}
 use Rattle.type_check.specs.declared.typed.TypedStmt.{TypedStmt}
-use Rattle.type_check.specs.Answers.{◌>>=◌, unknown_name, mismatch, unbuilt, not_mutable, wanted, gather}
+use Rattle.type_check.specs.Answers.{◌>>=◌, unknown_name, double_name, mismatch, unbuilt, not_mutable, wanted, gather}
 use Rattle.type_check.specs.Functions.{callee}
 use Rattle.type_check.specs.Breaks.{breaks}
 use Rattle.type_check.specs.Leaves.{leaves}
@@ -47,8 +52,9 @@ use Rattle.type_check.specs.Terms.{assertion}
 use Rattle.type_check.specs.TypedExpr.{TypedExpr, TypedStmts, TypedExprs}
 use Rattle.type_check.specs.TypedExpr as tree
 use Rattle.type_check.specs.TypedExprView.{ty_of, stmt_of, stmts_of}
-use Rattle.type_check.specs.Types.{same_ty, is_signed_ty}
-use Rattle.type_check.specs.WellTyped.{unit, is_arithmetic, operation_ty, part_ty, tys_of_exprs}
+use Rattle.type_check.specs.DeclaredTypes.{numbered}
+use Rattle.type_check.specs.Types.{same_ty, is_signed_ty, is_built}
+use Rattle.type_check.specs.WellTyped.{unit, is_arithmetic, operation_ty, nth_part, struct_fields, field_at, tys_of_exprs}
 use Rattle.type_check.specs.Written.{as_name, name_alone, step_of}
 
 abbrev pub Typed : Type 0
@@ -208,6 +214,8 @@ parts_of _ = []
 unfoldable pub tupled : Option Ty → Span → TypedExprs → Typed
 tupled t s es = fit t s (tree.make (tuple (tys_of_exprs es)) s Tuple es)
 
+-- ---- parts and fields
+
 -- a number with a type at its end is that of no part
 abbrev pub number_by : Option IntKind → ℤ → Option ℕ
 number_by None (pos n) = Some n
@@ -216,17 +224,111 @@ number_by _ _ = None
 abbrev pub part_number : Number → Option ℕ
 part_number k = number_by k.suffix k.value
 
-abbrev pub part_of_ty : Option Ty → Span → Span → TypedExpr → ℕ → Option Ty → Typed
-part_of_ty t s o a n None = Err (unknown_name o)
-part_of_ty t s o a n (Some u) = fit t s (tree.part u s a n)
+-- the field of the name from number k on, and its type at these types for the parameters
+abbrev pub field_from : ℕ → Name → Tys → List FieldDecl → Option (ℕ × Ty)
+field_from k x ts [] = None
+field_from k x ts (f ∷ fs) = if f.name.0 == x.0 then Some (k, field_at ts f) else field_from (suc k) x ts fs
 
-abbrev pub part_at : Option Ty → Span → Span → TypedExpr → Option ℕ → Typed
-part_at t s o a None = Err (unknown_name o)
-part_at t s o a (Some n) = part_of_ty t s o a n (part_ty (ty_of a) n)
+abbrev pub with_number : ℕ → Option Ty → Option (ℕ × Ty)
+with_number n None = None
+with_number n (Some t) = Some (n, t)
 
--- the part of this number, which has a span of its own
-unfoldable pub parted : Option Ty → Span → Number → TypedExpr → Typed
-parted t s k a = part_at t s k.span a (part_number k)
+-- the field of the name, in a struct
+abbrev pub field_of : List AdtDecl → Name → Ty → Option (ℕ × Ty)
+field_of ds x (adt d rs ts) = field_from 0 x ts (struct_fields (slice_get ds d.0))
+field_of ds x _ = None
+
+-- the part of the number, in a tuple or in a struct whose fields have numbers for names
+abbrev pub part_of : List AdtDecl → Ty → ℕ → Option (ℕ × Ty)
+part_of ds (tuple ts) n = with_number n (nth_part ts n)
+part_of ds t n = field_of ds (numbered n) t
+
+abbrev pub part_if : List AdtDecl → Ty → Option ℕ → Option (ℕ × Ty)
+part_if ds t None = None
+part_if ds t (Some n) = part_of ds t n
+
+abbrev pub is_boxed : Ty → Bool
+is_boxed (boxed t) = true
+is_boxed _ = false
+
+-- the part, where there is one of a built type; so far nothing is looked for behind a box. The spans are the expression's and that of the name or number
+abbrev pub part_by : List AdtDecl → Option Ty → Span → Span → TypedExpr → Option (ℕ × Ty) → Typed
+part_by ds t s o a None = if is_boxed (ty_of a) then Err (unbuilt s) else Err (unknown_name o)
+part_by ds t s o a (Some p) = if is_built ds p.1 then fit t s (tree.part p.1 s a p.0) else Err (unbuilt s)
+
+unfoldable pub parted : List AdtDecl → Option Ty → Span → Number → TypedExpr → Typed
+parted ds t s k a = part_by ds t s k.span a (part_if ds (ty_of a) (part_number k))
+
+unfoldable pub selected : List AdtDecl → Option Ty → Span → Segment → TypedExpr → Typed
+selected ds t s x a = part_by ds t s x.span a (field_of ds x.name (ty_of a))
+
+-- ---- struct literals
+
+-- the struct that a literal makes, at types for its parameters, and its fields
+pub record Maker : Type 0 where
+  pub number : AdtId
+  pub arguments : Tys
+  pub fields : List FieldDecl
+
+-- the types for the parameters: so far those of the expected type, where there are parameters
+abbrev pub arguments_from : ℕ → Option Ty → Option Tys
+arguments_from n (Some (adt d rs ts)) = if d.0 == n then Some ts else None
+arguments_from n _ = None
+
+abbrev pub arguments_for : ℕ → ℕ → Option Ty → Option Tys
+arguments_for zero n t = Some no_tys
+arguments_for (suc k) n t = arguments_from n t
+
+abbrev pub maker_by : List AdtDecl → Span → AdtId → List FieldDecl → Option Tys → Result Maker SourceError
+maker_by ds s d fs None = Err (unbuilt s)
+maker_by ds s d fs (Some ts) = if is_built ds (adt d [] ts) then Ok (record { number = d; arguments = ts; fields = fs }) else Err (unbuilt s)
+
+-- the span is that of the literal
+abbrev pub maker_first : List AdtDecl → Option Ty → Span → Segment → ℕ → AdtDecl → Option VariantDecl → Result Maker SourceError
+maker_first ds t s x n d None = Err (unknown_name x.span)
+maker_first ds t s x n d (Some v) = maker_by ds s (record { 0 = n }) v.fields (arguments_for d.params n t)
+
+-- a struct by its name, and no other type
+abbrev pub maker_if : List AdtDecl → Option Ty → Span → Segment → ℕ → Option AdtDecl → Result Maker SourceError
+maker_if ds t s x n None = Err (unknown_name x.span)
+maker_if ds t s x n (Some d) = if d.is_struct then maker_first ds t s x n d (slice_get d.variants 0) else Err (unknown_name x.span)
+
+abbrev pub maker_at : List AdtDecl → Option Ty → Span → Segment → Option ℕ → Result Maker SourceError
+maker_at ds t s x None = Err (unknown_name x.span)
+maker_at ds t s x (Some n) = maker_if ds t s x n (slice_get ds n)
+
+-- what a literal makes, whose path is a name alone; the span is that of the literal
+abbrev pub maker_of : List AdtDecl → Option Ty → Span → Option Segment → Result Maker SourceError
+maker_of ds t s None = Err (unbuilt s)
+maker_of ds t s (Some x) = maker_at ds t s x (number_of x.name.0 ds)
+
+abbrev pub has_field : Name → List FieldDecl → Bool
+has_field x [] = false
+has_field x (f ∷ fs) = if f.name.0 == x.0 then true else has_field x fs
+
+-- why the name is not that of the next field: it is that of a later one, which is not built so far, of an earlier one, or of none
+abbrev pub not_next : (all left : List FieldDecl) → Segment → SourceError
+not_next all left x = if has_field x.name left then unbuilt x.span else if has_field x.name all then double_name x.span else unknown_name x.span
+
+abbrev pub built_field : List AdtDecl → Segment → Ty → Result Ty SourceError
+built_field ds x t = if is_built ds t then Ok t else Err (unbuilt x.span)
+
+-- the type of the next field, where the name is its
+abbrev pub next_field : List AdtDecl → Maker → List FieldDecl → Segment → Result Ty SourceError
+next_field ds m [] x = Err (not_next m.fields [] x)
+next_field ds m (f ∷ fs) x = if f.name.0 == x.name.0 then built_field ds x (field_at m.arguments f) else Err (not_next m.fields (f ∷ fs) x)
+
+abbrev pub fields_behind : List FieldDecl → List FieldDecl
+fields_behind [] = []
+fields_behind (f ∷ fs) = fs
+
+-- at the end of a literal no field may be missing
+abbrev pub no_field_left : Span → List FieldDecl → Result TypedExprs SourceError
+no_field_left s [] = Ok tree.none
+no_field_left s (f ∷ fs) = Err (mismatch s)
+
+unfoldable pub literal_made : Option Ty → Span → Maker → TypedExprs → Typed
+literal_made t s m es = fit t s (tree.make (adt m.number [] m.arguments) s (Variant m.number 0) es)
 
 -- ---- blocks
 
@@ -372,7 +474,14 @@ abbrev mutual
     tupled t s as'
   typed σ Γ (E.part s e k) t = do
     a ← typed σ Γ e None
-    parted t s k a
+    parted σ.types t s k a
+  typed σ Γ (E.field s e x []) t = do
+    a ← typed σ Γ e None
+    selected σ.types t s x a
+  typed σ Γ (E.literal s p fs) t = do
+    m ← maker_of σ.types t s (name_alone p.node)
+    as' ← typed_fields σ Γ s m m.fields fs
+    literal_made t s m as'
   typed σ Γ (E.block s ss) t = do
     o ← typed_stmts σ Γ ss
     closed t s (without_last o.stmts)
@@ -418,7 +527,7 @@ abbrev mutual
   pub typed_stmts : Setting → List Variable → E.Stmts → Result Opened SourceError
   typed_stmts σ Γ E.no_stmts = Ok (opened Γ [])
   typed_stmts σ Γ (E.with_stmt s k e ss) = do
-    p ← step_of k
+    p ← step_of σ.types k
     a ← typed σ Γ e p.expected
     o ← typed_stmts σ (declared Γ p.declares a) ss
     Ok (behind (typed_stmt p a) o)
@@ -431,9 +540,18 @@ abbrev mutual
     as' ← typed_args σ Γ es (rest_of ts)
     Ok (tree.more a as')
 
+  -- the fields of a literal, of which these are left
+  pub typed_fields : Setting → List Variable → Span → Maker → List FieldDecl → E.FieldExprs → Result TypedExprs SourceError
+  typed_fields σ Γ s m left E.no_fields = no_field_left s left
+  typed_fields σ Γ s m left (E.with_field r x e fs) = do
+    u ← next_field σ.types m left x
+    a ← typed σ Γ e (Some u)
+    as' ← typed_fields σ Γ s m (fields_behind left) fs
+    Ok (tree.more a as')
+
 -- a statement, and the scope behind it
 abbrev pub typed_statement : Setting → List Variable → Stmt → Result (List Variable × TypedStmt) SourceError
 typed_statement σ Γ s = do
-  p ← step_of s.kind
+  p ← step_of σ.types s.kind
   a ← typed σ Γ s.value p.expected
   Ok (declared Γ p.declares a, typed_stmt p a)

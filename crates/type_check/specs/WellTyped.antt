@@ -1,5 +1,6 @@
--- Typed expressions whose parts fit (Rust Reference, "Operator expressions", "Call expressions", "Tuple expressions", "Tuple indexing expressions", "Block expressions", "if expressions",
+-- Typed expressions whose parts fit (Rust Reference, "Operator expressions", "Call expressions", "Tuple expressions", "Tuple indexing expressions", "Field access expressions", "Struct expressions", "Block expressions", "if expressions",
 -- "Predicate loops", "Infinite loops", "return expressions"). The variables in scope are a list of their types, the outermost first.
+use Rattle.std.specs.Option.{option_map}
 use Rattle.std.specs.Prelude.{◌≡◌, ◌⊎◌, ℕ, zero, suc, ◌<◌, Bool, true, false, List, [], ◌∷◌, ◌++◌, length, map, Option, Some, None, slice_get, if◌then◌else◌}
 use Rattle.text_core.specs.declared.name.Name.{Name}
 use Rattle.source_kinds.specs.declared.kinds.BinaryOp.{BinaryOp}
@@ -9,8 +10,14 @@ use Rattle.source_kinds.specs.declared.kinds.IntKind.TheVariants.{I8, I16, I32, 
 use Rattle.logic_term.specs.Free.{free}
 use Rattle.source_kinds.specs.Range.{fits}
 use Rattle.logic_term.specs.declared.kinds.Ctor.{Ctor}
-use Rattle.logic_term.specs.declared.kinds.Ctor.TheVariants.{Tuple}
-use Rattle.logic_term.specs.Ty.{Ty, Tys, int, bool, tuple, no_tys, and_ty, unit_ty}
+use Rattle.logic_term.specs.declared.declaration.AdtDecl.{AdtDecl}
+use Rattle.logic_term.specs.declared.declaration.FieldDecl.{FieldDecl}
+use Rattle.logic_term.specs.declared.declaration.VariantDecl.{VariantDecl}
+use Rattle.logic_term.specs.declared.kinds.AdtId.{AdtId}
+use Rattle.logic_term.specs.declared.kinds.Ctor.TheVariants.{Tuple, Variant, Closure}
+use Rattle.logic_term.specs.Sort.{instance, instances}
+use Rattle.logic_term.specs.Theory.{declared}
+use Rattle.logic_term.specs.Ty.{Ty, Tys, int, bool, tuple, adt, boxed, no_tys, and_ty, unit_ty}
 use Rattle.type_check.specs.declared.program.ClauseKind.{ClauseKind}
 use Rattle.type_check.specs.declared.program.ClauseKind.TheVariants.{Requires, Ensures}
 use Rattle.type_check.specs.declared.assertion.Assertion.{Assertion}
@@ -28,12 +35,14 @@ use Rattle.type_check.specs.VariableNames.{variable_name, answer_name}
 abbrev pub unit : Ty
 unit = unit_ty
 
--- the types that are built: the machine integers, the truth values, and tuples of built types
+-- the types that are built: the machine integers, the truth values, tuples, boxes and declared types without lifetimes
 abbrev mutual
   pub IsBuilt : Ty → Type 0
   IsBuilt (int k) = Unit {0}
   IsBuilt bool = Unit {0}
   IsBuilt (tuple ts) = PartsAreBuilt ts
+  IsBuilt (boxed t) = IsBuilt t
+  IsBuilt (adt d [] ts) = PartsAreBuilt ts
   IsBuilt _ = ⊥
 
   pub PartsAreBuilt : Tys → Type 0
@@ -47,10 +56,19 @@ abbrev pub tys_of_exprs : TypedExprs → Tys
 tys_of_exprs none = no_tys
 tys_of_exprs (more e es) = and_ty (ty_of e) (tys_of_exprs es)
 
--- so far tuples alone are made of parts
-abbrev pub MakesOf : Ctor → Tys → Ty → Type 0
-MakesOf Tuple ts t = t ≡ tuple ts
-MakesOf _ ts t = ⊥
+-- what a declared type has for its fields, at these types for its parameters
+pub record MakesDeclared (ds : List AdtDecl) (d : AdtId) (k : ℕ) (ts : Tys) (t : Ty) : Type 0 where
+  pub arguments : Tys
+  pub fields : Tys
+  pub is : t ≡ adt d [] arguments
+  pub declares : declared (record { adts = ds }) d k ≡ Some fields
+  pub parts : ts ≡ instances arguments fields
+
+-- parts of these types make a value of the type
+abbrev pub MakesOf : List AdtDecl → Ctor → Tys → Ty → Type 0
+MakesOf ds Tuple ts t = t ≡ tuple ts
+MakesOf ds (Variant d k) ts t = MakesDeclared ds d k ts t
+MakesOf ds (Closure n) ts t = ⊥
 
 -- the type of this number among the types, from 0
 abbrev pub nth_part : Tys → ℕ → Option Ty
@@ -58,10 +76,23 @@ nth_part no_tys n = None
 nth_part (and_ty t ts) zero = Some t
 nth_part (and_ty t ts) (suc n) = nth_part ts n
 
--- the type of part n of a value of the type (Rust Reference, "Tuple indexing expressions")
-abbrev pub part_ty : Ty → ℕ → Option Ty
-part_ty (tuple ts) n = nth_part ts n
-part_ty _ n = None
+-- the fields of a struct
+abbrev pub fields_of_first : List VariantDecl → List FieldDecl
+fields_of_first [] = []
+fields_of_first (v ∷ vs) = v.fields
+
+abbrev pub struct_fields : Option AdtDecl → List FieldDecl
+struct_fields None = []
+struct_fields (Some d) = if d.is_struct then fields_of_first d.variants else []
+
+abbrev pub field_at : Tys → FieldDecl → Ty
+field_at ts f = instance ts f.ty
+
+-- the type of part n of a value of the type, a tuple or a struct (Rust Reference, "Tuple indexing expressions", "Field access expressions")
+abbrev pub part_ty : List AdtDecl → Ty → ℕ → Option Ty
+part_ty ds (tuple ts) n = nth_part ts n
+part_ty ds (adt d rs ts) n = option_map (field_at ts) (slice_get (struct_fields (slice_get ds d.0)) n)
+part_ty ds _ n = None
 
 -- ---- operators
 
@@ -118,15 +149,16 @@ EachSpeaks n (a ∷ as') = SpeaksOf n a × EachSpeaks n as'
 
 -- ---- expressions
 
--- what stands around an expression: the signatures of the functions that it may call, the type of the function's answer, and whether a
+-- what stands around an expression: the declared types, the signatures of the functions that it may call, the type of the function's answer, and whether a
 -- loop is around
 pub record Surroundings : Type 0 where
+  pub types : List AdtDecl
   pub signatures : List Signature
   pub answer : Ty
   pub in_loop : Bool
 
 abbrev pub within_loop : Bool → Surroundings → Surroundings
-within_loop b σ = record { signatures = σ.signatures; answer = σ.answer; in_loop = b }
+within_loop b σ = record { types = σ.types; signatures = σ.signatures; answer = σ.answer; in_loop = b }
 
 -- in the body of a loop, and in the condition of a `while`, which is in no loop
 abbrev pub looping : Surroundings → Surroundings
@@ -154,8 +186,8 @@ abbrev mutual
   IsWellTyped σ Γ (assign t s a e) = (t ≡ unit) × IsOf (ty_of a) e × IsWellTyped σ Γ a × IsWellTyped σ Γ e
   IsWellTyped σ Γ (update t s op a e) = (t ≡ unit) × IsOf (ty_of a) e × (operation_ty op (ty_of e) ≡ Some (ty_of e)) × IsWellTyped σ Γ a × IsWellTyped σ Γ e
   IsWellTyped σ Γ (call t s f es) = (g : Signature) × (slice_get σ.signatures f ≡ Some g) × (t ≡ g.answer) × ArgumentsFit σ Γ es g.params
-  IsWellTyped σ Γ (make t s c es) = MakesOf c (tys_of_exprs es) t × PartsFit σ Γ es
-  IsWellTyped σ Γ (part t s e n) = (part_ty (ty_of e) n ≡ Some t) × IsWellTyped σ Γ e
+  IsWellTyped σ Γ (make t s c es) = MakesOf σ.types c (tys_of_exprs es) t × PartsFit σ Γ es
+  IsWellTyped σ Γ (part t s e n) = (part_ty σ.types (ty_of e) n ≡ Some t) × IsWellTyped σ Γ e
   IsWellTyped σ Γ (block t s ss) = StatementsFit σ Γ t ss
   IsWellTyped σ Γ (branch t s c a) = (t ≡ unit) × IsOf bool c × IsOf unit a × IsWellTyped σ Γ c × IsWellTyped σ Γ a
   -- a side that leaves fits any type
@@ -198,22 +230,22 @@ ClausesSpeak n [] = Unit {0}
 ClausesSpeak n (c ∷ cs) = ClauseSpeaksOf n c.kind c.formula × ClausesSpeak n cs
 
 -- around the body of a function of this signature
-abbrev pub surroundings_of : List Signature → Signature → Surroundings
-surroundings_of σ g = record { signatures = σ; answer = g.answer; in_loop = false }
+abbrev pub surroundings_of : List AdtDecl → List Signature → Signature → Surroundings
+surroundings_of ds σ g = record { types = ds; signatures = σ; answer = g.answer; in_loop = false }
 
-pub record FunctionFits (σ : List Signature) (f : TypedFunction) : Type 0 where
+pub record FunctionFits (ds : List AdtDecl) (σ : List Signature) (f : TypedFunction) : Type 0 where
   pub params : AllBuilt f.signature.params
   pub answer : IsBuilt f.signature.answer
   pub clauses : ClausesSpeak (length f.signature.params) f.clauses
-  pub body : IsWellTyped (surroundings_of σ f.signature) f.signature.params f.body
+  pub body : IsWellTyped (surroundings_of ds σ f.signature) f.signature.params f.body
   pub of_answer : IsOf f.signature.answer f.body
 
 abbrev pub signatures : List TypedFunction → List Signature
 signatures fs = map (λ (f : TypedFunction). f.signature) fs
 
-abbrev pub EachFits : List Signature → List TypedFunction → Type 0
-EachFits σ [] = Unit {0}
-EachFits σ (f ∷ fs) = FunctionFits σ f × EachFits σ fs
+abbrev pub EachFits : List AdtDecl → List Signature → List TypedFunction → Type 0
+EachFits ds σ [] = Unit {0}
+EachFits ds σ (f ∷ fs) = FunctionFits ds σ f × EachFits ds σ fs
 
-abbrev pub ProgramFits : TypedProgram → Type 0
-ProgramFits p = EachFits (signatures p.functions) p.functions
+abbrev pub ProgramFits : List AdtDecl → TypedProgram → Type 0
+ProgramFits ds p = EachFits ds (signatures p.functions) p.functions

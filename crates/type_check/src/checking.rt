@@ -4,6 +4,7 @@ ghost use Rattle.type_check.specs.Checked.{AllGood, answer_at, checked, clause_o
 ghost use Rattle.type_check.specs.Setting.{setting_of};
 ghost use Rattle.type_check.specs.WellTyped.{ProgramFits};
 
+use crate::declarations::Declared;
 use crate::declaring::{headings_of, signature_of, variables_of};
 use crate::elaborate::assertion;
 use crate::expressions::type_expr;
@@ -17,6 +18,7 @@ use crate::setting::Setting;
 use crate::typed::TypedExpr;
 use crate::written::answer_ty;
 use logic_term::Ty;
+use rs_types::AdtTable;
 use source_trees::{
     Attribute, AttributeNode, Body, ClauseKind as WrittenKind, Function, Item, ItemNode, Param,
     ParamNode, Pterm,
@@ -136,19 +138,21 @@ fn type_body(
 #[tactic(auto, unfolding(crate::specs::Checked::typed_function))]
 fn type_function(
     alloc: Global,
+    types: &AdtTable,
     headings: &[Heading],
     own: Span,
     attributes: &[Attribute],
     f: &Function,
 ) -> Result<TypedFunction, PassError>
-    ensures { Answers result (typed_function headings.now own attributes.now f.now) }
+    ensures { Answers result (typed_function types.now headings.now own attributes.now f.now) }
 {
-    let mut scope = variables_of(alloc, f.params.as_slice())?;
-    let answer = answer_ty(alloc, &f.answer)?;
+    let mut scope = variables_of(alloc, types, f.params.as_slice())?;
+    let answer = answer_ty(alloc, types, &f.answer)?;
     let expected = Some(answer.copy(alloc)?);
     let signature = signature_of(alloc, scope.as_slice(), answer)?;
     let clauses = clauses_of(alloc, &expected, scope.as_slice(), attributes)?;
     let setting = Setting {
+        types,
         headings,
         answer: &signature.answer,
         in_loop: false,
@@ -167,15 +171,16 @@ fn type_function(
 /// The function that the item is; none where it is none.
 fn type_item(
     alloc: Global,
+    types: &AdtTable,
     headings: &[Heading],
     item: &Item,
 ) -> Result<Option<TypedFunction>, PassError>
-    ensures { Answers result (typed_item headings.now item.now) }
+    ensures { Answers result (typed_item types.now headings.now item.now) }
 {
     let attributes = item.attributes.as_slice();
     match &item.node {
         ItemNode::Function(f) => {
-            let typed = type_function(alloc, headings, item.own, attributes, f)?;
+            let typed = type_function(alloc, types, headings, item.own, attributes, f)?;
             Ok(Some(typed))
         }
         _ => Ok(None),
@@ -184,25 +189,26 @@ fn type_item(
 
 fn type_items(
     alloc: Global,
+    types: &AdtTable,
     headings: &[Heading],
     items: &[Item],
 ) -> Result<Vec<TypedFunction>, PassError>
-    ensures { AnswersAs result (gather (typed_item headings.now) items.now) (λ v. v.items) }
+    ensures { AnswersAs result (gather (typed_item types.now headings.now) items.now) (λ v. v.items) }
 {
     let mut functions = Vec::with_capacity(alloc, items.len())?;
     for item in items {
-        push_some(&mut functions, type_item(alloc, headings, item)?)?;
+        push_some(&mut functions, type_item(alloc, types, headings, item)?)?;
     }
     Ok(functions)
 }
 
 /// The passes, one after another.
 #[tactic(auto, unfolding(crate::specs::Checked::checked))]
-fn passes(alloc: Global, items: &[Item]) -> Result<TypedProgram, PassError>
-    ensures { Answers result (checked items.now) }
+fn passes(alloc: Global, types: &AdtTable, items: &[Item]) -> Result<TypedProgram, PassError>
+    ensures { Answers result (checked types.now items.now) }
 {
-    let headings = headings_of(alloc, items)?;
-    let typed = type_items(alloc, headings.as_slice(), items)?;
+    let headings = headings_of(alloc, types, items)?;
+    let typed = type_items(alloc, types, headings.as_slice(), items)?;
     if let Some(error) = first_bad(typed.as_slice()) {
         return Err(PassError::Source(error));
     }
@@ -211,17 +217,17 @@ fn passes(alloc: Global, items: &[Item]) -> Result<TypedProgram, PassError>
     })
 }
 
-/// The functions of the items, with their names resolved and the types of their expressions.
+/// The functions of the items, with their names resolved and the types of their expressions. The types are those that the items declare.
 ///
 /// Errors: passes that each go over all items before the next begins; each refuses the first failing part of the first
 /// failing item. E20 at what an item declares that is not built: what is refused by `declare` is not looked for. Then, of bodies and contracts, E20 at a form that is not built, and of bodies E05 at a name that is
 /// not declared, E07 where a type is not the one wanted, and E22 at a variable that is written and not `mut`. Then E05,
 /// E07 and E20 of the terms of clauses and invariants. Never a limit. `NoMemory` also where a number of variables or
 /// functions passes 32 bits.
-pub fn check(alloc: Global, items: &[Item]) -> Result<TypedProgram, PassError>
-    ensures answers { Answers result (checked items.now) }
-    ensures fits { IfOk result ProgramFits }
+pub fn check(alloc: Global, items: &[Item], declared: &Declared) -> Result<TypedProgram, PassError>
+    ensures answers { Answers result (checked declared.now.table items.now) }
+    ensures fits { IfOk result (ProgramFits declared.now.table) }
     ensures good { IfOk result AllGood }
 {
-    passes(alloc, items)
+    passes(alloc, &declared.table, items)
 }

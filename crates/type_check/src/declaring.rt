@@ -11,17 +11,22 @@ use crate::refusal::unbuilt;
 use crate::scope::Variable;
 use crate::written::{answer_ty, param_of};
 use logic_term::Ty;
+use rs_types::AdtTable;
 use source_trees::{Attribute, AttributeNode, Function, Item, ItemNode, Param};
 use std::alloc::Global;
 use text_core::{Items, NoMemory, PassError, Span};
 
 /// The variables that the parameters declare.
-pub(crate) fn variables_of(alloc: Global, params: &[Param]) -> Result<Vec<Variable>, PassError>
-    ensures { AnswersAs result (each param_of params.now) (λ v. v.items) }
+pub(crate) fn variables_of(
+    alloc: Global,
+    types: &AdtTable,
+    params: &[Param],
+) -> Result<Vec<Variable>, PassError>
+    ensures { AnswersAs result (each (param_of types.now) params.now) (λ v. v.items) }
 {
     let mut variables = Vec::with_capacity(alloc, params.len())?;
     for param in params {
-        variables.push(param_of(alloc, param)?)?;
+        variables.push(param_of(alloc, types, param)?)?;
     }
     Ok(variables)
 }
@@ -59,12 +64,12 @@ fn absent(place: Option<Span>) -> Result<(), PassError>
 }
 
 #[tactic(auto, unfolding(crate::specs::Checked::heading_of))]
-fn heading_of(alloc: Global, function: &Function) -> Result<Heading, PassError>
-    ensures { Answers result (heading_of function.now) }
+fn heading_of(alloc: Global, types: &AdtTable, function: &Function) -> Result<Heading, PassError>
+    ensures { Answers result (heading_of types.now function.now) }
 {
     absent(function.generics_span)?;
-    let variables = variables_of(alloc, function.params.as_slice())?;
-    let answer = answer_ty(alloc, &function.answer)?;
+    let variables = variables_of(alloc, types, function.params.as_slice())?;
+    let answer = answer_ty(alloc, types, &function.answer)?;
     absent(function.conditions_span)?;
     let name = function.name.name;
     let signature = signature_of(alloc, variables.as_slice(), answer)?;
@@ -85,12 +90,12 @@ fn skipped(attributes: &[Attribute]) -> Result<(), PassError>
 
 /// The function that the item declares; none where it declares nothing.
 #[tactic(auto, unfolding(crate::specs::Checked::declares))]
-fn declares(alloc: Global, item: &Item) -> Result<Option<Heading>, PassError>
-    ensures { Answers result (declares item.now) }
+fn declares(alloc: Global, types: &AdtTable, item: &Item) -> Result<Option<Heading>, PassError>
+    ensures { Answers result (declares types.now item.now) }
 {
     let attributes = item.attributes.as_slice();
     match &item.node {
-        ItemNode::Function(function) => Ok(Some(heading_of(alloc, function)?)),
+        ItemNode::Function(function) => Ok(Some(heading_of(alloc, types, function)?)),
         ItemNode::Use | ItemNode::ExternCrate => {
             skipped(attributes)?;
             Ok(None)
@@ -104,12 +109,16 @@ fn declares(alloc: Global, item: &Item) -> Result<Option<Heading>, PassError>
 }
 
 /// The functions that the items declare.
-pub(crate) fn headings_of(alloc: Global, items: &[Item]) -> Result<Vec<Heading>, PassError>
-    ensures { AnswersAs result (gather declares items.now) (λ v. v.items) }
+pub(crate) fn headings_of(
+    alloc: Global,
+    types: &AdtTable,
+    items: &[Item],
+) -> Result<Vec<Heading>, PassError>
+    ensures { AnswersAs result (gather (declares types.now) items.now) (λ v. v.items) }
 {
     let mut headings = Vec::with_capacity(alloc, items.len())?;
     for item in items {
-        push_some(&mut headings, declares(alloc, item)?)?;
+        push_some(&mut headings, declares(alloc, types, item)?)?;
     }
     Ok(headings)
 }

@@ -1,23 +1,26 @@
 ghost use Rattle.std.specs.Prelude.{◌≡◌, OnOk};
 ghost use Rattle.source_trees.specs.Expr as E;
-ghost use Rattle.source_trees.specs.ExprView.{exprs_of as written_exprs, span_of, stmts_of as written_stmts};
+ghost use Rattle.source_trees.specs.ExprView.{exprs_of as written_exprs, field_exprs_of as written_fields, span_of, stmts_of as written_stmts};
 ghost use Rattle.type_check.specs.Answers.{Answers, AnswersAs};
 ghost use Rattle.type_check.specs.Chains.{behind};
+ghost use Rattle.type_check.specs.Literals.{made_by};
 ghost use Rattle.type_check.specs.Setting.{setting_of};
 ghost use Rattle.type_check.specs.TypedExprView.{exprs_of};
-ghost use Rattle.type_check.specs.Typing.{callee_of, is_bare, opened, operands, order_of, typed, typed_args, typed_statement, typed_stmts};
+ghost use Rattle.type_check.specs.Typing.{callee_of, is_bare, opened, operands, order_of, typed, typed_args, typed_fields, typed_statement, typed_stmts};
 ghost use Rattle.type_check.specs.WellTyped.{is_arithmetic};
 ghost use Rattle.type_check.specs.Written.{as_name};
 
 use crate::chain::{Descent, Frame, descend, finish, right_of, second_ty};
 use crate::elaborate::invariants_of;
 use crate::heading::{Callee, Heading, find_callee};
+use crate::literals::{Maker, literal_made, maker_of, next_field, no_field_left};
 use crate::operands::{Operands, Order};
 use crate::refusal::{unbuilt, unknown_name};
 use crate::scope::Variable;
+use crate::selecting::{parted, selected};
 use crate::setting::Setting;
 use crate::statements::{block_with, declare, whole_block};
-use crate::tuples::{parted, parts_of, tupled};
+use crate::tuples::{parts_of, tupled};
 use crate::typed::{TypedExpr, TypedNode, TypedStmt};
 use crate::types::is_arithmetic;
 use crate::typing::{
@@ -28,7 +31,9 @@ use crate::typing::{
 use crate::written::{as_name, name_alone, step_of};
 use logic_term::Ty;
 use source_kinds::{BinaryOp, LazyOp};
-use source_trees::{Attribute, Expr, ExprNode, Number, Segment, Stmt, UnaryOp};
+use source_trees::{
+    Attribute, Expr, ExprNode, FieldExpr, Number, Path, Segment, Stmt, TypeTree, UnaryOp,
+};
 use std::alloc::Global;
 use text_core::{PassError, Span};
 
@@ -111,6 +116,19 @@ fn type_form(
         ExprNode::Part(value, number) => type_part(
             alloc, setting, scope, expected, whole, value, number,
         ),
+        ExprNode::Field(value, name, types) => type_field(
+            alloc,
+            setting,
+            scope,
+            expected,
+            whole,
+            value,
+            *name,
+            types.as_slice(),
+        ),
+        ExprNode::Literal(path, fields) => type_literal(
+            alloc, setting, scope, expected, whole, path, fields,
+        ),
         ExprNode::Block(stmts) => type_block(alloc, setting, scope, expected, whole, stmts),
         ExprNode::BlockWith(stmts, last) => type_block_with(
             alloc, setting, scope, expected, whole, stmts, last,
@@ -153,7 +171,6 @@ fn type_form(
             TypedNode::Continue,
         ),
         ExprNode::Receiver
-        | ExprNode::Literal(_, _)
         | ExprNode::If(Some(_), _, _)
         | ExprNode::IfElse(Some(_), _, _, _)
         | ExprNode::Match(_, _)
@@ -162,7 +179,6 @@ fn type_form(
         | ExprNode::Ghost(_, _)
         | ExprNode::Cast(_, _)
         | ExprNode::Borrow(_, _)
-        | ExprNode::Field(_, _, _)
         | ExprNode::Method(_, _, _, _) => Err(unbuilt(whole)),
     }
 }
@@ -560,7 +576,74 @@ fn type_part(
     ensures kept { OnOk result (scope.new.items ≡ scope.old.items) }
 {
     let value = type_expr(alloc, setting, scope, value, &None)?;
-    parted(alloc, expected, whole, number, value)
+    parted(alloc, setting.types.decls(), expected, whole, number, value)
+}
+
+/// `a.x`. The types behind `::` are not built.
+#[cycle(type_expr)]
+#[tactic(auto, using(crate::proofs::Parts::parts))]
+fn type_field(
+    alloc: Global,
+    setting: &Setting<'_>,
+    scope: &mut Vec<Variable>,
+    expected: &Option<Ty>,
+    whole: Span,
+    value: &Expr,
+    name: Segment,
+    types: &[TypeTree],
+) -> Result<TypedExpr, PassError>
+    ensures answers { Answers result (typed (setting_of setting.now) scope.old.items (E.field whole value.now name types.now) expected.now) }
+    ensures kept { OnOk result (scope.new.items ≡ scope.old.items) }
+{
+    if !types.is_empty() {
+        return Err(unbuilt(whole));
+    }
+    let value = type_expr(alloc, setting, scope, value, &None)?;
+    selected(alloc, setting.types.decls(), expected, whole, name, value)
+}
+
+/// `S { x: a }`.
+#[cycle(type_expr)]
+#[tactic(auto, using(crate::proofs::Parts::parts))]
+fn type_literal(
+    alloc: Global,
+    setting: &Setting<'_>,
+    scope: &mut Vec<Variable>,
+    expected: &Option<Ty>,
+    whole: Span,
+    path: &Path,
+    fields: &[FieldExpr],
+) -> Result<TypedExpr, PassError>
+    ensures answers { Answers result (typed (setting_of setting.now) scope.old.items (E.literal whole path.now (written_fields fields.now)) expected.now) }
+    ensures kept { OnOk result (scope.new.items ≡ scope.old.items) }
+{
+    let maker = maker_of(alloc, setting.types, expected, whole, name_alone(path))?;
+    let parts = type_fields(alloc, setting, scope, whole, &maker, fields)?;
+    literal_made(alloc, expected, whole, maker, parts)
+}
+
+/// The fields of a literal of the struct.
+#[cycle(type_expr)]
+#[tactic(auto, using(crate::proofs::Parts::parts))]
+fn type_fields(
+    alloc: Global,
+    setting: &Setting<'_>,
+    scope: &mut Vec<Variable>,
+    whole: Span,
+    maker: &Maker<'_>,
+    fields: &[FieldExpr],
+) -> Result<Vec<TypedExpr>, PassError>
+    ensures answers { AnswersAs result (typed_fields (setting_of setting.now) scope.old.items whole (made_by maker.now) maker.now.fields.now (written_fields fields.now)) (λ v. exprs_of v.items) }
+    ensures kept { OnOk result (scope.new.items ≡ scope.old.items) }
+{
+    let mut typed = Vec::with_capacity(alloc, fields.len())?;
+    for i in 0..fields.len() {
+        let wanted = next_field(alloc, setting.types.decls(), maker, i, fields[i].name)?;
+        let part = type_expr(alloc, setting, scope, &fields[i].value, &Some(wanted))?;
+        typed.push(part)?;
+    }
+    no_field_left(maker, whole, fields.len())?;
+    Ok(typed)
 }
 
 /// Arguments for parameters of these types.
@@ -615,7 +698,7 @@ fn type_statement(
 ) -> Result<TypedStmt, PassError>
     ensures { AnswersAs result (typed_statement (setting_of setting.now) scope.old.items stmt.now) (λ s. (scope.new.items, s)) }
 {
-    let step = step_of(alloc, &stmt.kind)?;
+    let step = step_of(alloc, setting.types, &stmt.kind)?;
     let value = type_expr(alloc, setting, scope, &stmt.value, &step.expected)?;
     declare(alloc, scope, step.declares, &value)?;
     let binds = step.declares.is_some();

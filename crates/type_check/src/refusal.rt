@@ -1,6 +1,6 @@
 ghost use Rattle.std.specs.Prelude.{◌≡◌, None};
 ghost use Rattle.text_core.specs.declared.fault.PassError.TheVariants as fault;
-ghost use Rattle.type_check.specs.Answers.{unknown_name, mismatch, unbuilt, not_mutable};
+ghost use Rattle.type_check.specs.Answers.{unknown_name, double_name, mismatch, unbuilt, not_mutable};
 
 use text_core::{Code, PassError, SourceError, Span};
 
@@ -40,4 +40,11 @@ pub(crate) fn not_mutable(span: Span) -> PassError
     ensures { result ≡ fault.Source (not_mutable span) }
 {
     refusal(Code::E22, span)
+}
+
+/// A name that is there already.
+pub(crate) fn double_name(span: Span) -> PassError
+    ensures { result ≡ fault.Source (double_name span) }
+{
+    refusal(Code::E06, span)
 }

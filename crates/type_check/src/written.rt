@@ -1,22 +1,19 @@
 //! Names and types as they are written, and what `let` and parameters declare.
-ghost use Rattle.std.specs.Prelude.{◌≡◌, slice_get};
-ghost use Rattle.logic_term.specs.TyView.{tys_of};
-ghost use Rattle.source_trees.specs.TypeTreeView.{types_of};
-ghost use Rattle.type_check.specs.Answers.{Answers, AnswersAs};
-ghost use Rattle.type_check.specs.Written.{name_alone, as_name, named_type, written_type, written_types, written_or_none, answer_ty, param_of, name_or, declared_by, step_of};
+ghost use Rattle.std.specs.Prelude.{◌≡◌};
+ghost use Rattle.type_check.specs.Answers.{Answers};
+ghost use Rattle.type_check.specs.Written.{name_alone, as_name, written_type, written_or_none, answer_ty, param_of, name_or, declared_by, step_of};
 
 use crate::refusal::unbuilt;
 use crate::scope::{Declared, Variable};
 use crate::statements::Step;
-use logic_term::{Ty, TyNode};
-use source_kinds::IntKind;
+use crate::types::is_built;
+use logic_term::Ty;
+use rs_types::{AdtTable, Elision, TypeScope, meant};
 use source_trees::{
-    Expr, ExprNode, Param, ParamNode, Pat, PatNode, Path, PathNode, Segment, StmtKind, TypeNode,
-    TypeTree,
+    Expr, ExprNode, Param, ParamNode, Pat, PatNode, Path, PathNode, Segment, StmtKind, TypeTree,
 };
 use std::alloc::Global;
-use text_core::name::BOOL;
-use text_core::{Name, PassError, Span};
+use text_core::{PassError, Span};
 
 // ---- names
 
@@ -46,96 +43,52 @@ pub(crate) fn as_name(e: &Expr) -> Option<Segment>
 
 // ---- types
 
-/// The types of integers, in the order of the names of their words.
-const INT_KINDS: [IntKind; 10] = [
-    IntKind::I8,
-    IntKind::I16,
-    IntKind::I32,
-    IntKind::I64,
-    IntKind::Isize,
-    IntKind::U8,
-    IntKind::U16,
-    IntKind::U32,
-    IntKind::U64,
-    IntKind::Usize,
-];
-
-fn kind_at(kinds: &[IntKind], place: usize) -> Option<IntKind>
-    ensures { result ≡ slice_get kinds.now place }
+/// The type that is written in a function, its lifetimes all being one. E20 at it where it is none of those that are built.
+#[tactic(auto, unfolding(crate::specs::Written::written_type), using(crate::proofs::WrittenTypes::refused_meaning))]
+fn written_type(alloc: Global, types: &AdtTable, written: &TypeTree) -> Result<Ty, PassError>
+    ensures { Answers result (written_type types.now written.now) }
 {
-    kinds.get(place).copied()
-}
-
-/// The type that has this name of its own.
-fn named_type(name: Name) -> Option<Ty>
-    ensures { result ≡ named_type name }
-{
-    if name.0 == BOOL.0 {
-        return Some(Ty::bool());
+    let self_ty = None;
+    let scope = TypeScope {
+        declared: types,
+        lifetimes: &[],
+        parameters: &[],
+        self_ty: &self_ty,
+        has_int: false,
+    };
+    let (ty, _) = meant(alloc, &scope, Elision::Erased, written)?;
+    if is_built(types.decls(), &ty) {
+        Ok(ty)
+    } else {
+        Err(unbuilt(written.span))
     }
-    match kind_at(&INT_KINDS, name.0 as usize) {
-        Some(kind) => Some(Ty::int(kind)),
-        None => None,
-    }
-}
-
-/// The types of integers, `bool` and tuples of built types are built.
-#[cycle(written_type)]
-#[tactic(auto, using(crate::proofs::WrittenTypes::with_arguments, crate::proofs::WrittenTypes::type_parts))]
-fn written_type(alloc: Global, written: &TypeTree) -> Result<Ty, PassError>
-    ensures { Answers result (written_type written.now) }
-{
-    let span = written.span;
-    match &*written.node {
-        TypeNode::Named(name, arguments) => {
-            if !arguments.is_empty() {
-                return Err(unbuilt(span));
-            }
-            match named_type(name.name) {
-                Some(ty) => Ok(ty),
-                None => Err(unbuilt(span)),
-            }
-        }
-        TypeNode::Tuple(parts) => {
-            let types = written_types(alloc, parts)?;
-            let node = TyNode::Tuple(types);
-            Ok(Ty { node })
-        }
-        TypeNode::Reference(_, _, _) | TypeNode::SelfType | TypeNode::SelfView => {
-            Err(unbuilt(span))
-        }
-    }
-}
-
-#[cycle(written_type)]
-#[tactic(auto, using(crate::proofs::WrittenTypes::type_parts))]
-fn written_types(alloc: Global, written: &[TypeTree]) -> Result<Vec<Ty>, PassError>
-    ensures { AnswersAs result (written_types (types_of written.now)) (λ v. tys_of v.items) }
-{
-    let mut types = Vec::with_capacity(alloc, written.len())?;
-    for i in 0..written.len() {
-        types.push(written_type(alloc, &written[i])?)?;
-    }
-    Ok(types)
 }
 
 /// The written type, if there is one.
-fn written_or_none(alloc: Global, written: &Option<TypeTree>) -> Result<Option<Ty>, PassError>
-    ensures { Answers result (written_or_none written.now) }
+fn written_or_none(
+    alloc: Global,
+    types: &AdtTable,
+    written: &Option<TypeTree>,
+) -> Result<Option<Ty>, PassError>
+    ensures { Answers result (written_or_none types.now written.now) }
 {
     match written {
         None => Ok(None),
-        Some(written) => Ok(Some(written_type(alloc, written)?)),
+        Some(written) => Ok(Some(written_type(alloc, types, written)?)),
     }
 }
 
 /// The type of an answer: unit where none is written.
-pub(crate) fn answer_ty(alloc: Global, written: &Option<TypeTree>) -> Result<Ty, PassError>
-    ensures { Answers result (answer_ty written.now) }
+pub(crate) fn answer_ty(
+    alloc: Global,
+    types: &AdtTable,
+    written: &Option<TypeTree>,
+) -> Result<Ty, PassError>
+    ensures { Answers result (answer_ty types.now written.now) }
 {
     match written {
         None => Ok(Ty::unit(alloc)),
-        Some(written) => written_type(alloc, written),
+        Some(written) => written_type(alloc, types, written),
     }
 }
 
@@ -143,13 +96,17 @@ pub(crate) fn answer_ty(alloc: Global, written: &Option<TypeTree>) -> Result<Ty,
 
 /// The variable that a parameter declares: a name with its type is built.
 #[tactic(auto, unfolding(crate::specs::Written::param_of))]
-pub(crate) fn param_of(alloc: Global, param: &Param) -> Result<Variable, PassError>
-    ensures { Answers result (param_of param.now) }
+pub(crate) fn param_of(
+    alloc: Global,
+    types: &AdtTable,
+    param: &Param,
+) -> Result<Variable, PassError>
+    ensures { Answers result (param_of types.now param.now) }
 {
     match &param.node {
         ParamNode::Named(mutable, name, written) => Ok(Variable {
             name: name.name,
-            ty: written_type(alloc, written)?,
+            ty: written_type(alloc, types, written)?,
             mutable: *mutable,
         }),
         ParamNode::Receiver(_) | ParamNode::Borrowed(_, _) => Err(unbuilt(param.span)),
@@ -194,13 +151,13 @@ fn declared_by(pattern: &Pat) -> Result<Declared, PassError>
 
 /// What a statement declares, and the type that is expected of its value.
 #[tactic(auto, unfolding(crate::specs::Written::step_of))]
-pub(crate) fn step_of(alloc: Global, kind: &StmtKind) -> Result<Step, PassError>
-    ensures { Answers result (step_of kind.now) }
+pub(crate) fn step_of(alloc: Global, types: &AdtTable, kind: &StmtKind) -> Result<Step, PassError>
+    ensures { Answers result (step_of types.now kind.now) }
 {
     match kind {
         StmtKind::Let(pattern, written) => {
             let declares = Some(declared_by(pattern)?);
-            let expected = written_or_none(alloc, written)?;
+            let expected = written_or_none(alloc, types, written)?;
             Ok(Step { declares, expected })
         }
         StmtKind::Run => Ok(Step {

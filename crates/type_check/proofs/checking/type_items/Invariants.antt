@@ -5,4 +5,4 @@ use Rattle.type_check.proofs.PartByPart.{gather_left}
 use Rattle.type_check.proofs.checking.type_items.Given as goal
 
 abbrev pub invariant-loop-item : goal.invariant-loop-item
-invariant-loop-item l = gather (typed_item l.headings) l.items ≡ gather_left (typed_item l.headings) (drop l.item-index l.items) l.functions.items
+invariant-loop-item l = gather (typed_item l.types l.headings) l.items ≡ gather_left (typed_item l.types l.headings) (drop l.item-index l.items) l.functions.items

@@ -5,4 +5,4 @@ use Rattle.type_check.proofs.PartByPart.{each_left}
 use Rattle.type_check.proofs.declaring.variables_of.Given as goal
 
 abbrev pub invariant-loop-param : goal.invariant-loop-param
-invariant-loop-param l = each param_of l.params ≡ each_left param_of (drop l.param-index l.params) l.variables.items
+invariant-loop-param l = each (param_of l.types) l.params ≡ each_left (param_of l.types) (drop l.param-index l.params) l.variables.items

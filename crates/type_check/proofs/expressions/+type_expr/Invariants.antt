@@ -1,9 +1,11 @@
 use Rattle.std.proofs.Common.{◌≡◌, ◌≤◌, ◌+◌, ◌*◌, max, drop, length, Ok}
-use Rattle.source_trees.specs.ExprView.{expr_size, exprs_size, stmts_size, stmts_of, exprs_of}
+use Rattle.source_trees.specs.ExprView.{expr_size, exprs_size, field_exprs_size, stmts_size, stmts_of, exprs_of, field_exprs_of}
 use Rattle.type_check.specs.Chains.{climbed, frames_size, right_of}
 use Rattle.type_check.specs.Setting.{setting_of}
-use Rattle.type_check.specs.Typing.{typed, typed_args, typed_stmts}
+use Rattle.type_check.specs.Literals.{made_by}
+use Rattle.type_check.specs.Typing.{typed, typed_args, typed_fields, typed_stmts}
 use Rattle.type_check.proofs.Arguments.{continued as args_continued}
+use Rattle.type_check.proofs.FieldParts.{continued as fields_continued}
 use Rattle.type_check.proofs.StatementLists.{continued as statements_continued}
 use Rattle.type_check.proofs.expressions.+type_expr.Given as goal
 
@@ -46,6 +48,15 @@ decreases-type_tuple l = 5 * exprs_size (exprs_of l.parts.now) + 1
 
 abbrev pub decreases-type_part : goal.decreases-type_part
 decreases-type_part l = 5 * expr_size l.value.now + 2
+
+abbrev pub decreases-type_field : goal.decreases-type_field
+decreases-type_field l = 5 * expr_size l.value.now + 2
+
+abbrev pub decreases-type_literal : goal.decreases-type_literal
+decreases-type_literal l = 5 * field_exprs_size (field_exprs_of l.fields.now) + 1
+
+abbrev pub decreases-type_fields : goal.decreases-type_fields
+decreases-type_fields l = 5 * field_exprs_size (field_exprs_of l.fields.now)
 
 abbrev pub decreases-type_block : goal.decreases-type_block
 decreases-type_block l = 5 * stmts_size (stmts_of l.stmts.now) + 1
@@ -91,6 +102,12 @@ abbrev pub invariant-type_args-loop-i : goal.invariant-type_args-loop-i
 invariant-type_args-loop-i l = record {
   kept : l.scope.items ≡ l.fn.scope.items;
   so_far : typed_args (setting_of l.setting) l.fn.scope.items (exprs_of l.args) l.params ≡ args_continued (setting_of l.setting) l.fn.scope.items l.args l.params l.i l.typed.items;
+}
+
+abbrev pub invariant-type_fields-loop-i : goal.invariant-type_fields-loop-i
+invariant-type_fields-loop-i l = record {
+  kept : l.scope.items ≡ l.fn.scope.items;
+  so_far : typed_fields (setting_of l.setting) l.fn.scope.items l.whole (made_by l.maker) l.maker.fields.now (field_exprs_of l.fields) ≡ fields_continued (setting_of l.setting) l.fn.scope.items l.whole (made_by l.maker) l.fields l.i l.typed.items;
 }
 
 abbrev pub invariant-type_statements-loop-i : goal.invariant-type_statements-loop-i
