@@ -1,19 +1,23 @@
 -- Fields and parts: where there are none, and that what is found has its type.
-use Rattle.std.proofs.Common.{◌≡◌, ◌∙◌, ℕ, zero, suc, ◌+◌, Bool, true, false, List, [], ◌∷◌, Option, Some, None, refl, ap, sym, subst, arith}
+use Rattle.std.proofs.Common.{◌≡◌, ◌∙◌, ℕ, zero, suc, ◌+◌, Bool, true, false, List, [], ◌∷◌, Option, Some, None, Err, refl, ap, sym, subst, arith}
 use Rattle.std.specs.Option.{option_map}
 use Rattle.std.specs.Prelude.{slice_get, ◌==◌, if◌then◌else◌}
 use Rattle.text_core.specs.declared.name.Name.{Name}
+use Rattle.text_core.specs.declared.span.Span.{Span}
 use Rattle.logic_term.specs.declared.declaration.AdtDecl.{AdtDecl}
 use Rattle.logic_term.specs.declared.declaration.FieldDecl.{FieldDecl}
+use Rattle.logic_term.specs.declared.declaration.VariantDecl.{VariantDecl}
 use Rattle.logic_term.specs.declared.kinds.TyUnary.{TyUnary}
 use Rattle.logic_term.specs.declared.kinds.TyUnary.TheVariants as unary
 use Rattle.logic_term.specs.Ty.{Ty, Tys, int, bool, math_int, tuple, adt, no_tys, and_ty}
 use Rattle.logic_term.specs.TyView.{made_by}
+use Rattle.source_trees.specs.declared.path.Segment.{Segment}
+use Rattle.type_check.specs.Answers.{unknown_name}
 use Rattle.type_check.specs.DeclaredTypes.{numbered}
-use Rattle.type_check.specs.Typing.{arguments_from, field_from, field_of, part_of, part_if, with_number}
+use Rattle.type_check.specs.Typing.{arguments_for, arguments_from, maker_by, maker_first, maker_if, field_from, field_of, part_of, part_if, with_number}
 use Rattle.type_check.specs.WellTyped.{field_at, nth_part, part_ty, struct_fields}
 
-unary_field : (ds : List AdtDecl) (x : Name) (op : TyUnary) (t : Ty) → field_of ds x (made_by op t) ≡ None
+pub unary_field : (ds : List AdtDecl) (x : Name) (op : TyUnary) (t : Ty) → field_of ds x (made_by op t) ≡ None
 unary_field ds x unary.Boxed t = refl
 unary_field ds x (unary.Shared r) t = refl
 unary_field ds x (unary.Unique r) t = refl
@@ -27,7 +31,7 @@ no_unary_arguments n (unary.Unique r) t = refl
 no_unary_arguments n unary.View t = refl
 no_unary_arguments n unary.Snapshot t = refl
 
-unary_part : (ds : List AdtDecl) (n : ℕ) (op : TyUnary) (t : Ty) → part_of ds (made_by op t) n ≡ field_of ds (numbered n) (made_by op t)
+pub unary_part : (ds : List AdtDecl) (n : ℕ) (op : TyUnary) (t : Ty) → part_of ds (made_by op t) n ≡ field_of ds (numbered n) (made_by op t)
 unary_part ds n unary.Boxed t = refl
 unary_part ds n (unary.Shared r) t = refl
 unary_part ds n (unary.Unique r) t = refl
@@ -38,20 +42,24 @@ pub ruleset no_unary_field = (unary_field, unary_part)
 
 -- ---- what is found has its type
 
-module _ (x : Name) (ts : Tys) where
-  from_found : (k : ℕ) (fs : List FieldDecl) (p : ℕ × Ty) → field_from k x ts fs ≡ Some p → (m : ℕ) × (p.0 ≡ m + k) × (option_map (field_at ts) (slice_get fs m) ≡ Some p.1)
-  from_found k [] p h = absurd (cc)
-  from_found k (f ∷ fs) p h = by_test (f.name.0 == x.0) h
-    where
-      by_test : (b : Bool) → (if b then Some (k, field_at ts f) else field_from (suc k) x ts fs) ≡ Some p → (m : ℕ) × (p.0 ≡ m + k) × (option_map (field_at ts) (slice_get (f ∷ fs) m) ≡ Some p.1)
-      by_test true h = let q : (k, field_at ts f) ≡ p = cc in (0, sym (ap (λ (p : ℕ × Ty). p.0) q), ap (λ (p : ℕ × Ty). Some p.1) q)
-      by_test false h = let r = from_found (suc k) fs p h in (suc r.0, r.1 ∙ omega arith, r.2)
+-- it is the field of number m behind number k
+abbrev IsFound : Tys → ℕ → List FieldDecl → ℕ × Ty → Type 0
+IsFound ts k fs p = (m : ℕ) × (p.0 ≡ m + k) × (option_map (field_at ts) (slice_get fs m) ≡ Some p.1)
 
-  first_found : (fs : List FieldDecl) (p : ℕ × Ty) → field_from 0 x ts fs ≡ Some p → option_map (field_at ts) (slice_get fs p.0) ≡ Some p.1
-  first_found fs p h =
-      let r = from_found 0 fs p h in
-      let e : p.0 ≡ r.0 = omega (arith, r.1) in
-      subst (λ m. option_map (field_at ts) (slice_get fs m) ≡ Some p.1) (sym e) r.2
+by_name : (x : Name) (ts : Tys) (k : ℕ) (f : FieldDecl) (fs : List FieldDecl) (p : ℕ × Ty) (b : Bool) → (field_from (suc k) x ts fs ≡ Some p → IsFound ts (suc k) fs p)
+    → (if b then Some (k, field_at ts f) else field_from (suc k) x ts fs) ≡ Some p → IsFound ts k (f ∷ fs) p
+by_name x ts k f fs p true rest h = let q : (k, field_at ts f) ≡ p = cc in (0, sym (ap (λ (p : ℕ × Ty). p.0) q), ap (λ (p : ℕ × Ty). Some p.1) q)
+by_name x ts k f fs p false rest h = let r = rest h in (suc r.0, r.1 ∙ omega arith, r.2)
+
+from_found : (x : Name) (ts : Tys) (k : ℕ) (fs : List FieldDecl) (p : ℕ × Ty) → field_from k x ts fs ≡ Some p → IsFound ts k fs p
+from_found x ts k [] p h = absurd (cc)
+from_found x ts k (f ∷ fs) p h = by_name x ts k f fs p (f.name.0 == x.0) (λ g. from_found x ts (suc k) fs p g) h
+
+first_found : (x : Name) (ts : Tys) (fs : List FieldDecl) (p : ℕ × Ty) → field_from 0 x ts fs ≡ Some p → option_map (field_at ts) (slice_get fs p.0) ≡ Some p.1
+first_found x ts fs p h =
+    let r = from_found x ts 0 fs p h in
+    let e : r.0 ≡ p.0 = omega (arith, r.1) in
+    subst (λ m. option_map (field_at ts) (slice_get fs m) ≡ Some p.1) e r.2
 
 pub field_has_type : (ds : List AdtDecl) (x : Name) (t : Ty) (p : ℕ × Ty) → field_of ds x t ≡ Some p → part_ty ds t p.0 ≡ Some p.1
 field_has_type ds x (adt d rs ts) p h = first_found x ts (struct_fields (slice_get ds d.0)) p h
@@ -71,3 +79,13 @@ part_has_type ds t n p h = absurd (cc)
 pub number_has_type : (ds : List AdtDecl) (t : Ty) (n : Option ℕ) (p : ℕ × Ty) → part_if ds t n ≡ Some p → part_ty ds t p.0 ≡ Some p.1
 number_has_type ds t None p h = absurd (cc)
 number_has_type ds t (Some n) p h = part_has_type ds t n p h
+
+-- ---- what a literal makes
+
+-- a struct that has a variant is made of its fields
+pub made_in_first : (ds : List AdtDecl) (t : Option Ty) (s : Span) (x : Segment) (n : ℕ) (d : AdtDecl) (v : VariantDecl) (ts : Option Tys) → d.is_struct ≡ true → slice_get d.variants 0 ≡ Some v → ts ≡ arguments_for d.params n t
+    → maker_if ds t s x n (Some d) ≡ maker_by ds s (record { 0 = n }) v.fields ts
+made_in_first ds t s x n d v ts is first arguments =
+    ap (λ b. if b then maker_first ds t s x n d (slice_get d.variants 0) else Err (unknown_name x.span)) is
+    ∙ ap (maker_first ds t s x n d) first
+    ∙ ap (maker_by ds s (record { 0 = n }) v.fields) (sym arguments)

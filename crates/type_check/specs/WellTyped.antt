@@ -77,13 +77,13 @@ nth_part (and_ty t ts) zero = Some t
 nth_part (and_ty t ts) (suc n) = nth_part ts n
 
 -- the fields of a struct
-abbrev pub fields_of_first : List VariantDecl → List FieldDecl
-fields_of_first [] = []
-fields_of_first (v ∷ vs) = v.fields
+abbrev pub fields_of_variant : Option VariantDecl → List FieldDecl
+fields_of_variant None = []
+fields_of_variant (Some v) = v.fields
 
 abbrev pub struct_fields : Option AdtDecl → List FieldDecl
 struct_fields None = []
-struct_fields (Some d) = if d.is_struct then fields_of_first d.variants else []
+struct_fields (Some d) = if d.is_struct then fields_of_variant (slice_get d.variants 0) else []
 
 abbrev pub field_at : Tys → FieldDecl → Ty
 field_at ts f = instance ts f.ty

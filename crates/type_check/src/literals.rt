@@ -1,5 +1,5 @@
 //! Struct literals.
-ghost use Rattle.std.specs.Prelude.{◌≡◌, [], IfOk, drop, slice_get};
+ghost use Rattle.std.specs.Prelude.{◌≡◌, [], Some, IfOk, drop, slice_get};
 ghost use Rattle.logic_term.specs.Ty.{adt};
 ghost use Rattle.logic_term.specs.TyView.{tys_of};
 ghost use Rattle.text_core.specs.declared.fault.PassError.TheVariants as errors;
@@ -7,7 +7,7 @@ ghost use Rattle.type_check.specs.Answers.{Answers, AnswersAs};
 ghost use Rattle.type_check.specs.Literals.{arguments_as, made_by};
 ghost use Rattle.type_check.specs.TypedExpr.{none};
 ghost use Rattle.type_check.specs.TypedExprView.{exprs_of};
-ghost use Rattle.type_check.specs.Typing.{arguments_for, arguments_from, has_field, literal_made, maker_by, maker_if, maker_of, next_field, not_next};
+ghost use Rattle.type_check.specs.Typing.{arguments_for, arguments_from, has_field, literal_made, maker_by, maker_if, maker_of, next_field, no_field_left, not_next};
 
 use crate::refusal::{double_name, mismatch, unbuilt, unknown_name};
 use crate::typed::{TypedExpr, TypedNode};
@@ -102,6 +102,32 @@ fn maker_by<'a>(
     })
 }
 
+/// The declared type of this number, where it is a struct.
+#[tactic(auto, using(crate::proofs::FoundParts::made_in_first))]
+fn maker_in<'a>(
+    alloc: Global,
+    decls: &[AdtDecl],
+    expected: &Option<Ty>,
+    span: Span,
+    name: Segment,
+    id: AdtId,
+    decl: &'a AdtDecl,
+) -> Result<Maker<'a>, PassError>
+    ensures { AnswersAs result (maker_if decls.now expected.now span name id.0 (Some decl.now)) made_by }
+{
+    if !decl.is_struct {
+        return Err(unknown_name(name.span));
+    }
+    match decl.variants.as_slice().get(0) {
+        Some(variant) => {
+            let arguments = arguments_for(alloc, decl.params, id, expected)?;
+            let fields = variant.fields.as_slice();
+            maker_by(alloc, decls, span, id, fields, arguments)
+        }
+        None => Err(unknown_name(name.span)),
+    }
+}
+
 /// The struct of this number.
 fn maker_at<'a>(
     alloc: Global,
@@ -114,15 +140,8 @@ fn maker_at<'a>(
     ensures { AnswersAs result (maker_if decls.now expected.now span name id.0 (slice_get decls.now id.0)) made_by }
 {
     match decls.get(id.0 as usize) {
-        Some(decl) if decl.is_struct => match decl.variants.as_slice().get(0) {
-            Some(variant) => {
-                let arguments = arguments_for(alloc, decl.params, id, expected)?;
-                let fields = variant.fields.as_slice();
-                maker_by(alloc, decls, span, id, fields, arguments)
-            }
-            None => Err(unknown_name(name.span)),
-        },
-        _ => Err(unknown_name(name.span)),
+        Some(decl) => maker_in(alloc, decls, expected, span, name, id, decl),
+        None => Err(unknown_name(name.span)),
     }
 }
 
@@ -225,7 +244,7 @@ pub(crate) fn literal_made(
     maker: Maker<'_>,
     parts: Vec<TypedExpr>,
 ) -> Result<TypedExpr, PassError>
-    ensures { Answers result (literal_made expected.now span (made_by maker) (exprs_of parts.items)) }
+    ensures { Answers result (literal_made expected.now span (made_by maker.entry) (exprs_of parts.items)) }
 {
     let ty = declared_ty(alloc, maker.id, maker.arguments.as_slice())?;
     let node = TypedNode::Make(Ctor::Variant(maker.id, 0), parts);

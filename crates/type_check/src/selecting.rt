@@ -1,5 +1,5 @@
 //! Parts of tuples, and fields of structs.
-ghost use Rattle.std.specs.Prelude.{◌≡◌, ◌<◌, ◌^◌, IfOk, MatchOption, slice_get};
+ghost use Rattle.std.specs.Prelude.{◌≡◌, ◌<◌, ◌^◌, Some, IfOk, MatchOption, slice_get};
 ghost use Rattle.logic_term.specs.TyView.{tys_of};
 ghost use Rattle.type_check.specs.Answers.{Answers};
 ghost use Rattle.type_check.specs.Typing.{field_from, field_of, is_boxed, part_by, part_number, part_of, parted, selected, with_number};
@@ -17,16 +17,26 @@ use text_core::{Name, NoMemory, PassError, Span};
 
 // ---- fields
 
+/// The fields of the declared type, where it is a struct.
+fn fields_in(decl: &AdtDecl) -> &[FieldDecl]
+    ensures { result.now ≡ struct_fields (Some decl.now) }
+{
+    if !decl.is_struct {
+        return &[];
+    }
+    match decl.variants.as_slice().get(0) {
+        Some(variant) => variant.fields.as_slice(),
+        None => &[],
+    }
+}
+
 /// The fields of the struct; none of another declared type.
 pub(crate) fn struct_fields(decls: &[AdtDecl], adt: AdtId) -> &[FieldDecl]
     ensures { result.now ≡ struct_fields (slice_get decls.now adt.0) }
 {
     match decls.get(adt.0 as usize) {
-        Some(decl) if decl.is_struct => match decl.variants.as_slice().get(0) {
-            Some(variant) => variant.fields.as_slice(),
-            None => &[],
-        },
-        _ => &[],
+        Some(decl) => fields_in(decl),
+        None => &[],
     }
 }
 
@@ -88,7 +98,7 @@ fn number_in(number: &Number) -> Result<Option<u64>, NoMemory>
 }
 
 /// The part of this number of a tuple of these.
-#[tactic(auto, using(crate::proofs::TupleTypes::nth_listed))]
+#[tactic(auto, using(crate::proofs::TupleTypes::one_of, crate::proofs::TupleTypes::none_of))]
 fn part_among(alloc: Global, parts: &[Ty], number: u64) -> Result<Option<(u32, Ty)>, NoMemory>
     ensures { IfOk result (λ o. o ≡ with_number number (nth_part (tys_of parts.now) number)) }
 {
