@@ -6,6 +6,8 @@ mod asking;
 mod bounded;
 mod checks;
 mod closing;
+mod copy_rows;
+mod copy_types;
 mod copying;
 mod holding;
 mod laws;
@@ -18,6 +20,7 @@ mod written;
 
 pub use applying::{applied, apply};
 pub use checks::Check;
+pub use copy_types::CopyTypes;
 pub use laws::{a_cycle_is_endless, first_refusals_are_one, ranked_types_are_bounded};
 pub use meaning::meant;
 pub use table::AdtTable;
