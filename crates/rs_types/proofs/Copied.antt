@@ -1,6 +1,6 @@
 -- Which types are Copy: what the rows say is so, and all that is so is said where there is nothing new.
-use Rattle.std.proofs.Common.{◌≡◌, ◌≢◌, ℕ, zero, suc, ◌<◌, ◌&&◌, ◌||◌, not, Bool, true, false, List, [], ◌∷◌, get_or, length, Option, Some, None, slice_get, slice_set, replicate, ◌⊎◌, inl, inr, refl, sym, ap, ◌∙◌, subst, true≢false, eqb, arith}
-use Rattle.std.proofs.lemmas.Bool.Decides.{eqb_tells, nat_tests}
+use Rattle.std.proofs.Common.{◌≡◌, ◌≢◌, ℕ, zero, suc, ◌<◌, ◌&&◌, not, Bool, true, false, List, [], ◌∷◌, get_or, length, Some, slice_get, slice_set, replicate, ◌⊎◌, inl, inr, refl, sym, ap, ◌∙◌, subst, true≢false, eqb, arith}
+use Rattle.std.proofs.lemmas.Bool.Decides.{eqb_tells}
 use Rattle.std.proofs.lemmas.List.{length-set}
 use Rattle.logic_term.specs.Sort.{instance, instances, nth_ty}
 use Rattle.logic_term.specs.Ty.{Ty, Tys, int, bool, math_int, tuple, adt, boxed, shared, unique, param, closure, viewed, snapshot, no_tys, and_ty}
@@ -14,7 +14,7 @@ use Rattle.rs_types.specs.CopyRows.{all, all_but, all_copy, copies, needed_copy,
 use Rattle.rs_types.specs.Holding.{none}
 use Rattle.rs_types.specs.Weighing.{field_types, variants_at, variants_in}
 use Rattle.rs_types.proofs.Cases.{fields_are, fields_at}
-use Rattle.rs_types.proofs.CopyRows.{AreRight, IsNew, new_there, none_right, still_right, there_is, unknown_falls, all_at_types, after, each_needed, elsewhere, found_row, given, here, none_at, variants_grow, variants_joined}
+use Rattle.rs_types.proofs.CopyRows.{AreRight, IsNew, new_there, none_right, still_right, there_is, unknown_falls, all_at_types, each_needed, elsewhere, found_row, given, here, none_at, variants_grow, variants_joined}
 use Rattle.rs_types.proofs.Sound.{both}
 use Rattle.rs_types.proofs.Tests.{and_true, not_false}
 

@@ -1,4 +1,5 @@
-//! The declared types of a program: their table, which are accepted, what a written type means, and types at types for their parameters.
+//! The declared types of a program: their table, which are accepted, which types are `Copy`, what a written type means, and types at types for their
+//! parameters.
 #![tactic(auto)]
 
 mod applying;
