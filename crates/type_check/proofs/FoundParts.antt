@@ -1,5 +1,5 @@
 -- Fields and parts: where there are none, and that what is found has its type.
-use Rattle.std.proofs.Common.{◌≡◌, ◌∙◌, ℕ, zero, suc, ◌+◌, Bool, true, false, List, [], ◌∷◌, Option, Some, None, Err, refl, ap, sym, subst, arith}
+use Rattle.std.proofs.Common.{◌≡◌, ◌∙◌, ℕ, zero, suc, ◌+◌, ◌^◌, Bool, true, false, List, [], ◌∷◌, Option, Some, None, Err, refl, ap, sym, subst, arith}
 use Rattle.std.specs.Option.{option_map}
 use Rattle.std.specs.Prelude.{slice_get, ◌==◌, if◌then◌else◌}
 use Rattle.text_core.specs.declared.name.Name.{Name}
@@ -10,7 +10,9 @@ use Rattle.logic_term.specs.declared.declaration.VariantDecl.{VariantDecl}
 use Rattle.logic_term.specs.declared.kinds.TyUnary.{TyUnary}
 use Rattle.logic_term.specs.declared.kinds.TyUnary.TheVariants as unary
 use Rattle.logic_term.specs.Ty.{Ty, Tys, int, bool, math_int, tuple, adt, no_tys, and_ty}
-use Rattle.logic_term.specs.TyView.{made_by}
+use Rattle.logic_term.specs.declared.ty.CompoundTy.{CompoundTy}
+use Rattle.logic_term.specs.declared.ty.CompoundTy.TheVariants as compound
+use Rattle.logic_term.specs.TyView.{compound_of, made_by}
 use Rattle.source_trees.specs.declared.path.Segment.{Segment}
 use Rattle.type_check.specs.Answers.{unknown_name}
 use Rattle.type_check.specs.DeclaredTypes.{numbered}
@@ -38,6 +40,16 @@ unary_part ds n (unary.Unique r) t = refl
 unary_part ds n unary.View t = refl
 unary_part ds n unary.Snapshot t = refl
 
+closure_part : (ds : List AdtDecl) (n : ℕ) (c : CompoundTy) → part_of ds (compound_of c) n ≡ field_of ds (numbered n) (compound_of c)
+closure_part ds n (compound.Adt d rs ts) = refl
+closure_part ds n (compound.Unary op t) = unary_part ds n op t
+closure_part ds n (compound.Closure k ts cs b) = refl
+
+-- in what is no tuple the part is that of the number's name
+pub numbered_part : (ds : List AdtDecl) (n : ℕ) (c : CompoundTy) (x : Name) → x.0 ≡ 2 ^ 63 + n → field_of ds x (compound_of c) ≡ part_of ds (compound_of c) n
+unfolding numbered
+numbered_part ds n c x e = ap (λ k. field_of ds (record { 0 = k }) (compound_of c)) e ∙ sym (closure_part ds n c)
+
 pub ruleset no_unary_field = (unary_field, unary_part)
 
 -- ---- what is found has its type
@@ -48,7 +60,7 @@ IsFound ts k fs p = (m : ℕ) × (p.0 ≡ m + k) × (option_map (field_at ts) (s
 
 by_name : (x : Name) (ts : Tys) (k : ℕ) (f : FieldDecl) (fs : List FieldDecl) (p : ℕ × Ty) (b : Bool) → (field_from (suc k) x ts fs ≡ Some p → IsFound ts (suc k) fs p)
     → (if b then Some (k, field_at ts f) else field_from (suc k) x ts fs) ≡ Some p → IsFound ts k (f ∷ fs) p
-by_name x ts k f fs p true rest h = let q : (k, field_at ts f) ≡ p = cc in (0, sym (ap (λ (p : ℕ × Ty). p.0) q), ap (λ (p : ℕ × Ty). Some p.1) q)
+by_name x ts k f fs p true rest h = let q : (k, field_at ts f) ≡ p = cc in let e : k ≡ p.0 = ap (λ (p : ℕ × Ty). p.0) q in (0, omega (arith, e), ap (λ (p : ℕ × Ty). Some p.1) q)
 by_name x ts k f fs p false rest h = let r = rest h in (suc r.0, r.1 ∙ omega arith, r.2)
 
 from_found : (x : Name) (ts : Tys) (k : ℕ) (fs : List FieldDecl) (p : ℕ × Ty) → field_from k x ts fs ≡ Some p → IsFound ts k fs p

@@ -112,7 +112,7 @@ fn part_among(alloc: Global, parts: &[Ty], number: u64) -> Result<Option<(u32, T
 }
 
 /// The part of this number of a value of the type: of a tuple, or of a struct whose fields have numbers for names.
-#[tactic(auto, using(crate::proofs::FoundParts::no_unary_field))]
+#[tactic(auto, using(crate::proofs::FoundParts::numbered_part))]
 fn part_of(
     alloc: Global,
     decls: &[AdtDecl],
