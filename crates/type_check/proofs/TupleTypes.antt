@@ -1,11 +1,12 @@
 -- The types of tuples, and those of their parts.
-use Rattle.std.proofs.Common.{◌≡◌, ◌∙◌, Some, None, ℕ, zero, suc, List, [], ◌∷◌, map, refl, ap}
-use Rattle.std.specs.Prelude.{slice_get}
-use Rattle.logic_term.specs.Ty.{Ty, Tys, no_tys, and_ty}
+use Rattle.std.proofs.Common.{◌≡◌, ◌∙◌, Option, Some, None, sym, ℕ, zero, suc, List, [], ◌∷◌, map, refl, ap}
+use Rattle.std.specs.Prelude.{MatchOption, slice_get}
+use Rattle.logic_term.specs.declared.declaration.AdtDecl.{AdtDecl}
+use Rattle.logic_term.specs.Ty.{Ty, Tys, tuple, no_tys, and_ty}
 use Rattle.logic_term.specs.TyView.{tys_of}
 use Rattle.type_check.specs.TypedExpr.{TypedExpr}
 use Rattle.type_check.specs.TypedExprView.{exprs_of, ty_of}
-use Rattle.type_check.specs.Typing.{listed, with_number}
+use Rattle.type_check.specs.Typing.{listed, part_of, with_number}
 use Rattle.type_check.specs.WellTyped.{nth_part, tys_of_exprs}
 
 pub listed_types : (ts : List Ty) → listed (tys_of ts) ≡ ts
@@ -17,11 +18,10 @@ nth_listed [] n = refl
 nth_listed (t ∷ ts) zero = refl
 nth_listed (t ∷ ts) (suc n) = nth_listed ts n
 
-pub one_of : (ts : List Ty) (n : ℕ) (t : Ty) → slice_get ts n ≡ Some t → with_number n (nth_part (tys_of ts) n) ≡ Some (n, t)
-one_of ts n t h = ap (with_number n) (nth_listed ts n ∙ h)
-
-pub none_of : (ts : List Ty) (n : ℕ) → slice_get ts n ≡ None → with_number n (nth_part (tys_of ts) n) ≡ None
-none_of ts n h = ap (with_number n) (nth_listed ts n ∙ h)
+-- the part of a tuple of these, as the code finds it
+pub tuple_part : (ds : List AdtDecl) (ts : List Ty) (n : ℕ) (o : Option (ℕ × Ty)) → MatchOption o (slice_get ts n ≡ None) (λ p. (p.0 ≡ n) × (slice_get ts n ≡ Some p.1)) → o ≡ part_of ds (tuple (tys_of ts)) n
+tuple_part ds ts n None h = sym (ap (with_number n) (nth_listed ts n ∙ h))
+tuple_part ds ts n (Some p) h = ap (λ k. Some (k, p.1)) h.0 ∙ sym (ap (with_number n) (nth_listed ts n ∙ h.1))
 
 pub all_types : (es : List TypedExpr) → tys_of (map ty_of es) ≡ tys_of_exprs (exprs_of es)
 all_types [] = refl

@@ -1,9 +1,9 @@
 //! Parts of tuples, and fields of structs.
-ghost use Rattle.std.specs.Prelude.{◌≡◌, ◌<◌, ◌^◌, Some, IfOk, MatchOption, slice_get};
+ghost use Rattle.std.specs.Prelude.{◌≡◌, ◌<◌, ◌^◌, None, Some, IfOk, MatchOption, slice_get};
 ghost use Rattle.logic_term.specs.TyView.{tys_of};
 ghost use Rattle.type_check.specs.Answers.{Answers};
-ghost use Rattle.type_check.specs.Typing.{field_from, field_of, is_boxed, part_by, part_number, part_of, parted, selected, with_number};
-ghost use Rattle.type_check.specs.WellTyped.{nth_part, struct_fields};
+ghost use Rattle.type_check.specs.Typing.{field_from, field_of, is_boxed, part_by, part_number, part_of, parted, selected};
+ghost use Rattle.type_check.specs.WellTyped.{struct_fields};
 
 use crate::refusal::{unbuilt, unknown_name};
 use crate::typed::{TypedExpr, TypedNode};
@@ -98,9 +98,8 @@ fn number_in(number: &Number) -> Result<Option<u64>, NoMemory>
 }
 
 /// The part of this number of a tuple of these.
-#[tactic(auto, using(crate::proofs::TupleTypes::one_of, crate::proofs::TupleTypes::none_of))]
 fn part_among(alloc: Global, parts: &[Ty], number: u64) -> Result<Option<(u32, Ty)>, NoMemory>
-    ensures { IfOk result (λ o. o ≡ with_number number (nth_part (tys_of parts.now) number)) }
+    ensures { IfOk result (λ o. MatchOption o (slice_get parts.now number ≡ None) (λ p. (p.0 ≡ number) × (slice_get parts.now number ≡ Some p.1))) }
 {
     match parts.get(number as usize) {
         Some(ty) => {
@@ -112,7 +111,7 @@ fn part_among(alloc: Global, parts: &[Ty], number: u64) -> Result<Option<(u32, T
 }
 
 /// The part of this number of a value of the type: of a tuple, or of a struct whose fields have numbers for names.
-#[tactic(auto, using(crate::proofs::FoundParts::numbered_part))]
+#[tactic(auto, using(crate::proofs::FoundParts::numbered_part, crate::proofs::TupleTypes::tuple_part))]
 fn part_of(
     alloc: Global,
     decls: &[AdtDecl],
@@ -123,7 +122,10 @@ fn part_of(
     ensures { IfOk result (λ o. o ≡ part_of decls.now ty.now number) }
 {
     match &ty.node {
-        TyNode::Tuple(parts) => part_among(alloc, parts, number),
+        TyNode::Tuple(parts) => {
+            let found = part_among(alloc, parts, number)?;
+            Ok(found)
+        }
         TyNode::Compound(_) => field_of(alloc, decls, ty, Name::fresh(number)),
         TyNode::Int(_) | TyNode::Bool | TyNode::MathInt | TyNode::Param(_) => Ok(None),
     }
