@@ -70,7 +70,7 @@ no_labels _ h = absurd (true≢false (sym h))
 
 pub no_locals : (e : TypedExpr) → is_variable (root e) ≡ true → temporary_count (is_place e) + locals e ≡ 0
 no_locals (variable ty s v) h = refl
-no_locals (part ty s e n) h = no_locals e h
+no_locals (part ty s e n) h = omega (arith, no_locals e h)
 no_locals _ h = absurd (true≢false (sym h))
 
 pub nothing_before : (e : TypedExpr) (c : Around) (l t : ℕ) → is_variable (root e) ≡ true → text_before e c l t ≡ []
@@ -88,7 +88,7 @@ same_place scope t _ h = absurd (true≢false (sym h))
 
 pub root_locals : (e : TypedExpr) → is_variable (root e) ≡ false → temporary_count (is_place e) + locals e ≡ 1 + locals (root e)
 root_locals (variable ty s v) h = absurd (true≢false h)
-root_locals (part ty s e n) h = root_locals e h
+root_locals (part ty s e n) h = omega (arith, root_locals e h)
 root_locals e h = refl
 
 pub root_before : (e : TypedExpr) (c : Around) (l t : ℕ) → is_variable (root e) ≡ false → text_before e c l t ≡ Makes t (ty_of (root e)) ∷ into (root e) c l (t + 1) t
@@ -99,7 +99,7 @@ root_before e c l t h = refl
 -- ---- the value of a place
 
 place_counts : (e : TypedExpr) → is_place e ≡ true → temporary_count (is_place e) + locals e ≡ locals e
-place_counts e h = ap (λ b. temporary_count b + locals e) h
+place_counts e h = omega (arith, ap (λ b. temporary_count b + locals e) h)
 
 copied_text : (e : TypedExpr) (c : Around) (l t d : ℕ) → is_place e ≡ true → into e c l t d ≡ text_before e c l t ++ puts (span_of e) d (Use (Copy (place_of c.scope t e))) ∷ []
 copied_text (variable ty s v) c l t d h = refl

@@ -16,3 +16,6 @@ decreases-loop-value l = typed_size l.here
 
 abbrev pub invariant-loop-number : goal.invariant-loop-number
 invariant-loop-number l = parts_of_place l.place l.numbers.items ≡ place_of l.scope l.t l.e
+
+abbrev pub decreases-loop-number : goal.decreases-loop-number
+decreases-loop-number l = length l.numbers.items
