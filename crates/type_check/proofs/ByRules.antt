@@ -14,7 +14,7 @@ use Rattle.type_check.specs.Setting.{Setting, looping, outside}
 use Rattle.type_check.specs.TypedExpr.{TypedExpr, TypedExprs}
 use Rattle.type_check.specs.TypedExpr as tree
 use Rattle.type_check.specs.TypedExprView.{ty_of}
-use Rattle.type_check.specs.Typing.{Typed, is_bare, order_of, operands_of, operands, callee_of, first_of, rest_of, Opened, opened, declared, behind, typed_stmt, given, invariant_of, typed, typed_stmts, typed_args}
+use Rattle.type_check.specs.Typing.{Typed, is_bare, order_of, operands_of, operands, callee_of, first_of, rest_of, Opened, opened, declared, behind, typed_stmt, given, invariant_of, parts_of, typed, typed_stmts, typed_args}
 use Rattle.type_check.specs.WellTyped.{unit, is_arithmetic}
 use Rattle.type_check.specs.Written.{as_name, step_of}
 use Rattle.type_check.specs.Rules.{Asks, comes, part, first, operands_in, each_arg, each_stmt, rule, Types, by_rule, Comes, itself, refused, then, TypedByRules, TypingIsOne}
@@ -88,6 +88,8 @@ mutual
   types σ Γ (E.update s op o l e) t = by_rule
       (at_part σ Γ l None (typed σ Γ l None) _ _ (types σ Γ l None) (λ a. at_part σ Γ e (Some (ty_of a)) (typed σ Γ e (Some (ty_of a))) _ _ (types σ Γ e (Some (ty_of a))) (λ b. itself)))
   types σ Γ (E.call s f es) t = by_rule (at_first (callee_of σ.headings Γ s (as_name f)) _ _ (λ g. at_args σ Γ es g.signature.params _ _ (λ as'. itself)))
+  types σ Γ (E.tuple s es) t = by_rule (at_args σ Γ es (parts_of t) _ _ (λ as'. itself))
+  types σ Γ (E.part s e k) t = by_rule (at_part σ Γ e None (typed σ Γ e None) _ _ (types σ Γ e None) (λ a. itself))
   types σ Γ (E.block s ss) t = by_rule (at_stmts σ Γ ss _ _ (λ o. itself))
   types σ Γ (E.block_with s ss e) t = by_rule (at_stmts σ Γ ss _ _ (λ o. at_part σ o.scope e t (typed σ o.scope e t) _ _ (types σ o.scope e t) (λ a. itself)))
   types σ Γ (E.branch s None c a) t = by_rule

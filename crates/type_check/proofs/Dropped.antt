@@ -3,6 +3,7 @@ use Rattle.std.proofs.Common.{◌≡◌, ◌∙◌, ℕ, suc, ◌+◌, ◌*◌, 
 use denote.Param.Weighed.{most, w_this}
 use Rattle.std.proofs.Common.{Vec, Global}
 use Rattle.text_core.specs.declared.span.Span.{Span}
+use Rattle.logic_term.specs.declared.kinds.Ctor.{Ctor}
 use Rattle.logic_term.specs.Ty.{Ty}
 use Rattle.type_check.specs.declared.typed.TypedNode.{TypedNode}
 use Rattle.type_check.specs.declared.typed.TypedNode.TheVariants as node
@@ -37,6 +38,12 @@ pub args_fall : (e : TypedExpr) (t : Ty) (s : Span) (n m : TypedNode) (f : ℕ) 
     → most (w_this.weight TypedExpr size-TypedExpr) es.items + 3 ≤ 3 * (typed_size e + 1)
 args_fall e t s n m f es v d is =
     subst (λ x. most (w_this.weight TypedExpr size-TypedExpr) es.items + 3 ≤ 3 * (typed_size x + 1)) (seen e t s n m (node.Call f es) v d is)
+    (let h : most (w_this.weight TypedExpr size-TypedExpr) es.items ≤ 3 * exprs_size (exprs_of es.items) = most_exprs es.items in omega (arith, h))
+
+pub parts_fall : (e : TypedExpr) (t : Ty) (s : Span) (n m : TypedNode) (c : Ctor) (es : Vec TypedExpr Global) → typed_of t s n ≡ e → m ≡ n → m ≡ node.Make c es
+    → most (w_this.weight TypedExpr size-TypedExpr) es.items + 3 ≤ 3 * (typed_size e + 1)
+parts_fall e t s n m c es v d is =
+    subst (λ x. most (w_this.weight TypedExpr size-TypedExpr) es.items + 3 ≤ 3 * (typed_size x + 1)) (seen e t s n m (node.Make c es) v d is)
     (let h : most (w_this.weight TypedExpr size-TypedExpr) es.items ≤ 3 * exprs_size (exprs_of es.items) = most_exprs es.items in omega (arith, h))
 
 pub stmts_fall : (e : TypedExpr) (t : Ty) (s : Span) (n m : TypedNode) (ss : Vec TypedStmt Global) → typed_of t s n ≡ e → m ≡ n → m ≡ node.Block ss

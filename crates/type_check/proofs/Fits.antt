@@ -7,13 +7,15 @@ use Rattle.text_core.specs.declared.span.Span.{Span}
 use Rattle.source_kinds.specs.declared.kinds.BinaryOp.{BinaryOp}
 use Rattle.source_kinds.specs.declared.kinds.IntKind.{IntKind}
 use Rattle.source_kinds.specs.Range.{fits}
-use Rattle.logic_term.specs.Ty.{Ty, int, bool}
+use Rattle.logic_term.specs.declared.kinds.Ctor.TheVariants.{Tuple}
+use Rattle.logic_term.specs.Ty.{Ty, Tys, int, bool, tuple, no_tys, and_ty}
 use Rattle.source_trees.specs.declared.attribute.Attribute.{Attribute}
 use Rattle.source_trees.specs.declared.attribute.AttributeNode.{AttributeNode}
 use Rattle.source_trees.specs.declared.attribute.AttributeNode.TheVariants as A
 use Rattle.source_trees.specs.declared.attribute.ClauseKind.TheVariants.{Invariant}
 use Rattle.source_trees.specs.declared.operator.PanicMacro.{PanicMacro}
 use Rattle.source_trees.specs.declared.operator.UnaryOp.TheVariants.{Neg, Not}
+use Rattle.source_trees.specs.declared.path.Number.{Number}
 use Rattle.source_trees.specs.declared.path.Segment.{Segment}
 use Rattle.source_trees.specs.declared.statement.StmtKind.{StmtKind}
 use Rattle.source_trees.specs.declared.statement.StmtKind.TheVariants as kind
@@ -45,8 +47,8 @@ use Rattle.type_check.specs.TypedExpr as tree
 use Rattle.type_check.specs.TypedExprView.{ty_of, stmt_of, stmts_of}
 use Rattle.type_check.specs.Types.{same_ty, is_signed_ty}
 use Rattle.type_check.specs.Typing.{Typed, fit, literal_kind, literal_of, literal, variable_of, variable, named, negated, is_bare, order_without, order_of, operands_of, operands, operation, operated, may_write, if_mutable, writing, assigned}
-use Rattle.type_check.specs.Typing.{is_updated, updated, known, callee_of, how_many, first_of, rest_of, called, block_ty, declared, Opened, opened, typed_stmt, behind, without_last, closed, asked, given, choice_ty, cause_of, panicked, nothing, returned, bare_return, endless, in_a_loop, invariant_by, invariant_of, typed, typed_stmts, typed_args}
-use Rattle.type_check.specs.WellTyped.{unit, Surroundings, IsBuilt, AllBuilt, is_arithmetic, is_equality, operation_ty, is_signed, IsOf, IsOfOrLeaves, SpeaksOf, EachSpeaks, IsWellTyped, StatementsFit, ArgumentsFit}
+use Rattle.type_check.specs.Typing.{is_updated, updated, known, callee_of, how_many, first_of, rest_of, called, block_ty, declared, Opened, opened, typed_stmt, behind, without_last, closed, asked, given, choice_ty, cause_of, panicked, nothing, returned, bare_return, endless, in_a_loop, invariant_by, invariant_of, listed, parts_of, tupled, part_number, part_of_ty, part_at, parted, typed, typed_stmts, typed_args}
+use Rattle.type_check.specs.WellTyped.{unit, Surroundings, IsBuilt, PartsAreBuilt, AllBuilt, nth_part, part_ty, tys_of_exprs, PartsFit, is_arithmetic, is_equality, operation_ty, is_signed, IsOf, IsOfOrLeaves, SpeaksOf, EachSpeaks, IsWellTyped, StatementsFit, ArgumentsFit}
 use Rattle.type_check.specs.Written.{as_name, name_alone, written_type, written_or_none, declared_by, step_of}
 use Rattle.type_check.proofs.Bound.{bound, held, yes, same_ok}
 use Rattle.type_check.proofs.Lookups.{types, signatures_at, surroundings, found_type, callee_signature}
@@ -207,6 +209,48 @@ no_args σ Γ (t ∷ ts) = λ h. absurd (omega arith)
 more_args : (σ : Setting) (Γ : List Variable) (ts : List Ty) (e : TypedExpr) (es : TypedExprs) → Sound σ Γ (first_of ts) e → AllSound σ Γ es (rest_of ts) → AllSound σ Γ (tree.more e es) ts
 more_args σ Γ [] e es a b = λ h. absurd (omega arith)
 more_args σ Γ (t ∷ ts) e es a b = λ h. (a.meets, a.well, b (omega arith))
+
+-- ---- tuples
+
+parts_built : (ts : Tys) → PartsAreBuilt ts → AllBuilt (listed ts)
+parts_built no_tys h = tt
+parts_built (and_ty t ts) h = (h.0, parts_built ts h.1)
+
+-- what is expected of the parts is built
+expected_built : (t : Option Ty) → MayAsk t → AllBuilt (parts_of t)
+expected_built None h = tt
+expected_built (Some (tuple ts)) h = parts_built ts h
+expected_built (Some u) h = tt
+
+-- each part fits, and is of a built type
+abbrev pub PartsSound : Setting → List Variable → TypedExprs → Type 0
+PartsSound σ Γ es = PartsFit (surroundings σ) (types Γ) es × PartsAreBuilt (tys_of_exprs es)
+
+tupled_sound : (σ : Setting) (Γ : List Variable) (t : Option Ty) (s : Span) (es : TypedExprs) (r : TypedExpr) → PartsSound σ Γ es → tupled t s es ≡ Ok r → Sound σ Γ t r
+unfolding tupled
+tupled_sound σ Γ t s es r h p = fit_sound σ Γ t s (tree.make (tuple (tys_of_exprs es)) s Tuple es) r (refl, h.0) h.1 p
+
+nth_built : (ts : Tys) (n : ℕ) (u : Ty) → PartsAreBuilt ts → nth_part ts n ≡ Some u → IsBuilt u
+nth_built no_tys n u h p = absurd (cc)
+nth_built (and_ty t ts) zero u h p = let q : t ≡ u = cc in subst IsBuilt q h.0
+nth_built (and_ty t ts) (suc n) u h p = nth_built ts n u h.1 p
+
+part_built : (t : Ty) (n : ℕ) (u : Ty) → IsBuilt t → part_ty t n ≡ Some u → IsBuilt u
+part_built (tuple ts) n u h p = nth_built ts n u h p
+part_built t n u h p = absurd (cc)
+
+part_sound : (σ : Setting) (Γ : List Variable) (t : Option Ty) (s o : Span) (a : TypedExpr) (n : ℕ) (u : Option Ty) (r : TypedExpr) → IsWellTyped (surroundings σ) (types Γ) a → IsBuilt (ty_of a) → part_ty (ty_of a) n ≡ u
+    → part_of_ty t s o a n u ≡ Ok r → Sound σ Γ t r
+part_sound σ Γ t s o a n None r w b q p = absurd (cc)
+part_sound σ Γ t s o a n (Some u) r w b q p = fit_sound σ Γ t s (tree.part u s a n) r (q, w) (part_built (ty_of a) n u b q) p
+
+number_sound : (σ : Setting) (Γ : List Variable) (t : Option Ty) (s o : Span) (a : TypedExpr) (n : Option ℕ) (r : TypedExpr) → IsWellTyped (surroundings σ) (types Γ) a → IsBuilt (ty_of a) → part_at t s o a n ≡ Ok r → Sound σ Γ t r
+number_sound σ Γ t s o a None r w b p = absurd (cc)
+number_sound σ Γ t s o a (Some n) r w b p = part_sound σ Γ t s o a n (part_ty (ty_of a) n) r w b refl p
+
+parted_sound : (σ : Setting) (Γ : List Variable) (t : Option Ty) (s : Span) (k : Number) (a r : TypedExpr) → IsWellTyped (surroundings σ) (types Γ) a → IsBuilt (ty_of a) → parted t s k a ≡ Ok r → Sound σ Γ t r
+unfolding parted
+parted_sound σ Γ t s k a r w b p = number_sound σ Γ t s k.span a (part_number k) r w b p
 
 -- ---- blocks and loops
 
@@ -486,6 +530,13 @@ mutual
       let is = called_callee σ.headings Γ s (as_name f) g.0 g.1 in
       let b = ho.functions g.0.place g.0.signature is in
       called_sound σ Γ t s g.0 as'.0 r is b.1 (args_sound σ Γ es g.0.signature.params as'.0 ho b.0 as'.1) as'.2
+  typed_sound σ Γ (E.tuple s es) t r ho ht p =
+      let as' = bound (typed_args σ Γ es (parts_of t)) _ r p in
+      tupled_sound σ Γ t s as'.0 r (parts_sound σ Γ es (parts_of t) as'.0 ho (expected_built t ht) as'.1) as'.2
+  typed_sound σ Γ (E.part s e k) t r ho ht p =
+      let a = bound (typed σ Γ e None) _ r p in
+      let sa = typed_sound σ Γ e None a.0 ho tt a.1 in
+      parted_sound σ Γ t s k a.0 r sa.well sa.built a.2
   typed_sound σ Γ (E.block s ss) t r ho ht p =
       let o = bound (typed_stmts σ Γ ss) _ r p in
       closed_sound σ Γ t s (without_last o.0.stmts) r (without_last_fits (surroundings σ) (types Γ) t o.0.stmts ht ((stmts_sound σ Γ ss o.0 ho o.1).0 unit tree.done refl)) (without_last_built t o.0.stmts ht) o.2
@@ -559,3 +610,12 @@ mutual
       let c = bound (typed_args σ Γ es (rest_of ts)) _ r a.2 in
       subst (λ (r : TypedExprs). AllSound σ Γ r ts) (same_ok _ _ c.2)
       (more_args σ Γ ts a.0 c.0 (typed_sound σ Γ e (first_of ts) a.0 ho (first_may ts hs) a.1) (args_sound σ Γ es (rest_of ts) c.0 ho (rest_built ts hs) c.1))
+
+  parts_sound : (σ : Setting) (Γ : List Variable) (es : E.Exprs) (ts : List Ty) (r : TypedExprs) → Around σ Γ → AllBuilt ts → typed_args σ Γ es ts ≡ Ok r → PartsSound σ Γ r
+  parts_sound σ Γ E.none ts r ho hs p = subst (PartsSound σ Γ) (same_ok _ _ p) (tt, tt)
+  parts_sound σ Γ (E.more e es) ts r ho hs p =
+      let a = bound (typed σ Γ e (first_of ts)) _ r p in
+      let c = bound (typed_args σ Γ es (rest_of ts)) _ r a.2 in
+      let sa = typed_sound σ Γ e (first_of ts) a.0 ho (first_may ts hs) a.1 in
+      let rest = parts_sound σ Γ es (rest_of ts) c.0 ho (rest_built ts hs) c.1 in
+      subst (PartsSound σ Γ) (same_ok _ _ c.2) ((sa.well, rest.0), (sa.built, rest.1))

@@ -15,6 +15,7 @@ pub mod Refusing
 pub mod Speaking
 pub mod StatementLists
 pub mod Targets
+pub mod TupleTypes
 pub mod TypedParts
 pub mod Whole
 pub mod WrittenTypes

@@ -1,5 +1,5 @@
 -- Refusals of program code have causes.
-use Rattle.std.proofs.Common.{◌≡◌, ◌⊎◌, inl, inr, ◌==◌, Bool, true, false, List, [], ◌∷◌, length, Option, Some, None, Result, Ok, Err, refl, ap, sym}
+use Rattle.std.proofs.Common.{◌≡◌, ◌⊎◌, inl, inr, ℕ, ◌==◌, Bool, true, false, List, [], ◌∷◌, length, Option, Some, None, Result, Ok, Err, refl, ap, sym, subst}
 use Rattle.std.specs.Prelude.{ℤ, if◌then◌else◌}
 use Rattle.text_core.specs.declared.name.Name.{Name}
 use Rattle.text_core.specs.declared.refusal.SourceError.{SourceError}
@@ -7,12 +7,14 @@ use Rattle.text_core.specs.declared.span.Span.{Span}
 use Rattle.source_kinds.specs.declared.kinds.BinaryOp.{BinaryOp}
 use Rattle.source_kinds.specs.declared.kinds.IntKind.{IntKind}
 use Rattle.source_kinds.specs.Range.{fits}
-use Rattle.logic_term.specs.Ty.{Ty, int, bool}
+use Rattle.logic_term.specs.declared.kinds.Ctor.TheVariants.{Tuple}
+use Rattle.logic_term.specs.Ty.{Ty, int, bool, tuple, and_ty}
 use Rattle.source_trees.specs.declared.attribute.Attribute.{Attribute}
 use Rattle.source_trees.specs.declared.attribute.AttributeNode.{AttributeNode}
 use Rattle.source_trees.specs.declared.attribute.AttributeNode.TheVariants as A
 use Rattle.source_trees.specs.declared.attribute.ClauseKind.TheVariants.{Invariant}
 use Rattle.source_trees.specs.declared.operator.UnaryOp.TheVariants.{Neg, Not}
+use Rattle.source_trees.specs.declared.path.Number.{Number}
 use Rattle.source_trees.specs.declared.path.Segment.{Segment}
 use Rattle.source_trees.specs.declared.statement.StmtKind.{StmtKind}
 use Rattle.source_trees.specs.declared.statement.StmtKind.TheVariants as kind
@@ -32,7 +34,7 @@ use Rattle.type_check.specs.declared.scope.Found.{Found}
 use Rattle.type_check.specs.declared.scope.Variable.{Variable}
 use Rattle.type_check.specs.declared.statements.Step.{Step}
 use Rattle.type_check.specs.Answers.{◌>>=◌, unknown_name, mismatch, unbuilt, not_mutable, with_some, gather}
-use Rattle.type_check.specs.Causes.{IsMismatch, IsUnbuilt, IsUnknown, IsNotRead, IsNotWritten, IsNotCalled, Causes, CausesInStmts, CausesInArgs}
+use Rattle.type_check.specs.Causes.{IsMismatch, IsUnbuilt, IsUnknown, IsNotRead, IsNotWritten, IsNotCalled, IsNoPart, root_name, Causes, CausesInStmts, CausesInArgs}
 use Rattle.type_check.specs.Functions.{callee}
 use Rattle.type_check.specs.Scope.{found}
 use Rattle.type_check.specs.Breaks.{breaks}
@@ -42,9 +44,9 @@ use Rattle.type_check.specs.TypedExpr as tree
 use Rattle.type_check.specs.TypedExprView.{ty_of, stmts_of}
 use Rattle.type_check.specs.Types.{same_ty, is_signed_ty}
 use Rattle.type_check.specs.Typing.{Typed, fit, literal_kind, literal_of, literal, variable_of, variable, named, negated, is_bare, order_of, operands_of, operands, operation, operated, may_write, if_mutable, writing, assigned}
-use Rattle.type_check.specs.Typing.{is_updated, updated, known, callee_of, how_many, first_of, rest_of, called, asked, block_ty, declared, behind, typed_stmt, without_last, closed, given, choice_ty, cause_of, nothing, returned, endless, in_a_loop, invariant_by, invariant_of, typed, typed_stmts, typed_args}
-use Rattle.type_check.specs.WellTyped.{unit, is_arithmetic, operation_ty}
-use Rattle.type_check.specs.Written.{as_name, name_alone, named_type, type_or, written_type, written_or_none, name_or, declared_by, step_of}
+use Rattle.type_check.specs.Typing.{is_updated, updated, known, callee_of, how_many, first_of, rest_of, called, asked, block_ty, declared, behind, typed_stmt, without_last, closed, given, choice_ty, cause_of, nothing, returned, endless, in_a_loop, invariant_by, invariant_of, parts_of, tupled, part_number, part_of_ty, part_at, parted, typed, typed_stmts, typed_args}
+use Rattle.type_check.specs.WellTyped.{unit, is_arithmetic, operation_ty, part_ty, tys_of_exprs}
+use Rattle.type_check.specs.Written.{as_name, name_alone, named_type, type_or, written_type, written_types, written_or_none, name_or, declared_by, step_of}
 use Rattle.type_check.proofs.Bound.{yes}
 use Rattle.type_check.proofs.Targets.{IsNamed, constant_named, typed_named}
 
@@ -148,9 +150,9 @@ updated_stops : (Γ : List Variable) (t : Option Ty) (s o l : Span) (op : Binary
 unfolding updated
 updated_stops Γ t s o l op a b e p = updated_at (is_updated op (ty_of a)) Γ t s l a (tree.update unit o op a b) e p
 
-not_written : (Γ : List Variable) (l : Expr) (a : TypedExpr) (e : SourceError) → IsNamed Γ (as_name l) a → IsMismatch e ⊎ IsFixed Γ a (span_of l) e → IsMismatch e ⊎ IsNotWritten Γ l e
+not_written : (Γ : List Variable) (l : Expr) (a : TypedExpr) (e : SourceError) → IsNamed Γ (root_name l) a → IsMismatch e ⊎ IsFixed Γ a (span_of l) e → IsMismatch e ⊎ IsNotWritten Γ l e
 not_written Γ l a e n (inl m) = inl m
-not_written Γ l a e n (inr f) = let c = constant_named Γ (as_name l) a n f.0 in inr (c.0, c.1, (c.2, c.3, c.4, f.1))
+not_written Γ l a e n (inr f) = let c = constant_named Γ (root_name l) a n f.0 in inr (c.0, c.1, (c.2, c.3, c.4, f.1))
 
 -- an assignment stops at its left side, at its right side, or as a whole
 assignment_stops : (σ : Setting) (Γ : List Variable) (l r : Expr) (k : TypedExpr → TypedExpr → Typed) (e : SourceError) → ((a b : TypedExpr) → k a b ≡ Err e → IsMismatch e ⊎ IsFixed Γ a (span_of l) e)
@@ -183,6 +185,32 @@ closed_stops : (t : Option Ty) (s : Span) (ss : TypedStmts) (e : SourceError) �
 unfolding closed
 closed_stops t s ss e p = fit_stops t s (tree.block (block_ty t ss) s ss) e p
 
+-- ---- tuples
+
+tupled_stops : (t : Option Ty) (s : Span) (es : TypedExprs) (e : SourceError) → tupled t s es ≡ Err e → IsMismatch e
+unfolding tupled
+tupled_stops t s es e p = fit_stops t s (tree.make (tuple (tys_of_exprs es)) s Tuple es) e p
+
+-- the number is that of no part
+abbrev IsLacking : Span → TypedExpr → Option ℕ → SourceError → Type 0
+IsLacking o a n e = ((m : ℕ) → n ≡ Some m → part_ty (ty_of a) m ≡ None) × (e ≡ unknown_name o)
+
+lacking : (o : Span) (a : TypedExpr) (n : ℕ) (e : SourceError) → part_ty (ty_of a) n ≡ None → e ≡ unknown_name o → IsLacking o a (Some n) e
+lacking o a n e q p = (λ m is. let same : n ≡ m = cc in subst (λ k. part_ty (ty_of a) k ≡ None) same q, p)
+
+part_stops : (t : Option Ty) (s o : Span) (a : TypedExpr) (n : ℕ) (u : Option Ty) (e : SourceError) → part_ty (ty_of a) n ≡ u → part_of_ty t s o a n u ≡ Err e → IsMismatch e ⊎ IsLacking o a (Some n) e
+part_stops t s o a n None e q p = let r : unknown_name o ≡ e = cc in inr (lacking o a n e q (sym r))
+part_stops t s o a n (Some u) e q p = inl (fit_stops t s (tree.part u s a n) e p)
+
+number_stops : (t : Option Ty) (s o : Span) (a : TypedExpr) (n : Option ℕ) (e : SourceError) → part_at t s o a n ≡ Err e → IsMismatch e ⊎ IsLacking o a n e
+number_stops t s o a None e p = let r : unknown_name o ≡ e = cc in inr (λ m is. absurd (cc), sym r)
+number_stops t s o a (Some n) e p = part_stops t s o a n (part_ty (ty_of a) n) e refl p
+
+parted_stops : (σ : Setting) (Γ : List Variable) (a : Expr) (t : Option Ty) (s : Span) (k : Number) (v : TypedExpr) (e : SourceError) → typed σ Γ a None ≡ Ok v → parted t s k v ≡ Err e → IsMismatch e ⊎ IsNoPart σ Γ a k e
+unfolding parted
+parted_stops σ Γ a t s k v e is p =
+    elim (number_stops t s k.span v (part_number k) e p) as (λ _. IsMismatch e ⊎ IsNoPart σ Γ a k e) [ inl m ↦ inl m | inr l ↦ inr (v, is, l.0, l.1) ]
+
 not_built : {A : Type 0} (s : Span) (e : SourceError) → ◌≡◌ {A = Result A SourceError} (Err (unbuilt s)) (Err e) → IsUnbuilt e
 not_built s e p = let q : unbuilt s ≡ e = cc in (s, sym q)
 
@@ -195,10 +223,20 @@ type_or_stops : (s : Span) (o : Option Ty) (e : SourceError) → type_or s o ≡
 type_or_stops s None e p = not_built {A = Ty} s e p
 type_or_stops s (Some t) e p = absurd (no_type t e p)
 
-type_stops : (w : W.TypeTree) (e : SourceError) → written_type w ≡ Err e → IsUnbuilt e
-unfolding written_type
-type_stops (W.named s x W.no_arguments) e p = type_or_stops s (named_type x.name) e p
-type_stops w e p = not_built {A = Ty} _ e p
+mutual
+  type_stops : (w : W.TypeTree) (e : SourceError) → written_type w ≡ Err e → IsUnbuilt e
+  type_stops (W.named s x W.no_arguments) e p = type_or_stops s (named_type x.name) e p
+  type_stops (W.tuple s ws) e p =
+      elim (stop (written_types ws) _ e p) as (λ _. IsUnbuilt e) [ inl q ↦ types_stop ws e q | inr ts ↦ absurd (no_type (tuple ts.0) e ts.2) ]
+  type_stops w e p = not_built {A = Ty} _ e p
+
+  types_stop : (ws : W.Types) (e : SourceError) → written_types ws ≡ Err e → IsUnbuilt e
+  types_stop W.none e p = absurd (cc)
+  types_stop (W.more w ws) e p =
+      elim (stop (written_type w) _ e p) as (λ _. IsUnbuilt e) [
+        | inl q ↦ type_stops w e q
+        | inr t ↦ elim (stop (written_types ws) _ e t.2) as (λ _. IsUnbuilt e) [ inl q ↦ types_stop ws e q | inr ts ↦ absurd (no_type (and_ty t.0 ts.0) e ts.2) ]
+      ]
 
 some_type_stops : (w : Option W.TypeTree) (e : SourceError) → written_or_none w ≡ Err e → IsUnbuilt e
 some_type_stops None e p = absurd (cc)
@@ -311,6 +349,16 @@ mutual
           | inl q ↦ inr (args_stop σ Γ es g.0.signature.params e q)
           | inr y ↦ inl (inl (called_stops t s g.0 y.0 e y.2))
         ]
+      ]
+  typed_stops σ Γ (E.tuple s es) t e p =
+      elim (stop (typed_args σ Γ es (parts_of t)) _ e p) as (λ _. Causes σ Γ (E.tuple s es) e) [
+        | inl q ↦ inr (args_stop σ Γ es (parts_of t) e q)
+        | inr y ↦ inl (tupled_stops t s y.0 e y.2)
+      ]
+  typed_stops σ Γ (E.part s a k) t e p =
+      elim (stop (typed σ Γ a None) _ e p) as (λ _. Causes σ Γ (E.part s a k) e) [
+        | inl q ↦ inr (typed_stops σ Γ a None e q)
+        | inr v ↦ inl (parted_stops σ Γ a t s k v.0 e v.1 v.2)
       ]
   typed_stops σ Γ (E.block s ss) t e p =
       elim (stop (typed_stmts σ Γ ss) _ e p) as (λ _. Causes σ Γ (E.block s ss) e) [

@@ -1,11 +1,12 @@
--- Only a name alone gives a variable.
+-- Only a name alone gives a variable, and only parts of it give parts of one.
 use Rattle.std.proofs.Common.{◌≡◌, Bool, true, false, List, [], Option, Some, None, Ok, refl, sym, subst}
-use Rattle.std.specs.Prelude.{ℤ, slice_get, if◌then◌else◌}
+use Rattle.std.specs.Prelude.{ℕ, ℤ, slice_get, if◌then◌else◌}
 use Rattle.text_core.specs.declared.span.Span.{Span}
 use Rattle.source_kinds.specs.declared.kinds.BinaryOp.{BinaryOp}
 use Rattle.source_kinds.specs.declared.kinds.IntKind.{IntKind}
 use Rattle.source_kinds.specs.Range.{fits}
-use Rattle.logic_term.specs.Ty.{Ty, int, bool}
+use Rattle.logic_term.specs.declared.kinds.Ctor.TheVariants.{Tuple}
+use Rattle.logic_term.specs.Ty.{Ty, int, bool, tuple}
 use Rattle.source_trees.specs.declared.operator.UnaryOp.TheVariants.{Neg, Not}
 use Rattle.source_trees.specs.declared.path.Segment.{Segment}
 use Rattle.source_trees.specs.Expr as E
@@ -24,8 +25,9 @@ use Rattle.type_check.specs.TypedExpr as tree
 use Rattle.type_check.specs.TypedExprView.{ty_of, stmts_of}
 use Rattle.type_check.specs.Types.{same_ty, is_signed_ty}
 use Rattle.type_check.specs.Typing.{fit, literal_kind, literal_of, literal, variable_of, variable, named, negated, is_bare, order_of, operands, operation, operated, is_mutable, may_write, assigned, is_updated, updated}
-use Rattle.type_check.specs.Typing.{callee_of, called, asked, block_ty, without_last, closed, given, choice_ty, cause_of, nothing, returned, endless, invariant_of, typed, typed_stmts, typed_args}
-use Rattle.type_check.specs.WellTyped.{unit, is_arithmetic, operation_ty}
+use Rattle.type_check.specs.Typing.{callee_of, called, asked, block_ty, without_last, closed, given, choice_ty, cause_of, nothing, returned, endless, invariant_of, parts_of, tupled, part_number, part_of_ty, part_at, parted, typed, typed_stmts, typed_args}
+use Rattle.type_check.specs.Causes.{root_name}
+use Rattle.type_check.specs.WellTyped.{unit, is_arithmetic, operation_ty, part_ty, tys_of_exprs}
 use Rattle.type_check.specs.Written.{as_name, name_alone}
 use Rattle.type_check.proofs.Bound.{bound, held, yes, same_ok}
 use Rattle.type_check.proofs.Fits.{fit_same, written_fits}
@@ -33,11 +35,13 @@ use Rattle.type_check.proofs.Fits.{fit_same, written_fits}
 -- a variable is that of the name
 abbrev pub IsNamed : List Variable → Option Segment → TypedExpr → Type 0
 IsNamed Γ x (tree.variable t s k) = (y : Segment) × (x ≡ Some y) × (v : Found) × (found y.name Γ ≡ Some v) × (v.place ≡ k)
+IsNamed Γ x (tree.part t s e n) = IsNamed Γ x e
 IsNamed Γ x e = Unit {0}
 
 -- what may not be written is the variable of the name, which is not mutable
 pub constant_named : (Γ : List Variable) (x : Option Segment) (e : TypedExpr) → IsNamed Γ x e → may_write Γ e ≡ false → (y : Segment) × (x ≡ Some y) × (v : Found) × (found y.name Γ ≡ Some v) × (is_mutable (slice_get Γ v.place) ≡ false)
 constant_named Γ x (tree.variable t s k) n f = (n.0, n.1, n.2, n.3, subst (λ j. is_mutable (slice_get Γ j) ≡ false) (sym n.4) f)
+constant_named Γ x (tree.part t s e m) n f = constant_named Γ x e n f
 constant_named Γ x e n f = absurd (cc)
 
 -- ---- forms
@@ -70,9 +74,17 @@ endless_named : (Γ : List Variable) (t : Option Ty) (s : Span) (is : List Asser
 unfolding endless
 endless_named Γ t s is b r p = endless_at Γ (breaks b) t s is b r p
 
--- what an expression gives is a variable only where it is a name alone
-pub typed_named : (σ : Setting) (Γ : List Variable) (e : Expr) (t : Option Ty) (r : TypedExpr) → typed σ Γ e t ≡ Ok r → IsNamed Γ (as_name e) r
-unfolding as_name literal negated operated assigned updated called closed
+part_named : (Γ : List Variable) (x : Option Segment) (t : Option Ty) (s o : Span) (a : TypedExpr) (n : ℕ) (u : Option Ty) (r : TypedExpr) → IsNamed Γ x a → part_of_ty t s o a n u ≡ Ok r → IsNamed Γ x r
+part_named Γ x t s o a n None r h p = absurd (cc)
+part_named Γ x t s o a n (Some u) r h p = fit_named Γ x t s (tree.part u s a n) r h p
+
+number_named : (Γ : List Variable) (x : Option Segment) (t : Option Ty) (s o : Span) (a : TypedExpr) (n : Option ℕ) (r : TypedExpr) → IsNamed Γ x a → part_at t s o a n ≡ Ok r → IsNamed Γ x r
+number_named Γ x t s o a None r h p = absurd (cc)
+number_named Γ x t s o a (Some n) r h p = part_named Γ x t s o a n (part_ty (ty_of a) n) r h p
+
+-- what an expression gives is a variable, or a part of one, only where a name is at its root
+pub typed_named : (σ : Setting) (Γ : List Variable) (e : Expr) (t : Option Ty) (r : TypedExpr) → typed σ Γ e t ≡ Ok r → IsNamed Γ (root_name e) r
+unfolding as_name literal negated operated assigned updated called closed tupled parted
 typed_named σ Γ (E.integer s z k) t r p = literal_at Γ t s z (literal_kind k t) r p
 typed_named σ Γ (E.truth s b) t r p = fit_named Γ None t s (tree.truth bool s b) r tt p
 typed_named σ Γ (E.path s w) t r p = path_named Γ t s (name_alone w.node) r p
@@ -102,6 +114,12 @@ typed_named σ Γ (E.call s f es) t r p =
     let g = bound (callee_of σ.headings Γ s (as_name f)) _ r p in
     let as' = bound (typed_args σ Γ es g.0.signature.params) _ r g.2 in
     fit_named Γ None t s (tree.call g.0.signature.answer s g.0.place as'.0) r tt (held _ _ (mismatch s) r as'.2).1
+typed_named σ Γ (E.tuple s es) t r p =
+    let as' = bound (typed_args σ Γ es (parts_of t)) _ r p in
+    fit_named Γ None t s (tree.make (tuple (tys_of_exprs as'.0)) s Tuple as'.0) r tt as'.2
+typed_named σ Γ (E.part s e k) t r p =
+    let a = bound (typed σ Γ e None) _ r p in
+    number_named Γ (root_name e) t s k.span a.0 (part_number k) r (typed_named σ Γ e None a.0 a.1) a.2
 typed_named σ Γ (E.block s ss) t r p =
     let o = bound (typed_stmts σ Γ ss) _ r p in
     fit_named Γ None t s (tree.block (block_ty t (without_last o.0.stmts)) s (without_last o.0.stmts)) r tt o.2

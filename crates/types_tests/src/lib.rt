@@ -1,4 +1,4 @@
-//! Tests of the table of declared types, of assignments, of what leaves, and of `break` and `continue`.
+//! Tests of the table of declared types, of assignments, of what leaves, of `break` and `continue`, and of tuples.
 #![tactic(auto)]
 
 #[cfg(test)]
@@ -17,3 +17,5 @@ mod leaving;
 mod meaning;
 #[cfg(test)]
 mod tables;
+#[cfg(test)]
+mod tupling;

@@ -1,11 +1,17 @@
 use Rattle.std.proofs.Common.{rules, ◌≡◌, ◌*◌, ◌+◌, arith}
 use Rattle.type_check.specs.TypedExprView.{typed_size}
-use Rattle.type_check.proofs.Dropped.{args_fall, stmts_fall, stmts_leaving_fall, stmts_with_fall}
+use Rattle.type_check.proofs.Dropped.{args_fall, parts_fall, stmts_fall, stmts_leaving_fall, stmts_with_fall}
 use Rattle.type_check.proofs.+typed.Goals as goal
 
 pub typed::TypedExpr::into_left-drop-args-requires : goal.typed::TypedExpr::into_left-drop-args-requires
 typed::TypedExpr::into_left-drop-args-requires t c κs =
     let fact = args_fall c.args.self c.self.inside.ty c.self.inside.span c.self.inside.node.value c.into_inner.result c.in-Call.field-0 c.in-Call._args c.self.view_is c.into_inner.ensures c.in-Call.is in
+    let measure : 2 * (3 * (typed_size c.args.self + 1) + 0) + 0 ≡ t = c.decreases in
+    (((omega (arith, fact, measure), tt), tt), search rules)
+
+pub typed::TypedExpr::into_left-drop-parts-requires : goal.typed::TypedExpr::into_left-drop-parts-requires
+typed::TypedExpr::into_left-drop-parts-requires t c κs =
+    let fact = parts_fall c.args.self c.self.inside.ty c.self.inside.span c.self.inside.node.value c.into_inner.result c.in-Make.field-0 c.in-Make._parts c.self.view_is c.into_inner.ensures c.in-Make.is in
     let measure : 2 * (3 * (typed_size c.args.self + 1) + 0) + 0 ≡ t = c.decreases in
     (((omega (arith, fact, measure), tt), tt), search rules)
 

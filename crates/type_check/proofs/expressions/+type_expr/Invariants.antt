@@ -41,6 +41,12 @@ decreases-type_call l = 5 * exprs_size (exprs_of l.args.now) + 1
 abbrev pub decreases-type_args : goal.decreases-type_args
 decreases-type_args l = 5 * exprs_size (exprs_of l.args.now)
 
+abbrev pub decreases-type_tuple : goal.decreases-type_tuple
+decreases-type_tuple l = 5 * exprs_size (exprs_of l.parts.now) + 1
+
+abbrev pub decreases-type_part : goal.decreases-type_part
+decreases-type_part l = 5 * expr_size l.value.now + 2
+
 abbrev pub decreases-type_block : goal.decreases-type_block
 decreases-type_block l = 5 * stmts_size (stmts_of l.stmts.now) + 1
 
