@@ -151,9 +151,6 @@ constant s d v = puts s d (Use (Const v))
 abbrev pub put_unit : Span → ℕ → Line
 put_unit s d = puts s d (Make Tuple [])
 
-abbrev pub copied : ℕ → Operand
-copied x = Copy (whole x)
-
 abbrev pub moved : ℕ → Operand
 moved x = Move (whole x)
 

@@ -509,15 +509,14 @@ fn formulas_come_behind_all_bodies(rt: HostRuntime) {
     expect(&rt, rt.alloc(), &FORMULAS_COME_BEHIND_ALL_BODIES);
 }
 
-const FORMS_THAT_HAVE_NO_TYPE_YET: [Row; 13] = [
+const FORMS_THAT_HAVE_NO_TYPE_YET: [Row; 12] = [
     (b"fn f(x: i32) { &x; }", Some((Code::E20, 15, 17))),
     (b"fn f() { let _ = 1; }", Some((Code::E20, 13, 14))),
     (
-        b"fn f() { let x: (i32, bool) = y; }",
-        Some((Code::E20, 16, 27)),
+        b"fn f() { let x: (i32, &bool) = y; }",
+        Some((Code::E20, 22, 27)),
     ),
     (b"fn f(x: &i32) {}", Some((Code::E20, 8, 12))),
-    (b"fn f() -> () {}", Some((Code::E20, 10, 12))),
     (b"fn f<T>() {}", Some((Code::E20, 4, 7))),
     (b"trait T {}", Some((Code::E20, 0, 10))),
     (
