@@ -1,5 +1,5 @@
 -- What an assignment writes and what is copied of a place, by what is at the root of its parts.
-use Rattle.std.proofs.Common.{◌≡◌, refl, ap, sym, ◌∙◌, ℕ, suc, ◌+◌, ◌≤◌, ◌<◌, Bool, true, false, List, [], ◌∷◌, ◌++◌, true≢false, arith}
+use Rattle.std.proofs.Common.{◌≡◌, refl, ap, sym, ◌∙◌, ℕ, ◌+◌, ◌≤◌, ◌<◌, true, false, List, [], ◌∷◌, ◌++◌, true≢false, arith}
 use Rattle.logic_term.specs.Ty.{Ty}
 use Rattle.text_core.specs.declared.span.Span.{Span}
 use Rattle.mir_ir.specs.declared.place.Operand.TheVariants.{Copy}
@@ -8,9 +8,9 @@ use Rattle.mir_ir.specs.declared.statement.Rvalue.TheVariants.{Use}
 use Rattle.type_check.specs.FirstBad.{bad_in}
 use Rattle.type_check.specs.TypedExpr.{TypedExpr, variable, part}
 use Rattle.type_check.specs.TypedExprView.{ty_of, span_of, typed_size}
-use Rattle.mir_build.specs.Text.{Line, Makes}
-use Rattle.mir_build.specs.Lowering.{Around, whole, part_place, is_place, puts}
-use Rattle.mir_build.specs.Numbered.{place_of, temporary_count, place_text, text_before, labels, locals, into}
+use Rattle.mir_build.specs.Text.{Makes}
+use Rattle.mir_build.specs.Lowering.{Around, part_place, is_place, puts}
+use Rattle.mir_build.specs.Numbered.{place_of, temporary_count, text_before, labels, locals, into}
 use Rattle.mir_build.specs.Reach.{reach}
 use Rattle.mir_build.specs.Tasks.{root, is_part, is_variable, parts_of_place}
 

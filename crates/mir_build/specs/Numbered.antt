@@ -58,7 +58,7 @@ place_of scope t (variable ty s v) = variable_place scope v
 place_of scope t (part ty s e n) = part_place (place_of scope t e) n
 place_of scope t _ = whole t
 
--- how many temporaries there are: none for what names a place
+-- how many temporaries stand for the expression itself: none for what names a place
 abbrev pub temporary_count : Bool → ℕ
 temporary_count true = 0
 temporary_count false = 1
