@@ -3,6 +3,8 @@ use Rattle.std.specs.Prelude.{◌≡◌, List, Ok}
 use Rattle.source_trees.specs.declared.item.Item.{Item}
 use Rattle.type_check.specs.declared.program.TypedProgram.{TypedProgram}
 use Rattle.type_check.specs.Checked.{AllGood, checked}
+use Rattle.type_check.specs.Plain.{EachIsPlain}
+use Rattle.type_check.specs.PlainSources.{ArePlainItems}
 use Rattle.type_check.specs.WellTyped.{ProgramFits}
 
 -- the program that a source comes to fits
@@ -12,3 +14,7 @@ CheckedProgramsFit = (is : List Item) (p : TypedProgram) → checked is ≡ Ok p
 -- and no formula of it is refused
 abbrev pub CheckedProgramsAreGood : Type 0
 CheckedProgramsAreGood = (is : List Item) (p : TypedProgram) → checked is ≡ Ok p → AllGood p
+
+-- that of a source without tuples is over integers, truth values and unit alone
+abbrev pub CheckedPlainSourcesArePlain : Type 0
+CheckedPlainSourcesArePlain = (is : List Item) (p : TypedProgram) → ArePlainItems is → checked is ≡ Ok p → EachIsPlain p.functions

@@ -10,6 +10,7 @@ pub mod Functions
 pub mod Laws
 pub mod Leaves
 pub mod Plain
+pub mod PlainSources
 pub mod Rules
 pub mod Scope
 pub mod Setting
