@@ -29,9 +29,13 @@ pub meant_inside : (x : Name) (cs bs : List Symbol) (o : Option Symbol) → mean
 meant_inside x cs [] o = refl
 meant_inside x cs (b ∷ bs) o = meant_inside x (b ∷ cs) bs o ∙ sym (meant_inside x (b ∷ []) bs (meant_under x cs o))
 
--- one binder further in
-pub meant_step : (x : Name) (b : Symbol) (bs : List Symbol) (o : Option Symbol) → meant_under x (inside [] (b ∷ bs)) o ≡ meant_under x (inside [] bs) (under_one x b o)
-meant_step x b bs o = meant_inside x (b ∷ []) bs o
+abbrev pub meant_from : Name → List Symbol → Option Symbol → Option Symbol
+meant_from x [] o = o
+meant_from x (b ∷ bs) o = meant_from x bs (under_one x b o)
+
+pub from_outside : (x : Name) (bs : List Symbol) (o : Option Symbol) → meant_from x bs o ≡ meant_under x (inside [] bs) o
+from_outside x [] o = refl
+from_outside x (b ∷ bs) o = from_outside x bs (under_one x b o) ∙ sym (meant_inside x (b ∷ []) bs o)
 
 -- the innermost first
 pub for_all_last : (xs : List Symbol) (x : Symbol) (p : Term) → for_all (xs ++ x ∷ []) p ≡ for_all xs (forall x.name x.sort p)

@@ -1,6 +1,6 @@
 -- What quantifiers bind in terms (Pearlite, Creusot), and what a name means under them. What stands around a term is listed with the innermost first, the
 -- binders of one quantifier as they are written. Formulas speak of what is bound by its name in the source.
-use Rattle.std.specs.Prelude.{◌==◌, cond, Bool, false, List, [], ◌∷◌, ◌++◌, Option, Some, None, Result, Ok, Err, slice_get, if◌then◌else◌}
+use Rattle.std.specs.Prelude.{◌==◌, cond, Bool, true, false, List, [], ◌∷◌, ◌++◌, Option, Some, None, Result, Ok, Err, slice_get, if◌then◌else◌}
 use Rattle.text_core.specs.declared.name.Name.{Name}
 use Rattle.text_core.specs.declared.refusal.Code.TheVariants.{E06}
 use Rattle.text_core.specs.declared.refusal.SourceError.{SourceError}
@@ -57,7 +57,7 @@ written_sort w = Err (unbuilt (type_span w))
 
 abbrev pub is_bound : Name → List Symbol → Bool
 is_bound x [] = false
-is_bound x (b ∷ bs) = (x.0 == b.name.0) || is_bound x bs
+is_bound x (b ∷ bs) = if x.0 == b.name.0 then true else is_bound x bs
 
 -- a name twice among the binders of a quantifier
 abbrev pub double_name : Span → SourceError
@@ -67,8 +67,8 @@ double_name s = record { code = E06; span = s; other = None }
 abbrev pub symbol_after : List Symbol → Binder → Result Symbol SourceError
 symbol_after xs b =
     if is_bound b.name.name xs then Err (double_name b.name.span) else (do
-  t ← written_sort b.ty
-  Ok (record { name = b.name.name; sort = t }))
+      t ← written_sort b.ty
+      Ok (record { name = b.name.name; sort = t }))
 
 abbrev pub symbols_after : List Symbol → List Binder → Result (List Symbol) SourceError
 symbols_after xs [] = Ok xs

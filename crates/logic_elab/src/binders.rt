@@ -46,6 +46,7 @@ fn under_one(
 }
 
 /// What the name means under these, by what it means outside of them.
+#[tactic(auto, using(crate::proofs::Binding::from_outside))]
 pub(crate) fn meant_under(
     alloc: Global,
     name: Name,
@@ -72,6 +73,7 @@ fn copy_into(alloc: Global, symbols: &[Symbol], copies: &mut Items<Symbol>) -> R
 }
 
 /// All that is bound under the binders of a quantifier.
+#[tactic(auto, using(crate::proofs::Binding::inside_both))]
 pub(crate) fn symbols_inside(
     alloc: Global,
     bound: &[Symbol],
@@ -160,6 +162,7 @@ pub(crate) fn symbols_of(alloc: Global, binders: &[Binder]) -> Result<Items<Symb
 }
 
 /// The formula for all values of these.
+#[tactic(auto, using(crate::proofs::Binding::for_all_last))]
 pub(crate) fn for_all(
     alloc: Global,
     mut symbols: Items<Symbol>,

@@ -18,9 +18,7 @@ use crate::sorted::SortedTerm;
 use crate::sorts::{fits, is_bool, is_math_int, same_ty};
 use logic_term::{Term, Ty, TyNode};
 use source_kinds::{ArithOp, Comparison, IntKind};
-use source_trees::{
-    Binder, Path, PathNode, Pterm, PtermNode, Quantifier, Segment, UnaryTerm,
-};
+use source_trees::{Binder, Path, PathNode, Pterm, PtermNode, Quantifier, Segment, UnaryTerm};
 use std::alloc::Global;
 use text_core::{Boxed, Name, NoMemory, PassError, Span};
 
@@ -141,11 +139,7 @@ fn named_term<S: TermScope>(
 }
 
 /// What `result` means where nothing is bound: the answer where it is spoken of, else a variable.
-fn answer_or<S: TermScope>(
-    alloc: Global,
-    scope: &S,
-    name: Name,
-) -> Result<Option<Symbol>, NoMemory>
+fn answer_or<S: TermScope>(alloc: Global, scope: &S, name: Name) -> Result<Option<Symbol>, NoMemory>
     ensures { IfOk result (λ o. o ≡ answer_or (S.scope scope.now).answer ((S.scope scope.now).variable name)) }
 {
     match scope.answer(alloc)? {
@@ -415,10 +409,7 @@ fn elaborate_forall<S: TermScope>(
     let symbols = symbols_of(alloc, binders)?;
     let inner = symbols_inside(alloc, bound, symbols.as_slice())?;
     let formula = elaborate_formula_under(alloc, scope, inner.as_slice(), body)?;
-    Ok(formula_of_sort(
-        alloc,
-        for_all(alloc, symbols, formula.into_inner())?,
-    )?)
+    Ok(formula_of_sort(alloc, for_all(alloc, symbols, formula.into_inner())?)?)
 }
 
 /// The operation, whose left operand is elaborated.

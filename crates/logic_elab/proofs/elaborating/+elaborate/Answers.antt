@@ -1,6 +1,6 @@
-use Rattle.std.proofs.Common.{◌≡◌, ◌+◌, ◌*◌, ◌∙◌, [], arith}
+use Rattle.std.proofs.Common.{◌≡◌, ◌+◌, ◌*◌, ◌∙◌, [], arith, rules}
 use Rattle.std.proofs.lemmas.Result.{err_from_is_err_and}
-use Rattle.source_trees.specs.PtermView.{pterm_size}
+use Rattle.source_trees.specs.PtermView.{pterm_size, span_of}
 use Rattle.logic_elab.specs.Binders.{inside}
 use Rattle.logic_elab.proofs.Stops.{along}
 use Rattle.logic_elab.proofs.Chains.{climbed_refuses, sizes_up, up, up_refuses}
@@ -37,3 +37,8 @@ elaborate_under-loop-operation-preserved g t c =
           ∙ up (g.S.TermScope.scope c.args.scope.now) (inside [] c.args.bound.now) c.pop.new.self.items c.loop-operation.operations.items c.in-Some.operation c.loop-operation.made c.in_ok-made-2.made c.in-Some.ensures.items c.in_ok-made-2.ensures;
       smaller = sizes.0;
     }
+
+pub elaborate_form-returns-in-Quantified-Forall-default-default : goal.elaborate_form-returns-in-Quantified-Forall-default-default
+elaborate_form-returns-in-Quantified-Forall-default-default g t c =
+    let h = c.elaborate_forall.ensures (span_of c.args.t.now) in
+    search (rules, h)
