@@ -1,4 +1,4 @@
-use Rattle.std.proofs.Common.{sym, arith, rules}
+use Rattle.std.proofs.Common.{sym, rules}
 use Rattle.source_forms.proofs.Sizes.{named_with}
 use Rattle.source_forms.proofs.types.named_form.Goals as goal
 
