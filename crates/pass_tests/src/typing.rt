@@ -606,7 +606,7 @@ const QUANTIFIED_TERMS: [Row; 18] = [
         b"#[requires((forall<result: bool> result) || result@ == 0)] fn f(result: i32) {}",
         None,
     ),
-    (b"fn f(x: Int) {}", Some((Code::E20, 8, 11))),
+    (b"fn f(x: Int) {}", Some((Code::E05, 8, 11))),
 ];
 
 /// What `forall` binds hides other variables, and the answer, in its body alone.

@@ -30,7 +30,7 @@ pub(crate) const BUILT: [Form; 39] = [
     Form::Ensures,
     // ---- types and patterns
     Form::MachineType,
-    // A type in terms alone; in code it is refused with the other types that are not built there.
+    // A type in terms alone: elsewhere `type_check` refuses it.
     Form::MathIntType,
     Form::LetMutable,
     Form::LetName,
