@@ -319,7 +319,7 @@ fn expect_refused(rt: &impl Abort, alloc: Global, rows: &[(&str, &str, u32)]) ->
 
 // ---- by a term, and back to machine integers
 
-const BY_TERM: [(&str, &str); 8] = [
+const BY_TERM: [(&str, &str); 9] = [
     ("ZW><z0<z0", "intro z w\ncut z < 0\nhyp 1.1\nhyp 2.1\n"),
     (
         "ZW><z0<z0",
@@ -341,16 +341,26 @@ const BY_TERM: [(&str, &str); 8] = [
         "Z|<z0!<z0",
         "intro z\non z /* a comment */ < 0\nleft\nhyp 2.1\nright\nhyp 2.1\n",
     ),
+    // What is bound is not the variable of that name.
+    (
+        "ZW><z0<z0",
+        "intro z w\ncut forall<z: Int, w: bool> w ==> z <= z\nintro k b\nlin 1:goal\nhyp 1.1\n",
+    ),
     ("XY>=@x@y=xy", "intro x y\nback 1.1\nhyp 2.1\n"),
     ("XY>=@x@y=yx", "intro x y\nback 1.1\nrewrite 2.1\nrefl\n"),
 ];
 
-const NOT_BY_TERM: [(&str, &str, u32); 11] = [
+const NOT_BY_TERM: [(&str, &str, u32); 12] = [
     // No formula, a name of no variable, other sorts.
     ("ZW><z0<z0", "intro z w\ncut z\n", 2),
     ("ZW><z0<z0", "intro z w\ncut q < 0\n", 2),
     ("XZ><z0<z0", "intro x z\ncut x < z\n", 2),
     ("ZW><z0<z0", "intro z w\non z + 1\n", 2),
+    (
+        "ZW><z0<z0",
+        "intro z w\ncut (forall<k: Int> k <= z) ==> k < 0\n",
+        2,
+    ),
     // What is cut is to be shown first, and what is taken for true is no fact of the other case.
     ("ZW><z0<z0", "intro z w\ncut w < 0\nhyp 1.1\n", 3),
     ("ZW><z0<z0", "intro z w\non w < 0\nhyp 1.1\nhyp 2.1\n", 4),
