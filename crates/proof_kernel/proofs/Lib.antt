@@ -3,10 +3,12 @@ pub mod Adds
 pub mod BackSound
 pub mod Conjuncts
 pub mod Derived
+pub mod DivisionSound
 pub mod DroppedLaw
 pub mod Each
 pub mod ExchangeLaw
 pub mod ExchangeWalk
+pub mod Facts
 pub mod FormsAdd
 pub mod FormsFound
 pub mod Found
