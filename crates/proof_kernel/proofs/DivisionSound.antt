@@ -1,5 +1,5 @@
 -- What is said of a division is true.
-use Rattle.std.proofs.Common.{◌≡◌, ℕ, suc, ◌<◌, Bool, true, false, cond, refl, sym, ◌∙◌, ap, subst, arith}
+use Rattle.std.proofs.Common.{◌≡◌, ℕ, zero, suc, ◌<◌, Bool, true, false, cond, refl, sym, ◌∙◌, ap, subst, arith}
 use Rattle.std.specs.Prelude.{ℤ, pos, negsuc, neg_ℤ, ◌+ℤ◌, ◌*ℤ◌, ◌≤ℤ◌, ◌<ℤ◌, int_le, int_lt, int_div, int_rem, unsigned_abs}
 use Rattle.std.specs.Ordering.{int_eq}
 use Rattle.std.proofs.lemmas.Int.{ints, quot-rem, rem_below}
@@ -44,12 +44,12 @@ rem_not_below (pos a) y h = omega (arith, ints)
 rem_not_below (negsuc a) y h = absurd (omega (arith, ints))
 
 rem_not_above : (x y : ℤ) → x ≤ℤ pos 0 → int_rem x y ≤ℤ pos 0
-rem_not_above (pos 0) y h = omega (arith, ints)
+rem_not_above (pos zero) y h = omega (arith, ints)
 rem_not_above (pos (suc a)) y h = absurd (omega (arith, ints))
 rem_not_above (negsuc a) y h = omega (arith, ints)
 
 some_size : (y : ℤ) → (y ≡ pos 0 → ⊥) → 0 < unsigned_abs y
-some_size (pos 0) n = absurd (n refl)
+some_size (pos zero) n = absurd (n refl)
 some_size (pos (suc a)) n = omega arith
 some_size (negsuc a) n = omega arith
 
@@ -75,22 +75,22 @@ module _ (S : Structure) (ρ : Env) (a b : Term) (x y : ℤ) (f : Exactly (Means
   differs h e = (holds_not S (is_equal b zero_term) ρ).0 h ((holds_equal_exactly S b zero_term ρ (Number y) (Number (pos 0)) g zero_is).1 (λ n. n (ap Number e)))
 
   back : Holds S (divides_back a b) ρ
-  back = (holds_implies S _ _ ρ).1 (λ h.
-      (holds_equal_exactly S a _ ρ (Number x) (Number (calculated Add (calculated Mul y (calculated Div x y)) (calculated Rem x y))) f
-      (computes_calculate S Add _ _ ρ (calculated Mul y (calculated Div x y)) (calculated Rem x y) (computes_calculate S Mul _ _ ρ y (calculated Div x y) g (computes_calculate S Div a b ρ x y f g)) rem_is)).1
+  back = (holds_implies S (is_not_zero b) (is_equal a (calculate Add (calculate Mul b (calculate Div a b)) (calculate Rem a b))) ρ).1 (λ h.
+      (holds_equal_exactly S a (calculate Add (calculate Mul b (calculate Div a b)) (calculate Rem a b)) ρ (Number x) (Number (calculated Add (calculated Mul y (calculated Div x y)) (calculated Rem x y))) f
+      (computes_calculate S Add (calculate Mul b (calculate Div a b)) (calculate Rem a b) ρ (calculated Mul y (calculated Div x y)) (calculated Rem x y) (computes_calculate S Mul b (calculate Div a b) ρ y (calculated Div x y) g (computes_calculate S Div a b ρ x y f g)) rem_is)).1
       (λ n. n (ap Number (adds_back x y (differs h)))))
 
   not_below : Holds S (remainder_not_below a b) ρ
-  not_below = (holds_implies S _ _ ρ).1 (λ h.
-      let p = (holds_and S _ _ ρ).0 h in
+  not_below = (holds_implies S (and (is_at_most zero_term a) (is_not_zero b)) (is_at_most zero_term (calculate Rem a b)) ρ).1 (λ h.
+      let p = (holds_and S (is_at_most zero_term a) (is_not_zero b) ρ).0 h in
       let d : y ≡ pos 0 → ⊥ = differs p.1 in
       let l = at_most_true (pos 0) x ((holds_at_most S zero_term a ρ (Number (pos 0)) (Number x) zero_is f).0 p.0) in
       (holds_at_most S zero_term (calculate Rem a b) ρ (Number (pos 0)) (Number (calculated Rem x y)) zero_is rem_is).1
       (true_at_most (pos 0) (calculated Rem x y) (subst (λ r. pos 0 ≤ℤ r) (sym (remainder_is x y d)) (rem_not_below x y l))))
 
   not_above : Holds S (remainder_not_above a b) ρ
-  not_above = (holds_implies S _ _ ρ).1 (λ h.
-      let p = (holds_and S _ _ ρ).0 h in
+  not_above = (holds_implies S (and (is_at_most a zero_term) (is_not_zero b)) (is_at_most (calculate Rem a b) zero_term) ρ).1 (λ h.
+      let p = (holds_and S (is_at_most a zero_term) (is_not_zero b) ρ).0 h in
       let d : y ≡ pos 0 → ⊥ = differs p.1 in
       let l = at_most_true x (pos 0) ((holds_at_most S a zero_term ρ (Number x) (Number (pos 0)) f zero_is).0 p.0) in
       (holds_at_most S (calculate Rem a b) zero_term ρ (Number (calculated Rem x y)) (Number (pos 0)) rem_is zero_is).1
@@ -106,19 +106,19 @@ module _ (S : Structure) (ρ : Env) (a b : Term) (x y : ℤ) (f : Exactly (Means
   below_zero l e = omega (arith, ints)
 
   nearer : Holds S (remainder_near a b) ρ
-  nearer = (holds_implies S _ _ ρ).1 (λ h.
+  nearer = (holds_implies S (is_less zero_term b) (and (is_less (negative b) (calculate Rem a b)) (is_less (calculate Rem a b) b)) ρ).1 (λ h.
       let l = less_true (pos 0) y ((holds_less S zero_term b ρ (Number (pos 0)) (Number y) zero_is g).0 h) in
       let n = near (calculated Rem x y) y (smaller (above_zero l)) l in
-      (holds_and S _ _ ρ).1 (
+      (holds_and S (is_less (negative b) (calculate Rem a b)) (is_less (calculate Rem a b) b) ρ).1 (
         (holds_less S (negative b) (calculate Rem a b) ρ (Number (neg_ℤ y)) (Number (calculated Rem x y)) negative_is rem_is).1 (true_less _ _ n.0),
         (holds_less S (calculate Rem a b) b ρ (Number (calculated Rem x y)) (Number y) rem_is g).1 (true_less _ _ n.1),
       ))
 
   nearer_negative : Holds S (remainder_near_negative a b) ρ
-  nearer_negative = (holds_implies S _ _ ρ).1 (λ h.
+  nearer_negative = (holds_implies S (is_less b zero_term) (and (is_less b (calculate Rem a b)) (is_less (calculate Rem a b) (negative b))) ρ).1 (λ h.
       let l = less_true y (pos 0) ((holds_less S b zero_term ρ (Number y) (Number (pos 0)) g zero_is).0 h) in
       let n = near_negative (calculated Rem x y) y (smaller (below_zero l)) l in
-      (holds_and S _ _ ρ).1 (
+      (holds_and S (is_less b (calculate Rem a b)) (is_less (calculate Rem a b) (negative b)) ρ).1 (
         (holds_less S b (calculate Rem a b) ρ (Number y) (Number (calculated Rem x y)) g rem_is).1 (true_less _ _ n.0),
         (holds_less S (calculate Rem a b) (negative b) ρ (Number (calculated Rem x y)) (Number (neg_ℤ y)) rem_is negative_is).1 (true_less _ _ n.1),
       ))

@@ -40,7 +40,7 @@ use Rattle.proof_kernel.proofs.Sound.{and_true, hyps_more, sorted}
 
 -- ---- what terms are at a sequent
 
-scope_of_sorts : List (Name × Ty) → sorts.Scope
+abbrev scope_of_sorts : List (Name × Ty) → sorts.Scope
 scope_of_sorts vars x = sort_of x vars
 
 elaborates : (r : Result SortedTerm SourceError) (a : SortedTerm) → if_sorted r ≡ Some a → r ≡ Ok a

@@ -12,9 +12,9 @@ use Rattle.proof_kernel.specs.declared.step.HypothesisRule.TheVariants.{Cases}
 use Rattle.proof_kernel.specs.declared.step.PairRule.{PairRule}
 use Rattle.proof_kernel.specs.declared.step.PairRule.TheVariants.{ModusPonens}
 use Rattle.proof_kernel.specs.declared.step.TermRule.{TermRule}
-use Rattle.proof_kernel.specs.declared.step.TermRule.TheVariants.{Cut, On}
+use Rattle.proof_kernel.specs.declared.step.TermRule.TheVariants.{Cut, On, Range}
 use Rattle.proof_kernel.specs.declared.step.Step.{Step}
-use Rattle.proof_kernel.specs.declared.step.Step.TheVariants.{Intro, Hyp, Split, Range, Lin, OnGoal, OnHypothesis, OnTwo, Rewrite, OnTerm}
+use Rattle.proof_kernel.specs.declared.step.Step.TheVariants.{Intro, Hyp, Split, Lin, OnGoal, OnHypothesis, OnTwo, Rewrite, OnTerm}
 use Rattle.proof_text.specs.declared.fault.Fault.{Fault}
 use Rattle.proof_text.specs.declared.fault.Fault.TheVariants.{Bad}
 use Rattle.proof_text.specs.ProofTextWords.{◌>>=◌}
@@ -107,6 +107,7 @@ pub term_found : (rule : TermRule) → term_rule_of (term_word rule) ≡ Some ru
 unfolding term_rule_of
 term_found Cut = refl
 term_found On = refl
+term_found Range = refl
 
 pub term_spelled : (head : List ℕ) (rule : TermRule) → term_rule_of head ≡ Some rule → head ≡ term_word rule
 unfolding term_rule_of
@@ -132,7 +133,6 @@ abbrev pub rule_part : Step → Option Step
 rule_part (Intro names) = None
 rule_part (Hyp label) = None
 rule_part Split = None
-rule_part (Range name) = None
 rule_part (Lin multiples) = None
 rule_part (Rewrite rewriting) = None
 rule_part (OnTerm rule t) = None
@@ -148,4 +148,5 @@ rule_read table (Some rest) (OnHypothesis rule label) h =
 rule_read table (Some rest) (OnTwo rule label other) h = ap (λ found. found >>= (λ labels. at_labels (pair_word rule) labels.0 labels.1)) h ∙ ap (option_map (λ r. OnTwo r label other)) (pair_found rule)
 rule_read table rest (OnTerm Cut t) h = no_rule (term_word Cut) refl refl refl rest
 rule_read table rest (OnTerm On t) h = no_rule (term_word On) refl refl refl rest
+rule_read table rest (OnTerm Range t) h = no_rule (term_word Range) refl refl refl rest
 rule_read table rest s h = no_rule (word_of s) refl refl refl rest

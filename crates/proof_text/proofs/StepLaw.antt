@@ -6,8 +6,8 @@ use Rattle.std.specs.Str.{bytes_eq, is_utf8}
 use Rattle.std.proofs.lemmas.Slice.Eq.{bytes_eq-Decides}
 use Rattle.proof_kernel.specs.declared.step.Step.{Step}
 use Rattle.proof_kernel.specs.declared.step.TermRule.{TermRule}
-use Rattle.proof_kernel.specs.declared.step.TermRule.TheVariants.{Cut, On}
-use Rattle.proof_kernel.specs.declared.step.Step.TheVariants.{Intro, Hyp, Split, Range, Lin, OnGoal, OnHypothesis, OnTwo, Rewrite, OnTerm}
+use Rattle.proof_kernel.specs.declared.step.TermRule.TheVariants.{Cut, On, Range}
+use Rattle.proof_kernel.specs.declared.step.Step.TheVariants.{Intro, Hyp, Split, Lin, OnGoal, OnHypothesis, OnTwo, Rewrite, OnTerm}
 use Rattle.source_trees.specs.Pterm.{Pterm}
 use Rattle.term_texts.specs.TermTexts.{SpellsWholeTerm, IsTermText}
 use Rattle.term_texts.proofs.TermChoice.{term_there}
@@ -18,7 +18,7 @@ use Rattle.text_core.specs.declared.name.Name.{Name}
 use Rattle.rs_tokens.specs.Tokens.{is_identifier}
 use Rattle.proof_text.specs.ProofTextWords.{◌>>=◌, label_of}
 use Rattle.proof_text.specs.ProofTextRules.{rewriting_in, term_word, term_rule_of}
-use Rattle.proof_text.specs.ProofTextLines.{head_of, rest_of, words_of, text_at, identifier_of, multiples_in, word_of, SpellsRest, SpellsParts, SpellsStep, as_word, texts_by, NamesInTerm, NamesByRule, NamesOfParts, NamesTexts}
+use Rattle.proof_text.specs.ProofTextLines.{head_of, rest_of, words_of, text_at, multiples_in, word_of, SpellsRest, SpellsParts, SpellsStep, texts_by, NamesInTerm, NamesByRule, NamesOfParts, NamesTexts}
 use Rattle.proof_text.specs.ProofTextFile.{is_plain_step, is_left, is_term, is_term_rest, is_step_by, is_step, step, line_if, line_by_head, line_of, rule_step_of}
 use Rattle.proof_text.specs.ProofTextLaws.{AlikeStep}
 use Rattle.proof_text.proofs.LineLaw.{is_plain, text_line}
@@ -62,7 +62,6 @@ unfolding is_step is_plain_step term_rule_of
 rest_is table rest (Intro names) h = h.0
 rest_is table rest (Hyp l) h = ap is_some h
 rest_is table rest Split h = ap is_none h
-rest_is table rest (Range x) h = rw (h.1, h.2) refl
 rest_is table rest (Lin ms) h = ap is_some h
 rest_is table rest (Rewrite r) h = ap is_some h
 rest_is table rest (OnGoal r) h = (goal_head r).2 rest ∙ ap is_some (rule_read table rest (OnGoal r) h)
@@ -77,6 +76,7 @@ by_word (OnHypothesis r l) rest = (hypothesis_head r).1 rest
 by_word (OnTwo r l m) rest = (pair_head r).1 rest
 by_word (OnTerm Cut t) rest = refl
 by_word (OnTerm On t) rest = refl
+by_word (OnTerm Range t) rest = refl
 by_word _ rest = refl
 
 word_plain : (s : Step) → is_plain (word_of s) ≡ true
@@ -85,6 +85,7 @@ word_plain (OnHypothesis r l) = (hypothesis_head r).0
 word_plain (OnTwo r l m) = (pair_head r).0
 word_plain (OnTerm Cut t) = refl
 word_plain (OnTerm On t) = refl
+word_plain (OnTerm Range t) = refl
 word_plain _ = refl
 
 pub parts_are : (table : List (List ℕ)) (head : List ℕ) (rest : Option (List ℕ)) (s : Step) → SpellsParts table head rest s → is_step head rest ≡ true
@@ -113,38 +114,29 @@ none_of : {A : Type 0} (o : Option A) → is_none o ≡ true → o ≡ None
 none_of None e = refl
 none_of (Some x) e = absurd (cc)
 
-identifier_by : (word : List ℕ) (t : Bool) → is_identifier word ≡ t → is_some (cond t (Some word) None) ≡ true → is_identifier word ≡ true
-identifier_by word true is e = is
-identifier_by word false is e = absurd (cc)
-
-range_there : (table : List (List ℕ)) (rest : Option (List ℕ)) → is_some (rest >>= identifier_of) ≡ true → AreNamed table (as_word rest) → (name : Name) × SpellsRest table rest (Range name)
-range_there table None e h = absurd (cc)
-range_there table (Some word) e h = (h.0.0, (word, refl, identifier_by word (is_identifier word) refl e, h.0.1))
-
 same_head : (head word : List ℕ) → bytes_eq head word ≡ true → head ≡ word
 same_head head word e = (bytes_eq-Decides head word).0 e
 
 abbrev Spelled : List (List ℕ) → List ℕ → Option (List ℕ) → Type 0
 Spelled table head rest = (s : Step) × SpellsParts table head rest s
 
-by_words : (table : List (List ℕ)) (head : List ℕ) (rest : Option (List ℕ)) (a b c d e f : Bool) → bytes_eq head (codes "intro") ≡ a → bytes_eq head (codes "hyp") ≡ b → bytes_eq head (codes "split") ≡ c →
-    bytes_eq head (codes "range") ≡ d → bytes_eq head (codes "lin") ≡ e → bytes_eq head (codes "rewrite") ≡ f →
-    cond a (list_all is_identifier (words_of rest)) (cond b (is_some (rest >>= label_of)) (cond c (is_none rest) (cond d (is_some (rest >>= identifier_of)) (cond e (is_some (rest >>= multiples_in)) (cond f (is_some (rest >>= rewriting_in)) (is_some (rule_step_of head rest))))))) ≡ true →
-    AreNamed table (cond a (words_of rest) (cond b [] (cond c [] (cond d (as_word rest) [])))) → Spelled table head rest
-by_words table head rest true b c d e f p q r s t u is named =
+by_words : (table : List (List ℕ)) (head : List ℕ) (rest : Option (List ℕ)) (a b c d e : Bool) → bytes_eq head (codes "intro") ≡ a → bytes_eq head (codes "hyp") ≡ b → bytes_eq head (codes "split") ≡ c →
+    bytes_eq head (codes "lin") ≡ d → bytes_eq head (codes "rewrite") ≡ e →
+    cond a (list_all is_identifier (words_of rest)) (cond b (is_some (rest >>= label_of)) (cond c (is_none rest) (cond d (is_some (rest >>= multiples_in)) (cond e (is_some (rest >>= rewriting_in)) (is_some (rule_step_of head rest)))))) ≡ true →
+    AreNamed table (cond a (words_of rest) []) → Spelled table head rest
+by_words table head rest true b c d e p q r s t is named =
     let names = names_there table (words_of rest) named in (Intro names.0, (same_head head (codes "intro") p, (is, names.1)))
-by_words table head rest false true c d e f p q r s t u is named = let l = some_of (rest >>= label_of) is in (Hyp l.0, (same_head head (codes "hyp") q, l.1))
-by_words table head rest false false true d e f p q r s t u is named = (Split, (same_head head (codes "split") r, none_of rest is))
-by_words table head rest false false false true e f p q r s t u is named = let x = range_there table rest is named in (Range x.0, (same_head head (codes "range") s, x.1))
-by_words table head rest false false false false true f p q r s t u is named = let ms = some_of (rest >>= multiples_in) is in (Lin ms.0, (same_head head (codes "lin") t, ms.1))
-by_words table head rest false false false false false true p q r s t u is named = let found = some_of (rest >>= rewriting_in) is in (Rewrite found.0, (same_head head (codes "rewrite") u, found.1))
-by_words table head rest false false false false false false p q r s t u is named = let found = some_of (rule_step_of head rest) is in (found.0, rule_there table head found.0 rest found.1)
+by_words table head rest false true c d e p q r s t is named = let l = some_of (rest >>= label_of) is in (Hyp l.0, (same_head head (codes "hyp") q, l.1))
+by_words table head rest false false true d e p q r s t is named = (Split, (same_head head (codes "split") r, none_of rest is))
+by_words table head rest false false false true e p q r s t is named = let ms = some_of (rest >>= multiples_in) is in (Lin ms.0, (same_head head (codes "lin") s, ms.1))
+by_words table head rest false false false false true p q r s t is named = let found = some_of (rest >>= rewriting_in) is in (Rewrite found.0, (same_head head (codes "rewrite") t, found.1))
+by_words table head rest false false false false false p q r s t is named = let found = some_of (rule_step_of head rest) is in (found.0, rule_there table head found.0 rest found.1)
 
 plain_there : (table : List (List ℕ)) (head : List ℕ) (rest : Option (List ℕ)) → is_plain_step head rest ≡ true → AreNamed table (texts_by head rest) → Spelled table head rest
 unfolding is_plain_step texts_by
 plain_there table head rest is named =
-    by_words table head rest (bytes_eq head (codes "intro")) (bytes_eq head (codes "hyp")) (bytes_eq head (codes "split")) (bytes_eq head (codes "range")) (bytes_eq head (codes "lin")) (bytes_eq head (codes "rewrite"))
-    refl refl refl refl refl refl is named
+    by_words table head rest (bytes_eq head (codes "intro")) (bytes_eq head (codes "hyp")) (bytes_eq head (codes "split")) (bytes_eq head (codes "lin")) (bytes_eq head (codes "rewrite"))
+    refl refl refl refl refl is named
 
 term_line : (table : List (List ℕ)) (head : List ℕ) (rest : Option (List ℕ)) (rule : TermRule) (texts : List (List ℕ)) → term_rule_of head ≡ Some rule → is_term_rest rest ≡ true → NamesInTerm rest texts → AreNamed table texts →
     Spelled table head rest
@@ -208,7 +200,6 @@ module _ (old new : List (List ℕ)) (keeps : KeepsTexts old new) where
 
   kept_rest : (rest : Option (List ℕ)) (s : Step) → SpellsRest old rest s → SpellsRest new rest s
   kept_rest rest (Intro names) h = (h.0, kept_names names (words_of rest) h.1)
-  kept_rest rest (Range x) h = (h.0, h.1, h.2, keeps x.0 h.0 h.3)
   kept_rest rest (OnTerm r t) h = (h.0, h.1, kept_term old new keeps h.0 t h.2)
   kept_rest rest _ h = h
 
@@ -231,7 +222,6 @@ module _ (table other : List (List ℕ)) (rest : Option (List ℕ)) where
   alike_rest (Intro ms) (Intro ns) e r h k = h.1 ∙ sym k.1
   alike_rest (Hyp l) (Hyp m) e r h k = let same : Some l ≡ Some m = sym h ∙ k in cc
   alike_rest Split Split e r h k = tt
-  alike_rest (Range m) (Range n) e r h k = let same : Some h.0 ≡ Some k.0 = sym h.1 ∙ k.1 in h.3 ∙ same ∙ sym k.3
   alike_rest (Lin ms) (Lin ns) e r h k = let same : Some ms ≡ Some ns = sym h ∙ k in cc
   alike_rest (Rewrite a) (Rewrite b) e r h k = let same : Some a ≡ Some b = sym h ∙ k in cc
   alike_rest (OnGoal a) (OnGoal b) e r h k = cc
@@ -239,10 +229,13 @@ module _ (table other : List (List ℕ)) (rest : Option (List ℕ)) where
   alike_rest (OnTwo a l m) (OnTwo b n o) e r h k = (cc, cc, cc)
   alike_rest (OnTerm Cut t) (OnTerm Cut u) e r h k = (refl, alike_term Cut t u h k)
   alike_rest (OnTerm On t) (OnTerm On u) e r h k = (refl, alike_term On t u h k)
+  alike_rest (OnTerm Range t) (OnTerm Range u) e r h k = (refl, alike_term Range t u h k)
   alike_rest s (OnTerm Cut u) e r h k = absurd (cc)
   alike_rest s (OnTerm On u) e r h k = absurd (cc)
+  alike_rest s (OnTerm Range u) e r h k = absurd (cc)
   alike_rest (OnTerm Cut t) s e r h k = absurd (cc)
   alike_rest (OnTerm On t) s e r h k = absurd (cc)
+  alike_rest (OnTerm Range t) s e r h k = absurd (cc)
   alike_rest _ _ e r h k = absurd (cc)
 
 pub alike_step : (table other : List (List ℕ)) (text : List ℕ) (s t : Step) → SpellsStep table text s → SpellsStep other text t → AlikeStep table other s t
@@ -275,9 +268,6 @@ module _ (table : List (List ℕ)) (place : HaveOnePlace (words ++ table)) where
   rest_once rest (Intro ms) (Intro ns) e h k = ap Intro (names_once ms ns (words_of rest) h.1 k.1)
   rest_once rest (Hyp l) (Hyp m) e h k = ap Hyp e
   rest_once rest Split Split e h k = refl
-  rest_once rest (Range m) (Range n) e h k =
-      let same : Some h.0 ≡ Some k.0 = sym h.1 ∙ k.1 in
-      ap Range (name_once m n k.0 (h.3 ∙ same) k.3)
   rest_once rest (Lin ms) (Lin ns) e h k = ap Lin e
   rest_once rest (OnGoal a) (OnGoal b) e h k = ap OnGoal e
   rest_once rest (Rewrite a) (Rewrite b) e h k = ap Rewrite e

@@ -15,7 +15,7 @@ use Rattle.proof_text.specs.ProofTextWords.{◌>>=◌, Each, label_of}
 use Rattle.proof_kernel.specs.declared.step.TermRule.{TermRule}
 use Rattle.term_texts.proofs.TermChoice.{term_there}
 use Rattle.proof_text.specs.ProofTextRules.{labels_in, rewriting_in, goal_rule_of, hypothesis_rule_of, pair_rule_of, term_rule_of}
-use Rattle.proof_text.specs.ProofTextLines.{head_of, rest_of, words_of, identifier_of, multiples_in, heading_of, SpellsStep}
+use Rattle.proof_text.specs.ProofTextLines.{head_of, rest_of, words_of, multiples_in, heading_of, SpellsStep}
 pub use Rattle.proof_text.specs.ProofFileForm.{SpellsProofs, HasNamesOf, IsFirstBadLine}
 
 -- ---- lines
@@ -36,7 +36,6 @@ is_plain_step head rest =
     if bytes_eq head (codes "intro") then list_all is_identifier (words_of rest)
     else if bytes_eq head (codes "hyp") then is_some (rest >>= label_of)
     else if bytes_eq head (codes "split") then is_none rest
-    else if bytes_eq head (codes "range") then is_some (rest >>= identifier_of)
     else if bytes_eq head (codes "lin") then is_some (rest >>= multiples_in)
     else if bytes_eq head (codes "rewrite") then is_some (rest >>= rewriting_in)
     else is_some (rule_step_of head rest)

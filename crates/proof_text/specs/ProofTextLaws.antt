@@ -2,7 +2,7 @@
 use Rattle.std.specs.Prelude.{◌≡◌, ◌⊎◌, ℕ, List, ◌++◌, map}
 use Rattle.text_core.specs.Names.{words, HaveOnePlace}
 use Rattle.proof_kernel.specs.declared.step.Step.{Step}
-use Rattle.proof_kernel.specs.declared.step.Step.TheVariants.{Intro, Hyp, Split, Range, Lin, OnGoal, OnHypothesis, OnTwo, Rewrite, OnTerm}
+use Rattle.proof_kernel.specs.declared.step.Step.TheVariants.{Intro, Hyp, Split, Lin, OnGoal, OnHypothesis, OnTwo, Rewrite, OnTerm}
 use Rattle.proof_text.specs.declared.proof.NumberedStep.{NumberedStep}
 use Rattle.proof_text.specs.declared.proof.Proof.{Proof}
 use Rattle.proof_text.specs.declared.proof.ProofFile.{ProofFile}
@@ -18,7 +18,6 @@ abbrev pub AlikeStep : List (List ℕ) → List (List ℕ) → Step → Step →
 AlikeStep table other (Intro ms) (Intro ns) = map (text_at table) ms ≡ map (text_at other) ns
 AlikeStep table other (Hyp l) (Hyp m) = l ≡ m
 AlikeStep table other Split Split = Unit {0}
-AlikeStep table other (Range m) (Range n) = text_at table m ≡ text_at other n
 AlikeStep table other (Lin ms) (Lin ns) = ms ≡ ns
 AlikeStep table other (OnGoal r) (OnGoal s) = r ≡ s
 AlikeStep table other (OnHypothesis r l) (OnHypothesis s m) = (r ≡ s) × (l ≡ m)

@@ -8,7 +8,7 @@ use Rattle.std.specs.Option.{option_map}
 use Rattle.std.specs.Str.{bytes_eq, is_utf8}
 use Rattle.proof_kernel.specs.declared.step.Multiple.{Multiple}
 use Rattle.proof_kernel.specs.declared.step.Step.{Step}
-use Rattle.proof_kernel.specs.declared.step.Step.TheVariants.{Intro, Hyp, Split, Range, Lin, OnGoal, OnHypothesis, OnTwo, Rewrite, OnTerm}
+use Rattle.proof_kernel.specs.declared.step.Step.TheVariants.{Intro, Hyp, Split, Lin, OnGoal, OnHypothesis, OnTwo, Rewrite, OnTerm}
 use Rattle.rs_tokens.specs.Tokens.{is_identifier}
 use Rattle.proof_text.specs.ProofTextWords.{◌>>=◌, number_of, label_of, multiple_of, cut}
 use Rattle.proof_kernel.specs.declared.step.TermRule.{TermRule}
@@ -56,7 +56,6 @@ abbrev pub word_of : Step → List ℕ
 word_of (Intro names) = codes "intro"
 word_of (Hyp label) = codes "hyp"
 word_of Split = codes "split"
-word_of (Range name) = codes "range"
 word_of (Lin multiples) = codes "lin"
 word_of (OnGoal rule) = goal_word rule
 word_of (OnHypothesis rule label) = hypothesis_word rule
@@ -69,7 +68,6 @@ abbrev pub SpellsRest : List (List ℕ) → Option (List ℕ) → Step → Type 
 SpellsRest table rest (Intro names) = (list_all is_identifier (words_of rest) ≡ true) × (map (text_at table) names ≡ map Some (words_of rest))
 SpellsRest table rest (Hyp label) = (rest >>= label_of) ≡ Some label
 SpellsRest table rest Split = rest ≡ None
-SpellsRest table rest (Range name) = (word : List ℕ) × (rest ≡ Some word) × (is_identifier word ≡ true) × (text_at table name ≡ Some word)
 SpellsRest table rest (Lin multiples) = (rest >>= multiples_in) ≡ Some multiples
 SpellsRest table rest (OnGoal rule) = rest ≡ None
 SpellsRest table rest (OnHypothesis rule label) = (rest >>= labels_in) ≡ Some (label, None)
@@ -85,19 +83,10 @@ SpellsParts table head rest step = (head ≡ word_of step) × SpellsRest table r
 abbrev pub SpellsStep : List (List ℕ) → List ℕ → Step → Type 0
 SpellsStep table line step = (is_utf8 line ≡ true) × SpellsParts table (head_of line) (rest_of line) step
 
--- the one word that a rest is
-abbrev pub as_word : Option (List ℕ) → List (List ℕ)
-as_word None = []
-as_word (Some rest) = rest ∷ []
-
--- the texts that a line of no term names, in order: those of an `intro` and that of a `range`
+-- the texts that a line of no term names, in order: those of an `intro`
 unfoldable pub texts_by : List ℕ → Option (List ℕ) → List (List ℕ)
 texts_by head rest =
-    if bytes_eq head (codes "intro") then words_of rest
-    else if bytes_eq head (codes "hyp") then []
-    else if bytes_eq head (codes "split") then []
-    else if bytes_eq head (codes "range") then as_word rest
-    else []
+    if bytes_eq head (codes "intro") then words_of rest else []
 
 -- the texts that a line of a term names: the identifiers and lifetimes of its rest
 abbrev pub NamesInTerm : Option (List ℕ) → List (List ℕ) → Type 0

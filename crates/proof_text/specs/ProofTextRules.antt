@@ -15,7 +15,7 @@ use Rattle.proof_kernel.specs.declared.step.Rewriting.{Rewriting}
 use Rattle.proof_kernel.specs.declared.step.Target.{Target}
 use Rattle.proof_kernel.specs.declared.step.Target.TheVariants.{Goal, Hyp}
 use Rattle.proof_kernel.specs.declared.step.TermRule.{TermRule}
-use Rattle.proof_kernel.specs.declared.step.TermRule.TheVariants.{Cut, On}
+use Rattle.proof_kernel.specs.declared.step.TermRule.TheVariants.{Cut, On, Range}
 use Rattle.proof_text.specs.ProofTextWords.{◌>>=◌, label_of, cut}
 
 -- ---- the words
@@ -45,6 +45,7 @@ pair_word Product = codes "mul"
 abbrev pub term_word : TermRule → List ℕ
 term_word Cut = codes "cut"
 term_word On = codes "on"
+term_word Range = codes "range"
 
 -- ---- the labels behind them
 
@@ -104,7 +105,7 @@ abbrev pub pair_rules : List PairRule
 pair_rules = ModusPonens ∷ Contradiction ∷ Product ∷ []
 
 abbrev pub term_rules : List TermRule
-term_rules = Cut ∷ On ∷ []
+term_rules = Cut ∷ On ∷ Range ∷ []
 
 unfoldable pub goal_rule_of : List ℕ → Option GoalRule
 goal_rule_of word = rule_by goal_word goal_rules word

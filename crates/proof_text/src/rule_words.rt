@@ -60,6 +60,7 @@ pub(crate) fn term_rule(word: &str) -> Option<TermRule>
     match word {
         "cut" => Some(TermRule::Cut),
         "on" => Some(TermRule::On),
+        "range" => Some(TermRule::Range),
         _ => None,
     }
 }

@@ -93,21 +93,6 @@ fn intro(alloc: Global, rest: Option<&str>, names: &mut Names) -> Result<Step, F
     Ok(Step::Intro(named(alloc, &words, names)?))
 }
 
-/// `NAME`
-fn range(alloc: Global, word: &str, names: &mut Names) -> Result<Step, Fault>
-    requires { length names.old + 1 < 2 ^ 32 }
-    ensures said { IfOk result (λ step. SpellsParts names.new (codes "range") (Some word.now) step) }
-    ensures bad { IsErrOf result Fault.Bad → is_identifier word.now ≡ false }
-    ensures table { OnOk result (names.new ≡ with_names names.old (word.now ∷ [])) }
-    ensures kept { KeepsNames names.old names.new }
-    ensures grown { length names.new ≤ length names.old + 1 }
-{
-    if !is_identifier(word) {
-        return Err(Fault::Bad);
-    }
-    Ok(Step::Range(names.intern(alloc, word)?))
-}
-
 /// The step of a rule by the term that the rest of the line is.
 fn on_term(alloc: Global, rule: TermRule, rest: &str, names: &mut Names) -> Result<Step, Fault>
     ensures said { IfOk result (λ step. SpellsParts names.new (term_word rule) (Some rest.now) step) }
@@ -150,7 +135,6 @@ fn plain_step(
             }
             Ok(Step::Split)
         }
-        "range" => range(alloc, rest.ok_or(Fault::Bad)?, names),
         "lin" => Ok(Step::Lin(lin(alloc, rest.ok_or(Fault::Bad)?)?)),
         "rewrite" => {
             let rest = rest.ok_or(Fault::Bad)?;
