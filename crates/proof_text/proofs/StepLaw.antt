@@ -1,5 +1,5 @@
 -- What the line of a step spells, step by step.
-use Rattle.std.proofs.Common.{◌≡◌, ℕ, Bool, true, false, cond, ◌⊎◌, inl, inr, subst, List, [], ◌∷◌, ◌++◌, map, Option, Some, None, refl, sym, ◌∙◌, ap, codes}
+use Rattle.std.proofs.Common.{◌≡◌, ℕ, Bool, true, false, ◌&&◌, cond, ◌⊎◌, inl, inr, subst, List, [], ◌∷◌, ◌++◌, map, Option, Some, None, refl, sym, ◌∙◌, ap, ap₂, codes}
 use Rattle.std.specs.Prelude.{is_some, is_none}
 use Rattle.std.specs.List.{list_all}
 use Rattle.std.specs.Str.{bytes_eq, is_utf8}
@@ -7,19 +7,21 @@ use Rattle.std.proofs.lemmas.Slice.Eq.{bytes_eq-Decides}
 use Rattle.proof_kernel.specs.declared.step.Step.{Step}
 use Rattle.proof_kernel.specs.declared.step.TermRule.{TermRule}
 use Rattle.proof_kernel.specs.declared.step.TermRule.TheVariants.{Cut, On, Range}
-use Rattle.proof_kernel.specs.declared.step.Step.TheVariants.{Intro, Hyp, Split, Lin, OnGoal, OnHypothesis, OnTwo, Rewrite, OnTerm}
+use Rattle.proof_kernel.specs.declared.step.Step.TheVariants.{Intro, Hyp, Split, Lin, OnGoal, OnHypothesis, OnTwo, Rewrite, OnTerm, Divide}
 use Rattle.source_trees.specs.Pterm.{Pterm}
-use Rattle.term_texts.specs.TermTexts.{SpellsWholeTerm, IsTermText}
+use Rattle.term_texts.specs.TermTexts.{SpellsWholeTerm, IsTermText, NamesOfTerm}
 use Rattle.term_texts.proofs.TermChoice.{term_there}
 use Rattle.term_texts.proofs.TermLaw.{is_term_text, spelled_there, names_there as naming_there, one_naming, kept_term, one_term}
 pub use Rattle.term_texts.proofs.TermLaw.{AreNamed, KeepsTexts}
 use Rattle.text_core.specs.Names.{words, HaveOnePlace}
 use Rattle.text_core.specs.declared.name.Name.{Name}
 use Rattle.rs_tokens.specs.Tokens.{is_identifier}
-use Rattle.proof_text.specs.ProofTextWords.{◌>>=◌, label_of}
-use Rattle.proof_text.specs.ProofTextRules.{rewriting_in, term_word, term_rule_of}
-use Rattle.proof_text.specs.ProofTextLines.{head_of, rest_of, words_of, text_at, multiples_in, word_of, SpellsRest, SpellsParts, SpellsStep, texts_by, NamesInTerm, NamesByRule, NamesOfParts, NamesTexts}
-use Rattle.proof_text.specs.ProofTextFile.{is_plain_step, is_left, is_term, is_term_rest, is_step_by, is_step, step, line_if, line_by_head, line_of, rule_step_of}
+use Rattle.proof_text.specs.declared.rule_words.TermLine.{TermLine}
+use Rattle.proof_text.specs.declared.rule_words.TermLine.TheVariants.{Rule, Division}
+use Rattle.proof_text.specs.ProofTextWords.{◌>>=◌, label_of, two_texts}
+use Rattle.proof_text.specs.ProofTextRules.{rewriting_in, term_word, line_word, term_line_of}
+use Rattle.proof_text.specs.ProofTextLines.{head_of, rest_of, words_of, text_at, multiples_in, word_of, SpellsRest, SpellsParts, SpellsStep, texts_by, NamesInTerm, NamesInTwo, NamesByLine, NamesOfParts, NamesTexts}
+use Rattle.proof_text.specs.ProofTextFile.{is_plain_step, is_left, is_term, is_term_rest, are_terms, is_step_by, is_step, step, line_if, line_by_head, line_of, rule_step_of}
 use Rattle.proof_text.specs.ProofTextLaws.{AlikeStep}
 use Rattle.proof_text.proofs.LineLaw.{is_plain, text_line}
 use Rattle.proof_text.proofs.RuleLaw.{rule_there, goal_head, hypothesis_head, pair_head, term_found, term_spelled, rule_part, rule_read}
@@ -55,10 +57,19 @@ not_told text never = by (term_there text)
 term_rest : (table : List (List ℕ)) (rest : Option (List ℕ)) (rule : TermRule) (t : Pterm) → SpellsRest table rest (OnTerm rule t) → is_step (term_word rule) rest ≡ true
 unfolding is_step
 term_rest table rest rule t h =
-    ap (λ o. is_step_by o (term_word rule) rest) (term_found rule) ∙ (ap is_term_rest h.1 ∙ term_told h.0 (is_term_text table h.0 t h.2))
+    ap (λ o. is_step_by o (term_word rule) rest) (term_found (Rule rule)) ∙ (ap is_term_rest h.1 ∙ term_told h.0 (is_term_text table h.0 t h.2))
+
+both_told : (a b : List ℕ) → IsTermText a → IsTermText b → (is_term a && is_term b) ≡ true
+both_told a b p q = ap₂ (λ x y. x && y) (term_told a p) (term_told b q)
+
+two_rest : (table : List (List ℕ)) (rest : Option (List ℕ)) (t u : Pterm) → SpellsRest table rest (Divide t u) → is_step (codes "div") rest ≡ true
+unfolding is_step
+two_rest table rest t u h =
+    ap (λ o. is_step_by o (codes "div") rest) (term_found Division)
+    ∙ (ap are_terms h.1 ∙ both_told h.0.0 h.0.1 (is_term_text table h.0.0 t h.2) (is_term_text table h.0.1 u h.3))
 
 rest_is : (table : List (List ℕ)) (rest : Option (List ℕ)) (s : Step) → SpellsRest table rest s → is_step (word_of s) rest ≡ true
-unfolding is_step is_plain_step term_rule_of
+unfolding is_step is_plain_step term_line_of
 rest_is table rest (Intro names) h = h.0
 rest_is table rest (Hyp l) h = ap is_some h
 rest_is table rest Split h = ap is_none h
@@ -67,6 +78,7 @@ rest_is table rest (Rewrite r) h = ap is_some h
 rest_is table rest (OnGoal r) h = (goal_head r).2 rest ∙ ap is_some (rule_read table rest (OnGoal r) h)
 rest_is table rest (OnHypothesis r l) h = (hypothesis_head r).2 rest ∙ ap is_some (rule_read table rest (OnHypothesis r l) h)
 rest_is table rest (OnTerm r t) h = term_rest table rest r t h
+rest_is table rest (Divide t u) h = two_rest table rest t u h
 rest_is table rest (OnTwo r l m) h = (pair_head r).2 rest ∙ ap is_some (rule_read table rest (OnTwo r l m) h)
 
 by_word : (s : Step) (rest : Option (List ℕ)) → line_by_head (word_of s) rest ≡ line_if (is_step (word_of s) rest) step
@@ -138,22 +150,47 @@ plain_there table head rest is named =
     by_words table head rest (bytes_eq head (codes "intro")) (bytes_eq head (codes "hyp")) (bytes_eq head (codes "split")) (bytes_eq head (codes "lin")) (bytes_eq head (codes "rewrite"))
     refl refl refl refl refl is named
 
-term_line : (table : List (List ℕ)) (head : List ℕ) (rest : Option (List ℕ)) (rule : TermRule) (texts : List (List ℕ)) → term_rule_of head ≡ Some rule → is_term_rest rest ≡ true → NamesInTerm rest texts → AreNamed table texts →
+term_line : (table : List (List ℕ)) (head : List ℕ) (rest : Option (List ℕ)) (rule : TermRule) (texts : List (List ℕ)) → term_line_of head ≡ Some (Rule rule) → is_term_rest rest ≡ true → NamesInTerm rest texts → AreNamed table texts →
     Spelled table head rest
 term_line table head None rule texts e is names named = absurd (cc)
 term_line table head (Some text) rule texts e is names named =
     let term : IsTermText text = told_term text is in
     let t = spelled_there table text term (subst (AreNamed table) (one_naming text texts _ names (naming_there text term)) named) in
-    (OnTerm rule t.0, (term_spelled head rule e, (text, refl, t.1)))
+    (OnTerm rule t.0, (term_spelled head (Rule rule) e, (text, refl, t.1)))
 
-by_rule : (table : List (List ℕ)) (head : List ℕ) (rest : Option (List ℕ)) (texts : List (List ℕ)) (o : Option TermRule) → term_rule_of head ≡ o → is_step_by o head rest ≡ true → NamesByRule o head rest texts → AreNamed table texts →
+and_parts : (a b : Bool) → (a && b) ≡ true → (a ≡ true) × (b ≡ true)
+and_parts true b e = (refl, e)
+and_parts false b e = absurd (cc)
+
+named_parts : (table one other : List (List ℕ)) → AreNamed table (one ++ other) → AreNamed table one × AreNamed table other
+named_parts table [] other h = (tt, h)
+named_parts table (text ∷ one) other h = let rest = named_parts table one other h.1 in ((h.0, rest.0), rest.1)
+
+-- the term of a text whose names have names in the table
+term_here : (table : List (List ℕ)) (text : List ℕ) (texts : List (List ℕ)) → is_term text ≡ true → NamesOfTerm text texts → AreNamed table texts → (t : Pterm) × SpellsWholeTerm table text t
+term_here table text texts is names named =
+    let term : IsTermText text = told_term text is in
+    spelled_there table text term (subst (AreNamed table) (one_naming text texts _ names (naming_there text term)) named)
+
+two_line : (table : List (List ℕ)) (head : List ℕ) (rest : Option (List ℕ)) (o : Option (List ℕ × List ℕ)) (texts : List (List ℕ)) → (rest >>= two_texts) ≡ o → head ≡ codes "div" → are_terms o ≡ true → NamesInTwo o texts →
+    AreNamed table texts → Spelled table head rest
+two_line table head rest None texts e w is names named = absurd (cc)
+two_line table head rest (Some both) texts e w is names named =
+    let parts = and_parts (is_term both.0) (is_term both.1) is in
+    let have = named_parts table names.0 names.1 (subst (AreNamed table) names.4 named) in
+    let first = term_here table both.0 names.0 parts.0 names.2 have.0 in
+    let second = term_here table both.1 names.1 parts.1 names.3 have.1 in
+    (Divide first.0 second.0, (w, (both, e, first.1, second.1)))
+
+by_line : (table : List (List ℕ)) (head : List ℕ) (rest : Option (List ℕ)) (texts : List (List ℕ)) (o : Option TermLine) → term_line_of head ≡ o → is_step_by o head rest ≡ true → NamesByLine o head rest texts → AreNamed table texts →
     Spelled table head rest
-by_rule table head rest texts None e is names named = plain_there table head rest is (subst (AreNamed table) names named)
-by_rule table head rest texts (Some rule) e is names named = term_line table head rest rule texts e is names named
+by_line table head rest texts None e is names named = plain_there table head rest is (subst (AreNamed table) names named)
+by_line table head rest texts (Some (Rule rule)) e is names named = term_line table head rest rule texts e is names named
+by_line table head rest texts (Some Division) e is names named = two_line table head rest (rest >>= two_texts) texts refl (term_spelled head Division e) is names named
 
 parts_there : (table : List (List ℕ)) (head : List ℕ) (rest : Option (List ℕ)) (texts : List (List ℕ)) → is_step head rest ≡ true → NamesOfParts head rest texts → AreNamed table texts → Spelled table head rest
 unfolding is_step NamesOfParts
-parts_there table head rest texts is names named = by_rule table head rest texts (term_rule_of head) refl is names named
+parts_there table head rest texts is names named = by_line table head rest texts (term_line_of head) refl is names named
 
 pub step_there : (table : List (List ℕ)) (text : List ℕ) (texts : List (List ℕ)) → is_utf8 text ≡ true → is_step (head_of text) (rest_of text) ≡ true → NamesTexts text texts → AreNamed table texts → (s : Step) × SpellsStep table text s
 step_there table text texts u is names named = let s = parts_there table (head_of text) (rest_of text) texts is names named in (s.0, (u, s.1))
@@ -164,26 +201,39 @@ term_names : (rest : Option (List ℕ)) → is_term_rest rest ≡ true → (text
 term_names None is = absurd (cc)
 term_names (Some text) is = let term : IsTermText text = told_term text is in (_, naming_there text term)
 
-names_by : (head : List ℕ) (rest : Option (List ℕ)) (o : Option TermRule) → is_step_by o head rest ≡ true → (texts : List (List ℕ)) × NamesByRule o head rest texts
+two_names : (o : Option (List ℕ × List ℕ)) → are_terms o ≡ true → (texts : List (List ℕ)) × NamesInTwo o texts
+two_names None is = absurd (cc)
+two_names (Some both) is =
+    let parts = and_parts (is_term both.0) (is_term both.1) is in
+    (_, (_, _, naming_there both.0 (told_term both.0 parts.0), naming_there both.1 (told_term both.1 parts.1), refl))
+
+names_by : (head : List ℕ) (rest : Option (List ℕ)) (o : Option TermLine) → is_step_by o head rest ≡ true → (texts : List (List ℕ)) × NamesByLine o head rest texts
 names_by head rest None is = (texts_by head rest, refl)
-names_by head rest (Some rule) is = term_names rest is
+names_by head rest (Some (Rule rule)) is = term_names rest is
+names_by head rest (Some Division) is = two_names (rest >>= two_texts) is
 
 pub step_names : (text : List ℕ) → is_step (head_of text) (rest_of text) ≡ true → (texts : List (List ℕ)) × NamesTexts text texts
 unfolding is_step NamesOfParts
-step_names text is = names_by (head_of text) (rest_of text) (term_rule_of (head_of text)) is
+step_names text is = names_by (head_of text) (rest_of text) (term_line_of (head_of text)) is
 
 once_in_term : (rest : Option (List ℕ)) (one other : List (List ℕ)) → NamesInTerm rest one → NamesInTerm rest other → one ≡ other
 once_in_term None one other a b = a ∙ sym b
 once_in_term (Some text) one other a b = one_naming text one other a b
 
-once_by : (head : List ℕ) (rest : Option (List ℕ)) (o : Option TermRule) (one other : List (List ℕ)) → NamesByRule o head rest one → NamesByRule o head rest other → one ≡ other
+once_in_two : (o : Option (List ℕ × List ℕ)) (one other : List (List ℕ)) → NamesInTwo o one → NamesInTwo o other → one ≡ other
+once_in_two None one other a b = a ∙ sym b
+once_in_two (Some both) one other a b =
+    a.4 ∙ (ap₂ (λ (x y : List (List ℕ)). x ++ y) (one_naming both.0 a.0 b.0 a.2 b.2) (one_naming both.1 a.1 b.1 a.3 b.3) ∙ sym b.4)
+
+once_by : (head : List ℕ) (rest : Option (List ℕ)) (o : Option TermLine) (one other : List (List ℕ)) → NamesByLine o head rest one → NamesByLine o head rest other → one ≡ other
 once_by head rest None one other a b = a ∙ sym b
-once_by head rest (Some rule) one other a b = once_in_term rest one other a b
+once_by head rest (Some (Rule rule)) one other a b = once_in_term rest one other a b
+once_by head rest (Some Division) one other a b = once_in_two (rest >>= two_texts) one other a b
 
 -- a line names one list of texts
 pub line_names_once : (text : List ℕ) (one other : List (List ℕ)) → NamesTexts text one → NamesTexts text other → one ≡ other
 unfolding NamesOfParts
-line_names_once text one other a b = once_by (head_of text) (rest_of text) (term_rule_of (head_of text)) one other a b
+line_names_once text one other a b = once_by (head_of text) (rest_of text) (term_line_of (head_of text)) one other a b
 
 -- ---- in a larger table the same step is spelled
 
@@ -201,6 +251,7 @@ module _ (old new : List (List ℕ)) (keeps : KeepsTexts old new) where
   kept_rest : (rest : Option (List ℕ)) (s : Step) → SpellsRest old rest s → SpellsRest new rest s
   kept_rest rest (Intro names) h = (h.0, kept_names names (words_of rest) h.1)
   kept_rest rest (OnTerm r t) h = (h.0, h.1, kept_term old new keeps h.0 t h.2)
+  kept_rest rest (Divide t u) h = (h.0, h.1, kept_term old new keeps h.0.0 t h.2, kept_term old new keeps h.0.1 u h.3)
   kept_rest rest _ h = h
 
   pub kept_step : (text : List ℕ) (s : Step) → SpellsStep old text s → SpellsStep new text s
@@ -217,6 +268,14 @@ module _ (table other : List (List ℕ)) (rest : Option (List ℕ)) where
       let same : Some k.0 ≡ Some h.0 = sym k.1 ∙ h.1 in
       let text : k.0 ≡ h.0 = cc in
       (h.0, h.2, subst (λ (x : List ℕ). SpellsWholeTerm other x u) text k.2)
+
+  alike_two : (t u v w : Pterm) → SpellsRest table rest (Divide t u) → SpellsRest other rest (Divide v w) → AlikeTerm t v × AlikeTerm u w
+  alike_two t u v w h k =
+      let same : Some k.0 ≡ Some h.0 = sym k.1 ∙ h.1 in
+      let texts : k.0 ≡ h.0 = cc in (
+        (h.0.0, h.2, subst (λ (x : List ℕ × List ℕ). SpellsWholeTerm other x.0 v) texts k.2),
+        (h.0.1, h.3, subst (λ (x : List ℕ × List ℕ). SpellsWholeTerm other x.1 w) texts k.3),
+      )
 
   alike_rest : (s t : Step) → bytes_eq (word_of s) (word_of t) ≡ true → rule_part s ≡ rule_part t → SpellsRest table rest s → SpellsRest other rest t → AlikeStep table other s t
   alike_rest (Intro ms) (Intro ns) e r h k = h.1 ∙ sym k.1
@@ -236,6 +295,7 @@ module _ (table other : List (List ℕ)) (rest : Option (List ℕ)) where
   alike_rest (OnTerm Cut t) s e r h k = absurd (cc)
   alike_rest (OnTerm On t) s e r h k = absurd (cc)
   alike_rest (OnTerm Range t) s e r h k = absurd (cc)
+  alike_rest (Divide t u) (Divide v w) e r h k = alike_two t u v w h k
   alike_rest _ _ e r h k = absurd (cc)
 
 pub alike_step : (table other : List (List ℕ)) (text : List ℕ) (s t : Step) → SpellsStep table text s → SpellsStep other text t → AlikeStep table other s t
@@ -276,6 +336,10 @@ module _ (table : List (List ℕ)) (place : HaveOnePlace (words ++ table)) where
   rest_once rest (OnTerm a t) (OnTerm b u) e h k =
       let rule : a ≡ b = e.0 in
       let term : t ≡ u = one_term table place e.1.0 t u e.1.1 e.1.2 in
+      cc
+  rest_once rest (Divide t u) (Divide v w) e h k =
+      let first : t ≡ v = one_term table place e.0.0 t v e.0.1 e.0.2 in
+      let second : u ≡ w = one_term table place e.1.0 u w e.1.1 e.1.2 in
       cc
   rest_once rest _ _ e h k = absurd e
 

@@ -2,17 +2,18 @@
 --
 -- A line is a head, its first word, and a rest: the bytes after the space behind the head, where one stands there. The head says of which
 -- kind the line is, and each kind says what its rest is. A rest is split into words only where its kind wants words.
-use Rattle.std.specs.Prelude.{◌≡◌, ℕ, List, [], ◌∷◌, map, codes, true, Option, None, Some, if◌then◌else◌, ◌==◌}
+use Rattle.std.specs.Prelude.{◌≡◌, ℕ, List, [], ◌∷◌, ◌++◌, map, codes, true, Option, None, Some, if◌then◌else◌, ◌==◌}
 use Rattle.std.specs.List.{list_all, slice_split, before_first}
 use Rattle.std.specs.Option.{option_map}
 use Rattle.std.specs.Str.{bytes_eq, is_utf8}
 use Rattle.proof_kernel.specs.declared.step.Multiple.{Multiple}
 use Rattle.proof_kernel.specs.declared.step.Step.{Step}
-use Rattle.proof_kernel.specs.declared.step.Step.TheVariants.{Intro, Hyp, Split, Lin, OnGoal, OnHypothesis, OnTwo, Rewrite, OnTerm}
+use Rattle.proof_kernel.specs.declared.step.Step.TheVariants.{Intro, Hyp, Split, Lin, OnGoal, OnHypothesis, OnTwo, Rewrite, OnTerm, Divide}
 use Rattle.rs_tokens.specs.Tokens.{is_identifier}
-use Rattle.proof_text.specs.ProofTextWords.{◌>>=◌, number_of, label_of, multiple_of, cut}
-use Rattle.proof_kernel.specs.declared.step.TermRule.{TermRule}
-use Rattle.proof_text.specs.ProofTextRules.{goal_word, hypothesis_word, pair_word, term_word, labels_in, rewriting_in, term_rule_of}
+use Rattle.proof_text.specs.declared.rule_words.TermLine.{TermLine}
+use Rattle.proof_text.specs.declared.rule_words.TermLine.TheVariants.{Rule, Division}
+use Rattle.proof_text.specs.ProofTextWords.{◌>>=◌, number_of, label_of, multiple_of, cut, two_texts}
+use Rattle.proof_text.specs.ProofTextRules.{goal_word, hypothesis_word, pair_word, term_word, labels_in, rewriting_in, term_line_of}
 use Rattle.term_texts.specs.TermTexts.{SpellsWholeTerm, NamesOfTerm}
 pub use Rattle.term_texts.specs.TermTexts.{text_at}
 
@@ -62,6 +63,7 @@ word_of (OnHypothesis rule label) = hypothesis_word rule
 word_of (OnTwo rule label other) = pair_word rule
 word_of (Rewrite rewriting) = codes "rewrite"
 word_of (OnTerm rule t) = term_word rule
+word_of (Divide t u) = codes "div"
 
 -- the rest of its line, under the table's names
 abbrev pub SpellsRest : List (List ℕ) → Option (List ℕ) → Step → Type 0
@@ -74,6 +76,7 @@ SpellsRest table rest (OnHypothesis rule label) = (rest >>= labels_in) ≡ Some 
 SpellsRest table rest (OnTwo rule label other) = (rest >>= labels_in) ≡ Some (label, Some other)
 SpellsRest table rest (Rewrite rewriting) = (rest >>= rewriting_in) ≡ Some rewriting
 SpellsRest table rest (OnTerm rule t) = (text : List ℕ) × (rest ≡ Some text) × SpellsWholeTerm table text t
+SpellsRest table rest (Divide t u) = (texts : List ℕ × List ℕ) × ((rest >>= two_texts) ≡ Some texts) × SpellsWholeTerm table texts.0 t × SpellsWholeTerm table texts.1 u
 
 -- the head and the rest spell the step
 abbrev pub SpellsParts : List (List ℕ) → List ℕ → Option (List ℕ) → Step → Type 0
@@ -93,13 +96,19 @@ abbrev pub NamesInTerm : Option (List ℕ) → List (List ℕ) → Type 0
 NamesInTerm None texts = texts ≡ []
 NamesInTerm (Some rest) texts = NamesOfTerm rest texts
 
--- the same of a line that has such a rule, or none
-abbrev pub NamesByRule : Option TermRule → List ℕ → Option (List ℕ) → List (List ℕ) → Type 0
-NamesByRule None head rest texts = texts ≡ texts_by head rest
-NamesByRule (Some rule) head rest texts = NamesInTerm rest texts
+-- those of the first term, and then those of the second
+abbrev pub NamesInTwo : Option (List ℕ × List ℕ) → List (List ℕ) → Type 0
+NamesInTwo None texts = texts ≡ []
+NamesInTwo (Some terms) texts = (first : List (List ℕ)) × (second : List (List ℕ)) × NamesOfTerm terms.0 first × NamesOfTerm terms.1 second × (texts ≡ first ++ second)
+
+-- the same of a line of this kind, or of one without terms
+abbrev pub NamesByLine : Option TermLine → List ℕ → Option (List ℕ) → List (List ℕ) → Type 0
+NamesByLine None head rest texts = texts ≡ texts_by head rest
+NamesByLine (Some (Rule rule)) head rest texts = NamesInTerm rest texts
+NamesByLine (Some Division) head rest texts = NamesInTwo (rest >>= two_texts) texts
 
 unfoldable pub NamesOfParts : List ℕ → Option (List ℕ) → List (List ℕ) → Type 0
-NamesOfParts head rest texts = NamesByRule (term_rule_of head) head rest texts
+NamesOfParts head rest texts = NamesByLine (term_line_of head) head rest texts
 
 -- the line names these texts, in order
 abbrev pub NamesTexts : List ℕ → List (List ℕ) → Type 0
