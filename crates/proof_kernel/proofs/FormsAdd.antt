@@ -25,6 +25,7 @@ use Rattle.source_trees.specs.Pterm.{Pterm}
 use Rattle.proof_kernel.specs.declared.step.TermRule.{TermRule}
 use Rattle.proof_kernel.specs.declared.step.TermRule.TheVariants.{Cut, On, Range}
 use Rattle.proof_kernel.specs.TermRules.{term_at, assuming_all, formula, shown_first, true_or_false, bounds_at, by_term, by_term_if, term_rule, number_if, division_of, division_rule}
+use Rattle.proof_kernel.specs.Instances.{instance_if, instance_rule}
 use Rattle.proof_kernel.specs.RewriteRules.{rewritten, changing, rewrite_rule}
 use Rattle.proof_kernel.specs.Rules.{label, same_label, hypothesis, without, labelled, with_goal, with_hyps, closed_if}
 use Rattle.proof_kernel.specs.Steps.{label_of_target, labels_of, IsLabelOf}
@@ -49,6 +50,13 @@ target_there s q ps (targets.Hyp l) f e = (added_there (hypothesis l q.hyps) e, 
 
 pub rewriting_there : (s : ℕ) (q : Sequent) (ps : List Sequent) (r : Rewriting) → rewrite_rule r s q ≡ Some ps → Each (IsLabelOf q) (labels_of (Rewrite r))
 rewriting_there s q ps r e = let f = rewriting_found r s q ps e in ((f.0, f.2), target_there s q ps r.target (rewritten f.1.0 f.1.1) f.4)
+
+pub instance_there : (s : ℕ) (q : Sequent) (ps : List Sequent) (l : Label2) (ts : List Pterm) → instance_rule s q l ts ≡ Some ps → IsLabelOf q l
+instance_there s q ps l ts e = at (hypothesis l q.hyps) e
+  where
+    at : (o : Option Term) → assuming_all s q (instance_if q ts o) ≡ Some ps → (t : Term) × (o ≡ Some t)
+    at None f = absurd (cc)
+    at (Some t) f = (t, refl)
 
 -- ---- what is added
 
@@ -168,3 +176,6 @@ module _ (P : Label2 → Type 0) (N : Name → Type 0) (s : ℕ) (own : (k : ℕ
 
   pub division_has : (t u : Pterm) → division_rule s q t u ≡ Some ps → Each (Has P N) ps
   division_has t u e = assuming_all_has (division_of (number_if (term_at q t)) (number_if (term_at q u))) e
+
+  pub instance_has : (l : Label2) (ts : List Pterm) → instance_rule s q l ts ≡ Some ps → Each (Has P N) ps
+  instance_has l ts e = assuming_all_has (instance_if q ts (hypothesis l q.hyps)) e

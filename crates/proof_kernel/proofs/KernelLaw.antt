@@ -8,13 +8,13 @@ use Rattle.logic_term.specs.Canonical.{SameUpToNames}
 use Rattle.proof_kernel.specs.declared.step.Multiple.{Multiple}
 use Rattle.proof_kernel.specs.Sequent.{Sequent}
 use Rattle.proof_kernel.specs.declared.step.Step.{Step}
-use Rattle.proof_kernel.specs.declared.step.Step.TheVariants.{Intro, Hyp, Split, Lin, OnGoal, OnHypothesis, OnTwo, Rewrite, OnTerm, Divide}
+use Rattle.proof_kernel.specs.declared.step.Step.TheVariants.{Intro, Hyp, Split, Lin, OnGoal, OnHypothesis, OnTwo, Rewrite, OnTerm, Divide, Instantiate}
 use Rattle.proof_kernel.specs.declared.kernel.Made.{Made}
 use Rattle.proof_kernel.specs.declared.kernel.Made.TheVariants.{Premises, TooWide, Nothing}
 use Rattle.proof_kernel.specs.Setting.{Setting}
 use Rattle.proof_kernel.specs.Progress.{Progress}
 use Rattle.proof_kernel.proofs.Once.{given}
-use Rattle.proof_kernel.specs.Derivation.{Gives, by_intro, by_hyp, by_split, by_lin, by_goal, by_hypothesis, by_two, by_rewriting, by_term, by_division}
+use Rattle.proof_kernel.specs.Derivation.{Gives, by_intro, by_hyp, by_split, by_lin, by_goal, by_hypothesis, by_two, by_rewriting, by_term, by_division, by_instance}
 use Rattle.proof_kernel.specs.Linear.{Certifies}
 use Rattle.proof_kernel.specs.declared.step.GoalRule.{GoalRule}
 use Rattle.proof_kernel.specs.declared.step.HypothesisRule.{HypothesisRule}
@@ -27,6 +27,7 @@ use Rattle.proof_kernel.specs.HypothesisRules.{hypothesis_rule}
 use Rattle.proof_kernel.specs.PairRules.{pair_rule}
 use Rattle.proof_kernel.specs.RewriteRules.{rewrite_rule}
 use Rattle.proof_kernel.specs.TermRules.{term_rule, division_rule}
+use Rattle.proof_kernel.specs.Instances.{instance_rule}
 use Rattle.proof_kernel.specs.Rules.{Finds, hypothesis, with_goal, conjuncts, Intros, TakesSome}
 use Rattle.proof_kernel.specs.Kernel.{Applies, IsWide}
 use Rattle.proof_kernel.specs.Made.{IsMadeFirst, PassesWidthAt, others_of}
@@ -44,6 +45,7 @@ wide_at w q qs (OnTwo r l m) s p = absurd p
 wide_at w q qs (Rewrite r) s p = absurd p
 wide_at w q qs (OnTerm r t) s p = absurd p
 wide_at w q qs (Divide t u) s p = absurd p
+wide_at w q qs (Instantiate l ts) s p = absurd p
 wide_at w q qs (Lin ms) s p = record { first = q; others = qs; multiples = ms; was = refl; is_lin = refl; passes = p }
 
 is_wide : (w : Setting) (left : List Sequent) (step : Step) (s : ℕ) → IsMadeFirst w s left step TooWide → IsWide (at w s left) step
@@ -146,3 +148,9 @@ module _ (w : Setting) (s : ℕ) (q : Sequent) (o : Option (Vec Sequent)) where
 
   pub no_division : (t u : Pterm) → o ≡ None → Finds (division_rule s q t u) o → (ps : List Sequent) → Gives w s q (Divide t u) ps → ⊥
   no_division t u e f ps g = none_is (division_rule s q t u) o ps e f (given w s q (Divide t u) ps g)
+
+  pub instance_given : (l : Label2) (ts : List Pterm) (v : Vec Sequent) → o ≡ Some v → Finds (instance_rule s q l ts) o → Gives w s q (Instantiate l ts) v.items
+  instance_given l ts v e f = by_instance (found_is (instance_rule s q l ts) o v e f)
+
+  pub no_instance : (l : Label2) (ts : List Pterm) → o ≡ None → Finds (instance_rule s q l ts) o → (ps : List Sequent) → Gives w s q (Instantiate l ts) ps → ⊥
+  no_instance l ts e f ps g = none_is (instance_rule s q l ts) o ps e f (given w s q (Instantiate l ts) ps g)

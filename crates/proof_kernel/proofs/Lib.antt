@@ -14,6 +14,7 @@ pub mod FormsFound
 pub mod Found
 pub mod GoalSound
 pub mod HypothesisSound
+pub mod InstanceSound
 pub mod IntRing
 pub mod IntroLaw
 pub mod IntroSound

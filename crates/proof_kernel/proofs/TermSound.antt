@@ -90,7 +90,7 @@ bounds_at_hold S ρ s t ts e is = absurd (cc)
 -- ---- the rules
 
 module _ (S : Structure) (s : ℕ) (q : Sequent) (ps : List Sequent) (h : AllTrueAt S ps) where
-  assuming_sound : (o : Option (List Term)) → assuming_all s q o ≡ Some ps → ((ts : List Term) → o ≡ Some ts → (ρ : Env) → InSorts S q.vars ρ → AllHold S q.hyps ρ → AllTrue S ts ρ) → IsTrueAt S q
+  pub assuming_sound : (o : Option (List Term)) → assuming_all s q o ≡ Some ps → ((ts : List Term) → o ≡ Some ts → (ρ : Env) → InSorts S q.vars ρ → AllHold S q.hyps ρ → AllTrue S ts ρ) → IsTrueAt S q
   assuming_sound None e f = absurd (cc)
   assuming_sound (Some ts) e f = λ ρ z k. (these_true S _ ps e h).0 ρ z (hyps_more S q.hyps _ ρ k (reduced_hold S s 1 ts ρ (f ts refl ρ z k)))
 

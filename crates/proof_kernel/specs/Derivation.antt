@@ -15,7 +15,7 @@ use Rattle.proof_kernel.specs.declared.step.HypothesisRule.{HypothesisRule}
 use Rattle.proof_kernel.specs.declared.step.PairRule.{PairRule}
 use Rattle.proof_kernel.specs.declared.step.Rewriting.{Rewriting}
 use Rattle.proof_kernel.specs.declared.step.TermRule.{TermRule}
-use Rattle.proof_kernel.specs.declared.step.Step.TheVariants.{Intro, Hyp, Split, Lin, OnGoal, OnHypothesis, OnTwo, Rewrite, OnTerm, Divide}
+use Rattle.proof_kernel.specs.declared.step.Step.TheVariants.{Intro, Hyp, Split, Lin, OnGoal, OnHypothesis, OnTwo, Rewrite, OnTerm, Divide, Instantiate}
 use Rattle.proof_kernel.specs.Sequent.{sequent_of}
 use Rattle.proof_kernel.specs.Setting.{Setting, setting_of}
 use Rattle.proof_kernel.specs.Linear.{Certifies}
@@ -24,6 +24,7 @@ use Rattle.proof_kernel.specs.HypothesisRules.{hypothesis_rule}
 use Rattle.proof_kernel.specs.PairRules.{pair_rule}
 use Rattle.proof_kernel.specs.RewriteRules.{rewrite_rule}
 use Rattle.proof_kernel.specs.TermRules.{term_rule, division_rule}
+use Rattle.proof_kernel.specs.Instances.{instance_rule}
 use Rattle.source_trees.specs.Pterm.{Pterm}
 use Rattle.proof_kernel.specs.Rules.{hypothesis, with_goal, Intros, TakesSome, conjuncts}
 
@@ -39,6 +40,7 @@ pub data Gives (w : Setting) (s : ℕ) (q : Sequent) : Step → List Sequent →
   by_rewriting : {r : Rewriting} {ps : List Sequent} → rewrite_rule r s q ≡ Some ps → Gives w s q (Rewrite r) ps
   by_term : {r : TermRule} {t : Pterm} {ps : List Sequent} → term_rule r s q t ≡ Some ps → Gives w s q (OnTerm r t) ps
   by_division : {t u : Pterm} {ps : List Sequent} → division_rule s q t u ≡ Some ps → Gives w s q (Divide t u) ps
+  by_instance : {l : Label2} {ts : List Pterm} {ps : List Sequent} → instance_rule s q l ts ≡ Some ps → Gives w s q (Instantiate l ts) ps
 
 -- what the step cites besides hypotheses is true in the structure; no step cites anything else yet
 abbrev pub CitedAreTrue : Setting → Structure → Step → Type 0
@@ -52,6 +54,7 @@ CitedAreTrue w S (OnTwo r l m) = Unit {0}
 CitedAreTrue w S (Rewrite r) = Unit {0}
 CitedAreTrue w S (OnTerm r t) = Unit {0}
 CitedAreTrue w S (Divide t u) = Unit {0}
+CitedAreTrue w S (Instantiate l ts) = Unit {0}
 
 -- the steps, numbered from s, lead from the first sequents to the second; each acts on the first and puts its premises there
 pub data Derives (w : Setting) : ℕ → List Sequent → List Step → List Sequent → Type 0 where

@@ -10,6 +10,7 @@ ghost use Rattle.proof_kernel.specs.Steps.{labels_in, labels_of};
 
 use crate::goal_rules::goal_rule;
 use crate::hypothesis_rules::hypothesis_rule;
+use crate::instances::instance_rule;
 use crate::intro::intro;
 use crate::linear::{LinAnswer, certifies};
 use crate::pair_rules::pair_rule;
@@ -122,6 +123,7 @@ fn cites_in_order(number: u32, step: &Step) -> bool
             is_label_above(number, *first) && is_label_above(number, *second)
         }
         Step::Rewrite(rewriting) => is_rewriting_in_order(number, *rewriting),
+        Step::Instantiate(label, _) => is_label_above(number, *label),
         Step::Intro(_) | Step::Split | Step::OnGoal(_) => true,
         Step::OnTerm(_, _) | Step::Divide(_, _) => true,
     }
@@ -294,6 +296,22 @@ fn by_division(
     }
 }
 
+fn by_instance(
+    alloc: Global,
+    scope: &Scope<'_>,
+    number: u32,
+    label: Label2,
+    ts: &Items<Pterm>,
+    q: &Sequent,
+) -> Result<Made, NoMemory>
+    ensures { IfOk result (λ made. IsMade (setting scope.now) number q.now (kinds.Instantiate label ts.now) made) }
+{
+    match instance_rule(alloc, number, label, ts.as_slice(), q)? {
+        None => Ok(Made::Nothing),
+        Some(premises) => Ok(Made::Premises(premises)),
+    }
+}
+
 /// What the step with this number makes of the sequent.
 fn made_of(
     alloc: Global,
@@ -317,6 +335,7 @@ fn made_of(
         Step::Rewrite(rewriting) => by_rewriting(alloc, scope, number, *rewriting, q),
         Step::OnTerm(rule, t) => by_term(alloc, scope, number, *rule, t, q),
         Step::Divide(t, u) => by_division(alloc, scope, number, t, u, q),
+        Step::Instantiate(label, ts) => by_instance(alloc, scope, number, *label, ts, q),
     }
 }
 

@@ -126,4 +126,6 @@ pub enum Step {
     OnTerm(TermRule, Pterm),
     /// What the division of the first term by the second says.
     Divide(Pterm, Pterm),
+    /// Terms for the names that the hypothesis is quantified over.
+    Instantiate(Label2, Items<Pterm>),
 }

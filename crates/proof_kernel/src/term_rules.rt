@@ -43,7 +43,7 @@ impl<'a> TermScope for Variables<'a> {
 }
 
 /// What the term is at the sequent; `None` exactly where it does not elaborate.
-fn term_at(alloc: Global, q: &Sequent, t: &Pterm) -> Result<Option<SortedTerm>, NoMemory>
+pub(crate) fn term_at(alloc: Global, q: &Sequent, t: &Pterm) -> Result<Option<SortedTerm>, NoMemory>
     ensures { IfOk result (λ o. o ≡ term_at q.now t.now) }
 {
     let scope = Variables { sequent: q };
@@ -102,7 +102,7 @@ fn all_reduced(alloc: Global, formulas: &[Term]) -> Result<Vec<Term>, NoMemory>
 }
 
 /// The sequent with the formulas, in normal form, as the hypotheses of the step.
-fn assuming_all(
+pub(crate) fn assuming_all(
     alloc: Global,
     step: u32,
     q: &Sequent,

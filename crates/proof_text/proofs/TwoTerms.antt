@@ -4,7 +4,7 @@ use Rattle.std.specs.List.{position_or_len, before_first, after_first}
 use Rattle.std.proofs.lemmas.Bool.Decides.{nat_tests}
 use Rattle.std.proofs.lemmas.List.Sums.{split_at_first}
 use Rattle.source_trees.specs.Pterm.{Pterm}
-use Rattle.source_words.specs.Words.{GivesNames}
+use Rattle.source_words.specs.Words.{GivesNames, identifiers_in}
 use Rattle.term_texts.specs.TermTexts.{SpellsWholeTerm}
 use Rattle.term_texts.proofs.TermLaw.{kept_term}
 use Rattle.proof_kernel.specs.declared.step.Step.TheVariants.{Divide}
@@ -59,4 +59,4 @@ two_shorter rest texts e = by_cut (cut 59 rest) refl e
 -- the terms that were read, the second behind the first
 pub two_spelled : (mid new : List (List ℕ)) (rest : List ℕ) (texts : List ℕ × List ℕ) (t u : Pterm) → two_texts rest ≡ Some texts → SpellsWholeTerm mid texts.0 t → GivesNames mid texts.1 new → SpellsWholeTerm new texts.1 u →
     SpellsParts new (codes "div") (Some rest) (Divide t u)
-two_spelled mid new rest texts t u e h g k = (refl, (texts, e, kept_term mid new (keeps_by mid new _ g.is) texts.0 t h, k))
+two_spelled mid new rest texts t u e h g k = (refl, (texts, e, kept_term mid new (keeps_by mid new (identifiers_in texts.1 g.tokens) g.is) texts.0 t h, k))

@@ -31,7 +31,7 @@ returns-in-None-clause-table c =
 
 pub returns-in_err-ok_or-in-Some-Division-clause-bad : goal.returns-in_err-ok_or-in-Some-Division-clause-bad
 returns-in_err-ok_or-in-Some-Division-clause-bad c = λ e.
-    missing_two c.args.head.now (option_copied c.args.rest) (sym (c.in-Some-Division.is ∙ ap Some c.in-Some-Division.field-0-is) ∙ c.term_line.ensures) (none_by_ok c.args.rest c.ok_or.result _ c.ok_or.ensures.value c.in_err-ok_or-in-Some-Division.was)
+    missing_two c.args.head.now (option_copied c.args.rest) (sym (c.in-Some-Division.is ∙ ap Some c.in-Some-Division.field-0-is) ∙ c.term_line.ensures) (none_by_ok c.args.rest c.ok_or-in-Some-Division.result _ c.ok_or-in-Some-Division.ensures.value c.in_err-ok_or-in-Some-Division.was)
 
 pub returns-in_ok-ok_or-in-Some-Division-clause-said : goal.returns-in_ok-ok_or-in-Some-Division-clause-said
 returns-in_ok-ok_or-in-Some-Division-clause-said c =
