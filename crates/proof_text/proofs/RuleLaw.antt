@@ -12,10 +12,10 @@ use Rattle.proof_kernel.specs.declared.step.HypothesisRule.TheVariants.{Cases}
 use Rattle.proof_kernel.specs.declared.step.PairRule.{PairRule}
 use Rattle.proof_kernel.specs.declared.step.PairRule.TheVariants.{ModusPonens}
 use Rattle.proof_text.specs.declared.rule_words.TermLine.{TermLine}
-use Rattle.proof_text.specs.declared.rule_words.TermLine.TheVariants.{Rule, Division}
+use Rattle.proof_text.specs.declared.rule_words.TermLine.TheVariants.{Rule, Division, Instance}
 use Rattle.proof_kernel.specs.declared.step.TermRule.TheVariants.{Cut, On, Range}
 use Rattle.proof_kernel.specs.declared.step.Step.{Step}
-use Rattle.proof_kernel.specs.declared.step.Step.TheVariants.{Intro, Hyp, Split, Lin, OnGoal, OnHypothesis, OnTwo, Rewrite, OnTerm, Divide}
+use Rattle.proof_kernel.specs.declared.step.Step.TheVariants.{Intro, Hyp, Split, Lin, OnGoal, OnHypothesis, OnTwo, Rewrite, OnTerm, Divide, Instantiate}
 use Rattle.proof_text.specs.declared.fault.Fault.{Fault}
 use Rattle.proof_text.specs.declared.fault.Fault.TheVariants.{Bad}
 use Rattle.proof_text.specs.ProofTextWords.{◌>>=◌}
@@ -110,6 +110,7 @@ term_found (Rule Cut) = refl
 term_found (Rule On) = refl
 term_found (Rule Range) = refl
 term_found Division = refl
+term_found Instance = refl
 
 pub term_spelled : (head : List ℕ) (line : TermLine) → term_line_of head ≡ Some line → head ≡ line_word line
 unfolding term_line_of
@@ -139,6 +140,7 @@ rule_part (Lin multiples) = None
 rule_part (Rewrite rewriting) = None
 rule_part (OnTerm rule t) = None
 rule_part (Divide t u) = None
+rule_part (Instantiate label ts) = None
 rule_part rule = Some rule
 
 pub rule_read : (table : List (List ℕ)) (rest : Option (List ℕ)) (s : Step) → SpellsRest table rest s → rule_step_of (word_of s) rest ≡ rule_part s

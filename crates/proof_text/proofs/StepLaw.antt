@@ -2,12 +2,14 @@
 use Rattle.std.proofs.Common.{◌≡◌, ℕ, Bool, true, false, ◌&&◌, cond, ◌⊎◌, inl, inr, subst, List, [], ◌∷◌, ◌++◌, map, Option, Some, None, refl, sym, ◌∙◌, ap, ap₂, codes}
 use Rattle.std.specs.Prelude.{is_some, is_none}
 use Rattle.std.specs.List.{list_all}
+use Rattle.std.specs.Option.{option_map}
 use Rattle.std.specs.Str.{bytes_eq, is_utf8}
 use Rattle.std.proofs.lemmas.Slice.Eq.{bytes_eq-Decides}
 use Rattle.proof_kernel.specs.declared.step.Step.{Step}
 use Rattle.proof_kernel.specs.declared.step.TermRule.{TermRule}
 use Rattle.proof_kernel.specs.declared.step.TermRule.TheVariants.{Cut, On, Range}
-use Rattle.proof_kernel.specs.declared.step.Step.TheVariants.{Intro, Hyp, Split, Lin, OnGoal, OnHypothesis, OnTwo, Rewrite, OnTerm, Divide}
+use Rattle.proof_kernel.specs.declared.step.Step.TheVariants.{Intro, Hyp, Split, Lin, OnGoal, OnHypothesis, OnTwo, Rewrite, OnTerm, Divide, Instantiate}
+use Rattle.logic_term.specs.declared.kinds.Label2.{Label2}
 use Rattle.source_trees.specs.Pterm.{Pterm}
 use Rattle.term_texts.specs.TermTexts.{SpellsWholeTerm, IsTermText, NamesOfTerm}
 use Rattle.term_texts.proofs.TermChoice.{term_there}
@@ -17,10 +19,10 @@ use Rattle.text_core.specs.Names.{words, HaveOnePlace}
 use Rattle.text_core.specs.declared.name.Name.{Name}
 use Rattle.rs_tokens.specs.Tokens.{is_identifier}
 use Rattle.proof_text.specs.declared.rule_words.TermLine.{TermLine}
-use Rattle.proof_text.specs.declared.rule_words.TermLine.TheVariants.{Rule, Division}
-use Rattle.proof_text.specs.ProofTextWords.{◌>>=◌, label_of, two_texts}
+use Rattle.proof_text.specs.declared.rule_words.TermLine.TheVariants.{Rule, Division, Instance}
+use Rattle.proof_text.specs.ProofTextWords.{◌>>=◌, Each, label_of, two_texts, label_and_text}
 use Rattle.proof_text.specs.ProofTextRules.{rewriting_in, term_word, line_word, term_line_of}
-use Rattle.proof_text.specs.ProofTextLines.{head_of, rest_of, words_of, text_at, multiples_in, word_of, SpellsRest, SpellsParts, SpellsStep, texts_by, NamesInTerm, NamesInTwo, NamesByLine, NamesOfParts, NamesTexts}
+use Rattle.proof_text.specs.ProofTextLines.{head_of, rest_of, words_of, text_at, multiples_in, word_of, SpellsRest, SpellsParts, SpellsStep, texts_by, term_behind, NamesInTerm, NamesInTwo, NamesByLine, NamesOfParts, NamesTexts}
 use Rattle.proof_text.specs.ProofTextFile.{is_plain_step, is_left, is_term, is_term_rest, are_terms, is_step_by, is_step, step, line_if, line_by_head, line_of, rule_step_of}
 use Rattle.proof_text.specs.ProofTextLaws.{AlikeStep}
 use Rattle.proof_text.proofs.LineLaw.{is_plain, text_line}
@@ -68,6 +70,12 @@ two_rest table rest t u h =
     ap (λ o. is_step_by o (codes "div") rest) (term_found Division)
     ∙ (ap are_terms h.1 ∙ both_told h.0.0 h.0.1 (is_term_text table h.0.0 t h.2) (is_term_text table h.0.1 u h.3))
 
+instance_rest : (table : List (List ℕ)) (rest : Option (List ℕ)) (l : Label2) (ts : List Pterm) → SpellsRest table rest (Instantiate l ts) → is_step (codes "inst") rest ≡ true
+unfolding is_step
+instance_rest table rest l ts h =
+    ap (λ o. is_step_by o (codes "inst") rest) (term_found Instance)
+    ∙ (ap (λ (o : Option (Label2 × List ℕ)). is_term_rest (option_map (λ (p : Label2 × List ℕ). p.1) o)) h.2 ∙ term_told h.0 (is_term_text table h.0 h.1 h.4))
+
 rest_is : (table : List (List ℕ)) (rest : Option (List ℕ)) (s : Step) → SpellsRest table rest s → is_step (word_of s) rest ≡ true
 unfolding is_step is_plain_step term_line_of
 rest_is table rest (Intro names) h = h.0
@@ -79,6 +87,7 @@ rest_is table rest (OnGoal r) h = (goal_head r).2 rest ∙ ap is_some (rule_read
 rest_is table rest (OnHypothesis r l) h = (hypothesis_head r).2 rest ∙ ap is_some (rule_read table rest (OnHypothesis r l) h)
 rest_is table rest (OnTerm r t) h = term_rest table rest r t h
 rest_is table rest (Divide t u) h = two_rest table rest t u h
+rest_is table rest (Instantiate l ts) h = instance_rest table rest l ts h
 rest_is table rest (OnTwo r l m) h = (pair_head r).2 rest ∙ ap is_some (rule_read table rest (OnTwo r l m) h)
 
 by_word : (s : Step) (rest : Option (List ℕ)) → line_by_head (word_of s) rest ≡ line_if (is_step (word_of s) rest) step
@@ -182,11 +191,19 @@ two_line table head rest (Some both) texts e w is names named =
     let second = term_here table both.1 names.1 parts.1 names.3 have.1 in
     (Divide first.0 second.0, (w, (both, e, first.1, second.1)))
 
+instance_line : (table : List (List ℕ)) (head : List ℕ) (rest : Option (List ℕ)) (o : Option (Label2 × List ℕ)) (texts : List (List ℕ)) → (rest >>= label_and_text) ≡ o → head ≡ codes "inst" →
+    is_term_rest (option_map (λ (p : Label2 × List ℕ). p.1) o) ≡ true → NamesInTerm (option_map (λ (p : Label2 × List ℕ). p.1) o) texts → AreNamed table texts → Spelled table head rest
+instance_line table head rest None texts e w is names named = absurd (cc)
+instance_line table head rest (Some parts) texts e w is names named =
+    let t = term_here table parts.1 texts is names named in
+    (Instantiate parts.0 (t.0 ∷ []), (w, (parts.1, t.0, e, refl, t.1)))
+
 by_line : (table : List (List ℕ)) (head : List ℕ) (rest : Option (List ℕ)) (texts : List (List ℕ)) (o : Option TermLine) → term_line_of head ≡ o → is_step_by o head rest ≡ true → NamesByLine o head rest texts → AreNamed table texts →
     Spelled table head rest
 by_line table head rest texts None e is names named = plain_there table head rest is (subst (AreNamed table) names named)
 by_line table head rest texts (Some (Rule rule)) e is names named = term_line table head rest rule texts e is names named
 by_line table head rest texts (Some Division) e is names named = two_line table head rest (rest >>= two_texts) texts refl (term_spelled head Division e) is names named
+by_line table head rest texts (Some Instance) e is names named = instance_line table head rest (rest >>= label_and_text) texts refl (term_spelled head Instance e) is names named
 
 parts_there : (table : List (List ℕ)) (head : List ℕ) (rest : Option (List ℕ)) (texts : List (List ℕ)) → is_step head rest ≡ true → NamesOfParts head rest texts → AreNamed table texts → Spelled table head rest
 unfolding is_step NamesOfParts
@@ -211,6 +228,7 @@ names_by : (head : List ℕ) (rest : Option (List ℕ)) (o : Option TermLine) �
 names_by head rest None is = (texts_by head rest, refl)
 names_by head rest (Some (Rule rule)) is = term_names rest is
 names_by head rest (Some Division) is = two_names (rest >>= two_texts) is
+names_by head rest (Some Instance) is = term_names (term_behind rest) is
 
 pub step_names : (text : List ℕ) → is_step (head_of text) (rest_of text) ≡ true → (texts : List (List ℕ)) × NamesTexts text texts
 unfolding is_step NamesOfParts
@@ -229,6 +247,7 @@ once_by : (head : List ℕ) (rest : Option (List ℕ)) (o : Option TermLine) (on
 once_by head rest None one other a b = a ∙ sym b
 once_by head rest (Some (Rule rule)) one other a b = once_in_term rest one other a b
 once_by head rest (Some Division) one other a b = once_in_two (rest >>= two_texts) one other a b
+once_by head rest (Some Instance) one other a b = once_in_term (term_behind rest) one other a b
 
 -- a line names one list of texts
 pub line_names_once : (text : List ℕ) (one other : List (List ℕ)) → NamesTexts text one → NamesTexts text other → one ≡ other
@@ -252,12 +271,16 @@ module _ (old new : List (List ℕ)) (keeps : KeepsTexts old new) where
   kept_rest rest (Intro names) h = (h.0, kept_names names (words_of rest) h.1)
   kept_rest rest (OnTerm r t) h = (h.0, h.1, kept_term old new keeps h.0 t h.2)
   kept_rest rest (Divide t u) h = (h.0, h.1, kept_term old new keeps h.0.0 t h.2, kept_term old new keeps h.0.1 u h.3)
+  kept_rest rest (Instantiate l ts) h = (h.0, h.1, h.2, h.3, kept_term old new keeps h.0 h.1 h.4)
   kept_rest rest _ h = h
 
   pub kept_step : (text : List ℕ) (s : Step) → SpellsStep old text s → SpellsStep new text s
   kept_step text s h = (h.0, (h.1.0, kept_rest (rest_of text) s h.1.1))
 
 -- ---- a line spells one step
+
+same_pair : (p q : Label2 × List ℕ) → Some p ≡ Some q → p ≡ q
+same_pair p q e = cc
 
 module _ (table other : List (List ℕ)) (rest : Option (List ℕ)) where
   abbrev AlikeTerm : Pterm → Pterm → Type 0
@@ -276,6 +299,14 @@ module _ (table other : List (List ℕ)) (rest : Option (List ℕ)) where
         (h.0.0, h.2, subst (λ (x : List ℕ × List ℕ). SpellsWholeTerm other x.0 v) texts k.2),
         (h.0.1, h.3, subst (λ (x : List ℕ × List ℕ). SpellsWholeTerm other x.1 w) texts k.3),
       )
+
+  alike_instance : (l m : Label2) (ts us : List Pterm) → SpellsRest table rest (Instantiate l ts) → SpellsRest other rest (Instantiate m us) → (l ≡ m) × Each AlikeTerm ts us
+  alike_instance l m ts us h k =
+      let pair : (l, h.0) ≡ (m, k.0) = same_pair (l, h.0) (m, k.0) (sym h.2 ∙ k.2) in
+      let label : l ≡ m = ap (λ (p : Label2 × List ℕ). p.0) pair in
+      let text : k.0 ≡ h.0 = sym (ap (λ (p : Label2 × List ℕ). p.1) pair) in
+      let term : AlikeTerm h.1 k.1 = (h.0, h.4, subst (λ (x : List ℕ). SpellsWholeTerm other x k.1) text k.4) in
+      (label, subst (λ (xs : List Pterm). Each AlikeTerm xs us) (sym h.3) (subst (λ (xs : List Pterm). Each AlikeTerm (h.1 ∷ []) xs) (sym k.3) (term, tt)))
 
   alike_rest : (s t : Step) → bytes_eq (word_of s) (word_of t) ≡ true → rule_part s ≡ rule_part t → SpellsRest table rest s → SpellsRest other rest t → AlikeStep table other s t
   alike_rest (Intro ms) (Intro ns) e r h k = h.1 ∙ sym k.1
@@ -296,6 +327,7 @@ module _ (table other : List (List ℕ)) (rest : Option (List ℕ)) where
   alike_rest (OnTerm On t) s e r h k = absurd (cc)
   alike_rest (OnTerm Range t) s e r h k = absurd (cc)
   alike_rest (Divide t u) (Divide v w) e r h k = alike_two t u v w h k
+  alike_rest (Instantiate l ts) (Instantiate m us) e r h k = alike_instance l m ts us h k
   alike_rest _ _ e r h k = absurd (cc)
 
 pub alike_step : (table other : List (List ℕ)) (text : List ℕ) (s t : Step) → SpellsStep table text s → SpellsStep other text t → AlikeStep table other s t
@@ -340,6 +372,13 @@ module _ (table : List (List ℕ)) (place : HaveOnePlace (words ++ table)) where
   rest_once rest (Divide t u) (Divide v w) e h k =
       let first : t ≡ v = one_term table place e.0.0 t v e.0.1 e.0.2 in
       let second : u ≡ w = one_term table place e.1.0 u w e.1.1 e.1.2 in
+      cc
+  rest_once rest (Instantiate l ts) (Instantiate m us) e h k =
+      let pair : (l, h.0) ≡ (m, k.0) = same_pair (l, h.0) (m, k.0) (sym h.2 ∙ k.2) in
+      let label : l ≡ m = ap (λ (p : Label2 × List ℕ). p.0) pair in
+      let text : k.0 ≡ h.0 = sym (ap (λ (p : Label2 × List ℕ). p.1) pair) in
+      let term : h.1 ≡ k.1 = one_term table place h.0 h.1 k.1 h.4 (subst (λ (x : List ℕ). SpellsWholeTerm table x k.1) text k.4) in
+      let terms : ts ≡ us = h.3 ∙ (ap (λ (t : Pterm). t ∷ []) term ∙ sym k.3) in
       cc
   rest_once rest _ _ e h k = absurd e
 

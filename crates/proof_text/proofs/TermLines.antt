@@ -6,17 +6,17 @@ use Rattle.name_tables.specs.NameTables.{with_names}
 use Rattle.proof_kernel.specs.declared.step.Step.{Step}
 use Rattle.proof_kernel.specs.declared.step.TermRule.{TermRule}
 use Rattle.proof_text.specs.declared.rule_words.TermLine.{TermLine}
-use Rattle.proof_text.specs.declared.rule_words.TermLine.TheVariants.{Rule, Division}
+use Rattle.proof_text.specs.declared.rule_words.TermLine.TheVariants.{Rule, Division, Instance}
 use Rattle.source_words.specs.Words.{GivesNames}
 use Rattle.proof_text.specs.declared.fault.Fault.{Fault}
 use Rattle.proof_text.specs.declared.fault.Fault.TheVariants.{Bad}
 use Rattle.proof_text.specs.ProofTextRules.{term_word, term_line_of}
-use Rattle.proof_text.specs.ProofTextLines.{SpellsRest, SpellsParts, texts_by, NamesInTwo, NamesOfParts}
+use Rattle.proof_text.specs.ProofTextLines.{SpellsRest, SpellsParts, texts_by, term_behind, NamesInTerm, NamesInTwo, NamesOfParts}
 use Rattle.proof_text.specs.ProofTextFile.{is_plain_step, is_term, is_term_rest, are_terms, is_step_by, is_step}
 use Rattle.proof_text.specs.ProofTextReads.{GivesTexts}
 use Rattle.proof_text.specs.ProofTextWords.{◌>>=◌, two_texts}
 use Rattle.proof_text.proofs.RuleLaw.{term_spelled}
-use Rattle.proof_text.proofs.NameOrder.{gives_plain, gives_term, gives_two}
+use Rattle.proof_text.proofs.NameOrder.{gives_plain, gives_term, gives_two, gives_instance}
 
 -- where a rest is wanted and none is there
 pub none_by_ok : (own : Option (Bor (List ℕ))) (r : Result (Bor (List ℕ)) Fault) (f : Fault) → r ≡ ok_or own Bad → r ≡ Err f → option_copied own ≡ None
@@ -74,3 +74,23 @@ module _ (head : List ℕ) (own : Option (List ℕ)) where
       pub two_table : (old new : List (List ℕ)) (r : Result Step Fault) → OnOk r (GivesTexts (NamesInTwo (two_texts rest)) old new) → OnOk r (GivesTexts (NamesOfParts head own) old new)
       two_table old new (Ok s) h = gives_two head rest own old new e is h
       two_table old new (Err f) h = tt
+
+  -- ---- of a term behind a label
+
+  module _ (e : Some Instance ≡ term_line_of head) where
+    pub missing_instance : own ≡ None → is_step head own ≡ false
+    unfolding is_step
+    missing_instance none = ap (λ o. is_step_by o head own) (sym e) ∙ ap (λ (o : Option (List ℕ)). is_term_rest (term_behind o)) none
+
+    module _ (rest : List ℕ) (is : own ≡ Some rest) where
+      pub instance_said : (table : List (List ℕ)) (r : Result Step Fault) → IfOk r (λ s. SpellsParts table (codes "inst") (Some rest) s) → IfOk r (λ s. SpellsParts table head own s)
+      instance_said table (Ok s) h = (term_spelled head Instance (sym e) ∙ h.0, subst (λ (o : Option (List ℕ)). SpellsRest table o s) (sym is) h.1)
+      instance_said table (Err f) h = tt
+
+      pub instance_bad : is_term_rest (term_behind (Some rest)) ≡ false → is_step head own ≡ false
+      unfolding is_step
+      instance_bad h = ap (λ o. is_step_by o head own) (sym e) ∙ (ap (λ (o : Option (List ℕ)). is_term_rest (term_behind o)) is ∙ h)
+
+      pub instance_table : (old new : List (List ℕ)) (r : Result Step Fault) → OnOk r (GivesTexts (NamesInTerm (term_behind (Some rest))) old new) → OnOk r (GivesTexts (NamesOfParts head own) old new)
+      instance_table old new (Ok s) h = gives_instance head rest own old new e is h
+      instance_table old new (Err f) h = tt

@@ -1,14 +1,15 @@
--- Lines of two terms, as they are read.
+-- Lines of two terms, and of a label and a term, as they are read.
 use Rattle.std.proofs.Common.{◌≡◌, ℕ, ◌+◌, ◌<◌, ◌≤◌, Bool, true, false, cond, List, [], ◌∷◌, ◌++◌, length, get_or, Option, Some, None, refl, sym, ◌∙◌, ap, subst, arith, codes, nat_eq, nat_lt, length-append}
 use Rattle.std.specs.List.{position_or_len, before_first, after_first}
 use Rattle.std.proofs.lemmas.Bool.Decides.{nat_tests}
 use Rattle.std.proofs.lemmas.List.Sums.{split_at_first}
+use Rattle.logic_term.specs.declared.kinds.Label2.{Label2}
 use Rattle.source_trees.specs.Pterm.{Pterm}
 use Rattle.source_words.specs.Words.{GivesNames, identifiers_in}
 use Rattle.term_texts.specs.TermTexts.{SpellsWholeTerm}
 use Rattle.term_texts.proofs.TermLaw.{kept_term}
-use Rattle.proof_kernel.specs.declared.step.Step.TheVariants.{Divide}
-use Rattle.proof_text.specs.ProofTextWords.{◌>>=◌, cut, before_space, behind_space, two_texts}
+use Rattle.proof_kernel.specs.declared.step.Step.TheVariants.{Divide, Instantiate}
+use Rattle.proof_text.specs.ProofTextWords.{◌>>=◌, cut, before_space, behind_space, two_texts, label_of, label_and_text}
 use Rattle.proof_text.specs.ProofTextLines.{SpellsParts}
 use Rattle.proof_text.proofs.KeptNames.{keeps_by}
 use Rattle.proof_text.proofs.NumeralLemmas.{space_there}
@@ -60,3 +61,20 @@ two_shorter rest texts e = by_cut (cut 59 rest) refl e
 pub two_spelled : (mid new : List (List ℕ)) (rest : List ℕ) (texts : List ℕ × List ℕ) (t u : Pterm) → two_texts rest ≡ Some texts → SpellsWholeTerm mid texts.0 t → GivesNames mid texts.1 new → SpellsWholeTerm new texts.1 u →
     SpellsParts new (codes "div") (Some rest) (Divide t u)
 two_spelled mid new rest texts t u e h g k = (refl, (texts, e, kept_term mid new (keeps_by mid new (identifiers_in texts.1 g.tokens) g.is) texts.0 t h, k))
+
+-- ---- a label and a term
+
+pub behind_label_shorter : (rest : List ℕ) (found : Label2 × List ℕ) → label_and_text rest ≡ Some found → length found.1 ≤ length rest
+unfolding label_and_text
+behind_label_shorter rest found e = by_cut (cut 32 rest) refl e
+  where
+    by_label : (parts : List ℕ × List ℕ) (o : Option Label2) → length parts.0 + length parts.1 ≤ length rest → (o >>= (λ (label : Label2). Some (label, parts.1))) ≡ Some found → length found.1 ≤ length rest
+    by_label parts None h f = absurd (cc)
+    by_label parts (Some label) h f = let same : parts.1 ≡ found.1 = cc in subst (λ (t : List ℕ). length t ≤ length rest) same (omega (arith, h))
+    by_cut : (o : Option (List ℕ × List ℕ)) → cut 32 rest ≡ o → (o >>= (λ (parts : List ℕ × List ℕ). label_of parts.0 >>= (λ (label : Label2). Some (label, parts.1)))) ≡ Some found → length found.1 ≤ length rest
+    by_cut None is f = absurd (cc)
+    by_cut (Some parts) is f = by_label parts (label_of parts.0) (cut_shorter 32 rest parts is) f
+
+pub instance_spelled : (new : List (List ℕ)) (rest : List ℕ) (found : Label2 × List ℕ) (t : Pterm) (ts : List Pterm) → label_and_text rest ≡ Some found → ts ≡ t ∷ [] → SpellsWholeTerm new found.1 t →
+    SpellsParts new (codes "inst") (Some rest) (Instantiate found.0 ts)
+instance_spelled new rest found t ts e one h = (refl, (found.1, t, e, one, h))

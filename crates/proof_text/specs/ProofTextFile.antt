@@ -13,10 +13,10 @@ use Rattle.proof_kernel.specs.declared.step.Step.{Step}
 use Rattle.proof_kernel.specs.declared.step.Step.TheVariants.{OnGoal, OnHypothesis, OnTwo}
 use Rattle.proof_text.specs.ProofTextWords.{◌>>=◌, Each, label_of, two_texts}
 use Rattle.proof_text.specs.declared.rule_words.TermLine.{TermLine}
-use Rattle.proof_text.specs.declared.rule_words.TermLine.TheVariants.{Rule, Division}
+use Rattle.proof_text.specs.declared.rule_words.TermLine.TheVariants.{Rule, Division, Instance}
 use Rattle.term_texts.proofs.TermChoice.{term_there}
 use Rattle.proof_text.specs.ProofTextRules.{labels_in, rewriting_in, goal_rule_of, hypothesis_rule_of, pair_rule_of, term_line_of}
-use Rattle.proof_text.specs.ProofTextLines.{head_of, rest_of, words_of, multiples_in, heading_of, SpellsStep}
+use Rattle.proof_text.specs.ProofTextLines.{head_of, rest_of, words_of, multiples_in, heading_of, term_behind, SpellsStep}
 pub use Rattle.proof_text.specs.ProofFileForm.{SpellsProofs, HasNamesOf, IsFirstBadLine}
 
 -- ---- lines
@@ -62,6 +62,7 @@ abbrev pub is_step_by : Option TermLine → List ℕ → Option (List ℕ) → B
 is_step_by None head rest = is_plain_step head rest
 is_step_by (Some (Rule rule)) head rest = is_term_rest rest
 is_step_by (Some Division) head rest = are_terms (rest >>= two_texts)
+is_step_by (Some Instance) head rest = is_term_rest (term_behind rest)
 
 unfoldable pub is_step : List ℕ → Option (List ℕ) → Bool
 is_step head rest = is_step_by (term_line_of head) head rest

@@ -2,7 +2,8 @@
 use Rattle.std.specs.Prelude.{◌≡◌, ◌⊎◌, ℕ, List, ◌++◌, map}
 use Rattle.text_core.specs.Names.{words, HaveOnePlace}
 use Rattle.proof_kernel.specs.declared.step.Step.{Step}
-use Rattle.proof_kernel.specs.declared.step.Step.TheVariants.{Intro, Hyp, Split, Lin, OnGoal, OnHypothesis, OnTwo, Rewrite, OnTerm, Divide}
+use Rattle.proof_kernel.specs.declared.step.Step.TheVariants.{Intro, Hyp, Split, Lin, OnGoal, OnHypothesis, OnTwo, Rewrite, OnTerm, Divide, Instantiate}
+use Rattle.source_trees.specs.Pterm.{Pterm}
 use Rattle.proof_text.specs.declared.proof.NumberedStep.{NumberedStep}
 use Rattle.proof_text.specs.declared.proof.Proof.{Proof}
 use Rattle.proof_text.specs.declared.proof.ProofFile.{ProofFile}
@@ -26,6 +27,7 @@ AlikeStep table other (Rewrite r) (Rewrite s) = r ≡ s
 AlikeStep table other (OnTerm r t) (OnTerm s u) = (r ≡ s) × ((text : List ℕ) × SpellsWholeTerm table text t × SpellsWholeTerm other text u)
 AlikeStep table other (Divide t u) (Divide v w) =
     ((text : List ℕ) × SpellsWholeTerm table text t × SpellsWholeTerm other text v) × ((text : List ℕ) × SpellsWholeTerm table text u × SpellsWholeTerm other text w)
+AlikeStep table other (Instantiate l ts) (Instantiate m us) = (l ≡ m) × Each (λ (t u : Pterm). (text : List ℕ) × SpellsWholeTerm table text t × SpellsWholeTerm other text u) ts us
 AlikeStep table other _ _ = ⊥
 
 abbrev pub AlikeProof : List (List ℕ) → List (List ℕ) → Proof → Proof → Type 0

@@ -6,13 +6,15 @@ use Rattle.std.specs.Prelude.{◌≡◌, ℕ, List, [], ◌∷◌, ◌++◌, map
 use Rattle.std.specs.List.{list_all, slice_split, before_first}
 use Rattle.std.specs.Option.{option_map}
 use Rattle.std.specs.Str.{bytes_eq, is_utf8}
+use Rattle.logic_term.specs.declared.kinds.Label2.{Label2}
+use Rattle.source_trees.specs.Pterm.{Pterm}
 use Rattle.proof_kernel.specs.declared.step.Multiple.{Multiple}
 use Rattle.proof_kernel.specs.declared.step.Step.{Step}
-use Rattle.proof_kernel.specs.declared.step.Step.TheVariants.{Intro, Hyp, Split, Lin, OnGoal, OnHypothesis, OnTwo, Rewrite, OnTerm, Divide}
+use Rattle.proof_kernel.specs.declared.step.Step.TheVariants.{Intro, Hyp, Split, Lin, OnGoal, OnHypothesis, OnTwo, Rewrite, OnTerm, Divide, Instantiate}
 use Rattle.rs_tokens.specs.Tokens.{is_identifier}
 use Rattle.proof_text.specs.declared.rule_words.TermLine.{TermLine}
-use Rattle.proof_text.specs.declared.rule_words.TermLine.TheVariants.{Rule, Division}
-use Rattle.proof_text.specs.ProofTextWords.{◌>>=◌, number_of, label_of, multiple_of, cut, two_texts}
+use Rattle.proof_text.specs.declared.rule_words.TermLine.TheVariants.{Rule, Division, Instance}
+use Rattle.proof_text.specs.ProofTextWords.{◌>>=◌, number_of, label_of, multiple_of, cut, two_texts, label_and_text}
 use Rattle.proof_text.specs.ProofTextRules.{goal_word, hypothesis_word, pair_word, term_word, labels_in, rewriting_in, term_line_of}
 use Rattle.term_texts.specs.TermTexts.{SpellsWholeTerm, NamesOfTerm}
 pub use Rattle.term_texts.specs.TermTexts.{text_at}
@@ -64,6 +66,7 @@ word_of (OnTwo rule label other) = pair_word rule
 word_of (Rewrite rewriting) = codes "rewrite"
 word_of (OnTerm rule t) = term_word rule
 word_of (Divide t u) = codes "div"
+word_of (Instantiate label ts) = codes "inst"
 
 -- the rest of its line, under the table's names
 abbrev pub SpellsRest : List (List ℕ) → Option (List ℕ) → Step → Type 0
@@ -77,6 +80,7 @@ SpellsRest table rest (OnTwo rule label other) = (rest >>= labels_in) ≡ Some (
 SpellsRest table rest (Rewrite rewriting) = (rest >>= rewriting_in) ≡ Some rewriting
 SpellsRest table rest (OnTerm rule t) = (text : List ℕ) × (rest ≡ Some text) × SpellsWholeTerm table text t
 SpellsRest table rest (Divide t u) = (texts : List ℕ × List ℕ) × ((rest >>= two_texts) ≡ Some texts) × SpellsWholeTerm table texts.0 t × SpellsWholeTerm table texts.1 u
+SpellsRest table rest (Instantiate label ts) = (text : List ℕ) × (t : Pterm) × ((rest >>= label_and_text) ≡ Some (label, text)) × (ts ≡ t ∷ []) × SpellsWholeTerm table text t
 
 -- the head and the rest spell the step
 abbrev pub SpellsParts : List (List ℕ) → List ℕ → Option (List ℕ) → Step → Type 0
@@ -96,6 +100,10 @@ abbrev pub NamesInTerm : Option (List ℕ) → List (List ℕ) → Type 0
 NamesInTerm None texts = texts ≡ []
 NamesInTerm (Some rest) texts = NamesOfTerm rest texts
 
+-- the term behind a label
+abbrev pub term_behind : Option (List ℕ) → Option (List ℕ)
+term_behind rest = option_map (λ (parts : Label2 × List ℕ). parts.1) (rest >>= label_and_text)
+
 -- those of the first term, and then those of the second
 abbrev pub NamesInTwo : Option (List ℕ × List ℕ) → List (List ℕ) → Type 0
 NamesInTwo None texts = texts ≡ []
@@ -106,6 +114,7 @@ abbrev pub NamesByLine : Option TermLine → List ℕ → Option (List ℕ) → 
 NamesByLine None head rest texts = texts ≡ texts_by head rest
 NamesByLine (Some (Rule rule)) head rest texts = NamesInTerm rest texts
 NamesByLine (Some Division) head rest texts = NamesInTwo (rest >>= two_texts) texts
+NamesByLine (Some Instance) head rest texts = NamesInTerm (term_behind rest) texts
 
 unfoldable pub NamesOfParts : List ℕ → Option (List ℕ) → List (List ℕ) → Type 0
 NamesOfParts head rest texts = NamesByLine (term_line_of head) head rest texts

@@ -17,7 +17,7 @@ use Rattle.proof_kernel.specs.declared.step.Target.TheVariants.{Goal, Hyp}
 use Rattle.proof_kernel.specs.declared.step.TermRule.{TermRule}
 use Rattle.proof_kernel.specs.declared.step.TermRule.TheVariants.{Cut, On, Range}
 use Rattle.proof_text.specs.declared.rule_words.TermLine.{TermLine}
-use Rattle.proof_text.specs.declared.rule_words.TermLine.TheVariants.{Rule, Division}
+use Rattle.proof_text.specs.declared.rule_words.TermLine.TheVariants.{Rule, Division, Instance}
 use Rattle.proof_text.specs.ProofTextWords.{◌>>=◌, label_of, cut}
 
 -- ---- the words
@@ -53,6 +53,7 @@ term_word Range = codes "range"
 abbrev pub line_word : TermLine → List ℕ
 line_word (Rule rule) = term_word rule
 line_word Division = codes "div"
+line_word Instance = codes "inst"
 
 -- ---- the labels behind them
 
@@ -112,7 +113,7 @@ abbrev pub pair_rules : List PairRule
 pair_rules = ModusPonens ∷ Contradiction ∷ Product ∷ []
 
 abbrev pub term_lines : List TermLine
-term_lines = Rule Cut ∷ Rule On ∷ Rule Range ∷ Division ∷ []
+term_lines = Rule Cut ∷ Rule On ∷ Rule Range ∷ Division ∷ Instance ∷ []
 
 unfoldable pub goal_rule_of : List ℕ → Option GoalRule
 goal_rule_of word = rule_by goal_word goal_rules word

@@ -81,6 +81,13 @@ label_of word = do
   part ← number_of parts.1
   Some (record { step = step; part = part })
 
+-- a label, and what stands behind one space
+unfoldable pub label_and_text : List ℕ → Option (Label2 × List ℕ)
+label_and_text rest = do
+  parts ← cut 32 rest
+  label ← label_of parts.0
+  Some (label, parts.1)
+
 -- `goal`, a label, or `-` and a label
 unfoldable pub reference_of : List ℕ → Option Reference
 reference_of word =

@@ -60,6 +60,8 @@ pub(crate) enum TermLine {
     Rule(TermRule),
     /// Two terms: what is divided, and by what.
     Division,
+    /// A label, and one term.
+    Instance,
 }
 
 #[tactic(auto, unfolding(crate::specs::ProofTextRules::term_line_of))]
@@ -71,6 +73,7 @@ pub(crate) fn term_line(word: &str) -> Option<TermLine>
         "on" => Some(TermLine::Rule(TermRule::On)),
         "range" => Some(TermLine::Rule(TermRule::Range)),
         "div" => Some(TermLine::Division),
+        "inst" => Some(TermLine::Instance),
         _ => None,
     }
 }

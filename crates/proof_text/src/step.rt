@@ -7,14 +7,14 @@ ghost use Rattle.rs_tokens.specs.Tokens.{is_identifier};
 ghost use Rattle.source_words.specs.Words.{GivesNames};
 ghost use Rattle.term_texts.specs.TermTexts.{SpellsWholeTerm};
 ghost use Rattle.proof_text.specs.ProofTextRules.{term_word};
-ghost use Rattle.proof_text.specs.ProofTextLines.{words_of, multiples_of, multiples_in, SpellsParts, texts_by, NamesInTwo, NamesOfParts};
-ghost use Rattle.proof_text.specs.ProofTextFile.{is_plain_step, is_term, are_terms, is_step};
+ghost use Rattle.proof_text.specs.ProofTextLines.{words_of, multiples_of, multiples_in, SpellsParts, texts_by, term_behind, NamesInTerm, NamesInTwo, NamesOfParts};
+ghost use Rattle.proof_text.specs.ProofTextFile.{is_plain_step, is_term, is_term_rest, are_terms, is_step};
 ghost use Rattle.proof_text.specs.ProofTextWords.{two_texts};
 ghost use Rattle.proof_text.specs.ProofTextReads.{Reads, KeepsNames, GivesTexts, room_of};
 
 use crate::fault::Fault;
 use crate::rule_words::{TermLine, rewriting, rule_step, term_line};
-use crate::word::{label, multiple, two_texts};
+use crate::word::{label, label_and_text, multiple, two_texts};
 use proof_kernel::{Multiple, Step, TermRule};
 use rs_tokens::is_identifier;
 use source_trees::Pterm;
@@ -137,6 +137,29 @@ fn division(alloc: Global, rest: &str, names: &mut Names) -> Result<Step, Fault>
     Ok(Step::Divide(divided, divisor))
 }
 
+fn one_term(alloc: Global, term: Pterm) -> Result<Items<Pterm>, Fault>
+    ensures one { IfOk result (λ ts. ts ≡ term ∷ []) }
+    ensures bad { IsErrOf result Fault.Bad → ⊥ }
+{
+    let mut terms = Vec::new(alloc);
+    terms.push(term)?;
+    Ok(Items::from_vec(terms))
+}
+
+/// `LABEL TERM`
+fn instance(alloc: Global, rest: &str, names: &mut Names) -> Result<Step, Fault>
+    ensures said { IfOk result (λ step. SpellsParts names.new (codes "inst") (Some rest.now) step) }
+    ensures bad { IsErrOf result Fault.Bad → is_term_rest (term_behind (Some rest.now)) ≡ false }
+    ensures table { OnOk result (GivesTexts (NamesInTerm (term_behind (Some rest.now))) names.old names.new) }
+    ensures kept { KeepsNames names.old names.new }
+    ensures grown { length names.new ≤ length names.old + length rest.now }
+{
+    let (label, text) = label_and_text(rest).ok_or(Fault::Bad)?;
+    let term = whole_term(alloc, text, names)?;
+    let terms = one_term(alloc, term)?;
+    Ok(Step::Instantiate(label, terms))
+}
+
 /// A step without a term, by the first word of its line and the rest.
 #[tactic(auto, unfolding(crate::specs::ProofTextFile::is_plain_step, crate::specs::ProofTextLines::texts_by))]
 fn plain_step(
@@ -190,6 +213,7 @@ pub(crate) fn step(
     match term_line(head) {
         Some(TermLine::Rule(rule)) => on_term(alloc, rule, rest.ok_or(Fault::Bad)?, names),
         Some(TermLine::Division) => division(alloc, rest.ok_or(Fault::Bad)?, names),
+        Some(TermLine::Instance) => instance(alloc, rest.ok_or(Fault::Bad)?, names),
         None => plain_step(alloc, head, rest, names),
     }
 }

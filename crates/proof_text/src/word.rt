@@ -3,7 +3,7 @@ ghost use Rattle.std.specs.Char.{is_ascii_digit};
 ghost use Rattle.std.specs.List.{list_all};
 ghost use Rattle.std.specs.Option.{option_map, option_copied};
 ghost use Rattle.proof_text.specs.ProofTextRules.{labels_in};
-ghost use Rattle.proof_text.specs.ProofTextWords.{is_numeral, number_of, multiplier_of, cut, after_minus, label_of, reference_of, multiple_of, before_space, behind_space, two_texts};
+ghost use Rattle.proof_text.specs.ProofTextWords.{is_numeral, number_of, multiplier_of, cut, after_minus, label_of, reference_of, multiple_of, before_space, behind_space, two_texts, label_and_text};
 
 use logic_term::Label2;
 use proof_kernel::{Multiple, Reference};
@@ -99,6 +99,16 @@ pub(crate) fn label(word: &str) -> Option<Label2>
     let step = number(step)?;
     let part = number(part)?;
     Some(Label2 { step, part })
+}
+
+/// A label, and what stands behind one space.
+#[tactic(auto, unfolding(crate::specs::ProofTextWords::label_and_text))]
+pub(crate) fn label_and_text(rest: &str) -> Option<(Label2, &str)>
+    ensures { option_map (λ parts. (parts.0, parts.1.now)) result ≡ label_and_text rest.now }
+{
+    let (first, text) = cut(rest, ' ')?;
+    let label = label(first)?;
+    Some((label, text))
 }
 
 /// A label, or two with a space between.

@@ -1,6 +1,6 @@
 use Rattle.std.proofs.Common.{◌∙◌, sym, ap, Some}
 use Rattle.std.specs.Option.{option_copied}
-use Rattle.proof_text.proofs.TermLines.{none_by_ok, plain_bad, plain_table, missing_bad, term_said, term_bad, term_table, missing_two, two_said, two_bad, two_table}
+use Rattle.proof_text.proofs.TermLines.{none_by_ok, plain_bad, plain_table, missing_bad, term_said, term_bad, term_table, missing_two, two_said, two_bad, two_table, missing_instance, instance_said, instance_bad, instance_table}
 use Rattle.proof_text.proofs.step.step.Goals as goal
 
 pub returns-in_err-ok_or-in-Some-Rule-clause-bad : goal.returns-in_err-ok_or-in-Some-Rule-clause-bad
@@ -47,3 +47,22 @@ pub returns-in_ok-ok_or-in-Some-Division-clause-table : goal.returns-in_ok-ok_or
 returns-in_ok-ok_or-in-Some-Division-clause-table c =
     two_table c.args.head.now (option_copied c.args.rest) (sym (c.in-Some-Division.is ∙ ap Some c.in-Some-Division.field-0-is) ∙ c.term_line.ensures) c.in_ok-ok_or-in-Some-Division.field-0.now (ap option_copied c.in_ok-ok_or-in-Some-Division.ensures.ok_part)
     c.args.names.now c.division.new.names c.division.result c.division.ensures.table
+
+pub returns-in_err-ok_or-in-Some-Instance-clause-bad : goal.returns-in_err-ok_or-in-Some-Instance-clause-bad
+returns-in_err-ok_or-in-Some-Instance-clause-bad c = λ e.
+    missing_instance c.args.head.now (option_copied c.args.rest) (sym (c.in-Some-Instance.is ∙ ap Some c.in-Some-Instance.field-0-is) ∙ c.term_line.ensures) (none_by_ok c.args.rest c.ok_or-in-Some-Instance.result _ c.ok_or-in-Some-Instance.ensures.value c.in_err-ok_or-in-Some-Instance.was)
+
+pub returns-in_ok-ok_or-in-Some-Instance-clause-said : goal.returns-in_ok-ok_or-in-Some-Instance-clause-said
+returns-in_ok-ok_or-in-Some-Instance-clause-said c =
+    instance_said c.args.head.now (option_copied c.args.rest) (sym (c.in-Some-Instance.is ∙ ap Some c.in-Some-Instance.field-0-is) ∙ c.term_line.ensures) c.in_ok-ok_or-in-Some-Instance.field-0.now (ap option_copied c.in_ok-ok_or-in-Some-Instance.ensures.ok_part)
+    c.instance.new.names c.instance.result c.instance.ensures.said
+
+pub returns-in_ok-ok_or-in-Some-Instance-clause-bad : goal.returns-in_ok-ok_or-in-Some-Instance-clause-bad
+returns-in_ok-ok_or-in-Some-Instance-clause-bad c = λ e.
+    instance_bad c.args.head.now (option_copied c.args.rest) (sym (c.in-Some-Instance.is ∙ ap Some c.in-Some-Instance.field-0-is) ∙ c.term_line.ensures) c.in_ok-ok_or-in-Some-Instance.field-0.now (ap option_copied c.in_ok-ok_or-in-Some-Instance.ensures.ok_part)
+    (c.instance.ensures.bad e)
+
+pub returns-in_ok-ok_or-in-Some-Instance-clause-table : goal.returns-in_ok-ok_or-in-Some-Instance-clause-table
+returns-in_ok-ok_or-in-Some-Instance-clause-table c =
+    instance_table c.args.head.now (option_copied c.args.rest) (sym (c.in-Some-Instance.is ∙ ap Some c.in-Some-Instance.field-0-is) ∙ c.term_line.ensures) c.in_ok-ok_or-in-Some-Instance.field-0.now (ap option_copied c.in_ok-ok_or-in-Some-Instance.ensures.ok_part)
+    c.args.names.now c.instance.new.names c.instance.result c.instance.ensures.table
