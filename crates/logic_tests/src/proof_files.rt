@@ -267,7 +267,7 @@ fn lines_but_comments_are_utf_8(rt: HostRuntime) {
 }
 
 /// Words of rules with another rest than theirs, and words of no step.
-const BAD_RULES: [&str; 71] = [
+const BAD_RULES: [&str; 79] = [
     "refl 1.1",
     "true ",
     "left 1.1",
@@ -338,11 +338,19 @@ const BAD_RULES: [&str; 71] = [
     "div a  ; b",
     "div a ;  b",
     "div a ; b ; c",
+    "inst",
+    "inst 1.1",
+    "inst 1.1 ",
+    "inst 1.1  x",
+    "inst 1.1 x ",
+    "inst x",
+    "inst 1 x",
+    "inst 1.1 x; y",
     "back",
     "back 1.1 1.2",
 ];
 
-const RULES: [&str; 28] = [
+const RULES: [&str; 30] = [
     "refl",
     "true",
     "left",
@@ -370,6 +378,8 @@ const RULES: [&str; 28] = [
     "range x",
     "range x + 1",
     "div a@ + 1 ; b",
+    "inst 1.1 x",
+    "inst 0.2 x@ + 1",
     "back 1.1",
 ];
 

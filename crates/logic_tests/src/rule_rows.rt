@@ -319,7 +319,7 @@ fn expect_refused(rt: &impl Abort, alloc: Global, rows: &[(&str, &str, u32)]) ->
 
 // ---- by a term, and back to machine integers
 
-const BY_TERM: [(&str, &str); 18] = [
+const BY_TERM: [(&str, &str); 24] = [
     ("ZW><z0<z0", "intro z w\ncut z < 0\nhyp 1.1\nhyp 2.1\n"),
     (
         "ZW><z0<z0",
@@ -373,9 +373,17 @@ const BY_TERM: [(&str, &str); 18] = [
         "X>!=20=@x+*2/@x2%@x2",
         "intro x\ndiv x@ ; 2\nmp 2.1 1.1\nhyp 3.1\n",
     ),
+    // At a variable, a number and a literal; what is left quantified; and of two that bind one name the inner one.
+    ("W>Z<z1<w1", "intro w\ninst 1.1 w\nhyp 2.1\n"),
+    ("W>Z<z1<+w21", "intro w\ninst 1.1 w + 2\nhyp 2.1\n"),
+    (">X<@x1<51", "intro\ninst 1.1 5i32\nhyp 2.1\n"),
+    (">ZW<zw<12", "intro\ninst 1.1 1\ninst 2.1 2\nhyp 3.1\n"),
+    (">ZZ<z1<21", "intro\ninst 1.1 1\ninst 2.1 2\nhyp 3.1\n"),
+    // The inner quantifier binds the name of the term, and does not capture it.
+    ("Z>WZ<wzW<zw", "intro z\ninst 1.1 z\nhyp 2.1\n"),
 ];
 
-const NOT_BY_TERM: [(&str, &str, u32); 20] = [
+const NOT_BY_TERM: [(&str, &str, u32); 26] = [
     // No formula, a name of no variable, other sorts.
     ("ZW><z0<z0", "intro z w\ncut z\n", 2),
     ("ZW><z0<z0", "intro z w\ncut q < 0\n", 2),
@@ -401,6 +409,13 @@ const NOT_BY_TERM: [(&str, &str, u32); 20] = [
     ("ZWT", "intro z w\ndiv q ; w\n", 2),
     // A division has no hypothesis more than five.
     ("ZW=zz", "intro z w\ndiv z ; w\nhyp 2.6\n", 3),
+    // Another sort, a name of no variable, no quantifier, no hypothesis of the label, and another instance than the goal.
+    ("X>Z<z1<@x1", "intro x\ninst 1.1 x\n", 2),
+    ("W>Z<z1<w1", "intro w\ninst 1.1 q\n", 2),
+    ("W>Z<z1<w1", "intro w\ninst 1.1 w < 1\n", 2),
+    ("W><w1<w1", "intro w\ninst 1.1 w\n", 2),
+    ("W>Z<z1<w1", "intro w\ninst 1.2 w\n", 2),
+    (">ZZ<z1<21", "intro\ninst 1.1 2\ninst 2.1 1\nhyp 3.1\n", 4),
 ];
 
 #[test]
@@ -434,7 +449,7 @@ fn by_a_term(rt: HostRuntime) -> Result<(), Fail> {
 }
 
 /// Steps that cite a label of no step above them.
-const UNKNOWN: [&str; 12] = [
+const UNKNOWN: [&str; 13] = [
     "cases 2.1\n",
     "absurd 3.1\n",
     "drop 0.1\n",
@@ -447,6 +462,7 @@ const UNKNOWN: [&str; 12] = [
     "rewrite 1.1 in 2.1\n",
     "rewrite < 0.1\n",
     "rewrite < 1.1 in 0.1\n",
+    "inst 2.1 z\n",
 ];
 
 /// Whether this as the second step cites a step that is not above it.

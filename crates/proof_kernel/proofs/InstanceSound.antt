@@ -75,7 +75,7 @@ module _ (S : Structure) (q : Sequent) (ρ : Env) (z : InSorts S q.vars ρ) wher
           let whole : Holds S (forall r.0.name put.sort r.1) τ = subst (λ (v : Term). Holds S v τ) put.was h in
           λ n. has_value S put.term.term ρ (λ (w : (v : Value) × Means S put.term.term ρ v).
           let sorted : HasSort (declared S.theory) w.0 (sort_instance S.types put.sort) =
-              subst (λ (s : Ty). HasSort (declared S.theory) w.0 (sort_instance S.types s)) put.fits (value_sorted S q ρ z p put.term put.there w.0 w.1) in
+          subst (λ (s : Ty). HasSort (declared S.theory) w.0 (sort_instance S.types s)) put.fits (value_sorted S q ρ z p put.term put.there w.0 w.1) in
           let value : Exactly (Means S r.0.by ρ) w.0 = subst (λ (v : Term). Exactly (Means S v ρ) w.0) (sym put.by) (exact S ρ put.term.term (integer_of w.0) (w.0, w.1, refl)) in
           others r w.0 g (one_more r.0 σ τ w.0 value stand) ((holds_forall S r.0.name put.sort r.1 τ).0 whole w.0 sorted) n)
 

@@ -74,8 +74,7 @@ bounds_hold S ρ k t is = surely_true S (bounds k t) ρ (λ n. has_value S t ρ 
         let u = int_value (declared S.theory) v (int k) k (is v m) refl in
         let here : integer_of v ≡ u.0 = ap integer_of u.1 in
         let both = and_true (int_le (lowest k) u.0) (int_le u.0 (highest k)) u.2 in
-        let model_is = computes_model S t ρ v (exact S ρ t (integer_of v) (v, m, refl)) in
-        (
+        let model_is = computes_model S t ρ v (exact S ρ t (integer_of v) (v, m, refl)) in (
           (holds_at_most S (lit (lowest k) math_int) (model t) ρ (Number (lowest k)) (Number (integer_of v)) (alike_same _) model_is).1 (ap (λ i. int_le (lowest k) i) here ∙ both.0),
           (
             (holds_at_most S (model t) (lit (highest k) math_int) ρ (Number (integer_of v)) (Number (highest k)) model_is (alike_same _)).1 (ap (λ i. int_le i (highest k)) here ∙ both.1),

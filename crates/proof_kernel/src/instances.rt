@@ -21,10 +21,7 @@ fn is_sort(s: &Sort, t: &Sort) -> bool
 
 /// The term for the name of the first quantifier of the formula, and what is quantified; `None` exactly where none leads it, or where the
 /// term is of another sort.
-fn put_first(
-    found: SortedTerm,
-    formula: &Term,
-) -> Result<Option<(Replacement, Term)>, NoMemory>
+fn put_first(found: SortedTerm, formula: &Term) -> Result<Option<(Replacement, Term)>, NoMemory>
     ensures { IfOk result (λ o. o ≡ put_first (Some found) formula.now) }
 {
     let SortedTerm { sort, term } = found;

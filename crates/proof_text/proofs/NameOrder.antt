@@ -126,7 +126,7 @@ gives_both old mid new rest texts e g h =
     let first : List (List ℕ) = identifiers_in texts.0 g.tokens in
     let second : List (List ℕ) = identifiers_in texts.1 h.tokens in
     let names : NamesInTwo (Some texts) (first ++ second) =
-        (first, second, record { tokens = g.tokens; are_tokens = g.are_tokens; are = refl }, record { tokens = h.tokens; are_tokens = h.are_tokens; are = refl }, refl) in
+    (first, second, record { tokens = g.tokens; are_tokens = g.are_tokens; are = refl }, record { tokens = h.tokens; are_tokens = h.are_tokens; are = refl }, refl) in
     (first ++ second, subst (λ o. NamesInTwo o (first ++ second)) (sym e) names, h.is ∙ (ap (λ (ts : List (List ℕ)). with_names ts second) g.is ∙ sym (tables_append old first second)))
 
 pub names_append : (xs ys a b : List (List ℕ)) → LinesName xs a → LinesName ys b → LinesName (xs ++ ys) (a ++ b)

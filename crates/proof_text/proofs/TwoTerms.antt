@@ -48,10 +48,12 @@ two_shorter rest texts e = by_cut (cut 59 rest) refl e
     by_behind parts first (Some second) h k is f =
         let same : (first, second) ≡ texts = cc in
         subst (λ (q : List ℕ × List ℕ). length q.0 + length q.1 ≤ length rest) same (omega (arith, h, k, behind_shorter parts.1 second is))
+
     by_before : (parts : List ℕ × List ℕ) (o : Option (List ℕ)) → length parts.0 + length parts.1 ≤ length rest → before_space parts.0 ≡ o →
         (o >>= (λ (first : List ℕ). behind_space parts.1 >>= (λ (second : List ℕ). Some (first, second)))) ≡ Some texts → length texts.0 + length texts.1 ≤ length rest
     by_before parts None h is f = absurd (cc)
     by_before parts (Some first) h is f = by_behind parts first (behind_space parts.1) h (before_shorter parts.0 first is) refl f
+
     by_cut : (o : Option (List ℕ × List ℕ)) → cut 59 rest ≡ o →
         (o >>= (λ (parts : List ℕ × List ℕ). before_space parts.0 >>= (λ (first : List ℕ). behind_space parts.1 >>= (λ (second : List ℕ). Some (first, second))))) ≡ Some texts → length texts.0 + length texts.1 ≤ length rest
     by_cut None is f = absurd (cc)
@@ -71,6 +73,7 @@ behind_label_shorter rest found e = by_cut (cut 32 rest) refl e
     by_label : (parts : List ℕ × List ℕ) (o : Option Label2) → length parts.0 + length parts.1 ≤ length rest → (o >>= (λ (label : Label2). Some (label, parts.1))) ≡ Some found → length found.1 ≤ length rest
     by_label parts None h f = absurd (cc)
     by_label parts (Some label) h f = let same : parts.1 ≡ found.1 = cc in subst (λ (t : List ℕ). length t ≤ length rest) same (omega (arith, h))
+
     by_cut : (o : Option (List ℕ × List ℕ)) → cut 32 rest ≡ o → (o >>= (λ (parts : List ℕ × List ℕ). label_of parts.0 >>= (λ (label : Label2). Some (label, parts.1)))) ≡ Some found → length found.1 ≤ length rest
     by_cut None is f = absurd (cc)
     by_cut (Some parts) is f = by_label parts (label_of parts.0) (cut_shorter 32 rest parts is) f
