@@ -1,6 +1,8 @@
 pub mod Arguments
 pub mod Bounds
 pub mod Cases
+pub mod Copied
+pub mod CopyRows
 pub mod Endless
 pub mod Failing
 pub mod Fields

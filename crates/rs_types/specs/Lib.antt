@@ -2,6 +2,8 @@ pub mod Accepted
 pub mod Applied
 pub mod Bounded
 pub mod Checked
+pub mod Copied
+pub mod CopyRows
 pub mod Endless
 pub mod Growing
 pub mod Heavy

@@ -62,7 +62,7 @@ fn width_of_fields(fields: &[FieldDecl]) -> usize
     most
 }
 
-fn width_of_variants(variants: &[VariantDecl]) -> usize
+pub(crate) fn width_of_variants(variants: &[VariantDecl]) -> usize
     ensures { result ≡ variant_width variants.now }
 {
     let mut most: usize = 0;

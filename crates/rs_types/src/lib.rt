@@ -1,4 +1,5 @@
-//! The declared types of a program: their table, which are accepted, what a written type means, and types at types for their parameters.
+//! The declared types of a program: their table, which are accepted, which types are `Copy`, what a written type means, and types at types for their
+//! parameters.
 #![tactic(auto)]
 
 mod applying;
@@ -6,6 +7,8 @@ mod asking;
 mod bounded;
 mod checks;
 mod closing;
+mod copy_rows;
+mod copy_types;
 mod copying;
 mod holding;
 mod laws;
@@ -18,6 +21,7 @@ mod written;
 
 pub use applying::{applied, apply};
 pub use checks::Check;
+pub use copy_types::CopyTypes;
 pub use laws::{a_cycle_is_endless, first_refusals_are_one, ranked_types_are_bounded};
 pub use meaning::{meant, word_of};
 pub use table::AdtTable;

@@ -26,6 +26,10 @@ fn declared(alloc: Global, id: u32, count: usize, stack: &mut Vec<Ty>) -> Result
 fn type_of(alloc: Global, letter: u8, stack: &mut Vec<Ty>) -> Result<Ty, NoMemory> {
     match letter {
         b'u' => Ok(Ty::int(IntKind::U8)),
+        b'o' => Ok(Ty { node: TyNode::Bool }),
+        b'z' => Ok(Ty {
+            node: TyNode::MathInt,
+        }),
         b'0'..=b'9' => Ok(Ty {
             node: TyNode::Param(u32::from(letter - b'0')),
         }),
@@ -34,14 +38,17 @@ fn type_of(alloc: Global, letter: u8, stack: &mut Vec<Ty>) -> Result<Ty, NoMemor
         }),
         b'*' => unary(alloc, TyUnary::Boxed, stack),
         b'&' => unary(alloc, TyUnary::Shared(Region(0)), stack),
+        b'~' => unary(alloc, TyUnary::Unique(Region(0)), stack),
+        b's' => unary(alloc, TyUnary::Snapshot, stack),
         b'A'..=b'Z' => declared(alloc, u32::from(letter - b'A'), 1, stack),
         b'a'..=b'e' => declared(alloc, u32::from(letter - b'a'), 0, stack),
         _ => Err(NoMemory),
     }
 }
 
-/// The types of the text, the last one first: `u` for `u8`, a digit for a type parameter, `tXY` for `(X, Y)`, `*X` for `Box<X>`,
-/// `&X`, a capital letter for the declared type of its place at one type, and `a` to `e` for one without types.
+/// The types of the text, the last one first: `u` for `u8`, `o` for `bool`, `z` for `Int`, a digit for a type parameter, `tXY` for `(X, Y)`, `*X` for
+/// `Box<X>`, `&X`, `~X` for `&mut X`, `sX` for `Snapshot<X>`, a capital letter for the declared type of its place at one type, and `a` to `e` for one
+/// without types.
 pub fn types(alloc: Global, text: &[u8]) -> Result<Vec<Ty>, NoMemory> {
     let mut stack = Vec::with_capacity(alloc, text.len())?;
     for i in 0..text.len() {

@@ -1,4 +1,4 @@
-//! Tests of the table of declared types, of assignments, of what leaves, of `break` and `continue`, and of tuples.
+//! Tests of the table of declared types, of which types are `Copy`, of assignments, of what leaves, of `break` and `continue`, and of tuples.
 #![tactic(auto)]
 
 #[cfg(test)]
@@ -9,6 +9,8 @@ mod breaking;
 mod build;
 #[cfg(test)]
 mod closing;
+#[cfg(test)]
+mod copying;
 #[cfg(test)]
 mod declaring;
 #[cfg(test)]
